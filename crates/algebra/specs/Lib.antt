@@ -1,0 +1,17 @@
+pub mod Test
+pub mod Diff
+pub mod Laws
+pub mod Ring
+pub mod Order
+pub mod Cert
+pub mod Sums
+pub mod Floor
+pub mod Nearest
+pub mod Clamp
+pub mod Fit
+pub mod Code
+pub mod Bound
+pub mod Lipschitz
+pub mod Vars
+pub mod Fraction
+pub mod FractionLaws

@@ -1,0 +1,1 @@
+// Laws of whole numbers, and rounding to nearest.

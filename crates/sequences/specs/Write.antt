@@ -1,0 +1,77 @@
+-- A list with a part of it written over: the invariant of a loop that stores f 0 .. f (n − 1) from a place on.
+use mathlib.Core.Path.{_≡_, refl, sym, ap, _∙_}
+use mathlib.Core.List.{List, [], _∷_, _++_}
+use Prim.Native.Nat.{ℕ, zero, suc, _+_, _-_, _*_, _≤_, _<_}
+use native.Mathlib.Numerals.{add-one}
+use native.Mathlib.Omega.{arith}
+use lib.ListN.{length, getD, take, drop, set, length-set}
+use lib.Seq.{paste, paste-zero, paste-suc, length-paste, length-paste-head, length-take-le, getD-append-add, getD-take, getD-drop}
+use lib.ListN.{List·getD-append}
+use Rattle.sequences.specs.Tab.{tab, length-tab, getD-tab}
+
+-- d with f 0 .. f (n - 1) at the places from at on
+unfoldable pub written : {A : Type 0} → List A → ℕ → (ℕ → A) → ℕ → List A
+written d at f n = paste d at (tab n f) n
+
+-- l is d after j of the n stores: a loop's invariant
+pub record Writing {A : Type 0} (d : List A) (at : ℕ) (f : ℕ → A) (n j : ℕ) (l : List A) : Type 0 where
+  pub count : j ≤ n
+  pub room : at + n ≤ length d
+  pub same : length l ≡ length d
+  pub is : l ≡ paste d at (tab n f) j
+
+module _ {A : Type 0} {d : List A} {at : ℕ} {f : ℕ → A} {n : ℕ} where
+  pub write-start : at + n ≤ length d → Writing d at f n 0 d
+  write-start r = record { count = omega arith; room = r; same = refl; is = paste-zero d at (tab n f) }
+
+  pub write-turn : {j : ℕ} {l : List A} {v : A} → Writing d at f n j l → j < n → v ≡ f j → Writing d at f n (j + 1) (set l (at + j) v)
+  write-turn {j} {l} {v} w h e =
+      record {
+        count = omega arith;
+        room = w .room;
+        same = length-set l (at + j) v ∙ w .same;
+        is =
+            ap (λ (x : List A). set x (at + j) v) (w .is)
+            ∙ ap (λ (x : A). set (paste d at (tab n f) j) (at + j) x) (e ∙ sym (getD-tab f v n j h))
+            ∙ paste-suc d at (tab n f) j v (omega (arith, w .room)) (omega (arith, length-tab f n))
+            ∙ ap (λ (k : ℕ). paste d at (tab n f) k) (sym (add-one j));
+      }
+
+  pub write-done : {j : ℕ} {l : List A} → Writing d at f n j l → n ≤ j → l ≡ written d at f n
+  unfolding written
+  write-done {j} {l} w h = let e : j ≡ n = omega arith in w .is ∙ ap (λ (k : ℕ). paste d at (tab n f) k) e
+
+-- what stands in the list afterwards: before, in and after the part
+module _ {A : Type 0} (d : List A) (at : ℕ) (f : ℕ → A) (n : ℕ) (z : A) (room : at + n ≤ length d) where
+  head-length : length (take at d ++ take n (tab n f)) ≡ at + n
+  head-length = length-paste-head d at (tab n f) n (omega arith) (omega (arith, length-tab f n))
+
+  take-length-at : length (take at d) ≡ at
+  take-length-at = length-take-le at d (omega arith)
+
+  pub written-in : (k : ℕ) → k < n → getD (written d at f n) (at + k) z ≡ f k
+  unfolding written
+  written-in k h =
+      List·getD-append (take at d ++ take n (tab n f)) (drop (at + n) d) z (at + k) (omega (arith, head-length))
+      ∙ ap (λ (m : ℕ). getD (take at d ++ take n (tab n f)) (m + k) z) (sym take-length-at)
+      ∙ getD-append-add (take at d) (take n (tab n f)) k z
+      ∙ getD-take n (tab n f) k z h
+      ∙ getD-tab f z n k h
+
+  pub written-before : (k : ℕ) → k < at → getD (written d at f n) k z ≡ getD d k z
+  unfolding written
+  written-before k h =
+      List·getD-append (take at d ++ take n (tab n f)) (drop (at + n) d) z k (omega (arith, head-length))
+      ∙ List·getD-append (take at d) (take n (tab n f)) z k (omega (arith, take-length-at))
+      ∙ getD-take at d k z h
+
+  pub written-after : (k : ℕ) → getD (written d at f n) (at + n + k) z ≡ getD d (at + n + k) z
+  unfolding written
+  written-after k =
+      ap (λ (m : ℕ). getD (take at d ++ take n (tab n f) ++ drop (at + n) d) (m + k) z) (sym head-length)
+      ∙ getD-append-add (take at d ++ take n (tab n f)) (drop (at + n) d) k z
+      ∙ getD-drop (at + n) d k z
+
+  pub written-length : length (written d at f n) ≡ length d
+  unfolding written
+  written-length = length-paste d at (tab n f) n room (omega (arith, length-tab f n))

@@ -1,0 +1,1 @@
+// Laws of tabulated lists and of the kinds of loops; no code.
