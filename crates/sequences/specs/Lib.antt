@@ -4,3 +4,4 @@ pub mod Sum
 pub mod SignedSum
 pub mod Least
 pub mod Clear
+pub mod Grid

@@ -1,0 +1,24 @@
+-- Refusals 11 and 12: tests of what the lent samples and vectors hold.
+use mathlib.Core.Bool.{Bool, true, false, _||_}
+use mathlib.Core.List.{List}
+use Prim.Native.Nat.{ℕ, zero, suc, _+_, _*_}
+use lib.Dec.{ltb}
+use lib.IntN.{ℤ, pos, natAbs}
+use lib.ListN.{length, getD}
+use Rattle.geometry.specs.declared.Shape.{Shape}
+use Rattle.geometry.specs.Refusal.{refuse}
+use Rattle.geometry.specs.Read.{sampleAt}
+
+-- one of f 0, .., f (n − 1) holds
+unfoldable pub some : ℕ → (ℕ → Bool) → Bool
+some zero f = false
+some (suc n) f = some n f || f n
+
+-- refusal 11: "sample > 4095", over frame, row and column
+unfoldable pub sampleRefusal : Shape → List ℕ → ℕ
+sampleRefusal s samples =
+    refuse 11 (some (s .count) (λ frame. some (s .height) (λ row. some (s .width) (λ column. ltb 4095 (sampleAt s samples frame row column)))))
+
+-- refusal 12: "vector part outside −172..172"
+unfoldable pub vectorRefusal : List ℤ → ℕ
+vectorRefusal vectors = refuse 12 (some (length vectors) (λ k. ltb 172 (natAbs (getD vectors k (pos 0)))))

@@ -1,0 +1,28 @@
+-- Where samples stand, and reading outside.
+use mathlib.Core.Bool.{cond}
+use mathlib.Core.List.{List}
+use Prim.Native.Nat.{ℕ, _+_, _-_, _*_, min}
+use lib.IntN.{ℤ, pos, negsuc}
+use lib.ListN.{getD}
+use Rattle.geometry.specs.declared.Shape.{Shape}
+
+-- an image: the value at a row and a column
+abbrev pub Image : Type 0
+Image = ℕ → ℕ → ℕ
+
+-- "Frames are Bayer RGGB, row by row": the sample of a frame at a row and a column. The only definition that reads the list of samples.
+unfoldable pub sampleAt : Shape → List ℕ → ℕ → Image
+sampleAt s samples frame row column = getD samples ((frame * s .height + row) * s .width + column) 0
+
+-- "Each frame has four planes of W/2 by H/2, by parity of row and column."
+unfoldable pub planeOf : Image → (rowParity columnParity : ℕ) → Image
+planeOf frame rowParity columnParity row column = frame (2 * row + rowParity) (2 * column + columnParity)
+
+-- "Reading outside a plane, a pyramid level or the image between two halvings takes the nearest edge sample": the index that is read for z
+unfoldable pub inside : ℕ → ℤ → ℕ
+inside size (pos k) = min k (size - 1)
+inside size (negsuc k) = 0
+
+-- an image of a height and a width, read anywhere
+unfoldable pub read : (height width : ℕ) → Image → ℤ → ℤ → ℕ
+read height width image row column = image (inside height row) (inside width column)

@@ -1,0 +1,46 @@
+-- Sizes and counts that are allowed, and the lengths of the four lent buffers.
+use mathlib.Core.Bool.{Bool, not, _&&_}
+use Prim.Native.Nat.{ℕ, _+_, _-_, _*_, _/_, _%_}
+use lib.Dec.{leb, ltb, eqb}
+use Rattle.geometry.specs.declared.Shape.{Shape}
+use Rattle.geometry.specs.Refusal.{refuse, _before_}
+
+-- "Width W and height H are multiples of 64 from 64 to 4096."
+unfoldable pub sizeAllowed : ℕ → Bool
+sizeAllowed size = leb 64 size && leb size 4096 && eqb (size % 64) 0
+
+-- "There are N = 2..8 frames"
+unfoldable pub countAllowed : ℕ → Bool
+countAllowed count = leb 2 count && leb count 8
+
+-- refusals 1, "W or H not allowed", and 2, "N outside 2..8"
+unfoldable pub shapeRefusal : Shape → ℕ
+shapeRefusal s =
+    refuse 1 (not (sizeAllowed (s .width) && sizeAllowed (s .height))) before refuse 2 (not (countAllowed (s .count)))
+
+-- refusal 3: "reference ≥ N"
+unfoldable pub referenceRefusal : Shape → ℕ → ℕ
+referenceRefusal s reference = refuse 3 (leb (s .count) reference)
+
+-- "samples not N·W·H"
+unfoldable pub sampleLength : Shape → ℕ
+sampleLength s = s .count * (s .width * s .height)
+
+-- "Lengths: vectors (N−1)·2·(W/16+1)·(H/16+1)"
+unfoldable pub vectorLength : Shape → ℕ
+vectorLength s = (s .count - 1) * 2 * ((s .width / 16 + 1) * (s .height / 16 + 1))
+
+-- "output W·H"
+unfoldable pub outputLength : Shape → ℕ
+outputLength s = s .width * s .height
+
+-- "work area 2·W·H"
+unfoldable pub workLength : Shape → ℕ
+workLength s = 2 * (s .width * s .height)
+
+-- refusals 4 to 7: a lent buffer of another length
+unfoldable pub lengthRefusal : ℕ → ℕ → ℕ → ℕ
+lengthRefusal number right length = refuse number (not (eqb length right))
+
+abbrev pub widthOf : Shape → ℕ
+widthOf s = s .width

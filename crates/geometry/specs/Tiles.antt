@@ -1,0 +1,66 @@
+-- Tiles of a level: their sides, counts and origins, and the coarse tiles that a tile's candidates come from.
+use mathlib.Core.Bool.{Bool, true, false, cond}
+use Prim.Native.Nat.{ℕ, zero, suc, _+_, _-_, _*_, _/_, min}
+use lib.Dec.{ltb}
+use lib.IntN.{ℤ, pos, _-ℤ_}
+
+-- What goes with a level. `scale`: one of its samples stands for that many of the frame's, each way. A vector part found at it is at most `bound`
+pub record Level : Type 0 where
+  pub scale : ℕ
+  pub side : ℕ
+  pub half : ℕ
+  pub squared : Bool
+  pub bound : ℕ
+
+-- "Level 0: the sum of each 2 by 2 Bayer square. Level 1 halves it; level 2 is a quarter of level 1, level 3 a quarter of level 2";
+-- "Tiles have side 16 (8 at level 3) and half step s = 8 (4)"; "squared differences at levels 3 to 1, absolute at level 0"
+abbrev pub level0 : Level
+level0 = record { scale = 2; side = 16; half = 8; squared = false; bound = 172 }
+
+abbrev pub level1 : Level
+level1 = record { scale = 4; side = 16; half = 8; squared = true; bound = 84 }
+
+abbrev pub level2 : Level
+level2 = record { scale = 16; side = 16; half = 8; squared = true; bound = 20 }
+
+abbrev pub level3 : Level
+level3 = record { scale = 64; side = 8; half = 4; squared = true; bound = 4 }
+
+-- a level's size, of a frame's
+unfoldable pub levelSize : Level → ℕ → ℕ
+levelSize l size = size / l .scale
+
+-- The step from a level to the next finer one: "each direction has f and q"
+pub record Step : Type 0 where
+  pub factor : ℕ
+  pub quotient : ℕ
+
+-- "f = 2, q = 2 from level 1 to 0; f = 4, q = 4 from 2 to 1; f = 4, q = 2 from 3 to 2"
+abbrev pub step1to0 : Step
+step1to0 = record { factor = 2; quotient = 2 }
+
+abbrev pub step2to1 : Step
+step2to1 = record { factor = 4; quotient = 4 }
+
+abbrev pub step3to2 : Step
+step3to2 = record { factor = 4; quotient = 2 }
+
+-- "Indices run from 0 to ceil(size/s)": how many there are
+unfoldable pub tileCount : (half size : ℕ) → ℕ
+tileCount half size = (size + (half - 1)) / half + 1
+
+-- "origin −s + s·index"
+unfoldable pub origin : (half index : ℕ) → ℤ
+origin half index = pos (half * index) -ℤ pos half
+
+-- "Own coarse index of a: floor((2a+q)/(2q))"
+unfoldable pub own : (q a : ℕ) → ℕ
+own q a = (2 * a + q) / (2 * q)
+
+-- "The neighbour is floor(a/q) if that is below own, else own + 1."
+unfoldable pub neighbour : (q a : ℕ) → ℕ
+neighbour q a = cond (ltb (a / q) (own q a)) (a / q) (own q a + 1)
+
+-- "Both are capped at the last index."
+unfoldable pub capped : (count index : ℕ) → ℕ
+capped count index = min index (count - 1)
