@@ -1,0 +1,62 @@
+-- The levels of any noise are at most 65536 and 4194304, since its curve's numbers lie between 0 and the limits of refusal 9.
+use mathlib.Core.Path.{_≡_, refl, sym, ap, subst}
+use mathlib.Core.Bool.{Bool, true, false, not, _||_, cond}
+use Prim.Native.Nat.{ℕ, _*_, _/_, _≤_}
+use native.Mathlib.Nat.{div-le-of-le-mul, le-trans, mul-le-mul-right, zero-mul}
+use native.Mathlib.Omega.{arith}
+use lib.Dec.{T, eqb, leb→le, le→leb, eqb→eq}
+use borrow.Author.Tests.{ltb-false}
+use lib.Ieee.{Float, nan, inf, fin, up, down}
+use lib.Ieee.Fits.{and-l, and-r, and-i}
+use Rattle.noise.specs.declared.Curve.{Curve}
+use Rattle.noise.specs.declared.Noise.{Noise}
+use Rattle.noise.specs.declared.Levels.the-variants.{Found, Refused}
+use Rattle.noise.specs.Curve.{curveOf}
+use Rattle.noise.specs.Level.{exceeds, within, floor1024}
+use Rattle.noise.specs.Levels.{invalidNoise, aboveLimits, found, levelsOf, shotLevel, readLevel}
+use Rattle.noise.specs.ScalingLaws.{NotNegative, neither, curve-not-negative}
+
+not-over-within : (k : ℕ) (x : Float) → NotNegative x → exceeds k x ≡ false → T (within k x)
+not-over-within k nan h o = h
+not-over-within k (inf false) h o = absurd (subst T o tt)
+not-over-within k (inf true) h o = absurd (subst T h tt)
+not-over-within k (fin false m e) h o = le→leb (m * up e) (k * down e) (ltb-false (k * down e) (m * up e) o)
+not-over-within k (fin true m e) h o = and-i (eqb m 0) _ h (le→leb _ _ (subst (λ (z : ℕ). z * up e ≤ k * down e) (sym (eqb→eq m 0 h)) (omega (arith, zero-mul (up e)))))
+
+pub within-more : (k l : ℕ) (x : Float) → k ≤ l → T (within k x) → T (within l x)
+within-more k l nan g h = h
+within-more k l (inf s) g h = h
+within-more k l (fin s m e) g h = and-i (not s || eqb m 0) _ (and-l (not s || eqb m 0) _ h) (le→leb _ _ (le-trans (leb→le _ _ (and-r (not s || eqb m 0) _ h)) (mul-le-mul-right (down e) g)))
+
+-- what refusals 8 and 9 leave
+pub accepted-within : (noise : Noise) → invalidNoise noise ≡ false → aboveLimits (curveOf noise) ≡ false → T (within 64 (curveOf noise .shot)) × T (within 4096 (curveOf noise .read))
+unfolding aboveLimits
+accepted-within noise h o =
+    let p = neither (exceeds 64 (curveOf noise .shot)) _ o in
+    let n = curve-not-negative noise h in
+    (not-over-within 64 (curveOf noise .shot) (n .0) (p .0), not-over-within 4096 (curveOf noise .read) (n .1) (p .1))
+
+floor-most : (k : ℕ) (x : Float) → T (within k x) → floor1024 x ≤ 1024 * k
+floor-most k nan w = absurd w
+floor-most k (inf s) w = absurd w
+floor-most k (fin s m e) w = div-le-of-le-mul (down e) (many (leb→le _ _ (and-r (not s || eqb m 0) _ w)))
+  where
+    many : m * up e ≤ k * down e → 1024 * (m * up e) ≤ down e * (1024 * k)
+    many h = omega arith
+
+levels-bound : (noise : Noise) → (shotLevel (levelsOf noise) ≤ 65536) × (readLevel (levelsOf noise) ≤ 4194304)
+unfolding levelsOf
+levels-bound noise = go (invalidNoise noise) refl (aboveLimits (curveOf noise)) refl
+  where
+    go : (a : Bool) → invalidNoise noise ≡ a → (b : Bool) → aboveLimits (curveOf noise) ≡ b →
+        let levels = cond a (Refused 8) (cond b (Refused 9) (found (curveOf noise))) in
+        (shotLevel levels ≤ 65536) × (readLevel levels ≤ 4194304)
+    go true e b f = (omega arith, omega arith)
+    go false e true f = (omega arith, omega arith)
+    go false e false f = let w = accepted-within noise e f in (floor-most 64 (curveOf noise .shot) (w .0), floor-most 4096 (curveOf noise .read) (w .1))
+
+pub shot-level-bound : (noise : Noise) → shotLevel (levelsOf noise) ≤ 65536
+shot-level-bound noise = levels-bound noise .0
+
+pub read-level-bound : (noise : Noise) → readLevel (levelsOf noise) ≤ 4194304
+read-level-bound noise = levels-bound noise .1

@@ -1,0 +1,59 @@
+-- The levels Ls and Lr of a noise, and refusals 8, 9 and 10.
+use mathlib.Core.Bool.{Bool, _||_, cond}
+use Prim.Native.Nat.{ℕ}
+use lib.Dec.{ltb}
+use Rattle.noise.specs.declared.Curve.{Curve}
+use Rattle.noise.specs.declared.Noise.{Noise}
+use Rattle.noise.specs.declared.Noise.the-variants.{Measured, Iso}
+use Rattle.noise.specs.declared.Levels.{Levels}
+use Rattle.noise.specs.declared.Levels.the-variants.{Found, Refused}
+use Rattle.noise.specs.Curve.{curveOf}
+use Rattle.noise.specs.Level.{invalid, exceeds, floor1024}
+
+-- refusal 8, "shot or read negative or not finite": of the curve as given
+unfoldable pub invalidCurve : Curve → Bool
+invalidCurve curve = invalid (curve .shot) || invalid (curve .read)
+
+-- refusal 8, "ISO not in 25..409600"
+unfoldable pub invalidIso : ℕ → Bool
+invalidIso iso = ltb iso 25 || ltb 409600 iso
+
+unfoldable pub invalidNoise : Noise → Bool
+invalidNoise (Measured curve) = invalidCurve curve
+invalidNoise (Iso iso base) = invalidIso iso || invalidCurve base
+
+-- refusal 9, "shot > 64 or read > 4096 after ISO"
+unfoldable pub aboveLimits : Curve → Bool
+aboveLimits curve = exceeds 64 (curve .shot) || exceeds 4096 (curve .read)
+
+-- "Ls = floor(1024 shot) and Lr = floor(1024 read)"
+abbrev pub found : Curve → Levels
+found curve = Found (floor1024 (curve .shot)) (floor1024 (curve .read))
+
+-- the answer for a noise: 8 and 9 "in the order of the numbers", else the levels of its curve
+unfoldable pub levelsOf : Noise → Levels
+levelsOf noise =
+    cond (invalidNoise noise) (Refused 8)
+    (cond (aboveLimits (curveOf noise)) (Refused 9)
+    (found (curveOf noise)))
+
+-- each answer's number, "Acceptance is number 0", and its Ls and Lr, "beside a refusal every other returned field is 0"
+abbrev pub refusalOf : Levels → ℕ
+refusalOf (Found shot read) = 0
+refusalOf (Refused number) = number
+
+abbrev pub shotLevel : Levels → ℕ
+shotLevel (Found shot read) = shot
+shotLevel (Refused number) = 0
+
+abbrev pub readLevel : Levels → ℕ
+readLevel (Found shot read) = read
+readLevel (Refused number) = 0
+
+-- refusal 9 "in a file, Ls > 65536 or Lr > 4194304"
+unfoldable pub levelRefusal : ℕ → ℕ → ℕ
+levelRefusal ls lr = cond (ltb 65536 ls || ltb 4194304 lr) 9 0
+
+-- refusal 10, "t > 1024"
+unfoldable pub strengthRefusal : ℕ → ℕ
+strengthRefusal t = cond (ltb 1024 t) 10 0

@@ -1,0 +1,9 @@
+pub mod Curve
+pub mod Level
+pub mod Levels
+pub mod Root
+pub mod NoiseNumber
+pub mod RootLaws
+pub mod NoiseNumberLaws
+pub mod ScalingLaws
+pub mod LevelLaws

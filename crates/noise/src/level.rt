@@ -1,0 +1,97 @@
+// The curve after ISO, its tests, and the floor of 1024 times a float.
+ghost use mathlib.Core.Path.{_≡_};
+ghost use lib.Dec.{T};
+ghost use Rattle.noise.specs.Curve.{atIso, curveOf};
+ghost use Rattle.noise.specs.Level.{invalid, within, floor1024};
+ghost use Rattle.noise.specs.Levels.{invalidCurve, invalidIso, invalidNoise, aboveLimits};
+use crate::Curve;
+use crate::Noise;
+
+// alpha = iso / 100; alpha times shot; (alpha times alpha) times read.
+fn at_iso(iso: u32, base: Curve) -> Curve
+    ensures { λ r. ⌜ r ≡ atIso iso base ⌝ }
+{
+    let alpha = (iso as f64) / 100.0;
+    let shot = alpha * base.shot;
+    let read = (alpha * alpha) * base.read;
+    Curve { shot, read }
+}
+
+pub fn curve_of(noise: Noise) -> Curve
+    ensures { λ r. ⌜ r ≡ curveOf noise ⌝ }
+{
+    match noise {
+        Noise::Measured(curve) => curve,
+        Noise::Iso { iso, base } => at_iso(iso, base),
+    }
+}
+
+// Negative, or not below infinity: a NaN is not, and -0.0 is not negative.
+fn invalid_number(x: f64) -> bool
+    ensures { λ r. ⌜ r ≡ invalid x ⌝ }
+{
+    if x < 0.0 {
+        return true;
+    }
+    !(x < 1.0 / 0.0)
+}
+
+fn invalid_curve(curve: Curve) -> bool
+    ensures { λ r. ⌜ r ≡ invalidCurve curve ⌝ }
+{
+    if invalid_number(curve.shot) {
+        return true;
+    }
+    invalid_number(curve.read)
+}
+
+fn invalid_iso(iso: u32) -> bool
+    ensures { λ r. ⌜ r ≡ invalidIso iso ⌝ }
+{
+    if iso < 25 {
+        return true;
+    }
+    409600 < iso
+}
+
+// Refusal 8.
+pub fn invalid_noise(noise: Noise) -> bool
+    ensures { λ r. ⌜ r ≡ invalidNoise noise ⌝ }
+{
+    match noise {
+        Noise::Measured(curve) => invalid_curve(curve),
+        Noise::Iso { iso, base } => {
+            if invalid_iso(iso) {
+                return true;
+            }
+            invalid_curve(base)
+        }
+    }
+}
+
+// Refusal 9.
+pub fn above_limits(curve: Curve) -> bool
+    ensures { λ r. ⌜ r ≡ aboveLimits curve ⌝ }
+{
+    if curve.shot > 64.0 {
+        return true;
+    }
+    curve.read > 4096.0
+}
+
+// By the exponent's field and the fraction's digits of x, which is from 0 to 4096.
+pub fn floor_1024(x: f64) -> u64
+    requires { ⌜ T (within 4096 x) ⌝ }
+    ensures { λ r. ⌜ r ≡ floor1024 x ⌝ }
+{
+    let bits: u64 = f64::to_bits(x);
+    let exponent: u64 = (bits >> 52) & 0x7ff;
+    let fraction: u64 = bits & 0xf_ffff_ffff_ffff;
+    if exponent < 1013 {
+        // x is below 2^-10
+        return 0;
+    }
+    // x is digits * 2^(exponent - 1075)
+    let digits: u64 = fraction | 0x10_0000_0000_0000;
+    digits >> (1065 - exponent)
+}

@@ -1,0 +1,92 @@
+// The noise of a burst: its levels Ls and Lr, a tile's root r and its noise number V.
+mod level;
+mod squares;
+
+ghost use mathlib.Core.Path.{_≡_};
+ghost use Prim.Native.Nat.{ℕ, _≤_};
+ghost use Rattle.sequences.specs.Grid.{cell};
+ghost use Rattle.noise.specs.Levels.{levelsOf, levelRefusal, strengthRefusal};
+ghost use Rattle.noise.specs.Root.{wholeRoot};
+ghost use Rattle.noise.specs.NoiseNumber.{tileRoot, noiseNumber, InRange};
+
+// The variance of a sample of expected value x is shot * x + read.
+pub struct Curve {
+    pub shot: f64,
+    pub read: f64,
+}
+
+// A curve, or an ISO number with the curve for ISO 100.
+pub enum Noise {
+    Measured(Curve),
+    Iso { iso: u32, base: Curve },
+}
+
+// Ls and Lr, or the number of the refusal.
+pub enum Levels {
+    Found { shot: u64, read: u64 },
+    Refused(u64),
+}
+
+// Refusals 8 and 9, and the levels.
+pub fn levels_of(noise: Noise) -> Levels
+    ensures { λ r. ⌜ r ≡ levelsOf noise ⌝ }
+{
+    if level::invalid_noise(noise) {
+        return Levels::Refused(8);
+    }
+    let curve = level::curve_of(noise);
+    if level::above_limits(curve) {
+        return Levels::Refused(9);
+    }
+    let shot = level::floor_1024(curve.shot);
+    let read = level::floor_1024(curve.read);
+    Levels::Found { shot, read }
+}
+
+// Refusal 9 in a burst file.
+pub fn level_refusal(ls: u64, lr: u64) -> u64
+    ensures { λ r. ⌜ r ≡ levelRefusal ls lr ⌝ }
+{
+    if 65536 < ls {
+        return 9;
+    }
+    if 4194304 < lr {
+        return 9;
+    }
+    0
+}
+
+// Refusal 10.
+pub fn strength_refusal(t: u64) -> u64
+    ensures { λ r. ⌜ r ≡ strengthRefusal t ⌝ }
+{
+    if 1024 < t {
+        return 10;
+    }
+    0
+}
+
+// The greatest number whose square is at most n.
+pub fn whole_root(n: u64) -> u64
+    ensures { λ r. ⌜ r ≡ wholeRoot n ⌝ }
+{
+    if n < 4294967296 {
+        return squares::root_below(n, 65536);
+    }
+    squares::root_below(n, 4294967296)
+}
+
+// r of a tile.
+pub fn tile_root(tile: [[u16; 16]; 16]) -> u64
+    ensures { λ r. ⌜ (r ≡ tileRoot 16 (cell 0 tile)) × (r ≤ 1048560) ⌝ }
+{
+    whole_root(squares::sum_of_squares(tile))
+}
+
+// V of a tile's root.
+pub fn noise_number(t: u64, ls: u64, lr: u64, r: u64) -> u64
+    requires { ⌜ InRange t ls lr r ⌝ }
+    ensures { λ v. ⌜ (v ≡ noiseNumber t ls lr r) × (v ≤ 4402274369536) ⌝ }
+{
+    t * (ls * r + 16 * lr) / 16
+}

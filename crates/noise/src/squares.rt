@@ -1,0 +1,59 @@
+// The whole root by bisection, and the sum of a tile's squares.
+ghost use mathlib.Core.Path.{_≡_};
+ghost use Prim.Native.Nat.{ℕ, _*_, _<_, _≤_};
+ghost use lib.ListN.{getD};
+ghost use Rattle.algebra.specs.Sums.{sumN};
+ghost use Rattle.sequences.specs.Grid.{cell};
+ghost use Rattle.noise.specs.Root.{wholeRoot};
+ghost use Rattle.noise.specs.NoiseNumber.{intensity, squared, sumOfSquares};
+
+// The whole root of a number below the square of `bound`.
+pub fn root_below(n: u64, bound: u64) -> u64
+    requires { ⌜ (n < bound * bound) × (bound ≤ 4294967296) ⌝ }
+    ensures { λ r. ⌜ r ≡ wholeRoot n ⌝ }
+{
+    let mut low: u64 = 0;
+    let mut high = bound;
+    while 1 < high - low {
+        let middle = (low + high) / 2;
+        if middle * middle <= n {
+            low = middle;
+        } else {
+            high = middle;
+        }
+    }
+    low
+}
+
+fn intensity(sample: u16) -> u64
+    ensures { λ r. ⌜ (r ≡ intensity sample) × (r ≤ 65535) ⌝ }
+{
+    sample as u64
+}
+
+fn squared(sample: u16) -> u64
+    ensures { λ r. ⌜ (r ≡ squared sample) × (r ≤ 4294836225) ⌝ }
+{
+    let x = intensity(sample);
+    x * x
+}
+
+fn row_squares(row: [u16; 16]) -> u64
+    ensures { λ r. ⌜ (r ≡ sumN 16 (λ j. squared (getD row j 0))) × (r ≤ 68717379600) ⌝ }
+{
+    let mut sum: u64 = 0;
+    for j in 0..16 {
+        sum += squared(row[j]);
+    }
+    sum
+}
+
+pub fn sum_of_squares(tile: [[u16; 16]; 16]) -> u64
+    ensures { λ r. ⌜ (r ≡ sumOfSquares 16 (cell 0 tile)) × (r ≤ 1099478073600) ⌝ }
+{
+    let mut sum: u64 = 0;
+    for i in 0..16 {
+        sum += row_squares(tile[i]);
+    }
+    sum
+}
