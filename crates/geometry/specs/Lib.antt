@@ -1,5 +1,9 @@
 pub mod Refusal
+pub mod RefusalLaws
 pub mod Shape
+pub mod ShapeLaws
+pub mod Order
+pub mod OrderLaws
 pub mod Read
 pub mod Tiles
 pub mod Bounds

@@ -7,7 +7,7 @@ abbrev pub refuse : ℕ → Bool → ℕ
 refuse number condition = cond condition number 0
 
 -- two tests in their order: the first number that is not 0
-infixr 4 _before_
+infixr 5 _before_
 abbrev pub _before_ : ℕ → ℕ → ℕ
 zero before b = b
 suc a before b = suc a

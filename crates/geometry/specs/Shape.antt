@@ -1,6 +1,7 @@
 -- Sizes and counts that are allowed, and the lengths of the four lent buffers.
 use mathlib.Core.Bool.{Bool, not, _&&_}
-use Prim.Native.Nat.{ℕ, _+_, _-_, _*_, _/_, _%_}
+use mathlib.Core.Path.{_≡_}
+use Prim.Native.Nat.{ℕ, _+_, _-_, _*_, _/_, _%_, _≤_}
 use lib.Dec.{leb, ltb, eqb}
 use Rattle.geometry.specs.declared.Shape.{Shape}
 use Rattle.geometry.specs.Refusal.{refuse, _before_}
@@ -12,6 +13,18 @@ sizeAllowed size = leb 64 size && leb size 4096 && eqb (size % 64) 0
 -- "There are N = 2..8 frames"
 unfoldable pub countAllowed : ℕ → Bool
 countAllowed count = leb 2 count && leb count 8
+
+-- what a size, and then a shape, that is not refused is known by
+pub record AllowedSize (size : ℕ) : Type 0 where
+  pub least : 64 ≤ size
+  pub most : size ≤ 4096
+  pub whole : size % 64 ≡ 0
+
+pub record Allowed (s : Shape) : Type 0 where
+  pub wide : AllowedSize (s .width)
+  pub high : AllowedSize (s .height)
+  pub several : 2 ≤ s .count
+  pub few : s .count ≤ 8
 
 -- refusals 1, "W or H not allowed", and 2, "N outside 2..8"
 unfoldable pub shapeRefusal : Shape → ℕ
@@ -41,6 +54,3 @@ workLength s = 2 * (s .width * s .height)
 -- refusals 4 to 7: a lent buffer of another length
 unfoldable pub lengthRefusal : ℕ → ℕ → ℕ → ℕ
 lengthRefusal number right length = refuse number (not (eqb length right))
-
-abbrev pub widthOf : Shape → ℕ
-widthOf s = s .width

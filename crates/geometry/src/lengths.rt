@@ -1,0 +1,40 @@
+// The lengths of the four lent buffers, and the tests on them: refusals 4 to 7.
+ghost use mathlib.Core.Path.{_≡_};
+ghost use Prim.Native.Nat.{_≤_};
+ghost use Rattle.geometry.specs.Shape.{Allowed, sampleLength, vectorLength, outputLength, workLength, lengthRefusal};
+use crate::Shape;
+
+pub fn sample_length(shape: Shape) -> usize
+    requires { ⌜ Allowed shape ⌝ }
+    ensures { λ r. ⌜ (r ≡ sampleLength shape) × (r ≤ 134217728) ⌝ }
+{
+    shape.count * (shape.width * shape.height)
+}
+
+pub fn vector_length(shape: Shape) -> usize
+    requires { ⌜ Allowed shape ⌝ }
+    ensures { λ r. ⌜ (r ≡ vectorLength shape) × (r ≤ 924686) ⌝ }
+{
+    (shape.count - 1) * 2 * ((shape.width / 16 + 1) * (shape.height / 16 + 1))
+}
+
+pub fn output_length(shape: Shape) -> usize
+    requires { ⌜ Allowed shape ⌝ }
+    ensures { λ r. ⌜ (r ≡ outputLength shape) × (r ≤ 16777216) ⌝ }
+{
+    shape.width * shape.height
+}
+
+pub fn work_length(shape: Shape) -> usize
+    requires { ⌜ Allowed shape ⌝ }
+    ensures { λ r. ⌜ (r ≡ workLength shape) × (r ≤ 33554432) ⌝ }
+{
+    2 * (shape.width * shape.height)
+}
+
+// The test `number` of a buffer of `length`, whose right length is `right`.
+pub fn length_refusal(number: u64, right: usize, length: usize) -> u64
+    ensures { λ r. ⌜ r ≡ lengthRefusal number right length ⌝ }
+{
+    if length == right { 0 } else { number }
+}
