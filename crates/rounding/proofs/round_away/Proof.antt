@@ -1,0 +1,47 @@
+-- `rounding::round_away`: the absolute value rounded, with the sign put back.
+use mathlib.Core.Path.{_≡_, _∙_}
+use borrow.Author.Needs.{needs}
+use mir.Syntax.{w64}
+use mir.Val.{toZ, ofZ}
+use mir.Facts.{toZ-ofZ}
+use Rattle.rounding.proofs.Sign.{half-fits, away-below, away-from}
+use Rattle.rounding.proofs.round_away.Statement.{statement}
+use Rattle.rounding.proofs.round_away.Tie as tie
+
+magnitude-requires : tie.Need-magnitude-requires
+magnitude-requires c κs = rw (toZ-ofZ (c .fits .z)) (c .pre .1)
+
+halves-up-requires : tie.Need-halves-up-requires
+halves-up-requires c κs = search needs
+
+negated-requires : tie.Need-negated-requires
+negated-requires c κs =
+    let b = c .before in
+    let s = b .before .before in
+    half-fits (s .args .m) _ (s .fits .z) (b .before .magnitude .ensures) (b .halves-up .ensures .1) (s .pre .1)
+
+returns : tie.Need-returns
+returns c =
+    let b = c .before .before in
+    let s = b .before .before in
+    let e : toZ w64 (ofZ w64 (c .negated .result)) ≡ c .negated .result = search needs in
+    e ∙ c .negated .ensures
+    ∙ away-below (s .args .m) _ (s .fits .z) (b .before .magnitude .ensures) (c .before .if1 .taken) (b .halves-up .ensures .0)
+
+signed-requires : tie.Need-signed-requires
+signed-requires c κs =
+    let b = c .before in
+    let s = b .before .before in
+    half-fits (s .args .m) _ (s .fits .z) (b .before .magnitude .ensures) (b .halves-up .ensures .1) (s .pre .1)
+
+returns-2 : tie.Need-returns-2
+returns-2 c =
+    let b = c .before .before in
+    let s = b .before .before in
+    let e : toZ w64 (ofZ w64 (c .signed .result)) ≡ c .signed .result = search needs in
+    e ∙ c .signed .ensures
+    ∙ away-from (s .args .m) _ (s .fits .z) (b .before .magnitude .ensures) (c .before .if1 .left) (b .halves-up .ensures .0)
+
+pub round-away-spec : {M : Type 1} → statement M
+round-away-spec =
+    tie.close (tie.spec magnitude-requires halves-up-requires negated-requires returns signed-requires returns-2)
