@@ -7,3 +7,4 @@ pub mod OrderLaws
 pub mod Read
 pub mod Tiles
 pub mod Bounds
+pub mod Vectors
