@@ -4,7 +4,9 @@ pub mod Shape
 pub mod ShapeLaws
 pub mod Order
 pub mod OrderLaws
+pub mod Question
 pub mod Read
+pub mod ReadLaws
 pub mod Tiles
 pub mod Bounds
 pub mod Vectors

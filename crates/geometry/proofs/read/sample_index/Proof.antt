@@ -1,0 +1,48 @@
+-- The index lies below the samples' length, which is small, and so does each step towards it.
+use mathlib.Core.Path.{refl}
+use Prim.Native.Nat.{ℕ, _+_, _*_, _<_}
+use native.Mathlib.Nat.{le-trans, mul-le-mul}
+use native.Mathlib.Omega.{arith}
+use Rattle.geometry.specs.declared.Shape.{Shape}
+use Rattle.geometry.specs.Shape.{Allowed, sampleLength}
+use Rattle.geometry.specs.ShapeLaws.{samples-most}
+use Rattle.geometry.specs.Read.{sampleIndex}
+use Rattle.geometry.specs.ReadLaws.{cell-below, index-below}
+use Rattle.geometry.proofs.read.sample_index.Statement.{statement}
+use Rattle.geometry.proofs.read.sample_index.Tie as tie
+
+-- what the call requires
+abbrev Asked : Shape → (frame row column : ℕ) → Type 0
+Asked s frame row column = (Allowed s) × (frame < s .count) × (row < s .height) × (column < s .width)
+
+rows : {s : Shape} {frame row column : ℕ} → Asked s frame row column → frame * s .height + row < 32768
+rows {s} {frame} {row} a =
+    le-trans
+    (cell-below frame row (s .count) (s .height) (a .1) (a .2))
+    (mul-le-mul {n₁ = s .count} {m₁ = s .height} {n₂ = 8} {m₂ = 4096} (a .0 .few) (a .0 .high .most))
+
+below : {s : Shape} {frame row column : ℕ} → Asked s frame row column → sampleIndex s frame row column < sampleLength s
+below a = index-below _ _ _ _ (a .1) (a .2) (a .3)
+
+index : {s : Shape} {frame row column : ℕ} → Asked s frame row column → (frame * s .height + row) * s .width + column < 134217728
+unfolding sampleIndex sampleLength
+index a = le-trans (below a) (samples-most (a .0))
+
+mul-result : tie.Need-mul-result
+mul-result c = omega (arith, rows (c .before .pre))
+
+add-result : tie.Need-add-result
+add-result c = omega (arith, rows (c .before .pre))
+
+mul-result-2 : tie.Need-mul-result-2
+mul-result-2 c = omega (arith, index (c .before .before .pre))
+
+add-result-2 : tie.Need-add-result-2
+add-result-2 c = omega (arith, index (c .before .before .pre))
+
+returns : tie.Need-returns
+unfolding sampleIndex
+returns c = (refl, below (c .before .before .pre))
+
+pub sample-index-spec : {M : Type 1} → statement M
+sample-index-spec = tie.close (tie.spec mul-result add-result mul-result-2 add-result-2 returns)
