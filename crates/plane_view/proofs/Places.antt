@@ -1,0 +1,26 @@
+-- Places of a plane are places of its frame, and a frame is small.
+use mathlib.Core.Path.{_≡_, ap}
+use mathlib.Core.List.{List}
+use Prim.Native.Nat.{ℕ, _+_, _*_, _^_, _≤_, _<_}
+use native.Mathlib.Nat.{mul-le-mul, mul-le-mul-right, add-mul}
+use native.Mathlib.Omega.{arith}
+use lib.IntN.{ℤ}
+use lib.ListN.{getD}
+use Rattle.geometry.specs.Read.{planeOf, inside, read}
+use Rattle.plane_view.specs.View.{frameImage, planeImage, planeSample, Planar, RowStart}
+
+module _ {width height rowParity columnParity : ℕ} (p : Planar width height rowParity columnParity) where
+  -- the row of the frame ends in it
+  pub row-room : (row : ℕ) → row < height → (2 * row + rowParity) * (2 * width) + 2 * width ≤ 2 * height * (2 * width)
+  row-room row h =
+      let rows : (2 * row + rowParity + 1) * (2 * width) ≤ 2 * height * (2 * width) = mul-le-mul-right (2 * width) (omega (arith, p .row)) in
+      omega (arith, add-mul (2 * row + rowParity) 1 (2 * width))
+
+  pub frame-small : 2 * height * (2 * width) ≤ 2 ^ 24
+  frame-small = mul-le-mul {n₁ = 2 * height} {m₁ = 2 * width} {n₂ = 4096} {m₂ = 4096} (omega (arith, p .height-most)) (omega (arith, p .width-most))
+
+-- a sample by where its row starts
+pub sample-in-row : {y : ℤ} {width height rowParity columnParity r : ℕ} (samples : List ℕ) (x : ℤ) → RowStart y width height rowParity columnParity r →
+    getD samples (r + 2 * inside width x) 0 ≡ planeSample y x samples width height rowParity columnParity
+unfolding planeSample planeImage frameImage planeOf read
+sample-in-row samples x s = ap (λ n. getD samples n 0) (omega (arith, s .is))

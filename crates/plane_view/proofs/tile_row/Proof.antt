@@ -1,0 +1,90 @@
+-- A row of a tile: filled from the front, each sample by where the row starts.
+use mathlib.Core.Path.{_≡_, refl}
+use Prim.Native.Nat.{_-_}
+use native.Mathlib.Omega.{arith}
+use lib.IntN.{pos, _+ℤ_}
+use mir.Syntax.{w64}
+use mir.Val.{toZ, ofZ}
+use mir.Facts.{toZ-ofZ}
+use borrow.Author.Needs.{needs}
+use Rattle.sequences.specs.Tab.{Filled, fill-start, fill-turn, fill-done}
+use Rattle.plane_view.specs.View.{planeSample, planeRow}
+use Rattle.plane_view.proofs.Places.{sample-in-row}
+use Rattle.plane_view.proofs.tile_row.Statement.{statement}
+use Rattle.plane_view.proofs.tile_row.Tie as tie
+
+abbrev Inv-loop : tie.InvT-loop
+Inv-loop y x samples width height row-parity column-parity start row₀ j₀ row j =
+    Filled (λ k. planeSample (toZ w64 y) (toZ w64 x +ℤ pos k) samples width height row-parity column-parity) 16 j row₀ row
+
+abbrev μ-loop : tie.MeasureT-loop
+μ-loop y x samples width height row-parity column-parity start row₀ j₀ row j = 16 - j
+
+row-start-requires : tie.Need-row-start-requires Inv-loop μ-loop
+row-start-requires c κs = search needs
+
+loop-holds : tie.Need-loop-holds Inv-loop μ-loop
+loop-holds c = fill-start refl
+
+along-requires : tie.Need-along-requires Inv-loop μ-loop
+along-requires c κs = search needs
+
+nearest-requires : tie.Need-nearest-requires Inv-loop μ-loop
+nearest-requires c κs = search needs
+
+mul-row : tie.Need-mul-row Inv-loop μ-loop
+mul-row c = search needs
+
+add-row : tie.Need-add-row Inv-loop μ-loop
+add-row c = search needs
+
+mul-row-2 : tie.Need-mul-row-2 Inv-loop μ-loop
+mul-row-2 c = search needs
+
+shared-slice-read-row : tie.Need-shared-slice-read-row Inv-loop μ-loop
+shared-slice-read-row c = search needs
+
+mul-row-3 : tie.Need-mul-row-3 Inv-loop μ-loop
+mul-row-3 c = search needs
+
+array-write-row : tie.Need-array-write-row Inv-loop μ-loop
+array-write-row c = search needs
+
+add-j : tie.Need-add-j Inv-loop μ-loop
+add-j c = search needs
+
+loop-less : tie.Need-loop-less Inv-loop μ-loop
+loop-less c = search needs
+
+loop-again : tie.Need-loop-again Inv-loop μ-loop
+loop-again c =
+    let column : toZ w64 (ofZ w64 (c .before .before .along .result)) ≡ c .before .before .along .result = search needs in
+    fill-turn (c .before .before .before .before .loop .inv) (omega arith)
+    (rw (c .before .nearest .ensures .0, column, c .before .before .along .ensures) (sample-in-row _ _ (c .before .before .before .before .before .row-start .ensures)))
+
+returns : tie.Need-returns Inv-loop μ-loop
+unfolding planeRow
+returns c =
+    let s = c .before .before .before .before in
+    rw (← toZ-ofZ (s .fits .y), ← toZ-ofZ (s .fits .x)) (fill-done (c .before .loop .inv) (omega arith))
+
+pub tile-row-spec : {M : Type 1} → statement M
+tile-row-spec =
+    tie.close
+    (tie.spec
+    Inv-loop
+    μ-loop
+    row-start-requires
+    loop-holds
+    along-requires
+    nearest-requires
+    mul-row
+    add-row
+    mul-row-2
+    shared-slice-read-row
+    mul-row-3
+    array-write-row
+    add-j
+    loop-less
+    loop-again
+    returns)

@@ -1,0 +1,55 @@
+-- What a view of one plane reads: samples and tiles of a plane, by the list of its frame's samples.
+use mathlib.Core.Path.{_≡_}
+use mathlib.Core.List.{List}
+use Prim.Native.Nat.{ℕ, _+_, _*_, _^_, _<_, _≤_}
+use lib.IntN.{ℤ, pos, natAbs, _+ℤ_}
+use lib.ListN.{getD}
+use Rattle.sequences.specs.Tab.{tab}
+use Rattle.sequences.specs.Grid.{grid}
+use Rattle.geometry.specs.Read.{Image, planeOf, inside, read}
+
+-- "Frames are Bayer RGGB, row by row": a frame of which the samples are at hand
+unfoldable pub frameImage : List ℕ → (rowLength : ℕ) → Image
+frameImage samples rowLength row column = getD samples (row * rowLength + column) 0
+
+-- "Each frame has four planes of W/2 by H/2, by parity of row and column": the plane of `width` columns
+unfoldable pub planeImage : List ℕ → (width rowParity columnParity : ℕ) → Image
+planeImage samples width rowParity columnParity = planeOf (frameImage samples (2 * width)) rowParity columnParity
+
+-- "Tiles have side 16": a tile of an image, at an origin that may lie outside
+unfoldable pub tileOf : (side height width : ℕ) → Image → ℤ → ℤ → List (List ℕ)
+tileOf side height width image y x = grid side side (λ i j. read height width image (y +ℤ pos i) (x +ℤ pos j))
+
+-- "A view of one plane reads the caller's samples": one of them
+unfoldable pub planeSample : ℤ → ℤ → List ℕ → (width height rowParity columnParity : ℕ) → ℕ
+planeSample y x samples width height rowParity columnParity = read height width (planeImage samples width rowParity columnParity) y x
+
+-- a tile of the plane at row y and column x, and one row of a tile
+unfoldable pub planeTile : (side : ℕ) → ℤ → ℤ → List ℕ → (width height rowParity columnParity : ℕ) → List (List ℕ)
+planeTile side y x samples width height rowParity columnParity = tileOf side height width (planeImage samples width rowParity columnParity) y x
+
+unfoldable pub planeRow : (side : ℕ) → ℤ → ℤ → List ℕ → (width height rowParity columnParity : ℕ) → List ℕ
+planeRow side y x samples width height rowParity columnParity = tab side (λ j. planeSample y (x +ℤ pos j) samples width height rowParity columnParity)
+
+-- a plane of `height` rows of `width` samples
+pub record Planar (width height rowParity columnParity : ℕ) : Type 0 where
+  pub wide : 0 < width
+  pub high : 0 < height
+  pub width-most : width ≤ 2048
+  pub height-most : height ≤ 2048
+  pub row : rowParity < 2
+  pub column : columnParity < 2
+
+-- and `count` samples are the frame that it belongs to
+pub record Shaped (count width height rowParity columnParity : ℕ) : Type 0 where
+  pub whole : count ≡ 2 * height * (2 * width)
+  pub planar : Planar width height rowParity columnParity
+
+-- a row or column near enough for sums with a tile's indices
+pub record Near (z : ℤ) : Type 0 where
+  pub near : natAbs z ≤ 2 ^ 20
+
+-- r is where the row read for y starts: what is read in it lies in the frame
+pub record RowStart (y : ℤ) (width height rowParity columnParity r : ℕ) : Type 0 where
+  pub is : r ≡ (2 * inside height y + rowParity) * (2 * width) + columnParity
+  pub room : r + 2 * width ≤ 2 * height * (2 * width) + columnParity

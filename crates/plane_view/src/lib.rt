@@ -1,0 +1,110 @@
+// A view of one plane of one frame: it reads the caller's samples without copying them.
+ghost use mathlib.Core.Path.{_≡_};
+ghost use Prim.Native.Nat.{_<_};
+ghost use lib.IntN.{pos, _+ℤ_};
+ghost use lib.ListN.{length};
+ghost use Rattle.geometry.specs.Read.{inside};
+ghost use Rattle.plane_view.specs.View.{planeSample, planeRow, planeTile, Planar, Shaped, Near, RowStart};
+
+// The plane of one row parity and one column parity, `height` rows of `width` samples, of a frame whose samples are `samples`.
+pub struct PlaneView<'a> {
+    pub samples: &'a [u16],
+    pub width: usize,
+    pub height: usize,
+    pub row_parity: usize,
+    pub column_parity: usize,
+}
+
+// The index that is read for z.
+pub fn nearest(z: i64, size: usize) -> usize
+    requires { ⌜ 0 < size ⌝ }
+    ensures { λ r. ⌜ (r ≡ inside size z) × (r < size) ⌝ }
+{
+    if z < 0 {
+        return 0;
+    }
+    let k = z as usize;
+    if k < size { k } else { size - 1 }
+}
+
+// Where the row that is read for y starts in the frame: its first sample of the plane.
+fn row_start(y: i64, width: usize, height: usize, row_parity: usize, column_parity: usize) -> usize
+    requires { ⌜ Planar width height «row_parity» «column_parity» ⌝ }
+    ensures { λ r. ⌜ RowStart y width height «row_parity» «column_parity» r ⌝ }
+{
+    (2 * nearest(y, height) + row_parity) * (2 * width) + column_parity
+}
+
+// The plane's sample that is read for row y and column x.
+pub fn sample_at(
+    y: i64,
+    x: i64,
+    samples: &[u16],
+    width: usize,
+    height: usize,
+    row_parity: usize,
+    column_parity: usize,
+) -> u16
+    requires { ⌜ Shaped (length (now samples)) width height «row_parity» «column_parity» ⌝ }
+    ensures { λ r. ⌜ r ≡ planeSample y x (now (samples .entry)) width height «row_parity» «column_parity» ⌝ }
+{
+    let start = row_start(y, width, height, row_parity, column_parity);
+    samples[start + 2 * nearest(x, width)]
+}
+
+// Row or column k of a tile that starts at z.
+fn along(z: i64, k: usize) -> i64
+    requires { ⌜ (Near z) × (k < 16) ⌝ }
+    ensures { λ r. ⌜ r ≡ z +ℤ pos k ⌝ }
+{
+    z + k as i64
+}
+
+// Row y of a tile whose first column is x.
+fn tile_row(
+    y: i64,
+    x: i64,
+    samples: &[u16],
+    width: usize,
+    height: usize,
+    row_parity: usize,
+    column_parity: usize,
+) -> [u16; 16]
+    requires { ⌜ (Shaped (length (now samples)) width height «row_parity» «column_parity») × (Near x) ⌝ }
+    ensures { λ r. ⌜ r ≡ planeRow 16 y x (now (samples .entry)) width height «row_parity» «column_parity» ⌝ }
+{
+    let start = row_start(y, width, height, row_parity, column_parity);
+    let mut row = [0u16; 16];
+    for j in 0..16 {
+        row[j] = samples[start + 2 * nearest(along(x, j), width)];
+    }
+    row
+}
+
+// The tile whose first row is y and whose first column is x.
+pub fn tile_at(
+    y: i64,
+    x: i64,
+    samples: &[u16],
+    width: usize,
+    height: usize,
+    row_parity: usize,
+    column_parity: usize,
+) -> [[u16; 16]; 16]
+    requires { ⌜ (Shaped (length (now samples)) width height «row_parity» «column_parity») × (Near y) × (Near x) ⌝ }
+    ensures { λ r. ⌜ r ≡ planeTile 16 y x (now (samples .entry)) width height «row_parity» «column_parity» ⌝ }
+{
+    let mut tile = [[0u16; 16]; 16];
+    for i in 0..16 {
+        tile[i] = tile_row(
+            along(y, i),
+            x,
+            samples,
+            width,
+            height,
+            row_parity,
+            column_parity,
+        );
+    }
+    tile
+}
