@@ -108,3 +108,61 @@ pub fn tile_at(
     }
     tile
 }
+
+// The view's sample that is read for row y and column x.
+pub fn sample<'a>(view: PlaneView<'a>, y: i64, x: i64) -> u16
+    requires { ⌜ Shaped (length (now (view .samples))) (view .width) (view .height) (view .«row_parity») (view .«column_parity») ⌝ }
+    ensures { λ r. ⌜ r ≡ planeSample y x (now (view .entry .samples)) (view .entry .width) (view .entry .height) (view .entry .«row_parity») (view .entry .«column_parity») ⌝ }
+{
+    sample_at(
+        y,
+        x,
+        view.samples,
+        view.width,
+        view.height,
+        view.row_parity,
+        view.column_parity,
+    )
+}
+
+// The view's tile whose first row is y and whose first column is x.
+pub fn tile<'a>(view: PlaneView<'a>, y: i64, x: i64) -> [[u16; 16]; 16]
+    requires { ⌜ (Shaped (length (now (view .samples))) (view .width) (view .height) (view .«row_parity») (view .«column_parity»)) × (Near y) × (Near x) ⌝ }
+    ensures { λ r. ⌜ r ≡ planeTile 16 y x (now (view .entry .samples)) (view .entry .width) (view .entry .height) (view .entry .«row_parity») (view .entry .«column_parity») ⌝ }
+{
+    tile_at(
+        y,
+        x,
+        view.samples,
+        view.width,
+        view.height,
+        view.row_parity,
+        view.column_parity,
+    )
+}
+
+// The same of plain parameters: the view is made of them and read, so that a caller holds no view.
+pub fn tile_of(
+    y: i64,
+    x: i64,
+    samples: &[u16],
+    width: usize,
+    height: usize,
+    row_parity: usize,
+    column_parity: usize,
+) -> [[u16; 16]; 16]
+    requires { ⌜ (Shaped (length (now samples)) width height «row_parity» «column_parity») × (Near y) × (Near x) ⌝ }
+    ensures { λ r. ⌜ r ≡ planeTile 16 y x (now (samples .entry)) width height «row_parity» «column_parity» ⌝ }
+{
+    tile(
+        PlaneView {
+            samples,
+            width,
+            height,
+            row_parity,
+            column_parity,
+        },
+        y,
+        x,
+    )
+}
