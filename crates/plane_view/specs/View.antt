@@ -3,14 +3,19 @@ use mathlib.Core.Path.{_≡_}
 use mathlib.Core.List.{List}
 use Prim.Native.Nat.{ℕ, _+_, _*_, _^_, _<_, _≤_}
 use lib.IntN.{ℤ, pos, natAbs, _+ℤ_}
-use lib.ListN.{getD}
+use lib.ListN.{getD, take, drop}
 use Rattle.sequences.specs.Tab.{tab}
 use Rattle.sequences.specs.Grid.{grid}
+use Rattle.geometry.specs.declared.Shape.{Shape}
 use Rattle.geometry.specs.Read.{Image, planeOf, inside, read}
 
 -- "Frames are Bayer RGGB, row by row": a frame of which the samples are at hand
 unfoldable pub frameImage : List ℕ → (rowLength : ℕ) → Image
 frameImage samples rowLength row column = getD samples (row * rowLength + column) 0
+
+-- the samples of one frame of a burst
+unfoldable pub framePart : Shape → List ℕ → (frame : ℕ) → List ℕ
+framePart s samples frame = take (s .width * s .height) (drop (frame * (s .width * s .height)) samples)
 
 -- "Each frame has four planes of W/2 by H/2, by parity of row and column": the plane of `width` columns
 unfoldable pub planeImage : List ℕ → (width rowParity columnParity : ℕ) → Image

@@ -1,0 +1,54 @@
+-- A view of a frame's part of the burst reads the burst's plane.
+use mathlib.Core.Path.{_≡_, refl, sym, ap, _∙_}
+use mathlib.Core.List.{List}
+use Prim.Native.Nat.{ℕ, _+_, _-_, _*_, _≤_, _<_, min}
+use native.Mathlib.Nat.{mul-le-mul-right, add-mul, mul-comm}
+use native.Mathlib.Omega.{arith}
+use lib.IntN.{ℤ, pos, negsuc, _+ℤ_}
+use lib.ListN.{length, getD, take, drop, length-take, length-drop}
+use lib.Seq.{getD-take, getD-drop}
+use Rattle.sequences.specs.Grid.{grid-ext}
+use Rattle.geometry.specs.declared.Shape.{Shape}
+use Rattle.geometry.specs.Shape.{sampleLength}
+use Rattle.geometry.specs.Read.{Image, sampleAt, planeOf, inside, read}
+use Rattle.plane_view.specs.View.{frameImage, framePart, planeImage, tileOf, planeTile, Planar, Shaped}
+
+pub inside-below : (size : ℕ) (z : ℤ) → 0 < size → inside size z < size
+unfolding inside
+inside-below size (pos k) h = omega arith
+inside-below size (negsuc k) h = h
+
+-- a tile depends on what the image has inside alone
+pub tile-ext : (side height width : ℕ) (f g : Image) → 0 < height → 0 < width → ((row column : ℕ) → row < height → column < width → f row column ≡ g row column) →
+    (y x : ℤ) → tileOf side height width f y x ≡ tileOf side height width g y x
+unfolding tileOf read
+tile-ext side height width f g h w e y x =
+    grid-ext side side _ _ (λ i j _ _. e _ _ (inside-below height (y +ℤ pos i) h) (inside-below width (x +ℤ pos j) w))
+
+module _ (s : Shape) (samples : List ℕ) (frame : ℕ) where
+  part-sample : (row column : ℕ) → row < s .height → column < s .width → frameImage (framePart s samples frame) (s .width) row column ≡ sampleAt s samples frame row column
+  unfolding frameImage framePart sampleAt
+  part-sample row column h k =
+      let rows : (row + 1) * s .width ≤ s .height * s .width = mul-le-mul-right (s .width) (omega arith) in
+      let below : row * s .width + column < s .width * s .height = omega (arith, add-mul row 1 (s .width)) in
+      rw (getD-take, getD-drop) (ap (λ n. getD samples n 0) (omega arith))
+
+  module _ {width height rowParity columnParity : ℕ} (p : Planar width height rowParity columnParity) (wide : s .width ≡ 2 * width) (high : s .height ≡ 2 * height) where
+    -- such a part is a frame
+    pub part-shaped : length samples ≡ sampleLength s → frame < s .count → Shaped (length (framePart s samples frame)) width height rowParity columnParity
+    unfolding framePart sampleLength
+    part-shaped e h =
+        let frames : (frame + 1) * (s .width * s .height) ≤ s .count * (s .width * s .height) = mul-le-mul-right (s .width * s .height) (omega arith) in
+        let area : s .width * s .height ≡ 2 * height * (2 * width) = rw (wide, high) (mul-comm (2 * width) (2 * height)) in
+        let whole : length (framePart s samples frame) ≡ 2 * height * (2 * width) = simp (length-take, length-drop) (omega (arith, add-mul frame 1 (s .width * s .height))) in
+        record { whole = whole; planar = p }
+
+    pub part-tile : (side : ℕ) (y x : ℤ) →
+        planeTile side y x (framePart s samples frame) width height rowParity columnParity ≡ tileOf side height width (planeOf (sampleAt s samples frame) rowParity columnParity) y x
+    unfolding planeTile planeImage planeOf
+    part-tile side y x =
+        tile-ext side height width _ _ (p .high) (p .wide)
+        (λ row column h k.
+        let r = 2 * row + rowParity in
+        let c = 2 * column + columnParity in
+        ap (λ n. frameImage (framePart s samples frame) n r c) (sym wide) ∙ part-sample r c (omega (arith, p .row)) (omega (arith, p .column))) y x
