@@ -1,0 +1,5 @@
+pub mod Pyramid
+pub mod PyramidLaws
+pub mod Words
+pub mod WordsLaws
+pub mod Lay

@@ -1,0 +1,55 @@
+-- What follows of the pyramid's definitions: halving reads inside the image only, and keeps its bound.
+use mathlib.Core.Path.{_≡_, ap}
+use Prim.Native.Nat.{ℕ, _+_, _*_, _/_, _≤_, _<_}
+use native.Mathlib.Omega.{arith}
+use lib.IntN.{ℤ, pos, negsuc}
+use Rattle.geometry.specs.Read.{Image, inside, read}
+use Rattle.pyramid.specs.Pyramid.{bayerSum, tap, weighted, halved}
+
+pub inside-below : (size : ℕ) (z : ℤ) → 0 < size → inside size z < size
+unfolding inside
+inside-below size (pos k) h = omega arith
+inside-below size (negsuc k) h = h
+
+-- equal values at the four places, equal weighted sums
+weighted-agree : (p : ℕ) (f g : ℤ → ℕ) → ((z : ℤ) → f z ≡ g z) → weighted p f ≡ weighted p g
+unfolding weighted
+weighted-agree p f g e =
+    let a = e (tap p 0) in
+    let b = e (tap p 1) in
+    let c = e (tap p 2) in
+    let d = e (tap p 3) in
+    cc
+
+weighted-most : (p b : ℕ) (f : ℤ → ℕ) → ((z : ℤ) → f z ≤ b) → weighted p f ≤ 8 * b
+unfolding weighted
+weighted-most p b f h = omega (arith, h (tap p 0), h (tap p 1), h (tap p 2), h (tap p 3))
+
+module _ (height width : ℕ) (high : 0 < height) (wide : 0 < width) where
+  -- an image's halving depends on the values inside it alone
+  pub halved-agree : (f g : Image) → ((row column : ℕ) → row < height → column < width → f row column ≡ g row column)
+      → (row column : ℕ) → halved height width f row column ≡ halved height width g row column
+  unfolding halved read
+  halved-agree f g e row column =
+      ap (λ s. (s + 32) / 64)
+      (weighted-agree row _ _
+      (λ y. weighted-agree column _ _
+      (λ x. e (inside height y) (inside width x) (inside-below height y high) (inside-below width x wide))))
+
+  -- and is at most what these are
+  pub halved-most : (b : ℕ) (image : Image) → ((row column : ℕ) → row < height → column < width → image row column ≤ b)
+      → (row column : ℕ) → halved height width image row column ≤ b
+  unfolding halved read
+  halved-most b image h row column =
+      omega (
+        arith,
+        weighted-most row (8 * b) _
+            (λ y. weighted-most column b _
+            (λ x. h (inside height y) (inside width x) (inside-below height y high) (inside-below width x wide))),
+      )
+
+pub bayer-most : (b : ℕ) (height width : ℕ) (frame : Image) → ((row column : ℕ) → row < 2 * height → column < 2 * width → frame row column ≤ b)
+    → (row column : ℕ) → row < height → column < width → bayerSum frame row column ≤ 4 * b
+unfolding bayerSum
+bayer-most b height width frame h row column k l =
+    omega (arith, h (2 * row) (2 * column) (omega arith) (omega arith), h (2 * row) (2 * column + 1) (omega arith) (omega arith), h (2 * row + 1) (2 * column) (omega arith) (omega arith), h (2 * row + 1) (2 * column + 1) (omega arith) (omega arith))
