@@ -10,8 +10,8 @@ use borrow.Author.Needs.{needs}
 use native.Mathlib.Omega.{arith}
 use mathlib.Core.Path.{ap, _∙_}
 use Prim.Native.Nat.{_-_, _/_}
-use Rattle.pyramid.proofs.halve_row.Statement.{statement}
-use Rattle.pyramid.proofs.halve_row.Tie as tie
+use Rattle.pyramid.proofs.halving.halve_row.Statement.{statement}
+use Rattle.pyramid.proofs.halving.halve_row.Tie as tie
 
 abbrev Inv-loop : tie.InvT-loop
 Inv-loop work₀ from height width row to column₀ column-end work column = Writing work₀ to (λ column. pos (halved height width (imageAt work₀ from width) row column)) (width / 2) column work

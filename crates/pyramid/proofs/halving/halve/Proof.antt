@@ -8,8 +8,8 @@ use borrow.Author.Needs.{needs}
 use native.Mathlib.Omega.{arith}
 use mathlib.Core.Path.{ap}
 use Prim.Native.Nat.{_+_, _-_, _*_, _/_, _≤_}
-use Rattle.pyramid.proofs.halve.Statement.{statement}
-use Rattle.pyramid.proofs.halve.Tie as tie
+use Rattle.pyramid.proofs.halving.halve.Statement.{statement}
+use Rattle.pyramid.proofs.halving.halve.Tie as tie
 
 abbrev Inv-loop : tie.InvT-loop
 Inv-loop work₀ from height width to row₀ row-end work row = Laying work₀ to (height / 2) (width / 2) (halved height width (imageAt work₀ from width)) row work

@@ -7,8 +7,8 @@ use lib.IntN.{pos, _-ℤ_}
 use Rattle.algebra.specs.Order.{zarith, sub-pn, min-pn}
 use Rattle.geometry.specs.Read.{inside}
 use Rattle.pyramid.specs.Pyramid.{tap}
-use Rattle.pyramid.proofs.tap_index.Statement.{statement}
-use Rattle.pyramid.proofs.tap_index.Tie as tie
+use Rattle.pyramid.proofs.halving.tap_index.Statement.{statement}
+use Rattle.pyramid.proofs.halving.tap_index.Tie as tie
 
 minus-one : (q : ℕ) → 0 < q → pos (q - 1) ≡ pos q -ℤ pos 1
 minus-one q h = omega (zarith, sub-pn (pos q) (pos 1), min-pn (pos q -ℤ pos 1))

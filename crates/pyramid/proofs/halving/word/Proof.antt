@@ -8,8 +8,8 @@ use mir.Syntax.{w64}
 use mir.Val.{toZ, ofZ}
 use mir.Facts.{toZ-ofZ}
 use Rattle.algebra.specs.Bound.{most-fits}
-use Rattle.pyramid.proofs.word.Statement.{statement}
-use Rattle.pyramid.proofs.word.Tie as tie
+use Rattle.pyramid.proofs.halving.word.Statement.{statement}
+use Rattle.pyramid.proofs.halving.word.Tie as tie
 
 small : (z : ℤ) (n : ℕ) → z ≡ pos n → n ≤ 16380 → toZ w64 (ofZ w64 z) ≡ pos n
 small z n e h = ap (λ x. toZ w64 (ofZ w64 x)) e ∙ toZ-ofZ (most-fits w64 (pos n) 16380 (record { most = h }) tt)

@@ -1,8 +1,8 @@
 -- The four values, weighed, are the weighted sum by definition.
 use Rattle.pyramid.specs.Pyramid.{weighted}
 use borrow.Author.Needs.{needs}
-use Rattle.pyramid.proofs.row_sum.Statement.{statement}
-use Rattle.pyramid.proofs.row_sum.Tie as tie
+use Rattle.pyramid.proofs.halving.row_sum.Statement.{statement}
+use Rattle.pyramid.proofs.halving.row_sum.Tie as tie
 
 tap-value-requires : tie.Need-tap-value-requires
 tap-value-requires c κs = search needs

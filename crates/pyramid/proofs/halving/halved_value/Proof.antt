@@ -1,8 +1,8 @@
 -- The four rows' sums, weighed and rounded, are the halving by definition.
 use Rattle.pyramid.specs.Pyramid.{halved, weighted}
 use borrow.Author.Needs.{needs}
-use Rattle.pyramid.proofs.halved_value.Statement.{statement}
-use Rattle.pyramid.proofs.halved_value.Tie as tie
+use Rattle.pyramid.proofs.halving.halved_value.Statement.{statement}
+use Rattle.pyramid.proofs.halving.halved_value.Tie as tie
 
 row-sum-at-requires : tie.Need-row-sum-at-requires
 row-sum-at-requires c κs = search needs

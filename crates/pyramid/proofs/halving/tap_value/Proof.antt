@@ -3,8 +3,8 @@ use Rattle.pyramid.specs.Words.{wordAt}
 use mathlib.Core.Path.{ap, _∙_}
 use Prim.Native.Nat.{ℕ, _+_}
 use borrow.Author.Needs.{needs}
-use Rattle.pyramid.proofs.tap_value.Statement.{statement}
-use Rattle.pyramid.proofs.tap_value.Tie as tie
+use Rattle.pyramid.proofs.halving.tap_value.Statement.{statement}
+use Rattle.pyramid.proofs.halving.tap_value.Tie as tie
 
 tap-index-requires : tie.Need-tap-index-requires
 tap-index-requires c κs = search needs

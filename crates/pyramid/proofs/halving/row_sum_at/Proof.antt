@@ -7,8 +7,8 @@ use native.Mathlib.Omega.{arith}
 use mathlib.Core.Path.{ap, _∙_}
 use Prim.Native.Nat.{ℕ, _+_, _*_}
 use borrow.Author.Needs.{needs}
-use Rattle.pyramid.proofs.row_sum_at.Statement.{statement}
-use Rattle.pyramid.proofs.row_sum_at.Tie as tie
+use Rattle.pyramid.proofs.halving.row_sum_at.Statement.{statement}
+use Rattle.pyramid.proofs.halving.row_sum_at.Tie as tie
 
 tap-index-requires : tie.Need-tap-index-requires
 tap-index-requires c κs = search needs

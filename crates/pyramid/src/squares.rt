@@ -1,0 +1,54 @@
+// Level 0: the sums of the 2 by 2 Bayer squares.
+ghost use mathlib.Core.Path.{_≡_};
+ghost use Prim.Native.Nat.{_+_, _*_, _/_, _<_, _≤_};
+ghost use lib.IntN.{pos};
+ghost use lib.ListN.{length};
+ghost use Rattle.geometry.specs.Read.{sampleAt};
+ghost use Rattle.sequences.specs.Write.{written};
+ghost use Rattle.pyramid.specs.Pyramid.{bayerSum};
+ghost use Rattle.pyramid.specs.Frame.{Frame};
+ghost use Rattle.pyramid.specs.Words.{laid};
+use geometry::Shape;
+
+// A sample of a frame.
+fn sample(shape: Shape, frame: usize, samples: &[u16], row: usize, column: usize) -> u64
+    requires { ⌜ (Frame shape frame (now samples)) × (row < shape .height) × (column < shape .width) ⌝ }
+    ensures { λ r. ⌜ (r ≡ sampleAt shape (now (samples .entry)) frame row column) × (r ≤ 4095) ⌝ }
+{
+    let place = (frame * shape.height + row) * shape.width + column;
+    samples[place] as u64
+}
+
+// The sum of a 2 by 2 Bayer square.
+fn square_sum(shape: Shape, frame: usize, samples: &[u16], row: usize, column: usize) -> u64
+    requires { ⌜ (Frame shape frame (now samples)) × (row < shape .height / 2) × (column < shape .width / 2) ⌝ }
+    ensures { λ r. ⌜ (r ≡ bayerSum (sampleAt shape (now (samples .entry)) frame) row column) × (r ≤ 16380) ⌝ }
+{
+    let a = sample(shape, frame, samples, 2 * row, 2 * column);
+    let b = sample(shape, frame, samples, 2 * row, 2 * column + 1);
+    let c = sample(shape, frame, samples, 2 * row + 1, 2 * column);
+    let d = sample(shape, frame, samples, 2 * row + 1, 2 * column + 1);
+    a + b + c + d
+}
+
+// One row of level 0, from `to` on.
+fn square_row(shape: Shape, frame: usize, samples: &[u16], row: usize, work: &mut [i64], to: usize)
+    requires { ⌜ (Frame shape frame (now samples)) × (row < shape .height / 2) × (to + shape .width / 2 ≤ length (now work)) ⌝ }
+    ensures { λ _. ⌜ now (work .exit) ≡ written (now (work .entry)) to (λ column. pos (bayerSum (sampleAt shape (now (samples .entry)) frame) row column)) (shape .width / 2) ⌝ }
+{
+    for column in 0..shape.width / 2 {
+        let value = square_sum(shape, frame, samples, row, column);
+        work[to + column] = value as i64;
+    }
+}
+
+// Level 0 of a frame, from `to` on.
+pub fn lay_squares(shape: Shape, frame: usize, samples: &[u16], work: &mut [i64], to: usize)
+    requires { ⌜ (Frame shape frame (now samples)) × (to + shape .height / 2 * (shape .width / 2) ≤ length (now work)) ⌝ }
+    ensures { λ _. ⌜ now (work .exit) ≡ laid (now (work .entry)) to (shape .height / 2) (shape .width / 2) (bayerSum (sampleAt shape (now (samples .entry)) frame)) ⌝ }
+{
+    for row in 0..shape.height / 2 {
+        let start = to + row * (shape.width / 2);
+        square_row(shape, frame, samples, row, &mut *work, start);
+    }
+}
