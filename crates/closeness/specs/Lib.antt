@@ -1,0 +1,6 @@
+pub mod Output
+pub mod Exact
+pub mod Bins
+pub mod Windows
+pub mod Closeness
+pub mod Side16

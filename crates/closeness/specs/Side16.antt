@@ -1,0 +1,53 @@
+-- Demand 3 for side 16: the output sample lies within five eighths of the exact merge's.
+use mathlib.Core.Path.{refl}
+use Prim.Native.Nat.{ℕ, suc, _+_, _*_, _≤_, _<_}
+use native.Mathlib.Omega.{arith}
+use lib.Dec.{leb, leb→le, lit<}
+use lib.IntN.{ℤ, natAbs, _+ℤ_, _-ℤ_, _*ℤ_}
+use Rattle.algebra.specs.Test.{all, all-sound}
+use Rattle.algebra.specs.Fraction.{frac, whole, Within}
+use Rattle.transform.specs.Tables.{cosines, cosine16, sine16, side16}
+use Rattle.transform.specs.TableLaws.{window-halves}
+use Rattle.transform.specs.Recipe.{correctionAt}
+use Rattle.closeness.specs.Output.{outputSample}
+use Rattle.closeness.specs.Exact.{exactCorrectionAt, exactSample}
+use Rattle.closeness.specs.Closeness.{Fitting, tileError, tile-within, sample-within}
+
+-- one computed test over the 256 pairs of entries
+abbrev size : ℕ → ℕ → ℕ
+size a b =
+    natAbs (cosine16 a *ℤ cosine16 b -ℤ sine16 a *ℤ sine16 b) + natAbs (cosine16 a *ℤ sine16 b +ℤ sine16 a *ℤ cosine16 b)
+
+twiddle-small : (a b : ℕ) → a < 16 → b < 16 → size a b ≤ 379633849
+unfolding cosines cosine16 sine16
+twiddle-small a b h k =
+    leb→le (size a b) 379633849
+    (all-sound 16 (λ b. leb (size a b) 379633849) (all-sound 16 (λ a. all 16 (λ b. leb (size a b) 379633849)) tt a h) b k)
+
+pub fitting16 : Fitting side16 379633849 4096
+unfolding side16
+fitting16 =
+    record {
+      side-above = lit< tt;
+      quantum-above = lit< tt;
+      divisor-above = lit< tt;
+      scale-is = refl;
+      divisor-is = refl;
+      weight-is = refl;
+      window-halves = window-halves;
+      twiddle-small = twiddle-small;
+    }
+
+-- one tile: P/256 lies within 0.1345 of a sample step of p
+pub tile16 : (noise : ℕ) (d : ℕ → ℕ → ℤ) (y x : ℕ) → Within 295853763328 2199023255552 (frac (correctionAt side16 noise d y x) 256 (lit< tt)) (exactCorrectionAt side16 noise d y x)
+unfolding side16
+tile16 = tile-within fitting16
+
+-- one sample, for N = others + 1 up to 8 frames
+module _ (a b others : ℕ) (noise : ℕ → ℕ) (d : ℕ → ℕ → ℕ → ℕ → ℤ) (t0 : ℤ) where
+  pub five-eighths : a < 8 → b < 8 → others ≤ 7 → Within 5 8 (whole (outputSample side16 a b others noise d t0)) (exactSample side16 a b others noise d t0)
+  unfolding side16
+  five-eighths k l few = sample-within fitting16 a b others noise d t0 k l 5 8 enough
+    where
+      enough : 8 * (others * tileError side16 379633849 + 128 * (2 * side16 .divisor * suc others)) ≤ 5 * (256 * (2 * side16 .divisor * suc others))
+      enough = omega arith

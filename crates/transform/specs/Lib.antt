@@ -1,0 +1,5 @@
+pub mod Side
+pub mod Tables
+pub mod Recipe
+pub mod TableLaws
+pub mod RecipeLaws

@@ -1,0 +1,27 @@
+-- The inverse sum by rows and then columns, as code works it.
+use mathlib.Core.Path.{_≡_, _∙_, ap₂}
+use mathlib.Core.List.{[], _∷_}
+use Prim.Native.Nat.{ℕ, _*_}
+use lib.IntN.{ℤ, _+ℤ_, _-ℤ_, _*ℤ_}
+use Rattle.algebra.specs.Ring.{var, _⊞_, _⊟_, _⊠_, ring}
+use Rattle.algebra.specs.Sums.{sumZ, sumZ-cong, sumZ-scaler, sumZ-sub}
+use Rattle.transform.specs.Side.{Side, cosAt, sinAt}
+use Rattle.transform.specs.Recipe.{twiddleRe, twiddleIm, inverseRe}
+
+module _ (s : Side) (g h : ℕ → ℕ → ℤ) (x : ℕ) where
+  unfoldable pub alongRe : ℕ → ℤ
+  alongRe u = sumZ (s .side) (λ v. g u v *ℤ cosAt s (v * x) -ℤ h u v *ℤ sinAt s (v * x))
+
+  unfoldable pub alongIm : ℕ → ℤ
+  alongIm u = sumZ (s .side) (λ v. g u v *ℤ sinAt s (v * x) +ℤ h u v *ℤ cosAt s (v * x))
+
+  pub two-way : (y : ℕ) → inverseRe s g h y x ≡ sumZ (s .side) (λ u. alongRe u *ℤ cosAt s (u * y) -ℤ alongIm u *ℤ sinAt s (u * y))
+  unfolding inverseRe twiddleRe twiddleIm alongRe alongIm
+  two-way y =
+      sumZ-cong (s .side) _ _
+      (λ u i. sumZ-cong (s .side) _ (λ v. (g u v *ℤ cosAt s (v * x) -ℤ h u v *ℤ sinAt s (v * x)) *ℤ cosAt s (u * y) -ℤ (g u v *ℤ sinAt s (v * x) +ℤ h u v *ℤ cosAt s (v * x)) *ℤ sinAt s (u * y))
+      (λ v j. ring (cosAt s (u * y) ∷ sinAt s (u * y) ∷ cosAt s (v * x) ∷ sinAt s (v * x) ∷ g u v ∷ h u v ∷ [])
+      ((var 0 ⊠ var 2 ⊟ var 1 ⊠ var 3) ⊠ var 4 ⊟ (var 0 ⊠ var 3 ⊞ var 1 ⊠ var 2) ⊠ var 5)
+      ((var 4 ⊠ var 2 ⊟ var 5 ⊠ var 3) ⊠ var 0 ⊟ (var 4 ⊠ var 3 ⊞ var 5 ⊠ var 2) ⊠ var 1) tt)
+      ∙ sumZ-sub (s .side) (λ v. (g u v *ℤ cosAt s (v * x) -ℤ h u v *ℤ sinAt s (v * x)) *ℤ cosAt s (u * y)) (λ v. (g u v *ℤ sinAt s (v * x) +ℤ h u v *ℤ cosAt s (v * x)) *ℤ sinAt s (u * y))
+      ∙ ap₂ _-ℤ_ (sumZ-scaler (s .side) (cosAt s (u * y)) (λ v. g u v *ℤ cosAt s (v * x) -ℤ h u v *ℤ sinAt s (v * x))) (sumZ-scaler (s .side) (sinAt s (u * y)) (λ v. g u v *ℤ sinAt s (v * x) +ℤ h u v *ℤ cosAt s (v * x))))

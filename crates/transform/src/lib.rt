@@ -1,0 +1,1 @@
+// The two-way transform, the Wiener step and the inverse, on tiles.
