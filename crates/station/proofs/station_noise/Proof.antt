@@ -1,0 +1,85 @@
+-- `station::station_noise` answers by the levels that `levels_of` found or refused, whose bounds are laws.
+use mathlib.Core.Path.{_≡_, sym, ap, subst, _∙_}
+use Prim.Native.Nat.{ℕ, _≤_}
+use native.Mathlib.Omega.{arith}
+use borrow.Author.Needs.{needs}
+use Rattle.noise.specs.declared.Noise.the-variants.{Measured}
+use Rattle.noise.specs.declared.Levels.the-variants.{Found}
+use Rattle.noise.specs.Levels.{levelsOf, shotLevel, readLevel, strengthRefusal}
+use Rattle.noise.specs.LevelLaws.{shot-level-bound, read-level-bound}
+use Rattle.station.specs.Station.{answered, noiseQuestion}
+use Rattle.station.proofs.Answers.{refused, too-strong, too-bright, numbered, strength-most}
+use Rattle.station.proofs.station_noise.Statement.{statement}
+use Rattle.station.proofs.station_noise.Tie as tie
+
+levels-of-requires : tie.Need-levels-of-requires
+levels-of-requires c κs = search needs
+
+enum-told : tie.Need-enum-told
+enum-told c = search needs
+
+enum-known-ls : tie.Need-enum-known-ls
+enum-known-ls c = search needs
+
+-- the levels that the match bound are the curve's
+bound : (c : tie.After-ls) → let a = c .before .before .before .args in
+    levelsOf (Measured (record { shot = a .shot; read = a .read })) ≡ Found (c .ls .given .0 .0) (c .ls .given .0 .1 .0)
+bound c = sym (c .before .before .levels-of .ensures) ∙ c .ls .given .1
+
+asked : (c : tie.After-ls) → let a = c .before .before .before .args in
+    answered (Found (c .ls .given .0 .0) (c .ls .given .0 .1 .0)) (a .strength) (a .root) ≡ noiseQuestion (a .shot) (a .read) (a .strength) (a .root)
+unfolding noiseQuestion
+asked c = let a = c .before .before .before .args in ap (λ l. answered l (a .strength) (a .root)) (sym (bound c))
+
+strength-refusal-requires : tie.Need-strength-refusal-requires
+strength-refusal-requires c κs = search needs
+
+passed : (c : tie.Else1) → strengthRefusal (c .before .before .before .before .before .before .args .strength) ≡ 0
+passed c = sym (c .before .strength-refusal .ensures) ∙ c .if1 .left
+
+returns : tie.Need-returns
+returns c =
+    let told = c .before .before .before in
+    too-strong _ _ _ _ (λ e. c .if1 .taken (c .before .strength-refusal .ensures ∙ e)) ∙ asked told
+
+returns-2 : tie.Need-returns-2
+returns-2 c =
+    let told = c .before .before .before .before in
+    too-bright _ _ _ _ (passed (c .before)) (c .if2 .taken) ∙ asked told
+
+noise-number-requires : tie.Need-noise-number-requires
+noise-number-requires c κs =
+    let told = c .before .before .before .before in
+    let a = told .before .before .before .args in
+    let curve = Measured (record { shot = a .shot; read = a .read }) in
+    record {
+      strength = strength-most _ (passed (c .before));
+      shot = subst (λ l. shotLevel l ≤ 65536) (bound told) (shot-level-bound curve);
+      read = subst (λ l. readLevel l ≤ 4194304) (bound told) (read-level-bound curve);
+      root = omega (arith, c .if2 .left);
+    }
+
+returns-3 : tie.Need-returns-3
+unfolding noiseQuestion
+returns-3 c =
+    let a = c .before .before .before .args in
+    refused _ _ _ ∙ ap (λ l. answered l (a .strength) (a .root)) (sym (c .enum-told .given .1) ∙ c .before .before .levels-of .ensures)
+
+returns-4 : tie.Need-returns-4
+returns-4 c =
+    let told = c .before .before .before .before .before in
+    c .noise-number .ensures .0 ∙ numbered _ _ _ _ (passed (c .before .before)) (c .before .if2 .left) ∙ asked told
+
+pub station-noise-spec : {M : Type 1} → statement M
+station-noise-spec =
+    tie.close
+    (tie.spec
+    levels-of-requires
+    enum-told
+    enum-known-ls
+    strength-refusal-requires
+    returns
+    returns-2
+    noise-number-requires
+    returns-3
+    returns-4)

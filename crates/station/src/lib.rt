@@ -1,0 +1,34 @@
+// The capture station's questions, for C. Each is total: it answers for every argument.
+ghost use mathlib.Core.Path.{_≡_};
+ghost use Rattle.geometry.specs.Question.{lengthQuestion};
+ghost use Rattle.station.specs.Station.{noiseQuestion};
+use noise::Curve;
+use noise::Levels;
+use noise::Noise;
+
+// The length that refusal `number` tests, from 4 to 7; else, or where refusal 1 or 2 would stand, 0.
+#[no_mangle]
+pub extern "C" fn station_length(width: u64, height: u64, count: u64, number: u64) -> u64
+    ensures { λ r. ⌜ r ≡ lengthQuestion width height count number ⌝ }
+{
+    geometry::question::length_question(width, height, count, number)
+}
+
+// V of a curve, a strength and a root; 0 where refusal 8, 9 or 10 would stand, or the root exceeds 65520.
+#[no_mangle]
+pub extern "C" fn station_noise(shot: f64, read: f64, strength: u64, root: u64) -> u64
+    ensures { λ r. ⌜ r ≡ noiseQuestion shot read strength root ⌝ }
+{
+    match noise::levels_of(Noise::Measured(Curve { shot, read })) {
+        Levels::Refused(_) => 0,
+        Levels::Found { shot: ls, read: lr } => {
+            if noise::strength_refusal(strength) != 0 {
+                return 0;
+            }
+            if 65520 < root {
+                return 0;
+            }
+            noise::noise_number(strength, ls, lr, root)
+        }
+    }
+}
