@@ -1,0 +1,47 @@
+//! The burst: frames of Bayer samples and their planes.
+
+use crate::image::Image;
+use crate::shape::Shape;
+
+/// "Frames are Bayer RGGB, row by row, 16-bit words holding 0..4095."
+#[derive(Clone, Debug, PartialEq, Eq)]
+pub struct Burst {
+    pub shape: Shape,
+    pub reference: u64,
+    pub samples: Vec<u16>,
+}
+
+impl Burst {
+    /// The indices of the other frames, rising.
+    pub fn others(&self) -> Vec<u64> {
+        let all = 0..self.shape.count;
+        all.filter(|&frame| frame != self.reference).collect()
+    }
+
+    pub fn sample(&self, frame: u64, row: i64, column: i64) -> i64 {
+        let Shape { width, height, .. } = self.shape;
+        let index = (frame * height + row as u64) * width + column as u64;
+        i64::from(self.samples[index as usize])
+    }
+
+    /// "four planes of W/2 by H/2, by parity of row and column".
+    pub fn plane(&self, frame: u64, row_parity: i64, column_parity: i64) -> Image {
+        self.half_size(|row, column| {
+            self.sample(frame, 2 * row + row_parity, 2 * column + column_parity)
+        })
+    }
+
+    /// "Level 0: the sum of each 2 by 2 Bayer square."
+    pub fn square_sums(&self, frame: u64) -> Image {
+        self.half_size(|row, column| {
+            let places = [(0, 0), (0, 1), (1, 0), (1, 1)];
+            let sample = |(y, x)| self.sample(frame, 2 * row + y, 2 * column + x);
+            places.into_iter().map(sample).sum()
+        })
+    }
+
+    fn half_size(&self, pixel: impl Fn(i64, i64) -> i64) -> Image {
+        let half = |side: u64| side as i64 / 2;
+        Image::from_fn(half(self.shape.width), half(self.shape.height), pixel)
+    }
+}

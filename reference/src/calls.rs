@@ -1,0 +1,144 @@
+//! The calls align, merge and run: their refusals in order, then their work.
+
+use crate::align;
+use crate::burst::Burst;
+use crate::merge::{self, Setting};
+use crate::noise::{Denoising, NoiseModel};
+use crate::refusal::{number, require, Refusal};
+
+/// A call's arguments and lent buffers; of the work area only the length matters here.
+#[derive(Clone)]
+pub struct Call {
+    pub burst: Burst,
+    pub denoising: Denoising,
+    pub vectors: Vec<i32>,
+    pub output: Vec<u16>,
+    pub work_length: u64,
+}
+
+/// "Align, and so run, also returns ... the sum of finest residuals."
+#[derive(Clone, Copy, Debug, PartialEq, Eq)]
+pub struct Answer {
+    pub number: u64,
+    pub residuals: [u64; 7],
+}
+
+impl Call {
+    /// "align (burst to vectors)".
+    pub fn align(&mut self) -> Answer {
+        let accepted = self.check_align();
+        answer(accepted.map(|()| self.find_vectors()))
+    }
+
+    /// "merge (burst and lent vectors to output, the vectors only read)".
+    pub fn merge(&mut self) -> Answer {
+        let accepted = self.check_run();
+        answer(accepted.and_then(|noise| self.merge_output(noise)))
+    }
+
+    /// "run (align, then merge; it also tests the vectors it found by refusal 12, and after
+    /// that refusal alone the vectors stay as found, output as it was ...)".
+    pub fn run(&mut self) -> Answer {
+        let accepted = self.check_run();
+        answer(accepted.and_then(|noise| {
+            let residuals = self.find_vectors();
+            self.merge_output(noise)?;
+            Ok(residuals)
+        }))
+    }
+
+    /// What an accepted merge rests on.
+    pub fn setting(&self, noise: NoiseModel) -> Setting<'_> {
+        Setting {
+            burst: &self.burst,
+            vectors: &self.vectors,
+            noise,
+        }
+    }
+
+    /// "Align tests 1 to 5, 7, 11."
+    fn check_align(&self) -> Result<(), Refusal> {
+        self.check_burst()?;
+        self.check_vectors_length()?;
+        self.check_work_length()?;
+        self.check_samples()
+    }
+
+    /// Refusals 1 to 11, which merge and run share.
+    fn check_run(&self) -> Result<NoiseModel, Refusal> {
+        self.check_burst()?;
+        self.check_vectors_length()?;
+        let length = self.output.len() as u64;
+        require(
+            length == self.burst.shape.output_length(),
+            Refusal::OutputLength,
+        )?;
+        self.check_work_length()?;
+        let noise = self.denoising.model()?;
+        self.check_samples()?;
+        Ok(noise)
+    }
+
+    /// Refusals 1 to 4.
+    fn check_burst(&self) -> Result<(), Refusal> {
+        let shape = self.burst.shape;
+        shape.check()?;
+        shape.check_reference(self.burst.reference)?;
+        let length = self.burst.samples.len() as u64;
+        require(length == shape.samples_length(), Refusal::SamplesLength)
+    }
+
+    /// Refusal 5.
+    fn check_vectors_length(&self) -> Result<(), Refusal> {
+        let length = self.vectors.len() as u64;
+        require(
+            length == self.burst.shape.vectors_length(),
+            Refusal::VectorsLength,
+        )
+    }
+
+    /// Refusal 7.
+    fn check_work_length(&self) -> Result<(), Refusal> {
+        require(
+            self.work_length == self.burst.shape.work_length(),
+            Refusal::WorkLength,
+        )
+    }
+
+    /// Refusal 11: "sample > 4095".
+    fn check_samples(&self) -> Result<(), Refusal> {
+        let allowed = self.burst.samples.iter().all(|&sample| sample <= 4095);
+        require(allowed, Refusal::Sample)
+    }
+
+    /// Refusal 12: "vector part outside −172..172".
+    fn check_vectors(&self) -> Result<(), Refusal> {
+        let mut parts = self.vectors.iter();
+        require(
+            parts.all(|part| (-172..=172).contains(part)),
+            Refusal::Vector,
+        )
+    }
+
+    /// Aligns and returns the residual sums.
+    fn find_vectors(&mut self) -> [u64; 7] {
+        let alignment = align::align(&self.burst);
+        self.vectors = alignment.vectors;
+        alignment.residuals
+    }
+
+    /// Tests the vectors and merges; a merge has no residual sums.
+    fn merge_output(&mut self, noise: NoiseModel) -> Result<[u64; 7], Refusal> {
+        self.check_vectors()?;
+        self.output = merge::merge(&self.setting(noise));
+        Ok([0; 7])
+    }
+}
+
+/// "beside a refusal every other returned field is 0".
+fn answer(accepted: Result<[u64; 7], Refusal>) -> Answer {
+    Answer {
+        number: number(&accepted),
+        residuals: accepted.unwrap_or([0; 7]),
+    }
+}

@@ -1,0 +1,36 @@
+//! The subcommands.
+
+mod calls;
+mod data;
+mod exact;
+mod files;
+mod lines;
+mod wire;
+
+use reference::calls::Call;
+use reference::programs::{motion, stack};
+use std::error::Error;
+
+pub type Outcome = Result<(), Box<dyn Error>>;
+
+pub fn dispatch(arguments: &[String]) -> Outcome {
+    let words: Vec<&str> = arguments.iter().map(String::as_str).collect();
+    match words[..] {
+        ["lengths"] => lines::answer_each(lines::length),
+        ["noise"] => lines::answer_each(lines::noise),
+        ["levels"] => lines::answer_each(lines::levels),
+        ["motion"] => files::print(motion),
+        ["stack"] => files::print(stack),
+        ["check"] => files::check(),
+        ["check-many"] => files::check_many(),
+        ["read"] => files::read(),
+        ["align"] => calls::answer_each(Call::align),
+        ["merge"] => calls::answer_each(Call::merge),
+        ["run"] => calls::answer_each(Call::run),
+        ["exact"] => exact::answer_each(),
+        ["cases", directory, seed] => data::write_cases(directory, seed),
+        ["damaged", count, seed] => data::write_damaged(count, seed),
+        ["calls", side, count, seed] => data::write_calls(side, count, seed),
+        _ => Err("unknown subcommand; README.md lists them".into()),
+    }
+}

@@ -1,0 +1,85 @@
+//! The library calls over the binary protocol.
+
+use super::wire::{at_end, put_many, take_array, take_many, Word};
+use super::Outcome;
+use reference::burst::Burst;
+use reference::calls::{Answer, Call};
+use reference::noise::{Curve, Denoising, Noise};
+use reference::shape::Shape;
+use std::error::Error;
+use std::io::{stdin, stdout, BufReader, BufWriter, Read, Write};
+
+/// Answers every call on standard input.
+pub fn answer_each(perform: fn(&mut Call) -> Answer) -> Outcome {
+    let mut input = BufReader::new(stdin().lock());
+    let mut out = BufWriter::new(stdout().lock());
+    while !at_end(&mut input)? {
+        let mut call = take_call(&mut input)?;
+        let answer = perform(&mut call);
+        answer.number.put(&mut out)?;
+        put_many(&mut out, &answer.residuals)?;
+        put_many(&mut out, &call.vectors)?;
+        put_many(&mut out, &call.output)?;
+        out.flush()?;
+    }
+    Ok(())
+}
+
+pub fn take_call(input: &mut impl Read) -> Result<Call, Box<dyn Error>> {
+    let [width, height, count, reference] = take_array(input)?;
+    let denoising = take_denoising(input)?;
+    let [samples, vectors, output, work_length] = take_array(input)?;
+    let shape = Shape {
+        width,
+        height,
+        count,
+    };
+    Ok(Call {
+        burst: Burst {
+            shape,
+            reference,
+            samples: take_many(input, samples)?,
+        },
+        denoising,
+        vectors: take_many(input, vectors)?,
+        output: take_many(input, output)?,
+        work_length,
+    })
+}
+
+fn take_denoising(input: &mut impl Read) -> Result<Denoising, Box<dyn Error>> {
+    let [kind, iso, shot, read, strength] = take_array(input)?;
+    let curve = Curve {
+        shot: f64::from_bits(shot),
+        read: f64::from_bits(read),
+    };
+    let noise = match kind {
+        0 => Noise::Curve(curve),
+        1 => Noise::Iso(iso.try_into()?, curve),
+        _ => return Err("the noise kind is neither 0 nor 1".into()),
+    };
+    Ok(Denoising { noise, strength })
+}
+
+pub fn put_call(out: &mut impl Write, call: &Call) -> std::io::Result<()> {
+    let Shape {
+        width,
+        height,
+        count,
+    } = call.burst.shape;
+    let (kind, iso, curve) = match call.denoising.noise {
+        Noise::Curve(curve) => (0, 0, curve),
+        Noise::Iso(iso, curve) => (1, iso.into(), curve),
+    };
+    let (shot, read) = (curve.shot.to_bits(), curve.read.to_bits());
+    let strength = call.denoising.strength;
+    put_many(out, &[width, height, count, call.burst.reference])?;
+    put_many(out, &[kind, iso, shot, read, strength])?;
+    (call.burst.samples.len() as u64).put(out)?;
+    (call.vectors.len() as u64).put(out)?;
+    (call.output.len() as u64).put(out)?;
+    call.work_length.put(out)?;
+    put_many(out, &call.burst.samples)?;
+    put_many(out, &call.vectors)?;
+    put_many(out, &call.output)
+}

@@ -1,0 +1,47 @@
+//! Test data for other programs.
+
+use super::calls::put_call;
+use super::wire::Word;
+use super::Outcome;
+use reference::{cases, scenes};
+use std::io::{stdout, BufWriter, Write};
+use std::path::Path;
+
+/// Writes each case to a file of its name and `expected.txt` with a line `NAME number` each.
+pub fn write_cases(directory: &str, seed: &str) -> Outcome {
+    let directory = Path::new(directory);
+    std::fs::create_dir_all(directory)?;
+    let mut expected = String::new();
+    for case in cases::cases(seed.parse()?) {
+        let name = format!("{}.burst", case.name);
+        std::fs::write(directory.join(&name), &case.bytes)?;
+        expected += &format!("{name} {}\n", case.number);
+    }
+    std::fs::write(directory.join("expected.txt"), expected)?;
+    Ok(())
+}
+
+/// Writes damaged files as `check-many` takes them.
+pub fn write_damaged(count: &str, seed: &str) -> Outcome {
+    let mut out = BufWriter::new(stdout().lock());
+    for bytes in cases::damaged_files(count.parse()?, seed.parse()?) {
+        u32::try_from(bytes.len())?.put(&mut out)?;
+        out.write_all(&bytes)?;
+    }
+    out.flush()?;
+    Ok(())
+}
+
+/// Writes calls as `align`, `merge` and `run` take them.
+pub fn write_calls(side: &str, count: &str, seed: &str) -> Outcome {
+    let side = side.parse()?;
+    if side < 64 {
+        return Err("frames are at least 64 wide and high".into());
+    }
+    let mut out = BufWriter::new(stdout().lock());
+    for call in scenes::calls(side, count.parse()?, seed.parse()?) {
+        put_call(&mut out, &call)?;
+    }
+    out.flush()?;
+    Ok(())
+}

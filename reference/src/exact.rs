@@ -1,0 +1,65 @@
+//! The exact merge: "the same r, V and vectors", "the other steps in fractions".
+
+use crate::fraction::Fraction;
+use crate::image::Tile;
+use crate::integer::Integer;
+use crate::merge::{covering_tiles, Cover, Setting};
+use crate::transform::{forward, turn};
+use std::cmp::Ordering;
+use std::collections::BTreeMap;
+
+/// The exact sample at a row and column of the frame: "the reference's minus (sum over four
+/// tiles and the other frames of w·w'·p)/(2^24·N), held to 0..4095".
+pub fn sample(setting: &Setting, row: i64, column: i64) -> Fraction {
+    let plane = setting.plane(row % 2, column % 2);
+    let mut terms = Vec::new();
+    for cover in covering_tiles(row / 2, column / 2) {
+        let (differences, noise) = plane.differences(cover.tile_row, cover.tile_column);
+        for difference in differences {
+            terms.extend(weighted_correction(&difference, noise, &cover));
+        }
+    }
+    let unit = i128::from(setting.burst.shape.count) << 24;
+    let reference = plane.reference.at(row / 2, column / 2);
+    let correction = Fraction::sum(&terms).over(unit);
+    held(Fraction::from(reference).minus(&correction))
+}
+
+/// The terms of w·w'·p at a sample of a tile, bins of equal denominator taken together.
+fn weighted_correction(difference: &Tile, noise: u64, cover: &Cover) -> Vec<Fraction> {
+    let terms = correction_terms(difference, noise.into(), cover);
+    let weighted = |(denominator, numerator): (i128, i128)| Fraction {
+        numerator: Integer::from(numerator).times(&i128::from(cover.weight()).into()),
+        denominator: denominator.into(),
+    };
+    terms.into_iter().map(weighted).collect()
+}
+
+/// Numerators of p by denominator. "bins B/2^28, noise V/256, inverse divided by 256·2^28":
+/// with E the inverse's factor, a bin gives the real part of
+/// B/2^28 · (V/256)/(|B/2^28|² + V/256) · E/(256·2^28) = B·E·V/(256·(256·|B|² + 2^56·V)).
+fn correction_terms(difference: &Tile, noise: i128, cover: &Cover) -> BTreeMap<i128, i128> {
+    let mut terms = BTreeMap::new();
+    // "where V is 0 the bin's correction is 0"
+    if noise == 0 {
+        return terms;
+    }
+    let (y, x) = (cover.row as usize, cover.column as usize);
+    for (u, row) in forward(difference).iter().enumerate() {
+        for (v, bin) in row.iter().enumerate() {
+            let factor = turn(u * y).times(turn(v * x));
+            let denominator = 256 * (256 * bin.squared() + (noise << 56));
+            *terms.entry(denominator).or_default() += bin.real_product(factor) * noise;
+        }
+    }
+    terms
+}
+
+fn held(value: Fraction) -> Fraction {
+    let (lowest, highest) = (Fraction::from(0), Fraction::from(4095));
+    match (value.compare(&lowest), value.compare(&highest)) {
+        (Ordering::Less, _) => lowest,
+        (_, Ordering::Greater) => highest,
+        _ => value,
+    }
+}

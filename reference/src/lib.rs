@@ -1,0 +1,24 @@
+//! Reference for the HDR+ burst stacker, written from its scope document alone.
+//! Quoted words in the comments are the document's.
+
+#![forbid(unsafe_code)]
+
+pub mod align;
+pub mod burst;
+pub mod calls;
+pub mod cases;
+pub mod exact;
+pub mod file;
+pub mod fraction;
+pub mod image;
+pub mod integer;
+pub mod merge;
+pub mod noise;
+pub mod programs;
+pub mod pyramid;
+pub mod random;
+pub mod refusal;
+pub mod scenes;
+pub mod shape;
+pub mod station;
+pub mod transform;

@@ -1,0 +1,181 @@
+//! The merge recipe in whole numbers.
+
+use crate::burst::Burst;
+use crate::image::{Image, Tile};
+use crate::noise::NoiseModel;
+use crate::transform::{forward, inverse, rounded, Bins, Complex};
+
+/// "w(0..7) = ...; w(15−i) = w(i)".
+const WINDOW: [i64; 8] = [39, 345, 910, 1648, 2448, 3186, 3751, 4057];
+
+pub fn window(index: i64) -> i64 {
+    WINDOW[index.min(15 - index) as usize]
+}
+
+/// What the merge of a burst rests on; the vectors are only read.
+#[derive(Clone, Copy)]
+pub struct Setting<'a> {
+    pub burst: &'a Burst,
+    pub vectors: &'a [i32],
+    pub noise: NoiseModel,
+}
+
+impl<'a> Setting<'a> {
+    /// One of the four planes, by parity of row and column.
+    pub fn plane(&self, row_parity: i64, column_parity: i64) -> Plane<'a> {
+        let plane = |frame| self.burst.plane(frame, row_parity, column_parity);
+        Plane {
+            setting: *self,
+            reference: plane(self.burst.reference),
+            others: self.burst.others().into_iter().map(plane).collect(),
+        }
+    }
+}
+
+/// One plane of every frame.
+pub struct Plane<'a> {
+    setting: Setting<'a>,
+    pub reference: Image,
+    others: Vec<Image>,
+}
+
+impl Plane<'_> {
+    /// Tile indices run from 0 to these, "at level 0's origins".
+    fn last_tile(&self) -> (i64, i64) {
+        (self.reference.height / 8, self.reference.width / 8)
+    }
+
+    /// T0−Tz for each other frame, and V, of the tile with these indices.
+    pub fn differences(&self, row: i64, column: i64) -> (Vec<Tile>, u64) {
+        let (top, left) = (8 * row - 8, 8 * column - 8);
+        let tile = self.reference.tile(top, left);
+        let difference = |(slot, other): (usize, &Image)| {
+            let (down, right) = self.vector(slot, row, column);
+            let moved = other.tile(top + down, left + right);
+            subtracted(&tile, &moved)
+        };
+        let differences = self.others.iter().enumerate().map(difference).collect();
+        (differences, self.setting.noise.noise_number(root(&tile)))
+    }
+
+    /// "use its vectors unscaled".
+    fn vector(&self, slot: usize, row: i64, column: i64) -> (i64, i64) {
+        let (last_row, last_column) = self.last_tile();
+        let tile = (slot as i64 * (last_row + 1) + row) * (last_column + 1) + column;
+        let part = |part| i64::from(self.setting.vectors[(2 * tile + part) as usize]);
+        (part(0), part(1))
+    }
+
+    /// The sum over the other frames of P for the tile with these indices.
+    fn corrections(&self, row: i64, column: i64) -> Tile {
+        let (differences, noise) = self.differences(row, column);
+        let mut sum = [[0; 16]; 16];
+        for difference in differences {
+            let correction = correction(&difference, noise);
+            sum = map_tile(|y, x| sum[y][x] + correction[y][x]);
+        }
+        sum
+    }
+
+    /// The merged plane.
+    fn merged(&self) -> Image {
+        let (last_row, last_column) = self.last_tile();
+        let tile_row = |row| (0..=last_column).map(move |column| self.corrections(row, column));
+        let tiles: Vec<Vec<Tile>> = (0..=last_row).map(|row| tile_row(row).collect()).collect();
+        let count = self.setting.burst.shape.count as i64;
+        let merged = |row, column| {
+            let term = |cover: Cover| {
+                let tile = &tiles[cover.tile_row as usize][cover.tile_column as usize];
+                cover.weight() * tile[cover.row as usize][cover.column as usize]
+            };
+            let sum = covering_tiles(row, column).map(term).iter().sum();
+            merged_sample(self.reference.at(row, column), sum, count)
+        };
+        Image::from_fn(self.reference.width, self.reference.height, merged)
+    }
+}
+
+/// A tile's indices, and a sample's place inside it.
+pub struct Cover {
+    pub tile_row: i64,
+    pub tile_column: i64,
+    pub row: i64,
+    pub column: i64,
+}
+
+impl Cover {
+    /// "w·w'".
+    pub fn weight(&self) -> i64 {
+        window(self.row) * window(self.column)
+    }
+}
+
+/// The "four tiles" that cover a plane's sample.
+pub fn covering_tiles(row: i64, column: i64) -> [Cover; 4] {
+    let places = [(0, 0), (0, 1), (1, 0), (1, 1)];
+    places.map(|(down, right)| Cover {
+        tile_row: row / 8 + down,
+        tile_column: column / 8 + right,
+        row: row % 8 + 8 - 8 * down,
+        column: column % 8 + 8 - 8 * right,
+    })
+}
+
+/// The merged frame, row by row.
+pub fn merge(setting: &Setting) -> Vec<u16> {
+    let parities = [(0, 0), (0, 1), (1, 0), (1, 1)];
+    let planes = parities.map(|(row, column)| setting.plane(row, column).merged());
+    let shape = setting.burst.shape;
+    let frame = Image::from_fn(shape.width as i64, shape.height as i64, |row, column| {
+        planes[(2 * (row % 2) + column % 2) as usize].at(row / 2, column / 2)
+    });
+    frame.into_samples()
+}
+
+/// "r = floor of the root of the sum of T0 squared: the RMS in sixteenths."
+pub fn root(tile: &Tile) -> u64 {
+    let squares: i64 = tile.iter().flatten().map(|sample| sample * sample).sum();
+    (squares as u64).isqrt()
+}
+
+/// P of one difference tile.
+pub fn correction(difference: &Tile, noise: u64) -> Tile {
+    let bins = forward(difference);
+    inverse_rounded(&bins.map(|row| row.map(|bin| shrunk(sixteenths(bin), noise))))
+}
+
+/// "Q = B/2^24 (sixteenths), each part to nearest, halves away from zero."
+fn sixteenths(bin: Complex) -> Complex {
+    bin.map(|part| rounded(part.into(), 1 << 24))
+}
+
+/// "G = V·Q/(|Q|²+V), rounded likewise; 0 if V is 0."
+pub fn shrunk(bin: Complex, noise: u64) -> Complex {
+    let noise = i128::from(noise);
+    if noise == 0 {
+        return Complex { re: 0, im: 0 };
+    }
+    let weight = bin.squared() + noise;
+    bin.map(|part| rounded(noise * i128::from(part), weight))
+}
+
+/// "P = real part of the inverse sum of G with C(k) and +S(k), divided by 2^32, rounded
+/// likewise: 1/256 sample."
+pub fn inverse_rounded(bins: &Bins) -> Tile {
+    inverse(bins).map(|row| row.map(|bin| rounded(bin.re.into(), 1 << 32)))
+}
+
+/// "Output = T0 − (sum ...)/(2^32·N), to nearest, halves upward, held to 0..4095."
+fn merged_sample(reference: i64, sum: i64, count: i64) -> i64 {
+    let unit = count << 32;
+    let doubled = 2 * (reference * unit - sum) + unit;
+    doubled.div_euclid(2 * unit).clamp(0, 4095)
+}
+
+fn subtracted(left: &Tile, right: &Tile) -> Tile {
+    map_tile(|y, x| left[y][x] - right[y][x])
+}
+
+fn map_tile(value: impl Fn(usize, usize) -> i64) -> Tile {
+    std::array::from_fn(|y| std::array::from_fn(|x| value(y, x)))
+}

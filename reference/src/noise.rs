@@ -1,0 +1,171 @@
+//! The noise curve, its whole-number levels and the noise number V.
+
+use crate::refusal::{require, Refusal};
+
+/// "a curve of two f64 numbers, shot and read (in samples and samples squared)".
+#[derive(Clone, Copy, Debug, PartialEq)]
+pub struct Curve {
+    pub shot: f64,
+    pub read: f64,
+}
+
+/// "Noise comes either as a curve ... or as an ISO number with the curve for ISO 100."
+#[derive(Clone, Copy, Debug, PartialEq)]
+pub enum Noise {
+    Curve(Curve),
+    Iso(u32, Curve),
+}
+
+/// "Ls = floor(1024 shot) and Lr = floor(1024 read)".
+#[derive(Clone, Copy, Debug, PartialEq, Eq)]
+pub struct Levels {
+    pub shot: u64,
+    pub read: u64,
+}
+
+impl Noise {
+    /// The levels, or refusal 8 or 9.
+    pub fn levels(self) -> Result<Levels, Refusal> {
+        let curve = self.curve()?;
+        require(
+            curve.shot <= 64.0 && curve.read <= 4096.0,
+            Refusal::NoiseLimit,
+        )?;
+        Ok(Levels {
+            shot: floor_of_1024_times(curve.shot),
+            read: floor_of_1024_times(curve.read),
+        })
+    }
+
+    /// The curve after ISO scaling, or refusal 8, which tests the values as given.
+    fn curve(self) -> Result<Curve, Refusal> {
+        match self {
+            Noise::Curve(curve) => {
+                require(curve.valid(), Refusal::NoiseValue)?;
+                Ok(curve)
+            }
+            Noise::Iso(iso, base) => {
+                let valid = base.valid() && (25..=409600).contains(&iso);
+                require(valid, Refusal::NoiseValue)?;
+                Ok(base.scaled(iso))
+            }
+        }
+    }
+}
+
+impl Curve {
+    /// Neither part is "negative or not finite"; "negative zero is zero".
+    fn valid(self) -> bool {
+        let valid = |value: f64| value.is_finite() && value >= 0.0;
+        valid(self.shot) && valid(self.read)
+    }
+
+    /// "α = ISO/100, then shot is α times shot, and read is (α times α) times read,
+    /// each operation rounded once."
+    fn scaled(self, iso: u32) -> Curve {
+        let alpha = f64::from(iso) / 100.0;
+        Curve {
+            shot: alpha * self.shot,
+            read: (alpha * alpha) * self.read,
+        }
+    }
+}
+
+/// Noise and strength as merge and run take them.
+#[derive(Clone, Copy, Debug, PartialEq)]
+pub struct Denoising {
+    pub noise: Noise,
+    pub strength: u64,
+}
+
+impl Denoising {
+    /// Refusals 8, 9 and 10.
+    pub fn model(self) -> Result<NoiseModel, Refusal> {
+        let model = NoiseModel {
+            levels: self.noise.levels()?,
+            strength: self.strength,
+        };
+        model.check_strength()?;
+        Ok(model)
+    }
+}
+
+/// What the noise number rests on beside r.
+#[derive(Clone, Copy, Debug, PartialEq, Eq)]
+pub struct NoiseModel {
+    pub levels: Levels,
+    /// "Strength t = 0..1024 counts eighths of the source's τ."
+    pub strength: u64,
+}
+
+impl NoiseModel {
+    /// Refusals 9 and 10 as a file has them: "Ls > 65536 or Lr > 4194304", "t > 1024".
+    pub fn check(&self) -> Result<(), Refusal> {
+        require(
+            self.levels.shot <= 65536 && self.levels.read <= 4194304,
+            Refusal::NoiseLimit,
+        )?;
+        self.check_strength()
+    }
+
+    fn check_strength(&self) -> Result<(), Refusal> {
+        require(self.strength <= 1024, Refusal::Strength)
+    }
+
+    /// "V = floor(t·(Ls·r + 16·Lr)/16)".
+    pub fn noise_number(&self, root: u64) -> u64 {
+        self.strength * (self.levels.shot * root + 16 * self.levels.read) / 16
+    }
+}
+
+/// "The floor is worked out from the sign, exponent and fraction bits."
+/// For a zero of either sign and for positive values up to 4096.
+fn floor_of_1024_times(value: f64) -> u64 {
+    let bits = value.to_bits();
+    let fraction = bits & ((1 << 52) - 1);
+    let exponent = (bits >> 52) & 0x7ff;
+    // Below 2^-1022 nothing of the fraction survives the floor.
+    if exponent == 0 {
+        return 0;
+    }
+    // The value is significand · 2^(exponent − 1075), and 1024 is 2^10.
+    let significand = fraction | 1 << 52;
+    let shift = (1065 - exponent) as u32;
+    significand.checked_shr(shift).unwrap_or(0)
+}
+
+#[cfg(test)]
+mod tests {
+    use super::*;
+
+    #[test]
+    fn floor_agrees_with_the_exact_product() {
+        let mut state = 1u64;
+        for _ in 0..100_000 {
+            state = state
+                .wrapping_mul(6364136223846793005)
+                .wrapping_add(1442695040888963407);
+            // Exponents from 2^-40 to 2^11: the product with 1024 is exact.
+            let exponent = 983 + (state >> 58) % 52;
+            let value = f64::from_bits(exponent << 52 | (state & ((1 << 52) - 1)));
+            assert_eq!(
+                floor_of_1024_times(value),
+                (1024.0 * value).floor() as u64,
+                "{value:e}"
+            );
+        }
+    }
+
+    #[test]
+    fn floor_at_the_edges() {
+        let just_below = |value: f64| f64::from_bits(value.to_bits() - 1);
+        assert_eq!(floor_of_1024_times(-0.0), 0);
+        assert_eq!(floor_of_1024_times(f64::from_bits(1)), 0);
+        assert_eq!(floor_of_1024_times(f64::MIN_POSITIVE), 0);
+        assert_eq!(floor_of_1024_times(just_below(1.0 / 1024.0)), 0);
+        assert_eq!(floor_of_1024_times(1.0 / 1024.0), 1);
+        assert_eq!(floor_of_1024_times(just_below(64.0)), 65535);
+        assert_eq!(floor_of_1024_times(just_below(4096.0)), 4194303);
+        assert_eq!(floor_of_1024_times(4096.0), 4194304);
+    }
+}

@@ -1,0 +1,133 @@
+//! Library calls as test data: moving scenes, extremes, and faults.
+
+use crate::burst::Burst;
+use crate::calls::Call;
+use crate::image::Image;
+use crate::noise::{Curve, Denoising, Noise};
+use crate::random::Random;
+use crate::shape::Shape;
+
+/// Calls of frames up to `side` in width and height; a third of them with one or two faults.
+pub fn calls(side: u64, count: usize, seed: u64) -> impl Iterator<Item = Call> {
+    let mut random = Random::new(seed);
+    (0..count).map(move |_| {
+        let mut call = call(side, &mut random);
+        let faults = random.pick(&[0, 0, 0, 0, 1, 2]);
+        for _ in 0..faults {
+            add_fault(&mut call, 1 + random.below(12) as u64);
+        }
+        call
+    })
+}
+
+fn call(side: u64, random: &mut Random) -> Call {
+    let mut length = || 64 * (1 + random.below(side as usize / 64) as u64);
+    let (width, height) = (length(), length());
+    let count = 2 + random.below(7) as u64;
+    let shape = Shape {
+        width,
+        height,
+        count,
+    };
+    let reach = random.pick(&[0, 3, 172]);
+    let mut part = || random.below(2 * reach + 1) as i32 - reach as i32;
+    let vectors = (0..shape.vectors_length()).map(|_| part()).collect();
+    Call {
+        burst: Burst {
+            shape,
+            reference: random.below(count as usize) as u64,
+            samples: samples(shape, random),
+        },
+        denoising: denoising(random),
+        vectors,
+        output: vec![55555; shape.output_length() as usize],
+        work_length: shape.work_length(),
+    }
+}
+
+fn denoising(random: &mut Random) -> Denoising {
+    let curve = Curve {
+        shot: random.pick(&[0.0, -0.0, 0.001, 0.37, 1.0, 64.0]),
+        read: random.pick(&[0.0, 0.0009, 2.5, 100.0, 4096.0]),
+    };
+    let iso = random.pick(&[25, 31, 100, 400, 3200, 409600]);
+    Denoising {
+        noise: random.pick(&[Noise::Curve(curve), Noise::Iso(iso, curve)]),
+        strength: random.pick(&[0, 1, 8, 77, 1024]),
+    }
+}
+
+fn samples(shape: Shape, random: &mut Random) -> Vec<u16> {
+    let length = shape.samples_length() as usize;
+    match random.below(4) {
+        0 => (0..length).map(|_| random.pick(&[0, 4095])).collect(),
+        1 => sparse(length, random),
+        _ => moving(shape, random),
+    }
+}
+
+/// All 0 but for a few samples.
+fn sparse(length: usize, random: &mut Random) -> Vec<u16> {
+    let mut samples = vec![0; length];
+    for _ in 0..random.below(20) {
+        samples[random.below(length)] = random.below(4096) as u16;
+    }
+    samples
+}
+
+/// Frames that see a smooth scene from places up to 40 samples apart, with some noise.
+fn moving(shape: Shape, random: &mut Random) -> Vec<u16> {
+    let (width, height) = (shape.width as i64, shape.height as i64);
+    let scene = smooth_scene(width + 40, height + 40, random);
+    let spread = random.pick(&[1, 17, 301]);
+    let mut samples = Vec::new();
+    for _ in 0..shape.count {
+        let (top, left) = (random.below(41) as i64, random.below(41) as i64);
+        let frame = Image::from_fn(width, height, |row, column| {
+            scene.at(row + top, column + left)
+        });
+        samples.extend(frame.into_samples());
+    }
+    for sample in &mut samples {
+        let noisy = usize::from(*sample) + random.below(spread);
+        *sample = noisy.saturating_sub(spread / 2).min(4095) as u16;
+    }
+    samples
+}
+
+/// Random heights 16 samples apart, with straight slopes between.
+fn smooth_scene(width: i64, height: i64, random: &mut Random) -> Image {
+    let columns = width / 16 + 2;
+    let heights: Vec<i64> = (0..columns * (height / 16 + 2))
+        .map(|_| random.below(4096) as i64)
+        .collect();
+    let node = |row: i64, column: i64| heights[(row * columns + column) as usize];
+    Image::from_fn(width, height, |row, column| {
+        let (top, left) = (row / 16, column / 16);
+        let (down, right) = (row % 16, column % 16);
+        let across = |row| node(row, left) * (16 - right) + node(row, left + 1) * right;
+        (across(top) * (16 - down) + across(top + 1) * down) / 256
+    })
+}
+
+/// Makes the condition of one of the refusals 1 to 12 hold.
+pub fn add_fault(call: &mut Call, number: u64) {
+    match number {
+        1 => call.burst.shape.width = 96,
+        2 => call.burst.shape.count = 9,
+        3 => call.burst.reference = 9,
+        4 => drop(call.burst.samples.pop()),
+        5 => drop(call.vectors.pop()),
+        6 => call.output.push(0),
+        7 => call.work_length = 0,
+        8 => call.denoising.noise = curve(-1.0),
+        9 => call.denoising.noise = curve(65.0),
+        10 => call.denoising.strength = 1025,
+        11 => call.burst.samples[8000] = 4096,
+        _ => call.vectors[48] = 173,
+    }
+}
+
+fn curve(shot: f64) -> Noise {
+    Noise::Curve(Curve { shot, read: 0.0 })
+}

@@ -1,0 +1,56 @@
+//! Width, height and frame count, and the lengths that follow from them.
+
+use crate::refusal::{require, Refusal};
+
+#[derive(Clone, Copy, Debug, PartialEq, Eq)]
+pub struct Shape {
+    pub width: u64,
+    pub height: u64,
+    pub count: u64,
+}
+
+impl Shape {
+    /// Refusals 1 and 2.
+    pub fn check(&self) -> Result<(), Refusal> {
+        require(
+            side_allowed(self.width) && side_allowed(self.height),
+            Refusal::Size,
+        )?;
+        require((2..=8).contains(&self.count), Refusal::Count)
+    }
+
+    /// Refusal 3: "reference ≥ N".
+    pub fn check_reference(&self, reference: u64) -> Result<(), Refusal> {
+        require(reference < self.count, Refusal::Reference)
+    }
+
+    /// "samples not N·W·H".
+    pub fn samples_length(&self) -> u64 {
+        self.count * self.output_length()
+    }
+
+    /// "vectors (N−1)·2·(W/16+1)·(H/16+1)".
+    pub fn vectors_length(&self) -> u64 {
+        (self.count - 1) * 2 * self.tiles()
+    }
+
+    /// "output W·H".
+    pub fn output_length(&self) -> u64 {
+        self.width * self.height
+    }
+
+    /// "work area 2·W·H signed 64-bit words".
+    pub fn work_length(&self) -> u64 {
+        2 * self.output_length()
+    }
+
+    /// Tiles of level 0, and so of each plane.
+    pub fn tiles(&self) -> u64 {
+        (self.width / 16 + 1) * (self.height / 16 + 1)
+    }
+}
+
+/// "Width W and height H are multiples of 64 from 64 to 4096."
+fn side_allowed(side: u64) -> bool {
+    side.is_multiple_of(64) && (64..=4096).contains(&side)
+}

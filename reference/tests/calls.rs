@@ -1,0 +1,114 @@
+//! Refusals of the calls: each alone, each before a later one, and the buffers kept.
+
+use reference::burst::Burst;
+use reference::calls::{Answer, Call};
+use reference::noise::{Curve, Denoising, Noise};
+use reference::scenes::add_fault;
+use reference::shape::Shape;
+
+/// The flat example with vectors of −172.
+fn good() -> Call {
+    let curve = Curve {
+        shot: 0.0,
+        read: 4096.0,
+    };
+    Call {
+        burst: Burst {
+            shape: Shape {
+                width: 64,
+                height: 64,
+                count: 2,
+            },
+            reference: 0,
+            samples: [vec![0; 4096], vec![4; 4096]].concat(),
+        },
+        denoising: Denoising {
+            noise: Noise::Curve(curve),
+            strength: 1024,
+        },
+        vectors: vec![-172; 50],
+        output: vec![9999; 4096],
+        work_length: 8192,
+    }
+}
+
+fn with_fault(mut call: Call, number: u64) -> Call {
+    add_fault(&mut call, number);
+    call
+}
+
+/// Every pair of faults is refused by the first that the call tests, and changes nothing.
+fn check_pairs(perform: fn(&mut Call) -> Answer, tested: &[u64]) {
+    for first in 1..=12 {
+        for second in first..=12 {
+            let Some(&number) = tested.iter().find(|&&n| n == first || n == second) else {
+                continue;
+            };
+            let lent = with_fault(with_fault(good(), second), first);
+            let mut call = lent.clone();
+            let refused = Answer {
+                number,
+                residuals: [0; 7],
+            };
+            assert_eq!(perform(&mut call), refused, "{first} and {second}");
+            assert_eq!(call.vectors, lent.vectors);
+            assert_eq!(call.output, lent.output);
+        }
+    }
+}
+
+#[test]
+fn refusals_of_align() {
+    check_pairs(Call::align, &[1, 2, 3, 4, 5, 7, 11]);
+}
+
+#[test]
+fn refusals_of_merge() {
+    check_pairs(Call::merge, &[1, 2, 3, 4, 5, 6, 7, 8, 9, 10, 11, 12]);
+}
+
+#[test]
+fn refusals_of_run() {
+    check_pairs(Call::run, &[1, 2, 3, 4, 5, 6, 7, 8, 9, 10, 11]);
+}
+
+#[test]
+fn untested_faults_are_accepted() {
+    let accepted = Answer {
+        number: 0,
+        residuals: [102400, 0, 0, 0, 0, 0, 0],
+    };
+    for fault in [6, 8, 9, 10, 12] {
+        let lent = with_fault(good(), fault);
+        let mut call = lent.clone();
+        assert_eq!(call.align(), accepted, "{fault}");
+        assert_eq!(call.vectors, [0; 50]);
+        assert_eq!(call.output, lent.output);
+    }
+    // Run overwrites the lent vectors; merge takes parts of −172.
+    let mut call = with_fault(good(), 12);
+    assert_eq!(call.run(), accepted);
+    assert_eq!((call.vectors, call.output), (vec![0; 50], vec![2; 4096]));
+    let mut call = good();
+    assert_eq!(call.merge().number, 0);
+    assert_eq!((call.vectors, call.output), (vec![-172; 50], vec![2; 4096]));
+}
+
+/// A 64 by 64 frame with a bright hill around a row and column.
+fn hill(top: i32, left: i32) -> Vec<u16> {
+    let sample = |index: i32| {
+        let (down, right) = (index / 64 - top, index % 64 - left);
+        (4000 - 3 * down * down - 4 * right * right).max(0) as u16
+    };
+    (0..64 * 64).map(sample).collect()
+}
+
+#[test]
+fn a_moved_frame_is_found() {
+    let mut call = good();
+    call.burst.samples = [hill(30, 34), hill(36, 24)].concat();
+    assert_eq!(call.align().number, 0);
+    // Six samples down and ten left are three and five on level 0.
+    let centre = 2 * (2 * 5 + 2);
+    assert_eq!(call.vectors[centre..centre + 2], [3, -5]);
+}

@@ -1,0 +1,144 @@
+//! Checked figures M1 to M11, the flat example, and the exact merge at single samples.
+
+use reference::align::{own_and_neighbour, CoarseIndices};
+use reference::burst::Burst;
+use reference::exact;
+use reference::image::Tile;
+use reference::merge::{correction, inverse_rounded, merge, root, shrunk, window, Setting};
+use reference::noise::{Curve, Levels, Noise, NoiseModel};
+use reference::programs::{motion, stack};
+use reference::shape::Shape;
+use reference::transform::Complex;
+
+const NOTHING: Complex = Complex { re: 0, im: 0 };
+
+fn levels(shot: u64, read: u64) -> Levels {
+    Levels { shot, read }
+}
+
+#[test]
+fn m1_to_m3_roots() {
+    assert_eq!(root(&[[100; 16]; 16]), 1600);
+    assert_eq!(root(&[[4095; 16]; 16]), 65520);
+    let mut tile: Tile = [[0; 16]; 16];
+    tile[5][7] = 1;
+    assert_eq!(root(&tile), 1);
+}
+
+#[test]
+fn m4_and_m5_noise_numbers() {
+    let model = |strength| NoiseModel {
+        levels: levels(1024, 0),
+        strength,
+    };
+    assert_eq!(model(8).noise_number(1600), 819200);
+    assert_eq!(model(0).noise_number(1600), 0);
+}
+
+#[test]
+fn m6_and_m7_levels() {
+    let base = Curve {
+        shot: 1.0,
+        read: 1.0,
+    };
+    assert_eq!(Noise::Iso(400, base).levels(), Ok(levels(4096, 16384)));
+    let highest = Curve {
+        shot: 64.0,
+        read: 0.0,
+    };
+    assert_eq!(Noise::Curve(highest).levels(), Ok(levels(65536, 0)));
+}
+
+#[test]
+fn m8_and_m9_coarse_indices() {
+    let indices = |own, neighbour| CoarseIndices { own, neighbour };
+    assert_eq!(own_and_neighbour(5, 4, 9), indices(1, 2));
+    assert_eq!(own_and_neighbour(6, 4, 9), indices(2, 1));
+    assert_eq!(own_and_neighbour(5, 4, 1), indices(1, 1));
+}
+
+#[test]
+fn m10_and_m11_flat_bin() {
+    let bin = Complex { re: -16384, im: 0 };
+    let shrunk_bin = Complex { re: -15420, im: 0 };
+    assert_eq!(shrunk(bin, 1 << 32), shrunk_bin);
+    let mut bins = [[NOTHING; 16]; 16];
+    bins[0][0] = shrunk_bin;
+    assert_eq!(inverse_rounded(&bins), [[-964; 16]; 16]);
+    assert_eq!(correction(&[[-4; 16]; 16], 1 << 32), [[-964; 16]; 16]);
+    assert_eq!(correction(&[[-4; 16]; 16], 0), [[0; 16]; 16]);
+}
+
+#[test]
+fn windows_add_up() {
+    assert!((0..8).all(|index| window(index) + window(index + 8) == 4096));
+}
+
+/// The flat example as a file with this strength.
+fn flat_file(strength: &str) -> Vec<u8> {
+    let row = |value: &str| vec![value; 64].join(" ") + "\n";
+    let names = "width height count reference shot read strength\n";
+    let values = format!("64 64 2 0 0 4194304 {strength}\n");
+    let frames = row("0").repeat(64) + &row("4").repeat(64);
+    [names, &values, &frames].concat().into_bytes()
+}
+
+fn flat_stack(value: &str) -> String {
+    let row = vec![value; 64].join(" ") + "\n";
+    "width height\n64 64\n".to_string() + &row.repeat(64)
+}
+
+#[test]
+fn flat_example() {
+    let motion_text = "frame tiles still far residual\n1 25 25 0 102400\n";
+    assert_eq!(motion(&flat_file("1024")), motion_text);
+    assert_eq!(stack(&flat_file("1024")), flat_stack("2"));
+    assert_eq!(stack(&flat_file("0")), flat_stack("0"));
+}
+
+#[test]
+fn programs_stop() {
+    let mut file = flat_file("1025");
+    assert_eq!(motion(&file), "refused 10\n");
+    assert_eq!(stack(b""), "refused 15\n");
+    file.resize(65536, b' ');
+    assert_eq!(stack(&file), "refused 10\n");
+    file.push(b' ');
+    assert_eq!(stack(&file), "too large\n");
+    // A good file of another size, small enough to be read.
+    let row = vec!["0"; 128].join(" ") + "\n";
+    let names = "width height count reference shot read strength\n";
+    let wide = [names, "128 64 2 0 0 0 0\n", &row.repeat(128)].concat();
+    assert_eq!(motion(wide.as_bytes()), "too large\n");
+    assert_eq!(motion(&wide.as_bytes()[..9000]), "refused 15\n");
+}
+
+/// Eight 64 by 64 frames, all 0 but one sample of 745 in the reference.
+fn lone_sample() -> Burst {
+    let mut samples = vec![0; 8 * 64 * 64];
+    samples[36 * 64 + 36] = 745;
+    Burst {
+        shape: Shape {
+            width: 64,
+            height: 64,
+            count: 8,
+        },
+        reference: 0,
+        samples,
+    }
+}
+
+#[test]
+fn exact_merge_of_a_lone_sample() {
+    let setting = Setting {
+        burst: &lone_sample(),
+        vectors: &[0; 7 * 2 * 25],
+        noise: NoiseModel {
+            levels: levels(0, 3422141),
+            strength: 1024,
+        },
+    };
+    assert_eq!(merge(&setting)[36 * 64 + 36], 118);
+    let value = exact::sample(&setting, 36, 36).decimal();
+    assert!(value.starts_with("118.5510720579"), "{value}");
+}

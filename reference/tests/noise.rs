@@ -1,0 +1,107 @@
+//! Noise levels, refusals 8 and 9, and the station's two questions on numbers.
+
+use reference::noise::{Curve, Levels, Noise};
+use reference::refusal::Refusal::{self, NoiseLimit, NoiseValue};
+use reference::station::{station_length, station_noise};
+
+fn curve(shot: f64, read: f64) -> Result<Levels, Refusal> {
+    Noise::Curve(Curve { shot, read }).levels()
+}
+
+fn iso(iso: u32, shot: f64, read: f64) -> Result<Levels, Refusal> {
+    Noise::Iso(iso, Curve { shot, read }).levels()
+}
+
+fn levels(shot: u64, read: u64) -> Result<Levels, Refusal> {
+    Ok(Levels { shot, read })
+}
+
+#[test]
+fn curve_limits() {
+    let above = |value: f64| f64::from_bits(value.to_bits() + 1);
+    assert_eq!(curve(64.0, 4096.0), levels(65536, 4194304));
+    assert_eq!(curve(above(64.0), 0.0), Err(NoiseLimit));
+    assert_eq!(curve(0.0, above(4096.0)), Err(NoiseLimit));
+    assert_eq!(curve(f64::MAX, 0.0), Err(NoiseLimit));
+    assert_eq!(curve(-0.0, -0.0), levels(0, 0));
+    assert_eq!(curve(f64::from_bits(1), f64::from_bits(1)), levels(0, 0));
+    assert_eq!(curve(65.0, -1.0), Err(NoiseValue));
+    for bad in [
+        f64::NAN,
+        -f64::NAN,
+        f64::INFINITY,
+        f64::NEG_INFINITY,
+        -f64::from_bits(1),
+        -1.0,
+    ] {
+        assert_eq!(curve(bad, 0.0), Err(NoiseValue));
+        assert_eq!(curve(0.0, bad), Err(NoiseValue));
+        assert_eq!(iso(100, bad, 0.0), Err(NoiseValue));
+        assert_eq!(iso(100, 0.0, bad), Err(NoiseValue));
+    }
+}
+
+#[test]
+fn iso_limits() {
+    assert_eq!(iso(24, 0.0, 0.0), Err(NoiseValue));
+    assert_eq!(iso(409601, 0.0, 0.0), Err(NoiseValue));
+    assert_eq!(iso(u32::MAX, 0.0, 0.0), Err(NoiseValue));
+    assert_eq!(iso(25, 256.0, 65536.0), levels(65536, 4194304));
+    assert_eq!(
+        iso(409600, 1.0 / 64.0, 1.0 / 4096.0),
+        levels(65536, 4194304)
+    );
+    assert_eq!(iso(25, 257.0, 0.0), Err(NoiseLimit));
+    assert_eq!(iso(24, 257.0, 0.0), Err(NoiseValue));
+    // An overflow to infinity in scaling is refusal 9.
+    assert_eq!(iso(409600, f64::MAX, 0.0), Err(NoiseLimit));
+    assert_eq!(iso(409600, 0.0, f64::MAX), Err(NoiseLimit));
+    assert_eq!(iso(25, -0.0, f64::from_bits(1)), levels(0, 0));
+}
+
+#[test]
+fn read_is_scaled_by_the_rounded_square() {
+    // α·(α·read) gives Lr 0.
+    let read = f64::from_bits(0x3f84cfc8974f1e1a);
+    assert_eq!(iso(31, 0.0, read), levels(0, 1));
+}
+
+#[test]
+fn station_lengths() {
+    assert_eq!(station_length(64, 64, 2, 4), 8192);
+    assert_eq!(station_length(64, 64, 2, 5), 50);
+    assert_eq!(station_length(64, 64, 2, 6), 4096);
+    assert_eq!(station_length(64, 64, 2, 7), 8192);
+    assert_eq!(station_length(4096, 64, 8, 5), 7 * 2 * 257 * 5);
+    assert_eq!(station_length(4096, 4096, 8, 4), 8 << 24);
+    for number in [0, 1, 2, 3, 8, 15, u64::MAX] {
+        assert_eq!(station_length(64, 64, 2, number), 0);
+    }
+    for (width, height, count) in [
+        (0, 64, 2),
+        (96, 64, 2),
+        (64, 4160, 2),
+        (64, 64, 1),
+        (64, 64, 9),
+        (64, 64, u64::MAX),
+        (u64::MAX - 63, 64, 2),
+    ] {
+        assert_eq!(station_length(width, height, count, 4), 0);
+    }
+}
+
+#[test]
+fn station_noise_numbers() {
+    assert_eq!(station_noise(1.0, 0.0, 8, 1600), 819200);
+    // One floor, after multiplying by t.
+    assert_eq!(station_noise(1.0 / 1024.0, 0.0, 15, 1), 0);
+    assert_eq!(station_noise(1.0 / 1024.0, 0.0, 16, 1), 1);
+    assert_eq!(station_noise(1.0 / 1024.0, 0.0, 2, 15), 1);
+    let largest = 1024 * (65536 * 65520 + 16 * 4194304) / 16;
+    assert_eq!(station_noise(64.0, 4096.0, 1024, 65520), largest);
+    assert_eq!(station_noise(64.0, 4096.0, 1024, 65521), 0);
+    assert_eq!(station_noise(64.0, 4096.0, 1025, 65520), 0);
+    assert_eq!(station_noise(64.0, 4096.0, u64::MAX, u64::MAX), 0);
+    assert_eq!(station_noise(65.0, 4096.0, 1024, 65520), 0);
+    assert_eq!(station_noise(64.0, f64::NAN, 1024, 65520), 0);
+}

@@ -1,0 +1,111 @@
+/* Asks the station's functions several thousand questions, edges and random, and writes each question and its answer for comparison:
+   station lengths|noise QUESTIONS ANSWERS */
+#include "station.h"
+
+#include <inttypes.h>
+#include <math.h>
+#include <stdio.h>
+#include <stdlib.h>
+#include <string.h>
+
+static FILE *questions, *answers;
+
+/* xorshift64*: the same questions in every run */
+static uint64_t seed = 88172645463325252u;
+
+static uint64_t any(void)
+{
+    seed ^= seed >> 12;
+    seed ^= seed << 25;
+    seed ^= seed >> 27;
+    return seed * 2685821657736338717u;
+}
+
+static uint64_t below(uint64_t n)
+{
+    return any() % n;
+}
+
+static void ask_length(uint64_t width, uint64_t height, uint64_t count, uint64_t number)
+{
+    fprintf(questions, "%" PRIu64 " %" PRIu64 " %" PRIu64 " %" PRIu64 "\n", width, height, count, number);
+    fprintf(answers, "%" PRIu64 "\n", station_length(width, height, count, number));
+}
+
+static uint64_t bits_of(double x)
+{
+    uint64_t bits;
+    memcpy(&bits, &x, sizeof bits);
+    return bits;
+}
+
+static double of_bits(uint64_t bits)
+{
+    double x;
+    memcpy(&x, &bits, sizeof x);
+    return x;
+}
+
+static void ask_noise(double shot, double read, uint64_t strength, uint64_t root)
+{
+    fprintf(questions, "%016" PRIx64 " %016" PRIx64 " %" PRIu64 " %" PRIu64 "\n", bits_of(shot), bits_of(read), strength, root);
+    fprintf(answers, "%" PRIu64 "\n", station_noise(shot, read, strength, root));
+}
+
+static void lengths(void)
+{
+    static const uint64_t sizes[] = { 0, 1, 63, 64, 65, 96, 128, 4032, 4095, 4096, 4097, 4160, 1u << 31, UINT64_MAX - 63, UINT64_MAX };
+    static const uint64_t counts[] = { 0, 1, 2, 7, 8, 9, UINT64_MAX };
+    enum { SIZES = sizeof sizes / sizeof *sizes, COUNTS = sizeof counts / sizeof *counts };
+    for (int w = 0; w < SIZES; w++)
+        for (int h = 0; h < SIZES; h++)
+            for (int n = 0; n < COUNTS; n++)
+                for (uint64_t number = 3; number < 9; number++)
+                    ask_length(sizes[w], sizes[h], counts[n], number);
+    for (int i = 0; i < 4000; i++)
+        ask_length(64 * (1 + below(64)), 64 * (1 + below(64)), 2 + below(7), 4 + below(4));
+    for (int i = 0; i < 1000; i++)
+        ask_length(below(4200), 64 * below(70), below(12), below(10));
+    for (int i = 0; i < 1000; i++)
+        ask_length(any(), any(), any(), any());
+}
+
+static void noise(void)
+{
+    const double numbers[] = { 0.0, -0.0, 1.0 / 1024, nextafter(1.0 / 1024, 0), 0x1p-1074, -0x1p-1074, 0x1p-1022, 0.1, 1, 63.999, 64,
+        nextafter(64, 0), nextafter(64, 65), 65, 4095.9999, 4096, nextafter(4096, 0), nextafter(4096, 5000), -1, 1e300, -1e300,
+        INFINITY, -INFINITY, NAN, -NAN };
+    static const uint64_t strengths[] = { 0, 1, 8, 1023, 1024, 1025, UINT64_MAX };
+    static const uint64_t roots[] = { 0, 1, 1600, 65519, 65520, 65521, UINT64_MAX };
+    enum { NUMBERS = sizeof numbers / sizeof *numbers, STRENGTHS = sizeof strengths / sizeof *strengths, ROOTS = sizeof roots / sizeof *roots };
+    for (int s = 0; s < NUMBERS; s++)
+        for (int r = 0; r < NUMBERS; r++)
+            for (int t = 0; t < STRENGTHS; t++)
+                ask_noise(numbers[s], numbers[r], strengths[t], roots[(s + r + t) % ROOTS]);
+    for (int i = 0; i < 4000; i++)
+        ask_noise(64 * ldexp((double)below(1u << 20), -20 - (int)below(20)), 4096 * ldexp((double)below(1u << 20), -20 - (int)below(20)),
+            below(1025), below(65521));
+    for (int i = 0; i < 4000; i++)
+        ask_noise(of_bits(any()), of_bits(any()), below(1100), below(66000));
+    /* every exponent whose floor is above 0, and their neighbours, with random fractions */
+    for (uint64_t exponent = 1010; exponent < 1040; exponent++)
+        for (int i = 0; i < 40; i++)
+            ask_noise(of_bits(exponent << 52 | any() >> 12), of_bits(exponent << 52 | any() >> 12), below(1025), below(65521));
+}
+
+int main(int argc, char **argv)
+{
+    if (argc != 4)
+        return 2;
+    questions = fopen(argv[2], "w");
+    answers = fopen(argv[3], "w");
+    if (!questions || !answers)
+        return 2;
+    if (strcmp(argv[1], "lengths") == 0)
+        lengths();
+    else if (strcmp(argv[1], "noise") == 0)
+        noise();
+    else
+        return 2;
+    return fclose(questions) != 0 || fclose(answers) != 0;
+}
