@@ -8,5 +8,6 @@ pub mod Question
 pub mod Read
 pub mod ReadLaws
 pub mod Tiles
+pub mod TileLaws
 pub mod Bounds
 pub mod Vectors

@@ -1,6 +1,6 @@
 -- Tiles of a level: their sides, counts and origins, and the coarse tiles that a tile's candidates come from.
 use mathlib.Core.Bool.{Bool, true, false, cond}
-use Prim.Native.Nat.{ℕ, zero, suc, _+_, _-_, _*_, _/_, min}
+use Prim.Native.Nat.{ℕ, _+_, _-_, _*_, _/_, min}
 use lib.Dec.{ltb}
 use lib.IntN.{ℤ, pos, _-ℤ_}
 
@@ -48,6 +48,10 @@ step3to2 = record { factor = 4; quotient = 2 }
 -- "Indices run from 0 to ceil(size/s)": how many there are
 unfoldable pub tileCount : (half size : ℕ) → ℕ
 tileCount half size = (size + (half - 1)) / half + 1
+
+-- how many there are at a level, of a frame's size
+unfoldable pub levelTiles : Level → ℕ → ℕ
+levelTiles l size = tileCount (l .half) (levelSize l size)
 
 -- "origin −s + s·index"
 unfoldable pub origin : (half index : ℕ) → ℤ

@@ -4,6 +4,7 @@ pub mod order;
 pub mod question;
 pub mod read;
 pub mod sizes;
+pub mod tiles;
 
 // A burst's frames: `count` of them, each of `height` rows of `width` samples.
 pub struct Shape {

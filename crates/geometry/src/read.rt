@@ -1,6 +1,6 @@
 // Where samples stand, and reading outside.
 ghost use mathlib.Core.Path.{_≡_};
-ghost use Prim.Native.Nat.{_/_, _<_, _≤_};
+ghost use Prim.Native.Nat.{_/_, _<_};
 ghost use Rattle.geometry.specs.Shape.{Allowed, sampleLength};
 ghost use Rattle.geometry.specs.Read.{Sampled, sampleIndex, sampleAt, planeOf, inside, read};
 use crate::Shape;
@@ -23,7 +23,7 @@ pub fn sample_at(shape: Shape, samples: &[u16], frame: usize, row: usize, column
 
 // The index that is read for `z` among `size` of them.
 pub fn inside(z: i64, size: usize) -> usize
-    requires { ⌜ (0 < size) × (size ≤ 4096) ⌝ }
+    requires { ⌜ 0 < size ⌝ }
     ensures { λ r. ⌜ (r ≡ inside size z) × (r < size) ⌝ }
 {
     if z < 0 {

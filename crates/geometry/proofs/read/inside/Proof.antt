@@ -1,21 +1,18 @@
 -- An index below 0 reads the first, one past the end the last, any other itself.
 use mathlib.Core.Path.{_≡_, refl, subst}
-use mathlib.Core.Bool.{Bool, true, false}
+use mathlib.Core.Bool.{true, false}
 use Prim.Native.Nat.{ℕ, _-_, _≤_, _<_}
 use native.Mathlib.Omega.{arith}
 use lib.IntN.{ℤ, pos, negsuc, natAbs}
-use lib.Signed.{ltZ, nonNeg}
+use lib.Signed.{ltZ}
 use lib.Dec.{T}
 use mir.Facts.{toZ-ofZ, fits-natAbs}
 use borrow.Author.Needs.{needs}
 use borrow.Author.Tests.{ltb-true}
+use Rattle.algebra.specs.Bound.{from-zero}
 use Rattle.geometry.specs.Read.{inside}
 use Rattle.geometry.proofs.read.inside.Statement.{statement}
 use Rattle.geometry.proofs.read.inside.Tie as tie
-
-not-negative : (z : ℤ) → ltZ z (pos 0) ≡ false → T (nonNeg z)
-not-negative (pos k) e = tt
-not-negative (negsuc k) e = subst T e tt
 
 before : (size : ℕ) (z : ℤ) → ltZ z (pos 0) ≡ true → 0 ≡ inside size z
 unfolding inside
@@ -36,12 +33,12 @@ past size (pos k) e h = omega arith
 past size (negsuc k) e h = absurd (subst T e tt)
 
 returns : tie.Need-returns
-returns c = (before _ _ (rw (toZ-ofZ (c .before .fits .z)) at (c .if1 .taken)), c .before .pre .0)
+returns c = (before _ _ (rw (toZ-ofZ (c .before .fits .z)) at (c .if1 .taken)), c .before .pre)
 
 cast-index : tie.Need-cast-index
 cast-index c =
     let value = toZ-ofZ (c .before .fits .z) in
-    rw value (not-negative (c .before .args .z) (rw value at (c .if1 .left)), fits-natAbs tt (c .before .fits .z))
+    rw value (from-zero (c .before .args .z) (rw value at (c .if1 .left)), fits-natAbs tt (c .before .fits .z))
 
 sub-result : tie.Need-sub-result
 sub-result c = search needs

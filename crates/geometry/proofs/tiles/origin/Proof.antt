@@ -1,0 +1,54 @@
+-- Half a side times the index, less half a side, is small.
+use mathlib.Core.Path.{_≡_, sym, subst, _∙_}
+use Prim.Native.Nat.{ℕ, _*_, _≤_}
+use native.Mathlib.Nat.{mul-le-mul}
+use native.Mathlib.Omega.{arith}
+use lib.IntN.{pos, _-ℤ_}
+use mir.Syntax.{w64}
+use mir.Val.{SFits, toZ}
+use mir.Facts.{toZ-ofZ, toZ-pos}
+use borrow.Author.Needs.{needs}
+use Rattle.algebra.specs.Bound.{AtMost, most-fits, sub-most}
+use Rattle.geometry.specs.Tiles.{origin}
+use Rattle.geometry.proofs.tiles.origin.Statement.{statement}
+use Rattle.geometry.proofs.tiles.origin.Tie as tie
+
+-- what the call requires
+abbrev Asked : (half index : ℕ) → Type 0
+Asked half index = (half ≤ 16) × (index ≤ 4096)
+
+product : {half index : ℕ} → Asked half index → half * index ≤ 65536
+product {half} {index} a = mul-le-mul {n₁ = half} {m₁ = index} {n₂ = 16} {m₂ = 4096} (a .0) (a .1)
+
+-- the difference, as the machine has its operands
+difference : {half index : ℕ} → Asked half index → toZ w64 (half * index) -ℤ toZ w64 half ≡ origin half index
+unfolding origin
+difference {half} {index} a = rw (toZ-pos w64 {n = half * index} (omega (arith, product a)), toZ-pos w64 {n = half} (omega arith))
+
+small : {half index : ℕ} → Asked half index → AtMost 65552 (origin half index)
+unfolding origin
+small {half} {index} a =
+    sub-most {a = 65536} {b = 16} {x = pos (half * index)} {y = pos half} (record { most = product a }) (record { most = a .0 })
+
+difference-fits : {half index : ℕ} → Asked half index → SFits w64 (toZ w64 (half * index) -ℤ toZ w64 half)
+difference-fits a = rw (difference a) (most-fits w64 _ 65552 (small a) tt)
+
+mul-result : tie.Need-mul-result
+mul-result c = omega (arith, product (c .pre))
+
+cast-result : tie.Need-cast-result
+cast-result c = most-fits w64 _ 65536 (record { most = product (c .pre) }) tt
+
+cast-result-2 : tie.Need-cast-result-2
+cast-result-2 c = search needs
+
+sub-result : tie.Need-sub-result
+sub-result c = difference-fits (c .pre)
+
+returns : tie.Need-returns
+returns c =
+    let value = toZ-ofZ (difference-fits (c .pre)) ∙ difference (c .pre) in
+    (value, subst (AtMost 65552) (sym value) (small (c .pre)))
+
+pub origin-spec : {M : Type 1} → statement M
+origin-spec = tie.close (tie.spec mul-result cast-result cast-result-2 sub-result returns)
