@@ -1,7 +1,7 @@
 -- Refusals 11 and 12: tests of what the lent samples and vectors hold.
-use mathlib.Core.Bool.{Bool, true, false, _||_}
+use mathlib.Core.Bool.{Bool, false, _||_}
 use mathlib.Core.List.{List}
-use Prim.Native.Nat.{ℕ, zero, suc, _+_, _*_}
+use Prim.Native.Nat.{ℕ, zero, suc, _≤_}
 use lib.Dec.{ltb}
 use lib.IntN.{ℤ, pos, natAbs}
 use lib.ListN.{length, getD}
@@ -19,6 +19,14 @@ unfoldable pub sampleRefusal : Shape → List ℕ → ℕ
 sampleRefusal s samples =
     refuse 11 (some (s .count) (λ frame. some (s .height) (λ row. some (s .width) (λ column. ltb 4095 (sampleAt s samples frame row column)))))
 
+-- what is known of samples that it lets through
+pub record SamplesFit (samples : List ℕ) : Type 0 where
+  pub most : (k : ℕ) → getD samples k 0 ≤ 4095
+
 -- refusal 12: "vector part outside −172..172"
 unfoldable pub vectorRefusal : List ℤ → ℕ
 vectorRefusal vectors = refuse 12 (some (length vectors) (λ k. ltb 172 (natAbs (getD vectors k (pos 0)))))
+
+-- what is known of vectors that it lets through
+pub record VectorsFit (vectors : List ℤ) : Type 0 where
+  pub most : (k : ℕ) → natAbs (getD vectors k (pos 0)) ≤ 172

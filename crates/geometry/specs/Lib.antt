@@ -11,3 +11,5 @@ pub mod Tiles
 pub mod TileLaws
 pub mod Bounds
 pub mod Vectors
+pub mod SomeLaws
+pub mod BoundLaws

@@ -1,4 +1,5 @@
 // Sizes, lengths, places and refusals of a burst: what document 01 says of the lent buffers before any arithmetic on samples.
+pub mod bounds;
 pub mod lengths;
 pub mod order;
 pub mod question;
