@@ -2,7 +2,7 @@
 use mathlib.Core.Path.{_≡_, sym, ap, ap₂, _∙_, subst, subst₂}
 use mathlib.Core.List.{List}
 use Prim.Native.Nat.{ℕ, zero, suc, _+_, _*_, _/_, _%_, _≤_, _<_}
-use native.Mathlib.Nat.{zero-mul, suc-mul, mul-le-mul-right, mul-add-div-right, mul-add-mod-self-right, div-eq-of-lt, mod-eq-of-lt}
+use native.Mathlib.Nat.{zero-mul, suc-mul, mul-le-mul-right}
 use native.Mathlib.Omega.{arith}
 use lib.IntN.{ℤ, pos}
 use lib.ListN.{length, getD, set}
@@ -11,7 +11,7 @@ use Rattle.geometry.specs.Read.{Image}
 use Rattle.sequences.specs.Tab.{tab, length-tab, getD-tab}
 use Rattle.sequences.specs.Write.{written, Writing, write-start, write-turn, write-done}
 use Rattle.pyramid.specs.Words.{wordOf, laid, Kept}
-use Rattle.pyramid.specs.WordsLaws.{writing-kept}
+use Rattle.pyramid.specs.WordsLaws.{place-row, place-column, writing-kept}
 
 -- m stores at once, of g 0 .. g (m − 1)
 module _ {A : Type 0} {d : List A} {at : ℕ} {f : ℕ → A} {n j m : ℕ} {l : List A} {g : ℕ → A} (w : Writing d at f n j l) (room : j + m ≤ n) (e : (k : ℕ) → k < m → g k ≡ f (j + k)) where
@@ -29,13 +29,6 @@ module _ {A : Type 0} {d : List A} {at : ℕ} {f : ℕ → A} {n j m : ℕ} {l :
   pub write-part : {l′ : List A} → l′ ≡ written l (at + j) g m → Writing d at f n (j + m) l′
   unfolding written
   write-part {l′} is = subst (Writing d at f n (j + m)) (sym is) (parts m (omega arith))
-
--- the row and the column of a place
-place-row : (row column width : ℕ) → column < width → (row * width + column) / width ≡ row
-place-row row column width h = mul-add-div-right (omega arith) row column ∙ omega (arith, div-eq-of-lt h)
-
-place-column : (row column width : ℕ) → column < width → (row * width + column) % width ≡ column
-place-column row column width h = mul-add-mod-self-right row width column ∙ mod-eq-of-lt h
 
 -- a row of a table lies in it
 pub row-room : (row height width : ℕ) → row < height → row * width + width ≤ height * width

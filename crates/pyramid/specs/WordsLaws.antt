@@ -1,22 +1,29 @@
 -- Laws of images in the work area.
-use mathlib.Core.Path.{_≡_, sym, ap, _∙_}
+use mathlib.Core.Path.{_≡_, sym, ap, ap₂, _∙_, subst}
 use mathlib.Core.List.{List, _++_}
-use Prim.Native.Nat.{ℕ, _+_, _*_, _≤_, _<_}
-use native.Mathlib.Nat.{le-trans, mul-le-mul-right, suc-mul}
+use Prim.Native.Nat.{ℕ, _+_, _-_, _*_, _/_, _%_, _≤_, _<_}
+use native.Mathlib.Nat.{le-trans, mul-le-mul-right, suc-mul, mul-add-div-right, mul-add-mod-self-right, div-eq-of-lt, mod-eq-of-lt}
 use native.Mathlib.Omega.{arith}
 use lib.IntN.{ℤ, pos, natAbs}
-use lib.ListN.{getD, take, drop, List·getD-append}
+use lib.ListN.{length, getD, take, drop, List·getD-append}
 use lib.Seq.{length-paste-head, length-take-le, getD-take}
 use Rattle.geometry.specs.Read.{Image}
 use Rattle.sequences.specs.Tab.{tab, length-tab}
-use Rattle.sequences.specs.Write.{Writing}
+use Rattle.sequences.specs.Write.{written, Writing, written-in, written-before, written-after, written-length}
 use Rattle.pyramid.specs.Pyramid.{halved}
 use Rattle.pyramid.specs.PyramidLaws.{halved-agree}
-use Rattle.pyramid.specs.Words.{wordAt, imageAt, Holds, Row, Source, Kept}
+use Rattle.pyramid.specs.Words.{wordAt, imageAt, wordOf, laid, Holds, Row, Source, Kept}
 
 -- a place of a table lies in it
 pub cell-below : (row column height width : ℕ) → row < height → column < width → row * width + column < height * width
 cell-below row column height width h k = le-trans (omega (arith, suc-mul row width)) (mul-le-mul-right width h)
+
+-- the row and the column of a place
+pub place-row : (row column width : ℕ) → column < width → (row * width + column) / width ≡ row
+place-row row column width h = mul-add-div-right (omega arith) row column ∙ omega (arith, div-eq-of-lt h)
+
+pub place-column : (row column width : ℕ) → column < width → (row * width + column) % width ≡ column
+place-column row column width h = mul-add-mod-self-right row width column ∙ mod-eq-of-lt h
 
 -- a row of an image
 pub row-held : {words : List ℤ} {from height width : ℕ} (row : ℕ) → Holds words from height width (imageAt words from width) → row < height
@@ -81,3 +88,40 @@ module _ {d l : List ℤ} {n : ℕ} (k : Kept d n l) (from height width : ℕ) (
   -- and so does its halving
   pub kept-halved : Source d from height width → (row column : ℕ) → halved height width (imageAt l from width) row column ≡ halved height width (imageAt d from width) row column
   kept-halved s row column = halved-agree height width (s .high) (s .wide) (imageAt l from width) (imageAt d from width) kept-image row column
+
+-- what an image that is laid leaves as it was, and what then stands there
+module _ (d : List ℤ) (at height width : ℕ) (image : Image) (room : at + height * width ≤ length d) where
+  pub laid-kept : Kept d at (laid d at height width image)
+  unfolding laid
+  laid-kept =
+      record {
+        same = written-length d at (wordOf image width) (height * width) (pos 0) room;
+        kept = written-before d at (wordOf image width) (height * width) (pos 0) room;
+      }
+
+  pub laid-after : (k : ℕ) → at + height * width ≤ k → getD (laid d at height width image) k (pos 0) ≡ getD d k (pos 0)
+  unfolding laid
+  laid-after k h =
+      subst (λ i. getD (written d at (wordOf image width) (height * width)) i (pos 0) ≡ getD d i (pos 0)) (omega arith)
+      (written-after d at (wordOf image width) (height * width) (pos 0) room (k - (at + height * width)))
+
+  pub laid-holds : ((row column : ℕ) → row < height → column < width → image row column ≤ 16380) → Holds (laid d at height width image) at height width image
+  unfolding laid
+  laid-holds most =
+      record {
+        room = omega (arith, written-length d at (wordOf image width) (height * width) (pos 0) room);
+        is = λ row column h k.
+            ap (λ i. getD (written d at (wordOf image width) (height * width)) i (pos 0)) (omega arith)
+            ∙ written-in d at (wordOf image width) (height * width) (pos 0) room (row * width + column) (cell-below row column height width h k)
+            ∙ ap₂ (λ r c. pos (image r c)) (place-row row column width k) (place-column row column width k);
+        most = most;
+      }
+
+pub holds-agree : {words : List ℤ} {at height width : ℕ} {f g : Image} → ((row column : ℕ) → row < height → column < width → f row column ≡ g row column)
+    → Holds words at height width f → Holds words at height width g
+holds-agree e h =
+    record {
+      room = h .room;
+      is = λ row column a b. h .is row column a b ∙ ap pos (e row column a b);
+      most = λ row column a b. omega (arith, e row column a b, h .most row column a b);
+    }

@@ -7,6 +7,7 @@ ghost use Rattle.geometry.specs.Read.{inside, read};
 ghost use Rattle.sequences.specs.Write.{written};
 ghost use Rattle.pyramid.specs.Pyramid.{weights, tap, weighted, halved};
 ghost use Rattle.pyramid.specs.Words.{wordAt, imageAt, laid, Held, Row, Source};
+ghost use Rattle.pyramid.specs.Chain.{Room, Halvings};
 
 // 1 3 3 1
 fn weigh(a: u64, b: u64, c: u64, d: u64) -> u64
@@ -113,5 +114,22 @@ pub fn halve(work: &mut [i64], from: usize, height: usize, width: usize, to: usi
     for row in 0..height / 2 {
         let start = to + row * (width / 2);
         halve_row(&mut *work, from, height, width, row, start);
+    }
+}
+
+// Five halvings, one of the other, in the words after the image that stands from `at` on.
+pub fn halve_down(work: &mut [i64], at: usize, height: usize, width: usize)
+    requires { ⌜ Room (now work) at height width ⌝ }
+    ensures { λ _. ⌜ Halvings height width (imageAt (now (work .entry)) at width) at (now (work .entry)) 5 (now (work .exit)) ⌝ }
+{
+    let mut from = at;
+    let mut h = height;
+    let mut w = width;
+    for _ in 0..5usize {
+        let to = from + h * w;
+        halve(&mut *work, from, h, w, to);
+        from = to;
+        h = h / 2;
+        w = w / 2;
     }
 }

@@ -1,0 +1,46 @@
+-- How the sizes of halvings shrink and their words add up.
+use mathlib.Core.Path.{_≡_, refl, ap}
+use mathlib.Core.Logic.{⊎-elim}
+use Prim.Native.Nat.{ℕ, zero, suc, _+_, _*_, _/_, _≤_, _<_, _^_}
+use native.Mathlib.Nat.{mul-le-mul, pow-suc, pow-le-pow-right, eq-or-lt-of-le}
+use native.Mathlib.Omega.{arith}
+use Rattle.pyramid.specs.Chain.{halves, words}
+
+-- a size stays at most the first, and above 0 down to the last image
+pub size-most : (size k : ℕ) → halves size k ≤ size
+unfolding halves
+size-most size zero = omega arith
+size-most size (suc k) = omega (arith, size-most size k)
+
+size-least : (size k m : ℕ) → m * 2 ^ k ≤ size → m ≤ halves size k
+unfolding halves
+size-least size zero m h = omega arith
+size-least size (suc k) m h = omega (arith, size-least size k (m * 2) (omega (arith, h, ap (λ p. m * p) (pow-suc 2 k))))
+
+pub size-some : (size k : ℕ) → 32 ≤ size → k ≤ 5 → 0 < halves size k
+size-some size k h l = size-least size k 1 (omega (arith, pow-le-pow-right {n = 2} (omega arith) {i = k} {j = 5} l))
+
+-- half of each side
+pub quarter : (h w : ℕ) → 4 * (h / 2 * (w / 2)) ≤ h * w
+quarter h w = omega (arith, mul-le-mul {n₁ = 2 * (h / 2)} {m₁ = 2 * (w / 2)} {n₂ = h} {m₂ = w} (omega arith) (omega arith))
+
+module _ (height width : ℕ) where
+  pub words-next : (k : ℕ) → words height width (suc k) ≡ words height width k + halves height k * halves width k
+  unfolding words
+  words-next k = refl
+
+  pub words-rise : (j k : ℕ) → j ≤ k → words height width j ≤ words height width k
+  unfolding words
+  words-rise zero k h = omega arith
+  words-rise (suc j) zero h = omega arith
+  words-rise (suc j) (suc k) h =
+      ⊎-elim (λ (e : suc j ≡ suc k). omega (arith, ap (words height width) e)) (λ (l : suc j < suc k). omega (arith, words-rise (suc j) k (omega arith))) (eq-or-lt-of-le h)
+
+  -- each image has at most a quarter of the words of the one before
+  words-quarter : (k : ℕ) → 4 * (halves height (suc k) * halves width (suc k)) ≤ halves height k * halves width k
+  unfolding halves
+  words-quarter k = quarter (halves height k) (halves width k)
+
+  pub words-third : 3 * words height width 6 ≤ 4 * (height * width)
+  unfolding words halves
+  words-third = omega (arith, words-quarter 0, words-quarter 1, words-quarter 2, words-quarter 3, words-quarter 4)

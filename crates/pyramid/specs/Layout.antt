@@ -1,0 +1,35 @@
+-- Where a pyramid's images stand in the work area, and what holds once they are laid.
+use mathlib.Core.Path.{_≡_}
+use mathlib.Core.List.{List}
+use Prim.Native.Nat.{ℕ, zero, suc, _+_, _*_, _/_, _≤_, _<_}
+use lib.IntN.{ℤ, pos}
+use lib.ListN.{length, getD}
+use Rattle.geometry.specs.declared.Shape.{Shape}
+use Rattle.geometry.specs.Read.{Image}
+use Rattle.geometry.specs.Tiles.{Level, level0, level1, level2, level3, levelSize}
+use Rattle.pyramid.specs.Pyramid.{image0, image1, image2, image3}
+use Rattle.pyramid.specs.Words.{Holds}
+use Rattle.pyramid.specs.Chain.{words}
+
+-- Six images stand one after the other: level 0, level 1, the image between, level 2, the image between, level 3.
+-- how many words of a pyramid stand before image number k
+unfoldable pub offset : Shape → ℕ → ℕ
+offset shape k = words (levelSize level0 (shape .height)) (levelSize level0 (shape .width)) k
+
+-- the words of a pyramid
+abbrev pub pyramidLength : Shape → ℕ
+pyramidLength shape = offset shape 6
+
+-- from `at` on stands a level's image
+abbrev pub HoldsLevel : List ℤ → ℕ → Level → Shape → Image → Type 0
+HoldsLevel list at level shape image = Holds list at (levelSize level (shape .height)) (levelSize level (shape .width)) image
+
+-- l is d but for the pyramid of a frame, which stands from `at` on
+pub record Built (shape : Shape) (frame : Image) (at : ℕ) (d l : List ℤ) : Type 0 where
+  pub same : length l ≡ length d
+  pub holds0 : HoldsLevel l (at + offset shape 0) level0 shape (image0 shape frame)
+  pub holds1 : HoldsLevel l (at + offset shape 1) level1 shape (image1 shape frame)
+  pub holds2 : HoldsLevel l (at + offset shape 3) level2 shape (image2 shape frame)
+  pub holds3 : HoldsLevel l (at + offset shape 5) level3 shape (image3 shape frame)
+  pub before : (k : ℕ) → k < at → getD l k (pos 0) ≡ getD d k (pos 0)
+  pub after : (k : ℕ) → at + pyramidLength shape ≤ k → getD l k (pos 0) ≡ getD d k (pos 0)
