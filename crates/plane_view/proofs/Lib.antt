@@ -1,1 +1,5 @@
 pub mod Places
+pub mod Contracts
+pub mod Reading
+pub mod Making
+pub mod Tiles
