@@ -4,19 +4,15 @@ use mathlib.Core.List.{List}
 use Prim.Native.Nat.{ℕ, _+_, _*_, _≤_, _<_}
 use native.Mathlib.Nat.{mul-le-mul-right, add-mul, mul-comm}
 use native.Mathlib.Omega.{arith}
-use lib.IntN.{ℤ, pos, negsuc, _+ℤ_}
+use lib.IntN.{ℤ, pos, _+ℤ_}
 use lib.ListN.{length, getD, length-take, length-drop}
 use lib.Seq.{getD-take, getD-drop}
 use Rattle.sequences.specs.Grid.{grid-ext}
 use Rattle.geometry.specs.declared.Shape.{Shape}
 use Rattle.geometry.specs.Shape.{sampleLength}
-use Rattle.geometry.specs.Read.{Image, sampleAt, planeOf, inside, read}
+use Rattle.geometry.specs.Read.{Image, sampleIndex, sampleAt, planeOf, read}
+use Rattle.geometry.specs.ReadLaws.{inside-below}
 use Rattle.plane_view.specs.View.{frameImage, framePart, planeImage, tileOf, planeTile, Planar, Shaped}
-
-pub inside-below : (size : ℕ) (z : ℤ) → 0 < size → inside size z < size
-unfolding inside
-inside-below size (pos k) h = omega arith
-inside-below size (negsuc k) h = h
 
 -- a tile depends on what the image has inside alone
 pub tile-ext : (side height width : ℕ) (f g : Image) → 0 < height → 0 < width → ((row column : ℕ) → row < height → column < width → f row column ≡ g row column) →
@@ -27,7 +23,7 @@ tile-ext side height width f g h w e y x =
 
 module _ (s : Shape) (samples : List ℕ) (frame : ℕ) where
   part-sample : (row column : ℕ) → row < s .height → column < s .width → frameImage (framePart s samples frame) (s .width) row column ≡ sampleAt s samples frame row column
-  unfolding frameImage framePart sampleAt
+  unfolding frameImage framePart sampleAt sampleIndex
   part-sample row column h k =
       let rows : (row + 1) * s .width ≤ s .height * s .width = mul-le-mul-right (s .width) (omega arith) in
       let below : row * s .width + column < s .width * s .height = omega (arith, add-mul row 1 (s .width)) in

@@ -3,8 +3,8 @@ ghost use mathlib.Core.Path.{_≡_};
 ghost use Prim.Native.Nat.{_<_};
 ghost use lib.IntN.{pos, _+ℤ_};
 ghost use lib.ListN.{length};
-ghost use Rattle.geometry.specs.Read.{inside};
 ghost use Rattle.plane_view.specs.View.{planeSample, planeRow, planeTile, Planar, Shaped, Near, RowStart};
+use geometry::read::inside;
 
 // The plane of one row parity and one column parity, `height` rows of `width` samples, of a frame whose samples are `samples`.
 pub struct PlaneView<'a> {
@@ -15,24 +15,12 @@ pub struct PlaneView<'a> {
     pub column_parity: usize,
 }
 
-// The index that is read for z.
-pub fn nearest(z: i64, size: usize) -> usize
-    requires { ⌜ 0 < size ⌝ }
-    ensures { λ r. ⌜ (r ≡ inside size z) × (r < size) ⌝ }
-{
-    if z < 0 {
-        return 0;
-    }
-    let k = z as usize;
-    if k < size { k } else { size - 1 }
-}
-
 // Where the row that is read for y starts in the frame: its first sample of the plane.
 fn row_start(y: i64, width: usize, height: usize, row_parity: usize, column_parity: usize) -> usize
     requires { ⌜ Planar width height «row_parity» «column_parity» ⌝ }
     ensures { λ r. ⌜ RowStart y width height «row_parity» «column_parity» r ⌝ }
 {
-    (2 * nearest(y, height) + row_parity) * (2 * width) + column_parity
+    (2 * inside(y, height) + row_parity) * (2 * width) + column_parity
 }
 
 // The plane's sample that is read for row y and column x.
@@ -49,7 +37,7 @@ pub fn sample_at(
     ensures { λ r. ⌜ r ≡ planeSample y x (now (samples .entry)) width height «row_parity» «column_parity» ⌝ }
 {
     let start = row_start(y, width, height, row_parity, column_parity);
-    samples[start + 2 * nearest(x, width)]
+    samples[start + 2 * inside(x, width)]
 }
 
 // Row or column k of a tile that starts at z.
@@ -76,7 +64,7 @@ fn tile_row(
     let start = row_start(y, width, height, row_parity, column_parity);
     let mut row = [0u16; 16];
     for j in 0..16 {
-        row[j] = samples[start + 2 * nearest(along(x, j), width)];
+        row[j] = samples[start + 2 * inside(along(x, j), width)];
     }
     row
 }

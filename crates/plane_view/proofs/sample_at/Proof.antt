@@ -8,8 +8,8 @@ use Rattle.plane_view.proofs.sample_at.Tie as tie
 row-start-requires : tie.Need-row-start-requires
 row-start-requires c κs = search needs
 
-nearest-requires : tie.Need-nearest-requires
-nearest-requires c κs = search needs
+inside-requires : tie.Need-inside-requires
+inside-requires c κs = search needs
 
 mul-result : tie.Need-mul-result
 mul-result c = search needs
@@ -26,14 +26,14 @@ shared-slice-read-result c = search needs
 returns : tie.Need-returns
 returns c =
     let s = c .before .before .before .before in
-    rw (c .before .nearest .ensures .0, toZ-ofZ (s .fits .x)) (sample-in-row _ _ (rw (toZ-ofZ (s .fits .y)) at (c .before .before .row-start .ensures)))
+    rw (c .before .inside .ensures .0, toZ-ofZ (s .fits .x)) (sample-in-row _ _ (rw (toZ-ofZ (s .fits .y)) at (c .before .before .row-start .ensures)))
 
 pub sample-at-spec : {M : Type 1} → statement M
 sample-at-spec =
     tie.close
     (tie.spec
     row-start-requires
-    nearest-requires
+    inside-requires
     mul-result
     add-result
     mul-result-2

@@ -29,8 +29,8 @@ loop-holds c = fill-start refl
 along-requires : tie.Need-along-requires Inv-loop μ-loop
 along-requires c κs = search needs
 
-nearest-requires : tie.Need-nearest-requires Inv-loop μ-loop
-nearest-requires c κs = search needs
+inside-requires : tie.Need-inside-requires Inv-loop μ-loop
+inside-requires c κs = search needs
 
 mul-row : tie.Need-mul-row Inv-loop μ-loop
 mul-row c = search needs
@@ -60,7 +60,7 @@ loop-again : tie.Need-loop-again Inv-loop μ-loop
 loop-again c =
     let column : toZ w64 (ofZ w64 (c .before .before .along .result)) ≡ c .before .before .along .result = search needs in
     fill-turn (c .before .before .before .before .loop .inv) (omega arith)
-    (rw (c .before .nearest .ensures .0, column, c .before .before .along .ensures) (sample-in-row _ _ (c .before .before .before .before .before .row-start .ensures)))
+    (rw (c .before .inside .ensures .0, column, c .before .before .along .ensures) (sample-in-row _ _ (c .before .before .before .before .before .row-start .ensures)))
 
 returns : tie.Need-returns Inv-loop μ-loop
 unfolding planeRow
@@ -77,7 +77,7 @@ tile-row-spec =
     row-start-requires
     loop-holds
     along-requires
-    nearest-requires
+    inside-requires
     mul-row
     add-row
     mul-row-2
