@@ -29,14 +29,20 @@ module _ (s : Shape) (samples : List ℕ) (frame : ℕ) where
       let below : row * s .width + column < s .width * s .height = omega (arith, add-mul row 1 (s .width)) in
       rw (getD-take, getD-drop) (ap (λ n. getD samples n 0) (omega arith))
 
+  -- the part lies in the burst
+  pub part-room : frame < s .count → frame * (s .width * s .height) + s .width * s .height ≤ sampleLength s
+  unfolding sampleLength
+  part-room h =
+      let frames : (frame + 1) * (s .width * s .height) ≤ s .count * (s .width * s .height) = mul-le-mul-right (s .width * s .height) (omega arith) in
+      omega (arith, add-mul frame 1 (s .width * s .height))
+
   module _ {width height rowParity columnParity : ℕ} (p : Planar width height rowParity columnParity) (wide : s .width ≡ 2 * width) (high : s .height ≡ 2 * height) where
     -- such a part is a frame
     pub part-shaped : length samples ≡ sampleLength s → frame < s .count → Shaped (length (framePart s samples frame)) width height rowParity columnParity
-    unfolding framePart sampleLength
+    unfolding framePart
     part-shaped e h =
-        let frames : (frame + 1) * (s .width * s .height) ≤ s .count * (s .width * s .height) = mul-le-mul-right (s .width * s .height) (omega arith) in
         let area : s .width * s .height ≡ 2 * height * (2 * width) = rw (wide, high) (mul-comm (2 * width) (2 * height)) in
-        let whole : length (framePart s samples frame) ≡ 2 * height * (2 * width) = simp (length-take, length-drop) (omega (arith, add-mul frame 1 (s .width * s .height))) in
+        let whole : length (framePart s samples frame) ≡ 2 * height * (2 * width) = simp (length-take, length-drop) (omega (arith, part-room h)) in
         record { whole = whole; planar = p }
 
     pub part-tile : (side : ℕ) (y x : ℤ) →

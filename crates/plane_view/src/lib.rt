@@ -1,9 +1,11 @@
 // A view of one plane of one frame: it reads the caller's samples without copying them.
 ghost use mathlib.Core.Path.{_≡_};
-ghost use Prim.Native.Nat.{_<_};
+ghost use Prim.Native.Nat.{_/_, _<_};
 ghost use lib.IntN.{pos, _+ℤ_};
 ghost use lib.ListN.{length};
-ghost use Rattle.plane_view.specs.View.{planeSample, planeRow, planeTile, Planar, Shaped, Near, RowStart};
+ghost use Rattle.geometry.specs.Read.{Sampled, sampleAt, planeOf};
+ghost use Rattle.plane_view.specs.View.{tileOf, planeSample, planeRow, planeTile, Planar, Shaped, Near, RowStart};
+use geometry::Shape;
 use geometry::read::inside;
 
 // The plane of one row parity and one column parity, `height` rows of `width` samples, of a frame whose samples are `samples`.
@@ -152,5 +154,32 @@ pub fn tile_of(
         },
         y,
         x,
+    )
+}
+
+// The tile of a plane of one frame of a burst: the view is made of that frame's part of the samples.
+pub fn frame_tile(
+    shape: Shape,
+    samples: &[u16],
+    frame: usize,
+    row_parity: usize,
+    column_parity: usize,
+    y: i64,
+    x: i64,
+) -> [[u16; 16]; 16]
+    requires { ⌜ (Sampled shape (now samples)) × (frame < shape .count) × («row_parity» < 2) × («column_parity» < 2) × (Near y) × (Near x) ⌝ }
+    ensures { λ r. ⌜ r ≡ tileOf 16 (shape .height / 2) (shape .width / 2) (planeOf (sampleAt shape (now (samples .entry)) frame) «row_parity» «column_parity») y x ⌝ }
+{
+    let area = shape.width * shape.height;
+    let start = frame * area;
+    let end = start + area;
+    tile_of(
+        y,
+        x,
+        &samples[start..end],
+        shape.width / 2,
+        shape.height / 2,
+        row_parity,
+        column_parity,
     )
 }

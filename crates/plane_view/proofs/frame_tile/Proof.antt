@@ -1,0 +1,109 @@
+-- The tile of a frame's plane: the frame's part lies in the burst, and its view is the burst's plane.
+use mathlib.Core.Path.{_≡_, ap}
+use mathlib.Core.List.{List}
+use Prim.Native.Nat.{ℕ, _+_, _-_, _*_, _/_, _≤_}
+use native.Mathlib.Omega.{arith}
+use lib.ListN.{length, take, drop}
+use denote.Ref.{now}
+use mir.Facts.{toZ-ofZ}
+use borrow.Author.Needs.{needs}
+use Rattle.geometry.specs.declared.Shape.{Shape}
+use Rattle.geometry.specs.Shape.{sampleLength}
+use Rattle.geometry.specs.ShapeLaws.{area-most, samples-most}
+use Rattle.plane_view.specs.View.{framePart, Planar}
+use Rattle.plane_view.specs.ViewLaws.{part-room, part-shaped, part-tile}
+use Rattle.plane_view.proofs.frame_tile.Statement.{statement}
+use Rattle.plane_view.proofs.frame_tile.Tie as tie
+
+-- the slice that is lent
+lent : (s : Shape) (samples : List ℕ) (frame : ℕ) →
+    let area = s .width * s .height in
+    take (frame * area + area - frame * area) (drop (frame * area) samples) ≡ framePart s samples frame
+unfolding framePart
+lent s samples frame =
+    let area = s .width * s .height in
+    let e : frame * area + area - frame * area ≡ area = omega arith in
+    ap (λ n. take n (drop (frame * area) samples)) e
+
+module _ (c : tie.Start) where
+  abbrev s : Shape
+  s = c .args .shape
+
+  abbrev all : List ℕ
+  all = now (c .args .samples)
+
+  room : c .args .frame * (s .width * s .height) + s .width * s .height ≤ length all
+  room = omega (arith, part-room s all (c .args .frame) (c .pre .1), c .pre .0 .long)
+
+  small : length all ≤ 134217728
+  unfolding sampleLength
+  small = omega (arith, samples-most (c .pre .0 .allowed), c .pre .0 .long)
+
+  wide : s .width ≡ 2 * (s .width / 2)
+  wide = omega (arith, c .pre .0 .allowed .wide .whole)
+
+  high : s .height ≡ 2 * (s .height / 2)
+  high = omega (arith, c .pre .0 .allowed .high .whole)
+
+  planar : Planar (s .width / 2) (s .height / 2) (c .args .row-parity) (c .args .column-parity)
+  planar =
+      let a = c .pre .0 .allowed in
+      record {
+        wide = omega (arith, a .wide .least);
+        high = omega (arith, a .high .least);
+        width-most = omega (arith, a .wide .most);
+        height-most = omega (arith, a .high .most);
+        row = c .pre .2;
+        column = c .pre .3;
+      }
+
+mul-area : tie.Need-mul-area
+mul-area c = omega (arith, area-most (c .before .before .pre .0 .allowed))
+
+mul-start : tie.Need-mul-start
+mul-start c = omega (arith, room (c .before .before), small (c .before .before))
+
+add-end : tie.Need-add-end
+add-end c = omega (arith, room (c .before .before), small (c .before .before))
+
+mul-tile-of : tie.Need-mul-tile-of
+mul-tile-of c = omega (arith, room (c .before .before), small (c .before .before))
+
+sub-tile-of : tie.Need-sub-tile-of
+sub-tile-of c = search needs
+
+part-tile-of-start : tie.Need-part-tile-of-start
+part-tile-of-start c = search needs
+
+part-tile-of-end : tie.Need-part-tile-of-end
+part-tile-of-end c = room (c .before .before)
+
+tile-of-requires : tie.Need-tile-of-requires
+tile-of-requires c κs =
+    let b = c .before .before .before .before .before in
+    let frame = b .args .frame in (
+      rw (lent (s b) (all b) frame) (part-shaped (s b) (all b) frame (planar b) (wide b) (high b) (b .pre .0 .long) (b .pre .1)),
+      rw (toZ-ofZ (b .fits .y)) (b .pre .4),
+      rw (toZ-ofZ (b .fits .x)) (b .pre .5),
+    )
+
+returns : tie.Need-returns
+returns c =
+    let b = c .before .before .before .before .before .before in
+    let frame = b .args .frame in
+    rw (c .tile-of .ensures, lent (s b) (all b) frame, toZ-ofZ (b .fits .y), toZ-ofZ (b .fits .x))
+    (part-tile (s b) (all b) frame (planar b) (wide b) (high b) 16 (b .args .y) (b .args .x))
+
+pub frame-tile-spec : {M : Type 1} → statement M
+frame-tile-spec =
+    tie.close
+    (tie.spec
+    mul-area
+    mul-start
+    add-end
+    mul-tile-of
+    sub-tile-of
+    part-tile-of-start
+    part-tile-of-end
+    tile-of-requires
+    returns)
