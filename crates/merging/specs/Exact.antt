@@ -1,0 +1,21 @@
+-- The exact merge of document 01 on a burst: "takes the same r, V and vectors and does the other steps in fractions".
+use Prim.Native.Nat.{ℕ, _/_, _%_}
+use lib.IntN.{pos}
+use Rattle.algebra.specs.Fraction.{Frac}
+use Rattle.geometry.specs.Read.{planeOf}
+use Rattle.geometry.specs.Tiles.{level0}
+use Rattle.transform.specs.Tables.{side16}
+use Rattle.closeness.specs.Exact.{exactSample}
+use Rattle.merging.specs.Recipe.{Scene, tileNoise, difference, tileOver}
+
+-- its sample at row y and column x of a plane
+unfoldable pub planeExact : Scene → (rowParity columnParity y x : ℕ) → Frac
+planeExact s rowParity columnParity y x =
+    exactSample side16 (y % level0 .half) (x % level0 .half) (s .others)
+    (λ t. tileNoise s rowParity columnParity (tileOver y (t / 2)) (tileOver x (t % 2)))
+    (λ t. difference s rowParity columnParity (tileOver y (t / 2)) (tileOver x (t % 2)))
+    (pos (planeOf (s .reference) rowParity columnParity y x))
+
+-- and at a row and a column of the frame
+unfoldable pub exactAt : Scene → (row column : ℕ) → Frac
+exactAt s row column = planeExact s (row % 2) (column % 2) (row / 2) (column / 2)

@@ -1,0 +1,3 @@
+pub mod Recipe
+pub mod Exact
+pub mod Closeness

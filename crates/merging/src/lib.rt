@@ -1,0 +1,11 @@
+// The merge of a burst: tiles of each plane, their corrections, and the output.
+use geometry::Shape;
+
+// What a merge takes beside the lent buffers: Ls, Lr and the strength t.
+pub struct Merge {
+    pub shape: Shape,
+    pub reference: usize,
+    pub shot: u64,
+    pub read: u64,
+    pub strength: u64,
+}
