@@ -1,6 +1,6 @@
 -- The code's float comparisons decide the tests of the definitions, by cases on the float.
 use mathlib.Core.Path.{_≡_, refl, sym, _∙_}
-use mathlib.Core.Bool.{Bool, true, false, not, _&&_, _||_}
+use mathlib.Core.Bool.{true, false, not}
 use Prim.Native.Nat.{ℕ, zero, suc, _+_, _*_, _^_, _<_}
 use native.Mathlib.Nat.{mul-one, one-mul, zero-mul, add-zero, mul-pos}
 use native.Mathlib.Omega.{arith}

@@ -1,16 +1,15 @@
 -- The levels of any noise are at most 65536 and 4194304, since its curve's numbers lie between 0 and the limits of refusal 9.
-use mathlib.Core.Path.{_≡_, refl, sym, ap, subst}
+use mathlib.Core.Path.{_≡_, refl, sym, subst}
 use mathlib.Core.Bool.{Bool, true, false, not, _||_, cond}
-use Prim.Native.Nat.{ℕ, _*_, _/_, _≤_}
+use Prim.Native.Nat.{ℕ, _*_, _≤_}
 use native.Mathlib.Nat.{div-le-of-le-mul, le-trans, mul-le-mul-right, zero-mul}
 use native.Mathlib.Omega.{arith}
 use lib.Dec.{T, eqb, leb→le, le→leb, eqb→eq}
 use borrow.Author.Tests.{ltb-false}
 use lib.Ieee.{Float, nan, inf, fin, up, down}
 use lib.Ieee.Fits.{and-l, and-r, and-i}
-use Rattle.noise.specs.declared.Curve.{Curve}
 use Rattle.noise.specs.declared.Noise.{Noise}
-use Rattle.noise.specs.declared.Levels.the-variants.{Found, Refused}
+use Rattle.noise.specs.declared.Levels.the-variants.{Refused}
 use Rattle.noise.specs.Curve.{curveOf}
 use Rattle.noise.specs.Level.{exceeds, within, floor1024}
 use Rattle.noise.specs.Levels.{invalidNoise, aboveLimits, found, levelsOf, shotLevel, readLevel}

@@ -18,13 +18,13 @@ sumOfSquares n tile = sumN n (λ i. sumN n (λ j. squared (tile i j)))
 unfoldable pub tileRoot : ℕ → (ℕ → ℕ → ℕ) → ℕ
 tileRoot n tile = wholeRoot (sumOfSquares n tile)
 
--- "Ls·r + 16·Lr", the noise at strength 16
-unfoldable pub light : ℕ → ℕ → ℕ → ℕ
-light ls lr r = ls * r + 16 * lr
+-- "Ls·r + 16·Lr": the variance shot · RMS + read, in 1/16384
+unfoldable pub variance : ℕ → ℕ → ℕ → ℕ
+variance ls lr r = ls * r + 16 * lr
 
 -- "V = floor(t·(Ls·r + 16·Lr)/16), the source's cσ² in 1/256"
 unfoldable pub noiseNumber : ℕ → ℕ → ℕ → ℕ → ℕ
-noiseNumber t ls lr r = t * light ls lr r / 16
+noiseNumber t ls lr r = t * variance ls lr r / 16
 
 -- the bounds of refusals 9 and 10, and r's own for samples of 16 bits
 pub record InRange (t ls lr r : ℕ) : Type 0 where

@@ -1,13 +1,13 @@
 -- Bounds of r and V, and V's monotony in each of its arguments.
 use mathlib.Core.Path.{_≡_, ap}
-use Prim.Native.Nat.{ℕ, _+_, _*_, _/_, _≤_, _<_}
+use Prim.Native.Nat.{ℕ, _*_, _≤_, _<_}
 use native.Mathlib.Nat.{le-trans, mul-le-mul}
 use native.Mathlib.Omega.{arith}
 use lib.Dec.{lit≤}
 use Rattle.algebra.specs.Sums.{sumN, sumN-cong, sumN-bound}
 use Rattle.noise.specs.Root.{wholeRoot}
 use Rattle.noise.specs.RootLaws.{root-most}
-use Rattle.noise.specs.NoiseNumber.{squared, sumOfSquares, tileRoot, light, noiseNumber}
+use Rattle.noise.specs.NoiseNumber.{squared, sumOfSquares, tileRoot, variance, noiseNumber}
 
 -- r is that of the n by n samples alone
 pub tile-root-cong : (n : ℕ) (s t : ℕ → ℕ → ℕ) → ((i j : ℕ) → i < n → j < n → s i j ≡ t i j) → tileRoot n s ≡ tileRoot n t
@@ -22,15 +22,15 @@ tile-root-bound n m tile h = root-most (omega (arith, rows))
     rows : sumN n (λ i. sumN n (λ j. squared (tile i j))) ≤ n * (n * (m * m))
     rows = sumN-bound n (n * (m * m)) (λ i. sumN n (λ j. squared (tile i j))) (λ i k. sumN-bound n (m * m) (λ j. squared (tile i j)) (λ j l. mul-le-mul (h i j k l) (h i j k l)))
 
-pub light-mono : {ls lr r ls' lr' r' : ℕ} → ls ≤ ls' → lr ≤ lr' → r ≤ r' → light ls lr r ≤ light ls' lr' r'
-unfolding light
-light-mono hs hr h = omega (arith, mul-le-mul hs h)
+pub variance-mono : {ls lr r ls' lr' r' : ℕ} → ls ≤ ls' → lr ≤ lr' → r ≤ r' → variance ls lr r ≤ variance ls' lr' r'
+unfolding variance
+variance-mono hs hr h = omega (arith, mul-le-mul hs h)
 
 pub noise-number-mono : {t ls lr r t' ls' lr' r' : ℕ} → t ≤ t' → ls ≤ ls' → lr ≤ lr' → r ≤ r' → noiseNumber t ls lr r ≤ noiseNumber t' ls' lr' r'
 unfolding noiseNumber
-noise-number-mono ht hs hr h = omega (arith, mul-le-mul ht (light-mono hs hr h))
+noise-number-mono ht hs hr h = omega (arith, mul-le-mul ht (variance-mono hs hr h))
 
 -- V where every sample is at most 4095
 pub noise-number-bound : {t ls lr r : ℕ} → t ≤ 1024 → ls ≤ 65536 → lr ≤ 4194304 → r ≤ 65520 → noiseNumber t ls lr r ≤ 279105765376
-unfolding noiseNumber light
+unfolding noiseNumber variance
 noise-number-bound ht hs hr h = le-trans (noise-number-mono ht hs hr h) (lit≤ tt)

@@ -3,7 +3,7 @@ mod level;
 mod squares;
 
 ghost use mathlib.Core.Path.{_≡_};
-ghost use Prim.Native.Nat.{ℕ, _≤_};
+ghost use Prim.Native.Nat.{_≤_};
 ghost use Rattle.sequences.specs.Grid.{cell};
 ghost use Rattle.noise.specs.Levels.{levelsOf, levelRefusal, strengthRefusal};
 ghost use Rattle.noise.specs.Root.{wholeRoot};

@@ -1,11 +1,11 @@
 -- Each product is at most that of the bounds.
 use mathlib.Core.Path.{refl}
-use Prim.Native.Nat.{ℕ, _+_, _*_, _≤_}
+use Prim.Native.Nat.{_+_, _*_, _≤_}
 use native.Mathlib.Nat.{le-trans, mul-le-mul}
 use native.Mathlib.Omega.{arith}
 use borrow.Author.Needs.{needs}
 use lib.Dec.{lit≤}
-use Rattle.noise.specs.NoiseNumber.{light, noiseNumber, InRange}
+use Rattle.noise.specs.NoiseNumber.{variance, noiseNumber}
 use Rattle.noise.specs.NoiseNumberLaws.{noise-number-mono}
 use Rattle.noise.proofs.noise_number.Statement.{statement}
 use Rattle.noise.proofs.noise_number.Tie as tie
@@ -28,7 +28,7 @@ mul-result-3 c =
     omega (arith, mul-le-mul (c .pre .strength) h)
 
 returns : tie.Need-returns
-unfolding noiseNumber light
+unfolding noiseNumber variance
 returns c = (refl, le-trans (noise-number-mono (c .pre .strength) (c .pre .shot) (c .pre .read) (c .pre .root)) (lit≤ tt))
 
 pub noise-number-spec : {M : Type 1} → statement M

@@ -1,9 +1,7 @@
 -- A square of at most 65535².
-use mathlib.Core.Path.{ap}
 use native.Mathlib.Nat.{mul-le-mul}
 use native.Mathlib.Omega.{arith}
 use borrow.Author.Needs.{needs}
-use Rattle.noise.specs.NoiseNumber.{squared}
 use Rattle.noise.proofs.squares.squared.Statement.{statement}
 use Rattle.noise.proofs.squares.squared.Tie as tie
 
