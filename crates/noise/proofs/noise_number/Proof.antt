@@ -1,10 +1,12 @@
 -- Each product is at most that of the bounds.
 use mathlib.Core.Path.{refl}
-use Prim.Native.Nat.{_+_, _*_, _≤_}
+use Prim.Native.Nat.{ℕ, _+_, _*_, _≤_}
 use native.Mathlib.Nat.{le-trans, mul-le-mul}
 use native.Mathlib.Omega.{arith}
 use borrow.Author.Needs.{needs}
 use lib.Dec.{lit≤}
+use mir.Syntax.{w64}
+use mir.Val.{Fits}
 use Rattle.noise.specs.NoiseNumber.{variance, noiseNumber}
 use Rattle.noise.specs.NoiseNumberLaws.{noise-number-mono}
 use Rattle.noise.proofs.noise_number.Statement.{statement}
@@ -12,6 +14,9 @@ use Rattle.noise.proofs.noise_number.Tie as tie
 
 product : (c : tie.Start) → c .args .ls * c .args .r ≤ 65536 * 1048560
 product c = mul-le-mul (c .pre .shot) (c .pre .root)
+
+times : {t x : ℕ} → t ≤ 1024 → x ≤ 65536 * 1048560 + 16 * 4194304 → Fits w64 (t * x)
+times h k = omega (arith, mul-le-mul h k)
 
 mul-result : tie.Need-mul-result
 mul-result c = omega (arith, product c)
@@ -23,9 +28,7 @@ add-result : tie.Need-add-result
 add-result c = omega (arith, product c)
 
 mul-result-3 : tie.Need-mul-result-3
-mul-result-3 c =
-    let h : c .args .ls * c .args .r + 16 * c .args .lr ≤ 65536 * 1048560 + 16 * 4194304 = omega (arith, product c) in
-    omega (arith, mul-le-mul (c .pre .strength) h)
+mul-result-3 c = times (c .pre .strength) (omega (arith, product c))
 
 returns : tie.Need-returns
 unfolding noiseNumber variance
