@@ -29,7 +29,7 @@ pub root-is : (n : ℕ) → IsRoot n (wholeRoot n)
 unfolding wholeRoot
 root-is n = root-in-is n n (omega arith)
 
-pub root-le : {n r q : ℕ} → r * r ≤ n → n < (q + 1) * (q + 1) → r ≤ q
+root-le : {n r q : ℕ} → r * r ≤ n → n < (q + 1) * (q + 1) → r ≤ q
 root-le {n} {r} {q} low high = let h : r < q + 1 = lt-of-not-le (λ g. clash (mul-le-mul g g)) in omega arith
   where
     clash : (q + 1) * (q + 1) ≤ r * r → ⊥
