@@ -1,10 +1,10 @@
--- The levels of any noise are at most 65536 and 4194304, since its curve's numbers lie between 0 and the limits of refusal 9.
+-- The levels of any noise are at most 65536 and 4194304, since its curve's numbers lie between 0 and the limits of refusal 9; and what refusals 9 and 10 let through.
 use mathlib.Core.Path.{_≡_, refl, sym, subst}
 use mathlib.Core.Bool.{Bool, true, false, not, _||_, cond}
-use Prim.Native.Nat.{ℕ, _*_, _≤_}
+use Prim.Native.Nat.{ℕ, suc, _*_, _≤_}
 use native.Mathlib.Nat.{div-le-of-le-mul, le-trans, mul-le-mul-right, zero-mul}
 use native.Mathlib.Omega.{arith}
-use lib.Dec.{T, eqb, leb→le, le→leb, eqb→eq}
+use lib.Dec.{T, ltb, eqb, leb→le, le→leb, eqb→eq}
 use borrow.Author.Tests.{ltb-false}
 use lib.Ieee.{Float, nan, inf, fin, up, down}
 use lib.Ieee.Fits.{and-l, and-r, and-i}
@@ -12,7 +12,7 @@ use Rattle.noise.specs.declared.Noise.{Noise}
 use Rattle.noise.specs.declared.Levels.the-variants.{Refused}
 use Rattle.noise.specs.Curve.{curveOf}
 use Rattle.noise.specs.Level.{exceeds, within, floor1024}
-use Rattle.noise.specs.Levels.{invalidNoise, aboveLimits, found, levelsOf, shotLevel, readLevel}
+use Rattle.noise.specs.Levels.{invalidNoise, aboveLimits, found, levelsOf, shotLevel, readLevel, levelRefusal, strengthRefusal}
 use Rattle.noise.specs.ScalingLaws.{NotNegative, neither, curve-not-negative}
 
 not-over-within : (k : ℕ) (x : Float) → NotNegative x → exceeds k x ≡ false → T (within k x)
@@ -59,3 +59,19 @@ shot-level-bound noise = levels-bound noise .0
 
 pub read-level-bound : (noise : Noise) → readLevel (levelsOf noise) ≤ 4194304
 read-level-bound noise = levels-bound noise .1
+
+-- ---- what the tests of a file's levels and of the strength let through
+
+passed : (b : Bool) (number : ℕ) → cond b (suc number) 0 ≡ 0 → b ≡ false
+passed false number e = refl
+passed true number e = absurd (omega arith)
+
+pub levels-most : (ls lr : ℕ) → levelRefusal ls lr ≡ 0 → (ls ≤ 65536) × (lr ≤ 4194304)
+unfolding levelRefusal
+levels-most ls lr e =
+    let p = neither (ltb 65536 ls) (ltb 4194304 lr) (passed (ltb 65536 ls || ltb 4194304 lr) 8 e) in
+    (ltb-false 65536 ls (p .0), ltb-false 4194304 lr (p .1))
+
+pub strength-most : (t : ℕ) → strengthRefusal t ≡ 0 → t ≤ 1024
+unfolding strengthRefusal
+strength-most t e = ltb-false 1024 t (passed (ltb 1024 t) 9 e)

@@ -1,7 +1,7 @@
 -- Bounds of r and V, and V's monotony in each of its arguments.
 use mathlib.Core.Path.{_≡_, ap}
 use Prim.Native.Nat.{ℕ, _*_, _≤_, _<_}
-use native.Mathlib.Nat.{le-trans, mul-le-mul}
+use native.Mathlib.Nat.{le-trans, mul-le-mul, zero-mul, mul-zero}
 use native.Mathlib.Omega.{arith}
 use lib.Dec.{lit≤}
 use Rattle.algebra.specs.Sums.{sumN, sumN-cong, sumN-bound}
@@ -34,3 +34,8 @@ noise-number-mono ht hs hr h = omega (arith, mul-le-mul ht (variance-mono hs hr 
 pub noise-number-bound : {t ls lr r : ℕ} → t ≤ 1024 → ls ≤ 65536 → lr ≤ 4194304 → r ≤ 65520 → noiseNumber t ls lr r ≤ 279105765376
 unfolding noiseNumber variance
 noise-number-bound ht hs hr h = le-trans (noise-number-mono ht hs hr h) (lit≤ tt)
+
+-- no level, no noise
+pub noise-number-none : (t r : ℕ) → noiseNumber t 0 0 r ≡ 0
+unfolding noiseNumber variance
+noise-number-none t r = rw (zero-mul r, mul-zero t)
