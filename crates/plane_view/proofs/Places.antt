@@ -6,8 +6,8 @@ use native.Mathlib.Nat.{mul-le-mul, mul-le-mul-right, add-mul}
 use native.Mathlib.Omega.{arith}
 use lib.IntN.{ℤ}
 use lib.ListN.{getD}
-use Rattle.geometry.specs.Read.{planeOf, inside, read}
-use Rattle.plane_view.specs.View.{frameImage, planeImage, planeSample, Planar, RowStart}
+use Rattle.geometry.specs.Read.{sampleIndex, sampleAt, planeOf, inside, read}
+use Rattle.plane_view.specs.View.{planeImage, planeSample, Planar, RowStart}
 
 module _ {width height rowParity columnParity : ℕ} (p : Planar width height rowParity columnParity) where
   -- the row of the frame ends in it
@@ -22,5 +22,5 @@ module _ {width height rowParity columnParity : ℕ} (p : Planar width height ro
 -- a sample by where its row starts
 pub sample-in-row : {y : ℤ} {width height rowParity columnParity r : ℕ} (samples : List ℕ) (x : ℤ) → RowStart y width height rowParity columnParity r →
     getD samples (r + 2 * inside width x) 0 ≡ planeSample y x samples width height rowParity columnParity
-unfolding planeSample planeImage frameImage planeOf read
+unfolding planeSample planeImage planeOf read sampleAt sampleIndex
 sample-in-row samples x s = ap (λ n. getD samples n 0) (omega (arith, s .is))

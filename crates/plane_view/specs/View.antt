@@ -3,23 +3,23 @@ use mathlib.Core.Path.{_≡_}
 use mathlib.Core.List.{List}
 use Prim.Native.Nat.{ℕ, _+_, _*_, _^_, _<_, _≤_}
 use lib.IntN.{ℤ, pos, natAbs, _+ℤ_}
-use lib.ListN.{getD, take, drop}
+use lib.ListN.{take, drop}
 use Rattle.sequences.specs.Tab.{tab}
 use Rattle.sequences.specs.Grid.{grid}
 use Rattle.geometry.specs.declared.Shape.{Shape}
-use Rattle.geometry.specs.Read.{Image, planeOf, inside, read}
+use Rattle.geometry.specs.Read.{Image, sampleAt, planeOf, inside, read}
 
--- "Frames are Bayer RGGB, row by row": a frame of which the samples are at hand
-unfoldable pub frameImage : List ℕ → (rowLength : ℕ) → Image
-frameImage samples rowLength row column = getD samples (row * rowLength + column) 0
+-- the frame of four planes of `height` rows of `width` samples, as a burst of its own
+abbrev pub frameOf : (width height : ℕ) → Shape
+frameOf width height = record { width = 2 * width; height = 2 * height; count = 1 }
+
+-- "Each frame has four planes of W/2 by H/2, by parity of row and column": a plane of the frame whose samples are at hand
+unfoldable pub planeImage : List ℕ → (width height rowParity columnParity : ℕ) → Image
+planeImage samples width height rowParity columnParity = planeOf (sampleAt (frameOf width height) samples 0) rowParity columnParity
 
 -- the samples of one frame of a burst
 unfoldable pub framePart : Shape → List ℕ → (frame : ℕ) → List ℕ
 framePart s samples frame = take (s .width * s .height) (drop (frame * (s .width * s .height)) samples)
-
--- "Each frame has four planes of W/2 by H/2, by parity of row and column": the plane of `width` columns
-unfoldable pub planeImage : List ℕ → (width rowParity columnParity : ℕ) → Image
-planeImage samples width rowParity columnParity = planeOf (frameImage samples (2 * width)) rowParity columnParity
 
 -- "Tiles have side 16": a tile of an image, at an origin that may lie outside
 unfoldable pub tileOf : (side height width : ℕ) → Image → ℤ → ℤ → List (List ℕ)
@@ -27,11 +27,11 @@ tileOf side height width image y x = grid side side (λ i j. read height width i
 
 -- "A view of one plane reads the caller's samples": one of them
 unfoldable pub planeSample : ℤ → ℤ → List ℕ → (width height rowParity columnParity : ℕ) → ℕ
-planeSample y x samples width height rowParity columnParity = read height width (planeImage samples width rowParity columnParity) y x
+planeSample y x samples width height rowParity columnParity = read height width (planeImage samples width height rowParity columnParity) y x
 
 -- a tile of the plane at row y and column x, and one row of a tile
 unfoldable pub planeTile : (side : ℕ) → ℤ → ℤ → List ℕ → (width height rowParity columnParity : ℕ) → List (List ℕ)
-planeTile side y x samples width height rowParity columnParity = tileOf side height width (planeImage samples width rowParity columnParity) y x
+planeTile side y x samples width height rowParity columnParity = tileOf side height width (planeImage samples width height rowParity columnParity) y x
 
 unfoldable pub planeRow : (side : ℕ) → ℤ → ℤ → List ℕ → (width height rowParity columnParity : ℕ) → List ℕ
 planeRow side y x samples width height rowParity columnParity = tab side (λ j. planeSample y (x +ℤ pos j) samples width height rowParity columnParity)
