@@ -4,7 +4,9 @@ use mathlib.Core.Logic.{⊎-elim}
 use Prim.Native.Nat.{ℕ, zero, suc, _+_, _*_, _/_, _≤_, _<_, _^_}
 use native.Mathlib.Nat.{mul-le-mul, pow-suc, pow-le-pow-right, eq-or-lt-of-le}
 use native.Mathlib.Omega.{arith}
-use Rattle.pyramid.specs.Chain.{halves, words}
+use Rattle.geometry.specs.Read.{Image}
+use Rattle.pyramid.specs.PyramidLaws.{halved-agree}
+use Rattle.pyramid.specs.Chain.{halves, words, chain}
 
 -- a size stays at most the first, and above 0 down to the last image
 pub size-most : (size k : ℕ) → halves size k ≤ size
@@ -20,6 +22,14 @@ size-least size (suc k) m h = omega (arith, size-least size k (m * 2) (omega (ar
 pub size-some : (size k : ℕ) → 32 ≤ size → k ≤ 5 → 0 < halves size k
 size-some size k h l = size-least size k 1 (omega (arith, pow-le-pow-right {n = 2} (omega arith) {i = k} {j = 5} l))
 
+-- the images of a chain depend on the values inside image 0 alone
+pub chain-agree : (height width : ℕ) (f g : Image) → 32 ≤ height → 32 ≤ width → ((row column : ℕ) → row < height → column < width → f row column ≡ g row column)
+    → (k : ℕ) → k ≤ 5 → (row column : ℕ) → row < halves height k → column < halves width k → chain height width f k row column ≡ chain height width g k row column
+unfolding chain halves
+chain-agree height width f g high wide e zero h = e
+chain-agree height width f g high wide e (suc k) h =
+    λ row column a b. halved-agree _ _ (size-some height k high (omega arith)) (size-some width k wide (omega arith)) _ _ (chain-agree height width f g high wide e k (omega arith)) row column
+
 -- half of each side
 pub quarter : (h w : ℕ) → 4 * (h / 2 * (w / 2)) ≤ h * w
 quarter h w = omega (arith, mul-le-mul {n₁ = 2 * (h / 2)} {m₁ = 2 * (w / 2)} {n₂ = h} {m₂ = w} (omega arith) (omega arith))
@@ -28,6 +38,10 @@ module _ (height width : ℕ) where
   pub words-next : (k : ℕ) → words height width (suc k) ≡ words height width k + halves height k * halves width k
   unfolding words
   words-next k = refl
+
+  pub words-first : words height width 1 ≡ height * width
+  unfolding words halves
+  words-first = omega arith
 
   pub words-rise : (j k : ℕ) → j ≤ k → words height width j ≤ words height width k
   unfolding words

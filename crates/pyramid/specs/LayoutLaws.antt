@@ -6,8 +6,8 @@ use Rattle.geometry.specs.declared.Shape.{Shape}
 use Rattle.geometry.specs.Shape.{workLength}
 use Rattle.geometry.specs.Read.{Image}
 use Rattle.geometry.specs.Tiles.{level0, level1, level2, level3, levelSize}
-use Rattle.pyramid.specs.Pyramid.{halved, quartered, image0, image1, image2, image3}
-use Rattle.pyramid.specs.Chain.{halves, words, chain}
+use Rattle.pyramid.specs.Pyramid.{quartered, image0, image1, image2, image3}
+use Rattle.pyramid.specs.Chain.{halves, chain}
 use Rattle.pyramid.specs.ChainLaws.{quarter, words-third}
 use Rattle.pyramid.specs.Layout.{offset, pyramidLength}
 
@@ -19,10 +19,6 @@ chain-quarter height width image k = refl
 
 -- which sizes are a level's
 module _ (size : ℕ) where
-  pub size0 : halves (levelSize level0 size) 0 ≡ levelSize level0 size
-  unfolding halves
-  size0 = refl
-
   pub size1 : halves (levelSize level0 size) 1 ≡ levelSize level1 size
   unfolding halves levelSize
   size1 = omega arith

@@ -3,9 +3,7 @@ pub mod PyramidLaws
 pub mod Frame
 pub mod Words
 pub mod WordsLaws
-pub mod Lay
 pub mod Chain
 pub mod ChainLaws
-pub mod Halving
 pub mod Layout
 pub mod LayoutLaws

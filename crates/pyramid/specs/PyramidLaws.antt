@@ -2,14 +2,10 @@
 use mathlib.Core.Path.{_≡_, ap}
 use Prim.Native.Nat.{ℕ, _+_, _*_, _/_, _≤_, _<_}
 use native.Mathlib.Omega.{arith}
-use lib.IntN.{ℤ, pos, negsuc}
+use lib.IntN.{ℤ}
 use Rattle.geometry.specs.Read.{Image, inside, read}
+use Rattle.geometry.specs.ReadLaws.{inside-below}
 use Rattle.pyramid.specs.Pyramid.{bayerSum, tap, weighted, halved}
-
-pub inside-below : (size : ℕ) (z : ℤ) → 0 < size → inside size z < size
-unfolding inside
-inside-below size (pos k) h = omega arith
-inside-below size (negsuc k) h = h
 
 -- equal values at the four places, equal weighted sums
 weighted-agree : (p : ℕ) (f g : ℤ → ℕ) → ((z : ℤ) → f z ≡ g z) → weighted p f ≡ weighted p g

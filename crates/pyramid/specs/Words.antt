@@ -1,7 +1,7 @@
 -- Images in the work area: a row of them after the other, a word for each value.
 use mathlib.Core.Path.{_≡_}
 use mathlib.Core.List.{List}
-use Prim.Native.Nat.{ℕ, _+_, _*_, _/_, _%_, _≤_, _<_, _^_}
+use Prim.Native.Nat.{ℕ, _+_, _*_, _/_, _%_, _≤_, _<_}
 use lib.IntN.{ℤ, pos, natAbs}
 use lib.ListN.{length, getD}
 use Rattle.geometry.specs.Read.{Image}
@@ -44,8 +44,8 @@ pub record Row (words : List ℤ) (at n : ℕ) : Type 0 where
 pub record Source (words : List ℤ) (from height width : ℕ) : Type 0 where
   pub high : 0 < height
   pub wide : 0 < width
-  pub high-small : height < 2 ^ 32
-  pub wide-small : width < 2 ^ 32
+  pub high-small : height ≤ 4096
+  pub wide-small : width ≤ 4096
   pub holds : Holds words from height width (imageAt words from width)
 
 -- l has d's length and its first n words

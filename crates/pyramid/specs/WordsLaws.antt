@@ -2,21 +2,18 @@
 use mathlib.Core.Path.{_≡_, sym, ap, ap₂, _∙_, subst}
 use mathlib.Core.List.{List, _++_}
 use Prim.Native.Nat.{ℕ, _+_, _-_, _*_, _/_, _%_, _≤_, _<_}
-use native.Mathlib.Nat.{le-trans, mul-le-mul-right, suc-mul, mul-add-div-right, mul-add-mod-self-right, div-eq-of-lt, mod-eq-of-lt}
+use native.Mathlib.Nat.{mul-le-mul-right, suc-mul, mul-add-div-right, mul-add-mod-self-right, div-eq-of-lt, mod-eq-of-lt}
 use native.Mathlib.Omega.{arith}
 use lib.IntN.{ℤ, pos, natAbs}
 use lib.ListN.{length, getD, take, drop, List·getD-append}
 use lib.Seq.{length-paste-head, length-take-le, getD-take}
 use Rattle.geometry.specs.Read.{Image}
+use Rattle.geometry.specs.ReadLaws.{cell-below}
 use Rattle.sequences.specs.Tab.{tab, length-tab}
 use Rattle.sequences.specs.Write.{written, Writing, written-in, written-before, written-after, written-length}
 use Rattle.pyramid.specs.Pyramid.{halved}
 use Rattle.pyramid.specs.PyramidLaws.{halved-agree}
 use Rattle.pyramid.specs.Words.{wordAt, imageAt, wordOf, laid, Holds, Row, Source, Kept}
-
--- a place of a table lies in it
-pub cell-below : (row column height width : ℕ) → row < height → column < width → row * width + column < height * width
-cell-below row column height width h k = le-trans (omega (arith, suc-mul row width)) (mul-le-mul-right width h)
 
 -- the row and the column of a place
 pub place-row : (row column width : ℕ) → column < width → (row * width + column) / width ≡ row

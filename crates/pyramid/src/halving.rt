@@ -8,6 +8,7 @@ ghost use Rattle.sequences.specs.Write.{written};
 ghost use Rattle.pyramid.specs.Pyramid.{weights, tap, weighted, halved};
 ghost use Rattle.pyramid.specs.Words.{wordAt, imageAt, laid, Held, Row, Source};
 ghost use Rattle.pyramid.specs.Chain.{Room, Halvings};
+use geometry::read;
 
 // 1 3 3 1
 fn weigh(a: u64, b: u64, c: u64, d: u64) -> u64
@@ -19,14 +20,14 @@ fn weigh(a: u64, b: u64, c: u64, d: u64) -> u64
 
 // The index that is read at the place number `k` of the four around `p`.
 fn tap_index(size: usize, p: usize, k: usize) -> usize
-    requires { ⌜ (0 < size) × (size < 2 ^ 32) × (p < size) × (k < 4) ⌝ }
+    requires { ⌜ (0 < size) × (size ≤ 4096) × (p < size) × (k < 4) ⌝ }
     ensures { λ r. ⌜ (r ≡ inside size (tap p k)) × (r < size) ⌝ }
 {
     let q = 2 * p + k;
-    if q == 0 {
-        return 0;
+    if q >= 1 && q <= size {
+        return q - 1;
     }
-    if q <= size { q - 1 } else { size - 1 }
+    read::inside(q as i64 - 1, size)
 }
 
 // A word that is not negative, as a number.
@@ -39,7 +40,7 @@ fn word(work: &[i64], k: usize) -> u64
 
 // The value of one row at the place number `k` of the four around `p`.
 fn tap_value(work: &[i64], start: usize, width: usize, p: usize, k: usize) -> u64
-    requires { ⌜ (Row (now work) start width) × (p < width) × (width < 2 ^ 32) × (k < 4) ⌝ }
+    requires { ⌜ (Row (now work) start width) × (p < width) × (width ≤ 4096) × (k < 4) ⌝ }
     ensures { λ r. ⌜ (r ≡ wordAt (now (work .entry)) (start + inside width (tap p k))) × (r ≤ 16380) ⌝ }
 {
     let i = start + tap_index(width, p, k);
@@ -48,7 +49,7 @@ fn tap_value(work: &[i64], start: usize, width: usize, p: usize, k: usize) -> u6
 
 // The values of one row at the four places around `p`, weighed.
 fn row_sum(work: &[i64], start: usize, width: usize, p: usize) -> u64
-    requires { ⌜ (Row (now work) start width) × (p < width) × (width < 2 ^ 32) ⌝ }
+    requires { ⌜ (Row (now work) start width) × (p < width) × (width ≤ 4096) ⌝ }
     ensures { λ r. ⌜ (r ≡ weighted p (λ x. wordAt (now (work .entry)) (start + inside width x))) × (r ≤ 131040) ⌝ }
 {
     let a = tap_value(work, start, width, p, 0);

@@ -1,3 +1,39 @@
 // The pyramid of a frame: level 0, halving, and the four levels in the work area.
 pub mod halving;
 pub mod squares;
+
+ghost use mathlib.Core.Path.{_≡_};
+ghost use Prim.Native.Nat.{_+_, _≤_};
+ghost use lib.ListN.{length};
+ghost use Rattle.geometry.specs.Shape.{Allowed};
+ghost use Rattle.geometry.specs.Read.{sampleAt};
+ghost use Rattle.pyramid.specs.Frame.{Frame};
+ghost use Rattle.pyramid.specs.Layout.{offset, pyramidLength, Built};
+use crate::halving::halve_down;
+use crate::squares::lay_squares;
+use geometry::Shape;
+
+// The pyramid of a frame, from `at` on.
+pub fn build(shape: Shape, frame: usize, samples: &[u16], work: &mut [i64], at: usize)
+    requires { ⌜ (Frame shape frame (now samples)) × (at + pyramidLength shape ≤ length (now work)) ⌝ }
+    ensures { λ _. ⌜ Built shape (sampleAt shape (now (samples .entry)) frame) at (now (work .entry)) (now (work .exit)) ⌝ }
+{
+    lay_squares(shape, frame, samples, &mut *work, at);
+    halve_down(&mut *work, at, shape.height / 2, shape.width / 2);
+}
+
+// How many words of a pyramid stand before its image number `k`.
+pub fn offset(shape: Shape, k: usize) -> usize
+    requires { ⌜ (Allowed shape) × (k ≤ 6) ⌝ }
+    ensures { λ r. ⌜ (r ≡ offset shape k) × (r ≤ 5592405) ⌝ }
+{
+    let mut height = shape.height / 2;
+    let mut width = shape.width / 2;
+    let mut sum: usize = 0;
+    for _ in 0..k {
+        sum += height * width;
+        height = height / 2;
+        width = width / 2;
+    }
+    sum
+}

@@ -9,14 +9,14 @@ ghost use Rattle.pyramid.specs.Pyramid.{bayerSum};
 ghost use Rattle.pyramid.specs.Frame.{Frame};
 ghost use Rattle.pyramid.specs.Words.{laid};
 use geometry::Shape;
+use geometry::read::sample_at;
 
 // A sample of a frame.
 fn sample(shape: Shape, frame: usize, samples: &[u16], row: usize, column: usize) -> u64
     requires { ⌜ (Frame shape frame (now samples)) × (row < shape .height) × (column < shape .width) ⌝ }
     ensures { λ r. ⌜ (r ≡ sampleAt shape (now (samples .entry)) frame row column) × (r ≤ 4095) ⌝ }
 {
-    let place = (frame * shape.height + row) * shape.width + column;
-    samples[place] as u64
+    sample_at(shape, samples, frame, row, column) as u64
 }
 
 // The sum of a 2 by 2 Bayer square.

@@ -1,6 +1,6 @@
 -- Each turn halves the last image into the words after it.
 use Rattle.pyramid.specs.Words.{imageAt}
-use Rattle.pyramid.specs.Halving.{Halving, halving-start, halving-source, halving-room, halving-turn}
+use Rattle.pyramid.proofs.Descent.{Halving, halving-start, halving-source, halving-room, halving-turn}
 use borrow.Author.Needs.{needs}
 use native.Mathlib.Omega.{arith}
 use mathlib.Core.Path.{_≡_}

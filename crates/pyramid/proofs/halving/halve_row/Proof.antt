@@ -51,8 +51,11 @@ loop-again c =
     let s = c .before .before .before .before in
     let a = s .args in
     let w = c .before .before .before .loop .inv in
-    let e = kept-halved (writing-kept w) (a .from) (a .height) (a .width) (omega arith) (s .pre .0) (a .row) _ in
-    write-turn w (omega arith) (toZ-pos w64 _ (omega arith) ∙ ap pos (c .halved-value .ensures .0 ∙ e))
+    let k = writing-kept w in
+    write-turn w (omega arith)
+    (toZ-pos w64 _ (omega arith)
+    ∙ ap pos (c .halved-value .ensures .0)
+    ∙ ap pos (kept-halved k (a .from) (a .height) (a .width) (omega arith) (s .pre .0) (a .row) _))
 
 same-length : tie.Need-same-length Inv-loop μ-loop
 same-length c = search needs

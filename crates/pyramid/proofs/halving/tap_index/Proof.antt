@@ -1,35 +1,30 @@
--- The index read at a place is found by comparing with the size.
-use borrow.Author.Needs.{needs}
-use native.Mathlib.Omega.{arith}
-use mathlib.Core.Path.{_≡_, ap, _∙_}
-use Prim.Native.Nat.{ℕ, _+_, _-_, _*_, _≤_, _<_}
+-- Inside, the place is the index itself; at an edge the index is looked up.
+use borrow.Author.Tests.{leb-true}
+use mir.Syntax.{w64}
+use mir.Val.{SFits, toZ, ofZ}
+use mir.Facts.{toZ-ofZ}
+use mir.ValLaws.{toZ-pos}
+use Rattle.algebra.specs.Bound.{sub-fits, lit-most}
 use lib.IntN.{pos, _-ℤ_}
 use Rattle.algebra.specs.Order.{zarith, sub-pn, min-pn}
 use Rattle.geometry.specs.Read.{inside}
+use Rattle.geometry.specs.ReadLaws.{inside-same}
 use Rattle.pyramid.specs.Pyramid.{tap}
+use native.Mathlib.Omega.{arith}
+use mathlib.Core.Path.{_≡_, sym, ap, _∙_}
+use Prim.Native.Nat.{ℕ, _+_, _-_, _*_, _≤_, _<_, _^_}
+use borrow.Author.Needs.{needs}
 use Rattle.pyramid.proofs.halving.tap_index.Statement.{statement}
 use Rattle.pyramid.proofs.halving.tap_index.Tie as tie
 
 minus-one : (q : ℕ) → 0 < q → pos (q - 1) ≡ pos q -ℤ pos 1
 minus-one q h = omega (zarith, sub-pn (pos q) (pos 1), min-pn (pos q -ℤ pos 1))
 
-before-first : (size q : ℕ) → q ≡ 0 → 0 ≡ inside size (pos q -ℤ pos 1)
-unfolding inside
-before-first size q h = rw h
+place-fits : (q : ℕ) → q ≤ 2 ^ 32 → SFits w64 (pos q -ℤ pos 1)
+place-fits q h = sub-fits w64 (pos q) (pos 1) (2 ^ 32) 1 (record { most = h }) (lit-most 1) tt
 
-among : (size q : ℕ) → 0 < q → q ≤ size → q - 1 ≡ inside size (pos q -ℤ pos 1)
-unfolding inside
-among size q h l = at ∙ ap (inside size) (minus-one q h)
-  where
-    at : q - 1 ≡ inside size (pos (q - 1))
-    at = omega arith
-
-after-last : (size q : ℕ) → size < q → size - 1 ≡ inside size (pos q -ℤ pos 1)
-unfolding inside
-after-last size q h = at ∙ ap (inside size) (minus-one q (omega arith))
-  where
-    at : size - 1 ≡ inside size (pos (q - 1))
-    at = omega arith
+place : (q : ℕ) → q ≤ 2 ^ 32 → toZ w64 (ofZ w64 (toZ w64 q -ℤ pos 1)) ≡ pos q -ℤ pos 1
+place q h = rw (toZ-pos w64 q (omega arith)) (toZ-ofZ (place-fits q h))
 
 mul-q : tie.Need-mul-q
 mul-q c = search needs
@@ -39,22 +34,21 @@ add-q c = search needs
 
 returns : tie.Need-returns
 unfolding tap
-returns c = (before-first _ (2 * c .before .args .p + c .before .args .k) (omega arith), omega arith)
+returns c = let a = c .before .before .args in (sym (ap (inside (a .size)) (sym (minus-one (2 * a .p + a .k) (omega arith))) ∙ inside-same (a .size) (2 * a .p + a .k - 1) (omega (arith, leb-true))), omega (arith, leb-true))
 
-sub-result : tie.Need-sub-result
-sub-result c = search needs
+cast-inside : tie.Need-cast-inside
+cast-inside c = search needs
 
-sub-result-2 : tie.Need-sub-result-2
-sub-result-2 c = search needs
+sub-inside : tie.Need-sub-inside
+sub-inside c = let q = 2 * c .before .args .p + c .before .args .k in rw (toZ-pos w64 q (omega arith)) (place-fits q (omega arith))
+
+inside-requires : tie.Need-inside-requires
+inside-requires c κs = search needs
 
 returns-2 : tie.Need-returns-2
 unfolding tap
-returns-2 c = (among _ (2 * c .before .before .args .p + c .before .before .args .k) (omega arith) (omega arith), omega arith)
-
-returns-3 : tie.Need-returns-3
-unfolding tap
-returns-3 c = (after-last _ (2 * c .before .before .args .p + c .before .before .args .k) (omega arith), omega arith)
+returns-2 c = let a = c .before .before .args in (rw (place (2 * a .p + a .k) (omega arith)) at (c .inside .ensures .0), c .inside .ensures .1)
 
 pub tap-index-spec : {M : Type 1} → statement M
 tap-index-spec =
-    tie.close (tie.spec mul-q add-q returns sub-result sub-result-2 returns-2 returns-3)
+    tie.close (tie.spec mul-q add-q returns cast-inside sub-inside inside-requires returns-2)

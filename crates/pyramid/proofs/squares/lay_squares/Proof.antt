@@ -1,7 +1,7 @@
 -- Level 0 is laid row by row.
 use Rattle.geometry.specs.Read.{sampleAt}
 use Rattle.pyramid.specs.Pyramid.{bayerSum}
-use Rattle.pyramid.specs.Lay.{Laying, lay-start, lay-turn, lay-done, row-room}
+use Rattle.pyramid.proofs.Lay.{Laying, lay-start, lay-turn, lay-done, row-room}
 use borrow.Author.Needs.{needs}
 use native.Mathlib.Omega.{arith}
 use mathlib.Core.Path.{refl}

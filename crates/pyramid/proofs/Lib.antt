@@ -1,0 +1,3 @@
+pub mod Lay
+pub mod Descent
+pub mod Building

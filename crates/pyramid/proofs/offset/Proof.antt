@@ -1,0 +1,80 @@
+-- The loop sums the words of the images before number k.
+use mathlib.Core.Path.{ap₂, _≡_, refl, ap, _∙_}
+use native.Mathlib.Nat.{mul-le-mul}
+use native.Mathlib.Numerals.{add-one}
+use Rattle.pyramid.specs.Chain.{halves, words}
+use Rattle.pyramid.specs.ChainLaws.{words-rise, words-third}
+use Rattle.pyramid.specs.Layout.{offset}
+use Rattle.geometry.specs.Tiles.{levelSize}
+use borrow.Author.Needs.{needs}
+use native.Mathlib.Omega.{arith}
+use Prim.Native.Nat.{ℕ, _+_, _-_, _*_, _/_, _≤_, _<_}
+use Rattle.pyramid.proofs.offset.Statement.{statement}
+use Rattle.pyramid.proofs.offset.Tie as tie
+
+-- the words of the images before number i are summed, of k
+record Summing (height width k i h w sum : ℕ) : Type 0 where
+  count : i ≤ k
+  high : h ≡ halves height i
+  wide : w ≡ halves width i
+  is : sum ≡ words height width i
+
+module _ {height width k : ℕ} where
+  sum-start : Summing height width k 0 height width 0
+  unfolding halves words
+  sum-start = record { count = omega arith; high = refl; wide = refl; is = refl }
+
+  sum-turn : {i h w sum : ℕ} → Summing height width k i h w sum → i < k → Summing height width k (i + 1) (h / 2) (w / 2) (sum + h * w)
+  unfolding halves words
+  sum-turn {i} s less =
+      rw (add-one i)
+      (record {
+        count = omega arith;
+        high = ap (λ x. x / 2) (s .high);
+        wide = ap (λ x. x / 2) (s .wide);
+        is = ap₂ _+_ (s .is) (ap₂ _*_ (s .high) (s .wide));
+      })
+
+  -- which stay few
+  sum-most : {i h w sum : ℕ} → Summing height width k i h w sum → i ≤ 6 → height ≤ 2048 → width ≤ 2048 → sum ≤ 5592405
+  sum-most {i} s less a b =
+      omega (arith, s .is, words-rise height width i 6 less, words-third height width, mul-le-mul {n₁ = height} {m₁ = width} {n₂ = 2048} {m₂ = 2048} a b)
+
+abbrev Inv-loop : tie.InvT-loop
+Inv-loop k height₀ width₀ sum₀ counter₀ height width sum counter = Summing height₀ width₀ k counter height width sum
+
+abbrev μ-loop : tie.MeasureT-loop
+μ-loop k height₀ width₀ sum₀ counter₀ height width sum counter = k - counter
+
+loop-holds : tie.Need-loop-holds Inv-loop μ-loop
+loop-holds c = sum-start
+
+bound : (c : tie.In-loop Inv-loop μ-loop) → let s = c .before .loop in s .sum + s .height * s .width ≤ 5592405
+bound c = sum-most (sum-turn (c .before .loop .inv) (omega arith)) (omega arith) (omega arith) (omega arith)
+
+mul-sum : tie.Need-mul-sum Inv-loop μ-loop
+mul-sum c = omega (arith, bound c)
+
+add-sum : tie.Need-add-sum Inv-loop μ-loop
+add-sum c = omega (arith, bound c)
+
+add-counter : tie.Need-add-counter Inv-loop μ-loop
+add-counter c = search needs
+
+loop-less : tie.Need-loop-less Inv-loop μ-loop
+loop-less c = search needs
+
+loop-again : tie.Need-loop-again Inv-loop μ-loop
+loop-again c = sum-turn (c .before .loop .inv) (omega arith)
+
+returns : tie.Need-returns Inv-loop μ-loop
+unfolding offset levelSize
+returns c =
+    let s = c .before .loop in
+    let all : s .counter ≡ c .before .before .before .before .args .k = omega arith in
+    (s .inv .is ∙ ap (words _ _) all, sum-most (s .inv) (omega arith) (omega arith) (omega arith))
+
+pub offset-spec : {M : Type 1} → statement M
+offset-spec =
+    tie.close
+    (tie.spec Inv-loop μ-loop loop-holds mul-sum add-sum add-counter loop-less loop-again returns)
