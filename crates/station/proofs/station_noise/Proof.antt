@@ -6,9 +6,9 @@ use borrow.Author.Needs.{needs}
 use Rattle.noise.specs.declared.Noise.the-variants.{Measured}
 use Rattle.noise.specs.declared.Levels.the-variants.{Found}
 use Rattle.noise.specs.Levels.{levelsOf, shotLevel, readLevel, strengthRefusal}
-use Rattle.noise.specs.LevelLaws.{shot-level-bound, read-level-bound}
+use Rattle.noise.specs.LevelLaws.{shot-level-bound, read-level-bound, strength-most}
 use Rattle.station.specs.Station.{answered, noiseQuestion}
-use Rattle.station.proofs.Answers.{refused, too-strong, too-bright, numbered, strength-most}
+use Rattle.station.proofs.Answers.{refused, too-strong, too-bright, numbered}
 use Rattle.station.proofs.station_noise.Statement.{statement}
 use Rattle.station.proofs.station_noise.Tie as tie
 
