@@ -26,13 +26,13 @@ use Rattle.plane_view.proofs.PlaneView as T
 use Rattle.plane_view.proofs.PlaneView.Laws as T′
 
 -- the view's type, over a signature's lifetimes
-abbrev pub B : Lfts 1 → RattleType
-B κs = T.the-row (namedLft 1 0 tt κs)
+abbrev pub ViewType : Lfts 1 → RattleType
+ViewType κs = T.the-row (namedLft 1 0 tt κs)
 
 module _ (R : RattleType) where
   abbrev pub of-view : Ended
   of-view = record {
-    signature = record { lifetimes = 1; outlives = []; params = plain B ∷ plain (λ _. i64) ∷ plain (λ _. i64) ∷ []; result = plain (λ _. R) };
+    signature = record { lifetimes = 1; outlives = []; params = plain ViewType ∷ plain (λ _. i64) ∷ plain (λ _. i64) ∷ []; result = plain (λ _. R) };
     kept = (yes, (yes, (yes, tt)));
   }
 

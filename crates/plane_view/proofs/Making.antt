@@ -37,7 +37,7 @@ use denote.Triple.Walked.{says, needs, Stays, stay-none, stay-none-slice, walkOf
 use denote.Exit.{yes}
 use denote.Triple.Clauses.{closing, ensured, lasts}
 use Rattle.plane_view.specs.declared.PlaneView.{PlaneView}
-use Rattle.plane_view.proofs.Contracts.{B, of-view, of-fields, view-of, view-clauses, field-clauses, OfView, local-of, place-val, slice-val, fields, view-vals, field-vals}
+use Rattle.plane_view.proofs.Contracts.{ViewType, of-view, of-fields, view-of, view-clauses, field-clauses, OfView, local-of, place-val, slice-val, fields, view-vals, field-vals}
 use Rattle.plane_view.proofs.PlaneView as T
 use Rattle.plane_view.proofs.PlaneView.Laws as T′
 
@@ -83,7 +83,7 @@ module _ (R : RattleType) (Fine : PlaneView → ℤ → ℤ → Type 0) (found :
     Own = ShrSlice (named 0) κ u16 .own (d .samples) (sv ∷ [])
 
     abbrev OwnD : Fml
-    OwnD = B (κ, tt) .own d (mach ∷ [])
+    OwnD = ViewType (κ, tt) .own d (mach ∷ [])
 
     abbrev D : Declared
     D = T.the-type (namedLft 1 0 tt (κ, tt))
@@ -99,7 +99,7 @@ module _ (R : RattleType) (Fine : PlaneView → ℤ → ℤ → Type 0) (found :
     to = (((κ, tt), (q, tt), tt, (d, (y, (x, tt))), passed), tt)
 
     asked : Fine d y x → ent 𝓤 (onEntry 𝓤 H A (of-view R .signature) (κ, tt) (q, tt) (d, (y, (x, tt))) passed) (Callee .pre to)
-    asked fine = qed W ((‵ (flft κ q) ⊛ ‵ ftrue) ∷ ‵ (owns (B (κ, tt) ∷ i64 ∷ i64 ∷ []) (d, (y, (x, tt))) passed) ∷ []) ∵ says ! fine $ frame ! $ done !
+    asked fine = qed W ((‵ (flft κ q) ⊛ ‵ ftrue) ∷ ‵ (owns (ViewType (κ, tt) ∷ i64 ∷ i64 ∷ []) (d, (y, (x, tt))) passed) ∷ []) ∵ says ! fine $ frame ! $ done !
 
     -- the slice is Copy: one copy of what it owns is kept, and the other goes into the struct
     goes : Fine d y x → ent 𝓤 (onEntry 𝓤 H A (of-fields R .signature) (κ, tt) (q, tt) (y, (x, vd)) at) (sep 𝓤 (Callee .pre to) (sem 𝓤 H A Own))

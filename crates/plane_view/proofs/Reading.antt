@@ -37,7 +37,7 @@ use denote.Triple.Walked.{says, needs, Stays, stay-none, walkOf, goes-none, Walk
 use denote.Exit.{yes}
 use denote.Triple.Clauses.{closing, ensured, lasts}
 use Rattle.plane_view.specs.declared.PlaneView.{PlaneView}
-use Rattle.plane_view.proofs.Contracts.{B, of-view, of-fields, view-clauses, field-clauses, OfFields, local-of, place-val, fields, view-vals, field-vals}
+use Rattle.plane_view.proofs.Contracts.{ViewType, of-view, of-fields, view-clauses, field-clauses, OfFields, local-of, place-val, fields, view-vals, field-vals}
 use Rattle.plane_view.proofs.PlaneView as T
 use Rattle.plane_view.proofs.PlaneView.Laws as T′
 
@@ -64,7 +64,7 @@ module _ (R : RattleType) (Fine : PlaneView → ℤ → ℤ → Type 0) (found :
     (τ : Ty) (typed : (x : R .Denot) (u : Val) → Is R x (u ∷ []) → Holds (hasTy τ u) × WT u) (callee : Name)
     {M : Type 1} (𝓤 : URA M) (H : Heap 𝓤) (A : Atoms 𝓤) where
   abbrev stayed : Stays (of-view R .signature .params) (of-view R .kept)
-  stayed = (stay-none B yes, (stay-none (λ _. i64) yes, (stay-none (λ _. i64) yes, tt)))
+  stayed = (stay-none ViewType yes, (stay-none (λ _. i64) yes, (stay-none (λ _. i64) yes, tt)))
 
   abbrev Callee : Contract 𝓤
   Callee = OfFields R Fine found 𝓤 H A
@@ -80,7 +80,7 @@ module _ (R : RattleType) (Fine : PlaneView → ℤ → ℤ → Type 0) (found :
     Post = walkOf 𝓤 H A (of-view R) stayed (view-clauses R Fine found 𝓤) .post (((κ, tt), (q, tt), tt, (d, (y, (x, tt))), at), tt)
 
     abbrev Own : Fml
-    Own = B (κ, tt) .own d (mach ∷ [])
+    Own = ViewType (κ, tt) .own d (mach ∷ [])
 
     abbrev D : Declared
     D = T.the-type (namedLft 1 0 tt (κ, tt))
@@ -104,7 +104,7 @@ module _ (R : RattleType) (Fine : PlaneView → ℤ → ℤ → Type 0) (found :
     -- what the view owns gives what the callee asks, and is kept
     apart : Fine d y x → ent 𝓤 (onEntry 𝓤 H A (of-view R .signature) (κ, tt) (q, tt) (d, (y, (x, tt))) at) (sep 𝓤 (Callee .pre to) (sem 𝓤 H A Own))
     apart fine =
-        qed W ((‵ (flft κ q) ⊛ ‵ ftrue) ∷ ‵ (owns (B (κ, tt) ∷ i64 ∷ i64 ∷ []) (d, (y, (x, tt))) at) ∷ []) ∵
+        qed W ((‵ (flft κ q) ⊛ ‵ ftrue) ∷ ‵ (owns (ViewType (κ, tt) ∷ i64 ∷ i64 ∷ []) (d, (y, (x, tt))) at) ∷ []) ∵
         move ! (1 ∷ []) $ fsplit ! $ use1 W (‵ Own ⊛ ‵ Own) (LL.copy D (T′.the-copy (namedLft 1 0 tt (κ, tt))) 𝓤 H A W .twice d (mach ∷ [])) $ split ! $
         use1 W (given (mach ∷ [] ≡ mach ∷ []) (‵ (all-own (D .parts) L vd))) (own-open 𝓤 H A W D L vd mach) $ learn ! (λ _.
         -- [what the fields own together; what the view owns; what y and x own; the token]
@@ -155,6 +155,6 @@ module _ (R : RattleType) (Fine : PlaneView → ℤ → ℤ → Type 0) (found :
   pub reading-meets : (W : Given 𝓤 H A) (𝓣 : Tables 𝓤 H) → Triple 𝓤 (𝓣 .C callee) Callee → Meets 𝓤 H A (of-view R .signature) (WpFn 𝓤 H (𝓣 .C) (𝓣 .Λ) (reading τ callee)) (closing 𝓤 H A (of-view R) (view-clauses R Fine found 𝓤))
   reading-meets W 𝓣 known =
       let number = goes-none 𝓤 H A W 1 (λ _. i64) yes (λ κs x f. refl) in
-      walk-meets 𝓤 H A (of-view R) stayed W (goes-none 𝓤 H A W 1 B yes (λ κs x f. refl), (number, (number, tt))) (view-clauses R Fine found 𝓤)
+      walk-meets 𝓤 H A (of-view R) stayed W (goes-none 𝓤 H A W 1 ViewType yes (λ κs x f. refl), (number, (number, tt))) (view-clauses R Fine found 𝓤)
       (WpFn 𝓤 H (𝓣 .C) (𝓣 .Λ) (reading τ callee)) (WpFn-mono 𝓤 H (W .laws) 𝓣 (reading τ callee))
       (walks W (𝓣 .C) (𝓣 .Λ) (fmOf 𝓤 H (W .laws) 𝓣) known)
