@@ -1,6 +1,6 @@
 -- What readers may lean on: a sample's place is among the samples, and an index read outside is one inside.
 use mathlib.Core.Path.{_≡_}
-use Prim.Native.Nat.{ℕ, _+_, _*_, _≤_, _<_}
+use Prim.Native.Nat.{ℕ, _+_, _*_, _<_}
 use native.Mathlib.Nat.{le-trans, mul-le-mul-right, mul-assoc, mul-comm, suc-mul}
 use native.Mathlib.Omega.{arith}
 use lib.IntN.{ℤ, pos, negsuc}

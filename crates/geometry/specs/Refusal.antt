@@ -1,5 +1,5 @@
 -- Refused inputs: "Tested in the order of the numbers, each exactly on its condition. Acceptance is number 0".
-use mathlib.Core.Bool.{Bool, true, false, cond}
+use mathlib.Core.Bool.{Bool, cond}
 use Prim.Native.Nat.{ℕ, zero, suc}
 
 -- one test: its number where its condition holds, else 0

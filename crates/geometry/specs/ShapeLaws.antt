@@ -7,7 +7,7 @@ use native.Mathlib.Omega.{arith}
 use lib.Dec.{T}
 use borrow.Author.Tests.{leb-true, eqb-true, not-false}
 use Rattle.geometry.specs.declared.Shape.{Shape}
-use Rattle.geometry.specs.Refusal.{refuse, _before_}
+use Rattle.geometry.specs.Refusal.{refuse}
 use Rattle.geometry.specs.RefusalLaws.{before-both, refuse-not}
 use Rattle.geometry.specs.Shape.{sizeAllowed, countAllowed, shapeRefusal, AllowedSize, Allowed}
 

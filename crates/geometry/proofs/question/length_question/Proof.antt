@@ -1,5 +1,4 @@
 -- The shape's test, then the length.
-use mathlib.Core.Path.{_≡_, sym, _∙_}
 use borrow.Author.Needs.{needs}
 use borrow.Author.Tests.{eq-eqb, ne-eqb}
 use Rattle.geometry.specs.Question.{lengthQuestion}

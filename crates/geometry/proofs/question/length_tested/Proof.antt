@@ -1,5 +1,4 @@
 -- Each arm of the match at its number.
-use mathlib.Core.Path.{_≡_}
 use borrow.Author.Needs.{needs}
 use borrow.Author.Tests.{ne-eqb}
 use Rattle.geometry.specs.Question.{lengthTested}

@@ -1,4 +1,5 @@
 -- The one test on the reference.
+use native.Mathlib.Omega.{arith}
 use borrow.Author.Tests.{le-leb, lt-leb}
 use Rattle.geometry.specs.Shape.{referenceRefusal}
 use Rattle.geometry.proofs.sizes.reference_refusal.Statement.{statement}
@@ -6,11 +7,11 @@ use Rattle.geometry.proofs.sizes.reference_refusal.Tie as tie
 
 returns : tie.Need-returns
 unfolding referenceRefusal
-returns c = rw (le-leb _ _ (c .if1 .taken))
+returns c = let a = c .before .before .args in rw (le-leb (a .shape .count) (a .reference) (omega arith))
 
 returns-2 : tie.Need-returns-2
 unfolding referenceRefusal
-returns-2 c = rw (lt-leb _ _ (c .if1 .left))
+returns-2 c = let a = c .before .before .args in rw (lt-leb (a .shape .count) (a .reference) (omega arith))
 
 pub reference-refusal-spec : {M : Type 1} → statement M
 reference-refusal-spec = tie.close (tie.spec returns returns-2)

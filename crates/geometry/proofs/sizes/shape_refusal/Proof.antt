@@ -31,19 +31,19 @@ high c = sym (c .before .size-allowed2 .ensures) ∙ not-false _ (c .if2 .left)
 
 returns-3 : tie.Need-returns-3
 unfolding shapeRefusal countAllowed
-returns-3 c = answer (rw (wide (c .before .before .before .before), high (c .before .before), lt-leb _ _ (c .if3 .taken))) (allowed _)
+returns-3 c = answer (rw (wide (c .before .before .before .before), high (c .before .before), lt-leb 2 _ (c .if3 .taken))) (allowed _)
 
 returns-4 : tie.Need-returns-4
 unfolding shapeRefusal countAllowed
 returns-4 c =
     let passed = c .before .before .before .before in
-    answer (rw (wide (passed .before .before), high passed, le-leb _ _ (c .before .before .if3 .left), lt-leb _ _ (c .if4 .taken))) (allowed _)
+    answer (rw (wide (passed .before .before), high passed, le-leb 2 _ (c .before .before .if3 .left), lt-leb _ 8 (c .if4 .taken))) (allowed _)
 
 returns-5 : tie.Need-returns-5
 unfolding shapeRefusal countAllowed
 returns-5 c =
     let passed = c .before .before .before .before in
-    answer (rw (wide (passed .before .before), high passed, le-leb _ _ (c .before .before .if3 .left), le-leb _ _ (c .if4 .left))) (allowed _)
+    answer (rw (wide (passed .before .before), high passed, le-leb 2 _ (c .before .before .if3 .left), le-leb _ 8 (c .if4 .left))) (allowed _)
 
 pub shape-refusal-spec : {M : Type 1} → statement M
 shape-refusal-spec =
