@@ -44,6 +44,10 @@ module _ {s : Shape} {samples : List ℕ} (h : Sampled s samples) where
       let below = none (length samples) (above samples) (refuse-not 10 (some (length samples) (above samples)) (sym (flat h) ∙ e)) in
       record { most = every (λ x. x ≤ 4095) 0 samples (omega arith) (λ k l. ltb-false 4095 (getD samples k 0) (below k l)) }
 
+pub sample-most : {samples : List ℕ} → SamplesFit samples → (s : Shape) (frame row column : ℕ) → sampleAt s samples frame row column ≤ 4095
+unfolding sampleAt
+sample-most fit s frame row column = fit .most (sampleIndex s frame row column)
+
 -- a vector part's test
 unfoldable pub beyond : List ℤ → ℕ → Bool
 beyond vectors k = ltb 172 (natAbs (getD vectors k (pos 0)))
