@@ -1,5 +1,6 @@
 pub mod Side
 pub mod Tables
 pub mod Recipe
+pub mod Lines
 pub mod TableLaws
 pub mod RecipeLaws

@@ -1,11 +1,13 @@
 -- The rules of document 01's tables, each one computed test over the whole table.
-use mathlib.Core.Path.{_≡_}
+use mathlib.Core.Path.{_≡_, ap, _∙_}
 use mathlib.Core.Bool.{Bool, false}
 use Prim.Native.Nat.{ℕ, _+_, _-_, _%_, _≤_, _<_}
-use lib.Dec.{T, eqb, eqb→eq, leb, leb→le}
+use native.Mathlib.Nat.{mod-lt, mod-add-mod}
+use lib.Dec.{T, eqb, eqb→eq, leb, leb→le, lit<}
 use lib.IntN.{ℤ, pos, negsuc, negℤ, natAbs}
 use Rattle.algebra.specs.Test.{all, all-sound}
-use Rattle.transform.specs.Tables.{cosines, cosine16, sine16, windows, window16}
+use Rattle.transform.specs.Side.{cosAt, sinAt}
+use Rattle.transform.specs.Tables.{cosines, cosine16, sine16, windows, window16, side16}
 
 -- equal integers, by a test
 abbrev sameZ : ℤ → ℤ → Bool
@@ -15,10 +17,10 @@ sameZ (negsuc a) (pos b) = false
 sameZ (negsuc a) (negsuc b) = eqb a b
 
 same-sound : (x y : ℤ) → T (sameZ x y) → x ≡ y
-same-sound (pos a) (pos b) t = mathlib.Core.Path.ap pos (eqb→eq a b t)
+same-sound (pos a) (pos b) t = ap pos (eqb→eq a b t)
 same-sound (pos a) (negsuc b) t = absurd t
 same-sound (negsuc a) (pos b) t = absurd t
-same-sound (negsuc a) (negsuc b) t = mathlib.Core.Path.ap negsuc (eqb→eq a b t)
+same-sound (negsuc a) (negsuc b) t = ap negsuc (eqb→eq a b t)
 
 -- f and g agree below n
 agree : (n : ℕ) (f g : ℕ → ℤ) → T (all n (λ k. sameZ (f k) (g k))) → (k : ℕ) → k < n → f k ≡ g k
@@ -53,3 +55,18 @@ window-halves i h = eqb→eq (window16 i + window16 (i + 8)) 4096 (all-sound 8 (
 pub cosine-sine : (k : ℕ) → k < 16 → natAbs (cosine16 k) + natAbs (sine16 k) ≤ 23170
 unfolding sine16 cosine16 cosines
 cosine-sine k h = leb→le (natAbs (cosine16 k) + natAbs (sine16 k)) 23170 (all-sound 16 (λ k. leb (natAbs (cosine16 k) + natAbs (sine16 k)) 23170) tt k h)
+
+-- |C(k)| ≤ 16384, whatever the index
+pub cosine-most : (k : ℕ) → natAbs (cosAt side16 k) ≤ 16384
+unfolding cosAt side16 cosine16 cosines
+cosine-most k =
+    leb→le (natAbs (cosine16 (k % 16))) 16384 (all-sound 16 (λ k. leb (natAbs (cosine16 k)) 16384) tt (k % 16) (mod-lt k (lit< tt)))
+
+-- S(k) = C(k+12) and −S(k) = C(k+4), whatever the index
+pub sine-is : (k : ℕ) → sinAt side16 k ≡ cosAt side16 (k + 12)
+unfolding cosAt sinAt side16 sine16
+sine-is k = ap cosine16 (mod-add-mod k 16 12)
+
+pub minus-sine-is : (k : ℕ) → negℤ (sinAt side16 k) ≡ cosAt side16 (k + 4)
+unfolding cosAt sinAt side16
+minus-sine-is k = minus-sine (k % 16) (mod-lt k (lit< tt)) ∙ ap cosine16 (mod-add-mod k 16 4)

@@ -1,1 +1,3 @@
-// The two-way transform, the Wiener step and the inverse, on tiles.
+// The two-way transform, the Wiener step and the inverse of document 01, on tiles.
+mod lines;
+mod rows;
