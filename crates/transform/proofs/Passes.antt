@@ -2,18 +2,18 @@
 use mathlib.Core.Path.{_≡_, sym, ap, ap₂, _∙_, subst}
 use mathlib.Core.List.{List}
 use Prim.Native.Nat.{ℕ, _+_, _-_, _*_, _/_, _%_, _≤_, _<_, _^_}
-use native.Mathlib.Nat.{zero-add}
+use native.Mathlib.Nat.{zero-add, le-refl, le-trans, add-le-add, mul-add, mul-le-mul-left}
 use lib.IntN.{ℤ, pos, natAbs, _+ℤ_, _*ℤ_}
 use lib.ListN.{getD}
 use mir.Syntax.{w64}
 use mir.Val.{toZ, ofZ}
 use mir.Facts.{toZ-ofZ}
-use Rattle.algebra.specs.Order.{abs-mul-le}
-use Rattle.algebra.specs.Sums.{sumZ-cong, abs-sum-bound}
+use Rattle.algebra.specs.Order.{abs-add, abs-mul-le}
+use Rattle.algebra.specs.Sums.{sumZ-add, sumZ-cong, abs-sum-bound}
 use Rattle.algebra.specs.Bound.{AtMost, most-fits, add-most, add-fits}
 use Rattle.transform.specs.Side.{cosAt}
-use Rattle.transform.specs.Tables.{side16}
-use Rattle.transform.specs.TableLaws.{cosine-most}
+use Rattle.transform.specs.Tables.{cosines, cosine16, side16}
+use Rattle.transform.specs.TableLaws.{cosine-most, pair-most}
 use Rattle.transform.specs.Lines.{against, lineOf, realIn, passRe, passIm}
 use Rattle.transform.proofs.Tiles.{halves}
 
@@ -58,3 +58,27 @@ module _ (re im re' im' : ℕ → ℤ) (p : (i : ℕ) → i < 16 → re i ≡ re
   pub imaginary-ext : passIm shift re im k ≡ passIm shift re' im' k
   unfolding passIm
   imaginary-ext = ap₂ _+ℤ_ (against-ext re re' p k (16 - shift)) (against-ext im im' q k 0)
+
+-- two sums of products against cosines a quarter of the table apart
+module _ (b : ℕ) (f g : ℕ → ℤ) (p : (i : ℕ) → natAbs (f i) ≤ b) (q : (i : ℕ) → natAbs (g i) ≤ b) (k : ℕ) where
+  two-most : (a c : ℕ) → ((n : ℕ) → natAbs (cosAt side16 (n + a)) + natAbs (cosAt side16 (n + c)) ≤ 23170) → natAbs (against f k a +ℤ against g k c) ≤ 16 * (b * 23170)
+  unfolding against
+  two-most a c h =
+      subst (λ z. natAbs z ≤ 16 * (b * 23170)) (sumZ-add 16 (λ i. f i *ℤ cosAt side16 (k * i + a)) (λ i. g i *ℤ cosAt side16 (k * i + c)))
+      (abs-sum-bound 16 (b * 23170) (λ i. f i *ℤ cosAt side16 (k * i + a) +ℤ g i *ℤ cosAt side16 (k * i + c)) (λ i l. term i))
+    where
+      term : (i : ℕ) → natAbs (f i *ℤ cosAt side16 (k * i + a) +ℤ g i *ℤ cosAt side16 (k * i + c)) ≤ b * 23170
+      term i =
+          let x = cosAt side16 (k * i + a) in
+          let y = cosAt side16 (k * i + c) in
+          le-trans (abs-add (f i *ℤ x) (g i *ℤ y))
+          (le-trans (add-le-add (abs-mul-le (f i) x (p i) (le-refl (natAbs x))) (abs-mul-le (g i) y (q i) (le-refl (natAbs y))))
+          (subst (λ n. n ≤ b * 23170) (mul-add b (natAbs x) (natAbs y)) (mul-le-mul-left b (h (k * i)))))
+
+  pub forward-most : (natAbs (passRe 12 f g k) ≤ 16 * (b * 23170)) × (natAbs (passIm 12 f g k) ≤ 16 * (b * 23170))
+  unfolding passRe passIm cosine16 cosines
+  forward-most = (two-most 0 12 (pair-most 0 12 tt), two-most 4 0 (pair-most 4 0 tt))
+
+  pub inverse-most : (natAbs (passRe 4 f g k) ≤ 16 * (b * 23170)) × (natAbs (passIm 4 f g k) ≤ 16 * (b * 23170))
+  unfolding passRe passIm cosine16 cosines
+  inverse-most = (two-most 0 4 (pair-most 0 4 tt), two-most 12 0 (pair-most 12 0 tt))

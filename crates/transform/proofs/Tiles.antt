@@ -10,7 +10,7 @@ use lib.Dec.{ltb}
 use lib.IntN.{ℤ, pos, natAbs}
 use lib.ListN.{getD}
 use Rattle.sequences.specs.Tab.{tab, getD-tab, tab-every}
-use Rattle.sequences.specs.Grid.{grid, tab-ext}
+use Rattle.sequences.specs.Grid.{grid, cell, tab-ext}
 use Rattle.transform.specs.Lines.{LineMost, TileMost, lineOf, linesOf, realIn, imaginaryIn, realAt, imaginaryAt}
 
 module _ (re im : ℕ → ℤ) (j : ℕ) where
@@ -97,3 +97,23 @@ line-more l m = record { at = λ i. omega (arith, m .at i) }
 
 pub tile-more : {b c : ℕ} {t : List (List ℤ)} → b ≤ c → TileMost b t → TileMost c t
 tile-more l m = record { line = λ u. line-more l (m .line u) }
+
+pub cells-most : {b : ℕ} {t : List (List ℤ)} → TileMost b t → (y x : ℕ) → natAbs (cell (pos 0) t y x) ≤ b
+unfolding cell
+cells-most m y x = m .line y .at x
+
+pub turned-most : {b : ℕ} {t : List (List ℤ)} → TileMost b t → TileMost b (linesOf (λ v u. realAt t u v) (λ v u. imaginaryAt t u v))
+unfolding realAt imaginaryAt realIn imaginaryIn
+turned-most {b} {t} m =
+    lines-most b (λ v u. realAt t u v) (λ v u. imaginaryAt t u v) (λ v u. m .line u .at v) (λ v u. m .line u .at (16 + v))
+
+-- a tile a whose parts are known, turned to b
+module _ (re im : ℕ → ℕ → ℤ) {a b : List (List ℤ)} (p : a ≡ linesOf re im) (q : b ≡ linesOf (λ v u. realAt a u v) (λ v u. imaginaryAt a u v)) (v u : ℕ) (h : v < 16) (l : u < 16) where
+  pub turned-real : realAt b v u ≡ re u v
+  turned-real =
+      ap (λ t. realAt t v u) q ∙ real-of (λ v u. realAt a u v) (λ v u. imaginaryAt a u v) v u h l ∙ ap (λ t. realAt t u v) p ∙ real-of re im u v l h
+
+  pub turned-imaginary : imaginaryAt b v u ≡ im u v
+  turned-imaginary =
+      ap (λ t. imaginaryAt t v u) q ∙ imaginary-of (λ v u. realAt a u v) (λ v u. imaginaryAt a u v) v u h l ∙ ap (λ t. imaginaryAt t u v) p
+      ∙ imaginary-of re im u v l h

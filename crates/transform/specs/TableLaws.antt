@@ -1,5 +1,5 @@
 -- The rules of document 01's tables, each one computed test over the whole table.
-use mathlib.Core.Path.{_≡_, ap, _∙_}
+use mathlib.Core.Path.{_≡_, ap, _∙_, subst₂}
 use mathlib.Core.Bool.{Bool, false}
 use Prim.Native.Nat.{ℕ, _+_, _-_, _%_, _≤_, _<_}
 use native.Mathlib.Nat.{mod-lt, mod-add-mod}
@@ -51,11 +51,6 @@ pub window-halves : (i : ℕ) → i < 8 → window16 i + window16 (i + 8) ≡ 40
 unfolding window16 windows
 window-halves i h = eqb→eq (window16 i + window16 (i + 8)) 4096 (all-sound 8 (λ i. eqb (window16 i + window16 (i + 8)) 4096) tt i h)
 
--- |C(k)| + |S(k)| ≤ 23170
-pub cosine-sine : (k : ℕ) → k < 16 → natAbs (cosine16 k) + natAbs (sine16 k) ≤ 23170
-unfolding sine16 cosine16 cosines
-cosine-sine k h = leb→le (natAbs (cosine16 k) + natAbs (sine16 k)) 23170 (all-sound 16 (λ k. leb (natAbs (cosine16 k) + natAbs (sine16 k)) 23170) tt k h)
-
 -- |C(k)| ≤ 16384, whatever the index
 pub cosine-most : (k : ℕ) → natAbs (cosAt side16 k) ≤ 16384
 unfolding cosAt side16 cosine16 cosines
@@ -70,3 +65,14 @@ sine-is k = ap cosine16 (mod-add-mod k 16 12)
 pub minus-sine-is : (k : ℕ) → negℤ (sinAt side16 k) ≡ cosAt side16 (k + 4)
 unfolding cosAt sinAt side16
 minus-sine-is k = minus-sine (k % 16) (mod-lt k (lit< tt)) ∙ ap cosine16 (mod-add-mod k 16 4)
+
+-- |C(k+a)| + |C(k+c)| ≤ 23170 wherever a and c are a quarter of the table apart: |C(k)| + |S(k)|
+module _ (a c : ℕ) where
+  abbrev pair : ℕ → ℕ
+  pair k = natAbs (cosine16 ((k + a) % 16)) + natAbs (cosine16 ((k + c) % 16))
+
+  pub pair-most : T (all 16 (λ k. leb (pair k) 23170)) → (k : ℕ) → natAbs (cosAt side16 (k + a)) + natAbs (cosAt side16 (k + c)) ≤ 23170
+  unfolding cosAt side16
+  pair-most t k =
+      subst₂ (λ m n. natAbs (cosine16 m) + natAbs (cosine16 n) ≤ 23170) (mod-add-mod k 16 a) (mod-add-mod k 16 c)
+      (leb→le (pair (k % 16)) 23170 (all-sound 16 (λ k. leb (pair k) 23170) t (k % 16) (mod-lt k (lit< tt))))

@@ -54,7 +54,7 @@ pub fn dot(x: &[i64; 32], cos: &[i64; 16], from: usize, k: usize, a: usize) -> i
 }
 
 // Real part k of the line's transform; shift 12 is the transform, 4 its inverse.
-fn real(x: &[i64; 32], cos: &[i64; 16], shift: usize, k: usize) -> i64
+pub fn real(x: &[i64; 32], cos: &[i64; 16], shift: usize, k: usize) -> i64
     requires { ⌜ (k < 16) × (shift ≤ 16) × (now cos ≡ cosines) × (LineMost (2 ^ 43) (now x)) ⌝ }
     ensures { λ r. ⌜ (r ≡ passRe shift (realIn (now (x .entry))) (imaginaryIn (now (x .entry))) k) × (AtMost (2 ^ 62) r) ⌝ }
 {
