@@ -11,9 +11,9 @@ use Rattle.geometry.specs.Tiles.{level0, levelSize}
 use Rattle.pyramid.specs.Pyramid.{bayerSum, image0}
 use Rattle.pyramid.specs.PyramidLaws.{bayer-most}
 use Rattle.pyramid.specs.Frame.{Frame}
-use Rattle.pyramid.specs.Words.{imageAt, laid, Holds, Kept}
-use Rattle.pyramid.specs.WordsLaws.{own-image, holds-own, holds-agree, laid-kept, laid-after, laid-holds}
-use Rattle.pyramid.specs.Chain.{words, halves, Room, Halvings}
+use Rattle.pyramid.specs.Words.{imageAt, laid, Holds}
+use Rattle.pyramid.specs.WordsLaws.{Kept, own-image, holds-source, holds-agree, laid-kept, laid-after, laid-holds}
+use Rattle.pyramid.specs.Chain.{wordsBefore, halves, Room, Halvings}
 use Rattle.pyramid.specs.ChainLaws.{chain-agree, words-first, words-rise}
 use Rattle.pyramid.specs.Layout.{offset, pyramidLength, Built}
 use Rattle.pyramid.specs.LayoutLaws.{size1, size3, size5, chain0, chain1, chain3, chain5}
@@ -25,7 +25,7 @@ pub record Begun (height width : ℕ) (image : Image) (at : ℕ) (d m : List ℤ
   pub high-small : height ≤ 4096
   pub wide-small : width ≤ 4096
   pub most : (row column : ℕ) → row < height → column < width → image row column ≤ 16380
-  pub room : at + words height width 6 ≤ length d
+  pub room : at + wordsBefore height width 6 ≤ length d
   pub laying : m ≡ laid d at height width image
 
 module _ {height width : ℕ} {image : Image} {at : ℕ} {d m : List ℤ} (is : Begun height width image at d m) where
@@ -41,14 +41,7 @@ module _ {height width : ℕ} {image : Image} {at : ℕ} {d m : List ℤ} (is : 
   pub begun-room : Room m at height width
   begun-room =
       record {
-        source =
-            record {
-              high = omega (arith, is .high);
-              wide = omega (arith, is .wide);
-              high-small = is .high-small;
-              wide-small = is .wide-small;
-              holds = holds-own first;
-            };
+        source = holds-source (omega (arith, is .high)) (omega (arith, is .wide)) (is .high-small) (is .wide-small) first;
         high = is .high;
         wide = is .wide;
         room = omega (arith, kept .same, is .room);
@@ -99,10 +92,13 @@ built {shape} {frame} h =
     let wide = shape .width in
     record {
       same = h .same;
-      holds0 = rw (← chain0 shape frame) (h .holds 0 (omega arith));
-      holds1 = rw (← size1 high, ← size1 wide, ← chain1 shape frame) (h .holds 1 (omega arith));
-      holds2 = rw (← size3 high, ← size3 wide, ← chain3 shape frame) (h .holds 3 (omega arith));
-      holds3 = rw (← size5 high, ← size5 wide, ← chain5 shape frame) (h .holds 5 (omega arith));
+      levels =
+          record {
+            holds0 = rw (← chain0 shape frame) (h .holds 0 (omega arith));
+            holds1 = rw (← size1 high, ← size1 wide, ← chain1 shape frame) (h .holds 1 (omega arith));
+            holds2 = rw (← size3 high, ← size3 wide, ← chain3 shape frame) (h .holds 3 (omega arith));
+            holds3 = rw (← size5 high, ← size5 wide, ← chain5 shape frame) (h .holds 5 (omega arith));
+          };
       before = h .before;
       after = h .after;
     }

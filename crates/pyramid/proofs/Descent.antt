@@ -11,21 +11,21 @@ use lib.ListN.{length, getD}
 use Rattle.geometry.specs.Read.{Image}
 use Rattle.pyramid.specs.Pyramid.{halved}
 use Rattle.pyramid.specs.PyramidLaws.{halved-agree, halved-most}
-use Rattle.pyramid.specs.Words.{imageAt, laid, Source, Kept}
-use Rattle.pyramid.specs.WordsLaws.{own-image, holds-own, holds-agree, kept-holds, laid-kept, laid-after, laid-holds}
-use Rattle.pyramid.specs.Chain.{halves, words, chain, HoldsImage, Room, Halvings}
+use Rattle.pyramid.specs.Words.{imageAt, laid, Source}
+use Rattle.pyramid.specs.WordsLaws.{Kept, own-image, holds-source, holds-agree, kept-holds, laid-kept, laid-after, laid-holds}
+use Rattle.pyramid.specs.Chain.{halves, wordsBefore, chain, HoldsImage, Room, Halvings}
 use Rattle.pyramid.specs.ChainLaws.{size-most, size-some, words-next, words-rise}
 
 -- l is d with the images 1 .. k after image 0, and the last of them stands at `from` with the height h and the width w
 pub record Halving (height width : ℕ) (image : Image) (at : ℕ) (d : List ℤ) (k : ℕ) (l : List ℤ) (from h w : ℕ) : Type 0 where
-  pub place : from ≡ at + words height width k
+  pub place : from ≡ at + wordsBefore height width k
   pub high : h ≡ halves height k
   pub wide : w ≡ halves width k
   pub done : Halvings height width image at d k l
 
 -- the halving of the image number k that stands in l
 unfoldable nextImage : (height width at k : ℕ) → List ℤ → Image
-nextImage height width at k l = halved (halves height k) (halves width k) (imageAt l (at + words height width k) (halves width k))
+nextImage height width at k l = halved (halves height k) (halves width k) (imageAt l (at + wordsBefore height width k) (halves width k))
 
 rename : {from h w p h′ w′ q : ℕ} (l : List ℤ) → from ≡ p → h ≡ h′ → w ≡ w′ → from + h * w ≡ q
     → laid l (from + h * w) (h / 2) (w / 2) (halved h w (imageAt l from w)) ≡ laid l q (h′ / 2) (w′ / 2) (halved h′ w′ (imageAt l p w′))
@@ -35,24 +35,19 @@ module _ {height width : ℕ} {image : Image} {at : ℕ} {d : List ℤ} {k : ℕ
   last : HoldsImage height width image at l k
   last = b .done .holds k (le-refl k)
 
-  here : Source l (at + words height width k) (halves height k) (halves width k)
+  here : Source l (at + wordsBefore height width k) (halves height k) (halves width k)
   here =
-      record {
-        high = size-some height k (fits .high) (b .done .count);
-        wide = size-some width k (fits .wide) (b .done .count);
-        high-small = omega (arith, size-most height k);
-        wide-small = omega (arith, size-most width k);
-        holds = holds-own last;
-      }
+      holds-source (size-some height k (fits .high) (b .done .count)) (size-some width k (fits .wide) (b .done .count))
+      (omega (arith, size-most height k)) (omega (arith, size-most width k)) last
 
   pub halving-source : Source l from h w
   halving-source = rw (b .place, b .high, b .wide) here
 
-  next : from + h * w ≡ at + words height width (suc k)
+  next : from + h * w ≡ at + wordsBefore height width (suc k)
   next = omega (arith, b .place, ap₂ _*_ (b .high) (b .wide), words-next height width k)
 
   module _ (less : k < 5) where
-    room : at + words height width (suc k) + halves height (suc k) * halves width (suc k) ≤ length l
+    room : at + wordsBefore height width (suc k) + halves height (suc k) * halves width (suc k) ≤ length l
     room = omega (arith, words-next height width (suc k), words-rise height width (suc (suc k)) 6 (omega arith), fits .room, b .done .same)
 
     pub halving-room : from + h * w + h / 2 * (w / 2) ≤ length l
@@ -61,15 +56,15 @@ module _ {height width : ℕ} {image : Image} {at : ℕ} {d : List ℤ} {k : ℕ
 
     -- the next image, its place and size by number
     renamed : laid l (from + h * w) (h / 2) (w / 2) (halved h w (imageAt l from w))
-        ≡ laid l (at + words height width (suc k)) (halves height (suc k)) (halves width (suc k)) (nextImage height width at k l)
+        ≡ laid l (at + wordsBefore height width (suc k)) (halves height (suc k)) (halves width (suc k)) (nextImage height width at k l)
     unfolding halves nextImage
     renamed = rename l (b .place) (b .high) (b .wide) next
 
     module _ {l′ : List ℤ} (e : l′ ≡ laid l (from + h * w) (h / 2) (w / 2) (halved h w (imageAt l from w))) where
-      kept : Kept l (at + words height width (suc k)) l′
+      kept : Kept l (at + wordsBefore height width (suc k)) l′
       kept = rw (e ∙ renamed) (laid-kept l _ _ _ (nextImage height width at k l) room)
 
-      after : (i : ℕ) → at + words height width (suc (suc k)) ≤ i → getD l′ i (pos 0) ≡ getD l i (pos 0)
+      after : (i : ℕ) → at + wordsBefore height width (suc (suc k)) ≤ i → getD l′ i (pos 0) ≡ getD l i (pos 0)
       after i m = rw (e ∙ renamed) (laid-after l _ _ _ (nextImage height width at k l) room i (omega (arith, words-next height width (suc k))))
 
       agrees : (row column : ℕ) → nextImage height width at k l row column ≡ chain height width image (suc k) row column
@@ -113,7 +108,7 @@ module _ {height width : ℕ} {image : Image} {at : ℕ} {d : List ℤ} {k : ℕ
 
 module _ {height width at : ℕ} {d : List ℤ} where
   pub halving-start : Room d at height width → Halving height width (imageAt d at width) at d 0 d at height width
-  unfolding halves words chain
+  unfolding halves wordsBefore chain
   halving-start fits =
       record {
         place = omega arith;

@@ -10,8 +10,8 @@ use lib.Seq.{paste, paste-zero, paste-suc}
 use Rattle.geometry.specs.Read.{Image}
 use Rattle.sequences.specs.Tab.{tab, length-tab, getD-tab}
 use Rattle.sequences.specs.Write.{written, Writing, write-start, write-turn, write-done}
-use Rattle.pyramid.specs.Words.{wordOf, laid, Kept}
-use Rattle.pyramid.specs.WordsLaws.{place-row, place-column, writing-kept}
+use Rattle.pyramid.specs.Words.{wordOf, laid}
+use Rattle.pyramid.specs.WordsLaws.{Kept, place-row, place-column, writing-kept}
 
 -- m stores at once, of g 0 .. g (m − 1)
 module _ {A : Type 0} {d : List A} {at : ℕ} {f : ℕ → A} {n j m : ℕ} {l : List A} {g : ℕ → A} (w : Writing d at f n j l) (room : j + m ≤ n) (e : (k : ℕ) → k < m → g k ≡ f (j + k)) where

@@ -14,9 +14,9 @@ halves size zero = size
 halves size (suc k) = halves size k / 2
 
 -- how many words stand before image number k, where image 0 has the height and the width
-unfoldable pub words : (height width : ℕ) → ℕ → ℕ
-words height width zero = 0
-words height width (suc k) = words height width k + halves height k * halves width k
+unfoldable pub wordsBefore : (height width : ℕ) → ℕ → ℕ
+wordsBefore height width zero = 0
+wordsBefore height width (suc k) = wordsBefore height width k + halves height k * halves width k
 
 -- image number k, where image 0 is the image: each other is the halving of the one before
 unfoldable pub chain : (height width : ℕ) → Image → ℕ → Image
@@ -28,11 +28,11 @@ pub record Room (list : List ℤ) (at height width : ℕ) : Type 0 where
   pub source : Source list at height width
   pub high : 32 ≤ height
   pub wide : 32 ≤ width
-  pub room : at + words height width 6 ≤ length list
+  pub room : at + wordsBefore height width 6 ≤ length list
 
 -- image number k stands at its place
 abbrev pub HoldsImage : (height width : ℕ) → Image → ℕ → List ℤ → ℕ → Type 0
-HoldsImage height width image at l k = Holds l (at + words height width k) (halves height k) (halves width k) (chain height width image k)
+HoldsImage height width image at l k = Holds l (at + wordsBefore height width k) (halves height k) (halves width k) (chain height width image k)
 
 -- l is d with the images 1 .. k after image 0, which stands from `at` on
 pub record Halvings (height width : ℕ) (image : Image) (at : ℕ) (d : List ℤ) (k : ℕ) (l : List ℤ) : Type 0 where
@@ -40,4 +40,4 @@ pub record Halvings (height width : ℕ) (image : Image) (at : ℕ) (d : List �
   pub same : length l ≡ length d
   pub holds : (j : ℕ) → j ≤ k → HoldsImage height width image at l j
   pub before : (i : ℕ) → i < at → getD l i (pos 0) ≡ getD d i (pos 0)
-  pub after : (i : ℕ) → at + words height width (suc k) ≤ i → getD l i (pos 0) ≡ getD d i (pos 0)
+  pub after : (i : ℕ) → at + wordsBefore height width (suc k) ≤ i → getD l i (pos 0) ≡ getD d i (pos 0)

@@ -6,7 +6,7 @@ use native.Mathlib.Nat.{mul-le-mul, pow-suc, pow-le-pow-right, eq-or-lt-of-le}
 use native.Mathlib.Omega.{arith}
 use Rattle.geometry.specs.Read.{Image}
 use Rattle.pyramid.specs.PyramidLaws.{halved-agree}
-use Rattle.pyramid.specs.Chain.{halves, words, chain}
+use Rattle.pyramid.specs.Chain.{halves, wordsBefore, chain}
 
 -- a size stays at most the first, and above 0 down to the last image
 pub size-most : (size k : ℕ) → halves size k ≤ size
@@ -35,26 +35,29 @@ pub quarter : (h w : ℕ) → 4 * (h / 2 * (w / 2)) ≤ h * w
 quarter h w = omega (arith, mul-le-mul {n₁ = 2 * (h / 2)} {m₁ = 2 * (w / 2)} {n₂ = h} {m₂ = w} (omega arith) (omega arith))
 
 module _ (height width : ℕ) where
-  pub words-next : (k : ℕ) → words height width (suc k) ≡ words height width k + halves height k * halves width k
-  unfolding words
+  pub words-next : (k : ℕ) → wordsBefore height width (suc k) ≡ wordsBefore height width k + halves height k * halves width k
+  unfolding wordsBefore
   words-next k = refl
 
-  pub words-first : words height width 1 ≡ height * width
-  unfolding words halves
+  pub words-first : wordsBefore height width 1 ≡ height * width
+  unfolding wordsBefore halves
   words-first = omega arith
 
-  pub words-rise : (j k : ℕ) → j ≤ k → words height width j ≤ words height width k
-  unfolding words
+  pub words-rise : (j k : ℕ) → j ≤ k → wordsBefore height width j ≤ wordsBefore height width k
+  unfolding wordsBefore
   words-rise zero k h = omega arith
   words-rise (suc j) zero h = omega arith
   words-rise (suc j) (suc k) h =
-      ⊎-elim (λ (e : suc j ≡ suc k). omega (arith, ap (words height width) e)) (λ (l : suc j < suc k). omega (arith, words-rise (suc j) k (omega arith))) (eq-or-lt-of-le h)
+      ⊎-elim (λ (e : suc j ≡ suc k). omega (arith, ap (wordsBefore height width) e)) (λ (l : suc j < suc k). omega (arith, words-rise (suc j) k (omega arith))) (eq-or-lt-of-le h)
+
+  pub words-end : (k : ℕ) → k ≤ 5 → wordsBefore height width k + halves height k * halves width k ≤ wordsBefore height width 6
+  words-end k h = omega (arith, words-next k, words-rise (suc k) 6 (omega arith))
 
   -- each image has at most a quarter of the words of the one before
   words-quarter : (k : ℕ) → 4 * (halves height (suc k) * halves width (suc k)) ≤ halves height k * halves width k
   unfolding halves
   words-quarter k = quarter (halves height k) (halves width k)
 
-  pub words-third : 3 * words height width 6 ≤ 4 * (height * width)
-  unfolding words halves
+  pub words-third : 3 * wordsBefore height width 6 ≤ 4 * (height * width)
+  unfolding wordsBefore halves
   words-third = omega (arith, words-quarter 0, words-quarter 1, words-quarter 2, words-quarter 3, words-quarter 4)

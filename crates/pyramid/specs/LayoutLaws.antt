@@ -1,5 +1,7 @@
 -- The six images as a chain of halvings: which of them are the levels, and that they fit.
 use mathlib.Core.Path.{_≡_, refl, _∙_}
+use mathlib.Core.List.{List}
+use lib.IntN.{ℤ}
 use Prim.Native.Nat.{ℕ, suc, _+_, _*_, _/_, _≤_}
 use native.Mathlib.Omega.{arith}
 use Rattle.geometry.specs.declared.Shape.{Shape}
@@ -7,9 +9,10 @@ use Rattle.geometry.specs.Shape.{workLength}
 use Rattle.geometry.specs.Read.{Image}
 use Rattle.geometry.specs.Tiles.{level0, level1, level2, level3, levelSize}
 use Rattle.pyramid.specs.Pyramid.{quartered, image0, image1, image2, image3}
+use Rattle.pyramid.specs.WordsLaws.{Kept, kept-holds}
 use Rattle.pyramid.specs.Chain.{halves, chain}
-use Rattle.pyramid.specs.ChainLaws.{quarter, words-third}
-use Rattle.pyramid.specs.Layout.{offset, pyramidLength}
+use Rattle.pyramid.specs.ChainLaws.{quarter, words-end, words-third}
+use Rattle.pyramid.specs.Layout.{offset, pyramidLength, Levels, Built}
 
 -- a quarter is two steps of the chain
 chain-quarter : (height width : ℕ) (image : Image) (k : ℕ)
@@ -19,6 +22,10 @@ chain-quarter height width image k = refl
 
 -- which sizes are a level's
 module _ (size : ℕ) where
+  pub size0 : halves (levelSize level0 size) 0 ≡ levelSize level0 size
+  unfolding halves
+  size0 = refl
+
   pub size1 : halves (levelSize level0 size) 1 ≡ levelSize level1 size
   unfolding halves levelSize
   size1 = omega arith
@@ -56,3 +63,20 @@ module _ (shape : Shape) (frame : Image) where
 pub pyramids-fit : (shape : Shape) → 2 * pyramidLength shape + shape .width * shape .height ≤ workLength shape
 unfolding offset workLength levelSize
 pyramids-fit shape = omega (arith, words-third (shape .height / 2) (shape .width / 2), quarter (shape .height) (shape .width))
+
+-- the words before a pyramid are kept, and so is a pyramid before which nothing is written
+pub built-kept : {shape : Shape} {frame : Image} {at : ℕ} {d l : List ℤ} → Built shape frame at d l → Kept d at l
+built-kept b = record { same = b .same; kept = b .before }
+
+pub levels-kept : {shape : Shape} {frame : Image} {at : ℕ} {l l′ : List ℤ} → Levels shape frame at l → Kept l (at + pyramidLength shape) l′ → Levels shape frame at l′
+unfolding offset
+levels-kept {shape} {frame} {at} {l} h k =
+    let high = shape .height in
+    let wide = shape .width in
+    let size = levelSize level0 in
+    record {
+      holds0 = kept-holds k _ _ _ (omega (arith, rw (size0 high, size0 wide) at (words-end (size high) (size wide) 0 (omega arith)))) (h .holds0);
+      holds1 = kept-holds k _ _ _ (omega (arith, rw (size1 high, size1 wide) at (words-end (size high) (size wide) 1 (omega arith)))) (h .holds1);
+      holds2 = kept-holds k _ _ _ (omega (arith, rw (size3 high, size3 wide) at (words-end (size high) (size wide) 3 (omega arith)))) (h .holds2);
+      holds3 = kept-holds k _ _ _ (omega (arith, rw (size5 high, size5 wide) at (words-end (size high) (size wide) 5 (omega arith)))) (h .holds3);
+    }

@@ -1,4 +1,4 @@
--- Images in the work area: a row of them after the other, a word for each value.
+-- Images in the work area: row after row, a word for each value.
 use mathlib.Core.Path.{_≡_}
 use mathlib.Core.List.{List}
 use Prim.Native.Nat.{ℕ, _+_, _*_, _/_, _%_, _≤_, _<_}
@@ -47,8 +47,3 @@ pub record Source (words : List ℤ) (from height width : ℕ) : Type 0 where
   pub high-small : height ≤ 4096
   pub wide-small : width ≤ 4096
   pub holds : Holds words from height width (imageAt words from width)
-
--- l has d's length and its first n words
-pub record Kept (d : List ℤ) (n : ℕ) (l : List ℤ) : Type 0 where
-  pub same : length l ≡ length d
-  pub kept : (k : ℕ) → k < n → getD l k (pos 0) ≡ getD d k (pos 0)

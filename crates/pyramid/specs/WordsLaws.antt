@@ -7,13 +7,18 @@ use native.Mathlib.Omega.{arith}
 use lib.IntN.{ℤ, pos, natAbs}
 use lib.ListN.{length, getD, take, drop, List·getD-append}
 use lib.Seq.{length-paste-head, length-take-le, getD-take}
-use Rattle.geometry.specs.Read.{Image}
-use Rattle.geometry.specs.ReadLaws.{cell-below}
+use Rattle.geometry.specs.Read.{Image, inside, read}
+use Rattle.geometry.specs.ReadLaws.{cell-below, inside-below}
 use Rattle.sequences.specs.Tab.{tab, length-tab}
 use Rattle.sequences.specs.Write.{written, Writing, written-in, written-before, written-after, written-length}
 use Rattle.pyramid.specs.Pyramid.{halved}
 use Rattle.pyramid.specs.PyramidLaws.{halved-agree}
-use Rattle.pyramid.specs.Words.{wordAt, imageAt, wordOf, laid, Holds, Row, Source, Kept}
+use Rattle.pyramid.specs.Words.{wordAt, imageAt, wordOf, laid, Holds, Row, Source}
+
+-- l has d's length and its first n words
+pub record Kept (d : List ℤ) (n : ℕ) (l : List ℤ) : Type 0 where
+  pub same : length l ≡ length d
+  pub kept : (k : ℕ) → k < n → getD l k (pos 0) ≡ getD d k (pos 0)
 
 -- the row and the column of a place
 pub place-row : (row column width : ℕ) → column < width → (row * width + column) / width ≡ row
@@ -51,6 +56,17 @@ holds-own h =
       most = λ row column a b. omega (arith, own-image h row column a b, h .most row column a b);
     }
 
+pub holds-source : {words : List ℤ} {at height width : ℕ} {image : Image} → 0 < height → 0 < width → height ≤ 4096 → width ≤ 4096
+    → Holds words at height width image → Source words at height width
+holds-source a b c d h = record { high = a; wide = b; high-small = c; wide-small = d; holds = holds-own h }
+
+-- also where it is read outside
+pub own-read : {words : List ℤ} {at height width : ℕ} {image : Image} → 0 < height → 0 < width → Holds words at height width image
+    → (row column : ℤ) → read height width (imageAt words at width) row column ≡ read height width image row column
+unfolding read
+own-read {height = height} {width = width} a b h row column =
+    own-image h (inside height row) (inside width column) (inside-below height row a) (inside-below width column b)
+
 -- stores from a place on keep what stands before it
 pub writing-kept : {d l : List ℤ} {at n j : ℕ} {f : ℕ → ℤ} → Writing d at f n j l → Kept d at l
 writing-kept {d} {l} {at} {n} {j} {f} w =
@@ -80,7 +96,7 @@ module _ {d l : List ℤ} {n : ℕ} (k : Kept d n l) (from height width : ℕ) (
 
   pub kept-source : Source d from height width → Source l from height width
   kept-source s =
-      record { high = s .high; wide = s .wide; high-small = s .high-small; wide-small = s .wide-small; holds = holds-own (kept-holds (s .holds)) }
+      holds-source (s .high) (s .wide) (s .high-small) (s .wide-small) (kept-holds (s .holds))
 
   -- and so does its halving
   pub kept-halved : Source d from height width → (row column : ℕ) → halved height width (imageAt l from width) row column ≡ halved height width (imageAt d from width) row column

@@ -10,7 +10,7 @@ ghost use Rattle.pyramid.specs.Words.{wordAt, imageAt, laid, Held, Row, 
 ghost use Rattle.pyramid.specs.Chain.{Room, Halvings};
 use geometry::read;
 
-// 1 3 3 1
+// The weights 1 3 3 1.
 fn weigh(a: u64, b: u64, c: u64, d: u64) -> u64
     requires { ⌜ (a < 2 ^ 32) × (b < 2 ^ 32) × (c < 2 ^ 32) × (d < 2 ^ 32) ⌝ }
     ensures { λ r. ⌜ r ≡ weights a b c d ⌝ }

@@ -2,7 +2,7 @@
 use mathlib.Core.Path.{ap₂, _≡_, refl, ap, _∙_}
 use native.Mathlib.Nat.{mul-le-mul}
 use native.Mathlib.Numerals.{add-one}
-use Rattle.pyramid.specs.Chain.{halves, words}
+use Rattle.pyramid.specs.Chain.{halves, wordsBefore}
 use Rattle.pyramid.specs.ChainLaws.{words-rise, words-third}
 use Rattle.pyramid.specs.Layout.{offset}
 use Rattle.geometry.specs.Tiles.{levelSize}
@@ -17,15 +17,15 @@ record Summing (height width k i h w sum : ℕ) : Type 0 where
   count : i ≤ k
   high : h ≡ halves height i
   wide : w ≡ halves width i
-  is : sum ≡ words height width i
+  is : sum ≡ wordsBefore height width i
 
 module _ {height width k : ℕ} where
   sum-start : Summing height width k 0 height width 0
-  unfolding halves words
+  unfolding halves wordsBefore
   sum-start = record { count = omega arith; high = refl; wide = refl; is = refl }
 
   sum-turn : {i h w sum : ℕ} → Summing height width k i h w sum → i < k → Summing height width k (i + 1) (h / 2) (w / 2) (sum + h * w)
-  unfolding halves words
+  unfolding halves wordsBefore
   sum-turn {i} s less =
       rw (add-one i)
       (record {
@@ -72,7 +72,7 @@ unfolding offset levelSize
 returns c =
     let s = c .before .loop in
     let all : s .counter ≡ c .before .before .before .before .args .k = omega arith in
-    (s .inv .is ∙ ap (words _ _) all, sum-most (s .inv) (omega arith) (omega arith) (omega arith))
+    (s .inv .is ∙ ap (wordsBefore _ _) all, sum-most (s .inv) (omega arith) (omega arith) (omega arith))
 
 pub offset-spec : {M : Type 1} → statement M
 offset-spec =
