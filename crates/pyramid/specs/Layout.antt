@@ -1,12 +1,12 @@
 -- Where a pyramid's images stand in the work area, and what holds once they are laid.
 use mathlib.Core.Path.{_≡_}
 use mathlib.Core.List.{List}
-use Prim.Native.Nat.{ℕ, _+_, _≤_, _<_}
+use Prim.Native.Nat.{ℕ, _+_, _*_, _≤_, _<_}
 use lib.IntN.{ℤ, pos}
 use lib.ListN.{length, getD}
 use Rattle.geometry.specs.declared.Shape.{Shape}
 use Rattle.geometry.specs.Read.{Image}
-use Rattle.geometry.specs.Tiles.{Level, level0, level1, level2, level3, levelSize}
+use Rattle.geometry.specs.Tiles.{Level, level0, level1, level2, level3, levelSize, tileCount}
 use Rattle.pyramid.specs.Pyramid.{image0, image1, image2, image3}
 use Rattle.pyramid.specs.Words.{Holds}
 use Rattle.pyramid.specs.Chain.{wordsBefore}
@@ -19,6 +19,14 @@ offset shape k = wordsBefore (levelSize level0 (shape .height)) (levelSize level
 -- the words of a pyramid
 abbrev pub pyramidLength : Shape → ℕ
 pyramidLength shape = offset shape 6
+
+-- the tiles of a level
+unfoldable pub tiles : Level → Shape → ℕ
+tiles level shape = tileCount (level .half) (levelSize level (shape .height)) * tileCount (level .half) (levelSize level (shape .width))
+
+-- the words of two pyramids and of the vectors of levels 1 to 3, two for a tile
+unfoldable pub alignLength : Shape → ℕ
+alignLength shape = 2 * pyramidLength shape + 2 * (tiles level1 shape + tiles level2 shape + tiles level3 shape)
 
 -- from `at` on stands a level's image
 abbrev pub HoldsLevel : List ℤ → ℕ → Level → Shape → Image → Type 0

@@ -3,16 +3,17 @@ use mathlib.Core.Path.{_≡_, refl, _∙_}
 use mathlib.Core.List.{List}
 use lib.IntN.{ℤ}
 use Prim.Native.Nat.{ℕ, suc, _+_, _*_, _/_, _≤_}
+use native.Mathlib.Nat.{mul-le-mul}
 use native.Mathlib.Omega.{arith}
 use Rattle.geometry.specs.declared.Shape.{Shape}
-use Rattle.geometry.specs.Shape.{workLength}
+use Rattle.geometry.specs.Shape.{Allowed, workLength}
 use Rattle.geometry.specs.Read.{Image}
-use Rattle.geometry.specs.Tiles.{level0, level1, level2, level3, levelSize}
+use Rattle.geometry.specs.Tiles.{level0, level1, level2, level3, levelSize, tileCount}
 use Rattle.pyramid.specs.Pyramid.{quartered, image0, image1, image2, image3}
 use Rattle.pyramid.specs.WordsLaws.{Kept, kept-holds}
 use Rattle.pyramid.specs.Chain.{halves, chain}
 use Rattle.pyramid.specs.ChainLaws.{quarter, words-end, words-third}
-use Rattle.pyramid.specs.Layout.{offset, pyramidLength, Levels, Built}
+use Rattle.pyramid.specs.Layout.{offset, pyramidLength, tiles, alignLength, Levels, Built}
 
 -- a quarter is two steps of the chain
 chain-quarter : (height width : ℕ) (image : Image) (k : ℕ)
@@ -59,10 +60,28 @@ module _ (shape : Shape) (frame : Image) where
   unfolding image3
   chain5 = chain-quarter _ _ _ 3 ∙ rw (size3 (shape .height), size3 (shape .width), chain3)
 
--- two pyramids leave W·H words of the work area
-pub pyramids-fit : (shape : Shape) → 2 * pyramidLength shape + shape .width * shape .height ≤ workLength shape
-unfolding offset workLength levelSize
-pyramids-fit shape = omega (arith, words-third (shape .height / 2) (shape .width / 2), quarter (shape .height) (shape .width))
+-- a level above level 0 has at most a tile for 16 by 16 samples of the frame
+module _ {shape : Shape} (ok : Allowed shape) where
+  tiles-most : {a b : ℕ} → a ≤ shape .height / 16 → b ≤ shape .width / 16 → 256 * (a * b) ≤ shape .height * shape .width
+  tiles-most {a} {b} h w =
+      omega (arith, mul-le-mul {n₁ = 16 * a} {m₁ = 16 * b} {n₂ = shape .height} {m₂ = shape .width} (omega arith) (omega arith))
+
+  -- what alignment lays fits the work area
+  pub align-fits : alignLength shape ≤ workLength shape
+  unfolding alignLength tiles tileCount offset workLength levelSize
+  align-fits =
+      let high = shape .height in
+      let wide = shape .width in
+      let h = ok .high .least in
+      let w = ok .wide .least in
+      omega (
+        arith,
+        words-third (high / 2) (wide / 2),
+        quarter high wide,
+        tiles-most {a = (high / 4 + 7) / 8 + 1} {b = (wide / 4 + 7) / 8 + 1} (omega arith) (omega arith),
+        tiles-most {a = (high / 16 + 7) / 8 + 1} {b = (wide / 16 + 7) / 8 + 1} (omega arith) (omega arith),
+        tiles-most {a = (high / 64 + 3) / 4 + 1} {b = (wide / 64 + 3) / 4 + 1} (omega arith) (omega arith),
+      )
 
 -- the words before a pyramid are kept, and so is a pyramid before which nothing is written
 pub built-kept : {shape : Shape} {frame : Image} {at : ℕ} {d l : List ℤ} → Built shape frame at d l → Kept d at l

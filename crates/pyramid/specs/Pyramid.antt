@@ -18,6 +18,7 @@ weights a b c d = a + 3 * b + 3 * c + d
 unfoldable pub tap : (p k : ℕ) → ℤ
 tap p k = pos (2 * p + k) -ℤ pos 1
 
+-- the sum of the values there, weighted
 unfoldable pub weighted : ℕ → (ℤ → ℕ) → ℕ
 weighted p value = weights (value (tap p 0)) (value (tap p 1)) (value (tap p 2)) (value (tap p 3))
 
