@@ -6,7 +6,7 @@ use lib.IntN.{ℤ, pos}
 use lib.ListN.{length, getD}
 use Rattle.geometry.specs.declared.Shape.{Shape}
 use Rattle.geometry.specs.Read.{Image}
-use Rattle.geometry.specs.Tiles.{Level, level0, level1, level2, level3, levelSize, tileCount}
+use Rattle.geometry.specs.Tiles.{Level, level0, level1, level2, level3, levelSize, levelTiles}
 use Rattle.pyramid.specs.Pyramid.{image0, image1, image2, image3}
 use Rattle.pyramid.specs.Words.{Holds}
 use Rattle.pyramid.specs.Chain.{wordsBefore}
@@ -22,7 +22,7 @@ pyramidLength shape = offset shape 6
 
 -- the tiles of a level
 unfoldable pub tiles : Level → Shape → ℕ
-tiles level shape = tileCount (level .half) (levelSize level (shape .height)) * tileCount (level .half) (levelSize level (shape .width))
+tiles level shape = levelTiles level (shape .height) * levelTiles level (shape .width)
 
 -- the words of two pyramids and of the vectors of levels 1 to 3, two for a tile
 unfoldable pub alignLength : Shape → ℕ

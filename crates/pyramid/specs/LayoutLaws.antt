@@ -8,7 +8,7 @@ use native.Mathlib.Omega.{arith}
 use Rattle.geometry.specs.declared.Shape.{Shape}
 use Rattle.geometry.specs.Shape.{Allowed, workLength}
 use Rattle.geometry.specs.Read.{Image}
-use Rattle.geometry.specs.Tiles.{level0, level1, level2, level3, levelSize, tileCount}
+use Rattle.geometry.specs.Tiles.{level0, level1, level2, level3, levelSize, levelTiles, tileCount}
 use Rattle.pyramid.specs.Pyramid.{quartered, image0, image1, image2, image3}
 use Rattle.pyramid.specs.WordsLaws.{Kept, kept-holds}
 use Rattle.pyramid.specs.Chain.{halves, chain}
@@ -68,7 +68,7 @@ module _ {shape : Shape} (ok : Allowed shape) where
 
   -- what alignment lays fits the work area
   pub align-fits : alignLength shape ≤ workLength shape
-  unfolding alignLength tiles tileCount offset workLength levelSize
+  unfolding alignLength tiles levelTiles tileCount offset workLength levelSize
   align-fits =
       let high = shape .height in
       let wide = shape .width in

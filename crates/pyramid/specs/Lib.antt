@@ -1,6 +1,7 @@
 pub mod Pyramid
 pub mod PyramidLaws
 pub mod Frame
+pub mod FrameLaws
 pub mod Words
 pub mod WordsLaws
 pub mod Chain

@@ -1,0 +1,11 @@
+-- A burst whose samples pass refusal 11 has such frames.
+use mathlib.Core.List.{List}
+use Prim.Native.Nat.{ℕ, _<_}
+use Rattle.geometry.specs.declared.Shape.{Shape}
+use Rattle.geometry.specs.Read.{Sampled, sampleAt}
+use Rattle.geometry.specs.Bounds.{SamplesFit}
+use Rattle.pyramid.specs.Frame.{Frame}
+
+pub frame-fits : {shape : Shape} {samples : List ℕ} (frame : ℕ) → Sampled shape samples → SamplesFit samples → frame < shape .count → Frame shape frame samples
+unfolding sampleAt
+frame-fits frame s f h = record { sampled = s; below = h; most = λ row column a b. f .most _ }
