@@ -1,0 +1,12 @@
+-- The answers of the functions that scan the bytes of a file, which hold positions, as what stands at those positions.
+use mathlib.Core.List.{List}
+use Prim.Native.Nat.{ℕ}
+use lib.ListN.{drop}
+use Rattle.burst_file.specs.Line.{Item, last, more, bad}
+use Rattle.burst_file.specs.declared.Scan.{Scan}
+use Rattle.burst_file.specs.declared.Scan.the-variants.{Last, More, Bad}
+
+abbrev pub scanned : List ℕ → Scan → Item
+scanned file (Last value next) = last value (drop next file)
+scanned file (More value next) = more value (drop next file)
+scanned file Bad = bad

@@ -1,0 +1,77 @@
+// One value, the spaces after it, and the end of a line, each at a position of the file.
+ghost use mathlib.Core.Path.{_≡_};
+ghost use Prim.Native.Nat.{_≤_};
+ghost use lib.ListN.{drop};
+ghost use Rattle.burst_file.specs.Line.{digitOf, pastSpaces, itemOf, hasLF};
+ghost use Rattle.burst_file.specs.Scan.{scanned};
+use crate::Scan;
+
+fn digit(byte: u8) -> u64
+    ensures { λ r. ⌜ (r ≡ digitOf byte) × (r ≤ 10) ⌝ }
+{
+    if byte < 48 {
+        10
+    } else if byte < 58 {
+        (byte - 48) as u64
+    } else {
+        10
+    }
+}
+
+fn past_spaces(file: &[u8], at: usize) -> usize
+    ensures { λ r. ⌜ drop r (now (file .entry)) ≡ pastSpaces (drop at (now (file .entry))) ⌝ }
+{
+    let mut i = at;
+    while i < file.len() {
+        if file[i] != 32 {
+            return i;
+        }
+        i += 1;
+    }
+    i
+}
+
+pub fn has_lf(file: &[u8], at: usize) -> bool
+    ensures { λ r. ⌜ r ≡ hasLF (drop at (now (file .entry))) ⌝ }
+{
+    let mut i = at;
+    while i < file.len() {
+        if file[i] == 10 {
+            return true;
+        }
+        i += 1;
+    }
+    false
+}
+
+pub fn next_value(file: &[u8], at: usize) -> Scan
+    ensures { λ r. ⌜ scanned (now (file .entry)) r ≡ itemOf (drop at (now (file .entry))) ⌝ }
+{
+    let mut i = at;
+    let mut count: u64 = 0;
+    let mut value: u64 = 0;
+    while i < file.len() {
+        let byte = file[i];
+        let d = digit(byte);
+        if d == 10 {
+            if count == 0 {
+                return Scan::Bad;
+            }
+            if byte == 10 {
+                return Scan::Last { value, next: i + 1 };
+            }
+            if byte == 32 {
+                let next = past_spaces(file, i + 1);
+                return Scan::More { value, next };
+            }
+            return Scan::Bad;
+        }
+        if count == 9 {
+            return Scan::Bad;
+        }
+        count += 1;
+        value = value * 10 + d;
+        i += 1;
+    }
+    Scan::Bad
+}
