@@ -1,3 +1,5 @@
 pub mod Part
 pub mod Line
 pub mod Scan
+pub mod Grammar
+pub mod LineLaws

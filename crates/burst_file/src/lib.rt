@@ -1,4 +1,5 @@
 // The burst file: its lines and values, the check of a whole file, and the reading of it into the caller's samples.
+pub mod lines;
 pub mod scanning;
 
 // What stands at a position of a file: a value and the position past what ends it, or nothing well formed.
@@ -8,4 +9,10 @@ pub enum Scan {
     // Spaces follow the value.
     More { value: u64, next: usize },
     Bad,
+}
+
+// What a line of values gives: the position past its LF and whether a value is above a bound, or its refusal.
+pub enum Line {
+    Good { next: usize, over: bool },
+    Refused { number: u64 },
 }

@@ -1,0 +1,114 @@
+-- `scan_line`: the judgement of the whole line is that of the values left, with what is known of those passed.
+use mathlib.Core.Path.{_≡_, refl, sym, ap, _∙_}
+use mathlib.Core.Bool.{Bool, false}
+use Prim.Native.Nat.{_-_}
+use native.Mathlib.Omega.{arith}
+use borrow.Author.Needs.{needs}
+use borrow.Author.Tests.{eq-eqb, ne-eqb}
+use lib.ListN.{drop}
+use Rattle.burst_file.specs.Part.{found}
+use Rattle.burst_file.specs.Line.{Item, last, more, bad, afterItem, valuesOf, judged}
+use Rattle.burst_file.specs.Scan.{scanned}
+use Rattle.burst_file.specs.declared.Scan.{Scan}
+use Rattle.burst_file.specs.declared.Scan.the-variants.{Last, More, Bad}
+use Rattle.burst_file.proofs.Values.{values-step, values-none, judged-last, judged-more}
+use Rattle.burst_file.proofs.lines.scan_line.Statement.{statement}
+use Rattle.burst_file.proofs.lines.scan_line.Tie as tie
+
+abbrev Inv-loop : tie.InvT-loop
+Inv-loop file at count bound left₀ i₀ over₀ left i over = judged over bound (valuesOf left (drop i file)) ≡ judged false bound (valuesOf count (drop at file))
+
+abbrev μ-loop : tie.MeasureT-loop
+μ-loop file at count bound left₀ i₀ over₀ left i over = left
+
+loop-holds : tie.Need-loop-holds Inv-loop μ-loop
+loop-holds c = refl
+
+sub-left : tie.Need-sub-left Inv-loop μ-loop
+sub-left c = search needs
+
+next-value-requires : tie.Need-next-value-requires Inv-loop μ-loop
+next-value-requires c κs = search needs
+
+enum-told : tie.Need-enum-told Inv-loop μ-loop
+enum-told c = search needs
+
+-- where the scan is `scan`, the line is what `afterItem` makes of it
+stepped : (c : tie.After-next-value Inv-loop μ-loop) (scan : Scan) → c .next-value .result ≡ scan →
+    let l = c .before .before .loop in
+    let a = c .before .before .before .before .args in
+    judged (l .over) (a .bound) (afterItem (l .left - 1) (λ t. valuesOf (l .left - 1) t) (scanned (a .file .now) scan)) ≡ judged false (a .bound) (valuesOf (a .count) (drop (a .at) (a .file .now)))
+stepped c scan e =
+    let l = c .before .before .loop in
+    let a = c .before .before .before .before .args in
+    ap (λ (item : Item). judged (l .over) (a .bound) (afterItem (l .left - 1) (λ t. valuesOf (l .left - 1) t) item)) (ap (scanned (a .file .now)) (sym e) ∙ c .next-value .ensures)
+    ∙ ap (judged (l .over) (a .bound)) (sym (values-step (l .left) (drop (l .i) (a .file .now)) (c .before .loop-test .taken))) ∙ l .inv
+
+returns : tie.Need-returns Inv-loop μ-loop
+returns c = stepped (c .before .before) Bad (c .enum-told .given .1)
+
+enum-known-value : tie.Need-enum-known-value Inv-loop μ-loop
+enum-known-value c = search needs
+
+or-above-requires : tie.Need-or-above-requires Inv-loop μ-loop
+or-above-requires c κs = search needs
+
+returns-2 : tie.Need-returns-2 Inv-loop μ-loop
+returns-2 c =
+    let f = c .before .before .before .value .given in
+    let at = c .before .before .before .before .before in
+    let a = at .before .before .before .before .args in
+    let rest = drop (f .0 .1 .0) (a .file .now) in
+    ap (λ (o : Bool). found o rest) (c .or-above .ensures) ∙ judged-last (at .before .before .loop .over) (a .bound) (f .0 .0) rest
+    ∙ (rw (eq-eqb _ _ (c .before .if1 .taken)) at (stepped at (Last (f .0 .0) (f .0 .1 .0)) (f .1)))
+
+returns-3 : tie.Need-returns-3 Inv-loop μ-loop
+returns-3 c =
+    let f = c .before .before .value .given in
+    rw (ne-eqb _ _ (c .if1 .left)) at (stepped (c .before .before .before .before) (Last (f .0 .0) (f .0 .1 .0)) (f .1))
+
+enum-known-value-2 : tie.Need-enum-known-value-2 Inv-loop μ-loop
+enum-known-value-2 c = search needs
+
+or-above-requires-2 : tie.Need-or-above-requires-2 Inv-loop μ-loop
+or-above-requires-2 c κs = search needs
+
+loop-less : tie.Need-loop-less Inv-loop μ-loop
+loop-less c = omega arith
+
+loop-again : tie.Need-loop-again Inv-loop μ-loop
+loop-again c =
+    let f = c .before .before .value2 .given in
+    let at = c .before .before .before .before in
+    let l = at .before .before .loop in
+    let a = at .before .before .before .before .args in
+    ap (λ (o : Bool). judged o (a .bound) (valuesOf (l .left - 1) (drop (f .0 .1 .0) (a .file .now)))) (c .or-above2 .ensures)
+    ∙ judged-more (l .over) (a .bound) (f .0 .0) (valuesOf (l .left - 1) (drop (f .0 .1 .0) (a .file .now)))
+    ∙ stepped at (More (f .0 .0) (f .0 .1 .0)) (f .1)
+
+returns-4 : tie.Need-returns-4 Inv-loop μ-loop
+returns-4 c =
+    let l = c .before .loop in
+    let a = c .before .before .before .args in
+    ap (judged (l .over) (a .bound)) (sym (values-none (l .left) (drop (l .i) (a .file .now)) (c .loop-test .left))) ∙ l .inv
+
+pub scan-line-spec : {M : Type 1} → statement M
+scan-line-spec =
+    tie.close
+    (tie.spec
+    Inv-loop
+    μ-loop
+    loop-holds
+    sub-left
+    next-value-requires
+    enum-told
+    returns
+    enum-known-value
+    or-above-requires
+    returns-2
+    returns-3
+    enum-known-value-2
+    or-above-requires-2
+    loop-less
+    loop-again
+    returns-4)

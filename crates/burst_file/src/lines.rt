@@ -1,0 +1,64 @@
+// A line of values at a position of the file.
+ghost use mathlib.Core.Path.{_≡_};
+ghost use mathlib.Core.Bool.{false, _||_};
+ghost use lib.Dec.{ltb};
+ghost use lib.ListN.{drop};
+ghost use Rattle.burst_file.specs.Line.{valuesOf, valueLine, judged};
+ghost use Rattle.burst_file.specs.Scan.{lineIn};
+use crate::Line;
+use crate::Scan;
+use crate::scanning::has_lf;
+use crate::scanning::next_value;
+
+fn or_above(already: bool, bound: u64, value: u64) -> bool
+    ensures { λ r. ⌜ r ≡ (already || ltb bound value) ⌝ }
+{
+    if already {
+        return true;
+    }
+    bound < value
+}
+
+// The line's values alone: a line without its LF counts as malformed.
+fn scan_line(file: &[u8], at: usize, count: usize, bound: u64) -> Line
+    ensures { λ r. ⌜ lineIn (now (file .entry)) r ≡ judged false bound (valuesOf count (drop at (now (file .entry)))) ⌝ }
+{
+    let mut left = count;
+    let mut i = at;
+    let mut over = false;
+    while 0 < left {
+        left -= 1;
+        match next_value(file, i) {
+            Scan::Bad => {
+                return Line::Refused { number: 14 };
+            }
+            Scan::Last { value, next } => {
+                if left == 0 {
+                    let any = or_above(over, bound, value);
+                    return Line::Good { next, over: any };
+                }
+                return Line::Refused { number: 14 };
+            }
+            Scan::More { value, next } => {
+                over = or_above(over, bound, value);
+                i = next;
+            }
+        }
+    }
+    Line::Refused { number: 14 }
+}
+
+// A line of `count` values, and whether one is above the bound: 15, then 14. An LF is looked for only where the values end without one.
+pub fn check_line(file: &[u8], at: usize, count: usize, bound: u64) -> Line
+    ensures { λ r. ⌜ lineIn (now (file .entry)) r ≡ judged false bound (valueLine count (drop at (now (file .entry)))) ⌝ }
+{
+    match scan_line(file, at, count, bound) {
+        Line::Good { next, over } => Line::Good { next, over },
+        Line::Refused { number } => {
+            if has_lf(file, at) {
+                return Line::Refused { number };
+            }
+            Line::Refused { number: 15 }
+        }
+    }
+}
