@@ -1,5 +1,6 @@
 pub mod Part
 pub mod Line
+pub mod Rows
 pub mod Scan
 pub mod Grammar
 pub mod LineLaws

@@ -1,5 +1,6 @@
 // The burst file: its lines and values, the check of a whole file, and the reading of it into the caller's samples.
 pub mod lines;
+pub mod rows;
 pub mod scanning;
 
 // What stands at a position of a file: a value and the position past what ends it, or nothing well formed.
@@ -15,4 +16,10 @@ pub enum Scan {
 pub enum Line {
     Good { next: usize, over: bool },
     Refused { number: u64 },
+}
+
+// What rows of samples give: the position past them, or the first refusal.
+pub enum Passage {
+    Passed { next: usize },
+    Stopped { number: u64 },
 }

@@ -1,0 +1,57 @@
+-- `check_body`: the rows' refusal, or 15 where bytes follow them.
+use mathlib.Core.Path.{_≡_, refl, sym, ap, _∙_}
+use Prim.Native.Nat.{ℕ}
+use borrow.Author.Needs.{needs}
+use lib.ListN.{drop}
+use Rattle.burst_file.specs.Part.{Part, numberOf}
+use Rattle.burst_file.specs.Rows.{rows, ended}
+use Rattle.burst_file.specs.Scan.{passage}
+use Rattle.burst_file.specs.declared.Passage.{Passage}
+use Rattle.burst_file.specs.declared.Passage.the-variants.{Passed, Stopped}
+use Rattle.burst_file.proofs.Passages.{ended-briefly, trailing, at-end}
+use Rattle.burst_file.proofs.rows.check_body.Statement.{statement}
+use Rattle.burst_file.proofs.rows.check_body.Tie as tie
+
+check-rows-requires : tie.Need-check-rows-requires
+check-rows-requires c κs = search needs
+
+enum-known-number : tie.Need-enum-known-number
+enum-known-number c = search needs
+
+enum-known-next : tie.Need-enum-known-next
+enum-known-next c = search needs
+
+-- where the rows are `passed`
+told : (c : tie.After-check-rows) (passed : Passage) → c .check-rows .result ≡ passed →
+    let a = c .before .before .args in
+    numberOf (ended (passage (a .file .now) passed)) ≡ numberOf (ended (rows (a .count) (a .width) (drop (a .at) (a .file .now))))
+told c passed e =
+    let a = c .before .before .args in
+    ap (λ (p : Part Unit). numberOf (ended p)) (ap (passage (a .file .now)) (sym e) ∙ c .check-rows .ensures)
+    ∙ ended-briefly (rows (a .count) (a .width) (drop (a .at) (a .file .now)))
+
+returns : tie.Need-returns
+returns c =
+    let g = c .before .before .next .given in
+    trailing tt _ _ (c .if1 .taken) ∙ told (c .before .before .before .before) (Passed (g .0 .0)) (g .1)
+
+returns-2 : tie.Need-returns-2
+returns-2 c =
+    let g = c .before .number .given in
+    told (c .before .before .before) (Stopped (g .0 .0)) (g .1)
+
+returns-3 : tie.Need-returns-3
+returns-3 c =
+    let g = c .before .before .next .given in
+    at-end tt _ _ (c .if1 .left) ∙ told (c .before .before .before .before) (Passed (g .0 .0)) (g .1)
+
+pub check-body-spec : {M : Type 1} → statement M
+check-body-spec =
+    tie.close
+    (tie.spec
+    check-rows-requires
+    enum-known-number
+    enum-known-next
+    returns
+    returns-2
+    returns-3)

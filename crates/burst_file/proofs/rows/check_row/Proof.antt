@@ -1,0 +1,55 @@
+-- `check_row`: the judgement of the row's line decides.
+use mathlib.Core.Path.{_≡_, refl, sym, ap, _∙_}
+use mathlib.Core.Bool.{Bool}
+use borrow.Author.Needs.{needs}
+use lib.ListN.{drop}
+use Rattle.burst_file.specs.Rows.{row, unlessAbove}
+use Rattle.burst_file.specs.Scan.{lineIn, briefly}
+use Rattle.burst_file.specs.declared.Line.{Line}
+use Rattle.burst_file.specs.declared.Line.the-variants.{Good, Refused}
+use Rattle.burst_file.proofs.Passages.{decided, row-decided}
+use Rattle.burst_file.proofs.rows.check_row.Statement.{statement}
+use Rattle.burst_file.proofs.rows.check_row.Tie as tie
+
+check-line-requires : tie.Need-check-line-requires
+check-line-requires c κs = search needs
+
+enum-known-number : tie.Need-enum-known-number
+enum-known-number c = search needs
+
+enum-known-next : tie.Need-enum-known-next
+enum-known-next c = search needs
+
+-- where the line is `line`
+told : (c : tie.After-check-line) (line : Line) → c .check-line .result ≡ line →
+    let a = c .before .before .args in
+    decided (lineIn (a .file .now) line) ≡ briefly (row (a .width) (drop (a .at) (a .file .now)))
+told c line e =
+    let a = c .before .before .args in
+    ap decided (ap (lineIn (a .file .now)) (sym e) ∙ c .check-line .ensures) ∙ row-decided (a .width) (drop (a .at) (a .file .now))
+
+returns : tie.Need-returns
+returns c =
+    let g = c .before .before .next .given in
+    rw (c .if1 .taken) at (told (c .before .before .before .before) (Good (g .0 .0) (g .0 .1 .0)) (g .1))
+
+returns-2 : tie.Need-returns-2
+returns-2 c =
+    let g = c .before .number .given in
+    told (c .before .before .before) (Refused (g .0 .0)) (g .1)
+
+returns-3 : tie.Need-returns-3
+returns-3 c =
+    let g = c .before .before .next .given in
+    rw (c .if1 .left) at (told (c .before .before .before .before) (Good (g .0 .0) (g .0 .1 .0)) (g .1))
+
+pub check-row-spec : {M : Type 1} → statement M
+check-row-spec =
+    tie.close
+    (tie.spec
+    check-line-requires
+    enum-known-number
+    enum-known-next
+    returns
+    returns-2
+    returns-3)

@@ -1,0 +1,81 @@
+-- `check_rows`: what the rows left make of the file from the position on stays the same.
+use mathlib.Core.Path.{_≡_, refl, sym, ap, _∙_}
+use Prim.Native.Nat.{_-_}
+use native.Mathlib.Omega.{arith}
+use borrow.Author.Needs.{needs}
+use lib.ListN.{drop}
+use Rattle.burst_file.specs.Part.{Part, _then_}
+use Rattle.burst_file.specs.Rows.{rows}
+use Rattle.burst_file.specs.Scan.{passage, briefly}
+use Rattle.burst_file.specs.declared.Passage.{Passage}
+use Rattle.burst_file.specs.declared.Passage.the-variants.{Passed, Stopped}
+use Rattle.burst_file.proofs.Passages.{rows-step, rows-none}
+use Rattle.burst_file.proofs.rows.check_rows.Statement.{statement}
+use Rattle.burst_file.proofs.rows.check_rows.Tie as tie
+
+abbrev Inv-loop : tie.InvT-loop
+Inv-loop file at count width left₀ i₀ left i = briefly (rows left width (drop i file)) ≡ briefly (rows count width (drop at file))
+
+abbrev μ-loop : tie.MeasureT-loop
+μ-loop file at count width left₀ i₀ left i = left
+
+loop-holds : tie.Need-loop-holds Inv-loop μ-loop
+loop-holds c = refl
+
+sub-left : tie.Need-sub-left Inv-loop μ-loop
+sub-left c = search needs
+
+check-row-requires : tie.Need-check-row-requires Inv-loop μ-loop
+check-row-requires c κs = search needs
+
+enum-known-number : tie.Need-enum-known-number Inv-loop μ-loop
+enum-known-number c = search needs
+
+-- where the row is `passed`
+stepped : (c : tie.After-check-row Inv-loop μ-loop) (passed : Passage) → c .check-row .result ≡ passed →
+    let l = c .before .before .loop in
+    let a = c .before .before .before .before .args in
+    (passage (a .file .now) passed then (λ u rest. briefly (rows (l .left - 1) (a .width) rest))) ≡ briefly (rows (a .count) (a .width) (drop (a .at) (a .file .now)))
+stepped c passed e =
+    let l = c .before .before .loop in
+    let a = c .before .before .before .before .args in
+    ap (λ (p : Part Unit). p then (λ u rest. briefly (rows (l .left - 1) (a .width) rest))) (ap (passage (a .file .now)) (sym e) ∙ c .check-row .ensures)
+    ∙ rows-step (l .left) (a .width) (drop (l .i) (a .file .now)) (c .before .loop-test .taken) ∙ l .inv
+
+returns : tie.Need-returns Inv-loop μ-loop
+returns c =
+    let g = c .before .number .given in
+    stepped (c .before .before .before) (Stopped (g .0 .0)) (g .1)
+
+enum-known-next : tie.Need-enum-known-next Inv-loop μ-loop
+enum-known-next c = search needs
+
+loop-less : tie.Need-loop-less Inv-loop μ-loop
+loop-less c = omega arith
+
+loop-again : tie.Need-loop-again Inv-loop μ-loop
+loop-again c =
+    let g = c .before .next .given in
+    stepped (c .before .before .before) (Passed (g .0 .0)) (g .1)
+
+returns-2 : tie.Need-returns-2 Inv-loop μ-loop
+returns-2 c =
+    let l = c .before .loop in
+    let a = c .before .before .before .args in
+    rows-none (l .left) (a .width) (drop (l .i) (a .file .now)) (c .loop-test .left) ∙ l .inv
+
+pub check-rows-spec : {M : Type 1} → statement M
+check-rows-spec =
+    tie.close
+    (tie.spec
+    Inv-loop
+    μ-loop
+    loop-holds
+    sub-left
+    check-row-requires
+    enum-known-number
+    returns
+    enum-known-next
+    loop-less
+    loop-again
+    returns-2)

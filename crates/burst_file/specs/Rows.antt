@@ -1,0 +1,26 @@
+-- The rows of samples, one line each.
+use mathlib.Core.Bool.{Bool}
+use mathlib.Core.List.{List, [], _∷_, _++_}
+use Prim.Native.Nat.{ℕ, zero, suc, _+_}
+use Rattle.geometry.specs.Refusal.{refuse}
+use Rattle.burst_file.specs.Part.{Part, refused, found, unless, _then_, mapped}
+use Rattle.burst_file.specs.Line.{valueLine, above}
+
+-- refusal 11, "sample > 4095", of what was read
+abbrev pub unlessAbove : {A : Type 0} → Bool → A → List ℕ → Part A
+unlessAbove over samples rest = unless (refuse 11 over) (found samples rest)
+
+-- "each row by 15, 14, 11"
+unfoldable pub row : (width : ℕ) → List ℕ → Part (List ℕ)
+row width bytes = valueLine width bytes then (λ samples rest. unlessAbove (above 4095 samples) samples rest)
+
+-- "one line per row, frame after frame"
+unfoldable pub rows : (count width : ℕ) → List ℕ → Part (List ℕ)
+rows zero width bytes = found [] bytes
+rows (suc count) width bytes = row width bytes then (λ samples rest. mapped (λ others. samples ++ others) (rows count width rest))
+
+-- "then trailing bytes 15"
+abbrev pub ended : {A : Type 0} → Part A → Part A
+ended (refused number) = refused number
+ended (found a []) = found a []
+ended (found a (byte ∷ rest)) = refused 15

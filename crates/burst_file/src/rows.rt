@@ -1,0 +1,57 @@
+// The rows of samples, checked without a store.
+ghost use mathlib.Core.Path.{_≡_};
+ghost use lib.ListN.{drop};
+ghost use Rattle.burst_file.specs.Part.{numberOf};
+ghost use Rattle.burst_file.specs.Rows.{row, rows, ended};
+ghost use Rattle.burst_file.specs.Scan.{passage, briefly};
+use crate::Line;
+use crate::Passage;
+use crate::lines::check_line;
+
+fn check_row(file: &[u8], at: usize, width: usize) -> Passage
+    ensures { λ r. ⌜ passage (now (file .entry)) r ≡ briefly (row width (drop at (now (file .entry)))) ⌝ }
+{
+    match check_line(file, at, width, 4095) {
+        Line::Refused { number } => Passage::Stopped { number },
+        Line::Good { next, over } => {
+            if over {
+                return Passage::Stopped { number: 11 };
+            }
+            Passage::Passed { next }
+        }
+    }
+}
+
+fn check_rows(file: &[u8], at: usize, count: usize, width: usize) -> Passage
+    ensures { λ r. ⌜ passage (now (file .entry)) r ≡ briefly (rows count width (drop at (now (file .entry)))) ⌝ }
+{
+    let mut left = count;
+    let mut i = at;
+    while 0 < left {
+        left -= 1;
+        match check_row(file, i, width) {
+            Passage::Stopped { number } => {
+                return Passage::Stopped { number };
+            }
+            Passage::Passed { next } => {
+                i = next;
+            }
+        }
+    }
+    Passage::Passed { next: i }
+}
+
+// The rows up to the end of the file.
+pub fn check_body(file: &[u8], at: usize, count: usize, width: usize) -> u64
+    ensures { λ r. ⌜ r ≡ numberOf (ended (rows count width (drop at (now (file .entry))))) ⌝ }
+{
+    match check_rows(file, at, count, width) {
+        Passage::Stopped { number } => number,
+        Passage::Passed { next } => {
+            if next < file.len() {
+                return 15;
+            }
+            0
+        }
+    }
+}
