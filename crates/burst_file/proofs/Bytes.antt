@@ -1,4 +1,4 @@
--- The definitions of specs/Line at the bytes of a list from a position on: what the byte there decides.
+-- The definitions on bytes at the bytes of a list from a position on: what the byte there decides.
 use mathlib.Core.Path.{_≡_, refl, sym, ap, _∙_}
 use mathlib.Core.Bool.{true, false}
 use mathlib.Core.List.{List, [], _∷_}
@@ -9,6 +9,7 @@ use native.Mathlib.Omega.{arith}
 use lib.ListN.{length, getD, drop, drop-of-length-le}
 use lib.Seq.{drop-cons}
 use borrow.Author.Tests.{eq-eqb, ne-eqb}
+use Rattle.burst_file.specs.Head.{startsWith}
 use Rattle.burst_file.specs.Line.{Item, last, more, bad, digitOf, pastSpaces, afterDigits, digitsFrom, hasLF}
 
 pub step : (s : List ℕ) (i : ℕ) → i < length s → drop i s ≡ getD s i 0 ∷ drop (i + 1) s
@@ -78,3 +79,21 @@ module _ (n v b : ℕ) (t : List ℕ) where
 -- one digit more
 pub digit-more : (v n d : ℕ) → v < 10 ^ n → d < 10 → v * 10 + d < 10 ^ (n + 1)
 digit-more v n d h g = rw (add-one n, pow-succ') (omega arith)
+
+pub starts-all : (t s : List ℕ) (i : ℕ) → length t ≤ i → startsWith (drop i t) (drop i s) ≡ true
+unfolding startsWith
+starts-all t s i h = rw (drop-of-length-le t h)
+
+module _ (t s : List ℕ) (i : ℕ) (h : i < length t) where
+  pub starts-short : length s ≤ i → startsWith (drop i t) (drop i s) ≡ false
+  unfolding startsWith
+  starts-short g = rw (step t i h, drop-of-length-le s g)
+
+  module _ (g : i < length s) where
+    pub starts-off : (getD s i 0 ≡ getD t i 0 → ⊥) → startsWith (drop i t) (drop i s) ≡ false
+    unfolding startsWith
+    starts-off e = rw (step t i h, step s i g, ne-eqb _ _ e)
+
+    pub starts-on : getD s i 0 ≡ getD t i 0 → startsWith (drop (i + 1) t) (drop (i + 1) s) ≡ startsWith (drop i t) (drop i s)
+    unfolding startsWith
+    starts-on e = rw (step t i h, step s i g, eq-eqb _ _ e)

@@ -1,10 +1,13 @@
 -- The answers of the functions that scan the bytes of a file, which hold positions, as what stands at those positions.
 use mathlib.Core.Bool.{Bool}
-use mathlib.Core.List.{List}
-use Prim.Native.Nat.{ℕ}
+use mathlib.Core.List.{List, [], _∷_}
+use Prim.Native.Nat.{ℕ, zero, suc}
 use lib.ListN.{drop}
-use Rattle.burst_file.specs.Line.{Item, last, more, bad}
+use Rattle.burst_file.specs.Line.{Item, last, more, bad, itemOf}
 use Rattle.burst_file.specs.Part.{Part, refused, found, mapped}
+use Rattle.burst_file.specs.declared.Head.{Head}
+use Rattle.burst_file.specs.declared.Head.the-variants.{Accepted, Refused as RefusedHead}
+use Rattle.burst_file.specs.declared.Header.{Header}
 use Rattle.burst_file.specs.declared.Line.{Line}
 use Rattle.burst_file.specs.declared.Line.the-variants.{Good, Refused}
 use Rattle.burst_file.specs.declared.Passage.{Passage}
@@ -29,3 +32,23 @@ passage file (Stopped number) = refused number
 
 abbrev pub briefly : {A : Type 0} → Part A → Part Unit
 briefly part = mapped (λ a. tt) part
+
+abbrev pub headIn : List ℕ → Head → Part Header
+headIn file (Accepted header next) = found header (drop next file)
+headIn file (RefusedHead number) = refused number
+
+-- an item's value and the bytes after it, where nothing but values is expected
+abbrev pub valueIn : Item → ℕ
+valueIn (last value rest) = value
+valueIn (more value rest) = value
+valueIn bad = 0
+
+abbrev pub restIn : Item → List ℕ
+restIn (last value rest) = rest
+restIn (more value rest) = rest
+restIn bad = []
+
+-- the next `count` values, across the lines
+unfoldable pub nextValues : (count : ℕ) → List ℕ → List ℕ
+nextValues zero bytes = []
+nextValues (suc count) bytes = valueIn (itemOf bytes) ∷ nextValues count (restIn (itemOf bytes))

@@ -1,7 +1,10 @@
 // The burst file: its lines and values, the check of a whole file, and the reading of it into the caller's samples.
+pub mod first_lines;
 pub mod lines;
 pub mod rows;
 pub mod scanning;
+
+use geometry::Shape;
 
 // What stands at a position of a file: a value and the position past what ends it, or nothing well formed.
 pub enum Scan {
@@ -22,4 +25,25 @@ pub enum Line {
 pub enum Passage {
     Passed { next: usize },
     Stopped { number: u64 },
+}
+
+// A value and the position past what ends it.
+pub struct Value {
+    pub value: u64,
+    pub next: usize,
+}
+
+// The seven values of a burst file's second line.
+pub struct Header {
+    pub shape: Shape,
+    pub reference: usize,
+    pub shot: u64,
+    pub read: u64,
+    pub strength: u64,
+}
+
+// What the first two lines of a file give: their values and the position past them, or the first refusal.
+pub enum Head {
+    Accepted { header: Header, next: usize },
+    Refused { number: u64 },
 }

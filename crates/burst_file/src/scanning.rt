@@ -3,8 +3,9 @@ ghost use mathlib.Core.Path.{_≡_};
 ghost use Prim.Native.Nat.{_≤_};
 ghost use lib.ListN.{drop};
 ghost use Rattle.burst_file.specs.Line.{digitOf, pastSpaces, itemOf, hasLF};
-ghost use Rattle.burst_file.specs.Scan.{scanned};
+ghost use Rattle.burst_file.specs.Scan.{scanned, valueIn, restIn};
 use crate::Scan;
+use crate::Value;
 
 fn digit(byte: u8) -> u64
     ensures { λ r. ⌜ (r ≡ digitOf byte) × (r ≤ 10) ⌝ }
@@ -74,4 +75,18 @@ pub fn next_value(file: &[u8], at: usize) -> Scan
         i += 1;
     }
     Scan::Bad
+}
+
+// The value at a position where one is known to stand.
+pub fn value_at(file: &[u8], at: usize) -> Value
+    ensures { λ r. ⌜ (r .value ≡ valueIn (itemOf (drop at (now (file .entry))))) × (drop (r .next) (now (file .entry)) ≡ restIn (itemOf (drop at (now (file .entry))))) ⌝ }
+{
+    match next_value(file, at) {
+        Scan::Last { value, next } => Value { value, next },
+        Scan::More { value, next } => Value { value, next },
+        Scan::Bad => Value {
+            value: 0,
+            next: file.len(),
+        },
+    }
 }

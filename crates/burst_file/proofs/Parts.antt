@@ -1,0 +1,13 @@
+-- A test ahead of a part, by the number that the code found for it.
+use mathlib.Core.Path.{_≡_, refl, sym, ap, _∙_}
+use Prim.Native.Nat.{ℕ, zero, suc}
+use native.Mathlib.Omega.{arith}
+use Rattle.burst_file.specs.Part.{Part, refused, unless}
+
+module _ {A : Type 0} (part : Part A) where
+  pub unless-stops : {r a : ℕ} → r ≡ a → (r ≡ 0 → ⊥) → refused r ≡ unless a part
+  unless-stops {a = zero} e h = absurd (h e)
+  unless-stops {a = suc a} e h = ap refused e
+
+  pub unless-goes : {r a : ℕ} → r ≡ a → r ≡ 0 → part ≡ unless a part
+  unless-goes {a = a} e z = let passed : a ≡ 0 = omega arith in rw passed

@@ -1,0 +1,105 @@
+-- `read_head`: each test's number ends the chain or lets the next part decide.
+use mathlib.Core.Path.{_≡_, refl, sym, ap, _∙_}
+use mathlib.Core.Bool.{false}
+use mathlib.Core.List.{List}
+use Prim.Native.Nat.{ℕ}
+use borrow.Author.Needs.{needs}
+use lib.ListN.{drop}
+use Rattle.burst_file.specs.Part.{Part, refused, found, unless, _then_}
+use Rattle.burst_file.specs.Line.{valueLine, judged}
+use Rattle.burst_file.specs.Head.{headerOf, headerRefusal, tested, headOf}
+use Rattle.burst_file.specs.Scan.{lineIn, nextValues}
+use Rattle.burst_file.specs.declared.Header.{Header}
+use Rattle.burst_file.specs.declared.Line.{Line}
+use Rattle.burst_file.specs.declared.Line.the-variants.{Good, Refused}
+use Rattle.burst_file.proofs.Parts.{unless-stops, unless-goes}
+use Rattle.burst_file.proofs.Fills.{line-next, line-refused}
+use Rattle.burst_file.proofs.first_lines.read_head.Statement.{statement}
+use Rattle.burst_file.proofs.first_lines.read_head.Tie as tie
+
+first-line-refusal-requires : tie.Need-first-line-refusal-requires
+first-line-refusal-requires c κs = search needs
+
+returns : tie.Need-returns
+unfolding headOf
+returns c = unless-stops (valueLine 7 (drop 48 (c .before .before .before .args .file .now)) then tested) (c .before .first-line-refusal .ensures) (c .if1 .taken)
+
+check-line-requires : tie.Need-check-line-requires
+check-line-requires c κs = search needs
+
+enum-known-number : tie.Need-enum-known-number
+enum-known-number c = search needs
+
+enum-known-next : tie.Need-enum-known-next
+enum-known-next c = search needs
+
+header-at-requires : tie.Need-header-at-requires
+header-at-requires c κs = search needs
+
+header-refusal-requires : tie.Need-header-refusal-requires
+header-refusal-requires c κs = search needs
+
+-- where the names stand, line 2 decides
+named : (c : tie.Else1) (line : Part (List ℕ)) →
+    let file = c .before .before .before .args .file .now in
+    valueLine 7 (drop 48 file) ≡ line → (line then tested) ≡ headOf file
+unfolding headOf
+named c line e =
+    ap (λ (l : Part (List ℕ)). l then tested) (sym e)
+    ∙ unless-goes (valueLine 7 (drop 48 (c .before .before .before .args .file .now)) then tested) (c .before .first-line-refusal .ensures) (c .if1 .left)
+
+-- where line 2 is `line`
+told : (c : tie.After-check-line) (line : Line) → c .check-line .result ≡ line →
+    let file = c .before .before .before .before .args .file .now in
+    lineIn file line ≡ judged false 0 (valueLine 7 (drop 48 file))
+told c line e = ap (lineIn (c .before .before .before .before .args .file .now)) (sym e) ∙ c .check-line .ensures
+
+-- where line 2 is a line of seven values, they decide
+seven : (c : tie.After-next) →
+    let file = c .before .before .before .before .before .before .args .file .now in
+    tested (nextValues 7 (drop 48 file)) (drop (c .next .given .0 .0) file) ≡ headOf file
+seven c =
+    let g = c .next .given in
+    let file = c .before .before .before .before .before .before .args .file .now in
+    named (c .before .before .before) (found (nextValues 7 (drop 48 file)) (drop (g .0 .0) file))
+    (line-next 7 (drop 48 file) 0 (g .0 .1 .0) (drop (g .0 .0) file) (told (c .before .before) (Good (g .0 .0) (g .0 .1 .0)) (g .1)))
+
+returns-2 : tie.Need-returns-2
+returns-2 c =
+    let called = c .before .before in
+    let at = called .before .before in
+    let file = at .before .before .before .before .before .before .args .file .now in
+    let header = headerOf (nextValues 7 (drop 48 file)) in
+    unless-stops (found header (drop (at .next .given .0 .0) file)) (c .before .header-refusal .ensures ∙ ap headerRefusal (called .header-at .ensures)) (c .if2 .taken)
+    ∙ seven at
+
+returns-3 : tie.Need-returns-3
+returns-3 c =
+    let g = c .before .number .given in
+    let at = c .before .before .before in
+    named (at .before) (refused (g .0 .0)) (line-refused 0 (g .0 .0) _ (told at (Refused (g .0 .0)) (g .1)))
+
+returns-4 : tie.Need-returns-4
+returns-4 c =
+    let called = c .before .before in
+    let at = called .before .before in
+    let file = at .before .before .before .before .before .before .args .file .now in
+    let header = headerOf (nextValues 7 (drop 48 file)) in
+    ap (λ (h : Header). found h (drop (at .next .given .0 .0) file)) (called .header-at .ensures)
+    ∙ unless-goes (found header (drop (at .next .given .0 .0) file)) (c .before .header-refusal .ensures ∙ ap headerRefusal (called .header-at .ensures)) (c .if2 .left)
+    ∙ seven at
+
+pub read-head-spec : {M : Type 1} → statement M
+read-head-spec =
+    tie.close
+    (tie.spec
+    first-line-refusal-requires
+    returns
+    check-line-requires
+    enum-known-number
+    enum-known-next
+    header-at-requires
+    header-refusal-requires
+    returns-2
+    returns-3
+    returns-4)

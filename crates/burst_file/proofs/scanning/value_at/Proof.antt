@@ -1,0 +1,58 @@
+-- `value_at`: each answer of the scan is a case of the item.
+use mathlib.Core.Path.{_≡_, refl, sym, ap, _∙_}
+use borrow.Author.Needs.{needs}
+use lib.ListN.{drop}
+use lib.Seq.{drop-length}
+use Rattle.burst_file.specs.Line.{itemOf}
+use Rattle.burst_file.specs.Scan.{scanned, valueIn, restIn}
+use Rattle.burst_file.specs.declared.Scan.{Scan}
+use Rattle.burst_file.specs.declared.Scan.the-variants.{Last, More, Bad}
+use Rattle.burst_file.proofs.scanning.value_at.Statement.{statement}
+use Rattle.burst_file.proofs.scanning.value_at.Tie as tie
+
+next-value-requires : tie.Need-next-value-requires
+next-value-requires c κs = search needs
+
+enum-known-value : tie.Need-enum-known-value
+enum-known-value c = search needs
+
+enum-known-value-2 : tie.Need-enum-known-value-2
+enum-known-value-2 c = search needs
+
+enum-told : tie.Need-enum-told
+enum-told c = search needs
+
+-- where the scan answers `scan`
+told : (c : tie.After-next-value) (scan : Scan) → c .next-value .result ≡ scan →
+    let a = c .before .before .args in
+    scanned (a .file .now) scan ≡ itemOf (drop (a .at) (a .file .now))
+told c scan e = ap (scanned (c .before .before .args .file .now)) (sym e) ∙ c .next-value .ensures
+
+returns : tie.Need-returns
+returns c =
+    let g = c .before .value .given in
+    let t = told (c .before .before .before) (Last (g .0 .0) (g .0 .1 .0)) (g .1) in
+    (ap valueIn t, ap restIn t)
+
+returns-2 : tie.Need-returns-2
+returns-2 c =
+    let g = c .before .value2 .given in
+    let t = told (c .before .before .before) (More (g .0 .0) (g .0 .1 .0)) (g .1) in
+    (ap valueIn t, ap restIn t)
+
+returns-3 : tie.Need-returns-3
+returns-3 c =
+    let t = told (c .before .before) Bad (c .enum-told .given .1) in
+    (ap valueIn t, drop-length (c .before .before .before .before .args .file .now) ∙ ap restIn t)
+
+pub value-at-spec : {M : Type 1} → statement M
+value-at-spec =
+    tie.close
+    (tie.spec
+    next-value-requires
+    enum-known-value
+    enum-known-value-2
+    enum-told
+    returns
+    returns-2
+    returns-3)

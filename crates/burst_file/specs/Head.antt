@@ -1,0 +1,53 @@
+-- The first two lines: the names, and the seven values with their tests.
+use mathlib.Core.Bool.{Bool, true, false, cond, not}
+use mathlib.Core.List.{List, [], _∷_}
+use Prim.Native.Nat.{ℕ}
+use lib.Dec.{eqb}
+use lib.ListN.{length, getD, drop}
+use Rattle.geometry.specs.Refusal.{refuse, _before_}
+use Rattle.geometry.specs.Shape.{shapeRefusal, referenceRefusal}
+use Rattle.noise.specs.Levels.{levelRefusal, strengthRefusal}
+use Rattle.burst_file.specs.Part.{Part, found, unless, _then_}
+use Rattle.burst_file.specs.Line.{lineEnd, valueLine}
+use Rattle.burst_file.specs.declared.Header.{Header}
+
+-- "A line of names, `width height count reference shot read strength`", with its LF
+abbrev pub names : List ℕ
+names =
+    119 ∷ 105 ∷ 100 ∷ 116 ∷ 104 ∷ 32 ∷ 104 ∷ 101 ∷ 105 ∷ 103 ∷ 104 ∷ 116 ∷ 32 ∷ 99 ∷ 111 ∷ 117 ∷ 110 ∷ 116 ∷ 32
+    ∷ 114 ∷ 101 ∷ 102 ∷ 101 ∷ 114 ∷ 101 ∷ 110 ∷ 99 ∷ 101 ∷ 32 ∷ 115 ∷ 104 ∷ 111 ∷ 116 ∷ 32 ∷ 114 ∷ 101 ∷ 97 ∷ 100 ∷ 32
+    ∷ 115 ∷ 116 ∷ 114 ∷ 101 ∷ 110 ∷ 103 ∷ 116 ∷ 104 ∷ 10 ∷ []
+
+-- the bytes begin with the text
+unfoldable pub startsWith : (text : List ℕ) → List ℕ → Bool
+startsWith [] bytes = true
+startsWith (byte ∷ text) [] = false
+startsWith (byte ∷ text) (b ∷ bytes) = cond (eqb b byte) (startsWith text bytes) false
+
+-- "an empty file or one without a first LF 15"; 13, "first file line differs"
+unfoldable pub firstLineRefusal : List ℕ → ℕ
+firstLineRefusal file = lineEnd file before refuse 13 (not (startsWith names file))
+
+-- "then a line of those seven values (shot and read are Ls and Lr)"
+abbrev pub headerOf : (values : List ℕ) → Header
+headerOf values =
+    record {
+      shape = record { width = getD values 0 0; height = getD values 1 0; count = getD values 2 0 };
+      reference = getD values 3 0;
+      shot = getD values 4 0;
+      read = getD values 5 0;
+      strength = getD values 6 0;
+    }
+
+-- "then 1, 2, 3, 9, 10"
+unfoldable pub headerRefusal : Header → ℕ
+headerRefusal header =
+    shapeRefusal (header .shape) before referenceRefusal (header .shape) (header .reference)
+    before levelRefusal (header .shot) (header .read) before strengthRefusal (header .strength)
+
+abbrev pub tested : (values rest : List ℕ) → Part Header
+tested values rest = unless (headerRefusal (headerOf values)) (found (headerOf values) rest)
+
+-- "15, 13, then line 2 by 15 and 14, then 1, 2, 3, 9, 10"
+unfoldable pub headOf : List ℕ → Part Header
+headOf file = unless (firstLineRefusal file) (valueLine 7 (drop (length names) file) then tested)

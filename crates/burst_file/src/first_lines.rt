@@ -1,0 +1,105 @@
+// The first two lines of a file.
+ghost use mathlib.Core.Path.{_≡_};
+ghost use lib.ListN.{drop};
+ghost use Rattle.burst_file.specs.Head.{startsWith, firstLineRefusal, headerOf, headerRefusal, headOf};
+ghost use Rattle.burst_file.specs.Scan.{nextValues, headIn};
+use crate::Head;
+use crate::Header;
+use crate::Line;
+use crate::lines::check_line;
+use crate::scanning::has_lf;
+use crate::scanning::value_at;
+use geometry::Shape;
+
+fn starts_with(file: &[u8], text: &[u8]) -> bool
+    ensures { λ r. ⌜ r ≡ startsWith (now (text .entry)) (now (file .entry)) ⌝ }
+{
+    let mut i = 0;
+    while i < text.len() {
+        if file.len() <= i {
+            return false;
+        }
+        if file[i] != text[i] {
+            return false;
+        }
+        i += 1;
+    }
+    true
+}
+
+fn first_line_refusal(file: &[u8]) -> u64
+    ensures { λ r. ⌜ r ≡ firstLineRefusal (now (file .entry)) ⌝ }
+{
+    if !has_lf(file, 0) {
+        return 15;
+    }
+    if !starts_with(file, b"width height count reference shot read strength\n") {
+        return 13;
+    }
+    0
+}
+
+// The seven values from a position on, where they are known to stand.
+fn header_at(file: &[u8], at: usize) -> Header
+    ensures { λ r. ⌜ r ≡ headerOf (nextValues 7 (drop at (now (file .entry)))) ⌝ }
+{
+    let width = value_at(file, at);
+    let height = value_at(file, width.next);
+    let count = value_at(file, height.next);
+    let reference = value_at(file, count.next);
+    let shot = value_at(file, reference.next);
+    let read = value_at(file, shot.next);
+    let strength = value_at(file, read.next);
+    let shape = Shape {
+        width: width.value as usize,
+        height: height.value as usize,
+        count: count.value as usize,
+    };
+    Header {
+        shape,
+        reference: reference.value as usize,
+        shot: shot.value,
+        read: read.value,
+        strength: strength.value,
+    }
+}
+
+fn header_refusal(header: Header) -> u64
+    ensures { λ r. ⌜ r ≡ headerRefusal header ⌝ }
+{
+    let shape = header.shape;
+    let size = geometry::shape_refusal(shape);
+    if size != 0 {
+        return size;
+    }
+    let reference = geometry::reference_refusal(shape, header.reference);
+    if reference != 0 {
+        return reference;
+    }
+    let level = noise::level_refusal(header.shot, header.read);
+    if level != 0 {
+        return level;
+    }
+    noise::strength_refusal(header.strength)
+}
+
+// The names, the seven values and their tests. Line 2 starts at byte 48.
+pub fn read_head(file: &[u8]) -> Head
+    ensures { λ r. ⌜ headIn (now (file .entry)) r ≡ headOf (now (file .entry)) ⌝ }
+{
+    let first = first_line_refusal(file);
+    if first != 0 {
+        return Head::Refused { number: first };
+    }
+    match check_line(file, 48, 7, 0) {
+        Line::Refused { number } => Head::Refused { number },
+        Line::Good { next, over: _ } => {
+            let header = header_at(file, 48);
+            let refusal = header_refusal(header);
+            if refusal != 0 {
+                return Head::Refused { number: refusal };
+            }
+            Head::Accepted { header, next }
+        }
+    }
+}
