@@ -2,7 +2,7 @@
 use mathlib.Core.Path.{_≡_, refl, sym, ap, _∙_}
 use Prim.Native.Nat.{ℕ, zero, suc}
 use native.Mathlib.Omega.{arith}
-use Rattle.burst_file.specs.Part.{Part, refused, unless}
+use Rattle.burst_file.specs.Part.{Part, refused, found, unless, numberOf, mapped}
 
 module _ {A : Type 0} (part : Part A) where
   pub unless-stops : {r a : ℕ} → r ≡ a → (r ≡ 0 → ⊥) → refused r ≡ unless a part
@@ -11,3 +11,7 @@ module _ {A : Type 0} (part : Part A) where
 
   pub unless-goes : {r a : ℕ} → r ≡ a → r ≡ 0 → part ≡ unless a part
   unless-goes {a = a} e z = let passed : a ≡ 0 = omega arith in rw passed
+
+pub number-mapped : {A B : Type 0} (f : A → B) (part : Part A) → numberOf (mapped f part) ≡ numberOf part
+number-mapped f (refused number) = refl
+number-mapped f (found a rest) = refl

@@ -1,7 +1,7 @@
 -- The grammar of a burst file: which bytes are a file with which values, whatever the order of reading.
 use mathlib.Core.Path.{_≡_}
 use mathlib.Core.List.{List, [], _∷_, _++_}
-use Prim.Native.Nat.{ℕ, _-_, _+_, _*_, _≤_}
+use Prim.Native.Nat.{ℕ, suc, _-_, _+_, _*_, _≤_}
 use lib.ListN.{length}
 
 -- decimal digits: the bytes `0` to `9`
@@ -37,3 +37,8 @@ pub record ValueLine (count : ℕ) (bytes values rest : List ℕ) : Type 0 where
   pub is : bytes ≡ text ++ 10 ∷ rest
   pub grammar : Values text values
   pub counted : length values ≡ count
+
+-- "one line per row": `count` rows of `width` values, and what follows them
+pub data Rows : (count width : ℕ) (bytes values rest : List ℕ) → Type 0 where
+  noRow : {width : ℕ} {bytes : List ℕ} → Rows 0 width bytes [] bytes
+  rowThen : {count width : ℕ} {bytes values between others rest : List ℕ} → ValueLine width bytes values between → Rows count width between others rest → Rows (suc count) width bytes (values ++ others) rest

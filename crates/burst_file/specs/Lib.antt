@@ -2,6 +2,9 @@ pub mod Part
 pub mod Line
 pub mod Head
 pub mod Rows
+pub mod Reading
 pub mod Scan
 pub mod Grammar
+pub mod PartLaws
 pub mod LineLaws
+pub mod RowLaws

@@ -9,7 +9,8 @@ use lib.Dec.{ltb, eqb}
 use lib.ListN.{length}
 use borrow.Author.Tests.{eq-eqb, ne-eqb, eqb-true, eqb-false, lt-ltb, le-ltb, ltb-true, ltb-false}
 use Rattle.burst_file.specs.Part.{Part, refused, found, mapped}
-use Rattle.burst_file.specs.Line.{Item, last, more, bad, digitOf, pastSpaces, afterDigits, digitsFrom, itemOf, afterItem, valuesOf, hasLF}
+use Rattle.burst_file.specs.PartLaws.{Sound, unless-sound, then-sound}
+use Rattle.burst_file.specs.Line.{Item, last, more, bad, digitOf, pastSpaces, afterDigits, digitsFrom, itemOf, afterItem, valuesOf, hasLF, lineEnd, valueLine}
 use Rattle.burst_file.specs.Grammar.{Digits, noDigit, digit, numberFrom, Value, Spaces, space, spaces, Values, value, valueThen, ValueLine}
 
 -- a byte is a digit or not
@@ -112,26 +113,27 @@ digits-sound n v (byte ∷ rest) few = from (eqb (digitOf byte) 10) (eqb n 9) re
 word-value : {s rest : List ℕ} {v : ℕ} (w : Word 0 0 s v rest) → Value (w .text) v
 word-value w = record { digits = w .digits; some = omega (arith, w .some); few = omega (arith, w .few); is = w .number }
 
--- what a line that is found tells of the bytes
 abbrev pub SoundLine : (count : ℕ) → List ℕ → Part (List ℕ) → Type 0
-SoundLine count s (refused number) = number ≡ 14
-SoundLine count s (found values rest) = ValueLine count s values rest
+SoundLine count s line = Sound (λ values rest. ValueLine count s values rest) line
 
-line-more : {t s rest : List ℕ} {v : ℕ} (count : ℕ) (line : Part (List ℕ)) → Word 0 0 s v t → Gap t rest → SoundLine count rest line → SoundLine (suc count) s (mapped (λ values. v ∷ values) line)
-line-more count (refused number) w g l = l
-line-more count (found values rest) w g l =
-    record {
-      text = w .text ++ (g .gap ++ l .text);
+line-more : {t s rest : List ℕ} {v : ℕ} (count : ℕ) → Word 0 0 s v t → Gap t rest → (line : Part (List ℕ)) → SoundLine count rest line → SoundLine (suc count) s (mapped (λ values. v ∷ values) line)
+line-more {t} {s} {rest} {v} count w g line l =
+    then-sound (λ values rest′. ValueLine count rest values rest′) (λ values rest′. ValueLine (suc count) s values rest′) line _ l
+    (λ values rest′ k. record {
+      text = w .text ++ (g .gap ++ k .text);
       is =
-          w .is ∙ ap (λ (x : List ℕ). w .text ++ x) (g .is ∙ ap (λ (x : List ℕ). g .gap ++ x) (l .is) ∙ sym (append-assoc (g .gap) (l .text) (10 ∷ rest)))
-          ∙ sym (append-assoc (w .text) (g .gap ++ l .text) (10 ∷ rest));
-      grammar = valueThen (word-value w) (g .spaced) (l .grammar);
-      counted = ap suc (l .counted);
-    }
+          w .is ∙ ap (λ (x : List ℕ). w .text ++ x) (g .is ∙ ap (λ (x : List ℕ). g .gap ++ x) (k .is) ∙ sym (append-assoc (g .gap) (k .text) (10 ∷ rest′)))
+          ∙ sym (append-assoc (w .text) (g .gap ++ k .text) (10 ∷ rest′));
+      grammar = valueThen (word-value w) (g .spaced) (k .grammar);
+      counted = ap suc (k .counted);
+    })
+
+malformed : _≡_ {A = ℕ} 14 0 → ⊥
+malformed e = omega arith
 
 pub values-sound : (count : ℕ) (s : List ℕ) → SoundLine count s (valuesOf count s)
 unfolding valuesOf
-values-sound zero s = refl
+values-sound zero s = malformed
 values-sound (suc count) s = from (itemOf s) (digits-sound 0 0 s (omega arith)) (λ t. values-sound count t)
   where
     from : (item : Item) → SoundItem 0 0 s item → ((t : List ℕ) → SoundLine count t (valuesOf count t)) → SoundLine (suc count) s (afterItem count (λ t. valuesOf count t) item)
@@ -139,9 +141,9 @@ values-sound (suc count) s = from (itemOf s) (digits-sound 0 0 s (omega arith)) 
       where
         ends : (x : Bool) → eqb count 0 ≡ x → SoundLine (suc count) s (cond x (found (v ∷ []) rest) (refused 14))
         ends true p = record { text = w .text; is = w .is; grammar = value (word-value w); counted = ap suc (sym (eqb-true count 0 p)) }
-        ends false p = refl
-    from (more v rest) (t, w, g) again = line-more count (valuesOf count rest) w g (again rest)
-    from bad w again = refl
+        ends false p = malformed
+    from (more v rest) (t, w, g) again = line-more count w g (valuesOf count rest) (again rest)
+    from bad w again = malformed
 
 -- completeness
 
@@ -226,3 +228,11 @@ line-lf (byte ∷ text) rest = from (eqb byte 10) (line-lf text rest)
     from : (x : Bool) {y : Bool} → y ≡ true → cond x true y ≡ true
     from true e = refl
     from false e = e
+
+pub line-sound : (count : ℕ) (s : List ℕ) → SoundLine count s (valueLine count s)
+line-sound count s = unless-sound (λ values rest. ValueLine count s values rest) (lineEnd s) (valuesOf count s) (λ e. values-sound count s)
+
+pub line-complete : {count : ℕ} {s values rest : List ℕ} → ValueLine count s values rest → valueLine count s ≡ found values rest
+line-complete {count} {s} {values} {rest} l =
+    rw (ap hasLF (l .is) ∙ line-lf (l .text) rest)
+    (ap (valuesOf count) (l .is) ∙ ap (λ (k : ℕ). valuesOf k (l .text ++ 10 ∷ rest)) (sym (l .counted)) ∙ values-complete rest (l .grammar))

@@ -1,7 +1,8 @@
 -- The rows of samples, one line each.
 use mathlib.Core.Bool.{Bool}
 use mathlib.Core.List.{List, [], _∷_, _++_}
-use Prim.Native.Nat.{ℕ, zero, suc, _+_}
+use Prim.Native.Nat.{ℕ, zero, suc, _*_}
+use Rattle.geometry.specs.declared.Shape.{Shape}
 use Rattle.geometry.specs.Refusal.{refuse}
 use Rattle.burst_file.specs.Part.{Part, refused, found, unless, _then_, mapped}
 use Rattle.burst_file.specs.Line.{valueLine, above}
@@ -14,7 +15,7 @@ unlessAbove over samples rest = unless (refuse 11 over) (found samples rest)
 unfoldable pub row : (width : ℕ) → List ℕ → Part (List ℕ)
 row width bytes = valueLine width bytes then (λ samples rest. unlessAbove (above 4095 samples) samples rest)
 
--- "one line per row, frame after frame"
+-- one row after the other
 unfoldable pub rows : (count width : ℕ) → List ℕ → Part (List ℕ)
 rows zero width bytes = found [] bytes
 rows (suc count) width bytes = row width bytes then (λ samples rest. mapped (λ others. samples ++ others) (rows count width rest))
@@ -24,3 +25,7 @@ abbrev pub ended : {A : Type 0} → Part A → Part A
 ended (refused number) = refused number
 ended (found a []) = found a []
 ended (found a (byte ∷ rest)) = refused 15
+
+-- "one line per row, frame after frame", to the end of the file
+unfoldable pub framesOf : Shape → List ℕ → Part (List ℕ)
+framesOf shape bytes = ended (rows (shape .count * shape .height) (shape .width) bytes)

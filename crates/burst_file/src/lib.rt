@@ -1,9 +1,11 @@
 // The burst file: its lines and values, the check of a whole file, and the reading of it into the caller's samples.
+pub mod file;
 pub mod first_lines;
 pub mod lines;
 pub mod rows;
 pub mod scanning;
 
+pub use file::check_file;
 use geometry::Shape;
 
 // What stands at a position of a file: a value and the position past what ends it, or nothing well formed.
@@ -46,4 +48,16 @@ pub struct Header {
 pub enum Head {
     Accepted { header: Header, next: usize },
     Refused { number: u64 },
+}
+
+// What reading a file answers: the number of the refusal with every other field 0, or 0 with the file's seven values.
+pub struct FileAnswer {
+    pub refusal: u64,
+    pub width: u64,
+    pub height: u64,
+    pub count: u64,
+    pub reference: u64,
+    pub shot: u64,
+    pub read: u64,
+    pub strength: u64,
 }

@@ -1,12 +1,14 @@
 // The rows of samples, checked without a store.
 ghost use mathlib.Core.Path.{_≡_};
 ghost use lib.ListN.{drop};
+ghost use Rattle.geometry.specs.Shape.{Allowed};
 ghost use Rattle.burst_file.specs.Part.{numberOf};
-ghost use Rattle.burst_file.specs.Rows.{row, rows, ended};
+ghost use Rattle.burst_file.specs.Rows.{row, rows, framesOf};
 ghost use Rattle.burst_file.specs.Scan.{passage, briefly};
 use crate::Line;
 use crate::Passage;
 use crate::lines::check_line;
+use geometry::Shape;
 
 fn check_row(file: &[u8], at: usize, width: usize) -> Passage
     ensures { λ r. ⌜ passage (now (file .entry)) r ≡ briefly (row width (drop at (now (file .entry)))) ⌝ }
@@ -41,11 +43,12 @@ fn check_rows(file: &[u8], at: usize, count: usize, width: usize) -> Passage
     Passage::Passed { next: i }
 }
 
-// The rows up to the end of the file.
-pub fn check_body(file: &[u8], at: usize, count: usize, width: usize) -> u64
-    ensures { λ r. ⌜ r ≡ numberOf (ended (rows count width (drop at (now (file .entry))))) ⌝ }
+// The rows of all frames, up to the end of the file.
+pub fn check_frames(file: &[u8], at: usize, shape: Shape) -> u64
+    requires { ⌜ Allowed shape ⌝ }
+    ensures { λ r. ⌜ r ≡ numberOf (framesOf shape (drop at (now (file .entry)))) ⌝ }
 {
-    match check_rows(file, at, count, width) {
+    match check_rows(file, at, shape.count * shape.height, shape.width) {
         Passage::Stopped { number } => number,
         Passage::Passed { next } => {
             if next < file.len() {

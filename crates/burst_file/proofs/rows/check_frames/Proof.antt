@@ -1,16 +1,25 @@
--- `check_body`: the rows' refusal, or 15 where bytes follow them.
+-- `check_frames`: the rows' refusal, or 15 where bytes follow them.
 use mathlib.Core.Path.{_≡_, refl, sym, ap, _∙_}
-use Prim.Native.Nat.{ℕ}
+use Prim.Native.Nat.{ℕ, _*_, _≤_}
+use native.Mathlib.Nat.{mul-le-mul}
+use native.Mathlib.Omega.{arith}
 use borrow.Author.Needs.{needs}
 use lib.ListN.{drop}
 use Rattle.burst_file.specs.Part.{Part, numberOf}
-use Rattle.burst_file.specs.Rows.{rows, ended}
+use Rattle.burst_file.specs.Rows.{rows, ended, framesOf}
 use Rattle.burst_file.specs.Scan.{passage}
 use Rattle.burst_file.specs.declared.Passage.{Passage}
 use Rattle.burst_file.specs.declared.Passage.the-variants.{Passed, Stopped}
 use Rattle.burst_file.proofs.Passages.{ended-briefly, trailing, at-end}
-use Rattle.burst_file.proofs.rows.check_body.Statement.{statement}
-use Rattle.burst_file.proofs.rows.check_body.Tie as tie
+use Rattle.burst_file.proofs.rows.check_frames.Statement.{statement}
+use Rattle.burst_file.proofs.rows.check_frames.Tie as tie
+
+mul-check-rows : tie.Need-mul-check-rows
+mul-check-rows c =
+    let start = c .before .before in
+    let shape = start .args .shape in
+    let most : shape .count * shape .height ≤ 32768 = mul-le-mul {n₁ = shape .count} {m₁ = shape .height} {n₂ = 8} {m₂ = 4096} (start .pre .few) (start .pre .high .most) in
+    omega arith
 
 check-rows-requires : tie.Need-check-rows-requires
 check-rows-requires c κs = search needs
@@ -23,12 +32,13 @@ enum-known-next c = search needs
 
 -- where the rows are `passed`
 told : (c : tie.After-check-rows) (passed : Passage) → c .check-rows .result ≡ passed →
-    let a = c .before .before .args in
-    numberOf (ended (passage (a .file .now) passed)) ≡ numberOf (ended (rows (a .count) (a .width) (drop (a .at) (a .file .now))))
+    let a = c .before .before .before .args in
+    numberOf (ended (passage (a .file .now) passed)) ≡ numberOf (framesOf (a .shape) (drop (a .at) (a .file .now)))
+unfolding framesOf
 told c passed e =
-    let a = c .before .before .args in
+    let a = c .before .before .before .args in
     ap (λ (p : Part Unit). numberOf (ended p)) (ap (passage (a .file .now)) (sym e) ∙ c .check-rows .ensures)
-    ∙ ended-briefly (rows (a .count) (a .width) (drop (a .at) (a .file .now)))
+    ∙ ended-briefly (rows (a .shape .count * a .shape .height) (a .shape .width) (drop (a .at) (a .file .now)))
 
 returns : tie.Need-returns
 returns c =
@@ -45,10 +55,11 @@ returns-3 c =
     let g = c .before .before .next .given in
     at-end tt _ _ (c .if1 .left) ∙ told (c .before .before .before .before) (Passed (g .0 .0)) (g .1)
 
-pub check-body-spec : {M : Type 1} → statement M
-check-body-spec =
+pub check-frames-spec : {M : Type 1} → statement M
+check-frames-spec =
     tie.close
     (tie.spec
+    mul-check-rows
     check-rows-requires
     enum-known-number
     enum-known-next

@@ -1,0 +1,64 @@
+-- `check_file`: the head's refusal, or that of the frames behind it.
+use mathlib.Core.Path.{_≡_, refl, sym, ap, _∙_}
+use Prim.Native.Nat.{ℕ}
+use borrow.Author.Needs.{needs}
+use lib.ListN.{drop}
+use Rattle.geometry.specs.declared.Shape.{Shape}
+use Rattle.burst_file.specs.Part.{Part, numberOf, _then_}
+use Rattle.burst_file.specs.Head.{headOf}
+use Rattle.burst_file.specs.Rows.{framesOf}
+use Rattle.burst_file.specs.Reading.{bodyOf, reading, fileCheck}
+use Rattle.burst_file.specs.Scan.{headIn}
+use Rattle.burst_file.specs.declared.Head.{Head}
+use Rattle.burst_file.specs.declared.Head.the-variants.{Accepted, Refused}
+use Rattle.burst_file.specs.declared.Header.{Header}
+use Rattle.burst_file.proofs.Heads.{head-allowed}
+use Rattle.burst_file.proofs.Bodies.{body-unmeasured}
+use Rattle.burst_file.proofs.file.check_file.Statement.{statement}
+use Rattle.burst_file.proofs.file.check_file.Tie as tie
+
+read-head-requires : tie.Need-read-head-requires
+read-head-requires c κs = search needs
+
+enum-known-number : tie.Need-enum-known-number
+enum-known-number c = search needs
+
+enum-known-header : tie.Need-enum-known-header
+enum-known-header c = search needs
+
+-- where the head is `head`
+told : (c : tie.After-read-head) (head : Head) → c .read-head .result ≡ head → headIn (c .before .before .args .file .now) head ≡ headOf (c .before .before .args .file .now)
+told c head e = ap (headIn (c .before .before .args .file .now)) (sym e) ∙ c .read-head .ensures
+
+-- what the head decides
+decided : (c : tie.After-read-head) (head : Head) → c .read-head .result ≡ head →
+    numberOf (headIn (c .before .before .args .file .now) head then bodyOf (λ shape. 0)) ≡ fileCheck (c .before .before .args .file .now)
+unfolding reading
+decided c head e = ap (λ (p : Part Header). numberOf (p then bodyOf (λ shape. 0))) (told c head e)
+
+check-frames-requires : tie.Need-check-frames-requires
+check-frames-requires c κs =
+    let g = c .before .before .header .given in
+    head-allowed _ (g .0 .0) _ (told (c .before .before .before .before) (Accepted (g .0 .0) (g .0 .1 .0)) (g .1))
+
+returns : tie.Need-returns
+returns c =
+    let g = c .before .number .given in
+    decided (c .before .before .before) (Refused (g .0 .0)) (g .1)
+
+returns-2 : tie.Need-returns-2
+returns-2 c =
+    let at = c .before .before .before in
+    let g = at .header .given in
+    c .check-frames .ensures ∙ sym (body-unmeasured (g .0 .0) _) ∙ decided (at .before .before) (Accepted (g .0 .0) (g .0 .1 .0)) (g .1)
+
+pub check-file-spec : {M : Type 1} → statement M
+check-file-spec =
+    tie.close
+    (tie.spec
+    read-head-requires
+    enum-known-number
+    enum-known-header
+    check-frames-requires
+    returns
+    returns-2)

@@ -1,0 +1,28 @@
+-- What holds of a part wherever it is found. A refusal's number is never 0.
+use mathlib.Core.Path.{_≡_, refl, subst}
+use mathlib.Core.List.{List}
+use Prim.Native.Nat.{ℕ, zero, suc}
+use native.Mathlib.Omega.{arith}
+use Rattle.burst_file.specs.Part.{Part, refused, found, unless, numberOf, _then_}
+
+abbrev pub Sound : {A : Type 0} → (A → List ℕ → Type 0) → Part A → Type 0
+Sound P (refused number) = number ≡ 0 → ⊥
+Sound P (found a rest) = P a rest
+
+module _ {A : Type 0} (P : A → List ℕ → Type 0) where
+  pub unless-sound : (number : ℕ) (part : Part A) → (number ≡ 0 → Sound P part) → Sound P (unless number part)
+  unless-sound zero part s = s refl
+  unless-sound (suc number) part s = λ e. absurd (omega arith)
+
+  pub sound-at : {part : Part A} {a : A} {rest : List ℕ} → part ≡ found a rest → Sound P part → P a rest
+  sound-at e s = subst (Sound P) e s
+
+  -- a part with the number 0 is found
+  pub sound-found : (part : Part A) → numberOf part ≡ 0 → Sound P part → (a : A) × (rest : List ℕ) × (part ≡ found a rest) × P a rest
+  sound-found (refused number) e s = absurd (s e)
+  sound-found (found a rest) e s = (a, rest, refl, s)
+
+pub then-sound : {A B : Type 0} (P : A → List ℕ → Type 0) (Q : B → List ℕ → Type 0) (part : Part A) (next : A → List ℕ → Part B)
+    → Sound P part → ((a : A) (rest : List ℕ) → P a rest → Sound Q (next a rest)) → Sound Q (part then next)
+then-sound P Q (refused number) next s again = s
+then-sound P Q (found a rest) next s again = again a rest s

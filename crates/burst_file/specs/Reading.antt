@@ -1,0 +1,57 @@
+-- Reading a whole file.
+use mathlib.Core.List.{List}
+use Prim.Native.Nat.{ℕ}
+use Rattle.geometry.specs.declared.Shape.{Shape}
+use Rattle.geometry.specs.Shape.{sampleLength, lengthRefusal}
+use Rattle.burst_file.specs.Part.{Part, refused, found, unless, numberOf, _then_, mapped}
+use Rattle.burst_file.specs.Head.{headOf}
+use Rattle.burst_file.specs.Rows.{framesOf}
+use Rattle.burst_file.specs.declared.FileAnswer.{FileAnswer}
+use Rattle.burst_file.specs.declared.Header.{Header}
+
+-- what an accepted file holds
+pub record Burst : Type 0 where
+  pub header : Header
+  pub samples : List ℕ
+
+-- "4, then each row by 15, 14, 11, then trailing bytes 15": what follows the header, where `lengthTest` is refusal 4 or nothing
+unfoldable pub bodyOf : (lengthTest : Shape → ℕ) → Header → List ℕ → Part Burst
+bodyOf lengthTest header bytes =
+    unless (lengthTest (header .shape)) (mapped (λ samples. record { header = header; samples = samples }) (framesOf (header .shape) bytes))
+
+unfoldable pub reading : (lengthTest : Shape → ℕ) → List ℕ → Part Burst
+reading lengthTest file = headOf file then bodyOf lengthTest
+
+-- file reading, into `room` samples: refusal 4 is "samples not N·W·H"
+abbrev pub readingInto : (room : ℕ) → List ℕ → Part Burst
+readingInto room file = reading (λ shape. lengthRefusal 4 (sampleLength shape) room) file
+
+-- "The file check does the same tests without 4 and answers the number, or 0."
+abbrev pub fileCheck : List ℕ → ℕ
+fileCheck file = numberOf (reading (λ shape. 0) file)
+
+abbrev pub refusedAnswer : ℕ → FileAnswer
+refusedAnswer number = record { refusal = number; width = 0; height = 0; count = 0; reference = 0; shot = 0; read = 0; strength = 0 }
+
+abbrev pub acceptedAnswer : Header → FileAnswer
+acceptedAnswer header =
+    record {
+      refusal = 0;
+      width = header .shape .width;
+      height = header .shape .height;
+      count = header .shape .count;
+      reference = header .reference;
+      shot = header .shot;
+      read = header .read;
+      strength = header .strength;
+    }
+
+-- "Acceptance is number 0; beside a refusal every other returned field is 0."
+abbrev pub answerOf : Part Burst → FileAnswer
+answerOf (refused number) = refusedAnswer number
+answerOf (found burst rest) = acceptedAnswer (burst .header)
+
+-- "all lent buffers keep their contents": the lent samples after reading
+abbrev pub samplesAfter : Part Burst → List ℕ → List ℕ
+samplesAfter (refused number) samples = samples
+samplesAfter (found burst rest) samples = burst .samples

@@ -1,0 +1,56 @@
+-- Rows are read exactly where the grammar has them with no value above 4095.
+use mathlib.Core.Path.{_≡_, refl, sym, ap, _∙_}
+use mathlib.Core.Bool.{Bool, true, false, _||_}
+use mathlib.Core.List.{List, [], _∷_, _++_}
+use Prim.Native.Nat.{ℕ, zero, suc}
+use native.Mathlib.Omega.{arith}
+use lib.Dec.{ltb}
+use Rattle.geometry.specs.Refusal.{refuse}
+use Rattle.geometry.specs.RefusalLaws.{refuse-not}
+use Rattle.burst_file.specs.Part.{Part, refused, found}
+use Rattle.burst_file.specs.PartLaws.{Sound, unless-sound, then-sound}
+use Rattle.burst_file.specs.Line.{valueLine, above}
+use Rattle.burst_file.specs.Rows.{row, rows}
+use Rattle.burst_file.specs.Grammar.{ValueLine, Rows, noRow, rowThen}
+use Rattle.burst_file.specs.LineLaws.{line-sound, line-complete}
+
+above-append : (bound : ℕ) (a b : List ℕ) → above bound (a ++ b) ≡ (above bound a || above bound b)
+unfolding above
+above-append bound [] b = refl
+above-append bound (v ∷ a) b = ap (λ (x : Bool). ltb bound v || x) (above-append bound a b) ∙ regroup (ltb bound v) (above bound a) (above bound b)
+  where
+    regroup : (x y z : Bool) → (x || (y || z)) ≡ ((x || y) || z)
+    regroup true y z = refl
+    regroup false y z = refl
+
+neither : (a b : Bool) → (a || b) ≡ false → (a ≡ false) × (b ≡ false)
+neither false b e = (refl, e)
+neither true b e = absurd (let z : _≡_ {A = ℕ} 0 1 = cc in omega arith)
+
+-- a row and rows of the grammar with no value above 4095
+abbrev SmallLine : (width : ℕ) (s values rest : List ℕ) → Type 0
+SmallLine width s values rest = ValueLine width s values rest × (above 4095 values ≡ false)
+
+abbrev pub SmallRows : (count width : ℕ) (s values rest : List ℕ) → Type 0
+SmallRows count width s values rest = Rows count width s values rest × (above 4095 values ≡ false)
+
+row-sound : (width : ℕ) (s : List ℕ) → Sound (SmallLine width s) (row width s)
+unfolding row
+row-sound width s =
+    then-sound (ValueLine width s) (SmallLine width s) (valueLine width s) _ (line-sound width s)
+    (λ values rest l. unless-sound (SmallLine width s) (refuse 11 (above 4095 values)) (found values rest) (λ e. (l, refuse-not 10 (above 4095 values) e)))
+
+pub rows-sound : (count width : ℕ) (s : List ℕ) → Sound (SmallRows count width s) (rows count width s)
+unfolding rows above
+rows-sound zero width s = (noRow, refl)
+rows-sound (suc count) width s =
+    then-sound (SmallLine width s) (SmallRows (suc count) width s) (row width s) _ (row-sound width s)
+    (λ values t l. then-sound (SmallRows count width t) (SmallRows (suc count) width s) (rows count width t) _ (rows-sound count width t)
+    (λ others rest o. (rowThen (l .0) (o .0), above-append 4095 values others ∙ rw (l .1) (o .1))))
+
+pub rows-complete : {count width : ℕ} {s values rest : List ℕ} → Rows count width s values rest → above 4095 values ≡ false → rows count width s ≡ found values rest
+unfolding rows row
+rows-complete noRow e = refl
+rows-complete (rowThen {values = values} {others = others} l o) e =
+    let small = neither (above 4095 values) (above 4095 others) (sym (above-append 4095 values others) ∙ e) in
+    rw (line-complete l, small .0, rows-complete o (small .1))

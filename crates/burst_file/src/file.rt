@@ -1,0 +1,72 @@
+// The check of a whole file, and the reading of it.
+ghost use mathlib.Core.Path.{_≡_};
+ghost use mathlib.Core.Bool.{false};
+ghost use lib.ListN.{length, drop};
+ghost use Rattle.burst_file.specs.Line.{above};
+ghost use Rattle.burst_file.specs.Reading.{readingInto, fileCheck, refusedAnswer, acceptedAnswer, answerOf, samplesAfter};
+ghost use Rattle.burst_file.specs.Scan.{nextValues};
+use crate::FileAnswer;
+use crate::Head;
+use crate::Header;
+use crate::first_lines::read_head;
+use crate::rows::check_frames;
+use crate::scanning::value_at;
+
+// The number of the first refusal but 4, or 0.
+pub fn check_file(file: &[u8]) -> u64
+    ensures { λ r. ⌜ r ≡ fileCheck (now (file .entry)) ⌝ }
+{
+    match read_head(file) {
+        Head::Refused { number } => number,
+        Head::Accepted { header, next } => {
+            let shape = header.shape;
+            check_frames(file, next, shape)
+        }
+    }
+}
+
+fn refused(number: u64) -> FileAnswer
+    ensures { λ r. ⌜ r ≡ refusedAnswer number ⌝ }
+{
+    FileAnswer {
+        refusal: number,
+        width: 0,
+        height: 0,
+        count: 0,
+        reference: 0,
+        shot: 0,
+        read: 0,
+        strength: 0,
+    }
+}
+
+fn accepted(header: Header) -> FileAnswer
+    ensures { λ r. ⌜ r ≡ acceptedAnswer header ⌝ }
+{
+    let shape = header.shape;
+    FileAnswer {
+        refusal: 0,
+        width: shape.width as u64,
+        height: shape.height as u64,
+        count: shape.count as u64,
+        reference: header.reference as u64,
+        shot: header.shot,
+        read: header.read,
+        strength: header.strength,
+    }
+}
+
+// The values from a position on, none of them above 4095, into all of the samples.
+fn fill(file: &[u8], at: usize, samples: &mut [u16])
+    requires { ⌜ above 4095 (nextValues (length (now samples)) (drop at (now file))) ≡ false ⌝ }
+    ensures { λ r. ⌜ now (samples .exit) ≡ nextValues (length (now (samples .entry))) (drop at (now (file .entry))) ⌝ }
+{
+    let mut i = at;
+    let mut j = 0;
+    while j < samples.len() {
+        let found = value_at(file, i);
+        samples[j] = found.value as u16;
+        i = found.next;
+        j += 1;
+    }
+}
