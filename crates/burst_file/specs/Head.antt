@@ -9,14 +9,8 @@ use Rattle.geometry.specs.Shape.{shapeRefusal, referenceRefusal}
 use Rattle.noise.specs.Levels.{levelRefusal, strengthRefusal}
 use Rattle.burst_file.specs.Part.{Part, found, unless, _then_}
 use Rattle.burst_file.specs.Line.{lineEnd, valueLine}
+use Rattle.burst_file.specs.Grammar.{names}
 use Rattle.burst_file.specs.declared.Header.{Header}
-
--- "A line of names, `width height count reference shot read strength`", with its LF
-abbrev pub names : List ℕ
-names =
-    119 ∷ 105 ∷ 100 ∷ 116 ∷ 104 ∷ 32 ∷ 104 ∷ 101 ∷ 105 ∷ 103 ∷ 104 ∷ 116 ∷ 32 ∷ 99 ∷ 111 ∷ 117 ∷ 110 ∷ 116 ∷ 32
-    ∷ 114 ∷ 101 ∷ 102 ∷ 101 ∷ 114 ∷ 101 ∷ 110 ∷ 99 ∷ 101 ∷ 32 ∷ 115 ∷ 104 ∷ 111 ∷ 116 ∷ 32 ∷ 114 ∷ 101 ∷ 97 ∷ 100 ∷ 32
-    ∷ 115 ∷ 116 ∷ 114 ∷ 101 ∷ 110 ∷ 103 ∷ 116 ∷ 104 ∷ 10 ∷ []
 
 -- the bytes begin with the text
 unfoldable pub startsWith : (text : List ℕ) → List ℕ → Bool

@@ -1,10 +1,12 @@
+pub mod Grammar
 pub mod Part
 pub mod Line
 pub mod Head
 pub mod Rows
 pub mod Reading
+pub mod Acceptance
 pub mod Scan
-pub mod Grammar
 pub mod PartLaws
 pub mod LineLaws
 pub mod RowLaws
+pub mod HeadLaws

@@ -128,7 +128,7 @@ line-more {t} {s} {rest} {v} count w g line l =
       counted = ap suc (k .counted);
     })
 
-malformed : _≡_ {A = ℕ} 14 0 → ⊥
+pub malformed : _≡_ {A = ℕ} 14 0 → ⊥
 malformed e = omega arith
 
 pub values-sound : (count : ℕ) (s : List ℕ) → SoundLine count s (valuesOf count s)

@@ -26,3 +26,7 @@ pub then-sound : {A B : Type 0} (P : A → List ℕ → Type 0) (Q : B → List 
     → Sound P part → ((a : A) (rest : List ℕ) → P a rest → Sound Q (next a rest)) → Sound Q (part then next)
 then-sound P Q (refused number) next s again = s
 then-sound P Q (found a rest) next s again = again a rest s
+
+pub both-sound : {A : Type 0} (P Q : A → List ℕ → Type 0) (part : Part A) → Sound P part → Sound Q part → Sound (λ a rest. P a rest × Q a rest) part
+both-sound P Q (refused number) p q = p
+both-sound P Q (found a rest) p q = (p, q)

@@ -4,15 +4,11 @@ use Prim.Native.Nat.{ℕ}
 use Rattle.geometry.specs.declared.Shape.{Shape}
 use Rattle.geometry.specs.Shape.{sampleLength, lengthRefusal}
 use Rattle.burst_file.specs.Part.{Part, refused, found, unless, numberOf, _then_, mapped}
+use Rattle.burst_file.specs.Grammar.{Burst}
 use Rattle.burst_file.specs.Head.{headOf}
 use Rattle.burst_file.specs.Rows.{framesOf}
 use Rattle.burst_file.specs.declared.FileAnswer.{FileAnswer}
 use Rattle.burst_file.specs.declared.Header.{Header}
-
--- what an accepted file holds
-pub record Burst : Type 0 where
-  pub header : Header
-  pub samples : List ℕ
 
 -- "4, then each row by 15, 14, 11, then trailing bytes 15": what follows the header, where `lengthTest` is refusal 4 or nothing
 unfoldable pub bodyOf : (lengthTest : Shape → ℕ) → Header → List ℕ → Part Burst

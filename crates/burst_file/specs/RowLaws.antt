@@ -10,7 +10,7 @@ use Rattle.geometry.specs.RefusalLaws.{refuse-not}
 use Rattle.burst_file.specs.Part.{Part, refused, found}
 use Rattle.burst_file.specs.PartLaws.{Sound, unless-sound, then-sound}
 use Rattle.burst_file.specs.Line.{valueLine, above}
-use Rattle.burst_file.specs.Rows.{row, rows}
+use Rattle.burst_file.specs.Rows.{row, rows, ended}
 use Rattle.burst_file.specs.Grammar.{ValueLine, Rows, noRow, rowThen}
 use Rattle.burst_file.specs.LineLaws.{line-sound, line-complete}
 
@@ -54,3 +54,9 @@ rows-complete noRow e = refl
 rows-complete (rowThen {values = values} {others = others} l o) e =
     let small = neither (above 4095 values) (above 4095 others) (sym (above-append 4095 values others) ∙ e) in
     rw (line-complete l, small .0, rows-complete o (small .1))
+
+-- nothing follows what is found at the end of the file
+pub ended-sound : {A : Type 0} (P : A → List ℕ → Type 0) (part : Part A) → Sound P part → Sound (λ a rest. P a [] × (rest ≡ [])) (ended part)
+ended-sound P (refused number) s = s
+ended-sound P (found a []) s = (s, refl)
+ended-sound P (found a (byte ∷ rest)) s = λ e. absurd (omega arith)

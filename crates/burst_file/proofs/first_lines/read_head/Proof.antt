@@ -13,7 +13,7 @@ use Rattle.burst_file.specs.declared.Header.{Header}
 use Rattle.burst_file.specs.declared.Line.{Line}
 use Rattle.burst_file.specs.declared.Line.the-variants.{Good, Refused}
 use Rattle.burst_file.proofs.Parts.{unless-stops, unless-goes}
-use Rattle.burst_file.proofs.Fills.{line-next, line-refused}
+use Rattle.burst_file.proofs.Next.{line-found-next, line-refused}
 use Rattle.burst_file.proofs.first_lines.read_head.Statement.{statement}
 use Rattle.burst_file.proofs.first_lines.read_head.Tie as tie
 
@@ -62,7 +62,7 @@ seven c =
     let g = c .next .given in
     let file = c .before .before .before .before .before .before .args .file .now in
     named (c .before .before .before) (found (nextValues 7 (drop 48 file)) (drop (g .0 .0) file))
-    (line-next 7 (drop 48 file) 0 (g .0 .1 .0) (drop (g .0 .0) file) (told (c .before .before) (Good (g .0 .0) (g .0 .1 .0)) (g .1)))
+    (line-found-next 7 (drop 48 file) 0 (g .0 .1 .0) (drop (g .0 .0) file) (told (c .before .before) (Good (g .0 .0) (g .0 .1 .0)) (g .1)))
 
 returns-2 : tie.Need-returns-2
 returns-2 c =

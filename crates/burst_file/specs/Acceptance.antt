@@ -1,0 +1,63 @@
+-- A file is accepted exactly when it is a file of the grammar whose values pass the tests.
+use mathlib.Core.Path.{_≡_, refl, sym, ap, _∙_}
+use mathlib.Core.Bool.{false}
+use mathlib.Core.List.{List, []}
+use Prim.Native.Nat.{ℕ, _*_}
+use Rattle.geometry.specs.declared.Shape.{Shape}
+use Rattle.burst_file.specs.declared.Header.{Header}
+use Rattle.burst_file.specs.Grammar.{Burst, BurstFile}
+use Rattle.burst_file.specs.Part.{Part, found, numberOf}
+use Rattle.burst_file.specs.PartLaws.{Sound, unless-sound, sound-at, sound-found, then-sound}
+use Rattle.burst_file.specs.Line.{above}
+use Rattle.burst_file.specs.Head.{headerRefusal, headOf}
+use Rattle.burst_file.specs.HeadLaws.{HeadRead, head-sound, head-complete}
+use Rattle.burst_file.specs.Rows.{rows, framesOf}
+use Rattle.burst_file.specs.RowLaws.{SmallRows, rows-sound, rows-complete, ended-sound}
+use Rattle.burst_file.specs.Reading.{bodyOf, reading}
+
+-- `lengthTest` is refusal 4, or nothing in the file check; 11 is "sample > 4095"
+pub record Accepted (lengthTest : Shape → ℕ) (file : List ℕ) (burst : Burst) : Type 0 where
+  pub grammar : BurstFile file burst
+  pub header : headerRefusal (burst .header) ≡ 0
+  pub measured : lengthTest (burst .header .shape) ≡ 0
+  pub small : above 4095 (burst .samples) ≡ false
+
+module _ (lengthTest : Shape → ℕ) (file : List ℕ) where
+  abbrev Ends : Burst → List ℕ → Type 0
+  Ends burst rest = Accepted lengthTest file burst × (rest ≡ [])
+
+  reading-sound : Sound Ends (reading lengthTest file)
+  unfolding reading bodyOf framesOf
+  reading-sound =
+      then-sound (HeadRead file) Ends (headOf file) (bodyOf lengthTest) (head-sound file)
+      (λ header body h.
+      let count = header .shape .count * header .shape .height in
+      let width = header .shape .width in
+      let AllRows : List ℕ → List ℕ → Type 0 = λ samples rest. SmallRows count width body samples [] × (rest ≡ []) in
+      unless-sound Ends (lengthTest (header .shape)) _
+      (λ measured. then-sound AllRows Ends (framesOf (header .shape) body) _ (ended-sound (SmallRows count width body) (rows count width body) (rows-sound count width body))
+      (λ samples rest r. (
+        record {
+          grammar = record { afterNames = h .afterNames; afterValues = body; named = h .named; valued = h .valued; sampled = r .0 .0 };
+          header = h .passed;
+          measured = measured;
+          small = r .0 .1;
+        },
+        r .1,
+      ))))
+
+  -- what is read is a file of the grammar, whole
+  pub sound : (burst : Burst) (rest : List ℕ) → reading lengthTest file ≡ found burst rest → Accepted lengthTest file burst × (rest ≡ [])
+  sound burst rest e = sound-at Ends e reading-sound
+
+  -- the number 0 is acceptance
+  pub sound-number : numberOf (reading lengthTest file) ≡ 0 → (burst : Burst) × Accepted lengthTest file burst
+  sound-number e = let (burst, rest, is, s) = sound-found Ends (reading lengthTest file) e reading-sound in (burst, s .0)
+
+  -- each file of the grammar is read, and as what it holds
+  pub complete : (burst : Burst) → Accepted lengthTest file burst → reading lengthTest file ≡ found burst []
+  unfolding reading bodyOf framesOf
+  complete burst a =
+      let g = a .grammar in
+      let h : HeadRead file (burst .header) (g .afterValues) = record { afterNames = g .afterNames; named = g .named; valued = g .valued; passed = a .header } in
+      rw (head-complete h, a .measured, rows-complete (g .sampled) (a .small))

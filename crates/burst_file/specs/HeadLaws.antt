@@ -1,0 +1,64 @@
+-- The first two lines are read exactly where the grammar has them with values that pass their tests.
+use mathlib.Core.Path.{_≡_, refl, sym, ap, _∙_}
+use mathlib.Core.Bool.{Bool, true, false, cond, not}
+use mathlib.Core.List.{List, [], _∷_, _++_}
+use Prim.Native.Nat.{ℕ}
+use native.Mathlib.Omega.{arith}
+use lib.Dec.{eqb}
+use lib.ListN.{length, getD, drop}
+use borrow.Author.Tests.{eq-eqb, eqb-true, not-false}
+use Rattle.sequences.specs.Tab.{tab}
+use Rattle.sequences.specs.Grid.{tab-of}
+use Rattle.geometry.specs.Refusal.{refuse}
+use Rattle.geometry.specs.RefusalLaws.{before-both, refuse-not}
+use Rattle.burst_file.specs.declared.Header.{Header}
+use Rattle.burst_file.specs.Grammar.{names, sevenOf, ValueLine}
+use Rattle.burst_file.specs.Part.{Part, found}
+use Rattle.burst_file.specs.PartLaws.{Sound, unless-sound, then-sound}
+use Rattle.burst_file.specs.Line.{hasLF, lineEnd, valueLine}
+use Rattle.burst_file.specs.LineLaws.{line-sound, line-complete}
+use Rattle.burst_file.specs.Head.{startsWith, firstLineRefusal, headerOf, headerRefusal, tested, headOf}
+
+starts-sound : (text s : List ℕ) → startsWith text s ≡ true → s ≡ text ++ drop (length text) s
+unfolding startsWith
+starts-sound [] s e = refl
+starts-sound (byte ∷ text) [] e = absurd (let z : _≡_ {A = ℕ} 0 1 = cc in omega arith)
+starts-sound (byte ∷ text) (b ∷ s) e = from (eqb b byte) refl (starts-sound text s) e
+  where
+    from : (x : Bool) → eqb b byte ≡ x → (startsWith text s ≡ true → s ≡ text ++ drop (length text) s) → cond x (startsWith text s) false ≡ true → b ∷ s ≡ byte ∷ (text ++ drop (length text) s)
+    from true p again e = ap (λ (y : ℕ). y ∷ s) (eqb-true b byte p) ∙ ap (λ (t : List ℕ). byte ∷ t) (again e)
+    from false p again e = absurd (let z : _≡_ {A = ℕ} 0 1 = cc in omega arith)
+
+starts-complete : (text s : List ℕ) → startsWith text (text ++ s) ≡ true
+unfolding startsWith
+starts-complete [] s = refl
+starts-complete (byte ∷ text) s = rw (eq-eqb byte byte refl) (starts-complete text s)
+
+-- seven values are those of their header
+seven : (values : List ℕ) → length values ≡ 7 → sevenOf (headerOf values) ≡ values
+unfolding tab
+seven values e = sym (tab-of 0 values ∙ ap (λ (n : ℕ). tab n (λ i. getD values i 0)) e)
+
+-- a file that begins with the names and a line of seven values, which are those of the header, with values that are not refused
+pub record HeadRead (file : List ℕ) (header : Header) (rest : List ℕ) : Type 0 where
+  pub afterNames : List ℕ
+  pub named : file ≡ names ++ afterNames
+  pub valued : ValueLine 7 afterNames (sevenOf header) rest
+  pub passed : headerRefusal header ≡ 0
+
+pub head-sound : (file : List ℕ) → Sound (HeadRead file) (headOf file)
+unfolding headOf firstLineRefusal
+head-sound file =
+    unless-sound (HeadRead file) (firstLineRefusal file) _
+    (λ first. then-sound (ValueLine 7 (drop (length names) file)) (HeadRead file) (valueLine 7 (drop (length names) file)) tested (line-sound 7 (drop (length names) file))
+    (λ values rest l. unless-sound (HeadRead file) (headerRefusal (headerOf values)) (found (headerOf values) rest)
+    (λ e. record {
+      afterNames = drop (length names) file;
+      named = starts-sound names file (not-false _ (refuse-not 12 (not (startsWith names file)) (before-both (lineEnd file) _ first .1)));
+      valued = rw (seven values (l .counted)) l;
+      passed = e;
+    })))
+
+pub head-complete : {file : List ℕ} {header : Header} {rest : List ℕ} → HeadRead file header rest → headOf file ≡ found header rest
+unfolding headOf firstLineRefusal hasLF
+head-complete {file} {header} {rest} h = ap headOf (h .named) ∙ rw (starts-complete names (h .afterNames), line-complete (h .valued), h .passed)
