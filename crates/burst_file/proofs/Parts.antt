@@ -15,3 +15,7 @@ module _ {A : Type 0} (part : Part A) where
 pub number-mapped : {A B : Type 0} (f : A → B) (part : Part A) → numberOf (mapped f part) ≡ numberOf part
 number-mapped f (refused number) = refl
 number-mapped f (found a rest) = refl
+
+pub number-stops : {A : Type 0} {r : ℕ} (part : Part A) → r ≡ numberOf part → (r ≡ 0 → ⊥) → part ≡ refused r
+number-stops (refused number) e h = ap refused (sym e)
+number-stops (found a rest) e h = absurd (h e)

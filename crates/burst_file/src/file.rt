@@ -70,3 +70,25 @@ fn fill(file: &[u8], at: usize, samples: &mut [u16])
         j += 1;
     }
 }
+
+// Reads a file into the samples. Nothing is stored before the whole file is checked.
+pub fn read_file(file: &[u8], samples: &mut [u16]) -> FileAnswer
+    ensures { λ r. ⌜ (r ≡ answerOf (readingInto (length (now (samples .entry))) (now (file .entry)))) × (now (samples .exit) ≡ samplesAfter (readingInto (length (now (samples .entry))) (now (file .entry))) (now (samples .entry))) ⌝ }
+{
+    match read_head(file) {
+        Head::Refused { number } => refused(number),
+        Head::Accepted { header, next } => {
+            let shape = header.shape;
+            let length = geometry::length_refusal(4, geometry::sample_length(shape), samples.len());
+            if length != 0 {
+                return refused(length);
+            }
+            let body = check_frames(file, next, shape);
+            if body != 0 {
+                return refused(body);
+            }
+            fill(file, next, samples);
+            accepted(header)
+        }
+    }
+}

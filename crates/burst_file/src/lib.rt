@@ -6,6 +6,7 @@ pub mod rows;
 pub mod scanning;
 
 pub use file::check_file;
+pub use file::read_file;
 use geometry::Shape;
 
 // What stands at a position of a file: a value and the position past what ends it, or nothing well formed.

@@ -1,0 +1,146 @@
+-- `read_file`: each part's number refuses or lets the next part decide; the samples are stored once all of them are accepted.
+use mathlib.Core.Path.{_≡_, refl, sym, ap, _∙_}
+use mathlib.Core.List.{List}
+use Prim.Native.Nat.{ℕ}
+use borrow.Author.Needs.{needs}
+use borrow.Author.Tests.{eqb-true, not-false}
+use lib.ListN.{length, drop}
+use Rattle.geometry.specs.declared.Shape.{Shape}
+use Rattle.geometry.specs.Shape.{Allowed, sampleLength, lengthRefusal}
+use Rattle.geometry.specs.RefusalLaws.{refuse-not}
+use Rattle.burst_file.specs.Grammar.{Burst}
+use Rattle.burst_file.specs.Part.{Part, refused}
+use Rattle.burst_file.specs.Line.{above}
+use Rattle.burst_file.specs.Head.{headOf}
+use Rattle.burst_file.specs.Reading.{readingInto, refusedAnswer, answerOf, samplesAfter}
+use Rattle.burst_file.specs.Scan.{headIn, nextValues}
+use Rattle.burst_file.specs.declared.FileAnswer.{FileAnswer}
+use Rattle.burst_file.specs.declared.Head.{Head}
+use Rattle.burst_file.specs.declared.Head.the-variants.{Accepted, Refused}
+use Rattle.burst_file.proofs.Heads.{head-allowed}
+use Rattle.burst_file.proofs.Bodies.{frames-next, head-refuses, length-refuses, frames-refuse, frames-accept}
+use Rattle.burst_file.proofs.file.read_file.Statement.{statement}
+use Rattle.burst_file.proofs.file.read_file.Tie as tie
+
+read-head-requires : tie.Need-read-head-requires
+read-head-requires c κs = search needs
+
+enum-known-number : tie.Need-enum-known-number
+enum-known-number c = search needs
+
+refused-requires : tie.Need-refused-requires
+refused-requires c κs = search needs
+
+enum-known-header : tie.Need-enum-known-header
+enum-known-header c = search needs
+
+-- where the head is `head`
+told : (c : tie.After-read-head) (head : Head) → c .read-head .result ≡ head →
+    let file = c .before .before .before .args .file .now in
+    headIn file head ≡ headOf file
+told c head e = ap (headIn (c .before .before .before .args .file .now)) (sym e) ∙ c .read-head .ensures
+
+headed : (c : tie.After-header) →
+    let file = c .before .before .before .before .before .args .file .now in
+    headIn file (Accepted (c .header .given .0 .0) (c .header .given .0 .1 .0)) ≡ headOf file
+headed c = told (c .before .before) (Accepted (c .header .given .0 .0) (c .header .given .0 .1 .0)) (c .header .given .1)
+
+sample-length-requires : tie.Need-sample-length-requires
+sample-length-requires c κs = head-allowed _ _ _ (headed (c .before .before))
+
+length-refusal-requires : tie.Need-length-refusal-requires
+length-refusal-requires c κs = search needs
+
+refused-requires-2 : tie.Need-refused-requires-2
+refused-requires-2 c κs = search needs
+
+-- a refusal and the samples as they were
+refusal : {reading : Part Burst} {number : ℕ} {answer : FileAnswer} (samples : List ℕ) → reading ≡ refused number → answer ≡ refusedAnswer number → (answer ≡ answerOf reading) × (samples ≡ samplesAfter reading samples)
+refusal samples e a = (a ∙ sym (ap answerOf e), sym (ap (λ (p : Part Burst). samplesAfter p samples) e))
+
+-- refusal 4's number
+length-number : (c : tie.After-length-refusal) →
+    let start = c .before .before .before .before .before .before .before .before .before in
+    c .length-refusal .result ≡ lengthRefusal 4 (sampleLength (c .before .before .before .before .header .given .0 .0 .shape)) (length (start .args .samples .now))
+length-number c =
+    let start = c .before .before .before .before .before .before .before .before .before in
+    c .length-refusal .ensures ∙ ap (λ (k : ℕ). lengthRefusal 4 k (length (start .args .samples .now))) (c .before .sample-length .ensures .0)
+
+returns : tie.Need-returns
+returns c =
+    let at = c .before .before in
+    let header = at .before .before .before .before in
+    refusal _ (length-refuses _ _ (headed header) (length-number at) (c .before .if1 .taken)) (c .refused2 .ensures)
+
+check-frames-requires : tie.Need-check-frames-requires
+check-frames-requires c κs = head-allowed _ _ _ (headed (c .before .before .before .before .before))
+
+refused-requires-3 : tie.Need-refused-requires-3
+refused-requires-3 c κs = search needs
+
+returns-2 : tie.Need-returns-2
+returns-2 c =
+    let checked = c .before .before in
+    let at = checked .before .before in
+    refusal _ (frames-refuse _ _ (headed (at .before .before .before .before)) (length-number at) (checked .before .if1 .left) (checked .check-frames .ensures) (c .before .if2 .taken)) (c .refused3 .ensures)
+
+-- the lent samples are as many as the file's
+length-right : (c : tie.Else1) →
+    let start = c .before .before .before .before .before .before .before .before .before .before in
+    length (start .args .samples .now) ≡ sampleLength (c .before .before .before .before .before .header .given .0 .0 .shape)
+unfolding lengthRefusal
+length-right c = eqb-true _ _ (not-false _ (refuse-not 3 _ (sym (length-number (c .before)) ∙ c .if1 .left)))
+
+fill-requires : tie.Need-fill-requires
+fill-requires c κs =
+    let checked = c .before .before in
+    let header = checked .before .before .before .before .before .before in
+    let file = header .before .before .before .before .before .args .file .now in
+    let rest = drop (header .header .given .0 .1 .0) file in
+    ap (λ (n : ℕ). above 4095 (nextValues n rest)) (length-right (checked .before))
+    ∙ frames-next (header .header .given .0 .0 .shape) rest (sym (checked .check-frames .ensures) ∙ c .before .if2 .left) .1
+
+accepted-requires : tie.Need-accepted-requires
+accepted-requires c κs = search needs
+
+returns-3 : tie.Need-returns-3
+returns-3 c =
+    let g = c .before .before .number .given in
+    refusal _ (head-refuses _ _ (told (c .before .before .before .before) (Refused (g .0 .0)) (g .1))) (c .refused .ensures)
+
+same-length : tie.Need-same-length
+same-length c = search needs
+
+returns-4 : tie.Need-returns-4
+returns-4 c =
+    let filled = c .before .before .before in
+    let checked = filled .before .before .before in
+    let at = checked .before .before in
+    let header = at .before .before .before .before in
+    let start = header .before .before .before .before .before in
+    let rest = drop (header .header .given .0 .1 .0) (start .args .file .now) in
+    let e = frames-accept _ _ (headed header) (length-number at) (checked .before .if1 .left) (checked .check-frames .ensures) (filled .before .before .if2 .left) in (
+      c .accepted .ensures ∙ sym (ap answerOf e),
+      filled .fill .ensures ∙ ap (λ (n : ℕ). nextValues n rest) (length-right (checked .before)) ∙ sym (ap (λ (p : Part Burst). samplesAfter p (start .args .samples .now)) e),
+    )
+
+pub read-file-spec : {M : Type 1} → statement M
+read-file-spec =
+    tie.close
+    (tie.spec
+    read-head-requires
+    enum-known-number
+    refused-requires
+    enum-known-header
+    sample-length-requires
+    length-refusal-requires
+    refused-requires-2
+    returns
+    check-frames-requires
+    refused-requires-3
+    returns-2
+    fill-requires
+    accepted-requires
+    returns-3
+    same-length
+    returns-4)
