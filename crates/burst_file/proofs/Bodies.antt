@@ -1,23 +1,31 @@
 -- The reading of a file by the numbers that the code found for its parts.
-use mathlib.Core.Path.{_≡_, refl, sym, ap, _∙_}
+use mathlib.Core.Path.{_≡_, sym, ap, _∙_}
 use mathlib.Core.Bool.{false}
 use mathlib.Core.List.{List, []}
 use Prim.Native.Nat.{ℕ, _*_}
 use native.Mathlib.Nat.{mul-assoc, mul-comm}
 use Rattle.geometry.specs.declared.Shape.{Shape}
-use Rattle.geometry.specs.Shape.{sampleLength}
+use Rattle.geometry.specs.RefusalLaws.{before-both}
+use Rattle.geometry.specs.Shape.{Allowed, sampleLength}
+use Rattle.geometry.specs.ShapeLaws.{allowed}
 use Rattle.burst_file.specs.declared.Header.{Header}
 use Rattle.burst_file.specs.Grammar.{Burst}
 use Rattle.burst_file.specs.Part.{Part, refused, found, numberOf, _then_, mapped}
-use Rattle.burst_file.specs.PartLaws.{both-sound, sound-found}
+use Rattle.burst_file.specs.PartLaws.{both-sound, sound-at, sound-found}
 use Rattle.burst_file.specs.Line.{above}
-use Rattle.burst_file.specs.Head.{headOf}
+use Rattle.burst_file.specs.Head.{headerRefusal, headOf}
+use Rattle.burst_file.specs.HeadLaws.{HeadRead, head-sound}
 use Rattle.burst_file.specs.Rows.{rows, framesOf}
 use Rattle.burst_file.specs.RowLaws.{SmallRows, rows-sound, ended-sound}
 use Rattle.burst_file.specs.Reading.{bodyOf, reading}
 use Rattle.burst_file.specs.Scan.{nextValues}
 use Rattle.burst_file.proofs.Next.{Next, next-all, rows-next}
 use Rattle.burst_file.proofs.Parts.{unless-stops, unless-goes, number-mapped, number-stops}
+
+-- an accepted head's shape is allowed
+pub head-allowed : (file : List ℕ) (header : Header) (rest : List ℕ) → found header rest ≡ headOf file → Allowed (header .shape)
+unfolding headerRefusal
+head-allowed file header rest e = allowed (header .shape) (before-both _ _ (sound-at (HeadRead file) (sym e) (head-sound file) .passed) .0)
 
 -- frames that are not refused are the next values, to the end of the file
 module _ (shape : Shape) (bytes : List ℕ) where

@@ -1,8 +1,8 @@
 -- The definitions on bytes at the bytes of a list from a position on: what the byte there decides.
-use mathlib.Core.Path.{_≡_, refl, sym, ap, _∙_}
+use mathlib.Core.Path.{_≡_}
 use mathlib.Core.Bool.{true, false}
-use mathlib.Core.List.{List, [], _∷_}
-use Prim.Native.Nat.{ℕ, suc, _+_, _*_, _^_, _<_, _≤_}
+use mathlib.Core.List.{List, _∷_}
+use Prim.Native.Nat.{ℕ, _+_, _*_, _^_, _<_, _≤_}
 use native.Mathlib.Numerals.{add-one}
 use native.Mathlib.Nat.{pow-succ'}
 use native.Mathlib.Omega.{arith}
@@ -10,7 +10,7 @@ use lib.ListN.{length, getD, drop, drop-of-length-le}
 use lib.Seq.{drop-cons}
 use borrow.Author.Tests.{eq-eqb, ne-eqb}
 use Rattle.burst_file.specs.Head.{startsWith}
-use Rattle.burst_file.specs.Line.{Item, last, more, bad, digitOf, pastSpaces, afterDigits, digitsFrom, hasLF}
+use Rattle.burst_file.specs.Line.{last, more, bad, digitOf, pastSpaces, afterDigits, digitsFrom, hasLF}
 
 pub step : (s : List ℕ) (i : ℕ) → i < length s → drop i s ≡ getD s i 0 ∷ drop (i + 1) s
 step s i h = rw (add-one, drop-cons s i 0)

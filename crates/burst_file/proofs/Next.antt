@@ -8,12 +8,12 @@ use native.Mathlib.Omega.{arith}
 use lib.Dec.{eqb}
 use borrow.Author.Tests.{eqb-true}
 use Rattle.geometry.specs.Refusal.{refuse}
-use Rattle.burst_file.specs.Part.{Part, refused, found, mapped}
-use Rattle.burst_file.specs.PartLaws.{Sound, unless-sound, sound-at, then-sound}
-use Rattle.burst_file.specs.Line.{Item, last, more, bad, itemOf, afterItem, valuesOf, lineEnd, valueLine, above, judged}
+use Rattle.burst_file.specs.Part.{Part, refused, found}
+use Rattle.burst_file.specs.PartLaws.{Sound, unless-sound, then-sound}
+use Rattle.burst_file.specs.Line.{Item, last, more, bad, itemOf, afterItem, valuesOf, lineEnd, valueLine, above}
 use Rattle.burst_file.specs.LineLaws.{malformed}
 use Rattle.burst_file.specs.Rows.{row, rows}
-use Rattle.burst_file.specs.Scan.{valueIn, restIn, nextValues}
+use Rattle.burst_file.specs.Scan.{valueIn, restIn, nextValues, judged}
 
 -- the next values of s are `count` values and, with any m more, those of `rest`
 abbrev pub Next : (count : ℕ) (s values rest : List ℕ) → Type 0

@@ -1,5 +1,5 @@
 -- A test ahead of a part, by the number that the code found for it.
-use mathlib.Core.Path.{_≡_, refl, sym, ap, _∙_}
+use mathlib.Core.Path.{_≡_, refl, sym, ap}
 use Prim.Native.Nat.{ℕ, zero, suc}
 use native.Mathlib.Omega.{arith}
 use Rattle.burst_file.specs.Part.{Part, refused, found, unless, numberOf, mapped}

@@ -1,5 +1,5 @@
 -- Rows one by one, as far as a check sees them: where they end, or the first refusal.
-use mathlib.Core.Path.{_≡_, refl, sym, ap, _∙_}
+use mathlib.Core.Path.{_≡_, refl}
 use mathlib.Core.Bool.{Bool, true, false}
 use mathlib.Core.List.{List, [], _∷_, _++_}
 use Prim.Native.Nat.{ℕ, zero, suc, _-_, _<_, _≤_}
@@ -7,9 +7,9 @@ use native.Mathlib.Numerals.{sub-one}
 use native.Mathlib.Omega.{arith}
 use lib.ListN.{length, drop, drop-of-length-le}
 use Rattle.burst_file.specs.Part.{Part, refused, found, numberOf, _then_, mapped}
-use Rattle.burst_file.specs.Line.{valueLine, above, judged}
+use Rattle.burst_file.specs.Line.{valueLine, above}
 use Rattle.burst_file.specs.Rows.{unlessAbove, row, rows, ended}
-use Rattle.burst_file.specs.Scan.{briefly}
+use Rattle.burst_file.specs.Scan.{briefly, judged}
 use Rattle.burst_file.proofs.Bytes.{step}
 
 -- what the judgement of a line makes of a row

@@ -1,13 +1,14 @@
 -- The values of a line one by one, and a line's LF.
-use mathlib.Core.Path.{_≡_, refl, sym, ap, _∙_}
-use mathlib.Core.Bool.{Bool, true, false, cond, _||_}
+use mathlib.Core.Path.{_≡_, refl, ap, _∙_}
+use mathlib.Core.Bool.{Bool, true, false, _||_}
 use mathlib.Core.List.{List, [], _∷_}
 use Prim.Native.Nat.{ℕ, zero, suc, _-_, _<_, _≤_}
 use native.Mathlib.Numerals.{sub-one}
 use native.Mathlib.Omega.{arith}
 use lib.Dec.{ltb}
 use Rattle.burst_file.specs.Part.{Part, refused, found, unless, mapped}
-use Rattle.burst_file.specs.Line.{itemOf, afterItem, valuesOf, hasLF, lineEnd, valueLine, above, judged}
+use Rattle.burst_file.specs.Line.{itemOf, afterItem, valuesOf, hasLF, lineEnd, valueLine, above}
+use Rattle.burst_file.specs.Scan.{judged}
 use Rattle.burst_file.specs.LineLaws.{SoundLine, values-sound, line-lf}
 
 -- one value further

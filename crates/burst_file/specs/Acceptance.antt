@@ -1,12 +1,11 @@
 -- A file is accepted exactly when it is a file of the grammar whose values pass the tests.
-use mathlib.Core.Path.{_≡_, refl, sym, ap, _∙_}
+use mathlib.Core.Path.{_≡_}
 use mathlib.Core.Bool.{false}
 use mathlib.Core.List.{List, []}
 use Prim.Native.Nat.{ℕ, _*_}
 use Rattle.geometry.specs.declared.Shape.{Shape}
-use Rattle.burst_file.specs.declared.Header.{Header}
 use Rattle.burst_file.specs.Grammar.{Burst, BurstFile}
-use Rattle.burst_file.specs.Part.{Part, found, numberOf}
+use Rattle.burst_file.specs.Part.{found, numberOf}
 use Rattle.burst_file.specs.PartLaws.{Sound, unless-sound, sound-at, sound-found, then-sound}
 use Rattle.burst_file.specs.Line.{above}
 use Rattle.burst_file.specs.Head.{headerRefusal, headOf}

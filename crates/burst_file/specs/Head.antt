@@ -39,6 +39,7 @@ headerRefusal header =
     shapeRefusal (header .shape) before referenceRefusal (header .shape) (header .reference)
     before levelRefusal (header .shot) (header .read) before strengthRefusal (header .strength)
 
+-- the header of seven values that pass their tests
 abbrev pub tested : (values rest : List ℕ) → Part Header
 tested values rest = unless (headerRefusal (headerOf values)) (found (headerOf values) rest)
 

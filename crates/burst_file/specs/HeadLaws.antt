@@ -9,11 +9,10 @@ use lib.ListN.{length, getD, drop}
 use borrow.Author.Tests.{eq-eqb, eqb-true, not-false}
 use Rattle.sequences.specs.Tab.{tab}
 use Rattle.sequences.specs.Grid.{tab-of}
-use Rattle.geometry.specs.Refusal.{refuse}
 use Rattle.geometry.specs.RefusalLaws.{before-both, refuse-not}
 use Rattle.burst_file.specs.declared.Header.{Header}
 use Rattle.burst_file.specs.Grammar.{names, sevenOf, ValueLine}
-use Rattle.burst_file.specs.Part.{Part, found}
+use Rattle.burst_file.specs.Part.{found}
 use Rattle.burst_file.specs.PartLaws.{Sound, unless-sound, then-sound}
 use Rattle.burst_file.specs.Line.{hasLF, lineEnd, valueLine}
 use Rattle.burst_file.specs.LineLaws.{line-sound, line-complete}

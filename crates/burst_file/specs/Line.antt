@@ -66,7 +66,3 @@ valueLine count bytes = unless (lineEnd bytes) (valuesOf count bytes)
 unfoldable pub above : (bound : ℕ) → List ℕ → Bool
 above bound [] = false
 above bound (value ∷ values) = ltb bound value || above bound values
-
--- of the values of a line, whether one is above the bound or `already` stands
-abbrev pub judged : (already : Bool) (bound : ℕ) → Part (List ℕ) → Part Bool
-judged already bound line = mapped (λ values. already || above bound values) line

@@ -1,6 +1,8 @@
 -- Reading a whole file.
+use mathlib.Core.Path.{_≡_}
 use mathlib.Core.List.{List}
 use Prim.Native.Nat.{ℕ}
+use lib.ListN.{length}
 use Rattle.geometry.specs.declared.Shape.{Shape}
 use Rattle.geometry.specs.Shape.{sampleLength, lengthRefusal}
 use Rattle.burst_file.specs.Part.{Part, refused, found, unless, numberOf, _then_, mapped}
@@ -51,3 +53,8 @@ answerOf (found burst rest) = acceptedAnswer (burst .header)
 abbrev pub samplesAfter : Part Burst → List ℕ → List ℕ
 samplesAfter (refused number) samples = samples
 samplesAfter (found burst rest) samples = burst .samples
+
+-- what reading a file into lent samples leaves: its answer, and every word of the samples
+pub record FileRead (file samples : List ℕ) (answer : FileAnswer) (after : List ℕ) : Type 0 where
+  pub answered : answer ≡ answerOf (readingInto (length samples) file)
+  pub stored : after ≡ samplesAfter (readingInto (length samples) file) samples

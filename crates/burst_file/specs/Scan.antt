@@ -1,40 +1,44 @@
 -- The answers of the functions that scan the bytes of a file, which hold positions, as what stands at those positions.
-use mathlib.Core.Bool.{Bool}
+use mathlib.Core.Bool.{Bool, _||_}
 use mathlib.Core.List.{List, [], _∷_}
 use Prim.Native.Nat.{ℕ, zero, suc}
 use lib.ListN.{drop}
-use Rattle.burst_file.specs.Line.{Item, last, more, bad, itemOf}
+use Rattle.burst_file.specs.Line.{Item, last, more, bad, itemOf, above}
 use Rattle.burst_file.specs.Part.{Part, refused, found, mapped}
 use Rattle.burst_file.specs.declared.Head.{Head}
-use Rattle.burst_file.specs.declared.Head.the-variants.{Accepted, Refused as RefusedHead}
+use Rattle.burst_file.specs.declared.Head.the-variants.{Found as FoundHead, Refused as RefusedHead}
 use Rattle.burst_file.specs.declared.Header.{Header}
 use Rattle.burst_file.specs.declared.Line.{Line}
-use Rattle.burst_file.specs.declared.Line.the-variants.{Good, Refused}
+use Rattle.burst_file.specs.declared.Line.the-variants.{Found as FoundLine, Refused as RefusedLine}
 use Rattle.burst_file.specs.declared.Passage.{Passage}
-use Rattle.burst_file.specs.declared.Passage.the-variants.{Passed, Stopped}
+use Rattle.burst_file.specs.declared.Passage.the-variants.{Found as FoundRows, Refused as RefusedRows}
 use Rattle.burst_file.specs.declared.Scan.{Scan}
 use Rattle.burst_file.specs.declared.Scan.the-variants.{Last, More, Bad}
 
-abbrev pub scanned : List ℕ → Scan → Item
-scanned file (Last value next) = last value (drop next file)
-scanned file (More value next) = more value (drop next file)
-scanned file Bad = bad
+abbrev pub itemIn : List ℕ → Scan → Item
+itemIn file (Last value next) = last value (drop next file)
+itemIn file (More value next) = more value (drop next file)
+itemIn file Bad = bad
 
 -- of a line, whether a value is above the bound
 abbrev pub lineIn : List ℕ → Line → Part Bool
-lineIn file (Good next over) = found over (drop next file)
-lineIn file (Refused number) = refused number
+lineIn file (FoundLine next over) = found over (drop next file)
+lineIn file (RefusedLine number) = refused number
+
+-- of the values of a line, whether one is above the bound or `already` stands
+abbrev pub judged : (already : Bool) (bound : ℕ) → Part (List ℕ) → Part Bool
+judged already bound line = mapped (λ values. already || above bound values) line
 
 -- of rows, nothing but where they end
-abbrev pub passage : List ℕ → Passage → Part Unit
-passage file (Passed next) = found tt (drop next file)
-passage file (Stopped number) = refused number
+abbrev pub rowsIn : List ℕ → Passage → Part Unit
+rowsIn file (FoundRows next) = found tt (drop next file)
+rowsIn file (RefusedRows number) = refused number
 
 abbrev pub briefly : {A : Type 0} → Part A → Part Unit
 briefly part = mapped (λ a. tt) part
 
 abbrev pub headIn : List ℕ → Head → Part Header
-headIn file (Accepted header next) = found header (drop next file)
+headIn file (FoundHead header next) = found header (drop next file)
 headIn file (RefusedHead number) = refused number
 
 -- an item's value and the bytes after it, where nothing but values is expected

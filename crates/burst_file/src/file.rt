@@ -3,7 +3,7 @@ ghost use mathlib.Core.Path.{_≡_};
 ghost use mathlib.Core.Bool.{false};
 ghost use lib.ListN.{length, drop};
 ghost use Rattle.burst_file.specs.Line.{above};
-ghost use Rattle.burst_file.specs.Reading.{readingInto, fileCheck, refusedAnswer, acceptedAnswer, answerOf, samplesAfter};
+ghost use Rattle.burst_file.specs.Reading.{fileCheck, refusedAnswer, acceptedAnswer, FileRead};
 ghost use Rattle.burst_file.specs.Scan.{nextValues};
 use crate::FileAnswer;
 use crate::Head;
@@ -18,7 +18,7 @@ pub fn check_file(file: &[u8]) -> u64
 {
     match read_head(file) {
         Head::Refused { number } => number,
-        Head::Accepted { header, next } => {
+        Head::Found { header, next } => {
             let shape = header.shape;
             check_frames(file, next, shape)
         }
@@ -73,11 +73,11 @@ fn fill(file: &[u8], at: usize, samples: &mut [u16])
 
 // Reads a file into the samples. Nothing is stored before the whole file is checked.
 pub fn read_file(file: &[u8], samples: &mut [u16]) -> FileAnswer
-    ensures { λ r. ⌜ (r ≡ answerOf (readingInto (length (now (samples .entry))) (now (file .entry)))) × (now (samples .exit) ≡ samplesAfter (readingInto (length (now (samples .entry))) (now (file .entry))) (now (samples .entry))) ⌝ }
+    ensures { λ r. ⌜ FileRead (now (file .entry)) (now (samples .entry)) r (now (samples .exit)) ⌝ }
 {
     match read_head(file) {
         Head::Refused { number } => refused(number),
-        Head::Accepted { header, next } => {
+        Head::Found { header, next } => {
             let shape = header.shape;
             let length = geometry::length_refusal(4, geometry::sample_length(shape), samples.len());
             if length != 0 {

@@ -93,13 +93,13 @@ pub fn read_head(file: &[u8]) -> Head
     }
     match check_line(file, 48, 7, 0) {
         Line::Refused { number } => Head::Refused { number },
-        Line::Good { next, over: _ } => {
+        Line::Found { next, over: _ } => {
             let header = header_at(file, 48);
             let refusal = header_refusal(header);
             if refusal != 0 {
                 return Head::Refused { number: refusal };
             }
-            Head::Accepted { header, next }
+            Head::Found { header, next }
         }
     }
 }

@@ -3,8 +3,8 @@ ghost use mathlib.Core.Path.{_≡_};
 ghost use mathlib.Core.Bool.{false, _||_};
 ghost use lib.Dec.{ltb};
 ghost use lib.ListN.{drop};
-ghost use Rattle.burst_file.specs.Line.{valuesOf, valueLine, judged};
-ghost use Rattle.burst_file.specs.Scan.{lineIn};
+ghost use Rattle.burst_file.specs.Line.{valuesOf, valueLine};
+ghost use Rattle.burst_file.specs.Scan.{lineIn, judged};
 use crate::Line;
 use crate::Scan;
 use crate::scanning::has_lf;
@@ -35,7 +35,7 @@ fn scan_line(file: &[u8], at: usize, count: usize, bound: u64) -> Line
             Scan::Last { value, next } => {
                 if left == 0 {
                     let any = or_above(over, bound, value);
-                    return Line::Good { next, over: any };
+                    return Line::Found { next, over: any };
                 }
                 return Line::Refused { number: 14 };
             }
@@ -53,7 +53,7 @@ pub fn check_line(file: &[u8], at: usize, count: usize, bound: u64) -> Line
     ensures { λ r. ⌜ lineIn (now (file .entry)) r ≡ judged false bound (valueLine count (drop at (now (file .entry)))) ⌝ }
 {
     match scan_line(file, at, count, bound) {
-        Line::Good { next, over } => Line::Good { next, over },
+        Line::Found { next, over } => Line::Found { next, over },
         Line::Refused { number } => {
             if has_lf(file, at) {
                 return Line::Refused { number };

@@ -4,43 +4,43 @@ ghost use lib.ListN.{drop};
 ghost use Rattle.geometry.specs.Shape.{Allowed};
 ghost use Rattle.burst_file.specs.Part.{numberOf};
 ghost use Rattle.burst_file.specs.Rows.{row, rows, framesOf};
-ghost use Rattle.burst_file.specs.Scan.{passage, briefly};
+ghost use Rattle.burst_file.specs.Scan.{rowsIn, briefly};
 use crate::Line;
 use crate::Passage;
 use crate::lines::check_line;
 use geometry::Shape;
 
 fn check_row(file: &[u8], at: usize, width: usize) -> Passage
-    ensures { λ r. ⌜ passage (now (file .entry)) r ≡ briefly (row width (drop at (now (file .entry)))) ⌝ }
+    ensures { λ r. ⌜ rowsIn (now (file .entry)) r ≡ briefly (row width (drop at (now (file .entry)))) ⌝ }
 {
     match check_line(file, at, width, 4095) {
-        Line::Refused { number } => Passage::Stopped { number },
-        Line::Good { next, over } => {
+        Line::Refused { number } => Passage::Refused { number },
+        Line::Found { next, over } => {
             if over {
-                return Passage::Stopped { number: 11 };
+                return Passage::Refused { number: 11 };
             }
-            Passage::Passed { next }
+            Passage::Found { next }
         }
     }
 }
 
 fn check_rows(file: &[u8], at: usize, count: usize, width: usize) -> Passage
-    ensures { λ r. ⌜ passage (now (file .entry)) r ≡ briefly (rows count width (drop at (now (file .entry)))) ⌝ }
+    ensures { λ r. ⌜ rowsIn (now (file .entry)) r ≡ briefly (rows count width (drop at (now (file .entry)))) ⌝ }
 {
     let mut left = count;
     let mut i = at;
     while 0 < left {
         left -= 1;
         match check_row(file, i, width) {
-            Passage::Stopped { number } => {
-                return Passage::Stopped { number };
+            Passage::Refused { number } => {
+                return Passage::Refused { number };
             }
-            Passage::Passed { next } => {
+            Passage::Found { next } => {
                 i = next;
             }
         }
     }
-    Passage::Passed { next: i }
+    Passage::Found { next: i }
 }
 
 // The rows of all frames, up to the end of the file.
@@ -49,8 +49,8 @@ pub fn check_frames(file: &[u8], at: usize, shape: Shape) -> u64
     ensures { λ r. ⌜ r ≡ numberOf (framesOf shape (drop at (now (file .entry)))) ⌝ }
 {
     match check_rows(file, at, shape.count * shape.height, shape.width) {
-        Passage::Stopped { number } => number,
-        Passage::Passed { next } => {
+        Passage::Refused { number } => number,
+        Passage::Found { next } => {
             if next < file.len() {
                 return 15;
             }

@@ -3,17 +3,18 @@ ghost use mathlib.Core.Path.{_≡_};
 ghost use Prim.Native.Nat.{_≤_};
 ghost use lib.ListN.{drop};
 ghost use Rattle.burst_file.specs.Line.{digitOf, pastSpaces, itemOf, hasLF};
-ghost use Rattle.burst_file.specs.Scan.{scanned, valueIn, restIn};
+ghost use Rattle.burst_file.specs.Scan.{itemIn, valueIn, restIn};
 use crate::Scan;
 use crate::Value;
 
+// A digit's number, or 10.
 fn digit(byte: u8) -> u64
     ensures { λ r. ⌜ (r ≡ digitOf byte) × (r ≤ 10) ⌝ }
 {
-    if byte < 48 {
+    if byte < b'0' {
         10
     } else if byte < 58 {
-        (byte - 48) as u64
+        (byte - b'0') as u64
     } else {
         10
     }
@@ -24,7 +25,7 @@ fn past_spaces(file: &[u8], at: usize) -> usize
 {
     let mut i = at;
     while i < file.len() {
-        if file[i] != 32 {
+        if file[i] != b' ' {
             return i;
         }
         i += 1;
@@ -37,7 +38,7 @@ pub fn has_lf(file: &[u8], at: usize) -> bool
 {
     let mut i = at;
     while i < file.len() {
-        if file[i] == 10 {
+        if file[i] == b'\n' {
             return true;
         }
         i += 1;
@@ -46,7 +47,7 @@ pub fn has_lf(file: &[u8], at: usize) -> bool
 }
 
 pub fn next_value(file: &[u8], at: usize) -> Scan
-    ensures { λ r. ⌜ scanned (now (file .entry)) r ≡ itemOf (drop at (now (file .entry))) ⌝ }
+    ensures { λ r. ⌜ itemIn (now (file .entry)) r ≡ itemOf (drop at (now (file .entry))) ⌝ }
 {
     let mut i = at;
     let mut count: u64 = 0;
@@ -58,10 +59,10 @@ pub fn next_value(file: &[u8], at: usize) -> Scan
             if count == 0 {
                 return Scan::Bad;
             }
-            if byte == 10 {
+            if byte == b'\n' {
                 return Scan::Last { value, next: i + 1 };
             }
-            if byte == 32 {
+            if byte == b' ' {
                 let next = past_spaces(file, i + 1);
                 return Scan::More { value, next };
             }

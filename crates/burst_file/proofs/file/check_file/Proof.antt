@@ -1,19 +1,14 @@
 -- `check_file`: the head's refusal, or that of the frames behind it.
-use mathlib.Core.Path.{_≡_, refl, sym, ap, _∙_}
-use Prim.Native.Nat.{ℕ}
+use mathlib.Core.Path.{_≡_, sym, ap, _∙_}
 use borrow.Author.Needs.{needs}
-use lib.ListN.{drop}
-use Rattle.geometry.specs.declared.Shape.{Shape}
 use Rattle.burst_file.specs.Part.{Part, numberOf, _then_}
 use Rattle.burst_file.specs.Head.{headOf}
-use Rattle.burst_file.specs.Rows.{framesOf}
 use Rattle.burst_file.specs.Reading.{bodyOf, reading, fileCheck}
 use Rattle.burst_file.specs.Scan.{headIn}
 use Rattle.burst_file.specs.declared.Head.{Head}
-use Rattle.burst_file.specs.declared.Head.the-variants.{Accepted, Refused}
+use Rattle.burst_file.specs.declared.Head.the-variants.{Found, Refused}
 use Rattle.burst_file.specs.declared.Header.{Header}
-use Rattle.burst_file.proofs.Heads.{head-allowed}
-use Rattle.burst_file.proofs.Bodies.{body-unmeasured}
+use Rattle.burst_file.proofs.Bodies.{head-allowed, body-unmeasured}
 use Rattle.burst_file.proofs.file.check_file.Statement.{statement}
 use Rattle.burst_file.proofs.file.check_file.Tie as tie
 
@@ -39,7 +34,7 @@ decided c head e = ap (λ (p : Part Header). numberOf (p then bodyOf (λ shape. 
 check-frames-requires : tie.Need-check-frames-requires
 check-frames-requires c κs =
     let g = c .before .before .header .given in
-    head-allowed _ (g .0 .0) _ (told (c .before .before .before .before) (Accepted (g .0 .0) (g .0 .1 .0)) (g .1))
+    head-allowed _ (g .0 .0) _ (told (c .before .before .before .before) (Found (g .0 .0) (g .0 .1 .0)) (g .1))
 
 returns : tie.Need-returns
 returns c =
@@ -50,7 +45,7 @@ returns-2 : tie.Need-returns-2
 returns-2 c =
     let at = c .before .before .before in
     let g = at .header .given in
-    c .check-frames .ensures ∙ sym (body-unmeasured (g .0 .0) _) ∙ decided (at .before .before) (Accepted (g .0 .0) (g .0 .1 .0)) (g .1)
+    c .check-frames .ensures ∙ sym (body-unmeasured (g .0 .0) _) ∙ decided (at .before .before) (Found (g .0 .0) (g .0 .1 .0)) (g .1)
 
 pub check-file-spec : {M : Type 1} → statement M
 check-file-spec =

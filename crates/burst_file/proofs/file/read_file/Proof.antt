@@ -1,24 +1,22 @@
 -- `read_file`: each part's number refuses or lets the next part decide; the samples are stored once all of them are accepted.
-use mathlib.Core.Path.{_≡_, refl, sym, ap, _∙_}
+use mathlib.Core.Path.{_≡_, sym, ap, _∙_}
 use mathlib.Core.List.{List}
 use Prim.Native.Nat.{ℕ}
 use borrow.Author.Needs.{needs}
 use borrow.Author.Tests.{eqb-true, not-false}
 use lib.ListN.{length, drop}
-use Rattle.geometry.specs.declared.Shape.{Shape}
-use Rattle.geometry.specs.Shape.{Allowed, sampleLength, lengthRefusal}
+use Rattle.geometry.specs.Shape.{sampleLength, lengthRefusal}
 use Rattle.geometry.specs.RefusalLaws.{refuse-not}
 use Rattle.burst_file.specs.Grammar.{Burst}
-use Rattle.burst_file.specs.Part.{Part, refused}
+use Rattle.burst_file.specs.Part.{Part, refused, found}
 use Rattle.burst_file.specs.Line.{above}
 use Rattle.burst_file.specs.Head.{headOf}
-use Rattle.burst_file.specs.Reading.{readingInto, refusedAnswer, answerOf, samplesAfter}
+use Rattle.burst_file.specs.Reading.{readingInto, refusedAnswer, acceptedAnswer, answerOf, samplesAfter, FileRead}
 use Rattle.burst_file.specs.Scan.{headIn, nextValues}
 use Rattle.burst_file.specs.declared.FileAnswer.{FileAnswer}
 use Rattle.burst_file.specs.declared.Head.{Head}
-use Rattle.burst_file.specs.declared.Head.the-variants.{Accepted, Refused}
-use Rattle.burst_file.proofs.Heads.{head-allowed}
-use Rattle.burst_file.proofs.Bodies.{frames-next, head-refuses, length-refuses, frames-refuse, frames-accept}
+use Rattle.burst_file.specs.declared.Head.the-variants.{Found, Refused}
+use Rattle.burst_file.proofs.Bodies.{head-allowed, frames-next, head-refuses, length-refuses, frames-refuse, frames-accept}
 use Rattle.burst_file.proofs.file.read_file.Statement.{statement}
 use Rattle.burst_file.proofs.file.read_file.Tie as tie
 
@@ -42,8 +40,8 @@ told c head e = ap (headIn (c .before .before .before .args .file .now)) (sym e)
 
 headed : (c : tie.After-header) →
     let file = c .before .before .before .before .before .args .file .now in
-    headIn file (Accepted (c .header .given .0 .0) (c .header .given .0 .1 .0)) ≡ headOf file
-headed c = told (c .before .before) (Accepted (c .header .given .0 .0) (c .header .given .0 .1 .0)) (c .header .given .1)
+    headIn file (Found (c .header .given .0 .0) (c .header .given .0 .1 .0)) ≡ headOf file
+headed c = told (c .before .before) (Found (c .header .given .0 .0) (c .header .given .0 .1 .0)) (c .header .given .1)
 
 sample-length-requires : tie.Need-sample-length-requires
 sample-length-requires c κs = head-allowed _ _ _ (headed (c .before .before))
@@ -54,9 +52,14 @@ length-refusal-requires c κs = search needs
 refused-requires-2 : tie.Need-refused-requires-2
 refused-requires-2 c κs = search needs
 
--- a refusal and the samples as they were
-refusal : {reading : Part Burst} {number : ℕ} {answer : FileAnswer} (samples : List ℕ) → reading ≡ refused number → answer ≡ refusedAnswer number → (answer ≡ answerOf reading) × (samples ≡ samplesAfter reading samples)
-refusal samples e a = (a ∙ sym (ap answerOf e), sym (ap (λ (p : Part Burst). samplesAfter p samples) e))
+module _ (file samples : List ℕ) {answer : FileAnswer} where
+  -- a refusal, and the samples as they were
+  refusal : {number : ℕ} → readingInto (length samples) file ≡ refused number → answer ≡ refusedAnswer number → FileRead file samples answer samples
+  refusal e a = record { answered = a ∙ sym (ap answerOf e); stored = sym (ap (λ (p : Part Burst). samplesAfter p samples) e) }
+
+  -- acceptance, and the file's samples
+  acceptance : {burst : Burst} {rest after : List ℕ} → readingInto (length samples) file ≡ found burst rest → answer ≡ acceptedAnswer (burst .header) → after ≡ burst .samples → FileRead file samples answer after
+  acceptance e a s = record { answered = a ∙ sym (ap answerOf e); stored = s ∙ sym (ap (λ (p : Part Burst). samplesAfter p samples) e) }
 
 -- refusal 4's number
 length-number : (c : tie.After-length-refusal) →
@@ -70,7 +73,7 @@ returns : tie.Need-returns
 returns c =
     let at = c .before .before in
     let header = at .before .before .before .before in
-    refusal _ (length-refuses _ _ (headed header) (length-number at) (c .before .if1 .taken)) (c .refused2 .ensures)
+    refusal _ _ (length-refuses _ _ (headed header) (length-number at) (c .before .if1 .taken)) (c .refused2 .ensures)
 
 check-frames-requires : tie.Need-check-frames-requires
 check-frames-requires c κs = head-allowed _ _ _ (headed (c .before .before .before .before .before))
@@ -82,7 +85,7 @@ returns-2 : tie.Need-returns-2
 returns-2 c =
     let checked = c .before .before in
     let at = checked .before .before in
-    refusal _ (frames-refuse _ _ (headed (at .before .before .before .before)) (length-number at) (checked .before .if1 .left) (checked .check-frames .ensures) (c .before .if2 .taken)) (c .refused3 .ensures)
+    refusal _ _ (frames-refuse _ _ (headed (at .before .before .before .before)) (length-number at) (checked .before .if1 .left) (checked .check-frames .ensures) (c .before .if2 .taken)) (c .refused3 .ensures)
 
 -- the lent samples are as many as the file's
 length-right : (c : tie.Else1) →
@@ -106,7 +109,7 @@ accepted-requires c κs = search needs
 returns-3 : tie.Need-returns-3
 returns-3 c =
     let g = c .before .before .number .given in
-    refusal _ (head-refuses _ _ (told (c .before .before .before .before) (Refused (g .0 .0)) (g .1))) (c .refused .ensures)
+    refusal _ _ (head-refuses _ _ (told (c .before .before .before .before) (Refused (g .0 .0)) (g .1))) (c .refused .ensures)
 
 same-length : tie.Need-same-length
 same-length c = search needs
@@ -119,10 +122,10 @@ returns-4 c =
     let header = at .before .before .before .before in
     let start = header .before .before .before .before .before in
     let rest = drop (header .header .given .0 .1 .0) (start .args .file .now) in
-    let e = frames-accept _ _ (headed header) (length-number at) (checked .before .if1 .left) (checked .check-frames .ensures) (filled .before .before .if2 .left) in (
-      c .accepted .ensures ∙ sym (ap answerOf e),
-      filled .fill .ensures ∙ ap (λ (n : ℕ). nextValues n rest) (length-right (checked .before)) ∙ sym (ap (λ (p : Part Burst). samplesAfter p (start .args .samples .now)) e),
-    )
+    acceptance _ _
+    (frames-accept _ _ (headed header) (length-number at) (checked .before .if1 .left) (checked .check-frames .ensures) (filled .before .before .if2 .left))
+    (c .accepted .ensures)
+    (filled .fill .ensures ∙ ap (λ (n : ℕ). nextValues n rest) (length-right (checked .before)))
 
 pub read-file-spec : {M : Type 1} → statement M
 read-file-spec =

@@ -1,5 +1,5 @@
 -- `first_line_refusal`: each branch is a case of the definition.
-use mathlib.Core.Path.{_≡_, sym, _∙_}
+use mathlib.Core.Path.{sym, _∙_}
 use borrow.Author.Needs.{needs}
 use borrow.Author.Tests.{not-true, not-false}
 use Rattle.burst_file.specs.Head.{firstLineRefusal}

@@ -1,17 +1,17 @@
 -- `read_head`: each test's number ends the chain or lets the next part decide.
-use mathlib.Core.Path.{_≡_, refl, sym, ap, _∙_}
+use mathlib.Core.Path.{_≡_, sym, ap, _∙_}
 use mathlib.Core.Bool.{false}
 use mathlib.Core.List.{List}
 use Prim.Native.Nat.{ℕ}
 use borrow.Author.Needs.{needs}
 use lib.ListN.{drop}
-use Rattle.burst_file.specs.Part.{Part, refused, found, unless, _then_}
-use Rattle.burst_file.specs.Line.{valueLine, judged}
+use Rattle.burst_file.specs.Part.{Part, refused, found, _then_}
+use Rattle.burst_file.specs.Line.{valueLine}
 use Rattle.burst_file.specs.Head.{headerOf, headerRefusal, tested, headOf}
-use Rattle.burst_file.specs.Scan.{lineIn, nextValues}
+use Rattle.burst_file.specs.Scan.{lineIn, nextValues, judged}
 use Rattle.burst_file.specs.declared.Header.{Header}
 use Rattle.burst_file.specs.declared.Line.{Line}
-use Rattle.burst_file.specs.declared.Line.the-variants.{Good, Refused}
+use Rattle.burst_file.specs.declared.Line.the-variants.{Found, Refused}
 use Rattle.burst_file.proofs.Parts.{unless-stops, unless-goes}
 use Rattle.burst_file.proofs.Next.{line-found-next, line-refused}
 use Rattle.burst_file.proofs.first_lines.read_head.Statement.{statement}
@@ -62,7 +62,7 @@ seven c =
     let g = c .next .given in
     let file = c .before .before .before .before .before .before .args .file .now in
     named (c .before .before .before) (found (nextValues 7 (drop 48 file)) (drop (g .0 .0) file))
-    (line-found-next 7 (drop 48 file) 0 (g .0 .1 .0) (drop (g .0 .0) file) (told (c .before .before) (Good (g .0 .0) (g .0 .1 .0)) (g .1)))
+    (line-found-next 7 (drop 48 file) 0 (g .0 .1 .0) (drop (g .0 .0) file) (told (c .before .before) (Found (g .0 .0) (g .0 .1 .0)) (g .1)))
 
 returns-2 : tie.Need-returns-2
 returns-2 c =

@@ -1,12 +1,12 @@
 -- `check_line`: values that are found have an LF behind them; where none are found, the search for an LF decides between 15 and 14.
-use mathlib.Core.Path.{_≡_, refl, sym, ap, _∙_}
+use mathlib.Core.Path.{_≡_, sym, ap, _∙_}
 use mathlib.Core.Bool.{false}
 use borrow.Author.Needs.{needs}
 use lib.ListN.{drop}
-use Rattle.burst_file.specs.Line.{valuesOf, judged}
-use Rattle.burst_file.specs.Scan.{lineIn}
+use Rattle.burst_file.specs.Line.{valuesOf}
+use Rattle.burst_file.specs.Scan.{lineIn, judged}
 use Rattle.burst_file.specs.declared.Line.{Line}
-use Rattle.burst_file.specs.declared.Line.the-variants.{Good, Refused}
+use Rattle.burst_file.specs.declared.Line.the-variants.{Found, Refused}
 use Rattle.burst_file.proofs.Values.{line-found}
 use Rattle.burst_file.proofs.lines.check_line.Statement.{statement}
 use Rattle.burst_file.proofs.lines.check_line.Tie as tie
@@ -38,7 +38,7 @@ returns-2 : tie.Need-returns-2
 returns-2 c =
     let g = c .before .next .given in
     let a = c .before .before .before .before .before .args in
-    line-found (a .count) (drop (a .at) (a .file .now)) (a .bound) _ _ (told (c .before .before .before) (Good (g .0 .0) (g .0 .1 .0)) (g .1))
+    line-found (a .count) (drop (a .at) (a .file .now)) (a .bound) _ _ (told (c .before .before .before) (Found (g .0 .0) (g .0 .1 .0)) (g .1))
 
 returns-3 : tie.Need-returns-3
 returns-3 c = rw (sym (c .before .has-lf .ensures) ∙ c .if1 .left)

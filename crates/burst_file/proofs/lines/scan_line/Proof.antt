@@ -7,8 +7,8 @@ use borrow.Author.Needs.{needs}
 use borrow.Author.Tests.{eq-eqb, ne-eqb}
 use lib.ListN.{drop}
 use Rattle.burst_file.specs.Part.{found}
-use Rattle.burst_file.specs.Line.{Item, last, more, bad, afterItem, valuesOf, judged}
-use Rattle.burst_file.specs.Scan.{scanned}
+use Rattle.burst_file.specs.Line.{Item, afterItem, valuesOf}
+use Rattle.burst_file.specs.Scan.{itemIn, judged}
 use Rattle.burst_file.specs.declared.Scan.{Scan}
 use Rattle.burst_file.specs.declared.Scan.the-variants.{Last, More, Bad}
 use Rattle.burst_file.proofs.Values.{values-step, values-none, judged-last, judged-more}
@@ -37,11 +37,11 @@ enum-told c = search needs
 stepped : (c : tie.After-next-value Inv-loop μ-loop) (scan : Scan) → c .next-value .result ≡ scan →
     let l = c .before .before .loop in
     let a = c .before .before .before .before .args in
-    judged (l .over) (a .bound) (afterItem (l .left - 1) (λ t. valuesOf (l .left - 1) t) (scanned (a .file .now) scan)) ≡ judged false (a .bound) (valuesOf (a .count) (drop (a .at) (a .file .now)))
+    judged (l .over) (a .bound) (afterItem (l .left - 1) (λ t. valuesOf (l .left - 1) t) (itemIn (a .file .now) scan)) ≡ judged false (a .bound) (valuesOf (a .count) (drop (a .at) (a .file .now)))
 stepped c scan e =
     let l = c .before .before .loop in
     let a = c .before .before .before .before .args in
-    ap (λ (item : Item). judged (l .over) (a .bound) (afterItem (l .left - 1) (λ t. valuesOf (l .left - 1) t) item)) (ap (scanned (a .file .now)) (sym e) ∙ c .next-value .ensures)
+    ap (λ (item : Item). judged (l .over) (a .bound) (afterItem (l .left - 1) (λ t. valuesOf (l .left - 1) t) item)) (ap (itemIn (a .file .now)) (sym e) ∙ c .next-value .ensures)
     ∙ ap (judged (l .over) (a .bound)) (sym (values-step (l .left) (drop (l .i) (a .file .now)) (c .before .loop-test .taken))) ∙ l .inv
 
 returns : tie.Need-returns Inv-loop μ-loop

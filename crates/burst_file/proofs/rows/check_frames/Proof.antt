@@ -1,15 +1,15 @@
 -- `check_frames`: the rows' refusal, or 15 where bytes follow them.
-use mathlib.Core.Path.{_≡_, refl, sym, ap, _∙_}
-use Prim.Native.Nat.{ℕ, _*_, _≤_}
+use mathlib.Core.Path.{_≡_, sym, ap, _∙_}
+use Prim.Native.Nat.{_*_, _≤_}
 use native.Mathlib.Nat.{mul-le-mul}
 use native.Mathlib.Omega.{arith}
 use borrow.Author.Needs.{needs}
 use lib.ListN.{drop}
 use Rattle.burst_file.specs.Part.{Part, numberOf}
 use Rattle.burst_file.specs.Rows.{rows, ended, framesOf}
-use Rattle.burst_file.specs.Scan.{passage}
+use Rattle.burst_file.specs.Scan.{rowsIn}
 use Rattle.burst_file.specs.declared.Passage.{Passage}
-use Rattle.burst_file.specs.declared.Passage.the-variants.{Passed, Stopped}
+use Rattle.burst_file.specs.declared.Passage.the-variants.{Found, Refused}
 use Rattle.burst_file.proofs.Passages.{ended-briefly, trailing, at-end}
 use Rattle.burst_file.proofs.rows.check_frames.Statement.{statement}
 use Rattle.burst_file.proofs.rows.check_frames.Tie as tie
@@ -33,27 +33,27 @@ enum-known-next c = search needs
 -- where the rows are `passed`
 told : (c : tie.After-check-rows) (passed : Passage) → c .check-rows .result ≡ passed →
     let a = c .before .before .before .args in
-    numberOf (ended (passage (a .file .now) passed)) ≡ numberOf (framesOf (a .shape) (drop (a .at) (a .file .now)))
+    numberOf (ended (rowsIn (a .file .now) passed)) ≡ numberOf (framesOf (a .shape) (drop (a .at) (a .file .now)))
 unfolding framesOf
 told c passed e =
     let a = c .before .before .before .args in
-    ap (λ (p : Part Unit). numberOf (ended p)) (ap (passage (a .file .now)) (sym e) ∙ c .check-rows .ensures)
+    ap (λ (p : Part Unit). numberOf (ended p)) (ap (rowsIn (a .file .now)) (sym e) ∙ c .check-rows .ensures)
     ∙ ended-briefly (rows (a .shape .count * a .shape .height) (a .shape .width) (drop (a .at) (a .file .now)))
 
 returns : tie.Need-returns
 returns c =
     let g = c .before .before .next .given in
-    trailing tt _ _ (c .if1 .taken) ∙ told (c .before .before .before .before) (Passed (g .0 .0)) (g .1)
+    trailing tt _ _ (c .if1 .taken) ∙ told (c .before .before .before .before) (Found (g .0 .0)) (g .1)
 
 returns-2 : tie.Need-returns-2
 returns-2 c =
     let g = c .before .number .given in
-    told (c .before .before .before) (Stopped (g .0 .0)) (g .1)
+    told (c .before .before .before) (Refused (g .0 .0)) (g .1)
 
 returns-3 : tie.Need-returns-3
 returns-3 c =
     let g = c .before .before .next .given in
-    at-end tt _ _ (c .if1 .left) ∙ told (c .before .before .before .before) (Passed (g .0 .0)) (g .1)
+    at-end tt _ _ (c .if1 .left) ∙ told (c .before .before .before .before) (Found (g .0 .0)) (g .1)
 
 pub check-frames-spec : {M : Type 1} → statement M
 check-frames-spec =

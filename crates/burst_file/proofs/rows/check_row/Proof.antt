@@ -1,12 +1,11 @@
 -- `check_row`: the judgement of the row's line decides.
-use mathlib.Core.Path.{_≡_, refl, sym, ap, _∙_}
-use mathlib.Core.Bool.{Bool}
+use mathlib.Core.Path.{_≡_, sym, ap, _∙_}
 use borrow.Author.Needs.{needs}
 use lib.ListN.{drop}
-use Rattle.burst_file.specs.Rows.{row, unlessAbove}
+use Rattle.burst_file.specs.Rows.{row}
 use Rattle.burst_file.specs.Scan.{lineIn, briefly}
 use Rattle.burst_file.specs.declared.Line.{Line}
-use Rattle.burst_file.specs.declared.Line.the-variants.{Good, Refused}
+use Rattle.burst_file.specs.declared.Line.the-variants.{Found, Refused}
 use Rattle.burst_file.proofs.Passages.{decided, row-decided}
 use Rattle.burst_file.proofs.rows.check_row.Statement.{statement}
 use Rattle.burst_file.proofs.rows.check_row.Tie as tie
@@ -31,7 +30,7 @@ told c line e =
 returns : tie.Need-returns
 returns c =
     let g = c .before .before .next .given in
-    rw (c .if1 .taken) at (told (c .before .before .before .before) (Good (g .0 .0) (g .0 .1 .0)) (g .1))
+    rw (c .if1 .taken) at (told (c .before .before .before .before) (Found (g .0 .0) (g .0 .1 .0)) (g .1))
 
 returns-2 : tie.Need-returns-2
 returns-2 c =
@@ -41,7 +40,7 @@ returns-2 c =
 returns-3 : tie.Need-returns-3
 returns-3 c =
     let g = c .before .before .next .given in
-    rw (c .if1 .left) at (told (c .before .before .before .before) (Good (g .0 .0) (g .0 .1 .0)) (g .1))
+    rw (c .if1 .left) at (told (c .before .before .before .before) (Found (g .0 .0) (g .0 .1 .0)) (g .1))
 
 pub check-row-spec : {M : Type 1} → statement M
 check-row-spec =

@@ -6,9 +6,9 @@ use borrow.Author.Needs.{needs}
 use lib.ListN.{drop}
 use Rattle.burst_file.specs.Part.{Part, _then_}
 use Rattle.burst_file.specs.Rows.{rows}
-use Rattle.burst_file.specs.Scan.{passage, briefly}
+use Rattle.burst_file.specs.Scan.{rowsIn, briefly}
 use Rattle.burst_file.specs.declared.Passage.{Passage}
-use Rattle.burst_file.specs.declared.Passage.the-variants.{Passed, Stopped}
+use Rattle.burst_file.specs.declared.Passage.the-variants.{Found, Refused}
 use Rattle.burst_file.proofs.Passages.{rows-step, rows-none}
 use Rattle.burst_file.proofs.rows.check_rows.Statement.{statement}
 use Rattle.burst_file.proofs.rows.check_rows.Tie as tie
@@ -35,17 +35,17 @@ enum-known-number c = search needs
 stepped : (c : tie.After-check-row Inv-loop μ-loop) (passed : Passage) → c .check-row .result ≡ passed →
     let l = c .before .before .loop in
     let a = c .before .before .before .before .args in
-    (passage (a .file .now) passed then (λ u rest. briefly (rows (l .left - 1) (a .width) rest))) ≡ briefly (rows (a .count) (a .width) (drop (a .at) (a .file .now)))
+    (rowsIn (a .file .now) passed then (λ u rest. briefly (rows (l .left - 1) (a .width) rest))) ≡ briefly (rows (a .count) (a .width) (drop (a .at) (a .file .now)))
 stepped c passed e =
     let l = c .before .before .loop in
     let a = c .before .before .before .before .args in
-    ap (λ (p : Part Unit). p then (λ u rest. briefly (rows (l .left - 1) (a .width) rest))) (ap (passage (a .file .now)) (sym e) ∙ c .check-row .ensures)
+    ap (λ (p : Part Unit). p then (λ u rest. briefly (rows (l .left - 1) (a .width) rest))) (ap (rowsIn (a .file .now)) (sym e) ∙ c .check-row .ensures)
     ∙ rows-step (l .left) (a .width) (drop (l .i) (a .file .now)) (c .before .loop-test .taken) ∙ l .inv
 
 returns : tie.Need-returns Inv-loop μ-loop
 returns c =
     let g = c .before .number .given in
-    stepped (c .before .before .before) (Stopped (g .0 .0)) (g .1)
+    stepped (c .before .before .before) (Refused (g .0 .0)) (g .1)
 
 enum-known-next : tie.Need-enum-known-next Inv-loop μ-loop
 enum-known-next c = search needs
@@ -56,7 +56,7 @@ loop-less c = omega arith
 loop-again : tie.Need-loop-again Inv-loop μ-loop
 loop-again c =
     let g = c .before .next .given in
-    stepped (c .before .before .before) (Passed (g .0 .0)) (g .1)
+    stepped (c .before .before .before) (Found (g .0 .0)) (g .1)
 
 returns-2 : tie.Need-returns-2 Inv-loop μ-loop
 returns-2 c =

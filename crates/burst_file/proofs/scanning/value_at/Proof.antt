@@ -1,10 +1,10 @@
 -- `value_at`: each answer of the scan is a case of the item.
-use mathlib.Core.Path.{_≡_, refl, sym, ap, _∙_}
+use mathlib.Core.Path.{_≡_, sym, ap, _∙_}
 use borrow.Author.Needs.{needs}
 use lib.ListN.{drop}
 use lib.Seq.{drop-length}
 use Rattle.burst_file.specs.Line.{itemOf}
-use Rattle.burst_file.specs.Scan.{scanned, valueIn, restIn}
+use Rattle.burst_file.specs.Scan.{itemIn, valueIn, restIn}
 use Rattle.burst_file.specs.declared.Scan.{Scan}
 use Rattle.burst_file.specs.declared.Scan.the-variants.{Last, More, Bad}
 use Rattle.burst_file.proofs.scanning.value_at.Statement.{statement}
@@ -25,8 +25,8 @@ enum-told c = search needs
 -- where the scan answers `scan`
 told : (c : tie.After-next-value) (scan : Scan) → c .next-value .result ≡ scan →
     let a = c .before .before .args in
-    scanned (a .file .now) scan ≡ itemOf (drop (a .at) (a .file .now))
-told c scan e = ap (scanned (c .before .before .args .file .now)) (sym e) ∙ c .next-value .ensures
+    itemIn (a .file .now) scan ≡ itemOf (drop (a .at) (a .file .now))
+told c scan e = ap (itemIn (c .before .before .args .file .now)) (sym e) ∙ c .next-value .ensures
 
 returns : tie.Need-returns
 returns c =
