@@ -1,6 +1,6 @@
 -- The loop that stores the next values one by one.
 use mathlib.Core.Path.{_≡_, refl, sym, ap, _∙_}
-use mathlib.Core.Bool.{Bool, true, false, _||_}
+use mathlib.Core.Bool.{Bool, true, false, false≢true, _||_}
 use mathlib.Core.List.{List, [], _∷_}
 use Prim.Native.Nat.{ℕ, zero, suc, _+_, _-_, _≤_, _<_}
 use native.Mathlib.Numerals.{add-one}
@@ -51,6 +51,6 @@ above-at bound [] e j = omega arith
 above-at bound (v ∷ values) e j = from (ltb bound v) refl e j (above-at bound values)
   where
     from : (x : Bool) → ltb bound v ≡ x → (x || above bound values) ≡ false → (j : ℕ) → (above bound values ≡ false → (i : ℕ) → getD values i 0 ≤ bound) → getD (v ∷ values) j 0 ≤ bound
-    from true p e j again = absurd (let z : _≡_ {A = ℕ} 0 1 = cc in omega arith)
+    from true p e j again = absurd (false≢true (sym e))
     from false p e zero again = ltb-false bound v p
     from false p e (suc j) again = again e j

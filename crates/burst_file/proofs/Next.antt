@@ -9,7 +9,7 @@ use lib.Dec.{eqb}
 use borrow.Author.Tests.{eqb-true}
 use Rattle.geometry.specs.Refusal.{refuse}
 use Rattle.burst_file.specs.Part.{Part, refused, found}
-use Rattle.burst_file.specs.PartLaws.{Sound, unless-sound, then-sound}
+use Rattle.burst_file.specs.PartLaws.{Sound, unless-sound, found-refused, then-sound}
 use Rattle.burst_file.specs.Line.{Item, last, more, bad, itemOf, afterItem, valuesOf, lineEnd, valueLine, above}
 use Rattle.burst_file.specs.LineLaws.{malformed}
 use Rattle.burst_file.specs.Rows.{row, rows}
@@ -69,9 +69,9 @@ pub line-found-next : (k : ℕ) (s : List ℕ) (bound : ℕ) (o : Bool) (t : Lis
 line-found-next k s bound o t e = from (valueLine k s) (line-next k s) e
   where
     from : (line : Part (List ℕ)) → Sound (Next k s) line → found o t ≡ judged false bound line → line ≡ found (nextValues k s) t
-    from (refused number) next e = absurd (let z : _≡_ {A = ℕ} 0 1 = cc in omega arith)
+    from (refused number) next e = absurd (found-refused e)
     from (found values rest) next e = let same : t ≡ rest = cc in rw (same, next-all k s values rest next)
 
 pub line-refused : (bound number : ℕ) (line : Part (List ℕ)) → refused number ≡ judged false bound line → line ≡ refused number
 line-refused bound number (refused n) e = let same : n ≡ number = cc in ap refused same
-line-refused bound number (found values rest) e = absurd (let z : _≡_ {A = ℕ} 0 1 = cc in omega arith)
+line-refused bound number (found values rest) e = absurd (found-refused (sym e))

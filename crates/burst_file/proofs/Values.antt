@@ -9,7 +9,9 @@ use lib.Dec.{ltb}
 use Rattle.burst_file.specs.Part.{Part, refused, found, unless, mapped}
 use Rattle.burst_file.specs.Line.{itemOf, afterItem, valuesOf, hasLF, lineEnd, valueLine, above}
 use Rattle.burst_file.specs.Scan.{judged}
-use Rattle.burst_file.specs.LineLaws.{SoundLine, values-sound, line-lf}
+use Rattle.burst_file.specs.Grammar.{ValueLine}
+use Rattle.burst_file.specs.LineLaws.{values-sound, line-lf}
+use Rattle.burst_file.specs.PartLaws.{Sound, found-refused}
 
 -- one value further
 pub values-step : (k : ℕ) (s : List ℕ) → 0 < k → valuesOf k s ≡ afterItem (k - 1) (λ t. valuesOf (k - 1) t) (itemOf s)
@@ -43,6 +45,6 @@ judged-more a bound v (refused number) = refl
 pub line-found : (k : ℕ) (s : List ℕ) (bound : ℕ) (o : Bool) (t : List ℕ) → found o t ≡ judged false bound (valuesOf k s) → found o t ≡ judged false bound (valueLine k s)
 line-found k s bound o t e = from (valuesOf k s) (values-sound k s) e
   where
-    from : (line : Part (List ℕ)) → SoundLine k s line → found o t ≡ judged false bound line → found o t ≡ judged false bound (unless (lineEnd s) line)
-    from (refused number) l e = absurd (let z : _≡_ {A = ℕ} 0 1 = cc in omega arith)
+    from : (line : Part (List ℕ)) → Sound (ValueLine k s) line → found o t ≡ judged false bound line → found o t ≡ judged false bound (unless (lineEnd s) line)
+    from (refused number) l e = absurd (found-refused e)
     from (found values rest) l e = rw (ap hasLF (l .is) ∙ line-lf (l .text) rest) e

@@ -1,9 +1,8 @@
 -- The first two lines are read exactly where the grammar has them with values that pass their tests.
 use mathlib.Core.Path.{_≡_, refl, sym, ap, _∙_}
-use mathlib.Core.Bool.{Bool, true, false, cond, not}
+use mathlib.Core.Bool.{Bool, true, false, false≢true, cond, not}
 use mathlib.Core.List.{List, [], _∷_, _++_}
 use Prim.Native.Nat.{ℕ}
-use native.Mathlib.Omega.{arith}
 use lib.Dec.{eqb}
 use lib.ListN.{length, getD, drop}
 use borrow.Author.Tests.{eq-eqb, eqb-true, not-false}
@@ -21,12 +20,12 @@ use Rattle.burst_file.specs.Head.{startsWith, firstLineRefusal, headerOf
 starts-sound : (text s : List ℕ) → startsWith text s ≡ true → s ≡ text ++ drop (length text) s
 unfolding startsWith
 starts-sound [] s e = refl
-starts-sound (byte ∷ text) [] e = absurd (let z : _≡_ {A = ℕ} 0 1 = cc in omega arith)
+starts-sound (byte ∷ text) [] e = absurd (false≢true e)
 starts-sound (byte ∷ text) (b ∷ s) e = from (eqb b byte) refl (starts-sound text s) e
   where
     from : (x : Bool) → eqb b byte ≡ x → (startsWith text s ≡ true → s ≡ text ++ drop (length text) s) → cond x (startsWith text s) false ≡ true → b ∷ s ≡ byte ∷ (text ++ drop (length text) s)
     from true p again e = ap (λ (y : ℕ). y ∷ s) (eqb-true b byte p) ∙ ap (λ (t : List ℕ). byte ∷ t) (again e)
-    from false p again e = absurd (let z : _≡_ {A = ℕ} 0 1 = cc in omega arith)
+    from false p again e = absurd (false≢true e)
 
 starts-complete : (text s : List ℕ) → startsWith text (text ++ s) ≡ true
 unfolding startsWith

@@ -13,7 +13,7 @@ use Rattle.burst_file.specs.PartLaws.{Sound, unless-sound, then-sound}
 use Rattle.burst_file.specs.Line.{Item, last, more, bad, digitOf, pastSpaces, afterDigits, digitsFrom, itemOf, afterItem, valuesOf, hasLF, lineEnd, valueLine}
 use Rattle.burst_file.specs.Grammar.{Digits, noDigit, digit, numberFrom, Value, Spaces, space, spaces, Values, value, valueThen, ValueLine}
 
--- a byte is a digit or not
+-- a byte that is a digit
 record IsDigit (byte : ℕ) : Type 0 where
   low : 48 ≤ byte
   high : byte ≤ 57
@@ -113,12 +113,9 @@ digits-sound n v (byte ∷ rest) few = from (eqb (digitOf byte) 10) (eqb n 9) re
 word-value : {s rest : List ℕ} {v : ℕ} (w : Word 0 0 s v rest) → Value (w .text) v
 word-value w = record { digits = w .digits; some = omega (arith, w .some); few = omega (arith, w .few); is = w .number }
 
-abbrev pub SoundLine : (count : ℕ) → List ℕ → Part (List ℕ) → Type 0
-SoundLine count s line = Sound (λ values rest. ValueLine count s values rest) line
-
-line-more : {t s rest : List ℕ} {v : ℕ} (count : ℕ) → Word 0 0 s v t → Gap t rest → (line : Part (List ℕ)) → SoundLine count rest line → SoundLine (suc count) s (mapped (λ values. v ∷ values) line)
+line-more : {t s rest : List ℕ} {v : ℕ} (count : ℕ) → Word 0 0 s v t → Gap t rest → (line : Part (List ℕ)) → Sound (ValueLine count rest) line → Sound (ValueLine (suc count) s) (mapped (λ values. v ∷ values) line)
 line-more {t} {s} {rest} {v} count w g line l =
-    then-sound (λ values rest′. ValueLine count rest values rest′) (λ values rest′. ValueLine (suc count) s values rest′) line _ l
+    then-sound (ValueLine count rest) (ValueLine (suc count) s) line _ l
     (λ values rest′ k. record {
       text = w .text ++ (g .gap ++ k .text);
       is =
@@ -131,15 +128,15 @@ line-more {t} {s} {rest} {v} count w g line l =
 pub malformed : _≡_ {A = ℕ} 14 0 → ⊥
 malformed e = omega arith
 
-pub values-sound : (count : ℕ) (s : List ℕ) → SoundLine count s (valuesOf count s)
+pub values-sound : (count : ℕ) (s : List ℕ) → Sound (ValueLine count s) (valuesOf count s)
 unfolding valuesOf
 values-sound zero s = malformed
 values-sound (suc count) s = from (itemOf s) (digits-sound 0 0 s (omega arith)) (λ t. values-sound count t)
   where
-    from : (item : Item) → SoundItem 0 0 s item → ((t : List ℕ) → SoundLine count t (valuesOf count t)) → SoundLine (suc count) s (afterItem count (λ t. valuesOf count t) item)
+    from : (item : Item) → SoundItem 0 0 s item → ((t : List ℕ) → Sound (ValueLine count t) (valuesOf count t)) → Sound (ValueLine (suc count) s) (afterItem count (λ t. valuesOf count t) item)
     from (last v rest) w again = ends (eqb count 0) refl
       where
-        ends : (x : Bool) → eqb count 0 ≡ x → SoundLine (suc count) s (cond x (found (v ∷ []) rest) (refused 14))
+        ends : (x : Bool) → eqb count 0 ≡ x → Sound (ValueLine (suc count) s) (cond x (found (v ∷ []) rest) (refused 14))
         ends true p = record { text = w .text; is = w .is; grammar = value (word-value w); counted = ap suc (sym (eqb-true count 0 p)) }
         ends false p = malformed
     from (more v rest) (t, w, g) again = line-more count w g (valuesOf count rest) (again rest)
@@ -229,8 +226,8 @@ line-lf (byte ∷ text) rest = from (eqb byte 10) (line-lf text rest)
     from true e = refl
     from false e = e
 
-pub line-sound : (count : ℕ) (s : List ℕ) → SoundLine count s (valueLine count s)
-line-sound count s = unless-sound (λ values rest. ValueLine count s values rest) (lineEnd s) (valuesOf count s) (λ e. values-sound count s)
+pub line-sound : (count : ℕ) (s : List ℕ) → Sound (ValueLine count s) (valueLine count s)
+line-sound count s = unless-sound (ValueLine count s) (lineEnd s) (valuesOf count s) (λ e. values-sound count s)
 
 pub line-complete : {count : ℕ} {s values rest : List ℕ} → ValueLine count s values rest → valueLine count s ≡ found values rest
 line-complete {count} {s} {values} {rest} l =

@@ -22,6 +22,9 @@ module _ {A : Type 0} (P : A → List ℕ → Type 0) where
   sound-found (refused number) e s = absurd (s e)
   sound-found (found a rest) e s = (a, rest, refl, s)
 
+pub found-refused : {A : Type 0} {a : A} {rest : List ℕ} {number : ℕ} → found a rest ≡ refused number → ⊥
+found-refused e = let z : _≡_ {A = ℕ} 0 1 = cc in omega arith
+
 pub then-sound : {A B : Type 0} (P : A → List ℕ → Type 0) (Q : B → List ℕ → Type 0) (part : Part A) (next : A → List ℕ → Part B)
     → Sound P part → ((a : A) (rest : List ℕ) → P a rest → Sound Q (next a rest)) → Sound Q (part then next)
 then-sound P Q (refused number) next s again = s

@@ -1,6 +1,6 @@
 -- Rows are read exactly where the grammar has them with no value above 4095.
 use mathlib.Core.Path.{_≡_, refl, sym, ap, _∙_}
-use mathlib.Core.Bool.{Bool, true, false, _||_}
+use mathlib.Core.Bool.{Bool, true, false, false≢true, _||_}
 use mathlib.Core.List.{List, [], _∷_, _++_}
 use Prim.Native.Nat.{ℕ, zero, suc}
 use native.Mathlib.Omega.{arith}
@@ -25,7 +25,7 @@ above-append bound (v ∷ a) b = ap (λ (x : Bool). ltb bound v || x) (above-app
 
 neither : (a b : Bool) → (a || b) ≡ false → (a ≡ false) × (b ≡ false)
 neither false b e = (refl, e)
-neither true b e = absurd (let z : _≡_ {A = ℕ} 0 1 = cc in omega arith)
+neither true b e = absurd (false≢true (sym e))
 
 -- a row and rows of the grammar with no value above 4095
 abbrev SmallLine : (width : ℕ) (s values rest : List ℕ) → Type 0
