@@ -1,17 +1,14 @@
 -- The loop that stores the next values one by one.
 use mathlib.Core.Path.{_≡_, refl, sym, ap, _∙_}
-use mathlib.Core.Bool.{Bool, true, false, false≢true, _||_}
-use mathlib.Core.List.{List, [], _∷_}
-use Prim.Native.Nat.{ℕ, zero, suc, _+_, _-_, _≤_, _<_}
+use mathlib.Core.List.{List, _∷_}
+use Prim.Native.Nat.{ℕ, zero, suc, _+_, _-_, _<_}
 use native.Mathlib.Numerals.{add-one}
 use native.Mathlib.Omega.{arith}
-use lib.Dec.{ltb}
 use lib.ListN.{length, getD, drop}
 use lib.Seq.{drop-cons}
-use borrow.Author.Tests.{ltb-false}
 use Rattle.sequences.specs.Tab.{tab}
 use Rattle.sequences.specs.Grid.{tab-of}
-use Rattle.burst_file.specs.Line.{itemOf, above}
+use Rattle.burst_file.specs.Line.{itemOf}
 use Rattle.burst_file.specs.Scan.{valueIn, restIn, nextValues}
 
 -- t is what is left of s after j of its next n values
@@ -43,14 +40,3 @@ module _ {n : ℕ} {s : List ℕ} where
 
 pub next-table : (n : ℕ) (s : List ℕ) → tab n (λ k. getD (nextValues n s) k 0) ≡ nextValues n s
 next-table n s = ap (λ (k : ℕ). tab k (λ k. getD (nextValues n s) k 0)) (sym (length-next n s)) ∙ sym (tab-of 0 (nextValues n s))
-
--- none is above the bound
-pub above-at : (bound : ℕ) (values : List ℕ) → above bound values ≡ false → (j : ℕ) → getD values j 0 ≤ bound
-unfolding above
-above-at bound [] e j = omega arith
-above-at bound (v ∷ values) e j = from (ltb bound v) refl e j (above-at bound values)
-  where
-    from : (x : Bool) → ltb bound v ≡ x → (x || above bound values) ≡ false → (j : ℕ) → (above bound values ≡ false → (i : ℕ) → getD values i 0 ≤ bound) → getD (v ∷ values) j 0 ≤ bound
-    from true p e j again = absurd (false≢true (sym e))
-    from false p e zero again = ltb-false bound v p
-    from false p e (suc j) again = again e j

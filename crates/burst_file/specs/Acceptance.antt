@@ -1,25 +1,24 @@
 -- A file is accepted exactly when it is a file of the grammar whose values pass the tests.
 use mathlib.Core.Path.{_≡_}
-use mathlib.Core.Bool.{false}
 use mathlib.Core.List.{List, []}
 use Prim.Native.Nat.{ℕ, _*_}
 use Rattle.geometry.specs.declared.Shape.{Shape}
+use Rattle.geometry.specs.Bounds.{SamplesFit}
 use Rattle.burst_file.specs.Grammar.{Burst, BurstFile}
 use Rattle.burst_file.specs.Part.{found, numberOf}
 use Rattle.burst_file.specs.PartLaws.{Sound, unless-sound, sound-at, sound-found, then-sound}
-use Rattle.burst_file.specs.Line.{above}
 use Rattle.burst_file.specs.Head.{headerRefusal, headOf}
 use Rattle.burst_file.specs.HeadLaws.{HeadRead, head-sound, head-complete}
 use Rattle.burst_file.specs.Rows.{rows, framesOf}
-use Rattle.burst_file.specs.RowLaws.{SmallRows, rows-sound, rows-complete, ended-sound}
+use Rattle.burst_file.specs.RowLaws.{above-at, above-none, SmallRows, rows-sound, rows-complete, ended-sound}
 use Rattle.burst_file.specs.Reading.{bodyOf, reading}
 
--- `lengthTest` is refusal 4, or nothing in the file check; 11 is "sample > 4095"
+-- the grammar, and refusals 1, 2, 3, 9 and 10, then `lengthTest` (4, or nothing in the file check), then 11
 pub record Accepted (lengthTest : Shape → ℕ) (file : List ℕ) (burst : Burst) : Type 0 where
   pub grammar : BurstFile file burst
   pub header : headerRefusal (burst .header) ≡ 0
   pub measured : lengthTest (burst .header .shape) ≡ 0
-  pub small : above 4095 (burst .samples) ≡ false
+  pub small : SamplesFit (burst .samples)
 
 module _ (lengthTest : Shape → ℕ) (file : List ℕ) where
   abbrev Ends : Burst → List ℕ → Type 0
@@ -40,7 +39,7 @@ module _ (lengthTest : Shape → ℕ) (file : List ℕ) where
           grammar = record { afterNames = h .afterNames; afterValues = body; named = h .named; valued = h .valued; sampled = r .0 .0 };
           header = h .passed;
           measured = measured;
-          small = r .0 .1;
+          small = record { most = above-at 4095 samples (r .0 .1) };
         },
         r .1,
       ))))
@@ -59,4 +58,4 @@ module _ (lengthTest : Shape → ℕ) (file : List ℕ) where
   complete burst a =
       let g = a .grammar in
       let h : HeadRead file (burst .header) (g .afterValues) = record { afterNames = g .afterNames; named = g .named; valued = g .valued; passed = a .header } in
-      rw (head-complete h, a .measured, rows-complete (g .sampled) (a .small))
+      rw (head-complete h, a .measured, rows-complete (g .sampled) (above-none 4095 (burst .samples) (a .small .most)))

@@ -2,9 +2,11 @@
 use mathlib.Core.Path.{_≡_, refl, sym, ap, _∙_}
 use mathlib.Core.Bool.{Bool, true, false, false≢true, _||_}
 use mathlib.Core.List.{List, [], _∷_, _++_}
-use Prim.Native.Nat.{ℕ, zero, suc}
+use Prim.Native.Nat.{ℕ, zero, suc, _≤_}
 use native.Mathlib.Omega.{arith}
 use lib.Dec.{ltb}
+use lib.ListN.{getD}
+use borrow.Author.Tests.{ltb-false, le-ltb}
 use Rattle.geometry.specs.Refusal.{refuse}
 use Rattle.geometry.specs.RefusalLaws.{refuse-not}
 use Rattle.burst_file.specs.Part.{Part, refused, found}
@@ -14,6 +16,22 @@ use Rattle.burst_file.specs.Rows.{row, rows, ended}
 use Rattle.burst_file.specs.Grammar.{ValueLine, Rows, noRow, rowThen}
 use Rattle.burst_file.specs.LineLaws.{line-sound, line-complete}
 
+neither : (a b : Bool) → (a || b) ≡ false → (a ≡ false) × (b ≡ false)
+neither false b e = (refl, e)
+neither true b e = absurd (false≢true (sym e))
+
+-- none is above the bound
+pub above-at : (bound : ℕ) (values : List ℕ) → above bound values ≡ false → (j : ℕ) → getD values j 0 ≤ bound
+unfolding above
+above-at bound [] e j = omega arith
+above-at bound (v ∷ values) e zero = ltb-false bound v (neither (ltb bound v) (above bound values) e .0)
+above-at bound (v ∷ values) e (suc j) = above-at bound values (neither (ltb bound v) (above bound values) e .1) j
+
+pub above-none : (bound : ℕ) (values : List ℕ) → ((j : ℕ) → getD values j 0 ≤ bound) → above bound values ≡ false
+unfolding above
+above-none bound [] most = refl
+above-none bound (v ∷ values) most = rw (le-ltb bound v (most 0)) (above-none bound values (λ j. most (suc j)))
+
 above-append : (bound : ℕ) (a b : List ℕ) → above bound (a ++ b) ≡ (above bound a || above bound b)
 unfolding above
 above-append bound [] b = refl
@@ -22,10 +40,6 @@ above-append bound (v ∷ a) b = ap (λ (x : Bool). ltb bound v || x) (above-app
     regroup : (x y z : Bool) → (x || (y || z)) ≡ ((x || y) || z)
     regroup true y z = refl
     regroup false y z = refl
-
-neither : (a b : Bool) → (a || b) ≡ false → (a ≡ false) × (b ≡ false)
-neither false b e = (refl, e)
-neither true b e = absurd (false≢true (sym e))
 
 -- a row and rows of the grammar with no value above 4095
 abbrev SmallLine : (width : ℕ) (s values rest : List ℕ) → Type 0

@@ -11,6 +11,8 @@ use crate::Header;
 use crate::first_lines::read_head;
 use crate::rows::check_frames;
 use crate::scanning::value_at;
+use geometry::lengths::length_refusal;
+use geometry::lengths::sample_length;
 
 // The number of the first refusal but 4, or 0.
 pub fn check_file(file: &[u8]) -> u64
@@ -79,7 +81,7 @@ pub fn read_file(file: &[u8], samples: &mut [u16]) -> FileAnswer
         Head::Refused { number } => refused(number),
         Head::Found { header, next } => {
             let shape = header.shape;
-            let length = geometry::length_refusal(4, geometry::sample_length(shape), samples.len());
+            let length = length_refusal(4, sample_length(shape), samples.len());
             if length != 0 {
                 return refused(length);
             }

@@ -10,6 +10,10 @@ use crate::lines::check_line;
 use crate::scanning::has_lf;
 use crate::scanning::value_at;
 use geometry::Shape;
+use geometry::sizes::reference_refusal;
+use geometry::sizes::shape_refusal;
+use noise::level_refusal;
+use noise::strength_refusal;
 
 fn starts_with(file: &[u8], text: &[u8]) -> bool
     ensures { λ r. ⌜ r ≡ startsWith (now (text .entry)) (now (file .entry)) ⌝ }
@@ -68,19 +72,19 @@ fn header_refusal(header: Header) -> u64
     ensures { λ r. ⌜ r ≡ headerRefusal header ⌝ }
 {
     let shape = header.shape;
-    let size = geometry::shape_refusal(shape);
+    let size = shape_refusal(shape);
     if size != 0 {
         return size;
     }
-    let reference = geometry::reference_refusal(shape, header.reference);
+    let reference = reference_refusal(shape, header.reference);
     if reference != 0 {
         return reference;
     }
-    let level = noise::level_refusal(header.shot, header.read);
+    let level = level_refusal(header.shot, header.read);
     if level != 0 {
         return level;
     }
-    noise::strength_refusal(header.strength)
+    strength_refusal(header.strength)
 }
 
 // The names, the seven values and their tests. Line 2 starts at byte 48.
