@@ -6,6 +6,7 @@ use lib.IntN.{ℤ, natAbs}
 use Rattle.transform.specs.Tables.{side16}
 use Rattle.transform.specs.Recipe.{rowRe, rowIm, binRe, binIm}
 use Rattle.transform.specs.Lines.{TileMost, linesOf, realAt, imaginaryAt, passRe, passIm}
+use Rattle.transform.specs.Magnitudes.{differenceMost, rowMost, binMost}
 use Rattle.transform.proofs.Passes.{against-most, real-ext, imaginary-ext, forward-most}
 use Rattle.transform.proofs.Tiles.{turned-real, turned-imaginary, real-of, imaginary-of, lines-ext, lines-most}
 use Rattle.transform.proofs.Recipes.{row-real, row-imaginary, bin-real, bin-imaginary}
@@ -31,19 +32,18 @@ module _ (d : ℕ → ℕ → ℤ) where
         ∙ imaginary-ext (realAt b v) (imaginaryAt b v) (λ y. re y v) (λ y. im y v) (λ y k. turned-real re im p q v y l k) (λ y k. turned-imaginary re im p q v y l k) 12 u
         ∙ sym (bin-imaginary d u v))
 
-  -- differences are at most 4095
-  module _ (m : (y x : ℕ) → natAbs (d y x) ≤ 4095) where
-    row-most : (y v : ℕ) → (natAbs (re y v) ≤ 1073479680) × (natAbs (im y v) ≤ 1073479680)
+  module _ (m : (y x : ℕ) → natAbs (d y x) ≤ differenceMost) where
+    row-most : (y v : ℕ) → (natAbs (re y v) ≤ rowMost) × (natAbs (im y v) ≤ rowMost)
     row-most y v =
-        (subst (λ z. natAbs z ≤ 1073479680) (sym (row-real d y v)) (against-most 4095 (d y) (m y) v 0), subst (λ z. natAbs z ≤ 1073479680) (sym (row-imaginary d y v)) (against-most 4095 (d y) (m y) v 4))
+        (subst (λ z. natAbs z ≤ rowMost) (sym (row-real d y v)) (against-most differenceMost (d y) (m y) v 0), subst (λ z. natAbs z ≤ rowMost) (sym (row-imaginary d y v)) (against-most differenceMost (d y) (m y) v 4))
 
-    pub rows-most : TileMost 1073479680 (linesOf re im)
-    rows-most = lines-most 1073479680 re im (λ y v. row-most y v .0) (λ y v. row-most y v .1)
+    pub rows-most : TileMost rowMost (linesOf re im)
+    rows-most = lines-most rowMost re im (λ y v. row-most y v .0) (λ y v. row-most y v .1)
 
-    bin-most : (u v : ℕ) → (natAbs (binRe side16 d u v) ≤ 397960386969600) × (natAbs (binIm side16 d u v) ≤ 397960386969600)
+    pub bin-most : (u v : ℕ) → (natAbs (binRe side16 d u v) ≤ binMost) × (natAbs (binIm side16 d u v) ≤ binMost)
     bin-most u v =
-        let pass = forward-most 1073479680 (λ y. re y v) (λ y. im y v) (λ y. row-most y v .0) (λ y. row-most y v .1) u in
-        (subst (λ z. natAbs z ≤ 397960386969600) (sym (bin-real d u v)) (pass .0), subst (λ z. natAbs z ≤ 397960386969600) (sym (bin-imaginary d u v)) (pass .1))
+        let pass = forward-most rowMost (λ y. re y v) (λ y. im y v) (λ y. row-most y v .0) (λ y. row-most y v .1) u in
+        (subst (λ z. natAbs z ≤ binMost) (sym (bin-real d u v)) (pass .0), subst (λ z. natAbs z ≤ binMost) (sym (bin-imaginary d u v)) (pass .1))
 
-    pub bins-most : TileMost 397960386969600 (linesOf (binRe side16 d) (binIm side16 d))
-    bins-most = lines-most 397960386969600 (binRe side16 d) (binIm side16 d) (λ u v. bin-most u v .0) (λ u v. bin-most u v .1)
+    pub bins-most : TileMost binMost (linesOf (binRe side16 d) (binIm side16 d))
+    bins-most = lines-most binMost (binRe side16 d) (binIm side16 d) (λ u v. bin-most u v .0) (λ u v. bin-most u v .1)

@@ -5,4 +5,6 @@ pub mod Bins
 pub mod Rounded
 pub mod Gain
 pub mod Held
+pub mod Gains
+pub mod Inverses
 pub mod Corrections

@@ -117,3 +117,12 @@ module _ (re im : ℕ → ℕ → ℤ) {a b : List (List ℤ)} (p : a ≡ linesO
   turned-imaginary =
       ap (λ t. imaginaryAt t v u) q ∙ imaginary-of (λ v u. realAt a u v) (λ v u. imaginaryAt a u v) v u h l ∙ ap (λ t. imaginaryAt t u v) p
       ∙ imaginary-of re im u v l h
+
+pub grid-most : (b : ℕ) (f : ℕ → ℕ → ℤ) → ((y x : ℕ) → natAbs (f y x) ≤ b) → TileMost b (grid 16 16 f)
+unfolding grid
+grid-most b f h =
+    record {
+      line =
+          tab-every (LineMost b) [] (λ y. tab 16 (f y)) (record { at = λ i. zero-le })
+          (λ y. record { at = tab-every (λ z. natAbs z ≤ b) (pos 0) (f y) zero-le (h y) 16 }) 16;
+    }

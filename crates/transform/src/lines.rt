@@ -6,6 +6,7 @@ ghost use lib.ListN.{getD};
 ghost use Rattle.algebra.specs.Bound.{AtMost};
 ghost use Rattle.sequences.specs.Tab.{tab};
 ghost use Rattle.transform.specs.Tables.{cosines};
+ghost use Rattle.transform.specs.Magnitudes.{passMost};
 ghost use Rattle.transform.specs.Lines.{
   LineMost,
   TileMost,
@@ -41,9 +42,14 @@ pub const COSINES: [i64; 16] = [
     15137,
 ];
 
+// How far into the table the sines lie: S(k) = C(k+12) for the transform with C and −S, −S(k) = C(k+4) for the inverse with C and +S.
+pub const FORWARD: usize = 12;
+
+pub const INVERSE: usize = 4;
+
 // Half a line, its real parts (from 0) or its imaginary parts (from 16), against cosines that are k steps of the table apart, from step a on.
 pub fn dot(x: &[i64; 32], cos: &[i64; 16], from: usize, k: usize, a: usize) -> i64
-    requires { ⌜ (from ≤ 16) × (k < 16) × (a ≤ 16) × (now cos ≡ cosines) × (LineMost (2 ^ 43) (now x)) ⌝ }
+    requires { ⌜ (from ≤ 16) × (k < 16) × (a ≤ 16) × (now cos ≡ cosines) × (LineMost passMost (now x)) ⌝ }
     ensures { λ r. ⌜ (r ≡ against (λ i. getD (now (x .entry)) (from + i) (pos 0)) k a) × (AtMost (2 ^ 61) r) ⌝ }
 {
     let mut sum: i64 = 0;
@@ -53,9 +59,9 @@ pub fn dot(x: &[i64; 32], cos: &[i64; 16], from: usize, k: usize, a: usize) -> i
     sum
 }
 
-// Real part k of the line's transform; shift 12 is the transform, 4 its inverse.
+// Real part k of the line's transform or inverse, by the shift.
 pub fn real(x: &[i64; 32], cos: &[i64; 16], shift: usize, k: usize) -> i64
-    requires { ⌜ (k < 16) × (shift ≤ 16) × (now cos ≡ cosines) × (LineMost (2 ^ 43) (now x)) ⌝ }
+    requires { ⌜ (k < 16) × (shift ≤ 16) × (now cos ≡ cosines) × (LineMost passMost (now x)) ⌝ }
     ensures { λ r. ⌜ (r ≡ passRe shift (realIn (now (x .entry))) (imaginaryIn (now (x .entry))) k) × (AtMost (2 ^ 62) r) ⌝ }
 {
     dot(x, cos, 0, k, 0) + dot(x, cos, 16, k, shift)
@@ -63,7 +69,7 @@ pub fn real(x: &[i64; 32], cos: &[i64; 16], shift: usize, k: usize) -> i64
 
 // Its imaginary part k.
 fn imaginary(x: &[i64; 32], cos: &[i64; 16], shift: usize, k: usize) -> i64
-    requires { ⌜ (k < 16) × (shift ≤ 16) × (now cos ≡ cosines) × (LineMost (2 ^ 43) (now x)) ⌝ }
+    requires { ⌜ (k < 16) × (shift ≤ 16) × (now cos ≡ cosines) × (LineMost passMost (now x)) ⌝ }
     ensures { λ r. ⌜ (r ≡ passIm shift (realIn (now (x .entry))) (imaginaryIn (now (x .entry))) k) × (AtMost (2 ^ 62) r) ⌝ }
 {
     dot(x, cos, 0, k, 16 - shift) + dot(x, cos, 16, k, 0)
@@ -71,7 +77,7 @@ fn imaginary(x: &[i64; 32], cos: &[i64; 16], shift: usize, k: usize) -> i64
 
 // Number j of the line's transform, the real parts first.
 fn part(x: &[i64; 32], cos: &[i64; 16], shift: usize, j: usize) -> i64
-    requires { ⌜ (j < 32) × (shift ≤ 16) × (now cos ≡ cosines) × (LineMost (2 ^ 43) (now x)) ⌝ }
+    requires { ⌜ (j < 32) × (shift ≤ 16) × (now cos ≡ cosines) × (LineMost passMost (now x)) ⌝ }
     ensures { λ r. ⌜ r ≡ passOf shift (now (x .entry)) j ⌝ }
 {
     if j < 16 {
@@ -82,7 +88,7 @@ fn part(x: &[i64; 32], cos: &[i64; 16], shift: usize, j: usize) -> i64
 
 // The line's transform.
 fn line(x: &[i64; 32], cos: &[i64; 16], shift: usize) -> [i64; 32]
-    requires { ⌜ (shift ≤ 16) × (now cos ≡ cosines) × (LineMost (2 ^ 43) (now x)) ⌝ }
+    requires { ⌜ (shift ≤ 16) × (now cos ≡ cosines) × (LineMost passMost (now x)) ⌝ }
     ensures { λ r. ⌜ r ≡ tab 32 (passOf shift (now (x .entry))) ⌝ }
 {
     let mut r = [0i64; 32];
@@ -94,7 +100,7 @@ fn line(x: &[i64; 32], cos: &[i64; 16], shift: usize) -> [i64; 32]
 
 // The transform of each line.
 pub fn lines(t: &[[i64; 32]; 16], cos: &[i64; 16], shift: usize) -> [[i64; 32]; 16]
-    requires { ⌜ (shift ≤ 16) × (now cos ≡ cosines) × (TileMost (2 ^ 43) (now t)) ⌝ }
+    requires { ⌜ (shift ≤ 16) × (now cos ≡ cosines) × (TileMost passMost (now t)) ⌝ }
     ensures { λ r. ⌜ r ≡ linesOf (λ u. passRe shift (realAt (now (t .entry)) u) (imaginaryAt (now (t .entry)) u)) (λ u. passIm shift (realAt (now (t .entry)) u) (imaginaryAt (now (t .entry)) u)) ⌝ }
 {
     let mut r = [[0i64; 32]; 16];

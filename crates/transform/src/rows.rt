@@ -1,12 +1,13 @@
 // The first pass of the transform, along the rows of differences.
 use crate::lines;
 ghost use mathlib.Core.Path.{_≡_};
-ghost use Prim.Native.Nat.{_<_, _^_};
+ghost use Prim.Native.Nat.{_<_};
 ghost use lib.IntN.{pos};
 ghost use Rattle.sequences.specs.Tab.{tab};
 ghost use Rattle.sequences.specs.Grid.{cell};
 ghost use Rattle.transform.specs.Tables.{cosines, side16};
 ghost use Rattle.transform.specs.Recipe.{rowRe, rowIm};
+ghost use Rattle.transform.specs.Magnitudes.{differenceMost, passMost};
 ghost use Rattle.transform.specs.Lines.{LineMost, TileMost, against, lineOf, linesOf, realIn};
 
 // Place j of the row as a line with no imaginary parts.
@@ -33,7 +34,7 @@ fn widened(row: &[i32; 16]) -> [i64; 32]
 
 // The transform of a line with no imaginary parts: the real parts against C(k), and against −S(k) = C(k+4).
 fn real_line(x: &[i64; 32], cos: &[i64; 16]) -> [i64; 32]
-    requires { ⌜ (now cos ≡ cosines) × (LineMost (2 ^ 43) (now x)) ⌝ }
+    requires { ⌜ (now cos ≡ cosines) × (LineMost passMost (now x)) ⌝ }
     ensures { λ r. ⌜ r ≡ tab 32 (lineOf (λ v. against (realIn (now (x .entry))) v 0) (λ v. against (realIn (now (x .entry))) v 4)) ⌝ }
 {
     let mut r = [0i64; 32];
@@ -45,7 +46,7 @@ fn real_line(x: &[i64; 32], cos: &[i64; 16]) -> [i64; 32]
 
 // The transform of each row of differences.
 pub fn rows(d: &[[i32; 16]; 16], cos: &[i64; 16]) -> [[i64; 32]; 16]
-    requires { ⌜ (now cos ≡ cosines) × (TileMost 4095 (now d)) ⌝ }
+    requires { ⌜ (now cos ≡ cosines) × (TileMost differenceMost (now d)) ⌝ }
     ensures { λ r. ⌜ r ≡ linesOf (rowRe side16 (cell (pos 0) (now (d .entry)))) (rowIm side16 (cell (pos 0) (now (d .entry)))) ⌝ }
 {
     let mut r = [[0i64; 32]; 16];

@@ -6,6 +6,7 @@ use lib.IntN.{pos}
 use Rattle.sequences.specs.Grid.{cell}
 use Rattle.transform.specs.Tables.{cosines}
 use Rattle.transform.specs.Lines.{TileMost}
+use Rattle.transform.specs.Magnitudes.{rowMost}
 use Rattle.transform.proofs.Tiles.{cells-most, turned-most, tile-more}
 use Rattle.transform.proofs.Bins.{forward-is, rows-most, bins-most}
 use Rattle.transform.proofs.forward.Statement.{statement}
@@ -24,7 +25,7 @@ lines-requires c κs =
     let t = c .before .before in
     let a = t .before .before in
     let s = a .before .before .before in
-    let m : TileMost 1073479680 (a .rows .result) = rw (a .rows .ensures) (rows-most (cell (pos 0) (s .args .t1)) (cells-most (s .pre))) in
+    let m : TileMost rowMost (a .rows .result) = rw (a .rows .ensures) (rows-most (cell (pos 0) (s .args .t1)) (cells-most (s .pre))) in
     (omega arith, refl, rw (t .turned .ensures) (tile-more (omega arith) (turned-most m)))
 
 turned-requires-2 : tie.Need-turned-requires-2

@@ -10,7 +10,7 @@ use Rattle.sequences.specs.Grid.{grid}
 use Rattle.transform.specs.Tables.{side16}
 use Rattle.transform.specs.Recipe.{filtered}
 use Rattle.transform.specs.Lines.{lineOf, linesOf, realAt, imaginaryAt}
-use Rattle.transform.proofs.Corrections.{line-is, quantized-most, gains-most}
+use Rattle.transform.proofs.Gains.{line-is, quantized-most, gains-most}
 use Rattle.transform.proofs.wiener.Statement.{statement}
 use Rattle.transform.proofs.wiener.Tie as tie
 

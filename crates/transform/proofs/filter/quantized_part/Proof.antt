@@ -10,6 +10,7 @@ use Rattle.algebra.specs.Nearest.{away}
 use lib.Dec.{lit<}
 use Rattle.transform.specs.Tables.{side16}
 use Rattle.transform.specs.Recipe.{quantized}
+use Rattle.transform.specs.Magnitudes.{binMost}
 use Rattle.transform.proofs.Rounded.{away-most}
 use Rattle.transform.proofs.filter.quantized_part.Statement.{statement}
 use Rattle.transform.proofs.filter.quantized_part.Tie as tie
@@ -23,7 +24,7 @@ returns c =
     let s = c .before in
     let e : toZ w64 (ofZ w64 (c .round-away .result)) ≡ c .round-away .result = search needs in
     let f : c .round-away .result ≡ away (s .args .b) (2 ^ 24) = c .round-away .ensures ∙ ap (λ z. away z (2 ^ 24)) (toZ-ofZ (s .fits .b)) in
-    rw (e, f) (refl, record { most = away-most (s .args .b) (2 ^ 24) 397960386969600 (lit< tt) (s .pre .most) })
+    rw (e, f) (refl, record { most = away-most (s .args .b) (2 ^ 24) binMost (lit< tt) (s .pre .most) })
 
 pub quantized-part-spec : {M : Type 1} → statement M
 quantized-part-spec = tie.close (tie.spec round-away-requires returns)

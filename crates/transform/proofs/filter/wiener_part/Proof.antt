@@ -16,6 +16,7 @@ use Rattle.algebra.specs.Order.{abs-mul-le}
 use Rattle.algebra.specs.Bound.{abs-fits}
 use Rattle.algebra.specs.Nearest.{away}
 use Rattle.transform.specs.Recipe.{wiener}
+use Rattle.transform.specs.Magnitudes.{gainMost, noiseMost}
 use Rattle.transform.proofs.Gain.{power, power-is, wiener-is, wiener-most}
 use Rattle.rounding.proofs.round_away.Reads as round-away-reads
 use Rattle.transform.proofs.filter.wiener_part.Statement.{statement}
@@ -30,7 +31,7 @@ abbrev xs : At → List ℤ
 xs s = s .args .q ∷ s .args .r ∷ toZ w64 (s .args .noise) ∷ []
 
 abbrev bs : List ℕ
-bs = 23720288 ∷ 23720288 ∷ 279105765376 ∷ []
+bs = gainMost ∷ gainMost ∷ noiseMost ∷ []
 
 noise-is : (s : At) → toZ w64 (s .args .noise) ≡ pos (s .args .noise)
 noise-is s = toZ-pos w64 (s .args .noise) (omega (arith, s .pre .0))

@@ -1,7 +1,7 @@
 -- `transform::lines::dot`: a signed sum of products, each of a part of at most 2^43 and a cosine of at most 2^14.
 use mathlib.Core.Path.{_≡_, refl}
 use mathlib.Core.List.{List}
-use Prim.Native.Nat.{ℕ, _+_, _-_, _*_, _%_, _≤_, _<_, _^_}
+use Prim.Native.Nat.{ℕ, _+_, _-_, _*_, _%_, _≤_, _<_}
 use native.Mathlib.Nat.{mul-le-mul}
 use native.Mathlib.Omega.{arith}
 use borrow.Author.Needs.{needs}
@@ -17,6 +17,7 @@ use Rattle.transform.specs.Side.{cosAt}
 use Rattle.transform.specs.Tables.{cosines, cosine16, side16}
 use Rattle.transform.specs.TableLaws.{cosine-most}
 use Rattle.transform.specs.Lines.{LineMost, against}
+use Rattle.transform.specs.Magnitudes.{passMost}
 use Rattle.transform.proofs.Passes.{against-most}
 use Rattle.transform.proofs.lines.dot.Statement.{statement}
 use Rattle.transform.proofs.lines.dot.Tie as tie
@@ -24,13 +25,13 @@ use Rattle.transform.proofs.lines.dot.Tie as tie
 abbrev term : List ℤ → ℕ → ℕ → ℕ → ℕ → ℤ
 term x from k a i = getD x (from + i) (pos 0) *ℤ cosAt side16 (k * i + a)
 
-term-most : {x : List ℤ} → LineMost (2 ^ 43) x → (from k a i : ℕ) → natAbs (term x from k a i) ≤ 2 ^ 43 * 16384
+term-most : {x : List ℤ} → LineMost passMost x → (from k a i : ℕ) → natAbs (term x from k a i) ≤ passMost * 16384
 term-most {x} m from k a i = abs-mul-le (getD x (from + i) (pos 0)) (cosAt side16 (k * i + a)) (m .at (from + i)) (cosine-most (k * i + a))
 
 -- the two factors of a turn, as the machine holds them, and their product
-module _ {x cos : List ℤ} (m : LineMost (2 ^ 43) x) (same : cos ≡ cosines) (from k a i : ℕ) where
+module _ {x cos : List ℤ} (m : LineMost passMost x) (same : cos ≡ cosines) (from k a i : ℕ) where
   left : SFits w64 (getD x (from + i) (pos 0))
-  left = sfits-abs _ (2 ^ 43) (m .at (from + i)) tt
+  left = sfits-abs _ (passMost) (m .at (from + i)) tt
 
   entry : getD cos ((k * i + a) % 16) (pos 0) ≡ cosAt side16 (k * i + a)
   unfolding cosAt side16 cosine16
@@ -46,7 +47,7 @@ index : (k i : ℕ) → k < 16 → i < 16 → k * i ≤ 16 * 16
 index k i h l = mul-le-mul {n₁ = k} {m₁ = i} {n₂ = 16} {m₂ = 16} (omega arith) (omega arith)
 
 abbrev Inv-loop : tie.InvT-loop
-Inv-loop x cos from k a sum₀ i₀ sum i = SumZ w64 (term x from k a) (2 ^ 43 * 16384) 16 i sum
+Inv-loop x cos from k a sum₀ i₀ sum i = SumZ w64 (term x from k a) (passMost * 16384) 16 i sum
 
 abbrev μ-loop : tie.MeasureT-loop
 μ-loop x cos from k a sum₀ i₀ sum i = 16 - i
@@ -115,7 +116,7 @@ returns c =
     let s = c .before .before in
     let e = sumz-done (c .before .loop .inv) (omega arith) in
     let f : ℕ → ℤ = λ i. getD (now (s .args .x)) (s .args .from + i) (pos 0) in
-    (e, record { most = rw e (against-most (2 ^ 43) f (λ i. s .pre .4 .at (s .args .from + i)) (s .args .k) (s .args .a)) })
+    (e, record { most = rw e (against-most (passMost) f (λ i. s .pre .4 .at (s .args .from + i)) (s .args .k) (s .args .a)) })
 
 pub dot-spec : {M : Type 1} → statement M
 dot-spec =

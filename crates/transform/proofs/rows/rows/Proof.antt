@@ -8,6 +8,7 @@ use lib.IntN.{pos}
 use lib.ListN.{getD}
 use Prim.Native.Nat.{zero-le}
 use Rattle.transform.specs.Lines.{LineMost, realIn}
+use Rattle.transform.specs.Magnitudes.{differenceMost}
 use Rattle.transform.proofs.Tiles.{line-most, line-more}
 use Rattle.transform.proofs.Recipes.{row-is}
 use denote.Ref.{now}
@@ -43,7 +44,7 @@ real-line-requires c κs =
     let s = c .before .before .before .before .before in
     let d = now (s .args .d) in
     let y = c .before .before .before .before .loop .y in
-    let m : LineMost 4095 (tab 32 (lineOf (realIn (getD d y [])) (λ v. pos 0))) = line-most 4095 (realIn (getD d y [])) (λ v. pos 0) (s .pre .1 .line y .at) (λ v. zero-le) in
+    let m : LineMost differenceMost (tab 32 (lineOf (realIn (getD d y [])) (λ v. pos 0))) = line-most differenceMost (realIn (getD d y [])) (λ v. pos 0) (s .pre .1 .line y .at) (λ v. zero-le) in
     (s .pre .0, rw (c .before .widened .ensures) (line-more (omega arith) m))
 
 mul-r : tie.Need-mul-r Inv-loop μ-loop
