@@ -1,7 +1,7 @@
 -- One bin: each part of the recipe's G is within 3/2 of `parts` times the exact correction's. Rounding Q moves the bin by at most 1/√2, the Wiener map does not stretch, and rounding G adds 1/2.
-use mathlib.Core.Path.{_≡_, _∙_, ap, ap₂, subst, subst₂}
+use mathlib.Core.Path.{_≡_, _∙_, ap, subst, subst₂}
 use mathlib.Core.List.{[], _∷_}
-use Prim.Native.Nat.{ℕ, zero, suc, _+_, _*_, _≤_, _<_, zero-le}
+use Prim.Native.Nat.{ℕ, zero, suc, _*_, _≤_, _<_, zero-le}
 use native.Mathlib.Nat.{mul-pos, mul-le-mul-left}
 use native.Mathlib.Omega.{arith}
 use lib.Dec.{lit<}
@@ -9,14 +9,15 @@ use lib.IntN.{ℤ, pos, negsuc, natAbs, _+ℤ_, _-ℤ_, _*ℤ_}
 use lib.Signed.{_≤ℤ_, _<ℤ_, ltZ-yes}
 use Rattle.algebra.specs.Vars.{vars5, vars6}
 use Rattle.algebra.specs.Ring.{Expr, _⊞_, _⊟_, _⊠_, #_, ring}
-use Rattle.algebra.specs.Order.{zarith, abs-mul, 0≤pos, 0≤*, 0≤sq, sq-abs, abs-of-sq}
+use Rattle.algebra.specs.Order.{zarith, abs-mul, 0≤pos, 0≤*, 0≤sq, abs-of-sq}
 use Rattle.algebra.specs.Cert.{num, sqr, le, lt, _⊕_, _⊗_, by-lt, by-le-times}
 use Rattle.algebra.specs.Lipschitz.{sq, lipschitz}
 use Rattle.algebra.specs.Fraction.{Frac, frac, _+F_, _·F_, _×F_, _÷F_, divide, Within}
 use Rattle.algebra.specs.FractionLaws.{within-trans, within-same, within-near, near-mono, near-zero, Near, rounds-within}
 use Rattle.algebra.specs.Nearest.{away, Rounds, away-rounds}
 use Rattle.transform.specs.Side.{Side}
-use Rattle.transform.specs.Recipe.{wiener, quantized, filtered}
+use Rattle.transform.specs.Recipe.{power, wiener, quantized, filtered}
+use Rattle.transform.specs.RecipeLaws.{power-is}
 use Rattle.closeness.specs.Exact.{exactBin, exactNoise, exactFiltered}
 
 -- |B − k·Q|² ≤ k²
@@ -50,13 +51,6 @@ unstretched v k x y q r h p g =
     by-le-times (v ∷ k ∷ x ∷ y ∷ q ∷ r ∷ []) (K ⊠ K ⊠ (K ⊠ K) ⊠ (K ⊠ K)) (sqE (W ⊠ P ⊠ A ⊟ W ⊠ K ⊠ X ⊠ B)) (sqE (B ⊠ A))
     (le (sqE T1 ⊞ sqE T2) (D ⊠ sqE M) (lipschitz (v *ℤ (k *ℤ k)) x y (k *ℤ q) (k *ℤ r) (0≤* h (0≤sq k))) ⊕ sqr T2 ⊕ le D (K ⊠ K) g ⊗ sqr M)
     p tt
-
--- |Q|² + V, as a natural number; and |B|² + V·k²
-abbrev power : ℕ → ℤ → ℤ → ℕ
-power v q r = natAbs q * natAbs q + natAbs r * natAbs r + v
-
-power-is : (v : ℕ) (q r : ℤ) → q *ℤ q +ℤ r *ℤ r +ℤ pos v ≡ pos (power v q r)
-power-is v q r = ap₂ (λ s t. s +ℤ t +ℤ pos v) (sq-abs q) (sq-abs r)
 
 power-above : (v : ℕ) (q r : ℤ) → 0 < v → 0 < power v q r
 power-above v q r h = omega arith

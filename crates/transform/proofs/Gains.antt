@@ -15,7 +15,7 @@ use Rattle.transform.specs.Lines.{LineMost, TileMost, lineOf, linesOf, r
 use Rattle.transform.specs.Magnitudes.{binMost, gainMost}
 use Rattle.transform.proofs.Tiles.{line-cases, lines-most}
 use Rattle.transform.proofs.Rounded.{away-most}
-use Rattle.transform.proofs.Gain.{wiener-most}
+use Rattle.transform.proofs.Weight.{wiener-most}
 
 part-most : (b : ℤ) → natAbs b ≤ binMost → natAbs (quantized side16 b) ≤ gainMost
 unfolding quantized side16

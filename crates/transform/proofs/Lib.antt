@@ -3,7 +3,7 @@ pub mod Tiles
 pub mod Recipes
 pub mod Bins
 pub mod Rounded
-pub mod Gain
+pub mod Weight
 pub mod Held
 pub mod Gains
 pub mod Inverses

@@ -5,10 +5,14 @@ use Rattle.algebra.specs.Sums.{sumZ}
 use Rattle.algebra.specs.Nearest.{away}
 use Rattle.transform.specs.Side.{Side, cosAt, sinAt}
 
+-- |Q|² + V, from the parts of Q
+abbrev pub power : ℕ → ℤ → ℤ → ℕ
+power v q r = natAbs q * natAbs q + natAbs r * natAbs r + v
+
 -- One part of G, from that part q of Q and the other part r: V·q/(|Q|²+V) to nearest, halves away from zero; 0 if V is 0
 unfoldable pub wiener : ℕ → ℤ → ℤ → ℤ
 wiener zero q r = pos 0
-wiener (suc v) q r = away (pos (suc v) *ℤ q) (natAbs q * natAbs q + natAbs r * natAbs r + suc v)
+wiener (suc v) q r = away (pos (suc v) *ℤ q) (power (suc v) q r)
 
 module _ (s : Side) where
   -- B at (u, v): the two-way transform of the differences d with C(k) and −S(k), along each row and then along the columns

@@ -1,13 +1,18 @@
--- The inverse sum by rows and then columns, as code works it.
+-- Laws of the recipe: |Q|² + V as a sum of squares, and the inverse sum by rows and then columns.
 use mathlib.Core.Path.{_≡_, _∙_, ap₂}
 use mathlib.Core.List.{[], _∷_}
 use Prim.Native.Nat.{ℕ, _*_}
-use lib.IntN.{ℤ, _+ℤ_, _-ℤ_, _*ℤ_}
+use lib.IntN.{ℤ, pos, _+ℤ_, _-ℤ_, _*ℤ_}
+use Rattle.algebra.specs.Order.{sq-abs}
 use Rattle.algebra.specs.Ring.{var, _⊞_, _⊟_, _⊠_, ring}
 use Rattle.algebra.specs.Sums.{sumZ, sumZ-cong, sumZ-scaler, sumZ-sub}
 use Rattle.transform.specs.Side.{Side, cosAt, sinAt}
-use Rattle.transform.specs.Recipe.{twiddleRe, twiddleIm, inverseRe}
+use Rattle.transform.specs.Recipe.{power, twiddleRe, twiddleIm, inverseRe}
 
+pub power-is : (v : ℕ) (q r : ℤ) → q *ℤ q +ℤ r *ℤ r +ℤ pos v ≡ pos (power v q r)
+power-is v q r = ap₂ (λ s t. s +ℤ t +ℤ pos v) (sq-abs q) (sq-abs r)
+
+-- the sums along the rows of g + i·h; the inverse sum is that of theirs along the columns
 module _ (s : Side) (g h : ℕ → ℕ → ℤ) (x : ℕ) where
   unfoldable pub alongRe : ℕ → ℤ
   alongRe u = sumZ (s .side) (λ v. g u v *ℤ cosAt s (v * x) -ℤ h u v *ℤ sinAt s (v * x))

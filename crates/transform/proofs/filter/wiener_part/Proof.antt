@@ -15,9 +15,10 @@ use Rattle.algebra.specs.Code.{Code, par, loc, add, mul, to, Bounded, fits, val
 use Rattle.algebra.specs.Order.{abs-mul-le}
 use Rattle.algebra.specs.Bound.{abs-fits}
 use Rattle.algebra.specs.Nearest.{away}
-use Rattle.transform.specs.Recipe.{wiener}
+use Rattle.transform.specs.Recipe.{power, wiener}
+use Rattle.transform.specs.RecipeLaws.{power-is}
 use Rattle.transform.specs.Magnitudes.{gainMost, noiseMost}
-use Rattle.transform.proofs.Gain.{power, power-is, wiener-is, wiener-most}
+use Rattle.transform.proofs.Weight.{wiener-is, wiener-most}
 use Rattle.rounding.proofs.round_away.Reads as round-away-reads
 use Rattle.transform.proofs.filter.wiener_part.Statement.{statement}
 use Rattle.transform.proofs.filter.wiener_part.Tie as tie

@@ -31,7 +31,7 @@ term-most {x} m from k a i = abs-mul-le (getD x (from + i) (pos 0)) (cosAt side1
 -- the two factors of a turn, as the machine holds them, and their product
 module _ {x cos : List ℤ} (m : LineMost passMost x) (same : cos ≡ cosines) (from k a i : ℕ) where
   left : SFits w64 (getD x (from + i) (pos 0))
-  left = sfits-abs _ (passMost) (m .at (from + i)) tt
+  left = sfits-abs _ passMost (m .at (from + i)) tt
 
   entry : getD cos ((k * i + a) % 16) (pos 0) ≡ cosAt side16 (k * i + a)
   unfolding cosAt side16 cosine16
@@ -116,7 +116,7 @@ returns c =
     let s = c .before .before in
     let e = sumz-done (c .before .loop .inv) (omega arith) in
     let f : ℕ → ℤ = λ i. getD (now (s .args .x)) (s .args .from + i) (pos 0) in
-    (e, record { most = rw e (against-most (passMost) f (λ i. s .pre .4 .at (s .args .from + i)) (s .args .k) (s .args .a)) })
+    (e, record { most = rw e (against-most passMost f (λ i. s .pre .4 .at (s .args .from + i)) (s .args .k) (s .args .a)) })
 
 pub dot-spec : {M : Type 1} → statement M
 dot-spec =

@@ -1,19 +1,13 @@
--- The Wiener step: |Q|² + V as the code adds it up, and a part of G is no larger than that part of Q.
-use mathlib.Core.Path.{_≡_, refl, ap₂}
+-- The Wiener step where V is not 0, and that a part of G is no larger than that part of Q.
+use mathlib.Core.Path.{_≡_, refl}
 use Prim.Native.Nat.{ℕ, zero, suc, _+_, _*_, _/_, _≤_, _<_, zero-le}
 use native.Mathlib.Nat.{div-lt-iff-lt-mul, mul-le-mul-right}
 use native.Mathlib.Omega.{arith}
-use lib.IntN.{ℤ, pos, natAbs, _+ℤ_, _*ℤ_}
-use Rattle.algebra.specs.Order.{sq-abs, abs-mul}
+use lib.IntN.{ℤ, pos, natAbs, _*ℤ_}
+use Rattle.algebra.specs.Order.{abs-mul}
 use Rattle.algebra.specs.Nearest.{away}
-use Rattle.transform.specs.Recipe.{wiener}
+use Rattle.transform.specs.Recipe.{power, wiener}
 use Rattle.transform.proofs.Rounded.{away-abs}
-
-abbrev pub power : ℕ → ℤ → ℤ → ℕ
-power v q r = natAbs q * natAbs q + natAbs r * natAbs r + v
-
-pub power-is : (v : ℕ) (q r : ℤ) → q *ℤ q +ℤ r *ℤ r +ℤ pos v ≡ pos (power v q r)
-power-is v q r = ap₂ (λ s t. s +ℤ t +ℤ pos v) (sq-abs q) (sq-abs r)
 
 pub wiener-is : (v : ℕ) (q r : ℤ) → 0 < v → wiener v q r ≡ away (pos v *ℤ q) (power v q r)
 unfolding wiener
