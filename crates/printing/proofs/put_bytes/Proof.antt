@@ -1,0 +1,60 @@
+-- Byte k is put where what is left starts with it.
+use borrow.Author.Needs.{needs}
+use native.Mathlib.Omega.{arith}
+use native.Mathlib.Numerals.{add-one}
+use mathlib.Core.Path.{_≡_}
+use Prim.Native.Nat.{_+_, _-_, _≤_, _<_}
+use lib.ListN.{length, drop, drop-of-length-le}
+use lib.Seq.{drop-cons}
+use Rattle.printing.proofs.Printing.{Printing, printing-start, printing-turn, printing-done}
+use Rattle.printing.proofs.put_bytes.Statement.{statement}
+use Rattle.printing.proofs.put_bytes.Tie as tie
+
+abbrev Inv-loop : tie.InvT-loop
+Inv-loop text₀ at bytes next₀ k₀ k-end text next k = (Printing text₀ at bytes (drop k bytes) text next) × (k ≤ length bytes) × (next ≡ at + k)
+
+abbrev μ-loop : tie.MeasureT-loop
+μ-loop text₀ at bytes next₀ k₀ k-end text next k = length bytes - k
+
+loop-holds : tie.Need-loop-holds Inv-loop μ-loop
+loop-holds c = (printing-start (omega arith), omega arith, omega arith)
+
+shared-slice-read-put-byte : tie.Need-shared-slice-read-put-byte Inv-loop μ-loop
+shared-slice-read-put-byte c = search needs
+
+put-byte-requires : tie.Need-put-byte-requires Inv-loop μ-loop
+put-byte-requires c κs = search needs
+
+add-k : tie.Need-add-k Inv-loop μ-loop
+add-k c = search needs
+
+loop-less : tie.Need-loop-less Inv-loop μ-loop
+loop-less c = search needs
+
+loop-again : tie.Need-loop-again Inv-loop μ-loop
+loop-again c =
+    let at-loop = c .before .before .before .before .before .before in
+    let bytes = at-loop .before .before .before .args .bytes .now in
+    let h : at-loop .loop .k < length bytes = omega arith in
+    (printing-turn (at-loop .loop .inv .0) (rw (add-one, drop-cons bytes (at-loop .loop .k) 0)) (c .before .before .put-byte .ensures), omega arith, omega arith)
+
+same-length : tie.Need-same-length Inv-loop μ-loop
+same-length c = search needs
+
+returns : tie.Need-returns Inv-loop μ-loop
+returns c = printing-done (c .before .loop .inv .0) (drop-of-length-le _ {i = c .before .loop .k} (omega arith))
+
+pub put-bytes-spec : {M : Type 1} → statement M
+put-bytes-spec =
+    tie.close
+    (tie.spec
+    Inv-loop
+    μ-loop
+    loop-holds
+    shared-slice-read-put-byte
+    put-byte-requires
+    add-k
+    loop-less
+    loop-again
+    same-length
+    returns)
