@@ -1,8 +1,8 @@
 -- One store is one byte put.
 use borrow.Author.Needs.{needs}
 use Rattle.printing.specs.PutLaws.{printed-byte}
-use Rattle.printing.proofs.put_byte.Statement.{statement}
-use Rattle.printing.proofs.put_byte.Tie as tie
+use Rattle.printing.proofs.pieces.put_byte.Statement.{statement}
+use Rattle.printing.proofs.pieces.put_byte.Tie as tie
 
 slice-write-text : tie.Need-slice-write-text
 slice-write-text c = search needs

@@ -7,8 +7,8 @@ use Prim.Native.Nat.{_+_, _-_, _≤_, _<_}
 use lib.ListN.{length, drop, drop-of-length-le}
 use lib.Seq.{drop-cons}
 use Rattle.printing.proofs.Printing.{Printing, printing-start, printing-turn, printing-done}
-use Rattle.printing.proofs.put_bytes.Statement.{statement}
-use Rattle.printing.proofs.put_bytes.Tie as tie
+use Rattle.printing.proofs.pieces.put_bytes.Statement.{statement}
+use Rattle.printing.proofs.pieces.put_bytes.Tie as tie
 
 abbrev Inv-loop : tie.InvT-loop
 Inv-loop text₀ at bytes next₀ k₀ k-end text next k = (Printing text₀ at bytes (drop k bytes) text next) × (k ≤ length bytes) × (next ≡ at + k)

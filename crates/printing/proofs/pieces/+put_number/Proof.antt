@@ -6,12 +6,12 @@ use Rattle.printing.specs.DecimalLaws.{decimal-small, decimal-more, deci
 use Rattle.printing.specs.PutLaws.{printed-then}
 use borrow.Fn.Kinds.{In}
 use borrow.Fn.PlainCycle.{Measures, is, falls, and}
-use Rattle.printing.proofs.put_byte.Reads as put-byte
-use Rattle.printing.proofs.put_number.Reads as reads
-use Rattle.printing.proofs.put_number.Kinds as kinds
-use Rattle.printing.proofs.+put_number.Lts-put_number as lts
-use Rattle.printing.proofs.+put_number.{statement}
-use Rattle.printing.proofs.+put_number.Tie.{close}
+use Rattle.printing.proofs.pieces.put_byte.Reads as put-byte
+use Rattle.printing.proofs.pieces.put_number.Reads as reads
+use Rattle.printing.proofs.pieces.put_number.Kinds as kinds
+use Rattle.printing.proofs.pieces.+put_number.Lts-put_number as lts
+use Rattle.printing.proofs.pieces.+put_number.{statement}
+use Rattle.printing.proofs.pieces.+put_number.Tie.{close}
 
 abbrev μ : Measures 1 kinds.ps ℕ
 μ κs a = a .1 .1 .0

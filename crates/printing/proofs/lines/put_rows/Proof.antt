@@ -1,0 +1,79 @@
+-- A row's line is put where what is left of the frame starts with it.
+use borrow.Author.Needs.{needs}
+use native.Mathlib.Omega.{arith}
+use native.Mathlib.Nat.{suc-mul, zero-mul, mul-le-mul-right, sub-zero}
+use native.Mathlib.Numerals.{add-one}
+use mathlib.Core.Path.{_≡_}
+use Prim.Native.Nat.{ℕ, suc, _+_, _-_, _*_, _≤_, _<_}
+use lib.ListN.{drop}
+use Rattle.printing.specs.Lines.{frameRows}
+use Rattle.printing.specs.LineLaws.{rows-next}
+use Rattle.printing.proofs.Printing.{Printing, printing-start, printing-turn, printing-done}
+use Rattle.printing.proofs.lines.put_rows.Statement.{statement}
+use Rattle.printing.proofs.lines.put_rows.Tie as tie
+
+abbrev Inv-loop : tie.InvT-loop
+Inv-loop text₀ at samples width height next₀ row₀ text next row = (Printing text₀ at (frameRows width height samples) (frameRows width (height - row) (drop (row * width) samples)) text next) × (row ≤ height) × (next ≤ at + 6 * (row * width))
+
+abbrev μ-loop : tie.MeasureT-loop
+μ-loop text₀ at samples width height next₀ row₀ text next row = height - row
+
+row-after : (row width : ℕ) → (row + 1) * width ≡ row * width + width
+row-after row width = rw (add-one, suc-mul)
+
+inside : {row height : ℕ} (width : ℕ) → row < height → row * width + width ≤ height * width
+inside {row} {height} width h = omega (arith, suc-mul row width, mul-le-mul-right width h)
+
+here : (c : tie.After-put-samples-arg Inv-loop μ-loop) → let start = c .before .before .before .before .before in c .before .before .loop .row * start .args .width + start .args .width ≤ start .args .height * start .args .width
+here c = inside _ (omega arith)
+
+loop-holds : tie.Need-loop-holds Inv-loop μ-loop
+loop-holds c = (rw (sub-zero, zero-mul) (printing-start (omega arith)), omega arith, omega (arith, zero-mul (c .before .before .args .width)))
+
+mul-put-samples : tie.Need-mul-put-samples Inv-loop μ-loop
+mul-put-samples c = omega (arith, here c)
+
+put-samples-requires : tie.Need-put-samples-requires Inv-loop μ-loop
+put-samples-requires c κs = let h = here c in (omega arith, omega arith)
+
+add-row : tie.Need-add-row Inv-loop μ-loop
+add-row c = search needs
+
+loop-less : tie.Need-loop-less Inv-loop μ-loop
+loop-less c = search needs
+
+loop-again : tie.Need-loop-again Inv-loop μ-loop
+loop-again c =
+    let at-loop = c .before .before .before .before .before in
+    let start = at-loop .before .before .before in
+    let row = at-loop .loop .row in
+    let width = start .args .width in
+    let call = c .before .before .put-samples in
+    (printing-turn (at-loop .loop .inv .0) (rows-next width (start .args .height) (start .args .samples .now) row (omega arith)) (call .ensures .0), omega arith, rw row-after (omega arith))
+
+same-length : tie.Need-same-length Inv-loop μ-loop
+same-length c = search needs
+
+returns : tie.Need-returns Inv-loop μ-loop
+unfolding frameRows
+returns c =
+    let at-loop = c .before in
+    let start = at-loop .before .before .before in
+    let none : start .args .height - at-loop .loop .row ≡ 0 = omega arith in
+    let all : start .args .height ≡ at-loop .loop .row = omega arith in
+    (printing-done (at-loop .loop .inv .0) (rw none), rw all (at-loop .loop .inv .2))
+
+pub put-rows-spec : {M : Type 1} → statement M
+put-rows-spec =
+    tie.close
+    (tie.spec
+    Inv-loop
+    μ-loop
+    loop-holds
+    mul-put-samples
+    put-samples-requires
+    add-row
+    loop-less
+    loop-again
+    same-length
+    returns)

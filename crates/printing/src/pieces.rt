@@ -1,0 +1,38 @@
+// Bytes and numbers, put into a lent buffer from a place on. Each function answers the place after what it put.
+ghost use mathlib.Core.Path.{_≡_};
+ghost use mathlib.Core.List.{[], _∷_, _++_};
+ghost use Prim.Native.Nat.{_+_, _*_, _<_, _≤_};
+ghost use lib.ListN.{length};
+ghost use Rattle.printing.specs.Decimal.{decimal};
+ghost use Rattle.printing.specs.Put.{Printed};
+
+pub fn put_byte(text: &mut [u8], at: usize, byte: u8) -> usize
+    requires { ⌜ at < length (now text) ⌝ }
+    ensures { λ r. ⌜ Printed (now (text .entry)) at (byte ∷ []) (now (text .exit)) r ⌝ }
+{
+    text[at] = byte;
+    at + 1
+}
+
+pub fn put_bytes(text: &mut [u8], at: usize, bytes: &[u8]) -> usize
+    requires { ⌜ at + length (now bytes) ≤ length (now text) ⌝ }
+    ensures { λ r. ⌜ Printed (now (text .entry)) at (now (bytes .entry)) (now (text .exit)) r ⌝ }
+{
+    let mut next = at;
+    for k in 0..bytes.len() {
+        next = put_byte(&mut *text, next, bytes[k]);
+    }
+    next
+}
+
+// The decimal digits of n.
+pub fn put_number(text: &mut [u8], at: usize, n: u64) -> usize
+    requires { ⌜ at + 20 ≤ length (now text) ⌝ }
+    ensures { λ r. ⌜ (Printed (now (text .entry)) at (decimal n) (now (text .exit)) r) × (r ≤ at + 20) ⌝ }
+{
+    if n < 10 {
+        return put_byte(text, at, 48 + n as u8);
+    }
+    let next = put_number(&mut *text, at, n / 10);
+    put_byte(text, next, 48 + (n % 10) as u8)
+}
