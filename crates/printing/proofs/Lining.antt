@@ -9,7 +9,7 @@ use lib.ListN.{length, getD, drop, drop-of-length-le}
 use Rattle.printing.specs.Lines.{value, numberLine}
 use Rattle.printing.specs.LineLaws.{line-next}
 use Rattle.printing.specs.Put.{Printed}
-use Rattle.printing.proofs.Printing.{Printing, printing-start, printing-turn, printing-done}
+use Rattle.printing.specs.Printing.{Printing, printing-start, printing-turn, printing-done}
 
 pub record Lining (most : ℕ) (before : List ℕ) (at : ℕ) (ns : List ℕ) (k : ℕ) (after : List ℕ) (next : ℕ) : Type 0 where
   pub count : k ≤ length ns

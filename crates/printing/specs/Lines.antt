@@ -1,14 +1,16 @@
 -- Document 01, "Burst file and programs": the lines that the programs print, as lists of ASCII codes.
 use mathlib.Core.Bool.{cond}
 use mathlib.Core.List.{List, [], _∷_, _++_}
+use Prim.Native.Char.{code}
 use Prim.Native.Nat.{ℕ, zero, suc}
 use lib.Dec.{eqb}
 use lib.ListN.{length, take, drop}
+use Rattle.printing.specs.Ascii.{ascii}
 use Rattle.printing.specs.Decimal.{decimal}
 
 -- a value, then a space where `left` more follow on its line, or LF after the last
 unfoldable pub value : ℕ → ℕ → List ℕ
-value n left = decimal n ++ (cond (eqb left 0) 10 32 ∷ [])
+value n left = decimal n ++ (cond (eqb left 0) (code "\n") (code " ") ∷ [])
 
 -- the values of one line
 unfoldable pub numberLine : List ℕ → List ℕ
@@ -19,3 +21,19 @@ numberLine (n ∷ ns) = value n (length ns) ++ numberLine ns
 unfoldable pub frameRows : ℕ → ℕ → List ℕ → List ℕ
 frameRows width zero samples = []
 frameRows width (suc height) samples = numberLine (take width samples) ++ frameRows width height (drop width samples)
+
+-- the names over the lines of `motion`
+abbrev pub motionNames : List ℕ
+motionNames = ascii "frame tiles still far residual\n"
+
+-- "names `width height`"
+abbrev pub stackNames : List ℕ
+stackNames = ascii "width height\n"
+
+-- "prints only `too large`, LF"
+abbrev pub tooLarge : List ℕ
+tooLarge = ascii "too large\n"
+
+-- "`refused`, a space, its number, LF"
+unfoldable pub refusal : ℕ → List ℕ
+refusal number = ascii "refused " ++ decimal number ++ ascii "\n"

@@ -1,36 +1,29 @@
--- A text put after another is the two put as one: what is printed piece by piece is their sequence.
+-- A text put after another is the two put as one: what is printed piece by piece is the sequence of the pieces.
 use mathlib.Core.Path.{_≡_, refl, sym, ap, ap₂, _∙_}
-use mathlib.Core.List.{List, [], _∷_, _++_, append-assoc, append-nil}
-use Prim.Native.Nat.{ℕ, suc, _+_, _≤_, _<_}
-use native.Mathlib.Nat.{add-assoc}
+use mathlib.Core.List.{List, [], _∷_, _++_, append-assoc}
+use Prim.Native.Nat.{ℕ, _+_, _≤_, _<_}
+use native.Mathlib.Nat.{add-assoc, zero-add}
 use native.Mathlib.Numerals.{add-one}
 use native.Mathlib.Omega.{arith}
-use lib.ListN.{length, take, drop, set, length-append, length-drop, length-set}
+use lib.ListN.{length, take, drop, set, length-append, length-set}
 use lib.Seq.{length-take-le, take-at, drop-at, drop-drop, set-split, append-snoc, paste-zero}
 use Rattle.printing.specs.Put.{put, Printed}
 
-module _ (l : List ℕ) (at : ℕ) (a : List ℕ) where
-  head-length : at ≤ length l → length (take at l ++ a) ≡ at + length a
-  head-length h = length-append (take at l) a ∙ ap (λ n. n + length a) (length-take-le at l h)
+module _ (l : List ℕ) (at : ℕ) (a : List ℕ) (h : at ≤ length l) where
+  head-length : length (take at l ++ a) ≡ at + length a
+  head-length = length-append (take at l) a ∙ ap (λ n. n + length a) (length-take-le at l h)
 
-  pub length-put : at + length a ≤ length l → length (put l at a) ≡ length l
+  take-put : take (at + length a) (put l at a) ≡ take at l ++ a
   unfolding put
-  length-put h =
-      let e = head-length (omega arith) in
-      length-append (take at l ++ a) (drop (at + length a) l) ∙ omega (arith, e, length-drop (at + length a) l)
+  take-put = take-at (take at l ++ a) (drop (at + length a) l) (at + length a) head-length
 
-  -- what stands up to the end of the text
-  pub take-put : at ≤ length l → take (at + length a) (put l at a) ≡ take at l ++ a
+  drop-put : (n : ℕ) → drop (at + length a + n) (put l at a) ≡ drop (at + length a + n) l
   unfolding put
-  take-put h = take-at (take at l ++ a) (drop (at + length a) l) (at + length a) (head-length h)
+  drop-put n = sym (drop-drop n (at + length a) _) ∙ ap (drop n) (drop-at (take at l ++ a) (drop (at + length a) l) (at + length a) head-length) ∙ drop-drop n (at + length a) l
 
-  drop-put : at ≤ length l → drop (at + length a) (put l at a) ≡ drop (at + length a) l
+  pub put-put : (b : List ℕ) → put (put l at a) (at + length a) b ≡ put l at (a ++ b)
   unfolding put
-  drop-put h = drop-at (take at l ++ a) (drop (at + length a) l) (at + length a) (head-length h)
-
-  pub put-put : (b : List ℕ) → at ≤ length l → put (put l at a) (at + length a) b ≡ put l at (a ++ b)
-  unfolding put
-  put-put b h = rw (take-put h, ← drop-drop, drop-put h, drop-drop, ← append-assoc (take at l) a b, length-append, ← add-assoc)
+  put-put b = rw (take-put, drop-put (length b), ← append-assoc (take at l) a b, length-append, ← add-assoc)
 
 module _ {l : List ℕ} {at : ℕ} where
   pub printed-none : Printed l at [] l at
@@ -42,10 +35,15 @@ module _ {l : List ℕ} {at : ℕ} where
   unfolding put
   printed-byte {b} h = record { text = rw (set-split l at b h, add-one, append-snoc); place = refl; same = length-set l at b }
 
+  -- one text after another
   pub printed-then : {a b m r : List ℕ} {i j : ℕ} → at ≤ length l → Printed l at a m i → Printed m i b r j → Printed l at (a ++ b) r j
   printed-then {a} {b} {m} {r} {i} {j} h p q =
       record {
-        text = q .text ∙ ap₂ (λ x y. put x y b) (p .text) (p .place) ∙ put-put l at a b h;
+        text = q .text ∙ ap₂ (λ x y. put x y b) (p .text) (p .place) ∙ put-put l at a h b;
         place = omega (arith, length-append a b);
         same = q .same ∙ p .same;
       }
+
+-- what is printed from the front of a buffer is what then stands there
+pub printed-front : {l a r : List ℕ} {i : ℕ} → Printed l 0 a r i → take i r ≡ a
+printed-front {l} {a} {r} {i} p = ap₂ take (p .place) (p .text) ∙ take-put l 0 a (omega arith)

@@ -7,7 +7,7 @@ use crate::pieces::put_byte;
 use crate::pieces::put_number;
 
 // A value that `left` more follow on its line.
-fn put_value(text: &mut [u8], at: usize, n: u64, left: usize) -> usize
+pub fn put_value(text: &mut [u8], at: usize, n: u64, left: usize) -> usize
     requires { ⌜ at + 21 ≤ length (now text) ⌝ }
     ensures { λ r. ⌜ (Printed (now (text .entry)) at (value n left) (now (text .exit)) r) × (r ≤ at + 21) ⌝ }
 {

@@ -8,7 +8,7 @@ use Prim.Native.Nat.{ℕ, suc, _+_, _-_, _*_, _≤_, _<_}
 use lib.ListN.{drop}
 use Rattle.printing.specs.Lines.{frameRows}
 use Rattle.printing.specs.LineLaws.{rows-next}
-use Rattle.printing.proofs.Printing.{Printing, printing-start, printing-turn, printing-done}
+use Rattle.printing.specs.Printing.{Printing, printing-start, printing-turn, printing-done}
 use Rattle.printing.proofs.lines.put_rows.Statement.{statement}
 use Rattle.printing.proofs.lines.put_rows.Tie as tie
 

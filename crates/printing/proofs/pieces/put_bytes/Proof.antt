@@ -6,7 +6,7 @@ use mathlib.Core.Path.{_≡_}
 use Prim.Native.Nat.{_+_, _-_, _≤_, _<_}
 use lib.ListN.{length, drop, drop-of-length-le}
 use lib.Seq.{drop-cons}
-use Rattle.printing.proofs.Printing.{Printing, printing-start, printing-turn, printing-done}
+use Rattle.printing.specs.Printing.{Printing, printing-start, printing-turn, printing-done}
 use Rattle.printing.proofs.pieces.put_bytes.Statement.{statement}
 use Rattle.printing.proofs.pieces.put_bytes.Tie as tie
 
