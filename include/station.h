@@ -2,6 +2,7 @@
 #ifndef STATION_H
 #define STATION_H
 
+#include <stddef.h>
 #include <stdint.h>
 
 #ifdef __cplusplus
@@ -16,6 +17,10 @@ uint64_t station_length(uint64_t width, uint64_t height, uint64_t count, uint64_
    (eighths of tau, 0..1024) and a tile's root (its RMS in sixteenths, 0..65520).
    0 where refusal 8, 9 or 10 would stand, or the root exceeds 65520. */
 uint64_t station_noise(double shot, double read, uint64_t strength, uint64_t root);
+
+/* The number of the refusal with which reading a burst file of these bytes would end, or 0: every test of file reading but 4, the length
+   of the lent samples. `bytes` points to `length` bytes, and may be NULL where `length` is 0. */
+uint64_t station_check(const uint8_t *bytes, size_t length);
 
 #ifdef __cplusplus
 }

@@ -1,5 +1,7 @@
 /* Asks the station's functions several thousand questions, edges and random, and writes each question and its answer for comparison:
-   station lengths|noise QUESTIONS ANSWERS */
+   station lengths|noise QUESTIONS ANSWERS
+   Or checks each burst file of a stream on standard input, and writes the numbers: station check ANSWERS */
+#include "files.h"
 #include "station.h"
 
 #include <inttypes.h>
@@ -93,8 +95,22 @@ static void noise(void)
             ask_noise(of_bits(exponent << 52 | any() >> 12), of_bits(exponent << 52 | any() >> 12), below(1025), below(65521));
 }
 
+static int check(const char *path)
+{
+    answers = fopen(path, "w");
+    if (!answers)
+        return 2;
+    uint8_t *bytes = NULL;
+    size_t room = 0;
+    for (int64_t length; (length = next_file(&bytes, &room)) >= 0;)
+        fprintf(answers, "%" PRIu64 "\n", station_check(bytes, (size_t)length));
+    return fclose(answers) != 0;
+}
+
 int main(int argc, char **argv)
 {
+    if (argc == 3 && strcmp(argv[1], "check") == 0)
+        return check(argv[2]);
     if (argc != 4)
         return 2;
     questions = fopen(argv[2], "w");

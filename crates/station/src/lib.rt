@@ -1,6 +1,7 @@
 // The capture station's questions, for C. Each is total: it answers for every argument.
 ghost use mathlib.Core.Path.{_≡_};
 ghost use Rattle.geometry.specs.Question.{lengthQuestion};
+ghost use Rattle.burst_file.specs.Reading.{fileCheck};
 ghost use Rattle.station.specs.Station.{noiseQuestion};
 use noise::Curve;
 use noise::Levels;
@@ -31,4 +32,12 @@ pub extern "C" fn station_noise(shot: f64, read: f64, strength: u64, root: u64) 
             noise::noise_number(strength, ls, lr, root)
         }
     }
+}
+
+// The number of the refusal with which reading a burst file of these bytes would end, the test of the lent samples' length apart; or 0.
+#[no_mangle]
+pub extern "C" fn station_check(file: &[u8]) -> u64
+    ensures { λ r. ⌜ r ≡ fileCheck (now (file .entry)) ⌝ }
+{
+    burst_file::check_file(file)
 }
