@@ -1,0 +1,67 @@
+-- Document 01, "Checked figures (marked M: proved as one table)": the definitions that the contracts cite, computed.
+use mathlib.Core.Path.{_≡_, refl}
+use mathlib.Core.Bool.{Bool, false, _&&_, cond}
+use mathlib.Core.List.{List, [], _∷_}
+use Prim.Native.Nat.{ℕ, _^_}
+use lib.Dec.{eqb}
+use lib.IntN.{ℤ, pos, negsuc, negℤ}
+use lib.Ieee.{Float, fin, mul, div, ofInt}
+use Rattle.algebra.specs.Sums.{sumN, sumZ}
+use Rattle.algebra.specs.Nearest.{away}
+use Rattle.geometry.specs.Tiles.{own, neighbour}
+use Rattle.noise.specs.declared.Noise.{Noise}
+use Rattle.noise.specs.declared.Noise.the-variants.{Measured, Iso}
+use Rattle.noise.specs.Levels.{invalidCurve, invalidIso, invalidNoise, aboveLimits, levelsOf, shotLevel, readLevel}
+use Rattle.noise.specs.Root.{rootIn, wholeRoot}
+use Rattle.noise.specs.NoiseNumber.{sumOfSquares, tileRoot, variance, noiseNumber}
+use Rattle.transform.specs.Side.{cosAt, sinAt}
+use Rattle.transform.specs.Tables.{cosines, cosine16, sine16, side16}
+use Rattle.transform.specs.Recipe.{wiener, twiddleRe, twiddleIm, inverseRe, inverseAt}
+
+-- v where both indices are 0, else 0
+abbrev pub only : {A : Type 0} → A → A → ℕ → ℕ → A
+only v zero i j = cond (eqb i 0 && eqb j 0) v zero
+
+abbrev pub one : Float
+one = fin false 1 (pos 0)
+
+abbrev pub iso400 : Noise
+iso400 = Iso 400 (record { shot = one; read = one })
+
+abbrev pub shot64 : Noise
+shot64 = Measured (record { shot = fin false 1 (pos 6); read = fin false 0 (pos 0) })
+
+-- M1 to M11 in their order
+abbrev pub computed : List ℤ
+computed =
+    pos (tileRoot 16 (λ i j. 100))
+    ∷ pos (tileRoot 16 (λ i j. 4095))
+    ∷ pos (tileRoot 16 (only 1 0))
+    ∷ pos (noiseNumber 8 1024 0 1600)
+    ∷ pos (noiseNumber 0 1024 0 1600)
+    ∷ pos (shotLevel (levelsOf iso400)) ∷ pos (readLevel (levelsOf iso400))
+    ∷ pos (shotLevel (levelsOf shot64))
+    ∷ pos (own 4 5) ∷ pos (neighbour 4 5)
+    ∷ pos (own 4 6) ∷ pos (neighbour 4 6)
+    ∷ wiener (2 ^ 32) (negℤ (pos 16384)) (pos 0)
+    ∷ inverseAt side16 (only (negℤ (pos 15420)) (pos 0)) (λ u v. pos 0) 0 0
+    ∷ []
+
+abbrev pub stated : List ℤ
+stated =
+    pos 1600
+    ∷ pos 65520
+    ∷ pos 1
+    ∷ pos 819200
+    ∷ pos 0
+    ∷ pos 4096 ∷ pos 16384
+    ∷ pos 65536
+    ∷ pos 1 ∷ pos 2
+    ∷ pos 2 ∷ pos 1
+    ∷ negℤ (pos 15420)
+    ∷ negℤ (pos 964)
+    ∷ []
+
+pub figures : computed ≡ stated
+unfolding tileRoot sumOfSquares sumN wholeRoot rootIn noiseNumber variance levelsOf invalidNoise invalidCurve invalidIso aboveLimits mul div ofInt own neighbour wiener away inverseAt inverseRe twiddleRe twiddleIm cosAt sinAt side16 cosine16 sine16 cosines sumZ
+figures = refl

@@ -1,0 +1,1 @@
+// The checked figures of document 01; no code.
