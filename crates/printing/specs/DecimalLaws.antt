@@ -1,13 +1,13 @@
 -- The digits of n by cases of n, and how many there are at most.
-use mathlib.Core.Path.{_≡_, refl, sym, ap, _∙_}
-use mathlib.Core.List.{List, [], _∷_, _++_}
-use Prim.Native.Nat.{ℕ, zero, suc, _+_, _-_, _*_, _/_, _%_, _^_, _≤_, _<_}
+use mathlib.Core.Path.{_≡_, refl, ap}
+use mathlib.Core.List.{[], _∷_, _++_}
+use Prim.Native.Nat.{ℕ, zero, suc, _/_, _%_, _^_, _≤_, _<_}
 use native.Mathlib.Nat.{pow-suc}
 use native.Mathlib.Omega.{arith}
 use lib.ListN.{length, length-append}
 use Rattle.printing.specs.Decimal.{digit, digits, decimal}
 
--- n is count enough
+-- a count of n is enough: a larger one changes nothing
 digits-enough : (j k n : ℕ) → n ≤ j → n ≤ k → digits j n ≡ digits k n
 unfolding digits
 digits-enough zero zero n h g = refl
@@ -46,7 +46,7 @@ digits-length (suc k) (suc n) (suc m) h =
     let s = digits-length k (suc n / 10) m (omega (arith, rw pow-suc at h)) in
     rw length-append (omega arith)
 
--- below 10 ^ m there are at most m digits, but for the one of 0
+-- a number below 10 ^ (m + 1) has at most m + 1 digits
 pub decimal-length : (m n : ℕ) → n < 10 ^ suc m → length (decimal n) ≤ suc m
 unfolding decimal
 decimal-length m n h =

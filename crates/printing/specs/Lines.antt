@@ -8,16 +8,16 @@ use lib.ListN.{length, take, drop}
 use Rattle.printing.specs.Ascii.{ascii}
 use Rattle.printing.specs.Decimal.{decimal}
 
--- a value, then a space where `left` more follow on its line, or LF after the last
+-- a value, then "one space between" where `left` more follow on its line, and LF after the last
 unfoldable pub value : ℕ → ℕ → List ℕ
 value n left = decimal n ++ (cond (eqb left 0) (code "\n") (code " ") ∷ [])
 
--- the values of one line
+-- a line of values; none of none
 unfoldable pub numberLine : List ℕ → List ℕ
 numberLine [] = []
 numberLine (n ∷ ns) = value n (length ns) ++ numberLine ns
 
--- one line per row
+-- "rows": a line for each
 unfoldable pub frameRows : ℕ → ℕ → List ℕ → List ℕ
 frameRows width zero samples = []
 frameRows width (suc height) samples = numberLine (take width samples) ++ frameRows width height (drop width samples)

@@ -1,7 +1,6 @@
 // Bytes and numbers, put into a lent buffer from a place on. Each function answers the place after what it put.
-ghost use mathlib.Core.Path.{_≡_};
-ghost use mathlib.Core.List.{[], _∷_, _++_};
-ghost use Prim.Native.Nat.{_+_, _*_, _<_, _≤_};
+ghost use mathlib.Core.List.{[], _∷_};
+ghost use Prim.Native.Nat.{_+_, _<_, _≤_};
 ghost use lib.ListN.{length};
 ghost use Rattle.printing.specs.Decimal.{decimal};
 ghost use Rattle.printing.specs.Put.{Printed};
@@ -31,8 +30,8 @@ pub fn put_number(text: &mut [u8], at: usize, n: u64) -> usize
     ensures { λ r. ⌜ (Printed (now (text .entry)) at (decimal n) (now (text .exit)) r) × (r ≤ at + 20) ⌝ }
 {
     if n < 10 {
-        return put_byte(text, at, 48 + n as u8);
+        return put_byte(text, at, b'0' + n as u8);
     }
     let next = put_number(&mut *text, at, n / 10);
-    put_byte(text, next, 48 + (n % 10) as u8)
+    put_byte(text, next, b'0' + (n % 10) as u8)
 }

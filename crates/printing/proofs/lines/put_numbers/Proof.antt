@@ -1,7 +1,7 @@
 -- Value k is put where what is left of the line starts with it.
 use borrow.Author.Needs.{needs}
 use native.Mathlib.Omega.{arith}
-use mathlib.Core.Path.{_≡_, refl}
+use mathlib.Core.Path.{refl}
 use Prim.Native.Nat.{_-_}
 use lib.ListN.{length}
 use Rattle.printing.proofs.Lining.{Lining, lining-start, lining-turn, lining-done}

@@ -1,7 +1,7 @@
 -- Sample k of the part is put where what is left of the line starts with it.
 use borrow.Author.Needs.{needs}
 use native.Mathlib.Omega.{arith}
-use mathlib.Core.Path.{_≡_, refl, sym, _∙_}
+use mathlib.Core.Path.{_≡_}
 use Prim.Native.Nat.{_+_, _-_, _<_}
 use lib.ListN.{length, getD, take, drop, length-drop}
 use lib.Seq.{length-take-le, getD-take, getD-drop}
@@ -11,7 +11,7 @@ use Rattle.printing.proofs.lines.put_samples.Statement.{statement}
 use Rattle.printing.proofs.lines.put_samples.Tie as tie
 
 abbrev Inv-loop : tie.InvT-loop
-Inv-loop text₀ at samples from count next₀ k₀ text next k = (Lining 6 text₀ at (take count (drop «from» samples)) k text next) × (length (take count (drop «from» samples)) ≡ count)
+Inv-loop text₀ at samples from count next₀ k₀ text next k = (Lining 6 text₀ at (take count (drop from samples)) k text next) × (length (take count (drop from samples)) ≡ count)
 
 abbrev μ-loop : tie.MeasureT-loop
 μ-loop text₀ at samples from count next₀ k₀ text next k = count - k
