@@ -1,6 +1,6 @@
 -- Bounds on integers as records, so that their arguments are found, and what search needs to show that a signed operation fits.
-use mathlib.Core.Path.{_≡_, refl, sym, ap, _∙_, subst}
-use Prim.Native.Nat.{ℕ, zero, suc, _+_, _-_, _*_, _/_, _≤_, _<_, _^_}
+use mathlib.Core.Path.{_≡_, subst}
+use Prim.Native.Nat.{ℕ, zero, suc, _+_, _*_, _/_, _≤_, _<_, _^_}
 use native.Mathlib.Omega.{arith}
 use lib.IntN.{ℤ, pos, negsuc, natAbs, negℤ, _+ℤ_, _-ℤ_, _*ℤ_}
 use lib.Signed.{mag, quotZ, shrZ, mag-shr, nonNeg, ltZ}
@@ -10,11 +10,11 @@ use native.Mathlib.Nat.{div-le-self}
 use mathlib.Core.Bool.{true, false}
 use borrow.Author.Tests.{ltb-true}
 use mir.Facts.{sfits-widen, fits-natAbs}
-use lib.Dec.{T, ltb, ltb→lt, leb, leb→le}
-use mir.Syntax.{Width, w16, w32, w64}
-use mir.Val.{SFits, Fits, hbits, bits, toZ, ofZ}
+use lib.Dec.{T, ltb, ltb→lt}
+use mir.Syntax.{Width, w32, w64}
+use mir.Val.{SFits, Fits, hbits, bits}
 use mir.Facts.{toZ-ofZ}
-use mir.ValLaws.{sfits-le, toZ-pos}
+use mir.ValLaws.{sfits-le}
 use Rattle.algebra.specs.Order.{abs-add, abs-neg, abs-mul-le}
 use Rattle.algebra.specs.Fit.{mag-abs}
 
@@ -92,9 +92,6 @@ abs-fits w w′ z t h = fits-natAbs t h
 abs-shr : (z : ℤ) (m : ℕ) → natAbs (shrZ z m) ≤ natAbs z
 abs-shr (pos a) m = div-le-self a m
 abs-shr (negsuc a) m = omega (arith, div-le-self a m)
-
-pub shr-most : {b : ℕ} {z : ℤ} (m : ℕ) → AtMost b z → AtMost b (shrZ z m)
-shr-most {b} {z} m h = record { most = omega (arith, abs-shr z m, h .most) }
 
 pub most-more : {a b : ℕ} {z : ℤ} → a ≤ b → AtMost a z → AtMost b z
 most-more {a} {b} {z} l h = record { most = omega (arith, h .most) }

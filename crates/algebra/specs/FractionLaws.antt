@@ -1,18 +1,18 @@
 -- Laws of `Within`. Most have a whole number on one side and a multiple k·x of a fraction on the other: so the recipe meets the exact merge.
-use mathlib.Core.Path.{_≡_, refl, sym, _∙_, ap, ap₂, subst, subst₂}
-use mathlib.Core.List.{List, [], _∷_}
+use mathlib.Core.Path.{_≡_, sym, _∙_, subst, subst₂}
+use mathlib.Core.List.{[], _∷_}
 use Prim.Native.Nat.{ℕ, zero, suc, _+_, _*_, _≤_, _<_}
-use native.Mathlib.Nat.{mul-pos, mul-le-mul-left, le-refl, le-trans, add-comm}
+use native.Mathlib.Nat.{mul-le-mul-left, le-refl, le-trans, add-comm}
 use native.Mathlib.Omega.{arith}
-use lib.IntN.{ℤ, pos, negsuc, negℤ, natAbs, _+ℤ_, _-ℤ_, _*ℤ_, zero-*ℤ}
+use lib.IntN.{ℤ, pos, negsuc, natAbs, _+ℤ_, _-ℤ_, _*ℤ_, zero-*ℤ}
 use lib.Signed.{_≤ℤ_, _<ℤ_}
 use Rattle.algebra.specs.Vars.{vars3, vars4, vars5, vars6, vars7, vars8, vars9, vars10}
-use Rattle.algebra.specs.Ring.{Expr, var, con, _⊞_, _⊟_, _⊠_, ⊖_, #_, nth, eval, ring}
+use Rattle.algebra.specs.Ring.{var, _⊞_, _⊟_, _⊠_, ⊖_, #_, nth}
 use Rattle.algebra.specs.Order.{zarith, abs-upper, abs-lower, abs-le, abs-mul, 0≤pos}
-use Rattle.algebra.specs.Cert.{Cert, num, sqr, nn, le, lt, eq, _⊕_, _⊗_, by-le, by-le-times, le-pos}
+use Rattle.algebra.specs.Cert.{Cert, num, nn, le, eq, _⊕_, _⊗_, by-le, by-le-times, le-pos}
 use Rattle.algebra.specs.Sums.{sumZ, sumN, sumN-const}
 use Rattle.algebra.specs.Clamp.{clampZ, clamp-cases, clamp-near, clamp-below, clamp-same, clamp-above}
-use Rattle.algebra.specs.Fraction.{Frac, frac, whole, _+F_, _-F_, _·F_, _×F_, over, sumF, held, Within}
+use Rattle.algebra.specs.Fraction.{Frac, frac, whole, _+F_, _-F_, _·F_, over, sumF, held, Within}
 use Rattle.algebra.specs.Nearest.{Rounds}
 
 -- ---- one side of it: x − y ≤ e/d
@@ -41,9 +41,6 @@ module _ {e d : ℕ} {x y : Frac} where
             abs-le _
             (by-le (pos d ∷ pos e ∷ x .num ∷ pos (x .den) ∷ y .num ∷ pos (y .den) ∷ []) (⊖ (E ⊠ (XD ⊠ YD))) (D ⊠ (XN ⊠ YD ⊟ YN ⊠ XD)) (le (D ⊠ (YN ⊠ XD ⊟ XN ⊠ YD)) (E ⊠ (YD ⊠ XD)) (k .is)) tt) (h .is);
       }
-
-pub within-sym : {e d : ℕ} {x y : Frac} → Within e d x y → Within e d y x
-within-sym h = both (above-of h) (below h)
 
 pos-above : {m : ℕ} → 0 < m → pos 0 <ℤ pos m
 pos-above {m} h = omega zarith

@@ -1,14 +1,13 @@
 -- Rounding to nearest, the two ways of document 01, and that either is within 1/2.
-use mathlib.Core.Path.{_≡_, refl}
-use mathlib.Core.List.{List, [], _∷_}
-use Prim.Native.Nat.{ℕ, zero, suc, _+_, _*_, _/_, _%_, _≤_, _<_}
+use mathlib.Core.List.{[], _∷_}
+use Prim.Native.Nat.{ℕ, suc, _+_, _*_, _/_, _≤_, _<_}
 use native.Mathlib.Nat.{mul-pos, div-add-mod', mod-lt}
 use native.Mathlib.Omega.{arith}
 use lib.Dec.{lit<}
 use lib.IntN.{ℤ, pos, negsuc, negℤ, _+ℤ_, _-ℤ_, _*ℤ_}
 use lib.Signed.{_≤ℤ_, shrZ}
 use Rattle.algebra.specs.Vars.{vars3}
-use Rattle.algebra.specs.Ring.{Expr, var, _⊞_, _⊟_, _⊠_, ⊖_, #_, nth}
+use Rattle.algebra.specs.Ring.{_⊞_, _⊟_, _⊠_, ⊖_, #_}
 use Rattle.algebra.specs.Cert.{num, le, lt, _⊕_, by-le, le-pos}
 use Rattle.algebra.specs.Floor.{floor-le, floor-lt}
 

@@ -1,5 +1,4 @@
 -- Names for the variables of a ring expression: `let (A, B) = vars2 in`.
-use Prim.Native.Nat.{ℕ}
 use Rattle.algebra.specs.Ring.{Expr, var}
 
 abbrev pub vars3 : Expr × Expr × Expr

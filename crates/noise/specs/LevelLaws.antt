@@ -1,5 +1,5 @@
 -- The levels of any noise are at most 65536 and 4194304, since its curve's numbers lie between 0 and the limits of refusal 9; and what refusals 9 and 10 let through.
-use mathlib.Core.Path.{_≡_, refl, sym, subst}
+use mathlib.Core.Path.{_≡_, refl, sym, ap, subst}
 use mathlib.Core.Bool.{Bool, true, false, not, _||_, cond}
 use Prim.Native.Nat.{ℕ, suc, _*_, _≤_}
 use native.Mathlib.Nat.{div-le-of-le-mul, le-trans, mul-le-mul-right, zero-mul}
@@ -9,10 +9,11 @@ use borrow.Author.Tests.{ltb-false}
 use lib.Ieee.{Float, nan, inf, fin, up, down}
 use lib.Ieee.Fits.{and-l, and-r, and-i}
 use Rattle.noise.specs.declared.Noise.{Noise}
+use Rattle.noise.specs.declared.Levels.{Levels}
 use Rattle.noise.specs.declared.Levels.the-variants.{Refused}
 use Rattle.noise.specs.Curve.{curveOf}
 use Rattle.noise.specs.Level.{exceeds, within, floor1024}
-use Rattle.noise.specs.Levels.{invalidNoise, aboveLimits, found, levelsOf, shotLevel, readLevel, levelRefusal, strengthRefusal}
+use Rattle.noise.specs.Levels.{invalidNoise, aboveLimits, found, levelsOf, refusalOf, shotLevel, readLevel, levelRefusal, strengthRefusal}
 use Rattle.noise.specs.ScalingLaws.{NotNegative, neither, curve-not-negative}
 
 not-over-within : (k : ℕ) (x : Float) → NotNegative x → exceeds k x ≡ false → T (within k x)
@@ -75,3 +76,16 @@ levels-most ls lr e =
 pub strength-most : (t : ℕ) → strengthRefusal t ≡ 0 → t ≤ 1024
 unfolding strengthRefusal
 strength-most t e = ltb-false 1024 t (passed (ltb 1024 t) 9 e)
+
+-- a refusal's number is not 0
+pub refused-above : (noise : Noise) (n : ℕ) → levelsOf noise ≡ Refused n → n ≡ 0 → ⊥
+unfolding levelsOf
+refused-above noise n e z = go (invalidNoise noise) (aboveLimits (curveOf noise)) e
+  where
+    number : (m : ℕ) → _≡_ {A = Levels} (Refused m) (Refused n) → m ≡ 0
+    number m e = let same : m ≡ n = ap refusalOf e in omega arith
+
+    go : (a b : Bool) → cond a (Refused 8) (cond b (Refused 9) (found (curveOf noise))) ≡ Refused n → ⊥
+    go true b e = let h : _≡_ {A = ℕ} 8 0 = number 8 e in omega arith
+    go false true e = let h : _≡_ {A = ℕ} 9 0 = number 9 e in omega arith
+    go false false e = let h : _≡_ {A = ℕ} 0 1 = cc in omega arith

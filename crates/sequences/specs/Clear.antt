@@ -1,14 +1,19 @@
 -- Clearing a buffer.
-use mathlib.Core.Path.{_≡_, refl, sym, ap, _∙_}
+use mathlib.Core.Path.{_≡_, refl, ap, _∙_}
 use mathlib.Core.List.{List, [], _∷_, _++_}
-use Prim.Native.Nat.{ℕ, zero, suc, _+_, _-_, _*_}
-use lib.IntN.{ℤ, pos, negsuc, _+ℤ_}
-use lib.ListN.{length, getD, take, drop, replicate}
+use Prim.Native.Nat.{ℕ, zero, suc}
+use lib.IntN.{ℤ, pos}
+use lib.ListN.{length, replicate}
 use Rattle.sequences.specs.Tab.{tab}
 
 -- as many zeros as l is long
 unfoldable pub zeros : List ℤ → List ℤ
 zeros l = replicate (length l) (pos 0)
+
+-- zeros of a buffer of the same length
+pub zeros-length : (a b : List ℤ) → length a ≡ length b → zeros a ≡ zeros b
+unfolding zeros
+zeros-length a b e = ap (λ n. replicate n (pos 0)) e
 
 rep-snoc : {A : Type 0} (v : A) (n : ℕ) → replicate n v ++ (v ∷ []) ≡ v ∷ replicate n v
 rep-snoc v zero = refl

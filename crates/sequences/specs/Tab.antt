@@ -1,15 +1,12 @@
 -- The list f 0, .., f (n - 1), and a list that a loop turns into it from the front.
-use mathlib.Core.Path.{_≡_, refl, sym, ap, _∙_, subst}
-use mathlib.Core.List.{List, [], _∷_, _++_, append-assoc, append-nil}
-use Prim.Native.Nat.{ℕ, zero, suc, _+_, _-_, _*_, _≤_, _<_}
+use mathlib.Core.Path.{_≡_, refl, sym, ap, _∙_}
+use mathlib.Core.List.{List, [], _∷_, _++_, append-nil}
+use Prim.Native.Nat.{ℕ, zero, suc, _+_, _≤_, _<_}
 use native.Mathlib.Numerals.{add-one}
 use native.Mathlib.Omega.{arith}
 use borrow.Author.Count.{below-more}
-use lib.ListN.{length, take, drop, getD, set, length-append, length-drop, List·getD-append, length-set}
-use mathlib.Core.Bool.{Bool, true, false}
-use lib.Dec.{T, eqb, eqb→eq}
-use Rattle.algebra.specs.Test.{both, both-l, both-r}
-use lib.Seq.{getD-set-same, set-set, set-getD, drop-cons, set-at, append-snoc, getD-at, drop-length, take-length}
+use lib.ListN.{length, drop, getD, set, length-append, List·getD-append, length-set}
+use lib.Seq.{drop-cons, set-at, append-snoc, getD-at, drop-length}
 
 unfoldable pub tab : {A : Type 0} → ℕ → (ℕ → A) → List A
 tab zero f = []
@@ -34,13 +31,6 @@ module _ {A : Type 0} (f : ℕ → A) where
       ∙ set-at (tab i f) (getD l i (f i)) (drop (suc i) l) (f i) i (length-tab i)
       ∙ sym (append-snoc (tab i f) (f i) (drop (suc i) l))
       ∙ ap (λ (n : ℕ). tab n f ++ drop n l) (sym (add-one i))
-
-  -- what is not yet stored stands as it was
-  pub tab-rest : (i : ℕ) (l : List A) (d : A) → i < length l → getD (tab i f ++ drop i l) i d ≡ getD l i d
-  tab-rest i l d h = ap (λ (r : List A). getD (tab i f ++ r) i d) (drop-cons l i d h) ∙ getD-at (tab i f) (getD l i d) (drop (suc i) l) d i (length-tab i)
-
-  pub length-turn : (i : ℕ) (l : List A) → i ≤ length l → length (tab i f ++ drop i l) ≡ length l
-  length-turn i l h = length-append (tab i f) (drop i l) ∙ omega (arith, length-tab i, length-drop i l)
 
   -- where the loop ends
   pub tab-all : (n : ℕ) (l : List A) → length l ≡ n → tab n f ++ drop n l ≡ tab n f
@@ -71,9 +61,6 @@ module _ {A : Type 0} {f : ℕ → A} {n : ℕ} {l : List A} where
       let e : i ≡ n = omega arith in
       w .is ∙ ap (λ (m : ℕ). tab m f ++ drop m l) e ∙ tab-all f n l (w .long)
 
-  pub fill-rest : {i : ℕ} {r : List A} (d : A) → Filled f n i l r → i < n → getD r i d ≡ getD l i d
-  fill-rest {i} {r} d w h = ap (λ (x : List A). getD x i d) (w .is) ∙ tab-rest f i l d (omega arith)
-
 -- what holds of the default and of each f k holds of each element of the table
 append-every : {A : Type 0} (P : A → Type 0) (d : A) (xs ys : List A) → ((i : ℕ) → P (getD xs i d)) → ((i : ℕ) → P (getD ys i d)) → (i : ℕ) → P (getD (xs ++ ys) i d)
 append-every P d [] ys h k i = k i
@@ -99,47 +86,3 @@ getD-tab f d (suc n) i h =
     below-more (λ (k : ℕ). getD (tab (suc n) f) k d ≡ f k) n
     (λ k l. List·getD-append (tab n f) (f n ∷ []) d k (rw (length-tab f n) l) ∙ getD-tab f d n k l)
     (getD-at (tab n f) (f n) [] d n (length-tab f n)) i (omega arith)
-
--- t is t₀ with f 0 .. f (j - 1) stored at the first j places of its row i, which has n: an inner loop's invariant
-pub record InRow {A : Type 0} (f : ℕ → A) (n i j : ℕ) (t₀ t : List (List A)) : Type 0 where
-  pub count : j ≤ n
-  pub here : i < length t₀
-  pub wide : length (getD t₀ i []) ≡ n
-  pub row : List A
-  pub filled : Filled f n j (getD t₀ i []) row
-  pub is : t ≡ set t₀ i row
-
-module _ {A : Type 0} {f : ℕ → A} {n i : ℕ} {t₀ : List (List A)} where
-  pub inrow-start : i < length t₀ → length (getD t₀ i []) ≡ n → InRow f n i 0 t₀ t₀
-  inrow-start h e = record { count = omega arith; here = h; wide = e; row = getD t₀ i []; filled = fill-start e; is = sym (set-getD t₀ i []) }
-
-  pub inrow-get : {j : ℕ} {t : List (List A)} (w : InRow f n i j t₀ t) → getD t i [] ≡ w .row
-  inrow-get {j} {t} w = ap (λ (x : List (List A)). getD x i []) (w .is) ∙ getD-set-same t₀ i (w .row) [] (w .here)
-
-  pub inrow-turn : {j : ℕ} {t : List (List A)} {v : A} → InRow f n i j t₀ t → j < n → v ≡ f j → InRow f n i (j + 1) t₀ (set t i (set (getD t i []) j v))
-  inrow-turn {j} {t} {v} w h e =
-      record {
-        count = omega arith;
-        here = w .here;
-        wide = w .wide;
-        row = set (w .row) j v;
-        filled = fill-turn (w .filled) h e;
-        is = ap (λ (x : List A). set t i (set x j v)) (inrow-get w) ∙ ap (λ (x : List (List A)). set x i (set (w .row) j v)) (w .is) ∙ set-set t₀ i (w .row) (set (w .row) j v);
-      }
-
-  pub inrow-done : {j : ℕ} {t : List (List A)} → InRow f n i j t₀ t → n ≤ j → t ≡ set t₀ i (tab n f)
-  inrow-done {j} {t} w h = w .is ∙ ap (set t₀ i) (fill-done (w .filled) h)
-
--- each of the first m rows has n elements, by a test
-abbrev pub wideAll : {A : Type 0} → ℕ → List (List A) → Bool
-wideAll n [] = true
-wideAll n (r ∷ rs) = both (eqb (length r) n) (wideAll n rs)
-
-pub wide-at : {A : Type 0} (n : ℕ) (t : List (List A)) → T (wideAll n t) → (i : ℕ) → i < length t → length (getD t i []) ≡ n
-wide-at n [] h i l = absurd (none i l)
-wide-at n (r ∷ rs) h zero l = eqb→eq (length r) n (both-l (eqb (length r) n) (wideAll n rs) h)
-wide-at n (r ∷ rs) h (suc i) l = wide-at n rs (both-r (eqb (length r) n) (wideAll n rs) h) i (omega arith)
-
--- a row that is not stored yet is as wide as it was
-pub fill-wide : {A : Type 0} {f : ℕ → List A} {m i : ℕ} {l t : List (List A)} (n : ℕ) → Filled f m i l t → T (wideAll n l) → i < m → length (getD t i []) ≡ n
-fill-wide {A} {f} {m} {i} {l} {t} n w h k = ap length (fill-rest [] w k) ∙ wide-at n l h i (omega arith)
