@@ -1,3 +1,4 @@
 pub mod Recipe
 pub mod Exact
 pub mod Closeness
+pub mod Gather

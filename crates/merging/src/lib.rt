@@ -1,4 +1,7 @@
 // The merge of a burst: tiles of each plane, their corrections, and the output.
+mod output;
+mod tiles;
+
 use geometry::Shape;
 
 // What a merge takes beside the lent buffers: Ls, Lr and the strength t.

@@ -1,0 +1,75 @@
+-- A row of differences: filled from the front.
+use mathlib.Core.Path.{_≡_, refl, _∙_}
+use Prim.Native.Nat.{_-_}
+use native.Mathlib.Omega.{arith}
+use lib.IntN.{pos, _-ℤ_}
+use lib.ListN.{getD}
+use mir.Syntax.{w32}
+use mir.Val.{toZ, ofZ}
+use borrow.Author.Needs.{needs}
+use Rattle.sequences.specs.Tab.{Filled, fill-start, fill-turn, fill-done}
+use Rattle.merging.proofs.tiles.difference_row.Statement.{statement}
+use Rattle.merging.proofs.tiles.difference_row.Tie as tie
+
+abbrev Inv-loop : tie.InvT-loop
+Inv-loop a b row₀ j₀ row j = Filled (λ j. pos (getD a j 0) -ℤ pos (getD b j 0)) 16 j row₀ row
+
+abbrev μ-loop : tie.MeasureT-loop
+μ-loop a b row₀ j₀ row j = 16 - j
+
+loop-holds : tie.Need-loop-holds Inv-loop μ-loop
+loop-holds c = fill-start refl
+
+mul-less : tie.Need-mul-less Inv-loop μ-loop
+mul-less c = search needs
+
+array-read-less : tie.Need-array-read-less Inv-loop μ-loop
+array-read-less c = search needs
+
+mul-less-2 : tie.Need-mul-less-2 Inv-loop μ-loop
+mul-less-2 c = search needs
+
+array-read-less-2 : tie.Need-array-read-less-2 Inv-loop μ-loop
+array-read-less-2 c = search needs
+
+less-requires : tie.Need-less-requires Inv-loop μ-loop
+less-requires c κs = search needs
+
+mul-row : tie.Need-mul-row Inv-loop μ-loop
+mul-row c = search needs
+
+array-set-from-row : tie.Need-array-set-from-row Inv-loop μ-loop
+array-set-from-row c = search needs
+
+add-j : tie.Need-add-j Inv-loop μ-loop
+add-j c = search needs
+
+loop-less : tie.Need-loop-less Inv-loop μ-loop
+loop-less c = search needs
+
+loop-again : tie.Need-loop-again Inv-loop μ-loop
+loop-again c =
+    let e : toZ w32 (ofZ w32 (c .less .result)) ≡ c .less .result = search needs in
+    fill-turn (c .before .before .loop .inv) (omega arith) (e ∙ c .less .ensures)
+
+returns : tie.Need-returns Inv-loop μ-loop
+returns c = fill-done (c .before .loop .inv) (omega arith)
+
+pub difference-row-spec : {M : Type 1} → statement M
+difference-row-spec =
+    tie.close
+    (tie.spec
+    Inv-loop
+    μ-loop
+    loop-holds
+    mul-less
+    array-read-less
+    mul-less-2
+    array-read-less-2
+    less-requires
+    mul-row
+    array-set-from-row
+    add-j
+    loop-less
+    loop-again
+    returns)
