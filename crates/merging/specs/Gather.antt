@@ -15,3 +15,8 @@ use Rattle.merging.specs.Recipe.{Scene, tileNoise, difference, tileOver,
 unfoldable pub corrected : (t0 : ℕ) (sum : ℤ) (count : ℕ) → ℤ
 corrected t0 sum count =
     clampZ (pos 0) (pos 4095) (upward (pos t0 *ℤ pos (4294967296 * count) -ℤ sum) (4294967296 * count))
+
+-- P of a tile, summed over the other frames
+unfoldable pub summedAt : Scene → (rowParity columnParity a b i j : ℕ) → ℤ
+summedAt s rowParity columnParity a b i j =
+    sumZ (s .others) (λ k. correctionAt side16 (tileNoise s rowParity columnParity a b) (difference s rowParity columnParity a b k) i j)

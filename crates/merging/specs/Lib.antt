@@ -1,4 +1,5 @@
 pub mod Recipe
 pub mod Exact
 pub mod Closeness
+pub mod Accepted
 pub mod Gather

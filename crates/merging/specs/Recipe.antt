@@ -44,20 +44,20 @@ sceneOf m samples vectors =
 abbrev pub tileOver : (y t : ℕ) → ℕ
 tileOver y t = y / level0 .half + 1 - t
 
-module _ (s : Scene) (rowParity columnParity : ℕ) where
-  -- "Merge tiles lie on each plane at level 0's origins": the frame's tile of row a and column b, moved by a vector
-  unfoldable pub tileAt : (frame : Image) (down right : ℤ) (a b : ℕ) → Image
-  tileAt frame down right a b i j =
-      read (s .height / 2) (s .width / 2) (planeOf frame rowParity columnParity)
-      (origin (level0 .half) a +ℤ down +ℤ pos i) (origin (level0 .half) b +ℤ right +ℤ pos j)
+-- "Merge tiles lie on each plane at level 0's origins": the tile of row a and column b on a plane of a frame, moved by a vector
+unfoldable pub tileAt : (height width rowParity columnParity : ℕ) (frame : Image) (down right : ℤ) (a b : ℕ) → Image
+tileAt height width rowParity columnParity frame down right a b i j =
+    read (height / 2) (width / 2) (planeOf frame rowParity columnParity)
+    (origin (level0 .half) a +ℤ down +ℤ pos i) (origin (level0 .half) b +ℤ right +ℤ pos j)
 
+module _ (s : Scene) (rowParity columnParity : ℕ) where
   module _ (a b : ℕ) where
     -- "T0 is the reference tile, Tz another frame's", by the vectors "unscaled"
     unfoldable pub referenceTile : Image
-    referenceTile = tileAt (s .reference) (pos 0) (pos 0) a b
+    referenceTile = tileAt (s .height) (s .width) rowParity columnParity (s .reference) (pos 0) (pos 0) a b
 
     unfoldable pub otherTile : (k : ℕ) → Image
-    otherTile k = tileAt (s .other k) (s .down k a b) (s .right k a b) a b
+    otherTile k = tileAt (s .height) (s .width) rowParity columnParity (s .other k) (s .down k a b) (s .right k a b) a b
 
     -- r and V of the tile
     unfoldable pub tileNoise : ℕ

@@ -12,3 +12,11 @@ pub struct Merge {
     pub read: u64,
     pub strength: u64,
 }
+
+// A tile: the parities of its plane, and its row and column among the plane's tiles.
+pub struct Site {
+    pub row_parity: usize,
+    pub column_parity: usize,
+    pub row: usize,
+    pub column: usize,
+}

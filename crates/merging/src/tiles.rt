@@ -1,9 +1,22 @@
 // Tiles of a plane: T0 and Tz, their differences, and the corrections of a tile summed over the other frames.
 ghost use mathlib.Core.Path.{_≡_};
-ghost use lib.IntN.{pos, _-ℤ_};
+ghost use Prim.Native.Nat.{ℕ, _+_, _*_, _/_, _≤_, _<_, _^_};
+ghost use lib.IntN.{pos, natAbs, _+ℤ_, _-ℤ_};
 ghost use lib.ListN.{getD};
+ghost use Rattle.algebra.specs.Bound.{AtMost};
 ghost use Rattle.sequences.specs.Tab.{tab};
 ghost use Rattle.sequences.specs.Grid.{grid, cell};
+ghost use Rattle.geometry.specs.Shape.{Allowed, vectorLength};
+ghost use Rattle.geometry.specs.Read.{Sampled, sampleAt};
+ghost use Rattle.geometry.specs.Tiles.{origin};
+ghost use Rattle.geometry.specs.Vectors.{otherFrame, vectorPlace};
+ghost use Rattle.plane_view.specs.View.{Near};
+ghost use Rattle.merging.specs.Recipe.{sceneOf, tileAt, otherTile};
+ghost use Rattle.merging.specs.Gather.{summedAt};
+ghost use Rattle.merging.specs.Accepted.{Accepted, Sited, Small};
+use crate::Merge;
+use crate::Site;
+use geometry::Shape;
 
 fn less(a: u16, b: u16) -> i32
     ensures { λ r. ⌜ r ≡ pos a -ℤ pos b ⌝ }
@@ -30,4 +43,78 @@ fn difference(t0: [[u16; 16]; 16], tz: [[u16; 16]; 16]) -> [[i32; 16]; 16]
         d[i] = difference_row(t0[i], tz[i]);
     }
     d
+}
+
+// Where a tile begins that is moved by one part of a vector.
+fn moved(index: usize, part: i32) -> i64
+    requires { ⌜ (index ≤ 4096) × (AtMost 172 part) ⌝ }
+    ensures { λ r. ⌜ (r ≡ origin 8 index +ℤ part) × (Near r) ⌝ }
+{
+    geometry::tiles::origin(8, index) + part as i64
+}
+
+// The tile of a frame, moved by a vector.
+fn tile(shape: Shape, samples: &[u16], frame: usize, site: Site, down: i32, right: i32) -> [[u16; 16]; 16]
+    requires { ⌜ (Sampled shape (now samples)) × (frame < shape .count) × (Sited shape site) × (AtMost 172 down) × (AtMost 172 right) ⌝ }
+    ensures { λ r. ⌜ r ≡ grid 16 16 (tileAt (shape .height) (shape .width) (site .«row_parity») (site .«column_parity») (sampleAt shape (now (samples .entry)) frame) down right (site .row) (site .column)) ⌝ }
+{
+    let y = moved(site.row, down);
+    let x = moved(site.column, right);
+    plane_view::frame_tile(
+        shape,
+        samples,
+        frame,
+        site.row_parity,
+        site.column_parity,
+        y,
+        x,
+    )
+}
+
+// The frame that is the k-th beside the reference.
+fn other_frame(reference: usize, k: usize) -> usize
+    requires { ⌜ k < 8 ⌝ }
+    ensures { λ r. ⌜ (r ≡ otherFrame reference k) × (r ≤ k + 1) ⌝ }
+{
+    if k < reference { k } else { k + 1 }
+}
+
+// Where the vector of a tile stands, for the k-th other frame.
+fn vector_place(shape: Shape, k: usize, row: usize, column: usize) -> usize
+    requires { ⌜ (Allowed shape) × (k + 1 < shape .count) × (row ≤ shape .height / 16) × (column ≤ shape .width / 16) ⌝ }
+    ensures { λ r. ⌜ (r ≡ vectorPlace shape k row column) × (r + 1 < vectorLength shape) ⌝ }
+{
+    2 * ((k * (shape.height / 16 + 1) + row) * (shape.width / 16 + 1) + column)
+}
+
+// Tz of the k-th other frame.
+fn other_tile(m: Merge, samples: &[u16], vectors: &[i32], site: Site, k: usize) -> [[u16; 16]; 16]
+    requires { ⌜ (Accepted m (now samples) (now vectors)) × (Sited (m .shape) site) × (k + 1 < m .shape .count) ⌝ }
+    ensures { λ r. ⌜ r ≡ grid 16 16 (otherTile (sceneOf m (now (samples .entry)) (now (vectors .entry))) (site .«row_parity») (site .«column_parity») (site .row) (site .column) k) ⌝ }
+{
+    let shape = m.shape;
+    let place = vector_place(shape, k, site.row, site.column);
+    let down = vectors[place];
+    let right = vectors[place + 1];
+    let frame = other_frame(m.reference, k);
+    tile(shape, samples, frame, site, down, right)
+}
+
+// One more of up to seven terms.
+fn plus(sum: i64, term: i32) -> i64
+    requires { ⌜ AtMost (2 ^ 40) sum ⌝ }
+    ensures { λ r. ⌜ (r ≡ sum +ℤ term) × (natAbs term ≤ 2147483648) ⌝ }
+{
+    sum + term as i64
+}
+
+fn added_row(sum: [i64; 16], term: [i32; 16]) -> [i64; 16]
+    requires { ⌜ Small sum ⌝ }
+    ensures { λ r. ⌜ (r ≡ tab 16 (λ j. getD sum j (pos 0) +ℤ getD term j (pos 0))) × ((j : ℕ) → j < 16 → natAbs (getD term j (pos 0)) ≤ 2147483648) ⌝ }
+{
+    let mut row = [0i64; 16];
+    for j in 0..16 {
+        row[j] = plus(sum[j], term[j]);
+    }
+    row
 }

@@ -1,0 +1,84 @@
+-- The tile of the frame that the index names, moved by the vector that stands at its place.
+use mathlib.Core.Path.{_≡_, _∙_}
+use mathlib.Core.List.{List}
+use Prim.Native.Nat.{ℕ, _+_}
+use lib.IntN.{ℤ, pos}
+use lib.ListN.{getD}
+use denote.Ref.{now}
+use mir.Syntax.{w32}
+use mir.Val.{toZ, ofZ}
+use mir.Facts.{toZ-ofZ}
+use borrow.Author.Needs.{needs}
+use Rattle.algebra.specs.Bound.{AtMost, most-fits}
+use Rattle.geometry.specs.Bounds.{VectorsFit}
+use Rattle.geometry.specs.Read.{sampleAt}
+use Rattle.geometry.specs.Vectors.{otherFrame, vectorPlace, downAt, rightAt}
+use Rattle.sequences.specs.Grid.{grid}
+use Rattle.merging.specs.declared.Merge.{Merge}
+use Rattle.merging.specs.Recipe.{sceneOf, tileAt, otherTile}
+use Rattle.merging.proofs.tiles.other_tile.Statement.{statement}
+use Rattle.merging.proofs.tiles.other_tile.Tie as tie
+
+module _ {vectors : List ℤ} (v : VectorsFit vectors) (k : ℕ) where
+  part-most : AtMost 172 (getD vectors k (pos 0))
+  part-most = record { most = v .most k }
+
+  part-is : toZ w32 (ofZ w32 (getD vectors k (pos 0))) ≡ getD vectors k (pos 0)
+  part-is = toZ-ofZ (most-fits w32 _ 172 part-most tt)
+
+other-tile-is : (m : Merge) (samples : List ℕ) (vectors : List ℤ) (rowParity columnParity a b k : ℕ) {frame place : ℕ} {down right : ℤ}
+    → frame ≡ otherFrame (m .reference) k → place ≡ vectorPlace (m .shape) k a b → down ≡ getD vectors place (pos 0) → right ≡ getD vectors (place + 1) (pos 0)
+    → grid 16 16 (tileAt (m .shape .height) (m .shape .width) rowParity columnParity (sampleAt (m .shape) samples frame) down right a b)
+    ≡ grid 16 16 (otherTile (sceneOf m samples vectors) rowParity columnParity a b k)
+unfolding otherTile sceneOf downAt rightAt
+other-tile-is m samples vectors rowParity columnParity a b k f p d r = rw (d, r, f, p)
+
+vector-place-requires : tie.Need-vector-place-requires
+vector-place-requires c κs = search needs
+
+mul-down : tie.Need-mul-down
+mul-down c = search needs
+
+shared-slice-copy-out-down : tie.Need-shared-slice-copy-out-down
+shared-slice-copy-out-down c = search needs
+
+add-right : tie.Need-add-right
+add-right c = search needs
+
+mul-right : tie.Need-mul-right
+mul-right c = search needs
+
+shared-slice-copy-out-right : tie.Need-shared-slice-copy-out-right
+shared-slice-copy-out-right c = search needs
+
+other-frame-requires : tie.Need-other-frame-requires
+other-frame-requires c κs = search needs
+
+tile-requires : tie.Need-tile-requires
+tile-requires c κs =
+    let s = c .before .before .before .before .before .before in
+    let v = s .pre .0 .vectors-fit in
+    (search needs, search needs, s .pre .1, rw (part-is v _) (part-most v _), rw (part-is v _) (part-most v _))
+
+returns : tie.Need-returns
+returns c =
+    let place = c .before .before .before .before in
+    let s = place .before .before .before in
+    let v = s .pre .0 .vectors-fit in
+    c .tile .ensures
+    ∙ other-tile-is (s .args .m) (now (s .args .samples)) (now (s .args .vectors)) _ _ _ _ (s .args .k)
+    (c .before .other-frame .ensures .0) (place .vector-place .ensures .0) (part-is v _) (part-is v _)
+
+pub other-tile-spec : {M : Type 1} → statement M
+other-tile-spec =
+    tie.close
+    (tie.spec
+    vector-place-requires
+    mul-down
+    shared-slice-copy-out-down
+    add-right
+    mul-right
+    shared-slice-copy-out-right
+    other-frame-requires
+    tile-requires
+    returns)

@@ -1,0 +1,43 @@
+-- The view's tile at the moved origins, cell by cell.
+use mathlib.Core.Path.{_≡_, refl, ap, ap₂, _∙_}
+use Prim.Native.Nat.{_/_}
+use lib.IntN.{_+ℤ_}
+use denote.Ref.{now}
+use mir.Syntax.{w64}
+use mir.Val.{toZ, ofZ}
+use mir.Facts.{toZ-ofZ}
+use borrow.Author.Needs.{needs}
+use Rattle.sequences.specs.Grid.{grid-ext}
+use Rattle.geometry.specs.Read.{planeOf, sampleAt}
+use Rattle.geometry.specs.Tiles.{origin}
+use Rattle.plane_view.specs.View.{tileOf}
+use Rattle.merging.specs.Recipe.{tileAt}
+use Rattle.merging.proofs.tiles.tile.Statement.{statement}
+use Rattle.merging.proofs.tiles.tile.Tie as tie
+
+moved-requires : tie.Need-moved-requires
+moved-requires c κs = search needs
+
+moved-requires-2 : tie.Need-moved-requires-2
+moved-requires-2 c κs = search needs
+
+frame-tile-requires : tie.Need-frame-tile-requires
+frame-tile-requires c κs = search needs
+
+returns : tie.Need-returns
+unfolding tileOf tileAt
+returns c =
+    let s = c .before .before .before .before in
+    let a = s .args in
+    let y = c .before .before .moved in
+    let x = c .before .moved2 in
+    let ey : toZ w64 (ofZ w64 (y .result)) ≡ y .result = search needs in
+    let ex : toZ w64 (ofZ w64 (x .result)) ≡ x .result = search needs in
+    c .frame-tile .ensures
+    ∙ ap₂ (tileOf 16 (a .shape .height / 2) (a .shape .width / 2) (planeOf (sampleAt (a .shape) (now (a .samples)) (a .frame)) (a .site .«row_parity») (a .site .«column_parity»)))
+    (ey ∙ y .ensures .0 ∙ ap (λ z. origin 8 (a .site .row) +ℤ z) (toZ-ofZ (s .fits .down)))
+    (ex ∙ x .ensures .0 ∙ ap (λ z. origin 8 (a .site .column) +ℤ z) (toZ-ofZ (s .fits .right)))
+    ∙ grid-ext 16 16 _ _ (λ i j _ _. refl)
+
+pub tile-spec : {M : Type 1} → statement M
+tile-spec = tie.close (tie.spec moved-requires moved-requires-2 frame-tile-requires returns)

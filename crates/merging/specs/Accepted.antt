@@ -1,0 +1,30 @@
+-- What is known of a merge that its tests have let through.
+use mathlib.Core.List.{List}
+use Prim.Native.Nat.{ℕ, _/_, _^_, _≤_, _<_}
+use lib.IntN.{ℤ, pos}
+use lib.ListN.{length, getD}
+use Rattle.algebra.specs.Bound.{AtMost}
+use Rattle.geometry.specs.declared.Shape.{Shape}
+use Rattle.geometry.specs.Order.{BurstFits}
+use Rattle.geometry.specs.Bounds.{SamplesFit, VectorsFit}
+use Rattle.merging.specs.declared.Merge.{Merge}
+use Rattle.merging.specs.declared.Site.{Site}
+
+pub record Accepted (m : Merge) (samples : List ℕ) (vectors : List ℤ) : Type 0 where
+  pub burst : BurstFits (m .shape) (m .reference) (length samples) (length vectors)
+  pub samples-fit : SamplesFit samples
+  pub vectors-fit : VectorsFit vectors
+  pub shot-most : m .shot ≤ 65536
+  pub read-most : m .read ≤ 4194304
+  pub strength-most : m .strength ≤ 1024
+
+-- a tile of one of the four planes
+pub record Sited (s : Shape) (t : Site) : Type 0 where
+  pub row-parity : t .«row_parity» < 2
+  pub column-parity : t .«column_parity» < 2
+  pub row : t .row ≤ s .height / 16
+  pub column : t .column ≤ s .width / 16
+
+-- words that a few more terms of 32 bits do not bring past 64
+pub record Small (words : List ℤ) : Type 0 where
+  pub most : (k : ℕ) → AtMost (2 ^ 40) (getD words k (pos 0))
