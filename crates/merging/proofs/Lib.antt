@@ -1,2 +1,5 @@
 pub mod Widen
 pub mod Places
+pub mod Differences
+pub mod Summing
+pub mod Storing

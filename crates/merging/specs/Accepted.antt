@@ -1,4 +1,4 @@
--- What is known of a merge that its tests have let through.
+-- What is known of a merge that its tests have let through, of its planes and tiles.
 use mathlib.Core.List.{List}
 use Prim.Native.Nat.{ℕ, _/_, _^_, _≤_, _<_}
 use lib.IntN.{ℤ, pos}
@@ -8,6 +8,7 @@ use Rattle.geometry.specs.declared.Shape.{Shape}
 use Rattle.geometry.specs.Order.{BurstFits}
 use Rattle.geometry.specs.Bounds.{SamplesFit, VectorsFit}
 use Rattle.merging.specs.declared.Merge.{Merge}
+use Rattle.merging.specs.declared.Plane.{Plane}
 use Rattle.merging.specs.declared.Site.{Site}
 
 pub record Accepted (m : Merge) (samples : List ℕ) (vectors : List ℤ) : Type 0 where
@@ -18,7 +19,12 @@ pub record Accepted (m : Merge) (samples : List ℕ) (vectors : List ℤ) : Type
   pub read-most : m .read ≤ 4194304
   pub strength-most : m .strength ≤ 1024
 
--- a tile of one of the four planes
+-- one of the four planes
+pub record Planar (p : Plane) : Type 0 where
+  pub row-parity : p .«row_parity» < 2
+  pub column-parity : p .«column_parity» < 2
+
+-- a tile of one of them
 pub record Sited (s : Shape) (t : Site) : Type 0 where
   pub row-parity : t .«row_parity» < 2
   pub column-parity : t .«column_parity» < 2

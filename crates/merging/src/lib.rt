@@ -1,5 +1,6 @@
 // The merge of a burst: tiles of each plane, their corrections, and the output.
 mod output;
+mod rows;
 mod tiles;
 
 use geometry::Shape;
@@ -11,6 +12,12 @@ pub struct Merge {
     pub shot: u64,
     pub read: u64,
     pub strength: u64,
+}
+
+// One of the four planes, by the parities of its rows and columns.
+pub struct Plane {
+    pub row_parity: usize,
+    pub column_parity: usize,
 }
 
 // A tile: the parities of its plane, and its row and column among the plane's tiles.

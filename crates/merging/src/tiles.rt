@@ -1,6 +1,7 @@
 // Tiles of a plane: T0 and Tz, their differences, and the corrections of a tile summed over the other frames.
 ghost use mathlib.Core.Path.{_≡_};
 ghost use Prim.Native.Nat.{ℕ, _+_, _*_, _/_, _≤_, _<_, _^_};
+ghost use mathlib.Core.List.{[]};
 ghost use lib.IntN.{pos, natAbs, _+ℤ_, _-ℤ_};
 ghost use lib.ListN.{getD};
 ghost use Rattle.algebra.specs.Bound.{AtMost};
@@ -11,8 +12,9 @@ ghost use Rattle.geometry.specs.Read.{Sampled, sampleAt};
 ghost use Rattle.geometry.specs.Tiles.{origin};
 ghost use Rattle.geometry.specs.Vectors.{otherFrame, vectorPlace};
 ghost use Rattle.plane_view.specs.View.{Near};
+ghost use Rattle.noise.specs.NoiseNumber.{tileRoot, noiseNumber};
+ghost use Rattle.merging.specs.Sum.{TileOf, Summed};
 ghost use Rattle.merging.specs.Recipe.{sceneOf, tileAt, otherTile};
-ghost use Rattle.merging.specs.Gather.{summedAt};
 ghost use Rattle.merging.specs.Accepted.{Accepted, Sited, Small};
 use crate::Merge;
 use crate::Site;
@@ -54,7 +56,14 @@ fn moved(index: usize, part: i32) -> i64
 }
 
 // The tile of a frame, moved by a vector.
-fn tile(shape: Shape, samples: &[u16], frame: usize, site: Site, down: i32, right: i32) -> [[u16; 16]; 16]
+fn tile(
+    shape: Shape,
+    samples: &[u16],
+    frame: usize,
+    site: Site,
+    down: i32,
+    right: i32,
+) -> [[u16; 16]; 16]
     requires { ⌜ (Sampled shape (now samples)) × (frame < shape .count) × (Sited shape site) × (AtMost 172 down) × (AtMost 172 right) ⌝ }
     ensures { λ r. ⌜ r ≡ grid 16 16 (tileAt (shape .height) (shape .width) (site .«row_parity») (site .«column_parity») (sampleAt shape (now (samples .entry)) frame) down right (site .row) (site .column)) ⌝ }
 {
@@ -100,10 +109,10 @@ fn other_tile(m: Merge, samples: &[u16], vectors: &[i32], site: Site, k: usize) 
     tile(shape, samples, frame, site, down, right)
 }
 
-// One more of up to seven terms.
+// One more of a few terms.
 fn plus(sum: i64, term: i32) -> i64
     requires { ⌜ AtMost (2 ^ 40) sum ⌝ }
-    ensures { λ r. ⌜ (r ≡ sum +ℤ term) × (natAbs term ≤ 2147483648) ⌝ }
+    ensures { λ r. ⌜ r ≡ sum +ℤ term ⌝ }
 {
     sum + term as i64
 }
@@ -117,4 +126,56 @@ fn added_row(sum: [i64; 16], term: [i32; 16]) -> [i64; 16]
         row[j] = plus(sum[j], term[j]);
     }
     row
+}
+
+fn added(sum: [[i64; 16]; 16], term: [[i32; 16]; 16]) -> [[i64; 16]; 16]
+    requires { ⌜ ((i : ℕ) → Small (getD sum i [])) ⌝ }
+    ensures { λ r. ⌜ (r ≡ grid 16 16 (λ i j. cell (pos 0) sum i j +ℤ cell (pos 0) term i j)) × ((i j : ℕ) → i < 16 → j < 16 → natAbs (cell (pos 0) term i j) ≤ 2147483648) ⌝ }
+{
+    let mut tile = [[0i64; 16]; 16];
+    for i in 0..16 {
+        tile[i] = added_row(sum[i], term[i]);
+    }
+    tile
+}
+
+// V of a tile.
+fn tile_noise(m: Merge, t0: [[u16; 16]; 16]) -> u64
+    requires { ⌜ (m .shot ≤ 65536) × (m .read ≤ 4194304) × (m .strength ≤ 1024) ⌝ }
+    ensures { λ r. ⌜ r ≡ noiseNumber (m .strength) (m .shot) (m .read) (tileRoot 16 (cell 0 t0)) ⌝ }
+{
+    noise::noise_number(m.strength, m.shot, m.read, noise::tile_root(t0))
+}
+
+// The corrections of a tile at its noise number, summed over the other frames.
+fn corrections(
+    m: Merge,
+    samples: &[u16],
+    vectors: &[i32],
+    site: Site,
+    t0: [[u16; 16]; 16],
+    noise: u64,
+) -> [[i64; 16]; 16]
+    requires { ⌜ (Accepted m (now samples) (now vectors)) × (Sited (m .shape) site) × (TileOf (sceneOf m (now samples) (now vectors)) site t0 noise) ⌝ }
+    ensures { λ r. ⌜ Summed (sceneOf m (now (samples .entry)) (now (vectors .entry))) site r ⌝ }
+{
+    let others = m.shape.count - 1;
+    let mut sum = [[0i64; 16]; 16];
+    for k in 0..others {
+        let tz = other_tile(m, samples, vectors, site, k);
+        let next = added(sum, transform::correction(difference(t0, tz), noise));
+        sum = next;
+    }
+    sum
+}
+
+// T0, r and V of a tile, and its corrections, summed over the other frames.
+pub fn tile_correction(m: Merge, samples: &[u16], vectors: &[i32], site: Site) -> [[i64; 16]; 16]
+    requires { ⌜ (Accepted m (now samples) (now vectors)) × (Sited (m .shape) site) ⌝ }
+    ensures { λ r. ⌜ Summed (sceneOf m (now (samples .entry)) (now (vectors .entry))) site r ⌝ }
+{
+    let shape = m.shape;
+    let t0 = tile(shape, samples, m.reference, site, 0, 0);
+    let noise = tile_noise(m, t0);
+    corrections(m, samples, vectors, site, t0, noise)
 }

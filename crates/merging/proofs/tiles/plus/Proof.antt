@@ -1,6 +1,5 @@
 -- A sum of few terms fits.
-use mir.Facts.{toZ-ofZ}
-use Rattle.merging.proofs.Widen.{term-fits, term-most, raw-fits, raw-back}
+use Rattle.merging.proofs.Widen.{term-fits, raw-fits, raw-back}
 use Rattle.merging.proofs.tiles.plus.Statement.{statement}
 use Rattle.merging.proofs.tiles.plus.Tie as tie
 
@@ -11,7 +10,7 @@ add-result : tie.Need-add-result
 add-result c = raw-fits (c .fits .sum) (c .fits .term) _ (c .pre) tt
 
 returns : tie.Need-returns
-returns c = (raw-back (c .fits .sum) (c .fits .term) _ (c .pre) tt, term-most (c .fits .sum) (c .fits .term) .most)
+returns c = raw-back (c .fits .sum) (c .fits .term) _ (c .pre) tt
 
 pub plus-spec : {M : Type 1} → statement M
 plus-spec = tie.close (tie.spec cast-result add-result returns)

@@ -1,0 +1,76 @@
+-- A row of tiles, stored tile by tile: its record, and how it starts, goes on and ends.
+use mathlib.Core.Path.{_≡_, sym, ap, _∙_, subst, subst₂}
+use mathlib.Core.List.{List}
+use Prim.Native.Nat.{ℕ, zero, suc, _+_, _*_, _/_, _%_, _^_, _≤_, _<_}
+use native.Mathlib.Omega.{arith}
+use borrow.Author.Count.{below-more}
+use lib.IntN.{ℤ, pos, natAbs}
+use lib.ListN.{length, getD, set}
+use lib.Seq.{paste, paste-zero, paste-suc}
+use Rattle.sequences.specs.Tab.{tab, length-tab, getD-tab}
+use Rattle.sequences.specs.Grid.{cell, cell-grid}
+use Rattle.sequences.specs.Write.{written, Writing, write-start, write-turn, write-done}
+use Rattle.merging.specs.declared.Plane.{Plane}
+use Rattle.merging.specs.declared.Site.{Site}
+use Rattle.merging.specs.Recipe.{Scene}
+use Rattle.merging.specs.Gather.{summedAt}
+use Rattle.merging.specs.Sum.{Summed}
+use Rattle.merging.specs.Work.{rowWords, slotOf, rowWord, Stored}
+
+-- m stores at once, of g 0 .. g (m − 1)
+module _ {A : Type 0} {d : List A} {at : ℕ} {f : ℕ → A} {n j m : ℕ} {l : List A} {g : ℕ → A} (w : Writing d at f n j l) (room : j + m ≤ n) (e : (k : ℕ) → k < m → g k ≡ f (j + k)) where
+  parts : (i : ℕ) → i ≤ m → Writing d at f n (j + i) (paste l (at + j) (tab m g) i)
+  parts zero h = subst₂ (λ k x. Writing d at f n k x) (omega arith) (paste-zero l (at + j) (tab m g)) w
+  parts (suc i) h =
+      let p = paste l (at + j) (tab m g) i in
+      let v = getD (tab m g) i (g i) in
+      let same = w .same in
+      let fits = w .room in
+      subst₂ (λ k x. Writing d at f n k x) (omega arith)
+      (ap (λ k. set p k v) (omega arith) ∙ paste-suc l (at + j) (tab m g) i (g i) (omega arith) (omega (arith, length-tab g m)))
+      (write-turn (parts i (omega arith)) (omega arith) (getD-tab g (g i) m i h ∙ e i h))
+
+  write-part : {r : List A} → r ≡ written l (at + j) g m → Writing d at f n (j + m) r
+  unfolding written
+  write-part {r} is = subst (Writing d at f n (j + m)) (sym is) (parts m (omega arith))
+
+-- l is d after the first n tiles of the row
+pub record Storing (s : Scene) (p : Plane) (row : ℕ) (d : List ℤ) (n : ℕ) (l : List ℤ) : Type 0 where
+  pub count : n ≤ s .width / 16 + 1
+  pub writing : Writing d (slotOf (s .width) row) (rowWord s p row) (256 * (s .width / 16 + 1)) (256 * n) l
+  pub most : (b : ℕ) → b < n → (i j : ℕ) → i < 16 → j < 16 → natAbs (summedAt s (p .«row_parity») (p .«column_parity») row b i j) ≤ 2 ^ 34
+
+module _ {s : Scene} {p : Plane} {row : ℕ} {d : List ℤ} where
+  pub store-start : slotOf (s .width) row + rowWords (s .width) ≤ length d → Storing s p row d 0 d
+  unfolding rowWords
+  store-start room = record { count = omega arith; writing = write-start room; most = λ b h. absurd (none h) }
+    where
+      none : {k : ℕ} → k < 0 → ⊥
+      none h = omega arith
+
+  pub store-turn : {n : ℕ} {l r : List ℤ} {tile : List (List ℤ)} → Storing s p row d n l → n < s .width / 16 + 1
+      → Summed s (record { «row_parity» = p .«row_parity»; «column_parity» = p .«column_parity»; row = row; column = n }) tile
+      → r ≡ written l (slotOf (s .width) row + 256 * n) (λ k. cell (pos 0) tile (k / 16) (k % 16)) 256
+      → Storing s p row d (n + 1) r
+  unfolding rowWord
+  store-turn {n} {l} {r} {tile} w h sum is =
+      record {
+        count = omega arith;
+        writing = subst (λ k. Writing d (slotOf (s .width) row) (rowWord s p row) (256 * (s .width / 16 + 1)) k r) (omega arith) (write-part (w .writing) (omega arith) word is);
+        most = below-more (λ b. (i j : ℕ) → i < 16 → j < 16 → natAbs (summedAt s (p .«row_parity») (p .«column_parity») row b i j) ≤ 2 ^ 34) n (w .most) (sum .most);
+      }
+    where
+      place : (k : ℕ) → k < 256 → summedAt s (p .«row_parity») (p .«column_parity») row n (k / 16) (k % 16) ≡ rowWord s p row (256 * n + k)
+      place k b =
+          let tileOf : (256 * n + k) / 256 ≡ n = omega arith in
+          let rowOf : (256 * n + k) % 256 / 16 ≡ k / 16 = omega arith in
+          let columnOf : (256 * n + k) % 16 ≡ k % 16 = omega arith in
+          rw (tileOf, rowOf, columnOf)
+
+      word : (k : ℕ) → k < 256 → cell (pos 0) tile (k / 16) (k % 16) ≡ rowWord s p row (256 * n + k)
+      word k b = ap (λ x. cell (pos 0) x (k / 16) (k % 16)) (sum .is) ∙ cell-grid (pos 0) 16 16 _ (k / 16) (k % 16) (omega arith) (omega arith) ∙ place k b
+
+  pub store-done : {n : ℕ} {l : List ℤ} → Storing s p row d n l → s .width / 16 + 1 ≤ n → Stored s p row d l
+  unfolding rowWords rowWord
+  store-done w h =
+      record { is = write-done (w .writing) (omega arith); most = λ k b. w .most (k / 256) (omega arith) (k % 256 / 16) (k % 16) (omega arith) (omega arith) }

@@ -1,0 +1,93 @@
+-- The sum of a tile's corrections, frame by frame: its record, and how it starts, goes on and ends.
+use mathlib.Core.Path.{_≡_, sym, ap, _∙_, subst}
+use mathlib.Core.List.{List, []}
+use Prim.Native.Nat.{ℕ, _+_, _*_, _^_, _≤_, _<_}
+use native.Mathlib.Omega.{arith}
+use native.Mathlib.Numerals.{add-one}
+use lib.IntN.{ℤ, pos, natAbs, _+ℤ_}
+use lib.ListN.{getD}
+use Rattle.algebra.specs.Bound.{AtMost}
+use Rattle.algebra.specs.Order.{abs-add}
+use Rattle.algebra.specs.Sums.{sumZ, sumZ-suc}
+use Rattle.sequences.specs.Tab.{tab, length-tab, getD-tab}
+use Rattle.sequences.specs.Grid.{grid, cell, cell-grid, grid-ext}
+use Rattle.geometry.specs.SomeLaws.{every}
+use Rattle.transform.specs.Tables.{side16}
+use Rattle.transform.specs.Recipe.{correctionAt}
+use Rattle.merging.specs.declared.Site.{Site}
+use Rattle.merging.specs.Recipe.{Scene, tileNoise, difference}
+use Rattle.merging.specs.Gather.{summedAt}
+use Rattle.merging.specs.Accepted.{Small}
+use Rattle.merging.specs.Sum.{Summed}
+use Rattle.merging.proofs.Differences.{correction-cong}
+
+-- what holds of the default and of each f k below n holds of each element of the table
+tab-each : {A : Type 0} (P : A → Type 0) (d : A) (f : ℕ → A) (n : ℕ) → P d → ((k : ℕ) → k < n → P (f k)) → (i : ℕ) → P (getD (tab n f) i d)
+tab-each P d f n pd h =
+    every P d (tab n f) pd (λ k l. let below : k < n = omega (arith, length-tab f n) in subst P (sym (getD-tab f d n k below)) (h k below))
+
+module _ (s : Scene) (t : Site) where
+  -- P of the tile for the k-th other frame, and the sum of the first n of these
+  abbrev pub termAt : (k i j : ℕ) → ℤ
+  termAt k = correctionAt side16 (tileNoise s (t .«row_parity») (t .«column_parity») (t .row) (t .column)) (difference s (t .«row_parity») (t .«column_parity») (t .row) (t .column) k)
+
+  abbrev pub partAt : (n i j : ℕ) → ℤ
+  partAt n i j = sumZ n (λ k. termAt k i j)
+
+-- the sum after n of the other frames, up to seven
+pub record Summing (s : Scene) (t : Site) (n : ℕ) (sum : List (List ℤ)) : Type 0 where
+  pub count : n ≤ s .others
+  pub few : s .others ≤ 7
+  pub is : sum ≡ grid 16 16 (partAt s t n)
+  pub most : (i j : ℕ) → i < 16 → j < 16 → natAbs (partAt s t n i j) ≤ n * 2147483648
+
+module _ {s : Scene} {t : Site} where
+  pub sum-start : {sum : List (List ℤ)} → s .others ≤ 7 → sum ≡ grid 16 16 (λ i j. pos 0) → Summing s t 0 sum
+  unfolding sumZ
+  sum-start few e = record { count = omega arith; few = few; is = e; most = λ i j h k. omega arith }
+
+  cell-at : {n : ℕ} {sum : List (List ℤ)} → Summing s t n sum → (i j : ℕ) → i < 16 → j < 16 → cell (pos 0) sum i j ≡ partAt s t n i j
+  cell-at {n} w i j h k = ap (λ x. cell (pos 0) x i j) (w .is) ∙ cell-grid (pos 0) 16 16 (partAt s t n) i j h k
+
+  -- one more frame: d its differences, p their correction, and r the sum with it
+  module _ {n : ℕ} {sum : List (List ℤ)} (w : Summing s t n sum) (h : n < s .others) where
+    pub sum-turn : {noise : ℕ} {d p r : List (List ℤ)} → noise ≡ tileNoise s (t .«row_parity») (t .«column_parity») (t .row) (t .column)
+        → d ≡ grid 16 16 (difference s (t .«row_parity») (t .«column_parity») (t .row) (t .column) n)
+        → p ≡ grid 16 16 (correctionAt side16 noise (cell (pos 0) d))
+        → r ≡ grid 16 16 (λ i j. cell (pos 0) sum i j +ℤ cell (pos 0) p i j)
+        → ((i j : ℕ) → i < 16 → j < 16 → natAbs (cell (pos 0) p i j) ≤ 2147483648)
+        → Summing s t (n + 1) r
+    unfolding side16
+    sum-turn {noise} {d} {p} {r} v de pe re small =
+        record {
+          count = omega arith;
+          few = w .few;
+          is = re ∙ grid-ext 16 16 _ _ next;
+          most = λ i j k l. subst (λ z. natAbs z ≤ (n + 1) * 2147483648) (next i j k l) (omega (arith, abs-add (cell (pos 0) sum i j) (cell (pos 0) p i j), small i j k l, ap natAbs (cell-at w i j k l), w .most i j k l));
+        }
+      where
+        term : (i j : ℕ) → i < 16 → j < 16 → cell (pos 0) p i j ≡ termAt s t n i j
+        term i j k l =
+            ap (λ x. cell (pos 0) x i j) pe
+            ∙ cell-grid (pos 0) 16 16 _ i j k l
+            ∙ ap (λ m. correctionAt side16 m (cell (pos 0) d) i j) v
+            ∙ correction-cong side16 (cell (pos 0) d) _ (λ y x g f. ap (λ z. cell (pos 0) z y x) de ∙ cell-grid (pos 0) 16 16 _ y x g f) _ i j
+
+        next : (i j : ℕ) → i < 16 → j < 16 → cell (pos 0) sum i j +ℤ cell (pos 0) p i j ≡ partAt s t (n + 1) i j
+        next i j k l = rw (cell-at w i j k l, term i j k l, add-one n, sumZ-suc)
+
+  pub sum-small : {n : ℕ} {sum : List (List ℤ)} → Summing s t n sum → (i : ℕ) → Small (getD sum i [])
+  unfolding grid
+  sum-small {n} {sum} w i =
+      rw (w .is)
+      (tab-each Small [] (λ i. tab 16 (partAt s t n i)) 16 (record { most = λ j. record { most = omega arith } })
+      (λ u h. record { most = tab-each (AtMost (2 ^ 40)) (pos 0) (partAt s t n u) 16 (record { most = omega arith }) (λ j k. record { most = omega (arith, w .most u j h k, w .few, w .count) }) }) i)
+
+  pub sum-done : {n : ℕ} {sum : List (List ℤ)} → Summing s t n sum → s .others ≤ n → Summed s t sum
+  unfolding summedAt
+  sum-done {n} {sum} w h =
+      let e : n ≡ s .others = omega (arith, w .count) in
+      record {
+        is = w .is ∙ ap (λ m. grid 16 16 (partAt s t m)) e;
+        most = λ i j k l. subst (λ m. natAbs (partAt s t m i j) ≤ 2 ^ 34) e (omega (arith, w .most i j k l, w .few));
+      }

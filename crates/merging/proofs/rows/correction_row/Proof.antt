@@ -1,0 +1,85 @@
+-- A tile a turn, each at its place of the row.
+use mathlib.Core.Path.{_≡_, ap, _∙_}
+use Prim.Native.Nat.{_+_, _-_, _*_, _/_, _≤_}
+use native.Mathlib.Omega.{arith}
+use lib.ListN.{length}
+use borrow.Author.Needs.{needs}
+use Rattle.sequences.specs.Write.{written}
+use Rattle.merging.specs.Recipe.{sceneOf}
+use Rattle.merging.specs.Work.{rowWords, slotOf}
+use Rattle.merging.proofs.Storing.{Storing, store-start, store-turn, store-done}
+use Rattle.merging.proofs.rows.correction_row.Statement.{statement}
+use Rattle.merging.proofs.rows.correction_row.Tie as tie
+
+abbrev Inv-loop : tie.InvT-loop
+Inv-loop m samples vectors plane row work₀ width start column₀ column-end work column = Storing (sceneOf m samples vectors) plane row work₀ column work
+
+abbrev μ-loop : tie.MeasureT-loop
+μ-loop m samples vectors plane row work₀ width start column₀ column-end work column = column-end - column
+
+slot-requires : tie.Need-slot-requires Inv-loop μ-loop
+slot-requires c κs = search needs
+
+add-column-end : tie.Need-add-column-end Inv-loop μ-loop
+add-column-end c = search needs
+
+loop-holds : tie.Need-loop-holds Inv-loop μ-loop
+unfolding sceneOf
+loop-holds c = store-start (omega (arith, c .slot .ensures))
+
+tile-correction-requires : tie.Need-tile-correction-requires Inv-loop μ-loop
+tile-correction-requires c κs =
+    let s = c .before .before .before .before in
+    (s .pre .0, record { row-parity = s .pre .1 .row-parity; column-parity = s .pre .1 .column-parity; row = s .pre .2; column = omega arith })
+
+mul-store-tile : tie.Need-mul-store-tile Inv-loop μ-loop
+mul-store-tile c = search needs
+
+add-store-tile : tie.Need-add-store-tile Inv-loop μ-loop
+unfolding rowWords
+add-store-tile c = omega arith
+
+store-tile-requires : tie.Need-store-tile-requires Inv-loop μ-loop
+unfolding sceneOf
+store-tile-requires c κs =
+    let l = c .before .before .before in
+    let w = l .loop .inv .writing in
+    omega (arith, l .before .slot .ensures .0, w .room, w .same)
+
+add-column : tie.Need-add-column Inv-loop μ-loop
+add-column c = search needs
+
+loop-less : tie.Need-loop-less Inv-loop μ-loop
+loop-less c = omega arith
+
+loop-again : tie.Need-loop-again Inv-loop μ-loop
+unfolding sceneOf
+loop-again c =
+    let l = c .before .before .before .before .before in
+    store-turn (l .loop .inv) (omega arith) (c .before .before .before .tile-correction .ensures) (rw (l .before .slot .ensures .0) at (c .before .store-tile .ensures))
+
+same-length : tie.Need-same-length Inv-loop μ-loop
+same-length c = search needs
+
+returns : tie.Need-returns Inv-loop μ-loop
+unfolding sceneOf
+returns c = store-done (c .before .loop .inv) (omega arith)
+
+pub correction-row-spec : {M : Type 1} → statement M
+correction-row-spec =
+    tie.close
+    (tie.spec
+    Inv-loop
+    μ-loop
+    slot-requires
+    add-column-end
+    loop-holds
+    tile-correction-requires
+    mul-store-tile
+    add-store-tile
+    store-tile-requires
+    add-column
+    loop-less
+    loop-again
+    same-length
+    returns)

@@ -1,0 +1,48 @@
+-- T0 has its root and its noise number, which is in range.
+use mathlib.Core.Path.{_≡_, ap, _∙_}
+use mathlib.Core.List.{List}
+use Prim.Native.Nat.{ℕ, _≤_}
+use lib.IntN.{ℤ, pos}
+use borrow.Author.Needs.{needs}
+use Rattle.sequences.specs.Grid.{grid, cell, cell-grid}
+use Rattle.geometry.specs.Read.{sampleAt}
+use Rattle.noise.specs.NoiseNumber.{tileRoot, noiseNumber}
+use Rattle.noise.specs.NoiseNumberLaws.{tile-root-cong, tile-root-bound, noise-number-bound}
+use Rattle.merging.specs.declared.Merge.{Merge}
+use Rattle.merging.specs.declared.Site.{Site}
+use Rattle.merging.specs.Recipe.{sceneOf, tileAt, referenceTile, tileNoise}
+use Rattle.merging.specs.Accepted.{Accepted}
+use Rattle.merging.specs.Sum.{TileOf}
+use Rattle.merging.proofs.Differences.{reference-most}
+use Rattle.merging.proofs.tiles.tile_correction.Statement.{statement}
+use Rattle.merging.proofs.tiles.tile_correction.Tie as tie
+
+module _ {m : Merge} {samples : List ℕ} {vectors : List ℤ} (ok : Accepted m samples vectors) (t : Site) where
+  noise-most : tileNoise (sceneOf m samples vectors) (t .«row_parity») (t .«column_parity») (t .row) (t .column) ≤ 279105765376
+  unfolding tileNoise sceneOf
+  noise-most = noise-number-bound (ok .strength-most) (ok .shot-most) (ok .read-most) (tile-root-bound 16 4095 _ (λ i j _ _. reference-most m vectors (ok .samples-fit) (t .«row_parity») (t .«column_parity») (t .row) (t .column) i j))
+
+  tile-of : {t0 : List (List ℕ)} {noise : ℕ} → t0 ≡ grid 16 16 (tileAt (m .shape .height) (m .shape .width) (t .«row_parity») (t .«column_parity») (sampleAt (m .shape) samples (m .reference)) (pos 0) (pos 0) (t .row) (t .column))
+      → noise ≡ noiseNumber (m .strength) (m .shot) (m .read) (tileRoot 16 (cell 0 t0)) → TileOf (sceneOf m samples vectors) t t0 noise
+  unfolding referenceTile tileNoise sceneOf
+  tile-of {t0} {noise} e v = record { is = e; number = number; most = rw number noise-most }
+    where
+      number : noise ≡ tileNoise (sceneOf m samples vectors) (t .«row_parity») (t .«column_parity») (t .row) (t .column)
+      number = v ∙ ap (noiseNumber (m .strength) (m .shot) (m .read)) (tile-root-cong 16 _ _ (λ i j h k. ap (λ x. cell 0 x i j) e ∙ cell-grid 0 16 16 _ i j h k))
+
+tile-requires : tie.Need-tile-requires
+tile-requires c κs = search needs
+
+tile-noise-requires : tie.Need-tile-noise-requires
+tile-noise-requires c κs = search needs
+
+corrections-requires : tie.Need-corrections-requires
+corrections-requires c κs =
+    let s = c .before .before .before .before in
+    (s .pre .0, s .pre .1, tile-of (s .pre .0) (s .args .site) (c .before .tile .ensures) (c .tile-noise .ensures))
+
+returns : tie.Need-returns
+returns c = search needs
+
+pub tile-correction-spec : {M : Type 1} → statement M
+tile-correction-spec = tie.close (tie.spec tile-requires tile-noise-requires corrections-requires returns)

@@ -1,0 +1,20 @@
+-- A tile's corrections on the way to their sum.
+use mathlib.Core.Path.{_≡_}
+use mathlib.Core.List.{List}
+use Prim.Native.Nat.{ℕ, _^_, _≤_, _<_}
+use lib.IntN.{ℤ, natAbs}
+use Rattle.sequences.specs.Grid.{grid}
+use Rattle.merging.specs.declared.Site.{Site}
+use Rattle.merging.specs.Recipe.{Scene, referenceTile, tileNoise}
+use Rattle.merging.specs.Gather.{summedAt}
+
+-- t0 is the reference tile, and `noise` its noise number
+pub record TileOf (s : Scene) (t : Site) (t0 : List (List ℕ)) (noise : ℕ) : Type 0 where
+  pub is : t0 ≡ grid 16 16 (referenceTile s (t .«row_parity») (t .«column_parity») (t .row) (t .column))
+  pub number : noise ≡ tileNoise s (t .«row_parity») (t .«column_parity») (t .row) (t .column)
+  pub most : noise ≤ 279105765376
+
+-- r is the sum of its corrections over the other frames
+pub record Summed (s : Scene) (t : Site) (r : List (List ℤ)) : Type 0 where
+  pub is : r ≡ grid 16 16 (summedAt s (t .«row_parity») (t .«column_parity») (t .row) (t .column))
+  pub most : (i j : ℕ) → i < 16 → j < 16 → natAbs (summedAt s (t .«row_parity») (t .«column_parity») (t .row) (t .column) i j) ≤ 2 ^ 34

@@ -1,0 +1,36 @@
+-- Rows of correction tiles in the work area: two of them, each of 256 words a tile.
+use mathlib.Core.Path.{_≡_}
+use mathlib.Core.List.{List}
+use Prim.Native.Nat.{ℕ, _+_, _*_, _/_, _%_, _^_, _≤_, _<_}
+use lib.IntN.{ℤ, pos, natAbs}
+use lib.ListN.{length, getD}
+use Rattle.sequences.specs.Write.{written}
+use Rattle.merging.specs.declared.Plane.{Plane}
+use Rattle.merging.specs.Recipe.{Scene}
+use Rattle.merging.specs.Gather.{summedAt}
+
+-- a row of a plane's tiles takes so many words, and starts here
+unfoldable pub rowWords : (width : ℕ) → ℕ
+rowWords width = 256 * (width / 16 + 1)
+
+unfoldable pub slotOf : (width row : ℕ) → ℕ
+slotOf width row = row % 2 * rowWords width
+
+-- word k of the row: the summed corrections of one tile after the other, each row by row
+unfoldable pub rowWord : Scene → Plane → (row k : ℕ) → ℤ
+rowWord s p row k = summedAt s (p .«row_parity») (p .«column_parity») row (k / 256) (k % 256 / 16) (k % 16)
+
+-- n words from `at` on that are small enough to be weighed and added
+pub record Words (work : List ℤ) (at n : ℕ) : Type 0 where
+  pub room : at + n ≤ length work
+  pub most : (k : ℕ) → k < n → natAbs (getD work (at + k) (pos 0)) ≤ 2 ^ 34
+
+-- the work area holds a row of tiles
+pub record Held (s : Scene) (p : Plane) (row : ℕ) (work : List ℤ) : Type 0 where
+  pub words : Words work (slotOf (s .width) row) (rowWords (s .width))
+  pub is : (k : ℕ) → k < rowWords (s .width) → getD work (slotOf (s .width) row + k) (pos 0) ≡ rowWord s p row k
+
+-- l is d with a row of tiles stored
+pub record Stored (s : Scene) (p : Plane) (row : ℕ) (d l : List ℤ) : Type 0 where
+  pub is : l ≡ written d (slotOf (s .width) row) (rowWord s p row) (rowWords (s .width))
+  pub most : (k : ℕ) → k < rowWords (s .width) → natAbs (rowWord s p row k) ≤ 2 ^ 34

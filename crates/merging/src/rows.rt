@@ -1,0 +1,57 @@
+// Rows of correction tiles in the work area: 256 words a tile, and a place for a row of either parity.
+ghost use mathlib.Core.Path.{_≡_};
+ghost use Prim.Native.Nat.{_+_, _*_, _/_, _%_, _≤_};
+ghost use lib.IntN.{pos};
+ghost use lib.ListN.{length};
+ghost use Rattle.sequences.specs.Grid.{cell};
+ghost use Rattle.sequences.specs.Write.{written};
+ghost use Rattle.merging.specs.Recipe.{sceneOf};
+ghost use Rattle.merging.specs.Accepted.{Accepted, Planar};
+ghost use Rattle.merging.specs.Work.{rowWords, slotOf, Stored};
+use crate::Merge;
+use crate::Plane;
+use crate::Site;
+use crate::tiles::tile_correction;
+
+fn store_tile(work: &mut [i64], at: usize, tile: [[i64; 16]; 16])
+    requires { ⌜ at + 256 ≤ length (now work) ⌝ }
+    ensures { λ _. ⌜ now (work .exit) ≡ written (now (work .entry)) at (λ k. cell (pos 0) tile (k / 16) (k % 16)) 256 ⌝ }
+{
+    for k in 0..256 {
+        work[at + k] = tile[k / 16][k % 16];
+    }
+}
+
+// Where a row of tiles starts.
+pub fn slot(width: usize, row: usize) -> usize
+    requires { ⌜ width ≤ 4096 ⌝ }
+    ensures { λ r. ⌜ (r ≡ slotOf width row) × (r ≤ rowWords width) ⌝ }
+{
+    row % 2 * (256 * (width / 16 + 1))
+}
+
+// The corrections of each tile of a row.
+pub fn correction_row(
+    m: Merge,
+    samples: &[u16],
+    vectors: &[i32],
+    plane: Plane,
+    row: usize,
+    work: &mut [i64],
+)
+    requires { ⌜ (Accepted m (now samples) (now vectors)) × (Planar plane) × (row ≤ m .shape .height / 16) × (2 * rowWords (m .shape .width) ≤ length (now work)) ⌝ }
+    ensures { λ _. ⌜ Stored (sceneOf m (now (samples .entry)) (now (vectors .entry))) plane row (now (work .entry)) (now (work .exit)) ⌝ }
+{
+    let width = m.shape.width;
+    let start = slot(width, row);
+    for column in 0..width / 16 + 1 {
+        let site = Site {
+            row_parity: plane.row_parity,
+            column_parity: plane.column_parity,
+            row,
+            column,
+        };
+        let tile = tile_correction(m, samples, vectors, site);
+        store_tile(&mut *work, start + 256 * column, tile);
+    }
+}
