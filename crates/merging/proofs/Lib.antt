@@ -1,5 +1,6 @@
-pub mod Widen
+pub mod Signed
 pub mod Places
 pub mod Differences
 pub mod Summing
 pub mod Storing
+pub mod Weights

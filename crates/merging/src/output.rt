@@ -1,10 +1,40 @@
 // The output: the corrections of the four tiles over a sample, windowed, and the sample less their sum.
 ghost use mathlib.Core.Path.{_≡_};
-ghost use Prim.Native.Nat.{_≤_, _^_};
-ghost use lib.IntN.{pos, natAbs};
+ghost use Prim.Native.Nat.{_+_, _*_, _/_, _%_, _≤_, _<_, _^_};
+ghost use lib.IntN.{pos, natAbs, _*ℤ_};
+ghost use lib.ListN.{length, getD};
 ghost use Rattle.algebra.specs.Bound.{AtMost};
 ghost use Rattle.algebra.specs.Clamp.{clampZ};
-ghost use Rattle.merging.specs.Gather.{corrected};
+ghost use Rattle.geometry.specs.Shape.{outputLength};
+ghost use Rattle.geometry.specs.Read.{Sampled, sampleAt, planeOf};
+ghost use Rattle.transform.specs.Tables.{windows, window16};
+ghost use Rattle.merging.specs.Gather.{corrected, windowed, wordOver};
+ghost use Rattle.merging.specs.Accepted.{Planar};
+ghost use Rattle.merging.specs.Strided.{strided};
+ghost use Rattle.merging.specs.Work.{rowWords, slotOf, Words};
+use crate::Plane;
+use crate::rows::slot;
+use geometry::Shape;
+
+// w(0..15)
+const WINDOW: [u64; 16] = [
+    39,
+    345,
+    910,
+    1648,
+    2448,
+    3186,
+    3751,
+    4057,
+    4057,
+    3751,
+    3186,
+    2448,
+    1648,
+    910,
+    345,
+    39,
+];
 
 // Held to 0..4095.
 fn held(z: i64) -> u16
@@ -26,4 +56,33 @@ fn corrected(t0: u16, sum: i64, count: u64) -> u16
 {
     let whole = 4294967296 * count;
     held(rounding::round_up(t0 as i64 * whole as i64 - sum, whole))
+}
+
+// The product of two windows.
+fn weight(window: &[u64; 16], i: usize, j: usize) -> i64
+    requires { ⌜ (now window ≡ windows) × (i < 16) × (j < 16) ⌝ }
+    ensures { λ r. ⌜ (r ≡ pos (window16 i * window16 j)) × (AtMost (2 ^ 24) r) ⌝ }
+{
+    (window[i] * window[j]) as i64
+}
+
+// What a tile has at its row i and column j, weighed. Its row of tiles starts at `start`.
+fn part(work: &[i64], window: &[u64; 16], start: usize, column: usize, i: usize, j: usize) -> i64
+    requires { ⌜ (Words (now work) start (256 * (column + 1))) × (now window ≡ windows) × (i < 16) × (j < 16) ⌝ }
+    ensures { λ r. ⌜ (r ≡ pos (window16 i * window16 j) *ℤ getD (now (work .entry)) (start + (256 * column + (16 * i + j))) (pos 0)) × (AtMost (2 ^ 58) r) ⌝ }
+{
+    weight(window, i, j) * work[start + (256 * column + (16 * i + j))]
+}
+
+// What the four tiles over a sample have at it, windowed and added: the sample at column x, and at row i of the lower tiles.
+fn windowed(work: &[i64], window: &[u64; 16], above: usize, below: usize, i: usize, x: usize) -> i64
+    requires { ⌜ (Words (now work) above (256 * (x / 8 + 2))) × (Words (now work) below (256 * (x / 8 + 2))) × (now window ≡ windows) × (i < 8) ⌝ }
+    ensures { λ r. ⌜ (r ≡ windowed i (x % 8) (wordOver (now (work .entry)) above below i x)) × (AtMost (2 ^ 60) r) ⌝ }
+{
+    let j = x % 8;
+    let column = x / 8;
+    part(work, window, below, column + 1, i, j)
+        + part(work, window, below, column, i, j + 8)
+        + part(work, window, above, column + 1, i + 8, j)
+        + part(work, window, above, column, i + 8, j + 8)
 }

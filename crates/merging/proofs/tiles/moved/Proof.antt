@@ -1,30 +1,30 @@
 -- An origin and a vector's part are small.
-use mathlib.Core.Path.{ap, _∙_}
+use mathlib.Core.Path.{_≡_, ap, ap₂, _∙_}
 use native.Mathlib.Omega.{arith}
 use lib.IntN.{_+ℤ_}
-use mir.Syntax.{w64}
-use mir.Val.{SFits}
+use mir.Syntax.{w32, w64}
+use mir.Val.{toZ, ofZ}
+use mir.Facts.{toZ-ofZ}
 use borrow.Author.Needs.{needs}
 use Rattle.algebra.specs.Bound.{add-most, most-fits}
-use Rattle.merging.proofs.Widen.{term-fits, raw-fits, raw-back}
+use Rattle.merging.proofs.Signed.{sum-is, sum-most, wide-fits, wide-most}
 use Rattle.merging.proofs.tiles.moved.Statement.{statement}
 use Rattle.merging.proofs.tiles.moved.Tie as tie
 
 origin-requires : tie.Need-origin-requires
 origin-requires c κs = search needs
 
-origin-fits : (c : tie.After-origin) → SFits w64 (c .origin .result)
-origin-fits c = most-fits w64 _ 65552 (c .origin .ensures .1) tt
-
 cast-result : tie.Need-cast-result
-cast-result c = term-fits (origin-fits c) (c .before .fits .part)
+cast-result c = wide-fits (c .before .fits .part)
 
 add-result : tie.Need-add-result
-add-result c = raw-fits (origin-fits c) (c .before .fits .part) 65552 (c .origin .ensures .1) tt
+add-result c = most-fits w64 _ _ (sum-most (c .origin .ensures .1) (wide-most (c .before .fits .part)) tt tt) tt
 
 returns : tie.Need-returns
 returns c =
-    let back = raw-back (origin-fits c) (c .before .fits .part) 65552 (c .origin .ensures .1) tt in
+    let part = c .before .fits .part in
+    let back : toZ w64 (ofZ w64 (toZ w64 (ofZ w64 (c .origin .result)) +ℤ toZ w64 (ofZ w64 (toZ w32 (ofZ w32 (c .before .args .part)))))) ≡ c .origin .result +ℤ c .before .args .part =
+    toZ-ofZ (add-result c) ∙ sum-is (c .origin .ensures .1) (wide-most part) tt tt ∙ ap (λ z. c .origin .result +ℤ z) (toZ-ofZ part) in
     (back ∙ ap (λ z. z +ℤ c .before .args .part) (c .origin .ensures .0), rw back (record { near = omega (arith, add-most (c .origin .ensures .1) (c .before .pre .1) .most) }))
 
 pub moved-spec : {M : Type 1} → statement M

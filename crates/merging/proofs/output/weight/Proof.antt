@@ -1,0 +1,58 @@
+-- Windows are at most 4096.
+use mathlib.Core.Path.{_≡_, ap, _∙_}
+use Prim.Native.Nat.{_*_, _≤_}
+use native.Mathlib.Omega.{arith}
+use lib.IntN.{pos}
+use lib.ListN.{getD}
+use denote.Ref.{now}
+use mir.Syntax.{w64}
+use mir.Val.{toZ}
+use mir.Facts.{toZ-pos}
+use borrow.Author.Needs.{needs}
+use Rattle.transform.specs.Tables.{window16}
+use Rattle.merging.proofs.Weights.{weight-most}
+use Rattle.merging.proofs.output.weight.Statement.{statement}
+use Rattle.merging.proofs.output.weight.Tie as tie
+
+weight-is : (c : tie.Start) → getD (now (c .args .window)) (c .args .i) 0 * getD (now (c .args .window)) (c .args .j) 0 ≡ window16 (c .args .i) * window16 (c .args .j)
+unfolding window16
+weight-is c = rw (c .pre .0)
+
+small : (c : tie.Start) → getD (now (c .args .window)) (c .args .i) 0 * getD (now (c .args .window)) (c .args .j) 0 ≤ 16777216
+small c = rw (weight-is c) (weight-most (c .args .i) (c .args .j) (c .pre .1) (c .pre .2))
+
+mul-result : tie.Need-mul-result
+mul-result c = search needs
+
+element-copy-out-result : tie.Need-element-copy-out-result
+element-copy-out-result c = search needs
+
+mul-result-2 : tie.Need-mul-result-2
+mul-result-2 c = search needs
+
+element-copy-out-result-2 : tie.Need-element-copy-out-result-2
+element-copy-out-result-2 c = search needs
+
+mul-result-3 : tie.Need-mul-result-3
+mul-result-3 c = omega (arith, small (c .before .before))
+
+cast-result : tie.Need-cast-result
+cast-result c = record { sfits = omega (arith, small (c .before .before)) }
+
+returns : tie.Need-returns
+returns c =
+    let s = c .before .before in
+    let e : toZ w64 (getD (now (s .args .window)) (s .args .i) 0 * getD (now (s .args .window)) (s .args .j) 0) ≡ pos (window16 (s .args .i) * window16 (s .args .j)) = toZ-pos w64 (omega (arith, small s)) ∙ ap pos (weight-is s) in
+    (e, rw e (record { most = weight-most (s .args .i) (s .args .j) (s .pre .1) (s .pre .2) }))
+
+pub weight-spec : {M : Type 1} → statement M
+weight-spec =
+    tie.close
+    (tie.spec
+    mul-result
+    element-copy-out-result
+    mul-result-2
+    element-copy-out-result-2
+    mul-result-3
+    cast-result
+    returns)

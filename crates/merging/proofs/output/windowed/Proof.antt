@@ -1,0 +1,93 @@
+-- Four terms, each far below 2^63, in the definition's order.
+use mathlib.Core.Path.{ap, _∙_}
+use Prim.Native.Nat.{_+_, _^_}
+use native.Mathlib.Omega.{arith}
+use lib.IntN.{_+ℤ_}
+use denote.Ref.{now}
+use mir.Syntax.{w64}
+use mir.Facts.{toZ-ofZ}
+use borrow.Author.Needs.{needs}
+use Rattle.algebra.specs.Bound.{AtMost, most-fits}
+use Rattle.merging.proofs.Signed.{plus64, sum-is, sum-most}
+use Rattle.merging.proofs.Weights.{words-fewer, windowed-four}
+use Rattle.merging.proofs.output.windowed.Statement.{statement}
+use Rattle.merging.proofs.output.windowed.Tie as tie
+
+most-2 : (c : tie.After-part2) → AtMost (2 ^ 59) (plus64 (c .before .part .result) (c .part2 .result))
+most-2 c = sum-most (c .before .part .ensures .1) (c .part2 .ensures .1) tt tt
+
+most-3 : (c : tie.After-part3) → AtMost (2 ^ 59 + 2 ^ 58) (plus64 (plus64 (c .before .before .part .result) (c .before .part2 .result)) (c .part3 .result))
+most-3 c = sum-most (most-2 (c .before)) (c .part3 .ensures .1) tt tt
+
+most-4 : (c : tie.After-part4) → AtMost (2 ^ 60) (plus64 (plus64 (plus64 (c .before .before .before .part .result) (c .before .before .part2 .result)) (c .before .part3 .result)) (c .part4 .result))
+most-4 c = sum-most (most-3 (c .before)) (c .part4 .ensures .1) tt tt
+
+add-part : tie.Need-add-part
+add-part c = search needs
+
+part-requires : tie.Need-part-requires
+part-requires c κs = (words-fewer _ (c .pre .1) (omega arith), c .pre .2, omega arith, omega arith)
+
+add-part-2 : tie.Need-add-part-2
+add-part-2 c = search needs
+
+part-requires-2 : tie.Need-part-requires-2
+part-requires-2 c κs = (words-fewer _ (c .before .pre .1) (omega arith), c .before .pre .2, omega arith, omega arith)
+
+add-result : tie.Need-add-result
+add-result c = most-fits w64 _ _ (most-2 c) tt
+
+add-part-3 : tie.Need-add-part-3
+add-part-3 c = search needs
+
+add-part-4 : tie.Need-add-part-4
+add-part-4 c = search needs
+
+part-requires-3 : tie.Need-part-requires-3
+part-requires-3 c κs = (words-fewer _ (c .before .before .pre .0) (omega arith), c .before .before .pre .2, omega arith, omega arith)
+
+add-result-2 : tie.Need-add-result-2
+add-result-2 c = most-fits w64 _ _ (most-3 c) tt
+
+add-part-5 : tie.Need-add-part-5
+add-part-5 c = search needs
+
+add-part-6 : tie.Need-add-part-6
+add-part-6 c = search needs
+
+part-requires-4 : tie.Need-part-requires-4
+part-requires-4 c κs = (words-fewer _ (c .before .before .before .pre .0) (omega arith), c .before .before .before .pre .2, omega arith, omega arith)
+
+add-result-3 : tie.Need-add-result-3
+add-result-3 c = most-fits w64 _ _ (most-4 c) tt
+
+returns : tie.Need-returns
+returns c =
+    let p = c .before .before .before .part in
+    let p2 = c .before .before .part2 in
+    let p3 = c .before .part3 in
+    let a = c .before .before .before .before .args in
+    let back = toZ-ofZ (add-result-3 c) in
+    let sum =
+    sum-is (most-3 (c .before)) (c .part4 .ensures .1) tt tt
+    ∙ ap (λ z. z +ℤ c .part4 .result) (sum-is (most-2 (c .before .before)) (p3 .ensures .1) tt tt ∙ ap (λ z. z +ℤ p3 .result) (sum-is (p .ensures .1) (p2 .ensures .1) tt tt)) in
+    (back ∙ sum ∙ windowed-four (now (a .work)) (a .above) (a .below) (a .i) (a .x) (p .ensures .0) (p2 .ensures .0) (p3 .ensures .0) (c .part4 .ensures .0), rw back (most-4 c))
+
+pub windowed-spec : {M : Type 1} → statement M
+windowed-spec =
+    tie.close
+    (tie.spec
+    add-part
+    part-requires
+    add-part-2
+    part-requires-2
+    add-result
+    add-part-3
+    add-part-4
+    part-requires-3
+    add-result-2
+    add-part-5
+    add-part-6
+    part-requires-4
+    add-result-3
+    returns)
