@@ -1,5 +1,5 @@
 -- A list with every second word of a part written over, and lists that only get nearer to what they should hold.
-use mathlib.Core.Path.{_≡_, refl, sym, ap, _∙_, subst}
+use mathlib.Core.Path.{_≡_, refl, ap, _∙_}
 use mathlib.Core.List.{List}
 use Prim.Native.Nat.{ℕ, zero, suc, _+_, _*_, _≤_, _<_}
 use native.Mathlib.Numerals.{add-one}
@@ -16,18 +16,28 @@ strided l at f zero = l
 strided l at f (suc n) = set (strided l at f n) (at + 2 * n) (f n)
 
 module _ {A : Type 0} (l : List A) (at : ℕ) (f : ℕ → A) where
-  pub strided-none : l ≡ strided l at f 0
-  unfolding strided
-  strided-none = refl
-
-  pub strided-more : {n : ℕ} {r : List A} {v : A} → r ≡ strided l at f n → v ≡ f n → set r (at + 2 * n) v ≡ strided l at f (n + 1)
-  unfolding strided
-  strided-more {n} e k = rw (add-one n, e, k)
-
   pub strided-length : (n : ℕ) → length (strided l at f n) ≡ length l
   unfolding strided
   strided-length zero = refl
   strided-length (suc n) = length-set (strided l at f n) (at + 2 * n) (f n) ∙ strided-length n
+
+-- r is l after x of the n stores: a loop's invariant
+pub record Striding {A : Type 0} (l : List A) (at : ℕ) (f : ℕ → A) (n x : ℕ) (r : List A) : Type 0 where
+  pub count : x ≤ n
+  pub same : length r ≡ length l
+  pub is : r ≡ strided l at f x
+
+module _ {A : Type 0} {l : List A} {at : ℕ} {f : ℕ → A} {n : ℕ} where
+  pub stride-start : Striding l at f n 0 l
+  unfolding strided
+  stride-start = record { count = omega arith; same = refl; is = refl }
+
+  pub stride-turn : {x : ℕ} {r : List A} {v : A} → Striding l at f n x r → x < n → v ≡ f x → Striding l at f n (x + 1) (set r (at + 2 * x) v)
+  unfolding strided
+  stride-turn {x} {r} {v} w h e = record { count = omega arith; same = length-set r (at + 2 * x) v ∙ w .same; is = rw (add-one x, w .is, e) }
+
+  pub stride-done : {x : ℕ} {r : List A} → Striding l at f n x r → n ≤ x → r ≡ strided l at f n
+  stride-done {x} w h = let e : x ≡ n = omega (arith, w .count) in w .is ∙ ap (strided l at f) e
 
 -- m is as long as l, and has the word g k at each place k where l has it
 pub record Toward {A : Type 0} (z : A) (g : ℕ → A) (l m : List A) : Type 0 where

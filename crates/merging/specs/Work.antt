@@ -5,9 +5,12 @@ use Prim.Native.Nat.{ℕ, _+_, _*_, _/_, _%_, _^_, _≤_, _<_}
 use lib.IntN.{ℤ, pos, natAbs}
 use lib.ListN.{length, getD}
 use Rattle.sequences.specs.Write.{written}
+use Rattle.geometry.specs.declared.Shape.{Shape}
+use Rattle.geometry.specs.Read.{Sampled, sampleAt, planeOf}
 use Rattle.merging.specs.declared.Plane.{Plane}
 use Rattle.merging.specs.Recipe.{Scene}
-use Rattle.merging.specs.Gather.{summedAt}
+use Rattle.merging.specs.Gather.{summedAt, windowed, corrected, wordOver}
+use Rattle.merging.specs.Accepted.{Planar}
 
 -- a row of a plane's tiles takes so many words, and starts here
 unfoldable pub rowWords : (width : ℕ) → ℕ
@@ -34,3 +37,17 @@ pub record Held (s : Scene) (p : Plane) (row : ℕ) (work : List ℤ) : Type 0 w
 pub record Stored (s : Scene) (p : Plane) (row : ℕ) (d l : List ℤ) : Type 0 where
   pub is : l ≡ written d (slotOf (s .width) row) (rowWord s p row) (rowWords (s .width))
   pub most : (k : ℕ) → k < rowWords (s .width) → natAbs (rowWord s p row k) ≤ 2 ^ 34
+
+-- the output's word at row y and column x of a plane, from the rows of tiles in the work area
+unfoldable pub outputWord : Shape → (reference : ℕ) (samples : List ℕ) (work : List ℤ) → Plane → (y x : ℕ) → ℕ
+outputWord s reference samples work p y x =
+    natAbs (corrected (planeOf (sampleAt s samples reference) (p .«row_parity») (p .«column_parity») y x) (windowed (y % 8) (x % 8) (wordOver work (slotOf (s .width) (y / 8)) (slotOf (s .width) (y / 8 + 1)) (y % 8) x)) (s .count))
+
+-- what it is worked out from
+pub record Ready (s : Shape) (reference : ℕ) (samples : List ℕ) (work : List ℤ) (p : Plane) (y : ℕ) : Type 0 where
+  pub sampled : Sampled s samples
+  pub reference-below : reference < s .count
+  pub planar : Planar p
+  pub row : y < s .height / 2
+  pub above : Words work (slotOf (s .width) (y / 8)) (rowWords (s .width))
+  pub below : Words work (slotOf (s .width) (y / 8 + 1)) (rowWords (s .width))

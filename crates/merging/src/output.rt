@@ -6,12 +6,10 @@ ghost use lib.ListN.{length, getD};
 ghost use Rattle.algebra.specs.Bound.{AtMost};
 ghost use Rattle.algebra.specs.Clamp.{clampZ};
 ghost use Rattle.geometry.specs.Shape.{outputLength};
-ghost use Rattle.geometry.specs.Read.{Sampled, sampleAt, planeOf};
 ghost use Rattle.transform.specs.Tables.{windows, window16};
 ghost use Rattle.merging.specs.Gather.{corrected, windowed, wordOver};
-ghost use Rattle.merging.specs.Accepted.{Planar};
 ghost use Rattle.merging.specs.Strided.{strided};
-ghost use Rattle.merging.specs.Work.{rowWords, slotOf, Words};
+ghost use Rattle.merging.specs.Work.{Words, outputWord, Ready};
 use crate::Plane;
 use crate::rows::slot;
 use geometry::Shape;
@@ -85,4 +83,36 @@ fn windowed(work: &[i64], window: &[u64; 16], above: usize, below: usize, i: usi
         + part(work, window, below, column, i, j + 8)
         + part(work, window, above, column + 1, i + 8, j)
         + part(work, window, above, column, i + 8, j + 8)
+}
+
+// One row of a plane's output.
+pub fn output_row(
+    shape: Shape,
+    reference: usize,
+    samples: &[u16],
+    plane: Plane,
+    y: usize,
+    work: &[i64],
+    output: &mut [u16],
+)
+    requires { ⌜ (Ready shape reference (now samples) (now work) plane y) × (length (now output) ≡ outputLength shape) ⌝ }
+    ensures { λ _. ⌜ now (output .exit) ≡ strided (now (output .entry)) ((2 * y + plane .«row_parity») * shape .width + plane .«column_parity») (outputWord shape reference (now (samples .entry)) (now (work .entry)) plane y) (shape .width / 2) ⌝ }
+{
+    let width = shape.width;
+    let above = slot(width, y / 8);
+    let below = slot(width, y / 8 + 1);
+    let window = WINDOW;
+    let row = 2 * y + plane.row_parity;
+    let start = row * width + plane.column_parity;
+    for x in 0..width / 2 {
+        let sum = windowed(work, &window, above, below, y % 8, x);
+        let t0 = geometry::read::sample_at(
+            shape,
+            samples,
+            reference,
+            row,
+            2 * x + plane.column_parity,
+        );
+        output[start + 2 * x] = corrected(t0, sum, shape.count as u64);
+    }
 }
