@@ -4,3 +4,6 @@ pub mod Differences
 pub mod Summing
 pub mod Storing
 pub mod Weights
+pub mod Holding
+pub mod Advance
+pub mod Bands

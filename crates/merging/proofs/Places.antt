@@ -1,9 +1,9 @@
--- The vector of each tile lies among the vectors.
-use Prim.Native.Nat.{ℕ, _+_, _-_, _*_, _/_, _≤_, _<_}
-use native.Mathlib.Nat.{mul-assoc, mul-comm, mul-le-mul-left}
+-- The vector of each tile lies among the vectors, and each row of the frame in it.
+use Prim.Native.Nat.{ℕ, suc, _+_, _-_, _*_, _/_, _≤_, _<_}
+use native.Mathlib.Nat.{mul-assoc, mul-comm, mul-le-mul-left, mul-le-mul-right, suc-mul}
 use native.Mathlib.Omega.{arith}
 use Rattle.geometry.specs.declared.Shape.{Shape}
-use Rattle.geometry.specs.Shape.{Allowed, vectorLength}
+use Rattle.geometry.specs.Shape.{Allowed, vectorLength, outputLength}
 use Rattle.geometry.specs.ShapeLaws.{vectors-most}
 use Rattle.geometry.specs.ReadLaws.{cell-below}
 
@@ -19,3 +19,7 @@ module _ (s : Shape) (ok : Allowed s) (k row column : ℕ) (h : k + 1 < s .count
       let high = s .height / 16 + 1 in
       let wide = s .width / 16 + 1 in
       (omega (arith, cell-below tileRow column (n * high) wide (cell-below k row n high (omega arith) (omega arith)) (omega arith), mul-assoc n high wide, mul-comm high wide), vectors-most ok, mul-le-mul-left tileRow (omega arith))
+
+pub row-room : (s : Shape) (row : ℕ) → row < s .height → row * s .width + s .width ≤ outputLength s
+unfolding outputLength
+row-room s row h = omega (arith, suc-mul row (s .width), mul-le-mul-right {m = suc row} {n = s .height} (s .width) h)

@@ -10,7 +10,7 @@ use Rattle.algebra.specs.Fraction.{whole, Within}
 use Rattle.sequences.specs.Tab.{getD-tab}
 use Rattle.closeness.specs.Output.{outputSample}
 use Rattle.closeness.specs.Side16.{five-eighths}
-use Rattle.merging.specs.Recipe.{Scene, planeOutput, outputAt, merged}
+use Rattle.merging.specs.Recipe.{Scene, planeOutput, outputAt, wordAt, merged}
 use Rattle.merging.specs.Exact.{planeExact, exactAt}
 
 -- up to seven other frames
@@ -25,7 +25,7 @@ module _ (s : Scene) (few : s .others ≤ 7) where
   word-is row column = abs-nonneg _ (clamp-low (pos 0) (pos 4095) _ (omega zarith))
 
   pub merged-close : (k : ℕ) → k < s .width * s .height → Within 5 8 (whole (pos (getD (merged s) k 0))) (exactAt s (k / s .width) (k % s .width))
-  unfolding merged
+  unfolding merged wordAt
   merged-close k h =
       let row = k / s .width in
       let column = k % s .width in

@@ -6,3 +6,4 @@ pub mod Gather
 pub mod Sum
 pub mod Strided
 pub mod Work
+pub mod Progress

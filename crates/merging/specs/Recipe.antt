@@ -79,6 +79,9 @@ module _ (s : Scene) (rowParity columnParity : ℕ) where
 unfoldable pub outputAt : Scene → (row column : ℕ) → ℤ
 outputAt s row column = planeOutput s (row % 2) (column % 2) (row / 2) (column / 2)
 
--- the output, "row by row"
+-- the output, "row by row": its word k, and the whole
+unfoldable pub wordAt : Scene → (k : ℕ) → ℕ
+wordAt s k = natAbs (outputAt s (k / s .width) (k % s .width))
+
 unfoldable pub merged : Scene → List ℕ
-merged s = tab (s .width * s .height) (λ k. natAbs (outputAt s (k / s .width) (k % s .width)))
+merged s = tab (s .width * s .height) (wordAt s)

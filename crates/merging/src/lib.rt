@@ -1,5 +1,6 @@
 // The merge of a burst: tiles of each plane, their corrections, and the output.
 mod output;
+mod planes;
 mod rows;
 mod tiles;
 

@@ -1,7 +1,6 @@
 -- A word a turn, each from the two rows of tiles over it.
 use mathlib.Core.Path.{_≡_, refl, sym, ap, ap₂, _∙_, subst}
-use Prim.Native.Nat.{suc, _+_, _-_, _*_, _/_, _%_, _^_, _≤_, _<_}
-use native.Mathlib.Nat.{mul-le-mul-right, suc-mul}
+use Prim.Native.Nat.{_+_, _-_, _*_, _/_, _%_, _^_, _≤_, _<_}
 use native.Mathlib.Omega.{arith}
 use lib.IntN.{natAbs}
 use lib.ListN.{length}
@@ -18,6 +17,7 @@ use Rattle.transform.specs.Tables.{windows}
 use Rattle.merging.specs.Gather.{corrected, windowed, wordOver}
 use Rattle.merging.specs.Strided.{Striding, stride-start, stride-turn, stride-done}
 use Rattle.merging.specs.Work.{rowWords, Words, outputWord}
+use Rattle.merging.proofs.Places.{row-room}
 use Rattle.merging.proofs.Weights.{words-fewer}
 use Rattle.merging.proofs.output.output_row.Statement.{statement}
 use Rattle.merging.proofs.output.output_row.Tie as tie
@@ -33,10 +33,8 @@ abbrev μ-loop : tie.MeasureT-loop
 room : (c : tie.Start Inv-loop μ-loop) → let s = c .args .shape in let row = 2 * c .args .y + c .args .plane .«row_parity» in (row * s .width + s .width ≤ outputLength s) × (outputLength s ≤ 16777216)
 unfolding outputLength
 room c =
-    let s = c .args .shape in
-    let row = 2 * c .args .y + c .args .plane .«row_parity» in
     let r = c .pre .0 in
-    (omega (arith, suc-mul row (s .width), mul-le-mul-right {m = suc row} {n = s .height} (s .width) (omega (arith, r .row, r .planar, r .sampled .allowed))), area-most (r .sampled .allowed))
+    (row-room (c .args .shape) (2 * c .args .y + c .args .plane .«row_parity») (omega (arith, r .row, r .planar, r .sampled .allowed)), area-most (r .sampled .allowed))
 
 -- and so does each place that is written
 place : (c : tie.In-loop Inv-loop μ-loop) → let l = c .before in let a = l .before .before .before .before .before .before .before .args in

@@ -1,0 +1,119 @@
+-- A row of tiles that is stored is held, and the row before it still is; the output's word of the two rows is the recipe's.
+use mathlib.Core.Path.{_≡_, refl, sym, ap, ap₂, _∙_, subst}
+use mathlib.Core.List.{List}
+use mathlib.Core.Logic.{_⊎_, inl, inr, ⊎-elim}
+use Prim.Native.Nat.{ℕ, zero, suc, _+_, _-_, _*_, _/_, _%_, _^_, _≤_, _<_}
+use native.Mathlib.Decide.{ℕ-discrete}
+use native.Mathlib.Omega.{arith}
+use lib.IntN.{ℤ, pos, natAbs, _*ℤ_}
+use lib.ListN.{length, getD}
+use Rattle.algebra.specs.Sums.{sumZ-cong}
+use Rattle.sequences.specs.Write.{written, written-in, written-before, written-after, written-length}
+use Rattle.geometry.specs.Shape.{AllowedSize}
+use Rattle.geometry.specs.Read.{planeOf}
+use Rattle.transform.specs.Tables.{side16}
+use Rattle.closeness.specs.Output.{rowIn, columnIn, weightIn}
+use Rattle.merging.specs.declared.Merge.{Merge}
+use Rattle.merging.specs.declared.Plane.{Plane}
+use Rattle.merging.specs.Recipe.{Scene, sceneOf, tileOver, planeOutput}
+use Rattle.merging.specs.Gather.{summedAt, windowed, corrected, startOf, wordOver, summedOver, gathered}
+use Rattle.merging.specs.Work.{rowWords, slotOf, rowWord, Words, Held, Stored, outputWord}
+
+-- the places of a row and of the next one: one row's words are those before the other's
+slots : (width row : ℕ) → ((slotOf width row ≡ 0) × (slotOf width (row + 1) ≡ rowWords width)) ⊎ ((slotOf width row ≡ rowWords width) × (slotOf width (row + 1) ≡ 0))
+unfolding slotOf
+slots width row = by (ℕ-discrete (row % 2) 0)
+  where
+    by : Dec (row % 2 ≡ 0) → ((slotOf width row ≡ 0) × (slotOf width (row + 1) ≡ rowWords width)) ⊎ ((slotOf width row ≡ rowWords width) × (slotOf width (row + 1) ≡ 0))
+    by (yes e) =
+        let next : (row + 1) % 2 ≡ 1 = omega arith in
+        inl (rw e (omega arith), rw next (omega arith))
+    by (no d) =
+        let this : row % 2 ≡ 1 = omega arith in
+        let next : (row + 1) % 2 ≡ 0 = omega arith in
+        inr (rw this (omega arith), rw next (omega arith))
+
+-- the row that is stored
+module _ {s : Scene} {p : Plane} {row : ℕ} {d l : List ℤ} (w : Stored s p row d l) (room : slotOf (s .width) row + rowWords (s .width) ≤ length d) where
+  pub stored-long : length l ≡ length d
+  stored-long = ap length (w .is) ∙ written-length d (slotOf (s .width) row) (rowWord s p row) (rowWords (s .width)) (pos 0) room
+
+  stored-word : (k : ℕ) → k < rowWords (s .width) → getD l (slotOf (s .width) row + k) (pos 0) ≡ rowWord s p row k
+  stored-word k h =
+      ap (λ x. getD x (slotOf (s .width) row + k) (pos 0)) (w .is)
+      ∙ written-in d (slotOf (s .width) row) (rowWord s p row) (rowWords (s .width)) (pos 0) room k h
+
+  pub stored-held : Held s p row l
+  stored-held =
+      record {
+        words = record { room = omega (arith, stored-long); most = λ k h. subst (λ z. natAbs z ≤ 2 ^ 34) (sym (stored-word k h)) (w .most k h) };
+        is = stored-word;
+      }
+
+-- and the row before it
+module _ {s : Scene} {p : Plane} {row : ℕ} {d l : List ℤ} (w : Stored s p (row + 1) d l) (room : 2 * rowWords (s .width) ≤ length d) (held : Held s p row d) where
+  pub next-room : slotOf (s .width) (row + 1) + rowWords (s .width) ≤ length d
+  next-room = ⊎-elim (λ e. omega (arith, e)) (λ e. omega (arith, e)) (slots (s .width) row)
+
+  kept-word : (k : ℕ) → k < rowWords (s .width) → getD l (slotOf (s .width) row + k) (pos 0) ≡ getD d (slotOf (s .width) row + k) (pos 0)
+  kept-word k h =
+      ap (λ x. getD x (slotOf (s .width) row + k) (pos 0)) (w .is)
+      ∙ ⊎-elim
+      (λ e. written-before d (slotOf (s .width) (row + 1)) (rowWord s p (row + 1)) (rowWords (s .width)) (pos 0) next-room (slotOf (s .width) row + k) (omega (arith, e)))
+      (λ e. let place : slotOf (s .width) (row + 1) + rowWords (s .width) + k ≡ slotOf (s .width) row + k = omega (arith, e) in subst (λ j. getD (written d (slotOf (s .width) (row + 1)) (rowWord s p (row + 1)) (rowWords (s .width))) j (pos 0) ≡ getD d j (pos 0)) place (written-after d (slotOf (s .width) (row + 1)) (rowWord s p (row + 1)) (rowWords (s .width)) (pos 0) next-room k))
+      (slots (s .width) row)
+
+  pub held-kept : Held s p row l
+  held-kept =
+      record {
+        words = record { room = omega (arith, stored-long w next-room, held .words .room); most = λ k h. subst (λ z. natAbs z ≤ 2 ^ 34) (sym (kept-word k h)) (held .words .most k h) };
+        is = λ k h. kept-word k h ∙ held .is k h;
+      }
+
+-- the output's word of two rows that are held
+module _ (m : Merge) (samples : List ℕ) (vectors : List ℤ) (p : Plane) (work : List ℤ) (y x : ℕ) where
+  abbrev s : Scene
+  s = sceneOf m samples vectors
+
+  abbrev above : ℕ
+  above = slotOf (m .shape .width) (y / 8)
+
+  abbrev below : ℕ
+  below = slotOf (m .shape .width) (y / 8 + 1)
+
+  module _ (ok : AllowedSize (m .shape .width)) (several : 2 ≤ m .shape .count) (inside : x < m .shape .width / 2) (upper : Held s p (y / 8) work) (lower : Held s p (y / 8 + 1) work) where
+    held-over : (u : ℕ) → u < 2 → Held s p (tileOver y u) work
+    held-over zero h = let e : y / 8 + 1 - 0 ≡ y / 8 + 1 = omega arith in rw e lower
+    held-over (suc zero) h = let e : y / 8 + 1 - 1 ≡ y / 8 = omega arith in rw e upper
+    held-over (suc (suc u)) h = absurd (omega arith)
+
+    start-over : (u : ℕ) → u < 2 → startOf above below u ≡ slotOf (m .shape .width) (tileOver y u)
+    start-over zero h = let e : y / 8 + 1 - 0 ≡ y / 8 + 1 = omega arith in rw e
+    start-over (suc zero) h = let e : y / 8 + 1 - 1 ≡ y / 8 = omega arith in rw e
+    start-over (suc (suc u)) h = absurd (omega arith)
+
+    -- a cell of a row that is held
+    cell-held : {row : ℕ} → Held s p row work → (b i j : ℕ) → b < m .shape .width / 16 + 1 → i < 16 → j < 16
+        → getD work (slotOf (m .shape .width) row + (256 * b + (16 * i + j))) (pos 0) ≡ summedAt s (p .«row_parity») (p .«column_parity») row b i j
+    unfolding sceneOf rowWords rowWord
+    cell-held {row} held b i j hb hi hj =
+        let tile : (256 * b + (16 * i + j)) / 256 ≡ b = omega arith in
+        let down : (256 * b + (16 * i + j)) % 256 / 16 ≡ i = omega arith in
+        let along : (256 * b + (16 * i + j)) % 16 ≡ j = omega arith in
+        held .is (256 * b + (16 * i + j)) (omega arith)
+        ∙ rw (tile, down, along)
+
+    word-is : (t : ℕ) → t < 4 → wordOver work above below (y % 8) x t ≡ summedOver s (p .«row_parity») (p .«column_parity») y x t
+    unfolding wordOver side16
+    word-is t h =
+        ap (λ a. getD work (a + (256 * (x / 8 + 1 - t % 2) + (16 * rowIn side16 (y % 8) t + columnIn side16 (x % 8) t))) (pos 0)) (start-over (t / 2) (omega arith))
+        ∙ cell-held (held-over (t / 2) (omega arith)) (x / 8 + 1 - t % 2) (rowIn side16 (y % 8) t) (columnIn side16 (x % 8) t) (omega arith) (omega arith) (omega arith)
+
+    pub output-word : outputWord (m .shape) (m .reference) samples work p y x ≡ natAbs (planeOutput s (p .«row_parity») (p .«column_parity») y x)
+    unfolding outputWord sceneOf windowed
+    output-word =
+        let count : m .shape .count ≡ suc (m .shape .count - 1) = omega arith in
+        ap natAbs
+        (ap₂ (λ z n. corrected (planeOf (s .reference) (p .«row_parity») (p .«column_parity») y x) z n)
+        (sumZ-cong 4 _ _ (λ t h. ap (λ z. pos (weightIn side16 (y % 8) (x % 8) t) *ℤ z) (word-is t h))) count
+        ∙ sym (gathered s (p .«row_parity») (p .«column_parity») y x))

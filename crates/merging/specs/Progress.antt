@@ -1,0 +1,24 @@
+-- Rows of a plane's output that are merged.
+use mathlib.Core.Path.{_≡_}
+use mathlib.Core.List.{List}
+use Prim.Native.Nat.{ℕ, _+_, _*_, _/_, _≤_, _<_}
+use lib.IntN.{ℤ}
+use lib.ListN.{getD}
+use Rattle.merging.specs.declared.Plane.{Plane}
+use Rattle.merging.specs.Recipe.{Scene, wordAt}
+use Rattle.merging.specs.Strided.{Toward}
+use Rattle.merging.specs.Work.{Held}
+
+-- where the output's word at row y and column x of a plane stands
+abbrev pub placeOf : Scene → Plane → (y x : ℕ) → ℕ
+placeOf s p y x = (2 * y + p .«row_parity») * s .width + p .«column_parity» + 2 * x
+
+-- m is l with the plane's rows from a to before b merged; elsewhere it has no less right words than l
+pub record RowsMerged (s : Scene) (p : Plane) (a b : ℕ) (l m : List ℕ) : Type 0 where
+  pub toward : Toward 0 (wordAt s) l m
+  pub right : (y x : ℕ) → a ≤ y → y < b → x < s .width / 2 → getD m (placeOf s p y x) 0 ≡ wordAt s (placeOf s p y x)
+
+-- the same of the eight rows between the tile rows `band` and `band` + 1, of which the work area then holds the second
+pub record BandMerged (s : Scene) (p : Plane) (band : ℕ) (l m : List ℕ) (work : List ℤ) : Type 0 where
+  pub rows : RowsMerged s p (8 * band) (8 * band + 8) l m
+  pub held : Held s p (band + 1) work

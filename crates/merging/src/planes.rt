@@ -1,0 +1,41 @@
+// A plane of the output: eight of its rows at a time, between two rows of tiles.
+ghost use mathlib.Core.Path.{_≡_};
+ghost use Prim.Native.Nat.{_*_, _/_, _≤_, _<_};
+ghost use lib.ListN.{length};
+ghost use Rattle.geometry.specs.Shape.{outputLength};
+ghost use Rattle.merging.specs.Recipe.{sceneOf};
+ghost use Rattle.merging.specs.Accepted.{Accepted, Planar};
+ghost use Rattle.merging.specs.Work.{rowWords, Held};
+ghost use Rattle.merging.specs.Progress.{RowsMerged, BandMerged};
+use crate::Merge;
+use crate::Plane;
+use crate::output::output_row;
+use crate::rows::correction_row;
+
+// The rows between the tile rows `band`, which the work area holds, and `band` + 1.
+fn merge_band(
+    m: Merge,
+    samples: &[u16],
+    vectors: &[i32],
+    plane: Plane,
+    band: usize,
+    output: &mut [u16],
+    work: &mut [i64],
+)
+    requires { ⌜ (Accepted m (now samples) (now vectors)) × (Planar plane) × (band < m .shape .height / 16) × (length (now output) ≡ outputLength (m .shape)) × (2 * rowWords (m .shape .width) ≤ length (now work)) × (Held (sceneOf m (now samples) (now vectors)) plane band (now work)) ⌝ }
+    ensures { λ _. ⌜ BandMerged (sceneOf m (now (samples .entry)) (now (vectors .entry))) plane band (now (output .entry)) (now (output .exit)) (now (work .exit)) ⌝ }
+{
+    correction_row(m, samples, vectors, plane, band + 1, &mut *work);
+    let shape = m.shape;
+    for i in 0..8 {
+        output_row(
+            shape,
+            m.reference,
+            samples,
+            plane,
+            8 * band + i,
+            &*work,
+            &mut *output,
+        );
+    }
+}
