@@ -39,3 +39,22 @@ fn merge_band(
         );
     }
 }
+
+// A plane of the output.
+pub fn merge_plane(
+    m: Merge,
+    samples: &[u16],
+    vectors: &[i32],
+    plane: Plane,
+    output: &mut [u16],
+    work: &mut [i64],
+)
+    requires { ⌜ (Accepted m (now samples) (now vectors)) × (Planar plane) × (length (now output) ≡ outputLength (m .shape)) × (2 * rowWords (m .shape .width) ≤ length (now work)) ⌝ }
+    ensures { λ _. ⌜ RowsMerged (sceneOf m (now (samples .entry)) (now (vectors .entry))) plane 0 (m .shape .height / 2) (now (output .entry)) (now (output .exit)) ⌝ }
+{
+    correction_row(m, samples, vectors, plane, 0, &mut *work);
+    let bands = m.shape.height / 16;
+    for band in 0..bands {
+        merge_band(m, samples, vectors, plane, band, &mut *output, &mut *work);
+    }
+}
