@@ -77,7 +77,7 @@ module _ {s : Scene} {p : Plane} where
       right x h = (omega (arith, q .column-parity), e x h ∙ sym (place-word s p ok q y x h))
 
 -- the four planes
-abbrev plane : (a b : ℕ) → Plane
+abbrev pub plane : (a b : ℕ) → Plane
 plane a b = record { «row_parity» = a; «column_parity» = b }
 
 pub all-merged : {s : Scene} → AllowedSize (s .width) → AllowedSize (s .height) → {l l1 l2 l3 l4 : List ℕ} → length l ≡ s .width * s .height

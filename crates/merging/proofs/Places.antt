@@ -1,11 +1,12 @@
--- The vector of each tile lies among the vectors, and each row of the frame in it.
+-- The vector of each tile lies among the vectors, each row of the frame in it, and two rows of tiles in the work area.
 use Prim.Native.Nat.{ℕ, suc, _+_, _-_, _*_, _/_, _≤_, _<_}
 use native.Mathlib.Nat.{mul-assoc, mul-comm, mul-le-mul-left, mul-le-mul-right, suc-mul}
 use native.Mathlib.Omega.{arith}
 use Rattle.geometry.specs.declared.Shape.{Shape}
-use Rattle.geometry.specs.Shape.{Allowed, vectorLength, outputLength}
+use Rattle.geometry.specs.Shape.{Allowed, vectorLength, outputLength, workLength}
 use Rattle.geometry.specs.ShapeLaws.{vectors-most}
 use Rattle.geometry.specs.ReadLaws.{cell-below}
+use Rattle.merging.specs.Work.{rowWords}
 
 module _ (s : Shape) (ok : Allowed s) (k row column : ℕ) (h : k + 1 < s .count) (r : row ≤ s .height / 16) (c : column ≤ s .width / 16) where
   abbrev pub tileRow : ℕ
@@ -23,3 +24,7 @@ module _ (s : Shape) (ok : Allowed s) (k row column : ℕ) (h : k + 1 < s .count
 pub row-room : (s : Shape) (row : ℕ) → row < s .height → row * s .width + s .width ≤ outputLength s
 unfolding outputLength
 row-room s row h = omega (arith, suc-mul row (s .width), mul-le-mul-right {m = suc row} {n = s .height} (s .width) h)
+
+pub rows-fit : {s : Shape} → Allowed s → 2 * rowWords (s .width) ≤ workLength s
+unfolding rowWords workLength
+rows-fit {s} ok = omega (arith, mul-le-mul-left {m = 64} {n = s .height} (s .width) (ok .high .least))
