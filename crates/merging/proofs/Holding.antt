@@ -2,7 +2,7 @@
 use mathlib.Core.Path.{_≡_, refl, sym, ap, ap₂, _∙_, subst}
 use mathlib.Core.List.{List}
 use mathlib.Core.Logic.{_⊎_, inl, inr, ⊎-elim}
-use Prim.Native.Nat.{ℕ, zero, suc, _+_, _-_, _*_, _/_, _%_, _^_, _≤_, _<_}
+use Prim.Native.Nat.{ℕ, zero, suc, _+_, _-_, _*_, _/_, _%_, _≤_, _<_}
 use native.Mathlib.Decide.{ℕ-discrete}
 use native.Mathlib.Omega.{arith}
 use lib.IntN.{ℤ, pos, natAbs, _*ℤ_}
@@ -17,6 +17,7 @@ use Rattle.merging.specs.declared.Merge.{Merge}
 use Rattle.merging.specs.declared.Plane.{Plane}
 use Rattle.merging.specs.Recipe.{Scene, sceneOf, tileOver, planeOutput}
 use Rattle.merging.specs.Gather.{summedAt, windowed, corrected, startOf, wordOver, summedOver, gathered}
+use Rattle.merging.specs.Sum.{summedMost}
 use Rattle.merging.specs.Work.{rowWords, slotOf, rowWord, Words, Held, Stored, outputWord}
 
 -- the places of a row and of the next one: one row's words are those before the other's
@@ -46,7 +47,7 @@ module _ {s : Scene} {p : Plane} {row : ℕ} {d l : List ℤ} (w : Stored s p ro
   pub stored-held : Held s p row l
   stored-held =
       record {
-        words = record { room = omega (arith, stored-long); most = λ k h. subst (λ z. natAbs z ≤ 2 ^ 34) (sym (stored-word k h)) (w .most k h) };
+        words = record { room = omega (arith, stored-long); most = λ k h. subst (λ z. natAbs z ≤ summedMost) (sym (stored-word k h)) (w .most k h) };
         is = stored-word;
       }
 
@@ -66,7 +67,7 @@ module _ {s : Scene} {p : Plane} {row : ℕ} {d l : List ℤ} (w : Stored s p (r
   pub held-kept : Held s p row l
   held-kept =
       record {
-        words = record { room = omega (arith, stored-long w next-room, held .words .room); most = λ k h. subst (λ z. natAbs z ≤ 2 ^ 34) (sym (kept-word k h)) (held .words .most k h) };
+        words = record { room = omega (arith, stored-long w next-room, held .words .room); most = λ k h. subst (λ z. natAbs z ≤ summedMost) (sym (kept-word k h)) (held .words .most k h) };
         is = λ k h. kept-word k h ∙ held .is k h;
       }
 

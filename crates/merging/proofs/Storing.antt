@@ -1,7 +1,7 @@
 -- A row of tiles, stored tile by tile: its record, and how it starts, goes on and ends.
 use mathlib.Core.Path.{_≡_, sym, ap, _∙_, subst, subst₂}
 use mathlib.Core.List.{List}
-use Prim.Native.Nat.{ℕ, zero, suc, _+_, _*_, _/_, _%_, _^_, _≤_, _<_}
+use Prim.Native.Nat.{ℕ, zero, suc, _+_, _*_, _/_, _%_, _≤_, _<_}
 use native.Mathlib.Omega.{arith}
 use borrow.Author.Count.{below-more}
 use lib.IntN.{ℤ, pos, natAbs}
@@ -14,7 +14,7 @@ use Rattle.merging.specs.declared.Plane.{Plane}
 use Rattle.merging.specs.declared.Site.{Site}
 use Rattle.merging.specs.Recipe.{Scene}
 use Rattle.merging.specs.Gather.{summedAt}
-use Rattle.merging.specs.Sum.{Summed}
+use Rattle.merging.specs.Sum.{summedMost, Summed}
 use Rattle.merging.specs.Work.{rowWords, slotOf, rowWord, Stored}
 
 -- m stores at once, of g 0 .. g (m − 1)
@@ -38,7 +38,7 @@ module _ {A : Type 0} {d : List A} {at : ℕ} {f : ℕ → A} {n j m : ℕ} {l :
 pub record Storing (s : Scene) (p : Plane) (row : ℕ) (d : List ℤ) (n : ℕ) (l : List ℤ) : Type 0 where
   pub count : n ≤ s .width / 16 + 1
   pub writing : Writing d (slotOf (s .width) row) (rowWord s p row) (256 * (s .width / 16 + 1)) (256 * n) l
-  pub most : (b : ℕ) → b < n → (i j : ℕ) → i < 16 → j < 16 → natAbs (summedAt s (p .«row_parity») (p .«column_parity») row b i j) ≤ 2 ^ 34
+  pub most : (b : ℕ) → b < n → (i j : ℕ) → i < 16 → j < 16 → natAbs (summedAt s (p .«row_parity») (p .«column_parity») row b i j) ≤ summedMost
 
 module _ {s : Scene} {p : Plane} {row : ℕ} {d : List ℤ} where
   pub store-start : slotOf (s .width) row + rowWords (s .width) ≤ length d → Storing s p row d 0 d
@@ -57,7 +57,7 @@ module _ {s : Scene} {p : Plane} {row : ℕ} {d : List ℤ} where
       record {
         count = omega arith;
         writing = subst (λ k. Writing d (slotOf (s .width) row) (rowWord s p row) (256 * (s .width / 16 + 1)) k r) (omega arith) (write-part (w .writing) (omega arith) word is);
-        most = below-more (λ b. (i j : ℕ) → i < 16 → j < 16 → natAbs (summedAt s (p .«row_parity») (p .«column_parity») row b i j) ≤ 2 ^ 34) n (w .most) (sum .most);
+        most = below-more (λ b. (i j : ℕ) → i < 16 → j < 16 → natAbs (summedAt s (p .«row_parity») (p .«column_parity») row b i j) ≤ summedMost) n (w .most) (sum .most);
       }
     where
       place : (k : ℕ) → k < 256 → summedAt s (p .«row_parity») (p .«column_parity») row n (k / 16) (k % 16) ≡ rowWord s p row (256 * n + k)

@@ -6,7 +6,6 @@ use native.Mathlib.Omega.{arith}
 use native.Mathlib.Numerals.{add-one}
 use lib.IntN.{ℤ, pos, natAbs, _+ℤ_}
 use lib.ListN.{getD}
-use Rattle.algebra.specs.Bound.{AtMost}
 use Rattle.algebra.specs.Order.{abs-add}
 use Rattle.algebra.specs.Sums.{sumZ, sumZ-suc}
 use Rattle.sequences.specs.Tab.{tab, length-tab, getD-tab}
@@ -14,11 +13,12 @@ use Rattle.sequences.specs.Grid.{grid, cell, cell-grid, grid-ext}
 use Rattle.geometry.specs.SomeLaws.{every}
 use Rattle.transform.specs.Tables.{side16}
 use Rattle.transform.specs.Recipe.{correctionAt}
+use Rattle.transform.specs.Lines.{LineMost, TileMost}
+use Rattle.transform.specs.Magnitudes.{correctionMost}
 use Rattle.merging.specs.declared.Site.{Site}
 use Rattle.merging.specs.Recipe.{Scene, tileNoise, difference}
 use Rattle.merging.specs.Gather.{summedAt}
-use Rattle.merging.specs.Accepted.{Small}
-use Rattle.merging.specs.Sum.{Summed}
+use Rattle.merging.specs.Sum.{summedMost, Summed}
 use Rattle.merging.proofs.Differences.{correction-cong}
 
 -- what holds of the default and of each f k below n holds of each element of the table
@@ -39,7 +39,7 @@ pub record Summing (s : Scene) (t : Site) (n : ℕ) (sum : List (List ℤ)) : Ty
   pub count : n ≤ s .others
   pub few : s .others ≤ 7
   pub is : sum ≡ grid 16 16 (partAt s t n)
-  pub most : (i j : ℕ) → i < 16 → j < 16 → natAbs (partAt s t n i j) ≤ n * 2147483648
+  pub most : (i j : ℕ) → i < 16 → j < 16 → natAbs (partAt s t n i j) ≤ n * correctionMost
 
 module _ {s : Scene} {t : Site} where
   pub sum-start : {sum : List (List ℤ)} → s .others ≤ 7 → sum ≡ grid 16 16 (λ i j. pos 0) → Summing s t 0 sum
@@ -55,15 +55,15 @@ module _ {s : Scene} {t : Site} where
         → d ≡ grid 16 16 (difference s (t .«row_parity») (t .«column_parity») (t .row) (t .column) n)
         → p ≡ grid 16 16 (correctionAt side16 noise (cell (pos 0) d))
         → r ≡ grid 16 16 (λ i j. cell (pos 0) sum i j +ℤ cell (pos 0) p i j)
-        → ((i j : ℕ) → i < 16 → j < 16 → natAbs (cell (pos 0) p i j) ≤ 2147483648)
+        → TileMost correctionMost p
         → Summing s t (n + 1) r
-    unfolding side16
+    unfolding side16 cell
     sum-turn {noise} {d} {p} {r} v de pe re small =
         record {
           count = omega arith;
           few = w .few;
           is = re ∙ grid-ext 16 16 _ _ next;
-          most = λ i j k l. subst (λ z. natAbs z ≤ (n + 1) * 2147483648) (next i j k l) (omega (arith, abs-add (cell (pos 0) sum i j) (cell (pos 0) p i j), small i j k l, ap natAbs (cell-at w i j k l), w .most i j k l));
+          most = λ i j k l. subst (λ z. natAbs z ≤ (n + 1) * correctionMost) (next i j k l) (omega (arith, abs-add (cell (pos 0) sum i j) (cell (pos 0) p i j), small .line i .at j, ap natAbs (cell-at w i j k l), w .most i j k l));
         }
       where
         term : (i j : ℕ) → i < 16 → j < 16 → cell (pos 0) p i j ≡ termAt s t n i j
@@ -76,12 +76,14 @@ module _ {s : Scene} {t : Site} where
         next : (i j : ℕ) → i < 16 → j < 16 → cell (pos 0) sum i j +ℤ cell (pos 0) p i j ≡ partAt s t (n + 1) i j
         next i j k l = rw (cell-at w i j k l, term i j k l, add-one n, sumZ-suc)
 
-  pub sum-small : {n : ℕ} {sum : List (List ℤ)} → Summing s t n sum → (i : ℕ) → Small (getD sum i [])
+  pub sum-small : {n : ℕ} {sum : List (List ℤ)} → Summing s t n sum → TileMost (2 ^ 40) sum
   unfolding grid
-  sum-small {n} {sum} w i =
-      rw (w .is)
-      (tab-each Small [] (λ i. tab 16 (partAt s t n i)) 16 (record { most = λ j. record { most = omega arith } })
-      (λ u h. record { most = tab-each (AtMost (2 ^ 40)) (pos 0) (partAt s t n u) 16 (record { most = omega arith }) (λ j k. record { most = omega (arith, w .most u j h k, w .few, w .count) }) }) i)
+  sum-small {n} {sum} w =
+      record {
+        line = λ i. rw (w .is)
+            (tab-each (LineMost (2 ^ 40)) [] (λ i. tab 16 (partAt s t n i)) 16 (record { at = λ j. omega arith })
+            (λ u h. record { at = tab-each (λ z. natAbs z ≤ 2 ^ 40) (pos 0) (partAt s t n u) 16 (omega arith) (λ j k. omega (arith, w .most u j h k, w .few, w .count)) }) i);
+      }
 
   pub sum-done : {n : ℕ} {sum : List (List ℤ)} → Summing s t n sum → s .others ≤ n → Summed s t sum
   unfolding summedAt
@@ -89,5 +91,5 @@ module _ {s : Scene} {t : Site} where
       let e : n ≡ s .others = omega (arith, w .count) in
       record {
         is = w .is ∙ ap (λ m. grid 16 16 (partAt s t m)) e;
-        most = λ i j k l. subst (λ m. natAbs (partAt s t m i j) ≤ 2 ^ 34) e (omega (arith, w .most i j k l, w .few));
+        most = λ i j k l. subst (λ m. natAbs (partAt s t m i j) ≤ summedMost) e (omega (arith, w .most i j k l, w .few));
       }

@@ -1,9 +1,8 @@
 -- What is known of a merge that its tests have let through, of its planes and tiles.
 use mathlib.Core.List.{List}
-use Prim.Native.Nat.{ℕ, _/_, _^_, _≤_, _<_}
-use lib.IntN.{ℤ, pos}
-use lib.ListN.{length, getD}
-use Rattle.algebra.specs.Bound.{AtMost}
+use Prim.Native.Nat.{ℕ, _/_, _≤_, _<_}
+use lib.IntN.{ℤ}
+use lib.ListN.{length}
 use Rattle.geometry.specs.declared.Shape.{Shape}
 use Rattle.geometry.specs.Order.{BurstFits}
 use Rattle.geometry.specs.Bounds.{SamplesFit, VectorsFit}
@@ -30,7 +29,3 @@ pub record Sited (s : Shape) (t : Site) : Type 0 where
   pub column-parity : t .«column_parity» < 2
   pub row : t .row ≤ s .height / 16
   pub column : t .column ≤ s .width / 16
-
--- words that a few more terms of 32 bits do not bring past 64
-pub record Small (words : List ℤ) : Type 0 where
-  pub most : (k : ℕ) → AtMost (2 ^ 40) (getD words k (pos 0))

@@ -14,7 +14,11 @@ pub record TileOf (s : Scene) (t : Site) (t0 : List (List ℕ)) (noise : ℕ) : 
   pub number : noise ≡ tileNoise s (t .«row_parity») (t .«column_parity») (t .row) (t .column)
   pub most : noise ≤ 279105765376
 
+-- a sum of P over up to seven other frames
+abbrev pub summedMost : ℕ
+summedMost = 2 ^ 33
+
 -- r is the sum of its corrections over the other frames
 pub record Summed (s : Scene) (t : Site) (r : List (List ℤ)) : Type 0 where
   pub is : r ≡ grid 16 16 (summedAt s (t .«row_parity») (t .«column_parity») (t .row) (t .column))
-  pub most : (i j : ℕ) → i < 16 → j < 16 → natAbs (summedAt s (t .«row_parity») (t .«column_parity») (t .row) (t .column) i j) ≤ 2 ^ 34
+  pub most : (i j : ℕ) → i < 16 → j < 16 → natAbs (summedAt s (t .«row_parity») (t .«column_parity») (t .row) (t .column) i j) ≤ summedMost

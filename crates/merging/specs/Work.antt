@@ -1,7 +1,7 @@
 -- Rows of correction tiles in the work area: two of them, each of 256 words a tile.
 use mathlib.Core.Path.{_≡_}
 use mathlib.Core.List.{List}
-use Prim.Native.Nat.{ℕ, _+_, _*_, _/_, _%_, _^_, _≤_, _<_}
+use Prim.Native.Nat.{ℕ, _+_, _*_, _/_, _%_, _≤_, _<_}
 use lib.IntN.{ℤ, pos, natAbs}
 use lib.ListN.{length, getD}
 use Rattle.sequences.specs.Write.{written}
@@ -11,6 +11,7 @@ use Rattle.merging.specs.declared.Plane.{Plane}
 use Rattle.merging.specs.Recipe.{Scene}
 use Rattle.merging.specs.Gather.{summedAt, windowed, corrected, wordOver}
 use Rattle.merging.specs.Accepted.{Planar}
+use Rattle.merging.specs.Sum.{summedMost}
 
 -- a row of a plane's tiles takes so many words, and starts here
 unfoldable pub rowWords : (width : ℕ) → ℕ
@@ -26,7 +27,7 @@ rowWord s p row k = summedAt s (p .«row_parity») (p .«column_parity») row (k
 -- n words from `at` on that are small enough to be weighed and added
 pub record Words (work : List ℤ) (at n : ℕ) : Type 0 where
   pub room : at + n ≤ length work
-  pub most : (k : ℕ) → k < n → natAbs (getD work (at + k) (pos 0)) ≤ 2 ^ 34
+  pub most : (k : ℕ) → k < n → natAbs (getD work (at + k) (pos 0)) ≤ summedMost
 
 -- the work area holds a row of tiles
 pub record Held (s : Scene) (p : Plane) (row : ℕ) (work : List ℤ) : Type 0 where
@@ -36,7 +37,7 @@ pub record Held (s : Scene) (p : Plane) (row : ℕ) (work : List ℤ) : Type 0 w
 -- l is d with a row of tiles stored
 pub record Stored (s : Scene) (p : Plane) (row : ℕ) (d l : List ℤ) : Type 0 where
   pub is : l ≡ written d (slotOf (s .width) row) (rowWord s p row) (rowWords (s .width))
-  pub most : (k : ℕ) → k < rowWords (s .width) → natAbs (rowWord s p row k) ≤ 2 ^ 34
+  pub most : (k : ℕ) → k < rowWords (s .width) → natAbs (rowWord s p row k) ≤ summedMost
 
 -- the output's word at row y and column x of a plane, from the rows of tiles in the work area
 unfoldable pub outputWord : Shape → (reference : ℕ) (samples : List ℕ) (work : List ℤ) → Plane → (y x : ℕ) → ℕ

@@ -49,7 +49,7 @@ fn held(z: i64) -> u16
 
 // A sample of the reference less the windowed sum of its corrections, of a burst of `count` frames.
 fn corrected(t0: u16, sum: i64, count: u64) -> u16
-    requires { ⌜ (1 ≤ count) × (count ≤ 8) × (AtMost (2 ^ 62) sum) ⌝ }
+    requires { ⌜ (1 ≤ count) × (count ≤ 8) × (AtMost (2 ^ 59) sum) ⌝ }
     ensures { λ r. ⌜ r ≡ natAbs (corrected t0 sum count) ⌝ }
 {
     let whole = 4294967296 * count;
@@ -67,7 +67,7 @@ fn weight(window: &[u64; 16], i: usize, j: usize) -> i64
 // What a tile has at its row i and column j, weighed. Its row of tiles starts at `start`.
 fn part(work: &[i64], window: &[u64; 16], start: usize, column: usize, i: usize, j: usize) -> i64
     requires { ⌜ (Words (now work) start (256 * (column + 1))) × (now window ≡ windows) × (i < 16) × (j < 16) ⌝ }
-    ensures { λ r. ⌜ (r ≡ pos (window16 i * window16 j) *ℤ getD (now (work .entry)) (start + (256 * column + (16 * i + j))) (pos 0)) × (AtMost (2 ^ 58) r) ⌝ }
+    ensures { λ r. ⌜ (r ≡ pos (window16 i * window16 j) *ℤ getD (now (work .entry)) (start + (256 * column + (16 * i + j))) (pos 0)) × (AtMost (2 ^ 57) r) ⌝ }
 {
     weight(window, i, j) * work[start + (256 * column + (16 * i + j))]
 }
@@ -75,7 +75,7 @@ fn part(work: &[i64], window: &[u64; 16], start: usize, column: usize, i: usize,
 // What the four tiles over a sample have at it, windowed and added: the sample at column x, and at row i of the lower tiles.
 fn windowed(work: &[i64], window: &[u64; 16], above: usize, below: usize, i: usize, x: usize) -> i64
     requires { ⌜ (Words (now work) above (256 * (x / 8 + 2))) × (Words (now work) below (256 * (x / 8 + 2))) × (now window ≡ windows) × (i < 8) ⌝ }
-    ensures { λ r. ⌜ (r ≡ windowed i (x % 8) (wordOver (now (work .entry)) above below i x)) × (AtMost (2 ^ 60) r) ⌝ }
+    ensures { λ r. ⌜ (r ≡ windowed i (x % 8) (wordOver (now (work .entry)) above below i x)) × (AtMost (2 ^ 59) r) ⌝ }
 {
     let j = x % 8;
     let column = x / 8;

@@ -1,8 +1,7 @@
 // Tiles of a plane: T0 and Tz, their differences, and the corrections of a tile summed over the other frames.
 ghost use mathlib.Core.Path.{_≡_};
 ghost use Prim.Native.Nat.{ℕ, _+_, _*_, _/_, _≤_, _<_, _^_};
-ghost use mathlib.Core.List.{[]};
-ghost use lib.IntN.{pos, natAbs, _+ℤ_, _-ℤ_};
+ghost use lib.IntN.{pos, _+ℤ_, _-ℤ_};
 ghost use lib.ListN.{getD};
 ghost use Rattle.algebra.specs.Bound.{AtMost};
 ghost use Rattle.sequences.specs.Tab.{tab};
@@ -13,9 +12,10 @@ ghost use Rattle.geometry.specs.Tiles.{origin};
 ghost use Rattle.geometry.specs.Vectors.{otherFrame, vectorPlace};
 ghost use Rattle.plane_view.specs.View.{Near};
 ghost use Rattle.noise.specs.NoiseNumber.{tileRoot, noiseNumber};
+ghost use Rattle.transform.specs.Lines.{LineMost, TileMost};
 ghost use Rattle.merging.specs.Sum.{TileOf, Summed};
 ghost use Rattle.merging.specs.Recipe.{sceneOf, tileAt, otherTile};
-ghost use Rattle.merging.specs.Accepted.{Accepted, Sited, Small};
+ghost use Rattle.merging.specs.Accepted.{Accepted, Sited};
 use crate::Merge;
 use crate::Site;
 use geometry::Shape;
@@ -118,8 +118,8 @@ fn plus(sum: i64, term: i32) -> i64
 }
 
 fn added_row(sum: [i64; 16], term: [i32; 16]) -> [i64; 16]
-    requires { ⌜ Small sum ⌝ }
-    ensures { λ r. ⌜ (r ≡ tab 16 (λ j. getD sum j (pos 0) +ℤ getD term j (pos 0))) × ((j : ℕ) → j < 16 → natAbs (getD term j (pos 0)) ≤ 2147483648) ⌝ }
+    requires { ⌜ LineMost (2 ^ 40) sum ⌝ }
+    ensures { λ r. ⌜ r ≡ tab 16 (λ j. getD sum j (pos 0) +ℤ getD term j (pos 0)) ⌝ }
 {
     let mut row = [0i64; 16];
     for j in 0..16 {
@@ -129,8 +129,8 @@ fn added_row(sum: [i64; 16], term: [i32; 16]) -> [i64; 16]
 }
 
 fn added(sum: [[i64; 16]; 16], term: [[i32; 16]; 16]) -> [[i64; 16]; 16]
-    requires { ⌜ ((i : ℕ) → Small (getD sum i [])) ⌝ }
-    ensures { λ r. ⌜ (r ≡ grid 16 16 (λ i j. cell (pos 0) sum i j +ℤ cell (pos 0) term i j)) × ((i j : ℕ) → i < 16 → j < 16 → natAbs (cell (pos 0) term i j) ≤ 2147483648) ⌝ }
+    requires { ⌜ TileMost (2 ^ 40) sum ⌝ }
+    ensures { λ r. ⌜ r ≡ grid 16 16 (λ i j. cell (pos 0) sum i j +ℤ cell (pos 0) term i j) ⌝ }
 {
     let mut tile = [[0i64; 16]; 16];
     for i in 0..16 {

@@ -24,7 +24,7 @@ scaled-most c = mul-most {a = 65535} {b = 34359738368} {x = pos (c .args .t0)} {
 scaled-is : (c : tie.Start) → toZ w64 (c .args .t0) *ℤ toZ w64 (4294967296 * c .args .count) ≡ scaled c
 scaled-is c = rw (toZ-pos w64 {n = c .args .t0} (omega (arith, c .fits .t0)), toZ-pos w64 {n = 4294967296 * c .args .count} (omega arith))
 
-difference-most : (c : tie.Start) → AtMost (65535 * 34359738368 + 2 ^ 62) (scaled c -ℤ c .args .sum)
+difference-most : (c : tie.Start) → AtMost (65535 * 34359738368 + 2 ^ 59) (scaled c -ℤ c .args .sum)
 difference-most c = sub-most (scaled-most c) (c .pre .2)
 
 difference-is : (c : tie.Start) → toZ w64 (ofZ w64 (toZ w64 (c .args .t0) *ℤ toZ w64 (4294967296 * c .args .count))) -ℤ toZ w64 (ofZ w64 (c .args .sum)) ≡ scaled c -ℤ c .args .sum

@@ -9,7 +9,6 @@ use mir.Syntax.{w64}
 use mir.Val.{toZ, ofZ}
 use mir.Facts.{fits-below}
 use borrow.Author.Needs.{needs}
-use Rattle.algebra.specs.Bound.{most-more}
 use Rattle.geometry.specs.Shape.{outputLength}
 use Rattle.geometry.specs.ShapeLaws.{area-most}
 use Rattle.geometry.specs.Read.{planeOf}
@@ -100,7 +99,7 @@ corrected-requires : tie.Need-corrected-requires Inv-loop μ-loop
 corrected-requires c κs =
     let w = c .before .before .windowed in
     let e : toZ w64 (ofZ w64 (w .result)) ≡ w .result = search needs in
-    (omega arith, omega arith, rw e (most-more (omega arith) (w .ensures .1)))
+    (omega arith, omega arith, rw e (w .ensures .1))
 
 mul-output : tie.Need-mul-output Inv-loop μ-loop
 mul-output c = search needs

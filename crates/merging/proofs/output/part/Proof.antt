@@ -1,6 +1,6 @@
 -- A word of the row, which is small, times its weight.
 use mathlib.Core.Path.{ap, _∙_}
-use Prim.Native.Nat.{_+_, _*_, _^_}
+use Prim.Native.Nat.{_+_, _*_}
 use native.Mathlib.Omega.{arith}
 use lib.IntN.{pos, _*ℤ_}
 use lib.ListN.{getD}
@@ -9,11 +9,12 @@ use mir.Syntax.{w64}
 use mir.Facts.{toZ-ofZ}
 use borrow.Author.Needs.{needs}
 use Rattle.algebra.specs.Bound.{AtMost, most-fits}
+use Rattle.merging.specs.Sum.{summedMost}
 use Rattle.merging.proofs.Signed.{product-is, product-most}
 use Rattle.merging.proofs.output.part.Statement.{statement}
 use Rattle.merging.proofs.output.part.Tie as tie
 
-word-most : (c : tie.Start) → let a = c .args in AtMost (2 ^ 34) (getD (now (a .work)) (a .start + (256 * a .column + (16 * a .i + a .j))) (pos 0))
+word-most : (c : tie.Start) → let a = c .args in AtMost summedMost (getD (now (a .work)) (a .start + (256 * a .column + (16 * a .i + a .j))) (pos 0))
 word-most c = record { most = c .pre .0 .most _ (omega arith) }
 
 weight-requires : tie.Need-weight-requires

@@ -13,13 +13,13 @@ use Rattle.merging.proofs.Weights.{words-fewer, windowed-four}
 use Rattle.merging.proofs.output.windowed.Statement.{statement}
 use Rattle.merging.proofs.output.windowed.Tie as tie
 
-most-2 : (c : tie.After-part2) → AtMost (2 ^ 59) (plus64 (c .before .part .result) (c .part2 .result))
+most-2 : (c : tie.After-part2) → AtMost (2 ^ 58) (plus64 (c .before .part .result) (c .part2 .result))
 most-2 c = sum-most (c .before .part .ensures .1) (c .part2 .ensures .1) tt tt
 
-most-3 : (c : tie.After-part3) → AtMost (2 ^ 59 + 2 ^ 58) (plus64 (plus64 (c .before .before .part .result) (c .before .part2 .result)) (c .part3 .result))
+most-3 : (c : tie.After-part3) → AtMost (2 ^ 58 + 2 ^ 57) (plus64 (plus64 (c .before .before .part .result) (c .before .part2 .result)) (c .part3 .result))
 most-3 c = sum-most (most-2 (c .before)) (c .part3 .ensures .1) tt tt
 
-most-4 : (c : tie.After-part4) → AtMost (2 ^ 60) (plus64 (plus64 (plus64 (c .before .before .before .part .result) (c .before .before .part2 .result)) (c .before .part3 .result)) (c .part4 .result))
+most-4 : (c : tie.After-part4) → AtMost (2 ^ 59) (plus64 (plus64 (plus64 (c .before .before .before .part .result) (c .before .before .part2 .result)) (c .before .part3 .result)) (c .part4 .result))
 most-4 c = sum-most (most-3 (c .before)) (c .part4 .ensures .1) tt tt
 
 add-part : tie.Need-add-part

@@ -1,28 +1,22 @@
 -- A tile of sums: filled row by row from the front.
 use mathlib.Core.Path.{refl}
-use mathlib.Core.List.{[]}
-use Prim.Native.Nat.{ℕ, _-_, _≤_, _<_}
+use Prim.Native.Nat.{_-_}
 use native.Mathlib.Omega.{arith}
-use lib.IntN.{pos, natAbs, _+ℤ_}
+use lib.IntN.{pos, _+ℤ_}
 use borrow.Author.Needs.{needs}
-use borrow.Author.Count.{below-more}
 use Rattle.sequences.specs.Tab.{tab, Filled, fill-start, fill-turn, fill-done}
 use Rattle.sequences.specs.Grid.{grid, cell}
 use Rattle.merging.proofs.tiles.added.Statement.{statement}
 use Rattle.merging.proofs.tiles.added.Tie as tie
 
 abbrev Inv-loop : tie.InvT-loop
-Inv-loop sum term tile₀ i₀ tile i =
-    (Filled (λ i. tab 16 (λ j. cell (pos 0) sum i j +ℤ cell (pos 0) term i j)) 16 i tile₀ tile) × ((k : ℕ) → k < i → (j : ℕ) → j < 16 → natAbs (cell (pos 0) term k j) ≤ 2147483648)
+Inv-loop sum term tile₀ i₀ tile i = Filled (λ i. tab 16 (λ j. cell (pos 0) sum i j +ℤ cell (pos 0) term i j)) 16 i tile₀ tile
 
 abbrev μ-loop : tie.MeasureT-loop
 μ-loop sum term tile₀ i₀ tile i = 16 - i
 
-none : {k : ℕ} → k < 0 → ⊥
-none h = omega arith
-
 loop-holds : tie.Need-loop-holds Inv-loop μ-loop
-loop-holds c = (fill-start refl, λ k h. absurd (none h))
+loop-holds c = fill-start refl
 
 mul-added-row : tie.Need-mul-added-row Inv-loop μ-loop
 mul-added-row c = search needs
@@ -37,7 +31,7 @@ array-copy-out-added-row-2 : tie.Need-array-copy-out-added-row-2 Inv-loop μ-loo
 array-copy-out-added-row-2 c = search needs
 
 added-row-requires : tie.Need-added-row-requires Inv-loop μ-loop
-added-row-requires c κs = c .before .before .before .before .pre _
+added-row-requires c κs = c .before .before .before .before .pre .line _
 
 mul-tile : tie.Need-mul-tile Inv-loop μ-loop
 mul-tile c = search needs
@@ -53,13 +47,11 @@ loop-less c = search needs
 
 loop-again : tie.Need-loop-again Inv-loop μ-loop
 unfolding cell
-loop-again c =
-    let w = c .before .before .before .before .loop in
-    (fill-turn (w .inv .0) (omega arith) (c .added-row .ensures .0), below-more _ _ (w .inv .1) (c .added-row .ensures .1))
+loop-again c = fill-turn (c .before .before .before .before .loop .inv) (omega arith) (c .added-row .ensures)
 
 returns : tie.Need-returns Inv-loop μ-loop
 unfolding grid
-returns c = (fill-done (c .before .loop .inv .0) (omega arith), λ i j h k. c .before .loop .inv .1 i (omega arith) j k)
+returns c = fill-done (c .before .loop .inv) (omega arith)
 
 pub added-spec : {M : Type 1} → statement M
 added-spec =

@@ -1,28 +1,25 @@
--- A row of sums, filled from the front; each term is one of 32 bits.
+-- A row of sums: filled from the front.
 use mathlib.Core.Path.{_≡_, refl, ap₂, _∙_}
-use Prim.Native.Nat.{ℕ, _-_, _≤_, _<_}
+use Prim.Native.Nat.{_-_}
 use native.Mathlib.Omega.{arith}
-use lib.IntN.{pos, natAbs, _+ℤ_}
+use lib.IntN.{pos, _+ℤ_}
 use lib.ListN.{getD}
 use mir.Syntax.{w32, w64}
 use mir.Val.{SFits, toZ, ofZ}
 use mir.Facts.{toZ-ofZ}
 use borrow.Author.Needs.{needs}
-use borrow.Author.Count.{below-more}
-use Rattle.algebra.specs.Fit.{abs-sfits}
 use Rattle.sequences.specs.Tab.{Filled, fill-start, fill-turn, fill-done}
 use Rattle.merging.proofs.tiles.added_row.Statement.{statement}
 use Rattle.merging.proofs.tiles.added_row.Tie as tie
 
 abbrev Inv-loop : tie.InvT-loop
-Inv-loop sum term row₀ j₀ row j =
-    (Filled (λ j. getD sum j (pos 0) +ℤ getD term j (pos 0)) 16 j row₀ row) × ((k : ℕ) → k < j → natAbs (getD term k (pos 0)) ≤ 2147483648)
+Inv-loop sum term row₀ j₀ row j = Filled (λ j. getD sum j (pos 0) +ℤ getD term j (pos 0)) 16 j row₀ row
 
 abbrev μ-loop : tie.MeasureT-loop
 μ-loop sum term row₀ j₀ row j = 16 - j
 
 loop-holds : tie.Need-loop-holds Inv-loop μ-loop
-loop-holds c = (fill-start refl, λ k h. omega arith)
+loop-holds c = fill-start refl
 
 mul-plus : tie.Need-mul-plus Inv-loop μ-loop
 mul-plus c = search needs
@@ -39,7 +36,7 @@ array-copy-out-plus-2 c = search needs
 plus-requires : tie.Need-plus-requires Inv-loop μ-loop
 plus-requires c κs =
     let sum : SFits w64 (getD (c .before .before .before .before .args .t1) (c .before .before .before .loop .j) (pos 0)) = record { sfits = c .before .plus-arg .given } in
-    rw (toZ-ofZ sum) (c .before .before .before .before .pre .most _)
+    rw (toZ-ofZ sum) (record { most = c .before .before .before .before .pre .at _ })
 
 mul-row : tie.Need-mul-row Inv-loop μ-loop
 mul-row c = search needs
@@ -61,10 +58,10 @@ loop-again c =
     let sum : SFits w64 (getD (a .t1) j (pos 0)) = record { sfits = c .before .before .plus-arg .given } in
     let term : SFits w32 (getD (a .t2) j (pos 0)) = record { sfits = c .before .plus-arg2 .given } in
     let e : toZ w64 (ofZ w64 (c .plus .result)) ≡ c .plus .result = search needs in
-    (fill-turn (w .loop .inv .0) (omega arith) (e ∙ c .plus .ensures ∙ ap₂ _+ℤ_ (toZ-ofZ sum) (toZ-ofZ term)), below-more _ _ (w .loop .inv .1) (abs-sfits (getD (a .t2) j (pos 0)) term))
+    fill-turn (w .loop .inv) (omega arith) (e ∙ c .plus .ensures ∙ ap₂ _+ℤ_ (toZ-ofZ sum) (toZ-ofZ term))
 
 returns : tie.Need-returns Inv-loop μ-loop
-returns c = (fill-done (c .before .loop .inv .0) (omega arith), λ j h. c .before .loop .inv .1 j (omega arith))
+returns c = fill-done (c .before .loop .inv) (omega arith)
 
 pub added-row-spec : {M : Type 1} → statement M
 added-row-spec =

@@ -56,7 +56,7 @@ loop-again : tie.Need-loop-again Inv-loop μ-loop
 unfolding sceneOf
 loop-again c =
     let w = c .before .before .before .before .before in
-    sum-turn (w .loop .inv) (omega arith) (w .before .before .before .pre .2 .number) (difference-is (c .before .before)) (c .before .correction .ensures) (c .added .ensures .0) (c .added .ensures .1)
+    sum-turn (w .loop .inv) (omega arith) (w .before .before .before .pre .2 .number) (difference-is (c .before .before)) (c .before .correction .ensures .0) (c .added .ensures) (c .before .correction .ensures .1)
 
 returns : tie.Need-returns Inv-loop μ-loop
 unfolding sceneOf
