@@ -1,0 +1,81 @@
+-- The vectors of a level's tiles, from the coarsest level to the finest.
+use Prim.Native.Nat.{ℕ, zero, suc, _+_, _*_, _/_, _%_}
+use lib.IntN.{ℤ}
+use Rattle.algebra.specs.Sums.{sumN}
+use Rattle.geometry.specs.Tiles.{Level, level0, level1, level2, level3, Step, step1to0, step2to1, step3to2, tileCount, origin, own, neighbour, capped}
+use Rattle.alignment.specs.declared.Vector.{Vector}
+use Rattle.alignment.specs.Vectors.{still, _times_}
+use Rattle.alignment.specs.Residual.{Pair, Tile, residual}
+use Rattle.alignment.specs.Search.{found, guessed}
+
+-- the vector of the tile at a row and a column of tiles
+abbrev pub Field : Type 0
+Field = ℕ → ℕ → Vector
+
+-- the levels and the steps to them by number
+abbrev pub levelAt : ℕ → Level
+levelAt zero = level0
+levelAt (suc zero) = level1
+levelAt (suc (suc zero)) = level2
+levelAt (suc (suc (suc k))) = level3
+
+abbrev pub stepTo : ℕ → Step
+stepTo zero = step1to0
+stepTo (suc zero) = step2to1
+stepTo (suc (suc k)) = step3to2
+
+-- "Tiles have side 16 (8 at level 3) and half step s = 8 (4). Indices run from 0 to ceil(size/s), origin −s + s·index, both ways."
+unfoldable pub tileAt : Level → (row column : ℕ) → Tile
+tileAt l row column = record { side = l .side; row = origin (l .half) row; column = origin (l .half) column }
+
+-- "Three candidates, their vectors times f: own; neighbour sideways; neighbour vertically", from a coarse field of so many rows and columns
+unfoldable pub candidate : Step → (rows columns : ℕ) → Field → (row column : ℕ) → ℕ → Vector
+candidate s rows columns coarse row column zero =
+    coarse (capped rows (own (s .quotient) row)) (capped columns (own (s .quotient) column)) times s .factor
+candidate s rows columns coarse row column (suc zero) =
+    coarse (capped rows (own (s .quotient) row)) (capped columns (neighbour (s .quotient) column)) times s .factor
+candidate s rows columns coarse row column (suc (suc k)) =
+    coarse (capped rows (neighbour (s .quotient) row)) (capped columns (own (s .quotient) column)) times s .factor
+
+-- "At level 3 the guess is (0,0)."
+unfoldable pub coarsest : Level → Pair → Field
+coarsest l p row column = found (l .squared) p (tileAt l row column) still
+
+-- a finer level's field from the coarse one's
+unfoldable pub finer : Level → Step → (rows columns : ℕ) → Pair → Field → Field
+finer l s rows columns p coarse row column =
+    found (l .squared) p (tileAt l row column) (guessed p (tileAt l row column) (candidate s rows columns coarse row column))
+
+-- how many rows and columns of tiles a level has
+unfoldable pub tileRows : Level → Pair → ℕ
+tileRows l p = tileCount (l .half) (p .height)
+
+unfoldable pub tileColumns : Level → Pair → ℕ
+tileColumns l p = tileCount (l .half) (p .width)
+
+-- the fields of the levels 3 to 0, from the levels' pairs of images
+unfoldable pub field3 : (ℕ → Pair) → Field
+field3 p = coarsest level3 (p 3)
+
+unfoldable pub field2 : (ℕ → Pair) → Field
+field2 p = finer level2 step3to2 (tileRows level3 (p 3)) (tileColumns level3 (p 3)) (p 2) (field3 p)
+
+unfoldable pub field1 : (ℕ → Pair) → Field
+field1 p = finer level1 step2to1 (tileRows level2 (p 2)) (tileColumns level2 (p 2)) (p 1) (field2 p)
+
+unfoldable pub field0 : (ℕ → Pair) → Field
+field0 p = finer level0 step1to0 (tileRows level1 (p 1)) (tileColumns level1 (p 1)) (p 0) (field1 p)
+
+-- "tiles go row by row, each as down, right": the k-th number of a field of so many columns
+unfoldable pub part : ℕ → Vector → ℤ
+part zero v = v .down
+part (suc k) v = v .right
+
+unfoldable pub word : (columns : ℕ) → Field → ℕ → ℤ
+word columns f k = part (k % 2) (f (k / 2 / columns) (k / 2 % columns))
+
+-- "the sum of finest residuals"
+unfoldable pub residualSum : (ℕ → Pair) → ℕ
+residualSum p =
+    sumN (tileRows level0 (p 0))
+    (λ row. sumN (tileColumns level0 (p 0)) (λ column. residual (level0 .squared) (p 0) (tileAt level0 row column) (field0 p row column)))

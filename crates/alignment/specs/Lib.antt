@@ -1,0 +1,11 @@
+pub mod Vectors
+pub mod Offsets
+pub mod OffsetLaws
+pub mod Residual
+pub mod Search
+pub mod FirstLaws
+pub mod SearchLaws
+pub mod Fields
+pub mod Words
+pub mod Local
+pub mod PlaceLaws

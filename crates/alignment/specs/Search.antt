@@ -1,0 +1,23 @@
+-- The search around a guess, and the guess from three candidates.
+use mathlib.Core.Bool.{Bool, false}
+use Prim.Native.Nat.{ℕ}
+use Rattle.sequences.specs.Least.{firstMin}
+use Rattle.alignment.specs.declared.Vector.{Vector}
+use Rattle.alignment.specs.Vectors.{_plus_}
+use Rattle.alignment.specs.Offsets.{offset}
+use Rattle.alignment.specs.Residual.{Pair, Tile, residual}
+
+-- "Then all offsets −4..4 in both directions are tried": the residual at the k-th of them
+unfoldable pub tried : (squared : Bool) → Pair → Tile → (guess : Vector) → ℕ → ℕ
+tried squared p t guess k = residual squared p t (guess plus offset k)
+
+-- the first of the least, in tie order
+unfoldable pub chosen : (squared : Bool) → Pair → Tile → (guess : Vector) → ℕ
+chosen squared p t guess = firstMin (tried squared p t guess) 80
+
+unfoldable pub found : (squared : Bool) → Pair → Tile → (guess : Vector) → Vector
+found squared p t guess = guess plus offset (chosen squared p t guess)
+
+-- "Three candidates [..] Least sum of absolute differences becomes the guess, the earlier on a tie."
+unfoldable pub guessed : Pair → Tile → (candidate : ℕ → Vector) → Vector
+guessed p t candidate = candidate (firstMin (λ k. residual false p t (candidate k)) 2)

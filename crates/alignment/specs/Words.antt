@@ -1,0 +1,45 @@
+-- Images in the work area: a row of them after the other, a word for each value.
+use mathlib.Core.Path.{_≡_}
+use mathlib.Core.List.{List}
+use Prim.Native.Nat.{ℕ, _+_, _*_, _/_, _%_, _≤_, _<_, _^_}
+use lib.IntN.{ℤ, pos, natAbs}
+use lib.ListN.{length, getD}
+use Rattle.geometry.specs.Read.{Image}
+use Rattle.sequences.specs.Write.{written}
+
+-- the number at a place of the work area
+unfoldable pub wordAt : List ℤ → ℕ → ℕ
+wordAt words k = natAbs (getD words k (pos 0))
+
+-- the image whose rows of `width` words stand from `at` on
+unfoldable pub imageAt : List ℤ → (at width : ℕ) → Image
+imageAt words at width row column = wordAt words (at + row * width + column)
+
+-- the words with an image of a height and a width written from `at` on
+unfoldable pub laid : List ℤ → (at height width : ℕ) → Image → List ℤ
+laid words at height width image = written words at (λ k. pos (image (k / width) (k % width))) (height * width)
+
+-- from `at` on stands an image of a height and a width, whose values are at most four samples' sum, 4 · 4095
+pub record Holds (words : List ℤ) (at height width : ℕ) (image : Image) : Type 0 where
+  pub room : at + height * width ≤ length words
+  pub is : (row column : ℕ) → row < height → column < width → getD words (at + row * width + column) (pos 0) ≡ pos (image row column)
+  pub most : (row column : ℕ) → row < height → column < width → image row column ≤ 16380
+
+-- at a place stands such a value
+pub record Held (words : List ℤ) (k : ℕ) : Type 0 where
+  pub here : k < length words
+  pub is : getD words k (pos 0) ≡ pos (wordAt words k)
+  pub most : wordAt words k ≤ 16380
+
+-- at each of n places from `at` on stands such a value
+pub record Row (words : List ℤ) (at n : ℕ) : Type 0 where
+  pub room : at + n ≤ length words
+  pub held : (k : ℕ) → k < n → Held words (at + k)
+
+-- an image stands from `from` on
+pub record Source (words : List ℤ) (from height width : ℕ) : Type 0 where
+  pub high : 0 < height
+  pub wide : 0 < width
+  pub high-small : height < 2 ^ 32
+  pub wide-small : width < 2 ^ 32
+  pub holds : Holds words from height width (imageAt words from width)

@@ -1,0 +1,8 @@
+// Alignment: residuals, three candidates, the search in tie order, and the loop over the levels.
+pub mod residual;
+
+// A displacement in whole samples.
+pub struct Vector {
+    pub down: i64,
+    pub right: i64,
+}
