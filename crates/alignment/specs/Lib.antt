@@ -8,4 +8,7 @@ pub mod SearchLaws
 pub mod Fields
 pub mod Words
 pub mod Local
+pub mod LocalLaws
 pub mod PlaceLaws
+pub mod SignedLaws
+pub mod WordLaws

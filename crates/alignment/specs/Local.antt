@@ -6,6 +6,9 @@ use Prim.Native.Nat.{ℕ, _+_, _*_, _≤_, _<_}
 use lib.IntN.{ℤ, pos, _+ℤ_}
 use lib.ListN.{length, getD}
 use Rattle.algebra.specs.Sums.{sumN}
+use Rattle.sequences.specs.Least.{firstMin}
+use Rattle.alignment.specs.declared.search.Best.{Best}
+use Rattle.alignment.specs.Offsets.{downs, rights}
 use Rattle.alignment.specs.Residual.{difference}
 
 -- the sum of differences of `side` samples, those of the tile from `a` on and of the window from `b` on
@@ -23,6 +26,22 @@ pub record Inside (tile window : List ℕ) (start stride side : ℕ) : Type 0 wh
   pub tile-room : side * side ≤ length tile
   pub window-room : start + (side * stride + side) ≤ length window + stride
 
--- the array holds the square of n by n values of f from a row and a column on
-pub record Copied (l : List ℕ) (n : ℕ) (f : ℤ → ℤ → ℕ) (row column : ℤ) : Type 0 where
-  pub cell : (i j : ℕ) → i < n → j < n → getD l (i * n + j) 0 ≡ f (row +ℤ pos i) (column +ℤ pos j)
+-- the sum at the offset number k, in a window that reaches 4 samples further than the tile each way
+unfoldable pub windowSum : (squared : Bool) → (tile window : List ℕ) → (side k : ℕ) → ℕ
+windowSum squared tile window side k =
+    squareSum squared tile window (getD downs k 0 * (side + 8) + getD rights k 0) (side + 8) side
+
+pub record Window (tile window : List ℕ) (side : ℕ) : Type 0 where
+  pub small : side ≤ 32
+  pub tile-room : side * side ≤ length tile
+  pub window-room : (side + 8) * (side + 8) ≤ length window
+
+-- the first least of the 81 sums
+pub record Searched (squared : Bool) (tile window : List ℕ) (side : ℕ) (r : Best) : Type 0 where
+  pub is : r .offset ≡ firstMin (windowSum squared tile window side) 80
+  pub low : r .residual ≡ windowSum squared tile window side (r .offset)
+  pub within : r .offset < 81
+
+-- the array holds so many rows of n values of f, from a row and a column on
+pub record Copied (l : List ℕ) (rows n : ℕ) (f : ℤ → ℤ → ℕ) (row column : ℤ) : Type 0 where
+  pub cell : (i j : ℕ) → i < rows → j < n → getD l (i * n + j) 0 ≡ f (row +ℤ pos i) (column +ℤ pos j)

@@ -74,15 +74,22 @@ offset-at o w =
       ),
     )
 
-small : T (all 81 (λ k. both (leb (natAbs (offset k .down)) 4) (leb (natAbs (offset k .right)) 4)))
-unfolding downs rights offset
-small = tt
+parts : T (all 81 (λ k. both (leb (getD downs k 0) 8) (leb (getD rights k 0) 8)))
+unfolding downs rights
+parts = tt
+
+pub parts-most : (k : ℕ) → k < 81 → (getD downs k 0 ≤ 8) × (getD rights k 0 ≤ 8)
+parts-most k h =
+    let t = all-sound 81 (λ k. both (leb (getD downs k 0) 8) (leb (getD rights k 0) 8)) parts k h in (
+      leb→le (getD downs k 0) 8 (both-l (leb (getD downs k 0) 8) (leb (getD rights k 0) 8) t),
+      leb→le (getD rights k 0) 8 (both-r (leb (getD downs k 0) 8) (leb (getD rights k 0) 8) t),
+    )
+
+part-within : (n : ℕ) → n ≤ 8 → natAbs (pos n -ℤ pos 4) ≤ 4
+part-within n h = omega (zarith, abs-pn (pos n -ℤ pos 4), min-pn (pos n -ℤ pos 4), sub-pn (pos n) (pos 4))
 
 -- and the table has no other
 pub offset-within : (k : ℕ) → k < 81 → Within 4 (offset k)
+unfolding offset
 offset-within k h =
-    let t = all-sound 81 (λ k. both (leb (natAbs (offset k .down)) 4) (leb (natAbs (offset k .right)) 4)) small k h in
-    record {
-      vertical = leb→le (natAbs (offset k .down)) 4 (both-l (leb (natAbs (offset k .down)) 4) (leb (natAbs (offset k .right)) 4) t);
-      sideways = leb→le (natAbs (offset k .right)) 4 (both-r (leb (natAbs (offset k .down)) 4) (leb (natAbs (offset k .right)) 4) t);
-    }
+    record { vertical = part-within (getD downs k 0) (parts-most k h .0); sideways = part-within (getD rights k 0) (parts-most k h .1) }

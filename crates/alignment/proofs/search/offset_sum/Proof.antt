@@ -1,0 +1,66 @@
+-- The table's parts are at most 8, so that the window lies within its array.
+use native.Mathlib.Nat.{mul-le-mul-right}
+use Rattle.alignment.specs.Offsets.{downs, rights}
+use Rattle.alignment.specs.OffsetLaws.{parts-most}
+use Rattle.alignment.specs.Local.{windowSum}
+use Rattle.alignment.specs.LocalLaws.{window-inside}
+use native.Mathlib.Omega.{arith}
+use mathlib.Core.Path.{_≡_, ap, _∙_}
+use Prim.Native.Nat.{_+_, _*_, _≤_}
+use lib.ListN.{getD}
+use borrow.Author.Needs.{needs}
+use Rattle.alignment.proofs.search.offset_sum.Statement.{statement}
+use Rattle.alignment.proofs.search.offset_sum.Tie as tie
+
+add-stride : tie.Need-add-stride
+add-stride c = search needs
+
+element-copy-out-wide : tie.Need-element-copy-out-wide
+element-copy-out-wide c = search needs
+
+wide-requires : tie.Need-wide-requires
+wide-requires c κs = search needs
+
+down-is : (c : tie.After-wide) → let a = c .before .before .before .before .args in c .wide .result ≡ getD downs (a .k) 0
+down-is c = let s = c .before .before .before .before in c .wide .ensures ∙ ap (λ l. getD l (s .args .k) 0) (s .pre .1)
+
+right-is : (c : tie.After-wide2) → let a = c .before .before .before .before .before .before .args in c .wide2 .result ≡ getD rights (a .k) 0
+right-is c = let s = c .before .before .before .before .before .before in c .wide2 .ensures ∙ ap (λ l. getD l (s .args .k) 0) (s .pre .2)
+
+down-most : (c : tie.After-wide) → let a = c .before .before .before .before .args in c .wide .result * (a .side + 8) ≤ 8 * (a .side + 8)
+down-most c =
+    let s = c .before .before .before .before in
+    mul-le-mul-right (s .args .side + 8) (omega (arith, down-is c, parts-most (s .args .k) (s .pre .3) .0))
+
+mul-start : tie.Need-mul-start
+mul-start c = omega (arith, down-most c)
+
+element-copy-out-wide-2 : tie.Need-element-copy-out-wide-2
+element-copy-out-wide-2 c = search needs
+
+wide-requires-2 : tie.Need-wide-requires-2
+wide-requires-2 c κs = search needs
+
+add-start : tie.Need-add-start
+add-start c = let s = c .before .before .before .before .before .before in omega (arith, down-most (c .before .before), right-is c, parts-most (s .args .k) (s .pre .3) .1)
+
+square-sum-requires : tie.Need-square-sum-requires
+square-sum-requires c κs = let s = c .before .before .before .before .before .before in rw (down-is (c .before .before), right-is c) (window-inside (s .pre .0) (s .args .k) (s .pre .3))
+
+returns : tie.Need-returns
+unfolding windowSum
+returns c = rw (← down-is (c .before .before .before), ← right-is (c .before)) (c .square-sum .ensures .0)
+
+pub offset-sum-spec : {M : Type 1} → statement M
+offset-sum-spec =
+    tie.close
+    (tie.spec
+    add-stride
+    element-copy-out-wide
+    wide-requires
+    mul-start
+    element-copy-out-wide-2
+    wide-requires-2
+    add-start
+    square-sum-requires
+    returns)

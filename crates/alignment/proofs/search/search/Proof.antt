@@ -1,0 +1,57 @@
+-- The loop keeps the first least of the offsets tried so far; the arrays are the table's.
+use mathlib.Core.Logic.{⊎-elim}
+use Rattle.sequences.specs.Least.{Least, least-start, least-take, least-keep, least-done}
+use Rattle.alignment.specs.Offsets.{downs, rights}
+use Rattle.alignment.specs.Local.{windowSum}
+use borrow.Author.Needs.{needs}
+use native.Mathlib.Omega.{arith}
+use Prim.Native.Nat.{_-_}
+use Rattle.alignment.proofs.search.search.Statement.{statement}
+use Rattle.alignment.proofs.search.search.Tie as tie
+
+abbrev Inv-loop : tie.InvT-loop
+Inv-loop squared tile window side down right best₀ low₀ k₀ best low k = Least (windowSum squared tile window side) 81 k best low
+
+abbrev μ-loop : tie.MeasureT-loop
+μ-loop squared tile window side down right best₀ low₀ k₀ best low k = 81 - k
+
+offset-sum-requires : tie.Need-offset-sum-requires Inv-loop μ-loop
+unfolding downs rights
+offset-sum-requires c κs = search needs
+
+loop-holds : tie.Need-loop-holds Inv-loop μ-loop
+loop-holds c = least-start (omega arith) (c .offset-sum .ensures)
+
+offset-sum-requires-2 : tie.Need-offset-sum-requires-2 Inv-loop μ-loop
+unfolding downs rights
+offset-sum-requires-2 c κs = search needs
+
+add-k : tie.Need-add-k Inv-loop μ-loop
+add-k c = search needs
+
+loop-less : tie.Need-loop-less Inv-loop μ-loop
+loop-less c = search needs
+
+loop-again : tie.Need-loop-again Inv-loop μ-loop
+loop-again c = let l = c .before .before .before .before .before .loop in
+    ⊎-elim
+    (λ w. rw (w .1, w .2) (least-take (l .inv) (omega arith) (c .before .offset-sum2 .ensures) (w .0 .taken)))
+    (λ w. rw (w .1, w .2) (least-keep (l .inv) (omega arith) (c .before .offset-sum2 .ensures) (w .0 .left)))
+    (c .if1 .came)
+
+returns : tie.Need-returns Inv-loop μ-loop
+returns c = let d = least-done (c .before .loop .inv) (omega arith) in record { is = d .0; low = d .1; within = omega arith }
+
+pub search-spec : {M : Type 1} → statement M
+search-spec =
+    tie.close
+    (tie.spec
+    Inv-loop
+    μ-loop
+    offset-sum-requires
+    loop-holds
+    offset-sum-requires-2
+    add-k
+    loop-less
+    loop-again
+    returns)

@@ -1,0 +1,75 @@
+-- What is found in local arrays is what the definitions say of the images that were copied there.
+use mathlib.Core.Path.{_≡_, refl, sym, ap, ap₂, _∙_}
+use mathlib.Core.Bool.{Bool}
+use mathlib.Core.List.{List}
+use Prim.Native.Nat.{ℕ, _+_, _*_, _≤_, _<_}
+use native.Mathlib.Nat.{mul-le-mul-right}
+use native.Mathlib.Omega.{arith}
+use borrow.Author.Count.{below-more}
+use lib.IntN.{ℤ, pos, _+ℤ_, _-ℤ_}
+use lib.ListN.{length, getD}
+use Rattle.algebra.specs.Sums.{sumN-cong}
+use Rattle.algebra.specs.Order.{zarith, add-pn, sub-pn}
+use Rattle.sequences.specs.Write.{written, written-in, written-before}
+use Rattle.alignment.specs.declared.Vector.{Vector}
+use Rattle.alignment.specs.Vectors.{_plus_}
+use Rattle.alignment.specs.Offsets.{downs, rights, offset}
+use Rattle.alignment.specs.OffsetLaws.{parts-most}
+use Rattle.alignment.specs.PlaceLaws.{row-below}
+use Rattle.alignment.specs.Residual.{difference, Pair, Tile, rowResidual, residual}
+use Rattle.alignment.specs.Search.{tried}
+use Rattle.alignment.specs.Local.{rowSum, squareSum, Inside, windowSum, Window, Copied}
+
+-- each of the 81 windows lies within its array
+pub window-inside : {tile window : List ℕ} {side : ℕ} → Window tile window side → (k : ℕ) → k < 81 → Inside tile window (getD downs k 0 * (side + 8) + getD rights k 0) (side + 8) side
+window-inside {side = side} w k h =
+    record {
+      small = w .small;
+      narrow = omega (arith, w .small);
+      tile-room = w .tile-room;
+      window-room = omega (arith, w .window-room, mul-le-mul-right (side + 8) (parts-most k h .0), parts-most k h .1);
+    }
+
+-- one row more
+pub copied-turn : {l : List ℕ} {i n : ℕ} {f : ℤ → ℤ → ℕ} {row column : ℤ} → Copied l i n f row column → i * n + n ≤ length l → (g : ℕ → ℕ) → ((j : ℕ) → g j ≡ f (row +ℤ pos i) (column +ℤ pos j)) → Copied (written l (i * n) g n) (i + 1) n f row column
+copied-turn {l} {i} {n} {f} {row} {column} c room g e =
+    record {
+      cell = λ k j h m.
+          below-more (λ k. getD (written l (i * n) g n) (k * n + j) 0 ≡ f (row +ℤ pos k) (column +ℤ pos j)) i
+          (λ k b. written-before l (i * n) g n 0 room (k * n + j) (omega (arith, row-below n b)) ∙ c .cell k j b m)
+          (written-in l (i * n) g n 0 room j m ∙ e j) k h;
+    }
+
+same-place : (a b c i d : ℤ) → a +ℤ b ≡ c +ℤ d → a +ℤ (b +ℤ i) ≡ c +ℤ i +ℤ d
+same-place a b c i d e =
+    omega (zarith, add-pn a b, add-pn c d, add-pn a (b +ℤ i), add-pn b i, add-pn (c +ℤ i) d, add-pn c i)
+
+cell-place : (y x i j start stride : ℕ) → start ≡ y * stride + x → start + i * stride + j ≡ (y + i) * stride + (x + j)
+cell-place y x i j start stride e = omega arith
+
+-- The tile's array against a window's, which starts y rows and x columns above the tile moved by v
+module _ (squared : Bool) (p : Pair) (t : Tile) (v : Vector) (tile window : List ℕ) (start stride y x : ℕ) (row column : ℤ)
+    (copied : Copied tile (t .side) (t .side) (p .reference) (t .row) (t .column)) (seen : Copied window stride stride (p .other) row column)
+    (high : y + t .side ≤ stride) (wide : x + t .side ≤ stride) (from : start ≡ y * stride + x)
+    (down : row +ℤ pos y ≡ t .row +ℤ v .down) (right : column +ℤ pos x ≡ t .column +ℤ v .right) where
+  pub square-residual : squareSum squared tile window start stride (t .side) ≡ residual squared p t v
+  unfolding squareSum rowSum residual rowResidual
+  square-residual =
+      sumN-cong (t .side) _ _
+      (λ i h. sumN-cong (t .side) _ _
+      (λ j k. ap₂ (difference squared) (copied .cell i j h k)
+      (ap (λ n. getD window n 0) (cell-place y x i j start stride from)
+      ∙ seen .cell (y + i) (x + j) (omega arith) (omega arith)
+      ∙ ap₂ (p .other) (same-place row (pos y) (t .row) (pos i) (v .down) down) (same-place column (pos x) (t .column) (pos j) (v .right) right))))
+
+biased : (r g n : ℤ) → r +ℤ g -ℤ pos 4 +ℤ n ≡ r +ℤ (g +ℤ (n -ℤ pos 4))
+biased r g n =
+    omega (zarith, add-pn (r +ℤ g -ℤ pos 4) n, sub-pn (r +ℤ g) (pos 4), add-pn r g, add-pn r (g +ℤ (n -ℤ pos 4)), add-pn g (n -ℤ pos 4), sub-pn n (pos 4))
+
+-- the sums in a window that starts 4 rows and columns before the tile moved by the guess are the residuals that are tried
+pub window-tried : (squared : Bool) (p : Pair) (t : Tile) (guess : Vector) (tile window : List ℕ) → Copied tile (t .side) (t .side) (p .reference) (t .row) (t .column) → Copied window (t .side + 8) (t .side + 8) (p .other) (t .row +ℤ guess .down -ℤ pos 4) (t .column +ℤ guess .right -ℤ pos 4) → (k : ℕ) → k < 81 → windowSum squared tile window (t .side) k ≡ tried squared p t guess k
+unfolding windowSum tried offset
+window-tried squared p t guess tile window copied seen k h =
+    square-residual squared p t (guess plus offset k) tile window (getD downs k 0 * (t .side + 8) + getD rights k 0) (t .side + 8) (getD downs k 0) (getD rights k 0) (t .row +ℤ guess .down -ℤ pos 4) (t .column +ℤ guess .right -ℤ pos 4) copied seen
+    (omega (arith, parts-most k h .0)) (omega (arith, parts-most k h .1)) refl
+    (biased (t .row) (guess .down) (pos (getD downs k 0))) (biased (t .column) (guess .right) (pos (getD rights k 0)))
