@@ -3,9 +3,10 @@ use Prim.Native.Nat.{ℕ, zero, suc, _+_, _*_, _/_, _%_}
 use lib.IntN.{ℤ}
 use Rattle.algebra.specs.Sums.{sumN}
 use Rattle.geometry.specs.Tiles.{Level, level0, level1, level2, level3, Step, step1to0, step2to1, step3to2, tileCount, origin, own, neighbour, capped}
+use Rattle.alignment.specs.declared.Tile.{Tile}
 use Rattle.alignment.specs.declared.Vector.{Vector}
 use Rattle.alignment.specs.Vectors.{still, _times_}
-use Rattle.alignment.specs.Residual.{Pair, Tile, residual}
+use Rattle.alignment.specs.Residual.{Pair, residual}
 use Rattle.alignment.specs.Search.{found, guessed}
 
 -- the vector of the tile at a row and a column of tiles
@@ -26,25 +27,23 @@ stepTo (suc (suc k)) = step3to2
 
 -- "Tiles have side 16 (8 at level 3) and half step s = 8 (4). Indices run from 0 to ceil(size/s), origin −s + s·index, both ways."
 unfoldable pub tileAt : Level → (row column : ℕ) → Tile
-tileAt l row column = record { side = l .side; row = origin (l .half) row; column = origin (l .half) column }
-
--- "Three candidates, their vectors times f: own; neighbour sideways; neighbour vertically", from a coarse field of so many rows and columns
-unfoldable pub candidate : Step → (rows columns : ℕ) → Field → (row column : ℕ) → ℕ → Vector
-candidate s rows columns coarse row column zero =
-    coarse (capped rows (own (s .quotient) row)) (capped columns (own (s .quotient) column)) times s .factor
-candidate s rows columns coarse row column (suc zero) =
-    coarse (capped rows (own (s .quotient) row)) (capped columns (neighbour (s .quotient) column)) times s .factor
-candidate s rows columns coarse row column (suc (suc k)) =
-    coarse (capped rows (neighbour (s .quotient) row)) (capped columns (own (s .quotient) column)) times s .factor
+tileAt l row column = record { side = l .side; origin = record { down = origin (l .half) row; right = origin (l .half) column } }
 
 -- "At level 3 the guess is (0,0)."
 unfoldable pub coarsest : Level → Pair → Field
 coarsest l p row column = found (l .squared) p (tileAt l row column) still
 
--- a finer level's field from the coarse one's
+-- "Three candidates, their vectors times f: own; neighbour sideways; neighbour vertically": a finer level's field from the coarse one's, which
+-- has so many rows and columns
 unfoldable pub finer : Level → Step → (rows columns : ℕ) → Pair → Field → Field
 finer l s rows columns p coarse row column =
-    found (l .squared) p (tileAt l row column) (guessed p (tileAt l row column) (candidate s rows columns coarse row column))
+    let t = tileAt l row column in
+    let ownRow = capped rows (own (s .quotient) row) in
+    let nextRow = capped rows (neighbour (s .quotient) row) in
+    let ownColumn = capped columns (own (s .quotient) column) in
+    let nextColumn = capped columns (neighbour (s .quotient) column) in
+    found (l .squared) p t
+    (guessed p t (coarse ownRow ownColumn times s .factor) (coarse ownRow nextColumn times s .factor) (coarse nextRow ownColumn times s .factor))
 
 -- how many rows and columns of tiles a level has
 unfoldable pub tileRows : Level → Pair → ℕ

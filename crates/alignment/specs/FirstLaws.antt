@@ -25,3 +25,13 @@ first f (suc n) k h = by (first f n k) (ltb (f (suc n)) (f (firstMin f n))) refl
     by : (k < firstMin f n → f (firstMin f n) < f k) → (t : Bool) → ltb (f (suc n)) (f (firstMin f n)) ≡ t → k < pick t (suc n) (firstMin f n) → f (pick t (suc n) (firstMin f n)) < f k
     by g true e h = omega (arith, ltb-true (f (suc n)) (f (firstMin f n)) e, least f n k (omega arith))
     by g false e h = g h
+
+-- the same values, the same place
+pub firstMin-cong : (f g : ℕ → ℕ) (n : ℕ) → ((k : ℕ) → k < n + 1 → f k ≡ g k) → firstMin f n ≡ firstMin g n
+unfolding firstMin
+firstMin-cong f g zero e = refl
+firstMin-cong f g (suc n) e =
+    let s = firstMin-cong f g n (λ k h. e k (omega arith)) in
+    let a = e (suc n) (omega arith) in
+    let b = e (firstMin f n) (omega (arith, firstMin-most f n)) in
+    rw (a, b, s)

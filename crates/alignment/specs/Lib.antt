@@ -6,9 +6,10 @@ pub mod Search
 pub mod FirstLaws
 pub mod SearchLaws
 pub mod Fields
-pub mod Words
 pub mod Local
 pub mod LocalLaws
 pub mod PlaceLaws
 pub mod SignedLaws
 pub mod WordLaws
+pub mod Stored
+pub mod VectorLaws

@@ -6,19 +6,22 @@ use Prim.Native.Nat.{ℕ, _+_, _*_, _≤_, _<_}
 use native.Mathlib.Nat.{mul-le-mul-right}
 use native.Mathlib.Omega.{arith}
 use borrow.Author.Count.{below-more}
-use lib.IntN.{ℤ, pos, _+ℤ_, _-ℤ_}
+use lib.IntN.{ℤ, pos, negsuc, _+ℤ_, _-ℤ_, +ℤ-idr}
 use lib.ListN.{length, getD}
 use Rattle.algebra.specs.Sums.{sumN-cong}
 use Rattle.algebra.specs.Order.{zarith, add-pn, sub-pn}
 use Rattle.sequences.specs.Write.{written, written-in, written-before}
+use Rattle.alignment.specs.declared.Tile.{Tile}
 use Rattle.alignment.specs.declared.Vector.{Vector}
 use Rattle.alignment.specs.Vectors.{_plus_}
 use Rattle.alignment.specs.Offsets.{downs, rights, offset}
 use Rattle.alignment.specs.OffsetLaws.{parts-most}
 use Rattle.alignment.specs.PlaceLaws.{row-below}
-use Rattle.alignment.specs.Residual.{difference, Pair, Tile, rowResidual, residual}
-use Rattle.alignment.specs.Search.{tried}
-use Rattle.alignment.specs.Local.{rowSum, squareSum, Inside, windowSum, Window, Copied}
+use Rattle.alignment.specs.Residual.{difference, Pair, rowResidual, residual}
+use Rattle.alignment.specs.Search.{tried, chosen, found}
+use Rattle.alignment.specs.FirstLaws.{firstMin-cong}
+use Rattle.alignment.specs.declared.search.Best.{Best}
+use Rattle.alignment.specs.Local.{rowSum, squareSum, Inside, windowSum, Window, Searched, Copied}
 
 -- each of the 81 windows lies within its array
 pub window-inside : {tile window : List ℕ} {side : ℕ} → Window tile window side → (k : ℕ) → k < 81 → Inside tile window (getD downs k 0 * (side + 8) + getD rights k 0) (side + 8) side
@@ -49,9 +52,9 @@ cell-place y x i j start stride e = omega arith
 
 -- The tile's array against a window's, which starts y rows and x columns above the tile moved by v
 module _ (squared : Bool) (p : Pair) (t : Tile) (v : Vector) (tile window : List ℕ) (start stride y x : ℕ) (row column : ℤ)
-    (copied : Copied tile (t .side) (t .side) (p .reference) (t .row) (t .column)) (seen : Copied window stride stride (p .other) row column)
+    (copied : Copied tile (t .side) (t .side) (p .reference) (t .origin .down) (t .origin .right)) (seen : Copied window stride stride (p .other) row column)
     (high : y + t .side ≤ stride) (wide : x + t .side ≤ stride) (from : start ≡ y * stride + x)
-    (down : row +ℤ pos y ≡ t .row +ℤ v .down) (right : column +ℤ pos x ≡ t .column +ℤ v .right) where
+    (down : row +ℤ pos y ≡ t .origin .down +ℤ v .down) (right : column +ℤ pos x ≡ t .origin .right +ℤ v .right) where
   pub square-residual : squareSum squared tile window start stride (t .side) ≡ residual squared p t v
   unfolding squareSum rowSum residual rowResidual
   square-residual =
@@ -60,16 +63,28 @@ module _ (squared : Bool) (p : Pair) (t : Tile) (v : Vector) (tile window : List
       (λ j k. ap₂ (difference squared) (copied .cell i j h k)
       (ap (λ n. getD window n 0) (cell-place y x i j start stride from)
       ∙ seen .cell (y + i) (x + j) (omega arith) (omega arith)
-      ∙ ap₂ (p .other) (same-place row (pos y) (t .row) (pos i) (v .down) down) (same-place column (pos x) (t .column) (pos j) (v .right) right))))
+      ∙ ap₂ (p .other) (same-place row (pos y) (t .origin .down) (pos i) (v .down) down) (same-place column (pos x) (t .origin .right) (pos j) (v .right) right))))
 
-biased : (r g n : ℤ) → r +ℤ g -ℤ pos 4 +ℤ n ≡ r +ℤ (g +ℤ (n -ℤ pos 4))
+biased : (r g n : ℤ) → r +ℤ g +ℤ negsuc 3 +ℤ n ≡ r +ℤ (g +ℤ (n -ℤ pos 4))
 biased r g n =
-    omega (zarith, add-pn (r +ℤ g -ℤ pos 4) n, sub-pn (r +ℤ g) (pos 4), add-pn r g, add-pn r (g +ℤ (n -ℤ pos 4)), add-pn g (n -ℤ pos 4), sub-pn n (pos 4))
+    omega (zarith, add-pn (r +ℤ g +ℤ negsuc 3) n, add-pn (r +ℤ g) (negsuc 3), add-pn r g, add-pn r (g +ℤ (n -ℤ pos 4)), add-pn g (n -ℤ pos 4), sub-pn n (pos 4))
 
 -- the sums in a window that starts 4 rows and columns before the tile moved by the guess are the residuals that are tried
-pub window-tried : (squared : Bool) (p : Pair) (t : Tile) (guess : Vector) (tile window : List ℕ) → Copied tile (t .side) (t .side) (p .reference) (t .row) (t .column) → Copied window (t .side + 8) (t .side + 8) (p .other) (t .row +ℤ guess .down -ℤ pos 4) (t .column +ℤ guess .right -ℤ pos 4) → (k : ℕ) → k < 81 → windowSum squared tile window (t .side) k ≡ tried squared p t guess k
+pub window-tried : (squared : Bool) (p : Pair) (t : Tile) (guess : Vector) (tile window : List ℕ) → Copied tile (t .side) (t .side) (p .reference) (t .origin .down) (t .origin .right) → Copied window (t .side + 8) (t .side + 8) (p .other) (t .origin .down +ℤ guess .down +ℤ negsuc 3) (t .origin .right +ℤ guess .right +ℤ negsuc 3) → (k : ℕ) → k < 81 → windowSum squared tile window (t .side) k ≡ tried squared p t guess k
 unfolding windowSum tried offset
 window-tried squared p t guess tile window copied seen k h =
-    square-residual squared p t (guess plus offset k) tile window (getD downs k 0 * (t .side + 8) + getD rights k 0) (t .side + 8) (getD downs k 0) (getD rights k 0) (t .row +ℤ guess .down -ℤ pos 4) (t .column +ℤ guess .right -ℤ pos 4) copied seen
+    square-residual squared p t (guess plus offset k) tile window (getD downs k 0 * (t .side + 8) + getD rights k 0) (t .side + 8) (getD downs k 0) (getD rights k 0) (t .origin .down +ℤ guess .down +ℤ negsuc 3) (t .origin .right +ℤ guess .right +ℤ negsuc 3) copied seen
     (omega (arith, parts-most k h .0)) (omega (arith, parts-most k h .1)) refl
-    (biased (t .row) (guess .down) (pos (getD downs k 0))) (biased (t .column) (guess .right) (pos (getD rights k 0)))
+    (biased (t .origin .down) (guess .down) (pos (getD downs k 0))) (biased (t .origin .right) (guess .right) (pos (getD rights k 0)))
+
+-- a square of the other image at the tile moved by v
+pub moved-residual : (squared : Bool) (p : Pair) (t : Tile) (v : Vector) (tile moved : List ℕ) (row column : ℤ) → Copied tile (t .side) (t .side) (p .reference) (t .origin .down) (t .origin .right) → Copied moved (t .side) (t .side) (p .other) row column → row ≡ t .origin .down +ℤ v .down → column ≡ t .origin .right +ℤ v .right → squareSum squared tile moved 0 (t .side) (t .side) ≡ residual squared p t v
+moved-residual squared p t v tile moved row column copied seen down right =
+    square-residual squared p t v tile moved 0 (t .side) 0 0 row column copied seen (omega arith) (omega arith) (omega arith) (+ℤ-idr row ∙ down) (+ℤ-idr column ∙ right)
+
+-- the first least sum in the window is what the search finds
+pub searched-finds : (squared : Bool) (p : Pair) (t : Tile) (guess : Vector) (tile window : List ℕ) (best : Best) → Copied tile (t .side) (t .side) (p .reference) (t .origin .down) (t .origin .right) → Copied window (t .side + 8) (t .side + 8) (p .other) (t .origin .down +ℤ guess .down +ℤ negsuc 3) (t .origin .right +ℤ guess .right +ℤ negsuc 3) → Searched squared tile window (t .side) best → (best .offset ≡ chosen squared p t guess) × (best .residual ≡ residual squared p t (found squared p t guess))
+unfolding chosen found tried
+searched-finds squared p t guess tile window best copied seen s =
+    let e = s .is ∙ firstMin-cong (windowSum squared tile window (t .side)) (tried squared p t guess) 80 (λ k h. window-tried squared p t guess tile window copied seen k (omega arith)) in
+    (e, s .low ∙ window-tried squared p t guess tile window copied seen (best .offset) (s .within) ∙ ap (tried squared p t guess) e)

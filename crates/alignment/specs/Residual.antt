@@ -3,6 +3,7 @@ use mathlib.Core.Bool.{Bool, cond}
 use Prim.Native.Nat.{ℕ, _+_, _-_, _*_}
 use lib.IntN.{ℤ, pos, _+ℤ_}
 use Rattle.algebra.specs.Sums.{sumN}
+use Rattle.alignment.specs.declared.Tile.{Tile}
 use Rattle.alignment.specs.declared.Vector.{Vector}
 
 -- |a − b|
@@ -20,19 +21,13 @@ pub record Pair : Type 0 where
   pub reference : ℤ → ℤ → ℕ
   pub other : ℤ → ℤ → ℕ
 
--- a square of samples: its side, and the row and the column of its origin
-pub record Tile : Type 0 where
-  pub side : ℕ
-  pub row : ℤ
-  pub column : ℤ
-
 -- the sum of differences of a tile's row
 unfoldable pub rowResidual : (squared : Bool) → Pair → Tile → Vector → ℕ → ℕ
 rowResidual squared p t v i =
     sumN (t .side)
     (λ j.
-    difference squared (p .reference (t .row +ℤ pos i) (t .column +ℤ pos j))
-    (p .other (t .row +ℤ pos i +ℤ v .down) (t .column +ℤ pos j +ℤ v .right)))
+    difference squared (p .reference (t .origin .down +ℤ pos i) (t .origin .right +ℤ pos j))
+    (p .other (t .origin .down +ℤ pos i +ℤ v .down) (t .origin .right +ℤ pos j +ℤ v .right)))
 
 -- the sum of differences of the whole tile
 unfoldable pub residual : (squared : Bool) → Pair → Tile → Vector → ℕ

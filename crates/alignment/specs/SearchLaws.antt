@@ -5,15 +5,16 @@ use Prim.Native.Nat.{ℕ, zero, suc, _+_, _*_, _≤_, _<_}
 use native.Mathlib.Omega.{arith}
 use lib.Dec.{ltb}
 use lib.IntN.{ℤ, pos, natAbs}
-use borrow.Author.Tests.{ltb-true, le-ltb}
-use Rattle.algebra.specs.Order.{abs-add}
+use borrow.Author.Tests.{ltb-true, lt-ltb, le-ltb}
 use Rattle.sequences.specs.Least.{firstMin, least}
+use Rattle.alignment.specs.declared.Tile.{Tile}
 use Rattle.alignment.specs.declared.Vector.{Vector}
 use Rattle.alignment.specs.Vectors.{Within, _plus_}
+use Rattle.alignment.specs.VectorLaws.{plus-within}
 use Rattle.alignment.specs.Offsets.{offset, earlier}
 use Rattle.alignment.specs.OffsetLaws.{offset-order, offset-at, offset-within}
-use Rattle.alignment.specs.Residual.{Pair, Tile, residual}
-use Rattle.alignment.specs.Search.{tried, chosen, found}
+use Rattle.alignment.specs.Residual.{Pair, residual}
+use Rattle.alignment.specs.Search.{tried, chosen, found, three, guessed}
 use Rattle.alignment.specs.FirstLaws.{firstMin-most, first}
 
 module _ (squared : Bool) (p : Pair) (t : Tile) (guess : Vector) where
@@ -44,9 +45,32 @@ module _ (squared : Bool) (p : Pair) (t : Tile) (guess : Vector) where
   -- the parts of what is found are at most 4 more than those of the guess
   pub found-within : (b : ℕ) → Within b guess → Within (b + 4) (found squared p t guess)
   unfolding found
-  found-within b w =
-      let o = offset-within (chosen squared p t guess) chosen-most in
-      record {
-        vertical = omega (arith, w .vertical, o .vertical, abs-add (guess .down) (offset (chosen squared p t guess) .down));
-        sideways = omega (arith, w .sideways, o .sideways, abs-add (guess .right) (offset (chosen squared p t guess) .right));
-      }
+  found-within b w = plus-within w (offset-within (chosen squared p t guess) chosen-most)
+
+-- which of three candidates is the guess
+module _ (p : Pair) (t : Tile) (own sideways vertically : Vector) (x y z : ℕ) (ex : x ≡ residual false p t own) (ey : y ≡ residual false p t sideways) (ez : z ≡ residual false p t vertically) where
+  pub guess-own : x ≤ y → x ≤ z → own ≡ guessed p t own sideways vertically
+  unfolding guessed firstMin three
+  guess-own h k = rw (← ex, ← ey, le-ltb y x h, ← ex, ← ez, le-ltb z x k)
+
+  pub guess-sideways : y < x → y ≤ z → sideways ≡ guessed p t own sideways vertically
+  unfolding guessed firstMin three
+  guess-sideways h k = rw (← ex, ← ey, lt-ltb y x h, ← ey, ← ez, le-ltb z y k)
+
+  pub guess-third : x ≤ y → z < x → vertically ≡ guessed p t own sideways vertically
+  unfolding guessed firstMin three
+  guess-third h k = rw (← ex, ← ey, le-ltb y x h, ← ex, ← ez, lt-ltb z x k)
+
+  pub guess-last : y < x → z < y → vertically ≡ guessed p t own sideways vertically
+  unfolding guessed firstMin three
+  guess-last h k = rw (← ex, ← ey, lt-ltb y x h, ← ey, ← ez, lt-ltb z y k)
+
+-- and what bounds the three bounds it
+pub guess-within : (p : Pair) (t : Tile) (own sideways vertically : Vector) (b : ℕ) → Within b own → Within b sideways → Within b vertically → Within b (guessed p t own sideways vertically)
+unfolding guessed three
+guess-within p t own sideways vertically b h k l = of (firstMin (λ k. residual false p t (three own sideways vertically k)) 2)
+  where
+    of : (n : ℕ) → Within b (three own sideways vertically n)
+    of zero = h
+    of (suc zero) = k
+    of (suc (suc n)) = l

@@ -1,33 +1,18 @@
 -- Parts of rows of words, and parts written over with equal values.
 use mathlib.Core.Path.{_≡_, ap, subst}
 use mathlib.Core.List.{List}
-use Prim.Native.Nat.{ℕ, _+_, _*_, _≤_, _<_}
+use Prim.Native.Nat.{ℕ, _+_, _≤_, _<_}
 use native.Mathlib.Nat.{add-assoc}
 use native.Mathlib.Omega.{arith}
 use lib.IntN.{ℤ}
 use lib.Seq.{paste}
 use Rattle.sequences.specs.Grid.{tab-ext}
 use Rattle.sequences.specs.Write.{written}
-use Rattle.alignment.specs.Words.{imageAt, Row, Source}
-use Rattle.alignment.specs.PlaceLaws.{row-below}
+use Rattle.pyramid.specs.Words.{Row}
 
 pub row-part : {words : List ℤ} {at m : ℕ} → Row words at m → (k n : ℕ) → k + n ≤ m → Row words (at + k) n
 row-part {words} {at} {m} r k n h =
     record { room = omega (arith, r .room); held = λ j l. rw (add-assoc at k j) (r .held (k + j) (omega arith)) }
-
--- a row of an image
-pub source-row : {words : List ℤ} {from height width : ℕ} → Source words from height width → (y : ℕ) → y < height → Row words (from + y * width) width
-unfolding imageAt
-source-row {words} {from} {height} {width} s y h =
-    record {
-      room = omega (arith, s .holds .room, row-below width h);
-      held = λ k l.
-          record {
-            here = omega (arith, s .holds .room, row-below width h);
-            is = s .holds .is y k h l;
-            most = s .holds .most y k h l;
-          };
-    }
 
 pub written-ext : {A : Type 0} (d : List A) (at n : ℕ) (f g : ℕ → A) → ((j : ℕ) → j < n → f j ≡ g j) → written d at f n ≡ written d at g n
 unfolding written

@@ -6,20 +6,10 @@ ghost use lib.ListN.{length};
 ghost use Rattle.algebra.specs.Bound.{AtMost};
 ghost use Rattle.geometry.specs.Read.{inside, read};
 ghost use Rattle.sequences.specs.Write.{written};
-ghost use Rattle.alignment.specs.Words.{Held, Row, wordAt, imageAt, Source};
+ghost use Rattle.pyramid.specs.Words.{Held, Row, wordAt, imageAt, Source};
 ghost use Rattle.alignment.specs.Local.{Copied};
-
-// The index that is read at `z`.
-fn index(size: usize, z: i64) -> usize
-    requires { ⌜ (0 < size) × (size < 2 ^ 32) ⌝ }
-    ensures { λ r. ⌜ (r ≡ inside size z) × (r < size) ⌝ }
-{
-    if z < 0 {
-        return 0;
-    }
-    let k = z as usize;
-    if k < size { k } else { size - 1 }
-}
+ghost use Rattle.alignment.specs.Vectors.{Within};
+use crate::Vector;
 
 fn shifted(z: i64, j: usize) -> i64
     requires { ⌜ (AtMost (2 ^ 32) z) × (j ≤ 64) ⌝ }
@@ -55,11 +45,11 @@ fn copy_edge(
     out: &mut [u16],
     to: usize,
 )
-    requires { ⌜ (Row (now words) start width) × (0 < width) × (width < 2 ^ 32) × (AtMost (2 ^ 32) column) × (n ≤ 64) × (to + n ≤ length (now out)) ⌝ }
+    requires { ⌜ (Row (now words) start width) × (0 < width) × (width ≤ 4096) × (AtMost (2 ^ 32) column) × (n ≤ 64) × (to + n ≤ length (now out)) ⌝ }
     ensures { λ _. ⌜ now (out .exit) ≡ written (now (out .entry)) to (λ j. wordAt (now (words .entry)) (start + inside width (column +ℤ pos j))) n ⌝ }
 {
     for j in 0..n {
-        let x = index(width, shifted(column, j));
+        let x = geometry::read::inside(shifted(column, j), width);
         out[to + j] = sample(words, start + x);
     }
 }
@@ -74,7 +64,7 @@ fn copy_row(
     out: &mut [u16],
     to: usize,
 )
-    requires { ⌜ (Row (now words) start width) × (0 < width) × (width < 2 ^ 32) × (AtMost (2 ^ 32) column) × (n ≤ 64) × (to + n ≤ length (now out)) ⌝ }
+    requires { ⌜ (Row (now words) start width) × (0 < width) × (width ≤ 4096) × (AtMost (2 ^ 32) column) × (n ≤ 64) × (to + n ≤ length (now out)) ⌝ }
     ensures { λ _. ⌜ now (out .exit) ≡ written (now (out .entry)) to (λ j. wordAt (now (words .entry)) (start + inside width (column +ℤ pos j))) n ⌝ }
 {
     if column >= 0 {
@@ -87,22 +77,29 @@ fn copy_row(
     copy_edge(words, start, width, column, n, &mut *out, to);
 }
 
-// The square of `n` by `n` samples of an image, read from a row and a column on.
+// The square of `n` by `n` samples of an image from a corner on.
 pub fn copy_square(
     words: &[i64],
     from: usize,
     height: usize,
     width: usize,
-    row: i64,
-    column: i64,
+    corner: Vector,
     n: usize,
     out: &mut [u16],
 )
-    requires { ⌜ (Source (now words) from height width) × (AtMost (2 ^ 32) row) × (AtMost (2 ^ 32) column) × (n ≤ 64) × (n * n ≤ length (now out)) ⌝ }
-    ensures { λ _. ⌜ Copied (now (out .exit)) n n (read height width (imageAt (now (words .entry)) from width)) row column ⌝ }
+    requires { ⌜ (Source (now words) from height width) × (height ≤ 4096) × (width ≤ 4096) × (Within (2 ^ 20) corner) × (n ≤ 64) × (n * n ≤ length (now out)) ⌝ }
+    ensures { λ _. ⌜ Copied (now (out .exit)) n n (read height width (imageAt (now (words .entry)) from width)) (corner .down) (corner .right) ⌝ }
 {
     for i in 0..n {
-        let y = index(height, shifted(row, i));
-        copy_row(words, from + y * width, width, column, n, &mut *out, i * n);
+        let y = geometry::read::inside(shifted(corner.down, i), height);
+        copy_row(
+            words,
+            from + y * width,
+            width,
+            corner.right,
+            n,
+            &mut *out,
+            i * n,
+        );
     }
 }

@@ -1,5 +1,6 @@
 // Alignment: residuals, three candidates, the search in tie order, and the loop over the levels.
 pub mod copy;
+pub mod matching;
 pub mod residual;
 pub mod search;
 
@@ -7,4 +8,10 @@ pub mod search;
 pub struct Vector {
     pub down: i64,
     pub right: i64,
+}
+
+// A square of samples: its side, and where its first sample lies from the image's.
+pub struct Tile {
+    pub side: usize,
+    pub origin: Vector,
 }

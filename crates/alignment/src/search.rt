@@ -1,8 +1,11 @@
 // The search in tie order around a guess, in local arrays.
 ghost use mathlib.Core.Path.{_≡_};
 ghost use Prim.Native.Nat.{_<_, _≤_};
-ghost use Rattle.alignment.specs.Offsets.{downs, rights};
+ghost use lib.IntN.{pos, _-ℤ_};
+ghost use Rattle.alignment.specs.Offsets.{downs, rights, offset};
+ghost use Rattle.alignment.specs.Vectors.{Within};
 ghost use Rattle.alignment.specs.Local.{windowSum, Window, Searched};
+use crate::Vector;
 use crate::residual::square_sum;
 
 // The parts of the offsets in tie order, each plus 4.
@@ -184,6 +187,24 @@ fn wide(x: u8) -> usize
     ensures { λ r. ⌜ r ≡ x ⌝ }
 {
     x as usize
+}
+
+fn unbiased(part: u8) -> i64
+    requires { ⌜ part ≤ 8 ⌝ }
+    ensures { λ r. ⌜ r ≡ pos part -ℤ pos 4 ⌝ }
+{
+    part as i64 - 4
+}
+
+// The offset number `k`.
+pub fn offset(k: usize) -> Vector
+    requires { ⌜ k < 81 ⌝ }
+    ensures { λ r. ⌜ (r ≡ offset k) × (Within 4 r) ⌝ }
+{
+    Vector {
+        down: unbiased(DOWN[k]),
+        right: unbiased(RIGHT[k]),
+    }
 }
 
 // The residual at the offset number `k`.

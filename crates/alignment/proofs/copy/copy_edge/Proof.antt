@@ -6,7 +6,7 @@ use mir.Syntax.{w64}
 use mir.Val.{toZ}
 use Rattle.geometry.specs.Read.{inside}
 use Rattle.sequences.specs.Write.{Writing, write-start, write-turn, write-done}
-use Rattle.alignment.specs.Words.{wordAt}
+use Rattle.pyramid.specs.Words.{wordAt}
 use borrow.Author.Needs.{needs}
 use native.Mathlib.Omega.{arith}
 use mathlib.Core.Path.{ap, _∙_}
@@ -26,14 +26,14 @@ loop-holds c = write-start (search needs)
 shifted-requires : tie.Need-shifted-requires Inv-loop μ-loop
 shifted-requires c κs = search needs
 
-index-requires : tie.Need-index-requires Inv-loop μ-loop
-index-requires c κs = search needs
+inside-requires : tie.Need-inside-requires Inv-loop μ-loop
+inside-requires c κs = search needs
 
 add-sample : tie.Need-add-sample Inv-loop μ-loop
 add-sample c = search needs
 
 sample-requires : tie.Need-sample-requires Inv-loop μ-loop
-sample-requires c κs = c .before .before .before .before .before .pre .0 .held _ (c .index .ensures .1)
+sample-requires c κs = c .before .before .before .before .before .pre .0 .held _ (c .inside .ensures .1)
 
 add-out : tie.Need-add-out Inv-loop μ-loop
 add-out c = search needs
@@ -54,7 +54,7 @@ loop-again : tie.Need-loop-again Inv-loop μ-loop
 loop-again c = let a = c .before .before .before .before .before .before .args in
     let s = c .before .before .shifted in
     write-turn (c .before .before .before .before .loop .inv) (omega arith)
-    (c .sample .ensures ∙ ap (λ x. wordAt (a .words .now) (a .start + x)) (c .before .index .ensures .0 ∙ ap (inside (a .width)) (back (s .result) (s .ok) ∙ s .ensures)))
+    (c .sample .ensures ∙ ap (λ x. wordAt (a .words .now) (a .start + x)) (c .before .inside .ensures .0 ∙ ap (inside (a .width)) (back (s .result) (s .ok) ∙ s .ensures)))
 
 same-length : tie.Need-same-length Inv-loop μ-loop
 same-length c = search needs
@@ -70,7 +70,7 @@ copy-edge-spec =
     μ-loop
     loop-holds
     shifted-requires
-    index-requires
+    inside-requires
     add-sample
     sample-requires
     add-out

@@ -1,6 +1,6 @@
 -- Each store is one of a part written from its front.
 use Rattle.sequences.specs.Write.{Writing, write-start, write-turn, write-done}
-use Rattle.alignment.specs.Words.{wordAt}
+use Rattle.pyramid.specs.Words.{wordAt}
 use borrow.Author.Needs.{needs}
 use native.Mathlib.Omega.{arith}
 use Prim.Native.Nat.{_+_, _-_}

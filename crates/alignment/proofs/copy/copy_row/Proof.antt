@@ -1,5 +1,5 @@
 -- Either all samples lie in the row and are copied at once, or each is read by the rule.
-use Rattle.alignment.specs.Words.{wordAt}
+use Rattle.pyramid.specs.Words.{wordAt}
 use Rattle.alignment.specs.WordLaws.{row-part, written-ext}
 use mathlib.Core.Bool.{true}
 use lib.IntN.{ℤ, pos, negsuc, natAbs, _+ℤ_}

@@ -1,0 +1,43 @@
+-- A level's two images where they stand in the work area, and a tile of the reference in a local array.
+use mathlib.Core.Bool.{Bool}
+use mathlib.Core.List.{List}
+use Prim.Native.Nat.{ℕ, _≤_}
+use lib.IntN.{ℤ}
+use lib.ListN.{length}
+use Rattle.geometry.specs.Read.{read}
+use Rattle.pyramid.specs.Words.{imageAt, Source}
+use Rattle.alignment.specs.declared.Tile.{Tile}
+use Rattle.alignment.specs.declared.Vector.{Vector}
+use Rattle.alignment.specs.declared.matching.Area.{Area}
+use Rattle.alignment.specs.declared.matching.Found.{Found}
+use Rattle.alignment.specs.Vectors.{Within}
+use Rattle.alignment.specs.Residual.{Pair, residual}
+use Rattle.alignment.specs.Local.{Copied}
+
+-- the images that stand there, read inside and outside
+unfoldable pub pairIn : List ℤ → Area → Pair
+pairIn words a =
+    record {
+      height = a .height;
+      width = a .width;
+      reference = read (a .height) (a .width) (imageAt words (a .reference) (a .width));
+      other = read (a .height) (a .width) (imageAt words (a .other) (a .width));
+    }
+
+pub record Stored (words : List ℤ) (a : Area) : Type 0 where
+  pub reference : Source words (a .reference) (a .height) (a .width)
+  pub other : Source words (a .other) (a .height) (a .width)
+  pub high : a .height ≤ 4096
+  pub wide : a .width ≤ 4096
+
+-- the tile's samples of the reference stand in a local array
+pub record Ready (words : List ℤ) (a : Area) (t : Tile) (samples : List ℕ) : Type 0 where
+  pub stored : Stored words a
+  pub small : t .side ≤ 16
+  pub room : 256 ≤ length samples
+  pub copied : Copied samples (t .side) (t .side) (pairIn words a .reference) (t .origin .down) (t .origin .right)
+  pub near : Within 65552 (t .origin)
+
+-- the answer for a tile: a vector and its residual
+abbrev pub answer : (squared : Bool) → Pair → Tile → Vector → Found
+answer squared p t v = record { vector = v; residual = residual squared p t v }
