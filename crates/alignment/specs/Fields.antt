@@ -33,17 +33,19 @@ tileAt l row column = record { side = l .side; origin = record { down = origin (
 unfoldable pub coarsest : Level → Pair → Field
 coarsest l p row column = found (l .squared) p (tileAt l row column) still
 
--- "Three candidates, their vectors times f: own; neighbour sideways; neighbour vertically": a finer level's field from the coarse one's, which
--- has so many rows and columns
-unfoldable pub finer : Level → Step → (rows columns : ℕ) → Pair → Field → Field
-finer l s rows columns p coarse row column =
-    let t = tileAt l row column in
+-- "Three candidates, their vectors times f: own; neighbour sideways; neighbour vertically": the guess from a coarse field of so many rows and columns
+unfoldable pub fromCoarse : Step → (rows columns : ℕ) → Pair → Tile → Field → (row column : ℕ) → Vector
+fromCoarse s rows columns p t coarse row column =
     let ownRow = capped rows (own (s .quotient) row) in
     let nextRow = capped rows (neighbour (s .quotient) row) in
     let ownColumn = capped columns (own (s .quotient) column) in
     let nextColumn = capped columns (neighbour (s .quotient) column) in
-    found (l .squared) p t
-    (guessed p t (coarse ownRow ownColumn times s .factor) (coarse ownRow nextColumn times s .factor) (coarse nextRow ownColumn times s .factor))
+    guessed p t (coarse ownRow ownColumn times s .factor) (coarse ownRow nextColumn times s .factor) (coarse nextRow ownColumn times s .factor)
+
+-- a finer level's field
+unfoldable pub finer : Level → Step → (rows columns : ℕ) → Pair → Field → Field
+finer l s rows columns p coarse row column =
+    found (l .squared) p (tileAt l row column) (fromCoarse s rows columns p (tileAt l row column) coarse row column)
 
 -- how many rows and columns of tiles a level has
 unfoldable pub tileRows : Level → Pair → ℕ
@@ -65,16 +67,22 @@ field1 p = finer level1 step2to1 (tileRows level2 (p 2)) (tileColumns level2 (p 
 unfoldable pub field0 : (ℕ → Pair) → Field
 field0 p = finer level0 step1to0 (tileRows level1 (p 1)) (tileColumns level1 (p 1)) (p 0) (field1 p)
 
--- "tiles go row by row, each as down, right": the k-th number of a field of so many columns
+-- "tiles go row by row, each as down, right": the vector of tile number k of a field of so many columns, and the number k of its parts
+abbrev pub numbered : (columns : ℕ) → Field → ℕ → Vector
+numbered columns f k = f (k / columns) (k % columns)
+
 unfoldable pub part : ℕ → Vector → ℤ
 part zero v = v .down
 part (suc k) v = v .right
 
 unfoldable pub word : (columns : ℕ) → Field → ℕ → ℤ
-word columns f k = part (k % 2) (f (k / 2 / columns) (k / 2 % columns))
+word columns f k = part (k % 2) (numbered columns f (k / 2))
+
+-- a level's sum of residuals, over its tiles
+unfoldable pub residuals : Level → Pair → (rows columns : ℕ) → Field → ℕ
+residuals l p rows columns f =
+    sumN (rows * columns) (λ k. residual (l .squared) p (tileAt l (k / columns) (k % columns)) (numbered columns f k))
 
 -- "the sum of finest residuals"
 unfoldable pub residualSum : (ℕ → Pair) → ℕ
-residualSum p =
-    sumN (tileRows level0 (p 0))
-    (λ row. sumN (tileColumns level0 (p 0)) (λ column. residual (level0 .squared) (p 0) (tileAt level0 row column) (field0 p row column)))
+residualSum p = residuals level0 (p 0) (tileRows level0 (p 0)) (tileColumns level0 (p 0)) (field0 p)

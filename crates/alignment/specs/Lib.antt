@@ -13,3 +13,5 @@ pub mod SignedLaws
 pub mod WordLaws
 pub mod Stored
 pub mod VectorLaws
+pub mod Coarse
+pub mod StoredLaws

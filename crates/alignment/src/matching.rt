@@ -57,7 +57,7 @@ fn candidate_sum(words: &[i64], area: Area, tile: Tile, samples: &[u16], v: Vect
 }
 
 // The candidate of the least residual, the earlier on a tie.
-fn guess(
+pub fn guess(
     words: &[i64],
     area: Area,
     tile: Tile,
@@ -85,7 +85,7 @@ fn guess(
 }
 
 // The search around a guess.
-fn refine(
+pub fn refine(
     words: &[i64],
     area: Area,
     tile: Tile,

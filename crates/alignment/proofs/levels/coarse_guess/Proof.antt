@@ -1,0 +1,102 @@
+-- The coarse indices and the three vectors are those of the definition.
+use Rattle.geometry.specs.Tiles.{Step, own, neighbour, capped}
+use Rattle.alignment.specs.declared.Tile.{Tile}
+use Rattle.alignment.specs.declared.Vector.{Vector}
+use Rattle.alignment.specs.Vectors.{_times_}
+use Rattle.alignment.specs.Residual.{Pair}
+use Rattle.alignment.specs.Search.{guessed}
+use Rattle.alignment.specs.Fields.{Field, stepTo, fromCoarse}
+use Rattle.alignment.specs.Stored.{pairIn}
+use Rattle.alignment.specs.Coarse.{fieldAt}
+use mathlib.Core.Path.{_≡_, ap, _∙_}
+use Prim.Native.Nat.{ℕ}
+use borrow.Author.Needs.{needs}
+use Rattle.alignment.proofs.levels.coarse_guess.Statement.{statement}
+use Rattle.alignment.proofs.levels.coarse_guess.Tie as tie
+
+quotient-requires : tie.Need-quotient-requires
+quotient-requires c κs = search needs
+
+factor-requires : tie.Need-factor-requires
+factor-requires c κs = search needs
+
+own-requires : tie.Need-own-requires
+own-requires c κs = search needs
+
+capped-requires : tie.Need-capped-requires
+capped-requires c κs = search needs
+
+neighbour-requires : tie.Need-neighbour-requires
+neighbour-requires c κs = search needs
+
+capped-requires-2 : tie.Need-capped-requires-2
+capped-requires-2 c κs = search needs
+
+own-requires-2 : tie.Need-own-requires-2
+own-requires-2 c κs = search needs
+
+capped-requires-3 : tie.Need-capped-requires-3
+capped-requires-3 c κs = search needs
+
+neighbour-requires-2 : tie.Need-neighbour-requires-2
+neighbour-requires-2 c κs = search needs
+
+capped-requires-4 : tie.Need-capped-requires-4
+capped-requires-4 c κs = search needs
+
+coarse-vector-requires : tie.Need-coarse-vector-requires
+coarse-vector-requires c κs = search needs
+
+coarse-vector-requires-2 : tie.Need-coarse-vector-requires-2
+coarse-vector-requires-2 c κs = search needs
+
+coarse-vector-requires-3 : tie.Need-coarse-vector-requires-3
+coarse-vector-requires-3 c κs = search needs
+
+guess-requires : tie.Need-guess-requires
+guess-requires c κs = let s = c .before .before .before .before .before .before .before .before .before .before .before .before .before .before in
+    (s .pre .0, c .before .before .coarse-vector .ensures .1, c .before .coarse-vector2 .ensures .1, c .coarse-vector3 .ensures .1)
+
+made : (s : Step) (rows columns : ℕ) (p : Pair) (t : Tile) (field : Field) (row column q f r r′ k k′ : ℕ) (x y z : Vector) → q ≡ s .quotient → f ≡ s .factor → r ≡ capped rows (own q row) → r′ ≡ capped rows (neighbour q row) → k ≡ capped columns (own q column) → k′ ≡ capped columns (neighbour q column) → x ≡ field r k times f → y ≡ field r k′ times f → z ≡ field r′ k times f → guessed p t x y z ≡ fromCoarse s rows columns p t field row column
+unfolding fromCoarse
+made s rows columns p t field row column q f r r′ k k′ x y z eq ef er er′ ek ek′ ex ey ez = rw (ex, ey, ez, er, er′, ek, ek′, eq, ef)
+
+returns : tie.Need-returns
+returns c = let v = c .before .before .before in
+    let k′ = v .before in
+    let k = k′ .before .before in
+    let r′ = k .before .before in
+    let r = r′ .before .before in
+    let f = r .before .before in
+    let s = f .before .before .before in
+    let a = s .args in (
+      c .guess .ensures .0
+          ∙ made (stepTo (a .level)) (a .coarse .rows) (a .coarse .columns) (pairIn (a .words .now) (a .area)) (a .tile) (fieldAt (a .words .now) (a .coarse .at) (a .coarse .columns)) (a .row) (a .column) _ _ _ _ _ _ _ _ _
+          (f .before .quotient .ensures .0) (f .factor .ensures .0)
+          (r .capped .ensures .0 ∙ ap (capped (a .coarse .rows)) (r .before .own .ensures .0))
+          (r′ .capped2 .ensures .0 ∙ ap (capped (a .coarse .rows)) (r′ .before .neighbour .ensures .0))
+          (k .capped3 .ensures .0 ∙ ap (capped (a .coarse .columns)) (k .before .own2 .ensures .0))
+          (k′ .capped4 .ensures .0 ∙ ap (capped (a .coarse .columns)) (k′ .before .neighbour2 .ensures .0))
+          (v .coarse-vector .ensures .0) (c .before .before .coarse-vector2 .ensures .0) (c .before .coarse-vector3 .ensures .0),
+      c .guess .ensures .1,
+    )
+
+pub coarse-guess-spec : {M : Type 1} → statement M
+coarse-guess-spec =
+    tie.close
+    (tie.spec
+    quotient-requires
+    factor-requires
+    own-requires
+    capped-requires
+    neighbour-requires
+    capped-requires-2
+    own-requires-2
+    capped-requires-3
+    neighbour-requires-2
+    capped-requires-4
+    coarse-vector-requires
+    coarse-vector-requires-2
+    coarse-vector-requires-3
+    guess-requires
+    returns)

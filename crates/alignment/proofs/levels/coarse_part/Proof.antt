@@ -1,0 +1,43 @@
+-- A small product comes back from its bits.
+use lib.IntN.{ℤ, pos, natAbs, _*ℤ_}
+use mir.Syntax.{w64}
+use mir.Val.{SFits}
+use mir.Facts.{toZ-ofZ}
+use mir.ValLaws.{toZ-pos}
+use Rattle.algebra.specs.Order.{abs-mul-le}
+use Rattle.algebra.specs.Bound.{mul-fits}
+use Rattle.alignment.specs.SignedLaws.{back-small}
+use native.Mathlib.Omega.{arith}
+use mathlib.Core.Path.{refl}
+use Prim.Native.Nat.{ℕ, _≤_}
+use lib.ListN.{getD}
+use borrow.Author.Needs.{needs}
+use Rattle.alignment.proofs.levels.coarse_part.Statement.{statement}
+use Rattle.alignment.proofs.levels.coarse_part.Tie as tie
+
+mul-result : tie.Need-mul-result
+mul-result c = search needs
+
+shared-slice-copy-out-result : tie.Need-shared-slice-copy-out-result
+shared-slice-copy-out-result c = search needs
+
+cast-result : tie.Need-cast-result
+cast-result c = search needs
+
+product-fits : (z : ℤ) (f : ℕ) → natAbs z ≤ 84 → f ≤ 4 → SFits w64 (z *ℤ pos f)
+product-fits z f h k = mul-fits w64 z (pos f) 84 4 (record { most = h }) (record { most = k }) tt
+
+mul-result-2 : tie.Need-mul-result-2
+mul-result-2 c = let s = c .before in
+    let z = getD (s .args .words .now) (s .args .k) (pos 0) in
+    rw (back-small z 84 (s .pre .1) tt, toZ-pos w64 (s .args .f) (omega arith)) (product-fits z (s .args .f) (s .pre .1) (s .pre .2))
+
+returns : tie.Need-returns
+returns c = let s = c .before in
+    let z = getD (s .args .words .now) (s .args .k) (pos 0) in
+    rw (back-small z 84 (s .pre .1) tt, toZ-pos w64 (s .args .f) (omega arith), toZ-ofZ (product-fits z (s .args .f) (s .pre .1) (s .pre .2)))
+    (refl, abs-mul-le z (pos (s .args .f)) (s .pre .1) (s .pre .2))
+
+pub coarse-part-spec : {M : Type 1} → statement M
+coarse-part-spec =
+    tie.close (tie.spec mul-result shared-slice-copy-out-result cast-result mul-result-2 returns)

@@ -1,0 +1,22 @@
+-- By the level's number.
+use Rattle.alignment.specs.Fields.{stepTo}
+use native.Mathlib.Omega.{arith}
+use mathlib.Core.Path.{_≡_, refl}
+use Prim.Native.Nat.{ℕ, zero, suc}
+use borrow.Author.Needs.{needs}
+use Rattle.alignment.proofs.levels.factor.Statement.{statement}
+use Rattle.alignment.proofs.levels.factor.Tie as tie
+
+above : (level : ℕ) → (level ≡ 0 → ⊥) → 4 ≡ stepTo level .factor
+above zero h = absurd (h refl)
+above (suc zero) h = refl
+above (suc (suc k)) h = refl
+
+returns : tie.Need-returns
+returns c = search needs
+
+returns-2 : tie.Need-returns-2
+returns-2 c = (above (c .before .args .level) (c .if1 .left), omega arith)
+
+pub factor-spec : {M : Type 1} → statement M
+factor-spec = tie.close (tie.spec returns returns-2)

@@ -1,0 +1,23 @@
+-- By the level's number.
+use Rattle.alignment.specs.Fields.{levelAt}
+use native.Mathlib.Omega.{arith}
+use mathlib.Core.Path.{_≡_, refl}
+use Prim.Native.Nat.{ℕ, zero, suc, _≤_}
+use borrow.Author.Needs.{needs}
+use Rattle.alignment.proofs.levels.half_of.Statement.{statement}
+use Rattle.alignment.proofs.levels.half_of.Tie as tie
+
+below : (level : ℕ) → (level ≡ 3 → ⊥) → level ≤ 3 → (8 ≡ levelAt level .half) × (16 ≡ levelAt level .side)
+below zero h l = (refl, refl)
+below (suc zero) h l = (refl, refl)
+below (suc (suc zero)) h l = (refl, refl)
+below (suc (suc (suc k))) h l = absurd (h (omega arith))
+
+returns : tie.Need-returns
+returns c = search needs
+
+returns-2 : tie.Need-returns-2
+returns-2 c = let b = below (c .before .args .level) (c .if1 .left) (c .before .pre) in (b .0, b .1, omega arith)
+
+pub half-of-spec : {M : Type 1} → statement M
+half-of-spec = tie.close (tie.spec returns returns-2)

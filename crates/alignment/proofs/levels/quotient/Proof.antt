@@ -1,0 +1,22 @@
+-- By the level's number.
+use Rattle.alignment.specs.Fields.{stepTo}
+use native.Mathlib.Omega.{arith}
+use mathlib.Core.Path.{_≡_, refl}
+use Prim.Native.Nat.{ℕ, zero, suc}
+use borrow.Author.Needs.{needs}
+use Rattle.alignment.proofs.levels.quotient.Statement.{statement}
+use Rattle.alignment.proofs.levels.quotient.Tie as tie
+
+beside : (level : ℕ) → (level ≡ 1 → ⊥) → 2 ≡ stepTo level .quotient
+beside zero h = refl
+beside (suc zero) h = absurd (h refl)
+beside (suc (suc k)) h = refl
+
+returns : tie.Need-returns
+returns c = search needs
+
+returns-2 : tie.Need-returns-2
+returns-2 c = (beside (c .before .args .level) (c .if1 .left), omega arith, omega arith)
+
+pub quotient-spec : {M : Type 1} → statement M
+quotient-spec = tie.close (tie.spec returns returns-2)

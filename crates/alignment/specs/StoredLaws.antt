@@ -1,0 +1,47 @@
+-- From what is copied and searched to the answer for a tile.
+use mathlib.Core.Path.{_≡_, refl, sym, ap, _∙_, subst}
+use mathlib.Core.Bool.{Bool}
+use mathlib.Core.List.{List}
+use Prim.Native.Nat.{ℕ, _+_, _*_, _≤_, _^_}
+use native.Mathlib.Nat.{mul-le-mul}
+use native.Mathlib.Omega.{arith}
+use lib.Dec.{lit≤}
+use lib.IntN.{ℤ}
+use lib.ListN.{length}
+use Rattle.geometry.specs.Read.{read}
+use Rattle.geometry.specs.Tiles.{Level, Step}
+use Rattle.pyramid.specs.Words.{imageAt, Source}
+use Rattle.alignment.specs.declared.Tile.{Tile}
+use Rattle.alignment.specs.declared.Vector.{Vector}
+use Rattle.alignment.specs.declared.matching.Area.{Area}
+use Rattle.alignment.specs.declared.matching.Found.{Found}
+use Rattle.alignment.specs.Vectors.{still, Within}
+use Rattle.alignment.specs.VectorLaws.{within-more}
+use Rattle.alignment.specs.Residual.{Pair}
+use Rattle.alignment.specs.Search.{found}
+use Rattle.alignment.specs.SearchLaws.{found-within}
+use Rattle.alignment.specs.Fields.{Field, tileAt, coarsest, fromCoarse, finer}
+use Rattle.alignment.specs.Local.{Copied}
+use Rattle.alignment.specs.Stored.{pairIn, Stored, Ready, answer}
+
+-- what copying a tile's samples asks
+pub copyable : {words : List ℤ} {a : Area} {t : Tile} → Stored words a → t .side ≤ 16 → Within 65552 (t .origin) → Source words (a .reference) (a .height) (a .width) × (a .height ≤ 4096) × (a .width ≤ 4096) × Within (2 ^ 20) (t .origin) × (t .side ≤ 64) × (t .side * t .side ≤ 256)
+copyable s h w = (s .reference, s .high, s .wide, within-more (2 ^ 20) w (lit≤ tt), omega arith, omega (arith, mul-le-mul h h))
+
+-- and what it makes ready
+pub ready : {words : List ℤ} {a : Area} {t : Tile} {l : List ℕ} → Stored words a → t .side ≤ 16 → Within 65552 (t .origin) → length l ≡ 256 → Copied l (t .side) (t .side) (read (a .height) (a .width) (imageAt words (a .reference) (a .width))) (t .origin .down) (t .origin .right) → Ready words a t l
+unfolding pairIn
+ready s h w e c = record { stored = s; small = h; room = omega arith; copied = c; near = w }
+
+module _ (l : Level) (p : Pair) (row column : ℕ) (squared : Bool) (t : Tile) (guess : Vector) (r : Found) (is : r ≡ answer squared p t (found squared p t guess)) (same : squared ≡ l .squared) (at : t ≡ tileAt l row column) where
+  -- the answer's parts are at most 4 more than the guess's
+  pub answer-within : (b : ℕ) → Within b guess → Within (b + 4) (r .vector)
+  answer-within b w = subst (Within (b + 4)) (sym (ap (λ x. x .vector) is)) (found-within squared p t guess b w)
+
+  pub coarsest-answer : guess ≡ still → r ≡ answer (l .squared) p (tileAt l row column) (coarsest l p row column)
+  unfolding coarsest
+  coarsest-answer e = is ∙ rw (e, at, same)
+
+  pub finer-answer : (s : Step) (rows columns : ℕ) (coarse : Field) → guess ≡ fromCoarse s rows columns p t coarse row column → r ≡ answer (l .squared) p (tileAt l row column) (finer l s rows columns p coarse row column)
+  unfolding finer
+  finer-answer s rows columns coarse e = is ∙ rw (e, at, same)

@@ -1,0 +1,175 @@
+// The tiles of a level: each from a guess, and the guess from the coarse level's vectors.
+ghost use mathlib.Core.Path.{_≡_};
+ghost use Prim.Native.Nat.{_*_, _≤_, _<_};
+ghost use lib.ListN.{length, getD};
+ghost use lib.IntN.{pos, natAbs, _*ℤ_};
+ghost use Rattle.geometry.specs.Tiles.{level3};
+ghost use Rattle.alignment.specs.Vectors.{_times_, Within};
+ghost use Rattle.alignment.specs.Fields.{levelAt, stepTo, tileAt, coarsest, fromCoarse, finer};
+ghost use Rattle.alignment.specs.Stored.{pairIn, Stored, Ready, answer};
+ghost use Rattle.alignment.specs.Coarse.{fieldAt, Vectors};
+use crate::Tile;
+use crate::Vector;
+use crate::copy::copy_square;
+use crate::matching::Area;
+use crate::matching::Found;
+use crate::matching::guess;
+use crate::matching::refine;
+use geometry::tiles::capped;
+use geometry::tiles::neighbour;
+use geometry::tiles::origin;
+use geometry::tiles::own;
+
+// Where the coarse level's vectors stand in the work area, row by row of tiles.
+pub struct Coarse {
+    pub at: usize,
+    pub rows: usize,
+    pub columns: usize,
+}
+
+fn factor(level: usize) -> usize
+    requires { ⌜ level ≤ 2 ⌝ }
+    ensures { λ r. ⌜ (r ≡ stepTo level .factor) × (r ≤ 4) ⌝ }
+{
+    if level == 0 { 2 } else { 4 }
+}
+
+fn quotient(level: usize) -> usize
+    requires { ⌜ level ≤ 2 ⌝ }
+    ensures { λ r. ⌜ (r ≡ stepTo level .quotient) × (0 < r) × (r ≤ 4) ⌝ }
+{
+    if level == 1 { 4 } else { 2 }
+}
+
+fn half_of(level: usize) -> usize
+    requires { ⌜ level ≤ 3 ⌝ }
+    ensures { λ r. ⌜ (r ≡ levelAt level .half) × (2 * r ≡ levelAt level .side) × (r ≤ 8) ⌝ }
+{
+    if level == 3 { 4 } else { 8 }
+}
+
+// The tile at a row and a column of tiles.
+fn tile_at(level: usize, row: usize, column: usize) -> Tile
+    requires { ⌜ (level ≤ 3) × (row ≤ 4096) × (column ≤ 4096) ⌝ }
+    ensures { λ r. ⌜ (r ≡ tileAt (levelAt level) row column) × (r .side ≤ 16) × (Within 65552 (r .origin)) ⌝ }
+{
+    let half = half_of(level);
+    let corner = Vector {
+        down: origin(half, row),
+        right: origin(half, column),
+    };
+    Tile {
+        side: 2 * half,
+        origin: corner,
+    }
+}
+
+// A part of a coarse vector, times f.
+fn coarse_part(words: &[i64], k: usize, f: usize) -> i64
+    requires { ⌜ (k < length (now words)) × (natAbs (getD (now words) k (pos 0)) ≤ 84) × (f ≤ 4) ⌝ }
+    ensures { λ r. ⌜ (r ≡ getD (now (words .entry)) k (pos 0) *ℤ pos f) × (natAbs r ≤ 336) ⌝ }
+{
+    words[k] * f as i64
+}
+
+// A coarse vector, times f.
+fn coarse_vector(words: &[i64], coarse: Coarse, row: usize, column: usize, f: usize) -> Vector
+    requires { ⌜ (Vectors (now words) coarse) × (row < coarse .rows) × (column < coarse .columns) × (f ≤ 4) ⌝ }
+    ensures { λ r. ⌜ (r ≡ fieldAt (now (words .entry)) (coarse .at) (coarse .columns) row column times f) × (Within 336 r) ⌝ }
+{
+    let k = coarse.at + 2 * (row * coarse.columns + column);
+    let down = coarse_part(words, k, f);
+    let right = coarse_part(words, k + 1, f);
+    Vector {
+        down: down,
+        right: right,
+    }
+}
+
+// The guess for a tile, from the coarse vectors around it.
+fn coarse_guess(
+    words: &[i64],
+    area: Area,
+    tile: Tile,
+    samples: &[u16],
+    level: usize,
+    coarse: Coarse,
+    row: usize,
+    column: usize,
+) -> Vector
+    requires { ⌜ (Ready (now words) area tile (now samples)) × (Vectors (now words) coarse) × (level ≤ 2) × (row ≤ 4096) × (column ≤ 4096) ⌝ }
+    ensures { λ r. ⌜ (r ≡ fromCoarse (stepTo level) (coarse .rows) (coarse .columns) (pairIn (now (words .entry)) area) tile (fieldAt (now (words .entry)) (coarse .at) (coarse .columns)) row column) × (Within 336 r) ⌝ }
+{
+    let q = quotient(level);
+    let f = factor(level);
+    let own_row = capped(coarse.rows, own(q, row));
+    let next_row = capped(coarse.rows, neighbour(q, row));
+    let own_column = capped(coarse.columns, own(q, column));
+    let next_column = capped(coarse.columns, neighbour(q, column));
+    let here = coarse_vector(words, coarse, own_row, own_column, f);
+    let sideways = coarse_vector(words, coarse, own_row, next_column, f);
+    let vertically = coarse_vector(words, coarse, next_row, own_column, f);
+    guess(words, area, tile, samples, here, sideways, vertically)
+}
+
+fn is_squared(level: usize) -> bool
+    requires { ⌜ level ≤ 3 ⌝ }
+    ensures { λ r. ⌜ r ≡ levelAt level .squared ⌝ }
+{
+    level != 0
+}
+
+// The vector of a tile of level 3, whose guess is (0,0).
+fn coarsest_tile(words: &[i64], area: Area, row: usize, column: usize) -> Found
+    requires { ⌜ (Stored (now words) area) × (row ≤ 4096) × (column ≤ 4096) ⌝ }
+    ensures { λ r. ⌜ (r ≡ answer (level3 .squared) (pairIn (now (words .entry)) area) (tileAt level3 row column) (coarsest level3 (pairIn (now (words .entry)) area) row column)) × (Within 4 (r .vector)) ⌝ }
+{
+    let tile = tile_at(3, row, column);
+    let origin = tile.origin;
+    let mut samples = [0u16; 256];
+    copy_square(
+        words,
+        area.reference,
+        area.height,
+        area.width,
+        origin,
+        tile.side,
+        &mut samples,
+    );
+    refine(
+        words,
+        area,
+        tile,
+        &samples,
+        true,
+        Vector { down: 0, right: 0 },
+    )
+}
+
+// The vector of a tile of a finer level.
+fn finer_tile(
+    words: &[i64],
+    area: Area,
+    level: usize,
+    coarse: Coarse,
+    row: usize,
+    column: usize,
+) -> Found
+    requires { ⌜ (Stored (now words) area) × (Vectors (now words) coarse) × (level ≤ 2) × (row ≤ 4096) × (column ≤ 4096) ⌝ }
+    ensures { λ r. ⌜ (r ≡ answer (levelAt level .squared) (pairIn (now (words .entry)) area) (tileAt (levelAt level) row column) (finer (levelAt level) (stepTo level) (coarse .rows) (coarse .columns) (pairIn (now (words .entry)) area) (fieldAt (now (words .entry)) (coarse .at) (coarse .columns)) row column)) × (Within 340 (r .vector)) ⌝ }
+{
+    let tile = tile_at(level, row, column);
+    let origin = tile.origin;
+    let mut samples = [0u16; 256];
+    copy_square(
+        words,
+        area.reference,
+        area.height,
+        area.width,
+        origin,
+        tile.side,
+        &mut samples,
+    );
+    let start = coarse_guess(words, area, tile, &samples, level, coarse, row, column);
+    refine(words, area, tile, &samples, is_squared(level), start)
+}
