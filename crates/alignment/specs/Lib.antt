@@ -15,3 +15,5 @@ pub mod Stored
 pub mod VectorLaws
 pub mod Coarse
 pub mod StoredLaws
+pub mod FieldLaws
+pub mod CoarseLaws

@@ -41,6 +41,7 @@ pub record Searched (squared : Bool) (tile window : List ℕ) (side : ℕ) (r : 
   pub is : r .offset ≡ firstMin (windowSum squared tile window side) 80
   pub low : r .residual ≡ windowSum squared tile window side (r .offset)
   pub within : r .offset < 81
+  pub most : r .residual ≤ 4397912294400
 
 -- the array holds so many rows of n values of f, from a row and a column on
 pub record Copied (l : List ℕ) (rows n : ℕ) (f : ℤ → ℤ → ℕ) (row column : ℤ) : Type 0 where

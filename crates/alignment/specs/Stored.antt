@@ -1,7 +1,7 @@
 -- A level's two images where they stand in the work area, and a tile of the reference in a local array.
 use mathlib.Core.Bool.{Bool}
 use mathlib.Core.List.{List}
-use Prim.Native.Nat.{ℕ, _≤_}
+use Prim.Native.Nat.{ℕ, _+_, _*_, _≤_, _<_}
 use lib.IntN.{ℤ}
 use lib.ListN.{length}
 use Rattle.geometry.specs.Read.{read}
@@ -29,6 +29,17 @@ pub record Stored (words : List ℤ) (a : Area) : Type 0 where
   pub other : Source words (a .other) (a .height) (a .width)
   pub high : a .height ≤ 4096
   pub wide : a .width ≤ 4096
+
+-- and before place n
+pub record Before (a : Area) (n : ℕ) : Type 0 where
+  pub reference : a .reference + a .height * a .width ≤ n
+  pub other : a .other + a .height * a .width ≤ n
+
+-- so many rows and columns of tiles
+pub record Grid (rows columns : ℕ) : Type 0 where
+  pub some-columns : 0 < columns
+  pub few-rows : rows ≤ 257
+  pub few-columns : columns ≤ 257
 
 -- the tile's samples of the reference stand in a local array
 pub record Ready (words : List ℤ) (a : Area) (t : Tile) (samples : List ℕ) : Type 0 where

@@ -1,5 +1,5 @@
 -- From what is copied and searched to the answer for a tile.
-use mathlib.Core.Path.{_≡_, refl, sym, ap, _∙_, subst}
+use mathlib.Core.Path.{_≡_, refl, sym, ap, ap₂, _∙_, subst, fun-ext}
 use mathlib.Core.Bool.{Bool}
 use mathlib.Core.List.{List}
 use Prim.Native.Nat.{ℕ, _+_, _*_, _≤_, _^_}
@@ -8,9 +8,11 @@ use native.Mathlib.Omega.{arith}
 use lib.Dec.{lit≤}
 use lib.IntN.{ℤ}
 use lib.ListN.{length}
-use Rattle.geometry.specs.Read.{read}
+use Rattle.geometry.specs.Read.{inside, read}
+use Rattle.geometry.specs.ReadLaws.{inside-below}
 use Rattle.geometry.specs.Tiles.{Level, Step}
-use Rattle.pyramid.specs.Words.{imageAt, Source}
+use Rattle.pyramid.specs.Words.{imageAt, Source, Kept}
+use Rattle.pyramid.specs.WordsLaws.{kept-image, kept-source}
 use Rattle.alignment.specs.declared.Tile.{Tile}
 use Rattle.alignment.specs.declared.Vector.{Vector}
 use Rattle.alignment.specs.declared.matching.Area.{Area}
@@ -22,7 +24,7 @@ use Rattle.alignment.specs.Search.{found}
 use Rattle.alignment.specs.SearchLaws.{found-within}
 use Rattle.alignment.specs.Fields.{Field, tileAt, coarsest, fromCoarse, finer}
 use Rattle.alignment.specs.Local.{Copied}
-use Rattle.alignment.specs.Stored.{pairIn, Stored, Ready, answer}
+use Rattle.alignment.specs.Stored.{pairIn, Stored, Before, Ready, answer}
 
 -- what copying a tile's samples asks
 pub copyable : {words : List ℤ} {a : Area} {t : Tile} → Stored words a → t .side ≤ 16 → Within 65552 (t .origin) → Source words (a .reference) (a .height) (a .width) × (a .height ≤ 4096) × (a .width ≤ 4096) × Within (2 ^ 20) (t .origin) × (t .side ≤ 64) × (t .side * t .side ≤ 256)
@@ -45,3 +47,23 @@ module _ (l : Level) (p : Pair) (row column : ℕ) (squared : Bool) (t : Tile) (
   pub finer-answer : (s : Step) (rows columns : ℕ) (coarse : Field) → guess ≡ fromCoarse s rows columns p t coarse row column → r ≡ answer (l .squared) p (tileAt l row column) (finer l s rows columns p coarse row column)
   unfolding finer
   finer-answer s rows columns coarse e = is ∙ rw (e, at, same)
+
+-- what is written from a place on leaves the images before it
+module _ {d l : List ℤ} {n : ℕ} (k : Kept d n l) (a : Area) (s : Stored d a) (b : Before a n) where
+  pub kept-stored : Stored l a
+  kept-stored =
+      record {
+        reference = kept-source k (a .reference) (a .height) (a .width) (b .reference) (s .reference);
+        other = kept-source k (a .other) (a .height) (a .width) (b .other) (s .other);
+        high = s .high;
+        wide = s .wide;
+      }
+
+  same-read : (from : ℕ) → from + a .height * a .width ≤ n → read (a .height) (a .width) (imageAt l from (a .width)) ≡ read (a .height) (a .width) (imageAt d from (a .width))
+  unfolding read
+  same-read from h =
+      fun-ext (λ row. fun-ext (λ column. kept-image k from (a .height) (a .width) h (inside (a .height) row) (inside (a .width) column) (inside-below (a .height) row (s .reference .high)) (inside-below (a .width) column (s .reference .wide))))
+
+  pub kept-pair : pairIn l a ≡ pairIn d a
+  unfolding pairIn
+  kept-pair = ap₂ (λ x y. record { height = a .height; width = a .width; reference = x; other = y }) (same-read (a .reference) (b .reference)) (same-read (a .other) (b .other))

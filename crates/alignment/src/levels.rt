@@ -120,7 +120,7 @@ fn is_squared(level: usize) -> bool
 }
 
 // The vector of a tile of level 3, whose guess is (0,0).
-fn coarsest_tile(words: &[i64], area: Area, row: usize, column: usize) -> Found
+pub fn coarsest_tile(words: &[i64], area: Area, row: usize, column: usize) -> Found
     requires { ⌜ (Stored (now words) area) × (row ≤ 4096) × (column ≤ 4096) ⌝ }
     ensures { λ r. ⌜ (r ≡ answer (level3 .squared) (pairIn (now (words .entry)) area) (tileAt level3 row column) (coarsest level3 (pairIn (now (words .entry)) area) row column)) × (Within 4 (r .vector)) ⌝ }
 {
@@ -147,7 +147,7 @@ fn coarsest_tile(words: &[i64], area: Area, row: usize, column: usize) -> Found
 }
 
 // The vector of a tile of a finer level.
-fn finer_tile(
+pub fn finer_tile(
     words: &[i64],
     area: Area,
     level: usize,
@@ -156,7 +156,7 @@ fn finer_tile(
     column: usize,
 ) -> Found
     requires { ⌜ (Stored (now words) area) × (Vectors (now words) coarse) × (level ≤ 2) × (row ≤ 4096) × (column ≤ 4096) ⌝ }
-    ensures { λ r. ⌜ (r ≡ answer (levelAt level .squared) (pairIn (now (words .entry)) area) (tileAt (levelAt level) row column) (finer (levelAt level) (stepTo level) (coarse .rows) (coarse .columns) (pairIn (now (words .entry)) area) (fieldAt (now (words .entry)) (coarse .at) (coarse .columns)) row column)) × (Within 340 (r .vector)) ⌝ }
+    ensures { λ r. ⌜ (r ≡ answer (levelAt level .squared) (pairIn (now (words .entry)) area) (tileAt (levelAt level) row column) (finer (levelAt level) (stepTo level) (coarse .rows) (coarse .columns) (pairIn (now (words .entry)) area) (fieldAt (now (words .entry)) (coarse .at) (coarse .columns)) row column)) × (Within 340 (r .vector)) × (r .residual ≤ 4397912294400) ⌝ }
 {
     let tile = tile_at(level, row, column);
     let origin = tile.origin;

@@ -1,5 +1,6 @@
 // Alignment: residuals, three candidates, the search in tie order, and the loop over the levels.
 pub mod copy;
+pub mod fields;
 pub mod levels;
 pub mod matching;
 pub mod residual;

@@ -1,7 +1,7 @@
 // The vector of one tile: the residuals of candidates, the guess, and the search around it.
 ghost use mathlib.Core.Path.{_≡_};
 ghost use mathlib.Core.Bool.{false};
-ghost use Prim.Native.Nat.{_^_};
+ghost use Prim.Native.Nat.{_≤_, _^_};
 ghost use Rattle.alignment.specs.Vectors.{_plus_, Within};
 ghost use Rattle.alignment.specs.Residual.{residual};
 ghost use Rattle.alignment.specs.Search.{found, guessed};
@@ -94,7 +94,7 @@ pub fn refine(
     guess: Vector,
 ) -> Found
     requires { ⌜ (Ready (now words) area tile (now samples)) × (Within 336 guess) ⌝ }
-    ensures { λ r. ⌜ r ≡ answer squared (pairIn (now (words .entry)) area) tile (found squared (pairIn (now (words .entry)) area) tile guess) ⌝ }
+    ensures { λ r. ⌜ (r ≡ answer squared (pairIn (now (words .entry)) area) tile (found squared (pairIn (now (words .entry)) area) tile guess)) × (r .residual ≤ 4397912294400) ⌝ }
 {
     let origin = tile.origin;
     let corner = sum(

@@ -218,7 +218,7 @@ fn offset_sum(
     k: usize,
 ) -> u64
     requires { ⌜ (Window (now tile) (now window) side) × (now down ≡ downs) × (now right ≡ rights) × (k < 81) ⌝ }
-    ensures { λ r. ⌜ r ≡ windowSum squared (now (tile .entry)) (now (window .entry)) side k ⌝ }
+    ensures { λ r. ⌜ (r ≡ windowSum squared (now (tile .entry)) (now (window .entry)) side k) × (r ≤ 4397912294400) ⌝ }
 {
     let stride = side + 8;
     let start = wide(down[k]) * stride + wide(right[k]);

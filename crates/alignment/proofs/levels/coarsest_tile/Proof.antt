@@ -33,8 +33,8 @@ returns c = let s = c .before .before .before .before .before .before .before in
     let a = s .args in
     let t = c .before .before .before .before .before .before .tile-at in
     let p = pairIn (a .words .now) (a .area) in (
-      coarsest-answer level3 p (a .row) (a .column) true (t .result) still (c .refine .result) (c .refine .ensures) refl (t .ensures .0) refl,
-      answer-within level3 p (a .row) (a .column) true (t .result) still (c .refine .result) (c .refine .ensures) refl (t .ensures .0) 0 (record { vertical = lit≤ tt; sideways = lit≤ tt }),
+      coarsest-answer level3 p (a .row) (a .column) true (t .result) still (c .refine .result) (c .refine .ensures .0) refl (t .ensures .0) refl,
+      answer-within level3 p (a .row) (a .column) true (t .result) still (c .refine .result) (c .refine .ensures .0) refl (t .ensures .0) 0 (record { vertical = lit≤ tt; sideways = lit≤ tt }),
     )
 
 pub coarsest-tile-spec : {M : Type 1} → statement M

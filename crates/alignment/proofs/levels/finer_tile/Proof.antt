@@ -43,8 +43,9 @@ returns c = let s = c .before .before .before .before .before .before .before .b
     let g = c .before .before .before .coarse-guess in
     let l = levelAt (a .level) in
     let p = pairIn (a .words .now) (a .area) in (
-      finer-answer l p (a .row) (a .column) (c .before .is-squared .result) (t .result) (g .result) (c .refine .result) (c .refine .ensures) (c .before .is-squared .ensures) (t .ensures .0) (stepTo (a .level)) (a .coarse .rows) (a .coarse .columns) (fieldAt (a .words .now) (a .coarse .at) (a .coarse .columns)) (g .ensures .0),
-      answer-within l p (a .row) (a .column) (c .before .is-squared .result) (t .result) (g .result) (c .refine .result) (c .refine .ensures) (c .before .is-squared .ensures) (t .ensures .0) 336 (g .ensures .1),
+      finer-answer l p (a .row) (a .column) (c .before .is-squared .result) (t .result) (g .result) (c .refine .result) (c .refine .ensures .0) (c .before .is-squared .ensures) (t .ensures .0) (stepTo (a .level)) (a .coarse .rows) (a .coarse .columns) (fieldAt (a .words .now) (a .coarse .at) (a .coarse .columns)) (g .ensures .0),
+      answer-within l p (a .row) (a .column) (c .before .is-squared .result) (t .result) (g .result) (c .refine .result) (c .refine .ensures .0) (c .before .is-squared .ensures) (t .ensures .0) 336 (g .ensures .1),
+      c .refine .ensures .1,
     )
 
 pub finer-tile-spec : {M : Type 1} → statement M

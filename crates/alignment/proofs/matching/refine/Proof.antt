@@ -68,7 +68,7 @@ returns c = let s = c .before .before .before .before .before .before .before .b
     let a = s .args in
     let p = pairIn (a .words .now) (a .area) in
     let f = searched-finds (a .squared) p (a .tile) (a .guess) _ _ (c .before .before .search .result) (s .pre .0 .copied) (rw (corner (c .before .before .before .before .before .before .before .before)) at (c .before .before .before .before .before .copy-square .ensures)) (c .before .before .search .ensures) in
-    made (a .squared) p (a .tile) (a .guess) (c .sum3 .result) (c .before .offset .result) (c .before .before .search .result .offset) (c .before .before .search .result .residual) (c .sum3 .ensures) (c .before .offset .ensures .0) (f .0) (f .1)
+    (made (a .squared) p (a .tile) (a .guess) (c .sum3 .result) (c .before .offset .result) (c .before .before .search .result .offset) (c .before .before .search .result .residual) (c .sum3 .ensures) (c .before .offset .ensures .0) (f .0) (f .1), c .before .before .search .ensures .most)
 
 pub refine-spec : {M : Type 1} → statement M
 refine-spec =

@@ -49,7 +49,7 @@ square-sum-requires c κs = let s = c .before .before .before .before .before .b
 
 returns : tie.Need-returns
 unfolding windowSum
-returns c = rw (← down-is (c .before .before .before), ← right-is (c .before)) (c .square-sum .ensures .0)
+returns c = (rw (← down-is (c .before .before .before), ← right-is (c .before)) (c .square-sum .ensures .0), c .square-sum .ensures .1)
 
 pub offset-sum-spec : {M : Type 1} → statement M
 offset-sum-spec =

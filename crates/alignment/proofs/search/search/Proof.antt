@@ -5,12 +5,12 @@ use Rattle.alignment.specs.Offsets.{downs, rights}
 use Rattle.alignment.specs.Local.{windowSum}
 use borrow.Author.Needs.{needs}
 use native.Mathlib.Omega.{arith}
-use Prim.Native.Nat.{_-_}
+use Prim.Native.Nat.{_-_, _≤_}
 use Rattle.alignment.proofs.search.search.Statement.{statement}
 use Rattle.alignment.proofs.search.search.Tie as tie
 
 abbrev Inv-loop : tie.InvT-loop
-Inv-loop squared tile window side down right best₀ low₀ k₀ best low k = Least (windowSum squared tile window side) 81 k best low
+Inv-loop squared tile window side down right best₀ low₀ k₀ best low k = Least (windowSum squared tile window side) 81 k best low × (low ≤ 4397912294400)
 
 abbrev μ-loop : tie.MeasureT-loop
 μ-loop squared tile window side down right best₀ low₀ k₀ best low k = 81 - k
@@ -20,7 +20,7 @@ unfolding downs rights
 offset-sum-requires c κs = search needs
 
 loop-holds : tie.Need-loop-holds Inv-loop μ-loop
-loop-holds c = least-start (omega arith) (c .offset-sum .ensures)
+loop-holds c = (least-start (omega arith) (c .offset-sum .ensures .0), c .offset-sum .ensures .1)
 
 offset-sum-requires-2 : tie.Need-offset-sum-requires-2 Inv-loop μ-loop
 unfolding downs rights
@@ -34,13 +34,14 @@ loop-less c = search needs
 
 loop-again : tie.Need-loop-again Inv-loop μ-loop
 loop-again c = let l = c .before .before .before .before .before .loop in
+    let e = c .before .offset-sum2 .ensures in
     ⊎-elim
-    (λ w. rw (w .1, w .2) (least-take (l .inv) (omega arith) (c .before .offset-sum2 .ensures) (w .0 .taken)))
-    (λ w. rw (w .1, w .2) (least-keep (l .inv) (omega arith) (c .before .offset-sum2 .ensures) (w .0 .left)))
+    (λ w. rw (w .1, w .2) (least-take (l .inv .0) (omega arith) (e .0) (w .0 .taken), e .1))
+    (λ w. rw (w .1, w .2) (least-keep (l .inv .0) (omega arith) (e .0) (w .0 .left), l .inv .1))
     (c .if1 .came)
 
 returns : tie.Need-returns Inv-loop μ-loop
-returns c = let d = least-done (c .before .loop .inv) (omega arith) in record { is = d .0; low = d .1; within = omega arith }
+returns c = let d = least-done (c .before .loop .inv .0) (omega arith) in record { is = d .0; low = d .1; within = omega arith; most = c .before .loop .inv .1 }
 
 pub search-spec : {M : Type 1} → statement M
 search-spec =

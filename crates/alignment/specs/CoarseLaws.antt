@@ -1,0 +1,68 @@
+-- Coarse vectors: they stay where nothing is written, and a field that was written stands there.
+use mathlib.Core.Path.{_≡_, refl, sym, ap, ap₂, _∙_, subst}
+use mathlib.Core.List.{List}
+use Prim.Native.Nat.{ℕ, zero, suc, _+_, _*_, _/_, _%_, _≤_, _<_}
+use native.Mathlib.Nat.{add-assoc}
+use native.Mathlib.Omega.{arith}
+use lib.IntN.{ℤ, pos, natAbs}
+use lib.ListN.{length, getD}
+use Rattle.geometry.specs.ReadLaws.{cell-below}
+use Rattle.pyramid.specs.Words.{Kept}
+use Rattle.pyramid.specs.WordsLaws.{place-row, place-column}
+use Rattle.sequences.specs.Write.{written, written-in, written-length}
+use Rattle.alignment.specs.declared.Vector.{Vector}
+use Rattle.alignment.specs.declared.levels.Coarse.{Coarse}
+use Rattle.alignment.specs.Vectors.{Within}
+use Rattle.alignment.specs.Fields.{Field, numbered, part, word}
+use Rattle.alignment.specs.FieldLaws.{word-down, word-right}
+use Rattle.alignment.specs.Coarse.{fieldAt, Vectors}
+
+module _ {d l : List ℤ} {n : ℕ} (k : Kept d n l) (c : Coarse) (before : c .at + 2 * (c .rows * c .columns) ≤ n) where
+  pub kept-vectors : Vectors d c → Vectors l c
+  kept-vectors v =
+      record {
+        some-rows = v .some-rows;
+        some-columns = v .some-columns;
+        room = omega (arith, k .same, v .room);
+        most = λ j h. subst (λ z. natAbs z ≤ 84) (sym (k .kept (c .at + j) (omega arith))) (v .most j h);
+      }
+
+  pub kept-field : (row column : ℕ) → row < c .rows → column < c .columns → fieldAt l (c .at) (c .columns) row column ≡ fieldAt d (c .at) (c .columns) row column
+  unfolding fieldAt
+  kept-field row column h m =
+      let b = cell-below row column (c .rows) (c .columns) h m in
+      ap₂ (λ x y. record { down = x; right = y })
+      (k .kept (c .at + 2 * (row * c .columns + column)) (omega arith))
+      (k .kept (c .at + 2 * (row * c .columns + column) + 1) (omega arith))
+
+-- a field that was written
+module _ (d : List ℤ) (to rows columns : ℕ) (f : Field) (room : to + 2 * (rows * columns) ≤ length d) where
+  pub written-field : (row column : ℕ) → row < rows → column < columns → fieldAt (written d to (word columns f) (2 * (rows * columns))) to columns row column ≡ f row column
+  unfolding fieldAt
+  written-field row column h m =
+      let i = row * columns + column in
+      let b = cell-below row column rows columns h m in
+      let same : numbered columns f i ≡ f row column = ap₂ f (place-row row column columns m) (place-column row column columns m) in
+      ap₂ (λ x y. record { down = x; right = y })
+      (written-in d to (word columns f) (2 * (rows * columns)) (pos 0) room (2 * i) (omega arith) ∙ word-down columns f i ∙ ap (λ v. v .down) same)
+      (ap (λ n. getD (written d to (word columns f) (2 * (rows * columns))) n (pos 0)) (add-assoc to (2 * i) 1)
+      ∙ written-in d to (word columns f) (2 * (rows * columns)) (pos 0) room (2 * i + 1) (omega arith)
+      ∙ word-right columns f i
+      ∙ ap (λ v. v .right) same)
+
+  part-most : (v : Vector) (b k : ℕ) → Within b v → natAbs (part k v) ≤ b
+  unfolding part
+  part-most v b zero w = w .vertical
+  part-most v b (suc k) w = w .sideways
+
+  pub written-vectors : (b : ℕ) → b ≤ 84 → ((row column : ℕ) → Within b (f row column)) → 0 < rows → 0 < columns → Vectors (written d to (word columns f) (2 * (rows * columns))) (record { at = to; rows = rows; columns = columns })
+  unfolding word
+  written-vectors b small w some-rows some-columns =
+      record {
+        some-rows = some-rows;
+        some-columns = some-columns;
+        room = omega (arith, written-length d to (word columns f) (2 * (rows * columns)) (pos 0) room);
+        most = λ k h.
+            subst (λ z. natAbs z ≤ 84) (sym (written-in d to (word columns f) (2 * (rows * columns)) (pos 0) room k h))
+            (omega (arith, part-most (numbered columns f (k / 2)) b (k % 2) (w (k / 2 / columns) (k / 2 % columns))));
+      }

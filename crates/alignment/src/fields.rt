@@ -1,0 +1,90 @@
+// The vectors of a level's tiles, one after the other.
+ghost use mathlib.Core.Path.{_≡_};
+ghost use Prim.Native.Nat.{_+_, _*_, _≤_, _<_};
+ghost use lib.ListN.{length, set};
+ghost use Rattle.geometry.specs.Tiles.{level3};
+ghost use Rattle.sequences.specs.Write.{written};
+ghost use Rattle.alignment.specs.Vectors.{Within};
+ghost use Rattle.alignment.specs.Fields.{levelAt, stepTo, coarsest, finer, word};
+ghost use Rattle.alignment.specs.Stored.{pairIn, Stored, Before, Grid};
+ghost use Rattle.alignment.specs.Coarse.{fieldAt, Vectors, Ends, Finest};
+use crate::Vector;
+use crate::levels::Coarse;
+use crate::levels::coarsest_tile;
+use crate::levels::finer_tile;
+use crate::matching::Area;
+
+fn put(work: &mut [i64], at: usize, v: Vector)
+    requires { ⌜ (at + 1 < length (now work)) × (Within 340 v) ⌝ }
+    ensures { λ _. ⌜ now (work .exit) ≡ set (set (now (work .entry)) at (v .down)) (at + 1) (v .right) ⌝ }
+{
+    let down = v.down;
+    let right = v.right;
+    work[at] = down;
+    work[at + 1] = right;
+}
+
+// Level 3, into the work area from `to` on.
+pub fn coarsest_field(work: &mut [i64], area: Area, to: usize, rows: usize, columns: usize)
+    requires { ⌜ (Stored (now work) area) × (Before area to) × (Grid rows columns) × (to + 2 * (rows * columns) ≤ length (now work)) ⌝ }
+    ensures { λ _. ⌜ now (work .exit) ≡ written (now (work .entry)) to (word columns (coarsest level3 (pairIn (now (work .entry)) area))) (2 * (rows * columns)) ⌝ }
+{
+    for k in 0..rows * columns {
+        let found = coarsest_tile(&*work, area, k / columns, k % columns);
+        let v = found.vector;
+        put(&mut *work, to + 2 * k, v);
+    }
+}
+
+// A level from 2 to 0, into the work area from `to` on.
+pub fn finer_field(
+    work: &mut [i64],
+    area: Area,
+    level: usize,
+    coarse: Coarse,
+    to: usize,
+    rows: usize,
+    columns: usize,
+)
+    requires { ⌜ (Stored (now work) area) × (Before area to) × (Vectors (now work) coarse) × (Ends coarse to) × (level ≤ 2) × (Grid rows columns) × (to + 2 * (rows * columns) ≤ length (now work)) ⌝ }
+    ensures { λ _. ⌜ now (work .exit) ≡ written (now (work .entry)) to (word columns (finer (levelAt level) (stepTo level) (coarse .rows) (coarse .columns) (pairIn (now (work .entry)) area) (fieldAt (now (work .entry)) (coarse .at) (coarse .columns)))) (2 * (rows * columns)) ⌝ }
+{
+    for k in 0..rows * columns {
+        let found = finer_tile(&*work, area, level, coarse, k / columns, k % columns);
+        let v = found.vector;
+        put(&mut *work, to + 2 * k, v);
+    }
+}
+
+fn hand_over(vectors: &mut [i32], at: usize, v: Vector)
+    requires { ⌜ (at + 1 < length (now vectors)) × (Within 340 v) ⌝ }
+    ensures { λ _. ⌜ now (vectors .exit) ≡ set (set (now (vectors .entry)) at (v .down)) (at + 1) (v .right) ⌝ }
+{
+    let down = v.down as i32;
+    let right = v.right as i32;
+    vectors[at] = down;
+    vectors[at + 1] = right;
+}
+
+// Level 0, into the lent vectors from `to` on, and the sum of its residuals.
+pub fn finest_field(
+    work: &[i64],
+    area: Area,
+    coarse: Coarse,
+    vectors: &mut [i32],
+    to: usize,
+    rows: usize,
+    columns: usize,
+) -> u64
+    requires { ⌜ (Stored (now work) area) × (Vectors (now work) coarse) × (Grid rows columns) × (to + 2 * (rows * columns) ≤ length (now vectors)) ⌝ }
+    ensures { λ r. ⌜ Finest (now (work .entry)) area coarse rows columns (now (vectors .entry)) to (now (vectors .exit)) r ⌝ }
+{
+    let mut sum: u64 = 0;
+    for k in 0..rows * columns {
+        let found = finer_tile(work, area, 0, coarse, k / columns, k % columns);
+        let v = found.vector;
+        hand_over(&mut *vectors, to + 2 * k, v);
+        sum += found.residual;
+    }
+    sum
+}
