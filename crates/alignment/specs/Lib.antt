@@ -13,7 +13,7 @@ pub mod SignedLaws
 pub mod WordLaws
 pub mod Stored
 pub mod VectorLaws
-pub mod Coarse
+pub mod Grids
 pub mod StoredLaws
 pub mod FieldLaws
-pub mod CoarseLaws
+pub mod GridLaws

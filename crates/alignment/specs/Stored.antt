@@ -27,8 +27,6 @@ pairIn words a =
 pub record Stored (words : List ℤ) (a : Area) : Type 0 where
   pub reference : Source words (a .reference) (a .height) (a .width)
   pub other : Source words (a .other) (a .height) (a .width)
-  pub high : a .height ≤ 4096
-  pub wide : a .width ≤ 4096
 
 -- and before place n
 pub record Before (a : Area) (n : ℕ) : Type 0 where
@@ -36,7 +34,7 @@ pub record Before (a : Area) (n : ℕ) : Type 0 where
   pub other : a .other + a .height * a .width ≤ n
 
 -- so many rows and columns of tiles
-pub record Grid (rows columns : ℕ) : Type 0 where
+pub record Few (rows columns : ℕ) : Type 0 where
   pub some-columns : 0 < columns
   pub few-rows : rows ≤ 257
   pub few-columns : columns ≤ 257

@@ -11,8 +11,8 @@ use lib.ListN.{length}
 use Rattle.geometry.specs.Read.{inside, read}
 use Rattle.geometry.specs.ReadLaws.{inside-below}
 use Rattle.geometry.specs.Tiles.{Level, Step}
-use Rattle.pyramid.specs.Words.{imageAt, Source, Kept}
-use Rattle.pyramid.specs.WordsLaws.{kept-image, kept-source}
+use Rattle.pyramid.specs.Words.{imageAt, Source}
+use Rattle.pyramid.specs.WordsLaws.{Kept, kept-image, kept-source}
 use Rattle.alignment.specs.declared.Tile.{Tile}
 use Rattle.alignment.specs.declared.Vector.{Vector}
 use Rattle.alignment.specs.declared.matching.Area.{Area}
@@ -27,8 +27,8 @@ use Rattle.alignment.specs.Local.{Copied}
 use Rattle.alignment.specs.Stored.{pairIn, Stored, Before, Ready, answer}
 
 -- what copying a tile's samples asks
-pub copyable : {words : List ℤ} {a : Area} {t : Tile} → Stored words a → t .side ≤ 16 → Within 65552 (t .origin) → Source words (a .reference) (a .height) (a .width) × (a .height ≤ 4096) × (a .width ≤ 4096) × Within (2 ^ 20) (t .origin) × (t .side ≤ 64) × (t .side * t .side ≤ 256)
-copyable s h w = (s .reference, s .high, s .wide, within-more (2 ^ 20) w (lit≤ tt), omega arith, omega (arith, mul-le-mul h h))
+pub copyable : {words : List ℤ} {a : Area} {t : Tile} → Stored words a → t .side ≤ 16 → Within 65552 (t .origin) → Source words (a .reference) (a .height) (a .width) × Within (2 ^ 20) (t .origin) × (t .side ≤ 64) × (t .side * t .side ≤ 256)
+copyable s h w = (s .reference, within-more (2 ^ 20) w (lit≤ tt), omega arith, omega (arith, mul-le-mul h h))
 
 -- and what it makes ready
 pub ready : {words : List ℤ} {a : Area} {t : Tile} {l : List ℕ} → Stored words a → t .side ≤ 16 → Within 65552 (t .origin) → length l ≡ 256 → Copied l (t .side) (t .side) (read (a .height) (a .width) (imageAt words (a .reference) (a .width))) (t .origin .down) (t .origin .right) → Ready words a t l
@@ -55,8 +55,6 @@ module _ {d l : List ℤ} {n : ℕ} (k : Kept d n l) (a : Area) (s : Stored d a)
       record {
         reference = kept-source k (a .reference) (a .height) (a .width) (b .reference) (s .reference);
         other = kept-source k (a .other) (a .height) (a .width) (b .other) (s .other);
-        high = s .high;
-        wide = s .wide;
       }
 
   same-read : (from : ℕ) → from + a .height * a .width ≤ n → read (a .height) (a .width) (imageAt l from (a .width)) ≡ read (a .height) (a .width) (imageAt d from (a .width))

@@ -87,7 +87,7 @@ pub fn copy_square(
     n: usize,
     out: &mut [u16],
 )
-    requires { ⌜ (Source (now words) from height width) × (height ≤ 4096) × (width ≤ 4096) × (Within (2 ^ 20) corner) × (n ≤ 64) × (n * n ≤ length (now out)) ⌝ }
+    requires { ⌜ (Source (now words) from height width) × (Within (2 ^ 20) corner) × (n ≤ 64) × (n * n ≤ length (now out)) ⌝ }
     ensures { λ _. ⌜ Copied (now (out .exit)) n n (read height width (imageAt (now (words .entry)) from width)) (corner .down) (corner .right) ⌝ }
 {
     for i in 0..n {

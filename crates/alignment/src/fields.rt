@@ -6,10 +6,10 @@ ghost use Rattle.geometry.specs.Tiles.{level3};
 ghost use Rattle.sequences.specs.Write.{written};
 ghost use Rattle.alignment.specs.Vectors.{Within};
 ghost use Rattle.alignment.specs.Fields.{levelAt, stepTo, coarsest, finer, word};
-ghost use Rattle.alignment.specs.Stored.{pairIn, Stored, Before, Grid};
-ghost use Rattle.alignment.specs.Coarse.{fieldAt, Vectors, Ends, Finest};
+ghost use Rattle.alignment.specs.Stored.{pairIn, Stored, Before, Few};
+ghost use Rattle.alignment.specs.Grids.{fieldAt, Vectors, Ends, Finest};
 use crate::Vector;
-use crate::levels::Coarse;
+use crate::levels::Grid;
 use crate::levels::coarsest_tile;
 use crate::levels::finer_tile;
 use crate::matching::Area;
@@ -26,7 +26,7 @@ fn put(work: &mut [i64], at: usize, v: Vector)
 
 // Level 3, into the work area from `to` on.
 pub fn coarsest_field(work: &mut [i64], area: Area, to: usize, rows: usize, columns: usize)
-    requires { ⌜ (Stored (now work) area) × (Before area to) × (Grid rows columns) × (to + 2 * (rows * columns) ≤ length (now work)) ⌝ }
+    requires { ⌜ (Stored (now work) area) × (Before area to) × (Few rows columns) × (to + 2 * (rows * columns) ≤ length (now work)) ⌝ }
     ensures { λ _. ⌜ now (work .exit) ≡ written (now (work .entry)) to (word columns (coarsest level3 (pairIn (now (work .entry)) area))) (2 * (rows * columns)) ⌝ }
 {
     for k in 0..rows * columns {
@@ -41,12 +41,12 @@ pub fn finer_field(
     work: &mut [i64],
     area: Area,
     level: usize,
-    coarse: Coarse,
+    coarse: Grid,
     to: usize,
     rows: usize,
     columns: usize,
 )
-    requires { ⌜ (Stored (now work) area) × (Before area to) × (Vectors (now work) coarse) × (Ends coarse to) × (level ≤ 2) × (Grid rows columns) × (to + 2 * (rows * columns) ≤ length (now work)) ⌝ }
+    requires { ⌜ (Stored (now work) area) × (Before area to) × (Vectors (now work) coarse) × (Ends coarse to) × (level ≤ 2) × (Few rows columns) × (to + 2 * (rows * columns) ≤ length (now work)) ⌝ }
     ensures { λ _. ⌜ now (work .exit) ≡ written (now (work .entry)) to (word columns (finer (levelAt level) (stepTo level) (coarse .rows) (coarse .columns) (pairIn (now (work .entry)) area) (fieldAt (now (work .entry)) (coarse .at) (coarse .columns)))) (2 * (rows * columns)) ⌝ }
 {
     for k in 0..rows * columns {
@@ -70,13 +70,13 @@ fn hand_over(vectors: &mut [i32], at: usize, v: Vector)
 pub fn finest_field(
     work: &[i64],
     area: Area,
-    coarse: Coarse,
+    coarse: Grid,
     vectors: &mut [i32],
     to: usize,
     rows: usize,
     columns: usize,
 ) -> u64
-    requires { ⌜ (Stored (now work) area) × (Vectors (now work) coarse) × (Grid rows columns) × (to + 2 * (rows * columns) ≤ length (now vectors)) ⌝ }
+    requires { ⌜ (Stored (now work) area) × (Vectors (now work) coarse) × (Few rows columns) × (to + 2 * (rows * columns) ≤ length (now vectors)) ⌝ }
     ensures { λ r. ⌜ Finest (now (work .entry)) area coarse rows columns (now (vectors .entry)) to (now (vectors .exit)) r ⌝ }
 {
     let mut sum: u64 = 0;

@@ -7,7 +7,7 @@ ghost use Rattle.geometry.specs.Tiles.{level3};
 ghost use Rattle.alignment.specs.Vectors.{_times_, Within};
 ghost use Rattle.alignment.specs.Fields.{levelAt, stepTo, tileAt, coarsest, fromCoarse, finer};
 ghost use Rattle.alignment.specs.Stored.{pairIn, Stored, Ready, answer};
-ghost use Rattle.alignment.specs.Coarse.{fieldAt, Vectors};
+ghost use Rattle.alignment.specs.Grids.{fieldAt, Vectors};
 use crate::Tile;
 use crate::Vector;
 use crate::copy::copy_square;
@@ -21,7 +21,7 @@ use geometry::tiles::origin;
 use geometry::tiles::own;
 
 // Where the coarse level's vectors stand in the work area, row by row of tiles.
-pub struct Coarse {
+pub struct Grid {
     pub at: usize,
     pub rows: usize,
     pub columns: usize,
@@ -73,7 +73,7 @@ fn coarse_part(words: &[i64], k: usize, f: usize) -> i64
 }
 
 // A coarse vector, times f.
-fn coarse_vector(words: &[i64], coarse: Coarse, row: usize, column: usize, f: usize) -> Vector
+fn coarse_vector(words: &[i64], coarse: Grid, row: usize, column: usize, f: usize) -> Vector
     requires { ⌜ (Vectors (now words) coarse) × (row < coarse .rows) × (column < coarse .columns) × (f ≤ 4) ⌝ }
     ensures { λ r. ⌜ (r ≡ fieldAt (now (words .entry)) (coarse .at) (coarse .columns) row column times f) × (Within 336 r) ⌝ }
 {
@@ -93,7 +93,7 @@ fn coarse_guess(
     tile: Tile,
     samples: &[u16],
     level: usize,
-    coarse: Coarse,
+    coarse: Grid,
     row: usize,
     column: usize,
 ) -> Vector
@@ -151,7 +151,7 @@ pub fn finer_tile(
     words: &[i64],
     area: Area,
     level: usize,
-    coarse: Coarse,
+    coarse: Grid,
     row: usize,
     column: usize,
 ) -> Found

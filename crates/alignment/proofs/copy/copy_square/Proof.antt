@@ -26,7 +26,7 @@ loop-holds c = (omega arith, refl, record { cell = λ i j h k. absurd (omega ari
 
 shifted-requires : tie.Need-shifted-requires Inv-loop μ-loop
 shifted-requires c κs = let s = c .before .before .before .before in
-    let w = s .pre .3 in
+    let w = s .pre .1 in
     rw (back-small (s .args .corner .down) (2 ^ 20) (w .vertical) tt) (record { most = omega (arith, w .vertical) }, omega arith)
 
 inside-requires : tie.Need-inside-requires Inv-loop μ-loop
@@ -46,8 +46,8 @@ mul-copy-row-2 c = omega (arith, row-below (c .before .before .before .before .b
 
 copy-row-requires : tie.Need-copy-row-requires Inv-loop μ-loop
 copy-row-requires c κs = let s = c .before .before .before .before .before .before .before .before in
-    let w = s .pre .3 in
-    (row-held _ (s .pre .0 .holds) (c .before .before .inside .ensures .1), s .pre .0 .wide, s .pre .2, rw (back-small (s .args .corner .right) (2 ^ 20) (w .sideways) tt) (record { most = omega (arith, w .sideways) }), s .pre .4, omega (arith, row-below (s .args .n) (c .before .before .before .before .before .loop-test .taken)))
+    let w = s .pre .1 in
+    (row-held _ (s .pre .0 .holds) (c .before .before .inside .ensures .1), s .pre .0 .wide, s .pre .0 .wide-small, rw (back-small (s .args .corner .right) (2 ^ 20) (w .sideways) tt) (record { most = omega (arith, w .sideways) }), s .pre .2, omega (arith, row-below (s .args .n) (c .before .before .before .before .before .loop-test .taken)))
 
 add-i : tie.Need-add-i Inv-loop μ-loop
 add-i c = search needs
@@ -68,8 +68,8 @@ loop-again c = let s = c .before .before .before .before .before .before .before
           (copied-turn (l .inv .2) (omega arith) _
           (λ j. ap₂ (λ y x. wordAt (a .words .now) (a .from + y * a .width + inside (a .width) (x +ℤ pos j)))
           (c .before .before .before .before .before .inside .ensures .0
-          ∙ ap (inside (a .height)) (back (m .result) (m .ok) ∙ m .ensures ∙ ap (λ z. z +ℤ pos (l .i)) (back-small (a .corner .down) (2 ^ 20) (s .pre .3 .vertical) tt)))
-          (back-small (a .corner .right) (2 ^ 20) (s .pre .3 .sideways) tt))),
+          ∙ ap (inside (a .height)) (back (m .result) (m .ok) ∙ m .ensures ∙ ap (λ z. z +ℤ pos (l .i)) (back-small (a .corner .down) (2 ^ 20) (s .pre .1 .vertical) tt)))
+          (back-small (a .corner .right) (2 ^ 20) (s .pre .1 .sideways) tt))),
     )
 
 same-length : tie.Need-same-length Inv-loop μ-loop

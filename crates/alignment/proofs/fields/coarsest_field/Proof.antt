@@ -1,7 +1,6 @@
 -- Each turn writes a tile's vector behind the images, which stay as they were.
 use Rattle.geometry.specs.Tiles.{level3}
-use Rattle.pyramid.specs.Words.{Kept}
-use Rattle.pyramid.specs.WordsLaws.{writing-kept}
+use Rattle.pyramid.specs.WordsLaws.{Kept, writing-kept}
 use Rattle.alignment.specs.VectorLaws.{within-more}
 use Rattle.alignment.specs.PlaceLaws.{div-below, rem-below}
 use Rattle.alignment.specs.Fields.{coarsest}

@@ -1,13 +1,12 @@
 -- Each turn writes a tile's vector behind the images and the coarse vectors, which stay as they were.
-use Rattle.pyramid.specs.Words.{Kept}
-use Rattle.pyramid.specs.WordsLaws.{writing-kept}
+use Rattle.pyramid.specs.WordsLaws.{Kept, writing-kept}
 use Rattle.alignment.specs.PlaceLaws.{div-below, rem-below}
 use Rattle.alignment.specs.Fields.{levelAt, stepTo, finer}
 use Rattle.alignment.specs.FieldLaws.{Placing, place-start, place-turn, place-done, finer-agree}
 use Rattle.alignment.specs.Stored.{pairIn}
 use Rattle.alignment.specs.StoredLaws.{kept-stored, kept-pair}
-use Rattle.alignment.specs.Coarse.{fieldAt}
-use Rattle.alignment.specs.CoarseLaws.{kept-vectors, kept-field}
+use Rattle.alignment.specs.Grids.{fieldAt}
+use Rattle.alignment.specs.GridLaws.{kept-vectors, kept-field}
 use borrow.Author.Needs.{needs}
 use native.Mathlib.Omega.{arith}
 use mathlib.Core.Path.{ap, _∙_}

@@ -6,8 +6,8 @@ use Rattle.alignment.specs.PlaceLaws.{div-below, rem-below}
 use Rattle.alignment.specs.Residual.{residual}
 use Rattle.alignment.specs.Fields.{tileAt, numbered, residuals}
 use Rattle.alignment.specs.FieldLaws.{Placing, place-start, place-turn, place-done}
-use Rattle.alignment.specs.Stored.{pairIn, Grid}
-use Rattle.alignment.specs.Coarse.{finestIn}
+use Rattle.alignment.specs.Stored.{pairIn, Few}
+use Rattle.alignment.specs.Grids.{finestIn}
 use borrow.Author.Needs.{needs}
 use native.Mathlib.Omega.{arith}
 use mathlib.Core.Path.{ap}
@@ -21,7 +21,7 @@ Inv-loop work area coarse vectors₀ to rows columns sum₀ k₀ k-end vectors s
 abbrev μ-loop : tie.MeasureT-loop
 μ-loop work area coarse vectors₀ to rows columns sum₀ k₀ k-end vectors sum k = rows * columns - k
 
-few : (rows columns : ℕ) → Grid rows columns → rows * columns ≤ 66049
+few : (rows columns : ℕ) → Few rows columns → rows * columns ≤ 66049
 few rows columns g = mul-le-mul (g .few-rows) (g .few-columns)
 
 mul-k-end : tie.Need-mul-k-end Inv-loop μ-loop

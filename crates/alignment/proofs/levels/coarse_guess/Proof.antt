@@ -7,7 +7,7 @@ use Rattle.alignment.specs.Residual.{Pair}
 use Rattle.alignment.specs.Search.{guessed}
 use Rattle.alignment.specs.Fields.{Field, stepTo, fromCoarse}
 use Rattle.alignment.specs.Stored.{pairIn}
-use Rattle.alignment.specs.Coarse.{fieldAt}
+use Rattle.alignment.specs.Grids.{fieldAt}
 use mathlib.Core.Path.{_≡_, ap, _∙_}
 use Prim.Native.Nat.{ℕ}
 use borrow.Author.Needs.{needs}

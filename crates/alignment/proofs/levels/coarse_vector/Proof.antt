@@ -6,7 +6,7 @@ use Rattle.geometry.specs.ReadLaws.{cell-below}
 use Rattle.alignment.specs.declared.Vector.{Vector}
 use Rattle.alignment.specs.Vectors.{_times_}
 use Rattle.alignment.specs.SignedLaws.{back}
-use Rattle.alignment.specs.Coarse.{fieldAt}
+use Rattle.alignment.specs.Grids.{fieldAt}
 use native.Mathlib.Omega.{arith}
 use mathlib.Core.Path.{_≡_}
 use Prim.Native.Nat.{ℕ, _+_, _*_, _<_}

@@ -2,7 +2,7 @@
 use Rattle.alignment.specs.Fields.{levelAt, stepTo}
 use Rattle.alignment.specs.Stored.{pairIn}
 use Rattle.alignment.specs.StoredLaws.{copyable, ready, answer-within, finer-answer}
-use Rattle.alignment.specs.Coarse.{fieldAt}
+use Rattle.alignment.specs.Grids.{fieldAt}
 use native.Mathlib.Omega.{arith}
 use borrow.Author.Needs.{needs}
 use Rattle.alignment.proofs.levels.finer_tile.Statement.{statement}

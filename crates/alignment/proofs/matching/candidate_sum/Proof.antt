@@ -21,7 +21,7 @@ slice-aggregate-copy-square c = search needs
 copy-square-requires : tie.Need-copy-square-requires
 copy-square-requires c κs = let s = c .before .before .before .before in
     let h = s .pre .0 in
-    (h .stored .other, h .stored .high, h .stored .wide, rw (c .before .sum .ensures) (within-more (2 ^ 20) (plus-within (h .near) (s .pre .1)) (lit≤ tt)), omega arith, omega (arith, mul-le-mul (h .small) (h .small)))
+    (h .stored .other, rw (c .before .sum .ensures) (within-more (2 ^ 20) (plus-within (h .near) (s .pre .1)) (lit≤ tt)), omega arith, omega (arith, mul-le-mul (h .small) (h .small)))
 
 slice-aggregate-square-sum : tie.Need-slice-aggregate-square-sum
 slice-aggregate-square-sum c = search needs

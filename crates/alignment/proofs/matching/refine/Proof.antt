@@ -45,7 +45,7 @@ copy-square-requires : tie.Need-copy-square-requires
 copy-square-requires c κs = let s = c .before .before .before .before .before .before in
     let h = s .pre .0 in
     let four : Within 4 (record { down = negsuc 3; right = negsuc 3 }) = record { vertical = lit≤ tt; sideways = lit≤ tt } in
-    (h .stored .other, h .stored .high, h .stored .wide, rw (corner (c .before .before)) (within-more (2 ^ 20) (plus-within (plus-within (h .near) (s .pre .1)) four) (lit≤ tt)), omega arith, omega (arith, mul-le-mul (h .small) (h .small)))
+    (h .stored .other, rw (corner (c .before .before)) (within-more (2 ^ 20) (plus-within (plus-within (h .near) (s .pre .1)) four) (lit≤ tt)), omega arith, omega (arith, mul-le-mul (h .small) (h .small)))
 
 slice-aggregate-search : tie.Need-slice-aggregate-search
 slice-aggregate-search c = search needs

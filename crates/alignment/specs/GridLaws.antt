@@ -7,17 +7,16 @@ use native.Mathlib.Omega.{arith}
 use lib.IntN.{ℤ, pos, natAbs}
 use lib.ListN.{length, getD}
 use Rattle.geometry.specs.ReadLaws.{cell-below}
-use Rattle.pyramid.specs.Words.{Kept}
-use Rattle.pyramid.specs.WordsLaws.{place-row, place-column}
+use Rattle.pyramid.specs.WordsLaws.{Kept, place-row, place-column}
 use Rattle.sequences.specs.Write.{written, written-in, written-length}
 use Rattle.alignment.specs.declared.Vector.{Vector}
-use Rattle.alignment.specs.declared.levels.Coarse.{Coarse}
+use Rattle.alignment.specs.declared.levels.Grid.{Grid}
 use Rattle.alignment.specs.Vectors.{Within}
 use Rattle.alignment.specs.Fields.{Field, numbered, part, word}
 use Rattle.alignment.specs.FieldLaws.{word-down, word-right}
-use Rattle.alignment.specs.Coarse.{fieldAt, Vectors}
+use Rattle.alignment.specs.Grids.{fieldAt, Vectors}
 
-module _ {d l : List ℤ} {n : ℕ} (k : Kept d n l) (c : Coarse) (before : c .at + 2 * (c .rows * c .columns) ≤ n) where
+module _ {d l : List ℤ} {n : ℕ} (k : Kept d n l) (c : Grid) (before : c .at + 2 * (c .rows * c .columns) ≤ n) where
   pub kept-vectors : Vectors d c → Vectors l c
   kept-vectors v =
       record {
