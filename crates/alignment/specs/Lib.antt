@@ -17,3 +17,6 @@ pub mod Grids
 pub mod StoredLaws
 pub mod FieldLaws
 pub mod GridLaws
+pub mod Frames
+pub mod Sites
+pub mod LevelLaws

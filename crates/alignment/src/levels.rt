@@ -41,9 +41,9 @@ fn quotient(level: usize) -> usize
     if level == 1 { 4 } else { 2 }
 }
 
-fn half_of(level: usize) -> usize
+pub fn half_of(level: usize) -> usize
     requires { ⌜ level ≤ 3 ⌝ }
-    ensures { λ r. ⌜ (r ≡ levelAt level .half) × (2 * r ≡ levelAt level .side) × (r ≤ 8) ⌝ }
+    ensures { λ r. ⌜ (r ≡ levelAt level .half) × (2 * r ≡ levelAt level .side) × (0 < r) × (r ≤ 8) ⌝ }
 {
     if level == 3 { 4 } else { 8 }
 }

@@ -1,6 +1,7 @@
 // Alignment: residuals, three candidates, the search in tie order, and the loop over the levels.
 pub mod copy;
 pub mod fields;
+pub mod frame;
 pub mod levels;
 pub mod matching;
 pub mod residual;

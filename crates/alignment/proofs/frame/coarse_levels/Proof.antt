@@ -1,0 +1,103 @@
+use native.Mathlib.Nat.{mul-le-mul}
+-- Each level's field is written behind the coarser one's, and is the definition's.
+use Rattle.pyramid.specs.Layout.{pyramidLength}
+use Rattle.alignment.specs.Fields.{field2, field3}
+use Rattle.alignment.specs.Sites.{gridAt, after, pairsIn, Reached}
+use Rattle.alignment.specs.LevelLaws.{site3, site2, sites-fit, reached3, reached2, reached1, standing-kept, grid-few}
+use native.Mathlib.Omega.{arith}
+use mathlib.Core.Path.{_≡_, sym, ap, _∙_}
+use Prim.Native.Nat.{_*_}
+use borrow.Author.Needs.{needs}
+use Rattle.alignment.proofs.frame.coarse_levels.Statement.{statement}
+use Rattle.alignment.proofs.frame.coarse_levels.Tie as tie
+
+offset-requires : tie.Need-offset-requires
+offset-requires c κs = search needs
+
+mul-base : tie.Need-mul-base
+mul-base c = search needs
+
+-- level 3
+base-is : (c : tie.After-offset) → 2 * c .offset .result ≡ 2 * pyramidLength (c .before .args .shape)
+base-is c = ap (λ n. 2 * n) (c .offset .ensures .0)
+
+third-is : (c : tie.After-coarsest-level) → c .coarsest-level .result ≡ site3 (c .before .before .before .args .shape)
+third-is c = c .coarsest-level .ensures .0 ∙ ap (gridAt (c .before .before .before .args .shape) 3) (base-is (c .before .before))
+
+third : (c : tie.After-coarsest-level) → let a = c .before .before .before .args in Reached (a .work .now) (2 * pyramidLength (a .shape)) (c .coarsest-level .result) (field3 (pairsIn (a .shape) (a .work .now))) (c .coarsest-level .last .1 .0)
+third c =
+    let s = c .before .before .before .pre in
+    reached3 (s .1) (s .2) (c .coarsest-level .result) (third-is c) (rw (base-is (c .before .before)) at (c .coarsest-level .ensures .1))
+
+-- level 2
+behind-third : (c : tie.After-after) → c .after .result ≡ after (site3 (c .before .before .before .before .before .before .args .shape))
+behind-third c = c .after .ensures ∙ ap after (third-is (c .before .before .before))
+
+second-is : (c : tie.After-next-level) → c .next-level .result ≡ site2 (c .before .before .before .before .before .before .before .args .shape)
+second-is c = c .next-level .ensures .0 ∙ ap (gridAt (c .before .before .before .before .before .before .before .args .shape) 2) (behind-third (c .before))
+
+second : (c : tie.After-next-level) → let a = c .before .before .before .before .before .before .before .args in Reached (a .work .now) (2 * pyramidLength (a .shape)) (c .next-level .result) (field2 (pairsIn (a .shape) (a .work .now))) (c .next-level .last .1 .0)
+second c =
+    let t = c .before .before .before .before in
+    let s = t .before .before .before .pre in
+    reached2 (s .1) (s .2) (t .coarsest-level .result) (c .next-level .result) (third t) (third-is t) (second-is c) (rw (behind-third (c .before)) at (c .next-level .ensures .1))
+
+-- level 1
+behind-second : (c : tie.After-after2) → c .after2 .result ≡ after (site2 (c .before .before .before .before .before .before .before .before .before .before .args .shape))
+behind-second c = c .after2 .ensures ∙ ap after (second-is (c .before .before .before))
+
+coarsest-level-requires : tie.Need-coarsest-level-requires
+coarsest-level-requires c κs = let s = c .before .before in
+    let f = sites-fit (s .args .shape) in
+    (s .pre .0, s .pre .1, omega (arith, base-is (c .before)), rw (base-is (c .before)) (omega (arith, s .pre .2)))
+
+after-requires : tie.Need-after-requires
+unfolding gridAt
+after-requires c κs = let t = c .before .before in
+    let o = t .before .before in
+    rw (third-is t) (omega (arith, base-is o, o .offset .ensures .1), grid-few (o .before .pre .0) 3)
+
+next-level-requires : tie.Need-next-level-requires
+next-level-requires c κs = let r = third (c .before .before .before) in
+    let s = c .before .before .before .before .before .before in
+    let f = sites-fit (s .args .shape) in
+    (s .pre .0, standing-kept (s .pre .1) (r .kept), rw (behind-third c) (f .0), rw (behind-third c) (omega (arith, r .kept .same, s .pre .2)), omega arith, r .vectors, omega (arith, c .after .ensures))
+
+after-requires-2 : tie.Need-after-requires-2
+unfolding gridAt
+after-requires-2 c κs = let n = c .before .before in
+    let o = n .before .before .before .before .before .before in
+    let g = grid-few (o .before .pre .0) 3 in
+    rw (second-is n) (omega (arith, base-is o, o .offset .ensures .1, mul-le-mul (g .few-rows) (g .few-columns)), grid-few (o .before .pre .0) 2)
+
+next-level-requires-2 : tie.Need-next-level-requires-2
+next-level-requires-2 c κs = let r = second (c .before .before .before) in
+    let s = c .before .before .before .before .before .before .before .before .before .before in
+    let f = sites-fit (s .args .shape) in
+    (s .pre .0, standing-kept (s .pre .1) (r .kept), rw (behind-second c) (omega arith), rw (behind-second c) (omega (arith, r .kept .same, s .pre .2)), omega arith, r .vectors, omega (arith, c .after2 .ensures))
+
+same-length : tie.Need-same-length
+same-length c = search needs
+
+returns : tie.Need-returns
+unfolding gridAt
+returns c = let n = c .before in
+    let m = n .before .before .before .before in
+    let s = c .before .before .before .before .before .before .before .before .before .before .before .before in
+    let shape = s .args .shape in
+    let e = n .next-level2 .ensures .0 in
+    (reached1 (s .pre .1) (s .pre .2) (m .next-level .result) (n .next-level2 .result) (second m) (second-is m) (e ∙ ap (gridAt shape 1) (behind-second (n .before))) (rw (behind-second (n .before)) at (n .next-level2 .ensures .1)), e ∙ ap (gridAt shape 1) (sym (ap (λ g. g .at) e)))
+
+pub coarse-levels-spec : {M : Type 1} → statement M
+coarse-levels-spec =
+    tie.close
+    (tie.spec
+    offset-requires
+    mul-base
+    coarsest-level-requires
+    after-requires
+    next-level-requires
+    after-requires-2
+    next-level-requires-2
+    same-length
+    returns)

@@ -1,0 +1,53 @@
+-- The counts are those of the level's size.
+use native.Mathlib.Nat.{div-le-self}
+use Rattle.geometry.specs.declared.Shape.{Shape}
+use Rattle.geometry.specs.Tiles.{levelSize, levelTiles, tileCount}
+use Rattle.alignment.specs.declared.levels.Grid.{Grid}
+use Rattle.alignment.specs.Fields.{levelAt}
+use Rattle.alignment.specs.Sites.{gridAt}
+use native.Mathlib.Omega.{arith}
+use mathlib.Core.Path.{_≡_}
+use Prim.Native.Nat.{ℕ, _/_}
+use borrow.Author.Needs.{needs}
+use Rattle.alignment.proofs.frame.grid_at.Statement.{statement}
+use Rattle.alignment.proofs.frame.grid_at.Tie as tie
+
+half-of-requires : tie.Need-half-of-requires
+half-of-requires c κs = search needs
+
+scale-of-requires : tie.Need-scale-of-requires
+scale-of-requires c κs = search needs
+
+div-tile-count : tie.Need-div-tile-count
+div-tile-count c = search needs
+
+tile-count-requires : tie.Need-tile-count-requires
+tile-count-requires c κs = let a = c .before .before .before .args in (omega arith, omega arith, omega (arith, div-le-self (a .shape .height) (c .before .scale-of .result)))
+
+div-tile-count-2 : tie.Need-div-tile-count-2
+div-tile-count-2 c = search needs
+
+tile-count-requires-2 : tie.Need-tile-count-requires-2
+tile-count-requires-2 c κs = let a = c .before .before .before .before .before .args in (omega arith, omega arith, omega (arith, div-le-self (a .shape .width) (c .before .before .before .scale-of .result)))
+
+made : (shape : Shape) (level at half scale r k : ℕ) → half ≡ levelAt level .half → scale ≡ levelAt level .scale → r ≡ tileCount half (shape .height / scale) → k ≡ tileCount half (shape .width / scale) → _≡_ {A = Grid} (record { at = at; rows = r; columns = k }) (gridAt shape level at)
+unfolding gridAt levelTiles levelSize
+made shape level at half scale r k eh es er ek = rw (er, ek, eh, es)
+
+returns : tie.Need-returns
+returns c = let r = c .before .before in
+    let s = r .before .before in
+    let a = s .before .before .args in
+    made (a .shape) (a .level) (a .at) _ _ _ _ (s .before .half-of .ensures .0) (s .scale-of .ensures .0) (r .tile-count .ensures .0) (c .tile-count2 .ensures .0)
+
+pub grid-at-spec : {M : Type 1} → statement M
+grid-at-spec =
+    tie.close
+    (tie.spec
+    half-of-requires
+    scale-of-requires
+    div-tile-count
+    tile-count-requires
+    div-tile-count-2
+    tile-count-requires-2
+    returns)

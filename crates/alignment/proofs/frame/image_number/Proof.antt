@@ -1,0 +1,34 @@
+-- By the level's number.
+use Rattle.alignment.specs.Sites.{imageNumber}
+use native.Mathlib.Omega.{arith}
+use mathlib.Core.Path.{_≡_, refl}
+use Prim.Native.Nat.{ℕ, zero, suc, _-_, _*_, _≤_, _<_}
+use borrow.Author.Needs.{needs}
+use Rattle.alignment.proofs.frame.image_number.Statement.{statement}
+use Rattle.alignment.proofs.frame.image_number.Tie as tie
+
+mul-result : tie.Need-mul-result
+mul-result c = search needs
+
+sub-result : tie.Need-sub-result
+sub-result c = search needs
+
+low : (level : ℕ) → level < 2 → level ≡ imageNumber level
+low zero h = refl
+low (suc zero) h = refl
+low (suc (suc k)) h = absurd (omega arith)
+
+high : (level : ℕ) → 2 ≤ level → level ≤ 3 → 2 * level - 1 ≡ imageNumber level
+high zero h l = absurd (omega arith)
+high (suc zero) h l = absurd (omega arith)
+high (suc (suc zero)) h l = refl
+high (suc (suc (suc k))) h l = omega arith
+
+returns : tie.Need-returns
+returns c = (low (c .before .args .level) (c .if1 .taken), omega arith)
+
+returns-2 : tie.Need-returns-2
+returns-2 c = (high (c .before .args .level) (c .if1 .left) (c .before .pre), omega arith)
+
+pub image-number-spec : {M : Type 1} → statement M
+image-number-spec = tie.close (tie.spec mul-result sub-result returns returns-2)

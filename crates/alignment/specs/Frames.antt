@@ -1,0 +1,34 @@
+-- The vectors of a frame against the reference, from the two frames' pyramids.
+use Prim.Native.Nat.{ℕ, zero, suc}
+use Rattle.geometry.specs.declared.Shape.{Shape}
+use Rattle.geometry.specs.Read.{Image, read}
+use Rattle.geometry.specs.Tiles.{levelSize}
+use Rattle.pyramid.specs.Pyramid.{image0, image1, image2, image3}
+use Rattle.alignment.specs.Residual.{Pair}
+use Rattle.alignment.specs.Fields.{Field, levelAt, field0, residualSum}
+
+-- the image of a level by its number
+abbrev pub levelImage : ℕ → Shape → Image → Image
+levelImage zero = image0
+levelImage (suc zero) = image1
+levelImage (suc (suc zero)) = image2
+levelImage (suc (suc (suc k))) = image3
+
+-- "Reading outside a plane, a pyramid level [..] takes the nearest edge sample": a level's images of the reference and of another frame
+unfoldable pub pairs : Shape → (reference other : Image) → ℕ → Pair
+pairs shape reference other k =
+    let height = levelSize (levelAt k) (shape .height) in
+    let width = levelSize (levelAt k) (shape .width) in
+    record {
+      height = height;
+      width = width;
+      reference = read height width (levelImage k shape reference);
+      other = read height width (levelImage k shape other);
+    }
+
+-- a frame's vectors at level 0, and the sum of their residuals
+unfoldable pub vectorsOf : Shape → (reference other : Image) → Field
+vectorsOf shape reference other = field0 (pairs shape reference other)
+
+unfoldable pub residualOf : Shape → (reference other : Image) → ℕ
+residualOf shape reference other = residualSum (pairs shape reference other)

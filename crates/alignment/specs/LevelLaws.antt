@@ -1,0 +1,180 @@
+-- From level to level: the pyramids stay, and a level's vectors stand where the next level reads them.
+use mathlib.Core.Path.{_≡_, refl, sym, ap, ap₂, _∙_, subst, fun-ext}
+use mathlib.Core.List.{List}
+use Prim.Native.Nat.{ℕ, zero, suc, _+_, _*_, _≤_, _<_}
+use native.Mathlib.Nat.{le-trans}
+use native.Mathlib.Omega.{arith}
+use lib.Dec.{lit≤}
+use lib.IntN.{ℤ, pos}
+use lib.ListN.{length}
+use Rattle.geometry.specs.declared.Shape.{Shape}
+use Rattle.geometry.specs.Shape.{Allowed}
+use Rattle.geometry.specs.Tiles.{Level, Step, level0, level1, level2, level3, step2to1, step3to2, levelSize, levelTiles, tileCount}
+use Rattle.pyramid.specs.ChainLaws.{words-end}
+use Rattle.pyramid.specs.Layout.{offset, pyramidLength, tiles, alignLength}
+use Rattle.pyramid.specs.LayoutLaws.{size0, size1, size3, size5}
+use Rattle.pyramid.specs.WordsLaws.{Kept}
+use Rattle.sequences.specs.Write.{written, written-before, written-length}
+use Rattle.alignment.specs.declared.levels.Grid.{Grid}
+use Rattle.alignment.specs.declared.matching.Area.{Area}
+use Rattle.alignment.specs.Vectors.{Within}
+use Rattle.alignment.specs.Residual.{Pair}
+use Rattle.alignment.specs.Fields.{Field, levelAt, stepTo, tileRows, tileColumns, coarsest, finer, field0, field1, field2, field3, word, residuals, residualSum}
+use Rattle.alignment.specs.FieldLaws.{finer-agree, field1-within, field2-within, field3-within}
+use Rattle.alignment.specs.Stored.{pairIn, Stored, Before, Few}
+use Rattle.alignment.specs.StoredLaws.{kept-stored, kept-pair}
+use Rattle.alignment.specs.Grids.{fieldAt, Vectors, finestIn, Finest}
+use Rattle.alignment.specs.GridLaws.{written-field, written-vectors}
+use Rattle.alignment.specs.Sites.{areaAt, gridAt, after, pairsIn, Standing, Reached, Aligned}
+
+pub written-kept : (d : List ℤ) (at : ℕ) (f : ℕ → ℤ) (n : ℕ) → at + n ≤ length d → Kept d at (written d at f n)
+written-kept d at f n h = record { same = written-length d at f n (pos 0) h; kept = written-before d at f n (pos 0) h }
+
+pub kept-more : {d l m : List ℤ} {a b : ℕ} → Kept d a l → Kept l b m → a ≤ b → Kept d a m
+kept-more k j h = record { same = j .same ∙ k .same; kept = λ i l. j .kept i (le-trans l h) ∙ k .kept i l }
+
+-- a level's images end before the vectors begin
+pub area-before : (shape : Shape) (k : ℕ) → Before (areaAt shape k) (2 * pyramidLength shape)
+unfolding areaAt offset
+area-before shape zero =
+    let e = rw (size0 (shape .height), size0 (shape .width)) at (words-end (levelSize level0 (shape .height)) (levelSize level0 (shape .width)) 0 (omega arith)) in
+    record { reference = omega arith; other = omega arith }
+area-before shape (suc zero) =
+    let e = rw (size1 (shape .height), size1 (shape .width)) at (words-end (levelSize level0 (shape .height)) (levelSize level0 (shape .width)) 1 (omega arith)) in
+    record { reference = omega arith; other = omega arith }
+area-before shape (suc (suc zero)) =
+    let e = rw (size3 (shape .height), size3 (shape .width)) at (words-end (levelSize level0 (shape .height)) (levelSize level0 (shape .width)) 3 (omega arith)) in
+    record { reference = omega arith; other = omega arith }
+area-before shape (suc (suc (suc k))) =
+    let e = rw (size5 (shape .height), size5 (shape .width)) at (words-end (levelSize level0 (shape .height)) (levelSize level0 (shape .width)) 5 (omega arith)) in
+    record { reference = omega arith; other = omega arith }
+
+-- a level has some tiles, and few
+pub some-tiles : (size k : ℕ) → 0 < levelTiles (levelAt k) size
+unfolding levelTiles tileCount
+some-tiles size zero = omega arith
+some-tiles size (suc zero) = omega arith
+some-tiles size (suc (suc zero)) = omega arith
+some-tiles size (suc (suc (suc k))) = omega arith
+
+few-tiles : (size k : ℕ) → size ≤ 4096 → levelTiles (levelAt k) size ≤ 257
+unfolding levelTiles tileCount levelSize
+few-tiles size zero h = omega arith
+few-tiles size (suc zero) h = omega arith
+few-tiles size (suc (suc zero)) h = omega arith
+few-tiles size (suc (suc (suc k))) h = omega arith
+
+pub grid-few : {shape : Shape} → Allowed shape → (k : ℕ) → Few (levelTiles (levelAt k) (shape .height)) (levelTiles (levelAt k) (shape .width))
+grid-few {shape} ok k =
+    record {
+      some-columns = some-tiles (shape .width) k;
+      few-rows = few-tiles (shape .height) k (ok .high .most);
+      few-columns = few-tiles (shape .width) k (ok .wide .most);
+    }
+
+module _ {d : List ℤ} {base : ℕ} where
+  -- a grid whose vectors are written
+  pub reach : {m : List ℤ} (g : Grid) (f : Field) (b : ℕ) → Kept d base m → base ≤ g .at → 0 < g .rows → 0 < g .columns → after g ≤ length m → b ≤ 84 → ((row column : ℕ) → Within b (f row column)) → Reached d base g f (written m (g .at) (word (g .columns) f) (2 * (g .rows * g .columns)))
+  reach {m} g f b k behind some-rows some-columns room small w =
+      record {
+        kept = kept-more k (written-kept m (g .at) (word (g .columns) f) (2 * (g .rows * g .columns)) room) behind;
+        behind = behind;
+        vectors = written-vectors m (g .at) (g .rows) (g .columns) f room b small w some-rows some-columns;
+        field = written-field m (g .at) (g .rows) (g .columns) f room;
+      }
+
+  -- the next level's field, as the work area has it, is the definition's
+  pub next : {g : Grid} {f : Field} {l : List ℤ} (v : Level) (s : Step) (a : Area) → Reached d base g f l → Stored d a → Before a base → finer v s (g .rows) (g .columns) (pairIn l a) (fieldAt l (g .at) (g .columns)) ≡ finer v s (g .rows) (g .columns) (pairIn d a) f
+  next {g} {f} {l} v s a r stored before =
+      ap (λ p. finer v s (g .rows) (g .columns) p (fieldAt l (g .at) (g .columns))) (kept-pair (r .kept) a stored before)
+      ∙ fun-ext (λ row. fun-ext (λ column. finer-agree v s (g .rows) (g .columns) (pairIn d a) (fieldAt l (g .at) (g .columns)) f (r .vectors .some-rows) (r .vectors .some-columns) (r .field) row column))
+
+-- the pyramids still stand
+pub standing-kept : {shape : Shape} {d l : List ℤ} → Standing shape d → Kept d (2 * pyramidLength shape) l → Standing shape l
+standing-kept {shape} s k = record { stored = λ n. kept-stored k (areaAt shape n) (s .stored n) (area-before shape n) }
+
+-- what a level's loop asks of its images and its grid
+pub level-ready : {shape : Shape} {l : List ℤ} (k at : ℕ) {a : Area} {g : Grid} → Allowed shape → Standing shape l → 2 * pyramidLength shape ≤ at → after (gridAt shape k at) ≤ length l → a ≡ areaAt shape k → g ≡ gridAt shape k at → Stored l a × Before a at × Few (g .rows) (g .columns) × (at + 2 * (g .rows * g .columns) ≤ length l)
+unfolding gridAt
+level-ready {shape} {l} k at ok s behind room ea eg =
+    let b = area-before shape k in
+    rw (ea, eg) (s .stored k, record { reference = le-trans (b .reference) behind; other = le-trans (b .other) behind }, grid-few ok k, room)
+
+-- a level is reached where its field is written
+reached : (shape : Shape) {d m l : List ℤ} (k at : ℕ) (g : Grid) (f : Field) (b : ℕ) → Kept d (2 * pyramidLength shape) m → 2 * pyramidLength shape ≤ at → after (gridAt shape k at) ≤ length m → g ≡ gridAt shape k at → l ≡ written m at (word (g .columns) f) (2 * (g .rows * g .columns)) → b ≤ 84 → ((row column : ℕ) → Within b (f row column)) → Reached d (2 * pyramidLength shape) g f l
+unfolding gridAt
+reached shape {d} {m} {l} k at g f b kept behind room eg el small w =
+    rw (el, eg) (reach (gridAt shape k at) f b kept behind (some-tiles (shape .height) k) (some-tiles (shape .width) k) room small w)
+
+-- and the next one's field is the definition's
+pub next-field : (shape : Shape) {d l : List ℤ} {g : Grid} {f : Field} (k c at : ℕ) → Reached d (2 * pyramidLength shape) g f l → Standing shape d → g ≡ gridAt shape c at → finer (levelAt k) (stepTo k) (g .rows) (g .columns) (pairsIn shape l k) (fieldAt l (g .at) (g .columns)) ≡ finer (levelAt k) (stepTo k) (tileRows (levelAt c) (pairsIn shape d c)) (tileColumns (levelAt c) (pairsIn shape d c)) (pairsIn shape d k) f
+unfolding gridAt pairsIn tileRows tileColumns levelTiles areaAt pairIn
+next-field shape {d} {l} {g} {f} k c at r s e =
+    next (levelAt k) (stepTo k) (areaAt shape k) r (s .stored k) (area-before shape k)
+    ∙ ap (λ g. finer (levelAt k) (stepTo k) (g .rows) (g .columns) (pairsIn shape d k) f) e
+
+-- where the vectors of levels 3, 2 and 1 stand
+abbrev pub site3 : Shape → Grid
+site3 shape = gridAt shape 3 (2 * pyramidLength shape)
+
+abbrev pub site2 : Shape → Grid
+site2 shape = gridAt shape 2 (after (site3 shape))
+
+abbrev pub site1 : Shape → Grid
+site1 shape = gridAt shape 1 (after (site2 shape))
+
+-- they stand one after the other, within the words of alignment
+pub sites-fit : (shape : Shape) → (2 * pyramidLength shape ≤ after (site3 shape)) × (after (site3 shape) ≤ after (site2 shape)) × (after (site2 shape) ≤ after (site1 shape)) × (after (site1 shape) ≤ alignLength shape)
+unfolding alignLength tiles gridAt
+sites-fit shape = (omega arith, omega arith, omega arith, omega arith)
+
+-- level by level, the fields are the definition's
+module _ {shape : Shape} {d : List ℤ} (s : Standing shape d) (room : alignLength shape ≤ length d) where
+  pub reached3 : {l : List ℤ} (g : Grid) → g ≡ site3 shape → l ≡ written d (2 * pyramidLength shape) (word (g .columns) (coarsest level3 (pairsIn shape d 3))) (2 * (g .rows * g .columns)) → Reached d (2 * pyramidLength shape) g (field3 (pairsIn shape d)) l
+  unfolding field3
+  reached3 g e el =
+      let f = sites-fit shape in
+      reached shape 3 (2 * pyramidLength shape) g (field3 (pairsIn shape d)) 4 (record { same = refl; kept = λ i h. refl }) (omega arith) (omega arith) e el (lit≤ tt) (field3-within (pairsIn shape d))
+
+  pub reached2 : {m l : List ℤ} (c g : Grid) → Reached d (2 * pyramidLength shape) c (field3 (pairsIn shape d)) m → c ≡ site3 shape → g ≡ site2 shape → l ≡ written m (after (site3 shape)) (word (g .columns) (finer level2 step3to2 (c .rows) (c .columns) (pairsIn shape m 2) (fieldAt m (c .at) (c .columns)))) (2 * (g .rows * g .columns)) → Reached d (2 * pyramidLength shape) g (field2 (pairsIn shape d)) l
+  unfolding field2
+  reached2 {m} {l} c g r ec e el =
+      let f = sites-fit shape in
+      let same = r .kept .same in
+      reached shape 2 (after (site3 shape)) g (field2 (pairsIn shape d)) 20 (r .kept) (omega arith) (omega arith) e
+      (el ∙ ap (λ f. written m (after (site3 shape)) (word (g .columns) f) (2 * (g .rows * g .columns))) (next-field shape 2 3 (2 * pyramidLength shape) r s ec))
+      (lit≤ tt) (field2-within (pairsIn shape d))
+
+  pub reached1 : {m l : List ℤ} (c g : Grid) → Reached d (2 * pyramidLength shape) c (field2 (pairsIn shape d)) m → c ≡ site2 shape → g ≡ site1 shape → l ≡ written m (after (site2 shape)) (word (g .columns) (finer level1 step2to1 (c .rows) (c .columns) (pairsIn shape m 1) (fieldAt m (c .at) (c .columns)))) (2 * (g .rows * g .columns)) → Reached d (2 * pyramidLength shape) g (field1 (pairsIn shape d)) l
+  unfolding field1
+  reached1 {m} {l} c g r ec e el =
+      let f = sites-fit shape in
+      let same = r .kept .same in
+      reached shape 1 (after (site2 shape)) g (field1 (pairsIn shape d)) 84 (r .kept) (omega arith) (omega arith) e
+      (el ∙ ap (λ f. written m (after (site2 shape)) (word (g .columns) f) (2 * (g .rows * g .columns))) (next-field shape 1 2 (after (site3 shape)) r s ec))
+      (lit≤ tt) (field1-within (pairsIn shape d))
+
+  -- and level 0's as well, from what stands there
+  pub finest-field : {l : List ℤ} (c : Grid) → Reached d (2 * pyramidLength shape) c (field1 (pairsIn shape d)) l → c ≡ gridAt shape 1 (c .at) → finestIn l (areaAt shape 0) c ≡ field0 (pairsIn shape d)
+  unfolding finestIn field0 pairsIn
+  finest-field c r e = next-field shape 0 1 (c .at) r s e
+
+  pub finest-pair : {l : List ℤ} {c : Grid} {f : Field} → Reached d (2 * pyramidLength shape) c f l → pairIn l (areaAt shape 0) ≡ pairsIn shape d 0
+  unfolding pairsIn
+  finest-pair r = kept-pair (r .kept) (areaAt shape 0) (s .stored 0) (area-before shape 0)
+
+  finest-sum : {l : List ℤ} (c : Grid) → Reached d (2 * pyramidLength shape) c (field1 (pairsIn shape d)) l → c ≡ gridAt shape 1 (c .at) → residuals level0 (pairIn l (areaAt shape 0)) (levelTiles level0 (shape .height)) (levelTiles level0 (shape .width)) (finestIn l (areaAt shape 0) c) ≡ residualSum (pairsIn shape d)
+  unfolding residualSum tileRows tileColumns levelTiles pairsIn areaAt pairIn
+  finest-sum c r e =
+      ap₂ (λ q w. residuals level0 q (levelTiles level0 (shape .height)) (levelTiles level0 (shape .width)) w) (finest-pair r) (finest-field c r e)
+
+  pub aligned : {l v v′ : List ℤ} {to sum : ℕ} {c g : Grid} {a : Area} → Reached d (2 * pyramidLength shape) c (field1 (pairsIn shape d)) l → c ≡ gridAt shape 1 (c .at) → a ≡ areaAt shape 0 → g ≡ gridAt shape 0 0 → Finest l a c (g .rows) (g .columns) v to v′ sum → Aligned shape d v to l v′ sum
+  unfolding gridAt tiles
+  aligned {l} {v} {v′} {to} {sum} {c} {g} {a} r ec ea eg fin =
+      let f = rw (ea, eg) at fin in
+      record {
+        vectors = f .vectors ∙ ap (λ w. written v to (word (levelTiles level0 (shape .width)) w) (2 * tiles level0 shape)) (finest-field c r ec);
+        residual = f .residual ∙ finest-sum c r ec;
+        most = fin .most;
+        kept = r .kept;
+      }

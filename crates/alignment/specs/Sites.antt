@@ -1,0 +1,61 @@
+-- Where the levels' images and vectors stand in the work area: the reference's pyramid, the other frame's, then the vectors of levels 3 to 1.
+use mathlib.Core.Path.{_≡_}
+use mathlib.Core.List.{List}
+use Prim.Native.Nat.{ℕ, zero, suc, _+_, _*_, _≤_, _<_}
+use lib.IntN.{ℤ}
+use lib.ListN.{length}
+use Rattle.geometry.specs.declared.Shape.{Shape}
+use Rattle.geometry.specs.Tiles.{level0, levelSize, levelTiles}
+use Rattle.pyramid.specs.Layout.{offset, pyramidLength, tiles}
+use Rattle.pyramid.specs.WordsLaws.{Kept}
+use Rattle.sequences.specs.Write.{written}
+use Rattle.alignment.specs.declared.levels.Grid.{Grid}
+use Rattle.alignment.specs.declared.matching.Area.{Area}
+use Rattle.alignment.specs.Residual.{Pair}
+use Rattle.alignment.specs.Fields.{Field, levelAt, field0, word, residualSum}
+use Rattle.alignment.specs.Stored.{pairIn, Stored}
+use Rattle.alignment.specs.Grids.{fieldAt, Vectors}
+
+-- a level's number among a pyramid's six images
+abbrev pub imageNumber : ℕ → ℕ
+imageNumber zero = 0
+imageNumber (suc zero) = 1
+imageNumber (suc (suc zero)) = 3
+imageNumber (suc (suc (suc k))) = 5
+
+unfoldable pub areaAt : Shape → ℕ → Area
+areaAt shape k =
+    record {
+      reference = offset shape (imageNumber k);
+      other = pyramidLength shape + offset shape (imageNumber k);
+      height = levelSize (levelAt k) (shape .height);
+      width = levelSize (levelAt k) (shape .width);
+    }
+
+unfoldable pub gridAt : Shape → ℕ → (at : ℕ) → Grid
+gridAt shape k at = record { at = at; rows = levelTiles (levelAt k) (shape .height); columns = levelTiles (levelAt k) (shape .width) }
+
+abbrev pub after : Grid → ℕ
+after g = g .at + 2 * (g .rows * g .columns)
+
+-- the levels' pairs of images that stand there
+unfoldable pub pairsIn : Shape → List ℤ → ℕ → Pair
+pairsIn shape words k = pairIn words (areaAt shape k)
+
+-- the two pyramids stand there
+pub record Standing (shape : Shape) (words : List ℤ) : Type 0 where
+  pub stored : (k : ℕ) → Stored words (areaAt shape k)
+
+-- l is d up to the base, and the vectors of a grid behind it are a field's
+pub record Reached (d : List ℤ) (base : ℕ) (g : Grid) (f : Field) (l : List ℤ) : Type 0 where
+  pub kept : Kept d base l
+  pub behind : base ≤ g .at
+  pub vectors : Vectors l g
+  pub field : (row column : ℕ) → row < g .rows → column < g .columns → fieldAt l (g .at) (g .columns) row column ≡ f row column
+
+-- the vectors at level 0 are written from `to` on, the sum of their residuals is answered, and the pyramids stay
+pub record Aligned (shape : Shape) (words : List ℤ) (d : List ℤ) (to : ℕ) (words′ l : List ℤ) (sum : ℕ) : Type 0 where
+  pub vectors : l ≡ written d to (word (levelTiles level0 (shape .width)) (field0 (pairsIn shape words))) (2 * tiles level0 shape)
+  pub residual : sum ≡ residualSum (pairsIn shape words)
+  pub most : sum ≤ 66049 * 4397912294400
+  pub kept : Kept words (2 * pyramidLength shape) words′

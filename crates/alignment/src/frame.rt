@@ -1,0 +1,130 @@
+// The four levels of one frame against the reference.
+ghost use mathlib.Core.Path.{_≡_};
+ghost use Prim.Native.Nat.{_+_, _*_, _≤_, _<_, _^_};
+ghost use lib.ListN.{length};
+ghost use Rattle.geometry.specs.Shape.{Allowed};
+ghost use Rattle.geometry.specs.Tiles.{level0, level3};
+ghost use Rattle.pyramid.specs.Layout.{alignLength, pyramidLength, tiles};
+ghost use Rattle.sequences.specs.Write.{written};
+ghost use Rattle.alignment.specs.Fields.{levelAt, stepTo, coarsest, finer, field1, word};
+ghost use Rattle.alignment.specs.Stored.{Few};
+ghost use Rattle.alignment.specs.Grids.{fieldAt, Vectors};
+ghost use Rattle.alignment.specs.Sites.{imageNumber, areaAt, gridAt, after, pairsIn, Standing, Reached, Aligned};
+use crate::fields::coarsest_field;
+use crate::fields::finer_field;
+use crate::fields::finest_field;
+use crate::levels::Grid;
+use crate::levels::half_of;
+use crate::matching::Area;
+use geometry::Shape;
+use geometry::tiles::tile_count;
+
+fn image_number(level: usize) -> usize
+    requires { ⌜ level ≤ 3 ⌝ }
+    ensures { λ r. ⌜ (r ≡ imageNumber level) × (r ≤ 5) ⌝ }
+{
+    if level < 2 { level } else { 2 * level - 1 }
+}
+
+fn scale_of(level: usize) -> usize
+    requires { ⌜ level ≤ 3 ⌝ }
+    ensures { λ r. ⌜ (r ≡ levelAt level .scale) × (0 < r) ⌝ }
+{
+    if level == 0 {
+        return 2;
+    }
+    if level == 1 {
+        return 4;
+    }
+    if level == 2 { 16 } else { 64 }
+}
+
+// Where a level's images stand.
+fn area_at(shape: Shape, level: usize) -> Area
+    requires { ⌜ (Allowed shape) × (level ≤ 3) ⌝ }
+    ensures { λ r. ⌜ r ≡ areaAt shape level ⌝ }
+{
+    let from = pyramid::offset(shape, image_number(level));
+    let length = pyramid::offset(shape, 6);
+    let scale = scale_of(level);
+    Area {
+        reference: from,
+        other: length + from,
+        height: shape.height / scale,
+        width: shape.width / scale,
+    }
+}
+
+// A level's tiles, whose vectors stand from `at` on.
+fn grid_at(shape: Shape, level: usize, at: usize) -> Grid
+    requires { ⌜ (Allowed shape) × (level ≤ 3) ⌝ }
+    ensures { λ r. ⌜ r ≡ gridAt shape level at ⌝ }
+{
+    let half = half_of(level);
+    let scale = scale_of(level);
+    Grid {
+        at: at,
+        rows: tile_count(half, shape.height / scale),
+        columns: tile_count(half, shape.width / scale),
+    }
+}
+
+// The place behind a grid's vectors.
+fn after(grid: Grid) -> usize
+    requires { ⌜ (grid .at ≤ 2 ^ 32) × (Few (grid .rows) (grid .columns)) ⌝ }
+    ensures { λ r. ⌜ r ≡ after grid ⌝ }
+{
+    grid.at + 2 * (grid.rows * grid.columns)
+}
+
+// Level 3, from `at` on.
+fn coarsest_level(shape: Shape, work: &mut [i64], at: usize) -> Grid
+    requires { ⌜ (Allowed shape) × (Standing shape (now work)) × (2 * pyramidLength shape ≤ at) × (after (gridAt shape 3 at) ≤ length (now work)) ⌝ }
+    ensures { λ r. ⌜ (r ≡ gridAt shape 3 at) × (now (work .exit) ≡ written (now (work .entry)) at (word (r .columns) (coarsest level3 (pairsIn shape (now (work .entry)) 3))) (2 * (r .rows * r .columns))) ⌝ }
+{
+    let area = area_at(shape, 3);
+    let grid = grid_at(shape, 3, at);
+    coarsest_field(&mut *work, area, at, grid.rows, grid.columns);
+    grid
+}
+
+// A level from 2 to 0, from `at` on.
+fn next_level(shape: Shape, work: &mut [i64], level: usize, coarse: Grid, at: usize) -> Grid
+    requires { ⌜ (Allowed shape) × (Standing shape (now work)) × (2 * pyramidLength shape ≤ at) × (after (gridAt shape level at) ≤ length (now work)) × (level ≤ 2) × (Vectors (now work) coarse) × (after coarse ≤ at) ⌝ }
+    ensures { λ r. ⌜ (r ≡ gridAt shape level at) × (now (work .exit) ≡ written (now (work .entry)) at (word (r .columns) (finer (levelAt level) (stepTo level) (coarse .rows) (coarse .columns) (pairsIn shape (now (work .entry)) level) (fieldAt (now (work .entry)) (coarse .at) (coarse .columns)))) (2 * (r .rows * r .columns))) ⌝ }
+{
+    let area = area_at(shape, level);
+    let grid = grid_at(shape, level, at);
+    finer_field(&mut *work, area, level, coarse, at, grid.rows, grid.columns);
+    grid
+}
+
+// Levels 3 to 1, behind the two pyramids.
+fn coarse_levels(shape: Shape, work: &mut [i64]) -> Grid
+    requires { ⌜ (Allowed shape) × (Standing shape (now work)) × (alignLength shape ≤ length (now work)) ⌝ }
+    ensures { λ r. ⌜ (Reached (now (work .entry)) (2 * pyramidLength shape) r (field1 (pairsIn shape (now (work .entry)))) (now (work .exit))) × (r ≡ gridAt shape 1 (r .at)) ⌝ }
+{
+    let base = 2 * pyramid::offset(shape, 6);
+    let third = coarsest_level(shape, &mut *work, base);
+    let second = next_level(shape, &mut *work, 2, third, after(third));
+    next_level(shape, &mut *work, 1, second, after(second))
+}
+
+// The vectors at level 0, into the lent vectors from `to` on, and the sum of their residuals.
+pub fn align_levels(shape: Shape, work: &mut [i64], vectors: &mut [i32], to: usize) -> u64
+    requires { ⌜ (Allowed shape) × (Standing shape (now work)) × (alignLength shape ≤ length (now work)) × (to + 2 * tiles level0 shape ≤ length (now vectors)) ⌝ }
+    ensures { λ r. ⌜ Aligned shape (now (work .entry)) (now (vectors .entry)) to (now (work .exit)) (now (vectors .exit)) r ⌝ }
+{
+    let coarse = coarse_levels(shape, &mut *work);
+    let area = area_at(shape, 0);
+    let grid = grid_at(shape, 0, 0);
+    finest_field(
+        &*work,
+        area,
+        coarse,
+        &mut *vectors,
+        to,
+        grid.rows,
+        grid.columns,
+    )
+}
