@@ -1,9 +1,7 @@
 -- Laws of fields: what a field's words are, on what a finer field depends, and the bounds 4, 20, 84 and 172.
-use mathlib.Core.Path.{_≡_, refl, sym, ap, ap₂, _∙_, subst}
-use mathlib.Core.Bool.{Bool}
+use mathlib.Core.Path.{_≡_, refl, sym, _∙_}
 use mathlib.Core.List.{List}
-use Prim.Native.Nat.{ℕ, zero, suc, _+_, _-_, _*_, _/_, _%_, _≤_, _<_, min}
-use native.Mathlib.Nat.{add-assoc}
+use Prim.Native.Nat.{ℕ, _+_, _*_, _/_, _%_, _≤_, _<_}
 use native.Mathlib.Omega.{arith}
 use lib.IntN.{ℤ, pos}
 use lib.ListN.{length, set}
@@ -11,11 +9,9 @@ use lib.Dec.{lit≤}
 use Rattle.algebra.specs.Order.{abs-mul-le}
 use Rattle.geometry.specs.Tiles.{Level, level0, level1, level2, level3, Step, step1to0, step2to1, step3to2, own, neighbour, capped}
 use Rattle.sequences.specs.Write.{written, Writing, write-start, write-turn, write-done}
-use Rattle.alignment.specs.declared.Tile.{Tile}
 use Rattle.alignment.specs.declared.Vector.{Vector}
 use Rattle.alignment.specs.Vectors.{still, _times_, Within}
 use Rattle.alignment.specs.Residual.{Pair}
-use Rattle.alignment.specs.Search.{found}
 use Rattle.alignment.specs.SearchLaws.{found-within, guess-within}
 use Rattle.alignment.specs.Fields.{Field, tileAt, coarsest, fromCoarse, finer, field0, field1, field2, field3, numbered, part, word}
 

@@ -1,5 +1,5 @@
 -- From level to level: the pyramids stay, and a level's vectors stand where the next level reads them.
-use mathlib.Core.Path.{_≡_, refl, sym, ap, ap₂, _∙_, subst, fun-ext}
+use mathlib.Core.Path.{_≡_, refl, ap, ap₂, _∙_, fun-ext}
 use mathlib.Core.List.{List}
 use Prim.Native.Nat.{ℕ, zero, suc, _+_, _*_, _≤_, _<_}
 use native.Mathlib.Nat.{le-trans}
@@ -18,12 +18,11 @@ use Rattle.sequences.specs.Write.{written, written-before, written-length}
 use Rattle.alignment.specs.declared.levels.Grid.{Grid}
 use Rattle.alignment.specs.declared.matching.Area.{Area}
 use Rattle.alignment.specs.Vectors.{Within}
-use Rattle.alignment.specs.Residual.{Pair}
 use Rattle.alignment.specs.Fields.{Field, levelAt, stepTo, tileRows, tileColumns, coarsest, finer, field0, field1, field2, field3, word, residuals, residualSum}
 use Rattle.alignment.specs.FieldLaws.{finer-agree, field1-within, field2-within, field3-within}
 use Rattle.alignment.specs.Stored.{pairIn, Stored, Before, Few}
 use Rattle.alignment.specs.StoredLaws.{kept-stored, kept-pair}
-use Rattle.alignment.specs.Grids.{fieldAt, Vectors, finestIn, Finest}
+use Rattle.alignment.specs.Grids.{fieldAt, finestIn, Finest}
 use Rattle.alignment.specs.GridLaws.{written-field, written-vectors}
 use Rattle.alignment.specs.Sites.{areaAt, gridAt, after, pairsIn, Standing, Reached, Aligned}
 

@@ -3,7 +3,6 @@ use mathlib.Core.Path.{_≡_}
 use mathlib.Core.List.{List}
 use Prim.Native.Nat.{ℕ, zero, suc, _+_, _*_, _≤_, _<_}
 use lib.IntN.{ℤ}
-use lib.ListN.{length}
 use Rattle.geometry.specs.declared.Shape.{Shape}
 use Rattle.geometry.specs.Tiles.{level0, levelSize, levelTiles}
 use Rattle.pyramid.specs.Layout.{offset, pyramidLength, tiles}

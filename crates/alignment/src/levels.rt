@@ -20,7 +20,7 @@ use geometry::tiles::neighbour;
 use geometry::tiles::origin;
 use geometry::tiles::own;
 
-// Where the coarse level's vectors stand in the work area, row by row of tiles.
+// A level's rows and columns of tiles, and where their vectors stand in the work area, row by row.
 pub struct Grid {
     pub at: usize,
     pub rows: usize,

@@ -1,0 +1,63 @@
+-- Where the pyramids of the reference and of another frame stand, the levels' pairs of images are those of the two frames.
+use mathlib.Core.Path.{_≡_, ap₂, fun-ext}
+use mathlib.Core.List.{List}
+use Prim.Native.Nat.{ℕ, zero, suc, _+_, _≤_, _<_}
+use native.Mathlib.Nat.{zero-add}
+use native.Mathlib.Omega.{arith}
+use lib.IntN.{ℤ}
+use Rattle.geometry.specs.declared.Shape.{Shape}
+use Rattle.geometry.specs.Shape.{AllowedSize, Allowed}
+use Rattle.geometry.specs.Read.{Image}
+use Rattle.geometry.specs.Tiles.{levelSize}
+use Rattle.pyramid.specs.Words.{Holds}
+use Rattle.pyramid.specs.WordsLaws.{holds-source, own-read}
+use Rattle.pyramid.specs.Layout.{offset, pyramidLength, Levels}
+use Rattle.alignment.specs.Fields.{levelAt}
+use Rattle.alignment.specs.Stored.{pairIn}
+use Rattle.alignment.specs.Frames.{levelImage, pairs}
+use Rattle.alignment.specs.Sites.{imageNumber, areaAt, pairsIn, Standing}
+
+-- a level of a pyramid by its number
+level-held : {shape : Shape} {frame : Image} {at : ℕ} {words : List ℤ} → Levels shape frame at words → (k : ℕ) → Holds words (at + offset shape (imageNumber k)) (levelSize (levelAt k) (shape .height)) (levelSize (levelAt k) (shape .width)) (levelImage k shape frame)
+level-held h zero = h .holds0
+level-held h (suc zero) = h .holds1
+level-held h (suc (suc zero)) = h .holds2
+level-held h (suc (suc (suc k))) = h .holds3
+
+size-some : {size : ℕ} → AllowedSize size → (k : ℕ) → 0 < levelSize (levelAt k) size
+unfolding levelSize
+size-some ok zero = omega arith
+size-some ok (suc zero) = omega arith
+size-some ok (suc (suc zero)) = omega arith
+size-some ok (suc (suc (suc k))) = omega arith
+
+size-most : {size : ℕ} → AllowedSize size → (k : ℕ) → levelSize (levelAt k) size ≤ 4096
+unfolding levelSize
+size-most ok zero = omega arith
+size-most ok (suc zero) = omega arith
+size-most ok (suc (suc zero)) = omega arith
+size-most ok (suc (suc (suc k))) = omega arith
+
+module _ {shape : Shape} {reference other : Image} {words : List ℤ} (ok : Allowed shape) (r : Levels shape reference 0 words) (o : Levels shape other (pyramidLength shape) words) where
+  first-held : (k : ℕ) → Holds words (offset shape (imageNumber k)) (levelSize (levelAt k) (shape .height)) (levelSize (levelAt k) (shape .width)) (levelImage k shape reference)
+  first-held k = rw zero-add at (level-held r k)
+
+  pub frame-standing : Standing shape words
+  unfolding areaAt
+  frame-standing =
+      record {
+        stored = λ k.
+            record {
+              reference = holds-source (size-some (ok .high) k) (size-some (ok .wide) k) (size-most (ok .high) k) (size-most (ok .wide) k) (first-held k);
+              other = holds-source (size-some (ok .high) k) (size-some (ok .wide) k) (size-most (ok .high) k) (size-most (ok .wide) k) (level-held o k);
+            };
+      }
+
+  pub frame-pairs : pairsIn shape words ≡ pairs shape reference other
+  unfolding pairsIn pairIn areaAt pairs
+  frame-pairs =
+      fun-ext
+      (λ k.
+      ap₂ (λ x y. record { height = levelSize (levelAt k) (shape .height); width = levelSize (levelAt k) (shape .width); reference = x; other = y })
+      (fun-ext (λ row. fun-ext (λ column. own-read (size-some (ok .high) k) (size-some (ok .wide) k) (first-held k) row column)))
+      (fun-ext (λ row. fun-ext (λ column. own-read (size-some (ok .high) k) (size-some (ok .wide) k) (level-held o k) row column))))
