@@ -2,14 +2,15 @@
 use mathlib.Core.Path.{_≡_, refl, ap, ap₂, _∙_}
 use mathlib.Core.Bool.{Bool}
 use mathlib.Core.List.{List}
-use Prim.Native.Nat.{ℕ, _+_, _*_, _≤_, _<_}
+use Prim.Native.Nat.{ℕ, _+_, _-_, _*_, _≤_, _<_}
 use native.Mathlib.Nat.{mul-le-mul-right}
 use native.Mathlib.Omega.{arith}
 use borrow.Author.Count.{below-more}
 use lib.IntN.{ℤ, pos, negsuc, _+ℤ_, _-ℤ_, +ℤ-idr}
 use lib.ListN.{length, getD}
-use Rattle.algebra.specs.Sums.{sumN-cong}
+use Rattle.algebra.specs.Sums.{sumN, sumN-cong, sumN-split}
 use Rattle.algebra.specs.Order.{zarith, add-pn, sub-pn}
+use Rattle.sequences.specs.Sum.{Summed}
 use Rattle.sequences.specs.Write.{written, written-in, written-before}
 use Rattle.alignment.specs.declared.Tile.{Tile}
 use Rattle.alignment.specs.declared.Vector.{Vector}
@@ -21,7 +22,16 @@ use Rattle.alignment.specs.Residual.{difference, Pair, rowResidual, resi
 use Rattle.alignment.specs.Search.{tried, chosen, found}
 use Rattle.alignment.specs.FirstLaws.{firstMin-cong}
 use Rattle.alignment.specs.declared.search.Best.{Best}
-use Rattle.alignment.specs.Local.{rowSum, squareSum, Inside, windowSum, Window, Searched, Copied}
+use Rattle.alignment.specs.Local.{rowSum, squareSum, Passed, Inside, windowSum, Window, Searched, Copied}
+
+-- the first terms are at most all of them
+pub part-most : {f : ℕ → ℕ} {b n i acc : ℕ} → Summed f b n i acc → acc ≤ sumN n f
+part-most {f} {b} {n} {i} {acc} w =
+    let e : n ≡ i + (n - i) = omega (arith, w .count) in
+    omega (arith, w .is, ap (λ m. sumN m f) e ∙ sumN-split i (n - i) f)
+
+pub passed-same : {whole whole′ limit r : ℕ} → whole ≡ whole′ → Passed whole limit r → Passed whole′ limit r
+passed-same e p = record { below = λ h. p .below h ∙ e; reached = λ h. omega (arith, p .reached h) }
 
 -- each of the 81 windows lies within its array
 pub window-inside : {tile window : List ℕ} {side : ℕ} → Window tile window side → (k : ℕ) → k < 81 → Inside tile window (getD downs k 0 * (side + 8) + getD rights k 0) (side + 8) side
