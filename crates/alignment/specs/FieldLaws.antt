@@ -1,9 +1,9 @@
 -- Laws of fields: what a field's words are, on what a finer field depends, and the bounds 4, 20, 84 and 172.
 use mathlib.Core.Path.{_≡_, refl, sym, _∙_}
 use mathlib.Core.List.{List}
-use Prim.Native.Nat.{ℕ, _+_, _*_, _/_, _%_, _≤_, _<_}
+use Prim.Native.Nat.{ℕ, zero, suc, _+_, _*_, _/_, _%_, _≤_, _<_}
 use native.Mathlib.Omega.{arith}
-use lib.IntN.{ℤ, pos}
+use lib.IntN.{ℤ, pos, natAbs}
 use lib.ListN.{length, set}
 use lib.Dec.{lit≤}
 use Rattle.algebra.specs.Order.{abs-mul-le}
@@ -29,6 +29,15 @@ word-right columns f k =
     let e : (2 * k + 1) % 2 ≡ 1 = omega arith in
     let d : (2 * k + 1) / 2 ≡ k = omega arith in
     rw (e, d)
+
+part-most : (v : Vector) (b k : ℕ) → Within b v → natAbs (part k v) ≤ b
+unfolding part
+part-most v b zero w = w .vertical
+part-most v b (suc k) w = w .sideways
+
+pub word-most : (columns : ℕ) (f : Field) (b : ℕ) → ((row column : ℕ) → Within b (f row column)) → (k : ℕ) → natAbs (word columns f k) ≤ b
+unfolding word
+word-most columns f b w k = part-most (numbered columns f (k / 2)) b (k % 2) (w (k / 2 / columns) (k / 2 % columns))
 
 -- l is d with the vectors of the first k of n tiles from `to` on: a loop's invariant
 pub record Placing (d : List ℤ) (to columns n : ℕ) (f : Field) (k : ℕ) (l : List ℤ) : Type 0 where

@@ -1,7 +1,7 @@
 -- Coarse vectors: they stay where nothing is written, and a field that was written stands there.
 use mathlib.Core.Path.{_≡_, sym, ap, ap₂, _∙_, subst}
 use mathlib.Core.List.{List}
-use Prim.Native.Nat.{ℕ, zero, suc, _+_, _*_, _/_, _%_, _≤_, _<_}
+use Prim.Native.Nat.{ℕ, _+_, _*_, _≤_, _<_}
 use native.Mathlib.Nat.{add-assoc}
 use native.Mathlib.Omega.{arith}
 use lib.IntN.{ℤ, pos, natAbs}
@@ -9,11 +9,10 @@ use lib.ListN.{length, getD}
 use Rattle.geometry.specs.ReadLaws.{cell-below}
 use Rattle.pyramid.specs.WordsLaws.{Kept, place-row, place-column}
 use Rattle.sequences.specs.Write.{written, written-in, written-length}
-use Rattle.alignment.specs.declared.Vector.{Vector}
 use Rattle.alignment.specs.declared.levels.Grid.{Grid}
 use Rattle.alignment.specs.Vectors.{Within}
-use Rattle.alignment.specs.Fields.{Field, numbered, part, word}
-use Rattle.alignment.specs.FieldLaws.{word-down, word-right}
+use Rattle.alignment.specs.Fields.{Field, numbered, word}
+use Rattle.alignment.specs.FieldLaws.{word-down, word-right, word-most}
 use Rattle.alignment.specs.Grids.{fieldAt, Vectors}
 
 module _ {d l : List ℤ} {n : ℕ} (k : Kept d n l) (c : Grid) (before : c .at + 2 * (c .rows * c .columns) ≤ n) where
@@ -49,13 +48,7 @@ module _ (d : List ℤ) (to rows columns : ℕ) (f : Field) (room : to + 2 * (ro
       ∙ word-right columns f i
       ∙ ap (λ v. v .right) same)
 
-  part-most : (v : Vector) (b k : ℕ) → Within b v → natAbs (part k v) ≤ b
-  unfolding part
-  part-most v b zero w = w .vertical
-  part-most v b (suc k) w = w .sideways
-
   pub written-vectors : (b : ℕ) → b ≤ 84 → ((row column : ℕ) → Within b (f row column)) → 0 < rows → 0 < columns → Vectors (written d to (word columns f) (2 * (rows * columns))) (record { at = to; rows = rows; columns = columns })
-  unfolding word
   written-vectors b small w some-rows some-columns =
       record {
         some-rows = some-rows;
@@ -63,5 +56,5 @@ module _ (d : List ℤ) (to rows columns : ℕ) (f : Field) (room : to + 2 * (ro
         room = omega (arith, written-length d to (word columns f) (2 * (rows * columns)) (pos 0) room);
         most = λ k h.
             subst (λ z. natAbs z ≤ 84) (sym (written-in d to (word columns f) (2 * (rows * columns)) (pos 0) room k h))
-            (omega (arith, part-most (numbered columns f (k / 2)) b (k % 2) (w (k / 2 / columns) (k / 2 % columns))));
+            (omega (arith, word-most columns f b w k));
       }

@@ -1,12 +1,12 @@
 -- From level to level: the pyramids stay, and a level's vectors stand where the next level reads them.
-use mathlib.Core.Path.{_≡_, refl, ap, ap₂, _∙_, fun-ext}
+use mathlib.Core.Path.{_≡_, refl, sym, ap, ap₂, _∙_, subst, fun-ext}
 use mathlib.Core.List.{List}
 use Prim.Native.Nat.{ℕ, zero, suc, _+_, _*_, _≤_, _<_}
 use native.Mathlib.Nat.{le-trans}
 use native.Mathlib.Omega.{arith}
 use lib.Dec.{lit≤}
-use lib.IntN.{ℤ, pos}
-use lib.ListN.{length}
+use lib.IntN.{ℤ, pos, natAbs}
+use lib.ListN.{length, getD}
 use Rattle.geometry.specs.declared.Shape.{Shape}
 use Rattle.geometry.specs.Shape.{Allowed}
 use Rattle.geometry.specs.Tiles.{Level, Step, level0, level1, level2, level3, step2to1, step3to2, levelSize, levelTiles, tileCount}
@@ -14,12 +14,12 @@ use Rattle.pyramid.specs.ChainLaws.{words-end}
 use Rattle.pyramid.specs.Layout.{offset, pyramidLength, tiles, alignLength}
 use Rattle.pyramid.specs.LayoutLaws.{size0, size1, size3, size5}
 use Rattle.pyramid.specs.WordsLaws.{Kept}
-use Rattle.sequences.specs.Write.{written, written-before, written-length}
+use Rattle.sequences.specs.Write.{written, written-in, written-before, written-length}
 use Rattle.alignment.specs.declared.levels.Grid.{Grid}
 use Rattle.alignment.specs.declared.matching.Area.{Area}
 use Rattle.alignment.specs.Vectors.{Within}
 use Rattle.alignment.specs.Fields.{Field, levelAt, stepTo, tileRows, tileColumns, coarsest, finer, field0, field1, field2, field3, word, residuals, residualSum}
-use Rattle.alignment.specs.FieldLaws.{finer-agree, field1-within, field2-within, field3-within}
+use Rattle.alignment.specs.FieldLaws.{finer-agree, word-most, field0-within, field1-within, field2-within, field3-within}
 use Rattle.alignment.specs.Stored.{pairIn, Stored, Before, Few}
 use Rattle.alignment.specs.StoredLaws.{kept-stored, kept-pair}
 use Rattle.alignment.specs.Grids.{fieldAt, finestIn, Finest}
@@ -167,12 +167,18 @@ module _ {shape : Shape} {d : List ℤ} (s : Standing shape d) (room : alignLeng
   finest-sum c r e =
       ap₂ (λ q w. residuals level0 q (levelTiles level0 (shape .height)) (levelTiles level0 (shape .width)) w) (finest-pair r) (finest-field c r e)
 
-  pub aligned : {l v v′ : List ℤ} {to sum : ℕ} {c g : Grid} {a : Area} → Reached d (2 * pyramidLength shape) c (field1 (pairsIn shape d)) l → c ≡ gridAt shape 1 (c .at) → a ≡ areaAt shape 0 → g ≡ gridAt shape 0 0 → Finest l a c (g .rows) (g .columns) v to v′ sum → Aligned shape d v to l v′ sum
+  pub aligned : {l v v′ : List ℤ} {to sum : ℕ} {c g : Grid} {a : Area} → Reached d (2 * pyramidLength shape) c (field1 (pairsIn shape d)) l → c ≡ gridAt shape 1 (c .at) → a ≡ areaAt shape 0 → g ≡ gridAt shape 0 0 → to + 2 * tiles level0 shape ≤ length v → Finest l a c (g .rows) (g .columns) v to v′ sum → Aligned shape d v to l v′ sum
   unfolding gridAt tiles
-  aligned {l} {v} {v′} {to} {sum} {c} {g} {a} r ec ea eg fin =
+  aligned {l} {v} {v′} {to} {sum} {c} {g} {a} r ec ea eg fits fin =
       let f = rw (ea, eg) at fin in
+      let columns = levelTiles level0 (shape .width) in
+      let w = field0 (pairsIn shape d) in
+      let e : v′ ≡ written v to (word columns w) (2 * tiles level0 shape) = f .vectors ∙ ap (λ w. written v to (word columns w) (2 * tiles level0 shape)) (finest-field c r ec) in
       record {
-        vectors = f .vectors ∙ ap (λ w. written v to (word (levelTiles level0 (shape .width)) w) (2 * tiles level0 shape)) (finest-field c r ec);
+        vectors = e;
+        bound = λ k h.
+            subst (λ z. natAbs z ≤ 172) (sym (ap (λ x. getD x (to + k) (pos 0)) e ∙ written-in v to (word columns w) (2 * tiles level0 shape) (pos 0) fits k h))
+            (word-most columns w 172 (field0-within (pairsIn shape d)) k);
         residual = f .residual ∙ finest-sum c r ec;
         most = fin .most;
         kept = r .kept;

@@ -2,7 +2,8 @@
 use mathlib.Core.Path.{_≡_}
 use mathlib.Core.List.{List}
 use Prim.Native.Nat.{ℕ, zero, suc, _+_, _*_, _≤_, _<_}
-use lib.IntN.{ℤ}
+use lib.IntN.{ℤ, pos, natAbs}
+use lib.ListN.{getD}
 use Rattle.geometry.specs.declared.Shape.{Shape}
 use Rattle.geometry.specs.Tiles.{level0, levelSize, levelTiles}
 use Rattle.pyramid.specs.Layout.{offset, pyramidLength, tiles}
@@ -52,9 +53,10 @@ pub record Reached (d : List ℤ) (base : ℕ) (g : Grid) (f : Field) (l : List 
   pub vectors : Vectors l g
   pub field : (row column : ℕ) → row < g .rows → column < g .columns → fieldAt l (g .at) (g .columns) row column ≡ f row column
 
--- the vectors at level 0 are written from `to` on, the sum of their residuals is answered, and the pyramids stay
+-- the vectors at level 0 are written from `to` on, with parts of at most 172, the sum of their residuals is answered, and the pyramids stay
 pub record Aligned (shape : Shape) (words : List ℤ) (d : List ℤ) (to : ℕ) (words′ l : List ℤ) (sum : ℕ) : Type 0 where
   pub vectors : l ≡ written d to (word (levelTiles level0 (shape .width)) (field0 (pairsIn shape words))) (2 * tiles level0 shape)
+  pub bound : (k : ℕ) → k < 2 * tiles level0 shape → natAbs (getD l (to + k) (pos 0)) ≤ level0 .bound
   pub residual : sum ≡ residualSum (pairsIn shape words)
   pub most : sum ≤ 66049 * 4397912294400
   pub kept : Kept words (2 * pyramidLength shape) words′

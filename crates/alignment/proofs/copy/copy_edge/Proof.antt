@@ -1,6 +1,6 @@
+-- Each store is one of a part written from its front; the index that is read is below the width.
 use mir.Facts.{toZ-ofZ}
 use Rattle.alignment.specs.SignedLaws.{back}
--- Each store is one of a part written from its front; the index that is read is below the width.
 use lib.IntN.{pos, _+ℤ_}
 use mir.Syntax.{w64}
 use mir.Val.{toZ}

@@ -32,7 +32,7 @@ returns : tie.Need-returns
 returns c = let g = c .before .before .before .before in
     let l = g .before .before .before in
     let s = l .before .before in
-    aligned (s .pre .1) (s .pre .2) (l .coarse-levels .ensures .0) (l .coarse-levels .ensures .1) (g .before .area-at .ensures) (g .grid-at .ensures) (c .before .finest-field .ensures)
+    aligned (s .pre .1) (s .pre .2) (l .coarse-levels .ensures .0) (l .coarse-levels .ensures .1) (g .before .area-at .ensures) (g .grid-at .ensures) (s .pre .3) (c .before .finest-field .ensures)
 
 pub align-levels-spec : {M : Type 1} → statement M
 align-levels-spec =

@@ -1,5 +1,5 @@
-use native.Mathlib.Nat.{mul-le-mul}
 -- Each level's field is written behind the coarser one's, and is the definition's.
+use native.Mathlib.Nat.{mul-le-mul}
 use Rattle.pyramid.specs.Layout.{pyramidLength}
 use Rattle.alignment.specs.Fields.{field2, field3}
 use Rattle.alignment.specs.Sites.{gridAt, after, pairsIn, Reached}

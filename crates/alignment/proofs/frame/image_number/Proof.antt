@@ -1,4 +1,4 @@
--- By the level's number.
+-- The level's place among the images of a pyramid, by its number.
 use Rattle.alignment.specs.Sites.{imageNumber}
 use native.Mathlib.Omega.{arith}
 use mathlib.Core.Path.{_≡_, refl}

@@ -1,4 +1,4 @@
--- By the level's number.
+-- The level's scale, by its number.
 use Rattle.alignment.specs.Fields.{levelAt}
 use native.Mathlib.Omega.{arith}
 use mathlib.Core.Path.{_≡_, refl}

@@ -1,4 +1,4 @@
--- By the level's number.
+-- The half step and the side, by the level's number.
 use Rattle.alignment.specs.Fields.{levelAt}
 use native.Mathlib.Omega.{arith}
 use mathlib.Core.Path.{_≡_, refl}

@@ -1,4 +1,4 @@
--- By the level's number.
+-- The kind of differences, by the level's number.
 use mathlib.Core.Bool.{not}
 use lib.Dec.{eqb}
 use borrow.Author.Tests.{ne-eqb}

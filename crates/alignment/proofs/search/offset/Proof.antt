@@ -1,10 +1,10 @@
+-- Both parts stand in the table and are at most 8.
 use lib.IntN.{ℤ, _-ℤ_, pos}
 use Rattle.alignment.specs.declared.Vector.{Vector}
 use Rattle.alignment.specs.Vectors.{Within}
 use Rattle.alignment.specs.SignedLaws.{back}
 use Rattle.alignment.specs.Offsets.{downs, rights, offset}
 use Rattle.alignment.specs.OffsetLaws.{parts-most, offset-within}
--- Both parts stand in the table and are at most 8.
 use mathlib.Core.Path.{_≡_, sym, _∙_, subst}
 use Prim.Native.Nat.{ℕ}
 use lib.ListN.{getD}
