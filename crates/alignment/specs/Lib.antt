@@ -21,3 +21,5 @@ pub mod GridLaws
 pub mod Sites
 pub mod LevelLaws
 pub mod FrameLaws
+pub mod Aligned
+pub mod BurstLaws

@@ -6,6 +6,7 @@ pub mod question;
 pub mod read;
 pub mod sizes;
 pub mod tiles;
+pub mod vectors;
 
 // A burst's frames: `count` of them, each of `height` rows of `width` samples.
 pub struct Shape {

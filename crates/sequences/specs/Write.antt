@@ -1,11 +1,12 @@
 -- A list with a part of it written over: the invariant of a loop that stores f 0 .. f (n − 1) from a place on.
-use mathlib.Core.Path.{_≡_, refl, sym, ap, _∙_}
+use mathlib.Core.Path.{_≡_, refl, sym, ap, _∙_, subst, subst₂}
 use mathlib.Core.List.{List, _++_}
-use Prim.Native.Nat.{ℕ, _+_, _≤_, _<_}
+use Prim.Native.Nat.{ℕ, zero, suc, _+_, _*_, _≤_, _<_}
 use native.Mathlib.Numerals.{add-one}
 use native.Mathlib.Omega.{arith}
+use native.Mathlib.Nat.{zero-add, suc-mul, mul-le-mul-right}
 use lib.ListN.{length, getD, take, drop, set, length-set}
-use lib.Seq.{paste, paste-zero, paste-suc, length-paste, length-paste-head, length-take-le, getD-append-add, getD-take, getD-drop}
+use lib.Seq.{paste, paste-zero, paste-suc, length-paste, length-paste-head, length-take-le, getD-append-add, getD-take, getD-drop, ext-getD}
 use lib.ListN.{List·getD-append}
 use Rattle.sequences.specs.Tab.{tab, length-tab, getD-tab}
 
@@ -41,6 +42,27 @@ module _ {A : Type 0} {d : List A} {at : ℕ} {f : ℕ → A} {n : ℕ} where
   unfolding written
   write-done {j} {l} w h = let e : j ≡ n = omega arith in w .is ∙ ap (λ (k : ℕ). paste d at (tab n f) k) e
 
+-- m stores at once, of g 0 .. g (m − 1)
+module _ {A : Type 0} {d : List A} {at : ℕ} {f : ℕ → A} {n j m : ℕ} {l : List A} {g : ℕ → A} (w : Writing d at f n j l) (room : j + m ≤ n) (e : (k : ℕ) → k < m → g k ≡ f (j + k)) where
+  parts : (i : ℕ) → i ≤ m → Writing d at f n (j + i) (paste l (at + j) (tab m g) i)
+  parts zero h = subst₂ (λ k x. Writing d at f n k x) (omega arith) (paste-zero l (at + j) (tab m g)) w
+  parts (suc i) h =
+      let p = paste l (at + j) (tab m g) i in
+      let v = getD (tab m g) i (g i) in
+      let same = w .same in
+      let fits = w .room in
+      subst₂ (λ k x. Writing d at f n k x) (omega arith)
+      (ap (λ k. set p k v) (omega arith) ∙ paste-suc l (at + j) (tab m g) i (g i) (omega arith) (omega (arith, length-tab g m)))
+      (write-turn (parts i (omega arith)) (omega arith) (getD-tab g (g i) m i h ∙ e i h))
+
+  pub write-part : {l′ : List A} → l′ ≡ written l (at + j) g m → Writing d at f n (j + m) l′
+  unfolding written
+  write-part {l′} is = subst (Writing d at f n (j + m)) (sym is) (parts m (omega arith))
+
+-- a row of a table lies in it
+pub row-room : (row height width : ℕ) → row < height → row * width + width ≤ height * width
+row-room row height width h = omega (arith, suc-mul row width, mul-le-mul-right width h)
+
 -- what stands in the list afterwards: before, in and after the part
 module _ {A : Type 0} (d : List A) (at : ℕ) (f : ℕ → A) (n : ℕ) (z : A) (room : at + n ≤ length d) where
   head-length : length (take at d ++ take n (tab n f)) ≡ at + n
@@ -75,3 +97,11 @@ module _ {A : Type 0} (d : List A) (at : ℕ) (f : ℕ → A) (n : ℕ) (z : A) 
   pub written-length : length (written d at f n) ≡ length d
   unfolding written
   written-length = length-paste d at (tab n f) n room (omega (arith, length-tab f n))
+
+-- a list that is written over whole
+pub written-all : {A : Type 0} (z : A) (d : List A) (f : ℕ → A) (n : ℕ) → length d ≡ n → written d 0 f n ≡ tab n f
+written-all z d f n e =
+    let room : 0 + n ≤ length d = omega arith in
+    let long = written-length d 0 f n z room in
+    ext-getD z (written d 0 f n) (tab n f) (long ∙ e ∙ sym (length-tab f n))
+    (λ i h. let below : i < n = omega (arith, long) in (rw zero-add at (written-in d 0 f n z room i below)) ∙ sym (getD-tab f z n i below))

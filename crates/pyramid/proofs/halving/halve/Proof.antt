@@ -3,7 +3,8 @@ use lib.IntN.{pos}
 use Rattle.pyramid.specs.Pyramid.{halved}
 use Rattle.pyramid.specs.Words.{imageAt}
 use Rattle.pyramid.specs.WordsLaws.{kept-source, kept-halved}
-use Rattle.pyramid.proofs.Lay.{Laying, lay-start, lay-turn, lay-done, laying-kept, row-room}
+use Rattle.sequences.specs.Write.{row-room}
+use Rattle.pyramid.proofs.Lay.{Laying, lay-start, lay-turn, lay-done, laying-kept}
 use borrow.Author.Needs.{needs}
 use native.Mathlib.Omega.{arith}
 use mathlib.Core.Path.{ap}

@@ -1,0 +1,54 @@
+-- The frame's pyramid is laid behind the reference's, and the levels' pairs of images are then those of the two frames.
+use mathlib.Core.Path.{_≡_, sym, subst, _∙_}
+use native.Mathlib.Omega.{arith}
+use borrow.Author.Needs.{needs}
+use Rattle.geometry.specs.Read.{sampleAt}
+use Rattle.pyramid.specs.Layout.{pyramidLength, Built}
+use Rattle.alignment.specs.BurstLaws.{two-pyramids, both-standing, one-aligned}
+use Rattle.alignment.proofs.burst.align_frame.Statement.{statement}
+use Rattle.alignment.proofs.burst.align_frame.Tie as tie
+
+offset-requires : tie.Need-offset-requires
+offset-requires c κs = search needs
+
+build-requires : tie.Need-build-requires
+build-requires c κs =
+    let start = c .before .before .before in
+    (start .pre .0, omega (arith, two-pyramids (start .args .shape) (start .pre .2), c .before .offset .ensures .0))
+
+-- the frame's pyramid stands behind the reference's
+built : (c : tie.After-build) →
+    let a = c .before .before .before .before .args in
+    Built (a .shape) (sampleAt (a .shape) (a .samples .now) (a .frame)) (pyramidLength (a .shape)) (a .work .now) (c .build .last .1 .1 .1 .0)
+built c =
+    let a = c .before .before .before .before .args in
+    subst (λ n. Built (a .shape) (sampleAt (a .shape) (a .samples .now) (a .frame)) n (a .work .now) (c .build .last .1 .1 .1 .0)) (c .before .before .offset .ensures .0) (c .build .ensures)
+
+align-levels-requires : tie.Need-align-levels-requires
+align-levels-requires c κs =
+    let start = c .before .before .before .before .before .before .before in
+    let b = built (c .before .before .before) in
+    let same = b .same in
+    (start .pre .0 .sampled .allowed, both-standing (start .pre .0 .sampled .allowed) (start .pre .1) b, omega (arith, start .pre .2), start .pre .3)
+
+same-length : tie.Need-same-length
+same-length c = search needs
+
+same-length-2 : tie.Need-same-length-2
+same-length-2 c = search needs
+
+returns : tie.Need-returns
+returns c =
+    let start = c .before .before .before .before .before .before .before .before .before .before in
+    one-aligned (start .pre .0 .sampled .allowed) (start .pre .1) (built (c .before .before .before .before .before .before)) (c .before .before .align-levels .ensures)
+
+pub align-frame-spec : {M : Type 1} → statement M
+align-frame-spec =
+    tie.close
+    (tie.spec
+    offset-requires
+    build-requires
+    align-levels-requires
+    same-length
+    same-length-2
+    returns)

@@ -1,0 +1,122 @@
+-- The reference's pyramid stays at the start of the work area while each other frame's vectors and sum are found: `Aligning` is the loop's invariant.
+use mathlib.Core.Path.{_≡_, refl, sym, ap, subst, _∙_}
+use Prim.Native.Nat.{ℕ, _+_, _-_, _*_, _/_, _≤_, _<_}
+use native.Mathlib.Omega.{arith}
+use borrow.Author.Needs.{needs}
+use Rattle.alignment.specs.BurstLaws.{Aligning, aligning-start, aligning-turn, aligning-done, two-pyramids, frame-of, work-room, parts-are, parts-most, place-most, place-room}
+use Rattle.alignment.proofs.burst.align_frames.Statement.{statement}
+use Rattle.alignment.proofs.burst.align_frames.Tie as tie
+
+abbrev Inv-loop : tie.InvT-loop
+Inv-loop shape reference samples vectors₀ work₀ parts sums₀ k₀ k-end vectors work sums k = (Aligning shape reference samples vectors₀ work₀ sums₀ k vectors work sums) × (k ≤ k-end)
+
+abbrev μ-loop : tie.MeasureT-loop
+μ-loop shape reference samples vectors₀ work₀ parts sums₀ k₀ k-end vectors work sums k = k-end - k
+
+build-requires : tie.Need-build-requires Inv-loop μ-loop
+build-requires c κs =
+    let start = c .before .before in
+    (frame-of (start .pre) _ (start .pre .fits .burst .reference-below), omega (arith, two-pyramids (start .args .shape) (work-room (start .pre))))
+
+add-parts : tie.Need-add-parts Inv-loop μ-loop
+add-parts c = search needs
+
+add-parts-2 : tie.Need-add-parts-2 Inv-loop μ-loop
+add-parts-2 c = search needs
+
+mul-parts : tie.Need-mul-parts Inv-loop μ-loop
+mul-parts c =
+    omega (arith, parts-most (c .before .before .before .before .before .before .pre .fits .burst .allowed))
+
+mul-parts-2 : tie.Need-mul-parts-2 Inv-loop μ-loop
+mul-parts-2 c =
+    omega (arith, parts-most (c .before .before .before .before .before .before .pre .fits .burst .allowed))
+
+sub-k-end : tie.Need-sub-k-end Inv-loop μ-loop
+sub-k-end c = search needs
+
+loop-holds : tie.Need-loop-holds Inv-loop μ-loop
+loop-holds c =
+    let burst = c .before .before .before .before .before .before .before .pre .fits .burst in
+    (aligning-start (burst .allowed) (burst .vectors-long) refl (c .before .before .before .before .build .ensures .levels), omega arith)
+
+other-frame-requires : tie.Need-other-frame-requires Inv-loop μ-loop
+other-frame-requires c κs = search needs
+
+mul-align-frame : tie.Need-mul-align-frame Inv-loop μ-loop
+mul-align-frame c =
+    let start = c .before .before .before .before .before .before .before .before .before .before .before in
+    omega (arith, place-most (c .before .before .before .loop .k) (start .pre .fits .burst .allowed) (omega (arith, start .pre .fits .burst .allowed .few)))
+
+align-frame-requires : tie.Need-align-frame-requires Inv-loop μ-loop
+align-frame-requires c κs =
+    let loop = c .before .before .before .before in
+    let start = loop .before .before .before .before .before .before .before .before in
+    let burst = start .pre .fits .burst in
+    let inv = loop .loop .inv .0 in
+    let few = burst .allowed .few in
+    let same = inv .same in
+    let long = inv .writing .same in
+    (frame-of (start .pre) _ (omega (arith, c .before .before .other-frame .ensures .1)), inv .levels, omega (arith, work-room (start .pre), loop .before .before .before .before .before .build .ensures .same), omega (arith, burst .vectors-long, place-room (loop .loop .k) (burst .allowed) (omega arith)))
+
+mul-sums : tie.Need-mul-sums Inv-loop μ-loop
+mul-sums c = search needs
+
+array-write-sums : tie.Need-array-write-sums Inv-loop μ-loop
+array-write-sums c =
+    let loop = c .before .before .before .before .before .before .before in
+    let seven = loop .loop .inv .0 .filled .same in
+    omega (arith, loop .before .before .before .before .before .before .before .before .pre .fits .burst .allowed .few)
+
+add-k : tie.Need-add-k Inv-loop μ-loop
+add-k c = search needs
+
+loop-less : tie.Need-loop-less Inv-loop μ-loop
+loop-less c = search needs
+
+loop-again : tie.Need-loop-again Inv-loop μ-loop
+loop-again c =
+    let loop = c .before .before .before .before .before .before .before in
+    let ok = loop .before .before .before .before .before .before .before .before .pre .fits .burst .allowed in
+    let few = ok .few in
+    (aligning-turn (loop .loop .inv .0) (omega arith) (omega arith) (c .before .before .before .before .before .other-frame .ensures .0) (ap (λ n. loop .loop .k * n) (parts-are ok)) (c .before .before .align-frame .ensures), omega arith)
+
+same-length : tie.Need-same-length Inv-loop μ-loop
+same-length c =
+    search needs
+
+same-length-2 : tie.Need-same-length-2 Inv-loop μ-loop
+same-length-2 c =
+    search needs
+
+returns : tie.Need-returns Inv-loop μ-loop
+returns c =
+    let loop = c .before in
+    let burst = loop .before .before .before .before .before .before .before .before .pre .fits .burst in
+    let done = aligning-done (burst .allowed) (burst .vectors-long) refl (omega arith) (loop .loop .inv .0) in
+    record { found = done .found; sums-are = done .sums-are; same = done .same ∙ loop .before .before .before .before .before .build .ensures .same }
+
+pub align-frames-spec : {M : Type 1} → statement M
+align-frames-spec =
+    tie.close
+    (tie.spec
+    Inv-loop
+    μ-loop
+    build-requires
+    add-parts
+    add-parts-2
+    mul-parts
+    mul-parts-2
+    sub-k-end
+    loop-holds
+    other-frame-requires
+    mul-align-frame
+    align-frame-requires
+    mul-sums
+    array-write-sums
+    add-k
+    loop-less
+    loop-again
+    same-length
+    same-length-2
+    returns)

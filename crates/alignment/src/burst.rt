@@ -1,0 +1,60 @@
+// The vectors of every other frame of a burst.
+ghost use mathlib.Core.Path.{_≡_};
+ghost use Prim.Native.Nat.{_+_, _*_, _≤_, _<_};
+ghost use lib.ListN.{length};
+ghost use Rattle.geometry.specs.Read.{sampleAt};
+ghost use Rattle.geometry.specs.Shape.{Allowed};
+ghost use Rattle.geometry.specs.Tiles.{level0};
+ghost use Rattle.pyramid.specs.Layout.{alignLength, tiles, Levels};
+ghost use Rattle.pyramid.specs.Frame.{Frame};
+ghost use Rattle.alignment.specs.Aligned.{Ready, AlignedBurst, OneAligned};
+use crate::frame::align_levels;
+use geometry::Shape;
+use geometry::vectors::other_frame;
+
+// One frame against the reference, whose pyramid stands at the work area's start: its vectors from `to` on, and the sum of their residuals.
+fn align_frame(
+    shape: Shape,
+    reference: usize,
+    frame: usize,
+    samples: &[u16],
+    vectors: &mut [i32],
+    to: usize,
+    work: &mut [i64],
+) -> u64
+    requires { ⌜ (Frame shape frame (now samples)) × (Levels shape (sampleAt shape (now samples) reference) 0 (now work)) × (alignLength shape ≤ length (now work)) × (to + 2 * tiles level0 shape ≤ length (now vectors)) ⌝ }
+    ensures { λ r. ⌜ OneAligned shape (sampleAt shape (now (samples .entry)) reference) (sampleAt shape (now (samples .entry)) frame) (now (vectors .entry)) to (now (vectors .exit)) (now (work .entry)) (now (work .exit)) r ⌝ }
+{
+    let at = pyramid::offset(shape, 6);
+    pyramid::build(shape, frame, samples, &mut *work, at);
+    align_levels(shape, &mut *work, &mut *vectors, to)
+}
+
+// The vectors of every other frame in rising index, and their sums of residuals; unused places are 0. It neither tests nor clears.
+pub fn align_frames(
+    shape: Shape,
+    reference: usize,
+    samples: &[u16],
+    vectors: &mut [i32],
+    work: &mut [i64],
+) -> [u64; 7]
+    requires { ⌜ Ready shape reference (now samples) (now vectors) (now work) ⌝ }
+    ensures { λ r. ⌜ AlignedBurst shape reference (now (samples .entry)) (now (vectors .exit)) (now (work .entry)) (now (work .exit)) r ⌝ }
+{
+    pyramid::build(shape, reference, samples, &mut *work, 0);
+    let parts = 2 * ((shape.height / 16 + 1) * (shape.width / 16 + 1));
+    let mut sums = [0u64; 7];
+    for k in 0..shape.count - 1 {
+        let frame = other_frame(reference, k);
+        sums[k] = align_frame(
+            shape,
+            reference,
+            frame,
+            samples,
+            &mut *vectors,
+            k * parts,
+            &mut *work,
+        );
+    }
+    sums
+}
