@@ -5,7 +5,7 @@ use Prim.Native.Nat.{ℕ, zero, suc, _+_, _≤_, _<_}
 use native.Mathlib.Omega.{arith}
 use lib.Dec.{ltb}
 use borrow.Author.Tests.{ltb-true}
-use Rattle.sequences.specs.Least.{pick, firstMin, least, Least, least-keep}
+use Rattle.sequences.specs.Least.{pick, firstMin, least}
 
 pub firstMin-most : (f : ℕ → ℕ) (n : ℕ) → firstMin f n ≤ n
 unfolding firstMin
@@ -35,7 +35,3 @@ firstMin-cong f g (suc n) e =
     let a = e (suc n) (omega arith) in
     let b = e (firstMin f n) (omega (arith, firstMin-most f n)) in
     rw (a, b, s)
-
--- a place that is not below the least so far is passed, whatever its value
-pub least-pass : {f : ℕ → ℕ} {n k at low : ℕ} → Least f n k at low → k < n → low ≤ f k → Least f n (k + 1) at low
-least-pass w h l = least-keep w h refl l

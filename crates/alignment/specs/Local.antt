@@ -19,11 +19,6 @@ rowSum squared tile window a b side = sumN side (λ j. difference squared (getD 
 unfoldable pub squareSum : (squared : Bool) → (tile window : List ℕ) → (start stride side : ℕ) → ℕ
 squareSum squared tile window start stride side = sumN side (λ i. rowSum squared tile window (i * side) (start + i * stride) side)
 
--- r is the whole sum, or both are at least the limit
-pub record Passed (whole limit r : ℕ) : Type 0 where
-  pub below : r < limit → r ≡ whole
-  pub reached : limit ≤ r → limit ≤ whole
-
 -- such a window lies within its array
 pub record Inside (tile window : List ℕ) (start stride side : ℕ) : Type 0 where
   pub small : side ≤ 32

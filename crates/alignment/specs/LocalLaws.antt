@@ -2,15 +2,14 @@
 use mathlib.Core.Path.{_≡_, refl, ap, ap₂, _∙_}
 use mathlib.Core.Bool.{Bool}
 use mathlib.Core.List.{List}
-use Prim.Native.Nat.{ℕ, zero, suc, _+_, _-_, _*_, _≤_, _<_}
-use native.Mathlib.Nat.{le-refl, add-zero, add-suc, mul-le-mul-right}
+use Prim.Native.Nat.{ℕ, _+_, _*_, _≤_, _<_}
+use native.Mathlib.Nat.{mul-le-mul-right}
 use native.Mathlib.Omega.{arith}
 use borrow.Author.Count.{below-more}
 use lib.IntN.{ℤ, pos, negsuc, _+ℤ_, _-ℤ_, +ℤ-idr}
 use lib.ListN.{length, getD}
-use Rattle.algebra.specs.Sums.{sumN, sumN-cong}
+use Rattle.algebra.specs.Sums.{sumN-cong}
 use Rattle.algebra.specs.Order.{zarith, add-pn, sub-pn}
-use Rattle.sequences.specs.Sum.{Summed}
 use Rattle.sequences.specs.Write.{written, written-in, written-before}
 use Rattle.alignment.specs.declared.Tile.{Tile}
 use Rattle.alignment.specs.declared.Vector.{Vector}
@@ -22,21 +21,7 @@ use Rattle.alignment.specs.Residual.{difference, Pair, rowResidual, resi
 use Rattle.alignment.specs.Search.{tried, chosen, found}
 use Rattle.alignment.specs.FirstLaws.{firstMin-cong}
 use Rattle.alignment.specs.declared.search.Best.{Best}
-use Rattle.alignment.specs.Local.{rowSum, squareSum, Passed, Inside, windowSum, Window, Searched, Copied}
-
--- the first terms are at most all of them
-more-terms : (f : ℕ → ℕ) (i d : ℕ) → sumN i f ≤ sumN (i + d) f
-unfolding sumN
-more-terms f i zero = rw add-zero (le-refl (sumN i f))
-more-terms f i (suc d) = rw add-suc (omega (arith, more-terms f i d))
-
-pub part-most : {f : ℕ → ℕ} {b n i acc : ℕ} → Summed f b n i acc → acc ≤ sumN n f
-part-most {f} {b} {n} {i} {acc} w =
-    let e : i + (n - i) ≡ n = omega (arith, w .count) in
-    rw (w .is, ← e) (more-terms f i (n - i))
-
-pub passed-same : {whole whole′ limit r : ℕ} → whole ≡ whole′ → Passed whole limit r → Passed whole′ limit r
-passed-same e p = record { below = λ h. p .below h ∙ e; reached = λ h. omega (arith, p .reached h) }
+use Rattle.alignment.specs.Local.{rowSum, squareSum, Inside, windowSum, Window, Searched, Copied}
 
 -- each of the 81 windows lies within its array
 pub window-inside : {tile window : List ℕ} {side : ℕ} → Window tile window side → (k : ℕ) → k < 81 → Inside tile window (getD downs k 0 * (side + 8) + getD rights k 0) (side + 8) side

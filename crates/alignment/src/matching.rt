@@ -9,7 +9,6 @@ ghost use Rattle.alignment.specs.Stored.{pairIn, Ready, answer};
 use crate::Tile;
 use crate::Vector;
 use crate::copy::copy_square;
-use crate::residual::WHOLE;
 use crate::residual::square_sum;
 use crate::search::offset;
 use crate::search::search;
@@ -54,7 +53,7 @@ fn candidate_sum(words: &[i64], area: Area, tile: Tile, samples: &[u16], v: Vect
         tile.side,
         &mut other,
     );
-    square_sum(false, samples, &other, 0, tile.side, tile.side, WHOLE)
+    square_sum(false, samples, &other, 0, tile.side, tile.side)
 }
 
 // The candidate of the least residual, the earlier on a tie.

@@ -3,10 +3,7 @@ ghost use mathlib.Core.Path.{_≡_};
 ghost use Prim.Native.Nat.{_+_, _*_, _≤_};
 ghost use lib.ListN.{length};
 ghost use Rattle.alignment.specs.Residual.{gap, difference};
-ghost use Rattle.alignment.specs.Local.{rowSum, squareSum, Passed, Inside};
-
-// A limit that no sum reaches.
-pub const WHOLE: u64 = 4397912294401;
+ghost use Rattle.alignment.specs.Local.{rowSum, squareSum, Inside};
 
 fn distance(a: u16, b: u16) -> u64
     ensures { λ r. ⌜ (r ≡ gap a b) × (r ≤ 65535) ⌝ }
@@ -37,7 +34,7 @@ fn row_sum(squared: bool, tile: &[u16], window: &[u16], a: usize, b: usize, side
     sum
 }
 
-// A whole tile against the window from `start` on, whose rows stand `stride` apart; left after the row at which the sum reaches the limit.
+// A whole tile against the window from `start` on, whose rows stand `stride` apart.
 pub fn square_sum(
     squared: bool,
     tile: &[u16],
@@ -45,17 +42,13 @@ pub fn square_sum(
     start: usize,
     stride: usize,
     side: usize,
-    limit: u64,
 ) -> u64
     requires { ⌜ Inside (now tile) (now window) start stride side ⌝ }
-    ensures { λ r. ⌜ (Passed (squareSum squared (now (tile .entry)) (now (window .entry)) start stride side) limit r) × (r ≤ 4397912294400) ⌝ }
+    ensures { λ r. ⌜ (r ≡ squareSum squared (now (tile .entry)) (now (window .entry)) start stride side) × (r ≤ 4397912294400) ⌝ }
 {
     let mut sum: u64 = 0;
     for i in 0..side {
         sum += row_sum(squared, tile, window, i * side, start + i * stride, side);
-        if limit <= sum {
-            return sum;
-        }
     }
     sum
 }

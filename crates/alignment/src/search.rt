@@ -4,9 +4,8 @@ ghost use Prim.Native.Nat.{_<_, _≤_};
 ghost use lib.IntN.{pos, _-ℤ_};
 ghost use Rattle.alignment.specs.Offsets.{downs, rights, offset};
 ghost use Rattle.alignment.specs.Vectors.{Within};
-ghost use Rattle.alignment.specs.Local.{windowSum, Passed, Window, Searched};
+ghost use Rattle.alignment.specs.Local.{windowSum, Window, Searched};
 use crate::Vector;
-use crate::residual::WHOLE;
 use crate::residual::square_sum;
 
 // The parts of the offsets in tie order, each plus 4.
@@ -208,7 +207,7 @@ pub fn offset(k: usize) -> Vector
     }
 }
 
-// The residual at the offset number `k`, or where it reaches the limit. A constant side and kind make the sums fast.
+// The residual at the offset number `k`.
 fn offset_sum(
     squared: bool,
     tile: &[u16],
@@ -217,20 +216,13 @@ fn offset_sum(
     down: &[u8; 81],
     right: &[u8; 81],
     k: usize,
-    limit: u64,
 ) -> u64
     requires { ⌜ (Window (now tile) (now window) side) × (now down ≡ downs) × (now right ≡ rights) × (k < 81) ⌝ }
-    ensures { λ r. ⌜ (Passed (windowSum squared (now (tile .entry)) (now (window .entry)) side k) limit r) × (r ≤ 4397912294400) ⌝ }
+    ensures { λ r. ⌜ (r ≡ windowSum squared (now (tile .entry)) (now (window .entry)) side k) × (r ≤ 4397912294400) ⌝ }
 {
     let stride = side + 8;
     let start = wide(down[k]) * stride + wide(right[k]);
-    if side == 16 {
-        if squared {
-            return square_sum(true, tile, window, start, 24, 16, limit);
-        }
-        return square_sum(false, tile, window, start, 24, 16, limit);
-    }
-    square_sum(squared, tile, window, start, stride, side, limit)
+    square_sum(squared, tile, window, start, stride, side)
 }
 
 // The first of the least residuals.
@@ -241,9 +233,9 @@ pub fn search(squared: bool, tile: &[u16], window: &[u16], side: usize) -> Best
     let down = DOWN;
     let right = RIGHT;
     let mut best: usize = 0;
-    let mut low = offset_sum(squared, tile, window, side, &down, &right, 0, WHOLE);
+    let mut low = offset_sum(squared, tile, window, side, &down, &right, 0);
     for k in 1..81 {
-        let sum = offset_sum(squared, tile, window, side, &down, &right, k, low);
+        let sum = offset_sum(squared, tile, window, side, &down, &right, k);
         if sum < low {
             low = sum;
             best = k;

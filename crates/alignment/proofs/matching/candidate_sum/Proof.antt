@@ -36,7 +36,7 @@ unfolding pairIn
 returns c = let s = c .before .before .before .before .before .before .before .before in
     let a = s .args in
     let e = c .before .before .before .before .before .sum .ensures in
-    c .square-sum .ensures .0 .below (omega (arith, c .square-sum .ensures .1))
+    c .square-sum .ensures .0
     ∙ moved-residual false (pairIn (a .words .now) (a .area)) (a .tile) (a .v) _ _ _ _ (s .pre .0 .copied) (c .before .before .before .copy-square .ensures) (ap (λ v. v .down) e) (ap (λ v. v .right) e)
 
 pub candidate-sum-spec : {M : Type 1} → statement M

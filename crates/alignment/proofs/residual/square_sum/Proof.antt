@@ -1,8 +1,7 @@
--- One sum over the rows, left where it reaches the limit; a row of the tile and one of the window end within their arrays.
+-- One sum over the rows; a row of the tile and one of the window end within their arrays.
 use Rattle.sequences.specs.Sum.{Summed, sum-start, sum-turn, sum-done}
 use Rattle.alignment.specs.PlaceLaws.{row-below}
 use Rattle.alignment.specs.Local.{rowSum, squareSum}
-use Rattle.alignment.specs.LocalLaws.{part-most}
 use borrow.Author.Needs.{needs}
 use native.Mathlib.Omega.{arith}
 use Prim.Native.Nat.{_+_, _-_, _*_, _≤_}
@@ -10,10 +9,10 @@ use Rattle.alignment.proofs.residual.square_sum.Statement.{statement}
 use Rattle.alignment.proofs.residual.square_sum.Tie as tie
 
 abbrev Inv-loop : tie.InvT-loop
-Inv-loop squared tile window start stride side limit sum₀ i₀ sum i = Summed (λ k. rowSum squared tile window (k * side) (start + k * stride) side) 137434759200 side i sum
+Inv-loop squared tile window start stride side sum₀ i₀ sum i = Summed (λ k. rowSum squared tile window (k * side) (start + k * stride) side) 137434759200 side i sum
 
 abbrev μ-loop : tie.MeasureT-loop
-μ-loop squared tile window start stride side limit sum₀ i₀ sum i = side - i
+μ-loop squared tile window start stride side sum₀ i₀ sum i = side - i
 
 loop-holds : tie.Need-loop-holds Inv-loop μ-loop
 loop-holds c = sum-start
@@ -36,15 +35,6 @@ row-sum-requires c κs = omega (arith, rows c)
 add-sum : tie.Need-add-sum Inv-loop μ-loop
 add-sum c = search needs
 
--- the sum with the turn's row
-turned : (c : tie.After-row-sum Inv-loop μ-loop) → let a = c .before .before .before .before .before .args in Summed (λ k. rowSum (a .squared) (a .tile .now) (a .window .now) (k * a .side) (a .start + k * a .stride) (a .side)) 137434759200 (a .side) (c .before .before .loop .i + 1) (c .before .before .loop .sum + c .row-sum .result)
-turned c = sum-turn (c .before .before .loop .inv) (omega arith) (c .row-sum .ensures .0) (c .row-sum .ensures .1)
-
-returns : tie.Need-returns Inv-loop μ-loop
-unfolding squareSum
-returns c = let w = turned (c .before) in
-    (record { below = λ h. absurd (omega arith); reached = λ h. omega (arith, part-most w) }, omega (arith, w .most, w .count))
-
 add-i : tie.Need-add-i Inv-loop μ-loop
 add-i c = search needs
 
@@ -52,11 +42,11 @@ loop-less : tie.Need-loop-less Inv-loop μ-loop
 loop-less c = search needs
 
 loop-again : tie.Need-loop-again Inv-loop μ-loop
-loop-again c = turned (c .before)
+loop-again c = sum-turn (c .before .before .loop .inv) (omega arith) (c .row-sum .ensures .0) (c .row-sum .ensures .1)
 
-returns-2 : tie.Need-returns-2 Inv-loop μ-loop
+returns : tie.Need-returns Inv-loop μ-loop
 unfolding squareSum
-returns-2 c = let e = sum-done (c .before .loop .inv) (omega arith) in (record { below = λ h. e; reached = λ h. omega (arith, e) }, omega arith)
+returns c = (sum-done (c .before .loop .inv) (omega arith), omega arith)
 
 pub square-sum-spec : {M : Type 1} → statement M
 square-sum-spec =
@@ -70,8 +60,7 @@ square-sum-spec =
     add-row-sum
     row-sum-requires
     add-sum
-    returns
     add-i
     loop-less
     loop-again
-    returns-2)
+    returns)

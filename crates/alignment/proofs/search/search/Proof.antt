@@ -1,7 +1,6 @@
--- The loop keeps the first least of the offsets tried so far, and passes those whose sum reaches it; the arrays are the table's.
+-- The loop keeps the first least of the offsets tried so far; the arrays are the table's.
 use mathlib.Core.Logic.{⊎-elim}
-use Rattle.sequences.specs.Least.{Least, least-start, least-take, least-done}
-use Rattle.alignment.specs.FirstLaws.{least-pass}
+use Rattle.sequences.specs.Least.{Least, least-start, least-take, least-keep, least-done}
 use Rattle.alignment.specs.Offsets.{downs, rights}
 use Rattle.alignment.specs.Local.{windowSum}
 use borrow.Author.Needs.{needs}
@@ -21,7 +20,7 @@ unfolding downs rights
 offset-sum-requires c κs = search needs
 
 loop-holds : tie.Need-loop-holds Inv-loop μ-loop
-loop-holds c = let e = c .offset-sum .ensures in (least-start (omega arith) (e .0 .below (omega arith)), e .1)
+loop-holds c = (least-start (omega arith) (c .offset-sum .ensures .0), c .offset-sum .ensures .1)
 
 offset-sum-requires-2 : tie.Need-offset-sum-requires-2 Inv-loop μ-loop
 unfolding downs rights
@@ -37,8 +36,8 @@ loop-again : tie.Need-loop-again Inv-loop μ-loop
 loop-again c = let l = c .before .before .before .before .before .loop in
     let e = c .before .offset-sum2 .ensures in
     ⊎-elim
-    (λ w. rw (w .1, w .2) (least-take (l .inv .0) (omega arith) (e .0 .below (w .0 .taken)) (w .0 .taken), e .1))
-    (λ w. rw (w .1, w .2) (least-pass (l .inv .0) (omega arith) (e .0 .reached (w .0 .left)), l .inv .1))
+    (λ w. rw (w .1, w .2) (least-take (l .inv .0) (omega arith) (e .0) (w .0 .taken), e .1))
+    (λ w. rw (w .1, w .2) (least-keep (l .inv .0) (omega arith) (e .0) (w .0 .left), l .inv .1))
     (c .if1 .came)
 
 returns : tie.Need-returns Inv-loop μ-loop
