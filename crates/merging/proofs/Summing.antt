@@ -1,18 +1,20 @@
 -- The sum of a tile's corrections, frame by frame: its record, and how it starts, goes on and ends.
 use mathlib.Core.Path.{_≡_, sym, ap, _∙_, subst}
-use mathlib.Core.List.{List, []}
+use mathlib.Core.List.{List, [], _∷_}
 use Prim.Native.Nat.{ℕ, _+_, _*_, _^_, _≤_, _<_}
 use native.Mathlib.Omega.{arith}
 use native.Mathlib.Numerals.{add-one}
-use lib.IntN.{ℤ, pos, natAbs, _+ℤ_}
+use lib.IntN.{ℤ, pos, natAbs, _+ℤ_, _-ℤ_, _*ℤ_}
 use lib.ListN.{getD}
 use Rattle.algebra.specs.Order.{abs-add}
-use Rattle.algebra.specs.Sums.{sumZ, sumZ-suc}
+use Rattle.algebra.specs.Nearest.{away}
+use Rattle.algebra.specs.Ring.{var, #_, _⊟_, _⊠_, ring}
+use Rattle.algebra.specs.Sums.{sumZ, sumZ-suc, sumZ-cong, sumZ-0}
 use Rattle.sequences.specs.Tab.{tab, length-tab, getD-tab}
 use Rattle.sequences.specs.Grid.{grid, cell, cell-grid, grid-ext}
 use Rattle.geometry.specs.SomeLaws.{every}
 use Rattle.transform.specs.Tables.{side16}
-use Rattle.transform.specs.Recipe.{correctionAt}
+use Rattle.transform.specs.Recipe.{wiener, filtered, twiddleRe, twiddleIm, inverseRe, inverseAt, correctionAt}
 use Rattle.transform.specs.Lines.{LineMost, TileMost}
 use Rattle.transform.specs.Magnitudes.{correctionMost}
 use Rattle.merging.specs.declared.Site.{Site}
@@ -40,6 +42,21 @@ pub record Summing (s : Scene) (t : Site) (n : ℕ) (sum : List (List ℤ)) : Ty
   pub few : s .others ≤ 7
   pub is : sum ≡ grid 16 16 (partAt s t n)
   pub most : (i j : ℕ) → i < 16 → j < 16 → natAbs (partAt s t n i j) ≤ n * correctionMost
+
+-- where V is 0, so is each correction
+zero-correction : (d : ℕ → ℕ → ℤ) (y x : ℕ) → correctionAt side16 0 d y x ≡ pos 0
+unfolding correctionAt inverseAt inverseRe filtered wiener side16 away
+zero-correction d y x = ap (λ z. away z (2 ^ 32)) (sumZ-cong 16 _ (λ u. pos 0) (λ u h. sumZ-cong 16 _ (λ v. pos 0) (λ v k. none (twiddleRe side16 y x u v) (twiddleIm side16 y x u v)) ∙ sumZ-0 16) ∙ sumZ-0 16)
+  where
+    none : (a b : ℤ) → a *ℤ pos 0 -ℤ b *ℤ pos 0 ≡ pos 0
+    none a b = ring (a ∷ b ∷ []) (var 0 ⊠ # 0 ⊟ var 1 ⊠ # 0) (# 0) tt
+
+pub zero-summed : {s : Scene} {t : Site} {sum : List (List ℤ)} → tileNoise s (t .«row_parity») (t .«column_parity») (t .row) (t .column) ≡ 0 → sum ≡ grid 16 16 (λ i j. pos 0) → Summed s t sum
+unfolding summedAt
+zero-summed {s} {t} {sum} v e = record { is = e ∙ sym (grid-ext 16 16 _ _ (λ i j h k. zero i j)); most = λ i j h k. rw (zero i j) (omega arith) }
+  where
+    zero : (i j : ℕ) → summedAt s (t .«row_parity») (t .«column_parity») (t .row) (t .column) i j ≡ pos 0
+    zero i j = rw v (sumZ-cong (s .others) _ (λ k. pos 0) (λ k h. zero-correction _ i j) ∙ sumZ-0 (s .others))
 
 module _ {s : Scene} {t : Site} where
   pub sum-start : {sum : List (List ℤ)} → s .others ≤ 7 → sum ≡ grid 16 16 (λ i j. pos 0) → Summing s t 0 sum

@@ -169,7 +169,7 @@ fn corrections(
     sum
 }
 
-// T0, r and V of a tile, and its corrections, summed over the other frames.
+// T0, r and V of a tile, and its corrections, summed over the other frames; all 0 where V is.
 pub fn tile_correction(m: Merge, samples: &[u16], vectors: &[i32], site: Site) -> [[i64; 16]; 16]
     requires { ⌜ (Accepted m (now samples) (now vectors)) × (Sited (m .shape) site) ⌝ }
     ensures { λ r. ⌜ Summed (sceneOf m (now (samples .entry)) (now (vectors .entry))) site r ⌝ }
@@ -177,5 +177,8 @@ pub fn tile_correction(m: Merge, samples: &[u16], vectors: &[i32], site: Site) -
     let shape = m.shape;
     let t0 = tile(shape, samples, m.reference, site, 0, 0);
     let noise = tile_noise(m, t0);
+    if noise == 0 {
+        return [[0i64; 16]; 16];
+    }
     corrections(m, samples, vectors, site, t0, noise)
 }

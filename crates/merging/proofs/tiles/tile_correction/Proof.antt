@@ -1,9 +1,11 @@
--- T0 has its root and its noise number, which is in range.
-use mathlib.Core.Path.{_≡_, ap, _∙_}
+-- T0 has its root and its noise number, which is in range; at 0 every correction is 0.
+use mathlib.Core.Path.{_≡_, refl, sym, ap, _∙_}
 use mathlib.Core.List.{List}
 use Prim.Native.Nat.{ℕ, _≤_}
 use lib.IntN.{ℤ, pos}
+use denote.Ref.{now}
 use borrow.Author.Needs.{needs}
+use Rattle.sequences.specs.Tab.{tab}
 use Rattle.sequences.specs.Grid.{grid, cell, cell-grid}
 use Rattle.geometry.specs.Read.{sampleAt}
 use Rattle.noise.specs.NoiseNumber.{tileRoot, noiseNumber}
@@ -14,6 +16,7 @@ use Rattle.merging.specs.Recipe.{sceneOf, tileAt, referenceTile, tileNoi
 use Rattle.merging.specs.Accepted.{Accepted}
 use Rattle.merging.specs.Sum.{TileOf}
 use Rattle.merging.proofs.Differences.{reference-most}
+use Rattle.merging.proofs.Summing.{zero-summed}
 use Rattle.merging.proofs.tiles.tile_correction.Statement.{statement}
 use Rattle.merging.proofs.tiles.tile_correction.Tie as tie
 
@@ -36,13 +39,18 @@ tile-requires c κs = search needs
 tile-noise-requires : tie.Need-tile-noise-requires
 tile-noise-requires c κs = search needs
 
-corrections-requires : tie.Need-corrections-requires
-corrections-requires c κs =
-    let s = c .before .before .before .before in
-    (s .pre .0, s .pre .1, tile-of (s .pre .0) (s .args .site) (c .before .tile .ensures) (c .tile-noise .ensures))
+known : (c : tie.After-tile-noise) → let a = c .before .before .before .before .args in TileOf (sceneOf (a .m) (now (a .samples)) (now (a .vectors))) (a .site) (c .before .tile .result) (c .tile-noise .result)
+known c = let s = c .before .before .before .before in tile-of (s .pre .0) (s .args .site) (c .before .tile .ensures) (c .tile-noise .ensures)
 
 returns : tie.Need-returns
-returns c = search needs
+unfolding grid tab
+returns c = zero-summed (sym (known (c .before) .number) ∙ c .if1 .taken) refl
+
+corrections-requires : tie.Need-corrections-requires
+corrections-requires c κs = let s = c .before .before .before .before .before in (s .pre .0, s .pre .1, known (c .before))
+
+returns-2 : tie.Need-returns-2
+returns-2 c = search needs
 
 pub tile-correction-spec : {M : Type 1} → statement M
-tile-correction-spec = tie.close (tie.spec tile-requires tile-noise-requires corrections-requires returns)
+tile-correction-spec = tie.close (tie.spec tile-requires tile-noise-requires returns corrections-requires returns-2)
