@@ -76,7 +76,7 @@ module _ {m : Merge} {samples : List ℕ} {vectors : List ℤ} {p : Plane} {band
               subst (λ b. RowsMerged (sceneOf m samples vectors) p (8 * band) b l o) (omega arith)
               (rows-on (w .rows)
               (row-merged (a .wide) q (omega (arith, room, w .rows .toward .same))
-              (λ x k. output-word m samples vectors p work y x (a .wide) (a .several) k upper-held lower-held) is));
+              (λ x k. output-word m samples vectors p work y x (a .wide) k upper-held lower-held) is));
           upper = w .upper;
           lower = w .lower;
         }

@@ -82,7 +82,7 @@ module _ (m : Merge) (samples : List ℕ) (vectors : List ℤ) (p : Plane) (work
   abbrev below : ℕ
   below = slotOf (m .shape .width) (y / 8 + 1)
 
-  module _ (ok : AllowedSize (m .shape .width)) (several : 2 ≤ m .shape .count) (inside : x < m .shape .width / 2) (upper : Held s p (y / 8) work) (lower : Held s p (y / 8 + 1) work) where
+  module _ (ok : AllowedSize (m .shape .width)) (inside : x < m .shape .width / 2) (upper : Held s p (y / 8) work) (lower : Held s p (y / 8 + 1) work) where
     held-over : (u : ℕ) → u < 2 → Held s p (tileOver y u) work
     held-over zero h = let e : y / 8 + 1 - 0 ≡ y / 8 + 1 = omega arith in rw e lower
     held-over (suc zero) h = let e : y / 8 + 1 - 1 ≡ y / 8 = omega arith in rw e upper
@@ -113,8 +113,7 @@ module _ (m : Merge) (samples : List ℕ) (vectors : List ℤ) (p : Plane) (work
     pub output-word : outputWord (m .shape) (m .reference) samples work p y x ≡ natAbs (planeOutput s (p .«row_parity») (p .«column_parity») y x)
     unfolding outputWord sceneOf windowed
     output-word =
-        let count : m .shape .count ≡ suc (m .shape .count - 1) = omega arith in
         ap natAbs
-        (ap₂ (λ z n. corrected (planeOf (s .reference) (p .«row_parity») (p .«column_parity») y x) z n)
-        (sumZ-cong 4 _ _ (λ t h. ap (λ z. pos (weightIn side16 (y % 8) (x % 8) t) *ℤ z) (word-is t h))) count
+        (ap (λ z. corrected (planeOf (s .reference) (p .«row_parity») (p .«column_parity») y x) z (s .others))
+        (sumZ-cong 4 _ _ (λ t h. ap (λ z. pos (weightIn side16 (y % 8) (x % 8) t) *ℤ z) (word-is t h)))
         ∙ sym (gathered s (p .«row_parity») (p .«column_parity») y x))

@@ -24,9 +24,9 @@ unfoldable pub windowed : (i j : ℕ) → (ℕ → ℤ) → ℤ
 windowed i j c = sumZ 4 (λ t. pos (weightIn side16 i j t) *ℤ c t)
 
 -- T0 − sum/(2^32·N), to nearest, halves upward, held to 0..4095
-unfoldable pub corrected : (t0 : ℕ) (sum : ℤ) (count : ℕ) → ℤ
-corrected t0 sum count =
-    clampZ (pos 0) (pos 4095) (upward (pos t0 *ℤ pos (4294967296 * count) -ℤ sum) (4294967296 * count))
+unfoldable pub corrected : (t0 : ℕ) (sum : ℤ) (others : ℕ) → ℤ
+corrected t0 sum others =
+    clampZ (pos 0) (pos 4095) (upward (pos t0 *ℤ pos (4294967296 * (others + 1)) -ℤ sum) (4294967296 * (others + 1)))
 
 -- where the words of the upper and the lower row of tiles start
 abbrev pub startOf : (above below : ℕ) → ℕ → ℕ
@@ -38,7 +38,7 @@ unfoldable pub wordOver : List ℤ → (above below i x t : ℕ) → ℤ
 wordOver work above below i x t =
     getD work (startOf above below (t / 2) + (256 * (x / 8 + 1 - t % 2) + (16 * rowIn side16 i t + columnIn side16 (x % 8) t))) (pos 0)
 
-scales : (n : ℕ) → 256 * (16777216 * n) ≡ 4294967296 * n
+scales : (n : ℕ) → 256 * (16777216 * suc n) ≡ 4294967296 * (n + 1)
 scales n = omega arith
 
 module _ (s : Scene) (rowParity columnParity y x : ℕ) where
@@ -50,9 +50,9 @@ module _ (s : Scene) (rowParity columnParity y x : ℕ) where
       correctionAt side16 (tileNoise s rowParity columnParity (tileOver y (t / 2)) (tileOver x (t % 2)))
       (difference s rowParity columnParity (tileOver y (t / 2)) (tileOver x (t % 2)) k) (rowIn side16 (y % 8) t) (columnIn side16 (x % 8) t)
 
-  pub gathered : planeOutput s rowParity columnParity y x ≡ corrected (planeOf (s .reference) rowParity columnParity y x) (windowed (y % 8) (x % 8) summedOver) (suc (s .others))
+  pub gathered : planeOutput s rowParity columnParity y x ≡ corrected (planeOf (s .reference) rowParity columnParity y x) (windowed (y % 8) (x % 8) summedOver) (s .others)
   unfolding planeOutput outputSample corrected windowed summedAt side16
   gathered =
       ap₂ (λ sum whole. clampZ (pos 0) (pos 4095) (upward (pos (planeOf (s .reference) rowParity columnParity y x) *ℤ pos whole -ℤ sum) whole))
       (sumZ-cong 4 _ (λ t. pos (weightIn side16 (y % 8) (x % 8) t) *ℤ summedOver t) (λ t h. sumZ-scale (s .others) (pos (weightIn side16 (y % 8) (x % 8) t)) (termOver t)))
-      (scales (suc (s .others)))
+      (scales (s .others))

@@ -1,7 +1,7 @@
 -- Rows of correction tiles in the work area: two of them, each of 256 words a tile.
 use mathlib.Core.Path.{_≡_}
 use mathlib.Core.List.{List}
-use Prim.Native.Nat.{ℕ, _+_, _*_, _/_, _%_, _≤_, _<_}
+use Prim.Native.Nat.{ℕ, _+_, _-_, _*_, _/_, _%_, _≤_, _<_}
 use lib.IntN.{ℤ, pos, natAbs}
 use lib.ListN.{length, getD}
 use Rattle.sequences.specs.Write.{written}
@@ -42,7 +42,7 @@ pub record Stored (s : Scene) (p : Plane) (row : ℕ) (d l : List ℤ) : Type 0 
 -- the output's word at row y and column x of a plane, from the rows of tiles in the work area
 unfoldable pub outputWord : Shape → (reference : ℕ) (samples : List ℕ) (work : List ℤ) → Plane → (y x : ℕ) → ℕ
 outputWord s reference samples work p y x =
-    natAbs (corrected (planeOf (sampleAt s samples reference) (p .«row_parity») (p .«column_parity») y x) (windowed (y % 8) (x % 8) (wordOver work (slotOf (s .width) (y / 8)) (slotOf (s .width) (y / 8 + 1)) (y % 8) x)) (s .count))
+    natAbs (corrected (planeOf (sampleAt s samples reference) (p .«row_parity») (p .«column_parity») y x) (windowed (y % 8) (x % 8) (wordOver work (slotOf (s .width) (y / 8)) (slotOf (s .width) (y / 8 + 1)) (y % 8) x)) (s .count - 1))
 
 -- what it is worked out from
 pub record Ready (s : Shape) (reference : ℕ) (samples : List ℕ) (work : List ℤ) (p : Plane) (y : ℕ) : Type 0 where

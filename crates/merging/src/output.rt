@@ -47,12 +47,12 @@ fn held(z: i64) -> u16
     z as u16
 }
 
-// A sample of the reference less the windowed sum of its corrections, of a burst of `count` frames.
-fn corrected(t0: u16, sum: i64, count: u64) -> u16
-    requires { ⌜ (1 ≤ count) × (count ≤ 8) × (AtMost (2 ^ 59) sum) ⌝ }
-    ensures { λ r. ⌜ r ≡ natAbs (corrected t0 sum count) ⌝ }
+// A sample of the reference less the windowed sum of its corrections over `others` frames.
+fn corrected(t0: u16, sum: i64, others: usize) -> u16
+    requires { ⌜ (others ≤ 7) × (AtMost (2 ^ 59) sum) ⌝ }
+    ensures { λ r. ⌜ r ≡ natAbs (corrected t0 sum others) ⌝ }
 {
-    let whole = 4294967296 * count;
+    let whole: u64 = 4294967296 * (others as u64 + 1);
     held(rounding::round_up(t0 as i64 * whole as i64 - sum, whole))
 }
 
@@ -102,6 +102,7 @@ pub fn output_row(
     let above = slot(width, y / 8);
     let below = slot(width, y / 8 + 1);
     let window = WINDOW;
+    let others = shape.count - 1;
     let row = 2 * y + plane.row_parity;
     let start = row * width + plane.column_parity;
     for x in 0..width / 2 {
@@ -113,6 +114,6 @@ pub fn output_row(
             row,
             2 * x + plane.column_parity,
         );
-        output[start + 2 * x] = corrected(t0, sum, shape.count as u64);
+        output[start + 2 * x] = corrected(t0, sum, others);
     }
 }

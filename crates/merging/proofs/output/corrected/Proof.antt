@@ -16,22 +16,25 @@ use Rattle.merging.proofs.output.corrected.Tie as tie
 
 -- T0·2^32·N
 abbrev scaled : tie.Start → ℤ
-scaled c = pos (c .args .t0) *ℤ pos (4294967296 * c .args .count)
+scaled c = pos (c .args .t0) *ℤ pos (4294967296 * (c .args .others + 1))
 
 scaled-most : (c : tie.Start) → AtMost (65535 * 34359738368) (scaled c)
-scaled-most c = mul-most {a = 65535} {b = 34359738368} {x = pos (c .args .t0)} {y = pos (4294967296 * c .args .count)} (record { most = omega (arith, c .fits .t0) }) (record { most = omega arith })
+scaled-most c = mul-most {a = 65535} {b = 34359738368} {x = pos (c .args .t0)} {y = pos (4294967296 * (c .args .others + 1))} (record { most = omega (arith, c .fits .t0) }) (record { most = omega arith })
 
-scaled-is : (c : tie.Start) → toZ w64 (c .args .t0) *ℤ toZ w64 (4294967296 * c .args .count) ≡ scaled c
-scaled-is c = rw (toZ-pos w64 {n = c .args .t0} (omega (arith, c .fits .t0)), toZ-pos w64 {n = 4294967296 * c .args .count} (omega arith))
+scaled-is : (c : tie.Start) → toZ w64 (c .args .t0) *ℤ toZ w64 (4294967296 * (c .args .others + 1)) ≡ scaled c
+scaled-is c = rw (toZ-pos w64 {n = c .args .t0} (omega (arith, c .fits .t0)), toZ-pos w64 {n = 4294967296 * (c .args .others + 1)} (omega arith))
 
 difference-most : (c : tie.Start) → AtMost (65535 * 34359738368 + 2 ^ 59) (scaled c -ℤ c .args .sum)
-difference-most c = sub-most (scaled-most c) (c .pre .2)
+difference-most c = sub-most (scaled-most c) (c .pre .1)
 
-difference-is : (c : tie.Start) → toZ w64 (ofZ w64 (toZ w64 (c .args .t0) *ℤ toZ w64 (4294967296 * c .args .count))) -ℤ toZ w64 (ofZ w64 (c .args .sum)) ≡ scaled c -ℤ c .args .sum
+difference-is : (c : tie.Start) → toZ w64 (ofZ w64 (toZ w64 (c .args .t0) *ℤ toZ w64 (4294967296 * (c .args .others + 1)))) -ℤ toZ w64 (ofZ w64 (c .args .sum)) ≡ scaled c -ℤ c .args .sum
 difference-is c = rw (scaled-is c, toZ-ofZ (most-fits w64 (scaled c) _ (scaled-most c) tt), toZ-ofZ (c .fits .sum))
 
-back : (c : tie.Start) → toZ w64 (ofZ w64 (toZ w64 (ofZ w64 (toZ w64 (c .args .t0) *ℤ toZ w64 (4294967296 * c .args .count))) -ℤ toZ w64 (ofZ w64 (c .args .sum)))) ≡ scaled c -ℤ c .args .sum
+back : (c : tie.Start) → toZ w64 (ofZ w64 (toZ w64 (ofZ w64 (toZ w64 (c .args .t0) *ℤ toZ w64 (4294967296 * (c .args .others + 1)))) -ℤ toZ w64 (ofZ w64 (c .args .sum)))) ≡ scaled c -ℤ c .args .sum
 back c = rw (difference-is c) (toZ-ofZ (most-fits w64 (scaled c -ℤ c .args .sum) _ (difference-most c) tt))
+
+add-whole : tie.Need-add-whole
+add-whole c = search needs
 
 mul-whole : tie.Need-mul-whole
 mul-whole c = search needs
@@ -61,12 +64,13 @@ returns c =
     let s = c .before .before in
     let e : toZ w64 (ofZ w64 (c .before .round-up .result)) ≡ c .before .round-up .result = search needs in
     c .held .ensures
-    ∙ ap (λ z. natAbs (clampZ (pos 0) (pos 4095) z)) (e ∙ c .before .round-up .ensures ∙ ap (λ z. upward z (4294967296 * s .args .count)) (back s))
+    ∙ ap (λ z. natAbs (clampZ (pos 0) (pos 4095) z)) (e ∙ c .before .round-up .ensures ∙ ap (λ z. upward z (4294967296 * (s .args .others + 1))) (back s))
 
 pub corrected-spec : {M : Type 1} → statement M
 corrected-spec =
     tie.close
     (tie.spec
+    add-whole
     mul-whole
     cast-round-up
     cast-round-up-2

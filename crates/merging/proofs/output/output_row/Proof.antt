@@ -22,11 +22,11 @@ use Rattle.merging.proofs.output.output_row.Statement.{statement}
 use Rattle.merging.proofs.output.output_row.Tie as tie
 
 abbrev Inv-loop : tie.InvT-loop
-Inv-loop shape reference samples plane y work output₀ width above below window row start x₀ x-end output x =
+Inv-loop shape reference samples plane y work output₀ width above below window others row start x₀ x-end output x =
     (Striding output₀ start (outputWord shape reference samples work plane y) (width / 2) x output) × (window ≡ windows)
 
 abbrev μ-loop : tie.MeasureT-loop
-μ-loop shape reference samples plane y work output₀ width above below window row start x₀ x-end output x = width / 2 - x
+μ-loop shape reference samples plane y work output₀ width above below window others row start x₀ x-end output x = width / 2 - x
 
 -- the row of the frame lies in it
 room : (c : tie.Start Inv-loop μ-loop) → let s = c .args .shape in let row = 2 * c .args .y + c .args .plane .«row_parity» in (row * s .width + s .width ≤ outputLength s) × (outputLength s ≤ 16777216)
@@ -36,11 +36,11 @@ room c =
     (row-room (c .args .shape) (2 * c .args .y + c .args .plane .«row_parity») (omega (arith, r .row, r .planar, r .sampled .allowed)), area-most (r .sampled .allowed))
 
 -- and so does each place that is written
-place : (c : tie.In-loop Inv-loop μ-loop) → let l = c .before in let a = l .before .before .before .before .before .before .before .args in
+place : (c : tie.In-loop Inv-loop μ-loop) → let l = c .before in let a = l .before .before .before .before .before .before .before .before .args in
     let k = (2 * a .y + a .plane .«row_parity») * a .shape .width + a .plane .«column_parity» + 2 * l .loop .x in (k < length (l .loop .output)) × (k ≤ 16777216) × (k * 2 ≤ 33554432)
 place c =
     let l = c .before in
-    let s = l .before .before .before .before .before .before .before in
+    let s = l .before .before .before .before .before .before .before .before in
     let r = s .pre .0 in
     let a = s .args in
     let k = (2 * a .y + a .plane .«row_parity») * a .shape .width + a .plane .«column_parity» + 2 * l .loop .x in
@@ -56,6 +56,9 @@ add-slot c = search needs
 slot-requires-2 : tie.Need-slot-requires-2 Inv-loop μ-loop
 slot-requires-2 c κs = search needs
 
+sub-others : tie.Need-sub-others Inv-loop μ-loop
+sub-others c = search needs
+
 mul-row : tie.Need-mul-row Inv-loop μ-loop
 mul-row c = search needs
 
@@ -63,10 +66,10 @@ add-row : tie.Need-add-row Inv-loop μ-loop
 add-row c = search needs
 
 mul-start : tie.Need-mul-start Inv-loop μ-loop
-mul-start c = omega (arith, room (c .before .before .before .before .before))
+mul-start c = omega (arith, room (c .before .before .before .before .before .before))
 
 add-start : tie.Need-add-start Inv-loop μ-loop
-add-start c = omega (arith, room (c .before .before .before .before .before .before))
+add-start c = omega (arith, room (c .before .before .before .before .before .before .before))
 
 loop-holds : tie.Need-loop-holds Inv-loop μ-loop
 unfolding windows
@@ -76,7 +79,7 @@ windowed-requires : tie.Need-windowed-requires Inv-loop μ-loop
 unfolding rowWords
 windowed-requires c κs =
     let l = c .before .before in
-    let s2 = l .before .before .before in
+    let s2 = l .before .before .before .before in
     let s = s2 .before .before .before .before in
     let r = s .pre .0 in
     let n = 256 * (l .loop .x / 8 + 2) in (
@@ -99,7 +102,9 @@ corrected-requires : tie.Need-corrected-requires Inv-loop μ-loop
 corrected-requires c κs =
     let w = c .before .before .windowed in
     let e : toZ w64 (ofZ w64 (w .result)) ≡ w .result = search needs in
-    (omega arith, omega arith, rw e (w .ensures .1))
+    let s = c .before .before .before .before .before .before .before .before .before .before .before .before .before in
+    let few : s .args .shape .count - 1 ≤ 7 = omega (arith, s .pre .0 .sampled .allowed .few) in
+    (few, rw e (w .ensures .1))
 
 mul-output : tie.Need-mul-output Inv-loop μ-loop
 mul-output c = search needs
@@ -123,14 +128,14 @@ loop-again : tie.Need-loop-again Inv-loop μ-loop
 unfolding outputWord planeOf
 loop-again c =
     let l = c .before .before .before .before .before .before in
-    let s2 = l .before .before .before in
+    let s2 = l .before .before .before .before in
     let a = s2 .before .before .before .before .args in
     let w = c .before .before .before .windowed in
     let e : toZ w64 (ofZ w64 (w .result)) ≡ w .result = search needs in
     let sum =
     e ∙ w .ensures .0
     ∙ ap₂ (λ above below. windowed (a .y % 8) (l .loop .x % 8) (wordOver (now (a .work)) above below (a .y % 8) (l .loop .x))) (s2 .before .slot .ensures .0) (s2 .slot2 .ensures .0) in
-    (stride-turn (l .loop .inv .0) (omega arith) (c .corrected .ensures ∙ ap₂ (λ t z. natAbs (corrected t z (a .shape .count))) (c .before .sample-at .ensures) sum), l .loop .inv .1)
+    (stride-turn (l .loop .inv .0) (omega arith) (c .corrected .ensures ∙ ap₂ (λ t z. natAbs (corrected t z (a .shape .count - 1))) (c .before .sample-at .ensures) sum), l .loop .inv .1)
 
 same-length : tie.Need-same-length Inv-loop μ-loop
 same-length c = search needs
@@ -147,6 +152,7 @@ output-row-spec =
     slot-requires
     add-slot
     slot-requires-2
+    sub-others
     mul-row
     add-row
     mul-start
