@@ -3,7 +3,6 @@ use mathlib.Core.Path.{_≡_, refl, sym, ap, _∙_, subst}
 use mathlib.Core.List.{List}
 use Prim.Native.Nat.{ℕ, zero, suc, _+_, _*_, _/_, _%_, _≤_, _<_}
 use native.Mathlib.Nat.{mul-add-div-right, mul-add-mod-self-right, div-eq-of-lt, mod-eq-of-lt, mod-lt, div-lt-iff-lt-mul, div-add-mod', mul-comm}
-use native.Mathlib.Decide.{ℕ-discrete}
 use native.Mathlib.Omega.{arith}
 use borrow.Author.Tests.{ltb-true, ltb-false}
 use mathlib.Core.Bool.{Bool, true, false}
@@ -16,8 +15,9 @@ use Rattle.geometry.specs.Shape.{AllowedSize}
 use Rattle.merging.specs.declared.Plane.{Plane}
 use Rattle.merging.specs.Accepted.{Planar}
 use Rattle.merging.specs.Recipe.{Scene, planeOutput, outputAt, wordAt, merged}
-use Rattle.merging.specs.Strided.{strided, Toward, toward-same, toward-on, strided-toward, strided-in}
+use Rattle.merging.specs.Strided.{strided, Toward}
 use Rattle.merging.specs.Progress.{placeOf, RowsMerged}
+use Rattle.merging.proofs.Striding.{toward-same, toward-on, strided-toward, strided-in}
 
 -- the row and the column of a place
 place-row : (row column width : ℕ) → column < width → (row * width + column) / width ≡ row

@@ -1,5 +1,5 @@
 -- The rows of a band, and the bands of a plane: a record for each loop, and how it starts, goes on and ends.
-use mathlib.Core.Path.{_≡_, _∙_, subst}
+use mathlib.Core.Path.{_≡_, subst}
 use mathlib.Core.List.{List}
 use Prim.Native.Nat.{ℕ, _+_, _*_, _/_, _≤_, _<_}
 use native.Mathlib.Omega.{arith}
@@ -11,7 +11,7 @@ use Rattle.merging.specs.declared.Plane.{Plane}
 use Rattle.merging.specs.Recipe.{sceneOf}
 use Rattle.merging.specs.Accepted.{Accepted, Planar}
 use Rattle.merging.specs.Strided.{strided}
-use Rattle.merging.specs.Work.{rowWords, slotOf, Words, Held, Stored, outputWord, Ready}
+use Rattle.merging.specs.Work.{rowWords, slotOf, Held, Stored, outputWord, Ready}
 use Rattle.merging.specs.Progress.{RowsMerged, BandMerged}
 use Rattle.merging.proofs.Places.{row-room}
 use Rattle.merging.proofs.Holding.{stored-held, held-kept, next-room, output-word}

@@ -1,5 +1,5 @@
 -- A row of tiles that is stored is held, and the row before it still is; the output's word of the two rows is the recipe's.
-use mathlib.Core.Path.{_≡_, refl, sym, ap, ap₂, _∙_, subst}
+use mathlib.Core.Path.{_≡_, sym, ap, _∙_, subst}
 use mathlib.Core.List.{List}
 use mathlib.Core.Logic.{_⊎_, inl, inr, ⊎-elim}
 use Prim.Native.Nat.{ℕ, zero, suc, _+_, _-_, _*_, _/_, _%_, _≤_, _<_}
@@ -16,9 +16,10 @@ use Rattle.closeness.specs.Output.{rowIn, columnIn, weightIn}
 use Rattle.merging.specs.declared.Merge.{Merge}
 use Rattle.merging.specs.declared.Plane.{Plane}
 use Rattle.merging.specs.Recipe.{Scene, sceneOf, tileOver, planeOutput}
-use Rattle.merging.specs.Gather.{summedAt, windowed, corrected, startOf, wordOver, summedOver, gathered}
+use Rattle.merging.specs.Gather.{summedAt, windowed, corrected, startOf, wordOver}
 use Rattle.merging.specs.Sum.{summedMost}
-use Rattle.merging.specs.Work.{rowWords, slotOf, rowWord, Words, Held, Stored, outputWord}
+use Rattle.merging.specs.Work.{rowWords, slotOf, rowWord, Held, Stored, outputWord}
+use Rattle.merging.proofs.Gathering.{summedOver, gathered}
 
 -- the places of a row and of the next one: one row's words are those before the other's
 slots : (width row : ℕ) → ((slotOf width row ≡ 0) × (slotOf width (row + 1) ≡ rowWords width)) ⊎ ((slotOf width row ≡ rowWords width) × (slotOf width (row + 1) ≡ 0))

@@ -4,6 +4,8 @@ pub mod Differences
 pub mod Summing
 pub mod Storing
 pub mod Weights
+pub mod Gathering
 pub mod Holding
+pub mod Striding
 pub mod Advance
 pub mod Bands

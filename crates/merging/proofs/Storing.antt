@@ -11,7 +11,6 @@ use Rattle.sequences.specs.Tab.{tab, length-tab, getD-tab}
 use Rattle.sequences.specs.Grid.{cell, cell-grid}
 use Rattle.sequences.specs.Write.{written, Writing, write-start, write-turn, write-done}
 use Rattle.merging.specs.declared.Plane.{Plane}
-use Rattle.merging.specs.declared.Site.{Site}
 use Rattle.merging.specs.Recipe.{Scene}
 use Rattle.merging.specs.Gather.{summedAt}
 use Rattle.merging.specs.Sum.{summedMost, Summed}

@@ -1,5 +1,5 @@
 -- The windowed sum of the four tiles over a sample, term by term.
-use mathlib.Core.Path.{_≡_, ap}
+use mathlib.Core.Path.{_≡_}
 use mathlib.Core.List.{List}
 use Prim.Native.Nat.{ℕ, _+_, _-_, _*_, _/_, _%_, _≤_, _<_}
 use native.Mathlib.Nat.{mul-le-mul}
@@ -7,7 +7,7 @@ use native.Mathlib.Omega.{arith}
 use lib.Dec.{leb, leb→le}
 use lib.IntN.{ℤ, pos, _+ℤ_, _*ℤ_, +ℤ-idl}
 use lib.ListN.{getD}
-use Rattle.algebra.specs.Test.{all, all-sound}
+use Rattle.algebra.specs.Test.{all-sound}
 use Rattle.algebra.specs.Sums.{sumZ}
 use Rattle.transform.specs.Tables.{windows, window16, side16}
 use Rattle.merging.specs.Gather.{windowed, wordOver}

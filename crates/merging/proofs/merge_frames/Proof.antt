@@ -4,9 +4,8 @@ use lib.Dec.{lit<}
 use borrow.Author.Needs.{needs}
 use Rattle.geometry.specs.Shape.{outputLength}
 use Rattle.merging.specs.Recipe.{sceneOf}
-use Rattle.merging.specs.Accepted.{Planar}
 use Rattle.merging.proofs.Places.{rows-fit}
-use Rattle.merging.proofs.Advance.{plane, all-merged}
+use Rattle.merging.proofs.Advance.{all-merged}
 use Rattle.merging.proofs.merge_frames.Statement.{statement}
 use Rattle.merging.proofs.merge_frames.Tie as tie
 

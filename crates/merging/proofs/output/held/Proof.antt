@@ -1,5 +1,5 @@
 -- Holding to 0..4095: below, above and between.
-use mathlib.Core.Path.{_≡_, refl, sym, ap, subst}
+use mathlib.Core.Path.{_≡_, sym, ap, subst}
 use mathlib.Core.Bool.{true, false, not}
 use Prim.Native.Nat.{_≤_, _<_}
 use native.Mathlib.Omega.{arith}
@@ -9,7 +9,7 @@ use lib.Signed.{ltZ, _≤ℤ_, ltZ-yes, ltZ-no}
 use mir.Facts.{toZ-ofZ}
 use Rattle.algebra.specs.Bound.{from-zero}
 use Rattle.algebra.specs.Order.{zarith, abs-pn, min-pn, <ℤ-≤ℤ}
-use Rattle.algebra.specs.Clamp.{clampZ, clamp-below, clamp-same, clamp-above}
+use Rattle.algebra.specs.Clamp.{clamp-below, clamp-same, clamp-above}
 use Rattle.merging.proofs.output.held.Statement.{statement}
 use Rattle.merging.proofs.output.held.Tie as tie
 

@@ -1,6 +1,6 @@
 -- A word a turn, each from the two rows of tiles over it.
-use mathlib.Core.Path.{_≡_, refl, sym, ap, ap₂, _∙_, subst}
-use Prim.Native.Nat.{_+_, _-_, _*_, _/_, _%_, _^_, _≤_, _<_}
+use mathlib.Core.Path.{_≡_, refl, sym, ap₂, _∙_, subst}
+use Prim.Native.Nat.{_+_, _-_, _*_, _/_, _%_, _≤_, _<_}
 use native.Mathlib.Omega.{arith}
 use lib.IntN.{natAbs}
 use lib.ListN.{length}
@@ -14,9 +14,9 @@ use Rattle.geometry.specs.ShapeLaws.{area-most}
 use Rattle.geometry.specs.Read.{planeOf}
 use Rattle.transform.specs.Tables.{windows}
 use Rattle.merging.specs.Gather.{corrected, windowed, wordOver}
-use Rattle.merging.specs.Strided.{Striding, stride-start, stride-turn, stride-done}
 use Rattle.merging.specs.Work.{rowWords, Words, outputWord}
 use Rattle.merging.proofs.Places.{row-room}
+use Rattle.merging.proofs.Striding.{Striding, stride-start, stride-turn, stride-done}
 use Rattle.merging.proofs.Weights.{words-fewer}
 use Rattle.merging.proofs.output.output_row.Statement.{statement}
 use Rattle.merging.proofs.output.output_row.Tie as tie

@@ -1,12 +1,9 @@
 -- A tile a turn, each at its place of the row.
-use mathlib.Core.Path.{_≡_, ap, _∙_}
-use Prim.Native.Nat.{_+_, _-_, _*_, _/_, _≤_}
+use Prim.Native.Nat.{_-_}
 use native.Mathlib.Omega.{arith}
-use lib.ListN.{length}
 use borrow.Author.Needs.{needs}
-use Rattle.sequences.specs.Write.{written}
 use Rattle.merging.specs.Recipe.{sceneOf}
-use Rattle.merging.specs.Work.{rowWords, slotOf}
+use Rattle.merging.specs.Work.{rowWords}
 use Rattle.merging.proofs.Storing.{Storing, store-start, store-turn, store-done}
 use Rattle.merging.proofs.rows.correction_row.Statement.{statement}
 use Rattle.merging.proofs.rows.correction_row.Tie as tie

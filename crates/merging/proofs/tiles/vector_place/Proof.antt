@@ -5,7 +5,7 @@ use native.Mathlib.Omega.{arith}
 use borrow.Author.Needs.{needs}
 use Rattle.geometry.specs.Shape.{vectorLength}
 use Rattle.geometry.specs.Vectors.{vectorPlace}
-use Rattle.merging.proofs.Places.{tileRow, place-below}
+use Rattle.merging.proofs.Places.{place-below}
 use Rattle.merging.proofs.tiles.vector_place.Statement.{statement}
 use Rattle.merging.proofs.tiles.vector_place.Tie as tie
 
