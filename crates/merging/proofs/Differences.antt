@@ -16,6 +16,7 @@ use Rattle.transform.specs.Recipe.{rowRe, rowIm, binRe, binIm, filtered, invers
 use Rattle.merging.specs.declared.Merge.{Merge}
 use Rattle.merging.specs.Recipe.{Scene, sceneOf, tileAt, referenceTile, otherTile, difference}
 use Rattle.transform.specs.Lines.{LineMost, TileMost}
+use Rattle.transform.specs.Magnitudes.{differenceMost}
 
 -- the correction of differences that agree on the tile
 module _ (s : Side) (d e : ℕ → ℕ → ℤ) (same : (y x : ℕ) → y < s .side → x < s .side → d y x ≡ e y x) where
@@ -66,10 +67,10 @@ module _ (m : Merge) {samples : List ℕ} (vectors : List ℤ) (fit : SamplesFit
   unfolding difference
   difference-most k i j = apart _ _ (reference-most i j) (other-most k i j)
 
-  pub tile-most : (k : ℕ) → TileMost 4095 (grid 16 16 (difference s rowParity columnParity a b k))
+  pub tile-most : (k : ℕ) → TileMost differenceMost (grid 16 16 (difference s rowParity columnParity a b k))
   unfolding grid
   tile-most k =
       record {
-        line = tab-every (LineMost 4095) [] _ (record { at = λ i. omega arith })
+        line = tab-every (LineMost differenceMost) [] _ (record { at = λ i. omega arith })
             (λ i. record { at = tab-every (λ z. natAbs z ≤ 4095) (pos 0) _ (omega arith) (difference-most k i) 16 }) 16;
       }

@@ -10,7 +10,7 @@ use Rattle.geometry.specs.Read.{planeOf}
 use Rattle.transform.specs.Tables.{side16}
 use Rattle.transform.specs.Recipe.{correctionAt}
 use Rattle.closeness.specs.Output.{rowIn, columnIn, weightIn, outputSample}
-use Rattle.merging.specs.Recipe.{Scene, tileNoise, difference, tileOver, planeOutput}
+use Rattle.merging.specs.Recipe.{Scene, tileOver, noiseOver, differenceOver, planeOutput}
 use Rattle.merging.specs.Gather.{summedAt, windowed, corrected}
 
 scales : (n : ℕ) → 256 * (16777216 * suc n) ≡ 4294967296 * (n + 1)
@@ -20,14 +20,9 @@ module _ (s : Scene) (rowParity columnParity y x : ℕ) where
   abbrev pub summedOver : ℕ → ℤ
   summedOver t = summedAt s rowParity columnParity (tileOver y (t / 2)) (tileOver x (t % 2)) (rowIn side16 (y % 8) t) (columnIn side16 (x % 8) t)
 
-  abbrev termOver : (t k : ℕ) → ℤ
-  termOver t k =
-      correctionAt side16 (tileNoise s rowParity columnParity (tileOver y (t / 2)) (tileOver x (t % 2)))
-      (difference s rowParity columnParity (tileOver y (t / 2)) (tileOver x (t % 2)) k) (rowIn side16 (y % 8) t) (columnIn side16 (x % 8) t)
-
   pub gathered : planeOutput s rowParity columnParity y x ≡ corrected (planeOf (s .reference) rowParity columnParity y x) (windowed (y % 8) (x % 8) summedOver) (s .others)
   unfolding planeOutput outputSample corrected windowed summedAt side16
   gathered =
       ap₂ (λ sum whole. clampZ (pos 0) (pos 4095) (upward (pos (planeOf (s .reference) rowParity columnParity y x) *ℤ pos whole -ℤ sum) whole))
-      (sumZ-cong 4 _ (λ t. pos (weightIn side16 (y % 8) (x % 8) t) *ℤ summedOver t) (λ t h. sumZ-scale (s .others) (pos (weightIn side16 (y % 8) (x % 8) t)) (termOver t)))
+      (sumZ-cong 4 _ (λ t. pos (weightIn side16 (y % 8) (x % 8) t) *ℤ summedOver t) (λ t h. sumZ-scale (s .others) (pos (weightIn side16 (y % 8) (x % 8) t)) (λ k. correctionAt side16 (noiseOver s rowParity columnParity y x t) (differenceOver s rowParity columnParity y x t k) (rowIn side16 (y % 8) t) (columnIn side16 (x % 8) t))))
       (scales (s .others))

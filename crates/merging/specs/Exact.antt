@@ -6,14 +6,12 @@ use Rattle.geometry.specs.Read.{planeOf}
 use Rattle.geometry.specs.Tiles.{level0}
 use Rattle.transform.specs.Tables.{side16}
 use Rattle.closeness.specs.Exact.{exactSample}
-use Rattle.merging.specs.Recipe.{Scene, tileNoise, difference, tileOver}
+use Rattle.merging.specs.Recipe.{Scene, noiseOver, differenceOver}
 
 -- its sample at row y and column x of a plane
 unfoldable pub planeExact : Scene → (rowParity columnParity y x : ℕ) → Frac
 planeExact s rowParity columnParity y x =
-    exactSample side16 (y % level0 .half) (x % level0 .half) (s .others)
-    (λ t. tileNoise s rowParity columnParity (tileOver y (t / 2)) (tileOver x (t % 2)))
-    (λ t. difference s rowParity columnParity (tileOver y (t / 2)) (tileOver x (t % 2)))
+    exactSample side16 (y % level0 .half) (x % level0 .half) (s .others) (noiseOver s rowParity columnParity y x) (differenceOver s rowParity columnParity y x)
     (pos (planeOf (s .reference) rowParity columnParity y x))
 
 -- and at a row and a column of the frame

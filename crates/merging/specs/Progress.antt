@@ -13,7 +13,7 @@ use Rattle.merging.specs.Work.{Held}
 abbrev pub placeOf : Scene → Plane → (y x : ℕ) → ℕ
 placeOf s p y x = (2 * y + p .«row_parity») * s .width + p .«column_parity» + 2 * x
 
--- m is l with the plane's rows from a to before b merged; elsewhere it has no less right words than l
+-- m is l with the plane's rows from a to before b merged; a word that is right in l is right in m
 pub record RowsMerged (s : Scene) (p : Plane) (a b : ℕ) (l m : List ℕ) : Type 0 where
   pub toward : Toward 0 (wordAt s) l m
   pub right : (y x : ℕ) → a ≤ y → y < b → x < s .width / 2 → getD m (placeOf s p y x) 0 ≡ wordAt s (placeOf s p y x)

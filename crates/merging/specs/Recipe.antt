@@ -67,12 +67,18 @@ module _ (s : Scene) (rowParity columnParity : ℕ) where
     unfoldable pub difference : (k i j : ℕ) → ℤ
     difference k i j = pos (referenceTile i j) -ℤ pos (otherTile k i j)
 
+  -- V and "T0−Tz" of the tiles over the plane's sample at row y and column x: four of them, tile t = 0..3 counted from the last
+  module _ (y x : ℕ) where
+    abbrev pub noiseOver : (t : ℕ) → ℕ
+    noiseOver t = tileNoise (tileOver y (t / 2)) (tileOver x (t % 2))
+
+    abbrev pub differenceOver : (t k i j : ℕ) → ℤ
+    differenceOver t = difference (tileOver y (t / 2)) (tileOver x (t % 2))
+
   -- "Output = T0 − (sum over four tiles and the other frames of w·w'·P)/(2^32·N), to nearest, halves upward, held to 0..4095"
   unfoldable pub planeOutput : (y x : ℕ) → ℤ
   planeOutput y x =
-      outputSample side16 (y % level0 .half) (x % level0 .half) (s .others)
-      (λ t. tileNoise (tileOver y (t / 2)) (tileOver x (t % 2)))
-      (λ t. difference (tileOver y (t / 2)) (tileOver x (t % 2)))
+      outputSample side16 (y % level0 .half) (x % level0 .half) (s .others) (noiseOver y x) (differenceOver y x)
       (pos (planeOf (s .reference) rowParity columnParity y x))
 
 -- the output's word at a row and a column of the frame, "by parity of row and column"

@@ -4,6 +4,7 @@ use mathlib.Core.List.{List}
 use Prim.Native.Nat.{ℕ, _^_, _≤_, _<_}
 use lib.IntN.{ℤ, natAbs}
 use Rattle.sequences.specs.Grid.{grid}
+use Rattle.transform.specs.Magnitudes.{noiseMost}
 use Rattle.merging.specs.declared.Site.{Site}
 use Rattle.merging.specs.Recipe.{Scene, referenceTile, tileNoise}
 use Rattle.merging.specs.Gather.{summedAt}
@@ -12,7 +13,7 @@ use Rattle.merging.specs.Gather.{summedAt}
 pub record TileOf (s : Scene) (t : Site) (t0 : List (List ℕ)) (noise : ℕ) : Type 0 where
   pub is : t0 ≡ grid 16 16 (referenceTile s (t .«row_parity») (t .«column_parity») (t .row) (t .column))
   pub number : noise ≡ tileNoise s (t .«row_parity») (t .«column_parity») (t .row) (t .column)
-  pub most : noise ≤ 279105765376
+  pub most : noise ≤ noiseMost
 
 -- a sum of P over up to seven other frames
 abbrev pub summedMost : ℕ

@@ -20,7 +20,7 @@ use crate::Merge;
 use crate::Site;
 use geometry::Shape;
 
-fn less(a: u16, b: u16) -> i32
+fn minus(a: u16, b: u16) -> i32
     ensures { λ r. ⌜ r ≡ pos a -ℤ pos b ⌝ }
 {
     a as i32 - b as i32
@@ -31,7 +31,7 @@ fn difference_row(a: [u16; 16], b: [u16; 16]) -> [i32; 16]
 {
     let mut row = [0i32; 16];
     for j in 0..16 {
-        row[j] = less(a[j], b[j]);
+        row[j] = minus(a[j], b[j]);
     }
     row
 }

@@ -8,6 +8,7 @@ use Rattle.sequences.specs.Tab.{tab}
 use Rattle.sequences.specs.Grid.{grid}
 use Rattle.merging.specs.Recipe.{sceneOf, difference}
 use Rattle.transform.specs.Lines.{TileMost}
+use Rattle.transform.specs.Magnitudes.{differenceMost}
 use Rattle.merging.proofs.Differences.{difference-grid, tile-most}
 use Rattle.merging.proofs.Summing.{Summing, sum-start, sum-turn, sum-small, sum-done}
 use Rattle.merging.proofs.tiles.corrections.Statement.{statement}
@@ -41,7 +42,7 @@ difference-is c =
 correction-requires : tie.Need-correction-requires Inv-loop μ-loop
 correction-requires c κs =
     let s = c .before .before .before .before .before .before in
-    (subst (TileMost 4095) (sym (difference-is c)) (tile-most (s .args .m) (now (s .args .vectors)) (s .pre .0 .samples-fit) _ _ _ _ _), s .pre .2 .most)
+    (subst (TileMost differenceMost) (sym (difference-is c)) (tile-most (s .args .m) (now (s .args .vectors)) (s .pre .0 .samples-fit) _ _ _ _ _), s .pre .2 .most)
 
 added-requires : tie.Need-added-requires Inv-loop μ-loop
 added-requires c κs = sum-small (c .before .before .before .before .loop .inv)

@@ -20,20 +20,20 @@ abbrev μ-loop : tie.MeasureT-loop
 loop-holds : tie.Need-loop-holds Inv-loop μ-loop
 loop-holds c = fill-start refl
 
-mul-less : tie.Need-mul-less Inv-loop μ-loop
-mul-less c = search needs
+mul-minus : tie.Need-mul-minus Inv-loop μ-loop
+mul-minus c = search needs
 
-array-read-less : tie.Need-array-read-less Inv-loop μ-loop
-array-read-less c = search needs
+array-read-minus : tie.Need-array-read-minus Inv-loop μ-loop
+array-read-minus c = search needs
 
-mul-less-2 : tie.Need-mul-less-2 Inv-loop μ-loop
-mul-less-2 c = search needs
+mul-minus-2 : tie.Need-mul-minus-2 Inv-loop μ-loop
+mul-minus-2 c = search needs
 
-array-read-less-2 : tie.Need-array-read-less-2 Inv-loop μ-loop
-array-read-less-2 c = search needs
+array-read-minus-2 : tie.Need-array-read-minus-2 Inv-loop μ-loop
+array-read-minus-2 c = search needs
 
-less-requires : tie.Need-less-requires Inv-loop μ-loop
-less-requires c κs = search needs
+minus-requires : tie.Need-minus-requires Inv-loop μ-loop
+minus-requires c κs = search needs
 
 mul-row : tie.Need-mul-row Inv-loop μ-loop
 mul-row c = search needs
@@ -49,8 +49,8 @@ loop-less c = search needs
 
 loop-again : tie.Need-loop-again Inv-loop μ-loop
 loop-again c =
-    let e : toZ w32 (ofZ w32 (c .less .result)) ≡ c .less .result = search needs in
-    fill-turn (c .before .before .loop .inv) (omega arith) (e ∙ c .less .ensures)
+    let e : toZ w32 (ofZ w32 (c .minus .result)) ≡ c .minus .result = search needs in
+    fill-turn (c .before .before .loop .inv) (omega arith) (e ∙ c .minus .ensures)
 
 returns : tie.Need-returns Inv-loop μ-loop
 returns c = fill-done (c .before .loop .inv) (omega arith)
@@ -62,11 +62,11 @@ difference-row-spec =
     Inv-loop
     μ-loop
     loop-holds
-    mul-less
-    array-read-less
-    mul-less-2
-    array-read-less-2
-    less-requires
+    mul-minus
+    array-read-minus
+    mul-minus-2
+    array-read-minus-2
+    minus-requires
     mul-row
     array-set-from-row
     add-j

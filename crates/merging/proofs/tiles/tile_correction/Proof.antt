@@ -10,6 +10,7 @@ use Rattle.sequences.specs.Grid.{grid, cell, cell-grid}
 use Rattle.geometry.specs.Read.{sampleAt}
 use Rattle.noise.specs.NoiseNumber.{tileRoot, noiseNumber}
 use Rattle.noise.specs.NoiseNumberLaws.{tile-root-cong, tile-root-bound, noise-number-bound}
+use Rattle.transform.specs.Magnitudes.{noiseMost}
 use Rattle.merging.specs.declared.Merge.{Merge}
 use Rattle.merging.specs.declared.Site.{Site}
 use Rattle.merging.specs.Recipe.{sceneOf, tileAt, referenceTile, tileNoise}
@@ -21,7 +22,7 @@ use Rattle.merging.proofs.tiles.tile_correction.Statement.{statement}
 use Rattle.merging.proofs.tiles.tile_correction.Tie as tie
 
 module _ {m : Merge} {samples : List ℕ} {vectors : List ℤ} (ok : Accepted m samples vectors) (t : Site) where
-  noise-most : tileNoise (sceneOf m samples vectors) (t .«row_parity») (t .«column_parity») (t .row) (t .column) ≤ 279105765376
+  noise-most : tileNoise (sceneOf m samples vectors) (t .«row_parity») (t .«column_parity») (t .row) (t .column) ≤ noiseMost
   unfolding tileNoise sceneOf
   noise-most = noise-number-bound (ok .strength-most) (ok .shot-most) (ok .read-most) (tile-root-bound 16 4095 _ (λ i j _ _. reference-most m vectors (ok .samples-fit) (t .«row_parity») (t .«column_parity») (t .row) (t .column) i j))
 

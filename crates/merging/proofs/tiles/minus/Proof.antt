@@ -8,8 +8,8 @@ use mir.Val.{SFits, Fits, toZ}
 use mir.Facts.{toZ-ofZ, toZ-pos}
 use borrow.Author.Needs.{needs}
 use Rattle.algebra.specs.Bound.{AtMost, sub-fits}
-use Rattle.merging.proofs.tiles.less.Statement.{statement}
-use Rattle.merging.proofs.tiles.less.Tie as tie
+use Rattle.merging.proofs.tiles.minus.Statement.{statement}
+use Rattle.merging.proofs.tiles.minus.Tie as tie
 
 most : {a : ℕ} → Fits w16 a → AtMost 65535 (pos a)
 most h = record { most = omega (arith, h .fits) }
@@ -32,5 +32,5 @@ sub-result c = fits (c .fits .a) (c .fits .b)
 returns : tie.Need-returns
 returns c = toZ-ofZ (fits (c .fits .a) (c .fits .b)) ∙ difference (c .fits .a) (c .fits .b)
 
-pub less-spec : {M : Type 1} → statement M
-less-spec = tie.close (tie.spec cast-result cast-result-2 sub-result returns)
+pub minus-spec : {M : Type 1} → statement M
+minus-spec = tie.close (tie.spec cast-result cast-result-2 sub-result returns)
