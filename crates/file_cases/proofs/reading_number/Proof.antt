@@ -1,0 +1,33 @@
+-- `reading_number`: the answer's first field is the number of what was read.
+use mathlib.Core.Path.{_≡_, refl, ap, _∙_}
+use mathlib.Core.List.{List}
+use Prim.Native.Nat.{ℕ}
+use lib.ListN.{length}
+use borrow.Author.Needs.{needs}
+use Rattle.burst_file.specs.Part.{Part, refused, found, numberOf}
+use Rattle.burst_file.specs.Grammar.{Burst}
+use Rattle.burst_file.specs.Reading.{answerOf, readingInto, FileRead}
+use Rattle.burst_file.specs.declared.FileAnswer.{FileAnswer}
+use Rattle.file_cases.proofs.reading_number.Statement.{statement}
+use Rattle.file_cases.proofs.reading_number.Tie as tie
+
+number-answered : (part : Part Burst) → answerOf part .refusal ≡ numberOf part
+number-answered (refused number) = refl
+number-answered (found burst rest) = refl
+
+number-read : {file samples : List ℕ} {answer : FileAnswer} {after : List ℕ} → FileRead file samples answer after →
+    answer .refusal ≡ numberOf (readingInto (length samples) file)
+number-read {file} {samples} done =
+    ap (λ (answer : FileAnswer). answer .refusal) (done .answered) ∙ number-answered (readingInto (length samples) file)
+
+slice-aggregate-read-file : tie.Need-slice-aggregate-read-file
+slice-aggregate-read-file c = search needs
+
+read-file-requires : tie.Need-read-file-requires
+read-file-requires c κs = search needs
+
+returns : tie.Need-returns
+returns c = number-read (c .before .read-file .ensures)
+
+pub reading-number-spec : {M : Type 1} → statement M
+reading-number-spec = tie.close (tie.spec slice-aggregate-read-file read-file-requires returns)
