@@ -1,0 +1,110 @@
+-- `stacker::merge::merge`: run's tests and 12, each returning before the first store; then the merge, and the clearing.
+use mathlib.Core.Path.{_≡_, refl, sym, ap₂, subst, _∙_}
+use Prim.Native.Nat.{_≤_}
+use borrow.Author.Needs.{needs}
+use Rattle.sequences.specs.Clear.{zeros-length}
+use Rattle.geometry.specs.RefusalLaws.{stops, goes}
+use Rattle.merging.specs.declared.Merge.{Merge}
+use Rattle.merging.specs.Recipe.{sceneOf, merged}
+use Rattle.stacker.specs.Refusals.{mergeRefusal}
+use Rattle.stacker.specs.CallLaws.{kept, made}
+use Rattle.stacker.specs.CloseLaws.{output-close}
+use Rattle.stacker.proofs.merge.merge.Statement.{statement}
+use Rattle.stacker.proofs.merge.merge.Tie as tie
+
+run-refusal-requires : tie.Need-run-refusal-requires
+run-refusal-requires c κs = search needs
+
+same-length : tie.Need-same-length
+same-length c = search needs
+
+same-length-2 : tie.Need-same-length-2
+same-length-2 c = search needs
+
+returns : tie.Need-returns
+unfolding mergeRefusal
+returns c =
+    let h = c .if1 .taken in
+    let e = stops _ (c .before .before .run-refusal .ensures .number) h in
+    record { answer = e; result = kept _ _ _ e h; clean = kept _ _ _ e h; near = λ z. absurd (h z) }
+
+vector-refusal-requires : tie.Need-vector-refusal-requires
+vector-refusal-requires c κs = search needs
+
+same-length-3 : tie.Need-same-length-3
+same-length-3 c = search needs
+
+same-length-4 : tie.Need-same-length-4
+same-length-4 c = search needs
+
+returns-2 : tie.Need-returns-2
+unfolding mergeRefusal
+returns-2 c =
+    let h = c .if2 .taken in
+    let passed = c .before .before in
+    let e = goes (passed .before .before .run-refusal .ensures .number) (passed .if1 .left) (c .before .vector-refusal .ensures .0) in
+    record { answer = e; result = kept _ _ _ e h; clean = kept _ _ _ e h; near = λ z. absurd (h z) }
+
+merge-frames-requires : tie.Need-merge-frames-requires
+merge-frames-requires c κs =
+    let lent = c .before .before in
+    let passed = lent .before .before in
+    let tested = passed .before .before .run-refusal .ensures in
+    let z = passed .if1 .left in
+    let ready = tested .passed z in (
+      record {
+        burst = ready .fits .burst;
+        samples-fit = ready .samples-fit;
+        vectors-fit = lent .before .vector-refusal .ensures .1 (lent .if2 .left);
+        shot-most = subst (λ n. n ≤ 65536) (sym (tested .shot-is z)) (ready .shot-most);
+        read-most = subst (λ n. n ≤ 4194304) (sym (tested .read-is z)) (ready .read-most);
+        strength-most = ready .strength-most;
+      },
+      ready .fits .output-long,
+      ready .fits .work-long,
+    )
+
+clear-requires : tie.Need-clear-requires
+clear-requires c κs = search needs
+
+same-length-5 : tie.Need-same-length-5
+same-length-5 c = search needs
+
+same-length-6 : tie.Need-same-length-6
+same-length-6 c = search needs
+
+returns-3 : tie.Need-returns-3
+unfolding mergeRefusal
+returns-3 c =
+    let merge = c .before .before .before .before .before .before in
+    let lent = merge .before .before .before in
+    let passed = lent .before .before in
+    let tested = passed .before .before .run-refusal .ensures in
+    let a = passed .before .before .before .before .before .before .before .args in
+    let z = passed .if1 .left in
+    let e = goes (tested .number) z (lent .before .vector-refusal .ensures .0) in
+    let is = merge .merge-frames .ensures ∙ ap₂ (λ shot read. merged (sceneOf (record { shape = a .shape; reference = a .reference; shot = shot; read = read; strength = a .tuning .strength }) (a .samples .now) (a .vectors .now))) (tested .shot-is z) (tested .read-is z) in
+    record {
+      answer = sym (lent .if2 .left) ∙ e;
+      result = made _ _ _ e (lent .if2 .left) is;
+      clean = made _ _ _ e (lent .if2 .left) (c .before .clear .ensures ∙ zeros-length _ _ (search needs));
+      near = λ _. output-close _ _ _ _ (tested .passed z .fits .burst .allowed .few) is;
+    }
+
+pub merge-spec : {M : Type 1} → statement M
+merge-spec =
+    tie.close
+    (tie.spec
+    run-refusal-requires
+    same-length
+    same-length-2
+    returns
+    vector-refusal-requires
+    same-length-3
+    same-length-4
+    returns-2
+    merge-frames-requires
+    clear-requires
+    same-length-5
+    same-length-6
+    returns-3)

@@ -1,0 +1,104 @@
+-- `stacker::run::run`: a refusal returns before the first store; else `run_levels` on the levels that the tests found.
+use mathlib.Core.Path.{_≡_, refl, sym, ap, ap₂, subst, _∙_}
+use mathlib.Core.List.{List}
+use Prim.Native.Nat.{ℕ, _≤_}
+use borrow.Author.Needs.{needs}
+use Rattle.geometry.specs.RefusalLaws.{stops, goes}
+use Rattle.geometry.specs.Bounds.{vectorRefusal}
+use Rattle.alignment.specs.Aligned.{alignedVectors, residualSums}
+use Rattle.merging.specs.Recipe.{sceneOf, merged}
+use Rattle.stacker.specs.declared.Alignment.{Alignment}
+use Rattle.stacker.specs.Buffers.{after}
+use Rattle.stacker.specs.Calls.{answered}
+use Rattle.stacker.specs.CallLaws.{kept, made, answer-refused}
+use Rattle.stacker.specs.CloseLaws.{found-close, result-made}
+use Rattle.stacker.proofs.run.run.Statement.{statement}
+use Rattle.stacker.proofs.run.run.Tie as tie
+
+run-refusal-requires : tie.Need-run-refusal-requires
+run-refusal-requires c κs = search needs
+
+same-length : tie.Need-same-length
+same-length c = search needs
+
+same-length-2 : tie.Need-same-length-2
+same-length-2 c = search needs
+
+same-length-3 : tie.Need-same-length-3
+same-length-3 c = search needs
+
+returns : tie.Need-returns
+returns c =
+    let h = c .if1 .taken in
+    let e = c .before .run-refusal .ensures .number in
+    record {
+      answer = answer-refused _ _ (stops _ e h) h;
+      found = kept _ _ _ e h;
+      result = kept _ _ _ (stops _ e h) h;
+      clean = kept _ _ _ e h;
+      near = λ z. absurd (h z);
+    }
+
+run-levels-requires : tie.Need-run-levels-requires
+run-levels-requires c κs =
+    let passed = c .before .before .before in
+    let tested = passed .before .run-refusal .ensures in
+    let z = passed .if1 .left in
+    let ready = tested .passed z in
+    record {
+      fits = ready .fits;
+      samples-fit = ready .samples-fit;
+      shot-most = subst (λ n. n ≤ 65536) (sym (tested .shot-is z)) (ready .shot-most);
+      read-most = subst (λ n. n ≤ 4194304) (sym (tested .read-is z)) (ready .read-most);
+      strength-most = ready .strength-most;
+    }
+
+same-length-4 : tie.Need-same-length-4
+same-length-4 c = search needs
+
+same-length-5 : tie.Need-same-length-5
+same-length-5 c = search needs
+
+same-length-6 : tie.Need-same-length-6
+same-length-6 c = search needs
+
+-- the number that is answered is the one beside the sums
+accepted : {r : Alignment} (number : ℕ) (sums : List ℕ) → r ≡ answered number sums → r .refusal ≡ 0 → number ≡ 0
+unfolding answered
+accepted number sums e z = sym (ap (λ r. r .refusal) e) ∙ z
+
+returns-2 : tie.Need-returns-2
+returns-2 c =
+    let ran = c .before .before .before .before in
+    let passed = ran .before .before .before .before in
+    let tested = passed .before .run-refusal .ensures in
+    let a = passed .before .before .before .before .before .before .before .args in
+    let is = ran .run-levels .ensures in
+    let e = tested .number in
+    let z = passed .if1 .left in
+    let found = alignedVectors (a .shape) (a .reference) (a .samples .now) in
+    let number = goes {b = vectorRefusal found} e z refl in
+    let result = ap₂ (λ shot read. merged (sceneOf (record { shape = a .shape; reference = a .reference; shot = shot; read = read; strength = a .tuning .strength }) (a .samples .now) found)) (tested .shot-is z) (tested .read-is z) in
+    record {
+      answer = is .answer ∙ ap (λ n. answered n (residualSums (a .shape) (a .reference) (a .samples .now))) number;
+      found = made _ _ _ e z (is .found);
+      result = is .result ∙ ap₂ (λ n l. after n (a .output .now) l) number result;
+      clean = made _ _ _ e z (is .clean);
+      near = λ h.
+          found-close _ _ _ _ _ (tested .passed z .fits .burst .allowed .few) (is .found) (result-made _ _ _ (accepted _ _ (is .answer) h) (is .result) ∙ result);
+    }
+
+pub run-spec : {M : Type 1} → statement M
+run-spec =
+    tie.close
+    (tie.spec
+    run-refusal-requires
+    same-length
+    same-length-2
+    same-length-3
+    returns
+    run-levels-requires
+    same-length-4
+    same-length-5
+    same-length-6
+    returns-2)

@@ -1,0 +1,105 @@
+-- `stacker::run::run_levels`: the vectors found are those that align defines, so refusal 12 and the merge are theirs.
+use mathlib.Core.Path.{_≡_, refl, sym, ap, _∙_}
+use native.Mathlib.Omega.{arith}
+use borrow.Author.Needs.{needs}
+use Rattle.sequences.specs.Clear.{zeros-length}
+use Rattle.geometry.specs.Bounds.{vectorRefusal}
+use Rattle.merging.specs.Recipe.{sceneOf, merged}
+use Rattle.stacker.specs.CallLaws.{kept, made, answer-refused, answer-accepted}
+use Rattle.stacker.proofs.run.run_levels.Statement.{statement}
+use Rattle.stacker.proofs.run.run_levels.Tie as tie
+
+align-frames-requires : tie.Need-align-frames-requires
+align-frames-requires c κs =
+    let ready = c .before .before .before .before .before .pre in
+    record { fits = record { burst = ready .fits .burst; work-long = ready .fits .work-long }; samples-fit = ready .samples-fit }
+
+vector-refusal-requires : tie.Need-vector-refusal-requires
+vector-refusal-requires c κs = search needs
+
+clear-requires : tie.Need-clear-requires
+clear-requires c κs = search needs
+
+same-length : tie.Need-same-length
+same-length c = search needs
+
+same-length-2 : tie.Need-same-length-2
+same-length-2 c = search needs
+
+returns : tie.Need-returns
+returns c =
+    let split = c .before .before .before in
+    let aligned = split .before .before .before .before .before .align-frames .ensures in
+    let e = split .before .vector-refusal .ensures .0 ∙ ap vectorRefusal (aligned .found) in
+    record {
+      answer = answer-refused _ _ e (split .if1 .taken);
+      found = aligned .found;
+      result = kept _ _ _ e (split .if1 .taken);
+      clean = c .before .clear .ensures ∙ zeros-length _ _ (aligned .same);
+    }
+
+merge-frames-requires : tie.Need-merge-frames-requires
+merge-frames-requires c κs =
+    let split = c .before .before .before in
+    let frames = split .before .before .before .before .before in
+    let ready = frames .before .before .before .before .before .before .pre in (
+      record {
+        burst = record {
+          allowed = ready .fits .burst .allowed;
+          reference-below = ready .fits .burst .reference-below;
+          samples-long = ready .fits .burst .samples-long;
+          vectors-long = search needs;
+        };
+        samples-fit = ready .samples-fit;
+        vectors-fit = split .before .vector-refusal .ensures .1 (split .if1 .left);
+        shot-most = ready .shot-most;
+        read-most = ready .read-most;
+        strength-most = ready .strength-most;
+      },
+      ready .fits .output-long,
+      frames .align-frames .ensures .same ∙ ready .fits .work-long,
+    )
+
+clear-requires-2 : tie.Need-clear-requires-2
+clear-requires-2 c κs = search needs
+
+same-length-3 : tie.Need-same-length-3
+same-length-3 c = search needs
+
+same-length-4 : tie.Need-same-length-4
+same-length-4 c = search needs
+
+same-length-5 : tie.Need-same-length-5
+same-length-5 c = search needs
+
+returns-2 : tie.Need-returns-2
+returns-2 c =
+    let merge = c .before .before .before .before .before .before in
+    let split = merge .before .before .before .before in
+    let aligned = split .before .before .before .before .before .align-frames .ensures in
+    let e = split .before .vector-refusal .ensures .0 ∙ ap vectorRefusal (aligned .found) in
+    let z = split .if1 .left in
+    let a = split .before .before .before .before .before .before .before .before .before .before .before .args in
+    record {
+      answer = answer-accepted _ _ e z (aligned .sums-are);
+      found = aligned .found;
+      result = made _ _ _ e z (merge .merge-frames .ensures ∙ ap (λ v. merged (sceneOf (a .m) (a .samples .now) v)) (aligned .found));
+      clean = c .before .clear2 .ensures ∙ zeros-length _ _ (search needs);
+    }
+
+pub run-levels-spec : {M : Type 1} → statement M
+run-levels-spec =
+    tie.close
+    (tie.spec
+    align-frames-requires
+    vector-refusal-requires
+    clear-requires
+    same-length
+    same-length-2
+    returns
+    merge-frames-requires
+    clear-requires-2
+    same-length-3
+    same-length-4
+    same-length-5
+    returns-2)

@@ -1,0 +1,57 @@
+-- What each call answers, and what it leaves in every lent buffer. Samples, and merge's vectors, are only read.
+use mathlib.Core.Path.{_≡_}
+use mathlib.Core.List.{List}
+use Prim.Native.Nat.{ℕ, _*_, _/_, _%_, _<_}
+use lib.IntN.{ℤ, pos}
+use lib.ListN.{getD}
+use Rattle.algebra.specs.Fraction.{whole, Within}
+use Rattle.sequences.specs.Clear.{zeros}
+use Rattle.geometry.specs.declared.Shape.{Shape}
+use Rattle.geometry.specs.Refusal.{_before_}
+use Rattle.geometry.specs.Bounds.{vectorRefusal}
+use Rattle.noise.specs.declared.Noise.{Noise}
+use Rattle.alignment.specs.Aligned.{alignedVectors, residualSums}
+use Rattle.merging.specs.declared.Merge.{Merge}
+use Rattle.merging.specs.Recipe.{Scene, sceneOf, merged}
+use Rattle.merging.specs.Exact.{exactAt}
+use Rattle.stacker.specs.declared.Alignment.{Alignment}
+use Rattle.stacker.specs.declared.Tuning.{Tuning}
+use Rattle.stacker.specs.Buffers.{after, noSums}
+use Rattle.stacker.specs.Refusals.{alignRefusal, runRefusal, mergeRefusal, mergeOf}
+
+-- "Align, and so run, also returns, per other frame in that order, the sum of finest residuals": the answer beside a number
+unfoldable pub answered : (number : ℕ) (sums : List ℕ) → Alignment
+answered number sums = record { refusal = number; residuals = after number noSums sums }
+
+-- Demand 3: "every sample of the merged frame differs by at most five eighths of one sample step from the sample at the same place in the exact HDR+ merge"
+pub record Close (scene : Scene) (output : List ℕ) : Type 0 where
+  pub close : (k : ℕ) → k < scene .width * scene .height → Within 5 8 (whole (pos (getD output k 0))) (exactAt scene (k / scene .width) (k % scene .width))
+
+-- align: "burst to vectors"
+pub record Aligned (s : Shape) (reference : ℕ) (samples : List ℕ) (vectors vectors′ work work′ : List ℤ) (r : Alignment) : Type 0 where
+  pub answer : r ≡ answered (alignRefusal s reference samples vectors work) (residualSums s reference samples)
+  pub found : vectors′ ≡ after (alignRefusal s reference samples vectors work) vectors (alignedVectors s reference samples)
+  pub clean : work′ ≡ after (alignRefusal s reference samples vectors work) work (zeros work)
+
+-- merge: "burst and lent vectors to output"
+pub record Merged (s : Shape) (reference : ℕ) (noise : Noise) (tuning : Tuning) (samples : List ℕ) (vectors : List ℤ) (output output′ : List ℕ) (work work′ : List ℤ) (number : ℕ) : Type 0 where
+  pub answer : number ≡ mergeRefusal s reference noise tuning samples vectors output work
+  pub result : output′ ≡ after (mergeRefusal s reference noise tuning samples vectors output work) output (merged (sceneOf (mergeOf s reference noise tuning) samples vectors))
+  pub clean : work′ ≡ after (mergeRefusal s reference noise tuning samples vectors output work) work (zeros work)
+  pub near : number ≡ 0 → Close (sceneOf (mergeOf s reference noise tuning) samples vectors) output′
+
+-- what run does from the levels on: "align, then merge; it also tests the vectors it found by refusal 12, and after that refusal alone the vectors stay
+-- as found, output as it was and work zeroed"
+pub record RanLevels (m : Merge) (samples : List ℕ) (vectors′ : List ℤ) (output output′ : List ℕ) (work work′ : List ℤ) (r : Alignment) : Type 0 where
+  pub answer : r ≡ answered (vectorRefusal (alignedVectors (m .shape) (m .reference) samples)) (residualSums (m .shape) (m .reference) samples)
+  pub found : vectors′ ≡ alignedVectors (m .shape) (m .reference) samples
+  pub result : output′ ≡ after (vectorRefusal (alignedVectors (m .shape) (m .reference) samples)) output (merged (sceneOf m samples (alignedVectors (m .shape) (m .reference) samples)))
+  pub clean : work′ ≡ zeros work
+
+-- run: its tests 1 to 11, then the same
+pub record Ran (s : Shape) (reference : ℕ) (noise : Noise) (tuning : Tuning) (samples : List ℕ) (vectors vectors′ : List ℤ) (output output′ : List ℕ) (work work′ : List ℤ) (r : Alignment) : Type 0 where
+  pub answer : r ≡ answered (runRefusal s reference noise tuning samples vectors output work before vectorRefusal (alignedVectors s reference samples)) (residualSums s reference samples)
+  pub found : vectors′ ≡ after (runRefusal s reference noise tuning samples vectors output work) vectors (alignedVectors s reference samples)
+  pub result : output′ ≡ after (runRefusal s reference noise tuning samples vectors output work before vectorRefusal (alignedVectors s reference samples)) output (merged (sceneOf (mergeOf s reference noise tuning) samples (alignedVectors s reference samples)))
+  pub clean : work′ ≡ after (runRefusal s reference noise tuning samples vectors output work) work (zeros work)
+  pub near : r .refusal ≡ 0 → Close (sceneOf (mergeOf s reference noise tuning) samples vectors′) output′

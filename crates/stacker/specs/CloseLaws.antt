@@ -1,0 +1,37 @@
+-- Demand 3 at the calls: an output that is the merge is close to the exact merge.
+use mathlib.Core.Path.{_≡_, refl, sym, ap, ap₂, subst, _∙_}
+use mathlib.Core.List.{List}
+use Prim.Native.Nat.{ℕ, zero, suc, _-_, _/_, _%_, _≤_}
+use native.Mathlib.Omega.{arith}
+use lib.IntN.{ℤ, pos}
+use lib.ListN.{getD}
+use Rattle.algebra.specs.Fraction.{whole, Within}
+use Rattle.merging.specs.declared.Merge.{Merge}
+use Rattle.merging.specs.Recipe.{sceneOf, merged}
+use Rattle.merging.specs.Exact.{exactAt}
+use Rattle.merging.specs.Closeness.{merged-close}
+use Rattle.stacker.specs.Buffers.{after}
+use Rattle.stacker.specs.Calls.{Close}
+
+few : (m : Merge) (samples : List ℕ) (vectors : List ℤ) → m .shape .count ≤ 8 → sceneOf m samples vectors .others ≤ 7
+unfolding sceneOf
+few m samples vectors h = omega arith
+
+pub output-close : (m : Merge) (samples : List ℕ) (vectors : List ℤ) (output : List ℕ) → m .shape .count ≤ 8 →
+    output ≡ merged (sceneOf m samples vectors) → Close (sceneOf m samples vectors) output
+output-close m samples vectors output h e =
+    let scene = sceneOf m samples vectors in
+    record {
+      close = λ k l. subst (λ o. Within 5 8 (whole (pos (getD o k 0))) (exactAt scene (k / scene .width) (k % scene .width))) (sym e) (merged-close scene (few m samples vectors h) k l);
+    }
+
+-- the same with the vectors as a buffer holds them
+pub found-close : (m : Merge) (samples : List ℕ) (vectors held : List ℤ) (output : List ℕ) → m .shape .count ≤ 8 →
+    held ≡ vectors → output ≡ merged (sceneOf m samples vectors) → Close (sceneOf m samples held) output
+found-close m samples vectors held output h v e = output-close m samples held output h (e ∙ ap (λ l. merged (sceneOf m samples l)) (sym v))
+
+-- what acceptance leaves
+pub result-made : {A : Type 0} (number : ℕ) (held result : A) {x : A} → number ≡ 0 → x ≡ after number held result → x ≡ result
+unfolding after
+result-made zero held result z e = e
+result-made (suc n) held result z e = absurd (omega arith)

@@ -1,0 +1,36 @@
+// Align: a burst to its vectors.
+ghost use Rattle.stacker.specs.Calls.{Aligned};
+use crate::Alignment;
+use crate::tests::align_refusal;
+use crate::tests::clear;
+use geometry::Shape;
+
+pub fn align(
+    shape: Shape,
+    reference: usize,
+    samples: &[u16],
+    vectors: &mut [i32],
+    work: &mut [i64],
+) -> Alignment
+    ensures { λ r. ⌜ Aligned shape reference (now (samples .entry)) (now (vectors .entry)) (now (vectors .exit)) (now (work .entry)) (now (work .exit)) r ⌝ }
+{
+    let refusal = align_refusal(shape, reference, samples, &*vectors, &*work);
+    if refusal != 0 {
+        return Alignment {
+            refusal,
+            residuals: [0u64; 7],
+        };
+    }
+    let residuals = alignment::burst::align_frames(
+        shape,
+        reference,
+        samples,
+        &mut *vectors,
+        &mut *work,
+    );
+    clear(&mut *work);
+    Alignment {
+        refusal: 0,
+        residuals,
+    }
+}

@@ -1,0 +1,17 @@
+// The calls: each tests what it is lent in the order of the refusals' numbers, works, and clears the work area. None has a `requires`.
+pub mod align;
+pub mod merge;
+pub mod run;
+pub mod tests;
+
+// What align and run answer: the refusal's number, or 0 and per other frame, in rising index, its sum of finest residuals; unused places are 0.
+#[repr(C)]
+pub struct Alignment {
+    pub refusal: u64,
+    pub residuals: [u64; 7],
+}
+
+// What tunes the merge: the strength counts eighths of the source's tau.
+pub struct Tuning {
+    pub strength: u64,
+}

@@ -1,0 +1,49 @@
+// Merge: a burst and lent vectors to the output.
+ghost use Rattle.stacker.specs.Calls.{Merged};
+use crate::Tuning;
+use crate::tests::clear;
+use crate::tests::run_refusal;
+use geometry::Shape;
+use merging::Merge;
+use noise::Noise;
+
+pub fn merge(
+    shape: Shape,
+    reference: usize,
+    noise: Noise,
+    tuning: Tuning,
+    samples: &[u16],
+    vectors: &[i32],
+    output: &mut [u16],
+    work: &mut [i64],
+) -> u64
+    ensures { λ r. ⌜ Merged shape reference noise tuning (now (samples .entry)) (now (vectors .entry)) (now (output .entry)) (now (output .exit)) (now (work .entry)) (now (work .exit)) r ⌝ }
+{
+    let tested = run_refusal(
+        shape,
+        reference,
+        noise,
+        tuning,
+        samples,
+        vectors,
+        &*output,
+        &*work,
+    );
+    if tested.refusal != 0 {
+        return tested.refusal;
+    }
+    let lent = geometry::bounds::vector_refusal(vectors);
+    if lent != 0 {
+        return lent;
+    }
+    let m = Merge {
+        shape,
+        reference,
+        shot: tested.shot,
+        read: tested.read,
+        strength: tuning.strength,
+    };
+    merging::merge_frames(m, samples, vectors, &mut *output, &mut *work);
+    clear(&mut *work);
+    0
+}
