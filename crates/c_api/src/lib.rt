@@ -1,5 +1,4 @@
 // The calls for C and Rust: numbers as themselves, a buffer as a pointer and its length. Each has the statement of the call behind it.
-ghost use mathlib.Core.Path.{_≡_};
 ghost use Rattle.burst_file.specs.Reading.{FileRead};
 ghost use Rattle.stacker.specs.Calls.{Aligned, Merged, Ran};
 ghost use Rattle.c_api.specs.Parameters.{shaped, measured, atIso, tuned};
@@ -18,16 +17,6 @@ pub extern "C" fn stacker_read_file(file: &[u8], samples: &mut [u16]) -> FileAns
     burst_file::read_file(file, &mut *samples)
 }
 
-fn shape_of(width: u64, height: u64, count: u64) -> Shape
-    ensures { λ r. ⌜ r ≡ shaped width height count ⌝ }
-{
-    Shape {
-        width: width as usize,
-        height: height as usize,
-        count: count as usize,
-    }
-}
-
 // A burst to its vectors.
 #[no_mangle]
 pub extern "C" fn stacker_align(
@@ -41,7 +30,11 @@ pub extern "C" fn stacker_align(
 ) -> Alignment
     ensures { λ r. ⌜ Aligned (shaped width height count) reference (now (samples .entry)) (now (vectors .entry)) (now (vectors .exit)) (now (work .entry)) (now (work .exit)) r ⌝ }
 {
-    let shape = shape_of(width, height, count);
+    let shape = Shape {
+        width: width as usize,
+        height: height as usize,
+        count: count as usize,
+    };
     stacker::align::align(
         shape,
         reference as usize,
@@ -68,7 +61,11 @@ pub extern "C" fn stacker_merge(
 ) -> u64
     ensures { λ r. ⌜ Merged (shaped width height count) reference (measured shot read) (tuned strength) (now (samples .entry)) (now (vectors .entry)) (now (output .entry)) (now (output .exit)) (now (work .entry)) (now (work .exit)) r ⌝ }
 {
-    let shape = shape_of(width, height, count);
+    let shape = Shape {
+        width: width as usize,
+        height: height as usize,
+        count: count as usize,
+    };
     let noise = Noise::Measured(Curve { shot, read });
     let tuning = Tuning { strength };
     stacker::merge::merge(
@@ -101,7 +98,11 @@ pub extern "C" fn stacker_merge_iso(
 ) -> u64
     ensures { λ r. ⌜ Merged (shaped width height count) reference (atIso iso shot read) (tuned strength) (now (samples .entry)) (now (vectors .entry)) (now (output .entry)) (now (output .exit)) (now (work .entry)) (now (work .exit)) r ⌝ }
 {
-    let shape = shape_of(width, height, count);
+    let shape = Shape {
+        width: width as usize,
+        height: height as usize,
+        count: count as usize,
+    };
     let base = Curve { shot, read };
     let noise = Noise::Iso { iso, base };
     let tuning = Tuning { strength };
@@ -134,7 +135,11 @@ pub extern "C" fn stacker_run(
 ) -> Alignment
     ensures { λ r. ⌜ Ran (shaped width height count) reference (measured shot read) (tuned strength) (now (samples .entry)) (now (vectors .entry)) (now (vectors .exit)) (now (output .entry)) (now (output .exit)) (now (work .entry)) (now (work .exit)) r ⌝ }
 {
-    let shape = shape_of(width, height, count);
+    let shape = Shape {
+        width: width as usize,
+        height: height as usize,
+        count: count as usize,
+    };
     let noise = Noise::Measured(Curve { shot, read });
     let tuning = Tuning { strength };
     stacker::run::run(
@@ -167,7 +172,11 @@ pub extern "C" fn stacker_run_iso(
 ) -> Alignment
     ensures { λ r. ⌜ Ran (shaped width height count) reference (atIso iso shot read) (tuned strength) (now (samples .entry)) (now (vectors .entry)) (now (vectors .exit)) (now (output .entry)) (now (output .exit)) (now (work .entry)) (now (work .exit)) r ⌝ }
 {
-    let shape = shape_of(width, height, count);
+    let shape = Shape {
+        width: width as usize,
+        height: height as usize,
+        count: count as usize,
+    };
     let base = Curve { shot, read };
     let noise = Noise::Iso { iso, base };
     let tuning = Tuning { strength };
