@@ -1,20 +1,16 @@
 -- Demand 3: each word of the output lies within five eighths of the exact merge's sample at its place.
 use mathlib.Core.Path.{_≡_, sym, _∙_, ap, subst}
-use mathlib.Core.List.{List}
 use Prim.Native.Nat.{ℕ, _*_, _/_, _%_, _≤_, _<_}
 use native.Mathlib.Omega.{arith}
-use lib.IntN.{ℤ, pos, natAbs}
+use lib.IntN.{pos, natAbs}
 use lib.ListN.{getD}
 use Rattle.algebra.specs.Order.{abs-nonneg, zarith}
 use Rattle.algebra.specs.Clamp.{clamp-low}
 use Rattle.algebra.specs.Fraction.{whole, Within}
-use Rattle.geometry.specs.Shape.{outputLength}
 use Rattle.sequences.specs.Tab.{getD-tab}
 use Rattle.closeness.specs.Output.{outputSample}
 use Rattle.closeness.specs.Side16.{five-eighths}
-use Rattle.merging.specs.declared.Merge.{Merge}
-use Rattle.merging.specs.Accepted.{Accepted}
-use Rattle.merging.specs.Recipe.{Scene, sceneOf, planeOutput, outputAt, wordAt, merged}
+use Rattle.merging.specs.Recipe.{Scene, planeOutput, outputAt, wordAt, merged}
 use Rattle.merging.specs.Exact.{planeExact, exactAt}
 
 -- up to seven other frames
@@ -34,9 +30,3 @@ module _ (s : Scene) (few : s .others ≤ 7) where
       let row = k / s .width in
       let column = k % s .width in
       subst (λ z. Within 5 8 (whole z) (exactAt s row column)) (sym (ap pos (getD-tab _ 0 (s .width * s .height) k h) ∙ word-is row column)) (output-close row column)
-
--- every accepted burst, reference, strength, noise and accepted vectors
-pub accepted-close : {m : Merge} {samples : List ℕ} {vectors : List ℤ} → Accepted m samples vectors → (k : ℕ) → k < outputLength (m .shape)
-    → Within 5 8 (whole (pos (getD (merged (sceneOf m samples vectors)) k 0))) (exactAt (sceneOf m samples vectors) (k / m .shape .width) (k % m .shape .width))
-unfolding sceneOf outputLength
-accepted-close {m} {samples} {vectors} ok k h = merged-close (sceneOf m samples vectors) (omega (arith, ok .burst .allowed .few)) k h

@@ -9,7 +9,7 @@ ghost use Rattle.sequences.specs.Grid.{grid, cell};
 ghost use Rattle.geometry.specs.Shape.{Allowed, vectorLength};
 ghost use Rattle.geometry.specs.Read.{Sampled, sampleAt};
 ghost use Rattle.geometry.specs.Tiles.{origin};
-ghost use Rattle.geometry.specs.Vectors.{otherFrame, vectorPlace};
+ghost use Rattle.geometry.specs.Vectors.{vectorPlace};
 ghost use Rattle.plane_view.specs.View.{Near};
 ghost use Rattle.noise.specs.NoiseNumber.{tileRoot, noiseNumber};
 ghost use Rattle.transform.specs.Lines.{LineMost, TileMost};
@@ -19,6 +19,7 @@ ghost use Rattle.merging.specs.Accepted.{Accepted, Sited};
 use crate::Merge;
 use crate::Site;
 use geometry::Shape;
+use geometry::vectors::other_frame;
 
 fn minus(a: u16, b: u16) -> i32
     ensures { λ r. ⌜ r ≡ pos a -ℤ pos b ⌝ }
@@ -78,14 +79,6 @@ fn tile(
         y,
         x,
     )
-}
-
-// The frame that is the k-th beside the reference.
-fn other_frame(reference: usize, k: usize) -> usize
-    requires { ⌜ k < 8 ⌝ }
-    ensures { λ r. ⌜ (r ≡ otherFrame reference k) × (r ≤ k + 1) ⌝ }
-{
-    if k < reference { k } else { k + 1 }
 }
 
 // Where the vector of a tile stands, for the k-th other frame.
