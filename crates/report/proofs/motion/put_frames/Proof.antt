@@ -1,0 +1,126 @@
+-- `report::motion::put_frames`: the lines so far are those of the frames passed.
+use mathlib.Core.Path.{_≡_, refl, sym, ap, _∙_}
+use mathlib.Core.List.{List, _++_}
+use Prim.Native.Nat.{ℕ, _+_, _-_, _*_, _≤_}
+use native.Mathlib.Numerals.{add-one}
+use native.Mathlib.Omega.{arith}
+use lib.IntN.{ℤ}
+use lib.ListN.{length, getD, take, drop}
+use borrow.Author.Needs.{needs}
+use Rattle.geometry.specs.Vectors.{otherFrame}
+use Rattle.printing.specs.Put.{Printed}
+use Rattle.printing.specs.PutLaws.{printed-none, printed-then}
+use Rattle.report.specs.Motion.{partsOf, frameLine, frameLines}
+use Rattle.report.proofs.motion.put_frames.Statement.{statement}
+use Rattle.report.proofs.motion.put_frames.Tie as tie
+
+-- the lines of the first k frames are printed
+record Lined (before : List ℕ) (at reference : ℕ) (vectors : List ℤ) (sums : List ℕ) (others k : ℕ) (after : List ℕ) (next : ℕ) : Type 0 where
+  count : k ≤ others
+  bound : next ≤ at + 105 * k
+  printed : Printed before at (frameLines reference 50 vectors sums k) after next
+
+parts : (vectors : List ℤ) (k : ℕ) → take (50 * k + 50 - 50 * k) (drop (50 * k) vectors) ≡ partsOf 50 vectors k
+unfolding partsOf
+parts vectors k =
+    let count : 50 * k + 50 - 50 * k ≡ 50 = omega arith in
+    let from : 50 * k ≡ k * 50 = omega arith in
+    rw (count, from)
+
+module _ (reference : ℕ) (vectors : List ℤ) (sums : List ℕ) where
+  next-line : (k : ℕ) {frame : ℕ} → frame ≡ otherFrame reference k →
+      frameLines reference 50 vectors sums k ++ frameLine frame (take (50 * k + 50 - 50 * k) (drop (50 * k) vectors)) (getD sums k 0)
+      ≡ frameLines reference 50 vectors sums (k + 1)
+  unfolding frameLines
+  next-line k e = rw (add-one, parts vectors k, e)
+
+abbrev Inv-loop : tie.InvT-loop
+Inv-loop text₀ at reference vectors others residuals next₀ k₀ text next k = Lined text₀ at reference vectors residuals others k text next
+
+abbrev μ-loop : tie.MeasureT-loop
+μ-loop text₀ at reference vectors others residuals next₀ k₀ text next k = others - k
+
+loop-holds : tie.Need-loop-holds Inv-loop μ-loop
+unfolding frameLines
+loop-holds c = record { count = omega arith; bound = omega arith; printed = printed-none }
+
+mul-from : tie.Need-mul-from Inv-loop μ-loop
+mul-from c = search needs
+
+add-end : tie.Need-add-end Inv-loop μ-loop
+add-end c = search needs
+
+other-frame-requires : tie.Need-other-frame-requires Inv-loop μ-loop
+other-frame-requires c κs = search needs
+
+mul-put-frame : tie.Need-mul-put-frame Inv-loop μ-loop
+mul-put-frame c = search needs
+
+sub-put-frame : tie.Need-sub-put-frame Inv-loop μ-loop
+sub-put-frame c = search needs
+
+part-put-frame-start : tie.Need-part-put-frame-start Inv-loop μ-loop
+part-put-frame-start c = search needs
+
+part-put-frame-end : tie.Need-part-put-frame-end Inv-loop μ-loop
+part-put-frame-end c = search needs
+
+mul-put-frame-2 : tie.Need-mul-put-frame-2 Inv-loop μ-loop
+mul-put-frame-2 c = search needs
+
+array-read-put-frame : tie.Need-array-read-put-frame Inv-loop μ-loop
+array-read-put-frame c = search needs
+
+put-frame-requires : tie.Need-put-frame-requires Inv-loop μ-loop
+put-frame-requires c κs = search needs
+
+add-k : tie.Need-add-k Inv-loop μ-loop
+add-k c = search needs
+
+loop-less : tie.Need-loop-less Inv-loop μ-loop
+loop-less c = search needs
+
+loop-again : tie.Need-loop-again Inv-loop μ-loop
+loop-again c =
+    let printed = c .before .before .put-frame .ensures in
+    let turn = c .before .before .before .before .before .before .before in
+    let a = turn .before .before .args in
+    let lined = turn .loop .inv in
+    let k = turn .loop .k in
+    record {
+      count = omega arith;
+      bound = omega arith;
+      printed = rw (next-line (a .reference) (a .vectors .now) (a .t5) k (c .before .before .before .before .before .other-frame .ensures)) at (printed-then (omega arith) (lined .printed) (printed .0));
+    }
+
+same-length : tie.Need-same-length Inv-loop μ-loop
+same-length c = search needs
+
+returns : tie.Need-returns Inv-loop μ-loop
+returns c =
+    let lined = c .before .loop .inv in
+    let all : c .before .loop .k ≡ c .before .before .before .args .others = omega arith in
+    rw all at (lined .printed)
+
+pub put-frames-spec : {M : Type 1} → statement M
+put-frames-spec =
+    tie.close
+    (tie.spec
+    Inv-loop
+    μ-loop
+    loop-holds
+    mul-from
+    add-end
+    other-frame-requires
+    mul-put-frame
+    sub-put-frame
+    part-put-frame-start
+    part-put-frame-end
+    mul-put-frame-2
+    array-read-put-frame
+    put-frame-requires
+    add-k
+    loop-less
+    loop-again
+    same-length
+    returns)

@@ -1,0 +1,5 @@
+pub mod Tallies
+pub mod Program
+pub mod Opening
+pub mod Motion
+pub mod Stack

@@ -1,0 +1,50 @@
+-- Document 01, "The program `motion` prints one line per other frame".
+use mathlib.Core.Path.{_≡_}
+use mathlib.Core.List.{List, [], _∷_, _++_}
+use Prim.Native.Nat.{ℕ, zero, suc, _+_, _-_, _*_, _/_}
+use lib.IntN.{ℤ}
+use lib.ListN.{length, getD, take, drop}
+use Rattle.geometry.specs.declared.Shape.{Shape}
+use Rattle.geometry.specs.Vectors.{otherFrame}
+use Rattle.alignment.specs.Aligned.{alignedVectors, residualSums}
+use Rattle.burst_file.specs.declared.Header.{Header}
+use Rattle.burst_file.specs.Grammar.{Burst}
+use Rattle.printing.specs.Lines.{motionNames, numberLine}
+use Rattle.report.specs.Tallies.{tiles, stillTiles, farthest}
+use Rattle.report.specs.Program.{programText}
+
+-- "2·(W/16+1)·(H/16+1)": the vector parts of one other frame
+abbrev pub frameParts : Shape → ℕ
+frameParts s = 2 * ((s .width / 16 + 1) * (s .height / 16 + 1))
+
+-- "For each other frame in rising index": the parts of the k-th of them
+unfoldable pub partsOf : (count : ℕ) → List ℤ → (k : ℕ) → List ℤ
+partsOf count vectors k = take count (drop (k * count) vectors)
+
+-- "frame index; its tiles; tiles with vector 0,0; greatest absolute part; sum of finest residuals"
+unfoldable pub frameLine : (frame : ℕ) (parts : List ℤ) (residual : ℕ) → List ℕ
+frameLine frame parts residual = numberLine (frame ∷ tiles parts ∷ stillTiles parts ∷ farthest parts ∷ residual ∷ [])
+
+-- "one line per other frame": those of the first n, each with `count` parts
+unfoldable pub frameLines : (reference count : ℕ) (vectors : List ℤ) (sums : List ℕ) (n : ℕ) → List ℕ
+frameLines reference count vectors sums zero = []
+frameLines reference count vectors sums (suc n) =
+    frameLines reference count vectors sums n ++ frameLine (otherFrame reference n) (partsOf count vectors n) (getD sums n 0)
+
+-- the first of the lent vectors are those of the burst's alignment, beside its sums of finest residuals
+pub record AlignedAs (header : Header) (samples : List ℕ) (vectors : List ℤ) (sums : List ℕ) : Type 0 where
+  pub found : take (50 * (header .shape .count - 1)) vectors ≡ alignedVectors (header .shape) (header .reference) samples
+  pub residuals : sums ≡ residualSums (header .shape) (header .reference) samples
+  pub same : length vectors ≡ 350
+
+-- what `motion` prints for a burst: the names, and the lines of its alignment
+unfoldable pub motionOf : Burst → List ℕ
+motionOf burst =
+    let shape = burst .header .shape in
+    let reference = burst .header .reference in
+    motionNames
+    ++ frameLines reference (frameParts shape) (alignedVectors shape reference (burst .samples)) (residualSums shape reference (burst .samples)) (shape .count - 1)
+
+-- what it prints for a file
+abbrev pub motionText : List ℕ → List ℕ
+motionText file = programText motionOf file

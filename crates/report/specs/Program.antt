@@ -1,0 +1,29 @@
+-- Document 01, "Both programs [..] take files up to 65536 bytes with W = H = 64": what a program prints for a file, by what it prints for the burst in it.
+use mathlib.Core.Bool.{Bool, cond, _&&_}
+use mathlib.Core.List.{List}
+use Prim.Native.Nat.{ℕ}
+use lib.Dec.{eqb, ltb}
+use lib.ListN.{length}
+use Rattle.geometry.specs.declared.Shape.{Shape}
+use Rattle.burst_file.specs.Grammar.{Burst}
+use Rattle.burst_file.specs.Part.{Part, refused, found}
+use Rattle.burst_file.specs.Reading.{reading}
+use Rattle.printing.specs.Lines.{tooLarge, refusal}
+
+-- "with W = H = 64"
+unfoldable pub taken : Shape → Bool
+taken shape = eqb (shape .width) 64 && eqb (shape .height) 64
+
+-- the file check
+abbrev pub checked : List ℕ → Part Burst
+checked file = reading (λ shape. 0) file
+
+module _ (printed : Burst → List ℕ) where
+  -- "A refusal prints `refused`, a space, its number, LF"; "an accepted one of another size, prints only `too large`, LF"
+  unfoldable pub answerText : Part Burst → List ℕ
+  answerText (refused number) = refusal number
+  answerText (found burst rest) = cond (taken (burst .header .shape)) (printed burst) tooLarge
+
+  -- "a longer file [..] prints only `too large`, LF"
+  unfoldable pub programText : List ℕ → List ℕ
+  programText file = cond (ltb 65536 (length file)) tooLarge (answerText (checked file))

@@ -1,0 +1,131 @@
+// What `motion` prints.
+ghost use mathlib.Core.Path.{_≡_};
+ghost use Prim.Native.Nat.{_+_, _*_, _<_, _≤_};
+ghost use lib.ListN.{length};
+ghost use Rattle.geometry.specs.Vectors.{otherFrame};
+ghost use Rattle.printing.specs.Put.{Printed};
+ghost use Rattle.report.specs.Opening.{room, burstOf, Taken};
+ghost use Rattle.report.specs.Motion.{frameLine, frameLines, AlignedAs, motionOf, motionText};
+use crate::opening::Opened;
+use crate::opening::open_file;
+use crate::tallies::farthest;
+use crate::tallies::still_tiles;
+use alignment::align_frames;
+use burst_file::Header;
+use printing::fixed::put_motion_names;
+use printing::fixed::put_refusal;
+use printing::fixed::put_too_large;
+use printing::lines::put_numbers;
+
+// The frame that is the k-th beside the reference.
+fn other_frame(reference: usize, k: usize) -> usize
+    requires { ⌜ k < 7 ⌝ }
+    ensures { λ r. ⌜ r ≡ otherFrame reference k ⌝ }
+{
+    if k < reference { k } else { k + 1 }
+}
+
+// The line of one frame.
+fn put_frame(text: &mut [u8], at: usize, frame: usize, vectors: &[i32], residual: u64) -> usize
+    requires { ⌜ at + 105 ≤ length (now text) ⌝ }
+    ensures { λ r. ⌜ (Printed (now (text .entry)) at (frameLine frame (now (vectors .entry)) residual) (now (text .exit)) r) × (r ≤ at + 105) ⌝ }
+{
+    let line = [
+        frame as u64,
+        (vectors.len() / 2) as u64,
+        still_tiles(vectors),
+        farthest(vectors),
+        residual,
+    ];
+    put_numbers(text, at, &line)
+}
+
+// The lines of all other frames, each with 25 vectors.
+fn put_frames(
+    text: &mut [u8],
+    at: usize,
+    reference: usize,
+    vectors: &[i32],
+    residuals: [u64; 7],
+    others: usize,
+) -> usize
+    requires { ⌜ (others ≤ 7) × (50 * others ≤ length (now vectors)) × (at + 735 ≤ length (now text)) ⌝ }
+    ensures { λ r. ⌜ Printed (now (text .entry)) at (frameLines reference 50 (now (vectors .entry)) residuals others) (now (text .exit)) r ⌝ }
+{
+    let mut next = at;
+    for k in 0..others {
+        let from = 50 * k;
+        let end = from + 50;
+        let frame = other_frame(reference, k);
+        next = put_frame(&mut *text, next, frame, &vectors[from..end], residuals[k]);
+    }
+    next
+}
+
+// The vectors and the sums of finest residuals, by what align does once its tests have passed: the file check has made them.
+fn align_burst(header: Header, samples: &[u16], vectors: &mut [i32], work: &mut [i64]) -> [u64; 7]
+    requires { ⌜ (Taken header (now samples)) × (length (now vectors) ≡ 350) × (length (now work) ≡ 8192) ⌝ }
+    ensures { λ r. ⌜ AlignedAs header (now (samples .entry)) (now (vectors .exit)) r ⌝ }
+{
+    let shape = header.shape;
+    let end = 50 * (shape.count - 1);
+    align_frames(shape, header.reference, samples, &mut vectors[..end], work)
+}
+
+fn put_aligned(
+    text: &mut [u8],
+    header: Header,
+    samples: &[u16],
+    vectors: &mut [i32],
+    work: &mut [i64],
+) -> usize
+    requires { ⌜ (Taken header (now samples)) × (length (now vectors) ≡ 350) × (length (now work) ≡ 8192) × (1024 ≤ length (now text)) ⌝ }
+    ensures { λ r. ⌜ Printed (now (text .entry)) 0 (motionOf (burstOf header (now (samples .entry)))) (now (text .exit)) r ⌝ }
+{
+    let residuals = align_burst(header, samples, &mut *vectors, work);
+    let next = put_motion_names(&mut *text, 0);
+    let shape = header.shape;
+    let others = shape.count - 1;
+    let end = 50 * others;
+    put_frames(
+        text,
+        next,
+        header.reference,
+        &vectors[..end],
+        residuals,
+        others,
+    )
+}
+
+fn put_motion(text: &mut [u8], header: Header, samples: &[u16]) -> usize
+    requires { ⌜ (Taken header (now samples)) × (1024 ≤ length (now text)) ⌝ }
+    ensures { λ r. ⌜ Printed (now (text .entry)) 0 (motionOf (burstOf header (now (samples .entry)))) (now (text .exit)) r ⌝ }
+{
+    let mut vectors = [0i32; 350];
+    let mut work = [0i64; 8192];
+    put_aligned(text, header, samples, &mut vectors, &mut work)
+}
+
+fn put_file(file: &[u8], samples: &mut [u16], text: &mut [u8]) -> usize
+    requires { ⌜ (length (now samples) ≡ room 8) × (1024 ≤ length (now text)) ⌝ }
+    ensures { λ r. ⌜ Printed (now (text .entry)) 0 (motionText (now (file .entry))) (now (text .exit)) r ⌝ }
+{
+    match open_file(file, &mut *samples) {
+        Opened::TooLarge => put_too_large(text, 0),
+        Opened::Refused { number } => put_refusal(text, 0, number),
+        Opened::Taken { header } => {
+            let shape = header.shape;
+            let end = shape.count * 4096;
+            put_motion(text, header, &samples[..end])
+        }
+    }
+}
+
+// What `motion` prints for a file, from the front of the text on: the number of its bytes.
+pub fn motion_text(file: &[u8], text: &mut [u8]) -> usize
+    requires { ⌜ 1024 ≤ length (now text) ⌝ }
+    ensures { λ r. ⌜ Printed (now (text .entry)) 0 (motionText (now (file .entry))) (now (text .exit)) r ⌝ }
+{
+    let mut samples = [0u16; 32768];
+    put_file(file, &mut samples, text)
+}
