@@ -3,3 +3,4 @@ pub mod Program
 pub mod Opening
 pub mod Motion
 pub mod Stack
+pub mod Text

@@ -4,17 +4,13 @@ ghost use Prim.Native.Nat.{_+_, _*_, _<_, _≤_};
 ghost use lib.ListN.{length};
 ghost use Rattle.geometry.specs.Vectors.{otherFrame};
 ghost use Rattle.printing.specs.Put.{Printed};
-ghost use Rattle.report.specs.Opening.{room, burstOf, Taken};
-ghost use Rattle.report.specs.Motion.{frameLine, frameLines, AlignedAs, motionOf, motionText};
-use crate::opening::Opened;
-use crate::opening::open_file;
+ghost use Rattle.report.specs.Opening.{burstOf, Taken};
+ghost use Rattle.report.specs.Motion.{frameLine, frameLines, AlignedAs, motionOf};
 use crate::tallies::farthest;
 use crate::tallies::still_tiles;
 use alignment::align_frames;
 use burst_file::Header;
 use printing::fixed::put_motion_names;
-use printing::fixed::put_refusal;
-use printing::fixed::put_too_large;
 use printing::lines::put_numbers;
 
 // The frame that is the k-th beside the reference.
@@ -97,35 +93,11 @@ fn put_aligned(
     )
 }
 
-fn put_motion(text: &mut [u8], header: Header, samples: &[u16]) -> usize
+pub fn put_motion(text: &mut [u8], header: Header, samples: &[u16]) -> usize
     requires { ⌜ (Taken header (now samples)) × (1024 ≤ length (now text)) ⌝ }
     ensures { λ r. ⌜ Printed (now (text .entry)) 0 (motionOf (burstOf header (now (samples .entry)))) (now (text .exit)) r ⌝ }
 {
     let mut vectors = [0i32; 350];
     let mut work = [0i64; 8192];
     put_aligned(text, header, samples, &mut vectors, &mut work)
-}
-
-fn put_file(file: &[u8], samples: &mut [u16], text: &mut [u8]) -> usize
-    requires { ⌜ (length (now samples) ≡ room 8) × (1024 ≤ length (now text)) ⌝ }
-    ensures { λ r. ⌜ Printed (now (text .entry)) 0 (motionText (now (file .entry))) (now (text .exit)) r ⌝ }
-{
-    match open_file(file, &mut *samples) {
-        Opened::TooLarge => put_too_large(text, 0),
-        Opened::Refused { number } => put_refusal(text, 0, number),
-        Opened::Taken { header } => {
-            let shape = header.shape;
-            let end = shape.count * 4096;
-            put_motion(text, header, &samples[..end])
-        }
-    }
-}
-
-// What `motion` prints for a file, from the front of the text on: the number of its bytes.
-pub fn motion_text(file: &[u8], text: &mut [u8]) -> usize
-    requires { ⌜ 1024 ≤ length (now text) ⌝ }
-    ensures { λ r. ⌜ Printed (now (text .entry)) 0 (motionText (now (file .entry))) (now (text .exit)) r ⌝ }
-{
-    let mut samples = [0u16; 32768];
-    put_file(file, &mut samples, text)
 }

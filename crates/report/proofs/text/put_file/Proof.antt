@@ -1,14 +1,21 @@
--- `report::motion::put_file`: what was opened decides what is printed.
+-- `report::text::put_file`: what was opened decides what is printed.
 use mathlib.Core.Path.{_≡_, sym, subst}
+use mathlib.Core.List.{List}
+use Prim.Native.Nat.{ℕ}
 use native.Mathlib.Omega.{arith}
 use lib.Seq.{length-take-le}
 use borrow.Author.Needs.{needs}
+use Rattle.burst_file.specs.Grammar.{Burst}
 use Rattle.report.specs.declared.opening.Opened.{Opened}
 use Rattle.report.specs.declared.opening.Opened.the-variants.{TooLarge, Refused, Taken}
 use Rattle.report.specs.Opening.{Opens}
-use Rattle.report.specs.Motion.{motionOf}
-use Rattle.report.proofs.motion.put_file.Statement.{statement}
-use Rattle.report.proofs.motion.put_file.Tie as tie
+use Rattle.report.specs.Text.{printedBy}
+use Rattle.report.proofs.text.put_file.Statement.{statement}
+use Rattle.report.proofs.text.put_file.Tie as tie
+
+-- what the program prints for a burst
+abbrev printer : tie.After-open-file → Burst → List ℕ
+printer c = printedBy (c .before .before .before .before .before .args .program)
 
 -- where `opened` was found
 told : (c : tie.After-open-file) (opened : Opened) → c .open-file .result ≡ opened → Opens (c .before .before .before .before .before .args .file .now) (c .open-file .last .1 .0) opened
@@ -39,14 +46,14 @@ enum-known-header c = search needs
 mul-end : tie.Need-mul-end
 mul-end c = omega (arith, held (c .before .before .before) .taken .allowed .few)
 
-slice-reshare-prefix-put-motion : tie.Need-slice-reshare-prefix-put-motion
-slice-reshare-prefix-put-motion c = omega (arith, held (c .before .before .before .before) .taken .allowed .few)
+slice-reshare-prefix-put-burst : tie.Need-slice-reshare-prefix-put-burst
+slice-reshare-prefix-put-burst c = omega (arith, held (c .before .before .before .before) .taken .allowed .few)
 
-slice-aggregate-put-motion : tie.Need-slice-aggregate-put-motion
-slice-aggregate-put-motion c = sym (length-take-le _ _ (omega (arith, held (c .before .before .before .before .before) .taken .allowed .few)))
+slice-aggregate-put-burst : tie.Need-slice-aggregate-put-burst
+slice-aggregate-put-burst c = sym (length-take-le _ _ (omega (arith, held (c .before .before .before .before .before) .taken .allowed .few)))
 
-put-motion-requires : tie.Need-put-motion-requires
-put-motion-requires c κs = (held (c .before .before .before .before .before) .taken, omega arith)
+put-burst-requires : tie.Need-put-burst-requires
+put-burst-requires c κs = (held (c .before .before .before .before .before) .taken, omega arith)
 
 same-length : tie.Need-same-length
 same-length c = search needs
@@ -57,7 +64,7 @@ same-length-2 c = search needs
 returns : tie.Need-returns
 returns c =
     let at = c .before .before .before .before in
-    rw (sym (told (at .before .before .before .before) TooLarge (at .enum-told .given .1) motionOf)) at (c .before .before .put-too-large .ensures .0)
+    rw (sym (told (at .before .before .before .before) TooLarge (at .enum-told .given .1) (printer (at .before .before .before .before)))) at (c .before .before .put-too-large .ensures .0)
 
 same-length-3 : tie.Need-same-length-3
 same-length-3 c = search needs
@@ -68,7 +75,7 @@ same-length-4 c = search needs
 returns-2 : tie.Need-returns-2
 returns-2 c =
     let at = c .before .before .before .before .before in
-    rw (sym (told (at .before .before .before .before) (Refused (at .number .given .0 .0)) (at .number .given .1) motionOf)) at (c .before .before .put-refusal .ensures .0)
+    rw (sym (told (at .before .before .before .before) (Refused (at .number .given .0 .0)) (at .number .given .1) (printer (at .before .before .before .before)))) at (c .before .before .put-refusal .ensures .0)
 
 same-length-5 : tie.Need-same-length-5
 same-length-5 c = search needs
@@ -78,7 +85,7 @@ same-length-6 c = search needs
 
 returns-3 : tie.Need-returns-3
 returns-3 c =
-    rw (sym (held (c .before .before .before .before .before .before .before .before) .text motionOf)) at (c .before .before .put-motion .ensures)
+    rw (sym (held (c .before .before .before .before .before .before .before .before) .text (printer (c .before .before .before .before .before .before .before .before .before .before .before .before)))) at (c .before .before .put-burst .ensures)
 
 pub put-file-spec : {M : Type 1} → statement M
 put-file-spec =
@@ -91,9 +98,9 @@ put-file-spec =
     put-refusal-requires
     enum-known-header
     mul-end
-    slice-reshare-prefix-put-motion
-    slice-aggregate-put-motion
-    put-motion-requires
+    slice-reshare-prefix-put-burst
+    slice-aggregate-put-burst
+    put-burst-requires
     same-length
     same-length-2
     returns

@@ -1,0 +1,67 @@
+-- `report::stack::run_burst`: what the file check has tested is what a run from the levels asks for.
+use mathlib.Core.Path.{_≡_, sym, ap, _∙_}
+use Prim.Native.Nat.{ℕ, _-_, _*_}
+use native.Mathlib.Omega.{arith}
+use lib.Seq.{length-take-le}
+use borrow.Author.Needs.{needs}
+use Rattle.geometry.specs.Bounds.{vectorRefusal}
+use Rattle.alignment.specs.Aligned.{alignedVectors}
+use Rattle.stacker.specs.Calls.{answered, RanLevels}
+use Rattle.stacker.specs.CloseLaws.{result-made}
+use Rattle.report.proofs.Fits.{merge-fits}
+use Rattle.report.proofs.stack.run_burst.Statement.{statement}
+use Rattle.report.proofs.stack.run_burst.Tie as tie
+
+sub-end : tie.Need-sub-end
+sub-end c = search needs
+
+mul-end : tie.Need-mul-end
+mul-end c = search needs
+
+slice-relend-prefix-run-levels : tie.Need-slice-relend-prefix-run-levels
+slice-relend-prefix-run-levels c = search needs
+
+slice-aggregate-run-levels : tie.Need-slice-aggregate-run-levels
+slice-aggregate-run-levels c = sym (length-take-le _ _ (omega arith))
+
+run-levels-requires : tie.Need-run-levels-requires
+run-levels-requires c κs =
+    let start = c .before .before .before .before .before .before .before in
+    let taken = start .pre .0 in
+    record {
+      fits = merge-fits taken (length-take-le _ (start .args .vectors .now) (omega (arith, taken .allowed .few))) (start .pre .3) (start .pre .2);
+      samples-fit = taken .small;
+      shot-most = taken .shot-most;
+      read-most = taken .read-most;
+      strength-most = taken .strength-most;
+    }
+
+same-length : tie.Need-same-length
+same-length c = search needs
+
+same-length-2 : tie.Need-same-length-2
+same-length-2 c = search needs
+
+same-length-3 : tie.Need-same-length-3
+same-length-3 c = search needs
+
+returns : tie.Need-returns
+unfolding answered
+returns c =
+    let ran = c .before .before .before .before .run-levels .ensures in
+    let number = ap (λ a. a .refusal) (ran .answer) in
+    record { answer = number; result = λ z. result-made _ _ _ (sym number ∙ z) (ran .result) }
+
+pub run-burst-spec : {M : Type 1} → statement M
+run-burst-spec =
+    tie.close
+    (tie.spec
+    sub-end
+    mul-end
+    slice-relend-prefix-run-levels
+    slice-aggregate-run-levels
+    run-levels-requires
+    same-length
+    same-length-2
+    same-length-3
+    returns)

@@ -1,0 +1,12 @@
+-- What each program prints for a burst.
+use mathlib.Core.List.{List}
+use Prim.Native.Nat.{ℕ}
+use Rattle.burst_file.specs.Grammar.{Burst}
+use Rattle.report.specs.declared.text.Program.{Program}
+use Rattle.report.specs.declared.text.Program.the-variants.{Motion, Stack}
+use Rattle.report.specs.Motion.{motionOf}
+use Rattle.report.specs.Stack.{stackOf}
+
+abbrev pub printedBy : Program → Burst → List ℕ
+printedBy Motion burst = motionOf burst
+printedBy Stack burst = stackOf burst
