@@ -1,8 +1,8 @@
 -- What a program prints for a file, from what the file check answered and what reading found.
 use mathlib.Core.Path.{_≡_, refl, sym, ap, _∙_, subst}
 use mathlib.Core.Bool.{Bool, true, false, not, _&&_}
-use mathlib.Core.List.{List, [], _++_}
-use Prim.Native.Nat.{ℕ, _+_, _*_, _≤_, _<_}
+use mathlib.Core.List.{List, _++_}
+use Prim.Native.Nat.{ℕ, _+_, _≤_, _<_}
 use native.Mathlib.Omega.{arith}
 use lib.Dec.{T}
 use lib.ListN.{length, take, drop, length-append, length-drop}
@@ -26,7 +26,7 @@ use Rattle.burst_file.specs.Reading.{readingInto, fileCheck, answerOf, samplesA
 use Rattle.burst_file.specs.Acceptance.{Accepted, sound-number, complete}
 use Rattle.printing.specs.Lines.{tooLarge, refusal}
 use Rattle.report.specs.Program.{taken, checked, answerText, programText}
-use Rattle.report.specs.Opening.{room, headerIn, Taken, Holds, ReadAs, Unread, ReadSome}
+use Rattle.report.specs.Opening.{room, headerIn, Holds, ReadAs, Unread, ReadSome}
 
 -- the file check has no test of lengths
 abbrev noTest : Shape → ℕ

@@ -1,5 +1,5 @@
 -- A burst of 64 by 64 has the shape and the lengths that the cores of the calls ask for.
-use mathlib.Core.Path.{_≡_, ap, _∙_}
+use mathlib.Core.Path.{_≡_, _∙_}
 use mathlib.Core.List.{List}
 use Prim.Native.Nat.{ℕ, _-_, _*_}
 use native.Mathlib.Omega.{arith}
@@ -7,7 +7,7 @@ use lib.ListN.{length}
 use Rattle.geometry.specs.Shape.{sampleLength, vectorLength, outputLength, workLength}
 use Rattle.geometry.specs.Order.{BurstFits, AlignFits, MergeFits}
 use Rattle.burst_file.specs.declared.Header.{Header}
-use Rattle.report.specs.Opening.{room, Taken}
+use Rattle.report.specs.Opening.{Taken}
 
 module _ {header : Header} {samples : List ℕ} (t : Taken header samples) where
   sample-length : length samples ≡ sampleLength (header .shape)

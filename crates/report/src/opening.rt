@@ -2,7 +2,6 @@
 ghost use mathlib.Core.Path.{_≡_};
 ghost use Prim.Native.Nat.{_*_, _≤_};
 ghost use lib.ListN.{length};
-ghost use Rattle.burst_file.specs.Reading.{fileCheck};
 ghost use Rattle.report.specs.Opening.{room, headerIn, Opens, ReadAs, ReadAny};
 use burst_file::FileAnswer;
 use burst_file::Header;

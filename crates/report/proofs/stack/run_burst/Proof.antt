@@ -1,12 +1,9 @@
 -- `report::stack::run_burst`: what the file check has tested is what a run from the levels asks for.
-use mathlib.Core.Path.{_≡_, sym, ap, _∙_}
-use Prim.Native.Nat.{ℕ, _-_, _*_}
+use mathlib.Core.Path.{sym, ap, _∙_}
 use native.Mathlib.Omega.{arith}
 use lib.Seq.{length-take-le}
 use borrow.Author.Needs.{needs}
-use Rattle.geometry.specs.Bounds.{vectorRefusal}
-use Rattle.alignment.specs.Aligned.{alignedVectors}
-use Rattle.stacker.specs.Calls.{answered, RanLevels}
+use Rattle.stacker.specs.Calls.{answered}
 use Rattle.stacker.specs.CloseLaws.{result-made}
 use Rattle.report.proofs.Fits.{merge-fits}
 use Rattle.report.proofs.stack.run_burst.Statement.{statement}

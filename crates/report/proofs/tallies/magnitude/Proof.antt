@@ -1,5 +1,5 @@
 -- `report::tallies::magnitude`: a part of 32 bits is negated in 64, where its negation fits.
-use mathlib.Core.Path.{_≡_, ap, _∙_}
+use mathlib.Core.Path.{_≡_, ap}
 use Prim.Native.Nat.{_^_}
 use lib.IntN.{ℤ, pos, natAbs, negℤ, _-ℤ_}
 use mir.Syntax.{w32, w64}
