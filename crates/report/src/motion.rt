@@ -2,24 +2,16 @@
 ghost use mathlib.Core.Path.{_≡_};
 ghost use Prim.Native.Nat.{_+_, _*_, _<_, _≤_};
 ghost use lib.ListN.{length};
-ghost use Rattle.geometry.specs.Vectors.{otherFrame};
 ghost use Rattle.printing.specs.Put.{Printed};
 ghost use Rattle.report.specs.Opening.{burstOf, Taken};
 ghost use Rattle.report.specs.Motion.{frameLine, frameLines, AlignedAs, motionOf};
 use crate::tallies::farthest;
 use crate::tallies::still_tiles;
-use alignment::align_frames;
+use alignment::burst::align_frames;
 use burst_file::Header;
+use geometry::vectors::other_frame;
 use printing::fixed::put_motion_names;
 use printing::lines::put_numbers;
-
-// The frame that is the k-th beside the reference.
-fn other_frame(reference: usize, k: usize) -> usize
-    requires { ⌜ k < 7 ⌝ }
-    ensures { λ r. ⌜ r ≡ otherFrame reference k ⌝ }
-{
-    if k < reference { k } else { k + 1 }
-}
 
 // The line of one frame.
 fn put_frame(text: &mut [u8], at: usize, frame: usize, vectors: &[i32], residual: u64) -> usize

@@ -54,16 +54,14 @@ fn put_text(program: Program, file: &[u8], text: &mut [u8]) -> usize
     put_file(program, file, &mut samples, text)
 }
 
-pub fn motion_text(file: &[u8], text: &mut [u8]) -> usize
-    requires { ⌜ 32768 ≤ length (now text) ⌝ }
-    ensures { λ r. ⌜ (Printed (now (text .entry)) 0 (motionText (now (file .entry))) (now (text .exit)) r) × (r ≤ length (now (text .entry))) ⌝ }
+pub fn motion_text(file: &[u8], text: &mut [u8; 32768]) -> usize
+    ensures { λ r. ⌜ (Printed (now (text .entry)) 0 (motionText (now (file .entry))) (now (text .exit)) r) × (r ≤ 32768) ⌝ }
 {
     put_text(Program::Motion, file, text)
 }
 
-pub fn stack_text(file: &[u8], text: &mut [u8]) -> usize
-    requires { ⌜ 32768 ≤ length (now text) ⌝ }
-    ensures { λ r. ⌜ (Printed (now (text .entry)) 0 (stackText (now (file .entry))) (now (text .exit)) r) × (r ≤ length (now (text .entry))) ⌝ }
+pub fn stack_text(file: &[u8], text: &mut [u8; 32768]) -> usize
+    ensures { λ r. ⌜ (Printed (now (text .entry)) 0 (stackText (now (file .entry))) (now (text .exit)) r) × (r ≤ 32768) ⌝ }
 {
     put_text(Program::Stack, file, text)
 }

@@ -44,7 +44,7 @@ returns c =
     let whole = length-take-le n vectors fits in
     let part = c .before .before .align-frames .last .1 .1 .1 .0 in
     let same : length part ≡ n = omega (arith, whole) in
-    record { found = front-is n vectors part fits same ∙ aligned .found; residuals = aligned .sums; same = front-length n vectors part fits same ∙ start .pre .1 }
+    record { found = front-is n vectors part fits same ∙ aligned .found; residuals = aligned .sums-are; same = front-length n vectors part fits same ∙ start .pre .1 }
 
 pub align-burst-spec : {M : Type 1} → statement M
 align-burst-spec =

@@ -90,7 +90,7 @@ loop-again c =
     record {
       count = omega arith;
       bound = omega arith;
-      printed = rw (next-line (a .reference) (a .vectors .now) (a .t5) k (c .before .before .before .before .before .other-frame .ensures)) at (printed-then (omega arith) (lined .printed) (printed .0));
+      printed = rw (next-line (a .reference) (a .vectors .now) (a .t5) k (c .before .before .before .before .before .other-frame .ensures .0)) at (printed-then (omega arith) (lined .printed) (printed .0));
     }
 
 same-length : tie.Need-same-length Inv-loop μ-loop
