@@ -84,7 +84,7 @@ times-within {v} b f w =
       sideways = abs-mul-le (v .right) (pos f) (w .sideways) (omega arith);
     }
 
-pub coarsest-within : (l : Level) (p : Pair) (row column : ℕ) → Within 4 (coarsest l p row column)
+coarsest-within : (l : Level) (p : Pair) (row column : ℕ) → Within 4 (coarsest l p row column)
 unfolding coarsest
 coarsest-within l p row column = found-within (l .squared) p (tileAt l row column) still 0 (record { vertical = lit≤ tt; sideways = lit≤ tt })
 

@@ -26,14 +26,14 @@ use Rattle.alignment.specs.Grids.{fieldAt, finestIn, Finest}
 use Rattle.alignment.specs.GridLaws.{written-field, written-vectors}
 use Rattle.alignment.specs.Sites.{areaAt, gridAt, after, pairsIn, Standing, Reached, Aligned}
 
-pub written-kept : (d : List ℤ) (at : ℕ) (f : ℕ → ℤ) (n : ℕ) → at + n ≤ length d → Kept d at (written d at f n)
+written-kept : (d : List ℤ) (at : ℕ) (f : ℕ → ℤ) (n : ℕ) → at + n ≤ length d → Kept d at (written d at f n)
 written-kept d at f n h = record { same = written-length d at f n (pos 0) h; kept = written-before d at f n (pos 0) h }
 
-pub kept-more : {d l m : List ℤ} {a b : ℕ} → Kept d a l → Kept l b m → a ≤ b → Kept d a m
+kept-more : {d l m : List ℤ} {a b : ℕ} → Kept d a l → Kept l b m → a ≤ b → Kept d a m
 kept-more k j h = record { same = j .same ∙ k .same; kept = λ i l. j .kept i (le-trans l h) ∙ k .kept i l }
 
 -- a level's images end before the vectors begin
-pub area-before : (shape : Shape) (k : ℕ) → Before (areaAt shape k) (2 * pyramidLength shape)
+area-before : (shape : Shape) (k : ℕ) → Before (areaAt shape k) (2 * pyramidLength shape)
 unfolding areaAt offset
 area-before shape zero =
     let e = rw (size0 (shape .height), size0 (shape .width)) at (words-end (levelSize level0 (shape .height)) (levelSize level0 (shape .width)) 0 (omega arith)) in
@@ -49,7 +49,7 @@ area-before shape (suc (suc (suc k))) =
     record { reference = omega arith; other = omega arith }
 
 -- a level has some tiles, and few
-pub some-tiles : (size k : ℕ) → 0 < levelTiles (levelAt k) size
+some-tiles : (size k : ℕ) → 0 < levelTiles (levelAt k) size
 unfolding levelTiles tileCount
 some-tiles size zero = omega arith
 some-tiles size (suc zero) = omega arith
@@ -106,7 +106,7 @@ reached shape {d} {m} {l} k at g f b kept behind room eg el small w =
     rw (el, eg) (reach (gridAt shape k at) f b kept behind (some-tiles (shape .height) k) (some-tiles (shape .width) k) room small w)
 
 -- and the next one's field is the definition's
-pub next-field : (shape : Shape) {d l : List ℤ} {g : Grid} {f : Field} (k c at : ℕ) → Reached d (2 * pyramidLength shape) g f l → Standing shape d → g ≡ gridAt shape c at → finer (levelAt k) (stepTo k) (g .rows) (g .columns) (pairsIn shape l k) (fieldAt l (g .at) (g .columns)) ≡ finer (levelAt k) (stepTo k) (tileRows (levelAt c) (pairsIn shape d c)) (tileColumns (levelAt c) (pairsIn shape d c)) (pairsIn shape d k) f
+next-field : (shape : Shape) {d l : List ℤ} {g : Grid} {f : Field} (k c at : ℕ) → Reached d (2 * pyramidLength shape) g f l → Standing shape d → g ≡ gridAt shape c at → finer (levelAt k) (stepTo k) (g .rows) (g .columns) (pairsIn shape l k) (fieldAt l (g .at) (g .columns)) ≡ finer (levelAt k) (stepTo k) (tileRows (levelAt c) (pairsIn shape d c)) (tileColumns (levelAt c) (pairsIn shape d c)) (pairsIn shape d k) f
 unfolding gridAt pairsIn tileRows tileColumns levelTiles areaAt pairIn
 next-field shape {d} {l} {g} {f} k c at r s e =
     next (levelAt k) (stepTo k) (areaAt shape k) r (s .stored k) (area-before shape k)
@@ -158,7 +158,7 @@ module _ {shape : Shape} {d : List ℤ} (s : Standing shape d) (room : alignLeng
   unfolding finestIn field0 pairsIn
   finest-field c r e = next-field shape 0 1 (c .at) r s e
 
-  pub finest-pair : {l : List ℤ} {c : Grid} {f : Field} → Reached d (2 * pyramidLength shape) c f l → pairIn l (areaAt shape 0) ≡ pairsIn shape d 0
+  finest-pair : {l : List ℤ} {c : Grid} {f : Field} → Reached d (2 * pyramidLength shape) c f l → pairIn l (areaAt shape 0) ≡ pairsIn shape d 0
   unfolding pairsIn
   finest-pair r = kept-pair (r .kept) (areaAt shape 0) (s .stored 0) (area-before shape 0)
 

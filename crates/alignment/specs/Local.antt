@@ -36,7 +36,7 @@ pub record Window (tile window : List ℕ) (side : ℕ) : Type 0 where
   pub tile-room : side * side ≤ length tile
   pub window-room : (side + 8) * (side + 8) ≤ length window
 
--- the first least of the 81 sums
+-- the first least of the 81 sums, at most 32 · 32 · 65535²
 pub record Searched (squared : Bool) (tile window : List ℕ) (side : ℕ) (r : Best) : Type 0 where
   pub is : r .offset ≡ firstMin (windowSum squared tile window side) 80
   pub low : r .residual ≡ windowSum squared tile window side (r .offset)

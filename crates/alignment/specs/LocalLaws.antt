@@ -55,7 +55,7 @@ module _ (squared : Bool) (p : Pair) (t : Tile) (v : Vector) (tile window : List
     (copied : Copied tile (t .side) (t .side) (p .reference) (t .origin .down) (t .origin .right)) (seen : Copied window stride stride (p .other) row column)
     (high : y + t .side ≤ stride) (wide : x + t .side ≤ stride) (from : start ≡ y * stride + x)
     (down : row +ℤ pos y ≡ t .origin .down +ℤ v .down) (right : column +ℤ pos x ≡ t .origin .right +ℤ v .right) where
-  pub square-residual : squareSum squared tile window start stride (t .side) ≡ residual squared p t v
+  square-residual : squareSum squared tile window start stride (t .side) ≡ residual squared p t v
   unfolding squareSum rowSum residual rowResidual
   square-residual =
       sumN-cong (t .side) _ _
@@ -70,7 +70,7 @@ biased r g n =
     omega (zarith, add-pn (r +ℤ g +ℤ negsuc 3) n, add-pn (r +ℤ g) (negsuc 3), add-pn r g, add-pn r (g +ℤ (n -ℤ pos 4)), add-pn g (n -ℤ pos 4), sub-pn n (pos 4))
 
 -- the sums in a window that starts 4 rows and columns before the tile moved by the guess are the residuals that are tried
-pub window-tried : (squared : Bool) (p : Pair) (t : Tile) (guess : Vector) (tile window : List ℕ) → Copied tile (t .side) (t .side) (p .reference) (t .origin .down) (t .origin .right) → Copied window (t .side + 8) (t .side + 8) (p .other) (t .origin .down +ℤ guess .down +ℤ negsuc 3) (t .origin .right +ℤ guess .right +ℤ negsuc 3) → (k : ℕ) → k < 81 → windowSum squared tile window (t .side) k ≡ tried squared p t guess k
+window-tried : (squared : Bool) (p : Pair) (t : Tile) (guess : Vector) (tile window : List ℕ) → Copied tile (t .side) (t .side) (p .reference) (t .origin .down) (t .origin .right) → Copied window (t .side + 8) (t .side + 8) (p .other) (t .origin .down +ℤ guess .down +ℤ negsuc 3) (t .origin .right +ℤ guess .right +ℤ negsuc 3) → (k : ℕ) → k < 81 → windowSum squared tile window (t .side) k ≡ tried squared p t guess k
 unfolding windowSum tried offset
 window-tried squared p t guess tile window copied seen k h =
     square-residual squared p t (guess plus offset k) tile window (getD downs k 0 * (t .side + 8) + getD rights k 0) (t .side + 8) (getD downs k 0) (getD rights k 0) (t .origin .down +ℤ guess .down +ℤ negsuc 3) (t .origin .right +ℤ guess .right +ℤ negsuc 3) copied seen

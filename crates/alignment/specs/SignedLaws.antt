@@ -7,7 +7,7 @@ use lib.Signed.{mag}
 use mir.Syntax.{w64}
 use mir.Val.{SFits, toZ, ofZ}
 use mir.Facts.{toZ-ofZ}
-use Rattle.algebra.specs.Bound.{AtMost, most-fits, add-fits}
+use Rattle.algebra.specs.Bound.{most-fits, add-fits}
 use Rattle.algebra.specs.Test.{both, both-l, both-r}
 
 -- `back (c .f .ok)`: what a call returned
@@ -16,9 +16,6 @@ back z h = toZ-ofZ {w = w64} {z = z} (record { sfits = h })
 
 pub back-small : (z : ℤ) (b : ℕ) → natAbs z ≤ b → T (ltb b (2 ^ 63)) → toZ w64 (ofZ w64 z) ≡ z
 back-small z b h t = toZ-ofZ (most-fits w64 z b (record { most = h }) t)
-
-pub back-most : (z : ℤ) (b : ℕ) → mag z < 2 ^ 63 → natAbs z ≤ b → AtMost b (toZ w64 (ofZ w64 z))
-back-most z b h l = rw (back z h) (record { most = l })
 
 -- a sum of two small values
 module _ (x y : ℤ) (a b : ℕ) (hx : natAbs x ≤ a) (hy : natAbs y ≤ b) (t : T (both (ltb a (2 ^ 63)) (both (ltb b (2 ^ 63)) (ltb (a + b) (2 ^ 63))))) where

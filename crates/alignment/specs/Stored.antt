@@ -33,7 +33,7 @@ pub record Before (a : Area) (n : ℕ) : Type 0 where
   pub reference : a .reference + a .height * a .width ≤ n
   pub other : a .other + a .height * a .width ≤ n
 
--- so many rows and columns of tiles
+-- a grid of some columns, and of no more rows and columns than level 0 of a frame of 4096 by 4096 has
 pub record Few (rows columns : ℕ) : Type 0 where
   pub some-columns : 0 < columns
   pub few-rows : rows ≤ 257

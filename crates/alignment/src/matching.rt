@@ -53,6 +53,9 @@ fn candidate_sum(words: &[i64], area: Area, tile: Tile, samples: &[u16], v: Vect
         tile.side,
         &mut other,
     );
+    if tile.side == 16 {
+        return square_sum(false, samples, &other, 0, 16, 16);
+    }
     square_sum(false, samples, &other, 0, tile.side, tile.side)
 }
 

@@ -207,7 +207,7 @@ pub fn offset(k: usize) -> Vector
     }
 }
 
-// The residual at the offset number `k`.
+// The residual at the offset number `k`. The constants make the sums fast.
 fn offset_sum(
     squared: bool,
     tile: &[u16],
@@ -222,7 +222,13 @@ fn offset_sum(
 {
     let stride = side + 8;
     let start = wide(down[k]) * stride + wide(right[k]);
-    square_sum(squared, tile, window, start, stride, side)
+    if squared {
+        return square_sum(true, tile, window, start, stride, side);
+    }
+    if side == 16 {
+        return square_sum(false, tile, window, start, 24, 16);
+    }
+    square_sum(false, tile, window, start, stride, side)
 }
 
 // The first of the least residuals.

@@ -3,10 +3,12 @@ use native.Mathlib.Nat.{mul-le-mul}
 use lib.Dec.{lit≤}
 use mathlib.Core.Bool.{false}
 use Rattle.alignment.specs.VectorLaws.{within-more, plus-within}
+use Rattle.alignment.specs.Residual.{residual}
 use Rattle.alignment.specs.Stored.{pairIn}
+use Rattle.alignment.specs.Local.{squareSum}
 use Rattle.alignment.specs.LocalLaws.{moved-residual}
 use native.Mathlib.Omega.{arith}
-use mathlib.Core.Path.{ap, _∙_}
+use mathlib.Core.Path.{_≡_, sym, ap, _∙_}
 use Prim.Native.Nat.{_^_}
 use borrow.Author.Needs.{needs}
 use Rattle.alignment.proofs.matching.candidate_sum.Statement.{statement}
@@ -27,17 +29,33 @@ slice-aggregate-square-sum : tie.Need-slice-aggregate-square-sum
 slice-aggregate-square-sum c = search needs
 
 square-sum-requires : tie.Need-square-sum-requires
-square-sum-requires c κs = let h = c .before .before .before .before .before .before .before .pre .0 in
+square-sum-requires c κs = search needs
+
+-- the sum of the two arrays
+whole : (c : tie.After-copy-square) → let a = c .before .before .before .before .before .args in squareSum false (a .samples .now) (c .copy-square .last .1 .1 .1 .1 .1 .1 .0) 0 (a .tile .side) (a .tile .side) ≡ residual false (pairIn (a .words .now) (a .area)) (a .tile) (a .v)
+unfolding pairIn
+whole c =
+    let s = c .before .before .before .before .before in
+    let a = s .args in
+    let e = c .before .before .sum .ensures in
+    moved-residual false (pairIn (a .words .now) (a .area)) (a .tile) (a .v) _ _ _ _ (s .pre .0 .copied) (c .copy-square .ensures) (ap (λ v. v .down) e) (ap (λ v. v .right) e)
+
+returns : tie.Need-returns
+returns c = let w = c .before .before .before .before .before in
+    c .square-sum .ensures .0
+    ∙ ap (λ n. squareSum false (w .before .before .before .before .before .args .samples .now) (w .copy-square .last .1 .1 .1 .1 .1 .1 .0) 0 n n) (sym (c .before .before .if1 .taken))
+    ∙ whole w
+
+slice-aggregate-square-sum-2 : tie.Need-slice-aggregate-square-sum-2
+slice-aggregate-square-sum-2 c = search needs
+
+square-sum-requires-2 : tie.Need-square-sum-requires-2
+square-sum-requires-2 c κs = let h = c .before .before .before .before .before .before .before .before .before .pre .0 in
     let m = mul-le-mul (h .small) (h .small) in
     record { small = omega arith; narrow = omega arith; tile-room = omega arith; window-room = omega arith }
 
-returns : tie.Need-returns
-unfolding pairIn
-returns c = let s = c .before .before .before .before .before .before .before .before in
-    let a = s .args in
-    let e = c .before .before .before .before .before .sum .ensures in
-    c .square-sum .ensures .0
-    ∙ moved-residual false (pairIn (a .words .now) (a .area)) (a .tile) (a .v) _ _ _ _ (s .pre .0 .copied) (c .before .before .before .copy-square .ensures) (ap (λ v. v .down) e) (ap (λ v. v .right) e)
+returns-2 : tie.Need-returns-2
+returns-2 c = c .square-sum2 .ensures .0 ∙ whole (c .before .before .before .before .before)
 
 pub candidate-sum-spec : {M : Type 1} → statement M
 candidate-sum-spec =
@@ -48,4 +66,7 @@ candidate-sum-spec =
     copy-square-requires
     slice-aggregate-square-sum
     square-sum-requires
-    returns)
+    returns
+    slice-aggregate-square-sum-2
+    square-sum-requires-2
+    returns-2)

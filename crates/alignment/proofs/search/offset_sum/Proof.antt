@@ -1,12 +1,13 @@
--- The table's parts are at most 8, so that the window lies within its array.
+-- The table's parts are at most 8, so that the window lies within its array; the three calls differ in what is known of the side and the kind.
+use mathlib.Core.Bool.{Bool, true, false}
 use native.Mathlib.Nat.{mul-le-mul-right}
 use Rattle.alignment.specs.Offsets.{downs, rights}
 use Rattle.alignment.specs.OffsetLaws.{parts-most}
-use Rattle.alignment.specs.Local.{windowSum}
+use Rattle.alignment.specs.Local.{squareSum, Inside, windowSum}
 use Rattle.alignment.specs.LocalLaws.{window-inside}
 use native.Mathlib.Omega.{arith}
-use mathlib.Core.Path.{_≡_, ap, _∙_}
-use Prim.Native.Nat.{_+_, _*_, _≤_}
+use mathlib.Core.Path.{_≡_, refl, ap, _∙_, subst}
+use Prim.Native.Nat.{ℕ, _+_, _*_, _≤_}
 use lib.ListN.{getD}
 use borrow.Author.Needs.{needs}
 use Rattle.alignment.proofs.search.offset_sum.Statement.{statement}
@@ -44,12 +45,43 @@ wide-requires-2 c κs = search needs
 add-start : tie.Need-add-start
 add-start c = let s = c .before .before .before .before .before .before in omega (arith, down-most (c .before .before), right-is c, parts-most (s .args .k) (s .pre .3) .1)
 
+-- where the window starts, with the side as a number that it equals
+start : (c : tie.After-wide2) → ℕ
+start c = c .before .before .wide .result * (c .before .before .before .before .before .before .args .side + 8) + c .wide2 .result
+
+inside : (c : tie.After-wide2) (n : ℕ) → let a = c .before .before .before .before .before .before .args in a .side ≡ n → Inside (a .tile .now) (a .window .now) (start c) (n + 8) n
+unfolding start
+inside c n e =
+    let s = c .before .before .before .before .before .before in
+    subst (λ n. Inside (s .args .tile .now) (s .args .window .now) (start c) (n + 8) n) e (rw (down-is (c .before .before), right-is c) (window-inside (s .pre .0) (s .args .k) (s .pre .3)))
+
+whole : (c : tie.After-wide2) (q : Bool) (n : ℕ) → let a = c .before .before .before .before .before .before .args in a .squared ≡ q → a .side ≡ n → squareSum q (a .tile .now) (a .window .now) (start c) (n + 8) n ≡ windowSum (a .squared) (a .tile .now) (a .window .now) (a .side) (a .k)
+unfolding windowSum start
+whole c q n eq en = rw (← eq, ← en, down-is (c .before .before), right-is c)
+
 square-sum-requires : tie.Need-square-sum-requires
-square-sum-requires c κs = let s = c .before .before .before .before .before .before in rw (down-is (c .before .before), right-is c) (window-inside (s .pre .0) (s .args .k) (s .pre .3))
+unfolding start
+square-sum-requires c κs = inside (c .before) _ refl
 
 returns : tie.Need-returns
-unfolding windowSum
-returns c = (rw (← down-is (c .before .before .before), ← right-is (c .before)) (c .square-sum .ensures .0), c .square-sum .ensures .1)
+unfolding start
+returns c = (c .square-sum .ensures .0 ∙ whole (c .before .before) true _ (c .before .if1 .taken) refl, c .square-sum .ensures .1)
+
+square-sum-requires-2 : tie.Need-square-sum-requires-2
+unfolding start
+square-sum-requires-2 c κs = inside (c .before .before) 16 (c .if2 .taken)
+
+returns-2 : tie.Need-returns-2
+unfolding start
+returns-2 c = (c .square-sum2 .ensures .0 ∙ whole (c .before .before .before) false 16 (c .before .before .if1 .left) (c .before .if2 .taken), c .square-sum2 .ensures .1)
+
+square-sum-requires-3 : tie.Need-square-sum-requires-3
+unfolding start
+square-sum-requires-3 c κs = inside (c .before .before) _ refl
+
+returns-3 : tie.Need-returns-3
+unfolding start
+returns-3 c = (c .square-sum3 .ensures .0 ∙ whole (c .before .before .before) false _ (c .before .before .if1 .left) refl, c .square-sum3 .ensures .1)
 
 pub offset-sum-spec : {M : Type 1} → statement M
 offset-sum-spec =
@@ -63,4 +95,8 @@ offset-sum-spec =
     wide-requires-2
     add-start
     square-sum-requires
-    returns)
+    returns
+    square-sum-requires-2
+    returns-2
+    square-sum-requires-3
+    returns-3)
