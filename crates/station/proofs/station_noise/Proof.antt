@@ -1,6 +1,6 @@
 -- `station::station_noise` answers by the levels that `levels_of` found or refused, whose bounds are laws.
 use mathlib.Core.Path.{_≡_, sym, ap, subst, _∙_}
-use Prim.Native.Nat.{ℕ, _≤_}
+use Prim.Native.Nat.{_≤_}
 use native.Mathlib.Omega.{arith}
 use borrow.Author.Needs.{needs}
 use Rattle.noise.specs.declared.Noise.the-variants.{Measured}

@@ -1,7 +1,5 @@
 -- `stacker::align::align`: a refusal returns before the first store; acceptance aligns and clears.
-use mathlib.Core.Path.{_≡_, refl, ap, _∙_}
-use lib.ListN.{length}
-use lib.IntN.{pos}
+use mathlib.Core.Path.{_∙_}
 use borrow.Author.Needs.{needs}
 use Rattle.sequences.specs.Clear.{zeros-length}
 use Rattle.stacker.specs.CallLaws.{kept, made, answer-refused, answer-accepted}

@@ -1,10 +1,9 @@
 -- `stacker::merge::merge`: run's tests and 12, each returning before the first store; then the merge, and the clearing.
-use mathlib.Core.Path.{_≡_, refl, sym, ap₂, subst, _∙_}
+use mathlib.Core.Path.{sym, ap₂, subst, _∙_}
 use Prim.Native.Nat.{_≤_}
 use borrow.Author.Needs.{needs}
 use Rattle.sequences.specs.Clear.{zeros-length}
 use Rattle.geometry.specs.RefusalLaws.{stops, goes}
-use Rattle.merging.specs.declared.Merge.{Merge}
 use Rattle.merging.specs.Recipe.{sceneOf, merged}
 use Rattle.stacker.specs.Refusals.{mergeRefusal}
 use Rattle.stacker.specs.CallLaws.{kept, made}

@@ -1,6 +1,5 @@
 -- `stacker::run::run_levels`: the vectors found are those that align defines, so refusal 12 and the merge are theirs.
-use mathlib.Core.Path.{_≡_, refl, sym, ap, _∙_}
-use native.Mathlib.Omega.{arith}
+use mathlib.Core.Path.{ap, _∙_}
 use borrow.Author.Needs.{needs}
 use Rattle.sequences.specs.Clear.{zeros-length}
 use Rattle.geometry.specs.Bounds.{vectorRefusal}

@@ -2,7 +2,7 @@
 use borrow.Author.Needs.{needs}
 use Rattle.geometry.specs.RefusalLaws.{stops, goes}
 use Rattle.noise.specs.LevelLaws.{strength-most}
-use mathlib.Core.Path.{_≡_, sym, _∙_}
+use mathlib.Core.Path.{sym, _∙_}
 use Rattle.stacker.proofs.tests.content_refusal.Statement.{statement}
 use Rattle.stacker.proofs.tests.content_refusal.Tie as tie
 
