@@ -3,3 +3,4 @@ pub mod Refusals
 pub mod Calls
 pub mod CallLaws
 pub mod CloseLaws
+pub mod NeverLaws
