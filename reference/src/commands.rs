@@ -8,7 +8,9 @@ mod lines;
 mod wire;
 
 use reference::calls::Call;
+use reference::cases::cases;
 use reference::programs::{motion, stack};
+use reference::{fixed_calls, moving_files};
 use std::error::Error;
 
 pub type Outcome = Result<(), Box<dyn Error>>;
@@ -28,9 +30,11 @@ pub fn dispatch(arguments: &[String]) -> Outcome {
         ["merge"] => calls::answer_each(Call::merge),
         ["run"] => calls::answer_each(Call::run),
         ["exact"] => exact::answer_each(),
-        ["cases", directory, seed] => data::write_cases(directory, seed),
+        ["cases", directory, seed] => data::write_files(directory, seed, cases),
+        ["moving", directory, seed] => data::write_files(directory, seed, moving_files::cases),
         ["damaged", count, seed] => data::write_damaged(count, seed),
         ["calls", side, count, seed] => data::write_calls(side, count, seed),
+        ["fixed-calls"] => data::write_each(fixed_calls::calls()),
         _ => Err("unknown subcommand; README.md lists them".into()),
     }
 }

@@ -2,8 +2,8 @@
 
 use crate::burst::Burst;
 use crate::calls::Call;
-use crate::image::Image;
 use crate::noise::{Curve, Denoising, Noise};
+use crate::pictures::Picture;
 use crate::random::Random;
 use crate::shape::Shape;
 
@@ -58,11 +58,10 @@ fn denoising(random: &mut Random) -> Denoising {
 }
 
 fn samples(shape: Shape, random: &mut Random) -> Vec<u16> {
-    let length = shape.samples_length() as usize;
     match random.below(4) {
-        0 => (0..length).map(|_| random.pick(&[0, 4095])).collect(),
-        1 => sparse(length, random),
-        _ => moving(shape, random),
+        0 => Picture::Extremes.samples(shape, random),
+        1 => sparse(shape.samples_length() as usize, random),
+        _ => Picture::Shifted.samples(shape, random),
     }
 }
 
@@ -73,41 +72,6 @@ fn sparse(length: usize, random: &mut Random) -> Vec<u16> {
         samples[random.below(length)] = random.below(4096) as u16;
     }
     samples
-}
-
-/// Frames that see a smooth scene from places up to 40 samples apart, with some noise.
-fn moving(shape: Shape, random: &mut Random) -> Vec<u16> {
-    let (width, height) = (shape.width as i64, shape.height as i64);
-    let scene = smooth_scene(width + 40, height + 40, random);
-    let spread = random.pick(&[1, 17, 301]);
-    let mut samples = Vec::new();
-    for _ in 0..shape.count {
-        let (top, left) = (random.below(41) as i64, random.below(41) as i64);
-        let frame = Image::from_fn(width, height, |row, column| {
-            scene.at(row + top, column + left)
-        });
-        samples.extend(frame.into_samples());
-    }
-    for sample in &mut samples {
-        let noisy = usize::from(*sample) + random.below(spread);
-        *sample = noisy.saturating_sub(spread / 2).min(4095) as u16;
-    }
-    samples
-}
-
-/// Random heights 16 samples apart, with straight slopes between.
-fn smooth_scene(width: i64, height: i64, random: &mut Random) -> Image {
-    let columns = width / 16 + 2;
-    let heights: Vec<i64> = (0..columns * (height / 16 + 2))
-        .map(|_| random.below(4096) as i64)
-        .collect();
-    let node = |row: i64, column: i64| heights[(row * columns + column) as usize];
-    Image::from_fn(width, height, |row, column| {
-        let (top, left) = (row / 16, column / 16);
-        let (down, right) = (row % 16, column % 16);
-        let across = |row| node(row, left) * (16 - right) + node(row, left + 1) * right;
-        (across(top) * (16 - down) + across(top + 1) * down) / 256
-    })
 }
 
 /// Makes the condition of one of the refusals 1 to 12 hold.

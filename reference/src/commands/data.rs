@@ -3,16 +3,18 @@
 use super::calls::put_call;
 use super::wire::Word;
 use super::Outcome;
-use reference::{cases, scenes};
+use reference::calls::Call;
+use reference::cases::{damaged_files, Case};
+use reference::scenes;
 use std::io::{stdout, BufWriter, Write};
 use std::path::Path;
 
 /// Writes each case to a file of its name and `expected.txt` with a line `NAME number` each.
-pub fn write_cases(directory: &str, seed: &str) -> Outcome {
+pub fn write_files(directory: &str, seed: &str, cases: fn(u64) -> Vec<Case>) -> Outcome {
     let directory = Path::new(directory);
     std::fs::create_dir_all(directory)?;
     let mut expected = String::new();
-    for case in cases::cases(seed.parse()?) {
+    for case in cases(seed.parse()?) {
         let name = format!("{}.burst", case.name);
         std::fs::write(directory.join(&name), &case.bytes)?;
         expected += &format!("{name} {}\n", case.number);
@@ -24,7 +26,7 @@ pub fn write_cases(directory: &str, seed: &str) -> Outcome {
 /// Writes damaged files as `check-many` takes them.
 pub fn write_damaged(count: &str, seed: &str) -> Outcome {
     let mut out = BufWriter::new(stdout().lock());
-    for bytes in cases::damaged_files(count.parse()?, seed.parse()?) {
+    for bytes in damaged_files(count.parse()?, seed.parse()?) {
         u32::try_from(bytes.len())?.put(&mut out)?;
         out.write_all(&bytes)?;
     }
@@ -32,14 +34,19 @@ pub fn write_damaged(count: &str, seed: &str) -> Outcome {
     Ok(())
 }
 
-/// Writes calls as `align`, `merge` and `run` take them.
+/// Writes random calls with frames up to `side` in width and height.
 pub fn write_calls(side: &str, count: &str, seed: &str) -> Outcome {
     let side = side.parse()?;
     if side < 64 {
         return Err("frames are at least 64 wide and high".into());
     }
+    write_each(scenes::calls(side, count.parse()?, seed.parse()?))
+}
+
+/// Writes calls as `align`, `merge` and `run` take them.
+pub fn write_each(calls: impl Iterator<Item = Call>) -> Outcome {
     let mut out = BufWriter::new(stdout().lock());
-    for call in scenes::calls(side, count.parse()?, seed.parse()?) {
+    for call in calls {
         put_call(&mut out, &call)?;
     }
     out.flush()?;

@@ -1,0 +1,119 @@
+//! A fixed list of library calls: every frame count and reference, every kind of picture, noise and
+//! lent vectors, from the smallest frames to 1024 by 1024 and 64 by 4096.
+
+use crate::burst::Burst;
+use crate::calls::Call;
+use crate::noise::{Curve, Denoising, Noise};
+use crate::pictures::Picture;
+use crate::random::Random;
+use crate::shape::Shape;
+
+/// Width, height, and a count and reference per call.
+type Size = (u64, u64, Vec<[u64; 2]>);
+
+/// Every count, and one call per picture.
+const SOME: [[u64; 2]; 8] = [
+    [8, 7],
+    [3, 1],
+    [4, 3],
+    [5, 0],
+    [6, 4],
+    [7, 2],
+    [2, 1],
+    [2, 0],
+];
+
+/// The calls in their order; the pictures, noises and lent vectors take turns.
+pub fn calls() -> impl Iterator<Item = Call> {
+    let mut random = Random::new(1);
+    let plain = sizes().into_iter().flat_map(|(width, height, frames)| {
+        let shape = move |count| Shape {
+            width,
+            height,
+            count,
+        };
+        // The second list of all counts and references goes on where the first one ended.
+        let first = if width == 128 { frames.len() } else { 0 };
+        let turns = (first..).zip(frames);
+        turns.map(move |(turn, [count, reference])| (turn, shape(count), reference))
+    });
+    let plain =
+        plain.map(move |(turn, shape, reference)| call(turn, shape, reference, &mut random));
+    plain.chain(refused_vectors())
+}
+
+fn sizes() -> Vec<Size> {
+    let tall = [[8, 5]].into_iter().chain((0..7).map(|k| [2, k % 2]));
+    vec![
+        (64, 64, all_frames()),
+        (128, 64, all_frames()),
+        (64, 192, SOME.to_vec()),
+        (256, 256, SOME.to_vec()),
+        (64, 4096, tall.collect()),
+        (1024, 1024, vec![[2, 0], [2, 1]]),
+    ]
+}
+
+/// Every count with every reference.
+fn all_frames() -> Vec<[u64; 2]> {
+    let references = |count| (0..count).map(move |reference| [count, reference]);
+    (2..=8).flat_map(references).collect()
+}
+
+/// The call whose turn it is: eight pictures, five noises and three kinds of lent vectors.
+fn call(turn: usize, shape: Shape, reference: u64, random: &mut Random) -> Call {
+    let samples = Picture::ALL[turn % 8].samples(shape, random);
+    let part = |_| match turn % 3 {
+        0 => random.below(345) as i32 - 172,
+        1 => random.pick(&[-172, 172]),
+        _ => 0,
+    };
+    Call {
+        vectors: (0..shape.vectors_length()).map(part).collect(),
+        burst: Burst {
+            shape,
+            reference,
+            samples,
+        },
+        denoising: denoising(turn),
+        output: vec![55555; shape.output_length() as usize],
+        work_length: shape.work_length(),
+    }
+}
+
+fn denoising(turn: usize) -> Denoising {
+    let curve = |shot, read| Noise::Curve(Curve { shot, read });
+    let base = Curve {
+        shot: 0.37,
+        read: 2.5,
+    };
+    let (noise, strength) = match turn % 5 {
+        0 => (curve(0.37, 100.0), 8),
+        // The greatest noise number that there is.
+        1 => (curve(64.0, 4096.0), 1024),
+        // Two ways to a noise number of 0.
+        2 => (curve(64.0, 4096.0), 0),
+        3 => (curve(0.0, 0.0), 1024),
+        _ => (Noise::Iso(3200, base), 77),
+    };
+    Denoising { noise, strength }
+}
+
+/// One part of the lent vectors just outside what merge takes, or far outside, at either end.
+fn refused_vectors() -> impl Iterator<Item = Call> {
+    let shape = Shape {
+        width: 64,
+        height: 64,
+        count: 3,
+    };
+    let last = shape.vectors_length() as usize - 1;
+    let parts = [173, -173, i32::MAX, i32::MIN];
+    let places = parts
+        .into_iter()
+        .flat_map(move |part| [(0, part), (last, part)]);
+    places.map(move |(place, part)| {
+        let mut call = call(1, shape, 1, &mut Random::new(2));
+        call.vectors[place] = part;
+        call
+    })
+}

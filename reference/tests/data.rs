@@ -1,0 +1,58 @@
+//! The fixed calls and the moving files hold what README.md says of them.
+
+use reference::file::check;
+use reference::fixed_calls::calls;
+use reference::moving_files::cases;
+use reference::programs::{motion, stack};
+use std::collections::BTreeSet;
+
+#[test]
+fn fixed_calls_have_every_count_and_reference() {
+    let mut seen = BTreeSet::new();
+    let mut greatest = 0;
+    for call in calls() {
+        let shape = call.burst.shape;
+        assert_eq!(call.burst.samples.len() as u64, shape.samples_length());
+        assert_eq!(call.vectors.len() as u64, shape.vectors_length());
+        greatest = greatest.max(call.burst.samples.iter().copied().max().unwrap());
+        seen.insert((shape.width, shape.height, shape.count, call.burst.reference));
+    }
+    assert_eq!(greatest, 4095);
+    for (width, height) in [(64, 64), (128, 64)] {
+        for count in 2..=8 {
+            assert!((0..count).all(|reference| seen.contains(&(width, height, count, reference))));
+        }
+    }
+    assert_eq!(seen.len(), 35 + 35 + 8 + 8 + 3 + 2);
+}
+
+#[test]
+fn vectors_outside_are_refused() {
+    let last = calls().collect::<Vec<_>>().split_off(96);
+    assert_eq!(last.len(), 8);
+    for mut call in last {
+        assert_eq!(call.merge().number, 12);
+        assert_eq!(call.run().number, 0);
+    }
+}
+
+#[test]
+fn moving_files_are_as_expected() {
+    let cases = cases(1);
+    for case in &cases {
+        assert_eq!(check(&case.bytes), case.number, "{}", case.name);
+    }
+    let (good, limits) = cases.split_at(81);
+    assert!(good
+        .iter()
+        .all(|case| case.number == 0 && case.bytes.len() <= 65536));
+    let names = |printed: &str| -> Vec<&str> {
+        let found = limits.iter().filter(|case| motion(&case.bytes) == printed);
+        found.map(|case| case.name.as_str()).collect()
+    };
+    let too_large = ["longer", "longer-blank", "eight", "high", "wide"];
+    assert_eq!(names("too large\n"), too_large);
+    assert_eq!(names("refused 15\n"), ["largest-blank", "wide-cut"]);
+    assert_eq!(limits[0].name, "largest");
+    assert!(stack(&limits[0].bytes).starts_with("width height\n64 64\n"));
+}
