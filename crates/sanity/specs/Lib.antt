@@ -1,0 +1,5 @@
+pub mod Frames
+pub mod ZeroLaws
+pub mod OutputLaws
+pub mod MergeLaws
+pub mod StrengthZero

@@ -1,0 +1,44 @@
+-- "With t 0": a merge of strength 0 hands back the reference, whatever the other frames, the vectors and the noise are.
+use mathlib.Core.Path.{_≡_, _∙_, ap}
+use mathlib.Core.List.{List}
+use Prim.Native.Nat.{ℕ, _/_, _%_, _≤_}
+use lib.Dec.{lit<}
+use lib.IntN.{ℤ, pos}
+use Rattle.geometry.specs.Bounds.{SamplesFit}
+use Rattle.geometry.specs.BoundLaws.{sample-most}
+use Rattle.geometry.specs.Tiles.{level0}
+use Rattle.noise.specs.NoiseNumber.{tileRoot, noiseNumber}
+use Rattle.transform.specs.Tables.{side16}
+use Rattle.transform.specs.Recipe.{correctionAt}
+use Rattle.merging.specs.declared.Merge.{Merge}
+use Rattle.merging.specs.Recipe.{Scene, sceneOf, referenceTile, tileNoise, differenceOver, outputAt, merged}
+use Rattle.sanity.specs.Frames.{frameWords}
+use Rattle.sanity.specs.ZeroLaws.{noise-none, no-noise}
+use Rattle.sanity.specs.MergeLaws.{Uncorrected, output-is, merged-is}
+
+module _ (s : Scene) (off : s .strength ≡ 0) where
+  -- V of every tile is 0
+  tile-none : (rowParity columnParity a b : ℕ) → tileNoise s rowParity columnParity a b ≡ 0
+  unfolding tileNoise
+  tile-none rowParity columnParity a b =
+      ap (λ t. noiseNumber t (s .shot) (s .read) (tileRoot (level0 .side) (referenceTile s rowParity columnParity a b))) off ∙ noise-none (s .shot) (s .read) _
+
+  uncorrected : (row column : ℕ) → Uncorrected s row column
+  unfolding side16
+  uncorrected row column =
+      record {
+        none = λ t k i j h.
+            ap (λ v. correctionAt side16 v (differenceOver s (row % 2) (column % 2) (row / 2) (column / 2) t k) i j) (tile-none (row % 2) (column % 2) _ _)
+            ∙ no-noise side16 (lit< tt) _ i j;
+      }
+
+  -- sample for sample
+  pub sample-back : (row column : ℕ) → s .reference row column ≤ 4095 → outputAt s row column ≡ pos (s .reference row column)
+  sample-back row column most = output-is s row column most (uncorrected row column)
+
+-- the merged frame is the reference frame
+pub reference-back : (m : Merge) (samples : List ℕ) (vectors : List ℤ) → m .strength ≡ 0 → SamplesFit samples →
+    merged (sceneOf m samples vectors) ≡ frameWords (m .shape) samples (m .reference)
+unfolding sceneOf frameWords
+reference-back m samples vectors off fit =
+    merged-is (sceneOf m samples vectors) (λ row column h k. sample-back (sceneOf m samples vectors) off row column (sample-most fit (m .shape) (m .reference) row column))
