@@ -1,4 +1,4 @@
--- "With t 0": a merge of strength 0 hands back the reference, whatever the other frames, the vectors and the noise are.
+-- Try strength 0: the merge hands back the reference, whatever the other frames, the vectors and the noise are.
 use mathlib.Core.Path.{_≡_, _∙_, ap}
 use mathlib.Core.List.{List}
 use Prim.Native.Nat.{ℕ, _/_, _%_, _≤_}
@@ -36,9 +36,9 @@ module _ (s : Scene) (off : s .strength ≡ 0) where
   pub sample-back : (row column : ℕ) → s .reference row column ≤ 4095 → outputAt s row column ≡ pos (s .reference row column)
   sample-back row column most = output-is s row column most (uncorrected row column)
 
--- the merged frame is the reference frame
-pub reference-back : (m : Merge) (samples : List ℕ) (vectors : List ℤ) → m .strength ≡ 0 → SamplesFit samples →
+-- and the whole frame of a burst
+pub burst-back : (m : Merge) (samples : List ℕ) (vectors : List ℤ) → m .strength ≡ 0 → SamplesFit samples →
     merged (sceneOf m samples vectors) ≡ frameWords (m .shape) samples (m .reference)
 unfolding sceneOf frameWords
-reference-back m samples vectors off fit =
+burst-back m samples vectors off fit =
     merged-is (sceneOf m samples vectors) (λ row column h k. sample-back (sceneOf m samples vectors) off row column (sample-most fit (m .shape) (m .reference) row column))

@@ -1,0 +1,94 @@
+-- Try a burst of one picture taken several times, with vectors of 0: the merge hands back the reference, whatever the noise and the strength are.
+use mathlib.Core.Path.{_≡_, refl}
+use mathlib.Core.Bool.{Bool, true, false, cond}
+use mathlib.Core.List.{List}
+use Prim.Native.Nat.{ℕ, zero, suc, _+_, _-_, _*_, _/_, _%_, _≤_, _<_}
+use native.Mathlib.Omega.{arith}
+use lib.Dec.{lit<, ltb}
+use lib.IntN.{ℤ, pos, _+ℤ_, +ℤ-invr}
+use lib.ListN.{getD, replicate}
+use Rattle.geometry.specs.Shape.{Allowed}
+use Rattle.geometry.specs.Read.{Image, planeOf, inside, read}
+use Rattle.geometry.specs.ReadLaws.{inside-below}
+use Rattle.geometry.specs.Tiles.{level0, origin}
+use Rattle.geometry.specs.Vectors.{otherFrame, vectorPlace, downAt, rightAt}
+use Rattle.geometry.specs.Bounds.{SamplesFit}
+use Rattle.geometry.specs.BoundLaws.{sample-most}
+use Rattle.transform.specs.Tables.{side16}
+use Rattle.merging.specs.declared.Merge.{Merge}
+use Rattle.merging.specs.Recipe.{Scene, sceneOf, tileAt, referenceTile, otherTile, difference, outputAt, merged}
+use Rattle.sanity.specs.Frames.{Same, Alike, imageWords, frameWords}
+use Rattle.sanity.specs.ZeroLaws.{no-difference}
+use Rattle.sanity.specs.MergeLaws.{Uncorrected, output-is, merged-is}
+
+-- every other frame is the reference, and no tile of it has moved
+pub record Still (s : Scene) : Type 0 where
+  pub high : 2 ≤ s .height
+  pub wide : 2 ≤ s .width
+  pub alike : (k : ℕ) → k < s .others → Same (s .height) (s .width) (s .reference) (s .other k)
+  pub no-down : (k a b : ℕ) → k < s .others → s .down k a b ≡ pos 0
+  pub no-right : (k a b : ℕ) → k < s .others → s .right k a b ≡ pos 0
+
+-- equal frames have equal tiles
+tile-same : (height width rowParity columnParity : ℕ) (f g : Image) → 2 ≤ height → 2 ≤ width → rowParity < 2 → columnParity < 2 → Same height width f g →
+    (down right : ℤ) (a b i j : ℕ) → tileAt height width rowParity columnParity f down right a b i j ≡ tileAt height width rowParity columnParity g down right a b i j
+unfolding tileAt read planeOf
+tile-same height width rowParity columnParity f g high wide p q same down right a b i j =
+    let row = origin (level0 .half) a +ℤ down +ℤ pos i in
+    let column = origin (level0 .half) b +ℤ right +ℤ pos j in
+    same .at (2 * inside (height / 2) row + rowParity) (2 * inside (width / 2) column + columnParity)
+    (omega (arith, inside-below (height / 2) row (omega arith)))
+    (omega (arith, inside-below (width / 2) column (omega arith)))
+
+module _ (s : Scene) (still : Still s) where
+  -- "T0−Tz" is 0
+  difference-none : (rowParity columnParity a b k i j : ℕ) → rowParity < 2 → columnParity < 2 → k < s .others → difference s rowParity columnParity a b k i j ≡ pos 0
+  unfolding difference referenceTile otherTile
+  difference-none rowParity columnParity a b k i j p q h =
+      rw (still .no-down k a b h, still .no-right k a b h, tile-same (s .height) (s .width) rowParity columnParity (s .reference) (s .other k) (still .high) (still .wide) p q (still .alike k h) (pos 0) (pos 0) a b i j)
+      (+ℤ-invr (pos (tileAt (s .height) (s .width) rowParity columnParity (s .other k) (pos 0) (pos 0) a b i j)))
+
+  uncorrected : (row column : ℕ) → Uncorrected s row column
+  unfolding side16
+  uncorrected row column =
+      record {
+        none = λ t k i j h. no-difference side16 _ (λ y x l m. difference-none (row % 2) (column % 2) _ _ k y x (omega arith) (omega arith) h) (lit< tt) (lit< tt) _ i j;
+      }
+
+  -- sample for sample
+  pub sample-back : (row column : ℕ) → s .reference row column ≤ 4095 → outputAt s row column ≡ pos (s .reference row column)
+  sample-back row column most = output-is s row column most (uncorrected row column)
+
+  -- and the whole frame
+  pub frame-back : ((row column : ℕ) → row < s .height → column < s .width → s .reference row column ≤ 4095) → merged s ≡ imageWords (s .height) (s .width) (s .reference)
+  frame-back most = merged-is s (λ row column h k. sample-back row column (most row column h k))
+
+-- a burst of frames that are all equal, with vectors that are all 0
+zero-at : (n k : ℕ) → getD (replicate n (pos 0)) k (pos 0) ≡ pos 0
+zero-at zero k = refl
+zero-at (suc n) zero = refl
+zero-at (suc n) (suc k) = zero-at n k
+
+pub other-below : (reference k count : ℕ) → k < count - 1 → otherFrame reference k < count
+unfolding otherFrame
+other-below reference k count h = by (ltb k reference)
+  where
+    by : (b : Bool) → cond b k (k + 1) < count
+    by true = omega arith
+    by false = omega arith
+
+module _ (m : Merge) (samples : List ℕ) (ok : Allowed (m .shape)) (alike : Alike (m .shape) (m .reference) samples) (n : ℕ) where
+  still-burst : Still (sceneOf m samples (replicate n (pos 0)))
+  unfolding sceneOf downAt rightAt
+  still-burst =
+      record {
+        high = omega (arith, ok .high .least);
+        wide = omega (arith, ok .wide .least);
+        alike = λ k h. alike .frame (otherFrame (m .reference) k) (other-below (m .reference) k (m .shape .count) h);
+        no-down = λ k a b h. zero-at n (vectorPlace (m .shape) k a b);
+        no-right = λ k a b h. zero-at n (vectorPlace (m .shape) k a b + 1);
+      }
+
+  pub burst-back : SamplesFit samples → merged (sceneOf m samples (replicate n (pos 0))) ≡ frameWords (m .shape) samples (m .reference)
+  unfolding sceneOf frameWords
+  burst-back fit = frame-back (sceneOf m samples (replicate n (pos 0))) still-burst (λ row column h k. sample-most fit (m .shape) (m .reference) row column)
