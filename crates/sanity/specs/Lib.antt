@@ -1,6 +1,9 @@
 pub mod Frames
 pub mod StrengthZero
 pub mod StillMerge
+pub mod StillAlign
 pub mod ZeroLaws
 pub mod OutputLaws
 pub mod MergeLaws
+pub mod StillLaws
+pub mod PyramidLaws

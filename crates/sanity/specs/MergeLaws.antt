@@ -17,7 +17,7 @@ column-inside : (k width height : ℕ) → k < width * height → k % width < wi
 column-inside k zero height h = absurd (omega (arith, zero-mul height))
 column-inside k (suc w) height h = mod-lt k (omega arith)
 
-row-inside : (k width height : ℕ) → k < width * height → k / width < height
+pub row-inside : (k width height : ℕ) → k < width * height → k / width < height
 row-inside k zero height h = absurd (omega (arith, zero-mul height))
 row-inside k (suc w) height h = div-lt-iff-lt-mul {k = suc w} {x = k} {y = height} (omega arith) .1 (omega (arith, mul-comm (suc w) height))
 

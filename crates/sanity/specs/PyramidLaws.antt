@@ -1,0 +1,80 @@
+-- Equal frames have equal pyramids, read anywhere.
+use mathlib.Core.Path.{_≡_}
+use Prim.Native.Nat.{ℕ, zero, suc, _+_, _*_, _/_, _≤_, _<_}
+use native.Mathlib.Omega.{arith}
+use lib.IntN.{ℤ}
+use Rattle.geometry.specs.declared.Shape.{Shape}
+use Rattle.geometry.specs.Shape.{Allowed}
+use Rattle.geometry.specs.Read.{Image, inside, read}
+use Rattle.geometry.specs.ReadLaws.{inside-below}
+use Rattle.geometry.specs.Tiles.{level1, level2, levelSize}
+use Rattle.pyramid.specs.Pyramid.{bayerSum, halved, quartered, image0, image1, image2, image3}
+use Rattle.pyramid.specs.PyramidLaws.{halved-agree}
+use Rattle.alignment.specs.Fields.{levelAt}
+use Rattle.alignment.specs.Frames.{levelImage, pairs}
+use Rattle.sanity.specs.Frames.{Same}
+use Rattle.sanity.specs.StillLaws.{Equal}
+
+module _ (height width : ℕ) (high : 0 < height) (wide : 0 < width) (f g : Image) (same : Same height width f g) where
+  read-same : (row column : ℤ) → read height width f row column ≡ read height width g row column
+  unfolding read
+  read-same row column = same .at (inside height row) (inside width column) (inside-below height row high) (inside-below width column wide)
+
+  -- a halving agrees even outside
+  halved-same : (h w : ℕ) → Same h w (halved height width f) (halved height width g)
+  halved-same h w = record { at = λ row column a b. halved-agree height width high wide f g (same .at) row column }
+
+quartered-same : (height width : ℕ) → 2 ≤ height → 2 ≤ width → (f g : Image) → Same height width f g → (h w : ℕ) → Same h w (quartered height width f) (quartered height width g)
+unfolding quartered
+quartered-same height width high wide f g same =
+    halved-same (height / 2) (width / 2) (omega arith) (omega arith) _ _ (halved-same height width (omega arith) (omega arith) f g same (height / 2) (width / 2))
+
+-- every level of an allowed size can be read, and levels 1 and 2 have a quarter
+some : (k size : ℕ) → 64 ≤ size → 0 < levelSize (levelAt k) size
+unfolding levelSize
+some zero size h = omega arith
+some (suc zero) size h = omega arith
+some (suc (suc zero)) size h = omega arith
+some (suc (suc (suc k))) size h = omega arith
+
+large : (size : ℕ) → 64 ≤ size → (2 ≤ levelSize level1 size) × (2 ≤ levelSize level2 size)
+unfolding levelSize
+large size h = (omega arith, omega arith)
+
+module _ (s : Shape) (ok : Allowed s) (f g : Image) (same : Same (s .height) (s .width) f g) where
+  abbrev SameLevel : ℕ → Type 0
+  SameLevel k = Same (levelSize (levelAt k) (s .height)) (levelSize (levelAt k) (s .width)) (levelImage k s f) (levelImage k s g)
+
+  level0-same : SameLevel 0
+  unfolding image0 bayerSum levelSize
+  level0-same =
+      record {
+        at = λ row column h k.
+            let a = same .at (2 * row) (2 * column) (omega arith) (omega arith) in
+            let b = same .at (2 * row) (2 * column + 1) (omega arith) (omega arith) in
+            let c = same .at (2 * row + 1) (2 * column) (omega arith) (omega arith) in
+            let d = same .at (2 * row + 1) (2 * column + 1) (omega arith) (omega arith) in
+            omega (arith, a, b, c, d);
+      }
+
+  level1-same : SameLevel 1
+  unfolding image1
+  level1-same = halved-same _ _ (some 0 _ (ok .high .least)) (some 0 _ (ok .wide .least)) _ _ level0-same _ _
+
+  level2-same : SameLevel 2
+  unfolding image2
+  level2-same = quartered-same _ _ (large _ (ok .high .least) .0) (large _ (ok .wide .least) .0) _ _ level1-same _ _
+
+  level3-same : SameLevel 3
+  unfolding image3
+  level3-same = quartered-same _ _ (large _ (ok .high .least) .1) (large _ (ok .wide .least) .1) _ _ level2-same _ _
+
+  levels-same : (k : ℕ) → SameLevel k
+  levels-same zero = level0-same
+  levels-same (suc zero) = level1-same
+  levels-same (suc (suc zero)) = level2-same
+  levels-same (suc (suc (suc k))) = level3-same
+
+  pub pairs-equal : (k : ℕ) → Equal (pairs s f g k)
+  unfolding pairs
+  pairs-equal k = record { at = read-same _ _ (some k _ (ok .high .least)) (some k _ (ok .wide .least)) (levelImage k s f) (levelImage k s g) (levels-same k) }
