@@ -2,22 +2,31 @@
 use mathlib.Core.Path.{_≡_}
 use mathlib.Core.List.{List}
 use Prim.Native.Nat.{ℕ, _*_, _/_, _%_, _<_}
+use lib.ListN.{take, drop}
 use Rattle.sequences.specs.Tab.{tab}
 use Rattle.geometry.specs.declared.Shape.{Shape}
-use Rattle.geometry.specs.Read.{Image, sampleAt}
+use Rattle.geometry.specs.Shape.{outputLength}
+use Rattle.geometry.specs.Read.{Image, Sampled}
+use Rattle.geometry.specs.Bounds.{SamplesFit}
 
 -- the words of an image of so many rows and columns, "row by row"
 unfoldable pub imageWords : (height width : ℕ) → Image → List ℕ
 imageWords height width image = tab (width * height) (λ k. image (k / width) (k % width))
 
--- the words of a burst's frame
+-- the words of a burst's frame, as they stand in its list of samples
 unfoldable pub frameWords : Shape → List ℕ → (frame : ℕ) → List ℕ
-frameWords s samples frame = imageWords (s .height) (s .width) (sampleAt s samples frame)
+frameWords s samples frame = take (outputLength s) (drop (frame * outputLength s) samples)
+
+-- a burst that refusals 1 to 4 and 11 let through
+pub record Burst (s : Shape) (reference : ℕ) (samples : List ℕ) : Type 0 where
+  pub sampled : Sampled s samples
+  pub below : reference < s .count
+  pub fit : SamplesFit samples
 
 -- two images of so many rows and columns are equal inside
 pub record Same (height width : ℕ) (a b : Image) : Type 0 where
   pub at : (row column : ℕ) → row < height → column < width → a row column ≡ b row column
 
--- a burst whose frames are all equal to the reference
+-- every frame of a burst is the reference over again
 pub record Alike (s : Shape) (reference : ℕ) (samples : List ℕ) : Type 0 where
-  pub frame : (k : ℕ) → k < s .count → Same (s .height) (s .width) (sampleAt s samples reference) (sampleAt s samples k)
+  pub words : (frame : ℕ) → frame < s .count → frameWords s samples frame ≡ frameWords s samples reference

@@ -2,6 +2,8 @@ pub mod Frames
 pub mod StrengthZero
 pub mod StillMerge
 pub mod StillAlign
+pub mod StillRun
+pub mod FrameLaws
 pub mod ZeroLaws
 pub mod OutputLaws
 pub mod MergeLaws

@@ -1,7 +1,6 @@
 -- From a scene's samples to its words: where no tile has a correction, the merged frame is the reference.
 use mathlib.Core.Path.{_≡_, _∙_, ap, ap₂}
-use Prim.Native.Nat.{ℕ, zero, suc, _*_, _/_, _%_, _≤_, _<_}
-use native.Mathlib.Nat.{mod-lt, div-lt-iff-lt-mul, mul-comm, zero-mul}
+use Prim.Native.Nat.{ℕ, _*_, _/_, _%_, _≤_, _<_}
 use native.Mathlib.Omega.{arith}
 use lib.IntN.{pos, natAbs}
 use Rattle.sequences.specs.Grid.{tab-ext}
@@ -10,16 +9,8 @@ use Rattle.transform.specs.Tables.{side16}
 use Rattle.transform.specs.Recipe.{correctionAt}
 use Rattle.merging.specs.Recipe.{Scene, noiseOver, differenceOver, planeOutput, outputAt, wordAt, merged}
 use Rattle.sanity.specs.Frames.{imageWords}
+use Rattle.sanity.specs.FrameLaws.{row-inside, column-inside}
 use Rattle.sanity.specs.OutputLaws.{output-kept}
-
--- a word's row and column are inside
-column-inside : (k width height : ℕ) → k < width * height → k % width < width
-column-inside k zero height h = absurd (omega (arith, zero-mul height))
-column-inside k (suc w) height h = mod-lt k (omega arith)
-
-pub row-inside : (k width height : ℕ) → k < width * height → k / width < height
-row-inside k zero height h = absurd (omega (arith, zero-mul height))
-row-inside k (suc w) height h = div-lt-iff-lt-mul {k = suc w} {x = k} {y = height} (omega arith) .1 (omega (arith, mul-comm (suc w) height))
 
 module _ (s : Scene) where
   -- P of each tile over the sample at a row and a column is 0, for each other frame

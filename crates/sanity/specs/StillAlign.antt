@@ -9,7 +9,7 @@ use lib.ListN.{replicate, replicate-append-replicate}
 use Rattle.sequences.specs.Grid.{tab-ext}
 use Rattle.sequences.specs.Clear.{tab-const}
 use Rattle.geometry.specs.declared.Shape.{Shape}
-use Rattle.geometry.specs.Shape.{Allowed, vectorLength}
+use Rattle.geometry.specs.Shape.{vectorLength}
 use Rattle.geometry.specs.Read.{sampleAt}
 use Rattle.geometry.specs.Vectors.{otherFrame}
 use Rattle.alignment.specs.Vectors.{still}
@@ -17,8 +17,8 @@ use Rattle.alignment.specs.Fields.{Field, part, word}
 use Rattle.alignment.specs.Frames.{pairs, vectorsOf, residualOf}
 use Rattle.alignment.specs.Aligned.{fieldOf, sumOf, frameParts, partAt, alignedVectors, residualSums}
 use Rattle.alignment.specs.BurstLaws.{vectors-are}
-use Rattle.sanity.specs.Frames.{Alike}
-use Rattle.sanity.specs.MergeLaws.{row-inside}
+use Rattle.sanity.specs.Frames.{Burst, Alike}
+use Rattle.sanity.specs.FrameLaws.{row-inside, alike-same}
 use Rattle.sanity.specs.StillMerge.{other-below}
 use Rattle.sanity.specs.StillLaws.{Equal, StillField, field-still, sum-none}
 use Rattle.sanity.specs.PyramidLaws.{pairs-equal}
@@ -32,9 +32,9 @@ word-none : (columns : ℕ) (f : Field) → StillField f → (k : ℕ) → word 
 unfolding word
 word-none columns f none k = ap (part (k % 2)) (none .at (k / 2 / columns) (k / 2 % columns)) ∙ part-none (k % 2)
 
-module _ (s : Shape) (reference : ℕ) (samples : List ℕ) (ok : Allowed s) (alike : Alike s reference samples) where
+module _ (s : Shape) (reference : ℕ) (samples : List ℕ) (burst : Burst s reference samples) (alike : Alike s reference samples) where
   pair-equal : (k : ℕ) → k < s .count - 1 → (l : ℕ) → Equal (pairs s (sampleAt s samples reference) (sampleAt s samples (otherFrame reference k)) l)
-  pair-equal k h = pairs-equal s ok _ _ (alike .frame (otherFrame reference k) (other-below reference k (s .count) h))
+  pair-equal k h = pairs-equal s (burst .sampled .allowed) _ _ (alike-same burst alike (otherFrame reference k) (other-below reference k (s .count) h))
 
   -- of each other frame
   pub field-none : (k : ℕ) → k < s .count - 1 → StillField (fieldOf s reference samples k)
@@ -50,12 +50,12 @@ module _ (s : Shape) (reference : ℕ) (samples : List ℕ) (ok : Allowed s) (al
   unfolding alignedVectors partAt
   vectors-none =
       tab-ext (vectorLength s) _ _
-      (λ i h. word-none _ _ (field-none (i / frameParts s reference samples) (row-inside i _ (s .count - 1) (omega (arith, vectors-are ok, mul-comm (s .count - 1) (frameParts s reference samples))))) (i % frameParts s reference samples))
+      (λ i h. word-none _ _ (field-none (i / frameParts s reference samples) (row-inside i _ (s .count - 1) (omega (arith, vectors-are (burst .sampled .allowed), mul-comm (s .count - 1) (frameParts s reference samples))))) (i % frameParts s reference samples))
       ∙ tab-const (pos 0) (vectorLength s)
 
   pub sums-none : residualSums s reference samples ≡ replicate 7 0
   unfolding residualSums
   sums-none =
-      let seven : s .count - 1 + (7 - (s .count - 1)) ≡ 7 = omega (arith, ok .few) in
+      let seven : s .count - 1 + (7 - (s .count - 1)) ≡ 7 = omega (arith, burst .sampled .allowed .few) in
       ap (λ l. l ++ replicate (7 - (s .count - 1)) 0) (tab-ext (s .count - 1) _ _ residual-none ∙ tab-const 0 (s .count - 1))
       ∙ replicate-append-replicate (s .count - 1) (7 - (s .count - 1)) 0 ∙ ap (λ n. replicate n 0) seven

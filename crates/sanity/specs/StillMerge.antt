@@ -1,5 +1,5 @@
 -- Try a burst of one picture taken several times, with vectors of 0: the merge hands back the reference, whatever the noise and the strength are.
-use mathlib.Core.Path.{_≡_, refl}
+use mathlib.Core.Path.{_≡_, refl, sym, _∙_}
 use mathlib.Core.Bool.{Bool, true, false, cond}
 use mathlib.Core.List.{List}
 use Prim.Native.Nat.{ℕ, zero, suc, _+_, _-_, _*_, _/_, _%_, _≤_, _<_}
@@ -7,17 +7,16 @@ use native.Mathlib.Omega.{arith}
 use lib.Dec.{lit<, ltb}
 use lib.IntN.{ℤ, pos, _+ℤ_, +ℤ-invr}
 use lib.ListN.{getD, replicate}
-use Rattle.geometry.specs.Shape.{Allowed}
 use Rattle.geometry.specs.Read.{Image, planeOf, inside, read}
 use Rattle.geometry.specs.ReadLaws.{inside-below}
 use Rattle.geometry.specs.Tiles.{level0, origin}
 use Rattle.geometry.specs.Vectors.{otherFrame, vectorPlace, downAt, rightAt}
-use Rattle.geometry.specs.Bounds.{SamplesFit}
 use Rattle.geometry.specs.BoundLaws.{sample-most}
 use Rattle.transform.specs.Tables.{side16}
 use Rattle.merging.specs.declared.Merge.{Merge}
 use Rattle.merging.specs.Recipe.{Scene, sceneOf, tileAt, referenceTile, otherTile, difference, outputAt, merged}
-use Rattle.sanity.specs.Frames.{Same, Alike, imageWords, frameWords}
+use Rattle.sanity.specs.Frames.{Burst, Same, Alike, imageWords, frameWords}
+use Rattle.sanity.specs.FrameLaws.{frame-words, alike-same}
 use Rattle.sanity.specs.ZeroLaws.{no-difference}
 use Rattle.sanity.specs.MergeLaws.{Uncorrected, output-is, merged-is}
 
@@ -77,18 +76,20 @@ other-below reference k count h = by (ltb k reference)
     by true = omega arith
     by false = omega arith
 
-module _ (m : Merge) (samples : List ℕ) (ok : Allowed (m .shape)) (alike : Alike (m .shape) (m .reference) samples) (n : ℕ) where
+module _ (m : Merge) (samples : List ℕ) (burst : Burst (m .shape) (m .reference) samples) (alike : Alike (m .shape) (m .reference) samples) (n : ℕ) where
   still-burst : Still (sceneOf m samples (replicate n (pos 0)))
   unfolding sceneOf downAt rightAt
   still-burst =
       record {
-        high = omega (arith, ok .high .least);
-        wide = omega (arith, ok .wide .least);
-        alike = λ k h. alike .frame (otherFrame (m .reference) k) (other-below (m .reference) k (m .shape .count) h);
+        high = omega (arith, burst .sampled .allowed .high .least);
+        wide = omega (arith, burst .sampled .allowed .wide .least);
+        alike = λ k h. alike-same burst alike (otherFrame (m .reference) k) (other-below (m .reference) k (m .shape .count) h);
         no-down = λ k a b h. zero-at n (vectorPlace (m .shape) k a b);
         no-right = λ k a b h. zero-at n (vectorPlace (m .shape) k a b + 1);
       }
 
-  pub burst-back : SamplesFit samples → merged (sceneOf m samples (replicate n (pos 0))) ≡ frameWords (m .shape) samples (m .reference)
-  unfolding sceneOf frameWords
-  burst-back fit = frame-back (sceneOf m samples (replicate n (pos 0))) still-burst (λ row column h k. sample-most fit (m .shape) (m .reference) row column)
+  pub burst-back : merged (sceneOf m samples (replicate n (pos 0))) ≡ frameWords (m .shape) samples (m .reference)
+  unfolding sceneOf
+  burst-back =
+      frame-back (sceneOf m samples (replicate n (pos 0))) still-burst (λ row column h k. sample-most (burst .fit) (m .shape) (m .reference) row column)
+      ∙ sym (frame-words (m .shape) samples (burst .sampled) (m .reference) (burst .below))

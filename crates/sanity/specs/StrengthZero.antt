@@ -1,10 +1,9 @@
 -- Try strength 0: the merge hands back the reference, whatever the other frames, the vectors and the noise are.
-use mathlib.Core.Path.{_≡_, _∙_, ap}
+use mathlib.Core.Path.{_≡_, sym, _∙_, ap}
 use mathlib.Core.List.{List}
 use Prim.Native.Nat.{ℕ, _/_, _%_, _≤_}
 use lib.Dec.{lit<}
 use lib.IntN.{ℤ, pos}
-use Rattle.geometry.specs.Bounds.{SamplesFit}
 use Rattle.geometry.specs.BoundLaws.{sample-most}
 use Rattle.geometry.specs.Tiles.{level0}
 use Rattle.noise.specs.NoiseNumber.{tileRoot, noiseNumber}
@@ -12,7 +11,8 @@ use Rattle.transform.specs.Tables.{side16}
 use Rattle.transform.specs.Recipe.{correctionAt}
 use Rattle.merging.specs.declared.Merge.{Merge}
 use Rattle.merging.specs.Recipe.{Scene, sceneOf, referenceTile, tileNoise, differenceOver, outputAt, merged}
-use Rattle.sanity.specs.Frames.{frameWords}
+use Rattle.sanity.specs.Frames.{frameWords, Burst}
+use Rattle.sanity.specs.FrameLaws.{frame-words}
 use Rattle.sanity.specs.ZeroLaws.{noise-none, no-noise}
 use Rattle.sanity.specs.MergeLaws.{Uncorrected, output-is, merged-is}
 
@@ -37,8 +37,9 @@ module _ (s : Scene) (off : s .strength ≡ 0) where
   sample-back row column most = output-is s row column most (uncorrected row column)
 
 -- and the whole frame of a burst
-pub burst-back : (m : Merge) (samples : List ℕ) (vectors : List ℤ) → m .strength ≡ 0 → SamplesFit samples →
+pub burst-back : (m : Merge) (samples : List ℕ) (vectors : List ℤ) → Burst (m .shape) (m .reference) samples → m .strength ≡ 0 →
     merged (sceneOf m samples vectors) ≡ frameWords (m .shape) samples (m .reference)
-unfolding sceneOf frameWords
-burst-back m samples vectors off fit =
-    merged-is (sceneOf m samples vectors) (λ row column h k. sample-back (sceneOf m samples vectors) off row column (sample-most fit (m .shape) (m .reference) row column))
+unfolding sceneOf
+burst-back m samples vectors burst off =
+    merged-is (sceneOf m samples vectors) (λ row column h k. sample-back (sceneOf m samples vectors) off row column (sample-most (burst .fit) (m .shape) (m .reference) row column))
+    ∙ sym (frame-words (m .shape) samples (burst .sampled) (m .reference) (burst .below))

@@ -1,0 +1,67 @@
+-- A frame's words are its samples row by row, and frames of equal words are equal images.
+use mathlib.Core.Path.{_≡_, sym, _∙_, ap, ap₂}
+use mathlib.Core.List.{List}
+use Prim.Native.Nat.{ℕ, zero, suc, _+_, _*_, _/_, _%_, _≤_, _<_}
+use native.Mathlib.Nat.{mod-lt, div-lt-iff-lt-mul, div-add-mod', mul-comm, zero-mul, suc-mul, mul-le-mul-right}
+use native.Mathlib.Omega.{arith}
+use lib.ListN.{length, getD, drop, length-drop}
+use lib.Seq.{ext-getD, length-take-le, getD-take, getD-drop}
+use Rattle.sequences.specs.Tab.{length-tab, getD-tab}
+use Rattle.geometry.specs.declared.Shape.{Shape}
+use Rattle.geometry.specs.Shape.{sampleLength, outputLength}
+use Rattle.geometry.specs.Read.{Image, Sampled, sampleIndex, sampleAt}
+use Rattle.geometry.specs.ReadLaws.{cell-below}
+use Rattle.pyramid.specs.WordsLaws.{place-row, place-column}
+use Rattle.sanity.specs.Frames.{imageWords, frameWords, Burst, Same, Alike}
+
+-- a word's row and column are inside
+pub column-inside : (k width height : ℕ) → k < width * height → k % width < width
+column-inside k zero height h = absurd (omega (arith, zero-mul height))
+column-inside k (suc w) height h = mod-lt k (omega arith)
+
+pub row-inside : (k width height : ℕ) → k < width * height → k / width < height
+row-inside k zero height h = absurd (omega (arith, zero-mul height))
+row-inside k (suc w) height h = div-lt-iff-lt-mul {k = suc w} {x = k} {y = height} (omega arith) .1 (omega (arith, mul-comm (suc w) height))
+
+-- the word at a row and a column
+pub image-word : (height width : ℕ) (image : Image) (row column : ℕ) → row < height → column < width → getD (imageWords height width image) (row * width + column) 0 ≡ image row column
+unfolding imageWords
+image-word height width image row column h k =
+    getD-tab (λ k. image (k / width) (k % width)) 0 (width * height) (row * width + column) (omega (arith, cell-below row column height width h k, mul-comm width height))
+    ∙ ap₂ image (place-row row column width k) (place-column row column width k)
+
+-- equal words, equal images
+pub words-same : (height width : ℕ) (f g : Image) → imageWords height width f ≡ imageWords height width g → Same height width f g
+words-same height width f g e =
+    record { at = λ row column h k. sym (image-word height width f row column h k) ∙ ap (λ l. getD l (row * width + column) 0) e ∙ image-word height width g row column h k }
+
+module _ (s : Shape) (samples : List ℕ) (sampled : Sampled s samples) (frame : ℕ) (below : frame < s .count) where
+  long : frame * outputLength s + outputLength s ≤ length samples
+  unfolding outputLength sampleLength
+  long = omega (arith, sampled .long, suc-mul frame (s .width * s .height), mul-le-mul-right (s .width * s .height) below)
+
+  part-long : length (frameWords s samples frame) ≡ s .width * s .height
+  unfolding frameWords outputLength
+  part-long = length-take-le (outputLength s) (drop (frame * outputLength s) samples) (omega (arith, long, length-drop (frame * outputLength s) samples))
+
+  word-at : (k : ℕ) → k < s .width * s .height → getD (frameWords s samples frame) k 0 ≡ sampleAt s samples frame (k / s .width) (k % s .width)
+  unfolding frameWords outputLength sampleAt sampleIndex
+  word-at k h =
+      getD-take (outputLength s) (drop (frame * outputLength s) samples) k 0 h
+      ∙ getD-drop (frame * outputLength s) samples k 0
+      ∙ ap (λ i. getD samples i 0) place
+    where
+      place : frame * (s .width * s .height) + k ≡ (frame * s .height + k / s .width) * s .width + k % s .width
+      place = omega (arith, div-add-mod' k (s .width))
+
+  pub frame-words : frameWords s samples frame ≡ imageWords (s .height) (s .width) (sampleAt s samples frame)
+  unfolding imageWords
+  frame-words =
+      ext-getD 0 _ _ (part-long ∙ sym (length-tab _ (s .width * s .height)))
+      (λ k h. word-at k (omega (arith, part-long)) ∙ sym (getD-tab _ 0 (s .width * s .height) k (omega (arith, part-long))))
+
+pub alike-same : {s : Shape} {reference : ℕ} {samples : List ℕ} → Burst s reference samples → Alike s reference samples → (frame : ℕ) → frame < s .count →
+    Same (s .height) (s .width) (sampleAt s samples reference) (sampleAt s samples frame)
+alike-same {s} {reference} {samples} burst alike frame h =
+    words-same (s .height) (s .width) _ _
+    (sym (frame-words s samples (burst .sampled) reference (burst .below)) ∙ sym (alike .words frame h) ∙ frame-words s samples (burst .sampled) frame h)

@@ -1,0 +1,17 @@
+-- Try a burst of one picture taken several times, aligned and then merged: the reference comes back, whatever the noise and the strength are.
+use mathlib.Core.Path.{_≡_, _∙_, ap}
+use mathlib.Core.List.{List}
+use Prim.Native.Nat.{ℕ}
+use Rattle.geometry.specs.Shape.{vectorLength}
+use Rattle.alignment.specs.Aligned.{alignedVectors}
+use Rattle.merging.specs.declared.Merge.{Merge}
+use Rattle.merging.specs.Recipe.{sceneOf, merged}
+use Rattle.sanity.specs.Frames.{frameWords, Burst, Alike}
+use Rattle.sanity.specs.StillMerge.{burst-back}
+use Rattle.sanity.specs.StillAlign.{vectors-none}
+
+pub run-back : (m : Merge) (samples : List ℕ) → Burst (m .shape) (m .reference) samples → Alike (m .shape) (m .reference) samples →
+    merged (sceneOf m samples (alignedVectors (m .shape) (m .reference) samples)) ≡ frameWords (m .shape) samples (m .reference)
+run-back m samples burst alike =
+    ap (λ v. merged (sceneOf m samples v)) (vectors-none (m .shape) (m .reference) samples burst alike)
+    ∙ burst-back m samples burst alike (vectorLength (m .shape))
