@@ -3,9 +3,11 @@ pub mod StrengthZero
 pub mod StillMerge
 pub mod StillAlign
 pub mod StillRun
+pub mod Calls
 pub mod FrameLaws
 pub mod ZeroLaws
 pub mod OutputLaws
 pub mod MergeLaws
 pub mod StillLaws
 pub mod PyramidLaws
+pub mod AcceptedLaws

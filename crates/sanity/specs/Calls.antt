@@ -1,0 +1,68 @@
+-- The same at the calls, once they have accepted: what merge, align and run leave at strength 0, and of frames that are all equal.
+use mathlib.Core.Path.{_≡_, sym, _∙_, ap}
+use mathlib.Core.List.{List}
+use Prim.Native.Nat.{ℕ}
+use lib.IntN.{ℤ, pos}
+use lib.ListN.{length, replicate}
+use Rattle.sequences.specs.Clear.{zeros}
+use Rattle.geometry.specs.declared.Shape.{Shape}
+use Rattle.noise.specs.declared.Noise.{Noise}
+use Rattle.alignment.specs.Aligned.{alignedVectors}
+use Rattle.merging.specs.Recipe.{sceneOf, merged}
+use Rattle.stacker.specs.declared.Alignment.{Alignment}
+use Rattle.stacker.specs.declared.Tuning.{Tuning}
+use Rattle.stacker.specs.Buffers.{noSums}
+use Rattle.stacker.specs.Refusals.{mergeOf}
+use Rattle.stacker.specs.Calls.{Aligned, Merged, Ran}
+use Rattle.sanity.specs.Frames.{frameWords, Alike}
+use Rattle.sanity.specs.StrengthZero as StrengthZero
+use Rattle.sanity.specs.StillMerge as StillMerge
+use Rattle.sanity.specs.StillAlign.{vectors-none, sums-none}
+use Rattle.sanity.specs.StillRun.{run-back}
+use Rattle.sanity.specs.AcceptedLaws.{Found, align-accepted, merge-accepted, run-accepted}
+
+-- no tile has moved: every vector is 0, and so is every sum of residuals
+pub record Unmoved (vectors vectors′ : List ℤ) (r : Alignment) : Type 0 where
+  pub found : vectors′ ≡ zeros vectors
+  pub sums : r .residuals ≡ noSums
+
+unmoved : {s : Shape} {reference : ℕ} {samples : List ℕ} {vectors vectors′ : List ℤ} {r : Alignment} → Found s reference samples vectors vectors′ r → Alike s reference samples → Unmoved vectors vectors′ r
+unfolding zeros
+unmoved {s} {reference} {samples} f alike =
+    let burst = f .lent .burst in
+    record {
+      found = f .vectors-are ∙ vectors-none s reference samples burst alike ∙ ap (λ n. replicate n (pos 0)) (sym (f .lent .long));
+      sums = f .sums-are ∙ sums-none s reference samples burst alike;
+    }
+
+module _ {s : Shape} {reference : ℕ} {samples : List ℕ} {vectors work work′ : List ℤ} where
+  pub align-still : {vectors′ : List ℤ} {r : Alignment} → Aligned s reference samples vectors vectors′ work work′ r → r .refusal ≡ 0 →
+      Alike s reference samples → Unmoved vectors vectors′ r
+  align-still call accepted alike = unmoved (align-accepted call accepted) alike
+
+  module _ {noise : Noise} {tuning : Tuning} {output output′ : List ℕ} where
+    pub merge-strength-zero : {number : ℕ} → Merged s reference noise tuning samples vectors output output′ work work′ number → number ≡ 0 →
+        tuning .strength ≡ 0 → output′ ≡ frameWords s samples reference
+    merge-strength-zero call accepted off =
+        let (lent, is) = merge-accepted call accepted in
+        is ∙ StrengthZero.burst-back (mergeOf s reference noise tuning) samples vectors (lent .burst) off
+
+    pub merge-still : {number : ℕ} → Merged s reference noise tuning samples vectors output output′ work work′ number → number ≡ 0 →
+        Alike s reference samples → vectors ≡ zeros vectors → output′ ≡ frameWords s samples reference
+    unfolding zeros
+    merge-still call accepted alike none =
+        let (lent, is) = merge-accepted call accepted in
+        let m = mergeOf s reference noise tuning in
+        is ∙ ap (λ v. merged (sceneOf m samples v)) none ∙ StillMerge.burst-back m samples (lent .burst) alike (length vectors)
+
+    pub run-strength-zero : {vectors′ : List ℤ} {r : Alignment} → Ran s reference noise tuning samples vectors vectors′ output output′ work work′ r → r .refusal ≡ 0 →
+        tuning .strength ≡ 0 → output′ ≡ frameWords s samples reference
+    run-strength-zero call accepted off =
+        let (f, is) = run-accepted call accepted in
+        is ∙ StrengthZero.burst-back (mergeOf s reference noise tuning) samples (alignedVectors s reference samples) (f .lent .burst) off
+
+    pub run-still : {vectors′ : List ℤ} {r : Alignment} → Ran s reference noise tuning samples vectors vectors′ output output′ work work′ r → r .refusal ≡ 0 →
+        Alike s reference samples → Unmoved vectors vectors′ r × (output′ ≡ frameWords s samples reference)
+    run-still call accepted alike =
+        let (f, is) = run-accepted call accepted in
+        (unmoved f alike, is ∙ run-back (mergeOf s reference noise tuning) samples (f .lent .burst) alike)
