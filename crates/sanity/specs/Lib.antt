@@ -3,6 +3,7 @@ pub mod StrengthZero
 pub mod StillMerge
 pub mod StillAlign
 pub mod StillRun
+pub mod Renumbered
 pub mod Calls
 pub mod FrameLaws
 pub mod ZeroLaws
@@ -11,3 +12,4 @@ pub mod MergeLaws
 pub mod StillLaws
 pub mod PyramidLaws
 pub mod AcceptedLaws
+pub mod RenumberLaws

@@ -1,16 +1,28 @@
--- From a scene's samples to its words: where no tile has a correction, the merged frame is the reference.
+-- Equal frames have equal tiles; and where no tile has a correction, the merged frame is the reference.
 use mathlib.Core.Path.{_≡_, _∙_, ap, ap₂}
-use Prim.Native.Nat.{ℕ, _*_, _/_, _%_, _≤_, _<_}
+use Prim.Native.Nat.{ℕ, _+_, _*_, _/_, _%_, _≤_, _<_}
 use native.Mathlib.Omega.{arith}
-use lib.IntN.{pos, natAbs}
+use lib.IntN.{ℤ, pos, natAbs, _+ℤ_}
 use Rattle.sequences.specs.Grid.{tab-ext}
-use Rattle.geometry.specs.Read.{planeOf}
+use Rattle.geometry.specs.Read.{Image, planeOf, inside, read}
+use Rattle.geometry.specs.ReadLaws.{inside-below}
+use Rattle.geometry.specs.Tiles.{level0, origin}
 use Rattle.transform.specs.Tables.{side16}
 use Rattle.transform.specs.Recipe.{correctionAt}
-use Rattle.merging.specs.Recipe.{Scene, noiseOver, differenceOver, planeOutput, outputAt, wordAt, merged}
-use Rattle.sanity.specs.Frames.{imageWords}
+use Rattle.merging.specs.Recipe.{Scene, tileAt, noiseOver, differenceOver, planeOutput, outputAt, wordAt, merged}
+use Rattle.sanity.specs.Frames.{Same, imageWords}
 use Rattle.sanity.specs.FrameLaws.{row-inside, column-inside}
 use Rattle.sanity.specs.OutputLaws.{output-kept}
+
+pub tile-same : (height width rowParity columnParity : ℕ) (f g : Image) → 2 ≤ height → 2 ≤ width → rowParity < 2 → columnParity < 2 → Same height width f g →
+    (down right : ℤ) (a b i j : ℕ) → tileAt height width rowParity columnParity f down right a b i j ≡ tileAt height width rowParity columnParity g down right a b i j
+unfolding tileAt read planeOf
+tile-same height width rowParity columnParity f g high wide p q same down right a b i j =
+    let row = origin (level0 .half) a +ℤ down +ℤ pos i in
+    let column = origin (level0 .half) b +ℤ right +ℤ pos j in
+    same .at (2 * inside (height / 2) row + rowParity) (2 * inside (width / 2) column + columnParity)
+    (omega (arith, inside-below (height / 2) row (omega arith)))
+    (omega (arith, inside-below (width / 2) column (omega arith)))
 
 module _ (s : Scene) where
   -- P of each tile over the sample at a row and a column is 0, for each other frame

@@ -2,14 +2,11 @@
 use mathlib.Core.Path.{_≡_, refl, sym, _∙_}
 use mathlib.Core.Bool.{Bool, true, false, cond}
 use mathlib.Core.List.{List}
-use Prim.Native.Nat.{ℕ, zero, suc, _+_, _-_, _*_, _/_, _%_, _≤_, _<_}
+use Prim.Native.Nat.{ℕ, zero, suc, _+_, _-_, _%_, _≤_, _<_}
 use native.Mathlib.Omega.{arith}
 use lib.Dec.{lit<, ltb}
-use lib.IntN.{ℤ, pos, _+ℤ_, +ℤ-invr}
+use lib.IntN.{pos, +ℤ-invr}
 use lib.ListN.{getD, replicate}
-use Rattle.geometry.specs.Read.{Image, planeOf, inside, read}
-use Rattle.geometry.specs.ReadLaws.{inside-below}
-use Rattle.geometry.specs.Tiles.{level0, origin}
 use Rattle.geometry.specs.Vectors.{otherFrame, vectorPlace, downAt, rightAt}
 use Rattle.geometry.specs.BoundLaws.{sample-most}
 use Rattle.transform.specs.Tables.{side16}
@@ -18,7 +15,7 @@ use Rattle.merging.specs.Recipe.{Scene, sceneOf, tileAt, referenceTile, otherTi
 use Rattle.sanity.specs.Frames.{Burst, Same, Alike, imageWords, frameWords}
 use Rattle.sanity.specs.FrameLaws.{frame-words, alike-same}
 use Rattle.sanity.specs.ZeroLaws.{no-difference}
-use Rattle.sanity.specs.MergeLaws.{Uncorrected, output-is, merged-is}
+use Rattle.sanity.specs.MergeLaws.{tile-same, Uncorrected, output-is, merged-is}
 
 -- every other frame is the reference, and no tile of it has moved
 pub record Still (s : Scene) : Type 0 where
@@ -27,17 +24,6 @@ pub record Still (s : Scene) : Type 0 where
   pub alike : (k : ℕ) → k < s .others → Same (s .height) (s .width) (s .reference) (s .other k)
   pub no-down : (k a b : ℕ) → k < s .others → s .down k a b ≡ pos 0
   pub no-right : (k a b : ℕ) → k < s .others → s .right k a b ≡ pos 0
-
--- equal frames have equal tiles
-tile-same : (height width rowParity columnParity : ℕ) (f g : Image) → 2 ≤ height → 2 ≤ width → rowParity < 2 → columnParity < 2 → Same height width f g →
-    (down right : ℤ) (a b i j : ℕ) → tileAt height width rowParity columnParity f down right a b i j ≡ tileAt height width rowParity columnParity g down right a b i j
-unfolding tileAt read planeOf
-tile-same height width rowParity columnParity f g high wide p q same down right a b i j =
-    let row = origin (level0 .half) a +ℤ down +ℤ pos i in
-    let column = origin (level0 .half) b +ℤ right +ℤ pos j in
-    same .at (2 * inside (height / 2) row + rowParity) (2 * inside (width / 2) column + columnParity)
-    (omega (arith, inside-below (height / 2) row (omega arith)))
-    (omega (arith, inside-below (width / 2) column (omega arith)))
 
 module _ (s : Scene) (still : Still s) where
   -- "T0−Tz" is 0
