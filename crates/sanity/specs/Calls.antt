@@ -1,4 +1,4 @@
--- The same at the calls, once they have accepted: what merge, align and run leave at strength 0, and of frames that are all equal.
+-- The same at the calls, once they have accepted: what merge, align and run leave at strength 0, of frames that are all equal, and of frames in another order.
 use mathlib.Core.Path.{_≡_, sym, _∙_, ap}
 use mathlib.Core.List.{List}
 use Prim.Native.Nat.{ℕ}
@@ -19,6 +19,7 @@ use Rattle.sanity.specs.StrengthZero as StrengthZero
 use Rattle.sanity.specs.StillMerge as StillMerge
 use Rattle.sanity.specs.StillAlign.{vectors-none, sums-none}
 use Rattle.sanity.specs.StillRun.{run-back}
+use Rattle.sanity.specs.Shuffled.{Shuffled, run-stays}
 use Rattle.sanity.specs.AcceptedLaws.{Found, align-accepted, merge-accepted, run-accepted}
 
 -- no tile has moved: every vector is 0, and so is every sum of residuals
@@ -66,3 +67,14 @@ module _ {s : Shape} {reference : ℕ} {samples : List ℕ} {vectors work work�
     run-still call accepted alike =
         let (f, is) = run-accepted call accepted in
         (unmoved f alike, is ∙ run-back (mergeOf s reference noise tuning) samples (f .lent .burst) alike)
+
+-- two accepted calls of run, on the frames of one burst in two orders, leave the same output
+pub run-shuffled : {s : Shape} {reference reference₂ : ℕ} {noise : Noise} {tuning : Tuning} {samples samples₂ : List ℕ} {vectors vectors′ vectors₂ vectors₂′ : List ℤ}
+    {output output′ output₂ output₂′ : List ℕ} {work work′ work₂ work₂′ : List ℤ} {r r₂ : Alignment} {to from : ℕ → ℕ} →
+    Ran s reference noise tuning samples vectors vectors′ output output′ work work′ r → r .refusal ≡ 0 →
+    Ran s reference₂ noise tuning samples₂ vectors₂ vectors₂′ output₂ output₂′ work₂ work₂′ r₂ → r₂ .refusal ≡ 0 →
+    Shuffled s to from reference reference₂ samples samples₂ → output₂′ ≡ output′
+run-shuffled {s} {reference} {noise = noise} {tuning = tuning} call accepted call₂ accepted₂ sh =
+    let (f, is) = run-accepted call accepted in
+    let (f₂, is₂) = run-accepted call₂ accepted₂ in
+    is₂ ∙ run-stays (mergeOf s reference noise tuning) (f .lent .burst) (f₂ .lent .burst) sh ∙ sym is

@@ -60,8 +60,13 @@ module _ (s : Shape) (samples : List ℕ) (sampled : Sampled s samples) (frame :
       ext-getD 0 _ _ (part-long ∙ sym (length-tab _ (s .width * s .height)))
       (λ k h. word-at k (omega (arith, part-long)) ∙ sym (getD-tab _ 0 (s .width * s .height) k (omega (arith, part-long))))
 
+-- frames of equal words are equal images
+pub frames-same : {s : Shape} {samples samples′ : List ℕ} → Sampled s samples → Sampled s samples′ → (frame frame′ : ℕ) → frame < s .count → frame′ < s .count →
+    frameWords s samples frame ≡ frameWords s samples′ frame′ → Same (s .height) (s .width) (sampleAt s samples frame) (sampleAt s samples′ frame′)
+frames-same {s} {samples} {samples′} p q frame frame′ h k e =
+    words-same (s .height) (s .width) _ _ (sym (frame-words s samples p frame h) ∙ e ∙ frame-words s samples′ q frame′ k)
+
 pub alike-same : {s : Shape} {reference : ℕ} {samples : List ℕ} → Burst s reference samples → Alike s reference samples → (frame : ℕ) → frame < s .count →
     Same (s .height) (s .width) (sampleAt s samples reference) (sampleAt s samples frame)
 alike-same {s} {reference} {samples} burst alike frame h =
-    words-same (s .height) (s .width) _ _
-    (sym (frame-words s samples (burst .sampled) reference (burst .below)) ∙ sym (alike .words frame h) ∙ frame-words s samples (burst .sampled) frame h)
+    frames-same (burst .sampled) (burst .sampled) reference frame (burst .below) h (sym (alike .words frame h))

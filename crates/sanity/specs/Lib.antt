@@ -4,6 +4,7 @@ pub mod StillMerge
 pub mod StillAlign
 pub mod StillRun
 pub mod Renumbered
+pub mod Shuffled
 pub mod Calls
 pub mod FrameLaws
 pub mod ZeroLaws
@@ -13,3 +14,4 @@ pub mod StillLaws
 pub mod PyramidLaws
 pub mod AcceptedLaws
 pub mod RenumberLaws
+pub mod VectorLaws

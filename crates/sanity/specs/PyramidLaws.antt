@@ -1,5 +1,5 @@
 -- Equal frames have equal pyramids, read anywhere.
-use mathlib.Core.Path.{_≡_}
+use mathlib.Core.Path.{_≡_, ap₂, fun-ext}
 use Prim.Native.Nat.{ℕ, zero, suc, _+_, _*_, _/_, _≤_, _<_}
 use native.Mathlib.Omega.{arith}
 use lib.IntN.{ℤ}
@@ -75,6 +75,17 @@ module _ (s : Shape) (ok : Allowed s) (f g : Image) (same : Same (s .height) (s 
   levels-same (suc (suc zero)) = level2-same
   levels-same (suc (suc (suc k))) = level3-same
 
+  reads-same : (k : ℕ) (row column : ℤ) → read (levelSize (levelAt k) (s .height)) (levelSize (levelAt k) (s .width)) (levelImage k s f) row column ≡ read (levelSize (levelAt k) (s .height)) (levelSize (levelAt k) (s .width)) (levelImage k s g) row column
+  reads-same k = read-same _ _ (some k _ (ok .high .least)) (some k _ (ok .wide .least)) (levelImage k s f) (levelImage k s g) (levels-same k)
+
   pub pairs-equal : (k : ℕ) → Equal (pairs s f g k)
   unfolding pairs
-  pairs-equal k = record { at = read-same _ _ (some k _ (ok .high .least)) (some k _ (ok .wide .least)) (levelImage k s f) (levelImage k s g) (levels-same k) }
+  pairs-equal k = record { at = reads-same k }
+
+-- so what is compared depends on the frames inside alone
+pub pairs-agree : (s : Shape) → Allowed s → (f f′ g g′ : Image) → Same (s .height) (s .width) f f′ → Same (s .height) (s .width) g g′ → pairs s f g ≡ pairs s f′ g′
+unfolding pairs
+pairs-agree s ok f f′ g g′ p q =
+    fun-ext (λ k. ap₂ (λ r o. record { height = levelSize (levelAt k) (s .height); width = levelSize (levelAt k) (s .width); reference = r; other = o })
+    (fun-ext (λ row. fun-ext (λ column. reads-same s ok f f′ p k row column)))
+    (fun-ext (λ row. fun-ext (λ column. reads-same s ok g g′ q k row column))))

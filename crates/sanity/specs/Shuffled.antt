@@ -1,0 +1,85 @@
+-- Try the frames of a burst in another order, the reference at another place among them: each other frame keeps its vectors and its sum of
+-- residuals, and the merged frame stays the same.
+use mathlib.Core.Path.{_≡_, sym, _∙_, ap}
+use mathlib.Core.List.{List}
+use Prim.Native.Nat.{ℕ, _-_, _/_, _≤_, _<_}
+use lib.IntN.{ℤ}
+use Rattle.geometry.specs.declared.Shape.{Shape}
+use Rattle.geometry.specs.Read.{sampleAt}
+use Rattle.geometry.specs.Vectors.{otherFrame, downAt, rightAt}
+use Rattle.alignment.specs.Fields.{field0, residualSum}
+use Rattle.alignment.specs.Frames.{vectorsOf, residualOf}
+use Rattle.alignment.specs.Aligned.{fieldOf, sumOf, alignedVectors}
+use Rattle.merging.specs.declared.Merge.{Merge}
+use Rattle.merging.specs.Recipe.{sceneOf, merged}
+use Rattle.sanity.specs.Frames.{frameWords, Burst, Same}
+use Rattle.sanity.specs.FrameLaws.{frames-same}
+use Rattle.sanity.specs.StillMerge.{other-below}
+use Rattle.sanity.specs.PyramidLaws.{pairs-agree}
+use Rattle.sanity.specs.VectorLaws.{down-is, right-is}
+use Rattle.sanity.specs.RenumberLaws.{Renumbering}
+use Rattle.sanity.specs.Renumbered.{refilled, Reordered, frame-stays}
+
+-- samples′ has the frames of samples: the same reference, and as its other frame k the other frame `to k`
+pub record Shuffled (s : Shape) (to from : ℕ → ℕ) (reference reference′ : ℕ) (samples samples′ : List ℕ) : Type 0 where
+  pub order : Renumbering (s .count - 1) to from
+  pub reference-words : frameWords s samples′ reference′ ≡ frameWords s samples reference
+  pub other-words : (k : ℕ) → k < s .count - 1 → frameWords s samples′ (otherFrame reference′ k) ≡ frameWords s samples (otherFrame reference (to k))
+
+-- vectors′ has the vectors of these frames
+pub record Carried (s : Shape) (to : ℕ → ℕ) (vectors vectors′ : List ℤ) : Type 0 where
+  pub down : (k a b : ℕ) → k < s .count - 1 → a ≤ s .height / 16 → b ≤ s .width / 16 → downAt s vectors′ k a b ≡ downAt s vectors (to k) a b
+  pub right : (k a b : ℕ) → k < s .count - 1 → a ≤ s .height / 16 → b ≤ s .width / 16 → rightAt s vectors′ k a b ≡ rightAt s vectors (to k) a b
+
+-- the same merge with its reference at another place
+abbrev pub moved : Merge → (reference : ℕ) → Merge
+moved m reference = record { shape = m .shape; reference = reference; shot = m .shot; read = m .read; strength = m .strength }
+
+module _ {s : Shape} {to from : ℕ → ℕ} {reference reference′ : ℕ} {samples samples′ : List ℕ} (burst : Burst s reference samples) (burst′ : Burst s reference′ samples′) (sh : Shuffled s to from reference reference′ samples samples′) where
+  reference-same : Same (s .height) (s .width) (sampleAt s samples′ reference′) (sampleAt s samples reference)
+  reference-same = frames-same (burst′ .sampled) (burst .sampled) reference′ reference (burst′ .below) (burst .below) (sh .reference-words)
+
+  other-same : (k : ℕ) → k < s .count - 1 → Same (s .height) (s .width) (sampleAt s samples′ (otherFrame reference′ k)) (sampleAt s samples (otherFrame reference (to k)))
+  other-same k h =
+      frames-same (burst′ .sampled) (burst .sampled) _ _ (other-below reference′ k (s .count) h) (other-below reference (to k) (s .count) (sh .order .to-below k h)) (sh .other-words k h)
+
+  -- alignment
+  pub field-carried : (k : ℕ) → k < s .count - 1 → fieldOf s reference′ samples′ k ≡ fieldOf s reference samples (to k)
+  unfolding fieldOf vectorsOf
+  field-carried k h = ap field0 (pairs-agree s (burst .sampled .allowed) _ _ _ _ reference-same (other-same k h))
+
+  pub sum-carried : (k : ℕ) → k < s .count - 1 → sumOf s reference′ samples′ k ≡ sumOf s reference samples (to k)
+  unfolding sumOf residualOf
+  sum-carried k h = ap residualSum (pairs-agree s (burst .sampled .allowed) _ _ _ _ reference-same (other-same k h))
+
+  pub vectors-carried : Carried s to (alignedVectors s reference samples) (alignedVectors s reference′ samples′)
+  vectors-carried =
+      let ok = burst .sampled .allowed in
+      record {
+        down = λ k a b h i j.
+            down-is s reference′ samples′ ok k a b h i j ∙ ap (λ f. f a b .down) (field-carried k h) ∙ sym (down-is s reference samples ok (to k) a b (sh .order .to-below k h) i j);
+        right = λ k a b h i j.
+            right-is s reference′ samples′ ok k a b h i j ∙ ap (λ f. f a b .right) (field-carried k h) ∙ sym (right-is s reference samples ok (to k) a b (sh .order .to-below k h) i j);
+      }
+
+-- merge, with vectors that go with their frames
+module _ (m : Merge) {to from : ℕ → ℕ} {reference′ : ℕ} {samples samples′ : List ℕ} (burst : Burst (m .shape) (m .reference) samples) (burst′ : Burst (m .shape) reference′ samples′) (sh : Shuffled (m .shape) to from (m .reference) reference′ samples samples′) where
+  pub merge-stays : {vectors vectors′ : List ℤ} → Carried (m .shape) to vectors vectors′ → merged (sceneOf (moved m reference′) samples′ vectors′) ≡ merged (sceneOf m samples vectors)
+  unfolding sceneOf refilled
+  merge-stays {vectors} {vectors′} c = frame-stays (sceneOf m samples vectors) reordered
+    where
+      reordered : Reordered (sceneOf m samples vectors) to from (sampleAt (m .shape) samples′ reference′) (λ k. sampleAt (m .shape) samples′ (otherFrame reference′ k)) (downAt (m .shape) vectors′) (rightAt (m .shape) vectors′)
+      reordered =
+          record {
+            order = sh .order;
+            high = burst .sampled .allowed .high;
+            wide = burst .sampled .allowed .wide;
+            reference-same = reference-same burst burst′ sh;
+            other-same = other-same burst burst′ sh;
+            down-same = c .down;
+            right-same = c .right;
+          }
+
+  -- align and then merge
+  pub run-stays : merged (sceneOf (moved m reference′) samples′ (alignedVectors (m .shape) reference′ samples′)) ≡ merged (sceneOf m samples (alignedVectors (m .shape) (m .reference) samples))
+  run-stays = merge-stays (vectors-carried burst burst′ sh)
