@@ -5,6 +5,9 @@ pub mod StillAlign
 pub mod StillRun
 pub mod Renumbered
 pub mod Shuffled
+pub mod Flat
+pub mod FlatMerge
+pub mod FlatFigure
 pub mod Calls
 pub mod FrameLaws
 pub mod ZeroLaws
@@ -15,3 +18,5 @@ pub mod PyramidLaws
 pub mod AcceptedLaws
 pub mod RenumberLaws
 pub mod VectorLaws
+pub mod RoundLaws
+pub mod FlatLaws

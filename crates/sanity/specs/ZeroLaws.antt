@@ -14,7 +14,7 @@ pub sumZ-zero : (n : ℕ) (f : ℕ → ℤ) → ((i : ℕ) → i < n → f i ≡
 sumZ-zero n f h = sumZ-cong n f (λ i. pos 0) h ∙ sumZ-0 n
 
 -- "to nearest, halves away from zero": 0 stays 0
-away-zero : (m : ℕ) → 0 < m → away (pos 0) m ≡ pos 0
+pub away-zero : (m : ℕ) → 0 < m → away (pos 0) m ≡ pos 0
 unfolding away
 away-zero m h = ap pos (div-eq-of-lt {n = 2 * 0 + m} {m = 2 * m} (omega arith))
 
@@ -24,20 +24,20 @@ unfolding noiseNumber
 noise-none ls lr r = rw (zero-mul (variance ls lr r))
 
 -- two products with 0 for a factor
-less-zero : (a b c d : ℤ) → b ≡ pos 0 → d ≡ pos 0 → a *ℤ b -ℤ c *ℤ d ≡ pos 0
+pub less-zero : (a b c d : ℤ) → b ≡ pos 0 → d ≡ pos 0 → a *ℤ b -ℤ c *ℤ d ≡ pos 0
 less-zero a b c d p q = rw (p, q, *ℤ-zero a, *ℤ-zero c)
 
-less-none : (a b c d : ℤ) → a ≡ pos 0 → c ≡ pos 0 → a *ℤ b -ℤ c *ℤ d ≡ pos 0
+pub less-none : (a b c d : ℤ) → a ≡ pos 0 → c ≡ pos 0 → a *ℤ b -ℤ c *ℤ d ≡ pos 0
 less-none a b c d p q = rw (p, q, zero-*ℤ b, zero-*ℤ d)
 
-more-none : (a b c d : ℤ) → a ≡ pos 0 → c ≡ pos 0 → a *ℤ b +ℤ c *ℤ d ≡ pos 0
+pub more-none : (a b c d : ℤ) → a ≡ pos 0 → c ≡ pos 0 → a *ℤ b +ℤ c *ℤ d ≡ pos 0
 more-none a b c d p q = rw (p, q, zero-*ℤ b, zero-*ℤ d)
 
--- Q of no bin, and G of no Q, at any noise
-wiener-zero : (v : ℕ) → wiener v (pos 0) (pos 0) ≡ pos 0
+-- a part of G is 0 where that part of Q is, at any noise
+pub wiener-zero : (v : ℕ) (r : ℤ) → wiener v (pos 0) r ≡ pos 0
 unfolding wiener
-wiener-zero zero = refl
-wiener-zero (suc v) = rw (*ℤ-zero (pos (suc v))) (away-zero (power (suc v) (pos 0) (pos 0)) (omega arith))
+wiener-zero zero r = refl
+wiener-zero (suc v) r = rw (*ℤ-zero (pos (suc v))) (away-zero (power (suc v) (pos 0) r) (omega arith))
 
 module _ (s : Side) where
   -- P is 0 where G is
@@ -77,7 +77,7 @@ module _ (s : Side) where
     unfolding filtered quantized
     filtered-zero above noise b c p q =
         ap₂ (wiener noise) (ap (λ z. away z (s .quantum)) p ∙ away-zero (s .quantum) above) (ap (λ z. away z (s .quantum)) q ∙ away-zero (s .quantum) above)
-        ∙ wiener-zero noise
+        ∙ wiener-zero noise (pos 0)
 
     pub no-difference : 0 < s .quantum → 0 < s .divisor → (noise y x : ℕ) → correctionAt s noise d y x ≡ pos 0
     unfolding correctionAt

@@ -1,0 +1,41 @@
+-- Frames that are flat, each of one sample value, and what their merge is, worked out in a line.
+use mathlib.Core.Path.{_≡_}
+use mathlib.Core.List.{List}
+use Prim.Native.Nat.{ℕ, suc, _-_, _*_, _≤_, _<_}
+use lib.IntN.{ℤ, pos, _-ℤ_, _*ℤ_}
+use lib.ListN.{replicate}
+use Rattle.algebra.specs.Sums.{sumZ}
+use Rattle.algebra.specs.Clamp.{clampZ}
+use Rattle.algebra.specs.Nearest.{away, upward}
+use Rattle.geometry.specs.declared.Shape.{Shape}
+use Rattle.geometry.specs.Shape.{outputLength}
+use Rattle.geometry.specs.Read.{Sampled}
+use Rattle.geometry.specs.Vectors.{otherFrame}
+use Rattle.noise.specs.NoiseNumber.{noiseNumber}
+use Rattle.transform.specs.Recipe.{wiener}
+use Rattle.merging.specs.Recipe.{Scene}
+use Rattle.sanity.specs.Frames.{Same, frameWords}
+
+-- the reference has the sample a everywhere, and the k-th other frame b k
+pub record Flat (s : Scene) (a : ℕ) (b : ℕ → ℕ) : Type 0 where
+  pub high : 2 ≤ s .height
+  pub wide : 2 ≤ s .width
+  pub reference : Same (s .height) (s .width) (s .reference) (λ row column. a)
+  pub other : (k : ℕ) → k < s .others → Same (s .height) (s .width) (s .other k) (λ row column. b k)
+
+-- the same of a burst's words
+pub record FlatBurst (s : Shape) (reference : ℕ) (samples : List ℕ) (a : ℕ) (b : ℕ → ℕ) : Type 0 where
+  pub sampled : Sampled s samples
+  pub below : reference < s .count
+  pub reference-words : frameWords s samples reference ≡ replicate (outputLength s) a
+  pub other-words : (k : ℕ) → k < s .count - 1 → frameWords s samples (otherFrame reference k) ≡ replicate (outputLength s) (b k)
+
+-- P of a difference c at the noise number, in 1/256: the one bin Q = 4096·c, filtered, and G divided by 16
+unfoldable pub flatCorrection : (noise : ℕ) (c : ℤ) → ℤ
+flatCorrection noise c = away (wiener noise (c *ℤ pos 4096) (pos 0)) 16
+
+-- a − (sum of P)/(256·N), to nearest, halves upward, held to 0..4095; r is 16·a
+unfoldable pub flatOutput : Scene → (a : ℕ) (b : ℕ → ℕ) → ℤ
+flatOutput s a b =
+    clampZ (pos 0) (pos 4095)
+    (upward (pos a *ℤ pos (256 * suc (s .others)) -ℤ sumZ (s .others) (λ k. flatCorrection (noiseNumber (s .strength) (s .shot) (s .read) (16 * a)) (pos a -ℤ pos (b k)))) (256 * suc (s .others)))

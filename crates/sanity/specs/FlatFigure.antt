@@ -1,0 +1,82 @@
+-- Document 01's figure: "W = H = 64, N = 2, reference 0 all 0, frame 1 all 4, shot 0, read 4194304, t 1024: every merged sample is 2. With t 0 it is 0."
+use mathlib.Core.Path.{_≡_, refl, _∙_, ap}
+use mathlib.Core.List.{List, _++_}
+use Prim.Native.Nat.{ℕ, zero, suc, _<_}
+use native.Mathlib.Omega.{arith}
+use lib.Dec.{lit<, lit≤}
+use lib.IntN.{ℤ}
+use lib.ListN.{length, take, replicate, length-replicate, length-append}
+use lib.Seq.{take-at, drop-at, take-all}
+use Rattle.algebra.specs.Sums.{sumZ}
+use Rattle.algebra.specs.Clamp.{minZ, maxZ, clampZ}
+use Rattle.algebra.specs.Nearest.{away, upward}
+use Rattle.geometry.specs.declared.Shape.{Shape}
+use Rattle.geometry.specs.Shape.{AllowedSize, sampleLength, outputLength}
+use Rattle.geometry.specs.Read.{Sampled}
+use Rattle.geometry.specs.Vectors.{otherFrame}
+use Rattle.noise.specs.NoiseNumber.{variance, noiseNumber}
+use Rattle.transform.specs.Recipe.{wiener}
+use Rattle.merging.specs.declared.Merge.{Merge}
+use Rattle.merging.specs.Recipe.{sceneOf, merged}
+use Rattle.sanity.specs.Frames.{frameWords}
+use Rattle.sanity.specs.Flat.{FlatBurst, flatCorrection, flatOutput}
+use Rattle.sanity.specs.FlatMerge.{burst-flat}
+
+abbrev pub shape : Shape
+shape = record { width = 64; height = 64; count = 2 }
+
+-- a frame of one value
+unfoldable pub plain : ℕ → List ℕ
+plain v = replicate 4096 v
+
+abbrev pub burst : List ℕ
+burst = plain 0 ++ plain 4
+
+abbrev pub tuned : (strength : ℕ) → Merge
+tuned strength = record { shape = shape; reference = 0; shot = 0; read = 4194304; strength = strength }
+
+plain-long : (v : ℕ) → length (plain v) ≡ 4096
+unfolding plain
+plain-long v = length-replicate 4096 v
+
+words0 : frameWords shape burst 0 ≡ plain 0
+unfolding frameWords outputLength
+words0 = take-at (plain 0) (plain 4) 4096 (plain-long 0)
+
+words1 : frameWords shape burst 1 ≡ plain 4
+unfolding frameWords outputLength
+words1 = ap (take 4096) (drop-at (plain 0) (plain 4) 4096 (plain-long 0)) ∙ take-all 4096 (plain 4) (omega (arith, plain-long 4))
+
+sixty-four : AllowedSize 64
+sixty-four = record { least = lit≤ tt; most = lit≤ tt; whole = refl }
+
+sampled : Sampled shape burst
+unfolding sampleLength
+sampled =
+    record {
+      allowed = record { wide = sixty-four; high = sixty-four; several = lit≤ tt; few = lit≤ tt };
+      long = length-append (plain 0) (plain 4) ∙ omega (arith, plain-long 0, plain-long 4);
+    }
+
+flat : FlatBurst shape 0 burst 0 (λ k. 4)
+unfolding plain outputLength otherFrame
+flat =
+    record {
+      sampled = sampled;
+      below = lit< tt;
+      reference-words = words0;
+      other-words = λ k h. only k h;
+    }
+  where
+    only : (k : ℕ) → k < 1 → frameWords shape burst (otherFrame 0 k) ≡ replicate (outputLength shape) 4
+    only zero h = words1
+    only (suc k) h = absurd (omega arith)
+
+-- whatever the lent vectors are
+pub merged-2 : (vectors : List ℤ) → merged (sceneOf (tuned 1024) burst vectors) ≡ plain 2
+unfolding plain outputLength sceneOf flatOutput flatCorrection noiseNumber variance wiener away upward clampZ minZ maxZ sumZ
+merged-2 vectors = burst-flat (tuned 1024) burst vectors flat
+
+pub merged-0 : (vectors : List ℤ) → merged (sceneOf (tuned 0) burst vectors) ≡ plain 0
+unfolding plain outputLength sceneOf flatOutput flatCorrection noiseNumber variance wiener away upward clampZ minZ maxZ sumZ
+merged-0 vectors = burst-flat (tuned 0) burst vectors flat

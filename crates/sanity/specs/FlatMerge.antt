@@ -1,0 +1,82 @@
+-- Try flat frames: whatever the vectors, the merged frame is flat too, and its value is that of the line.
+use mathlib.Core.Path.{_≡_, sym, _∙_, ap, ap₂, fun-ext}
+use mathlib.Core.List.{List}
+use Prim.Native.Nat.{ℕ, _+_, _*_, _/_, _%_, _<_}
+use native.Mathlib.Omega.{arith}
+use lib.IntN.{ℤ, pos, natAbs, _-ℤ_}
+use lib.ListN.{replicate}
+use Rattle.sequences.specs.Grid.{tab-ext}
+use Rattle.sequences.specs.Clear.{tab-const}
+use Rattle.geometry.specs.declared.Shape.{Shape}
+use Rattle.geometry.specs.Shape.{outputLength}
+use Rattle.geometry.specs.Vectors.{otherFrame}
+use Rattle.geometry.specs.Read.{Sampled, sampleAt, planeOf, read}
+use Rattle.noise.specs.NoiseNumber.{tileRoot, noiseNumber}
+use Rattle.merging.specs.declared.Merge.{Merge}
+use Rattle.merging.specs.Recipe.{Scene, sceneOf, tileAt, referenceTile, otherTile, tileNoise, difference, planeOutput, outputAt, wordAt, merged}
+use Rattle.sanity.specs.Frames.{Same, imageWords, frameWords}
+use Rattle.sanity.specs.FrameLaws.{words-same, frame-words, row-inside, column-inside}
+use Rattle.sanity.specs.MergeLaws.{tile-same}
+use Rattle.sanity.specs.FlatLaws.{flat-root, flat-sample}
+use Rattle.sanity.specs.Flat.{Flat, FlatBurst, flatOutput}
+use Rattle.sanity.specs.StillMerge.{other-below}
+
+module _ (s : Scene) {a : ℕ} {b : ℕ → ℕ} (flat : Flat s a b) where
+  module _ (rowParity columnParity : ℕ) (p : rowParity < 2) (q : columnParity < 2) (row column : ℕ) where
+    reference-tile : (i j : ℕ) → referenceTile s rowParity columnParity row column i j ≡ a
+    unfolding referenceTile tileAt read planeOf
+    reference-tile i j = tile-same (s .height) (s .width) rowParity columnParity (s .reference) (λ y x. a) (flat .high) (flat .wide) p q (flat .reference) (pos 0) (pos 0) row column i j
+
+    other-tile : (k : ℕ) → k < s .others → (i j : ℕ) → otherTile s rowParity columnParity row column k i j ≡ b k
+    unfolding otherTile tileAt read planeOf
+    other-tile k h i j =
+        tile-same (s .height) (s .width) rowParity columnParity (s .other k) (λ y x. b k) (flat .high) (flat .wide) p q (flat .other k h) (s .down k row column) (s .right k row column) row column i j
+
+    tile-noise : tileNoise s rowParity columnParity row column ≡ noiseNumber (s .strength) (s .shot) (s .read) (16 * a)
+    unfolding tileNoise
+    tile-noise = ap (noiseNumber (s .strength) (s .shot) (s .read)) (ap (tileRoot 16) (fun-ext (λ i. fun-ext (λ j. reference-tile i j))) ∙ flat-root a)
+
+    differences : (k : ℕ) → k < s .others → difference s rowParity columnParity row column k ≡ (λ i j. pos a -ℤ pos (b k))
+    unfolding difference
+    differences k h = fun-ext (λ i. fun-ext (λ j. ap₂ (λ x y. pos x -ℤ pos y) (reference-tile i j) (other-tile k h i j)))
+
+  -- sample for sample
+  pub sample-flat : (row column : ℕ) → row < s .height → column < s .width → outputAt s row column ≡ flatOutput s a b
+  unfolding outputAt planeOutput planeOf flatOutput
+  sample-flat row column h k =
+      let p : row % 2 < 2 = omega arith in
+      let q : column % 2 < 2 = omega arith in
+      flat-sample _ _ (s .others) _ _ _ _ _ (omega arith) (omega arith)
+      (λ t. tile-noise (row % 2) (column % 2) p q _ _)
+      (λ t z l. differences (row % 2) (column % 2) p q _ _ z l)
+      ∙ rw (flat .reference .at (2 * (row / 2) + row % 2) (2 * (column / 2) + column % 2) (omega arith) (omega arith))
+
+  -- and the whole frame
+  pub frame-flat : merged s ≡ replicate (s .width * s .height) (natAbs (flatOutput s a b))
+  unfolding merged wordAt
+  frame-flat =
+      tab-ext (s .width * s .height) _ _
+      (λ k l. ap natAbs (sample-flat (k / s .width) (k % s .width) (row-inside k (s .width) (s .height) l) (column-inside k (s .width) (s .height) l)))
+      ∙ tab-const (natAbs (flatOutput s a b)) (s .width * s .height)
+
+-- and of a burst
+flat-same : (s : Shape) (samples : List ℕ) → Sampled s samples → (frame v : ℕ) → frame < s .count → frameWords s samples frame ≡ replicate (outputLength s) v →
+    Same (s .height) (s .width) (sampleAt s samples frame) (λ row column. v)
+unfolding outputLength imageWords
+flat-same s samples sampled frame v h e =
+    words-same (s .height) (s .width) _ _ (sym (frame-words s samples sampled frame h) ∙ e ∙ sym (tab-const v (s .width * s .height)))
+
+module _ (m : Merge) (samples : List ℕ) (vectors : List ℤ) {a : ℕ} {b : ℕ → ℕ} (flat : FlatBurst (m .shape) (m .reference) samples a b) where
+  scene-flat : Flat (sceneOf m samples vectors) a b
+  unfolding sceneOf
+  scene-flat =
+      record {
+        high = omega (arith, flat .sampled .allowed .high .least);
+        wide = omega (arith, flat .sampled .allowed .wide .least);
+        reference = flat-same (m .shape) samples (flat .sampled) (m .reference) a (flat .below) (flat .reference-words);
+        other = λ k h. flat-same (m .shape) samples (flat .sampled) (otherFrame (m .reference) k) (b k) (other-below (m .reference) k (m .shape .count) h) (flat .other-words k h);
+      }
+
+  pub burst-flat : merged (sceneOf m samples vectors) ≡ replicate (outputLength (m .shape)) (natAbs (flatOutput (sceneOf m samples vectors) a b))
+  unfolding sceneOf outputLength
+  burst-flat = frame-flat (sceneOf m samples vectors) scene-flat
