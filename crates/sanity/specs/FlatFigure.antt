@@ -1,19 +1,23 @@
 -- Document 01's figure: "W = H = 64, N = 2, reference 0 all 0, frame 1 all 4, shot 0, read 4194304, t 1024: every merged sample is 2. With t 0 it is 0."
 use mathlib.Core.Path.{_≡_, refl, _∙_, ap}
-use mathlib.Core.List.{List, _++_}
-use Prim.Native.Nat.{ℕ, zero, suc, _<_}
+use mathlib.Core.List.{List, [], _∷_, _++_}
+use Prim.Native.Nat.{ℕ, zero, suc, _*_, _<_}
 use native.Mathlib.Omega.{arith}
 use lib.Dec.{lit<, lit≤}
-use lib.IntN.{ℤ}
+use lib.IntN.{ℤ, pos}
 use lib.ListN.{length, take, replicate, length-replicate, length-append}
 use lib.Seq.{take-at, drop-at, take-all}
 use Rattle.algebra.specs.Sums.{sumZ}
 use Rattle.algebra.specs.Clamp.{minZ, maxZ, clampZ}
 use Rattle.algebra.specs.Nearest.{away, upward}
+use Rattle.sequences.specs.Tab.{tab}
 use Rattle.geometry.specs.declared.Shape.{Shape}
-use Rattle.geometry.specs.Shape.{AllowedSize, sampleLength, outputLength}
+use Rattle.geometry.specs.Shape.{AllowedSize, sampleLength, vectorLength, outputLength}
 use Rattle.geometry.specs.Read.{Sampled}
 use Rattle.geometry.specs.Vectors.{otherFrame}
+use Rattle.geometry.specs.Tiles.{level0, levelSize, levelTiles, tileCount}
+use Rattle.pyramid.specs.Layout.{tiles}
+use Rattle.alignment.specs.Aligned.{alignedVectors, residualSums}
 use Rattle.noise.specs.NoiseNumber.{variance, noiseNumber}
 use Rattle.transform.specs.Recipe.{wiener}
 use Rattle.merging.specs.declared.Merge.{Merge}
@@ -21,6 +25,7 @@ use Rattle.merging.specs.Recipe.{sceneOf, merged}
 use Rattle.sanity.specs.Frames.{frameWords}
 use Rattle.sanity.specs.Flat.{FlatBurst, flatCorrection, flatOutput}
 use Rattle.sanity.specs.FlatMerge.{burst-flat}
+use Rattle.sanity.specs.FlatAlign.{vectors-flat, sum-flat}
 
 abbrev pub shape : Shape
 shape = record { width = 64; height = 64; count = 2 }
@@ -80,3 +85,16 @@ merged-2 vectors = burst-flat (tuned 1024) burst vectors flat
 pub merged-0 : (vectors : List ℤ) → merged (sceneOf (tuned 0) burst vectors) ≡ plain 0
 unfolding plain outputLength sceneOf flatOutput flatCorrection noiseNumber variance wiener away upward clampZ minZ maxZ sumZ
 merged-0 vectors = burst-flat (tuned 0) burst vectors flat
+
+-- "`motion` on that file prints exactly [..] 1 25 25 0 102400": 25 tiles, all with vector 0, 0, and the sum of finest residuals
+pub tiles-25 : tiles level0 shape ≡ 25
+unfolding tiles levelTiles tileCount levelSize
+tiles-25 = refl
+
+pub vectors-0 : alignedVectors shape 0 burst ≡ replicate 50 (pos 0)
+unfolding vectorLength
+vectors-0 = vectors-flat flat
+
+pub residual-102400 : residualSums shape 0 burst ≡ 102400 ∷ 0 ∷ 0 ∷ 0 ∷ 0 ∷ 0 ∷ 0 ∷ []
+unfolding residualSums tab
+residual-102400 = ap (λ n. n ∷ replicate 6 0) (sum-flat flat 0 (lit< tt) ∙ ap (λ n. n * 4096) tiles-25)

@@ -1,5 +1,5 @@
 -- Try flat frames: whatever the vectors, the merged frame is flat too, and its value is that of the line.
-use mathlib.Core.Path.{_≡_, sym, _∙_, ap, ap₂, fun-ext}
+use mathlib.Core.Path.{_≡_, _∙_, ap, ap₂, fun-ext}
 use mathlib.Core.List.{List}
 use Prim.Native.Nat.{ℕ, _+_, _*_, _/_, _%_, _<_}
 use native.Mathlib.Omega.{arith}
@@ -7,15 +7,13 @@ use lib.IntN.{ℤ, pos, natAbs, _-ℤ_}
 use lib.ListN.{replicate}
 use Rattle.sequences.specs.Grid.{tab-ext}
 use Rattle.sequences.specs.Clear.{tab-const}
-use Rattle.geometry.specs.declared.Shape.{Shape}
 use Rattle.geometry.specs.Shape.{outputLength}
 use Rattle.geometry.specs.Vectors.{otherFrame}
-use Rattle.geometry.specs.Read.{Sampled, sampleAt, planeOf, read}
+use Rattle.geometry.specs.Read.{planeOf, read}
 use Rattle.noise.specs.NoiseNumber.{tileRoot, noiseNumber}
 use Rattle.merging.specs.declared.Merge.{Merge}
 use Rattle.merging.specs.Recipe.{Scene, sceneOf, tileAt, referenceTile, otherTile, tileNoise, difference, planeOutput, outputAt, wordAt, merged}
-use Rattle.sanity.specs.Frames.{Same, imageWords, frameWords}
-use Rattle.sanity.specs.FrameLaws.{words-same, frame-words, row-inside, column-inside}
+use Rattle.sanity.specs.FrameLaws.{flat-same, row-inside, column-inside}
 use Rattle.sanity.specs.MergeLaws.{tile-same}
 use Rattle.sanity.specs.FlatLaws.{flat-root, flat-sample}
 use Rattle.sanity.specs.Flat.{Flat, FlatBurst, flatOutput}
@@ -60,12 +58,6 @@ module _ (s : Scene) {a : ℕ} {b : ℕ → ℕ} (flat : Flat s a b) where
       ∙ tab-const (natAbs (flatOutput s a b)) (s .width * s .height)
 
 -- and of a burst
-flat-same : (s : Shape) (samples : List ℕ) → Sampled s samples → (frame v : ℕ) → frame < s .count → frameWords s samples frame ≡ replicate (outputLength s) v →
-    Same (s .height) (s .width) (sampleAt s samples frame) (λ row column. v)
-unfolding outputLength imageWords
-flat-same s samples sampled frame v h e =
-    words-same (s .height) (s .width) _ _ (sym (frame-words s samples sampled frame h) ∙ e ∙ sym (tab-const v (s .width * s .height)))
-
 module _ (m : Merge) (samples : List ℕ) (vectors : List ℤ) {a : ℕ} {b : ℕ → ℕ} (flat : FlatBurst (m .shape) (m .reference) samples a b) where
   scene-flat : Flat (sceneOf m samples vectors) a b
   unfolding sceneOf

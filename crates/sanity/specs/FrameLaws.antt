@@ -4,9 +4,10 @@ use mathlib.Core.List.{List}
 use Prim.Native.Nat.{ℕ, zero, suc, _+_, _*_, _/_, _%_, _≤_, _<_}
 use native.Mathlib.Nat.{mod-lt, div-lt-iff-lt-mul, div-add-mod', mul-comm, zero-mul, suc-mul, mul-le-mul-right}
 use native.Mathlib.Omega.{arith}
-use lib.ListN.{length, getD, drop, length-drop}
+use lib.ListN.{length, getD, drop, replicate, length-drop}
 use lib.Seq.{ext-getD, length-take-le, getD-take, getD-drop}
 use Rattle.sequences.specs.Tab.{length-tab, getD-tab}
+use Rattle.sequences.specs.Clear.{tab-const}
 use Rattle.geometry.specs.declared.Shape.{Shape}
 use Rattle.geometry.specs.Shape.{sampleLength, outputLength}
 use Rattle.geometry.specs.Read.{Image, Sampled, sampleIndex, sampleAt}
@@ -70,3 +71,10 @@ pub alike-same : {s : Shape} {reference : ℕ} {samples : List ℕ} → Burst s 
     Same (s .height) (s .width) (sampleAt s samples reference) (sampleAt s samples frame)
 alike-same {s} {reference} {samples} burst alike frame h =
     frames-same (burst .sampled) (burst .sampled) reference frame (burst .below) h (sym (alike .words frame h))
+
+-- a frame whose words are all v
+pub flat-same : (s : Shape) (samples : List ℕ) → Sampled s samples → (frame v : ℕ) → frame < s .count → frameWords s samples frame ≡ replicate (outputLength s) v →
+    Same (s .height) (s .width) (sampleAt s samples frame) (λ row column. v)
+unfolding outputLength imageWords
+flat-same s samples sampled frame v h e =
+    words-same (s .height) (s .width) _ _ (sym (frame-words s samples sampled frame h) ∙ e ∙ sym (tab-const v (s .width * s .height)))

@@ -7,6 +7,7 @@ pub mod Renumbered
 pub mod Shuffled
 pub mod Flat
 pub mod FlatMerge
+pub mod FlatAlign
 pub mod FlatFigure
 pub mod Calls
 pub mod FrameLaws

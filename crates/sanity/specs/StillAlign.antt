@@ -1,8 +1,8 @@
 -- Try a burst of one picture taken several times: every vector that alignment finds is 0, and so is every sum of residuals.
-use mathlib.Core.Path.{_≡_, refl, _∙_, ap}
+use mathlib.Core.Path.{_≡_, _∙_, ap}
 use mathlib.Core.List.{List, _++_}
-use Prim.Native.Nat.{ℕ, zero, suc, _+_, _-_, _/_, _%_, _<_}
-use native.Mathlib.Nat.{mul-comm}
+use Prim.Native.Nat.{ℕ, _+_, _-_, _<_}
+use native.Mathlib.Nat.{mul-zero}
 use native.Mathlib.Omega.{arith}
 use lib.IntN.{pos}
 use lib.ListN.{replicate, replicate-append-replicate}
@@ -12,25 +12,13 @@ use Rattle.geometry.specs.declared.Shape.{Shape}
 use Rattle.geometry.specs.Shape.{vectorLength}
 use Rattle.geometry.specs.Read.{sampleAt}
 use Rattle.geometry.specs.Vectors.{otherFrame}
-use Rattle.alignment.specs.Vectors.{still}
-use Rattle.alignment.specs.Fields.{Field, part, word}
 use Rattle.alignment.specs.Frames.{pairs, vectorsOf, residualOf}
-use Rattle.alignment.specs.Aligned.{fieldOf, sumOf, frameParts, partAt, alignedVectors, residualSums}
-use Rattle.alignment.specs.BurstLaws.{vectors-are}
+use Rattle.alignment.specs.Aligned.{fieldOf, sumOf, alignedVectors, residualSums}
 use Rattle.sanity.specs.Frames.{Burst, Alike}
-use Rattle.sanity.specs.FrameLaws.{row-inside, alike-same}
+use Rattle.sanity.specs.FrameLaws.{alike-same}
 use Rattle.sanity.specs.StillMerge.{other-below}
-use Rattle.sanity.specs.StillLaws.{Equal, StillField, field-still, sum-none}
+use Rattle.sanity.specs.StillLaws.{Equal, equal-rest, still-residual, StillField, field-still, sum-still, vectors-still}
 use Rattle.sanity.specs.PyramidLaws.{pairs-equal}
-
-part-none : (k : ℕ) → part k still ≡ pos 0
-unfolding part
-part-none zero = refl
-part-none (suc k) = refl
-
-word-none : (columns : ℕ) (f : Field) → StillField f → (k : ℕ) → word columns f k ≡ pos 0
-unfolding word
-word-none columns f none k = ap (part (k % 2)) (none .at (k / 2 / columns) (k / 2 % columns)) ∙ part-none (k % 2)
 
 module _ (s : Shape) (reference : ℕ) (samples : List ℕ) (burst : Burst s reference samples) (alike : Alike s reference samples) where
   pair-equal : (k : ℕ) → k < s .count - 1 → (l : ℕ) → Equal (pairs s (sampleAt s samples reference) (sampleAt s samples (otherFrame reference k)) l)
@@ -39,19 +27,15 @@ module _ (s : Shape) (reference : ℕ) (samples : List ℕ) (burst : Burst s ref
   -- of each other frame
   pub field-none : (k : ℕ) → k < s .count - 1 → StillField (fieldOf s reference samples k)
   unfolding fieldOf vectorsOf
-  field-none k h = field-still _ (pair-equal k h)
+  field-none k h = field-still _ (λ l. equal-rest _ (pair-equal k h l))
 
   pub residual-none : (k : ℕ) → k < s .count - 1 → sumOf s reference samples k ≡ 0
   unfolding sumOf residualOf
-  residual-none k h = sum-none _ (pair-equal k h)
+  residual-none k h = sum-still _ (λ l. equal-rest _ (pair-equal k h l)) 0 (λ row column. still-residual _ (pair-equal k h 0) _ _) ∙ mul-zero _
 
   -- and all of them
   pub vectors-none : alignedVectors s reference samples ≡ replicate (vectorLength s) (pos 0)
-  unfolding alignedVectors partAt
-  vectors-none =
-      tab-ext (vectorLength s) _ _
-      (λ i h. word-none _ _ (field-none (i / frameParts s reference samples) (row-inside i _ (s .count - 1) (omega (arith, vectors-are (burst .sampled .allowed), mul-comm (s .count - 1) (frameParts s reference samples))))) (i % frameParts s reference samples))
-      ∙ tab-const (pos 0) (vectorLength s)
+  vectors-none = vectors-still s reference samples (burst .sampled .allowed) field-none
 
   pub sums-none : residualSums s reference samples ≡ replicate 7 0
   unfolding residualSums

@@ -1,12 +1,18 @@
--- Alignment of two equal images: the tile that has not moved has residual 0, so no offset and no candidate takes its place, at any level.
+-- Alignment of two images of which no tile gains by a move: no offset and no candidate takes the place of 0, at any level. Equal images are such.
 use mathlib.Core.Path.{_≡_, refl, _∙_, ap, ap₂}
 use mathlib.Core.Bool.{Bool, true, false}
-use Prim.Native.Nat.{ℕ, zero, suc, _*_, _/_, _%_, _<_}
+use mathlib.Core.List.{List}
+use Prim.Native.Nat.{ℕ, zero, suc, _-_, _*_, _/_, _%_, _≤_, _<_}
+use native.Mathlib.Nat.{mul-comm}
 use native.Mathlib.Omega.{arith}
 use lib.IntN.{ℤ, pos, _+ℤ_, +ℤ-idr, zero-*ℤ}
 use Rattle.algebra.specs.Sums.{sumN, sumN-cong, sumN-const}
+use lib.ListN.{replicate}
+use Rattle.sequences.specs.Grid.{tab-ext}
+use Rattle.sequences.specs.Clear.{tab-const}
 use Rattle.sequences.specs.Least.{firstMin}
-use Rattle.alignment.specs.FirstLaws.{first}
+use Rattle.geometry.specs.declared.Shape.{Shape}
+use Rattle.geometry.specs.Shape.{Allowed, vectorLength}
 use Rattle.geometry.specs.Tiles.{Level, level0, level1, level2, level3, Step, step1to0, step2to1, step3to2}
 use Rattle.alignment.specs.declared.Tile.{Tile}
 use Rattle.alignment.specs.declared.Vector.{Vector}
@@ -14,46 +20,32 @@ use Rattle.alignment.specs.Vectors.{still, _plus_, _times_}
 use Rattle.alignment.specs.Offsets.{downs, rights, offset}
 use Rattle.alignment.specs.Residual.{gap, difference, Pair, rowResidual, residual}
 use Rattle.alignment.specs.Search.{tried, chosen, found, three, guessed}
-use Rattle.alignment.specs.Fields.{Field, tileAt, coarsest, fromCoarse, finer, field0, field1, field2, field3, tileRows, tileColumns, residuals, residualSum}
+use Rattle.alignment.specs.FirstLaws.{first}
+use Rattle.alignment.specs.Fields.{Field, part, word, tileAt, coarsest, fromCoarse, finer, field0, field1, field2, field3, tileRows, tileColumns, residuals, residualSum}
+use Rattle.alignment.specs.Aligned.{fieldOf, frameParts, partAt, alignedVectors}
+use Rattle.alignment.specs.BurstLaws.{vectors-are}
+use Rattle.sanity.specs.FrameLaws.{row-inside}
 
-sumN-zero : (n : ℕ) (f : ℕ → ℕ) → ((i : ℕ) → i < n → f i ≡ 0) → sumN n f ≡ 0
-sumN-zero n f h = sumN-cong n f (λ i. 0) h ∙ sumN-const n 0 ∙ omega arith
+-- a sum of equal terms
+pub sum-same : (n c : ℕ) (f : ℕ → ℕ) → ((i : ℕ) → i < n → f i ≡ c) → sumN n f ≡ n * c
+sum-same n c f h = sumN-cong n f (λ i. c) h ∙ sumN-const n c
 
--- the earliest of the least: a 0 at the front
-first-zero : (f : ℕ → ℕ) (n : ℕ) → f 0 ≡ 0 → firstMin f n ≡ 0
-first-zero f n e = by (firstMin f n) refl
+-- the earliest of the least: none is smaller than the first
+first-least : (f : ℕ → ℕ) (n : ℕ) → ((k : ℕ) → f 0 ≤ f k) → firstMin f n ≡ 0
+first-least f n h = by (firstMin f n) refl
   where
     by : (k : ℕ) → firstMin f n ≡ k → k ≡ 0
     by zero p = refl
-    by (suc k) p = absurd (omega (arith, first f n 0 (omega arith)))
+    by (suc k) p = absurd (omega (arith, first f n 0 (omega arith), h (firstMin f n)))
 
--- two images that read the same everywhere
-pub record Equal (p : Pair) : Type 0 where
-  pub at : (row column : ℤ) → p .reference row column ≡ p .other row column
+-- two images of which no tile gains by a move
+pub record AtRest (p : Pair) : Type 0 where
+  pub least : (squared : Bool) (t : Tile) (v : Vector) → residual squared p t still ≤ residual squared p t v
 
-difference-same : (squared : Bool) (a : ℕ) → difference squared a a ≡ 0
-unfolding difference
-difference-same true a = let none : gap a a ≡ 0 = omega arith in rw none
-difference-same false a = omega arith
-
-module _ (p : Pair) (same : Equal p) where
-  -- the tile that has not moved
-  still-residual : (squared : Bool) (t : Tile) → residual squared p t still ≡ 0
-  unfolding residual rowResidual
-  still-residual squared t =
-      sumN-zero (t .side) _
-      (λ i h. sumN-zero (t .side) _
-      (λ j k.
-      let row = t .origin .down +ℤ pos i in
-      let column = t .origin .right +ℤ pos j in
-      ap₂ (λ r c. difference squared (p .reference row column) (p .other r c)) (+ℤ-idr row) (+ℤ-idr column)
-      ∙ ap (λ x. difference squared x (p .other row column)) (same .at row column)
-      ∙ difference-same squared (p .other row column)))
-
+module _ (p : Pair) (rest : AtRest p) where
   still-found : (squared : Bool) (t : Tile) → found squared p t still ≡ still
   unfolding found chosen tried offset downs rights
-  still-found squared t =
-      ap (λ k. still plus offset k) (first-zero (tried squared p t still) 80 (still-residual squared t))
+  still-found squared t = ap (λ k. still plus offset k) (first-least (tried squared p t still) 80 (λ k. rest .least squared t (still plus offset k)))
 
   still-guess : (t : Tile) → guessed p t still still still ≡ still
   unfolding guessed three
@@ -70,33 +62,80 @@ module _ (p : Pair) (same : Equal p) where
 still-times : {v : Vector} (f : ℕ) → v ≡ still → v times f ≡ still
 still-times f e = ap (λ v. v times f) e ∙ ap₂ (λ d r. record { down = d; right = r }) (zero-*ℤ (pos f)) (zero-*ℤ (pos f))
 
--- from a coarse field that is still
+-- so the fields of all levels are still
 pub record StillField (f : Field) : Type 0 where
   pub at : (row column : ℕ) → f row column ≡ still
 
-coarsest-still : (l : Level) (p : Pair) → Equal p → StillField (coarsest l p)
+coarsest-still : (l : Level) (p : Pair) → AtRest p → StillField (coarsest l p)
 unfolding coarsest
-coarsest-still l p same = record { at = λ row column. still-found p same (l .squared) (tileAt l row column) }
+coarsest-still l p rest = record { at = λ row column. still-found p rest (l .squared) (tileAt l row column) }
 
-finer-still : (l : Level) (s : Step) (rows columns : ℕ) (p : Pair) (coarse : Field) → Equal p → StillField coarse → StillField (finer l s rows columns p coarse)
+finer-still : (l : Level) (s : Step) (rows columns : ℕ) (p : Pair) (coarse : Field) → AtRest p → StillField coarse → StillField (finer l s rows columns p coarse)
 unfolding finer fromCoarse
-finer-still l s rows columns p coarse same none =
+finer-still l s rows columns p coarse rest none =
     record {
       at = λ row column.
           let t = tileAt l row column in
           let scaled : (a b : ℕ) → coarse a b times s .factor ≡ still = λ a b. still-times (s .factor) (none .at a b) in
-          ap (found (l .squared) p t) (guess-still p same t (scaled _ _) (scaled _ _) (scaled _ _)) ∙ still-found p same (l .squared) t;
+          ap (found (l .squared) p t) (guess-still p rest t (scaled _ _) (scaled _ _) (scaled _ _)) ∙ still-found p rest (l .squared) t;
     }
 
-module _ (p : ℕ → Pair) (same : (k : ℕ) → Equal (p k)) where
+module _ (p : ℕ → Pair) (rest : (k : ℕ) → AtRest (p k)) where
   pub field-still : StillField (field0 p)
   unfolding field0 field1 field2 field3
   field-still =
-      finer-still level0 step1to0 _ _ (p 0) _ (same 0)
-      (finer-still level1 step2to1 _ _ (p 1) _ (same 1) (finer-still level2 step3to2 _ _ (p 2) _ (same 2) (coarsest-still level3 (p 3) (same 3))))
+      finer-still level0 step1to0 _ _ (p 0) _ (rest 0)
+      (finer-still level1 step2to1 _ _ (p 1) _ (rest 1) (finer-still level2 step3to2 _ _ (p 2) _ (rest 2) (coarsest-still level3 (p 3) (rest 3))))
 
-  pub sum-none : residualSum p ≡ 0
+  -- where each tile that has not moved has the residual c
+  pub sum-still : (c : ℕ) → ((row column : ℕ) → residual (level0 .squared) (p 0) (tileAt level0 row column) still ≡ c) → residualSum p ≡ tileRows level0 (p 0) * tileColumns level0 (p 0) * c
   unfolding residualSum residuals
-  sum-none =
-      sumN-zero (tileRows level0 (p 0) * tileColumns level0 (p 0)) _
-      (λ k h. ap (residual (level0 .squared) (p 0) _) (field-still .at (k / tileColumns level0 (p 0)) (k % tileColumns level0 (p 0))) ∙ still-residual (p 0) (same 0) (level0 .squared) _)
+  sum-still c e =
+      sum-same (tileRows level0 (p 0) * tileColumns level0 (p 0)) c _
+      (λ k h. ap (residual (level0 .squared) (p 0) _) (field-still .at (k / tileColumns level0 (p 0)) (k % tileColumns level0 (p 0))) ∙ e _ _)
+
+-- the words of still fields
+part-none : (k : ℕ) → part k still ≡ pos 0
+unfolding part
+part-none zero = refl
+part-none (suc k) = refl
+
+word-none : (columns : ℕ) (f : Field) → StillField f → (k : ℕ) → word columns f k ≡ pos 0
+unfolding word
+word-none columns f none k = ap (part (k % 2)) (none .at (k / 2 / columns) (k / 2 % columns)) ∙ part-none (k % 2)
+
+pub vectors-still : (s : Shape) (reference : ℕ) (samples : List ℕ) → Allowed s → ((k : ℕ) → k < s .count - 1 → StillField (fieldOf s reference samples k)) →
+    alignedVectors s reference samples ≡ replicate (vectorLength s) (pos 0)
+unfolding alignedVectors partAt
+vectors-still s reference samples ok still-of =
+    tab-ext (vectorLength s) _ _
+    (λ i h. word-none _ _ (still-of (i / frameParts s reference samples) (row-inside i _ (s .count - 1) (omega (arith, vectors-are ok, mul-comm (s .count - 1) (frameParts s reference samples))))) (i % frameParts s reference samples))
+    ∙ tab-const (pos 0) (vectorLength s)
+
+-- two images that read the same everywhere
+pub record Equal (p : Pair) : Type 0 where
+  pub at : (row column : ℤ) → p .reference row column ≡ p .other row column
+
+sumN-zero : (n : ℕ) (f : ℕ → ℕ) → ((i : ℕ) → i < n → f i ≡ 0) → sumN n f ≡ 0
+sumN-zero n f h = sum-same n 0 f h ∙ omega arith
+
+difference-same : (squared : Bool) (a : ℕ) → difference squared a a ≡ 0
+unfolding difference
+difference-same true a = let none : gap a a ≡ 0 = omega arith in rw none
+difference-same false a = omega arith
+
+module _ (p : Pair) (same : Equal p) where
+  pub still-residual : (squared : Bool) (t : Tile) → residual squared p t still ≡ 0
+  unfolding residual rowResidual
+  still-residual squared t =
+      sumN-zero (t .side) _
+      (λ i h. sumN-zero (t .side) _
+      (λ j k.
+      let row = t .origin .down +ℤ pos i in
+      let column = t .origin .right +ℤ pos j in
+      ap₂ (λ r c. difference squared (p .reference row column) (p .other r c)) (+ℤ-idr row) (+ℤ-idr column)
+      ∙ ap (λ x. difference squared x (p .other row column)) (same .at row column)
+      ∙ difference-same squared (p .other row column)))
+
+  pub equal-rest : AtRest p
+  equal-rest = record { least = λ squared t v. omega (arith, still-residual squared t) }

@@ -1,0 +1,102 @@
+-- Try flat frames: every tile fits everywhere as well, so by the tie rule no vector moves, and the residuals are the difference times the samples.
+use mathlib.Core.Path.{_≡_, sym, _∙_, ap, ap₂, fun-ext, subst}
+use mathlib.Core.Bool.{Bool}
+use mathlib.Core.List.{List}
+use Prim.Native.Nat.{ℕ, zero, suc, _-_, _*_, _/_, _<_}
+use native.Mathlib.Omega.{arith}
+use lib.IntN.{ℤ, pos}
+use lib.ListN.{replicate}
+use Rattle.geometry.specs.declared.Shape.{Shape}
+use Rattle.geometry.specs.Shape.{vectorLength}
+use Rattle.geometry.specs.Read.{Image, read, sampleAt}
+use Rattle.geometry.specs.Vectors.{otherFrame}
+use Rattle.geometry.specs.Tiles.{level0, levelTiles, levelSize}
+use Rattle.pyramid.specs.Pyramid.{bayerSum, weighted, halved, quartered, image0, image1, image2, image3}
+use Rattle.pyramid.specs.Layout.{tiles}
+use Rattle.alignment.specs.declared.Tile.{Tile}
+use Rattle.alignment.specs.declared.Vector.{Vector}
+use Rattle.alignment.specs.Vectors.{still}
+use Rattle.alignment.specs.Residual.{gap, difference, Pair, rowResidual, residual}
+use Rattle.alignment.specs.Fields.{levelAt, tileAt, tileRows, tileColumns, residualSum}
+use Rattle.alignment.specs.Frames.{levelImage, pairs, vectorsOf, residualOf}
+use Rattle.alignment.specs.Aligned.{fieldOf, sumOf, alignedVectors}
+use Rattle.sanity.specs.FrameLaws.{flat-same}
+use Rattle.sanity.specs.StillMerge.{other-below}
+use Rattle.sanity.specs.StillLaws.{sum-same, AtRest, StillField, field-still, sum-still, vectors-still}
+use Rattle.sanity.specs.PyramidLaws.{pairs-agree}
+use Rattle.sanity.specs.Flat.{FlatBurst}
+
+-- the levels of a flat frame are flat
+halved-flat : (height width v : ℕ) → halved height width (λ y x. v) ≡ (λ y x. v)
+unfolding halved weighted read
+halved-flat height width v = fun-ext (λ row. fun-ext (λ column. omega arith))
+
+quartered-flat : (height width v : ℕ) → quartered height width (λ y x. v) ≡ (λ y x. v)
+unfolding quartered
+quartered-flat height width v = ap (halved (height / 2) (width / 2)) (halved-flat height width v) ∙ halved-flat (height / 2) (width / 2) v
+
+module _ (s : Shape) (v : ℕ) where
+  flat0 : image0 s (λ y x. v) ≡ (λ y x. 4 * v)
+  unfolding image0 bayerSum
+  flat0 = fun-ext (λ row. fun-ext (λ column. omega arith))
+
+  flat1 : image1 s (λ y x. v) ≡ (λ y x. 4 * v)
+  unfolding image1
+  flat1 = ap (halved _ _) flat0 ∙ halved-flat _ _ (4 * v)
+
+  flat2 : image2 s (λ y x. v) ≡ (λ y x. 4 * v)
+  unfolding image2
+  flat2 = ap (quartered _ _) flat1 ∙ quartered-flat _ _ (4 * v)
+
+  flat3 : image3 s (λ y x. v) ≡ (λ y x. 4 * v)
+  unfolding image3
+  flat3 = ap (quartered _ _) flat2 ∙ quartered-flat _ _ (4 * v)
+
+  level-flat : (k : ℕ) → levelImage k s (λ y x. v) ≡ (λ y x. 4 * v)
+  level-flat zero = flat0
+  level-flat (suc zero) = flat1
+  level-flat (suc (suc zero)) = flat2
+  level-flat (suc (suc (suc k))) = flat3
+
+-- two flat images: every vector has the same residual
+record FlatPair (p : Pair) (x y : ℕ) : Type 0 where
+  reference : (row column : ℤ) → p .reference row column ≡ x
+  other : (row column : ℤ) → p .other row column ≡ y
+
+module _ {p : Pair} {x y : ℕ} (f : FlatPair p x y) where
+  flat-residual : (squared : Bool) (t : Tile) (v : Vector) → residual squared p t v ≡ t .side * (t .side * difference squared x y)
+  unfolding residual rowResidual
+  flat-residual squared t v =
+      sum-same (t .side) _ _ (λ i h. sum-same (t .side) _ _ (λ j k. ap₂ (difference squared) (f .reference _ _) (f .other _ _)))
+
+  flat-rest : AtRest p
+  flat-rest = record { least = λ squared t v. omega (arith, flat-residual squared t still, flat-residual squared t v) }
+
+flat-pair : (s : Shape) (a b k : ℕ) → FlatPair (pairs s (λ y x. a) (λ y x. b) k) (4 * a) (4 * b)
+unfolding pairs read
+flat-pair s a b k =
+    let taken : Image → ℤ → ℤ → ℕ = read (levelSize (levelAt k) (s .height)) (levelSize (levelAt k) (s .width)) in
+    record { reference = λ row column. ap (λ f. taken f row column) (level-flat s a k); other = λ row column. ap (λ f. taken f row column) (level-flat s b k) }
+
+module _ {s : Shape} {reference : ℕ} {samples : List ℕ} {a : ℕ} {b : ℕ → ℕ} (flat : FlatBurst s reference samples a b) where
+  pair-is : (k : ℕ) → k < s .count - 1 → pairs s (sampleAt s samples reference) (sampleAt s samples (otherFrame reference k)) ≡ pairs s (λ y x. a) (λ y x. b k)
+  pair-is k h =
+      pairs-agree s (flat .sampled .allowed) _ _ _ _
+      (flat-same s samples (flat .sampled) reference a (flat .below) (flat .reference-words))
+      (flat-same s samples (flat .sampled) (otherFrame reference k) (b k) (other-below reference k (s .count) h) (flat .other-words k h))
+
+  -- of each other frame; a tile has 256 sums of four samples
+  pub field-flat : (k : ℕ) → k < s .count - 1 → StillField (fieldOf s reference samples k)
+  unfolding fieldOf vectorsOf
+  field-flat k h = field-still _ (λ l. subst (λ p. AtRest (p l)) (sym (pair-is k h)) (flat-rest (flat-pair s a (b k) l)))
+
+  pub sum-flat : (k : ℕ) → k < s .count - 1 → sumOf s reference samples k ≡ tiles level0 s * (1024 * gap a (b k))
+  unfolding sumOf residualOf tiles levelTiles tileRows tileColumns pairs tileAt difference
+  sum-flat k h =
+      ap residualSum (pair-is k h)
+      ∙ sum-still _ (λ l. flat-rest (flat-pair s a (b k) l)) (16 * (16 * gap (4 * a) (4 * b k))) (λ row column. flat-residual (flat-pair s a (b k) 0) _ (tileAt level0 row column) still)
+      ∙ ap (λ n. tiles level0 s * n) (omega arith)
+
+  -- and all of them
+  pub vectors-flat : alignedVectors s reference samples ≡ replicate (vectorLength s) (pos 0)
+  vectors-flat = vectors-still s reference samples (flat .sampled .allowed) field-flat
