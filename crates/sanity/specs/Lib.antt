@@ -3,6 +3,7 @@ pub mod StrengthZero
 pub mod StillMerge
 pub mod StillAlign
 pub mod StillRun
+pub mod Moved
 pub mod Renumbered
 pub mod Shuffled
 pub mod Flat

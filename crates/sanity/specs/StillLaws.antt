@@ -116,10 +116,10 @@ vectors-still s reference samples ok still-of =
 pub record Equal (p : Pair) : Type 0 where
   pub at : (row column : ℤ) → p .reference row column ≡ p .other row column
 
-sumN-zero : (n : ℕ) (f : ℕ → ℕ) → ((i : ℕ) → i < n → f i ≡ 0) → sumN n f ≡ 0
+pub sumN-zero : (n : ℕ) (f : ℕ → ℕ) → ((i : ℕ) → i < n → f i ≡ 0) → sumN n f ≡ 0
 sumN-zero n f h = sum-same n 0 f h ∙ omega arith
 
-difference-same : (squared : Bool) (a : ℕ) → difference squared a a ≡ 0
+pub difference-same : (squared : Bool) (a : ℕ) → difference squared a a ≡ 0
 unfolding difference
 difference-same true a = let none : gap a a ≡ 0 = omega arith in rw none
 difference-same false a = omega arith
