@@ -1,4 +1,4 @@
--- Frames that are flat, each of one sample value, and what their merge is, worked out in a line.
+-- Frames that are flat, each of one sample value, and the value of their merge in a line of arithmetic.
 use mathlib.Core.Path.{_≡_}
 use mathlib.Core.List.{List}
 use Prim.Native.Nat.{ℕ, suc, _-_, _*_, _≤_, _<_}

@@ -1,4 +1,4 @@
--- Try flat frames: whatever the vectors, the merged frame is flat too, and its value is that of the line.
+-- Try flat frames: whatever the vectors, the merged frame is flat too, of the value `flatOutput`.
 use mathlib.Core.Path.{_≡_, _∙_, ap, ap₂, fun-ext}
 use mathlib.Core.List.{List}
 use Prim.Native.Nat.{ℕ, _+_, _*_, _/_, _%_, _<_}
@@ -13,11 +13,10 @@ use Rattle.geometry.specs.Read.{planeOf, read}
 use Rattle.noise.specs.NoiseNumber.{tileRoot, noiseNumber}
 use Rattle.merging.specs.declared.Merge.{Merge}
 use Rattle.merging.specs.Recipe.{Scene, sceneOf, tileAt, referenceTile, otherTile, tileNoise, difference, planeOutput, outputAt, wordAt, merged}
-use Rattle.sanity.specs.FrameLaws.{flat-same, row-inside, column-inside}
+use Rattle.sanity.specs.FrameLaws.{other-below, flat-same, row-inside, column-inside}
 use Rattle.sanity.specs.MergeLaws.{tile-same}
 use Rattle.sanity.specs.FlatLaws.{flat-root, flat-sample}
 use Rattle.sanity.specs.Flat.{Flat, FlatBurst, flatOutput}
-use Rattle.sanity.specs.StillMerge.{other-below}
 
 module _ (s : Scene) {a : ℕ} {b : ℕ → ℕ} (flat : Flat s a b) where
   module _ (rowParity columnParity : ℕ) (p : rowParity < 2) (q : columnParity < 2) (row column : ℕ) where

@@ -13,8 +13,7 @@ use Rattle.alignment.specs.Aligned.{fieldOf, sumOf, alignedVectors}
 use Rattle.merging.specs.declared.Merge.{Merge}
 use Rattle.merging.specs.Recipe.{sceneOf, merged}
 use Rattle.sanity.specs.Frames.{frameWords, Burst, Same}
-use Rattle.sanity.specs.FrameLaws.{frames-same}
-use Rattle.sanity.specs.StillMerge.{other-below}
+use Rattle.sanity.specs.FrameLaws.{other-below, frames-same}
 use Rattle.sanity.specs.PyramidLaws.{pairs-agree}
 use Rattle.sanity.specs.VectorLaws.{down-is, right-is}
 use Rattle.sanity.specs.RenumberLaws.{Renumbering}

@@ -1,10 +1,9 @@
 -- Try a burst of one picture taken several times, with vectors of 0: the merge hands back the reference, whatever the noise and the strength are.
 use mathlib.Core.Path.{_≡_, refl, sym, _∙_}
-use mathlib.Core.Bool.{Bool, true, false, cond}
 use mathlib.Core.List.{List}
-use Prim.Native.Nat.{ℕ, zero, suc, _+_, _-_, _%_, _≤_, _<_}
+use Prim.Native.Nat.{ℕ, zero, suc, _+_, _%_, _≤_, _<_}
 use native.Mathlib.Omega.{arith}
-use lib.Dec.{lit<, ltb}
+use lib.Dec.{lit<}
 use lib.IntN.{pos, +ℤ-invr}
 use lib.ListN.{getD, replicate}
 use Rattle.geometry.specs.Vectors.{otherFrame, vectorPlace, downAt, rightAt}
@@ -13,7 +12,7 @@ use Rattle.transform.specs.Tables.{side16}
 use Rattle.merging.specs.declared.Merge.{Merge}
 use Rattle.merging.specs.Recipe.{Scene, sceneOf, tileAt, referenceTile, otherTile, difference, outputAt, merged}
 use Rattle.sanity.specs.Frames.{Burst, Same, Alike, imageWords, frameWords}
-use Rattle.sanity.specs.FrameLaws.{frame-words, alike-same}
+use Rattle.sanity.specs.FrameLaws.{other-below, frame-words, alike-same}
 use Rattle.sanity.specs.ZeroLaws.{no-difference}
 use Rattle.sanity.specs.MergeLaws.{tile-same, Uncorrected, output-is, merged-is}
 
@@ -48,20 +47,12 @@ module _ (s : Scene) (still : Still s) where
   pub frame-back : ((row column : ℕ) → row < s .height → column < s .width → s .reference row column ≤ 4095) → merged s ≡ imageWords (s .height) (s .width) (s .reference)
   frame-back most = merged-is s (λ row column h k. sample-back row column (most row column h k))
 
--- a burst of frames that are all equal, with vectors that are all 0
 zero-at : (n k : ℕ) → getD (replicate n (pos 0)) k (pos 0) ≡ pos 0
 zero-at zero k = refl
 zero-at (suc n) zero = refl
 zero-at (suc n) (suc k) = zero-at n k
 
-pub other-below : (reference k count : ℕ) → k < count - 1 → otherFrame reference k < count
-unfolding otherFrame
-other-below reference k count h = by (ltb k reference)
-  where
-    by : (b : Bool) → cond b k (k + 1) < count
-    by true = omega arith
-    by false = omega arith
-
+-- a burst of frames that are all equal, with vectors that are all 0
 module _ (m : Merge) (samples : List ℕ) (burst : Burst (m .shape) (m .reference) samples) (alike : Alike (m .shape) (m .reference) samples) (n : ℕ) where
   still-burst : Still (sceneOf m samples (replicate n (pos 0)))
   unfolding sceneOf downAt rightAt
