@@ -1,0 +1,12 @@
+/* One tile's correction in whole numbers, as fast as plain C is known to do it. */
+#ifndef EXPERT_TILE_H
+#define EXPERT_TILE_H
+
+#include "burst.h"
+
+/* Adds P of a tile of differences to `sum`; `noise` is V and above 0. By two divisions a bin, or by one and a 128-bit product. */
+typedef void add_correction(const int16_t difference[SIDE][SIDE], int64_t noise, int32_t sum[SIDE][SIDE]);
+
+add_correction add_correction_two, add_correction_one;
+
+#endif

@@ -1,0 +1,21 @@
+/* The bursts that are merged, the same in every run. */
+#ifndef SCENE_H
+#define SCENE_H
+
+#include <stdint.h>
+
+/* A textured scene with edges, clipped lights and dark parts, shot by a shaking camera while squares move across it, with the noise of the
+   curve shot = 1.5, read = 20. */
+void fill_scene(uint16_t *samples, int width, int height, int count);
+
+/* Patches of one level, or of two in stripes, which differ by a few steps from frame to frame: corrections and outputs that are exact halves. */
+void fill_patches(uint16_t *samples, int width, int height, int count);
+
+/* One level with a step up or down here and there: bins near zero, and shrunk bins that are exact halves. */
+void fill_sparse(uint16_t *samples, int width, int height, int count);
+
+/* The full range at random, and black or white at random: the greatest sums. */
+void fill_random(uint16_t *samples, int width, int height, int count);
+void fill_black_white(uint16_t *samples, int width, int height, int count);
+
+#endif
