@@ -136,7 +136,7 @@ static uint64_t align_level(const image *reference, const image *other, int leve
     uint64_t residuals = 0;
     for (int i = 0; i < fine->rows * fine->columns; i++) {
         int row = i / fine->columns, column = i % fine->columns, top = rule->side / 2 * (row - 1), left = rule->side / 2 * (column - 1);
-        block tile, window;
+        _Alignas(64) block tile, window;
         copy_block(reference, top, left, rule->side, tile);
         vector guess = coarse ? best_candidate(other, rule, coarse, row, column, search, tile) : (vector){ 0, 0 };
         copy_block(other, top + guess.down - REACH, left + guess.right - REACH, rule->side + 2 * REACH, window);

@@ -1,27 +1,27 @@
-/* Tiles of the four planes at one origin, read together: they lie in one square of 32 by 32 samples. */
+/* Tiles of the four planes at one origin, read together: they lie in one square of 32 by 32 samples. For little-endian machines. */
 #ifndef BAYER_TILES_H
 #define BAYER_TILES_H
 
 #include "burst.h"
 
 #include <math.h>
+#include <string.h>
 
 typedef int16_t four_tiles[PARITIES][SIDE][SIDE];
 
-/* Outside a plane the nearest edge sample of that plane is read. */
-static inline void gather_row(const uint16_t *row, int width, int left, int16_t even[SIDE], int16_t odd[SIDE])
+/* Sixteen pairs of samples of a row, from pair `left` on; outside the row its first or last pair. */
+static inline void gather_row(const uint16_t *row, int width, int left, int16_t *restrict even, int16_t *restrict odd)
 {
+    uint32_t pairs[SIDE];
     if (left >= 0 && left + SIDE <= width)
-        for (int x = 0; x < SIDE; x++) {
-            even[x] = (int16_t)row[2 * (left + x)];
-            odd[x] = (int16_t)row[2 * (left + x) + 1];
-        }
+        memcpy(pairs, row + 2 * left, sizeof pairs);
     else
-        for (int x = 0; x < SIDE; x++) {
-            int at = 2 * clamp(left + x, 0, width - 1);
-            even[x] = (int16_t)row[at];
-            odd[x] = (int16_t)row[at + 1];
-        }
+        for (int x = 0; x < SIDE; x++)
+            memcpy(&pairs[x], row + 2 * clamp(left + x, 0, width - 1), sizeof *pairs);
+    for (int x = 0; x < SIDE; x++) {
+        even[x] = (int16_t)(pairs[x] & 0xffff);
+        odd[x] = (int16_t)(pairs[x] >> 16);
+    }
 }
 
 static inline void gather_tiles(const burst *b, int frame, int top, int left, four_tiles out)
@@ -34,11 +34,11 @@ static inline void gather_tiles(const burst *b, int frame, int top, int left, fo
 }
 
 /* V of one tile of the reference; the squares' sum fits 32 bits. */
-static inline int64_t noise_of_tile(const noise_levels *n, const int16_t tile[SIDE][SIDE])
+static inline int64_t noise_of_tile(const noise_levels *n, const int16_t *tile)
 {
     uint32_t squares = 0;
     for (int i = 0; i < SIDE * SIDE; i++)
-        squares += (uint32_t)(tile[0][i] * tile[0][i]);
+        squares += (uint32_t)(tile[i] * tile[i]);
     return n->strength * (n->shot * (int64_t)sqrt((double)squares) + 16 * n->read) / 16;
 }
 

@@ -69,13 +69,13 @@ static void free_result(result *r)
     free(r->output);
 }
 
-/* The noise is that of the scene. */
 static burst make_burst(int width, int height, int count, int reference, uint16_t **samples)
 {
     *samples = allocated((size_t)count * width * height * sizeof **samples);
     return (burst){ width, height, count, reference, *samples };
 }
 
+/* The scene's own curve, and tau = 1. */
 static const noise_levels SCENE_NOISE = { 1536, 20480, 8 };
 
 static subject make_subject(int width, int height, int count, int reference)
@@ -147,7 +147,7 @@ static double now(void)
     return (double)time.tv_sec * 1e9 + (double)time.tv_nsec;
 }
 
-/* Each line once, the library first; their times, unless NULL. What a call does not fill is spoilt before. */
+/* Each line once, the library first; their times, unless NULL. What a call has to fill is spoilt before. */
 static void run_lines(subject *s, int call, double *times, distance *d)
 {
     for (int i = 0; i < LENGTH[call]; i++) {
@@ -307,7 +307,7 @@ static void print_heading(const char *title, int sizes, int counts)
 {
     printf("\n%-40s", title);
     for (int size = 0; size < sizes; size++)
-        printf("%8d%*s", SIZE[size], counts > 1 ? 8 * (counts - 1) : 0, "");
+        printf("%*d", size > 0 && counts > 0 ? 8 * counts : 8, SIZE[size]);
     printf("\n");
     if (counts == 0)
         return;

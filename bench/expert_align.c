@@ -5,34 +5,34 @@
 
 enum { ROWS = 4 };
 
-/* Absolute differences of four rows of 16. A lane of 16 bits holds them: 4 * 16380. */
-static inline uint32_t absolute_rows(const int16_t (*tile)[WINDOW], const int16_t (*window)[WINDOW], int right)
+static inline uint16_t apart(int16_t a, int16_t b)
 {
-    uint16_t lanes[SIDE] = { 0 };
-    for (int y = 0; y < ROWS; y++)
-        for (int x = 0; x < SIDE; x++) {
-            int16_t a = tile[y][x], b = window[y][x + right];
-            lanes[x] = (uint16_t)(lanes[x] + (a > b ? a : b) - (a > b ? b : a));
-        }
+    return (uint16_t)((a > b ? a : b) - (a > b ? b : a));
+}
+
+/* Absolute differences of four rows of 16; those of one column fit 16 bits: 4 * 16380. */
+static inline uint64_t absolute_rows(const int16_t (*tile)[WINDOW], const int16_t (*window)[WINDOW], int right)
+{
+    const int16_t *a = window[0] + right, *b = window[1] + right, *c = window[2] + right, *d = window[3] + right;
     uint32_t sum = 0;
     for (int x = 0; x < SIDE; x++)
-        sum += lanes[x];
+        sum += (uint16_t)(apart(tile[0][x], a[x]) + apart(tile[1][x], b[x]) + apart(tile[2][x], c[x]) + apart(tile[3][x], d[x]));
     return sum;
 }
 
-/* Squared differences of four rows. The compiler multiplies and adds pairs; four lanes or more hold them: 16 * 16380 * 16380. */
+/* Squared differences of four rows; those of one row fit 32 bits: 16 * 16380 * 16380. The compiler multiplies and adds pairs. */
 static inline uint64_t squared_rows(int side, const int16_t (*tile)[WINDOW], const int16_t (*window)[WINDOW], int right)
 {
-    uint64_t sum = 0;
-    for (int y = 0; y < ROWS; y++) {
-        uint32_t row = 0;
-        for (int x = 0; x < side; x++) {
-            int16_t d = (int16_t)(tile[y][x] - window[y][x + right]);
-            row += (uint32_t)(d * d);
-        }
-        sum += row;
+    const int16_t *a = window[0] + right, *b = window[1] + right, *c = window[2] + right, *d = window[3] + right;
+    uint32_t sum[ROWS] = { 0 };
+    for (int x = 0; x < side; x++) {
+        int16_t e = (int16_t)(tile[0][x] - a[x]), f = (int16_t)(tile[1][x] - b[x]), g = (int16_t)(tile[2][x] - c[x]), h = (int16_t)(tile[3][x] - d[x]);
+        sum[0] += (uint32_t)(e * e);
+        sum[1] += (uint32_t)(f * f);
+        sum[2] += (uint32_t)(g * g);
+        sum[3] += (uint32_t)(h * h);
     }
-    return sum;
+    return (uint64_t)sum[0] + sum[1] + sum[2] + sum[3];
 }
 
 static inline uint64_t sum_rows(int side, int is_squared, const block tile, const block window, int top, vector offset)
@@ -46,6 +46,7 @@ static inline int search(int side, int is_squared, int early, const block tile, 
 {
     int best = 0;
     *least = UINT64_MAX;
+    tile = __builtin_assume_aligned(tile, 16);
     for (int i = 0; i < OFFSETS; i++) {
         uint64_t sum = 0;
         for (int top = 0; top < side && !(early && sum >= *least); top += ROWS)

@@ -53,7 +53,7 @@ static inline void correct_tiles(const burst *b, const noise_levels *n, const ve
     int64_t noise[PARITIES];
     gather_tiles(b, b->reference, top, left, reference);
     for (int p = 0; p < PARITIES; p++)
-        noise[p] = noise_of_tile(n, reference[p]);
+        noise[p] = noise_of_tile(n, reference[p][0]);
     memset(sum, 0, sizeof(correction));
     for (int k = 0; k + 1 < b->count; k++) {
         vector v = vectors[k * tiles + at];
@@ -117,5 +117,11 @@ static void merge_one(void *memory, const burst *b, const noise_levels *n, resul
     merge(memory, b, n, r->vectors, add_correction_one, r->output);
 }
 
+static void merge_double(void *memory, const burst *b, const noise_levels *n, result *r)
+{
+    merge(memory, b, n, r->vectors, add_correction_double, r->output);
+}
+
 const peer expert_merge_two = { "expert C, two divisions", 1, make, discard, merge_two };
 const peer expert_merge_one = { "expert C, one division", 1, make, discard, merge_one };
+const peer expert_merge_double = { "expert C, division in double", 1, make, discard, merge_double };

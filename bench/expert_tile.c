@@ -6,6 +6,13 @@ enum { C0 = 16384, C1 = 15137, C2 = 11585, C3 = 6270 };
 
 #define INLINE static inline __attribute__((always_inline))
 #define ALONE static __attribute__((noinline))
+/* for 64-bit products and divisions, which x86-64 does faster one by one */
+#define SCALAR __attribute__((noinline, optimize("no-tree-vectorize")))
+#ifdef __AVX512DQ__
+#define PRODUCTS ALONE
+#else
+#define PRODUCTS static SCALAR
+#endif
 
 #define IN int16_t
 #define FOLD int16_t
@@ -114,7 +121,7 @@ INLINE void shrink_edge(shrink rule, int64_t noise, const int64_t *re, const int
     *out_im = times * (int32_t)bin.im;
 }
 
-INLINE void shrink_bins(shrink rule, int64_t noise, const wide z, narrow s)
+INLINE void shrink_each(shrink rule, int64_t noise, const wide z, narrow s)
 {
     for (int v = 1; v < 8; v++) {
         for (int u = 1; u < 8; u++)
@@ -129,17 +136,14 @@ INLINE void shrink_bins(shrink rule, int64_t noise, const wide z, narrow s)
             s[v][u] = (int32_t)rule(noise, z[v][u], 0).re;
 }
 
-/* Division is scalar, and the compiler's attempts at vectors around it only cost. */
-#define SCALAR __attribute__((noinline, optimize("no-tree-vectorize")))
-
-static SCALAR void shrink_bins_two(int64_t noise, const int64_t (*restrict z)[SIDE], int32_t (*restrict s)[SIDE])
+SCALAR void shrink_bins_two(int64_t noise, const int64_t (*restrict z)[SIDE], int32_t (*restrict s)[SIDE])
 {
-    shrink_bins(shrink_two, noise, z, s);
+    shrink_each(shrink_two, noise, z, s);
 }
 
-static SCALAR void shrink_bins_one(int64_t noise, const int64_t (*restrict z)[SIDE], int32_t (*restrict s)[SIDE])
+SCALAR void shrink_bins_one(int64_t noise, const int64_t (*restrict z)[SIDE], int32_t (*restrict s)[SIDE])
 {
-    shrink_bins(shrink_one, noise, z, s);
+    shrink_each(shrink_one, noise, z, s);
 }
 
 /* ---- the inverse ---- */
@@ -165,7 +169,7 @@ INLINE int32_t to_correction(int64_t value)
     return (int32_t)((value + ((int64_t)1 << 31) + (value >> 63)) >> 32);
 }
 
-ALONE void inverse_last(const int32_t (*restrict h)[SIDE], int32_t (*restrict sum)[SIDE])
+PRODUCTS void inverse_last(const int32_t (*restrict h)[SIDE], int32_t (*restrict sum)[SIDE])
 {
     for (int x = 0; x < SIDE; x++) {
         int64_t column[SIDE];
@@ -175,7 +179,7 @@ ALONE void inverse_last(const int32_t (*restrict h)[SIDE], int32_t (*restrict su
     }
 }
 
-ALONE void inverse_last_wide(const int64_t (*restrict h)[SIDE], int32_t (*restrict sum)[SIDE])
+PRODUCTS void inverse_last_wide(const int64_t (*restrict h)[SIDE], int32_t (*restrict sum)[SIDE])
 {
     for (int x = 0; x < SIDE; x++) {
         int64_t column[SIDE];
@@ -185,9 +189,7 @@ ALONE void inverse_last_wide(const int64_t (*restrict h)[SIDE], int32_t (*restri
     }
 }
 
-typedef void shrink_all(int64_t noise, const int64_t (*restrict z)[SIDE], int32_t (*restrict s)[SIDE]);
-
-INLINE void add(shrink_all rule, const int16_t difference[SIDE][SIDE], int64_t noise, int32_t sum[SIDE][SIDE])
+INLINE void add(shrink_bins rule, const int16_t difference[SIDE][SIDE], int64_t noise, int32_t sum[SIDE][SIDE])
 {
     _Alignas(64) narrow y, s;
     _Alignas(64) wide z;
@@ -211,4 +213,9 @@ void add_correction_two(const int16_t difference[SIDE][SIDE], int64_t noise, int
 void add_correction_one(const int16_t difference[SIDE][SIDE], int64_t noise, int32_t sum[SIDE][SIDE])
 {
     add(shrink_bins_one, difference, noise, sum);
+}
+
+void add_correction_double(const int16_t difference[SIDE][SIDE], int64_t noise, int32_t sum[SIDE][SIDE])
+{
+    add(shrink_bins_double, difference, noise, sum);
 }

@@ -88,7 +88,7 @@ static inline void correct_tiles(scratch *s, const burst *b, const noise_levels 
     float v[PARITIES];
     gather_tiles(b, b->reference, top, left, reference);
     for (int p = 0; p < PARITIES; p++)
-        v[p] = (float)noise_of_tile(n, reference[p]) / 256;
+        v[p] = (float)noise_of_tile(n, reference[p][0]) / 256;
     memset(out, 0, sizeof(plane_tiles));
     memset(s->sum, 0, sizeof s->sum);
     for (int k = 0; k + 1 < b->count; k++) {

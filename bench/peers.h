@@ -20,7 +20,7 @@ typedef struct {
     void (*call)(void *scratch, const burst *b, const noise_levels *n, result *r);
 } peer;
 
-enum { ALIGN_PEERS = 3, MERGE_PEERS = 5 };
+enum { ALIGN_PEERS = 3, MERGE_PEERS = 6 };
 
 /* The variants of one build. */
 typedef struct {
@@ -30,7 +30,7 @@ typedef struct {
 extern const peer_list plain_peers, native_peers;
 
 extern const peer library_align, straight_align, expert_align_whole, expert_align_early;
-extern const peer library_merge, straight_merge, expert_merge_two, expert_merge_one, fftw_merge_one, fftw_merge_each;
+extern const peer library_merge, straight_merge, expert_merge_two, expert_merge_one, expert_merge_double, fftw_merge_one, fftw_merge_each;
 
 /* How often the recipe met an exact half of each sign, counted by a build of straight_merge.c with -DTALLY. */
 enum { HALF_Q, HALF_G, HALF_P, HALF_OUTPUT, HALVES };

@@ -91,19 +91,26 @@ void fill_scene(uint16_t *samples, int width, int height, int count)
 
 /* ---- bursts for the comparison alone ---- */
 
+enum { PATCH = 64 };
+
+/* One level, and in every other column of each plane another. */
+static void fill_patch(uint16_t *patch, int width, int level, int stripe)
+{
+    for (int y = 0; y < PATCH; y++)
+        for (int x = 0; x < PATCH; x++)
+            patch[(size_t)y * width + x] = (uint16_t)(x / 2 % 2 ? level + stripe : level);
+}
+
 void fill_patches(uint16_t *samples, int width, int height, int count)
 {
-    enum { PATCH = 64 };
     int columns = width / PATCH, rows = height / PATCH;
     int *level = allocated((size_t)columns * rows * sizeof *level);
     for (int i = 0; i < columns * rows; i++)
         level[i] = 8 + below(i % 2 ? 40 : 4072);
     for (int frame = 0; frame < count; frame++)
         for (int i = 0; i < columns * rows; i++) {
-            int shift = below(9) - 4, stripe = below(3) ? 0 : below(7) - 3, top = i / columns * PATCH, left = i % columns * PATCH;
-            for (int y = top; y < top + PATCH; y++)
-                for (int x = left; x < left + PATCH; x++)
-                    samples[((size_t)frame * height + y) * width + x] = (uint16_t)(level[i] + shift + (x / 2 % 2 ? stripe : 0));
+            uint16_t *patch = samples + ((size_t)frame * height + i / columns * PATCH) * width + i % columns * PATCH;
+            fill_patch(patch, width, level[i] + below(9) - 4, below(3) ? 0 : below(7) - 3);
         }
     free(level);
 }
