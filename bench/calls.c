@@ -169,11 +169,14 @@ static void run_lines(subject *s, int call, double *times, distance *d)
 
 /* ---- small bursts ---- */
 
-/* One small size under every kind of burst and several noises, V = 2^26 and V = 1 among them; how many merges. */
+/* One small size under every kind of burst and several noises; how many merges. Where the shot part is 0, V is the product of the others: 2^26,
+   1 and 25538 make halves out of patches, sparse steps and spikes, the last two stand on either side of what 32 bits hold of spikes. */
 static int compare_small(int width, int height, int count, int reference, distance *d)
 {
-    static void (*const fill[])(uint16_t *, int, int, int) = { fill_scene, fill_patches, fill_sparse, fill_random, fill_black_white };
-    static const noise_levels noises[] = { { 1536, 20480, 8 }, { 1024, 0, 0 }, { 65536, 4194304, 1024 }, { 7, 1, 3 }, { 0, 4194304, 16 }, { 0, 1, 1 } };
+    static void (*const fill[])(uint16_t *, int, int, int) = { fill_scene, fill_patches, fill_sparse, fill_spikes, fill_random,
+        fill_black_white };
+    static const noise_levels noises[] = { { 1536, 20480, 8 }, { 1024, 0, 0 }, { 65536, 4194304, 1024 }, { 7, 1, 3 }, { 0, 4194304, 16 },
+        { 0, 1, 1 }, { 0, 25538, 1 }, { 0, 4187484, 64 }, { 0, 4194304, 256 } };
     enum { KINDS = sizeof fill / sizeof *fill, NOISES = sizeof noises / sizeof *noises };
     subject s = make_subject(width, height, count, reference);
     void *scratch = tally_merge.make(&s.burst);

@@ -121,6 +121,13 @@ void fill_sparse(uint16_t *samples, int width, int height, int count)
         samples[i] = (uint16_t)(below(24) ? 100 : 99 + below(3));
 }
 
+void fill_spikes(uint16_t *samples, int width, int height, int count)
+{
+    static const int spike[8] = { 10, -10, 10, -10, 1023, -1024, 1900, -2048 };
+    for (size_t i = 0; i < (size_t)width * height * count; i++)
+        samples[i] = (uint16_t)(below(600) ? 2100 : 2100 + spike[below(8)]);
+}
+
 void fill_random(uint16_t *samples, int width, int height, int count)
 {
     for (size_t i = 0; i < (size_t)width * height * count; i++)

@@ -14,6 +14,10 @@ void fill_patches(uint16_t *samples, int width, int height, int count);
 /* One level with a step up or down here and there: bins near zero, and shrunk bins that are exact halves. */
 void fill_sparse(uint16_t *samples, int width, int height, int count);
 
+/* One level with lone spikes: bins of one size all over a tile, which add up as far as they can, and shrunk bins that are exact halves where it
+   settles an output. */
+void fill_spikes(uint16_t *samples, int width, int height, int count);
+
 /* The full range at random, and black or white at random: the greatest sums. */
 void fill_random(uint16_t *samples, int width, int height, int count);
 void fill_black_white(uint16_t *samples, int width, int height, int count);
