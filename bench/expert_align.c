@@ -26,7 +26,8 @@ static inline uint64_t squared_rows(int side, const int16_t (*tile)[WINDOW], con
     const int16_t *a = window[0] + right, *b = window[1] + right, *c = window[2] + right, *d = window[3] + right;
     uint32_t sum[ROWS] = { 0 };
     for (int x = 0; x < side; x++) {
-        int16_t e = (int16_t)(tile[0][x] - a[x]), f = (int16_t)(tile[1][x] - b[x]), g = (int16_t)(tile[2][x] - c[x]), h = (int16_t)(tile[3][x] - d[x]);
+        int16_t e = (int16_t)(tile[0][x] - a[x]), f = (int16_t)(tile[1][x] - b[x]);
+        int16_t g = (int16_t)(tile[2][x] - c[x]), h = (int16_t)(tile[3][x] - d[x]);
         sum[0] += (uint32_t)(e * e);
         sum[1] += (uint32_t)(f * f);
         sum[2] += (uint32_t)(g * g);
@@ -46,7 +47,7 @@ static inline int search(int side, int is_squared, int early, const block tile, 
 {
     int best = 0;
     *least = UINT64_MAX;
-    tile = __builtin_assume_aligned(tile, 16);
+    tile = __builtin_assume_aligned(tile, 16); /* as align_levels makes it */
     for (int i = 0; i < OFFSETS; i++) {
         uint64_t sum = 0;
         for (int top = 0; top < side && !(early && sum >= *least); top += ROWS)

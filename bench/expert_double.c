@@ -64,7 +64,8 @@ static inline int32_t rounded(double g, uint64_t *unsure)
 }
 
 /* V * Q / (|Q|^2 + V); whether every rounding is sure. */
-static __attribute__((noinline)) int shrink(int64_t noise, const double *restrict re, const double *restrict im, int32_t *restrict out_re, int32_t *restrict out_im)
+static __attribute__((noinline)) int shrink(int64_t noise, const double *restrict re, const double *restrict im, int32_t *restrict out_re,
+    int32_t *restrict out_im)
 {
     double v = (double)noise;
     uint64_t unsure = 0;

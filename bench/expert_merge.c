@@ -45,7 +45,8 @@ static int subtract(const int16_t *restrict reference, int16_t *restrict other)
 }
 
 /* The corrections of the four planes' tiles, summed over the other frames. */
-static inline void correct_tiles(const burst *b, const noise_levels *n, const vector *vectors, int row, int column, add_correction add, correction sum)
+static inline void correct_tiles(const burst *b, const noise_levels *n, const vector *vectors, int row, int column, add_correction add,
+    correction sum)
 {
     int top = STEP * (row - 1), left = STEP * (column - 1);
     size_t tiles = (size_t)tile_rows(b) * tile_columns(b), at = (size_t)row * tile_columns(b) + column;

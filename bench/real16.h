@@ -9,8 +9,8 @@
 static inline __attribute__((always_inline)) void FORWARD(const IN *x, int from, WIDE *y, int to)
 {
     FOLD x0 = x[0], x1 = x[from], x2 = x[2 * from], x3 = x[3 * from], x4 = x[4 * from], x5 = x[5 * from], x6 = x[6 * from], x7 = x[7 * from];
-    FOLD x8 = x[8 * from], x9 = x[9 * from], x10 = x[10 * from], x11 = x[11 * from], x12 = x[12 * from], x13 = x[13 * from], x14 = x[14 * from],
-         x15 = x[15 * from];
+    FOLD x8 = x[8 * from], x9 = x[9 * from], x10 = x[10 * from], x11 = x[11 * from], x12 = x[12 * from], x13 = x[13 * from];
+    FOLD x14 = x[14 * from], x15 = x[15 * from];
     FOLD s0 = x0 + x8, s1 = x1 + x9, s2 = x2 + x10, s3 = x3 + x11, s4 = x4 + x12, s5 = x5 + x13, s6 = x6 + x14, s7 = x7 + x15;
     FOLD t0 = x0 - x8, t1 = x1 - x9, t2 = x2 - x10, t3 = x3 - x11, t4 = x4 - x12, t5 = x5 - x13, t6 = x6 - x14, t7 = x7 - x15;
 
@@ -29,7 +29,7 @@ static inline __attribute__((always_inline)) void FORWARD(const IN *x, int from,
     y[10 * to] = -(m2 + h);
     y[14 * to] = m2 - h;
 
-    /* real parts of bins 1, 3, 5, 7 */
+    /* bins 1, 3, 5, 7: real parts, then imaginary parts */
     FOLD e1 = t1 - t7, e2 = t2 - t6, e3 = t3 - t5;
     WIDE p = (WIDE)e1 * C1 + (WIDE)e3 * C3, q = (WIDE)e1 * C3 - (WIDE)e3 * C1;
     WIDE r0 = (WIDE)t0 * C0, r2 = (WIDE)e2 * C2;
@@ -37,8 +37,6 @@ static inline __attribute__((always_inline)) void FORWARD(const IN *x, int from,
     y[7 * to] = r0 + r2 - p;
     y[3 * to] = r0 - r2 + q;
     y[5 * to] = r0 - r2 - q;
-
-    /* their imaginary parts */
     FOLD o1 = t1 + t7, o2 = t2 + t6, o3 = t3 + t5;
     WIDE u = (WIDE)o3 * C1 + (WIDE)o1 * C3, v = (WIDE)o3 * C3 - (WIDE)o1 * C1;
     WIDE i2 = (WIDE)o2 * C2, i4 = (WIDE)t4 * C0;
@@ -56,8 +54,8 @@ static inline __attribute__((always_inline)) void FORWARD(const IN *x, int from,
 static inline __attribute__((always_inline)) void INVERSE(const IN *z, int from, int times, WIDE *x, int to)
 {
     WIDE z0 = z[0], z1 = z[from], z2 = z[2 * from], z3 = z[3 * from], z4 = z[4 * from], z5 = z[5 * from], z6 = z[6 * from], z7 = z[7 * from];
-    WIDE z8 = z[8 * from], i1 = z[9 * from], i2 = z[10 * from], i3 = z[11 * from], i4 = z[12 * from], i5 = z[13 * from], i6 = z[14 * from],
-         i7 = z[15 * from];
+    WIDE z8 = z[8 * from], i1 = z[9 * from], i2 = z[10 * from], i3 = z[11 * from], i4 = z[12 * from], i5 = z[13 * from];
+    WIDE i6 = z[14 * from], i7 = z[15 * from];
 
     /* sums of places eight apart, halved: from bins 0, 4, 8 and from bins 2, 6 */
     WIDE more = z0 + z8, less = z0 - z8, r4 = z4 * times, j4 = i4 * times;
