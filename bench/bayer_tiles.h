@@ -1,4 +1,4 @@
-/* Tiles of the four planes at one origin, read together: they lie in one square of 32 by 32 samples. For little-endian machines. */
+/* Tiles of the four planes at one origin, read together: they lie in one square of 32 by 32 samples. */
 #ifndef BAYER_TILES_H
 #define BAYER_TILES_H
 
@@ -9,19 +9,27 @@
 
 typedef int16_t four_tiles[PARITIES][SIDE][SIDE];
 
-/* Sixteen pairs of samples of a row, from pair `left` on; outside the row its first or last pair. */
-static inline void gather_row(const uint16_t *row, int width, int left, int16_t *restrict even, int16_t *restrict odd)
+/* Pairs of samples taken apart. */
+static inline void split_pairs(const uint16_t *restrict pairs, int16_t *restrict even, int16_t *restrict odd)
 {
-    uint32_t pairs[SIDE];
-    if (left >= 0 && left + SIDE <= width)
-        memcpy(pairs, row + 2 * left, sizeof pairs);
-    else
-        for (int x = 0; x < SIDE; x++)
-            memcpy(&pairs[x], row + 2 * clamp(left + x, 0, width - 1), sizeof *pairs);
+#pragma GCC unroll 1 /* one loop of vectors rather than sixteen single steps */
     for (int x = 0; x < SIDE; x++) {
-        even[x] = (int16_t)(pairs[x] & 0xffff);
-        odd[x] = (int16_t)(pairs[x] >> 16);
+        even[x] = (int16_t)pairs[2 * x];
+        odd[x] = (int16_t)pairs[2 * x + 1];
     }
+}
+
+/* Sixteen pairs of samples of a row, from pair `left` on; outside the row its first or last pair. */
+static inline void gather_row(const uint16_t *row, int width, int left, int16_t *even, int16_t *odd)
+{
+    uint16_t pairs[2 * SIDE];
+    if (left >= 0 && left + SIDE <= width) {
+        split_pairs(row + 2 * left, even, odd);
+        return;
+    }
+    for (int x = 0; x < SIDE; x++)
+        memcpy(&pairs[2 * x], row + 2 * clamp(left + x, 0, width - 1), 2 * sizeof *pairs);
+    split_pairs(pairs, even, odd);
 }
 
 static inline void gather_tiles(const burst *b, int frame, int top, int left, four_tiles out)

@@ -77,23 +77,30 @@ static __attribute__((noinline)) int shrink(int64_t noise, const double *restric
     return (unsure >> 62) == 0;
 }
 
+/* In lane 0 the one, in the others the other: without a branch, and without single stores into rows that are read as vectors next. */
+static inline int32_t chosen(int lane, int32_t one, int32_t other)
+{
+    static const int32_t mask[LANES] = { -1 };
+    return other ^ ((one ^ other) & mask[lane]);
+}
+
 /* Back into packed parts; bins of u in {0, 8} also stand for their mirrors. */
 static __attribute__((noinline)) void spread(const int32_t (*restrict re)[LANES], const int32_t (*restrict im)[LANES], int32_t (*restrict s)[SIDE])
 {
     for (int v = 1; v < 8; v++)
-#pragma GCC unroll 1
+#pragma GCC unroll 1 /* vectors along u */
         for (int u = 0; u < LANES; u++) {
             int32_t a = re[v][u], b = im[v][u], c = re[8 + v][u], d = im[8 + v][u];
-            s[v][u] = u == 0 ? 2 * a : a + c;
-            s[8 + v][u] = u == 0 ? 2 * b : b - d;
-            s[v][8 + u] = u == 0 ? 2 * c : b + d;
-            s[8 + v][8 + u] = u == 0 ? 2 * d : c - a;
+            s[v][u] = chosen(u, 2 * a, a + c);
+            s[8 + v][u] = chosen(u, 2 * b, b - d);
+            s[v][8 + u] = chosen(u, 2 * c, b + d);
+            s[8 + v][8 + u] = chosen(u, 2 * d, c - a);
         }
     for (int u = 0; u < LANES; u++) {
         s[0][u] = re[0][u];
-        s[0][8 + u] = u == 0 ? re[8][0] : im[0][u];
-        s[8][u] = u == 0 ? re[16][0] : re[8][u];
-        s[8][8 + u] = u == 0 ? re[16][1] : im[8][u];
+        s[0][8 + u] = chosen(u, re[8][0], im[0][u]);
+        s[8][u] = chosen(u, re[16][0], re[8][u]);
+        s[8][8 + u] = chosen(u, re[16][1], im[8][u]);
     }
 }
 

@@ -63,6 +63,6 @@ void print_tables(const measurements *m)
     print_ratios(m, ALIGN, "align, library's time over the peer's");
     print_times(m, MERGE, "merge, ns per pixel and other frame");
     print_ratios(m, MERGE, "merge, library's time over the peer's");
-    print_memory(m, ALIGN, "align, peak MB beside the samples");
-    print_memory(m, MERGE, "merge, peak MB beside its input");
+    print_memory(m, ALIGN, "align, peak MB beside samples, N = 2");
+    print_memory(m, MERGE, "merge, peak MB beside its input, N = 2");
 }
