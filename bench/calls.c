@@ -147,8 +147,9 @@ int main(int arguments, char **argument)
         for (int count = 0; count < m.counts; count++)
             measure_time(&m, size, count, &d);
     print_distance(&d, "in the timed scenes");
-    printf("CPU time is the median of 9, 5 and 3 runs at 512, 1024 and 2048, all variants in turn.\n");
-    printf("-O3 is gcc -O3, native gcc -O3 -march=native.\n");
+    printf("CPU time is the median of %d, %d and %d runs at %d, %d and %d, all variants in turn.\n", REPEATS[0], REPEATS[1], REPEATS[2], SIZE[0],
+        SIZE[1], SIZE[2]);
+    printf("-O3 is gcc -O3, native is gcc -O3 -march=native.\n");
     print_tables(&m);
     return 0;
 }
