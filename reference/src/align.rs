@@ -1,7 +1,7 @@
 //! Alignment: tiles of each level, their candidates, and the search around the guess.
 
 use crate::burst::Burst;
-use crate::image::Image;
+use crate::image::{Image, Square};
 use crate::pyramid::pyramid;
 
 /// What align finds for a burst.
@@ -120,11 +120,7 @@ impl<'a> Pair<'a> {
         };
         for row in 0..field.rows {
             for column in 0..field.columns {
-                let tile = TilePair {
-                    pair: self,
-                    row,
-                    column,
-                };
+                let tile = TilePair::new(self, row, column);
                 let (residual, vector) = tile.best_around(tile.guess(coarse));
                 field.residual += residual;
                 field.vectors.push(vector);
@@ -139,9 +135,26 @@ struct TilePair<'a> {
     pair: &'a Pair<'a>,
     row: i64,
     column: i64,
+    top: i64,
+    left: i64,
+    /// The reference's.
+    tile: Square,
 }
 
-impl TilePair<'_> {
+impl<'a> TilePair<'a> {
+    fn new(pair: &'a Pair<'a>, row: i64, column: i64) -> TilePair<'a> {
+        // "origin −s + s·index, both ways"
+        let (top, left) = (pair.step() * (row - 1), pair.step() * (column - 1));
+        TilePair {
+            pair,
+            row,
+            column,
+            top,
+            left,
+            tile: pair.reference.square(top, left, pair.side),
+        }
+    }
+
     /// "At level 3 the guess is (0,0)"; elsewhere "least sum of absolute differences becomes
     /// the guess, the earlier on a tie".
     fn guess(&self, coarse: Option<Coarse>) -> Vector {
@@ -149,7 +162,10 @@ impl TilePair<'_> {
             return Vector { down: 0, right: 0 };
         };
         let candidates = self.candidates(coarse);
-        let sum = |vector: &Vector| self.residual(Difference::Absolute, *vector);
+        let sum = |vector: &Vector| {
+            let moved = self.moved(*vector, self.pair.side);
+            residual(Difference::Absolute, &self.tile, &moved, 0, 0)
+        };
         // The first of equal minima is taken.
         candidates.into_iter().min_by_key(sum).unwrap()
     }
@@ -181,38 +197,58 @@ impl TilePair<'_> {
     /// "all offsets −4..4 in both directions"; "Ties: smaller |down|+|right| offset, then
     /// smaller down, then smaller right". Returns the residual and the vector.
     fn best_around(&self, guess: Vector) -> (i64, Vector) {
+        let plus = |down, right| Vector {
+            down: guess.down + down,
+            right: guess.right + right,
+        };
+        let around = self.moved(plus(-4, -4), self.pair.side + 8);
         let offsets = (-4..=4).flat_map(|down| (-4..=4).map(move |right| (down, right)));
         let tried = offsets.map(|(down, right): (i64, i64)| {
-            let vector = Vector {
-                down: guess.down + down,
-                right: guess.right + right,
-            };
-            let residual = self.residual(self.pair.difference, vector);
-            (residual, down.abs() + right.abs(), down, right, vector)
+            let (row, column) = (down + 4, right + 4);
+            let difference = self.pair.difference;
+            let residual = residual(
+                difference,
+                &self.tile,
+                &around,
+                row as usize,
+                column as usize,
+            );
+            (residual, down.abs() + right.abs(), down, right)
         });
-        let key = |&(residual, distance, down, right, _): &_| (residual, distance, down, right);
-        let (residual, _, _, _, vector) = tried.min_by_key(key).unwrap();
-        (residual, vector)
+        let (residual, _, down, right) = tried.min().unwrap();
+        (residual, plus(down, right))
     }
 
-    /// The sum over the tile, moved by `vector` in the other frame.
-    fn residual(&self, difference: Difference, vector: Vector) -> i64 {
-        // "origin −s + s·index, both ways"
-        let top = self.pair.step() * (self.row - 1);
-        let left = self.pair.step() * (self.column - 1);
-        let mut sum = 0;
-        for row in top..top + self.pair.side {
-            for column in left..left + self.pair.side {
-                let moved = self.pair.other.at(row + vector.down, column + vector.right);
-                let value = self.pair.reference.at(row, column) - moved;
-                sum += match difference {
-                    Difference::Absolute => value.abs(),
-                    Difference::Squared => value * value,
-                };
-            }
-        }
-        sum
+    /// The other frame's square that begins at the tile's origin moved by `vector`.
+    fn moved(&self, vector: Vector, side: i64) -> Square {
+        let (top, left) = (self.top + vector.down, self.left + vector.right);
+        self.pair.other.square(top, left, side)
     }
+}
+
+/// The sum over a tile and the part of `around` that begins at `row` and `column`.
+fn residual(
+    difference: Difference,
+    tile: &Square,
+    around: &Square,
+    row: usize,
+    column: usize,
+) -> i64 {
+    let row_sum = |y| {
+        let moved = &around.row(row + y)[column..][..tile.side];
+        let pixels = tile.row(y).iter().zip(moved);
+        // At most 16 differences of at most 16380: not even the sum of their squares wraps.
+        i64::from(match difference {
+            Difference::Absolute => {
+                pixels.fold(0, |sum: u32, (a, b)| sum.wrapping_add(a.abs_diff(*b)))
+            }
+            Difference::Squared => pixels.fold(0, |sum: u32, (a, b)| {
+                let value = a.wrapping_sub(*b);
+                sum.wrapping_add(value.wrapping_mul(value) as u32)
+            }),
+        })
+    };
+    (0..tile.side).map(row_sum).sum()
 }
 
 /// Coarse indices of a tile in one direction.

@@ -140,29 +140,32 @@ pub fn root(tile: &Tile) -> u64 {
 
 /// P of one difference tile.
 pub fn correction(difference: &Tile, noise: u64) -> Tile {
+    // Every G is 0 then, and so is P.
+    if noise == 0 || difference == &[[0; 16]; 16] {
+        return [[0; 16]; 16];
+    }
     let bins = forward(difference);
     inverse_rounded(&bins.map(|row| row.map(|bin| shrunk(sixteenths(bin), noise))))
 }
 
 /// "Q = B/2^24 (sixteenths), each part to nearest, halves away from zero."
 fn sixteenths(bin: Complex) -> Complex {
-    bin.map(|part| rounded(part.into(), 1 << 24))
+    bin.map(|part| rounded(part, 1 << 24))
 }
 
 /// "G = V·Q/(|Q|²+V), rounded likewise; 0 if V is 0."
 pub fn shrunk(bin: Complex, noise: u64) -> Complex {
-    let noise = i128::from(noise);
     if noise == 0 {
         return Complex { re: 0, im: 0 };
     }
-    let weight = bin.squared() + noise;
-    bin.map(|part| rounded(noise * i128::from(part), weight))
+    let square = u64::try_from(bin.squared()).expect("Q has 25 bits");
+    bin.map(|part| rounded(noise as i64 * part, square + noise))
 }
 
 /// "P = real part of the inverse sum of G with C(k) and +S(k), divided by 2^32, rounded
 /// likewise: 1/256 sample."
 pub fn inverse_rounded(bins: &Bins) -> Tile {
-    inverse(bins).map(|row| row.map(|bin| rounded(bin.re.into(), 1 << 32)))
+    inverse(bins).map(|row| row.map(|sum| rounded(sum, 1 << 32)))
 }
 
 /// "Output = T0 − (sum ...)/(2^32·N), to nearest, halves upward, held to 0..4095."

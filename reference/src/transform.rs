@@ -30,6 +30,11 @@ impl Complex {
         product(self.re, other.re) - product(self.im, other.im)
     }
 
+    /// The real part of a product.
+    fn real(self, other: Complex) -> i64 {
+        self.re * other.re - self.im * other.im
+    }
+
     fn plus(self, other: Complex) -> Complex {
         Complex {
             re: self.re + other.re,
@@ -39,7 +44,7 @@ impl Complex {
 
     pub fn times(self, other: Complex) -> Complex {
         Complex {
-            re: self.re * other.re - self.im * other.im,
+            re: self.real(other),
             im: self.re * other.im + self.im * other.re,
         }
     }
@@ -80,35 +85,45 @@ fn turn_back(index: usize) -> Complex {
 /// "B = two-way 16-point transform of T0−Tz with C(k) and −S(k), exact whole numbers of
 /// scale 2^28."
 pub fn forward(tile: &Tile) -> Bins {
-    let bins = tile.map(|row| row.map(|re| Complex { re, im: 0 }));
-    two_way(&bins, turn_back)
+    let turns = std::array::from_fn(turn_back);
+    let terms = |row: usize, x: usize, turn: Complex| turn.map(|part| part * tile[row][x]);
+    let rows = transposed_sums(&turns, terms);
+    row_pass(&rows, &turns)
 }
 
-/// The inverse sum with C(k) and +S(k), not divided.
-pub fn inverse(bins: &Bins) -> Bins {
-    two_way(bins, turn)
-}
-
-/// out(u, v) = sum over y and x of in(y, x)·turn(u·y)·turn(v·x)
-fn two_way(bins: &Bins, turn: fn(usize) -> Complex) -> Bins {
+/// The inverse sum with C(k) and +S(k), its real part, not divided.
+pub fn inverse(bins: &Bins) -> Tile {
     let turns = std::array::from_fn(turn);
-    row_pass(&row_pass(bins, &turns), &turns)
+    let rows = row_pass(bins, &turns);
+    let real = |row: usize, x: usize, turn: Complex| Complex {
+        re: rows[row][x].real(turn),
+        im: 0,
+    };
+    transposed_sums(&turns, real).map(|row| row.map(|bin| bin.re))
 }
 
 /// Transforms each row and transposes; nothing is rounded.
 fn row_pass(bins: &Bins, turns: &[Complex; 16]) -> Bins {
-    std::array::from_fn(|bin| {
-        std::array::from_fn(|row| {
-            let term = |x: usize| bins[row][x].times(turns[bin * x % 16]);
-            (1..16).map(term).fold(term(0), Complex::plus)
-        })
-    })
+    transposed_sums(turns, |row, x, turn| bins[row][x].times(turn))
+}
+
+/// out(bin, row) = sum over x of term(row, x, turn(bin·x))
+fn transposed_sums(turns: &[Complex; 16], term: impl Fn(usize, usize, Complex) -> Complex) -> Bins {
+    let mut sums = [[Complex { re: 0, im: 0 }; 16]; 16];
+    for (bin, line) in sums.iter_mut().enumerate() {
+        for (row, sum) in line.iter_mut().enumerate() {
+            for x in 0..16 {
+                *sum = sum.plus(term(row, x, turns[bin * x % 16]));
+            }
+        }
+    }
+    sums
 }
 
 /// A fraction "to nearest, halves away from zero"; the divisor is above 0.
-pub fn rounded(dividend: i128, divisor: i128) -> i64 {
-    let magnitude = (2 * dividend.abs() + divisor) / (2 * divisor);
-    (magnitude * dividend.signum()) as i64
+pub fn rounded(dividend: i64, divisor: u64) -> i64 {
+    let magnitude = (2 * dividend.unsigned_abs() + divisor) / (2 * divisor);
+    magnitude as i64 * dividend.signum()
 }
 
 #[cfg(test)]
@@ -138,7 +153,8 @@ mod tests {
         let input = tile.map(|row| row.map(|re| Complex { re, im: 0 }));
         assert_eq!(bins, direct(&input, turn_back));
         let small = bins.map(|row| row.map(|bin| bin.map(|part| part >> 28)));
-        assert_eq!(inverse(&small), direct(&small, turn));
+        let real = |row: [Complex; 16]| row.map(|bin| bin.re);
+        assert_eq!(inverse(&small), direct(&small, turn).map(real));
     }
 
     #[test]
