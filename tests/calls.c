@@ -1,5 +1,6 @@
 /* Answers a stream of calls from standard input as the reference's `align`, `merge` or `run` does, with the library: calls align|merge|run.
-   It sees itself that the work area ends as promised: zero, or after a refusal as it was. */
+   It sees itself that the work area ends as promised: zero, or after a refusal as it was. At the end it writes to standard error how many
+   calls there were. */
 #include "stacker.h"
 
 #include <stdio.h>
@@ -70,7 +71,8 @@ int main(int argc, char **argv)
     if (argc != 2)
         return 2;
     stacker_alignment (*call)(void) = strcmp(argv[1], "align") == 0 ? align : strcmp(argv[1], "merge") == 0 ? merge : run;
-    while (fread(head, 8, WORDS, stdin) == WORDS) {
+    unsigned long count = 0;
+    for (; fread(head, 8, WORDS, stdin) == WORDS; count++) {
         samples = lent(head[SAMPLES], 2, 1);
         vectors = lent(head[VECTORS], 4, 1);
         output = lent(head[OUTPUT], 2, 1);
@@ -89,5 +91,6 @@ int main(int argc, char **argv)
         free(output);
         free(work);
     }
+    fprintf(stderr, "%lu\n", count);
     return 0;
 }

@@ -35,6 +35,10 @@ pub fn dispatch(arguments: &[String]) -> Outcome {
         ["damaged", count, seed] => data::write_damaged(count, seed),
         ["calls", side, count, seed] => data::write_calls(side, count, seed),
         ["fixed-calls"] => data::write_each(fixed_calls::calls()),
+        ["fixed-calls", width, height, round] => {
+            let calls = fixed_calls::of_size(width.parse()?, height.parse()?, round.parse()?);
+            data::write_each(calls)
+        }
         _ => Err("unknown subcommand; README.md lists them".into()),
     }
 }

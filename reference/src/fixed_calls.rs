@@ -1,4 +1,4 @@
-//! A fixed list of library calls: every frame count and reference, every kind of picture, noise and
+//! Fixed lists of library calls: every frame count and reference, every kind of picture, noise and
 //! lent vectors, from the smallest frames to 1024 by 1024 and 64 by 4096.
 
 use crate::burst::Burst;
@@ -8,50 +8,42 @@ use crate::pictures::Picture;
 use crate::random::Random;
 use crate::shape::Shape;
 
-/// Width, height, and a count and reference per call.
-type Size = (u64, u64, Vec<[u64; 2]>);
-
-/// Every count, and one call per picture.
-const SOME: [[u64; 2]; 8] = [
-    [8, 7],
-    [3, 1],
-    [4, 3],
-    [5, 0],
-    [6, 4],
-    [7, 2],
-    [2, 1],
-    [2, 0],
-];
-
-/// The calls in their order; the pictures, noises and lent vectors take turns.
+/// Every count and reference at the smaller sizes, some at the greater ones, and vectors that merge
+/// refuses.
 pub fn calls() -> impl Iterator<Item = Call> {
-    let mut random = Random::new(1);
-    let plain = sizes().into_iter().flat_map(|(width, height, frames)| {
-        let shape = move |count| Shape {
+    let small = [(64, 64), (128, 64), (64, 192), (256, 256)];
+    let small = (0..).zip(small);
+    let tall = [[8, 5]].into_iter().chain((0..7).map(|k| [2, k % 2]));
+    small
+        .flat_map(|(round, (width, height))| of_size(width, height, round))
+        .chain(in_turn(64, 4096, 0, tall.collect()))
+        .chain(in_turn(1024, 1024, 0, vec![[2, 0], [2, 1]]))
+        .chain(refused_vectors())
+}
+
+/// Every count with every reference at one size. In eight rounds each of them meets every picture,
+/// every noise and every kind of lent vectors.
+pub fn of_size(width: u64, height: u64, round: u64) -> impl Iterator<Item = Call> {
+    in_turn(width, height, round, all_frames())
+}
+
+/// A call for each count and reference; the pictures, noises and lent vectors take turns.
+fn in_turn(
+    width: u64,
+    height: u64,
+    round: u64,
+    frames: Vec<[u64; 2]>,
+) -> impl Iterator<Item = Call> {
+    let mut random = Random::new(1 + round);
+    let turns = 37 * round as usize..;
+    turns.zip(frames).map(move |(turn, [count, reference])| {
+        let shape = Shape {
             width,
             height,
             count,
         };
-        // The second list of all counts and references goes on where the first one ended.
-        let first = if width == 128 { frames.len() } else { 0 };
-        let turns = (first..).zip(frames);
-        turns.map(move |(turn, [count, reference])| (turn, shape(count), reference))
-    });
-    let plain =
-        plain.map(move |(turn, shape, reference)| call(turn, shape, reference, &mut random));
-    plain.chain(refused_vectors())
-}
-
-fn sizes() -> Vec<Size> {
-    let tall = [[8, 5]].into_iter().chain((0..7).map(|k| [2, k % 2]));
-    vec![
-        (64, 64, all_frames()),
-        (128, 64, all_frames()),
-        (64, 192, SOME.to_vec()),
-        (256, 256, SOME.to_vec()),
-        (64, 4096, tall.collect()),
-        (1024, 1024, vec![[2, 0], [2, 1]]),
-    ]
+        call(turn, shape, reference, &mut random)
+    })
 }
 
 /// Every count with every reference.

@@ -1,7 +1,7 @@
 //! The fixed calls and the moving files hold what README.md says of them.
 
 use reference::file::check;
-use reference::fixed_calls::calls;
+use reference::fixed_calls::{calls, of_size};
 use reference::moving_files::cases;
 use reference::programs::{motion, stack};
 use std::collections::BTreeSet;
@@ -18,17 +18,32 @@ fn fixed_calls_have_every_count_and_reference() {
         seen.insert((shape.width, shape.height, shape.count, call.burst.reference));
     }
     assert_eq!(greatest, 4095);
-    for (width, height) in [(64, 64), (128, 64)] {
+    for (width, height) in [(64, 64), (128, 64), (64, 192), (256, 256)] {
         for count in 2..=8 {
             assert!((0..count).all(|reference| seen.contains(&(width, height, count, reference))));
         }
     }
-    assert_eq!(seen.len(), 35 + 35 + 8 + 8 + 3 + 2);
+    assert_eq!(seen.len(), 4 * 35 + 3 + 2);
+}
+
+/// The first call of each round has another picture, and in five rounds every noise.
+#[test]
+fn rounds_turn_pictures_and_noises() {
+    let mut strengths = BTreeSet::new();
+    let mut brightest = BTreeSet::new();
+    for round in 0..8 {
+        let call = of_size(64, 64, round).next().unwrap();
+        strengths.insert(call.denoising.strength);
+        brightest.insert(call.burst.samples.iter().copied().max().unwrap());
+        assert_eq!(of_size(64, 64, round).count(), 35);
+    }
+    assert_eq!(strengths, BTreeSet::from([0, 8, 77, 1024]));
+    assert!(brightest.contains(&0) && brightest.contains(&4095));
 }
 
 #[test]
 fn vectors_outside_are_refused() {
-    let last = calls().collect::<Vec<_>>().split_off(96);
+    let last = calls().collect::<Vec<_>>().split_off(150);
     assert_eq!(last.len(), 8);
     for mut call in last {
         assert_eq!(call.merge().number, 12);
