@@ -33,7 +33,7 @@ const KINDS: &[Kind] = &[
 pub fn cases(seed: u64) -> Vec<Case> {
     let mut random = Random::new(seed);
     let mut named_faults = Vec::new();
-    for index in 0..12 {
+    for index in 0..16 {
         named_faults.push((format!("good-{index:02}"), vec![]));
         for (kind, fault) in KINDS {
             named_faults.push((format!("{kind}-{index:02}"), vec![fault(&mut random)]));

@@ -30,6 +30,7 @@ pub fn dispatch(arguments: &[String]) -> Outcome {
         ["merge"] => calls::answer_each(Call::merge),
         ["run"] => calls::answer_each(Call::run),
         ["exact"] => exact::answer_each(),
+        ["lone-sample"] => data::write_lone_sample(),
         ["cases", directory, seed] => data::write_files(directory, seed, cases),
         ["moving", directory, seed] => data::write_files(directory, seed, moving_files::cases),
         ["damaged", count, seed] => data::write_damaged(count, seed),

@@ -13,6 +13,7 @@ pub mod fixed_calls;
 pub mod fraction;
 pub mod image;
 pub mod integer;
+pub mod lone_sample;
 pub mod merge;
 pub mod moving_files;
 pub mod noise;

@@ -18,15 +18,13 @@ const NOISES: [[u64; 3]; 5] = [
 /// "take files up to 65536 bytes".
 const LARGEST: usize = 65536;
 
-/// Every count up to 7 with every reference in three pictures, then the files at the limits.
+/// Every count up to 7 with every reference in every picture, then the files at the limits.
 pub fn cases(seed: u64) -> Vec<Case> {
     let mut random = Random::new(seed);
     let mut cases = Vec::new();
     for count in 2..=7 {
         for reference in 0..count {
-            let turn = cases.len() / 3;
-            let third = Picture::ALL[2 + turn % 6];
-            for picture in [Picture::Shifted, Picture::OneTile, third] {
+            for picture in Picture::ALL {
                 let noise = NOISES[cases.len() % 5];
                 let bytes = file([64, 64, count, reference], noise, picture, &mut random);
                 let name = format!("{picture:?}-{count}-{reference}").to_lowercase();

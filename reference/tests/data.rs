@@ -57,7 +57,7 @@ fn moving_files_are_as_expected() {
     for case in &cases {
         assert_eq!(check(&case.bytes), case.number, "{}", case.name);
     }
-    let (good, limits) = cases.split_at(81);
+    let (good, limits) = cases.split_at(216);
     assert!(good
         .iter()
         .all(|case| case.number == 0 && case.bytes.len() <= 65536));

@@ -1,13 +1,12 @@
 //! Checked figures M1 to M11, the flat example, and the exact merge at single samples.
 
 use reference::align::{own_and_neighbour, CoarseIndices};
-use reference::burst::Burst;
 use reference::exact;
 use reference::image::Tile;
-use reference::merge::{correction, inverse_rounded, merge, root, shrunk, window, Setting};
+use reference::lone_sample;
+use reference::merge::{correction, inverse_rounded, root, shrunk, window};
 use reference::noise::{Curve, Levels, Noise, NoiseModel};
 use reference::programs::{motion, stack};
-use reference::shape::Shape;
 use reference::transform::Complex;
 
 const NOTHING: Complex = Complex { re: 0, im: 0 };
@@ -113,32 +112,13 @@ fn programs_stop() {
     assert_eq!(motion(&wide.as_bytes()[..9000]), "refused 15\n");
 }
 
-/// Eight 64 by 64 frames, all 0 but one sample of 745 in the reference.
-fn lone_sample() -> Burst {
-    let mut samples = vec![0; 8 * 64 * 64];
-    samples[36 * 64 + 36] = 745;
-    Burst {
-        shape: Shape {
-            width: 64,
-            height: 64,
-            count: 8,
-        },
-        reference: 0,
-        samples,
-    }
-}
-
 #[test]
 fn exact_merge_of_a_lone_sample() {
-    let setting = Setting {
-        burst: &lone_sample(),
-        vectors: &[0; 7 * 2 * 25],
-        noise: NoiseModel {
-            levels: levels(0, 3422141),
-            strength: 1024,
-        },
-    };
-    assert_eq!(merge(&setting)[36 * 64 + 36], 118);
-    let value = exact::sample(&setting, 36, 36).decimal();
+    let mut call = lone_sample::call();
+    assert_eq!(call.merge().number, 0);
+    assert_eq!(call.output[36 * 64 + 36], 118);
+    let noise = call.denoising.model().unwrap();
+    assert_eq!(noise.levels, levels(0, 3422141));
+    let value = exact::sample(&call.setting(noise), 36, 36).decimal();
     assert!(value.starts_with("118.5510720579"), "{value}");
 }

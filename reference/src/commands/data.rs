@@ -1,11 +1,11 @@
 //! Test data for other programs.
 
 use super::calls::put_call;
-use super::wire::Word;
+use super::wire::{put_many, Word};
 use super::Outcome;
 use reference::calls::Call;
 use reference::cases::{damaged_files, Case};
-use reference::scenes;
+use reference::{lone_sample, scenes};
 use std::io::{stdout, BufWriter, Write};
 use std::path::Path;
 
@@ -41,6 +41,16 @@ pub fn write_calls(side: &str, count: &str, seed: &str) -> Outcome {
         return Err("frames are at least 64 wide and high".into());
     }
     write_each(scenes::calls(side, count.parse()?, seed.parse()?))
+}
+
+/// Writes the call of the lone sample, and its place, as `exact` takes them.
+pub fn write_lone_sample() -> Outcome {
+    let mut out = BufWriter::new(stdout().lock());
+    put_call(&mut out, &lone_sample::call())?;
+    1u64.put(&mut out)?;
+    put_many(&mut out, &lone_sample::PLACE)?;
+    out.flush()?;
+    Ok(())
 }
 
 /// Writes calls as `align`, `merge` and `run` take them.

@@ -1,0 +1,39 @@
+//! A burst whose merge lies more than half a step from the exact one.
+
+use crate::burst::Burst;
+use crate::calls::Call;
+use crate::noise::{Curve, Denoising, Noise};
+use crate::shape::Shape;
+
+/// Row and column of the one sample that is not 0.
+pub const PLACE: [u64; 2] = [36, 36];
+
+/// Eight frames, all 0 but one sample of 745 in the reference, whose levels are 0 and 3422141.
+pub fn call() -> Call {
+    let shape = Shape {
+        width: 64,
+        height: 64,
+        count: 8,
+    };
+    let [row, column] = PLACE;
+    let mut samples = vec![0; shape.samples_length() as usize];
+    samples[(row * shape.width + column) as usize] = 745;
+    let curve = Curve {
+        shot: 0.0,
+        read: 3422141.0 / 1024.0,
+    };
+    Call {
+        burst: Burst {
+            shape,
+            reference: 0,
+            samples,
+        },
+        denoising: Denoising {
+            noise: Noise::Curve(curve),
+            strength: 1024,
+        },
+        vectors: vec![0; shape.vectors_length() as usize],
+        output: vec![55555; shape.output_length() as usize],
+        work_length: shape.work_length(),
+    }
+}
