@@ -1,0 +1,136 @@
+//! The calls from Rust, without a crate: reads a burst file of any size on standard input, aligns and merges it, and prints what
+//! `motion` or `stack` would, as its argument says.
+//!
+//!     rustc -O examples/burst_file.rs -L target/staticlib -o target/burst_file
+
+use std::io::Read;
+use std::process::exit;
+
+/// As in stacker.h.
+#[repr(C)]
+struct Alignment {
+    refusal: u64,
+    residuals: [u64; 7],
+}
+
+/// As in stacker.h; `shot` and `read` are the levels Ls and Lr.
+#[repr(C)]
+struct BurstFile {
+    refusal: u64,
+    width: u64,
+    height: u64,
+    count: u64,
+    reference: u64,
+    shot: u64,
+    read: u64,
+    strength: u64,
+}
+
+#[link(name = "c_api", kind = "static")]
+#[rustfmt::skip]
+extern "C" {
+    fn stacker_read_file(file: *const u8, file_length: usize, samples: *mut u16, samples_length: usize) -> BurstFile;
+    fn stacker_align(width: u64, height: u64, count: u64, reference: u64, samples: *const u16, samples_length: usize,
+        vectors: *mut i32, vectors_length: usize, work: *mut i64, work_length: usize) -> Alignment;
+    fn stacker_merge(width: u64, height: u64, count: u64, reference: u64, shot: f64, read: f64, strength: u64,
+        samples: *const u16, samples_length: usize, vectors: *const i32, vectors_length: usize, output: *mut u16, output_length: usize,
+        work: *mut i64, work_length: usize) -> u64;
+}
+
+// What C callers must see to, slices bring along: they are aligned, and no two mutable ones overlap.
+
+fn read_file(file: &[u8], samples: &mut [u16]) -> BurstFile {
+    unsafe {
+        stacker_read_file(
+            file.as_ptr(),
+            file.len(),
+            samples.as_mut_ptr(),
+            samples.len(),
+        )
+    }
+}
+
+#[rustfmt::skip]
+fn align(file: &BurstFile, samples: &[u16], vectors: &mut [i32], work: &mut [i64]) -> Alignment {
+    unsafe {
+        stacker_align(file.width, file.height, file.count, file.reference, samples.as_ptr(), samples.len(),
+            vectors.as_mut_ptr(), vectors.len(), work.as_mut_ptr(), work.len())
+    }
+}
+
+/// The curve whose levels are the file's: 1024 times shot and read, and both quotients are exact.
+#[rustfmt::skip]
+fn merge(file: &BurstFile, samples: &[u16], vectors: &[i32], output: &mut [u16], work: &mut [i64]) -> u64 {
+    let (shot, read) = (file.shot as f64 / 1024.0, file.read as f64 / 1024.0);
+    unsafe {
+        stacker_merge(file.width, file.height, file.count, file.reference, shot, read, file.strength, samples.as_ptr(), samples.len(),
+            vectors.as_ptr(), vectors.len(), output.as_mut_ptr(), output.len(), work.as_mut_ptr(), work.len())
+    }
+}
+
+/// The count of samples that the second line of a file asks for; 0 where it is no line of a burst file, which reading will refuse.
+fn samples_of(bytes: &[u8]) -> usize {
+    let line = bytes
+        .split(|&byte| byte == b'\n')
+        .nth(1)
+        .unwrap_or_default();
+    let text = String::from_utf8_lossy(line);
+    let values: Vec<usize> = text.split(' ').flat_map(str::parse).take(3).collect();
+    match values[..] {
+        [width @ ..=4096, height @ ..=4096, count @ ..=8] => width * height * count,
+        _ => 0,
+    }
+}
+
+fn accepted(refusal: u64) {
+    if refusal != 0 {
+        println!("refused {refusal}");
+        exit(1);
+    }
+}
+
+fn print_motion(file: &BurstFile, vectors: &[i32], residuals: &[u64; 7]) {
+    println!("frame tiles still far residual");
+    let others = (0..file.count).filter(|&frame| frame != file.reference);
+    let fields = vectors.chunks(vectors.len() / (file.count as usize - 1));
+    for ((frame, field), residual) in others.zip(fields).zip(residuals) {
+        let still = field.chunks(2).filter(|vector| vector == &[0, 0]).count();
+        let far = field.iter().map(|part| part.abs()).max().unwrap_or(0);
+        println!("{frame} {} {still} {far} {residual}", field.len() / 2);
+    }
+}
+
+fn print_frame(file: &BurstFile, output: &[u16]) {
+    println!("width height\n{} {}", file.width, file.height);
+    for row in output.chunks(file.width as usize) {
+        let words: Vec<String> = row.iter().map(u16::to_string).collect();
+        println!("{}", words.join(" "));
+    }
+}
+
+fn main() {
+    let mut bytes = Vec::new();
+    std::io::stdin()
+        .read_to_end(&mut bytes)
+        .expect("standard input");
+    let mut samples = vec![0; samples_of(&bytes)];
+    let file = read_file(&bytes, &mut samples);
+    accepted(file.refusal);
+
+    let (width, height, count) = (
+        file.width as usize,
+        file.height as usize,
+        file.count as usize,
+    );
+    let mut vectors = vec![0; (count - 1) * 2 * (width / 16 + 1) * (height / 16 + 1)];
+    let mut output = vec![0; width * height];
+    let mut work = vec![0; 2 * width * height];
+    let alignment = align(&file, &samples, &mut vectors, &mut work);
+    accepted(alignment.refusal);
+    accepted(merge(&file, &samples, &vectors, &mut output, &mut work));
+
+    match std::env::args().nth(1).as_deref() {
+        Some("motion") => print_motion(&file, &vectors, &alignment.residuals),
+        _ => print_frame(&file, &output),
+    }
+}
