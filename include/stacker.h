@@ -1,25 +1,64 @@
-/* The burst stacker's calls. A buffer is a pointer and its length in elements; the pointer may be NULL where the length is 0.
-   Any length is taken, and a wrong one is refused. A call keeps nothing between calls.
-   Lent buffers must not overlap and must be aligned for their elements: that is the caller's part, and no statement covers it.
+/* The burst stacker's calls: two to eight raw frames of one scene are aligned on one of them, the reference, and merged into one cleaner frame.
 
-   Frames are Bayer RGGB, row by row, 16-bit words holding 0..4095, black already subtracted.
-   Lengths, in elements, for frames of width W and height H, N of them:
-     samples N*W*H, vectors (N-1)*2*(W/16+1)*(H/16+1), output W*H, work 2*W*H.
-   Vectors: for each other frame in rising index, tiles row by row, each as down, right.
-   After an accepted call the work area is zero; after a refused one every lent buffer is as it was
-   (after refusal 12 from run the vectors stay as found and the work area is zero).
+   EXAMPLE. Eight frames of 512 by 512 samples, merged on the first; noise of variance 3 x + 100 at a sample x; strength 512, so tau = 64:
 
-   Refusals, tested in the order of the numbers; 0 is acceptance, and beside a refusal every other returned field is 0:
-      1  W or H not a multiple of 64 from 64 to 4096        9  shot > 64 or read > 4096 after ISO; in a file Ls > 65536 or Lr > 4194304
-      2  N outside 2..8                                    10  strength > 1024
-      3  reference not below N                             11  a sample above 4095
-      4  samples' length                                   12  a vector part outside -172..172
-      5  vectors' length                                   13  first line of a file differs
-      6  output's length                                   14  malformed value line
-      7  work's length                                     15  file short, or bytes follow
-      8  shot or read negative or not finite, ISO not in 25..409600
-   align tests 1 to 5, 7, 11; merge 1 to 12; run 1 to 11, then 12; file reading 15, 13, 15, 14, 1, 2, 3, 9, 10, 4, then each row by 15, 14, 11,
-   then 15. */
+       enum { W = 512, H = 512, N = 8, VECTORS = (N - 1) * 2 * (W / 16 + 1) * (H / 16 + 1) };
+       static uint16_t samples[N * W * H], output[W * H];
+       static int32_t vectors[VECTORS];
+       static int64_t work[2 * W * H];
+
+       stacker_alignment answer = stacker_run(W, H, N, 0, 3.0, 100.0, 512, samples, N * W * H, vectors, VECTORS, output, W * H, work, 2 * W * H);
+       if (answer.refusal != 0)
+           return refused(answer.refusal);            // nothing has changed; the table below says why
+       int32_t down = vectors[2 * ((k * (H / 16 + 1) + a) * (W / 16 + 1) + b)];   // of the k-th other frame, tile row a, tile column b
+
+   examples/merge.c is a whole program; examples/burst_file.rs calls from Rust.
+
+   FRAMES are Bayer RGGB, row by row, frame after frame, black already subtracted: 16-bit words that hold 0..4095.
+   VECTORS tell, for each other frame in rising index, tile by tile and row by row, how far down and then how far right the tile has moved in a
+   plane: a step is two samples. Tiles cover 16 by 16 places of a plane and begin every 8 places, the first at -8.
+
+   LENT BUFFERS, for frames of width W and height H, N of them. A length counts elements, not bytes; station_length of station.h answers it too.
+
+       buffer     elements    length                          read_file   align     merge     run
+       samples    uint16_t    N*W*H                           written     read      read      read
+       vectors    int32_t     (N-1)*2*(W/16+1)*(H/16+1)                   written   read      written
+       output     uint16_t    W*H                                                   written   written
+       work       int64_t     2*W*H                                       cleared   cleared   cleared
+
+   - Any length may be passed: a wrong one is refused, and nothing is read or written beyond it.
+   - A pointer may be NULL where its length is 0, and only there.
+   - A buffer that is written or cleared must not overlap another lent one, and each must be aligned for its elements, as malloc's memory is.
+     These two are the caller's part: no call tests them, and no statement covers them.
+   - What a buffer holds before a call that writes or clears it does not matter. A call keeps nothing between calls.
+
+   AFTER A CALL that answers 0 the written buffers hold the result, every word of it, and the work area is zero. After a refusal every lent buffer is
+   as it was, and every other field of the answer is 0. (Had run found a vector beyond its test 12, the vectors would stay as found and the work area
+   be zero; it is proved that this never comes.)
+
+   REFUSALS. A call makes the tests marked here in the order of the numbers, and answers the first that fails; 0 is acceptance.
+
+       no.  refused is                                                           read_file  align  merge  run
+        1   W or H not a multiple of 64 from 64 to 4096                              x        x      x     x
+        2   N outside 2..8                                                           x        x      x     x
+        3   a reference not below N                                                  x        x      x     x
+        4   samples of another length                                                x        x      x     x
+        5   vectors of another length                                                         x      x     x
+        6   output of another length                                                                 x     x
+        7   a work area of another length                                                     x      x     x
+        8   shot or read negative or not finite; an ISO outside 25..409600                           x     x
+        9   shot > 64 or read > 4096 after ISO; in a file Ls > 65536 or Lr > 4194304 x               x     x
+       10   a strength above 1024                                                    x               x     x
+       11   a sample above 4095                                                      x        x      x     x
+       12   a part of a vector outside -172..172                                                     x     x, of those found
+       13   a file whose first line differs                                          x
+       14   a malformed line of values                                               x
+       15   a file that is short, or goes on after its last row                      x
+
+   A file is tested line by line instead: no first LF 15, 13; line two 15, 14, then 1, 2, 3, 9, 10, 4; each row 15, 14, 11; then what follows, 15.
+
+   NOISE is given as `shot`, in samples, and `read`, in squared samples: a sample x has the variance shot x + read. Where an ISO is given too,
+   shot and read are those of ISO 100. The strength counts eighths of the source's tau, 0..1024. */
 #ifndef STACKER_H
 #define STACKER_H
 
@@ -30,26 +69,27 @@
 extern "C" {
 #endif
 
-/* The refusal's number, or 0 with, per other frame in rising index, its sum of finest residuals; unused places are 0. */
+/* What align and run answer: the refusal's number, or 0 with, per other frame in rising index, its sum of finest residuals; unused places are 0. */
 typedef struct {
     uint64_t refusal;
     uint64_t residuals[7];
 } stacker_alignment;
 
-/* The refusal's number, or 0 with the seven values of the file's second line; shot and read are Ls and Lr. */
+/* What reading a file answers: the refusal's number, or 0 with the seven values of its second line. `shot` and `read` are the levels Ls and Lr:
+   stacker_merge and stacker_run take them as shot / 1024.0 and read / 1024.0. */
 typedef struct {
     uint64_t refusal;
     uint64_t width, height, count, reference, shot, read, strength;
 } stacker_file;
 
-/* Reads a burst file. Accepted, the samples are the file's; refused, they are as they were. */
+/* Reads a burst file into the lent samples, whose length must be the one that the file's second line asks for. */
 stacker_file stacker_read_file(const uint8_t *file, size_t file_length, uint16_t *samples, size_t samples_length);
 
 /* Aligns each other frame on the reference. */
 stacker_alignment stacker_align(uint64_t width, uint64_t height, uint64_t count, uint64_t reference, const uint16_t *samples, size_t samples_length,
     int32_t *vectors, size_t vectors_length, int64_t *work, size_t work_length);
 
-/* Merges the frames by lent vectors, which are only read. `shot` is in samples, `read` in squared samples, the strength in eighths of tau. */
+/* Merges the frames by lent vectors, which are only read. */
 uint64_t stacker_merge(uint64_t width, uint64_t height, uint64_t count, uint64_t reference, double shot, double read, uint64_t strength,
     const uint16_t *samples, size_t samples_length, const int32_t *vectors, size_t vectors_length, uint16_t *output, size_t output_length,
     int64_t *work, size_t work_length);
