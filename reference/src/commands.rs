@@ -40,6 +40,10 @@ pub fn dispatch(arguments: &[String]) -> Outcome {
             let calls = fixed_calls::of_size(width.parse()?, height.parse()?, round.parse()?);
             data::write_each(calls)
         }
+        ["fixed-places", width, height, round] => {
+            let calls = fixed_calls::of_size(width.parse()?, height.parse()?, round.parse()?);
+            data::write_with_places(calls)
+        }
         _ => Err("unknown subcommand; README.md lists them".into()),
     }
 }

@@ -5,6 +5,8 @@ use super::wire::{put_many, Word};
 use super::Outcome;
 use reference::calls::Call;
 use reference::cases::{damaged_files, Case};
+use reference::random::Random;
+use reference::shape::Shape;
 use reference::{lone_sample, scenes};
 use std::io::{stdout, BufWriter, Write};
 use std::path::Path;
@@ -46,10 +48,29 @@ pub fn write_calls(side: &str, count: &str, seed: &str) -> Outcome {
 /// Writes the call of the lone sample, and its place, as `exact` takes them.
 pub fn write_lone_sample() -> Outcome {
     let mut out = BufWriter::new(stdout().lock());
-    put_call(&mut out, &lone_sample::call())?;
-    1u64.put(&mut out)?;
-    put_many(&mut out, &lone_sample::PLACE)?;
+    put_call_with_places(&mut out, &lone_sample::call(), &[lone_sample::PLACE])?;
     out.flush()?;
+    Ok(())
+}
+
+/// Writes calls, each with eight random places, as `exact` takes them.
+pub fn write_with_places(calls: impl Iterator<Item = Call>) -> Outcome {
+    let mut out = BufWriter::new(stdout().lock());
+    let mut random = Random::new(1);
+    for call in calls {
+        let Shape { width, height, .. } = call.burst.shape;
+        let mut below = |side: u64| random.below(side as usize) as u64;
+        let places: [[u64; 2]; 8] = std::array::from_fn(|_| [below(height), below(width)]);
+        put_call_with_places(&mut out, &call, &places)?;
+    }
+    out.flush()?;
+    Ok(())
+}
+
+fn put_call_with_places(out: &mut impl Write, call: &Call, places: &[[u64; 2]]) -> Outcome {
+    put_call(out, call)?;
+    (places.len() as u64).put(out)?;
+    put_many(out, places.as_flattened())?;
     Ok(())
 }
 
