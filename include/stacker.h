@@ -1,6 +1,6 @@
 /* The burst stacker's calls: two to eight raw frames of one scene are aligned on one of them, the reference, and merged into one cleaner frame.
 
-   EXAMPLE. Eight frames of 512 by 512 samples, merged on the first; noise of variance 3 x + 100 at a sample x; strength 512, so tau = 64:
+   EXAMPLES. Eight frames of 512 by 512 samples, merged on the first; noise of variance 3 x + 100 at a sample x; strength 512, so tau = 64:
 
        enum { W = 512, H = 512, N = 8, VECTORS = (N - 1) * 2 * (W / 16 + 1) * (H / 16 + 1) };
        static uint16_t samples[N * W * H], output[W * H];
@@ -9,8 +9,20 @@
 
        stacker_alignment answer = stacker_run(W, H, N, 0, 3.0, 100.0, 512, samples, N * W * H, vectors, VECTORS, output, W * H, work, 2 * W * H);
        if (answer.refusal != 0)
-           return refused(answer.refusal);            // nothing has changed; the table below says why
-       int32_t down = vectors[2 * ((k * (H / 16 + 1) + a) * (W / 16 + 1) + b)];   // of the k-th other frame, tile row a, tile column b
+           return refused(answer.refusal);   // nothing has changed; the table below says why
+
+   Whether a tile of the k-th other frame has moved, at tile row a and tile column b:
+
+       const int32_t *vector = vectors + 2 * ((k * (H / 16 + 1) + a) * (W / 16 + 1) + b);
+       int moved = vector[0] != 0 || vector[1] != 0;
+
+   A burst file of that size and count instead of frames, with its own noise and strength:
+
+       stacker_file file = stacker_read_file(bytes, length, samples, N * W * H);
+       if (file.refusal != 0)
+           return refused(file.refusal);     // 4 where it has more or fewer samples
+       answer = stacker_run(file.width, file.height, file.count, file.reference, file.shot / 1024.0, file.read / 1024.0, file.strength,
+           samples, N * W * H, vectors, VECTORS, output, W * H, work, 2 * W * H);
 
    examples/merge.c is a whole program; examples/burst_file.rs calls from Rust.
 
@@ -75,8 +87,8 @@ typedef struct {
     uint64_t residuals[7];
 } stacker_alignment;
 
-/* What reading a file answers: the refusal's number, or 0 with the seven values of its second line. `shot` and `read` are the levels Ls and Lr:
-   stacker_merge and stacker_run take them as shot / 1024.0 and read / 1024.0. */
+/* What reading a file answers: the refusal's number, or 0 with the seven values of its second line. `shot` and `read` are the levels Ls and Lr,
+   1024 times what stacker_merge and stacker_run take. */
 typedef struct {
     uint64_t refusal;
     uint64_t width, height, count, reference, shot, read, strength;
