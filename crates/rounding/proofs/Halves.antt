@@ -1,8 +1,8 @@
--- Rounding upward, from the quotient and the remainder of the absolute value. The floor is unique, so each case is two inequalities.
+-- Rounding upward, from the absolute value. The floor is unique, so each way is two inequalities.
 use mathlib.Core.Path.{_≡_, sym}
 use mathlib.Core.List.{[], _∷_}
 use Prim.Native.Nat.{ℕ, _+_, _-_, _*_, _/_, _%_, _≤_, _<_}
-use native.Mathlib.Nat.{mul-pos, mul-le-mul-left, div-add-mod', mod-lt}
+use native.Mathlib.Nat.{mul-pos, mul-le-mul-left, div-add-mod', mod-lt, div-mul-le-self, div-lt-iff-lt-mul}
 use native.Mathlib.Omega.{arith}
 use lib.Dec.{lit<}
 use lib.IntN.{pos, negℤ}
@@ -33,36 +33,24 @@ module _ (a m n : ℕ) (h : 0 < m) where
       (by-le xs (# 2 ⊠ M ⊠ ⊖ N) (# 2 ⊠ ⊖ A ⊞ M) (le (# 2 ⊠ A) (# 2 ⊠ (M ⊠ N) ⊞ M) (le-pos k)) tt)
       (by-lt xs (# 2 ⊠ ⊖ A ⊞ M) (# 2 ⊠ M ⊠ ⊖ N ⊞ # 2 ⊠ M) (le (# 2 ⊠ (M ⊠ N) ⊞ # 1) (# 2 ⊠ A ⊞ M) (le-pos l)) tt))
 
-module _ (a m : ℕ) (h : 0 < m) where
-  abbrev q : ℕ
-  q = a / m
+-- the floor of (a + b)/m, where b is half of m or less
+module _ (a m b : ℕ) (h : 0 < m) where
+  abbrev n : ℕ
+  n = (a + b) / m
 
-  abbrev r : ℕ
-  r = a % m
+  low : n * m ≤ a + b
+  low = div-mul-le-self (a + b) m
 
-  pub r-less : r < m
-  r-less = mod-lt a h
+  high : a + b < n * m + m
+  high = omega (arith, div-add-mod' (a + b) m, mod-lt (a + b) h)
 
-  whole : q * m + r ≡ a
-  whole = div-add-mod' a m
+  small : b + b ≤ m → n ≤ a
+  small k = let l : n < a + 1 = div-lt-iff-lt-mul {k = m} {x = a + b} {y = a + 1} h .1 (omega (arith, mul-le-mul-left a h)) in omega arith
 
-  small : q ≤ a
-  small = omega (arith, whole, mul-le-mul-left q h)
+pub up : (a m : ℕ) → 0 < m → (pos ((a + m / 2) / m) ≡ upward (pos a) m) × ((a + m / 2) / m ≤ a)
+up a m h =
+    (upward-pos a m (n a m (m / 2) h) h (omega (arith, low a m (m / 2) h)) (omega (arith, high a m (m / 2) h)), small a m (m / 2) h (omega arith))
 
-  -- where half of m or more is left over
-  pub next-small : m ≤ r + r → q + 1 ≤ a
-  next-small k = omega (arith, whole, mul-le-mul-left q h)
-
-  pub up-more : m - r ≤ r → (pos (q + 1) ≡ upward (pos a) m) × (q + 1 ≤ a)
-  up-more k =
-      (upward-pos a m (q + 1) h (omega (arith, whole, r-less)) (omega (arith, whole, r-less)), next-small (omega (arith, r-less)))
-
-  pub up-same : r < m - r → (pos q ≡ upward (pos a) m) × (q ≤ a)
-  up-same k = (upward-pos a m q h (omega (arith, whole, r-less)) (omega (arith, whole, r-less)), small)
-
-  pub down-more : m - r < r → (negℤ (pos (q + 1)) ≡ upward (negℤ (pos a)) m) × (q + 1 ≤ a)
-  down-more k =
-      (upward-neg a m (q + 1) h (omega (arith, whole, r-less)) (omega (arith, whole, r-less)), next-small (omega (arith, r-less)))
-
-  pub down-same : r ≤ m - r → (negℤ (pos q) ≡ upward (negℤ (pos a)) m) × (q ≤ a)
-  down-same k = (upward-neg a m q h (omega (arith, whole, r-less)) (omega (arith, whole, r-less)), small)
+pub down : (a m : ℕ) → 0 < m → (negℤ (pos ((a + (m - 1) / 2) / m)) ≡ upward (negℤ (pos a)) m) × ((a + (m - 1) / 2) / m ≤ a)
+down a m h =
+    (upward-neg a m (n a m ((m - 1) / 2) h) h (omega (arith, high a m ((m - 1) / 2) h)) (omega (arith, low a m ((m - 1) / 2) h)), small a m ((m - 1) / 2) h (omega arith))

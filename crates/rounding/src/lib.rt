@@ -1,6 +1,6 @@
-// Division to nearest, the two ways of document 01. A remainder is compared with what is left of the divisor: nothing is doubled, so nothing overflows.
+// Division to nearest, the two ways of document 01. Half of the divisor is added: nothing is doubled, so nothing overflows.
 ghost use mathlib.Core.Path.{_≡_};
-ghost use Prim.Native.Nat.{_≤_, _<_, _^_};
+ghost use Prim.Native.Nat.{_-_, _≤_, _<_, _^_};
 ghost use lib.IntN.{pos, natAbs, negℤ};
 ghost use Rattle.algebra.specs.Nearest.{away, upward};
 
@@ -31,35 +31,34 @@ fn negated(a: u64) -> i64
     0 - a as i64
 }
 
+// a itself. For the exclusive or, with bits of m that are 0, the compiler takes a dividend to be long, and leaves out a test for short ones: a branch that
+// the data would decide.
+fn long(a: u64, m: u64) -> u64
+    requires { ⌜ m < 2 ^ 60 ⌝ }
+    ensures { λ r. ⌜ r ≡ a ⌝ }
+{
+    a ^ (m >> 60)
+}
+
 // a / m to nearest, halves upward.
 fn halves_up(a: u64, m: u64) -> u64
-    requires { ⌜ 0 < m ⌝ }
+    requires { ⌜ (0 < m) × (m < 2 ^ 60) × (a < 2 ^ 63) ⌝ }
     ensures { λ r. ⌜ (pos r ≡ upward (pos a) m) × (r ≤ a) ⌝ }
 {
-    let q = a / m;
-    let r = a % m;
-    if m - r <= r {
-        return q + 1;
-    }
-    q
+    long(a + m / 2, m) / m
 }
 
 // a / m to nearest, halves downward: −a / m, halves upward, without its sign.
 fn halves_down(a: u64, m: u64) -> u64
-    requires { ⌜ 0 < m ⌝ }
+    requires { ⌜ (0 < m) × (m < 2 ^ 60) × (a < 2 ^ 63) ⌝ }
     ensures { λ r. ⌜ (negℤ (pos r) ≡ upward (negℤ (pos a)) m) × (r ≤ a) ⌝ }
 {
-    let q = a / m;
-    let r = a % m;
-    if m - r < r {
-        return q + 1;
-    }
-    q
+    long(a + (m - 1) / 2, m) / m
 }
 
 // z / m to nearest, halves away from zero.
 pub fn round_away(z: i64, m: u64) -> i64
-    requires { ⌜ (0 < m) × (natAbs z < 2 ^ 63) ⌝ }
+    requires { ⌜ (0 < m) × (m < 2 ^ 60) × (natAbs z < 2 ^ 63) ⌝ }
     ensures { λ r. ⌜ r ≡ away z m ⌝ }
 {
     let n = halves_up(magnitude(z), m);
@@ -71,7 +70,7 @@ pub fn round_away(z: i64, m: u64) -> i64
 
 // z / m to nearest, halves upward.
 pub fn round_up(z: i64, m: u64) -> i64
-    requires { ⌜ (0 < m) × (natAbs z < 2 ^ 63) ⌝ }
+    requires { ⌜ (0 < m) × (m < 2 ^ 60) × (natAbs z < 2 ^ 63) ⌝ }
     ensures { λ r. ⌜ r ≡ upward z m ⌝ }
 {
     let a = magnitude(z);
@@ -79,4 +78,20 @@ pub fn round_up(z: i64, m: u64) -> i64
         return negated(halves_down(a, m));
     }
     signed(halves_up(a, m))
+}
+
+// z / 2^24 to nearest, halves away from zero, by shifts: z >> 63 is −1 below zero and 0 from zero on.
+pub fn round_away_24(z: i64) -> i64
+    requires { ⌜ natAbs z < 2 ^ 63 - 2 ^ 32 ⌝ }
+    ensures { λ r. ⌜ r ≡ away z (2 ^ 24) ⌝ }
+{
+    (z + 8388608 + (z >> 63)) >> 24
+}
+
+// The same of z / 2^32.
+pub fn round_away_32(z: i64) -> i64
+    requires { ⌜ natAbs z < 2 ^ 63 - 2 ^ 32 ⌝ }
+    ensures { λ r. ⌜ r ≡ away z (2 ^ 32) ⌝ }
+{
+    (z + 2147483648 + (z >> 63)) >> 32
 }

@@ -1,27 +1,26 @@
--- `rounding::halves_down`: a law of `Halves` for each way that the remainder compares.
+-- `rounding::halves_down`: the law of `Halves`.
 use native.Mathlib.Omega.{arith}
 use borrow.Author.Needs.{needs}
-use Rattle.rounding.proofs.Halves.{r-less, next-small, down-more, down-same}
+use Rattle.rounding.proofs.Halves.{down}
 use Rattle.rounding.proofs.halves_down.Statement.{statement}
 use Rattle.rounding.proofs.halves_down.Tie as tie
 
-div-q : tie.Need-div-q
-div-q c = search needs
+sub-long : tie.Need-sub-long
+sub-long c = search needs
 
-rem-r : tie.Need-rem-r
-rem-r c = search needs
+add-long : tie.Need-add-long
+add-long c = omega (arith, c .pre .1, c .pre .2)
 
-sub-if1 : tie.Need-sub-if1
-sub-if1 c = omega (arith, r-less (c .args .a) (c .args .m) (c .pre))
+long-requires : tie.Need-long-requires
+long-requires c κs = search needs
 
-add-result : tie.Need-add-result
-add-result c = omega (arith, next-small (c .before .args .a) (c .before .args .m) (c .before .pre) (omega arith))
+div-result : tie.Need-div-result
+div-result c = search needs
 
 returns : tie.Need-returns
-returns c = down-more (c .before .args .a) (c .before .args .m) (c .before .pre) (c .if1 .taken)
-
-returns-2 : tie.Need-returns-2
-returns-2 c = down-same (c .before .args .a) (c .before .args .m) (c .before .pre) (c .if1 .left)
+returns c =
+    let s = c .before in
+    rw (c .long .ensures) (down (s .args .a) (s .args .m) (s .pre .0))
 
 pub halves-down-spec : {M : Type 1} → statement M
-halves-down-spec = tie.close (tie.spec div-q rem-r sub-if1 add-result returns returns-2)
+halves-down-spec = tie.close (tie.spec sub-long add-long long-requires div-result returns)

@@ -9,16 +9,18 @@ use Rattle.rounding.proofs.round_away.Statement.{statement}
 use Rattle.rounding.proofs.round_away.Tie as tie
 
 magnitude-requires : tie.Need-magnitude-requires
-magnitude-requires c κs = rw (toZ-ofZ (c .fits .z)) (c .pre .1)
+magnitude-requires c κs = rw (toZ-ofZ (c .fits .z)) (c .pre .2)
 
 halves-up-requires : tie.Need-halves-up-requires
-halves-up-requires c κs = search needs
+halves-up-requires c κs =
+    let s = c .before in
+    (s .pre .0, s .pre .1, rw (c .magnitude .ensures, toZ-ofZ (s .fits .z)) (s .pre .2))
 
 negated-requires : tie.Need-negated-requires
 negated-requires c κs =
     let b = c .before in
     let s = b .before .before in
-    half-fits (s .args .m) _ (s .fits .z) (b .before .magnitude .ensures) (b .halves-up .ensures .1) (s .pre .1)
+    half-fits (s .args .m) _ (s .fits .z) (b .before .magnitude .ensures) (b .halves-up .ensures .1) (s .pre .2)
 
 returns : tie.Need-returns
 returns c =
@@ -32,7 +34,7 @@ signed-requires : tie.Need-signed-requires
 signed-requires c κs =
     let b = c .before in
     let s = b .before .before in
-    half-fits (s .args .m) _ (s .fits .z) (b .before .magnitude .ensures) (b .halves-up .ensures .1) (s .pre .1)
+    half-fits (s .args .m) _ (s .fits .z) (b .before .magnitude .ensures) (b .halves-up .ensures .1) (s .pre .2)
 
 returns-2 : tie.Need-returns-2
 returns-2 c =

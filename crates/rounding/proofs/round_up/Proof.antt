@@ -9,16 +9,18 @@ use Rattle.rounding.proofs.round_up.Statement.{statement}
 use Rattle.rounding.proofs.round_up.Tie as tie
 
 magnitude-requires : tie.Need-magnitude-requires
-magnitude-requires c κs = rw (toZ-ofZ (c .fits .z)) (c .pre .1)
+magnitude-requires c κs = rw (toZ-ofZ (c .fits .z)) (c .pre .2)
 
 halves-down-requires : tie.Need-halves-down-requires
-halves-down-requires c κs = search needs
+halves-down-requires c κs =
+    let s = c .before .before in
+    (s .pre .0, s .pre .1, rw (c .before .magnitude .ensures, toZ-ofZ (s .fits .z)) (s .pre .2))
 
 negated-requires : tie.Need-negated-requires
 negated-requires c κs =
     let m = c .before .before in
     let s = m .before in
-    half-fits (s .args .m) _ (s .fits .z) (m .magnitude .ensures) (c .halves-down .ensures .1) (s .pre .1)
+    half-fits (s .args .m) _ (s .fits .z) (m .magnitude .ensures) (c .halves-down .ensures .1) (s .pre .2)
 
 returns : tie.Need-returns
 returns c =
@@ -30,13 +32,15 @@ returns c =
     ∙ upward-below (s .args .m) (h .halves-down .result) (s .fits .z) (m .magnitude .ensures) (h .before .if1 .taken) (h .halves-down .ensures .0)
 
 halves-up-requires : tie.Need-halves-up-requires
-halves-up-requires c κs = search needs
+halves-up-requires c κs =
+    let s = c .before .before in
+    (s .pre .0, s .pre .1, rw (c .before .magnitude .ensures, toZ-ofZ (s .fits .z)) (s .pre .2))
 
 signed-requires : tie.Need-signed-requires
 signed-requires c κs =
     let m = c .before .before in
     let s = m .before in
-    half-fits (s .args .m) _ (s .fits .z) (m .magnitude .ensures) (c .halves-up .ensures .1) (s .pre .1)
+    half-fits (s .args .m) _ (s .fits .z) (m .magnitude .ensures) (c .halves-up .ensures .1) (s .pre .2)
 
 returns-2 : tie.Need-returns-2
 returns-2 c =

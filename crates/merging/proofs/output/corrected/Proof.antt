@@ -53,7 +53,7 @@ sub-round-up c = rw (difference-is c) (most-fits w64 (scaled c -ℤ c .args .sum
 
 round-up-requires : tie.Need-round-up-requires
 round-up-requires c κs =
-    (omega arith, rw (back c) (omega (arith, difference-most c .most)))
+    (omega arith, omega arith, rw (back c) (omega (arith, difference-most c .most)))
 
 held-requires : tie.Need-held-requires
 held-requires c κs = search needs

@@ -1,0 +1,18 @@
+-- `rounding::long`: nothing is left of a divisor below 2^60.
+use mathlib.Core.Path.{_≡_, ap, _∙_}
+use Prim.Native.Nat.{ℕ, _/_, _<_, _^_}
+use native.Mathlib.Omega.{arith}
+use lib.Bits.{bitXor, xor-zero-r}
+use Rattle.rounding.proofs.long.Statement.{statement}
+use Rattle.rounding.proofs.long.Tie as tie
+
+unchanged : (a m : ℕ) → m < 2 ^ 60 → bitXor a (m / 2 ^ 60) ≡ a
+unchanged a m h =
+    let e : m / 2 ^ 60 ≡ 0 = omega arith in
+    ap (bitXor a) e ∙ xor-zero-r a
+
+returns : tie.Need-returns
+returns c = unchanged (c .args .a) (c .args .m) (c .pre)
+
+pub long-spec : {M : Type 1} → statement M
+long-spec = tie.close (tie.spec returns)
