@@ -10,6 +10,7 @@ pub mod Nearest
 pub mod Clamp
 pub mod Fit
 pub mod Code
+pub mod Forms
 pub mod Bound
 pub mod Lipschitz
 pub mod Vars

@@ -1,10 +1,11 @@
 -- Rounding to nearest, the two ways of document 01, and that either is within 1/2.
+use mathlib.Core.Path.{_≡_, refl, sym, ap, _∙_}
 use mathlib.Core.List.{[], _∷_}
-use Prim.Native.Nat.{ℕ, suc, _+_, _*_, _/_, _≤_, _<_}
-use native.Mathlib.Nat.{mul-pos, div-add-mod', mod-lt}
+use Prim.Native.Nat.{ℕ, zero, suc, _+_, _*_, _/_, _≤_, _<_}
+use native.Mathlib.Nat.{mul-pos, div-add-mod', div-eq-of-lt, mod-lt}
 use native.Mathlib.Omega.{arith}
 use lib.Dec.{lit<}
-use lib.IntN.{ℤ, pos, negsuc, negℤ, _+ℤ_, _-ℤ_, _*ℤ_}
+use lib.IntN.{ℤ, pos, negsuc, negℤ, _+ℤ_, _-ℤ_, _*ℤ_, negℤ-negℤ}
 use lib.Signed.{_≤ℤ_, shrZ}
 use Rattle.algebra.specs.Vars.{vars3}
 use Rattle.algebra.specs.Ring.{_⊞_, _⊟_, _⊠_, ⊖_, #_}
@@ -19,6 +20,13 @@ away (negsuc a) m = negℤ (pos ((2 * suc a + m) / (2 * m)))
 -- z/m to nearest, halves upward: the floor of z/m + 1/2
 unfoldable pub upward : ℤ → ℕ → ℤ
 upward z m = shrZ (pos 2 *ℤ z +ℤ pos m) (2 * m)
+
+-- halves away from zero: −z rounds to the negative
+pub away-odd : (z : ℤ) (m : ℕ) → 0 < m → away (negℤ z) m ≡ negℤ (away z m)
+unfolding away
+away-odd (pos zero) m h = let e = div-eq-of-lt {n = 2 * 0 + m} {m = 2 * m} (omega arith) in ap pos e ∙ sym (ap (λ n. negℤ (pos n)) e)
+away-odd (pos (suc a)) m h = refl
+away-odd (negsuc a) m h = sym (negℤ-negℤ (pos ((2 * suc a + m) / (2 * m))))
 
 nearest : (a m : ℕ) → 0 < m → (2 * (m * ((2 * a + m) / (2 * m))) ≤ 2 * a + m) × (2 * a ≤ 2 * (m * ((2 * a + m) / (2 * m))) + m)
 nearest a m h =

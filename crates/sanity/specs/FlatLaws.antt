@@ -19,7 +19,7 @@ use Rattle.transform.specs.Recipe.{wiener, rowRe, rowIm, binRe, binIm, quantize
 use Rattle.transform.specs.TableLaws.{window-halves}
 use Rattle.closeness.specs.Output.{rowIn, columnIn, weightIn, outputSample}
 use Rattle.closeness.specs.Windows.{four-windows}
-use Rattle.sanity.specs.ZeroLaws.{sumZ-zero, away-zero, wiener-zero, less-zero, less-none, more-none}
+use Rattle.transform.specs.ZeroLaws.{sumZ-zero, away-zero, wiener-zero, less-zero, less-none, more-none}
 use Rattle.sanity.specs.RoundLaws.{away-whole, away-scale, upward-scale}
 use Rattle.sanity.specs.Flat.{flatCorrection}
 

@@ -12,7 +12,6 @@ pub mod FlatAlign
 pub mod FlatFigure
 pub mod Calls
 pub mod FrameLaws
-pub mod ZeroLaws
 pub mod OutputLaws
 pub mod MergeLaws
 pub mod StillLaws

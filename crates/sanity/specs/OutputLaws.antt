@@ -12,7 +12,7 @@ use Rattle.algebra.specs.Nearest.{upward}
 use Rattle.transform.specs.Side.{Side}
 use Rattle.transform.specs.Recipe.{correctionAt}
 use Rattle.closeness.specs.Output.{rowIn, columnIn, weightIn, outputSample}
-use Rattle.sanity.specs.ZeroLaws.{sumZ-zero}
+use Rattle.transform.specs.ZeroLaws.{sumZ-zero}
 
 -- m·n/m to nearest is n
 upward-whole : (n m : ℕ) → 0 < m → upward (pos n *ℤ pos m -ℤ pos 0) m ≡ pos n

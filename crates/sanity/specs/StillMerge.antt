@@ -13,7 +13,7 @@ use Rattle.merging.specs.declared.Merge.{Merge}
 use Rattle.merging.specs.Recipe.{Scene, sceneOf, tileAt, referenceTile, otherTile, difference, outputAt, merged}
 use Rattle.sanity.specs.Frames.{Burst, Same, Alike, imageWords, frameWords}
 use Rattle.sanity.specs.FrameLaws.{other-below, frame-words, alike-same}
-use Rattle.sanity.specs.ZeroLaws.{no-difference}
+use Rattle.transform.specs.ZeroLaws.{no-difference}
 use Rattle.sanity.specs.MergeLaws.{tile-same, Uncorrected, output-is, merged-is}
 
 -- every other frame is the reference, and no tile of it has moved

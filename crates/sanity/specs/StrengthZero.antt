@@ -2,19 +2,25 @@
 use mathlib.Core.Path.{_≡_, sym, _∙_, ap}
 use mathlib.Core.List.{List}
 use Prim.Native.Nat.{ℕ, _/_, _%_, _≤_}
+use native.Mathlib.Nat.{zero-mul}
 use lib.Dec.{lit<}
 use lib.IntN.{ℤ, pos}
 use Rattle.geometry.specs.BoundLaws.{sample-most}
 use Rattle.geometry.specs.Tiles.{level0}
-use Rattle.noise.specs.NoiseNumber.{tileRoot, noiseNumber}
+use Rattle.noise.specs.NoiseNumber.{tileRoot, variance, noiseNumber}
 use Rattle.transform.specs.Tables.{side16}
 use Rattle.transform.specs.Recipe.{correctionAt}
 use Rattle.merging.specs.declared.Merge.{Merge}
 use Rattle.merging.specs.Recipe.{Scene, sceneOf, referenceTile, tileNoise, differenceOver, outputAt, merged}
 use Rattle.sanity.specs.Frames.{frameWords, Burst}
 use Rattle.sanity.specs.FrameLaws.{frame-words}
-use Rattle.sanity.specs.ZeroLaws.{noise-none, no-noise}
+use Rattle.transform.specs.ZeroLaws.{no-noise}
 use Rattle.sanity.specs.MergeLaws.{Uncorrected, output-is, merged-is}
+
+-- V is 0
+noise-none : (ls lr r : ℕ) → noiseNumber 0 ls lr r ≡ 0
+unfolding noiseNumber
+noise-none ls lr r = rw (zero-mul (variance ls lr r))
 
 module _ (s : Scene) (off : s .strength ≡ 0) where
   -- V of every tile is 0

@@ -61,7 +61,7 @@ module _ {A : Type 0} {f : ℕ → A} {n : ℕ} {l : List A} where
       let e : i ≡ n = omega arith in
       w .is ∙ ap (λ (m : ℕ). tab m f ++ drop m l) e ∙ tab-all f n l (w .long)
 
--- what holds of the default and of each f k holds of each element of the table
+-- what holds of the default and of each f k below n holds of each element of the table
 append-every : {A : Type 0} (P : A → Type 0) (d : A) (xs ys : List A) → ((i : ℕ) → P (getD xs i d)) → ((i : ℕ) → P (getD ys i d)) → (i : ℕ) → P (getD (xs ++ ys) i d)
 append-every P d [] ys h k i = k i
 append-every P d (x ∷ xs) ys h k zero = h 0
@@ -71,10 +71,14 @@ one-every : {A : Type 0} (P : A → Type 0) (d x : A) → P d → P x → (i : �
 one-every P d x pd px zero = px
 one-every P d x pd px (suc i) = pd
 
-pub tab-every : {A : Type 0} (P : A → Type 0) (d : A) (f : ℕ → A) → P d → ((k : ℕ) → P (f k)) → (n i : ℕ) → P (getD (tab n f) i d)
+pub tab-each : {A : Type 0} (P : A → Type 0) (d : A) (f : ℕ → A) → P d → (n : ℕ) → ((k : ℕ) → k < n → P (f k)) → (i : ℕ) → P (getD (tab n f) i d)
 unfolding tab
-tab-every P d f pd h zero i = pd
-tab-every P d f pd h (suc n) i = append-every P d (tab n f) (f n ∷ []) (tab-every P d f pd h n) (one-every P d (f n) pd (h n)) i
+tab-each P d f pd zero h i = pd
+tab-each P d f pd (suc n) h i =
+    append-every P d (tab n f) (f n ∷ []) (tab-each P d f pd n (λ k l. h k (omega arith))) (one-every P d (f n) pd (h n (omega arith))) i
+
+pub tab-every : {A : Type 0} (P : A → Type 0) (d : A) (f : ℕ → A) → P d → ((k : ℕ) → P (f k)) → (n i : ℕ) → P (getD (tab n f) i d)
+tab-every P d f pd h n = tab-each P d f pd n (λ k l. h k)
 
 none : (i : ℕ) → i < 0 → ⊥
 none i h = omega arith

@@ -1,65 +1,70 @@
 -- P of a tile of differences: the steps as the code hands them on are the recipe's; nothing where V is 0; and how large P is.
 use mathlib.Core.Path.{_≡_, sym, ap, ap₂, _∙_}
 use mathlib.Core.List.{List, [], _∷_}
-use Prim.Native.Nat.{ℕ, _≤_, _<_, _^_}
+use Prim.Native.Nat.{ℕ, _/_, _%_, _≤_, _<_, _^_}
+use lib.Dec.{lit<}
 use lib.IntN.{ℤ, pos, natAbs, _-ℤ_, _*ℤ_}
 use Rattle.algebra.specs.Ring.{var, _⊟_, _⊠_, #_, ring}
 use Rattle.algebra.specs.Sums.{sumZ-cong, sumZ-0}
 use Rattle.algebra.specs.Nearest.{away}
+use Rattle.sequences.specs.Tab.{tab}
 use Rattle.sequences.specs.Grid.{grid, grid-ext}
 use Rattle.transform.specs.Tables.{side16}
 use Rattle.transform.specs.Recipe.{binRe, binIm, wiener, filtered, twiddleRe, twiddleIm, inverseRe, inverseAt, correctionAt}
-use Rattle.transform.specs.Lines.{TileMost, linesOf, realAt, imaginaryAt}
+use Rattle.transform.specs.Lines.{TileMost, EmptyTile}
+use Rattle.transform.specs.Spectrum.{BinsOf, spread, backSum, quadOf, quadAt, gainRe, gainIm}
+use Rattle.transform.specs.SpectrumLaws.{bins-mirrored, filtered-mirrored}
+use Rattle.transform.specs.ZeroLaws.{no-noise, no-difference}
+use Rattle.transform.specs.FoldLaws.{inverse-folds}
 use Rattle.transform.specs.Magnitudes.{differenceMost, correctionMost}
-use Rattle.transform.proofs.Tiles.{grid-most, real-of, imaginary-of}
-use Rattle.transform.proofs.Bins.{bin-most}
-use Rattle.transform.proofs.Gains.{gain-most}
-use Rattle.transform.proofs.Inverses.{inverse-small}
+use Rattle.transform.proofs.Tiles.{tile-most}
+use Rattle.transform.proofs.Spectra.{quad-at, spread-ext, back-ext}
+use Rattle.transform.proofs.Sizes.{bin-re-most, bin-im-most, gain-most, inverse-small}
 
--- the inverse looks at the sixteen by sixteen bins only
-inverse-ext : (g h g' h' : ℕ → ℕ → ℤ) → ((u v : ℕ) → u < 16 → v < 16 → g u v ≡ g' u v) → ((u v : ℕ) → u < 16 → v < 16 → h u v ≡ h' u v) → (y x : ℕ) → inverseAt side16 g h y x ≡ inverseAt side16 g' h' y x
-unfolding inverseAt inverseRe side16
-inverse-ext g h g' h' p q y x =
-    ap (λ z. away z (2 ^ 32))
-    (sumZ-cong 16 _ _
-    (λ u k. sumZ-cong 16 _ _ (λ v l. ap₂ (λ a b. twiddleRe side16 y x u v *ℤ a -ℤ twiddleIm side16 y x u v *ℤ b) (p u v k l) (q u v k l))))
+-- from B on: the tile b of bins of d, and the quads q that the Wiener step hands to the inverse
+module _ (noise : ℕ) (d b : ℕ → ℕ → ℤ) (m : BinsOf d b) where
+  abbrev G : ℕ → ℕ → ℤ
+  G u v = filtered side16 noise (binRe side16 d u v) (binIm side16 d u v)
 
--- from B on: the tile b of bins, and the tile g that the Wiener step hands to the inverse
-module _ (noise : ℕ) (b : List (List ℤ)) where
-  abbrev gainsRe : ℕ → ℕ → ℤ
-  gainsRe u v = filtered side16 noise (realAt b u v) (imaginaryAt b u v)
+  abbrev H : ℕ → ℕ → ℤ
+  H u v = filtered side16 noise (binIm side16 d u v) (binRe side16 d u v)
 
-  abbrev gainsIm : ℕ → ℕ → ℤ
-  gainsIm u v = filtered side16 noise (imaginaryAt b u v) (realAt b u v)
+  gain-re : (u v : ℕ) → u < 16 → v < 9 → gainRe noise b u v ≡ G u v
+  unfolding gainRe
+  gain-re u v h l = ap₂ (filtered side16 noise) (m .re u v h l) (m .im u v h l)
 
-  pub correction-is : (d : ℕ → ℕ → ℤ) {g : List (List ℤ)} → b ≡ linesOf (binRe side16 d) (binIm side16 d) → g ≡ linesOf gainsRe gainsIm → grid 16 16 (inverseAt side16 (realAt g) (imaginaryAt g)) ≡ grid 16 16 (correctionAt side16 noise d)
-  unfolding correctionAt
-  correction-is d {g} p q = grid-ext 16 16 _ _ (λ y x h l. inverse-ext _ _ _ _ real imaginary y x)
-    where
-      real : (u v : ℕ) → u < 16 → v < 16 → realAt g u v ≡ filtered side16 noise (binRe side16 d u v) (binIm side16 d u v)
-      real u v h l =
-          ap (λ t. realAt t u v) q ∙ real-of gainsRe gainsIm u v h l
-          ∙ ap₂ (filtered side16 noise) (ap (λ t. realAt t u v) p ∙ real-of (binRe side16 d) (binIm side16 d) u v h l) (ap (λ t. imaginaryAt t u v) p ∙ imaginary-of (binRe side16 d) (binIm side16 d) u v h l)
+  gain-im : (u v : ℕ) → u < 16 → v < 9 → gainIm noise b u v ≡ H u v
+  unfolding gainIm
+  gain-im u v h l = ap₂ (filtered side16 noise) (m .im u v h l) (m .re u v h l)
 
-      imaginary : (u v : ℕ) → u < 16 → v < 16 → imaginaryAt g u v ≡ filtered side16 noise (binIm side16 d u v) (binRe side16 d u v)
-      imaginary u v h l =
-          ap (λ t. imaginaryAt t u v) q ∙ imaginary-of gainsRe gainsIm u v h l
-          ∙ ap₂ (filtered side16 noise) (ap (λ t. imaginaryAt t u v) p ∙ imaginary-of (binRe side16 d) (binIm side16 d) u v h l) (ap (λ t. realAt t u v) p ∙ real-of (binRe side16 d) (binIm side16 d) u v h l)
+  module _ {q : List (List ℤ)} (e : q ≡ tab 64 (λ n. quadOf (spread (gainRe noise b) (gainIm noise b)) (n / 8) (n % 8))) where
+    folded-is : (k c : ℕ) → k < 16 → c < 16 → quadAt q k c ≡ spread G H k c
+    folded-is k c h l =
+        quad-at (spread (gainRe noise b) (gainIm noise b)) e k c h l ∙ spread-ext (gainRe noise b) (gainIm noise b) G H gain-re gain-im k c h l
 
--- where V is 0
-correction-zero : (d : ℕ → ℕ → ℤ) (y x : ℕ) → pos 0 ≡ correctionAt side16 0 d y x
-unfolding correctionAt filtered wiener inverseAt inverseRe side16 away
-correction-zero d y x =
-    ap (λ z. away z (2 ^ 32)) (sym (sumZ-cong 16 _ (λ u. pos 0) (λ u k. sumZ-cong 16 _ (λ v. pos 0) (λ v l. none (twiddleRe side16 y x u v) (twiddleIm side16 y x u v)) ∙ sumZ-0 16) ∙ sumZ-0 16))
-  where
-    none : (a b : ℤ) → a *ℤ pos 0 -ℤ b *ℤ pos 0 ≡ pos 0
-    none a b = ring (a ∷ b ∷ []) (var 0 ⊠ # 0 ⊟ var 1 ⊠ # 0) (# 0) tt
+    pub correction-is : grid 16 16 (λ y x. away (backSum (quadAt q) y x) (2 ^ 32)) ≡ grid 16 16 (correctionAt side16 noise d)
+    unfolding correctionAt inverseAt side16
+    correction-is =
+        grid-ext 16 16 _ _
+        (λ y x h l. ap (λ z. away z (2 ^ 32))
+        (back-ext (quadAt q) (spread G H) folded-is y x
+        ∙ sym (inverse-folds G H y h (filtered-mirrored noise (binRe side16 d) (binIm side16 d) (bins-mirrored d)) x l)))
 
-pub zeros-are : (d : ℕ → ℕ → ℤ) → grid 16 16 (λ y x. pos 0) ≡ grid 16 16 (correctionAt side16 0 d)
-zeros-are d = grid-ext 16 16 (λ y x. pos 0) (correctionAt side16 0 d) (λ y x h l. correction-zero d y x)
+-- where V is 0, or the tile has no differences
+module _ (noise : ℕ) (d : ℕ → ℕ → ℤ) where
+  zeros : ((y x : ℕ) → correctionAt side16 noise d y x ≡ pos 0) → grid 16 16 (λ y x. pos 0) ≡ grid 16 16 (correctionAt side16 noise d)
+  zeros e = grid-ext 16 16 (λ y x. pos 0) (correctionAt side16 noise d) (λ y x h l. sym (e y x))
+
+  pub no-noise-is : noise ≡ 0 → grid 16 16 (λ y x. pos 0) ≡ grid 16 16 (correctionAt side16 noise d)
+  unfolding side16
+  no-noise-is e = zeros (λ y x. ap (λ n. correctionAt side16 n d y x) e ∙ no-noise side16 (lit< tt) d y x)
+
+  pub no-difference-is : EmptyTile d → grid 16 16 (λ y x. pos 0) ≡ grid 16 16 (correctionAt side16 noise d)
+  unfolding side16
+  no-difference-is e = zeros (no-difference side16 d (e .none) (lit< tt) (lit< tt) noise)
 
 pub corrections-most : (noise : ℕ) (d : ℕ → ℕ → ℤ) → ((y x : ℕ) → natAbs (d y x) ≤ differenceMost) → TileMost correctionMost (grid 16 16 (correctionAt side16 noise d))
 unfolding correctionAt
 corrections-most noise d m =
-    grid-most correctionMost _
-    (inverse-small _ _ (λ u v. gain-most noise (binRe side16 d u v) (binIm side16 d u v) (bin-most d m u v .0)) (λ u v. gain-most noise (binIm side16 d u v) (binRe side16 d u v) (bin-most d m u v .1)))
+    tile-most correctionMost _
+    (inverse-small _ _ (λ u v. gain-most noise (binRe side16 d u v) (binIm side16 d u v) (bin-re-most d m u v)) (λ u v. gain-most noise (binIm side16 d u v) (binRe side16 d u v) (bin-im-most d m u v)))

@@ -1,10 +1,12 @@
-pub mod Passes
 pub mod Tiles
-pub mod Recipes
-pub mod Bins
+pub mod Sums
 pub mod Rounded
 pub mod Weight
+pub mod Sizes
 pub mod Held
-pub mod Gains
-pub mod Inverses
+pub mod Folding
+pub mod Unfolding
+pub mod Apart
+pub mod QuadLaws
+pub mod Spectra
 pub mod Corrections

@@ -2,6 +2,12 @@ pub mod Side
 pub mod Tables
 pub mod Recipe
 pub mod Lines
+pub mod Halfcomplex
+pub mod Spectrum
+pub mod Fold
 pub mod Magnitudes
 pub mod TableLaws
 pub mod RecipeLaws
+pub mod FoldLaws
+pub mod SpectrumLaws
+pub mod ZeroLaws

@@ -1,6 +1,6 @@
 -- Side 16, with document 01's tables.
 use mathlib.Core.List.{List, [], _∷_}
-use Prim.Native.Nat.{ℕ, _+_, _^_, _%_}
+use Prim.Native.Nat.{ℕ, _+_, _-_, _^_, _%_}
 use lib.Dec.{lit<}
 use lib.IntN.{ℤ, pos, negℤ}
 use lib.ListN.{getD}
@@ -17,6 +17,10 @@ cosine16 k = getD cosines k (pos 0)
 -- S(k) = C(k+12), indices modulo 16
 unfoldable pub sine16 : ℕ → ℤ
 sine16 k = cosine16 ((k + 12) % 16)
+
+-- the index −k
+abbrev pub opposite : ℕ → ℕ
+opposite k = (16 - k) % 16
 
 -- w(0..15)
 unfoldable pub windows : List ℕ

@@ -1,21 +1,17 @@
-// Q and G of a line of bins.
+// Q and G, one part of a bin at a time.
 ghost use mathlib.Core.Path.{_≡_};
-ghost use Prim.Native.Nat.{_+_, _%_, _≤_};
-ghost use lib.IntN.{pos};
-ghost use lib.ListN.{getD};
+ghost use Prim.Native.Nat.{_≤_};
 ghost use Rattle.algebra.specs.Bound.{AtMost};
-ghost use Rattle.sequences.specs.Tab.{tab};
 ghost use Rattle.transform.specs.Tables.{side16};
-ghost use Rattle.transform.specs.Recipe.{wiener, quantized};
+ghost use Rattle.transform.specs.Recipe.{wiener, quantized, filtered};
 ghost use Rattle.transform.specs.Magnitudes.{binMost, gainMost, noiseMost};
-ghost use Rattle.transform.specs.Lines.{LineMost};
 
 // One part of Q: that part of B divided by 2^24.
 fn quantized_part(b: i64) -> i64
     requires { ⌜ AtMost binMost b ⌝ }
     ensures { λ r. ⌜ (r ≡ quantized side16 b) × (AtMost gainMost r) ⌝ }
 {
-    rounding::round_away(b, 16777216)
+    rounding::round_away_24(b)
 }
 
 // One part of G, from that part q of Q and the other part r.
@@ -31,26 +27,10 @@ fn wiener_part(noise: u64, q: i64, r: i64) -> i64
     rounding::round_away(v * q, power as u64)
 }
 
-// Q of a line of bins.
-pub fn quantized_line(b: &[i64; 32]) -> [i64; 32]
-    requires { ⌜ LineMost binMost (now b) ⌝ }
-    ensures { λ r. ⌜ r ≡ tab 32 (λ j. quantized side16 (getD (now (b .entry)) j (pos 0))) ⌝ }
+// One part of G, from that part b of B and the other part c.
+pub fn filtered_part(noise: u64, b: i64, c: i64) -> i64
+    requires { ⌜ (noise ≤ noiseMost) × (AtMost binMost b) × (AtMost binMost c) ⌝ }
+    ensures { λ g. ⌜ (g ≡ filtered side16 noise b c) × (AtMost gainMost g) ⌝ }
 {
-    let mut r = [0i64; 32];
-    for j in 0..32 {
-        r[j] = quantized_part(b[j]);
-    }
-    r
-}
-
-// G of a line of bins from its Q: a part's other part is half a line away.
-pub fn wiener_line(q: &[i64; 32], noise: u64) -> [i64; 32]
-    requires { ⌜ (noise ≤ noiseMost) × (LineMost gainMost (now q)) ⌝ }
-    ensures { λ r. ⌜ r ≡ tab 32 (λ j. wiener noise (getD (now (q .entry)) j (pos 0)) (getD (now (q .entry)) ((j + 16) % 32) (pos 0))) ⌝ }
-{
-    let mut r = [0i64; 32];
-    for j in 0..32 {
-        r[j] = wiener_part(noise, q[j], q[(j + 16) % 32]);
-    }
-    r
+    wiener_part(noise, quantized_part(b), quantized_part(c))
 }

@@ -1,52 +1,62 @@
-// The two-way transform, the Wiener step and the inverse of document 01, on tiles handed by value.
+// The two-way transform, the Wiener step and the inverse of document 01, on tiles handed by value. Differences are real, so each line is held in halfcomplex
+// form, and half the bins stand for all.
+mod backward;
+mod empty;
 mod filter;
-mod lines;
-mod rows;
-mod samples;
+mod halfcomplex;
+mod quads;
+mod two_way;
 
 ghost use mathlib.Core.Path.{_≡_};
-ghost use Prim.Native.Nat.{_≤_};
+ghost use Prim.Native.Nat.{_/_, _%_, _≤_, _^_};
 ghost use lib.IntN.{pos};
+ghost use Rattle.algebra.specs.Nearest.{away};
+ghost use Rattle.sequences.specs.Tab.{tab};
 ghost use Rattle.sequences.specs.Grid.{grid, cell};
 ghost use Rattle.transform.specs.Tables.{side16};
-ghost use Rattle.transform.specs.Recipe.{binRe, binIm, filtered, inverseAt, correctionAt};
-ghost use Rattle.transform.specs.Magnitudes.{differenceMost, binMost, gainMost, noiseMost, correctionMost};
-ghost use Rattle.transform.specs.Lines.{TileMost, linesOf, realAt, imaginaryAt};
+ghost use Rattle.transform.specs.Recipe.{correctionAt};
+ghost use Rattle.transform.specs.Magnitudes.{differenceMost, quadMost, noiseMost, correctionMost};
+ghost use Rattle.transform.specs.Lines.{TileMost};
+ghost use Rattle.transform.specs.Spectrum.{
+  BinsOf,
+  BinsMost,
+  quadOf,
+  quadAt,
+  spread,
+  gainRe,
+  gainIm,
+  backSum,
+};
 
-// B: the two-way transform of a tile of differences, in exact whole numbers.
-pub fn forward(d: [[i32; 16]; 16]) -> [[i64; 32]; 16]
+// B: the two-way transform of a tile of differences, in exact whole numbers. Line k holds place k of the rows' transforms, in halfcomplex form along the
+// columns.
+pub fn forward(d: [[i32; 16]; 16]) -> [[i64; 16]; 16]
     requires { ⌜ TileMost differenceMost d ⌝ }
-    ensures { λ r. ⌜ (r ≡ linesOf (binRe side16 (cell (pos 0) d)) (binIm side16 (cell (pos 0) d))) × (TileMost binMost r) ⌝ }
+    ensures { λ r. ⌜ (BinsOf (cell (pos 0) d) (cell (pos 0) r)) × (BinsMost r) ⌝ }
 {
-    let cos = lines::COSINES;
-    let a = rows::rows(&d, &cos);
-    let b = lines::turned(&a);
-    let c = lines::lines(&b, &cos, lines::FORWARD);
-    lines::turned(&c)
+    let a = two_way::rows(&d);
+    two_way::columns(&a)
 }
 
-// Q and G: the bins in sixteenths, shrunk by the Wiener step at the noise number V.
-pub fn wiener(b: [[i64; 32]; 16], noise: u64) -> [[i64; 32]; 16]
-    requires { ⌜ (TileMost binMost b) × (noise ≤ noiseMost) ⌝ }
-    ensures { λ r. ⌜ (r ≡ linesOf (λ u v. filtered side16 noise (realAt b u v) (imaginaryAt b u v)) (λ u v. filtered side16 noise (imaginaryAt b u v) (realAt b u v))) × (TileMost gainMost r) ⌝ }
+// Q and G: the bins in sixteenths, shrunk by the Wiener step at the noise number V. G is folded for the inverse, and held by quads.
+pub fn wiener(b: [[i64; 16]; 16], noise: u64) -> [[i64; 4]; 64]
+    requires { ⌜ (BinsMost b) × (noise ≤ noiseMost) ⌝ }
+    ensures { λ r. ⌜ (r ≡ tab 64 (λ n. quadOf (spread (gainRe noise (cell (pos 0) b)) (gainIm noise (cell (pos 0) b))) (n / 8) (n % 8))) × (TileMost quadMost r) ⌝ }
 {
-    let mut r = [[0i64; 32]; 16];
-    for u in 0..16 {
-        let q = filter::quantized_line(&b[u]);
-        r[u] = filter::wiener_line(&q, noise);
+    let mut r = [[0i64; 4]; 64];
+    for n in 0..64 {
+        r[n] = quads::quad(&b, noise, n / 8, n % 8);
     }
     r
 }
 
-// P: the real part of the inverse, divided by 2^32.
-pub fn inverse(g: [[i64; 32]; 16]) -> [[i32; 16]; 16]
-    requires { ⌜ TileMost gainMost g ⌝ }
-    ensures { λ r. ⌜ (r ≡ grid 16 16 (inverseAt side16 (realAt g) (imaginaryAt g))) × (TileMost correctionMost r) ⌝ }
+// P: the real part of the inverse sum of G, divided by 2^32.
+pub fn inverse(g: [[i64; 4]; 64]) -> [[i32; 16]; 16]
+    requires { ⌜ TileMost quadMost g ⌝ }
+    ensures { λ r. ⌜ r ≡ grid 16 16 (λ y x. away (backSum (quadAt g) y x) (2 ^ 32)) ⌝ }
 {
-    let cos = lines::COSINES;
-    let a = lines::lines(&g, &cos, lines::INVERSE);
-    let b = lines::turned(&a);
-    samples::samples(&b, &cos)
+    let a = two_way::columns_back(&g);
+    two_way::rows_back(&a)
 }
 
 // P of a tile of differences at the noise number V.
@@ -55,6 +65,9 @@ pub fn correction(d: [[i32; 16]; 16], noise: u64) -> [[i32; 16]; 16]
     ensures { λ r. ⌜ (r ≡ grid 16 16 (correctionAt side16 noise (cell (pos 0) d))) × (TileMost correctionMost r) ⌝ }
 {
     if noise == 0 {
+        return [[0i32; 16]; 16];
+    }
+    if empty::empty_tile(&d) {
         return [[0i32; 16]; 16];
     }
     let b = forward(d);

@@ -1,43 +1,25 @@
--- `transform::inverse`: lines, columns and samples give P, and no step is handed numbers too large for it.
-use mathlib.Core.Path.{refl, _∙_}
-use Prim.Native.Nat.{_+_}
-use native.Mathlib.Omega.{arith}
-use borrow.Author.Needs.{needs}
-use Rattle.transform.specs.Tables.{cosines, side16}
-use Rattle.transform.specs.Lines.{TileMost, realIn, imaginaryIn, realAt, imaginaryAt}
-use Rattle.transform.specs.Recipe.{inverseAt}
-use Rattle.transform.specs.Magnitudes.{passMost, correctionMost}
-use Rattle.transform.proofs.Tiles.{turned-most, tile-more, grid-most}
-use Rattle.transform.proofs.Inverses.{samples-are, lines-small, inverse-small}
+-- `transform::inverse`: the sums back along the lines, and then along the rows, give P.
+use mathlib.Core.Path.{_∙_}
+use Rattle.transform.specs.Spectrum.{quadAt}
+use Rattle.transform.proofs.Tiles.{cells-most}
+use Rattle.transform.proofs.Spectra.{back-is, columns-small}
 use Rattle.transform.proofs.inverse.Statement.{statement}
 use Rattle.transform.proofs.inverse.Tie as tie
 
-lines-requires : tie.Need-lines-requires
-unfolding cosines
-lines-requires c κs = (omega arith, refl, tile-more (omega arith) (c .before .before .pre))
+columns-back-requires : tie.Need-columns-back-requires
+columns-back-requires c κs = c .before .pre
 
-turned-requires : tie.Need-turned-requires
-turned-requires c κs = search needs
-
-samples-requires : tie.Need-samples-requires
-unfolding cosines
-samples-requires c κs =
-    let t = c .before .before in
-    let l = t .before .before in
-    let s = l .before .before .before in
-    let m : TileMost passMost (l .lines .result) = rw (l .lines .ensures) (lines-small (s .args .t1) (s .pre)) in
-    (refl, rw (t .turned .ensures) (turned-most m))
+rows-back-requires : tie.Need-rows-back-requires
+unfolding quadAt
+rows-back-requires c κs =
+    let s = c .before .before .before in
+    columns-small (quadAt (s .args .t1)) (c .before .columns-back .ensures) (λ k b. cells-most (s .pre) _ _)
 
 returns : tie.Need-returns
-unfolding realAt imaginaryAt realIn imaginaryIn
 returns c =
-    let t = c .before .before .before in
-    let l = t .before .before in
-    let s = l .before .before .before in
-    let g = s .args .t1 in
-    let e = c .samples .ensures ∙ samples-are g (l .lines .ensures) (t .turned .ensures) in
-    let m = inverse-small (realAt g) (imaginaryAt g) (λ u v. s .pre .line u .at v) (λ u v. s .pre .line u .at (16 + v)) in
-    (e, rw e (grid-most correctionMost (inverseAt side16 (realAt g) (imaginaryAt g)) m))
+    let a = c .before .before in
+    let s = a .before .before in
+    c .rows-back .ensures ∙ back-is (quadAt (s .args .t1)) (a .columns-back .ensures)
 
 pub inverse-spec : {M : Type 1} → statement M
-inverse-spec = tie.close (tie.spec lines-requires turned-requires samples-requires returns)
+inverse-spec = tie.close (tie.spec columns-back-requires rows-back-requires returns)

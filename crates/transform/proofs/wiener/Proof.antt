@@ -1,42 +1,32 @@
--- `transform::wiener`: the lines are stored one after the other, each quantized and then shrunk.
-use mathlib.Core.Path.{refl, _∙_}
+-- `transform::wiener`: the quads are stored one after the other.
+use mathlib.Core.Path.{refl, subst}
 use mathlib.Core.List.{[]}
-use Prim.Native.Nat.{_-_}
+use Prim.Native.Nat.{ℕ, _-_, _/_, _%_, _<_, zero-le}
 use native.Mathlib.Omega.{arith}
 use borrow.Author.Needs.{needs}
-use lib.ListN.{getD}
-use Rattle.sequences.specs.Tab.{tab, Filled, fill-start, fill-turn, fill-done}
-use Rattle.sequences.specs.Grid.{grid}
-use Rattle.transform.specs.Tables.{side16}
-use Rattle.transform.specs.Recipe.{filtered}
-use Rattle.transform.specs.Lines.{lineOf, linesOf, realAt, imaginaryAt}
-use Rattle.transform.proofs.Gains.{line-is, quantized-most, gains-most}
+use borrow.Author.Count.{below-more}
+use lib.IntN.{pos}
+use Rattle.sequences.specs.Tab.{tab-each, Filled, fill-start, fill-turn, fill-done}
+use Rattle.sequences.specs.Grid.{cell}
+use Rattle.transform.specs.Lines.{LineMost}
+use Rattle.transform.specs.Magnitudes.{quadMost}
+use Rattle.transform.specs.Spectrum.{quadOf, spread, gainRe, gainIm}
 use Rattle.transform.proofs.wiener.Statement.{statement}
 use Rattle.transform.proofs.wiener.Tie as tie
 
 abbrev Inv-loop : tie.InvT-loop
-Inv-loop noise b r₀ u₀ r u = Filled (λ u. tab 32 (lineOf (λ v. filtered side16 noise (realAt b u v) (imaginaryAt b u v)) (λ v. filtered side16 noise (imaginaryAt b u v) (realAt b u v)))) 16 u r₀ r
+Inv-loop noise b r₀ n₀ r n = (Filled (λ n. quadOf (spread (gainRe noise (cell (pos 0) b)) (gainIm noise (cell (pos 0) b))) (n / 8) (n % 8)) 64 n r₀ r) × ((k : ℕ) → k < n → LineMost quadMost (quadOf (spread (gainRe noise (cell (pos 0) b)) (gainIm noise (cell (pos 0) b))) (k / 8) (k % 8)))
 
 abbrev μ-loop : tie.MeasureT-loop
-μ-loop noise b r₀ u₀ r u = 16 - u
+μ-loop noise b r₀ n₀ r n = 64 - n
 
 loop-holds : tie.Need-loop-holds Inv-loop μ-loop
-loop-holds c = fill-start refl
+loop-holds c = (fill-start refl, λ k h. absurd (omega arith))
 
-mul-quantized-line : tie.Need-mul-quantized-line Inv-loop μ-loop
-mul-quantized-line c = search needs
-
-index-1-quantized-line : tie.Need-index-1-quantized-line Inv-loop μ-loop
-index-1-quantized-line c = search needs
-
-quantized-line-requires : tie.Need-quantized-line-requires Inv-loop μ-loop
-quantized-line-requires c κs = c .before .before .before .pre .0 .line (c .before .before .loop .u)
-
-wiener-line-requires : tie.Need-wiener-line-requires Inv-loop μ-loop
-wiener-line-requires c κs =
-    let l = c .before .before .before .before in
-    let s = l .before in
-    (s .pre .1, rw (c .before .quantized-line .ensures) (quantized-most (s .args .noise) (getD (s .args .t1) (l .loop .u) []) (s .pre .0 .line (l .loop .u))))
+quad-requires : tie.Need-quad-requires Inv-loop μ-loop
+quad-requires c κs =
+    let s = c .before .before .before in
+    (s .pre .1, omega arith, omega arith, s .pre .0)
 
 mul-r : tie.Need-mul-r Inv-loop μ-loop
 mul-r c = search needs
@@ -44,26 +34,23 @@ mul-r c = search needs
 array-set-from-r : tie.Need-array-set-from-r Inv-loop μ-loop
 array-set-from-r c = search needs
 
-add-u : tie.Need-add-u Inv-loop μ-loop
-add-u c = search needs
+add-n : tie.Need-add-n Inv-loop μ-loop
+add-n c = search needs
 
 loop-less : tie.Need-loop-less Inv-loop μ-loop
 loop-less c = search needs
 
 loop-again : tie.Need-loop-again Inv-loop μ-loop
-unfolding realAt imaginaryAt
 loop-again c =
-    let q = c .before .before in
-    let l = q .before .before .before in
-    let s = l .before in
-    fill-turn (l .loop .inv) (omega arith) (c .wiener-line .ensures ∙ line-is (s .args .noise) (getD (s .args .t1) (l .loop .u) []) (q .quantized-line .ensures))
+    let l = c .before .before .before in
+    let e = c .quad .ensures .0 in
+    (fill-turn (l .loop .inv .0) (omega arith) e, below-more _ (l .loop .n) (l .loop .inv .1) (subst (LineMost quadMost) e (c .quad .ensures .1)))
 
 returns : tie.Need-returns Inv-loop μ-loop
-unfolding linesOf grid
 returns c =
-    let s = c .before .before in
-    let e = fill-done (c .before .loop .inv) (omega arith) in
-    (e, rw e (gains-most (s .args .noise) (s .args .t1) (s .pre .0)))
+    let l = c .before in
+    let e = fill-done (l .loop .inv .0) (omega arith) in
+    (e, rw e (record { line = tab-each (LineMost quadMost) [] _ (record { at = λ i. zero-le }) 64 (λ k h. l .loop .inv .1 k (omega arith)) }))
 
 pub wiener-spec : {M : Type 1} → statement M
 wiener-spec =
@@ -72,13 +59,10 @@ wiener-spec =
     Inv-loop
     μ-loop
     loop-holds
-    mul-quantized-line
-    index-1-quantized-line
-    quantized-line-requires
-    wiener-line-requires
+    quad-requires
     mul-r
     array-set-from-r
-    add-u
+    add-n
     loop-less
     loop-again
     returns)

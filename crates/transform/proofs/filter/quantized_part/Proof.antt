@@ -3,11 +3,11 @@ use mathlib.Core.Path.{_≡_, refl, ap, _∙_}
 use Prim.Native.Nat.{_^_}
 use native.Mathlib.Omega.{arith}
 use borrow.Author.Needs.{needs}
+use lib.Dec.{lit<}
 use mir.Syntax.{w64}
 use mir.Val.{toZ, ofZ}
 use mir.Facts.{toZ-ofZ}
 use Rattle.algebra.specs.Nearest.{away}
-use lib.Dec.{lit<}
 use Rattle.transform.specs.Tables.{side16}
 use Rattle.transform.specs.Recipe.{quantized}
 use Rattle.transform.specs.Magnitudes.{binMost}
@@ -15,16 +15,16 @@ use Rattle.transform.proofs.Rounded.{away-most}
 use Rattle.transform.proofs.filter.quantized_part.Statement.{statement}
 use Rattle.transform.proofs.filter.quantized_part.Tie as tie
 
-round-away-requires : tie.Need-round-away-requires
-round-away-requires c κs = (lit< tt, rw (toZ-ofZ (c .fits .b)) (omega (arith, c .pre .most)))
+round-away-24-requires : tie.Need-round-away-24-requires
+round-away-24-requires c κs = rw (toZ-ofZ (c .fits .b)) (omega (arith, c .pre .most))
 
 returns : tie.Need-returns
 unfolding quantized side16
 returns c =
     let s = c .before in
-    let e : toZ w64 (ofZ w64 (c .round-away .result)) ≡ c .round-away .result = search needs in
-    let f : c .round-away .result ≡ away (s .args .b) (2 ^ 24) = c .round-away .ensures ∙ ap (λ z. away z (2 ^ 24)) (toZ-ofZ (s .fits .b)) in
+    let e : toZ w64 (ofZ w64 (c .round-away-24 .result)) ≡ c .round-away-24 .result = search needs in
+    let f : c .round-away-24 .result ≡ away (s .args .b) (2 ^ 24) = c .round-away-24 .ensures ∙ ap (λ z. away z (2 ^ 24)) (toZ-ofZ (s .fits .b)) in
     rw (e, f) (refl, record { most = away-most (s .args .b) (2 ^ 24) binMost (lit< tt) (s .pre .most) })
 
 pub quantized-part-spec : {M : Type 1} → statement M
-quantized-part-spec = tie.close (tie.spec round-away-requires returns)
+quantized-part-spec = tie.close (tie.spec round-away-24-requires returns)

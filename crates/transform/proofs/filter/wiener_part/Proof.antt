@@ -2,7 +2,7 @@
 use mathlib.Core.Path.{_≡_, refl, sym, ap, ap₂, _∙_, subst}
 use mathlib.Core.List.{List, [], _∷_}
 use Prim.Native.Nat.{ℕ, _<_, _^_, zero-le}
-use native.Mathlib.Nat.{le-trans, lt-of-le-of-lt}
+use native.Mathlib.Nat.{le-trans, lt-of-le-of-lt, add-le-add, mul-le-mul}
 use native.Mathlib.Omega.{arith}
 use borrow.Author.Needs.{needs}
 use lib.Dec.{lit<}
@@ -15,11 +15,11 @@ use Rattle.algebra.specs.Code.{Code, par, loc, add, mul, to, Bounded, fits, val
 use Rattle.algebra.specs.Order.{abs-mul-le}
 use Rattle.algebra.specs.Bound.{abs-fits}
 use Rattle.algebra.specs.Nearest.{away}
+use Rattle.rounding.proofs.round_away.Reads as round-away-reads
 use Rattle.transform.specs.Recipe.{power, wiener}
 use Rattle.transform.specs.RecipeLaws.{power-is}
 use Rattle.transform.specs.Magnitudes.{gainMost, noiseMost}
 use Rattle.transform.proofs.Weight.{wiener-is, wiener-most}
-use Rattle.rounding.proofs.round_away.Reads as round-away-reads
 use Rattle.transform.proofs.filter.wiener_part.Statement.{statement}
 use Rattle.transform.proofs.filter.wiener_part.Tie as tie
 use Rattle.transform.proofs.filter.wiener_part.Reads as reads
@@ -68,6 +68,10 @@ power-fits : (s : At) → Fits w64 (power (s .args .noise) (s .args .q) (s .args
 power-fits s =
     subst (λ z. Fits w64 (natAbs z)) (power-at s) (abs-fits w64 w64 (val (Power s)) tt (fits (xs s) bs (small s) w64 (to w64 (Power s)) tt))
 
+power-small : (s : At) → power (s .args .noise) (s .args .q) (s .args .r) < 2 ^ 60
+power-small s =
+    lt-of-le-of-lt (add-le-add (add-le-add (mul-le-mul (s .pre .1 .most) (s .pre .1 .most)) (mul-le-mul (s .pre .2 .most) (s .pre .2 .most))) (s .pre .0)) (lit< tt)
+
 product-small : (s : At) → natAbs (pos (s .args .noise) *ℤ s .args .q) < 2 ^ 63
 product-small s =
     lt-of-le-of-lt (abs-mul-le (pos (s .args .noise)) (s .args .q) (s .pre .0) (s .pre .1 .most)) (lit< tt)
@@ -101,7 +105,7 @@ round-away-requires : tie.Need-round-away-requires
 round-away-requires c κs =
     let s = c .before in
     let n : 0 < s .args .noise = omega arith in
-    rw (power-at s, product-at s) (omega arith, product-small s)
+    rw (power-at s, product-at s) (omega arith, power-small s, product-small s)
 
 returns-2 : tie.Need-returns-2
 returns-2 c =

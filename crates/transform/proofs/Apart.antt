@@ -1,0 +1,36 @@
+-- Numbers 0 and 8 of a line apart from the others.
+use mathlib.Core.Path.{_≡_, refl}
+use mathlib.Core.Bool.{Bool, true, false, cond}
+use Prim.Native.Nat.{ℕ, _%_, _≤_, _<_}
+use borrow.Author.Tests.{eq-eqb, ne-eqb, eqb-false, ltb-true, ltb-false}
+use lib.Dec.{eqb, ltb}
+use Rattle.transform.specs.Spectrum.{apart}
+
+module _ {A : Type 0} (k : ℕ) (own paired : A) where
+  pub is-own : k % 8 ≡ 0 → apart k own paired ≡ own
+  unfolding apart
+  is-own h = rw (eq-eqb (k % 8) 0 h)
+
+  pub is-paired : (k % 8 ≡ 0 → ⊥) → apart k own paired ≡ paired
+  unfolding apart
+  is-paired h = rw (ne-eqb (k % 8) 0 h)
+
+  pub apart-cases : (P : A → Type 0) → P own → P paired → P (apart k own paired)
+  unfolding apart
+  apart-cases P p q = go (eqb (k % 8) 0)
+    where
+      go : (b : Bool) → P (cond b own paired)
+      go true = p
+      go false = q
+
+-- what is the same in both cases
+cond-ext : {A : Type 0} (b : Bool) (x y x' y' : A) → (b ≡ true → x ≡ x') → (b ≡ false → y ≡ y') → cond b x y ≡ cond b x' y'
+cond-ext true x y x' y' p q = p refl
+cond-ext false x y x' y' p q = q refl
+
+pub below-ext : {A : Type 0} (k n : ℕ) (x y x' y' : A) → (k < n → x ≡ x') → (n ≤ k → y ≡ y') → cond (ltb k n) x y ≡ cond (ltb k n) x' y'
+below-ext k n x y x' y' p q = cond-ext (ltb k n) x y x' y' (λ e. p (ltb-true k n e)) (λ e. q (ltb-false k n e))
+
+pub apart-ext : {A : Type 0} (k : ℕ) (x y x' y' : A) → x ≡ x' → ((k % 8 ≡ 0 → ⊥) → y ≡ y') → apart k x y ≡ apart k x' y'
+unfolding apart
+apart-ext k x y x' y' p q = cond-ext (eqb (k % 8) 0) x y x' y' (λ e. p) (λ e. q (eqb-false (k % 8) 0 e))

@@ -1,0 +1,287 @@
+-- The quads of a folded G: what the four places at u and 8 + u of lines v and 8 + v come to.
+use mathlib.Core.Path.{_≡_, refl, ap, ap₂, _∙_, subst}
+use mathlib.Core.Bool.{Bool, true, false, cond}
+use mathlib.Core.List.{List, [], _∷_}
+use Prim.Native.Nat.{ℕ, zero, suc, _+_, _-_, _%_, _<_, _≤_, zero-le}
+use native.Mathlib.Omega.{arith}
+use borrow.Author.Tests.{lt-ltb, le-ltb}
+use lib.Dec.{ltb}
+use lib.IntN.{ℤ, pos, negℤ, natAbs, _+ℤ_, _-ℤ_, +ℤ-idr, +ℤ-idl, +ℤ-comm, negℤ-negℤ}
+use lib.ListN.{getD}
+use Rattle.algebra.specs.Bound.{AtMost}
+use Rattle.transform.specs.Lines.{LineMost}
+use Rattle.transform.specs.Magnitudes.{binMost, gainMost, quadMost}
+use Rattle.transform.specs.Tables.{side16}
+use Rattle.transform.specs.Recipe.{filtered}
+use Rattle.transform.specs.Spectrum.{realOf, imaginaryOf, beside, tileRe, tileIm, foldRe, foldIm, spread, quadOf, foldedQuad, separateQuad, doubledQuad, gainRe, gainIm}
+use Rattle.transform.specs.SpectrumLaws.{filtered-odd, filtered-even}
+use Rattle.transform.proofs.Apart.{is-own, is-paired, apart-cases}
+
+pub four : (a b c d a' b' c' d' : ℤ) → a ≡ a' → b ≡ b' → c ≡ c' → d ≡ d' → a ∷ b ∷ c ∷ d ∷ [] ≡ a' ∷ b' ∷ c' ∷ d' ∷ []
+four a b c d a' b' c' d' p q r s = rw (p, q, r, s)
+
+-- four parts of G are a quad of at most two parts
+pub four-most : {a b c d : ℤ} → AtMost gainMost a → AtMost gainMost b → AtMost gainMost c → AtMost gainMost d → LineMost quadMost (a ∷ b ∷ c ∷ d ∷ [])
+four-most p q r s = record { at = at p q r s }
+  where
+    at : {a b c d : ℤ} → AtMost gainMost a → AtMost gainMost b → AtMost gainMost c → AtMost gainMost d → (i : ℕ) → natAbs (getD (a ∷ b ∷ c ∷ d ∷ []) i (pos 0)) ≤ quadMost
+    at p q r s zero = omega (arith, p .most)
+    at p q r s (suc zero) = omega (arith, q .most)
+    at p q r s (suc (suc zero)) = omega (arith, r .most)
+    at p q r s (suc (suc (suc zero))) = omega (arith, s .most)
+    at p q r s (suc (suc (suc (suc i)))) = zero-le
+
+either : (b : Bool) → cond b (pos 0) (pos 0) ≡ pos 0
+either true = refl
+either false = refl
+
+-- number u or 16 − u of a line in halfcomplex form
+module _ (z : ℕ → ℤ) (u : ℕ) where
+  real-low : u < 9 → realOf z u ≡ z u
+  unfolding realOf
+  real-low h = rw (lt-ltb u 9 h)
+
+  real-high : 0 < u → u < 8 → realOf z (16 - u) ≡ z u
+  unfolding realOf
+  real-high l h = let e : 16 - (16 - u) ≡ u = omega arith in rw (le-ltb (16 - u) 9 (omega arith), e)
+
+  imaginary-own : u % 8 ≡ 0 → imaginaryOf z u ≡ pos 0
+  unfolding imaginaryOf
+  imaginary-own h = is-own u (pos 0) _ h
+
+  imaginary-low : 0 < u → u < 8 → imaginaryOf z u ≡ z (8 + u)
+  unfolding imaginaryOf
+  imaginary-low l h = is-paired u (pos 0) _ (λ e. omega arith) ∙ rw (lt-ltb u 9 (omega arith))
+
+  imaginary-high : 0 < u → u < 8 → imaginaryOf z (16 - u) ≡ negℤ (z (8 + u))
+  unfolding imaginaryOf
+  imaginary-high l h =
+      let e : 24 - (16 - u) ≡ 8 + u = omega arith in
+      is-paired (16 - u) (pos 0) _ (λ e. omega arith) ∙ rw (le-ltb (16 - u) 9 (omega arith), e)
+
+-- the folds of a line
+module _ (g h : ℕ → ℤ) (b : ℕ) where
+  re-own : b % 8 ≡ 0 → foldRe g h b ≡ g b
+  unfolding foldRe
+  re-own k = is-own b (g b) _ k
+
+  im-own : b % 8 ≡ 0 → foldIm g h b ≡ h b
+  unfolding foldIm
+  im-own k = is-own b (h b) _ k
+
+  re-low : 0 < b → b < 8 → foldRe g h b ≡ g b +ℤ g (16 - b)
+  unfolding foldRe
+  re-low l k = is-paired b (g b) _ (λ e. omega arith) ∙ rw (lt-ltb b 9 (omega arith))
+
+  im-low : 0 < b → b < 8 → foldIm g h b ≡ h b +ℤ h (16 - b)
+  unfolding foldIm
+  im-low l k = is-paired b (h b) _ (λ e. omega arith) ∙ rw (lt-ltb b 9 (omega arith))
+
+  re-high : 0 < b → b < 8 → foldRe g h (8 + b) ≡ h b -ℤ h (16 - b)
+  unfolding foldRe
+  re-high l k =
+      let e : 8 + b - 8 ≡ b = omega arith in
+      let f : 24 - (8 + b) ≡ 16 - b = omega arith in
+      is-paired (8 + b) (g (8 + b)) _ (λ e. omega arith) ∙ rw (le-ltb (8 + b) 9 (omega arith), e, f)
+
+  im-high : 0 < b → b < 8 → foldIm g h (8 + b) ≡ g (16 - b) -ℤ g b
+  unfolding foldIm
+  im-high l k =
+      let e : 8 + b - 8 ≡ b = omega arith in
+      let f : 24 - (8 + b) ≡ 16 - b = omega arith in
+      is-paired (8 + b) (h (8 + b)) _ (λ e. omega arith) ∙ rw (le-ltb (8 + b) 9 (omega arith), e, f)
+
+module _ (g h : ℕ → ℕ → ℤ) (b : ℕ) where
+  line-re : (k : ℕ) → k < 9 → spread g h k b ≡ foldRe (λ u. g u k) (λ u. h u k) b
+  unfolding spread
+  line-re k l = rw (lt-ltb k 9 l)
+
+  line-im : (v : ℕ) → 0 < v → spread g h (8 + v) b ≡ foldIm (λ u. g u v) (λ u. h u v) b
+  unfolding spread
+  line-im v l = let e : 8 + v - 8 ≡ v = omega arith in rw (le-ltb (8 + v) 9 (omega arith), e)
+
+module _ (noise : ℕ) (t : ℕ → ℕ → ℤ) where
+  abbrev f : ℤ → ℤ → ℤ
+  f = filtered side16 noise
+
+  abbrev Quad : (v u : ℕ) → List ℤ
+  Quad = quadOf (spread (gainRe noise t) (gainIm noise t))
+
+  -- bins whose column has an imaginary line beside it
+  module _ (v : ℕ) (m : 0 < v) (n : v < 8) where
+    beside-is : beside t v ≡ t (8 + v)
+    unfolding beside
+    beside-is = is-paired v _ (t (8 + v)) (λ e. omega arith)
+
+    module _ (u : ℕ) (l : 0 < u) (h : u < 8) where
+      low-re : tileRe t u v ≡ t v u -ℤ t (8 + v) (8 + u)
+      unfolding tileRe
+      low-re = ap₂ _-ℤ_ (real-low (t v) u (omega arith)) (ap (λ z. imaginaryOf z u) beside-is ∙ imaginary-low (t (8 + v)) u l h)
+
+      low-im : tileIm t u v ≡ t v (8 + u) +ℤ t (8 + v) u
+      unfolding tileIm
+      low-im = ap₂ _+ℤ_ (imaginary-low (t v) u l h) (ap (λ z. realOf z u) beside-is ∙ real-low (t (8 + v)) u (omega arith))
+
+      high-re : tileRe t (16 - u) v ≡ t v u +ℤ t (8 + v) (8 + u)
+      unfolding tileRe
+      high-re =
+          ap₂ _-ℤ_ (real-high (t v) u l h) (ap (λ z. imaginaryOf z (16 - u)) beside-is ∙ imaginary-high (t (8 + v)) u l h)
+          ∙ ap (λ z. t v u +ℤ z) (negℤ-negℤ (t (8 + v) (8 + u)))
+
+      high-im : tileIm t (16 - u) v ≡ t (8 + v) u -ℤ t v (8 + u)
+      unfolding tileIm
+      high-im =
+          ap₂ _+ℤ_ (imaginary-high (t v) u l h) (ap (λ z. realOf z (16 - u)) beside-is ∙ real-high (t (8 + v)) u l h)
+          ∙ +ℤ-comm (negℤ (t v (8 + u))) (t (8 + v) u)
+
+    -- numbers 0 and 8
+    module _ (u : ℕ) (l : u < 9) (o : u % 8 ≡ 0) where
+      own-re : tileRe t u v ≡ t v u
+      unfolding tileRe
+      own-re = ap₂ _-ℤ_ (real-low (t v) u l) (imaginary-own (beside t v) u o) ∙ +ℤ-idr (t v u)
+
+      own-im : tileIm t u v ≡ t (8 + v) u
+      unfolding tileIm
+      own-im =
+          ap₂ _+ℤ_ (imaginary-own (t v) u o) (ap (λ z. realOf z u) beside-is ∙ real-low (t (8 + v)) u l) ∙ +ℤ-idl (t (8 + v) u)
+
+  -- columns 0 and 8, with nothing beside
+  module _ (v : ℕ) (o : v % 8 ≡ 0) where
+    beside-none : beside t v ≡ (λ b. pos 0)
+    unfolding beside
+    beside-none = is-own v (λ b. pos 0) (t (8 + v)) o
+
+    column-re : (u : ℕ) → tileRe t u v ≡ realOf (t v) u
+    unfolding tileRe imaginaryOf
+    column-re u =
+        ap (λ z. realOf (t v) u -ℤ imaginaryOf z u) beside-none
+        ∙ ap (λ z. realOf (t v) u -ℤ z) (apart-cases u (pos 0) _ (λ z. z ≡ pos 0) refl (either (ltb u 9))) ∙ +ℤ-idr (realOf (t v) u)
+
+    column-im : (u : ℕ) → tileIm t u v ≡ imaginaryOf (t v) u
+    unfolding tileIm realOf
+    column-im u =
+        ap (λ z. imaginaryOf (t v) u +ℤ realOf z u) beside-none ∙ ap (λ z. imaginaryOf (t v) u +ℤ z) (either (ltb u 9))
+        ∙ +ℤ-idr (imaginaryOf (t v) u)
+
+    -- number u of such a column and number 16 − u, which is its conjugate
+    module _ (u : ℕ) (l : 0 < u) (h : u < 8) where
+      line-low-re : tileRe t u v ≡ t v u
+      line-low-re = column-re u ∙ real-low (t v) u (omega arith)
+
+      line-low-im : tileIm t u v ≡ t v (8 + u)
+      line-low-im = column-im u ∙ imaginary-low (t v) u l h
+
+      line-gain-re : gainRe noise t u v ≡ f (t v u) (t v (8 + u))
+      unfolding gainRe
+      line-gain-re = ap₂ f line-low-re line-low-im
+
+      line-gain-im : gainIm noise t u v ≡ f (t v (8 + u)) (t v u)
+      unfolding gainIm
+      line-gain-im = ap₂ f line-low-im line-low-re
+
+      mirror-re : gainRe noise t (16 - u) v ≡ f (t v u) (t v (8 + u))
+      unfolding gainRe
+      mirror-re =
+          ap₂ f (column-re (16 - u) ∙ real-high (t v) u l h) (column-im (16 - u) ∙ imaginary-high (t v) u l h)
+          ∙ filtered-even noise (t v u) (t v (8 + u))
+
+      mirror-im : gainIm noise t (16 - u) v ≡ negℤ (f (t v (8 + u)) (t v u))
+      unfolding gainIm
+      mirror-im =
+          ap₂ f (column-im (16 - u) ∙ imaginary-high (t v) u l h) (column-re (16 - u) ∙ real-high (t v) u l h)
+          ∙ filtered-odd noise (t v (8 + u)) (t v u)
+
+      -- its two places in the fold
+      column-low : foldRe (λ u. gainRe noise t u v) (λ u. gainIm noise t u v) u ≡ f (t v u) (t v (8 + u)) +ℤ f (t v u) (t v (8 + u))
+      column-low = re-low _ _ u l h ∙ ap₂ _+ℤ_ line-gain-re mirror-re
+
+      column-high : foldRe (λ u. gainRe noise t u v) (λ u. gainIm noise t u v) (8 + u) ≡ f (t v (8 + u)) (t v u) +ℤ f (t v (8 + u)) (t v u)
+      column-high =
+          re-high _ _ u l h ∙ ap₂ _-ℤ_ line-gain-im mirror-im ∙ ap (λ z. f (t v (8 + u)) (t v u) +ℤ z) (negℤ-negℤ (f (t v (8 + u)) (t v u)))
+
+    -- numbers 0 and 8 of such a column are real
+    column-own : (u : ℕ) → u < 9 → u % 8 ≡ 0 → foldRe (λ u. gainRe noise t u v) (λ u. gainIm noise t u v) u ≡ f (t v u) (pos 0)
+    unfolding gainRe
+    column-own u l k = re-own _ _ u k ∙ ap₂ f (column-re u ∙ real-low (t v) u l) (column-im u ∙ imaginary-own (t v) u k)
+
+  -- the four kinds of quads
+  pub inner-quad : (v u : ℕ) → 0 < v → v < 8 → 0 < u → u < 8 → Quad v u ≡ foldedQuad (f (t v u -ℤ t (8 + v) (8 + u)) (t v (8 + u) +ℤ t (8 + v) u)) (f (t v (8 + u) +ℤ t (8 + v) u) (t v u -ℤ t (8 + v) (8 + u))) (f (t v u +ℤ t (8 + v) (8 + u)) (t (8 + v) u -ℤ t v (8 + u))) (f (t (8 + v) u -ℤ t v (8 + u)) (t v u +ℤ t (8 + v) (8 + u)))
+  unfolding quadOf foldedQuad gainRe gainIm
+  inner-quad v u m n l h =
+      four _ _ _ _ _ _ _ _
+      (line-re _ _ u v (omega arith) ∙ re-low _ _ u l h ∙ ap₂ _+ℤ_ re re')
+      (line-re _ _ (8 + u) v (omega arith) ∙ re-high _ _ u l h ∙ ap₂ _-ℤ_ im im')
+      (line-im _ _ u v m ∙ im-low _ _ u l h ∙ ap₂ _+ℤ_ im im')
+      (line-im _ _ (8 + u) v m ∙ im-high _ _ u l h ∙ ap₂ _-ℤ_ re' re)
+    where
+      re : gainRe noise t u v ≡ f (t v u -ℤ t (8 + v) (8 + u)) (t v (8 + u) +ℤ t (8 + v) u)
+      re = ap₂ f (low-re v m n u l h) (low-im v m n u l h)
+
+      im : gainIm noise t u v ≡ f (t v (8 + u) +ℤ t (8 + v) u) (t v u -ℤ t (8 + v) (8 + u))
+      im = ap₂ f (low-im v m n u l h) (low-re v m n u l h)
+
+      re' : gainRe noise t (16 - u) v ≡ f (t v u +ℤ t (8 + v) (8 + u)) (t (8 + v) u -ℤ t v (8 + u))
+      re' = ap₂ f (high-re v m n u l h) (high-im v m n u l h)
+
+      im' : gainIm noise t (16 - u) v ≡ f (t (8 + v) u -ℤ t v (8 + u)) (t v u +ℤ t (8 + v) (8 + u))
+      im' = ap₂ f (high-im v m n u l h) (high-re v m n u l h)
+
+  pub left-quad : (v : ℕ) → 0 < v → v < 8 → Quad v 0 ≡ separateQuad (f (t v 0) (t (8 + v) 0)) (f (t (8 + v) 0) (t v 0)) (f (t v 8) (t (8 + v) 8)) (f (t (8 + v) 8) (t v 8))
+  unfolding quadOf separateQuad gainRe gainIm
+  left-quad v m n =
+      four _ _ _ _ _ _ _ _
+      (line-re _ _ 0 v (omega arith) ∙ re-own _ _ 0 refl ∙ ap₂ f (own-re v m n 0 (omega arith) refl) (own-im v m n 0 (omega arith) refl))
+      (line-re _ _ 8 v (omega arith) ∙ re-own _ _ 8 refl ∙ ap₂ f (own-re v m n 8 (omega arith) refl) (own-im v m n 8 (omega arith) refl))
+      (line-im _ _ 0 v m ∙ im-own _ _ 0 refl ∙ ap₂ f (own-im v m n 0 (omega arith) refl) (own-re v m n 0 (omega arith) refl))
+      (line-im _ _ 8 v m ∙ im-own _ _ 8 refl ∙ ap₂ f (own-im v m n 8 (omega arith) refl) (own-re v m n 8 (omega arith) refl))
+
+  pub top-quad : (u : ℕ) → 0 < u → u < 8 → Quad 0 u ≡ doubledQuad (f (t 0 u) (t 0 (8 + u))) (f (t 0 (8 + u)) (t 0 u)) (f (t 8 u) (t 8 (8 + u))) (f (t 8 (8 + u)) (t 8 u))
+  unfolding quadOf doubledQuad
+  top-quad u l h =
+      four _ _ _ _ _ _ _ _
+      (line-re _ _ u 0 (omega arith) ∙ column-low 0 refl u l h)
+      (line-re _ _ (8 + u) 0 (omega arith) ∙ column-high 0 refl u l h)
+      (line-re _ _ u 8 (omega arith) ∙ column-low 8 refl u l h)
+      (line-re _ _ (8 + u) 8 (omega arith) ∙ column-high 8 refl u l h)
+
+  pub corner-quad : Quad 0 0 ≡ separateQuad (f (t 0 0) (pos 0)) (f (t 8 0) (pos 0)) (f (t 0 8) (pos 0)) (f (t 8 8) (pos 0))
+  unfolding quadOf separateQuad
+  corner-quad =
+      four _ _ _ _ _ _ _ _
+      (line-re _ _ 0 0 (omega arith) ∙ column-own 0 refl 0 (omega arith) refl)
+      (line-re _ _ 8 0 (omega arith) ∙ column-own 0 refl 8 (omega arith) refl)
+      (line-re _ _ 0 8 (omega arith) ∙ column-own 8 refl 0 (omega arith) refl)
+      (line-re _ _ 8 8 (omega arith) ∙ column-own 8 refl 8 (omega arith) refl)
+
+-- The numbers that each kind of quad is handed are parts of bins
+module _ (t : ℕ → ℕ → ℤ) (re : (u v : ℕ) → u < 16 → v < 9 → natAbs (tileRe t u v) ≤ binMost) (im : (u v : ℕ) → u < 16 → v < 9 → natAbs (tileIm t u v) ≤ binMost) where
+  abbrev Most : ℤ → Type 0
+  Most z = natAbs z ≤ binMost
+
+  -- of columns 0 and 8: what `line-low-re` and the others need no noise number for
+  module _ (v : ℕ) (o : v % 8 ≡ 0) (w : v < 9) where
+    column-own-most : (u : ℕ) → u < 9 → u % 8 ≡ 0 → Most (t v u)
+    column-own-most u l k = subst Most (column-re 0 t v o u ∙ real-low (t v) u l) (re u v (omega arith) w)
+
+    column-most : (u : ℕ) → 0 < u → u < 8 → Most (t v u) × Most (t v (8 + u))
+    column-most u l h =
+        (subst Most (line-low-re 0 t v o u l h) (re u v (omega arith) w), subst Most (line-low-im 0 t v o u l h) (im u v (omega arith) w))
+
+  pub corner-most : Most (t 0 0) × Most (t 8 0) × Most (t 0 8) × Most (t 8 8)
+  corner-most =
+      (column-own-most 0 refl (omega arith) 0 (omega arith) refl, column-own-most 8 refl (omega arith) 0 (omega arith) refl, column-own-most 0 refl (omega arith) 8 (omega arith) refl, column-own-most 8 refl (omega arith) 8 (omega arith) refl)
+
+  pub top-most : (u : ℕ) → 0 < u → u < 8 → Most (t 0 u) × Most (t 0 (8 + u)) × Most (t 8 u) × Most (t 8 (8 + u))
+  top-most u l h =
+      let a = column-most 0 refl (omega arith) u l h in
+      let b = column-most 8 refl (omega arith) u l h in
+      (a .0, a .1, b .0, b .1)
+
+  module _ (v : ℕ) (m : 0 < v) (n : v < 8) where
+    pub left-most : Most (t v 0) × Most (t (8 + v) 0) × Most (t v 8) × Most (t (8 + v) 8)
+    left-most =
+        (subst Most (own-re 0 t v m n 0 (omega arith) refl) (re 0 v (omega arith) (omega arith)), subst Most (own-im 0 t v m n 0 (omega arith) refl) (im 0 v (omega arith) (omega arith)), subst Most (own-re 0 t v m n 8 (omega arith) refl) (re 8 v (omega arith) (omega arith)), subst Most (own-im 0 t v m n 8 (omega arith) refl) (im 8 v (omega arith) (omega arith)))
+
+    pub inner-most : (u : ℕ) → 0 < u → u < 8 → Most (t v u -ℤ t (8 + v) (8 + u)) × Most (t v (8 + u) +ℤ t (8 + v) u) × Most (t v u +ℤ t (8 + v) (8 + u)) × Most (t (8 + v) u -ℤ t v (8 + u))
+    inner-most u l h =
+        (subst Most (low-re 0 t v m n u l h) (re u v (omega arith) (omega arith)), subst Most (low-im 0 t v m n u l h) (im u v (omega arith) (omega arith)), subst Most (high-re 0 t v m n u l h) (re (16 - u) v (omega arith) (omega arith)), subst Most (high-im 0 t v m n u l h) (im (16 - u) v (omega arith) (omega arith)))

@@ -1,0 +1,148 @@
+-- A spectrum in halfcomplex form looks at its sixteen by sixteen places only, on the way in and on the way back.
+use mathlib.Core.Path.{_≡_, refl, sym, ap, ap₂, _∙_, subst}
+use mathlib.Core.Bool.{Bool, true, false, cond}
+use mathlib.Core.List.{List, []}
+use Prim.Native.Nat.{ℕ, zero, suc, _+_, _-_, _*_, _/_, _%_, _<_, _≤_, _^_}
+use native.Mathlib.Omega.{arith}
+use borrow.Author.Tests.{eqb-false, ltb-true, ltb-false}
+use lib.Dec.{eqb, ltb}
+use lib.IntN.{ℤ, pos, negℤ, natAbs, _+ℤ_, _-ℤ_}
+use lib.ListN.{getD}
+use Rattle.algebra.specs.Nearest.{away}
+use Rattle.sequences.specs.Tab.{tab, getD-tab}
+use Rattle.sequences.specs.Grid.{grid, cell, cell-grid, grid-ext}
+use Rattle.transform.specs.Halfcomplex.{halfcomplex, backward}
+use Rattle.transform.specs.Spectrum.{BinsOf, BinsMost, twoWay, apart, realOf, imaginaryOf, beside, tileRe, tileIm, foldRe, foldIm, spread, counted, backSum, quadOf, quadAt}
+use Rattle.transform.specs.SpectrumLaws.{bin-re, bin-im}
+use Rattle.transform.specs.Lines.{TileMost}
+use Rattle.transform.specs.Magnitudes.{differenceMost, rowMost, placeMost, binMost, quadMost, columnMost}
+use Rattle.transform.proofs.Apart.{below-ext, apart-ext}
+use Rattle.transform.proofs.Sums.{halfcomplex-ext, backward-ext, halfcomplex-most, backward-most}
+use Rattle.transform.proofs.Tiles.{tile-most, cells-most}
+use Rattle.transform.proofs.Sizes.{bin-re-most, bin-im-most}
+
+-- lines
+module _ (z z' : ℕ → ℤ) (e : (b : ℕ) → b < 16 → z b ≡ z' b) (u : ℕ) (h : u < 16) where
+  real-ext : realOf z u ≡ realOf z' u
+  unfolding realOf
+  real-ext = below-ext u 9 (z u) (z (16 - u)) (z' u) (z' (16 - u)) (λ l. e u h) (λ l. e (16 - u) (omega arith))
+
+  imaginary-ext : imaginaryOf z u ≡ imaginaryOf z' u
+  unfolding imaginaryOf
+  imaginary-ext =
+      apart-ext u (pos 0) _ (pos 0) _ refl
+      (λ o. below-ext u 9 (z (8 + u)) (negℤ (z (24 - u))) (z' (8 + u)) (negℤ (z' (24 - u))) (λ l. e (8 + u) (small l o)) (λ l. ap negℤ (e (24 - u) (omega arith))))
+    where
+      small : u < 9 → (u % 8 ≡ 0 → ⊥) → 8 + u < 16
+      small l o = omega (arith, o)
+
+-- tiles
+module _ (t t' : ℕ → ℕ → ℤ) (e : (k b : ℕ) → k < 16 → b < 16 → t k b ≡ t' k b) (u v : ℕ) (h : u < 16) (l : v < 9) where
+  part : (f : (ℕ → ℤ) → ℤ) → ((z z' : ℕ → ℤ) → ((b : ℕ) → b < 16 → z b ≡ z' b) → f z ≡ f z') → f (beside t v) ≡ f (beside t' v)
+  unfolding beside apart
+  part f ext = go (eqb (v % 8) 0) (eqb-false (v % 8) 0)
+    where
+      go : (c : Bool) → (c ≡ false → v % 8 ≡ 0 → ⊥) → f (cond c (λ b. pos 0) (t (8 + v))) ≡ f (cond c (λ b. pos 0) (t' (8 + v)))
+      go true o = refl
+      go false o = ext (t (8 + v)) (t' (8 + v)) (λ b k. e (8 + v) b (omega (arith, o refl)) k)
+
+  tile-re : tileRe t u v ≡ tileRe t' u v
+  unfolding tileRe
+  tile-re =
+      ap₂ _-ℤ_ (real-ext (t v) (t' v) (λ b k. e v b (omega arith) k) u h) (part (λ z. imaginaryOf z u) (λ z z' k. imaginary-ext z z' k u h))
+
+  tile-im : tileIm t u v ≡ tileIm t' u v
+  unfolding tileIm
+  tile-im =
+      ap₂ _+ℤ_ (imaginary-ext (t v) (t' v) (λ b k. e v b (omega arith) k) u h) (part (λ z. realOf z u) (λ z z' k. real-ext z z' k u h))
+
+-- folded lines and columns
+module _ (g h g' h' : ℕ → ℤ) (p : (u : ℕ) → u < 16 → g u ≡ g' u) (q : (u : ℕ) → u < 16 → h u ≡ h' u) (b : ℕ) (l : b < 16) where
+  fold-re : foldRe g h b ≡ foldRe g' h' b
+  unfolding foldRe
+  fold-re =
+      apart-ext b (g b) _ (g' b) _ (p b l)
+      (λ o. below-ext b 9 (g b +ℤ g (16 - b)) (h (b - 8) -ℤ h (24 - b)) (g' b +ℤ g' (16 - b)) (h' (b - 8) -ℤ h' (24 - b)) (λ k. ap₂ _+ℤ_ (p b l) (p (16 - b) (omega (arith, o)))) (λ k. ap₂ _-ℤ_ (q (b - 8) (omega arith)) (q (24 - b) (omega arith))))
+
+  fold-im : foldIm g h b ≡ foldIm g' h' b
+  unfolding foldIm
+  fold-im =
+      apart-ext b (h b) _ (h' b) _ (q b l)
+      (λ o. below-ext b 9 (h b +ℤ h (16 - b)) (g (24 - b) -ℤ g (b - 8)) (h' b +ℤ h' (16 - b)) (g' (24 - b) -ℤ g' (b - 8)) (λ k. ap₂ _+ℤ_ (q b l) (q (16 - b) (omega (arith, o)))) (λ k. ap₂ _-ℤ_ (p (24 - b) (omega arith)) (p (b - 8) (omega arith))))
+
+pub spread-ext : (g h g' h' : ℕ → ℕ → ℤ) → ((u v : ℕ) → u < 16 → v < 9 → g u v ≡ g' u v) → ((u v : ℕ) → u < 16 → v < 9 → h u v ≡ h' u v) → (k b : ℕ) → k < 16 → b < 16 → spread g h k b ≡ spread g' h' k b
+unfolding spread
+spread-ext g h g' h' p q k b m l = go (ltb k 9) (ltb-true k 9) (ltb-false k 9)
+  where
+    go : (c : Bool) → (c ≡ true → k < 9) → (c ≡ false → 9 ≤ k) → cond c (foldRe (λ u. g u k) (λ u. h u k)) (foldIm (λ u. g u (k - 8)) (λ u. h u (k - 8))) b ≡ cond c (foldRe (λ u. g' u k) (λ u. h' u k)) (foldIm (λ u. g' u (k - 8)) (λ u. h' u (k - 8))) b
+    go true r s = fold-re _ _ _ _ (λ u n. p u k n (r refl)) (λ u n. q u k n (r refl)) b l
+    go false r s = fold-im _ _ _ _ (λ u n. p u (k - 8) n (omega (arith, s refl))) (λ u n. q u (k - 8) n (omega (arith, s refl))) b l
+
+-- the sum back
+pub back-ext : (s s' : ℕ → ℕ → ℤ) → ((k b : ℕ) → k < 16 → b < 16 → s k b ≡ s' k b) → (y x : ℕ) → backSum s y x ≡ backSum s' y x
+unfolding backSum
+back-ext s s' e y x =
+    backward-ext _ _ (λ k l. ap (counted k) (backward-ext (s k) (s' k) (λ b m. e k b l m) y)) x
+
+-- quads: what stands at place b of line k
+pick : (s : ℕ → ℕ → ℤ) (v u i j : ℕ) → i < 2 → j < 2 → getD (quadOf s v u) (2 * i + j) (pos 0) ≡ s (8 * i + v) (8 * j + u)
+unfolding quadOf
+pick s v u zero zero h l = ap₂ s (omega arith) (omega arith)
+pick s v u zero (suc zero) h l = ap₂ s (omega arith) (omega arith)
+pick s v u (suc zero) zero h l = ap₂ s (omega arith) (omega arith)
+pick s v u (suc zero) (suc zero) h l = ap₂ s (omega arith) (omega arith)
+pick s v u zero (suc (suc j)) h l = absurd (omega arith)
+pick s v u (suc zero) (suc (suc j)) h l = absurd (omega arith)
+pick s v u (suc (suc i)) j h l = absurd (omega arith)
+
+module _ (s : ℕ → ℕ → ℤ) {q : List (List ℤ)} (e : q ≡ tab 64 (λ n. quadOf s (n / 8) (n % 8))) where
+  pub quad-at : (k b : ℕ) → k < 16 → b < 16 → quadAt q k b ≡ s k b
+  unfolding quadAt cell
+  quad-at k b h l =
+      ap (λ r. getD r (2 * (k / 8) + b / 8) (pos 0)) row
+      ∙ pick s (k % 8) (b % 8) (k / 8) (b / 8) (omega arith) (omega arith) ∙ ap₂ s (omega arith) (omega arith)
+    where
+      row : getD q (8 * (k % 8) + b % 8) [] ≡ quadOf s (k % 8) (b % 8)
+      row =
+          let i : (8 * (k % 8) + b % 8) / 8 ≡ k % 8 = omega arith in
+          let j : (8 * (k % 8) + b % 8) % 8 ≡ b % 8 = omega arith in
+          ap (λ l. getD l (8 * (k % 8) + b % 8) []) e ∙ getD-tab (λ n. quadOf s (n / 8) (n % 8)) [] 64 (8 * (k % 8) + b % 8) (omega arith) ∙ ap₂ (quadOf s) i j
+
+-- the two passes of the transform: the rows' transforms a, and theirs along the columns r
+module _ (d : ℕ → ℕ → ℤ) {a r : List (List ℤ)} (p : a ≡ grid 16 16 (λ y. halfcomplex (d y))) (q : r ≡ grid 16 16 (λ k. halfcomplex (λ y. cell (pos 0) a y k))) where
+  places : (k b : ℕ) → k < 16 → b < 16 → cell (pos 0) r k b ≡ twoWay d k b
+  unfolding twoWay
+  places k b h l =
+      ap (λ t. cell (pos 0) t k b) q ∙ cell-grid (pos 0) 16 16 (λ k. halfcomplex (λ y. cell (pos 0) a y k)) k b h l
+      ∙ halfcomplex-ext _ _ (λ y m. ap (λ t. cell (pos 0) t y k) p ∙ cell-grid (pos 0) 16 16 (λ y. halfcomplex (d y)) y k m h) b
+
+  pub bins-of : BinsOf d (cell (pos 0) r)
+  bins-of =
+      record {
+        re = λ u v h l. tile-re (cell (pos 0) r) (twoWay d) places u v h l ∙ bin-re d u v h l;
+        im = λ u v h l. tile-im (cell (pos 0) r) (twoWay d) places u v h l ∙ bin-im d u v h l;
+      }
+
+  module _ (m : (y x : ℕ) → natAbs (d y x) ≤ differenceMost) where
+    pub rows-small : TileMost rowMost a
+    rows-small = subst (TileMost rowMost) (sym p) (tile-most rowMost _ (λ y. halfcomplex-most differenceMost (d y) (m y)))
+
+    pub bins-small : BinsMost r
+    bins-small =
+        record {
+          place = subst (TileMost placeMost) (sym q) (tile-most placeMost _ (λ k. halfcomplex-most rowMost _ (λ y. cells-most rows-small y k)));
+          re = λ u v h l. subst (λ z. natAbs z ≤ binMost) (sym (bins-of .re u v h l)) (bin-re-most d m u v);
+          im = λ u v h l. subst (λ z. natAbs z ≤ binMost) (sym (bins-of .im u v h l)) (bin-im-most d m u v);
+        }
+
+-- the two passes of the inverse: the sums back along the lines a, and theirs along the rows
+module _ (s : ℕ → ℕ → ℤ) {a : List (List ℤ)} (p : a ≡ grid 16 16 (λ k. backward (s k))) where
+  pub back-is : grid 16 16 (λ y x. away (backward (λ k. counted k (cell (pos 0) a k y)) x) (2 ^ 32)) ≡ grid 16 16 (λ y x. away (backSum s y x) (2 ^ 32))
+  unfolding backSum
+  back-is =
+      grid-ext 16 16 _ _
+      (λ y x h l. ap (λ z. away z (2 ^ 32))
+      (backward-ext _ _ (λ k m. ap (counted k) (ap (λ t. cell (pos 0) t k y) p ∙ cell-grid (pos 0) 16 16 (λ k. backward (s k)) k y m h)) x))
+
+  pub columns-small : ((k b : ℕ) → natAbs (s k b) ≤ quadMost) → TileMost columnMost a
+  columns-small m = subst (TileMost columnMost) (sym p) (tile-most columnMost _ (λ k. backward-most quadMost (s k) (m k)))

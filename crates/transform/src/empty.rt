@@ -1,0 +1,29 @@
+// Whether a tile of differences is zero throughout: then so are its corrections.
+ghost use mathlib.Core.Path.{_≡_};
+ghost use mathlib.Core.Bool.{true};
+ghost use lib.IntN.{pos};
+ghost use lib.ListN.{getD};
+ghost use Rattle.sequences.specs.Grid.{cell};
+ghost use Rattle.transform.specs.Lines.{EmptyLine, EmptyTile};
+
+fn empty_row(row: &[i32; 16]) -> bool
+    ensures { λ r. ⌜ (r ≡ true → EmptyLine (λ x. getD (now (row .entry)) x (pos 0))) ⌝ }
+{
+    for x in 0..16 {
+        if row[x] != 0 {
+            return false;
+        }
+    }
+    true
+}
+
+pub fn empty_tile(d: &[[i32; 16]; 16]) -> bool
+    ensures { λ r. ⌜ (r ≡ true → EmptyTile (cell (pos 0) (now (d .entry)))) ⌝ }
+{
+    for y in 0..16 {
+        if !empty_row(&d[y]) {
+            return false;
+        }
+    }
+    true
+}
