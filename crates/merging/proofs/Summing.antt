@@ -1,20 +1,19 @@
 -- The sum of a tile's corrections, frame by frame: its record, and how it starts, goes on and ends.
 use mathlib.Core.Path.{_≡_, sym, ap, _∙_, subst}
-use mathlib.Core.List.{List, [], _∷_}
+use mathlib.Core.List.{List, []}
 use Prim.Native.Nat.{ℕ, _+_, _*_, _^_, _≤_, _<_}
 use native.Mathlib.Omega.{arith}
 use native.Mathlib.Numerals.{add-one}
-use lib.IntN.{ℤ, pos, natAbs, _+ℤ_, _-ℤ_, _*ℤ_}
-use lib.ListN.{getD}
+use lib.Dec.{lit<}
+use lib.IntN.{ℤ, pos, natAbs, _+ℤ_}
+use lib.ListN.{length, getD}
 use Rattle.algebra.specs.Order.{abs-add}
-use Rattle.algebra.specs.Nearest.{away}
-use Rattle.algebra.specs.Ring.{var, #_, _⊟_, _⊠_, ring}
 use Rattle.algebra.specs.Sums.{sumZ, sumZ-suc, sumZ-cong, sumZ-0}
-use Rattle.sequences.specs.Tab.{tab, length-tab, getD-tab}
+use Rattle.sequences.specs.Tab.{tab, length-tab, tab-each}
 use Rattle.sequences.specs.Grid.{grid, cell, cell-grid, grid-ext}
-use Rattle.geometry.specs.SomeLaws.{every}
 use Rattle.transform.specs.Tables.{side16}
-use Rattle.transform.specs.Recipe.{wiener, filtered, twiddleRe, twiddleIm, inverseRe, inverseAt, correctionAt}
+use Rattle.transform.specs.Recipe.{correctionAt}
+use Rattle.transform.specs.ZeroLaws.{no-noise}
 use Rattle.transform.specs.Lines.{LineMost, TileMost}
 use Rattle.transform.specs.Magnitudes.{correctionMost}
 use Rattle.merging.specs.declared.Site.{Site}
@@ -22,11 +21,6 @@ use Rattle.merging.specs.Recipe.{Scene, tileNoise, difference}
 use Rattle.merging.specs.Gather.{summedAt}
 use Rattle.merging.specs.Sum.{summedMost, Summed}
 use Rattle.merging.proofs.Differences.{correction-cong}
-
--- what holds of the default and of each f k below n holds of each element of the table
-tab-each : {A : Type 0} (P : A → Type 0) (d : A) (f : ℕ → A) (n : ℕ) → P d → ((k : ℕ) → k < n → P (f k)) → (i : ℕ) → P (getD (tab n f) i d)
-tab-each P d f n pd h =
-    every P d (tab n f) pd (λ k l. let below : k < n = omega (arith, length-tab f n) in subst P (sym (getD-tab f d n k below)) (h k below))
 
 module _ (s : Scene) (t : Site) where
   -- P of the tile for the k-th other frame, and the sum of the first n of these
@@ -43,20 +37,13 @@ pub record Summing (s : Scene) (t : Site) (n : ℕ) (sum : List (List ℤ)) : Ty
   pub is : sum ≡ grid 16 16 (partAt s t n)
   pub most : (i j : ℕ) → i < 16 → j < 16 → natAbs (partAt s t n i j) ≤ n * correctionMost
 
--- where V is 0, so is each correction
-zero-correction : (d : ℕ → ℕ → ℤ) (y x : ℕ) → correctionAt side16 0 d y x ≡ pos 0
-unfolding correctionAt inverseAt inverseRe filtered wiener side16 away
-zero-correction d y x = ap (λ z. away z (2 ^ 32)) (sumZ-cong 16 _ (λ u. pos 0) (λ u h. sumZ-cong 16 _ (λ v. pos 0) (λ v k. none (twiddleRe side16 y x u v) (twiddleIm side16 y x u v)) ∙ sumZ-0 16) ∙ sumZ-0 16)
-  where
-    none : (a b : ℤ) → a *ℤ pos 0 -ℤ b *ℤ pos 0 ≡ pos 0
-    none a b = ring (a ∷ b ∷ []) (var 0 ⊠ # 0 ⊟ var 1 ⊠ # 0) (# 0) tt
-
+-- where V is 0, so is the sum
 pub zero-summed : {s : Scene} {t : Site} {sum : List (List ℤ)} → tileNoise s (t .«row_parity») (t .«column_parity») (t .row) (t .column) ≡ 0 → sum ≡ grid 16 16 (λ i j. pos 0) → Summed s t sum
-unfolding summedAt
+unfolding summedAt side16
 zero-summed {s} {t} {sum} v e = record { is = e ∙ sym (grid-ext 16 16 _ _ (λ i j h k. zero i j)); most = λ i j h k. rw (zero i j) (omega arith) }
   where
     zero : (i j : ℕ) → summedAt s (t .«row_parity») (t .«column_parity») (t .row) (t .column) i j ≡ pos 0
-    zero i j = rw v (sumZ-cong (s .others) _ (λ k. pos 0) (λ k h. zero-correction _ i j) ∙ sumZ-0 (s .others))
+    zero i j = rw v (sumZ-cong (s .others) _ (λ k. pos 0) (λ k h. no-noise side16 (lit< tt) _ i j) ∙ sumZ-0 (s .others))
 
 module _ {s : Scene} {t : Site} where
   pub sum-start : {sum : List (List ℤ)} → s .others ≤ 7 → sum ≡ grid 16 16 (λ i j. pos 0) → Summing s t 0 sum
@@ -93,13 +80,17 @@ module _ {s : Scene} {t : Site} where
         next : (i j : ℕ) → i < 16 → j < 16 → cell (pos 0) sum i j +ℤ cell (pos 0) p i j ≡ partAt s t (n + 1) i j
         next i j k l = rw (cell-at w i j k l, term i j k l, add-one n, sumZ-suc)
 
+  pub sum-length : {n : ℕ} {sum : List (List ℤ)} → Summing s t n sum → length sum ≡ 16
+  unfolding grid
+  sum-length {n} w = ap length (w .is) ∙ length-tab (λ i. tab 16 (partAt s t n i)) 16
+
   pub sum-small : {n : ℕ} {sum : List (List ℤ)} → Summing s t n sum → TileMost (2 ^ 40) sum
   unfolding grid
   sum-small {n} {sum} w =
       record {
         line = λ i. rw (w .is)
-            (tab-each (LineMost (2 ^ 40)) [] (λ i. tab 16 (partAt s t n i)) 16 (record { at = λ j. omega arith })
-            (λ u h. record { at = tab-each (λ z. natAbs z ≤ 2 ^ 40) (pos 0) (partAt s t n u) 16 (omega arith) (λ j k. omega (arith, w .most u j h k, w .few, w .count)) }) i);
+            (tab-each (LineMost (2 ^ 40)) [] (λ i. tab 16 (partAt s t n i)) (record { at = λ j. omega arith }) 16
+            (λ u h. record { at = tab-each (λ z. natAbs z ≤ 2 ^ 40) (pos 0) (partAt s t n u) (omega arith) 16 (λ j k. omega (arith, w .most u j h k, w .few, w .count)) }) i);
       }
 
   pub sum-done : {n : ℕ} {sum : List (List ℤ)} → Summing s t n sum → s .others ≤ n → Summed s t sum

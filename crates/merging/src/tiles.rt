@@ -2,7 +2,7 @@
 ghost use mathlib.Core.Path.{_≡_};
 ghost use Prim.Native.Nat.{_+_, _*_, _/_, _≤_, _<_, _^_};
 ghost use lib.IntN.{pos, _+ℤ_, _-ℤ_};
-ghost use lib.ListN.{getD};
+ghost use lib.ListN.{length, getD};
 ghost use Rattle.algebra.specs.Bound.{AtMost};
 ghost use Rattle.sequences.specs.Tab.{tab};
 ghost use Rattle.sequences.specs.Grid.{grid, cell};
@@ -121,15 +121,14 @@ fn added_row(sum: [i64; 16], term: [i32; 16]) -> [i64; 16]
     row
 }
 
-fn added(sum: [[i64; 16]; 16], term: [[i32; 16]; 16]) -> [[i64; 16]; 16]
-    requires { ⌜ TileMost (2 ^ 40) sum ⌝ }
-    ensures { λ r. ⌜ r ≡ grid 16 16 (λ i j. cell (pos 0) sum i j +ℤ cell (pos 0) term i j) ⌝ }
+// The term is added to the sum in its place.
+fn add(sum: &mut [[i64; 16]; 16], term: &[[i32; 16]; 16])
+    requires { ⌜ (length (now sum) ≡ 16) × (TileMost (2 ^ 40) (now sum)) ⌝ }
+    ensures { λ _. ⌜ now (sum .exit) ≡ grid 16 16 (λ i j. cell (pos 0) (now (sum .entry)) i j +ℤ cell (pos 0) (now (term .entry)) i j) ⌝ }
 {
-    let mut tile = [[0i64; 16]; 16];
     for i in 0..16 {
-        tile[i] = added_row(sum[i], term[i]);
+        sum[i] = added_row(sum[i], term[i]);
     }
-    tile
 }
 
 // V of a tile.
@@ -156,8 +155,8 @@ fn corrections(
     let mut sum = [[0i64; 16]; 16];
     for k in 0..others {
         let tz = other_tile(m, samples, vectors, site, k);
-        let next = added(sum, transform::correction(difference(t0, tz), noise));
-        sum = next;
+        let term = transform::correction(difference(t0, tz), noise);
+        add(&mut sum, &term);
     }
     sum
 }

@@ -56,6 +56,12 @@ module _ {A : Type 0} {f : ℕ → A} {n : ℕ} {l : List A} where
         is = ap (λ (x : List A). set x i v) (w .is) ∙ ap (λ (x : A). set (tab i f ++ drop i l) i x) e ∙ tab-more f i l (omega arith);
       }
 
+  -- what is not stored yet is as it was
+  pub fill-rest : {i : ℕ} {r : List A} → Filled f n i l r → i < n → (d : A) → getD r i d ≡ getD l i d
+  fill-rest {i} {r} w h d =
+      ap (λ (x : List A). getD x i d) (w .is) ∙ ap (λ (x : List A). getD (tab i f ++ x) i d) (drop-cons l i d (omega (arith, w .long)))
+      ∙ getD-at (tab i f) (getD l i d) (drop (suc i) l) d i (length-tab f i)
+
   pub fill-done : {i : ℕ} {r : List A} → Filled f n i l r → n ≤ i → r ≡ tab n f
   fill-done {i} {r} w h =
       let e : i ≡ n = omega arith in

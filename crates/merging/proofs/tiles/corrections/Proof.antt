@@ -10,7 +10,7 @@ use Rattle.merging.specs.Recipe.{sceneOf, difference}
 use Rattle.transform.specs.Lines.{TileMost}
 use Rattle.transform.specs.Magnitudes.{differenceMost}
 use Rattle.merging.proofs.Differences.{difference-grid, tile-most}
-use Rattle.merging.proofs.Summing.{Summing, sum-start, sum-turn, sum-small, sum-done}
+use Rattle.merging.proofs.Summing.{Summing, sum-start, sum-turn, sum-length, sum-small, sum-done}
 use Rattle.merging.proofs.tiles.corrections.Statement.{statement}
 use Rattle.merging.proofs.tiles.corrections.Tie as tie
 
@@ -44,8 +44,10 @@ correction-requires c κs =
     let s = c .before .before .before .before .before .before in
     (subst (TileMost differenceMost) (sym (difference-is c)) (tile-most (s .args .m) (now (s .args .vectors)) (s .pre .0 .samples-fit) _ _ _ _ _), s .pre .2 .most)
 
-added-requires : tie.Need-added-requires Inv-loop μ-loop
-added-requires c κs = sum-small (c .before .before .before .before .loop .inv)
+add-requires : tie.Need-add-requires Inv-loop μ-loop
+add-requires c κs =
+    let w = c .before .before .before .before .before .before .loop .inv in
+    (sum-length w, sum-small w)
 
 add-k : tie.Need-add-k Inv-loop μ-loop
 add-k c = search needs
@@ -56,8 +58,9 @@ loop-less c = omega arith
 loop-again : tie.Need-loop-again Inv-loop μ-loop
 unfolding sceneOf
 loop-again c =
-    let w = c .before .before .before .before .before in
-    sum-turn (w .loop .inv) (omega arith) (w .before .before .before .pre .2 .number) (difference-is (c .before .before)) (c .before .correction .ensures .0) (c .added .ensures) (c .before .correction .ensures .1)
+    let p = c .before .before .before in
+    let w = p .before .before .before .before in
+    sum-turn (w .loop .inv) (omega arith) (w .before .before .before .pre .2 .number) (difference-is (p .before)) (p .correction .ensures .0) (c .add .ensures) (p .correction .ensures .1)
 
 returns : tie.Need-returns Inv-loop μ-loop
 unfolding sceneOf
@@ -74,7 +77,7 @@ corrections-spec =
     other-tile-requires
     difference-requires
     correction-requires
-    added-requires
+    add-requires
     add-k
     loop-less
     loop-again
