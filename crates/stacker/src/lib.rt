@@ -2,7 +2,7 @@
 pub mod align;
 pub mod merge;
 pub mod run;
-pub mod tests;
+mod tests;
 
 // What align and run answer: the refusal's number, or 0 and per other frame, in rising index, its sum of finest residuals; unused places are 0.
 #[repr(C)]
