@@ -1,14 +1,16 @@
 -- The values of a line one by one, and a line's LF.
 use mathlib.Core.Path.{_≡_, refl, ap, _∙_}
-use mathlib.Core.Bool.{Bool, true, false, _||_}
+use mathlib.Core.Bool.{Bool, true, false, cond, _||_}
 use mathlib.Core.List.{List, [], _∷_}
 use Prim.Native.Nat.{ℕ, zero, suc, _-_, _<_, _≤_}
 use native.Mathlib.Numerals.{sub-one}
 use native.Mathlib.Omega.{arith}
-use lib.Dec.{ltb}
+use lib.Dec.{ltb, eqb}
+use lib.ListN.{drop}
 use Rattle.burst_file.specs.Part.{Part, refused, found, unless, mapped}
-use Rattle.burst_file.specs.Line.{itemOf, afterItem, valuesOf, hasLF, lineEnd, valueLine, above}
-use Rattle.burst_file.specs.Scan.{judged}
+use Rattle.burst_file.specs.Line.{last, itemOf, afterItem, valuesOf, hasLF, lineEnd, valueLine, above}
+use Rattle.burst_file.specs.Scan.{lineIn, endedLine, judged}
+use Rattle.burst_file.specs.declared.Line.the-variants.{Found, Refused}
 use Rattle.burst_file.specs.Grammar.{ValueLine}
 use Rattle.burst_file.specs.LineLaws.{values-sound, line-lf}
 use Rattle.burst_file.specs.PartLaws.{Sound, found-refused}
@@ -25,7 +27,7 @@ values-none zero s h = refl
 values-none (suc k) s h = absurd (omega arith)
 
 -- the judgement so far, with the last value's
-pub judged-last : (a : Bool) (bound v : ℕ) (rest : List ℕ) → found (a || ltb bound v) rest ≡ judged a bound (found (v ∷ []) rest)
+judged-last : (a : Bool) (bound v : ℕ) (rest : List ℕ) → found (a || ltb bound v) rest ≡ judged a bound (found (v ∷ []) rest)
 unfolding above
 judged-last a bound v rest = ap (λ (o : Bool). found o rest) (or-false a (ltb bound v))
   where
@@ -33,6 +35,14 @@ judged-last a bound v rest = ap (λ (o : Bool). found o rest) (or-false a (ltb b
     or-false true b = refl
     or-false false true = refl
     or-false false false = refl
+
+-- the judgement of a line that ends with this value
+pub judged-end : (left next : ℕ) (a : Bool) (bound v : ℕ) (file : List ℕ) (others : List ℕ → Part (List ℕ)) → lineIn file (endedLine left next (a || ltb bound v)) ≡ judged a bound (afterItem left others (last v (drop next file)))
+judged-end left next a bound v file others = from (eqb left 0)
+  where
+    from : (none : Bool) → lineIn file (cond none (Found next (a || ltb bound v)) (Refused 14)) ≡ judged a bound (cond none (found (v ∷ []) (drop next file)) (refused 14))
+    from true = judged-last a bound v (drop next file)
+    from false = refl
 
 -- the judgement so far, with one value's more
 pub judged-more : (a : Bool) (bound v : ℕ) (line : Part (List ℕ)) → judged (a || ltb bound v) bound line ≡ judged a bound (mapped (λ values. v ∷ values) line)

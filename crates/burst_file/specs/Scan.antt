@@ -1,7 +1,8 @@
 -- The answers of the functions that scan the bytes of a file, which hold positions, as what stands at those positions.
-use mathlib.Core.Bool.{Bool, _||_}
+use mathlib.Core.Bool.{Bool, cond, _||_}
 use mathlib.Core.List.{List, [], _∷_}
 use Prim.Native.Nat.{ℕ, zero, suc}
+use lib.Dec.{eqb}
 use lib.ListN.{drop}
 use Rattle.burst_file.specs.Line.{Item, last, more, bad, itemOf, above}
 use Rattle.burst_file.specs.Part.{Part, refused, found, mapped}
@@ -24,6 +25,10 @@ itemIn file Bad = bad
 abbrev pub lineIn : List ℕ → Line → Part Bool
 lineIn file (FoundLine next over) = found over (drop next file)
 lineIn file (RefusedLine number) = refused number
+
+-- a line that has ended, where `left` of its values have not come
+abbrev pub endedLine : (left next : ℕ) (over : Bool) → Line
+endedLine left next over = cond (eqb left 0) (FoundLine next over) (RefusedLine 14)
 
 -- of the values of a line, whether one is above the bound or `already` stands
 abbrev pub judged : (already : Bool) (bound : ℕ) → Part (List ℕ) → Part Bool

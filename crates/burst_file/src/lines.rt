@@ -4,7 +4,7 @@ ghost use mathlib.Core.Bool.{false, _||_};
 ghost use lib.Dec.{ltb};
 ghost use lib.ListN.{drop};
 ghost use Rattle.burst_file.specs.Line.{valuesOf, valueLine};
-ghost use Rattle.burst_file.specs.Scan.{lineIn, judged};
+ghost use Rattle.burst_file.specs.Scan.{lineIn, endedLine, judged};
 use crate::Line;
 use crate::Scan;
 use crate::scanning::has_lf;
@@ -17,6 +17,16 @@ fn or_above(already: bool, bound: u64, value: u64) -> bool
         return true;
     }
     bound < value
+}
+
+// The LF of a line has come, and `left` of its values have not.
+fn end_line(left: usize, next: usize, over: bool) -> Line
+    ensures { λ r. ⌜ r ≡ endedLine left next over ⌝ }
+{
+    if left != 0 {
+        return Line::Refused { number: 14 };
+    }
+    Line::Found { next, over }
 }
 
 // The line's values alone: a line without its LF counts as malformed.
@@ -33,11 +43,8 @@ fn scan_line(file: &[u8], at: usize, count: usize, bound: u64) -> Line
                 return Line::Refused { number: 14 };
             }
             Scan::Last { value, next } => {
-                if left == 0 {
-                    let any = or_above(over, bound, value);
-                    return Line::Found { next, over: any };
-                }
-                return Line::Refused { number: 14 };
+                let any = or_above(over, bound, value);
+                return end_line(left, next, any);
             }
             Scan::More { value, next } => {
                 over = or_above(over, bound, value);

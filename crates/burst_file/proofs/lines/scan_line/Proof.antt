@@ -4,14 +4,12 @@ use mathlib.Core.Bool.{Bool, false}
 use Prim.Native.Nat.{_-_}
 use native.Mathlib.Omega.{arith}
 use borrow.Author.Needs.{needs}
-use borrow.Author.Tests.{eq-eqb, ne-eqb}
 use lib.ListN.{drop}
-use Rattle.burst_file.specs.Part.{found}
 use Rattle.burst_file.specs.Line.{Item, afterItem, valuesOf}
-use Rattle.burst_file.specs.Scan.{itemIn, judged}
+use Rattle.burst_file.specs.Scan.{itemIn, lineIn, endedLine, judged}
 use Rattle.burst_file.specs.declared.Scan.{Scan}
 use Rattle.burst_file.specs.declared.Scan.the-variants.{Last, More, Bad}
-use Rattle.burst_file.proofs.Values.{values-step, values-none, judged-last, judged-more}
+use Rattle.burst_file.proofs.Values.{values-step, values-none, judged-end, judged-more}
 use Rattle.burst_file.proofs.lines.scan_line.Statement.{statement}
 use Rattle.burst_file.proofs.lines.scan_line.Tie as tie
 
@@ -53,19 +51,18 @@ enum-known-value c = search needs
 or-above-requires : tie.Need-or-above-requires Inv-loop μ-loop
 or-above-requires c κs = search needs
 
+end-line-requires : tie.Need-end-line-requires Inv-loop μ-loop
+end-line-requires c κs = search needs
+
 returns-2 : tie.Need-returns-2 Inv-loop μ-loop
 returns-2 c =
     let f = c .before .before .before .value .given in
     let at = c .before .before .before .before .before in
+    let l = at .before .before .loop in
     let a = at .before .before .before .before .args in
-    let rest = drop (f .0 .1 .0) (a .file .now) in
-    ap (λ (o : Bool). found o rest) (c .or-above .ensures) ∙ judged-last (at .before .before .loop .over) (a .bound) (f .0 .0) rest
-    ∙ (rw (eq-eqb _ _ (c .before .if1 .taken)) at (stepped at (Last (f .0 .0) (f .0 .1 .0)) (f .1)))
-
-returns-3 : tie.Need-returns-3 Inv-loop μ-loop
-returns-3 c =
-    let f = c .before .before .value .given in
-    rw (ne-eqb _ _ (c .if1 .left)) at (stepped (c .before .before .before .before) (Last (f .0 .0) (f .0 .1 .0)) (f .1))
+    ap (lineIn (a .file .now)) (c .end-line .ensures ∙ ap (endedLine (l .left - 1) (f .0 .1 .0)) (c .before .or-above .ensures))
+    ∙ judged-end (l .left - 1) (f .0 .1 .0) (l .over) (a .bound) (f .0 .0) (a .file .now) (λ t. valuesOf (l .left - 1) t)
+    ∙ stepped at (Last (f .0 .0) (f .0 .1 .0)) (f .1)
 
 enum-known-value-2 : tie.Need-enum-known-value-2 Inv-loop μ-loop
 enum-known-value-2 c = search needs
@@ -86,8 +83,8 @@ loop-again c =
     ∙ judged-more (l .over) (a .bound) (f .0 .0) (valuesOf (l .left - 1) (drop (f .0 .1 .0) (a .file .now)))
     ∙ stepped at (More (f .0 .0) (f .0 .1 .0)) (f .1)
 
-returns-4 : tie.Need-returns-4 Inv-loop μ-loop
-returns-4 c =
+returns-3 : tie.Need-returns-3 Inv-loop μ-loop
+returns-3 c =
     let l = c .before .loop in
     let a = c .before .before .before .args in
     ap (judged (l .over) (a .bound)) (sym (values-none (l .left) (drop (l .i) (a .file .now)) (c .loop-test .left))) ∙ l .inv
@@ -105,10 +102,10 @@ scan-line-spec =
     returns
     enum-known-value
     or-above-requires
+    end-line-requires
     returns-2
-    returns-3
     enum-known-value-2
     or-above-requires-2
     loop-less
     loop-again
-    returns-4)
+    returns-3)
