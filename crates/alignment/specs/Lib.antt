@@ -13,6 +13,7 @@ pub mod PlaceLaws
 pub mod SignedLaws
 pub mod WordLaws
 pub mod Local
+pub mod SixteenLaws
 pub mod LocalLaws
 pub mod Stored
 pub mod StoredLaws

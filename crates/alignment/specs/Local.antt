@@ -9,7 +9,7 @@ use Rattle.algebra.specs.Sums.{sumN}
 use Rattle.sequences.specs.Least.{firstMin}
 use Rattle.alignment.specs.declared.search.Best.{Best}
 use Rattle.alignment.specs.Offsets.{downs, rights}
-use Rattle.alignment.specs.Residual.{difference}
+use Rattle.alignment.specs.Residual.{gap, difference}
 
 -- the sum of differences of `side` samples, those of the tile from `a` on and of the window from `b` on
 unfoldable pub rowSum : (squared : Bool) → (tile window : List ℕ) → (a b side : ℕ) → ℕ
@@ -18,6 +18,16 @@ rowSum squared tile window a b side = sumN side (λ j. difference squared (getD 
 -- the sum over a tile's rows, and the window's from `start` on, which stand `stride` apart
 unfoldable pub squareSum : (squared : Bool) → (tile window : List ℕ) → (start stride side : ℕ) → ℕ
 squareSum squared tile window start stride side = sumN side (λ i. rowSum squared tile window (i * side) (start + i * stride) side)
+
+-- the first n values are there and small enough for sums in few bits: four samples' sum, 4 · 4095
+pub record Low (l : List ℕ) (n : ℕ) : Type 0 where
+  pub room : n ≤ length l
+  pub most : (k : ℕ) → k < n → getD l k 0 ≤ 16380
+
+-- the sum of the distances of four samples one under the other, those of a tile of side 16 from `a` on and of the window from `b` on
+abbrev pub columnSum : (tile window : List ℕ) → (a b stride : ℕ) → ℕ
+columnSum tile window a b stride =
+    gap (getD tile a 0) (getD window b 0) + gap (getD tile (a + 16) 0) (getD window (b + stride) 0) + gap (getD tile (a + 32) 0) (getD window (b + 2 * stride) 0) + gap (getD tile (a + 48) 0) (getD window (b + 3 * stride) 0)
 
 -- such a window lies within its array
 pub record Inside (tile window : List ℕ) (start stride side : ℕ) : Type 0 where
@@ -33,8 +43,8 @@ windowSum squared tile window side k =
 
 pub record Window (tile window : List ℕ) (side : ℕ) : Type 0 where
   pub small : side ≤ 32
-  pub tile-room : side * side ≤ length tile
-  pub window-room : (side + 8) * (side + 8) ≤ length window
+  pub tile-low : Low tile (side * side)
+  pub window-low : Low window ((side + 8) * (side + 8))
 
 -- the first least of the 81 sums, at most 32 · 32 · 65535²
 pub record Searched (squared : Bool) (tile window : List ℕ) (side : ℕ) (r : Best) : Type 0 where

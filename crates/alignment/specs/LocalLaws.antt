@@ -29,8 +29,8 @@ window-inside {side = side} w k h =
     record {
       small = w .small;
       narrow = omega (arith, w .small);
-      tile-room = w .tile-room;
-      window-room = omega (arith, w .window-room, mul-le-mul-right (side + 8) (parts-most k h .0), parts-most k h .1);
+      tile-room = w .tile-low .room;
+      window-room = omega (arith, w .window-low .room, mul-le-mul-right (side + 8) (parts-most k h .0), parts-most k h .1);
     }
 
 -- one row more

@@ -2,12 +2,12 @@
 use mathlib.Core.Path.{_≡_, sym, ap, ap₂, _∙_, subst, fun-ext}
 use mathlib.Core.Bool.{Bool}
 use mathlib.Core.List.{List}
-use Prim.Native.Nat.{ℕ, _+_, _*_, _≤_, _^_}
-use native.Mathlib.Nat.{mul-le-mul}
+use Prim.Native.Nat.{ℕ, zero, suc, _+_, _*_, _/_, _%_, _≤_, _<_, _^_}
+use native.Mathlib.Nat.{mul-le-mul, zero-mul, div-add-mod'}
 use native.Mathlib.Omega.{arith}
 use lib.Dec.{lit≤}
-use lib.IntN.{ℤ}
-use lib.ListN.{length}
+use lib.IntN.{ℤ, pos, _+ℤ_}
+use lib.ListN.{length, getD}
 use Rattle.geometry.specs.Read.{inside, read}
 use Rattle.geometry.specs.ReadLaws.{inside-below}
 use Rattle.geometry.specs.Tiles.{Level, Step}
@@ -23,8 +23,24 @@ use Rattle.alignment.specs.Residual.{Pair}
 use Rattle.alignment.specs.Search.{found}
 use Rattle.alignment.specs.SearchLaws.{found-within}
 use Rattle.alignment.specs.Fields.{Field, tileAt, coarsest, fromCoarse, finer}
-use Rattle.alignment.specs.Local.{Copied}
+use Rattle.alignment.specs.PlaceLaws.{div-below, rem-below}
+use Rattle.alignment.specs.Local.{Low, Copied}
 use Rattle.alignment.specs.Stored.{pairIn, Stored, Before, Ready, answer}
+
+-- what is copied from an image is low
+pub copied-low : {words : List ℤ} {from height width : ℕ} → Source words from height width → {l : List ℕ} {n : ℕ} {row column : ℤ} → n * n ≤ length l → Copied l n n (read height width (imageAt words from width)) row column → Low l (n * n)
+unfolding read
+copied-low {words} {from} {height} {width} s {l} {n} {row} {column} room c = record { room = room; most = λ k h. at k h (some k n h) }
+  where
+    some : (k n : ℕ) → k < n * n → 0 < n
+    some k zero h = absurd (omega (arith, zero-mul 0))
+    some k (suc n) h = omega arith
+
+    at : (k : ℕ) → k < n * n → 0 < n → getD l k 0 ≤ 16380
+    at k h b =
+        let e : getD l k 0 ≡ imageAt words from width (inside height (row +ℤ pos (k / n))) (inside width (column +ℤ pos (k % n))) =
+        ap (λ k. getD l k 0) (sym (div-add-mod' k n)) ∙ c .cell (k / n) (k % n) (div-below k n n b h) (rem-below k n b) in
+        omega (arith, e, s .holds .most (inside height (row +ℤ pos (k / n))) (inside width (column +ℤ pos (k % n))) (inside-below height (row +ℤ pos (k / n)) (s .high)) (inside-below width (column +ℤ pos (k % n)) (s .wide)))
 
 -- what copying a tile's samples asks
 pub copyable : {words : List ℤ} {a : Area} {t : Tile} → Stored words a → t .side ≤ 16 → Within 65552 (t .origin) → Source words (a .reference) (a .height) (a .width) × Within (2 ^ 20) (t .origin) × (t .side ≤ 64) × (t .side * t .side ≤ 256)

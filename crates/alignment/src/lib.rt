@@ -7,6 +7,7 @@ pub mod levels;
 pub mod matching;
 pub mod residual;
 pub mod search;
+pub mod sixteen;
 
 // A displacement in whole samples.
 pub struct Vector {

@@ -12,6 +12,7 @@ use crate::copy::copy_square;
 use crate::residual::square_sum;
 use crate::search::offset;
 use crate::search::search;
+use crate::sixteen::absolute_sum;
 
 // Where a level's two images stand in the work area, and their size.
 pub struct Area {
@@ -54,7 +55,7 @@ fn candidate_sum(words: &[i64], area: Area, tile: Tile, samples: &[u16], v: Vect
         &mut other,
     );
     if tile.side == 16 {
-        return square_sum(false, samples, &other, 0, 16, 16);
+        return absolute_sum(samples, &other, 0, 16);
     }
     square_sum(false, samples, &other, 0, tile.side, tile.side)
 }

@@ -7,6 +7,8 @@ ghost use Rattle.alignment.specs.Vectors.{Within};
 ghost use Rattle.alignment.specs.Local.{windowSum, Window, Searched};
 use crate::Vector;
 use crate::residual::square_sum;
+use crate::sixteen::absolute_sum;
+use crate::sixteen::squared_sum;
 
 // The parts of the offsets in tie order, each plus 4.
 const DOWN: [u8; 81] = [
@@ -207,7 +209,7 @@ pub fn offset(k: usize) -> Vector
     }
 }
 
-// The residual at the offset number `k`. The constants make the sums fast.
+// The residual at the offset number `k`.
 fn offset_sum(
     squared: bool,
     tile: &[u16],
@@ -222,13 +224,13 @@ fn offset_sum(
 {
     let stride = side + 8;
     let start = wide(down[k]) * stride + wide(right[k]);
-    if squared {
-        return square_sum(true, tile, window, start, stride, side);
-    }
     if side == 16 {
-        return square_sum(false, tile, window, start, 24, 16);
+        if squared {
+            return squared_sum(tile, window, start, 24);
+        }
+        return absolute_sum(tile, window, start, 24);
     }
-    square_sum(false, tile, window, start, stride, side)
+    square_sum(squared, tile, window, start, stride, side)
 }
 
 // The first of the least residuals.

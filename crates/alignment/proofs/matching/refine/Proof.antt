@@ -13,6 +13,7 @@ use Rattle.alignment.specs.Residual.{Pair, residual}
 use Rattle.alignment.specs.Search.{chosen, found}
 use Rattle.alignment.specs.Stored.{pairIn, answer}
 use Rattle.alignment.specs.LocalLaws.{searched-finds}
+use Rattle.alignment.specs.StoredLaws.{copied-low}
 use native.Mathlib.Omega.{arith}
 use mathlib.Core.Path.{_≡_, ap, _∙_}
 use Prim.Native.Nat.{ℕ, _^_}
@@ -51,9 +52,10 @@ slice-aggregate-search : tie.Need-slice-aggregate-search
 slice-aggregate-search c = search needs
 
 search-requires : tie.Need-search-requires
+unfolding pairIn
 search-requires c κs = let h = c .before .before .before .before .before .before .before .before .before .pre .0 in
     let m = mul-le-mul (h .small) (h .small) in
-    record { small = omega arith; tile-room = omega arith; window-room = omega arith }
+    record { small = omega arith; tile-low = copied-low (h .stored .reference) (omega arith) (h .copied); window-low = copied-low (h .stored .other) (omega arith) (c .before .before .copy-square .ensures) }
 
 offset-requires : tie.Need-offset-requires
 offset-requires c κs = c .search .ensures .within

@@ -1,9 +1,11 @@
--- The table's parts are at most 8, so that the window lies within its array; the three calls differ in what is known of the side and the kind.
+-- The table's parts are at most 8, so that the window lies within its array; the calls differ in what is known of the side and the kind.
 use mathlib.Core.Bool.{Bool, true, false}
 use native.Mathlib.Nat.{mul-le-mul-right}
 use Rattle.alignment.specs.Offsets.{downs, rights}
 use Rattle.alignment.specs.OffsetLaws.{parts-most}
-use Rattle.alignment.specs.Local.{squareSum, Inside, windowSum}
+use lib.Dec.{lit≤}
+use Rattle.alignment.specs.Local.{squareSum, Low, Inside, windowSum}
+use Rattle.alignment.specs.SixteenLaws.{low-less, low-square}
 use Rattle.alignment.specs.LocalLaws.{window-inside}
 use native.Mathlib.Omega.{arith}
 use mathlib.Core.Path.{_≡_, refl, ap, _∙_, subst}
@@ -59,29 +61,37 @@ whole : (c : tie.After-wide2) (q : Bool) (n : ℕ) → let a = c .before .before
 unfolding windowSum start
 whole c q n eq en = rw (← eq, ← en, down-is (c .before .before), right-is c)
 
+-- what the sums over a tile of side 16 ask
+seen : (c : tie.After-wide2) → let a = c .before .before .before .before .before .before .args in a .side ≡ 16 → Low (a .tile .now) 256 × Low (a .window .now) (start c + 15 * 24 + 16) × (24 ≤ 64)
+unfolding start
+seen c e =
+    let s = c .before .before .before .before .before .before in
+    let w = s .pre .0 in
+    (low-square (w .tile-low) 16 e, low-less (low-square (w .window-low) 24 (omega arith)) _ (omega (arith, down-most (c .before .before), right-is c, parts-most (s .args .k) (s .pre .3) .1)), lit≤ tt)
+
+squared-sum-requires : tie.Need-squared-sum-requires
+unfolding start
+squared-sum-requires c κs = seen (c .before .before) (c .before .if1 .taken)
+
+returns : tie.Need-returns
+unfolding start
+returns c = (c .squared-sum .ensures .0 ∙ whole (c .before .before .before) true 16 (c .before .if2 .taken) (c .before .before .if1 .taken), c .squared-sum .ensures .1)
+
+absolute-sum-requires : tie.Need-absolute-sum-requires
+unfolding start
+absolute-sum-requires c κs = seen (c .before .before) (c .before .if1 .taken)
+
+returns-2 : tie.Need-returns-2
+unfolding start
+returns-2 c = (c .absolute-sum .ensures .0 ∙ whole (c .before .before .before) false 16 (c .before .if2 .left) (c .before .before .if1 .taken), c .absolute-sum .ensures .1)
+
 square-sum-requires : tie.Need-square-sum-requires
 unfolding start
 square-sum-requires c κs = inside (c .before) _ refl
 
-returns : tie.Need-returns
-unfolding start
-returns c = (c .square-sum .ensures .0 ∙ whole (c .before .before) true _ (c .before .if1 .taken) refl, c .square-sum .ensures .1)
-
-square-sum-requires-2 : tie.Need-square-sum-requires-2
-unfolding start
-square-sum-requires-2 c κs = inside (c .before .before) 16 (c .if2 .taken)
-
-returns-2 : tie.Need-returns-2
-unfolding start
-returns-2 c = (c .square-sum2 .ensures .0 ∙ whole (c .before .before .before) false 16 (c .before .before .if1 .left) (c .before .if2 .taken), c .square-sum2 .ensures .1)
-
-square-sum-requires-3 : tie.Need-square-sum-requires-3
-unfolding start
-square-sum-requires-3 c κs = inside (c .before .before) _ refl
-
 returns-3 : tie.Need-returns-3
 unfolding start
-returns-3 c = (c .square-sum3 .ensures .0 ∙ whole (c .before .before .before) false _ (c .before .before .if1 .left) refl, c .square-sum3 .ensures .1)
+returns-3 c = (c .square-sum .ensures .0 ∙ whole (c .before .before) _ _ refl refl, c .square-sum .ensures .1)
 
 pub offset-sum-spec : {M : Type 1} → statement M
 offset-sum-spec =
@@ -94,9 +104,9 @@ offset-sum-spec =
     element-copy-out-wide-2
     wide-requires-2
     add-start
-    square-sum-requires
+    squared-sum-requires
     returns
-    square-sum-requires-2
+    absolute-sum-requires
     returns-2
-    square-sum-requires-3
+    square-sum-requires
     returns-3)

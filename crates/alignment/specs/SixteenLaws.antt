@@ -1,0 +1,63 @@
+-- The sums over four rows at a time are the sums over a tile's rows.
+use mathlib.Core.Path.{_≡_, refl, ap, ap₂, _∙_, subst}
+use mathlib.Core.Bool.{false}
+use mathlib.Core.List.{List}
+use Prim.Native.Nat.{ℕ, zero, suc, _+_, _*_, _≤_, _<_}
+use native.Mathlib.Omega.{arith}
+use lib.ListN.{getD}
+use Rattle.algebra.specs.Sums.{sumN, sumN-cong}
+use Rattle.sequences.specs.Tab.{tab, getD-tab}
+use Rattle.alignment.specs.Residual.{gap, difference}
+use Rattle.alignment.specs.Local.{rowSum, squareSum, columnSum, Low}
+
+-- what holds of more values holds of fewer
+pub low-less : {l : List ℕ} {n : ℕ} → Low l n → (m : ℕ) → m ≤ n → Low l m
+low-less w m h = record { room = omega (arith, w .room); most = λ k b. w .most k (omega arith) }
+
+-- a square of values, whose side is m
+pub low-square : {l : List ℕ} {n : ℕ} → Low l (n * n) → (m : ℕ) → n ≡ m → Low l (m * m)
+low-square {l} w m e = subst (λ n. Low l (n * n)) e w
+
+sum-four : (n : ℕ) (p q r s : ℕ → ℕ) → sumN n (λ j. p j + q j + r j + s j) ≡ sumN n p + sumN n q + sumN n r + sumN n s
+unfolding sumN
+sum-four zero p q r s = refl
+sum-four (suc n) p q r s = omega (arith, sum-four n p q r s)
+
+by-fours : (f : ℕ → ℕ) → sumN 4 (λ g. f (4 * g) + f (4 * g + 1) + f (4 * g + 2) + f (4 * g + 3)) ≡ sumN 16 f
+unfolding sumN
+by-fours f = omega arith
+
+module _ (tile window : List ℕ) (start stride : ℕ) where
+  -- the sum of row i's distances
+  row : ℕ → ℕ → ℕ
+  row i j = gap (getD tile (i * 16 + j) 0) (getD window (start + i * stride + j) 0)
+
+  place : (a b i j : ℕ) → a ≡ i * 16 + j → b ≡ start + i * stride + j → gap (getD tile a 0) (getD window b 0) ≡ row i j
+  unfolding row
+  place a b i j e f = ap₂ (λ a b. gap (getD tile a 0) (getD window b 0)) e f
+
+  column-rows : (g j : ℕ) → columnSum tile window (64 * g + j) (start + 4 * g * stride + j) stride ≡ row (4 * g) j + row (4 * g + 1) j + row (4 * g + 2) j + row (4 * g + 3) j
+  column-rows g j =
+      ap₂ _+_
+      (ap₂ _+_
+      (ap₂ _+_ (place (64 * g + j) (start + 4 * g * stride + j) (4 * g) j (omega arith) (omega arith))
+      (place (64 * g + j + 16) (start + 4 * g * stride + j + stride) (4 * g + 1) j (omega arith) (omega arith)))
+      (place (64 * g + j + 32) (start + 4 * g * stride + j + 2 * stride) (4 * g + 2) j (omega arith) (omega arith)))
+      (place (64 * g + j + 48) (start + 4 * g * stride + j + 3 * stride) (4 * g + 3) j (omega arith) (omega arith))
+
+  -- the sum of the columns of four rows
+  pub columnsSum : ℕ → ℕ
+  columnsSum g = sumN 16 (λ j. columnSum tile window (64 * g + j) (start + 4 * g * stride + j) stride)
+
+  pub columns-whole : sumN 4 columnsSum ≡ squareSum false tile window start stride 16
+  unfolding squareSum rowSum difference row columnsSum
+  columns-whole =
+      sumN-cong 4 columnsSum (λ g. sumN 16 (row (4 * g)) + sumN 16 (row (4 * g + 1)) + sumN 16 (row (4 * g + 2)) + sumN 16 (row (4 * g + 3)))
+      (λ g h. sumN-cong 16 _ _ (λ j k. column-rows g j) ∙ sum-four 16 (row (4 * g)) (row (4 * g + 1)) (row (4 * g + 2)) (row (4 * g + 3)))
+      ∙ by-fours (λ i. sumN 16 (row i))
+
+  -- what the sixteen sums add up to
+  pub total-columns : (g n : ℕ) (l : List ℕ) → l ≡ tab 16 (λ j. columnSum tile window (64 * g + j) (start + 4 * g * stride + j) stride) → n ≡ sumN 16 (λ j. getD l j 0) → n ≡ columnsSum g
+  unfolding columnsSum
+  total-columns g n l e f =
+      f ∙ sumN-cong 16 _ _ (λ j h. ap (λ l. getD l j 0) e ∙ getD-tab (λ j. columnSum tile window (64 * g + j) (start + 4 * g * stride + j) stride) 0 16 j h)
