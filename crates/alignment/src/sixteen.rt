@@ -71,13 +71,19 @@ pub fn absolute_sum(tile: &[u16], window: &[u16], start: usize, stride: usize) -
     sum as u64
 }
 
-// The remainder shows the compiler that a product of signed 16-bit numbers will do.
+fn square(x: u16, y: u16) -> u32
+    requires { ⌜ (x ≤ 16380) × (y ≤ 16380) ⌝ }
+    ensures { λ r. ⌜ (r ≡ gap x y * gap x y) × (r ≤ 268304400) ⌝ }
+{
+    let d = (x as i16 - y as i16) as i32;
+    (d * d) as u32
+}
+
 fn squared(tile: &[u16], window: &[u16], a: usize, b: usize) -> u32
     requires { ⌜ (Low (now tile) (a + 1)) × (Low (now window) (b + 1)) ⌝ }
     ensures { λ r. ⌜ (r ≡ gap (getD (now (tile .entry)) a 0) (getD (now (window .entry)) b 0) * gap (getD (now (tile .entry)) a 0) (getD (now (window .entry)) b 0)) × (r ≤ 268304400) ⌝ }
 {
-    let d = (apart(tile, window, a, b) % 16384) as u32;
-    d * d
+    square(tile[a], window[b])
 }
 
 fn squared_row(tile: &[u16], window: &[u16], a: usize, b: usize) -> u32

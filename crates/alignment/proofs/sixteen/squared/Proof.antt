@@ -1,26 +1,34 @@
--- A low distance is its own remainder.
-use native.Mathlib.Nat.{mul-le-mul}
+-- Both samples are low.
 use native.Mathlib.Omega.{arith}
-use mathlib.Core.Path.{_≡_, ap₂}
-use Prim.Native.Nat.{ℕ, _*_, _%_, _≤_}
 use borrow.Author.Needs.{needs}
 use Rattle.alignment.proofs.sixteen.squared.Statement.{statement}
 use Rattle.alignment.proofs.sixteen.squared.Tie as tie
 
-square : (n g : ℕ) → n ≡ g → n ≤ 16380 → (n % 16384 * (n % 16384) ≡ g * g) × (n % 16384 * (n % 16384) ≤ 268304400)
-square n g e h = let m : n % 16384 ≡ n = omega arith in rw m (ap₂ _*_ e e, omega (arith, mul-le-mul h h))
+mul-square : tie.Need-mul-square
+mul-square c = search needs
 
-apart-requires : tie.Need-apart-requires
-apart-requires c κs = search needs
+shared-slice-read-square : tie.Need-shared-slice-read-square
+shared-slice-read-square c = search needs
 
-cast-d : tie.Need-cast-d
-cast-d c = search needs
+mul-square-2 : tie.Need-mul-square-2
+mul-square-2 c = search needs
 
-mul-result : tie.Need-mul-result
-mul-result c = let e = c .apart .ensures in omega (arith, square _ _ (e .0) (e .1))
+shared-slice-read-square-2 : tie.Need-shared-slice-read-square-2
+shared-slice-read-square-2 c = search needs
+
+square-requires : tie.Need-square-requires
+square-requires c κs = let s = c .before .before .before .before in (s .pre .0 .most (s .args .a) (omega arith), s .pre .1 .most (s .args .b) (omega arith))
 
 returns : tie.Need-returns
-returns c = let e = c .apart .ensures in square _ _ (e .0) (e .1)
+returns c = search needs
 
 pub squared-spec : {M : Type 1} → statement M
-squared-spec = tie.close (tie.spec apart-requires cast-d mul-result returns)
+squared-spec =
+    tie.close
+    (tie.spec
+    mul-square
+    shared-slice-read-square
+    mul-square-2
+    shared-slice-read-square-2
+    square-requires
+    returns)
