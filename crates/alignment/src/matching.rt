@@ -60,6 +60,28 @@ fn candidate_sum(words: &[i64], area: Area, tile: Tile, samples: &[u16], v: Vect
     square_sum(false, samples, &other, 0, tile.side, tile.side)
 }
 
+// The same, where the residual of a candidate that may be the same one is known.
+fn other_sum(
+    words: &[i64],
+    area: Area,
+    tile: Tile,
+    samples: &[u16],
+    v: Vector,
+    known: Vector,
+    sum: u64,
+) -> u64
+    requires { ⌜ (Ready (now words) area tile (now samples)) × (Within 336 v) × (Within 336 known) × (sum ≡ residual false (pairIn (now words) area) tile known) ⌝ }
+    ensures { λ r. ⌜ r ≡ residual false (pairIn (now (words .entry)) area) tile v ⌝ }
+{
+    if v.down != known.down {
+        return candidate_sum(words, area, tile, samples, v);
+    }
+    if v.right != known.right {
+        return candidate_sum(words, area, tile, samples, v);
+    }
+    sum
+}
+
 // The candidate of the least residual, the earlier on a tie.
 pub fn guess(
     words: &[i64],
@@ -74,8 +96,8 @@ pub fn guess(
     ensures { λ r. ⌜ (r ≡ guessed (pairIn (now (words .entry)) area) tile own sideways vertically) × (Within 336 r) ⌝ }
 {
     let first = candidate_sum(words, area, tile, samples, own);
-    let second = candidate_sum(words, area, tile, samples, sideways);
-    let third = candidate_sum(words, area, tile, samples, vertically);
+    let second = other_sum(words, area, tile, samples, sideways, own, first);
+    let third = other_sum(words, area, tile, samples, vertically, own, first);
     if second < first {
         if third < second {
             return vertically;
