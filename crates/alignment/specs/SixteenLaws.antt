@@ -46,18 +46,40 @@ module _ (tile window : List ℕ) (start stride : ℕ) where
       (place (64 * g + j + 48) (start + 4 * g * stride + j + 3 * stride) (4 * g + 3) j (omega arith) (omega arith))
 
   -- the sum of the columns of four rows
-  pub columnsSum : ℕ → ℕ
+  columnsSum : ℕ → ℕ
   columnsSum g = sumN 16 (λ j. columnSum tile window (64 * g + j) (start + 4 * g * stride + j) stride)
 
-  pub columns-whole : sumN 4 columnsSum ≡ squareSum false tile window start stride 16
+  columns-whole : sumN 4 columnsSum ≡ squareSum false tile window start stride 16
   unfolding squareSum rowSum difference row columnsSum
   columns-whole =
       sumN-cong 4 columnsSum (λ g. sumN 16 (row (4 * g)) + sumN 16 (row (4 * g + 1)) + sumN 16 (row (4 * g + 2)) + sumN 16 (row (4 * g + 3)))
       (λ g h. sumN-cong 16 _ _ (λ j k. column-rows g j) ∙ sum-four 16 (row (4 * g)) (row (4 * g + 1)) (row (4 * g + 2)) (row (4 * g + 3)))
       ∙ by-fours (λ i. sumN 16 (row i))
 
-  -- what the sixteen sums add up to
-  pub total-columns : (g n : ℕ) (l : List ℕ) → l ≡ tab 16 (λ j. columnSum tile window (64 * g + j) (start + 4 * g * stride + j) stride) → n ≡ sumN 16 (λ j. getD l j 0) → n ≡ columnsSum g
+  one : (g a b : ℕ) (l : List ℕ) → a ≡ 64 * g → b ≡ start + 4 * g * stride → l ≡ tab 16 (λ j. columnSum tile window (a + j) (b + j) stride) → sumN 16 (λ j. getD l j 0) ≡ columnsSum g
   unfolding columnsSum
-  total-columns g n l e f =
-      f ∙ sumN-cong 16 _ _ (λ j h. ap (λ l. getD l j 0) e ∙ getD-tab (λ j. columnSum tile window (64 * g + j) (start + 4 * g * stride + j) stride) 0 16 j h)
+  one g a b l ea eb e =
+      sumN-cong 16 _ _
+      (λ j h. ap (λ l. getD l j 0) e
+      ∙ getD-tab (λ j. columnSum tile window (a + j) (b + j) stride) 0 16 j h
+      ∙ ap₂ (λ a b. columnSum tile window (a + j) (b + j) stride) ea eb)
+
+  add-four : sumN 4 columnsSum ≡ columnsSum 0 + columnsSum 1 + columnsSum 2 + columnsSum 3
+  unfolding sumN
+  add-four = omega arith
+
+  -- what the columns of four times four rows add up to
+  module _ (p q r s : List ℕ) (n : ℕ) where
+    pub total-whole : p ≡ tab 16 (λ j. columnSum tile window (0 + j) (start + j) stride) → q ≡ tab 16 (λ j. columnSum tile window (64 + j) (start + 4 * stride + j) stride) → r ≡ tab 16 (λ j. columnSum tile window (128 + j) (start + 8 * stride + j) stride) → s ≡ tab 16 (λ j. columnSum tile window (192 + j) (start + 12 * stride + j) stride) → n ≡ sumN 16 (λ j. getD p j 0 + getD q j 0 + getD r j 0 + getD s j 0) → n ≡ squareSum false tile window start stride 16
+    total-whole ep eq er es e =
+        omega (
+          arith,
+          e,
+          sum-four 16 (λ j. getD p j 0) (λ j. getD q j 0) (λ j. getD r j 0) (λ j. getD s j 0),
+          one 0 0 start p (omega arith) (omega arith) ep,
+          one 1 64 (start + 4 * stride) q (omega arith) (omega arith) eq,
+          one 2 128 (start + 8 * stride) r (omega arith) (omega arith) er,
+          one 3 192 (start + 12 * stride) s (omega arith) (omega arith) es,
+          add-four,
+          columns-whole,
+        )

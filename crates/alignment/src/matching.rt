@@ -55,7 +55,7 @@ fn candidate_sum(words: &[i64], area: Area, tile: Tile, samples: &[u16], v: Vect
         &mut other,
     );
     if tile.side == 16 {
-        return absolute_sum(samples, &other, 0, 16);
+        return absolute_sum(samples, &other, 0, 16) as u64;
     }
     square_sum(false, samples, &other, 0, tile.side, tile.side)
 }

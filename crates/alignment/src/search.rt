@@ -228,7 +228,7 @@ fn offset_sum(
         if squared {
             return squared_sum(tile, window, start, 24);
         }
-        return absolute_sum(tile, window, start, 24);
+        return absolute_sum(tile, window, start, 24) as u64;
     }
     square_sum(squared, tile, window, start, stride, side)
 }

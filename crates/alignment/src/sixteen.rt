@@ -49,26 +49,26 @@ fn wide(x: u16) -> u32
     x as u32
 }
 
-fn total(sums: [u16; 16]) -> u32
-    ensures { λ r. ⌜ (r ≡ sumN 16 (λ j. getD sums j 0)) × (r ≤ 1048560) ⌝ }
+fn total(first: [u16; 16], second: [u16; 16], third: [u16; 16], fourth: [u16; 16]) -> u32
+    ensures { λ r. ⌜ (r ≡ sumN 16 (λ j. getD first j 0 + getD second j 0 + getD third j 0 + getD fourth j 0)) × (r ≤ 4194240) ⌝ }
 {
     let mut sum: u32 = 0;
     for j in 0..16 {
-        sum += wide(sums[j]);
+        sum += wide(first[j]) + wide(second[j]) + wide(third[j]) + wide(fourth[j]);
     }
     sum
 }
 
 // Absolute differences: a whole tile against the window from `start` on, whose rows stand `stride` apart.
-pub fn absolute_sum(tile: &[u16], window: &[u16], start: usize, stride: usize) -> u64
+pub fn absolute_sum(tile: &[u16], window: &[u16], start: usize, stride: usize) -> u32
     requires { ⌜ (Low (now tile) 256) × (Low (now window) (start + 15 * stride + 16)) × (stride ≤ 64) ⌝ }
-    ensures { λ r. ⌜ (r ≡ squareSum false (now (tile .entry)) (now (window .entry)) start stride 16) × (r ≤ 4397912294400) ⌝ }
+    ensures { λ r. ⌜ (r ≡ squareSum false (now (tile .entry)) (now (window .entry)) start stride 16) × (r ≤ 4194240) ⌝ }
 {
-    let mut sum: u32 = 0;
-    for g in 0..4 {
-        sum += total(columns(tile, window, 64 * g, start + 4 * g * stride, stride));
-    }
-    sum as u64
+    let first = columns(tile, window, 0, start, stride);
+    let second = columns(tile, window, 64, start + 4 * stride, stride);
+    let third = columns(tile, window, 128, start + 8 * stride, stride);
+    let fourth = columns(tile, window, 192, start + 12 * stride, stride);
+    total(first, second, third, fourth)
 }
 
 fn square(x: u16, y: u16) -> u32

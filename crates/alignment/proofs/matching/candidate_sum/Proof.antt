@@ -47,6 +47,9 @@ whole c =
     let e = c .before .before .sum .ensures in
     moved-residual false (pairIn (a .words .now) (a .area)) (a .tile) (a .v) _ _ _ _ (s .pre .0 .copied) (c .copy-square .ensures) (ap (λ v. v .down) e) (ap (λ v. v .right) e)
 
+cast-result : tie.Need-cast-result
+cast-result c = search needs
+
 returns : tie.Need-returns
 returns c = let w = c .before .before .before .before .before in
     c .absolute-sum .ensures .0
@@ -73,6 +76,7 @@ candidate-sum-spec =
     copy-square-requires
     slice-aggregate-absolute-sum
     absolute-sum-requires
+    cast-result
     returns
     slice-aggregate-square-sum
     square-sum-requires

@@ -81,9 +81,12 @@ absolute-sum-requires : tie.Need-absolute-sum-requires
 unfolding start
 absolute-sum-requires c κs = seen (c .before .before) (c .before .if1 .taken)
 
+cast-result : tie.Need-cast-result
+cast-result c = search needs
+
 returns-2 : tie.Need-returns-2
 unfolding start
-returns-2 c = (c .absolute-sum .ensures .0 ∙ whole (c .before .before .before) false 16 (c .before .if2 .left) (c .before .before .if1 .taken), c .absolute-sum .ensures .1)
+returns-2 c = (c .absolute-sum .ensures .0 ∙ whole (c .before .before .before) false 16 (c .before .if2 .left) (c .before .before .if1 .taken), omega (arith, c .absolute-sum .ensures .1))
 
 square-sum-requires : tie.Need-square-sum-requires
 unfolding start
@@ -107,6 +110,7 @@ offset-sum-spec =
     squared-sum-requires
     returns
     absolute-sum-requires
+    cast-result
     returns-2
     square-sum-requires
     returns-3)

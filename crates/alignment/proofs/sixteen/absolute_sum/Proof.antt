@@ -1,79 +1,62 @@
--- One sum over four rows at a time; the last four end within what is low.
-use native.Mathlib.Nat.{mul-le-mul-right}
-use Rattle.alignment.specs.SixteenLaws.{low-less, columnsSum, columns-whole, total-columns}
-use Rattle.sequences.specs.Sum.{Summed, sum-start, sum-turn, sum-done}
-use borrow.Author.Needs.{needs}
+-- Each four rows end within what is low.
+use Rattle.alignment.specs.SixteenLaws.{low-less, total-whole}
 use native.Mathlib.Omega.{arith}
-use mathlib.Core.Path.{_∙_}
-use Prim.Native.Nat.{_-_, _*_, _≤_}
+use borrow.Author.Needs.{needs}
 use Rattle.alignment.proofs.sixteen.absolute_sum.Statement.{statement}
 use Rattle.alignment.proofs.sixteen.absolute_sum.Tie as tie
 
-abbrev Inv-loop : tie.InvT-loop
-Inv-loop tile window start stride sum₀ g₀ sum g = Summed (columnsSum tile window start stride) 1048560 4 g sum
+columns-requires : tie.Need-columns-requires
+columns-requires c κs = let s = c .before .before in (low-less (s .pre .0) _ (omega arith), low-less (s .pre .1) _ (omega arith), s .pre .2)
 
-abbrev μ-loop : tie.MeasureT-loop
-μ-loop tile window start stride sum₀ g₀ sum g = 4 - g
-
-loop-holds : tie.Need-loop-holds Inv-loop μ-loop
-loop-holds c = sum-start
-
--- the first of four rows of the window stands no later than the thirteenth
-before-last : (c : tie.In-loop Inv-loop μ-loop) → let a = c .before .before .before .before .args in 4 * c .before .loop .g * a .stride ≤ 12 * a .stride
-before-last c = mul-le-mul-right (c .before .before .before .before .args .stride) (omega arith)
-
-mul-columns : tie.Need-mul-columns Inv-loop μ-loop
+mul-columns : tie.Need-mul-columns
 mul-columns c = search needs
 
-mul-columns-2 : tie.Need-mul-columns-2 Inv-loop μ-loop
+add-columns : tie.Need-add-columns
+add-columns c = search needs
+
+columns-requires-2 : tie.Need-columns-requires-2
+columns-requires-2 c κs = let s = c .before .before .before in (low-less (s .pre .0) _ (omega arith), low-less (s .pre .1) _ (omega arith), s .pre .2)
+
+mul-columns-2 : tie.Need-mul-columns-2
 mul-columns-2 c = search needs
 
-mul-columns-3 : tie.Need-mul-columns-3 Inv-loop μ-loop
-mul-columns-3 c = omega (arith, before-last c)
+add-columns-2 : tie.Need-add-columns-2
+add-columns-2 c = search needs
 
-add-columns : tie.Need-add-columns Inv-loop μ-loop
-add-columns c = omega (arith, before-last c)
+columns-requires-3 : tie.Need-columns-requires-3
+columns-requires-3 c κs = let s = c .before .before .before .before in (low-less (s .pre .0) _ (omega arith), low-less (s .pre .1) _ (omega arith), s .pre .2)
 
-columns-requires : tie.Need-columns-requires Inv-loop μ-loop
-columns-requires c κs = let s = c .before .before .before .before in (low-less (s .pre .0) _ (omega arith), low-less (s .pre .1) _ (omega (arith, before-last c)), s .pre .2)
+mul-columns-3 : tie.Need-mul-columns-3
+mul-columns-3 c = search needs
 
-total-requires : tie.Need-total-requires Inv-loop μ-loop
+add-columns-3 : tie.Need-add-columns-3
+add-columns-3 c = search needs
+
+columns-requires-4 : tie.Need-columns-requires-4
+columns-requires-4 c κs = let s = c .before .before .before .before .before in (low-less (s .pre .0) _ (omega arith), low-less (s .pre .1) _ (omega arith), s .pre .2)
+
+total-requires : tie.Need-total-requires
 total-requires c κs = search needs
 
-add-sum : tie.Need-add-sum Inv-loop μ-loop
-add-sum c = search needs
-
-add-g : tie.Need-add-g Inv-loop μ-loop
-add-g c = search needs
-
-loop-less : tie.Need-loop-less Inv-loop μ-loop
-loop-less c = search needs
-
-loop-again : tie.Need-loop-again Inv-loop μ-loop
-loop-again c = let a = c .before .before .before .before .before .before .args in sum-turn (c .before .before .before .loop .inv) (omega arith) (total-columns (a .tile .now) (a .window .now) (a .start) (a .stride) _ _ _ (c .before .columns .ensures) (c .total .ensures .0)) (c .total .ensures .1)
-
-cast-result : tie.Need-cast-result Inv-loop μ-loop
-cast-result c = search needs
-
-returns : tie.Need-returns Inv-loop μ-loop
-returns c = let a = c .before .before .before .before .args in (sum-done (c .before .loop .inv) (omega arith) ∙ columns-whole (a .tile .now) (a .window .now) (a .start) (a .stride), omega arith)
+returns : tie.Need-returns
+returns c = let d = c .before in
+    let a = d .before .before .before .before .before .before .args in
+    let e = c .total .ensures in
+    (total-whole (a .tile .now) (a .window .now) (a .start) (a .stride) _ _ _ _ _ (d .before .before .before .columns .ensures) (d .before .before .columns2 .ensures) (d .before .columns3 .ensures) (d .columns4 .ensures) (e .0), e .1)
 
 pub absolute-sum-spec : {M : Type 1} → statement M
 absolute-sum-spec =
     tie.close
     (tie.spec
-    Inv-loop
-    μ-loop
-    loop-holds
-    mul-columns
-    mul-columns-2
-    mul-columns-3
-    add-columns
     columns-requires
+    mul-columns
+    add-columns
+    columns-requires-2
+    mul-columns-2
+    add-columns-2
+    columns-requires-3
+    mul-columns-3
+    add-columns-3
+    columns-requires-4
     total-requires
-    add-sum
-    add-g
-    loop-less
-    loop-again
-    cast-result
     returns)
