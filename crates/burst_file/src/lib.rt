@@ -7,6 +7,7 @@ mod scanning;
 
 pub use file::check_file;
 pub use file::read_file;
+pub use first_lines::read_head;
 use geometry::Shape;
 
 // What reading a file answers: the number of the refusal with every other field 0, or 0 with the file's seven values.
@@ -59,7 +60,7 @@ enum Passage {
 }
 
 // The first two lines: their values and the position past them, or the first refusal.
-enum Head {
+pub enum Head {
     Found { header: Header, next: usize },
     Refused { number: u64 },
 }

@@ -1,35 +1,34 @@
 -- What a program prints for a file, from what the file check answered and what reading found.
-use mathlib.Core.Path.{_≡_, refl, sym, ap, _∙_, subst}
-use mathlib.Core.Bool.{Bool, true, false, not, _&&_}
+use mathlib.Core.Path.{_≡_, sym, ap, _∙_, subst}
+use mathlib.Core.Bool.{true, false}
 use mathlib.Core.List.{List, _++_}
-use Prim.Native.Nat.{ℕ, _+_, _≤_, _<_}
+use Prim.Native.Nat.{ℕ, _≤_, _<_}
 use native.Mathlib.Omega.{arith}
-use lib.Dec.{T}
 use lib.ListN.{length, take, drop, length-append, length-drop}
 use lib.Seq.{length-take-le, take-at}
-use borrow.Author.Count.{below-more}
-use borrow.Author.Tests.{lt-ltb, le-ltb, eq-eqb, ne-eqb, eqb-true}
+use borrow.Author.Tests.{lt-ltb, le-ltb, eq-eqb, ne-eqb}
 use Rattle.geometry.specs.declared.Shape.{Shape}
 use Rattle.geometry.specs.Shape.{Allowed, shapeRefusal, referenceRefusal, sampleLength, lengthRefusal}
 use Rattle.geometry.specs.ShapeLaws.{allowed}
 use Rattle.geometry.specs.Refusal.{_before_}
 use Rattle.geometry.specs.RefusalLaws.{before-both}
-use Rattle.geometry.specs.OrderLaws.{below-count, right-length}
+use Rattle.geometry.specs.OrderLaws.{below-count}
 use Rattle.noise.specs.Levels.{levelRefusal, strengthRefusal}
 use Rattle.noise.specs.LevelLaws.{levels-most, strength-most}
 use Rattle.burst_file.specs.declared.FileAnswer.{FileAnswer}
 use Rattle.burst_file.specs.declared.Header.{Header}
 use Rattle.burst_file.specs.Grammar.{Burst}
 use Rattle.burst_file.specs.Part.{Part, refused, found, numberOf}
-use Rattle.burst_file.specs.Head.{headerRefusal}
-use Rattle.burst_file.specs.Reading.{readingInto, fileCheck, answerOf, samplesAfter, acceptedAnswer, FileRead}
+use Rattle.burst_file.specs.Head.{headerRefusal, headOf}
+use Rattle.burst_file.specs.HeadLaws.{HeadRead, head-complete}
+use Rattle.burst_file.specs.Reading.{reading, fileCheck, samplesAfter, FileRead}
 use Rattle.burst_file.specs.Acceptance.{Accepted, sound-number, complete}
 use Rattle.printing.specs.Lines.{tooLarge, refusal}
 use Rattle.report.specs.Program.{taken, checked, answerText, programText}
-use Rattle.report.specs.Opening.{room, headerIn, Holds, ReadAs, Unread, ReadSome}
+use Rattle.report.specs.Opening.{room, burstOf, Holds}
 
 -- the file check has no test of lengths
-abbrev noTest : Shape → ℕ
+abbrev pub noTest : Shape → ℕ
 noTest shape = 0
 
 abbrev roomTest : (count : ℕ) → Shape → ℕ
@@ -39,21 +38,6 @@ refused-part : (printed : Burst → List ℕ) (part : Part Burst) {number : ℕ}
 unfolding answerText
 refused-part printed (refused n) e h = ap refusal (sym e)
 refused-part printed (found burst rest) e h = absurd (h e)
-
-answer-number : (part : Part Burst) → answerOf part .refusal ≡ numberOf part
-answer-number (refused n) = refl
-answer-number (found burst rest) = refl
-
-both : {a b : Bool} → a && b ≡ true → (a ≡ true) × (b ≡ true)
-both {a = true} e = (refl, e)
-both {a = false} e = absurd (subst (λ b. T (not b)) e tt)
-
-not-taken : (shape : Shape) → (taken shape ≡ true → ⊥) → taken shape ≡ false
-not-taken shape h = decide (taken shape) h
-  where
-    decide : (b : Bool) → (b ≡ true → ⊥) → b ≡ false
-    decide true k = absurd (k refl)
-    decide false k = refl
 
 module _ (shape : Shape) where
   taken-true : shape .width ≡ 64 → shape .height ≡ 64 → taken shape ≡ true
@@ -67,10 +51,6 @@ module _ (shape : Shape) where
   pub high-other : shape .width ≡ 64 → (shape .height ≡ 64 → ⊥) → taken shape ≡ false
   unfolding taken
   high-other w h = rw (eq-eqb (shape .width) 64 w, ne-eqb (shape .height) 64 h)
-
-  taken-sizes : taken shape ≡ true → (shape .width ≡ 64) × (shape .height ≡ 64)
-  unfolding taken
-  taken-sizes t = let both-hold = both t in (eqb-true (shape .width) 64 (both-hold .0), eqb-true (shape .height) 64 (both-hold .1))
 
   frames-room : shape .width ≡ 64 → shape .height ≡ 64 → sampleLength shape ≡ room (shape .count)
   unfolding sampleLength
@@ -114,58 +94,22 @@ module _ {A : Type 0} (n : ℕ) (l part : List A) (fits : n ≤ length l) (same 
   pub front-length : length (part ++ drop n l) ≡ length l
   front-length = length-append part (drop n l) ∙ omega (arith, length-drop n l)
 
-pub read-prefix : {file samples part : List ℕ} {count : ℕ} {answer : FileAnswer} → room count ≤ length samples → length part ≡ room count →
-    FileRead file (take (room count) samples) answer part → ReadAs file count samples (part ++ drop (room count) samples) answer
-read-prefix {file} {samples} {part} {count} {answer} fits same read =
-    let long = length-take-le (room count) samples fits in
-    record { answered = rw long at (read .answered); stored = front-is (room count) samples part fits same ∙ (rw long at (read .stored)); same = front-length (room count) samples part fits same }
+-- the samples of a file that the check accepts, by its head
+pub record Headed (file : List ℕ) (header : Header) : Type 0 where
+  pub samples : List ℕ
+  pub accepted : Accepted noTest file (burstOf header samples)
 
--- the burst that reading found
-record FoundIn (file after : List ℕ) (answer : FileAnswer) (count : ℕ) : Type 0 where
-  burst : Burst
-  accepted : Accepted noTest file burst
-  measured : room count ≡ sampleLength (burst .header .shape)
-  is : answer ≡ acceptedAnswer (burst .header)
-  stored : take (room count) after ≡ burst .samples
+pub headed : {file rest : List ℕ} {header : Header} → fileCheck file ≡ 0 → found header rest ≡ headOf file → Headed file header
+headed {file} {rest} {header} e f =
+    let (burst, a) = sound-number noTest file e in
+    let g = a .grammar in
+    let read : HeadRead file (burst .header) (g .afterValues) = record { afterNames = g .afterNames; named = g .named; valued = g .valued; passed = a .header } in
+    let both = f ∙ head-complete read in
+    let same : header ≡ burst .header = cc in
+    record { samples = burst .samples; accepted = subst (λ (h : Header). Accepted noTest file (burstOf h (burst .samples))) (sym same) a }
 
-module _ {file : List ℕ} where
-  pub unread-none : Unread file 2
-  unread-none = record { none = λ count l h e. omega arith }
-
-  pub unread-more : {count : ℕ} {held after : List ℕ} {answer : FileAnswer} → Unread file count → ReadAs file count held after answer → (answer .refusal ≡ 0 → ⊥) → Unread file (count + 1)
-  unread-more {count} {held} {after} {answer} u read h =
-      let number = ap (λ a. a .refusal) (read .answered) ∙ answer-number (readingInto (room count) file) in
-      record {
-        none = below-more (λ n. 2 ≤ n → numberOf (readingInto (room n) file) ≡ 0 → ⊥) count (u .none) (λ l e. h (number ∙ e));
-      }
-
-  found-in : {after : List ℕ} {answer : FileAnswer} (read : ReadSome file after answer) → answer .refusal ≡ 0 → FoundIn file after answer (read .count)
-  found-in {after} {answer} some z =
-      let count = some .count in
-      let read = some .read in
-      let number : numberOf (readingInto (room count) file) ≡ 0 = sym (answer-number (readingInto (room count) file)) ∙ sym (ap (λ a. a .refusal) (read .answered)) ∙ z in
-      let (burst, a) = sound-number (roomTest count) file number in
-      let e = complete (roomTest count) file burst a in
-      record {
-        burst = burst;
-        accepted = record { grammar = a .grammar; header = a .header; measured = refl; small = a .small };
-        measured = right-length 3 (sampleLength (burst .header .shape)) (room count) (a .measured);
-        is = read .answered ∙ ap answerOf e;
-        stored = read .stored ∙ ap (λ part. samplesAfter part (take (room count) (some .held))) e;
-      }
-
-  same-count : {after : List ℕ} {answer : FileAnswer} (read : ReadSome file after answer) (f : FoundIn file after answer (read .count)) →
-      f .burst .header .shape .width ≡ 64 → f .burst .header .shape .height ≡ 64 → read .count ≡ f .burst .header .shape .count
-  same-count read f w h = omega (arith, frames-room (f .burst .header .shape) w h, f .measured)
-
-  unread-not : {burst : Burst} → Accepted noTest file burst → taken (burst .header .shape) ≡ true → Unread file 9 → ⊥
-  unread-not {burst} a t u =
-      let shape = burst .header .shape in
-      let ok = passed (burst .header) (a .header) .allowed in
-      let sizes = taken-sizes shape t in
-      let measured = same-length 4 (frames-room shape (sizes .0) (sizes .1)) in
-      let again : Accepted (roomTest (shape .count)) file burst = record { grammar = a .grammar; header = a .header; measured = measured; small = a .small } in
-      u .none (shape .count) (omega (arith, ok .few)) (ok .several) (ap numberOf (complete (roomTest (shape .count)) file burst again))
+pub headed-few : {file : List ℕ} {header : Header} → Headed file header → header .shape .count ≤ 8
+headed-few {file} {header} f = passed header (f .accepted .header) .allowed .few
 
 -- what both programs print for a file
 module _ (file : List ℕ) where
@@ -187,45 +131,44 @@ module _ (file : List ℕ) where
       unfolding programText answerText
       burst-text e printed = rw (le-ltb 65536 (length file) short, complete noTest file burst a, e)
 
-    -- a file that the check accepts, and that has the samples of no number of frames of 64 by 64
-    pub unread-text : fileCheck file ≡ 0 → Unread file 9 → (printed : Burst → List ℕ) → programText printed file ≡ tooLarge
-    unread-text e u =
-        let (burst, a) = sound-number noTest file e in
-        other-text a (not-taken (burst .header .shape) (λ t. unread-not a t u))
+    pub head-text : {number : ℕ} → refused number ≡ headOf file → (printed : Burst → List ℕ) → programText printed file ≡ refusal number
+    unfolding programText answerText reading
+    head-text e printed = rw (le-ltb 65536 (length file) short, sym e)
 
-    -- a file read with refusal 0
-    module _ {after : List ℕ} {answer : FileAnswer} (read : ReadSome file after answer) (z : answer .refusal ≡ 0) where
-      pub wide-text : (answer .width ≡ 64 → ⊥) → (printed : Burst → List ℕ) → programText printed file ≡ tooLarge
-      wide-text w = let f = found-in read z in other-text (f .accepted) (wide-other (f .burst .header .shape) (rw (f .is) at w))
+    module _ {header : Header} (f : Headed file header) where
+      pub wide-text : (header .shape .width ≡ 64 → ⊥) → (printed : Burst → List ℕ) → programText printed file ≡ tooLarge
+      wide-text w = other-text (f .accepted) (wide-other (header .shape) w)
 
-      pub high-text : answer .width ≡ 64 → (answer .height ≡ 64 → ⊥) → (printed : Burst → List ℕ) → programText printed file ≡ tooLarge
-      high-text w h = let f = found-in read z in other-text (f .accepted) (high-other (f .burst .header .shape) (rw (f .is) at w) (rw (f .is) at h))
+      module _ (w : header .shape .width ≡ 64) where
+        pub high-text : (header .shape .height ≡ 64 → ⊥) → (printed : Burst → List ℕ) → programText printed file ≡ tooLarge
+        high-text h = other-text (f .accepted) (high-other (header .shape) w h)
 
-      pub opens : {header : Header} → room 8 ≤ length after → answer .width ≡ 64 → answer .height ≡ 64 → header ≡ headerIn answer →
-          Holds file header (take (room (header .shape .count)) after)
-      opens {header} long w h e =
-          let f = found-in read z in
-          let b = f .burst in
-          let wide : b .header .shape .width ≡ 64 = rw (f .is) at w in
-          let high : b .header .shape .height ≡ 64 = rw (f .is) at h in
-          let same = same-count read f wide high in
-          let stored : take (room (b .header .shape .count)) after ≡ b .samples = ap (λ n. take (room n) after) (sym same) ∙ f .stored in
-          let whole : length (take (room (read .count)) after) ≡ room (read .count) = length-take-le (room (read .count)) after (omega (arith, read .few)) in
-          let p = passed (b .header) (f .accepted .header) in
-          let holds : Holds file (b .header) (b .samples) =
-          record {
-            taken = record {
-              wide = wide;
-              high = high;
-              allowed = p .allowed;
-              reference-below = p .reference-below;
-              shot-most = p .shot-most;
-              read-most = p .read-most;
-              strength-most = p .strength-most;
-              long = ap length (sym (f .stored)) ∙ whole ∙ ap room same;
-              small = f .accepted .small;
-            };
-            text = burst-text (f .accepted) (taken-true (b .header .shape) wide high);
-          } in
-          subst (λ (x : Header). Holds file x (take (room (x .shape .count)) after)) (sym (e ∙ ap headerIn (f .is)))
-          (subst (λ (l : List ℕ). Holds file (b .header) l) (sym stored) holds)
+        -- the file is read into the front of the lent samples
+        pub opens : (samples : List ℕ) {part : List ℕ} {answer : FileAnswer} → header .shape .height ≡ 64 →
+            let n = room (header .shape .count) in
+            n ≤ length samples → length part ≡ n → FileRead file (take n samples) answer part → Holds file header (take n (part ++ drop n samples))
+        opens samples {part} {answer} h fits same read =
+            let count = header .shape .count in
+            let n = room count in
+            let p = passed header (f .accepted .header) in
+            let a = f .accepted in
+            let again : Accepted (roomTest count) file (burstOf header (f .samples)) =
+            record { grammar = a .grammar; header = a .header; measured = same-length 4 (frames-room (header .shape) w h); small = a .small } in
+            let stored : part ≡ f .samples =
+            (rw (length-take-le n samples fits) at (read .stored)) ∙ ap (λ found. samplesAfter found (take n samples)) (complete (roomTest count) file (burstOf header (f .samples)) again) in
+            let holds : Holds file header (f .samples) =
+            record {
+              taken = record {
+                wide = w;
+                high = h;
+                allowed = p .allowed;
+                reference-below = p .reference-below;
+                shot-most = p .shot-most;
+                read-most = p .read-most;
+                strength-most = p .strength-most;
+                long = ap length (sym stored) ∙ same;
+                small = a .small;
+              };
+              text = burst-text a (taken-true (header .shape) w h);
+            } in
+            subst (λ (l : List ℕ). Holds file header l) (sym (front-is n samples part fits same ∙ stored)) holds

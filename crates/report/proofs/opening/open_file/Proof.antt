@@ -1,82 +1,121 @@
 -- `report::opening::open_file`: each end of the tests is one of the texts that both programs print.
+use mathlib.Core.Path.{_≡_, sym, ap, _∙_}
 use native.Mathlib.Omega.{arith}
-use mathlib.Core.Path.{sym, _∙_}
+use Prim.Native.Nat.{_≤_}
+use lib.ListN.{length}
+use lib.Seq.{length-take-le}
 use borrow.Author.Needs.{needs}
-use Rattle.report.proofs.Files.{long-text, refused-text, unread-text, wide-text, high-text, opens}
+use Rattle.burst_file.specs.declared.Head.{Head}
+use Rattle.burst_file.specs.declared.Head.the-variants.{Found, Refused}
+use Rattle.burst_file.specs.Head.{headOf}
+use Rattle.burst_file.specs.Scan.{headIn}
+use Rattle.report.specs.Opening.{room}
+use Rattle.report.proofs.Files.{Headed, headed, headed-few, long-text, refused-text, head-text, wide-text, high-text, opens}
 use Rattle.report.proofs.opening.open_file.Statement.{statement}
 use Rattle.report.proofs.opening.open_file.Tie as tie
 
 returns : tie.Need-returns
 returns c = long-text _ (c .if1 .taken)
 
+read-head-requires : tie.Need-read-head-requires
+read-head-requires c κs = search needs
+
+enum-known-number : tie.Need-enum-known-number
+enum-known-number c = search needs
+
+enum-known-header : tie.Need-enum-known-header
+enum-known-header c = search needs
+
+-- where the head is `head`
+told : (c : tie.After-read-head) (head : Head) → c .read-head .result ≡ head →
+    let file = c .before .before .before .before .args .file .now in
+    headIn file head ≡ headOf file
+told c head e = ap (headIn (c .before .before .before .before .args .file .now)) (sym e) ∙ c .read-head .ensures
+
+short : (c : tie.After-read-head) → length (c .before .before .before .before .args .file .now) ≤ 65536
+short c = c .before .if1 .left
+
 check-file-requires : tie.Need-check-file-requires
 check-file-requires c κs = search needs
 
 returns-2 : tie.Need-returns-2
-returns-2 c = refused-text _ (c .before .before .if1 .left) (c .before .check-file .ensures) (c .if2 .taken)
+returns-2 c = refused-text _ (short (c .before .before .before .before .before)) (c .before .check-file .ensures) (c .if2 .taken)
 
-read-any-requires : tie.Need-read-any-requires
-read-any-requires c κs = search needs
+-- the file check has accepted the file of this header
+accepted : (c : tie.Else2) → Headed (c .before .before .before .before .before .before .before .before .before .args .file .now) (c .before .before .before .header .given .0 .0)
+accepted c =
+    let at = c .before .before .before in
+    let g = at .header .given in
+    headed (sym (c .before .check-file .ensures) ∙ c .if2 .left) (told (at .before .before) (Found (g .0 .0) (g .0 .1 .0)) (g .1))
+
+still-short : (c : tie.Else2) → length (c .before .before .before .before .before .before .before .before .before .args .file .now) ≤ 65536
+still-short c = short (c .before .before .before .before .before)
+
+returns-3 : tie.Need-returns-3
+returns-3 c =
+    let checked = c .before .before .before in
+    wide-text _ (still-short checked) (accepted checked) (c .if3 .taken)
+
+returns-4 : tie.Need-returns-4
+returns-4 c =
+    let wide = c .before .before in
+    let checked = wide .before .before .before in
+    high-text _ (still-short checked) (accepted checked) (wide .if3 .left) (c .if4 .taken)
+
+-- the samples of the frames fit in those lent
+fits : (c : tie.After-struct-known3) →
+    let at = c .before .before .before .before .before .before .before .before .before in
+    room (at .header .given .0 .0 .shape .count) ≤ length (at .before .before .before .before .before .before .args .samples .now)
+fits c = omega (arith, headed-few (accepted (c .before .before .before .before .before .before)))
+
+mul-end : tie.Need-mul-end
+mul-end c = search (needs, headed-few (accepted (c .before .before .before .before .before .before)))
+
+slice-relend-prefix-read-file : tie.Need-slice-relend-prefix-read-file
+slice-relend-prefix-read-file c = fits c
+
+slice-aggregate-read-file : tie.Need-slice-aggregate-read-file
+slice-aggregate-read-file c = sym (length-take-le _ _ (fits (c .before)))
+
+read-file-requires : tie.Need-read-file-requires
+read-file-requires c κs = search needs
+
+returns-5 : tie.Need-returns-5
+returns-5 c =
+    let g = c .before .number .given in
+    let head = c .before .before .before in
+    head-text _ (short head) (told head (Refused (g .0 .0)) (g .1))
 
 same-length : tie.Need-same-length
 same-length c = search needs
 
-returns-3 : tie.Need-returns-3
-returns-3 c =
-    let read = c .before .before .before .before in
-    let checked = read .before .before in
-    unread-text _ (checked .before .before .if1 .left) (sym (checked .before .check-file .ensures) ∙ checked .if2 .left) (read .read-any .ensures .none (c .if3 .taken))
-
-same-length-2 : tie.Need-same-length-2
-same-length-2 c = search needs
-
-returns-4 : tie.Need-returns-4
-returns-4 c =
-    let accepted = c .before .before in
-    let read = accepted .before .before .before .before in
-    let z = accepted .if3 .left in
-    wide-text _ (read .before .before .before .before .if1 .left) (read .read-any .ensures .some z) z (c .if4 .taken)
-
-same-length-3 : tie.Need-same-length-3
-same-length-3 c = search needs
-
-returns-5 : tie.Need-returns-5
-returns-5 c =
-    let wide = c .before .before in
-    let accepted = wide .before .before in
-    let read = accepted .before .before .before .before in
-    let z = accepted .if3 .left in
-    high-text _ (read .before .before .before .before .if1 .left) (read .read-any .ensures .some z) z (wide .if4 .left) (c .if5 .taken)
-
-header-in-requires : tie.Need-header-in-requires
-header-in-requires c κs = search needs
-
-same-length-4 : tie.Need-same-length-4
-same-length-4 c = search needs
-
 returns-6 : tie.Need-returns-6
 returns-6 c =
-    let high = c .before in
+    let known = c .before .before .before .before in
+    let high = known .before in
     let wide = high .before .before in
-    let accepted = wide .before .before in
-    let read = accepted .before .before .before .before in
-    let z = accepted .if3 .left in
-    opens _ (read .before .before .before .before .if1 .left) (read .read-any .ensures .some z) z (omega (arith, read .read-any .ensures .same, read .before .before .before .before .before .before .before .pre)) (wide .if4 .left) (high .if5 .left) (c .header-in .ensures)
+    let checked = wide .before .before .before in
+    let at = checked .before .before .before in
+    let samples = at .before .before .before .before .before .before .args .samples .now in
+    let same = length-take-le (room (at .header .given .0 .0 .shape .count)) samples (fits known) in
+    opens _ (still-short checked) (accepted checked) (wide .if3 .left) samples (high .if4 .left) (fits known) (omega (arith, same)) (c .before .before .read-file .ensures)
 
 pub open-file-spec : {M : Type 1} → statement M
 open-file-spec =
     tie.close
     (tie.spec
     returns
+    read-head-requires
+    enum-known-number
+    enum-known-header
     check-file-requires
     returns-2
-    read-any-requires
-    same-length
     returns-3
-    same-length-2
     returns-4
-    same-length-3
+    mul-end
+    slice-relend-prefix-read-file
+    slice-aggregate-read-file
+    read-file-requires
     returns-5
-    header-in-requires
-    same-length-4
+    same-length
     returns-6)
