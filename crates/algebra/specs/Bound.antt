@@ -93,9 +93,6 @@ abs-shr : (z : ℤ) (m : ℕ) → natAbs (shrZ z m) ≤ natAbs z
 abs-shr (pos a) m = div-le-self a m
 abs-shr (negsuc a) m = omega (arith, div-le-self a m)
 
-pub most-more : {a b : ℕ} {z : ℤ} → a ≤ b → AtMost a z → AtMost b z
-most-more {a} {b} {z} l h = record { most = omega (arith, h .most) }
-
 pub negz-fits : (w : Width) (x : ℤ) (a : ℕ) → AtMost a x → T (ltb a (2 ^ hbits w)) → SFits w (negℤ x)
 negz-fits w x a h t = most-fits w (negℤ x) a (record { most = omega (arith, abs-neg x, h .most) }) t
 

@@ -43,7 +43,3 @@ module _ {l : List ℕ} {at : ℕ} where
         place = omega (arith, length-append a b);
         same = q .same ∙ p .same;
       }
-
--- what is printed from the front of a buffer is what then stands there
-pub printed-front : {l a r : List ℕ} {i : ℕ} → Printed l 0 a r i → take i r ≡ a
-printed-front {l} {a} {r} {i} p = ap₂ take (p .place) (p .text) ∙ take-put l 0 a (omega arith)

@@ -1,7 +1,6 @@
 pub mod Tab
 pub mod Write
 pub mod Sum
-pub mod SignedSum
 pub mod Least
 pub mod Clear
 pub mod Grid
