@@ -8,25 +8,15 @@ mod quads;
 mod two_way;
 
 ghost use mathlib.Core.Path.{_≡_};
-ghost use Prim.Native.Nat.{_/_, _%_, _≤_, _^_};
+ghost use Prim.Native.Nat.{_≤_, _^_};
 ghost use lib.IntN.{pos};
 ghost use Rattle.algebra.specs.Nearest.{away};
-ghost use Rattle.sequences.specs.Tab.{tab};
 ghost use Rattle.sequences.specs.Grid.{grid, cell};
 ghost use Rattle.transform.specs.Tables.{side16};
 ghost use Rattle.transform.specs.Recipe.{correctionAt};
 ghost use Rattle.transform.specs.Magnitudes.{differenceMost, quadMost, noiseMost, correctionMost};
 ghost use Rattle.transform.specs.Lines.{TileMost};
-ghost use Rattle.transform.specs.Spectrum.{
-  BinsOf,
-  BinsMost,
-  quadOf,
-  quadAt,
-  spread,
-  gainRe,
-  gainIm,
-  backSum,
-};
+ghost use Rattle.transform.specs.Spectrum.{BinsOf, BinsMost, spread, gainRe, gainIm, backSum};
 
 // B: the two-way transform of a tile of differences, in exact whole numbers. Line k holds place k of the rows' transforms, in halfcomplex form along the
 // columns.
@@ -38,22 +28,19 @@ pub fn forward(d: [[i32; 16]; 16]) -> [[i64; 16]; 16]
     two_way::columns(&a)
 }
 
-// Q and G: the bins in sixteenths, shrunk by the Wiener step at the noise number V. G is folded for the inverse, and held by quads.
-pub fn wiener(b: [[i64; 16]; 16], noise: u64) -> [[i64; 4]; 64]
+// Q and G: the bins in sixteenths, shrunk by the Wiener step at the noise number V, and folded.
+pub fn wiener(b: [[i64; 16]; 16], noise: u64) -> [[i64; 16]; 16]
     requires { ⌜ (BinsMost b) × (noise ≤ noiseMost) ⌝ }
-    ensures { λ r. ⌜ (r ≡ tab 64 (λ n. quadOf (spread (gainRe noise (cell (pos 0) b)) (gainIm noise (cell (pos 0) b))) (n / 8) (n % 8))) × (TileMost quadMost r) ⌝ }
+    ensures { λ r. ⌜ (r ≡ grid 16 16 (spread (gainRe noise (cell (pos 0) b)) (gainIm noise (cell (pos 0) b)))) × (TileMost quadMost r) ⌝ }
 {
-    let mut r = [[0i64; 4]; 64];
-    for n in 0..64 {
-        r[n] = quads::quad(&b, noise, n / 8, n % 8);
-    }
-    r
+    let q = quads::quads(&b, noise);
+    quads::lines(&q)
 }
 
-// P: the real part of the inverse sum of G, divided by 2^32.
-pub fn inverse(g: [[i64; 4]; 64]) -> [[i32; 16]; 16]
+// P: the real part of the inverse, divided by 2^32.
+pub fn inverse(g: [[i64; 16]; 16]) -> [[i32; 16]; 16]
     requires { ⌜ TileMost quadMost g ⌝ }
-    ensures { λ r. ⌜ r ≡ grid 16 16 (λ y x. away (backSum (quadAt g) y x) (2 ^ 32)) ⌝ }
+    ensures { λ r. ⌜ r ≡ grid 16 16 (λ y x. away (backSum (cell (pos 0) g) y x) (2 ^ 32)) ⌝ }
 {
     let a = two_way::columns_back(&g);
     two_way::rows_back(&a)

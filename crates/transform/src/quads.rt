@@ -2,16 +2,18 @@
 // what comes of them is folded for the inverse. The bins with v above 8 are conjugates of these.
 use crate::filter::filtered_part;
 ghost use mathlib.Core.Path.{_≡_};
-ghost use Prim.Native.Nat.{_+_, _≤_, _<_};
+ghost use Prim.Native.Nat.{_/_, _%_, _≤_, _<_};
 ghost use lib.IntN.{pos};
 ghost use Rattle.algebra.specs.Bound.{AtMost};
-ghost use Rattle.sequences.specs.Grid.{cell};
+ghost use Rattle.sequences.specs.Tab.{tab};
+ghost use Rattle.sequences.specs.Grid.{grid, cell};
 ghost use Rattle.transform.specs.Tables.{side16};
 ghost use Rattle.transform.specs.Recipe.{filtered};
 ghost use Rattle.transform.specs.Magnitudes.{binMost, gainMost, quadMost, noiseMost};
-ghost use Rattle.transform.specs.Lines.{LineMost};
+ghost use Rattle.transform.specs.Lines.{LineMost, TileMost};
 ghost use Rattle.transform.specs.Spectrum.{
   BinsMost,
+  quadAt,
   quadOf,
   foldedQuad,
   separateQuad,
@@ -108,4 +110,39 @@ pub fn quad(t: &[[i64; 16]; 16], noise: u64, v: usize, u: usize) -> [i64; 4]
         return left_quad(noise, a, b, c, d);
     }
     inner_quad(noise, a - d, c + b, a + d, b - c)
+}
+
+// All quads of the tile t.
+pub fn quads(t: &[[i64; 16]; 16], noise: u64) -> [[i64; 4]; 64]
+    requires { ⌜ (noise ≤ noiseMost) × (BinsMost (now t)) ⌝ }
+    ensures { λ r. ⌜ (r ≡ tab 64 (λ n. quadOf (spread (gainRe noise (cell (pos 0) (now (t .entry)))) (gainIm noise (cell (pos 0) (now (t .entry))))) (n / 8) (n % 8))) × (TileMost quadMost r) ⌝ }
+{
+    let mut r = [[0i64; 4]; 64];
+    for n in 0..64 {
+        r[n] = quad(t, noise, n / 8, n % 8);
+    }
+    r
+}
+
+// Line k of the folded spectrum that quads hold.
+fn line(q: &[[i64; 4]; 64], k: usize) -> [i64; 16]
+    requires { ⌜ k < 16 ⌝ }
+    ensures { λ r. ⌜ r ≡ tab 16 (quadAt (now (q .entry)) k) ⌝ }
+{
+    let mut r = [0i64; 16];
+    for b in 0..16 {
+        r[b] = q[8 * (k % 8) + b % 8][2 * (k / 8) + b / 8];
+    }
+    r
+}
+
+// Its lines.
+pub fn lines(q: &[[i64; 4]; 64]) -> [[i64; 16]; 16]
+    ensures { λ r. ⌜ r ≡ grid 16 16 (quadAt (now (q .entry))) ⌝ }
+{
+    let mut r = [[0i64; 16]; 16];
+    for k in 0..16 {
+        r[k] = line(q, k);
+    }
+    r
 }

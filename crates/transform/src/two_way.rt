@@ -10,7 +10,7 @@ ghost use Rattle.algebra.specs.Nearest.{away};
 ghost use Rattle.sequences.specs.Tab.{tab};
 ghost use Rattle.sequences.specs.Grid.{grid, cell};
 ghost use Rattle.transform.specs.Halfcomplex.{halfcomplex, backward};
-ghost use Rattle.transform.specs.Spectrum.{counted, quadAt};
+ghost use Rattle.transform.specs.Spectrum.{counted};
 ghost use Rattle.transform.specs.Magnitudes.{differenceMost, rowMost, quadMost, columnMost, sumMost};
 ghost use Rattle.transform.specs.Lines.{LineMost, TileMost};
 
@@ -62,27 +62,14 @@ pub fn columns(t: &[[i64; 16]; 16]) -> [[i64; 16]; 16]
     r
 }
 
-// Line k of a folded spectrum that is held by quads.
-fn folded(g: &[[i64; 4]; 64], k: usize) -> [i64; 16]
-    requires { ⌜ k < 16 ⌝ }
-    ensures { λ r. ⌜ r ≡ tab 16 (quadAt (now (g .entry)) k) ⌝ }
-{
-    let mut r = [0i64; 16];
-    for b in 0..16 {
-        r[b] = g[8 * (k % 8) + b % 8][2 * (k / 8) + b / 8];
-    }
-    r
-}
-
-// The sums back along each of its lines.
-pub fn columns_back(g: &[[i64; 4]; 64]) -> [[i64; 16]; 16]
+// The sums back along each line of a folded spectrum.
+pub fn columns_back(g: &[[i64; 16]; 16]) -> [[i64; 16]; 16]
     requires { ⌜ TileMost quadMost (now g) ⌝ }
-    ensures { λ r. ⌜ r ≡ grid 16 16 (λ k. backward (quadAt (now (g .entry)) k)) ⌝ }
+    ensures { λ r. ⌜ r ≡ grid 16 16 (λ k. backward (cell (pos 0) (now (g .entry)) k)) ⌝ }
 {
     let mut r = [[0i64; 16]; 16];
     for k in 0..16 {
-        let x = folded(g, k);
-        r[k] = backward::backward(&x);
+        r[k] = backward::backward(&g[k]);
     }
     r
 }

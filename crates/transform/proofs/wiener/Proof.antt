@@ -1,68 +1,30 @@
--- `transform::wiener`: the quads are stored one after the other.
-use mathlib.Core.Path.{refl, subst}
-use mathlib.Core.List.{[]}
-use Prim.Native.Nat.{ℕ, _-_, _/_, _%_, _<_, zero-le}
-use native.Mathlib.Omega.{arith}
+-- `transform::wiener`: the quads hold the folded G, and their lines are handed on.
+use mathlib.Core.Path.{_∙_, sym, subst}
 use borrow.Author.Needs.{needs}
-use borrow.Author.Count.{below-more}
 use lib.IntN.{pos}
-use Rattle.sequences.specs.Tab.{tab-each, Filled, fill-start, fill-turn, fill-done}
-use Rattle.sequences.specs.Grid.{cell}
-use Rattle.transform.specs.Lines.{LineMost}
+use Rattle.sequences.specs.Grid.{cell, grid-ext}
+use Rattle.transform.specs.Lines.{TileMost}
 use Rattle.transform.specs.Magnitudes.{quadMost}
-use Rattle.transform.specs.Spectrum.{quadOf, spread, gainRe, gainIm}
+use Rattle.transform.specs.Spectrum.{quadAt, spread, gainRe, gainIm}
+use Rattle.transform.proofs.Tiles.{cells-most, tile-most}
+use Rattle.transform.proofs.Spectra.{quad-at}
 use Rattle.transform.proofs.wiener.Statement.{statement}
 use Rattle.transform.proofs.wiener.Tie as tie
 
-abbrev Inv-loop : tie.InvT-loop
-Inv-loop noise b r₀ n₀ r n = (Filled (λ n. quadOf (spread (gainRe noise (cell (pos 0) b)) (gainIm noise (cell (pos 0) b))) (n / 8) (n % 8)) 64 n r₀ r) × ((k : ℕ) → k < n → LineMost quadMost (quadOf (spread (gainRe noise (cell (pos 0) b)) (gainIm noise (cell (pos 0) b))) (k / 8) (k % 8)))
+quads-requires : tie.Need-quads-requires
+quads-requires c κs = search needs
 
-abbrev μ-loop : tie.MeasureT-loop
-μ-loop noise b r₀ n₀ r n = 64 - n
+lines-requires : tie.Need-lines-requires
+lines-requires c κs = search needs
 
-loop-holds : tie.Need-loop-holds Inv-loop μ-loop
-loop-holds c = (fill-start refl, λ k h. absurd (omega arith))
-
-quad-requires : tie.Need-quad-requires Inv-loop μ-loop
-quad-requires c κs =
-    let s = c .before .before .before in
-    (s .pre .1, omega arith, omega arith, s .pre .0)
-
-mul-r : tie.Need-mul-r Inv-loop μ-loop
-mul-r c = search needs
-
-array-set-from-r : tie.Need-array-set-from-r Inv-loop μ-loop
-array-set-from-r c = search needs
-
-add-n : tie.Need-add-n Inv-loop μ-loop
-add-n c = search needs
-
-loop-less : tie.Need-loop-less Inv-loop μ-loop
-loop-less c = search needs
-
-loop-again : tie.Need-loop-again Inv-loop μ-loop
-loop-again c =
-    let l = c .before .before .before in
-    let e = c .quad .ensures .0 in
-    (fill-turn (l .loop .inv .0) (omega arith) e, below-more _ (l .loop .n) (l .loop .inv .1) (subst (LineMost quadMost) e (c .quad .ensures .1)))
-
-returns : tie.Need-returns Inv-loop μ-loop
+returns : tie.Need-returns
+unfolding quadAt
 returns c =
-    let l = c .before in
-    let e = fill-done (l .loop .inv .0) (omega arith) in
-    (e, rw e (record { line = tab-each (LineMost quadMost) [] _ (record { at = λ i. zero-le }) 64 (λ k h. l .loop .inv .1 k (omega arith)) }))
+    let q = c .before .before in
+    let s = q .before .before in
+    let b = cell (pos 0) (s .args .t1) in
+    let e = c .lines .ensures in
+    (e ∙ grid-ext 16 16 _ _ (quad-at (spread (gainRe (s .args .noise) b) (gainIm (s .args .noise) b)) (q .quads .ensures .0)), subst (TileMost quadMost) (sym e) (tile-most quadMost _ (λ k i. cells-most (q .quads .ensures .1) _ _)))
 
 pub wiener-spec : {M : Type 1} → statement M
-wiener-spec =
-    tie.close
-    (tie.spec
-    Inv-loop
-    μ-loop
-    loop-holds
-    quad-requires
-    mul-r
-    array-set-from-r
-    add-n
-    loop-less
-    loop-again
-    returns)
+wiener-spec = tie.close (tie.spec quads-requires lines-requires returns)

@@ -1,20 +1,18 @@
 -- `transform::two_way::columns_back`: the lines' sums are stored one after the other.
-use mathlib.Core.Path.{refl, _∙_}
-use Prim.Native.Nat.{_-_}
 use native.Mathlib.Omega.{arith}
 use borrow.Author.Needs.{needs}
+use mathlib.Core.Path.{refl}
+use Prim.Native.Nat.{_-_}
+use lib.IntN.{pos}
 use Rattle.sequences.specs.Tab.{tab, Filled, fill-start, fill-turn, fill-done}
-use Rattle.sequences.specs.Grid.{grid}
+use Rattle.sequences.specs.Grid.{grid, cell}
 use Rattle.transform.specs.Halfcomplex.{backward}
-use Rattle.transform.specs.Spectrum.{quadAt}
-use Rattle.transform.specs.Magnitudes.{quadMost}
-use Rattle.transform.proofs.Tiles.{line-most, line-more, cells-most}
-use Rattle.transform.proofs.Sums.{backward-line}
+use Rattle.transform.proofs.Tiles.{line-more}
 use Rattle.transform.proofs.two_way.columns_back.Statement.{statement}
 use Rattle.transform.proofs.two_way.columns_back.Tie as tie
 
 abbrev Inv-loop : tie.InvT-loop
-Inv-loop g r₀ k₀ r k = Filled (λ k. tab 16 (backward (quadAt g k))) 16 k r₀ r
+Inv-loop g r₀ k₀ r k = Filled (λ k. tab 16 (backward (cell (pos 0) g k))) 16 k r₀ r
 
 abbrev μ-loop : tie.MeasureT-loop
 μ-loop g r₀ k₀ r k = 16 - k
@@ -22,14 +20,16 @@ abbrev μ-loop : tie.MeasureT-loop
 loop-holds : tie.Need-loop-holds Inv-loop μ-loop
 loop-holds c = fill-start refl
 
-folded-requires : tie.Need-folded-requires Inv-loop μ-loop
-folded-requires c κs = search needs
+mul-backward : tie.Need-mul-backward Inv-loop μ-loop
+mul-backward c = search needs
+
+index-1-backward : tie.Need-index-1-backward Inv-loop μ-loop
+index-1-backward c = search needs
 
 backward-requires : tie.Need-backward-requires Inv-loop μ-loop
-unfolding quadAt
 backward-requires c κs =
-    let l = c .before .before .before in
-    rw (c .before .folded .ensures) (line-more (omega arith) (line-most quadMost _ (λ b. cells-most (l .before .pre) _ _) 16))
+    let l = c .before .before in
+    line-more (omega arith) (l .before .pre .line (l .loop .k))
 
 mul-r : tie.Need-mul-r Inv-loop μ-loop
 mul-r c = search needs
@@ -44,10 +44,8 @@ loop-less : tie.Need-loop-less Inv-loop μ-loop
 loop-less c = search needs
 
 loop-again : tie.Need-loop-again Inv-loop μ-loop
-loop-again c =
-    let x = c .before .before in
-    let l = x .before .before in
-    fill-turn (l .loop .inv) (omega arith) (c .backward .ensures ∙ backward-line _ (x .folded .ensures))
+unfolding cell
+loop-again c = fill-turn (c .before .before .before .loop .inv) (omega arith) (c .backward .ensures)
 
 returns : tie.Need-returns Inv-loop μ-loop
 unfolding grid
@@ -60,7 +58,8 @@ columns-back-spec =
     Inv-loop
     μ-loop
     loop-holds
-    folded-requires
+    mul-backward
+    index-1-backward
     backward-requires
     mul-r
     array-set-from-r

@@ -1,4 +1,4 @@
--- `transform::two_way::folded`: the places are stored one after the other, each from its quad.
+-- `transform::quads::line`: the places are stored one after the other, each from its quad.
 use mathlib.Core.List.{[]}
 use mathlib.Core.Path.{_≡_, refl}
 use Prim.Native.Nat.{_+_, _-_, _*_, _/_, _%_}
@@ -12,14 +12,14 @@ use mir.Syntax.{w64}
 use Rattle.sequences.specs.Grid.{cell}
 use Rattle.sequences.specs.Tab.{Filled, fill-start, fill-turn, fill-done}
 use Rattle.transform.specs.Spectrum.{quadAt}
-use Rattle.transform.proofs.two_way.folded.Statement.{statement}
-use Rattle.transform.proofs.two_way.folded.Tie as tie
+use Rattle.transform.proofs.quads.line.Statement.{statement}
+use Rattle.transform.proofs.quads.line.Tie as tie
 
 abbrev Inv-loop : tie.InvT-loop
-Inv-loop g k r₀ b₀ r b = Filled (quadAt g k) 16 b r₀ r
+Inv-loop q k r₀ b₀ r b = Filled (quadAt q k) 16 b r₀ r
 
 abbrev μ-loop : tie.MeasureT-loop
-μ-loop g k r₀ b₀ r b = 16 - b
+μ-loop q k r₀ b₀ r b = 16 - b
 
 loop-holds : tie.Need-loop-holds Inv-loop μ-loop
 loop-holds c = fill-start refl
@@ -66,15 +66,15 @@ loop-again c =
     let l = c .before .before in
     let k = l .before .args .k in
     let b = l .loop .b in
-    let z = getD (getD (now (l .before .args .g)) (8 * (k % 8) + b % 8) []) (2 * (k / 8) + b / 8) (pos 0) in
+    let z = getD (getD (now (l .before .args .q)) (8 * (k % 8) + b % 8) []) (2 * (k / 8) + b / 8) (pos 0) in
     let e : toZ w64 (ofZ w64 z) ≡ z = search needs in
     fill-turn (l .loop .inv) (omega arith) e
 
 returns : tie.Need-returns Inv-loop μ-loop
 returns c = fill-done (c .before .loop .inv) (omega arith)
 
-pub folded-spec : {M : Type 1} → statement M
-folded-spec =
+pub line-spec : {M : Type 1} → statement M
+line-spec =
     tie.close
     (tie.spec
     Inv-loop
