@@ -1,21 +1,23 @@
 -- How a loop over all samples, or all vectors, decides refusal 11, or 12.
-use mathlib.Core.Path.{_≡_, sym, ap, _∙_}
-use mathlib.Core.Bool.{Bool, true}
+use mathlib.Core.Path.{_≡_, refl, sym, ap, _∙_}
+use mathlib.Core.Bool.{Bool, true, _||_}
 use mathlib.Core.List.{List}
-use Prim.Native.Nat.{ℕ, _+_, _*_, _≤_, _<_}
-use native.Mathlib.Nat.{mul-assoc, mul-comm}
+use Prim.Native.Nat.{ℕ, zero, suc, _+_, _*_, _/_, _%_, _≤_, _<_}
+use native.Mathlib.Nat.{mul-assoc, mul-comm, mul-mod-left}
+use native.Mathlib.Decide.{decLt}
 use native.Mathlib.Omega.{arith}
-use borrow.Author.Tests.{ltb-false}
+use borrow.Author.Tests.{ltb-false, lt-ltb, le-ltb}
 use lib.Dec.{ltb}
 use lib.IntN.{ℤ, pos, natAbs}
 use lib.ListN.{length, getD}
+use Rattle.algebra.specs.Sums.{sumN}
 use Rattle.geometry.specs.declared.Shape.{Shape}
 use Rattle.geometry.specs.Refusal.{refuse}
 use Rattle.geometry.specs.RefusalLaws.{refuse-not}
 use Rattle.geometry.specs.Shape.{sampleLength}
 use Rattle.geometry.specs.Read.{Sampled, sampleIndex, sampleAt}
-use Rattle.geometry.specs.Bounds.{some, sampleRefusal, SamplesFit, vectorRefusal, VectorsFit}
-use Rattle.geometry.specs.SomeLaws.{some-rows, one, none, Passed, pass-done, every}
+use Rattle.geometry.specs.Bounds.{some, sampleRefusal, SamplesFit, excess, vectorRefusal, VectorsFit}
+use Rattle.geometry.specs.SomeLaws.{or-false, or-true, some-rows, one, one-of, none, Passed, pass-turns, pass-done, every}
 
 -- a sample's test, by its place in the list
 unfoldable pub above : List ℕ → ℕ → Bool
@@ -31,9 +33,36 @@ flat {s} {samples} h =
     ∙ some-rows (s .count * s .height) (s .width) (above samples)
     ∙ ap (λ n. some n (above samples)) all)
 
+-- the test of n samples, as a sum that is 0 where each passes
+above-sum : (n : ℕ) (f : ℕ → ℕ) → some n (λ k. ltb 4095 (f k)) ≡ ltb 0 (sumN n (λ k. f k / 4096))
+unfolding some sumN
+above-sum zero f = refl
+above-sum (suc n) f = rw (above-sum n f) (more (sumN n (λ k. f k / 4096)) (f n) (decLt 4095 (f n)))
+  where
+    more : (a x : ℕ) → Dec (4095 < x) → ltb 0 a || ltb 4095 x ≡ ltb 0 (a + x / 4096)
+    more a x (yes p) = rw (lt-ltb 4095 x p, lt-ltb 0 (a + x / 4096) (omega arith), or-true)
+    more a x (no p) = let none : a + x / 4096 ≡ a = omega arith in rw (le-ltb 4095 x (omega arith), or-false, none)
+
+module _ (samples : List ℕ) (i : ℕ) (h : i + 64 ≤ length samples) where
+  pub block-above : 0 < excess samples i → some (length samples) (above samples) ≡ true
+  unfolding above excess
+  block-above l = one-of (length samples) (above samples) i 64 h (above-sum 64 (λ k. getD samples (i + k) 0) ∙ lt-ltb 0 (excess samples i) l)
+
+  pub block-passed : excess samples i ≤ 0 → Passed (above samples) (length samples) i → Passed (above samples) (length samples) (i + 64)
+  unfolding above excess
+  block-passed l p = pass-turns p 64 h (above-sum 64 (λ k. getD samples (i + k) 0) ∙ le-ltb 0 (excess samples i) l)
+
 module _ {s : Shape} {samples : List ℕ} (h : Sampled s samples) where
-  pub samples-refused : (k : ℕ) → k < length samples → above samples k ≡ true → 11 ≡ sampleRefusal s samples
-  samples-refused k l e = rw (flat h, one (length samples) (above samples) k l e)
+  -- all samples stand in blocks of 64
+  pub samples-whole : length samples % 64 ≡ 0
+  unfolding sampleLength
+  samples-whole = rw (h .long) (times (s .count) (s .width * s .height) (times (s .width) (s .height) (h .allowed .high .whole)))
+    where
+      times : (a b : ℕ) → b % 64 ≡ 0 → a * b % 64 ≡ 0
+      times a b e = let parts : b ≡ b / 64 * 64 = omega arith in ap (λ n. a * n % 64) parts ∙ ap (λ n. n % 64) (sym (mul-assoc a (b / 64) 64)) ∙ mul-mod-left (a * (b / 64)) 64
+
+  pub samples-refused : some (length samples) (above samples) ≡ true → 11 ≡ sampleRefusal s samples
+  samples-refused e = rw (flat h, e)
 
   pub samples-accepted : {i : ℕ} → Passed (above samples) (length samples) i → length samples ≤ i → 0 ≡ sampleRefusal s samples
   samples-accepted p l = rw (flat h, pass-done p l)

@@ -1,10 +1,11 @@
 -- Refusals 11 and 12: tests of what the lent samples and vectors hold.
 use mathlib.Core.Bool.{Bool, false, _||_}
 use mathlib.Core.List.{List}
-use Prim.Native.Nat.{ℕ, zero, suc, _≤_}
+use Prim.Native.Nat.{ℕ, zero, suc, _+_, _/_, _≤_}
 use lib.Dec.{ltb}
 use lib.IntN.{ℤ, pos, natAbs}
 use lib.ListN.{length, getD}
+use Rattle.algebra.specs.Sums.{sumN}
 use Rattle.geometry.specs.declared.Shape.{Shape}
 use Rattle.geometry.specs.Refusal.{refuse}
 use Rattle.geometry.specs.Read.{sampleAt}
@@ -22,6 +23,10 @@ sampleRefusal s samples =
 -- what is known of samples that it lets through
 pub record SamplesFit (samples : List ℕ) : Type 0 where
   pub most : (k : ℕ) → getD samples k 0 ≤ 4095
+
+-- its test of the 64 samples from i on, as a sum: 0 exactly where none is above 4095 (`block-above`, `block-passed`)
+unfoldable pub excess : List ℕ → ℕ → ℕ
+excess samples i = sumN 64 (λ k. getD samples (i + k) 0 / 4096)
 
 -- refusal 12: "vector part outside −172..172"
 unfoldable pub vectorRefusal : List ℤ → ℕ

@@ -2,7 +2,7 @@
 use mathlib.Core.Path.{_≡_, refl, sym, ap, _∙_}
 use mathlib.Core.Bool.{Bool, true, false, _||_}
 use mathlib.Core.List.{List}
-use Prim.Native.Nat.{ℕ, zero, suc, _+_, _*_, _≤_, _<_}
+use Prim.Native.Nat.{ℕ, zero, suc, _+_, _-_, _*_, _≤_, _<_}
 use native.Mathlib.Nat.{add-zero, add-suc, zero-mul, suc-mul}
 use native.Mathlib.Numerals.{add-one}
 use native.Mathlib.Decide.{decLt, ℕ-discrete}
@@ -10,11 +10,11 @@ use native.Mathlib.Omega.{arith}
 use lib.ListN.{length, getD, List·getD-eq-default}
 use Rattle.geometry.specs.Bounds.{some}
 
-or-false : (a : Bool) → a || false ≡ a
+pub or-false : (a : Bool) → a || false ≡ a
 or-false true = refl
 or-false false = refl
 
-or-true : (a : Bool) → a || true ≡ true
+pub or-true : (a : Bool) → a || true ≡ true
 or-true true = refl
 or-true false = refl
 
@@ -42,6 +42,13 @@ one (suc n) f i h e = last (λ l. one n f i l e) (ℕ-discrete i n)
     last before (yes p) = rw (ap f (sym p) ∙ e, or-true)
     last before (no p) = rw (before (omega arith))
 
+-- one of m from i on
+pub one-of : (n : ℕ) (f : ℕ → Bool) (i m : ℕ) → i + m ≤ n → some m (λ j. f (i + j)) ≡ true → some n f ≡ true
+one-of n f i m h e =
+    let all : n ≡ i + m + (n - (i + m)) = omega arith in
+    let hit : some (i + m) f ≡ true = some-add i m f ∙ ap (λ b. some i f || b) e ∙ or-true (some i f) in
+    ap (λ k. some k f) all ∙ some-add (i + m) (n - (i + m)) f ∙ rw hit
+
 pub none : (n : ℕ) (f : ℕ → Bool) → some n f ≡ false → (i : ℕ) → i < n → f i ≡ false
 none n f e i h = decide (f i) (one n f i h)
   where
@@ -62,6 +69,10 @@ module _ {f : ℕ → Bool} {n : ℕ} where
   pub pass-turn : {i : ℕ} → Passed f n i → i < n → f i ≡ false → Passed f n (i + 1)
   unfolding some
   pass-turn {i} p h e = record { count = omega arith; past = rw (add-one i, p .past) e }
+
+  -- a turn that passes m
+  pub pass-turns : {i : ℕ} → Passed f n i → (m : ℕ) → i + m ≤ n → some m (λ j. f (i + j)) ≡ false → Passed f n (i + m)
+  pass-turns {i} p m h e = record { count = h; past = rw (some-add i m f, p .past) e }
 
   pub pass-done : {i : ℕ} → Passed f n i → n ≤ i → some n f ≡ false
   pass-done {i} p h = let all : n ≡ i = omega arith in rw all (p .past)

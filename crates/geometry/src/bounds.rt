@@ -1,8 +1,22 @@
 // What the lent samples and vectors hold: refusals 11 and 12.
 ghost use mathlib.Core.Path.{_≡_};
+ghost use Prim.Native.Nat.{_+_, _≤_};
+ghost use lib.ListN.{length};
 ghost use Rattle.geometry.specs.Read.{Sampled};
-ghost use Rattle.geometry.specs.Bounds.{sampleRefusal, SamplesFit, vectorRefusal, VectorsFit};
+ghost use Rattle.geometry.specs.Bounds.{sampleRefusal, SamplesFit, excess, vectorRefusal, VectorsFit};
 use crate::Shape;
+
+// 0 where none of the 64 samples from `at` on is above 4095. A sum without branches becomes vector instructions.
+fn excess(samples: &[u16], at: usize) -> u16
+    requires { ⌜ at + 64 ≤ length (now samples) ⌝ }
+    ensures { λ r. ⌜ r ≡ excess (now (samples .entry)) at ⌝ }
+{
+    let mut sum: u16 = 0;
+    for k in 0..64 {
+        sum += samples[at + k] / 4096;
+    }
+    sum
+}
 
 // Refusal 11.
 pub fn sample_refusal(shape: Shape, samples: &[u16]) -> u64
@@ -11,10 +25,10 @@ pub fn sample_refusal(shape: Shape, samples: &[u16]) -> u64
 {
     let mut i = 0;
     while i < samples.len() {
-        if samples[i] > 4095 {
+        if excess(samples, i) > 0 {
             return 11;
         }
-        i += 1;
+        i += 64;
     }
     0
 }
