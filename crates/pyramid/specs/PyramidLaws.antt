@@ -1,11 +1,12 @@
 -- What follows of the pyramid's definitions: halving reads inside the image only, and keeps its bound.
-use mathlib.Core.Path.{_≡_, ap}
-use Prim.Native.Nat.{ℕ, _+_, _*_, _/_, _≤_, _<_}
+use mathlib.Core.Path.{_≡_, sym, ap}
+use Prim.Native.Nat.{ℕ, zero, suc, _+_, _-_, _*_, _/_, _≤_, _<_, min}
 use native.Mathlib.Omega.{arith}
-use lib.IntN.{ℤ}
+use lib.IntN.{ℤ, pos, _-ℤ_}
+use Rattle.algebra.specs.Order.{zarith, sub-pn, min-pn}
 use Rattle.geometry.specs.Read.{Image, inside, read}
 use Rattle.geometry.specs.ReadLaws.{inside-below}
-use Rattle.pyramid.specs.Pyramid.{bayerSum, tap, weighted, halved}
+use Rattle.pyramid.specs.Pyramid.{bayerSum, tap, weighted, columnSum, halved}
 
 -- equal values at the four places, equal weighted sums
 weighted-agree : (p : ℕ) (f g : ℤ → ℕ) → ((z : ℤ) → f z ≡ g z) → weighted p f ≡ weighted p g
@@ -43,6 +44,27 @@ module _ (height width : ℕ) (high : 0 < height) (wide : 0 < width) where
             (λ y. weighted-most column b _
             (λ x. h (inside height y) (inside width x) (inside-below height y high) (inside-below width x wide))),
       )
+
+  -- a column's weighted sum is at most eight times what these are
+  pub column-most : (b : ℕ) (image : Image) → ((row column : ℕ) → row < height → column < width → image row column ≤ b)
+      → (row column : ℕ) → column < width → columnSum height image row column ≤ 8 * b
+  unfolding columnSum
+  column-most b image h row column k = weighted-most row b _ (λ y. h (inside height y) column (inside-below height y high) k)
+
+-- the halving by columns first
+pub halved-columns : (height width : ℕ) (image : Image) (row column : ℕ)
+    → (weighted column (λ x. columnSum height image row (inside width x)) + 32) / 64 ≡ halved height width image row column
+unfolding halved read columnSum weighted
+halved-columns height width image row column = omega arith
+
+-- which place is read at 2p−1..2p+2
+pub inside-tap : (size p k : ℕ) → inside size (tap p k) ≡ min (2 * p + k - 1) (size - 1)
+unfolding tap inside
+inside-tap size p k = at (2 * p + k)
+  where
+    at : (q : ℕ) → inside size (pos q -ℤ pos 1) ≡ min (q - 1) (size - 1)
+    at zero = omega arith
+    at (suc q) = let e : pos (suc q - 1) ≡ pos (suc q) -ℤ pos 1 = omega (zarith, sub-pn (pos (suc q)) (pos 1), min-pn (pos (suc q) -ℤ pos 1)) in sym (ap (inside size) e)
 
 pub bayer-most : (b : ℕ) (height width : ℕ) (frame : Image) → ((row column : ℕ) → row < 2 * height → column < 2 * width → frame row column ≤ b)
     → (row column : ℕ) → row < height → column < width → bayerSum frame row column ≤ 4 * b

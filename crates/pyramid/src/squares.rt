@@ -12,15 +12,15 @@ use geometry::Shape;
 use geometry::read::sample_at;
 
 // A sample of a frame.
-fn sample(shape: Shape, frame: usize, samples: &[u16], row: usize, column: usize) -> u64
+fn sample(shape: Shape, frame: usize, samples: &[u16], row: usize, column: usize) -> u16
     requires { ⌜ (Frame shape frame (now samples)) × (row < shape .height) × (column < shape .width) ⌝ }
     ensures { λ r. ⌜ (r ≡ sampleAt shape (now (samples .entry)) frame row column) × (r ≤ 4095) ⌝ }
 {
-    sample_at(shape, samples, frame, row, column) as u64
+    sample_at(shape, samples, frame, row, column)
 }
 
 // The sum of a 2 by 2 Bayer square.
-fn square_sum(shape: Shape, frame: usize, samples: &[u16], row: usize, column: usize) -> u64
+fn square_sum(shape: Shape, frame: usize, samples: &[u16], row: usize, column: usize) -> u16
     requires { ⌜ (Frame shape frame (now samples)) × (row < shape .height / 2) × (column < shape .width / 2) ⌝ }
     ensures { λ r. ⌜ (r ≡ bayerSum (sampleAt shape (now (samples .entry)) frame) row column) × (r ≤ 16380) ⌝ }
 {

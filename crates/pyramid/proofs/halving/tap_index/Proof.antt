@@ -6,19 +6,14 @@ use mir.Facts.{toZ-ofZ}
 use mir.ValLaws.{toZ-pos}
 use Rattle.algebra.specs.Bound.{sub-fits, lit-most}
 use lib.IntN.{pos, _-ℤ_}
-use Rattle.algebra.specs.Order.{zarith, sub-pn, min-pn}
-use Rattle.geometry.specs.Read.{inside}
-use Rattle.geometry.specs.ReadLaws.{inside-same}
 use Rattle.pyramid.specs.Pyramid.{tap}
+use Rattle.pyramid.specs.PyramidLaws.{inside-tap}
 use native.Mathlib.Omega.{arith}
-use mathlib.Core.Path.{_≡_, sym, ap, _∙_}
-use Prim.Native.Nat.{ℕ, _+_, _-_, _*_, _≤_, _<_, _^_}
+use mathlib.Core.Path.{_≡_}
+use Prim.Native.Nat.{ℕ, _+_, _*_, _≤_, _^_}
 use borrow.Author.Needs.{needs}
 use Rattle.pyramid.proofs.halving.tap_index.Statement.{statement}
 use Rattle.pyramid.proofs.halving.tap_index.Tie as tie
-
-minus-one : (q : ℕ) → 0 < q → pos (q - 1) ≡ pos q -ℤ pos 1
-minus-one q h = omega (zarith, sub-pn (pos q) (pos 1), min-pn (pos q -ℤ pos 1))
 
 place-fits : (q : ℕ) → q ≤ 2 ^ 32 → SFits w64 (pos q -ℤ pos 1)
 place-fits q h = sub-fits w64 (pos q) (pos 1) (2 ^ 32) 1 (record { most = h }) (lit-most 1) tt
@@ -33,8 +28,7 @@ add-q : tie.Need-add-q
 add-q c = search needs
 
 returns : tie.Need-returns
-unfolding tap
-returns c = let a = c .before .before .args in (sym (ap (inside (a .size)) (sym (minus-one (2 * a .p + a .k) (omega arith))) ∙ inside-same (a .size) (2 * a .p + a .k - 1) (omega (arith, leb-true))), omega (arith, leb-true))
+returns c = let a = c .before .before .args in (omega (arith, leb-true, inside-tap (a .size) (a .p) (a .k)), omega (arith, leb-true))
 
 cast-inside : tie.Need-cast-inside
 cast-inside c = search needs

@@ -1,7 +1,10 @@
--- The index is below the width, so its word is one of the row's.
-use Rattle.pyramid.specs.Words.{wordAt}
+-- The row is inside the image, so its words are values.
+use Rattle.geometry.specs.Read.{inside}
+use Rattle.pyramid.specs.Words.{imageAt, wordAt, Row}
+use Rattle.pyramid.specs.WordsLaws.{row-held}
+use native.Mathlib.Omega.{arith}
 use mathlib.Core.Path.{ap, _∙_}
-use Prim.Native.Nat.{ℕ, _+_}
+use Prim.Native.Nat.{ℕ, _+_, _*_}
 use borrow.Author.Needs.{needs}
 use Rattle.pyramid.proofs.halving.tap_value.Statement.{statement}
 use Rattle.pyramid.proofs.halving.tap_value.Tie as tie
@@ -9,14 +12,27 @@ use Rattle.pyramid.proofs.halving.tap_value.Tie as tie
 tap-index-requires : tie.Need-tap-index-requires
 tap-index-requires c κs = search needs
 
-add-i : tie.Need-add-i
-add-i c = search needs
+row : (c : tie.After-tap-index) → Row (c .before .args .work .now) (c .before .args .from + c .tap-index .result * c .before .args .width) (c .before .args .width)
+row c = row-held (c .tap-index .result) (c .before .pre .0 .holds) (c .tap-index .ensures .1)
+
+mul-word : tie.Need-mul-word
+mul-word c = let r = row c in omega arith
+
+add-word : tie.Need-add-word
+add-word c = let r = row c in omega arith
+
+add-word-2 : tie.Need-add-word-2
+add-word-2 c = let r = row c in omega arith
 
 word-requires : tie.Need-word-requires
-word-requires c κs = c .before .pre .0 .held (c .tap-index .result) (c .tap-index .ensures .1)
+word-requires c κs = row c .held (c .before .args .column) (omega arith)
 
 returns : tie.Need-returns
-returns c = (c .word .ensures .0 ∙ ap (λ (i : ℕ). wordAt (c .before .before .args .work .now) (c .before .before .args .start + i)) (c .before .tap-index .ensures .0), c .word .ensures .1)
+unfolding imageAt
+returns c =
+    let a = c .before .before .args in
+    (c .word .ensures .0 ∙ ap (λ (y : ℕ). wordAt (a .work .now) (a .from + y * a .width + a .column)) (c .before .tap-index .ensures .0), c .word .ensures .1)
 
 pub tap-value-spec : {M : Type 1} → statement M
-tap-value-spec = tie.close (tie.spec tap-index-requires add-i word-requires returns)
+tap-value-spec =
+    tie.close (tie.spec tap-index-requires mul-word add-word add-word-2 word-requires returns)

@@ -7,11 +7,8 @@ use Rattle.pyramid.proofs.squares.sample.Tie as tie
 sample-at-requires : tie.Need-sample-at-requires
 sample-at-requires c κs = search needs
 
-cast-result : tie.Need-cast-result
-cast-result c = search needs
-
 returns : tie.Need-returns
 returns c = let s = c .before .before in (c .sample-at .ensures, omega (arith, c .sample-at .ensures, s .pre .0 .most (s .args .row) (s .args .column) (omega arith) (omega arith)))
 
 pub sample-spec : {M : Type 1} → statement M
-sample-spec = tie.close (tie.spec sample-at-requires cast-result returns)
+sample-spec = tie.close (tie.spec sample-at-requires returns)

@@ -1,8 +1,8 @@
--- The four values, weighed, are the weighted sum by definition.
-use Rattle.pyramid.specs.Pyramid.{weighted}
+-- The four values, weighed, are the column's sum by definition.
+use Rattle.pyramid.specs.Pyramid.{weighted, columnSum}
 use borrow.Author.Needs.{needs}
-use Rattle.pyramid.proofs.halving.row_sum.Statement.{statement}
-use Rattle.pyramid.proofs.halving.row_sum.Tie as tie
+use Rattle.pyramid.proofs.halving.column_sum.Statement.{statement}
+use Rattle.pyramid.proofs.halving.column_sum.Tie as tie
 
 tap-value-requires : tie.Need-tap-value-requires
 tap-value-requires c κs = search needs
@@ -20,11 +20,11 @@ weigh-requires : tie.Need-weigh-requires
 weigh-requires c κs = search needs
 
 returns : tie.Need-returns
-unfolding weighted
+unfolding columnSum weighted
 returns c = search needs
 
-pub row-sum-spec : {M : Type 1} → statement M
-row-sum-spec =
+pub column-sum-spec : {M : Type 1} → statement M
+column-sum-spec =
     tie.close
     (tie.spec
     tap-value-requires
