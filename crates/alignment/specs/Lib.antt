@@ -12,8 +12,10 @@ pub mod Frames
 pub mod PlaceLaws
 pub mod SignedLaws
 pub mod WordLaws
+pub mod SumLaws
 pub mod Local
 pub mod SixteenLaws
+pub mod BoxLaws
 pub mod LocalLaws
 pub mod Stored
 pub mod StoredLaws

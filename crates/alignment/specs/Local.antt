@@ -2,14 +2,15 @@
 use mathlib.Core.Bool.{Bool}
 use mathlib.Core.List.{List}
 use mathlib.Core.Path.{_≡_}
-use Prim.Native.Nat.{ℕ, _+_, _*_, _≤_, _<_}
+use Prim.Native.Nat.{ℕ, _+_, _-_, _*_, _/_, _%_, _≤_, _<_}
 use lib.IntN.{ℤ, pos, _+ℤ_}
 use lib.ListN.{length, getD}
 use Rattle.algebra.specs.Sums.{sumN}
 use Rattle.sequences.specs.Least.{firstMin}
+use Rattle.sequences.specs.Tab.{tab}
 use Rattle.alignment.specs.declared.search.Best.{Best}
 use Rattle.alignment.specs.Offsets.{downs, rights}
-use Rattle.alignment.specs.Residual.{gap, difference}
+use Rattle.alignment.specs.Residual.{difference}
 
 -- the sum of differences of `side` samples, those of the tile from `a` on and of the window from `b` on
 unfoldable pub rowSum : (squared : Bool) → (tile window : List ℕ) → (a b side : ℕ) → ℕ
@@ -24,10 +25,41 @@ pub record Low (l : List ℕ) (n : ℕ) : Type 0 where
   pub room : n ≤ length l
   pub most : (k : ℕ) → k < n → getD l k 0 ≤ 16380
 
--- the sum of the distances of four samples one under the other, those of a tile of side 16 from `a` on and of the window from `b` on
-abbrev pub columnSum : (tile window : List ℕ) → (a b stride : ℕ) → ℕ
-columnSum tile window a b stride =
-    gap (getD tile a 0) (getD window b 0) + gap (getD tile (a + 16) 0) (getD window (b + stride) 0) + gap (getD tile (a + 32) 0) (getD window (b + 2 * stride) 0) + gap (getD tile (a + 48) 0) (getD window (b + 3 * stride) 0)
+-- by how much a sample of the window is above the tile's
+abbrev pub over : ℕ → ℕ → ℕ
+over t w = w - t
+
+-- the sum of f over four pairs of samples one under the other, those of a tile of side 16 from `a` on and of the window from `b` on
+abbrev pub columnSum : (f : ℕ → ℕ → ℕ) → (tile window : List ℕ) → (a b stride : ℕ) → ℕ
+columnSum f tile window a b stride =
+    f (getD tile a 0) (getD window b 0) + f (getD tile (a + 16) 0) (getD window (b + stride) 0) + f (getD tile (a + 32) 0) (getD window (b + 2 * stride) 0) + f (getD tile (a + 48) 0) (getD window (b + 3 * stride) 0)
+
+-- the sum of f over all pairs of a tile of side 16 and the window from `start` on
+unfoldable pub pairSum : (f : ℕ → ℕ → ℕ) → (tile window : List ℕ) → (start stride : ℕ) → ℕ
+pairSum f tile window start stride = sumN 16 (λ i. sumN 16 (λ j. f (getD tile (i * 16 + j) 0) (getD window (start + i * stride + j) 0)))
+
+-- the sum of 16 samples one under the other, of a window of side 24 from `at` on
+unfoldable pub tallSum : (window : List ℕ) → (at : ℕ) → ℕ
+tallSum window at = sumN 16 (λ i. getD window (24 * i + at) 0)
+
+-- the sum of its square of side 16 from `at` on
+unfoldable pub boxSum : (window : List ℕ) → (at : ℕ) → ℕ
+boxSum window at = sumN 16 (λ j. tallSum window (at + j))
+
+-- the square number n of the 81, nine to a row
+abbrev pub boxOf : (window : List ℕ) → (n : ℕ) → ℕ
+boxOf window n = boxSum window (24 * (n / 9) + n % 9)
+
+abbrev pub boxSums : (window : List ℕ) → List ℕ
+boxSums window = tab 81 (boxOf window)
+
+-- the sums of the columns that start in row y
+abbrev pub tallSums : (window : List ℕ) → (y : ℕ) → List ℕ
+tallSums window y = tab 24 (λ x. tallSum window (24 * y + x))
+
+-- the sum of 16 of them from x on
+abbrev pub wideSum : (sums : List ℕ) → (x : ℕ) → ℕ
+wideSum sums x = sumN 16 (λ j. getD sums (x + j) 0)
 
 -- such a window lies within its array
 pub record Inside (tile window : List ℕ) (start stride side : ℕ) : Type 0 where

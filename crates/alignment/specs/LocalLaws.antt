@@ -1,5 +1,5 @@
 -- What is found in local arrays is what the definitions say of the images that were copied there.
-use mathlib.Core.Path.{_≡_, refl, ap, ap₂, _∙_}
+use mathlib.Core.Path.{_≡_, refl, ap, ap₂, _∙_, subst}
 use mathlib.Core.Bool.{Bool}
 use mathlib.Core.List.{List}
 use Prim.Native.Nat.{ℕ, _+_, _*_, _≤_, _<_}
@@ -19,7 +19,7 @@ use Rattle.alignment.specs.OffsetLaws.{parts-most}
 use Rattle.alignment.specs.PlaceLaws.{row-below}
 use Rattle.alignment.specs.Residual.{difference, Pair, rowResidual, residual}
 use Rattle.alignment.specs.Search.{tried, chosen, found}
-use Rattle.alignment.specs.FirstLaws.{firstMin-cong}
+use Rattle.alignment.specs.FirstLaws.{firstMin-most, firstMin-cong, Lowest, lowest-done}
 use Rattle.alignment.specs.declared.search.Best.{Best}
 use Rattle.alignment.specs.Local.{rowSum, squareSum, Inside, windowSum, Window, Searched, Copied}
 
@@ -77,10 +77,21 @@ window-tried squared p t guess tile window copied seen k h =
     (omega (arith, parts-most k h .0)) (omega (arith, parts-most k h .1)) refl
     (biased (t .origin .down) (guess .down) (pos (getD downs k 0))) (biased (t .origin .right) (guess .right) (pos (getD rights k 0)))
 
--- a square of the other image at the tile moved by v
-pub moved-residual : (squared : Bool) (p : Pair) (t : Tile) (v : Vector) (tile moved : List ℕ) (row column : ℤ) → Copied tile (t .side) (t .side) (p .reference) (t .origin .down) (t .origin .right) → Copied moved (t .side) (t .side) (p .other) row column → row ≡ t .origin .down +ℤ v .down → column ≡ t .origin .right +ℤ v .right → squareSum squared tile moved 0 (t .side) (t .side) ≡ residual squared p t v
-moved-residual squared p t v tile moved row column copied seen down right =
-    square-residual squared p t v tile moved 0 (t .side) 0 0 row column copied seen (omega arith) (omega arith) (omega arith) (+ℤ-idr row ∙ down) (+ℤ-idr column ∙ right)
+-- a square of the other image at the tile moved by v, of side n
+pub moved-residual : (squared : Bool) (p : Pair) (t : Tile) (v : Vector) (tile moved : List ℕ) (row column : ℤ) (n : ℕ) → t .side ≡ n → Copied tile (t .side) (t .side) (p .reference) (t .origin .down) (t .origin .right) → Copied moved n n (p .other) row column → row ≡ t .origin .down +ℤ v .down → column ≡ t .origin .right +ℤ v .right → squareSum squared tile moved 0 n n ≡ residual squared p t v
+moved-residual squared p t v tile moved row column n e copied seen down right =
+    subst (λ n. Copied moved n n (p .other) row column → squareSum squared tile moved 0 n n ≡ residual squared p t v) e
+    (λ seen. square-residual squared p t v tile moved 0 (t .side) 0 0 row column copied seen (omega arith) (omega arith) (omega arith) (+ℤ-idr row ∙ down) (+ℤ-idr column ∙ right))
+    seen
+
+middle : (r g : ℤ) → r +ℤ g +ℤ negsuc 3 +ℤ pos 4 ≡ r +ℤ g
+middle r g = omega (zarith, add-pn (r +ℤ g +ℤ negsuc 3) (pos 4), add-pn (r +ℤ g) (negsuc 3))
+
+-- the middle of such a window is the square at the tile moved by the guess
+pub middle-residual : (squared : Bool) (p : Pair) (t : Tile) (guess : Vector) (tile window : List ℕ) → Copied tile (t .side) (t .side) (p .reference) (t .origin .down) (t .origin .right) → Copied window (t .side + 8) (t .side + 8) (p .other) (t .origin .down +ℤ guess .down +ℤ negsuc 3) (t .origin .right +ℤ guess .right +ℤ negsuc 3) → squareSum squared tile window (4 * (t .side + 8) + 4) (t .side + 8) (t .side) ≡ residual squared p t guess
+middle-residual squared p t guess tile window copied seen =
+    square-residual squared p t guess tile window (4 * (t .side + 8) + 4) (t .side + 8) 4 4 (t .origin .down +ℤ guess .down +ℤ negsuc 3) (t .origin .right +ℤ guess .right +ℤ negsuc 3) copied seen
+    (omega arith) (omega arith) refl (middle (t .origin .down) (guess .down)) (middle (t .origin .right) (guess .right))
 
 -- the first least sum in the window is what the search finds
 pub searched-finds : (squared : Bool) (p : Pair) (t : Tile) (guess : Vector) (tile window : List ℕ) (best : Best) → Copied tile (t .side) (t .side) (p .reference) (t .origin .down) (t .origin .right) → Copied window (t .side + 8) (t .side + 8) (p .other) (t .origin .down +ℤ guess .down +ℤ negsuc 3) (t .origin .right +ℤ guess .right +ℤ negsuc 3) → Searched squared tile window (t .side) best → (best .offset ≡ chosen squared p t guess) × (best .residual ≡ residual squared p t (found squared p t guess))
@@ -88,3 +99,14 @@ unfolding chosen found tried
 searched-finds squared p t guess tile window best copied seen s =
     let e = s .is ∙ firstMin-cong (windowSum squared tile window (t .side)) (tried squared p t guess) 80 (λ k h. window-tried squared p t guess tile window copied seen k (omega arith)) in
     (e, s .low ∙ window-tried squared p t guess tile window copied seen (best .offset) (s .within) ∙ ap (tried squared p t guess) e)
+
+-- the lowest of the 81 sums is what is searched for
+pub lowest-searched : {squared : Bool} {tile window : List ℕ} {side b top k at low : ℕ} → Lowest (windowSum squared tile window side) b top 81 k at low → 81 ≤ k → b ≤ 4397912294400 → Searched squared tile window side (record { offset = at; residual = low })
+lowest-searched {squared} {tile} {window} {side} w h l =
+    let d = lowest-done w h in
+    record {
+      is = d .0;
+      low = d .1;
+      within = omega (arith, d .0, firstMin-most (windowSum squared tile window side) 80);
+      most = omega (arith, d .2);
+    }

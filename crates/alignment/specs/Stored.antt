@@ -1,8 +1,9 @@
 -- A level's two images where they stand in the work area, and a tile of the reference in a local array.
 use mathlib.Core.Bool.{Bool}
 use mathlib.Core.List.{List}
-use Prim.Native.Nat.{ℕ, _+_, _*_, _≤_, _<_}
-use lib.IntN.{ℤ}
+use mathlib.Core.Path.{_≡_}
+use Prim.Native.Nat.{ℕ, _+_, _*_, _%_, _≤_, _<_}
+use lib.IntN.{ℤ, negsuc, _+ℤ_}
 use lib.ListN.{length}
 use Rattle.geometry.specs.Read.{read}
 use Rattle.pyramid.specs.Words.{imageAt, Source}
@@ -39,13 +40,23 @@ pub record Few (rows columns : ℕ) : Type 0 where
   pub few-rows : rows ≤ 257
   pub few-columns : columns ≤ 257
 
+-- a tile of side 8 or 16 that is near the images, so that its samples can be copied
+pub record Placed (t : Tile) : Type 0 where
+  pub small : t .side ≤ 16
+  pub eights : t .side % 8 ≡ 0
+  pub near : Within 65552 (t .origin)
+
 -- the tile's samples of the reference stand in a local array
 pub record Ready (words : List ℤ) (a : Area) (t : Tile) (samples : List ℕ) : Type 0 where
   pub stored : Stored words a
-  pub small : t .side ≤ 16
+  pub placed : Placed t
   pub room : 256 ≤ length samples
   pub copied : Copied samples (t .side) (t .side) (pairIn words a .reference) (t .origin .down) (t .origin .right)
-  pub near : Within 65552 (t .origin)
+
+-- and the other image's around the tile moved by a guess, 4 samples further each way
+pub record Around (words : List ℤ) (a : Area) (t : Tile) (guess : Vector) (window : List ℕ) : Type 0 where
+  pub room : (t .side + 8) * (t .side + 8) ≤ length window
+  pub copied : Copied window (t .side + 8) (t .side + 8) (pairIn words a .other) (t .origin .down +ℤ guess .down +ℤ negsuc 3) (t .origin .right +ℤ guess .right +ℤ negsuc 3)
 
 -- the answer for a tile: a vector and its residual
 abbrev pub answer : (squared : Bool) → Pair → Tile → Vector → Found

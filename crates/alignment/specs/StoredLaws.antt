@@ -1,6 +1,6 @@
 -- From what is copied and searched to the answer for a tile.
-use mathlib.Core.Path.{_≡_, sym, ap, ap₂, _∙_, subst, fun-ext}
-use mathlib.Core.Bool.{Bool}
+use mathlib.Core.Path.{_≡_, refl, sym, ap, ap₂, _∙_, subst, fun-ext}
+use mathlib.Core.Bool.{Bool, false}
 use mathlib.Core.List.{List}
 use Prim.Native.Nat.{ℕ, zero, suc, _+_, _*_, _/_, _%_, _≤_, _<_, _^_}
 use native.Mathlib.Nat.{mul-le-mul, zero-mul, div-add-mod'}
@@ -17,15 +17,18 @@ use Rattle.alignment.specs.declared.Tile.{Tile}
 use Rattle.alignment.specs.declared.Vector.{Vector}
 use Rattle.alignment.specs.declared.matching.Area.{Area}
 use Rattle.alignment.specs.declared.matching.Found.{Found}
-use Rattle.alignment.specs.Vectors.{still, Within}
+use Rattle.alignment.specs.declared.search.Best.{Best}
+use Rattle.alignment.specs.Vectors.{still, _plus_, Within}
 use Rattle.alignment.specs.VectorLaws.{within-more}
-use Rattle.alignment.specs.Residual.{Pair}
+use Rattle.alignment.specs.Offsets.{offset}
+use Rattle.alignment.specs.Residual.{Pair, residual}
 use Rattle.alignment.specs.Search.{found}
 use Rattle.alignment.specs.SearchLaws.{found-within}
-use Rattle.alignment.specs.Fields.{Field, tileAt, coarsest, fromCoarse, finer}
+use Rattle.alignment.specs.Fields.{Field, levelAt, tileAt, coarsest, fromCoarse, finer}
 use Rattle.alignment.specs.PlaceLaws.{div-below, rem-below}
-use Rattle.alignment.specs.Local.{Low, Copied}
-use Rattle.alignment.specs.Stored.{pairIn, Stored, Before, Ready, answer}
+use Rattle.alignment.specs.Local.{squareSum, Low, Window, Searched, Copied}
+use Rattle.alignment.specs.LocalLaws.{middle-residual, searched-finds}
+use Rattle.alignment.specs.Stored.{pairIn, Stored, Before, Placed, Ready, Around, answer}
 
 -- what is copied from an image is low
 pub copied-low : {words : List ℤ} {from height width : ℕ} → Source words from height width → {l : List ℕ} {n : ℕ} {row column : ℤ} → n * n ≤ length l → Copied l n n (read height width (imageAt words from width)) row column → Low l (n * n)
@@ -43,26 +46,61 @@ copied-low {words} {from} {height} {width} s {l} {n} {row} {column} room c = rec
         omega (arith, e, s .holds .most (inside height (row +ℤ pos (k / n))) (inside width (column +ℤ pos (k % n))) (inside-below height (row +ℤ pos (k / n)) (s .high)) (inside-below width (column +ℤ pos (k % n)) (s .wide)))
 
 -- what copying a tile's samples asks
-pub copyable : {words : List ℤ} {a : Area} {t : Tile} → Stored words a → t .side ≤ 16 → Within 65552 (t .origin) → Source words (a .reference) (a .height) (a .width) × Within (2 ^ 20) (t .origin) × (t .side ≤ 64) × (t .side * t .side ≤ 256)
-copyable s h w = (s .reference, within-more (2 ^ 20) w (lit≤ tt), omega arith, omega (arith, mul-le-mul h h))
+pub copyable : {words : List ℤ} {a : Area} {t : Tile} → Stored words a → Placed t → Source words (a .reference) (a .height) (a .width) × Within (2 ^ 20) (t .origin) × (t .side ≤ 64) × (t .side % 8 ≡ 0) × (t .side * t .side ≤ 256)
+copyable s h = (s .reference, within-more (2 ^ 20) (h .near) (lit≤ tt), omega (arith, h .small), h .eights, omega (arith, mul-le-mul (h .small) (h .small)))
 
 -- and what it makes ready
-pub ready : {words : List ℤ} {a : Area} {t : Tile} {l : List ℕ} → Stored words a → t .side ≤ 16 → Within 65552 (t .origin) → length l ≡ 256 → Copied l (t .side) (t .side) (read (a .height) (a .width) (imageAt words (a .reference) (a .width))) (t .origin .down) (t .origin .right) → Ready words a t l
+pub ready : {words : List ℤ} {a : Area} {t : Tile} {l : List ℕ} → Stored words a → Placed t → length l ≡ 256 → Copied l (t .side) (t .side) (read (a .height) (a .width) (imageAt words (a .reference) (a .width))) (t .origin .down) (t .origin .right) → Ready words a t l
 unfolding pairIn
-ready s h w e c = record { stored = s; small = h; room = omega arith; copied = c; near = w }
+ready s h e c = record { stored = s; placed = h; room = omega arith; copied = c }
 
-module _ (l : Level) (p : Pair) (row column : ℕ) (squared : Bool) (t : Tile) (guess : Vector) (r : Found) (is : r ≡ answer squared p t (found squared p t guess)) (same : squared ≡ l .squared) (at : t ≡ tileAt l row column) where
-  -- the answer's parts are at most 4 more than the guess's
-  pub answer-within : (b : ℕ) → Within b guess → Within (b + 4) (r .vector)
-  answer-within b w = subst (Within (b + 4)) (sym (ap (λ x. x .vector) is)) (found-within squared p t guess b w)
+-- a tile's samples and the window around a guess
+module _ {words : List ℤ} {a : Area} {t : Tile} {samples : List ℕ} {guess : Vector} {window : List ℕ} (r : Ready words a t samples) (w : Around words a t guess window) where
+  -- they are low: what the sums ask
+  pub window-low : Window samples window (t .side)
+  unfolding pairIn
+  window-low =
+      let small = r .placed .small in
+      record {
+        small = omega arith;
+        tile-low = copied-low (r .stored .reference) (omega (arith, r .room, mul-le-mul small small)) (r .copied);
+        window-low = copied-low (r .stored .other) (w .room) (w .copied);
+      }
 
-  pub coarsest-answer : guess ≡ still → r ≡ answer (l .squared) p (tileAt l row column) (coarsest l p row column)
+  -- the guess's residual, where the side is 16
+  pub guess-residual : t .side ≡ 16 → squareSum false samples window 100 24 16 ≡ residual false (pairIn words a) t guess
+  guess-residual e =
+      ap (λ n. squareSum false samples window (4 * (n + 8) + 4) (n + 8) n) (sym e)
+      ∙ middle-residual false (pairIn words a) t guess samples window (r .copied) (w .copied)
+
+  -- the answer that the search there gives
+  pub search-answer : {squared : Bool} {best : Best} {f : Found} → Searched squared samples window (t .side) best → f .vector ≡ guess plus offset (best .offset) → f .residual ≡ best .residual → f ≡ answer squared (pairIn words a) t (found squared (pairIn words a) t guess)
+  unfolding found
+  search-answer {squared} {best} {f} s ev er =
+      let (is, low) = searched-finds squared (pairIn words a) t guess samples window best (r .copied) (w .copied) s in
+      ap₂ (λ v n. record { vector = v; residual = n }) (ev ∙ ap (λ k. guess plus offset k) is) (er ∙ low)
+
+-- the answer's parts are at most 4 more than the guess's
+pub answer-within : (squared : Bool) (p : Pair) (t : Tile) (guess : Vector) (r : Found) → r ≡ answer squared p t (found squared p t guess) → (b : ℕ) → Within b guess → Within (b + 4) (r .vector)
+answer-within squared p t guess r is b w = subst (Within (b + 4)) (sym (ap (λ x. x .vector) is)) (found-within squared p t guess b w)
+
+-- the answer for a level's tile
+module _ (l : Level) (p : Pair) (row column : ℕ) (t : Tile) (r : Found) (at : t ≡ tileAt l row column) where
+  pub coarsest-answer : r ≡ answer (l .squared) p t (found (l .squared) p t still) → r ≡ answer (l .squared) p (tileAt l row column) (coarsest l p row column)
   unfolding coarsest
-  coarsest-answer e = is ∙ rw (e, at, same)
+  coarsest-answer is = is ∙ rw at
 
-  pub finer-answer : (s : Step) (rows columns : ℕ) (coarse : Field) → guess ≡ fromCoarse s rows columns p t coarse row column → r ≡ answer (l .squared) p (tileAt l row column) (finer l s rows columns p coarse row column)
+  pub finer-answer : (s : Step) (rows columns : ℕ) (coarse : Field) → r ≡ answer (l .squared) p t (found (l .squared) p t (fromCoarse s rows columns p t coarse row column)) → r ≡ answer (l .squared) p (tileAt l row column) (finer l s rows columns p coarse row column)
   unfolding finer
-  finer-answer s rows columns coarse e = is ∙ rw (e, at, same)
+  finer-answer s rows columns coarse is = is ∙ rw at
+
+-- the tiles of the finer levels have side 16
+pub finer-side : (level row column : ℕ) → level ≤ 2 → tileAt (levelAt level) row column .side ≡ 16
+unfolding tileAt
+finer-side zero row column h = refl
+finer-side (suc zero) row column h = refl
+finer-side (suc (suc zero)) row column h = refl
+finer-side (suc (suc (suc k))) row column h = absurd (omega arith)
 
 -- what is written from a place on leaves the images before it
 module _ {d l : List ℤ} {n : ℕ} (k : Kept d n l) (a : Area) (s : Stored d a) (b : Before a n) where

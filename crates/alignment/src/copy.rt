@@ -1,6 +1,6 @@
 // Squares of an image of the work area, copied into local arrays: the rule for reading outside is paid once.
 ghost use mathlib.Core.Path.{_≡_};
-ghost use Prim.Native.Nat.{ℕ, _+_, _*_, _≤_, _<_, _^_};
+ghost use Prim.Native.Nat.{ℕ, _+_, _*_, _%_, _≤_, _<_, _^_};
 ghost use lib.IntN.{pos, natAbs, _+ℤ_};
 ghost use lib.ListN.{length};
 ghost use Rattle.algebra.specs.Bound.{AtMost};
@@ -25,13 +25,23 @@ fn sample(words: &[i64], k: usize) -> u16
     words[k] as u16
 }
 
-// `n` samples from `from` on.
+// Eight samples from `from` on: a loop of a fixed count, which becomes vector instructions.
+fn copy_eight(words: &[i64], from: usize, out: &mut [u16], to: usize)
+    requires { ⌜ (Row (now words) from 8) × (to + 8 ≤ length (now out)) ⌝ }
+    ensures { λ _. ⌜ now (out .exit) ≡ written (now (out .entry)) to (λ j. wordAt (now (words .entry)) (from + j)) 8 ⌝ }
+{
+    for j in 0..8 {
+        out[to + j] = sample(words, from + j);
+    }
+}
+
+// `n` samples from `from` on, eight at a time.
 fn copy_inside(words: &[i64], from: usize, n: usize, out: &mut [u16], to: usize)
-    requires { ⌜ (Row (now words) from n) × (to + n ≤ length (now out)) ⌝ }
+    requires { ⌜ (Row (now words) from n) × (n % 8 ≡ 0) × (to + n ≤ length (now out)) ⌝ }
     ensures { λ _. ⌜ now (out .exit) ≡ written (now (out .entry)) to (λ j. wordAt (now (words .entry)) (from + j)) n ⌝ }
 {
-    for j in 0..n {
-        out[to + j] = sample(words, from + j);
+    for k in 0..n / 8 {
+        copy_eight(words, from + 8 * k, &mut *out, to + 8 * k);
     }
 }
 
@@ -64,7 +74,7 @@ fn copy_row(
     out: &mut [u16],
     to: usize,
 )
-    requires { ⌜ (Row (now words) start width) × (0 < width) × (width ≤ 4096) × (AtMost (2 ^ 32) column) × (n ≤ 64) × (to + n ≤ length (now out)) ⌝ }
+    requires { ⌜ (Row (now words) start width) × (0 < width) × (width ≤ 4096) × (AtMost (2 ^ 32) column) × (n ≤ 64) × (n % 8 ≡ 0) × (to + n ≤ length (now out)) ⌝ }
     ensures { λ _. ⌜ now (out .exit) ≡ written (now (out .entry)) to (λ j. wordAt (now (words .entry)) (start + inside width (column +ℤ pos j))) n ⌝ }
 {
     if column >= 0 {
@@ -87,7 +97,7 @@ pub fn copy_square(
     n: usize,
     out: &mut [u16],
 )
-    requires { ⌜ (Source (now words) from height width) × (Within (2 ^ 20) corner) × (n ≤ 64) × (n * n ≤ length (now out)) ⌝ }
+    requires { ⌜ (Source (now words) from height width) × (Within (2 ^ 20) corner) × (n ≤ 64) × (n % 8 ≡ 0) × (n * n ≤ length (now out)) ⌝ }
     ensures { λ _. ⌜ Copied (now (out .exit)) n n (read height width (imageAt (now (words .entry)) from width)) (corner .down) (corner .right) ⌝ }
 {
     for i in 0..n {

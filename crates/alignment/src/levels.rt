@@ -1,20 +1,21 @@
 // The tiles of a level: each from a guess, and the guess from the coarse level's vectors.
 ghost use mathlib.Core.Path.{_≡_};
-ghost use Prim.Native.Nat.{_*_, _≤_, _<_};
+ghost use Prim.Native.Nat.{_*_, _%_, _≤_, _<_};
 ghost use lib.ListN.{length, getD};
 ghost use lib.IntN.{pos, natAbs, _*ℤ_};
 ghost use Rattle.geometry.specs.Tiles.{level3};
 ghost use Rattle.alignment.specs.Vectors.{_times_, Within};
 ghost use Rattle.alignment.specs.Fields.{levelAt, stepTo, tileAt, coarsest, fromCoarse, finer};
-ghost use Rattle.alignment.specs.Stored.{pairIn, Stored, Ready, answer};
+ghost use Rattle.alignment.specs.Stored.{pairIn, Stored, Placed, Ready, answer};
+ghost use Rattle.alignment.specs.Search.{found};
 ghost use Rattle.alignment.specs.Grids.{fieldAt, Vectors};
 use crate::Tile;
 use crate::Vector;
 use crate::copy::copy_square;
 use crate::matching::Area;
 use crate::matching::Found;
-use crate::matching::guess;
 use crate::matching::refine;
+use crate::matching::refine_candidates;
 use geometry::tiles::capped;
 use geometry::tiles::neighbour;
 use geometry::tiles::origin;
@@ -43,7 +44,7 @@ fn quotient(level: usize) -> usize
 
 pub fn half_of(level: usize) -> usize
     requires { ⌜ level ≤ 3 ⌝ }
-    ensures { λ r. ⌜ (r ≡ levelAt level .half) × (2 * r ≡ levelAt level .side) × (0 < r) × (r ≤ 8) ⌝ }
+    ensures { λ r. ⌜ (r ≡ levelAt level .half) × (2 * r ≡ levelAt level .side) × (r % 4 ≡ 0) × (0 < r) × (r ≤ 8) ⌝ }
 {
     if level == 3 { 4 } else { 8 }
 }
@@ -51,7 +52,7 @@ pub fn half_of(level: usize) -> usize
 // The tile at a row and a column of tiles.
 fn tile_at(level: usize, row: usize, column: usize) -> Tile
     requires { ⌜ (level ≤ 3) × (row ≤ 4096) × (column ≤ 4096) ⌝ }
-    ensures { λ r. ⌜ (r ≡ tileAt (levelAt level) row column) × (r .side ≤ 16) × (Within 65552 (r .origin)) ⌝ }
+    ensures { λ r. ⌜ (r ≡ tileAt (levelAt level) row column) × (Placed r) ⌝ }
 {
     let half = half_of(level);
     let corner = Vector {
@@ -86,8 +87,15 @@ fn coarse_vector(words: &[i64], coarse: Grid, row: usize, column: usize, f: usiz
     }
 }
 
-// The guess for a tile, from the coarse vectors around it.
-fn coarse_guess(
+fn is_squared(level: usize) -> bool
+    requires { ⌜ level ≤ 3 ⌝ }
+    ensures { λ r. ⌜ r ≡ levelAt level .squared ⌝ }
+{
+    level != 0
+}
+
+// The vector of a tile, from the coarse vectors around it.
+fn refine_coarse(
     words: &[i64],
     area: Area,
     tile: Tile,
@@ -96,10 +104,11 @@ fn coarse_guess(
     coarse: Grid,
     row: usize,
     column: usize,
-) -> Vector
-    requires { ⌜ (Ready (now words) area tile (now samples)) × (Vectors (now words) coarse) × (level ≤ 2) × (row ≤ 4096) × (column ≤ 4096) ⌝ }
-    ensures { λ r. ⌜ (r ≡ fromCoarse (stepTo level) (coarse .rows) (coarse .columns) (pairIn (now (words .entry)) area) tile (fieldAt (now (words .entry)) (coarse .at) (coarse .columns)) row column) × (Within 336 r) ⌝ }
+) -> Found
+    requires { ⌜ (Ready (now words) area tile (now samples)) × (tile .side ≡ 16) × (Vectors (now words) coarse) × (level ≤ 2) × (row ≤ 4096) × (column ≤ 4096) ⌝ }
+    ensures { λ r. ⌜ (r ≡ answer (levelAt level .squared) (pairIn (now (words .entry)) area) tile (found (levelAt level .squared) (pairIn (now (words .entry)) area) tile (fromCoarse (stepTo level) (coarse .rows) (coarse .columns) (pairIn (now (words .entry)) area) tile (fieldAt (now (words .entry)) (coarse .at) (coarse .columns)) row column))) × (Within 340 (r .vector)) × (r .residual ≤ 4397912294400) ⌝ }
 {
+    let squared = is_squared(level);
     let q = quotient(level);
     let f = factor(level);
     let own_row = capped(coarse.rows, own(q, row));
@@ -109,14 +118,16 @@ fn coarse_guess(
     let here = coarse_vector(words, coarse, own_row, own_column, f);
     let sideways = coarse_vector(words, coarse, own_row, next_column, f);
     let vertically = coarse_vector(words, coarse, next_row, own_column, f);
-    guess(words, area, tile, samples, here, sideways, vertically)
-}
-
-fn is_squared(level: usize) -> bool
-    requires { ⌜ level ≤ 3 ⌝ }
-    ensures { λ r. ⌜ r ≡ levelAt level .squared ⌝ }
-{
-    level != 0
+    refine_candidates(
+        words,
+        area,
+        tile,
+        samples,
+        squared,
+        here,
+        sideways,
+        vertically,
+    )
 }
 
 // The vector of a tile of level 3, whose guess is (0,0).
@@ -170,6 +181,5 @@ pub fn finer_tile(
         tile.side,
         &mut samples,
     );
-    let start = coarse_guess(words, area, tile, &samples, level, coarse, row, column);
-    refine(words, area, tile, &samples, is_squared(level), start)
+    refine_coarse(words, area, tile, &samples, level, coarse, row, column)
 }

@@ -1,4 +1,5 @@
 // Alignment: residuals, three candidates, the search in tie order, and the loop over the levels.
+pub mod boxes;
 pub mod burst;
 pub mod copy;
 pub mod fields;

@@ -1,44 +1,50 @@
--- Each store is one of a part written from its front.
-use Rattle.sequences.specs.Write.{Writing, write-start, write-turn, write-done}
+-- Each turn writes eight samples more of the part.
+use native.Mathlib.Nat.{add-assoc}
+use Rattle.sequences.specs.Write.{Writing, write-start, write-part, write-done}
 use Rattle.pyramid.specs.Words.{wordAt}
+use Rattle.alignment.specs.WordLaws.{row-part}
 use borrow.Author.Needs.{needs}
 use native.Mathlib.Omega.{arith}
-use Prim.Native.Nat.{_+_, _-_}
+use mathlib.Core.Path.{_≡_, ap}
+use Prim.Native.Nat.{_+_, _-_, _*_}
 use Rattle.alignment.proofs.copy.copy_inside.Statement.{statement}
 use Rattle.alignment.proofs.copy.copy_inside.Tie as tie
 
 abbrev Inv-loop : tie.InvT-loop
-Inv-loop words from n out₀ to j₀ out j = Writing out₀ to (λ k. wordAt words (from + k)) n j out
+Inv-loop words from n out₀ to k₀ k-end out k = Writing out₀ to (λ j. wordAt words (from + j)) n (8 * k) out
 
 abbrev μ-loop : tie.MeasureT-loop
-μ-loop words from n out₀ to j₀ out j = n - j
+μ-loop words from n out₀ to k₀ k-end out k = k-end - k
 
 loop-holds : tie.Need-loop-holds Inv-loop μ-loop
 loop-holds c = write-start (search needs)
 
-add-sample : tie.Need-add-sample Inv-loop μ-loop
-add-sample c = search needs
+mul-copy-eight : tie.Need-mul-copy-eight Inv-loop μ-loop
+mul-copy-eight c = search needs
 
-sample-requires : tie.Need-sample-requires Inv-loop μ-loop
-sample-requires c κs = c .before .before .before .pre .0 .held _ (omega arith)
+add-copy-eight : tie.Need-add-copy-eight Inv-loop μ-loop
+add-copy-eight c = search needs
 
-add-out : tie.Need-add-out Inv-loop μ-loop
-add-out c = search needs
+mul-copy-eight-2 : tie.Need-mul-copy-eight-2 Inv-loop μ-loop
+mul-copy-eight-2 c = search needs
 
-mul-out : tie.Need-mul-out Inv-loop μ-loop
-mul-out c = search needs
+add-copy-eight-2 : tie.Need-add-copy-eight-2 Inv-loop μ-loop
+add-copy-eight-2 c = search needs
 
-slice-write-out : tie.Need-slice-write-out Inv-loop μ-loop
-slice-write-out c = search needs
+copy-eight-requires : tie.Need-copy-eight-requires Inv-loop μ-loop
+copy-eight-requires c κs = (row-part (c .before .before .before .before .pre .0) _ _ (omega arith), omega arith)
 
-add-j : tie.Need-add-j Inv-loop μ-loop
-add-j c = search needs
+add-k : tie.Need-add-k Inv-loop μ-loop
+add-k c = search needs
 
 loop-less : tie.Need-loop-less Inv-loop μ-loop
 loop-less c = search needs
 
 loop-again : tie.Need-loop-again Inv-loop μ-loop
-loop-again c = write-turn (c .before .before .loop .inv) (omega arith) (c .sample .ensures)
+loop-again c = let a = c .before .before .before .before .before .before .before .args in
+    let l = c .before .before .before .before .before .loop in
+    let e : 8 * (l .k + 1) ≡ 8 * l .k + 8 = omega arith in
+    rw e (write-part (l .inv) (omega arith) (λ j h. ap (wordAt (a .words .now)) (add-assoc (a .from) (8 * l .k) j)) (c .before .before .copy-eight .ensures))
 
 same-length : tie.Need-same-length Inv-loop μ-loop
 same-length c = search needs
@@ -53,12 +59,12 @@ copy-inside-spec =
     Inv-loop
     μ-loop
     loop-holds
-    add-sample
-    sample-requires
-    add-out
-    mul-out
-    slice-write-out
-    add-j
+    mul-copy-eight
+    add-copy-eight
+    mul-copy-eight-2
+    add-copy-eight-2
+    copy-eight-requires
+    add-k
     loop-less
     loop-again
     same-length

@@ -36,7 +36,7 @@ add-copy-inside : tie.Need-add-copy-inside
 add-copy-inside c = search needs
 
 copy-inside-requires : tie.Need-copy-inside-requires
-copy-inside-requires c κs = (row-part (c .before .before .before .before .pre .0) _ _ (omega arith), omega arith)
+copy-inside-requires c κs = (row-part (c .before .before .before .before .pre .0) _ _ (omega arith), omega arith, omega arith)
 
 same-length : tie.Need-same-length
 same-length c = search needs

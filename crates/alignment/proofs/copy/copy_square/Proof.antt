@@ -47,7 +47,7 @@ mul-copy-row-2 c = omega (arith, row-below (c .before .before .before .before .b
 copy-row-requires : tie.Need-copy-row-requires Inv-loop μ-loop
 copy-row-requires c κs = let s = c .before .before .before .before .before .before .before .before in
     let w = s .pre .1 in
-    (row-held _ (s .pre .0 .holds) (c .before .before .inside .ensures .1), s .pre .0 .wide, s .pre .0 .wide-small, rw (back-small (s .args .corner .right) (2 ^ 20) (w .sideways) tt) (record { most = omega (arith, w .sideways) }), s .pre .2, omega (arith, row-below (s .args .n) (c .before .before .before .before .before .loop-test .taken)))
+    (row-held _ (s .pre .0 .holds) (c .before .before .inside .ensures .1), s .pre .0 .wide, s .pre .0 .wide-small, rw (back-small (s .args .corner .right) (2 ^ 20) (w .sideways) tt) (record { most = omega (arith, w .sideways) }), s .pre .2, s .pre .3, omega (arith, row-below (s .args .n) (c .before .before .before .before .before .loop-test .taken)))
 
 add-i : tie.Need-add-i Inv-loop μ-loop
 add-i c = search needs

@@ -6,7 +6,6 @@ use Rattle.alignment.specs.Vectors.{still}
 use Rattle.alignment.specs.Stored.{pairIn}
 use Rattle.alignment.specs.StoredLaws.{copyable, ready, answer-within, coarsest-answer}
 use native.Mathlib.Omega.{arith}
-use mathlib.Core.Path.{refl}
 use borrow.Author.Needs.{needs}
 use Rattle.alignment.proofs.levels.coarsest_tile.Statement.{statement}
 use Rattle.alignment.proofs.levels.coarsest_tile.Tie as tie
@@ -18,7 +17,7 @@ slice-aggregate-copy-square : tie.Need-slice-aggregate-copy-square
 slice-aggregate-copy-square c = search needs
 
 copy-square-requires : tie.Need-copy-square-requires
-copy-square-requires c κs = let t = c .before .before .tile-at .ensures in copyable (c .before .before .before .pre .0) (t .1) (t .2)
+copy-square-requires c κs = let t = c .before .before .tile-at .ensures in copyable (c .before .before .before .pre .0) (t .1)
 
 slice-aggregate-refine : tie.Need-slice-aggregate-refine
 slice-aggregate-refine c = search needs
@@ -26,15 +25,15 @@ slice-aggregate-refine c = search needs
 refine-requires : tie.Need-refine-requires
 refine-requires c κs = let s = c .before .before .before .before .before .before in
     let t = c .before .before .before .before .before .tile-at .ensures in
-    (ready (s .pre .0) (t .1) (t .2) (omega arith) (c .before .before .copy-square .ensures), record { vertical = lit≤ tt; sideways = lit≤ tt })
+    (ready (s .pre .0) (t .1) (omega arith) (c .before .before .copy-square .ensures), record { vertical = lit≤ tt; sideways = lit≤ tt })
 
 returns : tie.Need-returns
 returns c = let s = c .before .before .before .before .before .before .before in
     let a = s .args in
     let t = c .before .before .before .before .before .before .tile-at in
     let p = pairIn (a .words .now) (a .area) in (
-      coarsest-answer level3 p (a .row) (a .column) true (t .result) still (c .refine .result) (c .refine .ensures .0) refl (t .ensures .0) refl,
-      answer-within level3 p (a .row) (a .column) true (t .result) still (c .refine .result) (c .refine .ensures .0) refl (t .ensures .0) 0 (record { vertical = lit≤ tt; sideways = lit≤ tt }),
+      coarsest-answer level3 p (a .row) (a .column) (t .result) (c .refine .result) (t .ensures .0) (c .refine .ensures .0),
+      answer-within true p (t .result) still (c .refine .result) (c .refine .ensures .0) 0 (record { vertical = lit≤ tt; sideways = lit≤ tt }),
     )
 
 pub coarsest-tile-spec : {M : Type 1} → statement M

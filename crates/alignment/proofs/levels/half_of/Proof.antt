@@ -17,7 +17,7 @@ returns : tie.Need-returns
 returns c = search needs
 
 returns-2 : tie.Need-returns-2
-returns-2 c = let b = below (c .before .args .level) (c .if1 .left) (c .before .pre) in (b .0, b .1, omega arith, omega arith)
+returns-2 c = let b = below (c .before .args .level) (c .if1 .left) (c .before .pre) in (b .0, b .1, omega arith, omega arith, omega arith)
 
 pub half-of-spec : {M : Type 1} → statement M
 half-of-spec = tie.close (tie.spec returns returns-2)

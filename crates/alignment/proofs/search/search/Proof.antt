@@ -1,4 +1,4 @@
--- The loop keeps the first least of the offsets tried so far; the arrays are the table's.
+-- At side 16 what the two searches find; else the loop keeps the first least of the offsets tried so far, and the arrays are the table's.
 use mathlib.Core.Logic.{⊎-elim}
 use Rattle.sequences.specs.Least.{Least, least-start, least-take, least-keep, least-done}
 use Rattle.alignment.specs.Offsets.{downs, rights}
@@ -14,6 +14,18 @@ Inv-loop squared tile window side down right best₀ low₀ k₀ best low k = Le
 
 abbrev μ-loop : tie.MeasureT-loop
 μ-loop squared tile window side down right best₀ low₀ k₀ best low k = 81 - k
+
+search-squared-requires : tie.Need-search-squared-requires Inv-loop μ-loop
+search-squared-requires c κs = let s = c .before .before .before .before in rw (c .before .if1 .taken) at (s .pre)
+
+returns : tie.Need-returns Inv-loop μ-loop
+returns c = let b = c .before in rw (b .if2 .taken, b .before .if1 .taken) (c .search-squared .ensures)
+
+search-absolute-requires : tie.Need-search-absolute-requires Inv-loop μ-loop
+search-absolute-requires c κs = let s = c .before .before .before .before in rw (c .before .if1 .taken) at (s .pre)
+
+returns-2 : tie.Need-returns-2 Inv-loop μ-loop
+returns-2 c = let b = c .before in rw (b .if2 .left, b .before .if1 .taken) (c .search-absolute .ensures)
 
 offset-sum-requires : tie.Need-offset-sum-requires Inv-loop μ-loop
 unfolding downs rights
@@ -38,10 +50,10 @@ loop-again c = let l = c .before .before .before .before .before .loop in
     ⊎-elim
     (λ w. rw (w .1, w .2) (least-take (l .inv .0) (omega arith) (e .0) (w .0 .taken), e .1))
     (λ w. rw (w .1, w .2) (least-keep (l .inv .0) (omega arith) (e .0) (w .0 .left), l .inv .1))
-    (c .if1 .came)
+    (c .if3 .came)
 
-returns : tie.Need-returns Inv-loop μ-loop
-returns c = let d = least-done (c .before .loop .inv .0) (omega arith) in record { is = d .0; low = d .1; within = omega arith; most = c .before .loop .inv .1 }
+returns-3 : tie.Need-returns-3 Inv-loop μ-loop
+returns-3 c = let d = least-done (c .before .loop .inv .0) (omega arith) in record { is = d .0; low = d .1; within = omega arith; most = c .before .loop .inv .1 }
 
 pub search-spec : {M : Type 1} → statement M
 search-spec =
@@ -49,10 +61,14 @@ search-spec =
     (tie.spec
     Inv-loop
     μ-loop
+    search-squared-requires
+    returns
+    search-absolute-requires
+    returns-2
     offset-sum-requires
     loop-holds
     offset-sum-requires-2
     add-k
     loop-less
     loop-again
-    returns)
+    returns-3)

@@ -1,6 +1,8 @@
 -- Each four rows end within what is low.
-use Rattle.alignment.specs.SixteenLaws.{low-less, total-whole}
+use Rattle.alignment.specs.Residual.{gap}
+use Rattle.alignment.specs.SixteenLaws.{low-less, total-whole, absolute-pairs}
 use native.Mathlib.Omega.{arith}
+use mathlib.Core.Path.{_∙_}
 use borrow.Author.Needs.{needs}
 use Rattle.alignment.proofs.sixteen.absolute_sum.Statement.{statement}
 use Rattle.alignment.proofs.sixteen.absolute_sum.Tie as tie
@@ -42,7 +44,7 @@ returns : tie.Need-returns
 returns c = let d = c .before in
     let a = d .before .before .before .before .before .before .args in
     let e = c .total .ensures in
-    (total-whole (a .tile .now) (a .window .now) (a .start) (a .stride) _ _ _ _ _ (d .before .before .before .columns .ensures) (d .before .before .columns2 .ensures) (d .before .columns3 .ensures) (d .columns4 .ensures) (e .0), e .1)
+    (total-whole gap (a .tile .now) (a .window .now) (a .start) (a .stride) _ _ _ _ _ (d .before .before .before .columns .ensures) (d .before .before .columns2 .ensures) (d .before .columns3 .ensures) (d .columns4 .ensures) (e .0) ∙ absolute-pairs (a .tile .now) (a .window .now) (a .start) (a .stride), e .1)
 
 pub absolute-sum-spec : {M : Type 1} → statement M
 absolute-sum-spec =

@@ -1,6 +1,7 @@
 -- Each turn stores one column's sum.
 use Rattle.alignment.specs.SixteenLaws.{low-less}
 use Rattle.sequences.specs.Tab.{Filled, fill-start, fill-turn, fill-done}
+use Rattle.alignment.specs.Residual.{gap}
 use Rattle.alignment.specs.Local.{columnSum}
 use borrow.Author.Needs.{needs}
 use native.Mathlib.Omega.{arith}
@@ -10,7 +11,7 @@ use Rattle.alignment.proofs.sixteen.columns.Statement.{statement}
 use Rattle.alignment.proofs.sixteen.columns.Tie as tie
 
 abbrev Inv-loop : tie.InvT-loop
-Inv-loop tile window a b stride sums₀ j₀ sums j = Filled (λ k. columnSum tile window (a + k) (b + k) stride) 16 j sums₀ sums
+Inv-loop tile window a b stride sums₀ j₀ sums j = Filled (λ k. columnSum gap tile window (a + k) (b + k) stride) 16 j sums₀ sums
 
 abbrev μ-loop : tie.MeasureT-loop
 μ-loop tile window a b stride sums₀ j₀ sums j = 16 - j

@@ -27,7 +27,7 @@ add-squared-2 : tie.Need-add-squared-2 Inv-loop μ-loop
 add-squared-2 c = search needs
 
 squared-requires : tie.Need-squared-requires Inv-loop μ-loop
-squared-requires c κs = let s = c .before .before .before .before in (low-less (s .pre .0) _ (omega arith), low-less (s .pre .1) _ (omega arith))
+squared-requires c κs = let s = c .before .before .before in (s .pre .0, omega arith, low-less (s .pre .2) _ (omega arith))
 
 add-sum : tie.Need-add-sum Inv-loop μ-loop
 add-sum c = search needs

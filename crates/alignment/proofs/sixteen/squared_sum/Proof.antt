@@ -20,8 +20,8 @@ loop-holds : tie.Need-loop-holds Inv-loop μ-loop
 loop-holds c = sum-start
 
 -- a row of the window ends within the last
-before-last : (c : tie.In-loop Inv-loop μ-loop) → let a = c .before .before .before .before .args in c .before .loop .i * a .stride ≤ 15 * a .stride
-before-last c = mul-le-mul-right (c .before .before .before .before .args .stride) (omega arith)
+before-last : (c : tie.In-loop Inv-loop μ-loop) → let a = c .before .before .before .args in c .before .loop .i * a .stride ≤ 15 * a .stride
+before-last c = mul-le-mul-right (c .before .before .before .args .stride) (omega arith)
 
 mul-squared-row : tie.Need-mul-squared-row Inv-loop μ-loop
 mul-squared-row c = search needs
@@ -33,7 +33,7 @@ add-squared-row : tie.Need-add-squared-row Inv-loop μ-loop
 add-squared-row c = omega (arith, before-last c)
 
 squared-row-requires : tie.Need-squared-row-requires Inv-loop μ-loop
-squared-row-requires c κs = let s = c .before .before .before .before in (low-less (s .pre .0) _ (omega arith), low-less (s .pre .1) _ (omega (arith, before-last c)))
+squared-row-requires c κs = let s = c .before .before .before in (s .pre .0, omega arith, low-less (s .pre .1) _ (omega (arith, before-last c)))
 
 cast-sum : tie.Need-cast-sum Inv-loop μ-loop
 cast-sum c = search needs

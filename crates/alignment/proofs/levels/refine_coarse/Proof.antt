@@ -4,15 +4,20 @@ use Rattle.alignment.specs.declared.Tile.{Tile}
 use Rattle.alignment.specs.declared.Vector.{Vector}
 use Rattle.alignment.specs.Vectors.{_times_}
 use Rattle.alignment.specs.Residual.{Pair}
-use Rattle.alignment.specs.Search.{guessed}
+use Rattle.alignment.specs.Search.{found, guessed}
+use Rattle.alignment.specs.SearchLaws.{guess-within}
 use Rattle.alignment.specs.Fields.{Field, stepTo, fromCoarse}
-use Rattle.alignment.specs.Stored.{pairIn}
+use Rattle.alignment.specs.Stored.{pairIn, answer}
+use Rattle.alignment.specs.StoredLaws.{answer-within}
 use Rattle.alignment.specs.Grids.{fieldAt}
-use mathlib.Core.Path.{_≡_, ap, _∙_}
+use mathlib.Core.Path.{_≡_, ap, ap₂, _∙_}
 use Prim.Native.Nat.{ℕ}
 use borrow.Author.Needs.{needs}
-use Rattle.alignment.proofs.levels.coarse_guess.Statement.{statement}
-use Rattle.alignment.proofs.levels.coarse_guess.Tie as tie
+use Rattle.alignment.proofs.levels.refine_coarse.Statement.{statement}
+use Rattle.alignment.proofs.levels.refine_coarse.Tie as tie
+
+is-squared-requires : tie.Need-is-squared-requires
+is-squared-requires c κs = search needs
 
 quotient-requires : tie.Need-quotient-requires
 quotient-requires c κs = search needs
@@ -53,9 +58,9 @@ coarse-vector-requires-2 c κs = search needs
 coarse-vector-requires-3 : tie.Need-coarse-vector-requires-3
 coarse-vector-requires-3 c κs = search needs
 
-guess-requires : tie.Need-guess-requires
-guess-requires c κs = let s = c .before .before .before .before .before .before .before .before .before .before .before .before .before .before in
-    (s .pre .0, c .before .before .coarse-vector .ensures .1, c .before .coarse-vector2 .ensures .1, c .coarse-vector3 .ensures .1)
+refine-candidates-requires : tie.Need-refine-candidates-requires
+refine-candidates-requires c κs = let s = c .before .before .before .before .before .before .before .before .before .before .before .before .before .before .before in
+    (s .pre .0, s .pre .1, c .before .before .coarse-vector .ensures .1, c .before .coarse-vector2 .ensures .1, c .coarse-vector3 .ensures .1)
 
 made : (s : Step) (rows columns : ℕ) (p : Pair) (t : Tile) (field : Field) (row column q f r r′ k k′ : ℕ) (x y z : Vector) → q ≡ s .quotient → f ≡ s .factor → r ≡ capped rows (own q row) → r′ ≡ capped rows (neighbour q row) → k ≡ capped columns (own q column) → k′ ≡ capped columns (neighbour q column) → x ≡ field r k times f → y ≡ field r k′ times f → z ≡ field r′ k times f → guessed p t x y z ≡ fromCoarse s rows columns p t field row column
 unfolding fromCoarse
@@ -68,23 +73,32 @@ returns c = let v = c .before .before .before in
     let r′ = k .before .before in
     let r = r′ .before .before in
     let f = r .before .before in
-    let s = f .before .before .before in
-    let a = s .args in (
-      c .guess .ensures .0
-          ∙ made (stepTo (a .level)) (a .coarse .rows) (a .coarse .columns) (pairIn (a .words .now) (a .area)) (a .tile) (fieldAt (a .words .now) (a .coarse .at) (a .coarse .columns)) (a .row) (a .column) _ _ _ _ _ _ _ _ _
+    let q = f .before .before in
+    let s = q .before .before in
+    let a = s .args in
+    let p = pairIn (a .words .now) (a .area) in
+    let x = v .coarse-vector in
+    let y = c .before .before .coarse-vector2 in
+    let z = c .before .coarse-vector3 in
+    let m = c .refine-candidates in (
+      m .ensures .0
+          ∙ ap₂ (λ q v. answer q p (a .tile) (found q p (a .tile) v)) (q .is-squared .ensures)
+          (made (stepTo (a .level)) (a .coarse .rows) (a .coarse .columns) p (a .tile) (fieldAt (a .words .now) (a .coarse .at) (a .coarse .columns)) (a .row) (a .column) _ _ _ _ _ _ _ _ _
           (f .before .quotient .ensures .0) (f .factor .ensures .0)
           (r .capped .ensures .0 ∙ ap (capped (a .coarse .rows)) (r .before .own .ensures .0))
           (r′ .capped2 .ensures .0 ∙ ap (capped (a .coarse .rows)) (r′ .before .neighbour .ensures .0))
           (k .capped3 .ensures .0 ∙ ap (capped (a .coarse .columns)) (k .before .own2 .ensures .0))
           (k′ .capped4 .ensures .0 ∙ ap (capped (a .coarse .columns)) (k′ .before .neighbour2 .ensures .0))
-          (v .coarse-vector .ensures .0) (c .before .before .coarse-vector2 .ensures .0) (c .before .coarse-vector3 .ensures .0),
-      c .guess .ensures .1,
+          (x .ensures .0) (y .ensures .0) (z .ensures .0)),
+      answer-within (q .is-squared .result) p (a .tile) (guessed p (a .tile) (x .result) (y .result) (z .result)) (m .result) (m .ensures .0) 336 (guess-within p (a .tile) (x .result) (y .result) (z .result) 336 (x .ensures .1) (y .ensures .1) (z .ensures .1)),
+      m .ensures .1,
     )
 
-pub coarse-guess-spec : {M : Type 1} → statement M
-coarse-guess-spec =
+pub refine-coarse-spec : {M : Type 1} → statement M
+refine-coarse-spec =
     tie.close
     (tie.spec
+    is-squared-requires
     quotient-requires
     factor-requires
     own-requires
@@ -98,5 +112,5 @@ coarse-guess-spec =
     coarse-vector-requires
     coarse-vector-requires-2
     coarse-vector-requires-3
-    guess-requires
+    refine-candidates-requires
     returns)
