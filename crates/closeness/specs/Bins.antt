@@ -15,7 +15,7 @@ use Rattle.algebra.specs.Lipschitz.{sq, lipschitz}
 use Rattle.algebra.specs.Fraction.{Frac, frac, _+F_, _·F_, _×F_, _÷F_, divide, Within}
 use Rattle.algebra.specs.FractionLaws.{within-trans, within-same, within-near, near-mono, near-zero, Near, rounds-within}
 use Rattle.algebra.specs.Nearest.{away, Rounds, away-rounds}
-use Rattle.transform.specs.Side.{Side}
+use Rattle.lines.specs.Side.{Side}
 use Rattle.transform.specs.Recipe.{power, wiener, quantized, filtered}
 use Rattle.transform.specs.RecipeLaws.{power-is}
 use Rattle.closeness.specs.Exact.{exactBin, exactNoise, exactFiltered}

@@ -9,7 +9,7 @@ use Rattle.algebra.specs.Sums.{sumZ, sumN-scale}
 use Rattle.algebra.specs.Nearest.{away-rounds, upward-rounds}
 use Rattle.algebra.specs.Fraction.{Frac, frac, whole, _-F_, _·F_, over, sumF, Within}
 use Rattle.algebra.specs.FractionLaws.{Near, near-sub, near-scale, near-sum, near-sums, near-mono, near-over, near-rounds, near-whole, near-held, near-one, near-frac}
-use Rattle.transform.specs.Side.{Side, cosAt, sinAt}
+use Rattle.lines.specs.Side.{Side, cosAt, sinAt}
 use Rattle.transform.specs.Recipe.{binRe, binIm, twiddleRe, twiddleIm, inverseRe, inverseAt, correctionAt}
 use Rattle.closeness.specs.Output.{rowIn, columnIn, weightIn, outputSample}
 use Rattle.closeness.specs.Exact.{exactInverseRe, exactInverseAt, exactCorrectionAt, exactSample}

@@ -4,7 +4,7 @@ use native.Mathlib.Nat.{mul-pos}
 use native.Mathlib.Omega.{arith}
 use lib.IntN.{ℤ, pos}
 use Rattle.algebra.specs.Fraction.{Frac, frac, whole, _+F_, _-F_, _·F_, _×F_, _÷F_, over, sumF, held}
-use Rattle.transform.specs.Side.{Side}
+use Rattle.lines.specs.Side.{Side}
 use Rattle.transform.specs.Recipe.{binRe, binIm, twiddleRe, twiddleIm}
 use Rattle.closeness.specs.Output.{rowIn, columnIn, weightIn}
 

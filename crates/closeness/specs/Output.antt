@@ -4,7 +4,7 @@ use lib.IntN.{ℤ, pos, _-ℤ_, _*ℤ_}
 use Rattle.algebra.specs.Sums.{sumZ}
 use Rattle.algebra.specs.Clamp.{clampZ}
 use Rattle.algebra.specs.Nearest.{upward}
-use Rattle.transform.specs.Side.{Side}
+use Rattle.lines.specs.Side.{Side}
 use Rattle.transform.specs.Recipe.{correctionAt}
 
 -- Four tiles lie over a sample, two by two. It is row a and column b, below the half step, of the last; tile t = 0..3, counted from the last, has it here

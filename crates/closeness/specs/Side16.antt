@@ -6,8 +6,8 @@ use lib.Dec.{leb, leb→le, lit<}
 use lib.IntN.{ℤ, natAbs, _+ℤ_, _-ℤ_, _*ℤ_}
 use Rattle.algebra.specs.Test.{all, all-sound}
 use Rattle.algebra.specs.Fraction.{frac, whole, Within}
-use Rattle.transform.specs.Tables.{cosines, cosine16, sine16, side16}
-use Rattle.transform.specs.TableLaws.{window-halves}
+use Rattle.lines.specs.Tables.{cosines, cosine16, sine16, side16}
+use Rattle.lines.specs.TableLaws.{window-halves}
 use Rattle.transform.specs.Recipe.{correctionAt}
 use Rattle.closeness.specs.Output.{outputSample}
 use Rattle.closeness.specs.Exact.{exactCorrectionAt, exactSample}

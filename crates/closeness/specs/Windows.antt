@@ -3,7 +3,7 @@ use mathlib.Core.Path.{_≡_, ap₂}
 use Prim.Native.Nat.{ℕ, _+_, _*_, _<_}
 use native.Mathlib.Omega.{arith}
 use Rattle.algebra.specs.Sums.{sumN}
-use Rattle.transform.specs.Side.{Side}
+use Rattle.lines.specs.Side.{Side}
 use Rattle.closeness.specs.Output.{weightIn}
 
 pub four-windows : (s : Side) (w : ℕ) → ((i : ℕ) → i < s .half → s .window i + s .window (i + s .half) ≡ w) → (a b : ℕ) → a < s .half → b < s .half → sumN 4 (weightIn s a b) ≡ w * w

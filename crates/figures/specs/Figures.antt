@@ -14,8 +14,8 @@ use Rattle.noise.specs.declared.Noise.the-variants.{Measured, Iso}
 use Rattle.noise.specs.Levels.{invalidCurve, invalidIso, invalidNoise, aboveLimits, levelsOf, shotLevel, readLevel}
 use Rattle.noise.specs.Root.{rootIn, wholeRoot}
 use Rattle.noise.specs.NoiseNumber.{sumOfSquares, tileRoot, variance, noiseNumber}
-use Rattle.transform.specs.Side.{cosAt, sinAt}
-use Rattle.transform.specs.Tables.{cosines, cosine16, sine16, side16}
+use Rattle.lines.specs.Side.{cosAt, sinAt}
+use Rattle.lines.specs.Tables.{cosines, cosine16, sine16, side16}
 use Rattle.transform.specs.Recipe.{wiener, twiddleRe, twiddleIm, inverseRe, inverseAt}
 
 -- v where both indices are 0, else 0

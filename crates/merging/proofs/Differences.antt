@@ -6,17 +6,18 @@ use native.Mathlib.Omega.{arith}
 use lib.IntN.{ℤ, pos, negℤ, natAbs, _+ℤ_, _-ℤ_, _*ℤ_}
 use Rattle.algebra.specs.Order.{zarith, sub-pn, min-pn, abs-pn}
 use Rattle.algebra.specs.Sums.{sumZ-cong}
-use Rattle.sequences.specs.Tab.{tab-every}
+use Rattle.sequences.specs.Tab.{tab, tab-every}
 use Rattle.sequences.specs.Grid.{grid, cell, cell-grid, grid-ext}
 use Rattle.geometry.specs.Read.{planeOf, read}
 use Rattle.geometry.specs.Bounds.{SamplesFit}
 use Rattle.geometry.specs.BoundLaws.{sample-most}
-use Rattle.transform.specs.Side.{Side, cosAt, sinAt}
+use Rattle.lines.specs.Side.{Side, cosAt, sinAt}
 use Rattle.transform.specs.Recipe.{rowRe, rowIm, binRe, binIm, filtered, inverseAt, correctionAt}
 use Rattle.merging.specs.declared.Merge.{Merge}
 use Rattle.merging.specs.Recipe.{Scene, sceneOf, tileAt, referenceTile, otherTile, difference}
-use Rattle.transform.specs.Lines.{LineMost, TileMost}
-use Rattle.transform.specs.Magnitudes.{differenceMost}
+use Rattle.merging.specs.Sum.{TileFits}
+use Rattle.lines.specs.Lines.{LineMost, TileMost}
+use Rattle.lines.specs.Magnitudes.{differenceMost}
 
 -- the correction of differences that agree on the tile
 module _ (s : Side) (d e : ℕ → ℕ → ℤ) (same : (y x : ℕ) → y < s .side → x < s .side → d y x ≡ e y x) where
@@ -48,6 +49,13 @@ unfolding difference
 difference-grid s rowParity columnParity a b k e f =
     rw (e, f) (grid-ext 16 16 _ _ (λ i j h l. ap₂ (λ x y. pos x -ℤ pos y) (cell-grid 0 16 16 _ i j h l) (cell-grid 0 16 16 _ i j h l)))
 
+pub tile-fits : {t : List (List ℕ)} (f : ℕ → ℕ → ℕ) → ((i j : ℕ) → f i j ≤ 4095) → t ≡ grid 16 16 f → TileFits t
+unfolding grid
+tile-fits f h e =
+    record {
+      row = rw e (tab-every SamplesFit [] (λ i. tab 16 (f i)) (record { most = λ j. omega arith }) (λ i. record { most = tab-every (λ n. n ≤ 4095) 0 (f i) (omega arith) (h i) 16 }) 16);
+    }
+
 apart : (x y : ℕ) → x ≤ 4095 → y ≤ 4095 → natAbs (pos x -ℤ pos y) ≤ 4095
 apart x y h k = omega (zarith, sub-pn (pos x) (pos y), min-pn (pos x -ℤ pos y), abs-pn (pos x -ℤ pos y))
 
@@ -59,11 +67,11 @@ module _ (m : Merge) {samples : List ℕ} (vectors : List ℤ) (fit : SamplesFit
   unfolding sceneOf referenceTile tileAt read planeOf
   reference-most i j = sample-most fit (m .shape) (m .reference) _ _
 
-  other-most : (k i j : ℕ) → otherTile s rowParity columnParity a b k i j ≤ 4095
+  pub other-most : (k i j : ℕ) → otherTile s rowParity columnParity a b k i j ≤ 4095
   unfolding sceneOf otherTile tileAt read planeOf
   other-most k i j = sample-most fit (m .shape) _ _ _
 
-  difference-most : (k i j : ℕ) → natAbs (difference s rowParity columnParity a b k i j) ≤ 4095
+  pub difference-most : (k i j : ℕ) → natAbs (difference s rowParity columnParity a b k i j) ≤ 4095
   unfolding difference
   difference-most k i j = apart _ _ (reference-most i j) (other-most k i j)
 

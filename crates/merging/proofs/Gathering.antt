@@ -7,7 +7,7 @@ use Rattle.algebra.specs.Sums.{sumZ-cong, sumZ-scale}
 use Rattle.algebra.specs.Clamp.{clampZ}
 use Rattle.algebra.specs.Nearest.{upward}
 use Rattle.geometry.specs.Read.{planeOf}
-use Rattle.transform.specs.Tables.{side16}
+use Rattle.lines.specs.Tables.{side16}
 use Rattle.transform.specs.Recipe.{correctionAt}
 use Rattle.closeness.specs.Output.{rowIn, columnIn, weightIn, outputSample}
 use Rattle.merging.specs.Recipe.{Scene, tileOver, noiseOver, differenceOver, planeOutput}

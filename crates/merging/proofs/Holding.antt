@@ -11,7 +11,7 @@ use Rattle.algebra.specs.Sums.{sumZ-cong}
 use Rattle.sequences.specs.Write.{written, written-in, written-before, written-after, written-length}
 use Rattle.geometry.specs.Shape.{AllowedSize}
 use Rattle.geometry.specs.Read.{planeOf}
-use Rattle.transform.specs.Tables.{side16}
+use Rattle.lines.specs.Tables.{side16}
 use Rattle.closeness.specs.Output.{rowIn, columnIn, weightIn}
 use Rattle.merging.specs.declared.Merge.{Merge}
 use Rattle.merging.specs.declared.Plane.{Plane}

@@ -1,5 +1,6 @@
 pub mod Signed
 pub mod Places
+pub mod Quotients
 pub mod Differences
 pub mod Summing
 pub mod Storing
@@ -7,5 +8,6 @@ pub mod Weights
 pub mod Gathering
 pub mod Holding
 pub mod Striding
+pub mod Blocks
 pub mod Advance
 pub mod Bands

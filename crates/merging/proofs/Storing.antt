@@ -1,37 +1,31 @@
--- A row of tiles, stored tile by tile: its record, and how it starts, goes on and ends.
-use mathlib.Core.Path.{_≡_, sym, ap, _∙_, subst, subst₂}
-use mathlib.Core.List.{List}
-use Prim.Native.Nat.{ℕ, zero, suc, _+_, _*_, _/_, _%_, _≤_, _<_}
+-- A tile, stored row by row, and a row of tiles, stored tile by tile: its record, and how it starts, goes on and ends.
+use mathlib.Core.Path.{_≡_, ap, _∙_, subst}
+use mathlib.Core.List.{List, []}
+use Prim.Native.Nat.{ℕ, _+_, _*_, _/_, _%_, _≤_, _<_}
 use native.Mathlib.Omega.{arith}
 use borrow.Author.Count.{below-more}
 use lib.IntN.{ℤ, pos, natAbs}
-use lib.ListN.{length, getD, set}
-use lib.Seq.{paste, paste-zero, paste-suc}
-use Rattle.sequences.specs.Tab.{tab, length-tab, getD-tab}
+use lib.ListN.{length, getD}
 use Rattle.sequences.specs.Grid.{cell, cell-grid}
-use Rattle.sequences.specs.Write.{written, Writing, write-start, write-turn, write-done}
+use Rattle.sequences.specs.Write.{written, Writing, write-start, write-part, write-done}
 use Rattle.merging.specs.declared.Plane.{Plane}
 use Rattle.merging.specs.Recipe.{Scene}
 use Rattle.merging.specs.Gather.{summedAt}
 use Rattle.merging.specs.Sum.{summedMost, Summed}
 use Rattle.merging.specs.Work.{rowWords, slotOf, rowWord, Stored}
 
--- m stores at once, of g 0 .. g (m − 1)
-module _ {A : Type 0} {d : List A} {at : ℕ} {f : ℕ → A} {n j m : ℕ} {l : List A} {g : ℕ → A} (w : Writing d at f n j l) (room : j + m ≤ n) (e : (k : ℕ) → k < m → g k ≡ f (j + k)) where
-  parts : (i : ℕ) → i ≤ m → Writing d at f n (j + i) (paste l (at + j) (tab m g) i)
-  parts zero h = subst₂ (λ k x. Writing d at f n k x) (omega arith) (paste-zero l (at + j) (tab m g)) w
-  parts (suc i) h =
-      let p = paste l (at + j) (tab m g) i in
-      let v = getD (tab m g) i (g i) in
-      let same = w .same in
-      let fits = w .room in
-      subst₂ (λ k x. Writing d at f n k x) (omega arith)
-      (ap (λ k. set p k v) (omega arith) ∙ paste-suc l (at + j) (tab m g) i (g i) (omega arith) (omega (arith, length-tab g m)))
-      (write-turn (parts i (omega arith)) (omega arith) (getD-tab g (g i) m i h ∙ e i h))
-
-  write-part : {r : List A} → r ≡ written l (at + j) g m → Writing d at f n (j + m) r
-  unfolding written
-  write-part {r} is = subst (Writing d at f n (j + m)) (sym is) (parts m (omega arith))
+-- a tile, stored row by row: word k is its cell at row k / 16 and column k % 16
+pub tile-turn : (tile : List (List ℤ)) {d l r : List ℤ} {at i : ℕ} → Writing d at (λ k. cell (pos 0) tile (k / 16) (k % 16)) 256 (16 * i) l → i < 16
+    → r ≡ written l (at + 16 * i) (λ j. getD (getD tile i []) j (pos 0)) 16 → Writing d at (λ k. cell (pos 0) tile (k / 16) (k % 16)) 256 (16 * (i + 1)) r
+unfolding cell
+tile-turn tile {d} {r = r} {at = at} {i = i} w h is =
+    subst (λ k. Writing d at (λ k. cell (pos 0) tile (k / 16) (k % 16)) 256 k r) (omega arith) (write-part w (omega arith) word is)
+  where
+    word : (j : ℕ) → j < 16 → getD (getD tile i []) j (pos 0) ≡ cell (pos 0) tile ((16 * i + j) / 16) ((16 * i + j) % 16)
+    word j b =
+        let row : (16 * i + j) / 16 ≡ i = omega arith in
+        let column : (16 * i + j) % 16 ≡ j = omega arith in
+        rw (row, column)
 
 -- l is d after the first n tiles of the row
 pub record Storing (s : Scene) (p : Plane) (row : ℕ) (d : List ℤ) (n : ℕ) (l : List ℤ) : Type 0 where

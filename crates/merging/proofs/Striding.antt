@@ -1,5 +1,5 @@
 -- Stores at every second place: a loop's record, and how the list gets nearer to what it should hold.
-use mathlib.Core.Path.{_≡_, refl, ap, _∙_}
+use mathlib.Core.Path.{_≡_, refl, sym, ap, _∙_, subst, subst₂}
 use mathlib.Core.List.{List}
 use Prim.Native.Nat.{ℕ, zero, suc, _+_, _*_, _≤_, _<_}
 use native.Mathlib.Numerals.{add-one}
@@ -34,6 +34,18 @@ module _ {A : Type 0} {l : List A} {at : ℕ} {f : ℕ → A} {n : ℕ} where
 
   pub stride-done : {x : ℕ} {r : List A} → Striding l at f n x r → n ≤ x → r ≡ strided l at f n
   stride-done {x} w h = let e : x ≡ n = omega (arith, w .count) in w .is ∙ ap (strided l at f) e
+
+-- m stores at once, of g 0 .. g (m − 1)
+module _ {A : Type 0} {l : List A} {at : ℕ} {f : ℕ → A} {n x : ℕ} {r : List A} (w : Striding l at f n x r) (g : ℕ → A) where
+  strides : (m : ℕ) → x + m ≤ n → ((k : ℕ) → k < m → g k ≡ f (x + k)) → Striding l at f n (x + m) (strided r (at + 2 * x) g m)
+  unfolding strided
+  strides zero room e = subst (λ k. Striding l at f n k r) (omega arith) w
+  strides (suc m) room e =
+      subst₂ (λ k p. Striding l at f n k (set (strided r (at + 2 * x) g m) p (g m))) (omega arith) (omega arith)
+      (stride-turn (strides m (omega arith) (λ k h. e k (omega arith))) (omega arith) (e m (le-refl (suc m))))
+
+  pub stride-part : {m : ℕ} {o : List A} → x + m ≤ n → ((k : ℕ) → k < m → g k ≡ f (x + k)) → o ≡ strided r (at + 2 * x) g m → Striding l at f n (x + m) o
+  stride-part {m} room e is = subst (Striding l at f n (x + m)) (sym is) (strides m room e)
 
 module _ {A : Type 0} {z : A} {g : ℕ → A} where
   pub toward-same : {l : List A} → Toward z g l l

@@ -1,20 +1,19 @@
 -- The sum of a tile's corrections, frame by frame: its record, and how it starts, goes on and ends.
-use mathlib.Core.Path.{_≡_, sym, ap, _∙_, subst}
+use mathlib.Core.Path.{_≡_, sym, ap, ap₂, _∙_, subst}
 use mathlib.Core.List.{List, []}
 use Prim.Native.Nat.{ℕ, _+_, _*_, _^_, _≤_, _<_}
 use native.Mathlib.Omega.{arith}
 use native.Mathlib.Numerals.{add-one}
 use lib.Dec.{lit<}
 use lib.IntN.{ℤ, pos, natAbs, _+ℤ_}
-use lib.ListN.{length, getD}
 use Rattle.algebra.specs.Order.{abs-add}
 use Rattle.algebra.specs.Sums.{sumZ, sumZ-suc, sumZ-cong, sumZ-0}
-use Rattle.sequences.specs.Tab.{tab, length-tab, tab-each}
-use Rattle.sequences.specs.Grid.{grid, cell, cell-grid, grid-ext}
-use Rattle.transform.specs.Tables.{side16}
+use Rattle.sequences.specs.Tab.{tab, tab-each}
+use Rattle.sequences.specs.Grid.{grid, cell, cell-grid, grid-ext, grid-of}
+use Rattle.lines.specs.Tables.{side16}
 use Rattle.transform.specs.Recipe.{correctionAt}
 use Rattle.transform.specs.ZeroLaws.{no-noise}
-use Rattle.transform.specs.Lines.{LineMost, TileMost}
+use Rattle.lines.specs.Lines.{LineMost, TileMost, Square}
 use Rattle.transform.specs.Magnitudes.{correctionMost}
 use Rattle.merging.specs.declared.Site.{Site}
 use Rattle.merging.specs.Recipe.{Scene, tileNoise, difference}
@@ -53,36 +52,32 @@ module _ {s : Scene} {t : Site} where
   cell-at : {n : ℕ} {sum : List (List ℤ)} → Summing s t n sum → (i j : ℕ) → i < 16 → j < 16 → cell (pos 0) sum i j ≡ partAt s t n i j
   cell-at {n} w i j h k = ap (λ x. cell (pos 0) x i j) (w .is) ∙ cell-grid (pos 0) 16 16 (partAt s t n) i j h k
 
-  -- one more frame: d its differences, p their correction, and r the sum with it
+  -- one more frame: d its differences, and r the sum with their correction
   module _ {n : ℕ} {sum : List (List ℤ)} (w : Summing s t n sum) (h : n < s .others) where
-    pub sum-turn : {noise : ℕ} {d p r : List (List ℤ)} → noise ≡ tileNoise s (t .«row_parity») (t .«column_parity») (t .row) (t .column)
+    pub sum-turn : {noise : ℕ} {d r : List (List ℤ)} → noise ≡ tileNoise s (t .«row_parity») (t .«column_parity») (t .row) (t .column)
         → d ≡ grid 16 16 (difference s (t .«row_parity») (t .«column_parity») (t .row) (t .column) n)
-        → p ≡ grid 16 16 (correctionAt side16 noise (cell (pos 0) d))
-        → r ≡ grid 16 16 (λ i j. cell (pos 0) sum i j +ℤ cell (pos 0) p i j)
-        → TileMost correctionMost p
+        → r ≡ grid 16 16 (λ i j. cell (pos 0) sum i j +ℤ correctionAt side16 noise (cell (pos 0) d) i j)
+        → ((i j : ℕ) → natAbs (termAt s t n i j) ≤ correctionMost)
         → Summing s t (n + 1) r
-    unfolding side16 cell
-    sum-turn {noise} {d} {p} {r} v de pe re small =
+    unfolding side16
+    sum-turn {noise} {d} {r} v de re small =
         record {
           count = omega arith;
           few = w .few;
-          is = re ∙ grid-ext 16 16 _ _ next;
-          most = λ i j k l. subst (λ z. natAbs z ≤ (n + 1) * correctionMost) (next i j k l) (omega (arith, abs-add (cell (pos 0) sum i j) (cell (pos 0) p i j), small .line i .at j, ap natAbs (cell-at w i j k l), w .most i j k l));
+          is = re ∙ grid-ext 16 16 _ _ (λ i j k l. ap₂ _+ℤ_ (cell-at w i j k l) (term i j) ∙ next i j);
+          most = λ i j k l. subst (λ z. natAbs z ≤ (n + 1) * correctionMost) (next i j) (omega (arith, abs-add (partAt s t n i j) (termAt s t n i j), small i j, w .most i j k l));
         }
       where
-        term : (i j : ℕ) → i < 16 → j < 16 → cell (pos 0) p i j ≡ termAt s t n i j
-        term i j k l =
-            ap (λ x. cell (pos 0) x i j) pe
-            ∙ cell-grid (pos 0) 16 16 _ i j k l
-            ∙ ap (λ m. correctionAt side16 m (cell (pos 0) d) i j) v
+        term : (i j : ℕ) → correctionAt side16 noise (cell (pos 0) d) i j ≡ termAt s t n i j
+        term i j =
+            ap (λ m. correctionAt side16 m (cell (pos 0) d) i j) v
             ∙ correction-cong side16 (cell (pos 0) d) _ (λ y x g f. ap (λ z. cell (pos 0) z y x) de ∙ cell-grid (pos 0) 16 16 _ y x g f) _ i j
 
-        next : (i j : ℕ) → i < 16 → j < 16 → cell (pos 0) sum i j +ℤ cell (pos 0) p i j ≡ partAt s t (n + 1) i j
-        next i j k l = rw (cell-at w i j k l, term i j k l, add-one n, sumZ-suc)
+        next : (i j : ℕ) → partAt s t n i j +ℤ termAt s t n i j ≡ partAt s t (n + 1) i j
+        next i j = rw (add-one n, sumZ-suc)
 
-  pub sum-length : {n : ℕ} {sum : List (List ℤ)} → Summing s t n sum → length sum ≡ 16
-  unfolding grid
-  sum-length {n} w = ap length (w .is) ∙ length-tab (λ i. tab 16 (partAt s t n i)) 16
+  pub sum-square : {n : ℕ} {sum : List (List ℤ)} → Summing s t n sum → Square sum
+  sum-square {n} w = record { is = grid-of (pos 0) 16 16 (partAt s t n) (w .is) }
 
   pub sum-small : {n : ℕ} {sum : List (List ℤ)} → Summing s t n sum → TileMost (2 ^ 40) sum
   unfolding grid

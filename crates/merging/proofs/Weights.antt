@@ -1,16 +1,18 @@
--- The windowed sum of the four tiles over a sample, term by term.
-use mathlib.Core.Path.{_≡_}
+-- Weights, words that are weighed, and the windowed sum of the four tiles over a sample, term by term.
+use mathlib.Core.Path.{_≡_, subst}
 use mathlib.Core.List.{List}
-use Prim.Native.Nat.{ℕ, _+_, _-_, _*_, _/_, _%_, _≤_, _<_}
+use Prim.Native.Nat.{ℕ, _+_, _*_, _/_, _%_, _≤_, _<_}
 use native.Mathlib.Nat.{mul-le-mul}
 use native.Mathlib.Omega.{arith}
 use lib.Dec.{leb, leb→le}
-use lib.IntN.{ℤ, pos, _+ℤ_, _*ℤ_, +ℤ-idl}
+use lib.IntN.{ℤ, pos, natAbs, _+ℤ_, _*ℤ_, +ℤ-idl}
 use lib.ListN.{getD}
 use Rattle.algebra.specs.Test.{all-sound}
 use Rattle.algebra.specs.Sums.{sumZ}
-use Rattle.transform.specs.Tables.{windows, window16, side16}
-use Rattle.merging.specs.Gather.{windowed, wordOver}
+use Rattle.sequences.specs.Tab.{getD-tab}
+use Rattle.lines.specs.Tables.{windows, window16, side16}
+use Rattle.merging.specs.Gather.{weightRow, windowed, wordOver}
+use Rattle.merging.specs.Sum.{summedMost}
 use Rattle.merging.specs.Work.{Words}
 
 window-most : (i : ℕ) → i < 16 → window16 i ≤ 4096
@@ -20,25 +22,42 @@ window-most i h = leb→le (window16 i) 4096 (all-sound 16 (λ i. leb (window16 
 pub weight-most : (i j : ℕ) → i < 16 → j < 16 → window16 i * window16 j ≤ 16777216
 weight-most i j h k = mul-le-mul {n₁ = window16 i} {m₁ = window16 j} {n₂ = 4096} {m₂ = 4096} (window-most i h) (window-most j k)
 
+pub weight-at : (i j : ℕ) → j < 16 → getD (weightRow i) j (pos 0) ≡ pos (window16 i * window16 j)
+unfolding weightRow
+weight-at i j h = getD-tab (λ j. pos (window16 i * window16 j)) (pos 0) 16 j h
+
+-- fewer words from the same place on, and from a later one on
 pub words-fewer : {work : List ℤ} {at n : ℕ} (m : ℕ) → Words work at n → m ≤ n → Words work at m
 words-fewer m w h = record { room = omega (arith, w .room); most = λ k l. w .most k (omega arith) }
 
--- where a tile's term stands
-abbrev pub term : List ℤ → (start column i j : ℕ) → ℤ
-term work start column i j = pos (window16 i * window16 j) *ℤ getD work (start + (256 * column + (16 * i + j))) (pos 0)
+pub words-later : {work : List ℤ} {at n : ℕ} (k m : ℕ) → Words work at n → k + m ≤ n → Words work (at + k) m
+words-later {work} {at} k m w h =
+    record {
+      room = omega (arith, w .room);
+      most = λ j l. subst (λ p. natAbs (getD work p (pos 0)) ≤ summedMost) (omega arith) (w .most (k + j) (omega arith));
+    }
 
-module _ (work : List ℤ) (above below i x : ℕ) where
-  pub windowed-four : {a b c d : ℤ} → a ≡ term work below (x / 8 + 1) i (x % 8) → b ≡ term work below (x / 8) i (x % 8 + 8)
-      → c ≡ term work above (x / 8 + 1) (i + 8) (x % 8) → d ≡ term work above (x / 8) (i + 8) (x % 8 + 8)
-      → a +ℤ b +ℤ c +ℤ d ≡ windowed i (x % 8) (wordOver work above below i x)
+-- what a tile whose words start at `start` has at its row i and column j, weighed
+abbrev pub term : List ℤ → (start i j : ℕ) → ℤ
+term work start i j = pos (window16 i * window16 j) *ℤ getD work (start + (16 * i + j)) (pos 0)
+
+module _ (work : List ℤ) (above below i j : ℕ) (h : j < 8) where
+  pub windowed-four : {a b c d : ℤ} → a ≡ term work (below + 256) i j → b ≡ term work below i (j + 8) → c ≡ term work (above + 256) (i + 8) j → d ≡ term work above (i + 8) (j + 8)
+      → a +ℤ b +ℤ c +ℤ d ≡ windowed i j (wordOver work above below i j)
   unfolding windowed wordOver sumZ side16
-  windowed-four a b c d = rw (a, b, c, d, +ℤ-idl, none i, none (x % 8), last, before)
+  windowed-four a b c d = rw (a, b, c, d, +ℤ-idl, first, column, none i, none j, right below (16 * i + j), right above (16 * (i + 8) + j), left below (16 * i + (j + 8)), left above (16 * (i + 8) + (j + 8)))
     where
       none : (a : ℕ) → a + 0 ≡ a
       none a = omega arith
 
-      last : x / 8 + 1 - 0 ≡ x / 8 + 1
-      last = omega arith
+      first : j / 8 ≡ 0
+      first = omega arith
 
-      before : x / 8 + 1 - 1 ≡ x / 8
-      before = omega arith
+      column : j % 8 ≡ j
+      column = omega arith
+
+      right : (a b : ℕ) → a + 256 + b ≡ a + (256 + b)
+      right a b = omega arith
+
+      left : (a b : ℕ) → a + (0 + b) ≡ a + b
+      left a b = omega arith

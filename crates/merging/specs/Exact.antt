@@ -4,7 +4,7 @@ use lib.IntN.{pos}
 use Rattle.algebra.specs.Fraction.{Frac}
 use Rattle.geometry.specs.Read.{planeOf}
 use Rattle.geometry.specs.Tiles.{level0}
-use Rattle.transform.specs.Tables.{side16}
+use Rattle.lines.specs.Tables.{side16}
 use Rattle.closeness.specs.Exact.{exactSample}
 use Rattle.merging.specs.Recipe.{Scene, noiseOver, differenceOver}
 

@@ -6,7 +6,8 @@ use lib.ListN.{getD}
 use Rattle.algebra.specs.Sums.{sumZ}
 use Rattle.algebra.specs.Clamp.{clampZ}
 use Rattle.algebra.specs.Nearest.{upward}
-use Rattle.transform.specs.Tables.{side16}
+use Rattle.sequences.specs.Tab.{tab}
+use Rattle.lines.specs.Tables.{window16, side16}
 use Rattle.transform.specs.Recipe.{correctionAt}
 use Rattle.closeness.specs.Output.{rowIn, columnIn, weightIn}
 use Rattle.merging.specs.Recipe.{Scene, tileNoise, difference}
@@ -15,6 +16,10 @@ use Rattle.merging.specs.Recipe.{Scene, tileNoise, difference}
 unfoldable pub summedAt : Scene → (rowParity columnParity a b i j : ℕ) → ℤ
 summedAt s rowParity columnParity a b i j =
     sumZ (s .others) (λ k. correctionAt side16 (tileNoise s rowParity columnParity a b) (difference s rowParity columnParity a b k) i j)
+
+-- the weights of row i of a tile
+unfoldable pub weightRow : (i : ℕ) → List ℤ
+weightRow i = tab 16 (λ j. pos (window16 i * window16 j))
 
 -- what the four tiles over a sample have at it, windowed and added; the sample is row i and column j of the last tile
 unfoldable pub windowed : (i j : ℕ) → (ℕ → ℤ) → ℤ

@@ -7,7 +7,7 @@ use Rattle.geometry.specs.Read.{Image, sampleAt, planeOf, read}
 use Rattle.geometry.specs.Tiles.{level0, origin}
 use Rattle.geometry.specs.Vectors.{otherFrame, downAt, rightAt}
 use Rattle.noise.specs.NoiseNumber.{tileRoot, noiseNumber}
-use Rattle.transform.specs.Tables.{side16}
+use Rattle.lines.specs.Tables.{side16}
 use Rattle.closeness.specs.Output.{outputSample}
 use Rattle.merging.specs.declared.Merge.{Merge}
 

@@ -1,13 +1,19 @@
 -- A tile's corrections on the way to their sum.
 use mathlib.Core.Path.{_≡_}
-use mathlib.Core.List.{List}
+use mathlib.Core.List.{List, []}
 use Prim.Native.Nat.{ℕ, _^_, _≤_, _<_}
 use lib.IntN.{ℤ, natAbs}
+use lib.ListN.{getD}
 use Rattle.sequences.specs.Grid.{grid}
+use Rattle.geometry.specs.Bounds.{SamplesFit}
 use Rattle.transform.specs.Magnitudes.{noiseMost}
 use Rattle.merging.specs.declared.Site.{Site}
 use Rattle.merging.specs.Recipe.{Scene, referenceTile, tileNoise}
 use Rattle.merging.specs.Gather.{summedAt}
+
+-- each sample of a tile is at most 4095
+pub record TileFits (t : List (List ℕ)) : Type 0 where
+  pub row : (i : ℕ) → SamplesFit (getD t i [])
 
 -- t0 is the reference tile, and `noise` its noise number
 pub record TileOf (s : Scene) (t : Site) (t0 : List (List ℕ)) (noise : ℕ) : Type 0 where

@@ -9,7 +9,7 @@ use Rattle.geometry.specs.declared.Shape.{Shape}
 use Rattle.geometry.specs.Read.{Sampled, sampleAt, planeOf}
 use Rattle.merging.specs.declared.Plane.{Plane}
 use Rattle.merging.specs.Recipe.{Scene}
-use Rattle.merging.specs.Gather.{summedAt, windowed, corrected, wordOver}
+use Rattle.merging.specs.Gather.{summedAt, weightRow, windowed, corrected, wordOver}
 use Rattle.merging.specs.Accepted.{Planar}
 use Rattle.merging.specs.Sum.{summedMost}
 
@@ -29,6 +29,14 @@ pub record Words (work : List ℤ) (at n : ℕ) : Type 0 where
   pub room : at + n ≤ length work
   pub most : (k : ℕ) → k < n → natAbs (getD work (at + k) (pos 0)) ≤ summedMost
 
+-- two tiles from `above` on, two from `below` on, and the weights of row i of the lower ones and of row i + 8 of the upper ones
+pub record Weighed (work : List ℤ) (above below : ℕ) (lower upper : List ℤ) (i : ℕ) : Type 0 where
+  pub upper-words : Words work above 512
+  pub lower-words : Words work below 512
+  pub lower-weights : lower ≡ weightRow i
+  pub upper-weights : upper ≡ weightRow (i + 8)
+  pub row : i < 8
+
 -- the work area holds a row of tiles
 pub record Held (s : Scene) (p : Plane) (row : ℕ) (work : List ℤ) : Type 0 where
   pub words : Words work (slotOf (s .width) row) (rowWords (s .width))
@@ -38,6 +46,11 @@ pub record Held (s : Scene) (p : Plane) (row : ℕ) (work : List ℤ) : Type 0 w
 pub record Stored (s : Scene) (p : Plane) (row : ℕ) (d l : List ℤ) : Type 0 where
   pub is : l ≡ written d (slotOf (s .width) row) (rowWord s p row) (rowWords (s .width))
   pub most : (k : ℕ) → k < rowWords (s .width) → natAbs (rowWord s p row k) ≤ summedMost
+
+-- the output's word at column x of a row: it is row i of the tiles from `below` on and row i + 8 of those from `above` on, and its samples are every second
+-- word from `from` on
+unfoldable pub wordFrom : (samples : List ℕ) (from : ℕ) (work : List ℤ) (above below i count x : ℕ) → ℕ
+wordFrom samples from work above below i count x = natAbs (corrected (getD samples (from + 2 * x) 0) (windowed i (x % 8) (wordOver work above below i x)) (count - 1))
 
 -- the output's word at row y and column x of a plane, from the rows of tiles in the work area
 unfoldable pub outputWord : Shape → (reference : ℕ) (samples : List ℕ) (work : List ℤ) → Plane → (y x : ℕ) → ℕ

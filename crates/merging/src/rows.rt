@@ -2,7 +2,7 @@
 ghost use mathlib.Core.Path.{_≡_};
 ghost use Prim.Native.Nat.{_+_, _*_, _/_, _%_, _≤_};
 ghost use lib.IntN.{pos};
-ghost use lib.ListN.{length};
+ghost use lib.ListN.{length, getD};
 ghost use Rattle.sequences.specs.Grid.{cell};
 ghost use Rattle.sequences.specs.Write.{written};
 ghost use Rattle.merging.specs.Recipe.{sceneOf};
@@ -13,12 +13,21 @@ use crate::Plane;
 use crate::Site;
 use crate::tiles::tile_correction;
 
-fn store_tile(work: &mut [i64], at: usize, tile: [[i64; 16]; 16])
-    requires { ⌜ at + 256 ≤ length (now work) ⌝ }
-    ensures { λ _. ⌜ now (work .exit) ≡ written (now (work .entry)) at (λ k. cell (pos 0) tile (k / 16) (k % 16)) 256 ⌝ }
+fn store_row(work: &mut [i64], at: usize, row: &[i64; 16])
+    requires { ⌜ at + 16 ≤ length (now work) ⌝ }
+    ensures { λ _. ⌜ now (work .exit) ≡ written (now (work .entry)) at (λ j. getD (now (row .entry)) j (pos 0)) 16 ⌝ }
 {
-    for k in 0..256 {
-        work[at + k] = tile[k / 16][k % 16];
+    for j in 0..16 {
+        work[at + j] = row[j];
+    }
+}
+
+fn store_tile(work: &mut [i64], at: usize, tile: &[[i64; 16]; 16])
+    requires { ⌜ at + 256 ≤ length (now work) ⌝ }
+    ensures { λ _. ⌜ now (work .exit) ≡ written (now (work .entry)) at (λ k. cell (pos 0) (now (tile .entry)) (k / 16) (k % 16)) 256 ⌝ }
+{
+    for i in 0..16 {
+        store_row(&mut *work, at + 16 * i, &tile[i]);
     }
 }
 
@@ -51,7 +60,8 @@ pub fn correction_row(
             row,
             column,
         };
-        let tile = tile_correction(m, samples, vectors, site);
-        store_tile(&mut *work, start + 256 * column, tile);
+        let mut sum = [[0i64; 16]; 16];
+        tile_correction(m, samples, vectors, site, &mut sum);
+        store_tile(&mut *work, start + 256 * column, &sum);
     }
 }

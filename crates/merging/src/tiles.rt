@@ -1,19 +1,19 @@
 // Tiles of a plane: T0 and Tz, their differences, and the corrections of a tile summed over the other frames.
 ghost use mathlib.Core.Path.{_≡_};
-ghost use Prim.Native.Nat.{_+_, _*_, _/_, _≤_, _<_, _^_};
+ghost use Prim.Native.Nat.{_+_, _*_, _/_, _≤_, _<_};
 ghost use lib.IntN.{pos, _+ℤ_, _-ℤ_};
-ghost use lib.ListN.{length, getD};
+ghost use lib.ListN.{getD};
 ghost use Rattle.algebra.specs.Bound.{AtMost};
 ghost use Rattle.sequences.specs.Tab.{tab};
 ghost use Rattle.sequences.specs.Grid.{grid, cell};
 ghost use Rattle.geometry.specs.Shape.{Allowed, vectorLength};
 ghost use Rattle.geometry.specs.Read.{Sampled, sampleAt};
+ghost use Rattle.geometry.specs.Bounds.{SamplesFit};
 ghost use Rattle.geometry.specs.Tiles.{origin};
 ghost use Rattle.geometry.specs.Vectors.{vectorPlace};
 ghost use Rattle.plane_view.specs.View.{Near};
 ghost use Rattle.noise.specs.NoiseNumber.{tileRoot, noiseNumber};
-ghost use Rattle.transform.specs.Lines.{LineMost, TileMost};
-ghost use Rattle.merging.specs.Sum.{TileOf, Summed};
+ghost use Rattle.merging.specs.Sum.{TileFits, TileOf, Summed};
 ghost use Rattle.merging.specs.Recipe.{sceneOf, tileAt, otherTile};
 ghost use Rattle.merging.specs.Accepted.{Accepted, Sited};
 use crate::Merge;
@@ -21,16 +21,18 @@ use crate::Site;
 use geometry::Shape;
 use geometry::vectors::other_frame;
 
-fn minus(a: u16, b: u16) -> i32
+fn minus(a: u16, b: u16) -> i16
+    requires { ⌜ (a ≤ 4095) × (b ≤ 4095) ⌝ }
     ensures { λ r. ⌜ r ≡ pos a -ℤ pos b ⌝ }
 {
-    a as i32 - b as i32
+    a as i16 - b as i16
 }
 
-fn difference_row(a: [u16; 16], b: [u16; 16]) -> [i32; 16]
-    ensures { λ r. ⌜ r ≡ tab 16 (λ j. pos (getD a j 0) -ℤ pos (getD b j 0)) ⌝ }
+fn difference_row(a: &[u16; 16], b: &[u16; 16]) -> [i16; 16]
+    requires { ⌜ (SamplesFit (now a)) × (SamplesFit (now b)) ⌝ }
+    ensures { λ r. ⌜ r ≡ tab 16 (λ j. pos (getD (now (a .entry)) j 0) -ℤ pos (getD (now (b .entry)) j 0)) ⌝ }
 {
-    let mut row = [0i32; 16];
+    let mut row = [0i16; 16];
     for j in 0..16 {
         row[j] = minus(a[j], b[j]);
     }
@@ -38,12 +40,13 @@ fn difference_row(a: [u16; 16], b: [u16; 16]) -> [i32; 16]
 }
 
 // T0 - Tz
-fn difference(t0: [[u16; 16]; 16], tz: [[u16; 16]; 16]) -> [[i32; 16]; 16]
-    ensures { λ r. ⌜ r ≡ grid 16 16 (λ i j. pos (cell 0 t0 i j) -ℤ pos (cell 0 tz i j)) ⌝ }
+fn difference(t0: &[[u16; 16]; 16], tz: &[[u16; 16]; 16]) -> [[i16; 16]; 16]
+    requires { ⌜ (TileFits (now t0)) × (TileFits (now tz)) ⌝ }
+    ensures { λ r. ⌜ r ≡ grid 16 16 (λ i j. pos (cell 0 (now (t0 .entry)) i j) -ℤ pos (cell 0 (now (tz .entry)) i j)) ⌝ }
 {
-    let mut d = [[0i32; 16]; 16];
+    let mut d = [[0i16; 16]; 16];
     for i in 0..16 {
-        d[i] = difference_row(t0[i], tz[i]);
+        d[i] = difference_row(&t0[i], &tz[i]);
     }
     d
 }
@@ -102,35 +105,6 @@ fn other_tile(m: Merge, samples: &[u16], vectors: &[i32], site: Site, k: usize) 
     tile(shape, samples, frame, site, down, right)
 }
 
-// One more of a few terms.
-fn plus(sum: i64, term: i32) -> i64
-    requires { ⌜ AtMost (2 ^ 40) sum ⌝ }
-    ensures { λ r. ⌜ r ≡ sum +ℤ term ⌝ }
-{
-    sum + term as i64
-}
-
-fn added_row(sum: [i64; 16], term: [i32; 16]) -> [i64; 16]
-    requires { ⌜ LineMost (2 ^ 40) sum ⌝ }
-    ensures { λ r. ⌜ r ≡ tab 16 (λ j. getD sum j (pos 0) +ℤ getD term j (pos 0)) ⌝ }
-{
-    let mut row = [0i64; 16];
-    for j in 0..16 {
-        row[j] = plus(sum[j], term[j]);
-    }
-    row
-}
-
-// The term is added to the sum in its place.
-fn add(sum: &mut [[i64; 16]; 16], term: &[[i32; 16]; 16])
-    requires { ⌜ (length (now sum) ≡ 16) × (TileMost (2 ^ 40) (now sum)) ⌝ }
-    ensures { λ _. ⌜ now (sum .exit) ≡ grid 16 16 (λ i j. cell (pos 0) (now (sum .entry)) i j +ℤ cell (pos 0) (now (term .entry)) i j) ⌝ }
-{
-    for i in 0..16 {
-        sum[i] = added_row(sum[i], term[i]);
-    }
-}
-
 // V of a tile.
 fn tile_noise(m: Merge, t0: [[u16; 16]; 16]) -> u64
     requires { ⌜ (m .shot ≤ 65536) × (m .read ≤ 4194304) × (m .strength ≤ 1024) ⌝ }
@@ -139,38 +113,43 @@ fn tile_noise(m: Merge, t0: [[u16; 16]; 16]) -> u64
     noise::noise_number(m.strength, m.shot, m.read, noise::tile_root(t0))
 }
 
-// The corrections of a tile at its noise number, summed over the other frames.
+// The corrections of a tile at its noise number, summed over the other frames from 0.
 fn corrections(
     m: Merge,
     samples: &[u16],
     vectors: &[i32],
     site: Site,
-    t0: [[u16; 16]; 16],
+    t0: &[[u16; 16]; 16],
     noise: u64,
-) -> [[i64; 16]; 16]
-    requires { ⌜ (Accepted m (now samples) (now vectors)) × (Sited (m .shape) site) × (TileOf (sceneOf m (now samples) (now vectors)) site t0 noise) ⌝ }
-    ensures { λ r. ⌜ Summed (sceneOf m (now (samples .entry)) (now (vectors .entry))) site r ⌝ }
+    sum: &mut [[i64; 16]; 16],
+)
+    requires { ⌜ (Accepted m (now samples) (now vectors)) × (Sited (m .shape) site) × (TileOf (sceneOf m (now samples) (now vectors)) site (now t0) noise) × (now sum ≡ grid 16 16 (λ i j. pos 0)) ⌝ }
+    ensures { λ _. ⌜ Summed (sceneOf m (now (samples .entry)) (now (vectors .entry))) site (now (sum .exit)) ⌝ }
 {
     let others = m.shape.count - 1;
-    let mut sum = [[0i64; 16]; 16];
     for k in 0..others {
         let tz = other_tile(m, samples, vectors, site, k);
-        let term = transform::correction(difference(t0, tz), noise);
-        add(&mut sum, &term);
+        let d = difference(t0, &tz);
+        transform::add_correction(d, noise, &mut *sum);
     }
-    sum
 }
 
-// T0, r and V of a tile, and its corrections, summed over the other frames; all 0 where V is.
-pub fn tile_correction(m: Merge, samples: &[u16], vectors: &[i32], site: Site) -> [[i64; 16]; 16]
-    requires { ⌜ (Accepted m (now samples) (now vectors)) × (Sited (m .shape) site) ⌝ }
-    ensures { λ r. ⌜ Summed (sceneOf m (now (samples .entry)) (now (vectors .entry))) site r ⌝ }
+// T0, r and V of a tile, and its corrections, summed over the other frames from 0; all 0 where V is.
+pub fn tile_correction(
+    m: Merge,
+    samples: &[u16],
+    vectors: &[i32],
+    site: Site,
+    sum: &mut [[i64; 16]; 16],
+)
+    requires { ⌜ (Accepted m (now samples) (now vectors)) × (Sited (m .shape) site) × (now sum ≡ grid 16 16 (λ i j. pos 0)) ⌝ }
+    ensures { λ _. ⌜ Summed (sceneOf m (now (samples .entry)) (now (vectors .entry))) site (now (sum .exit)) ⌝ }
 {
     let shape = m.shape;
     let t0 = tile(shape, samples, m.reference, site, 0, 0);
     let noise = tile_noise(m, t0);
     if noise == 0 {
-        return [[0i64; 16]; 16];
+        return;
     }
-    corrections(m, samples, vectors, site, t0, noise)
+    corrections(m, samples, vectors, site, &t0, noise, &mut *sum);
 }

@@ -1,13 +1,17 @@
 -- Places of a plane are places of its frame, and a frame is small.
-use mathlib.Core.Path.{_≡_, ap}
+use mathlib.Core.Path.{_≡_, ap, _∙_}
 use mathlib.Core.List.{List}
 use Prim.Native.Nat.{ℕ, _+_, _*_, _^_, _≤_, _<_}
 use native.Mathlib.Nat.{mul-le-mul, mul-le-mul-right, add-mul}
 use native.Mathlib.Omega.{arith}
-use lib.IntN.{ℤ}
+use lib.IntN.{ℤ, pos, negsuc, natAbs, _+ℤ_}
+use lib.Signed.{_≤ℤ_}
 use lib.ListN.{getD}
+use Rattle.sequences.specs.Tab.{tab}
+use Rattle.sequences.specs.Grid.{tab-ext}
 use Rattle.geometry.specs.Read.{sampleIndex, sampleAt, planeOf, inside, read}
-use Rattle.plane_view.specs.View.{planeImage, planeSample, Planar, RowStart}
+use Rattle.geometry.specs.ReadLaws.{inside-same}
+use Rattle.plane_view.specs.View.{planeImage, planeSample, planeRow, Planar, RowStart}
 
 module _ {width height rowParity columnParity : ℕ} (p : Planar width height rowParity columnParity) where
   -- the row of the frame ends in it
@@ -24,3 +28,15 @@ pub sample-in-row : {y : ℤ} {width height rowParity columnParity r : ℕ} (sam
     getD samples (r + 2 * inside width x) 0 ≡ planeSample y x samples width height rowParity columnParity
 unfolding planeSample planeImage planeOf read sampleAt sampleIndex
 sample-in-row samples x s = ap (λ n. getD samples n 0) (omega (arith, s .is))
+
+-- a row of a tile by where its row starts
+module _ {y : ℤ} {width height rowParity columnParity r : ℕ} (samples : List ℕ) (s : RowStart y width height rowParity columnParity r) where
+  pub row-by-start : (side : ℕ) (x : ℤ) → tab side (λ j. getD samples (r + 2 * inside width (x +ℤ pos j)) 0) ≡ planeRow side y x samples width height rowParity columnParity
+  unfolding planeRow
+  row-by-start side x = tab-ext side _ _ (λ j h. sample-in-row samples (x +ℤ pos j) s)
+
+  -- inside the plane, nothing is held to an edge
+  pub inner-by-start : (side : ℕ) (x : ℤ) → pos 0 ≤ℤ x → natAbs x + side ≤ width → tab side (λ j. getD samples (r + 2 * natAbs x + 2 * j) 0) ≡ planeRow side y x samples width height rowParity columnParity
+  inner-by-start side (pos first) h room =
+      tab-ext side _ _ (λ j l. let same = inside-same width (first + j) (omega arith) in ap (λ n. getD samples n 0) (omega (arith, same))) ∙ row-by-start side (pos first)
+  inner-by-start side (negsuc a) h room = absurd (h .le)

@@ -1,9 +1,10 @@
 // A view of one plane of one frame: it reads the caller's samples without copying them.
 ghost use mathlib.Core.Path.{_≡_};
-ghost use Prim.Native.Nat.{_/_, _<_};
+ghost use Prim.Native.Nat.{_+_, _*_, _/_, _≤_, _<_};
 ghost use lib.IntN.{pos, _+ℤ_};
-ghost use lib.ListN.{length};
-ghost use Rattle.geometry.specs.Read.{Sampled, sampleAt, planeOf};
+ghost use lib.ListN.{length, getD};
+ghost use Rattle.sequences.specs.Tab.{tab};
+ghost use Rattle.geometry.specs.Read.{Sampled, sampleAt, planeOf, inside};
 ghost use Rattle.plane_view.specs.View.{tileOf, planeSample, planeRow, planeTile, Planar, Shaped, Near, RowStart};
 use geometry::Shape;
 use geometry::read::inside;
@@ -50,6 +51,30 @@ fn along(z: i64, k: usize) -> i64
     z + k as i64
 }
 
+// A row of a tile that lies inside the plane, by the place of its first sample: no sample needs a test against the edges.
+fn inner_row(samples: &[u16], first: usize) -> [u16; 16]
+    requires { ⌜ first + 30 < length (now samples) ⌝ }
+    ensures { λ r. ⌜ r ≡ tab 16 (λ j. getD (now (samples .entry)) (first + 2 * j) 0) ⌝ }
+{
+    let mut row = [0u16; 16];
+    for j in 0..16 {
+        row[j] = samples[first + 2 * j];
+    }
+    row
+}
+
+// A row of a tile that may reach over an edge, by where the row starts; its first column is x.
+fn edge_row(start: usize, x: i64, samples: &[u16], width: usize) -> [u16; 16]
+    requires { ⌜ (0 < width) × (width ≤ 2048) × (start + 2 * width ≤ length (now samples) + 1) × (Near x) ⌝ }
+    ensures { λ r. ⌜ r ≡ tab 16 (λ j. getD (now (samples .entry)) (start + 2 * inside width (x +ℤ pos j)) 0) ⌝ }
+{
+    let mut row = [0u16; 16];
+    for j in 0..16 {
+        row[j] = samples[start + 2 * inside(along(x, j), width)];
+    }
+    row
+}
+
 // Row y of a tile whose first column is x.
 fn tile_row(
     y: i64,
@@ -64,11 +89,13 @@ fn tile_row(
     ensures { λ r. ⌜ r ≡ planeRow 16 y x (now (samples .entry)) width height «row_parity» «column_parity» ⌝ }
 {
     let start = row_start(y, width, height, row_parity, column_parity);
-    let mut row = [0u16; 16];
-    for j in 0..16 {
-        row[j] = samples[start + 2 * inside(along(x, j), width)];
+    if 0 <= x {
+        let first = x as usize;
+        if first + 16 <= width {
+            return inner_row(samples, start + 2 * first);
+        }
     }
-    row
+    edge_row(start, x, samples, width)
 }
 
 // The tile whose first row is y and whose first column is x.

@@ -1,13 +1,13 @@
--- Rounding upward, from the absolute value. The floor is unique, so each way is two inequalities.
+-- Rounding the absolute value. The floor is unique, so it is two inequalities.
 use mathlib.Core.Path.{_≡_, sym}
 use mathlib.Core.List.{[], _∷_}
-use Prim.Native.Nat.{ℕ, _+_, _-_, _*_, _/_, _%_, _≤_, _<_}
+use Prim.Native.Nat.{ℕ, _+_, _*_, _/_, _≤_, _<_}
 use native.Mathlib.Nat.{mul-pos, mul-le-mul-left, div-add-mod', mod-lt, div-mul-le-self, div-lt-iff-lt-mul}
 use native.Mathlib.Omega.{arith}
 use lib.Dec.{lit<}
-use lib.IntN.{pos, negℤ}
+use lib.IntN.{pos}
 use Rattle.algebra.specs.Vars.{vars3}
-use Rattle.algebra.specs.Ring.{_⊞_, _⊠_, ⊖_, #_}
+use Rattle.algebra.specs.Ring.{_⊞_, _⊠_, #_}
 use Rattle.algebra.specs.Cert.{le, by-le, by-lt, le-pos}
 use Rattle.algebra.specs.Floor.{floor-unique}
 use Rattle.algebra.specs.Nearest.{upward}
@@ -22,16 +22,6 @@ module _ (a m n : ℕ) (h : 0 < m) where
       (floor-unique _ (pos n) (2 * m) (mul-pos {m = 2} (lit< tt) h)
       (by-le xs (# 2 ⊠ M ⊠ N) (# 2 ⊠ A ⊞ M) (le (# 2 ⊠ (M ⊠ N)) (# 2 ⊠ A ⊞ M) (le-pos k)) tt)
       (by-lt xs (# 2 ⊠ A ⊞ M) (# 2 ⊠ M ⊠ N ⊞ # 2 ⊠ M) (le (# 2 ⊠ A ⊞ # 1) (# 2 ⊠ (M ⊠ N) ⊞ M) (le-pos l)) tt))
-
-  upward-neg : 2 * a ≤ 2 * (m * n) + m → 2 * (m * n) + 1 ≤ 2 * a + m → negℤ (pos n) ≡ upward (negℤ (pos a)) m
-  unfolding upward
-  upward-neg k l =
-      let (A, M, N) = vars3 in
-      let xs = pos a ∷ pos m ∷ pos n ∷ [] in
-      sym
-      (floor-unique _ (negℤ (pos n)) (2 * m) (mul-pos {m = 2} (lit< tt) h)
-      (by-le xs (# 2 ⊠ M ⊠ ⊖ N) (# 2 ⊠ ⊖ A ⊞ M) (le (# 2 ⊠ A) (# 2 ⊠ (M ⊠ N) ⊞ M) (le-pos k)) tt)
-      (by-lt xs (# 2 ⊠ ⊖ A ⊞ M) (# 2 ⊠ M ⊠ ⊖ N ⊞ # 2 ⊠ M) (le (# 2 ⊠ (M ⊠ N) ⊞ # 1) (# 2 ⊠ A ⊞ M) (le-pos l)) tt))
 
 -- the floor of (a + b)/m, where b is half of m or less
 module _ (a m b : ℕ) (h : 0 < m) where
@@ -50,7 +40,3 @@ module _ (a m b : ℕ) (h : 0 < m) where
 pub up : (a m : ℕ) → 0 < m → (pos ((a + m / 2) / m) ≡ upward (pos a) m) × ((a + m / 2) / m ≤ a)
 up a m h =
     (upward-pos a m (n a m (m / 2) h) h (omega (arith, low a m (m / 2) h)) (omega (arith, high a m (m / 2) h)), small a m (m / 2) h (omega arith))
-
-pub down : (a m : ℕ) → 0 < m → (negℤ (pos ((a + (m - 1) / 2) / m)) ≡ upward (negℤ (pos a)) m) × ((a + (m - 1) / 2) / m ≤ a)
-down a m h =
-    (upward-neg a m (n a m ((m - 1) / 2) h) h (omega (arith, high a m ((m - 1) / 2) h)) (omega (arith, low a m ((m - 1) / 2) h)), small a m ((m - 1) / 2) h (omega arith))

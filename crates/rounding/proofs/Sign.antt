@@ -1,15 +1,15 @@
--- The two roundings by a number's sign and its absolute value, with the number as the code holds it.
+-- Rounding away from zero by a number's sign and its absolute value, with the number as the code holds it.
 use mathlib.Core.Path.{_≡_, ap, _∙_, subst}
 use mathlib.Core.Bool.{true, false}
-use Prim.Native.Nat.{ℕ, _-_, _≤_, _<_, _^_}
+use Prim.Native.Nat.{ℕ, _-_, _^_, _≤_, _<_}
 use native.Mathlib.Omega.{arith}
-use borrow.Author.Tests.{ltb-true}
 use lib.Dec.{T}
 use lib.IntN.{ℤ, pos, negsuc, natAbs, negℤ, _-ℤ_}
 use lib.Signed.{ltZ}
 use mir.Syntax.{w64}
 use mir.Val.{SFits, toZ, ofZ}
 use mir.Facts.{toZ-ofZ}
+use borrow.Author.Tests.{ltb-true}
 use Rattle.algebra.specs.Bound.{neg-fits}
 use Rattle.algebra.specs.Nearest.{away, upward}
 
@@ -26,14 +26,6 @@ unfolding away upward
 away-pos (pos a) m n e h = h
 away-pos (negsuc a) m n e h = absurd (subst T e tt)
 
-upward-neg : (z : ℤ) (m n : ℕ) → ltZ z (pos 0) ≡ true → negℤ (pos n) ≡ upward (negℤ (pos (natAbs z))) m → negℤ (pos n) ≡ upward z m
-upward-neg (pos a) m n e h = absurd (omega (arith, ltb-true a 0 e))
-upward-neg (negsuc a) m n e h = h
-
-upward-pos : (z : ℤ) (m n : ℕ) → ltZ z (pos 0) ≡ false → pos n ≡ upward (pos (natAbs z)) m → pos n ≡ upward z m
-upward-pos (pos a) m n e h = h
-upward-pos (negsuc a) m n e h = absurd (subst T e tt)
-
 -- the absolute value a, and a rounded to n; the test z < 0, taken or left
 module _ {z : ℤ} {a : ℕ} (m n : ℕ) (f : SFits w64 z) (is : a ≡ natAbs (toZ w64 (ofZ w64 z))) where
   same : a ≡ natAbs z
@@ -47,9 +39,3 @@ module _ {z : ℤ} {a : ℕ} (m n : ℕ) (f : SFits w64 z) (is : a ≡ natAbs (t
 
   pub away-from : ltZ (toZ w64 (ofZ w64 z)) (pos 0) ≡ false → pos n ≡ upward (pos a) m → pos n ≡ away z m
   away-from e h = away-pos z m n (rw (toZ-ofZ f) at e) (rw same at h)
-
-  pub upward-below : ltZ (toZ w64 (ofZ w64 z)) (pos 0) ≡ true → negℤ (pos n) ≡ upward (negℤ (pos a)) m → negℤ (pos n) ≡ upward z m
-  upward-below e h = upward-neg z m n (rw (toZ-ofZ f) at e) (rw same at h)
-
-  pub upward-from : ltZ (toZ w64 (ofZ w64 z)) (pos 0) ≡ false → pos n ≡ upward (pos a) m → pos n ≡ upward z m
-  upward-from e h = upward-pos z m n (rw (toZ-ofZ f) at e) (rw same at h)

@@ -1,4 +1,4 @@
-// Division to nearest, the two ways of document 01. Half of the divisor is added: nothing is doubled, so nothing overflows.
+// Division to nearest, halves away from zero. Half of the divisor is added: nothing is doubled, so nothing overflows.
 ghost use mathlib.Core.Path.{_≡_};
 ghost use Prim.Native.Nat.{_-_, _≤_, _<_, _^_};
 ghost use lib.IntN.{pos, natAbs, negℤ};
@@ -48,14 +48,6 @@ fn halves_up(a: u64, m: u64) -> u64
     long(a + m / 2, m) / m
 }
 
-// a / m to nearest, halves downward: −a / m, halves upward, without its sign.
-fn halves_down(a: u64, m: u64) -> u64
-    requires { ⌜ (0 < m) × (m < 2 ^ 60) × (a < 2 ^ 63) ⌝ }
-    ensures { λ r. ⌜ (negℤ (pos r) ≡ upward (negℤ (pos a)) m) × (r ≤ a) ⌝ }
-{
-    long(a + (m - 1) / 2, m) / m
-}
-
 // z / m to nearest, halves away from zero.
 pub fn round_away(z: i64, m: u64) -> i64
     requires { ⌜ (0 < m) × (m < 2 ^ 60) × (natAbs z < 2 ^ 63) ⌝ }
@@ -66,18 +58,6 @@ pub fn round_away(z: i64, m: u64) -> i64
         return negated(n);
     }
     signed(n)
-}
-
-// z / m to nearest, halves upward.
-pub fn round_up(z: i64, m: u64) -> i64
-    requires { ⌜ (0 < m) × (m < 2 ^ 60) × (natAbs z < 2 ^ 63) ⌝ }
-    ensures { λ r. ⌜ r ≡ upward z m ⌝ }
-{
-    let a = magnitude(z);
-    if z < 0 {
-        return negated(halves_down(a, m));
-    }
-    signed(halves_up(a, m))
 }
 
 // z / 2^24 to nearest, halves away from zero, by shifts: z >> 63 is −1 below zero and 0 from zero on.

@@ -13,10 +13,10 @@ use Rattle.algebra.specs.Nearest.{away, upward}
 use Rattle.algebra.specs.Clamp.{clampZ}
 use Rattle.noise.specs.RootLaws.{root-unique}
 use Rattle.noise.specs.NoiseNumber.{squared, sumOfSquares, tileRoot}
-use Rattle.transform.specs.Side.{cosAt, sinAt}
-use Rattle.transform.specs.Tables.{cosines, cosine16, sine16, side16}
+use Rattle.lines.specs.Side.{cosAt, sinAt}
+use Rattle.lines.specs.Tables.{cosines, cosine16, sine16, side16}
 use Rattle.transform.specs.Recipe.{wiener, rowRe, rowIm, binRe, binIm, quantized, filtered, twiddleRe, twiddleIm, inverseRe, inverseAt, correctionAt}
-use Rattle.transform.specs.TableLaws.{window-halves}
+use Rattle.lines.specs.TableLaws.{window-halves}
 use Rattle.closeness.specs.Output.{rowIn, columnIn, weightIn, outputSample}
 use Rattle.closeness.specs.Windows.{four-windows}
 use Rattle.transform.specs.ZeroLaws.{sumZ-zero, away-zero, wiener-zero, less-zero, less-none, more-none}

@@ -7,7 +7,7 @@ use Rattle.sequences.specs.Grid.{tab-ext}
 use Rattle.geometry.specs.Read.{Image, planeOf, inside, read}
 use Rattle.geometry.specs.ReadLaws.{inside-below}
 use Rattle.geometry.specs.Tiles.{level0, origin}
-use Rattle.transform.specs.Tables.{side16}
+use Rattle.lines.specs.Tables.{side16}
 use Rattle.transform.specs.Recipe.{correctionAt}
 use Rattle.merging.specs.Recipe.{Scene, tileAt, noiseOver, differenceOver, planeOutput, outputAt, wordAt, merged}
 use Rattle.sanity.specs.Frames.{Same, imageWords}

@@ -12,8 +12,8 @@ use Rattle.geometry.specs.Read.{Image, planeOf}
 use Rattle.geometry.specs.Tiles.{level0}
 use Rattle.noise.specs.NoiseNumber.{noiseNumber}
 use Rattle.noise.specs.NoiseNumberLaws.{tile-root-cong}
-use Rattle.transform.specs.Side.{Side}
-use Rattle.transform.specs.Tables.{side16}
+use Rattle.lines.specs.Side.{Side}
+use Rattle.lines.specs.Tables.{side16}
 use Rattle.transform.specs.Recipe.{correctionAt}
 use Rattle.closeness.specs.Output.{rowIn, columnIn, weightIn, outputSample}
 use Rattle.merging.specs.Recipe.{Scene, tileAt, tileOver, referenceTile, otherTile, tileNoise, difference, planeOutput, outputAt, wordAt, merged}

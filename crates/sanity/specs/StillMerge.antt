@@ -8,7 +8,7 @@ use lib.IntN.{pos, +ℤ-invr}
 use lib.ListN.{getD, replicate}
 use Rattle.geometry.specs.Vectors.{otherFrame, vectorPlace, downAt, rightAt}
 use Rattle.geometry.specs.BoundLaws.{sample-most}
-use Rattle.transform.specs.Tables.{side16}
+use Rattle.lines.specs.Tables.{side16}
 use Rattle.merging.specs.declared.Merge.{Merge}
 use Rattle.merging.specs.Recipe.{Scene, sceneOf, tileAt, referenceTile, otherTile, difference, outputAt, merged}
 use Rattle.sanity.specs.Frames.{Burst, Same, Alike, imageWords, frameWords}

@@ -8,7 +8,7 @@ use lib.IntN.{ℤ, pos}
 use Rattle.geometry.specs.BoundLaws.{sample-most}
 use Rattle.geometry.specs.Tiles.{level0}
 use Rattle.noise.specs.NoiseNumber.{tileRoot, variance, noiseNumber}
-use Rattle.transform.specs.Tables.{side16}
+use Rattle.lines.specs.Tables.{side16}
 use Rattle.transform.specs.Recipe.{correctionAt}
 use Rattle.merging.specs.declared.Merge.{Merge}
 use Rattle.merging.specs.Recipe.{Scene, sceneOf, referenceTile, tileNoise, differenceOver, outputAt, merged}

@@ -6,6 +6,11 @@ use borrow.Author.Tests.{eq-eqb, ne-eqb, eqb-false, ltb-true, ltb-false}
 use lib.Dec.{eqb, ltb}
 use Rattle.transform.specs.Spectrum.{apart}
 
+-- what holds of either
+pub cond-cases : {A : Type 0} (P : A → Type 0) (b : Bool) {x y : A} → P x → P y → P (cond b x y)
+cond-cases P true p q = p
+cond-cases P false p q = q
+
 module _ {A : Type 0} (k : ℕ) (own paired : A) where
   pub is-own : k % 8 ≡ 0 → apart k own paired ≡ own
   unfolding apart
@@ -17,11 +22,7 @@ module _ {A : Type 0} (k : ℕ) (own paired : A) where
 
   pub apart-cases : (P : A → Type 0) → P own → P paired → P (apart k own paired)
   unfolding apart
-  apart-cases P p q = go (eqb (k % 8) 0)
-    where
-      go : (b : Bool) → P (cond b own paired)
-      go true = p
-      go false = q
+  apart-cases P p q = cond-cases P (eqb (k % 8) 0) p q
 
 -- what is the same in both cases
 cond-ext : {A : Type 0} (b : Bool) (x y x' y' : A) → (b ≡ true → x ≡ x') → (b ≡ false → y ≡ y') → cond b x y ≡ cond b x' y'

@@ -8,28 +8,47 @@ use borrow.Author.Tests.{lt-ltb, le-ltb}
 use lib.Dec.{ltb}
 use lib.IntN.{ℤ, pos, negℤ, natAbs, _+ℤ_, _-ℤ_, +ℤ-idr, +ℤ-idl, +ℤ-comm, negℤ-negℤ}
 use lib.ListN.{getD}
-use Rattle.algebra.specs.Bound.{AtMost}
-use Rattle.transform.specs.Lines.{LineMost}
-use Rattle.transform.specs.Magnitudes.{binMost, gainMost, quadMost}
-use Rattle.transform.specs.Tables.{side16}
+use Rattle.sequences.specs.Tab.{tab}
+use Rattle.lines.specs.Lines.{LineMost}
+use Rattle.transform.specs.Magnitudes.{binMost}
+use Rattle.lines.specs.Tables.{side16}
 use Rattle.transform.specs.Recipe.{filtered}
-use Rattle.transform.specs.Spectrum.{realOf, imaginaryOf, beside, tileRe, tileIm, foldRe, foldIm, spread, quadOf, foldedQuad, separateQuad, doubledQuad, gainRe, gainIm}
+use Rattle.transform.specs.Spectrum.{realOf, imaginaryOf, beside, tileRe, tileIm, foldRe, foldIm, spread, quadOf, byKind, twoBins, foldedQuad, gainRe, gainIm}
 use Rattle.transform.specs.SpectrumLaws.{filtered-odd, filtered-even}
 use Rattle.transform.proofs.Apart.{is-own, is-paired, apart-cases}
 
-pub four : (a b c d a' b' c' d' : ℤ) → a ≡ a' → b ≡ b' → c ≡ c' → d ≡ d' → a ∷ b ∷ c ∷ d ∷ [] ≡ a' ∷ b' ∷ c' ∷ d' ∷ []
-four a b c d a' b' c' d' p q r s = rw (p, q, r, s)
+pub quad-ext : (q : ℤ → ℤ → ℤ → ℤ → List ℤ) {a b c d a' b' c' d' : ℤ} → a ≡ a' → b ≡ b' → c ≡ c' → d ≡ d' → q a b c d ≡ q a' b' c' d'
+quad-ext q a b c d = ap₂ (λ g h. g h) (ap₂ (λ g h. g h) (ap₂ q a b) c) d
 
--- four parts of G are a quad of at most two parts
-pub four-most : {a b c d : ℤ} → AtMost gainMost a → AtMost gainMost b → AtMost gainMost c → AtMost gainMost d → LineMost quadMost (a ∷ b ∷ c ∷ d ∷ [])
-four-most p q r s = record { at = at p q r s }
+pub four : {a b c d a' b' c' d' : ℤ} → a ≡ a' → b ≡ b' → c ≡ c' → d ≡ d' → a ∷ b ∷ c ∷ d ∷ [] ≡ a' ∷ b' ∷ c' ∷ d' ∷ []
+four = quad-ext (λ a b c d. a ∷ b ∷ c ∷ d ∷ [])
+
+pub four-most : (m : ℕ) (a b c d : ℤ) → natAbs a ≤ m → natAbs b ≤ m → natAbs c ≤ m → natAbs d ≤ m → LineMost m (a ∷ b ∷ c ∷ d ∷ [])
+four-most m a b c d p q r s = record { at = at }
   where
-    at : {a b c d : ℤ} → AtMost gainMost a → AtMost gainMost b → AtMost gainMost c → AtMost gainMost d → (i : ℕ) → natAbs (getD (a ∷ b ∷ c ∷ d ∷ []) i (pos 0)) ≤ quadMost
-    at p q r s zero = omega (arith, p .most)
-    at p q r s (suc zero) = omega (arith, q .most)
-    at p q r s (suc (suc zero)) = omega (arith, r .most)
-    at p q r s (suc (suc (suc zero))) = omega (arith, s .most)
-    at p q r s (suc (suc (suc (suc i)))) = zero-le
+    at : (i : ℕ) → natAbs (getD (a ∷ b ∷ c ∷ d ∷ []) i (pos 0)) ≤ m
+    at zero = p
+    at (suc zero) = q
+    at (suc (suc zero)) = r
+    at (suc (suc (suc zero))) = s
+    at (suc (suc (suc (suc i)))) = zero-le
+
+-- the kind of quad (v, u)
+module _ {A : Type 0} (top left inner : A) where
+  pub is-top : (v u : ℕ) → v ≡ 0 → byKind v u top left inner ≡ top
+  unfolding byKind
+  is-top v u h = rw h refl
+
+  pub is-left : (v u : ℕ) → 0 < v → u ≡ 0 → byKind v u top left inner ≡ left
+  unfolding byKind
+  is-left zero u l h = absurd (omega arith)
+  is-left (suc v) u l h = rw h refl
+
+  pub is-inner : (v u : ℕ) → 0 < v → 0 < u → byKind v u top left inner ≡ inner
+  unfolding byKind
+  is-inner zero u l h = absurd (omega arith)
+  is-inner (suc v) zero l h = absurd (omega arith)
+  is-inner (suc v) (suc u) l h = refl
 
 either : (b : Bool) → cond b (pos 0) (pos 0) ≡ pos 0
 either true = refl
@@ -204,11 +223,10 @@ module _ (noise : ℕ) (t : ℕ → ℕ → ℤ) where
     unfolding gainRe
     column-own u l k = re-own _ _ u k ∙ ap₂ f (column-re u ∙ real-low (t v) u l) (column-im u ∙ imaginary-own (t v) u k)
 
-  -- the four kinds of quads
-  pub inner-quad : (v u : ℕ) → 0 < v → v < 8 → 0 < u → u < 8 → Quad v u ≡ foldedQuad (f (t v u -ℤ t (8 + v) (8 + u)) (t v (8 + u) +ℤ t (8 + v) u)) (f (t v (8 + u) +ℤ t (8 + v) u) (t v u -ℤ t (8 + v) (8 + u))) (f (t v u +ℤ t (8 + v) (8 + u)) (t (8 + v) u -ℤ t v (8 + u))) (f (t (8 + v) u -ℤ t v (8 + u)) (t v u +ℤ t (8 + v) (8 + u)))
-  unfolding quadOf foldedQuad gainRe gainIm
+  inner-quad : (v u : ℕ) → 0 < v → v < 8 → 0 < u → u < 8 → Quad v u ≡ (f (t v u -ℤ t (8 + v) (8 + u)) (t v (8 + u) +ℤ t (8 + v) u) +ℤ f (t v u +ℤ t (8 + v) (8 + u)) (t (8 + v) u -ℤ t v (8 + u))) ∷ (f (t v (8 + u) +ℤ t (8 + v) u) (t v u -ℤ t (8 + v) (8 + u)) -ℤ f (t (8 + v) u -ℤ t v (8 + u)) (t v u +ℤ t (8 + v) (8 + u))) ∷ (f (t v (8 + u) +ℤ t (8 + v) u) (t v u -ℤ t (8 + v) (8 + u)) +ℤ f (t (8 + v) u -ℤ t v (8 + u)) (t v u +ℤ t (8 + v) (8 + u))) ∷ (f (t v u +ℤ t (8 + v) (8 + u)) (t (8 + v) u -ℤ t v (8 + u)) -ℤ f (t v u -ℤ t (8 + v) (8 + u)) (t v (8 + u) +ℤ t (8 + v) u)) ∷ []
+  unfolding quadOf gainRe gainIm
   inner-quad v u m n l h =
-      four _ _ _ _ _ _ _ _
+      four
       (line-re _ _ u v (omega arith) ∙ re-low _ _ u l h ∙ ap₂ _+ℤ_ re re')
       (line-re _ _ (8 + u) v (omega arith) ∙ re-high _ _ u l h ∙ ap₂ _-ℤ_ im im')
       (line-im _ _ u v m ∙ im-low _ _ u l h ∙ ap₂ _+ℤ_ im im')
@@ -226,62 +244,63 @@ module _ (noise : ℕ) (t : ℕ → ℕ → ℤ) where
       im' : gainIm noise t (16 - u) v ≡ f (t (8 + v) u -ℤ t v (8 + u)) (t v u +ℤ t (8 + v) (8 + u))
       im' = ap₂ f (high-im v m n u l h) (high-re v m n u l h)
 
-  pub left-quad : (v : ℕ) → 0 < v → v < 8 → Quad v 0 ≡ separateQuad (f (t v 0) (t (8 + v) 0)) (f (t (8 + v) 0) (t v 0)) (f (t v 8) (t (8 + v) 8)) (f (t (8 + v) 8) (t v 8))
-  unfolding quadOf separateQuad gainRe gainIm
+  left-quad : (v : ℕ) → 0 < v → v < 8 → Quad v 0 ≡ f (t v 0) (t (8 + v) 0) ∷ f (t v 8) (t (8 + v) 8) ∷ f (t (8 + v) 0) (t v 0) ∷ f (t (8 + v) 8) (t v 8) ∷ []
+  unfolding quadOf gainRe gainIm
   left-quad v m n =
-      four _ _ _ _ _ _ _ _
+      four
       (line-re _ _ 0 v (omega arith) ∙ re-own _ _ 0 refl ∙ ap₂ f (own-re v m n 0 (omega arith) refl) (own-im v m n 0 (omega arith) refl))
       (line-re _ _ 8 v (omega arith) ∙ re-own _ _ 8 refl ∙ ap₂ f (own-re v m n 8 (omega arith) refl) (own-im v m n 8 (omega arith) refl))
       (line-im _ _ 0 v m ∙ im-own _ _ 0 refl ∙ ap₂ f (own-im v m n 0 (omega arith) refl) (own-re v m n 0 (omega arith) refl))
       (line-im _ _ 8 v m ∙ im-own _ _ 8 refl ∙ ap₂ f (own-im v m n 8 (omega arith) refl) (own-re v m n 8 (omega arith) refl))
 
-  pub top-quad : (u : ℕ) → 0 < u → u < 8 → Quad 0 u ≡ doubledQuad (f (t 0 u) (t 0 (8 + u))) (f (t 0 (8 + u)) (t 0 u)) (f (t 8 u) (t 8 (8 + u))) (f (t 8 (8 + u)) (t 8 u))
-  unfolding quadOf doubledQuad
+  top-quad : (u : ℕ) → 0 < u → u < 8 → Quad 0 u ≡ (f (t 0 u) (t 0 (8 + u)) +ℤ f (t 0 u) (t 0 (8 + u))) ∷ (f (t 0 (8 + u)) (t 0 u) +ℤ f (t 0 (8 + u)) (t 0 u)) ∷ (f (t 8 u) (t 8 (8 + u)) +ℤ f (t 8 u) (t 8 (8 + u))) ∷ (f (t 8 (8 + u)) (t 8 u) +ℤ f (t 8 (8 + u)) (t 8 u)) ∷ []
+  unfolding quadOf
   top-quad u l h =
-      four _ _ _ _ _ _ _ _
+      four
       (line-re _ _ u 0 (omega arith) ∙ column-low 0 refl u l h)
       (line-re _ _ (8 + u) 0 (omega arith) ∙ column-high 0 refl u l h)
       (line-re _ _ u 8 (omega arith) ∙ column-low 8 refl u l h)
       (line-re _ _ (8 + u) 8 (omega arith) ∙ column-high 8 refl u l h)
 
-  pub corner-quad : Quad 0 0 ≡ separateQuad (f (t 0 0) (pos 0)) (f (t 8 0) (pos 0)) (f (t 0 8) (pos 0)) (f (t 8 8) (pos 0))
-  unfolding quadOf separateQuad
-  corner-quad =
-      four _ _ _ _ _ _ _ _
+  -- part i of the two bins of quad (v, u)
+  abbrev Bin : (v u i : ℕ) → ℤ
+  Bin v u i = getD (twoBins t v u) i (pos 0)
+
+  pub quad-is : (v u : ℕ) → v < 8 → u < 8 → 0 < v + u → Quad v u ≡ foldedQuad v u (f (Bin v u 0) (Bin v u 1)) (f (Bin v u 1) (Bin v u 0)) (f (Bin v u 2) (Bin v u 3)) (f (Bin v u 3) (Bin v u 2))
+  unfolding twoBins foldedQuad byKind quadOf
+  quad-is zero zero h l o = absurd (omega arith)
+  quad-is zero (suc u) h l o = top-quad (suc u) (omega arith) l
+  quad-is (suc v) zero h l o = left-quad (suc v) (omega arith) h
+  quad-is (suc v) (suc u) h l o = inner-quad (suc v) (suc u) (omega arith) h (omega arith) l
+
+  pub corner-is : Quad 0 0 ≡ tab 4 (λ i. f (Bin 0 0 i) (pos 0))
+  unfolding quadOf twoBins byKind tab
+  corner-is =
+      four
       (line-re _ _ 0 0 (omega arith) ∙ column-own 0 refl 0 (omega arith) refl)
       (line-re _ _ 8 0 (omega arith) ∙ column-own 0 refl 8 (omega arith) refl)
       (line-re _ _ 0 8 (omega arith) ∙ column-own 8 refl 0 (omega arith) refl)
       (line-re _ _ 8 8 (omega arith) ∙ column-own 8 refl 8 (omega arith) refl)
 
--- The numbers that each kind of quad is handed are parts of bins
+-- The two bins of a quad are bins of the tile
 module _ (t : ℕ → ℕ → ℤ) (re : (u v : ℕ) → u < 16 → v < 9 → natAbs (tileRe t u v) ≤ binMost) (im : (u v : ℕ) → u < 16 → v < 9 → natAbs (tileIm t u v) ≤ binMost) where
   abbrev Most : ℤ → Type 0
   Most z = natAbs z ≤ binMost
 
-  -- of columns 0 and 8: what `line-low-re` and the others need no noise number for
-  module _ (v : ℕ) (o : v % 8 ≡ 0) (w : v < 9) where
-    column-own-most : (u : ℕ) → u < 9 → u % 8 ≡ 0 → Most (t v u)
-    column-own-most u l k = subst Most (column-re 0 t v o u ∙ real-low (t v) u l) (re u v (omega arith) w)
-
-    column-most : (u : ℕ) → 0 < u → u < 8 → Most (t v u) × Most (t v (8 + u))
-    column-most u l h =
-        (subst Most (line-low-re 0 t v o u l h) (re u v (omega arith) w), subst Most (line-low-im 0 t v o u l h) (im u v (omega arith) w))
-
-  pub corner-most : Most (t 0 0) × Most (t 8 0) × Most (t 0 8) × Most (t 8 8)
-  corner-most =
-      (column-own-most 0 refl (omega arith) 0 (omega arith) refl, column-own-most 8 refl (omega arith) 0 (omega arith) refl, column-own-most 0 refl (omega arith) 8 (omega arith) refl, column-own-most 8 refl (omega arith) 8 (omega arith) refl)
-
-  pub top-most : (u : ℕ) → 0 < u → u < 8 → Most (t 0 u) × Most (t 0 (8 + u)) × Most (t 8 u) × Most (t 8 (8 + u))
-  top-most u l h =
-      let a = column-most 0 refl (omega arith) u l h in
-      let b = column-most 8 refl (omega arith) u l h in
-      (a .0, a .1, b .0, b .1)
-
-  module _ (v : ℕ) (m : 0 < v) (n : v < 8) where
-    pub left-most : Most (t v 0) × Most (t (8 + v) 0) × Most (t v 8) × Most (t (8 + v) 8)
-    left-most =
-        (subst Most (own-re 0 t v m n 0 (omega arith) refl) (re 0 v (omega arith) (omega arith)), subst Most (own-im 0 t v m n 0 (omega arith) refl) (im 0 v (omega arith) (omega arith)), subst Most (own-re 0 t v m n 8 (omega arith) refl) (re 8 v (omega arith) (omega arith)), subst Most (own-im 0 t v m n 8 (omega arith) refl) (im 8 v (omega arith) (omega arith)))
-
-    pub inner-most : (u : ℕ) → 0 < u → u < 8 → Most (t v u -ℤ t (8 + v) (8 + u)) × Most (t v (8 + u) +ℤ t (8 + v) u) × Most (t v u +ℤ t (8 + v) (8 + u)) × Most (t (8 + v) u -ℤ t v (8 + u))
-    inner-most u l h =
-        (subst Most (low-re 0 t v m n u l h) (re u v (omega arith) (omega arith)), subst Most (low-im 0 t v m n u l h) (im u v (omega arith) (omega arith)), subst Most (high-re 0 t v m n u l h) (re (16 - u) v (omega arith) (omega arith)), subst Most (high-im 0 t v m n u l h) (im (16 - u) v (omega arith) (omega arith)))
+  pub bins-most : (v u : ℕ) → v < 8 → u < 8 → LineMost binMost (twoBins t v u)
+  unfolding twoBins byKind quadOf
+  bins-most zero zero m l =
+      four-most binMost _ _ _ _ (own 0 refl (omega arith) 0 (omega arith) refl) (own 0 refl (omega arith) 8 (omega arith) refl)
+      (own 8 refl (omega arith) 0 (omega arith) refl) (own 8 refl (omega arith) 8 (omega arith) refl)
+    where
+      own : (v : ℕ) → v % 8 ≡ 0 → v < 9 → (u : ℕ) → u < 9 → u % 8 ≡ 0 → Most (t v u)
+      own v o w u l k = subst Most (column-re 0 t v o u ∙ real-low (t v) u l) (re u v (omega arith) w)
+  bins-most zero (suc u) m l =
+      four-most binMost _ _ _ _ (subst Most (line-low-re 0 t 0 refl (suc u) (omega arith) l) (re (suc u) 0 (omega arith) (omega arith))) (subst Most (line-low-im 0 t 0 refl (suc u) (omega arith) l) (im (suc u) 0 (omega arith) (omega arith)))
+      (subst Most (line-low-re 0 t 8 refl (suc u) (omega arith) l) (re (suc u) 8 (omega arith) (omega arith))) (subst Most (line-low-im 0 t 8 refl (suc u) (omega arith) l) (im (suc u) 8 (omega arith) (omega arith)))
+  bins-most (suc v) zero m l =
+      four-most binMost _ _ _ _ (subst Most (own-re 0 t (suc v) (omega arith) m 0 (omega arith) refl) (re 0 (suc v) (omega arith) (omega arith))) (subst Most (own-im 0 t (suc v) (omega arith) m 0 (omega arith) refl) (im 0 (suc v) (omega arith) (omega arith)))
+      (subst Most (own-re 0 t (suc v) (omega arith) m 8 (omega arith) refl) (re 8 (suc v) (omega arith) (omega arith))) (subst Most (own-im 0 t (suc v) (omega arith) m 8 (omega arith) refl) (im 8 (suc v) (omega arith) (omega arith)))
+  bins-most (suc v) (suc u) m l =
+      four-most binMost _ _ _ _ (subst Most (low-re 0 t (suc v) (omega arith) m (suc u) (omega arith) l) (re (suc u) (suc v) (omega arith) (omega arith))) (subst Most (low-im 0 t (suc v) (omega arith) m (suc u) (omega arith) l) (im (suc u) (suc v) (omega arith) (omega arith)))
+      (subst Most (high-re 0 t (suc v) (omega arith) m (suc u) (omega arith) l) (re (16 - suc u) (suc v) (omega arith) (omega arith))) (subst Most (high-im 0 t (suc v) (omega arith) m (suc u) (omega arith) l) (im (16 - suc u) (suc v) (omega arith) (omega arith)))

@@ -1,99 +1,45 @@
--- How large the numbers of the recipe are: B, Q and G, and P.
-use mathlib.Core.Path.{sym, subst}
-use Prim.Native.Nat.{ℕ, _+_, _*_, _≤_, _^_}
-use native.Mathlib.Nat.{le-refl, le-trans, add-comm, add-le-add, mul-add, mul-le-mul-left}
-use lib.Dec.{lit<, lit≤}
-use lib.IntN.{ℤ, negℤ, natAbs, _+ℤ_, _-ℤ_, _*ℤ_}
-use Rattle.algebra.specs.Order.{abs-add, abs-sub, abs-neg, abs-mul-le}
-use Rattle.algebra.specs.Sums.{sumZ, abs-sum-bound}
-use Rattle.transform.specs.Side.{cosAt, sinAt}
-use Rattle.transform.specs.Tables.{side16}
-use Rattle.transform.specs.TableLaws.{cosine-most, minus-sine-is, pair-most}
-use Rattle.transform.specs.Recipe.{rowRe, rowIm, binRe, binIm, quantized, filtered, inverseRe, inverseAt}
-use Rattle.transform.specs.RecipeLaws.{alongRe, alongIm, two-way}
-use Rattle.transform.specs.Magnitudes.{differenceMost, rowMost, binMost, gainMost, correctionMost}
-use Rattle.transform.proofs.Sums.{sum-most}
-use Rattle.transform.proofs.Rounded.{away-most}
-use Rattle.transform.proofs.Weight.{wiener-most}
+-- How large the numbers of the folded G are.
+use Prim.Native.Nat.{ℕ, _-_, _*_, _≤_}
+use native.Mathlib.Omega.{arith}
+use lib.Dec.{ltb}
+use lib.IntN.{ℤ, natAbs}
+use Rattle.algebra.specs.Order.{abs-add, abs-sub}
+use Rattle.sequences.specs.Grid.{grid}
+use Rattle.transform.specs.Spectrum.{transposed, foldRe, foldIm, spread, gainRe, gainIm}
+use Rattle.lines.specs.Lines.{TileMost}
+use Rattle.transform.specs.Magnitudes.{smallNoise, smallGainMost}
+use Rattle.lines.specs.Magnitudes.{narrowMost}
+use Rattle.transform.specs.SizeLaws.{gain-small}
+use Rattle.transform.proofs.Apart.{cond-cases, apart-cases}
+use Rattle.lines.proofs.Tiles.{tile-most}
 
--- the sums of a complex line f + i·g with C and S, each number of at most b
-module _ (b : ℕ) (f g : ℕ → ℤ) (p : (i : ℕ) → natAbs (f i) ≤ b) (q : (i : ℕ) → natAbs (g i) ≤ b) where
-  products : (i : ℕ) (x y : ℤ) → natAbs x + natAbs y ≤ 23170 → natAbs (f i *ℤ x) + natAbs (g i *ℤ y) ≤ b * 23170
-  products i x y h =
-      le-trans (add-le-add (abs-mul-le (f i) x (p i) (le-refl (natAbs x))) (abs-mul-le (g i) y (q i) (le-refl (natAbs y))))
-      (subst (λ n. n ≤ b * 23170) (mul-add b (natAbs x) (natAbs y)) (mul-le-mul-left b h))
+module _ (b : ℕ) where
+  abbrev Twice : ℤ → Type 0
+  Twice z = natAbs z ≤ 2 * b
 
-  sums-most : (x y : ℕ → ℤ) → ((i : ℕ) → natAbs (x i) + natAbs (y i) ≤ 23170) → natAbs (sumZ 16 (λ i. f i *ℤ x i +ℤ g i *ℤ y i)) ≤ 16 * (b * 23170)
-  sums-most x y h =
-      abs-sum-bound 16 (b * 23170) (λ i. f i *ℤ x i +ℤ g i *ℤ y i) (λ i l. le-trans (abs-add (f i *ℤ x i) (g i *ℤ y i)) (products i (x i) (y i) (h i)))
+  module _ (g h : ℕ → ℤ) (p : (u : ℕ) → natAbs (g u) ≤ b) (q : (u : ℕ) → natAbs (h u) ≤ b) (i : ℕ) where
+    fold-re-most : Twice (foldRe g h i)
+    unfolding foldRe
+    fold-re-most =
+        apart-cases i (g i) _ Twice (omega (arith, p i))
+        (cond-cases Twice (ltb i 9) (omega (arith, abs-add (g i) (g (16 - i)), p i, p (16 - i))) (omega (arith, abs-sub (h (i - 8)) (h (24 - i)), q (i - 8), q (24 - i))))
 
-  differences-most : (x y : ℕ → ℤ) → ((i : ℕ) → natAbs (x i) + natAbs (y i) ≤ 23170) → natAbs (sumZ 16 (λ i. f i *ℤ x i -ℤ g i *ℤ y i)) ≤ 16 * (b * 23170)
-  differences-most x y h =
-      abs-sum-bound 16 (b * 23170) (λ i. f i *ℤ x i -ℤ g i *ℤ y i) (λ i l. le-trans (abs-sub (f i *ℤ x i) (g i *ℤ y i)) (products i (x i) (y i) (h i)))
+    fold-im-most : Twice (foldIm g h i)
+    unfolding foldIm
+    fold-im-most =
+        apart-cases i (h i) _ Twice (omega (arith, q i))
+        (cond-cases Twice (ltb i 9) (omega (arith, abs-add (h i) (h (16 - i)), q i, q (16 - i))) (omega (arith, abs-sub (g (24 - i)) (g (i - 8)), p (24 - i), p (i - 8))))
 
--- |S| + |C|, |C| + |−S| and |−S| + |C|
-swapped : (k : ℕ) → natAbs (sinAt side16 k) + natAbs (cosAt side16 k) ≤ 23170
-swapped k = rw (add-comm (natAbs (sinAt side16 k)) (natAbs (cosAt side16 k))) (pair-most k)
+  pub spread-most : (g h : ℕ → ℕ → ℤ) → ((u v : ℕ) → natAbs (g u v) ≤ b) → ((u v : ℕ) → natAbs (h u v) ≤ b) → (k i : ℕ) → natAbs (spread g h k i) ≤ 2 * b
+  unfolding spread
+  spread-most g h p q k i =
+      cond-cases (λ (f : ℕ → ℤ). Twice (f i)) (ltb k 9)
+      (fold-re-most (λ u. g u k) (λ u. h u k) (λ u. p u k) (λ u. q u k) i)
+      (fold-im-most (λ u. g u (k - 8)) (λ u. h u (k - 8)) (λ u. p u (k - 8)) (λ u. q u (k - 8)) i)
 
-turned : (k : ℕ) → natAbs (cosAt side16 k) + natAbs (negℤ (sinAt side16 k)) ≤ 23170
-turned k = rw (abs-neg (sinAt side16 k)) (pair-most k)
-
-turned-swapped : (k : ℕ) → natAbs (negℤ (sinAt side16 k)) + natAbs (cosAt side16 k) ≤ 23170
-turned-swapped k = rw (abs-neg (sinAt side16 k)) (swapped k)
-
-minus-sine-most : (k : ℕ) → natAbs (negℤ (sinAt side16 k)) ≤ 16384
-minus-sine-most k = rw (minus-sine-is k) (cosine-most (k + 4))
-
--- B
-module _ (d : ℕ → ℕ → ℤ) (m : (y x : ℕ) → natAbs (d y x) ≤ differenceMost) where
-  row-re-most : (v y : ℕ) → natAbs (rowRe side16 d y v) ≤ rowMost
-  unfolding rowRe side16
-  row-re-most v y = sum-most (λ x. cosAt side16 (v * x)) differenceMost (d y) (λ x. cosine-most (v * x)) (m y)
-
-  row-im-most : (v y : ℕ) → natAbs (rowIm side16 d y v) ≤ rowMost
-  unfolding rowIm side16
-  row-im-most v y = sum-most (λ x. negℤ (sinAt side16 (v * x))) differenceMost (d y) (λ x. minus-sine-most (v * x)) (m y)
-
-  pub bin-re-most : (u v : ℕ) → natAbs (binRe side16 d u v) ≤ binMost
-  unfolding binRe side16
-  bin-re-most u v =
-      differences-most rowMost (λ y. rowRe side16 d y v) (λ y. rowIm side16 d y v) (row-re-most v) (row-im-most v) (λ y. cosAt side16 (u * y)) (λ y. negℤ (sinAt side16 (u * y))) (λ y. turned (u * y))
-
-  pub bin-im-most : (u v : ℕ) → natAbs (binIm side16 d u v) ≤ binMost
-  unfolding binIm side16
-  bin-im-most u v =
-      sums-most rowMost (λ y. rowRe side16 d y v) (λ y. rowIm side16 d y v) (row-re-most v) (row-im-most v) (λ y. negℤ (sinAt side16 (u * y))) (λ y. cosAt side16 (u * y)) (λ y. turned-swapped (u * y))
-
--- Q and G
-part-most : (b : ℤ) → natAbs b ≤ binMost → natAbs (quantized side16 b) ≤ gainMost
-unfolding quantized side16
-part-most b h = away-most b (2 ^ 24) binMost (lit< tt) h
-
-pub gain-most : (noise : ℕ) (b c : ℤ) → natAbs b ≤ binMost → natAbs (filtered side16 noise b c) ≤ gainMost
-unfolding filtered
-gain-most noise b c h = le-trans (wiener-most noise (quantized side16 b) (quantized side16 c)) (part-most b h)
-
--- P
-module _ (g h : ℕ → ℕ → ℤ) (p : (u v : ℕ) → natAbs (g u v) ≤ gainMost) (q : (u v : ℕ) → natAbs (h u v) ≤ gainMost) where
-  abbrev alongMost : ℕ
-  alongMost = 16 * (gainMost * 23170)
-
-  along-re-most : (x u : ℕ) → natAbs (alongRe side16 g h x u) ≤ alongMost
-  unfolding alongRe side16
-  along-re-most x u =
-      differences-most gainMost (g u) (h u) (p u) (q u) (λ v. cosAt side16 (v * x)) (λ v. sinAt side16 (v * x)) (λ v. pair-most (v * x))
-
-  along-im-most : (x u : ℕ) → natAbs (alongIm side16 g h x u) ≤ alongMost
-  unfolding alongIm side16
-  along-im-most x u = sums-most gainMost (g u) (h u) (p u) (q u) (λ v. sinAt side16 (v * x)) (λ v. cosAt side16 (v * x)) (λ v. swapped (v * x))
-
-  sum-small : (y x : ℕ) → natAbs (inverseRe side16 g h y x) ≤ 16 * (alongMost * 23170)
-  unfolding side16
-  sum-small y x =
-      subst (λ z. natAbs z ≤ 16 * (alongMost * 23170)) (sym (two-way side16 g h x y))
-      (differences-most alongMost (alongRe side16 g h x) (alongIm side16 g h x) (along-re-most x) (along-im-most x) (λ u. cosAt side16 (u * y)) (λ u. sinAt side16 (u * y)) (λ u. pair-most (u * y)))
-
-  pub inverse-small : (y x : ℕ) → natAbs (inverseAt side16 g h y x) ≤ correctionMost
-  unfolding inverseAt side16
-  inverse-small y x =
-      away-most (inverseRe side16 g h y x) (2 ^ 32) (2 ^ 62) (lit< tt) (le-trans (sum-small y x) (lit≤ tt))
+-- at small noise, as the code holds it
+pub folded-small : (noise : ℕ) (t : ℕ → ℕ → ℤ) → noise ≤ smallNoise → TileMost narrowMost (grid 16 16 (transposed (spread (gainRe noise t) (gainIm noise t))))
+unfolding gainRe gainIm
+folded-small noise t l =
+    tile-most narrowMost _
+    (λ b k. spread-most smallGainMost (gainRe noise t) (gainIm noise t) (λ u v. gain-small noise _ _ l) (λ u v. gain-small noise _ _ l) k b)

@@ -1,25 +1,24 @@
 -- A spectrum in halfcomplex form looks at its sixteen by sixteen places only, on the way in and on the way back.
 use mathlib.Core.Path.{_≡_, refl, sym, ap, ap₂, _∙_, subst}
 use mathlib.Core.Bool.{Bool, true, false, cond}
-use mathlib.Core.List.{List, []}
-use Prim.Native.Nat.{ℕ, zero, suc, _+_, _-_, _*_, _/_, _%_, _<_, _≤_, _^_}
+use mathlib.Core.List.{List}
+use Prim.Native.Nat.{ℕ, _+_, _-_, _%_, _<_, _≤_, _^_}
 use native.Mathlib.Omega.{arith}
 use borrow.Author.Tests.{eqb-false, ltb-true, ltb-false}
 use lib.Dec.{eqb, ltb}
 use lib.IntN.{ℤ, pos, negℤ, natAbs, _+ℤ_, _-ℤ_}
-use lib.ListN.{getD}
 use Rattle.algebra.specs.Nearest.{away}
-use Rattle.sequences.specs.Tab.{tab, getD-tab}
-use Rattle.sequences.specs.Grid.{grid, cell, cell-grid, grid-ext}
-use Rattle.transform.specs.Halfcomplex.{halfcomplex, backward}
-use Rattle.transform.specs.Spectrum.{BinsOf, BinsMost, twoWay, apart, realOf, imaginaryOf, beside, tileRe, tileIm, foldRe, foldIm, spread, counted, backSum, quadOf, quadAt}
-use Rattle.transform.specs.SpectrumLaws.{bin-re, bin-im}
-use Rattle.transform.specs.Lines.{TileMost}
-use Rattle.transform.specs.Magnitudes.{differenceMost, rowMost, placeMost, binMost, quadMost, columnMost}
+use Rattle.sequences.specs.Grid.{grid, cell, cell-grid}
+use Rattle.lines.specs.Halfcomplex.{halfcomplex, backward}
+use Rattle.transform.specs.Spectrum.{BinsOf, BinsMost, twoWay, transposed, apart, realOf, imaginaryOf, beside, tileRe, tileIm, foldRe, foldIm, spread, counted, backSum}
+use Rattle.transform.specs.SpectrumLaws.{bin-re, bin-im, columns-first}
+use Rattle.lines.specs.Lines.{TileMost}
+use Rattle.transform.specs.Magnitudes.{rowMost, placeMost, binMost, quadMost, columnMost}
+use Rattle.lines.specs.Magnitudes.{differenceMost}
 use Rattle.transform.proofs.Apart.{below-ext, apart-ext}
 use Rattle.transform.proofs.Sums.{halfcomplex-ext, backward-ext, halfcomplex-most, backward-most}
-use Rattle.transform.proofs.Tiles.{tile-most, cells-most}
-use Rattle.transform.proofs.Sizes.{bin-re-most, bin-im-most}
+use Rattle.lines.proofs.Tiles.{tile-most, cells-most, added-ext}
+use Rattle.transform.specs.SizeLaws.{bin-re-most, bin-im-most}
 
 -- lines
 module _ (z z' : ℕ → ℤ) (e : (b : ℕ) → b < 16 → z b ≡ z' b) (u : ℕ) (h : u < 16) where
@@ -84,65 +83,56 @@ unfolding backSum
 back-ext s s' e y x =
     backward-ext _ _ (λ k l. ap (counted k) (backward-ext (s k) (s' k) (λ b m. e k b l m) y)) x
 
--- quads: what stands at place b of line k
-pick : (s : ℕ → ℕ → ℤ) (v u i j : ℕ) → i < 2 → j < 2 → getD (quadOf s v u) (2 * i + j) (pos 0) ≡ s (8 * i + v) (8 * j + u)
-unfolding quadOf
-pick s v u zero zero h l = ap₂ s (omega arith) (omega arith)
-pick s v u zero (suc zero) h l = ap₂ s (omega arith) (omega arith)
-pick s v u (suc zero) zero h l = ap₂ s (omega arith) (omega arith)
-pick s v u (suc zero) (suc zero) h l = ap₂ s (omega arith) (omega arith)
-pick s v u zero (suc (suc j)) h l = absurd (omega arith)
-pick s v u (suc zero) (suc (suc j)) h l = absurd (omega arith)
-pick s v u (suc (suc i)) j h l = absurd (omega arith)
-
-module _ (s : ℕ → ℕ → ℤ) {q : List (List ℤ)} (e : q ≡ tab 64 (λ n. quadOf s (n / 8) (n % 8))) where
-  pub quad-at : (k b : ℕ) → k < 16 → b < 16 → quadAt q k b ≡ s k b
-  unfolding quadAt cell
-  quad-at k b h l =
-      ap (λ r. getD r (2 * (k / 8) + b / 8) (pos 0)) row
-      ∙ pick s (k % 8) (b % 8) (k / 8) (b / 8) (omega arith) (omega arith) ∙ ap₂ s (omega arith) (omega arith)
-    where
-      row : getD q (8 * (k % 8) + b % 8) [] ≡ quadOf s (k % 8) (b % 8)
-      row =
-          let i : (8 * (k % 8) + b % 8) / 8 ≡ k % 8 = omega arith in
-          let j : (8 * (k % 8) + b % 8) % 8 ≡ b % 8 = omega arith in
-          ap (λ l. getD l (8 * (k % 8) + b % 8) []) e ∙ getD-tab (λ n. quadOf s (n / 8) (n % 8)) [] 64 (8 * (k % 8) + b % 8) (omega arith) ∙ ap₂ (quadOf s) i j
-
--- the two passes of the transform: the rows' transforms a, and theirs along the columns r
-module _ (d : ℕ → ℕ → ℤ) {a r : List (List ℤ)} (p : a ≡ grid 16 16 (λ y. halfcomplex (d y))) (q : r ≡ grid 16 16 (λ k. halfcomplex (λ y. cell (pos 0) a y k))) where
-  places : (k b : ℕ) → k < 16 → b < 16 → cell (pos 0) r k b ≡ twoWay d k b
-  unfolding twoWay
+-- the two passes of the transform: the columns' transforms a, and theirs along the rows r
+module _ (d : ℕ → ℕ → ℤ) {a r : List (List ℤ)} (p : a ≡ grid 16 16 (λ b x. halfcomplex (λ y. d y x) b)) (q : r ≡ grid 16 16 (λ b. halfcomplex (cell (pos 0) a b))) where
+  places : (k b : ℕ) → k < 16 → b < 16 → cell (pos 0) r b k ≡ twoWay d k b
   places k b h l =
-      ap (λ t. cell (pos 0) t k b) q ∙ cell-grid (pos 0) 16 16 (λ k. halfcomplex (λ y. cell (pos 0) a y k)) k b h l
-      ∙ halfcomplex-ext _ _ (λ y m. ap (λ t. cell (pos 0) t y k) p ∙ cell-grid (pos 0) 16 16 (λ y. halfcomplex (d y)) y k m h) b
+      ap (λ t. cell (pos 0) t b k) q ∙ cell-grid (pos 0) 16 16 (λ b. halfcomplex (cell (pos 0) a b)) b k l h
+      ∙ halfcomplex-ext _ _ (λ x m. ap (λ t. cell (pos 0) t b x) p ∙ cell-grid (pos 0) 16 16 (λ b x. halfcomplex (λ y. d y x) b) b x l m) k
+      ∙ sym (columns-first d k b)
 
-  pub bins-of : BinsOf d (cell (pos 0) r)
+  pub bins-of : BinsOf d (transposed (cell (pos 0) r))
   bins-of =
       record {
-        re = λ u v h l. tile-re (cell (pos 0) r) (twoWay d) places u v h l ∙ bin-re d u v h l;
-        im = λ u v h l. tile-im (cell (pos 0) r) (twoWay d) places u v h l ∙ bin-im d u v h l;
+        re = λ u v h l. tile-re (transposed (cell (pos 0) r)) (twoWay d) places u v h l ∙ bin-re d u v h l;
+        im = λ u v h l. tile-im (transposed (cell (pos 0) r)) (twoWay d) places u v h l ∙ bin-im d u v h l;
       }
 
   module _ (m : (y x : ℕ) → natAbs (d y x) ≤ differenceMost) where
-    pub rows-small : TileMost rowMost a
-    rows-small = subst (TileMost rowMost) (sym p) (tile-most rowMost _ (λ y. halfcomplex-most differenceMost (d y) (m y)))
+    pub columns-small : TileMost rowMost a
+    columns-small = subst (TileMost rowMost) (sym p) (tile-most rowMost _ (λ b x. halfcomplex-most differenceMost (λ y. d y x) (λ y. m y x) b))
 
     pub bins-small : BinsMost r
     bins-small =
         record {
-          place = subst (TileMost placeMost) (sym q) (tile-most placeMost _ (λ k. halfcomplex-most rowMost _ (λ y. cells-most rows-small y k)));
+          place = subst (TileMost placeMost) (sym q) (tile-most placeMost _ (λ b. halfcomplex-most rowMost _ (cells-most columns-small b)));
           re = λ u v h l. subst (λ z. natAbs z ≤ binMost) (sym (bins-of .re u v h l)) (bin-re-most d m u v);
           im = λ u v h l. subst (λ z. natAbs z ≤ binMost) (sym (bins-of .im u v h l)) (bin-im-most d m u v);
         }
 
--- the two passes of the inverse: the sums back along the lines a, and theirs along the rows
-module _ (s : ℕ → ℕ → ℤ) {a : List (List ℤ)} (p : a ≡ grid 16 16 (λ k. backward (s k))) where
-  pub back-is : grid 16 16 (λ y x. away (backward (λ k. counted k (cell (pos 0) a k y)) x) (2 ^ 32)) ≡ grid 16 16 (λ y x. away (backSum s y x) (2 ^ 32))
+-- the two passes of the inverse: the sums back along the columns a, and theirs along the rows, added to the tile t
+module _ (s : ℕ → ℕ → ℤ) (t : List (List ℤ)) where
+  rows-are : (c : ℕ → ℕ → ℤ) → ((y k : ℕ) → y < 16 → k < 16 → c y k ≡ backward (s k) y)
+      → grid 16 16 (λ y x. cell (pos 0) t y x +ℤ away (backward (λ k. counted k (c y k)) x) (2 ^ 32)) ≡ grid 16 16 (λ y x. cell (pos 0) t y x +ℤ away (backSum s y x) (2 ^ 32))
   unfolding backSum
-  back-is =
-      grid-ext 16 16 _ _
-      (λ y x h l. ap (λ z. away z (2 ^ 32))
-      (backward-ext _ _ (λ k m. ap (counted k) (ap (λ t. cell (pos 0) t k y) p ∙ cell-grid (pos 0) 16 16 (λ k. backward (s k)) k y m h)) x))
+  rows-are c e = added-ext t _ _ (λ y x h l. ap (λ z. away z (2 ^ 32)) (backward-ext _ _ (λ k m. ap (counted k) (e y k h m)) x))
 
-  pub columns-small : ((k b : ℕ) → natAbs (s k b) ≤ quadMost) → TileMost columnMost a
-  columns-small m = subst (TileMost columnMost) (sym p) (tile-most columnMost _ (λ k. backward-most quadMost (s k) (m k)))
+  -- each sum in its row
+  module _ {a : List (List ℤ)} (p : a ≡ grid 16 16 (λ y k. backward (s k) y)) where
+    pub back-is : grid 16 16 (λ y x. cell (pos 0) t y x +ℤ away (backward (λ k. counted k (cell (pos 0) a y k)) x) (2 ^ 32)) ≡ grid 16 16 (λ y x. cell (pos 0) t y x +ℤ away (backSum s y x) (2 ^ 32))
+    back-is =
+        rows-are (cell (pos 0) a) (λ y k h m. ap (λ t. cell (pos 0) t y k) p ∙ cell-grid (pos 0) 16 16 (λ y k. backward (s k) y) y k h m)
+
+  -- and each column's as a line
+  module _ {a : List (List ℤ)} (p : a ≡ grid 16 16 (λ k. backward (s k))) where
+    pub wide-back-is : grid 16 16 (λ y x. cell (pos 0) t y x +ℤ away (backward (λ k. counted k (cell (pos 0) a k y)) x) (2 ^ 32)) ≡ grid 16 16 (λ y x. cell (pos 0) t y x +ℤ away (backSum s y x) (2 ^ 32))
+    wide-back-is =
+        rows-are (transposed (cell (pos 0) a)) (λ y k h m. ap (λ t. cell (pos 0) t k y) p ∙ cell-grid (pos 0) 16 16 (λ k. backward (s k)) k y m h)
+
+-- both are small
+module _ (s : ℕ → ℕ → ℤ) (m : (k b : ℕ) → natAbs (s k b) ≤ quadMost) {a : List (List ℤ)} where
+  pub sums-small : a ≡ grid 16 16 (λ y k. backward (s k) y) → TileMost columnMost a
+  sums-small p = subst (TileMost columnMost) (sym p) (tile-most columnMost _ (λ y k. backward-most quadMost (s k) (m k) y))
+
+  pub wide-sums-small : a ≡ grid 16 16 (λ k. backward (s k)) → TileMost columnMost a
+  wide-sums-small p = subst (TileMost columnMost) (sym p) (tile-most columnMost _ (λ k. backward-most quadMost (s k) (m k)))

@@ -1,15 +1,25 @@
 -- The sums of a line against its basis: what they depend on, and how large they are.
-use mathlib.Core.Path.{_≡_, ap, _∙_}
+use mathlib.Core.Path.{_≡_, ap, ap₂, _∙_}
 use mathlib.Core.List.{List}
-use Prim.Native.Nat.{ℕ, _+_, _*_, _≤_, _<_}
-use lib.IntN.{ℤ, pos, natAbs, _*ℤ_}
+use Prim.Native.Nat.{ℕ, _+_, _*_, _≤_, _<_, _^_}
+use native.Mathlib.Nat.{le-refl}
+use native.Mathlib.Omega.{arith}
+use lib.IntN.{ℤ, pos, natAbs, _+ℤ_, _*ℤ_}
 use lib.ListN.{getD}
 use Rattle.algebra.specs.Order.{abs-mul-le}
-use Rattle.algebra.specs.Sums.{sumZ, sumZ-cong, abs-sum-bound}
+use Rattle.algebra.specs.Nearest.{away}
+use Rattle.algebra.specs.Sums.{sumZ, sumZ-cong}
 use Rattle.sequences.specs.Tab.{tab, getD-tab}
 use Rattle.sequences.specs.Grid.{tab-ext}
-use Rattle.transform.specs.Halfcomplex.{basis, frequency, phase, halfcomplex, backward}
-use Rattle.transform.specs.TableLaws.{cosine-most}
+use Rattle.lines.specs.Halfcomplex.{basis, frequency, phase, halfcomplex, backward}
+use Rattle.lines.specs.TableLaws.{cosine-most}
+use Rattle.transform.specs.SizeLaws.{sum-most}
+use Rattle.transform.specs.Spectrum.{counted}
+use Rattle.lines.specs.Lines.{LineMost}
+use Rattle.transform.specs.Magnitudes.{columnMost, sumMost}
+use Rattle.lines.specs.Magnitudes.{lineMost}
+use Rattle.transform.proofs.Apart.{apart-cases}
+use Rattle.lines.proofs.Tiles.{line-most, line-more}
 
 -- sixteen products, with whatever entries of the table
 module _ (c : (i : ℕ) → ℤ) where
@@ -18,9 +28,6 @@ module _ (c : (i : ℕ) → ℤ) where
 
   sum-ext : (f g : ℕ → ℤ) → ((i : ℕ) → i < 16 → f i ≡ g i) → sum f ≡ sum g
   sum-ext f g h = sumZ-cong 16 _ _ (λ i l. ap (λ z. z *ℤ c i) (h i l))
-
-  pub sum-most : (b : ℕ) (f : ℕ → ℤ) → ((i : ℕ) → natAbs (c i) ≤ 16384) → ((i : ℕ) → natAbs (f i) ≤ b) → natAbs (sum f) ≤ 16 * (b * 16384)
-  sum-most b f m h = abs-sum-bound 16 (b * 16384) (λ i. f i *ℤ c i) (λ i l. abs-mul-le (f i) (c i) (h i) (m i))
 
 basis-most : (k n : ℕ) → natAbs (basis k n) ≤ 16384
 unfolding basis
@@ -57,3 +64,25 @@ module _ {x : List ℤ} (f : ℕ → ℤ) (e : x ≡ tab 16 f) where
 
   pub each-line : (g : ℤ → ℤ) → tab 16 (λ i. g (getD x i (pos 0))) ≡ tab 16 (λ i. g (f i))
   each-line g = tab-ext 16 _ _ (λ i h. ap g (number i h))
+
+-- of a row x of counted sums along the columns
+module _ (f : ℕ → ℤ) (h : (k : ℕ) → natAbs (f k) ≤ columnMost) {x : List ℤ} (e : x ≡ tab 16 (λ k. counted k (f k))) where
+  counted-most : (k : ℕ) → natAbs (counted k (f k)) ≤ 2 * columnMost
+  unfolding counted
+  counted-most k =
+      apart-cases k (f k) (pos 2 *ℤ f k) (λ z. natAbs z ≤ 2 * columnMost) (omega (arith, h k)) (abs-mul-le (pos 2) (f k) (le-refl 2) (h k))
+
+  pub row-small : LineMost lineMost x
+  row-small = rw e (line-more (omega arith) (line-most (2 * columnMost) _ counted-most 16))
+
+  -- the sums z back along it, their quotients q, and these added to the row t
+  module _ {z : List ℤ} (p : z ≡ tab 16 (backward (λ k. getD x k (pos 0)))) where
+    pub row-sums-small : LineMost sumMost z
+    row-sums-small = rw (p ∙ backward-line _ e) (line-most sumMost _ (backward-most (2 * columnMost) _ counted-most) 16)
+
+    row-quotients : tab 16 (λ i. away (getD z i (pos 0)) (2 ^ 32)) ≡ tab 16 (λ i. away (backward (λ k. counted k (f k)) i) (2 ^ 32))
+    row-quotients = each-line _ (p ∙ backward-line _ e) (λ z. away z (2 ^ 32))
+
+    pub row-added : {s t q : List ℤ} → s ≡ t → q ≡ tab 16 (λ i. away (getD z i (pos 0)) (2 ^ 32))
+        → tab 16 (λ i. getD s i (pos 0) +ℤ getD q i (pos 0)) ≡ tab 16 (λ i. getD t i (pos 0) +ℤ away (backward (λ k. counted k (f k)) i) (2 ^ 32))
+    row-added e g = tab-ext 16 _ _ (λ i l. ap₂ (λ s z. getD s i (pos 0) +ℤ z) e (number _ (g ∙ row-quotients) i l))

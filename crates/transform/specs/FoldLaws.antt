@@ -7,12 +7,12 @@ use lib.Dec.{lit<}
 use lib.IntN.{ℤ, pos, negℤ, _+ℤ_, _-ℤ_, _*ℤ_, +ℤ-comm}
 use Rattle.algebra.specs.Ring.{var, #_, _⊞_, _⊟_, _⊠_, ⊖_, ring}
 use Rattle.algebra.specs.Sums.{sumZ, sumZ-neg, sumZ-cong, sumZ-exchange}
-use Rattle.transform.specs.Side.{cosAt, sinAt}
-use Rattle.transform.specs.Tables.{cosines, cosine16, sine16, opposite, side16}
+use Rattle.lines.specs.Side.{cosAt, sinAt}
+use Rattle.lines.specs.Tables.{cosines, cosine16, sine16, opposite, side16}
 use Rattle.transform.specs.Recipe.{twiddleRe, twiddleIm, inverseRe}
-use Rattle.transform.specs.TableLaws.{agree-both, cosine-opposite, sine-opposite}
+use Rattle.lines.specs.TableLaws.{agree-both, cosine-opposite, sine-opposite}
 use Rattle.transform.specs.RecipeLaws.{alongRe, alongIm, two-way}
-use Rattle.transform.specs.Halfcomplex.{frequency, phase, basis, backward}
+use Rattle.lines.specs.Halfcomplex.{frequency, phase, basis, backward}
 use Rattle.transform.specs.Spectrum.{apart, foldRe, foldIm, spread, counted, backSum, Mirrored}
 
 -- ---- the tables at products u·y

@@ -1,31 +1,11 @@
--- The largest magnitudes that the code is proved for, in the order of the computation.
-use Prim.Native.Nat.{ℕ, _-_, _^_}
-
--- a difference of two samples
-abbrev pub differenceMost : ℕ
-differenceMost = 4095
+-- The largest magnitudes of a tile that the code is proved for, in the order of the computation.
+use Prim.Native.Nat.{ℕ, _^_}
 
 -- V at t = 1024, Ls = 65536, Lr = 4194304 and r = 65520
 abbrev pub noiseMost : ℕ
 noiseMost = 279105765376
 
--- ---- one line
-
--- a number of a line that a pass takes: a place of it is at most 16·2^14 times this, below 2^63
-abbrev pub lineMost : ℕ
-lineMost = 2 ^ 45 - 1
-
--- a sum or difference of two of these
-abbrev pub foldMost : ℕ
-foldMost = 2 ^ 46 - 2
-
--- a sum back over the even places, or over the odd ones: above 8·2^14·lineMost, and two of these fit an i64
-abbrev pub halfMost : ℕ
-halfMost = 2 ^ 62 - 1
-
--- ---- a tile
-
--- a part of a row's transform: sixteen differences times a cosine of at most 16384
+-- a part of a row's transform, or of a column's: sixteen differences times a cosine of at most 16384
 abbrev pub rowMost : ℕ
 rowMost = 1073479680
 
@@ -56,3 +36,11 @@ sumMost = 6520183117548879872
 -- P
 abbrev pub correctionMost : ℕ
 correctionMost = 2 ^ 30
+
+-- V up to which G's quotients are taken in double, and the first pass of the inverse fits 32 bits
+abbrev pub smallNoise : ℕ
+smallNoise = 2 ^ 26
+
+-- a part of G at such a V: half the root of V
+abbrev pub smallGainMost : ℕ
+smallGainMost = 4096

@@ -3,7 +3,7 @@ use Prim.Native.Nat.{ℕ, zero, suc, _+_, _*_}
 use lib.IntN.{ℤ, pos, negℤ, natAbs, _+ℤ_, _-ℤ_, _*ℤ_}
 use Rattle.algebra.specs.Sums.{sumZ}
 use Rattle.algebra.specs.Nearest.{away}
-use Rattle.transform.specs.Side.{Side, cosAt, sinAt}
+use Rattle.lines.specs.Side.{Side, cosAt, sinAt}
 
 -- |Q|² + V, from the parts of Q
 abbrev pub power : ℕ → ℤ → ℤ → ℕ

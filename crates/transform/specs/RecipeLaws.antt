@@ -6,7 +6,7 @@ use lib.IntN.{ℤ, pos, _+ℤ_, _-ℤ_, _*ℤ_}
 use Rattle.algebra.specs.Order.{sq-abs}
 use Rattle.algebra.specs.Ring.{var, _⊞_, _⊟_, _⊠_, ring}
 use Rattle.algebra.specs.Sums.{sumZ, sumZ-cong, sumZ-scaler, sumZ-sub}
-use Rattle.transform.specs.Side.{Side, cosAt, sinAt}
+use Rattle.lines.specs.Side.{Side, cosAt, sinAt}
 use Rattle.transform.specs.Recipe.{power, twiddleRe, twiddleIm, inverseRe}
 
 pub power-is : (v : ℕ) (q r : ℤ) → q *ℤ q +ℤ r *ℤ r +ℤ pos v ≡ pos (power v q r)

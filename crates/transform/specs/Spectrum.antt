@@ -3,19 +3,24 @@
 use mathlib.Core.Path.{_≡_}
 use mathlib.Core.Bool.{cond}
 use mathlib.Core.List.{List, [], _∷_}
-use Prim.Native.Nat.{ℕ, _+_, _-_, _*_, _/_, _%_, _≤_, _<_}
+use Prim.Native.Nat.{ℕ, zero, suc, _+_, _-_, _*_, _/_, _%_, _≤_, _<_}
 use lib.Dec.{eqb, ltb}
 use lib.IntN.{ℤ, pos, negℤ, natAbs, _+ℤ_, _-ℤ_, _*ℤ_}
+use lib.ListN.{getD}
 use Rattle.sequences.specs.Grid.{cell}
-use Rattle.transform.specs.Halfcomplex.{halfcomplex, backward}
-use Rattle.transform.specs.Tables.{side16, opposite}
+use Rattle.lines.specs.Halfcomplex.{halfcomplex, backward}
+use Rattle.lines.specs.Tables.{side16, opposite}
 use Rattle.transform.specs.Recipe.{binRe, binIm, filtered}
-use Rattle.transform.specs.Magnitudes.{placeMost, binMost}
-use Rattle.transform.specs.Lines.{TileMost}
+use Rattle.transform.specs.Magnitudes.{placeMost, binMost, quadMost}
+use Rattle.lines.specs.Lines.{LineMost, TileMost, Square}
 
 -- place b of line k, from the differences
 unfoldable pub twoWay : (d : ℕ → ℕ → ℤ) → (k b : ℕ) → ℤ
 twoWay d k = halfcomplex (λ y. halfcomplex (d y) k)
+
+-- the code holds it by columns: place k of line b
+abbrev pub transposed : (t : ℕ → ℕ → ℤ) → (b k : ℕ) → ℤ
+transposed t b k = t k b
 
 -- numbers 0 and 8 are their own conjugates
 unfoldable pub apart : {A : Type 0} → (k : ℕ) (own paired : A) → A
@@ -64,25 +69,41 @@ pub record Mirrored (g h : ℕ → ℕ → ℤ) : Type 0 where
   pub re : (u v : ℕ) → u < 16 → v < 16 → g (opposite u) (opposite v) ≡ g u v
   pub im : (u v : ℕ) → u < 16 → v < 16 → h (opposite u) (opposite v) ≡ negℤ (h u v)
 
--- A folded spectrum by quads: quad 8·v + u holds the places u and 8 + u of line v, then of line 8 + v
+-- A tile by quads: quad (v, u) holds the places u and 8 + u of line v, then of line 8 + v
 unfoldable pub quadOf : (s : ℕ → ℕ → ℤ) (v u : ℕ) → List ℤ
 quadOf s v u = s v u ∷ s v (8 + u) ∷ s (8 + v) u ∷ s (8 + v) (8 + u) ∷ []
 
--- of bins re + i·im at (u, v) and re' + i·im' at (16 − u, v), folded, where neither u nor v is 0
-unfoldable pub foldedQuad : (re im re' im' : ℤ) → List ℤ
-foldedQuad re im re' im' = (re +ℤ re') ∷ (im -ℤ im') ∷ (im +ℤ im') ∷ (re' -ℤ re) ∷ []
+-- three kinds of quads: of lines 0 and 8; of places 0 and 8, in other lines; and the rest
+unfoldable pub byKind : {A : Type 0} → (v u : ℕ) (top left inner : A) → A
+byKind zero u top left inner = top
+byKind (suc v) zero top left inner = left
+byKind (suc v) (suc u) top left inner = inner
 
--- of bins (0, v) and (8, v): a fold leaves them as they are
-unfoldable pub separateQuad : (re im re' im' : ℤ) → List ℤ
-separateQuad re im re' im' = re ∷ re' ∷ im ∷ im' ∷ []
+-- The parts re, im, re', im' of two bins of B: those at (u, 0) and (u, 8), at (0, v) and (8, v), or at (u, v) and (16 − u, v). The corner (0, 0) has four
+-- bins, which are real
+unfoldable pub twoBins : (t : ℕ → ℕ → ℤ) (v u : ℕ) → List ℤ
+twoBins t v u =
+    byKind v u (quadOf t v u) (t v u ∷ t (8 + v) u ∷ t v (8 + u) ∷ t (8 + v) (8 + u) ∷ [])
+    ((t v u -ℤ t (8 + v) (8 + u)) ∷ (t v (8 + u) +ℤ t (8 + v) u) ∷ (t v u +ℤ t (8 + v) (8 + u)) ∷ (t (8 + v) u -ℤ t v (8 + u)) ∷ [])
 
--- of bins (u, 0) and (u, 8), folded with their conjugates at 16 − u
-unfoldable pub doubledQuad : (re im re' im' : ℤ) → List ℤ
-doubledQuad re im re' im' = (re +ℤ re) ∷ (im +ℤ im) ∷ (re' +ℤ re') ∷ (im' +ℤ im') ∷ []
+-- G by the parts of two bins, folded: with their conjugates at 16 − u; as they are; and with each other
+unfoldable pub foldedQuad : (v u : ℕ) (re im re' im' : ℤ) → List ℤ
+foldedQuad v u re im re' im' =
+    byKind v u
+    ((re +ℤ re) ∷ (im +ℤ im) ∷ (re' +ℤ re') ∷ (im' +ℤ im') ∷ [])
+    (re ∷ re' ∷ im ∷ im' ∷ [])
+    ((re +ℤ re') ∷ (im -ℤ im') ∷ (im +ℤ im') ∷ (re' -ℤ re) ∷ [])
 
--- place b of line k, from the list of quads
-unfoldable pub quadAt : (q : List (List ℤ)) (k b : ℕ) → ℤ
-quadAt q k b = cell (pos 0) q (8 * (k % 8) + b % 8) (2 * (k / 8) + b / 8)
+-- s with the numbers q for its quad (v, u)
+unfoldable pub withQuad : (v u : ℕ) (q : List ℤ) (s : ℕ → ℕ → ℤ) (k b : ℕ) → ℤ
+withQuad v u q s k b = cond (eqb (8 * (k % 8) + b % 8) (8 * v + u)) (getD q (2 * (k / 8) + b / 8) (pos 0)) (s k b)
+
+-- r holds, by columns, the first n of the quads q in the order of 8·u + v, and each of these is small: a loop's invariant
+pub record Quads (q : (v u : ℕ) → List ℤ) (n : ℕ) (r : List (List ℤ)) : Type 0 where
+  pub count : n ≤ 64
+  pub square : Square r
+  pub is : (k b : ℕ) → k < 16 → b < 16 → 8 * (b % 8) + k % 8 < n → cell (pos 0) r b k ≡ getD (q (k % 8) (b % 8)) (2 * (k / 8) + b / 8) (pos 0)
+  pub most : (v u : ℕ) → v < 8 → u < 8 → 8 * u + v < n → LineMost quadMost (q v u)
 
 -- G of the tile t at the noise number
 unfoldable pub gainRe : (noise : ℕ) (t : ℕ → ℕ → ℤ) (u v : ℕ) → ℤ
@@ -96,8 +117,8 @@ pub record BinsOf (d t : ℕ → ℕ → ℤ) : Type 0 where
   pub re : (u v : ℕ) → u < 16 → v < 9 → tileRe t u v ≡ binRe side16 d u v
   pub im : (u v : ℕ) → u < 16 → v < 9 → tileIm t u v ≡ binIm side16 d u v
 
--- the bins of the tile t are at most binMost
+-- the bins of the tile t, which the code holds by columns, are at most binMost
 pub record BinsMost (t : List (List ℤ)) : Type 0 where
   pub place : TileMost placeMost t
-  pub re : (u v : ℕ) → u < 16 → v < 9 → natAbs (tileRe (cell (pos 0) t) u v) ≤ binMost
-  pub im : (u v : ℕ) → u < 16 → v < 9 → natAbs (tileIm (cell (pos 0) t) u v) ≤ binMost
+  pub re : (u v : ℕ) → u < 16 → v < 9 → natAbs (tileRe (transposed (cell (pos 0) t)) u v) ≤ binMost
+  pub im : (u v : ℕ) → u < 16 → v < 9 → natAbs (tileIm (transposed (cell (pos 0) t)) u v) ≤ binMost

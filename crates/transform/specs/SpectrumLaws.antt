@@ -12,12 +12,12 @@ use Rattle.algebra.specs.Order.{abs-neg}
 use Rattle.algebra.specs.Nearest.{away, away-odd}
 use Rattle.algebra.specs.Vars.{vars4}
 use Rattle.algebra.specs.Ring.{var, _⊞_, _⊟_, _⊠_, ⊖_, ring}
-use Rattle.algebra.specs.Sums.{sumZ, sumZ-0, sumZ-cong, sumZ-add, sumZ-sub, sumZ-neg}
-use Rattle.transform.specs.Side.{cosAt, sinAt}
-use Rattle.transform.specs.Tables.{cosines, cosine16, sine16, opposite, side16}
-use Rattle.transform.specs.TableLaws.{agree-both, cosine-opposite, sine-opposite}
+use Rattle.algebra.specs.Sums.{sumZ, sumZ-0, sumZ-cong, sumZ-scaler, sumZ-add, sumZ-sub, sumZ-neg, sumZ-exchange}
+use Rattle.lines.specs.Side.{cosAt, sinAt}
+use Rattle.lines.specs.Tables.{cosines, cosine16, sine16, opposite, side16}
+use Rattle.lines.specs.TableLaws.{agree-both, cosine-opposite, sine-opposite}
 use Rattle.transform.specs.Recipe.{power, wiener, rowRe, rowIm, binRe, binIm, quantized, filtered}
-use Rattle.transform.specs.Halfcomplex.{frequency, phase, basis, halfcomplex}
+use Rattle.lines.specs.Halfcomplex.{frequency, phase, basis, halfcomplex}
 use Rattle.transform.specs.Spectrum.{Mirrored, twoWay, apart, realOf, imaginaryOf, beside, tileRe, tileIm}
 
 -- ---- a line: the halfcomplex form gives each number's parts
@@ -100,6 +100,18 @@ bin-re d u v h l = bin-real d v l u h
 
 pub bin-im : (d : ℕ → ℕ → ℤ) (u v : ℕ) → u < 16 → v < 9 → tileIm (twoWay d) u v ≡ binIm side16 d u v
 bin-im d u v h l = bin-imaginary d v l u h
+
+-- ---- the order of the passes
+
+-- the columns' transforms first, and then the rows' along them, come to the same
+pub columns-first : (d : ℕ → ℕ → ℤ) (k b : ℕ) → twoWay d k b ≡ halfcomplex (λ x. halfcomplex (λ y. d y x) b) k
+unfolding twoWay halfcomplex
+columns-first d k b =
+    sumZ-cong 16 _ (λ y. sumZ 16 (λ x. d y x *ℤ basis k x *ℤ basis b y)) (λ y i. sym (sumZ-scaler 16 (basis b y) (λ x. d y x *ℤ basis k x)))
+    ∙ sumZ-exchange 16 16 (λ y x. d y x *ℤ basis k x *ℤ basis b y)
+    ∙ sumZ-cong 16 _ _
+    (λ x i. sumZ-cong 16 _ (λ y. d y x *ℤ basis b y *ℤ basis k x) (λ y j. ring (d y x ∷ basis k x ∷ basis b y ∷ []) (var 0 ⊠ var 1 ⊠ var 2) (var 0 ⊠ var 2 ⊠ var 1) tt)
+    ∙ sumZ-scaler 16 (basis k x) (λ y. d y x *ℤ basis b y))
 
 -- ---- the mirror image
 

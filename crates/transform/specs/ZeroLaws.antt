@@ -6,7 +6,7 @@ use native.Mathlib.Omega.{arith}
 use lib.IntN.{ℤ, pos, negℤ, _+ℤ_, _-ℤ_, _*ℤ_, *ℤ-zero, zero-*ℤ}
 use Rattle.algebra.specs.Sums.{sumZ, sumZ-cong, sumZ-0}
 use Rattle.algebra.specs.Nearest.{away}
-use Rattle.transform.specs.Side.{Side, cosAt, sinAt}
+use Rattle.lines.specs.Side.{Side, cosAt, sinAt}
 use Rattle.transform.specs.Recipe.{power, wiener, rowRe, rowIm, binRe, binIm, quantized, filtered, twiddleRe, twiddleIm, inverseRe, inverseAt, correctionAt}
 
 pub sumZ-zero : (n : ℕ) (f : ℕ → ℤ) → ((i : ℕ) → i < n → f i ≡ pos 0) → sumZ n f ≡ pos 0

@@ -4,10 +4,10 @@ ghost use mathlib.Core.Bool.{true};
 ghost use lib.IntN.{pos};
 ghost use lib.ListN.{getD};
 ghost use Rattle.sequences.specs.Grid.{cell};
-ghost use Rattle.transform.specs.Lines.{EmptyLine, EmptyTile};
+ghost use Rattle.lines.specs.Lines.{EmptyLine, EmptyTile};
 
-fn empty_row(row: &[i32; 16]) -> bool
-    ensures { λ r. ⌜ (r ≡ true → EmptyLine (λ x. getD (now (row .entry)) x (pos 0))) ⌝ }
+fn empty_row(row: &[i16; 16]) -> bool
+    ensures { λ r. ⌜ ((r ≡ true → EmptyLine (λ x. getD (now (row .entry)) x (pos 0)))) × ((EmptyLine (λ x. getD (now (row .entry)) x (pos 0)) → r ≡ true)) ⌝ }
 {
     for x in 0..16 {
         if row[x] != 0 {
@@ -17,8 +17,8 @@ fn empty_row(row: &[i32; 16]) -> bool
     true
 }
 
-pub fn empty_tile(d: &[[i32; 16]; 16]) -> bool
-    ensures { λ r. ⌜ (r ≡ true → EmptyTile (cell (pos 0) (now (d .entry)))) ⌝ }
+pub fn empty_tile(d: &[[i16; 16]; 16]) -> bool
+    ensures { λ r. ⌜ ((r ≡ true → EmptyTile (cell (pos 0) (now (d .entry))))) × ((EmptyTile (cell (pos 0) (now (d .entry))) → r ≡ true)) ⌝ }
 {
     for y in 0..16 {
         if !empty_row(&d[y]) {

@@ -2,12 +2,12 @@
 ghost use mathlib.Core.Path.{_≡_};
 ghost use Prim.Native.Nat.{_≤_};
 ghost use Rattle.algebra.specs.Bound.{AtMost};
-ghost use Rattle.transform.specs.Tables.{side16};
+ghost use Rattle.lines.specs.Tables.{side16};
 ghost use Rattle.transform.specs.Recipe.{wiener, quantized, filtered};
 ghost use Rattle.transform.specs.Magnitudes.{binMost, gainMost, noiseMost};
 
 // One part of Q: that part of B divided by 2^24.
-fn quantized_part(b: i64) -> i64
+pub fn quantized_part(b: i64) -> i64
     requires { ⌜ AtMost binMost b ⌝ }
     ensures { λ r. ⌜ (r ≡ quantized side16 b) × (AtMost gainMost r) ⌝ }
 {
@@ -15,7 +15,7 @@ fn quantized_part(b: i64) -> i64
 }
 
 // One part of G, from that part q of Q and the other part r.
-fn wiener_part(noise: u64, q: i64, r: i64) -> i64
+pub fn wiener_part(noise: u64, q: i64, r: i64) -> i64
     requires { ⌜ (noise ≤ noiseMost) × (AtMost gainMost q) × (AtMost gainMost r) ⌝ }
     ensures { λ g. ⌜ (g ≡ wiener noise q r) × (AtMost gainMost g) ⌝ }
 {

@@ -1,63 +1,84 @@
-// The two-way transform, the Wiener step and the inverse of document 01, on tiles handed by value. Differences are real, so each line is held in halfcomplex
+// The two-way transform, the Wiener step and the inverse of document 01, on tiles lent by the caller. Differences are real, so each line is held in halfcomplex
 // form, and half the bins stand for all.
-mod backward;
+mod bins;
+mod columns;
+mod columns_back;
 mod empty;
 mod filter;
-mod halfcomplex;
 mod quads;
-mod two_way;
+mod quotients;
+mod rows;
+mod set_column;
+mod wide;
 
 ghost use mathlib.Core.Path.{_≡_};
-ghost use Prim.Native.Nat.{_≤_, _^_};
-ghost use lib.IntN.{pos};
+ghost use Prim.Native.Nat.{_≤_, _<_, _^_};
+ghost use lib.IntN.{pos, _+ℤ_};
+ghost use lib.ListN.{length};
 ghost use Rattle.algebra.specs.Nearest.{away};
 ghost use Rattle.sequences.specs.Grid.{grid, cell};
-ghost use Rattle.transform.specs.Tables.{side16};
+ghost use Rattle.lines.specs.Tables.{side16};
 ghost use Rattle.transform.specs.Recipe.{correctionAt};
-ghost use Rattle.transform.specs.Magnitudes.{differenceMost, quadMost, noiseMost, correctionMost};
-ghost use Rattle.transform.specs.Lines.{TileMost};
-ghost use Rattle.transform.specs.Spectrum.{BinsOf, BinsMost, spread, gainRe, gainIm, backSum};
+ghost use Rattle.transform.specs.Magnitudes.{quadMost, noiseMost, smallNoise};
+ghost use Rattle.lines.specs.Magnitudes.{differenceMost, narrowMost};
+ghost use Rattle.lines.specs.Lines.{TileMost, Square};
+ghost use Rattle.transform.specs.Spectrum.{BinsOf, BinsMost, transposed, spread, gainRe, gainIm, backSum};
 
-// B: the two-way transform of a tile of differences, in exact whole numbers. Line k holds place k of the rows' transforms, in halfcomplex form along the
-// columns.
-pub fn forward(d: [[i32; 16]; 16]) -> [[i64; 16]; 16]
+// B: the two-way transform of a tile of differences, in exact whole numbers. Line b holds place b of the columns' transforms, in halfcomplex form along the
+// rows: the bins by columns.
+pub fn forward(d: [[i16; 16]; 16]) -> [[i64; 16]; 16]
     requires { ⌜ TileMost differenceMost d ⌝ }
-    ensures { λ r. ⌜ (BinsOf (cell (pos 0) d) (cell (pos 0) r)) × (BinsMost r) ⌝ }
+    ensures { λ r. ⌜ (BinsOf (cell (pos 0) d) (transposed (cell (pos 0) r))) × (BinsMost r) ⌝ }
 {
-    let a = two_way::rows(&d);
-    two_way::columns(&a)
+    let mut a = [[0i32; 16]; 16];
+    let mut b = [[0i64; 16]; 16];
+    columns::forward(&d, &mut a);
+    rows::rows(&a, &mut b);
+    b
 }
 
 // Q and G: the bins in sixteenths, shrunk by the Wiener step at the noise number V, and folded.
-pub fn wiener(b: [[i64; 16]; 16], noise: u64) -> [[i64; 16]; 16]
-    requires { ⌜ (BinsMost b) × (noise ≤ noiseMost) ⌝ }
-    ensures { λ r. ⌜ (r ≡ grid 16 16 (spread (gainRe noise (cell (pos 0) b)) (gainIm noise (cell (pos 0) b)))) × (TileMost quadMost r) ⌝ }
+pub fn wiener(b: [[i64; 16]; 16], noise: u64) -> [[i32; 16]; 16]
+    requires { ⌜ (BinsMost b) × (0 < noise) × (noise ≤ noiseMost) ⌝ }
+    ensures { λ r. ⌜ (r ≡ grid 16 16 (transposed (spread (gainRe noise (transposed (cell (pos 0) b))) (gainIm noise (transposed (cell (pos 0) b)))))) × (TileMost quadMost r) ⌝ }
 {
-    let q = quads::quads(&b, noise);
-    quads::lines(&q)
+    let mut g = [[0i32; 16]; 16];
+    if noise <= 67108864 {
+        bins::filter(&b, noise, &mut g);
+        return g;
+    }
+    quads::quads(&b, noise, &mut g);
+    g
 }
 
-// P: the real part of the inverse, divided by 2^32.
-pub fn inverse(g: [[i64; 16]; 16]) -> [[i32; 16]; 16]
-    requires { ⌜ TileMost quadMost g ⌝ }
-    ensures { λ r. ⌜ r ≡ grid 16 16 (λ y x. away (backSum (cell (pos 0) g) y x) (2 ^ 32)) ⌝ }
+// P, the real part of the inverse divided by 2^32, is added to the sum.
+pub fn add_inverse(g: [[i32; 16]; 16], noise: u64, sum: &mut [[i64; 16]; 16])
+    requires { ⌜ (TileMost quadMost g) × ((noise ≤ smallNoise → TileMost narrowMost g)) × (TileMost (2 ^ 40) (now sum)) × (length (now sum) ≡ 16) ⌝ }
+    ensures { λ _. ⌜ now (sum .exit) ≡ grid 16 16 (λ y x. cell (pos 0) (now (sum .entry)) y x +ℤ away (backSum (transposed (cell (pos 0) g)) y x) (2 ^ 32)) ⌝ }
 {
-    let a = two_way::columns_back(&g);
-    two_way::rows_back(&a)
+    if noise <= 67108864 {
+        let mut a = [[0i32; 16]; 16];
+        columns_back::back(&g, &mut a);
+        rows::add_back(&a, &mut *sum);
+        return;
+    }
+    let mut a = [[0i64; 16]; 16];
+    wide::columns_back(&g, &mut a);
+    wide::add_back(&a, &mut *sum);
 }
 
-// P of a tile of differences at the noise number V.
-pub fn correction(d: [[i32; 16]; 16], noise: u64) -> [[i32; 16]; 16]
-    requires { ⌜ (TileMost differenceMost d) × (noise ≤ noiseMost) ⌝ }
-    ensures { λ r. ⌜ (r ≡ grid 16 16 (correctionAt side16 noise (cell (pos 0) d))) × (TileMost correctionMost r) ⌝ }
+// P of a tile of differences at the noise number V is added to the sum.
+pub fn add_correction(d: [[i16; 16]; 16], noise: u64, sum: &mut [[i64; 16]; 16])
+    requires { ⌜ (TileMost differenceMost d) × (noise ≤ noiseMost) × (TileMost (2 ^ 40) (now sum)) × (Square (now sum)) ⌝ }
+    ensures { λ _. ⌜ now (sum .exit) ≡ grid 16 16 (λ y x. cell (pos 0) (now (sum .entry)) y x +ℤ correctionAt side16 noise (cell (pos 0) d) y x) ⌝ }
 {
     if noise == 0 {
-        return [[0i32; 16]; 16];
+        return;
     }
     if empty::empty_tile(&d) {
-        return [[0i32; 16]; 16];
+        return;
     }
     let b = forward(d);
     let g = wiener(b, noise);
-    inverse(g)
+    add_inverse(g, noise, &mut *sum);
 }

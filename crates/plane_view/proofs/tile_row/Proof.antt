@@ -1,90 +1,69 @@
--- A row of a tile: filled from the front, each sample by where the row starts.
-use mathlib.Core.Path.{_≡_, refl}
-use Prim.Native.Nat.{_-_}
+-- A row inside the plane, and one that reaches over an edge.
+use mathlib.Core.Path.{sym, _∙_, subst}
 use native.Mathlib.Omega.{arith}
-use lib.IntN.{pos, _+ℤ_}
+use lib.Dec.{T}
+use lib.IntN.{pos}
+use lib.Signed.{_≤ℤ_, leZ-yes, yes-nonNeg}
 use mir.Syntax.{w64}
 use mir.Val.{toZ, ofZ}
 use mir.Facts.{toZ-ofZ}
 use borrow.Author.Needs.{needs}
-use Rattle.sequences.specs.Tab.{Filled, fill-start, fill-turn, fill-done}
-use Rattle.plane_view.specs.View.{planeSample, planeRow}
-use Rattle.plane_view.proofs.Places.{sample-in-row}
+use Rattle.plane_view.proofs.Places.{row-by-start, inner-by-start}
 use Rattle.plane_view.proofs.tile_row.Statement.{statement}
 use Rattle.plane_view.proofs.tile_row.Tie as tie
 
-abbrev Inv-loop : tie.InvT-loop
-Inv-loop y x samples width height row-parity column-parity start row₀ j₀ row j =
-    Filled (λ k. planeSample (toZ w64 y) (toZ w64 x +ℤ pos k) samples width height row-parity column-parity) 16 j row₀ row
-
-abbrev μ-loop : tie.MeasureT-loop
-μ-loop y x samples width height row-parity column-parity start row₀ j₀ row j = 16 - j
-
-row-start-requires : tie.Need-row-start-requires Inv-loop μ-loop
+row-start-requires : tie.Need-row-start-requires
 row-start-requires c κs = search needs
 
-loop-holds : tie.Need-loop-holds Inv-loop μ-loop
-loop-holds c = fill-start refl
+-- the first column is not before the plane's
+inner : (c : tie.Then1) → pos 0 ≤ℤ toZ w64 (ofZ w64 (c .before .before .before .args .x))
+inner c = leZ-yes (subst T (sym (c .if1 .taken)) tt)
 
-along-requires : tie.Need-along-requires Inv-loop μ-loop
-along-requires c κs = search needs
+cast-first : tie.Need-cast-first
+cast-first c =
+    let s = c .before .before .before in
+    (yes-nonNeg (inner c), rw (toZ-ofZ (s .fits .x)) (record { fits = omega (arith, s .pre .1 .near) }))
 
-inside-requires : tie.Need-inside-requires Inv-loop μ-loop
-inside-requires c κs = search needs
+add-if2 : tie.Need-add-if2
+add-if2 c =
+    let s = c .before .before .before in
+    rw (toZ-ofZ (s .fits .x)) (record { fits = omega (arith, s .pre .1 .near) })
 
-mul-row : tie.Need-mul-row Inv-loop μ-loop
-mul-row c = search needs
+mul-inner-row : tie.Need-mul-inner-row
+mul-inner-row c = search needs
 
-add-row : tie.Need-add-row Inv-loop μ-loop
-add-row c = search needs
+add-inner-row : tie.Need-add-inner-row
+add-inner-row c = search needs
 
-mul-row-2 : tie.Need-mul-row-2 Inv-loop μ-loop
-mul-row-2 c = search needs
+inner-row-requires : tie.Need-inner-row-requires
+inner-row-requires c κs = search needs
 
-shared-slice-read-row : tie.Need-shared-slice-read-row Inv-loop μ-loop
-shared-slice-read-row c = search needs
-
-mul-row-3 : tie.Need-mul-row-3 Inv-loop μ-loop
-mul-row-3 c = search needs
-
-array-write-row : tie.Need-array-write-row Inv-loop μ-loop
-array-write-row c = search needs
-
-add-j : tie.Need-add-j Inv-loop μ-loop
-add-j c = search needs
-
-loop-less : tie.Need-loop-less Inv-loop μ-loop
-loop-less c = search needs
-
-loop-again : tie.Need-loop-again Inv-loop μ-loop
-loop-again c =
-    let column : toZ w64 (ofZ w64 (c .before .before .along .result)) ≡ c .before .before .along .result = search needs in
-    fill-turn (c .before .before .before .before .loop .inv) (omega arith)
-    (rw (c .before .inside .ensures .0, column, c .before .before .along .ensures) (sample-in-row _ _ (c .before .before .before .before .before .row-start .ensures)))
-
-returns : tie.Need-returns Inv-loop μ-loop
-unfolding planeRow
+returns : tie.Need-returns
 returns c =
-    let s = c .before .before .before .before in
-    rw (← toZ-ofZ (s .fits .y), ← toZ-ofZ (s .fits .x)) (fill-done (c .before .loop .inv) (omega arith))
+    let t = c .before .before in
+    let r = t .before in
+    let s = r .before .before in
+    rw (← toZ-ofZ (s .fits .y), ← toZ-ofZ (s .fits .x)) (c .inner-row .ensures ∙ inner-by-start _ (r .row-start .ensures) 16 _ (inner t) (c .before .if2 .taken))
+
+edge-row-requires : tie.Need-edge-row-requires
+edge-row-requires c κs = search needs
+
+returns-2 : tie.Need-returns-2
+returns-2 c =
+    let r = c .before .before in
+    let s = r .before .before in
+    rw (← toZ-ofZ (s .fits .y), ← toZ-ofZ (s .fits .x)) (c .edge-row .ensures ∙ row-by-start _ (r .row-start .ensures) 16 _)
 
 pub tile-row-spec : {M : Type 1} → statement M
 tile-row-spec =
     tie.close
     (tie.spec
-    Inv-loop
-    μ-loop
     row-start-requires
-    loop-holds
-    along-requires
-    inside-requires
-    mul-row
-    add-row
-    mul-row-2
-    shared-slice-read-row
-    mul-row-3
-    array-write-row
-    add-j
-    loop-less
-    loop-again
-    returns)
+    cast-first
+    add-if2
+    mul-inner-row
+    add-inner-row
+    inner-row-requires
+    returns
+    edge-row-requires
+    returns-2)

@@ -1,30 +1,30 @@
--- `transform::wiener`: the quads hold the folded G, and their lines are handed on.
-use mathlib.Core.Path.{_∙_, sym, subst}
-use borrow.Author.Needs.{needs}
+-- `transform::wiener`: on lines of bins where the noise is small, and by quads where it is larger.
+use mathlib.Core.Path.{refl}
+use native.Mathlib.Omega.{arith}
 use lib.IntN.{pos}
-use Rattle.sequences.specs.Grid.{cell, grid-ext}
-use Rattle.transform.specs.Lines.{TileMost}
-use Rattle.transform.specs.Magnitudes.{quadMost}
-use Rattle.transform.specs.Spectrum.{quadAt, spread, gainRe, gainIm}
-use Rattle.transform.proofs.Tiles.{cells-most, tile-most}
-use Rattle.transform.proofs.Spectra.{quad-at}
+use Rattle.sequences.specs.Tab.{tab}
+use Rattle.sequences.specs.Grid.{grid}
+use Rattle.transform.proofs.ColumnLaws.{square-grid}
 use Rattle.transform.proofs.wiener.Statement.{statement}
 use Rattle.transform.proofs.wiener.Tie as tie
 
-quads-requires : tie.Need-quads-requires
-quads-requires c κs = search needs
-
-lines-requires : tie.Need-lines-requires
-lines-requires c κs = search needs
+filter-requires : tie.Need-filter-requires
+unfolding grid tab
+filter-requires c κs =
+    let s = c .before .before .before in
+    (s .pre .1, omega arith, s .pre .0, square-grid (λ k l. pos 0) refl)
 
 returns : tie.Need-returns
-unfolding quadAt
-returns c =
-    let q = c .before .before in
-    let s = q .before .before in
-    let b = cell (pos 0) (s .args .t1) in
-    let e = c .lines .ensures in
-    (e ∙ grid-ext 16 16 _ _ (quad-at (spread (gainRe (s .args .noise) b) (gainIm (s .args .noise) b)) (q .quads .ensures .0)), subst (TileMost quadMost) (sym e) (tile-most quadMost _ (λ k i. cells-most (q .quads .ensures .1) _ _)))
+returns c = c .filter .ensures
+
+quads-requires : tie.Need-quads-requires
+unfolding grid tab
+quads-requires c κs =
+    let s = c .before .before .before in
+    (s .pre .2, s .pre .0, square-grid (λ k l. pos 0) refl)
+
+returns-2 : tie.Need-returns-2
+returns-2 c = c .quads .ensures
 
 pub wiener-spec : {M : Type 1} → statement M
-wiener-spec = tie.close (tie.spec quads-requires lines-requires returns)
+wiener-spec = tie.close (tie.spec filter-requires returns quads-requires returns-2)

@@ -1,56 +1,86 @@
--- Holding to 0..4095: below, above and between.
-use mathlib.Core.Path.{_≡_, sym, ap, subst}
-use mathlib.Core.Bool.{true, false, not}
-use Prim.Native.Nat.{_≤_, _<_}
+-- Below, between and above; between, the quotient by the reciprocal is exact.
+use mathlib.Core.Path.{_≡_, sym, ap, _∙_}
+use Prim.Native.Nat.{_+_, _*_, _/_, _≤_, _<_}
+use native.Mathlib.Nat.{mul-le-mul, div-le-self, div-lt-iff-lt-mul}
 use native.Mathlib.Omega.{arith}
-use lib.Dec.{T}
-use lib.IntN.{ℤ, pos, natAbs}
-use lib.Signed.{ltZ, _≤ℤ_, ltZ-yes, ltZ-no}
-use mir.Facts.{toZ-ofZ}
+use lib.IntN.{pos, natAbs, _*ℤ_}
+use lib.Signed.{_≤ℤ_, _<ℤ_}
+use mir.Syntax.{w64}
+use mir.Val.{SFits, toZ}
+use mir.Facts.{toZ-pos, toZ-ofZ}
+use borrow.Author.Needs.{needs}
 use Rattle.algebra.specs.Bound.{from-zero}
-use Rattle.algebra.specs.Order.{zarith, abs-pn, min-pn, <ℤ-≤ℤ}
-use Rattle.algebra.specs.Clamp.{clamp-below, clamp-same, clamp-above}
+use Rattle.algebra.specs.Fit.{test-lt, test-ge}
+use Rattle.algebra.specs.Order.{zarith, abs-pn, min-pn}
+use Rattle.merging.proofs.Quotients.{reciprocal-19, held-below, held-between, held-above}
 use Rattle.merging.proofs.output.held.Statement.{statement}
 use Rattle.merging.proofs.output.held.Tie as tie
 
-below : (x y : ℤ) → ltZ x y ≡ true → x ≤ℤ y
-below x y e = <ℤ-≤ℤ (ltZ-yes (subst T (sym e) tt))
+zero-fits : SFits w64 (pos 0)
+zero-fits = record { sfits = omega arith }
 
-above : (x y : ℤ) → ltZ x y ≡ false → y ≤ℤ x
-above x y e = ltZ-no (subst (λ b. T (not b)) (sym e) tt)
+module _ (s : tie.Start) where
+  count-is : toZ w64 (s .args .count) ≡ pos (s .args .count)
+  count-is = toZ-pos w64 (omega (arith, s .pre .1))
 
-between : (z : ℤ) → pos 0 ≤ℤ z → z ≤ℤ pos 4095 → natAbs z ≤ 4095
-between z h k = omega (zarith, abs-pn z, min-pn z)
+  limit-fits : SFits w64 (pos 4096 *ℤ toZ w64 (s .args .count))
+  limit-fits = rw count-is (record { sfits = omega (arith, s .pre .1) })
 
 returns : tie.Need-returns
 returns c =
-    let z = c .before .args .z in
-    ap natAbs (sym (clamp-below (pos 0) (pos 4095) z (omega zarith) (below z (pos 0) (rw (toZ-ofZ (c .before .fits .z)) at (c .if1 .taken)))))
+    let s = c .before in
+    sym (held-below (s .args .count) (s .args .z) (test-lt (s .args .z) (pos 0) (s .fits .z) zero-fits (c .if1 .taken)))
 
-returns-2 : tie.Need-returns-2
-returns-2 c =
-    let s = c .before .before in
-    let z = s .args .z in
-    ap natAbs (sym (clamp-above (pos 0) (pos 4095) z (omega zarith) (below (pos 4095) z (rw (toZ-ofZ (s .fits .z)) at (c .if2 .taken)))))
+cast-if2 : tie.Need-cast-if2
+cast-if2 c = search needs
 
-low : (c : tie.Else2) → pos 0 ≤ℤ c .before .before .args .z
-low c = above (c .before .before .args .z) (pos 0) (rw (toZ-ofZ (c .before .before .fits .z)) at (c .before .if1 .left))
+mul-if2 : tie.Need-mul-if2
+mul-if2 c = limit-fits (c .before)
 
-high : (c : tie.Else2) → c .before .before .args .z ≤ℤ pos 4095
-high c = above (pos 4095) (c .before .before .args .z) (rw (toZ-ofZ (c .before .before .fits .z)) at (c .if2 .left))
+module _ (c : tie.Then2) where
+  abbrev s : tie.Start
+  s = c .before .before
+
+  low : pos 0 ≤ℤ s .args .z
+  low = test-ge (s .args .z) (pos 0) (s .fits .z) zero-fits (c .before .if1 .left)
+
+  high : s .args .z <ℤ pos (4096 * s .args .count)
+  high = rw (count-is s) at (test-lt (s .args .z) (pos 4096 *ℤ toZ w64 (s .args .count)) (s .fits .z) (limit-fits s) (c .if2 .taken))
+
+  size : natAbs (s .args .z) < 4096 * s .args .count
+  size = omega (zarith, abs-pn (s .args .z), min-pn (s .args .z), low, high)
+
+  product : natAbs (s .args .z) * s .args .inverse ≤ 32768 * 524295
+  product = mul-le-mul {n₁ = natAbs (s .args .z)} {m₁ = s .args .inverse} {n₂ = 32768} {m₂ = 524295} (omega (arith, size, s .pre .1)) (omega (arith, div-le-self (524287 + s .args .count) (s .args .count), s .pre .1, s .pre .2))
+
+  quotient : natAbs (s .args .z) * s .args .inverse / 524288 ≡ natAbs (s .args .z) / s .args .count
+  quotient = ap (λ r. natAbs (s .args .z) * r / 524288) (s .pre .2) ∙ reciprocal-19 (natAbs (s .args .z)) (s .args .count) (s .pre .0) (s .pre .1) size
+
+  quotient-below : natAbs (s .args .z) / s .args .count < 4096
+  quotient-below = div-lt-iff-lt-mul {k = s .args .count} {x = natAbs (s .args .z)} {y = 4096} (omega (arith, s .pre .0)) .1 size
 
 cast-result : tie.Need-cast-result
 cast-result c =
-    let s = c .before .before in
-    let z = s .args .z in
-    rw (toZ-ofZ (s .fits .z))
-    (from-zero z (rw (toZ-ofZ (s .fits .z)) at (c .before .if1 .left)), record { fits = omega (arith, between z (low c) (high c)) })
+    let a = s c in
+    rw (toZ-ofZ (a .fits .z)) (from-zero (a .args .z) (rw (toZ-ofZ (a .fits .z)) at (c .before .if1 .left)), record { fits = omega (arith, size c, a .pre .1) })
+
+mul-result : tie.Need-mul-result
+mul-result c = rw (toZ-ofZ (s c .fits .z)) (record { fits = omega (arith, product c) })
+
+cast-result-2 : tie.Need-cast-result-2
+cast-result-2 c = rw (toZ-ofZ (s c .fits .z)) (record { fits = omega (arith, quotient c, quotient-below c) })
+
+returns-2 : tie.Need-returns-2
+returns-2 c =
+    let a = s c in
+    rw (toZ-ofZ (a .fits .z)) (quotient c ∙ sym (held-between (a .args .count) (a .args .z) (omega (arith, a .pre .0)) (low c) (high c)))
 
 returns-3 : tie.Need-returns-3
 returns-3 c =
-    let s = c .before .before in
-    let z = s .args .z in
-    rw (toZ-ofZ (s .fits .z)) (ap natAbs (sym (clamp-same (pos 0) (pos 4095) z (low c) (high c))))
+    let a = c .before .before in
+    sym (held-above (a .args .count) (a .args .z) (omega (arith, a .pre .0)) (rw (count-is a) at (test-ge (a .args .z) (pos 4096 *ℤ toZ w64 (a .args .count)) (a .fits .z) (limit-fits a) (c .if2 .left))))
 
 pub held-spec : {M : Type 1} → statement M
-held-spec = tie.close (tie.spec returns returns-2 cast-result returns-3)
+held-spec =
+    tie.close
+    (tie.spec returns cast-if2 mul-if2 cast-result mul-result cast-result-2 returns-2 returns-3)

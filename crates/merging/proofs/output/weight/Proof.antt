@@ -9,7 +9,7 @@ use mir.Syntax.{w64}
 use mir.Val.{toZ}
 use mir.Facts.{toZ-pos}
 use borrow.Author.Needs.{needs}
-use Rattle.transform.specs.Tables.{window16}
+use Rattle.lines.specs.Tables.{window16}
 use Rattle.merging.proofs.Weights.{weight-most}
 use Rattle.merging.proofs.output.weight.Statement.{statement}
 use Rattle.merging.proofs.output.weight.Tie as tie

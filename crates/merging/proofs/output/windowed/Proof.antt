@@ -9,7 +9,7 @@ use mir.Facts.{toZ-ofZ}
 use borrow.Author.Needs.{needs}
 use Rattle.algebra.specs.Bound.{AtMost, most-fits}
 use Rattle.merging.proofs.Signed.{plus64, sum-is, sum-most}
-use Rattle.merging.proofs.Weights.{words-fewer, windowed-four}
+use Rattle.merging.proofs.Weights.{words-fewer, words-later, windowed-four}
 use Rattle.merging.proofs.output.windowed.Statement.{statement}
 use Rattle.merging.proofs.output.windowed.Tie as tie
 
@@ -26,13 +26,13 @@ add-part : tie.Need-add-part
 add-part c = search needs
 
 part-requires : tie.Need-part-requires
-part-requires c κs = (words-fewer _ (c .pre .1) (omega arith), c .pre .2, omega arith, omega arith)
+part-requires c κs = let w = c .pre .0 in (words-later 256 256 (w .lower-words) (omega arith), w .lower-weights, omega (arith, w .row), omega (arith, c .pre .1))
 
 add-part-2 : tie.Need-add-part-2
 add-part-2 c = search needs
 
 part-requires-2 : tie.Need-part-requires-2
-part-requires-2 c κs = (words-fewer _ (c .before .pre .1) (omega arith), c .before .pre .2, omega arith, omega arith)
+part-requires-2 c κs = let s = c .before in let w = s .pre .0 in (words-fewer 256 (w .lower-words) (omega arith), w .lower-weights, omega (arith, w .row), omega (arith, s .pre .1))
 
 add-result : tie.Need-add-result
 add-result c = most-fits w64 _ _ (most-2 c) tt
@@ -44,7 +44,7 @@ add-part-4 : tie.Need-add-part-4
 add-part-4 c = search needs
 
 part-requires-3 : tie.Need-part-requires-3
-part-requires-3 c κs = (words-fewer _ (c .before .before .pre .0) (omega arith), c .before .before .pre .2, omega arith, omega arith)
+part-requires-3 c κs = let s = c .before .before in let w = s .pre .0 in (words-later 256 256 (w .upper-words) (omega arith), w .upper-weights, omega (arith, w .row), omega (arith, s .pre .1))
 
 add-result-2 : tie.Need-add-result-2
 add-result-2 c = most-fits w64 _ _ (most-3 c) tt
@@ -56,7 +56,7 @@ add-part-6 : tie.Need-add-part-6
 add-part-6 c = search needs
 
 part-requires-4 : tie.Need-part-requires-4
-part-requires-4 c κs = (words-fewer _ (c .before .before .before .pre .0) (omega arith), c .before .before .before .pre .2, omega arith, omega arith)
+part-requires-4 c κs = let s = c .before .before .before in let w = s .pre .0 in (words-fewer 256 (w .upper-words) (omega arith), w .upper-weights, omega (arith, w .row), omega (arith, s .pre .1))
 
 add-result-3 : tie.Need-add-result-3
 add-result-3 c = most-fits w64 _ _ (most-4 c) tt
@@ -71,7 +71,7 @@ returns c =
     let sum =
     sum-is (most-3 (c .before)) (c .part4 .ensures .1) tt tt
     ∙ ap (λ z. z +ℤ c .part4 .result) (sum-is (most-2 (c .before .before)) (p3 .ensures .1) tt tt ∙ ap (λ z. z +ℤ p3 .result) (sum-is (p .ensures .1) (p2 .ensures .1) tt tt)) in
-    (back ∙ sum ∙ windowed-four (now (a .work)) (a .above) (a .below) (a .i) (a .x) (p .ensures .0) (p2 .ensures .0) (p3 .ensures .0) (c .part4 .ensures .0), rw back (most-4 c))
+    (back ∙ sum ∙ windowed-four (now (a .work)) (a .above) (a .below) (a .i) (a .j) (c .before .before .before .before .pre .1) (p .ensures .0) (p2 .ensures .0) (p3 .ensures .0) (c .part4 .ensures .0), rw back (most-4 c))
 
 pub windowed-spec : {M : Type 1} → statement M
 windowed-spec =

@@ -1,7 +1,10 @@
 -- A tile a turn, each at its place of the row.
+use mathlib.Core.Path.{refl}
 use Prim.Native.Nat.{_-_}
 use native.Mathlib.Omega.{arith}
 use borrow.Author.Needs.{needs}
+use Rattle.sequences.specs.Tab.{tab}
+use Rattle.sequences.specs.Grid.{grid}
 use Rattle.merging.specs.Recipe.{sceneOf}
 use Rattle.merging.specs.Work.{rowWords}
 use Rattle.merging.proofs.Storing.{Storing, store-start, store-turn, store-done}
@@ -25,9 +28,10 @@ unfolding sceneOf
 loop-holds c = store-start (omega (arith, c .slot .ensures))
 
 tile-correction-requires : tie.Need-tile-correction-requires Inv-loop μ-loop
+unfolding grid tab
 tile-correction-requires c κs =
-    let s = c .before .before .before .before in
-    (s .pre .0, record { row-parity = s .pre .1 .row-parity; column-parity = s .pre .1 .column-parity; row = s .pre .2; column = omega arith })
+    let s = c .before .before .before .before .before in
+    (s .pre .0, record { row-parity = s .pre .1 .row-parity; column-parity = s .pre .1 .column-parity; row = s .pre .2; column = omega arith }, refl)
 
 mul-store-tile : tie.Need-mul-store-tile Inv-loop μ-loop
 mul-store-tile c = search needs
@@ -39,7 +43,7 @@ add-store-tile c = omega arith
 store-tile-requires : tie.Need-store-tile-requires Inv-loop μ-loop
 unfolding sceneOf
 store-tile-requires c κs =
-    let l = c .before .before .before in
+    let l = c .before .before .before .before .before in
     let w = l .loop .inv .writing in
     omega (arith, l .before .slot .ensures .0, w .room, w .same)
 
@@ -52,8 +56,8 @@ loop-less c = omega arith
 loop-again : tie.Need-loop-again Inv-loop μ-loop
 unfolding sceneOf
 loop-again c =
-    let l = c .before .before .before .before .before in
-    store-turn (l .loop .inv) (omega arith) (c .before .before .before .tile-correction .ensures) (rw (l .before .slot .ensures .0) at (c .before .store-tile .ensures))
+    let l = c .before .before .before .before .before .before .before in
+    store-turn (l .loop .inv) (omega arith) (c .before .before .before .before .tile-correction .ensures) (rw (l .before .slot .ensures .0) at (c .before .store-tile .ensures))
 
 same-length : tie.Need-same-length Inv-loop μ-loop
 same-length c = search needs

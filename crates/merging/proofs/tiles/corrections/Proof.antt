@@ -1,53 +1,54 @@
 -- The sum goes on by one frame a turn.
-use mathlib.Core.Path.{_≡_, refl, _∙_, subst, sym}
+use mathlib.Core.Path.{_≡_, _∙_, subst, sym}
 use Prim.Native.Nat.{_-_}
 use native.Mathlib.Omega.{arith}
 use denote.Ref.{now}
 use borrow.Author.Needs.{needs}
-use Rattle.sequences.specs.Tab.{tab}
 use Rattle.sequences.specs.Grid.{grid}
 use Rattle.merging.specs.Recipe.{sceneOf, difference}
-use Rattle.transform.specs.Lines.{TileMost}
-use Rattle.transform.specs.Magnitudes.{differenceMost}
-use Rattle.merging.proofs.Differences.{difference-grid, tile-most}
-use Rattle.merging.proofs.Summing.{Summing, sum-start, sum-turn, sum-length, sum-small, sum-done}
+use Rattle.lines.specs.Lines.{TileMost}
+use Rattle.lines.specs.Magnitudes.{differenceMost}
+use Rattle.transform.specs.SizeLaws.{correction-most}
+use Rattle.merging.proofs.Differences.{difference-grid, tile-fits, reference-most, other-most, difference-most, tile-most}
+use Rattle.merging.proofs.Summing.{Summing, sum-start, sum-turn, sum-square, sum-small, sum-done}
 use Rattle.merging.proofs.tiles.corrections.Statement.{statement}
 use Rattle.merging.proofs.tiles.corrections.Tie as tie
 
 abbrev Inv-loop : tie.InvT-loop
-Inv-loop m samples vectors site t0 noise others sum₀ k₀ sum k = Summing (sceneOf m samples vectors) site k sum
+Inv-loop m samples vectors site t0 noise sum₀ others k₀ sum k = Summing (sceneOf m samples vectors) site k sum
 
 abbrev μ-loop : tie.MeasureT-loop
-μ-loop m samples vectors site t0 noise others sum₀ k₀ sum k = others - k
+μ-loop m samples vectors site t0 noise sum₀ others k₀ sum k = others - k
 
 sub-others : tie.Need-sub-others Inv-loop μ-loop
 sub-others c = search needs
 
 loop-holds : tie.Need-loop-holds Inv-loop μ-loop
-unfolding sceneOf grid tab
-loop-holds c = sum-start (omega arith) refl
+unfolding sceneOf
+loop-holds c = sum-start (omega arith) (c .before .before .pre .3)
 
 other-tile-requires : tie.Need-other-tile-requires Inv-loop μ-loop
 other-tile-requires c κs = search needs
 
 difference-requires : tie.Need-difference-requires Inv-loop μ-loop
-difference-requires c κs = search needs
+difference-requires c κs =
+    let s = c .before .before .before .before .before .before in
+    let fit = s .pre .0 .samples-fit in
+    (tile-fits _ (reference-most (s .args .m) (now (s .args .vectors)) fit _ _ _ _) (s .pre .2 .is), tile-fits _ (other-most (s .args .m) (now (s .args .vectors)) fit _ _ _ _ _) (c .before .other-tile .ensures))
 
-difference-is : (c : tie.After-difference Inv-loop μ-loop) → let a = c .before .before .before .before .before .before .args in
-    c .difference .result ≡ grid 16 16 (difference (sceneOf (a .m) (now (a .samples)) (now (a .vectors))) (a .site .«row_parity») (a .site .«column_parity») (a .site .row) (a .site .column) (c .before .before .before .loop .k))
+difference-is : (c : tie.After-difference Inv-loop μ-loop) → let a = c .before .before .before .before .before .before .before .args in
+    c .difference .result ≡ grid 16 16 (difference (sceneOf (a .m) (now (a .samples)) (now (a .vectors))) (a .site .«row_parity») (a .site .«column_parity») (a .site .row) (a .site .column) (c .before .before .before .before .loop .k))
 difference-is c =
-    let s = c .before .before .before .before .before .before in
-    c .difference .ensures ∙ difference-grid (sceneOf (s .args .m) (now (s .args .samples)) (now (s .args .vectors))) _ _ _ _ _ (s .pre .2 .is) (c .before .other-tile .ensures)
+    let o = c .before .before in
+    let s = o .before .before .before .before .before in
+    c .difference .ensures ∙ difference-grid (sceneOf (s .args .m) (now (s .args .samples)) (now (s .args .vectors))) _ _ _ _ _ (s .pre .2 .is) (o .other-tile .ensures)
 
-correction-requires : tie.Need-correction-requires Inv-loop μ-loop
-correction-requires c κs =
-    let s = c .before .before .before .before .before .before in
-    (subst (TileMost differenceMost) (sym (difference-is c)) (tile-most (s .args .m) (now (s .args .vectors)) (s .pre .0 .samples-fit) _ _ _ _ _), s .pre .2 .most)
-
-add-requires : tie.Need-add-requires Inv-loop μ-loop
-add-requires c κs =
-    let w = c .before .before .before .before .before .before .loop .inv in
-    (sum-length w, sum-small w)
+add-correction-requires : tie.Need-add-correction-requires Inv-loop μ-loop
+add-correction-requires c κs =
+    let d = c .before in
+    let l = d .before .before .before .before in
+    let s = l .before .before .before in
+    (subst (TileMost differenceMost) (sym (difference-is d)) (tile-most (s .args .m) (now (s .args .vectors)) (s .pre .0 .samples-fit) _ _ _ _ _), s .pre .2 .most, sum-small (l .loop .inv), sum-square (l .loop .inv))
 
 add-k : tie.Need-add-k Inv-loop μ-loop
 add-k c = search needs
@@ -58,9 +59,11 @@ loop-less c = omega arith
 loop-again : tie.Need-loop-again Inv-loop μ-loop
 unfolding sceneOf
 loop-again c =
-    let p = c .before .before .before in
-    let w = p .before .before .before .before in
-    sum-turn (w .loop .inv) (omega arith) (w .before .before .before .pre .2 .number) (difference-is (p .before)) (p .correction .ensures .0) (c .add .ensures) (p .correction .ensures .1)
+    let d = c .before .before in
+    let l = d .before .before .before .before in
+    let s = l .before .before .before in
+    sum-turn (l .loop .inv) (omega arith) (s .pre .2 .number) (difference-is d) (c .add-correction .ensures)
+    (correction-most _ _ (difference-most (s .args .m) (now (s .args .vectors)) (s .pre .0 .samples-fit) _ _ _ _ (l .loop .k)))
 
 returns : tie.Need-returns Inv-loop μ-loop
 unfolding sceneOf
@@ -76,8 +79,7 @@ corrections-spec =
     loop-holds
     other-tile-requires
     difference-requires
-    correction-requires
-    add-requires
+    add-correction-requires
     add-k
     loop-less
     loop-again

@@ -21,17 +21,19 @@ loop-holds c = fill-start refl
 mul-difference-row : tie.Need-mul-difference-row Inv-loop μ-loop
 mul-difference-row c = search needs
 
-array-copy-out-difference-row : tie.Need-array-copy-out-difference-row Inv-loop μ-loop
-array-copy-out-difference-row c = search needs
+index-1-difference-row : tie.Need-index-1-difference-row Inv-loop μ-loop
+index-1-difference-row c = search needs
 
 mul-difference-row-2 : tie.Need-mul-difference-row-2 Inv-loop μ-loop
 mul-difference-row-2 c = search needs
 
-array-copy-out-difference-row-2 : tie.Need-array-copy-out-difference-row-2 Inv-loop μ-loop
-array-copy-out-difference-row-2 c = search needs
+index-1-difference-row-2 : tie.Need-index-1-difference-row-2 Inv-loop μ-loop
+index-1-difference-row-2 c = search needs
 
 difference-row-requires : tie.Need-difference-row-requires Inv-loop μ-loop
-difference-row-requires c κs = search needs
+difference-row-requires c κs =
+    let l = c .before .before .before in
+    (l .before .pre .0 .row (l .loop .i), l .before .pre .1 .row (l .loop .i))
 
 mul-d : tie.Need-mul-d Inv-loop μ-loop
 mul-d c = search needs
@@ -61,9 +63,9 @@ difference-spec =
     μ-loop
     loop-holds
     mul-difference-row
-    array-copy-out-difference-row
+    index-1-difference-row
     mul-difference-row-2
-    array-copy-out-difference-row-2
+    index-1-difference-row-2
     difference-row-requires
     mul-d
     array-set-from-d

@@ -4,7 +4,7 @@ use Prim.Native.Nat.{_-_}
 use native.Mathlib.Omega.{arith}
 use lib.IntN.{pos, _-ℤ_}
 use lib.ListN.{getD}
-use mir.Syntax.{w32}
+use mir.Syntax.{w16}
 use mir.Val.{toZ, ofZ}
 use borrow.Author.Needs.{needs}
 use Rattle.sequences.specs.Tab.{Filled, fill-start, fill-turn, fill-done}
@@ -23,17 +23,19 @@ loop-holds c = fill-start refl
 mul-minus : tie.Need-mul-minus Inv-loop μ-loop
 mul-minus c = search needs
 
-array-read-minus : tie.Need-array-read-minus Inv-loop μ-loop
-array-read-minus c = search needs
+element-copy-out-minus : tie.Need-element-copy-out-minus Inv-loop μ-loop
+element-copy-out-minus c = search needs
 
 mul-minus-2 : tie.Need-mul-minus-2 Inv-loop μ-loop
 mul-minus-2 c = search needs
 
-array-read-minus-2 : tie.Need-array-read-minus-2 Inv-loop μ-loop
-array-read-minus-2 c = search needs
+element-copy-out-minus-2 : tie.Need-element-copy-out-minus-2 Inv-loop μ-loop
+element-copy-out-minus-2 c = search needs
 
 minus-requires : tie.Need-minus-requires Inv-loop μ-loop
-minus-requires c κs = search needs
+minus-requires c κs =
+    let l = c .before .before .before in
+    (l .before .pre .0 .most (l .loop .j), l .before .pre .1 .most (l .loop .j))
 
 mul-row : tie.Need-mul-row Inv-loop μ-loop
 mul-row c = search needs
@@ -49,8 +51,8 @@ loop-less c = search needs
 
 loop-again : tie.Need-loop-again Inv-loop μ-loop
 loop-again c =
-    let e : toZ w32 (ofZ w32 (c .minus .result)) ≡ c .minus .result = search needs in
-    fill-turn (c .before .before .loop .inv) (omega arith) (e ∙ c .minus .ensures)
+    let e : toZ w16 (ofZ w16 (c .minus .result)) ≡ c .minus .result = search needs in
+    fill-turn (c .before .before .before .before .loop .inv) (omega arith) (e ∙ c .minus .ensures)
 
 returns : tie.Need-returns Inv-loop μ-loop
 returns c = fill-done (c .before .loop .inv) (omega arith)
@@ -63,9 +65,9 @@ difference-row-spec =
     μ-loop
     loop-holds
     mul-minus
-    array-read-minus
+    element-copy-out-minus
     mul-minus-2
-    array-read-minus-2
+    element-copy-out-minus-2
     minus-requires
     mul-row
     array-set-from-row

@@ -1,11 +1,10 @@
 -- T0 has its root and its noise number, which is in range; at 0 every correction is 0.
-use mathlib.Core.Path.{_≡_, refl, sym, ap, _∙_}
+use mathlib.Core.Path.{_≡_, sym, ap, _∙_}
 use mathlib.Core.List.{List}
 use Prim.Native.Nat.{ℕ, _≤_}
 use lib.IntN.{ℤ, pos}
 use denote.Ref.{now}
 use borrow.Author.Needs.{needs}
-use Rattle.sequences.specs.Tab.{tab}
 use Rattle.sequences.specs.Grid.{grid, cell, cell-grid}
 use Rattle.geometry.specs.Read.{sampleAt}
 use Rattle.noise.specs.NoiseNumber.{tileRoot, noiseNumber}
@@ -44,11 +43,10 @@ known : (c : tie.After-tile-noise) → let a = c .before .before .before .before
 known c = let s = c .before .before .before .before in tile-of (s .pre .0) (s .args .site) (c .before .tile .ensures) (c .tile-noise .ensures)
 
 returns : tie.Need-returns
-unfolding grid tab
-returns c = zero-summed (sym (known (c .before) .number) ∙ c .if1 .taken) refl
+returns c = zero-summed (sym (known (c .before) .number) ∙ c .if1 .taken) (c .before .before .before .before .before .pre .2)
 
 corrections-requires : tie.Need-corrections-requires
-corrections-requires c κs = let s = c .before .before .before .before .before in (s .pre .0, s .pre .1, known (c .before))
+corrections-requires c κs = let n = c .before .before .before in let s = n .before .before .before .before in (s .pre .0, s .pre .1, known n, s .pre .2)
 
 returns-2 : tie.Need-returns-2
 returns-2 c = search needs

@@ -1,14 +1,14 @@
 -- `transform::empty::empty_row`: every number before x is 0.
 use native.Mathlib.Omega.{arith}
 use borrow.Author.Needs.{needs}
-use mathlib.Core.Path.{_≡_, sym, ap, _∙_, subst}
+use mathlib.Core.Path.{_≡_, refl, sym, ap, _∙_, subst}
 use lib.Dec.{T}
 use Prim.Native.Nat.{ℕ, _-_, _<_, _≤_}
 use borrow.Author.Count.{below-more}
 use lib.IntN.{pos}
 use lib.ListN.{getD}
 use denote.Ref.{now}
-use mir.Syntax.{w32}
+use mir.Syntax.{w16}
 use mir.Val.{toZ, ofZ}
 use Rattle.transform.proofs.empty.empty_row.Statement.{statement}
 use Rattle.transform.proofs.empty.empty_row.Tie as tie
@@ -29,7 +29,9 @@ element-copy-out-if1 : tie.Need-element-copy-out-if1 Inv-loop μ-loop
 element-copy-out-if1 c = search needs
 
 returns : tie.Need-returns Inv-loop μ-loop
-returns c e = absurd (subst T (sym e) tt)
+returns c =
+    let l = c .before .before .before in
+    ((λ e. absurd (subst T (sym e) tt)), (λ z. absurd (c .if1 .taken (ap (ofZ w16) (z .none (l .loop .x) (omega arith))))))
 
 add-x : tie.Need-add-x Inv-loop μ-loop
 add-x c = search needs
@@ -41,11 +43,11 @@ loop-again : tie.Need-loop-again Inv-loop μ-loop
 loop-again c =
     let l = c .before .before .before in
     let z = getD (now (l .before .args .row)) (l .loop .x) (pos 0) in
-    let e : toZ w32 (ofZ w32 z) ≡ z = search needs in
-    (omega arith, below-more _ (l .loop .x) (l .loop .inv .1) (sym e ∙ ap (toZ w32) (c .if1 .left)))
+    let e : toZ w16 (ofZ w16 z) ≡ z = search needs in
+    (omega arith, below-more _ (l .loop .x) (l .loop .inv .1) (sym e ∙ ap (toZ w16) (c .if1 .left)))
 
 returns-2 : tie.Need-returns-2 Inv-loop μ-loop
-returns-2 c e = record { none = λ i h. c .before .loop .inv .1 i (omega arith) }
+returns-2 c = ((λ e. record { none = λ i h. c .before .loop .inv .1 i (omega arith) }), (λ e. refl))
 
 pub empty-row-spec : {M : Type 1} → statement M
 empty-row-spec =

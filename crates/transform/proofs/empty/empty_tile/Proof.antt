@@ -1,7 +1,7 @@
 -- `transform::empty::empty_tile`: every row before y is empty.
 use native.Mathlib.Omega.{arith}
 use borrow.Author.Needs.{needs}
-use mathlib.Core.Path.{_≡_, refl, sym, subst}
+use mathlib.Core.Path.{_≡_, refl, sym, ap, _∙_, subst}
 use mathlib.Core.Bool.{Bool, true, false, not}
 use mathlib.Core.List.{[]}
 use Prim.Native.Nat.{ℕ, _-_, _<_, _≤_}
@@ -10,7 +10,7 @@ use lib.Dec.{T}
 use lib.IntN.{pos}
 use lib.ListN.{getD}
 use Rattle.sequences.specs.Grid.{cell}
-use Rattle.transform.specs.Lines.{EmptyLine}
+use Rattle.lines.specs.Lines.{EmptyLine}
 use Rattle.transform.proofs.empty.empty_tile.Statement.{statement}
 use Rattle.transform.proofs.empty.empty_tile.Tie as tie
 
@@ -37,7 +37,11 @@ empty-row-requires : tie.Need-empty-row-requires Inv-loop μ-loop
 empty-row-requires c κs = search needs
 
 returns : tie.Need-returns Inv-loop μ-loop
-returns c e = absurd (subst T (sym e) tt)
+unfolding cell
+returns c =
+    let l = c .before .before .before .before in
+    let row = c .before .empty-row .ensures .1 in
+    ((λ e. absurd (subst T (sym e) tt)), (λ z. absurd (subst T (sym (c .if1 .taken) ∙ ap not (row (record { none = λ x h. z .none (l .loop .y) x (omega arith) h }))) tt)))
 
 add-y : tie.Need-add-y Inv-loop μ-loop
 add-y c = search needs
@@ -48,11 +52,11 @@ loop-less c = search needs
 loop-again : tie.Need-loop-again Inv-loop μ-loop
 loop-again c =
     let l = c .before .before .before .before in
-    (omega arith, below-more _ (l .loop .y) (l .loop .inv .1) (c .before .empty-row .ensures (from-not _ (c .if1 .left))))
+    (omega arith, below-more _ (l .loop .y) (l .loop .inv .1) (c .before .empty-row .ensures .0 (from-not _ (c .if1 .left))))
 
 returns-2 : tie.Need-returns-2 Inv-loop μ-loop
 unfolding cell
-returns-2 c e = record { none = λ y x h l. c .before .loop .inv .1 y (omega arith) .none x l }
+returns-2 c = ((λ e. record { none = λ y x h l. c .before .loop .inv .1 y (omega arith) .none x l }), (λ e. refl))
 
 pub empty-tile-spec : {M : Type 1} → statement M
 empty-tile-spec =

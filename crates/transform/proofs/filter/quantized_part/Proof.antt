@@ -8,10 +8,10 @@ use mir.Syntax.{w64}
 use mir.Val.{toZ, ofZ}
 use mir.Facts.{toZ-ofZ}
 use Rattle.algebra.specs.Nearest.{away}
-use Rattle.transform.specs.Tables.{side16}
+use Rattle.lines.specs.Tables.{side16}
 use Rattle.transform.specs.Recipe.{quantized}
 use Rattle.transform.specs.Magnitudes.{binMost}
-use Rattle.transform.proofs.Rounded.{away-most}
+use Rattle.transform.specs.RoundingLaws.{away-most}
 use Rattle.transform.proofs.filter.quantized_part.Statement.{statement}
 use Rattle.transform.proofs.filter.quantized_part.Tie as tie
 

@@ -19,7 +19,7 @@ use Rattle.rounding.proofs.round_away.Reads as round-away-reads
 use Rattle.transform.specs.Recipe.{power, wiener}
 use Rattle.transform.specs.RecipeLaws.{power-is}
 use Rattle.transform.specs.Magnitudes.{gainMost, noiseMost}
-use Rattle.transform.proofs.Weight.{wiener-is, wiener-most}
+use Rattle.transform.specs.WienerLaws.{wiener-is, wiener-most}
 use Rattle.transform.proofs.filter.wiener_part.Statement.{statement}
 use Rattle.transform.proofs.filter.wiener_part.Tie as tie
 use Rattle.transform.proofs.filter.wiener_part.Reads as reads

@@ -1,48 +1,89 @@
 -- `transform::quads::corner_quad`: each part is shrunk by itself.
-use mathlib.Core.Path.{ap, _∙_}
+use mathlib.Core.Path.{_≡_, ap, _∙_}
+use mathlib.Core.List.{List}
+use Prim.Native.Nat.{ℕ, _≤_, zero-le}
+use native.Mathlib.Omega.{arith}
 use borrow.Author.Needs.{needs}
-use lib.IntN.{pos}
-use mir.Facts.{toZ-ofZ}
-use Rattle.transform.specs.Tables.{side16}
+use lib.IntN.{ℤ, pos, natAbs}
+use lib.ListN.{getD}
+use mir.Syntax.{w64}
+use mir.Val.{toZ, ofZ}
+use Rattle.algebra.specs.Bound.{AtMost}
+use Rattle.sequences.specs.Tab.{tab}
+use Rattle.lines.specs.Tables.{side16}
 use Rattle.transform.specs.Recipe.{filtered}
-use Rattle.transform.specs.Spectrum.{separateQuad}
-use Rattle.transform.proofs.Held.{number-is, number-most}
+use Rattle.transform.specs.Magnitudes.{binMost, gainMost}
+use Rattle.lines.specs.Lines.{LineMost}
+use Rattle.lines.proofs.Held.{number-is, number-most, held-is, held-most}
+use Rattle.lines.proofs.Tiles.{line-more}
 use Rattle.transform.proofs.QuadLaws.{four, four-most}
 use Rattle.transform.proofs.quads.corner_quad.Statement.{statement}
 use Rattle.transform.proofs.quads.corner_quad.Tie as tie
 
+-- a part of G as the code holds it
+part : (noise : ℕ) {b : List ℤ} → LineMost binMost b → (i : ℕ) {z : ℤ} → AtMost gainMost z → z ≡ filtered side16 noise (toZ w64 (ofZ w64 (getD b i (pos 0)))) (pos 0) → toZ w64 (ofZ w64 z) ≡ filtered side16 noise (getD b i (pos 0)) (pos 0)
+part noise l i m e = number-is w64 m tt ∙ e ∙ ap (λ z. filtered side16 noise z (pos 0)) (held-is w64 l i tt)
+
+small : {z : ℤ} → AtMost gainMost z → natAbs (toZ w64 (ofZ w64 z)) ≤ gainMost
+small m = number-most w64 m tt .most
+
+element-copy-out-filtered-part : tie.Need-element-copy-out-filtered-part
+element-copy-out-filtered-part c = search needs
+
 filtered-part-requires : tie.Need-filtered-part-requires
-filtered-part-requires c κs = search needs
+filtered-part-requires c κs =
+    let s = c .before in
+    (s .pre .0, held-most w64 (s .pre .1) 0 tt, record { most = zero-le })
+
+element-copy-out-filtered-part-2 : tie.Need-element-copy-out-filtered-part-2
+element-copy-out-filtered-part-2 c = search needs
 
 filtered-part-requires-2 : tie.Need-filtered-part-requires-2
-filtered-part-requires-2 c κs = search needs
+filtered-part-requires-2 c κs =
+    let s = c .before .before .before in
+    (s .pre .0, held-most w64 (s .pre .1) 1 tt, record { most = zero-le })
+
+element-copy-out-filtered-part-3 : tie.Need-element-copy-out-filtered-part-3
+element-copy-out-filtered-part-3 c = search needs
 
 filtered-part-requires-3 : tie.Need-filtered-part-requires-3
-filtered-part-requires-3 c κs = search needs
+filtered-part-requires-3 c κs =
+    let s = c .before .before .before .before .before in
+    (s .pre .0, held-most w64 (s .pre .1) 2 tt, record { most = zero-le })
+
+element-copy-out-filtered-part-4 : tie.Need-element-copy-out-filtered-part-4
+element-copy-out-filtered-part-4 c = search needs
 
 filtered-part-requires-4 : tie.Need-filtered-part-requires-4
-filtered-part-requires-4 c κs = search needs
+filtered-part-requires-4 c κs =
+    let s = c .before .before .before .before .before .before .before in
+    (s .pre .0, held-most w64 (s .pre .1) 3 tt, record { most = zero-le })
 
 returns : tie.Need-returns
-unfolding separateQuad
+unfolding tab
 returns c =
-    let p3 = c .before in
-    let p2 = p3 .before in
-    let p1 = p2 .before in
-    let s = p1 .before in
-    let f = filtered side16 (s .args .noise) in
-    let x = number-is (p1 .filtered-part .ensures .1) tt ∙ p1 .filtered-part .ensures .0 ∙ ap (λ a. f a (pos 0)) (toZ-ofZ (s .fits .a)) in
-    let y = number-is (p2 .filtered-part2 .ensures .1) tt ∙ p2 .filtered-part2 .ensures .0 ∙ ap (λ a. f a (pos 0)) (toZ-ofZ (s .fits .c)) in
-    let z = number-is (p3 .filtered-part3 .ensures .1) tt ∙ p3 .filtered-part3 .ensures .0 ∙ ap (λ a. f a (pos 0)) (toZ-ofZ (s .fits .b)) in
-    let w = number-is (c .filtered-part4 .ensures .1) tt ∙ c .filtered-part4 .ensures .0 ∙ ap (λ a. f a (pos 0)) (toZ-ofZ (s .fits .d)) in
-    (four _ _ _ _ _ _ _ _ x y z w, four-most (number-most (p1 .filtered-part .ensures .1) tt) (number-most (p2 .filtered-part2 .ensures .1) tt) (number-most (p3 .filtered-part3 .ensures .1) tt) (number-most (c .filtered-part4 .ensures .1) tt))
+    let p3 = c .before .before in
+    let p2 = p3 .before .before in
+    let p1 = p2 .before .before in
+    let s = p1 .before .before in
+    let n = s .args .noise in
+    let l = s .pre .1 in
+    let a = p1 .filtered-part .ensures in
+    let b = p2 .filtered-part2 .ensures in
+    let d = p3 .filtered-part3 .ensures in
+    let e = c .filtered-part4 .ensures in
+    (four (part n l 0 (a .1) (a .0)) (part n l 1 (b .1) (b .0)) (part n l 2 (d .1) (d .0)) (part n l 3 (e .1) (e .0)), line-more (omega arith) (four-most gainMost _ _ _ _ (small (a .1)) (small (b .1)) (small (d .1)) (small (e .1))))
 
 pub corner-quad-spec : {M : Type 1} → statement M
 corner-quad-spec =
     tie.close
     (tie.spec
+    element-copy-out-filtered-part
     filtered-part-requires
+    element-copy-out-filtered-part-2
     filtered-part-requires-2
+    element-copy-out-filtered-part-3
     filtered-part-requires-3
+    element-copy-out-filtered-part-4
     filtered-part-requires-4
     returns)

@@ -1,6 +1,8 @@
 -- `transform::quads::folded`: each step fits, and the results are the quad, by computed tests.
+use mathlib.Core.Path.{sym, _∙_}
 use mathlib.Core.List.{List, [], _∷_}
 use Prim.Native.Nat.{ℕ}
+use native.Mathlib.Omega.{arith}
 use lib.IntN.{ℤ}
 use mir.Syntax.{w64}
 use Rattle.algebra.specs.Ring.{nth, var, _⊞_, _⊟_}
@@ -8,6 +10,7 @@ use Rattle.algebra.specs.Code.{Code, par, add, sub, Bounded, fits}
 use Rattle.algebra.specs.Forms.{vals-are, vals-most}
 use Rattle.transform.specs.Spectrum.{foldedQuad}
 use Rattle.transform.specs.Magnitudes.{gainMost, quadMost}
+use Rattle.transform.proofs.QuadLaws.{is-top, is-left, is-inner}
 use Rattle.transform.proofs.quads.folded.Statement.{statement}
 use Rattle.transform.proofs.quads.folded.Tie as tie
 use Rattle.transform.proofs.quads.folded.Reads as reads
@@ -38,27 +41,69 @@ module _ (s : At) where
   abbrev IM2 : Code (nth (xs s))
   IM2 = par w64 3 (s .fits .im2)
 
-  abbrev results : List (Code (nth (xs s)))
-  results = add w64 RE RE2 ∷ sub w64 IM IM2 ∷ add w64 IM IM2 ∷ sub w64 RE2 RE ∷ []
+  abbrev top : List (Code (nth (xs s)))
+  top = add w64 RE RE ∷ add w64 IM IM ∷ add w64 RE2 RE2 ∷ add w64 IM2 IM2 ∷ []
 
-add-t5 : tie.Need-add-t5
-add-t5 c = fits (xs c) bs (small c) w64 (add w64 (RE c) (RE2 c)) tt
+  abbrev left : List (Code (nth (xs s)))
+  left = RE ∷ RE2 ∷ IM ∷ IM2 ∷ []
 
-sub-t6 : tie.Need-sub-t6
-sub-t6 c = fits (xs c) bs (small c) w64 (sub w64 (IM c) (IM2 c)) tt
+  abbrev inner : List (Code (nth (xs s)))
+  inner = add w64 RE RE2 ∷ sub w64 IM IM2 ∷ add w64 IM IM2 ∷ sub w64 RE2 RE ∷ []
 
-add-t7 : tie.Need-add-t7
-add-t7 c = fits (xs c) bs (small c) w64 (add w64 (IM c) (IM2 c)) tt
+add-t8 : tie.Need-add-t8
+add-t8 c = let s = c .before in fits (xs s) bs (small s) w64 (add w64 (RE s) (RE s)) tt
 
-sub-t8 : tie.Need-sub-t8
-sub-t8 c = fits (xs c) bs (small c) w64 (sub w64 (RE2 c) (RE c)) tt
+add-t9 : tie.Need-add-t9
+add-t9 c = let s = c .before in fits (xs s) bs (small s) w64 (add w64 (IM s) (IM s)) tt
+
+add-t10 : tie.Need-add-t10
+add-t10 c = let s = c .before in fits (xs s) bs (small s) w64 (add w64 (RE2 s) (RE2 s)) tt
+
+add-t11 : tie.Need-add-t11
+add-t11 c = let s = c .before in fits (xs s) bs (small s) w64 (add w64 (IM2 s) (IM2 s)) tt
 
 returns : tie.Need-returns
 unfolding foldedQuad
-returns c = (
-  vals-are (xs c) bs (small c) (results c) ((var 0 ⊞ var 2) ∷ (var 1 ⊟ var 3) ∷ (var 1 ⊞ var 3) ∷ (var 2 ⊟ var 0) ∷ []) tt tt,
-  record { at = vals-most (xs c) bs (small c) quadMost (results c) tt },
-)
+returns c =
+    let s = c .before in
+    (vals-are (xs s) bs (small s) (top s) ((var 0 ⊞ var 0) ∷ (var 1 ⊞ var 1) ∷ (var 2 ⊞ var 2) ∷ (var 3 ⊞ var 3) ∷ []) tt tt ∙ sym (is-top _ _ _ (s .args .v) (s .args .u) (omega arith)), record { at = vals-most (xs s) bs (small s) quadMost (top s) tt })
+
+returns-2 : tie.Need-returns-2
+unfolding foldedQuad
+returns-2 c =
+    let s = c .before .before in
+    (vals-are (xs s) bs (small s) (left s) (var 0 ∷ var 2 ∷ var 1 ∷ var 3 ∷ []) tt tt ∙ sym (is-left _ _ _ (s .args .v) (s .args .u) (omega arith) (omega arith)), record { at = vals-most (xs s) bs (small s) quadMost (left s) tt })
+
+add-t12 : tie.Need-add-t12
+add-t12 c = let s = c .before .before in fits (xs s) bs (small s) w64 (add w64 (RE s) (RE2 s)) tt
+
+sub-t13 : tie.Need-sub-t13
+sub-t13 c = let s = c .before .before in fits (xs s) bs (small s) w64 (sub w64 (IM s) (IM2 s)) tt
+
+add-t14 : tie.Need-add-t14
+add-t14 c = let s = c .before .before in fits (xs s) bs (small s) w64 (add w64 (IM s) (IM2 s)) tt
+
+sub-t15 : tie.Need-sub-t15
+sub-t15 c = let s = c .before .before in fits (xs s) bs (small s) w64 (sub w64 (RE2 s) (RE s)) tt
+
+returns-3 : tie.Need-returns-3
+unfolding foldedQuad
+returns-3 c =
+    let s = c .before .before in
+    (vals-are (xs s) bs (small s) (inner s) ((var 0 ⊞ var 2) ∷ (var 1 ⊟ var 3) ∷ (var 1 ⊞ var 3) ∷ (var 2 ⊟ var 0) ∷ []) tt tt ∙ sym (is-inner _ _ _ (s .args .v) (s .args .u) (omega arith) (omega arith)), record { at = vals-most (xs s) bs (small s) quadMost (inner s) tt })
 
 pub folded-spec : {M : Type 1} → statement M
-folded-spec = tie.close (tie.spec add-t5 sub-t6 add-t7 sub-t8 returns)
+folded-spec =
+    tie.close
+    (tie.spec
+    add-t8
+    add-t9
+    add-t10
+    add-t11
+    returns
+    returns-2
+    add-t12
+    sub-t13
+    add-t14
+    sub-t15
+    returns-3)

@@ -1,38 +1,37 @@
 -- `transform::quads::quads`: the quads are stored one after the other.
-use mathlib.Core.Path.{refl, subst}
-use mathlib.Core.List.{[]}
-use Prim.Native.Nat.{ℕ, _-_, _/_, _%_, _<_, zero-le}
+use mathlib.Core.Path.{refl}
+use mathlib.Core.List.{List}
+use Prim.Native.Nat.{ℕ, _-_}
 use native.Mathlib.Omega.{arith}
 use borrow.Author.Needs.{needs}
-use borrow.Author.Count.{below-more}
-use lib.IntN.{pos}
-use Rattle.sequences.specs.Tab.{tab-each, Filled, fill-start, fill-turn, fill-done}
+use lib.IntN.{ℤ, pos}
 use Rattle.sequences.specs.Grid.{cell}
-use Rattle.transform.specs.Lines.{LineMost}
-use Rattle.transform.specs.Magnitudes.{quadMost}
-use Rattle.transform.specs.Spectrum.{quadOf, spread, gainRe, gainIm}
+use Rattle.transform.specs.Spectrum.{Quads, transposed, quadOf, spread, gainRe, gainIm}
+use Rattle.transform.proofs.QuadStores.{quads-start, quads-turn, quads-done, quads-most}
 use Rattle.transform.proofs.quads.quads.Statement.{statement}
 use Rattle.transform.proofs.quads.quads.Tie as tie
 
+abbrev foldedGain : (noise : ℕ) → List (List ℤ) → ℕ → ℕ → ℤ
+foldedGain noise t = spread (gainRe noise (transposed (cell (pos 0) t))) (gainIm noise (transposed (cell (pos 0) t)))
+
 abbrev Inv-loop : tie.InvT-loop
-Inv-loop t noise r₀ n₀ r n = (Filled (λ n. quadOf (spread (gainRe noise (cell (pos 0) t)) (gainIm noise (cell (pos 0) t))) (n / 8) (n % 8)) 64 n r₀ r) × ((k : ℕ) → k < n → LineMost quadMost (quadOf (spread (gainRe noise (cell (pos 0) t)) (gainIm noise (cell (pos 0) t))) (k / 8) (k % 8)))
+Inv-loop t noise r₀ n₀ r n = Quads (quadOf (foldedGain noise t)) n r
 
 abbrev μ-loop : tie.MeasureT-loop
 μ-loop t noise r₀ n₀ r n = 64 - n
 
 loop-holds : tie.Need-loop-holds Inv-loop μ-loop
-loop-holds c = (fill-start refl, λ k h. absurd (omega arith))
+loop-holds c = quads-start (c .pre .2)
 
 quad-requires : tie.Need-quad-requires Inv-loop μ-loop
 quad-requires c κs =
     let s = c .before .before in
     (s .pre .0, omega arith, omega arith, s .pre .1)
 
-mul-r : tie.Need-mul-r Inv-loop μ-loop
-mul-r c = search needs
-
-array-set-from-r : tie.Need-array-set-from-r Inv-loop μ-loop
-array-set-from-r c = search needs
+set-quad-requires : tie.Need-set-quad-requires Inv-loop μ-loop
+set-quad-requires c κs =
+    let q = c .before .before in
+    (omega arith, omega arith, q .quad .ensures .1, q .before .before .loop .inv .square)
 
 add-n : tie.Need-add-n Inv-loop μ-loop
 add-n c = search needs
@@ -42,15 +41,13 @@ loop-less c = search needs
 
 loop-again : tie.Need-loop-again Inv-loop μ-loop
 loop-again c =
-    let l = c .before .before in
-    let e = c .quad .ensures .0 in
-    (fill-turn (l .loop .inv .0) (omega arith) e, below-more _ (l .loop .n) (l .loop .inv .1) (subst (LineMost quadMost) e (c .quad .ensures .1)))
+    let q = c .before .before .before in
+    quads-turn _ _ (q .before .before .loop .inv) (omega arith) (omega arith) (omega arith) (q .quad .ensures .0) (q .quad .ensures .1) (c .set-quad .ensures)
 
 returns : tie.Need-returns Inv-loop μ-loop
 returns c =
-    let l = c .before in
-    let e = fill-done (l .loop .inv .0) (omega arith) in
-    (e, rw e (record { line = tab-each (LineMost quadMost) [] _ (record { at = λ i. zero-le }) 64 (λ k h. l .loop .inv .1 k (omega arith)) }))
+    let w = c .before .loop .inv in
+    (quads-done w (omega arith) _ (λ v u h l. refl), quads-most w (omega arith))
 
 pub quads-spec : {M : Type 1} → statement M
 quads-spec =
@@ -60,8 +57,7 @@ quads-spec =
     μ-loop
     loop-holds
     quad-requires
-    mul-r
-    array-set-from-r
+    set-quad-requires
     add-n
     loop-less
     loop-again

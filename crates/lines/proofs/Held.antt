@@ -1,0 +1,86 @@
+-- Numbers as the code holds them.
+use mathlib.Core.Path.{_≡_, refl, sym, ap, ap₂, _∙_, subst}
+use mathlib.Core.List.{List, [], _∷_}
+use Prim.Native.Nat.{ℕ, zero, suc, _^_, _≤_, zero-le}
+use lib.Dec.{T, ltb}
+use lib.IntN.{ℤ, pos, natAbs}
+use lib.ListN.{getD}
+use mir.Syntax.{Width, w32, w64}
+use mir.Val.{SFits, toZ, ofZ, hbits}
+use mir.Facts.{toZ-ofZ}
+use Rattle.algebra.specs.Bound.{AtMost, most-fits, widen-fits}
+use Rattle.algebra.specs.Code.{Bounded}
+use Rattle.sequences.specs.Tab.{tab}
+use Rattle.lines.specs.Lines.{LineMost}
+
+-- a number of at most b
+pub number-is : (w : Width) {b : ℕ} {z : ℤ} → AtMost b z → T (ltb b (2 ^ hbits w)) → toZ w (ofZ w z) ≡ z
+number-is w {b} {z} m t = toZ-ofZ (most-fits w z b m t)
+
+pub number-most : (w : Width) {b : ℕ} {z : ℤ} → AtMost b z → T (ltb b (2 ^ hbits w)) → AtMost b (toZ w (ofZ w z))
+number-most w {b} m t = subst (AtMost b) (sym (number-is w m t)) m
+
+-- a number of 32 bits in 64
+pub widened-is : {z : ℤ} → SFits w32 z → toZ w64 (ofZ w64 (toZ w32 (ofZ w32 z))) ≡ z
+widened-is {z} h = ap (λ z. toZ w64 (ofZ w64 z)) (toZ-ofZ h) ∙ toZ-ofZ (widen-fits z h)
+
+-- a number of at most b from width w in width w'
+module _ (w w' : Width) {b : ℕ} {z : ℤ} (m : AtMost b z) (t : T (ltb b (2 ^ hbits w))) (t' : T (ltb b (2 ^ hbits w'))) where
+  pub cast-fits : SFits w' (toZ w (ofZ w z))
+  cast-fits = most-fits w' (toZ w (ofZ w z)) b (number-most w m t) t'
+
+  pub cast-is : toZ w' (ofZ w' (toZ w (ofZ w z))) ≡ z
+  cast-is = number-is w' (number-most w m t) t' ∙ number-is w m t
+
+  pub cast-most : AtMost b (toZ w' (ofZ w' (toZ w (ofZ w z))))
+  cast-most = number-most w' (number-most w m t) t'
+
+-- number j of a line
+pub line-at : {b : ℕ} {x : List ℤ} → LineMost b x → (j : ℕ) → AtMost b (getD x j (pos 0))
+line-at m j = record { most = m .at j }
+
+module _ (w : Width) {b : ℕ} {x : List ℤ} (m : LineMost b x) (j : ℕ) (t : T (ltb b (2 ^ hbits w))) where
+  pub held-is : toZ w (ofZ w (getD x j (pos 0))) ≡ getD x j (pos 0)
+  held-is = number-is w (line-at m j) t
+
+  pub held-most : AtMost b (toZ w (ofZ w (getD x j (pos 0))))
+  held-most = number-most w (line-at m j) t
+
+-- some numbers of a line, and the same as the code holds them
+abbrev pub picked : List ℤ → List ℕ → List ℤ
+picked z [] = []
+picked z (k ∷ ks) = getD z k (pos 0) ∷ picked z ks
+
+abbrev pub held : Width → List ℤ → List ℕ → List ℤ
+held w z [] = []
+held w z (k ∷ ks) = toZ w (ofZ w (getD z k (pos 0))) ∷ held w z ks
+
+module _ (w : Width) {b : ℕ} {z : List ℤ} (m : LineMost b z) (t : T (ltb b (2 ^ hbits w))) where
+  pub all-held : (ks : List ℕ) → held w z ks ≡ picked z ks
+  all-held [] = refl
+  all-held (k ∷ ks) = ap₂ _∷_ (held-is w m k t) (all-held ks)
+
+  picked-most : (ks : List ℕ) (i : ℕ) → natAbs (getD (picked z ks) i (pos 0)) ≤ b
+  picked-most [] i = zero-le
+  picked-most (k ∷ ks) zero = m .at k
+  picked-most (k ∷ ks) (suc i) = picked-most ks i
+
+  pub all-most : (ks : List ℕ) → LineMost b (held w z ks)
+  all-most ks = rw (all-held ks) (record { at = picked-most ks })
+
+-- eight numbers: those of a line, and their bounds as variables of straight-line code
+abbrev pub eight : List ℕ
+eight = 0 ∷ 1 ∷ 2 ∷ 3 ∷ 4 ∷ 5 ∷ 6 ∷ 7 ∷ []
+
+abbrev pub eightMost : ℕ → List ℕ
+eightMost b = b ∷ b ∷ b ∷ b ∷ b ∷ b ∷ b ∷ b ∷ []
+
+pub eight-small : {b : ℕ} {x0 x1 x2 x3 x4 x5 x6 x7 : ℤ} → LineMost b (x0 ∷ x1 ∷ x2 ∷ x3 ∷ x4 ∷ x5 ∷ x6 ∷ x7 ∷ []) → Bounded (x0 ∷ x1 ∷ x2 ∷ x3 ∷ x4 ∷ x5 ∷ x6 ∷ x7 ∷ []) (eightMost b)
+eight-small m = (m .at 0, (m .at 1, (m .at 2, (m .at 3, (m .at 4, (m .at 5, (m .at 6, (m .at 7, tt))))))))
+
+picked-tab : (f : ℕ → ℤ) → picked (tab 8 f) eight ≡ tab 8 f
+unfolding tab
+picked-tab f = refl
+
+pub held-tab : (w : Width) {b : ℕ} {z : List ℤ} (f : ℕ → ℤ) → LineMost b z → T (ltb b (2 ^ hbits w)) → z ≡ tab 8 f → held w z eight ≡ tab 8 f
+held-tab w f m t e = all-held w m t eight ∙ ap (λ z. picked z eight) e ∙ picked-tab f

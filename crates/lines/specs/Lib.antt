@@ -1,0 +1,7 @@
+pub mod Side
+pub mod Tables
+pub mod TableLaws
+pub mod Lines
+pub mod Halfcomplex
+pub mod Fold
+pub mod Magnitudes

@@ -1,0 +1,26 @@
+-- Bounds of lines and of tiles of numbers, their lengths, and those that hold nothing but 0.
+use mathlib.Core.Path.{_≡_}
+use mathlib.Core.List.{List, []}
+use Prim.Native.Nat.{ℕ, _≤_, _<_}
+use lib.IntN.{ℤ, pos, natAbs}
+use lib.ListN.{getD}
+use Rattle.sequences.specs.Grid.{grid, cell}
+
+-- each number of the line is at most b, as an absolute value
+pub record LineMost (b : ℕ) (x : List ℤ) : Type 0 where
+  pub at : (i : ℕ) → natAbs (getD x i (pos 0)) ≤ b
+
+-- and so is each of the tile
+pub record TileMost (b : ℕ) (t : List (List ℤ)) : Type 0 where
+  pub line : (u : ℕ) → LineMost b (getD t u [])
+
+-- sixteen lines of sixteen numbers
+pub record Square (t : List (List ℤ)) : Type 0 where
+  pub is : t ≡ grid 16 16 (cell (pos 0) t)
+
+-- each number is 0
+pub record EmptyLine (x : ℕ → ℤ) : Type 0 where
+  pub none : (i : ℕ) → i < 16 → x i ≡ pos 0
+
+pub record EmptyTile (t : ℕ → ℕ → ℤ) : Type 0 where
+  pub none : (u i : ℕ) → u < 16 → i < 16 → t u i ≡ pos 0

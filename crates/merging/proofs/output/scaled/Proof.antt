@@ -1,0 +1,79 @@
+-- Each step fits: the sum is the largest number.
+use mathlib.Core.List.{List, [], _∷_}
+use mathlib.Core.Path.{_≡_, _∙_}
+use Prim.Native.Nat.{ℕ, _^_}
+use native.Mathlib.Omega.{arith}
+use lib.IntN.{ℤ, pos}
+use mir.Syntax.{w64}
+use mir.Val.{toZ}
+use mir.Facts.{toZ-pos}
+use borrow.Author.Needs.{needs}
+use Rattle.algebra.specs.Ring.{nth}
+use Rattle.algebra.specs.Code.{Code, par, loc, lit, add, sub, mul, shr, Bounded, fits, val-den}
+use Rattle.merging.proofs.output.scaled.Statement.{statement}
+use Rattle.merging.proofs.output.scaled.Tie as tie
+
+abbrev xs : tie.Start → List ℤ
+xs c = toZ w64 (c .args .t0) ∷ toZ w64 (c .args .count) ∷ c .args .sum ∷ []
+
+abbrev bs : List ℕ
+bs = 65535 ∷ 8 ∷ 2 ^ 59 ∷ []
+
+t0-is : (c : tie.Start) → toZ w64 (c .args .t0) ≡ pos (c .args .t0)
+t0-is c = toZ-pos w64 (omega (arith, c .fits .t0))
+
+count-is : (c : tie.Start) → toZ w64 (c .args .count) ≡ pos (c .args .count)
+count-is c = toZ-pos w64 (omega (arith, c .pre .0))
+
+small : (c : tie.Start) → Bounded (xs c) bs
+small c = (rw (t0-is c) (omega (arith, c .fits .t0)), (rw (count-is c) (c .pre .0), (c .pre .1 .most, tt)))
+
+module _ (c : tie.Start) where
+  abbrev First : Code (nth (xs c))
+  First = mul w64 (loc 0) (loc 1)
+
+  abbrev Half : Code (nth (xs c))
+  Half = mul w64 (loc 1) (lit (pos 2147483648))
+
+  abbrev Rest : Code (nth (xs c))
+  Rest = sub w64 Half (par w64 2 (c .fits .sum))
+
+  abbrev Result : Code (nth (xs c))
+  Result = add w64 First (shr w64 Rest (2 ^ 32))
+
+cast-result : tie.Need-cast-result
+cast-result c = search needs
+
+cast-result-2 : tie.Need-cast-result-2
+cast-result-2 c = search needs
+
+mul-result : tie.Need-mul-result
+mul-result c = fits (xs c) bs (small c) w64 (First c) tt
+
+cast-result-3 : tie.Need-cast-result-3
+cast-result-3 c = search needs
+
+mul-result-2 : tie.Need-mul-result-2
+mul-result-2 c = fits (xs c) bs (small c) w64 (Half c) tt
+
+sub-result : tie.Need-sub-result
+sub-result c = fits (xs c) bs (small c) w64 (Rest c) tt
+
+add-result : tie.Need-add-result
+add-result c = fits (xs c) bs (small c) w64 (Result c) tt
+
+returns : tie.Need-returns
+returns c = val-den (xs c) bs (small c) (Result c) tt ∙ rw (t0-is c, count-is c)
+
+pub scaled-spec : {M : Type 1} → statement M
+scaled-spec =
+    tie.close
+    (tie.spec
+    cast-result
+    cast-result-2
+    mul-result
+    cast-result-3
+    mul-result-2
+    sub-result
+    add-result
+    returns)

@@ -1,0 +1,65 @@
+-- `transform::columns::forward`: the columns' transforms are stored one after the other.
+use mathlib.Core.Path.{_∙_}
+use Prim.Native.Nat.{_-_}
+use native.Mathlib.Omega.{arith}
+use borrow.Author.Needs.{needs}
+use lib.IntN.{pos}
+use Rattle.sequences.specs.Grid.{cell}
+use Rattle.lines.specs.Halfcomplex.{halfcomplex}
+use Rattle.lines.specs.Magnitudes.{differenceMost}
+use Rattle.lines.proofs.Tiles.{line-most, cells-most}
+use Rattle.transform.proofs.Sums.{halfcomplex-line}
+use Rattle.transform.proofs.ColumnLaws.{ColumnsSet, columns-start, columns-turn, columns-done}
+use Rattle.transform.proofs.columns.forward.Statement.{statement}
+use Rattle.transform.proofs.columns.forward.Tie as tie
+
+abbrev Inv-loop : tie.InvT-loop
+Inv-loop d r₀ x₀ r x = ColumnsSet (λ b x. halfcomplex (λ y. cell (pos 0) d y x) b) x r
+
+abbrev μ-loop : tie.MeasureT-loop
+μ-loop d r₀ x₀ r x = 16 - x
+
+loop-holds : tie.Need-loop-holds Inv-loop μ-loop
+loop-holds c = columns-start (c .pre .1)
+
+column-requires : tie.Need-column-requires Inv-loop μ-loop
+column-requires c κs = search needs
+
+halfcomplex-requires : tie.Need-halfcomplex-requires Inv-loop μ-loop
+halfcomplex-requires c κs =
+    let l = c .before .before .before in
+    rw (c .before .column .ensures) (line-most differenceMost _ (λ y. cells-most (l .before .pre .0) y (l .loop .x)) 16)
+
+set-column-requires : tie.Need-set-column-requires Inv-loop μ-loop
+set-column-requires c κs = (omega arith, c .before .before .before .before .before .before .loop .inv .square)
+
+add-x : tie.Need-add-x Inv-loop μ-loop
+add-x c = search needs
+
+loop-less : tie.Need-loop-less Inv-loop μ-loop
+loop-less c = search needs
+
+loop-again : tie.Need-loop-again Inv-loop μ-loop
+loop-again c =
+    let z = c .before .before .before in
+    let x = z .before .before in
+    let l = x .before .before in
+    columns-turn (l .loop .inv) (omega arith) (z .halfcomplex .ensures ∙ halfcomplex-line _ (x .column .ensures)) (c .set-column .ensures)
+
+returns : tie.Need-returns Inv-loop μ-loop
+returns c = columns-done (c .before .loop .inv) (omega arith)
+
+pub forward-spec : {M : Type 1} → statement M
+forward-spec =
+    tie.close
+    (tie.spec
+    Inv-loop
+    μ-loop
+    loop-holds
+    column-requires
+    halfcomplex-requires
+    set-column-requires
+    add-x
+    loop-less
+    loop-again
+    returns)

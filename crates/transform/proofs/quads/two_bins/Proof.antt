@@ -1,0 +1,201 @@
+-- `transform::quads::two_bins`: the parts are places of the tile, their sums and their differences, which are bins.
+use mathlib.Core.Path.{_≡_, sym, ap₂, _∙_, subst}
+use mathlib.Core.List.{[]}
+use Prim.Native.Nat.{ℕ, _+_}
+use native.Mathlib.Omega.{arith}
+use borrow.Author.Needs.{needs}
+use denote.Ref.{now}
+use lib.IntN.{ℤ, pos, _+ℤ_, _-ℤ_}
+use lib.ListN.{getD}
+use mir.Syntax.{w64}
+use mir.Val.{toZ, ofZ}
+use mir.Facts.{toZ-ofZ}
+use Rattle.algebra.specs.Bound.{AtMost, add-fits, sub-fits}
+use Rattle.sequences.specs.Grid.{cell}
+use Rattle.lines.specs.Lines.{LineMost}
+use Rattle.transform.specs.Spectrum.{transposed, quadOf, twoBins}
+use Rattle.transform.specs.Magnitudes.{binMost, placeMost}
+use Rattle.lines.proofs.Held.{held-is}
+use Rattle.transform.proofs.QuadLaws.{four, is-top, is-left, is-inner, bins-most}
+use Rattle.transform.proofs.quads.two_bins.Statement.{statement}
+use Rattle.transform.proofs.quads.two_bins.Tie as tie
+use Rattle.transform.proofs.quads.two_bins.Reads as reads
+use Rattle.transform.proofs.quads.two_bins.Lts as lts
+
+abbrev At : Type 0
+At = lts.Start reads.Pre reads.Post
+
+-- place b of line k, as it is and as the code holds it
+module _ (s : At) where
+  abbrev at : ℕ → ℕ → ℤ
+  at = transposed (cell (pos 0) (now (s .args .t)))
+
+  abbrev held : ℕ → ℕ → ℤ
+  held k b = toZ w64 (ofZ w64 (getD (getD (now (s .args .t)) b []) k (pos 0)))
+
+  held-at : (k b : ℕ) → held k b ≡ at k b
+  unfolding cell
+  held-at k b = held-is w64 (s .pre .2 .place .line b) k tt
+
+  place : (k b : ℕ) → AtMost placeMost (held k b)
+  unfolding cell
+  place k b = record { most = rw (held-at k b) (s .pre .2 .place .line b .at k) }
+
+  -- the sum and the difference of two places
+  plus : (k b k' b' : ℕ) → toZ w64 (ofZ w64 (held k b +ℤ held k' b')) ≡ at k b +ℤ at k' b'
+  plus k b k' b' =
+      toZ-ofZ (add-fits w64 (held k b) (held k' b') placeMost placeMost (place k b) (place k' b') tt) ∙ ap₂ _+ℤ_ (held-at k b) (held-at k' b')
+
+  minus : (k b k' b' : ℕ) → toZ w64 (ofZ w64 (held k b -ℤ held k' b')) ≡ at k b -ℤ at k' b'
+  minus k b k' b' =
+      toZ-ofZ (sub-fits w64 (held k b) (held k' b') placeMost placeMost (place k b) (place k' b') tt) ∙ ap₂ _-ℤ_ (held-at k b) (held-at k' b')
+
+  most : LineMost binMost (twoBins at (s .args .v) (s .args .u))
+  most = bins-most at (s .pre .2 .re) (s .pre .2 .im) (s .args .v) (s .args .u) (s .pre .0) (s .pre .1)
+
+mul-a : tie.Need-mul-a
+mul-a c = search needs
+
+mul-a-2 : tie.Need-mul-a-2
+mul-a-2 c = search needs
+
+index-1-a : tie.Need-index-1-a
+index-1-a c = search needs
+
+index-2-a : tie.Need-index-2-a
+index-2-a c = search needs
+
+add-b : tie.Need-add-b
+add-b c = search needs
+
+mul-b : tie.Need-mul-b
+mul-b c = search needs
+
+mul-b-2 : tie.Need-mul-b-2
+mul-b-2 c = search needs
+
+index-1-b : tie.Need-index-1-b
+index-1-b c = search needs
+
+index-2-b : tie.Need-index-2-b
+index-2-b c = search needs
+
+add-c : tie.Need-add-c
+add-c c = search needs
+
+mul-c : tie.Need-mul-c
+mul-c c = search needs
+
+mul-c-2 : tie.Need-mul-c-2
+mul-c-2 c = search needs
+
+index-1-c : tie.Need-index-1-c
+index-1-c c = search needs
+
+index-2-c : tie.Need-index-2-c
+index-2-c c = search needs
+
+add-d : tie.Need-add-d
+add-d c = search needs
+
+add-d-2 : tie.Need-add-d-2
+add-d-2 c = search needs
+
+mul-d : tie.Need-mul-d
+mul-d c = search needs
+
+mul-d-2 : tie.Need-mul-d-2
+mul-d-2 c = search needs
+
+index-1-d : tie.Need-index-1-d
+index-1-d c = search needs
+
+index-2-d : tie.Need-index-2-d
+index-2-d c = search needs
+
+returns : tie.Need-returns
+unfolding twoBins quadOf
+returns c =
+    let s = c .before .before .before .before .before in
+    let v = s .args .v in
+    let u = s .args .u in
+    let e = four (held-at s v u) (held-at s v (8 + u)) (held-at s (8 + v) u) (held-at s (8 + v) (8 + u)) ∙ sym (is-top _ _ _ v u (omega arith)) in
+    (e, subst (LineMost binMost) (sym e) (most s))
+
+returns-2 : tie.Need-returns-2
+unfolding twoBins
+returns-2 c =
+    let s = c .before .before .before .before .before .before in
+    let v = s .args .v in
+    let u = s .args .u in
+    let e = four (held-at s v u) (held-at s (8 + v) u) (held-at s v (8 + u)) (held-at s (8 + v) (8 + u)) ∙ sym (is-left _ _ _ v u (omega arith) (omega arith)) in
+    (e, subst (LineMost binMost) (sym e) (most s))
+
+sub-t14 : tie.Need-sub-t14
+sub-t14 c =
+    let s = c .before .before .before .before .before .before in
+    let v = s .args .v in
+    let u = s .args .u in
+    sub-fits w64 _ _ placeMost placeMost (place s v u) (place s (8 + v) (8 + u)) tt
+
+add-t30 : tie.Need-add-t30
+add-t30 c =
+    let s = c .before .before .before .before .before .before in
+    let v = s .args .v in
+    let u = s .args .u in
+    add-fits w64 _ _ placeMost placeMost (place s v (8 + u)) (place s (8 + v) u) tt
+
+add-t31 : tie.Need-add-t31
+add-t31 c =
+    let s = c .before .before .before .before .before .before in
+    let v = s .args .v in
+    let u = s .args .u in
+    add-fits w64 _ _ placeMost placeMost (place s v u) (place s (8 + v) (8 + u)) tt
+
+sub-t32 : tie.Need-sub-t32
+sub-t32 c =
+    let s = c .before .before .before .before .before .before in
+    let v = s .args .v in
+    let u = s .args .u in
+    sub-fits w64 _ _ placeMost placeMost (place s (8 + v) u) (place s v (8 + u)) tt
+
+returns-3 : tie.Need-returns-3
+unfolding twoBins
+returns-3 c =
+    let s = c .before .before .before .before .before .before in
+    let v = s .args .v in
+    let u = s .args .u in
+    let e = four (minus s v u (8 + v) (8 + u)) (plus s v (8 + u) (8 + v) u) (plus s v u (8 + v) (8 + u)) (minus s (8 + v) u v (8 + u)) ∙ sym (is-inner _ _ _ v u (omega arith) (omega arith)) in
+    (e, subst (LineMost binMost) (sym e) (most s))
+
+pub two-bins-spec : {M : Type 1} → statement M
+two-bins-spec =
+    tie.close
+    (tie.spec
+    mul-a
+    mul-a-2
+    index-1-a
+    index-2-a
+    add-b
+    mul-b
+    mul-b-2
+    index-1-b
+    index-2-b
+    add-c
+    mul-c
+    mul-c-2
+    index-1-c
+    index-2-c
+    add-d
+    add-d-2
+    mul-d
+    mul-d-2
+    index-1-d
+    index-2-d
+    returns
+    returns-2
+    sub-t14
+    add-t30
+    add-t31
+    sub-t32
+    returns-3)
