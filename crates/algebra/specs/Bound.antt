@@ -1,19 +1,14 @@
 -- Bounds on integers as records, so that their arguments are found, and what search needs to show that a signed operation fits.
-use mathlib.Core.Path.{_≡_, subst}
-use Prim.Native.Nat.{ℕ, zero, suc, _+_, _*_, _/_, _≤_, _<_, _^_}
-use native.Mathlib.Omega.{arith}
-use lib.IntN.{ℤ, pos, negsuc, natAbs, negℤ, _+ℤ_, _-ℤ_, _*ℤ_}
+use Rattle.algebra.specs.Prelude.{_≡_, subst, true, false, ℕ, zero, suc, _+_, _*_, _/_, _^_, _≤_, _<_, arith, ℤ, pos, negsuc, natAbs, negℤ, _+ℤ_, _-ℤ_, _*ℤ_, toZ-ofZ}
 use lib.Signed.{mag, quotZ, shrZ, mag-shr, nonNeg, ltZ}
 use lib.IntN.{+ℤ-idl}
 use Prim.Native.Nat.{zero-le}
 use native.Mathlib.Nat.{div-le-self}
-use mathlib.Core.Bool.{true, false}
 use borrow.Author.Tests.{ltb-true}
 use mir.Facts.{sfits-widen, fits-natAbs}
 use lib.Dec.{T, ltb, ltb→lt}
 use mir.Syntax.{Width, w32, w64}
 use mir.Val.{SFits, Fits, hbits, bits}
-use mir.Facts.{toZ-ofZ}
 use mir.ValLaws.{sfits-le}
 use Rattle.algebra.specs.Order.{abs-add, abs-neg, abs-mul-le}
 use Rattle.algebra.specs.Fit.{mag-abs}

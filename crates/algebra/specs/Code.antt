@@ -2,18 +2,12 @@
 -- The borrow checker shows a signed value as the bits read back, `toZ w (ofZ w z)`, at every step. `val c` is that term for the code `c`,
 -- `raw c` the same without the outermost `toZ w (ofZ w ·)`, which is what a need asks to fit, and `den c` what it means.
 -- From bounds of the variables' absolute values, `bnd c` is a bound of `den c`, and the test `ok c` says that each step fits its width.
-use mathlib.Core.Path.{_≡_, refl, sym, _∙_, ap, ap₂, subst}
-use mathlib.Core.Bool.{Bool, true}
-use mathlib.Core.List.{List, [], _∷_}
+use Rattle.algebra.specs.Prelude.{_≡_, refl, sym, ap, ap₂, subst, _∙_, Bool, true, List, [], _∷_, arith, T, ltb, ℤ, pos, negsuc, natAbs, _+ℤ_, _-ℤ_, _*ℤ_, toZ-ofZ}
 use Prim.Native.Nat.{ℕ, zero, suc, _+_, _*_, _/_, _^_, _≤_, zero-le}
 use native.Mathlib.Nat.{le-refl, le-trans, add-le-add, le-div-iff-mul-le, div-mul-le-self, div-zero, zero-lt-suc}
-use native.Mathlib.Omega.{arith}
-use lib.Dec.{T, ltb}
-use lib.IntN.{ℤ, pos, negsuc, natAbs, _+ℤ_, _-ℤ_, _*ℤ_}
 use lib.Signed.{shrZ}
 use mir.Syntax.{Width}
 use mir.Val.{SFits, toZ, ofZ, hbits}
-use mir.Facts.{toZ-ofZ}
 use Rattle.algebra.specs.Ring.{nth}
 use Rattle.algebra.specs.Test.{both, both-l, both-r}
 use Rattle.algebra.specs.Order.{abs-add, abs-sub, abs-mul-le}

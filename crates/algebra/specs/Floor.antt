@@ -1,9 +1,6 @@
 -- Division that rounds down, `shrZ z m` (the logic's `>>` at m ≡ 2 ^ s), and division toward zero, `quotZ`.
-use mathlib.Core.Path.{_≡_}
-use mathlib.Core.List.{[], _∷_}
-use Prim.Native.Nat.{ℕ, suc, _*_, _/_, _<_}
+use Rattle.algebra.specs.Prelude.{_≡_, [], _∷_, ℕ, suc, _*_, _/_, _<_, ℤ, pos, negsuc, negℤ, _+ℤ_, _*ℤ_}
 use native.Mathlib.Nat.{div-add-mod', mod-lt}
-use lib.IntN.{ℤ, pos, negsuc, negℤ, _+ℤ_, _*ℤ_}
 use lib.Signed.{_≤ℤ_, _<ℤ_, shrZ, clashℤ}
 use mathlib.Core.Logic.{⊎-elim}
 use Rattle.algebra.specs.Ring.{var, _⊞_, _⊠_}

@@ -1,12 +1,8 @@
 -- Several results of straight-line code at once: that they equal ring expressions, and a bound of them all, each by one computed test.
-use mathlib.Core.Path.{_≡_, refl, _∙_, ap₂}
-use mathlib.Core.Bool.{Bool, true, false}
-use mathlib.Core.List.{List, [], _∷_}
+use Rattle.algebra.specs.Prelude.{_≡_, refl, ap₂, _∙_, Bool, true, false, List, [], _∷_, getD, ℤ, pos, natAbs, _+ℤ_, _-ℤ_, _*ℤ_}
 use Prim.Native.Nat.{ℕ, zero, suc, _≤_, zero-le}
 use native.Mathlib.Nat.{le-trans}
 use lib.Dec.{T, leb, leb→le}
-use lib.IntN.{ℤ, pos, natAbs, _+ℤ_, _-ℤ_, _*ℤ_}
-use lib.ListN.{getD}
 use Rattle.algebra.specs.Test.{both, both-l, both-r}
 use Rattle.algebra.specs.Ring.{Expr, var, con, _⊞_, _⊟_, _⊠_, nth, eval, norm, zeroP, ring}
 use Rattle.algebra.specs.Code.{Code, par, loc, lit, add, sub, mul, shr, to, val, den, bnd, ok, nthN, Bounded, val-den, bnd-sound}

@@ -1,9 +1,6 @@
 -- Fractions as document 01 has them: a pair of whole numbers, the lower one above 0; added and compared by cross-multiplying.
-use Prim.Native.Nat.{ℕ, zero, suc, _*_, _≤_, _<_}
+use Rattle.algebra.specs.Prelude.{ℕ, zero, suc, _*_, _≤_, _<_, arith, lit<, ℤ, pos, negsuc, natAbs, negℤ, _+ℤ_, _-ℤ_, _*ℤ_}
 use native.Mathlib.Nat.{mul-pos}
-use native.Mathlib.Omega.{arith}
-use lib.Dec.{lit<}
-use lib.IntN.{ℤ, pos, negsuc, negℤ, natAbs, _+ℤ_, _-ℤ_, _*ℤ_}
 use Rattle.algebra.specs.Clamp.{clampZ}
 
 infixl 6 _+F_ _-F_

@@ -1,9 +1,7 @@
 -- Laws of `Within`. Most have a whole number on one side and a multiple k·x of a fraction on the other: so the recipe meets the exact merge.
 use mathlib.Core.Path.{_≡_, sym, _∙_, subst, subst₂}
-use mathlib.Core.List.{[], _∷_}
-use Prim.Native.Nat.{ℕ, zero, suc, _+_, _*_, _≤_, _<_}
+use Rattle.algebra.specs.Prelude.{[], _∷_, ℕ, zero, suc, _+_, _*_, _≤_, _<_, arith}
 use native.Mathlib.Nat.{mul-le-mul-left, le-refl, le-trans, add-comm}
-use native.Mathlib.Omega.{arith}
 use lib.IntN.{ℤ, pos, negsuc, natAbs, _+ℤ_, _-ℤ_, _*ℤ_, zero-*ℤ}
 use lib.Signed.{_≤ℤ_, _<ℤ_}
 use Rattle.algebra.specs.Vars.{vars3, vars4, vars5, vars6, vars7, vars8, vars9, vars10}

@@ -1,3 +1,4 @@
+pub mod Prelude
 pub mod Test
 pub mod Diff
 pub mod Laws

@@ -1,10 +1,6 @@
 -- Rounding to nearest, the two ways of document 01, and that either is within 1/2.
-use mathlib.Core.Path.{_≡_, refl, sym, ap, _∙_}
-use mathlib.Core.List.{[], _∷_}
-use Prim.Native.Nat.{ℕ, zero, suc, _+_, _*_, _/_, _≤_, _<_}
+use Rattle.algebra.specs.Prelude.{_≡_, refl, sym, ap, _∙_, [], _∷_, ℕ, zero, suc, _+_, _*_, _/_, _≤_, _<_, arith, lit<}
 use native.Mathlib.Nat.{mul-pos, div-add-mod', div-eq-of-lt, mod-lt}
-use native.Mathlib.Omega.{arith}
-use lib.Dec.{lit<}
 use lib.IntN.{ℤ, pos, negsuc, negℤ, _+ℤ_, _-ℤ_, _*ℤ_, negℤ-negℤ}
 use lib.Signed.{_≤ℤ_, shrZ}
 use Rattle.algebra.specs.Vars.{vars3}

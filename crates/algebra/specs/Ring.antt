@@ -1,10 +1,6 @@
 -- A normaliser for commutative-ring expressions over ℤ, with its soundness. `ring ρ l r tt` proves `⟦ l ⟧ ρ ≡ ⟦ r ⟧ ρ`.
 -- A polynomial is `cst c`, or `hor p q` for p·x₀ + q, where q is over the variables from x₁ on (x₁ is its x₀).
-use mathlib.Core.Path.{_≡_, refl, sym, _∙_, ap, ap₂}
-use mathlib.Core.Bool.{Bool, true, false}
-use mathlib.Core.List.{List, [], _∷_}
-use Prim.Native.Nat.{ℕ, zero, suc}
-use lib.Dec.{T}
+use Rattle.algebra.specs.Prelude.{_≡_, refl, sym, ap, ap₂, _∙_, Bool, true, false, List, [], _∷_, ℕ, zero, suc, T}
 use lib.IntN.{ℤ, pos, negsuc, negℤ, _+ℤ_, _-ℤ_, _*ℤ_, +ℤ-assoc, +ℤ-comm, *ℤ-comm, +ℤ-idl, +ℤ-idr, zero-*ℤ, *ℤ-one, one}
 use Rattle.algebra.specs.Test.{both, both-l, both-r}
 use Rattle.algebra.specs.Laws.{*ℤ-assoc, *ℤ-distl, *ℤ-distr, neg-*ℤ, +ℤ-swap, +ℤ-left, *ℤ-swapr, eq-of-sub-zero}

@@ -1,10 +1,6 @@
 -- Tests that antt computes: a conjunction, and one over all indices below a number. A table's rule is one such test.
-use mathlib.Core.Path.{_≡_, sym, subst}
-use mathlib.Core.Bool.{Bool, true, false}
-use Prim.Native.Nat.{ℕ, zero, suc, _<_}
-use native.Mathlib.Omega.{arith}
+use Rattle.algebra.specs.Prelude.{_≡_, sym, subst, Bool, true, false, ℕ, zero, suc, _<_, arith, T}
 use native.Mathlib.Decide.{ℕ-discrete}
-use lib.Dec.{T}
 
 abbrev pub both : Bool → Bool → Bool
 both true b = b

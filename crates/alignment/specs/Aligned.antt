@@ -1,8 +1,5 @@
 -- The vectors of a burst, and the sums of their residuals.
-use mathlib.Core.Path.{_≡_}
-use mathlib.Core.List.{List, _++_}
-use Prim.Native.Nat.{ℕ, _-_, _*_, _/_, _%_}
-use lib.IntN.{ℤ}
+use Rattle.algebra.specs.Prelude.{_≡_, List, _++_, ℕ, _-_, _*_, _/_, _%_, ℤ}
 use lib.ListN.{length, replicate}
 use Rattle.sequences.specs.Tab.{tab}
 use Rattle.sequences.specs.Write.{written}

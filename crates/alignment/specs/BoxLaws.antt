@@ -1,11 +1,6 @@
 -- Absolute differences from one-sided ones and the sums of the tile and the window; the window's sums from one place to the next.
-use mathlib.Core.Path.{_≡_, sym, ap, _∙_}
-use mathlib.Core.Bool.{false}
-use mathlib.Core.List.{List}
-use Prim.Native.Nat.{ℕ, suc, _+_, _*_, _≤_, _<_}
+use Rattle.algebra.specs.Prelude.{_≡_, sym, ap, _∙_, false, List, ℕ, suc, _+_, _*_, _≤_, _<_, arith, getD}
 use native.Mathlib.Nat.{zero-add}
-use native.Mathlib.Omega.{arith}
-use lib.ListN.{getD}
 use Rattle.algebra.specs.Sums.{sumN, sumN-cong, sumN-bound}
 use Rattle.sequences.specs.Tab.{tab-each, getD-tab}
 use Rattle.sequences.specs.Write.{written, Writing, write-part}

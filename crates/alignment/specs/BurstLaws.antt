@@ -1,10 +1,7 @@
 -- One frame at a time: the reference's pyramid stays, and the frame's own is laid behind it.
 use mathlib.Core.Path.{_≡_, refl, sym, ap, ap₂, subst, subst₂, _∙_}
-use mathlib.Core.List.{List, _++_}
-use Prim.Native.Nat.{ℕ, zero, suc, _+_, _-_, _*_, _/_, _≤_, _<_}
+use Rattle.algebra.specs.Prelude.{List, _++_, ℕ, zero, suc, _+_, _-_, _*_, _/_, _≤_, _<_, arith, ℤ, pos}
 use native.Mathlib.Nat.{zero-add, zero-mul, suc-mul, mul-comm, mul-assoc, mul-le-mul}
-use native.Mathlib.Omega.{arith}
-use lib.IntN.{ℤ, pos}
 use lib.ListN.{length, set, drop, replicate}
 use Rattle.geometry.specs.declared.Shape.{Shape}
 use Rattle.geometry.specs.Shape.{Allowed, vectorLength}

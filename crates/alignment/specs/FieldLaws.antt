@@ -1,11 +1,5 @@
 -- Laws of fields: what a field's words are, on what a finer field depends, and the bounds 4, 20, 84 and 172.
-use mathlib.Core.Path.{_≡_, refl, sym, _∙_}
-use mathlib.Core.List.{List}
-use Prim.Native.Nat.{ℕ, zero, suc, _+_, _*_, _/_, _%_, _≤_, _<_}
-use native.Mathlib.Omega.{arith}
-use lib.IntN.{ℤ, pos, natAbs}
-use lib.ListN.{length, set}
-use lib.Dec.{lit≤}
+use Rattle.algebra.specs.Prelude.{_≡_, refl, sym, _∙_, List, ℕ, zero, suc, _+_, _*_, _/_, _%_, _≤_, _<_, arith, lit≤, length, set, ℤ, pos, natAbs}
 use Rattle.algebra.specs.Order.{abs-mul-le}
 use Rattle.geometry.specs.Tiles.{Level, level0, level1, level2, level3, Step, step1to0, step2to1, step3to2, own, neighbour, capped}
 use Rattle.sequences.specs.Write.{written, Writing, write-start, write-turn, write-done}

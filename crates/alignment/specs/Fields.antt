@@ -1,6 +1,5 @@
 -- The vectors of a level's tiles, from the coarsest level to the finest.
-use Prim.Native.Nat.{ℕ, zero, suc, _*_, _/_, _%_}
-use lib.IntN.{ℤ}
+use Rattle.algebra.specs.Prelude.{ℕ, zero, suc, _*_, _/_, _%_, ℤ}
 use Rattle.algebra.specs.Sums.{sumN}
 use Rattle.geometry.specs.Tiles.{Level, level0, level1, level2, level3, Step, step1to0, step2to1, step3to2, tileCount, origin, own, neighbour, capped}
 use Rattle.alignment.specs.declared.Tile.{Tile}

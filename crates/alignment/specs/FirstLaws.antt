@@ -1,10 +1,6 @@
 -- The first least place comes before no smaller and no equal one; and a loop that finds it from a bound above every value.
-use mathlib.Core.Path.{_≡_, refl}
+use Rattle.algebra.specs.Prelude.{_≡_, refl, Bool, true, false, ℕ, zero, suc, _+_, _≤_, _<_, arith, ltb}
 use mathlib.Core.Logic.{_⊎_, inl, inr, ⊎-elim}
-use mathlib.Core.Bool.{Bool, true, false}
-use Prim.Native.Nat.{ℕ, zero, suc, _+_, _≤_, _<_}
-use native.Mathlib.Omega.{arith}
-use lib.Dec.{ltb}
 use borrow.Author.Tests.{ltb-true}
 use Rattle.sequences.specs.Least.{pick, firstMin, least, Least, least-start, least-take, least-keep, least-done}
 

@@ -1,10 +1,7 @@
 -- Where the pyramids of the reference and of another frame stand, the levels' pairs of images are those of the two frames.
 use mathlib.Core.Path.{_≡_, ap₂, fun-ext}
-use mathlib.Core.List.{List}
-use Prim.Native.Nat.{ℕ, zero, suc, _+_, _≤_, _<_}
+use Rattle.algebra.specs.Prelude.{List, ℕ, zero, suc, _+_, _≤_, _<_, arith, ℤ}
 use native.Mathlib.Nat.{zero-add}
-use native.Mathlib.Omega.{arith}
-use lib.IntN.{ℤ}
 use Rattle.geometry.specs.declared.Shape.{Shape}
 use Rattle.geometry.specs.Shape.{AllowedSize, Allowed}
 use Rattle.geometry.specs.Read.{Image}

@@ -1,11 +1,6 @@
 -- Coarse vectors: they stay where nothing is written, and a field that was written stands there.
-use mathlib.Core.Path.{_≡_, sym, ap, ap₂, _∙_, subst}
-use mathlib.Core.List.{List}
-use Prim.Native.Nat.{ℕ, _+_, _*_, _≤_, _<_}
+use Rattle.algebra.specs.Prelude.{_≡_, sym, ap, ap₂, subst, _∙_, List, ℕ, _+_, _*_, _≤_, _<_, arith, length, getD, ℤ, pos, natAbs}
 use native.Mathlib.Nat.{add-assoc}
-use native.Mathlib.Omega.{arith}
-use lib.IntN.{ℤ, pos, natAbs}
-use lib.ListN.{length, getD}
 use Rattle.geometry.specs.ReadLaws.{cell-below}
 use Rattle.pyramid.specs.WordsLaws.{Kept, place-row, place-column}
 use Rattle.sequences.specs.Write.{written, written-in, written-length}

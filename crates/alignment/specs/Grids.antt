@@ -1,9 +1,5 @@
 -- A coarse level's vectors where they stand in the work area.
-use mathlib.Core.Path.{_≡_}
-use mathlib.Core.List.{List}
-use Prim.Native.Nat.{ℕ, _+_, _*_, _≤_, _<_}
-use lib.IntN.{ℤ, pos, natAbs}
-use lib.ListN.{length, getD}
+use Rattle.algebra.specs.Prelude.{_≡_, List, ℕ, _+_, _*_, _≤_, _<_, length, getD, ℤ, pos, natAbs}
 use Rattle.geometry.specs.Tiles.{level0, step1to0}
 use Rattle.sequences.specs.Write.{written}
 use Rattle.alignment.specs.declared.levels.Grid.{Grid}

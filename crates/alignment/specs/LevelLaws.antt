@@ -1,12 +1,7 @@
 -- From level to level: the pyramids stay, and a level's vectors stand where the next level reads them.
 use mathlib.Core.Path.{_≡_, refl, sym, ap, ap₂, _∙_, subst, fun-ext}
-use mathlib.Core.List.{List}
-use Prim.Native.Nat.{ℕ, zero, suc, _+_, _*_, _≤_, _<_}
+use Rattle.algebra.specs.Prelude.{List, ℕ, zero, suc, _+_, _*_, _≤_, _<_, arith, lit≤, length, getD, ℤ, pos, natAbs}
 use native.Mathlib.Nat.{le-trans}
-use native.Mathlib.Omega.{arith}
-use lib.Dec.{lit≤}
-use lib.IntN.{ℤ, pos, natAbs}
-use lib.ListN.{length, getD}
 use Rattle.geometry.specs.declared.Shape.{Shape}
 use Rattle.geometry.specs.Shape.{Allowed}
 use Rattle.geometry.specs.Tiles.{Level, Step, level0, level1, level2, level3, step2to1, step3to2, levelSize, levelTiles, tileCount}

@@ -1,10 +1,5 @@
 -- Squares of samples in local arrays: a square's rows stand one after the other.
-use mathlib.Core.Bool.{Bool}
-use mathlib.Core.List.{List}
-use mathlib.Core.Path.{_≡_}
-use Prim.Native.Nat.{ℕ, _+_, _-_, _*_, _/_, _%_, _≤_, _<_}
-use lib.IntN.{ℤ, pos, _+ℤ_}
-use lib.ListN.{length, getD}
+use Rattle.algebra.specs.Prelude.{_≡_, Bool, List, ℕ, _+_, _-_, _*_, _/_, _%_, _≤_, _<_, length, getD, ℤ, pos, _+ℤ_}
 use Rattle.algebra.specs.Sums.{sumN}
 use Rattle.sequences.specs.Least.{firstMin}
 use Rattle.sequences.specs.Tab.{tab}

@@ -1,13 +1,8 @@
 -- What is found in local arrays is what the definitions say of the images that were copied there.
-use mathlib.Core.Path.{_≡_, refl, ap, ap₂, _∙_, subst}
-use mathlib.Core.Bool.{Bool}
-use mathlib.Core.List.{List}
-use Prim.Native.Nat.{ℕ, _+_, _*_, _≤_, _<_}
+use Rattle.algebra.specs.Prelude.{_≡_, refl, ap, ap₂, subst, _∙_, Bool, List, ℕ, _+_, _*_, _≤_, _<_, arith, length, getD}
 use native.Mathlib.Nat.{mul-le-mul-right}
-use native.Mathlib.Omega.{arith}
 use borrow.Author.Count.{below-more}
 use lib.IntN.{ℤ, pos, negsuc, _+ℤ_, _-ℤ_, +ℤ-idr}
-use lib.ListN.{length, getD}
 use Rattle.algebra.specs.Sums.{sumN-cong}
 use Rattle.algebra.specs.Order.{zarith, add-pn, sub-pn}
 use Rattle.sequences.specs.Write.{written, written-in, written-before}

@@ -1,10 +1,6 @@
 -- The table of offsets is the square −4..4, each offset once, in tie order: one computed test of its order and one of the square.
-use mathlib.Core.Path.{_≡_, refl}
-use mathlib.Core.Bool.{Bool, true, false, cond}
-use Prim.Native.Nat.{ℕ, zero, suc, _≤_, _<_}
+use Rattle.algebra.specs.Prelude.{_≡_, refl, Bool, true, false, cond, ℕ, zero, suc, _≤_, _<_, getD, ℤ, pos, natAbs, _+ℤ_, _-ℤ_}
 use lib.Dec.{T, ltb, eqb, leb, ltb→lt, leb→le, eqb→eq}
-use lib.IntN.{ℤ, pos, natAbs, _+ℤ_, _-ℤ_}
-use lib.ListN.{getD}
 use Rattle.algebra.specs.Test.{both, both-l, both-r, all, all-sound}
 use Rattle.algebra.specs.Order.{zarith, abs-pn, min-pn, add-pn, sub-pn}
 use Rattle.alignment.specs.declared.Vector.{Vector}

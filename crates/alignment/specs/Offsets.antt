@@ -1,10 +1,5 @@
 -- The offsets that are tried, in tie order.
-use mathlib.Core.Bool.{Bool, _||_, _&&_}
-use mathlib.Core.List.{List, [], _∷_}
-use Prim.Native.Nat.{ℕ, _+_}
-use lib.Dec.{ltb, leb}
-use lib.IntN.{pos, natAbs, _-ℤ_}
-use lib.ListN.{getD}
+use Rattle.algebra.specs.Prelude.{Bool, _&&_, _||_, List, [], _∷_, ℕ, _+_, leb, ltb, getD, pos, natAbs, _-ℤ_}
 use lib.Signed.{ltZ, leZ}
 use Rattle.alignment.specs.declared.Vector.{Vector}
 

@@ -1,7 +1,6 @@
 -- Places in arrays whose rows stand one after the other.
-use Prim.Native.Nat.{ℕ, suc, _+_, _*_, _/_, _%_, _≤_, _<_}
+use Rattle.algebra.specs.Prelude.{ℕ, suc, _+_, _*_, _/_, _%_, _≤_, _<_, arith}
 use native.Mathlib.Nat.{mul-le-mul-right, suc-mul, div-lt-iff-lt-mul, mod-lt}
-use native.Mathlib.Omega.{arith}
 
 -- a row that is one of m ends within them
 pub row-below : {i m : ℕ} (n : ℕ) → i < m → i * n + n ≤ m * n

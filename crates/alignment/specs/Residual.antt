@@ -1,7 +1,5 @@
 -- The residual of a tile: how far the other frame, moved by a vector, is from the reference on it.
-use mathlib.Core.Bool.{Bool, cond}
-use Prim.Native.Nat.{ℕ, _+_, _-_, _*_}
-use lib.IntN.{ℤ, pos, _+ℤ_}
+use Rattle.algebra.specs.Prelude.{Bool, cond, ℕ, _+_, _-_, _*_, ℤ, pos, _+ℤ_}
 use Rattle.algebra.specs.Sums.{sumN}
 use Rattle.alignment.specs.declared.Tile.{Tile}
 use Rattle.alignment.specs.declared.Vector.{Vector}

@@ -1,6 +1,5 @@
 -- The search around a guess, and the guess from three candidates.
-use mathlib.Core.Bool.{Bool, false}
-use Prim.Native.Nat.{ℕ, zero, suc}
+use Rattle.algebra.specs.Prelude.{Bool, false, ℕ, zero, suc}
 use Rattle.sequences.specs.Least.{firstMin}
 use Rattle.alignment.specs.declared.Tile.{Tile}
 use Rattle.alignment.specs.declared.Vector.{Vector}

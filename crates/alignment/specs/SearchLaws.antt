@@ -1,9 +1,5 @@
 -- The offset that is chosen is the least by residual, then by the order of ties; and the bounds of what is found.
-use mathlib.Core.Path.{_≡_, refl, sym, _∙_, subst}
-use mathlib.Core.Bool.{Bool, true, false}
-use Prim.Native.Nat.{ℕ, zero, suc, _+_, _≤_, _<_}
-use native.Mathlib.Omega.{arith}
-use lib.Dec.{ltb}
+use Rattle.algebra.specs.Prelude.{_≡_, refl, sym, subst, _∙_, Bool, true, false, ℕ, zero, suc, _+_, _≤_, _<_, arith, ltb}
 use borrow.Author.Tests.{ltb-true, lt-ltb, le-ltb}
 use Rattle.sequences.specs.Least.{firstMin, least}
 use Rattle.alignment.specs.declared.Tile.{Tile}

@@ -1,12 +1,6 @@
 -- A signed 64-bit value comes back from its bits.
-use mathlib.Core.Path.{_≡_, ap₂}
-use Prim.Native.Nat.{ℕ, _+_, _<_, _≤_, _^_}
-use lib.Dec.{T, ltb}
-use lib.IntN.{ℤ, natAbs, _+ℤ_}
+use Rattle.algebra.specs.Prelude.{_≡_, ap₂, ℕ, _+_, _^_, _≤_, _<_, T, ltb, ℤ, natAbs, _+ℤ_, w64, SFits, toZ, ofZ, toZ-ofZ}
 use lib.Signed.{mag}
-use mir.Syntax.{w64}
-use mir.Val.{SFits, toZ, ofZ}
-use mir.Facts.{toZ-ofZ}
 use Rattle.algebra.specs.Bound.{most-fits, add-fits}
 use Rattle.algebra.specs.Test.{both, both-l, both-r}
 

@@ -1,9 +1,5 @@
 -- Where the levels' images and vectors stand in the work area: the reference's pyramid, the other frame's, then the vectors of levels 3 to 1.
-use mathlib.Core.Path.{_≡_}
-use mathlib.Core.List.{List}
-use Prim.Native.Nat.{ℕ, zero, suc, _+_, _*_, _≤_, _<_}
-use lib.IntN.{ℤ, pos, natAbs}
-use lib.ListN.{getD}
+use Rattle.algebra.specs.Prelude.{_≡_, List, ℕ, zero, suc, _+_, _*_, _≤_, _<_, getD, ℤ, pos, natAbs}
 use Rattle.geometry.specs.declared.Shape.{Shape}
 use Rattle.geometry.specs.Tiles.{level0, levelSize, levelTiles}
 use Rattle.pyramid.specs.Layout.{offset, pyramidLength, tiles}

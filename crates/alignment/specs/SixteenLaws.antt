@@ -1,10 +1,5 @@
 -- At side 16: the sums over four rows at a time are the sums over a tile's rows, a copy of the tile has its sums, and where the offsets lie in the window.
-use mathlib.Core.Path.{_≡_, refl, ap, ap₂, _∙_, subst}
-use mathlib.Core.Bool.{Bool, false}
-use mathlib.Core.List.{List}
-use Prim.Native.Nat.{ℕ, zero, suc, _+_, _*_, _≤_, _<_}
-use native.Mathlib.Omega.{arith}
-use lib.ListN.{length, getD}
+use Rattle.algebra.specs.Prelude.{_≡_, refl, ap, ap₂, subst, _∙_, Bool, false, List, ℕ, zero, suc, _+_, _*_, _≤_, _<_, arith, length, getD}
 use Rattle.algebra.specs.Sums.{sumN, sumN-cong}
 use Rattle.sequences.specs.Tab.{tab, length-tab, getD-tab}
 use Rattle.alignment.specs.Offsets.{downs, rights}

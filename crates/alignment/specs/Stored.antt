@@ -1,10 +1,5 @@
 -- A level's two images where they stand in the work area, and a tile of the reference in a local array.
-use mathlib.Core.Bool.{Bool}
-use mathlib.Core.List.{List}
-use mathlib.Core.Path.{_≡_}
-use Prim.Native.Nat.{ℕ, _+_, _*_, _%_, _≤_, _<_}
-use lib.IntN.{ℤ, negsuc, _+ℤ_}
-use lib.ListN.{length}
+use Rattle.algebra.specs.Prelude.{_≡_, Bool, List, ℕ, _+_, _*_, _%_, _≤_, _<_, length, ℤ, negsuc, _+ℤ_}
 use Rattle.geometry.specs.Read.{read}
 use Rattle.pyramid.specs.Words.{imageAt, Source}
 use Rattle.alignment.specs.declared.Tile.{Tile}

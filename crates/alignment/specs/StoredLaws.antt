@@ -1,13 +1,7 @@
 -- From what is copied and searched to the answer for a tile.
 use mathlib.Core.Path.{_≡_, refl, sym, ap, ap₂, _∙_, subst, fun-ext}
-use mathlib.Core.Bool.{Bool, false}
-use mathlib.Core.List.{List}
-use Prim.Native.Nat.{ℕ, zero, suc, _+_, _*_, _/_, _%_, _≤_, _<_, _^_}
+use Rattle.algebra.specs.Prelude.{Bool, false, List, ℕ, zero, suc, _+_, _*_, _/_, _%_, _^_, _≤_, _<_, arith, lit≤, length, getD, ℤ, pos, _+ℤ_}
 use native.Mathlib.Nat.{mul-le-mul, zero-mul, div-add-mod'}
-use native.Mathlib.Omega.{arith}
-use lib.Dec.{lit≤}
-use lib.IntN.{ℤ, pos, _+ℤ_}
-use lib.ListN.{length, getD}
 use Rattle.geometry.specs.Read.{inside, read}
 use Rattle.geometry.specs.ReadLaws.{inside-below}
 use Rattle.geometry.specs.Tiles.{Level, Step}

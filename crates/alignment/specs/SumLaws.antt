@@ -1,8 +1,6 @@
 -- Finite sums over ℕ: in another order, and moved by one place.
-use mathlib.Core.Path.{_≡_, refl, ap, _∙_}
-use Prim.Native.Nat.{ℕ, zero, suc, _+_, _*_}
+use Rattle.algebra.specs.Prelude.{_≡_, refl, ap, _∙_, ℕ, zero, suc, _+_, _*_, arith}
 use native.Mathlib.Nat.{add-zero, zero-mul, suc-mul, add-suc}
-use native.Mathlib.Omega.{arith}
 use Rattle.algebra.specs.Sums.{sumN, sumN-const}
 
 pub sumN-add : (n : ℕ) (f g : ℕ → ℕ) → sumN n (λ i. f i + g i) ≡ sumN n f + sumN n g

@@ -1,6 +1,5 @@
 -- Bounds of vectors.
-use Prim.Native.Nat.{ℕ, _+_, _≤_}
-use native.Mathlib.Omega.{arith}
+use Rattle.algebra.specs.Prelude.{ℕ, _+_, _≤_, arith}
 use Rattle.algebra.specs.Order.{abs-add}
 use Rattle.alignment.specs.declared.Vector.{Vector}
 use Rattle.alignment.specs.Vectors.{_plus_, Within}

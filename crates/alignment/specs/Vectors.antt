@@ -1,6 +1,5 @@
 -- Vectors of whole samples: sums, multiples, and the bound on their parts.
-use Prim.Native.Nat.{ℕ, _≤_}
-use lib.IntN.{pos, natAbs, _+ℤ_, _*ℤ_}
+use Rattle.algebra.specs.Prelude.{ℕ, _≤_, pos, natAbs, _+ℤ_, _*ℤ_}
 use Rattle.alignment.specs.declared.Vector.{Vector}
 
 abbrev pub still : Vector

@@ -1,10 +1,6 @@
 -- Parts of rows of words, and parts written over with equal values.
-use mathlib.Core.Path.{_≡_, ap}
-use mathlib.Core.List.{List}
-use Prim.Native.Nat.{ℕ, _+_, _≤_, _<_}
+use Rattle.algebra.specs.Prelude.{_≡_, ap, List, ℕ, _+_, _≤_, _<_, arith, ℤ}
 use native.Mathlib.Nat.{add-assoc}
-use native.Mathlib.Omega.{arith}
-use lib.IntN.{ℤ}
 use lib.Seq.{paste}
 use Rattle.sequences.specs.Grid.{tab-ext}
 use Rattle.sequences.specs.Write.{written}

@@ -1,11 +1,8 @@
 -- One bin: each part of the recipe's G is within 3/2 of `parts` times the exact correction's. Rounding Q moves the bin by at most 1/√2, the Wiener map does not stretch, and rounding G adds 1/2.
 use mathlib.Core.Path.{_≡_, _∙_, ap, subst, subst₂}
-use mathlib.Core.List.{[], _∷_}
+use Rattle.algebra.specs.Prelude.{[], _∷_, arith, lit<, ℤ, pos, negsuc, natAbs, _+ℤ_, _-ℤ_, _*ℤ_}
 use Prim.Native.Nat.{ℕ, zero, suc, _*_, _≤_, _<_, zero-le}
 use native.Mathlib.Nat.{mul-pos, mul-le-mul-left}
-use native.Mathlib.Omega.{arith}
-use lib.Dec.{lit<}
-use lib.IntN.{ℤ, pos, negsuc, natAbs, _+ℤ_, _-ℤ_, _*ℤ_}
 use lib.Signed.{_≤ℤ_, _<ℤ_, ltZ-yes}
 use Rattle.algebra.specs.Vars.{vars5, vars6}
 use Rattle.algebra.specs.Ring.{Expr, _⊞_, _⊟_, _⊠_, #_, ring}

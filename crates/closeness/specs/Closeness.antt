@@ -1,10 +1,6 @@
 -- The recipe is close to the exact merge, on one tile and at one sample, for any side whose tables and scales fit together.
-use mathlib.Core.Path.{_≡_, sym, _∙_, ap, subst}
-use Prim.Native.Nat.{ℕ, suc, _+_, _*_, _%_, _≤_, _<_}
+use Rattle.algebra.specs.Prelude.{_≡_, sym, ap, subst, _∙_, ℕ, suc, _+_, _*_, _%_, _≤_, _<_, arith, lit<, ℤ, pos, natAbs, _+ℤ_, _-ℤ_, _*ℤ_}
 use native.Mathlib.Nat.{mul-pos, mul-le-mul-left, mod-lt, one-mul}
-use native.Mathlib.Omega.{arith}
-use lib.Dec.{lit<}
-use lib.IntN.{ℤ, pos, natAbs, _+ℤ_, _-ℤ_, _*ℤ_}
 use Rattle.algebra.specs.Sums.{sumZ, sumN-scale}
 use Rattle.algebra.specs.Nearest.{away-rounds, upward-rounds}
 use Rattle.algebra.specs.Fraction.{Frac, frac, whole, _-F_, _·F_, over, sumF, Within}

@@ -1,8 +1,6 @@
 -- The exact merge of document 01: the same noise number and differences, and the other steps in fractions, without rounding.
-use Prim.Native.Nat.{ℕ, zero, suc, _*_}
+use Rattle.algebra.specs.Prelude.{ℕ, zero, suc, _*_, arith, ℤ, pos}
 use native.Mathlib.Nat.{mul-pos}
-use native.Mathlib.Omega.{arith}
-use lib.IntN.{ℤ, pos}
 use Rattle.algebra.specs.Fraction.{Frac, frac, whole, _+F_, _-F_, _·F_, _×F_, _÷F_, over, sumF, held}
 use Rattle.lines.specs.Side.{Side}
 use Rattle.transform.specs.Recipe.{binRe, binIm, twiddleRe, twiddleIm}

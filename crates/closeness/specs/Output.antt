@@ -1,6 +1,5 @@
 -- The output sample of document 01, from the reference sample and the tiles over it.
-use Prim.Native.Nat.{ℕ, suc, _+_, _*_, _/_, _%_}
-use lib.IntN.{ℤ, pos, _-ℤ_, _*ℤ_}
+use Rattle.algebra.specs.Prelude.{ℕ, suc, _+_, _*_, _/_, _%_, ℤ, pos, _-ℤ_, _*ℤ_}
 use Rattle.algebra.specs.Sums.{sumZ}
 use Rattle.algebra.specs.Clamp.{clampZ}
 use Rattle.algebra.specs.Nearest.{upward}

@@ -1,9 +1,6 @@
 -- Demand 3 for side 16: the output sample lies within five eighths of the exact merge's.
-use mathlib.Core.Path.{refl}
-use Prim.Native.Nat.{ℕ, suc, _+_, _*_, _≤_, _<_}
-use native.Mathlib.Omega.{arith}
+use Rattle.algebra.specs.Prelude.{refl, ℕ, suc, _+_, _*_, _≤_, _<_, arith, ℤ, natAbs, _+ℤ_, _-ℤ_, _*ℤ_}
 use lib.Dec.{leb, leb→le, lit<}
-use lib.IntN.{ℤ, natAbs, _+ℤ_, _-ℤ_, _*ℤ_}
 use Rattle.algebra.specs.Test.{all, all-sound}
 use Rattle.algebra.specs.Fraction.{frac, whole, Within}
 use Rattle.lines.specs.Tables.{cosines, cosine16, sine16, side16}

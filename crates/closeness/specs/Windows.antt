@@ -1,7 +1,5 @@
 -- The four tiles over a sample: where w(i) + w(i + half) is the windows' scale for each i, their products w·w' add up to its square.
-use mathlib.Core.Path.{_≡_, ap₂}
-use Prim.Native.Nat.{ℕ, _+_, _*_, _<_}
-use native.Mathlib.Omega.{arith}
+use Rattle.algebra.specs.Prelude.{_≡_, ap₂, ℕ, _+_, _*_, _<_, arith}
 use Rattle.algebra.specs.Sums.{sumN}
 use Rattle.lines.specs.Side.{Side}
 use Rattle.closeness.specs.Output.{weightIn}

@@ -1,10 +1,5 @@
 -- Document 01, "Checked figures (marked M: proved as one table)": the definitions that the contracts cite, computed.
-use mathlib.Core.Path.{_≡_, refl}
-use mathlib.Core.Bool.{false, _&&_, cond}
-use mathlib.Core.List.{List, [], _∷_}
-use Prim.Native.Nat.{ℕ, _^_}
-use lib.Dec.{eqb}
-use lib.IntN.{ℤ, pos, negℤ}
+use Rattle.algebra.specs.Prelude.{_≡_, refl, false, cond, _&&_, List, [], _∷_, ℕ, _^_, eqb, ℤ, pos, negℤ}
 use lib.Ieee.{Float, fin, mul, div, ofInt}
 use Rattle.algebra.specs.Sums.{sumN, sumZ}
 use Rattle.algebra.specs.Nearest.{away}

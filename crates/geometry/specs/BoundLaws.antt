@@ -1,15 +1,8 @@
 -- How a loop over all samples, or all vectors, decides refusal 11, or 12.
-use mathlib.Core.Path.{_≡_, refl, sym, ap, _∙_}
-use mathlib.Core.Bool.{Bool, true, _||_}
-use mathlib.Core.List.{List}
-use Prim.Native.Nat.{ℕ, zero, suc, _+_, _*_, _/_, _%_, _≤_, _<_}
+use Rattle.algebra.specs.Prelude.{_≡_, refl, sym, ap, _∙_, Bool, true, _||_, List, ℕ, zero, suc, _+_, _*_, _/_, _%_, _≤_, _<_, arith, ltb, length, getD, ℤ, pos, natAbs}
 use native.Mathlib.Nat.{mul-assoc, mul-comm, mul-mod-left}
 use native.Mathlib.Decide.{decLt}
-use native.Mathlib.Omega.{arith}
 use borrow.Author.Tests.{ltb-false, lt-ltb, le-ltb}
-use lib.Dec.{ltb}
-use lib.IntN.{ℤ, pos, natAbs}
-use lib.ListN.{length, getD}
 use Rattle.algebra.specs.Sums.{sumN}
 use Rattle.geometry.specs.declared.Shape.{Shape}
 use Rattle.geometry.specs.Refusal.{refuse}

@@ -1,10 +1,5 @@
 -- Refusals 11 and 12: tests of what the lent samples and vectors hold.
-use mathlib.Core.Bool.{Bool, false, _||_}
-use mathlib.Core.List.{List}
-use Prim.Native.Nat.{ℕ, zero, suc, _+_, _/_, _≤_}
-use lib.Dec.{ltb}
-use lib.IntN.{ℤ, pos, natAbs}
-use lib.ListN.{length, getD}
+use Rattle.algebra.specs.Prelude.{Bool, false, _||_, List, ℕ, zero, suc, _+_, _/_, _≤_, ltb, length, getD, ℤ, pos, natAbs}
 use Rattle.algebra.specs.Sums.{sumN}
 use Rattle.geometry.specs.declared.Shape.{Shape}
 use Rattle.geometry.specs.Refusal.{refuse}

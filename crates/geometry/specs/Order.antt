@@ -1,6 +1,5 @@
 -- The tests 1 to 7 of each call, "in the order of the numbers", on the shape, the reference and the lengths of the lent buffers.
-use mathlib.Core.Path.{_≡_}
-use Prim.Native.Nat.{ℕ, _<_}
+use Rattle.algebra.specs.Prelude.{_≡_, ℕ, _<_}
 use Rattle.geometry.specs.declared.Shape.{Shape}
 use Rattle.geometry.specs.Refusal.{_before_}
 use Rattle.geometry.specs.Shape.{Allowed, shapeRefusal, referenceRefusal, sampleLength, vectorLength, outputLength, workLength, lengthRefusal}

@@ -1,8 +1,5 @@
 -- A call that its tests 1 to 7 let through has an allowed shape, a reference and buffers of the right lengths.
-use mathlib.Core.Path.{_≡_}
-use mathlib.Core.Bool.{not}
-use Prim.Native.Nat.{ℕ, suc, _<_}
-use lib.Dec.{leb, eqb}
+use Rattle.algebra.specs.Prelude.{_≡_, not, ℕ, suc, _<_, eqb, leb}
 use borrow.Author.Tests.{leb-false, eqb-true, not-false}
 use Rattle.geometry.specs.declared.Shape.{Shape}
 use Rattle.geometry.specs.Refusal.{_before_}

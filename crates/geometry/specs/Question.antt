@@ -1,7 +1,5 @@
 -- The length question of the capture station.
-use mathlib.Core.Bool.{cond}
-use Prim.Native.Nat.{ℕ}
-use lib.Dec.{eqb}
+use Rattle.algebra.specs.Prelude.{cond, ℕ, eqb}
 use Rattle.geometry.specs.declared.Shape.{Shape}
 use Rattle.geometry.specs.Shape.{shapeRefusal, sampleLength, vectorLength, outputLength, workLength}
 

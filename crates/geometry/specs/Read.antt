@@ -1,9 +1,6 @@
 -- Where samples stand, and reading outside.
-use mathlib.Core.Path.{_≡_}
-use mathlib.Core.List.{List}
+use Rattle.algebra.specs.Prelude.{_≡_, List, length, getD, ℤ, pos, negsuc}
 use Prim.Native.Nat.{ℕ, _+_, _-_, _*_, min}
-use lib.IntN.{ℤ, pos, negsuc}
-use lib.ListN.{length, getD}
 use Rattle.geometry.specs.declared.Shape.{Shape}
 use Rattle.geometry.specs.Shape.{Allowed, sampleLength}
 

@@ -1,9 +1,6 @@
 -- What readers may lean on: a sample's place is among the samples, and an index read outside is one inside.
-use mathlib.Core.Path.{_≡_}
-use Prim.Native.Nat.{ℕ, _+_, _*_, _<_}
+use Rattle.algebra.specs.Prelude.{_≡_, ℕ, _+_, _*_, _<_, arith, ℤ, pos, negsuc}
 use native.Mathlib.Nat.{le-trans, mul-le-mul-right, mul-assoc, mul-comm, suc-mul}
-use native.Mathlib.Omega.{arith}
-use lib.IntN.{ℤ, pos, negsuc}
 use Rattle.geometry.specs.declared.Shape.{Shape}
 use Rattle.geometry.specs.Shape.{sampleLength}
 use Rattle.geometry.specs.Read.{sampleIndex, inside}

@@ -1,6 +1,5 @@
 -- Refused inputs: "Tested in the order of the numbers, each exactly on its condition. Acceptance is number 0".
-use mathlib.Core.Bool.{Bool, cond}
-use Prim.Native.Nat.{ℕ, zero, suc}
+use Rattle.algebra.specs.Prelude.{Bool, cond, ℕ, zero, suc}
 
 -- one test: its number where its condition holds, else 0
 abbrev pub refuse : ℕ → Bool → ℕ

@@ -1,8 +1,5 @@
 -- How a chain of tests ends: at its first number that is not 0, and at 0 only where every test has passed.
-use mathlib.Core.Path.{_≡_, refl, sym, _∙_}
-use mathlib.Core.Bool.{Bool, true, false}
-use Prim.Native.Nat.{ℕ, zero, suc}
-use native.Mathlib.Omega.{arith}
+use Rattle.algebra.specs.Prelude.{_≡_, refl, sym, _∙_, Bool, true, false, ℕ, zero, suc, arith}
 use Rattle.geometry.specs.Refusal.{refuse, _before_}
 
 -- r is the first test's number, and ends the chain

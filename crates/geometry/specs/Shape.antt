@@ -1,8 +1,5 @@
 -- Sizes and counts that are allowed, and the lengths of the four lent buffers.
-use mathlib.Core.Path.{_≡_}
-use mathlib.Core.Bool.{Bool, not, _&&_}
-use Prim.Native.Nat.{ℕ, _+_, _-_, _*_, _/_, _%_, _≤_}
-use lib.Dec.{leb, eqb}
+use Rattle.algebra.specs.Prelude.{_≡_, Bool, not, _&&_, ℕ, _+_, _-_, _*_, _/_, _%_, _≤_, eqb, leb}
 use Rattle.geometry.specs.declared.Shape.{Shape}
 use Rattle.geometry.specs.Refusal.{refuse, _before_}
 

@@ -1,10 +1,6 @@
 -- What acceptance says of sizes, counts and lengths, in a form that linear arithmetic reads.
-use mathlib.Core.Path.{_≡_, refl, subst}
-use mathlib.Core.Bool.{Bool, true, false, not, _&&_}
-use Prim.Native.Nat.{ℕ, _+_, _-_, _*_, _/_, _≤_}
+use Rattle.algebra.specs.Prelude.{_≡_, refl, subst, Bool, true, false, not, _&&_, ℕ, _+_, _-_, _*_, _/_, _≤_, arith, T}
 use native.Mathlib.Nat.{mul-le-mul}
-use native.Mathlib.Omega.{arith}
-use lib.Dec.{T}
 use borrow.Author.Tests.{leb-true, eqb-true, not-false}
 use Rattle.geometry.specs.declared.Shape.{Shape}
 use Rattle.geometry.specs.Refusal.{refuse}

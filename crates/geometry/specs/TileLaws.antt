@@ -1,8 +1,6 @@
 -- Tile counts and coarse indices: bounds that hold at any size, and what holds at the levels of an allowed one.
-use mathlib.Core.Path.{_≡_}
-use Prim.Native.Nat.{ℕ, _+_, _-_, _*_, _/_, _≤_, _<_}
+use Rattle.algebra.specs.Prelude.{_≡_, ℕ, _+_, _-_, _*_, _/_, _≤_, _<_, arith}
 use native.Mathlib.Nat.{div-lt-iff-lt-mul, mul-le-mul-left, add-mul}
-use native.Mathlib.Omega.{arith}
 use Rattle.geometry.specs.Shape.{AllowedSize}
 use Rattle.geometry.specs.Tiles.{Level, Step, level0, level1, level2, level3, step1to0, step2to1, step3to2, levelSize, levelTiles, tileCount, own}
 

@@ -1,8 +1,6 @@
 -- Tiles of a level: their sides, counts and origins, and the coarse tiles that a tile's candidates come from.
-use mathlib.Core.Bool.{Bool, true, false, cond}
+use Rattle.algebra.specs.Prelude.{Bool, true, false, cond, ltb, ℤ, pos, _-ℤ_}
 use Prim.Native.Nat.{ℕ, _+_, _-_, _*_, _/_, min}
-use lib.Dec.{ltb}
-use lib.IntN.{ℤ, pos, _-ℤ_}
 
 -- What goes with a level. `scale`: one of its samples stands for that many of the frame's, each way. A vector part found at it is at most `bound`
 pub record Level : Type 0 where

@@ -1,10 +1,5 @@
 -- How the lent vectors are laid out.
-use mathlib.Core.Bool.{cond}
-use mathlib.Core.List.{List}
-use Prim.Native.Nat.{ℕ, _+_, _*_, _/_}
-use lib.Dec.{ltb}
-use lib.IntN.{ℤ, pos}
-use lib.ListN.{getD}
+use Rattle.algebra.specs.Prelude.{cond, List, ℕ, _+_, _*_, _/_, ltb, getD, ℤ, pos}
 use Rattle.geometry.specs.declared.Shape.{Shape}
 
 -- "For each other frame in rising index": the k-th frame beside the reference

@@ -1,10 +1,5 @@
 -- The code of the even places' sum on the way back, at a width: its steps in order, that each fits, and that the results are the sums.
-use mathlib.Core.Path.{_≡_}
-use mathlib.Core.List.{List, [], _∷_}
-use Prim.Native.Nat.{ℕ, _*_, _^_}
-use lib.Dec.{T, ltb}
-use lib.IntN.{ℤ, pos}
-use lib.ListN.{getD}
+use Rattle.algebra.specs.Prelude.{_≡_, List, [], _∷_, ℕ, _*_, _^_, T, ltb, getD, ℤ, pos}
 use mir.Syntax.{Width}
 use mir.Val.{SFits, hbits}
 use Rattle.algebra.specs.Ring.{var, con, _⊠_, nth}

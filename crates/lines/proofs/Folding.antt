@@ -1,16 +1,9 @@
 -- Lines folded in halves: the fold as the code computes it, and the places of a folded line.
-use mathlib.Core.Path.{_≡_, sym, ap, ap₂, _∙_}
-use mathlib.Core.Bool.{cond}
-use mathlib.Core.List.{List, [], _∷_}
-use Prim.Native.Nat.{ℕ, _+_, _*_, _/_, _%_, _^_, _<_}
+use Rattle.algebra.specs.Prelude.{_≡_, sym, ap, ap₂, _∙_, cond, List, [], _∷_, ℕ, _+_, _*_, _/_, _%_, _^_, _<_, arith, getD, ℤ, pos, negℤ, _+ℤ_, _-ℤ_, _*ℤ_, toZ-ofZ}
 use native.Mathlib.Nat.{le-trans, add-le-add}
-use native.Mathlib.Omega.{arith}
 use lib.Dec.{T, eqb, ltb, ltb→lt, lt→ltb}
-use lib.IntN.{ℤ, pos, negℤ, _+ℤ_, _-ℤ_, _*ℤ_}
-use lib.ListN.{getD}
 use mir.Syntax.{Width}
 use mir.Val.{SFits, toZ, ofZ, hbits}
-use mir.Facts.{toZ-ofZ}
 use Rattle.algebra.specs.Laws.{*ℤ-distr}
 use Rattle.algebra.specs.Ring.{var, _⊞_, _⊟_, _⊠_, ⊖_, ring}
 use Rattle.algebra.specs.Order.{abs-add, abs-sub}

@@ -1,13 +1,8 @@
 -- Numbers as the code holds them.
-use mathlib.Core.Path.{_≡_, refl, sym, ap, ap₂, _∙_, subst}
-use mathlib.Core.List.{List, [], _∷_}
+use Rattle.algebra.specs.Prelude.{_≡_, refl, sym, ap, ap₂, subst, _∙_, List, [], _∷_, T, ltb, getD, ℤ, pos, natAbs, toZ-ofZ}
 use Prim.Native.Nat.{ℕ, zero, suc, _^_, _≤_, zero-le}
-use lib.Dec.{T, ltb}
-use lib.IntN.{ℤ, pos, natAbs}
-use lib.ListN.{getD}
 use mir.Syntax.{Width, w32, w64}
 use mir.Val.{SFits, toZ, ofZ, hbits}
-use mir.Facts.{toZ-ofZ}
 use Rattle.algebra.specs.Bound.{AtMost, most-fits, widen-fits}
 use Rattle.algebra.specs.Code.{Bounded}
 use Rattle.sequences.specs.Tab.{tab}

@@ -1,11 +1,6 @@
 -- All steps of straight-line code at one width, on the numbers of a line: that each fits, by one computed test.
-use mathlib.Core.Path.{_≡_, refl}
-use mathlib.Core.Bool.{Bool}
-use mathlib.Core.List.{List, [], _∷_}
+use Rattle.algebra.specs.Prelude.{_≡_, refl, Bool, List, [], _∷_, T, ltb, getD, ℤ, pos}
 use Prim.Native.Nat.{ℕ, zero, suc, _^_, zero-le}
-use lib.Dec.{T, ltb}
-use lib.IntN.{ℤ, pos}
-use lib.ListN.{getD}
 use mir.Syntax.{Width}
 use mir.Val.{SFits, hbits}
 use Rattle.algebra.specs.Test.{both, both-l, both-r}

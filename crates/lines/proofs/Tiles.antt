@@ -1,9 +1,6 @@
 -- Bounds of lines and of tiles: those of what a table holds, and a larger bound. And what is added to a tile.
-use mathlib.Core.Path.{_≡_, ap}
-use mathlib.Core.List.{List, []}
+use Rattle.algebra.specs.Prelude.{_≡_, ap, List, [], arith, ℤ, pos, natAbs, _+ℤ_}
 use Prim.Native.Nat.{ℕ, _≤_, _<_, zero-le}
-use native.Mathlib.Omega.{arith}
-use lib.IntN.{ℤ, pos, natAbs, _+ℤ_}
 use Rattle.sequences.specs.Tab.{tab, tab-each, tab-every}
 use Rattle.sequences.specs.Grid.{grid, cell, grid-ext}
 use Rattle.lines.specs.Lines.{LineMost, TileMost}

@@ -1,14 +1,7 @@
 -- The transposed sum of a line: the places that its two halves take, and the line that they make.
-use mathlib.Core.Path.{_≡_, ap, ap₂, _∙_}
-use mathlib.Core.Bool.{cond}
-use mathlib.Core.List.{List, [], _∷_}
-use Prim.Native.Nat.{ℕ, _+_, _-_, _*_, _^_}
-use lib.Dec.{T, ltb}
-use lib.IntN.{ℤ, pos, _+ℤ_, _-ℤ_}
-use lib.ListN.{getD}
+use Rattle.algebra.specs.Prelude.{_≡_, ap, ap₂, _∙_, cond, List, [], _∷_, ℕ, _+_, _-_, _*_, _^_, T, ltb, getD, ℤ, pos, _+ℤ_, _-ℤ_, toZ-ofZ}
 use mir.Syntax.{Width}
 use mir.Val.{SFits, toZ, ofZ, hbits}
-use mir.Facts.{toZ-ofZ}
 use Rattle.algebra.specs.Bound.{add-fits, sub-fits}
 use Rattle.algebra.specs.Ring.{Expr, var, con, _⊞_, _⊟_, _⊠_}
 use Rattle.algebra.specs.Sums.{sumZ}

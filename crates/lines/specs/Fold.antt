@@ -1,7 +1,6 @@
 -- A line folded in halves. C(j+8) = −C(j), so a transform's even places need only the sums of numbers half a line apart, and its odd places only their
 -- differences; on the way back, the numbers of the two halves are the even places' sum and the odd places' sum, added and subtracted.
-use Prim.Native.Nat.{ℕ, _+_, _*_}
-use lib.IntN.{ℤ, _+ℤ_, _-ℤ_, _*ℤ_}
+use Rattle.algebra.specs.Prelude.{ℕ, _+_, _*_, ℤ, _+ℤ_, _-ℤ_, _*ℤ_}
 use Rattle.algebra.specs.Sums.{sumZ}
 use Rattle.lines.specs.Halfcomplex.{basis}
 

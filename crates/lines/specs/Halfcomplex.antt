@@ -1,9 +1,6 @@
 -- The halfcomplex form of a line of sixteen real numbers' transform: the real parts of its numbers 0..8, then the imaginary parts of 1..7.
 -- The other numbers are conjugates of these.
-use mathlib.Core.Bool.{cond}
-use Prim.Native.Nat.{ℕ, _+_, _-_, _*_}
-use lib.Dec.{ltb}
-use lib.IntN.{ℤ, _*ℤ_}
+use Rattle.algebra.specs.Prelude.{cond, ℕ, _+_, _-_, _*_, ltb, ℤ, _*ℤ_}
 use Rattle.algebra.specs.Sums.{sumZ}
 use Rattle.lines.specs.Side.{cosAt}
 use Rattle.lines.specs.Tables.{side16}

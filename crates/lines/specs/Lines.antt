@@ -1,9 +1,5 @@
 -- Bounds of lines and of tiles of numbers, their lengths, and those that hold nothing but 0.
-use mathlib.Core.Path.{_≡_}
-use mathlib.Core.List.{List, []}
-use Prim.Native.Nat.{ℕ, _≤_, _<_}
-use lib.IntN.{ℤ, pos, natAbs}
-use lib.ListN.{getD}
+use Rattle.algebra.specs.Prelude.{_≡_, List, [], ℕ, _≤_, _<_, getD, ℤ, pos, natAbs}
 use Rattle.sequences.specs.Grid.{grid, cell}
 
 -- each number of the line is at most b, as an absolute value

@@ -1,6 +1,5 @@
 -- What document 01 fixes with the tile side: the tables of cosines, sines and windows, and the scales of the merge recipe.
-use Prim.Native.Nat.{ℕ, _*_, _%_, _<_}
-use lib.IntN.{ℤ}
+use Rattle.algebra.specs.Prelude.{ℕ, _*_, _%_, _<_, ℤ}
 
 pub record Side : Type 0 where
   -- a tile is `side` rows of `side` differences, and the next tile lies `half` further on

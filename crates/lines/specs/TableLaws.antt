@@ -1,10 +1,7 @@
 -- The rules of document 01's tables, each one computed test over the whole table.
-use mathlib.Core.Path.{_≡_, ap, _∙_}
-use mathlib.Core.Bool.{Bool, false}
-use Prim.Native.Nat.{ℕ, _+_, _-_, _*_, _%_, _≤_, _<_}
+use Rattle.algebra.specs.Prelude.{_≡_, ap, _∙_, Bool, false, ℕ, _+_, _-_, _*_, _%_, _≤_, _<_, ℤ, pos, negsuc, natAbs, negℤ}
 use native.Mathlib.Nat.{mod-lt, mod-add-mod}
 use lib.Dec.{T, eqb, eqb→eq, leb, leb→le, lit<}
-use lib.IntN.{ℤ, pos, negsuc, negℤ, natAbs}
 use Rattle.algebra.specs.Test.{all, all-sound}
 use Rattle.lines.specs.Side.{cosAt, sinAt}
 use Rattle.lines.specs.Tables.{cosines, cosine16, sine16, opposite, windows, window16, side16}

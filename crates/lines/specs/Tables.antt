@@ -1,9 +1,5 @@
 -- Side 16, with document 01's tables.
-use mathlib.Core.List.{List, [], _∷_}
-use Prim.Native.Nat.{ℕ, _+_, _-_, _^_, _%_}
-use lib.Dec.{lit<}
-use lib.IntN.{ℤ, pos, negℤ}
-use lib.ListN.{getD}
+use Rattle.algebra.specs.Prelude.{List, [], _∷_, ℕ, _+_, _-_, _%_, _^_, lit<, getD, ℤ, pos, negℤ}
 use Rattle.lines.specs.Side.{Side}
 
 -- C(0..15)

@@ -1,14 +1,7 @@
 -- The output gets merged row by row, plane by plane; after the four planes it is the merge.
-use mathlib.Core.Path.{_≡_, refl, sym, ap, _∙_, subst}
-use mathlib.Core.List.{List}
-use Prim.Native.Nat.{ℕ, zero, suc, _+_, _*_, _/_, _%_, _≤_, _<_}
+use Rattle.algebra.specs.Prelude.{_≡_, refl, sym, ap, subst, _∙_, Bool, true, false, List, ℕ, zero, suc, _+_, _*_, _/_, _%_, _≤_, _<_, arith, ltb, length, getD, natAbs}
 use native.Mathlib.Nat.{mul-add-div-right, mul-add-mod-self-right, div-eq-of-lt, mod-eq-of-lt, mod-lt, div-lt-iff-lt-mul, div-add-mod', mul-comm}
-use native.Mathlib.Omega.{arith}
 use borrow.Author.Tests.{ltb-true, ltb-false}
-use mathlib.Core.Bool.{Bool, true, false}
-use lib.Dec.{ltb}
-use lib.IntN.{natAbs}
-use lib.ListN.{length, getD}
 use lib.Seq.{ext-getD}
 use Rattle.sequences.specs.Tab.{tab, length-tab, getD-tab}
 use Rattle.geometry.specs.Shape.{AllowedSize}

@@ -1,10 +1,5 @@
 -- The rows of a band, and the bands of a plane: a record for each loop, and how it starts, goes on and ends.
-use mathlib.Core.Path.{_≡_, subst}
-use mathlib.Core.List.{List}
-use Prim.Native.Nat.{ℕ, _+_, _*_, _/_, _≤_, _<_}
-use native.Mathlib.Omega.{arith}
-use lib.IntN.{ℤ}
-use lib.ListN.{length}
+use Rattle.algebra.specs.Prelude.{_≡_, subst, List, ℕ, _+_, _*_, _/_, _≤_, _<_, arith, length, ℤ}
 use Rattle.geometry.specs.Shape.{outputLength}
 use Rattle.merging.specs.declared.Merge.{Merge}
 use Rattle.merging.specs.declared.Plane.{Plane}

@@ -1,11 +1,7 @@
 -- A row of the output by blocks of eight: a word of a block is one of the row, and a word of the row is one of the plane.
 use mathlib.Core.Path.{_≡_, refl, ap, ap₂, _∙_, subst, fun-ext}
-use mathlib.Core.List.{List}
-use Prim.Native.Nat.{ℕ, zero, suc, _+_, _-_, _*_, _/_, _%_, _≤_, _<_}
+use Rattle.algebra.specs.Prelude.{List, ℕ, zero, suc, _+_, _-_, _*_, _/_, _%_, _≤_, _<_, arith, getD, ℤ, pos, natAbs}
 use native.Mathlib.Nat.{add-mul, mul-assoc, mul-comm}
-use native.Mathlib.Omega.{arith}
-use lib.IntN.{ℤ, pos, natAbs}
-use lib.ListN.{getD}
 use Rattle.geometry.specs.declared.Shape.{Shape}
 use Rattle.geometry.specs.Read.{sampleIndex, sampleAt, planeOf}
 use Rattle.lines.specs.Tables.{side16}

@@ -1,9 +1,6 @@
 -- Tiles of an accepted burst: samples up to 4095, so differences up to 4095; and a correction depends on the tile's differences alone.
 use mathlib.Core.Path.{_≡_, ap, ap₂, fun-ext}
-use mathlib.Core.List.{List, []}
-use Prim.Native.Nat.{ℕ, _+_, _*_, _≤_, _<_}
-use native.Mathlib.Omega.{arith}
-use lib.IntN.{ℤ, pos, negℤ, natAbs, _+ℤ_, _-ℤ_, _*ℤ_}
+use Rattle.algebra.specs.Prelude.{List, [], ℕ, _*_, _≤_, _<_, arith, ℤ, pos, natAbs, negℤ, _+ℤ_, _-ℤ_, _*ℤ_}
 use Rattle.algebra.specs.Order.{zarith, sub-pn, min-pn, abs-pn}
 use Rattle.algebra.specs.Sums.{sumZ-cong}
 use Rattle.sequences.specs.Tab.{tab, tab-every}

@@ -1,8 +1,5 @@
 -- The recipe's output sample from sums over the frames: a weight times a sum is the sum of the weighed terms.
-use mathlib.Core.Path.{_≡_, ap₂}
-use Prim.Native.Nat.{ℕ, suc, _+_, _*_, _/_, _%_}
-use native.Mathlib.Omega.{arith}
-use lib.IntN.{ℤ, pos, _-ℤ_, _*ℤ_}
+use Rattle.algebra.specs.Prelude.{_≡_, ap₂, ℕ, suc, _+_, _*_, _/_, _%_, arith, ℤ, pos, _-ℤ_, _*ℤ_}
 use Rattle.algebra.specs.Sums.{sumZ-cong, sumZ-scale}
 use Rattle.algebra.specs.Clamp.{clampZ}
 use Rattle.algebra.specs.Nearest.{upward}

@@ -1,7 +1,6 @@
 -- The vector of each tile lies among the vectors, each row of the frame in it, and two rows of tiles in the work area.
-use Prim.Native.Nat.{ℕ, suc, _+_, _-_, _*_, _/_, _≤_, _<_}
+use Rattle.algebra.specs.Prelude.{ℕ, suc, _+_, _-_, _*_, _/_, _≤_, _<_, arith}
 use native.Mathlib.Nat.{mul-assoc, mul-comm, mul-le-mul-left, mul-le-mul-right, suc-mul}
-use native.Mathlib.Omega.{arith}
 use Rattle.geometry.specs.declared.Shape.{Shape}
 use Rattle.geometry.specs.Shape.{Allowed, vectorLength, outputLength, workLength}
 use Rattle.geometry.specs.ShapeLaws.{vectors-most}

@@ -1,11 +1,6 @@
 -- The output's quotient without a division: by 2^32, rounding down, and then by the number of frames, as a product with its reciprocal.
-use mathlib.Core.Path.{_≡_, ap}
-use mathlib.Core.List.{[], _∷_}
-use Prim.Native.Nat.{ℕ, zero, suc, _+_, _*_, _/_, _≤_, _<_}
+use Rattle.algebra.specs.Prelude.{_≡_, ap, [], _∷_, ℕ, zero, suc, _+_, _*_, _/_, _≤_, _<_, arith, lit<, ℤ, pos, negsuc, natAbs, _+ℤ_, _-ℤ_, _*ℤ_}
 use native.Mathlib.Nat.{mul-pos, le-div-iff-mul-le, div-lt-iff-lt-mul}
-use native.Mathlib.Omega.{arith}
-use lib.Dec.{lit<}
-use lib.IntN.{ℤ, pos, negsuc, natAbs, _+ℤ_, _-ℤ_, _*ℤ_}
 use lib.Signed.{_≤ℤ_, _<ℤ_, shrZ}
 use Rattle.algebra.specs.Vars.{vars6}
 use Rattle.algebra.specs.Ring.{_⊞_, _⊟_, _⊠_, #_}

@@ -1,11 +1,6 @@
 -- Sums and products of bounded numbers, as 64-bit code has them.
-use mathlib.Core.Path.{_≡_}
-use Prim.Native.Nat.{ℕ, _+_, _*_, _^_}
-use lib.Dec.{T, ltb}
-use lib.IntN.{ℤ, _+ℤ_, _*ℤ_}
-use mir.Syntax.{w32, w64}
+use Rattle.algebra.specs.Prelude.{_≡_, ℕ, _+_, _*_, _^_, T, ltb, ℤ, _+ℤ_, _*ℤ_, w32, w64, toZ-ofZ}
 use mir.Val.{SFits, toZ, ofZ, hbits}
-use mir.Facts.{toZ-ofZ}
 use Rattle.algebra.specs.Bound.{AtMost, add-most, mul-most, most-fits, widen-fits}
 use Rattle.algebra.specs.Fit.{abs-sfits}
 

@@ -1,11 +1,6 @@
 -- A tile, stored row by row, and a row of tiles, stored tile by tile: its record, and how it starts, goes on and ends.
-use mathlib.Core.Path.{_≡_, ap, _∙_, subst}
-use mathlib.Core.List.{List, []}
-use Prim.Native.Nat.{ℕ, _+_, _*_, _/_, _%_, _≤_, _<_}
-use native.Mathlib.Omega.{arith}
+use Rattle.algebra.specs.Prelude.{_≡_, ap, subst, _∙_, List, [], ℕ, _+_, _*_, _/_, _%_, _≤_, _<_, arith, length, getD, ℤ, pos, natAbs}
 use borrow.Author.Count.{below-more}
-use lib.IntN.{ℤ, pos, natAbs}
-use lib.ListN.{length, getD}
 use Rattle.sequences.specs.Grid.{cell, cell-grid}
 use Rattle.sequences.specs.Write.{written, Writing, write-start, write-part, write-done}
 use Rattle.merging.specs.declared.Plane.{Plane}

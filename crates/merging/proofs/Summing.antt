@@ -1,11 +1,6 @@
 -- The sum of a tile's corrections, frame by frame: its record, and how it starts, goes on and ends.
-use mathlib.Core.Path.{_≡_, sym, ap, ap₂, _∙_, subst}
-use mathlib.Core.List.{List, []}
-use Prim.Native.Nat.{ℕ, _+_, _*_, _^_, _≤_, _<_}
-use native.Mathlib.Omega.{arith}
+use Rattle.algebra.specs.Prelude.{_≡_, sym, ap, ap₂, subst, _∙_, List, [], ℕ, _+_, _*_, _^_, _≤_, _<_, arith, lit<, ℤ, pos, natAbs, _+ℤ_}
 use native.Mathlib.Numerals.{add-one}
-use lib.Dec.{lit<}
-use lib.IntN.{ℤ, pos, natAbs, _+ℤ_}
 use Rattle.algebra.specs.Order.{abs-add}
 use Rattle.algebra.specs.Sums.{sumZ, sumZ-suc, sumZ-cong, sumZ-0}
 use Rattle.sequences.specs.Tab.{tab, tab-each}

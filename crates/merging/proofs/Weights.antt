@@ -1,12 +1,8 @@
 -- Weights, words that are weighed, and the windowed sum of the four tiles over a sample, term by term.
-use mathlib.Core.Path.{_≡_, subst}
-use mathlib.Core.List.{List}
-use Prim.Native.Nat.{ℕ, _+_, _*_, _/_, _%_, _≤_, _<_}
+use Rattle.algebra.specs.Prelude.{_≡_, subst, List, ℕ, _+_, _*_, _/_, _%_, _≤_, _<_, arith, getD}
 use native.Mathlib.Nat.{mul-le-mul}
-use native.Mathlib.Omega.{arith}
 use lib.Dec.{leb, leb→le}
 use lib.IntN.{ℤ, pos, natAbs, _+ℤ_, _*ℤ_, +ℤ-idl}
-use lib.ListN.{getD}
 use Rattle.algebra.specs.Test.{all-sound}
 use Rattle.algebra.specs.Sums.{sumZ}
 use Rattle.sequences.specs.Tab.{getD-tab}

@@ -1,8 +1,5 @@
 -- What is known of a merge that its tests have let through, of its planes and tiles.
-use mathlib.Core.List.{List}
-use Prim.Native.Nat.{ℕ, _/_, _≤_, _<_}
-use lib.IntN.{ℤ}
-use lib.ListN.{length}
+use Rattle.algebra.specs.Prelude.{List, ℕ, _/_, _≤_, _<_, length, ℤ}
 use Rattle.geometry.specs.declared.Shape.{Shape}
 use Rattle.geometry.specs.Order.{BurstFits}
 use Rattle.geometry.specs.Bounds.{SamplesFit, VectorsFit}

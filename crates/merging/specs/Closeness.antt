@@ -1,9 +1,5 @@
 -- Demand 3: each word of the output lies within five eighths of the exact merge's sample at its place.
-use mathlib.Core.Path.{_≡_, sym, _∙_, ap, subst}
-use Prim.Native.Nat.{ℕ, _*_, _/_, _%_, _≤_, _<_}
-use native.Mathlib.Omega.{arith}
-use lib.IntN.{pos, natAbs}
-use lib.ListN.{getD}
+use Rattle.algebra.specs.Prelude.{_≡_, sym, ap, subst, _∙_, ℕ, _*_, _/_, _%_, _≤_, _<_, arith, getD, pos, natAbs}
 use Rattle.algebra.specs.Order.{abs-nonneg, zarith}
 use Rattle.algebra.specs.Clamp.{clamp-low}
 use Rattle.algebra.specs.Fraction.{whole, Within}

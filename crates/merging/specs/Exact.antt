@@ -1,6 +1,5 @@
 -- The exact merge of document 01 on a burst: "takes the same r, V and vectors and does the other steps in fractions".
-use Prim.Native.Nat.{ℕ, _/_, _%_}
-use lib.IntN.{pos}
+use Rattle.algebra.specs.Prelude.{ℕ, _/_, _%_, pos}
 use Rattle.algebra.specs.Fraction.{Frac}
 use Rattle.geometry.specs.Read.{planeOf}
 use Rattle.geometry.specs.Tiles.{level0}

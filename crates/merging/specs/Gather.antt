@@ -1,8 +1,5 @@
 -- The output as code gathers it: the corrections of a tile summed over the other frames, and then windowed.
-use mathlib.Core.List.{List}
-use Prim.Native.Nat.{ℕ, zero, suc, _+_, _-_, _*_, _/_, _%_}
-use lib.IntN.{ℤ, pos, _-ℤ_, _*ℤ_}
-use lib.ListN.{getD}
+use Rattle.algebra.specs.Prelude.{List, ℕ, zero, suc, _+_, _-_, _*_, _/_, _%_, getD, ℤ, pos, _-ℤ_, _*ℤ_}
 use Rattle.algebra.specs.Sums.{sumZ}
 use Rattle.algebra.specs.Clamp.{clampZ}
 use Rattle.algebra.specs.Nearest.{upward}

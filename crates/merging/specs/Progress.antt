@@ -1,9 +1,5 @@
 -- Rows of a plane's output that are merged.
-use mathlib.Core.Path.{_≡_}
-use mathlib.Core.List.{List}
-use Prim.Native.Nat.{ℕ, _+_, _*_, _/_, _≤_, _<_}
-use lib.IntN.{ℤ}
-use lib.ListN.{getD}
+use Rattle.algebra.specs.Prelude.{_≡_, List, ℕ, _+_, _*_, _/_, _≤_, _<_, getD, ℤ}
 use Rattle.merging.specs.declared.Plane.{Plane}
 use Rattle.merging.specs.Recipe.{Scene, wordAt}
 use Rattle.merging.specs.Strided.{Toward}

@@ -1,7 +1,5 @@
 -- The merge recipe of document 01 on a burst: tiles of each plane, their noise numbers and differences, and the output.
-use mathlib.Core.List.{List}
-use Prim.Native.Nat.{ℕ, _+_, _-_, _*_, _/_, _%_}
-use lib.IntN.{ℤ, pos, natAbs, _+ℤ_, _-ℤ_}
+use Rattle.algebra.specs.Prelude.{List, ℕ, _+_, _-_, _*_, _/_, _%_, ℤ, pos, natAbs, _+ℤ_, _-ℤ_}
 use Rattle.sequences.specs.Tab.{tab}
 use Rattle.geometry.specs.Read.{Image, sampleAt, planeOf, read}
 use Rattle.geometry.specs.Tiles.{level0, origin}

@@ -1,8 +1,5 @@
 -- A list with every second word of a part written over, and lists that only get nearer to what they should hold.
-use mathlib.Core.Path.{_≡_}
-use mathlib.Core.List.{List}
-use Prim.Native.Nat.{ℕ, zero, suc, _+_, _*_}
-use lib.ListN.{length, getD, set}
+use Rattle.algebra.specs.Prelude.{_≡_, List, ℕ, zero, suc, _+_, _*_, length, getD, set}
 
 -- l with f 0 .. f (n − 1) at every second place from `at` on
 unfoldable pub strided : {A : Type 0} → List A → (at : ℕ) → (ℕ → A) → (n : ℕ) → List A

@@ -1,9 +1,5 @@
 -- A tile's corrections on the way to their sum.
-use mathlib.Core.Path.{_≡_}
-use mathlib.Core.List.{List, []}
-use Prim.Native.Nat.{ℕ, _^_, _≤_, _<_}
-use lib.IntN.{ℤ, natAbs}
-use lib.ListN.{getD}
+use Rattle.algebra.specs.Prelude.{_≡_, List, [], ℕ, _^_, _≤_, _<_, getD, ℤ, natAbs}
 use Rattle.sequences.specs.Grid.{grid}
 use Rattle.geometry.specs.Bounds.{SamplesFit}
 use Rattle.transform.specs.Magnitudes.{noiseMost}

@@ -1,9 +1,5 @@
 -- Rows of correction tiles in the work area: two of them, each of 256 words a tile.
-use mathlib.Core.Path.{_≡_}
-use mathlib.Core.List.{List}
-use Prim.Native.Nat.{ℕ, _+_, _-_, _*_, _/_, _%_, _≤_, _<_}
-use lib.IntN.{ℤ, pos, natAbs}
-use lib.ListN.{length, getD}
+use Rattle.algebra.specs.Prelude.{_≡_, List, ℕ, _+_, _-_, _*_, _/_, _%_, _≤_, _<_, length, getD, ℤ, pos, natAbs}
 use Rattle.sequences.specs.Write.{written}
 use Rattle.geometry.specs.declared.Shape.{Shape}
 use Rattle.geometry.specs.Read.{Sampled, sampleAt, planeOf}

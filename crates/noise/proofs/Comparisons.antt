@@ -1,11 +1,6 @@
 -- The code's float comparisons decide the tests of the definitions, by cases on the float.
-use mathlib.Core.Path.{_≡_, refl, sym, _∙_}
-use mathlib.Core.Bool.{true, false, not}
-use Prim.Native.Nat.{ℕ, zero, suc, _+_, _*_, _^_, _<_}
+use Rattle.algebra.specs.Prelude.{_≡_, refl, sym, _∙_, true, false, not, ℕ, zero, suc, _+_, _*_, _^_, _<_, arith, ltb, ℤ, pos}
 use native.Mathlib.Nat.{mul-one, one-mul, zero-mul, add-zero, mul-pos}
-use native.Mathlib.Omega.{arith}
-use lib.IntN.{ℤ, pos}
-use lib.Dec.{ltb}
 use lib.Ieee.{Float, nan, inf, fin, up, down, lt}
 use lib.Ieee.Fits.{up-pos}
 use borrow.Author.Tests.{lt-ltb, ltb-true}

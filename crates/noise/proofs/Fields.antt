@@ -1,9 +1,6 @@
 -- What a float's exponent field and fraction say of its value times 1024, cut to a whole number: a shift of the digits.
-use mathlib.Core.Path.{_≡_, refl, sym, ap, _∙_, subst}
-use mathlib.Core.Bool.{Bool, true, false, not, _||_, cond}
-use Prim.Native.Nat.{ℕ, zero, suc, _+_, _-_, _*_, _/_, _%_, _^_, _<_, _≤_}
+use Rattle.algebra.specs.Prelude.{_≡_, refl, sym, ap, subst, _∙_, Bool, true, false, not, cond, _||_, ℕ, zero, suc, _+_, _-_, _*_, _/_, _%_, _^_, _≤_, _<_, arith}
 use native.Mathlib.Nat.{mul-assoc, mul-left-comm, mul-right-comm, mul-le-mul-right, le-of-mul-le-mul-right, div-eq-of-lt, lt-of-lt-of-le, le-trans, mod-lt, lt-of-not-le, not-le-of-lt, mul-le-mul}
-use native.Mathlib.Omega.{arith}
 use lib.Bits.{bitAnd, bitOr, and-mask, or-shifted-r}
 use lib.Pow.{pow-pos, pow-mono, pow-add, shl-shr, shr-shr, field}
 use lib.Dec.{T, leb, eqb, leb→le, lit<, lit≤}

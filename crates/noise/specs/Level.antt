@@ -1,7 +1,5 @@
 -- Tests of a float's value, and its floor in units of 1/1024. The value of `fin s m e` is m · 2 ^ e, negative where s is true: the fraction (m * up e) / down e.
-use mathlib.Core.Bool.{Bool, true, false, not, _&&_, _||_}
-use Prim.Native.Nat.{ℕ, _*_, _/_}
-use lib.Dec.{leb, ltb, eqb}
+use Rattle.algebra.specs.Prelude.{Bool, true, false, not, _&&_, _||_, ℕ, _*_, _/_, eqb, leb, ltb}
 use lib.Ieee.{Float, nan, inf, fin, up, down}
 
 -- "negative or not finite"; "Negative zero is zero"

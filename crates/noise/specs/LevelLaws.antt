@@ -1,9 +1,6 @@
 -- The levels of any noise are at most 65536 and 4194304, since its curve's numbers lie between 0 and the limits of refusal 9; and what refusals 9 and 10 let through.
-use mathlib.Core.Path.{_≡_, refl, sym, ap, subst}
-use mathlib.Core.Bool.{Bool, true, false, not, _||_, cond}
-use Prim.Native.Nat.{ℕ, suc, _*_, _≤_}
+use Rattle.algebra.specs.Prelude.{_≡_, refl, sym, ap, subst, Bool, true, false, not, cond, _||_, ℕ, suc, _*_, _≤_, arith}
 use native.Mathlib.Nat.{div-le-of-le-mul, le-trans, mul-le-mul-right, zero-mul}
-use native.Mathlib.Omega.{arith}
 use lib.Dec.{T, ltb, eqb, leb→le, le→leb, eqb→eq}
 use borrow.Author.Tests.{ltb-false}
 use lib.Ieee.{Float, nan, inf, fin, up, down}

@@ -1,7 +1,5 @@
 -- The levels Ls and Lr of a noise, and refusals 8, 9 and 10.
-use mathlib.Core.Bool.{Bool, _||_, cond}
-use Prim.Native.Nat.{ℕ}
-use lib.Dec.{ltb}
+use Rattle.algebra.specs.Prelude.{Bool, cond, _||_, ℕ, ltb}
 use Rattle.noise.specs.declared.Curve.{Curve}
 use Rattle.noise.specs.declared.Noise.{Noise}
 use Rattle.noise.specs.declared.Noise.the-variants.{Measured, Iso}

@@ -1,9 +1,6 @@
 -- Bounds of r and V, and V's monotony in each of its arguments.
-use mathlib.Core.Path.{_≡_, ap}
-use Prim.Native.Nat.{ℕ, _*_, _≤_, _<_}
+use Rattle.algebra.specs.Prelude.{_≡_, ap, ℕ, _*_, _≤_, _<_, arith, lit≤}
 use native.Mathlib.Nat.{le-trans, mul-le-mul, zero-mul, mul-zero}
-use native.Mathlib.Omega.{arith}
-use lib.Dec.{lit≤}
 use Rattle.algebra.specs.Sums.{sumN, sumN-cong, sumN-bound}
 use Rattle.noise.specs.Root.{wholeRoot}
 use Rattle.noise.specs.RootLaws.{root-most}

@@ -1,7 +1,5 @@
 -- The whole root of a number.
-use mathlib.Core.Bool.{cond}
-use Prim.Native.Nat.{ℕ, zero, suc, _+_, _*_, _/_}
-use lib.Dec.{leb}
+use Rattle.algebra.specs.Prelude.{cond, ℕ, zero, suc, _+_, _*_, _/_, leb}
 
 -- r, or the next number where its square is at most n
 abbrev pub orNext : ℕ → ℕ → ℕ

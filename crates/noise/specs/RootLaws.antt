@@ -1,10 +1,6 @@
 -- The whole root r of n is the one number with r² ≤ n < (r + 1)²: by induction on the steps, and by comparing squares.
-use mathlib.Core.Path.{_≡_, refl}
-use mathlib.Core.Bool.{Bool, true, false, cond}
-use Prim.Native.Nat.{ℕ, zero, suc, _+_, _*_, _/_, _≤_, _<_}
+use Rattle.algebra.specs.Prelude.{_≡_, refl, Bool, true, false, cond, ℕ, zero, suc, _+_, _*_, _/_, _≤_, _<_, arith, leb}
 use native.Mathlib.Nat.{le-antisymm, lt-of-not-le, mul-le-mul}
-use native.Mathlib.Omega.{arith}
-use lib.Dec.{leb}
 use borrow.Author.Tests.{leb-true, leb-false}
 use Rattle.noise.specs.Root.{orNext, rootIn, wholeRoot}
 

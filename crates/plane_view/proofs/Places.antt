@@ -1,12 +1,7 @@
 -- Places of a plane are places of its frame, and a frame is small.
-use mathlib.Core.Path.{_≡_, ap, _∙_}
-use mathlib.Core.List.{List}
-use Prim.Native.Nat.{ℕ, _+_, _*_, _^_, _≤_, _<_}
+use Rattle.algebra.specs.Prelude.{_≡_, ap, _∙_, List, ℕ, _+_, _*_, _^_, _≤_, _<_, arith, getD, ℤ, pos, negsuc, natAbs, _+ℤ_}
 use native.Mathlib.Nat.{mul-le-mul, mul-le-mul-right, add-mul}
-use native.Mathlib.Omega.{arith}
-use lib.IntN.{ℤ, pos, negsuc, natAbs, _+ℤ_}
 use lib.Signed.{_≤ℤ_}
-use lib.ListN.{getD}
 use Rattle.sequences.specs.Tab.{tab}
 use Rattle.sequences.specs.Grid.{tab-ext}
 use Rattle.geometry.specs.Read.{sampleIndex, sampleAt, planeOf, inside, read}

@@ -1,9 +1,5 @@
 -- What a view of one plane reads: samples and tiles of a plane, by the list of its frame's samples.
-use mathlib.Core.Path.{_≡_}
-use mathlib.Core.List.{List}
-use Prim.Native.Nat.{ℕ, _+_, _*_, _^_, _<_, _≤_}
-use lib.IntN.{ℤ, pos, natAbs, _+ℤ_}
-use lib.ListN.{take, drop}
+use Rattle.algebra.specs.Prelude.{_≡_, List, ℕ, _+_, _*_, _^_, _≤_, _<_, take, drop, ℤ, pos, natAbs, _+ℤ_}
 use Rattle.sequences.specs.Tab.{tab}
 use Rattle.sequences.specs.Grid.{grid}
 use Rattle.geometry.specs.declared.Shape.{Shape}

@@ -1,10 +1,6 @@
 -- A view of a frame's part of the burst reads the burst's plane.
-use mathlib.Core.Path.{_≡_, ap}
-use mathlib.Core.List.{List}
-use Prim.Native.Nat.{ℕ, _+_, _*_, _≤_, _<_}
+use Rattle.algebra.specs.Prelude.{_≡_, ap, List, ℕ, _+_, _*_, _≤_, _<_, arith, ℤ, pos, _+ℤ_}
 use native.Mathlib.Nat.{mul-le-mul-right, add-mul, mul-comm}
-use native.Mathlib.Omega.{arith}
-use lib.IntN.{ℤ, pos, _+ℤ_}
 use lib.ListN.{length, getD, length-take, length-drop}
 use lib.Seq.{getD-take, getD-drop}
 use Rattle.sequences.specs.Grid.{grid-ext}

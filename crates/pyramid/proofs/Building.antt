@@ -1,10 +1,5 @@
 -- Level 0 laid, then halved down, is the pyramid.
-use mathlib.Core.Path.{_≡_, _∙_}
-use mathlib.Core.List.{List}
-use Prim.Native.Nat.{ℕ, _+_, _*_, _/_, _≤_, _<_}
-use native.Mathlib.Omega.{arith}
-use lib.IntN.{ℤ}
-use lib.ListN.{length}
+use Rattle.algebra.specs.Prelude.{_≡_, _∙_, List, ℕ, _+_, _*_, _/_, _≤_, _<_, arith, length, ℤ}
 use Rattle.geometry.specs.declared.Shape.{Shape}
 use Rattle.geometry.specs.Read.{Image, sampleAt}
 use Rattle.geometry.specs.Tiles.{level0, levelSize}

@@ -1,11 +1,6 @@
 -- The column sums of a row: how their list is stored, what stands in it, and the halved row that comes of it.
-use mathlib.Core.Path.{_≡_, ap, _∙_}
-use mathlib.Core.List.{List}
-use Prim.Native.Nat.{ℕ, _+_, _-_, _*_, _/_, _≤_, _<_}
+use Rattle.algebra.specs.Prelude.{_≡_, ap, _∙_, List, ℕ, _+_, _-_, _*_, _/_, _≤_, _<_, arith, length, getD, set, ℤ, pos, _-ℤ_}
 use native.Mathlib.Nat.{zero-add, add-zero}
-use native.Mathlib.Omega.{arith}
-use lib.IntN.{ℤ, pos, _-ℤ_}
-use lib.ListN.{length, getD, set}
 use Rattle.geometry.specs.Read.{inside}
 use Rattle.geometry.specs.ReadLaws.{inside-below}
 use Rattle.sequences.specs.Write.{written, Writing, written-in}

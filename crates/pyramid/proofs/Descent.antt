@@ -1,13 +1,8 @@
 -- A loop that halves the image at hand five times, each into the words after it: its invariant, how it starts, goes on and ends.
-use mathlib.Core.Path.{_≡_, refl, ap, ap₂, _∙_}
+use Rattle.algebra.specs.Prelude.{_≡_, refl, ap, ap₂, _∙_, List, ℕ, suc, _+_, _*_, _/_, _≤_, _<_, arith, length, getD, ℤ, pos}
 use mathlib.Core.Logic.{⊎-elim}
-use mathlib.Core.List.{List}
-use Prim.Native.Nat.{ℕ, suc, _+_, _*_, _/_, _≤_, _<_}
 use native.Mathlib.Nat.{add-zero, eq-or-lt-of-le, le-refl}
 use native.Mathlib.Numerals.{add-one}
-use native.Mathlib.Omega.{arith}
-use lib.IntN.{ℤ, pos}
-use lib.ListN.{length, getD}
 use Rattle.geometry.specs.Read.{Image}
 use Rattle.pyramid.specs.Pyramid.{halved}
 use Rattle.pyramid.specs.PyramidLaws.{halved-agree, halved-most}

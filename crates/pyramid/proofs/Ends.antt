@@ -1,8 +1,5 @@
 -- A list stored in three: its first element, n by a loop, and the last.
-use mathlib.Core.Path.{_≡_, subst}
-use mathlib.Core.List.{List}
-use Prim.Native.Nat.{ℕ, _+_, _≤_, _<_}
-use native.Mathlib.Omega.{arith}
+use Rattle.algebra.specs.Prelude.{_≡_, subst, List, ℕ, _+_, _≤_, _<_, arith}
 use lib.ListN.{length, set, length-set}
 use Rattle.sequences.specs.Write.{written, Writing, write-start, write-turn, write-part, write-done}
 

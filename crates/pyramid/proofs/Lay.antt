@@ -1,11 +1,6 @@
 -- A loop that lays an image row by row: its invariant, how it starts, goes on and ends.
-use mathlib.Core.Path.{_≡_, sym, ap₂, _∙_, subst}
-use mathlib.Core.List.{List}
-use Prim.Native.Nat.{ℕ, _+_, _*_, _≤_, _<_}
+use Rattle.algebra.specs.Prelude.{_≡_, sym, ap₂, subst, _∙_, List, ℕ, _+_, _*_, _≤_, _<_, arith, length, ℤ, pos}
 use native.Mathlib.Nat.{zero-mul, mul-le-mul-right}
-use native.Mathlib.Omega.{arith}
-use lib.IntN.{ℤ, pos}
-use lib.ListN.{length}
 use Rattle.geometry.specs.Read.{Image}
 use Rattle.sequences.specs.Write.{written, Writing, write-start, write-part, write-done, row-room}
 use Rattle.pyramid.specs.Words.{wordOf, laid}

@@ -1,9 +1,5 @@
 -- An image and its halvings, one of the other, in the work area.
-use mathlib.Core.Path.{_≡_}
-use mathlib.Core.List.{List}
-use Prim.Native.Nat.{ℕ, zero, suc, _+_, _*_, _/_, _≤_, _<_}
-use lib.IntN.{ℤ, pos}
-use lib.ListN.{length, getD}
+use Rattle.algebra.specs.Prelude.{_≡_, List, ℕ, zero, suc, _+_, _*_, _/_, _≤_, _<_, length, getD, ℤ, pos}
 use Rattle.geometry.specs.Read.{Image}
 use Rattle.pyramid.specs.Pyramid.{halved}
 use Rattle.pyramid.specs.Words.{Holds, Source}

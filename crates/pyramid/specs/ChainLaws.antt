@@ -1,9 +1,7 @@
 -- How the sizes of halvings shrink and their words add up.
-use mathlib.Core.Path.{_≡_, refl, ap}
+use Rattle.algebra.specs.Prelude.{_≡_, refl, ap, ℕ, zero, suc, _+_, _*_, _/_, _^_, _≤_, _<_, arith}
 use mathlib.Core.Logic.{⊎-elim}
-use Prim.Native.Nat.{ℕ, zero, suc, _+_, _*_, _/_, _≤_, _<_, _^_}
 use native.Mathlib.Nat.{mul-le-mul, pow-suc, pow-le-pow-right, eq-or-lt-of-le}
-use native.Mathlib.Omega.{arith}
 use Rattle.geometry.specs.Read.{Image}
 use Rattle.pyramid.specs.PyramidLaws.{halved-agree}
 use Rattle.pyramid.specs.Chain.{halves, wordsBefore, chain}

@@ -1,6 +1,5 @@
 -- What a pyramid is built from.
-use mathlib.Core.List.{List}
-use Prim.Native.Nat.{ℕ, _≤_, _<_}
+use Rattle.algebra.specs.Prelude.{List, ℕ, _≤_, _<_}
 use Rattle.geometry.specs.declared.Shape.{Shape}
 use Rattle.geometry.specs.Read.{Sampled, sampleAt}
 

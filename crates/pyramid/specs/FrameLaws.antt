@@ -1,6 +1,5 @@
 -- A burst whose samples pass refusal 11 has such frames.
-use mathlib.Core.List.{List}
-use Prim.Native.Nat.{ℕ, _<_}
+use Rattle.algebra.specs.Prelude.{List, ℕ, _<_}
 use Rattle.geometry.specs.declared.Shape.{Shape}
 use Rattle.geometry.specs.Read.{Sampled, sampleAt}
 use Rattle.geometry.specs.Bounds.{SamplesFit}

@@ -1,9 +1,5 @@
 -- Where a pyramid's images stand in the work area, and what holds once they are laid.
-use mathlib.Core.Path.{_≡_}
-use mathlib.Core.List.{List}
-use Prim.Native.Nat.{ℕ, _+_, _*_, _≤_, _<_}
-use lib.IntN.{ℤ, pos}
-use lib.ListN.{length, getD}
+use Rattle.algebra.specs.Prelude.{_≡_, List, ℕ, _+_, _*_, _≤_, _<_, length, getD, ℤ, pos}
 use Rattle.geometry.specs.declared.Shape.{Shape}
 use Rattle.geometry.specs.Read.{Image}
 use Rattle.geometry.specs.Tiles.{Level, level0, level1, level2, level3, levelSize, levelTiles}

@@ -1,10 +1,6 @@
 -- The six images as a chain of halvings: which of them are the levels, and that they fit.
-use mathlib.Core.Path.{_≡_, refl, _∙_}
-use mathlib.Core.List.{List}
-use lib.IntN.{ℤ}
-use Prim.Native.Nat.{ℕ, suc, _+_, _*_, _/_, _≤_}
+use Rattle.algebra.specs.Prelude.{_≡_, refl, _∙_, List, ℕ, suc, _+_, _*_, _/_, _≤_, arith, ℤ}
 use native.Mathlib.Nat.{mul-le-mul}
-use native.Mathlib.Omega.{arith}
 use Rattle.geometry.specs.declared.Shape.{Shape}
 use Rattle.geometry.specs.Shape.{Allowed, workLength}
 use Rattle.geometry.specs.Read.{Image}

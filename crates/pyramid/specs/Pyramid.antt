@@ -1,6 +1,5 @@
 -- The pyramid of a frame: document 01, "Pyramid and vectors".
-use Prim.Native.Nat.{ℕ, _+_, _*_, _/_}
-use lib.IntN.{ℤ, pos, _-ℤ_}
+use Rattle.algebra.specs.Prelude.{ℕ, _+_, _*_, _/_, ℤ, pos, _-ℤ_}
 use Rattle.geometry.specs.declared.Shape.{Shape}
 use Rattle.geometry.specs.Read.{Image, inside, read}
 use Rattle.geometry.specs.Tiles.{level0, level1, level2, levelSize}

@@ -1,8 +1,6 @@
 -- What follows of the pyramid's definitions: halving reads inside the image only, and keeps its bound.
-use mathlib.Core.Path.{_≡_, sym, ap}
+use Rattle.algebra.specs.Prelude.{_≡_, sym, ap, arith, ℤ, pos, _-ℤ_}
 use Prim.Native.Nat.{ℕ, zero, suc, _+_, _-_, _*_, _/_, _≤_, _<_, min}
-use native.Mathlib.Omega.{arith}
-use lib.IntN.{ℤ, pos, _-ℤ_}
 use Rattle.algebra.specs.Order.{zarith, sub-pn, min-pn}
 use Rattle.geometry.specs.Read.{Image, inside, read}
 use Rattle.geometry.specs.ReadLaws.{inside-below}

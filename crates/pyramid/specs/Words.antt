@@ -1,9 +1,5 @@
 -- Images in the work area: row after row, a word for each value.
-use mathlib.Core.Path.{_≡_}
-use mathlib.Core.List.{List}
-use Prim.Native.Nat.{ℕ, _+_, _*_, _/_, _%_, _≤_, _<_}
-use lib.IntN.{ℤ, pos, natAbs}
-use lib.ListN.{length, getD}
+use Rattle.algebra.specs.Prelude.{_≡_, List, ℕ, _+_, _*_, _/_, _%_, _≤_, _<_, length, getD, ℤ, pos, natAbs}
 use Rattle.geometry.specs.Read.{Image}
 use Rattle.sequences.specs.Write.{written}
 

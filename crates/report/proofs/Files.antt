@@ -1,9 +1,5 @@
 -- What a program prints for a file, from what the file check answered and what reading found.
-use mathlib.Core.Path.{_≡_, sym, ap, _∙_, subst}
-use mathlib.Core.Bool.{true, false}
-use mathlib.Core.List.{List, _++_}
-use Prim.Native.Nat.{ℕ, _≤_, _<_}
-use native.Mathlib.Omega.{arith}
+use Rattle.algebra.specs.Prelude.{_≡_, sym, ap, subst, _∙_, true, false, List, _++_, ℕ, _≤_, _<_, arith}
 use lib.ListN.{length, take, drop, length-append, length-drop}
 use lib.Seq.{length-take-le, take-at}
 use borrow.Author.Tests.{lt-ltb, le-ltb, eq-eqb, ne-eqb}

@@ -1,9 +1,5 @@
 -- A burst of 64 by 64 has the shape and the lengths that the cores of the calls ask for.
-use mathlib.Core.Path.{_≡_, _∙_}
-use mathlib.Core.List.{List}
-use Prim.Native.Nat.{ℕ, _-_, _*_}
-use native.Mathlib.Omega.{arith}
-use lib.ListN.{length}
+use Rattle.algebra.specs.Prelude.{_≡_, _∙_, List, ℕ, _-_, _*_, arith, length}
 use Rattle.geometry.specs.Shape.{sampleLength, vectorLength, outputLength, workLength}
 use Rattle.geometry.specs.Order.{BurstFits, AlignFits, MergeFits}
 use Rattle.burst_file.specs.declared.Header.{Header}

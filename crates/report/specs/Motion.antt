@@ -1,9 +1,5 @@
 -- Document 01, "The program `motion` prints one line per other frame".
-use mathlib.Core.Path.{_≡_}
-use mathlib.Core.List.{List, [], _∷_, _++_}
-use Prim.Native.Nat.{ℕ, zero, suc, _+_, _-_, _*_, _/_}
-use lib.IntN.{ℤ}
-use lib.ListN.{length, getD, take, drop}
+use Rattle.algebra.specs.Prelude.{_≡_, List, [], _∷_, _++_, ℕ, zero, suc, _+_, _-_, _*_, _/_, length, getD, take, drop, ℤ}
 use Rattle.geometry.specs.declared.Shape.{Shape}
 use Rattle.geometry.specs.Vectors.{otherFrame}
 use Rattle.alignment.specs.Aligned.{alignedVectors, residualSums}

@@ -1,8 +1,5 @@
 -- What a program makes of a file before it prints: what to print at once, or the file's burst.
-use mathlib.Core.Path.{_≡_}
-use mathlib.Core.List.{List}
-use Prim.Native.Nat.{ℕ, _*_, _≤_, _<_}
-use lib.ListN.{length, take}
+use Rattle.algebra.specs.Prelude.{_≡_, List, ℕ, _*_, _≤_, _<_, length, take}
 use Rattle.geometry.specs.Shape.{Allowed}
 use Rattle.geometry.specs.Bounds.{SamplesFit}
 use Rattle.burst_file.specs.declared.Header.{Header}

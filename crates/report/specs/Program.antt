@@ -1,9 +1,5 @@
 -- Document 01, "Both programs [..] take files up to 65536 bytes with W = H = 64": what a program prints for a file, by what it prints for the burst in it.
-use mathlib.Core.Bool.{Bool, cond, _&&_}
-use mathlib.Core.List.{List}
-use Prim.Native.Nat.{ℕ}
-use lib.Dec.{eqb, ltb}
-use lib.ListN.{length}
+use Rattle.algebra.specs.Prelude.{Bool, cond, _&&_, List, ℕ, eqb, ltb, length}
 use Rattle.geometry.specs.declared.Shape.{Shape}
 use Rattle.burst_file.specs.Grammar.{Burst}
 use Rattle.burst_file.specs.Part.{Part, refused, found}

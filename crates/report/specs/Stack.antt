@@ -1,7 +1,5 @@
 -- Document 01, "`stack` the merged frame (names `width height`, their values, rows)".
-use mathlib.Core.Path.{_≡_}
-use mathlib.Core.List.{List, [], _∷_, _++_}
-use Prim.Native.Nat.{ℕ, zero, suc}
+use Rattle.algebra.specs.Prelude.{_≡_, List, [], _∷_, _++_, ℕ, zero, suc}
 use Rattle.geometry.specs.Bounds.{vectorRefusal}
 use Rattle.alignment.specs.Aligned.{alignedVectors}
 use Rattle.merging.specs.declared.Merge.{Merge}

@@ -1,11 +1,7 @@
 -- Document 01, "(frame index; its tiles; tiles with vector 0,0; greatest absolute part; sum of finest residuals)": what `motion` counts on the vectors of
 -- one other frame, a list of their parts.
-use mathlib.Core.Bool.{cond, _&&_}
-use mathlib.Core.List.{List}
+use Rattle.algebra.specs.Prelude.{cond, _&&_, List, eqb, length, getD, ℤ, pos, natAbs}
 use Prim.Native.Nat.{ℕ, zero, suc, _+_, _*_, _/_, max}
-use lib.Dec.{eqb}
-use lib.IntN.{ℤ, pos, natAbs}
-use lib.ListN.{length, getD}
 use Rattle.algebra.specs.Sums.{sumN}
 
 -- the absolute value of a part

@@ -1,6 +1,5 @@
 -- What each program prints for a burst.
-use mathlib.Core.List.{List}
-use Prim.Native.Nat.{ℕ}
+use Rattle.algebra.specs.Prelude.{List, ℕ}
 use Rattle.burst_file.specs.Grammar.{Burst}
 use Rattle.report.specs.declared.text.Program.{Program}
 use Rattle.report.specs.declared.text.Program.the-variants.{Motion, Stack}

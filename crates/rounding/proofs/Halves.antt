@@ -1,11 +1,6 @@
 -- Rounding the absolute value. The floor is unique, so it is two inequalities.
-use mathlib.Core.Path.{_≡_, sym}
-use mathlib.Core.List.{[], _∷_}
-use Prim.Native.Nat.{ℕ, _+_, _*_, _/_, _≤_, _<_}
+use Rattle.algebra.specs.Prelude.{_≡_, sym, [], _∷_, ℕ, _+_, _*_, _/_, _≤_, _<_, arith, lit<, pos}
 use native.Mathlib.Nat.{mul-pos, mul-le-mul-left, div-add-mod', mod-lt, div-mul-le-self, div-lt-iff-lt-mul}
-use native.Mathlib.Omega.{arith}
-use lib.Dec.{lit<}
-use lib.IntN.{pos}
 use Rattle.algebra.specs.Vars.{vars3}
 use Rattle.algebra.specs.Ring.{_⊞_, _⊠_, #_}
 use Rattle.algebra.specs.Cert.{le, by-le, by-lt, le-pos}

@@ -1,11 +1,6 @@
 -- Division by 2·h to nearest, halves away from zero, as a floor: h is added, and 1 taken from what is below zero.
-use mathlib.Core.Path.{_≡_, sym, ap, _∙_}
-use mathlib.Core.List.{[], _∷_}
-use Prim.Native.Nat.{ℕ, suc, _+_, _*_, _/_, _≤_, _<_, _^_}
+use Rattle.algebra.specs.Prelude.{_≡_, ap, _∙_, [], _∷_, ℕ, suc, _+_, _*_, _/_, _^_, _≤_, _<_, arith, lit<, ℤ, pos, negsuc, natAbs, negℤ, _+ℤ_}
 use native.Mathlib.Nat.{mul-pos, div-add-mod', mod-lt}
-use native.Mathlib.Omega.{arith}
-use lib.Dec.{lit<}
-use lib.IntN.{ℤ, pos, negsuc, negℤ, natAbs, _+ℤ_}
 use lib.Signed.{shrZ}
 use Rattle.algebra.specs.Vars.{vars3}
 use Rattle.algebra.specs.Ring.{_⊞_, _⊠_, ⊖_, #_}

@@ -1,14 +1,6 @@
 -- Rounding away from zero by a number's sign and its absolute value, with the number as the code holds it.
-use mathlib.Core.Path.{_≡_, ap, _∙_, subst}
-use mathlib.Core.Bool.{true, false}
-use Prim.Native.Nat.{ℕ, _-_, _^_, _≤_, _<_}
-use native.Mathlib.Omega.{arith}
-use lib.Dec.{T}
-use lib.IntN.{ℤ, pos, negsuc, natAbs, negℤ, _-ℤ_}
+use Rattle.algebra.specs.Prelude.{_≡_, ap, subst, _∙_, true, false, ℕ, _-_, _^_, _≤_, _<_, arith, T, ℤ, pos, negsuc, natAbs, negℤ, _-ℤ_, w64, SFits, toZ, ofZ, toZ-ofZ}
 use lib.Signed.{ltZ}
-use mir.Syntax.{w64}
-use mir.Val.{SFits, toZ, ofZ}
-use mir.Facts.{toZ-ofZ}
 use borrow.Author.Tests.{ltb-true}
 use Rattle.algebra.specs.Bound.{neg-fits}
 use Rattle.algebra.specs.Nearest.{away, upward}

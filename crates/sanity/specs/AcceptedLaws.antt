@@ -1,9 +1,5 @@
 -- What a call that has accepted leaves: its burst has passed the tests, and the buffers hold what the definitions say.
-use mathlib.Core.Path.{_≡_, sym, _∙_, ap}
-use mathlib.Core.List.{List}
-use Prim.Native.Nat.{ℕ}
-use lib.IntN.{ℤ}
-use lib.ListN.{length}
+use Rattle.algebra.specs.Prelude.{_≡_, sym, ap, _∙_, List, ℕ, length, ℤ}
 use Rattle.geometry.specs.declared.Shape.{Shape}
 use Rattle.geometry.specs.Refusal.{_before_}
 use Rattle.geometry.specs.RefusalLaws.{before-both}

@@ -1,8 +1,5 @@
 -- The same at the calls, once they have accepted: what merge, align and run leave at strength 0, of frames that are all equal, and of frames in another order.
-use mathlib.Core.Path.{_≡_, sym, _∙_, ap}
-use mathlib.Core.List.{List}
-use Prim.Native.Nat.{ℕ}
-use lib.IntN.{ℤ, pos}
+use Rattle.algebra.specs.Prelude.{_≡_, sym, ap, _∙_, List, ℕ, ℤ, pos}
 use lib.ListN.{length, replicate}
 use Rattle.sequences.specs.Clear.{zeros}
 use Rattle.geometry.specs.declared.Shape.{Shape}

@@ -1,8 +1,5 @@
 -- Frames that are flat, each of one sample value, and the value of their merge in a line of arithmetic.
-use mathlib.Core.Path.{_≡_}
-use mathlib.Core.List.{List}
-use Prim.Native.Nat.{ℕ, suc, _-_, _*_, _≤_, _<_}
-use lib.IntN.{ℤ, pos, _-ℤ_, _*ℤ_}
+use Rattle.algebra.specs.Prelude.{_≡_, List, ℕ, suc, _-_, _*_, _≤_, _<_, ℤ, pos, _-ℤ_, _*ℤ_}
 use lib.ListN.{replicate}
 use Rattle.algebra.specs.Sums.{sumZ}
 use Rattle.algebra.specs.Clamp.{clampZ}

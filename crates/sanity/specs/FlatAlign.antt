@@ -1,10 +1,6 @@
 -- Try flat frames: every tile fits everywhere as well, so by the tie rule no vector moves, and the residuals are the difference times the samples.
 use mathlib.Core.Path.{_≡_, sym, _∙_, ap, ap₂, fun-ext, subst}
-use mathlib.Core.Bool.{Bool}
-use mathlib.Core.List.{List}
-use Prim.Native.Nat.{ℕ, zero, suc, _-_, _*_, _/_, _<_}
-use native.Mathlib.Omega.{arith}
-use lib.IntN.{ℤ, pos}
+use Rattle.algebra.specs.Prelude.{Bool, List, ℕ, zero, suc, _-_, _*_, _/_, _<_, arith, ℤ, pos}
 use lib.ListN.{replicate}
 use Rattle.geometry.specs.declared.Shape.{Shape}
 use Rattle.geometry.specs.Shape.{vectorLength}

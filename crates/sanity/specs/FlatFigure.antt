@@ -1,10 +1,5 @@
 -- Document 01's figure: "W = H = 64, N = 2, reference 0 all 0, frame 1 all 4, shot 0, read 4194304, t 1024: every merged sample is 2. With t 0 it is 0."
-use mathlib.Core.Path.{_≡_, refl, _∙_, ap}
-use mathlib.Core.List.{List, [], _∷_, _++_}
-use Prim.Native.Nat.{ℕ, zero, suc, _*_, _<_}
-use native.Mathlib.Omega.{arith}
-use lib.Dec.{lit<, lit≤}
-use lib.IntN.{ℤ, pos}
+use Rattle.algebra.specs.Prelude.{_≡_, refl, ap, _∙_, List, [], _∷_, _++_, ℕ, zero, suc, _*_, _<_, arith, lit≤, lit<, ℤ, pos}
 use lib.ListN.{length, take, replicate, length-replicate, length-append}
 use lib.Seq.{take-at, drop-at, take-all}
 use Rattle.algebra.specs.Sums.{sumZ}

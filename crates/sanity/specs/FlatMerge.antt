@@ -1,9 +1,6 @@
 -- Try flat frames: whatever the vectors, the merged frame is flat too, of the value `flatOutput`.
 use mathlib.Core.Path.{_≡_, _∙_, ap, ap₂, fun-ext}
-use mathlib.Core.List.{List}
-use Prim.Native.Nat.{ℕ, _+_, _*_, _/_, _%_, _<_}
-use native.Mathlib.Omega.{arith}
-use lib.IntN.{ℤ, pos, natAbs, _-ℤ_}
+use Rattle.algebra.specs.Prelude.{List, ℕ, _+_, _*_, _/_, _%_, _<_, arith, ℤ, pos, natAbs, _-ℤ_}
 use lib.ListN.{replicate}
 use Rattle.sequences.specs.Grid.{tab-ext}
 use Rattle.sequences.specs.Clear.{tab-const}

@@ -1,8 +1,5 @@
 -- What the theorems speak of: the words of one frame, and frames that are all alike.
-use mathlib.Core.Path.{_≡_}
-use mathlib.Core.List.{List}
-use Prim.Native.Nat.{ℕ, _*_, _/_, _%_, _<_}
-use lib.ListN.{take, drop}
+use Rattle.algebra.specs.Prelude.{_≡_, List, ℕ, _*_, _/_, _%_, _<_, take, drop}
 use Rattle.sequences.specs.Tab.{tab}
 use Rattle.geometry.specs.declared.Shape.{Shape}
 use Rattle.geometry.specs.Shape.{outputLength}

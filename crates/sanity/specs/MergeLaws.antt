@@ -1,8 +1,5 @@
 -- Equal frames have equal tiles; and where no tile has a correction, the merged frame is the reference.
-use mathlib.Core.Path.{_≡_, _∙_, ap, ap₂}
-use Prim.Native.Nat.{ℕ, _+_, _*_, _/_, _%_, _≤_, _<_}
-use native.Mathlib.Omega.{arith}
-use lib.IntN.{ℤ, pos, natAbs, _+ℤ_}
+use Rattle.algebra.specs.Prelude.{_≡_, ap, ap₂, _∙_, ℕ, _+_, _*_, _/_, _%_, _≤_, _<_, arith, ℤ, pos, natAbs, _+ℤ_}
 use Rattle.sequences.specs.Grid.{tab-ext}
 use Rattle.geometry.specs.Read.{Image, planeOf, inside, read}
 use Rattle.geometry.specs.ReadLaws.{inside-below}

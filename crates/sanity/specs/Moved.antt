@@ -1,9 +1,5 @@
 -- Try a tile that has moved, to within 4 of the guess: the search finds a residual of 0, and the move itself where no other offset fits as well.
-use mathlib.Core.Path.{_≡_, _∙_, ap}
-use mathlib.Core.Bool.{Bool}
-use Prim.Native.Nat.{ℕ, _<_}
-use native.Mathlib.Omega.{arith}
-use lib.IntN.{pos, _+ℤ_}
+use Rattle.algebra.specs.Prelude.{_≡_, ap, _∙_, Bool, ℕ, _<_, arith, pos, _+ℤ_}
 use Rattle.alignment.specs.declared.Tile.{Tile}
 use Rattle.alignment.specs.declared.Vector.{Vector}
 use Rattle.alignment.specs.Vectors.{_plus_, Within}

@@ -1,9 +1,6 @@
 -- Where no tile over a sample has a correction, the output is the reference sample.
-use mathlib.Core.Path.{_≡_, _∙_, ap}
-use Prim.Native.Nat.{ℕ, suc, _+_, _*_, _≤_, _<_}
+use Rattle.algebra.specs.Prelude.{_≡_, ap, _∙_, ℕ, suc, _+_, _*_, _≤_, _<_, arith, lit<}
 use native.Mathlib.Nat.{mul-pos, div-eq-of-lt-le}
-use native.Mathlib.Omega.{arith}
-use lib.Dec.{lit<}
 use lib.IntN.{ℤ, pos, _-ℤ_, _*ℤ_, *ℤ-zero}
 use Rattle.algebra.specs.Sums.{sumZ}
 use Rattle.algebra.specs.Order.{zarith}

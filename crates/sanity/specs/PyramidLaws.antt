@@ -1,8 +1,6 @@
 -- Equal frames have equal pyramids, read anywhere.
 use mathlib.Core.Path.{_≡_, ap₂, fun-ext}
-use Prim.Native.Nat.{ℕ, zero, suc, _+_, _*_, _/_, _≤_, _<_}
-use native.Mathlib.Omega.{arith}
-use lib.IntN.{ℤ}
+use Rattle.algebra.specs.Prelude.{ℕ, zero, suc, _+_, _*_, _/_, _≤_, _<_, arith, ℤ}
 use Rattle.geometry.specs.declared.Shape.{Shape}
 use Rattle.geometry.specs.Shape.{Allowed}
 use Rattle.geometry.specs.Read.{Image, inside, read}

@@ -1,10 +1,6 @@
 -- A sum does not depend on the order of its terms.
-use mathlib.Core.Path.{_≡_, sym, _∙_, ap, ap₂}
-use mathlib.Core.Bool.{cond}
-use Prim.Native.Nat.{ℕ, zero, suc, _<_}
+use Rattle.algebra.specs.Prelude.{_≡_, sym, ap, ap₂, _∙_, cond, ℕ, zero, suc, _<_, arith, eqb}
 use native.Mathlib.Decide.{ℕ-discrete}
-use native.Mathlib.Omega.{arith}
-use lib.Dec.{eqb}
 use lib.IntN.{ℤ, pos, _+ℤ_, +ℤ-idl, +ℤ-idr}
 use borrow.Author.Tests.{eq-eqb, ne-eqb}
 use Rattle.algebra.specs.Sums.{sumZ, sumZ-cong, sumZ-0, sumZ-add}

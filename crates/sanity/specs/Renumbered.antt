@@ -1,8 +1,6 @@
 -- Try the other frames in another order, each with its vectors: the merged frame stays the same.
 use mathlib.Core.Path.{_≡_, _∙_, ap, ap₂, fun-ext}
-use Prim.Native.Nat.{ℕ, suc, _*_, _/_, _%_, _≤_, _<_}
-use native.Mathlib.Omega.{arith}
-use lib.IntN.{ℤ, pos, natAbs, _-ℤ_, _*ℤ_}
+use Rattle.algebra.specs.Prelude.{ℕ, suc, _*_, _/_, _%_, _≤_, _<_, arith, ℤ, pos, natAbs, _-ℤ_, _*ℤ_}
 use Rattle.algebra.specs.Sums.{sumZ-cong}
 use Rattle.algebra.specs.Clamp.{clampZ}
 use Rattle.algebra.specs.Nearest.{upward}

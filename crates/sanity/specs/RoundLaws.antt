@@ -1,9 +1,6 @@
 -- Rounding to nearest: what is whole stays, a sign passes through, and a common factor goes.
-use mathlib.Core.Path.{_≡_, refl, sym, _∙_, ap, ap₂}
-use mathlib.Core.List.{[], _∷_}
-use Prim.Native.Nat.{ℕ, zero, suc, _+_, _*_, _/_, _<_}
+use Rattle.algebra.specs.Prelude.{_≡_, refl, sym, ap, ap₂, _∙_, [], _∷_, ℕ, zero, suc, _+_, _*_, _/_, _<_, arith}
 use native.Mathlib.Nat.{mul-pos, div-eq-of-lt-le, mul-div-mul-right}
-use native.Mathlib.Omega.{arith}
 use lib.IntN.{ℤ, pos, negsuc, negℤ, _+ℤ_, _*ℤ_, negℤ-negℤ}
 use lib.Signed.{shrZ}
 use Rattle.algebra.specs.Laws.{neg-*ℤ}

@@ -1,9 +1,6 @@
 -- Try the frames of a burst in another order, the reference at another place among them: each other frame keeps its vectors and its sum of
 -- residuals, and the merged frame stays the same.
-use mathlib.Core.Path.{_≡_, sym, _∙_, ap}
-use mathlib.Core.List.{List}
-use Prim.Native.Nat.{ℕ, _-_, _/_, _≤_, _<_}
-use lib.IntN.{ℤ}
+use Rattle.algebra.specs.Prelude.{_≡_, sym, ap, _∙_, List, ℕ, _-_, _/_, _≤_, _<_, ℤ}
 use Rattle.geometry.specs.declared.Shape.{Shape}
 use Rattle.geometry.specs.Read.{sampleAt}
 use Rattle.geometry.specs.Vectors.{otherFrame, downAt, rightAt}

@@ -1,10 +1,6 @@
 -- Try a burst of one picture taken several times: every vector that alignment finds is 0, and so is every sum of residuals.
-use mathlib.Core.Path.{_≡_, _∙_, ap}
-use mathlib.Core.List.{List, _++_}
-use Prim.Native.Nat.{ℕ, _+_, _-_, _<_}
+use Rattle.algebra.specs.Prelude.{_≡_, ap, _∙_, List, _++_, ℕ, _+_, _-_, _<_, arith, pos}
 use native.Mathlib.Nat.{mul-zero}
-use native.Mathlib.Omega.{arith}
-use lib.IntN.{pos}
 use lib.ListN.{replicate, replicate-append-replicate}
 use Rattle.sequences.specs.Grid.{tab-ext}
 use Rattle.sequences.specs.Clear.{tab-const}

@@ -1,10 +1,6 @@
 -- Alignment of two images of which no tile gains by a move: no offset and no candidate takes the place of 0, at any level. Equal images are such.
-use mathlib.Core.Path.{_≡_, refl, _∙_, ap, ap₂}
-use mathlib.Core.Bool.{Bool, true, false}
-use mathlib.Core.List.{List}
-use Prim.Native.Nat.{ℕ, zero, suc, _-_, _*_, _/_, _%_, _≤_, _<_}
+use Rattle.algebra.specs.Prelude.{_≡_, refl, ap, ap₂, _∙_, Bool, true, false, List, ℕ, zero, suc, _-_, _*_, _/_, _%_, _≤_, _<_, arith}
 use native.Mathlib.Nat.{mul-comm}
-use native.Mathlib.Omega.{arith}
 use lib.IntN.{ℤ, pos, _+ℤ_, +ℤ-idr, zero-*ℤ}
 use Rattle.algebra.specs.Sums.{sumN, sumN-cong, sumN-const}
 use lib.ListN.{replicate}

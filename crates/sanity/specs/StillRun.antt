@@ -1,7 +1,5 @@
 -- Try a burst of one picture taken several times, aligned and then merged: the reference comes back, whatever the noise and the strength are.
-use mathlib.Core.Path.{_≡_, _∙_, ap}
-use mathlib.Core.List.{List}
-use Prim.Native.Nat.{ℕ}
+use Rattle.algebra.specs.Prelude.{_≡_, ap, _∙_, List, ℕ}
 use Rattle.geometry.specs.Shape.{vectorLength}
 use Rattle.alignment.specs.Aligned.{alignedVectors}
 use Rattle.merging.specs.declared.Merge.{Merge}

@@ -1,10 +1,6 @@
 -- Try strength 0: the merge hands back the reference, whatever the other frames, the vectors and the noise are.
-use mathlib.Core.Path.{_≡_, sym, _∙_, ap}
-use mathlib.Core.List.{List}
-use Prim.Native.Nat.{ℕ, _/_, _%_, _≤_}
+use Rattle.algebra.specs.Prelude.{_≡_, sym, ap, _∙_, List, ℕ, _/_, _%_, _≤_, lit<, ℤ, pos}
 use native.Mathlib.Nat.{zero-mul}
-use lib.Dec.{lit<}
-use lib.IntN.{ℤ, pos}
 use Rattle.geometry.specs.BoundLaws.{sample-most}
 use Rattle.geometry.specs.Tiles.{level0}
 use Rattle.noise.specs.NoiseNumber.{tileRoot, variance, noiseNumber}

@@ -1,8 +1,5 @@
 -- Clearing a buffer.
-use mathlib.Core.Path.{_≡_, refl, ap, _∙_}
-use mathlib.Core.List.{List, [], _∷_, _++_}
-use Prim.Native.Nat.{ℕ, zero, suc}
-use lib.IntN.{ℤ, pos}
+use Rattle.algebra.specs.Prelude.{_≡_, refl, ap, _∙_, List, [], _∷_, _++_, ℕ, zero, suc, ℤ, pos}
 use lib.ListN.{length, replicate}
 use Rattle.sequences.specs.Tab.{tab}
 

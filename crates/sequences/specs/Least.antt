@@ -1,11 +1,7 @@
 -- The first place among 0 .. n at which f is least, and the invariant of a loop that finds it.
-use mathlib.Core.Path.{_≡_, refl, ap, _∙_}
-use mathlib.Core.Bool.{Bool, true, false}
-use Prim.Native.Nat.{ℕ, zero, suc, _+_, _-_, _≤_, _<_}
-use native.Mathlib.Omega.{arith}
+use Rattle.algebra.specs.Prelude.{_≡_, refl, ap, _∙_, Bool, true, false, ℕ, zero, suc, _+_, _-_, _≤_, _<_, arith, ltb}
 use native.Mathlib.Nat.{le-trans}
 use borrow.Author.Count.{below-more}
-use lib.Dec.{ltb}
 use borrow.Author.Tests.{lt-ltb, le-ltb, ltb-true, ltb-false}
 
 abbrev pub pick : Bool → ℕ → ℕ → ℕ

@@ -1,9 +1,8 @@
 -- A loop that adds up natural numbers.
-use mathlib.Core.Path.{_≡_, refl, ap, _∙_}
+use Rattle.algebra.specs.Prelude.{_≡_, refl, ap, _∙_, arith}
 use Prim.Native.Nat.{ℕ, _+_, _*_, _≤_, _<_, zero-le}
 use native.Mathlib.Numerals.{add-one}
 use native.Mathlib.Nat.{suc-mul}
-use native.Mathlib.Omega.{arith}
 use Rattle.algebra.specs.Sums.{sumN}
 
 -- acc is the sum of the first i of n terms, each at most b: a loop's invariant

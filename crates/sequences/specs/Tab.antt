@@ -1,9 +1,7 @@
 -- The list f 0, .., f (n - 1), and a list that a loop turns into it from the front.
-use mathlib.Core.Path.{_≡_, refl, sym, ap, _∙_}
+use Rattle.algebra.specs.Prelude.{_≡_, refl, sym, ap, _∙_, ℕ, zero, suc, _+_, _≤_, _<_, arith}
 use mathlib.Core.List.{List, [], _∷_, _++_, append-nil}
-use Prim.Native.Nat.{ℕ, zero, suc, _+_, _≤_, _<_}
 use native.Mathlib.Numerals.{add-one}
-use native.Mathlib.Omega.{arith}
 use borrow.Author.Count.{below-more}
 use lib.ListN.{length, drop, getD, set, length-append, List·getD-append, length-set}
 use lib.Seq.{drop-cons, set-at, append-snoc, getD-at, drop-length}

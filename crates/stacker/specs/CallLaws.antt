@@ -1,8 +1,5 @@
 -- What a call owes where it has refused with the number k, and where it has accepted.
-use mathlib.Core.Path.{_≡_, refl, sym, ap, _∙_}
-use mathlib.Core.List.{List}
-use Prim.Native.Nat.{ℕ, zero, suc}
-use native.Mathlib.Omega.{arith}
+use Rattle.algebra.specs.Prelude.{_≡_, refl, sym, ap, _∙_, List, ℕ, zero, suc, arith}
 use Rattle.stacker.specs.declared.Alignment.{Alignment}
 use Rattle.stacker.specs.Buffers.{after, noSums}
 use Rattle.stacker.specs.Calls.{answered}

@@ -1,9 +1,5 @@
 -- What each call answers, and what it leaves in every lent buffer. Samples, and merge's vectors, are only read.
-use mathlib.Core.Path.{_≡_}
-use mathlib.Core.List.{List}
-use Prim.Native.Nat.{ℕ, _*_, _/_, _%_, _<_}
-use lib.IntN.{ℤ, pos}
-use lib.ListN.{getD}
+use Rattle.algebra.specs.Prelude.{_≡_, List, ℕ, _*_, _/_, _%_, _<_, getD, ℤ, pos}
 use Rattle.algebra.specs.Fraction.{whole, Within}
 use Rattle.sequences.specs.Clear.{zeros}
 use Rattle.geometry.specs.declared.Shape.{Shape}

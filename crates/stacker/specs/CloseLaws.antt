@@ -1,10 +1,5 @@
 -- Demand 3 at the calls: an output that is the merge is close to the exact merge.
-use mathlib.Core.Path.{_≡_, sym, ap, subst, _∙_}
-use mathlib.Core.List.{List}
-use Prim.Native.Nat.{ℕ, zero, suc, _/_, _%_, _≤_}
-use native.Mathlib.Omega.{arith}
-use lib.IntN.{ℤ, pos}
-use lib.ListN.{getD}
+use Rattle.algebra.specs.Prelude.{_≡_, sym, ap, subst, _∙_, List, ℕ, zero, suc, _/_, _%_, _≤_, arith, getD, ℤ, pos}
 use Rattle.algebra.specs.Fraction.{whole, Within}
 use Rattle.merging.specs.declared.Merge.{Merge}
 use Rattle.merging.specs.Recipe.{sceneOf, merged}

@@ -1,12 +1,5 @@
 -- Run never answers 12: the vectors that alignment finds keep within the bound of level 0, which is refusal 12's.
-use mathlib.Core.Path.{_≡_, refl}
-use mathlib.Core.Bool.{Bool, false}
-use mathlib.Core.List.{List}
-use Prim.Native.Nat.{ℕ, zero, suc, _≤_}
-use native.Mathlib.Omega.{arith}
-use lib.Dec.{ltb}
-use lib.IntN.{pos, natAbs}
-use lib.ListN.{length, getD}
+use Rattle.algebra.specs.Prelude.{_≡_, refl, Bool, false, List, ℕ, zero, suc, _≤_, arith, ltb, length, getD, pos, natAbs}
 use borrow.Author.Tests.{le-ltb}
 use Rattle.sequences.specs.Tab.{tab-every}
 use Rattle.geometry.specs.declared.Shape.{Shape}

@@ -1,9 +1,5 @@
 -- The tests of each call, "in the order of the numbers".
-use mathlib.Core.Path.{_≡_}
-use mathlib.Core.List.{List}
-use Prim.Native.Nat.{ℕ, _≤_}
-use lib.IntN.{ℤ}
-use lib.ListN.{length}
+use Rattle.algebra.specs.Prelude.{_≡_, List, ℕ, _≤_, length, ℤ}
 use Rattle.geometry.specs.declared.Shape.{Shape}
 use Rattle.geometry.specs.Refusal.{_before_}
 use Rattle.geometry.specs.Order.{alignShapeRefusal, mergeShapeRefusal, MergeFits}

@@ -1,9 +1,6 @@
 -- Numbers 0 and 8 of a line apart from the others.
-use mathlib.Core.Path.{_≡_, refl}
-use mathlib.Core.Bool.{Bool, true, false, cond}
-use Prim.Native.Nat.{ℕ, _%_, _≤_, _<_}
+use Rattle.algebra.specs.Prelude.{_≡_, refl, Bool, true, false, cond, ℕ, _%_, _≤_, _<_, eqb, ltb}
 use borrow.Author.Tests.{eq-eqb, ne-eqb, eqb-false, ltb-true, ltb-false}
-use lib.Dec.{eqb, ltb}
 use Rattle.transform.specs.Spectrum.{apart}
 
 -- what holds of either

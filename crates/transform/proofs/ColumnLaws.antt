@@ -1,14 +1,7 @@
 -- A tile of sixteen lines of sixteen numbers, and one whose columns are set one after the other.
-use mathlib.Core.Path.{_≡_, refl, ap, _∙_}
-use mathlib.Core.Bool.{cond}
-use mathlib.Core.List.{List, []}
-use Prim.Native.Nat.{ℕ, _+_, _≤_, _<_}
-use native.Mathlib.Omega.{arith}
+use Rattle.algebra.specs.Prelude.{_≡_, refl, ap, _∙_, cond, List, [], ℕ, _+_, _≤_, _<_, arith, eqb, length, getD, set, ℤ, pos}
 use borrow.Author.Count.{below-more}
 use borrow.Author.Tests.{eq-eqb, ne-eqb}
-use lib.Dec.{eqb}
-use lib.IntN.{ℤ, pos}
-use lib.ListN.{length, getD, set}
 use Rattle.sequences.specs.Tab.{tab, length-tab, getD-tab}
 use Rattle.sequences.specs.Grid.{grid, cell, cell-grid, grid-ext, grid-of, set-tab}
 use Rattle.lines.specs.Lines.{Square}

@@ -1,9 +1,6 @@
 -- P of a tile of differences, added to a tile t: the steps as the code hands them on are the recipe's; and t stays as it is where V is 0, or there are no
 -- differences.
-use mathlib.Core.Path.{_≡_, sym, ap, ap₂, _∙_}
-use mathlib.Core.List.{List}
-use Prim.Native.Nat.{ℕ, _<_, _^_}
-use lib.Dec.{lit<}
+use Rattle.algebra.specs.Prelude.{_≡_, sym, ap, ap₂, _∙_, List, ℕ, _^_, _<_, lit<}
 use lib.IntN.{ℤ, pos, _+ℤ_, +ℤ-idr}
 use Rattle.algebra.specs.Nearest.{away}
 use Rattle.sequences.specs.Grid.{grid, cell, cell-grid, grid-ext}

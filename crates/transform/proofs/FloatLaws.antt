@@ -1,14 +1,11 @@
 -- Floats that are whole numbers: a product and a sum are exact as far as the format counts without a gap, and a quotient is rounded once. Rounding keeps the
 -- order, so fractions are in the order of what they round to; and a fraction whose rounded value lies between g - 1/2 and g + 1/2 has g as its nearest whole
 -- number.
-use mathlib.Core.Path.{_≡_, refl, sym, ap, ap₂, _∙_, subst}
+use Rattle.algebra.specs.Prelude.{_≡_, refl, sym, ap, ap₂, subst, _∙_, ℕ, zero, suc, _+_, _-_, _*_, _/_, _^_, _≤_, _<_, arith, ℤ, pos, negsuc, natAbs, negℤ}
 use mathlib.Core.Bool.{Bool, true, false, not, _&&_, _||_, cond, Bool·beq}
-use Prim.Native.Nat.{ℕ, zero, suc, _+_, _-_, _*_, _/_, _^_, _≤_, _<_}
 use native.Mathlib.Nat.{lt-of-not-le, div-eq-of-lt-le, mul-pos}
-use native.Mathlib.Omega.{arith}
 use borrow.Author.Tests.{lt-ltb, le-ltb, ne-eqb}
 use lib.Dec.{T, ltb, eqb, ltb→lt, eqb→eq, lit<, not-T}
-use lib.IntN.{ℤ, pos, negsuc, negℤ, natAbs}
 use lib.Ieee.{Float, inf, fin, Format, binary32, binary64, prec, low, emax, up, down, unlike, odd, units, round, neg, sum, add, sub, mul, div, lt, le, ofInt, isNan}
 use lib.Ieee.Fits.{down-pos, round-is}
 use lib.Ieee.Bits.{cond-no}

@@ -1,8 +1,5 @@
 -- A loop that guesses each number of a line, and counts the guesses that are not sure.
-use mathlib.Core.Path.{_≡_, _∙_}
-use mathlib.Core.List.{List}
-use Prim.Native.Nat.{ℕ, _+_, _≤_, _<_}
-use native.Mathlib.Omega.{arith}
+use Rattle.algebra.specs.Prelude.{_≡_, _∙_, List, ℕ, _+_, _≤_, _<_, arith}
 use lib.ListN.{length, set, length-set}
 use Rattle.sequences.specs.Tab.{tab, Filled, fill-start, fill-turn, fill-done}
 

@@ -1,13 +1,8 @@
 -- The quads of a folded G: what the four places at u and 8 + u of lines v and 8 + v come to.
-use mathlib.Core.Path.{_≡_, refl, ap, ap₂, _∙_, subst}
-use mathlib.Core.Bool.{Bool, true, false, cond}
-use mathlib.Core.List.{List, [], _∷_}
+use Rattle.algebra.specs.Prelude.{_≡_, refl, ap, ap₂, subst, _∙_, Bool, true, false, cond, List, [], _∷_, arith, ltb, getD}
 use Prim.Native.Nat.{ℕ, zero, suc, _+_, _-_, _%_, _<_, _≤_, zero-le}
-use native.Mathlib.Omega.{arith}
 use borrow.Author.Tests.{lt-ltb, le-ltb}
-use lib.Dec.{ltb}
 use lib.IntN.{ℤ, pos, negℤ, natAbs, _+ℤ_, _-ℤ_, +ℤ-idr, +ℤ-idl, +ℤ-comm, negℤ-negℤ}
-use lib.ListN.{getD}
 use Rattle.sequences.specs.Tab.{tab}
 use Rattle.lines.specs.Lines.{LineMost}
 use Rattle.transform.specs.Magnitudes.{binMost}

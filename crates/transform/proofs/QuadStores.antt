@@ -1,14 +1,8 @@
 -- The folded G, stored quad by quad.
-use mathlib.Core.Path.{_≡_, refl, sym, ap, ap₂, _∙_, subst}
-use mathlib.Core.Bool.{Bool, true, false, cond}
-use mathlib.Core.List.{List, []}
+use Rattle.algebra.specs.Prelude.{_≡_, refl, sym, ap, ap₂, subst, _∙_, Bool, true, false, cond, List, [], arith, eqb, getD, set, ℤ, pos, natAbs}
 use Prim.Native.Nat.{ℕ, zero, suc, _+_, _*_, _/_, _%_, _<_, _≤_, zero-le}
-use native.Mathlib.Omega.{arith}
 use borrow.Author.Count.{below-more}
 use borrow.Author.Tests.{eqb-true, eqb-false}
-use lib.Dec.{eqb}
-use lib.IntN.{ℤ, pos, natAbs}
-use lib.ListN.{getD, set}
 use Rattle.sequences.specs.Grid.{grid, cell, cell-grid, grid-ext, stored, stored-here, stored-apart, set-grid}
 use Rattle.lines.specs.Lines.{LineMost, TileMost, Square}
 use Rattle.transform.specs.Magnitudes.{quadMost}

@@ -1,10 +1,6 @@
 -- The Wiener step in double precision: at a small V the quotient is rounded once, and a whole number that is sure is the one that the step asks for.
-use mathlib.Core.Path.{_≡_, refl, ap, _∙_, subst}
-use mathlib.Core.Bool.{Bool, true, false, not, cond}
-use Prim.Native.Nat.{ℕ, suc, _*_, _^_, _≤_, _<_}
+use Rattle.algebra.specs.Prelude.{_≡_, refl, ap, subst, _∙_, Bool, true, false, not, cond, ℕ, suc, _*_, _^_, _≤_, _<_, arith, T, lit≤}
 use native.Mathlib.Nat.{le-trans, mul-le-mul, add-le-add}
-use native.Mathlib.Omega.{arith}
-use lib.Dec.{T, lit≤}
 use lib.IntN.{ℤ, pos, negsuc, negℤ, natAbs, _*ℤ_, negℤ-negℤ, pos-*ℤ-negsuc}
 use lib.Ieee.{binary64, round, ofInt, mul, unlike, isNan, lt}
 use lib.Ieee.Fits.{and-l, and-r}

@@ -1,8 +1,5 @@
 -- How large the numbers of the folded G are.
-use Prim.Native.Nat.{ℕ, _-_, _*_, _≤_}
-use native.Mathlib.Omega.{arith}
-use lib.Dec.{ltb}
-use lib.IntN.{ℤ, natAbs}
+use Rattle.algebra.specs.Prelude.{ℕ, _-_, _*_, _≤_, arith, ltb, ℤ, natAbs}
 use Rattle.algebra.specs.Order.{abs-add, abs-sub}
 use Rattle.sequences.specs.Grid.{grid}
 use Rattle.transform.specs.Spectrum.{transposed, foldRe, foldIm, spread, gainRe, gainIm}

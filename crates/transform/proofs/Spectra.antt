@@ -1,12 +1,6 @@
 -- A spectrum in halfcomplex form looks at its sixteen by sixteen places only, on the way in and on the way back.
-use mathlib.Core.Path.{_≡_, refl, sym, ap, ap₂, _∙_, subst}
-use mathlib.Core.Bool.{Bool, true, false, cond}
-use mathlib.Core.List.{List}
-use Prim.Native.Nat.{ℕ, _+_, _-_, _%_, _<_, _≤_, _^_}
-use native.Mathlib.Omega.{arith}
+use Rattle.algebra.specs.Prelude.{_≡_, refl, sym, ap, ap₂, subst, _∙_, Bool, true, false, cond, List, ℕ, _+_, _-_, _%_, _^_, _≤_, _<_, arith, eqb, ltb, ℤ, pos, natAbs, negℤ, _+ℤ_, _-ℤ_}
 use borrow.Author.Tests.{eqb-false, ltb-true, ltb-false}
-use lib.Dec.{eqb, ltb}
-use lib.IntN.{ℤ, pos, negℤ, natAbs, _+ℤ_, _-ℤ_}
 use Rattle.algebra.specs.Nearest.{away}
 use Rattle.sequences.specs.Grid.{grid, cell, cell-grid}
 use Rattle.lines.specs.Halfcomplex.{halfcomplex, backward}

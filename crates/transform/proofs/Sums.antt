@@ -1,11 +1,6 @@
 -- The sums of a line against its basis: what they depend on, and how large they are.
-use mathlib.Core.Path.{_≡_, ap, ap₂, _∙_}
-use mathlib.Core.List.{List}
-use Prim.Native.Nat.{ℕ, _+_, _*_, _≤_, _<_, _^_}
+use Rattle.algebra.specs.Prelude.{_≡_, ap, ap₂, _∙_, List, ℕ, _+_, _*_, _^_, _≤_, _<_, arith, getD, ℤ, pos, natAbs, _+ℤ_, _*ℤ_}
 use native.Mathlib.Nat.{le-refl}
-use native.Mathlib.Omega.{arith}
-use lib.IntN.{ℤ, pos, natAbs, _+ℤ_, _*ℤ_}
-use lib.ListN.{getD}
 use Rattle.algebra.specs.Order.{abs-mul-le}
 use Rattle.algebra.specs.Nearest.{away}
 use Rattle.algebra.specs.Sums.{sumZ, sumZ-cong}

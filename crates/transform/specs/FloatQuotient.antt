@@ -1,6 +1,5 @@
 -- The Wiener step's quotient in double precision, and the test that a whole number is the one nearest to it.
-use mathlib.Core.Bool.{Bool, false, _&&_}
-use lib.IntN.{ℤ, negsuc}
+use Rattle.algebra.specs.Prelude.{Bool, false, _&&_, ℤ, negsuc}
 use lib.Ieee.{Float, fin, binary64, ofInt, add, sub, mul, div, lt}
 
 -- V·q/(q² + r² + V), from V as a float: each operation is rounded

@@ -1,9 +1,5 @@
 -- The inverse sums of complex lines are the sums back from their halfcomplex folds.
-use mathlib.Core.Path.{_≡_, sym, ap, ap₂, _∙_}
-use mathlib.Core.List.{[], _∷_}
-use Prim.Native.Nat.{ℕ, _+_, _-_, _*_, _<_}
-use native.Mathlib.Omega.{arith}
-use lib.Dec.{lit<}
+use Rattle.algebra.specs.Prelude.{_≡_, sym, ap, ap₂, _∙_, [], _∷_, ℕ, _+_, _*_, _<_, arith, lit<}
 use lib.IntN.{ℤ, pos, negℤ, _+ℤ_, _-ℤ_, _*ℤ_, +ℤ-comm}
 use Rattle.algebra.specs.Ring.{var, #_, _⊞_, _⊟_, _⊠_, ⊖_, ring}
 use Rattle.algebra.specs.Sums.{sumZ, sumZ-neg, sumZ-cong, sumZ-exchange}

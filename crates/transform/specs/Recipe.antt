@@ -1,6 +1,5 @@
 -- The merge recipe of document 01 on one tile of differences, over the side's tables and scales: B, Q, G and P, in exact whole numbers.
-use Prim.Native.Nat.{ℕ, zero, suc, _+_, _*_}
-use lib.IntN.{ℤ, pos, negℤ, natAbs, _+ℤ_, _-ℤ_, _*ℤ_}
+use Rattle.algebra.specs.Prelude.{ℕ, zero, suc, _+_, _*_, ℤ, pos, natAbs, negℤ, _+ℤ_, _-ℤ_, _*ℤ_}
 use Rattle.algebra.specs.Sums.{sumZ}
 use Rattle.algebra.specs.Nearest.{away}
 use Rattle.lines.specs.Side.{Side, cosAt, sinAt}

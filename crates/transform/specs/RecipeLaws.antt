@@ -1,8 +1,5 @@
 -- Laws of the recipe: |Q|² + V as a sum of squares, and the inverse sum by rows and then columns.
-use mathlib.Core.Path.{_≡_, _∙_, ap₂}
-use mathlib.Core.List.{[], _∷_}
-use Prim.Native.Nat.{ℕ, _*_}
-use lib.IntN.{ℤ, pos, _+ℤ_, _-ℤ_, _*ℤ_}
+use Rattle.algebra.specs.Prelude.{_≡_, ap₂, _∙_, [], _∷_, ℕ, _*_, ℤ, pos, _+ℤ_, _-ℤ_, _*ℤ_}
 use Rattle.algebra.specs.Order.{sq-abs}
 use Rattle.algebra.specs.Ring.{var, _⊞_, _⊟_, _⊠_, ring}
 use Rattle.algebra.specs.Sums.{sumZ, sumZ-cong, sumZ-scaler, sumZ-sub}

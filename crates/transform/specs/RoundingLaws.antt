@@ -1,10 +1,6 @@
 -- How large a rounded quotient is.
-use mathlib.Core.Path.{_≡_, refl}
-use Prim.Native.Nat.{ℕ, suc, _+_, _*_, _/_, _≤_, _<_}
+use Rattle.algebra.specs.Prelude.{_≡_, refl, ℕ, suc, _+_, _*_, _/_, _≤_, _<_, arith, lit<, ℤ, pos, negsuc, natAbs}
 use native.Mathlib.Nat.{le-trans, le-div-iff-mul-le, div-lt-iff-lt-mul, div-mul-le-self, mul-pos}
-use native.Mathlib.Omega.{arith}
-use lib.Dec.{lit<}
-use lib.IntN.{ℤ, pos, negsuc, natAbs}
 use Rattle.algebra.specs.Order.{abs-neg}
 use Rattle.algebra.specs.Nearest.{away}
 

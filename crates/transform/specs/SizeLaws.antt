@@ -1,9 +1,6 @@
 -- How large the numbers of the recipe are: B, Q, G and P.
-use mathlib.Core.Path.{sym, subst}
-use Prim.Native.Nat.{ℕ, _+_, _*_, _≤_, _^_}
+use Rattle.algebra.specs.Prelude.{sym, subst, ℕ, _+_, _*_, _^_, _≤_, lit≤, lit<, ℤ, natAbs, negℤ, _+ℤ_, _-ℤ_, _*ℤ_}
 use native.Mathlib.Nat.{le-refl, le-trans, add-comm, add-le-add, mul-add, mul-le-mul-left}
-use lib.Dec.{lit<, lit≤}
-use lib.IntN.{ℤ, negℤ, natAbs, _+ℤ_, _-ℤ_, _*ℤ_}
 use Rattle.algebra.specs.Order.{abs-add, abs-sub, abs-neg, abs-mul-le}
 use Rattle.algebra.specs.Sums.{sumZ, abs-sum-bound}
 use Rattle.lines.specs.Side.{cosAt, sinAt}

@@ -1,11 +1,5 @@
 -- The bins of a tile in lines of 128 slots, by their parts: slots 8·u + v and 64 + 8·u + v are the two bins of quad (v, u).
-use mathlib.Core.Path.{_≡_}
-use mathlib.Core.Bool.{cond}
-use mathlib.Core.List.{List}
-use Prim.Native.Nat.{ℕ, _+_, _*_, _/_, _%_, _<_}
-use lib.Dec.{eqb}
-use lib.IntN.{ℤ, pos}
-use lib.ListN.{length, getD}
+use Rattle.algebra.specs.Prelude.{_≡_, cond, List, ℕ, _+_, _*_, _/_, _%_, _<_, eqb, length, getD, ℤ, pos}
 use Rattle.lines.specs.Tables.{side16}
 use Rattle.transform.specs.Recipe.{quantized}
 use Rattle.transform.specs.Spectrum.{twoBins, foldedQuad}

@@ -1,12 +1,6 @@
 -- The bins of a tile of real differences in halfcomplex form both ways: line k holds place k of the rows' transforms, and along it stand the places of
 -- the columns'. And the way back: G folded to the same form, and the sums over it.
-use mathlib.Core.Path.{_≡_}
-use mathlib.Core.Bool.{cond}
-use mathlib.Core.List.{List, [], _∷_}
-use Prim.Native.Nat.{ℕ, zero, suc, _+_, _-_, _*_, _/_, _%_, _≤_, _<_}
-use lib.Dec.{eqb, ltb}
-use lib.IntN.{ℤ, pos, negℤ, natAbs, _+ℤ_, _-ℤ_, _*ℤ_}
-use lib.ListN.{getD}
+use Rattle.algebra.specs.Prelude.{_≡_, cond, List, [], _∷_, ℕ, zero, suc, _+_, _-_, _*_, _/_, _%_, _≤_, _<_, eqb, ltb, getD, ℤ, pos, natAbs, negℤ, _+ℤ_, _-ℤ_, _*ℤ_}
 use Rattle.sequences.specs.Grid.{cell}
 use Rattle.lines.specs.Halfcomplex.{halfcomplex, backward}
 use Rattle.lines.specs.Tables.{side16, opposite}

@@ -1,12 +1,8 @@
 -- Laws of the spectrum of real differences: its halfcomplex form holds the bins of document 01, the bins are mirror images, and so is what is filtered
 -- from them.
 use mathlib.Core.Path.{_≡_, refl, sym, ap, ap₂, _∙_, fun-ext}
-use mathlib.Core.Bool.{Bool, true, false, cond}
-use mathlib.Core.List.{List, [], _∷_}
-use Prim.Native.Nat.{ℕ, zero, suc, _+_, _-_, _*_, _%_, _^_, _<_}
-use native.Mathlib.Omega.{arith}
+use Rattle.algebra.specs.Prelude.{Bool, true, false, cond, List, [], _∷_, ℕ, zero, suc, _+_, _-_, _*_, _%_, _^_, _<_, arith, eqb, ltb, lit<}
 use borrow.Author.Tests.{lt-ltb}
-use lib.Dec.{eqb, ltb, lit<}
 use lib.IntN.{ℤ, pos, negℤ, natAbs, _+ℤ_, _-ℤ_, _*ℤ_, *ℤ-zero, zero-*ℤ}
 use Rattle.algebra.specs.Order.{abs-neg}
 use Rattle.algebra.specs.Nearest.{away, away-odd}

@@ -1,10 +1,7 @@
 -- The Wiener step where V is not 0, and that a part of G is no larger than that part of Q, nor than half the root of V.
-use mathlib.Core.Path.{_≡_, refl}
-use mathlib.Core.List.{[], _∷_}
+use Rattle.algebra.specs.Prelude.{_≡_, refl, [], _∷_, arith, ℤ, pos, natAbs, _*ℤ_}
 use Prim.Native.Nat.{ℕ, zero, suc, _+_, _*_, _≤_, _<_, zero-le}
 use native.Mathlib.Nat.{mul-le-mul-right}
-use native.Mathlib.Omega.{arith}
-use lib.IntN.{ℤ, pos, natAbs, _*ℤ_}
 use lib.Signed.{_≤ℤ_, _<ℤ_}
 use Rattle.algebra.specs.Order.{zarith, abs-mul, 0≤pos}
 use Rattle.algebra.specs.Vars.{vars4}

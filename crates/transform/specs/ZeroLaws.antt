@@ -1,8 +1,6 @@
 -- Where the recipe's numbers are 0: sums and roundings of 0, and the corrections at no noise or of no difference.
-use mathlib.Core.Path.{_≡_, refl, _∙_, ap, ap₂}
-use Prim.Native.Nat.{ℕ, zero, suc, _+_, _*_, _<_}
+use Rattle.algebra.specs.Prelude.{_≡_, refl, ap, ap₂, _∙_, ℕ, zero, suc, _+_, _*_, _<_, arith}
 use native.Mathlib.Nat.{div-eq-of-lt}
-use native.Mathlib.Omega.{arith}
 use lib.IntN.{ℤ, pos, negℤ, _+ℤ_, _-ℤ_, _*ℤ_, *ℤ-zero, zero-*ℤ}
 use Rattle.algebra.specs.Sums.{sumZ, sumZ-cong, sumZ-0}
 use Rattle.algebra.specs.Nearest.{away}

@@ -1,5 +1,5 @@
 -- `main` ends: each turn leaves one argument fewer.
-use Prim.Native.Nat.{ℕ, _<_, _-_, _^_}
+use Prim.Native.Nat.{_<_, _-_, _^_}
 use borrow.Author.Needs.{needs}
 use Rattle.file_cases.proofs.main.Statement.{statement}
 use Rattle.file_cases.proofs.main.Tie as tie
@@ -10,37 +10,7 @@ Inv-loop count index₀ index = count < 2 ^ 64
 abbrev μ-loop : tie.MeasureT-loop
 μ-loop count index₀ index = count - index
 
-arg-count-requires : tie.Need-arg-count-requires Inv-loop μ-loop
-arg-count-requires c κs = search needs
-
-loop-holds : tie.Need-loop-holds Inv-loop μ-loop
-loop-holds c = search needs
-
-try-argument-requires : tie.Need-try-argument-requires Inv-loop μ-loop
-try-argument-requires c κs = search needs
-
-add-index : tie.Need-add-index Inv-loop μ-loop
-add-index c = search needs
-
-loop-less : tie.Need-loop-less Inv-loop μ-loop
-loop-less c = search needs
-
-loop-again : tie.Need-loop-again Inv-loop μ-loop
-loop-again c = search needs
-
-returns : tie.Need-returns Inv-loop μ-loop
-returns c = search needs
-
 pub main-spec : {M : Type 1} → statement M
-main-spec =
-    tie.close
-    (tie.spec
-    Inv-loop
-    μ-loop
-    arg-count-requires
-    loop-holds
-    try-argument-requires
-    add-index
-    loop-less
-    loop-again
-    returns)
+main-spec = tie.close (tie.spec
+    Inv-loop μ-loop (λ c κs. search needs) (λ c. search needs) (λ c κs. search needs)
+    (λ c. search needs) (λ c. search needs) (λ c. search needs) (λ c. search needs))

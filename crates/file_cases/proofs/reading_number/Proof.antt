@@ -20,14 +20,8 @@ number-read : {file samples : List ℕ} {answer : FileAnswer} {after : List ℕ}
 number-read {file} {samples} done =
     ap (λ (answer : FileAnswer). answer .refusal) (done .answered) ∙ number-answered (readingInto (length samples) file)
 
-slice-aggregate-read-file : tie.Need-slice-aggregate-read-file
-slice-aggregate-read-file c = search needs
-
-read-file-requires : tie.Need-read-file-requires
-read-file-requires c κs = search needs
-
 returns : tie.Need-returns
 returns c = number-read (c .before .read-file .ensures)
 
 pub reading-number-spec : {M : Type 1} → statement M
-reading-number-spec = tie.close (tie.spec slice-aggregate-read-file read-file-requires returns)
+reading-number-spec = tie.close (tie.spec (λ c. search needs) (λ c κs. search needs) returns)

@@ -1,7 +1,5 @@
 -- The four planes, one after the other.
-use native.Mathlib.Omega.{arith}
-use lib.Dec.{lit<}
-use borrow.Author.Needs.{needs}
+use Rattle.algebra.specs.Prelude.{arith, needs, lit<}
 use Rattle.geometry.specs.Shape.{outputLength}
 use Rattle.merging.specs.Recipe.{sceneOf}
 use Rattle.merging.proofs.Places.{rows-fit}
@@ -35,12 +33,6 @@ merge-plane-requires-4 c κs =
     let s = p .before .before .before .before .before in
     (s .pre .0, record { row-parity = lit< tt; column-parity = lit< tt }, omega (arith, p .merge-plane .kept, q .merge-plane2 .kept, r .merge-plane3 .kept, s .pre .1), omega (arith, p .merge-plane .kept, q .merge-plane2 .kept, r .merge-plane3 .kept, rows-fit (s .pre .0 .burst .allowed), s .pre .2))
 
-same-length : tie.Need-same-length
-same-length c = search needs
-
-same-length-2 : tie.Need-same-length-2
-same-length-2 c = search needs
-
 returns : tie.Need-returns
 unfolding outputLength sceneOf
 returns c =
@@ -53,13 +45,6 @@ returns c =
     all-merged (ok .wide) (ok .high) (s .pre .1) (p .merge-plane .ensures) (q .merge-plane2 .ensures) (r .merge-plane3 .ensures) (t .merge-plane4 .ensures)
 
 pub merge-frames-spec : {M : Type 1} → statement M
-merge-frames-spec =
-    tie.close
-    (tie.spec
-    merge-plane-requires
-    merge-plane-requires-2
-    merge-plane-requires-3
-    merge-plane-requires-4
-    same-length
-    same-length-2
-    returns)
+merge-frames-spec = tie.close (tie.spec
+    merge-plane-requires merge-plane-requires-2 merge-plane-requires-3 merge-plane-requires-4
+    (λ c. search needs) (λ c. search needs) returns)

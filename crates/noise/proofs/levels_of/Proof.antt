@@ -1,7 +1,5 @@
 -- Each answer, from the tests passed on the way to it; the floors' arguments are in range by `accepted-within`.
-use mathlib.Core.Path.{sym, ap, subst, _∙_}
-use lib.Dec.{T, lit≤}
-use borrow.Author.Needs.{needs}
+use Rattle.algebra.specs.Prelude.{sym, ap, subst, _∙_, needs, T, lit≤}
 use Rattle.noise.specs.declared.Curve.{Curve}
 use Rattle.noise.specs.Level.{within}
 use Rattle.noise.specs.Levels.{aboveLimits, levelsOf}
@@ -9,18 +7,9 @@ use Rattle.noise.specs.LevelLaws.{accepted-within, within-more}
 use Rattle.noise.proofs.levels_of.Statement.{statement}
 use Rattle.noise.proofs.levels_of.Tie as tie
 
-invalid-noise-requires : tie.Need-invalid-noise-requires
-invalid-noise-requires c κs = search needs
-
 returns : tie.Need-returns
 unfolding levelsOf
 returns c = rw (sym (c .before .invalid-noise .ensures) ∙ c .if1 .taken)
-
-curve-of-requires : tie.Need-curve-of-requires
-curve-of-requires c κs = search needs
-
-above-limits-requires : tie.Need-above-limits-requires
-above-limits-requires c κs = search needs
 
 returns-2 : tie.Need-returns-2
 unfolding levelsOf
@@ -38,9 +27,6 @@ accepted c =
 floor-1024-requires : tie.Need-floor-1024-requires
 floor-1024-requires c κs = within-more 64 4096 (c .before .before .curve-of .result .shot) (lit≤ tt) (accepted c .0)
 
-floor-1024-requires-2 : tie.Need-floor-1024-requires-2
-floor-1024-requires-2 c κs = accepted (c .before) .1
-
 returns-3 : tie.Need-returns-3
 unfolding levelsOf
 returns-3 c =
@@ -55,14 +41,6 @@ returns-3 c =
     )
 
 pub levels-of-spec : {M : Type 1} → statement M
-levels-of-spec =
-    tie.close
-    (tie.spec
-    invalid-noise-requires
-    returns
-    curve-of-requires
-    above-limits-requires
-    returns-2
-    floor-1024-requires
-    floor-1024-requires-2
-    returns-3)
+levels-of-spec = tie.close (tie.spec
+    (λ c κs. search needs) returns (λ c κs. search needs) (λ c κs. search needs) returns-2
+    floor-1024-requires (λ c κs. accepted (c .before) .1) returns-3)

@@ -1,11 +1,6 @@
 -- Each product is at most that of the bounds.
-use mathlib.Core.Path.{refl}
-use Prim.Native.Nat.{ℕ, _+_, _*_, _≤_}
+use Rattle.algebra.specs.Prelude.{refl, ℕ, _+_, _*_, _≤_, arith, needs, lit≤, w64}
 use native.Mathlib.Nat.{le-trans, mul-le-mul}
-use native.Mathlib.Omega.{arith}
-use borrow.Author.Needs.{needs}
-use lib.Dec.{lit≤}
-use mir.Syntax.{w64}
 use mir.Val.{Fits}
 use Rattle.noise.specs.NoiseNumber.{variance, noiseNumber}
 use Rattle.noise.specs.NoiseNumberLaws.{noise-number-mono}
@@ -18,15 +13,6 @@ product c = mul-le-mul (c .pre .shot) (c .pre .root)
 times : {t x : ℕ} → t ≤ 1024 → x ≤ 65536 * 1048560 + 16 * 4194304 → Fits w64 (t * x)
 times h k = omega (arith, mul-le-mul h k)
 
-mul-result : tie.Need-mul-result
-mul-result c = omega (arith, product c)
-
-mul-result-2 : tie.Need-mul-result-2
-mul-result-2 c = search needs
-
-add-result : tie.Need-add-result
-add-result c = omega (arith, product c)
-
 mul-result-3 : tie.Need-mul-result-3
 mul-result-3 c = times (c .pre .strength) (omega (arith, product c))
 
@@ -35,4 +21,6 @@ unfolding noiseNumber variance
 returns c = (refl, le-trans (noise-number-mono (c .pre .strength) (c .pre .shot) (c .pre .read) (c .pre .root)) (lit≤ tt))
 
 pub noise-number-spec : {M : Type 1} → statement M
-noise-number-spec = tie.close (tie.spec mul-result mul-result-2 add-result mul-result-3 returns)
+noise-number-spec = tie.close (tie.spec
+    (λ c. omega (arith, product c)) (λ c. search needs) (λ c. omega (arith, product c)) mul-result-3
+    returns)

@@ -1,12 +1,5 @@
 -- The tile of a frame's plane: the frame's part lies in the burst, and its view is the burst's plane.
-use mathlib.Core.Path.{_≡_, ap}
-use mathlib.Core.List.{List}
-use Prim.Native.Nat.{ℕ, _+_, _-_, _*_, _/_, _≤_}
-use native.Mathlib.Omega.{arith}
-use lib.ListN.{length, take, drop}
-use denote.Ref.{now}
-use mir.Facts.{toZ-ofZ}
-use borrow.Author.Needs.{needs}
+use Rattle.algebra.specs.Prelude.{_≡_, ap, List, ℕ, _+_, _-_, _*_, _/_, _≤_, arith, needs, length, take, drop, toZ-ofZ, now}
 use Rattle.geometry.specs.declared.Shape.{Shape}
 use Rattle.geometry.specs.Shape.{sampleLength}
 use Rattle.geometry.specs.ShapeLaws.{area-most, samples-most}
@@ -69,15 +62,6 @@ add-end c = omega (arith, room (c .before .before), small (c .before .before))
 mul-tile-of : tie.Need-mul-tile-of
 mul-tile-of c = omega (arith, room (c .before .before), small (c .before .before))
 
-sub-tile-of : tie.Need-sub-tile-of
-sub-tile-of c = search needs
-
-part-tile-of-start : tie.Need-part-tile-of-start
-part-tile-of-start c = search needs
-
-part-tile-of-end : tie.Need-part-tile-of-end
-part-tile-of-end c = room (c .before .before)
-
 tile-of-requires : tie.Need-tile-of-requires
 tile-of-requires c κs =
     let b = c .before .before .before .before .before in
@@ -95,15 +79,6 @@ returns c =
     (part-tile (s b) (all b) frame (planar b) (wide b) (high b) 16 (b .args .y) (b .args .x))
 
 pub frame-tile-spec : {M : Type 1} → statement M
-frame-tile-spec =
-    tie.close
-    (tie.spec
-    mul-area
-    mul-start
-    add-end
-    mul-tile-of
-    sub-tile-of
-    part-tile-of-start
-    part-tile-of-end
-    tile-of-requires
-    returns)
+frame-tile-spec = tie.close (tie.spec
+    mul-area mul-start add-end mul-tile-of (λ c. search needs) (λ c. search needs)
+    (λ c. room (c .before .before)) tile-of-requires returns)

@@ -1,12 +1,9 @@
 -- The view's sample is what `sample_at` finds: `Reading`'s walk, for one number.
 use mir.Syntax.{tyInt, w16}
 use contract.Running.{givenOf, tables, tablesOf}
-use lib.IntN.{ℤ}
-use lib.ListN.{length}
-use Prim.Native.Nat.{ℕ}
+use Rattle.algebra.specs.Prelude.{ℕ, length, ℤ, now}
 use denote.Builtin.{u16}
 use denote.Plain.{uint-lawful}
-use denote.Ref.{now}
 use denote.Triple.Spec.{tripleOf}
 use denote.Triple.Table.{entered, cited}
 use Rattle.plane_view.specs.View.{planeSample, Shaped}

@@ -1,12 +1,5 @@
 -- A tile: filled row by row from the front.
-use mathlib.Core.Path.{_≡_, refl}
-use Prim.Native.Nat.{_-_}
-use native.Mathlib.Omega.{arith}
-use lib.IntN.{pos, _+ℤ_}
-use mir.Syntax.{w64}
-use mir.Val.{toZ, ofZ}
-use mir.Facts.{toZ-ofZ}
-use borrow.Author.Needs.{needs}
+use Rattle.algebra.specs.Prelude.{_≡_, refl, _-_, arith, needs, pos, _+ℤ_, w64, toZ, ofZ, toZ-ofZ}
 use Rattle.sequences.specs.Tab.{Filled, fill-start, fill-turn, fill-done}
 use Rattle.sequences.specs.Grid.{grid}
 use Rattle.plane_view.specs.View.{tileOf, planeSample, planeRow, planeTile}
@@ -20,27 +13,6 @@ Inv-loop y x samples width height row-parity column-parity tile₀ i₀ tile i =
 abbrev μ-loop : tie.MeasureT-loop
 μ-loop y x samples width height row-parity column-parity tile₀ i₀ tile i = 16 - i
 
-loop-holds : tie.Need-loop-holds Inv-loop μ-loop
-loop-holds c = fill-start refl
-
-along-requires : tie.Need-along-requires Inv-loop μ-loop
-along-requires c κs = search needs
-
-tile-row-requires : tie.Need-tile-row-requires Inv-loop μ-loop
-tile-row-requires c κs = search needs
-
-mul-tile : tie.Need-mul-tile Inv-loop μ-loop
-mul-tile c = search needs
-
-array-set-from-tile : tie.Need-array-set-from-tile Inv-loop μ-loop
-array-set-from-tile c = search needs
-
-add-i : tie.Need-add-i Inv-loop μ-loop
-add-i c = search needs
-
-loop-less : tie.Need-loop-less Inv-loop μ-loop
-loop-less c = search needs
-
 loop-again : tie.Need-loop-again Inv-loop μ-loop
 loop-again c =
     let row : toZ w64 (ofZ w64 (c .before .along .result)) ≡ c .before .along .result = search needs in
@@ -53,17 +25,7 @@ returns c =
     rw (← toZ-ofZ (s .fits .y), ← toZ-ofZ (s .fits .x)) (fill-done (c .before .loop .inv) (omega arith))
 
 pub tile-at-spec : {M : Type 1} → statement M
-tile-at-spec =
-    tie.close
-    (tie.spec
-    Inv-loop
-    μ-loop
-    loop-holds
-    along-requires
-    tile-row-requires
-    mul-tile
-    array-set-from-tile
-    add-i
-    loop-less
-    loop-again
+tile-at-spec = tie.close (tie.spec
+    Inv-loop μ-loop (λ c. fill-start refl) (λ c κs. search needs) (λ c κs. search needs)
+    (λ c. search needs) (λ c. search needs) (λ c. search needs) (λ c. search needs) loop-again
     returns)

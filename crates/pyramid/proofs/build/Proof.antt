@@ -1,8 +1,7 @@
 -- Level 0 is laid and then halved down.
 use Rattle.geometry.specs.Tiles.{levelSize}
 use Rattle.pyramid.proofs.Building.{squares-fit, begun, begun-room, begun-halvings, built}
-use native.Mathlib.Omega.{arith}
-use borrow.Author.Needs.{needs}
+use Rattle.algebra.specs.Prelude.{arith, needs}
 use Rattle.pyramid.proofs.build.Statement.{statement}
 use Rattle.pyramid.proofs.build.Tie as tie
 
@@ -16,9 +15,6 @@ halve-down-requires c κs =
     let s = first .before .before .before in
     begun-room (begun (s .pre .0) (s .pre .1) (first .lay-squares .ensures))
 
-same-length : tie.Need-same-length
-same-length c = search needs
-
 returns : tie.Need-returns
 unfolding levelSize
 returns c =
@@ -27,4 +23,5 @@ returns c =
     built (begun-halvings (begun (s .pre .0) (s .pre .1) (first .lay-squares .ensures)) (c .before .halve-down .ensures))
 
 pub build-spec : {M : Type 1} → statement M
-build-spec = tie.close (tie.spec lay-squares-requires halve-down-requires same-length returns)
+build-spec = tie.close (tie.spec
+    lay-squares-requires halve-down-requires (λ c. search needs) returns)

@@ -1,14 +1,11 @@
 -- The loop sums the words of the images before number k.
-use mathlib.Core.Path.{ap₂, _≡_, refl, ap, _∙_}
+use Rattle.algebra.specs.Prelude.{_≡_, refl, ap, ap₂, _∙_, ℕ, _+_, _-_, _*_, _/_, _≤_, _<_, arith, needs}
 use native.Mathlib.Nat.{mul-le-mul}
 use native.Mathlib.Numerals.{add-one}
 use Rattle.pyramid.specs.Chain.{halves, wordsBefore}
 use Rattle.pyramid.specs.ChainLaws.{words-rise, words-third}
 use Rattle.pyramid.specs.Layout.{offset}
 use Rattle.geometry.specs.Tiles.{levelSize}
-use borrow.Author.Needs.{needs}
-use native.Mathlib.Omega.{arith}
-use Prim.Native.Nat.{ℕ, _+_, _-_, _*_, _/_, _≤_, _<_}
 use Rattle.pyramid.proofs.offset.Statement.{statement}
 use Rattle.pyramid.proofs.offset.Tie as tie
 
@@ -46,23 +43,8 @@ Inv-loop k height₀ width₀ sum₀ counter₀ height width sum counter = Summi
 abbrev μ-loop : tie.MeasureT-loop
 μ-loop k height₀ width₀ sum₀ counter₀ height width sum counter = k - counter
 
-loop-holds : tie.Need-loop-holds Inv-loop μ-loop
-loop-holds c = sum-start
-
 bound : (c : tie.In-loop Inv-loop μ-loop) → let s = c .before .loop in s .sum + s .height * s .width ≤ 5592405
 bound c = sum-most (sum-turn (c .before .loop .inv) (omega arith)) (omega arith) (omega arith) (omega arith)
-
-mul-sum : tie.Need-mul-sum Inv-loop μ-loop
-mul-sum c = omega (arith, bound c)
-
-add-sum : tie.Need-add-sum Inv-loop μ-loop
-add-sum c = omega (arith, bound c)
-
-add-counter : tie.Need-add-counter Inv-loop μ-loop
-add-counter c = search needs
-
-loop-less : tie.Need-loop-less Inv-loop μ-loop
-loop-less c = search needs
 
 loop-again : tie.Need-loop-again Inv-loop μ-loop
 loop-again c = sum-turn (c .before .loop .inv) (omega arith)
@@ -75,6 +57,6 @@ returns c =
     (s .inv .is ∙ ap (wordsBefore _ _) all, sum-most (s .inv) (omega arith) (omega arith) (omega arith))
 
 pub offset-spec : {M : Type 1} → statement M
-offset-spec =
-    tie.close
-    (tie.spec Inv-loop μ-loop loop-holds mul-sum add-sum add-counter loop-less loop-again returns)
+offset-spec = tie.close (tie.spec
+    Inv-loop μ-loop (λ c. sum-start) (λ c. omega (arith, bound c)) (λ c. omega (arith, bound c))
+    (λ c. search needs) (λ c. search needs) loop-again returns)

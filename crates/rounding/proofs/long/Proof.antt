@@ -1,7 +1,5 @@
 -- `rounding::long`: nothing is left of a divisor below 2^60.
-use mathlib.Core.Path.{_≡_, ap, _∙_}
-use Prim.Native.Nat.{ℕ, _/_, _<_, _^_}
-use native.Mathlib.Omega.{arith}
+use Rattle.algebra.specs.Prelude.{_≡_, ap, _∙_, ℕ, _/_, _^_, _<_, arith}
 use lib.Bits.{bitXor, xor-zero-r}
 use Rattle.rounding.proofs.long.Statement.{statement}
 use Rattle.rounding.proofs.long.Tie as tie

@@ -1,8 +1,5 @@
 -- `rounding::magnitude`: a number below zero is negated, and no number here is so low that its negation does not fit.
-use mathlib.Core.Path.{ap}
-use lib.IntN.{natAbs, negℤ}
-use mir.Syntax.{w64}
-use mir.Facts.{toZ-ofZ}
+use Rattle.algebra.specs.Prelude.{ap, natAbs, negℤ, w64, toZ-ofZ}
 use Rattle.algebra.specs.Order.{abs-neg}
 use Rattle.algebra.specs.Bound.{zero-minus, below-zero, from-zero, abs-fits}
 use Rattle.rounding.proofs.Sign.{minus-fits}
@@ -29,8 +26,6 @@ cast-result-2 c =
     let k = toZ-ofZ (c .before .fits .z) in
     rw k (from-zero (c .before .args .z) (rw k at (c .if1 .left)), abs-fits w64 w64 (c .before .args .z) tt (c .before .fits .z))
 
-returns-2 : tie.Need-returns-2
-returns-2 c = ap natAbs (toZ-ofZ (c .before .fits .z))
-
 pub magnitude-spec : {M : Type 1} → statement M
-magnitude-spec = tie.close (tie.spec sub-result cast-result returns cast-result-2 returns-2)
+magnitude-spec = tie.close (tie.spec
+    sub-result cast-result returns cast-result-2 (λ c. ap natAbs (toZ-ofZ (c .before .fits .z))))

@@ -1,17 +1,10 @@
 -- `rounding::negated`: zero less a number of 63 bits.
-use mathlib.Core.Path.{_∙_}
-use borrow.Author.Needs.{needs}
-use lib.IntN.{pos}
-use mir.Syntax.{w64}
-use mir.Facts.{toZ-ofZ}
+use Rattle.algebra.specs.Prelude.{_∙_, needs, pos, w64, toZ-ofZ}
 use mir.ValLaws.{toZ-pos}
 use Rattle.algebra.specs.Bound.{zero-minus}
 use Rattle.rounding.proofs.Sign.{minus-fits}
 use Rattle.rounding.proofs.negated.Statement.{statement}
 use Rattle.rounding.proofs.negated.Tie as tie
-
-cast-result : tie.Need-cast-result
-cast-result c = search needs
 
 sub-result : tie.Need-sub-result
 sub-result c = rw (toZ-pos w64 (c .args .a) (c .pre)) (minus-fits (pos (c .args .a)) (c .pre))
@@ -22,4 +15,4 @@ returns c =
     rw (toZ-pos w64 a (c .pre)) (toZ-ofZ (minus-fits (pos a) (c .pre)) ∙ zero-minus (pos a))
 
 pub negated-spec : {M : Type 1} → statement M
-negated-spec = tie.close (tie.spec cast-result sub-result returns)
+negated-spec = tie.close (tie.spec (λ c. search needs) sub-result returns)

@@ -1,15 +1,8 @@
 -- `rounding::round_away`: the absolute value rounded, with the sign put back.
-use mathlib.Core.Path.{_≡_, _∙_}
-use borrow.Author.Needs.{needs}
-use mir.Syntax.{w64}
-use mir.Val.{toZ, ofZ}
-use mir.Facts.{toZ-ofZ}
+use Rattle.algebra.specs.Prelude.{_≡_, _∙_, needs, w64, toZ, ofZ, toZ-ofZ}
 use Rattle.rounding.proofs.Sign.{half-fits, away-below, away-from}
 use Rattle.rounding.proofs.round_away.Statement.{statement}
 use Rattle.rounding.proofs.round_away.Tie as tie
-
-magnitude-requires : tie.Need-magnitude-requires
-magnitude-requires c κs = rw (toZ-ofZ (c .fits .z)) (c .pre .2)
 
 halves-up-requires : tie.Need-halves-up-requires
 halves-up-requires c κs =
@@ -45,5 +38,6 @@ returns-2 c =
     ∙ away-from (s .args .m) _ (s .fits .z) (b .before .magnitude .ensures) (c .before .if1 .left) (b .halves-up .ensures .0)
 
 pub round-away-spec : {M : Type 1} → statement M
-round-away-spec =
-    tie.close (tie.spec magnitude-requires halves-up-requires negated-requires returns signed-requires returns-2)
+round-away-spec = tie.close (tie.spec
+    (λ c κs. rw (toZ-ofZ (c .fits .z)) (c .pre .2)) halves-up-requires negated-requires returns
+    signed-requires returns-2)

@@ -1,11 +1,5 @@
 -- `rounding::round_away_32`: each step fits, and the shift is the floor of `Shifts`.
-use mathlib.Core.Path.{_∙_}
-use mathlib.Core.List.{List, [], _∷_}
-use Prim.Native.Nat.{ℕ, _-_, _^_}
-use native.Mathlib.Omega.{arith}
-use lib.Dec.{lit<}
-use lib.IntN.{ℤ, pos}
-use mir.Syntax.{w64}
+use Rattle.algebra.specs.Prelude.{_∙_, List, [], _∷_, ℕ, _-_, _^_, arith, lit<, ℤ, pos, w64}
 use Rattle.algebra.specs.Ring.{nth}
 use Rattle.algebra.specs.Code.{Code, par, lit, add, shr, Bounded, fits, val-den}
 use Rattle.rounding.proofs.Shifts.{away-shift}

@@ -12,15 +12,6 @@ use Rattle.station.proofs.Answers.{refused, too-strong, too-bright, num
 use Rattle.station.proofs.station_noise.Statement.{statement}
 use Rattle.station.proofs.station_noise.Tie as tie
 
-levels-of-requires : tie.Need-levels-of-requires
-levels-of-requires c κs = search needs
-
-enum-told : tie.Need-enum-told
-enum-told c = search needs
-
-enum-known-ls : tie.Need-enum-known-ls
-enum-known-ls c = search needs
-
 -- the levels that the match bound are the curve's
 bound : (c : tie.After-ls) → let a = c .before .before .before .args in
     levelsOf (Measured (record { shot = a .shot; read = a .read })) ≡ Found (c .ls .given .0 .0) (c .ls .given .0 .1 .0)
@@ -30,9 +21,6 @@ asked : (c : tie.After-ls) → let a = c .before .before .before .args in
     answered (Found (c .ls .given .0 .0) (c .ls .given .0 .1 .0)) (a .strength) (a .root) ≡ noiseQuestion (a .shot) (a .read) (a .strength) (a .root)
 unfolding noiseQuestion
 asked c = let a = c .before .before .before .args in ap (λ l. answered l (a .strength) (a .root)) (sym (bound c))
-
-strength-refusal-requires : tie.Need-strength-refusal-requires
-strength-refusal-requires c κs = search needs
 
 passed : (c : tie.Else1) → strengthRefusal (c .before .before .before .before .before .before .args .strength) ≡ 0
 passed c = sym (c .before .strength-refusal .ensures) ∙ c .if1 .left
@@ -71,15 +59,6 @@ returns-4 c =
     c .noise-number .ensures .0 ∙ numbered _ _ _ _ (passed (c .before .before)) (c .before .if2 .left) ∙ asked told
 
 pub station-noise-spec : {M : Type 1} → statement M
-station-noise-spec =
-    tie.close
-    (tie.spec
-    levels-of-requires
-    enum-told
-    enum-known-ls
-    strength-refusal-requires
-    returns
-    returns-2
-    noise-number-requires
-    returns-3
-    returns-4)
+station-noise-spec = tie.close (tie.spec
+    (λ c κs. search needs) (λ c. search needs) (λ c. search needs) (λ c κs. search needs) returns
+    returns-2 noise-number-requires returns-3 returns-4)

@@ -1,15 +1,10 @@
 -- `transform::add_correction`: the transform, the Wiener step and the inverse one after the other; nothing where V is 0 or the tile has no differences.
-use mathlib.Core.Path.{refl, sym, _∙_, subst}
-use borrow.Author.Needs.{needs}
-use native.Mathlib.Omega.{arith}
-use lib.IntN.{pos}
-use denote.Ref.{now}
-use Rattle.sequences.specs.Tab.{tab}
-use Rattle.sequences.specs.Grid.{grid, cell}
+use Rattle.algebra.specs.Prelude.{sym, subst, _∙_, arith, needs, pos, now}
+use Rattle.sequences.specs.Grid.{cell}
 use Rattle.lines.specs.Magnitudes.{narrowMost}
 use Rattle.lines.specs.Lines.{TileMost}
 use Rattle.transform.proofs.Sizes.{folded-small}
-use Rattle.transform.proofs.ColumnLaws.{square-grid, square-lines}
+use Rattle.transform.proofs.ColumnLaws.{square-lines}
 use Rattle.transform.proofs.Corrections.{correction-is, no-noise-is, no-difference-is}
 use Rattle.transform.proofs.add_correction.Statement.{statement}
 use Rattle.transform.proofs.add_correction.Tie as tie
@@ -18,9 +13,6 @@ returns : tie.Need-returns
 returns c =
     let s = c .before in
     no-noise-is (s .args .noise) (cell (pos 0) (s .args .t1)) (s .pre .3) (c .if1 .taken)
-
-empty-tile-requires : tie.Need-empty-tile-requires
-empty-tile-requires c κs = search needs
 
 returns-2 : tie.Need-returns-2
 returns-2 c =
@@ -51,13 +43,6 @@ returns-3 c =
     ∙ correction-is (s .args .noise) (cell (pos 0) (s .args .t1)) _ (b .forward .ensures .0) (g .wiener .ensures .0) (now (s .args .sum))
 
 pub add-correction-spec : {M : Type 1} → statement M
-add-correction-spec =
-    tie.close
-    (tie.spec
-    returns
-    empty-tile-requires
-    returns-2
-    forward-requires
-    wiener-requires
-    add-inverse-requires
+add-correction-spec = tie.close (tie.spec
+    returns (λ c κs. search needs) returns-2 forward-requires wiener-requires add-inverse-requires
     returns-3)

@@ -1,7 +1,5 @@
 -- `transform::add_inverse`: the sums back along the columns, and then along the rows, give P; in 32 bits where the noise is small.
-use mathlib.Core.Path.{refl, _∙_}
-use lib.IntN.{pos}
-use denote.Ref.{now}
+use Rattle.algebra.specs.Prelude.{refl, _∙_, pos, now}
 use Rattle.sequences.specs.Tab.{tab}
 use Rattle.sequences.specs.Grid.{grid, cell}
 use Rattle.transform.specs.Spectrum.{transposed}
@@ -43,12 +41,5 @@ returns-2 c =
     c .add-back2 .ensures ∙ wide-back-is (transposed (cell (pos 0) (s .args .t1))) (now (s .args .sum)) (a .columns-back .ensures)
 
 pub add-inverse-spec : {M : Type 1} → statement M
-add-inverse-spec =
-    tie.close
-    (tie.spec
-    back-requires
-    add-back-requires
-    returns
-    columns-back-requires
-    add-back-requires-2
-    returns-2)
+add-inverse-spec = tie.close (tie.spec
+    back-requires add-back-requires returns columns-back-requires add-back-requires-2 returns-2)

@@ -1,7 +1,5 @@
 -- `transform::forward`: the columns, and then the rows along them, give B.
-use mathlib.Core.Path.{refl}
-use lib.IntN.{pos}
-use denote.Ref.{now}
+use Rattle.algebra.specs.Prelude.{refl, pos}
 use Rattle.sequences.specs.Tab.{tab}
 use Rattle.sequences.specs.Grid.{grid, cell}
 use Rattle.lines.proofs.Tiles.{cells-most}

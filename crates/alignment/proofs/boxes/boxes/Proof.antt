@@ -2,10 +2,7 @@
 use Rattle.sequences.specs.Write.{Writing, write-start, write-done, written-all}
 use Rattle.alignment.specs.Local.{boxOf, tallSums}
 use Rattle.alignment.specs.BoxLaws.{sums-most, boxes-turn}
-use borrow.Author.Needs.{needs}
-use native.Mathlib.Omega.{arith}
-use mathlib.Core.Path.{_≡_, refl, _∙_}
-use Prim.Native.Nat.{_-_, _*_, _≤_}
+use Rattle.algebra.specs.Prelude.{_≡_, refl, _∙_, _-_, _*_, _≤_, arith, needs}
 use Rattle.alignment.proofs.boxes.boxes.Statement.{statement}
 use Rattle.alignment.proofs.boxes.boxes.Tie as tie
 
@@ -15,9 +12,6 @@ Inv-loop window boxes₀ sums₀ y₀ boxes sums y = (Writing boxes₀ 0 (boxOf 
 abbrev μ-loop : tie.MeasureT-loop
 μ-loop window boxes₀ sums₀ y₀ boxes sums y = 8 - y
 
-first-columns-requires : tie.Need-first-columns-requires Inv-loop μ-loop
-first-columns-requires c κs = search needs
-
 loop-holds : tie.Need-loop-holds Inv-loop μ-loop
 loop-holds c = (write-start (omega arith), c .first-columns .ensures, omega arith)
 
@@ -26,12 +20,6 @@ box-row-requires c κs = let l = c .before .before .before .loop in (sums-most (
 
 slide-down-requires : tie.Need-slide-down-requires Inv-loop μ-loop
 slide-down-requires c κs = let l = c .before .before .before .before .before .loop in (c .before .before .before .before .before .before .before .before .pre, omega arith, l .inv .1)
-
-add-y : tie.Need-add-y Inv-loop μ-loop
-add-y c = search needs
-
-loop-less : tie.Need-loop-less Inv-loop μ-loop
-loop-less c = search needs
 
 loop-again : tie.Need-loop-again Inv-loop μ-loop
 loop-again c = let d = c .before .before in let l = d .before .before .before .before .loop in
@@ -49,17 +37,6 @@ returns c = let l = c .before .before .before .before .loop in
     ∙ written-all 0 _ _ 81 refl
 
 pub boxes-spec : {M : Type 1} → statement M
-boxes-spec =
-    tie.close
-    (tie.spec
-    Inv-loop
-    μ-loop
-    first-columns-requires
-    loop-holds
-    box-row-requires
-    slide-down-requires
-    add-y
-    loop-less
-    loop-again
-    box-row-requires-2
-    returns)
+boxes-spec = tie.close (tie.spec
+    Inv-loop μ-loop (λ c κs. search needs) loop-holds box-row-requires slide-down-requires
+    (λ c. search needs) (λ c. search needs) loop-again box-row-requires-2 returns)

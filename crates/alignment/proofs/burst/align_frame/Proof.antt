@@ -1,15 +1,10 @@
 -- The frame's pyramid is laid behind the reference's, and the levels' pairs of images are then those of the two frames.
-use mathlib.Core.Path.{_≡_, sym, subst, _∙_}
-use native.Mathlib.Omega.{arith}
-use borrow.Author.Needs.{needs}
+use Rattle.algebra.specs.Prelude.{subst, arith, needs}
 use Rattle.geometry.specs.Read.{sampleAt}
 use Rattle.pyramid.specs.Layout.{pyramidLength, Built}
 use Rattle.alignment.specs.BurstLaws.{two-pyramids, both-standing, one-aligned}
 use Rattle.alignment.proofs.burst.align_frame.Statement.{statement}
 use Rattle.alignment.proofs.burst.align_frame.Tie as tie
-
-offset-requires : tie.Need-offset-requires
-offset-requires c κs = search needs
 
 build-requires : tie.Need-build-requires
 build-requires c κs =
@@ -31,24 +26,12 @@ align-levels-requires c κs =
     let same = b .same in
     (start .pre .0 .sampled .allowed, both-standing (start .pre .0 .sampled .allowed) (start .pre .1) b, omega (arith, start .pre .2), start .pre .3)
 
-same-length : tie.Need-same-length
-same-length c = search needs
-
-same-length-2 : tie.Need-same-length-2
-same-length-2 c = search needs
-
 returns : tie.Need-returns
 returns c =
     let start = c .before .before .before .before .before .before .before .before .before .before in
     one-aligned (start .pre .0 .sampled .allowed) (start .pre .1) (built (c .before .before .before .before .before .before)) (c .before .before .align-levels .ensures)
 
 pub align-frame-spec : {M : Type 1} → statement M
-align-frame-spec =
-    tie.close
-    (tie.spec
-    offset-requires
-    build-requires
-    align-levels-requires
-    same-length
-    same-length-2
-    returns)
+align-frame-spec = tie.close (tie.spec
+    (λ c κs. search needs) build-requires align-levels-requires (λ c. search needs)
+    (λ c. search needs) returns)

@@ -1,8 +1,5 @@
 -- The reference's pyramid stays at the start of the work area while each other frame's vectors and sum are found: `Aligning` is the loop's invariant.
-use mathlib.Core.Path.{_≡_, refl, sym, ap, subst, _∙_}
-use Prim.Native.Nat.{ℕ, _+_, _-_, _*_, _/_, _≤_, _<_}
-use native.Mathlib.Omega.{arith}
-use borrow.Author.Needs.{needs}
+use Rattle.algebra.specs.Prelude.{refl, ap, _∙_, _-_, _*_, _≤_, arith, needs}
 use Rattle.alignment.specs.BurstLaws.{Aligning, aligning-start, aligning-turn, aligning-done, two-pyramids, frame-of, work-room, parts-are, parts-most, place-most, place-room}
 use Rattle.alignment.proofs.burst.align_frames.Statement.{statement}
 use Rattle.alignment.proofs.burst.align_frames.Tie as tie
@@ -18,12 +15,6 @@ build-requires c κs =
     let start = c .before .before in
     (frame-of (start .pre) _ (start .pre .fits .burst .reference-below), omega (arith, two-pyramids (start .args .shape) (work-room (start .pre))))
 
-add-parts : tie.Need-add-parts Inv-loop μ-loop
-add-parts c = search needs
-
-add-parts-2 : tie.Need-add-parts-2 Inv-loop μ-loop
-add-parts-2 c = search needs
-
 mul-parts : tie.Need-mul-parts Inv-loop μ-loop
 mul-parts c =
     omega (arith, parts-most (c .before .before .before .before .before .before .pre .fits .burst .allowed))
@@ -32,16 +23,10 @@ mul-parts-2 : tie.Need-mul-parts-2 Inv-loop μ-loop
 mul-parts-2 c =
     omega (arith, parts-most (c .before .before .before .before .before .before .pre .fits .burst .allowed))
 
-sub-k-end : tie.Need-sub-k-end Inv-loop μ-loop
-sub-k-end c = search needs
-
 loop-holds : tie.Need-loop-holds Inv-loop μ-loop
 loop-holds c =
     let burst = c .before .before .before .before .before .before .before .pre .fits .burst in
     (aligning-start (burst .allowed) (burst .vectors-long) refl (c .before .before .before .before .build .ensures .levels), omega arith)
-
-other-frame-requires : tie.Need-other-frame-requires Inv-loop μ-loop
-other-frame-requires c κs = search needs
 
 mul-align-frame : tie.Need-mul-align-frame Inv-loop μ-loop
 mul-align-frame c =
@@ -59,20 +44,11 @@ align-frame-requires c κs =
     let long = inv .writing .same in
     (frame-of (start .pre) _ (omega (arith, c .before .before .other-frame .ensures .1)), inv .levels, omega (arith, work-room (start .pre), loop .before .before .before .before .before .build .ensures .same), omega (arith, burst .vectors-long, place-room (loop .loop .k) (burst .allowed) (omega arith)))
 
-mul-sums : tie.Need-mul-sums Inv-loop μ-loop
-mul-sums c = search needs
-
 array-write-sums : tie.Need-array-write-sums Inv-loop μ-loop
 array-write-sums c =
     let loop = c .before .before .before .before .before .before .before in
     let seven = loop .loop .inv .0 .filled .same in
     omega (arith, loop .before .before .before .before .before .before .before .before .pre .fits .burst .allowed .few)
-
-add-k : tie.Need-add-k Inv-loop μ-loop
-add-k c = search needs
-
-loop-less : tie.Need-loop-less Inv-loop μ-loop
-loop-less c = search needs
 
 loop-again : tie.Need-loop-again Inv-loop μ-loop
 loop-again c =
@@ -80,14 +56,6 @@ loop-again c =
     let ok = loop .before .before .before .before .before .before .before .before .pre .fits .burst .allowed in
     let few = ok .few in
     (aligning-turn (loop .loop .inv .0) (omega arith) (omega arith) (c .before .before .before .before .before .other-frame .ensures .0) (ap (λ n. loop .loop .k * n) (parts-are ok)) (c .before .before .align-frame .ensures), omega arith)
-
-same-length : tie.Need-same-length Inv-loop μ-loop
-same-length c =
-    search needs
-
-same-length-2 : tie.Need-same-length-2 Inv-loop μ-loop
-same-length-2 c =
-    search needs
 
 returns : tie.Need-returns Inv-loop μ-loop
 returns c =
@@ -97,26 +65,8 @@ returns c =
     record { found = done .found; sums-are = done .sums-are; same = done .same ∙ loop .before .before .before .before .before .build .ensures .same }
 
 pub align-frames-spec : {M : Type 1} → statement M
-align-frames-spec =
-    tie.close
-    (tie.spec
-    Inv-loop
-    μ-loop
-    build-requires
-    add-parts
-    add-parts-2
-    mul-parts
-    mul-parts-2
-    sub-k-end
-    loop-holds
-    other-frame-requires
-    mul-align-frame
-    align-frame-requires
-    mul-sums
-    array-write-sums
-    add-k
-    loop-less
-    loop-again
-    same-length
-    same-length-2
-    returns)
+align-frames-spec = tie.close (tie.spec
+    Inv-loop μ-loop build-requires (λ c. search needs) (λ c. search needs) mul-parts mul-parts-2
+    (λ c. search needs) loop-holds (λ c κs. search needs) mul-align-frame align-frame-requires
+    (λ c. search needs) array-write-sums (λ c. search needs) (λ c. search needs) loop-again
+    (λ c. search needs) (λ c. search needs) returns)

@@ -3,10 +3,7 @@ use native.Mathlib.Nat.{add-assoc}
 use Rattle.sequences.specs.Write.{Writing, write-start, write-part, write-done}
 use Rattle.pyramid.specs.Words.{wordAt}
 use Rattle.alignment.specs.WordLaws.{row-part}
-use borrow.Author.Needs.{needs}
-use native.Mathlib.Omega.{arith}
-use mathlib.Core.Path.{_≡_, ap}
-use Prim.Native.Nat.{_+_, _-_, _*_}
+use Rattle.algebra.specs.Prelude.{_≡_, ap, _+_, _-_, _*_, arith, needs}
 use Rattle.alignment.proofs.copy.copy_inside.Statement.{statement}
 use Rattle.alignment.proofs.copy.copy_inside.Tie as tie
 
@@ -16,29 +13,8 @@ Inv-loop words from n out₀ to k₀ k-end out k = Writing out₀ to (λ j. word
 abbrev μ-loop : tie.MeasureT-loop
 μ-loop words from n out₀ to k₀ k-end out k = k-end - k
 
-loop-holds : tie.Need-loop-holds Inv-loop μ-loop
-loop-holds c = write-start (search needs)
-
-mul-copy-eight : tie.Need-mul-copy-eight Inv-loop μ-loop
-mul-copy-eight c = search needs
-
-add-copy-eight : tie.Need-add-copy-eight Inv-loop μ-loop
-add-copy-eight c = search needs
-
-mul-copy-eight-2 : tie.Need-mul-copy-eight-2 Inv-loop μ-loop
-mul-copy-eight-2 c = search needs
-
-add-copy-eight-2 : tie.Need-add-copy-eight-2 Inv-loop μ-loop
-add-copy-eight-2 c = search needs
-
 copy-eight-requires : tie.Need-copy-eight-requires Inv-loop μ-loop
 copy-eight-requires c κs = (row-part (c .before .before .before .before .pre .0) _ _ (omega arith), omega arith)
-
-add-k : tie.Need-add-k Inv-loop μ-loop
-add-k c = search needs
-
-loop-less : tie.Need-loop-less Inv-loop μ-loop
-loop-less c = search needs
 
 loop-again : tie.Need-loop-again Inv-loop μ-loop
 loop-again c = let a = c .before .before .before .before .before .before .before .args in
@@ -46,26 +22,11 @@ loop-again c = let a = c .before .before .before .before .before .before .before
     let e : 8 * (l .k + 1) ≡ 8 * l .k + 8 = omega arith in
     rw e (write-part (l .inv) (omega arith) (λ j h. ap (wordAt (a .words .now)) (add-assoc (a .from) (8 * l .k) j)) (c .before .before .copy-eight .ensures))
 
-same-length : tie.Need-same-length Inv-loop μ-loop
-same-length c = search needs
-
 returns : tie.Need-returns Inv-loop μ-loop
 returns c = write-done (c .before .loop .inv) (omega arith)
 
 pub copy-inside-spec : {M : Type 1} → statement M
-copy-inside-spec =
-    tie.close
-    (tie.spec
-    Inv-loop
-    μ-loop
-    loop-holds
-    mul-copy-eight
-    add-copy-eight
-    mul-copy-eight-2
-    add-copy-eight-2
-    copy-eight-requires
-    add-k
-    loop-less
-    loop-again
-    same-length
-    returns)
+copy-inside-spec = tie.close (tie.spec
+    Inv-loop μ-loop (λ c. write-start (search needs)) (λ c. search needs) (λ c. search needs)
+    (λ c. search needs) (λ c. search needs) copy-eight-requires (λ c. search needs)
+    (λ c. search needs) loop-again (λ c. search needs) returns)

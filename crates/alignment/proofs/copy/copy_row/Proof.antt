@@ -1,18 +1,10 @@
 -- Either all samples lie in the row and are copied at once, or each is read by the rule.
 use Rattle.pyramid.specs.Words.{wordAt}
 use Rattle.alignment.specs.WordLaws.{row-part, written-ext}
-use mathlib.Core.Bool.{true}
-use lib.IntN.{ℤ, pos, negsuc, natAbs, _+ℤ_}
+use Rattle.algebra.specs.Prelude.{_≡_, sym, ap, subst, _∙_, true, ℕ, _+_, _≤_, _<_, arith, needs, T, ℤ, pos, negsuc, natAbs, _+ℤ_, w64, toZ, ofZ}
 use lib.Signed.{leZ, nonNeg}
-use lib.Dec.{T}
-use mir.Syntax.{w64}
-use mir.Val.{toZ, ofZ}
 use mir.Facts.{toZ-ofZ, fits-natAbs}
 use Rattle.geometry.specs.Read.{inside}
-use native.Mathlib.Omega.{arith}
-use mathlib.Core.Path.{_≡_, sym, ap, _∙_, subst}
-use Prim.Native.Nat.{ℕ, _+_, _≤_, _<_}
-use borrow.Author.Needs.{needs}
 use Rattle.alignment.proofs.copy.copy_row.Statement.{statement}
 use Rattle.alignment.proofs.copy.copy_row.Tie as tie
 
@@ -32,14 +24,8 @@ cast-x c = rw (toZ-ofZ (c .before .before .fits .column)) (not-negative (c .befo
 add-if2 : tie.Need-add-if2
 add-if2 c = rw (toZ-ofZ (c .before .before .fits .column)) (omega (arith, c .before .before .pre .3 .most))
 
-add-copy-inside : tie.Need-add-copy-inside
-add-copy-inside c = search needs
-
 copy-inside-requires : tie.Need-copy-inside-requires
 copy-inside-requires c κs = (row-part (c .before .before .before .before .pre .0) _ _ (omega arith), omega arith, omega arith)
-
-same-length : tie.Need-same-length
-same-length c = search needs
 
 returns : tie.Need-returns
 returns c = let s = c .before .before .before .before .before .before .before in
@@ -47,25 +33,10 @@ returns c = let s = c .before .before .before .before .before .before .before in
     ∙ written-ext (s .args .out .now) (s .args .to) (s .args .n) _ _
     (λ j h. ap (wordAt (s .args .words .now)) (all-inside (s .args .start) (s .args .width) (s .args .n) j (toZ w64 (ofZ w64 (s .args .column))) (s .args .column) (toZ-ofZ (s .fits .column)) (not-negative (toZ w64 (ofZ w64 (s .args .column))) (c .before .before .before .before .before .if1 .taken)) (c .before .before .before .before .if2 .taken) h))
 
-copy-edge-requires : tie.Need-copy-edge-requires
-copy-edge-requires c κs = search needs
-
-same-length-2 : tie.Need-same-length-2
-same-length-2 c = search needs
-
 returns-2 : tie.Need-returns-2
 returns-2 c = simp (toZ-ofZ (c .before .before .before .before .before .before .fits .column)) at (c .before .before .copy-edge .ensures)
 
 pub copy-row-spec : {M : Type 1} → statement M
-copy-row-spec =
-    tie.close
-    (tie.spec
-    cast-x
-    add-if2
-    add-copy-inside
-    copy-inside-requires
-    same-length
-    returns
-    copy-edge-requires
-    same-length-2
-    returns-2)
+copy-row-spec = tie.close (tie.spec
+    cast-x add-if2 (λ c. search needs) copy-inside-requires (λ c. search needs) returns
+    (λ c κs. search needs) (λ c. search needs) returns-2)

@@ -1,5 +1,5 @@
 -- Each turn copies one row more; the rows before it stay.
-use lib.IntN.{pos, _+ℤ_}
+use Rattle.algebra.specs.Prelude.{_≡_, refl, ap, ap₂, _∙_, _+_, _-_, _*_, _^_, _≤_, arith, needs, length, pos, _+ℤ_}
 use Rattle.geometry.specs.Read.{inside, read}
 use Rattle.alignment.specs.SignedLaws.{back, back-small}
 use Rattle.alignment.specs.PlaceLaws.{row-below}
@@ -7,11 +7,6 @@ use Rattle.pyramid.specs.Words.{wordAt, imageAt}
 use Rattle.pyramid.specs.WordsLaws.{row-held}
 use Rattle.alignment.specs.Local.{Copied}
 use Rattle.alignment.specs.LocalLaws.{copied-turn}
-use borrow.Author.Needs.{needs}
-use native.Mathlib.Omega.{arith}
-use mathlib.Core.Path.{_≡_, refl, ap, ap₂, _∙_}
-use Prim.Native.Nat.{_+_, _-_, _*_, _≤_, _^_}
-use lib.ListN.{length}
 use Rattle.alignment.proofs.copy.copy_square.Statement.{statement}
 use Rattle.alignment.proofs.copy.copy_square.Tie as tie
 
@@ -28,9 +23,6 @@ shifted-requires : tie.Need-shifted-requires Inv-loop μ-loop
 shifted-requires c κs = let s = c .before .before .before .before in
     let w = s .pre .1 in
     rw (back-small (s .args .corner .down) (2 ^ 20) (w .vertical) tt) (record { most = omega (arith, w .vertical) }, omega arith)
-
-inside-requires : tie.Need-inside-requires Inv-loop μ-loop
-inside-requires c κs = search needs
 
 place : (c : tie.After-inside Inv-loop μ-loop) → let a = c .before .before .before .before .before .before .args in c .inside .result * a .width + a .width ≤ a .height * a .width
 place c = row-below (c .before .before .before .before .before .before .args .width) (c .inside .ensures .1)
@@ -49,12 +41,6 @@ copy-row-requires c κs = let s = c .before .before .before .before .before .bef
     let w = s .pre .1 in
     (row-held _ (s .pre .0 .holds) (c .before .before .inside .ensures .1), s .pre .0 .wide, s .pre .0 .wide-small, rw (back-small (s .args .corner .right) (2 ^ 20) (w .sideways) tt) (record { most = omega (arith, w .sideways) }), s .pre .2, s .pre .3, omega (arith, row-below (s .args .n) (c .before .before .before .before .before .loop-test .taken)))
 
-add-i : tie.Need-add-i Inv-loop μ-loop
-add-i c = search needs
-
-loop-less : tie.Need-loop-less Inv-loop μ-loop
-loop-less c = search needs
-
 loop-again : tie.Need-loop-again Inv-loop μ-loop
 unfolding read imageAt
 loop-again c = let s = c .before .before .before .before .before .before .before .before .before .before .before in
@@ -72,27 +58,11 @@ loop-again c = let s = c .before .before .before .before .before .before .before
           (back-small (a .corner .right) (2 ^ 20) (s .pre .1 .sideways) tt))),
     )
 
-same-length : tie.Need-same-length Inv-loop μ-loop
-same-length c = search needs
-
 returns : tie.Need-returns Inv-loop μ-loop
 returns c = let e : c .before .loop .i ≡ c .before .before .before .args .n = omega arith in rw e at (c .before .loop .inv .2)
 
 pub copy-square-spec : {M : Type 1} → statement M
-copy-square-spec =
-    tie.close
-    (tie.spec
-    Inv-loop
-    μ-loop
-    loop-holds
-    shifted-requires
-    inside-requires
-    mul-copy-row
-    add-copy-row
-    mul-copy-row-2
-    copy-row-requires
-    add-i
-    loop-less
-    loop-again
-    same-length
-    returns)
+copy-square-spec = tie.close (tie.spec
+    Inv-loop μ-loop loop-holds shifted-requires (λ c κs. search needs) mul-copy-row add-copy-row
+    mul-copy-row-2 copy-row-requires (λ c. search needs) (λ c. search needs) loop-again
+    (λ c. search needs) returns)

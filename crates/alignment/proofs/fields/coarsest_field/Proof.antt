@@ -7,11 +7,7 @@ use Rattle.alignment.specs.Fields.{coarsest}
 use Rattle.alignment.specs.FieldLaws.{Placing, place-start, place-turn, place-done}
 use Rattle.alignment.specs.Stored.{pairIn}
 use Rattle.alignment.specs.StoredLaws.{kept-stored, kept-pair}
-use borrow.Author.Needs.{needs}
-use native.Mathlib.Omega.{arith}
-use mathlib.Core.Path.{ap, _∙_}
-use Prim.Native.Nat.{_-_, _*_, _/_, _%_}
-use lib.Dec.{lit≤}
+use Rattle.algebra.specs.Prelude.{ap, _∙_, _-_, _*_, _/_, _%_, arith, needs, lit≤}
 use Rattle.alignment.proofs.fields.coarsest_field.Statement.{statement}
 use Rattle.alignment.proofs.fields.coarsest_field.Tie as tie
 
@@ -20,18 +16,6 @@ Inv-loop work₀ area to rows columns k₀ k-end work k = Placing work₀ to col
 
 abbrev μ-loop : tie.MeasureT-loop
 μ-loop work₀ area to rows columns k₀ k-end work k = rows * columns - k
-
-mul-k-end : tie.Need-mul-k-end Inv-loop μ-loop
-mul-k-end c = search needs
-
-loop-holds : tie.Need-loop-holds Inv-loop μ-loop
-loop-holds c = place-start (c .pre .3)
-
-div-coarsest-tile : tie.Need-div-coarsest-tile Inv-loop μ-loop
-div-coarsest-tile c = search needs
-
-rem-coarsest-tile : tie.Need-rem-coarsest-tile Inv-loop μ-loop
-rem-coarsest-tile c = search needs
 
 -- what the turn finds in the work area as it is
 kept : (c : tie.In-loop Inv-loop μ-loop) → Kept (c .before .before .args .work .now) (c .before .before .args .to) (c .before .loop .work)
@@ -42,20 +26,8 @@ coarsest-tile-requires c κs = let s = c .before .before .before in
     let g = s .pre .2 in
     (kept-stored (kept (c .before)) (s .args .area) (s .pre .0) (s .pre .1), omega (arith, div-below (c .before .before .loop .k) (s .args .rows) (s .args .columns) (g .some-columns) (c .before .loop-test .taken)), omega (arith, rem-below (c .before .before .loop .k) (s .args .columns) (g .some-columns)))
 
-mul-put : tie.Need-mul-put Inv-loop μ-loop
-mul-put c = search needs
-
-add-put : tie.Need-add-put Inv-loop μ-loop
-add-put c = search needs
-
 put-requires : tie.Need-put-requires Inv-loop μ-loop
 put-requires c κs = (omega arith, within-more 340 (c .before .before .coarsest-tile .ensures .1) (lit≤ tt))
-
-add-k : tie.Need-add-k Inv-loop μ-loop
-add-k c = search needs
-
-loop-less : tie.Need-loop-less Inv-loop μ-loop
-loop-less c = search needs
 
 loop-again : tie.Need-loop-again Inv-loop μ-loop
 loop-again c = let t = c .before .before .before .before in
@@ -65,28 +37,11 @@ loop-again c = let t = c .before .before .before .before in
     let e = ap (λ r. r .vector) (t .coarsest-tile .ensures .0) ∙ ap (λ p. coarsest level3 p (k / a .columns) (k % a .columns)) (kept-pair (kept i) (a .area) (i .before .before .pre .0) (i .before .before .pre .1)) in
     rw (c .before .put .ensures) (place-turn (i .before .loop .inv) (i .loop-test .taken) (ap (λ v. v .down) e) (ap (λ v. v .right) e))
 
-same-length : tie.Need-same-length Inv-loop μ-loop
-same-length c = search needs
-
 returns : tie.Need-returns Inv-loop μ-loop
 returns c = place-done (c .before .loop .inv) (c .loop-test .left)
 
 pub coarsest-field-spec : {M : Type 1} → statement M
-coarsest-field-spec =
-    tie.close
-    (tie.spec
-    Inv-loop
-    μ-loop
-    mul-k-end
-    loop-holds
-    div-coarsest-tile
-    rem-coarsest-tile
-    coarsest-tile-requires
-    mul-put
-    add-put
-    put-requires
-    add-k
-    loop-less
-    loop-again
-    same-length
-    returns)
+coarsest-field-spec = tie.close (tie.spec
+    Inv-loop μ-loop (λ c. search needs) (λ c. place-start (c .pre .3)) (λ c. search needs)
+    (λ c. search needs) coarsest-tile-requires (λ c. search needs) (λ c. search needs) put-requires
+    (λ c. search needs) (λ c. search needs) loop-again (λ c. search needs) returns)

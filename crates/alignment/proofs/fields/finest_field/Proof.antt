@@ -8,10 +8,7 @@ use Rattle.alignment.specs.Fields.{tileAt, numbered, residuals}
 use Rattle.alignment.specs.FieldLaws.{Placing, place-start, place-turn, place-done}
 use Rattle.alignment.specs.Stored.{pairIn, Few}
 use Rattle.alignment.specs.Grids.{finestIn}
-use borrow.Author.Needs.{needs}
-use native.Mathlib.Omega.{arith}
-use mathlib.Core.Path.{ap}
-use Prim.Native.Nat.{ℕ, _-_, _*_, _/_, _%_, _≤_}
+use Rattle.algebra.specs.Prelude.{ap, ℕ, _-_, _*_, _/_, _%_, _≤_, arith, needs}
 use Rattle.alignment.proofs.fields.finest_field.Statement.{statement}
 use Rattle.alignment.proofs.fields.finest_field.Tie as tie
 
@@ -27,37 +24,16 @@ few rows columns g = mul-le-mul (g .few-rows) (g .few-columns)
 mul-k-end : tie.Need-mul-k-end Inv-loop μ-loop
 mul-k-end c = omega (arith, few (c .args .rows) (c .args .columns) (c .pre .2))
 
-loop-holds : tie.Need-loop-holds Inv-loop μ-loop
-loop-holds c = (place-start (c .pre .3), sum-start)
-
-div-finer-tile : tie.Need-div-finer-tile Inv-loop μ-loop
-div-finer-tile c = search needs
-
-rem-finer-tile : tie.Need-rem-finer-tile Inv-loop μ-loop
-rem-finer-tile c = search needs
-
 finer-tile-requires : tie.Need-finer-tile-requires Inv-loop μ-loop
 finer-tile-requires c κs = let s = c .before .before in
     let g = s .pre .2 in
     (s .pre .0, s .pre .1, omega arith, omega (arith, div-below (c .before .loop .k) (s .args .rows) (s .args .columns) (g .some-columns) (c .loop-test .taken)), omega (arith, rem-below (c .before .loop .k) (s .args .columns) (g .some-columns)))
-
-mul-hand-over : tie.Need-mul-hand-over Inv-loop μ-loop
-mul-hand-over c = search needs
-
-add-hand-over : tie.Need-add-hand-over Inv-loop μ-loop
-add-hand-over c = search needs
 
 hand-over-requires : tie.Need-hand-over-requires Inv-loop μ-loop
 hand-over-requires c κs = (omega arith, c .before .before .finer-tile .ensures .1)
 
 add-sum : tie.Need-add-sum Inv-loop μ-loop
 add-sum c = let s = c .before .before .before .before .before .before .before .before in omega (arith, few (s .args .rows) (s .args .columns) (s .pre .2))
-
-add-k : tie.Need-add-k Inv-loop μ-loop
-add-k c = search needs
-
-loop-less : tie.Need-loop-less Inv-loop μ-loop
-loop-less c = search needs
 
 loop-again : tie.Need-loop-again Inv-loop μ-loop
 unfolding finestIn
@@ -68,9 +44,6 @@ loop-again c = let t = c .before .before .before .before .before in
       rw (c .before .before .hand-over .ensures) (place-turn (i .before .loop .inv .0) (i .loop-test .taken) (ap (λ v. v .down) v) (ap (λ v. v .right) v)),
       sum-turn (i .before .loop .inv .1) (i .loop-test .taken) (ap (λ r. r .residual) (e .0)) (e .2),
     )
-
-same-length : tie.Need-same-length Inv-loop μ-loop
-same-length c = search needs
 
 returns : tie.Need-returns Inv-loop μ-loop
 unfolding residuals
@@ -83,22 +56,8 @@ returns c = let s = c .before .before in
     }
 
 pub finest-field-spec : {M : Type 1} → statement M
-finest-field-spec =
-    tie.close
-    (tie.spec
-    Inv-loop
-    μ-loop
-    mul-k-end
-    loop-holds
-    div-finer-tile
-    rem-finer-tile
-    finer-tile-requires
-    mul-hand-over
-    add-hand-over
-    hand-over-requires
-    add-sum
-    add-k
-    loop-less
-    loop-again
-    same-length
-    returns)
+finest-field-spec = tie.close (tie.spec
+    Inv-loop μ-loop mul-k-end (λ c. (place-start (c .pre .3), sum-start)) (λ c. search needs)
+    (λ c. search needs) finer-tile-requires (λ c. search needs) (λ c. search needs)
+    hand-over-requires add-sum (λ c. search needs) (λ c. search needs) loop-again
+    (λ c. search needs) returns)

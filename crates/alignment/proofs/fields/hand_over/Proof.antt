@@ -1,13 +1,7 @@
 -- A small part is cast without loss.
-use lib.IntN.{ℤ, natAbs}
-use mir.Syntax.{w32, w64}
-use mir.Val.{SFits, toZ, ofZ}
-use mir.Facts.{toZ-ofZ}
+use Rattle.algebra.specs.Prelude.{_≡_, _∙_, _≤_, needs, ℤ, natAbs, w32, w64, SFits, toZ, ofZ, toZ-ofZ}
 use Rattle.algebra.specs.Bound.{most-fits}
 use Rattle.alignment.specs.SignedLaws.{back-small}
-use mathlib.Core.Path.{_≡_, _∙_}
-use Prim.Native.Nat.{_≤_}
-use borrow.Author.Needs.{needs}
 use Rattle.alignment.proofs.fields.hand_over.Statement.{statement}
 use Rattle.alignment.proofs.fields.hand_over.Tie as tie
 
@@ -23,37 +17,10 @@ cast-down c = fits (c .before .before .args .v .down) (c .before .before .pre .1
 cast-right : tie.Need-cast-right
 cast-right c = fits (c .before .before .before .before .args .v .right) (c .before .before .before .before .pre .1 .sideways)
 
-mul-down : tie.Need-mul-down
-mul-down c = search needs
-
-slice-set-from-down : tie.Need-slice-set-from-down
-slice-set-from-down c = search needs
-
-add-right : tie.Need-add-right
-add-right c = search needs
-
-mul-right : tie.Need-mul-right
-mul-right c = search needs
-
-slice-set-from-right : tie.Need-slice-set-from-right
-slice-set-from-right c = search needs
-
-same-length : tie.Need-same-length
-same-length c = search needs
-
 returns : tie.Need-returns
 returns c = let s = c .before .before .before .before in rw (narrow (s .args .v .down) (s .pre .1 .vertical), narrow (s .args .v .right) (s .pre .1 .sideways))
 
 pub hand-over-spec : {M : Type 1} → statement M
-hand-over-spec =
-    tie.close
-    (tie.spec
-    cast-down
-    cast-right
-    mul-down
-    slice-set-from-down
-    add-right
-    mul-right
-    slice-set-from-right
-    same-length
-    returns)
+hand-over-spec = tie.close (tie.spec
+    cast-down cast-right (λ c. search needs) (λ c. search needs) (λ c. search needs)
+    (λ c. search needs) (λ c. search needs) (λ c. search needs) returns)

@@ -1,7 +1,6 @@
 -- A grid has few tiles.
 use native.Mathlib.Nat.{mul-le-mul}
-use native.Mathlib.Omega.{arith}
-use borrow.Author.Needs.{needs}
+use Rattle.algebra.specs.Prelude.{arith, needs}
 use Rattle.alignment.proofs.frame.after.Statement.{statement}
 use Rattle.alignment.proofs.frame.after.Tie as tie
 
@@ -14,8 +13,5 @@ mul-result-2 c = let f = c .before .pre .1 in omega (arith, mul-le-mul (f .few-r
 add-result : tie.Need-add-result
 add-result c = let f = c .before .before .pre .1 in omega (arith, mul-le-mul (f .few-rows) (f .few-columns))
 
-returns : tie.Need-returns
-returns c = search needs
-
 pub after-spec : {M : Type 1} → statement M
-after-spec = tie.close (tie.spec mul-result mul-result-2 add-result returns)
+after-spec = tie.close (tie.spec mul-result mul-result-2 add-result (λ c. search needs))

@@ -2,8 +2,7 @@
 use Rattle.pyramid.specs.Layout.{tiles}
 use Rattle.alignment.specs.Sites.{gridAt}
 use Rattle.alignment.specs.LevelLaws.{standing-kept, grid-few, aligned}
-use native.Mathlib.Omega.{arith}
-use borrow.Author.Needs.{needs}
+use Rattle.algebra.specs.Prelude.{arith, needs}
 use Rattle.alignment.proofs.frame.align_levels.Statement.{statement}
 use Rattle.alignment.proofs.frame.align_levels.Tie as tie
 
@@ -22,12 +21,6 @@ finest-field-requires c κs = let r = c .before .before .before .before .before 
     let s = c .before .before .before .before .before .before .before in
     (rw (c .before .before .before .area-at .ensures) (standing-kept (s .pre .1) (r .kept) .stored 0), r .vectors, rw (c .before .before .grid-at .ensures) (grid-few (s .pre .0) 0), rw (c .before .before .grid-at .ensures) (s .pre .3))
 
-same-length : tie.Need-same-length
-same-length c = search needs
-
-same-length-2 : tie.Need-same-length-2
-same-length-2 c = search needs
-
 returns : tie.Need-returns
 returns c = let g = c .before .before .before .before in
     let l = g .before .before .before in
@@ -35,13 +28,6 @@ returns c = let g = c .before .before .before .before in
     aligned (s .pre .1) (s .pre .2) (l .coarse-levels .ensures .0) (l .coarse-levels .ensures .1) (g .before .area-at .ensures) (g .grid-at .ensures) (s .pre .3) (c .before .finest-field .ensures)
 
 pub align-levels-spec : {M : Type 1} → statement M
-align-levels-spec =
-    tie.close
-    (tie.spec
-    coarse-levels-requires
-    area-at-requires
-    grid-at-requires
-    finest-field-requires
-    same-length
-    same-length-2
-    returns)
+align-levels-spec = tie.close (tie.spec
+    coarse-levels-requires area-at-requires grid-at-requires finest-field-requires
+    (λ c. search needs) (λ c. search needs) returns)

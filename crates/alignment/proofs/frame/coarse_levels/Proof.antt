@@ -4,18 +4,9 @@ use Rattle.pyramid.specs.Layout.{pyramidLength}
 use Rattle.alignment.specs.Fields.{field2, field3}
 use Rattle.alignment.specs.Sites.{gridAt, after, pairsIn, Reached}
 use Rattle.alignment.specs.LevelLaws.{site3, site2, sites-fit, reached3, reached2, reached1, standing-kept, grid-few}
-use native.Mathlib.Omega.{arith}
-use mathlib.Core.Path.{_≡_, sym, ap, _∙_}
-use Prim.Native.Nat.{_*_}
-use borrow.Author.Needs.{needs}
+use Rattle.algebra.specs.Prelude.{_≡_, sym, ap, _∙_, _*_, arith, needs}
 use Rattle.alignment.proofs.frame.coarse_levels.Statement.{statement}
 use Rattle.alignment.proofs.frame.coarse_levels.Tie as tie
-
-offset-requires : tie.Need-offset-requires
-offset-requires c κs = search needs
-
-mul-base : tie.Need-mul-base
-mul-base c = search needs
 
 -- level 3
 base-is : (c : tie.After-offset) → 2 * c .offset .result ≡ 2 * pyramidLength (c .before .args .shape)
@@ -76,9 +67,6 @@ next-level-requires-2 c κs = let r = second (c .before .before .before) in
     let f = sites-fit (s .args .shape) in
     (s .pre .0, standing-kept (s .pre .1) (r .kept), rw (behind-second c) (omega arith), rw (behind-second c) (omega (arith, r .kept .same, s .pre .2)), omega arith, r .vectors, omega (arith, c .after2 .ensures))
 
-same-length : tie.Need-same-length
-same-length c = search needs
-
 returns : tie.Need-returns
 unfolding gridAt
 returns c = let n = c .before in
@@ -89,15 +77,6 @@ returns c = let n = c .before in
     (reached1 (s .pre .1) (s .pre .2) (m .next-level .result) (n .next-level2 .result) (second m) (second-is m) (e ∙ ap (gridAt shape 1) (behind-second (n .before))) (rw (behind-second (n .before)) at (n .next-level2 .ensures .1)), e ∙ ap (gridAt shape 1) (sym (ap (λ g. g .at) e)))
 
 pub coarse-levels-spec : {M : Type 1} → statement M
-coarse-levels-spec =
-    tie.close
-    (tie.spec
-    offset-requires
-    mul-base
-    coarsest-level-requires
-    after-requires
-    next-level-requires
-    after-requires-2
-    next-level-requires-2
-    same-length
-    returns)
+coarse-levels-spec = tie.close (tie.spec
+    (λ c κs. search needs) (λ c. search needs) coarsest-level-requires after-requires
+    next-level-requires after-requires-2 next-level-requires-2 (λ c. search needs) returns)

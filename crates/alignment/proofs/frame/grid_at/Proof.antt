@@ -5,27 +5,12 @@ use Rattle.geometry.specs.Tiles.{levelSize, levelTiles, tileCount}
 use Rattle.alignment.specs.declared.levels.Grid.{Grid}
 use Rattle.alignment.specs.Fields.{levelAt}
 use Rattle.alignment.specs.Sites.{gridAt}
-use native.Mathlib.Omega.{arith}
-use mathlib.Core.Path.{_≡_}
-use Prim.Native.Nat.{ℕ, _/_}
-use borrow.Author.Needs.{needs}
+use Rattle.algebra.specs.Prelude.{_≡_, ℕ, _/_, arith, needs}
 use Rattle.alignment.proofs.frame.grid_at.Statement.{statement}
 use Rattle.alignment.proofs.frame.grid_at.Tie as tie
 
-half-of-requires : tie.Need-half-of-requires
-half-of-requires c κs = search needs
-
-scale-of-requires : tie.Need-scale-of-requires
-scale-of-requires c κs = search needs
-
-div-tile-count : tie.Need-div-tile-count
-div-tile-count c = search needs
-
 tile-count-requires : tie.Need-tile-count-requires
 tile-count-requires c κs = let a = c .before .before .before .args in (omega arith, omega arith, omega (arith, div-le-self (a .shape .height) (c .before .scale-of .result)))
-
-div-tile-count-2 : tie.Need-div-tile-count-2
-div-tile-count-2 c = search needs
 
 tile-count-requires-2 : tie.Need-tile-count-requires-2
 tile-count-requires-2 c κs = let a = c .before .before .before .before .before .args in (omega arith, omega arith, omega (arith, div-le-self (a .shape .width) (c .before .before .before .scale-of .result)))
@@ -41,13 +26,6 @@ returns c = let r = c .before .before in
     made (a .shape) (a .level) (a .at) _ _ _ _ (s .before .half-of .ensures .0) (s .scale-of .ensures .0) (r .tile-count .ensures .0) (c .tile-count2 .ensures .0)
 
 pub grid-at-spec : {M : Type 1} → statement M
-grid-at-spec =
-    tie.close
-    (tie.spec
-    half-of-requires
-    scale-of-requires
-    div-tile-count
-    tile-count-requires
-    div-tile-count-2
-    tile-count-requires-2
-    returns)
+grid-at-spec = tie.close (tie.spec
+    (λ c κs. search needs) (λ c κs. search needs) (λ c. search needs) tile-count-requires
+    (λ c. search needs) tile-count-requires-2 returns)

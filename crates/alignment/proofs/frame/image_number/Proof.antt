@@ -1,17 +1,8 @@
 -- The level's place among the images of a pyramid, by its number.
 use Rattle.alignment.specs.Sites.{imageNumber}
-use native.Mathlib.Omega.{arith}
-use mathlib.Core.Path.{_≡_, refl}
-use Prim.Native.Nat.{ℕ, zero, suc, _-_, _*_, _≤_, _<_}
-use borrow.Author.Needs.{needs}
+use Rattle.algebra.specs.Prelude.{_≡_, refl, ℕ, zero, suc, _-_, _*_, _≤_, _<_, arith, needs}
 use Rattle.alignment.proofs.frame.image_number.Statement.{statement}
 use Rattle.alignment.proofs.frame.image_number.Tie as tie
-
-mul-result : tie.Need-mul-result
-mul-result c = search needs
-
-sub-result : tie.Need-sub-result
-sub-result c = search needs
 
 low : (level : ℕ) → level < 2 → level ≡ imageNumber level
 low zero h = refl
@@ -31,4 +22,4 @@ returns-2 : tie.Need-returns-2
 returns-2 c = (high (c .before .args .level) (c .if1 .left) (c .before .pre), omega arith)
 
 pub image-number-spec : {M : Type 1} → statement M
-image-number-spec = tie.close (tie.spec mul-result sub-result returns returns-2)
+image-number-spec = tie.close (tie.spec (λ c. search needs) (λ c. search needs) returns returns-2)

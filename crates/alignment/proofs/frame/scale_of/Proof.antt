@@ -1,9 +1,6 @@
 -- The level's scale, by its number.
 use Rattle.alignment.specs.Fields.{levelAt}
-use native.Mathlib.Omega.{arith}
-use mathlib.Core.Path.{_≡_, refl}
-use Prim.Native.Nat.{ℕ, zero, suc}
-use borrow.Author.Needs.{needs}
+use Rattle.algebra.specs.Prelude.{_≡_, refl, ℕ, zero, suc, arith, needs}
 use Rattle.alignment.proofs.frame.scale_of.Statement.{statement}
 use Rattle.alignment.proofs.frame.scale_of.Tie as tie
 
@@ -13,17 +10,9 @@ last (suc zero) a b d = absurd (b refl)
 last (suc (suc zero)) a b d = absurd (d refl)
 last (suc (suc (suc k))) a b d = refl
 
-returns : tie.Need-returns
-returns c = search needs
-
-returns-2 : tie.Need-returns-2
-returns-2 c = search needs
-
-returns-3 : tie.Need-returns-3
-returns-3 c = search needs
-
 returns-4 : tie.Need-returns-4
 returns-4 c = (last (c .before .before .before .args .level) (c .before .before .if1 .left) (c .before .if2 .left) (c .if3 .left), omega arith)
 
 pub scale-of-spec : {M : Type 1} → statement M
-scale-of-spec = tie.close (tie.spec returns returns-2 returns-3 returns-4)
+scale-of-spec = tie.close (tie.spec
+    (λ c. search needs) (λ c. search needs) (λ c. search needs) returns-4)

@@ -1,28 +1,11 @@
 -- A small product comes back from its bits.
-use lib.IntN.{ℤ, pos, natAbs, _*ℤ_}
-use mir.Syntax.{w64}
-use mir.Val.{SFits}
-use mir.Facts.{toZ-ofZ}
+use Rattle.algebra.specs.Prelude.{refl, ℕ, _≤_, arith, needs, getD, ℤ, pos, natAbs, _*ℤ_, w64, SFits, toZ-ofZ}
 use mir.ValLaws.{toZ-pos}
 use Rattle.algebra.specs.Order.{abs-mul-le}
 use Rattle.algebra.specs.Bound.{mul-fits}
 use Rattle.alignment.specs.SignedLaws.{back-small}
-use native.Mathlib.Omega.{arith}
-use mathlib.Core.Path.{refl}
-use Prim.Native.Nat.{ℕ, _≤_}
-use lib.ListN.{getD}
-use borrow.Author.Needs.{needs}
 use Rattle.alignment.proofs.levels.coarse_part.Statement.{statement}
 use Rattle.alignment.proofs.levels.coarse_part.Tie as tie
-
-mul-result : tie.Need-mul-result
-mul-result c = search needs
-
-shared-slice-copy-out-result : tie.Need-shared-slice-copy-out-result
-shared-slice-copy-out-result c = search needs
-
-cast-result : tie.Need-cast-result
-cast-result c = search needs
 
 product-fits : (z : ℤ) (f : ℕ) → natAbs z ≤ 84 → f ≤ 4 → SFits w64 (z *ℤ pos f)
 product-fits z f h k = mul-fits w64 z (pos f) 84 4 (record { most = h }) (record { most = k }) tt
@@ -39,5 +22,5 @@ returns c = let s = c .before in
     (refl, abs-mul-le z (pos (s .args .f)) (s .pre .1) (s .pre .2))
 
 pub coarse-part-spec : {M : Type 1} → statement M
-coarse-part-spec =
-    tie.close (tie.spec mul-result shared-slice-copy-out-result cast-result mul-result-2 returns)
+coarse-part-spec = tie.close (tie.spec
+    (λ c. search needs) (λ c. search needs) (λ c. search needs) mul-result-2 returns)

@@ -1,16 +1,11 @@
 -- The vector's two words are among the coarse level's.
-use mathlib.Core.List.{List}
+use Rattle.algebra.specs.Prelude.{_≡_, List, ℕ, _+_, _*_, _<_, arith, getD, ℤ, pos, _*ℤ_}
 use native.Mathlib.Nat.{add-assoc}
-use lib.IntN.{ℤ, pos, _*ℤ_}
 use Rattle.geometry.specs.ReadLaws.{cell-below}
 use Rattle.alignment.specs.declared.Vector.{Vector}
 use Rattle.alignment.specs.Vectors.{_times_}
 use Rattle.alignment.specs.SignedLaws.{back}
 use Rattle.alignment.specs.Grids.{fieldAt}
-use native.Mathlib.Omega.{arith}
-use mathlib.Core.Path.{_≡_}
-use Prim.Native.Nat.{ℕ, _+_, _*_, _<_}
-use lib.ListN.{getD}
 use Rattle.alignment.proofs.levels.coarse_vector.Statement.{statement}
 use Rattle.alignment.proofs.levels.coarse_vector.Tie as tie
 
@@ -53,14 +48,5 @@ returns c = let s = c .before .before .before .before in
     (made (a .words .now) (a .coarse .at) (a .coarse .columns) (a .row) (a .column) (a .f) (d .result) (r .result) (d .ensures .0) (r .ensures .0), record { vertical = d .ensures .1; sideways = r .ensures .1 })
 
 pub coarse-vector-spec : {M : Type 1} → statement M
-coarse-vector-spec =
-    tie.close
-    (tie.spec
-    mul-k
-    add-k
-    mul-k-2
-    add-k-2
-    coarse-part-requires
-    add-coarse-part
-    coarse-part-requires-2
-    returns)
+coarse-vector-spec = tie.close (tie.spec
+    mul-k add-k mul-k-2 add-k-2 coarse-part-requires add-coarse-part coarse-part-requires-2 returns)

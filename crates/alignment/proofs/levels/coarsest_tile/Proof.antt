@@ -1,26 +1,14 @@
 -- The reference's samples of the tile are copied, and the search starts from no motion.
-use lib.Dec.{lit≤}
-use mathlib.Core.Bool.{true}
+use Rattle.algebra.specs.Prelude.{true, arith, needs, lit≤}
 use Rattle.geometry.specs.Tiles.{level3}
 use Rattle.alignment.specs.Vectors.{still}
 use Rattle.alignment.specs.Stored.{pairIn}
 use Rattle.alignment.specs.StoredLaws.{copyable, ready, answer-within, coarsest-answer}
-use native.Mathlib.Omega.{arith}
-use borrow.Author.Needs.{needs}
 use Rattle.alignment.proofs.levels.coarsest_tile.Statement.{statement}
 use Rattle.alignment.proofs.levels.coarsest_tile.Tie as tie
 
-tile-at-requires : tie.Need-tile-at-requires
-tile-at-requires c κs = search needs
-
-slice-aggregate-copy-square : tie.Need-slice-aggregate-copy-square
-slice-aggregate-copy-square c = search needs
-
 copy-square-requires : tie.Need-copy-square-requires
 copy-square-requires c κs = let t = c .before .before .tile-at .ensures in copyable (c .before .before .before .pre .0) (t .1)
-
-slice-aggregate-refine : tie.Need-slice-aggregate-refine
-slice-aggregate-refine c = search needs
 
 refine-requires : tie.Need-refine-requires
 refine-requires c κs = let s = c .before .before .before .before .before .before in
@@ -37,12 +25,6 @@ returns c = let s = c .before .before .before .before .before .before .before in
     )
 
 pub coarsest-tile-spec : {M : Type 1} → statement M
-coarsest-tile-spec =
-    tie.close
-    (tie.spec
-    tile-at-requires
-    slice-aggregate-copy-square
-    copy-square-requires
-    slice-aggregate-refine
-    refine-requires
-    returns)
+coarsest-tile-spec = tie.close (tie.spec
+    (λ c κs. search needs) (λ c. search needs) copy-square-requires (λ c. search needs)
+    refine-requires returns)

@@ -3,23 +3,12 @@ use Rattle.alignment.specs.Fields.{levelAt, stepTo}
 use Rattle.alignment.specs.Stored.{pairIn}
 use Rattle.alignment.specs.StoredLaws.{copyable, ready, finer-answer, finer-side}
 use Rattle.alignment.specs.Grids.{fieldAt}
-use native.Mathlib.Omega.{arith}
-use mathlib.Core.Path.{ap, _∙_}
-use borrow.Author.Needs.{needs}
+use Rattle.algebra.specs.Prelude.{ap, _∙_, arith, needs}
 use Rattle.alignment.proofs.levels.finer_tile.Statement.{statement}
 use Rattle.alignment.proofs.levels.finer_tile.Tie as tie
 
-tile-at-requires : tie.Need-tile-at-requires
-tile-at-requires c κs = search needs
-
-slice-aggregate-copy-square : tie.Need-slice-aggregate-copy-square
-slice-aggregate-copy-square c = search needs
-
 copy-square-requires : tie.Need-copy-square-requires
 copy-square-requires c κs = let t = c .before .before .tile-at .ensures in copyable (c .before .before .before .pre .0) (t .1)
-
-slice-aggregate-refine-coarse : tie.Need-slice-aggregate-refine-coarse
-slice-aggregate-refine-coarse c = search needs
 
 refine-coarse-requires : tie.Need-refine-coarse-requires
 refine-coarse-requires c κs = let s = c .before .before .before .before .before .before in
@@ -40,12 +29,6 @@ returns c = let s = c .before .before .before .before .before .before .before in
     )
 
 pub finer-tile-spec : {M : Type 1} → statement M
-finer-tile-spec =
-    tie.close
-    (tie.spec
-    tile-at-requires
-    slice-aggregate-copy-square
-    copy-square-requires
-    slice-aggregate-refine-coarse
-    refine-coarse-requires
-    returns)
+finer-tile-spec = tie.close (tie.spec
+    (λ c κs. search needs) (λ c. search needs) copy-square-requires (λ c. search needs)
+    refine-coarse-requires returns)

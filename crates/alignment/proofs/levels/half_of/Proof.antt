@@ -1,9 +1,6 @@
 -- The half step and the side, by the level's number.
 use Rattle.alignment.specs.Fields.{levelAt}
-use native.Mathlib.Omega.{arith}
-use mathlib.Core.Path.{_≡_, refl}
-use Prim.Native.Nat.{ℕ, zero, suc, _≤_}
-use borrow.Author.Needs.{needs}
+use Rattle.algebra.specs.Prelude.{_≡_, refl, ℕ, zero, suc, _≤_, arith, needs}
 use Rattle.alignment.proofs.levels.half_of.Statement.{statement}
 use Rattle.alignment.proofs.levels.half_of.Tie as tie
 
@@ -13,11 +10,8 @@ below (suc zero) h l = (refl, refl)
 below (suc (suc zero)) h l = (refl, refl)
 below (suc (suc (suc k))) h l = absurd (h (omega arith))
 
-returns : tie.Need-returns
-returns c = search needs
-
 returns-2 : tie.Need-returns-2
 returns-2 c = let b = below (c .before .args .level) (c .if1 .left) (c .before .pre) in (b .0, b .1, omega arith, omega arith, omega arith)
 
 pub half-of-spec : {M : Type 1} → statement M
-half-of-spec = tie.close (tie.spec returns returns-2)
+half-of-spec = tie.close (tie.spec (λ c. search needs) returns-2)

@@ -10,53 +10,9 @@ use Rattle.alignment.specs.Fields.{Field, stepTo, fromCoarse}
 use Rattle.alignment.specs.Stored.{pairIn, answer}
 use Rattle.alignment.specs.StoredLaws.{answer-within}
 use Rattle.alignment.specs.Grids.{fieldAt}
-use mathlib.Core.Path.{_≡_, ap, ap₂, _∙_}
-use Prim.Native.Nat.{ℕ}
-use borrow.Author.Needs.{needs}
+use Rattle.algebra.specs.Prelude.{_≡_, ap, ap₂, _∙_, ℕ, needs}
 use Rattle.alignment.proofs.levels.refine_coarse.Statement.{statement}
 use Rattle.alignment.proofs.levels.refine_coarse.Tie as tie
-
-is-squared-requires : tie.Need-is-squared-requires
-is-squared-requires c κs = search needs
-
-quotient-requires : tie.Need-quotient-requires
-quotient-requires c κs = search needs
-
-factor-requires : tie.Need-factor-requires
-factor-requires c κs = search needs
-
-own-requires : tie.Need-own-requires
-own-requires c κs = search needs
-
-capped-requires : tie.Need-capped-requires
-capped-requires c κs = search needs
-
-neighbour-requires : tie.Need-neighbour-requires
-neighbour-requires c κs = search needs
-
-capped-requires-2 : tie.Need-capped-requires-2
-capped-requires-2 c κs = search needs
-
-own-requires-2 : tie.Need-own-requires-2
-own-requires-2 c κs = search needs
-
-capped-requires-3 : tie.Need-capped-requires-3
-capped-requires-3 c κs = search needs
-
-neighbour-requires-2 : tie.Need-neighbour-requires-2
-neighbour-requires-2 c κs = search needs
-
-capped-requires-4 : tie.Need-capped-requires-4
-capped-requires-4 c κs = search needs
-
-coarse-vector-requires : tie.Need-coarse-vector-requires
-coarse-vector-requires c κs = search needs
-
-coarse-vector-requires-2 : tie.Need-coarse-vector-requires-2
-coarse-vector-requires-2 c κs = search needs
-
-coarse-vector-requires-3 : tie.Need-coarse-vector-requires-3
-coarse-vector-requires-3 c κs = search needs
 
 refine-candidates-requires : tie.Need-refine-candidates-requires
 refine-candidates-requires c κs = let s = c .before .before .before .before .before .before .before .before .before .before .before .before .before .before .before in
@@ -95,22 +51,8 @@ returns c = let v = c .before .before .before in
     )
 
 pub refine-coarse-spec : {M : Type 1} → statement M
-refine-coarse-spec =
-    tie.close
-    (tie.spec
-    is-squared-requires
-    quotient-requires
-    factor-requires
-    own-requires
-    capped-requires
-    neighbour-requires
-    capped-requires-2
-    own-requires-2
-    capped-requires-3
-    neighbour-requires-2
-    capped-requires-4
-    coarse-vector-requires
-    coarse-vector-requires-2
-    coarse-vector-requires-3
-    refine-candidates-requires
-    returns)
+refine-coarse-spec = tie.close (tie.spec
+    (λ c κs. search needs) (λ c κs. search needs) (λ c κs. search needs) (λ c κs. search needs)
+    (λ c κs. search needs) (λ c κs. search needs) (λ c κs. search needs) (λ c κs. search needs)
+    (λ c κs. search needs) (λ c κs. search needs) (λ c κs. search needs) (λ c κs. search needs)
+    (λ c κs. search needs) (λ c κs. search needs) refine-candidates-requires returns)

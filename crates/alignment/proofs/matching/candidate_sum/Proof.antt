@@ -1,30 +1,19 @@
 -- The other image's square at the moved tile is copied, and the sum of the two arrays is the residual.
-use lib.Dec.{lit≤}
-use mathlib.Core.Bool.{false}
+use Rattle.algebra.specs.Prelude.{ap, _∙_, false, _^_, arith, needs, lit≤}
 use Rattle.alignment.specs.VectorLaws.{within-more, plus-within}
 use Rattle.alignment.specs.Stored.{pairIn}
 use Rattle.alignment.specs.LocalLaws.{moved-residual}
 use Rattle.alignment.specs.StoredLaws.{copied-low}
-use native.Mathlib.Omega.{arith}
-use mathlib.Core.Path.{ap, _∙_}
-use Prim.Native.Nat.{_^_}
-use borrow.Author.Needs.{needs}
 use Rattle.alignment.proofs.matching.candidate_sum.Statement.{statement}
 use Rattle.alignment.proofs.matching.candidate_sum.Tie as tie
 
 sum-requires : tie.Need-sum-requires
 sum-requires c κs = let s = c .before .before in (within-more (2 ^ 20) (s .pre .0 .placed .near) (lit≤ tt), within-more (2 ^ 20) (s .pre .2) (lit≤ tt))
 
-slice-aggregate-copy-square : tie.Need-slice-aggregate-copy-square
-slice-aggregate-copy-square c = search needs
-
 copy-square-requires : tie.Need-copy-square-requires
 copy-square-requires c κs = let s = c .before .before .before .before in
     let h = s .pre .0 in
     (h .stored .other, rw (c .before .sum .ensures) (within-more (2 ^ 20) (plus-within (h .placed .near) (s .pre .2)) (lit≤ tt)), lit≤ tt, omega arith, lit≤ tt)
-
-slice-aggregate-absolute-sum : tie.Need-slice-aggregate-absolute-sum
-slice-aggregate-absolute-sum c = search needs
 
 absolute-sum-requires : tie.Need-absolute-sum-requires
 unfolding pairIn
@@ -32,9 +21,6 @@ absolute-sum-requires c κs = let w = c .before .before in
     let s = w .before .before .before .before .before in
     let h = s .pre .0 in
     (copied-low (h .stored .reference) (h .room) (rw (s .pre .1) at (h .copied)), copied-low (h .stored .other) (omega arith) (w .copy-square .ensures), lit≤ tt)
-
-cast-result : tie.Need-cast-result
-cast-result c = search needs
 
 returns : tie.Need-returns
 unfolding pairIn
@@ -46,13 +32,6 @@ returns c = let w = c .before .before .before in
     ∙ moved-residual false (pairIn (a .words .now) (a .area)) (a .tile) (a .v) _ _ _ _ 16 (s .pre .1) (s .pre .0 .copied) (w .copy-square .ensures) (ap (λ v. v .down) e) (ap (λ v. v .right) e)
 
 pub candidate-sum-spec : {M : Type 1} → statement M
-candidate-sum-spec =
-    tie.close
-    (tie.spec
-    sum-requires
-    slice-aggregate-copy-square
-    copy-square-requires
-    slice-aggregate-absolute-sum
-    absolute-sum-requires
-    cast-result
-    returns)
+candidate-sum-spec = tie.close (tie.spec
+    sum-requires (λ c. search needs) copy-square-requires (λ c. search needs) absolute-sum-requires
+    (λ c. search needs) returns)

@@ -1,14 +1,9 @@
 -- The window starts 4 rows and columns before the tile moved by the guess.
 use native.Mathlib.Nat.{mul-le-mul}
-use lib.Dec.{lit≤}
-use lib.IntN.{negsuc}
+use Rattle.algebra.specs.Prelude.{_≡_, ap, _∙_, _^_, arith, needs, lit≤, negsuc}
 use Rattle.alignment.specs.Vectors.{_plus_, Within}
 use Rattle.alignment.specs.VectorLaws.{within-more, plus-within}
 use Rattle.alignment.specs.Stored.{pairIn}
-use borrow.Author.Needs.{needs}
-use native.Mathlib.Omega.{arith}
-use mathlib.Core.Path.{_≡_, ap, _∙_}
-use Prim.Native.Nat.{_^_}
 use Rattle.alignment.proofs.matching.copy_window.Statement.{statement}
 use Rattle.alignment.proofs.matching.copy_window.Tie as tie
 
@@ -16,15 +11,9 @@ use Rattle.alignment.proofs.matching.copy_window.Tie as tie
 corner : (c : tie.After-sum2) → let a = c .before .before .before .before .args in c .sum2 .result ≡ a .tile .origin plus a .guess plus record { down = negsuc 3; right = negsuc 3 }
 corner c = c .sum2 .ensures ∙ ap (λ v. v plus record { down = negsuc 3; right = negsuc 3 }) (c .before .sum .ensures)
 
-sum-requires : tie.Need-sum-requires
-sum-requires c κs = search needs
-
 sum-requires-2 : tie.Need-sum-requires-2
 sum-requires-2 c κs = let s = c .before .before .before in
     (rw (c .sum .ensures) (within-more (2 ^ 20) (plus-within (s .pre .1 .near) (s .pre .2)) (lit≤ tt)), record { vertical = lit≤ tt; sideways = lit≤ tt })
-
-add-copy-square : tie.Need-add-copy-square
-add-copy-square c = search needs
 
 copy-square-requires : tie.Need-copy-square-requires
 copy-square-requires c κs = let s = c .before .before .before .before .before .before in
@@ -32,15 +21,12 @@ copy-square-requires c κs = let s = c .before .before .before .before .before .
     let four : Within 4 (record { down = negsuc 3; right = negsuc 3 }) = record { vertical = lit≤ tt; sideways = lit≤ tt } in
     (s .pre .0 .other, rw (corner (c .before .before)) (within-more (2 ^ 20) (plus-within (plus-within (h .near) (s .pre .2)) four) (lit≤ tt)), omega (arith, h .small), omega (arith, h .eights), omega (arith, h .small, mul-le-mul (h .small) (h .small)))
 
-same-length : tie.Need-same-length
-same-length c = search needs
-
 returns : tie.Need-returns
 unfolding pairIn
 returns c = let small = c .before .before .before .before .before .before .before .before .before .pre .1 .small in
     record { room = omega (arith, mul-le-mul small small); copied = rw (corner (c .before .before .before .before .before)) at (c .before .before .copy-square .ensures) }
 
 pub copy-window-spec : {M : Type 1} → statement M
-copy-window-spec =
-    tie.close
-    (tie.spec sum-requires sum-requires-2 add-copy-square copy-square-requires same-length returns)
+copy-window-spec = tie.close (tie.spec
+    (λ c κs. search needs) sum-requires-2 (λ c. search needs) copy-square-requires
+    (λ c. search needs) returns)

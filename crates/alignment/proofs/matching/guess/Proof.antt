@@ -5,12 +5,6 @@ use borrow.Author.Needs.{needs}
 use Rattle.alignment.proofs.matching.guess.Statement.{statement}
 use Rattle.alignment.proofs.matching.guess.Tie as tie
 
-other-sum-requires : tie.Need-other-sum-requires
-other-sum-requires c κs = search needs
-
-other-sum-requires-2 : tie.Need-other-sum-requires-2
-other-sum-requires-2 c κs = search needs
-
 returns : tie.Need-returns
 returns c = let d = c .before .before in
     let s = d .before .before .before in
@@ -32,12 +26,5 @@ returns-4 c = let d = c .before .before in
     (guess-own (pairIn (s .args .words .now) (s .args .area)) (s .args .tile) (s .args .own) (s .args .sideways) (s .args .vertically) _ _ _ (s .pre .5) (d .before .other-sum .ensures) (d .other-sum2 .ensures) (c .before .if1 .left) (c .if3 .left), s .pre .2)
 
 pub guess-spec : {M : Type 1} → statement M
-guess-spec =
-    tie.close
-    (tie.spec
-    other-sum-requires
-    other-sum-requires-2
-    returns
-    returns-2
-    returns-3
-    returns-4)
+guess-spec = tie.close (tie.spec
+    (λ c κs. search needs) (λ c κs. search needs) returns returns-2 returns-3 returns-4)

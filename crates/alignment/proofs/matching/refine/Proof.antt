@@ -1,18 +1,8 @@
 -- The window around the guess is copied and searched; the first least sum there is what the definition finds.
 use Rattle.alignment.specs.StoredLaws.{window-low, search-answer}
-use borrow.Author.Needs.{needs}
-use native.Mathlib.Omega.{arith}
+use Rattle.algebra.specs.Prelude.{arith, needs}
 use Rattle.alignment.proofs.matching.refine.Statement.{statement}
 use Rattle.alignment.proofs.matching.refine.Tie as tie
-
-slice-aggregate-copy-window : tie.Need-slice-aggregate-copy-window
-slice-aggregate-copy-window c = search needs
-
-copy-window-requires : tie.Need-copy-window-requires
-copy-window-requires c κs = search needs
-
-slice-aggregate-search : tie.Need-slice-aggregate-search
-slice-aggregate-search c = search needs
 
 search-requires : tie.Need-search-requires
 search-requires c κs = window-low (c .before .before .before .before .before .pre .0) (c .before .before .copy-window .ensures)
@@ -26,12 +16,6 @@ returns c = let found = c .before .search .ensures in
     (search-answer (c .before .before .before .before .before .before .before .pre .0) (c .before .before .before .before .copy-window .ensures) found (m .0) (m .1), omega (arith, m .1, found .most))
 
 pub refine-spec : {M : Type 1} → statement M
-refine-spec =
-    tie.close
-    (tie.spec
-    slice-aggregate-copy-window
-    copy-window-requires
-    slice-aggregate-search
-    search-requires
-    moved-requires
+refine-spec = tie.close (tie.spec
+    (λ c. search needs) (λ c κs. search needs) (λ c. search needs) search-requires moved-requires
     returns)

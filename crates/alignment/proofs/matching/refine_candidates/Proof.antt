@@ -1,47 +1,20 @@
 -- The residual in the middle of the window is the own candidate's; the window is searched where that one is the guess.
-use lib.Dec.{lit≤}
+use Rattle.algebra.specs.Prelude.{sym, ap, _∙_, arith, needs, lit≤}
 use Rattle.alignment.specs.Search.{found}
 use Rattle.alignment.specs.Stored.{pairIn, answer}
 use Rattle.alignment.specs.StoredLaws.{window-low, guess-residual, search-answer}
 use Rattle.alignment.specs.SixteenLaws.{low-less, low-square}
-use borrow.Author.Needs.{needs}
-use native.Mathlib.Omega.{arith}
-use mathlib.Core.Path.{sym, ap, _∙_}
 use Rattle.alignment.proofs.matching.refine_candidates.Statement.{statement}
 use Rattle.alignment.proofs.matching.refine_candidates.Tie as tie
-
-slice-aggregate-copy-window : tie.Need-slice-aggregate-copy-window
-slice-aggregate-copy-window c = search needs
-
-copy-window-requires : tie.Need-copy-window-requires
-copy-window-requires c κs = search needs
-
-slice-aggregate-absolute-sum : tie.Need-slice-aggregate-absolute-sum
-slice-aggregate-absolute-sum c = search needs
-
-mul-absolute-sum : tie.Need-mul-absolute-sum
-mul-absolute-sum c = search needs
-
-add-absolute-sum : tie.Need-add-absolute-sum
-add-absolute-sum c = search needs
 
 absolute-sum-requires : tie.Need-absolute-sum-requires
 absolute-sum-requires c κs = let s = c .before .before .before .before .before in
     let w = window-low (s .pre .0) (c .before .before .copy-window .ensures) in
     (low-square (w .tile-low) 16 (s .pre .1), low-less (low-square (w .window-low) 24 (omega arith)) 476 (lit≤ tt), lit≤ tt)
 
-cast-first : tie.Need-cast-first
-cast-first c = search needs
-
 guess-requires : tie.Need-guess-requires
 guess-requires c κs = let s = c .before .before .before .before .before .before in
     (s .pre .0, s .pre .1, s .pre .2, s .pre .3, s .pre .4, c .absolute-sum .ensures .0 ∙ guess-residual (s .pre .0) (c .before .before .before .copy-window .ensures) (s .pre .1))
-
-same-requires : tie.Need-same-requires
-same-requires c κs = search needs
-
-slice-aggregate-search : tie.Need-slice-aggregate-search
-slice-aggregate-search c = search needs
 
 search-requires : tie.Need-search-requires
 search-requires c κs = window-low (c .before .before .before .before .before .before .before .before .before .before .pre .0) (c .before .before .before .before .before .before .before .copy-window .ensures)
@@ -71,21 +44,8 @@ returns-2 c = let a = c .before .before .before .before .before .before .before 
     (c .refine .ensures .0 ∙ ap (λ v. answer (a .squared) p (a .tile) (found (a .squared) p (a .tile) v)) (c .before .before .before .guess .ensures .0), c .refine .ensures .1)
 
 pub refine-candidates-spec : {M : Type 1} → statement M
-refine-candidates-spec =
-    tie.close
-    (tie.spec
-    slice-aggregate-copy-window
-    copy-window-requires
-    slice-aggregate-absolute-sum
-    mul-absolute-sum
-    add-absolute-sum
-    absolute-sum-requires
-    cast-first
-    guess-requires
-    same-requires
-    slice-aggregate-search
-    search-requires
-    moved-requires
-    returns
-    refine-requires
-    returns-2)
+refine-candidates-spec = tie.close (tie.spec
+    (λ c. search needs) (λ c κs. search needs) (λ c. search needs) (λ c. search needs)
+    (λ c. search needs) absolute-sum-requires (λ c. search needs) guess-requires
+    (λ c κs. search needs) (λ c. search needs) search-requires moved-requires returns
+    refine-requires returns-2)

@@ -1,20 +1,12 @@
 -- Small parts of equal bits are equal.
-use mathlib.Core.Path.{_≡_, sym, ap, ap₂, _∙_, subst}
-use Prim.Native.Nat.{_≤_}
+use Rattle.algebra.specs.Prelude.{_≡_, sym, ap, ap₂, subst, _∙_, _≤_, T, ℤ, natAbs, w64, toZ, ofZ}
 use borrow.Author.Tests.{eqb-true}
-use lib.Dec.{T}
-use lib.IntN.{ℤ, natAbs}
-use mir.Syntax.{w64}
-use mir.Val.{toZ, ofZ}
 use Rattle.alignment.specs.SignedLaws.{back-small}
 use Rattle.alignment.proofs.matching.same.Statement.{statement}
 use Rattle.alignment.proofs.matching.same.Tie as tie
 
 part : (x y : ℤ) → natAbs x ≤ 336 → natAbs y ≤ 336 → ofZ w64 x ≡ ofZ w64 y → x ≡ y
 part x y hx hy e = sym (back-small x 336 hx tt) ∙ ap (toZ w64) e ∙ back-small y 336 hy tt
-
-returns : tie.Need-returns
-returns c e = absurd (subst T (sym e) tt)
 
 returns-2 : tie.Need-returns-2
 returns-2 c e = let s = c .before .before .before .before .before .before .before .before .before in
@@ -25,4 +17,4 @@ returns-2 c e = let s = c .before .before .before .before .before .before .befor
     (part (a .right) (b .right) (s .pre .0 .sideways) (s .pre .1 .sideways) (eqb-true _ _ e))
 
 pub same-spec : {M : Type 1} → statement M
-same-spec = tie.close (tie.spec returns returns-2)
+same-spec = tie.close (tie.spec (λ c e. absurd (subst T (sym e) tt)) returns-2)

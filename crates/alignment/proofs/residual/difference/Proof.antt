@@ -1,13 +1,9 @@
 -- The flag picks the square or the distance itself, as in the definition; a square of 16 bits fits.
 use native.Mathlib.Nat.{mul-le-mul}
 use Rattle.alignment.specs.Residual.{difference}
-use native.Mathlib.Omega.{arith}
-use borrow.Author.Needs.{needs}
+use Rattle.algebra.specs.Prelude.{arith, needs}
 use Rattle.alignment.proofs.residual.difference.Statement.{statement}
 use Rattle.alignment.proofs.residual.difference.Tie as tie
-
-distance-requires : tie.Need-distance-requires
-distance-requires c κs = search needs
 
 mul-result : tie.Need-mul-result
 mul-result c = let d = c .before .distance .ensures in omega (arith, mul-le-mul (d .1) (d .1))
@@ -21,4 +17,4 @@ unfolding difference
 returns-2 c = (rw (c .if1 .left) (c .before .distance .ensures .0), omega arith)
 
 pub difference-spec : {M : Type 1} → statement M
-difference-spec = tie.close (tie.spec distance-requires mul-result returns returns-2)
+difference-spec = tie.close (tie.spec (λ c κs. search needs) mul-result returns returns-2)

@@ -4,11 +4,7 @@ use Rattle.alignment.specs.Offsets.{downs, rights}
 use Rattle.alignment.specs.OffsetLaws.{parts-most}
 use Rattle.alignment.specs.Local.{windowSum}
 use Rattle.alignment.specs.LocalLaws.{window-inside}
-use native.Mathlib.Omega.{arith}
-use mathlib.Core.Path.{_≡_, ap, _∙_}
-use Prim.Native.Nat.{_+_, _*_, _≤_}
-use lib.ListN.{getD}
-use borrow.Author.Needs.{needs}
+use Rattle.algebra.specs.Prelude.{_≡_, ap, _∙_, _+_, _*_, _≤_, arith, needs, getD}
 use Rattle.alignment.proofs.search.offset_sum.Statement.{statement}
 use Rattle.alignment.proofs.search.offset_sum.Tie as tie
 
@@ -23,24 +19,6 @@ down-most c =
     let s = c .before .before .before .before in
     mul-le-mul-right (s .args .side + 8) (omega (arith, down-is c, parts-most (s .args .k) (s .pre .3) .0))
 
-add-stride : tie.Need-add-stride
-add-stride c = search needs
-
-element-copy-out-wide : tie.Need-element-copy-out-wide
-element-copy-out-wide c = search needs
-
-wide-requires : tie.Need-wide-requires
-wide-requires c κs = search needs
-
-mul-start : tie.Need-mul-start
-mul-start c = omega (arith, down-most c)
-
-element-copy-out-wide-2 : tie.Need-element-copy-out-wide-2
-element-copy-out-wide-2 c = search needs
-
-wide-requires-2 : tie.Need-wide-requires-2
-wide-requires-2 c κs = search needs
-
 add-start : tie.Need-add-start
 add-start c = let s = c .before .before .before .before .before .before in omega (arith, down-most (c .before .before), right-is c, parts-most (s .args .k) (s .pre .3) .1)
 
@@ -52,15 +30,6 @@ unfolding windowSum
 returns c = (c .square-sum .ensures .0 ∙ rw (down-is (c .before .before .before), right-is (c .before)), c .square-sum .ensures .1)
 
 pub offset-sum-spec : {M : Type 1} → statement M
-offset-sum-spec =
-    tie.close
-    (tie.spec
-    add-stride
-    element-copy-out-wide
-    wide-requires
-    mul-start
-    element-copy-out-wide-2
-    wide-requires-2
-    add-start
-    square-sum-requires
-    returns)
+offset-sum-spec = tie.close (tie.spec
+    (λ c. search needs) (λ c. search needs) (λ c κs. search needs) (λ c. omega (arith, down-most c))
+    (λ c. search needs) (λ c κs. search needs) add-start square-sum-requires returns)

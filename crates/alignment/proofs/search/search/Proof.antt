@@ -3,9 +3,7 @@ use mathlib.Core.Logic.{⊎-elim}
 use Rattle.sequences.specs.Least.{Least, least-start, least-take, least-keep, least-done}
 use Rattle.alignment.specs.Offsets.{downs, rights}
 use Rattle.alignment.specs.Local.{windowSum}
-use borrow.Author.Needs.{needs}
-use native.Mathlib.Omega.{arith}
-use Prim.Native.Nat.{_-_, _≤_}
+use Rattle.algebra.specs.Prelude.{_-_, _≤_, arith, needs}
 use Rattle.alignment.proofs.search.search.Statement.{statement}
 use Rattle.alignment.proofs.search.search.Tie as tie
 
@@ -38,12 +36,6 @@ offset-sum-requires-2 : tie.Need-offset-sum-requires-2 Inv-loop μ-loop
 unfolding downs rights
 offset-sum-requires-2 c κs = search needs
 
-add-k : tie.Need-add-k Inv-loop μ-loop
-add-k c = search needs
-
-loop-less : tie.Need-loop-less Inv-loop μ-loop
-loop-less c = search needs
-
 loop-again : tie.Need-loop-again Inv-loop μ-loop
 loop-again c = let l = c .before .before .before .before .before .loop in
     let e = c .before .offset-sum2 .ensures in
@@ -56,19 +48,7 @@ returns-3 : tie.Need-returns-3 Inv-loop μ-loop
 returns-3 c = let d = least-done (c .before .loop .inv .0) (omega arith) in record { is = d .0; low = d .1; within = omega arith; most = c .before .loop .inv .1 }
 
 pub search-spec : {M : Type 1} → statement M
-search-spec =
-    tie.close
-    (tie.spec
-    Inv-loop
-    μ-loop
-    search-squared-requires
-    returns
-    search-absolute-requires
-    returns-2
-    offset-sum-requires
-    loop-holds
-    offset-sum-requires-2
-    add-k
-    loop-less
-    loop-again
-    returns-3)
+search-spec = tie.close (tie.spec
+    Inv-loop μ-loop search-squared-requires returns search-absolute-requires returns-2
+    offset-sum-requires loop-holds offset-sum-requires-2 (λ c. search needs) (λ c. search needs)
+    loop-again returns-3)

@@ -1,16 +1,11 @@
 -- The loop keeps the first least of the offsets tried so far; the arrays are the table's, and the tile is a copy.
-use mathlib.Core.Bool.{false}
+use Rattle.algebra.specs.Prelude.{refl, _∙_, false, _-_, arith, needs, lit≤, lit<}
 use mathlib.Core.Logic.{⊎-elim}
-use lib.Dec.{lit<, lit≤}
 use Rattle.alignment.specs.Offsets.{downs, rights}
 use Rattle.alignment.specs.FirstLaws.{Lowest, lowest-start, lowest-take, lowest-keep}
 use Rattle.alignment.specs.Local.{windowSum}
 use Rattle.alignment.specs.LocalLaws.{lowest-searched}
 use Rattle.alignment.specs.SixteenLaws.{own-window, own-sum}
-use borrow.Author.Needs.{needs}
-use native.Mathlib.Omega.{arith}
-use mathlib.Core.Path.{refl, _∙_}
-use Prim.Native.Nat.{_-_}
 use Rattle.alignment.proofs.search.search_absolute.Statement.{statement}
 use Rattle.alignment.proofs.search.search_absolute.Tie as tie
 
@@ -20,17 +15,11 @@ Inv-loop tile window down right own total sums best₀ low₀ k₀ best low k = 
 abbrev μ-loop : tie.MeasureT-loop
 μ-loop tile window down right own total sums best₀ low₀ k₀ best low k = 81 - k
 
-copied-requires : tie.Need-copied-requires Inv-loop μ-loop
-copied-requires c κs = c .before .before .pre .tile-low .room
-
 tile-total-requires : tie.Need-tile-total-requires Inv-loop μ-loop
 tile-total-requires c κs = own-window _ _ (c .before .copied .ensures) (c .before .before .before .before .pre) .tile-low
 
 boxes-requires : tie.Need-boxes-requires Inv-loop μ-loop
 boxes-requires c κs = c .before .before .before .before .before .pre .window-low
-
-loop-holds : tie.Need-loop-holds Inv-loop μ-loop
-loop-holds c = lowest-start
 
 absolute-offset-requires : tie.Need-absolute-offset-requires Inv-loop μ-loop
 unfolding downs rights
@@ -38,12 +27,6 @@ absolute-offset-requires c κs = let b = c .before .before .before .before .befo
     let t = b .before in
     let p = t .before .before in
     (own-window _ _ (p .copied .ensures) (p .before .before .before .pre), t .tile-total .ensures .0, t .tile-total .ensures .1, b .boxes .ensures, refl, refl, omega arith)
-
-add-k : tie.Need-add-k Inv-loop μ-loop
-add-k c = search needs
-
-loop-less : tie.Need-loop-less Inv-loop μ-loop
-loop-less c = search needs
 
 loop-again : tie.Need-loop-again Inv-loop μ-loop
 loop-again c = let a = c .before in
@@ -57,25 +40,11 @@ loop-again c = let a = c .before in
     (λ w. rw (w .1, w .2) (lowest-keep (l .inv) (omega arith) is (e .1) (lit< tt) (w .0 .left)))
     (c .if1 .came)
 
-cast-residual : tie.Need-cast-residual Inv-loop μ-loop
-cast-residual c = search needs
-
 returns : tie.Need-returns Inv-loop μ-loop
 returns c = lowest-searched (c .before .loop .inv) (omega arith) (lit≤ tt)
 
 pub search-absolute-spec : {M : Type 1} → statement M
-search-absolute-spec =
-    tie.close
-    (tie.spec
-    Inv-loop
-    μ-loop
-    copied-requires
-    tile-total-requires
-    boxes-requires
-    loop-holds
-    absolute-offset-requires
-    add-k
-    loop-less
-    loop-again
-    cast-residual
-    returns)
+search-absolute-spec = tie.close (tie.spec
+    Inv-loop μ-loop (λ c κs. c .before .before .pre .tile-low .room) tile-total-requires
+    boxes-requires (λ c. lowest-start) absolute-offset-requires (λ c. search needs)
+    (λ c. search needs) loop-again (λ c. search needs) returns)

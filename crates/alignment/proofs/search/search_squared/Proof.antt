@@ -1,16 +1,11 @@
 -- The loop keeps the first least of the offsets tried so far; the arrays are the table's, and the tile is a copy.
-use mathlib.Core.Bool.{true}
+use Rattle.algebra.specs.Prelude.{refl, _∙_, true, _-_, arith, needs, lit≤, lit<}
 use mathlib.Core.Logic.{⊎-elim}
-use lib.Dec.{lit<, lit≤}
 use Rattle.alignment.specs.Offsets.{downs, rights}
 use Rattle.alignment.specs.FirstLaws.{Lowest, lowest-start, lowest-take, lowest-keep}
 use Rattle.alignment.specs.Local.{windowSum}
 use Rattle.alignment.specs.LocalLaws.{lowest-searched}
 use Rattle.alignment.specs.SixteenLaws.{own-window, own-sum}
-use borrow.Author.Needs.{needs}
-use native.Mathlib.Omega.{arith}
-use mathlib.Core.Path.{refl, _∙_}
-use Prim.Native.Nat.{_-_}
 use Rattle.alignment.proofs.search.search_squared.Statement.{statement}
 use Rattle.alignment.proofs.search.search_squared.Tie as tie
 
@@ -20,22 +15,10 @@ Inv-loop tile window down right own best₀ low₀ k₀ best low k = Lowest (win
 abbrev μ-loop : tie.MeasureT-loop
 μ-loop tile window down right own best₀ low₀ k₀ best low k = 81 - k
 
-copied-requires : tie.Need-copied-requires Inv-loop μ-loop
-copied-requires c κs = c .before .before .pre .tile-low .room
-
-loop-holds : tie.Need-loop-holds Inv-loop μ-loop
-loop-holds c = lowest-start
-
 squared-offset-requires : tie.Need-squared-offset-requires Inv-loop μ-loop
 unfolding downs rights
 squared-offset-requires c κs = let p = c .before .before .before .before .before in
     (own-window _ _ (p .copied .ensures) (p .before .before .before .pre), refl, refl, omega arith)
-
-add-k : tie.Need-add-k Inv-loop μ-loop
-add-k c = search needs
-
-loop-less : tie.Need-loop-less Inv-loop μ-loop
-loop-less c = search needs
 
 loop-again : tie.Need-loop-again Inv-loop μ-loop
 loop-again c = let a = c .before in
@@ -53,15 +36,6 @@ returns : tie.Need-returns Inv-loop μ-loop
 returns c = lowest-searched (c .before .loop .inv) (omega arith) (lit≤ tt)
 
 pub search-squared-spec : {M : Type 1} → statement M
-search-squared-spec =
-    tie.close
-    (tie.spec
-    Inv-loop
-    μ-loop
-    copied-requires
-    loop-holds
-    squared-offset-requires
-    add-k
-    loop-less
-    loop-again
-    returns)
+search-squared-spec = tie.close (tie.spec
+    Inv-loop μ-loop (λ c κs. c .before .before .pre .tile-low .room) (λ c. lowest-start)
+    squared-offset-requires (λ c. search needs) (λ c. search needs) loop-again returns)

@@ -1,12 +1,7 @@
 -- The place lies within the window.
-use mathlib.Core.Bool.{true}
-use lib.Dec.{lit≤}
+use Rattle.algebra.specs.Prelude.{_≡_, ap, _∙_, true, arith, needs, lit≤, getD}
 use Rattle.alignment.specs.Offsets.{downs, rights}
 use Rattle.alignment.specs.SixteenLaws.{place-most, place-low, place-sum}
-use native.Mathlib.Omega.{arith}
-use mathlib.Core.Path.{_≡_, ap, _∙_}
-use lib.ListN.{getD}
-use borrow.Author.Needs.{needs}
 use Rattle.alignment.proofs.search.squared_offset.Statement.{statement}
 use Rattle.alignment.proofs.search.squared_offset.Tie as tie
 
@@ -15,18 +10,6 @@ down-is c = let s = c .before .before .before in c .wide .ensures ∙ ap (λ l. 
 
 right-is : (c : tie.After-wide2) → c .wide2 .result ≡ getD rights (c .before .before .before .before .before .args .k) 0
 right-is c = let s = c .before .before .before .before .before in c .wide2 .ensures ∙ ap (λ l. getD l (s .args .k) 0) (s .pre .2)
-
-element-copy-out-wide : tie.Need-element-copy-out-wide
-element-copy-out-wide c = search needs
-
-wide-requires : tie.Need-wide-requires
-wide-requires c κs = search needs
-
-element-copy-out-wide-2 : tie.Need-element-copy-out-wide-2
-element-copy-out-wide-2 c = search needs
-
-wide-requires-2 : tie.Need-wide-requires-2
-wide-requires-2 c κs = search needs
 
 mul-squared-sum : tie.Need-mul-squared-sum
 mul-squared-sum c = let s = c .before .before .before .before .before in omega (arith, place-most (s .pre .3) (down-is (c .before .before)) (right-is c))
@@ -43,14 +26,6 @@ returns c = let w = c .before in
     (c .squared-sum .ensures .0 ∙ place-sum (s .pre .3) (down-is (w .before .before)) (right-is w) true (s .args .tile .now) (s .args .window .now), c .squared-sum .ensures .1)
 
 pub squared-offset-spec : {M : Type 1} → statement M
-squared-offset-spec =
-    tie.close
-    (tie.spec
-    element-copy-out-wide
-    wide-requires
-    element-copy-out-wide-2
-    wide-requires-2
-    mul-squared-sum
-    add-squared-sum
-    squared-sum-requires
-    returns)
+squared-offset-spec = tie.close (tie.spec
+    (λ c. search needs) (λ c κs. search needs) (λ c. search needs) (λ c κs. search needs)
+    mul-squared-sum add-squared-sum squared-sum-requires returns)

@@ -1,16 +1,9 @@
 -- A small difference comes back from its bits.
-use lib.IntN.{pos}
-use mir.Syntax.{w64}
-use mir.Facts.{toZ-ofZ}
+use Rattle.algebra.specs.Prelude.{arith, needs, pos, w64, toZ-ofZ}
 use mir.ValLaws.{toZ-pos}
 use Rattle.algebra.specs.Bound.{sub-fits}
-use native.Mathlib.Omega.{arith}
-use borrow.Author.Needs.{needs}
 use Rattle.alignment.proofs.search.unbiased.Statement.{statement}
 use Rattle.alignment.proofs.search.unbiased.Tie as tie
-
-cast-result : tie.Need-cast-result
-cast-result c = search needs
 
 sub-result : tie.Need-sub-result
 sub-result c = rw (toZ-pos w64 (c .args .part) (omega arith)) (sub-fits w64 (pos (c .args .part)) (pos 4) 8 4 (record { most = c .pre }) (record { most = omega arith }) tt)
@@ -19,4 +12,4 @@ returns : tie.Need-returns
 returns c = rw (toZ-pos w64 (c .args .part) (omega arith)) (toZ-ofZ (sub-fits w64 (pos (c .args .part)) (pos 4) 8 4 (record { most = c .pre }) (record { most = omega arith }) tt))
 
 pub unbiased-spec : {M : Type 1} → statement M
-unbiased-spec = tie.close (tie.spec cast-result sub-result returns)
+unbiased-spec = tie.close (tie.spec (λ c. search needs) sub-result returns)

@@ -1,23 +1,7 @@
 -- Both samples are low, and so is their distance.
-use native.Mathlib.Omega.{arith}
-use borrow.Author.Needs.{needs}
+use Rattle.algebra.specs.Prelude.{arith, needs}
 use Rattle.alignment.proofs.sixteen.apart.Statement.{statement}
 use Rattle.alignment.proofs.sixteen.apart.Tie as tie
-
-mul-x : tie.Need-mul-x
-mul-x c = search needs
-
-shared-slice-read-x : tie.Need-shared-slice-read-x
-shared-slice-read-x c = search needs
-
-mul-y : tie.Need-mul-y
-mul-y c = search needs
-
-shared-slice-read-y : tie.Need-shared-slice-read-y
-shared-slice-read-y c = search needs
-
-sub-result : tie.Need-sub-result
-sub-result c = search needs
 
 returns : tie.Need-returns
 returns c = let s = c .before .before .before in omega (arith, s .pre .0 .most (s .args .a) (omega arith), s .pre .1 .most (s .args .b) (omega arith))
@@ -26,6 +10,6 @@ returns-2 : tie.Need-returns-2
 returns-2 c = let s = c .before .before .before in omega (arith, s .pre .0 .most (s .args .a) (omega arith), s .pre .1 .most (s .args .b) (omega arith))
 
 pub apart-spec : {M : Type 1} → statement M
-apart-spec =
-    tie.close
-    (tie.spec mul-x shared-slice-read-x mul-y shared-slice-read-y sub-result returns returns-2)
+apart-spec = tie.close (tie.spec
+    (λ c. search needs) (λ c. search needs) (λ c. search needs) (λ c. search needs)
+    (λ c. search needs) returns returns-2)

@@ -2,10 +2,7 @@
 use Rattle.alignment.specs.SixteenLaws.{low-less}
 use Rattle.sequences.specs.Tab.{Filled, fill-start, fill-turn, fill-done}
 use Rattle.alignment.specs.Local.{over, columnSum}
-use borrow.Author.Needs.{needs}
-use native.Mathlib.Omega.{arith}
-use mathlib.Core.Path.{refl}
-use Prim.Native.Nat.{_+_, _-_}
+use Rattle.algebra.specs.Prelude.{refl, _+_, _-_, arith, needs}
 use Rattle.alignment.proofs.sixteen.over_columns.Statement.{statement}
 use Rattle.alignment.proofs.sixteen.over_columns.Tie as tie
 
@@ -15,29 +12,8 @@ Inv-loop tile window a b stride sums₀ j₀ sums j = Filled (λ k. columnSum ov
 abbrev μ-loop : tie.MeasureT-loop
 μ-loop tile window a b stride sums₀ j₀ sums j = 16 - j
 
-loop-holds : tie.Need-loop-holds Inv-loop μ-loop
-loop-holds c = fill-start refl
-
-add-over-column : tie.Need-add-over-column Inv-loop μ-loop
-add-over-column c = search needs
-
-add-over-column-2 : tie.Need-add-over-column-2 Inv-loop μ-loop
-add-over-column-2 c = search needs
-
 over-column-requires : tie.Need-over-column-requires Inv-loop μ-loop
 over-column-requires c κs = let s = c .before .before .before in (s .pre .0, omega arith, low-less (s .pre .2) _ (omega arith), s .pre .3)
-
-mul-sums : tie.Need-mul-sums Inv-loop μ-loop
-mul-sums c = search needs
-
-array-write-sums : tie.Need-array-write-sums Inv-loop μ-loop
-array-write-sums c = search needs
-
-add-j : tie.Need-add-j Inv-loop μ-loop
-add-j c = search needs
-
-loop-less : tie.Need-loop-less Inv-loop μ-loop
-loop-less c = search needs
 
 loop-again : tie.Need-loop-again Inv-loop μ-loop
 loop-again c = fill-turn (c .before .before .loop .inv) (omega arith) (c .over-column .ensures .0)
@@ -46,18 +22,7 @@ returns : tie.Need-returns Inv-loop μ-loop
 returns c = fill-done (c .before .loop .inv) (omega arith)
 
 pub over-columns-spec : {M : Type 1} → statement M
-over-columns-spec =
-    tie.close
-    (tie.spec
-    Inv-loop
-    μ-loop
-    loop-holds
-    add-over-column
-    add-over-column-2
-    over-column-requires
-    mul-sums
-    array-write-sums
-    add-j
-    loop-less
-    loop-again
-    returns)
+over-columns-spec = tie.close (tie.spec
+    Inv-loop μ-loop (λ c. fill-start refl) (λ c. search needs) (λ c. search needs)
+    over-column-requires (λ c. search needs) (λ c. search needs) (λ c. search needs)
+    (λ c. search needs) loop-again returns)

@@ -1,43 +1,21 @@
 -- Each four rows end within what is low.
 use Rattle.alignment.specs.Local.{over}
 use Rattle.alignment.specs.SixteenLaws.{low-less, total-whole}
-use native.Mathlib.Omega.{arith}
-use borrow.Author.Needs.{needs}
+use Rattle.algebra.specs.Prelude.{arith, needs}
 use Rattle.alignment.proofs.sixteen.over_sum.Statement.{statement}
 use Rattle.alignment.proofs.sixteen.over_sum.Tie as tie
 
 over-columns-requires : tie.Need-over-columns-requires
 over-columns-requires c κs = let s = c .before in (s .pre .0, omega arith, low-less (s .pre .1) _ (omega arith), s .pre .2)
 
-mul-over-columns : tie.Need-mul-over-columns
-mul-over-columns c = search needs
-
-add-over-columns : tie.Need-add-over-columns
-add-over-columns c = search needs
-
 over-columns-requires-2 : tie.Need-over-columns-requires-2
 over-columns-requires-2 c κs = let s = c .before .before in (s .pre .0, omega arith, low-less (s .pre .1) _ (omega arith), s .pre .2)
-
-mul-over-columns-2 : tie.Need-mul-over-columns-2
-mul-over-columns-2 c = search needs
-
-add-over-columns-2 : tie.Need-add-over-columns-2
-add-over-columns-2 c = search needs
 
 over-columns-requires-3 : tie.Need-over-columns-requires-3
 over-columns-requires-3 c κs = let s = c .before .before .before in (s .pre .0, omega arith, low-less (s .pre .1) _ (omega arith), s .pre .2)
 
-mul-over-columns-3 : tie.Need-mul-over-columns-3
-mul-over-columns-3 c = search needs
-
-add-over-columns-3 : tie.Need-add-over-columns-3
-add-over-columns-3 c = search needs
-
 over-columns-requires-4 : tie.Need-over-columns-requires-4
 over-columns-requires-4 c κs = let s = c .before .before .before .before in (s .pre .0, omega arith, low-less (s .pre .1) _ (omega arith), s .pre .2)
-
-total-requires : tie.Need-total-requires
-total-requires c κs = search needs
 
 returns : tie.Need-returns
 returns c = let d = c .before in
@@ -46,18 +24,7 @@ returns c = let d = c .before in
     (total-whole over (a .tile .now) (a .window .now) (a .start) (a .stride) _ _ _ _ _ (d .before .before .before .over-columns .ensures) (d .before .before .over-columns2 .ensures) (d .before .over-columns3 .ensures) (d .over-columns4 .ensures) (e .0), e .1)
 
 pub over-sum-spec : {M : Type 1} → statement M
-over-sum-spec =
-    tie.close
-    (tie.spec
-    over-columns-requires
-    mul-over-columns
-    add-over-columns
-    over-columns-requires-2
-    mul-over-columns-2
-    add-over-columns-2
-    over-columns-requires-3
-    mul-over-columns-3
-    add-over-columns-3
-    over-columns-requires-4
-    total-requires
-    returns)
+over-sum-spec = tie.close (tie.spec
+    over-columns-requires (λ c. search needs) (λ c. search needs) over-columns-requires-2
+    (λ c. search needs) (λ c. search needs) over-columns-requires-3 (λ c. search needs)
+    (λ c. search needs) over-columns-requires-4 (λ c κs. search needs) returns)

@@ -1,19 +1,11 @@
 -- The signed difference of low samples fits 16 bits; its square is that of their distance and fits 32.
 use native.Mathlib.Nat.{mul-le-mul}
-use native.Mathlib.Omega.{arith}
-use mathlib.Core.Path.{_≡_, ap₂, _∙_}
-use Prim.Native.Nat.{ℕ, _*_, _≤_}
-use lib.Dec.{T}
-use lib.IntN.{ℤ, pos, negsuc, natAbs, _-ℤ_, _*ℤ_}
+use Rattle.algebra.specs.Prelude.{_≡_, ap₂, _∙_, ℕ, _*_, _≤_, arith, needs, T, ℤ, pos, negsuc, natAbs, _-ℤ_, _*ℤ_, w16, w32, SFits, toZ-ofZ}
 use lib.Signed.{nonNeg}
-use mir.Syntax.{w16, w32}
-use mir.Val.{SFits}
-use mir.Facts.{toZ-ofZ}
 use mir.ValLaws.{toZ-pos}
-use Rattle.algebra.specs.Bound.{AtMost, most-fits, sub-fits, mul-fits}
+use Rattle.algebra.specs.Bound.{AtMost, most-fits, mul-fits}
 use Rattle.algebra.specs.Order.{zarith, abs-pn, min-pn, sub-pn, abs-mul}
 use Rattle.alignment.specs.Residual.{gap}
-use borrow.Author.Needs.{needs}
 use Rattle.alignment.proofs.sixteen.square.Statement.{statement}
 use Rattle.alignment.proofs.sixteen.square.Tie as tie
 
@@ -43,12 +35,6 @@ module _ (x y : ℕ) (hx : x ≤ 16380) (hy : y ≤ 16380) where
   square-most : natAbs ((pos x -ℤ pos y) *ℤ (pos x -ℤ pos y)) ≤ 268304400
   square-most = omega (arith, abs-mul (pos x -ℤ pos y) (pos x -ℤ pos y), mul-le-mul (low .most) (low .most))
 
-cast-d : tie.Need-cast-d
-cast-d c = search needs
-
-cast-d-2 : tie.Need-cast-d-2
-cast-d-2 c = search needs
-
 sub-d : tie.Need-sub-d
 sub-d c = let a = c .args in rw (toZ-pos w16 (a .x) (omega arith), toZ-pos w16 (a .y) (omega arith)) (fits-16 (a .x) (a .y) (c .pre .0) (c .pre .1))
 
@@ -65,4 +51,5 @@ returns : tie.Need-returns
 returns c = let a = c .args in rw (toZ-pos w16 (a .x) (omega arith), toZ-pos w16 (a .y) (omega arith), toZ-ofZ (fits-16 (a .x) (a .y) (c .pre .0) (c .pre .1)), toZ-ofZ (fits-32 (a .x) (a .y) (c .pre .0) (c .pre .1)), toZ-ofZ (square-fits (a .x) (a .y) (c .pre .0) (c .pre .1))) (square-is (a .x) (a .y) (c .pre .0) (c .pre .1), square-most (a .x) (a .y) (c .pre .0) (c .pre .1))
 
 pub square-spec : {M : Type 1} → statement M
-square-spec = tie.close (tie.spec cast-d cast-d-2 sub-d cast-d-3 mul-result cast-result returns)
+square-spec = tie.close (tie.spec
+    (λ c. search needs) (λ c. search needs) sub-d cast-d-3 mul-result cast-result returns)

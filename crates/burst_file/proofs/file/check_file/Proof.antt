@@ -12,15 +12,6 @@ use Rattle.burst_file.proofs.Bodies.{head-allowed, body-unmeasured}
 use Rattle.burst_file.proofs.file.check_file.Statement.{statement}
 use Rattle.burst_file.proofs.file.check_file.Tie as tie
 
-read-head-requires : tie.Need-read-head-requires
-read-head-requires c κs = search needs
-
-enum-known-number : tie.Need-enum-known-number
-enum-known-number c = search needs
-
-enum-known-header : tie.Need-enum-known-header
-enum-known-header c = search needs
-
 -- where the head is `head`
 told : (c : tie.After-read-head) (head : Head) → c .read-head .result ≡ head → headIn (c .before .before .args .file .now) head ≡ headOf (c .before .before .args .file .now)
 told c head e = ap (headIn (c .before .before .args .file .now)) (sym e) ∙ c .read-head .ensures
@@ -48,12 +39,6 @@ returns-2 c =
     c .check-frames .ensures ∙ sym (body-unmeasured (g .0 .0) _) ∙ decided (at .before .before) (Found (g .0 .0) (g .0 .1 .0)) (g .1)
 
 pub check-file-spec : {M : Type 1} → statement M
-check-file-spec =
-    tie.close
-    (tie.spec
-    read-head-requires
-    enum-known-number
-    enum-known-header
-    check-frames-requires
-    returns
+check-file-spec = tie.close (tie.spec
+    (λ c κs. search needs) (λ c. search needs) (λ c. search needs) check-frames-requires returns
     returns-2)

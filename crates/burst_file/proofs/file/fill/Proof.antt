@@ -18,12 +18,6 @@ Inv-loop file at samples₀ i₀ j₀ samples i j =
 abbrev μ-loop : tie.MeasureT-loop
 μ-loop file at samples₀ i₀ j₀ samples i j = length samples₀ - j
 
-loop-holds : tie.Need-loop-holds Inv-loop μ-loop
-loop-holds c = (fill-start refl, take-start)
-
-value-at-requires : tie.Need-value-at-requires Inv-loop μ-loop
-value-at-requires c κs = search needs
-
 inside : (c : tie.After-value-at Inv-loop μ-loop) → c .before .before .loop .j < length (c .before .before .before .before .before .args .samples .now)
 inside c = omega (arith, c .before .before .loop .inv .0 .same, c .before .loop-test .taken)
 
@@ -42,26 +36,11 @@ cast-samples c =
     let a = at .before .before .before .before .before .args in
     omega (arith, stored at, above-at 4095 (nextValues (length (a .samples .now)) (drop (a .at) (a .file .now))) (at .before .before .before .before .before .pre) (at .before .before .loop .j))
 
-mul-samples : tie.Need-mul-samples Inv-loop μ-loop
-mul-samples c = search needs
-
-slice-write-samples : tie.Need-slice-write-samples Inv-loop μ-loop
-slice-write-samples c = search needs
-
-add-j : tie.Need-add-j Inv-loop μ-loop
-add-j c = search needs
-
-loop-less : tie.Need-loop-less Inv-loop μ-loop
-loop-less c = omega (arith, inside (c .before))
-
 loop-again : tie.Need-loop-again Inv-loop μ-loop
 loop-again c =
     let at = c .before in
     let l = at .before .before .loop in
     (fill-turn (l .inv .0) (inside at) (stored at), take-turn (l .inv .1) (inside at) (at .value-at .ensures .1))
-
-same-length : tie.Need-same-length Inv-loop μ-loop
-same-length c = search needs
 
 returns : tie.Need-returns Inv-loop μ-loop
 returns c =
@@ -70,18 +49,7 @@ returns c =
     fill-done (l .inv .0) (omega (arith, l .inv .0 .same, c .loop-test .left)) ∙ next-table (length (a .samples .now)) (drop (a .at) (a .file .now))
 
 pub fill-spec : {M : Type 1} → statement M
-fill-spec =
-    tie.close
-    (tie.spec
-    Inv-loop
-    μ-loop
-    loop-holds
-    value-at-requires
-    cast-samples
-    mul-samples
-    slice-write-samples
-    add-j
-    loop-less
-    loop-again
-    same-length
-    returns)
+fill-spec = tie.close (tie.spec
+    Inv-loop μ-loop (λ c. (fill-start refl, take-start)) (λ c κs. search needs) cast-samples
+    (λ c. search needs) (λ c. search needs) (λ c. search needs)
+    (λ c. omega (arith, inside (c .before))) loop-again (λ c. search needs) returns)

@@ -20,18 +20,6 @@ use Rattle.burst_file.proofs.Bodies.{head-allowed, frames-next, head-re
 use Rattle.burst_file.proofs.file.read_file.Statement.{statement}
 use Rattle.burst_file.proofs.file.read_file.Tie as tie
 
-read-head-requires : tie.Need-read-head-requires
-read-head-requires c κs = search needs
-
-enum-known-number : tie.Need-enum-known-number
-enum-known-number c = search needs
-
-refused-requires : tie.Need-refused-requires
-refused-requires c κs = search needs
-
-enum-known-header : tie.Need-enum-known-header
-enum-known-header c = search needs
-
 -- where the head is `head`
 told : (c : tie.After-read-head) (head : Head) → c .read-head .result ≡ head →
     let file = c .before .before .before .args .file .now in
@@ -45,12 +33,6 @@ headed c = told (c .before .before) (Found (c .header .given .0 .0) (c .header .
 
 sample-length-requires : tie.Need-sample-length-requires
 sample-length-requires c κs = head-allowed _ _ _ (headed (c .before .before))
-
-length-refusal-requires : tie.Need-length-refusal-requires
-length-refusal-requires c κs = search needs
-
-refused-requires-2 : tie.Need-refused-requires-2
-refused-requires-2 c κs = search needs
 
 module _ (file samples : List ℕ) {answer : FileAnswer} where
   -- a refusal, and the samples as they were
@@ -78,9 +60,6 @@ returns c =
 check-frames-requires : tie.Need-check-frames-requires
 check-frames-requires c κs = head-allowed _ _ _ (headed (c .before .before .before .before .before))
 
-refused-requires-3 : tie.Need-refused-requires-3
-refused-requires-3 c κs = search needs
-
 returns-2 : tie.Need-returns-2
 returns-2 c =
     let checked = c .before .before in
@@ -103,16 +82,10 @@ fill-requires c κs =
     ap (λ (n : ℕ). above 4095 (nextValues n rest)) (length-right (checked .before))
     ∙ frames-next (header .header .given .0 .0 .shape) rest (sym (checked .check-frames .ensures) ∙ c .before .if2 .left) .1
 
-accepted-requires : tie.Need-accepted-requires
-accepted-requires c κs = search needs
-
 returns-3 : tie.Need-returns-3
 returns-3 c =
     let g = c .before .before .number .given in
     refusal _ _ (head-refuses _ _ (told (c .before .before .before .before) (Refused (g .0 .0)) (g .1))) (c .refused .ensures)
-
-same-length : tie.Need-same-length
-same-length c = search needs
 
 returns-4 : tie.Need-returns-4
 returns-4 c =
@@ -128,22 +101,8 @@ returns-4 c =
     (filled .fill .ensures ∙ ap (λ (n : ℕ). nextValues n rest) (length-right (checked .before)))
 
 pub read-file-spec : {M : Type 1} → statement M
-read-file-spec =
-    tie.close
-    (tie.spec
-    read-head-requires
-    enum-known-number
-    refused-requires
-    enum-known-header
-    sample-length-requires
-    length-refusal-requires
-    refused-requires-2
-    returns
-    check-frames-requires
-    refused-requires-3
-    returns-2
-    fill-requires
-    accepted-requires
-    returns-3
-    same-length
-    returns-4)
+read-file-spec = tie.close (tie.spec
+    (λ c κs. search needs) (λ c. search needs) (λ c κs. search needs) (λ c. search needs)
+    sample-length-requires (λ c κs. search needs) (λ c κs. search needs) returns
+    check-frames-requires (λ c κs. search needs) returns-2 fill-requires (λ c κs. search needs)
+    returns-3 (λ c. search needs) returns-4)

@@ -6,18 +6,9 @@ use Rattle.burst_file.specs.Head.{firstLineRefusal}
 use Rattle.burst_file.proofs.first_lines.first_line_refusal.Statement.{statement}
 use Rattle.burst_file.proofs.first_lines.first_line_refusal.Tie as tie
 
-has-lf-requires : tie.Need-has-lf-requires
-has-lf-requires c κs = search needs
-
 returns : tie.Need-returns
 unfolding firstLineRefusal
 returns c = rw (sym (c .before .has-lf .ensures) ∙ not-true _ (c .if1 .taken))
-
-slice-aggregate-starts-with : tie.Need-slice-aggregate-starts-with
-slice-aggregate-starts-with c = search needs
-
-starts-with-requires : tie.Need-starts-with-requires
-starts-with-requires c κs = search needs
 
 returns-2 : tie.Need-returns-2
 unfolding firstLineRefusal
@@ -32,6 +23,5 @@ returns-3 c =
     rw (sym (at .before .has-lf .ensures) ∙ not-false _ (at .if1 .left), sym (c .before .starts-with .ensures) ∙ not-false _ (c .if2 .left))
 
 pub first-line-refusal-spec : {M : Type 1} → statement M
-first-line-refusal-spec =
-    tie.close
-    (tie.spec has-lf-requires returns slice-aggregate-starts-with starts-with-requires returns-2 returns-3)
+first-line-refusal-spec = tie.close (tie.spec
+    (λ c κs. search needs) returns (λ c. search needs) (λ c κs. search needs) returns-2 returns-3)

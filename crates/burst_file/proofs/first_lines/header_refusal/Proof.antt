@@ -5,24 +5,15 @@ use Rattle.burst_file.specs.Head.{headerRefusal}
 use Rattle.burst_file.proofs.first_lines.header_refusal.Statement.{statement}
 use Rattle.burst_file.proofs.first_lines.header_refusal.Tie as tie
 
-shape-refusal-requires : tie.Need-shape-refusal-requires
-shape-refusal-requires c κs = search needs
-
 returns : tie.Need-returns
 unfolding headerRefusal
 returns c = stops _ (c .before .shape-refusal .ensures .0) (c .if1 .taken)
-
-reference-refusal-requires : tie.Need-reference-refusal-requires
-reference-refusal-requires c κs = search needs
 
 returns-2 : tie.Need-returns-2
 unfolding headerRefusal
 returns-2 c =
     let first = c .before .before in
     goes (first .before .shape-refusal .ensures .0) (first .if1 .left) (stops _ (c .before .reference-refusal .ensures) (c .if2 .taken))
-
-level-refusal-requires : tie.Need-level-refusal-requires
-level-refusal-requires c κs = search needs
 
 returns-3 : tie.Need-returns-3
 unfolding headerRefusal
@@ -31,9 +22,6 @@ returns-3 c =
     let first = second .before .before in
     goes (first .before .shape-refusal .ensures .0) (first .if1 .left)
     (goes (second .before .reference-refusal .ensures) (second .if2 .left) (stops _ (c .before .level-refusal .ensures) (c .if3 .taken)))
-
-strength-refusal-requires : tie.Need-strength-refusal-requires
-strength-refusal-requires c κs = search needs
 
 returns-4 : tie.Need-returns-4
 unfolding headerRefusal
@@ -46,14 +34,6 @@ returns-4 c =
     (goes (third .before .level-refusal .ensures) (third .if3 .left) (c .strength-refusal .ensures)))
 
 pub header-refusal-spec : {M : Type 1} → statement M
-header-refusal-spec =
-    tie.close
-    (tie.spec
-    shape-refusal-requires
-    returns
-    reference-refusal-requires
-    returns-2
-    level-refusal-requires
-    returns-3
-    strength-refusal-requires
-    returns-4)
+header-refusal-spec = tie.close (tie.spec
+    (λ c κs. search needs) returns (λ c κs. search needs) returns-2 (λ c κs. search needs) returns-3
+    (λ c κs. search needs) returns-4)

@@ -17,27 +17,9 @@ use Rattle.burst_file.proofs.Next.{line-found-next, line-refused}
 use Rattle.burst_file.proofs.first_lines.read_head.Statement.{statement}
 use Rattle.burst_file.proofs.first_lines.read_head.Tie as tie
 
-first-line-refusal-requires : tie.Need-first-line-refusal-requires
-first-line-refusal-requires c κs = search needs
-
 returns : tie.Need-returns
 unfolding headOf
 returns c = unless-stops (valueLine 7 (drop 48 (c .before .before .before .args .file .now)) then tested) (c .before .first-line-refusal .ensures) (c .if1 .taken)
-
-check-line-requires : tie.Need-check-line-requires
-check-line-requires c κs = search needs
-
-enum-known-number : tie.Need-enum-known-number
-enum-known-number c = search needs
-
-enum-known-next : tie.Need-enum-known-next
-enum-known-next c = search needs
-
-header-at-requires : tie.Need-header-at-requires
-header-at-requires c κs = search needs
-
-header-refusal-requires : tie.Need-header-refusal-requires
-header-refusal-requires c κs = search needs
 
 -- where the names stand, line 2 decides
 named : (c : tie.Else1) (line : Part (List ℕ)) →
@@ -90,16 +72,6 @@ returns-4 c =
     ∙ seven at
 
 pub read-head-spec : {M : Type 1} → statement M
-read-head-spec =
-    tie.close
-    (tie.spec
-    first-line-refusal-requires
-    returns
-    check-line-requires
-    enum-known-number
-    enum-known-next
-    header-at-requires
-    header-refusal-requires
-    returns-2
-    returns-3
-    returns-4)
+read-head-spec = tie.close (tie.spec
+    (λ c κs. search needs) returns (λ c κs. search needs) (λ c. search needs) (λ c. search needs)
+    (λ c κs. search needs) (λ c κs. search needs) returns-2 returns-3 returns-4)

@@ -15,28 +15,13 @@ Inv-loop file text i₀ i = startsWith (drop i text) (drop i file) ≡ startsWit
 abbrev μ-loop : tie.MeasureT-loop
 μ-loop file text i₀ i = length text - i
 
-loop-holds : tie.Need-loop-holds Inv-loop μ-loop
-loop-holds c = refl
-
 returns : tie.Need-returns Inv-loop μ-loop
 returns c = sym (starts-short _ _ _ (c .before .loop-test .taken) (c .if1 .taken)) ∙ c .before .before .loop .inv
-
-shared-slice-read-if2 : tie.Need-shared-slice-read-if2 Inv-loop μ-loop
-shared-slice-read-if2 c = search needs
-
-shared-slice-read-if2-2 : tie.Need-shared-slice-read-if2-2 Inv-loop μ-loop
-shared-slice-read-if2-2 c = search needs
 
 returns-2 : tie.Need-returns-2 Inv-loop μ-loop
 returns-2 c =
     let at = c .before .before .before in
     sym (starts-off _ _ _ (at .before .loop-test .taken) (at .if1 .left) (c .if2 .taken)) ∙ at .before .before .loop .inv
-
-add-i : tie.Need-add-i Inv-loop μ-loop
-add-i c = omega arith
-
-loop-less : tie.Need-loop-less Inv-loop μ-loop
-loop-less c = omega arith
 
 loop-again : tie.Need-loop-again Inv-loop μ-loop
 loop-again c =
@@ -47,17 +32,6 @@ returns-3 : tie.Need-returns-3 Inv-loop μ-loop
 returns-3 c = sym (starts-all _ _ _ (c .loop-test .left)) ∙ c .before .loop .inv
 
 pub starts-with-spec : {M : Type 1} → statement M
-starts-with-spec =
-    tie.close
-    (tie.spec
-    Inv-loop
-    μ-loop
-    loop-holds
-    returns
-    shared-slice-read-if2
-    shared-slice-read-if2-2
-    returns-2
-    add-i
-    loop-less
-    loop-again
-    returns-3)
+starts-with-spec = tie.close (tie.spec
+    Inv-loop μ-loop (λ c. refl) returns (λ c. search needs) (λ c. search needs) returns-2
+    (λ c. omega arith) (λ c. omega arith) loop-again returns-3)

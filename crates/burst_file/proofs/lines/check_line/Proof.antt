@@ -11,18 +11,6 @@ use Rattle.burst_file.proofs.Values.{line-found}
 use Rattle.burst_file.proofs.lines.check_line.Statement.{statement}
 use Rattle.burst_file.proofs.lines.check_line.Tie as tie
 
-scan-line-requires : tie.Need-scan-line-requires
-scan-line-requires c κs = search needs
-
-enum-known-next : tie.Need-enum-known-next
-enum-known-next c = search needs
-
-enum-known-number : tie.Need-enum-known-number
-enum-known-number c = search needs
-
-has-lf-requires : tie.Need-has-lf-requires
-has-lf-requires c κs = search needs
-
 -- where the scan answers `line`
 told : (c : tie.After-scan-line) (line : Line) → c .scan-line .result ≡ line →
     let a = c .before .before .args in
@@ -44,13 +32,6 @@ returns-3 : tie.Need-returns-3
 returns-3 c = rw (sym (c .before .has-lf .ensures) ∙ c .if1 .left)
 
 pub check-line-spec : {M : Type 1} → statement M
-check-line-spec =
-    tie.close
-    (tie.spec
-    scan-line-requires
-    enum-known-next
-    enum-known-number
-    has-lf-requires
-    returns
-    returns-2
-    returns-3)
+check-line-spec = tie.close (tie.spec
+    (λ c κs. search needs) (λ c. search needs) (λ c. search needs) (λ c κs. search needs) returns
+    returns-2 returns-3)

@@ -3,11 +3,6 @@ use borrow.Author.Tests.{eq-eqb, ne-eqb}
 use Rattle.burst_file.proofs.lines.end_line.Statement.{statement}
 use Rattle.burst_file.proofs.lines.end_line.Tie as tie
 
-returns : tie.Need-returns
-returns c = rw (ne-eqb _ _ (c .if1 .taken))
-
-returns-2 : tie.Need-returns-2
-returns-2 c = rw (eq-eqb _ _ (c .if1 .left))
-
 pub end-line-spec : {M : Type 1} → statement M
-end-line-spec = tie.close (tie.spec returns returns-2)
+end-line-spec = tie.close (tie.spec
+    (λ c. rw (ne-eqb _ _ (c .if1 .taken))) (λ c. rw (eq-eqb _ _ (c .if1 .left))))

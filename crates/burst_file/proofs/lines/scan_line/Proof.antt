@@ -19,18 +19,6 @@ Inv-loop file at count bound left₀ i₀ over₀ left i over = judged over boun
 abbrev μ-loop : tie.MeasureT-loop
 μ-loop file at count bound left₀ i₀ over₀ left i over = left
 
-loop-holds : tie.Need-loop-holds Inv-loop μ-loop
-loop-holds c = refl
-
-sub-left : tie.Need-sub-left Inv-loop μ-loop
-sub-left c = search needs
-
-next-value-requires : tie.Need-next-value-requires Inv-loop μ-loop
-next-value-requires c κs = search needs
-
-enum-told : tie.Need-enum-told Inv-loop μ-loop
-enum-told c = search needs
-
 -- where the scan is `scan`, the line is what `afterItem` makes of it
 stepped : (c : tie.After-next-value Inv-loop μ-loop) (scan : Scan) → c .next-value .result ≡ scan →
     let l = c .before .before .loop in
@@ -45,15 +33,6 @@ stepped c scan e =
 returns : tie.Need-returns Inv-loop μ-loop
 returns c = stepped (c .before .before) Bad (c .enum-told .given .1)
 
-enum-known-value : tie.Need-enum-known-value Inv-loop μ-loop
-enum-known-value c = search needs
-
-or-above-requires : tie.Need-or-above-requires Inv-loop μ-loop
-or-above-requires c κs = search needs
-
-end-line-requires : tie.Need-end-line-requires Inv-loop μ-loop
-end-line-requires c κs = search needs
-
 returns-2 : tie.Need-returns-2 Inv-loop μ-loop
 returns-2 c =
     let f = c .before .before .before .value .given in
@@ -63,15 +42,6 @@ returns-2 c =
     ap (lineIn (a .file .now)) (c .end-line .ensures ∙ ap (endedLine (l .left - 1) (f .0 .1 .0)) (c .before .or-above .ensures))
     ∙ judged-end (l .left - 1) (f .0 .1 .0) (l .over) (a .bound) (f .0 .0) (a .file .now) (λ t. valuesOf (l .left - 1) t)
     ∙ stepped at (Last (f .0 .0) (f .0 .1 .0)) (f .1)
-
-enum-known-value-2 : tie.Need-enum-known-value-2 Inv-loop μ-loop
-enum-known-value-2 c = search needs
-
-or-above-requires-2 : tie.Need-or-above-requires-2 Inv-loop μ-loop
-or-above-requires-2 c κs = search needs
-
-loop-less : tie.Need-loop-less Inv-loop μ-loop
-loop-less c = omega arith
 
 loop-again : tie.Need-loop-again Inv-loop μ-loop
 loop-again c =
@@ -90,22 +60,7 @@ returns-3 c =
     ap (judged (l .over) (a .bound)) (sym (values-none (l .left) (drop (l .i) (a .file .now)) (c .loop-test .left))) ∙ l .inv
 
 pub scan-line-spec : {M : Type 1} → statement M
-scan-line-spec =
-    tie.close
-    (tie.spec
-    Inv-loop
-    μ-loop
-    loop-holds
-    sub-left
-    next-value-requires
-    enum-told
-    returns
-    enum-known-value
-    or-above-requires
-    end-line-requires
-    returns-2
-    enum-known-value-2
-    or-above-requires-2
-    loop-less
-    loop-again
-    returns-3)
+scan-line-spec = tie.close (tie.spec
+    Inv-loop μ-loop (λ c. refl) (λ c. search needs) (λ c κs. search needs) (λ c. search needs)
+    returns (λ c. search needs) (λ c κs. search needs) (λ c κs. search needs) returns-2
+    (λ c. search needs) (λ c κs. search needs) (λ c. omega arith) loop-again returns-3)

@@ -21,15 +21,6 @@ mul-check-rows c =
     let most : shape .count * shape .height ≤ 32768 = mul-le-mul {n₁ = shape .count} {m₁ = shape .height} {n₂ = 8} {m₂ = 4096} (start .pre .few) (start .pre .high .most) in
     omega arith
 
-check-rows-requires : tie.Need-check-rows-requires
-check-rows-requires c κs = search needs
-
-enum-known-number : tie.Need-enum-known-number
-enum-known-number c = search needs
-
-enum-known-next : tie.Need-enum-known-next
-enum-known-next c = search needs
-
 -- where the rows are `passed`
 told : (c : tie.After-check-rows) (passed : Passage) → c .check-rows .result ≡ passed →
     let a = c .before .before .before .args in
@@ -56,13 +47,6 @@ returns-3 c =
     at-end tt _ _ (c .if1 .left) ∙ told (c .before .before .before .before) (Found (g .0 .0)) (g .1)
 
 pub check-frames-spec : {M : Type 1} → statement M
-check-frames-spec =
-    tie.close
-    (tie.spec
-    mul-check-rows
-    check-rows-requires
-    enum-known-number
-    enum-known-next
-    returns
-    returns-2
+check-frames-spec = tie.close (tie.spec
+    mul-check-rows (λ c κs. search needs) (λ c. search needs) (λ c. search needs) returns returns-2
     returns-3)

@@ -10,15 +10,6 @@ use Rattle.burst_file.proofs.Passages.{decided, row-decided}
 use Rattle.burst_file.proofs.rows.check_row.Statement.{statement}
 use Rattle.burst_file.proofs.rows.check_row.Tie as tie
 
-check-line-requires : tie.Need-check-line-requires
-check-line-requires c κs = search needs
-
-enum-known-number : tie.Need-enum-known-number
-enum-known-number c = search needs
-
-enum-known-next : tie.Need-enum-known-next
-enum-known-next c = search needs
-
 -- where the line is `line`
 told : (c : tie.After-check-line) (line : Line) → c .check-line .result ≡ line →
     let a = c .before .before .args in
@@ -43,12 +34,5 @@ returns-3 c =
     rw (c .if1 .left) at (told (c .before .before .before .before) (Found (g .0 .0) (g .0 .1 .0)) (g .1))
 
 pub check-row-spec : {M : Type 1} → statement M
-check-row-spec =
-    tie.close
-    (tie.spec
-    check-line-requires
-    enum-known-number
-    enum-known-next
-    returns
-    returns-2
-    returns-3)
+check-row-spec = tie.close (tie.spec
+    (λ c κs. search needs) (λ c. search needs) (λ c. search needs) returns returns-2 returns-3)

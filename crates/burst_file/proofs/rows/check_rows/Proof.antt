@@ -19,18 +19,6 @@ Inv-loop file at count width left₀ i₀ left i = briefly (rows left width (dro
 abbrev μ-loop : tie.MeasureT-loop
 μ-loop file at count width left₀ i₀ left i = left
 
-loop-holds : tie.Need-loop-holds Inv-loop μ-loop
-loop-holds c = refl
-
-sub-left : tie.Need-sub-left Inv-loop μ-loop
-sub-left c = search needs
-
-check-row-requires : tie.Need-check-row-requires Inv-loop μ-loop
-check-row-requires c κs = search needs
-
-enum-known-number : tie.Need-enum-known-number Inv-loop μ-loop
-enum-known-number c = search needs
-
 -- where the row is `passed`
 stepped : (c : tie.After-check-row Inv-loop μ-loop) (passed : Passage) → c .check-row .result ≡ passed →
     let l = c .before .before .loop in
@@ -47,12 +35,6 @@ returns c =
     let g = c .before .number .given in
     stepped (c .before .before .before) (Refused (g .0 .0)) (g .1)
 
-enum-known-next : tie.Need-enum-known-next Inv-loop μ-loop
-enum-known-next c = search needs
-
-loop-less : tie.Need-loop-less Inv-loop μ-loop
-loop-less c = omega arith
-
 loop-again : tie.Need-loop-again Inv-loop μ-loop
 loop-again c =
     let g = c .before .next .given in
@@ -65,17 +47,6 @@ returns-2 c =
     rows-none (l .left) (a .width) (drop (l .i) (a .file .now)) (c .loop-test .left) ∙ l .inv
 
 pub check-rows-spec : {M : Type 1} → statement M
-check-rows-spec =
-    tie.close
-    (tie.spec
-    Inv-loop
-    μ-loop
-    loop-holds
-    sub-left
-    check-row-requires
-    enum-known-number
-    returns
-    enum-known-next
-    loop-less
-    loop-again
-    returns-2)
+check-rows-spec = tie.close (tie.spec
+    Inv-loop μ-loop (λ c. refl) (λ c. search needs) (λ c κs. search needs) (λ c. search needs)
+    returns (λ c. search needs) (λ c. omega arith) loop-again returns-2)

@@ -5,9 +5,6 @@ use borrow.Author.Tests.{le-ltb, lt-ltb}
 use Rattle.burst_file.proofs.scanning.digit.Statement.{statement}
 use Rattle.burst_file.proofs.scanning.digit.Tie as tie
 
-cast-result : tie.Need-cast-result
-cast-result c = search needs
-
 returns : tie.Need-returns
 returns c = (simp (lt-ltb _ _ (c .if1 .taken)), omega arith)
 
@@ -18,4 +15,4 @@ returns-3 : tie.Need-returns-3
 returns-3 c = (simp (le-ltb _ _ (c .before .if1 .left), le-ltb _ _ (c .if2 .left)), omega arith)
 
 pub digit-spec : {M : Type 1} → statement M
-digit-spec = tie.close (tie.spec cast-result returns returns-2 returns-3)
+digit-spec = tie.close (tie.spec (λ c. search needs) returns returns-2 returns-3)

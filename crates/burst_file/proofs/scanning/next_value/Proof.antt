@@ -16,15 +16,6 @@ Inv-loop file at i₀ count₀ value₀ i count value = (count ≤ 9) × (value 
 abbrev μ-loop : tie.MeasureT-loop
 μ-loop file at i₀ count₀ value₀ i count value = length file - i
 
-loop-holds : tie.Need-loop-holds Inv-loop μ-loop
-loop-holds c = (omega arith, omega arith, refl)
-
-shared-slice-read-byte : tie.Need-shared-slice-read-byte Inv-loop μ-loop
-shared-slice-read-byte c = search needs
-
-digit-requires : tie.Need-digit-requires Inv-loop μ-loop
-digit-requires c κs = search needs
-
 -- the digits end at the byte at i
 ended : (c : tie.Then1 Inv-loop μ-loop) →
     let l = c .before .before .before .before .loop in
@@ -37,17 +28,8 @@ ended c =
 returns : tie.Need-returns Inv-loop μ-loop
 returns c = sym (bytes.after-none _ _ _ _ (c .if2 .taken)) ∙ ended (c .before)
 
-add-t14 : tie.Need-add-t14 Inv-loop μ-loop
-add-t14 c = omega arith
-
 returns-2 : tie.Need-returns-2 Inv-loop μ-loop
 returns-2 c = sym (bytes.after-last _ _ _ _ (c .before .if2 .left) (c .if3 .taken)) ∙ ended (c .before .before)
-
-add-past-spaces : tie.Need-add-past-spaces Inv-loop μ-loop
-add-past-spaces c = omega arith
-
-past-spaces-requires : tie.Need-past-spaces-requires Inv-loop μ-loop
-past-spaces-requires c κs = search needs
 
 returns-3 : tie.Need-returns-3 Inv-loop μ-loop
 returns-3 c =
@@ -68,9 +50,6 @@ returns-5 c =
     let l = c .before .before .before .before .before .loop in
     sym (bytes.digits-many _ (l .i) (c .before .before .before .before .loop-test .taken) (l .count) (l .value) (differs (c .before)) (c .if5 .taken)) ∙ l .inv .2
 
-add-count : tie.Need-add-count Inv-loop μ-loop
-add-count c = omega arith
-
 -- fewer than nine digits make a number below 10 ^ 8
 room : (c : tie.Else5 Inv-loop μ-loop) → c .before .before .before .before .before .loop .value < 10 ^ 8
 room c =
@@ -78,17 +57,8 @@ room c =
     let k : l .count ≤ 8 = omega arith in
     omega (arith, l .inv .1, pow-le-pow-right {n = 10} (omega arith) k)
 
-mul-value : tie.Need-mul-value Inv-loop μ-loop
-mul-value c = omega (arith, room c)
-
 add-value : tie.Need-add-value Inv-loop μ-loop
 add-value c = omega (arith, room c, c .before .before .digit .ensures .1)
-
-add-i : tie.Need-add-i Inv-loop μ-loop
-add-i c = omega arith
-
-loop-less : tie.Need-loop-less Inv-loop μ-loop
-loop-less c = omega arith
 
 loop-again : tie.Need-loop-again Inv-loop μ-loop
 loop-again c =
@@ -105,26 +75,9 @@ returns-6 : tie.Need-returns-6 Inv-loop μ-loop
 returns-6 c = sym (bytes.digits-end _ _ _ _ (c .loop-test .left)) ∙ c .before .loop .inv .2
 
 pub next-value-spec : {M : Type 1} → statement M
-next-value-spec =
-    tie.close
-    (tie.spec
-    Inv-loop
-    μ-loop
-    loop-holds
-    shared-slice-read-byte
-    digit-requires
-    returns
-    add-t14
-    returns-2
-    add-past-spaces
-    past-spaces-requires
-    returns-3
-    returns-4
-    returns-5
-    add-count
-    mul-value
-    add-value
-    add-i
-    loop-less
-    loop-again
+next-value-spec = tie.close (tie.spec
+    Inv-loop μ-loop (λ c. (omega arith, omega arith, refl)) (λ c. search needs)
+    (λ c κs. search needs) returns (λ c. omega arith) returns-2 (λ c. omega arith)
+    (λ c κs. search needs) returns-3 returns-4 returns-5 (λ c. omega arith)
+    (λ c. omega (arith, room c)) add-value (λ c. omega arith) (λ c. omega arith) loop-again
     returns-6)

@@ -10,18 +10,6 @@ use Rattle.burst_file.specs.declared.Scan.the-variants.{Last, More, Bad}
 use Rattle.burst_file.proofs.scanning.value_at.Statement.{statement}
 use Rattle.burst_file.proofs.scanning.value_at.Tie as tie
 
-next-value-requires : tie.Need-next-value-requires
-next-value-requires c κs = search needs
-
-enum-known-value : tie.Need-enum-known-value
-enum-known-value c = search needs
-
-enum-known-value-2 : tie.Need-enum-known-value-2
-enum-known-value-2 c = search needs
-
-enum-told : tie.Need-enum-told
-enum-told c = search needs
-
 -- where the scan answers `scan`
 told : (c : tie.After-next-value) (scan : Scan) → c .next-value .result ≡ scan →
     let a = c .before .before .args in
@@ -46,13 +34,6 @@ returns-3 c =
     (ap valueIn t, drop-length (c .before .before .before .before .args .file .now) ∙ ap restIn t)
 
 pub value-at-spec : {M : Type 1} → statement M
-value-at-spec =
-    tie.close
-    (tie.spec
-    next-value-requires
-    enum-known-value
-    enum-known-value-2
-    enum-told
-    returns
-    returns-2
-    returns-3)
+value-at-spec = tie.close (tie.spec
+    (λ c κs. search needs) (λ c. search needs) (λ c. search needs) (λ c. search needs) returns
+    returns-2 returns-3)

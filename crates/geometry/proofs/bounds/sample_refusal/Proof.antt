@@ -1,9 +1,5 @@
 -- The invariant: no sample passed is above 4095, and what is left is whole blocks of 64. A hit refuses, the end accepts.
-use mathlib.Core.Path.{_≡_}
-use Prim.Native.Nat.{_-_, _%_}
-use native.Mathlib.Omega.{arith}
-use lib.ListN.{length}
-use borrow.Author.Needs.{needs}
+use Rattle.algebra.specs.Prelude.{_≡_, _-_, _%_, arith, needs, length}
 use Rattle.geometry.specs.RefusalLaws.{answer}
 use Rattle.geometry.specs.SomeLaws.{Passed, pass-start}
 use Rattle.geometry.specs.BoundLaws.{above, block-above, block-passed, samples-whole, samples-refused, samples-accepted, samples-fit}
@@ -19,19 +15,10 @@ abbrev μ-loop : tie.MeasureT-loop
 loop-holds : tie.Need-loop-holds Inv-loop μ-loop
 loop-holds c = (pass-start, omega (arith, samples-whole (c .before .pre)))
 
-excess-requires : tie.Need-excess-requires Inv-loop μ-loop
-excess-requires c κs = search needs
-
 returns : tie.Need-returns Inv-loop μ-loop
 returns c =
     let start = c .before .before .before .before .before in
     answer (samples-refused (start .pre) (block-above (start .args .samples .now) (c .before .before .before .loop .i) (omega arith) (omega arith))) (samples-fit (start .pre))
-
-add-i : tie.Need-add-i Inv-loop μ-loop
-add-i c = search needs
-
-loop-less : tie.Need-loop-less Inv-loop μ-loop
-loop-less c = search needs
 
 loop-again : tie.Need-loop-again Inv-loop μ-loop
 loop-again c = let turn = c .before .before .before .loop in (block-passed _ (turn .i) (omega arith) (omega arith) (turn .inv .0), omega arith)
@@ -42,15 +29,6 @@ returns-2 c =
     answer (samples-accepted (start .pre) (c .before .loop .inv .0) (c .loop-test .left)) (samples-fit (start .pre))
 
 pub sample-refusal-spec : {M : Type 1} → statement M
-sample-refusal-spec =
-    tie.close
-    (tie.spec
-    Inv-loop
-    μ-loop
-    loop-holds
-    excess-requires
-    returns
-    add-i
-    loop-less
-    loop-again
-    returns-2)
+sample-refusal-spec = tie.close (tie.spec
+    Inv-loop μ-loop loop-holds (λ c κs. search needs) returns (λ c. search needs)
+    (λ c. search needs) loop-again returns-2)

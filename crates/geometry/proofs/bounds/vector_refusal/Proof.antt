@@ -1,14 +1,7 @@
 -- The invariant: no part passed lies outside −172..172. A hit refuses, the end accepts.
-use mathlib.Core.Path.{_≡_}
-use mathlib.Core.Bool.{true, false}
-use Prim.Native.Nat.{_-_, _≤_, _<_, _^_}
-use lib.IntN.{ℤ, pos, negsuc, natAbs}
+use Rattle.algebra.specs.Prelude.{_≡_, true, false, _-_, _^_, _≤_, _<_, needs, length, getD, ℤ, pos, negsuc, natAbs, w32, SFits, toZ, ofZ}
 use lib.Signed.{mag, ltZ}
-use lib.ListN.{length, getD}
-use mir.Syntax.{w32}
-use mir.Val.{SFits, toZ, ofZ}
 use mir.Facts.{sfits-lit}
-use borrow.Author.Needs.{needs}
 use borrow.Author.Tests.{lt-ltb, le-ltb}
 use Rattle.algebra.specs.Order.{zarith, abs-pn, min-pn}
 use Rattle.algebra.specs.Fit.{test-lt, test-ge}
@@ -38,15 +31,6 @@ Inv-loop vectors i₀ i = Passed (beyond vectors) (length vectors) i
 abbrev μ-loop : tie.MeasureT-loop
 μ-loop vectors i₀ i = length vectors - i
 
-loop-holds : tie.Need-loop-holds Inv-loop μ-loop
-loop-holds c = pass-start
-
-mul-part : tie.Need-mul-part Inv-loop μ-loop
-mul-part c = search needs
-
-shared-slice-copy-out-part : tie.Need-shared-slice-copy-out-part Inv-loop μ-loop
-shared-slice-copy-out-part c = search needs
-
 -- the part that a turn tests
 abbrev part : tie.After-part Inv-loop μ-loop → ℤ
 part c = getD (c .before .before .before .args .vectors .now) (c .before .before .loop .i) (pos 0)
@@ -63,12 +47,6 @@ returns-2 c =
     let read = c .before .before in
     answer (vectors-refused _ _ (read .before .loop-test .taken) (lt-ltb _ _ (far-above (part read) (read .part .given) (c .if2 .taken)))) (vectors-fit _)
 
-add-i : tie.Need-add-i Inv-loop μ-loop
-add-i c = search needs
-
-loop-less : tie.Need-loop-less Inv-loop μ-loop
-loop-less c = search needs
-
 loop-again : tie.Need-loop-again Inv-loop μ-loop
 unfolding beyond
 loop-again c =
@@ -79,17 +57,6 @@ returns-3 : tie.Need-returns-3 Inv-loop μ-loop
 returns-3 c = answer (vectors-accepted _ (c .before .loop .inv) (c .loop-test .left)) (vectors-fit _)
 
 pub vector-refusal-spec : {M : Type 1} → statement M
-vector-refusal-spec =
-    tie.close
-    (tie.spec
-    Inv-loop
-    μ-loop
-    loop-holds
-    mul-part
-    shared-slice-copy-out-part
-    returns
-    returns-2
-    add-i
-    loop-less
-    loop-again
-    returns-3)
+vector-refusal-spec = tie.close (tie.spec
+    Inv-loop μ-loop (λ c. pass-start) (λ c. search needs) (λ c. search needs) returns returns-2
+    (λ c. search needs) (λ c. search needs) loop-again returns-3)

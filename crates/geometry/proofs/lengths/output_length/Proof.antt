@@ -1,6 +1,5 @@
 -- Width times height is small.
-use mathlib.Core.Path.{refl}
-use native.Mathlib.Omega.{arith}
+use Rattle.algebra.specs.Prelude.{refl, arith}
 use Rattle.geometry.specs.Shape.{outputLength}
 use Rattle.geometry.specs.ShapeLaws.{area-most}
 use Rattle.geometry.proofs.lengths.output_length.Statement.{statement}

@@ -1,6 +1,5 @@
 -- Frames times width times height is small.
-use mathlib.Core.Path.{refl}
-use native.Mathlib.Omega.{arith}
+use Rattle.algebra.specs.Prelude.{refl, arith}
 use Rattle.geometry.specs.Shape.{sampleLength}
 use Rattle.geometry.specs.ShapeLaws.{area-most, samples-most}
 use Rattle.geometry.proofs.lengths.sample_length.Statement.{statement}

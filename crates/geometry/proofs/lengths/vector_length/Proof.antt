@@ -1,23 +1,9 @@
 -- Two parts for each tile of each other frame are few.
-use mathlib.Core.Path.{refl}
-use native.Mathlib.Omega.{arith}
-use borrow.Author.Needs.{needs}
+use Rattle.algebra.specs.Prelude.{refl, arith, needs}
 use Rattle.geometry.specs.Shape.{vectorLength}
 use Rattle.geometry.specs.ShapeLaws.{tiles-most, vectors-most}
 use Rattle.geometry.proofs.lengths.vector_length.Statement.{statement}
 use Rattle.geometry.proofs.lengths.vector_length.Tie as tie
-
-sub-result : tie.Need-sub-result
-sub-result c = search needs
-
-mul-result : tie.Need-mul-result
-mul-result c = search needs
-
-add-result : tie.Need-add-result
-add-result c = search needs
-
-add-result-2 : tie.Need-add-result-2
-add-result-2 c = search needs
 
 mul-result-2 : tie.Need-mul-result-2
 mul-result-2 c = omega (arith, tiles-most (c .before .before .before .pre))
@@ -30,6 +16,6 @@ unfolding vectorLength
 returns c = (refl, vectors-most (c .before .before .before .pre))
 
 pub vector-length-spec : {M : Type 1} → statement M
-vector-length-spec =
-    tie.close
-    (tie.spec sub-result mul-result add-result add-result-2 mul-result-2 mul-result-3 returns)
+vector-length-spec = tie.close (tie.spec
+    (λ c. search needs) (λ c. search needs) (λ c. search needs) (λ c. search needs) mul-result-2
+    mul-result-3 returns)

@@ -1,6 +1,5 @@
 -- Twice width times height is small.
-use mathlib.Core.Path.{refl}
-use native.Mathlib.Omega.{arith}
+use Rattle.algebra.specs.Prelude.{refl, arith}
 use Rattle.geometry.specs.Shape.{workLength}
 use Rattle.geometry.specs.ShapeLaws.{area-most}
 use Rattle.geometry.proofs.lengths.work_length.Statement.{statement}

@@ -6,18 +6,12 @@ use Rattle.geometry.specs.OrderLaws.{align-fits}
 use Rattle.geometry.proofs.order.align_shape_refusal.Statement.{statement}
 use Rattle.geometry.proofs.order.align_shape_refusal.Tie as tie
 
-burst-refusal-requires : tie.Need-burst-refusal-requires
-burst-refusal-requires c κs = search needs
-
 returns : tie.Need-returns
 unfolding alignShapeRefusal
 returns c = answer (stops _ (c .before .burst-refusal .ensures .0) (c .if1 .taken)) (align-fits _ _ _ _ _)
 
 work-length-requires : tie.Need-work-length-requires
 work-length-requires c κs = c .before .burst-refusal .ensures .1 (c .if1 .left) .allowed
-
-length-refusal-requires : tie.Need-length-refusal-requires
-length-refusal-requires c κs = search needs
 
 returns-2 : tie.Need-returns-2
 unfolding alignShapeRefusal
@@ -27,11 +21,5 @@ returns-2 c =
     answer (goes (tested .before .burst-refusal .ensures .0) (tested .if1 .left) work) (align-fits _ _ _ _ _)
 
 pub align-shape-refusal-spec : {M : Type 1} → statement M
-align-shape-refusal-spec =
-    tie.close
-    (tie.spec
-    burst-refusal-requires
-    returns
-    work-length-requires
-    length-refusal-requires
-    returns-2)
+align-shape-refusal-spec = tie.close (tie.spec
+    (λ c κs. search needs) returns work-length-requires (λ c κs. search needs) returns-2)

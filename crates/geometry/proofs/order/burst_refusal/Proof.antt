@@ -1,7 +1,5 @@
 -- The tests 1 to 5 in their order: each return ends the chain, after the tests that went on.
-use mathlib.Core.Path.{_≡_}
-use Prim.Native.Nat.{ℕ}
-use borrow.Author.Needs.{needs}
+use Rattle.algebra.specs.Prelude.{_≡_, ℕ, needs}
 use Rattle.geometry.specs.Shape.{Allowed, shapeRefusal}
 use Rattle.geometry.specs.Refusal.{_before_}
 use Rattle.geometry.specs.RefusalLaws.{stops, goes, answer}
@@ -9,9 +7,6 @@ use Rattle.geometry.specs.Order.{burstRefusal}
 use Rattle.geometry.specs.OrderLaws.{burst-fits}
 use Rattle.geometry.proofs.order.burst_refusal.Statement.{statement}
 use Rattle.geometry.proofs.order.burst_refusal.Tie as tie
-
-shape-refusal-requires : tie.Need-shape-refusal-requires
-shape-refusal-requires c κs = search needs
 
 returns : tie.Need-returns
 unfolding burstRefusal
@@ -24,21 +19,12 @@ past-shape c = goes (c .before .shape-refusal .ensures .0) (c .if1 .left)
 allowed : (c : tie.Else1) → Allowed (c .before .before .args .shape)
 allowed c = c .before .shape-refusal .ensures .1 (c .if1 .left)
 
-reference-refusal-requires : tie.Need-reference-refusal-requires
-reference-refusal-requires c κs = search needs
-
 returns-2 : tie.Need-returns-2
 unfolding burstRefusal
 returns-2 c =
     answer
     (past-shape (c .before .before) (stops _ (c .before .reference-refusal .ensures) (c .if2 .taken)))
     (burst-fits _ _ _ _)
-
-sample-length-requires : tie.Need-sample-length-requires
-sample-length-requires c κs = allowed (c .before .before)
-
-length-refusal-requires : tie.Need-length-refusal-requires
-length-refusal-requires c κs = search needs
 
 returns-3 : tie.Need-returns-3
 unfolding burstRefusal
@@ -52,9 +38,6 @@ returns-3 c =
 vector-length-requires : tie.Need-vector-length-requires
 vector-length-requires c κs = allowed (c .before .before .before .before .before)
 
-length-refusal-requires-2 : tie.Need-length-refusal-requires-2
-length-refusal-requires-2 c κs = search needs
-
 returns-4 : tie.Need-returns-4
 unfolding burstRefusal
 returns-4 c =
@@ -67,16 +50,7 @@ returns-4 c =
     (burst-fits _ _ _ _)
 
 pub burst-refusal-spec : {M : Type 1} → statement M
-burst-refusal-spec =
-    tie.close
-    (tie.spec
-    shape-refusal-requires
-    returns
-    reference-refusal-requires
-    returns-2
-    sample-length-requires
-    length-refusal-requires
-    returns-3
-    vector-length-requires
-    length-refusal-requires-2
-    returns-4)
+burst-refusal-spec = tie.close (tie.spec
+    (λ c κs. search needs) returns (λ c κs. search needs) returns-2
+    (λ c κs. allowed (c .before .before)) (λ c κs. search needs) returns-3 vector-length-requires
+    (λ c κs. search needs) returns-4)

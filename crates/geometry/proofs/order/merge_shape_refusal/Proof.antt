@@ -7,9 +7,6 @@ use Rattle.geometry.specs.OrderLaws.{merge-fits}
 use Rattle.geometry.proofs.order.merge_shape_refusal.Statement.{statement}
 use Rattle.geometry.proofs.order.merge_shape_refusal.Tie as tie
 
-burst-refusal-requires : tie.Need-burst-refusal-requires
-burst-refusal-requires c κs = search needs
-
 returns : tie.Need-returns
 unfolding mergeShapeRefusal
 returns c = answer (stops _ (c .before .burst-refusal .ensures .0) (c .if1 .taken)) (merge-fits _ _ _ _ _ _)
@@ -17,24 +14,12 @@ returns c = answer (stops _ (c .before .burst-refusal .ensures .0) (c .if1 .take
 allowed : (c : tie.Else1) → Allowed (c .before .before .args .shape)
 allowed c = c .before .burst-refusal .ensures .1 (c .if1 .left) .allowed
 
-output-length-requires : tie.Need-output-length-requires
-output-length-requires c κs = allowed c
-
-length-refusal-requires : tie.Need-length-refusal-requires
-length-refusal-requires c κs = search needs
-
 returns-2 : tie.Need-returns-2
 unfolding mergeShapeRefusal
 returns-2 c =
     let output = rw (c .before .before .output-length .ensures .0) at (c .before .length-refusal .ensures) in
     let tested = c .before .before .before in
     answer (goes (tested .before .burst-refusal .ensures .0) (tested .if1 .left) (stops _ output (c .if2 .taken))) (merge-fits _ _ _ _ _ _)
-
-work-length-requires : tie.Need-work-length-requires
-work-length-requires c κs = allowed (c .before .before .before)
-
-length-refusal-requires-2 : tie.Need-length-refusal-requires-2
-length-refusal-requires-2 c κs = search needs
 
 returns-3 : tie.Need-returns-3
 unfolding mergeShapeRefusal
@@ -46,14 +31,6 @@ returns-3 c =
     answer (goes (tested .before .burst-refusal .ensures .0) (tested .if1 .left) (goes output (lent .if2 .left) work)) (merge-fits _ _ _ _ _ _)
 
 pub merge-shape-refusal-spec : {M : Type 1} → statement M
-merge-shape-refusal-spec =
-    tie.close
-    (tie.spec
-    burst-refusal-requires
-    returns
-    output-length-requires
-    length-refusal-requires
-    returns-2
-    work-length-requires
-    length-refusal-requires-2
-    returns-3)
+merge-shape-refusal-spec = tie.close (tie.spec
+    (λ c κs. search needs) returns (λ c κs. allowed c) (λ c κs. search needs) returns-2
+    (λ c κs. allowed (c .before .before .before)) (λ c κs. search needs) returns-3)

@@ -5,9 +5,6 @@ use Rattle.geometry.specs.Question.{lengthQuestion}
 use Rattle.geometry.proofs.question.length_question.Statement.{statement}
 use Rattle.geometry.proofs.question.length_question.Tie as tie
 
-shape-refusal-requires : tie.Need-shape-refusal-requires
-shape-refusal-requires c κs = search needs
-
 returns : tie.Need-returns
 unfolding lengthQuestion
 returns c = rw (← c .before .shape-refusal .ensures .0, ne-eqb _ 0 (c .if1 .taken))
@@ -22,5 +19,5 @@ returns-2 c =
     rw (← tested .before .shape-refusal .ensures .0, eq-eqb _ 0 (tested .if1 .left)) (c .length-tested .ensures)
 
 pub length-question-spec : {M : Type 1} → statement M
-length-question-spec =
-    tie.close (tie.spec shape-refusal-requires returns length-tested-requires returns-2)
+length-question-spec = tie.close (tie.spec
+    (λ c κs. search needs) returns length-tested-requires returns-2)

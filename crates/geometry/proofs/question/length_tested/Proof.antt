@@ -5,18 +5,6 @@ use Rattle.geometry.specs.Question.{lengthTested}
 use Rattle.geometry.proofs.question.length_tested.Statement.{statement}
 use Rattle.geometry.proofs.question.length_tested.Tie as tie
 
-sample-length-requires : tie.Need-sample-length-requires
-sample-length-requires c κs = search needs
-
-vector-length-requires : tie.Need-vector-length-requires
-vector-length-requires c κs = search needs
-
-output-length-requires : tie.Need-output-length-requires
-output-length-requires c κs = search needs
-
-work-length-requires : tie.Need-work-length-requires
-work-length-requires c κs = search needs
-
 returns : tie.Need-returns
 unfolding lengthTested
 returns c = rw (c .before .match .keys1) (c .sample-length .ensures .0)
@@ -40,15 +28,6 @@ returns-5 c =
     rw (ne-eqb _ 4 (none .0 .0 .0 .1), ne-eqb _ 5 (none .0 .0 .1), ne-eqb _ 6 (none .0 .1), ne-eqb _ 7 (none .1))
 
 pub length-tested-spec : {M : Type 1} → statement M
-length-tested-spec =
-    tie.close
-    (tie.spec
-    sample-length-requires
-    vector-length-requires
-    output-length-requires
-    work-length-requires
-    returns
-    returns-2
-    returns-3
-    returns-4
-    returns-5)
+length-tested-spec = tie.close (tie.spec
+    (λ c κs. search needs) (λ c κs. search needs) (λ c κs. search needs) (λ c κs. search needs)
+    returns returns-2 returns-3 returns-4 returns-5)

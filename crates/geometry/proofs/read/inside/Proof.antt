@@ -1,13 +1,7 @@
 -- An index below 0 reads the first, one past the end the last, any other itself.
-use mathlib.Core.Path.{_≡_, refl, subst}
-use mathlib.Core.Bool.{true, false}
-use Prim.Native.Nat.{ℕ, _-_, _≤_, _<_}
-use native.Mathlib.Omega.{arith}
-use lib.IntN.{ℤ, pos, negsuc, natAbs}
+use Rattle.algebra.specs.Prelude.{_≡_, refl, subst, true, false, ℕ, _-_, _≤_, _<_, arith, needs, T, ℤ, pos, negsuc, natAbs}
 use lib.Signed.{ltZ}
-use lib.Dec.{T}
 use mir.Facts.{toZ-ofZ, fits-natAbs}
-use borrow.Author.Needs.{needs}
 use borrow.Author.Tests.{ltb-true}
 use Rattle.algebra.specs.Bound.{from-zero}
 use Rattle.geometry.specs.Read.{inside}
@@ -40,9 +34,6 @@ cast-index c =
     let value = toZ-ofZ (c .before .fits .z) in
     rw value (from-zero (c .before .args .z) (rw value at (c .if1 .left)), fits-natAbs tt (c .before .fits .z))
 
-sub-result : tie.Need-sub-result
-sub-result c = search needs
-
 returns-2 : tie.Need-returns-2
 returns-2 c =
     let value = toZ-ofZ (c .before .before .fits .z) in
@@ -55,4 +46,4 @@ returns-3 c =
     (past _ _ (rw value at (c .before .if1 .left)) (rw value at (c .if2 .left)), omega arith)
 
 pub inside-spec : {M : Type 1} → statement M
-inside-spec = tie.close (tie.spec returns cast-index sub-result returns-2 returns-3)
+inside-spec = tie.close (tie.spec returns cast-index (λ c. search needs) returns-2 returns-3)

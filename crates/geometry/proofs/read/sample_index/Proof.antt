@@ -1,8 +1,6 @@
 -- The index lies below the samples' length, which is small, and so does each step towards it.
-use mathlib.Core.Path.{refl}
-use Prim.Native.Nat.{ℕ, _+_, _*_, _<_}
+use Rattle.algebra.specs.Prelude.{refl, ℕ, _+_, _*_, _<_, arith}
 use native.Mathlib.Nat.{le-trans, mul-le-mul}
-use native.Mathlib.Omega.{arith}
 use Rattle.geometry.specs.declared.Shape.{Shape}
 use Rattle.geometry.specs.Shape.{Allowed, sampleLength}
 use Rattle.geometry.specs.ShapeLaws.{samples-most}
@@ -28,12 +26,6 @@ index : {s : Shape} {frame row column : ℕ} → Asked s frame row column → (f
 unfolding sampleIndex sampleLength
 index a = le-trans (below a) (samples-most (a .0))
 
-mul-result : tie.Need-mul-result
-mul-result c = omega (arith, rows (c .before .pre))
-
-add-result : tie.Need-add-result
-add-result c = omega (arith, rows (c .before .pre))
-
 mul-result-2 : tie.Need-mul-result-2
 mul-result-2 c = omega (arith, index (c .before .before .pre))
 
@@ -45,4 +37,6 @@ unfolding sampleIndex
 returns c = (refl, below (c .before .before .pre))
 
 pub sample-index-spec : {M : Type 1} → statement M
-sample-index-spec = tie.close (tie.spec mul-result add-result mul-result-2 add-result-2 returns)
+sample-index-spec = tie.close (tie.spec
+    (λ c. omega (arith, rows (c .before .pre))) (λ c. omega (arith, rows (c .before .pre)))
+    mul-result-2 add-result-2 returns)

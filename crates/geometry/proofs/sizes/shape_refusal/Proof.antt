@@ -1,7 +1,5 @@
 -- The tests on width, height and count, in their order: each return rewrites the definition by the tests that led there.
-use mathlib.Core.Path.{_≡_, sym, _∙_}
-use mathlib.Core.Bool.{true}
-use borrow.Author.Needs.{needs}
+use Rattle.algebra.specs.Prelude.{_≡_, sym, _∙_, true, needs}
 use borrow.Author.Tests.{le-leb, lt-leb, not-true, not-false}
 use Rattle.geometry.specs.Shape.{sizeAllowed, countAllowed, shapeRefusal}
 use Rattle.geometry.specs.RefusalLaws.{answer}
@@ -9,18 +7,12 @@ use Rattle.geometry.specs.ShapeLaws.{allowed}
 use Rattle.geometry.proofs.sizes.shape_refusal.Statement.{statement}
 use Rattle.geometry.proofs.sizes.shape_refusal.Tie as tie
 
-size-allowed-requires : tie.Need-size-allowed-requires
-size-allowed-requires c κs = search needs
-
 returns : tie.Need-returns
 unfolding shapeRefusal
 returns c = answer (rw (sym (c .before .size-allowed .ensures) ∙ not-true _ (c .if1 .taken))) (allowed _)
 
 wide : (c : tie.Else1) → sizeAllowed (c .before .before .args .shape .width) ≡ true
 wide c = sym (c .before .size-allowed .ensures) ∙ not-false _ (c .if1 .left)
-
-size-allowed-requires-2 : tie.Need-size-allowed-requires-2
-size-allowed-requires-2 c κs = search needs
 
 returns-2 : tie.Need-returns-2
 unfolding shapeRefusal
@@ -46,13 +38,5 @@ returns-5 c =
     answer (rw (wide (passed .before .before), high passed, le-leb 2 _ (c .before .before .if3 .left), le-leb _ 8 (c .if4 .left))) (allowed _)
 
 pub shape-refusal-spec : {M : Type 1} → statement M
-shape-refusal-spec =
-    tie.close
-    (tie.spec
-    size-allowed-requires
-    returns
-    size-allowed-requires-2
-    returns-2
-    returns-3
-    returns-4
-    returns-5)
+shape-refusal-spec = tie.close (tie.spec
+    (λ c κs. search needs) returns (λ c κs. search needs) returns-2 returns-3 returns-4 returns-5)

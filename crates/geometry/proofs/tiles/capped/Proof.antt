@@ -1,12 +1,8 @@
 -- An index below the count is the lesser; any other is at least the last.
-use native.Mathlib.Omega.{arith}
-use borrow.Author.Needs.{needs}
+use Rattle.algebra.specs.Prelude.{arith, needs}
 use Rattle.geometry.specs.Tiles.{capped}
 use Rattle.geometry.proofs.tiles.capped.Statement.{statement}
 use Rattle.geometry.proofs.tiles.capped.Tie as tie
-
-sub-result : tie.Need-sub-result
-sub-result c = search needs
 
 returns : tie.Need-returns
 unfolding capped
@@ -17,4 +13,4 @@ unfolding capped
 returns-2 c = omega arith
 
 pub capped-spec : {M : Type 1} → statement M
-capped-spec = tie.close (tie.spec sub-result returns returns-2)
+capped-spec = tie.close (tie.spec (λ c. search needs) returns returns-2)

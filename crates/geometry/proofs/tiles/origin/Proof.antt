@@ -1,13 +1,7 @@
 -- Half a side times the index, less half a side, is small.
-use mathlib.Core.Path.{_≡_, sym, subst, _∙_}
-use Prim.Native.Nat.{ℕ, _*_, _≤_}
+use Rattle.algebra.specs.Prelude.{_≡_, sym, subst, _∙_, ℕ, _*_, _≤_, arith, needs, pos, _-ℤ_, w64, SFits, toZ}
 use native.Mathlib.Nat.{mul-le-mul}
-use native.Mathlib.Omega.{arith}
-use lib.IntN.{pos, _-ℤ_}
-use mir.Syntax.{w64}
-use mir.Val.{SFits, toZ}
 use mir.Facts.{toZ-ofZ, toZ-pos}
-use borrow.Author.Needs.{needs}
 use Rattle.algebra.specs.Bound.{AtMost, most-fits, sub-most}
 use Rattle.geometry.specs.Tiles.{origin}
 use Rattle.geometry.proofs.tiles.origin.Statement.{statement}
@@ -33,17 +27,8 @@ small {half} {index} a =
 difference-fits : {half index : ℕ} → Asked half index → SFits w64 (toZ w64 (half * index) -ℤ toZ w64 half)
 difference-fits a = rw (difference a) (most-fits w64 _ 65552 (small a) tt)
 
-mul-result : tie.Need-mul-result
-mul-result c = omega (arith, product (c .pre))
-
 cast-result : tie.Need-cast-result
 cast-result c = most-fits w64 _ 65536 (record { most = product (c .pre) }) tt
-
-cast-result-2 : tie.Need-cast-result-2
-cast-result-2 c = search needs
-
-sub-result : tie.Need-sub-result
-sub-result c = difference-fits (c .pre)
 
 returns : tie.Need-returns
 returns c =
@@ -51,4 +36,6 @@ returns c =
     (value, subst (AtMost 65552) (sym value) (small (c .pre)))
 
 pub origin-spec : {M : Type 1} → statement M
-origin-spec = tie.close (tie.spec mul-result cast-result cast-result-2 sub-result returns)
+origin-spec = tie.close (tie.spec
+    (λ c. omega (arith, product (c .pre))) cast-result (λ c. search needs)
+    (λ c. difference-fits (c .pre)) returns)

@@ -5,9 +5,6 @@ use Rattle.geometry.specs.Vectors.{otherFrame}
 use Rattle.geometry.proofs.vectors.other_frame.Statement.{statement}
 use Rattle.geometry.proofs.vectors.other_frame.Tie as tie
 
-add-result : tie.Need-add-result
-add-result c = omega arith
-
 returns : tie.Need-returns
 unfolding otherFrame
 returns c = (rw (lt-ltb _ _ (c .if1 .taken)), omega arith)
@@ -17,4 +14,4 @@ unfolding otherFrame
 returns-2 c = (rw (le-ltb _ _ (c .if1 .left)), omega arith)
 
 pub other-frame-spec : {M : Type 1} → statement M
-other-frame-spec = tie.close (tie.spec add-result returns returns-2)
+other-frame-spec = tie.close (tie.spec (λ c. omega arith) returns returns-2)

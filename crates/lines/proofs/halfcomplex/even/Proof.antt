@@ -1,10 +1,5 @@
 -- `lines::halfcomplex::even`: eight places from the eight sums: that each step fits, and that the results are the places, by computed tests.
-use mathlib.Core.List.{List, [], _∷_}
-use Prim.Native.Nat.{ℕ, _*_, _^_}
-use lib.Dec.{T, ltb}
-use lib.IntN.{ℤ, pos}
-use mir.Syntax.{w64}
-use mir.Val.{SFits}
+use Rattle.algebra.specs.Prelude.{List, [], _∷_, ℕ, _*_, _^_, T, ltb, ℤ, pos, w64, SFits}
 use Rattle.algebra.specs.Test.{both}
 use Rattle.algebra.specs.Ring.{var, con, _⊠_, nth}
 use Rattle.algebra.specs.Sums.{sumZ}
@@ -95,77 +90,14 @@ module _ (s : At) where
 step : (s : At) (c : Code (nth (xs s))) → T (both (ok c (nthN bs)) (ltb (bnd c (nthN bs)) (2 ^ 63))) → SFits w64 (raw c)
 step s c t = fits (xs s) bs (small s) w64 c t
 
-add-a : tie.Need-add-a
-add-a c = step c (A c) tt
-
-add-b : tie.Need-add-b
-add-b c = step c (B c) tt
-
-add-c : tie.Need-add-c
-add-c c = step c (C c) tt
-
-add-d : tie.Need-add-d
-add-d c = step c (D c) tt
-
-sub-p : tie.Need-sub-p
-sub-p c = step c (P c) tt
-
-sub-q : tie.Need-sub-q
-sub-q c = step c (Q c) tt
-
-sub-m : tie.Need-sub-m
-sub-m c = step c (sub w64 (S0 c) (S4 c)) tt
-
-mul-m : tie.Need-mul-m
-mul-m c = step c (M c) tt
-
-sub-n : tie.Need-sub-n
-sub-n c = step c (sub w64 (S2 c) (S6 c)) tt
-
-mul-n : tie.Need-mul-n
-mul-n c = step c (N c) tt
-
-sub-g : tie.Need-sub-g
-sub-g c = step c (sub w64 (P c) (Q c)) tt
-
-mul-g : tie.Need-mul-g
-mul-g c = step c (G c) tt
-
-add-h : tie.Need-add-h
-add-h c = step c (add w64 (P c) (Q c)) tt
-
-mul-h : tie.Need-mul-h
-mul-h c = step c (H c) tt
-
-add-t19 : tie.Need-add-t19
-add-t19 c = step c (add w64 (A c) (C c)) tt
-
-add-t20 : tie.Need-add-t20
-add-t20 c = step c (add w64 (B c) (D c)) tt
-
 add-t21 : tie.Need-add-t21
 add-t21 c = step c (add w64 (add w64 (A c) (C c)) (add w64 (B c) (D c))) tt
 
 mul-t22 : tie.Need-mul-t22
 mul-t22 c = step c (mul w64 (lit (pos 16384)) (add w64 (add w64 (A c) (C c)) (add w64 (B c) (D c)))) tt
 
-add-t23 : tie.Need-add-t23
-add-t23 c = step c (add w64 (M c) (G c)) tt
-
-sub-t24 : tie.Need-sub-t24
-sub-t24 c = step c (sub w64 (A c) (C c)) tt
-
 mul-t25 : tie.Need-mul-t25
 mul-t25 c = step c (mul w64 (lit (pos 16384)) (sub w64 (A c) (C c))) tt
-
-sub-t26 : tie.Need-sub-t26
-sub-t26 c = step c (sub w64 (M c) (G c)) tt
-
-add-t27 : tie.Need-add-t27
-add-t27 c = step c (add w64 (A c) (C c)) tt
-
-add-t28 : tie.Need-add-t28
-add-t28 c = step c (add w64 (B c) (D c)) tt
 
 sub-t29 : tie.Need-sub-t29
 sub-t29 c = step c (sub w64 (add w64 (A c) (C c)) (add w64 (B c) (D c))) tt
@@ -173,58 +105,26 @@ sub-t29 c = step c (sub w64 (add w64 (A c) (C c)) (add w64 (B c) (D c))) tt
 mul-t30 : tie.Need-mul-t30
 mul-t30 c = step c (mul w64 (lit (pos 16384)) (sub w64 (add w64 (A c) (C c)) (add w64 (B c) (D c)))) tt
 
-sub-t31 : tie.Need-sub-t31
-sub-t31 c = step c (sub w64 (lit (pos 0)) (N c)) tt
-
 sub-t32 : tie.Need-sub-t32
 sub-t32 c = step c (sub w64 (sub w64 (lit (pos 0)) (N c)) (H c)) tt
 
-sub-t33 : tie.Need-sub-t33
-sub-t33 c = step c (sub w64 (D c) (B c)) tt
-
 mul-t34 : tie.Need-mul-t34
 mul-t34 c = step c (mul w64 (lit (pos 16384)) (sub w64 (D c) (B c))) tt
-
-sub-t35 : tie.Need-sub-t35
-sub-t35 c = step c (sub w64 (N c) (H c)) tt
 
 returns : tie.Need-returns
 unfolding tab sumZ folded basis frequency phase cosAt side16 cosine16 cosines
 returns c = vals-are (xs c) bs (small c) (results c) (tab 8 (λ i. sumE 8 (λ n. var n ⊠ con (basis (2 * i) n)))) tt tt
 
 pub even-spec : {M : Type 1} → statement M
-even-spec =
-    tie.close
-    (tie.spec
-    add-a
-    add-b
-    add-c
-    add-d
-    sub-p
-    sub-q
-    sub-m
-    mul-m
-    sub-n
-    mul-n
-    sub-g
-    mul-g
-    add-h
-    mul-h
-    add-t19
-    add-t20
-    add-t21
-    mul-t22
-    add-t23
-    sub-t24
-    mul-t25
-    sub-t26
-    add-t27
-    add-t28
-    sub-t29
-    mul-t30
-    sub-t31
-    sub-t32
-    sub-t33
-    mul-t34
-    sub-t35
-    returns)
+even-spec = tie.close (tie.spec
+    (λ c. step c (A c) tt) (λ c. step c (B c) tt) (λ c. step c (C c) tt) (λ c. step c (D c) tt)
+    (λ c. step c (P c) tt) (λ c. step c (Q c) tt) (λ c. step c (sub w64 (S0 c) (S4 c)) tt)
+    (λ c. step c (M c) tt) (λ c. step c (sub w64 (S2 c) (S6 c)) tt) (λ c. step c (N c) tt)
+    (λ c. step c (sub w64 (P c) (Q c)) tt) (λ c. step c (G c) tt)
+    (λ c. step c (add w64 (P c) (Q c)) tt) (λ c. step c (H c) tt)
+    (λ c. step c (add w64 (A c) (C c)) tt) (λ c. step c (add w64 (B c) (D c)) tt) add-t21 mul-t22
+    (λ c. step c (add w64 (M c) (G c)) tt) (λ c. step c (sub w64 (A c) (C c)) tt) mul-t25
+    (λ c. step c (sub w64 (M c) (G c)) tt) (λ c. step c (add w64 (A c) (C c)) tt)
+    (λ c. step c (add w64 (B c) (D c)) tt) sub-t29 mul-t30
+    (λ c. step c (sub w64 (lit (pos 0)) (N c)) tt) sub-t32 (λ c. step c (sub w64 (D c) (B c)) tt)
+    mul-t34 (λ c. step c (sub w64 (N c) (H c)) tt) returns)

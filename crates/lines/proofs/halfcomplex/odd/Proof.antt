@@ -1,10 +1,5 @@
 -- `lines::halfcomplex::odd`: eight places from the eight differences: that each step fits, and that the results are the places, by computed tests.
-use mathlib.Core.List.{List, [], _∷_}
-use Prim.Native.Nat.{ℕ, _+_, _*_, _^_}
-use lib.Dec.{T, ltb}
-use lib.IntN.{ℤ, pos}
-use mir.Syntax.{w64}
-use mir.Val.{SFits}
+use Rattle.algebra.specs.Prelude.{List, [], _∷_, ℕ, _+_, _*_, _^_, T, ltb, ℤ, pos, w64, SFits}
 use Rattle.algebra.specs.Test.{both}
 use Rattle.algebra.specs.Ring.{var, con, _⊠_, nth}
 use Rattle.algebra.specs.Sums.{sumZ}
@@ -101,29 +96,11 @@ module _ (s : At) where
 step : (s : At) (c : Code (nth (xs s))) → T (both (ok c (nthN bs)) (ltb (bnd c (nthN bs)) (2 ^ 63))) → SFits w64 (raw c)
 step s c t = fits (xs s) bs (small s) w64 c t
 
-mul-a : tie.Need-mul-a
-mul-a c = step c (A c) tt
-
-sub-b : tie.Need-sub-b
-sub-b c = step c (B c) tt
-
-sub-c : tie.Need-sub-c
-sub-c c = step c (sub w64 (T2 c) (T6 c)) tt
-
-mul-c : tie.Need-mul-c
-mul-c c = step c (C c) tt
-
-sub-d : tie.Need-sub-d
-sub-d c = step c (D c) tt
-
 mul-p : tie.Need-mul-p
 mul-p c = step c (mul w64 (lit (pos 15137)) (B c)) tt
 
 mul-p-2 : tie.Need-mul-p-2
 mul-p-2 c = step c (mul w64 (lit (pos 6270)) (D c)) tt
-
-add-p : tie.Need-add-p
-add-p c = step c (P c) tt
 
 mul-q : tie.Need-mul-q
 mul-q c = step c (mul w64 (lit (pos 6270)) (B c)) tt
@@ -131,32 +108,11 @@ mul-q c = step c (mul w64 (lit (pos 6270)) (B c)) tt
 mul-q-2 : tie.Need-mul-q-2
 mul-q-2 c = step c (mul w64 (lit (pos 15137)) (D c)) tt
 
-sub-q : tie.Need-sub-q
-sub-q c = step c (Q c) tt
-
-mul-e : tie.Need-mul-e
-mul-e c = step c (E c) tt
-
-add-f : tie.Need-add-f
-add-f c = step c (F c) tt
-
-add-g : tie.Need-add-g
-add-g c = step c (add w64 (T2 c) (T6 c)) tt
-
-mul-g : tie.Need-mul-g
-mul-g c = step c (G c) tt
-
-add-h : tie.Need-add-h
-add-h c = step c (H c) tt
-
 mul-u : tie.Need-mul-u
 mul-u c = step c (mul w64 (lit (pos 15137)) (F c)) tt
 
 mul-u-2 : tie.Need-mul-u-2
 mul-u-2 c = step c (mul w64 (lit (pos 6270)) (H c)) tt
-
-add-u : tie.Need-add-u
-add-u c = step c (U c) tt
 
 mul-w : tie.Need-mul-w
 mul-w c = step c (mul w64 (lit (pos 6270)) (F c)) tt
@@ -164,35 +120,17 @@ mul-w c = step c (mul w64 (lit (pos 6270)) (F c)) tt
 mul-w-2 : tie.Need-mul-w-2
 mul-w-2 c = step c (mul w64 (lit (pos 15137)) (H c)) tt
 
-sub-w : tie.Need-sub-w
-sub-w c = step c (W c) tt
-
-add-t22 : tie.Need-add-t22
-add-t22 c = step c (add w64 (A c) (C c)) tt
-
 add-t21 : tie.Need-add-t21
 add-t21 c = step c (add w64 (add w64 (A c) (C c)) (P c)) tt
-
-sub-t23 : tie.Need-sub-t23
-sub-t23 c = step c (sub w64 (A c) (C c)) tt
 
 add-t24 : tie.Need-add-t24
 add-t24 c = step c (add w64 (sub w64 (A c) (C c)) (Q c)) tt
 
-sub-t25 : tie.Need-sub-t25
-sub-t25 c = step c (sub w64 (A c) (C c)) tt
-
 sub-t26 : tie.Need-sub-t26
 sub-t26 c = step c (sub w64 (sub w64 (A c) (C c)) (Q c)) tt
 
-add-t27 : tie.Need-add-t27
-add-t27 c = step c (add w64 (A c) (C c)) tt
-
 sub-t28 : tie.Need-sub-t28
 sub-t28 c = step c (sub w64 (add w64 (A c) (C c)) (P c)) tt
-
-sub-t29 : tie.Need-sub-t29
-sub-t29 c = step c (sub w64 (lit (pos 0)) (E c)) tt
 
 sub-t30 : tie.Need-sub-t30
 sub-t30 c = step c (sub w64 (sub w64 (lit (pos 0)) (E c)) (G c)) tt
@@ -200,20 +138,11 @@ sub-t30 c = step c (sub w64 (sub w64 (lit (pos 0)) (E c)) (G c)) tt
 sub-t31 : tie.Need-sub-t31
 sub-t31 c = step c (sub w64 (sub w64 (sub w64 (lit (pos 0)) (E c)) (G c)) (U c)) tt
 
-sub-t32 : tie.Need-sub-t32
-sub-t32 c = step c (sub w64 (E c) (G c)) tt
-
 add-t33 : tie.Need-add-t33
 add-t33 c = step c (add w64 (sub w64 (E c) (G c)) (W c)) tt
 
-sub-t34 : tie.Need-sub-t34
-sub-t34 c = step c (sub w64 (G c) (E c)) tt
-
 add-t35 : tie.Need-add-t35
 add-t35 c = step c (add w64 (sub w64 (G c) (E c)) (W c)) tt
-
-add-t36 : tie.Need-add-t36
-add-t36 c = step c (add w64 (E c) (G c)) tt
 
 sub-t37 : tie.Need-sub-t37
 sub-t37 c = step c (sub w64 (add w64 (E c) (G c)) (U c)) tt
@@ -223,46 +152,14 @@ unfolding tab sumZ folded basis frequency phase cosAt side16 cosine16 cosines
 returns c = vals-are (xs c) bs (small c) (results c) (tab 8 (λ i. sumE 8 (λ n. var n ⊠ con (basis (2 * i + 1) n)))) tt tt
 
 pub odd-spec : {M : Type 1} → statement M
-odd-spec =
-    tie.close
-    (tie.spec
-    mul-a
-    sub-b
-    sub-c
-    mul-c
-    sub-d
-    mul-p
-    mul-p-2
-    add-p
-    mul-q
-    mul-q-2
-    sub-q
-    mul-e
-    add-f
-    add-g
-    mul-g
-    add-h
-    mul-u
-    mul-u-2
-    add-u
-    mul-w
-    mul-w-2
-    sub-w
-    add-t22
-    add-t21
-    sub-t23
-    add-t24
-    sub-t25
-    sub-t26
-    add-t27
-    sub-t28
-    sub-t29
-    sub-t30
-    sub-t31
-    sub-t32
-    add-t33
-    sub-t34
-    add-t35
-    add-t36
-    sub-t37
-    returns)
+odd-spec = tie.close (tie.spec
+    (λ c. step c (A c) tt) (λ c. step c (B c) tt) (λ c. step c (sub w64 (T2 c) (T6 c)) tt)
+    (λ c. step c (C c) tt) (λ c. step c (D c) tt) mul-p mul-p-2 (λ c. step c (P c) tt) mul-q mul-q-2
+    (λ c. step c (Q c) tt) (λ c. step c (E c) tt) (λ c. step c (F c) tt)
+    (λ c. step c (add w64 (T2 c) (T6 c)) tt) (λ c. step c (G c) tt) (λ c. step c (H c) tt) mul-u
+    mul-u-2 (λ c. step c (U c) tt) mul-w mul-w-2 (λ c. step c (W c) tt)
+    (λ c. step c (add w64 (A c) (C c)) tt) add-t21 (λ c. step c (sub w64 (A c) (C c)) tt) add-t24
+    (λ c. step c (sub w64 (A c) (C c)) tt) sub-t26 (λ c. step c (add w64 (A c) (C c)) tt) sub-t28
+    (λ c. step c (sub w64 (lit (pos 0)) (E c)) tt) sub-t30 sub-t31
+    (λ c. step c (sub w64 (E c) (G c)) tt) add-t33 (λ c. step c (sub w64 (G c) (E c)) tt) add-t35
+    (λ c. step c (add w64 (E c) (G c)) tt) sub-t37 returns)

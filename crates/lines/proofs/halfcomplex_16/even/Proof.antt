@@ -1,8 +1,5 @@
 -- `lines::halfcomplex_16::even`: eight places from the eight sums: that each step fits, and that the results are the places, by computed tests.
-use mathlib.Core.List.{List, [], _∷_}
-use Prim.Native.Nat.{ℕ, _*_, _^_}
-use lib.Dec.{T, ltb}
-use lib.IntN.{ℤ, pos}
+use Rattle.algebra.specs.Prelude.{List, [], _∷_, ℕ, _*_, _^_, T, ltb, ℤ, pos}
 use mir.Syntax.{Width, w16, w32}
 use mir.Val.{SFits, hbits}
 use Rattle.algebra.specs.Test.{both}
@@ -95,89 +92,17 @@ module _ (s : At) where
 step : (s : At) (w : Width) (c : Code (nth (xs s))) → T (both (ok c (nthN bs)) (ltb (bnd c (nthN bs)) (2 ^ hbits w))) → SFits w (raw c)
 step s w c t = fits (xs s) bs (small s) w c t
 
-cast-a : tie.Need-cast-a
-cast-a c = step c w32 (to w32 (S0 c)) tt
-
-cast-a-2 : tie.Need-cast-a-2
-cast-a-2 c = step c w32 (to w32 (S4 c)) tt
-
-add-a : tie.Need-add-a
-add-a c = step c w32 (A c) tt
-
-cast-b : tie.Need-cast-b
-cast-b c = step c w32 (to w32 (S1 c)) tt
-
-cast-b-2 : tie.Need-cast-b-2
-cast-b-2 c = step c w32 (to w32 (S5 c)) tt
-
-add-b : tie.Need-add-b
-add-b c = step c w32 (B c) tt
-
-cast-c : tie.Need-cast-c
-cast-c c = step c w32 (to w32 (S2 c)) tt
-
-cast-c-2 : tie.Need-cast-c-2
-cast-c-2 c = step c w32 (to w32 (S6 c)) tt
-
-add-c : tie.Need-add-c
-add-c c = step c w32 (C c) tt
-
-cast-d : tie.Need-cast-d
-cast-d c = step c w32 (to w32 (S3 c)) tt
-
-cast-d-2 : tie.Need-cast-d-2
-cast-d-2 c = step c w32 (to w32 (S7 c)) tt
-
-add-d : tie.Need-add-d
-add-d c = step c w32 (D c) tt
-
-sub-p : tie.Need-sub-p
-sub-p c = step c w16 (P c) tt
-
-sub-q : tie.Need-sub-q
-sub-q c = step c w16 (Q c) tt
-
-sub-m : tie.Need-sub-m
-sub-m c = step c w16 (sub w16 (S0 c) (S4 c)) tt
-
 cast-m : tie.Need-cast-m
 cast-m c = step c w32 (to w32 (sub w16 (S0 c) (S4 c))) tt
-
-mul-m : tie.Need-mul-m
-mul-m c = step c w32 (M c) tt
-
-sub-n : tie.Need-sub-n
-sub-n c = step c w16 (sub w16 (S2 c) (S6 c)) tt
 
 cast-n : tie.Need-cast-n
 cast-n c = step c w32 (to w32 (sub w16 (S2 c) (S6 c))) tt
 
-mul-n : tie.Need-mul-n
-mul-n c = step c w32 (N c) tt
-
-sub-g : tie.Need-sub-g
-sub-g c = step c w16 (sub w16 (P c) (Q c)) tt
-
 cast-g : tie.Need-cast-g
 cast-g c = step c w32 (to w32 (sub w16 (P c) (Q c))) tt
 
-mul-g : tie.Need-mul-g
-mul-g c = step c w32 (G c) tt
-
-add-h : tie.Need-add-h
-add-h c = step c w16 (add w16 (P c) (Q c)) tt
-
 cast-h : tie.Need-cast-h
 cast-h c = step c w32 (to w32 (add w16 (P c) (Q c))) tt
-
-mul-h : tie.Need-mul-h
-mul-h c = step c w32 (H c) tt
-
-add-t19 : tie.Need-add-t19
-add-t19 c = step c w32 (add w32 (A c) (C c)) tt
-
-add-t20 : tie.Need-add-t20
-add-t20 c = step c w32 (add w32 (B c) (D c)) tt
 
 add-t22 : tie.Need-add-t22
 add-t22 c = step c w32 (add w32 (add w32 (A c) (C c)) (add w32 (B c) (D c))) tt
@@ -185,23 +110,8 @@ add-t22 c = step c w32 (add w32 (add w32 (A c) (C c)) (add w32 (B c) (D c))) tt
 mul-t23 : tie.Need-mul-t23
 mul-t23 c = step c w32 (mul w32 (lit (pos 16384)) (add w32 (add w32 (A c) (C c)) (add w32 (B c) (D c)))) tt
 
-add-t24 : tie.Need-add-t24
-add-t24 c = step c w32 (add w32 (M c) (G c)) tt
-
-sub-t25 : tie.Need-sub-t25
-sub-t25 c = step c w32 (sub w32 (A c) (C c)) tt
-
 mul-t26 : tie.Need-mul-t26
 mul-t26 c = step c w32 (mul w32 (lit (pos 16384)) (sub w32 (A c) (C c))) tt
-
-sub-t27 : tie.Need-sub-t27
-sub-t27 c = step c w32 (sub w32 (M c) (G c)) tt
-
-add-t28 : tie.Need-add-t28
-add-t28 c = step c w32 (add w32 (A c) (C c)) tt
-
-add-t29 : tie.Need-add-t29
-add-t29 c = step c w32 (add w32 (B c) (D c)) tt
 
 sub-t30 : tie.Need-sub-t30
 sub-t30 c = step c w32 (sub w32 (add w32 (A c) (C c)) (add w32 (B c) (D c))) tt
@@ -215,64 +125,29 @@ sub-t32 c = step c w32 (sub w32 (lit (pos 0)) (N c)) tt
 sub-t33 : tie.Need-sub-t33
 sub-t33 c = step c w32 (sub w32 (sub w32 (lit (pos 0)) (N c)) (H c)) tt
 
-sub-t34 : tie.Need-sub-t34
-sub-t34 c = step c w32 (sub w32 (D c) (B c)) tt
-
 mul-t35 : tie.Need-mul-t35
 mul-t35 c = step c w32 (mul w32 (lit (pos 16384)) (sub w32 (D c) (B c))) tt
-
-sub-t36 : tie.Need-sub-t36
-sub-t36 c = step c w32 (sub w32 (N c) (H c)) tt
 
 returns : tie.Need-returns
 unfolding tab sumZ folded basis frequency phase cosAt side16 cosine16 cosines
 returns c = vals-are (xs c) bs (small c) (results c) (tab 8 (λ i. sumE 8 (λ n. var n ⊠ con (basis (2 * i) n)))) tt tt
 
 pub even-spec : {M : Type 1} → statement M
-even-spec =
-    tie.close
-    (tie.spec
-    cast-a
-    cast-a-2
-    add-a
-    cast-b
-    cast-b-2
-    add-b
-    cast-c
-    cast-c-2
-    add-c
-    cast-d
-    cast-d-2
-    add-d
-    sub-p
-    sub-q
-    sub-m
-    cast-m
-    mul-m
-    sub-n
-    cast-n
-    mul-n
-    sub-g
-    cast-g
-    mul-g
-    add-h
-    cast-h
-    mul-h
-    add-t19
-    add-t20
-    add-t22
-    mul-t23
-    add-t24
-    sub-t25
-    mul-t26
-    sub-t27
-    add-t28
-    add-t29
-    sub-t30
-    mul-t31
-    sub-t32
-    sub-t33
-    sub-t34
-    mul-t35
-    sub-t36
+even-spec = tie.close (tie.spec
+    (λ c. step c w32 (to w32 (S0 c)) tt) (λ c. step c w32 (to w32 (S4 c)) tt)
+    (λ c. step c w32 (A c) tt) (λ c. step c w32 (to w32 (S1 c)) tt)
+    (λ c. step c w32 (to w32 (S5 c)) tt) (λ c. step c w32 (B c) tt)
+    (λ c. step c w32 (to w32 (S2 c)) tt) (λ c. step c w32 (to w32 (S6 c)) tt)
+    (λ c. step c w32 (C c) tt) (λ c. step c w32 (to w32 (S3 c)) tt)
+    (λ c. step c w32 (to w32 (S7 c)) tt) (λ c. step c w32 (D c) tt) (λ c. step c w16 (P c) tt)
+    (λ c. step c w16 (Q c) tt) (λ c. step c w16 (sub w16 (S0 c) (S4 c)) tt) cast-m
+    (λ c. step c w32 (M c) tt) (λ c. step c w16 (sub w16 (S2 c) (S6 c)) tt) cast-n
+    (λ c. step c w32 (N c) tt) (λ c. step c w16 (sub w16 (P c) (Q c)) tt) cast-g
+    (λ c. step c w32 (G c) tt) (λ c. step c w16 (add w16 (P c) (Q c)) tt) cast-h
+    (λ c. step c w32 (H c) tt) (λ c. step c w32 (add w32 (A c) (C c)) tt)
+    (λ c. step c w32 (add w32 (B c) (D c)) tt) add-t22 mul-t23
+    (λ c. step c w32 (add w32 (M c) (G c)) tt) (λ c. step c w32 (sub w32 (A c) (C c)) tt) mul-t26
+    (λ c. step c w32 (sub w32 (M c) (G c)) tt) (λ c. step c w32 (add w32 (A c) (C c)) tt)
+    (λ c. step c w32 (add w32 (B c) (D c)) tt) sub-t30 mul-t31 sub-t32 sub-t33
+    (λ c. step c w32 (sub w32 (D c) (B c)) tt) mul-t35 (λ c. step c w32 (sub w32 (N c) (H c)) tt)
     returns)

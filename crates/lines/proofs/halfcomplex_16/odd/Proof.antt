@@ -1,8 +1,5 @@
 -- `lines::halfcomplex_16::odd`: eight places from the eight differences: that each step fits, and that the results are the places, by computed tests.
-use mathlib.Core.List.{List, [], _∷_}
-use Prim.Native.Nat.{ℕ, _+_, _*_, _^_}
-use lib.Dec.{T, ltb}
-use lib.IntN.{ℤ, pos}
+use Rattle.algebra.specs.Prelude.{List, [], _∷_, ℕ, _+_, _*_, _^_, T, ltb, ℤ, pos}
 use mir.Syntax.{Width, w16, w32}
 use mir.Val.{SFits, hbits}
 use Rattle.algebra.specs.Test.{both}
@@ -101,32 +98,8 @@ module _ (s : At) where
 step : (s : At) (w : Width) (c : Code (nth (xs s))) → T (both (ok c (nthN bs)) (ltb (bnd c (nthN bs)) (2 ^ hbits w))) → SFits w (raw c)
 step s w c t = fits (xs s) bs (small s) w c t
 
-cast-a : tie.Need-cast-a
-cast-a c = step c w32 (to w32 (T0 c)) tt
-
-mul-a : tie.Need-mul-a
-mul-a c = step c w32 (A c) tt
-
-sub-b : tie.Need-sub-b
-sub-b c = step c w16 (sub w16 (T1 c) (T7 c)) tt
-
-cast-b : tie.Need-cast-b
-cast-b c = step c w32 (B c) tt
-
-sub-c : tie.Need-sub-c
-sub-c c = step c w16 (sub w16 (T2 c) (T6 c)) tt
-
 cast-c : tie.Need-cast-c
 cast-c c = step c w32 (to w32 (sub w16 (T2 c) (T6 c))) tt
-
-mul-c : tie.Need-mul-c
-mul-c c = step c w32 (C c) tt
-
-sub-d : tie.Need-sub-d
-sub-d c = step c w16 (sub w16 (T3 c) (T5 c)) tt
-
-cast-d : tie.Need-cast-d
-cast-d c = step c w32 (D c) tt
 
 mul-p : tie.Need-mul-p
 mul-p c = step c w32 (mul w32 (lit (pos 15137)) (B c)) tt
@@ -134,44 +107,14 @@ mul-p c = step c w32 (mul w32 (lit (pos 15137)) (B c)) tt
 mul-p-2 : tie.Need-mul-p-2
 mul-p-2 c = step c w32 (mul w32 (lit (pos 6270)) (D c)) tt
 
-add-p : tie.Need-add-p
-add-p c = step c w32 (P c) tt
-
 mul-q : tie.Need-mul-q
 mul-q c = step c w32 (mul w32 (lit (pos 6270)) (B c)) tt
 
 mul-q-2 : tie.Need-mul-q-2
 mul-q-2 c = step c w32 (mul w32 (lit (pos 15137)) (D c)) tt
 
-sub-q : tie.Need-sub-q
-sub-q c = step c w32 (Q c) tt
-
-cast-e : tie.Need-cast-e
-cast-e c = step c w32 (to w32 (T4 c)) tt
-
-mul-e : tie.Need-mul-e
-mul-e c = step c w32 (E c) tt
-
-add-f : tie.Need-add-f
-add-f c = step c w16 (add w16 (T3 c) (T5 c)) tt
-
-cast-f : tie.Need-cast-f
-cast-f c = step c w32 (F c) tt
-
-add-g : tie.Need-add-g
-add-g c = step c w16 (add w16 (T2 c) (T6 c)) tt
-
 cast-g : tie.Need-cast-g
 cast-g c = step c w32 (to w32 (add w16 (T2 c) (T6 c))) tt
-
-mul-g : tie.Need-mul-g
-mul-g c = step c w32 (G c) tt
-
-add-h : tie.Need-add-h
-add-h c = step c w16 (add w16 (T1 c) (T7 c)) tt
-
-cast-h : tie.Need-cast-h
-cast-h c = step c w32 (H c) tt
 
 mul-u : tie.Need-mul-u
 mul-u c = step c w32 (mul w32 (lit (pos 15137)) (F c)) tt
@@ -179,38 +122,20 @@ mul-u c = step c w32 (mul w32 (lit (pos 15137)) (F c)) tt
 mul-u-2 : tie.Need-mul-u-2
 mul-u-2 c = step c w32 (mul w32 (lit (pos 6270)) (H c)) tt
 
-add-u : tie.Need-add-u
-add-u c = step c w32 (U c) tt
-
 mul-w : tie.Need-mul-w
 mul-w c = step c w32 (mul w32 (lit (pos 6270)) (F c)) tt
 
 mul-w-2 : tie.Need-mul-w-2
 mul-w-2 c = step c w32 (mul w32 (lit (pos 15137)) (H c)) tt
 
-sub-w : tie.Need-sub-w
-sub-w c = step c w32 (X c) tt
-
-add-t23 : tie.Need-add-t23
-add-t23 c = step c w32 (add w32 (A c) (C c)) tt
-
 add-t21 : tie.Need-add-t21
 add-t21 c = step c w32 (add w32 (add w32 (A c) (C c)) (P c)) tt
-
-sub-t24 : tie.Need-sub-t24
-sub-t24 c = step c w32 (sub w32 (A c) (C c)) tt
 
 add-t25 : tie.Need-add-t25
 add-t25 c = step c w32 (add w32 (sub w32 (A c) (C c)) (Q c)) tt
 
-sub-t26 : tie.Need-sub-t26
-sub-t26 c = step c w32 (sub w32 (A c) (C c)) tt
-
 sub-t27 : tie.Need-sub-t27
 sub-t27 c = step c w32 (sub w32 (sub w32 (A c) (C c)) (Q c)) tt
-
-add-t28 : tie.Need-add-t28
-add-t28 c = step c w32 (add w32 (A c) (C c)) tt
 
 sub-t29 : tie.Need-sub-t29
 sub-t29 c = step c w32 (sub w32 (add w32 (A c) (C c)) (P c)) tt
@@ -224,20 +149,11 @@ sub-t31 c = step c w32 (sub w32 (sub w32 (lit (pos 0)) (E c)) (G c)) tt
 sub-t32 : tie.Need-sub-t32
 sub-t32 c = step c w32 (sub w32 (sub w32 (sub w32 (lit (pos 0)) (E c)) (G c)) (U c)) tt
 
-sub-t33 : tie.Need-sub-t33
-sub-t33 c = step c w32 (sub w32 (E c) (G c)) tt
-
 add-t34 : tie.Need-add-t34
 add-t34 c = step c w32 (add w32 (sub w32 (E c) (G c)) (X c)) tt
 
-sub-t35 : tie.Need-sub-t35
-sub-t35 c = step c w32 (sub w32 (G c) (E c)) tt
-
 add-t36 : tie.Need-add-t36
 add-t36 c = step c w32 (add w32 (sub w32 (G c) (E c)) (X c)) tt
-
-add-t37 : tie.Need-add-t37
-add-t37 c = step c w32 (add w32 (E c) (G c)) tt
 
 sub-t38 : tie.Need-sub-t38
 sub-t38 c = step c w32 (sub w32 (add w32 (E c) (G c)) (U c)) tt
@@ -247,54 +163,19 @@ unfolding tab sumZ folded basis frequency phase cosAt side16 cosine16 cosines
 returns c = vals-are (xs c) bs (small c) (results c) (tab 8 (λ i. sumE 8 (λ n. var n ⊠ con (basis (2 * i + 1) n)))) tt tt
 
 pub odd-spec : {M : Type 1} → statement M
-odd-spec =
-    tie.close
-    (tie.spec
-    cast-a
-    mul-a
-    sub-b
-    cast-b
-    sub-c
-    cast-c
-    mul-c
-    sub-d
-    cast-d
-    mul-p
-    mul-p-2
-    add-p
-    mul-q
-    mul-q-2
-    sub-q
-    cast-e
-    mul-e
-    add-f
-    cast-f
-    add-g
-    cast-g
-    mul-g
-    add-h
-    cast-h
-    mul-u
-    mul-u-2
-    add-u
-    mul-w
-    mul-w-2
-    sub-w
-    add-t23
-    add-t21
-    sub-t24
-    add-t25
-    sub-t26
-    sub-t27
-    add-t28
-    sub-t29
-    sub-t30
-    sub-t31
-    sub-t32
-    sub-t33
-    add-t34
-    sub-t35
-    add-t36
-    add-t37
-    sub-t38
-    returns)
+odd-spec = tie.close (tie.spec
+    (λ c. step c w32 (to w32 (T0 c)) tt) (λ c. step c w32 (A c) tt)
+    (λ c. step c w16 (sub w16 (T1 c) (T7 c)) tt) (λ c. step c w32 (B c) tt)
+    (λ c. step c w16 (sub w16 (T2 c) (T6 c)) tt) cast-c (λ c. step c w32 (C c) tt)
+    (λ c. step c w16 (sub w16 (T3 c) (T5 c)) tt) (λ c. step c w32 (D c) tt) mul-p mul-p-2
+    (λ c. step c w32 (P c) tt) mul-q mul-q-2 (λ c. step c w32 (Q c) tt)
+    (λ c. step c w32 (to w32 (T4 c)) tt) (λ c. step c w32 (E c) tt)
+    (λ c. step c w16 (add w16 (T3 c) (T5 c)) tt) (λ c. step c w32 (F c) tt)
+    (λ c. step c w16 (add w16 (T2 c) (T6 c)) tt) cast-g (λ c. step c w32 (G c) tt)
+    (λ c. step c w16 (add w16 (T1 c) (T7 c)) tt) (λ c. step c w32 (H c) tt) mul-u mul-u-2
+    (λ c. step c w32 (U c) tt) mul-w mul-w-2 (λ c. step c w32 (X c) tt)
+    (λ c. step c w32 (add w32 (A c) (C c)) tt) add-t21 (λ c. step c w32 (sub w32 (A c) (C c)) tt)
+    add-t25 (λ c. step c w32 (sub w32 (A c) (C c)) tt) sub-t27
+    (λ c. step c w32 (add w32 (A c) (C c)) tt) sub-t29 sub-t30 sub-t31 sub-t32
+    (λ c. step c w32 (sub w32 (E c) (G c)) tt) add-t34 (λ c. step c w32 (sub w32 (G c) (E c)) tt)
+    add-t36 (λ c. step c w32 (add w32 (E c) (G c)) tt) sub-t38 returns)

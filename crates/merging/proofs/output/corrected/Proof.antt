@@ -1,26 +1,12 @@
 -- By the definition: the quotient in two steps.
-use mathlib.Core.Path.{_≡_, sym, ap, _∙_}
-use Prim.Native.Nat.{_+_, _-_, _*_, _^_}
-use native.Mathlib.Omega.{arith}
-use lib.Dec.{lit<}
-use lib.IntN.{pos, natAbs, _+ℤ_, _-ℤ_, _*ℤ_}
+use Rattle.algebra.specs.Prelude.{_≡_, sym, ap, _∙_, _+_, _-_, _*_, _^_, arith, needs, lit<, pos, natAbs, _+ℤ_, _-ℤ_, _*ℤ_, w64, toZ, ofZ, toZ-ofZ}
 use lib.Signed.{shrZ}
-use mir.Facts.{toZ-ofZ}
-use mir.Syntax.{w64}
-use mir.Val.{toZ, ofZ}
-use borrow.Author.Needs.{needs}
 use Rattle.algebra.specs.Clamp.{clampZ}
 use Rattle.algebra.specs.Nearest.{upward}
 use Rattle.merging.specs.Gather.{corrected}
 use Rattle.merging.proofs.Quotients.{upward-twice}
 use Rattle.merging.proofs.output.corrected.Statement.{statement}
 use Rattle.merging.proofs.output.corrected.Tie as tie
-
-scaled-requires : tie.Need-scaled-requires
-scaled-requires c κs = search needs
-
-held-requires : tie.Need-held-requires
-held-requires c κs = search needs
 
 returns : tie.Need-returns
 unfolding corrected
@@ -37,4 +23,4 @@ returns c =
     ∙ ap (λ m. natAbs (clampZ (pos 0) (pos 4095) (upward (pos (s .args .t0) *ℤ pos (4294967296 * m) -ℤ s .args .sum) (4294967296 * m)))) others
 
 pub corrected-spec : {M : Type 1} → statement M
-corrected-spec = tie.close (tie.spec scaled-requires held-requires returns)
+corrected-spec = tie.close (tie.spec (λ c κs. search needs) (λ c κs. search needs) returns)

@@ -1,14 +1,8 @@
 -- Below, between and above; between, the quotient by the reciprocal is exact.
-use mathlib.Core.Path.{_≡_, sym, ap, _∙_}
-use Prim.Native.Nat.{_+_, _*_, _/_, _≤_, _<_}
+use Rattle.algebra.specs.Prelude.{_≡_, sym, ap, _∙_, _+_, _*_, _/_, _≤_, _<_, arith, needs, pos, natAbs, _*ℤ_, w64, SFits, toZ}
 use native.Mathlib.Nat.{mul-le-mul, div-le-self, div-lt-iff-lt-mul}
-use native.Mathlib.Omega.{arith}
-use lib.IntN.{pos, natAbs, _*ℤ_}
 use lib.Signed.{_≤ℤ_, _<ℤ_}
-use mir.Syntax.{w64}
-use mir.Val.{SFits, toZ}
 use mir.Facts.{toZ-pos, toZ-ofZ}
-use borrow.Author.Needs.{needs}
 use Rattle.algebra.specs.Bound.{from-zero}
 use Rattle.algebra.specs.Fit.{test-lt, test-ge}
 use Rattle.algebra.specs.Order.{zarith, abs-pn, min-pn}
@@ -30,12 +24,6 @@ returns : tie.Need-returns
 returns c =
     let s = c .before in
     sym (held-below (s .args .count) (s .args .z) (test-lt (s .args .z) (pos 0) (s .fits .z) zero-fits (c .if1 .taken)))
-
-cast-if2 : tie.Need-cast-if2
-cast-if2 c = search needs
-
-mul-if2 : tie.Need-mul-if2
-mul-if2 c = limit-fits (c .before)
 
 module _ (c : tie.Then2) where
   abbrev s : tie.Start
@@ -81,6 +69,6 @@ returns-3 c =
     sym (held-above (a .args .count) (a .args .z) (omega (arith, a .pre .0)) (rw (count-is a) at (test-ge (a .args .z) (pos 4096 *ℤ toZ w64 (a .args .count)) (a .fits .z) (limit-fits a) (c .if2 .left))))
 
 pub held-spec : {M : Type 1} → statement M
-held-spec =
-    tie.close
-    (tie.spec returns cast-if2 mul-if2 cast-result mul-result cast-result-2 returns-2 returns-3)
+held-spec = tie.close (tie.spec
+    returns (λ c. search needs) (λ c. limit-fits (c .before)) cast-result mul-result cast-result-2
+    returns-2 returns-3)

@@ -1,10 +1,5 @@
 -- A block of eight words a turn, each from the four tiles over it.
-use mathlib.Core.Path.{_≡_, refl, sym, subst}
-use Prim.Native.Nat.{_+_, _-_, _*_, _/_, _%_, _≤_}
-use native.Mathlib.Omega.{arith}
-use lib.ListN.{length}
-use denote.Ref.{now}
-use borrow.Author.Needs.{needs}
+use Rattle.algebra.specs.Prelude.{_≡_, refl, sym, subst, _+_, _-_, _*_, _/_, _%_, _≤_, arith, needs, length, now}
 use Rattle.geometry.specs.Shape.{sampleLength, outputLength}
 use Rattle.geometry.specs.ShapeLaws.{area-most, samples-most}
 use Rattle.plane_view.specs.ViewLaws.{part-room}
@@ -39,37 +34,13 @@ long : (c : tie.Start Inv-loop μ-loop) → let s = c .args .shape in (length (n
 unfolding outputLength sampleLength
 long c = (c .pre .1, c .pre .0 .sampled .long)
 
-slot-requires : tie.Need-slot-requires Inv-loop μ-loop
-slot-requires c κs = search needs
-
-add-slot : tie.Need-add-slot Inv-loop μ-loop
-add-slot c = search needs
-
-slot-requires-2 : tie.Need-slot-requires-2 Inv-loop μ-loop
-slot-requires-2 c κs = search needs
-
 weights-requires : tie.Need-weights-requires Inv-loop μ-loop
 unfolding windows
 weights-requires c κs = (refl, omega arith)
 
-add-weights : tie.Need-add-weights Inv-loop μ-loop
-add-weights c = search needs
-
 weights-requires-2 : tie.Need-weights-requires-2 Inv-loop μ-loop
 unfolding windows
 weights-requires-2 c κs = (refl, omega arith)
-
-add-inverse : tie.Need-add-inverse Inv-loop μ-loop
-add-inverse c = search needs
-
-div-inverse : tie.Need-div-inverse Inv-loop μ-loop
-div-inverse c = search needs
-
-mul-start : tie.Need-mul-start Inv-loop μ-loop
-mul-start c = search needs
-
-add-start : tie.Need-add-start Inv-loop μ-loop
-add-start c = search needs
 
 mul-start-2 : tie.Need-mul-start-2 Inv-loop μ-loop
 mul-start-2 c = omega (arith, room (c .before .before .before .before .before .before .before .before .before))
@@ -86,29 +57,8 @@ mul-from-2 c = omega (arith, room (c .before .before .before .before .before .be
 add-from : tie.Need-add-from Inv-loop μ-loop
 add-from c = let s = c .before .before .before .before .before .before .before .before .before .before .before in omega (arith, room s, s .pre .0 .planar)
 
-loop-holds : tie.Need-loop-holds Inv-loop μ-loop
-loop-holds c = stride-start
-
-mul-output-block : tie.Need-mul-output-block Inv-loop μ-loop
-mul-output-block c = search needs
-
 add-output-block : tie.Need-add-output-block Inv-loop μ-loop
 add-output-block c = let s = c .before .before .before .before .before .before .before .before .before .before .before .before .before in omega (arith, room s, s .pre .0 .planar, c .loop-test .taken)
-
-mul-output-block-2 : tie.Need-mul-output-block-2 Inv-loop μ-loop
-mul-output-block-2 c = search needs
-
-add-output-block-2 : tie.Need-add-output-block-2 Inv-loop μ-loop
-add-output-block-2 c = search needs
-
-mul-output-block-3 : tie.Need-mul-output-block-3 Inv-loop μ-loop
-mul-output-block-3 c = search needs
-
-add-output-block-3 : tie.Need-add-output-block-3 Inv-loop μ-loop
-add-output-block-3 c = search needs
-
-mul-output-block-4 : tie.Need-mul-output-block-4 Inv-loop μ-loop
-mul-output-block-4 c = search needs
 
 add-output-block-4 : tie.Need-add-output-block-4 Inv-loop μ-loop
 add-output-block-4 c = let s = c .before .before .before .before .before .before .before .before .before .before .before .before .before .before .before .before in omega (arith, room s, s .pre .0 .planar, c .before .before .before .loop-test .taken)
@@ -137,20 +87,11 @@ output-block-requires c κs =
       omega (arith, room s, long s, r .planar, taken, t .before .loop .inv .same),
     )
 
-add-column : tie.Need-add-column Inv-loop μ-loop
-add-column c = search needs
-
-loop-less : tie.Need-loop-less Inv-loop μ-loop
-loop-less c = search needs
-
 loop-again : tie.Need-loop-again Inv-loop μ-loop
 loop-again c =
     let b = c .before .before in
     let l = b .before .before .before .before .before in
     block-turn _ _ _ _ _ _ _ _ (l .loop .inv) (omega arith) (b .output-block .ensures)
-
-same-length : tie.Need-same-length Inv-loop μ-loop
-same-length c = search needs
 
 returns : tie.Need-returns Inv-loop μ-loop
 returns c =
@@ -162,38 +103,11 @@ returns c =
     (l .loop .inv) (omega (arith, s .pre .0 .sampled .allowed .wide, c .loop-test .left))
 
 pub output-row-spec : {M : Type 1} → statement M
-output-row-spec =
-    tie.close
-    (tie.spec
-    Inv-loop
-    μ-loop
-    slot-requires
-    add-slot
-    slot-requires-2
-    weights-requires
-    add-weights
-    weights-requires-2
-    add-inverse
-    div-inverse
-    mul-start
-    add-start
-    mul-start-2
-    add-start-2
-    mul-from
-    mul-from-2
-    add-from
-    loop-holds
-    mul-output-block
-    add-output-block
-    mul-output-block-2
-    add-output-block-2
-    mul-output-block-3
-    add-output-block-3
-    mul-output-block-4
-    add-output-block-4
-    output-block-requires
-    add-column
-    loop-less
-    loop-again
-    same-length
+output-row-spec = tie.close (tie.spec
+    Inv-loop μ-loop (λ c κs. search needs) (λ c. search needs) (λ c κs. search needs)
+    weights-requires (λ c. search needs) weights-requires-2 (λ c. search needs) (λ c. search needs)
+    (λ c. search needs) (λ c. search needs) mul-start-2 add-start-2 mul-from mul-from-2 add-from
+    (λ c. stride-start) (λ c. search needs) add-output-block (λ c. search needs) (λ c. search needs)
+    (λ c. search needs) (λ c. search needs) (λ c. search needs) add-output-block-4
+    output-block-requires (λ c. search needs) (λ c. search needs) loop-again (λ c. search needs)
     returns)

@@ -1,13 +1,5 @@
 -- A word of the row, which is small, times its weight.
-use mathlib.Core.Path.{_≡_, ap, _∙_}
-use Prim.Native.Nat.{_+_, _*_, _^_}
-use native.Mathlib.Omega.{arith}
-use lib.IntN.{pos, _*ℤ_}
-use lib.ListN.{getD}
-use denote.Ref.{now}
-use mir.Syntax.{w64}
-use mir.Facts.{toZ-ofZ}
-use borrow.Author.Needs.{needs}
+use Rattle.algebra.specs.Prelude.{_≡_, ap, _∙_, _+_, _*_, _^_, arith, needs, getD, pos, _*ℤ_, w64, toZ-ofZ, now}
 use Rattle.algebra.specs.Bound.{AtMost, most-fits}
 use Rattle.lines.specs.Tables.{window16}
 use Rattle.merging.specs.Sum.{summedMost}
@@ -25,27 +17,6 @@ weight-is c = ap (λ l. getD l (c .args .j) (pos 0)) (c .pre .1) ∙ weight-at (
 weight-small : (c : tie.Start) → let a = c .args in AtMost (2 ^ 24) (getD (now (a .weights)) (a .j) (pos 0))
 weight-small c = rw (weight-is c) (record { most = weight-most (c .args .i) (c .args .j) (c .pre .2) (c .pre .3) })
 
-mul-result : tie.Need-mul-result
-mul-result c = search needs
-
-element-copy-out-result : tie.Need-element-copy-out-result
-element-copy-out-result c = search needs
-
-mul-result-2 : tie.Need-mul-result-2
-mul-result-2 c = search needs
-
-add-result : tie.Need-add-result
-add-result c = search needs
-
-add-result-2 : tie.Need-add-result-2
-add-result-2 c = search needs
-
-mul-result-3 : tie.Need-mul-result-3
-mul-result-3 c = search needs
-
-shared-slice-copy-out-result : tie.Need-shared-slice-copy-out-result
-shared-slice-copy-out-result c = search needs
-
 mul-result-4 : tie.Need-mul-result-4
 mul-result-4 c = let s = c .before .before in most-fits w64 _ _ (product-most (weight-small s) (word-most s) tt tt) tt
 
@@ -57,15 +28,6 @@ returns c =
     (e ∙ product-is (weight-small s) (word-most s) tt tt ∙ ap (λ z. z *ℤ getD (now (a .work)) (a .start + (16 * a .i + a .j)) (pos 0)) (weight-is s), rw e (product-most (weight-small s) (word-most s) tt tt))
 
 pub part-spec : {M : Type 1} → statement M
-part-spec =
-    tie.close
-    (tie.spec
-    mul-result
-    element-copy-out-result
-    mul-result-2
-    add-result
-    add-result-2
-    mul-result-3
-    shared-slice-copy-out-result
-    mul-result-4
-    returns)
+part-spec = tie.close (tie.spec
+    (λ c. search needs) (λ c. search needs) (λ c. search needs) (λ c. search needs)
+    (λ c. search needs) (λ c. search needs) (λ c. search needs) mul-result-4 returns)

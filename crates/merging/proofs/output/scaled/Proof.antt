@@ -1,13 +1,6 @@
 -- Each step fits: the sum is the largest number.
-use mathlib.Core.List.{List, [], _∷_}
-use mathlib.Core.Path.{_≡_, _∙_}
-use Prim.Native.Nat.{ℕ, _^_}
-use native.Mathlib.Omega.{arith}
-use lib.IntN.{ℤ, pos}
-use mir.Syntax.{w64}
-use mir.Val.{toZ}
+use Rattle.algebra.specs.Prelude.{_≡_, _∙_, List, [], _∷_, ℕ, _^_, arith, needs, ℤ, pos, w64, toZ}
 use mir.Facts.{toZ-pos}
-use borrow.Author.Needs.{needs}
 use Rattle.algebra.specs.Ring.{nth}
 use Rattle.algebra.specs.Code.{Code, par, loc, lit, add, sub, mul, shr, Bounded, fits, val-den}
 use Rattle.merging.proofs.output.scaled.Statement.{statement}
@@ -41,23 +34,8 @@ module _ (c : tie.Start) where
   abbrev Result : Code (nth (xs c))
   Result = add w64 First (shr w64 Rest (2 ^ 32))
 
-cast-result : tie.Need-cast-result
-cast-result c = search needs
-
-cast-result-2 : tie.Need-cast-result-2
-cast-result-2 c = search needs
-
 mul-result : tie.Need-mul-result
 mul-result c = fits (xs c) bs (small c) w64 (First c) tt
-
-cast-result-3 : tie.Need-cast-result-3
-cast-result-3 c = search needs
-
-mul-result-2 : tie.Need-mul-result-2
-mul-result-2 c = fits (xs c) bs (small c) w64 (Half c) tt
-
-sub-result : tie.Need-sub-result
-sub-result c = fits (xs c) bs (small c) w64 (Rest c) tt
 
 add-result : tie.Need-add-result
 add-result c = fits (xs c) bs (small c) w64 (Result c) tt
@@ -66,14 +44,7 @@ returns : tie.Need-returns
 returns c = val-den (xs c) bs (small c) (Result c) tt ∙ rw (t0-is c, count-is c)
 
 pub scaled-spec : {M : Type 1} → statement M
-scaled-spec =
-    tie.close
-    (tie.spec
-    cast-result
-    cast-result-2
-    mul-result
-    cast-result-3
-    mul-result-2
-    sub-result
-    add-result
-    returns)
+scaled-spec = tie.close (tie.spec
+    (λ c. search needs) (λ c. search needs) mul-result (λ c. search needs)
+    (λ c. fits (xs c) bs (small c) w64 (Half c) tt) (λ c. fits (xs c) bs (small c) w64 (Rest c) tt)
+    add-result returns)

@@ -1,14 +1,6 @@
 -- Windows are at most 4096.
-use mathlib.Core.Path.{_≡_, ap, _∙_}
-use Prim.Native.Nat.{_*_, _≤_}
-use native.Mathlib.Omega.{arith}
-use lib.IntN.{pos}
-use lib.ListN.{getD}
-use denote.Ref.{now}
-use mir.Syntax.{w64}
-use mir.Val.{toZ}
+use Rattle.algebra.specs.Prelude.{_≡_, ap, _∙_, _*_, _≤_, arith, needs, getD, pos, w64, toZ, now}
 use mir.Facts.{toZ-pos}
-use borrow.Author.Needs.{needs}
 use Rattle.lines.specs.Tables.{window16}
 use Rattle.merging.proofs.Weights.{weight-most}
 use Rattle.merging.proofs.output.weight.Statement.{statement}
@@ -21,21 +13,6 @@ weight-is c = rw (c .pre .0)
 small : (c : tie.Start) → getD (now (c .args .window)) (c .args .i) 0 * getD (now (c .args .window)) (c .args .j) 0 ≤ 16777216
 small c = rw (weight-is c) (weight-most (c .args .i) (c .args .j) (c .pre .1) (c .pre .2))
 
-mul-result : tie.Need-mul-result
-mul-result c = search needs
-
-element-copy-out-result : tie.Need-element-copy-out-result
-element-copy-out-result c = search needs
-
-mul-result-2 : tie.Need-mul-result-2
-mul-result-2 c = search needs
-
-element-copy-out-result-2 : tie.Need-element-copy-out-result-2
-element-copy-out-result-2 c = search needs
-
-mul-result-3 : tie.Need-mul-result-3
-mul-result-3 c = omega (arith, small (c .before .before))
-
 cast-result : tie.Need-cast-result
 cast-result c = record { sfits = omega (arith, small (c .before .before)) }
 
@@ -46,13 +23,6 @@ returns c =
     (e, rw e (record { most = weight-most (s .args .i) (s .args .j) (s .pre .1) (s .pre .2) }))
 
 pub weight-spec : {M : Type 1} → statement M
-weight-spec =
-    tie.close
-    (tie.spec
-    mul-result
-    element-copy-out-result
-    mul-result-2
-    element-copy-out-result-2
-    mul-result-3
-    cast-result
-    returns)
+weight-spec = tie.close (tie.spec
+    (λ c. search needs) (λ c. search needs) (λ c. search needs) (λ c. search needs)
+    (λ c. omega (arith, small (c .before .before))) cast-result returns)

@@ -1,11 +1,5 @@
 -- A row of weights, filled from the front.
-use mathlib.Core.Path.{_≡_, refl, _∙_}
-use Prim.Native.Nat.{_-_, _*_}
-use native.Mathlib.Omega.{arith}
-use lib.IntN.{pos}
-use mir.Syntax.{w64}
-use mir.Val.{toZ, ofZ}
-use borrow.Author.Needs.{needs}
+use Rattle.algebra.specs.Prelude.{_≡_, refl, _∙_, _-_, _*_, arith, needs, pos, w64, toZ, ofZ}
 use Rattle.sequences.specs.Tab.{Filled, fill-start, fill-turn, fill-done}
 use Rattle.lines.specs.Tables.{window16}
 use Rattle.merging.specs.Gather.{weightRow}
@@ -18,24 +12,6 @@ Inv-loop window i row₀ j₀ row j = Filled (λ j. pos (window16 i * window16 j
 abbrev μ-loop : tie.MeasureT-loop
 μ-loop window i row₀ j₀ row j = 16 - j
 
-loop-holds : tie.Need-loop-holds Inv-loop μ-loop
-loop-holds c = fill-start refl
-
-weight-requires : tie.Need-weight-requires Inv-loop μ-loop
-weight-requires c κs = search needs
-
-mul-row : tie.Need-mul-row Inv-loop μ-loop
-mul-row c = search needs
-
-array-set-from-row : tie.Need-array-set-from-row Inv-loop μ-loop
-array-set-from-row c = search needs
-
-add-j : tie.Need-add-j Inv-loop μ-loop
-add-j c = search needs
-
-loop-less : tie.Need-loop-less Inv-loop μ-loop
-loop-less c = search needs
-
 loop-again : tie.Need-loop-again Inv-loop μ-loop
 loop-again c =
     let w = c .weight in
@@ -47,16 +23,6 @@ unfolding weightRow
 returns c = fill-done (c .before .loop .inv) (omega arith)
 
 pub weights-spec : {M : Type 1} → statement M
-weights-spec =
-    tie.close
-    (tie.spec
-    Inv-loop
-    μ-loop
-    loop-holds
-    weight-requires
-    mul-row
-    array-set-from-row
-    add-j
-    loop-less
-    loop-again
-    returns)
+weights-spec = tie.close (tie.spec
+    Inv-loop μ-loop (λ c. fill-start refl) (λ c κs. search needs) (λ c. search needs)
+    (λ c. search needs) (λ c. search needs) (λ c. search needs) loop-again returns)

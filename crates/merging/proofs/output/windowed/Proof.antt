@@ -1,12 +1,5 @@
 -- Four terms, each far below 2^63, in the definition's order.
-use mathlib.Core.Path.{ap, _∙_}
-use Prim.Native.Nat.{_+_, _^_}
-use native.Mathlib.Omega.{arith}
-use lib.IntN.{_+ℤ_}
-use denote.Ref.{now}
-use mir.Syntax.{w64}
-use mir.Facts.{toZ-ofZ}
-use borrow.Author.Needs.{needs}
+use Rattle.algebra.specs.Prelude.{ap, _∙_, _+_, _^_, arith, needs, _+ℤ_, w64, toZ-ofZ, now}
 use Rattle.algebra.specs.Bound.{AtMost, most-fits}
 use Rattle.merging.proofs.Signed.{plus64, sum-is, sum-most}
 use Rattle.merging.proofs.Weights.{words-fewer, words-later, windowed-four}
@@ -22,38 +15,14 @@ most-3 c = sum-most (most-2 (c .before)) (c .part3 .ensures .1) tt tt
 most-4 : (c : tie.After-part4) → AtMost (2 ^ 59) (plus64 (plus64 (plus64 (c .before .before .before .part .result) (c .before .before .part2 .result)) (c .before .part3 .result)) (c .part4 .result))
 most-4 c = sum-most (most-3 (c .before)) (c .part4 .ensures .1) tt tt
 
-add-part : tie.Need-add-part
-add-part c = search needs
-
 part-requires : tie.Need-part-requires
 part-requires c κs = let w = c .pre .0 in (words-later 256 256 (w .lower-words) (omega arith), w .lower-weights, omega (arith, w .row), omega (arith, c .pre .1))
-
-add-part-2 : tie.Need-add-part-2
-add-part-2 c = search needs
 
 part-requires-2 : tie.Need-part-requires-2
 part-requires-2 c κs = let s = c .before in let w = s .pre .0 in (words-fewer 256 (w .lower-words) (omega arith), w .lower-weights, omega (arith, w .row), omega (arith, s .pre .1))
 
-add-result : tie.Need-add-result
-add-result c = most-fits w64 _ _ (most-2 c) tt
-
-add-part-3 : tie.Need-add-part-3
-add-part-3 c = search needs
-
-add-part-4 : tie.Need-add-part-4
-add-part-4 c = search needs
-
 part-requires-3 : tie.Need-part-requires-3
 part-requires-3 c κs = let s = c .before .before in let w = s .pre .0 in (words-later 256 256 (w .upper-words) (omega arith), w .upper-weights, omega (arith, w .row), omega (arith, s .pre .1))
-
-add-result-2 : tie.Need-add-result-2
-add-result-2 c = most-fits w64 _ _ (most-3 c) tt
-
-add-part-5 : tie.Need-add-part-5
-add-part-5 c = search needs
-
-add-part-6 : tie.Need-add-part-6
-add-part-6 c = search needs
 
 part-requires-4 : tie.Need-part-requires-4
 part-requires-4 c κs = let s = c .before .before .before in let w = s .pre .0 in (words-fewer 256 (w .upper-words) (omega arith), w .upper-weights, omega (arith, w .row), omega (arith, s .pre .1))
@@ -74,20 +43,8 @@ returns c =
     (back ∙ sum ∙ windowed-four (now (a .work)) (a .above) (a .below) (a .i) (a .j) (c .before .before .before .before .pre .1) (p .ensures .0) (p2 .ensures .0) (p3 .ensures .0) (c .part4 .ensures .0), rw back (most-4 c))
 
 pub windowed-spec : {M : Type 1} → statement M
-windowed-spec =
-    tie.close
-    (tie.spec
-    add-part
-    part-requires
-    add-part-2
-    part-requires-2
-    add-result
-    add-part-3
-    add-part-4
-    part-requires-3
-    add-result-2
-    add-part-5
-    add-part-6
-    part-requires-4
-    add-result-3
-    returns)
+windowed-spec = tie.close (tie.spec
+    (λ c. search needs) part-requires (λ c. search needs) part-requires-2
+    (λ c. most-fits w64 _ _ (most-2 c) tt) (λ c. search needs) (λ c. search needs) part-requires-3
+    (λ c. most-fits w64 _ _ (most-3 c) tt) (λ c. search needs) (λ c. search needs) part-requires-4
+    add-result-3 returns)

@@ -1,8 +1,5 @@
 -- A tile a turn, each at its place of the row.
-use mathlib.Core.Path.{refl}
-use Prim.Native.Nat.{_-_}
-use native.Mathlib.Omega.{arith}
-use borrow.Author.Needs.{needs}
+use Rattle.algebra.specs.Prelude.{refl, _-_, arith, needs}
 use Rattle.sequences.specs.Tab.{tab}
 use Rattle.sequences.specs.Grid.{grid}
 use Rattle.merging.specs.Recipe.{sceneOf}
@@ -17,12 +14,6 @@ Inv-loop m samples vectors plane row work₀ width start column₀ column-end wo
 abbrev μ-loop : tie.MeasureT-loop
 μ-loop m samples vectors plane row work₀ width start column₀ column-end work column = column-end - column
 
-slot-requires : tie.Need-slot-requires Inv-loop μ-loop
-slot-requires c κs = search needs
-
-add-column-end : tie.Need-add-column-end Inv-loop μ-loop
-add-column-end c = search needs
-
 loop-holds : tie.Need-loop-holds Inv-loop μ-loop
 unfolding sceneOf
 loop-holds c = store-start (omega (arith, c .slot .ensures))
@@ -32,9 +23,6 @@ unfolding grid tab
 tile-correction-requires c κs =
     let s = c .before .before .before .before .before in
     (s .pre .0, record { row-parity = s .pre .1 .row-parity; column-parity = s .pre .1 .column-parity; row = s .pre .2; column = omega arith }, refl)
-
-mul-store-tile : tie.Need-mul-store-tile Inv-loop μ-loop
-mul-store-tile c = search needs
 
 add-store-tile : tie.Need-add-store-tile Inv-loop μ-loop
 unfolding rowWords
@@ -47,40 +35,18 @@ store-tile-requires c κs =
     let w = l .loop .inv .writing in
     omega (arith, l .before .slot .ensures .0, w .room, w .same)
 
-add-column : tie.Need-add-column Inv-loop μ-loop
-add-column c = search needs
-
-loop-less : tie.Need-loop-less Inv-loop μ-loop
-loop-less c = omega arith
-
 loop-again : tie.Need-loop-again Inv-loop μ-loop
 unfolding sceneOf
 loop-again c =
     let l = c .before .before .before .before .before .before .before in
     store-turn (l .loop .inv) (omega arith) (c .before .before .before .before .tile-correction .ensures) (rw (l .before .slot .ensures .0) at (c .before .store-tile .ensures))
 
-same-length : tie.Need-same-length Inv-loop μ-loop
-same-length c = search needs
-
 returns : tie.Need-returns Inv-loop μ-loop
 unfolding sceneOf
 returns c = store-done (c .before .loop .inv) (omega arith)
 
 pub correction-row-spec : {M : Type 1} → statement M
-correction-row-spec =
-    tie.close
-    (tie.spec
-    Inv-loop
-    μ-loop
-    slot-requires
-    add-column-end
-    loop-holds
-    tile-correction-requires
-    mul-store-tile
-    add-store-tile
-    store-tile-requires
-    add-column
-    loop-less
-    loop-again
-    same-length
-    returns)
+correction-row-spec = tie.close (tie.spec
+    Inv-loop μ-loop (λ c κs. search needs) (λ c. search needs) loop-holds tile-correction-requires
+    (λ c. search needs) add-store-tile store-tile-requires (λ c. search needs) (λ c. omega arith)
+    loop-again (λ c. search needs) returns)

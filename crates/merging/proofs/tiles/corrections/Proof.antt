@@ -1,9 +1,5 @@
 -- The sum goes on by one frame a turn.
-use mathlib.Core.Path.{_≡_, _∙_, subst, sym}
-use Prim.Native.Nat.{_-_}
-use native.Mathlib.Omega.{arith}
-use denote.Ref.{now}
-use borrow.Author.Needs.{needs}
+use Rattle.algebra.specs.Prelude.{_≡_, sym, subst, _∙_, _-_, arith, needs, now}
 use Rattle.sequences.specs.Grid.{grid}
 use Rattle.merging.specs.Recipe.{sceneOf, difference}
 use Rattle.lines.specs.Lines.{TileMost}
@@ -20,15 +16,9 @@ Inv-loop m samples vectors site t0 noise sum₀ others k₀ sum k = Summing (sce
 abbrev μ-loop : tie.MeasureT-loop
 μ-loop m samples vectors site t0 noise sum₀ others k₀ sum k = others - k
 
-sub-others : tie.Need-sub-others Inv-loop μ-loop
-sub-others c = search needs
-
 loop-holds : tie.Need-loop-holds Inv-loop μ-loop
 unfolding sceneOf
 loop-holds c = sum-start (omega arith) (c .before .before .pre .3)
-
-other-tile-requires : tie.Need-other-tile-requires Inv-loop μ-loop
-other-tile-requires c κs = search needs
 
 difference-requires : tie.Need-difference-requires Inv-loop μ-loop
 difference-requires c κs =
@@ -50,12 +40,6 @@ add-correction-requires c κs =
     let s = l .before .before .before in
     (subst (TileMost differenceMost) (sym (difference-is d)) (tile-most (s .args .m) (now (s .args .vectors)) (s .pre .0 .samples-fit) _ _ _ _ _), s .pre .2 .most, sum-small (l .loop .inv), sum-square (l .loop .inv))
 
-add-k : tie.Need-add-k Inv-loop μ-loop
-add-k c = search needs
-
-loop-less : tie.Need-loop-less Inv-loop μ-loop
-loop-less c = omega arith
-
 loop-again : tie.Need-loop-again Inv-loop μ-loop
 unfolding sceneOf
 loop-again c =
@@ -70,17 +54,6 @@ unfolding sceneOf
 returns c = sum-done (c .before .loop .inv) (omega arith)
 
 pub corrections-spec : {M : Type 1} → statement M
-corrections-spec =
-    tie.close
-    (tie.spec
-    Inv-loop
-    μ-loop
-    sub-others
-    loop-holds
-    other-tile-requires
-    difference-requires
-    add-correction-requires
-    add-k
-    loop-less
-    loop-again
-    returns)
+corrections-spec = tie.close (tie.spec
+    Inv-loop μ-loop (λ c. search needs) loop-holds (λ c κs. search needs) difference-requires
+    add-correction-requires (λ c. search needs) (λ c. omega arith) loop-again returns)

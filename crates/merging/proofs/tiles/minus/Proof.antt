@@ -1,12 +1,6 @@
 -- Two samples fit a signed word, and so does their difference.
-use mathlib.Core.Path.{_≡_, _∙_}
-use Prim.Native.Nat.{ℕ, _≤_}
-use native.Mathlib.Omega.{arith}
-use lib.IntN.{pos, _-ℤ_}
-use mir.Syntax.{w16}
-use mir.Val.{SFits, toZ}
+use Rattle.algebra.specs.Prelude.{_≡_, _∙_, ℕ, _≤_, arith, needs, pos, _-ℤ_, w16, SFits, toZ}
 use mir.Facts.{toZ-ofZ, toZ-pos}
-use borrow.Author.Needs.{needs}
 use Rattle.algebra.specs.Bound.{sub-fits}
 use Rattle.merging.proofs.tiles.minus.Statement.{statement}
 use Rattle.merging.proofs.tiles.minus.Tie as tie
@@ -18,12 +12,6 @@ module _ {a b : ℕ} (h : a ≤ 4095) (k : b ≤ 4095) where
   fits : SFits w16 (toZ w16 a -ℤ toZ w16 b)
   fits = rw difference (sub-fits w16 (pos a) (pos b) 4095 4095 (record { most = h }) (record { most = k }) tt)
 
-cast-result : tie.Need-cast-result
-cast-result c = search needs
-
-cast-result-2 : tie.Need-cast-result-2
-cast-result-2 c = search needs
-
 sub-result : tie.Need-sub-result
 sub-result c = fits (c .pre .0) (c .pre .1)
 
@@ -31,4 +19,4 @@ returns : tie.Need-returns
 returns c = toZ-ofZ (sub-result c) ∙ difference (c .pre .0) (c .pre .1)
 
 pub minus-spec : {M : Type 1} → statement M
-minus-spec = tie.close (tie.spec cast-result cast-result-2 sub-result returns)
+minus-spec = tie.close (tie.spec (λ c. search needs) (λ c. search needs) sub-result returns)

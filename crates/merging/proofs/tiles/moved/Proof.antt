@@ -1,21 +1,9 @@
 -- An origin and a vector's part are small.
-use mathlib.Core.Path.{_≡_, ap, _∙_}
-use native.Mathlib.Omega.{arith}
-use lib.IntN.{_+ℤ_}
-use mir.Syntax.{w32, w64}
-use mir.Val.{toZ, ofZ}
-use mir.Facts.{toZ-ofZ}
-use borrow.Author.Needs.{needs}
+use Rattle.algebra.specs.Prelude.{_≡_, ap, _∙_, arith, needs, _+ℤ_, w32, w64, toZ, ofZ, toZ-ofZ}
 use Rattle.algebra.specs.Bound.{add-most, most-fits}
 use Rattle.merging.proofs.Signed.{sum-is, sum-most, wide-fits, wide-most}
 use Rattle.merging.proofs.tiles.moved.Statement.{statement}
 use Rattle.merging.proofs.tiles.moved.Tie as tie
-
-origin-requires : tie.Need-origin-requires
-origin-requires c κs = search needs
-
-cast-result : tie.Need-cast-result
-cast-result c = wide-fits (c .before .fits .part)
 
 add-result : tie.Need-add-result
 add-result c = most-fits w64 _ _ (sum-most (c .origin .ensures .1) (wide-most (c .before .fits .part)) tt tt) tt
@@ -28,4 +16,5 @@ returns c =
     (back ∙ ap (λ z. z +ℤ c .before .args .part) (c .origin .ensures .0), rw back (record { near = omega (arith, add-most (c .origin .ensures .1) (c .before .pre .1) .most) }))
 
 pub moved-spec : {M : Type 1} → statement M
-moved-spec = tie.close (tie.spec origin-requires cast-result add-result returns)
+moved-spec = tie.close (tie.spec
+    (λ c κs. search needs) (λ c. wide-fits (c .before .fits .part)) add-result returns)

@@ -1,14 +1,5 @@
 -- The tile of the frame that the index names, moved by the vector that stands at its place.
-use mathlib.Core.Path.{_≡_, _∙_}
-use mathlib.Core.List.{List}
-use Prim.Native.Nat.{ℕ, _+_}
-use lib.IntN.{ℤ, pos}
-use lib.ListN.{getD}
-use denote.Ref.{now}
-use mir.Syntax.{w32}
-use mir.Val.{toZ, ofZ}
-use mir.Facts.{toZ-ofZ}
-use borrow.Author.Needs.{needs}
+use Rattle.algebra.specs.Prelude.{_≡_, _∙_, List, ℕ, _+_, needs, getD, ℤ, pos, w32, toZ, ofZ, toZ-ofZ, now}
 use Rattle.algebra.specs.Bound.{AtMost, most-fits}
 use Rattle.geometry.specs.Bounds.{VectorsFit}
 use Rattle.geometry.specs.Read.{sampleAt}
@@ -33,27 +24,6 @@ other-tile-is : (m : Merge) (samples : List ℕ) (vectors : List ℤ) (rowParity
 unfolding otherTile sceneOf downAt rightAt
 other-tile-is m samples vectors rowParity columnParity a b k f p d r = rw (d, r, f, p)
 
-vector-place-requires : tie.Need-vector-place-requires
-vector-place-requires c κs = search needs
-
-mul-down : tie.Need-mul-down
-mul-down c = search needs
-
-shared-slice-copy-out-down : tie.Need-shared-slice-copy-out-down
-shared-slice-copy-out-down c = search needs
-
-add-right : tie.Need-add-right
-add-right c = search needs
-
-mul-right : tie.Need-mul-right
-mul-right c = search needs
-
-shared-slice-copy-out-right : tie.Need-shared-slice-copy-out-right
-shared-slice-copy-out-right c = search needs
-
-other-frame-requires : tie.Need-other-frame-requires
-other-frame-requires c κs = search needs
-
 tile-requires : tie.Need-tile-requires
 tile-requires c κs =
     let s = c .before .before .before .before .before .before in
@@ -70,15 +40,6 @@ returns c =
     (c .before .other-frame .ensures .0) (place .vector-place .ensures .0) (part-is v _) (part-is v _)
 
 pub other-tile-spec : {M : Type 1} → statement M
-other-tile-spec =
-    tie.close
-    (tie.spec
-    vector-place-requires
-    mul-down
-    shared-slice-copy-out-down
-    add-right
-    mul-right
-    shared-slice-copy-out-right
-    other-frame-requires
-    tile-requires
-    returns)
+other-tile-spec = tie.close (tie.spec
+    (λ c κs. search needs) (λ c. search needs) (λ c. search needs) (λ c. search needs)
+    (λ c. search needs) (λ c. search needs) (λ c κs. search needs) tile-requires returns)

@@ -1,12 +1,5 @@
 -- The view's tile at the moved origins, cell by cell.
-use mathlib.Core.Path.{_≡_, refl, ap, ap₂, _∙_}
-use Prim.Native.Nat.{_/_}
-use lib.IntN.{_+ℤ_}
-use denote.Ref.{now}
-use mir.Syntax.{w64}
-use mir.Val.{toZ, ofZ}
-use mir.Facts.{toZ-ofZ}
-use borrow.Author.Needs.{needs}
+use Rattle.algebra.specs.Prelude.{_≡_, refl, ap, ap₂, _∙_, _/_, needs, _+ℤ_, w64, toZ, ofZ, toZ-ofZ, now}
 use Rattle.sequences.specs.Grid.{grid-ext}
 use Rattle.geometry.specs.Read.{planeOf, sampleAt}
 use Rattle.geometry.specs.Tiles.{origin}
@@ -14,15 +7,6 @@ use Rattle.plane_view.specs.View.{tileOf}
 use Rattle.merging.specs.Recipe.{tileAt}
 use Rattle.merging.proofs.tiles.tile.Statement.{statement}
 use Rattle.merging.proofs.tiles.tile.Tie as tie
-
-moved-requires : tie.Need-moved-requires
-moved-requires c κs = search needs
-
-moved-requires-2 : tie.Need-moved-requires-2
-moved-requires-2 c κs = search needs
-
-frame-tile-requires : tie.Need-frame-tile-requires
-frame-tile-requires c κs = search needs
 
 returns : tie.Need-returns
 unfolding tileOf tileAt
@@ -40,4 +24,5 @@ returns c =
     ∙ grid-ext 16 16 _ _ (λ i j _ _. refl)
 
 pub tile-spec : {M : Type 1} → statement M
-tile-spec = tie.close (tie.spec moved-requires moved-requires-2 frame-tile-requires returns)
+tile-spec = tie.close (tie.spec
+    (λ c κs. search needs) (λ c κs. search needs) (λ c κs. search needs) returns)

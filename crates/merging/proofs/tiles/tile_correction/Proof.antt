@@ -1,10 +1,5 @@
 -- T0 has its root and its noise number, which is in range; at 0 every correction is 0.
-use mathlib.Core.Path.{_≡_, sym, ap, _∙_}
-use mathlib.Core.List.{List}
-use Prim.Native.Nat.{ℕ, _≤_}
-use lib.IntN.{ℤ, pos}
-use denote.Ref.{now}
-use borrow.Author.Needs.{needs}
+use Rattle.algebra.specs.Prelude.{_≡_, sym, ap, _∙_, List, ℕ, _≤_, needs, ℤ, pos, now}
 use Rattle.sequences.specs.Grid.{grid, cell, cell-grid}
 use Rattle.geometry.specs.Read.{sampleAt}
 use Rattle.noise.specs.NoiseNumber.{tileRoot, noiseNumber}
@@ -33,12 +28,6 @@ module _ {m : Merge} {samples : List ℕ} {vectors : List ℤ} (ok : Accepted m 
       number : noise ≡ tileNoise (sceneOf m samples vectors) (t .«row_parity») (t .«column_parity») (t .row) (t .column)
       number = v ∙ ap (noiseNumber (m .strength) (m .shot) (m .read)) (tile-root-cong 16 _ _ (λ i j h k. ap (λ x. cell 0 x i j) e ∙ cell-grid 0 16 16 _ i j h k))
 
-tile-requires : tie.Need-tile-requires
-tile-requires c κs = search needs
-
-tile-noise-requires : tie.Need-tile-noise-requires
-tile-noise-requires c κs = search needs
-
 known : (c : tie.After-tile-noise) → let a = c .before .before .before .before .args in TileOf (sceneOf (a .m) (now (a .samples)) (now (a .vectors))) (a .site) (c .before .tile .result) (c .tile-noise .result)
 known c = let s = c .before .before .before .before in tile-of (s .pre .0) (s .args .site) (c .before .tile .ensures) (c .tile-noise .ensures)
 
@@ -48,8 +37,6 @@ returns c = zero-summed (sym (known (c .before) .number) ∙ c .if1 .taken) (c .
 corrections-requires : tie.Need-corrections-requires
 corrections-requires c κs = let n = c .before .before .before in let s = n .before .before .before .before in (s .pre .0, s .pre .1, known n, s .pre .2)
 
-returns-2 : tie.Need-returns-2
-returns-2 c = search needs
-
 pub tile-correction-spec : {M : Type 1} → statement M
-tile-correction-spec = tie.close (tie.spec tile-requires tile-noise-requires returns corrections-requires returns-2)
+tile-correction-spec = tie.close (tie.spec
+    (λ c κs. search needs) (λ c κs. search needs) returns corrections-requires (λ c. search needs))

@@ -4,12 +4,9 @@ use lib.Ieee.{ofBits, ofInt}
 use Rattle.noise.proofs.level.at_iso.Statement.{statement}
 use Rattle.noise.proofs.level.at_iso.Tie as tie
 
-int-to-float-alpha : tie.Need-int-to-float-alpha
-int-to-float-alpha c = search needs
-
 returns : tie.Need-returns
 unfolding ofBits ofInt
 returns c = search needs
 
 pub at-iso-spec : {M : Type 1} → statement M
-at-iso-spec = tie.close (tie.spec int-to-float-alpha returns)
+at-iso-spec = tie.close (tie.spec (λ c. search needs) returns)

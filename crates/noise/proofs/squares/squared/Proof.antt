@@ -1,12 +1,8 @@
 -- A square of at most 65535².
 use native.Mathlib.Nat.{mul-le-mul}
-use native.Mathlib.Omega.{arith}
-use borrow.Author.Needs.{needs}
+use Rattle.algebra.specs.Prelude.{arith, needs}
 use Rattle.noise.proofs.squares.squared.Statement.{statement}
 use Rattle.noise.proofs.squares.squared.Tie as tie
-
-intensity-requires : tie.Need-intensity-requires
-intensity-requires c κs = search needs
 
 mul-result : tie.Need-mul-result
 mul-result c = let h = c .intensity .ensures .1 in omega (arith, mul-le-mul h h)
@@ -15,4 +11,4 @@ returns : tie.Need-returns
 returns c = let h = c .intensity .ensures .1 in (rw (c .intensity .ensures .0), omega (arith, mul-le-mul h h))
 
 pub squared-spec : {M : Type 1} → statement M
-squared-spec = tie.close (tie.spec intensity-requires mul-result returns)
+squared-spec = tie.close (tie.spec (λ c κs. search needs) mul-result returns)

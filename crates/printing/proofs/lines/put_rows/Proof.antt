@@ -30,17 +30,8 @@ here c = inside _ (omega arith)
 loop-holds : tie.Need-loop-holds Inv-loop μ-loop
 loop-holds c = (rw (sub-zero, zero-mul) (printing-start (omega arith)), omega arith, omega (arith, zero-mul (c .before .before .args .width)))
 
-mul-put-samples : tie.Need-mul-put-samples Inv-loop μ-loop
-mul-put-samples c = omega (arith, here c)
-
 put-samples-requires : tie.Need-put-samples-requires Inv-loop μ-loop
 put-samples-requires c κs = let h = here c in (omega arith, omega arith)
-
-add-row : tie.Need-add-row Inv-loop μ-loop
-add-row c = search needs
-
-loop-less : tie.Need-loop-less Inv-loop μ-loop
-loop-less c = search needs
 
 loop-again : tie.Need-loop-again Inv-loop μ-loop
 loop-again c =
@@ -50,9 +41,6 @@ loop-again c =
     let width = start .args .width in
     let call = c .before .before .put-samples in
     (printing-turn (at-loop .loop .inv .0) (rows-next width (start .args .height) (start .args .samples .now) row (omega arith)) (call .ensures .0), omega arith, rw row-after (omega arith))
-
-same-length : tie.Need-same-length Inv-loop μ-loop
-same-length c = search needs
 
 returns : tie.Need-returns Inv-loop μ-loop
 unfolding frameRows
@@ -64,16 +52,6 @@ returns c =
     (printing-done (at-loop .loop .inv .0) (rw none), rw all (at-loop .loop .inv .2))
 
 pub put-rows-spec : {M : Type 1} → statement M
-put-rows-spec =
-    tie.close
-    (tie.spec
-    Inv-loop
-    μ-loop
-    loop-holds
-    mul-put-samples
-    put-samples-requires
-    add-row
-    loop-less
-    loop-again
-    same-length
-    returns)
+put-rows-spec = tie.close (tie.spec
+    Inv-loop μ-loop loop-holds (λ c. omega (arith, here c)) put-samples-requires (λ c. search needs)
+    (λ c. search needs) loop-again (λ c. search needs) returns)

@@ -21,32 +21,8 @@ loop-holds c =
     let args = c .before .before .args in
     (lining-start (omega arith), length-take-le _ _ (omega (arith, length-drop (args .from) (args .samples .now))))
 
-add-put-value : tie.Need-add-put-value Inv-loop μ-loop
-add-put-value c = search needs
-
-mul-put-value : tie.Need-mul-put-value Inv-loop μ-loop
-mul-put-value c = search needs
-
-shared-slice-read-put-value : tie.Need-shared-slice-read-put-value Inv-loop μ-loop
-shared-slice-read-put-value c = search needs
-
 cast-put-value : tie.Need-cast-put-value Inv-loop μ-loop
 cast-put-value c = let at-loop = c .before .before .before in omega (arith, c .shared-slice-known2 .given (at-loop .before .before .before .args .from + at-loop .loop .k))
-
-add-put-value-2 : tie.Need-add-put-value-2 Inv-loop μ-loop
-add-put-value-2 c = search needs
-
-sub-put-value : tie.Need-sub-put-value Inv-loop μ-loop
-sub-put-value c = search needs
-
-put-value-requires : tie.Need-put-value-requires Inv-loop μ-loop
-put-value-requires c κs = search needs
-
-add-k : tie.Need-add-k Inv-loop μ-loop
-add-k c = search needs
-
-loop-less : tie.Need-loop-less Inv-loop μ-loop
-loop-less c = search needs
 
 loop-again : tie.Need-loop-again Inv-loop μ-loop
 loop-again c =
@@ -58,28 +34,11 @@ loop-again c =
     let short = value-length 4 (getD (args .samples .now) sample 0) (args .count - (k + 1)) (omega (arith, c .before .before .before .shared-slice-known2 .given sample)) in
     (lining-turn (at-loop .loop .inv .0) (omega arith) (rw (getD-take, getD-drop)) (omega arith) (c .before .before .put-value .ensures .0) (omega arith), at-loop .loop .inv .1)
 
-same-length : tie.Need-same-length Inv-loop μ-loop
-same-length c = search needs
-
 returns : tie.Need-returns Inv-loop μ-loop
 returns c = let d = lining-done (c .before .loop .inv .0) (omega arith) in (d .0, omega arith)
 
 pub put-samples-spec : {M : Type 1} → statement M
-put-samples-spec =
-    tie.close
-    (tie.spec
-    Inv-loop
-    μ-loop
-    loop-holds
-    add-put-value
-    mul-put-value
-    shared-slice-read-put-value
-    cast-put-value
-    add-put-value-2
-    sub-put-value
-    put-value-requires
-    add-k
-    loop-less
-    loop-again
-    same-length
-    returns)
+put-samples-spec = tie.close (tie.spec
+    Inv-loop μ-loop loop-holds (λ c. search needs) (λ c. search needs) (λ c. search needs)
+    cast-put-value (λ c. search needs) (λ c. search needs) (λ c κs. search needs)
+    (λ c. search needs) (λ c. search needs) loop-again (λ c. search needs) returns)

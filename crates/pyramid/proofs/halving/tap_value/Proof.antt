@@ -1,28 +1,12 @@
 -- The row is inside the image, so its words are values.
-use Rattle.geometry.specs.Read.{inside}
 use Rattle.pyramid.specs.Words.{imageAt, wordAt, Row}
 use Rattle.pyramid.specs.WordsLaws.{row-held}
-use native.Mathlib.Omega.{arith}
-use mathlib.Core.Path.{ap, _∙_}
-use Prim.Native.Nat.{ℕ, _+_, _*_}
-use borrow.Author.Needs.{needs}
+use Rattle.algebra.specs.Prelude.{ap, _∙_, ℕ, _+_, _*_, arith, needs}
 use Rattle.pyramid.proofs.halving.tap_value.Statement.{statement}
 use Rattle.pyramid.proofs.halving.tap_value.Tie as tie
 
-tap-index-requires : tie.Need-tap-index-requires
-tap-index-requires c κs = search needs
-
 row : (c : tie.After-tap-index) → Row (c .before .args .work .now) (c .before .args .from + c .tap-index .result * c .before .args .width) (c .before .args .width)
 row c = row-held (c .tap-index .result) (c .before .pre .0 .holds) (c .tap-index .ensures .1)
-
-mul-word : tie.Need-mul-word
-mul-word c = let r = row c in omega arith
-
-add-word : tie.Need-add-word
-add-word c = let r = row c in omega arith
-
-add-word-2 : tie.Need-add-word-2
-add-word-2 c = let r = row c in omega arith
 
 word-requires : tie.Need-word-requires
 word-requires c κs = row c .held (c .before .args .column) (omega arith)
@@ -34,5 +18,6 @@ returns c =
     (c .word .ensures .0 ∙ ap (λ (y : ℕ). wordAt (a .work .now) (a .from + y * a .width + a .column)) (c .before .tap-index .ensures .0), c .word .ensures .1)
 
 pub tap-value-spec : {M : Type 1} → statement M
-tap-value-spec =
-    tie.close (tie.spec tap-index-requires mul-word add-word add-word-2 word-requires returns)
+tap-value-spec = tie.close (tie.spec
+    (λ c κs. search needs) (λ c. let r = row c in omega arith) (λ c. let r = row c in omega arith)
+    (λ c. let r = row c in omega arith) word-requires returns)

@@ -1,14 +1,10 @@
 -- A frame's samples are at most 4095.
-use native.Mathlib.Omega.{arith}
-use borrow.Author.Needs.{needs}
+use Rattle.algebra.specs.Prelude.{arith, needs}
 use Rattle.pyramid.proofs.squares.sample.Statement.{statement}
 use Rattle.pyramid.proofs.squares.sample.Tie as tie
-
-sample-at-requires : tie.Need-sample-at-requires
-sample-at-requires c κs = search needs
 
 returns : tie.Need-returns
 returns c = let s = c .before .before in (c .sample-at .ensures, omega (arith, c .sample-at .ensures, s .pre .0 .most (s .args .row) (s .args .column) (omega arith) (omega arith)))
 
 pub sample-spec : {M : Type 1} → statement M
-sample-spec = tie.close (tie.spec sample-at-requires returns)
+sample-spec = tie.close (tie.spec (λ c κs. search needs) returns)

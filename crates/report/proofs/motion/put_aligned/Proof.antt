@@ -1,11 +1,6 @@
 -- `report::motion::put_aligned`: the names, then the lines of the vectors that align found.
-use mathlib.Core.Path.{_≡_, sym, ap}
-use mathlib.Core.List.{List, _++_}
-use Prim.Native.Nat.{ℕ, _-_, _*_}
-use native.Mathlib.Omega.{arith}
-use lib.IntN.{ℤ}
+use Rattle.algebra.specs.Prelude.{_≡_, sym, ap, List, _++_, ℕ, _-_, _*_, arith, needs, ℤ}
 use lib.Seq.{length-take-le}
-use borrow.Author.Needs.{needs}
 use Rattle.alignment.specs.Aligned.{alignedVectors, residualSums}
 use Rattle.burst_file.specs.declared.Header.{Header}
 use Rattle.printing.specs.Lines.{motionNames}
@@ -28,21 +23,6 @@ lines-of {header} {samples} {vectors} {sums} t v s =
     (λ n. motionNames ++ frameLines (header .reference) n (alignedVectors (header .shape) (header .reference) samples) (residualSums (header .shape) (header .reference) samples) (header .shape .count - 1))
     (sym (frame-parts t)))
 
-align-burst-requires : tie.Need-align-burst-requires
-align-burst-requires c κs = search needs
-
-put-motion-names-requires : tie.Need-put-motion-names-requires
-put-motion-names-requires c κs = search needs
-
-sub-others : tie.Need-sub-others
-sub-others c = search needs
-
-mul-end : tie.Need-mul-end
-mul-end c = search needs
-
-slice-reshare-prefix-put-frames : tie.Need-slice-reshare-prefix-put-frames
-slice-reshare-prefix-put-frames c = search needs
-
 slice-aggregate-put-frames : tie.Need-slice-aggregate-put-frames
 slice-aggregate-put-frames c =
     let aligned = c .before .before .before .before .before .before .before .before .before .before in
@@ -57,15 +37,6 @@ put-frames-requires c κs =
     let whole = length-take-le (50 * (start .args .header .shape .count - 1)) (aligned .align-burst .last .1 .1 .0) (omega (arith, aligned .align-burst .ensures .same, few)) in
     (omega (arith, few), omega (arith, whole), omega (arith, named .put-motion-names .ensures .1, named .put-motion-names .ensures .0 .same, start .pre .3))
 
-same-length : tie.Need-same-length
-same-length c = search needs
-
-same-length-2 : tie.Need-same-length-2
-same-length-2 c = search needs
-
-same-length-3 : tie.Need-same-length-3
-same-length-3 c = search needs
-
 returns : tie.Need-returns
 returns c =
     let put = c .before .before in
@@ -75,17 +46,7 @@ returns c =
     rw (lines-of (aligned-at .before .before .before .before .before .pre .0) (aligned .found) (aligned .residuals)) at (printed-then (omega arith) (named .put-motion-names .ensures .0) (put .put-frames .ensures))
 
 pub put-aligned-spec : {M : Type 1} → statement M
-put-aligned-spec =
-    tie.close
-    (tie.spec
-    align-burst-requires
-    put-motion-names-requires
-    sub-others
-    mul-end
-    slice-reshare-prefix-put-frames
-    slice-aggregate-put-frames
-    put-frames-requires
-    same-length
-    same-length-2
-    same-length-3
-    returns)
+put-aligned-spec = tie.close (tie.spec
+    (λ c κs. search needs) (λ c κs. search needs) (λ c. search needs) (λ c. search needs)
+    (λ c. search needs) slice-aggregate-put-frames put-frames-requires (λ c. search needs)
+    (λ c. search needs) (λ c. search needs) returns)

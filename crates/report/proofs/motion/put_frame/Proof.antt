@@ -1,10 +1,5 @@
 -- `report::motion::put_frame`: the five numbers are those of the frame's line.
-use mathlib.Core.Path.{_≡_}
-use mathlib.Core.List.{List, [], _∷_}
-use Prim.Native.Nat.{ℕ, _/_}
-use lib.IntN.{ℤ}
-use lib.ListN.{length}
-use borrow.Author.Needs.{needs}
+use Rattle.algebra.specs.Prelude.{_≡_, List, [], _∷_, ℕ, _/_, needs, length, ℤ}
 use Rattle.printing.specs.Lines.{numberLine}
 use Rattle.report.specs.Tallies.{stillTiles, farthest}
 use Rattle.report.specs.Motion.{frameLine}
@@ -16,21 +11,6 @@ line : (frame : ℕ) (parts : List ℤ) (residual : ℕ) {still far : ℕ} → s
 unfolding frameLine
 line frame parts residual s f = rw (s, f)
 
-still-tiles-requires : tie.Need-still-tiles-requires
-still-tiles-requires c κs = search needs
-
-farthest-requires : tie.Need-farthest-requires
-farthest-requires c κs = search needs
-
-slice-aggregate-put-numbers : tie.Need-slice-aggregate-put-numbers
-slice-aggregate-put-numbers c = search needs
-
-put-numbers-requires : tie.Need-put-numbers-requires
-put-numbers-requires c κs = search needs
-
-same-length : tie.Need-same-length
-same-length c = search needs
-
 returns : tie.Need-returns
 returns c =
     let counted = c .before .before .before .before .before in
@@ -39,12 +19,6 @@ returns c =
     (rw (line (a .frame) (a .vectors .now) (a .residual) (counted .before .still-tiles .ensures) (counted .farthest .ensures)) at (printed .0), printed .1)
 
 pub put-frame-spec : {M : Type 1} → statement M
-put-frame-spec =
-    tie.close
-    (tie.spec
-    still-tiles-requires
-    farthest-requires
-    slice-aggregate-put-numbers
-    put-numbers-requires
-    same-length
-    returns)
+put-frame-spec = tie.close (tie.spec
+    (λ c κs. search needs) (λ c κs. search needs) (λ c. search needs) (λ c κs. search needs)
+    (λ c. search needs) returns)

@@ -1,12 +1,6 @@
 -- `report::motion::put_frames`: the lines so far are those of the frames passed.
-use mathlib.Core.Path.{_≡_}
-use mathlib.Core.List.{List, _++_}
-use Prim.Native.Nat.{ℕ, _+_, _-_, _*_, _≤_}
+use Rattle.algebra.specs.Prelude.{_≡_, List, _++_, ℕ, _+_, _-_, _*_, _≤_, arith, needs, getD, take, drop, ℤ}
 use native.Mathlib.Numerals.{add-one}
-use native.Mathlib.Omega.{arith}
-use lib.IntN.{ℤ}
-use lib.ListN.{getD, take, drop}
-use borrow.Author.Needs.{needs}
 use Rattle.geometry.specs.Vectors.{otherFrame}
 use Rattle.printing.specs.Put.{Printed}
 use Rattle.printing.specs.PutLaws.{printed-none, printed-then}
@@ -44,42 +38,6 @@ loop-holds : tie.Need-loop-holds Inv-loop μ-loop
 unfolding frameLines
 loop-holds c = record { count = omega arith; bound = omega arith; printed = printed-none }
 
-mul-from : tie.Need-mul-from Inv-loop μ-loop
-mul-from c = search needs
-
-add-end : tie.Need-add-end Inv-loop μ-loop
-add-end c = search needs
-
-other-frame-requires : tie.Need-other-frame-requires Inv-loop μ-loop
-other-frame-requires c κs = search needs
-
-mul-put-frame : tie.Need-mul-put-frame Inv-loop μ-loop
-mul-put-frame c = search needs
-
-sub-put-frame : tie.Need-sub-put-frame Inv-loop μ-loop
-sub-put-frame c = search needs
-
-part-put-frame-start : tie.Need-part-put-frame-start Inv-loop μ-loop
-part-put-frame-start c = search needs
-
-part-put-frame-end : tie.Need-part-put-frame-end Inv-loop μ-loop
-part-put-frame-end c = search needs
-
-mul-put-frame-2 : tie.Need-mul-put-frame-2 Inv-loop μ-loop
-mul-put-frame-2 c = search needs
-
-array-read-put-frame : tie.Need-array-read-put-frame Inv-loop μ-loop
-array-read-put-frame c = search needs
-
-put-frame-requires : tie.Need-put-frame-requires Inv-loop μ-loop
-put-frame-requires c κs = search needs
-
-add-k : tie.Need-add-k Inv-loop μ-loop
-add-k c = search needs
-
-loop-less : tie.Need-loop-less Inv-loop μ-loop
-loop-less c = search needs
-
 loop-again : tie.Need-loop-again Inv-loop μ-loop
 loop-again c =
     let printed = c .before .before .put-frame .ensures in
@@ -93,9 +51,6 @@ loop-again c =
       printed = rw (next-line (a .reference) (a .vectors .now) (a .t5) k (c .before .before .before .before .before .other-frame .ensures .0)) at (printed-then (omega arith) (lined .printed) (printed .0));
     }
 
-same-length : tie.Need-same-length Inv-loop μ-loop
-same-length c = search needs
-
 returns : tie.Need-returns Inv-loop μ-loop
 returns c =
     let lined = c .before .loop .inv in
@@ -103,24 +58,8 @@ returns c =
     rw all at (lined .printed)
 
 pub put-frames-spec : {M : Type 1} → statement M
-put-frames-spec =
-    tie.close
-    (tie.spec
-    Inv-loop
-    μ-loop
-    loop-holds
-    mul-from
-    add-end
-    other-frame-requires
-    mul-put-frame
-    sub-put-frame
-    part-put-frame-start
-    part-put-frame-end
-    mul-put-frame-2
-    array-read-put-frame
-    put-frame-requires
-    add-k
-    loop-less
-    loop-again
-    same-length
-    returns)
+put-frames-spec = tie.close (tie.spec
+    Inv-loop μ-loop loop-holds (λ c. search needs) (λ c. search needs) (λ c κs. search needs)
+    (λ c. search needs) (λ c. search needs) (λ c. search needs) (λ c. search needs)
+    (λ c. search needs) (λ c. search needs) (λ c κs. search needs) (λ c. search needs)
+    (λ c. search needs) loop-again (λ c. search needs) returns)

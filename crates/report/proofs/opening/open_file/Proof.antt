@@ -1,10 +1,6 @@
 -- `report::opening::open_file`: each end of the tests is one of the texts that both programs print.
-use mathlib.Core.Path.{_≡_, sym, ap, _∙_}
-use native.Mathlib.Omega.{arith}
-use Prim.Native.Nat.{_≤_}
-use lib.ListN.{length}
+use Rattle.algebra.specs.Prelude.{_≡_, sym, ap, _∙_, _≤_, arith, needs, length}
 use lib.Seq.{length-take-le}
-use borrow.Author.Needs.{needs}
 use Rattle.burst_file.specs.declared.Head.{Head}
 use Rattle.burst_file.specs.declared.Head.the-variants.{Found, Refused}
 use Rattle.burst_file.specs.Head.{headOf}
@@ -14,18 +10,6 @@ use Rattle.report.proofs.Files.{Headed, headed, headed-few, long-text, 
 use Rattle.report.proofs.opening.open_file.Statement.{statement}
 use Rattle.report.proofs.opening.open_file.Tie as tie
 
-returns : tie.Need-returns
-returns c = long-text _ (c .if1 .taken)
-
-read-head-requires : tie.Need-read-head-requires
-read-head-requires c κs = search needs
-
-enum-known-number : tie.Need-enum-known-number
-enum-known-number c = search needs
-
-enum-known-header : tie.Need-enum-known-header
-enum-known-header c = search needs
-
 -- where the head is `head`
 told : (c : tie.After-read-head) (head : Head) → c .read-head .result ≡ head →
     let file = c .before .before .before .before .args .file .now in
@@ -34,9 +18,6 @@ told c head e = ap (headIn (c .before .before .before .before .args .file .now))
 
 short : (c : tie.After-read-head) → length (c .before .before .before .before .args .file .now) ≤ 65536
 short c = c .before .if1 .left
-
-check-file-requires : tie.Need-check-file-requires
-check-file-requires c κs = search needs
 
 returns-2 : tie.Need-returns-2
 returns-2 c = refused-text _ (short (c .before .before .before .before .before)) (c .before .check-file .ensures) (c .if2 .taken)
@@ -71,23 +52,14 @@ fits c = omega (arith, headed-few (accepted (c .before .before .before .before .
 mul-end : tie.Need-mul-end
 mul-end c = search (needs, headed-few (accepted (c .before .before .before .before .before .before)))
 
-slice-relend-prefix-read-file : tie.Need-slice-relend-prefix-read-file
-slice-relend-prefix-read-file c = fits c
-
 slice-aggregate-read-file : tie.Need-slice-aggregate-read-file
 slice-aggregate-read-file c = sym (length-take-le _ _ (fits (c .before)))
-
-read-file-requires : tie.Need-read-file-requires
-read-file-requires c κs = search needs
 
 returns-5 : tie.Need-returns-5
 returns-5 c =
     let g = c .before .number .given in
     let head = c .before .before .before in
     head-text _ (short head) (told head (Refused (g .0 .0)) (g .1))
-
-same-length : tie.Need-same-length
-same-length c = search needs
 
 returns-6 : tie.Need-returns-6
 returns-6 c =
@@ -101,21 +73,7 @@ returns-6 c =
     opens _ (still-short checked) (accepted checked) (wide .if3 .left) samples (high .if4 .left) (fits known) (omega (arith, same)) (c .before .before .read-file .ensures)
 
 pub open-file-spec : {M : Type 1} → statement M
-open-file-spec =
-    tie.close
-    (tie.spec
-    returns
-    read-head-requires
-    enum-known-number
-    enum-known-header
-    check-file-requires
-    returns-2
-    returns-3
-    returns-4
-    mul-end
-    slice-relend-prefix-read-file
-    slice-aggregate-read-file
-    read-file-requires
-    returns-5
-    same-length
-    returns-6)
+open-file-spec = tie.close (tie.spec
+    (λ c. long-text _ (c .if1 .taken)) (λ c κs. search needs) (λ c. search needs)
+    (λ c. search needs) (λ c κs. search needs) returns-2 returns-3 returns-4 mul-end (λ c. fits c)
+    slice-aggregate-read-file (λ c κs. search needs) returns-5 (λ c. search needs) returns-6)

@@ -1,25 +1,9 @@
 -- `report::stack::put_merged`: the names, the sizes and the rows, one after another.
-use native.Mathlib.Omega.{arith}
-use borrow.Author.Needs.{needs}
+use Rattle.algebra.specs.Prelude.{arith, needs}
 use Rattle.printing.specs.PutLaws.{printed-then}
 use Rattle.report.specs.Stack.{frameText}
 use Rattle.report.proofs.stack.put_merged.Statement.{statement}
 use Rattle.report.proofs.stack.put_merged.Tie as tie
-
-put-stack-names-requires : tie.Need-put-stack-names-requires
-put-stack-names-requires c κs = search needs
-
-slice-aggregate-put-numbers : tie.Need-slice-aggregate-put-numbers
-slice-aggregate-put-numbers c = search needs
-
-put-numbers-requires : tie.Need-put-numbers-requires
-put-numbers-requires c κs = search needs
-
-put-rows-requires : tie.Need-put-rows-requires
-put-rows-requires c κs = search needs
-
-same-length : tie.Need-same-length
-same-length c = search needs
 
 returns : tie.Need-returns
 unfolding frameText
@@ -33,12 +17,6 @@ returns c =
     (printed-then (omega (arith, named .1, named .0 .same, start .pre .1)) (sizes .put-numbers .ensures .0) (rows .put-rows .ensures .0))
 
 pub put-merged-spec : {M : Type 1} → statement M
-put-merged-spec =
-    tie.close
-    (tie.spec
-    put-stack-names-requires
-    slice-aggregate-put-numbers
-    put-numbers-requires
-    put-rows-requires
-    same-length
-    returns)
+put-merged-spec = tie.close (tie.spec
+    (λ c κs. search needs) (λ c. search needs) (λ c κs. search needs) (λ c κs. search needs)
+    (λ c. search needs) returns)

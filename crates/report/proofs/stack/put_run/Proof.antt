@@ -1,9 +1,5 @@
 -- `report::stack::put_run`: refusal 12, or the frame that the run left in the output.
-use mathlib.Core.Path.{_≡_, refl, sym, ap, ap₂, _∙_}
-use mathlib.Core.List.{List}
-use Prim.Native.Nat.{ℕ, zero, suc}
-use native.Mathlib.Omega.{arith}
-use borrow.Author.Needs.{needs}
+use Rattle.algebra.specs.Prelude.{_≡_, refl, sym, ap, ap₂, _∙_, List, ℕ, zero, suc, arith, needs}
 use Rattle.geometry.specs.Bounds.{vectorRefusal}
 use Rattle.alignment.specs.Aligned.{alignedVectors}
 use Rattle.merging.specs.Recipe.{sceneOf, merged}
@@ -36,43 +32,10 @@ module _ {header : Header} {samples output : List ℕ} {number : ℕ} (ran : Ran
       let frame = merged (sceneOf (fileMerge header) samples vectors) in
       ap (frameText 64 64) (ran .result z) ∙ ap₂ (λ w h. frameText w h frame) (sym (t .wide)) (sym (t .high)) ∙ went (vectorRefusal vectors) _ (ran .answer) z
 
-run-burst-requires : tie.Need-run-burst-requires
-run-burst-requires c κs = search needs
-
-put-refusal-requires : tie.Need-put-refusal-requires
-put-refusal-requires c κs = search needs
-
-same-length : tie.Need-same-length
-same-length c = search needs
-
-same-length-2 : tie.Need-same-length-2
-same-length-2 c = search needs
-
-same-length-3 : tie.Need-same-length-3
-same-length-3 c = search needs
-
-same-length-4 : tie.Need-same-length-4
-same-length-4 c = search needs
-
 returns : tie.Need-returns
 returns c =
     let split = c .before .before .before .before in
     rw (refused-text (split .before .before .before .before .before .run-burst .ensures) (split .if1 .taken)) at (c .before .before .put-refusal .ensures .0)
-
-put-merged-requires : tie.Need-put-merged-requires
-put-merged-requires c κs = search needs
-
-same-length-5 : tie.Need-same-length-5
-same-length-5 c = search needs
-
-same-length-6 : tie.Need-same-length-6
-same-length-6 c = search needs
-
-same-length-7 : tie.Need-same-length-7
-same-length-7 c = search needs
-
-same-length-8 : tie.Need-same-length-8
-same-length-8 c = search needs
 
 returns-2 : tie.Need-returns-2
 returns-2 c =
@@ -81,19 +44,7 @@ returns-2 c =
     rw (merged-text (run .run-burst .ensures) (run .before .before .before .before .before .before .before .pre .0) (split .if1 .left)) at (c .before .before .put-merged .ensures)
 
 pub put-run-spec : {M : Type 1} → statement M
-put-run-spec =
-    tie.close
-    (tie.spec
-    run-burst-requires
-    put-refusal-requires
-    same-length
-    same-length-2
-    same-length-3
-    same-length-4
-    returns
-    put-merged-requires
-    same-length-5
-    same-length-6
-    same-length-7
-    same-length-8
-    returns-2)
+put-run-spec = tie.close (tie.spec
+    (λ c κs. search needs) (λ c κs. search needs) (λ c. search needs) (λ c. search needs)
+    (λ c. search needs) (λ c. search needs) returns (λ c κs. search needs) (λ c. search needs)
+    (λ c. search needs) (λ c. search needs) (λ c. search needs) returns-2)

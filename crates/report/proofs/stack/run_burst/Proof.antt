@@ -1,25 +1,11 @@
 -- `report::stack::run_burst`: what the file check has tested is what a run from the levels asks for.
-use mathlib.Core.Path.{sym, ap, _∙_}
-use native.Mathlib.Omega.{arith}
+use Rattle.algebra.specs.Prelude.{sym, ap, _∙_, arith, needs}
 use lib.Seq.{length-take-le}
-use borrow.Author.Needs.{needs}
 use Rattle.stacker.specs.Calls.{answered}
 use Rattle.stacker.specs.CloseLaws.{result-made}
 use Rattle.report.proofs.Fits.{merge-fits}
 use Rattle.report.proofs.stack.run_burst.Statement.{statement}
 use Rattle.report.proofs.stack.run_burst.Tie as tie
-
-sub-end : tie.Need-sub-end
-sub-end c = search needs
-
-mul-end : tie.Need-mul-end
-mul-end c = search needs
-
-slice-relend-prefix-run-levels : tie.Need-slice-relend-prefix-run-levels
-slice-relend-prefix-run-levels c = search needs
-
-slice-aggregate-run-levels : tie.Need-slice-aggregate-run-levels
-slice-aggregate-run-levels c = sym (length-take-le _ _ (omega arith))
 
 run-levels-requires : tie.Need-run-levels-requires
 run-levels-requires c κs =
@@ -33,15 +19,6 @@ run-levels-requires c κs =
       strength-most = taken .strength-most;
     }
 
-same-length : tie.Need-same-length
-same-length c = search needs
-
-same-length-2 : tie.Need-same-length-2
-same-length-2 c = search needs
-
-same-length-3 : tie.Need-same-length-3
-same-length-3 c = search needs
-
 returns : tie.Need-returns
 unfolding answered
 returns c =
@@ -50,15 +27,7 @@ returns c =
     record { answer = number; result = λ z. result-made _ _ _ (sym number ∙ z) (ran .result) }
 
 pub run-burst-spec : {M : Type 1} → statement M
-run-burst-spec =
-    tie.close
-    (tie.spec
-    sub-end
-    mul-end
-    slice-relend-prefix-run-levels
-    slice-aggregate-run-levels
-    run-levels-requires
-    same-length
-    same-length-2
-    same-length-3
-    returns)
+run-burst-spec = tie.close (tie.spec
+    (λ c. search needs) (λ c. search needs) (λ c. search needs)
+    (λ c. sym (length-take-le _ _ (omega arith))) run-levels-requires (λ c. search needs)
+    (λ c. search needs) (λ c. search needs) returns)

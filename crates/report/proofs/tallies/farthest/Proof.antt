@@ -1,10 +1,7 @@
 -- `report::tallies::farthest`: the greatest so far is that of the parts passed.
-use mathlib.Core.Path.{_≡_, refl, sym, ap, ap₂, _∙_}
+use Rattle.algebra.specs.Prelude.{_≡_, refl, sym, ap, ap₂, _∙_, arith, needs, length}
 use Prim.Native.Nat.{ℕ, _+_, _-_, _≤_, max}
 use native.Mathlib.Numerals.{add-one}
-use native.Mathlib.Omega.{arith}
-use lib.ListN.{length}
-use borrow.Author.Needs.{needs}
 use Rattle.report.specs.Tallies.{reach, greatest, farthest}
 use Rattle.report.proofs.tallies.farthest.Statement.{statement}
 use Rattle.report.proofs.tallies.farthest.Tie as tie
@@ -23,18 +20,6 @@ loop-holds : tie.Need-loop-holds Inv-loop μ-loop
 unfolding greatest
 loop-holds c = (omega arith, refl)
 
-reach-requires : tie.Need-reach-requires Inv-loop μ-loop
-reach-requires c κs = search needs
-
-greater-requires : tie.Need-greater-requires Inv-loop μ-loop
-greater-requires c κs = search needs
-
-add-k : tie.Need-add-k Inv-loop μ-loop
-add-k c = search needs
-
-loop-less : tie.Need-loop-less Inv-loop μ-loop
-loop-less c = search needs
-
 loop-again : tie.Need-loop-again Inv-loop μ-loop
 loop-again c =
     let turn = c .before .before .before in
@@ -45,15 +30,6 @@ unfolding farthest
 returns c = c .before .loop .inv .1 ∙ ap (λ n. greatest n (reach (c .before .before .args .vectors .now))) (omega arith)
 
 pub farthest-spec : {M : Type 1} → statement M
-farthest-spec =
-    tie.close
-    (tie.spec
-    Inv-loop
-    μ-loop
-    loop-holds
-    reach-requires
-    greater-requires
-    add-k
-    loop-less
-    loop-again
-    returns)
+farthest-spec = tie.close (tie.spec
+    Inv-loop μ-loop loop-holds (λ c κs. search needs) (λ c κs. search needs) (λ c. search needs)
+    (λ c. search needs) loop-again returns)

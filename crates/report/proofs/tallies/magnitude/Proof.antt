@@ -1,10 +1,5 @@
 -- `report::tallies::magnitude`: a part of 32 bits is negated in 64, where its negation fits.
-use mathlib.Core.Path.{_≡_, ap}
-use Prim.Native.Nat.{_^_}
-use lib.IntN.{ℤ, pos, natAbs, negℤ, _-ℤ_}
-use mir.Syntax.{w32, w64}
-use mir.Val.{SFits, toZ, ofZ}
-use mir.Facts.{toZ-ofZ}
+use Rattle.algebra.specs.Prelude.{_≡_, ap, _^_, ℤ, pos, natAbs, negℤ, _-ℤ_, w32, w64, SFits, toZ, ofZ, toZ-ofZ}
 use Rattle.algebra.specs.Order.{abs-neg}
 use Rattle.algebra.specs.Fit.{abs-sfits}
 use Rattle.algebra.specs.Bound.{neg-fits, widen-fits, zero-minus, below-zero, from-zero, abs-fits}
@@ -42,9 +37,7 @@ cast-result-2 c =
     let f = c .before .fits .part in
     rw (wide f) (from-zero z (rw (wide f) at (c .if1 .left)), abs-fits w64 w64 z tt (widen-fits z f))
 
-returns-2 : tie.Need-returns-2
-returns-2 c = ap natAbs (wide (c .before .fits .part))
-
 pub magnitude-spec : {M : Type 1} → statement M
-magnitude-spec =
-    tie.close (tie.spec cast-wide sub-result cast-result returns cast-result-2 returns-2)
+magnitude-spec = tie.close (tie.spec
+    cast-wide sub-result cast-result returns cast-result-2
+    (λ c. ap natAbs (wide (c .before .fits .part))))

@@ -1,10 +1,5 @@
 -- `report::tallies::still_tile`: a tile is still where neither part has a magnitude.
-use mathlib.Core.Path.{_≡_, sym, _∙_}
-use mathlib.Core.List.{List}
-use Prim.Native.Nat.{ℕ, _+_, _*_}
-use native.Mathlib.Omega.{arith}
-use lib.IntN.{ℤ}
-use borrow.Author.Needs.{needs}
+use Rattle.algebra.specs.Prelude.{_≡_, sym, _∙_, List, ℕ, _+_, _*_, arith, needs, ℤ}
 use borrow.Author.Tests.{eq-eqb, ne-eqb}
 use Rattle.report.specs.Tallies.{reach, stillTile}
 use Rattle.report.proofs.tallies.still_tile.Statement.{statement}
@@ -24,23 +19,8 @@ module _ (parts : List ℤ) (tile : ℕ) {down : ℕ} (isDown : down ≡ reach p
     unfolding stillTile
     unmoved-both e = rw (eq-eqb (reach parts (2 * tile)) 0 (sym isDown ∙ unmoved), eq-eqb (reach parts (2 * tile + 1)) 0 (sym isRight ∙ e))
 
-mul-reach : tie.Need-mul-reach
-mul-reach c = search needs
-
-reach-requires : tie.Need-reach-requires
-reach-requires c κs = search needs
-
 returns : tie.Need-returns
 returns c = (moved-down _ _ (c .before .reach .ensures) (c .if1 .taken), omega arith)
-
-mul-reach-2 : tie.Need-mul-reach-2
-mul-reach-2 c = search needs
-
-add-reach : tie.Need-add-reach
-add-reach c = search needs
-
-reach-requires-2 : tie.Need-reach-requires-2
-reach-requires-2 c κs = search needs
 
 returns-2 : tie.Need-returns-2
 returns-2 c =
@@ -53,6 +33,6 @@ returns-3 c =
     (unmoved-both _ _ (first .before .reach .ensures) (first .if1 .left) (c .before .reach2 .ensures) (c .if2 .left), omega arith)
 
 pub still-tile-spec : {M : Type 1} → statement M
-still-tile-spec =
-    tie.close
-    (tie.spec mul-reach reach-requires returns mul-reach-2 add-reach reach-requires-2 returns-2 returns-3)
+still-tile-spec = tie.close (tie.spec
+    (λ c. search needs) (λ c κs. search needs) returns (λ c. search needs) (λ c. search needs)
+    (λ c κs. search needs) returns-2 returns-3)

@@ -1,8 +1,5 @@
 -- `report::tallies::still_tiles`: the count so far is that of the tiles passed.
-use Prim.Native.Nat.{_-_, _/_}
-use native.Mathlib.Omega.{arith}
-use lib.ListN.{length}
-use borrow.Author.Needs.{needs}
+use Rattle.algebra.specs.Prelude.{_-_, _/_, arith, needs, length}
 use Rattle.sequences.specs.Sum.{Summed, sum-start, sum-turn, sum-done}
 use Rattle.report.specs.Tallies.{stillTile, stillTiles}
 use Rattle.report.proofs.tallies.still_tiles.Statement.{statement}
@@ -14,21 +11,6 @@ Inv-loop vectors still₀ tile₀ tile-end still tile = Summed (stillTile vector
 abbrev μ-loop : tie.MeasureT-loop
 μ-loop vectors still₀ tile₀ tile-end still tile = length vectors / 2 - tile
 
-loop-holds : tie.Need-loop-holds Inv-loop μ-loop
-loop-holds c = sum-start
-
-still-tile-requires : tie.Need-still-tile-requires Inv-loop μ-loop
-still-tile-requires c κs = search needs
-
-add-still : tie.Need-add-still Inv-loop μ-loop
-add-still c = search needs
-
-add-tile : tie.Need-add-tile Inv-loop μ-loop
-add-tile c = search needs
-
-loop-less : tie.Need-loop-less Inv-loop μ-loop
-loop-less c = search needs
-
 loop-again : tie.Need-loop-again Inv-loop μ-loop
 loop-again c = sum-turn (c .before .before .loop .inv) (omega arith) (c .still-tile .ensures .0) (c .still-tile .ensures .1)
 
@@ -37,15 +19,6 @@ unfolding stillTiles
 returns c = sum-done (c .before .loop .inv) (omega arith)
 
 pub still-tiles-spec : {M : Type 1} → statement M
-still-tiles-spec =
-    tie.close
-    (tie.spec
-    Inv-loop
-    μ-loop
-    loop-holds
-    still-tile-requires
-    add-still
-    add-tile
-    loop-less
-    loop-again
-    returns)
+still-tiles-spec = tie.close (tie.spec
+    Inv-loop μ-loop (λ c. sum-start) (λ c κs. search needs) (λ c. search needs) (λ c. search needs)
+    (λ c. search needs) loop-again returns)

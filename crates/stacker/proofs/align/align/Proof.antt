@@ -1,19 +1,9 @@
 -- `stacker::align::align`: a refusal returns before the first store; acceptance aligns and clears.
-use mathlib.Core.Path.{_∙_}
-use borrow.Author.Needs.{needs}
+use Rattle.algebra.specs.Prelude.{_∙_, needs}
 use Rattle.sequences.specs.Clear.{zeros-length}
 use Rattle.stacker.specs.CallLaws.{kept, made, answer-refused, answer-accepted}
 use Rattle.stacker.proofs.align.align.Statement.{statement}
 use Rattle.stacker.proofs.align.align.Tie as tie
-
-align-refusal-requires : tie.Need-align-refusal-requires
-align-refusal-requires c κs = search needs
-
-same-length : tie.Need-same-length
-same-length c = search needs
-
-same-length-2 : tie.Need-same-length-2
-same-length-2 c = search needs
 
 returns : tie.Need-returns
 returns c =
@@ -23,15 +13,6 @@ returns c =
 
 align-frames-requires : tie.Need-align-frames-requires
 align-frames-requires c κs = c .before .before .before .align-refusal .ensures .1 (c .before .before .if1 .left)
-
-clear-requires : tie.Need-clear-requires
-clear-requires c κs = search needs
-
-same-length-3 : tie.Need-same-length-3
-same-length-3 c = search needs
-
-same-length-4 : tie.Need-same-length-4
-same-length-4 c = search needs
 
 returns-2 : tie.Need-returns-2
 returns-2 c =
@@ -46,15 +27,6 @@ returns-2 c =
     }
 
 pub align-spec : {M : Type 1} → statement M
-align-spec =
-    tie.close
-    (tie.spec
-    align-refusal-requires
-    same-length
-    same-length-2
-    returns
-    align-frames-requires
-    clear-requires
-    same-length-3
-    same-length-4
-    returns-2)
+align-spec = tie.close (tie.spec
+    (λ c κs. search needs) (λ c. search needs) (λ c. search needs) returns align-frames-requires
+    (λ c κs. search needs) (λ c. search needs) (λ c. search needs) returns-2)

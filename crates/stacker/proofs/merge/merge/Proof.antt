@@ -1,7 +1,5 @@
 -- `stacker::merge::merge`: run's tests and 12, each returning before the first store; then the merge, and the clearing.
-use mathlib.Core.Path.{sym, ap₂, subst, _∙_}
-use Prim.Native.Nat.{_≤_}
-use borrow.Author.Needs.{needs}
+use Rattle.algebra.specs.Prelude.{sym, ap₂, subst, _∙_, _≤_, needs}
 use Rattle.sequences.specs.Clear.{zeros-length}
 use Rattle.geometry.specs.RefusalLaws.{stops, goes}
 use Rattle.merging.specs.Recipe.{sceneOf, merged}
@@ -11,30 +9,12 @@ use Rattle.stacker.specs.CloseLaws.{output-close}
 use Rattle.stacker.proofs.merge.merge.Statement.{statement}
 use Rattle.stacker.proofs.merge.merge.Tie as tie
 
-run-refusal-requires : tie.Need-run-refusal-requires
-run-refusal-requires c κs = search needs
-
-same-length : tie.Need-same-length
-same-length c = search needs
-
-same-length-2 : tie.Need-same-length-2
-same-length-2 c = search needs
-
 returns : tie.Need-returns
 unfolding mergeRefusal
 returns c =
     let h = c .if1 .taken in
     let e = stops _ (c .before .before .run-refusal .ensures .number) h in
     record { answer = e; result = kept _ _ _ e h; clean = kept _ _ _ e h; near = λ z. absurd (h z) }
-
-vector-refusal-requires : tie.Need-vector-refusal-requires
-vector-refusal-requires c κs = search needs
-
-same-length-3 : tie.Need-same-length-3
-same-length-3 c = search needs
-
-same-length-4 : tie.Need-same-length-4
-same-length-4 c = search needs
 
 returns-2 : tie.Need-returns-2
 unfolding mergeRefusal
@@ -63,15 +43,6 @@ merge-frames-requires c κs =
       ready .fits .work-long,
     )
 
-clear-requires : tie.Need-clear-requires
-clear-requires c κs = search needs
-
-same-length-5 : tie.Need-same-length-5
-same-length-5 c = search needs
-
-same-length-6 : tie.Need-same-length-6
-same-length-6 c = search needs
-
 returns-3 : tie.Need-returns-3
 unfolding mergeRefusal
 returns-3 c =
@@ -91,19 +62,7 @@ returns-3 c =
     }
 
 pub merge-spec : {M : Type 1} → statement M
-merge-spec =
-    tie.close
-    (tie.spec
-    run-refusal-requires
-    same-length
-    same-length-2
-    returns
-    vector-refusal-requires
-    same-length-3
-    same-length-4
-    returns-2
-    merge-frames-requires
-    clear-requires
-    same-length-5
-    same-length-6
-    returns-3)
+merge-spec = tie.close (tie.spec
+    (λ c κs. search needs) (λ c. search needs) (λ c. search needs) returns (λ c κs. search needs)
+    (λ c. search needs) (λ c. search needs) returns-2 merge-frames-requires (λ c κs. search needs)
+    (λ c. search needs) (λ c. search needs) returns-3)

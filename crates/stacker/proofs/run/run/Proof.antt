@@ -1,8 +1,5 @@
 -- `stacker::run::run`: a refusal returns before the first store; else `run_levels` on the levels that the tests found.
-use mathlib.Core.Path.{_≡_, refl, sym, ap, ap₂, subst, _∙_}
-use mathlib.Core.List.{List}
-use Prim.Native.Nat.{ℕ, _≤_}
-use borrow.Author.Needs.{needs}
+use Rattle.algebra.specs.Prelude.{_≡_, refl, sym, ap, ap₂, subst, _∙_, List, ℕ, _≤_, needs}
 use Rattle.geometry.specs.RefusalLaws.{stops, goes}
 use Rattle.geometry.specs.Bounds.{vectorRefusal}
 use Rattle.alignment.specs.Aligned.{alignedVectors, residualSums}
@@ -14,18 +11,6 @@ use Rattle.stacker.specs.CallLaws.{kept, made, answer-refused}
 use Rattle.stacker.specs.CloseLaws.{found-close, result-made}
 use Rattle.stacker.proofs.run.run.Statement.{statement}
 use Rattle.stacker.proofs.run.run.Tie as tie
-
-run-refusal-requires : tie.Need-run-refusal-requires
-run-refusal-requires c κs = search needs
-
-same-length : tie.Need-same-length
-same-length c = search needs
-
-same-length-2 : tie.Need-same-length-2
-same-length-2 c = search needs
-
-same-length-3 : tie.Need-same-length-3
-same-length-3 c = search needs
 
 returns : tie.Need-returns
 returns c =
@@ -52,15 +37,6 @@ run-levels-requires c κs =
       read-most = subst (λ n. n ≤ 4194304) (sym (tested .read-is z)) (ready .read-most);
       strength-most = ready .strength-most;
     }
-
-same-length-4 : tie.Need-same-length-4
-same-length-4 c = search needs
-
-same-length-5 : tie.Need-same-length-5
-same-length-5 c = search needs
-
-same-length-6 : tie.Need-same-length-6
-same-length-6 c = search needs
 
 -- the number that is answered is the one beside the sums
 accepted : {r : Alignment} (number : ℕ) (sums : List ℕ) → r ≡ answered number sums → r .refusal ≡ 0 → number ≡ 0
@@ -89,16 +65,6 @@ returns-2 c =
     }
 
 pub run-spec : {M : Type 1} → statement M
-run-spec =
-    tie.close
-    (tie.spec
-    run-refusal-requires
-    same-length
-    same-length-2
-    same-length-3
-    returns
-    run-levels-requires
-    same-length-4
-    same-length-5
-    same-length-6
-    returns-2)
+run-spec = tie.close (tie.spec
+    (λ c κs. search needs) (λ c. search needs) (λ c. search needs) (λ c. search needs) returns
+    run-levels-requires (λ c. search needs) (λ c. search needs) (λ c. search needs) returns-2)

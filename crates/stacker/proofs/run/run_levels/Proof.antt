@@ -1,6 +1,5 @@
 -- `stacker::run::run_levels`: the vectors found are those that align defines, so refusal 12 and the merge are theirs.
-use mathlib.Core.Path.{ap, _∙_}
-use borrow.Author.Needs.{needs}
+use Rattle.algebra.specs.Prelude.{ap, _∙_, needs}
 use Rattle.sequences.specs.Clear.{zeros-length}
 use Rattle.geometry.specs.Bounds.{vectorRefusal}
 use Rattle.merging.specs.Recipe.{sceneOf, merged}
@@ -12,18 +11,6 @@ align-frames-requires : tie.Need-align-frames-requires
 align-frames-requires c κs =
     let ready = c .before .before .before .before .before .pre in
     record { fits = record { burst = ready .fits .burst; work-long = ready .fits .work-long }; samples-fit = ready .samples-fit }
-
-vector-refusal-requires : tie.Need-vector-refusal-requires
-vector-refusal-requires c κs = search needs
-
-clear-requires : tie.Need-clear-requires
-clear-requires c κs = search needs
-
-same-length : tie.Need-same-length
-same-length c = search needs
-
-same-length-2 : tie.Need-same-length-2
-same-length-2 c = search needs
 
 returns : tie.Need-returns
 returns c =
@@ -59,18 +46,6 @@ merge-frames-requires c κs =
       frames .align-frames .ensures .same ∙ ready .fits .work-long,
     )
 
-clear-requires-2 : tie.Need-clear-requires-2
-clear-requires-2 c κs = search needs
-
-same-length-3 : tie.Need-same-length-3
-same-length-3 c = search needs
-
-same-length-4 : tie.Need-same-length-4
-same-length-4 c = search needs
-
-same-length-5 : tie.Need-same-length-5
-same-length-5 c = search needs
-
 returns-2 : tie.Need-returns-2
 returns-2 c =
     let merge = c .before .before .before .before .before .before in
@@ -87,18 +62,7 @@ returns-2 c =
     }
 
 pub run-levels-spec : {M : Type 1} → statement M
-run-levels-spec =
-    tie.close
-    (tie.spec
-    align-frames-requires
-    vector-refusal-requires
-    clear-requires
-    same-length
-    same-length-2
-    returns
-    merge-frames-requires
-    clear-requires-2
-    same-length-3
-    same-length-4
-    same-length-5
-    returns-2)
+run-levels-spec = tie.close (tie.spec
+    align-frames-requires (λ c κs. search needs) (λ c κs. search needs) (λ c. search needs)
+    (λ c. search needs) returns merge-frames-requires (λ c κs. search needs) (λ c. search needs)
+    (λ c. search needs) (λ c. search needs) returns-2)

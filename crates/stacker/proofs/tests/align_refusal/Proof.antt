@@ -5,9 +5,6 @@ use Rattle.stacker.specs.Refusals.{alignRefusal}
 use Rattle.stacker.proofs.tests.align_refusal.Statement.{statement}
 use Rattle.stacker.proofs.tests.align_refusal.Tie as tie
 
-align-shape-refusal-requires : tie.Need-align-shape-refusal-requires
-align-shape-refusal-requires c κs = search needs
-
 returns : tie.Need-returns
 unfolding alignRefusal
 returns c = (stops _ (c .before .align-shape-refusal .ensures .0) (c .if1 .taken), λ z. absurd (c .if1 .taken z))
@@ -26,5 +23,5 @@ returns-2 c =
     (goes (lengths .0) passed (held .0), λ z. record { fits = lengths .1 passed; samples-fit = held .1 z })
 
 pub align-refusal-spec : {M : Type 1} → statement M
-align-refusal-spec =
-    tie.close (tie.spec align-shape-refusal-requires returns sample-refusal-requires returns-2)
+align-refusal-spec = tie.close (tie.spec
+    (λ c κs. search needs) returns sample-refusal-requires returns-2)

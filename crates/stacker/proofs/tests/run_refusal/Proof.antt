@@ -1,6 +1,5 @@
 -- `stacker::tests::run_refusal`: 1 to 7 in one call, 8 and 9 by the levels found or refused, then 10 and 11.
-use mathlib.Core.Path.{_≡_, refl, sym, ap, _∙_}
-use borrow.Author.Needs.{needs}
+use Rattle.algebra.specs.Prelude.{_≡_, refl, sym, ap, _∙_, needs}
 use Rattle.geometry.specs.RefusalLaws.{stops, goes}
 use Rattle.noise.specs.declared.Levels.the-variants.{Found, Refused}
 use Rattle.noise.specs.Levels.{levelsOf, refusalOf, shotLevel, readLevel}
@@ -8,9 +7,6 @@ use Rattle.noise.specs.LevelLaws.{shot-level-bound, read-level-bound, refused-a
 use Rattle.stacker.specs.Refusals.{runRefusal}
 use Rattle.stacker.proofs.tests.run_refusal.Statement.{statement}
 use Rattle.stacker.proofs.tests.run_refusal.Tie as tie
-
-merge-shape-refusal-requires : tie.Need-merge-shape-refusal-requires
-merge-shape-refusal-requires c κs = search needs
 
 returns : tie.Need-returns
 unfolding runRefusal
@@ -22,15 +18,6 @@ returns c =
       read-is = λ z. absurd (h z);
       passed = λ z. absurd (h z);
     }
-
-levels-of-requires : tie.Need-levels-of-requires
-levels-of-requires c κs = search needs
-
-enum-known-number : tie.Need-enum-known-number
-enum-known-number c = search needs
-
-enum-known-shot : tie.Need-enum-known-shot
-enum-known-shot c = search needs
 
 -- the levels that the match bound are the noise's
 bound : (c : tie.After-shot) → levelsOf (c .before .before .before .before .before .before .before .args .noise) ≡ Found (c .shot .given .0 .0) (c .shot .given .0 .1 .0)
@@ -80,14 +67,6 @@ returns-3 c =
     }
 
 pub run-refusal-spec : {M : Type 1} → statement M
-run-refusal-spec =
-    tie.close
-    (tie.spec
-    merge-shape-refusal-requires
-    returns
-    levels-of-requires
-    enum-known-number
-    enum-known-shot
-    content-refusal-requires
-    returns-2
-    returns-3)
+run-refusal-spec = tie.close (tie.spec
+    (λ c κs. search needs) returns (λ c κs. search needs) (λ c. search needs) (λ c. search needs)
+    content-refusal-requires returns-2 returns-3)

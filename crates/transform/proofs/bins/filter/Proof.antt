@@ -1,18 +1,11 @@
 -- `transform::bins::filter`: the quads that are stored are those of the folded G.
-use mathlib.Core.Path.{refl}
-use native.Mathlib.Omega.{arith}
-use borrow.Author.Needs.{needs}
-use denote.Ref.{now}
-use lib.IntN.{pos}
+use Rattle.algebra.specs.Prelude.{refl, arith, needs, pos, now}
 use Rattle.sequences.specs.Grid.{cell}
 use Rattle.transform.specs.Spectrum.{transposed}
 use Rattle.transform.proofs.QuadStores.{quads-done, quads-most}
 use Rattle.transform.proofs.SlotLaws.{re-most, im-most, shrunk-most, slot-quads}
 use Rattle.transform.proofs.bins.filter.Statement.{statement}
 use Rattle.transform.proofs.bins.filter.Tie as tie
-
-parts-requires : tie.Need-parts-requires
-parts-requires c κs = search needs
 
 shrink-requires : tie.Need-shrink-requires
 shrink-requires c κs =
@@ -25,9 +18,6 @@ shrink-requires-2 c κs =
     let p = c .before .before .before .before .before .before .before in
     let s = p .before .before .before in
     (s .pre .0, s .pre .1, im-most (s .pre .2) (p .parts .ensures .1), re-most (s .pre .2) (p .parts .ensures .0), refl)
-
-quad-requires : tie.Need-quad-requires
-quad-requires c κs = search needs
 
 store-requires : tie.Need-store-requires
 store-requires c κs =
@@ -52,12 +42,6 @@ returns c =
     (quads-done w (omega arith) _ e, quads-most w (omega arith))
 
 pub filter-spec : {M : Type 1} → statement M
-filter-spec =
-    tie.close
-    (tie.spec
-    parts-requires
-    shrink-requires
-    shrink-requires-2
-    quad-requires
-    store-requires
+filter-spec = tie.close (tie.spec
+    (λ c κs. search needs) shrink-requires shrink-requires-2 (λ c κs. search needs) store-requires
     returns)

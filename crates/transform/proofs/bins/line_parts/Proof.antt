@@ -1,14 +1,6 @@
 -- `transform::bins::line_parts`: the slots are set two by two, from the first on.
-use mathlib.Core.Path.{_≡_, sym, ap, _∙_}
-use mathlib.Core.List.{List}
+use Rattle.algebra.specs.Prelude.{_≡_, sym, ap, _∙_, List, arith, needs, getD, ℤ, pos, w64, toZ, ofZ, now}
 use Prim.Native.Nat.{ℕ, _+_, _-_, _*_, _≤_, zero-le}
-use native.Mathlib.Omega.{arith}
-use borrow.Author.Needs.{needs}
-use denote.Ref.{now}
-use lib.IntN.{ℤ, pos}
-use lib.ListN.{getD}
-use mir.Syntax.{w64}
-use mir.Val.{toZ, ofZ}
 use Rattle.sequences.specs.Grid.{cell}
 use Rattle.lines.specs.Tables.{side16}
 use Rattle.transform.specs.Recipe.{quantized}
@@ -34,44 +26,17 @@ abbrev μ-loop : tie.MeasureT-loop
 loop-holds : tie.Need-loop-holds Inv-loop μ-loop
 loop-holds c = (zero-le, slots-at (c .pre .2) (omega arith), slots-at (c .pre .3) (omega arith))
 
-two-bins-requires : tie.Need-two-bins-requires Inv-loop μ-loop
-two-bins-requires c κs = search needs
-
-mul-n : tie.Need-mul-n Inv-loop μ-loop
-mul-n c = search needs
-
-add-n : tie.Need-add-n Inv-loop μ-loop
-add-n c = search needs
-
-array-copy-out-set-slots : tie.Need-array-copy-out-set-slots Inv-loop μ-loop
-array-copy-out-set-slots c = search needs
-
-array-copy-out-set-slots-2 : tie.Need-array-copy-out-set-slots-2 Inv-loop μ-loop
-array-copy-out-set-slots-2 c = search needs
-
 set-slots-requires : tie.Need-set-slots-requires Inv-loop μ-loop
 set-slots-requires c κs =
     let b = c .before .before .before in
     let l = b .before .before in
     (omega arith, held-most w64 (b .two-bins .ensures .1) 0 tt, held-most w64 (b .two-bins .ensures .1) 2 tt, l .loop .inv .1 .long)
 
-array-copy-out-set-slots-3 : tie.Need-array-copy-out-set-slots-3 Inv-loop μ-loop
-array-copy-out-set-slots-3 c = search needs
-
-array-copy-out-set-slots-4 : tie.Need-array-copy-out-set-slots-4 Inv-loop μ-loop
-array-copy-out-set-slots-4 c = search needs
-
 set-slots-requires-2 : tie.Need-set-slots-requires-2 Inv-loop μ-loop
 set-slots-requires-2 c κs =
     let b = c .before .before .before .before .before .before .before in
     let l = b .before .before in
     (omega arith, held-most w64 (b .two-bins .ensures .1) 1 tt, held-most w64 (b .two-bins .ensures .1) 3 tt, l .loop .inv .2 .long)
-
-add-v : tie.Need-add-v Inv-loop μ-loop
-add-v c = search needs
-
-loop-less : tie.Need-loop-less Inv-loop μ-loop
-loop-less c = search needs
 
 loop-again : tie.Need-loop-again Inv-loop μ-loop
 loop-again c =
@@ -92,22 +57,8 @@ returns c =
     (slots-at (w .1) (omega (arith, w .0)), slots-at (w .2) (omega (arith, w .0)))
 
 pub line-parts-spec : {M : Type 1} → statement M
-line-parts-spec =
-    tie.close
-    (tie.spec
-    Inv-loop
-    μ-loop
-    loop-holds
-    two-bins-requires
-    mul-n
-    add-n
-    array-copy-out-set-slots
-    array-copy-out-set-slots-2
-    set-slots-requires
-    array-copy-out-set-slots-3
-    array-copy-out-set-slots-4
-    set-slots-requires-2
-    add-v
-    loop-less
-    loop-again
+line-parts-spec = tie.close (tie.spec
+    Inv-loop μ-loop loop-holds (λ c κs. search needs) (λ c. search needs) (λ c. search needs)
+    (λ c. search needs) (λ c. search needs) set-slots-requires (λ c. search needs)
+    (λ c. search needs) set-slots-requires-2 (λ c. search needs) (λ c. search needs) loop-again
     returns)

@@ -1,8 +1,5 @@
 -- `transform::bins::parts`: the slots are set line by line.
-use Prim.Native.Nat.{_-_, _*_}
-use native.Mathlib.Omega.{arith}
-use borrow.Author.Needs.{needs}
-use lib.IntN.{pos}
+use Rattle.algebra.specs.Prelude.{_-_, _*_, arith, needs, pos}
 use Rattle.sequences.specs.Grid.{cell}
 use Rattle.transform.specs.Spectrum.{transposed}
 use Rattle.transform.specs.Slots.{Slots, slotRe, slotIm}
@@ -24,12 +21,6 @@ line-parts-requires c κs =
     let l = c .before .before .before in
     (omega arith, l .before .pre .0, l .loop .inv .0, l .loop .inv .1)
 
-add-u : tie.Need-add-u Inv-loop μ-loop
-add-u c = search needs
-
-loop-less : tie.Need-loop-less Inv-loop μ-loop
-loop-less c = search needs
-
 loop-again : tie.Need-loop-again Inv-loop μ-loop
 loop-again c = (slots-at (c .line-parts .ensures .0) (omega arith), slots-at (c .line-parts .ensures .1) (omega arith))
 
@@ -39,6 +30,6 @@ returns c =
     (slots-done (w .0) (omega arith), slots-done (w .1) (omega arith))
 
 pub parts-spec : {M : Type 1} → statement M
-parts-spec =
-    tie.close
-    (tie.spec Inv-loop μ-loop loop-holds line-parts-requires add-u loop-less loop-again returns)
+parts-spec = tie.close (tie.spec
+    Inv-loop μ-loop loop-holds line-parts-requires (λ c. search needs) (λ c. search needs)
+    loop-again returns)

@@ -1,7 +1,6 @@
 -- `transform::bins::store_line`: the quads are stored one after the other.
 use Prim.Native.Nat.{_+_, _-_, _*_, _≤_, zero-le}
-use native.Mathlib.Omega.{arith}
-use borrow.Author.Needs.{needs}
+use Rattle.algebra.specs.Prelude.{arith, needs}
 use Rattle.transform.specs.Spectrum.{Quads}
 use Rattle.transform.specs.Slots.{slotQuad}
 use Rattle.transform.proofs.QuadStores.{quads-at, quads-turn}
@@ -28,12 +27,6 @@ set-quad-requires c κs =
     let l = q .before .before in
     (omega arith, l .before .pre .0, q .slot-quad .ensures .1, l .loop .inv .1 .square)
 
-add-v : tie.Need-add-v Inv-loop μ-loop
-add-v c = search needs
-
-loop-less : tie.Need-loop-less Inv-loop μ-loop
-loop-less c = search needs
-
 loop-again : tie.Need-loop-again Inv-loop μ-loop
 loop-again c =
     let q = c .before .before .before in
@@ -44,15 +37,6 @@ returns : tie.Need-returns Inv-loop μ-loop
 returns c = quads-at (c .before .loop .inv .1) (omega (arith, c .before .loop .inv .0))
 
 pub store-line-spec : {M : Type 1} → statement M
-store-line-spec =
-    tie.close
-    (tie.spec
-    Inv-loop
-    μ-loop
-    loop-holds
-    slot-quad-requires
-    set-quad-requires
-    add-v
-    loop-less
-    loop-again
-    returns)
+store-line-spec = tie.close (tie.spec
+    Inv-loop μ-loop loop-holds slot-quad-requires set-quad-requires (λ c. search needs)
+    (λ c. search needs) loop-again returns)

@@ -1,14 +1,5 @@
 -- `transform::columns::column`: the places are stored one after the other.
-use mathlib.Core.List.{[]}
-use mathlib.Core.Path.{_≡_, refl}
-use Prim.Native.Nat.{_-_}
-use native.Mathlib.Omega.{arith}
-use borrow.Author.Needs.{needs}
-use lib.ListN.{getD}
-use lib.IntN.{pos}
-use denote.Ref.{now}
-use mir.Val.{toZ, ofZ}
-use mir.Syntax.{w16}
+use Rattle.algebra.specs.Prelude.{_≡_, refl, [], _-_, arith, needs, getD, pos, w16, toZ, ofZ, now}
 use Rattle.sequences.specs.Tab.{Filled, fill-start, fill-turn, fill-done}
 use Rattle.sequences.specs.Grid.{cell}
 use Rattle.transform.proofs.columns.column.Statement.{statement}
@@ -19,33 +10,6 @@ Inv-loop d x r₀ y₀ r y = Filled (λ y. cell (pos 0) d y x) 16 y r₀ r
 
 abbrev μ-loop : tie.MeasureT-loop
 μ-loop d x r₀ y₀ r y = 16 - y
-
-loop-holds : tie.Need-loop-holds Inv-loop μ-loop
-loop-holds c = fill-start refl
-
-mul-r : tie.Need-mul-r Inv-loop μ-loop
-mul-r c = search needs
-
-mul-r-2 : tie.Need-mul-r-2 Inv-loop μ-loop
-mul-r-2 c = search needs
-
-index-1-r : tie.Need-index-1-r Inv-loop μ-loop
-index-1-r c = search needs
-
-index-2-r : tie.Need-index-2-r Inv-loop μ-loop
-index-2-r c = search needs
-
-mul-r-3 : tie.Need-mul-r-3 Inv-loop μ-loop
-mul-r-3 c = search needs
-
-array-set-from-r : tie.Need-array-set-from-r Inv-loop μ-loop
-array-set-from-r c = search needs
-
-add-y : tie.Need-add-y Inv-loop μ-loop
-add-y c = search needs
-
-loop-less : tie.Need-loop-less Inv-loop μ-loop
-loop-less c = search needs
 
 loop-again : tie.Need-loop-again Inv-loop μ-loop
 unfolding cell
@@ -59,19 +23,7 @@ returns : tie.Need-returns Inv-loop μ-loop
 returns c = fill-done (c .before .loop .inv) (omega arith)
 
 pub column-spec : {M : Type 1} → statement M
-column-spec =
-    tie.close
-    (tie.spec
-    Inv-loop
-    μ-loop
-    loop-holds
-    mul-r
-    mul-r-2
-    index-1-r
-    index-2-r
-    mul-r-3
-    array-set-from-r
-    add-y
-    loop-less
-    loop-again
-    returns)
+column-spec = tie.close (tie.spec
+    Inv-loop μ-loop (λ c. fill-start refl) (λ c. search needs) (λ c. search needs)
+    (λ c. search needs) (λ c. search needs) (λ c. search needs) (λ c. search needs)
+    (λ c. search needs) (λ c. search needs) loop-again returns)

@@ -1,9 +1,5 @@
 -- `transform::columns::forward`: the columns' transforms are stored one after the other.
-use mathlib.Core.Path.{_∙_}
-use Prim.Native.Nat.{_-_}
-use native.Mathlib.Omega.{arith}
-use borrow.Author.Needs.{needs}
-use lib.IntN.{pos}
+use Rattle.algebra.specs.Prelude.{_∙_, _-_, arith, needs, pos}
 use Rattle.sequences.specs.Grid.{cell}
 use Rattle.lines.specs.Halfcomplex.{halfcomplex}
 use Rattle.lines.specs.Magnitudes.{differenceMost}
@@ -19,12 +15,6 @@ Inv-loop d r₀ x₀ r x = ColumnsSet (λ b x. halfcomplex (λ y. cell (pos 0) d
 abbrev μ-loop : tie.MeasureT-loop
 μ-loop d r₀ x₀ r x = 16 - x
 
-loop-holds : tie.Need-loop-holds Inv-loop μ-loop
-loop-holds c = columns-start (c .pre .1)
-
-column-requires : tie.Need-column-requires Inv-loop μ-loop
-column-requires c κs = search needs
-
 halfcomplex-requires : tie.Need-halfcomplex-requires Inv-loop μ-loop
 halfcomplex-requires c κs =
     let l = c .before .before .before in
@@ -32,12 +22,6 @@ halfcomplex-requires c κs =
 
 set-column-requires : tie.Need-set-column-requires Inv-loop μ-loop
 set-column-requires c κs = (omega arith, c .before .before .before .before .before .before .loop .inv .square)
-
-add-x : tie.Need-add-x Inv-loop μ-loop
-add-x c = search needs
-
-loop-less : tie.Need-loop-less Inv-loop μ-loop
-loop-less c = search needs
 
 loop-again : tie.Need-loop-again Inv-loop μ-loop
 loop-again c =
@@ -50,16 +34,6 @@ returns : tie.Need-returns Inv-loop μ-loop
 returns c = columns-done (c .before .loop .inv) (omega arith)
 
 pub forward-spec : {M : Type 1} → statement M
-forward-spec =
-    tie.close
-    (tie.spec
-    Inv-loop
-    μ-loop
-    loop-holds
-    column-requires
-    halfcomplex-requires
-    set-column-requires
-    add-x
-    loop-less
-    loop-again
-    returns)
+forward-spec = tie.close (tie.spec
+    Inv-loop μ-loop (λ c. columns-start (c .pre .1)) (λ c κs. search needs) halfcomplex-requires
+    set-column-requires (λ c. search needs) (λ c. search needs) loop-again returns)

@@ -1,9 +1,5 @@
 -- `transform::columns_back::back`: the columns' sums are stored one after the other.
-use mathlib.Core.Path.{_∙_}
-use Prim.Native.Nat.{_-_}
-use native.Mathlib.Omega.{arith}
-use borrow.Author.Needs.{needs}
-use lib.IntN.{pos}
+use Rattle.algebra.specs.Prelude.{_∙_, _-_, arith, needs, pos}
 use Rattle.sequences.specs.Grid.{cell}
 use Rattle.lines.specs.Halfcomplex.{backward}
 use Rattle.lines.specs.Magnitudes.{narrowMost}
@@ -19,12 +15,6 @@ Inv-loop g r₀ k₀ r k = ColumnsSet (λ y k. backward (λ b. cell (pos 0) g b 
 abbrev μ-loop : tie.MeasureT-loop
 μ-loop g r₀ k₀ r k = 16 - k
 
-loop-holds : tie.Need-loop-holds Inv-loop μ-loop
-loop-holds c = columns-start (c .pre .1)
-
-column-requires : tie.Need-column-requires Inv-loop μ-loop
-column-requires c κs = search needs
-
 backward-requires : tie.Need-backward-requires Inv-loop μ-loop
 backward-requires c κs =
     let l = c .before .before .before in
@@ -32,12 +22,6 @@ backward-requires c κs =
 
 set-column-requires : tie.Need-set-column-requires Inv-loop μ-loop
 set-column-requires c κs = (omega arith, c .before .before .before .before .before .before .loop .inv .square)
-
-add-k : tie.Need-add-k Inv-loop μ-loop
-add-k c = search needs
-
-loop-less : tie.Need-loop-less Inv-loop μ-loop
-loop-less c = search needs
 
 loop-again : tie.Need-loop-again Inv-loop μ-loop
 loop-again c =
@@ -50,16 +34,6 @@ returns : tie.Need-returns Inv-loop μ-loop
 returns c = columns-done (c .before .loop .inv) (omega arith)
 
 pub back-spec : {M : Type 1} → statement M
-back-spec =
-    tie.close
-    (tie.spec
-    Inv-loop
-    μ-loop
-    loop-holds
-    column-requires
-    backward-requires
-    set-column-requires
-    add-k
-    loop-less
-    loop-again
-    returns)
+back-spec = tie.close (tie.spec
+    Inv-loop μ-loop (λ c. columns-start (c .pre .1)) (λ c κs. search needs) backward-requires
+    set-column-requires (λ c. search needs) (λ c. search needs) loop-again returns)

@@ -1,23 +1,10 @@
 -- `transform::filter::filtered_part`: both parts are quantized, then shrunk.
-use mathlib.Core.Path.{_≡_, ap, ap₂, _∙_}
-use borrow.Author.Needs.{needs}
-use mir.Syntax.{w64}
-use mir.Val.{toZ, ofZ}
-use mir.Facts.{toZ-ofZ}
+use Rattle.algebra.specs.Prelude.{_≡_, ap, ap₂, _∙_, needs, w64, toZ, ofZ, toZ-ofZ}
 use Rattle.lines.specs.Tables.{side16}
 use Rattle.transform.specs.Recipe.{wiener, quantized, filtered}
 use Rattle.lines.proofs.Held.{number-is}
 use Rattle.transform.proofs.filter.filtered_part.Statement.{statement}
 use Rattle.transform.proofs.filter.filtered_part.Tie as tie
-
-quantized-part-requires : tie.Need-quantized-part-requires
-quantized-part-requires c κs = search needs
-
-quantized-part-requires-2 : tie.Need-quantized-part-requires-2
-quantized-part-requires-2 c κs = search needs
-
-wiener-part-requires : tie.Need-wiener-part-requires
-wiener-part-requires c κs = search needs
 
 returns : tie.Need-returns
 unfolding filtered
@@ -30,6 +17,5 @@ returns c =
     rw e (c .wiener-part .ensures .0 ∙ ap₂ (wiener (s .args .noise)) b d, c .wiener-part .ensures .1)
 
 pub filtered-part-spec : {M : Type 1} → statement M
-filtered-part-spec =
-    tie.close
-    (tie.spec quantized-part-requires quantized-part-requires-2 wiener-part-requires returns)
+filtered-part-spec = tie.close (tie.spec
+    (λ c κs. search needs) (λ c κs. search needs) (λ c κs. search needs) returns)

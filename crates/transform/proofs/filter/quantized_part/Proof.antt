@@ -1,12 +1,5 @@
 -- `transform::filter::quantized_part`: a bin divided by 2^24 is at most 23720288.
-use mathlib.Core.Path.{_≡_, refl, ap, _∙_}
-use Prim.Native.Nat.{_^_}
-use native.Mathlib.Omega.{arith}
-use borrow.Author.Needs.{needs}
-use lib.Dec.{lit<}
-use mir.Syntax.{w64}
-use mir.Val.{toZ, ofZ}
-use mir.Facts.{toZ-ofZ}
+use Rattle.algebra.specs.Prelude.{_≡_, refl, ap, _∙_, _^_, arith, needs, lit<, w64, toZ, ofZ, toZ-ofZ}
 use Rattle.algebra.specs.Nearest.{away}
 use Rattle.lines.specs.Tables.{side16}
 use Rattle.transform.specs.Recipe.{quantized}

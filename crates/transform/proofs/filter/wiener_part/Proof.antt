@@ -1,13 +1,7 @@
 -- `transform::filter::wiener_part`: each step fits by the computed test of `Code`; V·Q is at most 6.7e18, and only its double would not fit.
-use mathlib.Core.Path.{_≡_, refl, sym, ap, ap₂, _∙_, subst}
-use mathlib.Core.List.{List, [], _∷_}
+use Rattle.algebra.specs.Prelude.{_≡_, refl, sym, ap, ap₂, subst, _∙_, List, [], _∷_, arith, needs, lit<, ℤ, pos, natAbs, _+ℤ_, _*ℤ_, w64}
 use Prim.Native.Nat.{ℕ, _<_, _^_, zero-le}
 use native.Mathlib.Nat.{le-trans, lt-of-le-of-lt, add-le-add, mul-le-mul}
-use native.Mathlib.Omega.{arith}
-use borrow.Author.Needs.{needs}
-use lib.Dec.{lit<}
-use lib.IntN.{ℤ, pos, natAbs, _+ℤ_, _*ℤ_}
-use mir.Syntax.{w64}
 use mir.Val.{Fits, toZ, ofZ}
 use mir.ValLaws.{toZ-pos}
 use Rattle.algebra.specs.Ring.{nth}
@@ -80,9 +74,6 @@ returns : tie.Need-returns
 unfolding wiener
 returns c = rw (c .if1 .taken) (refl, record { most = zero-le })
 
-cast-v : tie.Need-cast-v
-cast-v c = search needs
-
 mul-power : tie.Need-mul-power
 mul-power c = fits (xs (c .before)) bs (small (c .before)) w64 (mul w64 (Q (c .before)) (Q (c .before))) tt
 
@@ -117,16 +108,6 @@ returns-2 c =
     rw (e, f) (refl, record { most = le-trans (wiener-most (s .args .noise) (s .args .q) (s .args .r)) (s .pre .1 .most) })
 
 pub wiener-part-spec : {M : Type 1} → statement M
-wiener-part-spec =
-    tie.close
-    (tie.spec
-    returns
-    cast-v
-    mul-power
-    mul-power-2
-    add-power
-    add-power-2
-    mul-round-away
-    cast-round-away
-    round-away-requires
-    returns-2)
+wiener-part-spec = tie.close (tie.spec
+    returns (λ c. search needs) mul-power mul-power-2 add-power add-power-2 mul-round-away
+    cast-round-away round-away-requires returns-2)

@@ -1,13 +1,6 @@
 -- `transform::quads::corner_quad`: each part is shrunk by itself.
-use mathlib.Core.Path.{_≡_, ap, _∙_}
-use mathlib.Core.List.{List}
+use Rattle.algebra.specs.Prelude.{_≡_, ap, _∙_, List, arith, needs, getD, ℤ, pos, natAbs, w64, toZ, ofZ}
 use Prim.Native.Nat.{ℕ, _≤_, zero-le}
-use native.Mathlib.Omega.{arith}
-use borrow.Author.Needs.{needs}
-use lib.IntN.{ℤ, pos, natAbs}
-use lib.ListN.{getD}
-use mir.Syntax.{w64}
-use mir.Val.{toZ, ofZ}
 use Rattle.algebra.specs.Bound.{AtMost}
 use Rattle.sequences.specs.Tab.{tab}
 use Rattle.lines.specs.Tables.{side16}
@@ -27,32 +20,20 @@ part noise l i m e = number-is w64 m tt ∙ e ∙ ap (λ z. filtered side16 nois
 small : {z : ℤ} → AtMost gainMost z → natAbs (toZ w64 (ofZ w64 z)) ≤ gainMost
 small m = number-most w64 m tt .most
 
-element-copy-out-filtered-part : tie.Need-element-copy-out-filtered-part
-element-copy-out-filtered-part c = search needs
-
 filtered-part-requires : tie.Need-filtered-part-requires
 filtered-part-requires c κs =
     let s = c .before in
     (s .pre .0, held-most w64 (s .pre .1) 0 tt, record { most = zero-le })
-
-element-copy-out-filtered-part-2 : tie.Need-element-copy-out-filtered-part-2
-element-copy-out-filtered-part-2 c = search needs
 
 filtered-part-requires-2 : tie.Need-filtered-part-requires-2
 filtered-part-requires-2 c κs =
     let s = c .before .before .before in
     (s .pre .0, held-most w64 (s .pre .1) 1 tt, record { most = zero-le })
 
-element-copy-out-filtered-part-3 : tie.Need-element-copy-out-filtered-part-3
-element-copy-out-filtered-part-3 c = search needs
-
 filtered-part-requires-3 : tie.Need-filtered-part-requires-3
 filtered-part-requires-3 c κs =
     let s = c .before .before .before .before .before in
     (s .pre .0, held-most w64 (s .pre .1) 2 tt, record { most = zero-le })
-
-element-copy-out-filtered-part-4 : tie.Need-element-copy-out-filtered-part-4
-element-copy-out-filtered-part-4 c = search needs
 
 filtered-part-requires-4 : tie.Need-filtered-part-requires-4
 filtered-part-requires-4 c κs =
@@ -75,15 +56,7 @@ returns c =
     (four (part n l 0 (a .1) (a .0)) (part n l 1 (b .1) (b .0)) (part n l 2 (d .1) (d .0)) (part n l 3 (e .1) (e .0)), line-more (omega arith) (four-most gainMost _ _ _ _ (small (a .1)) (small (b .1)) (small (d .1)) (small (e .1))))
 
 pub corner-quad-spec : {M : Type 1} → statement M
-corner-quad-spec =
-    tie.close
-    (tie.spec
-    element-copy-out-filtered-part
-    filtered-part-requires
-    element-copy-out-filtered-part-2
-    filtered-part-requires-2
-    element-copy-out-filtered-part-3
-    filtered-part-requires-3
-    element-copy-out-filtered-part-4
-    filtered-part-requires-4
+corner-quad-spec = tie.close (tie.spec
+    (λ c. search needs) filtered-part-requires (λ c. search needs) filtered-part-requires-2
+    (λ c. search needs) filtered-part-requires-3 (λ c. search needs) filtered-part-requires-4
     returns)

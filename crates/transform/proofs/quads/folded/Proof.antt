@@ -1,10 +1,5 @@
 -- `transform::quads::folded`: each step fits, and the results are the quad, by computed tests.
-use mathlib.Core.Path.{sym, _∙_}
-use mathlib.Core.List.{List, [], _∷_}
-use Prim.Native.Nat.{ℕ}
-use native.Mathlib.Omega.{arith}
-use lib.IntN.{ℤ}
-use mir.Syntax.{w64}
+use Rattle.algebra.specs.Prelude.{sym, _∙_, List, [], _∷_, ℕ, arith, ℤ, w64}
 use Rattle.algebra.specs.Ring.{nth, var, _⊞_, _⊟_}
 use Rattle.algebra.specs.Code.{Code, par, add, sub, Bounded, fits}
 use Rattle.algebra.specs.Forms.{vals-are, vals-most}
@@ -93,17 +88,5 @@ returns-3 c =
     (vals-are (xs s) bs (small s) (inner s) ((var 0 ⊞ var 2) ∷ (var 1 ⊟ var 3) ∷ (var 1 ⊞ var 3) ∷ (var 2 ⊟ var 0) ∷ []) tt tt ∙ sym (is-inner _ _ _ (s .args .v) (s .args .u) (omega arith) (omega arith)), record { at = vals-most (xs s) bs (small s) quadMost (inner s) tt })
 
 pub folded-spec : {M : Type 1} → statement M
-folded-spec =
-    tie.close
-    (tie.spec
-    add-t8
-    add-t9
-    add-t10
-    add-t11
-    returns
-    returns-2
-    add-t12
-    sub-t13
-    add-t14
-    sub-t15
-    returns-3)
+folded-spec = tie.close (tie.spec
+    add-t8 add-t9 add-t10 add-t11 returns returns-2 add-t12 sub-t13 add-t14 sub-t15 returns-3)

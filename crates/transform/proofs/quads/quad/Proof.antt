@@ -1,14 +1,5 @@
 -- `transform::quads::quad`: the parts of the two bins are shrunk, each by itself, and folded.
-use mathlib.Core.Path.{_≡_, sym, ap, ap₂, _∙_}
-use mathlib.Core.List.{List}
-use Prim.Native.Nat.{ℕ}
-use native.Mathlib.Omega.{arith}
-use borrow.Author.Needs.{needs}
-use denote.Ref.{now}
-use lib.IntN.{ℤ, pos}
-use lib.ListN.{getD}
-use mir.Syntax.{w64}
-use mir.Val.{toZ, ofZ}
+use Rattle.algebra.specs.Prelude.{_≡_, sym, ap, ap₂, _∙_, List, ℕ, arith, needs, getD, ℤ, pos, w64, toZ, ofZ, now}
 use Rattle.algebra.specs.Bound.{AtMost}
 use Rattle.sequences.specs.Tab.{tab}
 use Rattle.sequences.specs.Grid.{cell}
@@ -27,12 +18,6 @@ part : (noise : ℕ) {b t : List ℤ} → LineMost binMost b → b ≡ t → (i 
 part noise l e i j m p =
     number-is w64 m tt ∙ p ∙ ap₂ (filtered side16 noise) (held-is w64 l i tt ∙ ap (λ b. getD b i (pos 0)) e) (held-is w64 l j tt ∙ ap (λ b. getD b j (pos 0)) e)
 
-two-bins-requires : tie.Need-two-bins-requires
-two-bins-requires c κs = search needs
-
-add-if1 : tie.Need-add-if1
-add-if1 c = search needs
-
 corner-quad-requires : tie.Need-corner-quad-requires
 corner-quad-requires c κs =
     let b = c .before .before in
@@ -47,44 +32,20 @@ returns c =
     let e = c .corner-quad .ensures .0 ∙ ap (λ b. tab 4 (λ i. filtered side16 (s .args .noise) (getD b i (pos 0)) (pos 0))) (b .two-bins .ensures .0) in
     (e ∙ rw (v, u) (sym (corner-is (s .args .noise) (transposed (cell (pos 0) (now (s .args .t)))))), c .corner-quad .ensures .1)
 
-array-copy-out-filtered-part : tie.Need-array-copy-out-filtered-part
-array-copy-out-filtered-part c = search needs
-
-array-copy-out-filtered-part-2 : tie.Need-array-copy-out-filtered-part-2
-array-copy-out-filtered-part-2 c = search needs
-
 filtered-part-requires : tie.Need-filtered-part-requires
 filtered-part-requires c κs =
     let b = c .before .before .before in
     (b .before .pre .0, held-most w64 (b .two-bins .ensures .1) 0 tt, held-most w64 (b .two-bins .ensures .1) 1 tt)
-
-array-copy-out-filtered-part-3 : tie.Need-array-copy-out-filtered-part-3
-array-copy-out-filtered-part-3 c = search needs
-
-array-copy-out-filtered-part-4 : tie.Need-array-copy-out-filtered-part-4
-array-copy-out-filtered-part-4 c = search needs
 
 filtered-part-requires-2 : tie.Need-filtered-part-requires-2
 filtered-part-requires-2 c κs =
     let b = c .before .before .before .before .before .before in
     (b .before .pre .0, held-most w64 (b .two-bins .ensures .1) 1 tt, held-most w64 (b .two-bins .ensures .1) 0 tt)
 
-array-copy-out-filtered-part-5 : tie.Need-array-copy-out-filtered-part-5
-array-copy-out-filtered-part-5 c = search needs
-
-array-copy-out-filtered-part-6 : tie.Need-array-copy-out-filtered-part-6
-array-copy-out-filtered-part-6 c = search needs
-
 filtered-part-requires-3 : tie.Need-filtered-part-requires-3
 filtered-part-requires-3 c κs =
     let b = c .before .before .before .before .before .before .before .before .before in
     (b .before .pre .0, held-most w64 (b .two-bins .ensures .1) 2 tt, held-most w64 (b .two-bins .ensures .1) 3 tt)
-
-array-copy-out-filtered-part-7 : tie.Need-array-copy-out-filtered-part-7
-array-copy-out-filtered-part-7 c = search needs
-
-array-copy-out-filtered-part-8 : tie.Need-array-copy-out-filtered-part-8
-array-copy-out-filtered-part-8 c = search needs
 
 filtered-part-requires-4 : tie.Need-filtered-part-requires-4
 filtered-part-requires-4 c κs =
@@ -117,24 +78,8 @@ returns-2 c =
     (c .folded .ensures .0 ∙ quad-ext (foldedQuad (s .args .v) (s .args .u)) (part n l e 0 1 (g1 .1) (g1 .0)) (part n l e 1 0 (g2 .1) (g2 .0)) (part n l e 2 3 (g3 .1) (g3 .0)) (part n l e 3 2 (g4 .1) (g4 .0)) ∙ sym (quad-is n (transposed (cell (pos 0) (now (s .args .t)))) (s .args .v) (s .args .u) (s .pre .1) (s .pre .2) (omega (arith, o .if1 .left))), c .folded .ensures .1)
 
 pub quad-spec : {M : Type 1} → statement M
-quad-spec =
-    tie.close
-    (tie.spec
-    two-bins-requires
-    add-if1
-    corner-quad-requires
-    returns
-    array-copy-out-filtered-part
-    array-copy-out-filtered-part-2
-    filtered-part-requires
-    array-copy-out-filtered-part-3
-    array-copy-out-filtered-part-4
-    filtered-part-requires-2
-    array-copy-out-filtered-part-5
-    array-copy-out-filtered-part-6
-    filtered-part-requires-3
-    array-copy-out-filtered-part-7
-    array-copy-out-filtered-part-8
-    filtered-part-requires-4
-    folded-requires
-    returns-2)
+quad-spec = tie.close (tie.spec
+    (λ c κs. search needs) (λ c. search needs) corner-quad-requires returns (λ c. search needs)
+    (λ c. search needs) filtered-part-requires (λ c. search needs) (λ c. search needs)
+    filtered-part-requires-2 (λ c. search needs) (λ c. search needs) filtered-part-requires-3
+    (λ c. search needs) (λ c. search needs) filtered-part-requires-4 folded-requires returns-2)

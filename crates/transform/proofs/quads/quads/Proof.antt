@@ -1,10 +1,5 @@
 -- `transform::quads::quads`: the quads are stored one after the other.
-use mathlib.Core.Path.{refl}
-use mathlib.Core.List.{List}
-use Prim.Native.Nat.{ℕ, _-_}
-use native.Mathlib.Omega.{arith}
-use borrow.Author.Needs.{needs}
-use lib.IntN.{ℤ, pos}
+use Rattle.algebra.specs.Prelude.{refl, List, ℕ, _-_, arith, needs, ℤ, pos}
 use Rattle.sequences.specs.Grid.{cell}
 use Rattle.transform.specs.Spectrum.{Quads, transposed, quadOf, spread, gainRe, gainIm}
 use Rattle.transform.proofs.QuadStores.{quads-start, quads-turn, quads-done, quads-most}
@@ -20,9 +15,6 @@ Inv-loop t noise r₀ n₀ r n = Quads (quadOf (foldedGain noise t)) n r
 abbrev μ-loop : tie.MeasureT-loop
 μ-loop t noise r₀ n₀ r n = 64 - n
 
-loop-holds : tie.Need-loop-holds Inv-loop μ-loop
-loop-holds c = quads-start (c .pre .2)
-
 quad-requires : tie.Need-quad-requires Inv-loop μ-loop
 quad-requires c κs =
     let s = c .before .before in
@@ -32,12 +24,6 @@ set-quad-requires : tie.Need-set-quad-requires Inv-loop μ-loop
 set-quad-requires c κs =
     let q = c .before .before in
     (omega arith, omega arith, q .quad .ensures .1, q .before .before .loop .inv .square)
-
-add-n : tie.Need-add-n Inv-loop μ-loop
-add-n c = search needs
-
-loop-less : tie.Need-loop-less Inv-loop μ-loop
-loop-less c = search needs
 
 loop-again : tie.Need-loop-again Inv-loop μ-loop
 loop-again c =
@@ -50,15 +36,6 @@ returns c =
     (quads-done w (omega arith) _ (λ v u h l. refl), quads-most w (omega arith))
 
 pub quads-spec : {M : Type 1} → statement M
-quads-spec =
-    tie.close
-    (tie.spec
-    Inv-loop
-    μ-loop
-    loop-holds
-    quad-requires
-    set-quad-requires
-    add-n
-    loop-less
-    loop-again
-    returns)
+quads-spec = tie.close (tie.spec
+    Inv-loop μ-loop (λ c. quads-start (c .pre .2)) quad-requires set-quad-requires
+    (λ c. search needs) (λ c. search needs) loop-again returns)

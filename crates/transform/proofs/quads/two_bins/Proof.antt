@@ -1,15 +1,5 @@
 -- `transform::quads::two_bins`: the parts are places of the tile, their sums and their differences, which are bins.
-use mathlib.Core.Path.{_≡_, sym, ap₂, _∙_, subst}
-use mathlib.Core.List.{[]}
-use Prim.Native.Nat.{ℕ, _+_}
-use native.Mathlib.Omega.{arith}
-use borrow.Author.Needs.{needs}
-use denote.Ref.{now}
-use lib.IntN.{ℤ, pos, _+ℤ_, _-ℤ_}
-use lib.ListN.{getD}
-use mir.Syntax.{w64}
-use mir.Val.{toZ, ofZ}
-use mir.Facts.{toZ-ofZ}
+use Rattle.algebra.specs.Prelude.{_≡_, sym, ap₂, subst, _∙_, [], ℕ, _+_, arith, needs, getD, ℤ, pos, _+ℤ_, _-ℤ_, w64, toZ, ofZ, toZ-ofZ, now}
 use Rattle.algebra.specs.Bound.{AtMost, add-fits, sub-fits}
 use Rattle.sequences.specs.Grid.{cell}
 use Rattle.lines.specs.Lines.{LineMost}
@@ -52,66 +42,6 @@ module _ (s : At) where
 
   most : LineMost binMost (twoBins at (s .args .v) (s .args .u))
   most = bins-most at (s .pre .2 .re) (s .pre .2 .im) (s .args .v) (s .args .u) (s .pre .0) (s .pre .1)
-
-mul-a : tie.Need-mul-a
-mul-a c = search needs
-
-mul-a-2 : tie.Need-mul-a-2
-mul-a-2 c = search needs
-
-index-1-a : tie.Need-index-1-a
-index-1-a c = search needs
-
-index-2-a : tie.Need-index-2-a
-index-2-a c = search needs
-
-add-b : tie.Need-add-b
-add-b c = search needs
-
-mul-b : tie.Need-mul-b
-mul-b c = search needs
-
-mul-b-2 : tie.Need-mul-b-2
-mul-b-2 c = search needs
-
-index-1-b : tie.Need-index-1-b
-index-1-b c = search needs
-
-index-2-b : tie.Need-index-2-b
-index-2-b c = search needs
-
-add-c : tie.Need-add-c
-add-c c = search needs
-
-mul-c : tie.Need-mul-c
-mul-c c = search needs
-
-mul-c-2 : tie.Need-mul-c-2
-mul-c-2 c = search needs
-
-index-1-c : tie.Need-index-1-c
-index-1-c c = search needs
-
-index-2-c : tie.Need-index-2-c
-index-2-c c = search needs
-
-add-d : tie.Need-add-d
-add-d c = search needs
-
-add-d-2 : tie.Need-add-d-2
-add-d-2 c = search needs
-
-mul-d : tie.Need-mul-d
-mul-d c = search needs
-
-mul-d-2 : tie.Need-mul-d-2
-mul-d-2 c = search needs
-
-index-1-d : tie.Need-index-1-d
-index-1-d c = search needs
-
-index-2-d : tie.Need-index-2-d
-index-2-d c = search needs
 
 returns : tie.Need-returns
 unfolding twoBins quadOf
@@ -169,33 +99,10 @@ returns-3 c =
     (e, subst (LineMost binMost) (sym e) (most s))
 
 pub two-bins-spec : {M : Type 1} → statement M
-two-bins-spec =
-    tie.close
-    (tie.spec
-    mul-a
-    mul-a-2
-    index-1-a
-    index-2-a
-    add-b
-    mul-b
-    mul-b-2
-    index-1-b
-    index-2-b
-    add-c
-    mul-c
-    mul-c-2
-    index-1-c
-    index-2-c
-    add-d
-    add-d-2
-    mul-d
-    mul-d-2
-    index-1-d
-    index-2-d
-    returns
-    returns-2
-    sub-t14
-    add-t30
-    add-t31
-    sub-t32
-    returns-3)
+two-bins-spec = tie.close (tie.spec
+    (λ c. search needs) (λ c. search needs) (λ c. search needs) (λ c. search needs)
+    (λ c. search needs) (λ c. search needs) (λ c. search needs) (λ c. search needs)
+    (λ c. search needs) (λ c. search needs) (λ c. search needs) (λ c. search needs)
+    (λ c. search needs) (λ c. search needs) (λ c. search needs) (λ c. search needs)
+    (λ c. search needs) (λ c. search needs) (λ c. search needs) (λ c. search needs) returns
+    returns-2 sub-t14 add-t30 add-t31 sub-t32 returns-3)

@@ -1,17 +1,9 @@
 -- `transform::quotients::exact`: no cast loses anything.
-use mathlib.Core.Path.{ap₂, _∙_}
-use native.Mathlib.Omega.{arith}
-use mir.Syntax.{w32, w64}
+use Rattle.algebra.specs.Prelude.{ap₂, _∙_, arith, w32, w64}
 use Rattle.transform.specs.Recipe.{wiener}
 use Rattle.lines.proofs.Held.{cast-fits, cast-is, cast-most}
 use Rattle.transform.proofs.quotients.exact.Statement.{statement}
 use Rattle.transform.proofs.quotients.exact.Tie as tie
-
-cast-wiener-part : tie.Need-cast-wiener-part
-cast-wiener-part c = cast-fits w32 w64 (c .pre .2) tt tt
-
-cast-wiener-part-2 : tie.Need-cast-wiener-part-2
-cast-wiener-part-2 c = cast-fits w32 w64 (c .pre .3) tt tt
 
 wiener-part-requires : tie.Need-wiener-part-requires
 wiener-part-requires c κs = (omega arith, cast-most w32 w64 (c .pre .2) tt tt, cast-most w32 w64 (c .pre .3) tt tt)
@@ -26,6 +18,6 @@ returns c =
     ∙ ap₂ (wiener (s .args .noise)) (cast-is w32 w64 (s .pre .2) tt tt) (cast-is w32 w64 (s .pre .3) tt tt)
 
 pub exact-spec : {M : Type 1} → statement M
-exact-spec =
-    tie.close
-    (tie.spec cast-wiener-part cast-wiener-part-2 wiener-part-requires cast-result returns)
+exact-spec = tie.close (tie.spec
+    (λ c. cast-fits w32 w64 (c .pre .2) tt tt) (λ c. cast-fits w32 w64 (c .pre .3) tt tt)
+    wiener-part-requires cast-result returns)

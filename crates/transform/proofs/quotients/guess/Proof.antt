@@ -1,14 +1,9 @@
 -- `transform::quotients::guess`: sixteen bits, less 2^15.
-use mathlib.Core.Bool.{false}
-use Prim.Native.Nat.{ℕ, _-_, _<_, _^_}
+use Rattle.algebra.specs.Prelude.{false, ℕ, _^_, _<_, arith, lit<, w32, toZ}
 use native.Mathlib.Nat.{lt-of-le-of-lt}
-use native.Mathlib.Omega.{arith}
 use lib.Bits.{bitAnd, bitXor, xor-lt, and-le-r}
-use lib.Dec.{lit<}
 use lib.Ieee.{binary64, toBits, ofBits, add}
 use lib.IntN.{pos, subℕ, _-ℤ_}
-use mir.Syntax.{w32}
-use mir.Val.{toZ}
 use mir.ValLaws.{toZ-pos}
 use Rattle.algebra.specs.Bound.{AtMost, most-fits}
 use Rattle.algebra.specs.Order.{abs-pn, pn-sub, min-pn}

@@ -1,17 +1,8 @@
 -- `transform::quotients::guessed`: each guess is the quotient where it is sure.
-use mathlib.Core.Path.{_≡_, sym, subst}
-use mathlib.Core.Bool.{not}
-use Prim.Native.Nat.{_-_, _^_}
-use native.Mathlib.Omega.{arith}
-use borrow.Author.Needs.{needs}
+use Rattle.algebra.specs.Prelude.{_≡_, sym, subst, not, _-_, _^_, arith, needs, getD, pos, w32, toZ, ofZ, now}
 use borrow.Author.Tests.{eqb-true}
-use denote.Ref.{now}
 use lib.Dec.{T, le→leb}
 use lib.Ieee.{binary64, ofInt, inFloat, isNan}
-use lib.IntN.{pos}
-use lib.ListN.{getD}
-use mir.Syntax.{w32}
-use mir.Val.{toZ, ofZ}
 use Rattle.algebra.specs.Bound.{AtMost}
 use Rattle.transform.specs.Recipe.{wiener}
 use Rattle.transform.specs.FloatQuotient.{floatQuotient, sure}
@@ -53,48 +44,12 @@ int-to-float-v : tie.Need-int-to-float-v Inv-loop μ-loop
 unfolding inFloat
 int-to-float-v c = le→leb (c .before .args .noise) (2 ^ 53) (omega arith)
 
-loop-holds : tie.Need-loop-holds Inv-loop μ-loop
-loop-holds c = guess-start (c .before .pre .4)
-
-mul-quotient : tie.Need-mul-quotient Inv-loop μ-loop
-mul-quotient c = search needs
-
-element-copy-out-quotient : tie.Need-element-copy-out-quotient Inv-loop μ-loop
-element-copy-out-quotient c = search needs
-
-mul-quotient-2 : tie.Need-mul-quotient-2 Inv-loop μ-loop
-mul-quotient-2 c = search needs
-
-element-copy-out-quotient-2 : tie.Need-element-copy-out-quotient-2 Inv-loop μ-loop
-element-copy-out-quotient-2 c = search needs
-
-quotient-requires : tie.Need-quotient-requires Inv-loop μ-loop
-quotient-requires c κs = search needs
-
 guess-requires : tie.Need-guess-requires Inv-loop μ-loop
 guess-requires c κs =
     let l = c .before .before .before .before in
     let s = l .before .before in
     let i = l .loop .i in
     subst (λ y. T (not (isNan y))) (sym (quotient-at c)) (number (s .args .noise) (getD (now (s .args .re)) i (pos 0)) (getD (now (s .args .im)) i (pos 0)) (s .pre .0) (s .pre .1) (s .pre .2 .at i) (s .pre .3 .at i))
-
-mul-g : tie.Need-mul-g Inv-loop μ-loop
-mul-g c = search needs
-
-element-set-from-g : tie.Need-element-set-from-g Inv-loop μ-loop
-element-set-from-g c = search needs
-
-unsure-requires : tie.Need-unsure-requires Inv-loop μ-loop
-unsure-requires c κs = search needs
-
-add-bad : tie.Need-add-bad Inv-loop μ-loop
-add-bad c = search needs
-
-add-i : tie.Need-add-i Inv-loop μ-loop
-add-i c = search needs
-
-loop-less : tie.Need-loop-less Inv-loop μ-loop
-loop-less c = search needs
 
 loop-again : tie.Need-loop-again Inv-loop μ-loop
 loop-again c =
@@ -112,24 +67,8 @@ returns : tie.Need-returns Inv-loop μ-loop
 returns c = (c .before .loop .inv .same, λ e. guess-done (c .before .loop .inv) (omega arith) (eqb-true (c .before .loop .bad) 0 e))
 
 pub guessed-spec : {M : Type 1} → statement M
-guessed-spec =
-    tie.close
-    (tie.spec
-    Inv-loop
-    μ-loop
-    int-to-float-v
-    loop-holds
-    mul-quotient
-    element-copy-out-quotient
-    mul-quotient-2
-    element-copy-out-quotient-2
-    quotient-requires
-    guess-requires
-    mul-g
-    element-set-from-g
-    unsure-requires
-    add-bad
-    add-i
-    loop-less
-    loop-again
-    returns)
+guessed-spec = tie.close (tie.spec
+    Inv-loop μ-loop int-to-float-v (λ c. guess-start (c .before .pre .4)) (λ c. search needs)
+    (λ c. search needs) (λ c. search needs) (λ c. search needs) (λ c κs. search needs)
+    guess-requires (λ c. search needs) (λ c. search needs) (λ c κs. search needs)
+    (λ c. search needs) (λ c. search needs) (λ c. search needs) loop-again returns)

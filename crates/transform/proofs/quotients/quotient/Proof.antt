@@ -1,17 +1,8 @@
 -- `transform::quotients::quotient`: the definition's own operations.
-use mathlib.Core.Path.{_≡_, refl}
-use borrow.Author.Needs.{needs}
-use mir.Syntax.{w32}
-use mir.Val.{toZ, ofZ}
+use Rattle.algebra.specs.Prelude.{_≡_, refl, needs, w32, toZ, ofZ}
 use Rattle.transform.specs.FloatQuotient.{floatQuotient}
 use Rattle.transform.proofs.quotients.quotient.Statement.{statement}
 use Rattle.transform.proofs.quotients.quotient.Tie as tie
-
-int-to-float-a : tie.Need-int-to-float-a
-int-to-float-a c = search needs
-
-int-to-float-b : tie.Need-int-to-float-b
-int-to-float-b c = search needs
 
 returns : tie.Need-returns
 unfolding floatQuotient
@@ -22,4 +13,4 @@ returns c =
     rw (e, f) refl
 
 pub quotient-spec : {M : Type 1} → statement M
-quotient-spec = tie.close (tie.spec int-to-float-a int-to-float-b returns)
+quotient-spec = tie.close (tie.spec (λ c. search needs) (λ c. search needs) returns)

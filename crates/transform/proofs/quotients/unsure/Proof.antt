@@ -1,12 +1,6 @@
 -- `transform::quotients::unsure`: the definition's own comparisons.
-use mathlib.Core.Path.{_≡_, refl, sym, ap, ap₂, _∙_}
-use mathlib.Core.Bool.{Bool, false, _&&_, cond}
-use native.Mathlib.Omega.{arith}
-use borrow.Author.Needs.{needs}
+use Rattle.algebra.specs.Prelude.{_≡_, refl, sym, ap, ap₂, _∙_, Bool, false, cond, _&&_, arith, needs, ℤ, negsuc, w32, toZ, ofZ}
 use lib.Ieee.{Float, fin, binary64, ofBits, ofInt, add, sub, lt}
-use lib.IntN.{ℤ, negsuc}
-use mir.Syntax.{w32}
-use mir.Val.{toZ, ofZ}
 use Rattle.transform.specs.FloatQuotient.{sure}
 use Rattle.transform.proofs.quotients.unsure.Statement.{statement}
 use Rattle.transform.proofs.quotients.unsure.Tie as tie
@@ -15,9 +9,6 @@ use Rattle.transform.proofs.quotients.unsure.Tie as tie
 decided : (y : Float) {g h : ℤ} {a b : Bool} → h ≡ g → lt y (add binary64 (ofInt binary64 h) (fin false 1 (negsuc 0))) ≡ a → lt (sub binary64 (ofInt binary64 h) (fin false 1 (negsuc 0))) y ≡ b → a && b ≡ sure y g
 unfolding sure
 decided y e p q = sym (ap₂ _&&_ p q) ∙ ap (sure y) e
-
-int-to-float-h : tie.Need-int-to-float-h
-int-to-float-h c = search needs
 
 returns : tie.Need-returns
 unfolding ofBits
@@ -41,4 +32,4 @@ returns-3 c =
     (ap (λ b. cond b 0 1) (decided (s .args .y) e (c .if1 .left) refl), omega arith)
 
 pub unsure-spec : {M : Type 1} → statement M
-unsure-spec = tie.close (tie.spec int-to-float-h returns returns-2 returns-3)
+unsure-spec = tie.close (tie.spec (λ c. search needs) returns returns-2 returns-3)

@@ -1,10 +1,5 @@
 -- `transform::rows::add_back`: the rows' quotients are added one after the other.
-use mathlib.Core.Path.{sym, _∙_, subst}
-use mathlib.Core.List.{[]}
-use Prim.Native.Nat.{_-_, _^_}
-use native.Mathlib.Omega.{arith}
-use borrow.Author.Needs.{needs}
-use lib.IntN.{pos, _+ℤ_}
+use Rattle.algebra.specs.Prelude.{sym, subst, _∙_, [], _-_, _^_, arith, needs, pos, _+ℤ_}
 use Rattle.algebra.specs.Nearest.{away}
 use Rattle.sequences.specs.Tab.{tab, Filled, fill-start, fill-turn, fill-rest, fill-done}
 use Rattle.sequences.specs.Grid.{grid, cell}
@@ -22,15 +17,6 @@ Inv-loop t sum₀ y₀ sum y = Filled (λ y. tab 16 (λ x. cell (pos 0) sum₀ y
 abbrev μ-loop : tie.MeasureT-loop
 μ-loop t sum₀ y₀ sum y = 16 - y
 
-loop-holds : tie.Need-loop-holds Inv-loop μ-loop
-loop-holds c = fill-start (c .pre .1)
-
-mul-counted-line : tie.Need-mul-counted-line Inv-loop μ-loop
-mul-counted-line c = search needs
-
-index-1-counted-line : tie.Need-index-1-counted-line Inv-loop μ-loop
-index-1-counted-line c = search needs
-
 counted-line-requires : tie.Need-counted-line-requires Inv-loop μ-loop
 counted-line-requires c κs =
     let l = c .before .before in
@@ -41,12 +27,6 @@ unfolding cell
 backward-requires c κs =
     let l = c .before .before .before .before in
     row-small _ (cells-most (l .before .pre .0) (l .loop .y)) (c .before .counted-line .ensures)
-
-mul-added-row : tie.Need-mul-added-row Inv-loop μ-loop
-mul-added-row c = search needs
-
-element-copy-out-added-row : tie.Need-element-copy-out-added-row Inv-loop μ-loop
-element-copy-out-added-row c = search needs
 
 rounded-line-requires : tie.Need-rounded-line-requires Inv-loop μ-loop
 unfolding cell
@@ -61,18 +41,6 @@ added-row-requires c κs =
     let x = c .before .before .before .before .before in
     let l = x .before .before .before in
     subst (LineMost (2 ^ 40)) (sym (fill-rest (l .loop .inv) (omega arith) [])) (l .before .pre .2 .line (l .loop .y))
-
-mul-t18 : tie.Need-mul-t18 Inv-loop μ-loop
-mul-t18 c = search needs
-
-element-set-from-sum : tie.Need-element-set-from-sum Inv-loop μ-loop
-element-set-from-sum c = search needs
-
-add-y : tie.Need-add-y Inv-loop μ-loop
-add-y c = search needs
-
-loop-less : tie.Need-loop-less Inv-loop μ-loop
-loop-less c = search needs
 
 loop-again : tie.Need-loop-again Inv-loop μ-loop
 unfolding cell
@@ -89,23 +57,8 @@ unfolding grid
 returns c = fill-done (c .before .loop .inv) (omega arith)
 
 pub add-back-spec : {M : Type 1} → statement M
-add-back-spec =
-    tie.close
-    (tie.spec
-    Inv-loop
-    μ-loop
-    loop-holds
-    mul-counted-line
-    index-1-counted-line
-    counted-line-requires
-    backward-requires
-    mul-added-row
-    element-copy-out-added-row
-    rounded-line-requires
-    added-row-requires
-    mul-t18
-    element-set-from-sum
-    add-y
-    loop-less
-    loop-again
-    returns)
+add-back-spec = tie.close (tie.spec
+    Inv-loop μ-loop (λ c. fill-start (c .pre .1)) (λ c. search needs) (λ c. search needs)
+    counted-line-requires backward-requires (λ c. search needs) (λ c. search needs)
+    rounded-line-requires added-row-requires (λ c. search needs) (λ c. search needs)
+    (λ c. search needs) (λ c. search needs) loop-again returns)

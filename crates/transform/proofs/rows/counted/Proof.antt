@@ -1,9 +1,5 @@
 -- `transform::rows::counted`: twice a number of at most 12436262354944 fits.
-use mathlib.Core.Path.{sym, _∙_}
-use lib.IntN.{ℤ, pos, _*ℤ_}
-use mir.Facts.{toZ-ofZ}
-use mir.Syntax.{w64}
-use mir.Val.{SFits}
+use Rattle.algebra.specs.Prelude.{sym, _∙_, ℤ, pos, _*ℤ_, w64, SFits, toZ-ofZ}
 use Rattle.algebra.specs.Bound.{AtMost, mul-fits, lit-most}
 use Rattle.transform.specs.Magnitudes.{columnMost}
 use Rattle.transform.specs.Spectrum.{counted}

@@ -1,13 +1,5 @@
 -- `transform::rows::counted_line`: the numbers are stored one after the other, each counted.
-use mathlib.Core.Path.{_≡_, refl, sym, ap, _∙_, subst}
-use Prim.Native.Nat.{_-_}
-use native.Mathlib.Omega.{arith}
-use borrow.Author.Needs.{needs}
-use lib.IntN.{pos}
-use lib.ListN.{getD}
-use denote.Ref.{now}
-use mir.Val.{SFits, toZ, ofZ}
-use mir.Syntax.{w32, w64}
+use Rattle.algebra.specs.Prelude.{_≡_, refl, sym, ap, subst, _∙_, _-_, arith, needs, getD, pos, w32, w64, SFits, toZ, ofZ, now}
 use Rattle.algebra.specs.Bound.{AtMost, signed}
 use Rattle.sequences.specs.Tab.{Filled, fill-start, fill-turn, fill-done}
 use Rattle.transform.specs.Spectrum.{counted}
@@ -22,36 +14,12 @@ Inv-loop row r₀ k₀ r k = Filled (λ k. counted k (getD row k (pos 0))) 16 k 
 abbrev μ-loop : tie.MeasureT-loop
 μ-loop row r₀ k₀ r k = 16 - k
 
-loop-holds : tie.Need-loop-holds Inv-loop μ-loop
-loop-holds c = fill-start refl
-
-mul-counted : tie.Need-mul-counted Inv-loop μ-loop
-mul-counted c = search needs
-
-element-copy-out-counted : tie.Need-element-copy-out-counted Inv-loop μ-loop
-element-copy-out-counted c = search needs
-
-cast-counted : tie.Need-cast-counted Inv-loop μ-loop
-cast-counted c = search (needs, signed)
-
 counted-requires : tie.Need-counted-requires Inv-loop μ-loop
 counted-requires c κs =
     let l = c .before .before in
     let z = getD (now (l .before .args .row)) (l .loop .k) (pos 0) in
     let f : SFits w32 z = search needs in
     subst (AtMost columnMost) (sym (widened-is f)) (record { most = l .before .pre .at (l .loop .k) })
-
-mul-r : tie.Need-mul-r Inv-loop μ-loop
-mul-r c = search needs
-
-array-set-from-r : tie.Need-array-set-from-r Inv-loop μ-loop
-array-set-from-r c = search needs
-
-add-k : tie.Need-add-k Inv-loop μ-loop
-add-k c = search needs
-
-loop-less : tie.Need-loop-less Inv-loop μ-loop
-loop-less c = search needs
 
 loop-again : tie.Need-loop-again Inv-loop μ-loop
 loop-again c =
@@ -65,19 +33,7 @@ returns : tie.Need-returns Inv-loop μ-loop
 returns c = fill-done (c .before .loop .inv) (omega arith)
 
 pub counted-line-spec : {M : Type 1} → statement M
-counted-line-spec =
-    tie.close
-    (tie.spec
-    Inv-loop
-    μ-loop
-    loop-holds
-    mul-counted
-    element-copy-out-counted
-    cast-counted
-    counted-requires
-    mul-r
-    array-set-from-r
-    add-k
-    loop-less
-    loop-again
-    returns)
+counted-line-spec = tie.close (tie.spec
+    Inv-loop μ-loop (λ c. fill-start refl) (λ c. search needs) (λ c. search needs)
+    (λ c. search (needs, signed)) counted-requires (λ c. search needs) (λ c. search needs)
+    (λ c. search needs) (λ c. search needs) loop-again returns)

@@ -1,10 +1,5 @@
 -- `transform::rows::plus`: a sum of few terms fits.
-use mathlib.Core.Path.{sym, ap₂, _∙_, subst}
-use borrow.Author.Needs.{needs}
-use lib.IntN.{ℤ, _+ℤ_}
-use mir.Syntax.{w32, w64}
-use mir.Val.{SFits, toZ, ofZ}
-use mir.Facts.{toZ-ofZ}
+use Rattle.algebra.specs.Prelude.{sym, ap₂, subst, _∙_, needs, ℤ, _+ℤ_, w32, w64, SFits, toZ, ofZ, toZ-ofZ}
 use Rattle.algebra.specs.Bound.{AtMost, add-fits, signed}
 use Rattle.algebra.specs.Fit.{abs-sfits}
 use Rattle.lines.proofs.Held.{number-is, number-most, widened-is}
@@ -14,9 +9,6 @@ use Rattle.transform.proofs.rows.plus.Tie as tie
 widened-most : {z : ℤ} → SFits w32 z → AtMost 2147483648 (toZ w64 (ofZ w64 (toZ w32 (ofZ w32 z))))
 widened-most {z} h = subst (AtMost 2147483648) (sym (widened-is h)) (record { most = abs-sfits z h })
 
-cast-result : tie.Need-cast-result
-cast-result c = search (needs, signed)
-
 add-result : tie.Need-add-result
 add-result c = add-fits w64 _ _ _ _ (number-most w64 (c .pre) tt) (widened-most (c .fits .term)) tt
 
@@ -24,4 +16,4 @@ returns : tie.Need-returns
 returns c = toZ-ofZ (add-result c) ∙ ap₂ _+ℤ_ (number-is w64 (c .pre) tt) (widened-is (c .fits .term))
 
 pub plus-spec : {M : Type 1} → statement M
-plus-spec = tie.close (tie.spec cast-result add-result returns)
+plus-spec = tie.close (tie.spec (λ c. search (needs, signed)) add-result returns)

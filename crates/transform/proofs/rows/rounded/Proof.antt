@@ -1,14 +1,6 @@
 -- `transform::rows::rounded`: a number of at most 6520183117548879872 divided by 2^32 fits.
-use mathlib.Core.Path.{_≡_, ap, _∙_}
-use Prim.Native.Nat.{_-_, _^_}
-use native.Mathlib.Omega.{arith}
+use Rattle.algebra.specs.Prelude.{_≡_, ap, _∙_, _-_, _^_, arith, needs, lit≤, lit<, ℤ, w32, w64, SFits, toZ, ofZ, toZ-ofZ}
 use native.Mathlib.Nat.{le-trans}
-use borrow.Author.Needs.{needs}
-use lib.Dec.{lit<, lit≤}
-use lib.IntN.{ℤ}
-use mir.Syntax.{w32, w64}
-use mir.Val.{SFits, toZ, ofZ}
-use mir.Facts.{toZ-ofZ}
 use Rattle.algebra.specs.Nearest.{away}
 use Rattle.algebra.specs.Bound.{AtMost, most-fits}
 use Rattle.transform.specs.Magnitudes.{sumMost}

@@ -1,10 +1,5 @@
 -- `transform::wide::add_back`: the rows' quotients are added one after the other.
-use mathlib.Core.Path.{sym, _∙_, subst}
-use mathlib.Core.List.{[]}
-use Prim.Native.Nat.{_-_, _^_}
-use native.Mathlib.Omega.{arith}
-use borrow.Author.Needs.{needs}
-use lib.IntN.{pos, _+ℤ_}
+use Rattle.algebra.specs.Prelude.{sym, subst, _∙_, [], _-_, _^_, arith, needs, pos, _+ℤ_}
 use Rattle.algebra.specs.Nearest.{away}
 use Rattle.sequences.specs.Tab.{tab, Filled, fill-start, fill-turn, fill-rest, fill-done}
 use Rattle.sequences.specs.Grid.{grid, cell}
@@ -22,22 +17,10 @@ Inv-loop t sum₀ y₀ sum y = Filled (λ y. tab 16 (λ x. cell (pos 0) sum₀ y
 abbrev μ-loop : tie.MeasureT-loop
 μ-loop t sum₀ y₀ sum y = 16 - y
 
-loop-holds : tie.Need-loop-holds Inv-loop μ-loop
-loop-holds c = fill-start (c .pre .1)
-
-row-requires : tie.Need-row-requires Inv-loop μ-loop
-row-requires c κs = search needs
-
 backward-requires : tie.Need-backward-requires Inv-loop μ-loop
 backward-requires c κs =
     let l = c .before .before .before in
     row-small _ (λ k. cells-most (l .before .pre .0) k (l .loop .y)) (c .before .row .ensures)
-
-mul-added-row : tie.Need-mul-added-row Inv-loop μ-loop
-mul-added-row c = search needs
-
-element-copy-out-added-row : tie.Need-element-copy-out-added-row Inv-loop μ-loop
-element-copy-out-added-row c = search needs
 
 rounded-line-requires : tie.Need-rounded-line-requires Inv-loop μ-loop
 rounded-line-requires c κs =
@@ -51,18 +34,6 @@ added-row-requires c κs =
     let x = c .before .before .before .before .before in
     let l = x .before .before in
     subst (LineMost (2 ^ 40)) (sym (fill-rest (l .loop .inv) (omega arith) [])) (l .before .pre .2 .line (l .loop .y))
-
-mul-t15 : tie.Need-mul-t15 Inv-loop μ-loop
-mul-t15 c = search needs
-
-element-set-from-sum : tie.Need-element-set-from-sum Inv-loop μ-loop
-element-set-from-sum c = search needs
-
-add-y : tie.Need-add-y Inv-loop μ-loop
-add-y c = search needs
-
-loop-less : tie.Need-loop-less Inv-loop μ-loop
-loop-less c = search needs
 
 loop-again : tie.Need-loop-again Inv-loop μ-loop
 unfolding cell
@@ -79,21 +50,8 @@ unfolding grid
 returns c = fill-done (c .before .loop .inv) (omega arith)
 
 pub add-back-spec : {M : Type 1} → statement M
-add-back-spec =
-    tie.close
-    (tie.spec
-    Inv-loop
-    μ-loop
-    loop-holds
-    row-requires
-    backward-requires
-    mul-added-row
-    element-copy-out-added-row
-    rounded-line-requires
-    added-row-requires
-    mul-t15
-    element-set-from-sum
-    add-y
-    loop-less
-    loop-again
+add-back-spec = tie.close (tie.spec
+    Inv-loop μ-loop (λ c. fill-start (c .pre .1)) (λ c κs. search needs) backward-requires
+    (λ c. search needs) (λ c. search needs) rounded-line-requires added-row-requires
+    (λ c. search needs) (λ c. search needs) (λ c. search needs) (λ c. search needs) loop-again
     returns)
