@@ -234,19 +234,14 @@ fn residual(
     row: usize,
     column: usize,
 ) -> i64 {
-    let row_sum = |y| {
+    let row_sum = |y| -> i64 {
         let moved = &around.row(row + y)[column..][..tile.side];
         let pixels = tile.row(y).iter().zip(moved);
-        // At most 16 differences of at most 16380: not even the sum of their squares wraps.
-        i64::from(match difference {
-            Difference::Absolute => {
-                pixels.fold(0, |sum: u32, (a, b)| sum.wrapping_add(a.abs_diff(*b)))
-            }
-            Difference::Squared => pixels.fold(0, |sum: u32, (a, b)| {
-                let value = a.wrapping_sub(*b);
-                sum.wrapping_add(value.wrapping_mul(value) as u32)
-            }),
-        })
+        let distances = pixels.map(|(a, b)| i64::from(a.abs_diff(*b)));
+        match difference {
+            Difference::Absolute => distances.sum(),
+            Difference::Squared => distances.map(|distance| distance * distance).sum(),
+        }
     };
     (0..tile.side).map(row_sum).sum()
 }

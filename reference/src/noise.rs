@@ -137,17 +137,15 @@ fn floor_of_1024_times(value: f64) -> u64 {
 #[cfg(test)]
 mod tests {
     use super::*;
+    use crate::random::Random;
 
     #[test]
     fn floor_agrees_with_the_exact_product() {
-        let mut state = 1u64;
+        let mut random = Random::new(1);
         for _ in 0..100_000 {
-            state = state
-                .wrapping_mul(6364136223846793005)
-                .wrapping_add(1442695040888963407);
             // Exponents from 2^-40 to 2^11: the product with 1024 is exact.
-            let exponent = 983 + (state >> 58) % 52;
-            let value = f64::from_bits(exponent << 52 | (state & ((1 << 52) - 1)));
+            let exponent = 983 + random.below(52) as u64;
+            let value = f64::from_bits(exponent << 52 | random.word() >> 12);
             assert_eq!(
                 floor_of_1024_times(value),
                 (1024.0 * value).floor() as u64,
