@@ -13,7 +13,7 @@ struct Alignment {
     residuals: [u64; 7],
 }
 
-/// As in stacker.h; `shot` and `read` are the levels Ls and Lr.
+/// As in stacker.h; the levels are Ls and Lr.
 #[repr(C)]
 struct BurstFile {
     refusal: u64,
@@ -21,8 +21,8 @@ struct BurstFile {
     height: u64,
     count: u64,
     reference: u64,
-    shot: u64,
-    read: u64,
+    shot_level: u64,
+    read_level: u64,
     strength: u64,
 }
 
@@ -61,7 +61,7 @@ fn align(file: &BurstFile, samples: &[u16], vectors: &mut [i32], work: &mut [i64
 /// The curve whose levels are the file's: 1024 times shot and read, and both quotients are exact.
 #[rustfmt::skip]
 fn merge(file: &BurstFile, samples: &[u16], vectors: &[i32], output: &mut [u16], work: &mut [i64]) -> u64 {
-    let (shot, read) = (file.shot as f64 / 1024.0, file.read as f64 / 1024.0);
+    let (shot, read) = (file.shot_level as f64 / 1024.0, file.read_level as f64 / 1024.0);
     unsafe {
         stacker_merge(file.width, file.height, file.count, file.reference, shot, read, file.strength, samples.as_ptr(), samples.len(),
             vectors.as_ptr(), vectors.len(), output.as_mut_ptr(), output.len(), work.as_mut_ptr(), work.len())

@@ -21,7 +21,7 @@
        stacker_file file = stacker_read_file(bytes, length, samples, N * W * H);
        if (file.refusal != 0)
            return refused(file.refusal);     // 4 where it has more or fewer samples
-       answer = stacker_run(file.width, file.height, file.count, file.reference, file.shot / 1024.0, file.read / 1024.0, file.strength,
+       answer = stacker_run(file.width, file.height, file.count, file.reference, file.shot_level / 1024.0, file.read_level / 1024.0, file.strength,
            samples, N * W * H, vectors, VECTORS, output, W * H, work, 2 * W * H);
 
    examples/merge.c is a whole program; examples/burst_file.rs calls from Rust.
@@ -87,11 +87,11 @@ typedef struct {
     uint64_t residuals[7];
 } stacker_alignment;
 
-/* What reading a file answers: the refusal's number, or 0 with the seven values of its second line. `shot` and `read` are the levels Ls and Lr,
+/* What reading a file answers: the refusal's number, or 0 with the seven values of its second line; the levels are Ls and Lr,
    1024 times what stacker_merge and stacker_run take. */
 typedef struct {
     uint64_t refusal;
-    uint64_t width, height, count, reference, shot, read, strength;
+    uint64_t width, height, count, reference, shot_level, read_level, strength;
 } stacker_file;
 
 /* Reads a burst file into the lent samples, whose length must be the one that the file's second line asks for. */

@@ -59,7 +59,7 @@ pub record Burst : Type 0 where
 -- "those seven values (shot and read are Ls and Lr)", in the order of the names
 abbrev pub sevenOf : Header → List ℕ
 sevenOf header =
-    header .shape .width ∷ header .shape .height ∷ header .shape .count ∷ header .reference ∷ header .shot ∷ header .read ∷ header .strength ∷ []
+    header .shape .width ∷ header .shape .height ∷ header .shape .count ∷ header .reference ∷ header .«shot_level» ∷ header .«read_level» ∷ header .strength ∷ []
 
 -- "A line of names, .., then a line of those seven values .., then one line per row, frame after frame", and no byte more
 pub record BurstFile (file : List ℕ) (burst : Burst) : Type 0 where

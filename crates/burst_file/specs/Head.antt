@@ -28,8 +28,8 @@ headerOf values =
     record {
       shape = record { width = getD values 0 0; height = getD values 1 0; count = getD values 2 0 };
       reference = getD values 3 0;
-      shot = getD values 4 0;
-      read = getD values 5 0;
+      «shot_level» = getD values 4 0;
+      «read_level» = getD values 5 0;
       strength = getD values 6 0;
     }
 
@@ -37,7 +37,7 @@ headerOf values =
 unfoldable pub headerRefusal : Header → ℕ
 headerRefusal header =
     shapeRefusal (header .shape) before referenceRefusal (header .shape) (header .reference)
-    before levelRefusal (header .shot) (header .read) before strengthRefusal (header .strength)
+    before levelRefusal (header .«shot_level») (header .«read_level») before strengthRefusal (header .strength)
 
 -- the header of seven values that pass their tests
 abbrev pub tested : (values rest : List ℕ) → Part Header

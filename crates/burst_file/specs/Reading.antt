@@ -29,7 +29,7 @@ abbrev pub fileCheck : List ℕ → ℕ
 fileCheck file = numberOf (reading (λ shape. 0) file)
 
 abbrev pub refusedAnswer : ℕ → FileAnswer
-refusedAnswer number = record { refusal = number; width = 0; height = 0; count = 0; reference = 0; shot = 0; read = 0; strength = 0 }
+refusedAnswer number = record { refusal = number; width = 0; height = 0; count = 0; reference = 0; «shot_level» = 0; «read_level» = 0; strength = 0 }
 
 abbrev pub acceptedAnswer : Header → FileAnswer
 acceptedAnswer header =
@@ -39,8 +39,8 @@ acceptedAnswer header =
       height = header .shape .height;
       count = header .shape .count;
       reference = header .reference;
-      shot = header .shot;
-      read = header .read;
+      «shot_level» = header .«shot_level»;
+      «read_level» = header .«read_level»;
       strength = header .strength;
     }
 

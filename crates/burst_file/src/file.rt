@@ -36,8 +36,8 @@ fn refused(number: u64) -> FileAnswer
         height: 0,
         count: 0,
         reference: 0,
-        shot: 0,
-        read: 0,
+        shot_level: 0,
+        read_level: 0,
         strength: 0,
     }
 }
@@ -52,8 +52,8 @@ fn accepted(header: Header) -> FileAnswer
         height: shape.height as u64,
         count: shape.count as u64,
         reference: header.reference as u64,
-        shot: header.shot,
-        read: header.read,
+        shot_level: header.shot_level,
+        read_level: header.read_level,
         strength: header.strength,
     }
 }

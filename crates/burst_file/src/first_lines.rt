@@ -51,9 +51,9 @@ fn header_at(file: &[u8], at: usize) -> Header
     let height = value_at(file, width.next);
     let count = value_at(file, height.next);
     let reference = value_at(file, count.next);
-    let shot = value_at(file, reference.next);
-    let read = value_at(file, shot.next);
-    let strength = value_at(file, read.next);
+    let shot_level = value_at(file, reference.next);
+    let read_level = value_at(file, shot_level.next);
+    let strength = value_at(file, read_level.next);
     let shape = Shape {
         width: width.value as usize,
         height: height.value as usize,
@@ -62,8 +62,8 @@ fn header_at(file: &[u8], at: usize) -> Header
     Header {
         shape,
         reference: reference.value as usize,
-        shot: shot.value,
-        read: read.value,
+        shot_level: shot_level.value,
+        read_level: read_level.value,
         strength: strength.value,
     }
 }
@@ -80,7 +80,7 @@ fn header_refusal(header: Header) -> u64
     if reference != 0 {
         return reference;
     }
-    let level = level_refusal(header.shot, header.read);
+    let level = level_refusal(header.shot_level, header.read_level);
     if level != 0 {
         return level;
     }

@@ -11,6 +11,7 @@ pub use first_lines::read_head;
 use geometry::Shape;
 
 // What reading a file answers: the number of the refusal with every other field 0, or 0 with the file's seven values.
+// The levels are Ls and Lr, 1024 times a curve's shot and read.
 #[repr(C)]
 pub struct FileAnswer {
     pub refusal: u64,
@@ -18,8 +19,8 @@ pub struct FileAnswer {
     pub height: u64,
     pub count: u64,
     pub reference: u64,
-    pub shot: u64,
-    pub read: u64,
+    pub shot_level: u64,
+    pub read_level: u64,
     pub strength: u64,
 }
 
@@ -27,8 +28,8 @@ pub struct FileAnswer {
 pub struct Header {
     pub shape: Shape,
     pub reference: usize,
-    pub shot: u64,
-    pub read: u64,
+    pub shot_level: u64,
+    pub read_level: u64,
     pub strength: u64,
 }
 

@@ -60,20 +60,20 @@ same-length number {right} {length} e = rw (eq-eqb length right (sym e))
 record Passed (header : Header) : Type 0 where
   allowed : Allowed (header .shape)
   reference-below : header .reference < header .shape .count
-  shot-most : header .shot ≤ 65536
-  read-most : header .read ≤ 4194304
+  shot-most : header .«shot_level» ≤ 65536
+  read-most : header .«read_level» ≤ 4194304
   strength-most : header .strength ≤ 1024
 
 passed : (header : Header) → headerRefusal header ≡ 0 → Passed header
 unfolding headerRefusal
 passed header e =
     let shape = header .shape in
-    let levels = levelRefusal (header .shot) (header .read) in
+    let levels = levelRefusal (header .«shot_level») (header .«read_level») in
     let strength = strengthRefusal (header .strength) in
     let from1 = before-both (shapeRefusal shape) (referenceRefusal shape (header .reference) before levels before strength) e in
     let from3 = before-both (referenceRefusal shape (header .reference)) (levels before strength) (from1 .1) in
     let from9 = before-both levels strength (from3 .1) in
-    let most = levels-most (header .shot) (header .read) (from9 .0) in
+    let most = levels-most (header .«shot_level») (header .«read_level») (from9 .0) in
     record {
       allowed = allowed shape (from1 .0);
       reference-below = below-count shape (header .reference) (from3 .0);

@@ -12,7 +12,7 @@ use Rattle.report.specs.Program.{programText}
 -- a merge of the file's values: "shot and read are Ls and Lr"
 abbrev pub fileMerge : Header → Merge
 fileMerge header =
-    record { shape = header .shape; reference = header .reference; shot = header .shot; read = header .read; strength = header .strength }
+    record { shape = header .shape; reference = header .reference; shot = header .«shot_level»; read = header .«read_level»; strength = header .strength }
 
 -- the frame's names, their values and its rows
 unfoldable pub frameText : (width height : ℕ) (samples : List ℕ) → List ℕ

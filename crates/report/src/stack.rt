@@ -39,8 +39,8 @@ fn run_burst(
     let m = Merge {
         shape,
         reference: header.reference,
-        shot: header.shot,
-        read: header.read,
+        shot: header.shot_level,
+        read: header.read_level,
         strength: header.strength,
     };
     let answer = run_levels(m, samples, &mut vectors[..end], output, work);
