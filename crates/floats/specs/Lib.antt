@@ -1,0 +1,7 @@
+pub mod Fractions
+pub mod Wholes
+pub mod RelativeError
+pub mod NearestWhole
+pub mod Ranges
+pub mod LastBits
+pub mod QuotientLaws

@@ -1,0 +1,123 @@
+-- A quotient V·q/D to nearest, halves away from zero, by one division in double and one product, where V·|q| is at most 2^48: with W = V·(1 + 2^−50), rounded,
+-- x = q·(W/D) lies above V·q/D, by less than one part in 2^49, so that a half moves away from zero and what is below a half, by 1/(2·D) at least, stays below.
+use Rattle.algebra.specs.Prelude.{_≡_, refl, sym, ap, subst, _∙_, Bool, true, false, ℕ, zero, suc, _+_, _*_, _/_, _^_, _≤_, _<_, arith, lit<, lit≤, ℤ, pos, negsuc, natAbs, _*ℤ_}
+use native.Mathlib.Nat.{mul-pos, mul-one, one-mul, mul-le-mul-left, mul-le-mul-right, mul-lt-mul-of-pos-right, lt-of-lt-of-le, lt-of-mul-lt-mul-left, lt-of-mul-lt-mul-right, div-add-mod', div-eq-of-lt, mod-lt}
+use lib.Ieee.{Float, fin, binary64, round, mul, div, ofInt, unlike}
+use lib.Ieee.Scale.{round-same}
+use Rattle.algebra.specs.Nearest.{away, away-odd}
+use Rattle.floats.specs.Fractions.{Is, product-rounded, quotient-rounded}
+use Rattle.floats.specs.Wholes.{Whole, rounded-whole, whole-of}
+use Rattle.floats.specs.RelativeError.{Rounded, rounded}
+use Rattle.floats.specs.NearestWhole.{Closer}
+use Rattle.floats.specs.LastBits.{lastBits, last-bits}
+use Rattle.floats.specs.Ranges.{Between, whole-between, wider, product-between, quotient-between, rounded-between, Times, part-over, part-under, times-product, times-quotient, times-times}
+
+-- 1 + 2^−50
+unfoldable pub slightlyMore : Float
+slightlyMore = fin false (2 ^ 50 + 1) (negsuc 49)
+
+slightly-more-is : Is slightlyMore false (2 ^ 50 + 1) (2 ^ 50)
+unfolding slightlyMore
+slightly-more-is = record { digits = 2 ^ 50 + 1; exponent = negsuc 49; is = refl; value = refl }
+
+-- ---- in fractions
+
+-- x/e is above N/D by more than nothing and less than one part in 2^49: closer than a half to the whole number that N/D rounds to
+closer : (N D x e : ℕ) → 0 < D → 0 < e → N ≤ 2 ^ 48 → N * e < x * D → 2 ^ 49 * (x * D) < (2 ^ 49 + 1) * (N * e) → Closer ((2 * N + D) / (2 * D)) x e
+closer N D x e h E most above below =
+    let k = (2 * N + D) / (2 * D) in
+    let s = div-add-mod' (2 * N + D) (2 * D) in
+    let r = mod-lt (2 * N + D) (mul-pos {m = 2} (lit< tt) h) in
+    let lower : k * (2 * D) ≤ 2 * N + D = omega (arith, s) in
+    let upper : 2 * N + 1 ≤ k * (2 * D) + D = omega (arith, s, r) in
+    record {
+      over = lt-of-mul-lt-mul-right D (omega (arith, mul-le-mul-right e lower, above));
+      under = lt-of-mul-lt-mul-right D (omega (arith, mul-le-mul-right e upper, mul-le-mul-right e most, below));
+    }
+
+-- factors that are literals
+above-it : (A B n x : ℕ) → B < A → 0 < n → A * n ≤ B * x → n < x
+above-it A B n x h k l = lt-of-mul-lt-mul-left B (lt-of-lt-of-le (mul-lt-mul-of-pos-right h k) l)
+
+below-it : (A B C E n x : ℕ) → C * B < A * E → 0 < n → A * x ≤ B * n → C * x < E * n
+below-it A B C E n x h k l = lt-of-mul-lt-mul-left A (omega (arith, mul-le-mul-left C l, mul-lt-mul-of-pos-right h k))
+
+-- ---- in double
+
+-- a product and a quotient in double, each within its range
+double : (s : Bool) {j a c : ℕ} → 0 < c → j ≤ 1022 → Between j a c → Rounded binary64 (round binary64 s a c) s a c
+double s {j} {a} {c} C h r = let w = wider h r in rounded binary64 s a c C (w .low) (w .high)
+
+module _ {v d : ℕ} {y z : Float} (p : Whole y false v) (r : Whole z false d) (v-above : 0 < v) (v-most : v ≤ 2 ^ 53) (d-above : 0 < d) (d-most : d ≤ 2 ^ 53) where
+  -- W, and W/D
+  weight-between : Between (53 + 1) (v * (2 ^ 50 + 1)) (2 ^ 50)
+  weight-between =
+      let more : Between 1 (2 ^ 50 + 1) (2 ^ 50) = record { low = lit≤ tt; high = lit≤ tt } in
+      product-between (whole-between 53 v v-above v-most) more
+
+  weight : Rounded binary64 (mul binary64 y slightlyMore) false (v * (2 ^ 50 + 1)) (2 ^ 50)
+  weight = rw (product-rounded binary64 p (lit< tt) slightly-more-is (lit< tt)) (double false (lit< tt) (lit≤ tt) weight-between)
+
+  ratio-between : Between (53 + 1 + 1 + 53) (weight .num) (weight .den * d)
+  ratio-between =
+      subst (λ n. Between (53 + 1 + 1 + 53) n (weight .den * d)) (mul-one (weight .num))
+      (quotient-between (rounded-between (lit< tt) weight-between (weight .near)) (whole-between 53 d d-above d-most))
+
+  ratio : Rounded binary64 (div binary64 (mul binary64 y slightlyMore) z) false (weight .num) (weight .den * d)
+  ratio =
+      rw (quotient-rounded binary64 (weight .is) (weight .above) r (lit< tt) d-above ∙ ap (λ n. round binary64 false n (weight .den * d)) (mul-one (weight .num)))
+      (double false (mul-pos (weight .above) d-above) (lit≤ tt) ratio-between)
+
+  module _ {s : Bool} {q : ℕ} {t : Float} (u : Whole t s q) (q-above : 0 < q) (q-most : q ≤ 2 ^ 53) where
+    part-between : Between (53 + (53 + 1 + 1 + 53 + 1)) (q * ratio .num) (ratio .den)
+    part-between =
+        subst (λ n. Between (53 + (53 + 1 + 1 + 53 + 1)) (q * ratio .num) n) (one-mul (ratio .den))
+        (product-between (whole-between 53 q q-above q-most) (rounded-between (mul-pos (weight .above) d-above) ratio-between (ratio .near)))
+
+    part : Rounded binary64 (mul binary64 t (div binary64 (mul binary64 y slightlyMore) z)) (unlike s false) (q * ratio .num) (ratio .den)
+    part =
+        rw (product-rounded binary64 u (lit< tt) (ratio .is) (ratio .above) ∙ ap (round binary64 (unlike s false) (q * ratio .num)) (one-mul (ratio .den)))
+        (double (unlike s false) (ratio .above) (lit≤ tt) part-between)
+
+    -- the three together: at most 5 parts in 2^53 too much, and 7 too little
+    over : Times (2 ^ 53) (2 ^ 53 + 5) (q * (v * (2 ^ 50 + 1))) (2 ^ 50 * d) (part .num) (part .den)
+    over =
+        let w = times-quotient (part-over (weight .near)) d in
+        let c : Times (2 ^ 53) (2 ^ 53 + 3) (v * (2 ^ 50 + 1)) (2 ^ 50 * d) (ratio .num) (ratio .den) = times-times w (part-over (ratio .near)) (mul-pos (weight .above) d-above) (lit< tt) (lit≤ tt) in
+        times-times (times-product c q) (part-over (part .near)) (ratio .above) (lit< tt) (lit≤ tt)
+
+    under : Times (2 ^ 53) (2 ^ 53 + 7) (part .num) (part .den) (q * (v * (2 ^ 50 + 1))) (2 ^ 50 * d)
+    under =
+        let w = times-product (times-quotient (part-under (weight .near)) d) q in
+        let c : Times (2 ^ 54) (2 ^ 54 + 9) (part .num) (part .den) (q * weight .num) (weight .den * d) = times-times (part-under (part .near)) (times-product (part-under (ratio .near)) q) (ratio .above) (lit< tt) (lit≤ tt) in
+        times-times c w (mul-pos (weight .above) d-above) (lit< tt) (lit≤ tt)
+
+    part-closer : v * q ≤ 2 ^ 48 → Closer ((2 * (v * q) + d) / (2 * d)) (part .num) (part .den)
+    part-closer h =
+        let n : 0 < v * q * part .den = mul-pos (mul-pos v-above q-above) (part .above) in
+        closer (v * q) d (part .num) (part .den) d-above (part .above) h
+        (above-it (2 ^ 53 * (2 ^ 50 + 1)) ((2 ^ 53 + 7) * 2 ^ 50) _ _ (lit< tt) n (lower (2 ^ 53) (2 ^ 53 + 7) (2 ^ 50 + 1) (2 ^ 50) (part .num) (part .den) (under .most)))
+        (below-it (2 ^ 53 * 2 ^ 50) ((2 ^ 53 + 5) * (2 ^ 50 + 1)) _ _ _ _ (lit< tt) n (upper (2 ^ 53) (2 ^ 53 + 5) (2 ^ 50 + 1) (2 ^ 50) (part .num) (part .den) (over .most)))
+      where
+        lower : (A B m n x e : ℕ) → A * (q * (v * m) * e) ≤ B * (x * (n * d)) → A * m * (v * q * e) ≤ B * n * (x * d)
+        lower A B m n x e h = omega (arith, h)
+
+        upper : (A B m n x e : ℕ) → A * (x * (n * d)) ≤ B * (q * (v * m) * e) → A * n * (x * d) ≤ B * m * (v * q * e)
+        upper A B m n x e h = omega (arith, h)
+
+  -- halves away from zero, with q's sign; a q of 0 gives 0
+  pub quotient-away : (q : ℤ) → natAbs q ≤ 2 ^ 53 → v * natAbs q ≤ 2 ^ 48 → (2 * (v * natAbs q) + d) / (2 * d) < 2 ^ 15
+      → lastBits (mul binary64 (ofInt binary64 q) (div binary64 (mul binary64 y slightlyMore) z)) ≡ away (pos v *ℤ q) d
+  unfolding away
+  quotient-away (pos zero) m h k =
+      let e = product-rounded binary64 (whole-of binary64 (pos 0) m) (lit< tt) (ratio .is) (ratio .above)
+      ∙ round-same binary64 false (0 * ratio .num) (1 * ratio .den) 0 1 (mul-pos {m = 1} (lit< tt) (ratio .above)) (lit< tt) (omega arith) in
+      let none : Closer 0 0 1 = record { over = lit< tt; under = lit< tt } in
+      last-bits (lit< tt) none (lit< tt) false (rw e (rounded-whole binary64 false 0 (lit≤ tt)))
+      ∙ ap pos (sym (div-eq-of-lt {n = 2 * (v * 0) + d} {m = 2 * d} (omega arith)))
+  quotient-away (pos (suc n)) m h k =
+      let u = whole-of binary64 (pos (suc n)) m in
+      last-bits (part u (omega arith) m .above) (part-closer u (omega arith) m h) k false (part u (omega arith) m .is)
+  quotient-away (negsuc n) m h k =
+      let u = whole-of binary64 (negsuc n) m in
+      last-bits (part u (omega arith) m .above) (part-closer u (omega arith) m h) k true (part u (omega arith) m .is) ∙ sym (away-odd (pos (v * suc n)) d d-above)

@@ -1,0 +1,1 @@
+// Laws of rounding in double precision, each with its range; no code.
