@@ -13,6 +13,7 @@ pub mod Fit
 pub mod Code
 pub mod Forms
 pub mod Bound
+pub mod Back
 pub mod Lipschitz
 pub mod Vars
 pub mod Fraction

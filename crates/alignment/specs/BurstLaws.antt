@@ -11,8 +11,9 @@ use Rattle.geometry.specs.ShapeLaws.{tiles-most}
 use Rattle.geometry.specs.TileLaws.{level0-tiles}
 use Rattle.geometry.specs.Vectors.{otherFrame}
 use Rattle.sequences.specs.Tab.{tab, Filled, fill-start, fill-turn}
-use Rattle.sequences.specs.Write.{written, Writing, write-start, write-part, write-done, row-room, written-all}
-use Rattle.pyramid.specs.WordsLaws.{Kept, place-row, place-column}
+use Rattle.sequences.specs.Write.{written, Writing, write-start, write-part, write-done, written-all}
+use Rattle.sequences.specs.Place.{row-room, place-row, place-column}
+use Rattle.pyramid.specs.WordsLaws.{Kept}
 use Rattle.pyramid.specs.Layout.{pyramidLength, alignLength, tiles, Levels, Built}
 use Rattle.pyramid.specs.LayoutLaws.{align-fits, built-kept, levels-kept}
 use Rattle.pyramid.specs.Frame.{Frame}

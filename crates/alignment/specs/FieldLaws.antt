@@ -3,10 +3,10 @@ use Rattle.algebra.specs.Prelude.{_≡_, refl, sym, _∙_, List, ℕ, zero, suc
 use Rattle.algebra.specs.Order.{abs-mul-le}
 use Rattle.geometry.specs.Tiles.{Level, level0, level1, level2, level3, Step, step1to0, step2to1, step3to2, own, neighbour, capped}
 use Rattle.sequences.specs.Write.{written, Writing, write-start, write-turn, write-done}
-use Rattle.alignment.specs.declared.Vector.{Vector}
-use Rattle.alignment.specs.Vectors.{still, _times_, Within}
-use Rattle.alignment.specs.Residual.{Pair}
-use Rattle.alignment.specs.SearchLaws.{found-within, guess-within}
+use Rattle.search.specs.declared.Vector.{Vector}
+use Rattle.search.specs.Vectors.{still, _times_, Within}
+use Rattle.search.specs.Residual.{Pair}
+use Rattle.search.specs.SearchLaws.{found-within, guess-within}
 use Rattle.alignment.specs.Fields.{Field, tileAt, coarsest, fromCoarse, finer, field0, field1, field2, field3, numbered, part, word}
 
 -- a tile's two words

@@ -2,11 +2,11 @@
 use Rattle.algebra.specs.Prelude.{ℕ, zero, suc, _*_, _/_, _%_, ℤ}
 use Rattle.algebra.specs.Sums.{sumN}
 use Rattle.geometry.specs.Tiles.{Level, level0, level1, level2, level3, Step, step1to0, step2to1, step3to2, tileCount, origin, own, neighbour, capped}
-use Rattle.alignment.specs.declared.Tile.{Tile}
-use Rattle.alignment.specs.declared.Vector.{Vector}
-use Rattle.alignment.specs.Vectors.{still, _times_}
-use Rattle.alignment.specs.Residual.{Pair, residual}
-use Rattle.alignment.specs.Search.{found, guessed}
+use Rattle.search.specs.declared.Tile.{Tile}
+use Rattle.search.specs.declared.Vector.{Vector}
+use Rattle.search.specs.Vectors.{still, _times_}
+use Rattle.search.specs.Residual.{Pair, residual}
+use Rattle.search.specs.Search.{found, guessed}
 
 -- the vector of the tile at a row and a column of tiles
 abbrev pub Field : Type 0

@@ -4,7 +4,7 @@ use Rattle.geometry.specs.declared.Shape.{Shape}
 use Rattle.geometry.specs.Read.{Image, read}
 use Rattle.geometry.specs.Tiles.{levelSize}
 use Rattle.pyramid.specs.Pyramid.{image0, image1, image2, image3}
-use Rattle.alignment.specs.Residual.{Pair}
+use Rattle.search.specs.Residual.{Pair}
 use Rattle.alignment.specs.Fields.{Field, levelAt, field0, residualSum}
 
 -- the image of a level by its number

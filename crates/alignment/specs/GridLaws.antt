@@ -2,10 +2,11 @@
 use Rattle.algebra.specs.Prelude.{_≡_, sym, ap, ap₂, subst, _∙_, List, ℕ, _+_, _*_, _≤_, _<_, arith, length, getD, ℤ, pos, natAbs}
 use native.Mathlib.Nat.{add-assoc}
 use Rattle.geometry.specs.ReadLaws.{cell-below}
-use Rattle.pyramid.specs.WordsLaws.{Kept, place-row, place-column}
+use Rattle.sequences.specs.Place.{place-row, place-column}
+use Rattle.pyramid.specs.WordsLaws.{Kept}
 use Rattle.sequences.specs.Write.{written, written-in, written-length}
 use Rattle.alignment.specs.declared.levels.Grid.{Grid}
-use Rattle.alignment.specs.Vectors.{Within}
+use Rattle.search.specs.Vectors.{Within}
 use Rattle.alignment.specs.Fields.{Field, numbered, word}
 use Rattle.alignment.specs.FieldLaws.{word-down, word-right, word-most}
 use Rattle.alignment.specs.Grids.{fieldAt, Vectors}

@@ -12,7 +12,7 @@ use Rattle.pyramid.specs.WordsLaws.{Kept}
 use Rattle.sequences.specs.Write.{written, written-in, written-before, written-length}
 use Rattle.alignment.specs.declared.levels.Grid.{Grid}
 use Rattle.alignment.specs.declared.matching.Area.{Area}
-use Rattle.alignment.specs.Vectors.{Within}
+use Rattle.search.specs.Vectors.{Within}
 use Rattle.alignment.specs.Fields.{Field, levelAt, stepTo, tileRows, tileColumns, coarsest, finer, field0, field1, field2, field3, word, residuals, residualSum}
 use Rattle.alignment.specs.FieldLaws.{finer-agree, word-most, field0-within, field1-within, field2-within, field3-within}
 use Rattle.alignment.specs.Stored.{pairIn, Stored, Before, Few}

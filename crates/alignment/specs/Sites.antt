@@ -7,7 +7,7 @@ use Rattle.pyramid.specs.WordsLaws.{Kept}
 use Rattle.sequences.specs.Write.{written}
 use Rattle.alignment.specs.declared.levels.Grid.{Grid}
 use Rattle.alignment.specs.declared.matching.Area.{Area}
-use Rattle.alignment.specs.Residual.{Pair}
+use Rattle.search.specs.Residual.{Pair}
 use Rattle.alignment.specs.Fields.{Field, levelAt, field0, word, residualSum}
 use Rattle.alignment.specs.Stored.{pairIn, Stored}
 use Rattle.alignment.specs.Grids.{fieldAt, Vectors}

@@ -2,13 +2,13 @@
 use Rattle.algebra.specs.Prelude.{_≡_, Bool, List, ℕ, _+_, _*_, _%_, _≤_, _<_, length, ℤ, negsuc, _+ℤ_}
 use Rattle.geometry.specs.Read.{read}
 use Rattle.pyramid.specs.Words.{imageAt, Source}
-use Rattle.alignment.specs.declared.Tile.{Tile}
-use Rattle.alignment.specs.declared.Vector.{Vector}
+use Rattle.search.specs.declared.Tile.{Tile}
+use Rattle.search.specs.declared.Vector.{Vector}
 use Rattle.alignment.specs.declared.matching.Area.{Area}
 use Rattle.alignment.specs.declared.matching.Found.{Found}
-use Rattle.alignment.specs.Vectors.{Within}
-use Rattle.alignment.specs.Residual.{Pair, residual}
-use Rattle.alignment.specs.Local.{Copied}
+use Rattle.search.specs.Vectors.{Within}
+use Rattle.search.specs.Residual.{Pair, residual}
+use Rattle.search.specs.Local.{Copied}
 
 -- the images that stand there, read inside and outside
 unfoldable pub pairIn : List ℤ → Area → Pair

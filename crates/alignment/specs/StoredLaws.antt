@@ -7,21 +7,21 @@ use Rattle.geometry.specs.ReadLaws.{inside-below}
 use Rattle.geometry.specs.Tiles.{Level, Step}
 use Rattle.pyramid.specs.Words.{imageAt, Source}
 use Rattle.pyramid.specs.WordsLaws.{Kept, kept-image, kept-source}
-use Rattle.alignment.specs.declared.Tile.{Tile}
-use Rattle.alignment.specs.declared.Vector.{Vector}
+use Rattle.search.specs.declared.Tile.{Tile}
+use Rattle.search.specs.declared.Vector.{Vector}
 use Rattle.alignment.specs.declared.matching.Area.{Area}
 use Rattle.alignment.specs.declared.matching.Found.{Found}
-use Rattle.alignment.specs.declared.search.Best.{Best}
-use Rattle.alignment.specs.Vectors.{still, _plus_, Within}
-use Rattle.alignment.specs.VectorLaws.{within-more}
-use Rattle.alignment.specs.Offsets.{offset}
-use Rattle.alignment.specs.Residual.{Pair, residual}
-use Rattle.alignment.specs.Search.{found}
-use Rattle.alignment.specs.SearchLaws.{found-within}
+use Rattle.search.specs.declared.window.Best.{Best}
+use Rattle.search.specs.Vectors.{still, _plus_, Within}
+use Rattle.search.specs.VectorLaws.{within-more}
+use Rattle.search.specs.Offsets.{offset}
+use Rattle.search.specs.Residual.{Pair, residual}
+use Rattle.search.specs.Search.{found}
+use Rattle.search.specs.SearchLaws.{found-within}
 use Rattle.alignment.specs.Fields.{Field, levelAt, tileAt, coarsest, fromCoarse, finer}
-use Rattle.alignment.specs.PlaceLaws.{div-below, rem-below}
-use Rattle.alignment.specs.Local.{squareSum, Low, Window, Searched, Copied}
-use Rattle.alignment.specs.LocalLaws.{middle-residual, searched-finds}
+use Rattle.sequences.specs.Place.{row-below, column-below}
+use Rattle.search.specs.Local.{squareSum, Low, Window, Searched, Copied}
+use Rattle.search.specs.LocalLaws.{middle-residual, searched-finds}
 use Rattle.alignment.specs.Stored.{pairIn, Stored, Before, Placed, Ready, Around, answer}
 
 -- what is copied from an image is low
@@ -36,7 +36,7 @@ copied-low {words} {from} {height} {width} s {l} {n} {row} {column} room c = rec
     at : (k : ℕ) → k < n * n → 0 < n → getD l k 0 ≤ 16380
     at k h b =
         let e : getD l k 0 ≡ imageAt words from width (inside height (row +ℤ pos (k / n))) (inside width (column +ℤ pos (k % n))) =
-        ap (λ k. getD l k 0) (sym (div-add-mod' k n)) ∙ c .cell (k / n) (k % n) (div-below k n n b h) (rem-below k n b) in
+        ap (λ k. getD l k 0) (sym (div-add-mod' k n)) ∙ c .cell (k / n) (k % n) (row-below k n n h) (column-below k n n h) in
         omega (arith, e, s .holds .most (inside height (row +ℤ pos (k / n))) (inside width (column +ℤ pos (k % n))) (inside-below height (row +ℤ pos (k / n)) (s .high)) (inside-below width (column +ℤ pos (k % n)) (s .wide)))
 
 -- what copying a tile's samples asks

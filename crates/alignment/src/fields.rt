@@ -4,15 +4,15 @@ ghost use Prim.Native.Nat.{_+_, _*_, _≤_, _<_};
 ghost use lib.ListN.{length, set};
 ghost use Rattle.geometry.specs.Tiles.{level3};
 ghost use Rattle.sequences.specs.Write.{written};
-ghost use Rattle.alignment.specs.Vectors.{Within};
+ghost use Rattle.search.specs.Vectors.{Within};
 ghost use Rattle.alignment.specs.Fields.{levelAt, stepTo, coarsest, finer, word};
 ghost use Rattle.alignment.specs.Stored.{pairIn, Stored, Before, Few};
 ghost use Rattle.alignment.specs.Grids.{fieldAt, Vectors, Ends, Finest};
-use crate::Vector;
 use crate::levels::Grid;
 use crate::levels::coarsest_tile;
 use crate::levels::finer_tile;
 use crate::matching::Area;
+use search::Vector;
 
 fn put(work: &mut [i64], at: usize, v: Vector)
     requires { ⌜ (at + 1 < length (now work)) × (Within 340 v) ⌝ }

@@ -4,14 +4,11 @@ ghost use Prim.Native.Nat.{_*_, _%_, _≤_, _<_};
 ghost use lib.ListN.{length, getD};
 ghost use lib.IntN.{pos, natAbs, _*ℤ_};
 ghost use Rattle.geometry.specs.Tiles.{level3};
-ghost use Rattle.alignment.specs.Vectors.{_times_, Within};
+ghost use Rattle.search.specs.Vectors.{_times_, Within};
 ghost use Rattle.alignment.specs.Fields.{levelAt, stepTo, tileAt, coarsest, fromCoarse, finer};
 ghost use Rattle.alignment.specs.Stored.{pairIn, Stored, Placed, Ready, answer};
-ghost use Rattle.alignment.specs.Search.{found};
+ghost use Rattle.search.specs.Search.{found};
 ghost use Rattle.alignment.specs.Grids.{fieldAt, Vectors};
-use crate::Tile;
-use crate::Vector;
-use crate::copy::copy_square;
 use crate::matching::Area;
 use crate::matching::Found;
 use crate::matching::refine;
@@ -20,6 +17,9 @@ use geometry::tiles::capped;
 use geometry::tiles::neighbour;
 use geometry::tiles::origin;
 use geometry::tiles::own;
+use search::Tile;
+use search::Vector;
+use search::copy::copy_square;
 
 // A level's rows and columns of tiles, and where their vectors stand in the work area, row by row.
 pub struct Grid {

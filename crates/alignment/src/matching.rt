@@ -3,18 +3,18 @@ ghost use mathlib.Core.Path.{_≡_};
 ghost use mathlib.Core.Bool.{true, false};
 ghost use Prim.Native.Nat.{_≤_, _<_, _^_};
 ghost use lib.ListN.{length};
-ghost use Rattle.alignment.specs.Vectors.{_plus_, Within};
-ghost use Rattle.alignment.specs.Offsets.{offset};
-ghost use Rattle.alignment.specs.Residual.{residual};
-ghost use Rattle.alignment.specs.Search.{found, guessed};
+ghost use Rattle.search.specs.Vectors.{_plus_, Within};
+ghost use Rattle.search.specs.Offsets.{offset};
+ghost use Rattle.search.specs.Residual.{residual};
+ghost use Rattle.search.specs.Search.{found, guessed};
 ghost use Rattle.alignment.specs.Stored.{pairIn, Stored, Placed, Ready, Around, answer};
-use crate::Tile;
-use crate::Vector;
-use crate::copy::copy_square;
-use crate::search::Best;
-use crate::search::offset;
-use crate::search::search;
-use crate::sixteen::absolute_sum;
+use search::Tile;
+use search::Vector;
+use search::copy::copy_square;
+use search::sixteen::absolute_sum;
+use search::window::Best;
+use search::window::offset;
+use search::window::search;
 
 // Where a level's two images stand in the work area, and their size.
 pub struct Area {

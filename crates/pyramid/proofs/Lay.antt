@@ -2,9 +2,10 @@
 use Rattle.algebra.specs.Prelude.{_≡_, sym, ap₂, subst, _∙_, List, ℕ, _+_, _*_, _≤_, _<_, arith, length, ℤ, pos}
 use native.Mathlib.Nat.{zero-mul, mul-le-mul-right}
 use Rattle.geometry.specs.Read.{Image}
-use Rattle.sequences.specs.Write.{written, Writing, write-start, write-part, write-done, row-room}
+use Rattle.sequences.specs.Write.{written, Writing, write-start, write-part, write-done}
+use Rattle.sequences.specs.Place.{row-room, place-row, place-column}
 use Rattle.pyramid.specs.Words.{wordOf, laid}
-use Rattle.pyramid.specs.WordsLaws.{Kept, place-row, place-column, writing-kept}
+use Rattle.pyramid.specs.WordsLaws.{Kept, writing-kept}
 
 -- l is d after the first rows of an image
 pub record Laying (d : List ℤ) (at height width : ℕ) (image : Image) (row : ℕ) (l : List ℤ) : Type 0 where

@@ -1,11 +1,12 @@
 -- Laws of images in the work area.
 use Rattle.algebra.specs.Prelude.{_≡_, sym, ap, ap₂, subst, _∙_, List, _++_, ℕ, _+_, _-_, _*_, _/_, _%_, _≤_, _<_, arith, ℤ, pos, natAbs}
-use native.Mathlib.Nat.{mul-le-mul-right, suc-mul, mul-add-div-right, mul-add-mod-self-right, div-eq-of-lt, mod-eq-of-lt}
+use native.Mathlib.Nat.{add-assoc}
 use lib.ListN.{length, getD, take, drop, List·getD-append}
 use lib.Seq.{length-paste-head, length-take-le, getD-take}
 use Rattle.geometry.specs.Read.{Image, inside, read}
 use Rattle.geometry.specs.ReadLaws.{cell-below, inside-below}
 use Rattle.sequences.specs.Tab.{tab, length-tab}
+use Rattle.sequences.specs.Place.{row-room, place-row, place-column}
 use Rattle.sequences.specs.Write.{written, Writing, written-in, written-before, written-after, written-length}
 use Rattle.pyramid.specs.Pyramid.{halved}
 use Rattle.pyramid.specs.PyramidLaws.{halved-agree}
@@ -16,20 +17,13 @@ pub record Kept (d : List ℤ) (n : ℕ) (l : List ℤ) : Type 0 where
   pub same : length l ≡ length d
   pub kept : (k : ℕ) → k < n → getD l k (pos 0) ≡ getD d k (pos 0)
 
--- the row and the column of a place
-pub place-row : (row column width : ℕ) → column < width → (row * width + column) / width ≡ row
-place-row row column width h = mul-add-div-right (omega arith) row column ∙ omega (arith, div-eq-of-lt h)
-
-pub place-column : (row column width : ℕ) → column < width → (row * width + column) % width ≡ column
-place-column row column width h = mul-add-mod-self-right row width column ∙ mod-eq-of-lt h
-
 -- a row of an image
 pub row-held : {words : List ℤ} {from height width : ℕ} (row : ℕ) → Holds words from height width (imageAt words from width) → row < height
     → Row words (from + row * width) width
 unfolding imageAt
 row-held {words} {from} {height} {width} row h k =
     record {
-      room = omega (arith, suc-mul row width, mul-le-mul-right width k);
+      room = omega (arith, row-room row height width k);
       held = λ column l.
           record {
             here = omega (arith, cell-below row column height width k l);
@@ -37,6 +31,11 @@ row-held {words} {from} {height} {width} row h k =
             most = h .most row column k l;
           };
     }
+
+-- a part of a row
+pub row-part : {words : List ℤ} {at m : ℕ} → Row words at m → (k n : ℕ) → k + n ≤ m → Row words (at + k) n
+row-part {words} {at} {m} r k n h =
+    record { room = omega (arith, r .room); held = λ j l. rw (add-assoc at k j) (r .held (k + j) (omega arith)) }
 
 -- the image that a part holds is the one that is read there
 pub own-image : {words : List ℤ} {at height width : ℕ} {image : Image} → Holds words at height width image → (row column : ℕ) → row < height → column < width

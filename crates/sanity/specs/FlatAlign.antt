@@ -9,10 +9,10 @@ use Rattle.geometry.specs.Vectors.{otherFrame}
 use Rattle.geometry.specs.Tiles.{level0, levelTiles, levelSize}
 use Rattle.pyramid.specs.Pyramid.{bayerSum, weighted, halved, quartered, image0, image1, image2, image3}
 use Rattle.pyramid.specs.Layout.{tiles}
-use Rattle.alignment.specs.declared.Tile.{Tile}
-use Rattle.alignment.specs.declared.Vector.{Vector}
-use Rattle.alignment.specs.Vectors.{still}
-use Rattle.alignment.specs.Residual.{gap, difference, Pair, rowResidual, residual}
+use Rattle.search.specs.declared.Tile.{Tile}
+use Rattle.search.specs.declared.Vector.{Vector}
+use Rattle.search.specs.Vectors.{still}
+use Rattle.search.specs.Residual.{gap, difference, Pair, rowResidual, residual}
 use Rattle.alignment.specs.Fields.{levelAt, tileAt, tileRows, tileColumns, residualSum}
 use Rattle.alignment.specs.Frames.{levelImage, pairs, vectorsOf, residualOf}
 use Rattle.alignment.specs.Aligned.{fieldOf, sumOf, alignedVectors}

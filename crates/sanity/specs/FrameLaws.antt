@@ -10,7 +10,7 @@ use Rattle.geometry.specs.Shape.{sampleLength, outputLength}
 use Rattle.geometry.specs.Read.{Image, Sampled, sampleIndex, sampleAt}
 use Rattle.geometry.specs.ReadLaws.{cell-below}
 use Rattle.geometry.specs.Vectors.{otherFrame}
-use Rattle.pyramid.specs.WordsLaws.{place-row, place-column}
+use Rattle.sequences.specs.Place.{place-row, place-column}
 use Rattle.sanity.specs.Frames.{imageWords, frameWords, Burst, Same, Alike}
 
 -- an other frame is one of the burst's

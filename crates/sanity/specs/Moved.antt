@@ -1,14 +1,14 @@
 -- Try a tile that has moved, to within 4 of the guess: the search finds a residual of 0, and the move itself where no other offset fits as well.
 use Rattle.algebra.specs.Prelude.{_≡_, ap, _∙_, Bool, ℕ, _<_, arith, pos, _+ℤ_}
-use Rattle.alignment.specs.declared.Tile.{Tile}
-use Rattle.alignment.specs.declared.Vector.{Vector}
-use Rattle.alignment.specs.Vectors.{_plus_, Within}
-use Rattle.alignment.specs.Offsets.{offset}
-use Rattle.alignment.specs.OffsetLaws.{offset-within}
-use Rattle.alignment.specs.Residual.{difference, Pair, rowResidual, residual}
-use Rattle.alignment.specs.FirstLaws.{firstMin-most}
-use Rattle.alignment.specs.Search.{tried, chosen, found}
-use Rattle.alignment.specs.SearchLaws.{none-smaller}
+use Rattle.search.specs.declared.Tile.{Tile}
+use Rattle.search.specs.declared.Vector.{Vector}
+use Rattle.search.specs.Vectors.{_plus_, Within}
+use Rattle.search.specs.Offsets.{offset}
+use Rattle.search.specs.OffsetLaws.{offset-within}
+use Rattle.search.specs.Residual.{difference, Pair, rowResidual, residual}
+use Rattle.sequences.specs.LeastLaws.{firstMin-most}
+use Rattle.search.specs.Search.{tried, chosen, found}
+use Rattle.search.specs.SearchLaws.{none-smaller}
 use Rattle.sanity.specs.StillLaws.{sumN-zero, difference-same}
 
 -- moved by v, the other frame has the reference's samples on the tile

@@ -10,13 +10,13 @@ use Rattle.sequences.specs.Least.{firstMin}
 use Rattle.geometry.specs.declared.Shape.{Shape}
 use Rattle.geometry.specs.Shape.{Allowed, vectorLength}
 use Rattle.geometry.specs.Tiles.{Level, level0, level1, level2, level3, Step, step1to0, step2to1, step3to2}
-use Rattle.alignment.specs.declared.Tile.{Tile}
-use Rattle.alignment.specs.declared.Vector.{Vector}
-use Rattle.alignment.specs.Vectors.{still, _plus_, _times_}
-use Rattle.alignment.specs.Offsets.{downs, rights, offset}
-use Rattle.alignment.specs.Residual.{gap, difference, Pair, rowResidual, residual}
-use Rattle.alignment.specs.Search.{tried, chosen, found, three, guessed}
-use Rattle.alignment.specs.FirstLaws.{first}
+use Rattle.search.specs.declared.Tile.{Tile}
+use Rattle.search.specs.declared.Vector.{Vector}
+use Rattle.search.specs.Vectors.{still, _plus_, _times_}
+use Rattle.search.specs.Offsets.{downs, rights, offset}
+use Rattle.search.specs.Residual.{gap, difference, Pair, rowResidual, residual}
+use Rattle.search.specs.Search.{tried, chosen, found, three, guessed}
+use Rattle.sequences.specs.LeastLaws.{first}
 use Rattle.alignment.specs.Fields.{Field, part, word, tileAt, coarsest, fromCoarse, finer, field0, field1, field2, field3, tileRows, tileColumns, residuals, residualSum}
 use Rattle.alignment.specs.Aligned.{fieldOf, frameParts, partAt, alignedVectors}
 use Rattle.alignment.specs.BurstLaws.{vectors-are}

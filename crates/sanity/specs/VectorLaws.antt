@@ -8,7 +8,7 @@ use Rattle.geometry.specs.Tiles.{level0, levelTiles}
 use Rattle.geometry.specs.TileLaws.{level0-tiles}
 use Rattle.geometry.specs.Vectors.{vectorPlace, downAt, rightAt}
 use Rattle.pyramid.specs.Layout.{tiles}
-use Rattle.pyramid.specs.WordsLaws.{place-row, place-column}
+use Rattle.sequences.specs.Place.{place-row, place-column}
 use Rattle.alignment.specs.Fields.{Field, numbered, word}
 use Rattle.alignment.specs.FieldLaws.{word-down, word-right}
 use Rattle.alignment.specs.Aligned.{fieldOf, partAt, alignedVectors}

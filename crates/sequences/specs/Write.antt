@@ -1,12 +1,13 @@
 -- A list with a part of it written over: the invariant of a loop that stores f 0 .. f (n − 1) from a place on.
 use mathlib.Core.Path.{_≡_, refl, sym, ap, _∙_, subst, subst₂}
-use Rattle.algebra.specs.Prelude.{List, _++_, ℕ, zero, suc, _+_, _*_, _≤_, _<_, arith}
+use Rattle.algebra.specs.Prelude.{List, _++_, ℕ, zero, suc, _+_, _≤_, _<_, arith}
 use native.Mathlib.Numerals.{add-one}
-use native.Mathlib.Nat.{zero-add, suc-mul, mul-le-mul-right}
+use native.Mathlib.Nat.{zero-add}
 use lib.ListN.{length, getD, take, drop, set, length-set}
 use lib.Seq.{paste, paste-zero, paste-suc, length-paste, length-paste-head, length-take-le, getD-append-add, getD-take, getD-drop, ext-getD}
 use lib.ListN.{List·getD-append}
 use Rattle.sequences.specs.Tab.{tab, length-tab, getD-tab}
+use Rattle.sequences.specs.Grid.{tab-ext}
 
 -- d with f 0 .. f (n - 1) at the places from at on
 unfoldable pub written : {A : Type 0} → List A → ℕ → (ℕ → A) → ℕ → List A
@@ -57,10 +58,6 @@ module _ {A : Type 0} {d : List A} {at : ℕ} {f : ℕ → A} {n j m : ℕ} {l :
   unfolding written
   write-part {l′} is = subst (Writing d at f n (j + m)) (sym is) (parts m (omega arith))
 
--- a row of a table lies in it
-pub row-room : (row height width : ℕ) → row < height → row * width + width ≤ height * width
-row-room row height width h = omega (arith, suc-mul row width, mul-le-mul-right width h)
-
 -- what stands in the list afterwards: before, in and after the part
 module _ {A : Type 0} (d : List A) (at : ℕ) (f : ℕ → A) (n : ℕ) (z : A) (room : at + n ≤ length d) where
   head-length : length (take at d ++ take n (tab n f)) ≡ at + n
@@ -103,3 +100,8 @@ written-all z d f n e =
     let long = written-length d 0 f n z room in
     ext-getD z (written d 0 f n) (tab n f) (long ∙ e ∙ sym (length-tab f n))
     (λ i h. let below : i < n = omega (arith, long) in (rw zero-add at (written-in d 0 f n z room i below)) ∙ sym (getD-tab f z n i below))
+
+-- a part that is written over with equal values
+pub written-ext : {A : Type 0} (d : List A) (at n : ℕ) (f g : ℕ → A) → ((j : ℕ) → j < n → f j ≡ g j) → written d at f n ≡ written d at g n
+unfolding written
+written-ext d at n f g e = ap (λ l. paste d at l n) (tab-ext n f g e)

@@ -5,8 +5,8 @@ use Rattle.sequences.specs.Tab.{tab-every}
 use Rattle.geometry.specs.declared.Shape.{Shape}
 use Rattle.geometry.specs.Shape.{vectorLength}
 use Rattle.geometry.specs.Bounds.{some, vectorRefusal}
-use Rattle.alignment.specs.Vectors.{Within}
-use Rattle.alignment.specs.declared.Vector.{Vector}
+use Rattle.search.specs.Vectors.{Within}
+use Rattle.search.specs.declared.Vector.{Vector}
 use Rattle.alignment.specs.Fields.{part, word}
 use Rattle.alignment.specs.FieldLaws.{field0-within}
 use Rattle.alignment.specs.Frames.{vectorsOf}

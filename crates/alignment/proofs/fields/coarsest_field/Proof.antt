@@ -1,8 +1,8 @@
 -- Each turn writes a tile's vector behind the images, which stay as they were.
 use Rattle.geometry.specs.Tiles.{level3}
 use Rattle.pyramid.specs.WordsLaws.{Kept, writing-kept}
-use Rattle.alignment.specs.VectorLaws.{within-more}
-use Rattle.alignment.specs.PlaceLaws.{div-below, rem-below}
+use Rattle.search.specs.VectorLaws.{within-more}
+use Rattle.sequences.specs.Place.{row-below, column-below}
 use Rattle.alignment.specs.Fields.{coarsest}
 use Rattle.alignment.specs.FieldLaws.{Placing, place-start, place-turn, place-done}
 use Rattle.alignment.specs.Stored.{pairIn}
@@ -24,7 +24,7 @@ kept c = writing-kept (c .before .loop .inv .writing)
 coarsest-tile-requires : tie.Need-coarsest-tile-requires Inv-loop μ-loop
 coarsest-tile-requires c κs = let s = c .before .before .before in
     let g = s .pre .2 in
-    (kept-stored (kept (c .before)) (s .args .area) (s .pre .0) (s .pre .1), omega (arith, div-below (c .before .before .loop .k) (s .args .rows) (s .args .columns) (g .some-columns) (c .before .loop-test .taken)), omega (arith, rem-below (c .before .before .loop .k) (s .args .columns) (g .some-columns)))
+    (kept-stored (kept (c .before)) (s .args .area) (s .pre .0) (s .pre .1), omega (arith, row-below (c .before .before .loop .k) (s .args .rows) (s .args .columns) (c .before .loop-test .taken)), omega (arith, column-below (c .before .before .loop .k) (s .args .rows) (s .args .columns) (c .before .loop-test .taken)))
 
 put-requires : tie.Need-put-requires Inv-loop μ-loop
 put-requires c κs = (omega arith, within-more 340 (c .before .before .coarsest-tile .ensures .1) (lit≤ tt))

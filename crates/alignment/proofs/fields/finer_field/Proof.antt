@@ -1,6 +1,6 @@
 -- Each turn writes a tile's vector behind the images and the coarse vectors, which stay as they were.
 use Rattle.pyramid.specs.WordsLaws.{Kept, writing-kept}
-use Rattle.alignment.specs.PlaceLaws.{div-below, rem-below}
+use Rattle.sequences.specs.Place.{row-below, column-below}
 use Rattle.alignment.specs.Fields.{levelAt, stepTo, finer}
 use Rattle.alignment.specs.FieldLaws.{Placing, place-start, place-turn, place-done, finer-agree}
 use Rattle.alignment.specs.Stored.{pairIn}
@@ -24,7 +24,7 @@ kept c = writing-kept (c .before .loop .inv .writing)
 finer-tile-requires : tie.Need-finer-tile-requires Inv-loop μ-loop
 finer-tile-requires c κs = let s = c .before .before .before in
     let g = s .pre .5 in
-    (kept-stored (kept (c .before)) (s .args .area) (s .pre .0) (s .pre .1), kept-vectors (kept (c .before)) (s .args .coarse) (s .pre .3 .end) (s .pre .2), s .pre .4, omega (arith, div-below (c .before .before .loop .k) (s .args .rows) (s .args .columns) (g .some-columns) (c .before .loop-test .taken)), omega (arith, rem-below (c .before .before .loop .k) (s .args .columns) (g .some-columns)))
+    (kept-stored (kept (c .before)) (s .args .area) (s .pre .0) (s .pre .1), kept-vectors (kept (c .before)) (s .args .coarse) (s .pre .3 .end) (s .pre .2), s .pre .4, omega (arith, row-below (c .before .before .loop .k) (s .args .rows) (s .args .columns) (c .before .loop-test .taken)), omega (arith, column-below (c .before .before .loop .k) (s .args .rows) (s .args .columns) (c .before .loop-test .taken)))
 
 put-requires : tie.Need-put-requires Inv-loop μ-loop
 put-requires c κs = (omega arith, c .before .before .finer-tile .ensures .1)

@@ -2,8 +2,8 @@
 use native.Mathlib.Nat.{mul-le-mul}
 use Rattle.geometry.specs.Tiles.{level0}
 use Rattle.sequences.specs.Sum.{Summed, sum-start, sum-turn, sum-done, sum-most}
-use Rattle.alignment.specs.PlaceLaws.{div-below, rem-below}
-use Rattle.alignment.specs.Residual.{residual}
+use Rattle.sequences.specs.Place.{row-below, column-below}
+use Rattle.search.specs.Residual.{residual}
 use Rattle.alignment.specs.Fields.{tileAt, numbered, residuals}
 use Rattle.alignment.specs.FieldLaws.{Placing, place-start, place-turn, place-done}
 use Rattle.alignment.specs.Stored.{pairIn, Few}
@@ -27,7 +27,7 @@ mul-k-end c = omega (arith, few (c .args .rows) (c .args .columns) (c .pre .2))
 finer-tile-requires : tie.Need-finer-tile-requires Inv-loop μ-loop
 finer-tile-requires c κs = let s = c .before .before in
     let g = s .pre .2 in
-    (s .pre .0, s .pre .1, omega arith, omega (arith, div-below (c .before .loop .k) (s .args .rows) (s .args .columns) (g .some-columns) (c .loop-test .taken)), omega (arith, rem-below (c .before .loop .k) (s .args .columns) (g .some-columns)))
+    (s .pre .0, s .pre .1, omega arith, omega (arith, row-below (c .before .loop .k) (s .args .rows) (s .args .columns) (c .loop-test .taken)), omega (arith, column-below (c .before .loop .k) (s .args .rows) (s .args .columns) (c .loop-test .taken)))
 
 hand-over-requires : tie.Need-hand-over-requires Inv-loop μ-loop
 hand-over-requires c κs = (omega arith, c .before .before .finer-tile .ensures .1)

@@ -1,7 +1,7 @@
 -- A small part is cast without loss.
 use Rattle.algebra.specs.Prelude.{_≡_, _∙_, _≤_, needs, ℤ, natAbs, w32, w64, SFits, toZ, ofZ, toZ-ofZ}
 use Rattle.algebra.specs.Bound.{most-fits}
-use Rattle.alignment.specs.SignedLaws.{back-small}
+use Rattle.algebra.specs.Back.{back-small}
 use Rattle.alignment.proofs.fields.hand_over.Statement.{statement}
 use Rattle.alignment.proofs.fields.hand_over.Tie as tie
 

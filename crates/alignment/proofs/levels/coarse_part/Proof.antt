@@ -3,7 +3,7 @@ use Rattle.algebra.specs.Prelude.{refl, ℕ, _≤_, arith, needs, getD, ℤ, po
 use mir.ValLaws.{toZ-pos}
 use Rattle.algebra.specs.Order.{abs-mul-le}
 use Rattle.algebra.specs.Bound.{mul-fits}
-use Rattle.alignment.specs.SignedLaws.{back-small}
+use Rattle.algebra.specs.Back.{back-small}
 use Rattle.alignment.proofs.levels.coarse_part.Statement.{statement}
 use Rattle.alignment.proofs.levels.coarse_part.Tie as tie
 

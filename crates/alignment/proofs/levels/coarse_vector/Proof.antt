@@ -2,9 +2,9 @@
 use Rattle.algebra.specs.Prelude.{_≡_, List, ℕ, _+_, _*_, _<_, arith, getD, ℤ, pos, _*ℤ_}
 use native.Mathlib.Nat.{add-assoc}
 use Rattle.geometry.specs.ReadLaws.{cell-below}
-use Rattle.alignment.specs.declared.Vector.{Vector}
-use Rattle.alignment.specs.Vectors.{_times_}
-use Rattle.alignment.specs.SignedLaws.{back}
+use Rattle.search.specs.declared.Vector.{Vector}
+use Rattle.search.specs.Vectors.{_times_}
+use Rattle.algebra.specs.Back.{back}
 use Rattle.alignment.specs.Grids.{fieldAt}
 use Rattle.alignment.proofs.levels.coarse_vector.Statement.{statement}
 use Rattle.alignment.proofs.levels.coarse_vector.Tie as tie

@@ -1,7 +1,7 @@
 -- The reference's samples of the tile are copied, and the search starts from no motion.
 use Rattle.algebra.specs.Prelude.{true, arith, needs, lit≤}
 use Rattle.geometry.specs.Tiles.{level3}
-use Rattle.alignment.specs.Vectors.{still}
+use Rattle.search.specs.Vectors.{still}
 use Rattle.alignment.specs.Stored.{pairIn}
 use Rattle.alignment.specs.StoredLaws.{copyable, ready, answer-within, coarsest-answer}
 use Rattle.alignment.proofs.levels.coarsest_tile.Statement.{statement}

@@ -1,11 +1,11 @@
 -- The coarse indices and the three vectors are those of the definition.
 use Rattle.geometry.specs.Tiles.{Step, own, neighbour, capped}
-use Rattle.alignment.specs.declared.Tile.{Tile}
-use Rattle.alignment.specs.declared.Vector.{Vector}
-use Rattle.alignment.specs.Vectors.{_times_}
-use Rattle.alignment.specs.Residual.{Pair}
-use Rattle.alignment.specs.Search.{found, guessed}
-use Rattle.alignment.specs.SearchLaws.{guess-within}
+use Rattle.search.specs.declared.Tile.{Tile}
+use Rattle.search.specs.declared.Vector.{Vector}
+use Rattle.search.specs.Vectors.{_times_}
+use Rattle.search.specs.Residual.{Pair}
+use Rattle.search.specs.Search.{found, guessed}
+use Rattle.search.specs.SearchLaws.{guess-within}
 use Rattle.alignment.specs.Fields.{Field, stepTo, fromCoarse}
 use Rattle.alignment.specs.Stored.{pairIn, answer}
 use Rattle.alignment.specs.StoredLaws.{answer-within}

@@ -1,8 +1,8 @@
 -- The side is twice the half step, and the origins are those of the definition.
 use Rattle.algebra.specs.Prelude.{_≡_, ℕ, _*_, arith, needs, ℤ}
 use Rattle.geometry.specs.Tiles.{Level, origin}
-use Rattle.alignment.specs.declared.Tile.{Tile}
-use Rattle.alignment.specs.SignedLaws.{back}
+use Rattle.search.specs.declared.Tile.{Tile}
+use Rattle.algebra.specs.Back.{back}
 use Rattle.alignment.specs.Fields.{levelAt, tileAt}
 use Rattle.alignment.proofs.levels.tile_at.Statement.{statement}
 use Rattle.alignment.proofs.levels.tile_at.Tie as tie

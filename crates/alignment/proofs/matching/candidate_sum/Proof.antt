@@ -1,8 +1,8 @@
 -- The other image's square at the moved tile is copied, and the sum of the two arrays is the residual.
 use Rattle.algebra.specs.Prelude.{ap, _∙_, false, _^_, arith, needs, lit≤}
-use Rattle.alignment.specs.VectorLaws.{within-more, plus-within}
+use Rattle.search.specs.VectorLaws.{within-more, plus-within}
 use Rattle.alignment.specs.Stored.{pairIn}
-use Rattle.alignment.specs.LocalLaws.{moved-residual}
+use Rattle.search.specs.LocalLaws.{moved-residual}
 use Rattle.alignment.specs.StoredLaws.{copied-low}
 use Rattle.alignment.proofs.matching.candidate_sum.Statement.{statement}
 use Rattle.alignment.proofs.matching.candidate_sum.Tie as tie

@@ -1,5 +1,5 @@
 -- Four ways through the two tests, each the definition's.
-use Rattle.alignment.specs.SearchLaws.{guess-own, guess-sideways, guess-third, guess-last}
+use Rattle.search.specs.SearchLaws.{guess-own, guess-sideways, guess-third, guess-last}
 use Rattle.alignment.specs.Stored.{pairIn}
 use borrow.Author.Needs.{needs}
 use Rattle.alignment.proofs.matching.guess.Statement.{statement}

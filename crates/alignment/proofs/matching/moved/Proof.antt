@@ -1,7 +1,7 @@
 -- The sum of the guess and the offset.
 use Rattle.algebra.specs.Prelude.{refl, ap, _∙_, _^_, needs, lit≤}
-use Rattle.alignment.specs.Vectors.{_plus_}
-use Rattle.alignment.specs.VectorLaws.{within-more}
+use Rattle.search.specs.Vectors.{_plus_}
+use Rattle.search.specs.VectorLaws.{within-more}
 use Rattle.alignment.proofs.matching.moved.Statement.{statement}
 use Rattle.alignment.proofs.matching.moved.Tie as tie
 

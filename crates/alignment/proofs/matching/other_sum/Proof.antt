@@ -1,6 +1,6 @@
 -- The residual of the same candidate is known.
 use Rattle.algebra.specs.Prelude.{sym, ap, _∙_, false, needs}
-use Rattle.alignment.specs.Residual.{residual}
+use Rattle.search.specs.Residual.{residual}
 use Rattle.alignment.specs.Stored.{pairIn}
 use Rattle.alignment.proofs.matching.other_sum.Statement.{statement}
 use Rattle.alignment.proofs.matching.other_sum.Tie as tie

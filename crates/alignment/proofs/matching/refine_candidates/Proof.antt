@@ -1,9 +1,9 @@
 -- The residual in the middle of the window is the own candidate's; the window is searched where that one is the guess.
 use Rattle.algebra.specs.Prelude.{sym, ap, _∙_, arith, needs, lit≤}
-use Rattle.alignment.specs.Search.{found}
+use Rattle.search.specs.Search.{found}
 use Rattle.alignment.specs.Stored.{pairIn, answer}
 use Rattle.alignment.specs.StoredLaws.{window-low, guess-residual, search-answer}
-use Rattle.alignment.specs.SixteenLaws.{low-less, low-square}
+use Rattle.search.specs.SixteenLaws.{low-less, low-square}
 use Rattle.alignment.proofs.matching.refine_candidates.Statement.{statement}
 use Rattle.alignment.proofs.matching.refine_candidates.Tie as tie
 

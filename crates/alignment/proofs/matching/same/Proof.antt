@@ -1,7 +1,7 @@
 -- Small parts of equal bits are equal.
 use Rattle.algebra.specs.Prelude.{_≡_, sym, ap, ap₂, subst, _∙_, _≤_, T, ℤ, natAbs, w64, toZ, ofZ}
 use borrow.Author.Tests.{eqb-true}
-use Rattle.alignment.specs.SignedLaws.{back-small}
+use Rattle.algebra.specs.Back.{back-small}
 use Rattle.alignment.proofs.matching.same.Statement.{statement}
 use Rattle.alignment.proofs.matching.same.Tie as tie
 

@@ -1,5 +1,5 @@
 -- Small sums come back from their bits.
-use Rattle.alignment.specs.SignedLaws.{sum-fits, sum-back}
+use Rattle.algebra.specs.Back.{sum-fits, sum-back}
 use Prim.Native.Nat.{_^_}
 use Rattle.alignment.proofs.matching.sum.Statement.{statement}
 use Rattle.alignment.proofs.matching.sum.Tie as tie

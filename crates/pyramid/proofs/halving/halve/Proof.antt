@@ -3,7 +3,7 @@ use Rattle.algebra.specs.Prelude.{_≡_, refl, ap, _+_, _-_, _*_, _/_, _≤_, a
 use Rattle.pyramid.specs.Pyramid.{halved}
 use Rattle.pyramid.specs.Words.{imageAt}
 use Rattle.pyramid.specs.WordsLaws.{kept-source, kept-halved}
-use Rattle.sequences.specs.Write.{row-room}
+use Rattle.sequences.specs.Place.{row-room}
 use Rattle.pyramid.proofs.Lay.{Laying, lay-start, lay-turn, lay-done, laying-kept}
 use Rattle.pyramid.proofs.halving.halve.Statement.{statement}
 use Rattle.pyramid.proofs.halving.halve.Tie as tie

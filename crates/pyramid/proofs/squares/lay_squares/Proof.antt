@@ -1,7 +1,7 @@
 -- Level 0 is laid row by row.
 use Rattle.geometry.specs.Read.{sampleAt}
 use Rattle.pyramid.specs.Pyramid.{bayerSum}
-use Rattle.sequences.specs.Write.{row-room}
+use Rattle.sequences.specs.Place.{row-room}
 use Rattle.pyramid.proofs.Lay.{Laying, lay-start, lay-turn, lay-done}
 use Rattle.algebra.specs.Prelude.{refl, _+_, _-_, _*_, _/_, _≤_, arith, needs}
 use Rattle.pyramid.proofs.squares.lay_squares.Statement.{statement}

@@ -1,0 +1,28 @@
+-- Each turn stores one column's sum.
+use Rattle.search.specs.SixteenLaws.{low-less}
+use Rattle.sequences.specs.Tab.{Filled, fill-start, fill-turn, fill-done}
+use Rattle.search.specs.Local.{over, columnSum}
+use Rattle.algebra.specs.Prelude.{refl, _+_, _-_, arith, needs}
+use Rattle.search.proofs.sixteen.over_columns.Statement.{statement}
+use Rattle.search.proofs.sixteen.over_columns.Tie as tie
+
+abbrev Inv-loop : tie.InvT-loop
+Inv-loop tile window a b stride sums₀ j₀ sums j = Filled (λ k. columnSum over tile window (a + k) (b + k) stride) 16 j sums₀ sums
+
+abbrev μ-loop : tie.MeasureT-loop
+μ-loop tile window a b stride sums₀ j₀ sums j = 16 - j
+
+over-column-requires : tie.Need-over-column-requires Inv-loop μ-loop
+over-column-requires c κs = let s = c .before .before .before in (s .pre .0, omega arith, low-less (s .pre .2) _ (omega arith), s .pre .3)
+
+loop-again : tie.Need-loop-again Inv-loop μ-loop
+loop-again c = fill-turn (c .before .before .loop .inv) (omega arith) (c .over-column .ensures .0)
+
+returns : tie.Need-returns Inv-loop μ-loop
+returns c = fill-done (c .before .loop .inv) (omega arith)
+
+pub over-columns-spec : {M : Type 1} → statement M
+over-columns-spec = tie.close (tie.spec
+    Inv-loop μ-loop (λ c. fill-start refl) (λ c. search needs) (λ c. search needs)
+    over-column-requires (λ c. search needs) (λ c. search needs) (λ c. search needs)
+    (λ c. search needs) loop-again returns)

@@ -1,0 +1,23 @@
+-- Each turn copies one sample.
+use Rattle.sequences.specs.Tab.{Filled, fill-start, fill-turn, fill-done}
+use Rattle.algebra.specs.Prelude.{refl, _-_, arith, needs, getD}
+use Rattle.search.proofs.window.copied.Statement.{statement}
+use Rattle.search.proofs.window.copied.Tie as tie
+
+abbrev Inv-loop : tie.InvT-loop
+Inv-loop tile own₀ k₀ own k = Filled (λ k. getD tile k 0) 256 k own₀ own
+
+abbrev μ-loop : tie.MeasureT-loop
+μ-loop tile own₀ k₀ own k = 256 - k
+
+loop-again : tie.Need-loop-again Inv-loop μ-loop
+loop-again c = fill-turn (c .before .before .loop .inv) (omega arith) refl
+
+returns : tie.Need-returns Inv-loop μ-loop
+returns c = fill-done (c .before .loop .inv) (omega arith)
+
+pub copied-spec : {M : Type 1} → statement M
+copied-spec = tie.close (tie.spec
+    Inv-loop μ-loop (λ c. fill-start refl) (λ c. search needs) (λ c. search needs)
+    (λ c. search needs) (λ c. search needs) (λ c. search needs) (λ c. search needs) loop-again
+    returns)

@@ -1,0 +1,11 @@
+pub mod Vectors
+pub mod Residual
+pub mod Offsets
+pub mod Search
+pub mod Local
+pub mod VectorLaws
+pub mod OffsetLaws
+pub mod SearchLaws
+pub mod SixteenLaws
+pub mod BoxLaws
+pub mod LocalLaws

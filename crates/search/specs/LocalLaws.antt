@@ -1,0 +1,107 @@
+-- What is found in local arrays is what the definitions say of the images that were copied there.
+use Rattle.algebra.specs.Prelude.{_≡_, refl, ap, ap₂, subst, _∙_, Bool, List, ℕ, _+_, _*_, _≤_, _<_, arith, length, getD}
+use native.Mathlib.Nat.{mul-le-mul-right}
+use borrow.Author.Count.{below-more}
+use lib.IntN.{ℤ, pos, negsuc, _+ℤ_, _-ℤ_, +ℤ-idr}
+use Rattle.algebra.specs.Sums.{sumN-cong}
+use Rattle.algebra.specs.Order.{zarith, add-pn, sub-pn}
+use Rattle.sequences.specs.Write.{written, written-in, written-before}
+use Rattle.search.specs.declared.Tile.{Tile}
+use Rattle.search.specs.declared.Vector.{Vector}
+use Rattle.search.specs.Vectors.{_plus_}
+use Rattle.search.specs.Offsets.{downs, rights, offset}
+use Rattle.search.specs.OffsetLaws.{parts-most}
+use Rattle.sequences.specs.Place.{row-room}
+use Rattle.search.specs.Residual.{difference, Pair, rowResidual, residual}
+use Rattle.search.specs.Search.{tried, chosen, found}
+use Rattle.sequences.specs.LeastLaws.{firstMin-most, firstMin-cong, Lowest, lowest-done}
+use Rattle.search.specs.declared.window.Best.{Best}
+use Rattle.search.specs.Local.{rowSum, squareSum, Inside, windowSum, Window, Searched, Copied}
+
+-- each of the 81 windows lies within its array
+pub window-inside : {tile window : List ℕ} {side : ℕ} → Window tile window side → (k : ℕ) → k < 81 → Inside tile window (getD downs k 0 * (side + 8) + getD rights k 0) (side + 8) side
+window-inside {side = side} w k h =
+    record {
+      small = w .small;
+      narrow = omega (arith, w .small);
+      tile-room = w .tile-low .room;
+      window-room = omega (arith, w .window-low .room, mul-le-mul-right (side + 8) (parts-most k h .0), parts-most k h .1);
+    }
+
+-- one row more
+pub copied-turn : {l : List ℕ} {i n : ℕ} {f : ℤ → ℤ → ℕ} {row column : ℤ} → Copied l i n f row column → i * n + n ≤ length l → (g : ℕ → ℕ) → ((j : ℕ) → g j ≡ f (row +ℤ pos i) (column +ℤ pos j)) → Copied (written l (i * n) g n) (i + 1) n f row column
+copied-turn {l} {i} {n} {f} {row} {column} c room g e =
+    record {
+      cell = λ k j h m.
+          below-more (λ k. getD (written l (i * n) g n) (k * n + j) 0 ≡ f (row +ℤ pos k) (column +ℤ pos j)) i
+          (λ k b. written-before l (i * n) g n 0 room (k * n + j) (omega (arith, row-room _ _ n b)) ∙ c .cell k j b m)
+          (written-in l (i * n) g n 0 room j m ∙ e j) k h;
+    }
+
+same-place : (a b c i d : ℤ) → a +ℤ b ≡ c +ℤ d → a +ℤ (b +ℤ i) ≡ c +ℤ i +ℤ d
+same-place a b c i d e =
+    omega (zarith, add-pn a b, add-pn c d, add-pn a (b +ℤ i), add-pn b i, add-pn (c +ℤ i) d, add-pn c i)
+
+cell-place : (y x i j start stride : ℕ) → start ≡ y * stride + x → start + i * stride + j ≡ (y + i) * stride + (x + j)
+cell-place y x i j start stride e = omega arith
+
+-- The tile's array against a window's, which starts y rows and x columns above the tile moved by v
+module _ (squared : Bool) (p : Pair) (t : Tile) (v : Vector) (tile window : List ℕ) (start stride y x : ℕ) (row column : ℤ)
+    (copied : Copied tile (t .side) (t .side) (p .reference) (t .origin .down) (t .origin .right)) (seen : Copied window stride stride (p .other) row column)
+    (high : y + t .side ≤ stride) (wide : x + t .side ≤ stride) (from : start ≡ y * stride + x)
+    (down : row +ℤ pos y ≡ t .origin .down +ℤ v .down) (right : column +ℤ pos x ≡ t .origin .right +ℤ v .right) where
+  square-residual : squareSum squared tile window start stride (t .side) ≡ residual squared p t v
+  unfolding squareSum rowSum residual rowResidual
+  square-residual =
+      sumN-cong (t .side) _ _
+      (λ i h. sumN-cong (t .side) _ _
+      (λ j k. ap₂ (difference squared) (copied .cell i j h k)
+      (ap (λ n. getD window n 0) (cell-place y x i j start stride from)
+      ∙ seen .cell (y + i) (x + j) (omega arith) (omega arith)
+      ∙ ap₂ (p .other) (same-place row (pos y) (t .origin .down) (pos i) (v .down) down) (same-place column (pos x) (t .origin .right) (pos j) (v .right) right))))
+
+biased : (r g n : ℤ) → r +ℤ g +ℤ negsuc 3 +ℤ n ≡ r +ℤ (g +ℤ (n -ℤ pos 4))
+biased r g n =
+    omega (zarith, add-pn (r +ℤ g +ℤ negsuc 3) n, add-pn (r +ℤ g) (negsuc 3), add-pn r g, add-pn r (g +ℤ (n -ℤ pos 4)), add-pn g (n -ℤ pos 4), sub-pn n (pos 4))
+
+-- the sums in a window that starts 4 rows and columns before the tile moved by the guess are the residuals that are tried
+window-tried : (squared : Bool) (p : Pair) (t : Tile) (guess : Vector) (tile window : List ℕ) → Copied tile (t .side) (t .side) (p .reference) (t .origin .down) (t .origin .right) → Copied window (t .side + 8) (t .side + 8) (p .other) (t .origin .down +ℤ guess .down +ℤ negsuc 3) (t .origin .right +ℤ guess .right +ℤ negsuc 3) → (k : ℕ) → k < 81 → windowSum squared tile window (t .side) k ≡ tried squared p t guess k
+unfolding windowSum tried offset
+window-tried squared p t guess tile window copied seen k h =
+    square-residual squared p t (guess plus offset k) tile window (getD downs k 0 * (t .side + 8) + getD rights k 0) (t .side + 8) (getD downs k 0) (getD rights k 0) (t .origin .down +ℤ guess .down +ℤ negsuc 3) (t .origin .right +ℤ guess .right +ℤ negsuc 3) copied seen
+    (omega (arith, parts-most k h .0)) (omega (arith, parts-most k h .1)) refl
+    (biased (t .origin .down) (guess .down) (pos (getD downs k 0))) (biased (t .origin .right) (guess .right) (pos (getD rights k 0)))
+
+-- a square of the other image at the tile moved by v, of side n
+pub moved-residual : (squared : Bool) (p : Pair) (t : Tile) (v : Vector) (tile moved : List ℕ) (row column : ℤ) (n : ℕ) → t .side ≡ n → Copied tile (t .side) (t .side) (p .reference) (t .origin .down) (t .origin .right) → Copied moved n n (p .other) row column → row ≡ t .origin .down +ℤ v .down → column ≡ t .origin .right +ℤ v .right → squareSum squared tile moved 0 n n ≡ residual squared p t v
+moved-residual squared p t v tile moved row column n e copied seen down right =
+    subst (λ n. Copied moved n n (p .other) row column → squareSum squared tile moved 0 n n ≡ residual squared p t v) e
+    (λ seen. square-residual squared p t v tile moved 0 (t .side) 0 0 row column copied seen (omega arith) (omega arith) (omega arith) (+ℤ-idr row ∙ down) (+ℤ-idr column ∙ right))
+    seen
+
+middle : (r g : ℤ) → r +ℤ g +ℤ negsuc 3 +ℤ pos 4 ≡ r +ℤ g
+middle r g = omega (zarith, add-pn (r +ℤ g +ℤ negsuc 3) (pos 4), add-pn (r +ℤ g) (negsuc 3))
+
+-- the middle of such a window is the square at the tile moved by the guess
+pub middle-residual : (squared : Bool) (p : Pair) (t : Tile) (guess : Vector) (tile window : List ℕ) → Copied tile (t .side) (t .side) (p .reference) (t .origin .down) (t .origin .right) → Copied window (t .side + 8) (t .side + 8) (p .other) (t .origin .down +ℤ guess .down +ℤ negsuc 3) (t .origin .right +ℤ guess .right +ℤ negsuc 3) → squareSum squared tile window (4 * (t .side + 8) + 4) (t .side + 8) (t .side) ≡ residual squared p t guess
+middle-residual squared p t guess tile window copied seen =
+    square-residual squared p t guess tile window (4 * (t .side + 8) + 4) (t .side + 8) 4 4 (t .origin .down +ℤ guess .down +ℤ negsuc 3) (t .origin .right +ℤ guess .right +ℤ negsuc 3) copied seen
+    (omega arith) (omega arith) refl (middle (t .origin .down) (guess .down)) (middle (t .origin .right) (guess .right))
+
+-- the first least sum in the window is what the search finds
+pub searched-finds : (squared : Bool) (p : Pair) (t : Tile) (guess : Vector) (tile window : List ℕ) (best : Best) → Copied tile (t .side) (t .side) (p .reference) (t .origin .down) (t .origin .right) → Copied window (t .side + 8) (t .side + 8) (p .other) (t .origin .down +ℤ guess .down +ℤ negsuc 3) (t .origin .right +ℤ guess .right +ℤ negsuc 3) → Searched squared tile window (t .side) best → (best .offset ≡ chosen squared p t guess) × (best .residual ≡ residual squared p t (found squared p t guess))
+unfolding chosen found tried
+searched-finds squared p t guess tile window best copied seen s =
+    let e = s .is ∙ firstMin-cong (windowSum squared tile window (t .side)) (tried squared p t guess) 80 (λ k h. window-tried squared p t guess tile window copied seen k (omega arith)) in
+    (e, s .low ∙ window-tried squared p t guess tile window copied seen (best .offset) (s .within) ∙ ap (tried squared p t guess) e)
+
+-- the lowest of the 81 sums is what is searched for
+pub lowest-searched : {squared : Bool} {tile window : List ℕ} {side b top k at low : ℕ} → Lowest (windowSum squared tile window side) b top 81 k at low → 81 ≤ k → b ≤ 4397912294400 → Searched squared tile window side (record { offset = at; residual = low })
+lowest-searched {squared} {tile} {window} {side} w h l =
+    let d = lowest-done w h in
+    record {
+      is = d .0;
+      low = d .1;
+      within = omega (arith, d .0, firstMin-most (windowSum squared tile window side) 80);
+      most = omega (arith, d .2);
+    }

@@ -1,0 +1,90 @@
+-- The table of offsets is the square −4..4, each offset once, in tie order: one computed test of its order and one of the square.
+use Rattle.algebra.specs.Prelude.{_≡_, refl, Bool, true, false, cond, ℕ, zero, suc, _≤_, _<_, getD, ℤ, pos, natAbs, _+ℤ_, _-ℤ_}
+use lib.Dec.{T, ltb, eqb, leb, ltb→lt, leb→le, eqb→eq}
+use Rattle.algebra.specs.Test.{both, both-l, both-r, all, all-sound}
+use Rattle.algebra.specs.Order.{zarith, abs-pn, min-pn, add-pn, sub-pn}
+use Rattle.search.specs.declared.Vector.{Vector}
+use Rattle.search.specs.Vectors.{Within}
+use Rattle.search.specs.Offsets.{downs, rights, offset, earlier}
+
+abbrev same : Bool → Bool → Bool
+same true b = b
+same false true = false
+same false false = true
+
+same-eq : (a b : Bool) → T (same a b) → a ≡ b
+same-eq true true t = refl
+same-eq true false t = absurd t
+same-eq false true t = absurd t
+same-eq false false t = refl
+
+ordered : T (all 81 (λ i. all 81 (λ k. same (ltb i k) (earlier (offset i) (offset k)))))
+unfolding downs rights offset earlier
+ordered = tt
+
+-- of two offsets of the table the earlier one by the rule comes first
+pub offset-order : (i k : ℕ) → i < 81 → k < 81 → ltb i k ≡ earlier (offset i) (offset k)
+offset-order i k h l =
+    same-eq (ltb i k) (earlier (offset i) (offset k))
+    (all-sound 81 (λ k. same (ltb i k) (earlier (offset i) (offset k)))
+    (all-sound 81 (λ i. all 81 (λ k. same (ltb i k) (earlier (offset i) (offset k)))) ordered i h) k l)
+
+-- where the table has the parts d and r, plus 4
+place : ℕ → ℕ → ℕ → ℕ
+place zero d r = 0
+place (suc n) d r = cond (both (eqb (getD downs n 0) d) (eqb (getD rights n 0) r)) n (place n d r)
+
+abbrev has : ℕ → ℕ → ℕ → Bool
+has k d r = both (ltb k 81) (both (eqb (getD downs k 0) d) (eqb (getD rights k 0) r))
+
+square : T (all 9 (λ d. all 9 (λ r. has (place 81 d r) d r)))
+unfolding downs rights place
+square = tt
+
+biased : (z : ℤ) → natAbs z ≤ 4 → pos (natAbs (z +ℤ pos 4)) -ℤ pos 4 ≡ z
+biased z h =
+    omega (zarith, abs-pn z, abs-pn (z +ℤ pos 4), min-pn (z +ℤ pos 4), add-pn z (pos 4), sub-pn (pos (natAbs (z +ℤ pos 4))) (pos 4))
+
+bias-most : (z : ℤ) → natAbs z ≤ 4 → natAbs (z +ℤ pos 4) < 9
+bias-most z h = omega (zarith, abs-pn z, abs-pn (z +ℤ pos 4), min-pn z, min-pn (z +ℤ pos 4), add-pn z (pos 4))
+
+-- each offset of the square stands in the table
+pub offset-at : (o : Vector) → Within 4 o → (k : ℕ) × (k < 81) × (offset k ≡ o)
+unfolding offset
+offset-at o w =
+    let d = natAbs (o .down +ℤ pos 4) in
+    let r = natAbs (o .right +ℤ pos 4) in
+    let k = place 81 d r in
+    let t =
+    all-sound 9 (λ r. has (place 81 d r) d r)
+    (all-sound 9 (λ d. all 9 (λ r. has (place 81 d r) d r)) square d (bias-most (o .down) (w .vertical))) r (bias-most (o .right) (w .sideways)) in
+    let u = both-r (ltb k 81) (both (eqb (getD downs k 0) d) (eqb (getD rights k 0) r)) t in (
+      k,
+      ltb→lt k 81 (both-l (ltb k 81) (both (eqb (getD downs k 0) d) (eqb (getD rights k 0) r)) t),
+      rw (
+        eqb→eq (getD downs k 0) d (both-l (eqb (getD downs k 0) d) (eqb (getD rights k 0) r) u),
+        eqb→eq (getD rights k 0) r (both-r (eqb (getD downs k 0) d) (eqb (getD rights k 0) r) u),
+        biased (o .down) (w .vertical),
+        biased (o .right) (w .sideways),
+      ),
+    )
+
+parts : T (all 81 (λ k. both (leb (getD downs k 0) 8) (leb (getD rights k 0) 8)))
+unfolding downs rights
+parts = tt
+
+pub parts-most : (k : ℕ) → k < 81 → (getD downs k 0 ≤ 8) × (getD rights k 0 ≤ 8)
+parts-most k h =
+    let t = all-sound 81 (λ k. both (leb (getD downs k 0) 8) (leb (getD rights k 0) 8)) parts k h in (
+      leb→le (getD downs k 0) 8 (both-l (leb (getD downs k 0) 8) (leb (getD rights k 0) 8) t),
+      leb→le (getD rights k 0) 8 (both-r (leb (getD downs k 0) 8) (leb (getD rights k 0) 8) t),
+    )
+
+part-within : (n : ℕ) → n ≤ 8 → natAbs (pos n -ℤ pos 4) ≤ 4
+part-within n h = omega (zarith, abs-pn (pos n -ℤ pos 4), min-pn (pos n -ℤ pos 4), sub-pn (pos n) (pos 4))
+
+-- and the table has no other
+pub offset-within : (k : ℕ) → k < 81 → Within 4 (offset k)
+unfolding offset
+offset-within k h =
+    record { vertical = part-within (getD downs k 0) (parts-most k h .0); sideways = part-within (getD rights k 0) (parts-most k h .1) }

@@ -1,0 +1,22 @@
+-- The offsets that are tried, in tie order.
+use Rattle.algebra.specs.Prelude.{Bool, _&&_, _||_, List, [], _∷_, ℕ, _+_, leb, ltb, getD, pos, natAbs, _-ℤ_}
+use lib.Signed.{ltZ, leZ}
+use Rattle.search.specs.declared.Vector.{Vector}
+
+-- "all offsets −4..4 in both directions", in the order of the ties: entry k is offset k's part plus 4
+unfoldable pub downs : List ℕ
+downs = 4 ∷ 3 ∷ 4 ∷ 4 ∷ 5 ∷ 2 ∷ 3 ∷ 3 ∷ 4 ∷ 4 ∷ 5 ∷ 5 ∷ 6 ∷ 1 ∷ 2 ∷ 2 ∷ 3 ∷ 3 ∷ 4 ∷ 4 ∷ 5 ∷ 5 ∷ 6 ∷ 6 ∷ 7 ∷ 0 ∷ 1 ∷ 1 ∷ 2 ∷ 2 ∷ 3 ∷ 3 ∷ 4 ∷ 4 ∷ 5 ∷ 5 ∷ 6 ∷ 6 ∷ 7 ∷ 7 ∷ 8 ∷ 0 ∷ 0 ∷ 1 ∷ 1 ∷ 2 ∷ 2 ∷ 3 ∷ 3 ∷ 5 ∷ 5 ∷ 6 ∷ 6 ∷ 7 ∷ 7 ∷ 8 ∷ 8 ∷ 0 ∷ 0 ∷ 1 ∷ 1 ∷ 2 ∷ 2 ∷ 6 ∷ 6 ∷ 7 ∷ 7 ∷ 8 ∷ 8 ∷ 0 ∷ 0 ∷ 1 ∷ 1 ∷ 7 ∷ 7 ∷ 8 ∷ 8 ∷ 0 ∷ 0 ∷ 8 ∷ 8 ∷ []
+
+unfoldable pub rights : List ℕ
+rights = 4 ∷ 4 ∷ 3 ∷ 5 ∷ 4 ∷ 4 ∷ 3 ∷ 5 ∷ 2 ∷ 6 ∷ 3 ∷ 5 ∷ 4 ∷ 4 ∷ 3 ∷ 5 ∷ 2 ∷ 6 ∷ 1 ∷ 7 ∷ 2 ∷ 6 ∷ 3 ∷ 5 ∷ 4 ∷ 4 ∷ 3 ∷ 5 ∷ 2 ∷ 6 ∷ 1 ∷ 7 ∷ 0 ∷ 8 ∷ 1 ∷ 7 ∷ 2 ∷ 6 ∷ 3 ∷ 5 ∷ 4 ∷ 3 ∷ 5 ∷ 2 ∷ 6 ∷ 1 ∷ 7 ∷ 0 ∷ 8 ∷ 0 ∷ 8 ∷ 1 ∷ 7 ∷ 2 ∷ 6 ∷ 3 ∷ 5 ∷ 2 ∷ 6 ∷ 1 ∷ 7 ∷ 0 ∷ 8 ∷ 0 ∷ 8 ∷ 1 ∷ 7 ∷ 2 ∷ 6 ∷ 1 ∷ 7 ∷ 0 ∷ 8 ∷ 0 ∷ 8 ∷ 1 ∷ 7 ∷ 0 ∷ 8 ∷ 0 ∷ 8 ∷ []
+
+unfoldable pub offset : ℕ → Vector
+offset k = record { down = pos (getD downs k 0) -ℤ pos 4; right = pos (getD rights k 0) -ℤ pos 4 }
+
+-- "Ties: smaller |down|+|right| offset, then smaller down, then smaller right."
+unfoldable pub earlier : Vector → Vector → Bool
+earlier a b =
+    ltb (steps a) (steps b) || leb (steps a) (steps b) && (ltZ (a .down) (b .down) || leZ (a .down) (b .down) && ltZ (a .right) (b .right))
+  where
+    steps : Vector → ℕ
+    steps o = natAbs (o .down) + natAbs (o .right)

@@ -1,0 +1,19 @@
+-- Vectors of whole samples: sums, multiples, and the bound on their parts.
+use Rattle.algebra.specs.Prelude.{ℕ, _≤_, pos, natAbs, _+ℤ_, _*ℤ_}
+use Rattle.search.specs.declared.Vector.{Vector}
+
+abbrev pub still : Vector
+still = record { down = pos 0; right = pos 0 }
+
+infixl 6 _plus_
+abbrev pub _plus_ : Vector → Vector → Vector
+a plus b = record { down = a .down +ℤ b .down; right = a .right +ℤ b .right }
+
+infixl 7 _times_
+abbrev pub _times_ : Vector → ℕ → Vector
+v times f = record { down = v .down *ℤ pos f; right = v .right *ℤ pos f }
+
+-- both parts are at most b
+pub record Within (b : ℕ) (v : Vector) : Type 0 where
+  pub vertical : natAbs (v .down) ≤ b
+  pub sideways : natAbs (v .right) ≤ b
