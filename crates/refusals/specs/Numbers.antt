@@ -1,0 +1,62 @@
+-- The numbers of the refusals, named by their conditions in document 01's table. `src/lib.rt` has them as constants.
+use Rattle.algebra.specs.Prelude.{ℕ}
+
+-- "W or H not allowed"
+abbrev pub size : ℕ
+size = 1
+
+-- "N outside 2..8"
+abbrev pub count : ℕ
+count = 2
+
+-- "reference ≥ N"
+abbrev pub reference : ℕ
+reference = 3
+
+-- "samples not N·W·H"
+abbrev pub sampleLength : ℕ
+sampleLength = 4
+
+-- "vectors' length wrong"
+abbrev pub vectorLength : ℕ
+vectorLength = 5
+
+-- "output not W·H"
+abbrev pub outputLength : ℕ
+outputLength = 6
+
+-- "work not 2·W·H"
+abbrev pub workLength : ℕ
+workLength = 7
+
+-- "shot or read negative or not finite, ISO not in 25..409600"
+abbrev pub noise : ℕ
+noise = 8
+
+-- "shot > 64 or read > 4096 after ISO; in a file, Ls > 65536 or Lr > 4194304"
+abbrev pub noiseLimit : ℕ
+noiseLimit = 9
+
+-- "t > 1024"
+abbrev pub strength : ℕ
+strength = 10
+
+-- "sample > 4095"
+abbrev pub sampleValue : ℕ
+sampleValue = 11
+
+-- "vector part outside −172..172"
+abbrev pub vectorPart : ℕ
+vectorPart = 12
+
+-- "first file line differs"
+abbrev pub firstLine : ℕ
+firstLine = 13
+
+-- "malformed value line"
+abbrev pub valueLine : ℕ
+valueLine = 14
+
+-- "file short, or bytes follow"
+abbrev pub fileEnd : ℕ
+fileEnd = 15
