@@ -19,7 +19,7 @@ static void must_accept(const char *call, uint64_t refusal)
 {
     if (refusal == 0)
         return;
-    printf("%s refuses by %u\n", call, (unsigned)refusal);
+    printf("%s refuses: %s\n", call, stacker_refusal_text(refusal));
     exit(1);
 }
 
@@ -28,19 +28,27 @@ static void *make(const burst *b)
     return allocated(2 * pixels(b) * sizeof(int64_t));
 }
 
+static stacker_burst described(const burst *b)
+{
+    return (stacker_burst){ .width = (uint64_t)b->width, .height = (uint64_t)b->height, .count = (uint64_t)b->count,
+        .reference = (uint64_t)b->reference };
+}
+
 static void align(void *scratch, const burst *b, const noise_levels *n, result *r)
 {
     (void)n;
-    stacker_alignment answer = stacker_align(b->width, b->height, b->count, b->reference, b->samples, b->count * pixels(b), &r->vectors->down,
-        vector_words(b), scratch, 2 * pixels(b));
+    stacker_alignment answer = stacker_align(described(b), b->samples, b->count * pixels(b), &r->vectors->down, vector_words(b), scratch,
+        2 * pixels(b));
     must_accept("stacker_align", answer.refusal);
     memcpy(r->residuals, answer.residuals, sizeof answer.residuals);
 }
 
 static void merge(void *scratch, const burst *b, const noise_levels *n, result *r)
 {
-    uint64_t refusal = stacker_merge(b->width, b->height, b->count, b->reference, (double)n->shot / 1024, (double)n->read / 1024,
-        (uint64_t)n->strength, b->samples, b->count * pixels(b), &r->vectors->down, vector_words(b), r->output, pixels(b), scratch, 2 * pixels(b));
+    stacker_noise noise = { .shot = (double)n->shot / 1024, .read = (double)n->read / 1024 };
+    stacker_tuning tuning = { .strength = (uint64_t)n->strength };
+    uint64_t refusal = stacker_merge(described(b), noise, tuning, b->samples, b->count * pixels(b), &r->vectors->down, vector_words(b), r->output,
+        pixels(b), scratch, 2 * pixels(b));
     must_accept("stacker_merge", refusal);
 }
 

@@ -1,19 +1,38 @@
 //! The calls from Rust, without a crate: reads a burst file of any size on standard input, aligns and merges it, and prints what
 //! `motion` or `stack` would, as its argument says.
 //!
-//!     rustc -O examples/burst_file.rs -L target/staticlib -o target/burst_file
+//!     tools/install target/installed && rustc -O examples/burst_file.rs -L target/installed/lib -o target/burst_file
 
 use std::io::Read;
 use std::process::exit;
 
-/// As in stacker.h.
+// The structs of stacker.h.
+
+#[repr(C)]
+struct Burst {
+    width: u64,
+    height: u64,
+    count: u64,
+    reference: u64,
+}
+
+#[repr(C)]
+struct Noise {
+    shot: f64,
+    read: f64,
+}
+
+#[repr(C)]
+struct Tuning {
+    strength: u64,
+}
+
 #[repr(C)]
 struct Alignment {
     refusal: u64,
     residuals: [u64; 7],
 }
 
-/// As in stacker.h; the levels are Ls and Lr.
 #[repr(C)]
 struct BurstFile {
     refusal: u64,
@@ -26,15 +45,39 @@ struct BurstFile {
     strength: u64,
 }
 
-#[link(name = "c_api", kind = "static")]
+impl BurstFile {
+    fn burst(&self) -> Burst {
+        Burst {
+            width: self.width,
+            height: self.height,
+            count: self.count,
+            reference: self.reference,
+        }
+    }
+
+    /// The curve with exactly these levels, 1024 times shot and read: both quotients are exact.
+    fn noise(&self) -> Noise {
+        Noise {
+            shot: self.shot_level as f64 / 1024.0,
+            read: self.read_level as f64 / 1024.0,
+        }
+    }
+
+    fn tuning(&self) -> Tuning {
+        Tuning {
+            strength: self.strength,
+        }
+    }
+}
+
+#[link(name = "stacker", kind = "static")]
 #[rustfmt::skip]
 extern "C" {
     fn stacker_read_file(file: *const u8, file_length: usize, samples: *mut u16, samples_length: usize) -> BurstFile;
-    fn stacker_align(width: u64, height: u64, count: u64, reference: u64, samples: *const u16, samples_length: usize,
-        vectors: *mut i32, vectors_length: usize, work: *mut i64, work_length: usize) -> Alignment;
-    fn stacker_merge(width: u64, height: u64, count: u64, reference: u64, shot: f64, read: f64, strength: u64,
-        samples: *const u16, samples_length: usize, vectors: *const i32, vectors_length: usize, output: *mut u16, output_length: usize,
-        work: *mut i64, work_length: usize) -> u64;
+    fn stacker_align(burst: Burst, samples: *const u16, samples_length: usize, vectors: *mut i32, vectors_length: usize,
+        work: *mut i64, work_length: usize) -> Alignment;
+    fn stacker_merge(burst: Burst, noise: Noise, tuning: Tuning, samples: *const u16, samples_length: usize,
+        vectors: *const i32, vectors_length: usize, output: *mut u16, output_length: usize, work: *mut i64, work_length: usize) -> u64;
 }
 
 // What C callers must see to, slices bring along: they are aligned, and no two mutable ones overlap.
@@ -51,20 +94,17 @@ fn read_file(file: &[u8], samples: &mut [u16]) -> BurstFile {
 }
 
 #[rustfmt::skip]
-fn align(file: &BurstFile, samples: &[u16], vectors: &mut [i32], work: &mut [i64]) -> Alignment {
+fn align(burst: Burst, samples: &[u16], vectors: &mut [i32], work: &mut [i64]) -> Alignment {
     unsafe {
-        stacker_align(file.width, file.height, file.count, file.reference, samples.as_ptr(), samples.len(),
-            vectors.as_mut_ptr(), vectors.len(), work.as_mut_ptr(), work.len())
+        stacker_align(burst, samples.as_ptr(), samples.len(), vectors.as_mut_ptr(), vectors.len(), work.as_mut_ptr(), work.len())
     }
 }
 
-/// The curve whose levels are the file's: 1024 times shot and read, and both quotients are exact.
 #[rustfmt::skip]
 fn merge(file: &BurstFile, samples: &[u16], vectors: &[i32], output: &mut [u16], work: &mut [i64]) -> u64 {
-    let (shot, read) = (file.shot_level as f64 / 1024.0, file.read_level as f64 / 1024.0);
     unsafe {
-        stacker_merge(file.width, file.height, file.count, file.reference, shot, read, file.strength, samples.as_ptr(), samples.len(),
-            vectors.as_ptr(), vectors.len(), output.as_mut_ptr(), output.len(), work.as_mut_ptr(), work.len())
+        stacker_merge(file.burst(), file.noise(), file.tuning(), samples.as_ptr(), samples.len(), vectors.as_ptr(), vectors.len(),
+            output.as_mut_ptr(), output.len(), work.as_mut_ptr(), work.len())
     }
 }
 
@@ -125,7 +165,7 @@ fn main() {
     let mut vectors = vec![0; (count - 1) * 2 * (width / 16 + 1) * (height / 16 + 1)];
     let mut output = vec![0; width * height];
     let mut work = vec![0; 2 * width * height];
-    let alignment = align(&file, &samples, &mut vectors, &mut work);
+    let alignment = align(file.burst(), &samples, &mut vectors, &mut work);
     accepted(alignment.refusal);
     accepted(merge(&file, &samples, &vectors, &mut output, &mut work));
 

@@ -137,10 +137,13 @@ int main(int argc, char **argv)
     if (argc != 2)
         return 2;
     take_frames();
-    stacker_alignment answer = stacker_run(SIDE, SIDE, FRAMES, REFERENCE, SHOT, READ, STRENGTH, samples, FRAMES * FRAME, vectors,
-        sizeof vectors / sizeof *vectors, merged, FRAME, work, 2 * FRAME);
-    if (answer.refusal != 0) {
-        printf("refused %" PRIu64 "\n", answer.refusal);
+    stacker_burst burst = { .width = SIDE, .height = SIDE, .count = FRAMES, .reference = REFERENCE };
+    stacker_noise noise = { .shot = SHOT, .read = READ };
+    stacker_tuning tuning = { .strength = STRENGTH };
+    stacker_alignment answer = stacker_run(burst, noise, tuning, samples, FRAMES * FRAME, vectors, sizeof vectors / sizeof *vectors, merged, FRAME,
+        work, 2 * FRAME);
+    if (answer.refusal != STACKER_ACCEPTED) {
+        printf("refused %" PRIu64 ": %s\n", answer.refusal, stacker_refusal_text(answer.refusal));
         return 1;
     }
     write_frame(created(argv[1], "noisy.pgm"), samples + REFERENCE * FRAME);

@@ -1,15 +1,162 @@
-/* The burst stacker's calls: two to eight raw frames of one scene are aligned on one of them, the reference, and merged into one cleaner frame.
+/* The burst stacker: two to eight raw frames of one scene are aligned on one of them, the reference, and merged into one cleaner frame.
 
-   EXAMPLES. Eight frames of 512 by 512 samples, merged on the first; noise of variance 3 x + 100 at a sample x; strength 512, so tau = 64:
+   First come the types, the calls and what goes with them; behind them EXAMPLES, FRAMES, LENT BUFFERS, AFTER A CALL, REFUSALS, NOISE, ZEROS and
+   THE MACHINE. Link with libstacker.a. For x86-64 Linux; C99 and later, C++11 and later. */
+#ifndef STACKER_H
+#define STACKER_H
+
+#include <stddef.h>
+#include <stdint.h>
+
+#define STACKER_VERSION "1.0.0"
+#define STACKER_VERSION_MAJOR 1
+#define STACKER_VERSION_MINOR 0
+#define STACKER_VERSION_PATCH 0
+
+#ifdef __cplusplus
+extern "C" {
+#endif
+
+/* What a call is told. Set a description to zero and fill in what is needed (ZEROS, below). */
+
+typedef struct {
+    uint64_t width, height; /* of each frame, in samples */
+    uint64_t count;         /* of frames */
+    uint64_t reference;     /* index of the frame that the others are merged on */
+} stacker_burst;
+
+typedef struct {
+    double shot; /* in samples: a sample x has the variance shot x + read */
+    double read; /* in squared samples */
+} stacker_noise;
+
+typedef struct {
+    uint32_t iso;
+    double shot, read; /* as above, at ISO 100 */
+} stacker_iso_noise;
+
+typedef struct {
+    uint64_t strength; /* eighths of the published tau, 0..1024 */
+} stacker_tuning;
+
+/* What a call answers: the refusal's number, or 0 with the other fields filled in. */
+
+typedef struct {
+    uint64_t refusal;
+    uint64_t residuals[7]; /* per other frame in rising index, its sum of finest residuals; unused places are 0 */
+} stacker_alignment;
+
+typedef struct {
+    uint64_t refusal;
+    uint64_t width, height, count, reference;
+    uint64_t shot_level, read_level; /* 1024 times the shot and read of stacker_noise */
+    uint64_t strength;
+} stacker_file;
+
+typedef enum {
+    STACKER_ACCEPTED = 0,
+    STACKER_REFUSED_SIZE = 1,
+    STACKER_REFUSED_COUNT = 2,
+    STACKER_REFUSED_REFERENCE = 3,
+    STACKER_REFUSED_SAMPLES_LENGTH = 4,
+    STACKER_REFUSED_VECTORS_LENGTH = 5,
+    STACKER_REFUSED_OUTPUT_LENGTH = 6,
+    STACKER_REFUSED_WORK_LENGTH = 7,
+    STACKER_REFUSED_NOISE = 8,
+    STACKER_REFUSED_NOISE_LIMIT = 9,
+    STACKER_REFUSED_STRENGTH = 10,
+    STACKER_REFUSED_SAMPLE = 11,
+    STACKER_REFUSED_VECTOR = 12,
+    STACKER_REFUSED_FILE_NAMES = 13,
+    STACKER_REFUSED_FILE_LINE = 14,
+    STACKER_REFUSED_FILE_LENGTH = 15
+} stacker_refusal;
+
+/* Aligns each other frame on the reference. */
+stacker_alignment stacker_align(stacker_burst burst, const uint16_t *samples, size_t samples_length, int32_t *vectors, size_t vectors_length,
+    int64_t *work, size_t work_length);
+
+/* Merges the frames by lent vectors, which are only read; answers the refusal's number, or 0. */
+uint64_t stacker_merge(stacker_burst burst, stacker_noise noise, stacker_tuning tuning, const uint16_t *samples, size_t samples_length,
+    const int32_t *vectors, size_t vectors_length, uint16_t *output, size_t output_length, int64_t *work, size_t work_length);
+
+uint64_t stacker_merge_iso(stacker_burst burst, stacker_iso_noise noise, stacker_tuning tuning, const uint16_t *samples, size_t samples_length,
+    const int32_t *vectors, size_t vectors_length, uint16_t *output, size_t output_length, int64_t *work, size_t work_length);
+
+/* Aligns, then merges. */
+stacker_alignment stacker_run(stacker_burst burst, stacker_noise noise, stacker_tuning tuning, const uint16_t *samples, size_t samples_length,
+    int32_t *vectors, size_t vectors_length, uint16_t *output, size_t output_length, int64_t *work, size_t work_length);
+
+stacker_alignment stacker_run_iso(stacker_burst burst, stacker_iso_noise noise, stacker_tuning tuning, const uint16_t *samples, size_t samples_length,
+    int32_t *vectors, size_t vectors_length, uint16_t *output, size_t output_length, int64_t *work, size_t work_length);
+
+/* Reads a burst file into the lent samples, whose length must be the one that the file's second line asks for. */
+stacker_file stacker_read_file(const uint8_t *file, size_t file_length, uint16_t *samples, size_t samples_length);
+
+/* What merge and run take of a file that was read: its frames, its noise and its strength. */
+
+static inline stacker_burst stacker_file_burst(stacker_file file)
+{
+    stacker_burst burst = { file.width, file.height, file.count, file.reference };
+    return burst;
+}
+
+/* The curve with exactly these levels: both quotients are exact, and merge and run find the file's own levels in them. */
+static inline stacker_noise stacker_file_noise(stacker_file file)
+{
+    stacker_noise noise = { (double)file.shot_level / 1024.0, (double)file.read_level / 1024.0 };
+    return noise;
+}
+
+static inline stacker_tuning stacker_file_tuning(stacker_file file)
+{
+    stacker_tuning tuning = { file.strength };
+    return tuning;
+}
+
+/* What a refusal's number says. */
+static inline const char *stacker_refusal_text(uint64_t number)
+{
+    switch (number) {
+    case STACKER_ACCEPTED: return "accepted";
+    case STACKER_REFUSED_SIZE: return "width or height not a multiple of 64 from 64 to 4096";
+    case STACKER_REFUSED_COUNT: return "count of frames outside 2..8";
+    case STACKER_REFUSED_REFERENCE: return "reference not below the count of frames";
+    case STACKER_REFUSED_SAMPLES_LENGTH: return "samples not of length count * width * height";
+    case STACKER_REFUSED_VECTORS_LENGTH: return "vectors not of length (count - 1) * 2 * (width / 16 + 1) * (height / 16 + 1)";
+    case STACKER_REFUSED_OUTPUT_LENGTH: return "output not of length width * height";
+    case STACKER_REFUSED_WORK_LENGTH: return "work area not of length 2 * width * height";
+    case STACKER_REFUSED_NOISE: return "shot or read negative or not finite, or ISO outside 25..409600";
+    case STACKER_REFUSED_NOISE_LIMIT: return "shot above 64 or read above 4096 after ISO, or a file's levels above 65536 or 4194304";
+    case STACKER_REFUSED_STRENGTH: return "strength above 1024";
+    case STACKER_REFUSED_SAMPLE: return "a sample above 4095";
+    case STACKER_REFUSED_VECTOR: return "a part of a vector outside -172..172";
+    case STACKER_REFUSED_FILE_NAMES: return "a file whose first line differs";
+    case STACKER_REFUSED_FILE_LINE: return "a file with a malformed line of values";
+    case STACKER_REFUSED_FILE_LENGTH: return "a file that is short, or goes on after its last row";
+    default: return "no refusal of this version";
+    }
+}
+
+#ifdef __cplusplus
+}
+#endif
+
+/* EXAMPLES. Eight frames of 512 by 512 samples, merged on the first; noise of variance 3 x + 100 at a sample x; strength 512, so tau = 64:
 
        enum { W = 512, H = 512, N = 8, VECTORS = (N - 1) * 2 * (W / 16 + 1) * (H / 16 + 1) };
        static uint16_t samples[N * W * H], output[W * H];
        static int32_t vectors[VECTORS];
        static int64_t work[2 * W * H];
 
-       stacker_alignment answer = stacker_run(W, H, N, 0, 3.0, 100.0, 512, samples, N * W * H, vectors, VECTORS, output, W * H, work, 2 * W * H);
-       if (answer.refusal != 0)
-           return refused(answer.refusal);   // nothing has changed; the table below says why
+       stacker_burst burst = { .width = W, .height = H, .count = N };
+       stacker_noise noise = { .shot = 3.0, .read = 100.0 };
+       stacker_tuning tuning = { .strength = 512 };
+       stacker_alignment answer = stacker_run(burst, noise, tuning, samples, N * W * H, vectors, VECTORS, output, W * H, work, 2 * W * H);
+       if (answer.refusal != STACKER_ACCEPTED) {
+           fprintf(stderr, "refused: %s\n", stacker_refusal_text(answer.refusal));
+           return 1;   // nothing has changed
+       }
 
    Whether a tile of the k-th other frame has moved, at tile row a and tile column b:
 
@@ -19,9 +166,9 @@
    A burst file of that size and count instead of frames, with its own noise and strength:
 
        stacker_file file = stacker_read_file(bytes, length, samples, N * W * H);
-       if (file.refusal != 0)
-           return refused(file.refusal);     // 4 where it has more or fewer samples
-       answer = stacker_run(file.width, file.height, file.count, file.reference, file.shot_level / 1024.0, file.read_level / 1024.0, file.strength,
+       if (file.refusal != STACKER_ACCEPTED)
+           return 1;   // STACKER_REFUSED_SAMPLES_LENGTH where it has more or fewer samples
+       answer = stacker_run(stacker_file_burst(file), stacker_file_noise(file), stacker_file_tuning(file),
            samples, N * W * H, vectors, VECTORS, output, W * H, work, 2 * W * H);
 
    examples/merge.c is a whole program; examples/burst_file.rs calls from Rust.
@@ -42,86 +189,23 @@
    - A pointer may be NULL where its length is 0, and only there.
    - A buffer that is written or cleared must not overlap another lent one, and each must be aligned for its elements, as malloc's memory is.
      These two are the caller's part: no call tests them, and no statement covers them.
-   - What a buffer holds before a call that writes or clears it does not matter. A call keeps nothing between calls.
+   - What a buffer holds before a call that writes or clears it does not matter.
 
    AFTER A CALL that answers 0 the written buffers hold the result, every word of it, and the work area is zero. After a refusal every lent buffer is
    as it was, and every other field of the answer is 0. (Had run found a vector beyond its test 12, the vectors would stay as found and the work area
    be zero; it is proved that this never comes.)
 
-   REFUSALS. A call makes the tests marked here in the order of the numbers, and answers the first that fails; 0 is acceptance.
+   REFUSALS. A call makes its tests in the order of the numbers and answers the first that fails: align 1 to 5, 7 and 11; merge 1 to 12; run 1 to 11,
+   then 12 of the vectors found. A file is tested line by line: no first LF 15, 13; line two 15, 14, then 1, 2, 3, 9, 10, 4; each row 15, 14, 11;
+   then what follows, 15.
 
-       no.  refused is                                                           read_file  align  merge  run
-        1   W or H not a multiple of 64 from 64 to 4096                              x        x      x     x
-        2   N outside 2..8                                                           x        x      x     x
-        3   a reference not below N                                                  x        x      x     x
-        4   samples of another length                                                x        x      x     x
-        5   vectors of another length                                                         x      x     x
-        6   output of another length                                                                 x     x
-        7   a work area of another length                                                     x      x     x
-        8   shot or read negative or not finite; an ISO outside 25..409600                           x     x
-        9   shot > 64 or read > 4096 after ISO; in a file Ls > 65536 or Lr > 4194304 x               x     x
-       10   a strength above 1024                                                    x               x     x
-       11   a sample above 4095                                                      x        x      x     x
-       12   a part of a vector outside -172..172                                                     x     x, of those found
-       13   a file whose first line differs                                          x
-       14   a malformed line of values                                               x
-       15   a file that is short, or goes on after its last row                      x
+   NOISE. stacker_merge_iso and stacker_run_iso scale the curve for ISO 100 by a = iso / 100: shot by a, read by a * a. A file has the levels
+   floor(1024 shot) and floor(1024 read) instead; stacker_file_noise turns them back.
 
-   A file is tested line by line instead: no first LF 15, 13; line two 15, 14, then 1, 2, 3, 9, 10, 4; each row 15, 14, 11; then what follows, 15.
+   ZEROS. A width, height, count or ISO of 0 is refused. Reference 0 is the first frame. Shot and read of 0 say that there is no noise, and strength
+   0 asks for no merging: either gives the reference back. A field that a later version adds means, at zero, what this version does.
 
-   NOISE is given as `shot`, in samples, and `read`, in squared samples: a sample x has the variance shot x + read. Where an ISO is given too,
-   shot and read are those of ISO 100. The strength counts eighths of the source's tau, 0..1024. */
-#ifndef STACKER_H
-#define STACKER_H
-
-#include <stddef.h>
-#include <stdint.h>
-
-#ifdef __cplusplus
-extern "C" {
-#endif
-
-/* What align and run answer: the refusal's number, or 0 with, per other frame in rising index, its sum of finest residuals; unused places are 0. */
-typedef struct {
-    uint64_t refusal;
-    uint64_t residuals[7];
-} stacker_alignment;
-
-/* What reading a file answers: the refusal's number, or 0 with the seven values of its second line; the levels are Ls and Lr,
-   1024 times what stacker_merge and stacker_run take. */
-typedef struct {
-    uint64_t refusal;
-    uint64_t width, height, count, reference, shot_level, read_level, strength;
-} stacker_file;
-
-/* Reads a burst file into the lent samples, whose length must be the one that the file's second line asks for. */
-stacker_file stacker_read_file(const uint8_t *file, size_t file_length, uint16_t *samples, size_t samples_length);
-
-/* Aligns each other frame on the reference. */
-stacker_alignment stacker_align(uint64_t width, uint64_t height, uint64_t count, uint64_t reference, const uint16_t *samples, size_t samples_length,
-    int32_t *vectors, size_t vectors_length, int64_t *work, size_t work_length);
-
-/* Merges the frames by lent vectors, which are only read. */
-uint64_t stacker_merge(uint64_t width, uint64_t height, uint64_t count, uint64_t reference, double shot, double read, uint64_t strength,
-    const uint16_t *samples, size_t samples_length, const int32_t *vectors, size_t vectors_length, uint16_t *output, size_t output_length,
-    int64_t *work, size_t work_length);
-
-/* The same, where shot and read are those of ISO 100. */
-uint64_t stacker_merge_iso(uint64_t width, uint64_t height, uint64_t count, uint64_t reference, uint32_t iso, double shot, double read,
-    uint64_t strength, const uint16_t *samples, size_t samples_length, const int32_t *vectors, size_t vectors_length, uint16_t *output,
-    size_t output_length, int64_t *work, size_t work_length);
-
-/* Aligns, then merges. */
-stacker_alignment stacker_run(uint64_t width, uint64_t height, uint64_t count, uint64_t reference, double shot, double read, uint64_t strength,
-    const uint16_t *samples, size_t samples_length, int32_t *vectors, size_t vectors_length, uint16_t *output, size_t output_length,
-    int64_t *work, size_t work_length);
-
-stacker_alignment stacker_run_iso(uint64_t width, uint64_t height, uint64_t count, uint64_t reference, uint32_t iso, double shot, double read,
-    uint64_t strength, const uint16_t *samples, size_t samples_length, int32_t *vectors, size_t vectors_length, uint16_t *output,
-    size_t output_length, int64_t *work, size_t work_length);
-
-#ifdef __cplusplus
-}
-#endif
-
+   THE MACHINE. A call allocates nothing and needs less than 32 KB of stack. It keeps nothing between calls and has no state: threads may call at once,
+   each with vectors, output and work area of its own that no other thread touches meanwhile. The floating-point environment must be the usual one: rounding
+   to nearest, subnormal numbers kept. */
 #endif

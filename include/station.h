@@ -1,4 +1,4 @@
-/* The capture station's functions. Each is total: it answers for every argument, and keeps nothing between calls. */
+/* The capture station's functions. Each is total: it answers for every argument, and keeps nothing between calls. Link with libstation.a. */
 #ifndef STATION_H
 #define STATION_H
 
@@ -9,8 +9,16 @@
 extern "C" {
 #endif
 
-/* The length, in elements, that refusal `number` tests: 4 samples (16-bit), 5 vectors (signed 32-bit), 6 output (16-bit),
-   7 work area (signed 64-bit). 0 for any other number, and where refusal 1 (size) or 2 (count of frames) would stand. */
+/* The lent buffers of stacker.h, by the number of the refusal that tests their length. */
+typedef enum {
+    STATION_SAMPLES = 4, /* uint16_t */
+    STATION_VECTORS = 5, /* int32_t */
+    STATION_OUTPUT = 6,  /* uint16_t */
+    STATION_WORK = 7     /* int64_t */
+} station_buffer;
+
+/* The length of a buffer in elements, for `count` frames of that size: `number` is a station_buffer. 0 for any other number, and where refusal 1
+   (size) or 2 (count of frames) would stand. */
 uint64_t station_length(uint64_t width, uint64_t height, uint64_t count, uint64_t number);
 
 /* The noise number V, in 1/256 of a squared sample, of the curve `shot` (samples) and `read` (squared samples), the strength

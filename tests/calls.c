@@ -1,6 +1,7 @@
 /* Answers a stream of calls from standard input as the reference's `align`, `merge` or `run` does, with the library: calls align|merge|run.
-   It sees itself that the work area ends as promised: zero, or after a refusal as it was. At the end it writes to standard error how many
-   calls there were. */
+   It sees itself that the work area ends as promised, zero or after a refusal as it was, and that the stack is enough. At the end it writes to
+   standard error how many calls there were, and the most stack that one took. */
+#include "stack.h"
 #include "stacker.h"
 
 #include <stdio.h>
@@ -16,6 +17,7 @@ static uint64_t head[WORDS];
 static uint16_t *samples, *output;
 static int32_t *vectors;
 static int64_t *work;
+static stacker_alignment answer;
 
 static void *lent(uint64_t length, size_t size, int filled)
 {
@@ -32,32 +34,48 @@ static double number(uint64_t bits)
     return x;
 }
 
-static stacker_alignment align(void)
+static stacker_burst burst(void)
 {
-    return stacker_align(head[WIDTH], head[HEIGHT], head[COUNT], head[REFERENCE], samples, head[SAMPLES], vectors, head[VECTORS], work, head[WORK]);
+    return (stacker_burst){ .width = head[WIDTH], .height = head[HEIGHT], .count = head[COUNT], .reference = head[REFERENCE] };
 }
 
-static stacker_alignment merge(void)
+static stacker_noise measured(void)
 {
-    stacker_alignment answer = { 0, { 0 } };
-    double shot = number(head[SHOT]), read = number(head[READ]);
+    return (stacker_noise){ .shot = number(head[SHOT]), .read = number(head[READ]) };
+}
+
+static stacker_iso_noise at_iso(void)
+{
+    return (stacker_iso_noise){ .iso = (uint32_t)head[ISO], .shot = number(head[SHOT]), .read = number(head[READ]) };
+}
+
+static stacker_tuning tuning(void)
+{
+    return (stacker_tuning){ .strength = head[STRENGTH] };
+}
+
+static void align(void)
+{
+    answer = stacker_align(burst(), samples, head[SAMPLES], vectors, head[VECTORS], work, head[WORK]);
+}
+
+static void merge(void)
+{
+    memset(&answer, 0, sizeof answer);
     if (head[NOISE_KIND] == 0)
-        answer.refusal = stacker_merge(head[WIDTH], head[HEIGHT], head[COUNT], head[REFERENCE], shot, read, head[STRENGTH], samples,
-            head[SAMPLES], vectors, head[VECTORS], output, head[OUTPUT], work, head[WORK]);
+        answer.refusal = stacker_merge(burst(), measured(), tuning(), samples, head[SAMPLES], vectors, head[VECTORS], output, head[OUTPUT],
+            work, head[WORK]);
     else
-        answer.refusal = stacker_merge_iso(head[WIDTH], head[HEIGHT], head[COUNT], head[REFERENCE], (uint32_t)head[ISO], shot, read,
-            head[STRENGTH], samples, head[SAMPLES], vectors, head[VECTORS], output, head[OUTPUT], work, head[WORK]);
-    return answer;
+        answer.refusal = stacker_merge_iso(burst(), at_iso(), tuning(), samples, head[SAMPLES], vectors, head[VECTORS], output, head[OUTPUT],
+            work, head[WORK]);
 }
 
-static stacker_alignment run(void)
+static void run(void)
 {
-    double shot = number(head[SHOT]), read = number(head[READ]);
     if (head[NOISE_KIND] == 0)
-        return stacker_run(head[WIDTH], head[HEIGHT], head[COUNT], head[REFERENCE], shot, read, head[STRENGTH], samples, head[SAMPLES], vectors,
-            head[VECTORS], output, head[OUTPUT], work, head[WORK]);
-    return stacker_run_iso(head[WIDTH], head[HEIGHT], head[COUNT], head[REFERENCE], (uint32_t)head[ISO], shot, read, head[STRENGTH], samples,
-        head[SAMPLES], vectors, head[VECTORS], output, head[OUTPUT], work, head[WORK]);
+        answer = stacker_run(burst(), measured(), tuning(), samples, head[SAMPLES], vectors, head[VECTORS], output, head[OUTPUT], work, head[WORK]);
+    else
+        answer = stacker_run_iso(burst(), at_iso(), tuning(), samples, head[SAMPLES], vectors, head[VECTORS], output, head[OUTPUT], work, head[WORK]);
 }
 
 static void write_all(const void *data, size_t size)
@@ -70,8 +88,9 @@ int main(int argc, char **argv)
 {
     if (argc != 2)
         return 2;
-    stacker_alignment (*call)(void) = strcmp(argv[1], "align") == 0 ? align : strcmp(argv[1], "merge") == 0 ? merge : run;
+    void (*call)(void) = strcmp(argv[1], "align") == 0 ? align : strcmp(argv[1], "merge") == 0 ? merge : run;
     unsigned long count = 0;
+    size_t deepest = 0;
     for (; fread(head, 8, WORDS, stdin) == WORDS; count++) {
         samples = lent(head[SAMPLES], 2, 1);
         vectors = lent(head[VECTORS], 4, 1);
@@ -79,7 +98,8 @@ int main(int argc, char **argv)
         work = lent(head[WORK], 8, 0);
         for (uint64_t i = 0; i < head[WORK]; i++)
             work[i] = MARK;
-        stacker_alignment answer = call();
+        size_t stack = stack_of(call);
+        deepest = stack > deepest ? stack : deepest;
         for (uint64_t i = 0; i < head[WORK]; i++)
             if (work[i] != (answer.refusal == 0 ? 0 : MARK))
                 return 1;
@@ -91,6 +111,6 @@ int main(int argc, char **argv)
         free(output);
         free(work);
     }
-    fprintf(stderr, "%lu\n", count);
-    return 0;
+    fprintf(stderr, "%lu calls on at most %zu bytes of stack\n", count, deepest);
+    return deepest > STACK_MOST;
 }

@@ -1,6 +1,8 @@
 /* Reads each burst file of a stream with stacker_read_file, into samples of a right or a wrong length. It writes what the reference's `read` is
-   asked and what the library answered, and sees itself that a refusal leaves the samples as they were: read QUESTIONS ANSWERS */
+   asked and what the library answered, and sees itself that a refusal leaves the samples as they were, and that the stack is enough:
+   read QUESTIONS ANSWERS */
 #include "files.h"
+#include "stack.h"
 #include "stacker.h"
 
 #include <string.h>
@@ -9,6 +11,16 @@ enum { ROOM = 3 * 64 * 64 };
 
 /* kept at refusals */
 static const uint16_t MARK = 51966;
+
+static uint8_t *bytes;
+static uint16_t samples[ROOM + 1];
+static uint64_t file_length, lent;
+static stacker_file answer;
+
+static void read_file(void)
+{
+    answer = stacker_read_file(bytes, file_length, samples, lent);
+}
 
 static void put(FILE *out, const void *data, size_t size)
 {
@@ -21,16 +33,16 @@ int main(int argc, char **argv)
     FILE *questions = argc == 3 ? fopen(argv[1], "wb") : NULL, *answers = argc == 3 ? fopen(argv[2], "wb") : NULL;
     if (!questions || !answers)
         return 2;
-    static uint16_t samples[ROOM + 1];
-    uint8_t *bytes = NULL;
     size_t room = 0, cases = 0;
     for (int64_t length; (length = next_file(&bytes, &room)) >= 0; cases++) {
         /* the length that most of the files want, or one beside it */
         static const uint64_t lents[] = { 2 * 64 * 64, 2 * 64 * 64, 2 * 64 * 64, ROOM, 2 * 64 * 64 - 1, 0 };
-        uint64_t lent = lents[cases % 6], file_length = (uint64_t)length;
+        lent = lents[cases % 6];
+        file_length = (uint64_t)length;
         for (size_t i = 0; i <= ROOM; i++)
             samples[i] = MARK;
-        stacker_file answer = stacker_read_file(bytes, file_length, samples, lent);
+        if (stack_of(read_file) > STACK_MOST)
+            return 1;
         put(questions, &lent, 8);
         put(questions, &file_length, 8);
         put(questions, bytes, file_length);

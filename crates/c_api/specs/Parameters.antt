@@ -1,21 +1,25 @@
--- What the numbers that C passes stand for.
-use Prim.Native.Nat.{ℕ}
-use lib.Ieee.{Float}
+-- What the descriptions that C passes stand for.
 use Rattle.geometry.specs.declared.Shape.{Shape}
 use Rattle.noise.specs.declared.Noise.{Noise}
 use Rattle.noise.specs.declared.Noise.the-variants.{Measured, Iso}
 use Rattle.stacker.specs.declared.Tuning.{Tuning}
+use Rattle.c_api.specs.declared.Burst.{Burst}
+use Rattle.c_api.specs.declared.BurstNoise.{BurstNoise}
+use Rattle.c_api.specs.declared.IsoNoise.{IsoNoise}
+use Rattle.c_api.specs.declared.MergeTuning.{MergeTuning}
 
-abbrev pub shaped : (width height count : ℕ) → Shape
-shaped width height count = record { width = width; height = height; count = count }
+-- "Width W and height H", "N = 2..8 frames"
+abbrev pub shapeOf : Burst → Shape
+shapeOf burst = record { width = burst .width; height = burst .height; count = burst .count }
 
 -- "a curve of two f64 numbers, shot and read"
-abbrev pub measured : (shot read : Float) → Noise
-measured shot read = Measured (record { shot = shot; read = read })
+abbrev pub measured : BurstNoise → Noise
+measured noise = Measured (record { shot = noise .shot; read = noise .read })
 
 -- "an ISO number with the curve for ISO 100"
-abbrev pub atIso : ℕ → (shot read : Float) → Noise
-atIso iso shot read = Iso iso (record { shot = shot; read = read })
+abbrev pub atIso : IsoNoise → Noise
+atIso noise = Iso (noise .iso) (record { shot = noise .shot; read = noise .read })
 
-abbrev pub tuned : ℕ → Tuning
-tuned strength = record { strength = strength }
+-- "Strength t = 0..1024"
+abbrev pub tuned : MergeTuning → Tuning
+tuned tuning = record { strength = tuning .strength }

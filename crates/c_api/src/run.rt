@@ -1,0 +1,88 @@
+// Align and merge, for C: with the burst's own noise curve, or with that of ISO 100.
+ghost use Rattle.stacker.specs.Calls.{Ran};
+ghost use Rattle.c_api.specs.Parameters.{shapeOf, measured, atIso, tuned};
+use crate::Burst;
+use crate::BurstNoise;
+use crate::IsoNoise;
+use crate::MergeTuning;
+use geometry::Shape;
+use noise::Curve;
+use noise::Noise;
+use stacker::Alignment;
+use stacker::Tuning;
+
+// Align, then merge.
+#[no_mangle]
+pub extern "C" fn stacker_run(
+    burst: Burst,
+    noise: BurstNoise,
+    tuning: MergeTuning,
+    samples: &[u16],
+    vectors: &mut [i32],
+    output: &mut [u16],
+    work: &mut [i64],
+) -> Alignment
+    ensures { λ r. ⌜ Ran (shapeOf burst) (burst .reference) (measured noise) (tuned tuning) (now (samples .entry)) (now (vectors .entry)) (now (vectors .exit)) (now (output .entry)) (now (output .exit)) (now (work .entry)) (now (work .exit)) r ⌝ }
+{
+    let shape = Shape {
+        width: burst.width as usize,
+        height: burst.height as usize,
+        count: burst.count as usize,
+    };
+    let noise = Noise::Measured(Curve {
+        shot: noise.shot,
+        read: noise.read,
+    });
+    let tuning = Tuning {
+        strength: tuning.strength,
+    };
+    stacker::run::run(
+        shape,
+        burst.reference as usize,
+        noise,
+        tuning,
+        samples,
+        &mut *vectors,
+        &mut *output,
+        &mut *work,
+    )
+}
+
+// The same with the curve for ISO 100.
+#[no_mangle]
+pub extern "C" fn stacker_run_iso(
+    burst: Burst,
+    noise: IsoNoise,
+    tuning: MergeTuning,
+    samples: &[u16],
+    vectors: &mut [i32],
+    output: &mut [u16],
+    work: &mut [i64],
+) -> Alignment
+    ensures { λ r. ⌜ Ran (shapeOf burst) (burst .reference) (atIso noise) (tuned tuning) (now (samples .entry)) (now (vectors .entry)) (now (vectors .exit)) (now (output .entry)) (now (output .exit)) (now (work .entry)) (now (work .exit)) r ⌝ }
+{
+    let shape = Shape {
+        width: burst.width as usize,
+        height: burst.height as usize,
+        count: burst.count as usize,
+    };
+    let iso = noise.iso;
+    let base = Curve {
+        shot: noise.shot,
+        read: noise.read,
+    };
+    let noise = Noise::Iso { iso, base };
+    let tuning = Tuning {
+        strength: tuning.strength,
+    };
+    stacker::run::run(
+        shape,
+        burst.reference as usize,
+        noise,
+        tuning,
+        samples,
+        &mut *vectors,
+        &mut *output,
+        &mut *work,
+    )
+}
