@@ -2,7 +2,7 @@
 use Rattle.geometry.specs.declared.Shape.{Shape}
 use Rattle.noise.specs.declared.Noise.{Noise}
 use Rattle.noise.specs.declared.Noise.the-variants.{Measured, Iso}
-use Rattle.stacker.specs.declared.Tuning.{Tuning}
+use Rattle.recipe.specs.declared.Tuning.{Tuning}
 use Rattle.c_api.specs.declared.Burst.{Burst}
 use Rattle.c_api.specs.declared.BurstNoise.{BurstNoise}
 use Rattle.c_api.specs.declared.IsoNoise.{IsoNoise}

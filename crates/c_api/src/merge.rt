@@ -8,7 +8,7 @@ use crate::MergeTuning;
 use geometry::Shape;
 use noise::Curve;
 use noise::Noise;
-use stacker::Tuning;
+use recipe::Tuning;
 
 // A burst and lent vectors to the output.
 #[no_mangle]

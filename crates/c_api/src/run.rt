@@ -8,8 +8,8 @@ use crate::MergeTuning;
 use geometry::Shape;
 use noise::Curve;
 use noise::Noise;
+use recipe::Tuning;
 use stacker::Alignment;
-use stacker::Tuning;
 
 // Align, then merge.
 #[no_mangle]

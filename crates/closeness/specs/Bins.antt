@@ -12,10 +12,10 @@ use Rattle.algebra.specs.Lipschitz.{sq, lipschitz}
 use Rattle.algebra.specs.Fraction.{Frac, frac, _+F_, _·F_, _×F_, _÷F_, divide, Within}
 use Rattle.algebra.specs.FractionLaws.{within-trans, within-same, within-near, near-mono, near-zero, Near, rounds-within}
 use Rattle.algebra.specs.Nearest.{away, Rounds, away-rounds}
-use Rattle.lines.specs.Side.{Side}
-use Rattle.transform.specs.Recipe.{power, wiener, quantized, filtered}
-use Rattle.transform.specs.RecipeLaws.{power-is}
-use Rattle.closeness.specs.Exact.{exactBin, exactNoise, exactFiltered}
+use Rattle.recipe.specs.Side.{Side}
+use Rattle.recipe.specs.Correction.{power, wiener, quantized, filtered}
+use Rattle.recipe.specs.CorrectionLaws.{power-is}
+use Rattle.recipe.specs.Exact.{exactBin, exactNoise, exactFiltered}
 
 -- |B − k·Q|² ≤ k²
 spread : (k : ℕ) (x y q r : ℤ) → Rounds x k q → Rounds y k r → (sq (x -ℤ pos k *ℤ q) +ℤ sq (y -ℤ pos k *ℤ r)) ≤ℤ (pos k *ℤ pos k)

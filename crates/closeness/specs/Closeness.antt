@@ -5,18 +5,15 @@ use Rattle.algebra.specs.Sums.{sumZ, sumN-scale}
 use Rattle.algebra.specs.Nearest.{away-rounds, upward-rounds}
 use Rattle.algebra.specs.Fraction.{Frac, frac, whole, _-F_, _·F_, over, sumF, Within}
 use Rattle.algebra.specs.FractionLaws.{Near, near-sub, near-scale, near-sum, near-sums, near-mono, near-over, near-rounds, near-whole, near-held, near-one, near-frac}
-use Rattle.lines.specs.Side.{Side, cosAt, sinAt}
-use Rattle.transform.specs.Recipe.{binRe, binIm, twiddleRe, twiddleIm, inverseRe, inverseAt, correctionAt}
-use Rattle.closeness.specs.Output.{rowIn, columnIn, weightIn, outputSample}
-use Rattle.closeness.specs.Exact.{exactInverseRe, exactInverseAt, exactCorrectionAt, exactSample}
+use Rattle.recipe.specs.Side.{Side, cosAt, sinAt}
+use Rattle.recipe.specs.Correction.{binRe, binIm, twiddleRe, twiddleIm, inverseRe, inverseAt, correctionAt}
+use Rattle.recipe.specs.Output.{rowIn, columnIn, weightIn, outputSample}
+use Rattle.recipe.specs.Exact.{exactInverseRe, exactInverseAt, exactCorrectionAt, exactSample}
 use Rattle.closeness.specs.Bins.{bin-near}
 use Rattle.closeness.specs.Windows.{four-windows}
 
 -- The scales fit together, and no factor of the inverse is larger than `most`, as |Re| + |Im|; w is the windows' scale
 pub record Fitting (s : Side) (most w : ℕ) : Type 0 where
-  pub side-above : 0 < s .side
-  pub quantum-above : 0 < s .quantum
-  pub divisor-above : 0 < s .divisor
   pub scale-is : s .parts * s .quantum ≡ s .scale
   pub divisor-is : s .parts * (s .side * s .side * s .scale) ≡ 256 * s .divisor
   pub weight-is : w * w ≡ s .weight
@@ -32,7 +29,7 @@ module _ {s : Side} {most w : ℕ} (t : Fitting s most w) where
   twiddle : (y x u v : ℕ) → natAbs (twiddleRe s y x u v) + natAbs (twiddleIm s y x u v) ≤ most
   unfolding twiddleRe twiddleIm cosAt sinAt
   twiddle y x u v =
-      t .twiddle-small ((u * y) % s .side) ((v * x) % s .side) (mod-lt (u * y) (t .side-above)) (mod-lt (v * x) (t .side-above))
+      t .twiddle-small ((u * y) % s .side) ((v * x) % s .side) (mod-lt (u * y) (s .side-above)) (mod-lt (v * x) (s .side-above))
 
   -- the inverse, of any G whose parts are within 3/2 of `parts` times the exact ones
   module _ (g h : ℕ → ℕ → ℤ) (g' h' : ℕ → ℕ → Frac) (p : (u v : ℕ) → Near 3 2 (g u v) (pos (s .parts)) (g' u v)) (q : (u v : ℕ) → Near 3 2 (h u v) (pos (s .parts)) (h' u v)) (y x : ℕ) where
@@ -46,15 +43,15 @@ module _ {s : Side} {most w : ℕ} (t : Fitting s most w) where
     pub inverse-near : Near (tileError s most) (2 * s .divisor) (inverseAt s g h y x) (pos 256) (exactInverseAt s g' h' y x)
     unfolding inverseAt exactInverseAt
     inverse-near =
-        near-mono (omega (arith, t .divisor-above)) (omega arith)
+        near-mono (omega (arith, s .divisor-above)) (omega arith)
         (near-rounds (subst (λ k. Near (s .side * (s .side * (3 * most))) 2 (inverseRe s g h y x) (pos k) (over (exactInverseRe s g' h' y x) (s .side * s .side * s .scale) (s .size-above))) (t .divisor-is) (near-over (s .side * s .side * s .scale) (s .size-above) sum-near))
-        (away-rounds (inverseRe s g h y x) (s .divisor) (t .divisor-above)))
+        (away-rounds (inverseRe s g h y x) (s .divisor) (s .divisor-above)))
 
   module _ (noise : ℕ) (d : ℕ → ℕ → ℤ) (y x : ℕ) where
     tile-near : Near (tileError s most) (2 * s .divisor) (correctionAt s noise d y x) (pos 256) (exactCorrectionAt s noise d y x)
     unfolding correctionAt exactCorrectionAt
     tile-near =
-        let bin : (b c : ℤ) → Near 3 2 _ (pos (s .parts)) _ = bin-near s (t .quantum-above) (t .scale-is) noise in
+        let bin : (b c : ℤ) → Near 3 2 _ (pos (s .parts)) _ = bin-near s (s .quantum-above) (t .scale-is) noise in
         inverse-near _ _ _ _ (λ u v. bin (binRe s d u v) (binIm s d u v)) (λ u v. bin (binIm s d u v) (binRe s d u v)) y x
 
     -- one tile: P/256 is within tileError/(512·divisor) of p
@@ -85,7 +82,7 @@ module _ {s : Side} {most w : ℕ} (t : Fitting s most w) where
         (λ i j. near-mono d-above (omega arith) (near-sums others _ _ (λ z m. near-scale (pos (weightIn s a b i)) (tile-near (noise i) (d i z) (rowIn s a i) (columnIn s b i))))))
       where
         d-above : 0 < 2 * s .divisor
-        d-above = mul-pos {m = 2} (lit< tt) (t .divisor-above)
+        d-above = mul-pos {m = 2} (lit< tt) (s .divisor-above)
 
     -- m/n is at least 1/2 + (N − 1)/N·tileError/(512·divisor)
     pub sample-within : (m n : ℕ) → n * (others * e + 128 * (2 * s .divisor * suc others)) ≤ m * (256 * (2 * s .divisor * suc others)) → Within m n (whole (outputSample s a b others noise d t0)) (exactSample s a b others noise d t0)
@@ -93,7 +90,7 @@ module _ {s : Side} {most w : ℕ} (t : Fitting s most w) where
     sample-within m n i =
         near-one
         (near-held 4095
-        (near-mono (mul-pos {m = 2} (lit< tt) (mul-pos {m = 2 * s .divisor} (mul-pos {m = 2} (lit< tt) (t .divisor-above)) above)) (omega (arith, mul-le-mul-left (2 * s .weight) i))
+        (near-mono (mul-pos {m = 2} (lit< tt) (mul-pos {m = 2 * s .divisor} (mul-pos {m = 2} (lit< tt) (s .divisor-above)) above)) (omega (arith, mul-le-mul-left (2 * s .weight) i))
         (near-rounds
         (subst (λ k. Near (0 + others * e * s .weight) (2 * s .divisor) (t0 *ℤ pos (256 * (s .weight * suc others)) -ℤ sumP) (pos k) (whole t0 -F over sump (s .weight * suc others) (mul-pos (s .weight-above) (omega arith)))) (sym (one-mul (256 * (s .weight * suc others))))
         (near-sub (near-whole (2 * s .divisor) (256 * (s .weight * suc others)) t0) (near-over (s .weight * suc others) (mul-pos (s .weight-above) (omega arith)) windows-near)))

@@ -1,6 +1,5 @@
-pub mod Output
-pub mod Exact
 pub mod Bins
 pub mod Windows
 pub mod Closeness
 pub mod Side16
+pub mod MergedClose

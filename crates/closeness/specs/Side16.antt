@@ -3,11 +3,11 @@ use Rattle.algebra.specs.Prelude.{refl, ℕ, suc, _+_, _*_, _≤_, _<_, arith, 
 use lib.Dec.{leb, leb→le, lit<}
 use Rattle.algebra.specs.Test.{all, all-sound}
 use Rattle.algebra.specs.Fraction.{frac, whole, Within}
-use Rattle.lines.specs.Tables.{cosines, cosine16, sine16, side16}
-use Rattle.lines.specs.TableLaws.{window-halves}
-use Rattle.transform.specs.Recipe.{correctionAt}
-use Rattle.closeness.specs.Output.{outputSample}
-use Rattle.closeness.specs.Exact.{exactCorrectionAt, exactSample}
+use Rattle.recipe.specs.Tables.{cosines, cosine16, sine16, side16}
+use Rattle.recipe.specs.TableLaws.{window-halves}
+use Rattle.recipe.specs.Correction.{correctionAt}
+use Rattle.recipe.specs.Output.{outputSample}
+use Rattle.recipe.specs.Exact.{exactCorrectionAt, exactSample}
 use Rattle.closeness.specs.Closeness.{Fitting, tileError, tile-within, sample-within}
 
 -- one computed test over the 256 pairs of entries
@@ -25,9 +25,6 @@ pub fitting16 : Fitting side16 379633849 4096
 unfolding side16
 fitting16 =
     record {
-      side-above = lit< tt;
-      quantum-above = lit< tt;
-      divisor-above = lit< tt;
       scale-is = refl;
       divisor-is = refl;
       weight-is = refl;

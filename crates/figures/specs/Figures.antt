@@ -7,11 +7,11 @@ use Rattle.geometry.specs.Tiles.{own, neighbour}
 use Rattle.noise.specs.declared.Noise.{Noise}
 use Rattle.noise.specs.declared.Noise.the-variants.{Measured, Iso}
 use Rattle.noise.specs.Levels.{invalidCurve, invalidIso, invalidNoise, aboveLimits, levelsOf, shotLevel, readLevel}
-use Rattle.noise.specs.Root.{rootIn, wholeRoot}
-use Rattle.noise.specs.NoiseNumber.{sumOfSquares, tileRoot, variance, noiseNumber}
-use Rattle.lines.specs.Side.{cosAt, sinAt}
-use Rattle.lines.specs.Tables.{cosines, cosine16, sine16, side16}
-use Rattle.transform.specs.Recipe.{wiener, twiddleRe, twiddleIm, inverseRe, inverseAt}
+use Rattle.recipe.specs.Root.{rootIn, wholeRoot}
+use Rattle.recipe.specs.NoiseNumber.{sumOfSquares, tileRoot, variance, noiseNumber}
+use Rattle.recipe.specs.Side.{cosAt, sinAt}
+use Rattle.recipe.specs.Tables.{cosines, cosine16, sine16, side16}
+use Rattle.recipe.specs.Correction.{wiener, twiddleRe, twiddleIm, inverseRe, inverseAt}
 
 -- v where both indices are 0, else 0
 abbrev pub only : {A : Type 0} → A → A → ℕ → ℕ → A
@@ -32,8 +32,8 @@ computed =
     pos (tileRoot 16 (λ i j. 100))
     ∷ pos (tileRoot 16 (λ i j. 4095))
     ∷ pos (tileRoot 16 (only 1 0))
-    ∷ pos (noiseNumber 8 1024 0 1600)
-    ∷ pos (noiseNumber 0 1024 0 1600)
+    ∷ pos (noiseNumber side16 8 1024 0 1600)
+    ∷ pos (noiseNumber side16 0 1024 0 1600)
     ∷ pos (shotLevel (levelsOf iso400)) ∷ pos (readLevel (levelsOf iso400))
     ∷ pos (shotLevel (levelsOf shot64))
     ∷ pos (own 4 5) ∷ pos (neighbour 4 5)

@@ -7,8 +7,8 @@ use Rattle.algebra.specs.Sums.{sumZ}
 use Rattle.algebra.specs.Code.{Code, lit, add, sub, mul, raw, nthN}
 use Rattle.algebra.specs.Forms.{sumE, vals, allMost, allPlain, vals-are, vals-most}
 use Rattle.sequences.specs.Tab.{tab}
-use Rattle.lines.specs.Side.{cosAt}
-use Rattle.lines.specs.Tables.{cosines, cosine16, side16}
+use Rattle.recipe.specs.Side.{cosAt}
+use Rattle.recipe.specs.Tables.{cosines, cosine16, side16}
 use Rattle.lines.specs.Halfcomplex.{frequency, phase, basis}
 use Rattle.lines.specs.Fold.{oddSum}
 use Rattle.lines.specs.Lines.{LineMost}

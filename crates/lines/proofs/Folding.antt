@@ -11,9 +11,9 @@ use Rattle.algebra.specs.Bound.{AtMost, add-fits, sub-fits}
 use Rattle.algebra.specs.Sums.{sumZ, sumZ-cong, sumZ-add, sumZ-parts}
 use Rattle.sequences.specs.Tab.{tab, getD-tab}
 use Rattle.sequences.specs.Grid.{tab-ext}
-use Rattle.lines.specs.Side.{cosAt}
-use Rattle.lines.specs.Tables.{cosines, cosine16, side16}
-use Rattle.lines.specs.TableLaws.{agree-both}
+use Rattle.recipe.specs.Side.{cosAt}
+use Rattle.recipe.specs.Tables.{cosines, cosine16, side16}
+use Rattle.recipe.specs.TableLaws.{agree-both}
 use Rattle.lines.specs.Halfcomplex.{basis, frequency, phase, halfcomplex}
 use Rattle.lines.specs.Fold.{sumAt, differenceAt, folded}
 use Rattle.lines.specs.Lines.{LineMost}

@@ -7,8 +7,8 @@ use Rattle.algebra.specs.Ring.{Expr, var, con, _⊞_, _⊟_, _⊠_}
 use Rattle.algebra.specs.Sums.{sumZ}
 use Rattle.algebra.specs.Forms.{sumE, rings}
 use Rattle.sequences.specs.Tab.{tab}
-use Rattle.lines.specs.Side.{cosAt}
-use Rattle.lines.specs.Tables.{cosines, cosine16, side16}
+use Rattle.recipe.specs.Side.{cosAt}
+use Rattle.recipe.specs.Tables.{cosines, cosine16, side16}
 use Rattle.lines.specs.Lines.{LineMost}
 use Rattle.lines.specs.Halfcomplex.{frequency, phase, basis, backward}
 use Rattle.lines.specs.Fold.{evenSum, oddSum}

@@ -2,8 +2,8 @@
 -- The other numbers are conjugates of these.
 use Rattle.algebra.specs.Prelude.{cond, ℕ, _+_, _-_, _*_, ltb, ℤ, _*ℤ_}
 use Rattle.algebra.specs.Sums.{sumZ}
-use Rattle.lines.specs.Side.{cosAt}
-use Rattle.lines.specs.Tables.{side16}
+use Rattle.recipe.specs.Side.{cosAt}
+use Rattle.recipe.specs.Tables.{side16}
 
 -- place k holds a part of this number
 unfoldable pub frequency : ℕ → ℕ

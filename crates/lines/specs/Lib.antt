@@ -1,6 +1,3 @@
-pub mod Side
-pub mod Tables
-pub mod TableLaws
 pub mod Lines
 pub mod Halfcomplex
 pub mod Fold

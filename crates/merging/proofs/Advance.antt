@@ -5,9 +5,10 @@ use borrow.Author.Tests.{ltb-true, ltb-false}
 use lib.Seq.{ext-getD}
 use Rattle.sequences.specs.Tab.{tab, length-tab, getD-tab}
 use Rattle.geometry.specs.Shape.{AllowedSize}
-use Rattle.merging.specs.declared.Plane.{Plane}
-use Rattle.merging.specs.Accepted.{Planar}
-use Rattle.merging.specs.Recipe.{Scene, planeOutput, outputAt, wordAt, merged}
+use Rattle.tiles.specs.declared.Plane.{Plane}
+use Rattle.tiles.specs.Accepted.{Planar}
+use Rattle.recipe.specs.Scene.{Scene}
+use Rattle.recipe.specs.Merged.{planeOutput, outputAt, wordAt, merged}
 use Rattle.merging.specs.Strided.{strided, Toward}
 use Rattle.merging.specs.Progress.{placeOf, RowsMerged}
 use Rattle.merging.proofs.Striding.{toward-same, toward-on, strided-toward, strided-in}

@@ -1,12 +1,13 @@
 -- The rows of a band, and the bands of a plane: a record for each loop, and how it starts, goes on and ends.
 use Rattle.algebra.specs.Prelude.{_≡_, subst, List, ℕ, _+_, _*_, _/_, _≤_, _<_, arith, length, ℤ}
 use Rattle.geometry.specs.Shape.{outputLength}
-use Rattle.merging.specs.declared.Merge.{Merge}
-use Rattle.merging.specs.declared.Plane.{Plane}
-use Rattle.merging.specs.Recipe.{sceneOf}
-use Rattle.merging.specs.Accepted.{Accepted, Planar}
+use Rattle.recipe.specs.declared.Merge.{Merge}
+use Rattle.tiles.specs.declared.Plane.{Plane}
+use Rattle.recipe.specs.Scene.{sceneOf}
+use Rattle.tiles.specs.Accepted.{Accepted, Planar}
 use Rattle.merging.specs.Strided.{strided}
-use Rattle.merging.specs.Work.{rowWords, slotOf, Held, Stored, outputWord, Ready}
+use Rattle.tiles.specs.Rows.{rowWords, slotOf, Stored}
+use Rattle.merging.specs.Work.{Held, outputWord, Ready}
 use Rattle.merging.specs.Progress.{RowsMerged, BandMerged}
 use Rattle.merging.proofs.Places.{row-room}
 use Rattle.merging.proofs.Holding.{stored-held, held-kept, next-room, output-word}

@@ -4,11 +4,12 @@ use Rattle.algebra.specs.Prelude.{List, ℕ, zero, suc, _+_, _-_, _*_, _/_, _%_
 use native.Mathlib.Nat.{add-mul, mul-assoc, mul-comm}
 use Rattle.geometry.specs.declared.Shape.{Shape}
 use Rattle.geometry.specs.Read.{sampleIndex, sampleAt, planeOf}
-use Rattle.lines.specs.Tables.{side16}
-use Rattle.merging.specs.declared.Plane.{Plane}
+use Rattle.recipe.specs.Tables.{side16}
+use Rattle.tiles.specs.declared.Plane.{Plane}
 use Rattle.merging.specs.Gather.{windowed, corrected, startOf, wordOver}
 use Rattle.merging.specs.Strided.{strided}
-use Rattle.merging.specs.Work.{slotOf, wordFrom, outputWord}
+use Rattle.tiles.specs.Rows.{slotOf}
+use Rattle.merging.specs.Work.{wordFrom, outputWord}
 use Rattle.merging.proofs.Striding.{Striding, stride-part, stride-done}
 
 module _ (samples : List ℕ) (from : ℕ) (work : List ℤ) (above below i count column j : ℕ) (h : j < 8) where
@@ -26,7 +27,7 @@ module _ (samples : List ℕ) (from : ℕ) (work : List ℤ) (above below i coun
   block-word =
       let place : from + 16 * column + 2 * j ≡ from + 2 * (8 * column + j) = omega arith in
       let inner : j % 8 ≡ (8 * column + j) % 8 = omega arith in
-      ap₂ (λ t0 sum. natAbs (corrected t0 sum (count - 1))) (ap (λ n. getD samples n 0) place) (ap₂ (λ k c. windowed i k c) inner (fun-ext word-later))
+      ap₂ (λ t0 sum. natAbs (corrected side16 t0 sum (count - 1))) (ap (λ n. getD samples n 0) place) (ap₂ (λ k c. windowed side16 i k c) inner (fun-ext word-later))
 
 -- one more block of a row
 pub block-turn : (samples : List ℕ) (from : ℕ) (work : List ℤ) (above below i count column : ℕ) {l r o : List ℕ} {start n : ℕ} → Striding l start (wordFrom samples from work above below i count) n (8 * column) r → 8 * column + 8 ≤ n
@@ -45,7 +46,7 @@ module _ (s : Shape) (reference : ℕ) (samples : List ℕ) (work : List ℤ) (p
   row-word : (x : ℕ) → wordFrom samples sampleStart work (slotOf (s .width) (y / 8)) (slotOf (s .width) (y / 8 + 1)) (y % 8) (s .count) x ≡ outputWord s reference samples work p y x
   unfolding wordFrom outputWord planeOf sampleAt sampleIndex
   row-word x =
-      ap (λ n. natAbs (corrected (getD samples n 0) (windowed (y % 8) (x % 8) (wordOver work (slotOf (s .width) (y / 8)) (slotOf (s .width) (y / 8 + 1)) (y % 8) x)) (s .count - 1)))
+      ap (λ n. natAbs (corrected side16 (getD samples n 0) (windowed side16 (y % 8) (x % 8) (wordOver work (slotOf (s .width) (y / 8)) (slotOf (s .width) (y / 8 + 1)) (y % 8) x)) (s .count - 1)))
       (omega (arith, add-mul (reference * s .height) (2 * y + p .«row_parity») (s .width), mul-assoc reference (s .height) (s .width), mul-comm (s .width) (s .height)))
 
   -- all of the row

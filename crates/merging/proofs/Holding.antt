@@ -6,14 +6,17 @@ use Rattle.algebra.specs.Sums.{sumZ-cong}
 use Rattle.sequences.specs.Write.{written, written-in, written-before, written-after, written-length}
 use Rattle.geometry.specs.Shape.{AllowedSize}
 use Rattle.geometry.specs.Read.{planeOf}
-use Rattle.lines.specs.Tables.{side16}
-use Rattle.closeness.specs.Output.{rowIn, columnIn, weightIn}
-use Rattle.merging.specs.declared.Merge.{Merge}
-use Rattle.merging.specs.declared.Plane.{Plane}
-use Rattle.merging.specs.Recipe.{Scene, sceneOf, tileOver, planeOutput}
-use Rattle.merging.specs.Gather.{summedAt, windowed, corrected, startOf, wordOver}
-use Rattle.merging.specs.Sum.{summedMost}
-use Rattle.merging.specs.Work.{rowWords, slotOf, rowWord, Held, Stored, outputWord}
+use Rattle.recipe.specs.Tables.{side16}
+use Rattle.recipe.specs.Output.{rowIn, columnIn, weightIn}
+use Rattle.recipe.specs.declared.Merge.{Merge}
+use Rattle.tiles.specs.declared.Plane.{Plane}
+use Rattle.recipe.specs.Scene.{Scene, sceneOf, tileOver}
+use Rattle.recipe.specs.Merged.{planeOutput}
+use Rattle.tiles.specs.Sum.{summedAt}
+use Rattle.merging.specs.Gather.{windowed, corrected, startOf, wordOver}
+use Rattle.tiles.specs.Sum.{summedMost}
+use Rattle.tiles.specs.Rows.{rowWords, slotOf, rowWord, Stored}
+use Rattle.merging.specs.Work.{Held, outputWord}
 use Rattle.merging.proofs.Gathering.{summedOver, gathered}
 
 -- the places of a row and of the next one: one row's words are those before the other's
@@ -79,12 +82,14 @@ module _ (m : Merge) (samples : List ℕ) (vectors : List ℤ) (p : Plane) (work
   below = slotOf (m .shape .width) (y / 8 + 1)
 
   module _ (ok : AllowedSize (m .shape .width)) (inside : x < m .shape .width / 2) (upper : Held s p (y / 8) work) (lower : Held s p (y / 8 + 1) work) where
-    held-over : (u : ℕ) → u < 2 → Held s p (tileOver y u) work
+    held-over : (u : ℕ) → u < 2 → Held s p (tileOver side16 y u) work
+    unfolding side16
     held-over zero h = let e : y / 8 + 1 - 0 ≡ y / 8 + 1 = omega arith in rw e lower
     held-over (suc zero) h = let e : y / 8 + 1 - 1 ≡ y / 8 = omega arith in rw e upper
     held-over (suc (suc u)) h = absurd (omega arith)
 
-    start-over : (u : ℕ) → u < 2 → startOf above below u ≡ slotOf (m .shape .width) (tileOver y u)
+    start-over : (u : ℕ) → u < 2 → startOf above below u ≡ slotOf (m .shape .width) (tileOver side16 y u)
+    unfolding side16
     start-over zero h = let e : y / 8 + 1 - 0 ≡ y / 8 + 1 = omega arith in rw e
     start-over (suc zero) h = let e : y / 8 + 1 - 1 ≡ y / 8 = omega arith in rw e
     start-over (suc (suc u)) h = absurd (omega arith)
@@ -101,15 +106,15 @@ module _ (m : Merge) (samples : List ℕ) (vectors : List ℤ) (p : Plane) (work
         ∙ rw (tile, down, along)
 
     word-is : (t : ℕ) → t < 4 → wordOver work above below (y % 8) x t ≡ summedOver s (p .«row_parity») (p .«column_parity») y x t
-    unfolding wordOver side16
+    unfolding wordOver sceneOf side16
     word-is t h =
         ap (λ a. getD work (a + (256 * (x / 8 + 1 - t % 2) + (16 * rowIn side16 (y % 8) t + columnIn side16 (x % 8) t))) (pos 0)) (start-over (t / 2) (omega arith))
         ∙ cell-held (held-over (t / 2) (omega arith)) (x / 8 + 1 - t % 2) (rowIn side16 (y % 8) t) (columnIn side16 (x % 8) t) (omega arith) (omega arith) (omega arith)
 
     pub output-word : outputWord (m .shape) (m .reference) samples work p y x ≡ natAbs (planeOutput s (p .«row_parity») (p .«column_parity») y x)
-    unfolding outputWord sceneOf windowed
+    unfolding outputWord sceneOf windowed side16
     output-word =
         ap natAbs
-        (ap (λ z. corrected (planeOf (s .reference) (p .«row_parity») (p .«column_parity») y x) z (s .others))
+        (ap (λ z. corrected side16 (planeOf (s .reference) (p .«row_parity») (p .«column_parity») y x) z (s .others))
         (sumZ-cong 4 _ _ (λ t h. ap (λ z. pos (weightIn side16 (y % 8) (x % 8) t) *ℤ z) (word-is t h)))
         ∙ sym (gathered s (p .«row_parity») (p .«column_parity») y x))

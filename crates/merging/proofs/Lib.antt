@@ -1,9 +1,5 @@
-pub mod Signed
 pub mod Places
 pub mod Quotients
-pub mod Differences
-pub mod Summing
-pub mod Storing
 pub mod Weights
 pub mod Gathering
 pub mod Holding

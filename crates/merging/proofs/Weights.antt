@@ -6,9 +6,9 @@ use lib.IntN.{ℤ, pos, natAbs, _+ℤ_, _*ℤ_, +ℤ-idl}
 use Rattle.algebra.specs.Test.{all-sound}
 use Rattle.algebra.specs.Sums.{sumZ}
 use Rattle.sequences.specs.Tab.{getD-tab}
-use Rattle.lines.specs.Tables.{windows, window16, side16}
+use Rattle.recipe.specs.Tables.{windows, window16, side16}
 use Rattle.merging.specs.Gather.{weightRow, windowed, wordOver}
-use Rattle.merging.specs.Sum.{summedMost}
+use Rattle.tiles.specs.Sum.{summedMost}
 use Rattle.merging.specs.Work.{Words}
 
 window-most : (i : ℕ) → i < 16 → window16 i ≤ 4096
@@ -39,7 +39,7 @@ term work start i j = pos (window16 i * window16 j) *ℤ getD work (start + (16 
 
 module _ (work : List ℤ) (above below i j : ℕ) (h : j < 8) where
   pub windowed-four : {a b c d : ℤ} → a ≡ term work (below + 256) i j → b ≡ term work below i (j + 8) → c ≡ term work (above + 256) (i + 8) j → d ≡ term work above (i + 8) (j + 8)
-      → a +ℤ b +ℤ c +ℤ d ≡ windowed i j (wordOver work above below i j)
+      → a +ℤ b +ℤ c +ℤ d ≡ windowed side16 i j (wordOver work above below i j)
   unfolding windowed wordOver sumZ side16
   windowed-four a b c d = rw (a, b, c, d, +ℤ-idl, first, column, none i, none j, right below (16 * i + j), right above (16 * (i + 8) + j), left below (16 * i + (j + 8)), left above (16 * (i + 8) + (j + 8)))
     where

@@ -1,7 +1,8 @@
--- Rows of a plane's output that are merged.
+-- Inside this crate: rows of a plane's output that are merged.
 use Rattle.algebra.specs.Prelude.{_≡_, List, ℕ, _+_, _*_, _/_, _≤_, _<_, getD, ℤ}
-use Rattle.merging.specs.declared.Plane.{Plane}
-use Rattle.merging.specs.Recipe.{Scene, wordAt}
+use Rattle.tiles.specs.declared.Plane.{Plane}
+use Rattle.recipe.specs.Scene.{Scene}
+use Rattle.recipe.specs.Merged.{wordAt}
 use Rattle.merging.specs.Strided.{Toward}
 use Rattle.merging.specs.Work.{Held}
 

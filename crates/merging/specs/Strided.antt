@@ -1,4 +1,4 @@
--- A list with every second word of a part written over, and lists that only get nearer to what they should hold.
+-- Inside this crate: a list with every second word of a part written over, and lists that only get nearer to what they should hold.
 use Rattle.algebra.specs.Prelude.{_≡_, List, ℕ, zero, suc, _+_, _*_, length, getD, set}
 
 -- l with f 0 .. f (n − 1) at every second place from `at` on

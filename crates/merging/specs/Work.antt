@@ -1,24 +1,14 @@
--- Rows of correction tiles in the work area: two of them, each of 256 words a tile.
+-- Inside this crate: the two rows of correction tiles that the work area holds, and a word of the output worked out from them.
 use Rattle.algebra.specs.Prelude.{_≡_, List, ℕ, _+_, _-_, _*_, _/_, _%_, _≤_, _<_, length, getD, ℤ, pos, natAbs}
-use Rattle.sequences.specs.Write.{written}
 use Rattle.geometry.specs.declared.Shape.{Shape}
 use Rattle.geometry.specs.Read.{Sampled, sampleAt, planeOf}
-use Rattle.merging.specs.declared.Plane.{Plane}
-use Rattle.merging.specs.Recipe.{Scene}
-use Rattle.merging.specs.Gather.{summedAt, weightRow, windowed, corrected, wordOver}
-use Rattle.merging.specs.Accepted.{Planar}
-use Rattle.merging.specs.Sum.{summedMost}
-
--- a row of a plane's tiles takes so many words, and starts here
-unfoldable pub rowWords : (width : ℕ) → ℕ
-rowWords width = 256 * (width / 16 + 1)
-
-unfoldable pub slotOf : (width row : ℕ) → ℕ
-slotOf width row = row % 2 * rowWords width
-
--- word k of the row: the summed corrections of one tile after the other, each row by row
-unfoldable pub rowWord : Scene → Plane → (row k : ℕ) → ℤ
-rowWord s p row k = summedAt s (p .«row_parity») (p .«column_parity») row (k / 256) (k % 256 / 16) (k % 16)
+use Rattle.recipe.specs.Tables.{side16}
+use Rattle.tiles.specs.declared.Plane.{Plane}
+use Rattle.tiles.specs.Accepted.{Planar}
+use Rattle.tiles.specs.Sum.{summedMost}
+use Rattle.tiles.specs.Rows.{rowWords, slotOf, rowWord}
+use Rattle.recipe.specs.Scene.{Scene}
+use Rattle.merging.specs.Gather.{weightRow, windowed, corrected, wordOver}
 
 -- n words from `at` on that are small enough to be weighed and added
 pub record Words (work : List ℤ) (at n : ℕ) : Type 0 where
@@ -38,20 +28,15 @@ pub record Held (s : Scene) (p : Plane) (row : ℕ) (work : List ℤ) : Type 0 w
   pub words : Words work (slotOf (s .width) row) (rowWords (s .width))
   pub is : (k : ℕ) → k < rowWords (s .width) → getD work (slotOf (s .width) row + k) (pos 0) ≡ rowWord s p row k
 
--- l is d with a row of tiles stored
-pub record Stored (s : Scene) (p : Plane) (row : ℕ) (d l : List ℤ) : Type 0 where
-  pub is : l ≡ written d (slotOf (s .width) row) (rowWord s p row) (rowWords (s .width))
-  pub most : (k : ℕ) → k < rowWords (s .width) → natAbs (rowWord s p row k) ≤ summedMost
-
 -- the output's word at column x of a row: it is row i of the tiles from `below` on and row i + 8 of those from `above` on, and its samples are every second
 -- word from `from` on
 unfoldable pub wordFrom : (samples : List ℕ) (from : ℕ) (work : List ℤ) (above below i count x : ℕ) → ℕ
-wordFrom samples from work above below i count x = natAbs (corrected (getD samples (from + 2 * x) 0) (windowed i (x % 8) (wordOver work above below i x)) (count - 1))
+wordFrom samples from work above below i count x = natAbs (corrected side16 (getD samples (from + 2 * x) 0) (windowed side16 i (x % 8) (wordOver work above below i x)) (count - 1))
 
 -- the output's word at row y and column x of a plane, from the rows of tiles in the work area
 unfoldable pub outputWord : Shape → (reference : ℕ) (samples : List ℕ) (work : List ℤ) → Plane → (y x : ℕ) → ℕ
 outputWord s reference samples work p y x =
-    natAbs (corrected (planeOf (sampleAt s samples reference) (p .«row_parity») (p .«column_parity») y x) (windowed (y % 8) (x % 8) (wordOver work (slotOf (s .width) (y / 8)) (slotOf (s .width) (y / 8 + 1)) (y % 8) x)) (s .count - 1))
+    natAbs (corrected side16 (planeOf (sampleAt s samples reference) (p .«row_parity») (p .«column_parity») y x) (windowed side16 (y % 8) (x % 8) (wordOver work (slotOf (s .width) (y / 8)) (slotOf (s .width) (y / 8 + 1)) (y % 8) x)) (s .count - 1))
 
 -- what it is worked out from
 pub record Ready (s : Shape) (reference : ℕ) (samples : List ℕ) (work : List ℤ) (p : Plane) (y : ℕ) : Type 0 where

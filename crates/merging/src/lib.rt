@@ -1,38 +1,15 @@
-// The merge of a burst: tiles of each plane, their corrections, and the output.
+// The merge of a burst: the output, gathered from the corrections of each plane's tiles.
 mod output;
 mod planes;
-mod rows;
-mod tiles;
 
 ghost use mathlib.Core.Path.{_≡_};
 ghost use lib.ListN.{length};
 ghost use Rattle.geometry.specs.Shape.{outputLength, workLength};
-ghost use Rattle.merging.specs.Recipe.{sceneOf, merged};
-ghost use Rattle.merging.specs.Accepted.{Accepted};
-use geometry::Shape;
-
-// What a merge takes beside the lent buffers: Ls, Lr and the strength t.
-pub struct Merge {
-    pub shape: Shape,
-    pub reference: usize,
-    pub shot: u64,
-    pub read: u64,
-    pub strength: u64,
-}
-
-// One of the four planes, by the parities of its rows and columns.
-pub struct Plane {
-    pub row_parity: usize,
-    pub column_parity: usize,
-}
-
-// A tile: the parities of its plane, and its row and column among the plane's tiles.
-pub struct Site {
-    pub row_parity: usize,
-    pub column_parity: usize,
-    pub row: usize,
-    pub column: usize,
-}
+ghost use Rattle.recipe.specs.Scene.{sceneOf};
+ghost use Rattle.recipe.specs.Merged.{merged};
+ghost use Rattle.tiles.specs.Accepted.{Accepted};
+use recipe::Merge;
+use tiles::Plane;
 
 // The merge, of input that has passed the tests; it neither tests nor clears. The work area's words are left as they come.
 pub fn merge_frames(

@@ -7,13 +7,13 @@ ghost use lib.ListN.{length, getD};
 ghost use Rattle.algebra.specs.Bound.{AtMost};
 ghost use Rattle.algebra.specs.Clamp.{clampZ};
 ghost use Rattle.geometry.specs.Shape.{outputLength};
-ghost use Rattle.lines.specs.Tables.{windows, window16};
+ghost use Rattle.recipe.specs.Tables.{windows, window16, side16};
 ghost use Rattle.merging.specs.Gather.{weightRow, corrected, windowed, wordOver};
 ghost use Rattle.merging.specs.Strided.{strided};
 ghost use Rattle.merging.specs.Work.{Words, Weighed, wordFrom, outputWord, Ready};
-use crate::Plane;
-use crate::rows::slot;
 use geometry::Shape;
+use tiles::Plane;
+use tiles::rows::slot;
 
 // w(0..15)
 const WINDOW: [u64; 16] = [
@@ -60,7 +60,7 @@ fn held(z: i64, count: usize, inverse: u64) -> u16
 // A sample of the reference less the windowed sum of its corrections, of `count` frames.
 fn corrected(t0: u16, sum: i64, count: usize, inverse: u64) -> u16
     requires { ⌜ (2 ≤ count) × (count ≤ 8) × (inverse ≡ (524287 + count) / count) × (AtMost (2 ^ 59) sum) ⌝ }
-    ensures { λ r. ⌜ r ≡ natAbs (corrected t0 sum (count - 1)) ⌝ }
+    ensures { λ r. ⌜ r ≡ natAbs (corrected side16 t0 sum (count - 1)) ⌝ }
 {
     held(scaled(t0, sum, count), count, inverse)
 }
@@ -104,7 +104,7 @@ fn windowed(
     j: usize,
 ) -> i64
     requires { ⌜ (Weighed (now work) above below (now lower) (now upper) i) × (j < 8) ⌝ }
-    ensures { λ r. ⌜ (r ≡ windowed i j (wordOver (now (work .entry)) above below i j)) × (AtMost (2 ^ 59) r) ⌝ }
+    ensures { λ r. ⌜ (r ≡ windowed side16 i j (wordOver (now (work .entry)) above below i j)) × (AtMost (2 ^ 59) r) ⌝ }
 {
     part(work, lower, below + 256, i, j)
         + part(work, lower, below, i, j + 8)

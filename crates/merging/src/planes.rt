@@ -3,14 +3,15 @@ ghost use mathlib.Core.Path.{_≡_};
 ghost use Prim.Native.Nat.{_*_, _/_, _≤_, _<_};
 ghost use lib.ListN.{length};
 ghost use Rattle.geometry.specs.Shape.{outputLength};
-ghost use Rattle.merging.specs.Recipe.{sceneOf};
-ghost use Rattle.merging.specs.Accepted.{Accepted, Planar};
-ghost use Rattle.merging.specs.Work.{rowWords, Held};
+ghost use Rattle.recipe.specs.Scene.{sceneOf};
+ghost use Rattle.tiles.specs.Accepted.{Accepted, Planar};
+ghost use Rattle.tiles.specs.Rows.{rowWords};
+ghost use Rattle.merging.specs.Work.{Held};
 ghost use Rattle.merging.specs.Progress.{RowsMerged, BandMerged};
-use crate::Merge;
-use crate::Plane;
 use crate::output::output_row;
-use crate::rows::correction_row;
+use recipe::Merge;
+use tiles::Plane;
+use tiles::rows::correction_row;
 
 // The rows between the tile rows `band`, which the work area holds, and `band` + 1.
 fn merge_band(

@@ -1,8 +1,7 @@
 pub mod Curve
 pub mod Level
 pub mod Levels
-pub mod Root
-pub mod NoiseNumber
+pub mod Range
 pub mod RootLaws
 pub mod NoiseNumberLaws
 pub mod ScalingLaws

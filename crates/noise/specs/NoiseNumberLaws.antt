@@ -1,10 +1,12 @@
 -- Bounds of r and V, and V's monotony in each of its arguments.
 use Rattle.algebra.specs.Prelude.{_≡_, ap, ℕ, _*_, _≤_, _<_, arith, lit≤}
-use native.Mathlib.Nat.{le-trans, mul-le-mul, zero-mul, mul-zero}
+use native.Mathlib.Nat.{le-trans, add-le-add, mul-le-mul, mul-le-mul-left, zero-mul, mul-zero, zero-div}
 use Rattle.algebra.specs.Sums.{sumN, sumN-cong, sumN-bound}
-use Rattle.noise.specs.Root.{wholeRoot}
+use Rattle.recipe.specs.Side.{Side}
+use Rattle.recipe.specs.Tables.{side16}
+use Rattle.recipe.specs.Root.{wholeRoot}
 use Rattle.noise.specs.RootLaws.{root-most}
-use Rattle.noise.specs.NoiseNumber.{squared, sumOfSquares, tileRoot, variance, noiseNumber}
+use Rattle.recipe.specs.NoiseNumber.{squared, sumOfSquares, tileRoot, variance, noiseNumber}
 
 -- r is that of the n by n samples alone
 pub tile-root-cong : (n : ℕ) (s t : ℕ → ℕ → ℕ) → ((i j : ℕ) → i < n → j < n → s i j ≡ t i j) → tileRoot n s ≡ tileRoot n t
@@ -19,20 +21,26 @@ tile-root-bound n m tile h = root-most (omega (arith, rows))
     rows : sumN n (λ i. sumN n (λ j. squared (tile i j))) ≤ n * (n * (m * m))
     rows = sumN-bound n (n * (m * m)) (λ i. sumN n (λ j. squared (tile i j))) (λ i k. sumN-bound n (m * m) (λ j. squared (tile i j)) (λ j l. mul-le-mul (h i j k l) (h i j k l)))
 
-pub variance-mono : {ls lr r ls' lr' r' : ℕ} → ls ≤ ls' → lr ≤ lr' → r ≤ r' → variance ls lr r ≤ variance ls' lr' r'
-unfolding variance
-variance-mono hs hr h = omega (arith, mul-le-mul hs h)
+-- no strength, or no level: no noise
+module _ (n : Side) where
+  pub noise-number-off : (ls lr r : ℕ) → noiseNumber n 0 ls lr r ≡ 0
+  unfolding noiseNumber
+  noise-number-off ls lr r = rw (zero-mul (variance n ls lr r), zero-div (n .noiseDivisor))
 
-pub noise-number-mono : {t ls lr r t' ls' lr' r' : ℕ} → t ≤ t' → ls ≤ ls' → lr ≤ lr' → r ≤ r' → noiseNumber t ls lr r ≤ noiseNumber t' ls' lr' r'
-unfolding noiseNumber
-noise-number-mono ht hs hr h = omega (arith, mul-le-mul ht (variance-mono hs hr h))
+  pub noise-number-none : (t r : ℕ) → noiseNumber n t 0 0 r ≡ 0
+  unfolding noiseNumber variance
+  noise-number-none t r = rw (zero-mul r, mul-zero (n .side), mul-zero t, zero-div (n .noiseDivisor))
 
--- V where every sample is at most 4095
-pub noise-number-bound : {t ls lr r : ℕ} → t ≤ 1024 → ls ≤ 65536 → lr ≤ 4194304 → r ≤ 65520 → noiseNumber t ls lr r ≤ 279105765376
-unfolding noiseNumber variance
+  variance-mono : {ls lr r ls' lr' r' : ℕ} → ls ≤ ls' → lr ≤ lr' → r ≤ r' → variance n ls lr r ≤ variance n ls' lr' r'
+  unfolding variance
+  variance-mono hs hr h = add-le-add (mul-le-mul hs h) (mul-le-mul-left (n .side) hr)
+
+-- at side 16: V grows with each of its arguments
+pub noise-number-mono : {t ls lr r t' ls' lr' r' : ℕ} → t ≤ t' → ls ≤ ls' → lr ≤ lr' → r ≤ r' → noiseNumber side16 t ls lr r ≤ noiseNumber side16 t' ls' lr' r'
+unfolding noiseNumber side16
+noise-number-mono ht hs hr h = omega (arith, mul-le-mul ht (variance-mono side16 hs hr h))
+
+-- and this is its bound where every sample is at most 4095
+pub noise-number-bound : {t ls lr r : ℕ} → t ≤ 1024 → ls ≤ 65536 → lr ≤ 4194304 → r ≤ 65520 → noiseNumber side16 t ls lr r ≤ 279105765376
+unfolding noiseNumber variance side16
 noise-number-bound ht hs hr h = le-trans (noise-number-mono ht hs hr h) (lit≤ tt)
-
--- no level, no noise
-pub noise-number-none : (t r : ℕ) → noiseNumber t 0 0 r ≡ 0
-unfolding noiseNumber variance
-noise-number-none t r = rw (zero-mul r, mul-zero t)

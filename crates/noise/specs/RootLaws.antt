@@ -2,7 +2,7 @@
 use Rattle.algebra.specs.Prelude.{_≡_, refl, Bool, true, false, cond, ℕ, zero, suc, _+_, _*_, _/_, _≤_, _<_, arith, leb}
 use native.Mathlib.Nat.{le-antisymm, lt-of-not-le, mul-le-mul}
 use borrow.Author.Tests.{leb-true, leb-false}
-use Rattle.noise.specs.Root.{orNext, rootIn, wholeRoot}
+use Rattle.recipe.specs.Root.{orNext, rootIn, wholeRoot}
 
 pub record IsRoot (n r : ℕ) : Type 0 where
   pub low : r * r ≤ n

@@ -6,8 +6,10 @@ ghost use mathlib.Core.Path.{_≡_};
 ghost use Prim.Native.Nat.{_≤_};
 ghost use Rattle.sequences.specs.Grid.{cell};
 ghost use Rattle.noise.specs.Levels.{levelsOf, levelRefusal, strengthRefusal};
-ghost use Rattle.noise.specs.Root.{wholeRoot};
-ghost use Rattle.noise.specs.NoiseNumber.{tileRoot, noiseNumber, InRange};
+ghost use Rattle.recipe.specs.Tables.{side16};
+ghost use Rattle.recipe.specs.Root.{wholeRoot};
+ghost use Rattle.recipe.specs.NoiseNumber.{tileRoot, noiseNumber};
+ghost use Rattle.noise.specs.Range.{InRange};
 
 // The variance of a sample of expected value x is shot * x + read.
 pub struct Curve {
@@ -86,7 +88,7 @@ pub fn tile_root(tile: [[u16; 16]; 16]) -> u64
 // V of a tile's root.
 pub fn noise_number(t: u64, ls: u64, lr: u64, r: u64) -> u64
     requires { ⌜ InRange t ls lr r ⌝ }
-    ensures { λ v. ⌜ (v ≡ noiseNumber t ls lr r) × (v ≤ 4402274369536) ⌝ }
+    ensures { λ v. ⌜ (v ≡ noiseNumber side16 t ls lr r) × (v ≤ 4402274369536) ⌝ }
 {
     t * (ls * r + 16 * lr) / 16
 }

@@ -4,8 +4,8 @@ ghost use Prim.Native.Nat.{_*_, _<_, _≤_};
 ghost use lib.ListN.{getD};
 ghost use Rattle.algebra.specs.Sums.{sumN};
 ghost use Rattle.sequences.specs.Grid.{cell};
-ghost use Rattle.noise.specs.Root.{wholeRoot};
-ghost use Rattle.noise.specs.NoiseNumber.{intensity, squared, sumOfSquares};
+ghost use Rattle.recipe.specs.Root.{wholeRoot};
+ghost use Rattle.recipe.specs.NoiseNumber.{intensity, squared, sumOfSquares};
 
 // The whole root of a number below the square of `bound`.
 pub fn root_below(n: u64, bound: u64) -> u64

@@ -2,8 +2,9 @@
 use Rattle.algebra.specs.Prelude.{_≡_, List, [], _∷_, _++_, ℕ, zero, suc}
 use Rattle.geometry.specs.Bounds.{vectorRefusal}
 use Rattle.alignment.specs.Aligned.{alignedVectors}
-use Rattle.merging.specs.declared.Merge.{Merge}
-use Rattle.merging.specs.Recipe.{sceneOf, merged}
+use Rattle.recipe.specs.declared.Merge.{Merge}
+use Rattle.recipe.specs.Scene.{sceneOf}
+use Rattle.recipe.specs.Merged.{merged}
 use Rattle.burst_file.specs.declared.Header.{Header}
 use Rattle.burst_file.specs.Grammar.{Burst}
 use Rattle.printing.specs.Lines.{stackNames, numberLine, frameRows, refusal}
@@ -12,7 +13,13 @@ use Rattle.report.specs.Program.{programText}
 -- a merge of the file's values: "shot and read are Ls and Lr"
 abbrev pub fileMerge : Header → Merge
 fileMerge header =
-    record { shape = header .shape; reference = header .reference; shot = header .«shot_level»; read = header .«read_level»; strength = header .strength }
+    record {
+      shape = header .shape;
+      reference = header .reference;
+      shot = header .«shot_level»;
+      read = header .«read_level»;
+      tuning = record { strength = header .strength };
+    }
 
 -- the frame's names, their values and its rows
 unfoldable pub frameText : (width height : ℕ) (samples : List ℕ) → List ℕ

@@ -6,11 +6,12 @@ ghost use Rattle.printing.specs.Put.{Printed};
 ghost use Rattle.report.specs.Opening.{burstOf, Taken};
 ghost use Rattle.report.specs.Stack.{frameText, RanAs, stackOf};
 use burst_file::Header;
-use merging::Merge;
 use printing::fixed::put_refusal;
 use printing::fixed::put_stack_names;
 use printing::lines::put_numbers;
 use printing::lines::put_rows;
+use recipe::Merge;
+use recipe::Tuning;
 use stacker::run::run_levels;
 
 // The names, the sizes and the rows of a frame of 64 by 64.
@@ -36,12 +37,15 @@ fn run_burst(
 {
     let shape = header.shape;
     let end = 50 * (shape.count - 1);
+    let tuning = Tuning {
+        strength: header.strength,
+    };
     let m = Merge {
         shape,
         reference: header.reference,
         shot: header.shot_level,
         read: header.read_level,
-        strength: header.strength,
+        tuning,
     };
     let answer = run_levels(m, samples, &mut vectors[..end], output, work);
     answer.refusal

@@ -12,9 +12,10 @@ use Rattle.geometry.specs.BoundLaws.{samples-fit}
 use Rattle.noise.specs.declared.Noise.{Noise}
 use Rattle.noise.specs.Levels.{levelsOf, refusalOf, strengthRefusal}
 use Rattle.alignment.specs.Aligned.{alignedVectors, residualSums}
-use Rattle.merging.specs.Recipe.{sceneOf, merged}
+use Rattle.recipe.specs.Scene.{sceneOf}
+use Rattle.recipe.specs.Merged.{merged}
 use Rattle.stacker.specs.declared.Alignment.{Alignment}
-use Rattle.stacker.specs.declared.Tuning.{Tuning}
+use Rattle.recipe.specs.declared.Tuning.{Tuning}
 use Rattle.stacker.specs.Buffers.{noSums}
 use Rattle.stacker.specs.Refusals.{alignRefusal, runRefusal, mergeRefusal, mergeOf}
 use Rattle.stacker.specs.Calls.{answered, Aligned, Merged, Ran}

@@ -5,9 +5,10 @@ use Rattle.sequences.specs.Clear.{zeros}
 use Rattle.geometry.specs.declared.Shape.{Shape}
 use Rattle.noise.specs.declared.Noise.{Noise}
 use Rattle.alignment.specs.Aligned.{alignedVectors}
-use Rattle.merging.specs.Recipe.{sceneOf, merged}
+use Rattle.recipe.specs.Scene.{sceneOf}
+use Rattle.recipe.specs.Merged.{merged}
 use Rattle.stacker.specs.declared.Alignment.{Alignment}
-use Rattle.stacker.specs.declared.Tuning.{Tuning}
+use Rattle.recipe.specs.declared.Tuning.{Tuning}
 use Rattle.stacker.specs.Buffers.{noSums}
 use Rattle.stacker.specs.Refusals.{mergeOf}
 use Rattle.stacker.specs.Calls.{Aligned, Merged, Ran}

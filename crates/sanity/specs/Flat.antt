@@ -8,13 +8,15 @@ use Rattle.geometry.specs.declared.Shape.{Shape}
 use Rattle.geometry.specs.Shape.{outputLength}
 use Rattle.geometry.specs.Read.{Sampled}
 use Rattle.geometry.specs.Vectors.{otherFrame}
-use Rattle.noise.specs.NoiseNumber.{noiseNumber}
-use Rattle.transform.specs.Recipe.{wiener}
-use Rattle.merging.specs.Recipe.{Scene}
+use Rattle.recipe.specs.Tables.{side16}
+use Rattle.recipe.specs.NoiseNumber.{noiseNumber}
+use Rattle.recipe.specs.Correction.{wiener}
+use Rattle.recipe.specs.Scene.{Scene}
 use Rattle.sanity.specs.Frames.{Same, frameWords}
 
 -- the reference has the sample a everywhere, and the k-th other frame b k
 pub record Flat (s : Scene) (a : ℕ) (b : ℕ → ℕ) : Type 0 where
+  pub of-16 : s .side ≡ side16
   pub high : 2 ≤ s .height
   pub wide : 2 ≤ s .width
   pub reference : Same (s .height) (s .width) (s .reference) (λ row column. a)
@@ -35,4 +37,4 @@ flatCorrection noise c = away (wiener noise (c *ℤ pos 4096) (pos 0)) 16
 unfoldable pub flatOutput : Scene → (a : ℕ) (b : ℕ → ℕ) → ℤ
 flatOutput s a b =
     clampZ (pos 0) (pos 4095)
-    (upward (pos a *ℤ pos (256 * suc (s .others)) -ℤ sumZ (s .others) (λ k. flatCorrection (noiseNumber (s .strength) (s .shot) (s .read) (16 * a)) (pos a -ℤ pos (b k)))) (256 * suc (s .others)))
+    (upward (pos a *ℤ pos (256 * suc (s .others)) -ℤ sumZ (s .others) (λ k. flatCorrection (noiseNumber side16 (s .tuning .strength) (s .shot) (s .read) (16 * a)) (pos a -ℤ pos (b k)))) (256 * suc (s .others)))

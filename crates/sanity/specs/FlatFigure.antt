@@ -13,10 +13,12 @@ use Rattle.geometry.specs.Vectors.{otherFrame}
 use Rattle.geometry.specs.Tiles.{level0, levelSize, levelTiles, tileCount}
 use Rattle.pyramid.specs.Layout.{tiles}
 use Rattle.alignment.specs.Aligned.{alignedVectors, residualSums}
-use Rattle.noise.specs.NoiseNumber.{variance, noiseNumber}
-use Rattle.transform.specs.Recipe.{wiener}
-use Rattle.merging.specs.declared.Merge.{Merge}
-use Rattle.merging.specs.Recipe.{sceneOf, merged}
+use Rattle.recipe.specs.Tables.{side16}
+use Rattle.recipe.specs.NoiseNumber.{variance, noiseNumber}
+use Rattle.recipe.specs.Correction.{wiener}
+use Rattle.recipe.specs.declared.Merge.{Merge}
+use Rattle.recipe.specs.Scene.{sceneOf}
+use Rattle.recipe.specs.Merged.{merged}
 use Rattle.sanity.specs.Frames.{frameWords}
 use Rattle.sanity.specs.Flat.{FlatBurst, flatCorrection, flatOutput}
 use Rattle.sanity.specs.FlatMerge.{burst-flat}
@@ -33,7 +35,7 @@ abbrev pub burst : List ℕ
 burst = plain 0 ++ plain 4
 
 abbrev pub tuned : (strength : ℕ) → Merge
-tuned strength = record { shape = shape; reference = 0; shot = 0; read = 4194304; strength = strength }
+tuned strength = record { shape = shape; reference = 0; shot = 0; read = 4194304; tuning = record { strength = strength } }
 
 plain-long : (v : ℕ) → length (plain v) ≡ 4096
 unfolding plain
@@ -74,11 +76,11 @@ flat =
 
 -- whatever the lent vectors are
 pub merged-2 : (vectors : List ℤ) → merged (sceneOf (tuned 1024) burst vectors) ≡ plain 2
-unfolding plain outputLength sceneOf flatOutput flatCorrection noiseNumber variance wiener away upward clampZ minZ maxZ sumZ
+unfolding plain outputLength sceneOf flatOutput flatCorrection noiseNumber variance side16 wiener away upward clampZ minZ maxZ sumZ
 merged-2 vectors = burst-flat (tuned 1024) burst vectors flat
 
 pub merged-0 : (vectors : List ℤ) → merged (sceneOf (tuned 0) burst vectors) ≡ plain 0
-unfolding plain outputLength sceneOf flatOutput flatCorrection noiseNumber variance wiener away upward clampZ minZ maxZ sumZ
+unfolding plain outputLength sceneOf flatOutput flatCorrection noiseNumber variance side16 wiener away upward clampZ minZ maxZ sumZ
 merged-0 vectors = burst-flat (tuned 0) burst vectors flat
 
 -- "`motion` on that file prints exactly [..] 1 25 25 0 102400": 25 tiles, all with vector 0, 0, and the sum of finest residuals

@@ -1,5 +1,5 @@
 -- Flat frames: a tile of equal differences has one bin and one correction everywhere, and the windows add up to one.
-use Rattle.algebra.specs.Prelude.{_≡_, refl, sym, ap, ap₂, _∙_, [], _∷_, ℕ, zero, suc, _+_, _*_, _<_, arith}
+use Rattle.algebra.specs.Prelude.{_≡_, refl, sym, ap, ap₂, _∙_, [], _∷_, ℕ, zero, suc, _+_, _*_, _%_, _<_, arith}
 use native.Mathlib.Nat.{zero-mul}
 use lib.Dec.{T, eqb, eqb→eq, lit<}
 use lib.IntN.{ℤ, pos, negsuc, negℤ, natAbs, _+ℤ_, _-ℤ_, _*ℤ_, +ℤ-idl, +ℤ-idr, *ℤ-zero, zero-*ℤ, *ℤ-comm}
@@ -9,12 +9,12 @@ use Rattle.algebra.specs.Test.{all, all-sound}
 use Rattle.algebra.specs.Nearest.{away, upward}
 use Rattle.algebra.specs.Clamp.{clampZ}
 use Rattle.noise.specs.RootLaws.{root-unique}
-use Rattle.noise.specs.NoiseNumber.{squared, sumOfSquares, tileRoot}
-use Rattle.lines.specs.Side.{cosAt, sinAt}
-use Rattle.lines.specs.Tables.{cosines, cosine16, sine16, side16}
-use Rattle.transform.specs.Recipe.{wiener, rowRe, rowIm, binRe, binIm, quantized, filtered, twiddleRe, twiddleIm, inverseRe, inverseAt, correctionAt}
-use Rattle.lines.specs.TableLaws.{window-halves}
-use Rattle.closeness.specs.Output.{rowIn, columnIn, weightIn, outputSample}
+use Rattle.recipe.specs.NoiseNumber.{squared, sumOfSquares, tileRoot}
+use Rattle.recipe.specs.Side.{Side, cosAt, sinAt}
+use Rattle.recipe.specs.Tables.{cosines, cosine16, sine16, side16}
+use Rattle.recipe.specs.Correction.{wiener, rowRe, rowIm, binRe, binIm, quantized, filtered, twiddleRe, twiddleIm, inverseRe, inverseAt, correctionAt}
+use Rattle.recipe.specs.TableLaws.{window-halves}
+use Rattle.recipe.specs.Output.{rowIn, columnIn, weightIn, outputSample}
 use Rattle.closeness.specs.Windows.{four-windows}
 use Rattle.transform.specs.ZeroLaws.{sumZ-zero, away-zero, wiener-zero, less-zero, less-none, more-none}
 use Rattle.sanity.specs.RoundLaws.{away-whole, away-scale, upward-scale}
@@ -165,30 +165,37 @@ unfolding sumZ sumN side16
 windows i j hi hj = ap pos (four-windows side16 4096 window-halves i j hi hj)
 
 -- the output sample where each frame's difference is one number, and each tile's noise the same
-module _ (i j others : ℕ) (noise : ℕ → ℕ) (d : ℕ → ℕ → ℕ → ℕ → ℤ) (t0 : ℤ) (v : ℕ) (c : ℕ → ℤ) where
+module _ {n : Side} (of-16 : n ≡ side16) (y x others : ℕ) (noise : ℕ → ℕ) (d : ℕ → ℕ → ℕ → ℕ → ℤ) (t0 : ℤ) (v : ℕ) (c : ℕ → ℤ) where
+  abbrev i : ℕ
+  i = y % 8
+
+  abbrev j : ℕ
+  j = x % 8
+
   abbrev total : ℤ
   total = sumZ others (λ k. flatCorrection v (c k))
 
-  weighed : i < 8 → j < 8 → ((t : ℕ) → noise t ≡ v) → ((t k : ℕ) → k < others → d t k ≡ (λ y x. c k)) →
+  weighed : ((t : ℕ) → noise t ≡ v) → ((t k : ℕ) → k < others → d t k ≡ (λ y x. c k)) →
       sumZ 4 (λ t. sumZ others (λ k. pos (weightIn side16 i j t) *ℤ correctionAt side16 (noise t) (d t k) (rowIn side16 i t) (columnIn side16 j t))) ≡ pos 16777216 *ℤ total
   unfolding flatCorrection
-  weighed hi hj en ed =
+  weighed en ed =
       sumZ-cong 4 _ _
       (λ t h.
       sumZ-cong others _ _
       (λ k l. ap (λ z. pos (weightIn side16 i j t) *ℤ z) (ap₂ (λ n f. correctionAt side16 n f (rowIn side16 i t) (columnIn side16 j t)) (en t) (ed t k l) ∙ flat-correction (c k) v (rowIn side16 i t) (columnIn side16 j t)))
       ∙ sumZ-scale others (pos (weightIn side16 i j t)) (λ k. flatCorrection v (c k)))
       ∙ sumZ-scaler 4 total (λ t. pos (weightIn side16 i j t))
-      ∙ ap (λ z. z *ℤ total) (windows i j hi hj)
+      ∙ ap (λ z. z *ℤ total) (windows i j (omega arith) (omega arith))
 
-  pub flat-sample : i < 8 → j < 8 → ((t : ℕ) → noise t ≡ v) → ((t k : ℕ) → k < others → d t k ≡ (λ y x. c k)) →
-      outputSample side16 i j others noise d t0 ≡ clampZ (pos 0) (pos 4095) (upward (t0 *ℤ pos (256 * suc others) -ℤ total) (256 * suc others))
+  pub flat-sample : ((t : ℕ) → noise t ≡ v) → ((t k : ℕ) → k < others → d t k ≡ (λ y x. c k)) →
+      outputSample n (y % n .half) (x % n .half) others noise d t0 ≡ clampZ (pos 0) (pos 4095) (upward (t0 *ℤ pos (256 * suc others) -ℤ total) (256 * suc others))
   unfolding outputSample side16
-  flat-sample hi hj en ed =
+  flat-sample en ed =
       let whole = 256 * (16777216 * suc others) in
       let e : whole ≡ 256 * suc others * 16777216 = omega arith in
-      ap (clampZ (pos 0) (pos 4095))
+      ap (λ n. outputSample n (y % n .half) (x % n .half) others noise d t0) of-16
+      ∙ ap (clampZ (pos 0) (pos 4095))
       (ap₂ (λ z n. upward z n)
-      (ap (λ z. t0 *ℤ pos whole -ℤ z) (weighed hi hj en ed)
+      (ap (λ z. t0 *ℤ pos whole -ℤ z) (weighed en ed)
       ∙ ring (t0 ∷ pos (suc others) ∷ total ∷ []) (var 0 ⊠ (# 256 ⊠ (# 16777216 ⊠ var 1)) ⊟ # 16777216 ⊠ var 2) ((var 0 ⊠ (# 256 ⊠ var 1) ⊟ var 2) ⊠ # 16777216) tt) e
       ∙ upward-scale (t0 *ℤ pos (256 * suc others) -ℤ total) 16777216 (256 * suc others) (lit< tt) (omega arith))

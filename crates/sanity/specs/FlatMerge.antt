@@ -1,5 +1,5 @@
 -- Try flat frames: whatever the vectors, the merged frame is flat too, of the value `flatOutput`.
-use mathlib.Core.Path.{_≡_, _∙_, ap, ap₂, fun-ext}
+use mathlib.Core.Path.{_≡_, refl, _∙_, ap, ap₂, fun-ext}
 use Rattle.algebra.specs.Prelude.{List, ℕ, _+_, _*_, _/_, _%_, _<_, arith, ℤ, pos, natAbs, _-ℤ_}
 use lib.ListN.{replicate}
 use Rattle.sequences.specs.Grid.{tab-ext}
@@ -7,9 +7,11 @@ use Rattle.sequences.specs.Clear.{tab-const}
 use Rattle.geometry.specs.Shape.{outputLength}
 use Rattle.geometry.specs.Vectors.{otherFrame}
 use Rattle.geometry.specs.Read.{planeOf, read}
-use Rattle.noise.specs.NoiseNumber.{tileRoot, noiseNumber}
-use Rattle.merging.specs.declared.Merge.{Merge}
-use Rattle.merging.specs.Recipe.{Scene, sceneOf, tileAt, referenceTile, otherTile, tileNoise, difference, planeOutput, outputAt, wordAt, merged}
+use Rattle.recipe.specs.Tables.{side16}
+use Rattle.recipe.specs.NoiseNumber.{tileRoot, noiseNumber}
+use Rattle.recipe.specs.declared.Merge.{Merge}
+use Rattle.recipe.specs.Scene.{Scene, sceneOf, tileAt, referenceTile, otherTile, tileNoise, difference}
+use Rattle.recipe.specs.Merged.{planeOutput, outputAt, wordAt, merged}
 use Rattle.sanity.specs.FrameLaws.{other-below, flat-same, row-inside, column-inside}
 use Rattle.sanity.specs.MergeLaws.{tile-same}
 use Rattle.sanity.specs.FlatLaws.{flat-root, flat-sample}
@@ -19,16 +21,18 @@ module _ (s : Scene) {a : ℕ} {b : ℕ → ℕ} (flat : Flat s a b) where
   module _ (rowParity columnParity : ℕ) (p : rowParity < 2) (q : columnParity < 2) (row column : ℕ) where
     reference-tile : (i j : ℕ) → referenceTile s rowParity columnParity row column i j ≡ a
     unfolding referenceTile tileAt read planeOf
-    reference-tile i j = tile-same (s .height) (s .width) rowParity columnParity (s .reference) (λ y x. a) (flat .high) (flat .wide) p q (flat .reference) (pos 0) (pos 0) row column i j
+    reference-tile i j = tile-same (s .side) (s .height) (s .width) rowParity columnParity (s .reference) (λ y x. a) (flat .high) (flat .wide) p q (flat .reference) (pos 0) (pos 0) row column i j
 
     other-tile : (k : ℕ) → k < s .others → (i j : ℕ) → otherTile s rowParity columnParity row column k i j ≡ b k
     unfolding otherTile tileAt read planeOf
     other-tile k h i j =
-        tile-same (s .height) (s .width) rowParity columnParity (s .other k) (λ y x. b k) (flat .high) (flat .wide) p q (flat .other k h) (s .down k row column) (s .right k row column) row column i j
+        tile-same (s .side) (s .height) (s .width) rowParity columnParity (s .other k) (λ y x. b k) (flat .high) (flat .wide) p q (flat .other k h) (s .down k row column) (s .right k row column) row column i j
 
-    tile-noise : tileNoise s rowParity columnParity row column ≡ noiseNumber (s .strength) (s .shot) (s .read) (16 * a)
-    unfolding tileNoise
-    tile-noise = ap (noiseNumber (s .strength) (s .shot) (s .read)) (ap (tileRoot 16) (fun-ext (λ i. fun-ext (λ j. reference-tile i j))) ∙ flat-root a)
+    tile-noise : tileNoise s rowParity columnParity row column ≡ noiseNumber side16 (s .tuning .strength) (s .shot) (s .read) (16 * a)
+    unfolding tileNoise side16
+    tile-noise =
+        ap₂ (λ n t. noiseNumber n (s .tuning .strength) (s .shot) (s .read) (tileRoot (n .side) t)) (flat .of-16) (fun-ext (λ i. fun-ext (λ j. reference-tile i j)))
+        ∙ ap (noiseNumber side16 (s .tuning .strength) (s .shot) (s .read)) (flat-root a)
 
     differences : (k : ℕ) → k < s .others → difference s rowParity columnParity row column k ≡ (λ i j. pos a -ℤ pos (b k))
     unfolding difference
@@ -40,7 +44,7 @@ module _ (s : Scene) {a : ℕ} {b : ℕ → ℕ} (flat : Flat s a b) where
   sample-flat row column h k =
       let p : row % 2 < 2 = omega arith in
       let q : column % 2 < 2 = omega arith in
-      flat-sample _ _ (s .others) _ _ _ _ _ (omega arith) (omega arith)
+      flat-sample (flat .of-16) (row / 2) (column / 2) (s .others) _ _ _ _ _
       (λ t. tile-noise (row % 2) (column % 2) p q _ _)
       (λ t z l. differences (row % 2) (column % 2) p q _ _ z l)
       ∙ rw (flat .reference .at (2 * (row / 2) + row % 2) (2 * (column / 2) + column % 2) (omega arith) (omega arith))
@@ -59,6 +63,7 @@ module _ (m : Merge) (samples : List ℕ) (vectors : List ℤ) {a : ℕ} {b : �
   unfolding sceneOf
   scene-flat =
       record {
+        of-16 = refl;
         high = omega (arith, flat .sampled .allowed .high .least);
         wide = omega (arith, flat .sampled .allowed .wide .least);
         reference = flat-same (m .shape) samples (flat .sampled) (m .reference) a (flat .below) (flat .reference-words);

@@ -3,20 +3,21 @@ use Rattle.algebra.specs.Prelude.{_≡_, ap, ap₂, _∙_, ℕ, _+_, _*_, _/_, 
 use Rattle.sequences.specs.Grid.{tab-ext}
 use Rattle.geometry.specs.Read.{Image, planeOf, inside, read}
 use Rattle.geometry.specs.ReadLaws.{inside-below}
-use Rattle.geometry.specs.Tiles.{level0, origin}
-use Rattle.lines.specs.Tables.{side16}
-use Rattle.transform.specs.Recipe.{correctionAt}
-use Rattle.merging.specs.Recipe.{Scene, tileAt, noiseOver, differenceOver, planeOutput, outputAt, wordAt, merged}
+use Rattle.geometry.specs.Tiles.{origin}
+use Rattle.recipe.specs.Side.{Side}
+use Rattle.recipe.specs.Correction.{correctionAt}
+use Rattle.recipe.specs.Scene.{Scene, tileAt, noiseOver, differenceOver}
+use Rattle.recipe.specs.Merged.{planeOutput, outputAt, wordAt, merged}
 use Rattle.sanity.specs.Frames.{Same, imageWords}
 use Rattle.sanity.specs.FrameLaws.{row-inside, column-inside}
 use Rattle.sanity.specs.OutputLaws.{output-kept}
 
-pub tile-same : (height width rowParity columnParity : ℕ) (f g : Image) → 2 ≤ height → 2 ≤ width → rowParity < 2 → columnParity < 2 → Same height width f g →
-    (down right : ℤ) (a b i j : ℕ) → tileAt height width rowParity columnParity f down right a b i j ≡ tileAt height width rowParity columnParity g down right a b i j
+pub tile-same : (n : Side) (height width rowParity columnParity : ℕ) (f g : Image) → 2 ≤ height → 2 ≤ width → rowParity < 2 → columnParity < 2 → Same height width f g →
+    (down right : ℤ) (a b i j : ℕ) → tileAt n height width rowParity columnParity f down right a b i j ≡ tileAt n height width rowParity columnParity g down right a b i j
 unfolding tileAt read planeOf
-tile-same height width rowParity columnParity f g high wide p q same down right a b i j =
-    let row = origin (level0 .half) a +ℤ down +ℤ pos i in
-    let column = origin (level0 .half) b +ℤ right +ℤ pos j in
+tile-same n height width rowParity columnParity f g high wide p q same down right a b i j =
+    let row = origin (n .half) a +ℤ down +ℤ pos i in
+    let column = origin (n .half) b +ℤ right +ℤ pos j in
     same .at (2 * inside (height / 2) row + rowParity) (2 * inside (width / 2) column + columnParity)
     (omega (arith, inside-below (height / 2) row (omega arith)))
     (omega (arith, inside-below (width / 2) column (omega arith)))
@@ -25,7 +26,7 @@ module _ (s : Scene) where
   -- P of each tile over the sample at a row and a column is 0, for each other frame
   pub record Uncorrected (row column : ℕ) : Type 0 where
     pub none : (t k i j : ℕ) → k < s .others →
-        correctionAt side16 (noiseOver s (row % 2) (column % 2) (row / 2) (column / 2) t) (differenceOver s (row % 2) (column % 2) (row / 2) (column / 2) t k) i j ≡ pos 0
+        correctionAt (s .side) (noiseOver s (row % 2) (column % 2) (row / 2) (column / 2) t) (differenceOver s (row % 2) (column % 2) (row / 2) (column / 2) t k) i j ≡ pos 0
 
   plane-place : (row column : ℕ) → planeOf (s .reference) (row % 2) (column % 2) (row / 2) (column / 2) ≡ s .reference row column
   unfolding planeOf
@@ -34,7 +35,7 @@ module _ (s : Scene) where
   pub output-is : (row column : ℕ) → s .reference row column ≤ 4095 → Uncorrected row column → outputAt s row column ≡ pos (s .reference row column)
   unfolding outputAt planeOutput
   output-is row column most u =
-      output-kept side16 _ _ (s .others) _ _ _ (rw (plane-place row column) most) (λ t z h k. u .none t z _ _ k) ∙ ap pos (plane-place row column)
+      output-kept (s .side) _ _ (s .others) _ _ _ (rw (plane-place row column) most) (λ t z h k. u .none t z _ _ k) ∙ ap pos (plane-place row column)
 
   pub merged-is : ((row column : ℕ) → row < s .height → column < s .width → outputAt s row column ≡ pos (s .reference row column)) → merged s ≡ imageWords (s .height) (s .width) (s .reference)
   unfolding merged wordAt imageWords

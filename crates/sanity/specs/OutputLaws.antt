@@ -6,9 +6,9 @@ use Rattle.algebra.specs.Sums.{sumZ}
 use Rattle.algebra.specs.Order.{zarith}
 use Rattle.algebra.specs.Clamp.{clampZ, clamp-same}
 use Rattle.algebra.specs.Nearest.{upward}
-use Rattle.lines.specs.Side.{Side}
-use Rattle.transform.specs.Recipe.{correctionAt}
-use Rattle.closeness.specs.Output.{rowIn, columnIn, weightIn, outputSample}
+use Rattle.recipe.specs.Side.{Side}
+use Rattle.recipe.specs.Correction.{correctionAt}
+use Rattle.recipe.specs.Output.{rowIn, columnIn, weightIn, outputSample}
 use Rattle.transform.specs.ZeroLaws.{sumZ-zero}
 
 -- m·n/m to nearest is n

@@ -1,20 +1,21 @@
 -- Try the other frames in another order, each with its vectors: the merged frame stays the same.
 use mathlib.Core.Path.{_≡_, _∙_, ap, ap₂, fun-ext}
-use Rattle.algebra.specs.Prelude.{ℕ, suc, _*_, _/_, _%_, _≤_, _<_, arith, ℤ, pos, natAbs, _-ℤ_, _*ℤ_}
+use Rattle.algebra.specs.Prelude.{List, ℕ, suc, _*_, _/_, _%_, _≤_, _<_, arith, ℤ, pos, natAbs, _-ℤ_, _*ℤ_}
 use Rattle.algebra.specs.Sums.{sumZ-cong}
 use Rattle.algebra.specs.Clamp.{clampZ}
 use Rattle.algebra.specs.Nearest.{upward}
 use Rattle.sequences.specs.Grid.{tab-ext}
 use Rattle.geometry.specs.Shape.{AllowedSize}
-use Rattle.geometry.specs.Read.{Image, planeOf}
-use Rattle.geometry.specs.Tiles.{level0}
-use Rattle.noise.specs.NoiseNumber.{noiseNumber}
+use Rattle.geometry.specs.Read.{planeOf}
+use Rattle.recipe.specs.NoiseNumber.{noiseNumber}
 use Rattle.noise.specs.NoiseNumberLaws.{tile-root-cong}
-use Rattle.lines.specs.Side.{Side}
-use Rattle.lines.specs.Tables.{side16}
-use Rattle.transform.specs.Recipe.{correctionAt}
-use Rattle.closeness.specs.Output.{rowIn, columnIn, weightIn, outputSample}
-use Rattle.merging.specs.Recipe.{Scene, tileAt, tileOver, referenceTile, otherTile, tileNoise, difference, planeOutput, outputAt, wordAt, merged}
+use Rattle.recipe.specs.declared.Merge.{Merge}
+use Rattle.recipe.specs.Side.{Side}
+use Rattle.recipe.specs.Tables.{side16}
+use Rattle.recipe.specs.Correction.{correctionAt}
+use Rattle.recipe.specs.Output.{rowIn, columnIn, weightIn, outputSample}
+use Rattle.recipe.specs.Scene.{Scene, sceneOf, tileAt, tileOver, referenceTile, otherTile, tileNoise, difference}
+use Rattle.recipe.specs.Merged.{planeOutput, outputAt, wordAt, merged}
 use Rattle.sanity.specs.Frames.{Same}
 use Rattle.sanity.specs.FrameLaws.{row-inside, column-inside}
 use Rattle.sanity.specs.MergeLaws.{tile-same}
@@ -34,63 +35,56 @@ module _ {others : ℕ} {to from : ℕ → ℕ} (order : Renumbering others to f
       ∙ sum-renumbered order (λ k. pos (weightIn s a b t) *ℤ correctionAt s (noise t) (d t k) (rowIn s a t) (columnIn s b t))))
       e0
 
--- s with other frames and vectors
-unfoldable pub refilled : Scene → (reference : Image) (other : ℕ → Image) (down right : (k a b : ℕ) → ℤ) → Scene
-refilled s reference other down right =
-    record {
-      height = s .height;
-      width = s .width;
-      others = s .others;
-      reference = reference;
-      other = other;
-      down = down;
-      right = right;
-      shot = s .shot;
-      read = s .read;
-      strength = s .strength;
-    }
+-- the same merge with its reference at another place
+abbrev pub moved : Merge → (reference : ℕ) → Merge
+moved m reference = record { shape = m .shape; reference = reference; shot = m .shot; read = m .read; tuning = m .tuning }
 
--- these are the frames and the vectors of s, with number `to k` of the other frames as number k
-pub record Reordered (s : Scene) (to from : ℕ → ℕ) (reference : Image) (other : ℕ → Image) (down right : (k a b : ℕ) → ℤ) : Type 0 where
+-- s′ has the frames and the vectors of s, with number `to k` of the other frames as number k
+pub record Reordered (s s′ : Scene) (to from : ℕ → ℕ) : Type 0 where
   pub order : Renumbering (s .others) to from
   pub high : AllowedSize (s .height)
   pub wide : AllowedSize (s .width)
-  pub reference-same : Same (s .height) (s .width) reference (s .reference)
-  pub other-same : (k : ℕ) → k < s .others → Same (s .height) (s .width) (other k) (s .other (to k))
-  pub down-same : (k a b : ℕ) → k < s .others → a ≤ s .height / 16 → b ≤ s .width / 16 → down k a b ≡ s .down (to k) a b
-  pub right-same : (k a b : ℕ) → k < s .others → a ≤ s .height / 16 → b ≤ s .width / 16 → right k a b ≡ s .right (to k) a b
+  pub reference-same : Same (s .height) (s .width) (s′ .reference) (s .reference)
+  pub other-same : (k : ℕ) → k < s .others → Same (s .height) (s .width) (s′ .other k) (s .other (to k))
+  pub down-same : (k a b : ℕ) → k < s .others → a ≤ s .height / 16 → b ≤ s .width / 16 → s′ .down k a b ≡ s .down (to k) a b
+  pub right-same : (k a b : ℕ) → k < s .others → a ≤ s .height / 16 → b ≤ s .width / 16 → s′ .right k a b ≡ s .right (to k) a b
 
-module _ (s : Scene) {to from : ℕ → ℕ} {reference : Image} {other : ℕ → Image} {down right : (k a b : ℕ) → ℤ} (r : Reordered s to from reference other down right) where
+module _ (m : Merge) (reference : ℕ) (samples samples′ : List ℕ) (vectors vectors′ : List ℤ) {to from : ℕ → ℕ}
+    (r : Reordered (sceneOf m samples vectors) (sceneOf (moved m reference) samples′ vectors′) to from) where
+  abbrev s : Scene
+  s = sceneOf m samples vectors
+
   abbrev s′ : Scene
-  s′ = refilled s reference other down right
+  s′ = sceneOf (moved m reference) samples′ vectors′
 
   module _ (rowParity columnParity : ℕ) (p : rowParity < 2) (q : columnParity < 2) (a b : ℕ) where
     reference-tile : (i j : ℕ) → referenceTile s′ rowParity columnParity a b i j ≡ referenceTile s rowParity columnParity a b i j
-    unfolding refilled referenceTile
-    reference-tile i j = tile-same (s .height) (s .width) rowParity columnParity reference (s .reference) (omega (arith, r .high .least)) (omega (arith, r .wide .least)) p q (r .reference-same) (pos 0) (pos 0) a b i j
+    unfolding sceneOf referenceTile
+    reference-tile i j = tile-same side16 (s .height) (s .width) rowParity columnParity (s′ .reference) (s .reference) (omega (arith, r .high .least)) (omega (arith, r .wide .least)) p q (r .reference-same) (pos 0) (pos 0) a b i j
 
     tile-noise : tileNoise s′ rowParity columnParity a b ≡ tileNoise s rowParity columnParity a b
-    unfolding refilled tileNoise
-    tile-noise = ap (noiseNumber (s .strength) (s .shot) (s .read)) (tile-root-cong (level0 .side) _ _ (λ i j h k. reference-tile i j))
+    unfolding sceneOf tileNoise
+    tile-noise = ap (noiseNumber side16 (s .tuning .strength) (s .shot) (s .read)) (tile-root-cong (side16 .side) _ _ (λ i j h k. reference-tile i j))
 
     module _ (ha : a ≤ s .height / 16) (hb : b ≤ s .width / 16) (k : ℕ) (h : k < s .others) where
       other-tile : (i j : ℕ) → otherTile s′ rowParity columnParity a b k i j ≡ otherTile s rowParity columnParity a b (to k) i j
-      unfolding refilled otherTile
+      unfolding sceneOf otherTile
       other-tile i j =
-          ap₂ (λ d c. tileAt (s .height) (s .width) rowParity columnParity (other k) d c a b i j) (r .down-same k a b h ha hb) (r .right-same k a b h ha hb)
-          ∙ tile-same (s .height) (s .width) rowParity columnParity (other k) (s .other (to k)) (omega (arith, r .high .least)) (omega (arith, r .wide .least)) p q (r .other-same k h) (s .down (to k) a b) (s .right (to k) a b) a b i j
+          ap₂ (λ d c. tileAt side16 (s .height) (s .width) rowParity columnParity (s′ .other k) d c a b i j) (r .down-same k a b h ha hb) (r .right-same k a b h ha hb)
+          ∙ tile-same side16 (s .height) (s .width) rowParity columnParity (s′ .other k) (s .other (to k)) (omega (arith, r .high .least)) (omega (arith, r .wide .least)) p q (r .other-same k h) (s .down (to k) a b) (s .right (to k) a b) a b i j
 
       differences : difference s′ rowParity columnParity a b k ≡ difference s rowParity columnParity a b (to k)
       unfolding difference
       differences = fun-ext (λ i. fun-ext (λ j. ap₂ (λ x y. pos x -ℤ pos y) (reference-tile i j) (other-tile i j)))
 
   -- the tiles over a sample are tiles of the plane
-  over : (size y t : ℕ) → AllowedSize size → y < size → tileOver (y / 2) t ≤ size / 16
+  over : (size y t : ℕ) → AllowedSize size → y < size → tileOver side16 (y / 2) t ≤ size / 16
+  unfolding side16
   over size y t ok h = omega (arith, ok .whole)
 
   -- sample for sample
   pub sample-stays : (row column : ℕ) → row < s .height → column < s .width → outputAt s′ row column ≡ outputAt s row column
-  unfolding refilled outputAt planeOutput planeOf
+  unfolding sceneOf outputAt planeOutput planeOf
   sample-stays row column h k =
       let p : row % 2 < 2 = omega arith in
       let q : column % 2 < 2 = omega arith in
@@ -101,7 +95,7 @@ module _ (s : Scene) {to from : ℕ → ℕ} {reference : Image} {other : ℕ �
 
   -- and the whole frame
   pub frame-stays : merged s′ ≡ merged s
-  unfolding refilled merged wordAt
+  unfolding sceneOf merged wordAt
   frame-stays =
       tab-ext (s .width * s .height) _ _
       (λ k l. ap natAbs (sample-stays (k / s .width) (k % s .width) (row-inside k (s .width) (s .height) l) (column-inside k (s .width) (s .height) l)))

@@ -7,14 +7,15 @@ use Rattle.geometry.specs.Vectors.{otherFrame, downAt, rightAt}
 use Rattle.alignment.specs.Fields.{field0, residualSum}
 use Rattle.alignment.specs.Frames.{vectorsOf, residualOf}
 use Rattle.alignment.specs.Aligned.{fieldOf, sumOf, alignedVectors}
-use Rattle.merging.specs.declared.Merge.{Merge}
-use Rattle.merging.specs.Recipe.{sceneOf, merged}
+use Rattle.recipe.specs.declared.Merge.{Merge}
+use Rattle.recipe.specs.Scene.{sceneOf}
+use Rattle.recipe.specs.Merged.{merged}
 use Rattle.sanity.specs.Frames.{frameWords, Burst, Same}
 use Rattle.sanity.specs.FrameLaws.{other-below, frames-same}
 use Rattle.sanity.specs.PyramidLaws.{pairs-agree}
 use Rattle.sanity.specs.VectorLaws.{down-is, right-is}
 use Rattle.sanity.specs.RenumberLaws.{Renumbering}
-use Rattle.sanity.specs.Renumbered.{refilled, Reordered, frame-stays}
+use Rattle.sanity.specs.Renumbered.{moved, Reordered, frame-stays}
 
 -- samples′ has the frames of samples: the same reference, and as its other frame k the other frame `to k`
 pub record Shuffled (s : Shape) (to from : ℕ → ℕ) (reference reference′ : ℕ) (samples samples′ : List ℕ) : Type 0 where
@@ -26,10 +27,6 @@ pub record Shuffled (s : Shape) (to from : ℕ → ℕ) (reference reference′ 
 pub record Carried (s : Shape) (to : ℕ → ℕ) (vectors vectors′ : List ℤ) : Type 0 where
   pub down : (k a b : ℕ) → k < s .count - 1 → a ≤ s .height / 16 → b ≤ s .width / 16 → downAt s vectors′ k a b ≡ downAt s vectors (to k) a b
   pub right : (k a b : ℕ) → k < s .count - 1 → a ≤ s .height / 16 → b ≤ s .width / 16 → rightAt s vectors′ k a b ≡ rightAt s vectors (to k) a b
-
--- the same merge with its reference at another place
-abbrev pub moved : Merge → (reference : ℕ) → Merge
-moved m reference = record { shape = m .shape; reference = reference; shot = m .shot; read = m .read; strength = m .strength }
 
 module _ {s : Shape} {to from : ℕ → ℕ} {reference reference′ : ℕ} {samples samples′ : List ℕ} (burst : Burst s reference samples) (burst′ : Burst s reference′ samples′) (sh : Shuffled s to from reference reference′ samples samples′) where
   reference-same : Same (s .height) (s .width) (sampleAt s samples′ reference′) (sampleAt s samples reference)
@@ -61,10 +58,10 @@ module _ {s : Shape} {to from : ℕ → ℕ} {reference reference′ : ℕ} {sam
 -- merge, with vectors that go with their frames
 module _ (m : Merge) {to from : ℕ → ℕ} {reference′ : ℕ} {samples samples′ : List ℕ} (burst : Burst (m .shape) (m .reference) samples) (burst′ : Burst (m .shape) reference′ samples′) (sh : Shuffled (m .shape) to from (m .reference) reference′ samples samples′) where
   pub merge-stays : {vectors vectors′ : List ℤ} → Carried (m .shape) to vectors vectors′ → merged (sceneOf (moved m reference′) samples′ vectors′) ≡ merged (sceneOf m samples vectors)
-  unfolding sceneOf refilled
-  merge-stays {vectors} {vectors′} c = frame-stays (sceneOf m samples vectors) reordered
+  unfolding sceneOf
+  merge-stays {vectors} {vectors′} c = frame-stays m reference′ samples samples′ vectors vectors′ reordered
     where
-      reordered : Reordered (sceneOf m samples vectors) to from (sampleAt (m .shape) samples′ reference′) (λ k. sampleAt (m .shape) samples′ (otherFrame reference′ k)) (downAt (m .shape) vectors′) (rightAt (m .shape) vectors′)
+      reordered : Reordered (sceneOf m samples vectors) (sceneOf (moved m reference′) samples′ vectors′) to from
       reordered =
           record {
             order = sh .order;

@@ -1,12 +1,12 @@
 -- Try a burst of one picture taken several times, with vectors of 0: the merge hands back the reference, whatever the noise and the strength are.
-use Rattle.algebra.specs.Prelude.{_≡_, refl, sym, _∙_, List, ℕ, zero, suc, _+_, _%_, _≤_, _<_, arith, lit<}
+use Rattle.algebra.specs.Prelude.{_≡_, refl, sym, _∙_, List, ℕ, zero, suc, _+_, _%_, _≤_, _<_, arith}
 use lib.IntN.{pos, +ℤ-invr}
 use lib.ListN.{getD, replicate}
 use Rattle.geometry.specs.Vectors.{otherFrame, vectorPlace, downAt, rightAt}
 use Rattle.geometry.specs.BoundLaws.{sample-most}
-use Rattle.lines.specs.Tables.{side16}
-use Rattle.merging.specs.declared.Merge.{Merge}
-use Rattle.merging.specs.Recipe.{Scene, sceneOf, tileAt, referenceTile, otherTile, difference, outputAt, merged}
+use Rattle.recipe.specs.declared.Merge.{Merge}
+use Rattle.recipe.specs.Scene.{Scene, sceneOf, tileAt, referenceTile, otherTile, difference}
+use Rattle.recipe.specs.Merged.{outputAt, merged}
 use Rattle.sanity.specs.Frames.{Burst, Same, Alike, imageWords, frameWords}
 use Rattle.sanity.specs.FrameLaws.{other-below, frame-words, alike-same}
 use Rattle.transform.specs.ZeroLaws.{no-difference}
@@ -25,14 +25,13 @@ module _ (s : Scene) (still : Still s) where
   difference-none : (rowParity columnParity a b k i j : ℕ) → rowParity < 2 → columnParity < 2 → k < s .others → difference s rowParity columnParity a b k i j ≡ pos 0
   unfolding difference referenceTile otherTile
   difference-none rowParity columnParity a b k i j p q h =
-      rw (still .no-down k a b h, still .no-right k a b h, tile-same (s .height) (s .width) rowParity columnParity (s .reference) (s .other k) (still .high) (still .wide) p q (still .alike k h) (pos 0) (pos 0) a b i j)
-      (+ℤ-invr (pos (tileAt (s .height) (s .width) rowParity columnParity (s .other k) (pos 0) (pos 0) a b i j)))
+      rw (still .no-down k a b h, still .no-right k a b h, tile-same (s .side) (s .height) (s .width) rowParity columnParity (s .reference) (s .other k) (still .high) (still .wide) p q (still .alike k h) (pos 0) (pos 0) a b i j)
+      (+ℤ-invr (pos (tileAt (s .side) (s .height) (s .width) rowParity columnParity (s .other k) (pos 0) (pos 0) a b i j)))
 
   uncorrected : (row column : ℕ) → Uncorrected s row column
-  unfolding side16
   uncorrected row column =
       record {
-        none = λ t k i j h. no-difference side16 _ (λ y x l m. difference-none (row % 2) (column % 2) _ _ k y x (omega arith) (omega arith) h) (lit< tt) (lit< tt) _ i j;
+        none = λ t k i j h. no-difference (s .side) _ (λ y x l m. difference-none (row % 2) (column % 2) _ _ k y x (omega arith) (omega arith) h) (s .side .quantum-above) (s .side .divisor-above) _ i j;
       }
 
   -- sample for sample

@@ -2,8 +2,9 @@
 use Rattle.algebra.specs.Prelude.{_≡_, ap, _∙_, List, ℕ}
 use Rattle.geometry.specs.Shape.{vectorLength}
 use Rattle.alignment.specs.Aligned.{alignedVectors}
-use Rattle.merging.specs.declared.Merge.{Merge}
-use Rattle.merging.specs.Recipe.{sceneOf, merged}
+use Rattle.recipe.specs.declared.Merge.{Merge}
+use Rattle.recipe.specs.Scene.{sceneOf}
+use Rattle.recipe.specs.Merged.{merged}
 use Rattle.sanity.specs.Frames.{frameWords, Burst, Alike}
 use Rattle.sanity.specs.StillMerge.{burst-back}
 use Rattle.sanity.specs.StillAlign.{vectors-none}

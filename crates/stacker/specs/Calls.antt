@@ -7,11 +7,12 @@ use Rattle.geometry.specs.Refusal.{_before_}
 use Rattle.geometry.specs.Bounds.{vectorRefusal}
 use Rattle.noise.specs.declared.Noise.{Noise}
 use Rattle.alignment.specs.Aligned.{alignedVectors, residualSums}
-use Rattle.merging.specs.declared.Merge.{Merge}
-use Rattle.merging.specs.Recipe.{Scene, sceneOf, merged}
-use Rattle.merging.specs.Exact.{exactAt}
+use Rattle.recipe.specs.declared.Merge.{Merge}
+use Rattle.recipe.specs.Scene.{Scene, sceneOf}
+use Rattle.recipe.specs.Merged.{merged}
+use Rattle.recipe.specs.ExactMerge.{exactAt}
 use Rattle.stacker.specs.declared.Alignment.{Alignment}
-use Rattle.stacker.specs.declared.Tuning.{Tuning}
+use Rattle.recipe.specs.declared.Tuning.{Tuning}
 use Rattle.stacker.specs.Buffers.{after, noSums}
 use Rattle.stacker.specs.Refusals.{alignRefusal, runRefusal, mergeRefusal, mergeOf}
 

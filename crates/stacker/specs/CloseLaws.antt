@@ -1,10 +1,12 @@
 -- Demand 3 at the calls: an output that is the merge is close to the exact merge.
-use Rattle.algebra.specs.Prelude.{_≡_, sym, ap, subst, _∙_, List, ℕ, zero, suc, _/_, _%_, _≤_, arith, getD, ℤ, pos}
+use Rattle.algebra.specs.Prelude.{_≡_, refl, sym, ap, subst, _∙_, List, ℕ, zero, suc, _/_, _%_, _≤_, arith, getD, ℤ, pos}
 use Rattle.algebra.specs.Fraction.{whole, Within}
-use Rattle.merging.specs.declared.Merge.{Merge}
-use Rattle.merging.specs.Recipe.{sceneOf, merged}
-use Rattle.merging.specs.Exact.{exactAt}
-use Rattle.merging.specs.Closeness.{merged-close}
+use Rattle.recipe.specs.declared.Merge.{Merge}
+use Rattle.recipe.specs.Tables.{side16}
+use Rattle.recipe.specs.Scene.{sceneOf}
+use Rattle.recipe.specs.Merged.{merged}
+use Rattle.recipe.specs.ExactMerge.{exactAt}
+use Rattle.closeness.specs.MergedClose.{merged-close}
 use Rattle.stacker.specs.Buffers.{after}
 use Rattle.stacker.specs.Calls.{Close}
 
@@ -12,12 +14,16 @@ few : (m : Merge) (samples : List ℕ) (vectors : List ℤ) → m .shape .count 
 unfolding sceneOf
 few m samples vectors h = omega arith
 
+of-16 : (m : Merge) (samples : List ℕ) (vectors : List ℤ) → sceneOf m samples vectors .side ≡ side16
+unfolding sceneOf
+of-16 m samples vectors = refl
+
 pub output-close : (m : Merge) (samples : List ℕ) (vectors : List ℤ) (output : List ℕ) → m .shape .count ≤ 8 →
     output ≡ merged (sceneOf m samples vectors) → Close (sceneOf m samples vectors) output
 output-close m samples vectors output h e =
     let scene = sceneOf m samples vectors in
     record {
-      close = λ k l. subst (λ o. Within 5 8 (whole (pos (getD o k 0))) (exactAt scene (k / scene .width) (k % scene .width))) (sym e) (merged-close scene (few m samples vectors h) k l);
+      close = λ k l. subst (λ o. Within 5 8 (whole (pos (getD o k 0))) (exactAt scene (k / scene .width) (k % scene .width))) (sym e) (merged-close scene (of-16 m samples vectors) (few m samples vectors h) k l);
     }
 
 -- the same with the vectors as a buffer holds them

@@ -6,8 +6,8 @@ use Rattle.geometry.specs.Order.{alignShapeRefusal, mergeShapeRefusal, MergeFit
 use Rattle.geometry.specs.Bounds.{sampleRefusal, SamplesFit, vectorRefusal}
 use Rattle.noise.specs.declared.Noise.{Noise}
 use Rattle.noise.specs.Levels.{levelsOf, refusalOf, shotLevel, readLevel, strengthRefusal}
-use Rattle.merging.specs.declared.Merge.{Merge}
-use Rattle.stacker.specs.declared.Tuning.{Tuning}
+use Rattle.recipe.specs.declared.Merge.{Merge}
+use Rattle.recipe.specs.declared.Tuning.{Tuning}
 use Rattle.stacker.specs.declared.tests.Tested.{Tested}
 
 -- "Align tests 1 to 5, 7, 11"
@@ -36,7 +36,7 @@ mergeOf s reference noise tuning =
       reference = reference;
       shot = shotLevel (levelsOf noise);
       read = readLevel (levelsOf noise);
-      strength = tuning .strength;
+      tuning = tuning;
     }
 
 -- what is known of a run that tests 1 to 11 have let through
@@ -45,7 +45,7 @@ pub record Runnable (m : Merge) (samples : List ℕ) (vectors : List ℤ) (outpu
   pub samples-fit : SamplesFit samples
   pub shot-most : m .shot ≤ 65536
   pub read-most : m .read ≤ 4194304
-  pub strength-most : m .strength ≤ 1024
+  pub strength-most : m .tuning .strength ≤ 1024
 
 -- the answer of these tests
 pub record RunTested (s : Shape) (reference : ℕ) (noise : Noise) (tuning : Tuning) (samples : List ℕ) (vectors : List ℤ) (output : List ℕ) (work : List ℤ) (r : Tested) : Type 0 where

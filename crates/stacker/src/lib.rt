@@ -10,8 +10,3 @@ pub struct Alignment {
     pub refusal: u64,
     pub residuals: [u64; 7],
 }
-
-// What tunes the merge: the strength counts eighths of the source's tau.
-pub struct Tuning {
-    pub strength: u64,
-}

@@ -1,11 +1,11 @@
 // Merge: a burst and lent vectors to the output.
 ghost use Rattle.stacker.specs.Calls.{Merged};
-use crate::Tuning;
 use crate::tests::clear;
 use crate::tests::run_refusal;
 use geometry::Shape;
-use merging::Merge;
 use noise::Noise;
+use recipe::Merge;
+use recipe::Tuning;
 
 pub fn merge(
     shape: Shape,
@@ -41,7 +41,7 @@ pub fn merge(
         reference,
         shot: tested.shot,
         read: tested.read,
-        strength: tuning.strength,
+        tuning,
     };
     merging::merge_frames(m, samples, vectors, &mut *output, &mut *work);
     clear(&mut *work);

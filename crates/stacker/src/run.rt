@@ -3,12 +3,12 @@ ghost use lib.ListN.{length};
 ghost use Rattle.stacker.specs.Refusals.{Runnable};
 ghost use Rattle.stacker.specs.Calls.{Ran, RanLevels};
 use crate::Alignment;
-use crate::Tuning;
 use crate::tests::clear;
 use crate::tests::run_refusal;
 use geometry::Shape;
-use merging::Merge;
 use noise::Noise;
+use recipe::Merge;
+use recipe::Tuning;
 
 // What run does once its tests have passed, from the levels Ls and Lr: a burst file's go the same way.
 pub fn run_levels(
@@ -80,7 +80,7 @@ pub fn run(
         reference,
         shot: tested.shot,
         read: tested.read,
-        strength: tuning.strength,
+        tuning,
     };
     run_levels(m, samples, &mut *vectors, &mut *output, &mut *work)
 }

@@ -8,10 +8,10 @@ ghost use Rattle.geometry.specs.Bounds.{sampleRefusal, SamplesFit};
 ghost use Rattle.noise.specs.Levels.{strengthRefusal};
 ghost use Rattle.alignment.specs.Aligned.{Ready};
 ghost use Rattle.stacker.specs.Refusals.{alignRefusal, RunTested};
-use crate::Tuning;
 use geometry::Shape;
 use noise::Levels;
 use noise::Noise;
+use recipe::Tuning;
 
 // Sets the work area to zero.
 pub fn clear(work: &mut [i64])

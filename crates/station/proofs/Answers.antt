@@ -7,7 +7,8 @@ use borrow.Author.Tests.{le-leb, lt-leb, ne-eqb}
 use Rattle.geometry.specs.Refusal.{_before_}
 use Rattle.noise.specs.declared.Levels.the-variants.{Found, Refused}
 use Rattle.noise.specs.Levels.{strengthRefusal}
-use Rattle.noise.specs.NoiseNumber.{noiseNumber}
+use Rattle.recipe.specs.Tables.{side16}
+use Rattle.recipe.specs.NoiseNumber.{noiseNumber}
 use Rattle.noise.specs.NoiseNumberLaws.{noise-number-none}
 use Rattle.station.specs.Station.{answered}
 
@@ -17,7 +18,7 @@ either false e = refl
 
 pub refused : (number strength root : ℕ) → 0 ≡ answered (Refused number) strength root
 unfolding answered
-refused number strength root = either (eqb (number before strengthRefusal strength) 0 && leb root 65520) (noise-number-none strength root)
+refused number strength root = either (eqb (number before strengthRefusal strength) 0 && leb root 65520) (noise-number-none side16 strength root)
 
 module _ (ls lr strength root : ℕ) where
   pub too-strong : (strengthRefusal strength ≡ 0 → ⊥) → 0 ≡ answered (Found ls lr) strength root
@@ -28,6 +29,6 @@ module _ (ls lr strength root : ℕ) where
   unfolding answered
   too-bright e h = rw (e, lt-leb _ _ h)
 
-  pub numbered : strengthRefusal strength ≡ 0 → root ≤ 65520 → noiseNumber strength ls lr root ≡ answered (Found ls lr) strength root
+  pub numbered : strengthRefusal strength ≡ 0 → root ≤ 65520 → noiseNumber side16 strength ls lr root ≡ answered (Found ls lr) strength root
   unfolding answered
   numbered e h = rw (e, le-leb _ _ h)

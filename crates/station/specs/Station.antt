@@ -7,13 +7,14 @@ use Rattle.geometry.specs.Refusal.{_before_}
 use Rattle.noise.specs.declared.Noise.the-variants.{Measured}
 use Rattle.noise.specs.declared.Levels.{Levels}
 use Rattle.noise.specs.Levels.{levelsOf, refusalOf, shotLevel, readLevel, strengthRefusal}
-use Rattle.noise.specs.NoiseNumber.{noiseNumber}
+use Rattle.recipe.specs.Tables.{side16}
+use Rattle.recipe.specs.NoiseNumber.{noiseNumber}
 
 -- of a noise's levels
 unfoldable pub answered : Levels → (strength root : ℕ) → ℕ
 answered levels strength root =
     cond (eqb (refusalOf levels before strengthRefusal strength) 0 && leb root 65520)
-    (noiseNumber strength (shotLevel levels) (readLevel levels) root)
+    (noiseNumber side16 strength (shotLevel levels) (readLevel levels) root)
     0
 
 -- "the noise number is V from a curve (no ISO), t and r, and answers 0 where 8, 9 or 10 would, or where its root r exceeds 65520"

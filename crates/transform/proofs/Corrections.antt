@@ -4,8 +4,8 @@ use Rattle.algebra.specs.Prelude.{_≡_, sym, ap, ap₂, _∙_, List, ℕ, _^_,
 use lib.IntN.{ℤ, pos, _+ℤ_, +ℤ-idr}
 use Rattle.algebra.specs.Nearest.{away}
 use Rattle.sequences.specs.Grid.{grid, cell, cell-grid, grid-ext}
-use Rattle.lines.specs.Tables.{side16}
-use Rattle.transform.specs.Recipe.{binRe, binIm, filtered, inverseAt, correctionAt}
+use Rattle.recipe.specs.Tables.{side16}
+use Rattle.recipe.specs.Correction.{binRe, binIm, filtered, inverseAt, correctionAt}
 use Rattle.lines.specs.Lines.{Square, EmptyTile}
 use Rattle.transform.specs.Spectrum.{BinsOf, transposed, spread, backSum, gainRe, gainIm}
 use Rattle.transform.specs.SpectrumLaws.{bins-mirrored, filtered-mirrored}

@@ -6,8 +6,8 @@ use lib.IntN.{ℤ, pos, negℤ, natAbs, _+ℤ_, _-ℤ_, +ℤ-idr, +ℤ-idl, +ℤ
 use Rattle.sequences.specs.Tab.{tab}
 use Rattle.lines.specs.Lines.{LineMost}
 use Rattle.transform.specs.Magnitudes.{binMost}
-use Rattle.lines.specs.Tables.{side16}
-use Rattle.transform.specs.Recipe.{filtered}
+use Rattle.recipe.specs.Tables.{side16}
+use Rattle.recipe.specs.Correction.{filtered}
 use Rattle.transform.specs.Spectrum.{realOf, imaginaryOf, beside, tileRe, tileIm, foldRe, foldIm, spread, quadOf, byKind, twoBins, foldedQuad, gainRe, gainIm}
 use Rattle.transform.specs.SpectrumLaws.{filtered-odd, filtered-even}
 use Rattle.transform.proofs.Apart.{is-own, is-paired, apart-cases}

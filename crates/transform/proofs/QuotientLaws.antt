@@ -5,7 +5,7 @@ use lib.IntN.{ℤ, pos, negsuc, negℤ, natAbs, _*ℤ_, negℤ-negℤ, pos-*ℤ-
 use lib.Ieee.{binary64, round, ofInt, mul, unlike, isNan, lt}
 use lib.Ieee.Fits.{and-l, and-r}
 use Rattle.algebra.specs.Nearest.{away, away-odd}
-use Rattle.transform.specs.Recipe.{power, wiener}
+use Rattle.recipe.specs.Correction.{power, wiener}
 use Rattle.transform.specs.FloatQuotient.{floatQuotient, sure}
 use Rattle.transform.specs.Magnitudes.{gainMost, smallNoise}
 use Rattle.transform.specs.WienerLaws.{wiener-is}

@@ -6,8 +6,8 @@ use lib.ListN.{length, getD, set, length-set}
 use lib.Seq.{getD-set-same, getD-set-other}
 use Rattle.sequences.specs.Tab.{tab, getD-tab}
 use Rattle.sequences.specs.Grid.{cell, tab-ext, tab-of}
-use Rattle.lines.specs.Tables.{side16}
-use Rattle.transform.specs.Recipe.{wiener, quantized, filtered}
+use Rattle.recipe.specs.Tables.{side16}
+use Rattle.recipe.specs.Correction.{wiener, quantized, filtered}
 use Rattle.transform.specs.Magnitudes.{binMost, gainMost}
 use Rattle.lines.specs.Lines.{LineMost}
 use Rattle.transform.specs.Spectrum.{BinsMost, transposed, quadOf, twoBins, foldedQuad, spread, gainRe, gainIm}

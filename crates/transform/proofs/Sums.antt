@@ -7,7 +7,7 @@ use Rattle.algebra.specs.Sums.{sumZ, sumZ-cong}
 use Rattle.sequences.specs.Tab.{tab, getD-tab}
 use Rattle.sequences.specs.Grid.{tab-ext}
 use Rattle.lines.specs.Halfcomplex.{basis, frequency, phase, halfcomplex, backward}
-use Rattle.lines.specs.TableLaws.{cosine-most}
+use Rattle.recipe.specs.TableLaws.{cosine-most}
 use Rattle.transform.specs.SizeLaws.{sum-most}
 use Rattle.transform.specs.Spectrum.{counted}
 use Rattle.lines.specs.Lines.{LineMost}

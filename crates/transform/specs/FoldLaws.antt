@@ -3,11 +3,11 @@ use Rattle.algebra.specs.Prelude.{_≡_, sym, ap, ap₂, _∙_, [], _∷_, ℕ,
 use lib.IntN.{ℤ, pos, negℤ, _+ℤ_, _-ℤ_, _*ℤ_, +ℤ-comm}
 use Rattle.algebra.specs.Ring.{var, #_, _⊞_, _⊟_, _⊠_, ⊖_, ring}
 use Rattle.algebra.specs.Sums.{sumZ, sumZ-neg, sumZ-cong, sumZ-exchange}
-use Rattle.lines.specs.Side.{cosAt, sinAt}
-use Rattle.lines.specs.Tables.{cosines, cosine16, sine16, opposite, side16}
-use Rattle.transform.specs.Recipe.{twiddleRe, twiddleIm, inverseRe}
-use Rattle.lines.specs.TableLaws.{agree-both, cosine-opposite, sine-opposite}
-use Rattle.transform.specs.RecipeLaws.{alongRe, alongIm, two-way}
+use Rattle.recipe.specs.Side.{cosAt, sinAt}
+use Rattle.recipe.specs.Tables.{cosines, cosine16, sine16, side16}
+use Rattle.recipe.specs.Correction.{twiddleRe, twiddleIm, inverseRe}
+use Rattle.recipe.specs.TableLaws.{opposite, agree-both, cosine-opposite, sine-opposite}
+use Rattle.recipe.specs.CorrectionLaws.{alongRe, alongIm, two-way}
 use Rattle.lines.specs.Halfcomplex.{frequency, phase, basis, backward}
 use Rattle.transform.specs.Spectrum.{apart, foldRe, foldIm, spread, counted, backSum, Mirrored}
 

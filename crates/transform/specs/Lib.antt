@@ -1,7 +1,5 @@
-pub mod Recipe
 pub mod Spectrum
 pub mod Magnitudes
-pub mod RecipeLaws
 pub mod FoldLaws
 pub mod SpectrumLaws
 pub mod ZeroLaws

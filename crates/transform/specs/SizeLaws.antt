@@ -3,11 +3,11 @@ use Rattle.algebra.specs.Prelude.{sym, subst, ℕ, _+_, _*_, _^_, _≤_, lit≤
 use native.Mathlib.Nat.{le-refl, le-trans, add-comm, add-le-add, mul-add, mul-le-mul-left}
 use Rattle.algebra.specs.Order.{abs-add, abs-sub, abs-neg, abs-mul-le}
 use Rattle.algebra.specs.Sums.{sumZ, abs-sum-bound}
-use Rattle.lines.specs.Side.{cosAt, sinAt}
-use Rattle.lines.specs.Tables.{side16}
-use Rattle.lines.specs.TableLaws.{cosine-most, minus-sine-is, pair-most}
-use Rattle.transform.specs.Recipe.{rowRe, rowIm, binRe, binIm, quantized, filtered, inverseRe, inverseAt, correctionAt}
-use Rattle.transform.specs.RecipeLaws.{alongRe, alongIm, two-way}
+use Rattle.recipe.specs.Side.{cosAt, sinAt}
+use Rattle.recipe.specs.Tables.{side16}
+use Rattle.recipe.specs.TableLaws.{cosine-most, minus-sine-is, pair-most}
+use Rattle.recipe.specs.Correction.{rowRe, rowIm, binRe, binIm, quantized, filtered, inverseRe, inverseAt, correctionAt}
+use Rattle.recipe.specs.CorrectionLaws.{alongRe, alongIm, two-way}
 use Rattle.transform.specs.Magnitudes.{rowMost, binMost, gainMost, correctionMost, smallNoise, smallGainMost}
 use Rattle.lines.specs.Magnitudes.{differenceMost}
 use Rattle.transform.specs.RoundingLaws.{away-most}

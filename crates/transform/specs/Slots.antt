@@ -1,7 +1,7 @@
 -- The bins of a tile in lines of 128 slots, by their parts: slots 8·u + v and 64 + 8·u + v are the two bins of quad (v, u).
 use Rattle.algebra.specs.Prelude.{_≡_, cond, List, ℕ, _+_, _*_, _/_, _%_, _<_, eqb, length, getD, ℤ, pos}
-use Rattle.lines.specs.Tables.{side16}
-use Rattle.transform.specs.Recipe.{quantized}
+use Rattle.recipe.specs.Tables.{side16}
+use Rattle.recipe.specs.Correction.{quantized}
 use Rattle.transform.specs.Spectrum.{twoBins, foldedQuad}
 
 -- Q of the tile t at slot n

@@ -3,8 +3,9 @@
 use Rattle.algebra.specs.Prelude.{_≡_, cond, List, [], _∷_, ℕ, zero, suc, _+_, _-_, _*_, _/_, _%_, _≤_, _<_, eqb, ltb, getD, ℤ, pos, natAbs, negℤ, _+ℤ_, _-ℤ_, _*ℤ_}
 use Rattle.sequences.specs.Grid.{cell}
 use Rattle.lines.specs.Halfcomplex.{halfcomplex, backward}
-use Rattle.lines.specs.Tables.{side16, opposite}
-use Rattle.transform.specs.Recipe.{binRe, binIm, filtered}
+use Rattle.recipe.specs.Tables.{side16}
+use Rattle.recipe.specs.TableLaws.{opposite}
+use Rattle.recipe.specs.Correction.{binRe, binIm, filtered}
 use Rattle.transform.specs.Magnitudes.{placeMost, binMost, quadMost}
 use Rattle.lines.specs.Lines.{LineMost, TileMost, Square}
 

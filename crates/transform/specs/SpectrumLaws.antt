@@ -9,10 +9,10 @@ use Rattle.algebra.specs.Nearest.{away, away-odd}
 use Rattle.algebra.specs.Vars.{vars4}
 use Rattle.algebra.specs.Ring.{var, _⊞_, _⊟_, _⊠_, ⊖_, ring}
 use Rattle.algebra.specs.Sums.{sumZ, sumZ-0, sumZ-cong, sumZ-scaler, sumZ-add, sumZ-sub, sumZ-neg, sumZ-exchange}
-use Rattle.lines.specs.Side.{cosAt, sinAt}
-use Rattle.lines.specs.Tables.{cosines, cosine16, sine16, opposite, side16}
-use Rattle.lines.specs.TableLaws.{agree-both, cosine-opposite, sine-opposite}
-use Rattle.transform.specs.Recipe.{power, wiener, rowRe, rowIm, binRe, binIm, quantized, filtered}
+use Rattle.recipe.specs.Side.{cosAt, sinAt}
+use Rattle.recipe.specs.Tables.{cosines, cosine16, sine16, side16}
+use Rattle.recipe.specs.TableLaws.{opposite, agree-both, cosine-opposite, sine-opposite}
+use Rattle.recipe.specs.Correction.{power, wiener, rowRe, rowIm, binRe, binIm, quantized, filtered}
 use Rattle.lines.specs.Halfcomplex.{frequency, phase, basis, halfcomplex}
 use Rattle.transform.specs.Spectrum.{Mirrored, twoWay, apart, realOf, imaginaryOf, beside, tileRe, tileIm}
 

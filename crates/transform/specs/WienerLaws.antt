@@ -8,7 +8,7 @@ use Rattle.algebra.specs.Vars.{vars4}
 use Rattle.algebra.specs.Ring.{_⊞_, _⊟_, _⊠_, #_}
 use Rattle.algebra.specs.Cert.{nn, le, sqr, _⊕_, _⊗_, by-le-times, le-pos}
 use Rattle.algebra.specs.Nearest.{away}
-use Rattle.transform.specs.Recipe.{power, wiener}
+use Rattle.recipe.specs.Correction.{power, wiener}
 use Rattle.transform.specs.RoundingLaws.{away-within}
 
 pub wiener-is : (v : ℕ) (q r : ℤ) → 0 < v → wiener v q r ≡ away (pos v *ℤ q) (power v q r)

@@ -4,8 +4,8 @@ use native.Mathlib.Nat.{div-eq-of-lt}
 use lib.IntN.{ℤ, pos, negℤ, _+ℤ_, _-ℤ_, _*ℤ_, *ℤ-zero, zero-*ℤ}
 use Rattle.algebra.specs.Sums.{sumZ, sumZ-cong, sumZ-0}
 use Rattle.algebra.specs.Nearest.{away}
-use Rattle.lines.specs.Side.{Side, cosAt, sinAt}
-use Rattle.transform.specs.Recipe.{power, wiener, rowRe, rowIm, binRe, binIm, quantized, filtered, twiddleRe, twiddleIm, inverseRe, inverseAt, correctionAt}
+use Rattle.recipe.specs.Side.{Side, cosAt, sinAt}
+use Rattle.recipe.specs.Correction.{power, wiener, rowRe, rowIm, binRe, binIm, quantized, filtered, twiddleRe, twiddleIm, inverseRe, inverseAt, correctionAt}
 
 pub sumZ-zero : (n : ℕ) (f : ℕ → ℤ) → ((i : ℕ) → i < n → f i ≡ pos 0) → sumZ n f ≡ pos 0
 sumZ-zero n f h = sumZ-cong n f (λ i. pos 0) h ∙ sumZ-0 n

@@ -2,8 +2,8 @@
 ghost use mathlib.Core.Path.{_≡_};
 ghost use Prim.Native.Nat.{_≤_};
 ghost use Rattle.algebra.specs.Bound.{AtMost};
-ghost use Rattle.lines.specs.Tables.{side16};
-ghost use Rattle.transform.specs.Recipe.{wiener, quantized, filtered};
+ghost use Rattle.recipe.specs.Tables.{side16};
+ghost use Rattle.recipe.specs.Correction.{wiener, quantized, filtered};
 ghost use Rattle.transform.specs.Magnitudes.{binMost, gainMost, noiseMost};
 
 // One part of Q: that part of B divided by 2^24.

@@ -8,8 +8,8 @@ ghost use lib.ListN.{getD};
 ghost use Rattle.algebra.specs.Bound.{AtMost};
 ghost use Rattle.sequences.specs.Tab.{tab};
 ghost use Rattle.sequences.specs.Grid.{grid, cell};
-ghost use Rattle.lines.specs.Tables.{side16};
-ghost use Rattle.transform.specs.Recipe.{filtered};
+ghost use Rattle.recipe.specs.Tables.{side16};
+ghost use Rattle.recipe.specs.Correction.{filtered};
 ghost use Rattle.transform.specs.Magnitudes.{binMost, gainMost, quadMost, noiseMost};
 ghost use Rattle.lines.specs.Lines.{LineMost, TileMost, Square};
 ghost use Rattle.transform.specs.Spectrum.{

@@ -11,7 +11,7 @@ ghost use lib.ListN.{length, getD};
 ghost use lib.Ieee.{isNan};
 ghost use Rattle.algebra.specs.Bound.{AtMost};
 ghost use Rattle.sequences.specs.Tab.{tab};
-ghost use Rattle.transform.specs.Recipe.{wiener};
+ghost use Rattle.recipe.specs.Correction.{wiener};
 ghost use Rattle.transform.specs.FloatQuotient.{floatQuotient, sure};
 ghost use Rattle.transform.specs.Magnitudes.{gainMost, smallNoise};
 ghost use Rattle.lines.specs.Lines.{LineMost};

@@ -1,7 +1,7 @@
 -- The four planes, one after the other.
 use Rattle.algebra.specs.Prelude.{arith, needs, lit<}
 use Rattle.geometry.specs.Shape.{outputLength}
-use Rattle.merging.specs.Recipe.{sceneOf}
+use Rattle.recipe.specs.Scene.{sceneOf}
 use Rattle.merging.proofs.Places.{rows-fit}
 use Rattle.merging.proofs.Advance.{all-merged}
 use Rattle.merging.proofs.merge_frames.Statement.{statement}

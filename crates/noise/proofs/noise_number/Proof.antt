@@ -2,7 +2,8 @@
 use Rattle.algebra.specs.Prelude.{refl, ℕ, _+_, _*_, _≤_, arith, needs, lit≤, w64}
 use native.Mathlib.Nat.{le-trans, mul-le-mul}
 use mir.Val.{Fits}
-use Rattle.noise.specs.NoiseNumber.{variance, noiseNumber}
+use Rattle.recipe.specs.Tables.{side16}
+use Rattle.recipe.specs.NoiseNumber.{variance, noiseNumber}
 use Rattle.noise.specs.NoiseNumberLaws.{noise-number-mono}
 use Rattle.noise.proofs.noise_number.Statement.{statement}
 use Rattle.noise.proofs.noise_number.Tie as tie
@@ -17,7 +18,7 @@ mul-result-3 : tie.Need-mul-result-3
 mul-result-3 c = times (c .pre .strength) (omega (arith, product c))
 
 returns : tie.Need-returns
-unfolding noiseNumber variance
+unfolding noiseNumber variance side16
 returns c = (refl, le-trans (noise-number-mono (c .pre .strength) (c .pre .shot) (c .pre .read) (c .pre .root)) (lit≤ tt))
 
 pub noise-number-spec : {M : Type 1} → statement M

@@ -1,8 +1,8 @@
 -- The root of the sum, which is at most 1048560².
 use Rattle.algebra.specs.Prelude.{ap, _∙_, needs}
-use Rattle.noise.specs.Root.{wholeRoot}
+use Rattle.recipe.specs.Root.{wholeRoot}
 use Rattle.noise.specs.RootLaws.{root-most}
-use Rattle.noise.specs.NoiseNumber.{tileRoot}
+use Rattle.recipe.specs.NoiseNumber.{tileRoot}
 use Rattle.noise.proofs.tile_root.Statement.{statement}
 use Rattle.noise.proofs.tile_root.Tie as tie
 

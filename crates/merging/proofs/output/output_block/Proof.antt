@@ -1,5 +1,6 @@
 -- A word a turn, each from the four tiles over it.
 use Rattle.algebra.specs.Prelude.{_≡_, sym, ap, _∙_, _+_, _-_, _*_, _%_, arith, needs, getD, natAbs, w64, toZ, ofZ, now}
+use Rattle.recipe.specs.Tables.{side16}
 use Rattle.merging.specs.Gather.{corrected, windowed, wordOver}
 use Rattle.merging.specs.Work.{wordFrom}
 use Rattle.merging.proofs.Striding.{Striding, stride-start, stride-turn, stride-done}
@@ -29,8 +30,8 @@ loop-again c =
     let column : l .loop .j % 8 ≡ l .loop .j = omega arith in
     stride-turn (l .loop .inv) (omega arith)
     (c .corrected .ensures
-    ∙ ap (λ z. natAbs (corrected (getD (now (a .samples)) (a .from + 2 * l .loop .j) 0) z (a .count - 1)))
-    (e ∙ w .ensures .0 ∙ ap (λ j. windowed (a .i) j (wordOver (now (a .work)) (a .above) (a .below) (a .i) (l .loop .j))) (sym column)))
+    ∙ ap (λ z. natAbs (corrected side16 (getD (now (a .samples)) (a .from + 2 * l .loop .j) 0) z (a .count - 1)))
+    (e ∙ w .ensures .0 ∙ ap (λ j. windowed side16 (a .i) j (wordOver (now (a .work)) (a .above) (a .below) (a .i) (l .loop .j))) (sym column)))
 
 returns : tie.Need-returns Inv-loop μ-loop
 returns c = stride-done (c .before .loop .inv) (omega arith)

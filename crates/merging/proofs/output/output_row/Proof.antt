@@ -3,8 +3,9 @@ use Rattle.algebra.specs.Prelude.{_≡_, refl, sym, subst, _+_, _-_, _*_, _/_, 
 use Rattle.geometry.specs.Shape.{sampleLength, outputLength}
 use Rattle.geometry.specs.ShapeLaws.{area-most, samples-most}
 use Rattle.plane_view.specs.ViewLaws.{part-room}
-use Rattle.lines.specs.Tables.{windows}
-use Rattle.merging.specs.Work.{rowWords, Words, wordFrom}
+use Rattle.recipe.specs.Tables.{windows}
+use Rattle.tiles.specs.Rows.{rowWords}
+use Rattle.merging.specs.Work.{Words, wordFrom}
 use Rattle.merging.proofs.Places.{row-room}
 use Rattle.merging.proofs.Striding.{Striding, stride-start}
 use Rattle.merging.proofs.Weights.{words-later}

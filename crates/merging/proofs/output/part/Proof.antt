@@ -1,10 +1,10 @@
 -- A word of the row, which is small, times its weight.
 use Rattle.algebra.specs.Prelude.{_≡_, ap, _∙_, _+_, _*_, _^_, arith, needs, getD, pos, _*ℤ_, w64, toZ-ofZ, now}
 use Rattle.algebra.specs.Bound.{AtMost, most-fits}
-use Rattle.lines.specs.Tables.{window16}
-use Rattle.merging.specs.Sum.{summedMost}
+use Rattle.recipe.specs.Tables.{window16}
+use Rattle.tiles.specs.Sum.{summedMost}
 use Rattle.merging.proofs.Weights.{weight-most, weight-at}
-use Rattle.merging.proofs.Signed.{product-is, product-most}
+use Rattle.tiles.specs.SignedLaws.{product-is, product-most}
 use Rattle.merging.proofs.output.part.Statement.{statement}
 use Rattle.merging.proofs.output.part.Tie as tie
 

@@ -1,7 +1,7 @@
 -- Windows are at most 4096.
 use Rattle.algebra.specs.Prelude.{_≡_, ap, _∙_, _*_, _≤_, arith, needs, getD, pos, w64, toZ, now}
 use mir.Facts.{toZ-pos}
-use Rattle.lines.specs.Tables.{window16}
+use Rattle.recipe.specs.Tables.{window16}
 use Rattle.merging.proofs.Weights.{weight-most}
 use Rattle.merging.proofs.output.weight.Statement.{statement}
 use Rattle.merging.proofs.output.weight.Tie as tie

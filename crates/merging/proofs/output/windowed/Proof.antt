@@ -1,7 +1,7 @@
 -- Four terms, each far below 2^63, in the definition's order.
 use Rattle.algebra.specs.Prelude.{ap, _∙_, _+_, _^_, arith, needs, _+ℤ_, w64, toZ-ofZ, now}
 use Rattle.algebra.specs.Bound.{AtMost, most-fits}
-use Rattle.merging.proofs.Signed.{plus64, sum-is, sum-most}
+use Rattle.tiles.specs.SignedLaws.{plus64, sum-is, sum-most}
 use Rattle.merging.proofs.Weights.{words-fewer, words-later, windowed-four}
 use Rattle.merging.proofs.output.windowed.Statement.{statement}
 use Rattle.merging.proofs.output.windowed.Tie as tie

@@ -1,7 +1,7 @@
 -- The sum so far is that of the squares passed.
 use Rattle.algebra.specs.Prelude.{_-_, arith, needs, getD}
 use Rattle.sequences.specs.Sum.{Summed, sum-start, sum-turn, sum-done}
-use Rattle.noise.specs.NoiseNumber.{squared}
+use Rattle.recipe.specs.NoiseNumber.{squared}
 use Rattle.noise.proofs.squares.row_squares.Statement.{statement}
 use Rattle.noise.proofs.squares.row_squares.Tie as tie
 

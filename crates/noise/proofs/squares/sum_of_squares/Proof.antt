@@ -3,7 +3,7 @@ use Rattle.algebra.specs.Prelude.{_-_, arith, needs}
 use Rattle.algebra.specs.Sums.{sumN}
 use Rattle.sequences.specs.Grid.{cell}
 use Rattle.sequences.specs.Sum.{Summed, sum-start, sum-turn, sum-done}
-use Rattle.noise.specs.NoiseNumber.{squared, sumOfSquares}
+use Rattle.recipe.specs.NoiseNumber.{squared, sumOfSquares}
 use Rattle.noise.proofs.squares.sum_of_squares.Statement.{statement}
 use Rattle.noise.proofs.squares.sum_of_squares.Tie as tie
 

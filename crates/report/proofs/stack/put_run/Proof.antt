@@ -2,7 +2,8 @@
 use Rattle.algebra.specs.Prelude.{_≡_, refl, sym, ap, ap₂, _∙_, List, ℕ, zero, suc, arith, needs}
 use Rattle.geometry.specs.Bounds.{vectorRefusal}
 use Rattle.alignment.specs.Aligned.{alignedVectors}
-use Rattle.merging.specs.Recipe.{sceneOf, merged}
+use Rattle.recipe.specs.Scene.{sceneOf}
+use Rattle.recipe.specs.Merged.{merged}
 use Rattle.burst_file.specs.declared.Header.{Header}
 use Rattle.printing.specs.Lines.{refusal}
 use Rattle.report.specs.Opening.{burstOf, Taken}

@@ -2,7 +2,8 @@
 use Rattle.algebra.specs.Prelude.{sym, ap₂, subst, _∙_, _≤_, needs}
 use Rattle.sequences.specs.Clear.{zeros-length}
 use Rattle.geometry.specs.RefusalLaws.{stops, goes}
-use Rattle.merging.specs.Recipe.{sceneOf, merged}
+use Rattle.recipe.specs.Scene.{sceneOf}
+use Rattle.recipe.specs.Merged.{merged}
 use Rattle.stacker.specs.Refusals.{mergeRefusal}
 use Rattle.stacker.specs.CallLaws.{kept, made}
 use Rattle.stacker.specs.CloseLaws.{output-close}
@@ -53,7 +54,7 @@ returns-3 c =
     let a = passed .before .before .before .before .before .before .before .args in
     let z = passed .if1 .left in
     let e = goes (tested .number) z (lent .before .vector-refusal .ensures .0) in
-    let is = merge .merge-frames .ensures ∙ ap₂ (λ shot read. merged (sceneOf (record { shape = a .shape; reference = a .reference; shot = shot; read = read; strength = a .tuning .strength }) (a .samples .now) (a .vectors .now))) (tested .shot-is z) (tested .read-is z) in
+    let is = merge .merge-frames .ensures ∙ ap₂ (λ shot read. merged (sceneOf (record { shape = a .shape; reference = a .reference; shot = shot; read = read; tuning = a .tuning }) (a .samples .now) (a .vectors .now))) (tested .shot-is z) (tested .read-is z) in
     record {
       answer = sym (lent .if2 .left) ∙ e;
       result = made _ _ _ e (lent .if2 .left) is;

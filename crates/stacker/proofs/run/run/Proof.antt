@@ -3,7 +3,8 @@ use Rattle.algebra.specs.Prelude.{_≡_, refl, sym, ap, ap₂, subst, _∙_, Li
 use Rattle.geometry.specs.RefusalLaws.{stops, goes}
 use Rattle.geometry.specs.Bounds.{vectorRefusal}
 use Rattle.alignment.specs.Aligned.{alignedVectors, residualSums}
-use Rattle.merging.specs.Recipe.{sceneOf, merged}
+use Rattle.recipe.specs.Scene.{sceneOf}
+use Rattle.recipe.specs.Merged.{merged}
 use Rattle.stacker.specs.declared.Alignment.{Alignment}
 use Rattle.stacker.specs.Buffers.{after}
 use Rattle.stacker.specs.Calls.{answered}
@@ -54,7 +55,7 @@ returns-2 c =
     let z = passed .if1 .left in
     let found = alignedVectors (a .shape) (a .reference) (a .samples .now) in
     let number = goes {b = vectorRefusal found} e z refl in
-    let result = ap₂ (λ shot read. merged (sceneOf (record { shape = a .shape; reference = a .reference; shot = shot; read = read; strength = a .tuning .strength }) (a .samples .now) found)) (tested .shot-is z) (tested .read-is z) in
+    let result = ap₂ (λ shot read. merged (sceneOf (record { shape = a .shape; reference = a .reference; shot = shot; read = read; tuning = a .tuning }) (a .samples .now) found)) (tested .shot-is z) (tested .read-is z) in
     record {
       answer = is .answer ∙ ap (λ n. answered n (residualSums (a .shape) (a .reference) (a .samples .now))) number;
       found = made _ _ _ e z (is .found);

@@ -2,7 +2,8 @@
 use Rattle.algebra.specs.Prelude.{ap, _∙_, needs}
 use Rattle.sequences.specs.Clear.{zeros-length}
 use Rattle.geometry.specs.Bounds.{vectorRefusal}
-use Rattle.merging.specs.Recipe.{sceneOf, merged}
+use Rattle.recipe.specs.Scene.{sceneOf}
+use Rattle.recipe.specs.Merged.{merged}
 use Rattle.stacker.specs.CallLaws.{kept, made, answer-refused, answer-accepted}
 use Rattle.stacker.proofs.run.run_levels.Statement.{statement}
 use Rattle.stacker.proofs.run.run_levels.Tie as tie

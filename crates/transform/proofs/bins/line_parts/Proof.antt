@@ -2,8 +2,8 @@
 use Rattle.algebra.specs.Prelude.{_≡_, sym, ap, _∙_, List, arith, needs, getD, ℤ, pos, w64, toZ, ofZ, now}
 use Prim.Native.Nat.{ℕ, _+_, _-_, _*_, _≤_, zero-le}
 use Rattle.sequences.specs.Grid.{cell}
-use Rattle.lines.specs.Tables.{side16}
-use Rattle.transform.specs.Recipe.{quantized}
+use Rattle.recipe.specs.Tables.{side16}
+use Rattle.recipe.specs.Correction.{quantized}
 use Rattle.transform.specs.Magnitudes.{binMost}
 use Rattle.lines.specs.Lines.{LineMost}
 use Rattle.transform.specs.Spectrum.{transposed}

@@ -1,7 +1,7 @@
 -- `transform::bins::set_slots`: two stores, of numbers that fit 32 bits.
 use Rattle.algebra.specs.Prelude.{ap, ap₂, _∙_, _+_, needs, set, w32, w64, toZ-ofZ, now}
-use Rattle.lines.specs.Tables.{side16}
-use Rattle.transform.specs.Recipe.{quantized}
+use Rattle.recipe.specs.Tables.{side16}
+use Rattle.recipe.specs.Correction.{quantized}
 use Rattle.lines.proofs.Held.{cast-fits, cast-is}
 use Rattle.transform.proofs.bins.set_slots.Statement.{statement}
 use Rattle.transform.proofs.bins.set_slots.Tie as tie

@@ -1,7 +1,7 @@
 -- `transform::filter::filtered_part`: both parts are quantized, then shrunk.
 use Rattle.algebra.specs.Prelude.{_≡_, ap, ap₂, _∙_, needs, w64, toZ, ofZ, toZ-ofZ}
-use Rattle.lines.specs.Tables.{side16}
-use Rattle.transform.specs.Recipe.{wiener, quantized, filtered}
+use Rattle.recipe.specs.Tables.{side16}
+use Rattle.recipe.specs.Correction.{wiener, quantized, filtered}
 use Rattle.lines.proofs.Held.{number-is}
 use Rattle.transform.proofs.filter.filtered_part.Statement.{statement}
 use Rattle.transform.proofs.filter.filtered_part.Tie as tie

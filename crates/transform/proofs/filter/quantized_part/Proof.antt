@@ -1,8 +1,8 @@
 -- `transform::filter::quantized_part`: a bin divided by 2^24 is at most 23720288.
 use Rattle.algebra.specs.Prelude.{_≡_, refl, ap, _∙_, _^_, arith, needs, lit<, w64, toZ, ofZ, toZ-ofZ}
 use Rattle.algebra.specs.Nearest.{away}
-use Rattle.lines.specs.Tables.{side16}
-use Rattle.transform.specs.Recipe.{quantized}
+use Rattle.recipe.specs.Tables.{side16}
+use Rattle.recipe.specs.Correction.{quantized}
 use Rattle.transform.specs.Magnitudes.{binMost}
 use Rattle.transform.specs.RoundingLaws.{away-most}
 use Rattle.transform.proofs.filter.quantized_part.Statement.{statement}

@@ -10,8 +10,8 @@ use Rattle.algebra.specs.Order.{abs-mul-le}
 use Rattle.algebra.specs.Bound.{abs-fits}
 use Rattle.algebra.specs.Nearest.{away}
 use Rattle.rounding.proofs.round_away.Reads as round-away-reads
-use Rattle.transform.specs.Recipe.{power, wiener}
-use Rattle.transform.specs.RecipeLaws.{power-is}
+use Rattle.recipe.specs.Correction.{power, wiener}
+use Rattle.recipe.specs.CorrectionLaws.{power-is}
 use Rattle.transform.specs.Magnitudes.{gainMost, noiseMost}
 use Rattle.transform.specs.WienerLaws.{wiener-is, wiener-most}
 use Rattle.transform.proofs.filter.wiener_part.Statement.{statement}

@@ -3,8 +3,8 @@ use Rattle.algebra.specs.Prelude.{_≡_, ap, _∙_, List, arith, needs, getD, �
 use Prim.Native.Nat.{ℕ, _≤_, zero-le}
 use Rattle.algebra.specs.Bound.{AtMost}
 use Rattle.sequences.specs.Tab.{tab}
-use Rattle.lines.specs.Tables.{side16}
-use Rattle.transform.specs.Recipe.{filtered}
+use Rattle.recipe.specs.Tables.{side16}
+use Rattle.recipe.specs.Correction.{filtered}
 use Rattle.transform.specs.Magnitudes.{binMost, gainMost}
 use Rattle.lines.specs.Lines.{LineMost}
 use Rattle.lines.proofs.Held.{number-is, number-most, held-is, held-most}

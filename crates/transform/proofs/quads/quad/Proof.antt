@@ -3,8 +3,8 @@ use Rattle.algebra.specs.Prelude.{_≡_, sym, ap, ap₂, _∙_, List, ℕ, arit
 use Rattle.algebra.specs.Bound.{AtMost}
 use Rattle.sequences.specs.Tab.{tab}
 use Rattle.sequences.specs.Grid.{cell}
-use Rattle.lines.specs.Tables.{side16}
-use Rattle.transform.specs.Recipe.{filtered}
+use Rattle.recipe.specs.Tables.{side16}
+use Rattle.recipe.specs.Correction.{filtered}
 use Rattle.transform.specs.Magnitudes.{binMost, gainMost}
 use Rattle.lines.specs.Lines.{LineMost}
 use Rattle.transform.specs.Spectrum.{transposed, foldedQuad}

@@ -1,6 +1,6 @@
 -- `transform::quotients::exact`: no cast loses anything.
 use Rattle.algebra.specs.Prelude.{ap₂, _∙_, arith, w32, w64}
-use Rattle.transform.specs.Recipe.{wiener}
+use Rattle.recipe.specs.Correction.{wiener}
 use Rattle.lines.proofs.Held.{cast-fits, cast-is, cast-most}
 use Rattle.transform.proofs.quotients.exact.Statement.{statement}
 use Rattle.transform.proofs.quotients.exact.Tie as tie

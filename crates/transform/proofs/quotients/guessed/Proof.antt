@@ -4,7 +4,7 @@ use borrow.Author.Tests.{eqb-true}
 use lib.Dec.{T, le→leb}
 use lib.Ieee.{binary64, ofInt, inFloat, isNan}
 use Rattle.algebra.specs.Bound.{AtMost}
-use Rattle.transform.specs.Recipe.{wiener}
+use Rattle.recipe.specs.Correction.{wiener}
 use Rattle.transform.specs.FloatQuotient.{floatQuotient, sure}
 use Rattle.lines.proofs.Held.{held-is, number-most}
 use Rattle.transform.proofs.QuotientLaws.{number, none-unsure, sure-wiener}

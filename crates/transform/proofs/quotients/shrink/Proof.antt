@@ -1,7 +1,7 @@
 -- `transform::quotients::shrink`: the guesses, or the line from the front.
 use Rattle.algebra.specs.Prelude.{_≡_, ap₂, _∙_, _-_, arith, needs, getD, pos, w32, toZ, ofZ}
 use Rattle.sequences.specs.Tab.{Filled, fill-start, fill-turn, fill-done}
-use Rattle.transform.specs.Recipe.{wiener}
+use Rattle.recipe.specs.Correction.{wiener}
 use Rattle.lines.proofs.Held.{held-is, held-most}
 use Rattle.transform.proofs.quotients.shrink.Statement.{statement}
 use Rattle.transform.proofs.quotients.shrink.Tie as tie

@@ -1,0 +1,12 @@
+pub mod Side
+pub mod Tables
+pub mod Root
+pub mod NoiseNumber
+pub mod Correction
+pub mod Scene
+pub mod Output
+pub mod Merged
+pub mod Exact
+pub mod ExactMerge
+pub mod TableLaws
+pub mod CorrectionLaws

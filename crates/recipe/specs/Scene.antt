@@ -1,0 +1,77 @@
+-- What a merge reads, and its tiles: T0, Tz, their differences, and the noise number.
+use Rattle.algebra.specs.Prelude.{List, ℕ, _+_, _-_, _/_, _%_, ℤ, pos, _+ℤ_, _-ℤ_}
+use Rattle.geometry.specs.Read.{Image, sampleAt, planeOf, read}
+use Rattle.geometry.specs.Tiles.{origin}
+use Rattle.geometry.specs.Vectors.{otherFrame, downAt, rightAt}
+use Rattle.recipe.specs.declared.Tuning.{Tuning}
+use Rattle.recipe.specs.declared.Merge.{Merge}
+use Rattle.recipe.specs.Side.{Side}
+use Rattle.recipe.specs.Tables.{side16}
+use Rattle.recipe.specs.NoiseNumber.{tileRoot, noiseNumber}
+
+-- The side of its tiles; `others` = N − 1 frames beside the reference, each of `height` rows of `width` samples; the vector of a tile row and
+-- tile column for the k-th of them, as down and right; Ls, Lr and the tuning
+pub record Scene : Type 0 where
+  pub side : Side
+  pub height : ℕ
+  pub width : ℕ
+  pub others : ℕ
+  pub reference : Image
+  pub other : (k : ℕ) → Image
+  pub down : (k a b : ℕ) → ℤ
+  pub right : (k a b : ℕ) → ℤ
+  pub shot : ℕ
+  pub read : ℕ
+  pub tuning : Tuning
+
+-- "Merge tiles lie on each plane at level 0's origins and use its vectors unscaled": side 16
+unfoldable pub sceneOf : Merge → (samples : List ℕ) (vectors : List ℤ) → Scene
+sceneOf m samples vectors =
+    record {
+      side = side16;
+      height = m .shape .height;
+      width = m .shape .width;
+      others = m .shape .count - 1;
+      reference = sampleAt (m .shape) samples (m .reference);
+      other = λ k. sampleAt (m .shape) samples (otherFrame (m .reference) k);
+      down = downAt (m .shape) vectors;
+      right = rightAt (m .shape) vectors;
+      shot = m .shot;
+      read = m .read;
+      tuning = m .tuning;
+    }
+
+-- Two tiles lie over row (or column) y of a plane: tile t = 0, 1, counted from the last, is this one
+abbrev pub tileOver : Side → (y t : ℕ) → ℕ
+tileOver n y t = y / n .half + 1 - t
+
+-- the tile of row a and column b on a plane of a frame, moved by a vector
+unfoldable pub tileAt : Side → (height width rowParity columnParity : ℕ) (frame : Image) (down right : ℤ) (a b : ℕ) → Image
+tileAt n height width rowParity columnParity frame down right a b i j =
+    read (height / 2) (width / 2) (planeOf frame rowParity columnParity)
+    (origin (n .half) a +ℤ down +ℤ pos i) (origin (n .half) b +ℤ right +ℤ pos j)
+
+module _ (s : Scene) (rowParity columnParity : ℕ) where
+  module _ (a b : ℕ) where
+    -- "T0 is the reference tile, Tz another frame's"
+    unfoldable pub referenceTile : Image
+    referenceTile = tileAt (s .side) (s .height) (s .width) rowParity columnParity (s .reference) (pos 0) (pos 0) a b
+
+    unfoldable pub otherTile : (k : ℕ) → Image
+    otherTile k = tileAt (s .side) (s .height) (s .width) rowParity columnParity (s .other k) (s .down k a b) (s .right k a b) a b
+
+    -- r and V of the tile
+    unfoldable pub tileNoise : ℕ
+    tileNoise = noiseNumber (s .side) (s .tuning .strength) (s .shot) (s .read) (tileRoot (s .side .side) referenceTile)
+
+    -- "T0−Tz"
+    unfoldable pub difference : (k i j : ℕ) → ℤ
+    difference k i j = pos (referenceTile i j) -ℤ pos (otherTile k i j)
+
+  -- V and "T0−Tz" of the tiles over the plane's sample at row y and column x: four of them, tile t = 0..3 counted from the last
+  module _ (y x : ℕ) where
+    abbrev pub noiseOver : (t : ℕ) → ℕ
+    noiseOver t = tileNoise (tileOver (s .side) y (t / 2)) (tileOver (s .side) x (t % 2))
+
+    abbrev pub differenceOver : (t k i j : ℕ) → ℤ
+    differenceOver t = difference (tileOver (s .side) y (t / 2)) (tileOver (s .side) x (t % 2))

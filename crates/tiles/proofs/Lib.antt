@@ -1,0 +1,4 @@
+pub mod Places
+pub mod Differences
+pub mod Summing
+pub mod Storing

@@ -1,0 +1,31 @@
+-- A tile of differences: filled row by row from the front.
+use Rattle.algebra.specs.Prelude.{refl, _-_, arith, needs, pos, _-ℤ_}
+use Rattle.sequences.specs.Tab.{tab, Filled, fill-start, fill-turn, fill-done}
+use Rattle.sequences.specs.Grid.{grid, cell}
+use Rattle.tiles.proofs.correcting.difference.Statement.{statement}
+use Rattle.tiles.proofs.correcting.difference.Tie as tie
+
+abbrev Inv-loop : tie.InvT-loop
+Inv-loop t0 tz d₀ i₀ d i = Filled (λ i. tab 16 (λ j. pos (cell 0 t0 i j) -ℤ pos (cell 0 tz i j))) 16 i d₀ d
+
+abbrev μ-loop : tie.MeasureT-loop
+μ-loop t0 tz d₀ i₀ d i = 16 - i
+
+difference-row-requires : tie.Need-difference-row-requires Inv-loop μ-loop
+difference-row-requires c κs =
+    let l = c .before .before .before in
+    (l .before .pre .0 .row (l .loop .i), l .before .pre .1 .row (l .loop .i))
+
+loop-again : tie.Need-loop-again Inv-loop μ-loop
+unfolding cell
+loop-again c = fill-turn (c .before .before .before .before .loop .inv) (omega arith) (c .difference-row .ensures)
+
+returns : tie.Need-returns Inv-loop μ-loop
+unfolding grid
+returns c = fill-done (c .before .loop .inv) (omega arith)
+
+pub difference-spec : {M : Type 1} → statement M
+difference-spec = tie.close (tie.spec
+    Inv-loop μ-loop (λ c. fill-start refl) (λ c. search needs) (λ c. search needs)
+    (λ c. search needs) (λ c. search needs) difference-row-requires (λ c. search needs)
+    (λ c. search needs) (λ c. search needs) (λ c. search needs) loop-again returns)

@@ -1,0 +1,4 @@
+pub mod Accepted
+pub mod Sum
+pub mod Rows
+pub mod SignedLaws
