@@ -1,11 +1,20 @@
-// The program `motion`: a burst file from standard input, its text to standard output. A byte past 65536 tells a file that is too large.
+// The program `motion`: a burst file from standard input, its text to standard output. What cannot be read or written is said on standard error.
+use input::Input;
 use libc::STDIN_FILENO;
 use libc::STDOUT_FILENO;
+use report::sizes::FILE_ROOM;
+use report::sizes::TEXT_ROOM;
 
 fn main() {
-    let mut file = [0u8; 65537];
-    let mut text = [0u8; 32768];
-    let count = io::read_full(STDIN_FILENO, &mut file);
-    let length = report::motion_text(&file[..count], &mut text);
-    io::write_all(STDOUT_FILENO, &text[..length]);
+    let mut file = [0u8; FILE_ROOM];
+    let mut text = [0u8; TEXT_ROOM];
+    match input::read_all(STDIN_FILENO, &mut file) {
+        Input::Failed => os::fail(b"motion: standard input"),
+        Input::Read { count } => {
+            let length = report::motion_text(&file, count, &mut text);
+            if !io::write_all(STDOUT_FILENO, &text[..length]) {
+                os::fail(b"motion: standard output");
+            }
+        }
+    }
 }

@@ -20,8 +20,8 @@ use Rattle.burst_file.specs.HeadLaws.{HeadRead, head-complete}
 use Rattle.burst_file.specs.Reading.{reading, fileCheck, samplesAfter, FileRead}
 use Rattle.burst_file.specs.Acceptance.{Accepted, sound-number, complete}
 use Rattle.printing.specs.Lines.{tooLarge, refusal}
-use Rattle.report.specs.Program.{taken, checked, answerText, programText}
-use Rattle.report.specs.Opening.{room, burstOf, Holds}
+use Rattle.report.specs.Program.{fileMost, side, taken, checked, answerText, programText}
+use Rattle.report.specs.Inner.{room, burstOf, Holds}
 
 -- the file check has no test of lengths
 abbrev pub noTest : Shape → ℕ
@@ -36,19 +36,19 @@ refused-part printed (refused n) e h = ap refusal (sym e)
 refused-part printed (found burst rest) e h = absurd (h e)
 
 module _ (shape : Shape) where
-  taken-true : shape .width ≡ 64 → shape .height ≡ 64 → taken shape ≡ true
+  taken-true : shape .width ≡ side → shape .height ≡ side → taken shape ≡ true
   unfolding taken
-  taken-true w h = rw (eq-eqb (shape .width) 64 w, eq-eqb (shape .height) 64 h)
+  taken-true w h = rw (eq-eqb (shape .width) side w, eq-eqb (shape .height) side h)
 
-  pub wide-other : (shape .width ≡ 64 → ⊥) → taken shape ≡ false
+  pub wide-other : (shape .width ≡ side → ⊥) → taken shape ≡ false
   unfolding taken
-  wide-other w = rw (ne-eqb (shape .width) 64 w)
+  wide-other w = rw (ne-eqb (shape .width) side w)
 
-  pub high-other : shape .width ≡ 64 → (shape .height ≡ 64 → ⊥) → taken shape ≡ false
+  pub high-other : shape .width ≡ side → (shape .height ≡ side → ⊥) → taken shape ≡ false
   unfolding taken
-  high-other w h = rw (eq-eqb (shape .width) 64 w, ne-eqb (shape .height) 64 h)
+  high-other w h = rw (eq-eqb (shape .width) side w, ne-eqb (shape .height) side h)
 
-  frames-room : shape .width ≡ 64 → shape .height ≡ 64 → sampleLength shape ≡ room (shape .count)
+  frames-room : shape .width ≡ side → shape .height ≡ side → sampleLength shape ≡ room (shape .count)
   unfolding sampleLength
   frames-room w h = rw (w, h)
 
@@ -109,38 +109,38 @@ headed-few {file} {header} f = passed header (f .accepted .header) .allowed .few
 
 -- what both programs print for a file
 module _ (file : List ℕ) where
-  pub long-text : 65536 < length file → (printed : Burst → List ℕ) → programText printed file ≡ tooLarge
+  pub long-text : fileMost < length file → (printed : Burst → List ℕ) → programText printed file ≡ tooLarge
   unfolding programText
-  long-text h printed = rw (lt-ltb 65536 (length file) h)
+  long-text h printed = rw (lt-ltb fileMost (length file) h)
 
-  module _ (short : length file ≤ 65536) where
+  module _ (short : length file ≤ fileMost) where
     pub refused-text : {number : ℕ} → number ≡ fileCheck file → (number ≡ 0 → ⊥) → (printed : Burst → List ℕ) → programText printed file ≡ refusal number
     unfolding programText
-    refused-text e h printed = rw (le-ltb 65536 (length file) short) (refused-part printed (checked file) e h)
+    refused-text e h printed = rw (le-ltb fileMost (length file) short) (refused-part printed (checked file) e h)
 
     module _ {burst : Burst} (a : Accepted noTest file burst) where
       pub other-text : taken (burst .header .shape) ≡ false → (printed : Burst → List ℕ) → programText printed file ≡ tooLarge
       unfolding programText answerText
-      other-text e printed = rw (le-ltb 65536 (length file) short, complete noTest file burst a, e)
+      other-text e printed = rw (le-ltb fileMost (length file) short, complete noTest file burst a, e)
 
       pub burst-text : taken (burst .header .shape) ≡ true → (printed : Burst → List ℕ) → programText printed file ≡ printed burst
       unfolding programText answerText
-      burst-text e printed = rw (le-ltb 65536 (length file) short, complete noTest file burst a, e)
+      burst-text e printed = rw (le-ltb fileMost (length file) short, complete noTest file burst a, e)
 
     pub head-text : {number : ℕ} → refused number ≡ headOf file → (printed : Burst → List ℕ) → programText printed file ≡ refusal number
     unfolding programText answerText reading
-    head-text e printed = rw (le-ltb 65536 (length file) short, sym e)
+    head-text e printed = rw (le-ltb fileMost (length file) short, sym e)
 
     module _ {header : Header} (f : Headed file header) where
-      pub wide-text : (header .shape .width ≡ 64 → ⊥) → (printed : Burst → List ℕ) → programText printed file ≡ tooLarge
+      pub wide-text : (header .shape .width ≡ side → ⊥) → (printed : Burst → List ℕ) → programText printed file ≡ tooLarge
       wide-text w = other-text (f .accepted) (wide-other (header .shape) w)
 
-      module _ (w : header .shape .width ≡ 64) where
-        pub high-text : (header .shape .height ≡ 64 → ⊥) → (printed : Burst → List ℕ) → programText printed file ≡ tooLarge
+      module _ (w : header .shape .width ≡ side) where
+        pub high-text : (header .shape .height ≡ side → ⊥) → (printed : Burst → List ℕ) → programText printed file ≡ tooLarge
         high-text h = other-text (f .accepted) (high-other (header .shape) w h)
 
         -- the file is read into the front of the lent samples
-        pub opens : (samples : List ℕ) {part : List ℕ} {answer : FileAnswer} → header .shape .height ≡ 64 →
+        pub opens : (samples : List ℕ) {part : List ℕ} {answer : FileAnswer} → header .shape .height ≡ side →
             let n = room (header .shape .count) in
             n ≤ length samples → length part ≡ n → FileRead file (take n samples) answer part → Holds file header (take n (part ++ drop n samples))
         opens samples {part} {answer} h fits same read =

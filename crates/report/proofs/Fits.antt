@@ -1,34 +1,34 @@
--- A burst of 64 by 64 has the shape and the lengths that the cores of the calls ask for.
-use Rattle.algebra.specs.Prelude.{_≡_, _∙_, List, ℕ, _-_, _*_, arith, length}
+-- A burst that the programs take has the shape and the lengths that the cores of the calls ask for.
+use Rattle.algebra.specs.Prelude.{_≡_, _∙_, List, ℕ, _-_, arith, length}
 use Rattle.geometry.specs.Shape.{sampleLength, vectorLength, outputLength, workLength}
 use Rattle.geometry.specs.Order.{BurstFits, AlignFits, MergeFits}
 use Rattle.burst_file.specs.declared.Header.{Header}
-use Rattle.report.specs.Opening.{Taken}
+use Rattle.report.specs.Inner.{room, vectorRoom, workRoom, Taken}
 
 module _ {header : Header} {samples : List ℕ} (t : Taken header samples) where
   sample-length : length samples ≡ sampleLength (header .shape)
   unfolding sampleLength
   sample-length = rw (t .wide, t .high) (t .long)
 
-  vector-length : 50 * (header .shape .count - 1) ≡ vectorLength (header .shape)
+  vector-length : vectorRoom (header .shape .count - 1) ≡ vectorLength (header .shape)
   unfolding vectorLength
   vector-length = rw (t .wide, t .high) (omega arith)
 
-  work-length : 8192 ≡ workLength (header .shape)
+  work-length : workRoom ≡ workLength (header .shape)
   unfolding workLength
   work-length = rw (t .wide, t .high)
 
-  output-length : 4096 ≡ outputLength (header .shape)
+  output-length : room 1 ≡ outputLength (header .shape)
   unfolding outputLength
   output-length = rw (t .wide, t .high)
 
-  module _ {vectors : ℕ} (v : vectors ≡ 50 * (header .shape .count - 1)) where
+  module _ {vectors : ℕ} (v : vectors ≡ vectorRoom (header .shape .count - 1)) where
     burst-fits : BurstFits (header .shape) (header .reference) (length samples) vectors
     burst-fits = record { allowed = t .allowed; reference-below = t .reference-below; samples-long = sample-length; vectors-long = v ∙ vector-length }
 
-    module _ {work : ℕ} (k : work ≡ 8192) where
+    module _ {work : ℕ} (k : work ≡ workRoom) where
       pub align-fits : AlignFits (header .shape) (header .reference) (length samples) vectors work
       align-fits = record { burst = burst-fits; work-long = k ∙ work-length }
 
-      pub merge-fits : {output : ℕ} → output ≡ 4096 → MergeFits (header .shape) (header .reference) (length samples) vectors output work
+      pub merge-fits : {output : ℕ} → output ≡ room 1 → MergeFits (header .shape) (header .reference) (length samples) vectors output work
       merge-fits o = record { burst = burst-fits; output-long = o ∙ output-length; work-long = k ∙ work-length }

@@ -1,12 +1,11 @@
 -- Document 01, "The program `motion` prints one line per other frame".
-use Rattle.algebra.specs.Prelude.{_≡_, List, [], _∷_, _++_, ℕ, zero, suc, _+_, _-_, _*_, _/_, length, getD, take, drop, ℤ}
+use Rattle.algebra.specs.Prelude.{List, [], _∷_, _++_, ℕ, zero, suc, _+_, _-_, _*_, _/_, getD, take, drop, ℤ}
 use Rattle.geometry.specs.declared.Shape.{Shape}
 use Rattle.geometry.specs.Vectors.{otherFrame}
 use Rattle.alignment.specs.Aligned.{alignedVectors, residualSums}
-use Rattle.burst_file.specs.declared.Header.{Header}
 use Rattle.burst_file.specs.Grammar.{Burst}
 use Rattle.printing.specs.Lines.{motionNames, numberLine}
-use Rattle.report.specs.Tallies.{tiles, stillTiles, farthest}
+use Rattle.tallies.specs.Tallies.{tiles, stillTiles, farthest}
 use Rattle.report.specs.Program.{programText}
 
 -- "2·(W/16+1)·(H/16+1)": the vector parts of one other frame
@@ -26,12 +25,6 @@ unfoldable pub frameLines : (reference count : ℕ) (vectors : List ℤ) (sums :
 frameLines reference count vectors sums zero = []
 frameLines reference count vectors sums (suc n) =
     frameLines reference count vectors sums n ++ frameLine (otherFrame reference n) (partsOf count vectors n) (getD sums n 0)
-
--- the first of the lent vectors are those of the burst's alignment, beside its sums of finest residuals
-pub record AlignedAs (header : Header) (samples : List ℕ) (vectors : List ℤ) (sums : List ℕ) : Type 0 where
-  pub found : take (50 * (header .shape .count - 1)) vectors ≡ alignedVectors (header .shape) (header .reference) samples
-  pub residuals : sums ≡ residualSums (header .shape) (header .reference) samples
-  pub same : length vectors ≡ 350
 
 -- what `motion` prints for a burst: the names, and the lines of its alignment
 unfoldable pub motionOf : Burst → List ℕ

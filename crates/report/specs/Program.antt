@@ -6,9 +6,20 @@ use Rattle.burst_file.specs.Part.{Part, refused, found}
 use Rattle.burst_file.specs.Reading.{reading}
 use Rattle.printing.specs.Lines.{tooLarge, refusal}
 
+-- "files up to 65536 bytes"
+abbrev pub fileMost : ℕ
+fileMost = 65536
+
+-- room for any text of the programs
+abbrev pub textRoom : ℕ
+textRoom = 32768
+
 -- "with W = H = 64"
+abbrev pub side : ℕ
+side = 64
+
 unfoldable pub taken : Shape → Bool
-taken shape = eqb (shape .width) 64 && eqb (shape .height) 64
+taken shape = eqb (shape .width) side && eqb (shape .height) side
 
 -- the file check
 abbrev pub checked : List ℕ → Part Burst
@@ -22,4 +33,4 @@ module _ (printed : Burst → List ℕ) where
 
   -- "a longer file [..] prints only `too large`, LF"
   unfoldable pub programText : List ℕ → List ℕ
-  programText file = cond (ltb 65536 (length file)) tooLarge (answerText (checked file))
+  programText file = cond (ltb fileMost (length file)) tooLarge (answerText (checked file))

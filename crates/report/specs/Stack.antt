@@ -1,5 +1,5 @@
 -- Document 01, "`stack` the merged frame (names `width height`, their values, rows)".
-use Rattle.algebra.specs.Prelude.{_≡_, List, [], _∷_, _++_, ℕ, zero, suc}
+use Rattle.algebra.specs.Prelude.{List, [], _∷_, _++_, ℕ, zero, suc, ℤ}
 use Rattle.geometry.specs.Bounds.{vectorRefusal}
 use Rattle.alignment.specs.Aligned.{alignedVectors}
 use Rattle.recipe.specs.declared.Merge.{Merge}
@@ -30,17 +30,18 @@ unfoldable pub unlessRefused : (number : ℕ) → List ℕ → List ℕ
 unlessRefused zero text = text
 unlessRefused (suc number) text = refusal (suc number)
 
--- what a run of the burst answers, and leaves in the output
-pub record RanAs (header : Header) (samples output : List ℕ) (number : ℕ) : Type 0 where
-  pub answer : number ≡ vectorRefusal (alignedVectors (header .shape) (header .reference) samples)
-  pub result : number ≡ 0 → output ≡ merged (sceneOf (fileMerge header) samples (alignedVectors (header .shape) (header .reference) samples))
+-- "align, then merge": the vectors of the burst, and the frame that they give
+unfoldable pub vectorsFound : Burst → List ℤ
+vectorsFound burst = alignedVectors (burst .header .shape) (burst .header .reference) (burst .samples)
+
+unfoldable pub frameOf : Burst → List ℕ
+frameOf burst = merged (sceneOf (fileMerge (burst .header)) (burst .samples) (vectorsFound burst))
 
 -- what `stack` prints for a burst: its run from the file's levels, with refusal 12
 unfoldable pub stackOf : Burst → List ℕ
 stackOf burst =
     let shape = burst .header .shape in
-    let vectors = alignedVectors shape (burst .header .reference) (burst .samples) in
-    unlessRefused (vectorRefusal vectors) (frameText (shape .width) (shape .height) (merged (sceneOf (fileMerge (burst .header)) (burst .samples) vectors)))
+    unlessRefused (vectorRefusal (vectorsFound burst)) (frameText (shape .width) (shape .height) (frameOf burst))
 
 -- what it prints for a file
 abbrev pub stackText : List ℕ → List ℕ

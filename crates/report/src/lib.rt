@@ -1,8 +1,8 @@
 // What the programs print, as functions from the file's bytes to the printed bytes.
 mod motion;
 mod opening;
+pub mod sizes;
 mod stack;
-mod tallies;
 mod text;
 
 pub use text::motion_text;

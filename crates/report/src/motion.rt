@@ -3,17 +3,21 @@ ghost use mathlib.Core.Path.{_≡_};
 ghost use Prim.Native.Nat.{_+_, _*_, _<_, _≤_};
 ghost use lib.ListN.{length};
 ghost use Rattle.printing.specs.Put.{Printed};
-ghost use Rattle.report.specs.Opening.{burstOf, Taken};
-ghost use Rattle.report.specs.Motion.{frameLine, frameLines, AlignedAs, motionOf};
-use crate::tallies::farthest;
-use crate::tallies::still_tiles;
+ghost use Rattle.report.specs.Program.{textRoom};
+ghost use Rattle.report.specs.Motion.{frameLine, frameLines, motionOf};
+ghost use Rattle.report.specs.Inner.{vectorRoom, workRoom, burstOf, Taken, AlignedAs};
+use crate::sizes::PARTS;
+use crate::sizes::VECTOR_ROOM;
+use crate::sizes::WORK_ROOM;
 use alignment::burst::align_frames;
 use burst_file::Header;
 use geometry::vectors::other_frame;
 use printing::fixed::put_motion_names;
 use printing::lines::put_numbers;
+use tallies::farthest;
+use tallies::still_tiles;
 
-// The line of one frame.
+// The line of one frame: five numbers of at most 21 bytes.
 fn put_frame(text: &mut [u8], at: usize, frame: usize, vectors: &[i32], residual: u64) -> usize
     requires { ⌜ at + 105 ≤ length (now text) ⌝ }
     ensures { λ r. ⌜ (Printed (now (text .entry)) at (frameLine frame (now (vectors .entry)) residual) (now (text .exit)) r) × (r ≤ at + 105) ⌝ }
@@ -28,7 +32,7 @@ fn put_frame(text: &mut [u8], at: usize, frame: usize, vectors: &[i32], residual
     put_numbers(text, at, &line)
 }
 
-// The lines of all other frames, each with 25 vectors.
+// The lines of all other frames.
 fn put_frames(
     text: &mut [u8],
     at: usize,
@@ -37,13 +41,13 @@ fn put_frames(
     residuals: [u64; 7],
     others: usize,
 ) -> usize
-    requires { ⌜ (others ≤ 7) × (50 * others ≤ length (now vectors)) × (at + 735 ≤ length (now text)) ⌝ }
-    ensures { λ r. ⌜ Printed (now (text .entry)) at (frameLines reference 50 (now (vectors .entry)) residuals others) (now (text .exit)) r ⌝ }
+    requires { ⌜ record { few : others ≤ 7; vectors-room : vectorRoom others ≤ length (now vectors); text-room : at + 105 * 7 ≤ length (now text) } ⌝ }
+    ensures { λ r. ⌜ Printed (now (text .entry)) at (frameLines reference (vectorRoom 1) (now (vectors .entry)) residuals others) (now (text .exit)) r ⌝ }
 {
     let mut next = at;
     for k in 0..others {
-        let from = 50 * k;
-        let end = from + 50;
+        let from = PARTS * k;
+        let end = from + PARTS;
         let frame = other_frame(reference, k);
         next = put_frame(&mut *text, next, frame, &vectors[from..end], residuals[k]);
     }
@@ -52,14 +56,15 @@ fn put_frames(
 
 // The vectors and the sums of finest residuals, by what align does once its tests have passed: the file check has made them.
 fn align_burst(header: Header, samples: &[u16], vectors: &mut [i32], work: &mut [i64]) -> [u64; 7]
-    requires { ⌜ (Taken header (now samples)) × (length (now vectors) ≡ 350) × (length (now work) ≡ 8192) ⌝ }
+    requires { ⌜ record { taken : Taken header (now samples); vectors-room : length (now vectors) ≡ vectorRoom 7; work-room : length (now work) ≡ workRoom } ⌝ }
     ensures { λ r. ⌜ AlignedAs header (now (samples .entry)) (now (vectors .exit)) r ⌝ }
 {
     let shape = header.shape;
-    let end = 50 * (shape.count - 1);
+    let end = PARTS * (shape.count - 1);
     align_frames(shape, header.reference, samples, &mut vectors[..end], work)
 }
 
+// The names, and the lines of the burst's alignment.
 fn put_aligned(
     text: &mut [u8],
     header: Header,
@@ -67,14 +72,14 @@ fn put_aligned(
     vectors: &mut [i32],
     work: &mut [i64],
 ) -> usize
-    requires { ⌜ (Taken header (now samples)) × (length (now vectors) ≡ 350) × (length (now work) ≡ 8192) × (1024 ≤ length (now text)) ⌝ }
+    requires { ⌜ record { taken : Taken header (now samples); vectors-room : length (now vectors) ≡ vectorRoom 7; work-room : length (now work) ≡ workRoom; text-room : textRoom ≤ length (now text) } ⌝ }
     ensures { λ r. ⌜ Printed (now (text .entry)) 0 (motionOf (burstOf header (now (samples .entry)))) (now (text .exit)) r ⌝ }
 {
     let residuals = align_burst(header, samples, &mut *vectors, work);
     let next = put_motion_names(&mut *text, 0);
     let shape = header.shape;
     let others = shape.count - 1;
-    let end = 50 * others;
+    let end = PARTS * others;
     put_frames(
         text,
         next,
@@ -85,11 +90,12 @@ fn put_aligned(
     )
 }
 
+// What `motion` prints for a burst.
 pub fn put_motion(text: &mut [u8], header: Header, samples: &[u16]) -> usize
-    requires { ⌜ (Taken header (now samples)) × (1024 ≤ length (now text)) ⌝ }
+    requires { ⌜ (Taken header (now samples)) × (textRoom ≤ length (now text)) ⌝ }
     ensures { λ r. ⌜ Printed (now (text .entry)) 0 (motionOf (burstOf header (now (samples .entry)))) (now (text .exit)) r ⌝ }
 {
-    let mut vectors = [0i32; 350];
-    let mut work = [0i64; 8192];
+    let mut vectors = [0i32; VECTOR_ROOM];
+    let mut work = [0i64; WORK_ROOM];
     put_aligned(text, header, samples, &mut vectors, &mut work)
 }

@@ -3,40 +3,45 @@ ghost use mathlib.Core.Path.{_≡_};
 ghost use Prim.Native.Nat.{_≤_};
 ghost use lib.ListN.{length};
 ghost use Rattle.printing.specs.Put.{Printed};
-ghost use Rattle.report.specs.Opening.{burstOf, Taken};
-ghost use Rattle.report.specs.Stack.{frameText, RanAs, stackOf};
+ghost use Rattle.report.specs.Program.{textRoom, side};
+ghost use Rattle.report.specs.Stack.{frameText, frameOf, stackOf};
+ghost use Rattle.report.specs.Inner.{room, vectorRoom, workRoom, burstOf, Taken};
+use crate::sizes::FRAME;
+use crate::sizes::PARTS;
+use crate::sizes::SIDE;
+use crate::sizes::VECTOR_ROOM;
+use crate::sizes::WORK_ROOM;
 use burst_file::Header;
-use printing::fixed::put_refusal;
+use pipeline::run_levels;
 use printing::fixed::put_stack_names;
 use printing::lines::put_numbers;
 use printing::lines::put_rows;
 use recipe::Merge;
 use recipe::Tuning;
-use stacker::run::run_levels;
 
-// The names, the sizes and the rows of a frame of 64 by 64.
+// The names, the sizes and the rows of a frame.
 fn put_merged(text: &mut [u8], samples: &[u16]) -> usize
-    requires { ⌜ (length (now samples) ≡ 4096) × (32768 ≤ length (now text)) ⌝ }
-    ensures { λ r. ⌜ Printed (now (text .entry)) 0 (frameText 64 64 (now (samples .entry))) (now (text .exit)) r ⌝ }
+    requires { ⌜ (length (now samples) ≡ room 1) × (textRoom ≤ length (now text)) ⌝ }
+    ensures { λ r. ⌜ Printed (now (text .entry)) 0 (frameText side side (now (samples .entry))) (now (text .exit)) r ⌝ }
 {
     let sizes = put_stack_names(&mut *text, 0);
-    let rows = put_numbers(&mut *text, sizes, &[64, 64]);
-    put_rows(text, rows, samples, 64, 64)
+    let rows = put_numbers(&mut *text, sizes, &[SIDE as u64, SIDE as u64]);
+    put_rows(text, rows, samples, SIDE, SIDE)
 }
 
-// A run from the levels of the file. The vectors are those of at most seven frames.
+// A run from the levels of the file, whose frame it leaves in the output. The vectors are those of at most seven frames.
 fn run_burst(
     header: Header,
     samples: &[u16],
     vectors: &mut [i32],
     output: &mut [u16],
     work: &mut [i64],
-) -> u64
-    requires { ⌜ (Taken header (now samples)) × (length (now vectors) ≡ 350) × (length (now output) ≡ 4096) × (length (now work) ≡ 8192) ⌝ }
-    ensures { λ r. ⌜ RanAs header (now (samples .entry)) (now (output .exit)) r ⌝ }
+)
+    requires { ⌜ record { taken : Taken header (now samples); vectors-room : length (now vectors) ≡ vectorRoom 7; output-room : length (now output) ≡ room 1; work-room : length (now work) ≡ workRoom } ⌝ }
+    ensures { λ _. ⌜ (now (output .exit) ≡ frameOf (burstOf header (now (samples .entry)))) × (length (now (output .exit)) ≡ room 1) ⌝ }
 {
     let shape = header.shape;
-    let end = 50 * (shape.count - 1);
+    let end = PARTS * (shape.count - 1);
     let tuning = Tuning {
         strength: header.strength,
     };
@@ -47,34 +52,17 @@ fn run_burst(
         read: header.read_level,
         tuning,
     };
-    let answer = run_levels(m, samples, &mut vectors[..end], output, work);
-    answer.refusal
+    run_levels(m, samples, &mut vectors[..end], output, work);
 }
 
-fn put_run(
-    text: &mut [u8],
-    header: Header,
-    samples: &[u16],
-    vectors: &mut [i32],
-    output: &mut [u16],
-    work: &mut [i64],
-) -> usize
-    requires { ⌜ (Taken header (now samples)) × (length (now vectors) ≡ 350) × (length (now output) ≡ 4096) × (length (now work) ≡ 8192) × (32768 ≤ length (now text)) ⌝ }
-    ensures { λ r. ⌜ Printed (now (text .entry)) 0 (stackOf (burstOf header (now (samples .entry)))) (now (text .exit)) r ⌝ }
-{
-    let refusal = run_burst(header, samples, vectors, &mut *output, work);
-    if refusal != 0 {
-        return put_refusal(text, 0, refusal);
-    }
-    put_merged(text, &*output)
-}
-
+// What `stack` prints for a burst.
 pub fn put_stack(text: &mut [u8], header: Header, samples: &[u16]) -> usize
-    requires { ⌜ (Taken header (now samples)) × (32768 ≤ length (now text)) ⌝ }
+    requires { ⌜ (Taken header (now samples)) × (textRoom ≤ length (now text)) ⌝ }
     ensures { λ r. ⌜ Printed (now (text .entry)) 0 (stackOf (burstOf header (now (samples .entry)))) (now (text .exit)) r ⌝ }
 {
-    let mut vectors = [0i32; 350];
-    let mut output = [0u16; 4096];
-    let mut work = [0i64; 8192];
-    put_run(text, header, samples, &mut vectors, &mut output, &mut work)
+    let mut vectors = [0i32; VECTOR_ROOM];
+    let mut output = [0u16; FRAME];
+    let mut work = [0i64; WORK_ROOM];
+    run_burst(header, samples, &mut vectors, &mut output, &mut work);
+    put_merged(text, &output)
 }

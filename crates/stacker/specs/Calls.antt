@@ -7,7 +7,6 @@ use Rattle.geometry.specs.Refusal.{_before_}
 use Rattle.geometry.specs.Bounds.{vectorRefusal}
 use Rattle.noise.specs.declared.Noise.{Noise}
 use Rattle.alignment.specs.Aligned.{alignedVectors, residualSums}
-use Rattle.recipe.specs.declared.Merge.{Merge}
 use Rattle.recipe.specs.Scene.{Scene, sceneOf}
 use Rattle.recipe.specs.Merged.{merged}
 use Rattle.recipe.specs.ExactMerge.{exactAt}
@@ -37,15 +36,8 @@ pub record Merged (s : Shape) (reference : ℕ) (noise : Noise) (tuning : Tuning
   pub clean : work′ ≡ after (mergeRefusal s reference noise tuning samples vectors output work) work (zeros work)
   pub near : number ≡ 0 → Close (sceneOf (mergeOf s reference noise tuning) samples vectors) output′
 
--- what run does from the levels on: "align, then merge; it also tests the vectors it found by refusal 12, and after that refusal alone the vectors stay
--- as found, output as it was and work zeroed"
-pub record RanLevels (m : Merge) (samples : List ℕ) (vectors′ : List ℤ) (output output′ : List ℕ) (work work′ : List ℤ) (r : Alignment) : Type 0 where
-  pub answer : r ≡ answered (vectorRefusal (alignedVectors (m .shape) (m .reference) samples)) (residualSums (m .shape) (m .reference) samples)
-  pub found : vectors′ ≡ alignedVectors (m .shape) (m .reference) samples
-  pub result : output′ ≡ after (vectorRefusal (alignedVectors (m .shape) (m .reference) samples)) output (merged (sceneOf m samples (alignedVectors (m .shape) (m .reference) samples)))
-  pub clean : work′ ≡ zeros work
-
--- run: its tests 1 to 11, then the same
+-- run: "align, then merge; it also tests the vectors it found by refusal 12, and after that refusal alone the vectors stay as found, output as it was and
+-- work zeroed"
 pub record Ran (s : Shape) (reference : ℕ) (noise : Noise) (tuning : Tuning) (samples : List ℕ) (vectors vectors′ : List ℤ) (output output′ : List ℕ) (work work′ : List ℤ) (r : Alignment) : Type 0 where
   pub answer : r ≡ answered (runRefusal s reference noise tuning samples vectors output work before vectorRefusal (alignedVectors s reference samples)) (residualSums s reference samples)
   pub found : vectors′ ≡ after (runRefusal s reference noise tuning samples vectors output work) vectors (alignedVectors s reference samples)

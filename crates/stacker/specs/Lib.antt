@@ -3,4 +3,3 @@ pub mod Refusals
 pub mod Calls
 pub mod CallLaws
 pub mod CloseLaws
-pub mod NeverLaws

@@ -1,12 +1,13 @@
 -- The tests of each call, "in the order of the numbers".
-use Rattle.algebra.specs.Prelude.{_≡_, List, ℕ, _≤_, length, ℤ}
+use Rattle.algebra.specs.Prelude.{_≡_, List, ℕ, length, ℤ}
 use Rattle.geometry.specs.declared.Shape.{Shape}
 use Rattle.geometry.specs.Refusal.{_before_}
-use Rattle.geometry.specs.Order.{alignShapeRefusal, mergeShapeRefusal, MergeFits}
-use Rattle.geometry.specs.Bounds.{sampleRefusal, SamplesFit, vectorRefusal}
+use Rattle.geometry.specs.Order.{alignShapeRefusal, mergeShapeRefusal}
+use Rattle.geometry.specs.Bounds.{sampleRefusal, vectorRefusal}
 use Rattle.noise.specs.declared.Noise.{Noise}
 use Rattle.noise.specs.Levels.{levelsOf, refusalOf, shotLevel, readLevel, strengthRefusal}
 use Rattle.recipe.specs.declared.Merge.{Merge}
+use Rattle.pipeline.specs.Levels.{Runnable}
 use Rattle.recipe.specs.declared.Tuning.{Tuning}
 use Rattle.stacker.specs.declared.tests.Tested.{Tested}
 
@@ -38,14 +39,6 @@ mergeOf s reference noise tuning =
       read = readLevel (levelsOf noise);
       tuning = tuning;
     }
-
--- what is known of a run that tests 1 to 11 have let through
-pub record Runnable (m : Merge) (samples : List ℕ) (vectors : List ℤ) (output : List ℕ) (work : List ℤ) : Type 0 where
-  pub fits : MergeFits (m .shape) (m .reference) (length samples) (length vectors) (length output) (length work)
-  pub samples-fit : SamplesFit samples
-  pub shot-most : m .shot ≤ 65536
-  pub read-most : m .read ≤ 4194304
-  pub strength-most : m .tuning .strength ≤ 1024
 
 -- the answer of these tests
 pub record RunTested (s : Shape) (reference : ℕ) (noise : Noise) (tuning : Tuning) (samples : List ℕ) (vectors : List ℤ) (output : List ℕ) (work : List ℤ) (r : Tested) : Type 0 where

@@ -2,8 +2,8 @@
 ghost use Rattle.stacker.specs.Calls.{Aligned};
 use crate::Alignment;
 use crate::tests::align_refusal;
-use crate::tests::clear;
 use geometry::Shape;
+use pipeline::clear;
 
 pub fn align(
     shape: Shape,

@@ -1,9 +1,9 @@
 // Merge: a burst and lent vectors to the output.
 ghost use Rattle.stacker.specs.Calls.{Merged};
-use crate::tests::clear;
 use crate::tests::run_refusal;
 use geometry::Shape;
 use noise::Noise;
+use pipeline::clear;
 use recipe::Merge;
 use recipe::Tuning;
 

@@ -1,7 +1,6 @@
-// The tests of the calls, and the clearing of the work area.
+// The tests of the calls.
 ghost use mathlib.Core.Path.{_≡_};
 ghost use Prim.Native.Nat.{_≤_};
-ghost use Rattle.sequences.specs.Clear.{zeros};
 ghost use Rattle.geometry.specs.Refusal.{_before_};
 ghost use Rattle.geometry.specs.Read.{Sampled};
 ghost use Rattle.geometry.specs.Bounds.{sampleRefusal, SamplesFit};
@@ -12,17 +11,6 @@ use geometry::Shape;
 use noise::Levels;
 use noise::Noise;
 use recipe::Tuning;
-
-// Sets the work area to zero.
-pub fn clear(work: &mut [i64])
-    ensures { λ _. ⌜ now (work .exit) ≡ zeros (now (work .entry)) ⌝ }
-{
-    let mut i = 0;
-    while i < work.len() {
-        work[i] = 0;
-        i += 1;
-    }
-}
 
 // Tests 1 to 5, 7 and 11: those of align.
 pub fn align_refusal(

@@ -1,6 +1,7 @@
 -- `report::motion::align_burst`: what the file check has tested is what align asks for; the front of the vectors is lent on.
-use Rattle.algebra.specs.Prelude.{_≡_, sym, _∙_, _-_, _*_, _≤_, arith, needs, length}
+use Rattle.algebra.specs.Prelude.{_≡_, sym, _∙_, _-_, _≤_, arith, needs, length}
 use lib.Seq.{length-take-le}
+use Rattle.report.specs.Inner.{vectorRoom}
 use Rattle.report.proofs.Files.{front-is, front-length}
 use Rattle.report.proofs.Fits.{align-fits}
 use Rattle.report.proofs.motion.align_burst.Statement.{statement}
@@ -9,20 +10,20 @@ use Rattle.report.proofs.motion.align_burst.Tie as tie
 align-frames-requires : tie.Need-align-frames-requires
 align-frames-requires c κs =
     let start = c .before .before .before .before .before in
-    let taken = start .pre .0 in
-    record { fits = align-fits taken (length-take-le _ (start .args .vectors .now) (omega (arith, taken .allowed .few))) (start .pre .2); samples-fit = taken .small }
+    let taken = start .pre .taken in
+    record { fits = align-fits taken (length-take-le _ (start .args .vectors .now) (omega (arith, taken .allowed .few))) (start .pre .work-room); samples-fit = taken .small }
 
 returns : tie.Need-returns
 returns c =
     let start = c .before .before .before .before .before .before .before .before in
     let aligned = c .before .before .align-frames .ensures in
-    let n = 50 * (start .args .header .shape .count - 1) in
-    let fits : n ≤ length (start .args .vectors .now) = omega (arith, start .pre .0 .allowed .few) in
+    let n = vectorRoom (start .args .header .shape .count - 1) in
+    let fits : n ≤ length (start .args .vectors .now) = omega (arith, start .pre .taken .allowed .few) in
     let vectors = start .args .vectors .now in
     let whole = length-take-le n vectors fits in
     let part = c .before .before .align-frames .last .1 .1 .1 .0 in
     let same : length part ≡ n = omega (arith, whole) in
-    record { found = front-is n vectors part fits same ∙ aligned .found; residuals = aligned .sums-are; same = front-length n vectors part fits same ∙ start .pre .1 }
+    record { found = front-is n vectors part fits same ∙ aligned .found; residuals = aligned .sums-are; same = front-length n vectors part fits same ∙ start .pre .vectors-room }
 
 pub align-burst-spec : {M : Type 1} → statement M
 align-burst-spec = tie.close (tie.spec

@@ -1,21 +1,21 @@
 -- `report::motion::put_aligned`: the names, then the lines of the vectors that align found.
-use Rattle.algebra.specs.Prelude.{_≡_, sym, ap, List, _++_, ℕ, _-_, _*_, arith, needs, ℤ}
+use Rattle.algebra.specs.Prelude.{_≡_, sym, ap, List, _++_, ℕ, _-_, arith, needs, ℤ}
 use lib.Seq.{length-take-le}
 use Rattle.alignment.specs.Aligned.{alignedVectors, residualSums}
 use Rattle.burst_file.specs.declared.Header.{Header}
 use Rattle.printing.specs.Lines.{motionNames}
 use Rattle.printing.specs.PutLaws.{printed-then}
-use Rattle.report.specs.Opening.{burstOf, Taken}
+use Rattle.report.specs.Inner.{vectorRoom, burstOf, Taken}
 use Rattle.report.specs.Motion.{frameParts, frameLines, motionOf}
 use Rattle.report.proofs.motion.put_aligned.Statement.{statement}
 use Rattle.report.proofs.motion.put_aligned.Tie as tie
 
-frame-parts : {header : Header} {samples : List ℕ} → Taken header samples → frameParts (header .shape) ≡ 50
+frame-parts : {header : Header} {samples : List ℕ} → Taken header samples → frameParts (header .shape) ≡ vectorRoom 1
 frame-parts t = rw (t .wide, t .high)
 
 lines-of : {header : Header} {samples : List ℕ} {vectors : List ℤ} {sums : List ℕ} → Taken header samples →
     vectors ≡ alignedVectors (header .shape) (header .reference) samples → sums ≡ residualSums (header .shape) (header .reference) samples →
-    motionNames ++ frameLines (header .reference) 50 vectors sums (header .shape .count - 1) ≡ motionOf (burstOf header samples)
+    motionNames ++ frameLines (header .reference) (vectorRoom 1) vectors sums (header .shape .count - 1) ≡ motionOf (burstOf header samples)
 unfolding motionOf
 lines-of {header} {samples} {vectors} {sums} t v s =
     rw (v, s)
@@ -26,16 +26,16 @@ lines-of {header} {samples} {vectors} {sums} t v s =
 slice-aggregate-put-frames : tie.Need-slice-aggregate-put-frames
 slice-aggregate-put-frames c =
     let aligned = c .before .before .before .before .before .before .before .before .before .before in
-    sym (length-take-le _ _ (omega (arith, aligned .align-burst .ensures .same, aligned .before .before .before .before .before .pre .0 .allowed .few)))
+    sym (length-take-le _ _ (omega (arith, aligned .align-burst .ensures .same, aligned .before .before .before .before .before .pre .taken .allowed .few)))
 
 put-frames-requires : tie.Need-put-frames-requires
 put-frames-requires c κs =
     let named = c .before .before .before .before .before .before in
     let aligned = named .before .before .before .before in
     let start = aligned .before .before .before .before .before in
-    let few = start .pre .0 .allowed .few in
-    let whole = length-take-le (50 * (start .args .header .shape .count - 1)) (aligned .align-burst .last .1 .1 .0) (omega (arith, aligned .align-burst .ensures .same, few)) in
-    (omega (arith, few), omega (arith, whole), omega (arith, named .put-motion-names .ensures .1, named .put-motion-names .ensures .0 .same, start .pre .3))
+    let few = start .pre .taken .allowed .few in
+    let whole = length-take-le (vectorRoom (start .args .header .shape .count - 1)) (aligned .align-burst .last .1 .1 .0) (omega (arith, aligned .align-burst .ensures .same, few)) in
+    record { few = omega (arith, few); vectors-room = omega (arith, whole); text-room = omega (arith, named .put-motion-names .ensures .1, named .put-motion-names .ensures .0 .same, start .pre .text-room) }
 
 returns : tie.Need-returns
 returns c =
@@ -43,7 +43,7 @@ returns c =
     let named = put .before .before .before .before .before .before .before in
     let aligned-at = named .before .before .before .before in
     let aligned = aligned-at .align-burst .ensures in
-    rw (lines-of (aligned-at .before .before .before .before .before .pre .0) (aligned .found) (aligned .residuals)) at (printed-then (omega arith) (named .put-motion-names .ensures .0) (put .put-frames .ensures))
+    rw (lines-of (aligned-at .before .before .before .before .before .pre .taken) (aligned .found) (aligned .residuals)) at (printed-then (omega arith) (named .put-motion-names .ensures .0) (put .put-frames .ensures))
 
 pub put-aligned-spec : {M : Type 1} → statement M
 put-aligned-spec = tie.close (tie.spec

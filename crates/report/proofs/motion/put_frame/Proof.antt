@@ -1,7 +1,7 @@
 -- `report::motion::put_frame`: the five numbers are those of the frame's line.
 use Rattle.algebra.specs.Prelude.{_≡_, List, [], _∷_, ℕ, _/_, needs, length, ℤ}
 use Rattle.printing.specs.Lines.{numberLine}
-use Rattle.report.specs.Tallies.{stillTiles, farthest}
+use Rattle.tallies.specs.Tallies.{stillTiles, farthest}
 use Rattle.report.specs.Motion.{frameLine}
 use Rattle.report.proofs.motion.put_frame.Statement.{statement}
 use Rattle.report.proofs.motion.put_frame.Tie as tie

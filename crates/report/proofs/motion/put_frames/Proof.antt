@@ -5,6 +5,7 @@ use Rattle.geometry.specs.Vectors.{otherFrame}
 use Rattle.printing.specs.Put.{Printed}
 use Rattle.printing.specs.PutLaws.{printed-none, printed-then}
 use Rattle.report.specs.Motion.{partsOf, frameLine, frameLines}
+use Rattle.report.specs.Inner.{vectorRoom}
 use Rattle.report.proofs.motion.put_frames.Statement.{statement}
 use Rattle.report.proofs.motion.put_frames.Tie as tie
 
@@ -12,19 +13,19 @@ use Rattle.report.proofs.motion.put_frames.Tie as tie
 record Lined (before : List ℕ) (at reference : ℕ) (vectors : List ℤ) (sums : List ℕ) (others k : ℕ) (after : List ℕ) (next : ℕ) : Type 0 where
   count : k ≤ others
   bound : next ≤ at + 105 * k
-  printed : Printed before at (frameLines reference 50 vectors sums k) after next
+  printed : Printed before at (frameLines reference (vectorRoom 1) vectors sums k) after next
 
-parts : (vectors : List ℤ) (k : ℕ) → take (50 * k + 50 - 50 * k) (drop (50 * k) vectors) ≡ partsOf 50 vectors k
+parts : (vectors : List ℤ) (k : ℕ) → take (vectorRoom k + vectorRoom 1 - vectorRoom k) (drop (vectorRoom k) vectors) ≡ partsOf (vectorRoom 1) vectors k
 unfolding partsOf
 parts vectors k =
-    let count : 50 * k + 50 - 50 * k ≡ 50 = omega arith in
-    let from : 50 * k ≡ k * 50 = omega arith in
+    let count : vectorRoom k + vectorRoom 1 - vectorRoom k ≡ vectorRoom 1 = omega arith in
+    let from : vectorRoom k ≡ k * vectorRoom 1 = omega arith in
     rw (count, from)
 
 module _ (reference : ℕ) (vectors : List ℤ) (sums : List ℕ) where
   next-line : (k : ℕ) {frame : ℕ} → frame ≡ otherFrame reference k →
-      frameLines reference 50 vectors sums k ++ frameLine frame (take (50 * k + 50 - 50 * k) (drop (50 * k) vectors)) (getD sums k 0)
-      ≡ frameLines reference 50 vectors sums (k + 1)
+      frameLines reference (vectorRoom 1) vectors sums k ++ frameLine frame (take (vectorRoom k + vectorRoom 1 - vectorRoom k) (drop (vectorRoom k) vectors)) (getD sums k 0)
+      ≡ frameLines reference (vectorRoom 1) vectors sums (k + 1)
   unfolding frameLines
   next-line k e = rw (add-one, parts vectors k, e)
 

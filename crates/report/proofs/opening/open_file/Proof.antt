@@ -5,48 +5,49 @@ use Rattle.burst_file.specs.declared.Head.{Head}
 use Rattle.burst_file.specs.declared.Head.the-variants.{Found, Refused}
 use Rattle.burst_file.specs.Head.{headOf}
 use Rattle.burst_file.specs.Scan.{headIn}
-use Rattle.report.specs.Opening.{room}
-use Rattle.report.proofs.Files.{Headed, headed, headed-few, long-text, refused-text, head-text, wide-text, high-text, opens}
+use Rattle.report.specs.Program.{fileMost}
+use Rattle.report.specs.Inner.{room}
+use Rattle.report.proofs.Files.{Headed, headed, headed-few, refused-text, head-text, wide-text, high-text, opens}
 use Rattle.report.proofs.opening.open_file.Statement.{statement}
 use Rattle.report.proofs.opening.open_file.Tie as tie
 
 -- where the head is `head`
 told : (c : tie.After-read-head) (head : Head) → c .read-head .result ≡ head →
-    let file = c .before .before .before .before .args .file .now in
+    let file = c .before .before .before .args .file .now in
     headIn file head ≡ headOf file
-told c head e = ap (headIn (c .before .before .before .before .args .file .now)) (sym e) ∙ c .read-head .ensures
+told c head e = ap (headIn (c .before .before .before .args .file .now)) (sym e) ∙ c .read-head .ensures
 
-short : (c : tie.After-read-head) → length (c .before .before .before .before .args .file .now) ≤ 65536
-short c = c .before .if1 .left
+short : (c : tie.After-read-head) → length (c .before .before .before .args .file .now) ≤ fileMost
+short c = c .before .before .before .pre .0
 
-returns-2 : tie.Need-returns-2
-returns-2 c = refused-text _ (short (c .before .before .before .before .before)) (c .before .check-file .ensures) (c .if2 .taken)
+returns : tie.Need-returns
+returns c = refused-text _ (short (c .before .before .before .before .before)) (c .before .check-file .ensures) (c .if1 .taken)
 
 -- the file check has accepted the file of this header
-accepted : (c : tie.Else2) → Headed (c .before .before .before .before .before .before .before .before .before .args .file .now) (c .before .before .before .header .given .0 .0)
+accepted : (c : tie.Else1) → Headed (c .before .before .before .before .before .before .before .before .args .file .now) (c .before .before .before .header .given .0 .0)
 accepted c =
     let at = c .before .before .before in
     let g = at .header .given in
-    headed (sym (c .before .check-file .ensures) ∙ c .if2 .left) (told (at .before .before) (Found (g .0 .0) (g .0 .1 .0)) (g .1))
+    headed (sym (c .before .check-file .ensures) ∙ c .if1 .left) (told (at .before .before) (Found (g .0 .0) (g .0 .1 .0)) (g .1))
 
-still-short : (c : tie.Else2) → length (c .before .before .before .before .before .before .before .before .before .args .file .now) ≤ 65536
+still-short : (c : tie.Else1) → length (c .before .before .before .before .before .before .before .before .args .file .now) ≤ fileMost
 still-short c = short (c .before .before .before .before .before)
+
+returns-2 : tie.Need-returns-2
+returns-2 c =
+    let checked = c .before .before .before in
+    wide-text _ (still-short checked) (accepted checked) (c .if2 .taken)
 
 returns-3 : tie.Need-returns-3
 returns-3 c =
-    let checked = c .before .before .before in
-    wide-text _ (still-short checked) (accepted checked) (c .if3 .taken)
-
-returns-4 : tie.Need-returns-4
-returns-4 c =
     let wide = c .before .before in
     let checked = wide .before .before .before in
-    high-text _ (still-short checked) (accepted checked) (wide .if3 .left) (c .if4 .taken)
+    high-text _ (still-short checked) (accepted checked) (wide .if2 .left) (c .if3 .taken)
 
 -- the samples of the frames fit in those lent
 fits : (c : tie.After-struct-known3) →
     let at = c .before .before .before .before .before .before .before .before .before in
-    room (at .header .given .0 .0 .shape .count) ≤ length (at .before .before .before .before .before .before .args .samples .now)
+    room (at .header .given .0 .0 .shape .count) ≤ length (at .before .before .before .before .before .args .samples .now)
 fits c = omega (arith, headed-few (accepted (c .before .before .before .before .before .before)))
 
 mul-end : tie.Need-mul-end
@@ -55,25 +56,25 @@ mul-end c = search (needs, headed-few (accepted (c .before .before .before .befo
 slice-aggregate-read-file : tie.Need-slice-aggregate-read-file
 slice-aggregate-read-file c = sym (length-take-le _ _ (fits (c .before)))
 
-returns-5 : tie.Need-returns-5
-returns-5 c =
+returns-4 : tie.Need-returns-4
+returns-4 c =
     let g = c .before .number .given in
     let head = c .before .before .before in
     head-text _ (short head) (told head (Refused (g .0 .0)) (g .1))
 
-returns-6 : tie.Need-returns-6
-returns-6 c =
+returns-5 : tie.Need-returns-5
+returns-5 c =
     let known = c .before .before .before .before in
     let high = known .before in
     let wide = high .before .before in
     let checked = wide .before .before .before in
     let at = checked .before .before .before in
-    let samples = at .before .before .before .before .before .before .args .samples .now in
+    let samples = at .before .before .before .before .before .args .samples .now in
     let same = length-take-le (room (at .header .given .0 .0 .shape .count)) samples (fits known) in
-    opens _ (still-short checked) (accepted checked) (wide .if3 .left) samples (high .if4 .left) (fits known) (omega (arith, same)) (c .before .before .read-file .ensures)
+    opens _ (still-short checked) (accepted checked) (wide .if2 .left) samples (high .if3 .left) (fits known) (omega (arith, same)) (c .before .before .read-file .ensures)
 
 pub open-file-spec : {M : Type 1} → statement M
 open-file-spec = tie.close (tie.spec
-    (λ c. long-text _ (c .if1 .taken)) (λ c κs. search needs) (λ c. search needs)
-    (λ c. search needs) (λ c κs. search needs) returns-2 returns-3 returns-4 mul-end (λ c. fits c)
-    slice-aggregate-read-file (λ c κs. search needs) returns-5 (λ c. search needs) returns-6)
+    (λ c κs. search needs) (λ c. search needs)
+    (λ c. search needs) (λ c κs. search needs) returns returns-2 returns-3 mul-end (λ c. fits c)
+    slice-aggregate-read-file (λ c κs. search needs) returns-4 (λ c. search needs) returns-5)

@@ -4,8 +4,8 @@ use lib.Seq.{length-take-le}
 use Rattle.burst_file.specs.Grammar.{Burst}
 use Rattle.report.specs.declared.opening.Opened.{Opened}
 use Rattle.report.specs.declared.opening.Opened.the-variants.{TooLarge, Refused, Taken}
-use Rattle.report.specs.Opening.{Opens}
-use Rattle.report.specs.Text.{printedBy}
+use Rattle.report.specs.Inner.{Opens}
+use Rattle.report.specs.Inner.{printedBy}
 use Rattle.report.proofs.text.put_file.Statement.{statement}
 use Rattle.report.proofs.text.put_file.Tie as tie
 

@@ -1,15 +1,12 @@
 -- `stacker::run::run`: a refusal returns before the first store; else `run_levels` on the levels that the tests found.
-use Rattle.algebra.specs.Prelude.{_≡_, refl, sym, ap, ap₂, subst, _∙_, List, ℕ, _≤_, needs}
+use Rattle.algebra.specs.Prelude.{refl, sym, ap₂, subst, _∙_, _≤_, needs}
 use Rattle.geometry.specs.RefusalLaws.{stops, goes}
-use Rattle.geometry.specs.Bounds.{vectorRefusal}
-use Rattle.alignment.specs.Aligned.{alignedVectors, residualSums}
+use Rattle.alignment.specs.Aligned.{alignedVectors}
 use Rattle.recipe.specs.Scene.{sceneOf}
 use Rattle.recipe.specs.Merged.{merged}
-use Rattle.stacker.specs.declared.Alignment.{Alignment}
-use Rattle.stacker.specs.Buffers.{after}
-use Rattle.stacker.specs.Calls.{answered}
-use Rattle.stacker.specs.CallLaws.{kept, made, answer-refused}
-use Rattle.stacker.specs.CloseLaws.{found-close, result-made}
+use Rattle.pipeline.specs.FoundLaws.{never-12}
+use Rattle.stacker.specs.CallLaws.{kept, made, answer-refused, answer-accepted}
+use Rattle.stacker.specs.CloseLaws.{found-close}
 use Rattle.stacker.proofs.run.run.Statement.{statement}
 use Rattle.stacker.proofs.run.run.Tie as tie
 
@@ -39,11 +36,6 @@ run-levels-requires c κs =
       strength-most = ready .strength-most;
     }
 
--- the number that is answered is the one beside the sums
-accepted : {r : Alignment} (number : ℕ) (sums : List ℕ) → r ≡ answered number sums → r .refusal ≡ 0 → number ≡ 0
-unfolding answered
-accepted number sums e z = sym (ap (λ r. r .refusal) e) ∙ z
-
 returns-2 : tie.Need-returns-2
 returns-2 c =
     let ran = c .before .before .before .before in
@@ -54,15 +46,14 @@ returns-2 c =
     let e = tested .number in
     let z = passed .if1 .left in
     let found = alignedVectors (a .shape) (a .reference) (a .samples .now) in
-    let number = goes {b = vectorRefusal found} e z refl in
-    let result = ap₂ (λ shot read. merged (sceneOf (record { shape = a .shape; reference = a .reference; shot = shot; read = read; tuning = a .tuning }) (a .samples .now) found)) (tested .shot-is z) (tested .read-is z) in
+    let number = goes e z (sym (never-12 (a .shape) (a .reference) (a .samples .now))) in
+    let result = is .result ∙ ap₂ (λ shot read. merged (sceneOf (record { shape = a .shape; reference = a .reference; shot = shot; read = read; tuning = a .tuning }) (a .samples .now) found)) (tested .shot-is z) (tested .read-is z) in
     record {
-      answer = is .answer ∙ ap (λ n. answered n (residualSums (a .shape) (a .reference) (a .samples .now))) number;
+      answer = answer-accepted _ _ number refl (is .sums-are);
       found = made _ _ _ e z (is .found);
-      result = is .result ∙ ap₂ (λ n l. after n (a .output .now) l) number result;
+      result = made _ _ _ number refl result;
       clean = made _ _ _ e z (is .clean);
-      near = λ h.
-          found-close _ _ _ _ _ (tested .passed z .fits .burst .allowed .few) (is .found) (result-made _ _ _ (accepted _ _ (is .answer) h) (is .result) ∙ result);
+      near = λ _. found-close _ _ _ _ _ (tested .passed z .fits .burst .allowed .few) (is .found) result;
     }
 
 pub run-spec : {M : Type 1} → statement M

@@ -1,0 +1,21 @@
+-- `input::read_all`: the count so far lies within the buffer, and each read that moves something leaves less to fill.
+use borrow.Author.Needs.{needs}
+use mathlib.Core.Path.{_≡_}
+use Prim.Native.Nat.{_-_, _≤_}
+use lib.ListN.{length}
+use Rattle.input.proofs.read_all.Statement.{statement}
+use Rattle.input.proofs.read_all.Tie as tie
+
+abbrev Inv-loop : tie.InvT-loop
+Inv-loop fd buffer₀ count₀ buffer count = (length buffer ≡ length buffer₀) × (count ≤ length buffer)
+
+abbrev μ-loop : tie.MeasureT-loop
+μ-loop fd buffer₀ count₀ buffer count = length buffer - count
+
+pub read-all-spec : {M : Type 1} → statement M
+read-all-spec = tie.close (tie.spec
+    Inv-loop μ-loop (λ c. search needs) (λ c. search needs) (λ c. search needs) (λ c. search needs)
+    (λ c κs. search needs) (λ c. search needs) (λ c. search needs) (λ c. search needs)
+    (λ c. search needs) (λ c. search needs) (λ c κs. search needs) (λ c. search needs)
+    (λ c. search needs) (λ c. search needs) (λ c. search needs) (λ c. search needs)
+    (λ c. search needs) (λ c. search needs))

@@ -1,0 +1,24 @@
+-- `pipeline::clear` fills the area with zeros: `Filled` is the loop's invariant.
+use Rattle.algebra.specs.Prelude.{refl, _∙_, _-_, arith, needs, length, pos}
+use Rattle.sequences.specs.Tab.{Filled, fill-start, fill-turn, fill-done}
+use Rattle.sequences.specs.Clear.{zeros, tab-const}
+use Rattle.pipeline.proofs.clear.Statement.{statement}
+use Rattle.pipeline.proofs.clear.Tie as tie
+
+abbrev Inv-loop : tie.InvT-loop
+Inv-loop work₀ i₀ work i = Filled (λ _. pos 0) (length work₀) i work₀ work
+
+abbrev μ-loop : tie.MeasureT-loop
+μ-loop work₀ i₀ work i = length work₀ - i
+
+loop-again : tie.Need-loop-again Inv-loop μ-loop
+loop-again c = fill-turn (c .before .loop .inv) (omega arith) refl
+
+returns : tie.Need-returns Inv-loop μ-loop
+unfolding zeros
+returns c = fill-done (c .before .loop .inv) (omega arith) ∙ tab-const (pos 0) _
+
+pub clear-spec : {M : Type 1} → statement M
+clear-spec = tie.close (tie.spec
+    Inv-loop μ-loop (λ c. fill-start refl) (λ c. search needs) (λ c. search needs)
+    (λ c. search needs) (λ c. search needs) loop-again (λ c. search needs) returns)

@@ -1,0 +1,45 @@
+// What run does once its tests have passed. A burst's levels Ls and Lr come from its noise or from a file: the calls and the programs share this core.
+ghost use mathlib.Core.Path.{_≡_};
+ghost use Rattle.sequences.specs.Clear.{zeros};
+ghost use Rattle.pipeline.specs.Levels.{Runnable, RanLevels};
+use recipe::Merge;
+
+// Sets the work area to zero.
+pub fn clear(work: &mut [i64])
+    ensures { λ _. ⌜ now (work .exit) ≡ zeros (now (work .entry)) ⌝ }
+{
+    let mut i = 0;
+    while i < work.len() {
+        work[i] = 0;
+        i += 1;
+    }
+}
+
+// Align, test 12, merge and clear, from the levels on: answers the sums of finest residuals. Test 12 never refuses (`never-12`).
+pub fn run_levels(
+    m: Merge,
+    samples: &[u16],
+    vectors: &mut [i32],
+    output: &mut [u16],
+    work: &mut [i64],
+) -> [u64; 7]
+    requires { ⌜ Runnable m (now samples) (now vectors) (now output) (now work) ⌝ }
+    ensures { λ r. ⌜ RanLevels m (now (samples .entry)) (now (vectors .exit)) (now (output .exit)) (now (work .entry)) (now (work .exit)) r ⌝ }
+{
+    let shape = m.shape;
+    let reference = m.reference;
+    let residuals = alignment::burst::align_frames(
+        shape,
+        reference,
+        samples,
+        &mut *vectors,
+        &mut *work,
+    );
+    if geometry::bounds::vector_refusal(&*vectors) != 0 {
+        clear(&mut *work);
+        return [0u64; 7];
+    }
+    merging::merge_frames(m, samples, &*vectors, &mut *output, &mut *work);
+    clear(&mut *work);
+    residuals
+}
