@@ -1,8 +1,8 @@
 // The calls for C and Rust: descriptions by value, a buffer as a pointer and its length. Each has the statement of the call behind it.
-mod align;
-mod file;
-mod merge;
-mod run;
+pub mod align;
+pub mod file;
+pub mod merge;
+pub mod run;
 
 // As in include/stacker.h, field by field.
 
