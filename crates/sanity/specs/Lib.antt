@@ -10,6 +10,7 @@ pub mod Flat
 pub mod FlatMerge
 pub mod FlatAlign
 pub mod FlatFigure
+pub mod FileLevels
 pub mod Calls
 pub mod FrameLaws
 pub mod OutputLaws
