@@ -1,0 +1,38 @@
+/* What stacker.h itself works out: what merge and run take of a file, each level there and back, and words for each refusal. */
+#include "stacker.h"
+
+#include <string.h>
+
+enum { GREATEST_LEVEL = 4194304, LAST_REFUSAL = STACKER_REFUSED_FILE_LENGTH };
+
+static int describes(void)
+{
+    stacker_file file = { .width = 64, .height = 128, .count = 3, .reference = 2, .strength = 5 };
+    stacker_burst burst = stacker_file_burst(file);
+    return burst.width == 64 && burst.height == 128 && burst.count == 3 && burst.reference == 2 && stacker_file_tuning(file).strength == 5;
+}
+
+static int keeps_levels(void)
+{
+    for (uint64_t level = 0; level <= GREATEST_LEVEL; level++) {
+        stacker_file file = { .shot_level = level, .read_level = GREATEST_LEVEL - level };
+        stacker_noise noise = stacker_file_noise(file);
+        if ((uint64_t)(1024 * noise.shot) != file.shot_level || (uint64_t)(1024 * noise.read) != file.read_level)
+            return 0;
+    }
+    return 1;
+}
+
+static int has_words(void)
+{
+    for (uint64_t number = 0; number <= LAST_REFUSAL; number++)
+        for (uint64_t other = number + 1; other <= LAST_REFUSAL + 1; other++)
+            if (strcmp(stacker_refusal_text(number), stacker_refusal_text(other)) == 0)
+                return 0;
+    return 1;
+}
+
+int main(void)
+{
+    return !(describes() && keeps_levels() && has_words());
+}
