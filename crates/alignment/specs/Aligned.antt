@@ -8,8 +8,7 @@ use Rattle.geometry.specs.Shape.{vectorLength}
 use Rattle.geometry.specs.Read.{Image, sampleAt}
 use Rattle.geometry.specs.Tiles.{level0, levelTiles}
 use Rattle.geometry.specs.Vectors.{otherFrame}
-use Rattle.geometry.specs.Order.{AlignFits}
-use Rattle.geometry.specs.Bounds.{SamplesFit}
+use Rattle.geometry.specs.Fits.{AlignFits, SamplesFit}
 use Rattle.pyramid.specs.Layout.{tiles, Levels}
 use Rattle.alignment.specs.Fields.{Field, word}
 use Rattle.alignment.specs.Frames.{vectorsOf, residualOf}
@@ -41,7 +40,7 @@ module _ (s : Shape) (reference : ℕ) (samples : List ℕ) where
 -- what alignment needs: a burst that its tests have let through
 pub record Ready (s : Shape) (reference : ℕ) (samples : List ℕ) (vectors work : List ℤ) : Type 0 where
   pub fits : AlignFits s reference (length samples) (length vectors) (length work)
-  pub samples-fit : SamplesFit samples
+  pub samples-fit : SamplesFit s samples
 
 -- what it leaves: the vectors and the sums; the work area keeps its length
 pub record AlignedBurst (s : Shape) (reference : ℕ) (samples : List ℕ) (vectors : List ℤ) (work work′ : List ℤ) (sums : List ℕ) : Type 0 where

@@ -4,7 +4,8 @@ use Rattle.algebra.specs.Prelude.{List, _++_, ℕ, zero, suc, _+_, _-_, _*_, _/
 use native.Mathlib.Nat.{zero-add, zero-mul, suc-mul, mul-comm, mul-assoc, mul-le-mul}
 use lib.ListN.{length, set, drop, replicate}
 use Rattle.geometry.specs.declared.Shape.{Shape}
-use Rattle.geometry.specs.Shape.{Allowed, vectorLength}
+use Rattle.geometry.specs.Shape.{vectorLength}
+use Rattle.geometry.specs.Fits.{Allowed}
 use Rattle.geometry.specs.Read.{Image, sampleAt}
 use Rattle.geometry.specs.Tiles.{level0, levelTiles}
 use Rattle.geometry.specs.ShapeLaws.{tiles-most}

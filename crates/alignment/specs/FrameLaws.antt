@@ -3,7 +3,7 @@ use mathlib.Core.Path.{_≡_, ap₂, fun-ext}
 use Rattle.algebra.specs.Prelude.{List, ℕ, zero, suc, _+_, _≤_, _<_, arith, ℤ}
 use native.Mathlib.Nat.{zero-add}
 use Rattle.geometry.specs.declared.Shape.{Shape}
-use Rattle.geometry.specs.Shape.{AllowedSize, Allowed}
+use Rattle.geometry.specs.Fits.{AllowedSize, Allowed}
 use Rattle.geometry.specs.Read.{Image}
 use Rattle.geometry.specs.Tiles.{levelSize}
 use Rattle.pyramid.specs.Words.{Holds}

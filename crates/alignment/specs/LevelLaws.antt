@@ -3,7 +3,7 @@ use mathlib.Core.Path.{_≡_, refl, sym, ap, ap₂, _∙_, subst, fun-ext}
 use Rattle.algebra.specs.Prelude.{List, ℕ, zero, suc, _+_, _*_, _≤_, _<_, arith, lit≤, length, getD, ℤ, pos, natAbs}
 use native.Mathlib.Nat.{le-trans}
 use Rattle.geometry.specs.declared.Shape.{Shape}
-use Rattle.geometry.specs.Shape.{Allowed}
+use Rattle.geometry.specs.Fits.{Allowed}
 use Rattle.geometry.specs.Tiles.{Level, Step, level0, level1, level2, level3, step2to1, step3to2, levelSize, levelTiles, tileCount}
 use Rattle.pyramid.specs.ChainLaws.{words-end}
 use Rattle.pyramid.specs.Layout.{offset, pyramidLength, tiles, alignLength}

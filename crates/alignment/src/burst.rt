@@ -3,7 +3,7 @@ ghost use mathlib.Core.Path.{_≡_};
 ghost use Prim.Native.Nat.{_+_, _*_, _≤_, _<_};
 ghost use lib.ListN.{length};
 ghost use Rattle.geometry.specs.Read.{sampleAt};
-ghost use Rattle.geometry.specs.Shape.{Allowed};
+ghost use Rattle.geometry.specs.Fits.{Allowed};
 ghost use Rattle.geometry.specs.Tiles.{level0};
 ghost use Rattle.pyramid.specs.Layout.{alignLength, tiles, Levels};
 ghost use Rattle.pyramid.specs.Frame.{Frame};

@@ -2,7 +2,7 @@
 ghost use mathlib.Core.Path.{_≡_};
 ghost use Prim.Native.Nat.{_+_, _*_, _≤_, _<_, _^_};
 ghost use lib.ListN.{length};
-ghost use Rattle.geometry.specs.Shape.{Allowed};
+ghost use Rattle.geometry.specs.Fits.{Allowed};
 ghost use Rattle.geometry.specs.Tiles.{level0, level3};
 ghost use Rattle.pyramid.specs.Layout.{alignLength, pyramidLength, tiles};
 ghost use Rattle.sequences.specs.Write.{written};

@@ -5,9 +5,10 @@ use mathlib.Core.List.{List, []}
 use Prim.Native.Nat.{ℕ, _*_}
 use native.Mathlib.Nat.{mul-assoc, mul-comm}
 use Rattle.geometry.specs.declared.Shape.{Shape}
-use Rattle.geometry.specs.RefusalLaws.{before-both}
-use Rattle.geometry.specs.Shape.{Allowed, sampleLength}
-use Rattle.geometry.specs.ShapeLaws.{allowed}
+use Rattle.refusals.specs.TestLaws.{both-passed}
+use Rattle.geometry.specs.Shape.{sampleLength}
+use Rattle.geometry.specs.Fits.{Allowed}
+use Rattle.geometry.specs.OrderLaws.{frames-allowed}
 use Rattle.burst_file.specs.declared.Header.{Header}
 use Rattle.burst_file.specs.Grammar.{Burst}
 use Rattle.burst_file.specs.Part.{Part, refused, found, numberOf, _then_, mapped}
@@ -25,7 +26,7 @@ use Rattle.burst_file.proofs.Parts.{unless-stops, unless-goes, number-m
 -- an accepted head's shape is allowed
 pub head-allowed : (file : List ℕ) (header : Header) (rest : List ℕ) → found header rest ≡ headOf file → Allowed (header .shape)
 unfolding headerRefusal
-head-allowed file header rest e = allowed (header .shape) (before-both _ _ (sound-at (HeadRead file) (sym e) (head-sound file) .passed) .0)
+head-allowed file header rest e = frames-allowed (header .shape) (header .reference) (both-passed _ _ (sound-at (HeadRead file) (sym e) (head-sound file) .passed) .0)
 
 -- frames that are not refused are the next values, to the end of the file
 module _ (shape : Shape) (bytes : List ℕ) where

@@ -7,7 +7,8 @@ use native.Mathlib.Nat.{add-zero, suc-mul}
 use native.Mathlib.Omega.{arith}
 use lib.Dec.{eqb}
 use borrow.Author.Tests.{eqb-true}
-use Rattle.geometry.specs.Refusal.{refuse}
+use Rattle.refusals.specs.Numbers as no
+use Rattle.refusals.specs.Tests.{refuse}
 use Rattle.burst_file.specs.Part.{Part, refused, found}
 use Rattle.burst_file.specs.PartLaws.{Sound, unless-sound, found-refused, then-sound}
 use Rattle.burst_file.specs.Line.{Item, last, more, bad, itemOf, afterItem, valuesOf, lineEnd, valueLine, above}
@@ -36,7 +37,7 @@ values-next (suc count) s = from (itemOf s) (λ m. refl) (λ t. values-next coun
         → Sound (Next (suc count) s) (afterItem count (λ t. valuesOf count t) item)
     from (last v rest) one again = ends (eqb count 0) refl
       where
-        ends : (x : Bool) → eqb count 0 ≡ x → Sound (Next (suc count) s) (cond x (found (v ∷ []) rest) (refused 14))
+        ends : (x : Bool) → eqb count 0 ≡ x → Sound (Next (suc count) s) (cond x (found (v ∷ []) rest) (refused no.valueLine))
         ends true p = λ m. ap (λ (k : ℕ). nextValues k s) (alone m (eqb-true count 0 p)) ∙ one m
           where
             alone : (m : ℕ) → count ≡ 0 → suc count + m ≡ suc m
@@ -54,7 +55,7 @@ row-next : (width : ℕ) (s : List ℕ) → Sound (Next width s) (row width s)
 unfolding row
 row-next width s =
     then-sound (Next width s) (Next width s) (valueLine width s) _ (line-next width s)
-    (λ values rest next. unless-sound (Next width s) (refuse 11 (above 4095 values)) (found values rest) (λ e. next))
+    (λ values rest next. unless-sound (Next width s) (refuse no.sampleValue (above 4095 values)) (found values rest) (λ e. next))
 
 pub rows-next : (count width : ℕ) (s : List ℕ) → Sound (Next (count * width) s) (rows count width s)
 unfolding rows

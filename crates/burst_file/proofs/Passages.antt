@@ -6,6 +6,7 @@ use Prim.Native.Nat.{ℕ, zero, suc, _-_, _<_, _≤_}
 use native.Mathlib.Numerals.{sub-one}
 use native.Mathlib.Omega.{arith}
 use lib.ListN.{length, drop, drop-of-length-le}
+use Rattle.refusals.specs.Numbers as no
 use Rattle.burst_file.specs.Part.{Part, refused, found, numberOf, _then_, mapped}
 use Rattle.burst_file.specs.Line.{valueLine, above}
 use Rattle.burst_file.specs.Rows.{unlessAbove, row, rows, ended}
@@ -54,7 +55,7 @@ ended-briefly (found a []) = refl
 ended-briefly (found a (byte ∷ rest)) = refl
 
 module _ {A : Type 0} (a : A) (s : List ℕ) (i : ℕ) where
-  pub trailing : i < length s → 15 ≡ numberOf (ended (found a (drop i s)))
+  pub trailing : i < length s → no.fileEnd ≡ numberOf (ended (found a (drop i s)))
   trailing h = rw (step s i h)
 
   pub at-end : length s ≤ i → 0 ≡ numberOf (ended (found a (drop i s)))

@@ -3,7 +3,7 @@ use mathlib.Core.Path.{_≡_}
 use mathlib.Core.List.{List, []}
 use Prim.Native.Nat.{ℕ, _*_}
 use Rattle.geometry.specs.declared.Shape.{Shape}
-use Rattle.geometry.specs.Bounds.{SamplesFit}
+use Rattle.geometry.specs.Fits.{ValuesFit}
 use Rattle.burst_file.specs.Grammar.{Burst, BurstFile}
 use Rattle.burst_file.specs.Part.{found, numberOf}
 use Rattle.burst_file.specs.PartLaws.{Sound, unless-sound, sound-at, sound-found, then-sound}
@@ -18,7 +18,7 @@ pub record Accepted (lengthTest : Shape → ℕ) (file : List ℕ) (burst : Burs
   pub grammar : BurstFile file burst
   pub header : headerRefusal (burst .header) ≡ 0
   pub measured : lengthTest (burst .header .shape) ≡ 0
-  pub small : SamplesFit (burst .samples)
+  pub small : ValuesFit (burst .samples)
 
 module _ (lengthTest : Shape → ℕ) (file : List ℕ) where
   abbrev Ends : Burst → List ℕ → Type 0

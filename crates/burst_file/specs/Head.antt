@@ -1,11 +1,13 @@
 -- The first two lines: the names, and the seven values with their tests.
 use mathlib.Core.Bool.{Bool, true, false, cond, not}
-use mathlib.Core.List.{List, [], _∷_}
+use mathlib.Core.List.{List, [], _∷_, _++_}
 use Prim.Native.Nat.{ℕ}
 use lib.Dec.{eqb}
 use lib.ListN.{length, getD, drop}
-use Rattle.geometry.specs.Refusal.{refuse, _before_}
-use Rattle.geometry.specs.Shape.{shapeRefusal, referenceRefusal}
+use Rattle.refusals.specs.Numbers as no
+use Rattle.refusals.specs.Tests.{refuse, first}
+use Rattle.geometry.specs.Shape.{shaped}
+use Rattle.geometry.specs.Order.{frameTests}
 use Rattle.noise.specs.Levels.{levelRefusal, strengthRefusal}
 use Rattle.burst_file.specs.Part.{Part, found, unless, _then_}
 use Rattle.burst_file.specs.Line.{lineEnd, valueLine}
@@ -20,13 +22,13 @@ startsWith (byte ∷ text) (b ∷ bytes) = cond (eqb b byte) (startsWith text by
 
 -- "an empty file or one without a first LF 15"; 13, "first file line differs"
 unfoldable pub firstLineRefusal : List ℕ → ℕ
-firstLineRefusal file = lineEnd file before refuse 13 (not (startsWith names file))
+firstLineRefusal file = first (lineEnd file ∷ refuse no.firstLine (not (startsWith names file)) ∷ [])
 
 -- "then a line of those seven values (shot and read are Ls and Lr)"
 abbrev pub headerOf : (values : List ℕ) → Header
 headerOf values =
     record {
-      shape = record { width = getD values 0 0; height = getD values 1 0; count = getD values 2 0 };
+      shape = shaped (getD values 0 0) (getD values 1 0) (getD values 2 0);
       reference = getD values 3 0;
       «shot_level» = getD values 4 0;
       «read_level» = getD values 5 0;
@@ -36,8 +38,11 @@ headerOf values =
 -- "then 1, 2, 3, 9, 10"
 unfoldable pub headerRefusal : Header → ℕ
 headerRefusal header =
-    shapeRefusal (header .shape) before referenceRefusal (header .shape) (header .reference)
-    before levelRefusal (header .«shot_level») (header .«read_level») before strengthRefusal (header .strength)
+    first
+    (frameTests (header .shape) (header .reference)
+    ++ levelRefusal (header .«shot_level») (header .«read_level»)
+    ∷ strengthRefusal (header .strength)
+    ∷ [])
 
 -- the header of seven values that pass their tests
 abbrev pub tested : (values rest : List ℕ) → Part Header

@@ -8,12 +8,14 @@ use lib.ListN.{length, getD, drop}
 use borrow.Author.Tests.{eq-eqb, eqb-true, not-false}
 use Rattle.sequences.specs.Tab.{tab}
 use Rattle.sequences.specs.Grid.{tab-of}
-use Rattle.geometry.specs.RefusalLaws.{before-both, refuse-not}
+use Rattle.refusals.specs.Numbers as no
+use Rattle.refusals.specs.Tests.{first}
+use Rattle.refusals.specs.TestLaws.{among, passed, refuse-not}
 use Rattle.burst_file.specs.declared.Header.{Header}
 use Rattle.burst_file.specs.Grammar.{names, sevenOf, ValueLine}
 use Rattle.burst_file.specs.Part.{found}
 use Rattle.burst_file.specs.PartLaws.{Sound, unless-sound, then-sound}
-use Rattle.burst_file.specs.Line.{hasLF, lineEnd, valueLine}
+use Rattle.burst_file.specs.Line.{hasLF, valueLine}
 use Rattle.burst_file.specs.LineLaws.{line-sound, line-complete}
 use Rattle.burst_file.specs.Head.{startsWith, firstLineRefusal, headerOf, headerRefusal, tested, headOf}
 
@@ -48,15 +50,15 @@ pub head-sound : (file : List ℕ) → Sound (HeadRead file) (headOf file)
 unfolding headOf firstLineRefusal
 head-sound file =
     unless-sound (HeadRead file) (firstLineRefusal file) _
-    (λ first. then-sound (ValueLine 7 (drop (length names) file)) (HeadRead file) (valueLine 7 (drop (length names) file)) tested (line-sound 7 (drop (length names) file))
+    (λ named. then-sound (ValueLine 7 (drop (length names) file)) (HeadRead file) (valueLine 7 (drop (length names) file)) tested (line-sound 7 (drop (length names) file))
     (λ values rest l. unless-sound (HeadRead file) (headerRefusal (headerOf values)) (found (headerOf values) rest)
     (λ e. record {
       afterNames = drop (length names) file;
-      named = starts-sound names file (not-false _ (refuse-not 12 (not (startsWith names file)) (before-both (lineEnd file) _ first .1)));
+      named = starts-sound names file (not-false _ (refuse-not no.firstLine (not (startsWith names file)) tt (passed named (search among))));
       valued = rw (seven values (l .counted)) l;
       passed = e;
     })))
 
 pub head-complete : {file : List ℕ} {header : Header} {rest : List ℕ} → HeadRead file header rest → headOf file ≡ found header rest
-unfolding headOf firstLineRefusal hasLF
+unfolding headOf firstLineRefusal first hasLF
 head-complete {file} {header} {rest} h = ap headOf (h .named) ∙ rw (starts-complete names (h .afterNames), line-complete (h .valued), h .passed)

@@ -3,7 +3,8 @@ use mathlib.Core.Bool.{Bool, true, false, cond, not, _||_}
 use mathlib.Core.List.{List, [], _∷_}
 use Prim.Native.Nat.{ℕ, zero, suc, _+_, _-_, _*_}
 use lib.Dec.{ltb, eqb}
-use Rattle.geometry.specs.Refusal.{refuse}
+use Rattle.refusals.specs.Numbers as no
+use Rattle.refusals.specs.Tests.{refuse}
 use Rattle.burst_file.specs.Part.{Part, refused, found, unless, mapped}
 
 -- a decimal digit's number, and 10 for any other byte
@@ -41,13 +42,13 @@ itemOf bytes = digitsFrom 0 0 bytes
 
 -- a line's item, where `others` reads the `left` values after it
 abbrev pub afterItem : (left : ℕ) (others : List ℕ → Part (List ℕ)) → Item → Part (List ℕ)
-afterItem left others (last value rest) = cond (eqb left 0) (found (value ∷ []) rest) (refused 14)
+afterItem left others (last value rest) = cond (eqb left 0) (found (value ∷ []) rest) (refused no.valueLine)
 afterItem left others (more value rest) = mapped (λ values. value ∷ values) (others rest)
-afterItem left others bad = refused 14
+afterItem left others bad = refused no.valueLine
 
 -- 14, "malformed value line"; "a line with too few or too many values is 14"
 unfoldable pub valuesOf : (count : ℕ) → List ℕ → Part (List ℕ)
-valuesOf zero bytes = refused 14
+valuesOf zero bytes = refused no.valueLine
 valuesOf (suc count) bytes = afterItem count (λ rest. valuesOf count rest) (itemOf bytes)
 
 unfoldable pub hasLF : List ℕ → Bool
@@ -56,7 +57,7 @@ hasLF (byte ∷ rest) = cond (eqb byte 10) true (hasLF rest)
 
 -- "A line without its LF is 15"
 abbrev pub lineEnd : List ℕ → ℕ
-lineEnd bytes = refuse 15 (not (hasLF bytes))
+lineEnd bytes = refuse no.fileEnd (not (hasLF bytes))
 
 -- a line of `count` values, "by 15 and 14"
 abbrev pub valueLine : (count : ℕ) → List ℕ → Part (List ℕ)

@@ -8,6 +8,7 @@ use native.Mathlib.Nat.{add-zero}
 use lib.Dec.{ltb, eqb}
 use lib.ListN.{length}
 use borrow.Author.Tests.{eq-eqb, ne-eqb, eqb-true, eqb-false, lt-ltb, le-ltb, ltb-true, ltb-false}
+use Rattle.refusals.specs.Numbers as no
 use Rattle.burst_file.specs.Part.{Part, refused, found, mapped}
 use Rattle.burst_file.specs.PartLaws.{Sound, unless-sound, then-sound}
 use Rattle.burst_file.specs.Line.{Item, last, more, bad, digitOf, pastSpaces, afterDigits, digitsFrom, itemOf, afterItem, valuesOf, hasLF, lineEnd, valueLine}
@@ -136,7 +137,7 @@ values-sound (suc count) s = from (itemOf s) (digits-sound 0 0 s (omega arith)) 
     from : (item : Item) → SoundItem 0 0 s item → ((t : List ℕ) → Sound (ValueLine count t) (valuesOf count t)) → Sound (ValueLine (suc count) s) (afterItem count (λ t. valuesOf count t) item)
     from (last v rest) w again = ends (eqb count 0) refl
       where
-        ends : (x : Bool) → eqb count 0 ≡ x → Sound (ValueLine (suc count) s) (cond x (found (v ∷ []) rest) (refused 14))
+        ends : (x : Bool) → eqb count 0 ≡ x → Sound (ValueLine (suc count) s) (cond x (found (v ∷ []) rest) (refused no.valueLine))
         ends true p = record { text = w .text; is = w .is; grammar = value (word-value w); counted = ap suc (sym (eqb-true count 0 p)) }
         ends false p = malformed
     from (more v rest) (t, w, g) again = line-more count w g (valuesOf count rest) (again rest)

@@ -3,6 +3,7 @@ use mathlib.Core.Path.{_≡_}
 use mathlib.Core.List.{List}
 use Prim.Native.Nat.{ℕ}
 use lib.ListN.{length}
+use Rattle.refusals.specs.Numbers as no
 use Rattle.geometry.specs.declared.Shape.{Shape}
 use Rattle.geometry.specs.Shape.{sampleLength, lengthRefusal}
 use Rattle.burst_file.specs.Part.{Part, refused, found, unless, numberOf, _then_, mapped}
@@ -22,7 +23,7 @@ reading lengthTest file = headOf file then bodyOf lengthTest
 
 -- file reading, into `room` samples: refusal 4 is "samples not N·W·H"
 abbrev pub readingInto : (room : ℕ) → List ℕ → Part Burst
-readingInto room file = reading (λ shape. lengthRefusal 4 (sampleLength shape) room) file
+readingInto room file = reading (λ shape. lengthRefusal no.sampleLength (sampleLength shape) room) file
 
 -- "The file check does the same tests without 4 and answers the number, or 0."
 abbrev pub fileCheck : List ℕ → ℕ

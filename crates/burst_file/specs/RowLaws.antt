@@ -7,8 +7,9 @@ use native.Mathlib.Omega.{arith}
 use lib.Dec.{ltb}
 use lib.ListN.{getD}
 use borrow.Author.Tests.{ltb-false, le-ltb}
-use Rattle.geometry.specs.Refusal.{refuse}
-use Rattle.geometry.specs.RefusalLaws.{refuse-not}
+use Rattle.refusals.specs.Numbers as no
+use Rattle.refusals.specs.Tests.{refuse}
+use Rattle.refusals.specs.TestLaws.{refuse-not}
 use Rattle.burst_file.specs.Part.{Part, refused, found}
 use Rattle.burst_file.specs.PartLaws.{Sound, unless-sound, then-sound}
 use Rattle.burst_file.specs.Line.{valueLine, above}
@@ -52,7 +53,7 @@ row-sound : (width : ℕ) (s : List ℕ) → Sound (SmallLine width s) (row widt
 unfolding row
 row-sound width s =
     then-sound (ValueLine width s) (SmallLine width s) (valueLine width s) _ (line-sound width s)
-    (λ values rest l. unless-sound (SmallLine width s) (refuse 11 (above 4095 values)) (found values rest) (λ e. (l, refuse-not 10 (above 4095 values) e)))
+    (λ values rest l. unless-sound (SmallLine width s) (refuse no.sampleValue (above 4095 values)) (found values rest) (λ e. (l, refuse-not no.sampleValue (above 4095 values) tt e)))
 
 pub rows-sound : (count width : ℕ) (s : List ℕ) → Sound (SmallRows count width s) (rows count width s)
 unfolding rows above

@@ -3,13 +3,14 @@ use mathlib.Core.Bool.{Bool}
 use mathlib.Core.List.{List, [], _∷_, _++_}
 use Prim.Native.Nat.{ℕ, zero, suc, _*_}
 use Rattle.geometry.specs.declared.Shape.{Shape}
-use Rattle.geometry.specs.Refusal.{refuse}
+use Rattle.refusals.specs.Numbers as no
+use Rattle.refusals.specs.Tests.{refuse}
 use Rattle.burst_file.specs.Part.{Part, refused, found, unless, _then_, mapped}
 use Rattle.burst_file.specs.Line.{valueLine, above}
 
 -- refusal 11, "sample > 4095", of what was read
 abbrev pub unlessAbove : {A : Type 0} → Bool → A → List ℕ → Part A
-unlessAbove over samples rest = unless (refuse 11 over) (found samples rest)
+unlessAbove over samples rest = unless (refuse no.sampleValue over) (found samples rest)
 
 -- "each row by 15, 14, 11"
 unfoldable pub row : (width : ℕ) → List ℕ → Part (List ℕ)
@@ -24,7 +25,7 @@ rows (suc count) width bytes = row width bytes then (λ samples rest. mapped (λ
 abbrev pub ended : {A : Type 0} → Part A → Part A
 ended (refused number) = refused number
 ended (found a []) = found a []
-ended (found a (byte ∷ rest)) = refused 15
+ended (found a (byte ∷ rest)) = refused no.fileEnd
 
 -- "one line per row, frame after frame", to the end of the file
 unfoldable pub framesOf : Shape → List ℕ → Part (List ℕ)

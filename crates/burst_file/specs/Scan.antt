@@ -4,6 +4,7 @@ use mathlib.Core.List.{List, [], _∷_}
 use Prim.Native.Nat.{ℕ, zero, suc}
 use lib.Dec.{eqb}
 use lib.ListN.{drop}
+use Rattle.refusals.specs.Numbers as no
 use Rattle.burst_file.specs.Line.{Item, last, more, bad, itemOf, above}
 use Rattle.burst_file.specs.Part.{Part, refused, found, mapped}
 use Rattle.burst_file.specs.declared.Head.{Head}
@@ -28,7 +29,7 @@ lineIn file (RefusedLine number) = refused number
 
 -- a line that has ended, where `left` of its values have not come
 abbrev pub endedLine : (left next : ℕ) (over : Bool) → Line
-endedLine left next over = cond (eqb left 0) (FoundLine next over) (RefusedLine 14)
+endedLine left next over = cond (eqb left 0) (FoundLine next over) (RefusedLine no.valueLine)
 
 -- of the values of a line, whether one is above the bound or `already` stands
 abbrev pub judged : (already : Bool) (bound : ℕ) → Part (List ℕ) → Part Bool

@@ -81,7 +81,11 @@ pub fn read_file(file: &[u8], samples: &mut [u16]) -> FileAnswer
         Head::Refused { number } => refused(number),
         Head::Found { header, next } => {
             let shape = header.shape;
-            let length = length_refusal(4, sample_length(shape), samples.len());
+            let length = length_refusal(
+                refusals::SAMPLE_LENGTH,
+                sample_length(shape),
+                samples.len(),
+            );
             if length != 0 {
                 return refused(length);
             }

@@ -9,12 +9,13 @@ use crate::Line;
 use crate::lines::check_line;
 use crate::scanning::has_lf;
 use crate::scanning::value_at;
-use geometry::Shape;
+use geometry::sizes::count_refusal;
 use geometry::sizes::reference_refusal;
-use geometry::sizes::shape_refusal;
+use geometry::sizes::size_refusal;
 use noise::level_refusal;
 use noise::strength_refusal;
 
+// The file begins with the text.
 fn starts_with(file: &[u8], text: &[u8]) -> bool
     ensures { λ r. ⌜ r ≡ startsWith (now (text .entry)) (now (file .entry)) ⌝ }
 {
@@ -31,14 +32,15 @@ fn starts_with(file: &[u8], text: &[u8]) -> bool
     true
 }
 
+// Refusals 15 and 13 of the first line.
 fn first_line_refusal(file: &[u8]) -> u64
     ensures { λ r. ⌜ r ≡ firstLineRefusal (now (file .entry)) ⌝ }
 {
     if !has_lf(file, 0) {
-        return 15;
+        return refusals::FILE_END;
     }
     if !starts_with(file, b"width height count reference shot read strength\n") {
-        return 13;
+        return refusals::FIRST_LINE;
     }
     0
 }
@@ -54,13 +56,8 @@ fn header_at(file: &[u8], at: usize) -> Header
     let shot_level = value_at(file, reference.next);
     let read_level = value_at(file, shot_level.next);
     let strength = value_at(file, read_level.next);
-    let shape = Shape {
-        width: width.value as usize,
-        height: height.value as usize,
-        count: count.value as usize,
-    };
     Header {
-        shape,
+        shape: geometry::shaped(width.value, height.value, count.value),
         reference: reference.value as usize,
         shot_level: shot_level.value,
         read_level: read_level.value,
@@ -68,23 +65,20 @@ fn header_at(file: &[u8], at: usize) -> Header
     }
 }
 
+// Refusals 1, 2, 3, 9 and 10 of the seven values.
 fn header_refusal(header: Header) -> u64
     ensures { λ r. ⌜ r ≡ headerRefusal header ⌝ }
 {
     let shape = header.shape;
-    let size = shape_refusal(shape);
-    if size != 0 {
-        return size;
-    }
-    let reference = reference_refusal(shape, header.reference);
-    if reference != 0 {
-        return reference;
-    }
-    let level = level_refusal(header.shot_level, header.read_level);
-    if level != 0 {
-        return level;
-    }
-    strength_refusal(header.strength)
+    refusals::first(
+        &[
+            size_refusal(shape),
+            count_refusal(shape),
+            reference_refusal(shape, header.reference),
+            level_refusal(header.shot_level, header.read_level),
+            strength_refusal(header.strength),
+        ],
+    )
 }
 
 // The names, the seven values and their tests. Line 2 starts at byte 48.

@@ -10,6 +10,7 @@ use crate::Scan;
 use crate::scanning::has_lf;
 use crate::scanning::next_value;
 
+// Some value so far, or this one, is above the bound.
 fn or_above(already: bool, bound: u64, value: u64) -> bool
     ensures { λ r. ⌜ r ≡ (already || ltb bound value) ⌝ }
 {
@@ -24,7 +25,9 @@ fn end_line(left: usize, next: usize, over: bool) -> Line
     ensures { λ r. ⌜ r ≡ endedLine left next over ⌝ }
 {
     if left != 0 {
-        return Line::Refused { number: 14 };
+        return Line::Refused {
+            number: refusals::VALUE_LINE,
+        };
     }
     Line::Found { next, over }
 }
@@ -40,7 +43,9 @@ fn scan_line(file: &[u8], at: usize, count: usize, bound: u64) -> Line
         left -= 1;
         match next_value(file, i) {
             Scan::Bad => {
-                return Line::Refused { number: 14 };
+                return Line::Refused {
+                    number: refusals::VALUE_LINE,
+                };
             }
             Scan::Last { value, next } => {
                 let any = or_above(over, bound, value);
@@ -52,7 +57,9 @@ fn scan_line(file: &[u8], at: usize, count: usize, bound: u64) -> Line
             }
         }
     }
-    Line::Refused { number: 14 }
+    Line::Refused {
+        number: refusals::VALUE_LINE,
+    }
 }
 
 // A line of `count` values, and whether one is above the bound: 15, then 14. An LF is looked for only where the values end without one.
@@ -65,7 +72,9 @@ pub fn check_line(file: &[u8], at: usize, count: usize, bound: u64) -> Line
             if has_lf(file, at) {
                 return Line::Refused { number };
             }
-            Line::Refused { number: 15 }
+            Line::Refused {
+                number: refusals::FILE_END,
+            }
         }
     }
 }

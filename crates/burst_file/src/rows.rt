@@ -1,7 +1,7 @@
 // The rows of samples, checked without a store.
 ghost use mathlib.Core.Path.{_≡_};
 ghost use lib.ListN.{drop};
-ghost use Rattle.geometry.specs.Shape.{Allowed};
+ghost use Rattle.geometry.specs.Fits.{Allowed};
 ghost use Rattle.burst_file.specs.Part.{numberOf};
 ghost use Rattle.burst_file.specs.Rows.{row, rows, framesOf};
 ghost use Rattle.burst_file.specs.Scan.{rowsIn, briefly};
@@ -17,7 +17,9 @@ fn check_row(file: &[u8], at: usize, width: usize) -> Passage
         Line::Refused { number } => Passage::Refused { number },
         Line::Found { next, over } => {
             if over {
-                return Passage::Refused { number: 11 };
+                return Passage::Refused {
+                    number: refusals::SAMPLE_VALUE,
+                };
             }
             Passage::Found { next }
         }
@@ -52,7 +54,7 @@ pub fn check_frames(file: &[u8], at: usize, shape: Shape) -> u64
         Passage::Refused { number } => number,
         Passage::Found { next } => {
             if next < file.len() {
-                return 15;
+                return refusals::FILE_END;
             }
             0
         }

@@ -6,7 +6,9 @@ use Rattle.algebra.specs.Nearest.{away}
 use Rattle.geometry.specs.Tiles.{own, neighbour}
 use Rattle.noise.specs.declared.Noise.{Noise}
 use Rattle.noise.specs.declared.Noise.the-variants.{Measured, Iso}
-use Rattle.noise.specs.Levels.{invalidCurve, invalidIso, invalidNoise, aboveLimits, levelsOf, shotLevel, readLevel}
+use Rattle.noise.specs.Levels.{invalidCurve, invalidIso, invalidNoise, aboveLimits, noiseTests, levelsOf, shotLevel, readLevel}
+use Rattle.refusals.specs.Tests.{first}
+use Rattle.refusals.specs.After.{after}
 use Rattle.recipe.specs.Root.{rootIn, wholeRoot}
 use Rattle.recipe.specs.NoiseNumber.{sumOfSquares, tileRoot, variance, noiseNumber}
 use Rattle.recipe.specs.Side.{cosAt, sinAt}
@@ -58,5 +60,5 @@ stated =
     ∷ []
 
 pub figures : computed ≡ stated
-unfolding tileRoot sumOfSquares sumN wholeRoot rootIn noiseNumber variance levelsOf invalidNoise invalidCurve invalidIso aboveLimits mul div ofInt own neighbour wiener away inverseAt inverseRe twiddleRe twiddleIm cosAt sinAt side16 cosine16 sine16 cosines sumZ
+unfolding tileRoot sumOfSquares sumN wholeRoot rootIn noiseNumber variance levelsOf noiseTests first after invalidNoise invalidCurve invalidIso aboveLimits mul div ofInt own neighbour wiener away inverseAt inverseRe twiddleRe twiddleIm cosAt sinAt side16 cosine16 sine16 cosines sumZ
 figures = refl

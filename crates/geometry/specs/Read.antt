@@ -1,25 +1,20 @@
 -- Where samples stand, and reading outside.
-use Rattle.algebra.specs.Prelude.{_≡_, List, length, getD, ℤ, pos, negsuc}
+use Rattle.algebra.specs.Prelude.{List, getD, ℤ, pos, negsuc}
 use Prim.Native.Nat.{ℕ, _+_, _-_, _*_, min}
 use Rattle.geometry.specs.declared.Shape.{Shape}
-use Rattle.geometry.specs.Shape.{Allowed, sampleLength}
+use Rattle.geometry.specs.Shape.{rowStride}
 
 -- an image: the value at a row and a column
 abbrev pub Image : Type 0
 Image = ℕ → ℕ → ℕ
 
--- "Frames are Bayer RGGB, row by row": where the sample of a frame at a row and a column stands
+-- where the sample of a frame at a row and a column stands
 unfoldable pub sampleIndex : Shape → (frame row column : ℕ) → ℕ
-sampleIndex s frame row column = (frame * s .height + row) * s .width + column
+sampleIndex s frame row column = (frame * s .height + row) * rowStride s + column
 
 -- that sample. The only definition that reads the list of samples
 unfoldable pub sampleAt : Shape → List ℕ → (frame : ℕ) → Image
 sampleAt s samples frame row column = getD samples (sampleIndex s frame row column) 0
-
--- the samples of a burst, as many as its shape says
-pub record Sampled (s : Shape) (samples : List ℕ) : Type 0 where
-  pub allowed : Allowed s
-  pub long : length samples ≡ sampleLength s
 
 -- "Each frame has four planes of W/2 by H/2, by parity of row and column."
 unfoldable pub planeOf : Image → (rowParity columnParity : ℕ) → Image

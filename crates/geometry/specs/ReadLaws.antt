@@ -1,19 +1,29 @@
 -- What readers may lean on: a sample's place is among the samples, and an index read outside is one inside.
-use Rattle.algebra.specs.Prelude.{_≡_, ℕ, _+_, _*_, _<_, arith, ℤ, pos, negsuc}
-use native.Mathlib.Nat.{le-trans, mul-le-mul-right, mul-assoc, mul-comm, suc-mul}
+use Rattle.algebra.specs.Prelude.{_≡_, ℕ, _+_, _*_, _/_, _≤_, _<_, arith, ℤ, pos, negsuc}
+use native.Mathlib.Nat.{le-trans, mul-le-mul-right, add-mul, mul-assoc, mul-comm, suc-mul}
 use Rattle.geometry.specs.declared.Shape.{Shape}
-use Rattle.geometry.specs.Shape.{sampleLength}
+use Rattle.geometry.specs.Shape.{rowStride, frameStride, sampleLength}
+use Rattle.geometry.specs.Fits.{AllowedSize}
 use Rattle.geometry.specs.Read.{sampleIndex, inside}
 
 -- row r and column c of m rows of n
 pub cell-below : (r c m n : ℕ) → r < m → c < n → r * n + c < m * n
 cell-below r c m n hr hc = le-trans (omega (arith, suc-mul r n)) (mul-le-mul-right n hr)
 
-pub index-below : (s : Shape) (frame row column : ℕ) → frame < s .count → row < s .height → column < s .width → sampleIndex s frame row column < sampleLength s
-unfolding sampleIndex sampleLength
-index-below s frame row column f r c =
-    rw (mul-comm (s .width) (s .height), ← mul-assoc (s .count) (s .height) (s .width))
-    (cell-below (frame * s .height + row) column (s .count * s .height) (s .width) (cell-below frame row (s .count) (s .height) f r) c)
+module _ (s : Shape) (frame : ℕ) where
+  -- by frame first
+  pub index-frame : (row column : ℕ) → sampleIndex s frame row column ≡ frame * frameStride s + (row * rowStride s + column)
+  unfolding sampleIndex
+  index-frame row column = omega (arith, add-mul (frame * s .height) row (rowStride s), mul-assoc frame (s .height) (rowStride s), mul-comm (rowStride s) (s .height))
+
+  -- a frame lies among the samples, and so does each of its samples
+  pub frame-room : frame < s .count → frame * frameStride s + frameStride s ≤ sampleLength s
+  unfolding sampleLength
+  frame-room h = omega (arith, add-mul frame 1 (frameStride s), mul-le-mul-right {m = frame + 1} {n = s .count} (frameStride s) (omega arith))
+
+  pub index-below : (row column : ℕ) → frame < s .count → row < s .height → column < s .width → sampleIndex s frame row column < sampleLength s
+  index-below row column f r c =
+      omega (arith, index-frame row column, frame-room f, cell-below row column (s .height) (rowStride s) r c, mul-comm (rowStride s) (s .height))
 
 pub inside-below : (size : ℕ) (z : ℤ) → 0 < size → inside size z < size
 unfolding inside
@@ -23,3 +33,7 @@ inside-below size (negsuc k) h = h
 pub inside-same : (size k : ℕ) → k < size → inside size (pos k) ≡ k
 unfolding inside
 inside-same size k h = omega arith
+
+-- a plane's index, read anywhere, is one of the frame's
+pub plane-inside : {size : ℕ} → AllowedSize size → (parity : ℕ) (z : ℤ) → parity < 2 → 2 * inside (size / 2) z + parity < size
+plane-inside {size} ok parity z h = omega (arith, ok .least, ok .whole, inside-below (size / 2) z (omega (arith, ok .least)))

@@ -1,7 +1,12 @@
--- Sizes and counts that are allowed, and the lengths of the four lent buffers.
-use Rattle.algebra.specs.Prelude.{_≡_, Bool, not, _&&_, ℕ, _+_, _-_, _*_, _/_, _%_, _≤_, eqb, leb}
+-- Sizes and counts that are allowed, the lengths of the four lent buffers, and refusals 1 to 7.
+use Rattle.algebra.specs.Prelude.{Bool, not, _&&_, ℕ, _+_, _-_, _*_, _/_, _%_, eqb, leb}
+use Rattle.refusals.specs.Numbers as no
+use Rattle.refusals.specs.Tests.{refuse}
 use Rattle.geometry.specs.declared.Shape.{Shape}
-use Rattle.geometry.specs.Refusal.{refuse, _before_}
+
+-- a burst's shape, by W, H and N
+abbrev pub shaped : (width height count : ℕ) → Shape
+shaped width height count = record { width = width; height = height; count = count }
 
 -- "Width W and height H are multiples of 64 from 64 to 4096."
 unfoldable pub sizeAllowed : ℕ → Bool
@@ -11,30 +16,28 @@ sizeAllowed size = leb 64 size && leb size 4096 && eqb (size % 64) 0
 unfoldable pub countAllowed : ℕ → Bool
 countAllowed count = leb 2 count && leb count 8
 
--- what a size, and then a shape, that is not refused is known by
-pub record AllowedSize (size : ℕ) : Type 0 where
-  pub least : 64 ≤ size
-  pub most : size ≤ 4096
-  pub whole : size % 64 ≡ 0
+-- refusal 1: "W or H not allowed"
+unfoldable pub sizeRefusal : Shape → ℕ
+sizeRefusal s = refuse no.size (not (sizeAllowed (s .width) && sizeAllowed (s .height)))
 
-pub record Allowed (s : Shape) : Type 0 where
-  pub wide : AllowedSize (s .width)
-  pub high : AllowedSize (s .height)
-  pub several : 2 ≤ s .count
-  pub few : s .count ≤ 8
-
--- refusals 1, "W or H not allowed", and 2, "N outside 2..8"
-unfoldable pub shapeRefusal : Shape → ℕ
-shapeRefusal s =
-    refuse 1 (not (sizeAllowed (s .width) && sizeAllowed (s .height))) before refuse 2 (not (countAllowed (s .count)))
+-- refusal 2: "N outside 2..8"
+unfoldable pub countRefusal : Shape → ℕ
+countRefusal s = refuse no.count (not (countAllowed (s .count)))
 
 -- refusal 3: "reference ≥ N"
 unfoldable pub referenceRefusal : Shape → ℕ → ℕ
-referenceRefusal s reference = refuse 3 (leb (s .count) reference)
+referenceRefusal s reference = refuse no.reference (leb (s .count) reference)
+
+-- "Frames are Bayer RGGB, row by row": from a sample to the one below it, and to the one in the next frame
+abbrev pub rowStride : Shape → ℕ
+rowStride s = s .width
+
+abbrev pub frameStride : Shape → ℕ
+frameStride s = rowStride s * s .height
 
 -- "samples not N·W·H"
 unfoldable pub sampleLength : Shape → ℕ
-sampleLength s = s .count * (s .width * s .height)
+sampleLength s = s .count * frameStride s
 
 -- "Lengths: vectors (N−1)·2·(W/16+1)·(H/16+1)"
 unfoldable pub vectorLength : Shape → ℕ

@@ -1,11 +1,12 @@
 -- What acceptance says of sizes, counts and lengths, in a form that linear arithmetic reads.
-use Rattle.algebra.specs.Prelude.{_≡_, refl, subst, Bool, true, false, not, _&&_, ℕ, _+_, _-_, _*_, _/_, _≤_, arith, T}
+use Rattle.algebra.specs.Prelude.{_≡_, refl, subst, Bool, true, false, not, _&&_, ℕ, _+_, _-_, _*_, _/_, _≤_, _<_, arith, T, leb, eqb, ltb}
 use native.Mathlib.Nat.{mul-le-mul}
-use borrow.Author.Tests.{leb-true, eqb-true, not-false}
+use borrow.Author.Tests.{leb-true, leb-false, eqb-true, not-false}
+use Rattle.refusals.specs.Numbers as no
+use Rattle.refusals.specs.TestLaws.{refuse-not}
 use Rattle.geometry.specs.declared.Shape.{Shape}
-use Rattle.geometry.specs.Refusal.{refuse}
-use Rattle.geometry.specs.RefusalLaws.{before-both, refuse-not}
-use Rattle.geometry.specs.Shape.{sizeAllowed, countAllowed, shapeRefusal, AllowedSize, Allowed}
+use Rattle.geometry.specs.Shape.{sizeAllowed, countAllowed, sizeRefusal, countRefusal, referenceRefusal, lengthRefusal}
+use Rattle.geometry.specs.Fits.{AllowedSize, Allowed}
 
 -- both parts of a test that holds
 both : {a b : Bool} → a && b ≡ true → (a ≡ true) × (b ≡ true)
@@ -19,20 +20,25 @@ allowed-size size e =
     let range = both (whole .0) in
     record { least = leb-true _ _ (range .0); most = leb-true _ _ (range .1); whole = eqb-true _ _ (whole .1) }
 
-pub allowed : (s : Shape) → shapeRefusal s ≡ 0 → Allowed s
-unfolding shapeRefusal countAllowed
-allowed s e =
-    let badSize = not (sizeAllowed (s .width) && sizeAllowed (s .height)) in
-    let badCount = not (countAllowed (s .count)) in
-    let passed = before-both (refuse 1 badSize) (refuse 2 badCount) e in
-    let sizes = both (not-false _ (refuse-not 0 badSize (passed .0))) in
-    let counts = both (not-false _ (refuse-not 1 badCount (passed .1))) in
+pub allowed : (s : Shape) → sizeRefusal s ≡ 0 → countRefusal s ≡ 0 → Allowed s
+unfolding sizeRefusal countRefusal countAllowed
+allowed s size count =
+    let sizes = both (not-false _ (refuse-not no.size (not (sizeAllowed (s .width) && sizeAllowed (s .height))) tt size)) in
+    let counts = both (not-false _ (refuse-not no.count (not (countAllowed (s .count))) tt count)) in
     record {
       wide = allowed-size _ (sizes .0);
       high = allowed-size _ (sizes .1);
       several = leb-true _ _ (counts .0);
       few = leb-true _ _ (counts .1);
     }
+
+pub below-count : (s : Shape) (reference : ℕ) → referenceRefusal s reference ≡ 0 → reference < s .count
+unfolding referenceRefusal
+below-count s reference e = leb-false (s .count) reference (refuse-not no.reference (leb (s .count) reference) tt e)
+
+pub right-length : (number right length : ℕ) → T (ltb 0 number) → lengthRefusal number right length ≡ 0 → length ≡ right
+unfolding lengthRefusal
+right-length number right length l e = eqb-true length right (not-false _ (refuse-not number (not (eqb length right)) l e))
 
 -- the greatest lengths
 module _ {s : Shape} (ok : Allowed s) where

@@ -1,7 +1,7 @@
 -- Tile counts and coarse indices: bounds that hold at any size, and what holds at the levels of an allowed one.
 use Rattle.algebra.specs.Prelude.{_≡_, ℕ, _+_, _-_, _*_, _/_, _≤_, _<_, arith}
 use native.Mathlib.Nat.{div-lt-iff-lt-mul, mul-le-mul-left, add-mul}
-use Rattle.geometry.specs.Shape.{AllowedSize}
+use Rattle.geometry.specs.Fits.{AllowedSize}
 use Rattle.geometry.specs.Tiles.{Level, Step, level0, level1, level2, level3, step1to0, step2to1, step3to2, levelSize, levelTiles, tileCount, own}
 
 pub count-most : (half size : ℕ) → 0 < half → tileCount half size ≤ size + 1

@@ -2,8 +2,9 @@
 ghost use mathlib.Core.Path.{_≡_};
 ghost use Prim.Native.Nat.{_+_, _≤_};
 ghost use lib.ListN.{length};
-ghost use Rattle.geometry.specs.Read.{Sampled};
-ghost use Rattle.geometry.specs.Bounds.{sampleRefusal, SamplesFit, excess, vectorRefusal, VectorsFit};
+ghost use Rattle.geometry.specs.Bounds.{sampleRefusal, vectorRefusal};
+ghost use Rattle.geometry.specs.Fits.{Sampled};
+ghost use Rattle.geometry.specs.Excess.{excess};
 use crate::Shape;
 
 // 0 where none of the 64 samples from `at` on is above 4095. A sum without branches becomes vector instructions.
@@ -21,12 +22,12 @@ fn excess(samples: &[u16], at: usize) -> u16
 // Refusal 11.
 pub fn sample_refusal(shape: Shape, samples: &[u16]) -> u64
     requires { ⌜ Sampled shape (now samples) ⌝ }
-    ensures { λ r. ⌜ (r ≡ sampleRefusal shape (now (samples .entry))) × (r ≡ 0 → SamplesFit (now (samples .entry))) ⌝ }
+    ensures { λ r. ⌜ r ≡ sampleRefusal shape (now (samples .entry)) ⌝ }
 {
     let mut i = 0;
     while i < samples.len() {
         if excess(samples, i) > 0 {
-            return 11;
+            return refusals::SAMPLE_VALUE;
         }
         i += 64;
     }
@@ -35,16 +36,16 @@ pub fn sample_refusal(shape: Shape, samples: &[u16]) -> u64
 
 // Refusal 12.
 pub fn vector_refusal(vectors: &[i32]) -> u64
-    ensures { λ r. ⌜ (r ≡ vectorRefusal (now (vectors .entry))) × (r ≡ 0 → VectorsFit (now (vectors .entry))) ⌝ }
+    ensures { λ r. ⌜ r ≡ vectorRefusal (now (vectors .entry)) ⌝ }
 {
     let mut i = 0;
     while i < vectors.len() {
         let part = vectors[i];
         if part < -172 {
-            return 12;
+            return refusals::VECTOR_PART;
         }
         if part > 172 {
-            return 12;
+            return refusals::VECTOR_PART;
         }
         i += 1;
     }

@@ -1,9 +1,11 @@
 // The lengths of the four lent buffers, and the tests on them: refusals 4 to 7.
 ghost use mathlib.Core.Path.{_≡_};
 ghost use Prim.Native.Nat.{_≤_};
-ghost use Rattle.geometry.specs.Shape.{Allowed, sampleLength, vectorLength, outputLength, workLength, lengthRefusal};
+ghost use Rattle.geometry.specs.Shape.{sampleLength, vectorLength, outputLength, workLength, lengthRefusal};
+ghost use Rattle.geometry.specs.Fits.{Allowed};
 use crate::Shape;
 
+// Samples: count times a frame's.
 pub fn sample_length(shape: Shape) -> usize
     requires { ⌜ Allowed shape ⌝ }
     ensures { λ r. ⌜ (r ≡ sampleLength shape) × (r ≤ 134217728) ⌝ }
@@ -11,6 +13,7 @@ pub fn sample_length(shape: Shape) -> usize
     shape.count * (shape.width * shape.height)
 }
 
+// Words of vectors: two to a tile, for each frame but the reference.
 pub fn vector_length(shape: Shape) -> usize
     requires { ⌜ Allowed shape ⌝ }
     ensures { λ r. ⌜ (r ≡ vectorLength shape) × (r ≤ 924686) ⌝ }
@@ -18,6 +21,7 @@ pub fn vector_length(shape: Shape) -> usize
     (shape.count - 1) * 2 * ((shape.width / 16 + 1) * (shape.height / 16 + 1))
 }
 
+// Words of output: a frame's samples.
 pub fn output_length(shape: Shape) -> usize
     requires { ⌜ Allowed shape ⌝ }
     ensures { λ r. ⌜ (r ≡ outputLength shape) × (r ≤ 16777216) ⌝ }
@@ -25,6 +29,7 @@ pub fn output_length(shape: Shape) -> usize
     shape.width * shape.height
 }
 
+// Words of work: two to a sample of a frame.
 pub fn work_length(shape: Shape) -> usize
     requires { ⌜ Allowed shape ⌝ }
     ensures { λ r. ⌜ (r ≡ workLength shape) × (r ≤ 33554432) ⌝ }

@@ -1,32 +1,65 @@
 // The tests 1 to 7 of the calls, in the order of the numbers, on the lengths of the lent buffers.
 ghost use mathlib.Core.Path.{_≡_};
-ghost use Rattle.geometry.specs.Order.{burstRefusal, alignShapeRefusal, mergeShapeRefusal, BurstFits, AlignFits, MergeFits};
+ghost use Rattle.refusals.specs.Tests.{first};
+ghost use Rattle.geometry.specs.Order.{shapeTests, frameTests, alignLengths, mergeLengths, alignShapeTests, mergeShapeTests};
+ghost use Rattle.geometry.specs.Fits.{Allowed};
 use crate::Shape;
 use crate::lengths::length_refusal;
 use crate::lengths::output_length;
 use crate::lengths::sample_length;
 use crate::lengths::vector_length;
 use crate::lengths::work_length;
+use crate::sizes::count_refusal;
 use crate::sizes::reference_refusal;
-use crate::sizes::shape_refusal;
+use crate::sizes::size_refusal;
 
-// Tests 1 to 5.
-fn burst_refusal(shape: Shape, reference: usize, samples: usize, vectors: usize) -> u64
-    ensures { λ r. ⌜ (r ≡ burstRefusal shape reference samples vectors) × (r ≡ 0 → BurstFits shape reference samples vectors) ⌝ }
+// Tests 1 and 2, which let the lengths be worked out.
+pub fn shape_refusal(shape: Shape) -> u64
+    ensures { λ r. ⌜ r ≡ first (shapeTests shape) ⌝ }
 {
-    let sizes = shape_refusal(shape);
-    if sizes != 0 {
-        return sizes;
-    }
-    let referred = reference_refusal(shape, reference);
-    if referred != 0 {
-        return referred;
-    }
-    let sampled = length_refusal(4, sample_length(shape), samples);
-    if sampled != 0 {
-        return sampled;
-    }
-    length_refusal(5, vector_length(shape), vectors)
+    refusals::first(&[size_refusal(shape), count_refusal(shape)])
+}
+
+// Tests 1 to 3.
+fn frame_refusal(shape: Shape, reference: usize) -> u64
+    ensures { λ r. ⌜ r ≡ first (frameTests shape reference) ⌝ }
+{
+    refusals::first(
+        &[
+            size_refusal(shape),
+            count_refusal(shape),
+            reference_refusal(shape, reference),
+        ],
+    )
+}
+
+// Tests 4, 5 and 7.
+fn align_lengths(shape: Shape, samples: usize, vectors: usize, work: usize) -> u64
+    requires { ⌜ Allowed shape ⌝ }
+    ensures { λ r. ⌜ r ≡ first (alignLengths shape samples vectors work) ⌝ }
+{
+    refusals::first(
+        &[
+            length_refusal(refusals::SAMPLE_LENGTH, sample_length(shape), samples),
+            length_refusal(refusals::VECTOR_LENGTH, vector_length(shape), vectors),
+            length_refusal(refusals::WORK_LENGTH, work_length(shape), work),
+        ],
+    )
+}
+
+// Tests 4 to 7.
+fn merge_lengths(shape: Shape, samples: usize, vectors: usize, output: usize, work: usize) -> u64
+    requires { ⌜ Allowed shape ⌝ }
+    ensures { λ r. ⌜ r ≡ first (mergeLengths shape samples vectors output work) ⌝ }
+{
+    refusals::first(
+        &[
+            length_refusal(refusals::SAMPLE_LENGTH, sample_length(shape), samples),
+            length_refusal(refusals::VECTOR_LENGTH, vector_length(shape), vectors),
+            length_refusal(refusals::OUTPUT_LENGTH, output_length(shape), output),
+            length_refusal(refusals::WORK_LENGTH, work_length(shape), work),
+        ],
+    )
 }
 
 // Tests 1 to 5 and 7.
@@ -37,13 +70,13 @@ pub fn align_shape_refusal(
     vectors: usize,
     work: usize,
 ) -> u64
-    ensures { λ r. ⌜ (r ≡ alignShapeRefusal shape reference samples vectors work) × (r ≡ 0 → AlignFits shape reference samples vectors work) ⌝ }
+    ensures { λ r. ⌜ r ≡ first (alignShapeTests shape reference samples vectors work) ⌝ }
 {
-    let burst = burst_refusal(shape, reference, samples, vectors);
-    if burst != 0 {
-        return burst;
+    let frames = frame_refusal(shape, reference);
+    if frames != 0 {
+        return frames;
     }
-    length_refusal(7, work_length(shape), work)
+    align_lengths(shape, samples, vectors, work)
 }
 
 // Tests 1 to 7.
@@ -55,15 +88,11 @@ pub fn merge_shape_refusal(
     output: usize,
     work: usize,
 ) -> u64
-    ensures { λ r. ⌜ (r ≡ mergeShapeRefusal shape reference samples vectors output work) × (r ≡ 0 → MergeFits shape reference samples vectors output work) ⌝ }
+    ensures { λ r. ⌜ r ≡ first (mergeShapeTests shape reference samples vectors output work) ⌝ }
 {
-    let burst = burst_refusal(shape, reference, samples, vectors);
-    if burst != 0 {
-        return burst;
+    let frames = frame_refusal(shape, reference);
+    if frames != 0 {
+        return frames;
     }
-    let put = length_refusal(6, output_length(shape), output);
-    if put != 0 {
-        return put;
-    }
-    length_refusal(7, work_length(shape), work)
+    merge_lengths(shape, samples, vectors, output, work)
 }

@@ -1,13 +1,14 @@
 // The length question of the capture station.
 ghost use mathlib.Core.Path.{_≡_};
-ghost use Rattle.geometry.specs.Shape.{Allowed};
+ghost use Rattle.geometry.specs.Fits.{Allowed};
 ghost use Rattle.geometry.specs.Question.{lengthTested, lengthQuestion};
 use crate::Shape;
 use crate::lengths::output_length;
 use crate::lengths::sample_length;
 use crate::lengths::vector_length;
 use crate::lengths::work_length;
-use crate::sizes::shape_refusal;
+use crate::order::shape_refusal;
+use crate::shaped;
 
 // The length that refusal `number` tests, from 4 to 7; else 0.
 fn length_tested(shape: Shape, number: u64) -> u64
@@ -27,11 +28,7 @@ fn length_tested(shape: Shape, number: u64) -> u64
 pub fn length_question(width: u64, height: u64, count: u64, number: u64) -> u64
     ensures { λ r. ⌜ r ≡ lengthQuestion width height count number ⌝ }
 {
-    let shape = Shape {
-        width: width as usize,
-        height: height as usize,
-        count: count as usize,
-    };
+    let shape = shaped(width, height, count);
     if shape_refusal(shape) != 0 {
         return 0;
     }

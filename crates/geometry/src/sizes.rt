@@ -1,8 +1,9 @@
 // Sizes, counts and the reference: refusals 1 to 3.
 ghost use mathlib.Core.Path.{_≡_};
-ghost use Rattle.geometry.specs.Shape.{sizeAllowed, shapeRefusal, referenceRefusal, Allowed};
+ghost use Rattle.geometry.specs.Shape.{sizeAllowed, sizeRefusal, countRefusal, referenceRefusal};
 use crate::Shape;
 
+// A multiple of 64 from 64 to 4096.
 fn size_allowed(size: usize) -> bool
     ensures { λ r. ⌜ r ≡ sizeAllowed size ⌝ }
 {
@@ -15,21 +16,28 @@ fn size_allowed(size: usize) -> bool
     size % 64 == 0
 }
 
-// Refusals 1 and 2.
-pub fn shape_refusal(shape: Shape) -> u64
-    ensures { λ r. ⌜ (r ≡ shapeRefusal shape) × (r ≡ 0 → Allowed shape) ⌝ }
+// Refusal 1.
+pub fn size_refusal(shape: Shape) -> u64
+    ensures { λ r. ⌜ r ≡ sizeRefusal shape ⌝ }
 {
     if !size_allowed(shape.width) {
-        return 1;
+        return refusals::SIZE;
     }
     if !size_allowed(shape.height) {
-        return 1;
+        return refusals::SIZE;
     }
+    0
+}
+
+// Refusal 2.
+pub fn count_refusal(shape: Shape) -> u64
+    ensures { λ r. ⌜ r ≡ countRefusal shape ⌝ }
+{
     if shape.count < 2 {
-        return 2;
+        return refusals::COUNT;
     }
     if 8 < shape.count {
-        return 2;
+        return refusals::COUNT;
     }
     0
 }
@@ -38,5 +46,9 @@ pub fn shape_refusal(shape: Shape) -> u64
 pub fn reference_refusal(shape: Shape, reference: usize) -> u64
     ensures { λ r. ⌜ r ≡ referenceRefusal shape reference ⌝ }
 {
-    if reference >= shape.count { 3 } else { 0 }
+    if reference >= shape.count {
+        refusals::REFERENCE
+    } else {
+        0
+    }
 }

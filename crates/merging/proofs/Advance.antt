@@ -4,7 +4,7 @@ use native.Mathlib.Nat.{mul-add-div-right, mul-add-mod-self-right, div-eq-of-lt,
 use borrow.Author.Tests.{ltb-true, ltb-false}
 use lib.Seq.{ext-getD}
 use Rattle.sequences.specs.Tab.{tab, length-tab, getD-tab}
-use Rattle.geometry.specs.Shape.{AllowedSize}
+use Rattle.geometry.specs.Fits.{AllowedSize}
 use Rattle.tiles.specs.declared.Plane.{Plane}
 use Rattle.tiles.specs.Accepted.{Planar}
 use Rattle.recipe.specs.Scene.{Scene}

@@ -1,9 +1,10 @@
 -- A row of the output by blocks of eight: a word of a block is one of the row, and a word of the row is one of the plane.
 use mathlib.Core.Path.{_≡_, refl, ap, ap₂, _∙_, subst, fun-ext}
 use Rattle.algebra.specs.Prelude.{List, ℕ, zero, suc, _+_, _-_, _*_, _/_, _%_, _≤_, _<_, arith, getD, ℤ, pos, natAbs}
-use native.Mathlib.Nat.{add-mul, mul-assoc, mul-comm}
 use Rattle.geometry.specs.declared.Shape.{Shape}
-use Rattle.geometry.specs.Read.{sampleIndex, sampleAt, planeOf}
+use Rattle.geometry.specs.Shape.{rowStride, frameStride}
+use Rattle.geometry.specs.Read.{sampleAt, planeOf}
+use Rattle.geometry.specs.ReadLaws.{index-frame}
 use Rattle.recipe.specs.Tables.{side16}
 use Rattle.tiles.specs.declared.Plane.{Plane}
 use Rattle.merging.specs.Gather.{windowed, corrected, startOf, wordOver}
@@ -41,13 +42,13 @@ block-turn samples from work above below i count column {l} {r} {o} {start} {n} 
 -- the word at column x of row y of a plane
 module _ (s : Shape) (reference : ℕ) (samples : List ℕ) (work : List ℤ) (p : Plane) (y : ℕ) where
   abbrev sampleStart : ℕ
-  sampleStart = reference * (s .width * s .height) + ((2 * y + p .«row_parity») * s .width + p .«column_parity»)
+  sampleStart = reference * frameStride s + ((2 * y + p .«row_parity») * rowStride s + p .«column_parity»)
 
   row-word : (x : ℕ) → wordFrom samples sampleStart work (slotOf (s .width) (y / 8)) (slotOf (s .width) (y / 8 + 1)) (y % 8) (s .count) x ≡ outputWord s reference samples work p y x
-  unfolding wordFrom outputWord planeOf sampleAt sampleIndex
+  unfolding wordFrom outputWord planeOf sampleAt
   row-word x =
       ap (λ n. natAbs (corrected side16 (getD samples n 0) (windowed side16 (y % 8) (x % 8) (wordOver work (slotOf (s .width) (y / 8)) (slotOf (s .width) (y / 8 + 1)) (y % 8) x)) (s .count - 1)))
-      (omega (arith, add-mul (reference * s .height) (2 * y + p .«row_parity») (s .width), mul-assoc reference (s .height) (s .width), mul-comm (s .width) (s .height)))
+      (omega (arith, index-frame s reference (2 * y + p .«row_parity») (2 * x + p .«column_parity»)))
 
   -- all of the row
   pub row-done : {above below : ℕ} → above ≡ slotOf (s .width) (y / 8) → below ≡ slotOf (s .width) (y / 8 + 1) → {l o : List ℕ} {start n x : ℕ}

@@ -4,7 +4,7 @@ use mathlib.Core.Logic.{_⊎_, inl, inr, ⊎-elim}
 use native.Mathlib.Decide.{ℕ-discrete}
 use Rattle.algebra.specs.Sums.{sumZ-cong}
 use Rattle.sequences.specs.Write.{written, written-in, written-before, written-after, written-length}
-use Rattle.geometry.specs.Shape.{AllowedSize}
+use Rattle.geometry.specs.Fits.{AllowedSize}
 use Rattle.geometry.specs.Read.{planeOf}
 use Rattle.recipe.specs.Tables.{side16}
 use Rattle.recipe.specs.Output.{rowIn, columnIn, weightIn}

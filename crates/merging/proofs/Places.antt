@@ -2,7 +2,8 @@
 use Rattle.algebra.specs.Prelude.{ℕ, suc, _+_, _*_, _≤_, _<_, arith}
 use native.Mathlib.Nat.{mul-le-mul-left, mul-le-mul-right, suc-mul}
 use Rattle.geometry.specs.declared.Shape.{Shape}
-use Rattle.geometry.specs.Shape.{Allowed, outputLength, workLength}
+use Rattle.geometry.specs.Shape.{outputLength, workLength}
+use Rattle.geometry.specs.Fits.{Allowed}
 use Rattle.tiles.specs.Rows.{rowWords}
 
 pub row-room : (s : Shape) (row : ℕ) → row < s .height → row * s .width + s .width ≤ outputLength s

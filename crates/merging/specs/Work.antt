@@ -1,7 +1,8 @@
 -- Inside this crate: the two rows of correction tiles that the work area holds, and a word of the output worked out from them.
 use Rattle.algebra.specs.Prelude.{_≡_, List, ℕ, _+_, _-_, _*_, _/_, _%_, _≤_, _<_, length, getD, ℤ, pos, natAbs}
 use Rattle.geometry.specs.declared.Shape.{Shape}
-use Rattle.geometry.specs.Read.{Sampled, sampleAt, planeOf}
+use Rattle.geometry.specs.Read.{sampleAt, planeOf}
+use Rattle.geometry.specs.Fits.{Sampled}
 use Rattle.recipe.specs.Tables.{side16}
 use Rattle.tiles.specs.declared.Plane.{Plane}
 use Rattle.tiles.specs.Accepted.{Planar}

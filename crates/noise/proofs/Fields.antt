@@ -9,7 +9,8 @@ use lib.Ieee.Bits.{ofBits-toBits}
 use lib.Ieee.Exact.{HasValue, odd-sign}
 use lib.Ieee.Fits.{down-pos, and-r}
 use lib.Ieee.Nearest.{div-same}
-use Rattle.noise.specs.Level.{within, floor1024}
+use Rattle.noise.specs.Level.{floor1024}
+use Rattle.noise.specs.Within.{within}
 
 -- ---- of a value a / 2 ^ l
 

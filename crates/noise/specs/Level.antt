@@ -1,5 +1,5 @@
 -- Tests of a float's value, and its floor in units of 1/1024. The value of `fin s m e` is m · 2 ^ e, negative where s is true: the fraction (m * up e) / down e.
-use Rattle.algebra.specs.Prelude.{Bool, true, false, not, _&&_, _||_, ℕ, _*_, _/_, eqb, leb, ltb}
+use Rattle.algebra.specs.Prelude.{Bool, true, false, not, _&&_, ℕ, _*_, _/_, ltb}
 use lib.Ieee.{Float, nan, inf, fin, up, down}
 
 -- "negative or not finite"; "Negative zero is zero"
@@ -13,12 +13,6 @@ abbrev pub exceeds : ℕ → Float → Bool
 exceeds k nan = false
 exceeds k (inf s) = not s
 exceeds k (fin s m e) = not s && ltb (k * down e) (m * up e)
-
--- the value is from 0 to k
-abbrev pub within : ℕ → Float → Bool
-within k nan = false
-within k (inf s) = false
-within k (fin s m e) = (not s || eqb m 0) && leb (m * up e) (k * down e)
 
 -- "Ls = floor(1024 shot) and Lr = floor(1024 read)", of a value that is finite and not negative
 abbrev pub floor1024 : Float → ℕ

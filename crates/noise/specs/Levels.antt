@@ -1,5 +1,8 @@
 -- The levels Ls and Lr of a noise, and refusals 8, 9 and 10.
-use Rattle.algebra.specs.Prelude.{Bool, cond, _||_, ℕ, ltb}
+use Rattle.algebra.specs.Prelude.{Bool, _||_, List, [], _∷_, ℕ, ltb}
+use Rattle.refusals.specs.Numbers as no
+use Rattle.refusals.specs.Tests.{refuse, first}
+use Rattle.refusals.specs.After.{after}
 use Rattle.noise.specs.declared.Curve.{Curve}
 use Rattle.noise.specs.declared.Noise.{Noise}
 use Rattle.noise.specs.declared.Noise.the-variants.{Measured, Iso}
@@ -28,12 +31,13 @@ aboveLimits curve = exceeds 64 (curve .shot) || exceeds 4096 (curve .read)
 abbrev pub found : Curve → Levels
 found curve = Found (floor1024 (curve .shot)) (floor1024 (curve .read))
 
--- the answer for a noise: 8 and 9 "in the order of the numbers", else the levels of its curve
+-- 8 and 9, "in the order of the numbers"
+unfoldable pub noiseTests : Noise → List ℕ
+noiseTests noise = refuse no.noise (invalidNoise noise) ∷ refuse no.noiseLimit (aboveLimits (curveOf noise)) ∷ []
+
+-- the answer for a noise: their number, else the levels of its curve
 unfoldable pub levelsOf : Noise → Levels
-levelsOf noise =
-    cond (invalidNoise noise) (Refused 8)
-    (cond (aboveLimits (curveOf noise)) (Refused 9)
-    (found (curveOf noise)))
+levelsOf noise = let number = first (noiseTests noise) in after number (Refused number) (found (curveOf noise))
 
 -- each answer's number, "Acceptance is number 0", and its Ls and Lr, "beside a refusal every other returned field is 0"
 abbrev pub refusalOf : Levels → ℕ
@@ -50,8 +54,8 @@ readLevel (Refused number) = 0
 
 -- refusal 9 "in a file, Ls > 65536 or Lr > 4194304"
 unfoldable pub levelRefusal : ℕ → ℕ → ℕ
-levelRefusal ls lr = cond (ltb 65536 ls || ltb 4194304 lr) 9 0
+levelRefusal ls lr = refuse no.noiseLimit (ltb 65536 ls || ltb 4194304 lr)
 
 -- refusal 10, "t > 1024"
 unfoldable pub strengthRefusal : ℕ → ℕ
-strengthRefusal t = cond (ltb 1024 t) 10 0
+strengthRefusal t = refuse no.strength (ltb 1024 t)

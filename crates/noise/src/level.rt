@@ -1,9 +1,11 @@
 // The curve after ISO, its tests, and the floor of 1024 times a float.
 ghost use mathlib.Core.Path.{_≡_};
 ghost use lib.Dec.{T};
+ghost use Rattle.refusals.specs.Tests.{first};
 ghost use Rattle.noise.specs.Curve.{atIso, curveOf};
-ghost use Rattle.noise.specs.Level.{invalid, within, floor1024};
-ghost use Rattle.noise.specs.Levels.{invalidCurve, invalidIso, invalidNoise, aboveLimits};
+ghost use Rattle.noise.specs.Level.{invalid, floor1024};
+ghost use Rattle.noise.specs.Within.{within};
+ghost use Rattle.noise.specs.Levels.{invalidCurve, invalidIso, invalidNoise, aboveLimits, noiseTests};
 use crate::Curve;
 use crate::Noise;
 
@@ -17,6 +19,7 @@ fn at_iso(iso: u32, base: Curve) -> Curve
     Curve { shot, read }
 }
 
+// The curve that a noise stands for.
 pub fn curve_of(noise: Noise) -> Curve
     ensures { λ r. ⌜ r ≡ curveOf noise ⌝ }
 {
@@ -36,6 +39,7 @@ fn invalid_number(x: f64) -> bool
     !(x < 1.0 / 0.0)
 }
 
+// Either number is.
 fn invalid_curve(curve: Curve) -> bool
     ensures { λ r. ⌜ r ≡ invalidCurve curve ⌝ }
 {
@@ -45,6 +49,7 @@ fn invalid_curve(curve: Curve) -> bool
     invalid_number(curve.read)
 }
 
+// Outside 25 to 409600.
 fn invalid_iso(iso: u32) -> bool
     ensures { λ r. ⌜ r ≡ invalidIso iso ⌝ }
 {
@@ -54,8 +59,8 @@ fn invalid_iso(iso: u32) -> bool
     409600 < iso
 }
 
-// Refusal 8.
-pub fn invalid_noise(noise: Noise) -> bool
+// The condition of refusal 8.
+fn invalid_noise(noise: Noise) -> bool
     ensures { λ r. ⌜ r ≡ invalidNoise noise ⌝ }
 {
     match noise {
@@ -69,14 +74,28 @@ pub fn invalid_noise(noise: Noise) -> bool
     }
 }
 
-// Refusal 9.
-pub fn above_limits(curve: Curve) -> bool
+// The condition of refusal 9.
+fn above_limits(curve: Curve) -> bool
     ensures { λ r. ⌜ r ≡ aboveLimits curve ⌝ }
 {
     if curve.shot > 64.0 {
         return true;
     }
     curve.read > 4096.0
+}
+
+// Refusals 8 and 9.
+pub fn noise_refusal(noise: Noise) -> u64
+    ensures { λ r. ⌜ r ≡ first (noiseTests noise) ⌝ }
+{
+    let invalid = invalid_noise(noise);
+    let above = above_limits(curve_of(noise));
+    refusals::first(
+        &[
+            refusals::refuse(refusals::NOISE, invalid),
+            refusals::refuse(refusals::NOISE_LIMIT, above),
+        ],
+    )
 }
 
 // By the exponent's field and the fraction's digits of x, which is from 0 to 4096.

@@ -33,13 +33,11 @@ pub enum Levels {
 pub fn levels_of(noise: Noise) -> Levels
     ensures { λ r. ⌜ r ≡ levelsOf noise ⌝ }
 {
-    if level::invalid_noise(noise) {
-        return Levels::Refused(8);
+    let number = level::noise_refusal(noise);
+    if number != 0 {
+        return Levels::Refused(number);
     }
     let curve = level::curve_of(noise);
-    if level::above_limits(curve) {
-        return Levels::Refused(9);
-    }
     let shot = level::floor_1024(curve.shot);
     let read = level::floor_1024(curve.read);
     Levels::Found { shot, read }
@@ -50,10 +48,10 @@ pub fn level_refusal(ls: u64, lr: u64) -> u64
     ensures { λ r. ⌜ r ≡ levelRefusal ls lr ⌝ }
 {
     if 65536 < ls {
-        return 9;
+        return refusals::NOISE_LIMIT;
     }
     if 4194304 < lr {
-        return 9;
+        return refusals::NOISE_LIMIT;
     }
     0
 }
@@ -62,10 +60,7 @@ pub fn level_refusal(ls: u64, lr: u64) -> u64
 pub fn strength_refusal(t: u64) -> u64
     ensures { λ r. ⌜ r ≡ strengthRefusal t ⌝ }
 {
-    if 1024 < t {
-        return 10;
-    }
-    0
+    refusals::refuse(refusals::STRENGTH, 1024 < t)
 }
 
 // The greatest number whose square is at most n.

@@ -4,7 +4,8 @@ use borrow.Author.Tests.{le-ltb}
 use Rattle.sequences.specs.Tab.{tab-every}
 use Rattle.geometry.specs.declared.Shape.{Shape}
 use Rattle.geometry.specs.Shape.{vectorLength}
-use Rattle.geometry.specs.Bounds.{some, vectorRefusal}
+use Rattle.geometry.specs.Bounds.{vectorRefusal}
+use Rattle.refusals.specs.Some.{some}
 use Rattle.search.specs.Vectors.{Within}
 use Rattle.search.specs.declared.Vector.{Vector}
 use Rattle.alignment.specs.Fields.{part, word}

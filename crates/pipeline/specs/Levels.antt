@@ -1,8 +1,7 @@
 -- Inner vocabulary, which no public contract reaches: what the core of run asks for, and what it leaves.
 use Rattle.algebra.specs.Prelude.{_≡_, List, ℕ, _≤_, length, ℤ}
 use Rattle.sequences.specs.Clear.{zeros}
-use Rattle.geometry.specs.Order.{MergeFits}
-use Rattle.geometry.specs.Bounds.{SamplesFit}
+use Rattle.geometry.specs.Fits.{MergeFits, SamplesFit}
 use Rattle.alignment.specs.Aligned.{alignedVectors, residualSums}
 use Rattle.recipe.specs.declared.Merge.{Merge}
 use Rattle.recipe.specs.Scene.{sceneOf}
@@ -11,7 +10,7 @@ use Rattle.recipe.specs.Merged.{merged}
 -- what is known of a run that tests 1 to 11 have let through
 pub record Runnable (m : Merge) (samples : List ℕ) (vectors : List ℤ) (output : List ℕ) (work : List ℤ) : Type 0 where
   pub fits : MergeFits (m .shape) (m .reference) (length samples) (length vectors) (length output) (length work)
-  pub samples-fit : SamplesFit samples
+  pub samples-fit : SamplesFit (m .shape) samples
   pub shot-most : m .shot ≤ 65536
   pub read-most : m .read ≤ 4194304
   pub strength-most : m .tuning .strength ≤ 1024

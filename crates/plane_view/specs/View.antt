@@ -3,6 +3,7 @@ use Rattle.algebra.specs.Prelude.{_≡_, List, ℕ, _+_, _*_, _^_, _≤_, _<_, 
 use Rattle.sequences.specs.Tab.{tab}
 use Rattle.sequences.specs.Grid.{grid}
 use Rattle.geometry.specs.declared.Shape.{Shape}
+use Rattle.geometry.specs.Shape.{frameStride}
 use Rattle.geometry.specs.Read.{Image, sampleAt, planeOf, inside, read}
 
 -- the frame of four planes of `height` rows of `width` samples, as a burst of its own
@@ -15,7 +16,7 @@ planeImage samples width height rowParity columnParity = planeOf (sampleAt (fram
 
 -- the samples of one frame of a burst
 unfoldable pub framePart : Shape → List ℕ → (frame : ℕ) → List ℕ
-framePart s samples frame = take (s .width * s .height) (drop (frame * (s .width * s .height)) samples)
+framePart s samples frame = take (frameStride s) (drop (frame * frameStride s) samples)
 
 -- "Tiles have side 16": a tile of an image, at an origin that may lie outside
 unfoldable pub tileOf : (side height width : ℕ) → Image → ℤ → ℤ → List (List ℕ)

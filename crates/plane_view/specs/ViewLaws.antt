@@ -1,13 +1,13 @@
 -- A view of a frame's part of the burst reads the burst's plane.
-use Rattle.algebra.specs.Prelude.{_≡_, ap, List, ℕ, _+_, _*_, _≤_, _<_, arith, ℤ, pos, _+ℤ_}
-use native.Mathlib.Nat.{mul-le-mul-right, add-mul, mul-comm}
+use Rattle.algebra.specs.Prelude.{_≡_, ap, List, ℕ, _+_, _*_, _<_, arith, ℤ, pos, _+ℤ_}
+use native.Mathlib.Nat.{mul-comm}
 use lib.ListN.{length, getD, length-take, length-drop}
 use lib.Seq.{getD-take, getD-drop}
 use Rattle.sequences.specs.Grid.{grid-ext}
 use Rattle.geometry.specs.declared.Shape.{Shape}
 use Rattle.geometry.specs.Shape.{sampleLength}
 use Rattle.geometry.specs.Read.{Image, sampleIndex, sampleAt, planeOf, read}
-use Rattle.geometry.specs.ReadLaws.{cell-below, inside-below}
+use Rattle.geometry.specs.ReadLaws.{cell-below, frame-room, inside-below}
 use Rattle.plane_view.specs.View.{frameOf, framePart, planeImage, tileOf, planeTile, Planar, Shaped}
 
 -- a tile depends on what the image has inside alone
@@ -18,13 +18,6 @@ tile-ext side height width f g h w e y x =
     grid-ext side side _ _ (λ i j _ _. e _ _ (inside-below height (y +ℤ pos i) h) (inside-below width (x +ℤ pos j) w))
 
 module _ (s : Shape) (samples : List ℕ) (frame : ℕ) where
-  -- the part lies in the burst
-  pub part-room : frame < s .count → frame * (s .width * s .height) + s .width * s .height ≤ sampleLength s
-  unfolding sampleLength
-  part-room h =
-      let frames : (frame + 1) * (s .width * s .height) ≤ s .count * (s .width * s .height) = mul-le-mul-right (s .width * s .height) (omega arith) in
-      omega (arith, add-mul frame 1 (s .width * s .height))
-
   module _ {width height rowParity columnParity : ℕ} (p : Planar width height rowParity columnParity) (wide : s .width ≡ 2 * width) (high : s .height ≡ 2 * height) where
     area : s .width * s .height ≡ 2 * height * (2 * width)
     area = rw (wide, high) (mul-comm (2 * width) (2 * height))
@@ -33,7 +26,7 @@ module _ (s : Shape) (samples : List ℕ) (frame : ℕ) where
     pub part-shaped : length samples ≡ sampleLength s → frame < s .count → Shaped (length (framePart s samples frame)) width height rowParity columnParity
     unfolding framePart
     part-shaped e h =
-        let whole : length (framePart s samples frame) ≡ 2 * height * (2 * width) = simp (length-take, length-drop) (omega (arith, part-room h, area)) in
+        let whole : length (framePart s samples frame) ≡ 2 * height * (2 * width) = simp (length-take, length-drop) (omega (arith, frame-room s frame h, area)) in
         record { whole = whole; planar = p }
 
     part-sample : (row column : ℕ) → row < 2 * height → column < 2 * width → sampleAt (frameOf width height) (framePart s samples frame) 0 row column ≡ sampleAt s samples frame row column

@@ -1,7 +1,8 @@
 -- What a pyramid is built from.
 use Rattle.algebra.specs.Prelude.{List, ℕ, _≤_, _<_}
 use Rattle.geometry.specs.declared.Shape.{Shape}
-use Rattle.geometry.specs.Read.{Sampled, sampleAt}
+use Rattle.geometry.specs.Read.{sampleAt}
+use Rattle.geometry.specs.Fits.{Sampled}
 
 -- one of the burst's frames, whose samples are "0..4095"
 pub record Frame (shape : Shape) (frame : ℕ) (samples : List ℕ) : Type 0 where

@@ -2,7 +2,8 @@
 use Rattle.algebra.specs.Prelude.{_≡_, refl, _∙_, List, ℕ, suc, _+_, _*_, _/_, _≤_, arith, ℤ}
 use native.Mathlib.Nat.{mul-le-mul}
 use Rattle.geometry.specs.declared.Shape.{Shape}
-use Rattle.geometry.specs.Shape.{Allowed, workLength}
+use Rattle.geometry.specs.Shape.{workLength}
+use Rattle.geometry.specs.Fits.{Allowed}
 use Rattle.geometry.specs.Read.{Image}
 use Rattle.geometry.specs.Tiles.{level0, level1, level2, level3, levelSize, levelTiles, tileCount}
 use Rattle.pyramid.specs.Pyramid.{quartered, image0, image1, image2, image3}

@@ -5,7 +5,7 @@ pub mod squares;
 ghost use mathlib.Core.Path.{_≡_};
 ghost use Prim.Native.Nat.{_+_, _≤_};
 ghost use lib.ListN.{length};
-ghost use Rattle.geometry.specs.Shape.{Allowed};
+ghost use Rattle.geometry.specs.Fits.{Allowed};
 ghost use Rattle.geometry.specs.Read.{sampleAt};
 ghost use Rattle.pyramid.specs.Frame.{Frame};
 ghost use Rattle.pyramid.specs.Layout.{offset, pyramidLength, Built};

@@ -4,12 +4,12 @@ use lib.ListN.{length, take, drop, length-append, length-drop}
 use lib.Seq.{length-take-le, take-at}
 use borrow.Author.Tests.{lt-ltb, le-ltb, eq-eqb, ne-eqb}
 use Rattle.geometry.specs.declared.Shape.{Shape}
-use Rattle.geometry.specs.Shape.{Allowed, shapeRefusal, referenceRefusal, sampleLength, lengthRefusal}
-use Rattle.geometry.specs.ShapeLaws.{allowed}
-use Rattle.geometry.specs.Refusal.{_before_}
-use Rattle.geometry.specs.RefusalLaws.{before-both}
-use Rattle.geometry.specs.OrderLaws.{below-count}
-use Rattle.noise.specs.Levels.{levelRefusal, strengthRefusal}
+use Rattle.geometry.specs.Shape.{sampleLength, lengthRefusal}
+use Rattle.geometry.specs.Order.{shapeTests, frameTests}
+use Rattle.geometry.specs.Fits.{Allowed}
+use Rattle.geometry.specs.ShapeLaws.{allowed, below-count}
+use Rattle.refusals.specs.Numbers as no
+use Rattle.refusals.specs.TestLaws.{among, passed}
 use Rattle.noise.specs.LevelLaws.{levels-most, strength-most}
 use Rattle.burst_file.specs.declared.FileAnswer.{FileAnswer}
 use Rattle.burst_file.specs.declared.Header.{Header}
@@ -28,7 +28,7 @@ abbrev pub noTest : Shape → ℕ
 noTest shape = 0
 
 abbrev roomTest : (count : ℕ) → Shape → ℕ
-roomTest count shape = lengthRefusal 4 (sampleLength shape) (room count)
+roomTest count shape = lengthRefusal no.sampleLength (sampleLength shape) (room count)
 
 refused-part : (printed : Burst → List ℕ) (part : Part Burst) {number : ℕ} → number ≡ numberOf part → (number ≡ 0 → ⊥) → answerText printed part ≡ refusal number
 unfolding answerText
@@ -64,22 +64,16 @@ record Passed (header : Header) : Type 0 where
   read-most : header .«read_level» ≤ 4194304
   strength-most : header .strength ≤ 1024
 
-passed : (header : Header) → headerRefusal header ≡ 0 → Passed header
-unfolding headerRefusal
-passed header e =
-    let shape = header .shape in
-    let levels = levelRefusal (header .«shot_level») (header .«read_level») in
-    let strength = strengthRefusal (header .strength) in
-    let from1 = before-both (shapeRefusal shape) (referenceRefusal shape (header .reference) before levels before strength) e in
-    let from3 = before-both (referenceRefusal shape (header .reference)) (levels before strength) (from1 .1) in
-    let from9 = before-both levels strength (from3 .1) in
-    let most = levels-most (header .«shot_level») (header .«read_level») (from9 .0) in
+admitted : (header : Header) → headerRefusal header ≡ 0 → Passed header
+unfolding headerRefusal frameTests shapeTests
+admitted header e =
+    let most = levels-most (header .«shot_level») (header .«read_level») (passed e (search among depth 20)) in
     record {
-      allowed = allowed shape (from1 .0);
-      reference-below = below-count shape (header .reference) (from3 .0);
+      allowed = allowed (header .shape) (passed e (search among depth 20)) (passed e (search among depth 20));
+      reference-below = below-count (header .shape) (header .reference) (passed e (search among depth 20));
       shot-most = most .0;
       read-most = most .1;
-      strength-most = strength-most (header .strength) (from9 .1);
+      strength-most = strength-most (header .strength) (passed e (search among depth 20));
     }
 
 -- a list whose front was lent and holds `part`
@@ -105,7 +99,7 @@ headed {file} {rest} {header} e f =
     record { samples = burst .samples; accepted = subst (λ (h : Header). Accepted noTest file (burstOf h (burst .samples))) (sym same) a }
 
 pub headed-few : {file : List ℕ} {header : Header} → Headed file header → header .shape .count ≤ 8
-headed-few {file} {header} f = passed header (f .accepted .header) .allowed .few
+headed-few {file} {header} f = admitted header (f .accepted .header) .allowed .few
 
 -- what both programs print for a file
 module _ (file : List ℕ) where
@@ -146,10 +140,10 @@ module _ (file : List ℕ) where
         opens samples {part} {answer} h fits same read =
             let count = header .shape .count in
             let n = room count in
-            let p = passed header (f .accepted .header) in
+            let p = admitted header (f .accepted .header) in
             let a = f .accepted in
             let again : Accepted (roomTest count) file (burstOf header (f .samples)) =
-            record { grammar = a .grammar; header = a .header; measured = same-length 4 (frames-room (header .shape) w h); small = a .small } in
+            record { grammar = a .grammar; header = a .header; measured = same-length no.sampleLength (frames-room (header .shape) w h); small = a .small } in
             let stored : part ≡ f .samples =
             (rw (length-take-le n samples fits) at (read .stored)) ∙ ap (λ found. samplesAfter found (take n samples)) (complete (roomTest count) file (burstOf header (f .samples)) again) in
             let holds : Holds file header (f .samples) =

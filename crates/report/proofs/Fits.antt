@@ -1,7 +1,7 @@
 -- A burst that the programs take has the shape and the lengths that the cores of the calls ask for.
 use Rattle.algebra.specs.Prelude.{_≡_, _∙_, List, ℕ, _-_, arith, length}
 use Rattle.geometry.specs.Shape.{sampleLength, vectorLength, outputLength, workLength}
-use Rattle.geometry.specs.Order.{BurstFits, AlignFits, MergeFits}
+use Rattle.geometry.specs.Fits.{BurstFits, AlignFits, MergeFits}
 use Rattle.burst_file.specs.declared.Header.{Header}
 use Rattle.report.specs.Inner.{room, vectorRoom, workRoom, Taken}
 

@@ -1,7 +1,6 @@
 -- Inner vocabulary, which no public contract reaches: what the private functions ask of each other and leave to each other.
 use Rattle.algebra.specs.Prelude.{_≡_, List, ℕ, _-_, _*_, _≤_, _<_, length, take, ℤ}
-use Rattle.geometry.specs.Shape.{Allowed}
-use Rattle.geometry.specs.Bounds.{SamplesFit}
+use Rattle.geometry.specs.Fits.{Allowed, ValuesFit}
 use Rattle.alignment.specs.Aligned.{alignedVectors, residualSums}
 use Rattle.burst_file.specs.declared.Header.{Header}
 use Rattle.burst_file.specs.Grammar.{Burst}
@@ -37,7 +36,7 @@ pub record Taken (header : Header) (samples : List ℕ) : Type 0 where
   pub read-most : header .«read_level» ≤ 4194304
   pub strength-most : header .strength ≤ 1024
   pub long : length samples ≡ room (header .shape .count)
-  pub small : SamplesFit samples
+  pub small : ValuesFit samples
 
 -- a file that holds it: both programs print what they print for it
 pub record Holds (file : List ℕ) (header : Header) (samples : List ℕ) : Type 0 where

@@ -7,10 +7,12 @@ use lib.Ieee.Exact.{HasValue, round-exact}
 use lib.Ieee.Back.{round-whole}
 use lib.Ieee.Fits.{down-pos}
 use borrow.Author.Tests.{le-ltb}
+use Rattle.refusals.specs.Tests.{first}
+use Rattle.refusals.specs.After.{after}
 use Rattle.noise.specs.declared.Noise.the-variants.{Measured}
 use Rattle.noise.specs.declared.Levels.the-variants.{Found}
 use Rattle.noise.specs.Level.{invalid, exceeds, floor1024}
-use Rattle.noise.specs.Levels.{invalidCurve, invalidNoise, aboveLimits, levelsOf}
+use Rattle.noise.specs.Levels.{invalidCurve, invalidNoise, aboveLimits, noiseTests, levelsOf}
 
 -- level / 1024.0, in doubles
 abbrev pub ofLevel : ℕ → Float
@@ -75,7 +77,7 @@ level-back level h = floor-is (ofLevel level) level (level-value level h)
 
 -- as far as refusal 9 lets a file's levels go, their curve passes refusals 8 and 9, and its levels are the file's
 pub file-levels : (ls lr : ℕ) → ls ≤ 65536 → lr ≤ 4194304 → levelsOf (Measured (record { shot = ofLevel ls; read = ofLevel lr })) ≡ Found ls lr
-unfolding levelsOf invalidNoise invalidCurve aboveLimits
+unfolding levelsOf noiseTests first after invalidNoise invalidCurve aboveLimits
 file-levels ls lr a b = decided (ofLevel ls) (ofLevel lr) (level-value ls (le-trans a (lit≤ tt))) (level-value lr b)
   where
     decided : (x y : Float) → HasValue x false ls 1024 → HasValue y false lr 1024 → levelsOf (Measured (record { shot = x; read = y })) ≡ Found ls lr

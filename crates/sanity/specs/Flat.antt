@@ -6,7 +6,7 @@ use Rattle.algebra.specs.Clamp.{clampZ}
 use Rattle.algebra.specs.Nearest.{away, upward}
 use Rattle.geometry.specs.declared.Shape.{Shape}
 use Rattle.geometry.specs.Shape.{outputLength}
-use Rattle.geometry.specs.Read.{Sampled}
+use Rattle.geometry.specs.Fits.{Sampled}
 use Rattle.geometry.specs.Vectors.{otherFrame}
 use Rattle.recipe.specs.Tables.{side16}
 use Rattle.recipe.specs.NoiseNumber.{noiseNumber}

@@ -16,7 +16,8 @@ use Rattle.search.specs.Residual.{gap, difference, Pair, rowResidual, residual}
 use Rattle.alignment.specs.Fields.{levelAt, tileAt, tileRows, tileColumns, residualSum}
 use Rattle.alignment.specs.Frames.{levelImage, pairs, vectorsOf, residualOf}
 use Rattle.alignment.specs.Aligned.{fieldOf, sumOf, alignedVectors}
-use Rattle.sanity.specs.FrameLaws.{other-below, flat-same}
+use Rattle.geometry.specs.VectorLaws.{other-below}
+use Rattle.sanity.specs.FrameLaws.{flat-same}
 use Rattle.sanity.specs.StillLaws.{sum-same, AtRest, StillField, field-still, sum-still, vectors-still}
 use Rattle.sanity.specs.PyramidLaws.{pairs-agree}
 use Rattle.sanity.specs.Flat.{FlatBurst}

@@ -7,8 +7,8 @@ use Rattle.algebra.specs.Clamp.{minZ, maxZ, clampZ}
 use Rattle.algebra.specs.Nearest.{away, upward}
 use Rattle.sequences.specs.Tab.{tab}
 use Rattle.geometry.specs.declared.Shape.{Shape}
-use Rattle.geometry.specs.Shape.{AllowedSize, sampleLength, vectorLength, outputLength}
-use Rattle.geometry.specs.Read.{Sampled}
+use Rattle.geometry.specs.Shape.{sampleLength, vectorLength, outputLength}
+use Rattle.geometry.specs.Fits.{AllowedSize, Sampled}
 use Rattle.geometry.specs.Vectors.{otherFrame}
 use Rattle.geometry.specs.Tiles.{level0, levelSize, levelTiles, tileCount}
 use Rattle.pyramid.specs.Layout.{tiles}

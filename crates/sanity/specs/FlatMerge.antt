@@ -12,7 +12,8 @@ use Rattle.recipe.specs.NoiseNumber.{tileRoot, noiseNumber}
 use Rattle.recipe.specs.declared.Merge.{Merge}
 use Rattle.recipe.specs.Scene.{Scene, sceneOf, tileAt, referenceTile, otherTile, tileNoise, difference}
 use Rattle.recipe.specs.Merged.{planeOutput, outputAt, wordAt, merged}
-use Rattle.sanity.specs.FrameLaws.{other-below, flat-same, row-inside, column-inside}
+use Rattle.geometry.specs.VectorLaws.{other-below}
+use Rattle.sanity.specs.FrameLaws.{flat-same, row-inside, column-inside}
 use Rattle.sanity.specs.MergeLaws.{tile-same}
 use Rattle.sanity.specs.FlatLaws.{flat-root, flat-sample}
 use Rattle.sanity.specs.Flat.{Flat, FlatBurst, flatOutput}

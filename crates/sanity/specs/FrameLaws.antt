@@ -1,5 +1,5 @@
 -- A frame's words are its samples row by row, and frames of equal words are equal images.
-use Rattle.algebra.specs.Prelude.{_≡_, sym, ap, ap₂, _∙_, Bool, true, false, cond, List, ℕ, zero, suc, _+_, _-_, _*_, _/_, _%_, _≤_, _<_, arith, ltb}
+use Rattle.algebra.specs.Prelude.{_≡_, sym, ap, ap₂, _∙_, List, ℕ, zero, suc, _+_, _*_, _/_, _%_, _≤_, _<_, arith}
 use native.Mathlib.Nat.{mod-lt, div-lt-iff-lt-mul, div-add-mod', mul-comm, zero-mul, suc-mul, mul-le-mul-right}
 use lib.ListN.{length, getD, drop, replicate, length-drop}
 use lib.Seq.{ext-getD, length-take-le, getD-take, getD-drop}
@@ -7,20 +7,11 @@ use Rattle.sequences.specs.Tab.{length-tab, getD-tab}
 use Rattle.sequences.specs.Clear.{tab-const}
 use Rattle.geometry.specs.declared.Shape.{Shape}
 use Rattle.geometry.specs.Shape.{sampleLength, outputLength}
-use Rattle.geometry.specs.Read.{Image, Sampled, sampleIndex, sampleAt}
+use Rattle.geometry.specs.Read.{Image, sampleIndex, sampleAt}
+use Rattle.geometry.specs.Fits.{Sampled}
 use Rattle.geometry.specs.ReadLaws.{cell-below}
-use Rattle.geometry.specs.Vectors.{otherFrame}
 use Rattle.sequences.specs.Place.{place-row, place-column}
 use Rattle.sanity.specs.Frames.{imageWords, frameWords, Burst, Same, Alike}
-
--- an other frame is one of the burst's
-pub other-below : (reference k count : ℕ) → k < count - 1 → otherFrame reference k < count
-unfolding otherFrame
-other-below reference k count h = by (ltb k reference)
-  where
-    by : (b : Bool) → cond b k (k + 1) < count
-    by true = omega arith
-    by false = omega arith
 
 -- a word's row and column are inside
 pub column-inside : (k width height : ℕ) → k < width * height → k % width < width

@@ -3,8 +3,8 @@ use Rattle.algebra.specs.Prelude.{_≡_, List, ℕ, _*_, _/_, _%_, _<_, take, d
 use Rattle.sequences.specs.Tab.{tab}
 use Rattle.geometry.specs.declared.Shape.{Shape}
 use Rattle.geometry.specs.Shape.{outputLength}
-use Rattle.geometry.specs.Read.{Image, Sampled}
-use Rattle.geometry.specs.Bounds.{SamplesFit}
+use Rattle.geometry.specs.Read.{Image}
+use Rattle.geometry.specs.Fits.{Sampled, SamplesFit}
 
 -- the words of an image of so many rows and columns, "row by row"
 unfoldable pub imageWords : (height width : ℕ) → Image → List ℕ
@@ -18,7 +18,7 @@ frameWords s samples frame = take (outputLength s) (drop (frame * outputLength s
 pub record Burst (s : Shape) (reference : ℕ) (samples : List ℕ) : Type 0 where
   pub sampled : Sampled s samples
   pub below : reference < s .count
-  pub fit : SamplesFit samples
+  pub fit : SamplesFit s samples
 
 -- two images of so many rows and columns are equal inside
 pub record Same (height width : ℕ) (a b : Image) : Type 0 where

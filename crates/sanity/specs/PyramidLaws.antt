@@ -2,7 +2,7 @@
 use mathlib.Core.Path.{_≡_, ap₂, fun-ext}
 use Rattle.algebra.specs.Prelude.{ℕ, zero, suc, _+_, _*_, _/_, _≤_, _<_, arith, ℤ}
 use Rattle.geometry.specs.declared.Shape.{Shape}
-use Rattle.geometry.specs.Shape.{Allowed}
+use Rattle.geometry.specs.Fits.{Allowed}
 use Rattle.geometry.specs.Read.{Image, inside, read}
 use Rattle.geometry.specs.ReadLaws.{inside-below}
 use Rattle.geometry.specs.Tiles.{level1, level2, levelSize}

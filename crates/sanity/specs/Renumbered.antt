@@ -5,7 +5,7 @@ use Rattle.algebra.specs.Sums.{sumZ-cong}
 use Rattle.algebra.specs.Clamp.{clampZ}
 use Rattle.algebra.specs.Nearest.{upward}
 use Rattle.sequences.specs.Grid.{tab-ext}
-use Rattle.geometry.specs.Shape.{AllowedSize}
+use Rattle.geometry.specs.Fits.{AllowedSize}
 use Rattle.geometry.specs.Read.{planeOf}
 use Rattle.recipe.specs.NoiseNumber.{noiseNumber}
 use Rattle.noise.specs.NoiseNumberLaws.{tile-root-cong}

@@ -11,7 +11,8 @@ use Rattle.recipe.specs.declared.Merge.{Merge}
 use Rattle.recipe.specs.Scene.{sceneOf}
 use Rattle.recipe.specs.Merged.{merged}
 use Rattle.sanity.specs.Frames.{frameWords, Burst, Same}
-use Rattle.sanity.specs.FrameLaws.{other-below, frames-same}
+use Rattle.geometry.specs.VectorLaws.{other-below}
+use Rattle.sanity.specs.FrameLaws.{frames-same}
 use Rattle.sanity.specs.PyramidLaws.{pairs-agree}
 use Rattle.sanity.specs.VectorLaws.{down-is, right-is}
 use Rattle.sanity.specs.RenumberLaws.{Renumbering}

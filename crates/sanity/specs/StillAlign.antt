@@ -11,7 +11,8 @@ use Rattle.geometry.specs.Vectors.{otherFrame}
 use Rattle.alignment.specs.Frames.{pairs, vectorsOf, residualOf}
 use Rattle.alignment.specs.Aligned.{fieldOf, sumOf, alignedVectors, residualSums}
 use Rattle.sanity.specs.Frames.{Burst, Alike}
-use Rattle.sanity.specs.FrameLaws.{other-below, alike-same}
+use Rattle.geometry.specs.VectorLaws.{other-below}
+use Rattle.sanity.specs.FrameLaws.{alike-same}
 use Rattle.sanity.specs.StillLaws.{Equal, equal-rest, still-residual, StillField, field-still, sum-still, vectors-still}
 use Rattle.sanity.specs.PyramidLaws.{pairs-equal}
 

@@ -8,7 +8,8 @@ use Rattle.sequences.specs.Grid.{tab-ext}
 use Rattle.sequences.specs.Clear.{tab-const}
 use Rattle.sequences.specs.Least.{firstMin}
 use Rattle.geometry.specs.declared.Shape.{Shape}
-use Rattle.geometry.specs.Shape.{Allowed, vectorLength}
+use Rattle.geometry.specs.Shape.{vectorLength}
+use Rattle.geometry.specs.Fits.{Allowed}
 use Rattle.geometry.specs.Tiles.{Level, level0, level1, level2, level3, Step, step1to0, step2to1, step3to2}
 use Rattle.search.specs.declared.Tile.{Tile}
 use Rattle.search.specs.declared.Vector.{Vector}

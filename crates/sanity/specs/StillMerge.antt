@@ -3,12 +3,12 @@ use Rattle.algebra.specs.Prelude.{_≡_, refl, sym, _∙_, List, ℕ, zero, suc
 use lib.IntN.{pos, +ℤ-invr}
 use lib.ListN.{getD, replicate}
 use Rattle.geometry.specs.Vectors.{otherFrame, vectorPlace, downAt, rightAt}
-use Rattle.geometry.specs.BoundLaws.{sample-most}
 use Rattle.recipe.specs.declared.Merge.{Merge}
 use Rattle.recipe.specs.Scene.{Scene, sceneOf, tileAt, referenceTile, otherTile, difference}
 use Rattle.recipe.specs.Merged.{outputAt, merged}
 use Rattle.sanity.specs.Frames.{Burst, Same, Alike, imageWords, frameWords}
-use Rattle.sanity.specs.FrameLaws.{other-below, frame-words, alike-same}
+use Rattle.geometry.specs.VectorLaws.{other-below}
+use Rattle.sanity.specs.FrameLaws.{frame-words, alike-same}
 use Rattle.transform.specs.ZeroLaws.{no-difference}
 use Rattle.sanity.specs.MergeLaws.{tile-same, Uncorrected, output-is, merged-is}
 
@@ -63,5 +63,5 @@ module _ (m : Merge) (samples : List ℕ) (burst : Burst (m .shape) (m .referenc
   pub burst-back : merged (sceneOf m samples (replicate n (pos 0))) ≡ frameWords (m .shape) samples (m .reference)
   unfolding sceneOf
   burst-back =
-      frame-back (sceneOf m samples (replicate n (pos 0))) still-burst (λ row column h k. sample-most (burst .fit) (m .shape) (m .reference) row column)
+      frame-back (sceneOf m samples (replicate n (pos 0))) still-burst (λ row column h k. burst .fit .most (m .reference) row column (burst .below) h k)
       ∙ sym (frame-words (m .shape) samples (burst .sampled) (m .reference) (burst .below))

@@ -1,6 +1,5 @@
 -- Try strength 0: the merge hands back the reference, whatever the other frames, the vectors and the noise are.
 use Rattle.algebra.specs.Prelude.{_≡_, sym, ap, _∙_, List, ℕ, _/_, _%_, _≤_, ℤ, pos}
-use Rattle.geometry.specs.BoundLaws.{sample-most}
 use Rattle.recipe.specs.NoiseNumber.{tileRoot, noiseNumber}
 use Rattle.noise.specs.NoiseNumberLaws.{noise-number-off}
 use Rattle.recipe.specs.Correction.{correctionAt}
@@ -37,5 +36,5 @@ pub burst-back : (m : Merge) (samples : List ℕ) (vectors : List ℤ) → Burst
     merged (sceneOf m samples vectors) ≡ frameWords (m .shape) samples (m .reference)
 unfolding sceneOf
 burst-back m samples vectors burst off =
-    merged-is (sceneOf m samples vectors) (λ row column h k. sample-back (sceneOf m samples vectors) off row column (sample-most (burst .fit) (m .shape) (m .reference) row column))
+    merged-is (sceneOf m samples vectors) (λ row column h k. sample-back (sceneOf m samples vectors) off row column (burst .fit .most (m .reference) row column (burst .below) h k))
     ∙ sym (frame-words (m .shape) samples (burst .sampled) (m .reference) (burst .below))

@@ -2,7 +2,8 @@
 use Rattle.algebra.specs.Prelude.{_≡_, ap, ap₂, _∙_, List, ℕ, _+_, _-_, _*_, _/_, _≤_, _<_, arith, getD, pos}
 use Rattle.sequences.specs.Tab.{getD-tab}
 use Rattle.geometry.specs.declared.Shape.{Shape}
-use Rattle.geometry.specs.Shape.{Allowed, vectorLength}
+use Rattle.geometry.specs.Shape.{vectorLength}
+use Rattle.geometry.specs.Fits.{Allowed}
 use Rattle.geometry.specs.ReadLaws.{cell-below}
 use Rattle.geometry.specs.Tiles.{level0, levelTiles}
 use Rattle.geometry.specs.TileLaws.{level0-tiles}

@@ -1,20 +1,8 @@
--- What a call owes where it has refused with the number k, and where it has accepted.
-use Rattle.algebra.specs.Prelude.{_≡_, refl, sym, ap, _∙_, List, ℕ, zero, suc, arith}
+-- The answer beside a refusal with the number k, and beside acceptance.
+use Rattle.algebra.specs.Prelude.{_≡_, sym, ap, _∙_, List, ℕ}
+use Rattle.refusals.specs.AfterLaws.{kept, made}
 use Rattle.stacker.specs.declared.Alignment.{Alignment}
-use Rattle.stacker.specs.Buffers.{after, noSums}
-use Rattle.stacker.specs.Calls.{answered}
-
--- a refusal leaves what was held
-pub kept : {A : Type 0} {k : ℕ} (number : ℕ) (held result : A) → k ≡ number → (k ≡ 0 → ⊥) → held ≡ after number held result
-unfolding after
-kept zero held result e h = absurd (h e)
-kept (suc n) held result e h = refl
-
--- acceptance leaves the result
-pub made : {A : Type 0} {k : ℕ} {x : A} (number : ℕ) (held result : A) → k ≡ number → k ≡ 0 → x ≡ result → x ≡ after number held result
-unfolding after
-made zero held result e z is = is
-made (suc n) held result e z is = absurd (omega arith)
+use Rattle.stacker.specs.Calls.{noSums, answered}
 
 pub answer-refused : {k : ℕ} (number : ℕ) (sums : List ℕ) → k ≡ number → (k ≡ 0 → ⊥) → _≡_ {A = Alignment} (record { refusal = k; residuals = noSums }) (answered number sums)
 unfolding answered

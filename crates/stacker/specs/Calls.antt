@@ -1,10 +1,9 @@
 -- What each call answers, and what it leaves in every lent buffer. Samples, and merge's vectors, are only read.
-use Rattle.algebra.specs.Prelude.{_≡_, List, ℕ, _*_, _/_, _%_, _<_, getD, ℤ, pos}
+use Rattle.algebra.specs.Prelude.{_≡_, List, [], _∷_, ℕ, _*_, _/_, _%_, _<_, getD, ℤ, pos}
 use Rattle.algebra.specs.Fraction.{whole, Within}
 use Rattle.sequences.specs.Clear.{zeros}
 use Rattle.geometry.specs.declared.Shape.{Shape}
-use Rattle.geometry.specs.Refusal.{_before_}
-use Rattle.geometry.specs.Bounds.{vectorRefusal}
+use Rattle.refusals.specs.After.{after}
 use Rattle.noise.specs.declared.Noise.{Noise}
 use Rattle.alignment.specs.Aligned.{alignedVectors, residualSums}
 use Rattle.recipe.specs.Scene.{Scene, sceneOf}
@@ -12,8 +11,11 @@ use Rattle.recipe.specs.Merged.{merged}
 use Rattle.recipe.specs.ExactMerge.{exactAt}
 use Rattle.stacker.specs.declared.Alignment.{Alignment}
 use Rattle.recipe.specs.declared.Tuning.{Tuning}
-use Rattle.stacker.specs.Buffers.{after, noSums}
-use Rattle.stacker.specs.Refusals.{alignRefusal, runRefusal, mergeRefusal, mergeOf}
+use Rattle.stacker.specs.Refusals.{alignRefusal, runRefusal, vectorsRefusal, mergeRefusal, mergeOf}
+
+-- "beside a refusal every other returned field is 0": the seven residual sums
+abbrev pub noSums : List ℕ
+noSums = 0 ∷ 0 ∷ 0 ∷ 0 ∷ 0 ∷ 0 ∷ 0 ∷ []
 
 -- "Align, and so run, also returns, per other frame in that order, the sum of finest residuals": the answer beside a number
 unfoldable pub answered : (number : ℕ) (sums : List ℕ) → Alignment
@@ -39,8 +41,8 @@ pub record Merged (s : Shape) (reference : ℕ) (noise : Noise) (tuning : Tuning
 -- run: "align, then merge; it also tests the vectors it found by refusal 12, and after that refusal alone the vectors stay as found, output as it was and
 -- work zeroed"
 pub record Ran (s : Shape) (reference : ℕ) (noise : Noise) (tuning : Tuning) (samples : List ℕ) (vectors vectors′ : List ℤ) (output output′ : List ℕ) (work work′ : List ℤ) (r : Alignment) : Type 0 where
-  pub answer : r ≡ answered (runRefusal s reference noise tuning samples vectors output work before vectorRefusal (alignedVectors s reference samples)) (residualSums s reference samples)
+  pub answer : r ≡ answered (vectorsRefusal s reference noise tuning samples vectors output work (alignedVectors s reference samples)) (residualSums s reference samples)
   pub found : vectors′ ≡ after (runRefusal s reference noise tuning samples vectors output work) vectors (alignedVectors s reference samples)
-  pub result : output′ ≡ after (runRefusal s reference noise tuning samples vectors output work before vectorRefusal (alignedVectors s reference samples)) output (merged (sceneOf (mergeOf s reference noise tuning) samples (alignedVectors s reference samples)))
+  pub result : output′ ≡ after (vectorsRefusal s reference noise tuning samples vectors output work (alignedVectors s reference samples)) output (merged (sceneOf (mergeOf s reference noise tuning) samples (alignedVectors s reference samples)))
   pub clean : work′ ≡ after (runRefusal s reference noise tuning samples vectors output work) work (zeros work)
   pub near : r .refusal ≡ 0 → Close (sceneOf (mergeOf s reference noise tuning) samples vectors′) output′

@@ -1,5 +1,5 @@
 -- Demand 3 at the calls: an output that is the merge is close to the exact merge.
-use Rattle.algebra.specs.Prelude.{_≡_, refl, sym, ap, subst, _∙_, List, ℕ, zero, suc, _/_, _%_, _≤_, arith, getD, ℤ, pos}
+use Rattle.algebra.specs.Prelude.{_≡_, refl, sym, ap, subst, _∙_, List, ℕ, _/_, _%_, _≤_, arith, getD, ℤ, pos}
 use Rattle.algebra.specs.Fraction.{whole, Within}
 use Rattle.recipe.specs.declared.Merge.{Merge}
 use Rattle.recipe.specs.Tables.{side16}
@@ -7,7 +7,6 @@ use Rattle.recipe.specs.Scene.{sceneOf}
 use Rattle.recipe.specs.Merged.{merged}
 use Rattle.recipe.specs.ExactMerge.{exactAt}
 use Rattle.closeness.specs.MergedClose.{merged-close}
-use Rattle.stacker.specs.Buffers.{after}
 use Rattle.stacker.specs.Calls.{Close}
 
 few : (m : Merge) (samples : List ℕ) (vectors : List ℤ) → m .shape .count ≤ 8 → sceneOf m samples vectors .others ≤ 7
@@ -30,9 +29,3 @@ output-close m samples vectors output h e =
 pub found-close : (m : Merge) (samples : List ℕ) (vectors held : List ℤ) (output : List ℕ) → m .shape .count ≤ 8 →
     held ≡ vectors → output ≡ merged (sceneOf m samples vectors) → Close (sceneOf m samples held) output
 found-close m samples vectors held output h v e = output-close m samples held output h (e ∙ ap (λ l. merged (sceneOf m samples l)) (sym v))
-
--- what acceptance leaves
-pub result-made : {A : Type 0} (number : ℕ) (held result : A) {x : A} → number ≡ 0 → x ≡ after number held result → x ≡ result
-unfolding after
-result-made zero held result z e = e
-result-made (suc n) held result z e = absurd (omega arith)

@@ -1,5 +1,6 @@
-pub mod Buffers
 pub mod Refusals
 pub mod Calls
+pub mod Admission
+pub mod AdmissionLaws
 pub mod CallLaws
 pub mod CloseLaws

@@ -1,10 +1,11 @@
 // Align: a burst to its vectors.
 ghost use Rattle.stacker.specs.Calls.{Aligned};
 use crate::Alignment;
-use crate::tests::align_refusal;
+use crate::admission::align_refusal;
 use geometry::Shape;
 use pipeline::clear;
 
+// The vectors of a burst, and per other frame its sum of finest residuals.
 pub fn align(
     shape: Shape,
     reference: usize,

@@ -1,8 +1,8 @@
 // The calls: each tests what it is lent in the order of the refusals' numbers, works, and clears the work area. None has a `requires`.
+mod admission;
 pub mod align;
 pub mod merge;
 pub mod run;
-mod tests;
 
 // What align and run answer: the refusal's number, or 0 and per other frame, in rising index, its sum of finest residuals; unused places are 0.
 #[repr(C)]

@@ -1,12 +1,13 @@
 // Merge: a burst and lent vectors to the output.
 ghost use Rattle.stacker.specs.Calls.{Merged};
-use crate::tests::run_refusal;
+use crate::admission::run_refusal;
 use geometry::Shape;
 use noise::Noise;
 use pipeline::clear;
 use recipe::Merge;
 use recipe::Tuning;
 
+// The merged frame of a burst, by lent vectors.
 pub fn merge(
     shape: Shape,
     reference: usize,

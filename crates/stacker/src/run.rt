@@ -1,13 +1,14 @@
 // Run: align, then merge.
 ghost use Rattle.stacker.specs.Calls.{Ran};
 use crate::Alignment;
-use crate::tests::run_refusal;
+use crate::admission::run_refusal;
 use geometry::Shape;
 use noise::Noise;
 use pipeline::run_levels;
 use recipe::Merge;
 use recipe::Tuning;
 
+// The vectors of a burst, and its merged frame by them.
 pub fn run(
     shape: Shape,
     reference: usize,

@@ -1,9 +1,10 @@
 -- The noise number that the capture station asks for.
 use mathlib.Core.Bool.{_&&_, cond}
+use mathlib.Core.List.{[], _∷_}
 use Prim.Native.Nat.{ℕ}
 use lib.Dec.{eqb, leb}
 use lib.Ieee.{Float}
-use Rattle.geometry.specs.Refusal.{_before_}
+use Rattle.refusals.specs.Tests.{first}
 use Rattle.noise.specs.declared.Noise.the-variants.{Measured}
 use Rattle.noise.specs.declared.Levels.{Levels}
 use Rattle.noise.specs.Levels.{levelsOf, refusalOf, shotLevel, readLevel, strengthRefusal}
@@ -13,7 +14,7 @@ use Rattle.recipe.specs.NoiseNumber.{noiseNumber}
 -- of a noise's levels
 unfoldable pub answered : Levels → (strength root : ℕ) → ℕ
 answered levels strength root =
-    cond (eqb (refusalOf levels before strengthRefusal strength) 0 && leb root 65520)
+    cond (eqb (first (refusalOf levels ∷ strengthRefusal strength ∷ [])) 0 && leb root 65520)
     (noiseNumber side16 strength (shotLevel levels) (readLevel levels) root)
     0
 

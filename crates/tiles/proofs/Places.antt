@@ -2,7 +2,8 @@
 use Rattle.algebra.specs.Prelude.{ℕ, _+_, _-_, _*_, _/_, _≤_, _<_, arith}
 use native.Mathlib.Nat.{mul-assoc, mul-comm, mul-le-mul-left}
 use Rattle.geometry.specs.declared.Shape.{Shape}
-use Rattle.geometry.specs.Shape.{Allowed, vectorLength}
+use Rattle.geometry.specs.Shape.{vectorLength}
+use Rattle.geometry.specs.Fits.{Allowed}
 use Rattle.geometry.specs.ShapeLaws.{vectors-most}
 use Rattle.geometry.specs.ReadLaws.{cell-below}
 

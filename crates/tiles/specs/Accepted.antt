@@ -1,15 +1,14 @@
 -- Inside the crates of the merge: what is known of a merge that its tests have let through, of its planes and tiles.
 use Rattle.algebra.specs.Prelude.{List, ℕ, _/_, _≤_, _<_, length, ℤ}
 use Rattle.geometry.specs.declared.Shape.{Shape}
-use Rattle.geometry.specs.Order.{BurstFits}
-use Rattle.geometry.specs.Bounds.{SamplesFit, VectorsFit}
+use Rattle.geometry.specs.Fits.{BurstFits, SamplesFit, VectorsFit}
 use Rattle.recipe.specs.declared.Merge.{Merge}
 use Rattle.tiles.specs.declared.Plane.{Plane}
 use Rattle.tiles.specs.declared.Site.{Site}
 
 pub record Accepted (m : Merge) (samples : List ℕ) (vectors : List ℤ) : Type 0 where
   pub burst : BurstFits (m .shape) (m .reference) (length samples) (length vectors)
-  pub samples-fit : SamplesFit samples
+  pub samples-fit : SamplesFit (m .shape) samples
   pub vectors-fit : VectorsFit vectors
   pub shot-most : m .shot ≤ 65536
   pub read-most : m .read ≤ 4194304

@@ -2,7 +2,7 @@
 use Rattle.algebra.specs.Prelude.{_≡_, List, [], ℕ, _^_, _≤_, _<_, getD, ℤ, natAbs}
 use Rattle.algebra.specs.Sums.{sumZ}
 use Rattle.sequences.specs.Grid.{grid}
-use Rattle.geometry.specs.Bounds.{SamplesFit}
+use Rattle.geometry.specs.Fits.{ValuesFit}
 use Rattle.transform.specs.Magnitudes.{noiseMost}
 use Rattle.tiles.specs.declared.Site.{Site}
 use Rattle.recipe.specs.Correction.{correctionAt}
@@ -10,7 +10,7 @@ use Rattle.recipe.specs.Scene.{Scene, referenceTile, tileNoise, difference}
 
 -- each sample of a tile is at most 4095
 pub record TileFits (t : List (List ℕ)) : Type 0 where
-  pub row : (i : ℕ) → SamplesFit (getD t i [])
+  pub row : (i : ℕ) → ValuesFit (getD t i [])
 
 -- t0 is the reference tile, and `noise` its noise number
 pub record TileOf (s : Scene) (t : Site) (t0 : List (List ℕ)) (noise : ℕ) : Type 0 where

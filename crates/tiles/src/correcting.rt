@@ -5,7 +5,7 @@ ghost use lib.IntN.{pos, _-ℤ_};
 ghost use lib.ListN.{getD};
 ghost use Rattle.sequences.specs.Tab.{tab};
 ghost use Rattle.sequences.specs.Grid.{grid, cell};
-ghost use Rattle.geometry.specs.Bounds.{SamplesFit};
+ghost use Rattle.geometry.specs.Fits.{ValuesFit};
 ghost use Rattle.recipe.specs.Tables.{side16};
 ghost use Rattle.recipe.specs.NoiseNumber.{tileRoot, noiseNumber};
 ghost use Rattle.recipe.specs.Scene.{sceneOf};
@@ -26,7 +26,7 @@ fn minus(a: u16, b: u16) -> i16
 
 // One row of T0 - Tz.
 fn difference_row(a: &[u16; 16], b: &[u16; 16]) -> [i16; 16]
-    requires { ⌜ (SamplesFit (now a)) × (SamplesFit (now b)) ⌝ }
+    requires { ⌜ (ValuesFit (now a)) × (ValuesFit (now b)) ⌝ }
     ensures { λ r. ⌜ r ≡ tab 16 (λ j. pos (getD (now (a .entry)) j 0) -ℤ pos (getD (now (b .entry)) j 0)) ⌝ }
 {
     let mut row = [0i16; 16];

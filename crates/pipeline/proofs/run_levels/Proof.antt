@@ -1,7 +1,8 @@
 -- `pipeline::run_levels`: the vectors found are those that align defines, so test 12 lets them through and the merge is theirs.
-use Rattle.algebra.specs.Prelude.{ap, _∙_, needs}
+use Rattle.algebra.specs.Prelude.{sym, ap, _∙_, needs}
 use Rattle.sequences.specs.Clear.{zeros-length}
 use Rattle.geometry.specs.Bounds.{vectorRefusal}
+use Rattle.geometry.specs.BoundLaws.{vectors-fit}
 use Rattle.recipe.specs.Scene.{sceneOf}
 use Rattle.recipe.specs.Merged.{merged}
 use Rattle.pipeline.specs.FoundLaws.{never-12}
@@ -17,7 +18,7 @@ returns : tie.Need-returns
 returns c =
     let split = c .before .before .before in
     let aligned = split .before .before .before .before .before .align-frames .ensures in
-    absurd (split .if1 .taken (split .before .vector-refusal .ensures .0 ∙ ap vectorRefusal (aligned .found) ∙ never-12 _ _ _))
+    absurd (split .if1 .taken (split .before .vector-refusal .ensures ∙ ap vectorRefusal (aligned .found) ∙ never-12 _ _ _))
 
 merge-frames-requires : tie.Need-merge-frames-requires
 merge-frames-requires c κs =
@@ -32,7 +33,7 @@ merge-frames-requires c κs =
           vectors-long = search needs;
         };
         samples-fit = ready .samples-fit;
-        vectors-fit = split .before .vector-refusal .ensures .1 (split .if1 .left);
+        vectors-fit = vectors-fit _ (sym (split .before .vector-refusal .ensures) ∙ split .if1 .left);
         shot-most = ready .shot-most;
         read-most = ready .read-most;
         strength-most = ready .strength-most;

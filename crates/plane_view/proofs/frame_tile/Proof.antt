@@ -3,8 +3,9 @@ use Rattle.algebra.specs.Prelude.{_≡_, ap, List, ℕ, _+_, _-_, _*_, _/_, _�
 use Rattle.geometry.specs.declared.Shape.{Shape}
 use Rattle.geometry.specs.Shape.{sampleLength}
 use Rattle.geometry.specs.ShapeLaws.{area-most, samples-most}
+use Rattle.geometry.specs.ReadLaws.{frame-room}
 use Rattle.plane_view.specs.View.{framePart, Planar}
-use Rattle.plane_view.specs.ViewLaws.{part-room, part-shaped, part-tile}
+use Rattle.plane_view.specs.ViewLaws.{part-shaped, part-tile}
 use Rattle.plane_view.proofs.frame_tile.Statement.{statement}
 use Rattle.plane_view.proofs.frame_tile.Tie as tie
 
@@ -26,7 +27,7 @@ module _ (c : tie.Start) where
   all = now (c .args .samples)
 
   room : c .args .frame * (s .width * s .height) + s .width * s .height ≤ length all
-  room = omega (arith, part-room s all (c .args .frame) (c .pre .1), c .pre .0 .long)
+  room = omega (arith, frame-room s (c .args .frame) (c .pre .1), c .pre .0 .long)
 
   small : length all ≤ 134217728
   unfolding sampleLength

@@ -6,7 +6,8 @@ use borrow.Author.Needs.{needs}
 use borrow.Author.Tests.{eqb-true, not-false}
 use lib.ListN.{length, drop}
 use Rattle.geometry.specs.Shape.{sampleLength, lengthRefusal}
-use Rattle.geometry.specs.RefusalLaws.{refuse-not}
+use Rattle.refusals.specs.Numbers as no
+use Rattle.refusals.specs.TestLaws.{refuse-not}
 use Rattle.burst_file.specs.Grammar.{Burst}
 use Rattle.burst_file.specs.Part.{Part, refused, found}
 use Rattle.burst_file.specs.Line.{above}
@@ -46,7 +47,7 @@ module _ (file samples : List ℕ) {answer : FileAnswer} where
 -- refusal 4's number
 length-number : (c : tie.After-length-refusal) →
     let start = c .before .before .before .before .before .before .before .before .before in
-    c .length-refusal .result ≡ lengthRefusal 4 (sampleLength (c .before .before .before .before .header .given .0 .0 .shape)) (length (start .args .samples .now))
+    c .length-refusal .result ≡ lengthRefusal no.sampleLength (sampleLength (c .before .before .before .before .header .given .0 .0 .shape)) (length (start .args .samples .now))
 length-number c =
     let start = c .before .before .before .before .before .before .before .before .before in
     c .length-refusal .ensures ∙ ap (λ (k : ℕ). lengthRefusal 4 k (length (start .args .samples .now))) (c .before .sample-length .ensures .0)
@@ -71,7 +72,7 @@ length-right : (c : tie.Else1) →
     let start = c .before .before .before .before .before .before .before .before .before .before in
     length (start .args .samples .now) ≡ sampleLength (c .before .before .before .before .before .header .given .0 .0 .shape)
 unfolding lengthRefusal
-length-right c = eqb-true _ _ (not-false _ (refuse-not 3 _ (sym (length-number (c .before)) ∙ c .if1 .left)))
+length-right c = eqb-true _ _ (not-false _ (refuse-not no.sampleLength _ tt (sym (length-number (c .before)) ∙ c .if1 .left)))
 
 fill-requires : tie.Need-fill-requires
 fill-requires c κs =

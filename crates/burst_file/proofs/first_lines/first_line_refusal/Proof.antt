@@ -2,22 +2,23 @@
 use mathlib.Core.Path.{sym, _∙_}
 use borrow.Author.Needs.{needs}
 use borrow.Author.Tests.{not-true, not-false}
+use Rattle.refusals.specs.Tests.{first}
 use Rattle.burst_file.specs.Head.{firstLineRefusal}
 use Rattle.burst_file.proofs.first_lines.first_line_refusal.Statement.{statement}
 use Rattle.burst_file.proofs.first_lines.first_line_refusal.Tie as tie
 
 returns : tie.Need-returns
-unfolding firstLineRefusal
+unfolding firstLineRefusal first
 returns c = rw (sym (c .before .has-lf .ensures) ∙ not-true _ (c .if1 .taken))
 
 returns-2 : tie.Need-returns-2
-unfolding firstLineRefusal
+unfolding firstLineRefusal first
 returns-2 c =
     let at = c .before .before .before in
     rw (sym (at .before .has-lf .ensures) ∙ not-false _ (at .if1 .left), sym (c .before .starts-with .ensures) ∙ not-true _ (c .if2 .taken))
 
 returns-3 : tie.Need-returns-3
-unfolding firstLineRefusal
+unfolding firstLineRefusal first
 returns-3 c =
     let at = c .before .before .before in
     rw (sym (at .before .has-lf .ensures) ∙ not-false _ (at .if1 .left), sym (c .before .starts-with .ensures) ∙ not-false _ (c .if2 .left))

@@ -1,7 +1,7 @@
 -- The sum so far is that of the samples passed. A sample is below 65536, so each term is at most 15.
 use Rattle.algebra.specs.Prelude.{refl, _+_, _-_, _/_, arith, needs, getD}
 use Rattle.sequences.specs.Sum.{Summed, sum-start, sum-turn, sum-done}
-use Rattle.geometry.specs.Bounds.{excess}
+use Rattle.geometry.specs.Excess.{excess}
 use Rattle.geometry.proofs.bounds.excess.Statement.{statement}
 use Rattle.geometry.proofs.bounds.excess.Tie as tie
 

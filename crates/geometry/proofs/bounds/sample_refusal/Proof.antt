@@ -1,8 +1,7 @@
 -- The invariant: no sample passed is above 4095, and what is left is whole blocks of 64. A hit refuses, the end accepts.
 use Rattle.algebra.specs.Prelude.{_≡_, _-_, _%_, arith, needs, length}
-use Rattle.geometry.specs.RefusalLaws.{answer}
-use Rattle.geometry.specs.SomeLaws.{Passed, pass-start}
-use Rattle.geometry.specs.BoundLaws.{above, block-above, block-passed, samples-whole, samples-refused, samples-accepted, samples-fit}
+use Rattle.refusals.specs.SomeLaws.{Passed, pass-start}
+use Rattle.geometry.specs.BoundLaws.{above, block-above, block-passed, samples-whole, samples-refused, samples-accepted}
 use Rattle.geometry.proofs.bounds.sample_refusal.Statement.{statement}
 use Rattle.geometry.proofs.bounds.sample_refusal.Tie as tie
 
@@ -18,7 +17,7 @@ loop-holds c = (pass-start, omega (arith, samples-whole (c .before .pre)))
 returns : tie.Need-returns Inv-loop μ-loop
 returns c =
     let start = c .before .before .before .before .before in
-    answer (samples-refused (start .pre) (block-above (start .args .samples .now) (c .before .before .before .loop .i) (omega arith) (omega arith))) (samples-fit (start .pre))
+    samples-refused (start .pre) (block-above (start .args .samples .now) (c .before .before .before .loop .i) (omega arith) (omega arith))
 
 loop-again : tie.Need-loop-again Inv-loop μ-loop
 loop-again c = let turn = c .before .before .before .loop in (block-passed _ (turn .i) (omega arith) (omega arith) (turn .inv .0), omega arith)
@@ -26,7 +25,7 @@ loop-again c = let turn = c .before .before .before .loop in (block-passed _ (tu
 returns-2 : tie.Need-returns-2 Inv-loop μ-loop
 returns-2 c =
     let start = c .before .before .before in
-    answer (samples-accepted (start .pre) (c .before .loop .inv .0) (c .loop-test .left)) (samples-fit (start .pre))
+    samples-accepted (start .pre) (c .before .loop .inv .0) (c .loop-test .left)
 
 pub sample-refusal-spec : {M : Type 1} → statement M
 sample-refusal-spec = tie.close (tie.spec

@@ -5,9 +5,8 @@ use mir.Facts.{sfits-lit}
 use borrow.Author.Tests.{lt-ltb, le-ltb}
 use Rattle.algebra.specs.Order.{zarith, abs-pn, min-pn}
 use Rattle.algebra.specs.Fit.{test-lt, test-ge}
-use Rattle.geometry.specs.RefusalLaws.{answer}
-use Rattle.geometry.specs.SomeLaws.{Passed, pass-start, pass-turn}
-use Rattle.geometry.specs.BoundLaws.{beyond, vectors-refused, vectors-accepted, vectors-fit}
+use Rattle.refusals.specs.SomeLaws.{Passed, pass-start, pass-turn}
+use Rattle.geometry.specs.BoundLaws.{beyond, vectors-refused, vectors-accepted}
 use Rattle.geometry.proofs.bounds.vector_refusal.Statement.{statement}
 use Rattle.geometry.proofs.bounds.vector_refusal.Tie as tie
 
@@ -39,13 +38,13 @@ returns : tie.Need-returns Inv-loop μ-loop
 unfolding beyond
 returns c =
     let read = c .before in
-    answer (vectors-refused _ _ (read .before .loop-test .taken) (lt-ltb _ _ (far-below (part read) (read .part .given) (c .if1 .taken)))) (vectors-fit _)
+    vectors-refused _ _ (read .before .loop-test .taken) (lt-ltb _ _ (far-below (part read) (read .part .given) (c .if1 .taken)))
 
 returns-2 : tie.Need-returns-2 Inv-loop μ-loop
 unfolding beyond
 returns-2 c =
     let read = c .before .before in
-    answer (vectors-refused _ _ (read .before .loop-test .taken) (lt-ltb _ _ (far-above (part read) (read .part .given) (c .if2 .taken)))) (vectors-fit _)
+    vectors-refused _ _ (read .before .loop-test .taken) (lt-ltb _ _ (far-above (part read) (read .part .given) (c .if2 .taken)))
 
 loop-again : tie.Need-loop-again Inv-loop μ-loop
 unfolding beyond
@@ -54,7 +53,7 @@ loop-again c =
     pass-turn (read .before .before .loop .inv) (read .before .loop-test .taken) (le-ltb _ _ (near (part read) (read .part .given) (c .before .if1 .left) (c .if2 .left)))
 
 returns-3 : tie.Need-returns-3 Inv-loop μ-loop
-returns-3 c = answer (vectors-accepted _ (c .before .loop .inv) (c .loop-test .left)) (vectors-fit _)
+returns-3 c = vectors-accepted _ (c .before .loop .inv) (c .loop-test .left)
 
 pub vector-refusal-spec : {M : Type 1} → statement M
 vector-refusal-spec = tie.close (tie.spec

@@ -1,25 +1,21 @@
--- The tests 1 to 5 in one call, then 7.
-use borrow.Author.Needs.{needs}
-use Rattle.geometry.specs.RefusalLaws.{stops, goes, answer}
-use Rattle.geometry.specs.Order.{alignShapeRefusal}
-use Rattle.geometry.specs.OrderLaws.{align-fits}
+-- The tests of the frames refuse, or let the lengths decide.
+use Rattle.algebra.specs.Prelude.{sym, _∙_, needs}
+use Rattle.refusals.specs.TestLaws.{stops, goes}
+use Rattle.geometry.specs.Order.{alignShapeTests}
+use Rattle.geometry.specs.OrderLaws.{frames-allowed}
 use Rattle.geometry.proofs.order.align_shape_refusal.Statement.{statement}
 use Rattle.geometry.proofs.order.align_shape_refusal.Tie as tie
 
 returns : tie.Need-returns
-unfolding alignShapeRefusal
-returns c = answer (stops _ (c .before .burst-refusal .ensures .0) (c .if1 .taken)) (align-fits _ _ _ _ _)
+unfolding alignShapeTests
+returns c = stops _ _ (c .before .frame-refusal .ensures) (c .if1 .taken)
 
-work-length-requires : tie.Need-work-length-requires
-work-length-requires c κs = c .before .burst-refusal .ensures .1 (c .if1 .left) .allowed
+align-lengths-requires : tie.Need-align-lengths-requires
+align-lengths-requires c κs = frames-allowed _ (c .before .before .args .reference) (sym (c .before .frame-refusal .ensures) ∙ c .if1 .left)
 
 returns-2 : tie.Need-returns-2
-unfolding alignShapeRefusal
-returns-2 c =
-    let work = rw (c .before .work-length .ensures .0) at (c .length-refusal .ensures) in
-    let tested = c .before .before in
-    answer (goes (tested .before .burst-refusal .ensures .0) (tested .if1 .left) work) (align-fits _ _ _ _ _)
+unfolding alignShapeTests
+returns-2 c = goes _ _ (c .before .before .frame-refusal .ensures) (c .before .if1 .left) (c .align-lengths .ensures)
 
 pub align-shape-refusal-spec : {M : Type 1} → statement M
-align-shape-refusal-spec = tie.close (tie.spec
-    (λ c κs. search needs) returns work-length-requires (λ c κs. search needs) returns-2)
+align-shape-refusal-spec = tie.close (tie.spec (λ c κs. search needs) returns align-lengths-requires returns-2)

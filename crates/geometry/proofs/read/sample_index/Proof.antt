@@ -2,7 +2,8 @@
 use Rattle.algebra.specs.Prelude.{refl, ℕ, _+_, _*_, _<_, arith}
 use native.Mathlib.Nat.{le-trans, mul-le-mul}
 use Rattle.geometry.specs.declared.Shape.{Shape}
-use Rattle.geometry.specs.Shape.{Allowed, sampleLength}
+use Rattle.geometry.specs.Shape.{sampleLength}
+use Rattle.geometry.specs.Fits.{Allowed}
 use Rattle.geometry.specs.ShapeLaws.{samples-most}
 use Rattle.geometry.specs.Read.{sampleIndex}
 use Rattle.geometry.specs.ReadLaws.{cell-below, index-below}

@@ -2,7 +2,7 @@
 use Rattle.algebra.specs.Prelude.{_≡_, refl, sym, subst, _+_, _-_, _*_, _/_, _%_, _≤_, arith, needs, length, now}
 use Rattle.geometry.specs.Shape.{sampleLength, outputLength}
 use Rattle.geometry.specs.ShapeLaws.{area-most, samples-most}
-use Rattle.plane_view.specs.ViewLaws.{part-room}
+use Rattle.geometry.specs.ReadLaws.{frame-room}
 use Rattle.recipe.specs.Tables.{windows}
 use Rattle.tiles.specs.Rows.{rowWords}
 use Rattle.merging.specs.Work.{Words, wordFrom}
@@ -29,7 +29,7 @@ room c =
     let r = c .pre .0 in
     let ok = r .sampled .allowed in
     let s = c .args .shape in
-    (row-room s (2 * c .args .y + c .args .plane .«row_parity») (omega (arith, r .row, r .planar, ok)), area-most ok, part-room s (now (c .args .samples)) (c .args .reference) (r .reference-below), samples-most ok)
+    (row-room s (2 * c .args .y + c .args .plane .«row_parity») (omega (arith, r .row, r .planar, ok)), area-most ok, frame-room s (c .args .reference) (r .reference-below), samples-most ok)
 
 long : (c : tie.Start Inv-loop μ-loop) → let s = c .args .shape in (length (now (c .args .output)) ≡ s .width * s .height) × (length (now (c .args .samples)) ≡ s .count * (s .width * s .height))
 unfolding outputLength sampleLength

@@ -2,7 +2,7 @@
 use Rattle.algebra.specs.Prelude.{sym, subst, _∙_, not, ℕ, _/_, _%_, _^_, arith, needs, T}
 use lib.Bits.{bitAnd}
 use lib.Ieee.{Float, nan, inf, fin, isNan, toBits, binary64}
-use Rattle.noise.specs.Level.{within}
+use Rattle.noise.specs.Within.{within}
 use Rattle.noise.proofs.Fields.{Told, told, joined}
 use Rattle.noise.proofs.level.floor_1024.Statement.{statement}
 use Rattle.noise.proofs.level.floor_1024.Tie as tie

@@ -3,6 +3,7 @@ use Rattle.algebra.specs.Prelude.{_≡_, sym, _∙_, _-_, _≤_, arith, needs, 
 use lib.Seq.{length-take-le}
 use Rattle.report.specs.Inner.{vectorRoom}
 use Rattle.report.proofs.Files.{front-is, front-length}
+use Rattle.geometry.specs.BoundLaws.{values-samples}
 use Rattle.report.proofs.Fits.{align-fits}
 use Rattle.report.proofs.motion.align_burst.Statement.{statement}
 use Rattle.report.proofs.motion.align_burst.Tie as tie
@@ -11,7 +12,7 @@ align-frames-requires : tie.Need-align-frames-requires
 align-frames-requires c κs =
     let start = c .before .before .before .before .before in
     let taken = start .pre .taken in
-    record { fits = align-fits taken (length-take-le _ (start .args .vectors .now) (omega (arith, taken .allowed .few))) (start .pre .work-room); samples-fit = taken .small }
+    record { fits = align-fits taken (length-take-le _ (start .args .vectors .now) (omega (arith, taken .allowed .few))) (start .pre .work-room); samples-fit = values-samples _ (taken .small) }
 
 returns : tie.Need-returns
 returns c =

@@ -1,6 +1,7 @@
 -- `report::stack::run_burst`: what the file check has tested is what a run from the levels asks for.
 use Rattle.algebra.specs.Prelude.{sym, arith, needs}
 use lib.Seq.{length-take-le}
+use Rattle.geometry.specs.BoundLaws.{values-samples}
 use Rattle.report.specs.Stack.{vectorsFound, frameOf}
 use Rattle.report.proofs.Fits.{merge-fits}
 use Rattle.report.proofs.stack.run_burst.Statement.{statement}
@@ -12,7 +13,7 @@ run-levels-requires c κs =
     let taken = start .pre .taken in
     record {
       fits = merge-fits taken (length-take-le _ (start .args .vectors .now) (omega (arith, taken .allowed .few))) (start .pre .work-room) (start .pre .output-room);
-      samples-fit = taken .small;
+      samples-fit = values-samples _ (taken .small);
       shot-most = taken .shot-most;
       read-most = taken .read-most;
       strength-most = taken .strength-most;

@@ -1,23 +1,25 @@
 -- `stacker::align::align`: a refusal returns before the first store; acceptance aligns and clears.
-use Rattle.algebra.specs.Prelude.{_∙_, needs}
+use Rattle.algebra.specs.Prelude.{sym, _∙_, needs}
 use Rattle.sequences.specs.Clear.{zeros-length}
-use Rattle.stacker.specs.CallLaws.{kept, made, answer-refused, answer-accepted}
+use Rattle.stacker.specs.AdmissionLaws.{align-passed}
+use Rattle.stacker.specs.CallLaws.{answer-refused, answer-accepted}
+use Rattle.refusals.specs.AfterLaws.{kept, made}
 use Rattle.stacker.proofs.align.align.Statement.{statement}
 use Rattle.stacker.proofs.align.align.Tie as tie
 
 returns : tie.Need-returns
 returns c =
-    let e = c .before .align-refusal .ensures .0 in
+    let e = c .before .align-refusal .ensures in
     let h = c .if1 .taken in
     record { answer = answer-refused _ _ e h; found = kept _ _ _ e h; clean = kept _ _ _ e h }
 
 align-frames-requires : tie.Need-align-frames-requires
-align-frames-requires c κs = c .before .before .before .align-refusal .ensures .1 (c .before .before .if1 .left)
+align-frames-requires c κs = align-passed _ _ _ _ _ (sym (c .before .before .before .align-refusal .ensures) ∙ c .before .before .if1 .left)
 
 returns-2 : tie.Need-returns-2
 returns-2 c =
     let tested = c .before .before .before .before .before .before .before .before in
-    let e = tested .before .align-refusal .ensures .0 in
+    let e = tested .before .align-refusal .ensures in
     let z = tested .if1 .left in
     let aligned = c .before .before .before .before .before .align-frames .ensures in
     record {

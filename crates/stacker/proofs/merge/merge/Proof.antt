@@ -1,28 +1,30 @@
 -- `stacker::merge::merge`: run's tests and 12, each returning before the first store; then the merge, and the clearing.
 use Rattle.algebra.specs.Prelude.{sym, ap₂, subst, _∙_, _≤_, needs}
 use Rattle.sequences.specs.Clear.{zeros-length}
-use Rattle.geometry.specs.RefusalLaws.{stops, goes}
+use Rattle.refusals.specs.TestLaws.{stops, goes, lone}
+use Rattle.geometry.specs.BoundLaws.{vectors-fit}
 use Rattle.recipe.specs.Scene.{sceneOf}
 use Rattle.recipe.specs.Merged.{merged}
-use Rattle.stacker.specs.Refusals.{mergeRefusal}
-use Rattle.stacker.specs.CallLaws.{kept, made}
+use Rattle.stacker.specs.Refusals.{vectorsRefusal}
+use Rattle.refusals.specs.AfterLaws.{kept, made}
+use Rattle.stacker.specs.AdmissionLaws.{run-passed}
 use Rattle.stacker.specs.CloseLaws.{output-close}
 use Rattle.stacker.proofs.merge.merge.Statement.{statement}
 use Rattle.stacker.proofs.merge.merge.Tie as tie
 
 returns : tie.Need-returns
-unfolding mergeRefusal
+unfolding vectorsRefusal
 returns c =
     let h = c .if1 .taken in
-    let e = stops _ (c .before .before .run-refusal .ensures .number) h in
+    let e = stops _ _ (c .before .before .run-refusal .ensures .number) h in
     record { answer = e; result = kept _ _ _ e h; clean = kept _ _ _ e h; near = λ z. absurd (h z) }
 
 returns-2 : tie.Need-returns-2
-unfolding mergeRefusal
+unfolding vectorsRefusal
 returns-2 c =
     let h = c .if2 .taken in
     let passed = c .before .before in
-    let e = goes (passed .before .before .run-refusal .ensures .number) (passed .if1 .left) (c .before .vector-refusal .ensures .0) in
+    let e = goes _ _ (passed .before .before .run-refusal .ensures .number) (passed .if1 .left) (c .before .vector-refusal .ensures ∙ lone _) in
     record { answer = e; result = kept _ _ _ e h; clean = kept _ _ _ e h; near = λ z. absurd (h z) }
 
 merge-frames-requires : tie.Need-merge-frames-requires
@@ -31,11 +33,11 @@ merge-frames-requires c κs =
     let passed = lent .before .before in
     let tested = passed .before .before .run-refusal .ensures in
     let z = passed .if1 .left in
-    let ready = tested .passed z in (
+    let ready = run-passed _ _ _ _ _ _ _ _ (sym (tested .number) ∙ z) in (
       record {
         burst = ready .fits .burst;
         samples-fit = ready .samples-fit;
-        vectors-fit = lent .before .vector-refusal .ensures .1 (lent .if2 .left);
+        vectors-fit = vectors-fit _ (sym (lent .before .vector-refusal .ensures) ∙ lent .if2 .left);
         shot-most = subst (λ n. n ≤ 65536) (sym (tested .shot-is z)) (ready .shot-most);
         read-most = subst (λ n. n ≤ 4194304) (sym (tested .read-is z)) (ready .read-most);
         strength-most = ready .strength-most;
@@ -45,7 +47,7 @@ merge-frames-requires c κs =
     )
 
 returns-3 : tie.Need-returns-3
-unfolding mergeRefusal
+unfolding vectorsRefusal
 returns-3 c =
     let merge = c .before .before .before .before .before .before in
     let lent = merge .before .before .before in
@@ -53,13 +55,13 @@ returns-3 c =
     let tested = passed .before .before .run-refusal .ensures in
     let a = passed .before .before .before .before .before .before .before .args in
     let z = passed .if1 .left in
-    let e = goes (tested .number) z (lent .before .vector-refusal .ensures .0) in
+    let e = goes _ _ (tested .number) z (lent .before .vector-refusal .ensures ∙ lone _) in
     let is = merge .merge-frames .ensures ∙ ap₂ (λ shot read. merged (sceneOf (record { shape = a .shape; reference = a .reference; shot = shot; read = read; tuning = a .tuning }) (a .samples .now) (a .vectors .now))) (tested .shot-is z) (tested .read-is z) in
     record {
       answer = sym (lent .if2 .left) ∙ e;
       result = made _ _ _ e (lent .if2 .left) is;
       clean = made _ _ _ e (lent .if2 .left) (c .before .clear .ensures ∙ zeros-length _ _ (search needs));
-      near = λ _. output-close _ _ _ _ (tested .passed z .fits .burst .allowed .few) is;
+      near = λ _. output-close _ _ _ _ (run-passed _ _ _ _ _ _ _ _ (sym (tested .number) ∙ z) .fits .burst .allowed .few) is;
     }
 
 pub merge-spec : {M : Type 1} → statement M

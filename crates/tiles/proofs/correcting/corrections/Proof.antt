@@ -23,8 +23,7 @@ loop-holds c = sum-start refl (omega arith) (c .before .before .pre .cleared)
 difference-requires : tie.Need-difference-requires Inv-loop μ-loop
 difference-requires c κs =
     let s = c .before .before .before .before .before .before in
-    let fit = s .pre .accepted .samples-fit in
-    (tile-fits _ (reference-most (s .args .m) (now (s .args .vectors)) fit _ _ _ _) (s .pre .tile .is), tile-fits _ (other-most (s .args .m) (now (s .args .vectors)) fit _ _ _ _ _) (c .before .other-tile .ensures))
+    (tile-fits _ (reference-most (s .pre .accepted) (s .pre .sited)) (s .pre .tile .is), tile-fits _ (other-most (s .pre .accepted) (s .pre .sited) (c .before .before .before .loop .k) (omega arith)) (c .before .other-tile .ensures))
 
 difference-is : (c : tie.After-difference Inv-loop μ-loop) → let a = c .before .before .before .before .before .before .before .args in
     c .difference .result ≡ grid 16 16 (difference (sceneOf (a .m) (now (a .samples)) (now (a .vectors))) (a .site .«row_parity») (a .site .«column_parity») (a .site .row) (a .site .column) (c .before .before .before .before .loop .k))
@@ -38,7 +37,7 @@ add-correction-requires c κs =
     let d = c .before in
     let l = d .before .before .before .before in
     let s = l .before .before .before in
-    (subst (TileMost differenceMost) (sym (difference-is d)) (tile-most (s .args .m) (now (s .args .vectors)) (s .pre .accepted .samples-fit) _ _ _ _ _), s .pre .tile .most, sum-small (l .loop .inv), sum-square (l .loop .inv))
+    (subst (TileMost differenceMost) (sym (difference-is d)) (tile-most (s .pre .accepted) (s .pre .sited) (l .loop .k) (omega arith)), s .pre .tile .most, sum-small (l .loop .inv), sum-square (l .loop .inv))
 
 loop-again : tie.Need-loop-again Inv-loop μ-loop
 unfolding sceneOf
@@ -47,7 +46,7 @@ loop-again c =
     let l = d .before .before .before .before in
     let s = l .before .before .before in
     sum-turn (l .loop .inv) (omega arith) (s .pre .tile .number) (difference-is d) (c .add-correction .ensures)
-    (correction-most _ _ (difference-most (s .args .m) (now (s .args .vectors)) (s .pre .accepted .samples-fit) _ _ _ _ (l .loop .k)))
+    (correction-most _ _ (difference-most (s .pre .accepted) (s .pre .sited) (l .loop .k) (omega arith)))
 
 returns : tie.Need-returns Inv-loop μ-loop
 unfolding sceneOf

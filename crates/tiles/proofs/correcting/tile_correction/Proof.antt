@@ -9,17 +9,17 @@ use Rattle.transform.specs.Magnitudes.{noiseMost}
 use Rattle.recipe.specs.declared.Merge.{Merge}
 use Rattle.tiles.specs.declared.Site.{Site}
 use Rattle.recipe.specs.Scene.{sceneOf, tileAt, referenceTile, tileNoise}
-use Rattle.tiles.specs.Accepted.{Accepted}
+use Rattle.tiles.specs.Accepted.{Accepted, Sited}
 use Rattle.tiles.specs.Sum.{TileOf}
 use Rattle.tiles.proofs.Differences.{reference-most}
 use Rattle.tiles.proofs.Summing.{zero-summed}
 use Rattle.tiles.proofs.correcting.tile_correction.Statement.{statement}
 use Rattle.tiles.proofs.correcting.tile_correction.Tie as tie
 
-module _ {m : Merge} {samples : List ℕ} {vectors : List ℤ} (ok : Accepted m samples vectors) (t : Site) where
+module _ {m : Merge} {samples : List ℕ} {vectors : List ℤ} (ok : Accepted m samples vectors) {t : Site} (sited : Sited (m .shape) t) where
   noise-most : tileNoise (sceneOf m samples vectors) (t .«row_parity») (t .«column_parity») (t .row) (t .column) ≤ noiseMost
   unfolding tileNoise sceneOf side16
-  noise-most = noise-number-bound (ok .strength-most) (ok .shot-most) (ok .read-most) (tile-root-bound 16 4095 _ (λ i j _ _. reference-most m vectors (ok .samples-fit) (t .«row_parity») (t .«column_parity») (t .row) (t .column) i j))
+  noise-most = noise-number-bound (ok .strength-most) (ok .shot-most) (ok .read-most) (tile-root-bound 16 4095 _ (λ i j _ _. reference-most ok sited i j))
 
   tile-of : {t0 : List (List ℕ)} {noise : ℕ} → t0 ≡ grid 16 16 (tileAt side16 (m .shape .height) (m .shape .width) (t .«row_parity») (t .«column_parity») (sampleAt (m .shape) samples (m .reference)) (pos 0) (pos 0) (t .row) (t .column))
       → noise ≡ noiseNumber side16 (m .tuning .strength) (m .shot) (m .read) (tileRoot 16 (cell 0 t0)) → TileOf (sceneOf m samples vectors) t t0 noise
@@ -30,7 +30,7 @@ module _ {m : Merge} {samples : List ℕ} {vectors : List ℤ} (ok : Accepted m 
       number = v ∙ ap (noiseNumber side16 (m .tuning .strength) (m .shot) (m .read)) (tile-root-cong 16 _ _ (λ i j h k. ap (λ x. cell 0 x i j) e ∙ cell-grid 0 16 16 _ i j h k))
 
 known : (c : tie.After-tile-noise) → let a = c .before .before .before .before .args in TileOf (sceneOf (a .m) (now (a .samples)) (now (a .vectors))) (a .site) (c .before .tile .result) (c .tile-noise .result)
-known c = let s = c .before .before .before .before in tile-of (s .pre .accepted) (s .args .site) (c .before .tile .ensures) (c .tile-noise .ensures)
+known c = let s = c .before .before .before .before in tile-of (s .pre .accepted) (s .pre .sited) (c .before .tile .ensures) (c .tile-noise .ensures)
 
 returns : tie.Need-returns
 returns c = zero-summed (sym (known (c .before) .number) ∙ c .if1 .taken) (c .before .before .before .before .before .pre .cleared)

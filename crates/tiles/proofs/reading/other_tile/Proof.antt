@@ -1,7 +1,7 @@
 -- The tile of the frame that the index names, moved by the vector that stands at its place.
 use Rattle.algebra.specs.Prelude.{_≡_, _∙_, List, ℕ, _+_, needs, getD, ℤ, pos, w32, toZ, ofZ, toZ-ofZ, now}
 use Rattle.algebra.specs.Bound.{AtMost, most-fits}
-use Rattle.geometry.specs.Bounds.{VectorsFit}
+use Rattle.geometry.specs.Fits.{VectorsFit}
 use Rattle.geometry.specs.Read.{sampleAt}
 use Rattle.geometry.specs.Vectors.{otherFrame, vectorPlace, downAt, rightAt}
 use Rattle.sequences.specs.Grid.{grid}

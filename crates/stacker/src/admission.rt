@@ -1,12 +1,9 @@
 // The tests of the calls.
 ghost use mathlib.Core.Path.{_≡_};
-ghost use Prim.Native.Nat.{_≤_};
-ghost use Rattle.geometry.specs.Refusal.{_before_};
-ghost use Rattle.geometry.specs.Read.{Sampled};
-ghost use Rattle.geometry.specs.Bounds.{sampleRefusal, SamplesFit};
-ghost use Rattle.noise.specs.Levels.{strengthRefusal};
-ghost use Rattle.alignment.specs.Aligned.{Ready};
-ghost use Rattle.stacker.specs.Refusals.{alignRefusal, RunTested};
+ghost use Rattle.refusals.specs.Tests.{first};
+ghost use Rattle.geometry.specs.Fits.{Sampled};
+ghost use Rattle.stacker.specs.Refusals.{alignRefusal, contentTests};
+ghost use Rattle.stacker.specs.Admission.{RunTested};
 use geometry::Shape;
 use noise::Levels;
 use noise::Noise;
@@ -20,7 +17,7 @@ pub fn align_refusal(
     vectors: &[i32],
     work: &[i64],
 ) -> u64
-    ensures { λ r. ⌜ (r ≡ alignRefusal shape reference (now (samples .entry)) (now (vectors .entry)) (now (work .entry))) × (r ≡ 0 → Ready shape reference (now (samples .entry)) (now (vectors .entry)) (now (work .entry))) ⌝ }
+    ensures { λ r. ⌜ r ≡ alignRefusal shape reference (now (samples .entry)) (now (vectors .entry)) (now (work .entry)) ⌝ }
 {
     let lengths = geometry::order::align_shape_refusal(
         shape,
@@ -36,15 +33,16 @@ pub fn align_refusal(
 }
 
 // Tests 10 and 11.
-fn content_refusal(shape: Shape, strength: u64, samples: &[u16]) -> u64
+fn content_refusal(shape: Shape, tuning: Tuning, samples: &[u16]) -> u64
     requires { ⌜ Sampled shape (now samples) ⌝ }
-    ensures { λ r. ⌜ (r ≡ strengthRefusal strength before sampleRefusal shape (now (samples .entry))) × (r ≡ 0 → (strength ≤ 1024) × SamplesFit (now (samples .entry))) ⌝ }
+    ensures { λ r. ⌜ r ≡ first (contentTests shape tuning (now (samples .entry))) ⌝ }
 {
-    let tuned = noise::strength_refusal(strength);
-    if tuned != 0 {
-        return tuned;
-    }
-    geometry::bounds::sample_refusal(shape, samples)
+    refusals::first(
+        &[
+            noise::strength_refusal(tuning.strength),
+            geometry::bounds::sample_refusal(shape, samples),
+        ],
+    )
 }
 
 // A refusal's number, or 0 with the levels Ls and Lr.
@@ -89,7 +87,7 @@ pub fn run_refusal(
             read: 0,
         },
         Levels::Found { shot, read } => Tested {
-            refusal: content_refusal(shape, tuning.strength, samples),
+            refusal: content_refusal(shape, tuning, samples),
             shot,
             read,
         },

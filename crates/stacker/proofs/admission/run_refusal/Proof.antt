@@ -1,22 +1,22 @@
--- `stacker::tests::run_refusal`: 1 to 7 in one call, 8 and 9 by the levels found or refused, then 10 and 11.
+-- `stacker::admission::run_refusal`: 1 to 7 in one call, 8 and 9 by the levels found or refused, then 10 and 11.
 use Rattle.algebra.specs.Prelude.{_≡_, refl, sym, ap, _∙_, needs}
-use Rattle.geometry.specs.RefusalLaws.{stops, goes}
+use Rattle.refusals.specs.TestLaws.{stops, goes}
 use Rattle.noise.specs.declared.Levels.the-variants.{Found, Refused}
 use Rattle.noise.specs.Levels.{levelsOf, refusalOf, shotLevel, readLevel}
-use Rattle.noise.specs.LevelLaws.{shot-level-bound, read-level-bound, refused-above}
-use Rattle.stacker.specs.Refusals.{runRefusal}
-use Rattle.stacker.proofs.tests.run_refusal.Statement.{statement}
-use Rattle.stacker.proofs.tests.run_refusal.Tie as tie
+use Rattle.geometry.specs.OrderLaws.{merge-fits}
+use Rattle.noise.specs.LevelLaws.{levels-number, refused-above}
+use Rattle.stacker.specs.Refusals.{runTests}
+use Rattle.stacker.proofs.admission.run_refusal.Statement.{statement}
+use Rattle.stacker.proofs.admission.run_refusal.Tie as tie
 
 returns : tie.Need-returns
-unfolding runRefusal
+unfolding runTests
 returns c =
     let h = c .if1 .taken in
     record {
-      number = stops _ (c .before .merge-shape-refusal .ensures .0) h;
+      number = stops _ _ (c .before .merge-shape-refusal .ensures) h;
       shot-is = λ z. absurd (h z);
       read-is = λ z. absurd (h z);
-      passed = λ z. absurd (h z);
     }
 
 -- the levels that the match bound are the noise's
@@ -29,41 +29,30 @@ refused c = sym (c .before .before .levels-of .ensures) ∙ c .number .given .1
 content-refusal-requires : tie.Need-content-refusal-requires
 content-refusal-requires c κs =
     let tested = c .before .before .before .before in
-    let burst = tested .before .merge-shape-refusal .ensures .1 (tested .if1 .left) .burst in
+    let burst = merge-fits _ _ _ _ _ _ (sym (tested .before .merge-shape-refusal .ensures) ∙ tested .if1 .left) .burst in
     record { allowed = burst .allowed; long = burst .samples-long }
 
 returns-2 : tie.Need-returns-2
-unfolding runRefusal
+unfolding runTests
 returns-2 c =
     let tested = c .before .before .before .before in
     let told = refused (c .before) in
     let h = refused-above _ _ told in
     record {
-      number = goes (tested .before .merge-shape-refusal .ensures .0) (tested .if1 .left) (stops _ (sym (ap refusalOf told)) h);
+      number = goes _ _ (tested .before .merge-shape-refusal .ensures) (tested .if1 .left) (stops _ _ (sym (ap refusalOf told) ∙ levels-number _) h);
       shot-is = λ z. absurd (h z);
       read-is = λ z. absurd (h z);
-      passed = λ z. absurd (h z);
     }
 
 returns-3 : tie.Need-returns-3
-unfolding runRefusal
+unfolding runTests
 returns-3 c =
     let tested = c .before .before .before .before .before in
-    let fits = tested .before .merge-shape-refusal .ensures in
     let told = bound (c .before .before) in
-    let content = c .content-refusal .ensures in
     record {
-      number = goes (fits .0) (tested .if1 .left) (goes (sym (ap refusalOf told)) refl (content .0));
+      number = goes _ _ (tested .before .merge-shape-refusal .ensures) (tested .if1 .left) (goes _ _ (sym (ap refusalOf told) ∙ levels-number _) refl (c .content-refusal .ensures));
       shot-is = λ z. sym (ap shotLevel told);
       read-is = λ z. sym (ap readLevel told);
-      passed = λ z.
-          record {
-            fits = fits .1 (tested .if1 .left);
-            samples-fit = content .1 z .1;
-            shot-most = shot-level-bound _;
-            read-most = read-level-bound _;
-            strength-most = content .1 z .0;
-          };
     }
 
 pub run-refusal-spec : {M : Type 1} → statement M

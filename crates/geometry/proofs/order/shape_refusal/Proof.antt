@@ -1,0 +1,12 @@
+-- Each test is its definition, so the first of them is.
+use borrow.Author.Needs.{needs}
+use Rattle.geometry.specs.Order.{shapeTests}
+use Rattle.geometry.proofs.order.shape_refusal.Statement.{statement}
+use Rattle.geometry.proofs.order.shape_refusal.Tie as tie
+
+returns : tie.Need-returns
+unfolding shapeTests
+returns c = cc
+
+pub shape-refusal-spec : {M : Type 1} → statement M
+shape-refusal-spec = tie.close (tie.spec (λ c κs. search needs) (λ c κs. search needs) (λ c. search needs) (λ c κs. search needs) returns)

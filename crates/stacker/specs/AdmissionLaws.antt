@@ -1,0 +1,46 @@
+-- What a call's tests let through: each fact is that of one test, found in the list wherever it stands.
+use Rattle.algebra.specs.Prelude.{_≡_, List, ℕ, length, ℤ}
+use Rattle.refusals.specs.TestLaws.{among, passed, both-passed}
+use Rattle.geometry.specs.declared.Shape.{Shape}
+use Rattle.geometry.specs.Order.{alignShapeTests, mergeShapeTests}
+use Rattle.geometry.specs.OrderLaws.{align-fits, merge-fits}
+use Rattle.geometry.specs.Bounds.{vectorRefusal}
+use Rattle.geometry.specs.BoundLaws.{samples-fit}
+use Rattle.noise.specs.declared.Noise.{Noise}
+use Rattle.noise.specs.Levels.{noiseTests}
+use Rattle.noise.specs.LevelLaws.{shot-level-bound, read-level-bound, strength-most}
+use Rattle.alignment.specs.Aligned.{Ready}
+use Rattle.pipeline.specs.Levels.{Runnable}
+use Rattle.recipe.specs.declared.Tuning.{Tuning}
+use Rattle.stacker.specs.Refusals.{alignRefusal, contentTests, runTests, runRefusal, vectorsRefusal, mergeOf}
+
+module _ (s : Shape) (reference : ℕ) (samples : List ℕ) (vectors : List ℤ) where
+  pub align-passed : (work : List ℤ) → alignRefusal s reference samples vectors work ≡ 0 → Ready s reference samples vectors work
+  unfolding alignRefusal
+  align-passed work e =
+      let both = both-passed (alignShapeTests s reference (length samples) (length vectors) (length work)) _ e in
+      let fits = align-fits s reference (length samples) (length vectors) (length work) (both .0) in
+      record { fits = fits; samples-fit = samples-fit s samples (passed (both .1) (search among)) }
+
+  module _ (noise : Noise) (tuning : Tuning) (output : List ℕ) (work : List ℤ) where
+    pub run-passed : runRefusal s reference noise tuning samples vectors output work ≡ 0 → Runnable (mergeOf s reference noise tuning) samples vectors output work
+    unfolding runTests contentTests
+    run-passed e =
+        let both = both-passed (mergeShapeTests s reference (length samples) (length vectors) (length output) (length work)) _ e in
+        let content = both-passed (noiseTests noise) (contentTests s tuning samples) (both .1) .1 in
+        let fits = merge-fits s reference (length samples) (length vectors) (length output) (length work) (both .0) in
+        record {
+          fits = fits;
+          samples-fit = samples-fit s samples (passed content (search among));
+          shot-most = shot-level-bound noise;
+          read-most = read-level-bound noise;
+          strength-most = strength-most (tuning .strength) (passed content (search among));
+        }
+
+    -- 12 comes last
+    pub vectors-passed : (merging : List ℤ) → vectorsRefusal s reference noise tuning samples vectors output work merging ≡ 0 →
+        (runRefusal s reference noise tuning samples vectors output work ≡ 0) × (vectorRefusal merging ≡ 0)
+    unfolding vectorsRefusal
+    vectors-passed merging e =
+        let both = both-passed (runTests s reference noise tuning samples vectors output work) _ e in
+        (both .0, passed (both .1) (search among))
