@@ -1,4 +1,5 @@
 pub mod Fractions
+pub mod Numbers
 pub mod Wholes
 pub mod RelativeError
 pub mod NearestWhole

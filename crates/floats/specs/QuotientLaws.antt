@@ -1,12 +1,13 @@
 -- A quotient V·q/D to nearest, halves away from zero, by one division in double and one product, where V·|q| is at most 2^48: with W = V·(1 + 2^−50), rounded,
 -- x = q·(W/D) lies above V·q/D, by less than one part in 2^49, so that a half moves away from zero and what is below a half, by 1/(2·D) at least, stays below.
-use Rattle.algebra.specs.Prelude.{_≡_, refl, sym, ap, subst, _∙_, Bool, true, false, ℕ, zero, suc, _+_, _*_, _/_, _^_, _≤_, _<_, arith, lit<, lit≤, ℤ, pos, negsuc, natAbs, _*ℤ_}
+use Rattle.algebra.specs.Prelude.{_≡_, not, T, refl, sym, ap, subst, _∙_, Bool, true, false, ℕ, zero, suc, _+_, _*_, _/_, _^_, _≤_, _<_, arith, lit<, lit≤, ℤ, pos, negsuc, natAbs, _*ℤ_}
 use native.Mathlib.Nat.{mul-pos, mul-one, one-mul, mul-le-mul-left, mul-le-mul-right, mul-lt-mul-of-pos-right, lt-of-lt-of-le, lt-of-mul-lt-mul-left, lt-of-mul-lt-mul-right, div-add-mod', div-eq-of-lt, mod-lt}
-use lib.Ieee.{Float, fin, binary64, round, mul, div, ofInt, unlike}
+use lib.Ieee.{Float, fin, binary64, round, mul, div, ofInt, unlike, isNan}
 use lib.Ieee.Scale.{round-same}
 use Rattle.algebra.specs.Nearest.{away, away-odd}
 use Rattle.floats.specs.Fractions.{Is, product-rounded, quotient-rounded}
-use Rattle.floats.specs.Wholes.{Whole, rounded-whole, whole-of}
+use Rattle.floats.specs.Wholes.{Whole, negative, rounded-whole, whole-of}
+use Rattle.floats.specs.Numbers.{round-number}
 use Rattle.floats.specs.RelativeError.{Rounded, rounded}
 use Rattle.floats.specs.NearestWhole.{Closer}
 use Rattle.floats.specs.LastBits.{lastBits, last-bits}
@@ -104,6 +105,11 @@ module _ {v d : ℕ} {y z : Float} (p : Whole y false v) (r : Whole z false d) (
 
         upper : (A B m n x e : ℕ) → A * (x * (n * d)) ≤ B * (q * (v * m) * e) → A * n * (x * d) ≤ B * m * (v * q * e)
         upper A B m n x e h = omega (arith, h)
+
+  pub quotient-number : (q : ℤ) → natAbs q ≤ 2 ^ 53 → T (not (isNan (mul binary64 (ofInt binary64 q) (div binary64 (mul binary64 y slightlyMore) z))))
+  quotient-number q m =
+      rw (product-rounded binary64 (whole-of binary64 q m) (lit< tt) (ratio .is) (ratio .above))
+      (round-number binary64 (unlike (negative q) false) (natAbs q * ratio .num) (1 * ratio .den))
 
   -- halves away from zero, with q's sign; a q of 0 gives 0
   pub quotient-away : (q : ℤ) → natAbs q ≤ 2 ^ 53 → v * natAbs q ≤ 2 ^ 48 → (2 * (v * natAbs q) + d) / (2 * d) < 2 ^ 15

@@ -1,8 +1,9 @@
 -- Floats that are whole numbers: a sum and a product are exact as far as the format counts without a gap, and from 2^(prec − 1) on the bits count them.
-use Rattle.algebra.specs.Prelude.{_≡_, ap, _∙_, Bool, true, false, ℕ, suc, _+_, _-_, _*_, _/_, _^_, _≤_, _<_, arith, lit<, ℤ, pos, negsuc, natAbs}
-use native.Mathlib.Nat.{mul-div-cancel, lt-of-not-le, lt-of-lt-of-le, not-le-of-lt, mul-lt-mul-of-pos-right, mul-le-mul-right}
+use Rattle.algebra.specs.Prelude.{_≡_, sym, ap₂, subst, not, T, ap, _∙_, Bool, true, false, ℕ, suc, _+_, _-_, _*_, _/_, _^_, _≤_, _<_, arith, lit<, ℤ, pos, negsuc, natAbs}
+use native.Mathlib.Nat.{mul-pos, le-of-mul-le-mul-right, mul-div-cancel, lt-of-not-le, lt-of-lt-of-le, not-le-of-lt, mul-lt-mul-of-pos-right, mul-le-mul-right}
+use lib.Dec.{nltb→le}
 use lib.Pow.{pow-add, pow-pos, pow-mono}
-use lib.Ieee.{Float, Format, prec, low, up, down, size, hid, unlike, round, add, mul, ofInt, toBits}
+use lib.Ieee.{Float, Format, prec, low, up, down, size, hid, unlike, round, add, mul, lt, ofInt, toBits}
 use lib.Ieee.Digits.{size-lt, size-le}
 use lib.Ieee.Fits.{down-pos, two}
 use lib.Ieee.Back.{round-whole}
@@ -34,6 +35,18 @@ module _ (f : Format) where
     whole-sum e h =
         let n : a * 1 + b * 1 ≡ a + b = omega arith in
         rw (sum-rounded f p (lit< tt) q (lit< tt) e ∙ ap (λ n. round f s n 1) n) (rounded-whole s (a + b) h)
+
+-- ---- the order
+
+pub not-below : {x : Float} {a : ℕ} → Whole x false a → {y : Float} {b : ℕ} → Whole y false b → lt x y ≡ false → b ≤ a
+unfolding lt
+not-below {x} {a} p {y} {b} q h =
+    let d = down (p .exponent) in
+    let e = down (q .exponent) in
+    let m = p .digits * up (p .exponent) * e in
+    let n = q .digits * up (q .exponent) * d in
+    let l : n ≤ m = nltb→le m n (subst (λ b. T (not b)) (sym (sym (ap₂ lt (p .is) (q .is)) ∙ h)) tt) in
+    le-of-mul-le-mul-right (omega (arith, l, ap (λ z. z * e) (p .value), ap (λ z. z * d) (q .value))) (mul-pos (down-pos (p .exponent)) (down-pos (q .exponent)))
 
 -- ---- how many digits, and the bits
 

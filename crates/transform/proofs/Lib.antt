@@ -1,4 +1,3 @@
-pub mod FloatLaws
 pub mod Sums
 pub mod ColumnLaws
 pub mod QuotientLaws

@@ -11,6 +11,7 @@ use Rattle.recipe.specs.Correction.{wiener, quantized, filtered}
 use Rattle.transform.specs.Magnitudes.{binMost, gainMost}
 use Rattle.lines.specs.Lines.{LineMost}
 use Rattle.transform.specs.Spectrum.{BinsMost, transposed, quadOf, twoBins, foldedQuad, spread, gainRe, gainIm}
+use Rattle.transform.specs.FloatQuotient.{shrunk}
 use Rattle.transform.specs.Slots.{Slots, slotRe, slotIm, slotQuad}
 use Rattle.transform.specs.RoundingLaws.{away-most}
 use Rattle.transform.specs.WienerLaws.{wiener-most}
@@ -91,7 +92,7 @@ module _ {t : List (List ℤ)} (m : BinsMost t) where
 -- ---- G
 
 -- one part of it, from that part x of Q and the other part y
-module _ (noise : ℕ) (x y : List ℤ) {g : List ℤ} (e : g ≡ tab 128 (λ i. wiener noise (getD x i (pos 0)) (getD y i (pos 0)))) where
+module _ (noise : ℕ) (x y : List ℤ) {g : List ℤ} (e : g ≡ shrunk noise x y) where
   pub shrunk-most : LineMost gainMost x → LineMost gainMost g
   shrunk-most m =
       subst (LineMost gainMost) (sym e) (line-most gainMost _ (λ i. le-trans (wiener-most noise (getD x i (pos 0)) (getD y i (pos 0))) (m .at i)) 128)
@@ -106,7 +107,7 @@ module _ (noise : ℕ) (t : ℕ → ℕ → ℤ) where
   abbrev Quad : (v u : ℕ) → List ℤ
   Quad = quadOf (spread (gainRe noise t) (gainIm noise t))
 
-  module _ {re im g h c : List ℤ} (p : re ≡ tab 128 (slotRe t)) (q : im ≡ tab 128 (slotIm t)) (a : g ≡ tab 128 (λ i. wiener noise (getD re i (pos 0)) (getD im i (pos 0)))) (b : h ≡ tab 128 (λ i. wiener noise (getD im i (pos 0)) (getD re i (pos 0)))) (e : c ≡ Quad 0 0) (v u : ℕ) (k : v < 8) (l : u < 8) where
+  module _ {re im g h c : List ℤ} (p : re ≡ tab 128 (slotRe t)) (q : im ≡ tab 128 (slotIm t)) (a : g ≡ shrunk noise re im) (b : h ≡ shrunk noise im re) (e : c ≡ Quad 0 0) (v u : ℕ) (k : v < 8) (l : u < 8) where
     abbrev f : ℤ → ℤ → ℤ
     f = filtered side16 noise
 

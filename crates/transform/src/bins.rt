@@ -99,8 +99,7 @@ pub fn filter(t: &[[i64; 16]; 16], noise: u64, r: &mut [[i32; 16]; 16])
     parts(t, &mut re, &mut im);
     let mut g = [0i32; 128];
     let mut h = [0i32; 128];
-    quotients::shrink(noise, &re, &im, &mut g);
-    quotients::shrink(noise, &im, &re, &mut h);
+    quotients::shrink(noise, &re, &im, &mut g, &mut h);
     let c = quads::quad(t, noise, 0, 0);
     store(c, &g, &h, &mut *r);
 }

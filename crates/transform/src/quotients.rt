@@ -1,63 +1,79 @@
-// The Wiener step's quotients V·q/(q² + r² + V) of a line, by division in double precision, which the compiler does two at a time. Up to the division each
-// number is a whole number below 2^53, and so exact; the quotient is rounded once, and rounding keeps the order. So a whole number that is within a half of
-// the rounded quotient is the one nearest to the quotient. Where one is not sure, practically at a tie, the line is divided in whole numbers.
+// The Wiener step's quotients V·q/(q² + r² + V) of all bins, by one division in double precision for each bin, which the compiler does two at a time. V is
+// taken larger by one part in 2^50, so that roundings leave q·(V/(q² + r² + V)) above the quotient, too little for anything but a half to be rounded otherwise:
+// where V·|q| is at most 2^48, the whole number nearest to it is the quotient to nearest, halves away from zero. Where a bin is larger than that, all are divided in whole
+// numbers.
 use crate::filter::wiener_part;
 ghost use mathlib.Core.Path.{_≡_};
 ghost use mathlib.Core.Bool.{true, not, cond};
 ghost use Prim.Native.Nat.{_≤_, _<_};
 ghost use lib.Dec.{T};
-ghost use lib.IntN.{pos};
-ghost use lib.ListN.{length, getD};
-ghost use lib.Ieee.{isNan};
+ghost use lib.ListN.{length};
+ghost use lib.Ieee.{isNan, lt};
 ghost use Rattle.algebra.specs.Bound.{AtMost};
-ghost use Rattle.sequences.specs.Tab.{tab};
 ghost use Rattle.recipe.specs.Correction.{wiener};
-ghost use Rattle.transform.specs.FloatQuotient.{floatQuotient, sure};
+ghost use Rattle.transform.specs.FloatQuotient.{SmallBins, shrunk, floatPower, floatQuotient, floatPart, powerMost};
 ghost use Rattle.transform.specs.Magnitudes.{gainMost, smallNoise};
-ghost use Rattle.lines.specs.Lines.{LineMost};
 
-// V·q/(q² + r² + V), from V as a double.
-fn quotient(v: f64, q: i32, r: i32) -> f64
-    ensures { λ y. ⌜ y ≡ floatQuotient v q r ⌝ }
+// The largest q² + r² + V with which V·|q| is sure to be at most 2^48.
+fn power_most(noise: u64) -> u64
+    requires { ⌜ 0 < noise ⌝ }
+    ensures { λ m. ⌜ m ≡ powerMost noise ⌝ }
+{
+    let n = 281474976710656 / noise;
+    if n < 33554432 {
+        return n * n;
+    }
+    1125899906842624
+}
+
+// q² + r² + V, from V as a double.
+fn power(v: f64, q: i32, r: i32) -> f64
+    ensures { λ d. ⌜ d ≡ floatPower v q r ⌝ }
 {
     let a = q as f64;
     let b = r as f64;
-    v * a / (a * a + b * b + v)
+    a * a + b * b + v
 }
 
-// A guess at the whole number nearest to y: the last 16 bits of y + 1.5·2^52. Nothing is claimed of it but its size.
-fn guess(y: f64) -> i32
-    requires { ⌜ T (not (isNan y)) ⌝ }
-    ensures { λ g. ⌜ AtMost 32768 g ⌝ }
+// The whole number nearest to q·(w/d), from the last bits of its sum with 1.5·2^52 + 2^15.
+fn part(w: f64, d: f64, q: i32) -> i32
+    requires { ⌜ T (not (isNan (floatQuotient w d q))) ⌝ }
+    ensures { λ g. ⌜ g ≡ floatPart w d q ⌝ }
 {
-    ((f64::to_bits(y + 6755399441055744.0) & 65535) ^ 32768) as i32 - 32768
+    let x = q as f64 * (w / d);
+    (f64::to_bits(x + 6755399441088512.0) % 65536) as i32 - 32768
 }
 
-// 0 where y lies within a half of g, and 1 elsewhere.
-fn unsure(y: f64, g: i32) -> u64
-    ensures { λ r. ⌜ (r ≡ cond (sure y g) 0 1) × (r ≤ 1) ⌝ }
+// 1 where d is above the most, and 0 elsewhere.
+fn above(d: f64, most: f64) -> u64
+    ensures { λ r. ⌜ (r ≡ cond (lt most d) 1 0) × (r ≤ 1) ⌝ }
 {
-    let h = g as f64;
-    if y < h + 0.5 {
-        if h - 0.5 < y {
-            return 0;
-        }
+    if most < d {
+        return 1;
     }
-    1
+    0
 }
 
-// Guesses at the quotients. True says that each is right.
-fn guessed(noise: u64, re: &[i32; 128], im: &[i32; 128], out: &mut [i32; 128]) -> bool
-    requires { ⌜ (0 < noise) × (noise ≤ smallNoise) × (LineMost gainMost (now re)) × (LineMost gainMost (now im)) × (length (now out) ≡ 128) ⌝ }
-    ensures { λ r. ⌜ (length (now (out .exit)) ≡ 128) × (r ≡ true → now (out .exit) ≡ tab 128 (λ i. wiener noise (getD (now (re .entry)) i (pos 0)) (getD (now (im .entry)) i (pos 0)))) ⌝ }
+// Both parts of G at each bin, from those of Q. True says that each is right.
+fn divided(
+    noise: u64,
+    re: &[i32; 128],
+    im: &[i32; 128],
+    g: &mut [i32; 128],
+    h: &mut [i32; 128],
+) -> bool
+    requires { ⌜ record { bins : SmallBins noise (now re) (now im); g-long : length (now g) ≡ 128; h-long : length (now h) ≡ 128 } ⌝ }
+    ensures { λ r. ⌜ record { g-long : length (now (g .exit)) ≡ 128; h-long : length (now (h .exit)) ≡ 128; g-is : r ≡ true → now (g .exit) ≡ shrunk noise (now (re .entry)) (now (im .entry)); h-is : r ≡ true → now (h .exit) ≡ shrunk noise (now (im .entry)) (now (re .entry)) } ⌝ }
 {
     let v = noise as f64;
+    let w = v * 1.0000000000000008881784197001252;
+    let most = power_most(noise) as f64;
     let mut bad: u64 = 0;
     for i in 0..128 {
-        let y = quotient(v, re[i], im[i]);
-        let g = guess(y);
-        out[i] = g;
-        bad = bad + unsure(y, g);
+        let d = power(v, re[i], im[i]);
+        g[i] = part(w, d, re[i]);
+        h[i] = part(w, d, im[i]);
+        bad = bad + above(d, most);
     }
     bad == 0
 }
@@ -70,15 +86,24 @@ fn exact(noise: u64, q: i32, r: i32) -> i32
     wiener_part(noise, q as i64, r as i64) as i32
 }
 
-// One part of G for each number of a line, from that part of Q and the other part.
-pub fn shrink(noise: u64, re: &[i32; 128], im: &[i32; 128], out: &mut [i32; 128])
-    requires { ⌜ (0 < noise) × (noise ≤ smallNoise) × (LineMost gainMost (now re)) × (LineMost gainMost (now im)) × (length (now out) ≡ 128) ⌝ }
-    ensures { λ _. ⌜ now (out .exit) ≡ tab 128 (λ i. wiener noise (getD (now (re .entry)) i (pos 0)) (getD (now (im .entry)) i (pos 0))) ⌝ }
+// The same for one part at each bin, from that part of Q and the other part.
+fn exact_line(noise: u64, re: &[i32; 128], im: &[i32; 128], out: &mut [i32; 128])
+    requires { ⌜ (SmallBins noise (now re) (now im)) × (length (now out) ≡ 128) ⌝ }
+    ensures { λ _. ⌜ now (out .exit) ≡ shrunk noise (now (re .entry)) (now (im .entry)) ⌝ }
 {
-    if guessed(noise, re, im, out) {
-        return;
-    }
     for i in 0..128 {
         out[i] = exact(noise, re[i], im[i]);
     }
+}
+
+// Both parts of G at each bin, from those of Q.
+pub fn shrink(noise: u64, re: &[i32; 128], im: &[i32; 128], g: &mut [i32; 128], h: &mut [i32; 128])
+    requires { ⌜ record { bins : SmallBins noise (now re) (now im); g-long : length (now g) ≡ 128; h-long : length (now h) ≡ 128 } ⌝ }
+    ensures { λ _. ⌜ (now (g .exit) ≡ shrunk noise (now (re .entry)) (now (im .entry))) × (now (h .exit) ≡ shrunk noise (now (im .entry)) (now (re .entry))) ⌝ }
+{
+    if divided(noise, re, im, &mut *g, &mut *h) {
+        return;
+    }
+    exact_line(noise, re, im, &mut *g);
+    exact_line(noise, im, re, &mut *h);
 }

@@ -9,39 +9,33 @@ use Rattle.transform.proofs.bins.filter.Tie as tie
 
 shrink-requires : tie.Need-shrink-requires
 shrink-requires c κs =
-    let p = c .before .before .before in
+    let p = c .before .before .before .before in
     let s = p .before .before .before in
-    (s .pre .0, s .pre .1, re-most (s .pre .2) (p .parts .ensures .0), im-most (s .pre .2) (p .parts .ensures .1), refl)
-
-shrink-requires-2 : tie.Need-shrink-requires-2
-shrink-requires-2 c κs =
-    let p = c .before .before .before .before .before .before .before in
-    let s = p .before .before .before in
-    (s .pre .0, s .pre .1, im-most (s .pre .2) (p .parts .ensures .1), re-most (s .pre .2) (p .parts .ensures .0), refl)
+    record {
+      bins = record { above = s .pre .0; small = s .pre .1; first = re-most (s .pre .2) (p .parts .ensures .0); second = im-most (s .pre .2) (p .parts .ensures .1) };
+      g-long = refl;
+      h-long = refl;
+    }
 
 store-requires : tie.Need-store-requires
 store-requires c κs =
     let q = c .before .before .before in
-    let h = q .before in
-    let g = h .before .before .before .before in
-    let p = g .before .before .before .before in
+    let g = q .before in
+    let p = g .before .before .before .before .before in
     let s = p .before .before .before in
     let re = p .parts .last .1 .0 in
     let im = p .parts .last .1 .1 .0 in
-    (q .quad .ensures .1, shrunk-most (s .args .noise) re im (g .shrink .ensures) (re-most (s .pre .2) (p .parts .ensures .0)), shrunk-most (s .args .noise) im re (h .shrink2 .ensures) (im-most (s .pre .2) (p .parts .ensures .1)), s .pre .3)
+    (q .quad .ensures .1, shrunk-most (s .args .noise) re im (g .shrink .ensures .0) (re-most (s .pre .2) (p .parts .ensures .0)), shrunk-most (s .args .noise) im re (g .shrink .ensures .1) (im-most (s .pre .2) (p .parts .ensures .1)), s .pre .3)
 
 returns : tie.Need-returns
 returns c =
     let q = c .before .before .before .before in
-    let h = q .before in
-    let g = h .before .before .before .before in
-    let p = g .before .before .before .before in
+    let g = q .before in
+    let p = g .before .before .before .before .before in
     let s = p .before .before .before in
     let w = c .store .ensures in
-    let e = slot-quads (s .args .noise) (transposed (cell (pos 0) (now (s .args .t)))) (p .parts .ensures .0) (p .parts .ensures .1) (g .shrink .ensures) (h .shrink2 .ensures) (q .quad .ensures .0) in
+    let e = slot-quads (s .args .noise) (transposed (cell (pos 0) (now (s .args .t)))) (p .parts .ensures .0) (p .parts .ensures .1) (g .shrink .ensures .0) (g .shrink .ensures .1) (q .quad .ensures .0) in
     (quads-done w (omega arith) _ e, quads-most w (omega arith))
 
 pub filter-spec : {M : Type 1} → statement M
-filter-spec = tie.close (tie.spec
-    (λ c κs. search needs) shrink-requires shrink-requires-2 (λ c κs. search needs) store-requires
-    returns)
+filter-spec = tie.close (tie.spec (λ c κs. search needs) shrink-requires (λ c κs. search needs) store-requires returns)
