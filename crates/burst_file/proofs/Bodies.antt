@@ -10,7 +10,7 @@ use Rattle.geometry.specs.Shape.{sampleLength}
 use Rattle.geometry.specs.Fits.{Allowed}
 use Rattle.geometry.specs.OrderLaws.{frames-allowed}
 use Rattle.burst_file.specs.declared.Header.{Header}
-use Rattle.burst_file.specs.Grammar.{Burst}
+use Rattle.burst_file.specs.Burst.{Burst}
 use Rattle.burst_file.specs.Part.{Part, refused, found, numberOf, _then_, mapped}
 use Rattle.burst_file.specs.PartLaws.{both-sound, sound-at, sound-found}
 use Rattle.burst_file.specs.Line.{above}

@@ -4,7 +4,8 @@ use mathlib.Core.List.{List, []}
 use Prim.Native.Nat.{ℕ, _*_}
 use Rattle.geometry.specs.declared.Shape.{Shape}
 use Rattle.geometry.specs.Fits.{ValuesFit}
-use Rattle.burst_file.specs.Grammar.{Burst, BurstFile}
+use Rattle.burst_file.specs.Burst.{Burst}
+use Rattle.burst_file.specs.Grammar.{BurstFile}
 use Rattle.burst_file.specs.Part.{found, numberOf}
 use Rattle.burst_file.specs.PartLaws.{Sound, unless-sound, sound-at, sound-found, then-sound}
 use Rattle.burst_file.specs.Head.{headerRefusal, headOf}

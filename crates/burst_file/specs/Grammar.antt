@@ -1,9 +1,11 @@
--- The grammar of a burst file: which bytes are a file with which values, whatever the order of reading.
+-- The grammar of a burst file: which bytes are a file with which values, whatever the order of reading. No contract needs it: `sound` and `complete`
+-- (Acceptance) say of what the contracts read that it is this.
 use mathlib.Core.Path.{_≡_}
 use mathlib.Core.List.{List, [], _∷_, _++_}
 use Prim.Native.Nat.{ℕ, suc, _-_, _+_, _*_, _≤_}
 use lib.ListN.{length}
 use Rattle.burst_file.specs.declared.Header.{Header}
+use Rattle.burst_file.specs.Burst.{names, Burst}
 
 -- decimal digits: the bytes `0` to `9`
 pub data Digits : List ℕ → Type 0 where
@@ -43,18 +45,6 @@ pub record ValueLine (count : ℕ) (bytes values rest : List ℕ) : Type 0 where
 pub data Rows : (count width : ℕ) (bytes values rest : List ℕ) → Type 0 where
   noRow : {width : ℕ} {bytes : List ℕ} → Rows 0 width bytes [] bytes
   rowThen : {count width : ℕ} {bytes values between others rest : List ℕ} → ValueLine width bytes values between → Rows count width between others rest → Rows (suc count) width bytes (values ++ others) rest
-
--- "A line of names, `width height count reference shot read strength`", with its LF
-abbrev pub names : List ℕ
-names =
-    119 ∷ 105 ∷ 100 ∷ 116 ∷ 104 ∷ 32 ∷ 104 ∷ 101 ∷ 105 ∷ 103 ∷ 104 ∷ 116 ∷ 32 ∷ 99 ∷ 111 ∷ 117 ∷ 110 ∷ 116 ∷ 32
-    ∷ 114 ∷ 101 ∷ 102 ∷ 101 ∷ 114 ∷ 101 ∷ 110 ∷ 99 ∷ 101 ∷ 32 ∷ 115 ∷ 104 ∷ 111 ∷ 116 ∷ 32 ∷ 114 ∷ 101 ∷ 97 ∷ 100 ∷ 32
-    ∷ 115 ∷ 116 ∷ 114 ∷ 101 ∷ 110 ∷ 103 ∷ 116 ∷ 104 ∷ 10 ∷ []
-
--- what a file holds
-pub record Burst : Type 0 where
-  pub header : Header
-  pub samples : List ℕ
 
 -- "those seven values (shot and read are Ls and Lr)", in the order of the names
 abbrev pub sevenOf : Header → List ℕ

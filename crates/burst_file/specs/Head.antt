@@ -9,9 +9,11 @@ use Rattle.refusals.specs.Tests.{refuse, first}
 use Rattle.geometry.specs.Shape.{shaped}
 use Rattle.geometry.specs.Order.{frameTests}
 use Rattle.noise.specs.Levels.{levelRefusal, strengthRefusal}
-use Rattle.burst_file.specs.Part.{Part, found, unless, _then_}
+use Rattle.burst_file.specs.Part.{Part, refused, found, unless, _then_}
 use Rattle.burst_file.specs.Line.{lineEnd, valueLine}
-use Rattle.burst_file.specs.Grammar.{names}
+use Rattle.burst_file.specs.Burst.{names}
+use Rattle.burst_file.specs.declared.Head.{Head}
+use Rattle.burst_file.specs.declared.Head.the-variants.{Found, Refused}
 use Rattle.burst_file.specs.declared.Header.{Header}
 
 -- the bytes begin with the text
@@ -51,3 +53,8 @@ tested values rest = unless (headerRefusal (headerOf values)) (found (headerOf v
 -- "15, 13, then line 2 by 15 and 14, then 1, 2, 3, 9, 10"
 unfoldable pub headOf : List ℕ → Part Header
 headOf file = unless (firstLineRefusal file) (valueLine 7 (drop (length names) file) then tested)
+
+-- what `read_head` answers, which holds a position, as the bytes from there on
+abbrev pub headIn : List ℕ → Head → Part Header
+headIn file (Found header next) = found header (drop next file)
+headIn file (Refused number) = refused number

@@ -12,7 +12,8 @@ use Rattle.refusals.specs.Numbers as no
 use Rattle.refusals.specs.Tests.{first}
 use Rattle.refusals.specs.TestLaws.{among, passed, refuse-not}
 use Rattle.burst_file.specs.declared.Header.{Header}
-use Rattle.burst_file.specs.Grammar.{names, sevenOf, ValueLine}
+use Rattle.burst_file.specs.Burst.{names}
+use Rattle.burst_file.specs.Grammar.{sevenOf, ValueLine}
 use Rattle.burst_file.specs.Part.{found}
 use Rattle.burst_file.specs.PartLaws.{Sound, unless-sound, then-sound}
 use Rattle.burst_file.specs.Line.{hasLF, valueLine}

@@ -1,9 +1,10 @@
-pub mod Grammar
+pub mod Burst
 pub mod Part
 pub mod Line
 pub mod Head
 pub mod Rows
 pub mod Reading
+pub mod Grammar
 pub mod Acceptance
 pub mod Scan
 pub mod PartLaws

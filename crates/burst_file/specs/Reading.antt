@@ -7,7 +7,7 @@ use Rattle.refusals.specs.Numbers as no
 use Rattle.geometry.specs.declared.Shape.{Shape}
 use Rattle.geometry.specs.Shape.{sampleLength, lengthRefusal}
 use Rattle.burst_file.specs.Part.{Part, refused, found, unless, numberOf, _then_, mapped}
-use Rattle.burst_file.specs.Grammar.{Burst}
+use Rattle.burst_file.specs.Burst.{Burst}
 use Rattle.burst_file.specs.Head.{headOf}
 use Rattle.burst_file.specs.Rows.{framesOf}
 use Rattle.burst_file.specs.declared.FileAnswer.{FileAnswer}

@@ -1,4 +1,5 @@
--- The answers of the functions that scan the bytes of a file, which hold positions, as what stands at those positions.
+-- Inner vocabulary, which no public contract reaches: the answers of the functions that scan the bytes of a file, which hold positions, as what stands at
+-- those positions.
 use mathlib.Core.Bool.{Bool, cond, _||_}
 use mathlib.Core.List.{List, [], _∷_}
 use Prim.Native.Nat.{ℕ, zero, suc}
@@ -7,9 +8,6 @@ use lib.ListN.{drop}
 use Rattle.refusals.specs.Numbers as no
 use Rattle.burst_file.specs.Line.{Item, last, more, bad, itemOf, above}
 use Rattle.burst_file.specs.Part.{Part, refused, found, mapped}
-use Rattle.burst_file.specs.declared.Head.{Head}
-use Rattle.burst_file.specs.declared.Head.the-variants.{Found as FoundHead, Refused as RefusedHead}
-use Rattle.burst_file.specs.declared.Header.{Header}
 use Rattle.burst_file.specs.declared.Line.{Line}
 use Rattle.burst_file.specs.declared.Line.the-variants.{Found as FoundLine, Refused as RefusedLine}
 use Rattle.burst_file.specs.declared.Passage.{Passage}
@@ -42,10 +40,6 @@ rowsIn file (RefusedRows number) = refused number
 
 abbrev pub briefly : {A : Type 0} → Part A → Part Unit
 briefly part = mapped (λ a. tt) part
-
-abbrev pub headIn : List ℕ → Head → Part Header
-headIn file (FoundHead header next) = found header (drop next file)
-headIn file (RefusedHead number) = refused number
 
 -- an item's value and the bytes after it, where nothing but values is expected
 abbrev pub valueIn : Item → ℕ

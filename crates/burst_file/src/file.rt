@@ -27,6 +27,7 @@ pub fn check_file(file: &[u8]) -> u64
     }
 }
 
+// The answer beside a refusal.
 fn refused(number: u64) -> FileAnswer
     ensures { λ r. ⌜ r ≡ refusedAnswer number ⌝ }
 {
@@ -42,6 +43,7 @@ fn refused(number: u64) -> FileAnswer
     }
 }
 
+// The answer to an accepted file.
 fn accepted(header: Header) -> FileAnswer
     ensures { λ r. ⌜ r ≡ acceptedAnswer header ⌝ }
 {

@@ -1,8 +1,8 @@
 // The first two lines of a file.
 ghost use mathlib.Core.Path.{_≡_};
 ghost use lib.ListN.{drop};
-ghost use Rattle.burst_file.specs.Head.{startsWith, firstLineRefusal, headerOf, headerRefusal, headOf};
-ghost use Rattle.burst_file.specs.Scan.{nextValues, headIn};
+ghost use Rattle.burst_file.specs.Head.{startsWith, firstLineRefusal, headerOf, headerRefusal, headOf, headIn};
+ghost use Rattle.burst_file.specs.Scan.{nextValues};
 use crate::Head;
 use crate::Header;
 use crate::Line;

@@ -10,6 +10,7 @@ use crate::Passage;
 use crate::lines::check_line;
 use geometry::Shape;
 
+// One row: 15, 14, 11.
 fn check_row(file: &[u8], at: usize, width: usize) -> Passage
     ensures { λ r. ⌜ rowsIn (now (file .entry)) r ≡ briefly (row width (drop at (now (file .entry)))) ⌝ }
 {
@@ -26,6 +27,7 @@ fn check_row(file: &[u8], at: usize, width: usize) -> Passage
     }
 }
 
+// `count` rows, one after the other.
 fn check_rows(file: &[u8], at: usize, count: usize, width: usize) -> Passage
     ensures { λ r. ⌜ rowsIn (now (file .entry)) r ≡ briefly (rows count width (drop at (now (file .entry)))) ⌝ }
 {

@@ -20,6 +20,7 @@ fn digit(byte: u8) -> u64
     }
 }
 
+// The position of the first byte that is no space.
 fn past_spaces(file: &[u8], at: usize) -> usize
     ensures { λ r. ⌜ drop r (now (file .entry)) ≡ pastSpaces (drop at (now (file .entry))) ⌝ }
 {
@@ -33,6 +34,7 @@ fn past_spaces(file: &[u8], at: usize) -> usize
     i
 }
 
+// Whether an LF follows.
 pub fn has_lf(file: &[u8], at: usize) -> bool
     ensures { λ r. ⌜ r ≡ hasLF (drop at (now (file .entry))) ⌝ }
 {
@@ -46,6 +48,7 @@ pub fn has_lf(file: &[u8], at: usize) -> bool
     false
 }
 
+// The value at a position, and what ends it.
 pub fn next_value(file: &[u8], at: usize) -> Scan
     ensures { λ r. ⌜ itemIn (now (file .entry)) r ≡ itemOf (drop at (now (file .entry))) ⌝ }
 {

@@ -6,7 +6,7 @@ ghost use Rattle.printing.specs.Put.{Printed};
 use crate::pieces::put_byte;
 use crate::pieces::put_number;
 
-// A value that `left` more follow on its line.
+// A value that `left` more follow on its line: at most 20 digits and a space or LF.
 pub fn put_value(text: &mut [u8], at: usize, n: u64, left: usize) -> usize
     requires { ⌜ at + 21 ≤ length (now text) ⌝ }
     ensures { λ r. ⌜ (Printed (now (text .entry)) at (value n left) (now (text .exit)) r) × (r ≤ at + 21) ⌝ }
@@ -42,7 +42,7 @@ pub fn put_samples(text: &mut [u8], at: usize, samples: &[u16], from: usize, cou
     next
 }
 
-// The rows of a frame.
+// The rows of a frame, each of at most 6 bytes a sample.
 pub fn put_rows(text: &mut [u8], at: usize, samples: &[u16], width: usize, height: usize) -> usize
     requires { ⌜ (height * width ≤ length (now samples)) × (at + 6 * (height * width) + 21 ≤ length (now text)) ⌝ }
     ensures { λ r. ⌜ (Printed (now (text .entry)) at (frameRows width height (now (samples .entry))) (now (text .exit)) r) × (r ≤ at + 6 * (height * width)) ⌝ }

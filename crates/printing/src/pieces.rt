@@ -5,6 +5,7 @@ ghost use lib.ListN.{length};
 ghost use Rattle.printing.specs.Decimal.{decimal};
 ghost use Rattle.printing.specs.Put.{Printed};
 
+// One byte.
 pub fn put_byte(text: &mut [u8], at: usize, byte: u8) -> usize
     requires { ⌜ at < length (now text) ⌝ }
     ensures { λ r. ⌜ Printed (now (text .entry)) at (byte ∷ []) (now (text .exit)) r ⌝ }
@@ -13,6 +14,7 @@ pub fn put_byte(text: &mut [u8], at: usize, byte: u8) -> usize
     at + 1
 }
 
+// A text.
 pub fn put_bytes(text: &mut [u8], at: usize, bytes: &[u8]) -> usize
     requires { ⌜ at + length (now bytes) ≤ length (now text) ⌝ }
     ensures { λ r. ⌜ Printed (now (text .entry)) at (now (bytes .entry)) (now (text .exit)) r ⌝ }
@@ -24,7 +26,7 @@ pub fn put_bytes(text: &mut [u8], at: usize, bytes: &[u8]) -> usize
     next
 }
 
-// The decimal digits of n.
+// The decimal digits of n, at most 20.
 pub fn put_number(text: &mut [u8], at: usize, n: u64) -> usize
     requires { ⌜ at + 20 ≤ length (now text) ⌝ }
     ensures { λ r. ⌜ (Printed (now (text .entry)) at (decimal n) (now (text .exit)) r) × (r ≤ at + 20) ⌝ }

@@ -13,7 +13,7 @@ use Rattle.refusals.specs.TestLaws.{among, passed}
 use Rattle.noise.specs.LevelLaws.{levels-most, strength-most}
 use Rattle.burst_file.specs.declared.FileAnswer.{FileAnswer}
 use Rattle.burst_file.specs.declared.Header.{Header}
-use Rattle.burst_file.specs.Grammar.{Burst}
+use Rattle.burst_file.specs.Burst.{Burst}
 use Rattle.burst_file.specs.Part.{Part, refused, found, numberOf}
 use Rattle.burst_file.specs.Head.{headerRefusal, headOf}
 use Rattle.burst_file.specs.HeadLaws.{HeadRead, head-complete}

@@ -3,7 +3,7 @@ use Rattle.algebra.specs.Prelude.{_≡_, List, ℕ, _-_, _*_, _≤_, _<_, lengt
 use Rattle.geometry.specs.Fits.{Allowed, ValuesFit}
 use Rattle.alignment.specs.Aligned.{alignedVectors, residualSums}
 use Rattle.burst_file.specs.declared.Header.{Header}
-use Rattle.burst_file.specs.Grammar.{Burst}
+use Rattle.burst_file.specs.Burst.{Burst}
 use Rattle.printing.specs.Lines.{tooLarge, refusal}
 use Rattle.report.specs.declared.opening.Opened.{Opened}
 use Rattle.report.specs.declared.text.Program.{Program}

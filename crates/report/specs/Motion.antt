@@ -3,7 +3,7 @@ use Rattle.algebra.specs.Prelude.{List, [], _∷_, _++_, ℕ, zero, suc, _+_, _
 use Rattle.geometry.specs.declared.Shape.{Shape}
 use Rattle.geometry.specs.Vectors.{otherFrame}
 use Rattle.alignment.specs.Aligned.{alignedVectors, residualSums}
-use Rattle.burst_file.specs.Grammar.{Burst}
+use Rattle.burst_file.specs.Burst.{Burst}
 use Rattle.printing.specs.Lines.{motionNames, numberLine}
 use Rattle.tallies.specs.Tallies.{tiles, stillTiles, farthest}
 use Rattle.report.specs.Program.{programText}

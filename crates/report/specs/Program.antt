@@ -1,7 +1,7 @@
 -- Document 01, "Both programs [..] take files up to 65536 bytes with W = H = 64": what a program prints for a file, by what it prints for the burst in it.
 use Rattle.algebra.specs.Prelude.{Bool, cond, _&&_, List, ℕ, eqb, ltb, length}
 use Rattle.geometry.specs.declared.Shape.{Shape}
-use Rattle.burst_file.specs.Grammar.{Burst}
+use Rattle.burst_file.specs.Burst.{Burst}
 use Rattle.burst_file.specs.Part.{Part, refused, found}
 use Rattle.burst_file.specs.Reading.{reading}
 use Rattle.printing.specs.Lines.{tooLarge, refusal}

@@ -6,7 +6,7 @@ use Rattle.recipe.specs.declared.Merge.{Merge}
 use Rattle.recipe.specs.Scene.{sceneOf}
 use Rattle.recipe.specs.Merged.{merged}
 use Rattle.burst_file.specs.declared.Header.{Header}
-use Rattle.burst_file.specs.Grammar.{Burst}
+use Rattle.burst_file.specs.Burst.{Burst}
 use Rattle.printing.specs.Lines.{stackNames, numberLine, frameRows, refusal}
 use Rattle.report.specs.Program.{programText}
 

@@ -38,6 +38,7 @@ fn still_tile(vectors: &[i32], tile: usize) -> u64
     1
 }
 
+// The tiles that stay where they are.
 pub fn still_tiles(vectors: &[i32]) -> u64
     ensures { λ r. ⌜ r ≡ stillTiles (now (vectors .entry)) ⌝ }
 {
@@ -48,6 +49,7 @@ pub fn still_tiles(vectors: &[i32]) -> u64
     still
 }
 
+// The greater of two.
 fn greater(a: u64, b: u64) -> u64
     ensures { λ r. ⌜ r ≡ max a b ⌝ }
 {

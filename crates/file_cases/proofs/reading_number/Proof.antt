@@ -5,7 +5,7 @@ use Prim.Native.Nat.{ℕ}
 use lib.ListN.{length}
 use borrow.Author.Needs.{needs}
 use Rattle.burst_file.specs.Part.{Part, refused, found, numberOf}
-use Rattle.burst_file.specs.Grammar.{Burst}
+use Rattle.burst_file.specs.Burst.{Burst}
 use Rattle.burst_file.specs.Reading.{answerOf, readingInto, FileRead}
 use Rattle.burst_file.specs.declared.FileAnswer.{FileAnswer}
 use Rattle.file_cases.proofs.reading_number.Statement.{statement}

@@ -2,9 +2,8 @@
 use mathlib.Core.Path.{_≡_, sym, ap, _∙_}
 use borrow.Author.Needs.{needs}
 use Rattle.burst_file.specs.Part.{Part, numberOf, _then_}
-use Rattle.burst_file.specs.Head.{headOf}
+use Rattle.burst_file.specs.Head.{headOf, headIn}
 use Rattle.burst_file.specs.Reading.{bodyOf, reading, fileCheck}
-use Rattle.burst_file.specs.Scan.{headIn}
 use Rattle.burst_file.specs.declared.Head.{Head}
 use Rattle.burst_file.specs.declared.Head.the-variants.{Found, Refused}
 use Rattle.burst_file.specs.declared.Header.{Header}

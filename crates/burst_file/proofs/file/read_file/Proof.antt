@@ -8,12 +8,12 @@ use lib.ListN.{length, drop}
 use Rattle.geometry.specs.Shape.{sampleLength, lengthRefusal}
 use Rattle.refusals.specs.Numbers as no
 use Rattle.refusals.specs.TestLaws.{refuse-not}
-use Rattle.burst_file.specs.Grammar.{Burst}
+use Rattle.burst_file.specs.Burst.{Burst}
 use Rattle.burst_file.specs.Part.{Part, refused, found}
 use Rattle.burst_file.specs.Line.{above}
-use Rattle.burst_file.specs.Head.{headOf}
+use Rattle.burst_file.specs.Head.{headOf, headIn}
 use Rattle.burst_file.specs.Reading.{readingInto, refusedAnswer, acceptedAnswer, answerOf, samplesAfter, FileRead}
-use Rattle.burst_file.specs.Scan.{headIn, nextValues}
+use Rattle.burst_file.specs.Scan.{nextValues}
 use Rattle.burst_file.specs.declared.FileAnswer.{FileAnswer}
 use Rattle.burst_file.specs.declared.Head.{Head}
 use Rattle.burst_file.specs.declared.Head.the-variants.{Found, Refused}

@@ -3,8 +3,7 @@ use Rattle.algebra.specs.Prelude.{_≡_, sym, ap, _∙_, _≤_, arith, needs, l
 use lib.Seq.{length-take-le}
 use Rattle.burst_file.specs.declared.Head.{Head}
 use Rattle.burst_file.specs.declared.Head.the-variants.{Found, Refused}
-use Rattle.burst_file.specs.Head.{headOf}
-use Rattle.burst_file.specs.Scan.{headIn}
+use Rattle.burst_file.specs.Head.{headOf, headIn}
 use Rattle.report.specs.Program.{fileMost}
 use Rattle.report.specs.Inner.{room}
 use Rattle.report.proofs.Files.{Headed, headed, headed-few, refused-text, head-text, wide-text, high-text, opens}

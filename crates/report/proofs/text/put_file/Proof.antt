@@ -1,7 +1,7 @@
 -- `report::text::put_file`: what was opened decides what is printed.
 use Rattle.algebra.specs.Prelude.{_≡_, sym, subst, List, ℕ, arith, needs}
 use lib.Seq.{length-take-le}
-use Rattle.burst_file.specs.Grammar.{Burst}
+use Rattle.burst_file.specs.Burst.{Burst}
 use Rattle.report.specs.declared.opening.Opened.{Opened}
 use Rattle.report.specs.declared.opening.Opened.the-variants.{TooLarge, Refused, Taken}
 use Rattle.report.specs.Inner.{Opens}
