@@ -1,8 +1,8 @@
 -- Floats as fractions: a product, a quotient and a sum of two is the fraction that it would be, rounded once.
-use Rattle.algebra.specs.Prelude.{_≡_, refl, sym, ap, ap₂, _∙_, Bool, true, false, ℕ, zero, suc, _+_, _-_, _*_, _<_, arith, eqb, ℤ}
+use Rattle.algebra.specs.Prelude.{_≡_, _&&_, _≤_, ltb, refl, sym, ap, ap₂, _∙_, Bool, true, false, ℕ, zero, suc, _+_, _-_, _*_, _<_, arith, eqb, ℤ}
 use mathlib.Core.Bool.{false≢true}
-use native.Mathlib.Nat.{mul-pos, mul-comm, mul-sub, lt-of-mul-lt-mul-right}
-use borrow.Author.Tests.{lt-ltb}
+use native.Mathlib.Nat.{mul-pos, mul-comm, mul-sub, eq-of-mul-eq-mul-right, le-of-mul-le-mul-right, lt-of-mul-lt-mul-right}
+use borrow.Author.Tests.{lt-ltb, le-ltb}
 use lib.Dec.{eqb→eq, not-T}
 use lib.Ieee.{Float, fin, Format, up, down, unlike, round, sum, add, mul, div}
 use lib.Ieee.Fits.{down-pos}
@@ -30,6 +30,9 @@ magnitude-above {c = c} p h = above (p .digits * up (p .exponent)) c (rw (p .val
 has-digits : {x : Float} {s : Bool} {a c : ℕ} (p : Is x s a c) → 0 < a → p .digits ≡ 0 → ⊥
 has-digits p h z = omega (arith, magnitude-above p h, ap (λ m. m * up (p .exponent)) z)
 
+times-less : (B A k : ℕ) → (B - A) * k ≡ B * k - A * k
+times-less B A k = mul-comm (B - A) k ∙ mul-sub k B A ∙ ap₂ _-_ (mul-comm k B) (mul-comm k A)
+
 -- sums over one divisor: of one sign, and of two, the second the larger
 module _ (f : Format) where
   same-signs : (s : Bool) (a b c : ℕ) → sum f s a s b c ≡ round f s (a + b) c
@@ -43,6 +46,13 @@ module _ (f : Format) where
   opposite-signs true false a b c e h = rw (lt-ltb a b h) refl
   opposite-signs false true a b c e h = rw (lt-ltb a b h) refl
   opposite-signs false false a b c e h = absurd (false≢true e)
+
+  remaining-signs : (s t : Bool) (a b c : ℕ) → unlike s t ≡ true → b ≤ a → sum f s a t b c ≡ round f (s && ltb b a) (a - b) c
+  unfolding sum
+  remaining-signs true true a b c e h = absurd (false≢true e)
+  remaining-signs true false a b c e h = rw (le-ltb a b h) refl
+  remaining-signs false true a b c e h = rw (le-ltb a b h) refl
+  remaining-signs false false a b c e h = absurd (false≢true e)
 
 module _ (f : Format) {x : Float} {s : Bool} {a c : ℕ} (p : Is x s a c) (C : 0 < c) {y : Float} {t : Bool} {b d : ℕ} (q : Is y t b d) (D : 0 < d) where
   both-down : 0 < down (p .exponent) * down (q .exponent)
@@ -84,7 +94,25 @@ module _ (f : Format) {x : Float} {s : Bool} {a c : ℕ} (p : Is x s a c) (C : 0
       let l : A < B = lt-of-mul-lt-mul-right (c * d) (omega (arith, crossed, crossed-2, mul-pos h both-down, ap (λ z. z * (down (p .exponent) * down (q .exponent))) k)) in
       ap₂ (add f) (p .is) (q .is) ∙ opposite-signs f s t A B _ e l
       ∙ round-same f t (B - A) _ n (c * d) both-down (mul-pos C D)
-      (less B A (c * d) ∙ omega (arith, crossed, crossed-2, ap (λ z. z * (down (p .exponent) * down (q .exponent))) k))
+      (times-less B A (c * d) ∙ omega (arith, crossed, crossed-2, ap (λ z. z * (down (p .exponent) * down (q .exponent))) k))
+
+  -- signs differ, and the first is the larger, by n, or no smaller
+  pub remainder-rounded : unlike s t ≡ true → (n : ℕ) → a * d ≡ b * c + n → add f x y ≡ round f (s && ltb 0 n) n (c * d)
+  unfolding add
+  remainder-rounded e n k =
+      let A = p .digits * up (p .exponent) * down (q .exponent) in
+      let B = q .digits * up (q .exponent) * down (p .exponent) in
+      let m = down (p .exponent) * down (q .exponent) in
+      let l : B ≤ A = le-of-mul-le-mul-right {k = c * d} (omega (arith, crossed, crossed-2, ap (λ z. z * m) k)) (mul-pos C D) in
+      let less : (A - B) * (c * d) ≡ n * m = times-less A B (c * d) ∙ omega (arith, crossed, crossed-2, ap (λ z. z * m) k) in
+      ap₂ (add f) (p .is) (q .is) ∙ remaining-signs f s t A B _ e l
+      ∙ ap (λ b. round f (s && b) (A - B) m) (above-nothing n A B l less)
+      ∙ round-same f (s && ltb 0 n) (A - B) _ n (c * d) both-down (mul-pos C D) less
     where
-      less : (B A k : ℕ) → (B - A) * k ≡ B * k - A * k
-      less B A k = mul-comm (B - A) k ∙ mul-sub k B A ∙ ap₂ _-_ (mul-comm k B) (mul-comm k A)
+      above-nothing : (n A B : ℕ) → B ≤ A → (A - B) * (c * d) ≡ n * (down (p .exponent) * down (q .exponent)) → ltb B A ≡ ltb 0 n
+      above-nothing zero A B l h =
+          let z : A - B ≡ 0 = eq-of-mul-eq-mul-right (c * d) (mul-pos C D) (A - B) 0 (omega (arith, h)) in
+          le-ltb B A (omega (arith, z))
+      above-nothing (suc n) A B l h =
+          let z : 0 < A - B = lt-of-mul-lt-mul-right (c * d) (omega (arith, h, both-down)) in
+          lt-ltb B A (omega (arith, z)) ∙ sym (lt-ltb 0 (suc n) (omega arith))

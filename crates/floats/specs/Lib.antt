@@ -6,3 +6,5 @@ pub mod NearestWhole
 pub mod Ranges
 pub mod LastBits
 pub mod QuotientLaws
+pub mod Kernels
+pub mod ProductLaws

@@ -1,6 +1,6 @@
 -- A whole number between 2^(prec − 1) and 2^prec, and a float of a smaller magnitude: their sum is rounded to a whole number, the one nearest to it.
 use Rattle.algebra.specs.Prelude.{_≡_, refl, ap, ap₂, subst, _∙_, Bool, true, false, cond, ℕ, suc, _+_, _-_, _*_, _/_, _^_, _≤_, _<_, arith, lit<}
-use native.Mathlib.Nat.{mul-pos, mul-one, mul-comm, mul-sub, eq-of-mul-eq-mul-right, lt-of-le-of-lt, lt-of-mul-lt-mul-right, mul-lt-mul-of-pos-right, mul-le-mul-right, le-div-iff-mul-le, div-lt-iff-lt-mul}
+use native.Mathlib.Nat.{div-mul-le-self, div-add-mod', mod-lt, mul-pos, mul-one, mul-comm, mul-sub, eq-of-mul-eq-mul-right, lt-of-le-of-lt, lt-of-mul-lt-mul-right, mul-lt-mul-of-pos-right, mul-le-mul-right, le-div-iff-mul-le, div-lt-iff-lt-mul}
 use lib.Pow.{pow-add, pow-pos, pow-lt}
 use lib.Ieee.{Float, Format, binary32, binary64, prec, emax, low, size, units, round, add}
 use lib.Ieee.Digits.{size-le}
@@ -15,6 +15,19 @@ use Rattle.floats.specs.Wholes.{Whole, size-gt}
 pub record Closer (k a c : ℕ) : Type 0 where
   pub over : 2 * (k * c) < 2 * a + c
   pub under : 2 * a < 2 * (k * c) + c
+
+-- a/c is above N/D, and below the half that is next above it: closest to what N/D is, to nearest, halves upward
+pub upward-closer : (N D a c : ℕ) → 0 < D → N * c < a * D → 2 * (a * D) < ((2 * N + D) / (2 * D) * (2 * D) + D) * c → Closer ((2 * N + D) / (2 * D)) a c
+upward-closer N D a c h above below =
+    let lower : (2 * N + D) / (2 * D) * (2 * D) ≤ 2 * N + D = div-mul-le-self (2 * N + D) (2 * D) in
+    record {
+      over = lt-of-mul-lt-mul-right D (omega (arith, mul-le-mul-right c lower, above));
+      under = lt-of-mul-lt-mul-right D (omega (arith, below));
+    }
+
+-- the half that is next above N/D, from below
+pub half-above : (N D : ℕ) → 0 < D → 2 * N < (2 * N + D) / (2 * D) * (2 * D) + D
+half-above N D h = omega (arith, div-add-mod' (2 * N + D) (2 * D), mod-lt (2 * N + D) {m = 2 * D} (omega arith))
 
 only-closest : (k a c : ℕ) → 0 < c → Closer k a c → closest a c ≡ k
 only-closest k a c C h =

@@ -1,15 +1,14 @@
 -- A quotient V·q/D to nearest, halves away from zero, by one division in double and one product, where V·|q| is at most 2^48: with W = V·(1 + 2^−50), rounded,
 -- x = q·(W/D) lies above V·q/D, by less than one part in 2^49, so that a half moves away from zero and what is below a half, by 1/(2·D) at least, stays below.
 use Rattle.algebra.specs.Prelude.{_≡_, not, T, refl, sym, ap, subst, _∙_, Bool, true, false, ℕ, zero, suc, _+_, _*_, _/_, _^_, _≤_, _<_, arith, lit<, lit≤, ℤ, pos, negsuc, natAbs, _*ℤ_}
-use native.Mathlib.Nat.{mul-pos, mul-one, one-mul, mul-le-mul-left, mul-le-mul-right, mul-lt-mul-of-pos-right, lt-of-lt-of-le, lt-of-mul-lt-mul-left, lt-of-mul-lt-mul-right, div-add-mod', div-eq-of-lt, mod-lt}
+use native.Mathlib.Nat.{mul-pos, mul-one, one-mul, mul-le-mul-left, mul-le-mul-right, mul-lt-mul-of-pos-right, lt-of-lt-of-le, lt-of-mul-lt-mul-left, div-eq-of-lt}
 use lib.Ieee.{Float, fin, binary64, round, mul, div, ofInt, unlike, isNan}
-use lib.Ieee.Scale.{round-same}
 use Rattle.algebra.specs.Nearest.{away, away-odd}
 use Rattle.floats.specs.Fractions.{Is, product-rounded, quotient-rounded}
-use Rattle.floats.specs.Wholes.{Whole, negative, rounded-whole, whole-of}
+use Rattle.floats.specs.Wholes.{Whole, negative, whole-of, nothing-times}
 use Rattle.floats.specs.Numbers.{round-number}
 use Rattle.floats.specs.RelativeError.{Rounded, rounded}
-use Rattle.floats.specs.NearestWhole.{Closer}
+use Rattle.floats.specs.NearestWhole.{Closer, upward-closer, half-above}
 use Rattle.floats.specs.LastBits.{lastBits, last-bits}
 use Rattle.floats.specs.Ranges.{Between, whole-between, wider, product-between, quotient-between, rounded-between, Times, part-over, part-under, times-product, times-quotient, times-times}
 
@@ -26,18 +25,11 @@ slightly-more-is = record { digits = 2 ^ 50 + 1; exponent = negsuc 49; is = refl
 -- x/e is above N/D by more than nothing and less than one part in 2^49: closer than a half to the whole number that N/D rounds to
 closer : (N D x e : ℕ) → 0 < D → 0 < e → N ≤ 2 ^ 48 → N * e < x * D → 2 ^ 49 * (x * D) < (2 ^ 49 + 1) * (N * e) → Closer ((2 * N + D) / (2 * D)) x e
 closer N D x e h E most above below =
-    let k = (2 * N + D) / (2 * D) in
-    let s = div-add-mod' (2 * N + D) (2 * D) in
-    let r = mod-lt (2 * N + D) (mul-pos {m = 2} (lit< tt) h) in
-    let lower : k * (2 * D) ≤ 2 * N + D = omega (arith, s) in
-    let upper : 2 * N + 1 ≤ k * (2 * D) + D = omega (arith, s, r) in
-    record {
-      over = lt-of-mul-lt-mul-right D (omega (arith, mul-le-mul-right e lower, above));
-      under = lt-of-mul-lt-mul-right D (omega (arith, mul-le-mul-right e upper, mul-le-mul-right e most, below));
-    }
+    let upper : 2 * N + 1 ≤ (2 * N + D) / (2 * D) * (2 * D) + D = omega (arith, half-above N D h) in
+    upward-closer N D x e h above (lt-of-mul-lt-mul-left (2 ^ 49) (omega (arith, mul-le-mul-right e upper, mul-le-mul-right e most, below)))
 
 -- factors that are literals
-above-it : (A B n x : ℕ) → B < A → 0 < n → A * n ≤ B * x → n < x
+pub above-it : (A B n x : ℕ) → B < A → 0 < n → A * n ≤ B * x → n < x
 above-it A B n x h k l = lt-of-mul-lt-mul-left B (lt-of-lt-of-le (mul-lt-mul-of-pos-right h k) l)
 
 below-it : (A B C E n x : ℕ) → C * B < A * E → 0 < n → A * x ≤ B * n → C * x < E * n
@@ -116,10 +108,8 @@ module _ {v d : ℕ} {y z : Float} (p : Whole y false v) (r : Whole z false d) (
       → lastBits (mul binary64 (ofInt binary64 q) (div binary64 (mul binary64 y slightlyMore) z)) ≡ away (pos v *ℤ q) d
   unfolding away
   quotient-away (pos zero) m h k =
-      let e = product-rounded binary64 (whole-of binary64 (pos 0) m) (lit< tt) (ratio .is) (ratio .above)
-      ∙ round-same binary64 false (0 * ratio .num) (1 * ratio .den) 0 1 (mul-pos {m = 1} (lit< tt) (ratio .above)) (lit< tt) (omega arith) in
       let none : Closer 0 0 1 = record { over = lit< tt; under = lit< tt } in
-      last-bits (lit< tt) none (lit< tt) false (rw e (rounded-whole binary64 false 0 (lit≤ tt)))
+      last-bits (lit< tt) none (lit< tt) false (nothing-times binary64 (whole-of binary64 (pos 0) m) (ratio .is) (ratio .above))
       ∙ ap pos (sym (div-eq-of-lt {n = 2 * (v * 0) + d} {m = 2 * d} (omega arith)))
   quotient-away (pos (suc n)) m h k =
       let u = whole-of binary64 (pos (suc n)) m in

@@ -7,6 +7,7 @@ use lib.Ieee.{Float, Format, prec, low, up, down, size, hid, unlike, round, add,
 use lib.Ieee.Digits.{size-lt, size-le}
 use lib.Ieee.Fits.{down-pos, two}
 use lib.Ieee.Back.{round-whole}
+use lib.Ieee.Scale.{round-same}
 use Rattle.floats.specs.Fractions.{Is, of-value, product-rounded, sum-rounded}
 
 -- x is the whole number n with the sign s
@@ -35,6 +36,12 @@ module _ (f : Format) where
     whole-sum e h =
         let n : a * 1 + b * 1 ≡ a + b = omega arith in
         rw (sum-rounded f p (lit< tt) q (lit< tt) e ∙ ap (λ n. round f s n 1) n) (rounded-whole s (a + b) h)
+
+-- 0 times a fraction
+pub nothing-times : (f : Format) {x y : Float} {s t : Bool} {b d : ℕ} → Whole x s 0 → Is y t b d → 0 < d → Whole (mul f x y) (unlike s t) 0
+nothing-times f {s = s} {t} {b} {d} p q h =
+    rw (product-rounded f p (lit< tt) q h ∙ round-same f (unlike s t) (0 * b) (1 * d) 0 1 (mul-pos {m = 1} (lit< tt) h) (lit< tt) (omega arith))
+    (rounded-whole f (unlike s t) 0 (omega arith))
 
 -- ---- the order
 
