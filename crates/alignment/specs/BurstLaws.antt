@@ -1,29 +1,29 @@
 -- One frame at a time: the reference's pyramid stays, and the frame's own is laid behind it.
 use mathlib.Core.Path.{_≡_, refl, sym, ap, ap₂, subst, subst₂, _∙_}
-use Rattle.algebra.specs.Prelude.{List, _++_, ℕ, zero, suc, _+_, _-_, _*_, _/_, _≤_, _<_, arith, ℤ, pos}
-use native.Mathlib.Nat.{zero-add, zero-mul, suc-mul, mul-comm, mul-assoc, mul-le-mul}
+use Rattle.algebra.specs.Prelude.{List, _++_, ℕ, zero, suc, _+_, _-_, _*_, _≤_, _<_, arith, ℤ, pos}
+use native.Mathlib.Nat.{zero-add, zero-mul, suc-mul}
 use lib.ListN.{length, set, drop, replicate}
 use Rattle.geometry.specs.declared.Shape.{Shape}
 use Rattle.geometry.specs.Shape.{vectorLength}
 use Rattle.geometry.specs.Fits.{Allowed}
 use Rattle.geometry.specs.Read.{Image, sampleAt}
-use Rattle.geometry.specs.Tiles.{level0, levelTiles}
-use Rattle.geometry.specs.ShapeLaws.{tiles-most}
-use Rattle.geometry.specs.TileLaws.{level0-tiles}
-use Rattle.geometry.specs.Vectors.{otherFrame}
+use Rattle.geometry.specs.Tiles.{tileColumns, frameParts}
+use Rattle.geometry.specs.Vectors.{otherFrame, word, wordOf, vectorList}
+use Rattle.geometry.specs.VectorLaws.{word-of}
 use Rattle.sequences.specs.Tab.{tab, Filled, fill-start, fill-turn}
 use Rattle.sequences.specs.Write.{written, Writing, write-start, write-part, write-done, written-all}
-use Rattle.sequences.specs.Place.{row-room, place-row, place-column}
+use Rattle.sequences.specs.Place.{row-room}
 use Rattle.pyramid.specs.WordsLaws.{Kept}
-use Rattle.pyramid.specs.Layout.{pyramidLength, alignLength, tiles, Levels, Built}
+use Rattle.pyramid.specs.Layout.{pyramidLength, alignLength, Levels, Built}
 use Rattle.pyramid.specs.LayoutLaws.{align-fits, built-kept, levels-kept}
 use Rattle.pyramid.specs.Frame.{Frame}
 use Rattle.pyramid.specs.FrameLaws.{frame-fits}
-use Rattle.alignment.specs.Fields.{field0, word, residualSum}
+use Rattle.alignment.specs.Fields.{field0, residualSum}
 use Rattle.alignment.specs.Frames.{pairs, vectorsOf, residualOf}
 use Rattle.alignment.specs.FrameLaws.{frame-standing, frame-pairs}
 use Rattle.alignment.specs.Sites.{pairsIn, Standing, Aligned}
-use Rattle.alignment.specs.Aligned.{Ready, fieldOf, sumOf, partAt, alignedVectors, residualSums, AlignedBurst, OneAligned}
+use Rattle.alignment.specs.Aligned.{fieldOf, sumOf, alignedVectors, residualSums}
+use Rattle.alignment.specs.Burst.{Ready, AlignedBurst, OneAligned}
 
 -- two pyramids lie within what alignment lays
 pub two-pyramids : (s : Shape) {n : ℕ} → alignLength s ≤ n → 2 * pyramidLength s ≤ n
@@ -47,22 +47,13 @@ module _ {s : Shape} {reference other : Image} {d l : List ℤ} (ok : Allowed s)
   unfolding vectorsOf residualOf
   one-aligned {v} {v′} {to} a =
       record {
-        vectors = a .vectors ∙ ap (λ p. written v to (word (levelTiles level0 (s .width)) (field0 p)) (2 * tiles level0 s)) both-pairs;
+        vectors = a .vectors ∙ ap (λ p. written v to (word (tileColumns s) (field0 p)) (frameParts s)) both-pairs;
         residual = a .residual ∙ ap residualSum both-pairs;
         levels = levels-kept reference-stays (kept-less (omega arith) (a .kept));
         same = a .kept .same ∙ b .same;
       }
 
 -- ---- the loop over the other frames
-
--- a frame's vectors take as many parts as document 01 counts
-pub parts-are : {s : Shape} → Allowed s → 2 * ((s .height / 16 + 1) * (s .width / 16 + 1)) ≡ 2 * tiles level0 s
-unfolding tiles
-parts-are {s} ok = rw (level0-tiles (ok .high), level0-tiles (ok .wide))
-
-pub vectors-are : {s : Shape} → Allowed s → vectorLength s ≡ (s .count - 1) * (2 * tiles level0 s)
-unfolding vectorLength
-vectors-are {s} ok = omega (arith, parts-are ok, mul-comm (s .width / 16 + 1) (s .height / 16 + 1), mul-assoc (s .count - 1) 2 ((s .width / 16 + 1) * (s .height / 16 + 1)), ap (λ n. (s .count - 1) * n) (parts-are ok))
 
 module _ {s : Shape} {reference : ℕ} {samples : List ℕ} {vectors work : List ℤ} (r : Ready s reference samples vectors work) where
   -- any frame can be built from, and what is laid fits
@@ -72,23 +63,10 @@ module _ {s : Shape} {reference : ℕ} {samples : List ℕ} {vectors work : List
   pub work-room : alignLength s ≤ length work
   work-room = let e = r .fits .work-long in omega (arith, align-fits (r .fits .burst .allowed))
 
-pub parts-most : {s : Shape} → Allowed s → (s .height / 16 + 1) * (s .width / 16 + 1) ≤ 66049
-parts-most {s} ok = omega (arith, tiles-most ok, mul-comm (s .width / 16 + 1) (s .height / 16 + 1))
-
-pub place-most : {s : Shape} (k : ℕ) → Allowed s → k ≤ 7 → k * (2 * ((s .height / 16 + 1) * (s .width / 16 + 1))) ≤ 924686
-place-most {s} k ok h = mul-le-mul {n₁ = k} {m₁ = 2 * ((s .height / 16 + 1) * (s .width / 16 + 1))} {n₂ = 7} {m₂ = 132098} h (omega (arith, parts-most ok))
-
 -- the k-th frame's vectors lie within the lent ones
-pub place-room : {s : Shape} (k : ℕ) → Allowed s → k < s .count - 1 → k * (2 * ((s .height / 16 + 1) * (s .width / 16 + 1))) + 2 * tiles level0 s ≤ vectorLength s
-place-room {s} k ok h =
-    omega (arith, vectors-are ok, ap (λ n. k * n) (parts-are ok), row-room k (s .count - 1) (2 * tiles level0 s) h)
-
--- the k-th frame's part stands at its place
-part-placed : (s : Shape) (reference : ℕ) (samples : List ℕ) (k i : ℕ) → i < 2 * tiles level0 s →
-    word (levelTiles level0 (s .width)) (vectorsOf s (sampleAt s samples reference) (sampleAt s samples (otherFrame reference k))) i ≡ partAt s reference samples (k * (2 * tiles level0 s) + i)
-unfolding partAt fieldOf
-part-placed s reference samples k i h =
-    sym (ap₂ (λ q r. word (levelTiles level0 (s .width)) (vectorsOf s (sampleAt s samples reference) (sampleAt s samples (otherFrame reference q))) r) (place-row k i (2 * tiles level0 s) h) (place-column k i (2 * tiles level0 s) h))
+pub place-room : (s : Shape) (k : ℕ) → k < s .count - 1 → k * frameParts s + frameParts s ≤ vectorLength s
+unfolding vectorLength
+place-room s k h = row-room k (s .count - 1) (frameParts s) h
 
 drop-zeros : (n m : ℕ) → drop {A = ℕ} n (replicate m 0) ≡ replicate (m - n) 0
 drop-zeros n m = go n m (m - n) (omega arith) (omega arith)
@@ -102,45 +80,44 @@ drop-zeros n m = go n m (m - n) (omega arith) (omega arith)
 pub record Aligning (s : Shape) (reference : ℕ) (samples : List ℕ) (vectors₀ work₀ : List ℤ) (sums₀ : List ℕ) (k : ℕ) (vectors work : List ℤ) (sums : List ℕ) : Type 0 where
   pub levels : Levels s (sampleAt s samples reference) 0 work
   pub same : length work ≡ length work₀
-  pub writing : Writing vectors₀ 0 (partAt s reference samples) ((s .count - 1) * (2 * tiles level0 s)) (k * (2 * tiles level0 s)) vectors
+  pub writing : Writing vectors₀ 0 (wordOf s (fieldOf s reference samples)) (vectorLength s) (k * frameParts s) vectors
   pub filled : Filled (sumOf s reference samples) 7 k sums₀ sums
 
 module _ {s : Shape} {reference : ℕ} {samples : List ℕ} {vectors₀ work₀ : List ℤ} {sums₀ : List ℕ} where
-  pub aligning-start : Allowed s → length vectors₀ ≡ vectorLength s → length sums₀ ≡ 7 → Levels s (sampleAt s samples reference) 0 work₀ →
+  pub aligning-start : length vectors₀ ≡ vectorLength s → length sums₀ ≡ 7 → Levels s (sampleAt s samples reference) 0 work₀ →
       Aligning s reference samples vectors₀ work₀ sums₀ 0 vectors₀ work₀ sums₀
-  aligning-start ok long seven h =
+  aligning-start long seven h =
       record {
         levels = h;
         same = refl;
-        writing = subst (λ j. Writing vectors₀ 0 (partAt s reference samples) ((s .count - 1) * (2 * tiles level0 s)) j vectors₀) (sym (zero-mul (2 * tiles level0 s))) (write-start (omega (arith, vectors-are ok)));
+        writing = subst (λ j. Writing vectors₀ 0 (wordOf s (fieldOf s reference samples)) (vectorLength s) j vectors₀) (sym (zero-mul (frameParts s))) (write-start (omega arith));
         filled = fill-start seven;
       }
 
   pub aligning-turn : {k frame to : ℕ} {vectors vectors′ work work′ : List ℤ} {sums : List ℕ} {sum : ℕ} → Aligning s reference samples vectors₀ work₀ sums₀ k vectors work sums → k < s .count - 1 → k < 7 →
-      frame ≡ otherFrame reference k → to ≡ k * (2 * tiles level0 s) → OneAligned s (sampleAt s samples reference) (sampleAt s samples frame) vectors to vectors′ work work′ sum →
+      frame ≡ otherFrame reference k → to ≡ k * frameParts s → OneAligned s (sampleAt s samples reference) (sampleAt s samples frame) vectors to vectors′ work work′ sum →
       Aligning s reference samples vectors₀ work₀ sums₀ (k + 1) vectors′ work′ (set sums k sum)
-  unfolding sumOf
+  unfolding sumOf fieldOf
   aligning-turn {k} {frame} {to} {vectors} {vectors′} {work} {work′} {sums} {sum} w h l f t b =
-      let a : OneAligned s (sampleAt s samples reference) (sampleAt s samples (otherFrame reference k)) vectors (k * (2 * tiles level0 s)) vectors′ work work′ sum =
+      let a : OneAligned s (sampleAt s samples reference) (sampleAt s samples (otherFrame reference k)) vectors (k * frameParts s) vectors′ work work′ sum =
       subst₂ (λ f t. OneAligned s (sampleAt s samples reference) (sampleAt s samples f) vectors t vectors′ work work′ sum) f t b in
       record {
         levels = a .levels;
         same = a .same ∙ w .same;
         writing =
-            subst (λ j. Writing vectors₀ 0 (partAt s reference samples) ((s .count - 1) * (2 * tiles level0 s)) j vectors′) (omega (arith, suc-mul k (2 * tiles level0 s)))
-            (write-part (w .writing) (row-room k (s .count - 1) (2 * tiles level0 s) h) (part-placed s reference samples k) (rw zero-add (a .vectors)));
+            subst (λ j. Writing vectors₀ 0 (wordOf s (fieldOf s reference samples)) (vectorLength s) j vectors′) (omega (arith, suc-mul k (frameParts s)))
+            (write-part (w .writing) (place-room s k h) (λ i b. sym (word-of s (fieldOf s reference samples) k i b)) (rw zero-add (a .vectors)));
         filled = fill-turn (w .filled) l (a .residual);
       }
 
-  pub aligning-done : {k : ℕ} {vectors work : List ℤ} {sums : List ℕ} → Allowed s → length vectors₀ ≡ vectorLength s → sums₀ ≡ replicate 7 0 → k ≡ s .count - 1 →
+  pub aligning-done : {k : ℕ} {vectors work : List ℤ} {sums : List ℕ} → length vectors₀ ≡ vectorLength s → sums₀ ≡ replicate 7 0 → k ≡ s .count - 1 →
       Aligning s reference samples vectors₀ work₀ sums₀ k vectors work sums → AlignedBurst s reference samples vectors work₀ work sums
-  unfolding alignedVectors residualSums
-  aligning-done {k} {vectors} ok long zeros e w =
+  unfolding alignedVectors vectorList vectorLength residualSums
+  aligning-done {k} {vectors} long zeros e w =
       record {
         found =
-            write-done (w .writing) (omega (arith, ap (λ n. n * (2 * tiles level0 s)) e))
-            ∙ written-all (pos 0) vectors₀ (partAt s reference samples) ((s .count - 1) * (2 * tiles level0 s)) (long ∙ vectors-are ok)
-            ∙ ap (λ n. tab n (partAt s reference samples)) (sym (vectors-are ok));
+            write-done (w .writing) (omega (arith, ap (λ n. n * frameParts s) e))
+            ∙ written-all (pos 0) vectors₀ (wordOf s (fieldOf s reference samples)) (vectorLength s) long;
         sums-are = w .filled .is ∙ ap₂ (λ n l. tab n (sumOf s reference samples) ++ drop n l) e zeros ∙ ap (λ l. tab (s .count - 1) (sumOf s reference samples) ++ l) (drop-zeros (s .count - 1) 7);
         same = w .same;
       }

@@ -3,26 +3,14 @@ use Rattle.algebra.specs.Prelude.{_≡_, refl, sym, _∙_, List, ℕ, zero, suc
 use Rattle.algebra.specs.Order.{abs-mul-le}
 use Rattle.geometry.specs.Tiles.{Level, level0, level1, level2, level3, Step, step1to0, step2to1, step3to2, own, neighbour, capped}
 use Rattle.sequences.specs.Write.{written, Writing, write-start, write-turn, write-done}
-use Rattle.search.specs.declared.Vector.{Vector}
-use Rattle.search.specs.Vectors.{still, _times_, Within}
+use Rattle.geometry.specs.declared.vectors.Vector.{Vector}
+use Rattle.search.specs.Vectors.{still, _times_}
+use Rattle.search.specs.Bounds.{Within}
 use Rattle.search.specs.Residual.{Pair}
 use Rattle.search.specs.SearchLaws.{found-within, guess-within}
-use Rattle.alignment.specs.Fields.{Field, tileAt, coarsest, fromCoarse, finer, field0, field1, field2, field3, numbered, part, word}
-
--- a tile's two words
-pub word-down : (columns : ℕ) (f : Field) (k : ℕ) → word columns f (2 * k) ≡ numbered columns f k .down
-unfolding word part
-word-down columns f k =
-    let e : 2 * k % 2 ≡ 0 = omega arith in
-    let d : 2 * k / 2 ≡ k = omega arith in
-    rw (e, d)
-
-pub word-right : (columns : ℕ) (f : Field) (k : ℕ) → word columns f (2 * k + 1) ≡ numbered columns f k .right
-unfolding word part
-word-right columns f k =
-    let e : (2 * k + 1) % 2 ≡ 1 = omega arith in
-    let d : (2 * k + 1) / 2 ≡ k = omega arith in
-    rw (e, d)
+use Rattle.geometry.specs.Vectors.{Field, numbered, part, word}
+use Rattle.geometry.specs.VectorLaws.{word-down, word-right}
+use Rattle.alignment.specs.Fields.{tileAt, coarsest, fromCoarse, finer, field0, field1, field2, field3}
 
 part-most : (v : Vector) (b k : ℕ) → Within b v → natAbs (part k v) ≤ b
 unfolding part

@@ -1,28 +1,20 @@
 -- The vectors of a level's tiles, from the coarsest level to the finest.
-use Rattle.algebra.specs.Prelude.{ℕ, zero, suc, _*_, _/_, _%_, ℤ}
+use Rattle.algebra.specs.Prelude.{ℕ, zero, suc, _*_, _/_, _%_}
 use Rattle.algebra.specs.Sums.{sumN}
 use Rattle.geometry.specs.Tiles.{Level, level0, level1, level2, level3, Step, step1to0, step2to1, step3to2, tileCount, origin, own, neighbour, capped}
+use Rattle.geometry.specs.Vectors.{Field, numbered}
 use Rattle.search.specs.declared.Tile.{Tile}
-use Rattle.search.specs.declared.Vector.{Vector}
+use Rattle.geometry.specs.declared.vectors.Vector.{Vector}
 use Rattle.search.specs.Vectors.{still, _times_}
 use Rattle.search.specs.Residual.{Pair, residual}
 use Rattle.search.specs.Search.{found, guessed}
 
--- the vector of the tile at a row and a column of tiles
-abbrev pub Field : Type 0
-Field = ℕ → ℕ → Vector
-
--- the levels and the steps to them by number
+-- the levels by number
 abbrev pub levelAt : ℕ → Level
 levelAt zero = level0
 levelAt (suc zero) = level1
 levelAt (suc (suc zero)) = level2
 levelAt (suc (suc (suc k))) = level3
-
-abbrev pub stepTo : ℕ → Step
-stepTo zero = step1to0
-stepTo (suc zero) = step2to1
-stepTo (suc (suc k)) = step3to2
 
 -- "Tiles have side 16 (8 at level 3) and half step s = 8 (4). Indices run from 0 to ceil(size/s), origin −s + s·index, both ways."
 unfoldable pub tileAt : Level → (row column : ℕ) → Tile
@@ -47,35 +39,24 @@ finer l s rows columns p coarse row column =
     found (l .squared) p (tileAt l row column) (fromCoarse s rows columns p (tileAt l row column) coarse row column)
 
 -- how many rows and columns of tiles a level has
-unfoldable pub tileRows : Level → Pair → ℕ
-tileRows l p = tileCount (l .half) (p .height)
+unfoldable pub levelRows : Level → Pair → ℕ
+levelRows l p = tileCount (l .half) (p .height)
 
-unfoldable pub tileColumns : Level → Pair → ℕ
-tileColumns l p = tileCount (l .half) (p .width)
+unfoldable pub levelColumns : Level → Pair → ℕ
+levelColumns l p = tileCount (l .half) (p .width)
 
 -- the fields of the levels 3 to 0, from the levels' pairs of images
 unfoldable pub field3 : (ℕ → Pair) → Field
 field3 p = coarsest level3 (p 3)
 
 unfoldable pub field2 : (ℕ → Pair) → Field
-field2 p = finer level2 step3to2 (tileRows level3 (p 3)) (tileColumns level3 (p 3)) (p 2) (field3 p)
+field2 p = finer level2 step3to2 (levelRows level3 (p 3)) (levelColumns level3 (p 3)) (p 2) (field3 p)
 
 unfoldable pub field1 : (ℕ → Pair) → Field
-field1 p = finer level1 step2to1 (tileRows level2 (p 2)) (tileColumns level2 (p 2)) (p 1) (field2 p)
+field1 p = finer level1 step2to1 (levelRows level2 (p 2)) (levelColumns level2 (p 2)) (p 1) (field2 p)
 
 unfoldable pub field0 : (ℕ → Pair) → Field
-field0 p = finer level0 step1to0 (tileRows level1 (p 1)) (tileColumns level1 (p 1)) (p 0) (field1 p)
-
--- "tiles go row by row, each as down, right": the vector of tile number k of a field of so many columns, and the number k of its parts
-abbrev pub numbered : (columns : ℕ) → Field → ℕ → Vector
-numbered columns f k = f (k / columns) (k % columns)
-
-unfoldable pub part : ℕ → Vector → ℤ
-part zero v = v .down
-part (suc k) v = v .right
-
-unfoldable pub word : (columns : ℕ) → Field → ℕ → ℤ
-word columns f k = part (k % 2) (numbered columns f (k / 2))
+field0 p = finer level0 step1to0 (levelRows level1 (p 1)) (levelColumns level1 (p 1)) (p 0) (field1 p)
 
 -- a level's sum of residuals, over its tiles
 unfoldable pub residuals : Level → Pair → (rows columns : ℕ) → Field → ℕ
@@ -84,4 +65,4 @@ residuals l p rows columns f =
 
 -- "the sum of finest residuals"
 unfoldable pub residualSum : (ℕ → Pair) → ℕ
-residualSum p = residuals level0 (p 0) (tileRows level0 (p 0)) (tileColumns level0 (p 0)) (field0 p)
+residualSum p = residuals level0 (p 0) (levelRows level0 (p 0)) (levelColumns level0 (p 0)) (field0 p)

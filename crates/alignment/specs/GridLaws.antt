@@ -6,9 +6,10 @@ use Rattle.sequences.specs.Place.{place-row, place-column}
 use Rattle.pyramid.specs.WordsLaws.{Kept}
 use Rattle.sequences.specs.Write.{written, written-in, written-length}
 use Rattle.alignment.specs.declared.levels.Grid.{Grid}
-use Rattle.search.specs.Vectors.{Within}
-use Rattle.alignment.specs.Fields.{Field, numbered, word}
-use Rattle.alignment.specs.FieldLaws.{word-down, word-right, word-most}
+use Rattle.search.specs.Bounds.{Within}
+use Rattle.geometry.specs.Vectors.{Field, numbered, word}
+use Rattle.geometry.specs.VectorLaws.{word-down, word-right}
+use Rattle.alignment.specs.FieldLaws.{word-most}
 use Rattle.alignment.specs.Grids.{fieldAt, Vectors}
 
 module _ {d l : List ℤ} {n : ℕ} (k : Kept d n l) (c : Grid) (before : c .at + 2 * (c .rows * c .columns) ≤ n) where

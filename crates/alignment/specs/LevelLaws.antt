@@ -4,7 +4,9 @@ use Rattle.algebra.specs.Prelude.{List, ℕ, zero, suc, _+_, _*_, _≤_, _<_, a
 use native.Mathlib.Nat.{le-trans}
 use Rattle.geometry.specs.declared.Shape.{Shape}
 use Rattle.geometry.specs.Fits.{Allowed}
-use Rattle.geometry.specs.Tiles.{Level, Step, level0, level1, level2, level3, step2to1, step3to2, levelSize, levelTiles, tileCount}
+use Rattle.geometry.specs.Tiles.{Level, Step, level0, level1, level2, level3, step2to1, step3to2, levelSize, tileCount, tileRows, tileColumns, frameParts}
+use Rattle.geometry.specs.LevelTiles.{levelTiles}
+use Rattle.geometry.specs.TileLaws.{finest-tiles}
 use Rattle.pyramid.specs.ChainLaws.{words-end}
 use Rattle.pyramid.specs.Layout.{offset, pyramidLength, tiles, alignLength}
 use Rattle.pyramid.specs.LayoutLaws.{size0, size1, size3, size5}
@@ -12,8 +14,10 @@ use Rattle.pyramid.specs.WordsLaws.{Kept}
 use Rattle.sequences.specs.Write.{written, written-in, written-before, written-length}
 use Rattle.alignment.specs.declared.levels.Grid.{Grid}
 use Rattle.alignment.specs.declared.matching.Area.{Area}
-use Rattle.search.specs.Vectors.{Within}
-use Rattle.alignment.specs.Fields.{Field, levelAt, stepTo, tileRows, tileColumns, coarsest, finer, field0, field1, field2, field3, word, residuals, residualSum}
+use Rattle.search.specs.Bounds.{Within}
+use Rattle.geometry.specs.Vectors.{Field, word}
+use Rattle.alignment.specs.Fields.{levelAt, levelRows, levelColumns, coarsest, finer, field0, field1, field2, field3, residuals, residualSum}
+use Rattle.alignment.specs.Steps.{stepTo}
 use Rattle.alignment.specs.FieldLaws.{finer-agree, word-most, field0-within, field1-within, field2-within, field3-within}
 use Rattle.alignment.specs.Stored.{pairIn, Stored, Before, Few}
 use Rattle.alignment.specs.StoredLaws.{kept-stored, kept-pair}
@@ -101,8 +105,8 @@ reached shape {d} {m} {l} k at g f b kept behind room eg el small w =
     rw (el, eg) (reach (gridAt shape k at) f b kept behind (some-tiles (shape .height) k) (some-tiles (shape .width) k) room small w)
 
 -- and the next one's field is the definition's
-next-field : (shape : Shape) {d l : List ℤ} {g : Grid} {f : Field} (k c at : ℕ) → Reached d (2 * pyramidLength shape) g f l → Standing shape d → g ≡ gridAt shape c at → finer (levelAt k) (stepTo k) (g .rows) (g .columns) (pairsIn shape l k) (fieldAt l (g .at) (g .columns)) ≡ finer (levelAt k) (stepTo k) (tileRows (levelAt c) (pairsIn shape d c)) (tileColumns (levelAt c) (pairsIn shape d c)) (pairsIn shape d k) f
-unfolding gridAt pairsIn tileRows tileColumns levelTiles areaAt pairIn
+next-field : (shape : Shape) {d l : List ℤ} {g : Grid} {f : Field} (k c at : ℕ) → Reached d (2 * pyramidLength shape) g f l → Standing shape d → g ≡ gridAt shape c at → finer (levelAt k) (stepTo k) (g .rows) (g .columns) (pairsIn shape l k) (fieldAt l (g .at) (g .columns)) ≡ finer (levelAt k) (stepTo k) (levelRows (levelAt c) (pairsIn shape d c)) (levelColumns (levelAt c) (pairsIn shape d c)) (pairsIn shape d k) f
+unfolding gridAt pairsIn levelRows levelColumns levelTiles areaAt pairIn
 next-field shape {d} {l} {g} {f} k c at r s e =
     next (levelAt k) (stepTo k) (areaAt shape k) r (s .stored k) (area-before shape k)
     ∙ ap (λ g. finer (levelAt k) (stepTo k) (g .rows) (g .columns) (pairsIn shape d k) f) e
@@ -157,24 +161,25 @@ module _ {shape : Shape} {d : List ℤ} (s : Standing shape d) (room : alignLeng
   unfolding pairsIn
   finest-pair r = kept-pair (r .kept) (areaAt shape 0) (s .stored 0) (area-before shape 0)
 
-  finest-sum : {l : List ℤ} (c : Grid) → Reached d (2 * pyramidLength shape) c (field1 (pairsIn shape d)) l → c ≡ gridAt shape 1 (c .at) → residuals level0 (pairIn l (areaAt shape 0)) (levelTiles level0 (shape .height)) (levelTiles level0 (shape .width)) (finestIn l (areaAt shape 0) c) ≡ residualSum (pairsIn shape d)
-  unfolding residualSum tileRows tileColumns levelTiles pairsIn areaAt pairIn
-  finest-sum c r e =
-      ap₂ (λ q w. residuals level0 q (levelTiles level0 (shape .height)) (levelTiles level0 (shape .width)) w) (finest-pair r) (finest-field c r e)
+  finest-sum : Allowed shape → {l : List ℤ} (c : Grid) → Reached d (2 * pyramidLength shape) c (field1 (pairsIn shape d)) l → c ≡ gridAt shape 1 (c .at) → residuals level0 (pairIn l (areaAt shape 0)) (tileRows shape) (tileColumns shape) (finestIn l (areaAt shape 0) c) ≡ residualSum (pairsIn shape d)
+  unfolding residualSum levelRows levelColumns levelTiles pairsIn areaAt pairIn
+  finest-sum ok c r e =
+      rw (← finest-tiles (ok .high), ← finest-tiles (ok .wide))
+      (ap₂ (λ q w. residuals level0 q (levelTiles level0 (shape .height)) (levelTiles level0 (shape .width)) w) (finest-pair r) (finest-field c r e))
 
-  pub aligned : {l v v′ : List ℤ} {to sum : ℕ} {c g : Grid} {a : Area} → Reached d (2 * pyramidLength shape) c (field1 (pairsIn shape d)) l → c ≡ gridAt shape 1 (c .at) → a ≡ areaAt shape 0 → g ≡ gridAt shape 0 0 → to + 2 * tiles level0 shape ≤ length v → Finest l a c (g .rows) (g .columns) v to v′ sum → Aligned shape d v to l v′ sum
-  unfolding gridAt tiles
-  aligned {l} {v} {v′} {to} {sum} {c} {g} {a} r ec ea eg fits fin =
-      let f = rw (ea, eg) at fin in
-      let columns = levelTiles level0 (shape .width) in
+  pub aligned : Allowed shape → {l v v′ : List ℤ} {to sum : ℕ} {c g : Grid} {a : Area} → Reached d (2 * pyramidLength shape) c (field1 (pairsIn shape d)) l → c ≡ gridAt shape 1 (c .at) → a ≡ areaAt shape 0 → g ≡ gridAt shape 0 0 → to + frameParts shape ≤ length v → Finest l a c (g .rows) (g .columns) v to v′ sum → Aligned shape d v to l v′ sum
+  unfolding gridAt
+  aligned ok {l} {v} {v′} {to} {sum} {c} {g} {a} r ec ea eg fits fin =
+      let f = rw (ea, eg, finest-tiles (ok .high), finest-tiles (ok .wide)) at fin in
+      let columns = tileColumns shape in
       let w = field0 (pairsIn shape d) in
-      let e : v′ ≡ written v to (word columns w) (2 * tiles level0 shape) = f .vectors ∙ ap (λ w. written v to (word columns w) (2 * tiles level0 shape)) (finest-field c r ec) in
+      let e : v′ ≡ written v to (word columns w) (frameParts shape) = f .vectors ∙ ap (λ w. written v to (word columns w) (frameParts shape)) (finest-field c r ec) in
       record {
         vectors = e;
         bound = λ k h.
-            subst (λ z. natAbs z ≤ 172) (sym (ap (λ x. getD x (to + k) (pos 0)) e ∙ written-in v to (word columns w) (2 * tiles level0 shape) (pos 0) fits k h))
+            subst (λ z. natAbs z ≤ 172) (sym (ap (λ x. getD x (to + k) (pos 0)) e ∙ written-in v to (word columns w) (frameParts shape) (pos 0) fits k h))
             (word-most columns w 172 (field0-within (pairsIn shape d)) k);
-        residual = f .residual ∙ finest-sum c r ec;
+        residual = f .residual ∙ finest-sum ok c r ec;
         most = fin .most;
         kept = r .kept;
       }

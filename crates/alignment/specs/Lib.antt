@@ -1,9 +1,12 @@
 pub mod Fields
 pub mod Frames
 pub mod Aligned
+pub mod Magnitudes
+pub mod Steps
 pub mod Stored
 pub mod Grids
 pub mod Sites
+pub mod Burst
 pub mod FieldLaws
 pub mod StoredLaws
 pub mod GridLaws

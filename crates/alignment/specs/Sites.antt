@@ -1,14 +1,18 @@
--- Where the levels' images and vectors stand in the work area: the reference's pyramid, the other frame's, then the vectors of levels 3 to 1.
+-- Inner vocabulary: where the levels' images and vectors stand in the work area: the reference's pyramid, the other frame's, then the vectors of levels 3 to 1.
 use Rattle.algebra.specs.Prelude.{_≡_, List, ℕ, zero, suc, _+_, _*_, _≤_, _<_, getD, ℤ, pos, natAbs}
 use Rattle.geometry.specs.declared.Shape.{Shape}
-use Rattle.geometry.specs.Tiles.{level0, levelSize, levelTiles}
-use Rattle.pyramid.specs.Layout.{offset, pyramidLength, tiles}
+use Rattle.geometry.specs.Tiles.{level0, levelSize, tileColumns, frameParts}
+use Rattle.geometry.specs.LevelTiles.{levelTiles}
+use Rattle.pyramid.specs.Layout.{offset, pyramidLength}
 use Rattle.pyramid.specs.WordsLaws.{Kept}
 use Rattle.sequences.specs.Write.{written}
+use Rattle.search.specs.Magnitudes.{residualMost}
+use Rattle.alignment.specs.Magnitudes.{tilesMost}
 use Rattle.alignment.specs.declared.levels.Grid.{Grid}
 use Rattle.alignment.specs.declared.matching.Area.{Area}
 use Rattle.search.specs.Residual.{Pair}
-use Rattle.alignment.specs.Fields.{Field, levelAt, field0, word, residualSum}
+use Rattle.geometry.specs.Vectors.{Field, word}
+use Rattle.alignment.specs.Fields.{levelAt, field0, residualSum}
 use Rattle.alignment.specs.Stored.{pairIn, Stored}
 use Rattle.alignment.specs.Grids.{fieldAt, Vectors}
 
@@ -51,8 +55,8 @@ pub record Reached (d : List ℤ) (base : ℕ) (g : Grid) (f : Field) (l : List 
 
 -- the vectors at level 0 are written from `to` on, with parts of at most 172, the sum of their residuals is answered, and the pyramids stay
 pub record Aligned (shape : Shape) (words : List ℤ) (d : List ℤ) (to : ℕ) (words′ l : List ℤ) (sum : ℕ) : Type 0 where
-  pub vectors : l ≡ written d to (word (levelTiles level0 (shape .width)) (field0 (pairsIn shape words))) (2 * tiles level0 shape)
-  pub bound : (k : ℕ) → k < 2 * tiles level0 shape → natAbs (getD l (to + k) (pos 0)) ≤ level0 .bound
+  pub vectors : l ≡ written d to (word (tileColumns shape) (field0 (pairsIn shape words))) (frameParts shape)
+  pub bound : (k : ℕ) → k < frameParts shape → natAbs (getD l (to + k) (pos 0)) ≤ level0 .bound
   pub residual : sum ≡ residualSum (pairsIn shape words)
-  pub most : sum ≤ 66049 * 4397912294400
+  pub most : sum ≤ tilesMost * residualMost
   pub kept : Kept words (2 * pyramidLength shape) words′

@@ -1,13 +1,15 @@
--- A level's two images where they stand in the work area, and a tile of the reference in a local array.
+-- Inner vocabulary: a level's two images where they stand in the work area, and a tile of the reference in a local array.
 use Rattle.algebra.specs.Prelude.{_≡_, Bool, List, ℕ, _+_, _*_, _%_, _≤_, _<_, length, ℤ, negsuc, _+ℤ_}
 use Rattle.geometry.specs.Read.{read}
 use Rattle.pyramid.specs.Words.{imageAt, Source}
 use Rattle.search.specs.declared.Tile.{Tile}
-use Rattle.search.specs.declared.Vector.{Vector}
+use Rattle.geometry.specs.declared.vectors.Vector.{Vector}
 use Rattle.alignment.specs.declared.matching.Area.{Area}
 use Rattle.alignment.specs.declared.matching.Found.{Found}
-use Rattle.search.specs.Vectors.{Within}
+use Rattle.alignment.specs.Magnitudes.{originMost, wayMost}
+use Rattle.search.specs.Bounds.{Within}
 use Rattle.search.specs.Residual.{Pair, residual}
+use Rattle.search.specs.Search.{found, guessed}
 use Rattle.search.specs.Local.{Copied}
 
 -- the images that stand there, read inside and outside
@@ -32,14 +34,14 @@ pub record Before (a : Area) (n : ℕ) : Type 0 where
 -- a grid of some columns, and of no more rows and columns than level 0 of a frame of 4096 by 4096 has
 pub record Few (rows columns : ℕ) : Type 0 where
   pub some-columns : 0 < columns
-  pub few-rows : rows ≤ 257
-  pub few-columns : columns ≤ 257
+  pub few-rows : rows ≤ wayMost
+  pub few-columns : columns ≤ wayMost
 
 -- a tile of side 8 or 16 that is near the images, so that its samples can be copied
 pub record Placed (t : Tile) : Type 0 where
   pub small : t .side ≤ 16
   pub eights : t .side % 8 ≡ 0
-  pub near : Within 65552 (t .origin)
+  pub near : Within originMost (t .origin)
 
 -- the tile's samples of the reference stand in a local array
 pub record Ready (words : List ℤ) (a : Area) (t : Tile) (samples : List ℕ) : Type 0 where
@@ -56,3 +58,11 @@ pub record Around (words : List ℤ) (a : Area) (t : Tile) (guess : Vector) (win
 -- the answer for a tile: a vector and its residual
 abbrev pub answer : (squared : Bool) → Pair → Tile → Vector → Found
 answer squared p t v = record { vector = v; residual = residual squared p t v }
+
+-- that of the search around a guess, in the images that stand there
+abbrev pub refined : (squared : Bool) → List ℤ → Area → Tile → (guess : Vector) → Found
+refined squared words a t guess = answer squared (pairIn words a) t (found squared (pairIn words a) t guess)
+
+-- the guess of three candidates there
+abbrev pub guessedIn : List ℤ → Area → Tile → (own sideways vertically : Vector) → Vector
+guessedIn words a t own sideways vertically = guessed (pairIn words a) t own sideways vertically

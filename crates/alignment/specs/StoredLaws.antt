@@ -4,25 +4,27 @@ use Rattle.algebra.specs.Prelude.{Bool, false, List, ℕ, zero, suc, _+_, _*_, 
 use native.Mathlib.Nat.{mul-le-mul, zero-mul, div-add-mod'}
 use Rattle.geometry.specs.Read.{inside, read}
 use Rattle.geometry.specs.ReadLaws.{inside-below}
-use Rattle.geometry.specs.Tiles.{Level, Step}
+use Rattle.geometry.specs.Tiles.{Level, level3, Step}
 use Rattle.pyramid.specs.Words.{imageAt, Source}
 use Rattle.pyramid.specs.WordsLaws.{Kept, kept-image, kept-source}
 use Rattle.search.specs.declared.Tile.{Tile}
-use Rattle.search.specs.declared.Vector.{Vector}
+use Rattle.geometry.specs.declared.vectors.Vector.{Vector}
 use Rattle.alignment.specs.declared.matching.Area.{Area}
 use Rattle.alignment.specs.declared.matching.Found.{Found}
 use Rattle.search.specs.declared.window.Best.{Best}
-use Rattle.search.specs.Vectors.{still, _plus_, Within}
+use Rattle.search.specs.Vectors.{still, _plus_}
+use Rattle.search.specs.Bounds.{Within}
 use Rattle.search.specs.VectorLaws.{within-more}
 use Rattle.search.specs.Offsets.{offset}
 use Rattle.search.specs.Residual.{Pair, residual}
 use Rattle.search.specs.Search.{found}
 use Rattle.search.specs.SearchLaws.{found-within}
-use Rattle.alignment.specs.Fields.{Field, levelAt, tileAt, coarsest, fromCoarse, finer}
+use Rattle.geometry.specs.Vectors.{Field}
+use Rattle.alignment.specs.Fields.{levelAt, tileAt, coarsest, fromCoarse, finer}
 use Rattle.sequences.specs.Place.{row-below, column-below}
 use Rattle.search.specs.Local.{squareSum, Low, Window, Searched, Copied}
 use Rattle.search.specs.LocalLaws.{middle-residual, searched-finds}
-use Rattle.alignment.specs.Stored.{pairIn, Stored, Before, Placed, Ready, Around, answer}
+use Rattle.alignment.specs.Stored.{pairIn, Stored, Before, Placed, Ready, Around, answer, refined}
 
 -- what is copied from an image is low
 pub copied-low : {words : List ℤ} {from height width : ℕ} → Source words from height width → {l : List ℕ} {n : ℕ} {row column : ℤ} → n * n ≤ length l → Copied l n n (read height width (imageAt words from width)) row column → Low l (n * n)
@@ -51,15 +53,17 @@ ready s h e c = record { stored = s; placed = h; room = omega arith; copied = c 
 -- a tile's samples and the window around a guess
 module _ {words : List ℤ} {a : Area} {t : Tile} {samples : List ℕ} {guess : Vector} {window : List ℕ} (r : Ready words a t samples) (w : Around words a t guess window) where
   -- they are low: what the sums ask
-  pub window-low : Window samples window (t .side)
+  side-low : Window samples window (t .side)
   unfolding pairIn
-  window-low =
+  side-low =
       let small = r .placed .small in
       record {
-        small = omega arith;
         tile-low = copied-low (r .stored .reference) (omega (arith, r .room, mul-le-mul small small)) (r .copied);
         window-low = copied-low (r .stored .other) (w .room) (w .copied);
       }
+
+  pub window-low : (n : ℕ) → t .side ≡ n → Window samples window n
+  window-low n e = subst (Window samples window) e side-low
 
   -- the guess's residual, where the side is 16
   pub guess-residual : t .side ≡ 16 → squareSum false samples window 100 24 16 ≡ residual false (pairIn words a) t guess
@@ -68,10 +72,10 @@ module _ {words : List ℤ} {a : Area} {t : Tile} {samples : List ℕ} {guess : 
       ∙ middle-residual false (pairIn words a) t guess samples window (r .copied) (w .copied)
 
   -- the answer that the search there gives
-  pub search-answer : {squared : Bool} {best : Best} {f : Found} → Searched squared samples window (t .side) best → f .vector ≡ guess plus offset (best .offset) → f .residual ≡ best .residual → f ≡ answer squared (pairIn words a) t (found squared (pairIn words a) t guess)
+  pub search-answer : {squared : Bool} {best : Best} {f : Found} {n : ℕ} → t .side ≡ n → Searched squared samples window n best → f .vector ≡ guess plus offset (best .offset) → f .residual ≡ best .residual → f ≡ refined squared words a t guess
   unfolding found
-  search-answer {squared} {best} {f} s ev er =
-      let (is, low) = searched-finds squared (pairIn words a) t guess samples window best (r .copied) (w .copied) s in
+  search-answer {squared} {best} {f} side s ev er =
+      let (is, low) = searched-finds squared (pairIn words a) t guess samples window best (r .copied) (w .copied) (subst (λ n. Searched squared samples window n best) (sym side) s) in
       ap₂ (λ v n. record { vector = v; residual = n }) (ev ∙ ap (λ k. guess plus offset k) is) (er ∙ low)
 
 -- the answer's parts are at most 4 more than the guess's
@@ -87,6 +91,11 @@ module _ (l : Level) (p : Pair) (row column : ℕ) (t : Tile) (r : Found) (at : 
   pub finer-answer : (s : Step) (rows columns : ℕ) (coarse : Field) → r ≡ answer (l .squared) p t (found (l .squared) p t (fromCoarse s rows columns p t coarse row column)) → r ≡ answer (l .squared) p (tileAt l row column) (finer l s rows columns p coarse row column)
   unfolding finer
   finer-answer s rows columns coarse is = is ∙ rw at
+
+-- the tiles of level 3 have side 8
+pub eight-side : (row column : ℕ) → tileAt level3 row column .side ≡ 8
+unfolding tileAt
+eight-side row column = refl
 
 -- the tiles of the finer levels have side 16
 pub finer-side : (level row column : ℕ) → level ≤ 2 → tileAt (levelAt level) row column .side ≡ 16

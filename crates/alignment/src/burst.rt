@@ -4,12 +4,13 @@ ghost use Prim.Native.Nat.{_+_, _*_, _≤_, _<_};
 ghost use lib.ListN.{length};
 ghost use Rattle.geometry.specs.Read.{sampleAt};
 ghost use Rattle.geometry.specs.Fits.{Allowed};
-ghost use Rattle.geometry.specs.Tiles.{level0};
-ghost use Rattle.pyramid.specs.Layout.{alignLength, tiles, Levels};
+ghost use Rattle.geometry.specs.Tiles.{frameParts};
+ghost use Rattle.pyramid.specs.Layout.{alignLength, Levels};
 ghost use Rattle.pyramid.specs.Frame.{Frame};
-ghost use Rattle.alignment.specs.Aligned.{Ready, AlignedBurst, OneAligned};
+ghost use Rattle.alignment.specs.Burst.{Ready, AlignedBurst, OneAligned};
 use crate::frame::align_levels;
 use geometry::Shape;
+use geometry::tiles::frame_parts;
 use geometry::vectors::other_frame;
 
 // One frame against the reference, whose pyramid stands at the work area's start: its vectors from `to` on, and the sum of their residuals.
@@ -22,7 +23,7 @@ fn align_frame(
     to: usize,
     work: &mut [i64],
 ) -> u64
-    requires { ⌜ (Frame shape frame (now samples)) × (Levels shape (sampleAt shape (now samples) reference) 0 (now work)) × (alignLength shape ≤ length (now work)) × (to + 2 * tiles level0 shape ≤ length (now vectors)) ⌝ }
+    requires { ⌜ (Frame shape frame (now samples)) × (Levels shape (sampleAt shape (now samples) reference) 0 (now work)) × (alignLength shape ≤ length (now work)) × (to + frameParts shape ≤ length (now vectors)) ⌝ }
     ensures { λ r. ⌜ OneAligned shape (sampleAt shape (now (samples .entry)) reference) (sampleAt shape (now (samples .entry)) frame) (now (vectors .entry)) to (now (vectors .exit)) (now (work .entry)) (now (work .exit)) r ⌝ }
 {
     let at = pyramid::offset(shape, 6);
@@ -42,7 +43,7 @@ pub fn align_frames(
     ensures { λ r. ⌜ AlignedBurst shape reference (now (samples .entry)) (now (vectors .exit)) (now (work .entry)) (now (work .exit)) r ⌝ }
 {
     pyramid::build(shape, reference, samples, &mut *work, 0);
-    let parts = 2 * ((shape.height / 16 + 1) * (shape.width / 16 + 1));
+    let parts = frame_parts(shape);
     let mut sums = [0u64; 7];
     for k in 0..shape.count - 1 {
         let frame = other_frame(reference, k);

@@ -4,18 +4,21 @@ ghost use Prim.Native.Nat.{_+_, _*_, _≤_, _<_};
 ghost use lib.ListN.{length, set};
 ghost use Rattle.geometry.specs.Tiles.{level3};
 ghost use Rattle.sequences.specs.Write.{written};
-ghost use Rattle.search.specs.Vectors.{Within};
-ghost use Rattle.alignment.specs.Fields.{levelAt, stepTo, coarsest, finer, word};
+ghost use Rattle.alignment.specs.Magnitudes.{foundMost};
+ghost use Rattle.search.specs.Bounds.{Within};
+ghost use Rattle.geometry.specs.Vectors.{word};
+ghost use Rattle.alignment.specs.Fields.{coarsest};
 ghost use Rattle.alignment.specs.Stored.{pairIn, Stored, Before, Few};
-ghost use Rattle.alignment.specs.Grids.{fieldAt, Vectors, Ends, Finest};
+ghost use Rattle.alignment.specs.Grids.{Vectors, Ends, finerIn, Finest};
 use crate::levels::Grid;
 use crate::levels::coarsest_tile;
 use crate::levels::finer_tile;
 use crate::matching::Area;
-use search::Vector;
+use geometry::vectors::Vector;
 
+// A vector into the work area.
 fn put(work: &mut [i64], at: usize, v: Vector)
-    requires { ⌜ (at + 1 < length (now work)) × (Within 340 v) ⌝ }
+    requires { ⌜ (at + 1 < length (now work)) × (Within foundMost v) ⌝ }
     ensures { λ _. ⌜ now (work .exit) ≡ set (set (now (work .entry)) at (v .down)) (at + 1) (v .right) ⌝ }
 {
     let down = v.down;
@@ -47,7 +50,7 @@ pub fn finer_field(
     columns: usize,
 )
     requires { ⌜ (Stored (now work) area) × (Before area to) × (Vectors (now work) coarse) × (Ends coarse to) × (level ≤ 2) × (Few rows columns) × (to + 2 * (rows * columns) ≤ length (now work)) ⌝ }
-    ensures { λ _. ⌜ now (work .exit) ≡ written (now (work .entry)) to (word columns (finer (levelAt level) (stepTo level) (coarse .rows) (coarse .columns) (pairIn (now (work .entry)) area) (fieldAt (now (work .entry)) (coarse .at) (coarse .columns)))) (2 * (rows * columns)) ⌝ }
+    ensures { λ _. ⌜ now (work .exit) ≡ written (now (work .entry)) to (word columns (finerIn level (now (work .entry)) area coarse)) (2 * (rows * columns)) ⌝ }
 {
     for k in 0..rows * columns {
         let found = finer_tile(&*work, area, level, coarse, k / columns, k % columns);
@@ -56,8 +59,9 @@ pub fn finer_field(
     }
 }
 
+// A vector into the lent ones.
 fn hand_over(vectors: &mut [i32], at: usize, v: Vector)
-    requires { ⌜ (at + 1 < length (now vectors)) × (Within 340 v) ⌝ }
+    requires { ⌜ (at + 1 < length (now vectors)) × (Within foundMost v) ⌝ }
     ensures { λ _. ⌜ now (vectors .exit) ≡ set (set (now (vectors .entry)) at (v .down)) (at + 1) (v .right) ⌝ }
 {
     let down = v.down as i32;

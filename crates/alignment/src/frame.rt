@@ -3,10 +3,12 @@ ghost use mathlib.Core.Path.{_≡_};
 ghost use Prim.Native.Nat.{_+_, _*_, _≤_, _<_, _^_};
 ghost use lib.ListN.{length};
 ghost use Rattle.geometry.specs.Fits.{Allowed};
-ghost use Rattle.geometry.specs.Tiles.{level0, level3};
-ghost use Rattle.pyramid.specs.Layout.{alignLength, pyramidLength, tiles};
+ghost use Rattle.geometry.specs.Tiles.{level3, frameParts};
+ghost use Rattle.pyramid.specs.Layout.{alignLength, pyramidLength};
 ghost use Rattle.sequences.specs.Write.{written};
-ghost use Rattle.alignment.specs.Fields.{levelAt, stepTo, coarsest, finer, field1, word};
+ghost use Rattle.geometry.specs.Vectors.{word};
+ghost use Rattle.alignment.specs.Fields.{levelAt, coarsest, finer, field1};
+ghost use Rattle.alignment.specs.Steps.{stepTo};
 ghost use Rattle.alignment.specs.Stored.{Few};
 ghost use Rattle.alignment.specs.Grids.{fieldAt, Vectors};
 ghost use Rattle.alignment.specs.Sites.{imageNumber, areaAt, gridAt, after, pairsIn, Standing, Reached, Aligned};
@@ -19,6 +21,7 @@ use crate::matching::Area;
 use geometry::Shape;
 use geometry::tiles::tile_count;
 
+// A level's number among a pyramid's six images.
 fn image_number(level: usize) -> usize
     requires { ⌜ level ≤ 3 ⌝ }
     ensures { λ r. ⌜ (r ≡ imageNumber level) × (r ≤ 5) ⌝ }
@@ -26,6 +29,7 @@ fn image_number(level: usize) -> usize
     if level < 2 { level } else { 2 * level - 1 }
 }
 
+// How many of the frame's samples one of a level's stands for, each way.
 fn scale_of(level: usize) -> usize
     requires { ⌜ level ≤ 3 ⌝ }
     ensures { λ r. ⌜ (r ≡ levelAt level .scale) × (0 < r) ⌝ }
@@ -112,7 +116,7 @@ fn coarse_levels(shape: Shape, work: &mut [i64]) -> Grid
 
 // The vectors at level 0, into the lent vectors from `to` on, and the sum of their residuals.
 pub fn align_levels(shape: Shape, work: &mut [i64], vectors: &mut [i32], to: usize) -> u64
-    requires { ⌜ (Allowed shape) × (Standing shape (now work)) × (alignLength shape ≤ length (now work)) × (to + 2 * tiles level0 shape ≤ length (now vectors)) ⌝ }
+    requires { ⌜ (Allowed shape) × (Standing shape (now work)) × (alignLength shape ≤ length (now work)) × (to + frameParts shape ≤ length (now vectors)) ⌝ }
     ensures { λ r. ⌜ Aligned shape (now (work .entry)) (now (vectors .entry)) to (now (work .exit)) (now (vectors .exit)) r ⌝ }
 {
     let coarse = coarse_levels(shape, &mut *work);

@@ -4,21 +4,24 @@ ghost use Prim.Native.Nat.{_*_, _%_, _≤_, _<_};
 ghost use lib.ListN.{length, getD};
 ghost use lib.IntN.{pos, natAbs, _*ℤ_};
 ghost use Rattle.geometry.specs.Tiles.{level3};
-ghost use Rattle.search.specs.Vectors.{_times_, Within};
-ghost use Rattle.alignment.specs.Fields.{levelAt, stepTo, tileAt, coarsest, fromCoarse, finer};
-ghost use Rattle.alignment.specs.Stored.{pairIn, Stored, Placed, Ready, answer};
-ghost use Rattle.search.specs.Search.{found};
-ghost use Rattle.alignment.specs.Grids.{fieldAt, Vectors};
+ghost use Rattle.search.specs.Vectors.{_times_};
+ghost use Rattle.search.specs.Bounds.{Within};
+ghost use Rattle.alignment.specs.Fields.{levelAt, tileAt, coarsest};
+ghost use Rattle.alignment.specs.Steps.{stepTo};
+ghost use Rattle.alignment.specs.Stored.{pairIn, Stored, Placed, Ready, answer, refined};
+ghost use Rattle.search.specs.Magnitudes.{residualMost};
+ghost use Rattle.alignment.specs.Magnitudes.{coarseMost, guessMost, foundMost};
+ghost use Rattle.alignment.specs.Grids.{fieldAt, Vectors, guessFrom, finerAnswer};
 use crate::matching::Area;
 use crate::matching::Found;
-use crate::matching::refine;
 use crate::matching::refine_candidates;
+use crate::matching::refine_eight;
 use geometry::tiles::capped;
 use geometry::tiles::neighbour;
 use geometry::tiles::origin;
 use geometry::tiles::own;
+use geometry::vectors::Vector;
 use search::Tile;
-use search::Vector;
 use search::copy::copy_square;
 
 // A level's rows and columns of tiles, and where their vectors stand in the work area, row by row.
@@ -28,6 +31,7 @@ pub struct Grid {
     pub columns: usize,
 }
 
+// f of the step to a level.
 fn factor(level: usize) -> usize
     requires { ⌜ level ≤ 2 ⌝ }
     ensures { λ r. ⌜ (r ≡ stepTo level .factor) × (r ≤ 4) ⌝ }
@@ -35,6 +39,7 @@ fn factor(level: usize) -> usize
     if level == 0 { 2 } else { 4 }
 }
 
+// q of the step to a level.
 fn quotient(level: usize) -> usize
     requires { ⌜ level ≤ 2 ⌝ }
     ensures { λ r. ⌜ (r ≡ stepTo level .quotient) × (0 < r) × (r ≤ 4) ⌝ }
@@ -42,6 +47,7 @@ fn quotient(level: usize) -> usize
     if level == 1 { 4 } else { 2 }
 }
 
+// The half step of a level's tiles.
 pub fn half_of(level: usize) -> usize
     requires { ⌜ level ≤ 3 ⌝ }
     ensures { λ r. ⌜ (r ≡ levelAt level .half) × (2 * r ≡ levelAt level .side) × (r % 4 ≡ 0) × (0 < r) × (r ≤ 8) ⌝ }
@@ -67,8 +73,8 @@ fn tile_at(level: usize, row: usize, column: usize) -> Tile
 
 // A part of a coarse vector, times f.
 fn coarse_part(words: &[i64], k: usize, f: usize) -> i64
-    requires { ⌜ (k < length (now words)) × (natAbs (getD (now words) k (pos 0)) ≤ 84) × (f ≤ 4) ⌝ }
-    ensures { λ r. ⌜ (r ≡ getD (now (words .entry)) k (pos 0) *ℤ pos f) × (natAbs r ≤ 336) ⌝ }
+    requires { ⌜ (k < length (now words)) × (natAbs (getD (now words) k (pos 0)) ≤ coarseMost) × (f ≤ 4) ⌝ }
+    ensures { λ r. ⌜ (r ≡ getD (now (words .entry)) k (pos 0) *ℤ pos f) × (natAbs r ≤ guessMost) ⌝ }
 {
     words[k] * f as i64
 }
@@ -76,7 +82,7 @@ fn coarse_part(words: &[i64], k: usize, f: usize) -> i64
 // A coarse vector, times f.
 fn coarse_vector(words: &[i64], coarse: Grid, row: usize, column: usize, f: usize) -> Vector
     requires { ⌜ (Vectors (now words) coarse) × (row < coarse .rows) × (column < coarse .columns) × (f ≤ 4) ⌝ }
-    ensures { λ r. ⌜ (r ≡ fieldAt (now (words .entry)) (coarse .at) (coarse .columns) row column times f) × (Within 336 r) ⌝ }
+    ensures { λ r. ⌜ (r ≡ fieldAt (now (words .entry)) (coarse .at) (coarse .columns) row column times f) × (Within guessMost r) ⌝ }
 {
     let k = coarse.at + 2 * (row * coarse.columns + column);
     let down = coarse_part(words, k, f);
@@ -87,6 +93,7 @@ fn coarse_vector(words: &[i64], coarse: Grid, row: usize, column: usize, f: usiz
     }
 }
 
+// Whether a level's residuals are of squared differences.
 fn is_squared(level: usize) -> bool
     requires { ⌜ level ≤ 3 ⌝ }
     ensures { λ r. ⌜ r ≡ levelAt level .squared ⌝ }
@@ -106,7 +113,7 @@ fn refine_coarse(
     column: usize,
 ) -> Found
     requires { ⌜ (Ready (now words) area tile (now samples)) × (tile .side ≡ 16) × (Vectors (now words) coarse) × (level ≤ 2) × (row ≤ 4096) × (column ≤ 4096) ⌝ }
-    ensures { λ r. ⌜ (r ≡ answer (levelAt level .squared) (pairIn (now (words .entry)) area) tile (found (levelAt level .squared) (pairIn (now (words .entry)) area) tile (fromCoarse (stepTo level) (coarse .rows) (coarse .columns) (pairIn (now (words .entry)) area) tile (fieldAt (now (words .entry)) (coarse .at) (coarse .columns)) row column))) × (Within 340 (r .vector)) × (r .residual ≤ 4397912294400) ⌝ }
+    ensures { λ r. ⌜ (r ≡ refined (levelAt level .squared) (now (words .entry)) area tile (guessFrom level (now (words .entry)) area coarse tile row column)) × (Within foundMost (r .vector)) × (r .residual ≤ residualMost) ⌝ }
 {
     let squared = is_squared(level);
     let q = quotient(level);
@@ -147,14 +154,7 @@ pub fn coarsest_tile(words: &[i64], area: Area, row: usize, column: usize) -> Fo
         tile.side,
         &mut samples,
     );
-    refine(
-        words,
-        area,
-        tile,
-        &samples,
-        true,
-        Vector { down: 0, right: 0 },
-    )
+    refine_eight(words, area, tile, &samples, Vector { down: 0, right: 0 })
 }
 
 // The vector of a tile of a finer level.
@@ -167,7 +167,7 @@ pub fn finer_tile(
     column: usize,
 ) -> Found
     requires { ⌜ (Stored (now words) area) × (Vectors (now words) coarse) × (level ≤ 2) × (row ≤ 4096) × (column ≤ 4096) ⌝ }
-    ensures { λ r. ⌜ (r ≡ answer (levelAt level .squared) (pairIn (now (words .entry)) area) (tileAt (levelAt level) row column) (finer (levelAt level) (stepTo level) (coarse .rows) (coarse .columns) (pairIn (now (words .entry)) area) (fieldAt (now (words .entry)) (coarse .at) (coarse .columns)) row column)) × (Within 340 (r .vector)) × (r .residual ≤ 4397912294400) ⌝ }
+    ensures { λ r. ⌜ (r ≡ finerAnswer level (now (words .entry)) area coarse row column) × (Within foundMost (r .vector)) × (r .residual ≤ residualMost) ⌝ }
 {
     let tile = tile_at(level, row, column);
     let origin = tile.origin;

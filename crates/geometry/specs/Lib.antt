@@ -1,8 +1,8 @@
+pub mod Tiles
 pub mod Shape
 pub mod Order
 pub mod Question
 pub mod Read
-pub mod Tiles
 pub mod Vectors
 pub mod Bounds
 pub mod Fits
@@ -10,6 +10,7 @@ pub mod Excess
 pub mod ShapeLaws
 pub mod OrderLaws
 pub mod ReadLaws
+pub mod LevelTiles
 pub mod TileLaws
 pub mod VectorLaws
 pub mod BoundLaws

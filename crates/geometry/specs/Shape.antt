@@ -3,6 +3,7 @@ use Rattle.algebra.specs.Prelude.{Bool, not, _&&_, ℕ, _+_, _-_, _*_, _/_, _%_
 use Rattle.refusals.specs.Numbers as no
 use Rattle.refusals.specs.Tests.{refuse}
 use Rattle.geometry.specs.declared.Shape.{Shape}
+use Rattle.geometry.specs.Tiles.{frameParts}
 
 -- a burst's shape, by W, H and N
 abbrev pub shaped : (width height count : ℕ) → Shape
@@ -41,7 +42,7 @@ sampleLength s = s .count * frameStride s
 
 -- "Lengths: vectors (N−1)·2·(W/16+1)·(H/16+1)"
 unfoldable pub vectorLength : Shape → ℕ
-vectorLength s = (s .count - 1) * 2 * ((s .width / 16 + 1) * (s .height / 16 + 1))
+vectorLength s = (s .count - 1) * frameParts s
 
 -- "output W·H"
 unfoldable pub outputLength : Shape → ℕ

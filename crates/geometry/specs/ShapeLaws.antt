@@ -1,10 +1,11 @@
 -- What acceptance says of sizes, counts and lengths, in a form that linear arithmetic reads.
-use Rattle.algebra.specs.Prelude.{_≡_, refl, subst, Bool, true, false, not, _&&_, ℕ, _+_, _-_, _*_, _/_, _≤_, _<_, arith, T, leb, eqb, ltb}
+use Rattle.algebra.specs.Prelude.{_≡_, refl, subst, Bool, true, false, not, _&&_, ℕ, _-_, _*_, _≤_, _<_, arith, T, leb, eqb, ltb}
 use native.Mathlib.Nat.{mul-le-mul}
 use borrow.Author.Tests.{leb-true, leb-false, eqb-true, not-false}
 use Rattle.refusals.specs.Numbers as no
 use Rattle.refusals.specs.TestLaws.{refuse-not}
 use Rattle.geometry.specs.declared.Shape.{Shape}
+use Rattle.geometry.specs.Tiles.{tileColumns, tileRows, frameParts}
 use Rattle.geometry.specs.Shape.{sizeAllowed, countAllowed, sizeRefusal, countRefusal, referenceRefusal, lengthRefusal}
 use Rattle.geometry.specs.Fits.{AllowedSize, Allowed}
 
@@ -48,8 +49,8 @@ module _ {s : Shape} (ok : Allowed s) where
   pub samples-most : s .count * (s .width * s .height) ≤ 134217728
   samples-most = mul-le-mul {n₁ = s .count} {m₁ = s .width * s .height} {n₂ = 8} {m₂ = 16777216} (ok .few) area-most
 
-  pub tiles-most : (s .width / 16 + 1) * (s .height / 16 + 1) ≤ 66049
-  tiles-most = mul-le-mul {n₁ = s .width / 16 + 1} {m₁ = s .height / 16 + 1} {n₂ = 257} {m₂ = 257} (omega arith) (omega arith)
+  pub tiles-most : tileRows s * tileColumns s ≤ 66049
+  tiles-most = mul-le-mul {n₁ = tileRows s} {m₁ = tileColumns s} {n₂ = 257} {m₂ = 257} (omega arith) (omega arith)
 
-  pub vectors-most : (s .count - 1) * 2 * ((s .width / 16 + 1) * (s .height / 16 + 1)) ≤ 924686
-  vectors-most = mul-le-mul {n₁ = (s .count - 1) * 2} {m₁ = (s .width / 16 + 1) * (s .height / 16 + 1)} {n₂ = 14} {m₂ = 66049} (omega arith) tiles-most
+  pub vectors-most : (s .count - 1) * frameParts s ≤ 924686
+  vectors-most = mul-le-mul {n₁ = s .count - 1} {m₁ = frameParts s} {n₂ = 7} {m₂ = 132098} (omega arith) (omega (arith, tiles-most))

@@ -2,7 +2,8 @@
 use Rattle.algebra.specs.Prelude.{_≡_, ℕ, _+_, _-_, _*_, _/_, _≤_, _<_, arith}
 use native.Mathlib.Nat.{div-lt-iff-lt-mul, mul-le-mul-left, add-mul}
 use Rattle.geometry.specs.Fits.{AllowedSize}
-use Rattle.geometry.specs.Tiles.{Level, Step, level0, level1, level2, level3, step1to0, step2to1, step3to2, levelSize, levelTiles, tileCount, own}
+use Rattle.geometry.specs.Tiles.{Level, Step, level0, level1, level2, level3, step1to0, step2to1, step3to2, finestSide, levelSize, tileCount, own}
+use Rattle.geometry.specs.LevelTiles.{levelTiles}
 
 pub count-most : (half size : ℕ) → 0 < half → tileCount half size ≤ size + 1
 unfolding tileCount
@@ -19,10 +20,10 @@ abbrev OwnBelow : (fine coarse : Level) → Step → (size : ℕ) → Type 0
 OwnBelow fine coarse step size = (a : ℕ) → a < levelTiles fine size → own (step .quotient) a < levelTiles coarse size
 
 module _ {size : ℕ} (ok : AllowedSize size) where
-  -- "(W/16+1)·(H/16+1)"
-  pub level0-tiles : levelTiles level0 size ≡ size / 16 + 1
+  -- "Indices run from 0 to ceil(size/s)" makes "W/16+1" of them at level 0
+  pub finest-tiles : levelTiles level0 size ≡ size / finestSide + 1
   unfolding levelTiles tileCount levelSize
-  level0-tiles = omega arith
+  finest-tiles = omega arith
 
   -- so only own + 1 is ever capped
   pub own-below : OwnBelow level0 level1 step1to0 size × OwnBelow level1 level2 step2to1 size × OwnBelow level2 level3 step3to2 size

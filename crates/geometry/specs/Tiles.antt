@@ -1,6 +1,7 @@
 -- Tiles of a level: their sides, counts and origins, and the coarse tiles that a tile's candidates come from.
 use Rattle.algebra.specs.Prelude.{Bool, true, false, cond, ltb, ℤ, pos, _-ℤ_}
 use Prim.Native.Nat.{ℕ, _+_, _-_, _*_, _/_, min}
+use Rattle.geometry.specs.declared.Shape.{Shape}
 
 -- What goes with a level. `scale`: one of its samples stands for that many of the frame's, each way. A vector part found at it is at most `bound`
 pub record Level : Type 0 where
@@ -12,8 +13,8 @@ pub record Level : Type 0 where
 
 -- "Level 0: the sum of each 2 by 2 Bayer square. Level 1 halves it; level 2 is a quarter of level 1, level 3 a quarter of level 2";
 -- "Tiles have side 16 (8 at level 3) and half step s = 8 (4)"; "squared differences at levels 3 to 1, absolute at level 0"
-abbrev pub level0 : Level
-level0 = record { scale = 2; side = 16; half = 8; squared = false; bound = 172 }
+abbrev pub finestLevel : (side : ℕ) → Level
+finestLevel side = record { scale = 2; side = side; half = side / 2; squared = false; bound = 172 }
 
 abbrev pub level1 : Level
 level1 = record { scale = 4; side = 16; half = 8; squared = true; bound = 84 }
@@ -24,6 +25,13 @@ level2 = record { scale = 16; side = 16; half = 8; squared = true; bound = 20 }
 abbrev pub level3 : Level
 level3 = record { scale = 64; side = 8; half = 4; squared = true; bound = 4 }
 
+-- the side of level 0's tiles, which are the merge's as well
+abbrev pub finestSide : ℕ
+finestSide = 16
+
+abbrev pub level0 : Level
+level0 = finestLevel finestSide
+
 -- a level's size, of a frame's
 unfoldable pub levelSize : Level → ℕ → ℕ
 levelSize l size = size / l .scale
@@ -33,9 +41,12 @@ pub record Step : Type 0 where
   pub factor : ℕ
   pub quotient : ℕ
 
--- "f = 2, q = 2 from level 1 to 0; f = 4, q = 4 from 2 to 1; f = 4, q = 2 from 3 to 2"
+-- "f = 2, q = 2 from level 1 to 0; f = 4, q = 4 from 2 to 1; f = 4, q = 2 from 3 to 2": level 1's tiles lie 16 of level 0's samples apart
+abbrev pub finestStep : (side : ℕ) → Step
+finestStep side = record { factor = 2; quotient = 32 / side }
+
 abbrev pub step1to0 : Step
-step1to0 = record { factor = 2; quotient = 2 }
+step1to0 = finestStep finestSide
 
 abbrev pub step2to1 : Step
 step2to1 = record { factor = 4; quotient = 4 }
@@ -47,9 +58,16 @@ step3to2 = record { factor = 4; quotient = 2 }
 unfoldable pub tileCount : (half size : ℕ) → ℕ
 tileCount half size = (size + (half - 1)) / half + 1
 
--- how many there are at a level, of a frame's size
-unfoldable pub levelTiles : Level → ℕ → ℕ
-levelTiles l size = tileCount (l .half) (levelSize l size)
+-- "(W/16+1)·(H/16+1)": the columns and the rows of level 0's tiles (`finest-tiles`, TileLaws)
+abbrev pub tileColumns : Shape → ℕ
+tileColumns s = s .width / finestSide + 1
+
+abbrev pub tileRows : Shape → ℕ
+tileRows s = s .height / finestSide + 1
+
+-- how many parts the vectors of one frame have, two for each tile
+abbrev pub frameParts : Shape → ℕ
+frameParts s = 2 * (tileRows s * tileColumns s)
 
 -- "origin −s + s·index"
 unfoldable pub origin : (half index : ℕ) → ℤ

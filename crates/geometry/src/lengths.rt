@@ -4,6 +4,7 @@ ghost use Prim.Native.Nat.{_≤_};
 ghost use Rattle.geometry.specs.Shape.{sampleLength, vectorLength, outputLength, workLength, lengthRefusal};
 ghost use Rattle.geometry.specs.Fits.{Allowed};
 use crate::Shape;
+use crate::tiles::frame_parts;
 
 // Samples: count times a frame's.
 pub fn sample_length(shape: Shape) -> usize
@@ -18,7 +19,7 @@ pub fn vector_length(shape: Shape) -> usize
     requires { ⌜ Allowed shape ⌝ }
     ensures { λ r. ⌜ (r ≡ vectorLength shape) × (r ≤ 924686) ⌝ }
 {
-    (shape.count - 1) * 2 * ((shape.width / 16 + 1) * (shape.height / 16 + 1))
+    (shape.count - 1) * frame_parts(shape)
 }
 
 // Words of output: a frame's samples.

@@ -2,7 +2,12 @@
 ghost use mathlib.Core.Path.{_≡_};
 ghost use Prim.Native.Nat.{_+_, _<_, _≤_};
 ghost use Rattle.algebra.specs.Bound.{AtMost};
-ghost use Rattle.geometry.specs.Tiles.{tileCount, origin, own, neighbour, capped};
+ghost use Rattle.geometry.specs.Fits.{Allowed};
+ghost use Rattle.geometry.specs.Tiles.{tileCount, tileRows, tileColumns, frameParts, origin, own, neighbour, capped};
+use crate::Shape;
+
+// The side of level 0's tiles, which are the merge's as well.
+pub const FINEST_SIDE: usize = 16;
 
 // How many tiles there are, one way.
 pub fn tile_count(half: usize, size: usize) -> usize
@@ -10,6 +15,30 @@ pub fn tile_count(half: usize, size: usize) -> usize
     ensures { λ r. ⌜ (r ≡ tileCount half size) × (0 < r) × (r ≤ size + 1) ⌝ }
 {
     (size + (half - 1)) / half + 1
+}
+
+// The rows of level 0's tiles.
+pub fn tile_rows(shape: Shape) -> usize
+    requires { ⌜ Allowed shape ⌝ }
+    ensures { λ r. ⌜ (r ≡ tileRows shape) × (r ≤ 257) ⌝ }
+{
+    shape.height / FINEST_SIDE + 1
+}
+
+// Their columns.
+pub fn tile_columns(shape: Shape) -> usize
+    requires { ⌜ Allowed shape ⌝ }
+    ensures { λ r. ⌜ (r ≡ tileColumns shape) × (r ≤ 257) ⌝ }
+{
+    shape.width / FINEST_SIDE + 1
+}
+
+// How many parts the vectors of one frame have.
+pub fn frame_parts(shape: Shape) -> usize
+    requires { ⌜ Allowed shape ⌝ }
+    ensures { λ r. ⌜ (r ≡ frameParts shape) × (r ≤ 132098) ⌝ }
+{
+    2 * (tile_rows(shape) * tile_columns(shape))
 }
 
 // Where a tile begins, one way.

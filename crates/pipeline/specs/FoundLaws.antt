@@ -6,12 +6,12 @@ use Rattle.geometry.specs.declared.Shape.{Shape}
 use Rattle.geometry.specs.Shape.{vectorLength}
 use Rattle.geometry.specs.Bounds.{vectorRefusal}
 use Rattle.refusals.specs.Some.{some}
-use Rattle.search.specs.Vectors.{Within}
-use Rattle.search.specs.declared.Vector.{Vector}
-use Rattle.alignment.specs.Fields.{part, word}
+use Rattle.search.specs.Bounds.{Within}
+use Rattle.geometry.specs.declared.vectors.Vector.{Vector}
+use Rattle.geometry.specs.Vectors.{part, word, wordOf, vectorList}
 use Rattle.alignment.specs.FieldLaws.{field0-within}
 use Rattle.alignment.specs.Frames.{vectorsOf}
-use Rattle.alignment.specs.Aligned.{fieldOf, partAt, alignedVectors}
+use Rattle.alignment.specs.Aligned.{fieldOf, alignedVectors}
 
 part-within : (b k : ℕ) (v : Vector) → Within b v → natAbs (part k v) ≤ b
 unfolding part
@@ -19,13 +19,13 @@ part-within b zero v w = w .vertical
 part-within b (suc k) v w = w .sideways
 
 module _ (s : Shape) (reference : ℕ) (samples : List ℕ) where
-  found-within : (i : ℕ) → natAbs (partAt s reference samples i) ≤ 172
-  unfolding partAt word fieldOf vectorsOf
+  found-within : (i : ℕ) → natAbs (wordOf s (fieldOf s reference samples) i) ≤ 172
+  unfolding wordOf word fieldOf vectorsOf
   found-within i = part-within 172 _ _ (field0-within _ _ _)
 
   aligned-within : (k : ℕ) → natAbs (getD (alignedVectors s reference samples) k (pos 0)) ≤ 172
-  unfolding alignedVectors
-  aligned-within = tab-every (λ z. natAbs z ≤ 172) (pos 0) (partAt s reference samples) (omega arith) found-within (vectorLength s)
+  unfolding alignedVectors vectorList
+  aligned-within = tab-every (λ z. natAbs z ≤ 172) (pos 0) (wordOf s (fieldOf s reference samples)) (omega arith) found-within (vectorLength s)
 
 none-beyond : (n : ℕ) (f : ℕ → Bool) → ((k : ℕ) → f k ≡ false) → some n f ≡ false
 unfolding some

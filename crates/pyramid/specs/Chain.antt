@@ -1,4 +1,4 @@
--- An image and its halvings, one of the other, in the work area.
+-- Inner vocabulary: an image and its halvings, one of the other, in the work area.
 use Rattle.algebra.specs.Prelude.{_≡_, List, ℕ, zero, suc, _+_, _*_, _/_, _≤_, _<_, length, getD, ℤ, pos}
 use Rattle.geometry.specs.Read.{Image}
 use Rattle.pyramid.specs.Pyramid.{halved}

@@ -1,4 +1,4 @@
--- What a pyramid is built from.
+-- Inner vocabulary: what a pyramid is built from.
 use Rattle.algebra.specs.Prelude.{List, ℕ, _≤_, _<_}
 use Rattle.geometry.specs.declared.Shape.{Shape}
 use Rattle.geometry.specs.Read.{sampleAt}

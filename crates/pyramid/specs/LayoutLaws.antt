@@ -5,7 +5,8 @@ use Rattle.geometry.specs.declared.Shape.{Shape}
 use Rattle.geometry.specs.Shape.{workLength}
 use Rattle.geometry.specs.Fits.{Allowed}
 use Rattle.geometry.specs.Read.{Image}
-use Rattle.geometry.specs.Tiles.{level0, level1, level2, level3, levelSize, levelTiles, tileCount}
+use Rattle.geometry.specs.Tiles.{level0, level1, level2, level3, levelSize, tileCount}
+use Rattle.geometry.specs.LevelTiles.{levelTiles}
 use Rattle.pyramid.specs.Pyramid.{quartered, image0, image1, image2, image3}
 use Rattle.pyramid.specs.WordsLaws.{Kept, kept-holds}
 use Rattle.pyramid.specs.Chain.{halves, chain}

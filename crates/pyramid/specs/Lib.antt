@@ -1,4 +1,6 @@
+pub mod Magnitudes
 pub mod Pyramid
+pub mod Columns
 pub mod PyramidLaws
 pub mod Frame
 pub mod FrameLaws

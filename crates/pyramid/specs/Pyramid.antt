@@ -1,7 +1,7 @@
 -- The pyramid of a frame: document 01, "Pyramid and vectors".
 use Rattle.algebra.specs.Prelude.{ℕ, _+_, _*_, _/_, ℤ, pos, _-ℤ_}
 use Rattle.geometry.specs.declared.Shape.{Shape}
-use Rattle.geometry.specs.Read.{Image, inside, read}
+use Rattle.geometry.specs.Read.{Image, read}
 use Rattle.geometry.specs.Tiles.{level0, level1, level2, levelSize}
 
 -- "Level 0: the sum of each 2 by 2 Bayer square."
@@ -24,10 +24,6 @@ weighted p value = weights (value (tap p 0)) (value (tap p 1)) (value (tap p 2))
 -- "Halving: weights 1 3 3 1 at 2p−1..2p+2 in each direction, then floor((sum+32)/64)." The image has the height and the width.
 unfoldable pub halved : (height width : ℕ) → Image → Image
 halved height width image row column = (weighted row (λ y. weighted column (read height width image y)) + 32) / 64
-
--- the values of one column around a row, weighted: the halving is the weighted sum of four of these as well (`halved-columns`)
-unfoldable pub columnSum : (height : ℕ) → Image → (row column : ℕ) → ℕ
-columnSum height image row column = weighted row (λ y. image (inside height y) column)
 
 -- "each quarter two halvings"; "the image between two halvings" has half the size
 unfoldable pub quartered : (height width : ℕ) → Image → Image

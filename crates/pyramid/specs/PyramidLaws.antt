@@ -4,7 +4,8 @@ use Prim.Native.Nat.{ℕ, zero, suc, _+_, _-_, _*_, _/_, _≤_, _<_, min}
 use Rattle.algebra.specs.Order.{zarith, sub-pn, min-pn}
 use Rattle.geometry.specs.Read.{Image, inside, read}
 use Rattle.geometry.specs.ReadLaws.{inside-below}
-use Rattle.pyramid.specs.Pyramid.{bayerSum, tap, weighted, columnSum, halved}
+use Rattle.pyramid.specs.Pyramid.{bayerSum, tap, weighted, halved}
+use Rattle.pyramid.specs.Columns.{columnSum}
 
 -- equal values at the four places, equal weighted sums
 weighted-agree : (p : ℕ) (f g : ℤ → ℕ) → ((z : ℤ) → f z ≡ g z) → weighted p f ≡ weighted p g

@@ -1,6 +1,7 @@
--- Images in the work area: row after row, a word for each value.
+-- Inner vocabulary: images in the work area: row after row, a word for each value.
 use Rattle.algebra.specs.Prelude.{_≡_, List, ℕ, _+_, _*_, _/_, _%_, _≤_, _<_, length, getD, ℤ, pos, natAbs}
 use Rattle.geometry.specs.Read.{Image}
+use Rattle.pyramid.specs.Magnitudes.{valueMost}
 use Rattle.sequences.specs.Write.{written}
 
 -- the number at a place of the work area
@@ -19,17 +20,17 @@ wordOf image width k = pos (image (k / width) (k % width))
 unfoldable pub laid : List ℤ → (at height width : ℕ) → Image → List ℤ
 laid words at height width image = written words at (wordOf image width) (height * width)
 
--- from `at` on stands an image of a height and a width, whose values are at most four samples' sum, 4 · 4095
+-- from `at` on stands an image of a height and a width
 pub record Holds (words : List ℤ) (at height width : ℕ) (image : Image) : Type 0 where
   pub room : at + height * width ≤ length words
   pub is : (row column : ℕ) → row < height → column < width → getD words (at + row * width + column) (pos 0) ≡ pos (image row column)
-  pub most : (row column : ℕ) → row < height → column < width → image row column ≤ 16380
+  pub most : (row column : ℕ) → row < height → column < width → image row column ≤ valueMost
 
 -- at a place stands such a value
 pub record Held (words : List ℤ) (k : ℕ) : Type 0 where
   pub here : k < length words
   pub is : getD words k (pos 0) ≡ pos (wordAt words k)
-  pub most : wordAt words k ≤ 16380
+  pub most : wordAt words k ≤ valueMost
 
 -- at each of n places from `at` on stands such a value
 pub record Row (words : List ℤ) (at n : ℕ) : Type 0 where

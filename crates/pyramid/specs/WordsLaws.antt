@@ -1,5 +1,5 @@
 -- Laws of images in the work area.
-use Rattle.algebra.specs.Prelude.{_≡_, sym, ap, ap₂, subst, _∙_, List, _++_, ℕ, _+_, _-_, _*_, _/_, _%_, _≤_, _<_, arith, ℤ, pos, natAbs}
+use Rattle.algebra.specs.Prelude.{_≡_, sym, ap, ap₂, subst, _∙_, List, _++_, ℕ, _+_, _-_, _*_, _≤_, _<_, arith, ℤ, pos, natAbs}
 use native.Mathlib.Nat.{add-assoc}
 use lib.ListN.{length, getD, take, drop, List·getD-append}
 use lib.Seq.{length-paste-head, length-take-le, getD-take}

@@ -1,20 +1,12 @@
 -- Document 01, "The program `motion` prints one line per other frame".
-use Rattle.algebra.specs.Prelude.{List, [], _∷_, _++_, ℕ, zero, suc, _+_, _-_, _*_, _/_, getD, take, drop, ℤ}
-use Rattle.geometry.specs.declared.Shape.{Shape}
-use Rattle.geometry.specs.Vectors.{otherFrame}
+use Rattle.algebra.specs.Prelude.{List, [], _∷_, _++_, ℕ, zero, suc, _-_, getD, ℤ}
+use Rattle.geometry.specs.Tiles.{frameParts}
+use Rattle.geometry.specs.Vectors.{otherFrame, partsOf}
 use Rattle.alignment.specs.Aligned.{alignedVectors, residualSums}
 use Rattle.burst_file.specs.Burst.{Burst}
 use Rattle.printing.specs.Lines.{motionNames, numberLine}
 use Rattle.tallies.specs.Tallies.{tiles, stillTiles, farthest}
 use Rattle.report.specs.Program.{programText}
-
--- "2·(W/16+1)·(H/16+1)": the vector parts of one other frame
-abbrev pub frameParts : Shape → ℕ
-frameParts s = 2 * ((s .width / 16 + 1) * (s .height / 16 + 1))
-
--- "For each other frame in rising index": the parts of the k-th of them
-unfoldable pub partsOf : (count : ℕ) → List ℤ → (k : ℕ) → List ℤ
-partsOf count vectors k = take count (drop (k * count) vectors)
 
 -- "frame index; its tiles; tiles with vector 0,0; greatest absolute part; sum of finest residuals"
 unfoldable pub frameLine : (frame : ℕ) (parts : List ℤ) (residual : ℕ) → List ℕ

@@ -5,7 +5,8 @@ use Rattle.refusals.specs.AfterLaws.{result-made}
 use Rattle.geometry.specs.Shape.{vectorLength}
 use Rattle.geometry.specs.Fits.{BurstFits, SamplesFit}
 use Rattle.noise.specs.declared.Noise.{Noise}
-use Rattle.alignment.specs.Aligned.{Ready, alignedVectors, residualSums}
+use Rattle.alignment.specs.Aligned.{alignedVectors, residualSums}
+use Rattle.alignment.specs.Burst.{Ready}
 use Rattle.recipe.specs.declared.Merge.{Merge}
 use Rattle.recipe.specs.Scene.{sceneOf}
 use Rattle.recipe.specs.Merged.{merged}

@@ -6,14 +6,15 @@ use Rattle.geometry.specs.declared.Shape.{Shape}
 use Rattle.geometry.specs.Shape.{vectorLength}
 use Rattle.geometry.specs.Read.{Image, read, sampleAt}
 use Rattle.geometry.specs.Vectors.{otherFrame}
-use Rattle.geometry.specs.Tiles.{level0, levelTiles, levelSize}
+use Rattle.geometry.specs.Tiles.{level0, levelSize}
+use Rattle.geometry.specs.LevelTiles.{levelTiles}
 use Rattle.pyramid.specs.Pyramid.{bayerSum, weighted, halved, quartered, image0, image1, image2, image3}
 use Rattle.pyramid.specs.Layout.{tiles}
 use Rattle.search.specs.declared.Tile.{Tile}
-use Rattle.search.specs.declared.Vector.{Vector}
+use Rattle.geometry.specs.declared.vectors.Vector.{Vector}
 use Rattle.search.specs.Vectors.{still}
 use Rattle.search.specs.Residual.{gap, difference, Pair, rowResidual, residual}
-use Rattle.alignment.specs.Fields.{levelAt, tileAt, tileRows, tileColumns, residualSum}
+use Rattle.alignment.specs.Fields.{levelAt, tileAt, levelRows, levelColumns, residualSum}
 use Rattle.alignment.specs.Frames.{levelImage, pairs, vectorsOf, residualOf}
 use Rattle.alignment.specs.Aligned.{fieldOf, sumOf, alignedVectors}
 use Rattle.geometry.specs.VectorLaws.{other-below}
@@ -87,7 +88,7 @@ module _ {s : Shape} {reference : ℕ} {samples : List ℕ} {a : ℕ} {b : ℕ �
   field-flat k h = field-still _ (λ l. subst (λ p. AtRest (p l)) (sym (pair-is k h)) (flat-rest (flat-pair s a (b k) l)))
 
   pub sum-flat : (k : ℕ) → k < s .count - 1 → sumOf s reference samples k ≡ tiles level0 s * (1024 * gap a (b k))
-  unfolding sumOf residualOf tiles levelTiles tileRows tileColumns pairs tileAt difference
+  unfolding sumOf residualOf tiles levelTiles levelRows levelColumns pairs tileAt difference
   sum-flat k h =
       ap residualSum (pair-is k h)
       ∙ sum-still _ (λ l. flat-rest (flat-pair s a (b k) l)) (16 * (16 * gap (4 * a) (4 * b k))) (λ row column. flat-residual (flat-pair s a (b k) 0) _ (tileAt level0 row column) still)

@@ -10,7 +10,8 @@ use Rattle.geometry.specs.declared.Shape.{Shape}
 use Rattle.geometry.specs.Shape.{sampleLength, vectorLength, outputLength}
 use Rattle.geometry.specs.Fits.{AllowedSize, Sampled}
 use Rattle.geometry.specs.Vectors.{otherFrame}
-use Rattle.geometry.specs.Tiles.{level0, levelSize, levelTiles, tileCount}
+use Rattle.geometry.specs.Tiles.{level0, levelSize, tileCount}
+use Rattle.geometry.specs.LevelTiles.{levelTiles}
 use Rattle.pyramid.specs.Layout.{tiles}
 use Rattle.alignment.specs.Aligned.{alignedVectors, residualSums}
 use Rattle.recipe.specs.Tables.{side16}

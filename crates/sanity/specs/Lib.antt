@@ -19,6 +19,5 @@ pub mod StillLaws
 pub mod PyramidLaws
 pub mod AcceptedLaws
 pub mod RenumberLaws
-pub mod VectorLaws
 pub mod RoundLaws
 pub mod FlatLaws

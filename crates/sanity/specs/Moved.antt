@@ -1,8 +1,9 @@
 -- Try a tile that has moved, to within 4 of the guess: the search finds a residual of 0, and the move itself where no other offset fits as well.
 use Rattle.algebra.specs.Prelude.{_≡_, ap, _∙_, Bool, ℕ, _<_, arith, pos, _+ℤ_}
 use Rattle.search.specs.declared.Tile.{Tile}
-use Rattle.search.specs.declared.Vector.{Vector}
-use Rattle.search.specs.Vectors.{_plus_, Within}
+use Rattle.geometry.specs.declared.vectors.Vector.{Vector}
+use Rattle.search.specs.Vectors.{_plus_}
+use Rattle.search.specs.Bounds.{Within}
 use Rattle.search.specs.Offsets.{offset}
 use Rattle.search.specs.OffsetLaws.{offset-within}
 use Rattle.search.specs.Residual.{difference, Pair, rowResidual, residual}

@@ -1,9 +1,11 @@
 -- Try the frames of a burst in another order, the reference at another place among them: each other frame keeps its vectors and its sum of
 -- residuals, and the merged frame stays the same.
-use Rattle.algebra.specs.Prelude.{_≡_, sym, ap, _∙_, List, ℕ, _-_, _/_, _≤_, _<_, ℤ}
+use Rattle.algebra.specs.Prelude.{_≡_, sym, ap, _∙_, List, ℕ, _-_, _<_, arith, ℤ}
 use Rattle.geometry.specs.declared.Shape.{Shape}
 use Rattle.geometry.specs.Read.{sampleAt}
+use Rattle.geometry.specs.Tiles.{tileRows, tileColumns}
 use Rattle.geometry.specs.Vectors.{otherFrame, downAt, rightAt}
+use Rattle.geometry.specs.VectorLaws.{list-down, list-right}
 use Rattle.alignment.specs.Fields.{field0, residualSum}
 use Rattle.alignment.specs.Frames.{vectorsOf, residualOf}
 use Rattle.alignment.specs.Aligned.{fieldOf, sumOf, alignedVectors}
@@ -14,7 +16,6 @@ use Rattle.sanity.specs.Frames.{frameWords, Burst, Same}
 use Rattle.geometry.specs.VectorLaws.{other-below}
 use Rattle.sanity.specs.FrameLaws.{frames-same}
 use Rattle.sanity.specs.PyramidLaws.{pairs-agree}
-use Rattle.sanity.specs.VectorLaws.{down-is, right-is}
 use Rattle.sanity.specs.RenumberLaws.{Renumbering}
 use Rattle.sanity.specs.Renumbered.{moved, Reordered, frame-stays}
 
@@ -26,8 +27,8 @@ pub record Shuffled (s : Shape) (to from : ℕ → ℕ) (reference reference′ 
 
 -- vectors′ has the vectors of these frames
 pub record Carried (s : Shape) (to : ℕ → ℕ) (vectors vectors′ : List ℤ) : Type 0 where
-  pub down : (k a b : ℕ) → k < s .count - 1 → a ≤ s .height / 16 → b ≤ s .width / 16 → downAt s vectors′ k a b ≡ downAt s vectors (to k) a b
-  pub right : (k a b : ℕ) → k < s .count - 1 → a ≤ s .height / 16 → b ≤ s .width / 16 → rightAt s vectors′ k a b ≡ rightAt s vectors (to k) a b
+  pub down : (k a b : ℕ) → k < s .count - 1 → a < tileRows s → b < tileColumns s → downAt s vectors′ k a b ≡ downAt s vectors (to k) a b
+  pub right : (k a b : ℕ) → k < s .count - 1 → a < tileRows s → b < tileColumns s → rightAt s vectors′ k a b ≡ rightAt s vectors (to k) a b
 
 module _ {s : Shape} {to from : ℕ → ℕ} {reference reference′ : ℕ} {samples samples′ : List ℕ} (burst : Burst s reference samples) (burst′ : Burst s reference′ samples′) (sh : Shuffled s to from reference reference′ samples samples′) where
   reference-same : Same (s .height) (s .width) (sampleAt s samples′ reference′) (sampleAt s samples reference)
@@ -47,13 +48,13 @@ module _ {s : Shape} {to from : ℕ → ℕ} {reference reference′ : ℕ} {sam
   sum-carried k h = ap residualSum (pairs-agree s (burst .sampled .allowed) _ _ _ _ reference-same (other-same k h))
 
   pub vectors-carried : Carried s to (alignedVectors s reference samples) (alignedVectors s reference′ samples′)
+  unfolding alignedVectors
   vectors-carried =
-      let ok = burst .sampled .allowed in
       record {
         down = λ k a b h i j.
-            down-is s reference′ samples′ ok k a b h i j ∙ ap (λ f. f a b .down) (field-carried k h) ∙ sym (down-is s reference samples ok (to k) a b (sh .order .to-below k h) i j);
+            list-down s k a b h i j (fieldOf s reference′ samples′) ∙ ap (λ f. f a b .down) (field-carried k h) ∙ sym (list-down s (to k) a b (sh .order .to-below k h) i j (fieldOf s reference samples));
         right = λ k a b h i j.
-            right-is s reference′ samples′ ok k a b h i j ∙ ap (λ f. f a b .right) (field-carried k h) ∙ sym (right-is s reference samples ok (to k) a b (sh .order .to-below k h) i j);
+            list-right s k a b h i j (fieldOf s reference′ samples′) ∙ ap (λ f. f a b .right) (field-carried k h) ∙ sym (list-right s (to k) a b (sh .order .to-below k h) i j (fieldOf s reference samples));
       }
 
 -- merge, with vectors that go with their frames
@@ -70,8 +71,8 @@ module _ (m : Merge) {to from : ℕ → ℕ} {reference′ : ℕ} {samples sampl
             wide = burst .sampled .allowed .wide;
             reference-same = reference-same burst burst′ sh;
             other-same = other-same burst burst′ sh;
-            down-same = c .down;
-            right-same = c .right;
+            down-same = λ k a b h i j. c .down k a b h (omega arith) (omega arith);
+            right-same = λ k a b h i j. c .right k a b h (omega arith) (omega arith);
           }
 
   -- align and then merge

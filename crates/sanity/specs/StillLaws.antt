@@ -10,17 +10,17 @@ use Rattle.sequences.specs.Least.{firstMin}
 use Rattle.geometry.specs.declared.Shape.{Shape}
 use Rattle.geometry.specs.Shape.{vectorLength}
 use Rattle.geometry.specs.Fits.{Allowed}
-use Rattle.geometry.specs.Tiles.{Level, level0, level1, level2, level3, Step, step1to0, step2to1, step3to2}
+use Rattle.geometry.specs.Tiles.{Level, level0, level1, level2, level3, Step, step1to0, step2to1, step3to2, frameParts}
 use Rattle.search.specs.declared.Tile.{Tile}
-use Rattle.search.specs.declared.Vector.{Vector}
+use Rattle.geometry.specs.declared.vectors.Vector.{Vector}
 use Rattle.search.specs.Vectors.{still, _plus_, _times_}
 use Rattle.search.specs.Offsets.{downs, rights, offset}
 use Rattle.search.specs.Residual.{gap, difference, Pair, rowResidual, residual}
 use Rattle.search.specs.Search.{tried, chosen, found, three, guessed}
 use Rattle.sequences.specs.LeastLaws.{first}
-use Rattle.alignment.specs.Fields.{Field, part, word, tileAt, coarsest, fromCoarse, finer, field0, field1, field2, field3, tileRows, tileColumns, residuals, residualSum}
-use Rattle.alignment.specs.Aligned.{fieldOf, frameParts, partAt, alignedVectors}
-use Rattle.alignment.specs.BurstLaws.{vectors-are}
+use Rattle.geometry.specs.Vectors.{Field, part, word, wordOf, vectorList}
+use Rattle.alignment.specs.Fields.{tileAt, coarsest, fromCoarse, finer, field0, field1, field2, field3, levelRows, levelColumns, residuals, residualSum}
+use Rattle.alignment.specs.Aligned.{fieldOf, alignedVectors}
 use Rattle.sanity.specs.FrameLaws.{row-inside}
 
 -- a sum of equal terms
@@ -85,11 +85,11 @@ module _ (p : ℕ → Pair) (rest : (k : ℕ) → AtRest (p k)) where
       (finer-still level1 step2to1 _ _ (p 1) _ (rest 1) (finer-still level2 step3to2 _ _ (p 2) _ (rest 2) (coarsest-still level3 (p 3) (rest 3))))
 
   -- where each tile that has not moved has the residual c
-  pub sum-still : (c : ℕ) → ((row column : ℕ) → residual (level0 .squared) (p 0) (tileAt level0 row column) still ≡ c) → residualSum p ≡ tileRows level0 (p 0) * tileColumns level0 (p 0) * c
+  pub sum-still : (c : ℕ) → ((row column : ℕ) → residual (level0 .squared) (p 0) (tileAt level0 row column) still ≡ c) → residualSum p ≡ levelRows level0 (p 0) * levelColumns level0 (p 0) * c
   unfolding residualSum residuals
   sum-still c e =
-      sum-same (tileRows level0 (p 0) * tileColumns level0 (p 0)) c _
-      (λ k h. ap (residual (level0 .squared) (p 0) _) (field-still .at (k / tileColumns level0 (p 0)) (k % tileColumns level0 (p 0))) ∙ e _ _)
+      sum-same (levelRows level0 (p 0) * levelColumns level0 (p 0)) c _
+      (λ k h. ap (residual (level0 .squared) (p 0) _) (field-still .at (k / levelColumns level0 (p 0)) (k % levelColumns level0 (p 0))) ∙ e _ _)
 
 -- the words of still fields
 part-none : (k : ℕ) → part k still ≡ pos 0
@@ -103,10 +103,10 @@ word-none columns f none k = ap (part (k % 2)) (none .at (k / 2 / columns) (k / 
 
 pub vectors-still : (s : Shape) (reference : ℕ) (samples : List ℕ) → Allowed s → ((k : ℕ) → k < s .count - 1 → StillField (fieldOf s reference samples k)) →
     alignedVectors s reference samples ≡ replicate (vectorLength s) (pos 0)
-unfolding alignedVectors partAt
+unfolding alignedVectors vectorList wordOf vectorLength
 vectors-still s reference samples ok still-of =
     tab-ext (vectorLength s) _ _
-    (λ i h. word-none _ _ (still-of (i / frameParts s reference samples) (row-inside i _ (s .count - 1) (omega (arith, vectors-are ok, mul-comm (s .count - 1) (frameParts s reference samples))))) (i % frameParts s reference samples))
+    (λ i h. word-none _ _ (still-of (i / frameParts s) (row-inside i _ (s .count - 1) (omega (arith, mul-comm (s .count - 1) (frameParts s))))) (i % frameParts s))
     ∙ tab-const (pos 0) (vectorLength s)
 
 -- two images that read the same everywhere

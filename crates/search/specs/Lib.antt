@@ -1,7 +1,10 @@
+pub mod Magnitudes
 pub mod Vectors
 pub mod Residual
 pub mod Offsets
 pub mod Search
+pub mod Ties
+pub mod Bounds
 pub mod Local
 pub mod VectorLaws
 pub mod OffsetLaws

@@ -1,9 +1,11 @@
--- Squares of samples in local arrays: a square's rows stand one after the other.
+-- Inner vocabulary: squares of samples in local arrays: a square's rows stand one after the other.
 use Rattle.algebra.specs.Prelude.{_≡_, Bool, List, ℕ, _+_, _-_, _*_, _/_, _%_, _≤_, _<_, length, getD, ℤ, pos, _+ℤ_}
 use Rattle.algebra.specs.Sums.{sumN}
 use Rattle.sequences.specs.Least.{firstMin}
 use Rattle.sequences.specs.Tab.{tab}
 use Rattle.search.specs.declared.window.Best.{Best}
+use Rattle.pyramid.specs.Magnitudes.{valueMost}
+use Rattle.search.specs.Magnitudes.{residualMost}
 use Rattle.search.specs.Offsets.{downs, rights}
 use Rattle.search.specs.Residual.{difference}
 
@@ -15,10 +17,10 @@ rowSum squared tile window a b side = sumN side (λ j. difference squared (getD 
 unfoldable pub squareSum : (squared : Bool) → (tile window : List ℕ) → (start stride side : ℕ) → ℕ
 squareSum squared tile window start stride side = sumN side (λ i. rowSum squared tile window (i * side) (start + i * stride) side)
 
--- the first n values are there and small enough for sums in few bits: four samples' sum, 4 · 4095
+-- the first n values are there and a level's: small enough for sums in few bits
 pub record Low (l : List ℕ) (n : ℕ) : Type 0 where
   pub room : n ≤ length l
-  pub most : (k : ℕ) → k < n → getD l k 0 ≤ 16380
+  pub most : (k : ℕ) → k < n → getD l k 0 ≤ valueMost
 
 -- by how much a sample of the window is above the tile's
 abbrev pub over : ℕ → ℕ → ℕ
@@ -56,29 +58,21 @@ tallSums window y = tab 24 (λ x. tallSum window (24 * y + x))
 abbrev pub wideSum : (sums : List ℕ) → (x : ℕ) → ℕ
 wideSum sums x = sumN 16 (λ j. getD sums (x + j) 0)
 
--- such a window lies within its array
-pub record Inside (tile window : List ℕ) (start stride side : ℕ) : Type 0 where
-  pub small : side ≤ 32
-  pub narrow : stride ≤ 64
-  pub tile-room : side * side ≤ length tile
-  pub window-room : start + (side * stride + side) ≤ length window + stride
-
 -- the sum at the offset number k, in a window that reaches 4 samples further than the tile each way
 unfoldable pub windowSum : (squared : Bool) → (tile window : List ℕ) → (side k : ℕ) → ℕ
 windowSum squared tile window side k =
     squareSum squared tile window (getD downs k 0 * (side + 8) + getD rights k 0) (side + 8) side
 
 pub record Window (tile window : List ℕ) (side : ℕ) : Type 0 where
-  pub small : side ≤ 32
   pub tile-low : Low tile (side * side)
   pub window-low : Low window ((side + 8) * (side + 8))
 
--- the first least of the 81 sums, at most 32 · 32 · 65535²
+-- the first least of the 81 sums
 pub record Searched (squared : Bool) (tile window : List ℕ) (side : ℕ) (r : Best) : Type 0 where
   pub is : r .offset ≡ firstMin (windowSum squared tile window side) 80
   pub low : r .residual ≡ windowSum squared tile window side (r .offset)
   pub within : r .offset < 81
-  pub most : r .residual ≤ 4397912294400
+  pub most : r .residual ≤ residualMost
 
 -- the array holds so many rows of n values of f, from a row and a column on
 pub record Copied (l : List ℕ) (rows n : ℕ) (f : ℤ → ℤ → ℕ) (row column : ℤ) : Type 0 where

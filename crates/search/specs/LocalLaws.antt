@@ -1,14 +1,14 @@
 -- What is found in local arrays is what the definitions say of the images that were copied there.
 use Rattle.algebra.specs.Prelude.{_≡_, refl, ap, ap₂, subst, _∙_, Bool, List, ℕ, _+_, _*_, _≤_, _<_, arith, length, getD}
-use native.Mathlib.Nat.{mul-le-mul-right}
 use borrow.Author.Count.{below-more}
 use lib.IntN.{ℤ, pos, negsuc, _+ℤ_, _-ℤ_, +ℤ-idr}
 use Rattle.algebra.specs.Sums.{sumN-cong}
 use Rattle.algebra.specs.Order.{zarith, add-pn, sub-pn}
 use Rattle.sequences.specs.Write.{written, written-in, written-before}
 use Rattle.search.specs.declared.Tile.{Tile}
-use Rattle.search.specs.declared.Vector.{Vector}
+use Rattle.geometry.specs.declared.vectors.Vector.{Vector}
 use Rattle.search.specs.Vectors.{_plus_}
+use Rattle.search.specs.Magnitudes.{residualMost}
 use Rattle.search.specs.Offsets.{downs, rights, offset}
 use Rattle.search.specs.OffsetLaws.{parts-most}
 use Rattle.sequences.specs.Place.{row-room}
@@ -16,17 +16,7 @@ use Rattle.search.specs.Residual.{difference, Pair, rowResidual, residua
 use Rattle.search.specs.Search.{tried, chosen, found}
 use Rattle.sequences.specs.LeastLaws.{firstMin-most, firstMin-cong, Lowest, lowest-done}
 use Rattle.search.specs.declared.window.Best.{Best}
-use Rattle.search.specs.Local.{rowSum, squareSum, Inside, windowSum, Window, Searched, Copied}
-
--- each of the 81 windows lies within its array
-pub window-inside : {tile window : List ℕ} {side : ℕ} → Window tile window side → (k : ℕ) → k < 81 → Inside tile window (getD downs k 0 * (side + 8) + getD rights k 0) (side + 8) side
-window-inside {side = side} w k h =
-    record {
-      small = w .small;
-      narrow = omega (arith, w .small);
-      tile-room = w .tile-low .room;
-      window-room = omega (arith, w .window-low .room, mul-le-mul-right (side + 8) (parts-most k h .0), parts-most k h .1);
-    }
+use Rattle.search.specs.Local.{rowSum, squareSum, windowSum, Searched, Copied}
 
 -- one row more
 pub copied-turn : {l : List ℕ} {i n : ℕ} {f : ℤ → ℤ → ℕ} {row column : ℤ} → Copied l i n f row column → i * n + n ≤ length l → (g : ℕ → ℕ) → ((j : ℕ) → g j ≡ f (row +ℤ pos i) (column +ℤ pos j)) → Copied (written l (i * n) g n) (i + 1) n f row column
@@ -96,7 +86,7 @@ searched-finds squared p t guess tile window best copied seen s =
     (e, s .low ∙ window-tried squared p t guess tile window copied seen (best .offset) (s .within) ∙ ap (tried squared p t guess) e)
 
 -- the lowest of the 81 sums is what is searched for
-pub lowest-searched : {squared : Bool} {tile window : List ℕ} {side b top k at low : ℕ} → Lowest (windowSum squared tile window side) b top 81 k at low → 81 ≤ k → b ≤ 4397912294400 → Searched squared tile window side (record { offset = at; residual = low })
+pub lowest-searched : {squared : Bool} {tile window : List ℕ} {side b top k at low : ℕ} → Lowest (windowSum squared tile window side) b top 81 k at low → 81 ≤ k → b ≤ residualMost → Searched squared tile window side (record { offset = at; residual = low })
 lowest-searched {squared} {tile} {window} {side} w h l =
     let d = lowest-done w h in
     record {

@@ -3,9 +3,10 @@ use Rattle.algebra.specs.Prelude.{_≡_, refl, Bool, true, false, cond, ℕ, ze
 use lib.Dec.{T, ltb, eqb, leb, ltb→lt, leb→le, eqb→eq}
 use Rattle.algebra.specs.Test.{both, both-l, both-r, all, all-sound}
 use Rattle.algebra.specs.Order.{zarith, abs-pn, min-pn, add-pn, sub-pn}
-use Rattle.search.specs.declared.Vector.{Vector}
-use Rattle.search.specs.Vectors.{Within}
-use Rattle.search.specs.Offsets.{downs, rights, offset, earlier}
+use Rattle.geometry.specs.declared.vectors.Vector.{Vector}
+use Rattle.search.specs.Bounds.{Within}
+use Rattle.search.specs.Offsets.{downs, rights, offset}
+use Rattle.search.specs.Ties.{earlier}
 
 abbrev same : Bool → Bool → Bool
 same true b = b

@@ -1,7 +1,6 @@
 -- The offsets that are tried, in tie order.
-use Rattle.algebra.specs.Prelude.{Bool, _&&_, _||_, List, [], _∷_, ℕ, _+_, leb, ltb, getD, pos, natAbs, _-ℤ_}
-use lib.Signed.{ltZ, leZ}
-use Rattle.search.specs.declared.Vector.{Vector}
+use Rattle.algebra.specs.Prelude.{List, [], _∷_, ℕ, getD, pos, _-ℤ_}
+use Rattle.geometry.specs.declared.vectors.Vector.{Vector}
 
 -- "all offsets −4..4 in both directions", in the order of the ties: entry k is offset k's part plus 4
 unfoldable pub downs : List ℕ
@@ -12,11 +11,3 @@ rights = 4 ∷ 4 ∷ 3 ∷ 5 ∷ 4 ∷ 4 ∷ 3 ∷ 5 ∷ 2 ∷ 6 ∷ 3 ∷ 5 ∷
 
 unfoldable pub offset : ℕ → Vector
 offset k = record { down = pos (getD downs k 0) -ℤ pos 4; right = pos (getD rights k 0) -ℤ pos 4 }
-
--- "Ties: smaller |down|+|right| offset, then smaller down, then smaller right."
-unfoldable pub earlier : Vector → Vector → Bool
-earlier a b =
-    ltb (steps a) (steps b) || leb (steps a) (steps b) && (ltZ (a .down) (b .down) || leZ (a .down) (b .down) && ltZ (a .right) (b .right))
-  where
-    steps : Vector → ℕ
-    steps o = natAbs (o .down) + natAbs (o .right)

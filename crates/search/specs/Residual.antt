@@ -2,7 +2,7 @@
 use Rattle.algebra.specs.Prelude.{Bool, cond, ℕ, _+_, _-_, _*_, ℤ, pos, _+ℤ_}
 use Rattle.algebra.specs.Sums.{sumN}
 use Rattle.search.specs.declared.Tile.{Tile}
-use Rattle.search.specs.declared.Vector.{Vector}
+use Rattle.geometry.specs.declared.vectors.Vector.{Vector}
 
 -- |a − b|
 abbrev pub gap : ℕ → ℕ → ℕ

@@ -2,7 +2,7 @@
 use Rattle.algebra.specs.Prelude.{Bool, false, ℕ, zero, suc}
 use Rattle.sequences.specs.Least.{firstMin}
 use Rattle.search.specs.declared.Tile.{Tile}
-use Rattle.search.specs.declared.Vector.{Vector}
+use Rattle.geometry.specs.declared.vectors.Vector.{Vector}
 use Rattle.search.specs.Vectors.{_plus_}
 use Rattle.search.specs.Offsets.{offset}
 use Rattle.search.specs.Residual.{Pair, residual}

@@ -3,10 +3,12 @@ use Rattle.algebra.specs.Prelude.{_≡_, refl, sym, subst, _∙_, Bool, true, f
 use borrow.Author.Tests.{ltb-true, lt-ltb, le-ltb}
 use Rattle.sequences.specs.Least.{firstMin, least}
 use Rattle.search.specs.declared.Tile.{Tile}
-use Rattle.search.specs.declared.Vector.{Vector}
-use Rattle.search.specs.Vectors.{Within, _plus_}
+use Rattle.geometry.specs.declared.vectors.Vector.{Vector}
+use Rattle.search.specs.Vectors.{_plus_}
+use Rattle.search.specs.Bounds.{Within}
 use Rattle.search.specs.VectorLaws.{plus-within}
-use Rattle.search.specs.Offsets.{offset, earlier}
+use Rattle.search.specs.Offsets.{offset}
+use Rattle.search.specs.Ties.{earlier}
 use Rattle.search.specs.OffsetLaws.{offset-order, offset-at, offset-within}
 use Rattle.search.specs.Residual.{Pair, residual}
 use Rattle.search.specs.Search.{tried, chosen, found, three, guessed}

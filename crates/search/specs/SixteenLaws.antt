@@ -94,7 +94,6 @@ module _ (tile own : List ℕ) (is : own ≡ tab 256 (λ k. getD tile k 0)) wher
   pub own-window : {window : List ℕ} → Window tile window 16 → Window own window 16
   own-window w =
       record {
-        small = w .small;
         tile-low =
             record {
               room = omega (arith, ap length is, length-tab (λ k. getD tile k 0) 256);
@@ -109,7 +108,7 @@ module _ (tile own : List ℕ) (is : own ≡ tab 256 (λ k. getD tile k 0)) wher
       sumN-cong 16 _ _
       (λ i h. sumN-cong 16 _ _ (λ j l. rw (own-at (i * 16 + j) (omega arith))))
 
--- the offset number k in a window of side 24
+-- the offset number k in a window
 module _ {k y x : ℕ} (h : k < 81) (down : y ≡ getD downs k 0) (right : x ≡ getD rights k 0) where
   pub place-most : (y ≤ 8) × (x ≤ 8)
   place-most = (omega (arith, parts-most k h .0), omega (arith, parts-most k h .1))
@@ -120,3 +119,11 @@ module _ {k y x : ℕ} (h : k < 81) (down : y ≡ getD downs k 0) (right : x ≡
   pub place-sum : (squared : Bool) (tile window : List ℕ) → squareSum squared tile window (24 * y + x) 24 16 ≡ windowSum squared tile window 16 k
   unfolding windowSum
   place-sum squared tile window = ap (λ start. squareSum squared tile window start 24 16) (omega arith)
+
+  -- the same at side 8
+  pub eight-low : {window : List ℕ} → Low window 256 → Low window (16 * y + x + 7 * 16 + 8)
+  eight-low w = low-less w _ (omega (arith, place-most))
+
+  pub eight-sum : (squared : Bool) (tile window : List ℕ) → squareSum squared tile window (16 * y + x) 16 8 ≡ windowSum squared tile window 8 k
+  unfolding windowSum
+  eight-sum squared tile window = ap (λ start. squareSum squared tile window start 16 8) (omega arith)

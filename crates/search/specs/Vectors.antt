@@ -1,6 +1,6 @@
--- Vectors of whole samples: sums, multiples, and the bound on their parts.
-use Rattle.algebra.specs.Prelude.{ℕ, _≤_, pos, natAbs, _+ℤ_, _*ℤ_}
-use Rattle.search.specs.declared.Vector.{Vector}
+-- Vectors of whole samples: sums and multiples.
+use Rattle.algebra.specs.Prelude.{ℕ, pos, _+ℤ_, _*ℤ_}
+use Rattle.geometry.specs.declared.vectors.Vector.{Vector}
 
 abbrev pub still : Vector
 still = record { down = pos 0; right = pos 0 }
@@ -12,8 +12,3 @@ a plus b = record { down = a .down +ℤ b .down; right = a .right +ℤ b .right 
 infixl 7 _times_
 abbrev pub _times_ : Vector → ℕ → Vector
 v times f = record { down = v .down *ℤ pos f; right = v .right *ℤ pos f }
-
--- both parts are at most b
-pub record Within (b : ℕ) (v : Vector) : Type 0 where
-  pub vertical : natAbs (v .down) ≤ b
-  pub sideways : natAbs (v .right) ≤ b

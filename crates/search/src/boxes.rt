@@ -5,12 +5,14 @@ ghost use Prim.Native.Nat.{ℕ, _+_, _*_, _≤_, _<_};
 ghost use lib.ListN.{length, getD};
 ghost use Rattle.algebra.specs.Sums.{sumN};
 ghost use Rattle.sequences.specs.Write.{written};
+ghost use Rattle.search.specs.Magnitudes.{absoluteMost, columnMost};
 ghost use Rattle.search.specs.Local.{tallSum, tallSums, wideSum, boxSums, Low};
 use crate::sixteen::wide;
 
+// The sum of a tile's samples.
 pub fn tile_total(tile: &[u16; 256]) -> u32
     requires { ⌜ Low (now tile) 256 ⌝ }
-    ensures { λ r. ⌜ (r ≡ sumN 256 (λ k. getD (now (tile .entry)) k 0)) × (r ≤ 4193280) ⌝ }
+    ensures { λ r. ⌜ (r ≡ sumN 256 (λ k. getD (now (tile .entry)) k 0)) × (r ≤ absoluteMost) ⌝ }
 {
     let mut sum: u32 = 0;
     for i in 0..256 {
@@ -31,6 +33,7 @@ fn column_total(window: &[u16], x: usize) -> u32
     sum
 }
 
+// The columns that start in row 0.
 fn first_columns(window: &[u16]) -> [u32; 24]
     requires { ⌜ Low (now window) 576 ⌝ }
     ensures { λ r. ⌜ r ≡ tallSums (now (window .entry)) 0 ⌝ }
@@ -52,8 +55,9 @@ fn slide_down(sums: &mut [u32; 24], window: &[u16], y: usize)
     }
 }
 
+// The first square of a row: sixteen columns.
 fn first_box(sums: &[u32; 24]) -> u32
-    requires { ⌜ ((k : ℕ) → getD (now sums) k 0 ≤ 262080) ⌝ }
+    requires { ⌜ ((k : ℕ) → getD (now sums) k 0 ≤ columnMost) ⌝ }
     ensures { λ r. ⌜ r ≡ wideSum (now (sums .entry)) 0 ⌝ }
 {
     let mut sum: u32 = 0;
@@ -65,7 +69,7 @@ fn first_box(sums: &[u32; 24]) -> u32
 
 // The nine squares of row `y`.
 fn box_row(sums: &[u32; 24], boxes: &mut [u32; 81], y: usize)
-    requires { ⌜ ((k : ℕ) → getD (now sums) k 0 ≤ 262080) × (y < 9) × (length (now boxes) ≡ 81) ⌝ }
+    requires { ⌜ ((k : ℕ) → getD (now sums) k 0 ≤ columnMost) × (y < 9) × (length (now boxes) ≡ 81) ⌝ }
     ensures { λ _. ⌜ now (boxes .exit) ≡ written (now (boxes .entry)) (9 * y) (wideSum (now (sums .entry))) 9 ⌝ }
 {
     let mut sum = first_box(sums);
@@ -76,6 +80,7 @@ fn box_row(sums: &[u32; 24], boxes: &mut [u32; 81], y: usize)
     boxes[9 * y + 8] = sum;
 }
 
+// All 81 squares, nine to a row.
 pub fn boxes(window: &[u16]) -> [u32; 81]
     requires { ⌜ Low (now window) 576 ⌝ }
     ensures { λ r. ⌜ r ≡ boxSums (now (window .entry)) ⌝ }

@@ -8,9 +8,10 @@ ghost use Rattle.geometry.specs.Read.{inside, read};
 ghost use Rattle.sequences.specs.Write.{written};
 ghost use Rattle.pyramid.specs.Words.{Held, Row, wordAt, imageAt, Source};
 ghost use Rattle.search.specs.Local.{Copied};
-ghost use Rattle.search.specs.Vectors.{Within};
-use crate::Vector;
+ghost use Rattle.search.specs.Bounds.{Within};
+use geometry::vectors::Vector;
 
+// A row or a column, `j` further.
 fn shifted(z: i64, j: usize) -> i64
     requires { ⌜ (AtMost (2 ^ 32) z) × (j ≤ 64) ⌝ }
     ensures { λ r. ⌜ r ≡ z +ℤ pos j ⌝ }
@@ -18,6 +19,7 @@ fn shifted(z: i64, j: usize) -> i64
     z + j as i64
 }
 
+// The value at a place of the work area.
 fn sample(words: &[i64], k: usize) -> u16
     requires { ⌜ Held (now words) k ⌝ }
     ensures { λ r. ⌜ r ≡ wordAt (now (words .entry)) k ⌝ }

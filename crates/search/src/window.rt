@@ -1,20 +1,21 @@
 // The search in tie order around a guess, in local arrays.
 ghost use mathlib.Core.Path.{_≡_};
 ghost use mathlib.Core.Bool.{true, false};
-ghost use Prim.Native.Nat.{_<_, _≤_};
+ghost use Prim.Native.Nat.{_+_, _*_, _<_, _≤_};
 ghost use lib.IntN.{pos, _-ℤ_};
 ghost use lib.ListN.{length, getD};
 ghost use Rattle.algebra.specs.Sums.{sumN};
 ghost use Rattle.sequences.specs.Tab.{tab};
 ghost use Rattle.search.specs.Offsets.{downs, rights, offset};
-ghost use Rattle.search.specs.Vectors.{Within};
+ghost use Rattle.search.specs.Bounds.{Within};
+ghost use Rattle.search.specs.Magnitudes.{absoluteMost, totalMost, residualMost};
 ghost use Rattle.search.specs.Local.{boxSums, windowSum, Window, Searched};
-use crate::Vector;
 use crate::boxes::boxes;
 use crate::boxes::tile_total;
-use crate::residual::square_sum;
+use crate::eight;
 use crate::sixteen::over_sum;
 use crate::sixteen::squared_sum;
+use geometry::vectors::Vector;
 
 // The parts of the offsets in tie order, each plus 4.
 const DOWN: [u8; 81] = [
@@ -191,12 +192,14 @@ pub struct Best {
     pub residual: u64,
 }
 
+// An entry of the tables, as an index.
 fn wide(x: u8) -> usize
     ensures { λ r. ⌜ r ≡ x ⌝ }
 {
     x as usize
 }
 
+// An entry of the tables, as a part of an offset.
 fn unbiased(part: u8) -> i64
     requires { ⌜ part ≤ 8 ⌝ }
     ensures { λ r. ⌜ r ≡ pos part -ℤ pos 4 ⌝ }
@@ -215,24 +218,6 @@ pub fn offset(k: usize) -> Vector
     }
 }
 
-// The residual at the offset number `k`.
-fn offset_sum(
-    squared: bool,
-    tile: &[u16],
-    window: &[u16],
-    side: usize,
-    down: &[u8; 81],
-    right: &[u8; 81],
-    k: usize,
-) -> u64
-    requires { ⌜ (Window (now tile) (now window) side) × (now down ≡ downs) × (now right ≡ rights) × (k < 81) ⌝ }
-    ensures { λ r. ⌜ (r ≡ windowSum squared (now (tile .entry)) (now (window .entry)) side k) × (r ≤ 4397912294400) ⌝ }
-{
-    let stride = side + 8;
-    let start = wide(down[k]) * stride + wide(right[k]);
-    square_sum(squared, tile, window, start, stride, side)
-}
-
 // A tile of side 16 in an array of its own, whose alignment the compiler knows.
 fn copied(tile: &[u16]) -> [u16; 256]
     requires { ⌜ 256 ≤ length (now tile) ⌝ }
@@ -245,7 +230,7 @@ fn copied(tile: &[u16]) -> [u16; 256]
     own
 }
 
-// The same at side 16, by absolute differences: Σ|w − t| = 2 Σ(w ∸ t) + Σt − Σw, where Σt is the total, and Σw stands in the boxes.
+// The residual at the offset number `k`, by absolute differences: Σ|w − t| = 2 Σ(w ∸ t) + Σt − Σw, where Σt is the total, and Σw stands in the boxes.
 fn absolute_offset(
     tile: &[u16; 256],
     window: &[u16],
@@ -255,15 +240,15 @@ fn absolute_offset(
     right: &[u8; 81],
     k: usize,
 ) -> u32
-    requires { ⌜ (Window (now tile) (now window) 16) × (total ≡ sumN 256 (λ k. getD (now tile) k 0)) × (total ≤ 4193280) × (now boxes ≡ boxSums (now window)) × (now down ≡ downs) × (now right ≡ rights) × (k < 81) ⌝ }
-    ensures { λ r. ⌜ (r ≡ windowSum false (now (tile .entry)) (now (window .entry)) 16 k) × (r ≤ 12581760) ⌝ }
+    requires { ⌜ (Window (now tile) (now window) 16) × (total ≡ sumN 256 (λ k. getD (now tile) k 0)) × (total ≤ absoluteMost) × (now boxes ≡ boxSums (now window)) × (now down ≡ downs) × (now right ≡ rights) × (k < 81) ⌝ }
+    ensures { λ r. ⌜ (r ≡ windowSum false (now (tile .entry)) (now (window .entry)) 16 k) × (r ≤ 2 * totalMost + absoluteMost) ⌝ }
 {
     let y = wide(down[k]);
     let x = wide(right[k]);
     2 * over_sum(tile, window, 24 * y + x, 24) + total - boxes[9 * y + x]
 }
 
-// `low` starts above every sum: so the sum has one call, and is compiled into the loop.
+// The first of the least residuals by absolute differences, at side 16. `low` starts above every sum: so the sum has one call, and is compiled into the loop.
 fn search_absolute(tile: &[u16], window: &[u16]) -> Best
     requires { ⌜ Window (now tile) (now window) 16 ⌝ }
     ensures { λ r. ⌜ Searched false (now (tile .entry)) (now (window .entry)) 16 r ⌝ }
@@ -289,7 +274,7 @@ fn search_absolute(tile: &[u16], window: &[u16]) -> Best
     }
 }
 
-// By squared differences.
+// The same by squared differences.
 fn squared_offset(
     tile: &[u16; 256],
     window: &[u16],
@@ -298,13 +283,14 @@ fn squared_offset(
     k: usize,
 ) -> u64
     requires { ⌜ (Window (now tile) (now window) 16) × (now down ≡ downs) × (now right ≡ rights) × (k < 81) ⌝ }
-    ensures { λ r. ⌜ (r ≡ windowSum true (now (tile .entry)) (now (window .entry)) 16 k) × (r ≤ 4397912294400) ⌝ }
+    ensures { λ r. ⌜ (r ≡ windowSum true (now (tile .entry)) (now (window .entry)) 16 k) × (r ≤ residualMost) ⌝ }
 {
     let y = wide(down[k]);
     let x = wide(right[k]);
     squared_sum(tile, window, 24 * y + x, 24)
 }
 
+// The first of the least residuals by squared differences, at side 16.
 fn search_squared(tile: &[u16], window: &[u16]) -> Best
     requires { ⌜ Window (now tile) (now window) 16 ⌝ }
     ensures { λ r. ⌜ Searched true (now (tile .entry)) (now (window .entry)) 16 r ⌝ }
@@ -327,25 +313,40 @@ fn search_squared(tile: &[u16], window: &[u16]) -> Best
     }
 }
 
-// The first of the least residuals.
-pub fn search(squared: bool, tile: &[u16], window: &[u16], side: usize) -> Best
-    requires { ⌜ Window (now tile) (now window) side ⌝ }
-    ensures { λ r. ⌜ Searched squared (now (tile .entry)) (now (window .entry)) side r ⌝ }
+// The first of the least residuals, at side 16.
+pub fn search_sixteen(squared: bool, tile: &[u16], window: &[u16]) -> Best
+    requires { ⌜ Window (now tile) (now window) 16 ⌝ }
+    ensures { λ r. ⌜ Searched squared (now (tile .entry)) (now (window .entry)) 16 r ⌝ }
 {
-    if side == 16 {
-        if squared {
-            return search_squared(tile, window);
-        }
-        return search_absolute(tile, window);
+    if squared {
+        return search_squared(tile, window);
     }
+    search_absolute(tile, window)
+}
+
+// The residual at the offset number `k`, at side 8.
+fn eight_offset(tile: &[u16], window: &[u16], down: &[u8; 81], right: &[u8; 81], k: usize) -> u64
+    requires { ⌜ (Window (now tile) (now window) 8) × (now down ≡ downs) × (now right ≡ rights) × (k < 81) ⌝ }
+    ensures { λ r. ⌜ (r ≡ windowSum true (now (tile .entry)) (now (window .entry)) 8 k) × (r ≤ residualMost) ⌝ }
+{
+    let y = wide(down[k]);
+    let x = wide(right[k]);
+    eight::squared_sum(tile, window, 16 * y + x)
+}
+
+// The first of the least residuals by squared differences, at side 8.
+pub fn search_eight(tile: &[u16], window: &[u16]) -> Best
+    requires { ⌜ Window (now tile) (now window) 8 ⌝ }
+    ensures { λ r. ⌜ Searched true (now (tile .entry)) (now (window .entry)) 8 r ⌝ }
+{
     let down = DOWN;
     let right = RIGHT;
     let mut best: usize = 0;
-    let mut low = offset_sum(squared, tile, window, side, &down, &right, 0);
-    for k in 1..81 {
-        let sum = offset_sum(squared, tile, window, side, &down, &right, k);
-        if sum < low {
-            low = sum;
+    let mut low: u64 = 18446744073709551615;
+    for k in 0..81 {
+        let square = eight_offset(tile, window, &down, &right, k);
+        if square < low {
+            low = square;
             best = k;
         }
     }

@@ -9,7 +9,7 @@ use Rattle.geometry.specs.BoundLaws.{samples-fit}
 use Rattle.noise.specs.declared.Noise.{Noise}
 use Rattle.noise.specs.Levels.{noiseTests}
 use Rattle.noise.specs.LevelLaws.{shot-level-bound, read-level-bound, strength-most}
-use Rattle.alignment.specs.Aligned.{Ready}
+use Rattle.alignment.specs.Burst.{Ready}
 use Rattle.pipeline.specs.Levels.{Runnable}
 use Rattle.recipe.specs.declared.Tuning.{Tuning}
 use Rattle.stacker.specs.Refusals.{alignRefusal, contentTests, runTests, runRefusal, vectorsRefusal, mergeOf}

@@ -1,4 +1,3 @@
-pub mod Places
 pub mod Differences
 pub mod Summing
 pub mod Storing

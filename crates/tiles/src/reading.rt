@@ -1,14 +1,12 @@
 // Tiles of a plane, read through its view: T0 and Tz.
 ghost use mathlib.Core.Path.{_≡_};
-ghost use Prim.Native.Nat.{_+_, _/_, _≤_, _<_};
+ghost use Prim.Native.Nat.{_+_, _≤_, _<_};
 ghost use lib.IntN.{_+ℤ_};
 ghost use Rattle.algebra.specs.Bound.{AtMost};
 ghost use Rattle.sequences.specs.Grid.{grid};
-ghost use Rattle.geometry.specs.Shape.{vectorLength};
-ghost use Rattle.geometry.specs.Fits.{Allowed, Sampled};
+ghost use Rattle.geometry.specs.Fits.{Sampled};
 ghost use Rattle.geometry.specs.Read.{sampleAt};
 ghost use Rattle.geometry.specs.Tiles.{origin};
-ghost use Rattle.geometry.specs.Vectors.{vectorPlace};
 ghost use Rattle.plane_view.specs.View.{Near};
 ghost use Rattle.recipe.specs.Tables.{side16};
 ghost use Rattle.recipe.specs.Scene.{sceneOf, tileAt, otherTile};
@@ -16,6 +14,7 @@ ghost use Rattle.tiles.specs.Accepted.{Accepted, Sited};
 use crate::Site;
 use geometry::Shape;
 use geometry::vectors::other_frame;
+use geometry::vectors::vector_place;
 use recipe::Merge;
 
 // Where a tile begins that is moved by one part of a vector.
@@ -49,14 +48,6 @@ pub fn tile(
         y,
         x,
     )
-}
-
-// Where the vector of a tile stands, for the k-th other frame.
-fn vector_place(shape: Shape, k: usize, row: usize, column: usize) -> usize
-    requires { ⌜ record { allowed : Allowed shape; frame : k + 1 < shape .count; row-most : row ≤ shape .height / 16; column-most : column ≤ shape .width / 16 } ⌝ }
-    ensures { λ r. ⌜ (r ≡ vectorPlace shape k row column) × (r + 1 < vectorLength shape) ⌝ }
-{
-    2 * ((k * (shape.height / 16 + 1) + row) * (shape.width / 16 + 1) + column)
 }
 
 // Tz of the k-th other frame.

@@ -1,6 +1,7 @@
 -- The reference's pyramid stays at the start of the work area while each other frame's vectors and sum are found: `Aligning` is the loop's invariant.
 use Rattle.algebra.specs.Prelude.{refl, ap, _∙_, _-_, _*_, _≤_, arith, needs}
-use Rattle.alignment.specs.BurstLaws.{Aligning, aligning-start, aligning-turn, aligning-done, two-pyramids, frame-of, work-room, parts-are, parts-most, place-most, place-room}
+use native.Mathlib.Nat.{mul-le-mul}
+use Rattle.alignment.specs.BurstLaws.{Aligning, aligning-start, aligning-turn, aligning-done, two-pyramids, frame-of, work-room, place-room}
 use Rattle.alignment.proofs.burst.align_frames.Statement.{statement}
 use Rattle.alignment.proofs.burst.align_frames.Tie as tie
 
@@ -15,58 +16,54 @@ build-requires c κs =
     let start = c .before .before in
     (frame-of (start .pre) _ (start .pre .fits .burst .reference-below), omega (arith, two-pyramids (start .args .shape) (work-room (start .pre))))
 
-mul-parts : tie.Need-mul-parts Inv-loop μ-loop
-mul-parts c =
-    omega (arith, parts-most (c .before .before .before .before .before .before .pre .fits .burst .allowed))
-
-mul-parts-2 : tie.Need-mul-parts-2 Inv-loop μ-loop
-mul-parts-2 c =
-    omega (arith, parts-most (c .before .before .before .before .before .before .pre .fits .burst .allowed))
+frame-parts-requires : tie.Need-frame-parts-requires Inv-loop μ-loop
+frame-parts-requires c κs = c .before .before .before .before .pre .fits .burst .allowed
 
 loop-holds : tie.Need-loop-holds Inv-loop μ-loop
 loop-holds c =
-    let burst = c .before .before .before .before .before .before .before .pre .fits .burst in
-    (aligning-start (burst .allowed) (burst .vectors-long) refl (c .before .before .before .before .build .ensures .levels), omega arith)
+    let burst = c .before .before .before .before .before .before .pre .fits .burst in
+    (aligning-start (burst .vectors-long) refl (c .before .before .before .build .ensures .levels), omega arith)
 
 mul-align-frame : tie.Need-mul-align-frame Inv-loop μ-loop
 mul-align-frame c =
-    let start = c .before .before .before .before .before .before .before .before .before .before .before in
-    omega (arith, place-most (c .before .before .before .loop .k) (start .pre .fits .burst .allowed) (omega (arith, start .pre .fits .burst .allowed .few)))
+    let loop = c .before .before .before in
+    let start = loop .before .before .before .before .before .before .before in
+    omega (arith, mul-le-mul {n₁ = loop .loop .k} {n₂ = 7} (omega (arith, start .pre .fits .burst .allowed .few)) (loop .before .before .frame-parts .ensures .1))
 
 align-frame-requires : tie.Need-align-frame-requires Inv-loop μ-loop
 align-frame-requires c κs =
     let loop = c .before .before .before .before in
-    let start = loop .before .before .before .before .before .before .before .before in
+    let start = loop .before .before .before .before .before .before .before in
     let burst = start .pre .fits .burst in
     let inv = loop .loop .inv .0 in
     let few = burst .allowed .few in
     let same = inv .same in
     let long = inv .writing .same in
-    (frame-of (start .pre) _ (omega (arith, c .before .before .other-frame .ensures .1)), inv .levels, omega (arith, work-room (start .pre), loop .before .before .before .before .before .build .ensures .same), omega (arith, burst .vectors-long, place-room (loop .loop .k) (burst .allowed) (omega arith)))
+    let place = ap (λ n. loop .loop .k * n) (loop .before .before .frame-parts .ensures .0) in
+    (frame-of (start .pre) _ (omega (arith, c .before .before .other-frame .ensures .1)), inv .levels, omega (arith, work-room (start .pre), loop .before .before .before .before .build .ensures .same), omega (arith, place, burst .vectors-long, place-room (start .args .shape) (loop .loop .k) (omega arith)))
 
 array-write-sums : tie.Need-array-write-sums Inv-loop μ-loop
 array-write-sums c =
     let loop = c .before .before .before .before .before .before .before in
     let seven = loop .loop .inv .0 .filled .same in
-    omega (arith, loop .before .before .before .before .before .before .before .before .pre .fits .burst .allowed .few)
+    omega (arith, loop .before .before .before .before .before .before .before .pre .fits .burst .allowed .few)
 
 loop-again : tie.Need-loop-again Inv-loop μ-loop
 loop-again c =
     let loop = c .before .before .before .before .before .before .before in
-    let ok = loop .before .before .before .before .before .before .before .before .pre .fits .burst .allowed in
-    let few = ok .few in
-    (aligning-turn (loop .loop .inv .0) (omega arith) (omega arith) (c .before .before .before .before .before .other-frame .ensures .0) (ap (λ n. loop .loop .k * n) (parts-are ok)) (c .before .before .align-frame .ensures), omega arith)
+    let few = loop .before .before .before .before .before .before .before .pre .fits .burst .allowed .few in
+    (aligning-turn (loop .loop .inv .0) (omega arith) (omega arith) (c .before .before .before .before .before .other-frame .ensures .0) (ap (λ n. loop .loop .k * n) (loop .before .before .frame-parts .ensures .0)) (c .before .before .align-frame .ensures), omega arith)
 
 returns : tie.Need-returns Inv-loop μ-loop
 returns c =
     let loop = c .before in
-    let burst = loop .before .before .before .before .before .before .before .before .pre .fits .burst in
-    let done = aligning-done (burst .allowed) (burst .vectors-long) refl (omega arith) (loop .loop .inv .0) in
-    record { found = done .found; sums-are = done .sums-are; same = done .same ∙ loop .before .before .before .before .before .build .ensures .same }
+    let burst = loop .before .before .before .before .before .before .before .pre .fits .burst in
+    let done = aligning-done (burst .vectors-long) refl (omega arith) (loop .loop .inv .0) in
+    record { found = done .found; sums-are = done .sums-are; same = done .same ∙ loop .before .before .before .before .build .ensures .same }
 
 pub align-frames-spec : {M : Type 1} → statement M
 align-frames-spec = tie.close (tie.spec
-    Inv-loop μ-loop build-requires (λ c. search needs) (λ c. search needs) mul-parts mul-parts-2
-    (λ c. search needs) loop-holds (λ c κs. search needs) mul-align-frame align-frame-requires
-    (λ c. search needs) array-write-sums (λ c. search needs) (λ c. search needs) loop-again
-    (λ c. search needs) (λ c. search needs) returns)
+    Inv-loop μ-loop build-requires frame-parts-requires (λ c. search needs) loop-holds
+    (λ c κs. search needs) mul-align-frame align-frame-requires (λ c. search needs)
+    array-write-sums (λ c. search needs) (λ c. search needs) loop-again (λ c. search needs)
+    (λ c. search needs) returns)

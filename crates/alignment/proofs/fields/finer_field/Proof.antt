@@ -1,7 +1,8 @@
 -- Each turn writes a tile's vector behind the images and the coarse vectors, which stay as they were.
 use Rattle.pyramid.specs.WordsLaws.{Kept, writing-kept}
 use Rattle.sequences.specs.Place.{row-below, column-below}
-use Rattle.alignment.specs.Fields.{levelAt, stepTo, finer}
+use Rattle.alignment.specs.Fields.{levelAt, finer}
+use Rattle.alignment.specs.Steps.{stepTo}
 use Rattle.alignment.specs.FieldLaws.{Placing, place-start, place-turn, place-done, finer-agree}
 use Rattle.alignment.specs.Stored.{pairIn}
 use Rattle.alignment.specs.StoredLaws.{kept-stored, kept-pair}

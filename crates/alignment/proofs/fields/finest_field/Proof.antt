@@ -3,8 +3,11 @@ use native.Mathlib.Nat.{mul-le-mul}
 use Rattle.geometry.specs.Tiles.{level0}
 use Rattle.sequences.specs.Sum.{Summed, sum-start, sum-turn, sum-done, sum-most}
 use Rattle.sequences.specs.Place.{row-below, column-below}
+use Rattle.search.specs.Magnitudes.{residualMost}
+use Rattle.alignment.specs.Magnitudes.{tilesMost}
 use Rattle.search.specs.Residual.{residual}
-use Rattle.alignment.specs.Fields.{tileAt, numbered, residuals}
+use Rattle.geometry.specs.Vectors.{numbered}
+use Rattle.alignment.specs.Fields.{tileAt, residuals}
 use Rattle.alignment.specs.FieldLaws.{Placing, place-start, place-turn, place-done}
 use Rattle.alignment.specs.Stored.{pairIn, Few}
 use Rattle.alignment.specs.Grids.{finestIn}
@@ -13,12 +16,12 @@ use Rattle.alignment.proofs.fields.finest_field.Statement.{statement}
 use Rattle.alignment.proofs.fields.finest_field.Tie as tie
 
 abbrev Inv-loop : tie.InvT-loop
-Inv-loop work area coarse vectors₀ to rows columns sum₀ k₀ k-end vectors sum k = Placing vectors₀ to columns (rows * columns) (finestIn work area coarse) k vectors × Summed (λ k. residual (level0 .squared) (pairIn work area) (tileAt level0 (k / columns) (k % columns)) (numbered columns (finestIn work area coarse) k)) 4397912294400 (rows * columns) k sum
+Inv-loop work area coarse vectors₀ to rows columns sum₀ k₀ k-end vectors sum k = Placing vectors₀ to columns (rows * columns) (finestIn work area coarse) k vectors × Summed (λ k. residual (level0 .squared) (pairIn work area) (tileAt level0 (k / columns) (k % columns)) (numbered columns (finestIn work area coarse) k)) residualMost (rows * columns) k sum
 
 abbrev μ-loop : tie.MeasureT-loop
 μ-loop work area coarse vectors₀ to rows columns sum₀ k₀ k-end vectors sum k = rows * columns - k
 
-few : (rows columns : ℕ) → Few rows columns → rows * columns ≤ 66049
+few : (rows columns : ℕ) → Few rows columns → rows * columns ≤ tilesMost
 few rows columns g = mul-le-mul (g .few-rows) (g .few-columns)
 
 mul-k-end : tie.Need-mul-k-end Inv-loop μ-loop

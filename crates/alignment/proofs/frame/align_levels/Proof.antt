@@ -1,5 +1,5 @@
 -- The coarse levels' vectors stand behind the pyramids, and the finest field is found from them.
-use Rattle.pyramid.specs.Layout.{tiles}
+use Rattle.geometry.specs.TileLaws.{finest-tiles}
 use Rattle.alignment.specs.Sites.{gridAt}
 use Rattle.alignment.specs.LevelLaws.{standing-kept, grid-few, aligned}
 use Rattle.algebra.specs.Prelude.{arith, needs}
@@ -16,16 +16,16 @@ grid-at-requires : tie.Need-grid-at-requires
 grid-at-requires c κs = (c .before .before .before .before .pre .0, omega arith)
 
 finest-field-requires : tie.Need-finest-field-requires
-unfolding gridAt tiles
+unfolding gridAt
 finest-field-requires c κs = let r = c .before .before .before .before .before .coarse-levels .ensures .0 in
     let s = c .before .before .before .before .before .before .before in
-    (rw (c .before .before .before .area-at .ensures) (standing-kept (s .pre .1) (r .kept) .stored 0), r .vectors, rw (c .before .before .grid-at .ensures) (grid-few (s .pre .0) 0), rw (c .before .before .grid-at .ensures) (s .pre .3))
+    (rw (c .before .before .before .area-at .ensures) (standing-kept (s .pre .1) (r .kept) .stored 0), r .vectors, rw (c .before .before .grid-at .ensures) (grid-few (s .pre .0) 0), rw (c .before .before .grid-at .ensures, finest-tiles (s .pre .0 .high), finest-tiles (s .pre .0 .wide)) (s .pre .3))
 
 returns : tie.Need-returns
 returns c = let g = c .before .before .before .before in
     let l = g .before .before .before in
     let s = l .before .before in
-    aligned (s .pre .1) (s .pre .2) (l .coarse-levels .ensures .0) (l .coarse-levels .ensures .1) (g .before .area-at .ensures) (g .grid-at .ensures) (s .pre .3) (c .before .finest-field .ensures)
+    aligned (s .pre .1) (s .pre .2) (s .pre .0) (l .coarse-levels .ensures .0) (l .coarse-levels .ensures .1) (g .before .area-at .ensures) (g .grid-at .ensures) (s .pre .3) (c .before .finest-field .ensures)
 
 pub align-levels-spec : {M : Type 1} → statement M
 align-levels-spec = tie.close (tie.spec

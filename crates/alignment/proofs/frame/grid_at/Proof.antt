@@ -1,7 +1,8 @@
 -- The counts are those of the level's size.
 use native.Mathlib.Nat.{div-le-self}
 use Rattle.geometry.specs.declared.Shape.{Shape}
-use Rattle.geometry.specs.Tiles.{levelSize, levelTiles, tileCount}
+use Rattle.geometry.specs.Tiles.{levelSize, tileCount}
+use Rattle.geometry.specs.LevelTiles.{levelTiles}
 use Rattle.alignment.specs.declared.levels.Grid.{Grid}
 use Rattle.alignment.specs.Fields.{levelAt}
 use Rattle.alignment.specs.Sites.{gridAt}

@@ -2,7 +2,7 @@
 use Rattle.algebra.specs.Prelude.{_≡_, List, ℕ, _+_, _*_, _<_, arith, getD, ℤ, pos, _*ℤ_}
 use native.Mathlib.Nat.{add-assoc}
 use Rattle.geometry.specs.ReadLaws.{cell-below}
-use Rattle.search.specs.declared.Vector.{Vector}
+use Rattle.geometry.specs.declared.vectors.Vector.{Vector}
 use Rattle.search.specs.Vectors.{_times_}
 use Rattle.algebra.specs.Back.{back}
 use Rattle.alignment.specs.Grids.{fieldAt}

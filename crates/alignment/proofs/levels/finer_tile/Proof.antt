@@ -1,5 +1,6 @@
 -- The reference's samples of the tile are copied once, for the candidates and for the search.
-use Rattle.alignment.specs.Fields.{levelAt, stepTo}
+use Rattle.alignment.specs.Fields.{levelAt}
+use Rattle.alignment.specs.Steps.{stepTo}
 use Rattle.alignment.specs.Stored.{pairIn}
 use Rattle.alignment.specs.StoredLaws.{copyable, ready, finer-answer, finer-side}
 use Rattle.alignment.specs.Grids.{fieldAt}

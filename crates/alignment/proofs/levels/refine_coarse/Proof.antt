@@ -1,12 +1,14 @@
 -- The coarse indices and the three vectors are those of the definition.
 use Rattle.geometry.specs.Tiles.{Step, own, neighbour, capped}
 use Rattle.search.specs.declared.Tile.{Tile}
-use Rattle.search.specs.declared.Vector.{Vector}
+use Rattle.geometry.specs.declared.vectors.Vector.{Vector}
 use Rattle.search.specs.Vectors.{_times_}
 use Rattle.search.specs.Residual.{Pair}
 use Rattle.search.specs.Search.{found, guessed}
 use Rattle.search.specs.SearchLaws.{guess-within}
-use Rattle.alignment.specs.Fields.{Field, stepTo, fromCoarse}
+use Rattle.geometry.specs.Vectors.{Field}
+use Rattle.alignment.specs.Fields.{fromCoarse}
+use Rattle.alignment.specs.Steps.{stepTo}
 use Rattle.alignment.specs.Stored.{pairIn, answer}
 use Rattle.alignment.specs.StoredLaws.{answer-within}
 use Rattle.alignment.specs.Grids.{fieldAt}

@@ -1,7 +1,8 @@
 -- The window starts 4 rows and columns before the tile moved by the guess.
 use native.Mathlib.Nat.{mul-le-mul}
 use Rattle.algebra.specs.Prelude.{_≡_, ap, _∙_, _^_, arith, needs, lit≤, negsuc}
-use Rattle.search.specs.Vectors.{_plus_, Within}
+use Rattle.search.specs.Vectors.{_plus_}
+use Rattle.search.specs.Bounds.{Within}
 use Rattle.search.specs.VectorLaws.{within-more, plus-within}
 use Rattle.alignment.specs.Stored.{pairIn}
 use Rattle.alignment.proofs.matching.copy_window.Statement.{statement}

@@ -1,21 +1,19 @@
--- Two parts for each tile of each other frame are few.
-use Rattle.algebra.specs.Prelude.{refl, arith, needs}
+-- The parts of the other frames are few.
+use Rattle.algebra.specs.Prelude.{ap, _-_, _*_, arith, needs}
+use native.Mathlib.Nat.{mul-le-mul}
 use Rattle.geometry.specs.Shape.{vectorLength}
-use Rattle.geometry.specs.ShapeLaws.{tiles-most, vectors-most}
 use Rattle.geometry.proofs.lengths.vector_length.Statement.{statement}
 use Rattle.geometry.proofs.lengths.vector_length.Tie as tie
 
-mul-result-2 : tie.Need-mul-result-2
-mul-result-2 c = omega (arith, tiles-most (c .before .before .before .pre))
-
-mul-result-3 : tie.Need-mul-result-3
-mul-result-3 c = omega (arith, vectors-most (c .before .before .before .pre))
+mul-result : tie.Need-mul-result
+mul-result c = omega (arith, mul-le-mul {n₁ = c .before .before .args .shape .count - 1} {n₂ = 7} (omega arith) (c .frame-parts .ensures .1))
 
 returns : tie.Need-returns
 unfolding vectorLength
-returns c = (refl, vectors-most (c .before .before .before .pre))
+returns c =
+    let n = c .before .before .args .shape .count - 1 in
+    let parts = c .frame-parts .ensures in
+    (ap (λ p. n * p) (parts .0), omega (arith, mul-le-mul {n₁ = n} {n₂ = 7} (omega arith) (parts .1)))
 
 pub vector-length-spec : {M : Type 1} → statement M
-vector-length-spec = tie.close (tie.spec
-    (λ c. search needs) (λ c. search needs) (λ c. search needs) (λ c. search needs) mul-result-2
-    mul-result-3 returns)
+vector-length-spec = tie.close (tie.spec (λ c. search needs) (λ c κs. search needs) mul-result returns)

@@ -1,5 +1,6 @@
 -- The four values, weighed, are the column's sum by definition.
-use Rattle.pyramid.specs.Pyramid.{weighted, columnSum}
+use Rattle.pyramid.specs.Pyramid.{weighted}
+use Rattle.pyramid.specs.Columns.{columnSum}
 use borrow.Author.Needs.{needs}
 use Rattle.pyramid.proofs.halving.column_sum.Statement.{statement}
 use Rattle.pyramid.proofs.halving.column_sum.Tie as tie

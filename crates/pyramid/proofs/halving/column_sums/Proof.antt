@@ -2,7 +2,7 @@
 use Rattle.sequences.specs.Write.{Writing, write-turn}
 use Rattle.pyramid.proofs.Ends.{ends-start, ends-length}
 use Rattle.pyramid.proofs.Columns.{columns-done}
-use Rattle.pyramid.specs.Pyramid.{columnSum}
+use Rattle.pyramid.specs.Columns.{columnSum}
 use Rattle.pyramid.specs.Words.{imageAt}
 use Rattle.algebra.specs.Prelude.{_≡_, _-_, arith, needs, length}
 use Rattle.pyramid.proofs.halving.column_sums.Statement.{statement}

@@ -1,12 +1,13 @@
 -- `report::motion::put_aligned`: the names, then the lines of the vectors that align found.
 use Rattle.algebra.specs.Prelude.{_≡_, sym, ap, List, _++_, ℕ, _-_, arith, needs, ℤ}
 use lib.Seq.{length-take-le}
+use Rattle.geometry.specs.Tiles.{frameParts}
 use Rattle.alignment.specs.Aligned.{alignedVectors, residualSums}
 use Rattle.burst_file.specs.declared.Header.{Header}
 use Rattle.printing.specs.Lines.{motionNames}
 use Rattle.printing.specs.PutLaws.{printed-then}
 use Rattle.report.specs.Inner.{vectorRoom, burstOf, Taken}
-use Rattle.report.specs.Motion.{frameParts, frameLines, motionOf}
+use Rattle.report.specs.Motion.{frameLines, motionOf}
 use Rattle.report.proofs.motion.put_aligned.Statement.{statement}
 use Rattle.report.proofs.motion.put_aligned.Tie as tie
 

@@ -1,10 +1,10 @@
 -- `report::motion::put_frames`: the lines so far are those of the frames passed.
 use Rattle.algebra.specs.Prelude.{_≡_, List, _++_, ℕ, _+_, _-_, _*_, _≤_, arith, needs, getD, take, drop, ℤ}
 use native.Mathlib.Numerals.{add-one}
-use Rattle.geometry.specs.Vectors.{otherFrame}
+use Rattle.geometry.specs.Vectors.{otherFrame, partsOf}
 use Rattle.printing.specs.Put.{Printed}
 use Rattle.printing.specs.PutLaws.{printed-none, printed-then}
-use Rattle.report.specs.Motion.{partsOf, frameLine, frameLines}
+use Rattle.report.specs.Motion.{frameLine, frameLines}
 use Rattle.report.specs.Inner.{vectorRoom}
 use Rattle.report.proofs.motion.put_frames.Statement.{statement}
 use Rattle.report.proofs.motion.put_frames.Tie as tie

@@ -1,6 +1,7 @@
 -- The loop keeps the first least of the offsets tried so far; the arrays are the table's, and the tile is a copy.
-use Rattle.algebra.specs.Prelude.{refl, _∙_, false, _-_, arith, needs, lit≤, lit<}
+use Rattle.algebra.specs.Prelude.{refl, _∙_, false, _+_, _-_, _*_, arith, needs, lit≤, lit<}
 use mathlib.Core.Logic.{⊎-elim}
+use Rattle.search.specs.Magnitudes.{absoluteMost, totalMost}
 use Rattle.search.specs.Offsets.{downs, rights}
 use Rattle.sequences.specs.LeastLaws.{Lowest, lowest-start, lowest-take, lowest-keep}
 use Rattle.search.specs.Local.{windowSum}
@@ -10,7 +11,7 @@ use Rattle.search.proofs.window.search_absolute.Statement.{statement}
 use Rattle.search.proofs.window.search_absolute.Tie as tie
 
 abbrev Inv-loop : tie.InvT-loop
-Inv-loop tile window down right own total sums best₀ low₀ k₀ best low k = Lowest (windowSum false tile window 16) 12581760 4294967295 81 k best low
+Inv-loop tile window down right own total sums best₀ low₀ k₀ best low k = Lowest (windowSum false tile window 16) (2 * totalMost + absoluteMost) 4294967295 81 k best low
 
 abbrev μ-loop : tie.MeasureT-loop
 μ-loop tile window down right own total sums best₀ low₀ k₀ best low k = 81 - k

@@ -1,6 +1,7 @@
 -- The loop keeps the first least of the offsets tried so far; the arrays are the table's, and the tile is a copy.
 use Rattle.algebra.specs.Prelude.{refl, _∙_, true, _-_, arith, needs, lit≤, lit<}
 use mathlib.Core.Logic.{⊎-elim}
+use Rattle.search.specs.Magnitudes.{residualMost}
 use Rattle.search.specs.Offsets.{downs, rights}
 use Rattle.sequences.specs.LeastLaws.{Lowest, lowest-start, lowest-take, lowest-keep}
 use Rattle.search.specs.Local.{windowSum}
@@ -10,7 +11,7 @@ use Rattle.search.proofs.window.search_squared.Statement.{statement}
 use Rattle.search.proofs.window.search_squared.Tie as tie
 
 abbrev Inv-loop : tie.InvT-loop
-Inv-loop tile window down right own best₀ low₀ k₀ best low k = Lowest (windowSum true tile window 16) 4397912294400 18446744073709551615 81 k best low
+Inv-loop tile window down right own best₀ low₀ k₀ best low k = Lowest (windowSum true tile window 16) residualMost 18446744073709551615 81 k best low
 
 abbrev μ-loop : tie.MeasureT-loop
 μ-loop tile window down right own best₀ low₀ k₀ best low k = 81 - k

@@ -1,0 +1,36 @@
+-- The place lies among the vectors, which are few.
+use Rattle.algebra.specs.Prelude.{ap₂, _+_, _*_, arith, needs}
+use native.Mathlib.Nat.{mul-le-mul}
+use Rattle.geometry.specs.Vectors.{vectorPlace}
+use Rattle.geometry.specs.VectorLaws.{place-below}
+use Rattle.geometry.proofs.vectors.vector_place.Statement.{statement}
+use Rattle.geometry.proofs.vectors.vector_place.Tie as tie
+
+mul-result : tie.Need-mul-result
+mul-result c = omega (arith, mul-le-mul {n₁ = c .before .args .k} {n₂ = 7} (omega arith) (c .frame-parts .ensures .1))
+
+mul-result-2 : tie.Need-mul-result-2
+mul-result-2 c = omega (arith, mul-le-mul {n₁ = c .before .before .args .row} {n₂ = 256} (omega arith) (c .tile-columns .ensures .1))
+
+add-result : tie.Need-add-result
+add-result c = omega (arith, mul-le-mul {n₁ = c .before .before .args .row} {n₂ = 256} (omega arith) (c .tile-columns .ensures .1))
+
+mul-result-3 : tie.Need-mul-result-3
+mul-result-3 c = omega (arith, mul-le-mul {n₁ = c .before .before .args .row} {n₂ = 256} (omega arith) (c .tile-columns .ensures .1))
+
+add-result-2 : tie.Need-add-result-2
+add-result-2 c =
+    omega (arith, mul-le-mul {n₁ = c .before .before .args .k} {n₂ = 7} (omega arith) (c .before .frame-parts .ensures .1), mul-le-mul {n₁ = c .before .before .args .row} {n₂ = 256} (omega arith) (c .tile-columns .ensures .1))
+
+returns : tie.Need-returns
+unfolding vectorPlace
+returns c =
+    let a = c .before .before .args in
+    let p = c .before .before .pre in
+    let is = ap₂ (λ n w. a .k * n + 2 * (a .row * w + a .column)) (c .before .frame-parts .ensures .0) (c .tile-columns .ensures .0) in
+    (is, omega (arith, is, place-below (a .shape) (a .k) (a .row) (a .column) (omega arith) (p .row-in) (p .column-in)))
+
+pub vector-place-spec : {M : Type 1} → statement M
+vector-place-spec = tie.close (tie.spec
+    (λ c κs. search needs) mul-result (λ c κs. search needs) mul-result-2 add-result mul-result-3
+    add-result-2 returns)
