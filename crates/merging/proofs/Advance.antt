@@ -1,9 +1,10 @@
 -- The output gets merged row by row, plane by plane; after the four planes it is the merge.
 use Rattle.algebra.specs.Prelude.{_≡_, refl, sym, ap, subst, _∙_, Bool, true, false, List, ℕ, zero, suc, _+_, _*_, _/_, _%_, _≤_, _<_, arith, ltb, length, getD, natAbs}
-use native.Mathlib.Nat.{mul-add-div-right, mul-add-mod-self-right, div-eq-of-lt, mod-eq-of-lt, mod-lt, div-lt-iff-lt-mul, div-add-mod', mul-comm}
+use native.Mathlib.Nat.{mod-lt, div-lt-iff-lt-mul, div-add-mod', mul-comm}
 use borrow.Author.Tests.{ltb-true, ltb-false}
 use lib.Seq.{ext-getD}
 use Rattle.sequences.specs.Tab.{tab, length-tab, getD-tab}
+use Rattle.sequences.specs.Place.{place-row, place-column}
 use Rattle.geometry.specs.Fits.{AllowedSize}
 use Rattle.tiles.specs.declared.Plane.{Plane}
 use Rattle.tiles.specs.Accepted.{Planar}
@@ -12,13 +13,6 @@ use Rattle.recipe.specs.Merged.{planeOutput, outputAt, wordAt, merged}
 use Rattle.merging.specs.Strided.{strided, Toward}
 use Rattle.merging.specs.Progress.{placeOf, RowsMerged}
 use Rattle.merging.proofs.Striding.{toward-same, toward-on, strided-toward, strided-in}
-
--- the row and the column of a place
-place-row : (row column width : ℕ) → column < width → (row * width + column) / width ≡ row
-place-row row column width h = mul-add-div-right (omega arith) row column ∙ omega (arith, div-eq-of-lt h)
-
-place-column : (row column width : ℕ) → column < width → (row * width + column) % width ≡ column
-place-column row column width h = mul-add-mod-self-right row width column ∙ mod-eq-of-lt h
 
 -- the output's word at a place of a plane
 place-word : (s : Scene) (p : Plane) → AllowedSize (s .width) → Planar p → (y x : ℕ) → x < s .width / 2 → wordAt s (placeOf s p y x) ≡ natAbs (planeOutput s (p .«row_parity») (p .«column_parity») y x)

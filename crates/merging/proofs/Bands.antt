@@ -9,7 +9,7 @@ use Rattle.merging.specs.Strided.{strided}
 use Rattle.tiles.specs.Rows.{rowWords, slotOf, Stored}
 use Rattle.merging.specs.Work.{Held, outputWord, Ready}
 use Rattle.merging.specs.Progress.{RowsMerged, BandMerged}
-use Rattle.merging.proofs.Places.{row-room}
+use Rattle.merging.proofs.Places.{output-room}
 use Rattle.merging.proofs.Holding.{stored-held, held-kept, next-room, output-word}
 use Rattle.merging.proofs.Advance.{rows-start, rows-on, row-merged}
 
@@ -65,7 +65,7 @@ module _ {m : Merge} {samples : List ℕ} {vectors : List ℤ} {p : Plane} {band
     band-turn {o} long is =
         let a = ok .burst .allowed in
         let y = 8 * band + i in
-        let room = row-room (m .shape) (2 * y + p .«row_parity») (omega (arith, row-below, q .row-parity, a .high)) in
+        let room = output-room (m .shape) (2 * y + p .«row_parity») (omega (arith, row-below, q .row-parity, a .high)) in
         record {
           count = omega arith;
           rows =

@@ -1,14 +1,15 @@
 -- Each row of the frame lies in it, and two rows of tiles in the work area.
-use Rattle.algebra.specs.Prelude.{ℕ, suc, _+_, _*_, _≤_, _<_, arith}
-use native.Mathlib.Nat.{mul-le-mul-left, mul-le-mul-right, suc-mul}
+use Rattle.algebra.specs.Prelude.{ℕ, _+_, _*_, _≤_, _<_, arith}
+use native.Mathlib.Nat.{mul-le-mul-left, mul-comm}
+use Rattle.sequences.specs.Place.{row-room}
 use Rattle.geometry.specs.declared.Shape.{Shape}
 use Rattle.geometry.specs.Shape.{outputLength, workLength}
 use Rattle.geometry.specs.Fits.{Allowed}
 use Rattle.tiles.specs.Rows.{rowWords}
 
-pub row-room : (s : Shape) (row : ℕ) → row < s .height → row * s .width + s .width ≤ outputLength s
+pub output-room : (s : Shape) (row : ℕ) → row < s .height → row * s .width + s .width ≤ outputLength s
 unfolding outputLength
-row-room s row h = omega (arith, suc-mul row (s .width), mul-le-mul-right {m = suc row} {n = s .height} (s .width) h)
+output-room s row h = omega (arith, row-room row (s .height) (s .width) h, mul-comm (s .width) (s .height))
 
 pub rows-fit : {s : Shape} → Allowed s → 2 * rowWords (s .width) ≤ workLength s
 unfolding rowWords workLength

@@ -11,6 +11,12 @@ use Rattle.tiles.specs.Rows.{rowWords, slotOf, rowWord}
 use Rattle.recipe.specs.Scene.{Scene}
 use Rattle.merging.specs.Gather.{weightRow, windowed, corrected, wordOver}
 
+-- N = `count` is 2 to 8, and `inverse` is 2^19/N, rounding up
+pub record Divided (count inverse : ℕ) : Type 0 where
+  pub several : 2 ≤ count
+  pub few : count ≤ 8
+  pub inverse-is : inverse ≡ (524287 + count) / count
+
 -- n words from `at` on that are small enough to be weighed and added
 pub record Words (work : List ℤ) (at n : ℕ) : Type 0 where
   pub room : at + n ≤ length work

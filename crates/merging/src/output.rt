@@ -10,7 +10,7 @@ ghost use Rattle.geometry.specs.Shape.{outputLength};
 ghost use Rattle.recipe.specs.Tables.{windows, window16, side16};
 ghost use Rattle.merging.specs.Gather.{weightRow, corrected, windowed, wordOver};
 ghost use Rattle.merging.specs.Strided.{strided};
-ghost use Rattle.merging.specs.Work.{Words, Weighed, wordFrom, outputWord, Ready};
+ghost use Rattle.merging.specs.Work.{Divided, Words, Weighed, wordFrom, outputWord, Ready};
 use geometry::Shape;
 use tiles::Plane;
 use tiles::rows::slot;
@@ -45,7 +45,7 @@ fn scaled(t0: u16, sum: i64, count: usize) -> i64
 
 // z / count, rounding down, held to 0..4095. `inverse` is 2^19 / count, rounding up: below 4096·count a product with it and a shift are that division.
 fn held(z: i64, count: usize, inverse: u64) -> u16
-    requires { ⌜ (2 ≤ count) × (count ≤ 8) × (inverse ≡ (524287 + count) / count) ⌝ }
+    requires { ⌜ Divided count inverse ⌝ }
     ensures { λ r. ⌜ r ≡ natAbs (clampZ (pos 0) (pos 4095) (shrZ z count)) ⌝ }
 {
     if z < 0 {
@@ -59,7 +59,7 @@ fn held(z: i64, count: usize, inverse: u64) -> u16
 
 // A sample of the reference less the windowed sum of its corrections, of `count` frames.
 fn corrected(t0: u16, sum: i64, count: usize, inverse: u64) -> u16
-    requires { ⌜ (2 ≤ count) × (count ≤ 8) × (inverse ≡ (524287 + count) / count) × (AtMost (2 ^ 59) sum) ⌝ }
+    requires { ⌜ (Divided count inverse) × (AtMost (2 ^ 59) sum) ⌝ }
     ensures { λ r. ⌜ r ≡ natAbs (corrected side16 t0 sum (count - 1)) ⌝ }
 {
     held(scaled(t0, sum, count), count, inverse)
@@ -67,7 +67,7 @@ fn corrected(t0: u16, sum: i64, count: usize, inverse: u64) -> u16
 
 // The product of two windows.
 fn weight(window: &[u64; 16], i: usize, j: usize) -> i64
-    requires { ⌜ (now window ≡ windows) × (i < 16) × (j < 16) ⌝ }
+    requires { ⌜ record { table : now window ≡ windows; row : i < 16; column : j < 16 } ⌝ }
     ensures { λ r. ⌜ (r ≡ pos (window16 i * window16 j)) × (AtMost (2 ^ 24) r) ⌝ }
 {
     (window[i] * window[j]) as i64
@@ -87,7 +87,7 @@ fn weights(window: &[u64; 16], i: usize) -> [i64; 16]
 
 // What a tile has at its row i and column j, weighed. Its words start at `start`.
 fn part(work: &[i64], weights: &[i64; 16], start: usize, i: usize, j: usize) -> i64
-    requires { ⌜ (Words (now work) start 256) × (now weights ≡ weightRow i) × (i < 16) × (j < 16) ⌝ }
+    requires { ⌜ record { words : Words (now work) start 256; weights-are : now weights ≡ weightRow i; row : i < 16; column : j < 16 } ⌝ }
     ensures { λ r. ⌜ (r ≡ pos (window16 i * window16 j) *ℤ getD (now (work .entry)) (start + (16 * i + j)) (pos 0)) × (AtMost (2 ^ 57) r) ⌝ }
 {
     weights[j] * work[start + (16 * i + j)]
@@ -127,7 +127,7 @@ fn output_block(
     output: &mut [u16],
     start: usize,
 )
-    requires { ⌜ (Weighed (now work) above below (now lower) (now upper) i) × (2 ≤ count) × (count ≤ 8) × (inverse ≡ (524287 + count) / count) × (from + 14 < length (now samples)) × (start + 14 < length (now output)) ⌝ }
+    requires { ⌜ record { weighed : Weighed (now work) above below (now lower) (now upper) i; divided : Divided count inverse; samples-room : from + 14 < length (now samples); output-room : start + 14 < length (now output) } ⌝ }
     ensures { λ _. ⌜ now (output .exit) ≡ strided (now (output .entry)) start (wordFrom (now (samples .entry)) from (now (work .entry)) above below i count) 8 ⌝ }
 {
     for j in 0..8 {

@@ -23,7 +23,7 @@ fn merge_band(
     output: &mut [u16],
     work: &mut [i64],
 )
-    requires { ⌜ (Accepted m (now samples) (now vectors)) × (Planar plane) × (band < m .shape .height / 16) × (length (now output) ≡ outputLength (m .shape)) × (2 * rowWords (m .shape .width) ≤ length (now work)) × (Held (sceneOf m (now samples) (now vectors)) plane band (now work)) ⌝ }
+    requires { ⌜ record { accepted : Accepted m (now samples) (now vectors); planar : Planar plane; band-below : band < m .shape .height / 16; output-long : length (now output) ≡ outputLength (m .shape); room : 2 * rowWords (m .shape .width) ≤ length (now work); held : Held (sceneOf m (now samples) (now vectors)) plane band (now work) } ⌝ }
     ensures { λ _. ⌜ BandMerged (sceneOf m (now (samples .entry)) (now (vectors .entry))) plane band (now (output .entry)) (now (output .exit)) (now (work .exit)) ⌝ }
 {
     correction_row(m, samples, vectors, plane, band + 1, &mut *work);
@@ -50,7 +50,7 @@ pub fn merge_plane(
     output: &mut [u16],
     work: &mut [i64],
 )
-    requires { ⌜ (Accepted m (now samples) (now vectors)) × (Planar plane) × (length (now output) ≡ outputLength (m .shape)) × (2 * rowWords (m .shape .width) ≤ length (now work)) ⌝ }
+    requires { ⌜ record { accepted : Accepted m (now samples) (now vectors); planar : Planar plane; output-long : length (now output) ≡ outputLength (m .shape); room : 2 * rowWords (m .shape .width) ≤ length (now work) } ⌝ }
     ensures { λ _. ⌜ RowsMerged (sceneOf m (now (samples .entry)) (now (vectors .entry))) plane 0 (m .shape .height / 2) (now (output .entry)) (now (output .exit)) ⌝ }
 {
     correction_row(m, samples, vectors, plane, 0, &mut *work);

@@ -25,12 +25,14 @@ pub fn root_below(n: u64, bound: u64) -> u64
     low
 }
 
+// What r squares of a sample.
 fn intensity(sample: u16) -> u64
     ensures { λ r. ⌜ (r ≡ intensity sample) × (r ≤ 65535) ⌝ }
 {
     sample as u64
 }
 
+// Its square.
 fn squared(sample: u16) -> u64
     ensures { λ r. ⌜ (r ≡ squared sample) × (r ≤ 4294836225) ⌝ }
 {
@@ -38,6 +40,7 @@ fn squared(sample: u16) -> u64
     x * x
 }
 
+// The squares of a row, added up.
 fn row_squares(row: [u16; 16]) -> u64
     ensures { λ r. ⌜ (r ≡ sumN 16 (λ j. squared (getD row j 0))) × (r ≤ 68717379600) ⌝ }
 {
@@ -48,6 +51,7 @@ fn row_squares(row: [u16; 16]) -> u64
     sum
 }
 
+// The squares of a tile, added up.
 pub fn sum_of_squares(tile: [[u16; 16]; 16]) -> u64
     ensures { λ r. ⌜ (r ≡ sumOfSquares 16 (cell 0 tile)) × (r ≤ 1099478073600) ⌝ }
 {

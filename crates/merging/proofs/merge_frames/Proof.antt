@@ -10,20 +10,20 @@ use Rattle.merging.proofs.merge_frames.Tie as tie
 merge-plane-requires : tie.Need-merge-plane-requires
 merge-plane-requires c κs =
     let s = c .before .before .before .before in
-    (s .pre .0, record { row-parity = lit< tt; column-parity = lit< tt }, s .pre .1, omega (arith, rows-fit (s .pre .0 .burst .allowed), s .pre .2))
+    record { accepted = s .pre .0; planar = record { row-parity = lit< tt; column-parity = lit< tt }; output-long = s .pre .1; room = omega (arith, rows-fit (s .pre .0 .burst .allowed), s .pre .2) }
 
 merge-plane-requires-2 : tie.Need-merge-plane-requires-2
 merge-plane-requires-2 c κs =
     let p = c .before .before .before .before .before in
     let s = p .before .before .before .before .before in
-    (s .pre .0, record { row-parity = lit< tt; column-parity = lit< tt }, omega (arith, p .merge-plane .kept, s .pre .1), omega (arith, p .merge-plane .kept, rows-fit (s .pre .0 .burst .allowed), s .pre .2))
+    record { accepted = s .pre .0; planar = record { row-parity = lit< tt; column-parity = lit< tt }; output-long = omega (arith, p .merge-plane .kept, s .pre .1); room = omega (arith, p .merge-plane .kept, rows-fit (s .pre .0 .burst .allowed), s .pre .2) }
 
 merge-plane-requires-3 : tie.Need-merge-plane-requires-3
 merge-plane-requires-3 c κs =
     let q = c .before .before .before .before .before in
     let p = q .before .before .before .before .before .before in
     let s = p .before .before .before .before .before in
-    (s .pre .0, record { row-parity = lit< tt; column-parity = lit< tt }, omega (arith, p .merge-plane .kept, q .merge-plane2 .kept, s .pre .1), omega (arith, p .merge-plane .kept, q .merge-plane2 .kept, rows-fit (s .pre .0 .burst .allowed), s .pre .2))
+    record { accepted = s .pre .0; planar = record { row-parity = lit< tt; column-parity = lit< tt }; output-long = omega (arith, p .merge-plane .kept, q .merge-plane2 .kept, s .pre .1); room = omega (arith, p .merge-plane .kept, q .merge-plane2 .kept, rows-fit (s .pre .0 .burst .allowed), s .pre .2) }
 
 merge-plane-requires-4 : tie.Need-merge-plane-requires-4
 merge-plane-requires-4 c κs =
@@ -31,7 +31,7 @@ merge-plane-requires-4 c κs =
     let q = r .before .before .before .before .before .before in
     let p = q .before .before .before .before .before .before in
     let s = p .before .before .before .before .before in
-    (s .pre .0, record { row-parity = lit< tt; column-parity = lit< tt }, omega (arith, p .merge-plane .kept, q .merge-plane2 .kept, r .merge-plane3 .kept, s .pre .1), omega (arith, p .merge-plane .kept, q .merge-plane2 .kept, r .merge-plane3 .kept, rows-fit (s .pre .0 .burst .allowed), s .pre .2))
+    record { accepted = s .pre .0; planar = record { row-parity = lit< tt; column-parity = lit< tt }; output-long = omega (arith, p .merge-plane .kept, q .merge-plane2 .kept, r .merge-plane3 .kept, s .pre .1); room = omega (arith, p .merge-plane .kept, q .merge-plane2 .kept, r .merge-plane3 .kept, rows-fit (s .pre .0 .burst .allowed), s .pre .2) }
 
 returns : tie.Need-returns
 unfolding outputLength sceneOf

@@ -15,10 +15,10 @@ zero-fits = record { sfits = omega arith }
 
 module _ (s : tie.Start) where
   count-is : toZ w64 (s .args .count) ≡ pos (s .args .count)
-  count-is = toZ-pos w64 (omega (arith, s .pre .1))
+  count-is = toZ-pos w64 (omega (arith, s .pre .few))
 
   limit-fits : SFits w64 (pos 4096 *ℤ toZ w64 (s .args .count))
-  limit-fits = rw count-is (record { sfits = omega (arith, s .pre .1) })
+  limit-fits = rw count-is (record { sfits = omega (arith, s .pre .few) })
 
 returns : tie.Need-returns
 returns c =
@@ -39,18 +39,18 @@ module _ (c : tie.Then2) where
   size = omega (zarith, abs-pn (s .args .z), min-pn (s .args .z), low, high)
 
   product : natAbs (s .args .z) * s .args .inverse ≤ 32768 * 524295
-  product = mul-le-mul {n₁ = natAbs (s .args .z)} {m₁ = s .args .inverse} {n₂ = 32768} {m₂ = 524295} (omega (arith, size, s .pre .1)) (omega (arith, div-le-self (524287 + s .args .count) (s .args .count), s .pre .1, s .pre .2))
+  product = mul-le-mul {n₁ = natAbs (s .args .z)} {m₁ = s .args .inverse} {n₂ = 32768} {m₂ = 524295} (omega (arith, size, s .pre .few)) (omega (arith, div-le-self (524287 + s .args .count) (s .args .count), s .pre .few, s .pre .inverse-is))
 
   quotient : natAbs (s .args .z) * s .args .inverse / 524288 ≡ natAbs (s .args .z) / s .args .count
-  quotient = ap (λ r. natAbs (s .args .z) * r / 524288) (s .pre .2) ∙ reciprocal-19 (natAbs (s .args .z)) (s .args .count) (s .pre .0) (s .pre .1) size
+  quotient = ap (λ r. natAbs (s .args .z) * r / 524288) (s .pre .inverse-is) ∙ reciprocal-19 (natAbs (s .args .z)) (s .args .count) (s .pre .several) (s .pre .few) size
 
   quotient-below : natAbs (s .args .z) / s .args .count < 4096
-  quotient-below = div-lt-iff-lt-mul {k = s .args .count} {x = natAbs (s .args .z)} {y = 4096} (omega (arith, s .pre .0)) .1 size
+  quotient-below = div-lt-iff-lt-mul {k = s .args .count} {x = natAbs (s .args .z)} {y = 4096} (omega (arith, s .pre .several)) .1 size
 
 cast-result : tie.Need-cast-result
 cast-result c =
     let a = s c in
-    rw (toZ-ofZ (a .fits .z)) (from-zero (a .args .z) (rw (toZ-ofZ (a .fits .z)) at (c .before .if1 .left)), record { fits = omega (arith, size c, a .pre .1) })
+    rw (toZ-ofZ (a .fits .z)) (from-zero (a .args .z) (rw (toZ-ofZ (a .fits .z)) at (c .before .if1 .left)), record { fits = omega (arith, size c, a .pre .few) })
 
 mul-result : tie.Need-mul-result
 mul-result c = rw (toZ-ofZ (s c .fits .z)) (record { fits = omega (arith, product c) })
@@ -61,12 +61,12 @@ cast-result-2 c = rw (toZ-ofZ (s c .fits .z)) (record { fits = omega (arith, quo
 returns-2 : tie.Need-returns-2
 returns-2 c =
     let a = s c in
-    rw (toZ-ofZ (a .fits .z)) (quotient c ∙ sym (held-between (a .args .count) (a .args .z) (omega (arith, a .pre .0)) (low c) (high c)))
+    rw (toZ-ofZ (a .fits .z)) (quotient c ∙ sym (held-between (a .args .count) (a .args .z) (omega (arith, a .pre .several)) (low c) (high c)))
 
 returns-3 : tie.Need-returns-3
 returns-3 c =
     let a = c .before .before in
-    sym (held-above (a .args .count) (a .args .z) (omega (arith, a .pre .0)) (rw (count-is a) at (test-ge (a .args .z) (pos 4096 *ℤ toZ w64 (a .args .count)) (a .fits .z) (limit-fits a) (c .if2 .left))))
+    sym (held-above (a .args .count) (a .args .z) (omega (arith, a .pre .several)) (rw (count-is a) at (test-ge (a .args .z) (pos 4096 *ℤ toZ w64 (a .args .count)) (a .fits .z) (limit-fits a) (c .if2 .left))))
 
 pub held-spec : {M : Type 1} → statement M
 held-spec = tie.close (tie.spec

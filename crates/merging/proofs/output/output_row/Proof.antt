@@ -6,7 +6,7 @@ use Rattle.geometry.specs.ReadLaws.{frame-room}
 use Rattle.recipe.specs.Tables.{windows}
 use Rattle.tiles.specs.Rows.{rowWords}
 use Rattle.merging.specs.Work.{Words, wordFrom}
-use Rattle.merging.proofs.Places.{row-room}
+use Rattle.merging.proofs.Places.{output-room}
 use Rattle.merging.proofs.Striding.{Striding, stride-start}
 use Rattle.merging.proofs.Weights.{words-later}
 use Rattle.merging.proofs.Blocks.{block-turn, row-done}
@@ -29,7 +29,7 @@ room c =
     let r = c .pre .0 in
     let ok = r .sampled .allowed in
     let s = c .args .shape in
-    (row-room s (2 * c .args .y + c .args .plane .«row_parity») (omega (arith, r .row, r .planar, ok)), area-most ok, frame-room s (c .args .reference) (r .reference-below), samples-most ok)
+    (output-room s (2 * c .args .y + c .args .plane .«row_parity») (omega (arith, r .row, r .planar, ok)), area-most ok, frame-room s (c .args .reference) (r .reference-below), samples-most ok)
 
 long : (c : tie.Start Inv-loop μ-loop) → let s = c .args .shape in (length (now (c .args .output)) ≡ s .width * s .height) × (length (now (c .args .samples)) ≡ s .count * (s .width * s .height))
 unfolding outputLength sampleLength
@@ -73,20 +73,19 @@ output-block-requires c κs =
     let r = s .pre .0 in
     let n = t .before .loop .column in
     let taken = t .loop-test .taken in
-    let work = now (s .args .work) in (
-      record {
+    let work = now (s .args .work) in
+    record {
+      weighed = record {
         upper-words = subst (λ a. Words work (a + 256 * n) 512) (sym (s2 .before .slot .ensures .0)) (words-later (256 * n) 512 (r .above) (omega arith));
         lower-words = subst (λ a. Words work (a + 256 * n) 512) (sym (s2 .slot2 .ensures .0)) (words-later (256 * n) 512 (r .below) (omega arith));
         lower-weights = t .before .before .before .before .before .before .before .weights .ensures;
         upper-weights = t .before .before .before .before .before .weights2 .ensures;
         row = omega arith;
-      },
-      r .sampled .allowed .several,
-      r .sampled .allowed .few,
-      refl,
-      omega (arith, room s, long s, r .planar, taken),
-      omega (arith, room s, long s, r .planar, taken, t .before .loop .inv .same),
-    )
+      };
+      divided = record { several = r .sampled .allowed .several; few = r .sampled .allowed .few; inverse-is = refl };
+      samples-room = omega (arith, room s, long s, r .planar, taken);
+      output-room = omega (arith, room s, long s, r .planar, taken, t .before .loop .inv .same);
+    }
 
 loop-again : tie.Need-loop-again Inv-loop μ-loop
 loop-again c =

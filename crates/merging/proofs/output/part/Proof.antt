@@ -9,13 +9,13 @@ use Rattle.merging.proofs.output.part.Statement.{statement}
 use Rattle.merging.proofs.output.part.Tie as tie
 
 word-most : (c : tie.Start) → let a = c .args in AtMost summedMost (getD (now (a .work)) (a .start + (16 * a .i + a .j)) (pos 0))
-word-most c = record { most = c .pre .0 .most _ (omega arith) }
+word-most c = record { most = c .pre .words .most _ (omega arith) }
 
 weight-is : (c : tie.Start) → let a = c .args in getD (now (a .weights)) (a .j) (pos 0) ≡ pos (window16 (a .i) * window16 (a .j))
-weight-is c = ap (λ l. getD l (c .args .j) (pos 0)) (c .pre .1) ∙ weight-at (c .args .i) (c .args .j) (c .pre .3)
+weight-is c = ap (λ l. getD l (c .args .j) (pos 0)) (c .pre .weights-are) ∙ weight-at (c .args .i) (c .args .j) (c .pre .column)
 
 weight-small : (c : tie.Start) → let a = c .args in AtMost (2 ^ 24) (getD (now (a .weights)) (a .j) (pos 0))
-weight-small c = rw (weight-is c) (record { most = weight-most (c .args .i) (c .args .j) (c .pre .2) (c .pre .3) })
+weight-small c = rw (weight-is c) (record { most = weight-most (c .args .i) (c .args .j) (c .pre .row) (c .pre .column) })
 
 mul-result-4 : tie.Need-mul-result-4
 mul-result-4 c = let s = c .before .before in most-fits w64 _ _ (product-most (weight-small s) (word-most s) tt tt) tt

@@ -8,10 +8,10 @@ use Rattle.merging.proofs.output.weight.Tie as tie
 
 weight-is : (c : tie.Start) → getD (now (c .args .window)) (c .args .i) 0 * getD (now (c .args .window)) (c .args .j) 0 ≡ window16 (c .args .i) * window16 (c .args .j)
 unfolding window16
-weight-is c = rw (c .pre .0)
+weight-is c = rw (c .pre .table)
 
 small : (c : tie.Start) → getD (now (c .args .window)) (c .args .i) 0 * getD (now (c .args .window)) (c .args .j) 0 ≤ 16777216
-small c = rw (weight-is c) (weight-most (c .args .i) (c .args .j) (c .pre .1) (c .pre .2))
+small c = rw (weight-is c) (weight-most (c .args .i) (c .args .j) (c .pre .row) (c .pre .column))
 
 cast-result : tie.Need-cast-result
 cast-result c = record { sfits = omega (arith, small (c .before .before)) }
@@ -20,7 +20,7 @@ returns : tie.Need-returns
 returns c =
     let s = c .before .before in
     let e : toZ w64 (getD (now (s .args .window)) (s .args .i) 0 * getD (now (s .args .window)) (s .args .j) 0) ≡ pos (window16 (s .args .i) * window16 (s .args .j)) = toZ-pos w64 (omega (arith, small s)) ∙ ap pos (weight-is s) in
-    (e, rw e (record { most = weight-most (s .args .i) (s .args .j) (s .pre .1) (s .pre .2) }))
+    (e, rw e (record { most = weight-most (s .args .i) (s .args .j) (s .pre .row) (s .pre .column) }))
 
 pub weight-spec : {M : Type 1} → statement M
 weight-spec = tie.close (tie.spec

@@ -16,16 +16,16 @@ most-4 : (c : tie.After-part4) → AtMost (2 ^ 59) (plus64 (plus64 (plus64 (c .b
 most-4 c = sum-most (most-3 (c .before)) (c .part4 .ensures .1) tt tt
 
 part-requires : tie.Need-part-requires
-part-requires c κs = let w = c .pre .0 in (words-later 256 256 (w .lower-words) (omega arith), w .lower-weights, omega (arith, w .row), omega (arith, c .pre .1))
+part-requires c κs = let w = c .pre .0 in record { words = words-later 256 256 (w .lower-words) (omega arith); weights-are = w .lower-weights; row = omega (arith, w .row); column = omega (arith, c .pre .1) }
 
 part-requires-2 : tie.Need-part-requires-2
-part-requires-2 c κs = let s = c .before in let w = s .pre .0 in (words-fewer 256 (w .lower-words) (omega arith), w .lower-weights, omega (arith, w .row), omega (arith, s .pre .1))
+part-requires-2 c κs = let s = c .before in let w = s .pre .0 in record { words = words-fewer 256 (w .lower-words) (omega arith); weights-are = w .lower-weights; row = omega (arith, w .row); column = omega (arith, s .pre .1) }
 
 part-requires-3 : tie.Need-part-requires-3
-part-requires-3 c κs = let s = c .before .before in let w = s .pre .0 in (words-later 256 256 (w .upper-words) (omega arith), w .upper-weights, omega (arith, w .row), omega (arith, s .pre .1))
+part-requires-3 c κs = let s = c .before .before in let w = s .pre .0 in record { words = words-later 256 256 (w .upper-words) (omega arith); weights-are = w .upper-weights; row = omega (arith, w .row); column = omega (arith, s .pre .1) }
 
 part-requires-4 : tie.Need-part-requires-4
-part-requires-4 c κs = let s = c .before .before .before in let w = s .pre .0 in (words-fewer 256 (w .upper-words) (omega arith), w .upper-weights, omega (arith, w .row), omega (arith, s .pre .1))
+part-requires-4 c κs = let s = c .before .before .before in let w = s .pre .0 in record { words = words-fewer 256 (w .upper-words) (omega arith); weights-are = w .upper-weights; row = omega (arith, w .row); column = omega (arith, s .pre .1) }
 
 add-result-3 : tie.Need-add-result-3
 add-result-3 c = most-fits w64 _ _ (most-4 c) tt

@@ -14,20 +14,20 @@ loop-holds : tie.Need-loop-holds Inv-loop μ-loop
 loop-holds c =
     let r = c .before .before in
     let s = r .before .before .before .before in
-    band-start (r .correction-row .ensures) (s .pre .4) (s .pre .5)
+    band-start (r .correction-row .ensures) (s .pre .room) (s .pre .held)
 
 output-row-requires : tie.Need-output-row-requires Inv-loop μ-loop
 output-row-requires c κs =
     let l = c .before .before .before in
     let s = l .before .before .before .before .before .before .before in
     let w = l .loop .inv in
-    (band-ready (s .pre .0) (s .pre .1) (s .pre .2) w (omega arith), omega (arith, s .pre .3, w .rows .toward .same))
+    (band-ready (s .pre .accepted) (s .pre .planar) (s .pre .band-below) w (omega arith), omega (arith, s .pre .output-long, w .rows .toward .same))
 
 loop-again : tie.Need-loop-again Inv-loop μ-loop
 loop-again c =
     let l = c .before .before .before .before .before .before in
     let s = l .before .before .before .before .before .before .before in
-    band-turn (s .pre .0) (s .pre .1) (s .pre .2) (l .loop .inv) (omega arith) (s .pre .3) (c .before .before .output-row .ensures)
+    band-turn (s .pre .accepted) (s .pre .planar) (s .pre .band-below) (l .loop .inv) (omega arith) (s .pre .output-long) (c .before .before .output-row .ensures)
 
 returns : tie.Need-returns Inv-loop μ-loop
 returns c = band-done (c .before .loop .inv) (omega arith)

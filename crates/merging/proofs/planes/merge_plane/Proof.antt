@@ -13,7 +13,7 @@ abbrev μ-loop : tie.MeasureT-loop
 loop-holds : tie.Need-loop-holds Inv-loop μ-loop
 loop-holds c =
     let r = c .before .before in
-    (plane-start (r .correction-row .ensures) (r .before .before .before .before .pre .3), refl)
+    (plane-start (r .correction-row .ensures) (r .before .before .before .before .pre .room), refl)
 
 merge-band-requires : tie.Need-merge-band-requires Inv-loop μ-loop
 merge-band-requires c κs =
@@ -21,7 +21,14 @@ merge-band-requires c κs =
     let r = l .before .before .before in
     let s = r .before .before .before .before in
     let w = l .loop .inv in
-    (s .pre .0, s .pre .1, omega arith, omega (arith, s .pre .2, w .0 .rows .toward .same), omega (arith, s .pre .3, w .1, r .correction-row .kept), w .0 .held)
+    record {
+      accepted = s .pre .accepted;
+      planar = s .pre .planar;
+      band-below = omega arith;
+      output-long = omega (arith, s .pre .output-long, w .0 .rows .toward .same);
+      room = omega (arith, s .pre .room, w .1, r .correction-row .kept);
+      held = w .0 .held;
+    }
 
 loop-again : tie.Need-loop-again Inv-loop μ-loop
 loop-again c =
@@ -32,7 +39,7 @@ loop-again c =
 returns : tie.Need-returns Inv-loop μ-loop
 returns c =
     let l = c .before in
-    plane-done (l .before .before .before .before .before .before .before .pre .0) (l .loop .inv .0) (omega arith)
+    plane-done (l .before .before .before .before .before .before .before .pre .accepted) (l .loop .inv .0) (omega arith)
 
 pub merge-plane-spec : {M : Type 1} → statement M
 merge-plane-spec = tie.close (tie.spec
