@@ -192,12 +192,10 @@ static inline const char *stacker_refusal_text(uint64_t number)
    - What a buffer holds before a call that writes or clears it does not matter.
 
    AFTER A CALL that answers 0 the written buffers hold the result, every word of it, and the work area is zero. After a refusal every lent buffer is
-   as it was, and every other field of the answer is 0. (Had run found a vector beyond its test 12, the vectors would stay as found and the work area
-   be zero; it is proved that this never comes.)
+   as it was, and every other field of the answer is 0.
 
-   REFUSALS. A call makes its tests in the order of the numbers and answers the first that fails: align 1 to 5, 7 and 11; merge 1 to 12; run 1 to 11,
-   then 12 of the vectors found. A file is tested line by line: no first LF 15, 13; line two 15, 14, then 1, 2, 3, 9, 10, 4; each row 15, 14, 11;
-   then what follows, 15.
+   REFUSALS. A call makes its tests in the order of the numbers and answers the first that fails: align 1 to 5, 7 and 11; merge 1 to 12; run 1 to 11.
+   A file is tested line by line: no first LF 15, 13; line two 15, 14, then 1, 2, 3, 9, 10, 4; each row 15, 14, 11; then what follows, 15.
 
    NOISE. stacker_merge_iso and stacker_run_iso scale the curve for ISO 100 by a = iso / 100: shot by a, read by a * a. A file has the levels
    floor(1024 shot) and floor(1024 read) instead; stacker_file_noise turns them back.

@@ -15,7 +15,7 @@ pub fn clear(work: &mut [i64])
     }
 }
 
-// Align, test 12, merge and clear, from the levels on: answers the sums of finest residuals. Test 12 never refuses (`never-12`).
+// Align, merge and clear, from the levels on: answers the sums of finest residuals. The vectors found need no test: they fit (`found-fit`).
 pub fn run_levels(
     m: Merge,
     samples: &[u16],
@@ -35,10 +35,6 @@ pub fn run_levels(
         &mut *vectors,
         &mut *work,
     );
-    if geometry::bounds::vector_refusal(&*vectors) != 0 {
-        clear(&mut *work);
-        return [0u64; 7];
-    }
     merging::merge_frames(m, samples, &*vectors, &mut *output, &mut *work);
     clear(&mut *work);
     residuals

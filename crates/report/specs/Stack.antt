@@ -1,13 +1,12 @@
 -- Document 01, "`stack` the merged frame (names `width height`, their values, rows)".
-use Rattle.algebra.specs.Prelude.{List, [], _∷_, _++_, ℕ, zero, suc, ℤ}
-use Rattle.geometry.specs.Bounds.{vectorRefusal}
+use Rattle.algebra.specs.Prelude.{List, [], _∷_, _++_, ℕ}
 use Rattle.alignment.specs.Aligned.{alignedVectors}
 use Rattle.recipe.specs.declared.Merge.{Merge}
 use Rattle.recipe.specs.Scene.{sceneOf}
 use Rattle.recipe.specs.Merged.{merged}
 use Rattle.burst_file.specs.declared.Header.{Header}
 use Rattle.burst_file.specs.Burst.{Burst}
-use Rattle.printing.specs.Lines.{stackNames, numberLine, frameRows, refusal}
+use Rattle.printing.specs.Lines.{stackNames, numberLine, frameRows}
 use Rattle.report.specs.Program.{programText}
 
 -- a merge of the file's values: "shot and read are Ls and Lr"
@@ -25,23 +24,14 @@ fileMerge header =
 unfoldable pub frameText : (width height : ℕ) (samples : List ℕ) → List ℕ
 frameText width height samples = stackNames ++ numberLine (width ∷ height ∷ []) ++ frameRows width height samples
 
--- after run's refusal 12 the refusal, else the text
-unfoldable pub unlessRefused : (number : ℕ) → List ℕ → List ℕ
-unlessRefused zero text = text
-unlessRefused (suc number) text = refusal (suc number)
-
--- "align, then merge": the vectors of the burst, and the frame that they give
-unfoldable pub vectorsFound : Burst → List ℤ
-vectorsFound burst = alignedVectors (burst .header .shape) (burst .header .reference) (burst .samples)
-
+-- "align, then merge": the frame of a burst, from the file's levels
 unfoldable pub frameOf : Burst → List ℕ
-frameOf burst = merged (sceneOf (fileMerge (burst .header)) (burst .samples) (vectorsFound burst))
+frameOf burst =
+    merged (sceneOf (fileMerge (burst .header)) (burst .samples) (alignedVectors (burst .header .shape) (burst .header .reference) (burst .samples)))
 
--- what `stack` prints for a burst: its run from the file's levels, with refusal 12
+-- what `stack` prints for a burst
 unfoldable pub stackOf : Burst → List ℕ
-stackOf burst =
-    let shape = burst .header .shape in
-    unlessRefused (vectorRefusal (vectorsFound burst)) (frameText (shape .width) (shape .height) (frameOf burst))
+stackOf burst = frameText (burst .header .shape .width) (burst .header .shape .height) (frameOf burst)
 
 -- what it prints for a file
 abbrev pub stackText : List ℕ → List ℕ

@@ -12,10 +12,10 @@ use Rattle.recipe.specs.Scene.{sceneOf}
 use Rattle.recipe.specs.Merged.{merged}
 use Rattle.stacker.specs.declared.Alignment.{Alignment}
 use Rattle.recipe.specs.declared.Tuning.{Tuning}
-use Rattle.stacker.specs.Refusals.{alignRefusal, runRefusal, vectorsRefusal, mergeRefusal, mergeOf}
+use Rattle.stacker.specs.Refusals.{alignRefusal, runRefusal, mergeRefusal, mergeOf}
 use Rattle.stacker.specs.Calls.{noSums, answered, Aligned, Merged, Ran}
 use Rattle.pipeline.specs.Levels.{Runnable}
-use Rattle.stacker.specs.AdmissionLaws.{align-passed, run-passed, vectors-passed}
+use Rattle.stacker.specs.AdmissionLaws.{align-passed, run-passed, merge-passed}
 use Rattle.sanity.specs.Frames.{Burst}
 
 -- the burst, and the length of the lent vectors
@@ -66,22 +66,19 @@ module _ {s : Shape} {reference : ℕ} {samples : List ℕ} {vectors work work�
     merge-accepted call accepted =
         let number = mergeRefusal s reference noise tuning samples vectors output work in
         let passed : number ≡ 0 = sym (call .answer) ∙ accepted in (
-          run-lent (run-passed s reference samples vectors noise tuning output work (vectors-passed s reference samples vectors noise tuning output work vectors passed .0)),
+          run-lent (run-passed s reference samples vectors noise tuning output work (merge-passed s reference samples vectors noise tuning output work passed .0)),
           result-made number output _ passed (call .result),
         )
 
     pub run-accepted : {vectors′ : List ℤ} {r : Alignment} → Ran s reference noise tuning samples vectors vectors′ output output′ work work′ r → r .refusal ≡ 0 →
         Found s reference samples vectors vectors′ r × (output′ ≡ merged (sceneOf (mergeOf s reference noise tuning) samples (alignedVectors s reference samples)))
     run-accepted call accepted =
-        let found = alignedVectors s reference samples in
         let first = runRefusal s reference noise tuning samples vectors output work in
-        let number = vectorsRefusal s reference noise tuning samples vectors output work found in
-        let passed = number-is number _ (call .answer) accepted in
-        let start = vectors-passed s reference samples vectors noise tuning output work found passed .0 in (
+        let passed = number-is first _ (call .answer) accepted in (
           record {
-            lent = run-lent (run-passed s reference samples vectors noise tuning output work start);
-            vectors-are = result-made first vectors _ start (call .found);
-            sums-are = residuals-are number _ (call .answer) passed;
+            lent = run-lent (run-passed s reference samples vectors noise tuning output work passed);
+            vectors-are = result-made first vectors _ passed (call .found);
+            sums-are = residuals-are first _ (call .answer) passed;
           },
-          result-made number output _ passed (call .result),
+          result-made first output _ passed (call .result),
         )

@@ -12,7 +12,7 @@ use Rattle.noise.specs.LevelLaws.{shot-level-bound, read-level-bound, strength-
 use Rattle.alignment.specs.Burst.{Ready}
 use Rattle.pipeline.specs.Levels.{Runnable}
 use Rattle.recipe.specs.declared.Tuning.{Tuning}
-use Rattle.stacker.specs.Refusals.{alignRefusal, contentTests, runTests, runRefusal, vectorsRefusal, mergeOf}
+use Rattle.stacker.specs.Refusals.{alignRefusal, contentTests, runTests, runRefusal, mergeRefusal, mergeOf}
 
 module _ (s : Shape) (reference : ℕ) (samples : List ℕ) (vectors : List ℤ) where
   pub align-passed : (work : List ℤ) → alignRefusal s reference samples vectors work ≡ 0 → Ready s reference samples vectors work
@@ -38,9 +38,9 @@ module _ (s : Shape) (reference : ℕ) (samples : List ℕ) (vectors : List ℤ)
         }
 
     -- 12 comes last
-    pub vectors-passed : (merging : List ℤ) → vectorsRefusal s reference noise tuning samples vectors output work merging ≡ 0 →
-        (runRefusal s reference noise tuning samples vectors output work ≡ 0) × (vectorRefusal merging ≡ 0)
-    unfolding vectorsRefusal
-    vectors-passed merging e =
+    pub merge-passed : mergeRefusal s reference noise tuning samples vectors output work ≡ 0 →
+        (runRefusal s reference noise tuning samples vectors output work ≡ 0) × (vectorRefusal vectors ≡ 0)
+    unfolding mergeRefusal
+    merge-passed e =
         let both = both-passed (runTests s reference noise tuning samples vectors output work) _ e in
         (both .0, passed (both .1) (search among))

@@ -11,7 +11,7 @@ use Rattle.recipe.specs.Merged.{merged}
 use Rattle.recipe.specs.ExactMerge.{exactAt}
 use Rattle.stacker.specs.declared.Alignment.{Alignment}
 use Rattle.recipe.specs.declared.Tuning.{Tuning}
-use Rattle.stacker.specs.Refusals.{alignRefusal, runRefusal, vectorsRefusal, mergeRefusal, mergeOf}
+use Rattle.stacker.specs.Refusals.{alignRefusal, runRefusal, mergeRefusal, mergeOf}
 
 -- "beside a refusal every other returned field is 0": the seven residual sums
 abbrev pub noSums : List ℕ
@@ -38,11 +38,10 @@ pub record Merged (s : Shape) (reference : ℕ) (noise : Noise) (tuning : Tuning
   pub clean : work′ ≡ after (mergeRefusal s reference noise tuning samples vectors output work) work (zeros work)
   pub near : number ≡ 0 → Close (sceneOf (mergeOf s reference noise tuning) samples vectors) output′
 
--- run: "align, then merge; it also tests the vectors it found by refusal 12, and after that refusal alone the vectors stay as found, output as it was and
--- work zeroed"
+-- run: "align, then merge"
 pub record Ran (s : Shape) (reference : ℕ) (noise : Noise) (tuning : Tuning) (samples : List ℕ) (vectors vectors′ : List ℤ) (output output′ : List ℕ) (work work′ : List ℤ) (r : Alignment) : Type 0 where
-  pub answer : r ≡ answered (vectorsRefusal s reference noise tuning samples vectors output work (alignedVectors s reference samples)) (residualSums s reference samples)
+  pub answer : r ≡ answered (runRefusal s reference noise tuning samples vectors output work) (residualSums s reference samples)
   pub found : vectors′ ≡ after (runRefusal s reference noise tuning samples vectors output work) vectors (alignedVectors s reference samples)
-  pub result : output′ ≡ after (vectorsRefusal s reference noise tuning samples vectors output work (alignedVectors s reference samples)) output (merged (sceneOf (mergeOf s reference noise tuning) samples (alignedVectors s reference samples)))
+  pub result : output′ ≡ after (runRefusal s reference noise tuning samples vectors output work) output (merged (sceneOf (mergeOf s reference noise tuning) samples (alignedVectors s reference samples)))
   pub clean : work′ ≡ after (runRefusal s reference noise tuning samples vectors output work) work (zeros work)
   pub near : r .refusal ≡ 0 → Close (sceneOf (mergeOf s reference noise tuning) samples vectors′) output′

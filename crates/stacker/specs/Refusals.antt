@@ -26,13 +26,10 @@ runTests s reference noise tuning samples vectors output work =
 abbrev pub runRefusal : Shape → (reference : ℕ) → Noise → Tuning → (samples : List ℕ) (vectors : List ℤ) (output : List ℕ) (work : List ℤ) → ℕ
 runRefusal s reference noise tuning samples vectors output work = first (runTests s reference noise tuning samples vectors output work)
 
--- "merge 1 to 12; run 1 to 11, then 12": with 12 of the vectors `merging`, those lent or those found
-unfoldable pub vectorsRefusal : Shape → (reference : ℕ) → Noise → Tuning → (samples : List ℕ) (vectors : List ℤ) (output : List ℕ) (work merging : List ℤ) → ℕ
-vectorsRefusal s reference noise tuning samples vectors output work merging =
-    first (runTests s reference noise tuning samples vectors output work ++ vectorRefusal merging ∷ [])
-
-abbrev pub mergeRefusal : Shape → (reference : ℕ) → Noise → Tuning → (samples : List ℕ) (vectors : List ℤ) (output : List ℕ) (work : List ℤ) → ℕ
-mergeRefusal s reference noise tuning samples vectors output work = vectorsRefusal s reference noise tuning samples vectors output work vectors
+-- "merge 1 to 12"
+unfoldable pub mergeRefusal : Shape → (reference : ℕ) → Noise → Tuning → (samples : List ℕ) (vectors : List ℤ) (output : List ℕ) (work : List ℤ) → ℕ
+mergeRefusal s reference noise tuning samples vectors output work =
+    first (runTests s reference noise tuning samples vectors output work ++ vectorRefusal vectors ∷ [])
 
 -- what a merge takes, with the levels Ls and Lr of the noise
 abbrev pub mergeOf : Shape → (reference : ℕ) → Noise → Tuning → Merge

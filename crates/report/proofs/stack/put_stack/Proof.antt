@@ -1,22 +1,16 @@
--- `report::stack::put_stack`: test 12 lets the vectors found through, so what is printed is the frame that the run left in the output.
+-- `report::stack::put_stack`: what is printed is the frame that the run left in the output.
 use Rattle.algebra.specs.Prelude.{_≡_, sym, ap, ap₂, _∙_, List, ℕ, needs}
-use Rattle.geometry.specs.Bounds.{vectorRefusal}
-use Rattle.pipeline.specs.FoundLaws.{never-12}
 use Rattle.burst_file.specs.declared.Header.{Header}
 use Rattle.report.specs.Program.{side}
-use Rattle.report.specs.Stack.{frameText, unlessRefused, vectorsFound, frameOf, stackOf}
+use Rattle.report.specs.Stack.{frameText, frameOf, stackOf}
 use Rattle.report.specs.Inner.{burstOf, Taken}
 use Rattle.report.proofs.stack.put_stack.Statement.{statement}
 use Rattle.report.proofs.stack.put_stack.Tie as tie
 
-went : (number : ℕ) (text : List ℕ) → number ≡ 0 → text ≡ unlessRefused number text
-unfolding unlessRefused
-went number text e = rw e
-
 merged-text : {header : Header} {samples output : List ℕ} → Taken header samples → output ≡ frameOf (burstOf header samples) → frameText side side output ≡ stackOf (burstOf header samples)
-unfolding stackOf vectorsFound
+unfolding stackOf
 merged-text {header} {samples} {output} t e =
-    ap (frameText side side) e ∙ ap₂ (λ w h. frameText w h (frameOf (burstOf header samples))) (sym (t .wide)) (sym (t .high)) ∙ went (vectorRefusal (vectorsFound (burstOf header samples))) _ (never-12 _ _ _)
+    ap (frameText side side) e ∙ ap₂ (λ w h. frameText w h (frameOf (burstOf header samples))) (sym (t .wide)) (sym (t .high))
 
 returns : tie.Need-returns
 returns c =

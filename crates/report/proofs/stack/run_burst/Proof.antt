@@ -2,7 +2,7 @@
 use Rattle.algebra.specs.Prelude.{sym, arith, needs}
 use lib.Seq.{length-take-le}
 use Rattle.geometry.specs.BoundLaws.{values-samples}
-use Rattle.report.specs.Stack.{vectorsFound, frameOf}
+use Rattle.report.specs.Stack.{frameOf}
 use Rattle.report.proofs.Fits.{merge-fits}
 use Rattle.report.proofs.stack.run_burst.Statement.{statement}
 use Rattle.report.proofs.stack.run_burst.Tie as tie
@@ -20,7 +20,7 @@ run-levels-requires c κs =
     }
 
 returns : tie.Need-returns
-unfolding frameOf vectorsFound
+unfolding frameOf
 returns c =
     let ran = c .before .before .before .before in
     (ran .run-levels .ensures .result, search needs)

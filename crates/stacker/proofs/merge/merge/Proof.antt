@@ -5,7 +5,7 @@ use Rattle.refusals.specs.TestLaws.{stops, goes, lone}
 use Rattle.geometry.specs.BoundLaws.{vectors-fit}
 use Rattle.recipe.specs.Scene.{sceneOf}
 use Rattle.recipe.specs.Merged.{merged}
-use Rattle.stacker.specs.Refusals.{vectorsRefusal}
+use Rattle.stacker.specs.Refusals.{mergeRefusal}
 use Rattle.refusals.specs.AfterLaws.{kept, made}
 use Rattle.stacker.specs.AdmissionLaws.{run-passed}
 use Rattle.stacker.specs.CloseLaws.{output-close}
@@ -13,14 +13,14 @@ use Rattle.stacker.proofs.merge.merge.Statement.{statement}
 use Rattle.stacker.proofs.merge.merge.Tie as tie
 
 returns : tie.Need-returns
-unfolding vectorsRefusal
+unfolding mergeRefusal
 returns c =
     let h = c .if1 .taken in
     let e = stops _ _ (c .before .before .run-refusal .ensures .number) h in
     record { answer = e; result = kept _ _ _ e h; clean = kept _ _ _ e h; near = λ z. absurd (h z) }
 
 returns-2 : tie.Need-returns-2
-unfolding vectorsRefusal
+unfolding mergeRefusal
 returns-2 c =
     let h = c .if2 .taken in
     let passed = c .before .before in
@@ -47,7 +47,7 @@ merge-frames-requires c κs =
     )
 
 returns-3 : tie.Need-returns-3
-unfolding vectorsRefusal
+unfolding mergeRefusal
 returns-3 c =
     let merge = c .before .before .before .before .before .before in
     let lent = merge .before .before .before in

@@ -1,12 +1,9 @@
 -- `stacker::run::run`: a refusal returns before the first store; else `run_levels` on the levels that the tests found.
-use Rattle.algebra.specs.Prelude.{refl, sym, ap₂, subst, _∙_, _≤_, needs}
-use Rattle.refusals.specs.TestLaws.{stops, goes, lone}
+use Rattle.algebra.specs.Prelude.{sym, ap₂, subst, _∙_, _≤_, needs}
 use Rattle.refusals.specs.AfterLaws.{kept, made}
 use Rattle.alignment.specs.Aligned.{alignedVectors}
 use Rattle.recipe.specs.Scene.{sceneOf}
 use Rattle.recipe.specs.Merged.{merged}
-use Rattle.pipeline.specs.FoundLaws.{never-12}
-use Rattle.stacker.specs.Refusals.{vectorsRefusal}
 use Rattle.stacker.specs.AdmissionLaws.{run-passed}
 use Rattle.stacker.specs.CallLaws.{answer-refused, answer-accepted}
 use Rattle.stacker.specs.CloseLaws.{found-close}
@@ -14,14 +11,13 @@ use Rattle.stacker.proofs.run.run.Statement.{statement}
 use Rattle.stacker.proofs.run.run.Tie as tie
 
 returns : tie.Need-returns
-unfolding vectorsRefusal
 returns c =
     let h = c .if1 .taken in
     let e = c .before .run-refusal .ensures .number in
     record {
-      answer = answer-refused _ _ (stops _ _ e h) h;
+      answer = answer-refused _ _ e h;
       found = kept _ _ _ e h;
-      result = kept _ _ _ (stops _ _ e h) h;
+      result = kept _ _ _ e h;
       clean = kept _ _ _ e h;
       near = λ z. absurd (h z);
     }
@@ -41,7 +37,6 @@ run-levels-requires c κs =
     }
 
 returns-2 : tie.Need-returns-2
-unfolding vectorsRefusal
 returns-2 c =
     let ran = c .before .before .before .before in
     let passed = ran .before .before .before .before in
@@ -51,12 +46,11 @@ returns-2 c =
     let e = tested .number in
     let z = passed .if1 .left in
     let found = alignedVectors (a .shape) (a .reference) (a .samples .now) in
-    let number = goes _ _ e z (sym (never-12 (a .shape) (a .reference) (a .samples .now)) ∙ lone _) in
     let result = is .result ∙ ap₂ (λ shot read. merged (sceneOf (record { shape = a .shape; reference = a .reference; shot = shot; read = read; tuning = a .tuning }) (a .samples .now) found)) (tested .shot-is z) (tested .read-is z) in
     record {
-      answer = answer-accepted _ _ number refl (is .sums-are);
+      answer = answer-accepted _ _ e z (is .sums-are);
       found = made _ _ _ e z (is .found);
-      result = made _ _ _ number refl result;
+      result = made _ _ _ e z result;
       clean = made _ _ _ e z (is .clean);
       near = λ _. found-close _ _ _ _ _ (run-passed _ _ _ _ _ _ _ _ (sym e ∙ z) .fits .burst .allowed .few) (is .found) result;
     }
