@@ -23,7 +23,8 @@ pub fn wiener_part(noise: u64, q: i64, r: i64) -> i64
         return 0;
     }
     let v = noise as i64;
-    let power = q * q + r * r + v;
+    let signal = q * q + r * r;
+    let power = signal + v;
     rounding::round_away(v * q, power as u64)
 }
 

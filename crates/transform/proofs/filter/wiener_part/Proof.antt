@@ -74,17 +74,17 @@ returns : tie.Need-returns
 unfolding wiener
 returns c = rw (c .if1 .taken) (refl, record { most = zero-le })
 
-mul-power : tie.Need-mul-power
-mul-power c = fits (xs (c .before)) bs (small (c .before)) w64 (mul w64 (Q (c .before)) (Q (c .before))) tt
+mul-signal : tie.Need-mul-signal
+mul-signal c = fits (xs (c .before)) bs (small (c .before)) w64 (mul w64 (Q (c .before)) (Q (c .before))) tt
 
-mul-power-2 : tie.Need-mul-power-2
-mul-power-2 c = fits (xs (c .before)) bs (small (c .before)) w64 (mul w64 (R (c .before)) (R (c .before))) tt
+mul-signal-2 : tie.Need-mul-signal-2
+mul-signal-2 c = fits (xs (c .before)) bs (small (c .before)) w64 (mul w64 (R (c .before)) (R (c .before))) tt
+
+add-signal : tie.Need-add-signal
+add-signal c = fits (xs (c .before)) bs (small (c .before)) w64 (Squares (c .before)) tt
 
 add-power : tie.Need-add-power
-add-power c = fits (xs (c .before)) bs (small (c .before)) w64 (Squares (c .before)) tt
-
-add-power-2 : tie.Need-add-power-2
-add-power-2 c = fits (xs (c .before)) bs (small (c .before)) w64 (Power (c .before)) tt
+add-power c = fits (xs (c .before)) bs (small (c .before)) w64 (Power (c .before)) tt
 
 mul-round-away : tie.Need-mul-round-away
 mul-round-away c = fits (xs (c .before)) bs (small (c .before)) w64 (Product (c .before)) tt
@@ -109,5 +109,5 @@ returns-2 c =
 
 pub wiener-part-spec : {M : Type 1} → statement M
 wiener-part-spec = tie.close (tie.spec
-    returns (λ c. search needs) mul-power mul-power-2 add-power add-power-2 mul-round-away
+    returns (λ c. search needs) mul-signal mul-signal-2 add-signal add-power mul-round-away
     cast-round-away round-away-requires returns-2)
