@@ -3,6 +3,7 @@ ghost use mathlib.Core.Path.{_≡_};
 ghost use Prim.Native.Nat.{_*_, _%_, _≤_, _<_};
 ghost use lib.ListN.{length, getD};
 ghost use lib.IntN.{pos, natAbs, _*ℤ_};
+ghost use Rattle.geometry.specs.Quotient.{Quotient};
 ghost use Rattle.geometry.specs.Tiles.{level3};
 ghost use Rattle.search.specs.Vectors.{_times_};
 ghost use Rattle.search.specs.Bounds.{Within};
@@ -42,7 +43,7 @@ fn factor(level: usize) -> usize
 // q of the step to a level.
 fn quotient(level: usize) -> usize
     requires { ⌜ level ≤ 2 ⌝ }
-    ensures { λ r. ⌜ (r ≡ stepTo level .quotient) × (0 < r) × (r ≤ 4) ⌝ }
+    ensures { λ r. ⌜ (r ≡ stepTo level .quotient) × (Quotient r) ⌝ }
 {
     if level == 1 { 4 } else { 2 }
 }

@@ -3,7 +3,7 @@ use Rattle.algebra.specs.Prelude.{_≡_, refl, false, cond, _&&_, List, [], _�
 use lib.Ieee.{Float, fin, mul, div, ofInt}
 use Rattle.algebra.specs.Sums.{sumN, sumZ}
 use Rattle.algebra.specs.Nearest.{away}
-use Rattle.geometry.specs.Tiles.{own, neighbour}
+use Rattle.geometry.specs.Tiles.{own2, own4, own, neighbour2, neighbour4, neighbour}
 use Rattle.noise.specs.declared.Noise.{Noise}
 use Rattle.noise.specs.declared.Noise.the-variants.{Measured, Iso}
 use Rattle.noise.specs.Levels.{invalidCurve, invalidIso, invalidNoise, aboveLimits, noiseTests, levelsOf, shotLevel, readLevel}
@@ -60,5 +60,5 @@ stated =
     ∷ []
 
 pub figures : computed ≡ stated
-unfolding tileRoot sumOfSquares sumN wholeRoot rootIn noiseNumber variance levelsOf noiseTests first after invalidNoise invalidCurve invalidIso aboveLimits mul div ofInt own neighbour wiener away inverseAt inverseRe twiddleRe twiddleIm cosAt sinAt side16 cosine16 sine16 cosines sumZ
+unfolding tileRoot sumOfSquares sumN wholeRoot rootIn noiseNumber variance levelsOf noiseTests first after invalidNoise invalidCurve invalidIso aboveLimits mul div ofInt own own2 own4 neighbour neighbour2 neighbour4 wiener away inverseAt inverseRe twiddleRe twiddleIm cosAt sinAt side16 cosine16 sine16 cosines sumZ
 figures = refl

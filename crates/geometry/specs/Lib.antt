@@ -11,6 +11,8 @@ pub mod ShapeLaws
 pub mod OrderLaws
 pub mod ReadLaws
 pub mod LevelTiles
+pub mod Quotient
 pub mod TileLaws
+pub mod NeighbourLaws
 pub mod VectorLaws
 pub mod BoundLaws

@@ -1,6 +1,6 @@
 -- Tiles of a level: their sides, counts and origins, and the coarse tiles that a tile's candidates come from.
-use Rattle.algebra.specs.Prelude.{Bool, true, false, cond, ltb, ℤ, pos, _-ℤ_}
-use Prim.Native.Nat.{ℕ, _+_, _-_, _*_, _/_, min}
+use Rattle.algebra.specs.Prelude.{Bool, true, false, cond, eqb, ℤ, pos, _-ℤ_}
+use Prim.Native.Nat.{ℕ, zero, suc, _+_, _-_, _*_, _/_, _%_, min}
 use Rattle.geometry.specs.declared.Shape.{Shape}
 
 -- What goes with a level. `scale`: one of its samples stands for that many of the frame's, each way. A vector part found at it is at most `bound`
@@ -73,13 +73,38 @@ frameParts s = 2 * (tileRows s * tileColumns s)
 unfoldable pub origin : (half index : ℕ) → ℤ
 origin half index = pos (half * index) -ℤ pos half
 
--- "Own coarse index of a: floor((2a+q)/(2q))"
-unfoldable pub own : (q a : ℕ) → ℕ
-own q a = (2 * a + q) / (2 * q)
+-- "Own coarse index of a" and "the neighbour", by the remainder of a divided by q, as docs/NEIGHBOURS.md draws them: the fine tile lies between the coarse
+-- tiles m and m + 1, where m is a divided by q. The nearer one is its own, the other one its neighbour; half way, the later one is its own.
+-- q = 2: two remainders
+unfoldable pub own2 : (remainder m : ℕ) → ℕ
+own2 zero m = m
+own2 (suc zero) m = m + 1
+own2 (suc (suc r)) m = m
 
--- "The neighbour is floor(a/q) if that is below own, else own + 1."
+unfoldable pub neighbour2 : (remainder m : ℕ) → ℕ
+neighbour2 zero m = m + 1
+neighbour2 (suc zero) m = m
+neighbour2 (suc (suc r)) m = m
+
+-- q = 4: four remainders
+unfoldable pub own4 : (remainder m : ℕ) → ℕ
+own4 zero m = m
+own4 (suc zero) m = m
+own4 (suc (suc zero)) m = m + 1
+own4 (suc (suc (suc r))) m = m + 1
+
+unfoldable pub neighbour4 : (remainder m : ℕ) → ℕ
+neighbour4 zero m = m + 1
+neighbour4 (suc zero) m = m + 1
+neighbour4 (suc (suc zero)) m = m
+neighbour4 (suc (suc (suc r))) m = m
+
+-- the steps have no other q
+unfoldable pub own : (q a : ℕ) → ℕ
+own q a = cond (eqb q 2) (own2 (a % 2) (a / 2)) (own4 (a % 4) (a / 4))
+
 unfoldable pub neighbour : (q a : ℕ) → ℕ
-neighbour q a = cond (ltb (a / q) (own q a)) (a / q) (own q a + 1)
+neighbour q a = cond (eqb q 2) (neighbour2 (a % 2) (a / 2)) (neighbour4 (a % 4) (a / 4))
 
 -- "Both are capped at the last index."
 unfoldable pub capped : (count index : ℕ) → ℕ

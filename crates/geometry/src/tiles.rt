@@ -1,9 +1,10 @@
 // Tiles of a level, and the coarse tiles that a tile's candidates come from.
 ghost use mathlib.Core.Path.{_≡_};
-ghost use Prim.Native.Nat.{_+_, _<_, _≤_};
+ghost use Prim.Native.Nat.{_+_, _/_, _%_, _<_, _≤_};
 ghost use Rattle.algebra.specs.Bound.{AtMost};
 ghost use Rattle.geometry.specs.Fits.{Allowed};
-ghost use Rattle.geometry.specs.Tiles.{tileCount, tileRows, tileColumns, frameParts, origin, own, neighbour, capped};
+ghost use Rattle.geometry.specs.Tiles.{tileCount, tileRows, tileColumns, frameParts, origin, own2, own4, own, neighbour2, neighbour4, neighbour, capped};
+ghost use Rattle.geometry.specs.Quotient.{Quotient};
 use crate::Shape;
 
 // The side of level 0's tiles, which are the merge's as well.
@@ -49,21 +50,72 @@ pub fn origin(half: usize, index: usize) -> i64
     (half * index) as i64 - half as i64
 }
 
-// The coarse tile that holds the middle of tile `a`, one way.
-pub fn own(q: usize, a: usize) -> usize
-    requires { ⌜ (0 < q) × (q ≤ 4) × (a ≤ 4096) ⌝ }
-    ensures { λ r. ⌜ (r ≡ own q a) × (r ≤ a) ⌝ }
+// The own coarse index of tile `a`, for q = 2, by its remainder.
+fn own_2(a: usize) -> usize
+    requires { ⌜ a ≤ 4096 ⌝ }
+    ensures { λ r. ⌜ r ≡ own2 (a % 2) (a / 2) ⌝ }
 {
-    (2 * a + q) / (2 * q)
+    match a % 2 {
+        0 => a / 2,
+        _ => a / 2 + 1,
+    }
 }
 
-// The next nearest coarse tile, one way.
-pub fn neighbour(q: usize, a: usize) -> usize
-    requires { ⌜ (0 < q) × (q ≤ 4) × (a ≤ 4096) ⌝ }
-    ensures { λ r. ⌜ (r ≡ neighbour q a) × (r ≤ a + 1) ⌝ }
+// The same for q = 4.
+fn own_4(a: usize) -> usize
+    requires { ⌜ a ≤ 4096 ⌝ }
+    ensures { λ r. ⌜ r ≡ own4 (a % 4) (a / 4) ⌝ }
 {
-    let near = own(q, a);
-    if a / q < near { a / q } else { near + 1 }
+    match a % 4 {
+        0 => a / 4,
+        1 => a / 4,
+        2 => a / 4 + 1,
+        _ => a / 4 + 1,
+    }
+}
+
+// The own coarse index of tile `a`, one way.
+pub fn own(q: usize, a: usize) -> usize
+    requires { ⌜ (Quotient q) × (a ≤ 4096) ⌝ }
+    ensures { λ r. ⌜ r ≡ own q a ⌝ }
+{
+    if q == 2 { own_2(a) } else { own_4(a) }
+}
+
+// The neighbour of tile `a`, for q = 2, by its remainder.
+fn neighbour_2(a: usize) -> usize
+    requires { ⌜ a ≤ 4096 ⌝ }
+    ensures { λ r. ⌜ r ≡ neighbour2 (a % 2) (a / 2) ⌝ }
+{
+    match a % 2 {
+        0 => a / 2 + 1,
+        _ => a / 2,
+    }
+}
+
+// The same for q = 4.
+fn neighbour_4(a: usize) -> usize
+    requires { ⌜ a ≤ 4096 ⌝ }
+    ensures { λ r. ⌜ r ≡ neighbour4 (a % 4) (a / 4) ⌝ }
+{
+    match a % 4 {
+        0 => a / 4 + 1,
+        1 => a / 4 + 1,
+        2 => a / 4,
+        _ => a / 4,
+    }
+}
+
+// The neighbour of tile `a`, one way.
+pub fn neighbour(q: usize, a: usize) -> usize
+    requires { ⌜ (Quotient q) × (a ≤ 4096) ⌝ }
+    ensures { λ r. ⌜ r ≡ neighbour q a ⌝ }
+{
+    if q == 2 {
+        neighbour_2(a)
+    } else {
+        neighbour_4(a)
+    }
 }
 
 // `index`, or the last of `count` where it lies past that.

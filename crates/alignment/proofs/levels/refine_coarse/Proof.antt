@@ -43,10 +43,10 @@ returns c = let v = c .before .before .before in
           ∙ ap₂ (λ q v. answer q p (a .tile) (found q p (a .tile) v)) (q .is-squared .ensures)
           (made (stepTo (a .level)) (a .coarse .rows) (a .coarse .columns) p (a .tile) (fieldAt (a .words .now) (a .coarse .at) (a .coarse .columns)) (a .row) (a .column) _ _ _ _ _ _ _ _ _
           (f .before .quotient .ensures .0) (f .factor .ensures .0)
-          (r .capped .ensures .0 ∙ ap (capped (a .coarse .rows)) (r .before .own .ensures .0))
-          (r′ .capped2 .ensures .0 ∙ ap (capped (a .coarse .rows)) (r′ .before .neighbour .ensures .0))
-          (k .capped3 .ensures .0 ∙ ap (capped (a .coarse .columns)) (k .before .own2 .ensures .0))
-          (k′ .capped4 .ensures .0 ∙ ap (capped (a .coarse .columns)) (k′ .before .neighbour2 .ensures .0))
+          (r .capped .ensures .0 ∙ ap (capped (a .coarse .rows)) (r .before .own .ensures))
+          (r′ .capped2 .ensures .0 ∙ ap (capped (a .coarse .rows)) (r′ .before .neighbour .ensures))
+          (k .capped3 .ensures .0 ∙ ap (capped (a .coarse .columns)) (k .before .own2 .ensures))
+          (k′ .capped4 .ensures .0 ∙ ap (capped (a .coarse .columns)) (k′ .before .neighbour2 .ensures))
           (x .ensures .0) (y .ensures .0) (z .ensures .0)),
       answer-within (q .is-squared .result) p (a .tile) (guessed p (a .tile) (x .result) (y .result) (z .result)) (m .result) (m .ensures .0) 336 (guess-within p (a .tile) (x .result) (y .result) (z .result) 336 (x .ensures .1) (y .ensures .1) (z .ensures .1)),
       m .ensures .1,

@@ -1,14 +1,19 @@
--- The quotient is at most the index.
-use Rattle.algebra.specs.Prelude.{refl, needs}
+-- The cases of the q at hand.
+use Rattle.algebra.specs.Prelude.{_∙_, needs}
+use mathlib.Core.Logic.{⊎-elim}
 use Rattle.geometry.specs.Tiles.{own}
-use Rattle.geometry.specs.TileLaws.{own-most}
 use Rattle.geometry.proofs.tiles.own.Statement.{statement}
 use Rattle.geometry.proofs.tiles.own.Tie as tie
 
 returns : tie.Need-returns
 unfolding own
-returns c = (refl, own-most (c .args .q) (c .args .a) (c .pre .0))
+returns c = rw (c .before .if1 .taken) (c .own-2 .ensures)
+
+returns-2 : tie.Need-returns-2
+unfolding own
+returns-2 c =
+    let start = c .before .before in
+    ⊎-elim (λ two. absurd (c .before .if1 .left two)) (λ four. rw four (c .own-4 .ensures)) (start .pre .0 .is)
 
 pub own-spec : {M : Type 1} → statement M
-own-spec = tie.close (tie.spec
-    (λ c. search needs) (λ c. search needs) (λ c. search needs) (λ c. search needs) returns)
+own-spec = tie.close (tie.spec (λ c κs. search needs) (λ c κs. search needs) returns returns-2)
