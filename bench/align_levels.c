@@ -64,17 +64,17 @@ void free_alignment(alignment *a)
     free(a);
 }
 
-/* A square of a level, read with the nearest edge value outside. */
+/* A square of a level, mirrored outside. */
 static inline void copy_square(const image *in, int top, int left, int size, block out)
 {
     int inside = left >= 0 && left + size <= in->width;
     for (int y = 0; y < size; y++) {
-        const int16_t *row = in->values + (size_t)clamp(top + y, 0, in->height - 1) * in->width;
+        const int16_t *row = in->values + (size_t)mirrored(top + y, in->height) * in->width;
         if (inside)
             memcpy(out[y], row + left, (size_t)size * sizeof **out);
         else
             for (int x = 0; x < size; x++)
-                out[y][x] = row[clamp(left + x, 0, in->width - 1)];
+                out[y][x] = row[mirrored(left + x, in->width)];
     }
 }
 

@@ -19,7 +19,7 @@ static inline void split_pairs(const uint16_t *restrict pairs, int16_t *restrict
     }
 }
 
-/* Sixteen pairs of samples of a row, from pair `left` on; outside the row its first or last pair. */
+/* Sixteen pairs of samples of a row, from pair `left` on, mirrored outside the row. */
 static inline void gather_row(const uint16_t *row, int width, int left, int16_t *even, int16_t *odd)
 {
     uint16_t pairs[2 * SIDE];
@@ -28,14 +28,14 @@ static inline void gather_row(const uint16_t *row, int width, int left, int16_t 
         return;
     }
     for (int x = 0; x < SIDE; x++)
-        memcpy(&pairs[2 * x], row + 2 * clamp(left + x, 0, width - 1), 2 * sizeof *pairs);
+        memcpy(&pairs[2 * x], row + 2 * mirrored(left + x, width), 2 * sizeof *pairs);
     split_pairs(pairs, even, odd);
 }
 
 static inline void gather_tiles(const burst *b, int frame, int top, int left, four_tiles out)
 {
     for (int y = 0; y < SIDE; y++) {
-        const uint16_t *upper = frame_of(b, frame) + 2 * (size_t)clamp(top + y, 0, b->height / 2 - 1) * b->width;
+        const uint16_t *upper = frame_of(b, frame) + 2 * (size_t)mirrored(top + y, b->height / 2) * b->width;
         gather_row(upper, b->width / 2, left, out[0][y], out[1][y]);
         gather_row(upper + b->width, b->width / 2, left, out[2][y], out[3][y]);
     }

@@ -35,6 +35,15 @@ static inline int clamp(int value, int least, int most)
     return value < least ? least : value > most ? most : value;
 }
 
+/* The index that is read for z among `size` of them: -1 reads 0, -2 reads 1, past the far end likewise, with period twice the size. */
+static inline int mirrored(int z, int size)
+{
+    int k = z < 0 ? -1 - z : z;
+    if (k >= 2 * size)
+        k %= 2 * size;
+    return k < size ? k : 2 * size - 1 - k;
+}
+
 static inline const uint16_t *frame_of(const burst *b, int frame)
 {
     return b->samples + (size_t)frame * b->width * b->height;

@@ -165,15 +165,15 @@ static void add_correction(const merge_tile difference, int64_t noise, merge_til
 
 /* ---- tiles and planes ---- */
 
-/* A plane's tile at this origin, read with the nearest edge sample outside. `parity` is 2 * row + column. */
+/* A plane's tile at this origin, mirrored outside. `parity` is 2 * row + column. */
 static void gather(const burst *b, int frame, int parity, int top, int left, merge_tile out)
 {
     int width = b->width / 2, height = b->height / 2, inside = left >= 0 && left + SIDE <= width;
     const uint16_t *plane = frame_of(b, frame) + (parity / 2) * b->width + parity % 2;
     for (int y = 0; y < SIDE; y++) {
-        const uint16_t *row = plane + 2 * (size_t)clamp(top + y, 0, height - 1) * b->width;
+        const uint16_t *row = plane + 2 * (size_t)mirrored(top + y, height) * b->width;
         for (int x = 0; x < SIDE; x++)
-            out[y][x] = row[2 * (inside ? left + x : clamp(left + x, 0, width - 1))];
+            out[y][x] = row[2 * (inside ? left + x : mirrored(left + x, width))];
     }
 }
 

@@ -15,7 +15,7 @@ levelImage (suc zero) = image1
 levelImage (suc (suc zero)) = image2
 levelImage (suc (suc (suc k))) = image3
 
--- "Reading outside a plane, a pyramid level [..] takes the nearest edge sample": a level's images of the reference and of another frame
+-- "Outside reads are to mirror [..] in pyramid, residuals and merge tiles": a level's images of the reference and of another frame
 unfoldable pub pairs : Shape → (reference other : Image) → ℕ → Pair
 pairs shape reference other k =
     let height = levelSize (levelAt k) (shape .height) in

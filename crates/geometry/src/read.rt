@@ -1,8 +1,8 @@
 // Where samples stand, and reading outside.
 ghost use mathlib.Core.Path.{_≡_};
-ghost use Prim.Native.Nat.{_<_};
+ghost use Prim.Native.Nat.{_*_, _%_, _^_, _≤_, _<_};
 ghost use Rattle.geometry.specs.Shape.{sampleLength};
-ghost use Rattle.geometry.specs.Read.{sampleIndex, sampleAt, inside};
+ghost use Rattle.geometry.specs.Read.{sampleIndex, sampleAt, mirrored, inside};
 ghost use Rattle.geometry.specs.Fits.{Allowed, Sampled};
 use crate::Shape;
 
@@ -23,14 +23,31 @@ pub fn sample_at(shape: Shape, samples: &[u16], frame: usize, row: usize, column
     samples[index]
 }
 
+// The index at place k of the mirrored ones, k from 0 on. A remainder is taken only beyond the first period.
+fn mirrored(k: usize, size: usize) -> usize
+    requires { ⌜ (0 < size) × (size ≤ 2 ^ 32) ⌝ }
+    ensures { λ r. ⌜ (r ≡ mirrored size (k % (2 * size))) × (r < size) ⌝ }
+{
+    if k < size {
+        return k;
+    }
+    if k < 2 * size {
+        return 2 * size - 1 - k;
+    }
+    let place = k % (2 * size);
+    if place < size {
+        return place;
+    }
+    2 * size - 1 - place
+}
+
 // The index that is read for `z` among `size` of them.
 pub fn inside(z: i64, size: usize) -> usize
-    requires { ⌜ 0 < size ⌝ }
+    requires { ⌜ (0 < size) × (size ≤ 2 ^ 32) ⌝ }
     ensures { λ r. ⌜ (r ≡ inside size z) × (r < size) ⌝ }
 {
     if z < 0 {
-        return 0;
+        return mirrored((-1 - z) as usize, size);
     }
-    let index = z as usize;
-    if index < size { index } else { size - 1 }
+    mirrored(z as usize, size)
 }

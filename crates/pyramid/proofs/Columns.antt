@@ -15,9 +15,9 @@ pub columns-done : (sum : ℕ → ℕ) (d : List ℕ) (a width : ℕ) {b j : ℕ
     → set l (1 + width) b ≡ written d 0 (λ k. sum (inside width (tap 0 k))) (width + 2)
 columns-done sum d a width some room w h first last =
     ends-done d a width room (λ k. sum (inside width (tap 0 k))) w h
-    (first ∙ ap sum (omega (arith, inside-tap width 0 0)))
-    (λ k l. ap sum (omega (arith, inside-tap width 0 (1 + k))))
-    (last ∙ ap sum (omega (arith, inside-tap width 0 (1 + width))))
+    (first ∙ ap sum (omega (arith, inside-tap width 0 0 some (omega arith))))
+    (λ k l. ap sum (omega (arith, inside-tap width 0 (1 + k) some (omega arith))))
+    (last ∙ ap sum (omega (arith, inside-tap width 0 (1 + width) some (omega arith))))
 
 module _ {words : List ℤ} {from height width : ℕ} {sums : List ℕ} (source : Source words from height width) (row : ℕ) (s : List ℕ) (room : width + 2 ≤ length s)
     (is : sums ≡ written s 0 (λ k. columnSum height (imageAt words from width) row (inside width (tap 0 k))) (width + 2)) where

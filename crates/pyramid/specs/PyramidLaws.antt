@@ -1,9 +1,9 @@
 -- What follows of the pyramid's definitions: halving reads inside the image only, and keeps its bound.
-use Rattle.algebra.specs.Prelude.{_≡_, sym, ap, arith, ℤ, pos, _-ℤ_}
+use Rattle.algebra.specs.Prelude.{_≡_, sym, ap, _∙_, arith, ℤ, pos, _-ℤ_}
 use Prim.Native.Nat.{ℕ, zero, suc, _+_, _-_, _*_, _/_, _≤_, _<_, min}
 use Rattle.algebra.specs.Order.{zarith, sub-pn, min-pn}
 use Rattle.geometry.specs.Read.{Image, inside, read}
-use Rattle.geometry.specs.ReadLaws.{inside-below}
+use Rattle.geometry.specs.ReadLaws.{inside-below, inside-before, inside-edge}
 use Rattle.pyramid.specs.Pyramid.{bayerSum, tap, weighted, halved}
 use Rattle.pyramid.specs.Columns.{columnSum}
 
@@ -56,14 +56,14 @@ pub halved-columns : (height width : ℕ) (image : Image) (row column : ℕ)
 unfolding halved read columnSum weighted
 halved-columns height width image row column = omega arith
 
--- which place is read at 2p−1..2p+2
-pub inside-tap : (size p k : ℕ) → inside size (tap p k) ≡ min (2 * p + k - 1) (size - 1)
-unfolding tap inside
-inside-tap size p k = at (2 * p + k)
+-- Which place is read at 2p−1..2p+2: the taps of a halving reach one place outside at most, where a mirror reads the nearest edge
+pub inside-tap : (size p k : ℕ) → 0 < size → 2 * p + k ≤ size + 1 → inside size (tap p k) ≡ min (2 * p + k - 1) (size - 1)
+unfolding tap
+inside-tap size p k h most = at (2 * p + k) most
   where
-    at : (q : ℕ) → inside size (pos q -ℤ pos 1) ≡ min (q - 1) (size - 1)
-    at zero = omega arith
-    at (suc q) = let e : pos (suc q - 1) ≡ pos (suc q) -ℤ pos 1 = omega (zarith, sub-pn (pos (suc q)) (pos 1), min-pn (pos (suc q) -ℤ pos 1)) in sym (ap (inside size) e)
+    at : (q : ℕ) → q ≤ size + 1 → inside size (pos q -ℤ pos 1) ≡ min (q - 1) (size - 1)
+    at zero l = inside-before size h ∙ omega arith
+    at (suc q) l = let e : pos (suc q - 1) ≡ pos (suc q) -ℤ pos 1 = omega (zarith, sub-pn (pos (suc q)) (pos 1), min-pn (pos (suc q) -ℤ pos 1)) in ap (inside size) (sym e) ∙ inside-edge size (suc q - 1) h (omega arith)
 
 pub bayer-most : (b : ℕ) (height width : ℕ) (frame : Image) → ((row column : ℕ) → row < 2 * height → column < 2 * width → frame row column ≤ b)
     → (row column : ℕ) → row < height → column < width → bayerSum frame row column ≤ 4 * b

@@ -15,7 +15,7 @@ place : (q : ℕ) → q ≤ 2 ^ 32 → toZ w64 (ofZ w64 (toZ w64 q -ℤ pos 1)) 
 place q h = rw (toZ-pos w64 q (omega arith)) (toZ-ofZ (place-fits q h))
 
 returns : tie.Need-returns
-returns c = let a = c .before .before .args in (omega (arith, leb-true, inside-tap (a .size) (a .p) (a .k)), omega (arith, leb-true))
+returns c = let a = c .before .before .args in (omega (arith, leb-true, inside-tap (a .size) (a .p) (a .k) (omega arith) (omega (arith, leb-true))), omega (arith, leb-true))
 
 sub-inside : tie.Need-sub-inside
 sub-inside c = let q = 2 * c .before .args .p + c .before .args .k in rw (toZ-pos w64 q (omega arith)) (place-fits q (omega arith))

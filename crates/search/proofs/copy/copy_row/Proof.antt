@@ -6,6 +6,7 @@ use Rattle.algebra.specs.Prelude.{_≡_, sym, ap, subst, _∙_, true, ℕ, _+_,
 use lib.Signed.{leZ, nonNeg}
 use mir.Facts.{toZ-ofZ, fits-natAbs}
 use Rattle.geometry.specs.Read.{inside}
+use Rattle.geometry.specs.ReadLaws.{inside-same}
 use Rattle.search.proofs.copy.copy_row.Statement.{statement}
 use Rattle.search.proofs.copy.copy_row.Tie as tie
 
@@ -15,8 +16,7 @@ not-negative (negsuc n) e = subst T (sym e) tt
 
 -- where all samples lie in the row, the rule reads them as they stand
 all-inside : (start width n j : ℕ) (x z : ℤ) → x ≡ z → T (nonNeg x) → natAbs x + n ≤ width → j < n → start + natAbs x + j ≡ start + inside width (z +ℤ pos j)
-unfolding inside
-all-inside start width n j (pos k) z e t h l = rw (← e) (omega arith)
+all-inside start width n j (pos k) z e t h l = rw (← e) (omega (arith, inside-same width (k + j) (omega arith)))
 all-inside start width n j (negsuc k) z e t h l = absurd t
 
 cast-x : tie.Need-cast-x
