@@ -74,14 +74,14 @@ static void closed(FILE *file)
         exit(2);
 }
 
-/* A grey map of 16-bit words, the upper byte first. */
+/* A PGM file, which Netpbm viewers open. */
 static void write_frame(FILE *file, const uint16_t *frame)
 {
-    fprintf(file, "P5\n%d %d\n4095\n", SIDE, SIDE);
-    for (int i = 0; i < FRAME; i++) {
-        fputc(frame[i] >> 8, file);
-        fputc(frame[i] & 255, file);
-    }
+    size_t length = stacker_pgm_length(SIDE, SIDE);
+    uint8_t *bytes = malloc(length);
+    if (!bytes || stacker_write_pgm(SIDE, SIDE, frame, FRAME, bytes, length) != STACKER_ACCEPTED || fwrite(bytes, 1, length, file) != length)
+        exit(2);
+    free(bytes);
     closed(file);
 }
 

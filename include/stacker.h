@@ -53,6 +53,11 @@ typedef struct {
     uint64_t strength;
 } stacker_file;
 
+typedef struct {
+    uint64_t refusal;
+    uint64_t width, height;
+} stacker_pgm;
+
 typedef enum {
     STACKER_ACCEPTED = 0,
     STACKER_REFUSED_SIZE = 1,
@@ -69,7 +74,9 @@ typedef enum {
     STACKER_REFUSED_VECTOR = 12,
     STACKER_REFUSED_FILE_NAMES = 13,
     STACKER_REFUSED_FILE_LINE = 14,
-    STACKER_REFUSED_FILE_LENGTH = 15
+    STACKER_REFUSED_FILE_LENGTH = 15,
+    STACKER_REFUSED_BYTES_LENGTH = 16,
+    STACKER_REFUSED_PGM = 17
 } stacker_refusal;
 
 /* Aligns each other frame on the reference. */
@@ -92,6 +99,15 @@ stacker_alignment stacker_run_iso(stacker_burst burst, stacker_iso_noise noise, 
 
 /* Reads a burst file into the lent samples, whose length must be the one that the file's second line asks for. */
 stacker_file stacker_read_file(const uint8_t *file, size_t file_length, uint16_t *samples, size_t samples_length);
+
+/* How many bytes the PGM file of a frame has, or 0 where width or height is refused. */
+uint64_t stacker_pgm_length(uint64_t width, uint64_t height);
+
+/* Writes a frame as a PGM file, for Netpbm viewers, over lent bytes of exactly that length; answers the refusal's number, or 0. */
+uint64_t stacker_write_pgm(uint64_t width, uint64_t height, const uint16_t *frame, size_t frame_length, uint8_t *bytes, size_t bytes_length);
+
+/* Reads a PGM file in the same spelling into a lent frame of the file's width * height samples. */
+stacker_pgm stacker_read_pgm(const uint8_t *bytes, size_t bytes_length, uint16_t *frame, size_t frame_length);
 
 /* What merge and run take of a file that was read: its frames, its noise and its strength. */
 
@@ -124,7 +140,7 @@ static inline const char *stacker_refusal_text(uint64_t number)
     case STACKER_REFUSED_REFERENCE: return "reference not below the count of frames";
     case STACKER_REFUSED_SAMPLES_LENGTH: return "samples not of length count * width * height";
     case STACKER_REFUSED_VECTORS_LENGTH: return "vectors not of length (count - 1) * 2 * (width / 16 + 1) * (height / 16 + 1)";
-    case STACKER_REFUSED_OUTPUT_LENGTH: return "output not of length width * height";
+    case STACKER_REFUSED_OUTPUT_LENGTH: return "output or frame not of length width * height";
     case STACKER_REFUSED_WORK_LENGTH: return "work area not of length 2 * width * height";
     case STACKER_REFUSED_NOISE: return "shot or read negative or not finite, or ISO outside 25..409600";
     case STACKER_REFUSED_NOISE_LIMIT: return "shot above 64 or read above 4096 after ISO, or a file's levels above 65536 or 4194304";
@@ -134,6 +150,8 @@ static inline const char *stacker_refusal_text(uint64_t number)
     case STACKER_REFUSED_FILE_NAMES: return "a file whose first line differs";
     case STACKER_REFUSED_FILE_LINE: return "a file with a malformed line of values";
     case STACKER_REFUSED_FILE_LENGTH: return "a file that is short, or goes on after its last row";
+    case STACKER_REFUSED_BYTES_LENGTH: return "bytes not of the length that stacker_pgm_length answers";
+    case STACKER_REFUSED_PGM: return "not a PGM file as stacker_write_pgm writes it";
     default: return "no refusal of this version";
     }
 }
@@ -171,6 +189,14 @@ static inline const char *stacker_refusal_text(uint64_t number)
        answer = stacker_run(stacker_file_burst(file), stacker_file_noise(file), stacker_file_tuning(file),
            samples, N * W * H, vectors, VECTORS, output, W * H, work, 2 * W * H);
 
+   The merged frame as a PGM file, which has at most 18 bytes before its samples:
+
+       static uint8_t pgm[2 * W * H + 18];
+       size_t pgm_length = stacker_pgm_length(W, H);
+       if (stacker_write_pgm(W, H, output, W * H, pgm, pgm_length) != STACKER_ACCEPTED)
+           return 1;
+       fwrite(pgm, 1, pgm_length, stdout);
+
    examples/merge.c is a whole program; examples/burst_file.rs calls from Rust.
 
    FRAMES are Bayer RGGB, row by row, frame after frame, black already subtracted: 16-bit words that hold 0..4095.
@@ -185,6 +211,10 @@ static inline const char *stacker_refusal_text(uint64_t number)
        output     uint16_t    W*H                                                   written   written
        work       int64_t     2*W*H                                       cleared   cleared   cleared
 
+   A PGM file is P5, LF, width, a space, height, LF, 4095, LF, then each sample as two bytes, the high one first: no comment, no leading zero, nothing
+   behind it. Its frame has W*H uint16_t, its bytes are as many as stacker_pgm_length answers. Writing reads the frame and writes the bytes, reading the
+   other way round.
+
    - Any length may be passed: a wrong one is refused, and nothing is read or written beyond it.
    - A pointer may be NULL where its length is 0, and only there.
    - A buffer that is written or cleared must not overlap another lent one, and each must be aligned for its elements, as malloc's memory is.
@@ -196,6 +226,7 @@ static inline const char *stacker_refusal_text(uint64_t number)
 
    REFUSALS. A call makes its tests in the order of the numbers and answers the first that fails: align 1 to 5, 7 and 11; merge 1 to 12; run 1 to 11.
    A file is tested line by line: no first LF 15, 13; line two 15, 14, then 1, 2, 3, 9, 10, 4; each row 15, 14, 11; then what follows, 15.
+   Writing a PGM file tests 1, 6, 16, 11 in that order, reading one 17, 6, 11.
 
    NOISE. stacker_merge_iso and stacker_run_iso scale the curve for ISO 100 by a = iso / 100: shot by a, read by a * a. A file has the levels
    floor(1024 shot) and floor(1024 read) instead; stacker_file_noise turns them back.

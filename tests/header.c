@@ -3,7 +3,7 @@
 
 #include <string.h>
 
-enum { GREATEST_LEVEL = 4194304, LAST_REFUSAL = STACKER_REFUSED_FILE_LENGTH };
+enum { GREATEST_LEVEL = 4194304, LAST_REFUSAL = STACKER_REFUSED_PGM };
 
 static int describes(void)
 {

@@ -2,6 +2,7 @@
 pub mod align;
 pub mod file;
 pub mod merge;
+pub mod netpbm;
 pub mod run;
 
 // As in include/stacker.h, field by field.

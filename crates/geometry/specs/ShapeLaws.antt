@@ -10,11 +10,11 @@ use Rattle.geometry.specs.Shape.{sizeAllowed, countAllowed, sizeRefusal,
 use Rattle.geometry.specs.Fits.{AllowedSize, Allowed}
 
 -- both parts of a test that holds
-both : {a b : Bool} → a && b ≡ true → (a ≡ true) × (b ≡ true)
+pub both : {a b : Bool} → a && b ≡ true → (a ≡ true) × (b ≡ true)
 both {a = true} e = (refl, e)
 both {a = false} e = absurd (subst (λ b. T (not b)) e tt)
 
-allowed-size : (size : ℕ) → sizeAllowed size ≡ true → AllowedSize size
+pub allowed-size : (size : ℕ) → sizeAllowed size ≡ true → AllowedSize size
 unfolding sizeAllowed
 allowed-size size e =
     let whole = both e in

@@ -4,7 +4,7 @@ ghost use Rattle.geometry.specs.Shape.{sizeAllowed, sizeRefusal, countRe
 use crate::Shape;
 
 // A multiple of 64 from 64 to 4096.
-fn size_allowed(size: usize) -> bool
+pub fn size_allowed(size: usize) -> bool
     ensures { λ r. ⌜ r ≡ sizeAllowed size ⌝ }
 {
     if size < 64 {

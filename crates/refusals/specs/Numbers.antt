@@ -1,4 +1,4 @@
--- The numbers of the refusals, named by their conditions in document 01's table. `src/lib.rt` has them as constants.
+-- The numbers of the refusals, named by their conditions in document 01's table and in the requests. `src/lib.rt` has them as constants.
 use Rattle.algebra.specs.Prelude.{ℕ}
 
 -- "W or H not allowed"
@@ -60,3 +60,11 @@ valueLine = 14
 -- "file short, or bytes follow"
 abbrev pub fileEnd : ℕ
 fileEnd = 15
+
+-- L2: "a byte buffer of wrong length when writing"
+abbrev pub byteLength : ℕ
+byteLength = 16
+
+-- L2: "any other departure when reading, a size not allowed included"
+abbrev pub pgmForm : ℕ
+pgmForm = 17

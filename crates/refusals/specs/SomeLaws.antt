@@ -52,6 +52,11 @@ none n f e i h = decide (f i) (one n f i h)
     decide true hit = sym (hit refl) ∙ e
     decide false hit = refl
 
+pub not-one : (n : ℕ) (f : ℕ → Bool) → ((i : ℕ) → i < n → f i ≡ false) → some n f ≡ false
+unfolding some
+not-one zero f h = refl
+not-one (suc n) f h = rw (not-one n f (λ i l. h i (omega arith))) (h n (omega arith))
+
 -- none of f 0, .., f (i − 1) holds, of n: a loop's invariant
 pub record Passed (f : ℕ → Bool) (n i : ℕ) : Type 0 where
   pub count : i ≤ n

@@ -32,6 +32,10 @@ pub const VALUE_LINE: u64 = 14;
 
 pub const FILE_END: u64 = 15;
 
+pub const BYTE_LENGTH: u64 = 16;
+
+pub const PGM_FORM: u64 = 17;
+
 // One test: its number where its condition holds, else 0.
 pub fn refuse(number: u64, condition: bool) -> u64
     ensures { λ r. ⌜ r ≡ refuse number condition ⌝ }

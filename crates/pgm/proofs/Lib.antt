@@ -1,0 +1,3 @@
+pub mod Scanning
+pub mod Framing
+pub mod Seen

@@ -1,0 +1,51 @@
+-- The form, then the frame's length and the samples.
+use Rattle.algebra.specs.Prelude.{_≡_, true, sym, ap, ap₂, _∙_, [], _∷_, arith, needs, drop}
+use borrow.Author.Tests.{not-true, not-false}
+use Rattle.refusals.specs.Tests.{first}
+use Rattle.pgm.specs.Form.{fileLength}
+use Rattle.pgm.specs.Writing.{aboveRefusal}
+use Rattle.pgm.specs.Reading.{formed, samplesOf, samplesAs, refusalAs}
+use Rattle.pgm.specs.FormLaws.{area-most, area-whole}
+use Rattle.pgm.specs.HeaderLaws.{form-sized, form-long}
+use Rattle.pgm.proofs.reading.read_refusal.Statement.{statement}
+use Rattle.pgm.proofs.reading.read_refusal.Tie as tie
+
+returns : tie.Need-returns
+unfolding refusalAs first
+returns c = rw (sym (c .before .formed .ensures) ∙ not-true _ (c .if1 .taken))
+
+-- where the form has passed
+passed : (c : tie.Else1) → let args = c .before .before .before .args in formed (args .width) (args .height) (args .bytes .now) ≡ true
+passed c = sym (c .before .formed .ensures) ∙ not-false _ (c .if1 .left)
+
+mul-length-refusal : tie.Need-mul-length-refusal
+mul-length-refusal c = omega (arith, area-most (form-sized _ _ _ (passed c)))
+
+header-length-requires : tie.Need-header-length-requires
+header-length-requires c κs = let ok = form-sized _ _ _ (passed (c .before)) in (omega arith, omega arith)
+
+mul-raster-refusal : tie.Need-mul-raster-refusal
+mul-raster-refusal c = omega (arith, area-most (form-sized _ _ _ (passed (c .before .before))))
+
+raster-refusal-requires : tie.Need-raster-refusal-requires
+unfolding fileLength
+raster-refusal-requires c κs =
+    let e = passed (c .before .before) in
+    (omega (arith, form-long _ _ _ e), area-whole (form-sized _ _ _ e))
+
+returns-2 : tie.Need-returns-2
+unfolding refusalAs samplesAs first
+returns-2 c =
+    let raster = c .before .before in
+    let start = raster .before in
+    let lent = start .before in
+    let bytes = lent .before .before .before .before .args .bytes .now in
+    rw (passed (lent .before))
+    (c .first .ensures
+    ∙ ap₂ (λ a b. first (a ∷ b ∷ [])) (lent .length-refusal .ensures)
+    (raster .raster-refusal .ensures ∙ ap (λ n. aboveRefusal (samplesOf (drop n bytes))) (start .header-length .ensures .0)))
+
+pub read-refusal-spec : {M : Type 1} → statement M
+read-refusal-spec = tie.close (tie.spec
+    (λ c κs. search needs) returns mul-length-refusal (λ c κs. search needs) header-length-requires
+    mul-raster-refusal raster-refusal-requires (λ c. search needs) (λ c κs. search needs) returns-2)

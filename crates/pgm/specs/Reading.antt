@@ -1,0 +1,78 @@
+-- Reading a PGM file into a lent frame, "only in that spelling, with width and height handed back": "reading 17, 6, 11".
+use Rattle.algebra.specs.Prelude.{_≡_, Bool, not, cond, _&&_, List, [], _∷_, ℕ, zero, suc, _+_, _-_, _*_, eqb, leb, length, getD, drop}
+use Rattle.refusals.specs.Numbers as no
+use Rattle.refusals.specs.Tests.{refuse, first}
+use Rattle.refusals.specs.After.{after}
+use Rattle.refusals.specs.Some.{some}
+use Rattle.geometry.specs.Shape.{lengthRefusal}
+use Rattle.printing.specs.Decimal.{decimal}
+use Rattle.pgm.specs.declared.PgmRead.{PgmRead}
+use Rattle.pgm.specs.Form.{headerOf, PgmFile, fileLength, sizesAllowed}
+use Rattle.pgm.specs.Writing.{aboveRefusal}
+
+-- the number that the digits in front, `most` of them at most, write behind those of `value`
+unfoldable pub leading : (most value : ℕ) → List ℕ → ℕ
+leading zero value bytes = value
+leading (suc most) value [] = value
+leading (suc most) value (byte ∷ bytes) = cond (leb 48 byte && leb byte 57) (leading most (value * 10 + (byte - 48)) bytes) value
+
+-- the only width and the only height that the bytes can be a file of: an allowed size has at most four digits
+unfoldable pub widthIn : List ℕ → ℕ
+widthIn bytes = leading 4 0 (drop 3 bytes)
+
+unfoldable pub heightIn : List ℕ → ℕ
+heightIn bytes = leading 4 0 (drop (4 + length (decimal (widthIn bytes))) bytes)
+
+-- the bytes have another byte than the text at one of its places
+unfoldable pub differs : (text bytes : List ℕ) → Bool
+differs text bytes = some (length text) (λ k. not (eqb (getD bytes k 0) (getD text k 0)))
+
+-- the bytes have the length and the header of a file of an allowed size
+unfoldable pub formed : (width height : ℕ) → List ℕ → Bool
+formed width height bytes =
+    sizesAllowed width height && (eqb (length bytes) (fileLength width height) && not (differs (headerOf width height) bytes))
+
+-- two bytes to a sample, the high one first
+unfoldable pub samplesOf : List ℕ → List ℕ
+samplesOf [] = []
+samplesOf (byte ∷ []) = []
+samplesOf (high ∷ low ∷ bytes) = (high * 256 + low) ∷ samplesOf bytes
+
+-- the samples behind the header of a size
+unfoldable pub samplesAs : (width height : ℕ) → List ℕ → List ℕ
+samplesAs width height bytes = samplesOf (drop (length (headerOf width height)) bytes)
+
+-- the tests of bytes that are read as a file of a size, into a frame of `room` samples. 17: "any other departure when reading, a size not allowed
+-- included"
+unfoldable pub refusalAs : (width height : ℕ) (bytes : List ℕ) (room : ℕ) → ℕ
+refusalAs width height bytes room =
+    first
+    (refuse no.pgmForm (not (formed width height bytes))
+    ∷ lengthRefusal no.outputLength (width * height) room
+    ∷ aboveRefusal (samplesAs width height bytes)
+    ∷ [])
+
+-- the tests and the samples of the bytes
+unfoldable pub readRefusal : (bytes : List ℕ) (room : ℕ) → ℕ
+readRefusal bytes room = refusalAs (widthIn bytes) (heightIn bytes) bytes room
+
+unfoldable pub samplesIn : List ℕ → List ℕ
+samplesIn bytes = samplesAs (widthIn bytes) (heightIn bytes) bytes
+
+-- "beside a refusal every other returned field is 0"
+abbrev pub refusedAnswer : (number : ℕ) → PgmRead
+refusedAnswer number = record { refusal = number; width = 0; height = 0 }
+
+-- "with width and height handed back"
+abbrev pub acceptedAnswer : (width height : ℕ) → PgmRead
+acceptedAnswer width height = record { refusal = 0; width = width; height = height }
+
+-- the answer beside a number
+unfoldable pub answered : (number width height : ℕ) → PgmRead
+answered number width height = after number (refusedAnswer number) (acceptedAnswer width height)
+
+-- what reading answers, and every word that it leaves: where it accepts, the frame that the bytes are the file of
+pub record ReadsPgm (bytes frame frame′ : List ℕ) (r : PgmRead) : Type 0 where
+  pub answer : r ≡ answered (readRefusal bytes (length frame)) (widthIn bytes) (heightIn bytes)
+  pub stored : frame′ ≡ after (readRefusal bytes (length frame)) frame (samplesIn bytes)
+  pub file : r .refusal ≡ 0 → PgmFile bytes (r .width) (r .height) frame′

@@ -1,0 +1,18 @@
+// A frame as a Netpbm PGM file: how long it is, the writing of it into a lent byte buffer, and the reading of it back.
+mod digits;
+mod header;
+mod reading;
+mod samples;
+mod writing;
+
+pub use header::pgm_length;
+pub use reading::read_pgm;
+pub use writing::write_pgm;
+
+// What reading answers: the number of the refusal with every other field 0, or 0 with the frame's size.
+#[repr(C)]
+pub struct PgmRead {
+    pub refusal: u64,
+    pub width: u64,
+    pub height: u64,
+}
