@@ -8,10 +8,12 @@ use Rattle.algebra.specs.Vars.{vars3, vars4, vars5, vars6, vars7, vars8,
 use Rattle.algebra.specs.Ring.{var, _⊞_, _⊟_, _⊠_, ⊖_, #_, nth}
 use Rattle.algebra.specs.Order.{zarith, abs-upper, abs-lower, abs-le, abs-mul, 0≤pos}
 use Rattle.algebra.specs.Cert.{Cert, num, nn, le, eq, _⊕_, _⊗_, by-le, by-le-times, le-pos}
-use Rattle.algebra.specs.Sums.{sumZ, sumN, sumN-const}
-use Rattle.algebra.specs.Clamp.{clampZ, clamp-cases, clamp-near, clamp-below, clamp-same, clamp-above}
+use Rattle.algebra.specs.Sums.{sumZ, sumN}
+use Rattle.algebra.specs.SumLaws.{sumN-const}
+use Rattle.algebra.specs.Clamp.{clampZ}
+use Rattle.algebra.specs.ClampLaws.{clamp-cases, clamp-near, clamp-below, clamp-same, clamp-above}
 use Rattle.algebra.specs.Fraction.{Frac, frac, whole, _+F_, _-F_, _·F_, over, sumF, held, Within}
-use Rattle.algebra.specs.Nearest.{Rounds}
+use Rattle.algebra.specs.NearestLaws.{Rounds}
 
 -- ---- one side of it: x − y ≤ e/d
 

@@ -6,9 +6,12 @@ pub mod Ring
 pub mod Order
 pub mod Cert
 pub mod Sums
+pub mod SumLaws
 pub mod Floor
 pub mod Nearest
+pub mod NearestLaws
 pub mod Clamp
+pub mod ClampLaws
 pub mod Fit
 pub mod Code
 pub mod Forms

@@ -10,7 +10,8 @@ use Rattle.geometry.specs.Read.{Image, sampleAt}
 use Rattle.geometry.specs.Tiles.{tileColumns, frameParts}
 use Rattle.geometry.specs.Vectors.{otherFrame, word, wordOf, vectorList}
 use Rattle.geometry.specs.VectorLaws.{word-of}
-use Rattle.sequences.specs.Tab.{tab, Filled, fill-start, fill-turn}
+use Rattle.sequences.specs.Tab.{tab}
+use Rattle.sequences.specs.TabLaws.{Filled, fill-start, fill-turn}
 use Rattle.sequences.specs.Write.{written, Writing, write-start, write-part, write-done, written-all}
 use Rattle.sequences.specs.Place.{row-room}
 use Rattle.pyramid.specs.WordsLaws.{Kept}

@@ -11,7 +11,8 @@ use Rattle.algebra.specs.Cert.{num, sqr, le, lt, _⊕_, _⊗_, by-lt, by-le-tim
 use Rattle.algebra.specs.Lipschitz.{sq, lipschitz}
 use Rattle.algebra.specs.Fraction.{Frac, frac, _+F_, _·F_, _×F_, _÷F_, divide, Within}
 use Rattle.algebra.specs.FractionLaws.{within-trans, within-same, within-near, near-mono, near-zero, Near, rounds-within}
-use Rattle.algebra.specs.Nearest.{away, Rounds, away-rounds}
+use Rattle.algebra.specs.Nearest.{away}
+use Rattle.algebra.specs.NearestLaws.{Rounds, away-rounds}
 use Rattle.recipe.specs.Side.{Side}
 use Rattle.recipe.specs.Correction.{power, wiener, quantized, filtered}
 use Rattle.recipe.specs.CorrectionLaws.{power-is}

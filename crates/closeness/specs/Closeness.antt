@@ -1,8 +1,9 @@
 -- The recipe is close to the exact merge, on one tile and at one sample, for any side whose tables and scales fit together.
 use Rattle.algebra.specs.Prelude.{_≡_, sym, ap, subst, _∙_, ℕ, suc, _+_, _*_, _%_, _≤_, _<_, arith, lit<, ℤ, pos, natAbs, _+ℤ_, _-ℤ_, _*ℤ_}
 use native.Mathlib.Nat.{mul-pos, mul-le-mul-left, mod-lt, one-mul}
-use Rattle.algebra.specs.Sums.{sumZ, sumN-scale}
-use Rattle.algebra.specs.Nearest.{away-rounds, upward-rounds}
+use Rattle.algebra.specs.Sums.{sumZ}
+use Rattle.algebra.specs.SumLaws.{sumN-scale}
+use Rattle.algebra.specs.NearestLaws.{away-rounds, upward-rounds}
 use Rattle.algebra.specs.Fraction.{Frac, frac, whole, _-F_, _·F_, over, sumF, Within}
 use Rattle.algebra.specs.FractionLaws.{Near, near-sub, near-scale, near-sum, near-sums, near-mono, near-over, near-rounds, near-whole, near-held, near-one, near-frac}
 use Rattle.recipe.specs.Side.{Side, cosAt, sinAt}

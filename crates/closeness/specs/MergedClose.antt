@@ -1,9 +1,9 @@
 -- Demand 3 for side 16: each word of the merged frame lies within five eighths of the exact merge's sample at its place.
 use Rattle.algebra.specs.Prelude.{_≡_, sym, ap, subst, _∙_, ℕ, _*_, _/_, _%_, _≤_, _<_, arith, getD, ℤ, pos, natAbs}
 use Rattle.algebra.specs.Order.{abs-nonneg, zarith}
-use Rattle.algebra.specs.Clamp.{clamp-low}
+use Rattle.algebra.specs.ClampLaws.{clamp-low}
 use Rattle.algebra.specs.Fraction.{whole, Within}
-use Rattle.sequences.specs.Tab.{getD-tab}
+use Rattle.sequences.specs.TabLaws.{getD-tab}
 use Rattle.recipe.specs.Side.{Side}
 use Rattle.recipe.specs.Tables.{side16}
 use Rattle.recipe.specs.Scene.{Scene}

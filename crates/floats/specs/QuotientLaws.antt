@@ -3,7 +3,8 @@
 use Rattle.algebra.specs.Prelude.{_≡_, not, T, refl, sym, ap, subst, _∙_, Bool, true, false, ℕ, zero, suc, _+_, _*_, _/_, _^_, _≤_, _<_, arith, lit<, lit≤, ℤ, pos, negsuc, natAbs, _*ℤ_}
 use native.Mathlib.Nat.{mul-pos, mul-one, one-mul, mul-le-mul-left, mul-le-mul-right, mul-lt-mul-of-pos-right, lt-of-lt-of-le, lt-of-mul-lt-mul-left, div-eq-of-lt}
 use lib.Ieee.{Float, fin, binary64, round, mul, div, ofInt, unlike, isNan}
-use Rattle.algebra.specs.Nearest.{away, away-odd}
+use Rattle.algebra.specs.Nearest.{away}
+use Rattle.algebra.specs.NearestLaws.{away-odd}
 use Rattle.floats.specs.Fractions.{Is, product-rounded, quotient-rounded}
 use Rattle.floats.specs.Wholes.{Whole, negative, whole-of, nothing-times}
 use Rattle.floats.specs.Numbers.{round-number}

@@ -1,6 +1,6 @@
 -- The frames beside the reference are frames of the burst; what stands where in the list of vectors.
 use Rattle.algebra.specs.Prelude.{_≡_, ap, ap₂, _∙_, Bool, true, false, cond, ℕ, _+_, _-_, _*_, _/_, _%_, _<_, arith, ltb, getD, pos}
-use Rattle.sequences.specs.Tab.{getD-tab}
+use Rattle.sequences.specs.TabLaws.{getD-tab}
 use Rattle.sequences.specs.Place.{place-row, place-column}
 use Rattle.geometry.specs.declared.Shape.{Shape}
 use Rattle.geometry.specs.Shape.{vectorLength}

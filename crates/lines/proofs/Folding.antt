@@ -8,8 +8,10 @@ use Rattle.algebra.specs.Laws.{*ℤ-distr}
 use Rattle.algebra.specs.Ring.{var, _⊞_, _⊟_, _⊠_, ⊖_, ring}
 use Rattle.algebra.specs.Order.{abs-add, abs-sub}
 use Rattle.algebra.specs.Bound.{AtMost, add-fits, sub-fits}
-use Rattle.algebra.specs.Sums.{sumZ, sumZ-cong, sumZ-add, sumZ-parts}
-use Rattle.sequences.specs.Tab.{tab, getD-tab}
+use Rattle.algebra.specs.Sums.{sumZ}
+use Rattle.algebra.specs.SumLaws.{sumZ-cong, sumZ-add, sumZ-parts}
+use Rattle.sequences.specs.Tab.{tab}
+use Rattle.sequences.specs.TabLaws.{getD-tab}
 use Rattle.sequences.specs.Grid.{tab-ext}
 use Rattle.recipe.specs.Side.{cosAt}
 use Rattle.recipe.specs.Tables.{cosines, cosine16, side16}

@@ -1,7 +1,8 @@
 -- Bounds of lines and of tiles: those of what a table holds, and a larger bound. And what is added to a tile.
 use Rattle.algebra.specs.Prelude.{_≡_, ap, List, [], arith, ℤ, pos, natAbs, _+ℤ_}
 use Prim.Native.Nat.{ℕ, _≤_, _<_, zero-le}
-use Rattle.sequences.specs.Tab.{tab, tab-each, tab-every}
+use Rattle.sequences.specs.Tab.{tab}
+use Rattle.sequences.specs.TabLaws.{tab-each, tab-every}
 use Rattle.sequences.specs.Grid.{grid, cell, grid-ext}
 use Rattle.lines.specs.Lines.{LineMost, TileMost}
 

@@ -3,7 +3,8 @@ use Rattle.algebra.specs.Prelude.{_≡_, refl, sym, ap, subst, _∙_, Bool, tru
 use native.Mathlib.Nat.{mod-lt, div-lt-iff-lt-mul, div-add-mod', mul-comm}
 use borrow.Author.Tests.{ltb-true, ltb-false}
 use lib.Seq.{ext-getD}
-use Rattle.sequences.specs.Tab.{tab, length-tab, getD-tab}
+use Rattle.sequences.specs.Tab.{tab}
+use Rattle.sequences.specs.TabLaws.{length-tab, getD-tab}
 use Rattle.sequences.specs.Place.{place-row, place-column}
 use Rattle.geometry.specs.Fits.{AllowedSize}
 use Rattle.tiles.specs.declared.Plane.{Plane}

@@ -1,6 +1,6 @@
 -- The recipe's output sample from sums over the frames: a weight times a sum is the sum of the weighed terms.
 use Rattle.algebra.specs.Prelude.{_≡_, ap, ℕ, suc, _*_, _/_, _%_, ℤ, pos, _-ℤ_, _*ℤ_}
-use Rattle.algebra.specs.Sums.{sumZ-cong, sumZ-scale}
+use Rattle.algebra.specs.SumLaws.{sumZ-cong, sumZ-scale}
 use Rattle.algebra.specs.Clamp.{clampZ}
 use Rattle.algebra.specs.Nearest.{upward}
 use Rattle.geometry.specs.Read.{planeOf}

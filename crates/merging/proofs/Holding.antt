@@ -2,7 +2,7 @@
 use Rattle.algebra.specs.Prelude.{_≡_, sym, ap, subst, _∙_, List, ℕ, zero, suc, _+_, _-_, _*_, _/_, _%_, _≤_, _<_, arith, length, getD, ℤ, pos, natAbs, _*ℤ_}
 use mathlib.Core.Logic.{_⊎_, inl, inr, ⊎-elim}
 use native.Mathlib.Decide.{ℕ-discrete}
-use Rattle.algebra.specs.Sums.{sumZ-cong}
+use Rattle.algebra.specs.SumLaws.{sumZ-cong}
 use Rattle.sequences.specs.Write.{written, written-in, written-before, written-after, written-length}
 use Rattle.geometry.specs.Fits.{AllowedSize}
 use Rattle.geometry.specs.Read.{planeOf}

@@ -6,7 +6,8 @@ use Rattle.algebra.specs.Vars.{vars6}
 use Rattle.algebra.specs.Ring.{_⊞_, _⊟_, _⊠_, #_}
 use Rattle.algebra.specs.Order.{zarith, 0≤pos}
 use Rattle.algebra.specs.Cert.{num, nn, le, lt, _⊕_, _⊗_, by-le, by-lt}
-use Rattle.algebra.specs.Clamp.{clampZ, clamp-below, clamp-same, clamp-above}
+use Rattle.algebra.specs.Clamp.{clampZ}
+use Rattle.algebra.specs.ClampLaws.{clamp-below, clamp-same, clamp-above}
 use Rattle.algebra.specs.Floor.{floor-le, floor-lt, floor-unique}
 use Rattle.algebra.specs.Nearest.{upward}
 

@@ -5,7 +5,7 @@ use lib.Dec.{leb, leb→le}
 use lib.IntN.{ℤ, pos, natAbs, _+ℤ_, _*ℤ_, +ℤ-idl}
 use Rattle.algebra.specs.Test.{all-sound}
 use Rattle.algebra.specs.Sums.{sumZ}
-use Rattle.sequences.specs.Tab.{getD-tab}
+use Rattle.sequences.specs.TabLaws.{getD-tab}
 use Rattle.recipe.specs.Tables.{windows, window16, side16}
 use Rattle.merging.specs.Gather.{weightRow, windowed, wordOver}
 use Rattle.tiles.specs.Sum.{summedMost}

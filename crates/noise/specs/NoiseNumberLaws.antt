@@ -1,7 +1,8 @@
 -- Bounds of r and V, and V's monotony in each of its arguments.
 use Rattle.algebra.specs.Prelude.{_≡_, ap, ℕ, _*_, _≤_, _<_, arith, lit≤}
 use native.Mathlib.Nat.{le-trans, add-le-add, mul-le-mul, mul-le-mul-left, zero-mul, mul-zero, zero-div}
-use Rattle.algebra.specs.Sums.{sumN, sumN-cong, sumN-bound}
+use Rattle.algebra.specs.Sums.{sumN}
+use Rattle.algebra.specs.SumLaws.{sumN-cong, sumN-bound}
 use Rattle.recipe.specs.Side.{Side}
 use Rattle.recipe.specs.Tables.{side16}
 use Rattle.recipe.specs.Root.{wholeRoot}

@@ -6,7 +6,7 @@ use native.Mathlib.Decide.{decLt}
 use lib.ListN.{length-drop}
 use lib.Seq.{getD-drop}
 use borrow.Author.Tests.{lt-ltb, le-ltb}
-use Rattle.sequences.specs.Tab.{getD-tab}
+use Rattle.sequences.specs.TabLaws.{getD-tab}
 use Rattle.refusals.specs.Some.{some}
 use Rattle.refusals.specs.SomeLaws.{or-false}
 use Rattle.pgm.specs.Form.{bytesOf}

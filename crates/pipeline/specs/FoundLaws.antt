@@ -1,6 +1,6 @@
 -- The vectors that alignment finds are such as merge accepts: no part is beyond the bound of level 0.
 use Rattle.algebra.specs.Prelude.{List, ℕ, _≤_, arith, pos, natAbs}
-use Rattle.sequences.specs.Tab.{tab-every}
+use Rattle.sequences.specs.TabLaws.{tab-every}
 use Rattle.geometry.specs.declared.Shape.{Shape}
 use Rattle.geometry.specs.Shape.{vectorLength}
 use Rattle.geometry.specs.Tiles.{level0}

@@ -5,7 +5,8 @@ use lib.ListN.{length, getD, take, drop, List·getD-append}
 use lib.Seq.{length-paste-head, length-take-le, getD-take}
 use Rattle.geometry.specs.Read.{Image, inside, read}
 use Rattle.geometry.specs.ReadLaws.{cell-below, inside-below}
-use Rattle.sequences.specs.Tab.{tab, length-tab}
+use Rattle.sequences.specs.Tab.{tab}
+use Rattle.sequences.specs.TabLaws.{length-tab}
 use Rattle.sequences.specs.Place.{row-room, place-row, place-column}
 use Rattle.sequences.specs.Write.{written, Writing, written-in, written-before, written-after, written-length}
 use Rattle.pyramid.specs.Pyramid.{halved}

@@ -2,7 +2,8 @@
 use Rattle.algebra.specs.Prelude.{_≡_, ap₂, _∙_, [], _∷_, ℕ, _*_, ℤ, pos, _+ℤ_, _-ℤ_, _*ℤ_}
 use Rattle.algebra.specs.Order.{sq-abs}
 use Rattle.algebra.specs.Ring.{var, _⊞_, _⊟_, _⊠_, ring}
-use Rattle.algebra.specs.Sums.{sumZ, sumZ-cong, sumZ-scaler, sumZ-sub}
+use Rattle.algebra.specs.Sums.{sumZ}
+use Rattle.algebra.specs.SumLaws.{sumZ-cong, sumZ-scaler, sumZ-sub}
 use Rattle.recipe.specs.Side.{Side, cosAt, sinAt}
 use Rattle.recipe.specs.Correction.{power, twiddleRe, twiddleIm, inverseRe}
 

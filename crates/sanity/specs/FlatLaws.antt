@@ -4,7 +4,8 @@ use native.Mathlib.Nat.{zero-mul}
 use lib.Dec.{T, eqb, eqb→eq, lit<}
 use lib.IntN.{ℤ, pos, negsuc, negℤ, natAbs, _+ℤ_, _-ℤ_, _*ℤ_, +ℤ-idl, +ℤ-idr, *ℤ-zero, zero-*ℤ, *ℤ-comm}
 use Rattle.algebra.specs.Ring.{var, _⊠_, #_, ring, _⊟_}
-use Rattle.algebra.specs.Sums.{sumZ, sumZ-cong, sumZ-scale, sumN, sumZ-scaler, sumN-cong, sumN-const}
+use Rattle.algebra.specs.Sums.{sumZ, sumN}
+use Rattle.algebra.specs.SumLaws.{sumZ-cong, sumZ-scale, sumZ-scaler, sumN-cong, sumN-const}
 use Rattle.algebra.specs.Test.{all, all-sound}
 use Rattle.algebra.specs.Nearest.{away, upward}
 use Rattle.algebra.specs.Clamp.{clampZ}

@@ -3,7 +3,7 @@ use mathlib.Core.Path.{_≡_, refl, _∙_, ap, ap₂, fun-ext}
 use Rattle.algebra.specs.Prelude.{List, ℕ, _+_, _*_, _/_, _%_, _<_, arith, ℤ, pos, natAbs, _-ℤ_}
 use lib.ListN.{replicate}
 use Rattle.sequences.specs.Grid.{tab-ext}
-use Rattle.sequences.specs.Clear.{tab-const}
+use Rattle.sequences.specs.ClearLaws.{tab-const}
 use Rattle.geometry.specs.Shape.{outputLength}
 use Rattle.geometry.specs.Vectors.{otherFrame}
 use Rattle.geometry.specs.Read.{planeOf, read}

@@ -3,8 +3,8 @@ use Rattle.algebra.specs.Prelude.{_≡_, sym, ap, ap₂, _∙_, List, ℕ, zero
 use native.Mathlib.Nat.{mod-lt, div-lt-iff-lt-mul, div-add-mod', mul-comm, zero-mul, suc-mul, mul-le-mul-right}
 use lib.ListN.{length, getD, drop, replicate, length-drop}
 use lib.Seq.{ext-getD, length-take-le, getD-take, getD-drop}
-use Rattle.sequences.specs.Tab.{length-tab, getD-tab}
-use Rattle.sequences.specs.Clear.{tab-const}
+use Rattle.sequences.specs.TabLaws.{length-tab, getD-tab}
+use Rattle.sequences.specs.ClearLaws.{tab-const}
 use Rattle.geometry.specs.declared.Shape.{Shape}
 use Rattle.geometry.specs.Shape.{sampleLength, outputLength}
 use Rattle.geometry.specs.Read.{Image, sampleIndex, sampleAt}

@@ -4,7 +4,8 @@ use native.Mathlib.Nat.{mul-pos, div-eq-of-lt-le}
 use lib.IntN.{ℤ, pos, _-ℤ_, _*ℤ_, *ℤ-zero}
 use Rattle.algebra.specs.Sums.{sumZ}
 use Rattle.algebra.specs.Order.{zarith}
-use Rattle.algebra.specs.Clamp.{clampZ, clamp-same}
+use Rattle.algebra.specs.Clamp.{clampZ}
+use Rattle.algebra.specs.ClampLaws.{clamp-same}
 use Rattle.algebra.specs.Nearest.{upward}
 use Rattle.recipe.specs.Side.{Side}
 use Rattle.recipe.specs.Correction.{correctionAt}

@@ -3,7 +3,8 @@ use Rattle.algebra.specs.Prelude.{_≡_, sym, ap, ap₂, _∙_, cond, ℕ, zero
 use native.Mathlib.Decide.{ℕ-discrete}
 use lib.IntN.{ℤ, pos, _+ℤ_, +ℤ-idl, +ℤ-idr}
 use borrow.Author.Tests.{eq-eqb, ne-eqb}
-use Rattle.algebra.specs.Sums.{sumZ, sumZ-cong, sumZ-0, sumZ-add}
+use Rattle.algebra.specs.Sums.{sumZ}
+use Rattle.algebra.specs.SumLaws.{sumZ-cong, sumZ-0, sumZ-add}
 use Rattle.transform.specs.ZeroLaws.{sumZ-zero}
 
 -- a renumbering of 0 .. n − 1, and the one that undoes it

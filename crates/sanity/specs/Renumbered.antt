@@ -1,7 +1,7 @@
 -- Try the other frames in another order, each with its vectors: the merged frame stays the same.
 use mathlib.Core.Path.{_≡_, _∙_, ap, ap₂, fun-ext}
 use Rattle.algebra.specs.Prelude.{List, ℕ, suc, _*_, _/_, _%_, _≤_, _<_, arith, ℤ, pos, natAbs, _-ℤ_, _*ℤ_}
-use Rattle.algebra.specs.Sums.{sumZ-cong}
+use Rattle.algebra.specs.SumLaws.{sumZ-cong}
 use Rattle.algebra.specs.Clamp.{clampZ}
 use Rattle.algebra.specs.Nearest.{upward}
 use Rattle.sequences.specs.Grid.{tab-ext}

@@ -3,7 +3,7 @@ use Rattle.algebra.specs.Prelude.{_≡_, ap, _∙_, List, _++_, ℕ, _+_, _-_, 
 use native.Mathlib.Nat.{mul-zero}
 use lib.ListN.{replicate, replicate-append-replicate}
 use Rattle.sequences.specs.Grid.{tab-ext}
-use Rattle.sequences.specs.Clear.{tab-const}
+use Rattle.sequences.specs.ClearLaws.{tab-const}
 use Rattle.geometry.specs.declared.Shape.{Shape}
 use Rattle.geometry.specs.Shape.{vectorLength}
 use Rattle.geometry.specs.Read.{sampleAt}

@@ -2,10 +2,11 @@
 use Rattle.algebra.specs.Prelude.{_≡_, refl, ap, ap₂, _∙_, Bool, true, false, List, ℕ, zero, suc, _-_, _*_, _/_, _%_, _≤_, _<_, arith}
 use native.Mathlib.Nat.{mul-comm}
 use lib.IntN.{ℤ, pos, _+ℤ_, +ℤ-idr, zero-*ℤ}
-use Rattle.algebra.specs.Sums.{sumN, sumN-cong, sumN-const}
+use Rattle.algebra.specs.Sums.{sumN}
+use Rattle.algebra.specs.SumLaws.{sumN-cong, sumN-const}
 use lib.ListN.{replicate}
 use Rattle.sequences.specs.Grid.{tab-ext}
-use Rattle.sequences.specs.Clear.{tab-const}
+use Rattle.sequences.specs.ClearLaws.{tab-const}
 use Rattle.sequences.specs.Least.{firstMin}
 use Rattle.geometry.specs.declared.Shape.{Shape}
 use Rattle.geometry.specs.Shape.{vectorLength}

@@ -1,10 +1,11 @@
 -- Absolute differences from one-sided ones and the sums of the tile and the window; the window's sums from one place to the next.
 use Rattle.algebra.specs.Prelude.{_≡_, sym, ap, _∙_, false, List, ℕ, suc, _+_, _*_, _≤_, _<_, arith, getD}
 use native.Mathlib.Nat.{zero-add}
-use Rattle.algebra.specs.Sums.{sumN, sumN-cong, sumN-bound}
-use Rattle.sequences.specs.Tab.{tab-each, getD-tab}
+use Rattle.algebra.specs.Sums.{sumN}
+use Rattle.algebra.specs.SumLaws.{sumN-cong, sumN-bound}
+use Rattle.sequences.specs.TabLaws.{tab-each, getD-tab}
 use Rattle.sequences.specs.Write.{written, Writing, write-part}
-use Rattle.algebra.specs.Sums.{sumN-exchange, sumN-rows, sumN-moved, sumN-balance}
+use Rattle.algebra.specs.SumLaws.{sumN-exchange, sumN-rows, sumN-moved, sumN-balance}
 use Rattle.search.specs.Residual.{gap}
 use Rattle.search.specs.Local.{squareSum, over, pairSum, tallSum, boxSum, boxOf, boxSums, tallSums, wideSum, Low}
 use Rattle.search.specs.SixteenLaws.{absolute-pairs}

@@ -2,7 +2,7 @@
 use Rattle.algebra.specs.Prelude.{_≡_, refl, ap, ap₂, subst, _∙_, Bool, List, ℕ, _+_, _*_, _≤_, _<_, arith, length, getD}
 use borrow.Author.Count.{below-more}
 use lib.IntN.{ℤ, pos, negsuc, _+ℤ_, _-ℤ_, +ℤ-idr}
-use Rattle.algebra.specs.Sums.{sumN-cong}
+use Rattle.algebra.specs.SumLaws.{sumN-cong}
 use Rattle.algebra.specs.Order.{zarith, add-pn, sub-pn}
 use Rattle.sequences.specs.Write.{written, written-in, written-before}
 use Rattle.search.specs.declared.Tile.{Tile}

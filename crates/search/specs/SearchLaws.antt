@@ -1,7 +1,8 @@
 -- The offset that is chosen is the least by residual, then by the order of ties; and the bounds of what is found.
 use Rattle.algebra.specs.Prelude.{_≡_, refl, sym, subst, _∙_, Bool, true, false, ℕ, zero, suc, _+_, _≤_, _<_, arith, ltb}
 use borrow.Author.Tests.{ltb-true, lt-ltb, le-ltb}
-use Rattle.sequences.specs.Least.{firstMin, least}
+use Rattle.sequences.specs.Least.{firstMin}
+use Rattle.sequences.specs.LeastLoop.{least}
 use Rattle.search.specs.declared.Tile.{Tile}
 use Rattle.geometry.specs.declared.vectors.Vector.{Vector}
 use Rattle.search.specs.Vectors.{_plus_}

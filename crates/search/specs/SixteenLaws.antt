@@ -1,7 +1,9 @@
 -- At side 16: the sums over four rows at a time are the sums over a tile's rows, a copy of the tile has its sums, and where the offsets lie in the window.
 use Rattle.algebra.specs.Prelude.{_≡_, refl, ap, ap₂, subst, _∙_, Bool, false, List, ℕ, zero, suc, _+_, _*_, _≤_, _<_, arith, length, getD}
-use Rattle.algebra.specs.Sums.{sumN, sumN-cong}
-use Rattle.sequences.specs.Tab.{tab, length-tab, getD-tab}
+use Rattle.algebra.specs.Sums.{sumN}
+use Rattle.algebra.specs.SumLaws.{sumN-cong}
+use Rattle.sequences.specs.Tab.{tab}
+use Rattle.sequences.specs.TabLaws.{length-tab, getD-tab}
 use Rattle.search.specs.Offsets.{downs, rights}
 use Rattle.search.specs.OffsetLaws.{parts-most}
 use Rattle.search.specs.Residual.{gap, difference}

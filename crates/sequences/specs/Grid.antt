@@ -4,7 +4,8 @@ use native.Mathlib.Nat.{le-refl}
 use borrow.Author.Tests.{eq-eqb, eqb-true, eqb-false}
 use lib.ListN.{length, getD, set, length-set}
 use lib.Seq.{ext-getD, getD-set-same, getD-set-other}
-use Rattle.sequences.specs.Tab.{tab, length-tab, getD-tab}
+use Rattle.sequences.specs.Tab.{tab}
+use Rattle.sequences.specs.TabLaws.{length-tab, getD-tab}
 
 pub tab-ext : {A : Type 0} (n : ℕ) (f g : ℕ → A) → ((i : ℕ) → i < n → f i ≡ g i) → tab n f ≡ tab n g
 unfolding tab

@@ -2,7 +2,8 @@
 use Rattle.algebra.specs.Prelude.{_≡_, refl, Bool, true, false, ℕ, zero, suc, _+_, _≤_, _<_, arith, ltb}
 use mathlib.Core.Logic.{_⊎_, inl, inr, ⊎-elim}
 use borrow.Author.Tests.{ltb-true}
-use Rattle.sequences.specs.Least.{pick, firstMin, least, Least, least-start, least-take, least-keep, least-done}
+use Rattle.sequences.specs.Least.{pick, firstMin}
+use Rattle.sequences.specs.LeastLoop.{least, Least, least-start, least-take, least-keep, least-done}
 
 pub firstMin-most : (f : ℕ → ℕ) (n : ℕ) → firstMin f n ≤ n
 unfolding firstMin

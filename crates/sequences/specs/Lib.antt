@@ -1,8 +1,11 @@
 pub mod Tab
+pub mod TabLaws
 pub mod Grid
 pub mod Place
 pub mod Write
 pub mod Sum
 pub mod Least
+pub mod LeastLoop
 pub mod LeastLaws
 pub mod Clear
+pub mod ClearLaws

@@ -6,7 +6,8 @@ use native.Mathlib.Nat.{zero-add}
 use lib.ListN.{length, getD, take, drop, set, length-set}
 use lib.Seq.{paste, paste-zero, paste-suc, length-paste, length-paste-head, length-take-le, getD-append-add, getD-take, getD-drop, ext-getD}
 use lib.ListN.{List·getD-append}
-use Rattle.sequences.specs.Tab.{tab, length-tab, getD-tab}
+use Rattle.sequences.specs.Tab.{tab}
+use Rattle.sequences.specs.TabLaws.{length-tab, getD-tab}
 use Rattle.sequences.specs.Grid.{tab-ext}
 
 -- d with f 0 .. f (n - 1) at the places from at on

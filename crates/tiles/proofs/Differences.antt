@@ -2,8 +2,9 @@
 use mathlib.Core.Path.{_≡_, ap, ap₂, fun-ext}
 use Rattle.algebra.specs.Prelude.{List, [], ℕ, _-_, _*_, _≤_, _<_, arith, ℤ, pos, natAbs, negℤ, _+ℤ_, _-ℤ_, _*ℤ_}
 use Rattle.algebra.specs.Order.{zarith, sub-pn, min-pn, abs-pn}
-use Rattle.algebra.specs.Sums.{sumZ-cong}
-use Rattle.sequences.specs.Tab.{tab, tab-every}
+use Rattle.algebra.specs.SumLaws.{sumZ-cong}
+use Rattle.sequences.specs.Tab.{tab}
+use Rattle.sequences.specs.TabLaws.{tab-every}
 use Rattle.sequences.specs.Grid.{grid, cell, cell-grid, grid-ext}
 use Rattle.geometry.specs.declared.Shape.{Shape}
 use Rattle.geometry.specs.Read.{sampleAt, planeOf, read}

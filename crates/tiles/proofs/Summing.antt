@@ -2,8 +2,10 @@
 use Rattle.algebra.specs.Prelude.{_≡_, sym, ap, ap₂, subst, _∙_, List, [], ℕ, _+_, _*_, _^_, _≤_, _<_, arith, ℤ, pos, natAbs, _+ℤ_}
 use native.Mathlib.Numerals.{add-one}
 use Rattle.algebra.specs.Order.{abs-add}
-use Rattle.algebra.specs.Sums.{sumZ, sumZ-suc, sumZ-cong, sumZ-0}
-use Rattle.sequences.specs.Tab.{tab, tab-each}
+use Rattle.algebra.specs.Sums.{sumZ}
+use Rattle.algebra.specs.SumLaws.{sumZ-suc, sumZ-cong, sumZ-0}
+use Rattle.sequences.specs.Tab.{tab}
+use Rattle.sequences.specs.TabLaws.{tab-each}
 use Rattle.sequences.specs.Grid.{grid, cell, cell-grid, grid-ext, grid-of}
 use Rattle.recipe.specs.Tables.{side16}
 use Rattle.recipe.specs.Correction.{correctionAt}

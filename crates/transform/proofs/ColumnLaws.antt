@@ -2,7 +2,8 @@
 use Rattle.algebra.specs.Prelude.{_≡_, refl, ap, _∙_, cond, List, [], ℕ, _+_, _≤_, _<_, arith, eqb, length, getD, set, ℤ, pos}
 use borrow.Author.Count.{below-more}
 use borrow.Author.Tests.{eq-eqb, ne-eqb}
-use Rattle.sequences.specs.Tab.{tab, length-tab, getD-tab}
+use Rattle.sequences.specs.Tab.{tab}
+use Rattle.sequences.specs.TabLaws.{length-tab, getD-tab}
 use Rattle.sequences.specs.Grid.{grid, cell, cell-grid, grid-ext, grid-of, set-tab}
 use Rattle.lines.specs.Lines.{Square}
 

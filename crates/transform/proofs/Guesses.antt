@@ -1,7 +1,8 @@
 -- A loop that guesses each number of a line, and counts the guesses that are not sure.
 use Rattle.algebra.specs.Prelude.{_≡_, _∙_, List, ℕ, _+_, _≤_, _<_, arith}
 use lib.ListN.{length, set, length-set}
-use Rattle.sequences.specs.Tab.{tab, Filled, fill-start, fill-turn, fill-done}
+use Rattle.sequences.specs.Tab.{tab}
+use Rattle.sequences.specs.TabLaws.{Filled, fill-start, fill-turn, fill-done}
 
 -- r is l with guesses at its first i places, of n, and where none is unsure they are f 0 .. f (i - 1): a loop's invariant
 pub record Guessed {A : Type 0} (f : ℕ → A) (n i unsure : ℕ) (l r : List A) : Type 0 where

@@ -4,7 +4,8 @@ use native.Mathlib.Nat.{le-trans}
 use borrow.Author.Tests.{eqb-true, eqb-false}
 use lib.ListN.{length, getD, set, length-set}
 use lib.Seq.{getD-set-same, getD-set-other}
-use Rattle.sequences.specs.Tab.{tab, getD-tab}
+use Rattle.sequences.specs.Tab.{tab}
+use Rattle.sequences.specs.TabLaws.{getD-tab}
 use Rattle.sequences.specs.Grid.{cell, tab-ext, tab-of}
 use Rattle.recipe.specs.Tables.{side16}
 use Rattle.recipe.specs.Correction.{wiener, quantized, filtered}

@@ -3,8 +3,10 @@ use Rattle.algebra.specs.Prelude.{_≡_, ap, ap₂, _∙_, List, ℕ, _+_, _*_,
 use native.Mathlib.Nat.{le-refl}
 use Rattle.algebra.specs.Order.{abs-mul-le}
 use Rattle.algebra.specs.Nearest.{away}
-use Rattle.algebra.specs.Sums.{sumZ, sumZ-cong}
-use Rattle.sequences.specs.Tab.{tab, getD-tab}
+use Rattle.algebra.specs.Sums.{sumZ}
+use Rattle.algebra.specs.SumLaws.{sumZ-cong}
+use Rattle.sequences.specs.Tab.{tab}
+use Rattle.sequences.specs.TabLaws.{getD-tab}
 use Rattle.sequences.specs.Grid.{tab-ext}
 use Rattle.lines.specs.Halfcomplex.{basis, frequency, phase, halfcomplex, backward}
 use Rattle.recipe.specs.TableLaws.{cosine-most}

@@ -2,7 +2,8 @@
 use Rattle.algebra.specs.Prelude.{_≡_, sym, ap, ap₂, _∙_, [], _∷_, ℕ, _+_, _*_, _<_, arith, lit<}
 use lib.IntN.{ℤ, pos, negℤ, _+ℤ_, _-ℤ_, _*ℤ_, +ℤ-comm}
 use Rattle.algebra.specs.Ring.{var, #_, _⊞_, _⊟_, _⊠_, ⊖_, ring}
-use Rattle.algebra.specs.Sums.{sumZ, sumZ-neg, sumZ-cong, sumZ-exchange}
+use Rattle.algebra.specs.Sums.{sumZ}
+use Rattle.algebra.specs.SumLaws.{sumZ-neg, sumZ-cong, sumZ-exchange}
 use Rattle.recipe.specs.Side.{cosAt, sinAt}
 use Rattle.recipe.specs.Tables.{cosines, cosine16, sine16, side16}
 use Rattle.recipe.specs.Correction.{twiddleRe, twiddleIm, inverseRe}

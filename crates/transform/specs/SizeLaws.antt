@@ -2,7 +2,8 @@
 use Rattle.algebra.specs.Prelude.{sym, subst, ℕ, _+_, _*_, _^_, _≤_, lit≤, lit<, ℤ, natAbs, negℤ, _+ℤ_, _-ℤ_, _*ℤ_}
 use native.Mathlib.Nat.{le-refl, le-trans, add-comm, add-le-add, mul-add, mul-le-mul-left}
 use Rattle.algebra.specs.Order.{abs-add, abs-sub, abs-neg, abs-mul-le}
-use Rattle.algebra.specs.Sums.{sumZ, abs-sum-bound}
+use Rattle.algebra.specs.Sums.{sumZ}
+use Rattle.algebra.specs.SumLaws.{abs-sum-bound}
 use Rattle.recipe.specs.Side.{cosAt, sinAt}
 use Rattle.recipe.specs.Tables.{side16}
 use Rattle.recipe.specs.TableLaws.{cosine-most, minus-sine-is, pair-most}

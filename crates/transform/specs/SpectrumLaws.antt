@@ -5,10 +5,12 @@ use Rattle.algebra.specs.Prelude.{Bool, true, false, cond, List, [], _∷_, ℕ
 use borrow.Author.Tests.{lt-ltb}
 use lib.IntN.{ℤ, pos, negℤ, natAbs, _+ℤ_, _-ℤ_, _*ℤ_, *ℤ-zero, zero-*ℤ}
 use Rattle.algebra.specs.Order.{abs-neg}
-use Rattle.algebra.specs.Nearest.{away, away-odd}
+use Rattle.algebra.specs.Nearest.{away}
+use Rattle.algebra.specs.NearestLaws.{away-odd}
 use Rattle.algebra.specs.Vars.{vars4}
 use Rattle.algebra.specs.Ring.{var, _⊞_, _⊟_, _⊠_, ⊖_, ring}
-use Rattle.algebra.specs.Sums.{sumZ, sumZ-0, sumZ-cong, sumZ-scaler, sumZ-add, sumZ-sub, sumZ-neg, sumZ-exchange}
+use Rattle.algebra.specs.Sums.{sumZ}
+use Rattle.algebra.specs.SumLaws.{sumZ-0, sumZ-cong, sumZ-scaler, sumZ-add, sumZ-sub, sumZ-neg, sumZ-exchange}
 use Rattle.recipe.specs.Side.{cosAt, sinAt}
 use Rattle.recipe.specs.Tables.{cosines, cosine16, sine16, side16}
 use Rattle.recipe.specs.TableLaws.{opposite, agree-both, cosine-opposite, sine-opposite}

@@ -2,7 +2,8 @@
 use Rattle.algebra.specs.Prelude.{_≡_, refl, ap, ap₂, _∙_, ℕ, zero, suc, _+_, _*_, _<_, arith}
 use native.Mathlib.Nat.{div-eq-of-lt}
 use lib.IntN.{ℤ, pos, negℤ, _+ℤ_, _-ℤ_, _*ℤ_, *ℤ-zero, zero-*ℤ}
-use Rattle.algebra.specs.Sums.{sumZ, sumZ-cong, sumZ-0}
+use Rattle.algebra.specs.Sums.{sumZ}
+use Rattle.algebra.specs.SumLaws.{sumZ-cong, sumZ-0}
 use Rattle.algebra.specs.Nearest.{away}
 use Rattle.recipe.specs.Side.{Side, cosAt, sinAt}
 use Rattle.recipe.specs.Correction.{power, wiener, rowRe, rowIm, binRe, binIm, quantized, filtered, twiddleRe, twiddleIm, inverseRe, inverseAt, correctionAt}

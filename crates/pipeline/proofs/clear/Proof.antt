@@ -1,7 +1,8 @@
 -- `pipeline::clear` fills the area with zeros: `Filled` is the loop's invariant.
 use Rattle.algebra.specs.Prelude.{refl, _∙_, _-_, arith, needs, length, pos}
-use Rattle.sequences.specs.Tab.{Filled, fill-start, fill-turn, fill-done}
-use Rattle.sequences.specs.Clear.{zeros, tab-const}
+use Rattle.sequences.specs.TabLaws.{Filled, fill-start, fill-turn, fill-done}
+use Rattle.sequences.specs.Clear.{zeros}
+use Rattle.sequences.specs.ClearLaws.{tab-const}
 use Rattle.pipeline.proofs.clear.Statement.{statement}
 use Rattle.pipeline.proofs.clear.Tie as tie
 

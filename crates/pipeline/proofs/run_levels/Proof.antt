@@ -1,6 +1,6 @@
 -- `pipeline::run_levels`: the vectors found are those that align defines, so they fit, and the merge is theirs.
 use Rattle.algebra.specs.Prelude.{sym, ap, subst, _∙_, needs}
-use Rattle.sequences.specs.Clear.{zeros-length}
+use Rattle.sequences.specs.ClearLaws.{zeros-length}
 use Rattle.geometry.specs.Fits.{VectorsFit}
 use Rattle.recipe.specs.Scene.{sceneOf}
 use Rattle.recipe.specs.Merged.{merged}

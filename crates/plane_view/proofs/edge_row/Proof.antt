@@ -1,6 +1,6 @@
 -- A row of a tile: filled from the front, each sample by where the row starts.
 use Rattle.algebra.specs.Prelude.{_≡_, refl, _+_, _-_, _*_, arith, needs, getD, pos, _+ℤ_, w64, toZ, ofZ, toZ-ofZ}
-use Rattle.sequences.specs.Tab.{Filled, fill-start, fill-turn, fill-done}
+use Rattle.sequences.specs.TabLaws.{Filled, fill-start, fill-turn, fill-done}
 use Rattle.geometry.specs.Read.{inside}
 use Rattle.plane_view.proofs.edge_row.Statement.{statement}
 use Rattle.plane_view.proofs.edge_row.Tie as tie

@@ -1,6 +1,6 @@
 -- A row of a tile inside its plane, filled from the front.
 use Rattle.algebra.specs.Prelude.{refl, _+_, _-_, _*_, arith, needs, getD}
-use Rattle.sequences.specs.Tab.{Filled, fill-start, fill-turn, fill-done}
+use Rattle.sequences.specs.TabLaws.{Filled, fill-start, fill-turn, fill-done}
 use Rattle.plane_view.proofs.inner_row.Statement.{statement}
 use Rattle.plane_view.proofs.inner_row.Tie as tie
 

@@ -1,6 +1,6 @@
 -- A tile: filled row by row from the front.
 use Rattle.algebra.specs.Prelude.{_≡_, refl, _-_, arith, needs, pos, _+ℤ_, w64, toZ, ofZ, toZ-ofZ}
-use Rattle.sequences.specs.Tab.{Filled, fill-start, fill-turn, fill-done}
+use Rattle.sequences.specs.TabLaws.{Filled, fill-start, fill-turn, fill-done}
 use Rattle.sequences.specs.Grid.{grid}
 use Rattle.plane_view.specs.View.{tileOf, planeSample, planeRow, planeTile}
 use Rattle.plane_view.proofs.tile_at.Statement.{statement}

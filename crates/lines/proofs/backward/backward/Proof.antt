@@ -1,6 +1,6 @@
 -- `lines::backward::backward`: the numbers are stored one after the other, each from the two folded sums.
 use Rattle.algebra.specs.Prelude.{refl, _∙_, _-_, arith, needs, now}
-use Rattle.sequences.specs.Tab.{Filled, fill-start, fill-turn, fill-done}
+use Rattle.sequences.specs.TabLaws.{Filled, fill-start, fill-turn, fill-done}
 use Rattle.lines.proofs.Unfolding.{joined, joined-is}
 use Rattle.lines.proofs.backward.backward.Statement.{statement}
 use Rattle.lines.proofs.backward.backward.Tie as tie

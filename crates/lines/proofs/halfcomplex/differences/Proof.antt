@@ -1,6 +1,6 @@
 -- `lines::halfcomplex::differences`: each number and the one half a line further on.
 use Rattle.algebra.specs.Prelude.{refl, _-_, arith, needs, w64}
-use Rattle.sequences.specs.Tab.{Filled, fill-start, fill-turn, fill-done}
+use Rattle.sequences.specs.TabLaws.{Filled, fill-start, fill-turn, fill-done}
 use Rattle.lines.specs.Fold.{differenceAt}
 use Rattle.lines.proofs.Folding.{of, difference-fits, difference-is}
 use Rattle.lines.proofs.halfcomplex.differences.Statement.{statement}

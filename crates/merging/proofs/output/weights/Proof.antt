@@ -1,6 +1,6 @@
 -- A row of weights, filled from the front.
 use Rattle.algebra.specs.Prelude.{_≡_, refl, _∙_, _-_, _*_, arith, needs, pos, w64, toZ, ofZ}
-use Rattle.sequences.specs.Tab.{Filled, fill-start, fill-turn, fill-done}
+use Rattle.sequences.specs.TabLaws.{Filled, fill-start, fill-turn, fill-done}
 use Rattle.recipe.specs.Tables.{window16}
 use Rattle.merging.specs.Gather.{weightRow}
 use Rattle.merging.proofs.output.weights.Statement.{statement}

@@ -1,6 +1,6 @@
 -- After k turns the first k words are made.
 use Rattle.algebra.specs.Prelude.{refl, _+_, _-_, _*_, arith, needs, getD}
-use Rattle.sequences.specs.Tab.{Filled, fill-start, fill-turn, fill-done}
+use Rattle.sequences.specs.TabLaws.{Filled, fill-start, fill-turn, fill-done}
 use Rattle.pgm.specs.Blocks.{wordsFrom}
 use Rattle.pgm.proofs.samples.words.Statement.{statement}
 use Rattle.pgm.proofs.samples.words.Tie as tie

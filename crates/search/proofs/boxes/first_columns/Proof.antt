@@ -1,5 +1,5 @@
 -- Each turn stores one column's sum.
-use Rattle.sequences.specs.Tab.{Filled, fill-start, fill-turn, fill-done}
+use Rattle.sequences.specs.TabLaws.{Filled, fill-start, fill-turn, fill-done}
 use Rattle.search.specs.Local.{tallSum}
 use Rattle.algebra.specs.Prelude.{refl, ap, _∙_, _+_, _-_, _*_, arith, needs}
 use Rattle.search.proofs.boxes.first_columns.Statement.{statement}

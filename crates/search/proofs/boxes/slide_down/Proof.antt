@@ -1,6 +1,6 @@
 -- Each turn moves one column's sum down; those right of it are still the row's.
 use Rattle.search.specs.BoxLaws.{tall-moved, tall-most}
-use Rattle.sequences.specs.Tab.{Filled, length-tab, getD-tab, fill-start, fill-turn, fill-rest, fill-done}
+use Rattle.sequences.specs.TabLaws.{Filled, length-tab, getD-tab, fill-start, fill-turn, fill-rest, fill-done}
 use Rattle.search.specs.Local.{tallSum}
 use Rattle.algebra.specs.Prelude.{_≡_, ap, _∙_, _+_, _-_, _*_, arith, needs, length, getD}
 use Rattle.search.proofs.boxes.slide_down.Statement.{statement}

@@ -1,6 +1,6 @@
 -- Each turn stores one column's sum.
 use Rattle.search.specs.SixteenLaws.{low-less}
-use Rattle.sequences.specs.Tab.{Filled, fill-start, fill-turn, fill-done}
+use Rattle.sequences.specs.TabLaws.{Filled, fill-start, fill-turn, fill-done}
 use Rattle.search.specs.Residual.{gap}
 use Rattle.search.specs.Local.{columnSum}
 use Rattle.algebra.specs.Prelude.{refl, _+_, _-_, arith, needs}

@@ -1,5 +1,5 @@
 -- Each turn copies one sample.
-use Rattle.sequences.specs.Tab.{Filled, fill-start, fill-turn, fill-done}
+use Rattle.sequences.specs.TabLaws.{Filled, fill-start, fill-turn, fill-done}
 use Rattle.algebra.specs.Prelude.{refl, _-_, arith, needs, getD}
 use Rattle.search.proofs.window.copied.Statement.{statement}
 use Rattle.search.proofs.window.copied.Tie as tie

@@ -1,6 +1,6 @@
 -- `stacker::align::align`: a refusal returns before the first store; acceptance aligns and clears.
 use Rattle.algebra.specs.Prelude.{sym, _∙_, needs}
-use Rattle.sequences.specs.Clear.{zeros-length}
+use Rattle.sequences.specs.ClearLaws.{zeros-length}
 use Rattle.stacker.specs.AdmissionLaws.{align-passed}
 use Rattle.stacker.specs.CallLaws.{answer-refused, answer-accepted}
 use Rattle.refusals.specs.AfterLaws.{kept, made}

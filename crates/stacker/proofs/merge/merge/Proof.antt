@@ -1,6 +1,6 @@
 -- `stacker::merge::merge`: run's tests and 12, each returning before the first store; then the merge, and the clearing.
 use Rattle.algebra.specs.Prelude.{sym, ap₂, subst, _∙_, _≤_, needs}
-use Rattle.sequences.specs.Clear.{zeros-length}
+use Rattle.sequences.specs.ClearLaws.{zeros-length}
 use Rattle.refusals.specs.TestLaws.{stops, goes, lone}
 use Rattle.geometry.specs.BoundLaws.{vectors-fit}
 use Rattle.recipe.specs.Scene.{sceneOf}

@@ -1,6 +1,7 @@
 -- A tile of differences: filled row by row from the front.
 use Rattle.algebra.specs.Prelude.{refl, _-_, arith, needs, pos, _-ℤ_}
-use Rattle.sequences.specs.Tab.{tab, Filled, fill-start, fill-turn, fill-done}
+use Rattle.sequences.specs.Tab.{tab}
+use Rattle.sequences.specs.TabLaws.{Filled, fill-start, fill-turn, fill-done}
 use Rattle.sequences.specs.Grid.{grid, cell}
 use Rattle.tiles.proofs.correcting.difference.Statement.{statement}
 use Rattle.tiles.proofs.correcting.difference.Tie as tie

@@ -1,6 +1,6 @@
 -- A row of differences: filled from the front.
 use Rattle.algebra.specs.Prelude.{_≡_, refl, _∙_, _-_, arith, needs, getD, pos, _-ℤ_, w16, toZ, ofZ}
-use Rattle.sequences.specs.Tab.{Filled, fill-start, fill-turn, fill-done}
+use Rattle.sequences.specs.TabLaws.{Filled, fill-start, fill-turn, fill-done}
 use Rattle.tiles.proofs.correcting.difference_row.Statement.{statement}
 use Rattle.tiles.proofs.correcting.difference_row.Tie as tie
 

@@ -1,6 +1,6 @@
 -- `transform::columns_back::column`: the places are stored one after the other.
 use Rattle.algebra.specs.Prelude.{_≡_, refl, [], _-_, arith, needs, getD, pos, w32, toZ, ofZ, now}
-use Rattle.sequences.specs.Tab.{Filled, fill-start, fill-turn, fill-done}
+use Rattle.sequences.specs.TabLaws.{Filled, fill-start, fill-turn, fill-done}
 use Rattle.sequences.specs.Grid.{cell}
 use Rattle.transform.proofs.columns_back.column.Statement.{statement}
 use Rattle.transform.proofs.columns_back.column.Tie as tie

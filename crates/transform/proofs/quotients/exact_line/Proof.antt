@@ -1,6 +1,6 @@
 -- `transform::quotients::exact_line`: the line from the front.
 use Rattle.algebra.specs.Prelude.{_≡_, ap₂, _∙_, _-_, arith, needs, getD, pos, w32, toZ, ofZ}
-use Rattle.sequences.specs.Tab.{Filled, fill-start, fill-turn, fill-done}
+use Rattle.sequences.specs.TabLaws.{Filled, fill-start, fill-turn, fill-done}
 use Rattle.recipe.specs.Correction.{wiener}
 use Rattle.lines.proofs.Held.{held-is, held-most}
 use Rattle.transform.proofs.quotients.exact_line.Statement.{statement}

@@ -1,7 +1,8 @@
 -- `transform::rows::add_back`: the rows' quotients are added one after the other.
 use Rattle.algebra.specs.Prelude.{sym, subst, _∙_, [], _-_, _^_, arith, needs, pos, _+ℤ_}
 use Rattle.algebra.specs.Nearest.{away}
-use Rattle.sequences.specs.Tab.{tab, Filled, fill-start, fill-turn, fill-rest, fill-done}
+use Rattle.sequences.specs.Tab.{tab}
+use Rattle.sequences.specs.TabLaws.{Filled, fill-start, fill-turn, fill-rest, fill-done}
 use Rattle.sequences.specs.Grid.{grid, cell}
 use Rattle.lines.specs.Halfcomplex.{backward}
 use Rattle.transform.specs.Spectrum.{counted}

@@ -1,6 +1,6 @@
 -- `transform::rows::added_row`: the sums are stored one after the other.
 use Rattle.algebra.specs.Prelude.{_≡_, refl, ap₂, _∙_, _-_, arith, needs, getD, pos, _+ℤ_, w32, w64, SFits, toZ, ofZ, toZ-ofZ}
-use Rattle.sequences.specs.Tab.{Filled, fill-start, fill-turn, fill-done}
+use Rattle.sequences.specs.TabLaws.{Filled, fill-start, fill-turn, fill-done}
 use Rattle.transform.proofs.rows.added_row.Statement.{statement}
 use Rattle.transform.proofs.rows.added_row.Tie as tie
 

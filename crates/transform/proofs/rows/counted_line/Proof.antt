@@ -1,7 +1,7 @@
 -- `transform::rows::counted_line`: the numbers are stored one after the other, each counted.
 use Rattle.algebra.specs.Prelude.{_≡_, refl, sym, ap, subst, _∙_, _-_, arith, needs, getD, pos, w32, w64, SFits, toZ, ofZ, now}
 use Rattle.algebra.specs.Bound.{AtMost, signed}
-use Rattle.sequences.specs.Tab.{Filled, fill-start, fill-turn, fill-done}
+use Rattle.sequences.specs.TabLaws.{Filled, fill-start, fill-turn, fill-done}
 use Rattle.transform.specs.Spectrum.{counted}
 use Rattle.transform.specs.Magnitudes.{columnMost}
 use Rattle.lines.proofs.Held.{widened-is}

@@ -1,7 +1,7 @@
 -- `transform::rows::rounded_line`: the quotients are stored one after the other.
 use Rattle.algebra.specs.Prelude.{_≡_, refl, ap, _∙_, _-_, _^_, arith, needs, getD, pos, w32, w64, toZ, ofZ}
 use Rattle.algebra.specs.Nearest.{away}
-use Rattle.sequences.specs.Tab.{Filled, fill-start, fill-turn, fill-done}
+use Rattle.sequences.specs.TabLaws.{Filled, fill-start, fill-turn, fill-done}
 use Rattle.lines.proofs.Held.{held-is, held-most}
 use Rattle.transform.proofs.rows.rounded_line.Statement.{statement}
 use Rattle.transform.proofs.rows.rounded_line.Tie as tie

@@ -1,6 +1,7 @@
 -- `transform::rows::rows`: the rows' transforms are stored one after the other.
 use Rattle.algebra.specs.Prelude.{_∙_, _-_, arith, needs, pos}
-use Rattle.sequences.specs.Tab.{tab, Filled, fill-start, fill-turn, fill-done}
+use Rattle.sequences.specs.Tab.{tab}
+use Rattle.sequences.specs.TabLaws.{Filled, fill-start, fill-turn, fill-done}
 use Rattle.sequences.specs.Grid.{grid, cell}
 use Rattle.lines.specs.Halfcomplex.{halfcomplex}
 use Rattle.transform.specs.Magnitudes.{rowMost}

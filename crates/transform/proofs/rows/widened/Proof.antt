@@ -1,7 +1,7 @@
 -- `transform::rows::widened`: the numbers are stored one after the other.
 use Rattle.algebra.specs.Prelude.{refl, _-_, arith, needs, getD, pos, w32, SFits, now}
 use Rattle.algebra.specs.Bound.{signed}
-use Rattle.sequences.specs.Tab.{Filled, fill-start, fill-turn, fill-done}
+use Rattle.sequences.specs.TabLaws.{Filled, fill-start, fill-turn, fill-done}
 use Rattle.lines.proofs.Held.{widened-is}
 use Rattle.transform.proofs.rows.widened.Statement.{statement}
 use Rattle.transform.proofs.rows.widened.Tie as tie

@@ -1,6 +1,7 @@
 -- `transform::set_column::set_column`: a number of each line is replaced, from the first line on.
 use Rattle.algebra.specs.Prelude.{_≡_, ap₂, _∙_, cond, [], _-_, arith, needs, eqb, getD, set, pos, w32, toZ, ofZ, now}
-use Rattle.sequences.specs.Tab.{tab, Filled, fill-start, fill-turn, fill-rest, fill-done}
+use Rattle.sequences.specs.Tab.{tab}
+use Rattle.sequences.specs.TabLaws.{Filled, fill-start, fill-turn, fill-rest, fill-done}
 use Rattle.sequences.specs.Grid.{grid, cell}
 use Rattle.transform.proofs.ColumnLaws.{square-lines, set-line}
 use Rattle.transform.proofs.set_column.set_column.Statement.{statement}

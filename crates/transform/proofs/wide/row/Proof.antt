@@ -1,6 +1,6 @@
 -- `transform::wide::row`: the places are stored one after the other, each counted.
 use Rattle.algebra.specs.Prelude.{_≡_, refl, ap, _∙_, _-_, arith, needs, pos, w64, toZ, ofZ}
-use Rattle.sequences.specs.Tab.{Filled, fill-start, fill-turn, fill-done}
+use Rattle.sequences.specs.TabLaws.{Filled, fill-start, fill-turn, fill-done}
 use Rattle.sequences.specs.Grid.{cell}
 use Rattle.transform.specs.Spectrum.{counted}
 use Rattle.lines.proofs.Held.{held-is, held-most}
