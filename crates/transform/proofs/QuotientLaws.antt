@@ -1,4 +1,4 @@
--- The Wiener step in double precision: at a small V, and where the power is not too large, one division gives the whole numbers that the step asks for.
+-- The Wiener step in double precision: at a V of at most 2^30, and where the power is not too large, one division gives the whole numbers that the step asks for.
 use Rattle.algebra.specs.Prelude.{_≡_, refl, sym, ap, subst, _∙_, Bool, true, false, not, cond, ℕ, suc, _+_, _*_, _/_, _^_, _≤_, _<_, arith, T, lit≤, lit<, ℤ, pos, natAbs, _*ℤ_}
 use Prim.Native.Nat.{min}
 use native.Mathlib.Nat.{le-trans, lt-of-not-le, mul-le-mul, mul-le-mul-left, add-le-add, mul-div-le}
@@ -8,7 +8,7 @@ use Rattle.floats.specs.Wholes.{Whole, negative, not-below, whole-of, whole-pro
 use Rattle.floats.specs.QuotientLaws.{slightlyMore, quotient-away, quotient-number}
 use Rattle.recipe.specs.Correction.{power, wiener}
 use Rattle.transform.specs.FloatQuotient.{floatPower, floatQuotient, floatPart, powerMost}
-use Rattle.transform.specs.Magnitudes.{gainMost, smallNoise, smallGainMost}
+use Rattle.transform.specs.Magnitudes.{gainMost, doubleNoise, doubleGainMost}
 use Rattle.transform.specs.RoundingLaws.{away-abs}
 use Rattle.transform.specs.WienerLaws.{wiener-is, wiener-root}
 
@@ -48,7 +48,7 @@ small-product v q r h =
     let m : natAbs q ≤ 2 ^ 48 / v = omega (arith, l) in
     le-trans (mul-le-mul-left v m) (mul-div-le (2 ^ 48) v)
 
-module _ (v : ℕ) (q r : ℤ) (above : 0 < v) (small : v ≤ smallNoise) (first : natAbs q ≤ gainMost) (second : natAbs r ≤ gainMost) where
+module _ (v : ℕ) (q r : ℤ) (above : 0 < v) (small : v ≤ doubleNoise) (first : natAbs q ≤ gainMost) (second : natAbs r ≤ gainMost) where
   square : (z : ℤ) → natAbs z ≤ gainMost → Whole (mul binary64 (ofInt binary64 z) (ofInt binary64 z)) false (natAbs z * natAbs z)
   square z h =
       let w = whole-of binary64 z (omega arith) in
@@ -66,7 +66,7 @@ module _ (v : ℕ) (q r : ℤ) (above : 0 < v) (small : v ≤ smallNoise) (first
   small-part : (2 * (v * natAbs q) + power v q r) / (2 * power v q r) < 2 ^ 15
   small-part =
       let e = ap natAbs (wiener-is v q r above) ∙ away-abs (pos v *ℤ q) (power v q r) ∙ ap (λ n. (2 * n + power v q r) / (2 * power v q r)) (abs-mul (pos v) q) in
-      omega (arith, e, wiener-root v smallGainMost q r (lit< tt) (le-trans small (lit≤ tt)))
+      omega (arith, e, wiener-root v doubleGainMost q r (lit< tt) (le-trans small (lit≤ tt)))
 
   module _ {d : Float} (p : Whole d false (power v q r)) where
     pub number : T (not (isNan (floatQuotient (mul binary64 (ofInt binary64 (pos v)) slightlyMore) d q)))

@@ -6,12 +6,12 @@ use Rattle.sequences.specs.Tab.{tab}
 use Rattle.floats.specs.LastBits.{lastBits}
 use Rattle.lines.specs.Lines.{LineMost}
 use Rattle.recipe.specs.Correction.{wiener}
-use Rattle.transform.specs.Magnitudes.{gainMost, smallNoise}
+use Rattle.transform.specs.Magnitudes.{gainMost, doubleNoise}
 
--- the parts of Q at 128 bins, and a V that is small
-pub record SmallBins (noise : ℕ) (re im : List ℤ) : Type 0 where
+-- the parts of Q at 128 bins, and a V that doubles serve
+pub record DoubleBins (noise : ℕ) (re im : List ℤ) : Type 0 where
   pub above : 0 < noise
-  pub small : noise ≤ smallNoise
+  pub small : noise ≤ doubleNoise
   pub first : LineMost gainMost re
   pub second : LineMost gainMost im
 

@@ -37,10 +37,18 @@ sumMost = 6520183117548879872
 abbrev pub correctionMost : ℕ
 correctionMost = 2 ^ 30
 
--- V up to which G's quotients are taken in double, and the first pass of the inverse fits 32 bits
+-- V up to which the first pass of the inverse fits 32 bits
 abbrev pub smallNoise : ℕ
 smallNoise = 2 ^ 26
 
 -- a part of G at such a V: half the root of V
 abbrev pub smallGainMost : ℕ
 smallGainMost = 4096
+
+-- V up to which G's quotients are taken in double
+abbrev pub doubleNoise : ℕ
+doubleNoise = 2 ^ 30
+
+-- a part of G at such a V
+abbrev pub doubleGainMost : ℕ
+doubleGainMost = 16384

@@ -1,4 +1,4 @@
-// The Wiener step at small noise, on lines of 128 bins: the parts of Q, then those of G, which `quotients` divides several at a time, then G folded in the
+// The Wiener step at a V of at most 2^30, on lines of 128 bins: the parts of Q, then those of G, which `quotients` divides several at a time, then G folded in the
 // tile. Slots 8·u + v and 64 + 8·u + v of a line are the two bins of quad (v, u). What the corner's slots hold is not used.
 use crate::filter::quantized_part;
 use crate::quads;
@@ -12,7 +12,7 @@ ghost use Rattle.sequences.specs.Tab.{tab};
 ghost use Rattle.sequences.specs.Grid.{grid, cell};
 ghost use Rattle.recipe.specs.Tables.{side16};
 ghost use Rattle.recipe.specs.Correction.{quantized};
-ghost use Rattle.transform.specs.Magnitudes.{binMost, gainMost, quadMost, smallNoise};
+ghost use Rattle.transform.specs.Magnitudes.{binMost, gainMost, quadMost, doubleNoise};
 ghost use Rattle.lines.specs.Lines.{LineMost, TileMost, Square};
 ghost use Rattle.transform.specs.Spectrum.{BinsMost, Quads, transposed, spread, gainRe, gainIm};
 ghost use Rattle.transform.specs.Slots.{Slots, slotRe, slotIm, slotQuad};
@@ -91,7 +91,7 @@ fn store(c: [i64; 4], g: &[i32; 128], h: &[i32; 128], r: &mut [[i32; 16]; 16])
 
 // G of the tile t at the noise number V, folded, in r.
 pub fn filter(t: &[[i64; 16]; 16], noise: u64, r: &mut [[i32; 16]; 16])
-    requires { ⌜ (0 < noise) × (noise ≤ smallNoise) × (BinsMost (now t)) × (Square (now r)) ⌝ }
+    requires { ⌜ (0 < noise) × (noise ≤ doubleNoise) × (BinsMost (now t)) × (Square (now r)) ⌝ }
     ensures { λ _. ⌜ (now (r .exit) ≡ grid 16 16 (transposed (spread (gainRe noise (transposed (cell (pos 0) (now (t .entry))))) (gainIm noise (transposed (cell (pos 0) (now (t .entry)))))))) × (TileMost quadMost (now (r .exit))) ⌝ }
 {
     let mut re = [0i32; 128];

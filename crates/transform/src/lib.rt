@@ -24,6 +24,12 @@ ghost use Rattle.lines.specs.Magnitudes.{differenceMost, narrowMost};
 ghost use Rattle.lines.specs.Lines.{TileMost, Square};
 ghost use Rattle.transform.specs.Spectrum.{BinsOf, BinsMost, transposed, spread, gainRe, gainIm, backSum};
 
+// V up to which G's quotients are taken in double
+const DOUBLE_NOISE: u64 = 1073741824;
+
+// V up to which the inverse's first pass fits 32 bits
+const SMALL_NOISE: u64 = 67108864;
+
 // B: the two-way transform of a tile of differences, in exact whole numbers. Line b holds place b of the columns' transforms, in halfcomplex form along the
 // rows: the bins by columns.
 pub fn forward(d: [[i16; 16]; 16]) -> [[i64; 16]; 16]
@@ -43,7 +49,7 @@ pub fn wiener(b: [[i64; 16]; 16], noise: u64) -> [[i32; 16]; 16]
     ensures { λ r. ⌜ (r ≡ grid 16 16 (transposed (spread (gainRe noise (transposed (cell (pos 0) b))) (gainIm noise (transposed (cell (pos 0) b)))))) × (TileMost quadMost r) ⌝ }
 {
     let mut g = [[0i32; 16]; 16];
-    if noise <= 67108864 {
+    if noise <= DOUBLE_NOISE {
         bins::filter(&b, noise, &mut g);
         return g;
     }
@@ -56,7 +62,7 @@ pub fn add_inverse(g: [[i32; 16]; 16], noise: u64, sum: &mut [[i64; 16]; 16])
     requires { ⌜ (TileMost quadMost g) × ((noise ≤ smallNoise → TileMost narrowMost g)) × (TileMost (2 ^ 40) (now sum)) × (length (now sum) ≡ 16) ⌝ }
     ensures { λ _. ⌜ now (sum .exit) ≡ grid 16 16 (λ y x. cell (pos 0) (now (sum .entry)) y x +ℤ away (backSum (transposed (cell (pos 0) g)) y x) (2 ^ 32)) ⌝ }
 {
-    if noise <= 67108864 {
+    if noise <= SMALL_NOISE {
         let mut a = [[0i32; 16]; 16];
         columns_back::back(&g, &mut a);
         rows::add_back(&a, &mut *sum);

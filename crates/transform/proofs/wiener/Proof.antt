@@ -1,4 +1,4 @@
--- `transform::wiener`: on lines of bins where the noise is small, and by quads where it is larger.
+-- `transform::wiener`: on lines of bins up to a V of 2^30, and by quads where it is larger.
 use Rattle.algebra.specs.Prelude.{refl, arith, pos}
 use Rattle.sequences.specs.Tab.{tab}
 use Rattle.sequences.specs.Grid.{grid}

@@ -24,4 +24,4 @@ returns-2 c =
     sym (ap (λ m. m * m) e)
 
 pub power-most-spec : {M : Type 1} → statement M
-power-most-spec = tie.close (tie.spec (λ c. search needs) mul-result returns returns-2)
+power-most-spec = tie.close (tie.spec (λ c. search needs) mul-result returns (λ c. search needs) returns-2)
