@@ -1,4 +1,4 @@
-/* The burst stacker: two to eight raw frames of one scene are aligned on one of them, the reference, and merged into one cleaner frame.
+/* The burst stacker: one to eight raw frames of one scene are aligned on one of them, the reference, and merged into one cleaner frame.
 
    First come the types, the calls and what goes with them; behind them EXAMPLES, FRAMES, LENT BUFFERS, AFTER A CALL, REFUSALS, NOISE, ZEROS and
    THE MACHINE. Link with libstacker.a. For x86-64 Linux; C99 and later, C++11 and later. */
@@ -136,7 +136,7 @@ static inline const char *stacker_refusal_text(uint64_t number)
     switch (number) {
     case STACKER_ACCEPTED: return "accepted";
     case STACKER_REFUSED_SIZE: return "width or height not a multiple of 64 from 64 to 4096";
-    case STACKER_REFUSED_COUNT: return "count of frames outside 2..8";
+    case STACKER_REFUSED_COUNT: return "count of frames 0 or above 8";
     case STACKER_REFUSED_REFERENCE: return "reference not below the count of frames";
     case STACKER_REFUSED_SAMPLES_LENGTH: return "samples not of length count * width * height";
     case STACKER_REFUSED_VECTORS_LENGTH: return "vectors not of length (count - 1) * 2 * (width / 16 + 1) * (height / 16 + 1)";

@@ -18,7 +18,7 @@ typedef enum {
 } station_buffer;
 
 /* The length of a buffer in elements, for `count` frames of that size: `number` is a station_buffer. 0 for any other number, and where refusal 1
-   (size) or 2 (count of frames) would stand. */
+   (size) or 2 (count of frames) would stand. The vectors of a lone frame have the length 0: there 0 is the answer. */
 uint64_t station_length(uint64_t width, uint64_t height, uint64_t count, uint64_t number);
 
 /* The noise number V, in 1/256 of a squared sample, of the curve `shot` (samples) and `read` (squared samples), the strength

@@ -36,8 +36,8 @@ int main(int argc, char **argv)
     size_t room = 0, cases = 0;
     for (int64_t length; (length = next_file(&bytes, &room)) >= 0; cases++) {
         /* the length that most of the files want, or one beside it */
-        static const uint64_t lents[] = { 2 * 64 * 64, 2 * 64 * 64, 2 * 64 * 64, ROOM, 2 * 64 * 64 - 1, 0 };
-        lent = lents[cases % 6];
+        static const uint64_t lents[] = { 2 * 64 * 64, 2 * 64 * 64, 64 * 64, 2 * 64 * 64, ROOM, 2 * 64 * 64 - 1, 0 };
+        lent = lents[cases % 7];
         file_length = (uint64_t)length;
         for (size_t i = 0; i <= ROOM; i++)
             samples[i] = MARK;

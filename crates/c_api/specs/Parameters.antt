@@ -8,7 +8,7 @@ use Rattle.c_api.specs.declared.BurstNoise.{BurstNoise}
 use Rattle.c_api.specs.declared.IsoNoise.{IsoNoise}
 use Rattle.c_api.specs.declared.MergeTuning.{MergeTuning}
 
--- "Width W and height H", "N = 2..8 frames"
+-- "Width W and height H", "N [..] frames"
 abbrev pub shapeOf : Burst → Shape
 shapeOf burst = record { width = burst .width; height = burst .height; count = burst .count }
 

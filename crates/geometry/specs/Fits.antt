@@ -13,7 +13,7 @@ pub record AllowedSize (size : ℕ) : Type 0 where
 pub record Allowed (s : Shape) : Type 0 where
   pub wide : AllowedSize (s .width)
   pub high : AllowedSize (s .height)
-  pub several : 2 ≤ s .count
+  pub some : 1 ≤ s .count
   pub few : s .count ≤ 8
 
 -- the samples of a burst, as many as its shape says

@@ -13,15 +13,15 @@ shaped width height count = record { width = width; height = height; count = cou
 unfoldable pub sizeAllowed : ℕ → Bool
 sizeAllowed size = leb 64 size && leb size 4096 && eqb (size % 64) 0
 
--- "There are N = 2..8 frames"
+-- "There are N [..] frames": 1 to 8 (request L4)
 unfoldable pub countAllowed : ℕ → Bool
-countAllowed count = leb 2 count && leb count 8
+countAllowed count = leb 1 count && leb count 8
 
 -- refusal 1: "W or H not allowed"
 unfoldable pub sizeRefusal : Shape → ℕ
 sizeRefusal s = refuse no.size (not (sizeAllowed (s .width) && sizeAllowed (s .height)))
 
--- refusal 2: "N outside 2..8"
+-- refusal 2: "N is 0 or above 8" (request L4)
 unfoldable pub countRefusal : Shape → ℕ
 countRefusal s = refuse no.count (not (countAllowed (s .count)))
 

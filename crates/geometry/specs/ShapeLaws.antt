@@ -29,7 +29,7 @@ allowed s size count =
     record {
       wide = allowed-size _ (sizes .0);
       high = allowed-size _ (sizes .1);
-      several = leb-true _ _ (counts .0);
+      some = leb-true _ _ (counts .0);
       few = leb-true _ _ (counts .1);
     }
 

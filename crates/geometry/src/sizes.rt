@@ -33,7 +33,7 @@ pub fn size_refusal(shape: Shape) -> u64
 pub fn count_refusal(shape: Shape) -> u64
     ensures { λ r. ⌜ r ≡ countRefusal shape ⌝ }
 {
-    if shape.count < 2 {
+    if shape.count < 1 {
         return refusals::COUNT;
     }
     if 8 < shape.count {

@@ -27,9 +27,9 @@ upward-twice t s h n h-pos n-pos =
     (num 1 ⊕ num 2 ⊗ lt (N ⊠ H ⊟ S) (# 2 ⊠ H ⊠ F ⊞ # 2 ⊠ H) (floor-lt _ (2 * h) two-h) ⊕ nn (# 4 ⊠ H) (0≤pos (4 * h)) ⊗ lt (T ⊠ N ⊞ F) (N ⊠ G ⊞ N) (floor-lt _ n n-pos)) tt)
 
 -- y / n from 2^19 / n, rounded up
-pub reciprocal-19 : (y n : ℕ) → 2 ≤ n → n ≤ 8 → y < 4096 * n → y * ((524287 + n) / n) / 524288 ≡ y / n
+pub reciprocal-19 : (y n : ℕ) → 1 ≤ n → n ≤ 8 → y < 4096 * n → y * ((524287 + n) / n) / 524288 ≡ y / n
 reciprocal-19 y zero h k l = absurd (omega arith)
-reciprocal-19 y (suc zero) h k l = absurd (omega arith)
+reciprocal-19 y (suc zero) h k l = omega arith
 reciprocal-19 y (suc (suc zero)) h k l = omega arith
 reciprocal-19 y (suc (suc (suc zero))) h k l = omega arith
 reciprocal-19 y (suc (suc (suc (suc zero)))) h k l = omega arith

@@ -11,9 +11,9 @@ use Rattle.tiles.specs.Rows.{rowWords, slotOf, rowWord}
 use Rattle.recipe.specs.Scene.{Scene}
 use Rattle.merging.specs.Gather.{weightRow, windowed, corrected, wordOver}
 
--- N = `count` is 2 to 8, and `inverse` is 2^19/N, rounding up
+-- N = `count` is 1 to 8, and `inverse` is 2^19/N, rounding up
 pub record Divided (count inverse : ℕ) : Type 0 where
-  pub several : 2 ≤ count
+  pub some : 1 ≤ count
   pub few : count ≤ 8
   pub inverse-is : inverse ≡ (524287 + count) / count
 

@@ -5,7 +5,7 @@ use Rattle.algebra.specs.Prelude.{ℕ}
 abbrev pub size : ℕ
 size = 1
 
--- "N outside 2..8"
+-- "N is 0 or above 8" (request L4)
 abbrev pub count : ℕ
 count = 2
 

@@ -1,4 +1,5 @@
--- The same at the calls, once they have accepted: what merge, align and run leave at strength 0, of frames that are all equal, and of frames in another order.
+-- The same at the calls, once they have accepted: what merge, align and run leave at strength 0, of a lone frame, of frames that are all equal, and of frames
+-- in another order.
 use Rattle.algebra.specs.Prelude.{_≡_, sym, ap, _∙_, List, ℕ, ℤ, pos}
 use lib.ListN.{length, replicate}
 use Rattle.sequences.specs.Clear.{zeros}
@@ -13,6 +14,7 @@ use Rattle.stacker.specs.Refusals.{mergeOf}
 use Rattle.stacker.specs.Calls.{noSums, Aligned, Merged, Ran}
 use Rattle.sanity.specs.Frames.{frameWords, Alike}
 use Rattle.sanity.specs.StrengthZero as StrengthZero
+use Rattle.sanity.specs.LoneFrame as LoneFrame
 use Rattle.sanity.specs.StillMerge as StillMerge
 use Rattle.sanity.specs.StillAlign.{vectors-none, sums-none}
 use Rattle.sanity.specs.StillRun.{run-back}
@@ -58,6 +60,22 @@ module _ {s : Shape} {reference : ℕ} {samples : List ℕ} {vectors work work�
     run-strength-zero call accepted off =
         let (f, is) = run-accepted call accepted in
         is ∙ StrengthZero.burst-back (mergeOf s reference noise tuning) samples (alignedVectors s reference samples) (f .lent .burst) off
+
+    -- "With N = 1 the answer is that frame unchanged, the vector buffer has length 0 and the seven residual sums are 0"
+    pub merge-lone : {number : ℕ} → Merged s reference noise tuning samples vectors output output′ work work′ number → number ≡ 0 →
+        s .count ≡ 1 → output′ ≡ frameWords s samples reference
+    merge-lone call accepted lone =
+        let (lent, is) = merge-accepted call accepted in
+        is ∙ LoneFrame.burst-back (mergeOf s reference noise tuning) samples vectors (lent .burst) lone
+
+    pub run-lone : {vectors′ : List ℤ} {r : Alignment} → Ran s reference noise tuning samples vectors vectors′ output output′ work work′ r → r .refusal ≡ 0 →
+        s .count ≡ 1 → Unmoved vectors vectors′ r × (length vectors ≡ 0) × (output′ ≡ frameWords s samples reference)
+    run-lone call accepted lone =
+        let (f, is) = run-accepted call accepted in (
+          unmoved f (LoneFrame.alone s reference samples lone (f .lent .burst .below)),
+          f .lent .long ∙ LoneFrame.no-vectors s lone,
+          is ∙ LoneFrame.burst-back (mergeOf s reference noise tuning) samples (alignedVectors s reference samples) (f .lent .burst) lone,
+        )
 
     pub run-still : {vectors′ : List ℤ} {r : Alignment} → Ran s reference noise tuning samples vectors vectors′ output output′ work work′ r → r .refusal ≡ 0 →
         Alike s reference samples → Unmoved vectors vectors′ r × (output′ ≡ frameWords s samples reference)

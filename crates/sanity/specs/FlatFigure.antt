@@ -57,7 +57,7 @@ sampled : Sampled shape burst
 unfolding sampleLength
 sampled =
     record {
-      allowed = record { wide = sixty-four; high = sixty-four; several = lit≤ tt; few = lit≤ tt };
+      allowed = record { wide = sixty-four; high = sixty-four; some = lit≤ tt; few = lit≤ tt };
       long = length-append (plain 0) (plain 4) ∙ omega (arith, plain-long 0, plain-long 4);
     }
 

@@ -1,5 +1,6 @@
 pub mod Frames
 pub mod StrengthZero
+pub mod LoneFrame
 pub mod StillMerge
 pub mod StillAlign
 pub mod StillRun

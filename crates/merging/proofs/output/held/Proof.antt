@@ -42,10 +42,10 @@ module _ (c : tie.Then2) where
   product = mul-le-mul {n₁ = natAbs (s .args .z)} {m₁ = s .args .inverse} {n₂ = 32768} {m₂ = 524295} (omega (arith, size, s .pre .few)) (omega (arith, div-le-self (524287 + s .args .count) (s .args .count), s .pre .few, s .pre .inverse-is))
 
   quotient : natAbs (s .args .z) * s .args .inverse / 524288 ≡ natAbs (s .args .z) / s .args .count
-  quotient = ap (λ r. natAbs (s .args .z) * r / 524288) (s .pre .inverse-is) ∙ reciprocal-19 (natAbs (s .args .z)) (s .args .count) (s .pre .several) (s .pre .few) size
+  quotient = ap (λ r. natAbs (s .args .z) * r / 524288) (s .pre .inverse-is) ∙ reciprocal-19 (natAbs (s .args .z)) (s .args .count) (s .pre .some) (s .pre .few) size
 
   quotient-below : natAbs (s .args .z) / s .args .count < 4096
-  quotient-below = div-lt-iff-lt-mul {k = s .args .count} {x = natAbs (s .args .z)} {y = 4096} (omega (arith, s .pre .several)) .1 size
+  quotient-below = div-lt-iff-lt-mul {k = s .args .count} {x = natAbs (s .args .z)} {y = 4096} (omega (arith, s .pre .some)) .1 size
 
 cast-result : tie.Need-cast-result
 cast-result c =
@@ -61,12 +61,12 @@ cast-result-2 c = rw (toZ-ofZ (s c .fits .z)) (record { fits = omega (arith, quo
 returns-2 : tie.Need-returns-2
 returns-2 c =
     let a = s c in
-    rw (toZ-ofZ (a .fits .z)) (quotient c ∙ sym (held-between (a .args .count) (a .args .z) (omega (arith, a .pre .several)) (low c) (high c)))
+    rw (toZ-ofZ (a .fits .z)) (quotient c ∙ sym (held-between (a .args .count) (a .args .z) (omega (arith, a .pre .some)) (low c) (high c)))
 
 returns-3 : tie.Need-returns-3
 returns-3 c =
     let a = c .before .before in
-    sym (held-above (a .args .count) (a .args .z) (omega (arith, a .pre .several)) (rw (count-is a) at (test-ge (a .args .z) (pos 4096 *ℤ toZ w64 (a .args .count)) (a .fits .z) (limit-fits a) (c .if2 .left))))
+    sym (held-above (a .args .count) (a .args .z) (omega (arith, a .pre .some)) (rw (count-is a) at (test-ge (a .args .z) (pos 4096 *ℤ toZ w64 (a .args .count)) (a .fits .z) (limit-fits a) (c .if2 .left))))
 
 pub held-spec : {M : Type 1} → statement M
 held-spec = tie.close (tie.spec

@@ -18,7 +18,7 @@ corrected-requires c κs =
     let w = c .before .windowed in
     let e : toZ w64 (ofZ w64 (w .result)) ≡ w .result = search needs in
     let s = c .before .before .before .before .before .before in
-    (record { several = s .pre .divided .several; few = s .pre .divided .few; inverse-is = s .pre .divided .inverse-is }, rw e (w .ensures .1))
+    (record { some = s .pre .divided .some; few = s .pre .divided .few; inverse-is = s .pre .divided .inverse-is }, rw e (w .ensures .1))
 
 loop-again : tie.Need-loop-again Inv-loop μ-loop
 unfolding wordFrom

@@ -82,7 +82,7 @@ output-block-requires c κs =
         upper-weights = t .before .before .before .before .before .weights2 .ensures;
         row = omega arith;
       };
-      divided = record { several = r .sampled .allowed .several; few = r .sampled .allowed .few; inverse-is = refl };
+      divided = record { some = r .sampled .allowed .some; few = r .sampled .allowed .few; inverse-is = refl };
       samples-room = omega (arith, room s, long s, r .planar, taken);
       output-room = omega (arith, room s, long s, r .planar, taken, t .before .loop .inv .same);
     }
