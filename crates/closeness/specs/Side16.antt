@@ -32,7 +32,7 @@ fitting16 =
       twiddle-small = twiddle-small;
     }
 
--- one tile: P/256 lies within 0.1345 of a sample step of p
+-- one tile: P/256 lies within 0.1346 of a sample step of p
 pub tile16 : (noise : ℕ) (d : ℕ → ℕ → ℤ) (y x : ℕ) → Within 295853763328 2199023255552 (frac (correctionAt side16 noise d y x) 256 (lit< tt)) (exactCorrectionAt side16 noise d y x)
 unfolding side16
 tile16 = tile-within fitting16

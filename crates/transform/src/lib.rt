@@ -1,5 +1,5 @@
-// The two-way transform, the Wiener step and the inverse of document 01, on tiles lent by the caller. Differences are real, so each line is held in halfcomplex
-// form, and half the bins stand for all.
+// The two-way transform, the Wiener step and the inverse of document 01, on tiles by value; P is added to a lent sum. Differences are real, so each line is held
+// in halfcomplex form, and half the bins stand for all.
 mod bins;
 mod columns;
 mod columns_back;
