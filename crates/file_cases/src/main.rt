@@ -13,6 +13,7 @@ fn reading_number(file: &[u8]) -> u64
     answer.refusal
 }
 
+// One line: the name, what the file check answers, and what reading answers.
 fn print_case(name: &[u8], file: &[u8]) {
     io::write_all(STDOUT_FILENO, name);
     io::write_all(STDOUT_FILENO, b" ");

@@ -11,6 +11,7 @@ use printing::pieces::put_byte;
 use printing::pieces::put_bytes;
 use printing::pieces::put_number;
 
+// Both sizes are allowed: refusal 1 would not stand.
 pub fn sizes_allowed(width: usize, height: usize) -> bool
     ensures { λ r. ⌜ r ≡ sizesAllowed width height ⌝ }
 {
@@ -20,6 +21,7 @@ pub fn sizes_allowed(width: usize, height: usize) -> bool
     size_allowed(height)
 }
 
+// The bytes of the header: ten beside the digits.
 pub fn header_length(width: usize, height: usize) -> usize
     requires { ⌜ (width ≤ 9999) × (height ≤ 9999) ⌝ }
     ensures { λ r. ⌜ (r ≡ length (headerOf width height)) × (r ≤ 18) ⌝ }
@@ -27,6 +29,7 @@ pub fn header_length(width: usize, height: usize) -> usize
     10 + digits(width) + digits(height)
 }
 
+// The bytes of the file: the header, and two for each sample.
 pub fn file_length(width: usize, height: usize) -> usize
     requires { ⌜ Sized width height ⌝ }
     ensures { λ r. ⌜ (r ≡ fileLength width height) × (r ≤ 33554450) ⌝ }

@@ -18,6 +18,7 @@ use refusals::OUTPUT_LENGTH;
 use refusals::PGM_FORM;
 use refusals::first;
 
+// The bytes do not start with the text.
 fn differs(text: &[u8], bytes: &[u8]) -> bool
     requires { ⌜ length (now text) ≤ length (now bytes) ⌝ }
     ensures { λ r. ⌜ r ≡ differs (now (text .entry)) (now (bytes .entry)) ⌝ }
@@ -68,6 +69,7 @@ fn read_refusal(width: usize, height: usize, bytes: &[u8], room: usize) -> u64
     first(&[lent, above])
 }
 
+// A refusal, with 0 for width and height.
 fn refused(number: u64) -> PgmRead
     ensures { λ r. ⌜ r ≡ refusedAnswer number ⌝ }
 {
