@@ -1,14 +1,22 @@
 -- Try a burst of one frame: it comes back unchanged, whatever the noise and the strength are.
-use Rattle.algebra.specs.Prelude.{_≡_, sym, ap, _∙_, List, ℕ, _-_, _<_, _≤_, arith, ℤ, pos}
-use native.Mathlib.Nat.{zero-mul}
+use Rattle.algebra.specs.Prelude.{_≡_, sym, ap, _∙_, List, ℕ, _+_, _-_, _*_, _<_, _≤_, arith, ℤ, pos}
+use native.Mathlib.Nat.{zero-mul, mul-le-mul-right}
+use Rattle.algebra.specs.Order.{zarith}
+use Rattle.algebra.specs.Clamp.{clampZ}
+use Rattle.algebra.specs.Fraction.{whole, _+F_, _-F_, over, sumF, held, Within}
+use Rattle.algebra.specs.FractionLaws.{within-same}
+use Rattle.algebra.specs.ClampLaws.{clamp-same}
 use Rattle.geometry.specs.declared.Shape.{Shape}
 use Rattle.geometry.specs.Shape.{vectorLength}
 use Rattle.recipe.specs.declared.Merge.{Merge}
 use Rattle.recipe.specs.Scene.{Scene, sceneOf}
 use Rattle.recipe.specs.Merged.{outputAt, merged}
+use Rattle.recipe.specs.Side.{Side}
+use Rattle.recipe.specs.Exact.{exactSample}
+use Rattle.recipe.specs.ExactMerge.{planeExact, exactAt}
 use Rattle.sanity.specs.Frames.{frameWords, Burst, Alike}
 use Rattle.sanity.specs.FrameLaws.{frame-words}
-use Rattle.sanity.specs.MergeLaws.{Uncorrected, output-is, merged-is}
+use Rattle.sanity.specs.MergeLaws.{Uncorrected, plane-place, output-is, merged-is}
 
 module _ (s : Scene) (lone : s .others ≡ 0) where
   -- there is nothing to correct by
@@ -38,3 +46,20 @@ alone s reference samples lone below =
 pub no-vectors : (s : Shape) → s .count ≡ 1 → vectorLength s ≡ 0
 unfolding vectorLength
 no-vectors s lone = let none : s .count - 1 ≡ 0 = omega arith in rw none (zero-mul _)
+
+-- The exact merge of a lone frame is that frame too: the distance is 0
+module _ (n : Side) (a b t : ℕ) (noise : ℕ → ℕ) (d : ℕ → ℕ → ℕ → ℕ → ℤ) (most : t ≤ 4095) where
+  exact-lone : Within 0 1 (whole (pos t)) (exactSample n a b 0 noise d (pos t))
+  unfolding exactSample sumF _+F_ _-F_ over whole held
+  exact-lone =
+      let m = n .weight in
+      let le : t * m ≤ 4095 * m = mul-le-mul-right m most in
+      let same : clampZ (pos 0) (pos (4095 * (1 * (1 * (m * 1))))) (pos (t * (1 * (m * 1)) + 0)) ≡ pos (t * (1 * (m * 1)) + 0) = clamp-same _ _ _ (omega zarith) (omega (zarith, le)) in
+      within-same 1 _ _ (rw same (ap pos (omega arith)))
+
+-- so the merged sample is the exact one
+pub lone-near : (s : Scene) → s .others ≡ 0 → (row column : ℕ) → s .reference row column ≤ 4095 → Within 0 1 (whole (outputAt s row column)) (exactAt s row column)
+unfolding exactAt planeExact
+lone-near s lone row column most =
+    let place = plane-place s row column in
+    rw (sample-back s lone row column most, lone, place) (exact-lone (s .side) _ _ (s .reference row column) _ _ most)

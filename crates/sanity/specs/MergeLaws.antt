@@ -28,7 +28,7 @@ module _ (s : Scene) where
     pub none : (t k i j : ℕ) → k < s .others →
         correctionAt (s .side) (noiseOver s (row % 2) (column % 2) (row / 2) (column / 2) t) (differenceOver s (row % 2) (column % 2) (row / 2) (column / 2) t k) i j ≡ pos 0
 
-  plane-place : (row column : ℕ) → planeOf (s .reference) (row % 2) (column % 2) (row / 2) (column / 2) ≡ s .reference row column
+  pub plane-place : (row column : ℕ) → planeOf (s .reference) (row % 2) (column % 2) (row / 2) (column / 2) ≡ s .reference row column
   unfolding planeOf
   plane-place row column = ap₂ (s .reference) (omega arith) (omega arith)
 
