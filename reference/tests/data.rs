@@ -51,6 +51,15 @@ fn vectors_outside_are_refused() {
     }
 }
 
+/// Why run has no refusal 12.
+#[test]
+fn found_vectors_stay_within_reach() {
+    for mut call in of_size(64, 64, 0).chain(of_size(128, 64, 1)) {
+        assert_eq!(call.run().number, 0);
+        assert!(call.vectors.iter().all(|part| part.abs() <= 172));
+    }
+}
+
 #[test]
 fn moving_files_are_as_expected() {
     let cases = cases(1);
