@@ -1,5 +1,5 @@
 //! Fixed lists of library calls: every frame count and reference, every kind of picture, noise and
-//! lent vectors, from the smallest frames to 1024 by 1024 and 64 by 4096.
+//! lent vectors, from the smallest frames to 1024 by 1024 and 64 by 4096, and reads far outside.
 
 use crate::burst::Burst;
 use crate::calls::Call;
@@ -18,6 +18,7 @@ pub fn calls() -> impl Iterator<Item = Call> {
         .flat_map(|(round, (width, height))| of_size(width, height, round))
         .chain(in_turn(64, 4096, 0, tall.collect()))
         .chain(in_turn(1024, 1024, 0, vec![[2, 0], [2, 1]]))
+        .chain(mirrored_reads())
         .chain(refused_vectors())
 }
 
@@ -89,6 +90,28 @@ fn denoising(turn: usize) -> Denoising {
         _ => (Noise::Iso(3200, base), 77),
     };
     Denoising { noise, strength }
+}
+
+/// Vectors around the half periods of 32 wide planes, at which the direction of reading turns.
+fn mirrored_reads() -> impl Iterator<Item = Call> {
+    let mut random = Random::new(3);
+    let sizes = [(64, 64), (64, 128), (128, 64), (128, 128)];
+    (2..).zip(sizes).map(move |(turn, (width, height))| {
+        let shape = Shape {
+            width,
+            height,
+            count: 8,
+        };
+        let mut call = call(turn, shape, 7, &mut random);
+        call.burst.samples = Picture::Noise.samples(shape, &mut random);
+        call.denoising = denoising(1);
+        for part in &mut call.vectors {
+            let turns = [0, 32, 64, 96, 128, 160];
+            let place = random.pick(&turns) + random.below(3) as i32 - 1;
+            *part = random.pick(&[-172, 172, -place, place]);
+        }
+        call
+    })
 }
 
 /// One part of the lent vectors just outside what merge takes, or far outside, at either end.

@@ -1,4 +1,4 @@
-//! Images that repeat their edge: planes, pyramid levels and what stands between two halvings.
+//! Images mirrored at their edges: planes, pyramid levels and what stands between two halvings.
 
 pub struct Image {
     pub width: i64,
@@ -38,10 +38,10 @@ impl Image {
         }
     }
 
-    /// "Reading outside ... takes the nearest edge sample."
+    /// "Outside reads are to mirror."
     pub fn at(&self, row: i64, column: i64) -> i64 {
-        let row = row.clamp(0, self.height - 1);
-        let column = column.clamp(0, self.width - 1);
+        let row = mirrored(row, self.height);
+        let column = mirrored(column, self.width);
         self.pixels[(row * self.width + column) as usize].into()
     }
 
@@ -54,9 +54,9 @@ impl Image {
     pub fn square(&self, row: i64, column: i64, side: i64) -> Square {
         let mut pixels = Vec::with_capacity((side * side) as usize);
         for row in row..row + side {
-            let row = row.clamp(0, self.height - 1);
+            let row = mirrored(row, self.height);
             let line = &self.pixels[(row * self.width) as usize..][..self.width as usize];
-            let places = (column..column + side).map(|column| column.clamp(0, self.width - 1));
+            let places = (column..column + side).map(|column| mirrored(column, self.width));
             pixels.extend(places.map(|column| line[column as usize]));
         }
         let side = side as usize;
@@ -67,5 +67,42 @@ impl Image {
     pub fn into_samples(self) -> Vec<u16> {
         let sample = |pixel: i32| pixel.try_into().expect("a sample has 16 bits");
         self.pixels.into_iter().map(sample).collect()
+    }
+}
+
+/// "−1 reads 0, −2 reads 1, and past the far end likewise, repeating with period twice the size."
+fn mirrored(place: i64, size: i64) -> i64 {
+    let place = place.rem_euclid(2 * size);
+    place.min(2 * size - 1 - place)
+}
+
+#[cfg(test)]
+mod tests {
+    use super::*;
+
+    #[test]
+    fn outside_reads_mirror() {
+        let places = [-8, -7, -6, -4, -3, -2, -1, 0, 2, 3, 4, 5, 6, 7, 8, 9];
+        let read = [1, 0, 0, 2, 2, 1, 0, 0, 2, 2, 1, 0, 0, 1, 2, 2];
+        assert_eq!(places.map(|place| mirrored(place, 3)), read);
+        assert_eq!(
+            [-172, -2, -1, 0, 1, 2, 172].map(|place| mirrored(place, 1)),
+            [0; 7]
+        );
+    }
+
+    #[test]
+    fn tiles_and_squares_mirror_both_ways() {
+        let image = Image::from_fn(4, 2, |row, column| 10 * row + column);
+        assert_eq!(image.at(-2, 5), 12);
+        assert_eq!(image.tile(-2, 2)[0][..5], [12, 13, 13, 12, 11]);
+        let square = image.square(1, -3, 4);
+        let rows = [
+            [12, 11, 10, 10],
+            [12, 11, 10, 10],
+            [2, 1, 0, 0],
+            [2, 1, 0, 0],
+        ];
+        assert!((0..4).all(|row| square.row(row) == rows[row]));
     }
 }

@@ -37,7 +37,7 @@ mod tests {
     use super::*;
 
     #[test]
-    fn halving_repeats_edges_and_rounds() {
+    fn halving_mirrors_edges_and_rounds() {
         let corner = Image::from_fn(
             4,
             2,

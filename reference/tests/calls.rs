@@ -94,21 +94,27 @@ fn untested_faults_are_accepted() {
     assert_eq!((call.vectors, call.output), (vec![-172; 50], vec![2; 4096]));
 }
 
-/// A 64 by 64 frame with a bright hill around a row and column.
+/// A 256 by 256 frame with a bright hill around a row and column, steeper above and to its left so that no mirror
+/// image of it fits.
 fn hill(top: i32, left: i32) -> Vec<u16> {
+    let drop = |distance: i32| distance * distance / if distance < 0 { 2 } else { 8 };
     let sample = |index: i32| {
-        let (down, right) = (index / 64 - top, index % 64 - left);
-        (4000 - 3 * down * down - 4 * right * right).max(0) as u16
+        let (down, right) = (index / 256 - top, index % 256 - left);
+        (4000 - drop(down) - drop(right)).max(0) as u16
     };
-    (0..64 * 64).map(sample).collect()
+    (0..256 * 256).map(sample).collect()
 }
 
 #[test]
 fn a_moved_frame_is_found() {
     let mut call = good();
-    call.burst.samples = [hill(30, 34), hill(36, 24)].concat();
+    call.burst.shape.width = 256;
+    call.burst.shape.height = 256;
+    call.burst.samples = [hill(120, 124), hill(126, 114)].concat();
+    call.vectors = vec![0; 2 * 17 * 17];
+    call.work_length = 2 * 256 * 256;
     assert_eq!(call.align().number, 0);
     // Six samples down and ten left are three and five on level 0.
-    let centre = 2 * (2 * 5 + 2);
+    let centre = 2 * (17 * 8 + 8);
     assert_eq!(call.vectors[centre..centre + 2], [3, -5]);
 }

@@ -112,6 +112,30 @@ fn programs_stop() {
     assert_eq!(motion(&wide.as_bytes()[..9000]), "refused 15\n");
 }
 
+/// A plane of 32 read 32 places off is flipped, read 64 places off it is itself.
+#[test]
+fn mirrored_frames_agree() {
+    let sample = |index: usize| (index * index * 7 % 4093) as u16;
+    let flip = |place: usize| 2 * (31 - place / 2) + place % 2;
+    let flipped = |index: usize| sample(64 * flip(index / 64) + flip(index % 64));
+    let frame = |sample: &dyn Fn(usize) -> u16| (0..4096).map(sample).collect::<Vec<_>>();
+    for (half_periods, other) in [
+        (0, frame(&sample)),
+        (1, frame(&flipped)),
+        (-2, frame(&sample)),
+        (3, frame(&flipped)),
+        (-5, frame(&flipped)),
+    ] {
+        let mut call = lone_sample::call();
+        call.burst.shape.count = 2;
+        call.burst.reference = 1;
+        call.burst.samples = [other, frame(&sample)].concat();
+        call.vectors = vec![32 * half_periods; 50];
+        assert_eq!(call.merge().number, 0);
+        assert_eq!(call.output, frame(&sample), "{half_periods}");
+    }
+}
+
 #[test]
 fn exact_merge_of_a_lone_sample() {
     let mut call = lone_sample::call();
