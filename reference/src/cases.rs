@@ -19,6 +19,7 @@ const KINDS: &[Kind] = &[
     ("malformed-row", |random| Fault::Malformed(row(random))),
     ("size", |_| Fault::Header(1)),
     ("count", |_| Fault::Header(2)),
+    ("single", |_| Fault::Single),
     ("reference", |_| Fault::Header(3)),
     ("noise", |_| Fault::Header(9)),
     ("strength", |_| Fault::Header(10)),
@@ -45,7 +46,7 @@ pub fn cases(seed: u64) -> Vec<Case> {
     }
     let case = |(name, mut faults): (String, Vec<Fault>)| Case {
         name,
-        bytes: damaged(Draft::good(&mut random), &mut faults, &mut random),
+        bytes: damaged(Draft::good(FRAMES, &mut random), &mut faults, &mut random),
         number: faults.first().map_or(0, Fault::number),
     };
     named_faults.into_iter().map(case).collect()
@@ -54,7 +55,8 @@ pub fn cases(seed: u64) -> Vec<Case> {
 /// Files with up to two faults, half of them with a few stray bytes as well.
 pub fn damaged_files(count: usize, seed: u64) -> impl Iterator<Item = Vec<u8>> {
     let mut random = Random::new(seed);
-    let good: Vec<Draft> = (0..16).map(|_| Draft::good(&mut random)).collect();
+    let mut good = |index| Draft::good(1 + index % FRAMES, &mut random);
+    let good: Vec<Draft> = (0..16).map(&mut good).collect();
     (0..count).map(move |_| {
         let draft = good[random.below(good.len())].clone();
         let mut faults = (0..random.below(3))
@@ -111,19 +113,19 @@ struct Draft {
 }
 
 impl Draft {
-    fn good(random: &mut Random) -> Draft {
+    fn good(frames: usize, random: &mut Random) -> Draft {
         let values = [
             SIDE,
             SIDE,
-            FRAMES,
-            random.below(FRAMES),
+            frames,
+            random.below(frames),
             random.below(65537),
             random.below(4194305),
             random.below(1025),
         ];
         let names = String::from_utf8_lossy(NAMES).into_owned();
         let mut lines = vec![names, spelled(&values, random)];
-        lines.resize_with(LINES, || {
+        lines.resize_with(2 + frames * SIDE, || {
             let row: Vec<usize> = (0..SIDE).map(|_| random.pick(&[0, 4, 9, 4095])).collect();
             spelled(&row, random)
         });
@@ -165,6 +167,8 @@ enum Fault {
     Malformed(usize),
     /// A value of line 2 meets this refusal.
     Header(u64),
+    /// Line 2 has a count of 1, so that bytes follow the only frame.
+    Single,
     /// A sample on this line is above 4095.
     Sample(usize),
     /// The file ends before this line's LF.
@@ -180,7 +184,7 @@ impl Fault {
             Fault::Malformed(_) => 14,
             Fault::Header(number) => *number,
             Fault::Sample(_) => 11,
-            Fault::Cut(_) | Fault::Trailing => 15,
+            Fault::Single | Fault::Cut(_) | Fault::Trailing => 15,
         }
     }
 
@@ -192,19 +196,29 @@ impl Fault {
             Fault::Malformed(line) => (line, 1),
             Fault::Header(number) => (1, 1 + number),
             Fault::Sample(line) => (line, 2),
+            Fault::Single => (2 + SIDE, 0),
             Fault::Trailing => (LINES, 0),
         }
     }
 
+    /// In a file of one frame the last line stands for those that it has not.
     fn apply(&self, draft: &mut Draft, random: &mut Random) {
+        let last = draft.lines.len() - 1;
         match *self {
             Fault::Names => change_names(&mut draft.lines[0], random),
-            Fault::Malformed(line) => draft.edit_words(line, |words| malform(words, random)),
+            Fault::Malformed(line) => {
+                draft.edit_words(line.min(last), |words| malform(words, random))
+            }
             Fault::Header(number) => {
                 draft.edit_words(1, |words| change_value(words, number, random))
             }
-            Fault::Sample(line) => draft.edit_words(line, |words| change_sample(words, random)),
-            Fault::Cut(line) => cut(draft, line, random),
+            Fault::Single => draft.edit_words(1, |words| {
+                words.splice(2..4, ["1".to_string(), "0".to_string()]);
+            }),
+            Fault::Sample(line) => {
+                draft.edit_words(line.min(last), |words| change_sample(words, random))
+            }
+            Fault::Cut(line) => cut(draft, line.min(last), random),
             Fault::Trailing => {
                 let row = "4 ".repeat(SIDE - 1) + "4\n";
                 draft.tail = random.pick(&["\n", " ", "4", "\0", &row]).into();
@@ -227,8 +241,10 @@ fn change_names(names: &mut String, random: &mut Random) {
 }
 
 fn malform(words: &mut Vec<String>, random: &mut Random) {
+    let Some(last) = words.len().checked_sub(1) else {
+        return;
+    };
     let index = random.below(words.len());
-    let last = words.len() - 1;
     match random.below(10) {
         0 => words[index] = "0000000004".to_string(),
         1 => words[index] = random.pick(&["-2", "+2", "2.0", "0x2", "２"]).to_string(),
@@ -250,7 +266,7 @@ fn change_value(words: &mut [String], number: u64, random: &mut Random) {
             random.below(2),
             &["0", "32", "63", "96", "4160", "999999999"],
         ),
-        2 => (2, &["0", "1", "9", "256", "999999999"]),
+        2 => (2, &["0", "9", "256", "999999999"]),
         3 => (3, &["2", "3", "8", "999999999"]),
         9 => random.pick(&[(4, &["65537"][..]), (5, &["4194305"][..])]),
         _ => (6, &["1025", "65536", "999999999"]),
@@ -260,7 +276,9 @@ fn change_value(words: &mut [String], number: u64, random: &mut Random) {
 
 fn change_sample(words: &mut [String], random: &mut Random) {
     let values = ["4096", "4097", "65535", "65536", "69632", "999999999"];
-    words[random.below(SIDE)] = random.pick(&values).to_string();
+    if let Some(word) = words.get_mut(random.below(SIDE)) {
+        *word = random.pick(&values).to_string();
+    }
 }
 
 /// Ends the file on this line: at its start, before its LF, or somewhere between.

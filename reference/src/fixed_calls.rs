@@ -13,11 +13,13 @@ use crate::shape::Shape;
 pub fn calls() -> impl Iterator<Item = Call> {
     let small = [(64, 64), (128, 64), (64, 192), (256, 256)];
     let small = (0..).zip(small);
-    let tall = [[8, 5]].into_iter().chain((0..7).map(|k| [2, k % 2]));
+    let tall = [[8, 5], [1, 0]]
+        .into_iter()
+        .chain((0..7).map(|k| [2, k % 2]));
     small
         .flat_map(|(round, (width, height))| of_size(width, height, round))
         .chain(in_turn(64, 4096, 0, tall.collect()))
-        .chain(in_turn(1024, 1024, 0, vec![[2, 0], [2, 1]]))
+        .chain(in_turn(1024, 1024, 0, vec![[2, 0], [2, 1], [1, 0]]))
         .chain(mirrored_reads())
         .chain(refused_vectors())
 }
@@ -50,7 +52,7 @@ fn in_turn(
 /// Every count with every reference.
 fn all_frames() -> Vec<[u64; 2]> {
     let references = |count| (0..count).map(move |reference| [count, reference]);
-    (2..=8).flat_map(references).collect()
+    (1..=8).flat_map(references).collect()
 }
 
 /// The call whose turn it is: eight pictures, five noises and three kinds of lent vectors.

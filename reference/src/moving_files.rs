@@ -22,7 +22,7 @@ const LARGEST: usize = 65536;
 pub fn cases(seed: u64) -> Vec<Case> {
     let mut random = Random::new(seed);
     let mut cases = Vec::new();
-    for count in 2..=7 {
+    for count in 1..=7 {
         for reference in 0..count {
             for picture in Picture::ALL {
                 let noise = NOISES[cases.len() % 5];

@@ -14,7 +14,7 @@ pub fn calls(side: u64, count: usize, seed: u64) -> impl Iterator<Item = Call> {
         let mut call = call(side, &mut random);
         let faults = random.pick(&[0, 0, 0, 0, 1, 2]);
         for _ in 0..faults {
-            add_fault(&mut call, 1 + random.below(12) as u64);
+            add_fault(&mut call, 1 + random.below(12) as u64, &mut random);
         }
         call
     })
@@ -23,7 +23,7 @@ pub fn calls(side: u64, count: usize, seed: u64) -> impl Iterator<Item = Call> {
 fn call(side: u64, random: &mut Random) -> Call {
     let mut length = || 64 * (1 + random.below(side as usize / 64) as u64);
     let (width, height) = (length(), length());
-    let count = 2 + random.below(7) as u64;
+    let count = 1 + random.below(8) as u64;
     let shape = Shape {
         width,
         height,
@@ -74,22 +74,57 @@ fn sparse(length: usize, random: &mut Random) -> Vec<u16> {
     samples
 }
 
-/// Makes the condition of one of the refusals 1 to 12 hold.
-pub fn add_fault(call: &mut Call, number: u64) {
+/// Makes the condition of one of the refusals 1 to 12 hold; 12 wants a buffer of vectors that is not empty.
+pub fn add_fault(call: &mut Call, number: u64, random: &mut Random) {
+    let Shape {
+        width,
+        height,
+        count,
+    } = &mut call.burst.shape;
     match number {
-        1 => call.burst.shape.width = 96,
-        2 => call.burst.shape.count = 9,
-        3 => call.burst.reference = 9,
-        4 => drop(call.burst.samples.pop()),
-        5 => drop(call.vectors.pop()),
-        6 => call.output.push(0),
-        7 => call.work_length = 0,
-        8 => call.denoising.noise = curve(-1.0),
+        1 => *[width, height][random.below(2)] = random.pick(&[0, 63, 96, 4160, u64::MAX]),
+        2 => *count = random.pick(&[0, 9, u64::MAX]),
+        3 => call.burst.reference = random.pick(&[*count, 9, u64::MAX]),
+        4 => misfit(&mut call.burst.samples, random),
+        5 => misfit(&mut call.vectors, random),
+        6 => misfit(&mut call.output, random),
+        7 => call.work_length = random.pick(&[0, 1, call.work_length + 1]),
+        8 => call.denoising.noise = negative_or_not_finite(random),
         9 => call.denoising.noise = curve(65.0),
-        10 => call.denoising.strength = 1025,
-        11 => call.burst.samples[8000] = 4096,
-        _ => call.vectors[48] = 173,
+        10 => call.denoising.strength = random.pick(&[1025, u64::MAX]),
+        11 => spoil(&mut call.burst.samples, &[4096, 65535], random),
+        _ => spoil(&mut call.vectors, &[173, -173, i32::MIN], random),
     }
+}
+
+/// Makes a buffer one shorter or longer, or empties it.
+fn misfit<T: Default>(buffer: &mut Vec<T>, random: &mut Random) {
+    match (random.below(3), buffer.len()) {
+        (0, 1..) => drop(buffer.pop()),
+        (1, 1..) => buffer.clear(),
+        _ => buffer.push(T::default()),
+    }
+}
+
+/// Sets any one element.
+fn spoil<T: Copy>(buffer: &mut [T], values: &[T], random: &mut Random) {
+    if !buffer.is_empty() {
+        buffer[random.below(buffer.len())] = random.pick(values);
+    }
+}
+
+fn negative_or_not_finite(random: &mut Random) -> Noise {
+    let zero = Curve {
+        shot: 0.0,
+        read: 0.0,
+    };
+    random.pick(&[
+        curve(-1.0),
+        curve(f64::NAN),
+        curve(f64::INFINITY),
+        Noise::Iso(24, zero),
+        Noise::Iso(409601, zero),
+    ])
 }
 
 fn curve(shot: f64) -> Noise {

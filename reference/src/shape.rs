@@ -16,7 +16,7 @@ impl Shape {
             side_allowed(self.width) && side_allowed(self.height),
             Refusal::Size,
         )?;
-        require((2..=8).contains(&self.count), Refusal::Count)
+        require((1..=8).contains(&self.count), Refusal::Count)
     }
 
     /// Refusal 3: "reference ≥ N".
@@ -29,7 +29,7 @@ impl Shape {
         self.count * self.output_length()
     }
 
-    /// "vectors (N−1)·2·(W/16+1)·(H/16+1)".
+    /// "vectors (N−1)·2·(W/16+1)·(H/16+1)", 0 for a lone frame.
     pub fn vectors_length(&self) -> u64 {
         (self.count - 1) * 2 * self.tiles()
     }

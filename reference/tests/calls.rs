@@ -3,6 +3,7 @@
 use reference::burst::Burst;
 use reference::calls::{Answer, Call};
 use reference::noise::{Curve, Denoising, Noise};
+use reference::random::Random;
 use reference::scenes::add_fault;
 use reference::shape::Shape;
 
@@ -33,7 +34,7 @@ fn good() -> Call {
 }
 
 fn with_fault(mut call: Call, number: u64) -> Call {
-    add_fault(&mut call, number);
+    add_fault(&mut call, number, &mut Random::new(number));
     call
 }
 
@@ -117,4 +118,24 @@ fn a_moved_frame_is_found() {
     // Six samples down and ten left are three and five on level 0.
     let centre = 2 * (17 * 8 + 8);
     assert_eq!(call.vectors[centre..centre + 2], [3, -5]);
+}
+
+/// "With N = 1 the answer is that frame unchanged, the vector buffer has length 0 and the seven residual sums are 0."
+#[test]
+fn a_lone_frame_comes_out_unchanged() {
+    let mut call = good();
+    call.burst.shape.count = 1;
+    call.burst.samples = (0..4096).collect();
+    call.vectors.clear();
+    let accepted = Answer {
+        number: 0,
+        residuals: [0; 7],
+    };
+    for perform in [Call::align, Call::merge, Call::run] {
+        assert_eq!(perform(&mut call), accepted);
+    }
+    assert_eq!((call.vectors.len(), &call.output), (0, &call.burst.samples));
+    for fault in [2, 3, 4, 5, 6, 7, 11] {
+        assert_eq!(with_fault(call.clone(), fault).run().number, fault);
+    }
 }

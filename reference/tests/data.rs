@@ -19,11 +19,11 @@ fn fixed_calls_have_every_count_and_reference() {
     }
     assert_eq!(greatest, 4095);
     for (width, height) in [(64, 64), (128, 64), (64, 192), (256, 256)] {
-        for count in 2..=8 {
+        for count in 1..=8 {
             assert!((0..count).all(|reference| seen.contains(&(width, height, count, reference))));
         }
     }
-    assert_eq!(seen.len(), 4 * 35 + 3 + 2 + 2);
+    assert_eq!(seen.len(), 4 * 36 + 4 + 3 + 2);
 }
 
 /// The first call of each round has another picture, and in five rounds every noise.
@@ -35,7 +35,7 @@ fn rounds_turn_pictures_and_noises() {
         let call = of_size(64, 64, round).next().unwrap();
         strengths.insert(call.denoising.strength);
         brightest.insert(call.burst.samples.iter().copied().max().unwrap());
-        assert_eq!(of_size(64, 64, round).count(), 35);
+        assert_eq!(of_size(64, 64, round).count(), 36);
     }
     assert_eq!(strengths, BTreeSet::from([0, 8, 77, 1024]));
     assert!(brightest.contains(&0) && brightest.contains(&4095));
@@ -43,7 +43,7 @@ fn rounds_turn_pictures_and_noises() {
 
 #[test]
 fn vectors_outside_are_refused() {
-    let last = calls().collect::<Vec<_>>().split_off(154);
+    let last = calls().collect::<Vec<_>>().split_off(160);
     assert_eq!(last.len(), 8);
     for mut call in last {
         assert_eq!(call.merge().number, 12);
@@ -66,7 +66,7 @@ fn moving_files_are_as_expected() {
     for case in &cases {
         assert_eq!(check(&case.bytes), case.number, "{}", case.name);
     }
-    let (good, limits) = cases.split_at(216);
+    let (good, limits) = cases.split_at(224);
     assert!(good
         .iter()
         .all(|case| case.number == 0 && case.bytes.len() <= 65536));

@@ -41,6 +41,18 @@ fn accepted_forms() {
 }
 
 #[test]
+fn a_lone_frame() {
+    let mut lines = good_lines();
+    lines[1] = "64 64 1 0 0 4194304 1024".to_string();
+    assert_eq!(check(&bytes(&lines)), 15);
+    lines.truncate(2 + 64);
+    let file = read(&bytes(&lines), 4096).unwrap();
+    assert_eq!(file.burst.samples, [4; 4096]);
+    assert_eq!(read(&bytes(&lines), 8192), Err(Refusal::SamplesLength));
+    assert_eq!(check(&bytes(&lines[..65])), 15);
+}
+
+#[test]
 fn reading_hands_over_the_samples() {
     let mut lines = good_lines();
     lines[2] = row("007");
@@ -112,7 +124,8 @@ fn header_refusals() {
         ("96 64 2 0 0 0 0", 1),
         ("64 0 2 0 0 0 0", 1),
         ("64 4160 2 0 0 0 0", 1),
-        ("64 64 1 0 0 0 0", 2),
+        ("64 64 0 0 0 0 0", 2),
+        ("64 64 1 1 0 0 0", 3),
         ("64 64 9 0 0 0 0", 2),
         ("64 64 2 2 0 0 0", 3),
         ("64 64 2 0 65537 0 0", 9),

@@ -96,6 +96,16 @@ fn flat_example() {
 }
 
 #[test]
+fn a_lone_frame() {
+    let text = String::from_utf8(flat_file("1024")).unwrap();
+    let lines: Vec<&str> = text.lines().collect();
+    let rows = lines[2 + 64..].join("\n");
+    let file = [lines[0], "64 64 1 0 65536 4194304 1024", &rows, ""].join("\n");
+    assert_eq!(motion(file.as_bytes()), "frame tiles still far residual\n");
+    assert_eq!(stack(file.as_bytes()), flat_stack("4"));
+}
+
+#[test]
 fn programs_stop() {
     let mut file = flat_file("1025");
     assert_eq!(motion(&file), "refused 10\n");

@@ -74,6 +74,11 @@ fn station_lengths() {
     assert_eq!(station_length(64, 64, 2, 7), 8192);
     assert_eq!(station_length(4096, 64, 8, 5), 7 * 2 * 257 * 5);
     assert_eq!(station_length(4096, 4096, 8, 4), 8 << 24);
+    // A lone frame has no vectors; its other lengths hold.
+    assert_eq!(
+        [4, 5, 6, 7].map(|number| station_length(128, 64, 1, number)),
+        [8192, 0, 8192, 16384]
+    );
     for number in [0, 1, 2, 3, 8, 15, u64::MAX] {
         assert_eq!(station_length(64, 64, 2, number), 0);
     }
@@ -81,7 +86,7 @@ fn station_lengths() {
         (0, 64, 2),
         (96, 64, 2),
         (64, 4160, 2),
-        (64, 64, 1),
+        (64, 64, 0),
         (64, 64, 9),
         (64, 64, u64::MAX),
         (u64::MAX - 63, 64, 2),
