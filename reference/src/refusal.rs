@@ -1,6 +1,6 @@
 //! "Refused inputs": the numbered table.
 
-/// The rows of the table in the order of their numbers.
+/// The rows of the table and of the requests after it, by their numbers.
 #[derive(Clone, Copy, Debug, PartialEq, Eq)]
 pub enum Refusal {
     Size = 1,
@@ -18,6 +18,7 @@ pub enum Refusal {
     FirstLine = 13,
     ValueLine = 14,
     FileEnd = 15,
+    BlackLevel = 18,
 }
 
 impl Refusal {
