@@ -5,6 +5,7 @@ mod data;
 mod exact;
 mod files;
 mod lines;
+mod pgm;
 mod wire;
 
 use reference::calls::Call;
@@ -29,12 +30,16 @@ pub fn dispatch(arguments: &[String]) -> Outcome {
         ["align"] => calls::answer_each(Call::align),
         ["merge"] => calls::answer_each(Call::merge),
         ["run"] => calls::answer_each(Call::run),
+        ["write-pgm"] => pgm::answer_writings(),
+        ["read-pgm"] => pgm::answer_readings(),
         ["exact"] => exact::answer_each(),
         ["lone-sample"] => data::write_lone_sample(),
         ["cases", directory, seed] => data::write_files(directory, seed, cases),
         ["moving", directory, seed] => data::write_files(directory, seed, moving_files::cases),
         ["damaged", count, seed] => data::write_damaged(count, seed),
         ["calls", side, count, seed] => data::write_calls(side, count, seed),
+        ["pgm-frames", count, seed] => pgm::put_writings(count, seed),
+        ["pgm-files", count, seed] => pgm::put_readings(count, seed),
         ["fixed-calls"] => data::write_each(fixed_calls::calls()),
         ["fixed-calls", width, height, round] => {
             let calls = fixed_calls::of_size(width.parse()?, height.parse()?, round.parse()?);

@@ -17,6 +17,8 @@ pub mod lone_sample;
 pub mod merge;
 pub mod moving_files;
 pub mod noise;
+pub mod pgm;
+pub mod pgm_data;
 pub mod pictures;
 pub mod programs;
 pub mod pyramid;

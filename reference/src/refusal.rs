@@ -18,6 +18,8 @@ pub enum Refusal {
     FirstLine = 13,
     ValueLine = 14,
     FileEnd = 15,
+    BytesLength = 16,
+    Pgm = 17,
     BlackLevel = 18,
 }
 

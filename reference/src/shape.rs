@@ -12,10 +12,7 @@ pub struct Shape {
 impl Shape {
     /// Refusals 1 and 2.
     pub fn check(&self) -> Result<(), Refusal> {
-        require(
-            side_allowed(self.width) && side_allowed(self.height),
-            Refusal::Size,
-        )?;
+        require(size_allowed(self.width, self.height), Refusal::Size)?;
         require((1..=8).contains(&self.count), Refusal::Count)
     }
 
@@ -51,6 +48,7 @@ impl Shape {
 }
 
 /// "Width W and height H are multiples of 64 from 64 to 4096."
-fn side_allowed(side: u64) -> bool {
-    side.is_multiple_of(64) && (64..=4096).contains(&side)
+pub fn size_allowed(width: u64, height: u64) -> bool {
+    let allowed = |side: u64| side.is_multiple_of(64) && (64..=4096).contains(&side);
+    allowed(width) && allowed(height)
 }

@@ -64,6 +64,26 @@ fn files() {
 }
 
 #[test]
+fn pgm_files() {
+    let writing = [words(&[64, 64, 4096, 8206]), [[9, 1]; 4096].concat()].concat();
+    let file = [&b"P5\n64 64\n4095\n"[..], &[[1, 9]; 4096].concat()].concat();
+    let written = [words(&[0]), file.clone()].concat();
+    assert_eq!(reference(&["write-pgm"], &writing).stdout, written);
+    let reading = [words(&[4096, 8206]), file.clone()].concat();
+    let refused = [words(&[4095, 8206]), file].concat();
+    let read = [
+        words(&[0, 64, 64]),
+        [[9, 1]; 4096].concat(),
+        words(&[6, 0, 0]),
+    ]
+    .concat();
+    assert_eq!(
+        reference(&["read-pgm"], &[reading, refused].concat()).stdout,
+        read
+    );
+}
+
+#[test]
 fn calls() {
     let twice = [flat_call(), flat_call()].concat();
     let zero_vectors = vec![0; 4 * 50];

@@ -1,28 +1,24 @@
 //! The library calls over the binary protocol.
 
-use super::wire::{at_end, put_many, take_array, take_many, Word};
+use super::wire::{self, put_many, take_array, take_many, Word};
 use super::Outcome;
 use reference::burst::Burst;
 use reference::calls::{Answer, Call};
 use reference::noise::{Curve, Denoising, Noise};
 use reference::shape::Shape;
 use std::error::Error;
-use std::io::{stdin, stdout, BufReader, BufWriter, Read, Write};
+use std::io::{Read, Write};
 
 /// Answers every call on standard input.
 pub fn answer_each(perform: fn(&mut Call) -> Answer) -> Outcome {
-    let mut input = BufReader::new(stdin().lock());
-    let mut out = BufWriter::new(stdout().lock());
-    while !at_end(&mut input)? {
-        let mut call = take_call(&mut input)?;
+    wire::answer_each(|input, out| {
+        let mut call = take_call(input)?;
         let answer = perform(&mut call);
-        answer.number.put(&mut out)?;
-        put_many(&mut out, &answer.residuals)?;
-        put_many(&mut out, &call.vectors)?;
-        put_many(&mut out, &call.output)?;
-        out.flush()?;
-    }
-    Ok(())
+        answer.number.put(out)?;
+        put_many(out, &answer.residuals)?;
+        put_many(out, &call.vectors)?;
+        Ok(put_many(out, &call.output)?)
+    })
 }
 
 pub fn take_call(input: &mut impl Read) -> Result<Call, Box<dyn Error>> {

@@ -1,25 +1,21 @@
 //! The exact merge beside the recipe's word at chosen samples.
 
 use super::calls::take_call;
-use super::wire::{at_end, take_array, Word};
+use super::wire::{self, take_array, Word};
 use super::Outcome;
 use reference::calls::Call;
 use reference::exact;
 use reference::fraction::Fraction;
-use std::io::{stdin, stdout, BufReader, BufWriter, Read, Write};
+use std::io::{Read, Write};
 
 /// Answers every call of merge on standard input, each followed by the count of its places
 /// and their rows and columns.
 pub fn answer_each() -> Outcome {
-    let mut input = BufReader::new(stdin().lock());
-    let mut out = BufWriter::new(stdout().lock());
-    while !at_end(&mut input)? {
-        let call = take_call(&mut input)?;
-        let places = take_places(&mut input)?;
-        write_places(&mut out, call, &places)?;
-        out.flush()?;
-    }
-    Ok(())
+    wire::answer_each(|input, out| {
+        let call = take_call(input)?;
+        let places = take_places(input)?;
+        write_places(out, call, &places)
+    })
 }
 
 fn take_places(input: &mut impl Read) -> std::io::Result<Vec<[u64; 2]>> {

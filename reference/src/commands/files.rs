@@ -1,10 +1,10 @@
 //! Subcommands on burst files.
 
-use super::wire::{at_end, put_many, take_bytes, Word};
+use super::wire::{answer_each, put_many, take_array, take_bytes, Word};
 use super::Outcome;
 use reference::file::{self, BurstFile};
 use reference::refusal::number;
-use std::io::{stdin, stdout, BufReader, BufWriter, Read, Write};
+use std::io::{stdin, Read, Write};
 
 /// What a program prints for the file on standard input.
 pub fn print(program: fn(&[u8]) -> String) -> Outcome {
@@ -20,35 +20,23 @@ pub fn check() -> Outcome {
 
 /// One number per line for a sequence of files, each after its length as a u32.
 pub fn check_many() -> Outcome {
-    let mut input = BufReader::new(stdin().lock());
-    let mut out = BufWriter::new(stdout().lock());
-    while !at_end(&mut input)? {
-        let length = u32::take(&mut input)?;
-        let bytes = take_bytes(&mut input, u64::from(length))?;
-        writeln!(out, "{}", file::check(&bytes))?;
-    }
-    out.flush()?;
-    Ok(())
+    answer_each(|input, out| {
+        let length = u32::take(input)?;
+        let bytes = take_bytes(input, u64::from(length))?;
+        Ok(writeln!(out, "{}", file::check(&bytes))?)
+    })
 }
 
 /// A sequence of file readings: lent length and file length as u64, then the file.
 pub fn read() -> Outcome {
-    let mut input = BufReader::new(stdin().lock());
-    let mut out = BufWriter::new(stdout().lock());
-    while !at_end(&mut input)? {
-        let lent = u64::take(&mut input)?;
-        let length = u64::take(&mut input)?;
-        let bytes = take_bytes(&mut input, length)?;
-        let result = file::read(&bytes, lent);
-        number(&result).put(&mut out)?;
-        put_many(&mut out, &result.as_ref().map_or([0; 7], header_values))?;
-        put_many(
-            &mut out,
-            result.as_ref().map_or(&[], |file| &file.burst.samples),
-        )?;
-        out.flush()?;
-    }
-    Ok(())
+    answer_each(|input, out| {
+        let [lent, length] = take_array(input)?;
+        let result = file::read(&take_bytes(input, length)?, lent);
+        number(&result).put(out)?;
+        put_many(out, &result.as_ref().map_or([0; 7], header_values))?;
+        let samples = result.map_or(vec![], |file| file.burst.samples);
+        Ok(put_many(out, &samples)?)
+    })
 }
 
 /// The seven values of the header line in its order.

@@ -1,6 +1,22 @@
 //! Little-endian words on the binary protocol.
 
-use std::io::{BufRead, ErrorKind, Read, Result, Write};
+use super::Outcome;
+use std::io::{stdin, stdout, BufRead, BufReader, BufWriter, ErrorKind, Read, Result, StdinLock};
+use std::io::{StdoutLock, Write};
+
+pub type Input<'a> = BufReader<StdinLock<'a>>;
+pub type Output<'a> = BufWriter<StdoutLock<'a>>;
+
+/// Answers every question on standard input, each before the next is read.
+pub fn answer_each(mut answer: impl FnMut(&mut Input, &mut Output) -> Outcome) -> Outcome {
+    let mut input = BufReader::new(stdin().lock());
+    let mut out = BufWriter::new(stdout().lock());
+    while !input.fill_buf()?.is_empty() {
+        answer(&mut input, &mut out)?;
+        out.flush()?;
+    }
+    Ok(())
+}
 
 /// A word of fixed width.
 pub trait Word: Sized {
@@ -25,11 +41,6 @@ macro_rules! word {
 }
 
 word!(u16 i32 u32 u64);
-
-/// Whether no further request follows.
-pub fn at_end(input: &mut impl BufRead) -> Result<bool> {
-    Ok(input.fill_buf()?.is_empty())
-}
 
 pub fn take_array<const N: usize>(input: &mut impl Read) -> Result<[u64; N]> {
     let mut words = [0; N];
