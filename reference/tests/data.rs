@@ -67,8 +67,16 @@ fn row_lengths_at_their_limits() {
 }
 
 #[test]
+fn the_sharpest_frame_is_chosen() {
+    let chosen = calls().skip(181).take(9).map(|mut call| call.choose());
+    let chosen = chosen.map(|(answer, reference)| (answer.number, reference));
+    let expected = [1, 1, 1, 1, 2, 2, 1, 0, 0].map(|reference| (0, reference));
+    assert_eq!(chosen.collect::<Vec<_>>(), expected);
+}
+
+#[test]
 fn vectors_outside_are_refused() {
-    let last = calls().collect::<Vec<_>>().split_off(181);
+    let last = calls().collect::<Vec<_>>().split_off(190);
     assert_eq!(last.len(), 8);
     for mut call in last {
         assert_eq!(call.merge().number, 12);
