@@ -59,6 +59,15 @@ pub fn finer_field(
     }
 }
 
+// Both parts of a vector, side by side.
+fn set_parts(vectors: &mut [i32], at: usize, down: i32, right: i32)
+    requires { ⌜ at + 1 < length (now vectors) ⌝ }
+    ensures { λ _. ⌜ now (vectors .exit) ≡ set (set (now (vectors .entry)) at down) (at + 1) right ⌝ }
+{
+    vectors[at] = down;
+    vectors[at + 1] = right;
+}
+
 // A vector into the lent ones.
 fn hand_over(vectors: &mut [i32], at: usize, v: Vector)
     requires { ⌜ (at + 1 < length (now vectors)) × (Within foundMost v) ⌝ }
@@ -66,8 +75,7 @@ fn hand_over(vectors: &mut [i32], at: usize, v: Vector)
 {
     let down = v.down as i32;
     let right = v.right as i32;
-    vectors[at] = down;
-    vectors[at + 1] = right;
+    set_parts(&mut *vectors, at, down, right);
 }
 
 // Level 0, into the lent vectors from `to` on, and the sum of its residuals.

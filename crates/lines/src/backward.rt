@@ -72,6 +72,7 @@ fn even_sums(z: &[i64; 16]) -> [i64; 8]
     even(z[0], z[2], z[4], z[6], z[8], z[10], z[12], z[14])
 }
 
+// The odd sums of the line z.
 fn odd_sums(z: &[i64; 16]) -> [i64; 8]
     requires { ⌜ LineMost lineMost (now z) ⌝ }
     ensures { λ r. ⌜ (r ≡ tab 8 (oddSum (λ k. getD (now (z .entry)) (2 * k + 1) (pos 0)))) × (LineMost halfMost r) ⌝ }

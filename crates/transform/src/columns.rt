@@ -10,6 +10,7 @@ ghost use Rattle.lines.specs.Halfcomplex.{halfcomplex};
 ghost use Rattle.lines.specs.Magnitudes.{differenceMost};
 ghost use Rattle.lines.specs.Lines.{TileMost, Square};
 
+// Column x of a tile, as a line.
 fn column(d: &[[i16; 16]; 16], x: usize) -> [i16; 16]
     requires { ⌜ x < 16 ⌝ }
     ensures { λ r. ⌜ r ≡ tab 16 (λ y. cell (pos 0) (now (d .entry)) y x) ⌝ }

@@ -6,6 +6,7 @@ ghost use lib.ListN.{getD};
 ghost use Rattle.sequences.specs.Grid.{cell};
 ghost use Rattle.lines.specs.Lines.{EmptyLine, EmptyTile};
 
+// Whether a row is zero throughout.
 fn empty_row(row: &[i16; 16]) -> bool
     ensures { λ r. ⌜ ((r ≡ true → EmptyLine (λ x. getD (now (row .entry)) x (pos 0)))) × ((EmptyLine (λ x. getD (now (row .entry)) x (pos 0)) → r ≡ true)) ⌝ }
 {
@@ -17,6 +18,7 @@ fn empty_row(row: &[i16; 16]) -> bool
     true
 }
 
+// Whether each row of the tile is.
 pub fn empty_tile(d: &[[i16; 16]; 16]) -> bool
     ensures { λ r. ⌜ ((r ≡ true → EmptyTile (cell (pos 0) (now (d .entry))))) × ((EmptyTile (cell (pos 0) (now (d .entry))) → r ≡ true)) ⌝ }
 {

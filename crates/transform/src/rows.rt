@@ -14,6 +14,7 @@ ghost use Rattle.transform.specs.Spectrum.{counted};
 ghost use Rattle.transform.specs.Magnitudes.{rowMost, columnMost, sumMost};
 ghost use Rattle.lines.specs.Lines.{LineMost, TileMost};
 
+// A row in 64-bit numbers.
 pub fn widened(row: &[i32; 16]) -> [i64; 16]
     ensures { λ r. ⌜ r ≡ tab 16 (λ x. getD (now (row .entry)) x (pos 0)) ⌝ }
 {
@@ -46,6 +47,7 @@ pub fn counted(k: usize, z: i64) -> i64
     2 * z
 }
 
+// A row, each column counted once or twice.
 fn counted_line(row: &[i32; 16]) -> [i64; 16]
     requires { ⌜ LineMost columnMost (now row) ⌝ }
     ensures { λ r. ⌜ r ≡ tab 16 (λ k. counted k (getD (now (row .entry)) k (pos 0))) ⌝ }
@@ -57,6 +59,7 @@ fn counted_line(row: &[i32; 16]) -> [i64; 16]
     r
 }
 
+// P from its sum: in 1/256, halves away from zero.
 fn rounded(z: i64) -> i32
     requires { ⌜ AtMost sumMost z ⌝ }
     ensures { λ r. ⌜ r ≡ away z (2 ^ 32) ⌝ }
@@ -64,6 +67,7 @@ fn rounded(z: i64) -> i32
     rounding::round_away_32(z) as i32
 }
 
+// P of a row.
 pub fn rounded_line(x: &[i64; 16]) -> [i32; 16]
     requires { ⌜ LineMost sumMost (now x) ⌝ }
     ensures { λ r. ⌜ r ≡ tab 16 (λ i. away (getD (now (x .entry)) i (pos 0)) (2 ^ 32)) ⌝ }
@@ -83,6 +87,7 @@ fn plus(sum: i64, term: i32) -> i64
     sum + term as i64
 }
 
+// A row of corrections added to a row of their sums.
 pub fn added_row(sum: [i64; 16], term: [i32; 16]) -> [i64; 16]
     requires { ⌜ LineMost (2 ^ 40) sum ⌝ }
     ensures { λ r. ⌜ r ≡ tab 16 (λ j. getD sum j (pos 0) +ℤ getD term j (pos 0)) ⌝ }

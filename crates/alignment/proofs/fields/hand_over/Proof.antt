@@ -18,9 +18,9 @@ cast-right : tie.Need-cast-right
 cast-right c = fits (c .before .before .before .before .args .v .right) (c .before .before .before .before .pre .1 .sideways)
 
 returns : tie.Need-returns
-returns c = let s = c .before .before .before .before in rw (narrow (s .args .v .down) (s .pre .1 .vertical), narrow (s .args .v .right) (s .pre .1 .sideways))
+returns c = let s = c .before .before .before .before .before .before .before in
+    rw (← narrow (s .args .v .down) (s .pre .1 .vertical), ← narrow (s .args .v .right) (s .pre .1 .sideways)) (c .before .set-parts .ensures)
 
 pub hand-over-spec : {M : Type 1} → statement M
 hand-over-spec = tie.close (tie.spec
-    cast-down cast-right (λ c. search needs) (λ c. search needs) (λ c. search needs)
-    (λ c. search needs) (λ c. search needs) (λ c. search needs) returns)
+    cast-down cast-right (λ c κs. search needs) (λ c. search needs) returns)
