@@ -3,7 +3,7 @@ use Rattle.algebra.specs.Prelude.{_≡_, List, [], ℕ, _^_, _≤_, _<_, getD, 
 use Rattle.algebra.specs.Sums.{sumZ}
 use Rattle.sequences.specs.Grid.{grid}
 use Rattle.geometry.specs.Fits.{ValuesFit}
-use Rattle.transform.specs.Magnitudes.{noiseMost}
+use Rattle.wiener.specs.Magnitudes.{noiseMost}
 use Rattle.tiles.specs.declared.Site.{Site}
 use Rattle.recipe.specs.Correction.{correctionAt}
 use Rattle.recipe.specs.Scene.{Scene, referenceTile, tileNoise, difference}

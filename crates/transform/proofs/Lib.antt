@@ -1,7 +1,5 @@
 pub mod Sums
 pub mod ColumnLaws
-pub mod QuotientLaws
-pub mod Guesses
 pub mod Sizes
 pub mod Apart
 pub mod QuadLaws

@@ -5,7 +5,7 @@ use borrow.Author.Tests.{lt-ltb, le-ltb}
 use lib.IntN.{ℤ, pos, negℤ, natAbs, _+ℤ_, _-ℤ_, +ℤ-idr, +ℤ-idl, +ℤ-comm, negℤ-negℤ}
 use Rattle.sequences.specs.Tab.{tab}
 use Rattle.lines.specs.Lines.{LineMost}
-use Rattle.transform.specs.Magnitudes.{binMost}
+use Rattle.wiener.specs.Magnitudes.{binMost}
 use Rattle.recipe.specs.Tables.{side16}
 use Rattle.recipe.specs.Correction.{filtered}
 use Rattle.transform.specs.Spectrum.{realOf, imaginaryOf, beside, tileRe, tileIm, foldRe, foldIm, spread, quadOf, byKind, twoBins, foldedQuad, gainRe, gainIm}

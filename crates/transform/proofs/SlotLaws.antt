@@ -9,13 +9,13 @@ use Rattle.sequences.specs.TabLaws.{getD-tab}
 use Rattle.sequences.specs.Grid.{cell, tab-ext, tab-of}
 use Rattle.recipe.specs.Tables.{side16}
 use Rattle.recipe.specs.Correction.{wiener, quantized, filtered}
-use Rattle.transform.specs.Magnitudes.{binMost, gainMost}
+use Rattle.wiener.specs.Magnitudes.{binMost, gainMost}
 use Rattle.lines.specs.Lines.{LineMost}
 use Rattle.transform.specs.Spectrum.{BinsMost, transposed, quadOf, twoBins, foldedQuad, spread, gainRe, gainIm}
-use Rattle.transform.specs.FloatQuotient.{shrunk}
+use Rattle.wiener.specs.FloatQuotient.{shrunk}
 use Rattle.transform.specs.Slots.{Slots, slotRe, slotIm, slotQuad}
-use Rattle.transform.specs.RoundingLaws.{away-most}
-use Rattle.transform.specs.WienerLaws.{wiener-most}
+use Rattle.wiener.specs.RoundingLaws.{away-most}
+use Rattle.wiener.specs.WienerLaws.{wiener-most}
 use Rattle.lines.proofs.Tiles.{line-most}
 use Rattle.transform.proofs.QuadLaws.{quad-ext, quad-is, bins-most}
 

@@ -7,7 +7,8 @@ use Rattle.lines.specs.Halfcomplex.{halfcomplex, backward}
 use Rattle.transform.specs.Spectrum.{BinsOf, BinsMost, twoWay, transposed, apart, realOf, imaginaryOf, beside, tileRe, tileIm, foldRe, foldIm, spread, counted, backSum}
 use Rattle.transform.specs.SpectrumLaws.{bin-re, bin-im, columns-first}
 use Rattle.lines.specs.Lines.{TileMost}
-use Rattle.transform.specs.Magnitudes.{rowMost, placeMost, binMost, quadMost, columnMost}
+use Rattle.wiener.specs.Magnitudes.{binMost}
+use Rattle.transform.specs.Magnitudes.{rowMost, placeMost, quadMost, columnMost}
 use Rattle.lines.specs.Magnitudes.{differenceMost}
 use Rattle.transform.proofs.Apart.{below-ext, apart-ext}
 use Rattle.transform.proofs.Sums.{halfcomplex-ext, backward-ext, halfcomplex-most, backward-most}

@@ -4,7 +4,4 @@ pub mod FoldLaws
 pub mod SpectrumLaws
 pub mod ZeroLaws
 pub mod Slots
-pub mod FloatQuotient
-pub mod RoundingLaws
-pub mod WienerLaws
 pub mod SizeLaws

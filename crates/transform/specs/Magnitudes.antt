@@ -1,10 +1,6 @@
 -- The largest magnitudes of a tile that the code is proved for, in the order of the computation.
 use Prim.Native.Nat.{ℕ, _^_}
 
--- V at t = 1024, Ls = 65536, Lr = 4194304 and r = 65520
-abbrev pub noiseMost : ℕ
-noiseMost = 279105765376
-
 -- a part of a row's transform, or of a column's: sixteen differences times a cosine of at most 16384
 abbrev pub rowMost : ℕ
 rowMost = 1073479680
@@ -12,14 +8,6 @@ rowMost = 1073479680
 -- a place of the tile in halfcomplex form both ways: sixteen of these times a cosine
 abbrev pub placeMost : ℕ
 placeMost = 281406257233920
-
--- a part of B: sixteen times rowMost·(|C(k)| + |S(k)|), which is at most 23170
-abbrev pub binMost : ℕ
-binMost = 397960386969600
-
--- a part of Q, which is that over 2^24, and so of G
-abbrev pub gainMost : ℕ
-gainMost = 23720288
 
 -- a number of the folded G: two parts of G
 abbrev pub quadMost : ℕ
@@ -44,11 +32,3 @@ smallNoise = 2 ^ 26
 -- a part of G at such a V: half the root of V
 abbrev pub smallGainMost : ℕ
 smallGainMost = 4096
-
--- V up to which G's quotients are taken in double
-abbrev pub doubleNoise : ℕ
-doubleNoise = 2 ^ 30
-
--- a part of G at such a V
-abbrev pub doubleGainMost : ℕ
-doubleGainMost = 16384

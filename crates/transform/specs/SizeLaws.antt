@@ -9,10 +9,11 @@ use Rattle.recipe.specs.Tables.{side16}
 use Rattle.recipe.specs.TableLaws.{cosine-most, minus-sine-is, pair-most}
 use Rattle.recipe.specs.Correction.{rowRe, rowIm, binRe, binIm, quantized, filtered, inverseRe, inverseAt, correctionAt}
 use Rattle.recipe.specs.CorrectionLaws.{alongRe, alongIm, two-way}
-use Rattle.transform.specs.Magnitudes.{rowMost, binMost, gainMost, correctionMost, smallNoise, smallGainMost}
+use Rattle.wiener.specs.Magnitudes.{binMost, gainMost}
+use Rattle.transform.specs.Magnitudes.{rowMost, correctionMost, smallNoise, smallGainMost}
 use Rattle.lines.specs.Magnitudes.{differenceMost}
-use Rattle.transform.specs.RoundingLaws.{away-most}
-use Rattle.transform.specs.WienerLaws.{wiener-most, wiener-root}
+use Rattle.wiener.specs.RoundingLaws.{away-most}
+use Rattle.wiener.specs.WienerLaws.{wiener-most, wiener-root}
 
 -- sixteen products with entries of the table
 pub sum-most : (c : ℕ → ℤ) (b : ℕ) (f : ℕ → ℤ) → ((i : ℕ) → natAbs (c i) ≤ 16384) → ((i : ℕ) → natAbs (f i) ≤ b) → natAbs (sumZ 16 (λ i. f i *ℤ c i)) ≤ 16 * (b * 16384)

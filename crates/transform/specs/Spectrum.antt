@@ -6,7 +6,8 @@ use Rattle.lines.specs.Halfcomplex.{halfcomplex, backward}
 use Rattle.recipe.specs.Tables.{side16}
 use Rattle.recipe.specs.TableLaws.{opposite}
 use Rattle.recipe.specs.Correction.{binRe, binIm, filtered}
-use Rattle.transform.specs.Magnitudes.{placeMost, binMost, quadMost}
+use Rattle.wiener.specs.Magnitudes.{binMost}
+use Rattle.transform.specs.Magnitudes.{placeMost, quadMost}
 use Rattle.lines.specs.Lines.{LineMost, TileMost, Square}
 
 -- place b of line k, from the differences

@@ -1,8 +1,8 @@
 // The Wiener step at a V of at most 2^30, on lines of 128 bins: the parts of Q, then those of G, which `quotients` divides several at a time, then G folded in the
 // tile. Slots 8·u + v and 64 + 8·u + v of a line are the two bins of quad (v, u). What the corner's slots hold is not used.
-use crate::filter::quantized_part;
 use crate::quads;
-use crate::quotients;
+use wiener::parts::quantized_part;
+use wiener::quotients;
 ghost use mathlib.Core.Path.{_≡_};
 ghost use Prim.Native.Nat.{_+_, _*_, _≤_, _<_};
 ghost use lib.IntN.{pos};
@@ -12,7 +12,8 @@ ghost use Rattle.sequences.specs.Tab.{tab};
 ghost use Rattle.sequences.specs.Grid.{grid, cell};
 ghost use Rattle.recipe.specs.Tables.{side16};
 ghost use Rattle.recipe.specs.Correction.{quantized};
-ghost use Rattle.transform.specs.Magnitudes.{binMost, gainMost, quadMost, doubleNoise};
+ghost use Rattle.wiener.specs.Magnitudes.{binMost, gainMost, doubleNoise};
+ghost use Rattle.transform.specs.Magnitudes.{quadMost};
 ghost use Rattle.lines.specs.Lines.{LineMost, TileMost, Square};
 ghost use Rattle.transform.specs.Spectrum.{BinsMost, Quads, transposed, spread, gainRe, gainIm};
 ghost use Rattle.transform.specs.Slots.{Slots, slotRe, slotIm, slotQuad};

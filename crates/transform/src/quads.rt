@@ -1,6 +1,6 @@
 // The Wiener step on a tile in halfcomplex form both ways, by quads: the places u and 8 + u of lines v and 8 + v hold bins (u, v) and (16 − u, v), and
 // what comes of them is folded for the inverse. The bins with v above 8 are conjugates of these. Tiles are held by columns: place b of line k is t[b][k].
-use crate::filter::filtered_part;
+use wiener::parts::filtered_part;
 ghost use mathlib.Core.Path.{_≡_};
 ghost use Prim.Native.Nat.{_≤_, _<_};
 ghost use lib.IntN.{pos};
@@ -10,7 +10,8 @@ ghost use Rattle.sequences.specs.Tab.{tab};
 ghost use Rattle.sequences.specs.Grid.{grid, cell};
 ghost use Rattle.recipe.specs.Tables.{side16};
 ghost use Rattle.recipe.specs.Correction.{filtered};
-ghost use Rattle.transform.specs.Magnitudes.{binMost, gainMost, quadMost, noiseMost};
+ghost use Rattle.wiener.specs.Magnitudes.{binMost, gainMost, noiseMost};
+ghost use Rattle.transform.specs.Magnitudes.{quadMost};
 ghost use Rattle.lines.specs.Lines.{LineMost, TileMost, Square};
 ghost use Rattle.transform.specs.Spectrum.{
   BinsMost,

@@ -5,7 +5,7 @@ use Rattle.geometry.specs.Read.{sampleAt}
 use Rattle.recipe.specs.Tables.{side16}
 use Rattle.recipe.specs.NoiseNumber.{tileRoot, noiseNumber}
 use Rattle.noise.specs.NoiseNumberLaws.{tile-root-cong, tile-root-bound, noise-number-bound}
-use Rattle.transform.specs.Magnitudes.{noiseMost}
+use Rattle.wiener.specs.Magnitudes.{noiseMost}
 use Rattle.recipe.specs.declared.Merge.{Merge}
 use Rattle.tiles.specs.declared.Site.{Site}
 use Rattle.recipe.specs.Scene.{sceneOf, tileAt, referenceTile, tileNoise}

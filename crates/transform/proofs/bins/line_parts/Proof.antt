@@ -4,7 +4,7 @@ use Prim.Native.Nat.{ℕ, _+_, _-_, _*_, _≤_, zero-le}
 use Rattle.sequences.specs.Grid.{cell}
 use Rattle.recipe.specs.Tables.{side16}
 use Rattle.recipe.specs.Correction.{quantized}
-use Rattle.transform.specs.Magnitudes.{binMost}
+use Rattle.wiener.specs.Magnitudes.{binMost}
 use Rattle.lines.specs.Lines.{LineMost}
 use Rattle.transform.specs.Spectrum.{transposed}
 use Rattle.transform.specs.Slots.{Slots, slotRe, slotIm}

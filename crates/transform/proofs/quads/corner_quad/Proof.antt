@@ -5,7 +5,7 @@ use Rattle.algebra.specs.Bound.{AtMost}
 use Rattle.sequences.specs.Tab.{tab}
 use Rattle.recipe.specs.Tables.{side16}
 use Rattle.recipe.specs.Correction.{filtered}
-use Rattle.transform.specs.Magnitudes.{binMost, gainMost}
+use Rattle.wiener.specs.Magnitudes.{binMost, gainMost}
 use Rattle.lines.specs.Lines.{LineMost}
 use Rattle.lines.proofs.Held.{number-is, number-most, held-is, held-most}
 use Rattle.lines.proofs.Tiles.{line-more}

@@ -4,7 +4,8 @@ use Rattle.algebra.specs.Ring.{nth, var, _⊞_, _⊟_}
 use Rattle.algebra.specs.Code.{Code, par, add, sub, Bounded, fits}
 use Rattle.algebra.specs.Forms.{vals-are, vals-most}
 use Rattle.transform.specs.Spectrum.{foldedQuad}
-use Rattle.transform.specs.Magnitudes.{gainMost, quadMost}
+use Rattle.wiener.specs.Magnitudes.{gainMost}
+use Rattle.transform.specs.Magnitudes.{quadMost}
 use Rattle.transform.proofs.QuadLaws.{is-top, is-left, is-inner}
 use Rattle.transform.proofs.quads.folded.Statement.{statement}
 use Rattle.transform.proofs.quads.folded.Tie as tie

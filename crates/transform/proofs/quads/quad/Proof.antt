@@ -5,7 +5,7 @@ use Rattle.sequences.specs.Tab.{tab}
 use Rattle.sequences.specs.Grid.{cell}
 use Rattle.recipe.specs.Tables.{side16}
 use Rattle.recipe.specs.Correction.{filtered}
-use Rattle.transform.specs.Magnitudes.{binMost, gainMost}
+use Rattle.wiener.specs.Magnitudes.{binMost, gainMost}
 use Rattle.lines.specs.Lines.{LineMost}
 use Rattle.transform.specs.Spectrum.{transposed, foldedQuad}
 use Rattle.lines.proofs.Held.{number-is, number-most, held-is, held-most}

@@ -4,7 +4,8 @@ use Rattle.algebra.specs.Bound.{AtMost, add-fits, sub-fits}
 use Rattle.sequences.specs.Grid.{cell}
 use Rattle.lines.specs.Lines.{LineMost}
 use Rattle.transform.specs.Spectrum.{transposed, quadOf, twoBins}
-use Rattle.transform.specs.Magnitudes.{binMost, placeMost}
+use Rattle.wiener.specs.Magnitudes.{binMost}
+use Rattle.transform.specs.Magnitudes.{placeMost}
 use Rattle.lines.proofs.Held.{held-is}
 use Rattle.transform.proofs.QuadLaws.{four, is-top, is-left, is-inner, bins-most}
 use Rattle.transform.proofs.quads.two_bins.Statement.{statement}

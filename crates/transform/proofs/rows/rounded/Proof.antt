@@ -4,7 +4,7 @@ use native.Mathlib.Nat.{le-trans}
 use Rattle.algebra.specs.Nearest.{away}
 use Rattle.algebra.specs.Bound.{AtMost, most-fits}
 use Rattle.transform.specs.Magnitudes.{sumMost}
-use Rattle.transform.specs.RoundingLaws.{away-most}
+use Rattle.wiener.specs.RoundingLaws.{away-most}
 use Rattle.transform.proofs.rows.rounded.Statement.{statement}
 use Rattle.transform.proofs.rows.rounded.Tie as tie
 

@@ -1,0 +1,2 @@
+pub mod QuotientLaws
+pub mod Guesses

@@ -1,0 +1,4 @@
+pub mod Magnitudes
+pub mod RoundingLaws
+pub mod WienerLaws
+pub mod FloatQuotient
