@@ -1,6 +1,7 @@
 // Where samples stand, and reading outside.
 ghost use mathlib.Core.Path.{_≡_};
 ghost use Prim.Native.Nat.{_*_, _%_, _^_, _≤_, _<_};
+ghost use lib.Signed.{mag};
 ghost use Rattle.geometry.specs.Shape.{sampleLength};
 ghost use Rattle.geometry.specs.Read.{sampleIndex, sampleAt, mirrored, inside};
 ghost use Rattle.geometry.specs.Fits.{Allowed, Sampled};
@@ -23,22 +24,36 @@ pub fn sample_at(shape: Shape, samples: &[u16], frame: usize, row: usize, column
     samples[index]
 }
 
-// The index at place k of the mirrored ones, k from 0 on. A remainder is taken only beyond the first period.
-fn mirrored(k: usize, size: usize) -> usize
-    requires { ⌜ (0 < size) × (size ≤ 2 ^ 32) ⌝ }
-    ensures { λ r. ⌜ (r ≡ mirrored size (k % (2 * size))) × (r < size) ⌝ }
+// The index at a place of the first period: forward, then backward.
+fn folded(place: usize, size: usize) -> usize
+    requires { ⌜ (0 < size) × (size ≤ 2 ^ 32) × (place < 2 * size) ⌝ }
+    ensures { λ r. ⌜ (r ≡ mirrored size place) × (r < size) ⌝ }
 {
-    if k < size {
-        return k;
-    }
-    if k < 2 * size {
-        return 2 * size - 1 - k;
-    }
-    let place = k % (2 * size);
     if place < size {
         return place;
     }
     2 * size - 1 - place
+}
+
+// The index at place k of the mirrored ones, k from 0 on. A remainder is taken only beyond the first period; within it the data decides no branch.
+fn mirrored(k: usize, size: usize) -> usize
+    requires { ⌜ (0 < size) × (size ≤ 2 ^ 32) ⌝ }
+    ensures { λ r. ⌜ (r ≡ mirrored size (k % (2 * size))) × (r < size) ⌝ }
+{
+    if k < 2 * size {
+        return folded(k, size);
+    }
+    folded(k % (2 * size), size)
+}
+
+// How far z lies from 0, or from −1 where it is negative: both ways the places are numbered from 0 on.
+fn distance(z: i64) -> usize
+    ensures { λ r. ⌜ r ≡ mag z ⌝ }
+{
+    if z < 0 {
+        return (-1 - z) as usize;
+    }
+    z as usize
 }
 
 // The index that is read for `z` among `size` of them.
@@ -46,8 +61,5 @@ pub fn inside(z: i64, size: usize) -> usize
     requires { ⌜ (0 < size) × (size ≤ 2 ^ 32) ⌝ }
     ensures { λ r. ⌜ (r ≡ inside size z) × (r < size) ⌝ }
 {
-    if z < 0 {
-        return mirrored((-1 - z) as usize, size);
-    }
-    mirrored(z as usize, size)
+    mirrored(distance(z), size)
 }

@@ -9,7 +9,6 @@ ghost use Rattle.pyramid.specs.Pyramid.{weights, tap, halved};
 ghost use Rattle.pyramid.specs.Columns.{columnSum};
 ghost use Rattle.pyramid.specs.Words.{wordAt, imageAt, laid, Held, Source};
 ghost use Rattle.pyramid.specs.Chain.{Room, Halvings};
-use geometry::read;
 
 // The weights 1 3 3 1.
 fn weigh(a: u32, b: u32, c: u32, d: u32) -> u32
@@ -19,16 +18,19 @@ fn weigh(a: u32, b: u32, c: u32, d: u32) -> u32
     a + 3 * b + 3 * c + d
 }
 
-// The index that is read at the place number `k` of the four around `p`.
+// The index that is read at the place number `k` of the four around `p`. They reach one place outside at most, where a mirror reads the nearest edge.
 fn tap_index(size: usize, p: usize, k: usize) -> usize
-    requires { ⌜ (0 < size) × (size ≤ 4096) × (p < size) × (k < 4) ⌝ }
+    requires { ⌜ (0 < size) × (size ≤ 4096) × (2 * p + k ≤ size + 1) ⌝ }
     ensures { λ r. ⌜ (r ≡ inside size (tap p k)) × (r < size) ⌝ }
 {
     let q = 2 * p + k;
-    if q >= 1 && q <= size {
-        return q - 1;
+    if q == 0 {
+        return 0;
     }
-    read::inside(q as i64 - 1, size)
+    if q > size {
+        return size - 1;
+    }
+    q - 1
 }
 
 // A word that is not negative, as a number.
@@ -49,7 +51,7 @@ fn tap_value(
     k: usize,
     column: usize,
 ) -> u32
-    requires { ⌜ (Source (now work) from height width) × (row < height) × (k < 4) × (column < width) ⌝ }
+    requires { ⌜ (Source (now work) from height width) × (2 * row + 2 ≤ height) × (k < 4) × (column < width) ⌝ }
     ensures { λ r. ⌜ (r ≡ imageAt (now (work .entry)) from width (inside height (tap row k)) column) × (r ≤ 16380) ⌝ }
 {
     let y = tap_index(height, row, k);
@@ -65,7 +67,7 @@ fn column_sum(
     row: usize,
     column: usize,
 ) -> u32
-    requires { ⌜ (Source (now work) from height width) × (row < height) × (column < width) ⌝ }
+    requires { ⌜ (Source (now work) from height width) × (2 * row + 2 ≤ height) × (column < width) ⌝ }
     ensures { λ r. ⌜ r ≡ columnSum height (imageAt (now (work .entry)) from width) row column ⌝ }
 {
     let a = tap_value(work, from, height, width, row, 0, column);
@@ -77,7 +79,7 @@ fn column_sum(
 
 // The same of every column, and at each end of the nearest once more: number `k` is that of column `k` − 1.
 fn column_sums(work: &[i64], from: usize, height: usize, width: usize, row: usize, sums: &mut [u32])
-    requires { ⌜ (Source (now work) from height width) × (row < height) × (width + 2 ≤ length (now sums)) ⌝ }
+    requires { ⌜ (Source (now work) from height width) × (2 * row + 2 ≤ height) × (width + 2 ≤ length (now sums)) ⌝ }
     ensures { λ _. ⌜ now (sums .exit) ≡ written (now (sums .entry)) 0 (λ k. columnSum height (imageAt (now (work .entry)) from width) row (inside width (tap 0 k))) (width + 2) ⌝ }
 {
     sums[0] = column_sum(work, from, height, width, row, 0);
@@ -105,7 +107,7 @@ fn halve_row(
     to: usize,
     sums: &mut [u32],
 )
-    requires { ⌜ (Source (now work) from height width) × (row < height) × (to + width / 2 ≤ length (now work)) × (width + 2 ≤ length (now sums)) ⌝ }
+    requires { ⌜ (Source (now work) from height width) × (2 * row + 2 ≤ height) × (to + width / 2 ≤ length (now work)) × (width + 2 ≤ length (now sums)) ⌝ }
     ensures { λ _. ⌜ now (work .exit) ≡ written (now (work .entry)) to (λ column. pos (halved height width (imageAt (now (work .entry)) from width) row column)) (width / 2) ⌝ }
 {
     column_sums(&*work, from, height, width, row, &mut *sums);

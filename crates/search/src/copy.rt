@@ -37,33 +37,36 @@ fn copy_eight(words: &[i64], from: usize, out: &mut [u16], to: usize)
     }
 }
 
-// Eight samples of the row that starts at `start`, those from `column` on, each read by the rule.
-fn copy_outside(words: &[i64], start: usize, width: usize, column: i64, out: &mut [u16], to: usize)
-    requires { ⌜ (Row (now words) start width) × (0 < width) × (width ≤ 4096) × (AtMost (2 ^ 32) column) × (to + 8 ≤ length (now out)) ⌝ }
-    ensures { λ _. ⌜ now (out .exit) ≡ written (now (out .entry)) to (λ j. wordAt (now (words .entry)) (start + inside width (column +ℤ pos j))) 8 ⌝ }
+// `n` samples from `from` on, eight at a time.
+fn copy_inside(words: &[i64], from: usize, n: usize, out: &mut [u16], to: usize)
+    requires { ⌜ (Row (now words) from n) × (n % 8 ≡ 0) × (to + n ≤ length (now out)) ⌝ }
+    ensures { λ _. ⌜ now (out .exit) ≡ written (now (out .entry)) to (λ j. wordAt (now (words .entry)) (from + j)) n ⌝ }
 {
-    for j in 0..8 {
+    for k in 0..n / 8 {
+        copy_eight(words, from + 8 * k, &mut *out, to + 8 * k);
+    }
+}
+
+// `n` samples of the row that starts at `start`, those from `column` on, each read by the rule.
+fn copy_edge(
+    words: &[i64],
+    start: usize,
+    width: usize,
+    column: i64,
+    n: usize,
+    out: &mut [u16],
+    to: usize,
+)
+    requires { ⌜ (Row (now words) start width) × (0 < width) × (width ≤ 4096) × (AtMost (2 ^ 32) column) × (n ≤ 64) × (to + n ≤ length (now out)) ⌝ }
+    ensures { λ _. ⌜ now (out .exit) ≡ written (now (out .entry)) to (λ j. wordAt (now (words .entry)) (start + inside width (column +ℤ pos j))) n ⌝ }
+{
+    for j in 0..n {
         let x = geometry::read::inside(shifted(column, j), width);
         out[to + j] = sample(words, start + x);
     }
 }
 
-// The same, at once where all eight lie in the row.
-fn copy_group(words: &[i64], start: usize, width: usize, column: i64, out: &mut [u16], to: usize)
-    requires { ⌜ (Row (now words) start width) × (0 < width) × (width ≤ 4096) × (AtMost (2 ^ 32) column) × (to + 8 ≤ length (now out)) ⌝ }
-    ensures { λ _. ⌜ now (out .exit) ≡ written (now (out .entry)) to (λ j. wordAt (now (words .entry)) (start + inside width (column +ℤ pos j))) 8 ⌝ }
-{
-    if column >= 0 {
-        let x = column as usize;
-        if x + 8 <= width {
-            copy_eight(words, start + x, &mut *out, to);
-            return;
-        }
-    }
-    copy_outside(words, start, width, column, &mut *out, to);
-}
-
-// `n` samples of that row, eight at a time, so that over an edge only the eights that reach outside are read one by one.
+// The same, at once where all of them lie in the row.
 fn copy_row(
     words: &[i64],
     start: usize,
@@ -73,13 +76,17 @@ fn copy_row(
     out: &mut [u16],
     to: usize,
 )
-    requires { ⌜ (Row (now words) start width) × (0 < width) × (width ≤ 4096) × (AtMost (2 ^ 20) column) × (n ≤ 64) × (n % 8 ≡ 0) × (to + n ≤ length (now out)) ⌝ }
+    requires { ⌜ (Row (now words) start width) × (0 < width) × (width ≤ 4096) × (AtMost (2 ^ 32) column) × (n ≤ 64) × (n % 8 ≡ 0) × (to + n ≤ length (now out)) ⌝ }
     ensures { λ _. ⌜ now (out .exit) ≡ written (now (out .entry)) to (λ j. wordAt (now (words .entry)) (start + inside width (column +ℤ pos j))) n ⌝ }
 {
-    for k in 0..n / 8 {
-        let first = shifted(column, 8 * k);
-        copy_group(words, start, width, first, &mut *out, to + 8 * k);
+    if column >= 0 {
+        let x = column as usize;
+        if x + n <= width {
+            copy_inside(words, start + x, n, &mut *out, to);
+            return;
+        }
     }
+    copy_edge(words, start, width, column, n, &mut *out, to);
 }
 
 // The square of `n` by `n` samples of an image from a corner on.

@@ -1,49 +1,43 @@
--- Each turn writes eight samples more of the part.
-use lib.IntN.{+ℤ-assoc}
-use Rattle.algebra.specs.Prelude.{_≡_, ap, _∙_, ℕ, _+_, _-_, _*_, _^_, _≤_, arith, needs, ℤ, pos, natAbs, _+ℤ_, w64, toZ, ofZ, toZ-ofZ}
-use Rattle.algebra.specs.Back.{back}
-use Rattle.algebra.specs.Bound.{AtMost}
-use Rattle.algebra.specs.Order.{abs-add}
-use Rattle.geometry.specs.Read.{inside}
-use Rattle.sequences.specs.Write.{Writing, write-start, write-part, write-done}
+-- Either all samples lie in the row and are copied at once, or each is read by the rule.
 use Rattle.pyramid.specs.Words.{wordAt}
+use Rattle.sequences.specs.Write.{written-ext}
+use Rattle.pyramid.specs.WordsLaws.{row-part}
+use Rattle.algebra.specs.Prelude.{_≡_, sym, ap, subst, _∙_, true, ℕ, _+_, _≤_, _<_, arith, needs, T, ℤ, pos, negsuc, natAbs, _+ℤ_, w64, toZ, ofZ}
+use lib.Signed.{leZ, nonNeg}
+use mir.Facts.{toZ-ofZ, fits-natAbs}
+use Rattle.geometry.specs.Read.{inside}
+use Rattle.geometry.specs.ReadLaws.{inside-same}
 use Rattle.search.proofs.copy.copy_row.Statement.{statement}
 use Rattle.search.proofs.copy.copy_row.Tie as tie
 
-abbrev Inv-loop : tie.InvT-loop
-Inv-loop words start width column n out₀ to k₀ k-end out k = Writing out₀ to (λ j. wordAt words (start + inside width (toZ w64 column +ℤ pos j))) n (8 * k) out
+not-negative : (z : ℤ) → leZ (pos 0) z ≡ true → T (nonNeg z)
+not-negative (pos n) e = tt
+not-negative (negsuc n) e = subst T (sym e) tt
 
-abbrev μ-loop : tie.MeasureT-loop
-μ-loop words start width column n out₀ to k₀ k-end out k = k-end - k
+-- where all samples lie in the row, the rule reads them as they stand
+all-inside : (start width n j : ℕ) (x z : ℤ) → x ≡ z → T (nonNeg x) → natAbs x + n ≤ width → j < n → start + natAbs x + j ≡ start + inside width (z +ℤ pos j)
+all-inside start width n j (pos k) z e t h l = rw (← e) (omega (arith, inside-same width (k + j) (omega arith)))
+all-inside start width n j (negsuc k) z e t h l = absurd t
 
--- a column of the row, eights further, is small
-further : (z column : ℤ) (j : ℕ) → z ≡ column +ℤ pos j → natAbs column ≤ 2 ^ 20 → j ≤ 64 → AtMost (2 ^ 32) z
-further z column j e h l = rw e (record { most = omega (arith, abs-add column (pos j)) })
+cast-x : tie.Need-cast-x
+cast-x c = rw (toZ-ofZ (c .before .before .fits .column)) (not-negative (c .before .before .args .column) (rw (toZ-ofZ (c .before .before .fits .column)) at (c .if1 .taken)), fits-natAbs tt (c .before .before .fits .column))
 
--- eight columns further, j places on
-eights : (column : ℤ) (k j : ℕ) → column +ℤ pos k +ℤ pos j ≡ column +ℤ pos (k + j)
-eights column k j = +ℤ-assoc column (pos k) (pos j)
+add-if2 : tie.Need-add-if2
+add-if2 c = rw (toZ-ofZ (c .before .before .fits .column)) (omega (arith, c .before .before .pre .3 .most))
 
-shifted-requires : tie.Need-shifted-requires Inv-loop μ-loop
-shifted-requires c κs = let s = c .before .before .before in
-    rw (toZ-ofZ (s .fits .column)) (record { most = omega (arith, s .pre .3 .most) }, omega arith)
+copy-inside-requires : tie.Need-copy-inside-requires
+copy-inside-requires c κs = (row-part (c .before .before .before .before .pre .0) _ _ (omega arith), omega arith, omega arith)
 
-copy-group-requires : tie.Need-copy-group-requires Inv-loop μ-loop
-copy-group-requires c κs = let s = c .before .before .before .before .before in
-    let m = c .before .shifted in
-    (s .pre .0, s .pre .1, s .pre .2, further _ (toZ w64 (ofZ w64 (s .args .column))) (8 * c .before .before .before .loop .k) (back (m .result) (m .ok) ∙ m .ensures) (rw (toZ-ofZ (s .fits .column)) (s .pre .3 .most)) (omega arith), omega arith)
+returns : tie.Need-returns
+returns c = let s = c .before .before .before .before .before .before .before in
+    c .before .before .copy-inside .ensures
+    ∙ written-ext (s .args .out .now) (s .args .to) (s .args .n) _ _
+    (λ j h. ap (wordAt (s .args .words .now)) (all-inside (s .args .start) (s .args .width) (s .args .n) j (toZ w64 (ofZ w64 (s .args .column))) (s .args .column) (toZ-ofZ (s .fits .column)) (not-negative (toZ w64 (ofZ w64 (s .args .column))) (c .before .before .before .before .before .if1 .taken)) (c .before .before .before .before .if2 .taken) h))
 
-loop-again : tie.Need-loop-again Inv-loop μ-loop
-loop-again c = let a = c .before .before .before .before .before .before .before .before .args in
-    let l = c .before .before .before .before .before .before .loop in
-    let m = c .before .before .before .before .shifted in
-    let e : 8 * (l .k + 1) ≡ 8 * l .k + 8 = omega arith in
-    rw e (write-part (l .inv) (omega arith) (λ j h. ap (λ x. wordAt (a .words .now) (a .start + inside (a .width) x)) (ap (λ z. z +ℤ pos j) (back (m .result) (m .ok) ∙ m .ensures) ∙ eights (toZ w64 (ofZ w64 (a .column))) (8 * l .k) j)) (c .before .before .copy-group .ensures))
-
-returns : tie.Need-returns Inv-loop μ-loop
-returns c = simp (toZ-ofZ (c .before .before .before .fits .column)) at (write-done (c .before .loop .inv) (omega arith))
+returns-2 : tie.Need-returns-2
+returns-2 c = simp (toZ-ofZ (c .before .before .before .before .before .before .fits .column)) at (c .before .before .copy-edge .ensures)
 
 pub copy-row-spec : {M : Type 1} → statement M
 copy-row-spec = tie.close (tie.spec
-    Inv-loop μ-loop (λ c. write-start (search needs)) (λ c. search needs) shifted-requires (λ c. search needs) (λ c. search needs) copy-group-requires (λ c. search needs)
-    (λ c. search needs) loop-again (λ c. search needs) returns)
+    cast-x add-if2 (λ c. search needs) copy-inside-requires (λ c. search needs) returns
+    (λ c κs. search needs) (λ c. search needs) returns-2)
