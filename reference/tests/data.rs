@@ -42,8 +42,19 @@ fn rounds_turn_pictures_and_noises() {
 }
 
 #[test]
+fn black_levels_about_the_samples() {
+    let pedestals = calls().skip(160).take(12);
+    let answers =
+        pedestals.map(|mut call| [call.align(), call.merge()].map(|answer| answer.number));
+    let accepted = |answer: &[u64; 2]| answer == &[0, 0];
+    let (good, refused): (Vec<_>, Vec<_>) = answers.partition(accepted);
+    assert_eq!(good.len(), 7);
+    assert_eq!(refused, [[0, 18]; 5]);
+}
+
+#[test]
 fn vectors_outside_are_refused() {
-    let last = calls().collect::<Vec<_>>().split_off(160);
+    let last = calls().collect::<Vec<_>>().split_off(172);
     assert_eq!(last.len(), 8);
     for mut call in last {
         assert_eq!(call.merge().number, 12);
