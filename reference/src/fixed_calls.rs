@@ -23,6 +23,7 @@ pub fn calls() -> impl Iterator<Item = Call> {
         .chain(mirrored_reads())
         .chain(pedestals())
         .chain(refused_vectors())
+        .chain(faults_beside_black())
 }
 
 /// Every count with every reference at one size. In eight rounds each of them meets every picture,
@@ -151,6 +152,29 @@ fn pedestals() -> impl Iterator<Item = Call> {
         call.burst.samples = dark(shape, &mut random);
         call
     })
+}
+
+/// A black level of 256 beside a strength above 1024, a sample above 4095 and both: 18 comes after 10 and before 11.
+fn faults_beside_black() -> impl Iterator<Item = Call> {
+    let shape = Shape {
+        width: 64,
+        height: 64,
+        count: 2,
+    };
+    let mut random = Random::new(5);
+    [(true, false), (false, true), (true, true)]
+        .into_iter()
+        .map(move |(strength, sample)| {
+            let mut call = call(0, shape, 0, &mut random);
+            call.burst.black[2] = 256;
+            if strength {
+                call.denoising.strength = 1025;
+            }
+            if sample {
+                call.burst.samples[7] = 4096;
+            }
+            call
+        })
 }
 
 /// One part of the lent vectors just outside what merge takes, or far outside, at either end.

@@ -10,4 +10,5 @@ returns c = cc
 
 pub content-refusal-spec : {M : Type 1} → statement M
 content-refusal-spec = tie.close (tie.spec
-    (λ c κs. search needs) (λ c κs. search needs) (λ c. search needs) (λ c κs. search needs) returns)
+    (λ c κs. search needs) (λ c κs. search needs) (λ c κs. search needs) (λ c. search needs)
+    (λ c κs. search needs) returns)
