@@ -14,6 +14,7 @@ struct Burst {
     height: u64,
     count: u64,
     reference: u64,
+    black: [u16; 4],
 }
 
 #[repr(C)]
@@ -52,6 +53,7 @@ impl BurstFile {
             height: self.height,
             count: self.count,
             reference: self.reference,
+            black: [0; 4],
         }
     }
 

@@ -23,6 +23,7 @@ typedef struct {
     uint64_t width, height; /* of each frame, in samples */
     uint64_t count;         /* of frames */
     uint64_t reference;     /* index of the frame that the others are merged on */
+    uint16_t black[4];      /* levels of the planes R, G, G and B, 0..255: what a dark frame holds */
 } stacker_burst;
 
 typedef struct {
@@ -76,7 +77,8 @@ typedef enum {
     STACKER_REFUSED_FILE_LINE = 14,
     STACKER_REFUSED_FILE_LENGTH = 15,
     STACKER_REFUSED_BYTES_LENGTH = 16,
-    STACKER_REFUSED_PGM = 17
+    STACKER_REFUSED_PGM = 17,
+    STACKER_REFUSED_BLACK = 18
 } stacker_refusal;
 
 /* Aligns each other frame on the reference. */
@@ -113,7 +115,7 @@ stacker_pgm stacker_read_pgm(const uint8_t *bytes, size_t bytes_length, uint16_t
 
 static inline stacker_burst stacker_file_burst(stacker_file file)
 {
-    stacker_burst burst = { file.width, file.height, file.count, file.reference };
+    stacker_burst burst = { file.width, file.height, file.count, file.reference, { 0, 0, 0, 0 } };
     return burst;
 }
 
@@ -152,6 +154,7 @@ static inline const char *stacker_refusal_text(uint64_t number)
     case STACKER_REFUSED_FILE_LENGTH: return "a file that is short, or goes on after its last row";
     case STACKER_REFUSED_BYTES_LENGTH: return "bytes not of the length that stacker_pgm_length answers";
     case STACKER_REFUSED_PGM: return "not a PGM file as stacker_write_pgm writes it";
+    case STACKER_REFUSED_BLACK: return "a black level above 255";
     default: return "no refusal of this version";
     }
 }
@@ -199,7 +202,7 @@ static inline const char *stacker_refusal_text(uint64_t number)
 
    examples/merge.c is a whole program; examples/burst_file.rs calls from Rust.
 
-   FRAMES are Bayer RGGB, row by row, frame after frame, black already subtracted: 16-bit words that hold 0..4095.
+   FRAMES are Bayer RGGB, row by row, frame after frame: 16-bit words that hold 0..4095. Black is already subtracted, or the burst says what it is.
    VECTORS tell, for each other frame in rising index, tile by tile and row by row, how far down and then how far right the tile has moved in a
    plane: a step is two samples. Tiles cover 16 by 16 places of a plane and begin every 8 places, the first at -8.
 
@@ -224,15 +227,19 @@ static inline const char *stacker_refusal_text(uint64_t number)
    AFTER A CALL that answers 0 the written buffers hold the result, every word of it, and the work area is zero. After a refusal every lent buffer is
    as it was, and every other field of the answer is 0.
 
-   REFUSALS. A call makes its tests in the order of the numbers and answers the first that fails: align 1 to 5, 7 and 11; merge 1 to 12; run 1 to 11.
+   REFUSALS. A call makes its tests in the order of the numbers, but 18 after 10, and answers the first that fails: align 1 to 5, 7 and 11; merge 1 to
+   12 and 18; run 1 to 11 and 18.
    A file is tested line by line: no first LF 15, 13; line two 15, 14, then 1, 2, 3, 9, 10, 4; each row 15, 14, 11; then what follows, 15.
    Writing a PGM file tests 1, 6, 16, 11 in that order, reading one 17, 6, 11.
 
    NOISE. stacker_merge_iso and stacker_run_iso scale the curve for ISO 100 by a = iso / 100: shot by a, read by a * a. A file has the levels
-   floor(1024 shot) and floor(1024 read) instead; stacker_file_noise turns them back.
+   floor(1024 shot) and floor(1024 read) instead; stacker_file_noise turns them back. The curve speaks of light: in the noise of a tile each sample of
+   the reference counts as what it exceeds its plane's black level by, or 0. Nothing else looks at black levels: vectors, residuals and the merged frame
+   keep the pedestal. A file means levels of 0.
 
    ZEROS. A width, height, count or ISO of 0 is refused. Reference 0 is the first frame. Shot and read of 0 say that there is no noise, and strength
-   0 asks for no merging: either gives the reference back. A field that a later version adds means, at zero, what this version does.
+   0 asks for no merging: either gives the reference back. Black levels of 0 say that black is already subtracted. A field that a later version adds
+   means, at zero, what this version does.
 
    THE MACHINE. A call allocates nothing and needs less than 32 KB of stack. It keeps nothing between calls and has no state: threads may call at once,
    each with vectors, output and work area of its own that no other thread touches meanwhile. The floating-point environment must be the usual one: rounding

@@ -8,7 +8,7 @@
 #include <stdlib.h>
 #include <string.h>
 
-enum { WIDTH, HEIGHT, COUNT, REFERENCE, NOISE_KIND, ISO, SHOT, READ, STRENGTH, SAMPLES, VECTORS, OUTPUT, WORK, WORDS };
+enum { WIDTH, HEIGHT, COUNT, REFERENCE, BLACK, NOISE_KIND = BLACK + 4, ISO, SHOT, READ, STRENGTH, SAMPLES, VECTORS, OUTPUT, WORK, WORDS };
 
 /* what the work area holds before a call */
 static const int64_t MARK = -4915937;
@@ -36,7 +36,10 @@ static double number(uint64_t bits)
 
 static stacker_burst burst(void)
 {
-    return (stacker_burst){ .width = head[WIDTH], .height = head[HEIGHT], .count = head[COUNT], .reference = head[REFERENCE] };
+    stacker_burst burst = { .width = head[WIDTH], .height = head[HEIGHT], .count = head[COUNT], .reference = head[REFERENCE] };
+    for (int plane = 0; plane < 4; plane++)
+        burst.black[plane] = (uint16_t)head[BLACK + plane];
+    return burst;
 }
 
 static stacker_noise measured(void)

@@ -3,13 +3,15 @@
 
 #include <string.h>
 
-enum { GREATEST_LEVEL = 4194304, LAST_REFUSAL = STACKER_REFUSED_PGM };
+enum { GREATEST_LEVEL = 4194304, LAST_REFUSAL = STACKER_REFUSED_BLACK };
 
 static int describes(void)
 {
     stacker_file file = { .width = 64, .height = 128, .count = 3, .reference = 2, .strength = 5 };
     stacker_burst burst = stacker_file_burst(file);
-    return burst.width == 64 && burst.height == 128 && burst.count == 3 && burst.reference == 2 && stacker_file_tuning(file).strength == 5;
+    uint16_t none[4] = { 0, 0, 0, 0 };
+    return burst.width == 64 && burst.height == 128 && burst.count == 3 && burst.reference == 2 && memcmp(burst.black, none, sizeof none) == 0
+        && stacker_file_tuning(file).strength == 5;
 }
 
 static int keeps_levels(void)

@@ -8,6 +8,8 @@ use crate::shape::Shape;
 pub struct Burst {
     pub shape: Shape,
     pub reference: u64,
+    /// "a black level for each of the four planes", in the order RGGB.
+    pub black: [u64; 4],
     pub samples: Vec<u16>,
 }
 
@@ -29,6 +31,11 @@ impl Burst {
         self.half_size(|row, column| {
             self.sample(frame, 2 * row + row_parity, 2 * column + column_parity)
         })
+    }
+
+    /// The black level of a plane.
+    pub fn black_level(&self, row_parity: i64, column_parity: i64) -> i64 {
+        self.black[(2 * row_parity + column_parity) as usize] as i64
     }
 
     /// "Level 0: the sum of each 2 by 2 Bayer square."

@@ -66,14 +66,14 @@ impl Call {
         self.check_samples()
     }
 
-    /// Refusals 1 to 12.
+    /// Run's refusals, then 12.
     fn check_merge(&self) -> Result<NoiseModel, Refusal> {
         let noise = self.check_run()?;
         self.check_vectors()?;
         Ok(noise)
     }
 
-    /// Refusals 1 to 11: vectors found level by level reach at most 4, 20, 84 and 172, so run has no 12.
+    /// Refusals 1 to 10, 18 and 11: vectors found level by level reach at most 4, 20, 84 and 172, so run has no 12.
     fn check_run(&self) -> Result<NoiseModel, Refusal> {
         self.check_burst()?;
         self.check_vectors_length()?;
@@ -84,6 +84,7 @@ impl Call {
         )?;
         self.check_work_length()?;
         let noise = self.denoising.model()?;
+        self.check_black()?;
         self.check_samples()?;
         Ok(noise)
     }
@@ -112,6 +113,12 @@ impl Call {
             self.work_length == self.burst.shape.work_length(),
             Refusal::WorkLength,
         )
+    }
+
+    /// Refusal 18: "a black level above 255".
+    fn check_black(&self) -> Result<(), Refusal> {
+        let allowed = self.burst.black.iter().all(|&black| black <= 255);
+        require(allowed, Refusal::BlackLevel)
     }
 
     /// Refusal 11: "sample > 4095".

@@ -15,7 +15,7 @@ struct Header {
     noise: NoiseModel,
 }
 
-/// What an accepted file holds.
+/// What an accepted file holds; its black levels are 0.
 #[derive(Debug, PartialEq, Eq)]
 pub struct BurstFile {
     pub burst: Burst,
@@ -84,6 +84,7 @@ fn read_rows(header: Header, mut rest: &[u8]) -> Result<BurstFile, Refusal> {
         burst: Burst {
             shape: header.shape,
             reference: header.reference,
+            black: [0; 4],
             samples,
         },
         noise: header.noise,

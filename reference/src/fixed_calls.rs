@@ -4,7 +4,7 @@
 use crate::burst::Burst;
 use crate::calls::Call;
 use crate::noise::{Curve, Denoising, Noise};
-use crate::pictures::Picture;
+use crate::pictures::{dark, Picture};
 use crate::random::Random;
 use crate::shape::Shape;
 
@@ -21,7 +21,9 @@ pub fn calls() -> impl Iterator<Item = Call> {
         .chain(in_turn(64, 4096, 0, tall.collect()))
         .chain(in_turn(1024, 1024, 0, vec![[2, 0], [2, 1], [1, 0]]))
         .chain(mirrored_reads())
+        .chain(pedestals())
         .chain(refused_vectors())
+        .chain(faults_beside_black())
 }
 
 /// Every count with every reference at one size. In eight rounds each of them meets every picture,
@@ -55,7 +57,7 @@ fn all_frames() -> Vec<[u64; 2]> {
     (1..=8).flat_map(references).collect()
 }
 
-/// The call whose turn it is: eight pictures, five noises and three kinds of lent vectors.
+/// The call whose turn it is: eight pictures, seven black levels, five noises and three kinds of lent vectors.
 fn call(turn: usize, shape: Shape, reference: u64, random: &mut Random) -> Call {
     let samples = Picture::ALL[turn % 8].samples(shape, random);
     let part = |_| match turn % 3 {
@@ -68,11 +70,22 @@ fn call(turn: usize, shape: Shape, reference: u64, random: &mut Random) -> Call 
         burst: Burst {
             shape,
             reference,
+            black: black(turn),
             samples,
         },
         denoising: denoising(turn),
         output: vec![55555; shape.output_length() as usize],
         work_length: shape.work_length(),
+    }
+}
+
+fn black(turn: usize) -> [u64; 4] {
+    match turn % 7 {
+        0..=2 => [0; 4],
+        3 => [64; 4],
+        4 => [61, 64, 70, 0],
+        5 => [255; 4],
+        _ => [0, 255, 1, 254],
     }
 }
 
@@ -114,6 +127,54 @@ fn mirrored_reads() -> impl Iterator<Item = Call> {
         }
         call
     })
+}
+
+/// Dark frames, whose samples lie about the black levels or below all of them, and black levels of 256, which merge and
+/// run refuse.
+fn pedestals() -> impl Iterator<Item = Call> {
+    let shape = Shape {
+        width: 64,
+        height: 64,
+        count: 3,
+    };
+    let equal = [0, 64, 200, 201, 255, 256].map(|black| [black; 4]);
+    let unequal = [[50, 100, 150, 255], [201, 0, 199, 64]];
+    let refused = [0, 1, 2, 3].map(|plane| {
+        let mut black = [255; 4];
+        black[plane] = 256;
+        black
+    });
+    let levels = equal.into_iter().chain(unequal).chain(refused);
+    let mut random = Random::new(4);
+    levels.map(move |black| {
+        let mut call = call(0, shape, 1, &mut random);
+        call.burst.black = black;
+        call.burst.samples = dark(shape, &mut random);
+        call
+    })
+}
+
+/// A black level of 256 beside a strength above 1024, a sample above 4095 and both: 18 comes after 10 and before 11.
+fn faults_beside_black() -> impl Iterator<Item = Call> {
+    let shape = Shape {
+        width: 64,
+        height: 64,
+        count: 2,
+    };
+    let mut random = Random::new(5);
+    [(true, false), (false, true), (true, true)]
+        .into_iter()
+        .map(move |(strength, sample)| {
+            let mut call = call(0, shape, 0, &mut random);
+            call.burst.black[2] = 256;
+            if strength {
+                call.denoising.strength = 1025;
+            }
+            if sample {
+                call.burst.samples[7] = 4096;
+            }
+            call
+        })
 }
 
 /// One part of the lent vectors just outside what merge takes, or far outside, at either end.

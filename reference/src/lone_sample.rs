@@ -26,6 +26,7 @@ pub fn call() -> Call {
         burst: Burst {
             shape,
             reference: 0,
+            black: [0; 4],
             samples,
         },
         denoising: Denoising {

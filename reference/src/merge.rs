@@ -26,6 +26,7 @@ impl<'a> Setting<'a> {
         let plane = |frame| self.burst.plane(frame, row_parity, column_parity);
         Plane {
             setting: *self,
+            black: self.burst.black_level(row_parity, column_parity),
             reference: plane(self.burst.reference),
             others: self.burst.others().into_iter().map(plane).collect(),
         }
@@ -35,6 +36,7 @@ impl<'a> Setting<'a> {
 /// One plane of every frame.
 pub struct Plane<'a> {
     setting: Setting<'a>,
+    black: i64,
     pub reference: Image,
     others: Vec<Image>,
 }
@@ -55,7 +57,8 @@ impl Plane<'_> {
             subtracted(&tile, &moved)
         };
         let differences = self.others.iter().enumerate().map(difference).collect();
-        (differences, self.setting.noise.noise_number(root(&tile)))
+        let root = root(&tile, self.black);
+        (differences, self.setting.noise.noise_number(root))
     }
 
     /// "use its vectors unscaled".
@@ -132,9 +135,15 @@ pub fn merge(setting: &Setting) -> Vec<u16> {
     frame.into_samples()
 }
 
-/// "r = floor of the root of the sum of T0 squared: the RMS in sixteenths."
-pub fn root(tile: &Tile) -> u64 {
-    let squares: i64 = tile.iter().flatten().map(|sample| sample * sample).sum();
+/// "r = floor of the root of the sum of T0 squared: the RMS in sixteenths", where "each reference sample counts as the
+/// amount by which it exceeds its plane's black, or 0".
+pub fn root(tile: &Tile, black: i64) -> u64 {
+    let excess = |sample: &i64| (sample - black).max(0);
+    let squares: i64 = tile
+        .iter()
+        .flatten()
+        .map(|sample| excess(sample).pow(2))
+        .sum();
     (squares as u64).isqrt()
 }
 

@@ -91,6 +91,12 @@ fn one_tile(shape: Shape, random: &mut Random) -> Vec<u16> {
     samples
 }
 
+/// Any samples up to 200, as dark frames on a pedestal have them.
+pub fn dark(shape: Shape, random: &mut Random) -> Vec<u16> {
+    let length = shape.samples_length();
+    (0..length).map(|_| random.below(201) as u16).collect()
+}
+
 fn flat(shape: Shape, random: &mut Random) -> Vec<u16> {
     let length = shape.output_length() as usize;
     let frames = (0..shape.count).map(|_| vec![random.below(4096) as u16; length]);

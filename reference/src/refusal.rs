@@ -1,6 +1,6 @@
 //! "Refused inputs": the numbered table.
 
-/// The rows of the table in the order of their numbers.
+/// The rows of the table and of the requests after it, by their numbers.
 #[derive(Clone, Copy, Debug, PartialEq, Eq)]
 pub enum Refusal {
     Size = 1,
@@ -20,6 +20,7 @@ pub enum Refusal {
     FileEnd = 15,
     BytesLength = 16,
     Pgm = 17,
+    BlackLevel = 18,
 }
 
 impl Refusal {

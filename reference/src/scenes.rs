@@ -3,9 +3,12 @@
 use crate::burst::Burst;
 use crate::calls::Call;
 use crate::noise::{Curve, Denoising, Noise};
-use crate::pictures::Picture;
+use crate::pictures::{dark, Picture};
 use crate::random::Random;
 use crate::shape::Shape;
+
+/// The refusals that calls meet, in the order of their tests.
+pub const FAULTS: [u64; 13] = [1, 2, 3, 4, 5, 6, 7, 8, 9, 10, 18, 11, 12];
 
 /// Calls of frames up to `side` in width and height; a third of them with one or two faults.
 pub fn calls(side: u64, count: usize, seed: u64) -> impl Iterator<Item = Call> {
@@ -14,7 +17,7 @@ pub fn calls(side: u64, count: usize, seed: u64) -> impl Iterator<Item = Call> {
         let mut call = call(side, &mut random);
         let faults = random.pick(&[0, 0, 0, 0, 1, 2]);
         for _ in 0..faults {
-            add_fault(&mut call, 1 + random.below(12) as u64, &mut random);
+            add_fault(&mut call, random.pick(&FAULTS), &mut random);
         }
         call
     })
@@ -36,6 +39,7 @@ fn call(side: u64, random: &mut Random) -> Call {
         burst: Burst {
             shape,
             reference: random.below(count as usize) as u64,
+            black: black(random),
             samples: samples(shape, random),
         },
         denoising: denoising(random),
@@ -43,6 +47,12 @@ fn call(side: u64, random: &mut Random) -> Call {
         output: vec![55555; shape.output_length() as usize],
         work_length: shape.work_length(),
     }
+}
+
+fn black(random: &mut Random) -> [u64; 4] {
+    let mut level = || random.below(256) as u64;
+    let any = [level(), level(), level(), level()];
+    random.pick(&[[0; 4], [64; 4], [255; 4], any])
 }
 
 fn denoising(random: &mut Random) -> Denoising {
@@ -58,9 +68,10 @@ fn denoising(random: &mut Random) -> Denoising {
 }
 
 fn samples(shape: Shape, random: &mut Random) -> Vec<u16> {
-    match random.below(4) {
+    match random.below(6) {
         0 => Picture::Extremes.samples(shape, random),
-        1 => sparse(shape.samples_length() as usize, random),
+        1 => dark(shape, random),
+        2 => sparse(shape.samples_length() as usize, random),
         _ => Picture::Shifted.samples(shape, random),
     }
 }
@@ -74,7 +85,7 @@ fn sparse(length: usize, random: &mut Random) -> Vec<u16> {
     samples
 }
 
-/// Makes the condition of one of the refusals 1 to 12 hold; 12 wants a buffer of vectors that is not empty.
+/// Makes the condition of one of these refusals hold; 12 wants a buffer of vectors that is not empty.
 pub fn add_fault(call: &mut Call, number: u64, random: &mut Random) {
     let Shape {
         width,
@@ -92,6 +103,7 @@ pub fn add_fault(call: &mut Call, number: u64, random: &mut Random) {
         8 => call.denoising.noise = negative_or_not_finite(random),
         9 => call.denoising.noise = curve(65.0),
         10 => call.denoising.strength = random.pick(&[1025, u64::MAX]),
+        18 => spoil(&mut call.burst.black, &[256, 257, 65535], random),
         11 => spoil(&mut call.burst.samples, &[4096, 65535], random),
         _ => spoil(&mut call.vectors, &[173, -173, i32::MIN], random),
     }

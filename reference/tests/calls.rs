@@ -4,7 +4,7 @@ use reference::burst::Burst;
 use reference::calls::{Answer, Call};
 use reference::noise::{Curve, Denoising, Noise};
 use reference::random::Random;
-use reference::scenes::add_fault;
+use reference::scenes::{add_fault, FAULTS};
 use reference::shape::Shape;
 
 /// The flat example with vectors of −172.
@@ -21,6 +21,7 @@ fn good() -> Call {
                 count: 2,
             },
             reference: 0,
+            black: [0; 4],
             samples: [vec![0; 4096], vec![4; 4096]].concat(),
         },
         denoising: Denoising {
@@ -40,8 +41,8 @@ fn with_fault(mut call: Call, number: u64) -> Call {
 
 /// Every pair of faults is refused by the first that the call tests, and changes nothing.
 fn check_pairs(perform: fn(&mut Call) -> Answer, tested: &[u64]) {
-    for first in 1..=12 {
-        for second in first..=12 {
+    for (index, &first) in FAULTS.iter().enumerate() {
+        for &second in &FAULTS[index..] {
             let Some(&number) = tested.iter().find(|&&n| n == first || n == second) else {
                 continue;
             };
@@ -65,12 +66,12 @@ fn refusals_of_align() {
 
 #[test]
 fn refusals_of_merge() {
-    check_pairs(Call::merge, &[1, 2, 3, 4, 5, 6, 7, 8, 9, 10, 11, 12]);
+    check_pairs(Call::merge, &FAULTS);
 }
 
 #[test]
 fn refusals_of_run() {
-    check_pairs(Call::run, &[1, 2, 3, 4, 5, 6, 7, 8, 9, 10, 11]);
+    check_pairs(Call::run, &FAULTS[..12]);
 }
 
 #[test]
@@ -79,7 +80,7 @@ fn untested_faults_are_accepted() {
         number: 0,
         residuals: [102400, 0, 0, 0, 0, 0, 0],
     };
-    for fault in [6, 8, 9, 10, 12] {
+    for fault in [6, 8, 9, 10, 18, 12] {
         let lent = with_fault(good(), fault);
         let mut call = lent.clone();
         assert_eq!(call.align(), accepted, "{fault}");

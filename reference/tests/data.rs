@@ -10,7 +10,7 @@ use std::collections::BTreeSet;
 fn fixed_calls_have_every_count_and_reference() {
     let mut seen = BTreeSet::new();
     let mut greatest = 0;
-    for call in calls() {
+    for call in calls().take(180) {
         let shape = call.burst.shape;
         assert_eq!(call.burst.samples.len() as u64, shape.samples_length());
         assert_eq!(call.vectors.len() as u64, shape.vectors_length());
@@ -42,13 +42,28 @@ fn rounds_turn_pictures_and_noises() {
 }
 
 #[test]
+fn black_levels_about_the_samples() {
+    let pedestals = calls().skip(160).take(12);
+    let answers =
+        pedestals.map(|mut call| [call.align(), call.merge()].map(|answer| answer.number));
+    let accepted = |answer: &[u64; 2]| answer == &[0, 0];
+    let (good, refused): (Vec<_>, Vec<_>) = answers.partition(accepted);
+    assert_eq!(good.len(), 7);
+    assert_eq!(refused, [[0, 18]; 5]);
+}
+
+#[test]
 fn vectors_outside_are_refused() {
-    let last = calls().collect::<Vec<_>>().split_off(160);
-    assert_eq!(last.len(), 8);
-    for mut call in last {
+    for mut call in calls().skip(172).take(8) {
         assert_eq!(call.merge().number, 12);
         assert_eq!(call.run().number, 0);
     }
+}
+
+#[test]
+fn black_levels_are_tested_after_strength_and_before_samples() {
+    let last = calls().skip(180).map(|mut call| call.merge().number);
+    assert_eq!(last.collect::<Vec<_>>(), [10, 18, 10]);
 }
 
 /// Why run has no refusal 12.

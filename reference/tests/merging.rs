@@ -17,11 +17,41 @@ fn levels(shot: u64, read: u64) -> Levels {
 
 #[test]
 fn m1_to_m3_roots() {
-    assert_eq!(root(&[[100; 16]; 16]), 1600);
-    assert_eq!(root(&[[4095; 16]; 16]), 65520);
+    assert_eq!(root(&[[100; 16]; 16], 0), 1600);
+    assert_eq!(root(&[[4095; 16]; 16], 0), 65520);
     let mut tile: Tile = [[0; 16]; 16];
     tile[5][7] = 1;
-    assert_eq!(root(&tile), 1);
+    assert_eq!(root(&tile, 0), 1);
+}
+
+/// "the amount by which it exceeds its plane's black, or 0"
+#[test]
+fn roots_above_black() {
+    assert_eq!(root(&[[100; 16]; 16], 64), 36 * 16);
+    assert_eq!(root(&[[64; 16]; 16], 64), 0);
+    assert_eq!(root(&[[0; 16]; 16], 255), 0);
+    let mut tile: Tile = [[60; 16]; 16];
+    tile[0][0] = 67;
+    tile[9][3] = 68;
+    assert_eq!(root(&tile, 64), 5);
+}
+
+/// Of the planes only the second has light: 4 above its black, so r is 64, V is 2^28, as |Q|² is, and half of the other
+/// frame's difference is taken.
+#[test]
+fn black_levels_of_the_planes() {
+    let mut call = lone_sample::call();
+    call.burst.shape.count = 2;
+    call.burst.black = [64, 60, 64, 255];
+    call.burst.samples = [vec![64; 4096], vec![68; 4096]].concat();
+    call.denoising.noise = Noise::Curve(Curve {
+        shot: 64.0,
+        read: 0.0,
+    });
+    call.vectors.truncate(50);
+    assert_eq!(call.merge().number, 0);
+    let rows: Vec<u16> = [[64, 65].repeat(32), vec![64; 64]].concat();
+    assert_eq!(call.output, rows.repeat(32));
 }
 
 #[test]

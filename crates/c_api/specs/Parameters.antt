@@ -20,6 +20,6 @@ measured noise = Measured (record { shot = noise .shot; read = noise .read })
 abbrev pub atIso : IsoNoise → Noise
 atIso noise = Iso (noise .iso) (record { shot = noise .shot; read = noise .read })
 
--- "Strength t = 0..1024"
-abbrev pub tuned : MergeTuning → Tuning
-tuned tuning = record { strength = tuning .strength }
+-- "Strength t = 0..1024", and "The burst gains a black level for each of the four planes" (request L3)
+abbrev pub tuned : Burst → MergeTuning → Tuning
+tuned burst tuning = record { strength = tuning .strength; black = burst .black }

@@ -7,13 +7,14 @@ pub mod run;
 
 // As in include/stacker.h, field by field.
 
-// Frames of one size, and the index of the one that the others are merged on.
+// Frames of one size, the index of the one that the others are merged on, and the black levels of the planes, in the pattern's order RGGB.
 #[repr(C)]
 pub struct Burst {
     pub width: u64,
     pub height: u64,
     pub count: u64,
     pub reference: u64,
+    pub black: [u16; 4],
 }
 
 // A burst's own curve.

@@ -21,7 +21,7 @@ pub extern "C" fn stacker_merge(
     output: &mut [u16],
     work: &mut [i64],
 ) -> u64
-    ensures { λ r. ⌜ Merged (shapeOf burst) (burst .reference) (measured noise) (tuned tuning) (now (samples .entry)) (now (vectors .entry)) (now (output .entry)) (now (output .exit)) (now (work .entry)) (now (work .exit)) r ⌝ }
+    ensures { λ r. ⌜ Merged (shapeOf burst) (burst .reference) (measured noise) (tuned burst tuning) (now (samples .entry)) (now (vectors .entry)) (now (output .entry)) (now (output .exit)) (now (work .entry)) (now (work .exit)) r ⌝ }
 {
     let shape = Shape {
         width: burst.width as usize,
@@ -32,8 +32,10 @@ pub extern "C" fn stacker_merge(
         shot: noise.shot,
         read: noise.read,
     });
+    let black = burst.black;
     let tuning = Tuning {
         strength: tuning.strength,
+        black,
     };
     stacker::merge::merge(
         shape,
@@ -58,7 +60,7 @@ pub extern "C" fn stacker_merge_iso(
     output: &mut [u16],
     work: &mut [i64],
 ) -> u64
-    ensures { λ r. ⌜ Merged (shapeOf burst) (burst .reference) (atIso noise) (tuned tuning) (now (samples .entry)) (now (vectors .entry)) (now (output .entry)) (now (output .exit)) (now (work .entry)) (now (work .exit)) r ⌝ }
+    ensures { λ r. ⌜ Merged (shapeOf burst) (burst .reference) (atIso noise) (tuned burst tuning) (now (samples .entry)) (now (vectors .entry)) (now (output .entry)) (now (output .exit)) (now (work .entry)) (now (work .exit)) r ⌝ }
 {
     let shape = Shape {
         width: burst.width as usize,
@@ -71,8 +73,10 @@ pub extern "C" fn stacker_merge_iso(
         read: noise.read,
     };
     let noise = Noise::Iso { iso, base };
+    let black = burst.black;
     let tuning = Tuning {
         strength: tuning.strength,
+        black,
     };
     stacker::merge::merge(
         shape,

@@ -22,7 +22,7 @@ pub extern "C" fn stacker_run(
     output: &mut [u16],
     work: &mut [i64],
 ) -> Alignment
-    ensures { λ r. ⌜ Ran (shapeOf burst) (burst .reference) (measured noise) (tuned tuning) (now (samples .entry)) (now (vectors .entry)) (now (vectors .exit)) (now (output .entry)) (now (output .exit)) (now (work .entry)) (now (work .exit)) r ⌝ }
+    ensures { λ r. ⌜ Ran (shapeOf burst) (burst .reference) (measured noise) (tuned burst tuning) (now (samples .entry)) (now (vectors .entry)) (now (vectors .exit)) (now (output .entry)) (now (output .exit)) (now (work .entry)) (now (work .exit)) r ⌝ }
 {
     let shape = Shape {
         width: burst.width as usize,
@@ -33,8 +33,10 @@ pub extern "C" fn stacker_run(
         shot: noise.shot,
         read: noise.read,
     });
+    let black = burst.black;
     let tuning = Tuning {
         strength: tuning.strength,
+        black,
     };
     stacker::run::run(
         shape,
@@ -59,7 +61,7 @@ pub extern "C" fn stacker_run_iso(
     output: &mut [u16],
     work: &mut [i64],
 ) -> Alignment
-    ensures { λ r. ⌜ Ran (shapeOf burst) (burst .reference) (atIso noise) (tuned tuning) (now (samples .entry)) (now (vectors .entry)) (now (vectors .exit)) (now (output .entry)) (now (output .exit)) (now (work .entry)) (now (work .exit)) r ⌝ }
+    ensures { λ r. ⌜ Ran (shapeOf burst) (burst .reference) (atIso noise) (tuned burst tuning) (now (samples .entry)) (now (vectors .entry)) (now (vectors .exit)) (now (output .entry)) (now (output .exit)) (now (work .entry)) (now (work .exit)) r ⌝ }
 {
     let shape = Shape {
         width: burst.width as usize,
@@ -72,8 +74,10 @@ pub extern "C" fn stacker_run_iso(
         read: noise.read,
     };
     let noise = Noise::Iso { iso, base };
+    let black = burst.black;
     let tuning = Tuning {
         strength: tuning.strength,
+        black,
     };
     stacker::run::run(
         shape,

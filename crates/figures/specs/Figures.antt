@@ -31,9 +31,9 @@ shot64 = Measured (record { shot = fin false 1 (pos 6); read = fin false 0 (pos 
 -- M1 to M11 in their order
 abbrev pub computed : List ℤ
 computed =
-    pos (tileRoot 16 (λ i j. 100))
-    ∷ pos (tileRoot 16 (λ i j. 4095))
-    ∷ pos (tileRoot 16 (only 1 0))
+    pos (tileRoot 16 0 (λ i j. 100))
+    ∷ pos (tileRoot 16 0 (λ i j. 4095))
+    ∷ pos (tileRoot 16 0 (only 1 0))
     ∷ pos (noiseNumber side16 8 1024 0 1600)
     ∷ pos (noiseNumber side16 0 1024 0 1600)
     ∷ pos (shotLevel (levelsOf iso400)) ∷ pos (readLevel (levelsOf iso400))

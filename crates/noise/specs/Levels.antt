@@ -1,8 +1,9 @@
--- The levels Ls and Lr of a noise, and refusals 8, 9 and 10.
-use Rattle.algebra.specs.Prelude.{Bool, _||_, List, [], _∷_, ℕ, ltb}
+-- The levels Ls and Lr of a noise, and refusals 8, 9, 10 and 18.
+use Rattle.algebra.specs.Prelude.{Bool, _||_, List, [], _∷_, ℕ, ltb, getD}
 use Rattle.refusals.specs.Numbers as no
 use Rattle.refusals.specs.Tests.{refuse, first}
 use Rattle.refusals.specs.After.{after}
+use Rattle.refusals.specs.Some.{some}
 use Rattle.noise.specs.declared.Curve.{Curve}
 use Rattle.noise.specs.declared.Noise.{Noise}
 use Rattle.noise.specs.declared.Noise.the-variants.{Measured, Iso}
@@ -59,3 +60,7 @@ levelRefusal ls lr = refuse no.noiseLimit (ltb 65536 ls || ltb 4194304 lr)
 -- refusal 10, "t > 1024"
 unfoldable pub strengthRefusal : ℕ → ℕ
 strengthRefusal t = refuse no.strength (ltb 1024 t)
+
+-- refusal 18, "a black level above 255" (request L3), of the four
+unfoldable pub blackRefusal : List ℕ → ℕ
+blackRefusal black = refuse no.blackLevel (some 4 (λ k. ltb 255 (getD black k 0)))

@@ -1,6 +1,6 @@
 -- The whole root r of n is the one number with r² ≤ n < (r + 1)²: by induction on the steps, and by comparing squares.
 use Rattle.algebra.specs.Prelude.{_≡_, refl, Bool, true, false, cond, ℕ, zero, suc, _+_, _*_, _/_, _≤_, _<_, arith, leb}
-use native.Mathlib.Nat.{le-antisymm, lt-of-not-le, mul-le-mul}
+use native.Mathlib.Nat.{le-antisymm, le-trans, lt-of-not-le, mul-le-mul}
 use borrow.Author.Tests.{leb-true, leb-false}
 use Rattle.recipe.specs.Root.{orNext, rootIn, wholeRoot}
 
@@ -33,6 +33,9 @@ root-le {n} {r} {q} low high = let h : r < q + 1 = lt-of-not-le (λ g. clash (mu
 
 pub root-unique : {n r : ℕ} → IsRoot n r → r ≡ wholeRoot n
 root-unique {n} {r} h = le-antisymm (root-le (h .low) (root-is n .high)) (root-le (root-is n .low) (h .high))
+
+pub root-mono : {n m : ℕ} → n ≤ m → wholeRoot n ≤ wholeRoot m
+root-mono {n} {m} h = root-le (le-trans (root-is n .low) h) (root-is m .high)
 
 pub root-most : {n b : ℕ} → n ≤ b * b → wholeRoot n ≤ b
 root-most {n} {b} h = root-le (root-is n .low) (omega arith)

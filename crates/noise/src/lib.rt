@@ -5,7 +5,7 @@ mod squares;
 ghost use mathlib.Core.Path.{_≡_};
 ghost use Prim.Native.Nat.{_≤_};
 ghost use Rattle.sequences.specs.Grid.{cell};
-ghost use Rattle.noise.specs.Levels.{levelsOf, levelRefusal, strengthRefusal};
+ghost use Rattle.noise.specs.Levels.{levelsOf, levelRefusal, strengthRefusal, blackRefusal};
 ghost use Rattle.recipe.specs.Tables.{side16};
 ghost use Rattle.recipe.specs.Root.{wholeRoot};
 ghost use Rattle.recipe.specs.NoiseNumber.{tileRoot, noiseNumber};
@@ -63,6 +63,20 @@ pub fn strength_refusal(t: u64) -> u64
     refusals::refuse(refusals::STRENGTH, 1024 < t)
 }
 
+// Refusal 18.
+pub fn black_refusal(black: [u16; 4]) -> u64
+    ensures { λ r. ⌜ r ≡ blackRefusal black ⌝ }
+{
+    let mut k = 0;
+    while k < 4 {
+        if 255 < black[k] {
+            return refusals::BLACK_LEVEL;
+        }
+        k += 1;
+    }
+    0
+}
+
 // The greatest number whose square is at most n.
 pub fn whole_root(n: u64) -> u64
     ensures { λ r. ⌜ r ≡ wholeRoot n ⌝ }
@@ -73,11 +87,11 @@ pub fn whole_root(n: u64) -> u64
     squares::root_below(n, 4294967296)
 }
 
-// r of a tile.
-pub fn tile_root(tile: [[u16; 16]; 16]) -> u64
-    ensures { λ r. ⌜ (r ≡ tileRoot 16 (cell 0 tile)) × (r ≤ 1048560) ⌝ }
+// r of a tile on a plane of that black level.
+pub fn tile_root(black: u16, tile: [[u16; 16]; 16]) -> u64
+    ensures { λ r. ⌜ (r ≡ tileRoot 16 black (cell 0 tile)) × (r ≤ 1048560) ⌝ }
 {
-    whole_root(squares::sum_of_squares(tile))
+    whole_root(squares::sum_of_squares(black, tile))
 }
 
 // V of a tile's root.

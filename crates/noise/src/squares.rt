@@ -25,39 +25,39 @@ pub fn root_below(n: u64, bound: u64) -> u64
     low
 }
 
-// What r squares of a sample.
-fn intensity(sample: u16) -> u64
-    ensures { λ r. ⌜ (r ≡ intensity sample) × (r ≤ 65535) ⌝ }
+// What r squares of a sample: by how much it exceeds the black level, or 0.
+fn intensity(black: u16, sample: u16) -> u16
+    ensures { λ r. ⌜ (r ≡ intensity black sample) × (r ≤ 65535) ⌝ }
 {
-    sample as u64
+    if black < sample { sample - black } else { 0 }
 }
 
 // Its square.
-fn squared(sample: u16) -> u64
-    ensures { λ r. ⌜ (r ≡ squared sample) × (r ≤ 4294836225) ⌝ }
+fn squared(black: u16, sample: u16) -> u64
+    ensures { λ r. ⌜ (r ≡ squared black sample) × (r ≤ 4294836225) ⌝ }
 {
-    let x = intensity(sample);
+    let x = intensity(black, sample) as u64;
     x * x
 }
 
 // The squares of a row, added up.
-fn row_squares(row: [u16; 16]) -> u64
-    ensures { λ r. ⌜ (r ≡ sumN 16 (λ j. squared (getD row j 0))) × (r ≤ 68717379600) ⌝ }
+fn row_squares(black: u16, row: [u16; 16]) -> u64
+    ensures { λ r. ⌜ (r ≡ sumN 16 (λ j. squared black (getD row j 0))) × (r ≤ 68717379600) ⌝ }
 {
     let mut sum: u64 = 0;
     for j in 0..16 {
-        sum += squared(row[j]);
+        sum += squared(black, row[j]);
     }
     sum
 }
 
 // The squares of a tile, added up.
-pub fn sum_of_squares(tile: [[u16; 16]; 16]) -> u64
-    ensures { λ r. ⌜ (r ≡ sumOfSquares 16 (cell 0 tile)) × (r ≤ 1099478073600) ⌝ }
+pub fn sum_of_squares(black: u16, tile: [[u16; 16]; 16]) -> u64
+    ensures { λ r. ⌜ (r ≡ sumOfSquares 16 black (cell 0 tile)) × (r ≤ 1099478073600) ⌝ }
 {
     let mut sum: u64 = 0;
     for i in 0..16 {
-        sum += row_squares(tile[i]);
+        sum += row_squares(black, tile[i]);
     }
     sum
 }

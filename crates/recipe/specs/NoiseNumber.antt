@@ -1,23 +1,23 @@
 -- The root r of a tile and its noise number V.
-use Prim.Native.Nat.{ℕ, _+_, _*_, _/_}
+use Prim.Native.Nat.{ℕ, _+_, _-_, _*_, _/_}
 use Rattle.algebra.specs.Sums.{sumN}
 use Rattle.recipe.specs.Side.{Side}
 use Rattle.recipe.specs.Root.{wholeRoot}
 
--- what r squares of a sample: the sample
-abbrev pub intensity : ℕ → ℕ
-intensity sample = sample
+-- what r squares of a sample: "each reference sample counts as the amount by which it exceeds its plane's black, or 0" (request L3)
+abbrev pub intensity : (black sample : ℕ) → ℕ
+intensity black sample = sample - black
 
-abbrev pub squared : ℕ → ℕ
-squared sample = intensity sample * intensity sample
+abbrev pub squared : (black sample : ℕ) → ℕ
+squared black sample = intensity black sample * intensity black sample
 
--- "the sum of T0 squared", for a tile of n rows of n samples
-unfoldable pub sumOfSquares : ℕ → (ℕ → ℕ → ℕ) → ℕ
-sumOfSquares n tile = sumN n (λ i. sumN n (λ j. squared (tile i j)))
+-- "the sum of T0 squared", for a tile of n rows of n samples on a plane of that black level
+unfoldable pub sumOfSquares : (n black : ℕ) → (ℕ → ℕ → ℕ) → ℕ
+sumOfSquares n black tile = sumN n (λ i. sumN n (λ j. squared black (tile i j)))
 
 -- "r = floor of the root of the sum of T0 squared: the RMS in sixteenths", where n is 16
-unfoldable pub tileRoot : ℕ → (ℕ → ℕ → ℕ) → ℕ
-tileRoot n tile = wholeRoot (sumOfSquares n tile)
+unfoldable pub tileRoot : (n black : ℕ) → (ℕ → ℕ → ℕ) → ℕ
+tileRoot n black tile = wholeRoot (sumOfSquares n black tile)
 
 -- "Ls·r + 16·Lr" for side 16: the variance shot · RMS + read, in 1/(1024·side)
 unfoldable pub variance : Side → (ls lr r : ℕ) → ℕ

@@ -1,5 +1,5 @@
 -- What a merge reads, and its tiles: T0, Tz, their differences, and the noise number.
-use Rattle.algebra.specs.Prelude.{List, ℕ, _+_, _-_, _/_, _%_, ℤ, pos, _+ℤ_, _-ℤ_}
+use Rattle.algebra.specs.Prelude.{List, ℕ, _+_, _-_, _*_, _/_, _%_, getD, ℤ, pos, _+ℤ_, _-ℤ_}
 use Rattle.geometry.specs.Read.{Image, sampleAt, planeOf, read}
 use Rattle.geometry.specs.Tiles.{origin}
 use Rattle.geometry.specs.Vectors.{otherFrame, downAt, rightAt}
@@ -41,6 +41,10 @@ sceneOf m samples vectors =
       tuning = m .tuning;
     }
 
+-- "a black level for each of the four planes" (request L3), in the pattern's order: R and G in rows of parity 0, G and B in those of parity 1
+unfoldable pub blackOf : Tuning → (rowParity columnParity : ℕ) → ℕ
+blackOf tuning rowParity columnParity = getD (tuning .black) (2 * rowParity + columnParity) 0
+
 -- Two tiles lie over row (or column) y of a plane: tile t = 0, 1, counted from the last, is this one
 abbrev pub tileOver : Side → (y t : ℕ) → ℕ
 tileOver n y t = y / n .half + 1 - t
@@ -60,9 +64,9 @@ module _ (s : Scene) (rowParity columnParity : ℕ) where
     unfoldable pub otherTile : (k : ℕ) → Image
     otherTile k = tileAt (s .side) (s .height) (s .width) rowParity columnParity (s .other k) (s .down k a b) (s .right k a b) a b
 
-    -- r and V of the tile
+    -- r and V of the tile, with its plane's black level
     unfoldable pub tileNoise : ℕ
-    tileNoise = noiseNumber (s .side) (s .tuning .strength) (s .shot) (s .read) (tileRoot (s .side .side) referenceTile)
+    tileNoise = noiseNumber (s .side) (s .tuning .strength) (s .shot) (s .read) (tileRoot (s .side .side) (blackOf (s .tuning) rowParity columnParity) referenceTile)
 
     -- "T0−Tz"
     unfoldable pub difference : (k i j : ℕ) → ℤ

@@ -68,3 +68,7 @@ byteLength = 16
 -- L2: "any other departure when reading, a size not allowed included"
 abbrev pub pgmForm : ℕ
 pgmForm = 17
+
+-- L3: "a black level above 255"
+abbrev pub blackLevel : ℕ
+blackLevel = 18

@@ -36,6 +36,8 @@ pub const BYTE_LENGTH: u64 = 16;
 
 pub const PGM_FORM: u64 = 17;
 
+pub const BLACK_LEVEL: u64 = 18;
+
 // One test: its number where its condition holds, else 0.
 pub fn refuse(number: u64, condition: bool) -> u64
     ensures { λ r. ⌜ r ≡ refuse number condition ⌝ }

@@ -9,6 +9,10 @@ use Rattle.burst_file.specs.Burst.{Burst}
 use Rattle.printing.specs.Lines.{stackNames, numberLine, frameRows}
 use Rattle.report.specs.Program.{programText}
 
+-- "a burst file means zeros" (request L3)
+abbrev pub noBlack : List ℕ
+noBlack = 0 ∷ 0 ∷ 0 ∷ 0 ∷ []
+
 -- a merge of the file's values: "shot and read are Ls and Lr"
 abbrev pub fileMerge : Header → Merge
 fileMerge header =
@@ -17,7 +21,7 @@ fileMerge header =
       reference = header .reference;
       shot = header .«shot_level»;
       read = header .«read_level»;
-      tuning = record { strength = header .strength };
+      tuning = record { strength = header .strength; black = noBlack };
     }
 
 -- the frame's names, their values and its rows

@@ -42,8 +42,10 @@ fn run_burst(
 {
     let shape = header.shape;
     let end = PARTS * (shape.count - 1);
+    let black = [0u16; 4];
     let tuning = Tuning {
         strength: header.strength,
+        black,
     };
     let m = Merge {
         shape,

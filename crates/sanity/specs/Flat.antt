@@ -33,8 +33,8 @@ pub record FlatBurst (s : Shape) (reference : ℕ) (samples : List ℕ) (a : ℕ
 unfoldable pub flatCorrection : (noise : ℕ) (c : ℤ) → ℤ
 flatCorrection noise c = away (wiener noise (c *ℤ pos 4096) (pos 0)) 16
 
--- a − (sum of P)/(256·N), to nearest, halves upward, held to 0..4095; r is 16·a
-unfoldable pub flatOutput : Scene → (a : ℕ) (b : ℕ → ℕ) → ℤ
-flatOutput s a b =
+-- on a plane of that black level, a − (sum of P)/(256·N), to nearest, halves upward, held to 0..4095; r is 16·(a − black)
+unfoldable pub flatOutput : Scene → (black a : ℕ) (b : ℕ → ℕ) → ℤ
+flatOutput s black a b =
     clampZ (pos 0) (pos 4095)
-    (upward (pos a *ℤ pos (256 * suc (s .others)) -ℤ sumZ (s .others) (λ k. flatCorrection (noiseNumber side16 (s .tuning .strength) (s .shot) (s .read) (16 * a)) (pos a -ℤ pos (b k)))) (256 * suc (s .others)))
+    (upward (pos a *ℤ pos (256 * suc (s .others)) -ℤ sumZ (s .others) (λ k. flatCorrection (noiseNumber side16 (s .tuning .strength) (s .shot) (s .read) (16 * (a - black))) (pos a -ℤ pos (b k)))) (256 * suc (s .others)))

@@ -1,5 +1,5 @@
 -- Flat frames: a tile of equal differences has one bin and one correction everywhere, and the windows add up to one.
-use Rattle.algebra.specs.Prelude.{_≡_, refl, sym, ap, ap₂, _∙_, [], _∷_, ℕ, zero, suc, _+_, _*_, _%_, _<_, arith}
+use Rattle.algebra.specs.Prelude.{_≡_, refl, sym, ap, ap₂, _∙_, [], _∷_, ℕ, zero, suc, _+_, _-_, _*_, _%_, _<_, arith}
 use native.Mathlib.Nat.{zero-mul}
 use lib.Dec.{T, eqb, eqb→eq, lit<}
 use lib.IntN.{ℤ, pos, negsuc, negℤ, natAbs, _+ℤ_, _-ℤ_, _*ℤ_, +ℤ-idl, +ℤ-idr, *ℤ-zero, zero-*ℤ, *ℤ-comm}
@@ -10,7 +10,7 @@ use Rattle.algebra.specs.Test.{all, all-sound}
 use Rattle.algebra.specs.Nearest.{away, upward}
 use Rattle.algebra.specs.Clamp.{clampZ}
 use Rattle.noise.specs.RootLaws.{root-unique}
-use Rattle.recipe.specs.NoiseNumber.{squared, sumOfSquares, tileRoot}
+use Rattle.recipe.specs.NoiseNumber.{sumOfSquares, tileRoot}
 use Rattle.recipe.specs.Side.{Side, cosAt, sinAt}
 use Rattle.recipe.specs.Tables.{cosines, cosine16, sine16, side16}
 use Rattle.recipe.specs.Correction.{wiener, rowRe, rowIm, binRe, binIm, quantized, filtered, twiddleRe, twiddleIm, inverseRe, inverseAt, correctionAt}
@@ -153,12 +153,12 @@ module _ (c : ℤ) where
           ∙ away-scale (wiener noise (c *ℤ pos 4096) (pos 0)) 268435456 16 (lit< tt) (lit< tt)
 
 -- r of a flat tile
-pub flat-root : (a : ℕ) → tileRoot 16 (λ i j. a) ≡ 16 * a
+pub flat-root : (black a : ℕ) → tileRoot 16 black (λ i j. a) ≡ 16 * (a - black)
 unfolding tileRoot sumOfSquares
-flat-root a = sym (root-unique (record { low = omega (arith, squares); high = omega (arith, squares) }))
+flat-root black a = sym (root-unique (record { low = omega (arith, squares (a - black)); high = omega (arith, squares (a - black)) }))
   where
-    squares : sumN 16 (λ i. sumN 16 (λ j. squared a)) ≡ 16 * a * (16 * a)
-    squares = sumN-cong 16 _ _ (λ i h. sumN-const 16 (squared a)) ∙ sumN-const 16 (16 * squared a) ∙ omega arith
+    squares : (x : ℕ) → sumN 16 (λ i. sumN 16 (λ j. x * x)) ≡ 16 * x * (16 * x)
+    squares x = sumN-cong 16 _ _ (λ i h. sumN-const 16 (x * x)) ∙ sumN-const 16 (16 * (x * x)) ∙ omega arith
 
 -- w·w' of the four tiles
 windows : (i j : ℕ) → i < 8 → j < 8 → sumZ 4 (λ t. pos (weightIn side16 i j t)) ≡ pos 16777216

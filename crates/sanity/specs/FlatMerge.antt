@@ -1,6 +1,6 @@
--- Try flat frames: whatever the vectors, the merged frame is flat too, of the value `flatOutput`.
+-- Try flat frames: whatever the vectors, each plane of the merged frame is flat too, of the value `flatOutput`; and so is the frame where the planes have one black level.
 use mathlib.Core.Path.{_≡_, refl, _∙_, ap, ap₂, fun-ext}
-use Rattle.algebra.specs.Prelude.{List, ℕ, _+_, _*_, _/_, _%_, _<_, arith, ℤ, pos, natAbs, _-ℤ_}
+use Rattle.algebra.specs.Prelude.{List, ℕ, _+_, _-_, _*_, _/_, _%_, _<_, arith, ℤ, pos, natAbs, _-ℤ_}
 use lib.ListN.{replicate}
 use Rattle.sequences.specs.Grid.{tab-ext}
 use Rattle.sequences.specs.ClearLaws.{tab-const}
@@ -10,13 +10,14 @@ use Rattle.geometry.specs.Read.{planeOf, read}
 use Rattle.recipe.specs.Tables.{side16}
 use Rattle.recipe.specs.NoiseNumber.{tileRoot, noiseNumber}
 use Rattle.recipe.specs.declared.Merge.{Merge}
-use Rattle.recipe.specs.Scene.{Scene, sceneOf, tileAt, referenceTile, otherTile, tileNoise, difference}
+use Rattle.recipe.specs.Scene.{Scene, sceneOf, blackOf, tileAt, referenceTile, otherTile, tileNoise, difference}
 use Rattle.recipe.specs.Merged.{planeOutput, outputAt, wordAt, merged}
 use Rattle.geometry.specs.VectorLaws.{other-below}
 use Rattle.sanity.specs.FrameLaws.{flat-same, row-inside, column-inside}
 use Rattle.sanity.specs.MergeLaws.{tile-same}
 use Rattle.sanity.specs.FlatLaws.{flat-root, flat-sample}
 use Rattle.sanity.specs.Flat.{Flat, FlatBurst, flatOutput}
+use Rattle.sanity.specs.Pedestal.{OneBlack}
 
 module _ (s : Scene) {a : ℕ} {b : ℕ → ℕ} (flat : Flat s a b) where
   module _ (rowParity columnParity : ℕ) (p : rowParity < 2) (q : columnParity < 2) (row column : ℕ) where
@@ -29,18 +30,18 @@ module _ (s : Scene) {a : ℕ} {b : ℕ → ℕ} (flat : Flat s a b) where
     other-tile k h i j =
         tile-same (s .side) (s .height) (s .width) rowParity columnParity (s .other k) (λ y x. b k) (flat .high) (flat .wide) p q (flat .other k h) (s .down k row column) (s .right k row column) row column i j
 
-    tile-noise : tileNoise s rowParity columnParity row column ≡ noiseNumber side16 (s .tuning .strength) (s .shot) (s .read) (16 * a)
+    tile-noise : tileNoise s rowParity columnParity row column ≡ noiseNumber side16 (s .tuning .strength) (s .shot) (s .read) (16 * (a - blackOf (s .tuning) rowParity columnParity))
     unfolding tileNoise side16
     tile-noise =
-        ap₂ (λ n t. noiseNumber n (s .tuning .strength) (s .shot) (s .read) (tileRoot (n .side) t)) (flat .of-16) (fun-ext (λ i. fun-ext (λ j. reference-tile i j)))
-        ∙ ap (noiseNumber side16 (s .tuning .strength) (s .shot) (s .read)) (flat-root a)
+        ap₂ (λ n t. noiseNumber n (s .tuning .strength) (s .shot) (s .read) (tileRoot (n .side) (blackOf (s .tuning) rowParity columnParity) t)) (flat .of-16) (fun-ext (λ i. fun-ext (λ j. reference-tile i j)))
+        ∙ ap (noiseNumber side16 (s .tuning .strength) (s .shot) (s .read)) (flat-root (blackOf (s .tuning) rowParity columnParity) a)
 
     differences : (k : ℕ) → k < s .others → difference s rowParity columnParity row column k ≡ (λ i j. pos a -ℤ pos (b k))
     unfolding difference
     differences k h = fun-ext (λ i. fun-ext (λ j. ap₂ (λ x y. pos x -ℤ pos y) (reference-tile i j) (other-tile k h i j)))
 
   -- sample for sample
-  pub sample-flat : (row column : ℕ) → row < s .height → column < s .width → outputAt s row column ≡ flatOutput s a b
+  pub sample-flat : (row column : ℕ) → row < s .height → column < s .width → outputAt s row column ≡ flatOutput s (blackOf (s .tuning) (row % 2) (column % 2)) a b
   unfolding outputAt planeOutput planeOf flatOutput
   sample-flat row column h k =
       let p : row % 2 < 2 = omega arith in
@@ -51,12 +52,12 @@ module _ (s : Scene) {a : ℕ} {b : ℕ → ℕ} (flat : Flat s a b) where
       ∙ rw (flat .reference .at (2 * (row / 2) + row % 2) (2 * (column / 2) + column % 2) (omega arith) (omega arith))
 
   -- and the whole frame
-  pub frame-flat : merged s ≡ replicate (s .width * s .height) (natAbs (flatOutput s a b))
+  pub frame-flat : {black : ℕ} → OneBlack (s .tuning) black → merged s ≡ replicate (s .width * s .height) (natAbs (flatOutput s black a b))
   unfolding merged wordAt
-  frame-flat =
+  frame-flat {black} one =
       tab-ext (s .width * s .height) _ _
-      (λ k l. ap natAbs (sample-flat (k / s .width) (k % s .width) (row-inside k (s .width) (s .height) l) (column-inside k (s .width) (s .height) l)))
-      ∙ tab-const (natAbs (flatOutput s a b)) (s .width * s .height)
+      (λ k l. ap natAbs (sample-flat (k / s .width) (k % s .width) (row-inside k (s .width) (s .height) l) (column-inside k (s .width) (s .height) l) ∙ ap (λ x. flatOutput s x a b) (one .at _ _)))
+      ∙ tab-const (natAbs (flatOutput s black a b)) (s .width * s .height)
 
 -- and of a burst
 module _ (m : Merge) (samples : List ℕ) (vectors : List ℤ) {a : ℕ} {b : ℕ → ℕ} (flat : FlatBurst (m .shape) (m .reference) samples a b) where
@@ -71,6 +72,6 @@ module _ (m : Merge) (samples : List ℕ) (vectors : List ℤ) {a : ℕ} {b : �
         other = λ k h. flat-same (m .shape) samples (flat .sampled) (otherFrame (m .reference) k) (b k) (other-below (m .reference) k (m .shape .count) h) (flat .other-words k h);
       }
 
-  pub burst-flat : merged (sceneOf m samples vectors) ≡ replicate (outputLength (m .shape)) (natAbs (flatOutput (sceneOf m samples vectors) a b))
+  pub burst-flat : {black : ℕ} → OneBlack (m .tuning) black → merged (sceneOf m samples vectors) ≡ replicate (outputLength (m .shape)) (natAbs (flatOutput (sceneOf m samples vectors) black a b))
   unfolding sceneOf outputLength
-  burst-flat = frame-flat (sceneOf m samples vectors) scene-flat
+  burst-flat one = frame-flat (sceneOf m samples vectors) scene-flat one

@@ -1,6 +1,7 @@
 pub mod Frames
 pub mod StrengthZero
 pub mod LoneFrame
+pub mod Pedestal
 pub mod StillMerge
 pub mod StillAlign
 pub mod StillRun
@@ -13,6 +14,7 @@ pub mod FlatAlign
 pub mod FlatFigure
 pub mod FileLevels
 pub mod Calls
+pub mod PedestalCalls
 pub mod FrameLaws
 pub mod OutputLaws
 pub mod MergeLaws

@@ -64,7 +64,7 @@ module _ (m : Merge) (reference : ℕ) (samples samples′ : List ℕ) (vectors 
 
     tile-noise : tileNoise s′ rowParity columnParity a b ≡ tileNoise s rowParity columnParity a b
     unfolding sceneOf tileNoise
-    tile-noise = ap (noiseNumber side16 (s .tuning .strength) (s .shot) (s .read)) (tile-root-cong (side16 .side) _ _ (λ i j h k. reference-tile i j))
+    tile-noise = ap (noiseNumber side16 (s .tuning .strength) (s .shot) (s .read)) (tile-root-cong (side16 .side) _ _ _ (λ i j h k. reference-tile i j))
 
     module _ (ha : a ≤ s .height / 16) (hb : b ≤ s .width / 16) (k : ℕ) (h : k < s .others) where
       other-tile : (i j : ℕ) → otherTile s′ rowParity columnParity a b k i j ≡ otherTile s rowParity columnParity a b (to k) i j

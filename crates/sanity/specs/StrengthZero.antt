@@ -4,7 +4,7 @@ use Rattle.recipe.specs.NoiseNumber.{tileRoot, noiseNumber}
 use Rattle.noise.specs.NoiseNumberLaws.{noise-number-off}
 use Rattle.recipe.specs.Correction.{correctionAt}
 use Rattle.recipe.specs.declared.Merge.{Merge}
-use Rattle.recipe.specs.Scene.{Scene, sceneOf, referenceTile, tileNoise, differenceOver}
+use Rattle.recipe.specs.Scene.{Scene, sceneOf, blackOf, referenceTile, tileNoise, differenceOver}
 use Rattle.recipe.specs.Merged.{outputAt, merged}
 use Rattle.sanity.specs.Frames.{frameWords, Burst}
 use Rattle.sanity.specs.FrameLaws.{frame-words}
@@ -16,7 +16,7 @@ module _ (s : Scene) (off : s .tuning .strength ≡ 0) where
   tile-none : (rowParity columnParity a b : ℕ) → tileNoise s rowParity columnParity a b ≡ 0
   unfolding tileNoise
   tile-none rowParity columnParity a b =
-      ap (λ t. noiseNumber (s .side) t (s .shot) (s .read) (tileRoot (s .side .side) (referenceTile s rowParity columnParity a b))) off
+      ap (λ t. noiseNumber (s .side) t (s .shot) (s .read) (tileRoot (s .side .side) (blackOf (s .tuning) rowParity columnParity) (referenceTile s rowParity columnParity a b))) off
       ∙ noise-number-off (s .side) (s .shot) (s .read) _
 
   uncorrected : (row column : ℕ) → Uncorrected s row column

@@ -1,6 +1,6 @@
 // The corrections of a tile: its noise number, its differences to the other frames, and P summed over them.
 ghost use mathlib.Core.Path.{_≡_};
-ghost use Prim.Native.Nat.{_≤_};
+ghost use Prim.Native.Nat.{_≤_, _<_};
 ghost use lib.IntN.{pos, _-ℤ_};
 ghost use lib.ListN.{getD};
 ghost use Rattle.sequences.specs.Tab.{tab};
@@ -8,13 +8,14 @@ ghost use Rattle.sequences.specs.Grid.{grid, cell};
 ghost use Rattle.geometry.specs.Fits.{ValuesFit};
 ghost use Rattle.recipe.specs.Tables.{side16};
 ghost use Rattle.recipe.specs.NoiseNumber.{tileRoot, noiseNumber};
-ghost use Rattle.recipe.specs.Scene.{sceneOf};
+ghost use Rattle.recipe.specs.Scene.{sceneOf, blackOf};
 ghost use Rattle.tiles.specs.Accepted.{Accepted, Sited};
 ghost use Rattle.tiles.specs.Sum.{TileFits, TileOf, Summed};
 use crate::Site;
 use crate::reading::other_tile;
 use crate::reading::tile;
 use recipe::Merge;
+use recipe::Tuning;
 
 // The difference of two samples.
 fn minus(a: u16, b: u16) -> i16
@@ -48,12 +49,25 @@ fn difference(t0: &[[u16; 16]; 16], tz: &[[u16; 16]; 16]) -> [[i16; 16]; 16]
     d
 }
 
-// V of a tile.
-fn tile_noise(m: Merge, t0: [[u16; 16]; 16]) -> u64
-    requires { ⌜ record { shot-most : m .shot ≤ 65536; read-most : m .read ≤ 4194304; strength-most : m .tuning .strength ≤ 1024 } ⌝ }
-    ensures { λ r. ⌜ r ≡ noiseNumber side16 (m .tuning .strength) (m .shot) (m .read) (tileRoot 16 (cell 0 t0)) ⌝ }
+// The black level of a tile's plane.
+fn plane_black(tuning: Tuning, site: Site) -> u16
+    requires { ⌜ (site .«row_parity» < 2) × (site .«column_parity» < 2) ⌝ }
+    ensures { λ r. ⌜ r ≡ blackOf tuning (site .«row_parity») (site .«column_parity») ⌝ }
 {
-    noise::noise_number(m.tuning.strength, m.shot, m.read, noise::tile_root(t0))
+    tuning.black[2 * site.row_parity + site.column_parity]
+}
+
+// V of a tile.
+fn tile_noise(m: Merge, black: u16, t0: [[u16; 16]; 16]) -> u64
+    requires { ⌜ record { shot-most : m .shot ≤ 65536; read-most : m .read ≤ 4194304; strength-most : m .tuning .strength ≤ 1024 } ⌝ }
+    ensures { λ r. ⌜ r ≡ noiseNumber side16 (m .tuning .strength) (m .shot) (m .read) (tileRoot 16 black (cell 0 t0)) ⌝ }
+{
+    noise::noise_number(
+        m.tuning.strength,
+        m.shot,
+        m.read,
+        noise::tile_root(black, t0),
+    )
 }
 
 // The corrections of a tile at its noise number, summed over the other frames from 0.
@@ -90,7 +104,8 @@ pub fn tile_correction(
 {
     let shape = m.shape;
     let t0 = tile(shape, samples, m.reference, site, 0, 0);
-    let noise = tile_noise(m, t0);
+    let black = plane_black(m.tuning, site);
+    let noise = tile_noise(m, black, t0);
     if noise == 0 {
         return;
     }

@@ -23,6 +23,7 @@ pub fn answer_each(perform: fn(&mut Call) -> Answer) -> Outcome {
 
 pub fn take_call(input: &mut impl Read) -> Result<Call, Box<dyn Error>> {
     let [width, height, count, reference] = take_array(input)?;
+    let black = take_array(input)?;
     let denoising = take_denoising(input)?;
     let [samples, vectors, output, work_length] = take_array(input)?;
     let shape = Shape {
@@ -34,6 +35,7 @@ pub fn take_call(input: &mut impl Read) -> Result<Call, Box<dyn Error>> {
         burst: Burst {
             shape,
             reference,
+            black,
             samples: take_many(input, samples)?,
         },
         denoising,
@@ -70,6 +72,7 @@ pub fn put_call(out: &mut impl Write, call: &Call) -> std::io::Result<()> {
     let (shot, read) = (curve.shot.to_bits(), curve.read.to_bits());
     let strength = call.denoising.strength;
     put_many(out, &[width, height, count, call.burst.reference])?;
+    put_many(out, &call.burst.black)?;
     put_many(out, &[kind, iso, shot, read, strength])?;
     (call.burst.samples.len() as u64).put(out)?;
     (call.vectors.len() as u64).put(out)?;

@@ -6,10 +6,10 @@ use Rattle.noise.proofs.squares.row_squares.Statement.{statement}
 use Rattle.noise.proofs.squares.row_squares.Tie as tie
 
 abbrev Inv-loop : tie.InvT-loop
-Inv-loop row sum₀ j₀ sum j = Summed (λ j. squared (getD row j 0)) 4294836225 16 j sum
+Inv-loop black row sum₀ j₀ sum j = Summed (λ j. squared black (getD row j 0)) 4294836225 16 j sum
 
 abbrev μ-loop : tie.MeasureT-loop
-μ-loop row sum₀ j₀ sum j = 16 - j
+μ-loop black row sum₀ j₀ sum j = 16 - j
 
 loop-again : tie.Need-loop-again Inv-loop μ-loop
 loop-again c = sum-turn (c .before .before .loop .inv) (omega arith) (c .squared .ensures .0) (c .squared .ensures .1)

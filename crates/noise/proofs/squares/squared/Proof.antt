@@ -11,4 +11,4 @@ returns : tie.Need-returns
 returns c = let h = c .intensity .ensures .1 in (rw (c .intensity .ensures .0), omega (arith, mul-le-mul h h))
 
 pub squared-spec : {M : Type 1} → statement M
-squared-spec = tie.close (tie.spec (λ c κs. search needs) mul-result returns)
+squared-spec = tie.close (tie.spec (λ c κs. search needs) (λ c. search needs) mul-result returns)

@@ -8,10 +8,10 @@ use Rattle.noise.proofs.squares.sum_of_squares.Statement.{statement}
 use Rattle.noise.proofs.squares.sum_of_squares.Tie as tie
 
 abbrev Inv-loop : tie.InvT-loop
-Inv-loop tile sum₀ i₀ sum i = Summed (λ i. sumN 16 (λ j. squared (cell 0 tile i j))) 68717379600 16 i sum
+Inv-loop black tile sum₀ i₀ sum i = Summed (λ i. sumN 16 (λ j. squared black (cell 0 tile i j))) 68717379600 16 i sum
 
 abbrev μ-loop : tie.MeasureT-loop
-μ-loop tile sum₀ i₀ sum i = 16 - i
+μ-loop black tile sum₀ i₀ sum i = 16 - i
 
 loop-again : tie.Need-loop-again Inv-loop μ-loop
 unfolding cell

@@ -1,0 +1,126 @@
+-- Try black levels (request L3): with all four 0 the merge is document 01's; a plane's level moves that plane's samples alone; V falls as the level rises, and
+-- a level above every sample leaves r = 0.
+use Rattle.algebra.specs.Prelude.{_≡_, refl, sym, ap, _∙_, List, [], _∷_, ℕ, zero, suc, _+_, _-_, _*_, _/_, _%_, _≤_, _<_, arith, getD, ℤ, pos, natAbs}
+use mathlib.Core.Path.{fun-ext}
+use lib.ListN.{replicate}
+use native.Mathlib.Nat.{le-refl}
+use Rattle.algebra.specs.Sums.{sumN}
+use Rattle.algebra.specs.SumLaws.{sumN-cong}
+use Rattle.sequences.specs.Tab.{tab}
+use Rattle.sequences.specs.TabLaws.{getD-tab}
+use Rattle.geometry.specs.Read.{planeOf}
+use Rattle.noise.specs.NoiseNumberLaws.{tile-root-bound, tile-root-falls, noise-number-mono}
+use Rattle.recipe.specs.declared.Tuning.{Tuning}
+use Rattle.recipe.specs.declared.Merge.{Merge}
+use Rattle.recipe.specs.Tables.{side16}
+use Rattle.recipe.specs.Root.{wholeRoot}
+use Rattle.recipe.specs.NoiseNumber.{squared, sumOfSquares, tileRoot, noiseNumber}
+use Rattle.recipe.specs.Output.{outputSample}
+use Rattle.recipe.specs.Scene.{Scene, sceneOf, blackOf, tileOver, referenceTile, otherTile, tileNoise, difference, differenceOver}
+use Rattle.recipe.specs.Merged.{planeOutput, outputAt, wordAt, merged}
+
+-- every plane has the same black level
+pub record OneBlack (tuning : Tuning) (black : ℕ) : Type 0 where
+  pub at : (rowParity columnParity : ℕ) → blackOf tuning rowParity columnParity ≡ black
+
+abbrev pub zeroBlack : List ℕ
+zeroBlack = 0 ∷ 0 ∷ 0 ∷ 0 ∷ []
+
+zero-at : (n k : ℕ) → _≡_ {A = ℕ} (getD (replicate n 0) k 0) 0
+zero-at zero k = refl
+zero-at (suc n) zero = refl
+zero-at (suc n) (suc k) = zero-at n k
+
+pub zero-black : (tuning : Tuning) → tuning .black ≡ zeroBlack → OneBlack tuning 0
+unfolding blackOf
+zero-black tuning e = record { at = λ rowParity columnParity. ap (λ l. getD l (2 * rowParity + columnParity) 0) e ∙ zero-at 4 (2 * rowParity + columnParity) }
+
+-- ---- document 01's merge, without black levels
+
+-- "r = floor of the root of the sum of T0 squared"
+unfoldable pub plainRoot : (n : ℕ) → (ℕ → ℕ → ℕ) → ℕ
+plainRoot n tile = wholeRoot (sumN n (λ i. sumN n (λ j. tile i j * tile i j)))
+
+module _ (s : Scene) where
+  unfoldable pub plainNoise : (rowParity columnParity a b : ℕ) → ℕ
+  plainNoise rowParity columnParity a b = noiseNumber (s .side) (s .tuning .strength) (s .shot) (s .read) (plainRoot (s .side .side) (referenceTile s rowParity columnParity a b))
+
+  unfoldable pub plainOutput : (rowParity columnParity y x : ℕ) → ℤ
+  plainOutput rowParity columnParity y x =
+      outputSample (s .side) (y % s .side .half) (x % s .side .half) (s .others)
+      (λ t. plainNoise rowParity columnParity (tileOver (s .side) y (t / 2)) (tileOver (s .side) x (t % 2)))
+      (differenceOver s rowParity columnParity y x) (pos (planeOf (s .reference) rowParity columnParity y x))
+
+  unfoldable pub plainWord : (k : ℕ) → ℕ
+  plainWord k = natAbs (plainOutput (k / s .width % 2) (k % s .width % 2) (k / s .width / 2) (k % s .width / 2))
+
+  unfoldable pub plainMerged : List ℕ
+  plainMerged = tab (s .width * s .height) plainWord
+
+-- "With all four zero nothing moves": r, V, each sample, and the merged frame
+pub plain-root : (n : ℕ) (tile : ℕ → ℕ → ℕ) → tileRoot n 0 tile ≡ plainRoot n tile
+unfolding tileRoot sumOfSquares plainRoot
+plain-root n tile = ap wholeRoot (sumN-cong n _ _ (λ i h. sumN-cong n (λ j. squared 0 (tile i j)) (λ j. tile i j * tile i j) (λ j k. whole (tile i j))))
+  where
+    whole : (x : ℕ) → squared 0 x ≡ x * x
+    whole x = let e : x - 0 ≡ x = omega arith in ap (λ y. y * y) e
+
+module _ (s : Scene) (none : OneBlack (s .tuning) 0) where
+  pub plain-noise : (rowParity columnParity a b : ℕ) → tileNoise s rowParity columnParity a b ≡ plainNoise s rowParity columnParity a b
+  unfolding tileNoise plainNoise
+  plain-noise rowParity columnParity a b =
+      ap (noiseNumber (s .side) (s .tuning .strength) (s .shot) (s .read))
+      (ap (λ l. tileRoot (s .side .side) l (referenceTile s rowParity columnParity a b)) (none .at rowParity columnParity) ∙ plain-root _ _)
+
+  pub plain-output : (rowParity columnParity y x : ℕ) → planeOutput s rowParity columnParity y x ≡ plainOutput s rowParity columnParity y x
+  unfolding planeOutput plainOutput
+  plain-output rowParity columnParity y x =
+      ap (λ noise. outputSample (s .side) (y % s .side .half) (x % s .side .half) (s .others) noise (differenceOver s rowParity columnParity y x) (pos (planeOf (s .reference) rowParity columnParity y x)))
+      (fun-ext (λ t. plain-noise rowParity columnParity (tileOver (s .side) y (t / 2)) (tileOver (s .side) x (t % 2))))
+
+  pub plain-merged : merged s ≡ plainMerged s
+  unfolding merged wordAt outputAt plainMerged plainWord
+  plain-merged = ap (tab (s .width * s .height)) (fun-ext (λ k. ap natAbs (plain-output (k / s .width % 2) (k % s .width % 2) (k / s .width / 2) (k % s .width / 2))))
+
+-- ---- other black levels
+
+abbrev pub blackened : Merge → (black : List ℕ) → Merge
+blackened m black = record { shape = m .shape; reference = m .reference; shot = m .shot; read = m .read; tuning = record { strength = m .tuning .strength; black = black } }
+
+module _ (m : Merge) (black : List ℕ) (samples : List ℕ) (vectors : List ℤ) where
+  abbrev s : Scene
+  s = sceneOf m samples vectors
+
+  abbrev s′ : Scene
+  s′ = sceneOf (blackened m black) samples vectors
+
+  module _ (rowParity columnParity : ℕ) where
+    -- where a plane keeps its level, so do its noise numbers ..
+    noise-stays : blackOf (blackened m black .tuning) rowParity columnParity ≡ blackOf (m .tuning) rowParity columnParity → (a b : ℕ) → tileNoise s′ rowParity columnParity a b ≡ tileNoise s rowParity columnParity a b
+    unfolding sceneOf tileNoise referenceTile
+    noise-stays same a b = ap (λ l. noiseNumber side16 (m .tuning .strength) (m .shot) (m .read) (tileRoot (side16 .side) l (referenceTile s rowParity columnParity a b))) same
+
+    -- V falls as the level rises
+    pub noise-falls : blackOf (m .tuning) rowParity columnParity ≤ blackOf (blackened m black .tuning) rowParity columnParity → (a b : ℕ) → tileNoise s′ rowParity columnParity a b ≤ tileNoise s rowParity columnParity a b
+    unfolding sceneOf tileNoise referenceTile
+    noise-falls higher a b = noise-number-mono (le-refl _) (le-refl _) (le-refl _) (tile-root-falls (side16 .side) higher (referenceTile s rowParity columnParity a b))
+
+  -- .. and its samples: "a plane's black moves only that plane's samples"
+  pub sample-stays : (row column : ℕ) → blackOf (blackened m black .tuning) (row % 2) (column % 2) ≡ blackOf (m .tuning) (row % 2) (column % 2) → outputAt s′ row column ≡ outputAt s row column
+  unfolding sceneOf outputAt planeOutput difference referenceTile otherTile
+  sample-stays row column same =
+      ap (λ noise. outputSample side16 (row / 2 % side16 .half) (column / 2 % side16 .half) (s .others) noise (differenceOver s (row % 2) (column % 2) (row / 2) (column / 2)) (pos (planeOf (s .reference) (row % 2) (column % 2) (row / 2) (column / 2))))
+      (fun-ext (λ t. noise-stays (row % 2) (column % 2) same (tileOver side16 (row / 2) (t / 2)) (tileOver side16 (column / 2) (t % 2))))
+
+  -- word for word
+  pub word-stays : (k : ℕ) → k < m .shape .width * m .shape .height →
+      blackOf (blackened m black .tuning) (k / m .shape .width % 2) (k % m .shape .width % 2) ≡ blackOf (m .tuning) (k / m .shape .width % 2) (k % m .shape .width % 2) → getD (merged s′) k 0 ≡ getD (merged s) k 0
+  unfolding merged wordAt sceneOf
+  word-stays k h same =
+      getD-tab (wordAt s′) 0 (m .shape .width * m .shape .height) k h
+      ∙ ap natAbs (sample-stays (k / m .shape .width) (k % m .shape .width) same)
+      ∙ sym (getD-tab (wordAt s) 0 (m .shape .width * m .shape .height) k h)
+
+-- a level that no sample of a tile exceeds: r is 0
+pub dark-root : (n black : ℕ) (tile : ℕ → ℕ → ℕ) → ((i j : ℕ) → i < n → j < n → tile i j ≤ black) → tileRoot n black tile ≡ 0
+dark-root n black tile h = omega (arith, tile-root-bound n black 0 tile (λ i j k l. omega (arith, h i j k l)))
