@@ -157,8 +157,10 @@ pub fn output_row(
     let lower = weights(&window, y % 8);
     let upper = weights(&window, y % 8 + 8);
     let inverse = (524287 + shape.count as u64) / shape.count as u64;
-    let start = (2 * y + plane.row_parity) * width + plane.column_parity;
-    let from = reference * (width * shape.height) + start;
+    let row = 2 * y + plane.row_parity;
+    let start = row * width + plane.column_parity;
+    let from = reference * (shape.row_length * shape.height)
+        + (row * shape.row_length + plane.column_parity);
     for column in 0..width / 16 {
         output_block(
             samples,
