@@ -14,11 +14,11 @@ use Rattle.merging.proofs.output.output_row.Statement.{statement}
 use Rattle.merging.proofs.output.output_row.Tie as tie
 
 abbrev Inv-loop : tie.InvT-loop
-Inv-loop shape reference samples y work output₀ width above below lower upper inverse row start from column₀ column-end output column =
+Inv-loop shape reference samples y work output₀ width row-length above below lower upper inverse row start from column₀ column-end output column =
     Striding output₀ start (wordFrom samples from work above below (y % 8) (shape .count)) (width / 2) (8 * column) output
 
 abbrev μ-loop : tie.MeasureT-loop
-μ-loop shape reference samples y work output₀ width above below lower upper inverse row start from column₀ column-end output column = width / 16 - column
+μ-loop shape reference samples y work output₀ width row-length above below lower upper inverse row start from column₀ column-end output column = width / 16 - column
 
 -- the row lies in its frame, for the output and for the samples, and frames are small
 room : (c : tie.Start Inv-loop μ-loop) → let s = c .args .shape in
@@ -73,42 +73,42 @@ mul-from-2 : tie.Need-mul-from-2 Inv-loop μ-loop
 mul-from-2 c = omega (arith, room (c .before .before .before .before .before .before .before .before .before .before .before))
 
 mul-from-3 : tie.Need-mul-from-3 Inv-loop μ-loop
-mul-from-3 c = omega (arith, room (c .before .before .before .before .before .before .before .before .before .before .before .before))
+mul-from-3 c = omega (arith, room (c .before .before .before .before .before .before .before .before .before .before .before))
 
 add-from : tie.Need-add-from Inv-loop μ-loop
-add-from c = let s = c .before .before .before .before .before .before .before .before .before .before .before .before .before in omega (arith, room s, s .pre .0 .planar)
+add-from c = let s = c .before .before .before .before .before .before .before .before .before .before .before .before in omega (arith, room s, s .pre .0 .planar)
 
 add-from-2 : tie.Need-add-from-2 Inv-loop μ-loop
-add-from-2 c = let s = c .before .before .before .before .before .before .before .before .before .before .before .before .before in omega (arith, room s, s .pre .0 .planar)
+add-from-2 c = let s = c .before .before .before .before .before .before .before .before .before .before .before .before in omega (arith, room s, s .pre .0 .planar)
 
 add-output-block : tie.Need-add-output-block Inv-loop μ-loop
-add-output-block c = let s = c .before .before .before .before .before .before .before .before .before .before .before .before .before .before .before in omega (arith, room s, s .pre .0 .planar, c .loop-test .taken)
+add-output-block c = let s = c .before .before .before .before .before .before .before .before .before .before .before .before .before .before in omega (arith, room s, s .pre .0 .planar, c .loop-test .taken)
 
 mul-output-block-2 : tie.Need-mul-output-block-2 Inv-loop μ-loop
-mul-output-block-2 c = omega (arith, c .before .before .loop-test .taken, wide (c .before .before .before .before .before .before .before .before .before .before .before .before .before .before .before .before .before))
+mul-output-block-2 c = omega (arith, c .before .before .loop-test .taken, wide (c .before .before .before .before .before .before .before .before .before .before .before .before .before .before .before .before))
 
 add-output-block-2 : tie.Need-add-output-block-2 Inv-loop μ-loop
 unfolding rowWords
-add-output-block-2 c = omega (arith, c .before .before .loop-test .taken, wide (c .before .before .before .before .before .before .before .before .before .before .before .before .before .before .before .before .before), c .before .before .before .before .before .before .before .before .before .before .before .before .before .before .slot .ensures .1)
+add-output-block-2 c = omega (arith, c .before .before .loop-test .taken, wide (c .before .before .before .before .before .before .before .before .before .before .before .before .before .before .before .before), c .before .before .before .before .before .before .before .before .before .before .before .before .before .slot .ensures .1)
 
 mul-output-block-3 : tie.Need-mul-output-block-3 Inv-loop μ-loop
-mul-output-block-3 c = omega (arith, c .before .before .loop-test .taken, wide (c .before .before .before .before .before .before .before .before .before .before .before .before .before .before .before .before .before))
+mul-output-block-3 c = omega (arith, c .before .before .loop-test .taken, wide (c .before .before .before .before .before .before .before .before .before .before .before .before .before .before .before .before))
 
 add-output-block-3 : tie.Need-add-output-block-3 Inv-loop μ-loop
 unfolding rowWords
-add-output-block-3 c = omega (arith, c .before .before .loop-test .taken, wide (c .before .before .before .before .before .before .before .before .before .before .before .before .before .before .before .before .before), c .before .before .before .before .before .before .before .before .before .before .before .before .before .slot2 .ensures .1)
+add-output-block-3 c = omega (arith, c .before .before .loop-test .taken, wide (c .before .before .before .before .before .before .before .before .before .before .before .before .before .before .before .before), c .before .before .before .before .before .before .before .before .before .before .before .before .slot2 .ensures .1)
 
 mul-output-block-4 : tie.Need-mul-output-block-4 Inv-loop μ-loop
-mul-output-block-4 c = omega (arith, c .before .before .before .loop-test .taken, wide (c .before .before .before .before .before .before .before .before .before .before .before .before .before .before .before .before .before .before))
+mul-output-block-4 c = omega (arith, c .before .before .before .loop-test .taken, wide (c .before .before .before .before .before .before .before .before .before .before .before .before .before .before .before .before .before))
 
 add-output-block-4 : tie.Need-add-output-block-4 Inv-loop μ-loop
-add-output-block-4 c = let s = c .before .before .before .before .before .before .before .before .before .before .before .before .before .before .before .before .before .before in omega (arith, room s, s .pre .0 .planar, c .before .before .before .loop-test .taken)
+add-output-block-4 c = let s = c .before .before .before .before .before .before .before .before .before .before .before .before .before .before .before .before .before in omega (arith, room s, s .pre .0 .planar, c .before .before .before .loop-test .taken)
 
 output-block-requires : tie.Need-output-block-requires Inv-loop μ-loop
 unfolding rowWords
 output-block-requires c κs =
     let t = c .before .before .before in
-    let s2 = t .before .before .before .before .before .before .before .before .before .before .before in
+    let s2 = t .before .before .before .before .before .before .before .before .before .before in
     let s = s2 .before .before .before .before in
     let r = s .pre .0 in
     let n = t .before .loop .column in
@@ -118,8 +118,8 @@ output-block-requires c κs =
       weighed = record {
         upper-words = subst (λ a. Words work (a + 256 * n) 512) (sym (s2 .before .slot .ensures .0)) (words-later (256 * n) 512 (r .above) (omega arith));
         lower-words = subst (λ a. Words work (a + 256 * n) 512) (sym (s2 .slot2 .ensures .0)) (words-later (256 * n) 512 (r .below) (omega arith));
-        lower-weights = t .before .before .before .before .before .before .before .before .before .weights .ensures;
-        upper-weights = t .before .before .before .before .before .before .before .weights2 .ensures;
+        lower-weights = t .before .before .before .before .before .before .before .before .weights .ensures;
+        upper-weights = t .before .before .before .before .before .before .weights2 .ensures;
         row = omega arith;
       };
       divided = record { some = r .sampled .allowed .some; few = r .sampled .allowed .few; inverse-is = refl };
@@ -128,7 +128,7 @@ output-block-requires c κs =
     }
 
 add-column : tie.Need-add-column Inv-loop μ-loop
-add-column c = omega (arith, c .before .before .before .before .before .before .loop-test .taken, wide (c .before .before .before .before .before .before .before .before .before .before .before .before .before .before .before .before .before .before .before .before .before))
+add-column c = omega (arith, c .before .before .before .before .before .before .loop-test .taken, wide (c .before .before .before .before .before .before .before .before .before .before .before .before .before .before .before .before .before .before .before .before))
 
 loop-less : tie.Need-loop-less Inv-loop μ-loop
 loop-less c = omega (arith, c .before .before .before .before .before .before .loop-test .taken)
@@ -145,7 +145,7 @@ loop-again c =
 returns : tie.Need-returns Inv-loop μ-loop
 returns c =
     let l = c .before in
-    let s2 = l .before .before .before .before .before .before .before .before .before .before in
+    let s2 = l .before .before .before .before .before .before .before .before .before in
     let s = s2 .before .before .before .before in
     let a = s .args in
     row-done (a .shape) (a .reference) (now (a .samples)) (now (a .work)) (a .plane) (a .y) (s2 .before .slot .ensures .0) (s2 .slot2 .ensures .0)
