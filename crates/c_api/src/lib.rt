@@ -14,6 +14,7 @@ pub struct Burst {
     pub height: u64,
     pub count: u64,
     pub reference: u64,
+    pub row_length: u64,
     pub black: [u16; 4],
 }
 
