@@ -210,7 +210,8 @@ static inline const char *stacker_refusal_text(uint64_t number)
    VECTORS tell, for each other frame in rising index, tile by tile and row by row, how far down and then how far right the tile has moved in a
    plane: a step is two samples. Tiles cover 16 by 16 places of a plane and begin every 8 places, the first at -8.
 
-   LENT BUFFERS, for frames of width W, height H and row length L, N of them; a file means L = W. A length counts elements, not bytes; station_length of station.h answers it too.
+   LENT BUFFERS, for frames of width W, height H and row length L, N of them; a file means L = W. A length counts elements, not bytes; station_length
+   of station.h answers it too.
 
        buffer     elements    length                          read_file   align     merge     run
        samples    uint16_t    N*L*H                           written     read      read      read

@@ -1,6 +1,7 @@
 /* Answers a stream of calls from standard input as the reference's `align`, `merge` or `run` does, with the library: calls align|merge|run [SPARE].
-   With SPARE, samples of the right length are lent in rows with so many spare words, each 65535, in place of the burst's own. It sees itself that the work area ends as promised, zero or after a refusal as it was, and that the stack is enough. At the end it writes to
-   standard error how many calls there were, and the most stack that one took. */
+   With SPARE, samples of the right length are lent in rows with so many spare words, each 65535, in place of the burst's own. It sees itself that the
+   work area ends as promised, zero or after a refusal as it was, and that the stack is enough. At the end it writes to standard error how many calls
+   there were, and the most stack that one took. */
 #include "stack.h"
 #include "stacker.h"
 

@@ -10,8 +10,8 @@ static int describes(void)
     stacker_file file = { .width = 64, .height = 128, .count = 3, .reference = 2, .strength = 5 };
     stacker_burst burst = stacker_file_burst(file);
     uint16_t none[4] = { 0, 0, 0, 0 };
-    return burst.width == 64 && burst.height == 128 && burst.count == 3 && burst.reference == 2 && burst.row_length == 64 && memcmp(burst.black, none, sizeof none) == 0
-        && stacker_file_tuning(file).strength == 5;
+    return burst.width == 64 && burst.height == 128 && burst.count == 3 && burst.reference == 2 && burst.row_length == 64
+        && memcmp(burst.black, none, sizeof none) == 0 && stacker_file_tuning(file).strength == 5;
 }
 
 static int keeps_levels(void)

@@ -7,7 +7,8 @@ pub mod run;
 
 // As in include/stacker.h, field by field.
 
-// Frames of one size, the index of the one that the others are merged on, and the black levels of the planes, in the pattern's order RGGB.
+// Frames of one size, the index of the one that the others are merged on, the words of a row, and the black levels of the planes, in the pattern's order
+// RGGB.
 #[repr(C)]
 pub struct Burst {
     pub width: u64,
