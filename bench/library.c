@@ -31,7 +31,7 @@ static void *make(const burst *b)
 static stacker_burst described(const burst *b)
 {
     return (stacker_burst){ .width = (uint64_t)b->width, .height = (uint64_t)b->height, .count = (uint64_t)b->count,
-        .reference = (uint64_t)b->reference };
+        .reference = (uint64_t)b->reference, .row_length = (uint64_t)b->width };
 }
 
 static void align(void *scratch, const burst *b, const noise_levels *n, result *r)

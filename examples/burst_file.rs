@@ -14,6 +14,7 @@ struct Burst {
     height: u64,
     count: u64,
     reference: u64,
+    row_length: u64,
     black: [u16; 4],
 }
 
@@ -53,6 +54,7 @@ impl BurstFile {
             height: self.height,
             count: self.count,
             reference: self.reference,
+            row_length: self.width,
             black: [0; 4],
         }
     }

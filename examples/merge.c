@@ -137,7 +137,7 @@ int main(int argc, char **argv)
     if (argc != 2)
         return 2;
     take_frames();
-    stacker_burst burst = { .width = SIDE, .height = SIDE, .count = FRAMES, .reference = REFERENCE };
+    stacker_burst burst = { .width = SIDE, .height = SIDE, .count = FRAMES, .reference = REFERENCE, .row_length = SIDE };
     stacker_noise noise = { .shot = SHOT, .read = READ };
     stacker_tuning tuning = { .strength = STRENGTH };
     stacker_alignment answer = stacker_run(burst, noise, tuning, samples, FRAMES * FRAME, vectors, sizeof vectors / sizeof *vectors, merged, FRAME,

@@ -23,6 +23,7 @@ typedef struct {
     uint64_t width, height; /* of each frame, in samples */
     uint64_t count;         /* of frames */
     uint64_t reference;     /* index of the frame that the others are merged on */
+    uint64_t row_length;    /* words from a row to the next: width, or up to 256 more */
     uint16_t black[4];      /* levels of the planes R, G, G and B, 0..255: what a dark frame holds */
 } stacker_burst;
 
@@ -78,7 +79,8 @@ typedef enum {
     STACKER_REFUSED_FILE_LENGTH = 15,
     STACKER_REFUSED_BYTES_LENGTH = 16,
     STACKER_REFUSED_PGM = 17,
-    STACKER_REFUSED_BLACK = 18
+    STACKER_REFUSED_BLACK = 18,
+    STACKER_REFUSED_ROW_LENGTH = 23
 } stacker_refusal;
 
 /* Aligns each other frame on the reference. */
@@ -115,7 +117,7 @@ stacker_pgm stacker_read_pgm(const uint8_t *bytes, size_t bytes_length, uint16_t
 
 static inline stacker_burst stacker_file_burst(stacker_file file)
 {
-    stacker_burst burst = { file.width, file.height, file.count, file.reference, { 0, 0, 0, 0 } };
+    stacker_burst burst = { file.width, file.height, file.count, file.reference, file.width, { 0, 0, 0, 0 } };
     return burst;
 }
 
@@ -140,7 +142,7 @@ static inline const char *stacker_refusal_text(uint64_t number)
     case STACKER_REFUSED_SIZE: return "width or height not a multiple of 64 from 64 to 4096";
     case STACKER_REFUSED_COUNT: return "count of frames 0 or above 8";
     case STACKER_REFUSED_REFERENCE: return "reference not below the count of frames";
-    case STACKER_REFUSED_SAMPLES_LENGTH: return "samples not of length count * width * height";
+    case STACKER_REFUSED_SAMPLES_LENGTH: return "samples not of length count * row_length * height";
     case STACKER_REFUSED_VECTORS_LENGTH: return "vectors not of length (count - 1) * 2 * (width / 16 + 1) * (height / 16 + 1)";
     case STACKER_REFUSED_OUTPUT_LENGTH: return "output or frame not of length width * height";
     case STACKER_REFUSED_WORK_LENGTH: return "work area not of length 2 * width * height";
@@ -155,6 +157,7 @@ static inline const char *stacker_refusal_text(uint64_t number)
     case STACKER_REFUSED_BYTES_LENGTH: return "bytes not of the length that stacker_pgm_length answers";
     case STACKER_REFUSED_PGM: return "not a PGM file as stacker_write_pgm writes it";
     case STACKER_REFUSED_BLACK: return "a black level above 255";
+    case STACKER_REFUSED_ROW_LENGTH: return "row length not from width to width + 256";
     default: return "no refusal of this version";
     }
 }
@@ -170,7 +173,7 @@ static inline const char *stacker_refusal_text(uint64_t number)
        static int32_t vectors[VECTORS];
        static int64_t work[2 * W * H];
 
-       stacker_burst burst = { .width = W, .height = H, .count = N };
+       stacker_burst burst = { .width = W, .height = H, .count = N, .row_length = W };
        stacker_noise noise = { .shot = 3.0, .read = 100.0 };
        stacker_tuning tuning = { .strength = 512 };
        stacker_alignment answer = stacker_run(burst, noise, tuning, samples, N * W * H, vectors, VECTORS, output, W * H, work, 2 * W * H);
@@ -203,13 +206,15 @@ static inline const char *stacker_refusal_text(uint64_t number)
    examples/merge.c is a whole program; examples/burst_file.rs calls from Rust.
 
    FRAMES are Bayer RGGB, row by row, frame after frame: 16-bit words that hold 0..4095. Black is already subtracted, or the burst says what it is.
+   A row takes row_length words: those after its W samples are spare. They may hold anything and are never read into a result. Output rows have none.
    VECTORS tell, for each other frame in rising index, tile by tile and row by row, how far down and then how far right the tile has moved in a
    plane: a step is two samples. Tiles cover 16 by 16 places of a plane and begin every 8 places, the first at -8.
 
-   LENT BUFFERS, for frames of width W and height H, N of them. A length counts elements, not bytes; station_length of station.h answers it too.
+   LENT BUFFERS, for frames of width W, height H and row length L, N of them; a file means L = W. A length counts elements, not bytes; station_length
+   of station.h answers it too.
 
        buffer     elements    length                          read_file   align     merge     run
-       samples    uint16_t    N*W*H                           written     read      read      read
+       samples    uint16_t    N*L*H                           written     read      read      read
        vectors    int32_t     (N-1)*2*(W/16+1)*(H/16+1)                   written   read      written
        output     uint16_t    W*H                                                   written   written
        work       int64_t     2*W*H                                       cleared   cleared   cleared
@@ -227,8 +232,8 @@ static inline const char *stacker_refusal_text(uint64_t number)
    AFTER A CALL that answers 0 the written buffers hold the result, every word of it, and the work area is zero. After a refusal every lent buffer is
    as it was, and every other field of the answer is 0.
 
-   REFUSALS. A call makes its tests in the order of the numbers, but 18 after 10, and answers the first that fails: align 1 to 5, 7 and 11; merge 1 to
-   12 and 18; run 1 to 11 and 18.
+   REFUSALS. A call makes its tests in the order of the numbers, but 23 before 4 and 18 after 10, and answers the first that fails: align 1 to 5, 7, 11
+   and 23; merge 1 to 12, 18 and 23; run 1 to 11, 18 and 23.
    A file is tested line by line: no first LF 15, 13; line two 15, 14, then 1, 2, 3, 9, 10, 4; each row 15, 14, 11; then what follows, 15.
    Writing a PGM file tests 1, 6, 16, 11 in that order, reading one 17, 6, 11.
 
@@ -237,9 +242,9 @@ static inline const char *stacker_refusal_text(uint64_t number)
    the reference counts as what it exceeds its plane's black level by, or 0. Nothing else looks at black levels: vectors, residuals and the merged frame
    keep the pedestal. A file means levels of 0.
 
-   ZEROS. A width, height, count or ISO of 0 is refused. Reference 0 is the first frame. Shot and read of 0 say that there is no noise, and strength
-   0 asks for no merging: either gives the reference back. Black levels of 0 say that black is already subtracted. A field that a later version adds
-   means, at zero, what this version does.
+   ZEROS. A width, height, count, row length or ISO of 0 is refused. Reference 0 is the first frame. Shot and read of 0 say that there is no noise, and
+   strength 0 asks for no merging: either gives the reference back. Black levels of 0 say that black is already subtracted. A field that a later version
+   adds is refused at zero, or means there what this version does.
 
    THE MACHINE. A call allocates nothing and needs less than 32 KB of stack. It keeps nothing between calls and has no state: threads may call at once,
    each with vectors, output and work area of its own that no other thread touches meanwhile. The floating-point environment must be the usual one: rounding

@@ -17,9 +17,10 @@ typedef enum {
     STATION_WORK = 7     /* int64_t */
 } station_buffer;
 
-/* The length of a buffer in elements, for `count` frames of that size: `number` is a station_buffer. 0 for any other number, and where refusal 1
-   (size) or 2 (count of frames) would stand. The vectors of a lone frame have the length 0: there 0 is the answer. */
-uint64_t station_length(uint64_t width, uint64_t height, uint64_t count, uint64_t number);
+/* The length of a buffer in elements, for `count` frames of that size in rows of `row_length` words, merged by tiles of `side`: `number` is a
+   station_buffer. 0 for any other number, and where refusal 1 (size), 2 (count of frames), 22 (a side other than 16) or 23 (row length not from width
+   to width + 256) would stand. The vectors of a lone frame have the length 0: there 0 is the answer. */
+uint64_t station_length(uint64_t width, uint64_t height, uint64_t count, uint64_t side, uint64_t row_length, uint64_t number);
 
 /* The noise number V, in 1/256 of a squared sample, of the curve `shot` (samples) and `read` (squared samples), the strength
    (eighths of tau, 0..1024) and a tile's root (its RMS in sixteenths, 0..65520).

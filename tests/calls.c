@@ -1,6 +1,7 @@
-/* Answers a stream of calls from standard input as the reference's `align`, `merge` or `run` does, with the library: calls align|merge|run.
-   It sees itself that the work area ends as promised, zero or after a refusal as it was, and that the stack is enough. At the end it writes to
-   standard error how many calls there were, and the most stack that one took. */
+/* Answers a stream of calls from standard input as the reference's `align`, `merge` or `run` does, with the library: calls align|merge|run [SPARE].
+   With SPARE, samples of the right length are lent in rows with so many spare words, each 65535, in place of the burst's own. It sees itself that the
+   work area ends as promised, zero or after a refusal as it was, and that the stack is enough. At the end it writes to standard error how many calls
+   there were, and the most stack that one took. */
 #include "stack.h"
 #include "stacker.h"
 
@@ -8,7 +9,7 @@
 #include <stdlib.h>
 #include <string.h>
 
-enum { WIDTH, HEIGHT, COUNT, REFERENCE, BLACK, NOISE_KIND = BLACK + 4, ISO, SHOT, READ, STRENGTH, SAMPLES, VECTORS, OUTPUT, WORK, WORDS };
+enum { WIDTH, HEIGHT, COUNT, REFERENCE, ROW_LENGTH, BLACK, NOISE_KIND = BLACK + 4, ISO, SHOT, READ, STRENGTH, SAMPLES, VECTORS, OUTPUT, WORK, WORDS };
 
 /* what the work area holds before a call */
 static const int64_t MARK = -4915937;
@@ -36,7 +37,8 @@ static double number(uint64_t bits)
 
 static stacker_burst burst(void)
 {
-    stacker_burst burst = { .width = head[WIDTH], .height = head[HEIGHT], .count = head[COUNT], .reference = head[REFERENCE] };
+    stacker_burst burst = { .width = head[WIDTH], .height = head[HEIGHT], .count = head[COUNT], .reference = head[REFERENCE],
+        .row_length = head[ROW_LENGTH] };
     for (int plane = 0; plane < 4; plane++)
         burst.black[plane] = (uint16_t)head[BLACK + plane];
     return burst;
@@ -81,6 +83,24 @@ static void run(void)
         answer = stacker_run_iso(burst(), at_iso(), tuning(), samples, head[SAMPLES], vectors, head[VECTORS], output, head[OUTPUT], work, head[WORK]);
 }
 
+/* Lays the samples in rows with other spare words, where the burst and its samples' length are right. */
+static void pad(uint64_t spare)
+{
+    uint64_t width = head[WIDTH], rows = head[COUNT] * head[HEIGHT], row_length = head[ROW_LENGTH];
+    if (width > 4096 || head[HEIGHT] > 4096 || head[COUNT] > 8 || row_length < width || row_length > width + 256 || head[SAMPLES] != rows * row_length)
+        return;
+    uint16_t *padded = lent(rows * (width + spare), sizeof *padded, 0);
+    for (uint64_t row = 0; row < rows; row++) {
+        memcpy(padded + row * (width + spare), samples + row * row_length, width * sizeof *padded);
+        for (uint64_t i = 0; i < spare; i++)
+            padded[row * (width + spare) + width + i] = 65535;
+    }
+    free(samples);
+    samples = padded;
+    head[ROW_LENGTH] = width + spare;
+    head[SAMPLES] = rows * (width + spare);
+}
+
 static void write_all(const void *data, size_t size)
 {
     if (size != 0 && fwrite(data, 1, size, stdout) != size)
@@ -89,7 +109,7 @@ static void write_all(const void *data, size_t size)
 
 int main(int argc, char **argv)
 {
-    if (argc != 2)
+    if (argc < 2 || argc > 3)
         return 2;
     void (*call)(void) = strcmp(argv[1], "align") == 0 ? align : strcmp(argv[1], "merge") == 0 ? merge : run;
     unsigned long count = 0;
@@ -99,6 +119,8 @@ int main(int argc, char **argv)
         vectors = lent(head[VECTORS], 4, 1);
         output = lent(head[OUTPUT], 2, 1);
         work = lent(head[WORK], 8, 0);
+        if (argc == 3)
+            pad(strtoul(argv[2], NULL, 10));
         for (uint64_t i = 0; i < head[WORK]; i++)
             work[i] = MARK;
         size_t stack = stack_of(call);

@@ -3,15 +3,15 @@
 
 #include <string.h>
 
-enum { GREATEST_LEVEL = 4194304, LAST_REFUSAL = STACKER_REFUSED_BLACK };
+enum { GREATEST_LEVEL = 4194304, LAST_IN_TURN = STACKER_REFUSED_BLACK, REFUSALS = LAST_IN_TURN + 2 };
 
 static int describes(void)
 {
     stacker_file file = { .width = 64, .height = 128, .count = 3, .reference = 2, .strength = 5 };
     stacker_burst burst = stacker_file_burst(file);
     uint16_t none[4] = { 0, 0, 0, 0 };
-    return burst.width == 64 && burst.height == 128 && burst.count == 3 && burst.reference == 2 && memcmp(burst.black, none, sizeof none) == 0
-        && stacker_file_tuning(file).strength == 5;
+    return burst.width == 64 && burst.height == 128 && burst.count == 3 && burst.reference == 2 && burst.row_length == 64
+        && memcmp(burst.black, none, sizeof none) == 0 && stacker_file_tuning(file).strength == 5;
 }
 
 static int keeps_levels(void)
@@ -27,9 +27,14 @@ static int keeps_levels(void)
 
 static int has_words(void)
 {
-    for (uint64_t number = 0; number <= LAST_REFUSAL; number++)
-        for (uint64_t other = number + 1; other <= LAST_REFUSAL + 1; other++)
-            if (strcmp(stacker_refusal_text(number), stacker_refusal_text(other)) == 0)
+    uint64_t numbers[REFUSALS + 1]; /* and one that no call answers */
+    for (uint64_t i = 0; i <= LAST_IN_TURN; i++)
+        numbers[i] = i;
+    numbers[LAST_IN_TURN + 1] = STACKER_REFUSED_ROW_LENGTH;
+    numbers[REFUSALS] = UINT64_MAX;
+    for (int i = 0; i <= REFUSALS; i++)
+        for (int j = i + 1; j <= REFUSALS; j++)
+            if (strcmp(stacker_refusal_text(numbers[i]), stacker_refusal_text(numbers[j])) == 0)
                 return 0;
     return 1;
 }

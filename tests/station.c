@@ -28,10 +28,21 @@ static uint64_t below(uint64_t n)
     return any() % n;
 }
 
-static void ask_length(uint64_t width, uint64_t height, uint64_t count, uint64_t number)
+static void ask_length(uint64_t width, uint64_t height, uint64_t count, uint64_t side, uint64_t row_length, uint64_t number)
 {
-    fprintf(questions, "%" PRIu64 " %" PRIu64 " %" PRIu64 " %" PRIu64 "\n", width, height, count, number);
-    fprintf(answers, "%" PRIu64 "\n", station_length(width, height, count, number));
+    fprintf(questions, "%" PRIu64 " %" PRIu64 " %" PRIu64 " %" PRIu64 " %" PRIu64 " %" PRIu64 "\n", width, height, count, side, row_length, number);
+    fprintf(answers, "%" PRIu64 "\n", station_length(width, height, count, side, row_length, number));
+}
+
+/* every side and row length of the list, and each number beside those of the buffers */
+static void ask_sides_and_rows(uint64_t width, uint64_t height, uint64_t count)
+{
+    static const uint64_t sides[] = { 0, 8, 16, 17 };
+    const uint64_t rows[] = { width - 1, width, width + 1, width + 255, width + 256, width + 257, 0, UINT64_MAX };
+    for (size_t s = 0; s < sizeof sides / sizeof *sides; s++)
+        for (size_t r = 0; r < sizeof rows / sizeof *rows; r++)
+            for (uint64_t number = 3; number < 9; number++)
+                ask_length(width, height, count, sides[s], rows[r], number);
 }
 
 static uint64_t bits_of(double x)
@@ -63,13 +74,20 @@ static void lengths(void)
         for (int h = 0; h < SIZES; h++)
             for (int n = 0; n < COUNTS; n++)
                 for (uint64_t number = 3; number < 9; number++)
-                    ask_length(sizes[w], sizes[h], counts[n], number);
-    for (int i = 0; i < 4000; i++)
-        ask_length(64 * (1 + below(64)), 64 * (1 + below(64)), 2 + below(7), 4 + below(4));
+                    ask_length(sizes[w], sizes[h], counts[n], 16, sizes[w], number);
+    static const uint64_t shapes[][3] = { { 64, 64, 2 }, { 128, 4096, 1 }, { 4096, 64, 8 }, { 4096, 4096, 8 }, { 65, 64, 2 }, { 64, 64, 9 } };
+    for (size_t i = 0; i < sizeof shapes / sizeof *shapes; i++)
+        ask_sides_and_rows(shapes[i][0], shapes[i][1], shapes[i][2]);
+    for (int i = 0; i < 4000; i++) {
+        uint64_t width = 64 * (1 + below(64));
+        ask_length(width, 64 * (1 + below(64)), 2 + below(7), 16, width + below(257), 4 + below(4));
+    }
+    for (int i = 0; i < 1000; i++) {
+        uint64_t width = below(4200);
+        ask_length(width, 64 * below(70), below(12), 15 + below(3), width + below(300), below(10));
+    }
     for (int i = 0; i < 1000; i++)
-        ask_length(below(4200), 64 * below(70), below(12), below(10));
-    for (int i = 0; i < 1000; i++)
-        ask_length(any(), any(), any(), any());
+        ask_length(any(), any(), any(), any(), any(), any());
 }
 
 static void noise(void)

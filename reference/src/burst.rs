@@ -1,6 +1,7 @@
 //! The burst: frames of Bayer samples and their planes.
 
 use crate::image::Image;
+use crate::random::Random;
 use crate::shape::Shape;
 
 /// "Frames are Bayer RGGB, row by row, 16-bit words holding 0..4095."
@@ -21,9 +22,31 @@ impl Burst {
     }
 
     pub fn sample(&self, frame: u64, row: i64, column: i64) -> i64 {
-        let Shape { width, height, .. } = self.shape;
-        let index = (frame * height + row as u64) * width + column as u64;
+        let Shape {
+            height, row_length, ..
+        } = self.shape;
+        let index = (frame * height + row as u64) * row_length + column as u64;
         i64::from(self.samples[index as usize])
+    }
+
+    /// The rows of all frames, each without its spare words.
+    pub fn rows(&self) -> impl Iterator<Item = &[u16]> {
+        let Shape {
+            width, row_length, ..
+        } = self.shape;
+        let rows = self.samples.chunks(row_length as usize);
+        rows.map(move |row| &row[..width as usize])
+    }
+
+    /// Puts `spare` more words of any value after each row.
+    pub fn pad(&mut self, spare: u64, random: &mut Random) {
+        let mut padded = Vec::new();
+        for row in self.samples.chunks(self.shape.row_length as usize) {
+            padded.extend(row);
+            padded.extend((0..spare).map(|_| random.word() as u16));
+        }
+        self.samples = padded;
+        self.shape.row_length += spare;
     }
 
     /// "four planes of W/2 by H/2, by parity of row and column".

@@ -58,7 +58,7 @@ impl Call {
         }
     }
 
-    /// "Align tests 1 to 5, 7, 11."
+    /// "Align tests 1 to 5, 7, 11", and 23 before 4.
     fn check_align(&self) -> Result<(), Refusal> {
         self.check_burst()?;
         self.check_vectors_length()?;
@@ -73,7 +73,7 @@ impl Call {
         Ok(noise)
     }
 
-    /// Refusals 1 to 10, 18 and 11: vectors found level by level reach at most 4, 20, 84 and 172, so run has no 12.
+    /// Refusals 1 to 10, with 23 before 4, then 18 and 11: vectors found level by level reach at most 4, 20, 84 and 172, so run has no 12.
     fn check_run(&self) -> Result<NoiseModel, Refusal> {
         self.check_burst()?;
         self.check_vectors_length()?;
@@ -89,11 +89,12 @@ impl Call {
         Ok(noise)
     }
 
-    /// Refusals 1 to 4.
+    /// Refusals 1, 2, 3, 23 and 4.
     fn check_burst(&self) -> Result<(), Refusal> {
         let shape = self.burst.shape;
         shape.check()?;
         shape.check_reference(self.burst.reference)?;
+        shape.check_row_length()?;
         let length = self.burst.samples.len() as u64;
         require(length == shape.samples_length(), Refusal::SamplesLength)
     }
@@ -121,10 +122,10 @@ impl Call {
         require(allowed, Refusal::BlackLevel)
     }
 
-    /// Refusal 11: "sample > 4095".
+    /// Refusal 11: "sample > 4095". "Spare words may hold anything."
     fn check_samples(&self) -> Result<(), Refusal> {
-        let allowed = self.burst.samples.iter().all(|&sample| sample <= 4095);
-        require(allowed, Refusal::Sample)
+        let mut samples = self.burst.rows().flatten();
+        require(samples.all(|&sample| sample <= 4095), Refusal::Sample)
     }
 
     /// Refusal 12: "vector part outside −172..172".

@@ -54,11 +54,7 @@ fn read_header(bytes: &[u8]) -> Result<(Header, &[u8]), Refusal> {
         return Err(Refusal::ValueLine);
     };
     let header = Header {
-        shape: Shape {
-            width,
-            height,
-            count,
-        },
+        shape: Shape::packed(width, height, count),
         reference,
         noise: NoiseModel {
             levels: Levels { shot, read },

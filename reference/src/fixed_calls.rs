@@ -22,6 +22,7 @@ pub fn calls() -> impl Iterator<Item = Call> {
         .chain(in_turn(1024, 1024, 0, vec![[2, 0], [2, 1], [1, 0]]))
         .chain(mirrored_reads())
         .chain(pedestals())
+        .chain(row_lengths())
         .chain(refused_vectors())
         .chain(faults_beside_black())
 }
@@ -42,12 +43,10 @@ fn in_turn(
     let mut random = Random::new(1 + round);
     let turns = 37 * round as usize..;
     turns.zip(frames).map(move |(turn, [count, reference])| {
-        let shape = Shape {
-            width,
-            height,
-            count,
-        };
-        call(turn, shape, reference, &mut random)
+        let shape = Shape::packed(width, height, count);
+        let mut call = call(turn, shape, reference, &mut random);
+        call.burst.pad(random.pick(&[0, 1, 17, 256]), &mut random);
+        call
     })
 }
 
@@ -112,11 +111,7 @@ fn mirrored_reads() -> impl Iterator<Item = Call> {
     let mut random = Random::new(3);
     let sizes = [(64, 64), (64, 128), (128, 64), (128, 128)];
     (2..).zip(sizes).map(move |(turn, (width, height))| {
-        let shape = Shape {
-            width,
-            height,
-            count: 8,
-        };
+        let shape = Shape::packed(width, height, 8);
         let mut call = call(turn, shape, 7, &mut random);
         call.burst.samples = Picture::Noise.samples(shape, &mut random);
         call.denoising = denoising(1);
@@ -132,11 +127,7 @@ fn mirrored_reads() -> impl Iterator<Item = Call> {
 /// Dark frames, whose samples lie about the black levels or below all of them, and black levels of 256, which merge and
 /// run refuse.
 fn pedestals() -> impl Iterator<Item = Call> {
-    let shape = Shape {
-        width: 64,
-        height: 64,
-        count: 3,
-    };
+    let shape = Shape::packed(64, 64, 3);
     let equal = [0, 64, 200, 201, 255, 256].map(|black| [black; 4]);
     let unequal = [[50, 100, 150, 255], [201, 0, 199, 64]];
     let refused = [0, 1, 2, 3].map(|plane| {
@@ -154,13 +145,36 @@ fn pedestals() -> impl Iterator<Item = Call> {
     })
 }
 
+/// Row lengths at their limits and beyond, samples that are too great at the ends of rows, and lengths that leave out
+/// spare words.
+fn row_lengths() -> impl Iterator<Item = Call> {
+    let shape = Shape::packed(64, 64, 2);
+    let mut random = Random::new(5);
+    let mut padded = |spare| {
+        let mut call = call(0, shape, 1, &mut random);
+        call.burst.pad(spare, &mut random);
+        call
+    };
+    let good = [0, 1, 256].map(&mut padded);
+    let long = padded(257);
+    let mut short = padded(0);
+    short.burst.shape.row_length = 63;
+    short.burst.samples.truncate(2 * 63 * 64);
+    let mut first = padded(1);
+    first.burst.samples[63] = 4096;
+    let mut last = padded(256);
+    last.burst.samples[127 * 320 + 63] = 4096;
+    let mut packed = padded(1);
+    packed.burst.samples.truncate(2 * 64 * 64);
+    let mut cut = padded(256);
+    cut.burst.samples.truncate(127 * 320 + 64);
+    let refused = [long, short, first, last, packed, cut];
+    good.into_iter().chain(refused)
+}
+
 /// A black level of 256 beside a strength above 1024, a sample above 4095 and both: 18 comes after 10 and before 11.
 fn faults_beside_black() -> impl Iterator<Item = Call> {
-    let shape = Shape {
-        width: 64,
-        height: 64,
-        count: 2,
-    };
+    let shape = Shape::packed(64, 64, 2);
     let mut random = Random::new(5);
     [(true, false), (false, true), (true, true)]
         .into_iter()
@@ -179,11 +193,7 @@ fn faults_beside_black() -> impl Iterator<Item = Call> {
 
 /// One part of the lent vectors just outside what merge takes, or far outside, at either end.
 fn refused_vectors() -> impl Iterator<Item = Call> {
-    let shape = Shape {
-        width: 64,
-        height: 64,
-        count: 3,
-    };
+    let shape = Shape::packed(64, 64, 3);
     let last = shape.vectors_length() as usize - 1;
     let parts = [173, -173, i32::MAX, i32::MIN];
     let places = parts

@@ -10,11 +10,7 @@ pub const PLACE: [u64; 2] = [36, 36];
 
 /// Eight frames, all 0 but one sample of 745 in the reference, whose levels are 0 and 3422141.
 pub fn call() -> Call {
-    let shape = Shape {
-        width: 64,
-        height: 64,
-        count: 8,
-    };
+    let shape = Shape::packed(64, 64, 8);
     let [row, column] = PLACE;
     let mut samples = vec![0; shape.samples_length() as usize];
     samples[(row * shape.width + column) as usize] = 745;

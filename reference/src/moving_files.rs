@@ -66,11 +66,7 @@ fn case(name: &str, bytes: Vec<u8>, number: u64) -> Case {
 /// The file of a width, height, count and reference, its samples as large as its length allows.
 fn file(head: [u64; 4], noise: [u64; 3], picture: Picture, random: &mut Random) -> Vec<u8> {
     let [width, height, count, _] = head;
-    let shape = Shape {
-        width,
-        height,
-        count,
-    };
+    let shape = Shape::packed(width, height, count);
     let highest = match shape.samples_length() / 4096 {
         ..=3 => 4095,
         4..=5 => 99,

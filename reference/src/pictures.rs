@@ -34,8 +34,9 @@ impl Picture {
         Picture::White,
     ];
 
+    /// The frames without spare words.
     pub fn samples(self, shape: Shape, random: &mut Random) -> Vec<u16> {
-        let length = shape.samples_length() as usize;
+        let length = (shape.count * shape.output_length()) as usize;
         match self {
             Picture::Shifted => shifted(shape, random),
             Picture::OneTile => one_tile(shape, random),
@@ -93,7 +94,7 @@ fn one_tile(shape: Shape, random: &mut Random) -> Vec<u16> {
 
 /// Any samples up to 200, as dark frames on a pedestal have them.
 pub fn dark(shape: Shape, random: &mut Random) -> Vec<u16> {
-    let length = shape.samples_length();
+    let length = shape.count * shape.output_length();
     (0..length).map(|_| random.below(201) as u16).collect()
 }
 

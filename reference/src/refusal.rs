@@ -21,6 +21,7 @@ pub enum Refusal {
     BytesLength = 16,
     Pgm = 17,
     BlackLevel = 18,
+    RowLength = 23,
 }
 
 impl Refusal {

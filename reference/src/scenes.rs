@@ -8,7 +8,7 @@ use crate::random::Random;
 use crate::shape::Shape;
 
 /// The refusals that calls meet, in the order of their tests.
-pub const FAULTS: [u64; 13] = [1, 2, 3, 4, 5, 6, 7, 8, 9, 10, 18, 11, 12];
+pub const FAULTS: [u64; 14] = [1, 2, 3, 23, 4, 5, 6, 7, 8, 9, 10, 18, 11, 12];
 
 /// Calls of frames up to `side` in width and height; a third of them with one or two faults.
 pub fn calls(side: u64, count: usize, seed: u64) -> impl Iterator<Item = Call> {
@@ -27,21 +27,19 @@ fn call(side: u64, random: &mut Random) -> Call {
     let mut length = || 64 * (1 + random.below(side as usize / 64) as u64);
     let (width, height) = (length(), length());
     let count = 1 + random.below(8) as u64;
-    let shape = Shape {
-        width,
-        height,
-        count,
-    };
+    let shape = Shape::packed(width, height, count);
     let reach = random.pick(&[0, 3, 172]);
     let mut part = || random.below(2 * reach + 1) as i32 - reach as i32;
     let vectors = (0..shape.vectors_length()).map(|_| part()).collect();
+    let mut burst = Burst {
+        shape,
+        reference: random.below(count as usize) as u64,
+        black: black(random),
+        samples: samples(shape, random),
+    };
+    burst.pad(random.pick(&[0, 0, 1, 5, 256]), random);
     Call {
-        burst: Burst {
-            shape,
-            reference: random.below(count as usize) as u64,
-            black: black(random),
-            samples: samples(shape, random),
-        },
+        burst,
         denoising: denoising(random),
         vectors,
         output: vec![55555; shape.output_length() as usize],
@@ -91,11 +89,16 @@ pub fn add_fault(call: &mut Call, number: u64, random: &mut Random) {
         width,
         height,
         count,
+        row_length,
     } = &mut call.burst.shape;
     match number {
         1 => *[width, height][random.below(2)] = random.pick(&[0, 63, 96, 4160, u64::MAX]),
         2 => *count = random.pick(&[0, 9, u64::MAX]),
         3 => call.burst.reference = random.pick(&[*count, 9, u64::MAX]),
+        23 => {
+            let short = width.saturating_sub(1);
+            *row_length = random.pick(&[0, short, width.saturating_add(257), u64::MAX])
+        }
         4 => misfit(&mut call.burst.samples, random),
         5 => misfit(&mut call.vectors, random),
         6 => misfit(&mut call.output, random),

@@ -1,4 +1,4 @@
-//! Width, height and frame count, and the lengths that follow from them.
+//! Width, height, frame count and row length, and the lengths that follow from them.
 
 use crate::refusal::{require, Refusal};
 
@@ -7,9 +7,21 @@ pub struct Shape {
     pub width: u64,
     pub height: u64,
     pub count: u64,
+    /// "The burst gains a row length L": W words of samples, then spare ones.
+    pub row_length: u64,
 }
 
 impl Shape {
+    /// Rows without spare words.
+    pub fn packed(width: u64, height: u64, count: u64) -> Shape {
+        Shape {
+            width,
+            height,
+            count,
+            row_length: width,
+        }
+    }
+
     /// Refusals 1 and 2.
     pub fn check(&self) -> Result<(), Refusal> {
         require(size_allowed(self.width, self.height), Refusal::Size)?;
@@ -21,9 +33,15 @@ impl Shape {
         require(reference < self.count, Refusal::Reference)
     }
 
-    /// "samples not N·W·H".
+    /// Refusal 23: "a row length outside that range", "from W to W + 256".
+    pub fn check_row_length(&self) -> Result<(), Refusal> {
+        let allowed = self.width..=self.width + 256;
+        require(allowed.contains(&self.row_length), Refusal::RowLength)
+    }
+
+    /// "sample length is N·L·H".
     pub fn samples_length(&self) -> u64 {
-        self.count * self.output_length()
+        self.count * self.row_length * self.height
     }
 
     /// "vectors (N−1)·2·(W/16+1)·(H/16+1)", 0 for a lone frame.

@@ -6,15 +6,15 @@ use crate::shape::Shape;
 /// The largest root r of a tile: every sample 4095.
 pub const LARGEST_ROOT: u64 = 65520;
 
+/// The only tile side that is offered; any other is refusal 22.
+const SIDE: u64 = 16;
+
 /// "The length question, given W, H, N and one of the numbers 4 to 7, answers the length
 /// which that refusal tests, or 0 for any other number or where refusal 1 or 2 would stand."
-pub fn station_length(width: u64, height: u64, count: u64, number: u64) -> u64 {
-    let shape = Shape {
-        width,
-        height,
-        count,
-    };
-    if shape.check().is_err() {
+/// It "takes side and L, and is 0 where 22 or 23 would stand".
+pub fn station_length(shape: Shape, side: u64, number: u64) -> u64 {
+    let accepted = shape.check().is_ok() && side == SIDE && shape.check_row_length().is_ok();
+    if !accepted {
         return 0;
     }
     match number {

@@ -15,11 +15,7 @@ fn good() -> Call {
     };
     Call {
         burst: Burst {
-            shape: Shape {
-                width: 64,
-                height: 64,
-                count: 2,
-            },
+            shape: Shape::packed(64, 64, 2),
             reference: 0,
             black: [0; 4],
             samples: [vec![0; 4096], vec![4; 4096]].concat(),
@@ -61,7 +57,7 @@ fn check_pairs(perform: fn(&mut Call) -> Answer, tested: &[u64]) {
 
 #[test]
 fn refusals_of_align() {
-    check_pairs(Call::align, &[1, 2, 3, 4, 5, 7, 11]);
+    check_pairs(Call::align, &[1, 2, 3, 23, 4, 5, 7, 11]);
 }
 
 #[test]
@@ -71,7 +67,7 @@ fn refusals_of_merge() {
 
 #[test]
 fn refusals_of_run() {
-    check_pairs(Call::run, &FAULTS[..12]);
+    check_pairs(Call::run, &FAULTS[..13]);
 }
 
 #[test]
@@ -110,8 +106,7 @@ fn hill(top: i32, left: i32) -> Vec<u16> {
 #[test]
 fn a_moved_frame_is_found() {
     let mut call = good();
-    call.burst.shape.width = 256;
-    call.burst.shape.height = 256;
+    call.burst.shape = Shape::packed(256, 256, 2);
     call.burst.samples = [hill(120, 124), hill(126, 114)].concat();
     call.vectors = vec![0; 2 * 17 * 17];
     call.work_length = 2 * 256 * 256;
@@ -139,4 +134,19 @@ fn a_lone_frame_comes_out_unchanged() {
     for fault in [2, 3, 4, 5, 6, 7, 11] {
         assert_eq!(with_fault(call.clone(), fault).run().number, fault);
     }
+}
+
+/// "two bursts that differ only there get equal results": spare words, here all 65535 and then all 0.
+#[test]
+fn spare_words_do_not_count() {
+    let answers = [65535, 0].map(|word| {
+        let mut call = good();
+        let rows = call.burst.rows().map(|row| [row, &[word; 3][..]].concat());
+        call.burst.samples = rows.collect::<Vec<_>>().concat();
+        call.burst.shape.row_length = 67;
+        (call.run(), call.vectors, call.output)
+    });
+    assert_eq!(answers[0], answers[1]);
+    let mut packed = good();
+    assert_eq!(answers[0], (packed.run(), packed.vectors, packed.output));
 }

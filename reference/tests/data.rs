@@ -1,20 +1,25 @@
 //! The fixed calls and the moving files hold what README.md says of them.
 
+use reference::calls::Call;
 use reference::file::check;
 use reference::fixed_calls::{calls, of_size};
 use reference::moving_files::cases;
 use reference::programs::{motion, stack};
 use std::collections::BTreeSet;
 
+fn brightest(call: &Call) -> u16 {
+    *call.burst.rows().flatten().max().unwrap()
+}
+
 #[test]
 fn fixed_calls_have_every_count_and_reference() {
     let mut seen = BTreeSet::new();
     let mut greatest = 0;
-    for call in calls().take(180) {
+    for call in calls().take(172) {
         let shape = call.burst.shape;
         assert_eq!(call.burst.samples.len() as u64, shape.samples_length());
         assert_eq!(call.vectors.len() as u64, shape.vectors_length());
-        greatest = greatest.max(call.burst.samples.iter().copied().max().unwrap());
+        greatest = greatest.max(brightest(&call));
         seen.insert((shape.width, shape.height, shape.count, call.burst.reference));
     }
     assert_eq!(greatest, 4095);
@@ -30,15 +35,15 @@ fn fixed_calls_have_every_count_and_reference() {
 #[test]
 fn rounds_turn_pictures_and_noises() {
     let mut strengths = BTreeSet::new();
-    let mut brightest = BTreeSet::new();
+    let mut greatest = BTreeSet::new();
     for round in 0..8 {
         let call = of_size(64, 64, round).next().unwrap();
         strengths.insert(call.denoising.strength);
-        brightest.insert(call.burst.samples.iter().copied().max().unwrap());
+        greatest.insert(brightest(&call));
         assert_eq!(of_size(64, 64, round).count(), 36);
     }
     assert_eq!(strengths, BTreeSet::from([0, 8, 77, 1024]));
-    assert!(brightest.contains(&0) && brightest.contains(&4095));
+    assert!(greatest.contains(&0) && greatest.contains(&4095));
 }
 
 #[test]
@@ -53,8 +58,17 @@ fn black_levels_about_the_samples() {
 }
 
 #[test]
+fn row_lengths_at_their_limits() {
+    let answers = calls()
+        .skip(172)
+        .take(9)
+        .map(|mut call| call.merge().number);
+    assert_eq!(answers.collect::<Vec<_>>(), [0, 0, 0, 23, 23, 11, 11, 4, 4]);
+}
+
+#[test]
 fn vectors_outside_are_refused() {
-    for mut call in calls().skip(172).take(8) {
+    for mut call in calls().skip(181).take(8) {
         assert_eq!(call.merge().number, 12);
         assert_eq!(call.run().number, 0);
     }
@@ -62,7 +76,7 @@ fn vectors_outside_are_refused() {
 
 #[test]
 fn black_levels_are_tested_after_strength_and_before_samples() {
-    let last = calls().skip(180).map(|mut call| call.merge().number);
+    let last = calls().skip(189).map(|mut call| call.merge().number);
     assert_eq!(last.collect::<Vec<_>>(), [10, 18, 10]);
 }
 

@@ -2,6 +2,7 @@
 
 use reference::noise::{Curve, Levels, Noise};
 use reference::refusal::Refusal::{self, NoiseLimit, NoiseValue};
+use reference::shape::Shape;
 use reference::station::{station_length, station_noise};
 
 fn curve(shot: f64, read: f64) -> Result<Levels, Refusal> {
@@ -66,21 +67,23 @@ fn read_is_scaled_by_the_rounded_square() {
     assert_eq!(iso(31, 0.0, read), levels(0, 1));
 }
 
+fn length(width: u64, height: u64, count: u64, number: u64) -> u64 {
+    station_length(Shape::packed(width, height, count), 16, number)
+}
+
 #[test]
 fn station_lengths() {
-    assert_eq!(station_length(64, 64, 2, 4), 8192);
-    assert_eq!(station_length(64, 64, 2, 5), 50);
-    assert_eq!(station_length(64, 64, 2, 6), 4096);
-    assert_eq!(station_length(64, 64, 2, 7), 8192);
-    assert_eq!(station_length(4096, 64, 8, 5), 7 * 2 * 257 * 5);
-    assert_eq!(station_length(4096, 4096, 8, 4), 8 << 24);
+    assert_eq!(length(64, 64, 2, 4), 8192);
+    assert_eq!(length(64, 64, 2, 5), 50);
+    assert_eq!(length(64, 64, 2, 6), 4096);
+    assert_eq!(length(64, 64, 2, 7), 8192);
+    assert_eq!(length(4096, 64, 8, 5), 7 * 2 * 257 * 5);
+    assert_eq!(length(4096, 4096, 8, 4), 8 << 24);
     // A lone frame has no vectors; its other lengths hold.
-    assert_eq!(
-        [4, 5, 6, 7].map(|number| station_length(128, 64, 1, number)),
-        [8192, 0, 8192, 16384]
-    );
-    for number in [0, 1, 2, 3, 8, 15, u64::MAX] {
-        assert_eq!(station_length(64, 64, 2, number), 0);
+    let lone = [4, 5, 6, 7].map(|number| length(128, 64, 1, number));
+    assert_eq!(lone, [8192, 0, 8192, 16384]);
+    for number in [0, 1, 2, 3, 8, 15, 22, 23, u64::MAX] {
+        assert_eq!(length(64, 64, 2, number), 0);
     }
     for (width, height, count) in [
         (0, 64, 2),
@@ -91,7 +94,31 @@ fn station_lengths() {
         (64, 64, u64::MAX),
         (u64::MAX - 63, 64, 2),
     ] {
-        assert_eq!(station_length(width, height, count, 4), 0);
+        assert_eq!(length(width, height, count, 4), 0);
+    }
+}
+
+/// "The length question takes side and L, and is 0 where 22 or 23 would stand."
+#[test]
+fn station_lengths_of_padded_rows() {
+    let lengths = |row_length, side| {
+        let mut shape = Shape::packed(64, 128, 3);
+        shape.row_length = row_length;
+        [4, 5, 6, 7].map(|number| station_length(shape, side, number))
+    };
+    let others = |samples| [samples, 2 * 2 * 5 * 9, 8192, 16384];
+    assert_eq!(lengths(65, 16), others(3 * 65 * 128));
+    assert_eq!(lengths(320, 16), others(3 * 320 * 128));
+    for (row_length, side) in [
+        (63, 16),
+        (321, 16),
+        (0, 16),
+        (u64::MAX, 16),
+        (64, 0),
+        (64, 8),
+        (64, 17),
+    ] {
+        assert_eq!(lengths(row_length, side), [0; 4]);
     }
 }
 

@@ -5,17 +5,17 @@ use mathlib.Core.List.{List, []}
 use Prim.Native.Nat.{ℕ, _*_}
 use native.Mathlib.Nat.{mul-assoc, mul-comm}
 use Rattle.geometry.specs.declared.Shape.{Shape}
-use Rattle.refusals.specs.TestLaws.{both-passed}
+use Rattle.refusals.specs.TestLaws.{among, passed}
 use Rattle.geometry.specs.Shape.{sampleLength}
 use Rattle.geometry.specs.Fits.{Allowed}
-use Rattle.geometry.specs.OrderLaws.{frames-allowed}
+use Rattle.geometry.specs.Order.{shapeTests}
 use Rattle.burst_file.specs.declared.Header.{Header}
 use Rattle.burst_file.specs.Burst.{Burst}
 use Rattle.burst_file.specs.Part.{Part, refused, found, numberOf, _then_, mapped}
 use Rattle.burst_file.specs.PartLaws.{both-sound, sound-at, sound-found}
 use Rattle.burst_file.specs.Line.{above}
 use Rattle.burst_file.specs.Head.{headerRefusal, headOf}
-use Rattle.burst_file.specs.HeadLaws.{HeadRead, head-sound}
+use Rattle.burst_file.specs.HeadLaws.{HeadRead, packed-allowed, head-sound}
 use Rattle.burst_file.specs.Rows.{rows, framesOf}
 use Rattle.burst_file.specs.RowLaws.{SmallRows, rows-sound, ended-sound}
 use Rattle.burst_file.specs.Reading.{bodyOf, reading}
@@ -25,11 +25,17 @@ use Rattle.burst_file.proofs.Parts.{unless-stops, unless-goes, number-m
 
 -- an accepted head's shape is allowed
 pub head-allowed : (file : List ℕ) (header : Header) (rest : List ℕ) → found header rest ≡ headOf file → Allowed (header .shape)
-unfolding headerRefusal
-head-allowed file header rest e = frames-allowed (header .shape) (header .reference) (both-passed _ _ (sound-at (HeadRead file) (sym e) (head-sound file) .passed) .0)
+unfolding headerRefusal shapeTests
+head-allowed file header rest e =
+    let read = sound-at (HeadRead file) (sym e) (head-sound file) in
+    packed-allowed (header .shape) (read .packed) (passed (read .passed) (search among depth 20)) (passed (read .passed) (search among depth 20))
+
+-- and its rows have no spare words
+pub head-packed : (file : List ℕ) (header : Header) (rest : List ℕ) → found header rest ≡ headOf file → header .shape .«row_length» ≡ header .shape .width
+head-packed file header rest e = sound-at (HeadRead file) (sym e) (head-sound file) .packed
 
 -- frames that are not refused are the next values, to the end of the file
-module _ (shape : Shape) (bytes : List ℕ) where
+module _ (shape : Shape) (packed : shape .«row_length» ≡ shape .width) (bytes : List ℕ) where
   pub frames-next : numberOf (framesOf shape bytes) ≡ 0
       → (framesOf shape bytes ≡ found (nextValues (sampleLength shape) bytes) []) × (above 4095 (nextValues (sampleLength shape) bytes) ≡ false)
   unfolding framesOf sampleLength
@@ -41,8 +47,9 @@ module _ (shape : Shape) (bytes : List ℕ) where
       sound-found (λ samples rest. P samples [] × (rest ≡ [])) (framesOf shape bytes) e
       (ended-sound P (rows count width bytes)
       (both-sound (Next (count * width) bytes) (SmallRows count width bytes) (rows count width bytes) (rows-next count width bytes) (rows-sound count width bytes))) in
-      let order : count * width ≡ shape .count * (width * shape .height) = mul-assoc (shape .count) (shape .height) width ∙ ap (λ (k : ℕ). shape .count * k) (mul-comm (shape .height) width) in
-      let all : nextValues (shape .count * (width * shape .height)) bytes ≡ samples = ap (λ (k : ℕ). nextValues k bytes) (sym order) ∙ next-all (count * width) bytes samples [] (all-rows .0 .0) in
+      let order : count * width ≡ shape .count * (shape .«row_length» * shape .height) =
+      mul-assoc (shape .count) (shape .height) width ∙ ap (λ (k : ℕ). shape .count * k) (mul-comm (shape .height) width ∙ ap (λ (n : ℕ). n * shape .height) (sym packed)) in
+      let all : nextValues (shape .count * (shape .«row_length» * shape .height)) bytes ≡ samples = ap (λ (k : ℕ). nextValues k bytes) (sym order) ∙ next-all (count * width) bytes samples [] (all-rows .0 .0) in
       (rw all (is ∙ ap (found samples) (all-rows .1)), rw all (all-rows .0 .1 .1))
 
 -- without refusal 4
@@ -77,4 +84,4 @@ module _ (lengthTest : Shape → ℕ) (file : List ℕ) where
 
       pub frames-accept : r ≡ 0 → reading lengthTest file ≡ found (record { header = header; samples = nextValues (sampleLength (header .shape)) rest }) []
       unfolding burst
-      frames-accept z = sym frames-decide ∙ ap (mapped burst) (frames-next (header .shape) rest (sym frames ∙ z) .0)
+      frames-accept z = sym frames-decide ∙ ap (mapped burst) (frames-next (header .shape) (head-packed file header rest head) rest (sym frames ∙ z) .0)

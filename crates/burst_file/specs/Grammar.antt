@@ -51,10 +51,11 @@ abbrev pub sevenOf : Header → List ℕ
 sevenOf header =
     header .shape .width ∷ header .shape .height ∷ header .shape .count ∷ header .reference ∷ header .«shot_level» ∷ header .«read_level» ∷ header .strength ∷ []
 
--- "A line of names, .., then a line of those seven values .., then one line per row, frame after frame", and no byte more
+-- "A line of names, .., then a line of those seven values .., then one line per row, frame after frame", and no byte more; "A burst file means L = W" (request L9)
 pub record BurstFile (file : List ℕ) (burst : Burst) : Type 0 where
   pub afterNames : List ℕ
   pub afterValues : List ℕ
   pub named : file ≡ names ++ afterNames
   pub valued : ValueLine 7 afterNames (sevenOf (burst .header)) afterValues
+  pub packed : burst .header .shape .«row_length» ≡ burst .header .shape .width
   pub sampled : Rows (burst .header .shape .count * burst .header .shape .height) (burst .header .shape .width) afterValues (burst .samples) []

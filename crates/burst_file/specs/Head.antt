@@ -6,8 +6,8 @@ use lib.Dec.{eqb}
 use lib.ListN.{length, getD, drop}
 use Rattle.refusals.specs.Numbers as no
 use Rattle.refusals.specs.Tests.{refuse, first}
-use Rattle.geometry.specs.Shape.{shaped}
-use Rattle.geometry.specs.Order.{frameTests}
+use Rattle.geometry.specs.Shape.{shaped, referenceRefusal}
+use Rattle.geometry.specs.Order.{shapeTests}
 use Rattle.noise.specs.Levels.{levelRefusal, strengthRefusal}
 use Rattle.burst_file.specs.Part.{Part, refused, found, unless, _then_}
 use Rattle.burst_file.specs.Line.{lineEnd, valueLine}
@@ -26,11 +26,11 @@ startsWith (byte ∷ text) (b ∷ bytes) = cond (eqb b byte) (startsWith text by
 unfoldable pub firstLineRefusal : List ℕ → ℕ
 firstLineRefusal file = first (lineEnd file ∷ refuse no.firstLine (not (startsWith names file)) ∷ [])
 
--- "then a line of those seven values (shot and read are Ls and Lr)"
+-- "then a line of those seven values (shot and read are Ls and Lr)"; "A burst file means L = W" (request L9)
 abbrev pub headerOf : (values : List ℕ) → Header
 headerOf values =
     record {
-      shape = shaped (getD values 0 0) (getD values 1 0) (getD values 2 0);
+      shape = shaped (getD values 0 0) (getD values 1 0) (getD values 2 0) (getD values 0 0);
       reference = getD values 3 0;
       «shot_level» = getD values 4 0;
       «read_level» = getD values 5 0;
@@ -41,8 +41,9 @@ headerOf values =
 unfoldable pub headerRefusal : Header → ℕ
 headerRefusal header =
     first
-    (frameTests (header .shape) (header .reference)
-    ++ levelRefusal (header .«shot_level») (header .«read_level»)
+    (shapeTests (header .shape)
+    ++ referenceRefusal (header .shape) (header .reference)
+    ∷ levelRefusal (header .«shot_level») (header .«read_level»)
     ∷ strengthRefusal (header .strength)
     ∷ [])
 

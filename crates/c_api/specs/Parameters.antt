@@ -8,9 +8,9 @@ use Rattle.c_api.specs.declared.BurstNoise.{BurstNoise}
 use Rattle.c_api.specs.declared.IsoNoise.{IsoNoise}
 use Rattle.c_api.specs.declared.MergeTuning.{MergeTuning}
 
--- "Width W and height H", "N [..] frames"
+-- "Width W and height H", "N [..] frames", "a row length L" (request L9)
 abbrev pub shapeOf : Burst → Shape
-shapeOf burst = record { width = burst .width; height = burst .height; count = burst .count }
+shapeOf burst = record { width = burst .width; height = burst .height; count = burst .count; «row_length» = burst .«row_length» }
 
 -- "a curve of two f64 numbers, shot and read"
 abbrev pub measured : BurstNoise → Noise

@@ -19,6 +19,7 @@ pub extern "C" fn stacker_align(
         width: burst.width as usize,
         height: burst.height as usize,
         count: burst.count as usize,
+        row_length: burst.row_length as usize,
     };
     stacker::align::align(
         shape,

@@ -7,13 +7,15 @@ pub mod run;
 
 // As in include/stacker.h, field by field.
 
-// Frames of one size, the index of the one that the others are merged on, and the black levels of the planes, in the pattern's order RGGB.
+// Frames of one size, the index of the one that the others are merged on, the words of a row, and the black levels of the planes, in the pattern's order
+// RGGB.
 #[repr(C)]
 pub struct Burst {
     pub width: u64,
     pub height: u64,
     pub count: u64,
     pub reference: u64,
+    pub row_length: u64,
     pub black: [u16; 4],
 }
 

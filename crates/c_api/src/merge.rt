@@ -27,6 +27,7 @@ pub extern "C" fn stacker_merge(
         width: burst.width as usize,
         height: burst.height as usize,
         count: burst.count as usize,
+        row_length: burst.row_length as usize,
     };
     let noise = Noise::Measured(Curve {
         shot: noise.shot,
@@ -66,6 +67,7 @@ pub extern "C" fn stacker_merge_iso(
         width: burst.width as usize,
         height: burst.height as usize,
         count: burst.count as usize,
+        row_length: burst.row_length as usize,
     };
     let iso = noise.iso;
     let base = Curve {

@@ -28,6 +28,7 @@ pub extern "C" fn stacker_run(
         width: burst.width as usize,
         height: burst.height as usize,
         count: burst.count as usize,
+        row_length: burst.row_length as usize,
     };
     let noise = Noise::Measured(Curve {
         shot: noise.shot,
@@ -67,6 +68,7 @@ pub extern "C" fn stacker_run_iso(
         width: burst.width as usize,
         height: burst.height as usize,
         count: burst.count as usize,
+        row_length: burst.row_length as usize,
     };
     let iso = noise.iso;
     let base = Curve {

@@ -1,6 +1,7 @@
--- How a loop over all samples, or all vectors, decides refusal 11, or 12.
-use Rattle.algebra.specs.Prelude.{_≡_, refl, sym, ap, _∙_, Bool, true, _||_, List, ℕ, zero, suc, _+_, _*_, _/_, _%_, _≤_, _<_, arith, ltb, length, getD, ℤ, pos, natAbs}
-use native.Mathlib.Nat.{mul-assoc, mul-comm, mul-mod-left}
+-- How a loop over the rows of all frames, or over all vectors, decides refusal 11, or 12.
+use Rattle.algebra.specs.Prelude.{_≡_, refl, sym, ap, _∙_, Bool, true, false, _||_, List, ℕ, zero, suc, _+_, _*_, _/_, _≤_, _<_, arith, ltb, length, getD, ℤ, pos, natAbs}
+use mathlib.Core.Path.{fun-ext}
+use native.Mathlib.Nat.{add-assoc, mul-assoc, mul-comm, suc-mul, mul-le-mul, mul-le-mul-right}
 use native.Mathlib.Decide.{decLt}
 use borrow.Author.Tests.{ltb-false, lt-ltb, le-ltb}
 use Rattle.algebra.specs.Sums.{sumN}
@@ -9,26 +10,18 @@ use Rattle.geometry.specs.Shape.{sampleLength}
 use Rattle.geometry.specs.Read.{sampleIndex, sampleAt}
 use Rattle.geometry.specs.Bounds.{sampleRefusal, vectorRefusal}
 use Rattle.geometry.specs.Fits.{Sampled, SamplesFit, ValuesFit, VectorsFit}
-use Rattle.geometry.specs.Excess.{excess}
+use Rattle.geometry.specs.ShapeLaws.{samples-most}
+use Rattle.geometry.specs.Excess.{excess, above, rowAbove}
 use Rattle.refusals.specs.Numbers as no
 use Rattle.refusals.specs.Tests.{refuse}
 use Rattle.refusals.specs.TestLaws.{refuse-not}
 use Rattle.refusals.specs.Some.{some}
 use Rattle.refusals.specs.SomeLaws.{or-false, or-true, some-rows, one, one-of, none, Passed, pass-turns, pass-done, every}
 
--- a sample's test, by its place in the list
-unfoldable pub above : List ℕ → ℕ → Bool
-above samples k = ltb 4095 (getD samples k 0)
-
--- the test over frame, row and column is one over the list
-flat : {s : Shape} {samples : List ℕ} → Sampled s samples → sampleRefusal s samples ≡ refuse no.sampleValue (some (length samples) (above samples))
-unfolding above sampleRefusal sampleAt sampleIndex sampleLength
-flat {s} {samples} h =
-    let all : s .count * s .height * s .width ≡ length samples = mul-assoc (s .count) (s .height) (s .width) ∙ ap (λ n. s .count * n) (mul-comm (s .height) (s .width)) ∙ sym (h .long) in
-    ap (refuse no.sampleValue)
-    (some-rows (s .count) (s .height) (λ row. some (s .width) (λ column. above samples (row * s .width + column)))
-    ∙ some-rows (s .count * s .height) (s .width) (above samples)
-    ∙ ap (λ n. some n (above samples)) all)
+-- the test over frame, row and column is one over all rows
+flat : (s : Shape) (samples : List ℕ) → sampleRefusal s samples ≡ refuse no.sampleValue (some (s .count * s .height) (λ row. rowAbove samples (row * s .«row_length») (s .width)))
+unfolding above rowAbove sampleRefusal sampleAt sampleIndex
+flat s samples = ap (refuse no.sampleValue) (some-rows (s .count) (s .height) (λ row. rowAbove samples (row * s .«row_length») (s .width)))
 
 -- the test of n samples, as a sum that is 0 where each passes
 above-sum : (n : ℕ) (f : ℕ → ℕ) → some n (λ k. ltb 4095 (f k)) ≡ ltb 0 (sumN n (λ k. f k / 4096))
@@ -40,29 +33,51 @@ above-sum (suc n) f = rw (above-sum n f) (more (sumN n (λ k. f k / 4096)) (f n)
     more a x (yes p) = rw (lt-ltb 4095 x p, lt-ltb 0 (a + x / 4096) (omega arith), or-true)
     more a x (no p) = let none : a + x / 4096 ≡ a = omega arith in rw (le-ltb 4095 x (omega arith), or-false, none)
 
-module _ (samples : List ℕ) (i : ℕ) (h : i + 64 ≤ length samples) where
-  pub block-above : 0 < excess samples i → some (length samples) (above samples) ≡ true
+-- a row, 64 columns at a time
+module _ (samples : List ℕ) (start width column : ℕ) (h : column + 64 ≤ width) where
+  block : (e : Bool) → ltb 0 (excess samples (start + column)) ≡ e → some 64 (λ k. above samples start (column + k)) ≡ e
   unfolding above excess
-  block-above l = one-of (length samples) (above samples) i 64 h (above-sum 64 (λ k. getD samples (i + k) 0) ∙ lt-ltb 0 (excess samples i) l)
+  block e is =
+      ap (some 64) (fun-ext (λ k. ap (λ n. ltb 4095 (getD samples n 0)) (sym (add-assoc start column k))))
+      ∙ above-sum 64 (λ k. getD samples (start + column + k) 0)
+      ∙ is
 
-  pub block-passed : excess samples i ≤ 0 → Passed (above samples) (length samples) i → Passed (above samples) (length samples) (i + 64)
-  unfolding above excess
-  block-passed l p = pass-turns p 64 h (above-sum 64 (λ k. getD samples (i + k) 0) ∙ le-ltb 0 (excess samples i) l)
+  pub block-above : 0 < excess samples (start + column) → rowAbove samples start width ≡ true
+  unfolding rowAbove
+  block-above l = one-of width (above samples start) column 64 h (block true (lt-ltb 0 (excess samples (start + column)) l))
+
+  pub block-passed : excess samples (start + column) ≤ 0 → Passed (above samples start) width column → Passed (above samples start) width (column + 64)
+  block-passed l p = pass-turns p 64 h (block false (le-ltb 0 (excess samples (start + column)) l))
+
+pub row-passed : (samples : List ℕ) (start width : ℕ) {column : ℕ} → Passed (above samples start) width column → width ≤ column → rowAbove samples start width ≡ false
+unfolding rowAbove
+row-passed samples start width p l = pass-done p l
+
+-- all rows
+module _ (s : Shape) (samples : List ℕ) where
+  -- the test of a row, by its number among those of all frames
+  abbrev pub rowTest : ℕ → Bool
+  rowTest row = rowAbove samples (row * s .«row_length») (s .width)
+
+  pub samples-refused : (row : ℕ) → row < s .count * s .height → rowTest row ≡ true → no.sampleValue ≡ sampleRefusal s samples
+  samples-refused row h e = rw (flat s samples, one (s .count * s .height) rowTest row h e)
+
+  pub samples-accepted : {row : ℕ} → Passed rowTest (s .count * s .height) row → s .count * s .height ≤ row → 0 ≡ sampleRefusal s samples
+  samples-accepted p l = rw (flat s samples, pass-done p l)
 
 module _ {s : Shape} {samples : List ℕ} (h : Sampled s samples) where
-  -- all samples stand in blocks of 64
-  pub samples-whole : length samples % 64 ≡ 0
+  -- there are few rows and words, and each row lies among them
+  pub samples-small : length samples ≤ 142606336
   unfolding sampleLength
-  samples-whole = rw (h .long) (times (s .count) (s .width * s .height) (times (s .width) (s .height) (h .allowed .high .whole)))
-    where
-      times : (a b : ℕ) → b % 64 ≡ 0 → a * b % 64 ≡ 0
-      times a b e = let parts : b ≡ b / 64 * 64 = omega arith in ap (λ n. a * n % 64) parts ∙ ap (λ n. n % 64) (sym (mul-assoc a (b / 64) 64)) ∙ mul-mod-left (a * (b / 64)) 64
+  samples-small = omega (arith, h .long, samples-most (h .allowed))
 
-  pub samples-refused : some (length samples) (above samples) ≡ true → no.sampleValue ≡ sampleRefusal s samples
-  samples-refused e = rw (flat h, e)
+  pub rows-most : s .count * s .height ≤ 32768
+  rows-most = mul-le-mul {n₁ = s .count} {m₁ = s .height} {n₂ = 8} {m₂ = 4096} (h .allowed .few) (h .allowed .high .most)
 
-  pub samples-accepted : {i : ℕ} → Passed (above samples) (length samples) i → length samples ≤ i → 0 ≡ sampleRefusal s samples
-  samples-accepted p l = rw (flat h, pass-done p l)
+  pub row-inside : (row : ℕ) → row < s .count * s .height → row * s .«row_length» + s .width ≤ length samples
+  unfolding sampleLength
+  row-inside row l =
+      omega (arith, h .long, h .allowed .row-least, suc-mul row (s .«row_length»), mul-le-mul-right {m = row + 1} {n = s .count * s .height} (s .«row_length») (omega arith), mul-assoc (s .count) (s .height) (s .«row_length»), mul-comm (s .height) (s .«row_length»))
 
 -- what it lets through
 module _ (s : Shape) (samples : List ℕ) where

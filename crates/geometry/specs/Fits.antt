@@ -1,10 +1,10 @@
 -- What is known of a burst and its lent buffers once the tests have let them through. Inner vocabulary: `requires` and laws speak of it, no answer does.
-use Rattle.algebra.specs.Prelude.{_≡_, List, ℕ, _%_, _≤_, _<_, length, getD, ℤ, pos, natAbs}
+use Rattle.algebra.specs.Prelude.{_≡_, List, ℕ, _+_, _%_, _≤_, _<_, length, getD, ℤ, pos, natAbs}
 use Rattle.geometry.specs.declared.Shape.{Shape}
 use Rattle.geometry.specs.Shape.{sampleLength, vectorLength, outputLength, workLength}
 use Rattle.geometry.specs.Read.{sampleAt}
 
--- refusals 1 and 2
+-- refusals 1, 2 and 23
 pub record AllowedSize (size : ℕ) : Type 0 where
   pub least : 64 ≤ size
   pub most : size ≤ 4096
@@ -15,13 +15,15 @@ pub record Allowed (s : Shape) : Type 0 where
   pub high : AllowedSize (s .height)
   pub some : 1 ≤ s .count
   pub few : s .count ≤ 8
+  pub row-least : s .width ≤ s .«row_length»
+  pub row-most : s .«row_length» ≤ s .width + 256
 
 -- the samples of a burst, as many as its shape says
 pub record Sampled (s : Shape) (samples : List ℕ) : Type 0 where
   pub allowed : Allowed s
   pub long : length samples ≡ sampleLength s
 
--- refusals 1 to 5, and then 6 and 7
+-- refusals 1 to 5 and 23, and then 6 and 7
 pub record BurstFits (s : Shape) (reference samples vectors : ℕ) : Type 0 where
   pub allowed : Allowed s
   pub reference-below : reference < s .count

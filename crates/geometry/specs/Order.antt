@@ -1,16 +1,16 @@
--- The tests 1 to 7 of each call, "in the order of the numbers", on the shape, the reference and the lengths of the lent buffers.
+-- The tests 1 to 7 of each call, "in the order of the numbers" with 23 "tested before 4" (request L9), on the shape, the reference and the lengths of the lent buffers.
 use Rattle.algebra.specs.Prelude.{List, [], _∷_, _++_, ℕ}
 use Rattle.refusals.specs.Numbers as no
 use Rattle.geometry.specs.declared.Shape.{Shape}
-use Rattle.geometry.specs.Shape.{sizeRefusal, countRefusal, referenceRefusal, sampleLength, vectorLength, outputLength, workLength, lengthRefusal}
+use Rattle.geometry.specs.Shape.{sizeRefusal, countRefusal, referenceRefusal, rowRefusal, sampleLength, vectorLength, outputLength, workLength, lengthRefusal}
 
 -- 1 and 2
 unfoldable pub shapeTests : Shape → List ℕ
 shapeTests s = sizeRefusal s ∷ countRefusal s ∷ []
 
--- 1 to 3
+-- 1 to 3, and 23
 unfoldable pub frameTests : Shape → (reference : ℕ) → List ℕ
-frameTests s reference = shapeTests s ++ referenceRefusal s reference ∷ []
+frameTests s reference = shapeTests s ++ referenceRefusal s reference ∷ rowRefusal s ∷ []
 
 -- 4, 5 and 7
 unfoldable pub alignLengths : Shape → (samples vectors work : ℕ) → List ℕ

@@ -1,4 +1,4 @@
--- A call that its tests 1 to 7 let through has an allowed shape, a reference and buffers of the right lengths.
+-- A call that its tests 1 to 7 and 23 let through has an allowed shape, a reference and buffers of the right lengths.
 use Rattle.algebra.specs.Prelude.{_≡_, ℕ}
 use Rattle.refusals.specs.Numbers as no
 use Rattle.refusals.specs.Tests.{first}
@@ -6,17 +6,18 @@ use Rattle.refusals.specs.TestLaws.{among, passed}
 use Rattle.geometry.specs.declared.Shape.{Shape}
 use Rattle.geometry.specs.Shape.{sampleLength, vectorLength, outputLength, workLength}
 use Rattle.geometry.specs.Order.{shapeTests, frameTests, alignLengths, mergeLengths, alignShapeTests, mergeShapeTests}
+use Rattle.geometry.specs.Question.{questionTests}
 use Rattle.geometry.specs.Fits.{Allowed, AlignFits, MergeFits}
 use Rattle.geometry.specs.ShapeLaws.{allowed, below-count, right-length}
 
-pub shape-allowed : (s : Shape) → first (shapeTests s) ≡ 0 → Allowed s
-unfolding shapeTests
-shape-allowed s e = allowed s (passed e (search among depth 20)) (passed e (search among depth 20))
+pub question-allowed : (s : Shape) (side : ℕ) → first (questionTests s side) ≡ 0 → Allowed s
+unfolding shapeTests questionTests
+question-allowed s side e = allowed s (passed e (search among depth 20)) (passed e (search among depth 20)) (passed e (search among depth 20))
 
 module _ (s : Shape) (reference : ℕ) where
   pub frames-allowed : first (frameTests s reference) ≡ 0 → Allowed s
   unfolding shapeTests frameTests
-  frames-allowed e = allowed s (passed e (search among depth 20)) (passed e (search among depth 20))
+  frames-allowed e = allowed s (passed e (search among depth 20)) (passed e (search among depth 20)) (passed e (search among depth 20))
 
   module _ (samples vectors : ℕ) where
     pub align-fits : (work : ℕ) → first (alignShapeTests s reference samples vectors work) ≡ 0 → AlignFits s reference samples vectors work
@@ -24,7 +25,7 @@ module _ (s : Shape) (reference : ℕ) where
     align-fits work e =
         record {
           burst = record {
-            allowed = allowed s (passed e (search among depth 20)) (passed e (search among depth 20));
+            allowed = allowed s (passed e (search among depth 20)) (passed e (search among depth 20)) (passed e (search among depth 20));
             reference-below = below-count s reference (passed e (search among depth 20));
             samples-long = right-length no.sampleLength (sampleLength s) samples tt (passed e (search among depth 20));
             vectors-long = right-length no.vectorLength (vectorLength s) vectors tt (passed e (search among depth 20));
@@ -37,7 +38,7 @@ module _ (s : Shape) (reference : ℕ) where
     merge-fits output work e =
         record {
           burst = record {
-            allowed = allowed s (passed e (search among depth 20)) (passed e (search among depth 20));
+            allowed = allowed s (passed e (search among depth 20)) (passed e (search among depth 20)) (passed e (search among depth 20));
             reference-below = below-count s reference (passed e (search among depth 20));
             samples-long = right-length no.sampleLength (sampleLength s) samples tt (passed e (search among depth 20));
             vectors-long = right-length no.vectorLength (vectorLength s) vectors tt (passed e (search among depth 20));

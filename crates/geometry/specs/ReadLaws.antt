@@ -22,7 +22,7 @@ module _ (s : Shape) (frame : ℕ) where
   unfolding sampleLength
   frame-room h = omega (arith, add-mul frame 1 (frameStride s), mul-le-mul-right {m = frame + 1} {n = s .count} (frameStride s) (omega arith))
 
-  pub index-below : (row column : ℕ) → frame < s .count → row < s .height → column < s .width → sampleIndex s frame row column < sampleLength s
+  pub index-below : (row column : ℕ) → frame < s .count → row < s .height → column < rowStride s → sampleIndex s frame row column < sampleLength s
   index-below row column f r c =
       omega (arith, index-frame row column, frame-room f, cell-below row column (s .height) (rowStride s) r c, mul-comm (rowStride s) (s .height))
 

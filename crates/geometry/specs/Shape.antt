@@ -1,13 +1,13 @@
--- Sizes and counts that are allowed, the lengths of the four lent buffers, and refusals 1 to 7.
+-- Sizes, counts and row lengths that are allowed, the lengths of the four lent buffers, and refusals 1 to 7 and 23.
 use Rattle.algebra.specs.Prelude.{Bool, not, _&&_, ℕ, _+_, _-_, _*_, _/_, _%_, eqb, leb}
 use Rattle.refusals.specs.Numbers as no
 use Rattle.refusals.specs.Tests.{refuse}
 use Rattle.geometry.specs.declared.Shape.{Shape}
 use Rattle.geometry.specs.Tiles.{frameParts}
 
--- a burst's shape, by W, H and N
-abbrev pub shaped : (width height count : ℕ) → Shape
-shaped width height count = record { width = width; height = height; count = count }
+-- a burst's shape, by W, H, N and L
+abbrev pub shaped : (width height count rowLength : ℕ) → Shape
+shaped width height count rowLength = record { width = width; height = height; count = count; «row_length» = rowLength }
 
 -- "Width W and height H are multiples of 64 from 64 to 4096."
 unfoldable pub sizeAllowed : ℕ → Bool
@@ -29,14 +29,22 @@ countRefusal s = refuse no.count (not (countAllowed (s .count)))
 unfoldable pub referenceRefusal : Shape → ℕ → ℕ
 referenceRefusal s reference = refuse no.reference (leb (s .count) reference)
 
--- "Frames are Bayer RGGB, row by row": from a sample to the one below it, and to the one in the next frame
+-- "a row length L, from W to W + 256" (request L9)
+unfoldable pub rowAllowed : (width rowLength : ℕ) → Bool
+rowAllowed width rowLength = leb width rowLength && leb rowLength (width + 256)
+
+-- refusal 23: "a row length outside that range" (request L9)
+unfoldable pub rowRefusal : Shape → ℕ
+rowRefusal s = refuse no.rowLength (not (rowAllowed (s .width) (s .«row_length»)))
+
+-- "Frames are Bayer RGGB, row by row", with "spare words after each row" (request L9): from a sample to the one below it, and to the one in the next frame
 abbrev pub rowStride : Shape → ℕ
-rowStride s = s .width
+rowStride s = s .«row_length»
 
 abbrev pub frameStride : Shape → ℕ
 frameStride s = rowStride s * s .height
 
--- "samples not N·W·H"
+-- "sample length is N·L·H" (request L9)
 unfoldable pub sampleLength : Shape → ℕ
 sampleLength s = s .count * frameStride s
 

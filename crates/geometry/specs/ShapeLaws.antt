@@ -1,4 +1,4 @@
--- What acceptance says of sizes, counts and lengths, in a form that linear arithmetic reads.
+-- What acceptance says of sizes, counts, row lengths and buffers, in a form that linear arithmetic reads.
 use Rattle.algebra.specs.Prelude.{_≡_, refl, subst, Bool, true, false, not, _&&_, ℕ, _-_, _*_, _≤_, _<_, arith, T, leb, eqb, ltb}
 use native.Mathlib.Nat.{mul-le-mul}
 use borrow.Author.Tests.{leb-true, leb-false, eqb-true, not-false}
@@ -6,7 +6,7 @@ use Rattle.refusals.specs.Numbers as no
 use Rattle.refusals.specs.TestLaws.{refuse-not}
 use Rattle.geometry.specs.declared.Shape.{Shape}
 use Rattle.geometry.specs.Tiles.{tileColumns, tileRows, frameParts}
-use Rattle.geometry.specs.Shape.{sizeAllowed, countAllowed, sizeRefusal, countRefusal, referenceRefusal, lengthRefusal}
+use Rattle.geometry.specs.Shape.{sizeAllowed, countAllowed, rowAllowed, sizeRefusal, countRefusal, rowRefusal, referenceRefusal, frameStride, lengthRefusal}
 use Rattle.geometry.specs.Fits.{AllowedSize, Allowed}
 
 -- both parts of a test that holds
@@ -21,16 +21,19 @@ allowed-size size e =
     let range = both (whole .0) in
     record { least = leb-true _ _ (range .0); most = leb-true _ _ (range .1); whole = eqb-true _ _ (whole .1) }
 
-pub allowed : (s : Shape) → sizeRefusal s ≡ 0 → countRefusal s ≡ 0 → Allowed s
-unfolding sizeRefusal countRefusal countAllowed
-allowed s size count =
+pub allowed : (s : Shape) → sizeRefusal s ≡ 0 → countRefusal s ≡ 0 → rowRefusal s ≡ 0 → Allowed s
+unfolding sizeRefusal countRefusal countAllowed rowRefusal rowAllowed
+allowed s size count row =
     let sizes = both (not-false _ (refuse-not no.size (not (sizeAllowed (s .width) && sizeAllowed (s .height))) tt size)) in
     let counts = both (not-false _ (refuse-not no.count (not (countAllowed (s .count))) tt count)) in
+    let rows = both (not-false _ (refuse-not no.rowLength (not (rowAllowed (s .width) (s .«row_length»))) tt row)) in
     record {
       wide = allowed-size _ (sizes .0);
       high = allowed-size _ (sizes .1);
       some = leb-true _ _ (counts .0);
       few = leb-true _ _ (counts .1);
+      row-least = leb-true _ _ (rows .0);
+      row-most = leb-true _ _ (rows .1);
     }
 
 pub below-count : (s : Shape) (reference : ℕ) → referenceRefusal s reference ≡ 0 → reference < s .count
@@ -46,8 +49,11 @@ module _ {s : Shape} (ok : Allowed s) where
   pub area-most : s .width * s .height ≤ 16777216
   area-most = mul-le-mul {n₁ = s .width} {m₁ = s .height} {n₂ = 4096} {m₂ = 4096} (ok .wide .most) (ok .high .most)
 
-  pub samples-most : s .count * (s .width * s .height) ≤ 134217728
-  samples-most = mul-le-mul {n₁ = s .count} {m₁ = s .width * s .height} {n₂ = 8} {m₂ = 16777216} (ok .few) area-most
+  pub frame-most : frameStride s ≤ 17825792
+  frame-most = mul-le-mul {n₁ = s .«row_length»} {m₁ = s .height} {n₂ = 4352} {m₂ = 4096} (omega (arith, ok .row-most, ok .wide .most)) (ok .high .most)
+
+  pub samples-most : s .count * frameStride s ≤ 142606336
+  samples-most = mul-le-mul {n₁ = s .count} {m₁ = frameStride s} {n₂ = 8} {m₂ = 17825792} (ok .few) frame-most
 
   pub tiles-most : tileRows s * tileColumns s ≤ 66049
   tiles-most = mul-le-mul {n₁ = tileRows s} {m₁ = tileColumns s} {n₂ = 257} {m₂ = 257} (omega arith) (omega arith)

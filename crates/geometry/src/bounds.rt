@@ -1,10 +1,10 @@
 // What the lent samples and vectors hold: refusals 11 and 12.
 ghost use mathlib.Core.Path.{_≡_};
-ghost use Prim.Native.Nat.{_+_, _≤_};
+ghost use Prim.Native.Nat.{_+_, _%_, _≤_};
 ghost use lib.ListN.{length};
 ghost use Rattle.geometry.specs.Bounds.{sampleRefusal, vectorRefusal};
 ghost use Rattle.geometry.specs.Fits.{Sampled};
-ghost use Rattle.geometry.specs.Excess.{excess};
+ghost use Rattle.geometry.specs.Excess.{excess, rowAbove};
 use crate::Shape;
 
 // 0 where none of the 64 samples from `at` on is above 4095. A sum without branches becomes vector instructions.
@@ -19,17 +19,30 @@ fn excess(samples: &[u16], at: usize) -> u16
     sum
 }
 
-// Refusal 11.
+// One of the `width` samples from `start` on is above 4095.
+fn row_above(samples: &[u16], start: usize, width: usize) -> bool
+    requires { ⌜ (start + width ≤ length (now samples)) × (width % 64 ≡ 0) ⌝ }
+    ensures { λ r. ⌜ r ≡ rowAbove (now (samples .entry)) start width ⌝ }
+{
+    let mut column = 0;
+    while column < width {
+        if excess(samples, start + column) > 0 {
+            return true;
+        }
+        column += 64;
+    }
+    false
+}
+
+// Refusal 11, row by row: spare words are not read.
 pub fn sample_refusal(shape: Shape, samples: &[u16]) -> u64
     requires { ⌜ Sampled shape (now samples) ⌝ }
     ensures { λ r. ⌜ r ≡ sampleRefusal shape (now (samples .entry)) ⌝ }
 {
-    let mut i = 0;
-    while i < samples.len() {
-        if excess(samples, i) > 0 {
+    for row in 0..shape.count * shape.height {
+        if row_above(samples, row * shape.row_length, shape.width) {
             return refusals::SAMPLE_VALUE;
         }
-        i += 64;
     }
     0
 }

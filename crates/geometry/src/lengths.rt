@@ -6,12 +6,12 @@ ghost use Rattle.geometry.specs.Fits.{Allowed};
 use crate::Shape;
 use crate::tiles::frame_parts;
 
-// Samples: count times a frame's.
+// Words of samples: count times a frame's, spare ones included.
 pub fn sample_length(shape: Shape) -> usize
     requires { ⌜ Allowed shape ⌝ }
-    ensures { λ r. ⌜ (r ≡ sampleLength shape) × (r ≤ 134217728) ⌝ }
+    ensures { λ r. ⌜ (r ≡ sampleLength shape) × (r ≤ 142606336) ⌝ }
 {
-    shape.count * (shape.width * shape.height)
+    shape.count * (shape.row_length * shape.height)
 }
 
 // Words of vectors: two to a tile, for each frame but the reference.

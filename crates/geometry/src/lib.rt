@@ -11,20 +11,22 @@ pub mod vectors;
 ghost use mathlib.Core.Path.{_≡_};
 ghost use Rattle.geometry.specs.Shape.{shaped};
 
-// A burst's frames: `count` of them, each of `height` rows of `width` samples.
+// A burst's frames: `count` of them, each of `height` rows of `width` samples. A row takes `row_length` words: those after its samples are spare.
 pub struct Shape {
     pub width: usize,
     pub height: usize,
     pub count: usize,
+    pub row_length: usize,
 }
 
-// The shape of a burst, by W, H and N.
-pub fn shaped(width: u64, height: u64, count: u64) -> Shape
-    ensures { λ r. ⌜ r ≡ shaped width height count ⌝ }
+// The shape of a burst, by W, H, N and L.
+pub fn shaped(width: u64, height: u64, count: u64, row_length: u64) -> Shape
+    ensures { λ r. ⌜ r ≡ shaped width height count «row_length» ⌝ }
 {
     Shape {
         width: width as usize,
         height: height as usize,
         count: count as usize,
+        row_length: row_length as usize,
     }
 }

@@ -1,7 +1,7 @@
-// The tests 1 to 7 of the calls, in the order of the numbers, on the lengths of the lent buffers.
+// The tests 1 to 7 of the calls, in the order of the numbers with 23 before 4, on the lengths of the lent buffers.
 ghost use mathlib.Core.Path.{_≡_};
 ghost use Rattle.refusals.specs.Tests.{first};
-ghost use Rattle.geometry.specs.Order.{shapeTests, frameTests, alignLengths, mergeLengths, alignShapeTests, mergeShapeTests};
+ghost use Rattle.geometry.specs.Order.{frameTests, alignLengths, mergeLengths, alignShapeTests, mergeShapeTests};
 ghost use Rattle.geometry.specs.Fits.{Allowed};
 use crate::Shape;
 use crate::lengths::length_refusal;
@@ -11,16 +11,10 @@ use crate::lengths::vector_length;
 use crate::lengths::work_length;
 use crate::sizes::count_refusal;
 use crate::sizes::reference_refusal;
+use crate::sizes::row_refusal;
 use crate::sizes::size_refusal;
 
-// Tests 1 and 2, which let the lengths be worked out.
-pub fn shape_refusal(shape: Shape) -> u64
-    ensures { λ r. ⌜ r ≡ first (shapeTests shape) ⌝ }
-{
-    refusals::first(&[size_refusal(shape), count_refusal(shape)])
-}
-
-// Tests 1 to 3.
+// Tests 1 to 3, and 23.
 fn frame_refusal(shape: Shape, reference: usize) -> u64
     ensures { λ r. ⌜ r ≡ first (frameTests shape reference) ⌝ }
 {
@@ -29,6 +23,7 @@ fn frame_refusal(shape: Shape, reference: usize) -> u64
             size_refusal(shape),
             count_refusal(shape),
             reference_refusal(shape, reference),
+            row_refusal(shape),
         ],
     )
 }
@@ -62,7 +57,7 @@ fn merge_lengths(shape: Shape, samples: usize, vectors: usize, output: usize, wo
     )
 }
 
-// Tests 1 to 5 and 7.
+// Tests 1 to 5 and 7, and 23 before 4.
 pub fn align_shape_refusal(
     shape: Shape,
     reference: usize,
@@ -79,7 +74,7 @@ pub fn align_shape_refusal(
     align_lengths(shape, samples, vectors, work)
 }
 
-// Tests 1 to 7.
+// Tests 1 to 7, and 23 before 4.
 pub fn merge_shape_refusal(
     shape: Shape,
     reference: usize,

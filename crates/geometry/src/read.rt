@@ -12,7 +12,7 @@ fn sample_index(shape: Shape, frame: usize, row: usize, column: usize) -> usize
     requires { ⌜ (Allowed shape) × (frame < shape .count) × (row < shape .height) × (column < shape .width) ⌝ }
     ensures { λ r. ⌜ (r ≡ sampleIndex shape frame row column) × (r < sampleLength shape) ⌝ }
 {
-    (frame * shape.height + row) * shape.width + column
+    (frame * shape.height + row) * shape.row_length + column
 }
 
 // The sample of a frame at a row and a column.

@@ -1,6 +1,6 @@
-// Sizes, counts and the reference: refusals 1 to 3.
+// Sizes, counts, the reference and the row length: refusals 1 to 3 and 23.
 ghost use mathlib.Core.Path.{_≡_};
-ghost use Rattle.geometry.specs.Shape.{sizeAllowed, sizeRefusal, countRefusal, referenceRefusal};
+ghost use Rattle.geometry.specs.Shape.{sizeAllowed, sizeRefusal, countRefusal, referenceRefusal, rowRefusal};
 use crate::Shape;
 
 // A multiple of 64 from 64 to 4096.
@@ -51,4 +51,20 @@ pub fn reference_refusal(shape: Shape, reference: usize) -> u64
     } else {
         0
     }
+}
+
+// How many words after a row's samples may be spare.
+const SPARE_MOST: usize = 256;
+
+// Refusal 23.
+pub fn row_refusal(shape: Shape) -> u64
+    ensures { λ r. ⌜ r ≡ rowRefusal shape ⌝ }
+{
+    if shape.row_length < shape.width {
+        return refusals::ROW_LENGTH;
+    }
+    if SPARE_MOST < shape.row_length - shape.width {
+        return refusals::ROW_LENGTH;
+    }
+    0
 }

@@ -3,13 +3,16 @@ use Rattle.algebra.specs.Prelude.{ℕ, _+_, _*_, _≤_, _<_, arith}
 use native.Mathlib.Nat.{mul-le-mul-left, mul-comm}
 use Rattle.sequences.specs.Place.{row-room}
 use Rattle.geometry.specs.declared.Shape.{Shape}
-use Rattle.geometry.specs.Shape.{outputLength, workLength}
+use Rattle.geometry.specs.Shape.{rowStride, frameStride, outputLength, workLength}
 use Rattle.geometry.specs.Fits.{Allowed}
 use Rattle.tiles.specs.Rows.{rowWords}
 
 pub output-room : (s : Shape) (row : ℕ) → row < s .height → row * s .width + s .width ≤ outputLength s
 unfolding outputLength
 output-room s row h = omega (arith, row-room row (s .height) (s .width) h, mul-comm (s .width) (s .height))
+
+pub frame-row-room : (s : Shape) (row : ℕ) → row < s .height → row * rowStride s + rowStride s ≤ frameStride s
+frame-row-room s row h = omega (arith, row-room row (s .height) (rowStride s) h, mul-comm (rowStride s) (s .height))
 
 pub rows-fit : {s : Shape} → Allowed s → 2 * rowWords (s .width) ≤ workLength s
 unfolding rowWords workLength

@@ -151,14 +151,16 @@ pub fn output_row(
     ensures { λ _. ⌜ now (output .exit) ≡ strided (now (output .entry)) ((2 * y + plane .«row_parity») * shape .width + plane .«column_parity») (outputWord shape reference (now (samples .entry)) (now (work .entry)) plane y) (shape .width / 2) ⌝ }
 {
     let width = shape.width;
+    let row_length = shape.row_length;
     let above = slot(width, y / 8);
     let below = slot(width, y / 8 + 1);
     let window = WINDOW;
     let lower = weights(&window, y % 8);
     let upper = weights(&window, y % 8 + 8);
     let inverse = (524287 + shape.count as u64) / shape.count as u64;
-    let start = (2 * y + plane.row_parity) * width + plane.column_parity;
-    let from = reference * (width * shape.height) + start;
+    let row = 2 * y + plane.row_parity;
+    let start = row * width + plane.column_parity;
+    let from = reference * (row_length * shape.height) + (row * row_length + plane.column_parity);
     for column in 0..width / 16 {
         output_block(
             samples,

@@ -1,34 +1,38 @@
 -- Places of a plane are places of its frame, and a frame is small.
-use Rattle.algebra.specs.Prelude.{_≡_, ap, _∙_, List, ℕ, _+_, _*_, _^_, _≤_, _<_, arith, getD, ℤ, pos, negsuc, natAbs, _+ℤ_}
-use native.Mathlib.Nat.{mul-le-mul, mul-le-mul-right, add-mul}
+use Rattle.algebra.specs.Prelude.{_≡_, ap, _∙_, List, ℕ, _+_, _*_, _^_, _≤_, _<_, arith, lit≤, length, getD, ℤ, pos, negsuc, natAbs, _+ℤ_}
+use native.Mathlib.Nat.{le-trans, mul-le-mul, mul-le-mul-right, add-mul}
 use lib.Signed.{_≤ℤ_}
 use Rattle.sequences.specs.Tab.{tab}
 use Rattle.sequences.specs.Grid.{tab-ext}
 use Rattle.geometry.specs.Read.{sampleIndex, sampleAt, planeOf, inside, read}
 use Rattle.geometry.specs.ReadLaws.{inside-same}
-use Rattle.plane_view.specs.View.{planeImage, planeSample, planeRow, Planar, RowStart}
+use Rattle.plane_view.specs.View.{rowLengthOf, planeImage, planeSample, planeRow, Shaped, FrameRows, RowStart}
 
-module _ {width height rowParity columnParity : ℕ} (p : Planar width height rowParity columnParity) where
+module _ {rowLength height rowParity columnParity : ℕ} (p : FrameRows rowLength height rowParity columnParity) where
   -- the row of the frame ends in it
-  pub row-room : (row : ℕ) → row < height → (2 * row + rowParity) * (2 * width) + 2 * width ≤ 2 * height * (2 * width)
+  pub row-room : (row : ℕ) → row < height → (2 * row + rowParity) * rowLength + rowLength ≤ 2 * height * rowLength
   row-room row h =
-      let rows : (2 * row + rowParity + 1) * (2 * width) ≤ 2 * height * (2 * width) = mul-le-mul-right (2 * width) (omega (arith, p .row)) in
-      omega (arith, add-mul (2 * row + rowParity) 1 (2 * width))
+      let rows : (2 * row + rowParity + 1) * rowLength ≤ 2 * height * rowLength = mul-le-mul-right rowLength (omega (arith, p .row)) in
+      omega (arith, add-mul (2 * row + rowParity) 1 rowLength)
 
-  pub frame-small : 2 * height * (2 * width) ≤ 2 ^ 24
-  frame-small = mul-le-mul {n₁ = 2 * height} {m₁ = 2 * width} {n₂ = 4096} {m₂ = 4096} (omega (arith, p .height-most)) (omega (arith, p .width-most))
+  pub frame-small : 2 * height * rowLength ≤ 2 ^ 25
+  frame-small = le-trans (mul-le-mul {n₁ = 2 * height} {m₁ = rowLength} {n₂ = 4096} {m₂ = 4352} (omega (arith, p .height-most)) (p .row-most)) (lit≤ tt)
+
+pub shaped-small : {count width height rowParity columnParity : ℕ} → Shaped count width height rowParity columnParity → count ≤ 2 ^ 25
+shaped-small {count} {height = height} s =
+    omega (arith, s .whole, mul-le-mul {n₁ = 2 * height} {m₁ = rowLengthOf count height} {n₂ = 4096} {m₂ = 4352} (omega (arith, s .planar .height-most)) (s .row-most))
 
 -- a sample by where its row starts
-pub sample-in-row : {y : ℤ} {width height rowParity columnParity r : ℕ} (samples : List ℕ) (x : ℤ) → RowStart y width height rowParity columnParity r →
+pub sample-in-row : {y : ℤ} {height rowParity columnParity r : ℕ} (samples : List ℕ) (width : ℕ) (x : ℤ) → RowStart y (rowLengthOf (length samples) height) height rowParity columnParity r →
     getD samples (r + 2 * inside width x) 0 ≡ planeSample y x samples width height rowParity columnParity
 unfolding planeSample planeImage planeOf read sampleAt sampleIndex
-sample-in-row samples x s = ap (λ n. getD samples n 0) (omega (arith, s .is))
+sample-in-row samples width x s = ap (λ n. getD samples n 0) (omega (arith, s .is))
 
 -- a row of a tile by where its row starts
-module _ {y : ℤ} {width height rowParity columnParity r : ℕ} (samples : List ℕ) (s : RowStart y width height rowParity columnParity r) where
+module _ {y : ℤ} {height rowParity columnParity r : ℕ} (samples : List ℕ) (width : ℕ) (s : RowStart y (rowLengthOf (length samples) height) height rowParity columnParity r) where
   pub row-by-start : (side : ℕ) (x : ℤ) → tab side (λ j. getD samples (r + 2 * inside width (x +ℤ pos j)) 0) ≡ planeRow side y x samples width height rowParity columnParity
   unfolding planeRow
-  row-by-start side x = tab-ext side _ _ (λ j h. sample-in-row samples (x +ℤ pos j) s)
+  row-by-start side x = tab-ext side _ _ (λ j h. sample-in-row samples width (x +ℤ pos j) s)
 
   -- inside the plane, nothing is held to an edge
   pub inner-by-start : (side : ℕ) (x : ℤ) → pos 0 ≤ℤ x → natAbs x + side ≤ width → tab side (λ j. getD samples (r + 2 * natAbs x + 2 * j) 0) ≡ planeRow side y x samples width height rowParity columnParity

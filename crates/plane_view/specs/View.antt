@@ -1,18 +1,22 @@
 -- What a view of one plane reads: samples and tiles of a plane, by the list of its frame's samples.
-use Rattle.algebra.specs.Prelude.{_≡_, List, ℕ, _+_, _*_, _^_, _≤_, _<_, take, drop, ℤ, pos, natAbs, _+ℤ_}
+use Rattle.algebra.specs.Prelude.{_≡_, List, ℕ, _+_, _*_, _/_, _^_, _≤_, _<_, length, take, drop, ℤ, pos, natAbs, _+ℤ_}
 use Rattle.sequences.specs.Tab.{tab}
 use Rattle.sequences.specs.Grid.{grid}
 use Rattle.geometry.specs.declared.Shape.{Shape}
 use Rattle.geometry.specs.Shape.{frameStride}
 use Rattle.geometry.specs.Read.{Image, sampleAt, planeOf, inside, read}
 
+-- the row length of a frame of `count` words, whose planes have `height` rows
+abbrev pub rowLengthOf : (count height : ℕ) → ℕ
+rowLengthOf count height = count / (2 * height)
+
 -- the frame of four planes of `height` rows of `width` samples, as a burst of its own
-abbrev pub frameOf : (width height : ℕ) → Shape
-frameOf width height = record { width = 2 * width; height = 2 * height; count = 1 }
+abbrev pub frameOf : (width height rowLength : ℕ) → Shape
+frameOf width height rowLength = record { width = 2 * width; height = 2 * height; count = 1; «row_length» = rowLength }
 
 -- "Each frame has four planes of W/2 by H/2, by parity of row and column": a plane of the frame whose samples are at hand
 unfoldable pub planeImage : List ℕ → (width height rowParity columnParity : ℕ) → Image
-planeImage samples width height rowParity columnParity = planeOf (sampleAt (frameOf width height) samples 0) rowParity columnParity
+planeImage samples width height rowParity columnParity = planeOf (sampleAt (frameOf width height (rowLengthOf (length samples) height)) samples 0) rowParity columnParity
 
 -- the samples of one frame of a burst
 unfoldable pub framePart : Shape → List ℕ → (frame : ℕ) → List ℕ
@@ -42,16 +46,26 @@ pub record Planar (width height rowParity columnParity : ℕ) : Type 0 where
   pub row : rowParity < 2
   pub column : columnParity < 2
 
--- and `count` samples are the frame that it belongs to
+-- and `count` words are the frame that it belongs to, in rows of one length
 pub record Shaped (count width height rowParity columnParity : ℕ) : Type 0 where
-  pub whole : count ≡ 2 * height * (2 * width)
+  pub whole : count ≡ 2 * height * rowLengthOf count height
+  pub row-least : 2 * width ≤ rowLengthOf count height
+  pub row-most : rowLengthOf count height ≤ 4352
   pub planar : Planar width height rowParity columnParity
 
 -- a row or column near enough for sums with a tile's indices
 pub record Near (z : ℤ) : Type 0 where
   pub near : natAbs z ≤ 2 ^ 20
 
+-- the rows of a frame, which is small
+pub record FrameRows (rowLength height rowParity columnParity : ℕ) : Type 0 where
+  pub high : 0 < height
+  pub row-most : rowLength ≤ 4352
+  pub height-most : height ≤ 2048
+  pub row : rowParity < 2
+  pub column : columnParity < 2
+
 -- r is where the row read for y starts: what is read in it lies in the frame
-pub record RowStart (y : ℤ) (width height rowParity columnParity r : ℕ) : Type 0 where
-  pub is : r ≡ (2 * inside height y + rowParity) * (2 * width) + columnParity
-  pub room : r + 2 * width ≤ 2 * height * (2 * width) + columnParity
+pub record RowStart (y : ℤ) (rowLength height rowParity columnParity r : ℕ) : Type 0 where
+  pub is : r ≡ (2 * inside height y + rowParity) * rowLength + columnParity
+  pub room : r + rowLength ≤ 2 * height * rowLength + columnParity

@@ -1,14 +1,15 @@
 -- A view of a frame's part of the burst reads the burst's plane.
-use Rattle.algebra.specs.Prelude.{_≡_, ap, List, ℕ, _+_, _*_, _<_, arith, ℤ, pos, _+ℤ_}
-use native.Mathlib.Nat.{mul-comm}
+use Rattle.algebra.specs.Prelude.{_≡_, sym, ap, _∙_, List, ℕ, _+_, _*_, _/_, _<_, arith, ℤ, pos, _+ℤ_}
+use native.Mathlib.Nat.{mul-comm, mul-div-cancel}
 use lib.ListN.{length, getD, length-take, length-drop}
 use lib.Seq.{getD-take, getD-drop}
 use Rattle.sequences.specs.Grid.{grid-ext}
 use Rattle.geometry.specs.declared.Shape.{Shape}
-use Rattle.geometry.specs.Shape.{sampleLength}
+use Rattle.geometry.specs.Shape.{frameStride, sampleLength}
+use Rattle.geometry.specs.Fits.{Allowed}
 use Rattle.geometry.specs.Read.{Image, sampleIndex, sampleAt, planeOf, read}
 use Rattle.geometry.specs.ReadLaws.{cell-below, frame-room, inside-below}
-use Rattle.plane_view.specs.View.{frameOf, framePart, planeImage, tileOf, planeTile, Planar, Shaped}
+use Rattle.plane_view.specs.View.{rowLengthOf, frameOf, framePart, planeImage, tileOf, planeTile, Planar, Shaped}
 
 -- a tile depends on what the image has inside alone
 pub tile-ext : (side height width : ℕ) (f g : Image) → 0 < height → 0 < width → ((row column : ℕ) → row < height → column < width → f row column ≡ g row column) →
@@ -17,23 +18,31 @@ unfolding tileOf read
 tile-ext side height width f g h w e y x =
     grid-ext side side _ _ (λ i j _ _. e _ _ (inside-below height (y +ℤ pos i) h) (inside-below width (x +ℤ pos j) w))
 
-module _ (s : Shape) (samples : List ℕ) (frame : ℕ) where
+module _ (s : Shape) (samples : List ℕ) (frame : ℕ) (ok : Allowed s) (long : length samples ≡ sampleLength s) (below : frame < s .count) where
   module _ {width height rowParity columnParity : ℕ} (p : Planar width height rowParity columnParity) (wide : s .width ≡ 2 * width) (high : s .height ≡ 2 * height) where
-    area : s .width * s .height ≡ 2 * height * (2 * width)
-    area = rw (wide, high) (mul-comm (2 * width) (2 * height))
-
-    -- such a part is a frame
-    pub part-shaped : length samples ≡ sampleLength s → frame < s .count → Shaped (length (framePart s samples frame)) width height rowParity columnParity
+    -- such a part is a frame, and its rows have the burst's length
+    part-long : length (framePart s samples frame) ≡ s .«row_length» * (2 * height)
     unfolding framePart
-    part-shaped e h =
-        let whole : length (framePart s samples frame) ≡ 2 * height * (2 * width) = simp (length-take, length-drop) (omega (arith, frame-room s frame h, area)) in
-        record { whole = whole; planar = p }
+    part-long = simp (length-take, length-drop) (omega (arith, frame-room s frame below, long, ap (λ n. s .«row_length» * n) high))
 
-    part-sample : (row column : ℕ) → row < 2 * height → column < 2 * width → sampleAt (frameOf width height) (framePart s samples frame) 0 row column ≡ sampleAt s samples frame row column
+    part-row : rowLengthOf (length (framePart s samples frame)) height ≡ s .«row_length»
+    part-row = ap (λ n. n / (2 * height)) part-long ∙ mul-div-cancel (s .«row_length») (omega (arith, p .high))
+
+    pub part-shaped : Shaped (length (framePart s samples frame)) width height rowParity columnParity
+    part-shaped =
+        record {
+          whole = part-long ∙ mul-comm (s .«row_length») (2 * height) ∙ ap (λ n. 2 * height * n) (sym part-row);
+          row-least = omega (arith, part-row, ok .row-least);
+          row-most = omega (arith, part-row, ok .row-most, ok .wide .most);
+          planar = p;
+        }
+
+    part-sample : (row column : ℕ) → row < 2 * height → column < 2 * width →
+        sampleAt (frameOf width height (rowLengthOf (length (framePart s samples frame)) height)) (framePart s samples frame) 0 row column ≡ sampleAt s samples frame row column
     unfolding framePart sampleAt sampleIndex
     part-sample row column h k =
-        let below : (0 * (2 * height) + row) * (2 * width) + column < s .width * s .height = omega (arith, area, cell-below row column (2 * height) (2 * width) h k) in
-        rw (getD-take, getD-drop) (ap (λ n. getD samples n 0) (rw (wide, high) (omega arith)))
+        let below : (0 * (2 * height) + row) * s .«row_length» + column < frameStride s = omega (arith, cell-below row column (s .height) (s .«row_length») (omega arith) (omega (arith, ok .row-least)), mul-comm (s .«row_length») (s .height)) in
+        rw (part-row, getD-take, getD-drop) (ap (λ n. getD samples n 0) (rw high (omega arith)))
 
     pub part-tile : (side : ℕ) (y x : ℤ) →
         planeTile side y x (framePart s samples frame) width height rowParity columnParity ≡ tileOf side height width (planeOf (sampleAt s samples frame) rowParity columnParity) y x

@@ -6,11 +6,12 @@ ghost use lib.ListN.{length, getD};
 ghost use Rattle.sequences.specs.Tab.{tab};
 ghost use Rattle.geometry.specs.Read.{sampleAt, planeOf, inside};
 ghost use Rattle.geometry.specs.Fits.{Sampled};
-ghost use Rattle.plane_view.specs.View.{tileOf, planeSample, planeRow, planeTile, Planar, Shaped, Near, RowStart};
+ghost use Rattle.plane_view.specs.View.{rowLengthOf, tileOf, planeSample, planeRow, planeTile, Shaped, Near, FrameRows, RowStart};
 use geometry::Shape;
 use geometry::read::inside;
 
-// The plane of one row parity and one column parity, `height` rows of `width` samples, of a frame whose samples are `samples`.
+// The plane of one row parity and one column parity, `height` rows of `width` samples, of a frame whose words are `samples`: a row of the frame has
+// samples.len() / (2 * height) of them, the spare ones last.
 pub struct PlaneView<'a> {
     pub samples: &'a [u16],
     pub width: usize,
@@ -20,11 +21,17 @@ pub struct PlaneView<'a> {
 }
 
 // Where the row that is read for y starts in the frame: its first sample of the plane.
-fn row_start(y: i64, width: usize, height: usize, row_parity: usize, column_parity: usize) -> usize
-    requires { ⌜ Planar width height «row_parity» «column_parity» ⌝ }
-    ensures { λ r. ⌜ RowStart y width height «row_parity» «column_parity» r ⌝ }
+fn row_start(
+    y: i64,
+    row_length: usize,
+    height: usize,
+    row_parity: usize,
+    column_parity: usize,
+) -> usize
+    requires { ⌜ FrameRows «row_length» height «row_parity» «column_parity» ⌝ }
+    ensures { λ r. ⌜ RowStart y «row_length» height «row_parity» «column_parity» r ⌝ }
 {
-    (2 * inside(y, height) + row_parity) * (2 * width) + column_parity
+    (2 * inside(y, height) + row_parity) * row_length + column_parity
 }
 
 // The plane's sample that is read for row y and column x.
@@ -40,7 +47,8 @@ pub fn sample_at(
     requires { ⌜ Shaped (length (now samples)) width height «row_parity» «column_parity» ⌝ }
     ensures { λ r. ⌜ r ≡ planeSample y x (now (samples .entry)) width height «row_parity» «column_parity» ⌝ }
 {
-    let start = row_start(y, width, height, row_parity, column_parity);
+    let row_length = samples.len() / (2 * height);
+    let start = row_start(y, row_length, height, row_parity, column_parity);
     samples[start + 2 * inside(x, width)]
 }
 
@@ -76,20 +84,21 @@ fn edge_row(start: usize, x: i64, samples: &[u16], width: usize) -> [u16; 16]
     row
 }
 
-// Row y of a tile whose first column is x.
+// Row y of a tile whose first column is x, in a frame of rows of `row_length`.
 fn tile_row(
     y: i64,
     x: i64,
     samples: &[u16],
+    row_length: usize,
     width: usize,
     height: usize,
     row_parity: usize,
     column_parity: usize,
 ) -> [u16; 16]
-    requires { ⌜ (Shaped (length (now samples)) width height «row_parity» «column_parity») × (Near x) ⌝ }
+    requires { ⌜ (Shaped (length (now samples)) width height «row_parity» «column_parity») × (Near x) × («row_length» ≡ rowLengthOf (length (now samples)) height) ⌝ }
     ensures { λ r. ⌜ r ≡ planeRow 16 y x (now (samples .entry)) width height «row_parity» «column_parity» ⌝ }
 {
-    let start = row_start(y, width, height, row_parity, column_parity);
+    let start = row_start(y, row_length, height, row_parity, column_parity);
     if 0 <= x {
         let first = x as usize;
         if first + 16 <= width {
@@ -112,12 +121,14 @@ pub fn tile_at(
     requires { ⌜ (Shaped (length (now samples)) width height «row_parity» «column_parity») × (Near y) × (Near x) ⌝ }
     ensures { λ r. ⌜ r ≡ planeTile 16 y x (now (samples .entry)) width height «row_parity» «column_parity» ⌝ }
 {
+    let row_length = samples.len() / (2 * height);
     let mut tile = [[0u16; 16]; 16];
     for i in 0..16 {
         tile[i] = tile_row(
             along(y, i),
             x,
             samples,
+            row_length,
             width,
             height,
             row_parity,
@@ -185,7 +196,7 @@ pub fn tile_of(
     )
 }
 
-// The tile of a plane of one frame of a burst: the view is made of that frame's part of the samples.
+// The tile of a plane of one frame of a burst: the view is made of that frame's part of the words.
 pub fn frame_tile(
     shape: Shape,
     samples: &[u16],
@@ -198,9 +209,9 @@ pub fn frame_tile(
     requires { ⌜ (Sampled shape (now samples)) × (frame < shape .count) × («row_parity» < 2) × («column_parity» < 2) × (Near y) × (Near x) ⌝ }
     ensures { λ r. ⌜ r ≡ tileOf 16 (shape .height / 2) (shape .width / 2) (planeOf (sampleAt shape (now (samples .entry)) frame) «row_parity» «column_parity») y x ⌝ }
 {
-    let area = shape.width * shape.height;
-    let start = frame * area;
-    let end = start + area;
+    let words = shape.row_length * shape.height;
+    let start = frame * words;
+    let end = start + words;
     tile_of(
         y,
         x,

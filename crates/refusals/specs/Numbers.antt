@@ -13,7 +13,7 @@ count = 2
 abbrev pub reference : ℕ
 reference = 3
 
--- "samples not N·W·H"
+-- "sample length is N·L·H, and refusal 4 reads so" (request L9)
 abbrev pub sampleLength : ℕ
 sampleLength = 4
 
@@ -72,3 +72,11 @@ pgmForm = 17
 -- L3: "a black level above 255"
 abbrev pub blackLevel : ℕ
 blackLevel = 18
+
+-- L8: "a side other than 16 or 32"
+abbrev pub side : ℕ
+side = 22
+
+-- L9: "a row length outside that range"
+abbrev pub rowLength : ℕ
+rowLength = 23

@@ -38,6 +38,10 @@ pub const PGM_FORM: u64 = 17;
 
 pub const BLACK_LEVEL: u64 = 18;
 
+pub const SIDE: u64 = 22;
+
+pub const ROW_LENGTH: u64 = 23;
+
 // One test: its number where its condition holds, else 0.
 pub fn refuse(number: u64, condition: bool) -> u64
     ensures { λ r. ⌜ r ≡ refuse number condition ⌝ }

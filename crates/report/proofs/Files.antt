@@ -5,9 +5,9 @@ use lib.Seq.{length-take-le, take-at}
 use borrow.Author.Tests.{lt-ltb, le-ltb, eq-eqb, ne-eqb}
 use Rattle.geometry.specs.declared.Shape.{Shape}
 use Rattle.geometry.specs.Shape.{sampleLength, lengthRefusal}
-use Rattle.geometry.specs.Order.{shapeTests, frameTests}
+use Rattle.geometry.specs.Order.{shapeTests}
 use Rattle.geometry.specs.Fits.{Allowed}
-use Rattle.geometry.specs.ShapeLaws.{allowed, below-count}
+use Rattle.geometry.specs.ShapeLaws.{below-count}
 use Rattle.refusals.specs.Numbers as no
 use Rattle.refusals.specs.TestLaws.{among, passed}
 use Rattle.noise.specs.LevelLaws.{levels-most, strength-most}
@@ -16,7 +16,7 @@ use Rattle.burst_file.specs.declared.Header.{Header}
 use Rattle.burst_file.specs.Burst.{Burst}
 use Rattle.burst_file.specs.Part.{Part, refused, found, numberOf}
 use Rattle.burst_file.specs.Head.{headerRefusal, headOf}
-use Rattle.burst_file.specs.HeadLaws.{HeadRead, head-complete}
+use Rattle.burst_file.specs.HeadLaws.{HeadRead, packed-allowed, head-complete}
 use Rattle.burst_file.specs.Reading.{reading, fileCheck, samplesAfter, FileRead}
 use Rattle.burst_file.specs.Acceptance.{Accepted, sound-number, complete}
 use Rattle.printing.specs.Lines.{tooLarge, refusal}
@@ -48,9 +48,9 @@ module _ (shape : Shape) where
   unfolding taken
   high-other w h = rw (eq-eqb (shape .width) side w, ne-eqb (shape .height) side h)
 
-  frames-room : shape .width ≡ side → shape .height ≡ side → sampleLength shape ≡ room (shape .count)
+  frames-room : shape .«row_length» ≡ shape .width → shape .width ≡ side → shape .height ≡ side → sampleLength shape ≡ room (shape .count)
   unfolding sampleLength
-  frames-room w h = rw (w, h)
+  frames-room p w h = rw (p, w, h)
 
 same-length : (number : ℕ) {right length : ℕ} → right ≡ length → lengthRefusal number right length ≡ 0
 unfolding lengthRefusal
@@ -64,12 +64,12 @@ record Passed (header : Header) : Type 0 where
   read-most : header .«read_level» ≤ 4194304
   strength-most : header .strength ≤ 1024
 
-admitted : (header : Header) → headerRefusal header ≡ 0 → Passed header
-unfolding headerRefusal frameTests shapeTests
-admitted header e =
+admitted : (header : Header) → header .shape .«row_length» ≡ header .shape .width → headerRefusal header ≡ 0 → Passed header
+unfolding headerRefusal shapeTests
+admitted header packed e =
     let most = levels-most (header .«shot_level») (header .«read_level») (passed e (search among depth 20)) in
     record {
-      allowed = allowed (header .shape) (passed e (search among depth 20)) (passed e (search among depth 20));
+      allowed = packed-allowed (header .shape) packed (passed e (search among depth 20)) (passed e (search among depth 20));
       reference-below = below-count (header .shape) (header .reference) (passed e (search among depth 20));
       shot-most = most .0;
       read-most = most .1;
@@ -93,13 +93,13 @@ pub headed : {file rest : List ℕ} {header : Header} → fileCheck file ≡ 0 �
 headed {file} {rest} {header} e f =
     let (burst, a) = sound-number noTest file e in
     let g = a .grammar in
-    let read : HeadRead file (burst .header) (g .afterValues) = record { afterNames = g .afterNames; named = g .named; valued = g .valued; passed = a .header } in
+    let read : HeadRead file (burst .header) (g .afterValues) = record { afterNames = g .afterNames; named = g .named; valued = g .valued; packed = g .packed; passed = a .header } in
     let both = f ∙ head-complete read in
     let same : header ≡ burst .header = cc in
     record { samples = burst .samples; accepted = subst (λ (h : Header). Accepted noTest file (burstOf h (burst .samples))) (sym same) a }
 
 pub headed-few : {file : List ℕ} {header : Header} → Headed file header → header .shape .count ≤ 8
-headed-few {file} {header} f = admitted header (f .accepted .header) .allowed .few
+headed-few {file} {header} f = admitted header (f .accepted .grammar .packed) (f .accepted .header) .allowed .few
 
 -- what both programs print for a file
 module _ (file : List ℕ) where
@@ -140,10 +140,10 @@ module _ (file : List ℕ) where
         opens samples {part} {answer} h fits same read =
             let count = header .shape .count in
             let n = room count in
-            let p = admitted header (f .accepted .header) in
+            let p = admitted header (f .accepted .grammar .packed) (f .accepted .header) in
             let a = f .accepted in
             let again : Accepted (roomTest count) file (burstOf header (f .samples)) =
-            record { grammar = a .grammar; header = a .header; measured = same-length no.sampleLength (frames-room (header .shape) w h); small = a .small } in
+            record { grammar = a .grammar; header = a .header; measured = same-length no.sampleLength (frames-room (header .shape) (a .grammar .packed) w h); small = a .small } in
             let stored : part ≡ f .samples =
             (rw (length-take-le n samples fits) at (read .stored)) ∙ ap (λ found. samplesAfter found (take n samples)) (complete (roomTest count) file (burstOf header (f .samples)) again) in
             let holds : Holds file header (f .samples) =
@@ -151,6 +151,7 @@ module _ (file : List ℕ) where
               taken = record {
                 wide = w;
                 high = h;
+                packed = a .grammar .packed;
                 allowed = p .allowed;
                 reference-below = p .reference-below;
                 shot-most = p .shot-most;

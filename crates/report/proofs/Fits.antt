@@ -8,7 +8,7 @@ use Rattle.report.specs.Inner.{room, vectorRoom, workRoom, Taken}
 module _ {header : Header} {samples : List ℕ} (t : Taken header samples) where
   sample-length : length samples ≡ sampleLength (header .shape)
   unfolding sampleLength
-  sample-length = rw (t .wide, t .high) (t .long)
+  sample-length = rw (t .packed, t .wide, t .high) (t .long)
 
   vector-length : vectorRoom (header .shape .count - 1) ≡ vectorLength (header .shape)
   unfolding vectorLength

@@ -91,5 +91,5 @@ pub run-shuffled : {s : Shape} {reference reference₂ : ℕ} {noise : Noise} {t
     Shuffled s to from reference reference₂ samples samples₂ → output₂′ ≡ output′
 run-shuffled {s} {reference} {noise = noise} {tuning = tuning} call accepted call₂ accepted₂ sh =
     let (f, is) = run-accepted call accepted in
-    let (f₂, is₂) = run-accepted call₂ accepted₂ in
-    is₂ ∙ run-stays (mergeOf s reference noise tuning) (f .lent .burst) (f₂ .lent .burst) sh ∙ sym is
+    let (_, is₂) = run-accepted call₂ accepted₂ in
+    is₂ ∙ run-stays (mergeOf s reference noise tuning) (f .lent .burst) sh ∙ sym is

@@ -17,7 +17,6 @@ use Rattle.search.specs.Residual.{gap, difference, Pair, rowResidual, residual}
 use Rattle.alignment.specs.Fields.{levelAt, tileAt, levelRows, levelColumns, residualSum}
 use Rattle.alignment.specs.Frames.{levelImage, pairs, vectorsOf, residualOf}
 use Rattle.alignment.specs.Aligned.{fieldOf, sumOf, alignedVectors}
-use Rattle.geometry.specs.VectorLaws.{other-below}
 use Rattle.sanity.specs.FrameLaws.{flat-same}
 use Rattle.sanity.specs.StillLaws.{sum-same, AtRest, StillField, field-still, sum-still, vectors-still}
 use Rattle.sanity.specs.PyramidLaws.{pairs-agree}
@@ -79,8 +78,8 @@ module _ {s : Shape} {reference : ℕ} {samples : List ℕ} {a : ℕ} {b : ℕ �
   pair-is : (k : ℕ) → k < s .count - 1 → pairs s (sampleAt s samples reference) (sampleAt s samples (otherFrame reference k)) ≡ pairs s (λ y x. a) (λ y x. b k)
   pair-is k h =
       pairs-agree s (flat .sampled .allowed) _ _ _ _
-      (flat-same s samples (flat .sampled) reference a (flat .below) (flat .reference-words))
-      (flat-same s samples (flat .sampled) (otherFrame reference k) (b k) (other-below reference k (s .count) h) (flat .other-words k h))
+      (flat-same s samples reference a (flat .reference-words))
+      (flat-same s samples (otherFrame reference k) (b k) (flat .other-words k h))
 
   -- of each other frame; a tile has 256 sums of four samples
   pub field-flat : (k : ℕ) → k < s .count - 1 → StillField (fieldOf s reference samples k)

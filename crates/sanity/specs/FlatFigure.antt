@@ -21,13 +21,14 @@ use Rattle.recipe.specs.declared.Merge.{Merge}
 use Rattle.recipe.specs.Scene.{sceneOf}
 use Rattle.recipe.specs.Merged.{merged}
 use Rattle.sanity.specs.Frames.{frameWords}
+use Rattle.sanity.specs.FrameLaws.{packed-words}
 use Rattle.sanity.specs.Flat.{FlatBurst, flatCorrection, flatOutput}
 use Rattle.sanity.specs.FlatMerge.{burst-flat}
 use Rattle.sanity.specs.Pedestal.{zeroBlack, zero-black}
 use Rattle.sanity.specs.FlatAlign.{vectors-flat, sum-flat}
 
 abbrev pub shape : Shape
-shape = record { width = 64; height = 64; count = 2 }
+shape = record { width = 64; height = 64; count = 2; «row_length» = 64 }
 
 -- a frame of one value
 unfoldable pub plain : ℕ → List ℕ
@@ -43,14 +44,6 @@ plain-long : (v : ℕ) → length (plain v) ≡ 4096
 unfolding plain
 plain-long v = length-replicate 4096 v
 
-words0 : frameWords shape burst 0 ≡ plain 0
-unfolding frameWords outputLength
-words0 = take-at (plain 0) (plain 4) 4096 (plain-long 0)
-
-words1 : frameWords shape burst 1 ≡ plain 4
-unfolding frameWords outputLength
-words1 = ap (take 4096) (drop-at (plain 0) (plain 4) 4096 (plain-long 0)) ∙ take-all 4096 (plain 4) (omega (arith, plain-long 4))
-
 sixty-four : AllowedSize 64
 sixty-four = record { least = lit≤ tt; most = lit≤ tt; whole = refl }
 
@@ -58,9 +51,17 @@ sampled : Sampled shape burst
 unfolding sampleLength
 sampled =
     record {
-      allowed = record { wide = sixty-four; high = sixty-four; some = lit≤ tt; few = lit≤ tt };
+      allowed = record { wide = sixty-four; high = sixty-four; some = lit≤ tt; few = lit≤ tt; row-least = lit≤ tt; row-most = lit≤ tt };
       long = length-append (plain 0) (plain 4) ∙ omega (arith, plain-long 0, plain-long 4);
     }
+
+words0 : frameWords shape burst 0 ≡ plain 0
+unfolding outputLength
+words0 = packed-words shape burst sampled refl 0 (lit< tt) ∙ take-at (plain 0) (plain 4) 4096 (plain-long 0)
+
+words1 : frameWords shape burst 1 ≡ plain 4
+unfolding outputLength
+words1 = packed-words shape burst sampled refl 1 (lit< tt) ∙ ap (take 4096) (drop-at (plain 0) (plain 4) 4096 (plain-long 0)) ∙ take-all 4096 (plain 4) (omega (arith, plain-long 4))
 
 flat : FlatBurst shape 0 burst 0 (λ k. 4)
 unfolding plain outputLength otherFrame

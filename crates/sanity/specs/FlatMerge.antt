@@ -12,7 +12,6 @@ use Rattle.recipe.specs.NoiseNumber.{tileRoot, noiseNumber}
 use Rattle.recipe.specs.declared.Merge.{Merge}
 use Rattle.recipe.specs.Scene.{Scene, sceneOf, blackOf, tileAt, referenceTile, otherTile, tileNoise, difference}
 use Rattle.recipe.specs.Merged.{planeOutput, outputAt, wordAt, merged}
-use Rattle.geometry.specs.VectorLaws.{other-below}
 use Rattle.sanity.specs.FrameLaws.{flat-same, row-inside, column-inside}
 use Rattle.sanity.specs.MergeLaws.{tile-same}
 use Rattle.sanity.specs.FlatLaws.{flat-root, flat-sample}
@@ -68,8 +67,8 @@ module _ (m : Merge) (samples : List ℕ) (vectors : List ℤ) {a : ℕ} {b : �
         of-16 = refl;
         high = omega (arith, flat .sampled .allowed .high .least);
         wide = omega (arith, flat .sampled .allowed .wide .least);
-        reference = flat-same (m .shape) samples (flat .sampled) (m .reference) a (flat .below) (flat .reference-words);
-        other = λ k h. flat-same (m .shape) samples (flat .sampled) (otherFrame (m .reference) k) (b k) (other-below (m .reference) k (m .shape .count) h) (flat .other-words k h);
+        reference = flat-same (m .shape) samples (m .reference) a (flat .reference-words);
+        other = λ k h. flat-same (m .shape) samples (otherFrame (m .reference) k) (b k) (flat .other-words k h);
       }
 
   pub burst-flat : {black : ℕ} → OneBlack (m .tuning) black → merged (sceneOf m samples vectors) ≡ replicate (outputLength (m .shape)) (natAbs (flatOutput (sceneOf m samples vectors) black a b))

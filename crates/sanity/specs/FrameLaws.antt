@@ -1,7 +1,7 @@
 -- A frame's words are its samples row by row, and frames of equal words are equal images.
-use Rattle.algebra.specs.Prelude.{_≡_, sym, ap, ap₂, _∙_, List, ℕ, zero, suc, _+_, _*_, _/_, _%_, _≤_, _<_, arith}
+use Rattle.algebra.specs.Prelude.{_≡_, refl, sym, ap, ap₂, _∙_, List, ℕ, zero, suc, _+_, _*_, _/_, _%_, _≤_, _<_, arith}
 use native.Mathlib.Nat.{mod-lt, div-lt-iff-lt-mul, div-add-mod', mul-comm, zero-mul, suc-mul, mul-le-mul-right}
-use lib.ListN.{length, getD, drop, replicate, length-drop}
+use lib.ListN.{length, getD, take, drop, replicate, length-drop}
 use lib.Seq.{ext-getD, length-take-le, getD-take, getD-drop}
 use Rattle.sequences.specs.TabLaws.{length-tab, getD-tab}
 use Rattle.sequences.specs.ClearLaws.{tab-const}
@@ -11,7 +11,7 @@ use Rattle.geometry.specs.Read.{Image, sampleIndex, sampleAt}
 use Rattle.geometry.specs.Fits.{Sampled}
 use Rattle.geometry.specs.ReadLaws.{cell-below}
 use Rattle.sequences.specs.Place.{place-row, place-column}
-use Rattle.sanity.specs.Frames.{imageWords, frameWords, Burst, Same, Alike}
+use Rattle.sanity.specs.Frames.{imageWords, frameWords, Same, Alike}
 
 -- a word's row and column are inside
 pub column-inside : (k width height : ℕ) → k < width * height → k % width < width
@@ -34,45 +34,51 @@ pub words-same : (height width : ℕ) (f g : Image) → imageWords height width 
 words-same height width f g e =
     record { at = λ row column h k. sym (image-word height width f row column h k) ∙ ap (λ l. getD l (row * width + column) 0) e ∙ image-word height width g row column h k }
 
-module _ (s : Shape) (samples : List ℕ) (sampled : Sampled s samples) (frame : ℕ) (below : frame < s .count) where
-  long : frame * outputLength s + outputLength s ≤ length samples
+pub frame-words : (s : Shape) (samples : List ℕ) (frame : ℕ) → frameWords s samples frame ≡ imageWords (s .height) (s .width) (sampleAt s samples frame)
+unfolding frameWords
+frame-words s samples frame = refl
+
+-- frames of equal words are equal images
+pub frames-same : (s : Shape) (samples samples′ : List ℕ) (frame frame′ : ℕ) → frameWords s samples frame ≡ frameWords s samples′ frame′ → Same (s .height) (s .width) (sampleAt s samples frame) (sampleAt s samples′ frame′)
+unfolding frameWords
+frames-same s samples samples′ frame frame′ e = words-same (s .height) (s .width) _ _ e
+
+pub alike-same : {s : Shape} {reference : ℕ} {samples : List ℕ} → Alike s reference samples → (frame : ℕ) → frame < s .count →
+    Same (s .height) (s .width) (sampleAt s samples reference) (sampleAt s samples frame)
+alike-same {s} {reference} {samples} alike frame h = frames-same s samples samples reference frame (sym (alike .words frame h))
+
+-- a frame whose words are all v
+pub flat-same : (s : Shape) (samples : List ℕ) (frame v : ℕ) → frameWords s samples frame ≡ replicate (outputLength s) v → Same (s .height) (s .width) (sampleAt s samples frame) (λ row column. v)
+unfolding outputLength imageWords frameWords
+flat-same s samples frame v e = words-same (s .height) (s .width) _ _ (e ∙ sym (tab-const v (s .width * s .height)))
+
+-- where rows have no spare words, a frame's words stand in the list as they are
+module _ (s : Shape) (samples : List ℕ) (sampled : Sampled s samples) (packed : s .«row_length» ≡ s .width) (frame : ℕ) (below : frame < s .count) where
+  abbrev part : List ℕ
+  part = take (outputLength s) (drop (frame * outputLength s) samples)
+
+  room : frame * outputLength s + outputLength s ≤ length samples
   unfolding outputLength sampleLength
-  long = omega (arith, sampled .long, suc-mul frame (s .width * s .height), mul-le-mul-right (s .width * s .height) below)
+  room =
+      let all : s .count * (s .«row_length» * s .height) ≡ s .count * (s .width * s .height) = ap (λ n. s .count * (n * s .height)) packed in
+      omega (arith, sampled .long, all, suc-mul frame (s .width * s .height), mul-le-mul-right (s .width * s .height) below)
 
-  part-long : length (frameWords s samples frame) ≡ s .width * s .height
-  unfolding frameWords outputLength
-  part-long = length-take-le (outputLength s) (drop (frame * outputLength s) samples) (omega (arith, long, length-drop (frame * outputLength s) samples))
+  part-long : length part ≡ s .width * s .height
+  unfolding outputLength
+  part-long = length-take-le (outputLength s) (drop (frame * outputLength s) samples) (omega (arith, room, length-drop (frame * outputLength s) samples))
 
-  word-at : (k : ℕ) → k < s .width * s .height → getD (frameWords s samples frame) k 0 ≡ sampleAt s samples frame (k / s .width) (k % s .width)
-  unfolding frameWords outputLength sampleAt sampleIndex
+  word-at : (k : ℕ) → k < s .width * s .height → getD part k 0 ≡ sampleAt s samples frame (k / s .width) (k % s .width)
+  unfolding outputLength sampleAt sampleIndex
   word-at k h =
       getD-take (outputLength s) (drop (frame * outputLength s) samples) k 0 h
       ∙ getD-drop (frame * outputLength s) samples k 0
       ∙ ap (λ i. getD samples i 0) place
     where
-      place : frame * (s .width * s .height) + k ≡ (frame * s .height + k / s .width) * s .width + k % s .width
-      place = omega (arith, div-add-mod' k (s .width))
+      place : frame * (s .width * s .height) + k ≡ (frame * s .height + k / s .width) * s .«row_length» + k % s .width
+      place = rw packed (omega (arith, div-add-mod' k (s .width)))
 
-  pub frame-words : frameWords s samples frame ≡ imageWords (s .height) (s .width) (sampleAt s samples frame)
-  unfolding imageWords
-  frame-words =
-      ext-getD 0 _ _ (part-long ∙ sym (length-tab _ (s .width * s .height)))
-      (λ k h. word-at k (omega (arith, part-long)) ∙ sym (getD-tab _ 0 (s .width * s .height) k (omega (arith, part-long))))
-
--- frames of equal words are equal images
-pub frames-same : {s : Shape} {samples samples′ : List ℕ} → Sampled s samples → Sampled s samples′ → (frame frame′ : ℕ) → frame < s .count → frame′ < s .count →
-    frameWords s samples frame ≡ frameWords s samples′ frame′ → Same (s .height) (s .width) (sampleAt s samples frame) (sampleAt s samples′ frame′)
-frames-same {s} {samples} {samples′} p q frame frame′ h k e =
-    words-same (s .height) (s .width) _ _ (sym (frame-words s samples p frame h) ∙ e ∙ frame-words s samples′ q frame′ k)
-
-pub alike-same : {s : Shape} {reference : ℕ} {samples : List ℕ} → Burst s reference samples → Alike s reference samples → (frame : ℕ) → frame < s .count →
-    Same (s .height) (s .width) (sampleAt s samples reference) (sampleAt s samples frame)
-alike-same {s} {reference} {samples} burst alike frame h =
-    frames-same (burst .sampled) (burst .sampled) reference frame (burst .below) h (sym (alike .words frame h))
-
--- a frame whose words are all v
-pub flat-same : (s : Shape) (samples : List ℕ) → Sampled s samples → (frame v : ℕ) → frame < s .count → frameWords s samples frame ≡ replicate (outputLength s) v →
-    Same (s .height) (s .width) (sampleAt s samples frame) (λ row column. v)
-unfolding outputLength imageWords
-flat-same s samples sampled frame v h e =
-    words-same (s .height) (s .width) _ _ (sym (frame-words s samples sampled frame h) ∙ e ∙ sym (tab-const v (s .width * s .height)))
+  pub packed-words : frameWords s samples frame ≡ part
+  unfolding frameWords imageWords
+  packed-words =
+      ext-getD 0 _ _ (length-tab _ (s .width * s .height) ∙ sym part-long)
+      (λ k h. let inside : k < s .width * s .height = omega (arith, length-tab (λ k. sampleAt s samples frame (k / s .width) (k % s .width)) (s .width * s .height)) in getD-tab _ 0 (s .width * s .height) k inside ∙ sym (word-at k inside))

@@ -1,20 +1,19 @@
 -- What the theorems speak of: the words of one frame, and frames that are all alike.
-use Rattle.algebra.specs.Prelude.{_≡_, List, ℕ, _*_, _/_, _%_, _<_, take, drop}
+use Rattle.algebra.specs.Prelude.{_≡_, List, ℕ, _*_, _/_, _%_, _<_}
 use Rattle.sequences.specs.Tab.{tab}
 use Rattle.geometry.specs.declared.Shape.{Shape}
-use Rattle.geometry.specs.Shape.{outputLength}
-use Rattle.geometry.specs.Read.{Image}
+use Rattle.geometry.specs.Read.{Image, sampleAt}
 use Rattle.geometry.specs.Fits.{Sampled, SamplesFit}
 
 -- the words of an image of so many rows and columns, "row by row"
 unfoldable pub imageWords : (height width : ℕ) → Image → List ℕ
 imageWords height width image = tab (width * height) (λ k. image (k / width) (k % width))
 
--- the words of a burst's frame, as they stand in its list of samples
+-- the samples of a burst's frame, row by row and without spare words
 unfoldable pub frameWords : Shape → List ℕ → (frame : ℕ) → List ℕ
-frameWords s samples frame = take (outputLength s) (drop (frame * outputLength s) samples)
+frameWords s samples frame = imageWords (s .height) (s .width) (sampleAt s samples frame)
 
--- a burst that refusals 1 to 4 and 11 let through
+-- a burst that refusals 1 to 4, 11 and 23 let through
 pub record Burst (s : Shape) (reference : ℕ) (samples : List ℕ) : Type 0 where
   pub sampled : Sampled s samples
   pub below : reference < s .count

@@ -33,7 +33,7 @@ pub burst-back : (m : Merge) (samples : List ℕ) (vectors : List ℤ) → Burst
 unfolding sceneOf
 burst-back m samples vectors burst lone =
     merged-is (sceneOf m samples vectors) (λ row column h k. sample-back (sceneOf m samples vectors) (omega arith) row column (burst .fit .most (m .reference) row column (burst .below) h k))
-    ∙ sym (frame-words (m .shape) samples (burst .sampled) (m .reference) (burst .below))
+    ∙ sym (frame-words (m .shape) samples (m .reference))
 
 -- such a burst's frames are all the reference
 pub alone : (s : Shape) (reference : ℕ) (samples : List ℕ) → s .count ≡ 1 → reference < s .count → Alike s reference samples

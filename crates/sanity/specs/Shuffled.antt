@@ -13,7 +13,6 @@ use Rattle.recipe.specs.declared.Merge.{Merge}
 use Rattle.recipe.specs.Scene.{sceneOf}
 use Rattle.recipe.specs.Merged.{merged}
 use Rattle.sanity.specs.Frames.{frameWords, Burst, Same}
-use Rattle.geometry.specs.VectorLaws.{other-below}
 use Rattle.sanity.specs.FrameLaws.{frames-same}
 use Rattle.sanity.specs.PyramidLaws.{pairs-agree}
 use Rattle.sanity.specs.RenumberLaws.{Renumbering}
@@ -30,13 +29,12 @@ pub record Carried (s : Shape) (to : ℕ → ℕ) (vectors vectors′ : List ℤ
   pub down : (k a b : ℕ) → k < s .count - 1 → a < tileRows s → b < tileColumns s → downAt s vectors′ k a b ≡ downAt s vectors (to k) a b
   pub right : (k a b : ℕ) → k < s .count - 1 → a < tileRows s → b < tileColumns s → rightAt s vectors′ k a b ≡ rightAt s vectors (to k) a b
 
-module _ {s : Shape} {to from : ℕ → ℕ} {reference reference′ : ℕ} {samples samples′ : List ℕ} (burst : Burst s reference samples) (burst′ : Burst s reference′ samples′) (sh : Shuffled s to from reference reference′ samples samples′) where
+module _ {s : Shape} {to from : ℕ → ℕ} {reference reference′ : ℕ} {samples samples′ : List ℕ} (burst : Burst s reference samples) (sh : Shuffled s to from reference reference′ samples samples′) where
   reference-same : Same (s .height) (s .width) (sampleAt s samples′ reference′) (sampleAt s samples reference)
-  reference-same = frames-same (burst′ .sampled) (burst .sampled) reference′ reference (burst′ .below) (burst .below) (sh .reference-words)
+  reference-same = frames-same s samples′ samples reference′ reference (sh .reference-words)
 
   other-same : (k : ℕ) → k < s .count - 1 → Same (s .height) (s .width) (sampleAt s samples′ (otherFrame reference′ k)) (sampleAt s samples (otherFrame reference (to k)))
-  other-same k h =
-      frames-same (burst′ .sampled) (burst .sampled) _ _ (other-below reference′ k (s .count) h) (other-below reference (to k) (s .count) (sh .order .to-below k h)) (sh .other-words k h)
+  other-same k h = frames-same s samples′ samples _ _ (sh .other-words k h)
 
   -- alignment
   pub field-carried : (k : ℕ) → k < s .count - 1 → fieldOf s reference′ samples′ k ≡ fieldOf s reference samples (to k)
@@ -58,7 +56,7 @@ module _ {s : Shape} {to from : ℕ → ℕ} {reference reference′ : ℕ} {sam
       }
 
 -- merge, with vectors that go with their frames
-module _ (m : Merge) {to from : ℕ → ℕ} {reference′ : ℕ} {samples samples′ : List ℕ} (burst : Burst (m .shape) (m .reference) samples) (burst′ : Burst (m .shape) reference′ samples′) (sh : Shuffled (m .shape) to from (m .reference) reference′ samples samples′) where
+module _ (m : Merge) {to from : ℕ → ℕ} {reference′ : ℕ} {samples samples′ : List ℕ} (burst : Burst (m .shape) (m .reference) samples) (sh : Shuffled (m .shape) to from (m .reference) reference′ samples samples′) where
   pub merge-stays : {vectors vectors′ : List ℤ} → Carried (m .shape) to vectors vectors′ → merged (sceneOf (moved m reference′) samples′ vectors′) ≡ merged (sceneOf m samples vectors)
   unfolding sceneOf
   merge-stays {vectors} {vectors′} c = frame-stays m reference′ samples samples′ vectors vectors′ reordered
@@ -69,12 +67,12 @@ module _ (m : Merge) {to from : ℕ → ℕ} {reference′ : ℕ} {samples sampl
             order = sh .order;
             high = burst .sampled .allowed .high;
             wide = burst .sampled .allowed .wide;
-            reference-same = reference-same burst burst′ sh;
-            other-same = other-same burst burst′ sh;
+            reference-same = reference-same burst sh;
+            other-same = other-same burst sh;
             down-same = λ k a b h i j. c .down k a b h (omega arith) (omega arith);
             right-same = λ k a b h i j. c .right k a b h (omega arith) (omega arith);
           }
 
   -- align and then merge
   pub run-stays : merged (sceneOf (moved m reference′) samples′ (alignedVectors (m .shape) reference′ samples′)) ≡ merged (sceneOf m samples (alignedVectors (m .shape) (m .reference) samples))
-  run-stays = merge-stays (vectors-carried burst burst′ sh)
+  run-stays = merge-stays (vectors-carried burst sh)

@@ -55,7 +55,7 @@ module _ (m : Merge) (samples : List ℕ) (burst : Burst (m .shape) (m .referenc
       record {
         high = omega (arith, burst .sampled .allowed .high .least);
         wide = omega (arith, burst .sampled .allowed .wide .least);
-        alike = λ k h. alike-same burst alike (otherFrame (m .reference) k) (other-below (m .reference) k (m .shape .count) h);
+        alike = λ k h. alike-same alike (otherFrame (m .reference) k) (other-below (m .reference) k (m .shape .count) h);
         no-down = λ k a b h. zero-at n (vectorPlace (m .shape) k a b);
         no-right = λ k a b h. zero-at n (vectorPlace (m .shape) k a b + 1);
       }
@@ -64,4 +64,4 @@ module _ (m : Merge) (samples : List ℕ) (burst : Burst (m .shape) (m .referenc
   unfolding sceneOf
   burst-back =
       frame-back (sceneOf m samples (replicate n (pos 0))) still-burst (λ row column h k. burst .fit .most (m .reference) row column (burst .below) h k)
-      ∙ sym (frame-words (m .shape) samples (burst .sampled) (m .reference) (burst .below))
+      ∙ sym (frame-words (m .shape) samples (m .reference))

@@ -37,4 +37,4 @@ pub burst-back : (m : Merge) (samples : List ℕ) (vectors : List ℤ) → Burst
 unfolding sceneOf
 burst-back m samples vectors burst off =
     merged-is (sceneOf m samples vectors) (λ row column h k. sample-back (sceneOf m samples vectors) off row column (burst .fit .most (m .reference) row column (burst .below) h k))
-    ∙ sym (frame-words (m .shape) samples (burst .sampled) (m .reference) (burst .below))
+    ∙ sym (frame-words (m .shape) samples (m .reference))

@@ -7,12 +7,19 @@ use noise::Curve;
 use noise::Levels;
 use noise::Noise;
 
-// The length that refusal `number` tests, from 4 to 7; else, or where refusal 1 or 2 would stand, 0.
+// The length that refusal `number` tests, from 4 to 7; else, or where refusal 1, 2, 22 or 23 would stand, 0.
 #[no_mangle]
-pub extern "C" fn station_length(width: u64, height: u64, count: u64, number: u64) -> u64
-    ensures { λ r. ⌜ r ≡ lengthQuestion width height count number ⌝ }
+pub extern "C" fn station_length(
+    width: u64,
+    height: u64,
+    count: u64,
+    side: u64,
+    row_length: u64,
+    number: u64,
+) -> u64
+    ensures { λ r. ⌜ r ≡ lengthQuestion width height count side «row_length» number ⌝ }
 {
-    geometry::question::length_question(width, height, count, number)
+    geometry::question::length_question(width, height, count, side, row_length, number)
 }
 
 // V of a curve, a strength and a root; 0 where refusal 8, 9 or 10 would stand, or the root exceeds 65520.

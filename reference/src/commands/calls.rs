@@ -22,7 +22,7 @@ pub fn answer_each(perform: fn(&mut Call) -> Answer) -> Outcome {
 }
 
 pub fn take_call(input: &mut impl Read) -> Result<Call, Box<dyn Error>> {
-    let [width, height, count, reference] = take_array(input)?;
+    let [width, height, count, reference, row_length] = take_array(input)?;
     let black = take_array(input)?;
     let denoising = take_denoising(input)?;
     let [samples, vectors, output, work_length] = take_array(input)?;
@@ -30,6 +30,7 @@ pub fn take_call(input: &mut impl Read) -> Result<Call, Box<dyn Error>> {
         width,
         height,
         count,
+        row_length,
     };
     Ok(Call {
         burst: Burst {
@@ -64,6 +65,7 @@ pub fn put_call(out: &mut impl Write, call: &Call) -> std::io::Result<()> {
         width,
         height,
         count,
+        row_length,
     } = call.burst.shape;
     let (kind, iso, curve) = match call.denoising.noise {
         Noise::Curve(curve) => (0, 0, curve),
@@ -71,7 +73,8 @@ pub fn put_call(out: &mut impl Write, call: &Call) -> std::io::Result<()> {
     };
     let (shot, read) = (curve.shot.to_bits(), curve.read.to_bits());
     let strength = call.denoising.strength;
-    put_many(out, &[width, height, count, call.burst.reference])?;
+    let reference = call.burst.reference;
+    put_many(out, &[width, height, count, reference, row_length])?;
     put_many(out, &call.burst.black)?;
     put_many(out, &[kind, iso, shot, read, strength])?;
     (call.burst.samples.len() as u64).put(out)?;

@@ -2,6 +2,7 @@
 
 use super::Outcome;
 use reference::noise::{Curve, Noise};
+use reference::shape::Shape;
 use reference::station::{station_length, station_noise};
 use std::error::Error;
 use std::io::{stdin, stdout, BufRead, BufWriter, Write};
@@ -21,17 +22,18 @@ pub fn answer_each(answer: fn(&[&str]) -> Answer) -> Outcome {
     Ok(())
 }
 
-/// `width height count number`
+/// `width height count side row_length number`
 pub fn length(words: &[&str]) -> Answer {
-    let [width, height, count, number] = words else {
-        return Err("expected `width height count number`".into());
+    let [width, height, count, side, row_length, number] = words else {
+        return Err("expected `width height count side row_length number`".into());
     };
-    let answer = station_length(
-        width.parse()?,
-        height.parse()?,
-        count.parse()?,
-        number.parse()?,
-    );
+    let shape = Shape {
+        width: width.parse()?,
+        height: height.parse()?,
+        count: count.parse()?,
+        row_length: row_length.parse()?,
+    };
+    let answer = station_length(shape, side.parse()?, number.parse()?);
     Ok(answer.to_string())
 }
 

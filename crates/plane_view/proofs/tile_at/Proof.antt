@@ -7,11 +7,11 @@ use Rattle.plane_view.proofs.tile_at.Statement.{statement}
 use Rattle.plane_view.proofs.tile_at.Tie as tie
 
 abbrev Inv-loop : tie.InvT-loop
-Inv-loop y x samples width height row-parity column-parity tile₀ i₀ tile i =
+Inv-loop y x samples width height row-parity column-parity row-length tile₀ i₀ tile i =
     Filled (λ k. planeRow 16 (toZ w64 y +ℤ pos k) (toZ w64 x) samples width height row-parity column-parity) 16 i tile₀ tile
 
 abbrev μ-loop : tie.MeasureT-loop
-μ-loop y x samples width height row-parity column-parity tile₀ i₀ tile i = 16 - i
+μ-loop y x samples width height row-parity column-parity row-length tile₀ i₀ tile i = 16 - i
 
 loop-again : tie.Need-loop-again Inv-loop μ-loop
 loop-again c =
@@ -26,6 +26,6 @@ returns c =
 
 pub tile-at-spec : {M : Type 1} → statement M
 tile-at-spec = tie.close (tie.spec
-    Inv-loop μ-loop (λ c. fill-start refl) (λ c κs. search needs) (λ c κs. search needs)
+    Inv-loop μ-loop (λ c. search needs) (λ c. search needs) (λ c. fill-start refl) (λ c κs. search needs) (λ c κs. search needs)
     (λ c. search needs) (λ c. search needs) (λ c. search needs) (λ c. search needs) loop-again
     returns)

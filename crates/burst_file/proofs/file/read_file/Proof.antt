@@ -17,7 +17,7 @@ use Rattle.burst_file.specs.Scan.{nextValues}
 use Rattle.burst_file.specs.declared.FileAnswer.{FileAnswer}
 use Rattle.burst_file.specs.declared.Head.{Head}
 use Rattle.burst_file.specs.declared.Head.the-variants.{Found, Refused}
-use Rattle.burst_file.proofs.Bodies.{head-allowed, frames-next, head-refuses, length-refuses, frames-refuse, frames-accept}
+use Rattle.burst_file.proofs.Bodies.{head-allowed, head-packed, frames-next, head-refuses, length-refuses, frames-refuse, frames-accept}
 use Rattle.burst_file.proofs.file.read_file.Statement.{statement}
 use Rattle.burst_file.proofs.file.read_file.Tie as tie
 
@@ -81,7 +81,7 @@ fill-requires c κs =
     let file = header .before .before .before .before .before .args .file .now in
     let rest = drop (header .header .given .0 .1 .0) file in
     ap (λ (n : ℕ). above 4095 (nextValues n rest)) (length-right (checked .before))
-    ∙ frames-next (header .header .given .0 .0 .shape) rest (sym (checked .check-frames .ensures) ∙ c .before .if2 .left) .1
+    ∙ frames-next (header .header .given .0 .0 .shape) (head-packed _ _ _ (headed header)) rest (sym (checked .check-frames .ensures) ∙ c .before .if2 .left) .1
 
 returns-3 : tie.Need-returns-3
 returns-3 c =

@@ -1,12 +1,12 @@
 -- `header_refusal`: each test is its definition, so the first of them is.
 use borrow.Author.Needs.{needs}
-use Rattle.geometry.specs.Order.{shapeTests, frameTests}
+use Rattle.geometry.specs.Order.{shapeTests}
 use Rattle.burst_file.specs.Head.{headerRefusal}
 use Rattle.burst_file.proofs.first_lines.header_refusal.Statement.{statement}
 use Rattle.burst_file.proofs.first_lines.header_refusal.Tie as tie
 
 returns : tie.Need-returns
-unfolding headerRefusal frameTests shapeTests
+unfolding headerRefusal shapeTests
 returns c = cc
 
 pub header-refusal-spec : {M : Type 1} → statement M

@@ -1,12 +1,12 @@
--- Frames times width times height is small.
+-- Frames times row length times height is small.
 use Rattle.algebra.specs.Prelude.{refl, arith}
 use Rattle.geometry.specs.Shape.{sampleLength}
-use Rattle.geometry.specs.ShapeLaws.{area-most, samples-most}
+use Rattle.geometry.specs.ShapeLaws.{frame-most, samples-most}
 use Rattle.geometry.proofs.lengths.sample_length.Statement.{statement}
 use Rattle.geometry.proofs.lengths.sample_length.Tie as tie
 
 mul-result : tie.Need-mul-result
-mul-result c = omega (arith, area-most (c .before .pre))
+mul-result c = omega (arith, frame-most (c .before .pre))
 
 mul-result-2 : tie.Need-mul-result-2
 mul-result-2 c = omega (arith, samples-most (c .before .before .pre))

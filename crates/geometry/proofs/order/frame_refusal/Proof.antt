@@ -9,4 +9,4 @@ unfolding frameTests shapeTests
 returns c = cc
 
 pub frame-refusal-spec : {M : Type 1} → statement M
-frame-refusal-spec = tie.close (tie.spec (λ c κs. search needs) (λ c κs. search needs) (λ c κs. search needs) (λ c. search needs) (λ c κs. search needs) returns)
+frame-refusal-spec = tie.close (tie.spec (λ c κs. search needs) (λ c κs. search needs) (λ c κs. search needs) (λ c κs. search needs) (λ c. search needs) (λ c κs. search needs) returns)

@@ -21,9 +21,9 @@ rows {s} {frame} {row} a =
     (mul-le-mul {n₁ = s .count} {m₁ = s .height} {n₂ = 8} {m₂ = 4096} (a .0 .few) (a .0 .high .most))
 
 below : {s : Shape} {frame row column : ℕ} → Asked s frame row column → sampleIndex s frame row column < sampleLength s
-below a = index-below _ _ _ _ (a .1) (a .2) (a .3)
+below a = index-below _ _ _ _ (a .1) (a .2) (le-trans (a .3) (a .0 .row-least))
 
-index : {s : Shape} {frame row column : ℕ} → Asked s frame row column → (frame * s .height + row) * s .width + column < 134217728
+index : {s : Shape} {frame row column : ℕ} → Asked s frame row column → (frame * s .height + row) * s .«row_length» + column < 142606336
 unfolding sampleIndex sampleLength
 index a = le-trans (below a) (samples-most (a .0))
 
