@@ -1,7 +1,7 @@
 /* The burst stacker: one to eight raw frames of one scene are aligned on one of them, the reference, and merged into one cleaner frame.
 
-   First come the types, the calls and what goes with them; behind them EXAMPLES, FRAMES, SHARPNESS, LENT BUFFERS, AFTER A CALL, REFUSALS, NOISE, ZEROS and
-   THE MACHINE. Link with libstacker.a. For x86-64 Linux; C99 and later, C++11 and later. */
+   First come the types, the calls and what goes with them; behind them EXAMPLES, FRAMES, SHARPNESS, LENT BUFFERS, AFTER A CALL, REFUSALS, NOISE,
+   ZEROS and THE MACHINE. Link with libstacker.a. For x86-64 Linux; C99 and later, C++11 and later. */
 #ifndef STACKER_H
 #define STACKER_H
 
@@ -250,6 +250,8 @@ static inline const char *stacker_refusal_text(uint64_t number)
        output     uint16_t    W*H                                                   written   written
        work       int64_t     2*W*H                                       cleared   cleared   cleared
 
+   run_sharpest does with them as run.
+
    A PGM file is P5, LF, width, a space, height, LF, 4095, LF, then each sample as two bytes, the high one first: no comment, no leading zero, nothing
    behind it. Its frame has W*H uint16_t, its bytes are as many as stacker_pgm_length answers. Writing reads the frame and writes the bytes, reading the
    other way round.
@@ -268,10 +270,10 @@ static inline const char *stacker_refusal_text(uint64_t number)
    A file is tested line by line: no first LF 15, 13; line two 15, 14, then 1, 2, 3, 9, 10, 4; each row 15, 14, 11; then what follows, 15.
    Writing a PGM file tests 1, 6, 16, 11 in that order, reading one 17, 6, 11.
 
-   NOISE. stacker_merge_iso and stacker_run_iso scale the curve for ISO 100 by a = iso / 100: shot by a, read by a * a. A file has the levels
-   floor(1024 shot) and floor(1024 read) instead; stacker_file_noise turns them back. The curve speaks of light: in the noise of a tile each sample of
-   the reference counts as what it exceeds its plane's black level by, or 0. Nothing else looks at black levels: vectors, residuals and the merged frame
-   keep the pedestal. A file means levels of 0.
+   NOISE. stacker_merge_iso, stacker_run_iso and stacker_run_sharpest_iso scale the curve for ISO 100 by a = iso / 100: shot by a, read by a * a. A
+   file has the levels floor(1024 shot) and floor(1024 read) instead; stacker_file_noise turns them back. The curve speaks of light: in the noise of a
+   tile each sample of the reference counts as what it exceeds its plane's black level by, or 0. Nothing else looks at black levels: vectors,
+   residuals and the merged frame keep the pedestal. A file means levels of 0.
 
    ZEROS. A width, height, count, row length or ISO of 0 is refused. Reference 0 is the first frame. Shot and read of 0 say that there is no noise, and
    strength 0 asks for no merging: either gives the reference back. Black levels of 0 say that black is already subtracted. A field that a later version
