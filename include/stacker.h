@@ -1,7 +1,7 @@
 /* The burst stacker: one to eight raw frames of one scene are aligned on one of them, the reference, and merged into one cleaner frame.
 
-   First come the types, the calls and what goes with them; behind them EXAMPLES, FRAMES, LENT BUFFERS, AFTER A CALL, REFUSALS, NOISE, ZEROS and
-   THE MACHINE. Link with libstacker.a. For x86-64 Linux; C99 and later, C++11 and later. */
+   First come the types, the calls and what goes with them; behind them EXAMPLES, FRAMES, SHARPNESS, LENT BUFFERS, AFTER A CALL, REFUSALS, NOISE,
+   ZEROS and THE MACHINE. Link with libstacker.a. For x86-64 Linux; C99 and later, C++11 and later. */
 #ifndef STACKER_H
 #define STACKER_H
 
@@ -27,6 +27,14 @@ typedef struct {
     uint16_t black[4];      /* levels of the planes R, G, G and B, 0..255: what a dark frame holds */
 } stacker_burst;
 
+/* The same without a reference, which stacker_run_sharpest chooses. */
+typedef struct {
+    uint64_t width, height;
+    uint64_t count;
+    uint64_t row_length;
+    uint16_t black[4];
+} stacker_frames;
+
 typedef struct {
     double shot; /* in samples: a sample x has the variance shot x + read */
     double read; /* in squared samples */
@@ -47,6 +55,11 @@ typedef struct {
     uint64_t refusal;
     uint64_t residuals[7]; /* per other frame in rising index, its sum of finest residuals; unused places are 0 */
 } stacker_alignment;
+
+typedef struct {
+    stacker_alignment alignment;
+    uint64_t reference; /* index of the frame chosen */
+} stacker_choice;
 
 typedef struct {
     uint64_t refusal;
@@ -100,6 +113,13 @@ stacker_alignment stacker_run(stacker_burst burst, stacker_noise noise, stacker_
 
 stacker_alignment stacker_run_iso(stacker_burst burst, stacker_iso_noise noise, stacker_tuning tuning, const uint16_t *samples, size_t samples_length,
     int32_t *vectors, size_t vectors_length, uint16_t *output, size_t output_length, int64_t *work, size_t work_length);
+
+/* Chooses the sharpest of the first three frames (of both where there are two) as the reference, then does what run does with it. */
+stacker_choice stacker_run_sharpest(stacker_frames frames, stacker_noise noise, stacker_tuning tuning, const uint16_t *samples,
+    size_t samples_length, int32_t *vectors, size_t vectors_length, uint16_t *output, size_t output_length, int64_t *work, size_t work_length);
+
+stacker_choice stacker_run_sharpest_iso(stacker_frames frames, stacker_iso_noise noise, stacker_tuning tuning, const uint16_t *samples,
+    size_t samples_length, int32_t *vectors, size_t vectors_length, uint16_t *output, size_t output_length, int64_t *work, size_t work_length);
 
 /* Reads a burst file into the lent samples, whose length must be the one that the file's second line asks for. */
 stacker_file stacker_read_file(const uint8_t *file, size_t file_length, uint16_t *samples, size_t samples_length);
@@ -187,6 +207,14 @@ static inline const char *stacker_refusal_text(uint64_t number)
        const int32_t *vector = vectors + 2 * ((k * (H / 16 + 1) + a) * (W / 16 + 1) + b);
        int moved = vector[0] != 0 || vector[1] != 0;
 
+   The same frames on the sharpest of the first three, where the first may be soft:
+
+       stacker_frames frames = { .width = W, .height = H, .count = N, .row_length = W };
+       stacker_choice choice = stacker_run_sharpest(frames, noise, tuning, samples, N * W * H, vectors, VECTORS, output, W * H, work, 2 * W * H);
+       if (choice.alignment.refusal != STACKER_ACCEPTED)
+           return 1;
+       printf("merged on frame %d\n", (int)choice.reference);
+
    A burst file of that size and count instead of frames, with its own noise and strength:
 
        stacker_file file = stacker_read_file(bytes, length, samples, N * W * H);
@@ -203,12 +231,15 @@ static inline const char *stacker_refusal_text(uint64_t number)
            return 1;
        fwrite(pgm, 1, pgm_length, stdout);
 
-   examples/merge.c is a whole program; examples/burst_file.rs calls from Rust.
+   examples/merge.c and examples/sharpest.c are whole programs; examples/burst_file.rs calls from Rust.
 
    FRAMES are Bayer RGGB, row by row, frame after frame: 16-bit words that hold 0..4095. Black is already subtracted, or the burst says what it is.
    A row takes row_length words: those after its W samples are spare. They may hold anything and are never read into a result. Output rows have none.
    VECTORS tell, for each other frame in rising index, tile by tile and row by row, how far down and then how far right the tile has moved in a
    plane: a step is two samples. Tiles cover 16 by 16 places of a plane and begin every 8 places, the first at -8.
+
+   SHARPNESS of a frame is the sum, over its green plane of even rows and odd columns, of the absolute steps to the right neighbour and to the one
+   below, where the plane has one. Of frames that are equally sharp the first is chosen.
 
    LENT BUFFERS, for frames of width W, height H and row length L, N of them; a file means L = W. A length counts elements, not bytes; station_length
    of station.h answers it too.
@@ -218,6 +249,8 @@ static inline const char *stacker_refusal_text(uint64_t number)
        vectors    int32_t     (N-1)*2*(W/16+1)*(H/16+1)                   written   read      written
        output     uint16_t    W*H                                                   written   written
        work       int64_t     2*W*H                                       cleared   cleared   cleared
+
+   run_sharpest does with them as run.
 
    A PGM file is P5, LF, width, a space, height, LF, 4095, LF, then each sample as two bytes, the high one first: no comment, no leading zero, nothing
    behind it. Its frame has W*H uint16_t, its bytes are as many as stacker_pgm_length answers. Writing reads the frame and writes the bytes, reading the
@@ -230,17 +263,17 @@ static inline const char *stacker_refusal_text(uint64_t number)
    - What a buffer holds before a call that writes or clears it does not matter.
 
    AFTER A CALL that answers 0 the written buffers hold the result, every word of it, and the work area is zero. After a refusal every lent buffer is
-   as it was, and every other field of the answer is 0.
+   as it was, and every other field of the answer is 0, the index chosen too.
 
    REFUSALS. A call makes its tests in the order of the numbers, but 23 before 4 and 18 after 10, and answers the first that fails: align 1 to 5, 7, 11
-   and 23; merge 1 to 12, 18 and 23; run 1 to 11, 18 and 23.
+   and 23; merge 1 to 12, 18 and 23; run 1 to 11, 18 and 23; run_sharpest run's but for 3, whichever frame it chooses.
    A file is tested line by line: no first LF 15, 13; line two 15, 14, then 1, 2, 3, 9, 10, 4; each row 15, 14, 11; then what follows, 15.
    Writing a PGM file tests 1, 6, 16, 11 in that order, reading one 17, 6, 11.
 
-   NOISE. stacker_merge_iso and stacker_run_iso scale the curve for ISO 100 by a = iso / 100: shot by a, read by a * a. A file has the levels
-   floor(1024 shot) and floor(1024 read) instead; stacker_file_noise turns them back. The curve speaks of light: in the noise of a tile each sample of
-   the reference counts as what it exceeds its plane's black level by, or 0. Nothing else looks at black levels: vectors, residuals and the merged frame
-   keep the pedestal. A file means levels of 0.
+   NOISE. stacker_merge_iso, stacker_run_iso and stacker_run_sharpest_iso scale the curve for ISO 100 by a = iso / 100: shot by a, read by a * a. A
+   file has the levels floor(1024 shot) and floor(1024 read) instead; stacker_file_noise turns them back. The curve speaks of light: in the noise of a
+   tile each sample of the reference counts as what it exceeds its plane's black level by, or 0. Nothing else looks at black levels: vectors,
+   residuals and the merged frame keep the pedestal. A file means levels of 0.
 
    ZEROS. A width, height, count, row length or ISO of 0 is refused. Reference 0 is the first frame. Shot and read of 0 say that there is no noise, and
    strength 0 asks for no merging: either gives the reference back. Black levels of 0 say that black is already subtracted. A field that a later version

@@ -1,7 +1,7 @@
-/* Answers a stream of calls from standard input as the reference's `align`, `merge` or `run` does, with the library: calls align|merge|run [SPARE].
-   With SPARE, samples of the right length are lent in rows with so many spare words, each 65535, in place of the burst's own. It sees itself that the
-   work area ends as promised, zero or after a refusal as it was, and that the stack is enough. At the end it writes to standard error how many calls
-   there were, and the most stack that one took. */
+/* Answers a stream of calls from standard input as the reference's `align`, `merge`, `run` or `choose` does, with the library:
+   calls align|merge|run|choose [SPARE]. With SPARE, samples of the right length are lent in rows with so many spare words, each 65535, in place of
+   the burst's own. It sees itself that the work area ends as promised, zero or after a refusal as it was, and that the stack is enough. At the end it
+   writes to standard error how many calls there were, and the most stack that one took. */
 #include "stack.h"
 #include "stacker.h"
 
@@ -19,6 +19,7 @@ static uint16_t *samples, *output;
 static int32_t *vectors;
 static int64_t *work;
 static stacker_alignment answer;
+static uint64_t chosen;
 
 static void *lent(uint64_t length, size_t size, int filled)
 {
@@ -101,6 +102,32 @@ static void pad(uint64_t spare)
     head[SAMPLES] = rows * (width + spare);
 }
 
+/* the burst but for its reference */
+static stacker_frames frames(void)
+{
+    stacker_frames frames = { .width = head[WIDTH], .height = head[HEIGHT], .count = head[COUNT], .row_length = head[ROW_LENGTH] };
+    memcpy(frames.black, burst().black, sizeof frames.black);
+    return frames;
+}
+
+static void choose(void)
+{
+    stacker_choice choice;
+    if (head[NOISE_KIND] == 0)
+        choice = stacker_run_sharpest(frames(), measured(), tuning(), samples, head[SAMPLES], vectors, head[VECTORS], output, head[OUTPUT],
+            work, head[WORK]);
+    else
+        choice = stacker_run_sharpest_iso(frames(), at_iso(), tuning(), samples, head[SAMPLES], vectors, head[VECTORS], output, head[OUTPUT],
+            work, head[WORK]);
+    answer = choice.alignment;
+    chosen = choice.reference;
+}
+
+static void (*called(const char *name))(void)
+{
+    return strcmp(name, "align") == 0 ? align : strcmp(name, "merge") == 0 ? merge : strcmp(name, "choose") == 0 ? choose : run;
+}
+
 static void write_all(const void *data, size_t size)
 {
     if (size != 0 && fwrite(data, 1, size, stdout) != size)
@@ -111,7 +138,7 @@ int main(int argc, char **argv)
 {
     if (argc < 2 || argc > 3)
         return 2;
-    void (*call)(void) = strcmp(argv[1], "align") == 0 ? align : strcmp(argv[1], "merge") == 0 ? merge : run;
+    void (*call)(void) = called(argv[1]);
     unsigned long count = 0;
     size_t deepest = 0;
     for (; fread(head, 8, WORDS, stdin) == WORDS; count++) {
@@ -129,6 +156,8 @@ int main(int argc, char **argv)
             if (work[i] != (answer.refusal == 0 ? 0 : MARK))
                 return 1;
         write_all(&answer, sizeof answer);
+        if (call == choose)
+            write_all(&chosen, sizeof chosen);
         write_all(vectors, 4 * head[VECTORS]);
         write_all(output, 2 * head[OUTPUT]);
         free(samples);

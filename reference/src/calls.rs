@@ -1,10 +1,11 @@
-//! The calls align, merge and run: their refusals in order, then their work.
+//! The calls align, merge, run and the choosing run: their refusals in order, then their work.
 
 use crate::align;
 use crate::burst::Burst;
 use crate::merge::{self, Setting};
 use crate::noise::{Denoising, NoiseModel};
 use crate::refusal::{number, require, Refusal};
+use crate::sharpness::sharpest;
 
 /// A call's arguments and lent buffers; of the work area only the length matters here.
 #[derive(Clone)]
@@ -47,6 +48,17 @@ impl Call {
             self.merge_output(noise);
             residuals
         }))
+    }
+
+    /// Run with the sharpest frame as the reference: "The new call reports the chosen index; its merged frame, vectors,
+    /// other answers and refusals are those run gives with that index." The index is 0 beside a refusal.
+    pub fn choose(&mut self) -> (Answer, u64) {
+        // "Refusal 3 has no place in this call."
+        self.burst.reference = 0;
+        if self.check_run().is_ok() {
+            self.burst.reference = sharpest(&self.burst);
+        }
+        (self.run(), self.burst.reference)
     }
 
     /// What an accepted merge rests on.

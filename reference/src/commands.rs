@@ -30,6 +30,7 @@ pub fn dispatch(arguments: &[String]) -> Outcome {
         ["align"] => calls::answer_each(Call::align),
         ["merge"] => calls::answer_each(Call::merge),
         ["run"] => calls::answer_each(Call::run),
+        ["choose"] => calls::choose_each(),
         ["write-pgm"] => pgm::answer_writings(),
         ["read-pgm"] => pgm::answer_readings(),
         ["exact"] => exact::answer_each(),

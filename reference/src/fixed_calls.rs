@@ -23,6 +23,7 @@ pub fn calls() -> impl Iterator<Item = Call> {
         .chain(mirrored_reads())
         .chain(pedestals())
         .chain(row_lengths())
+        .chain(soft_frames())
         .chain(refused_vectors())
         .chain(faults_beside_black())
 }
@@ -189,6 +190,41 @@ fn faults_beside_black() -> impl Iterator<Item = Call> {
             }
             call
         })
+}
+
+/// Flat frames of 64 by 64 with bumps in the green plane whose sharpness decides, or in others.
+fn soft_frames() -> impl Iterator<Item = Call> {
+    // In that plane: inside, at an edge and in a corner, with four, three and two steps.
+    const INSIDE: [u64; 2] = [30, 31];
+    const EDGE: [u64; 2] = [62, 31];
+    const CORNER: [u64; 2] = [0, 63];
+    // Count of frames, and the bumps: frame, row and column, height.
+    type Bumps = &'static [(u64, [u64; 2], u16)];
+    let bursts: [(u64, Bumps); 9] = [
+        // Only the first three count.
+        (5, &[(1, INSIDE, 2), (3, INSIDE, 9), (4, EDGE, 9)]),
+        // Ties of frames 1 and 2, by steps of another kind.
+        (3, &[(1, INSIDE, 7), (2, INSIDE, 7)]),
+        (3, &[(1, INSIDE, 1), (2, CORNER, 2)]),
+        (4, &[(1, EDGE, 4), (2, INSIDE, 3)]),
+        // Frame 2 is sharper, just so.
+        (3, &[(1, EDGE, 1), (2, INSIDE, 1)]),
+        (8, &[(0, CORNER, 1), (1, CORNER, 3), (2, INSIDE, 2)]),
+        // Other planes do not count.
+        (2, &[(0, [30, 30], 99), (0, [31, 31], 99), (1, CORNER, 1)]),
+        (2, &[(0, INSIDE, 5), (1, INSIDE, 4)]),
+        (1, &[(0, INSIDE, 5)]),
+    ];
+    let mut random = Random::new(6);
+    bursts.into_iter().map(move |(count, bumps)| {
+        // A reference that only the choosing run takes.
+        let mut call = call(0, Shape::packed(64, 64, count), 9, &mut random);
+        call.burst.samples.fill(1000);
+        for (frame, [row, column], height) in bumps {
+            call.burst.samples[((64 * frame + row) * 64 + column) as usize] += height;
+        }
+        call
+    })
 }
 
 /// One part of the lent vectors just outside what merge takes, or far outside, at either end.

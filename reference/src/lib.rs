@@ -26,5 +26,6 @@ pub mod random;
 pub mod refusal;
 pub mod scenes;
 pub mod shape;
+pub mod sharpness;
 pub mod station;
 pub mod transform;

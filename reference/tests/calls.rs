@@ -71,6 +71,35 @@ fn refusals_of_run() {
 }
 
 #[test]
+fn refusals_of_the_choosing_run() {
+    let tested: Vec<u64> = FAULTS[..13]
+        .iter()
+        .copied()
+        .filter(|&fault| fault != 3)
+        .collect();
+    let choose = |call: &mut Call| {
+        let (answer, reference) = call.choose();
+        assert_eq!(reference, 0);
+        answer
+    };
+    check_pairs(choose, &tested);
+    assert_eq!(with_fault(good(), 3).choose().0.number, 0);
+}
+
+#[test]
+fn the_choosing_run_is_run_with_its_choice() {
+    let noise = |index: usize| (index * index * 7 % 4093) as u16;
+    let mut call = good();
+    call.burst.samples = (0..8192)
+        .map(|index| noise(index) / if index < 4096 { 2 } else { 1 })
+        .collect();
+    let mut run = call.clone();
+    run.burst.reference = 1;
+    assert_eq!(call.choose(), (run.run(), 1));
+    assert_eq!((call.vectors, call.output), (run.vectors, run.output));
+}
+
+#[test]
 fn untested_faults_are_accepted() {
     let accepted = Answer {
         number: 0,

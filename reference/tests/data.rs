@@ -67,8 +67,16 @@ fn row_lengths_at_their_limits() {
 }
 
 #[test]
+fn the_sharpest_frame_is_chosen() {
+    let chosen = calls().skip(181).take(9).map(|mut call| call.choose());
+    let chosen = chosen.map(|(answer, reference)| (answer.number, reference));
+    let expected = [1, 1, 1, 1, 2, 2, 1, 0, 0].map(|reference| (0, reference));
+    assert_eq!(chosen.collect::<Vec<_>>(), expected);
+}
+
+#[test]
 fn vectors_outside_are_refused() {
-    for mut call in calls().skip(181).take(8) {
+    for mut call in calls().skip(190).take(8) {
         assert_eq!(call.merge().number, 12);
         assert_eq!(call.run().number, 0);
     }
@@ -76,7 +84,7 @@ fn vectors_outside_are_refused() {
 
 #[test]
 fn black_levels_are_tested_after_strength_and_before_samples() {
-    let last = calls().skip(189).map(|mut call| call.merge().number);
+    let last = calls().skip(198).map(|mut call| call.merge().number);
     assert_eq!(last.collect::<Vec<_>>(), [10, 18, 10]);
 }
 

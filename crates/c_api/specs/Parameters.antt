@@ -4,6 +4,7 @@ use Rattle.noise.specs.declared.Noise.{Noise}
 use Rattle.noise.specs.declared.Noise.the-variants.{Measured, Iso}
 use Rattle.recipe.specs.declared.Tuning.{Tuning}
 use Rattle.c_api.specs.declared.Burst.{Burst}
+use Rattle.c_api.specs.declared.Frames.{Frames}
 use Rattle.c_api.specs.declared.BurstNoise.{BurstNoise}
 use Rattle.c_api.specs.declared.IsoNoise.{IsoNoise}
 use Rattle.c_api.specs.declared.MergeTuning.{MergeTuning}
@@ -11,6 +12,18 @@ use Rattle.c_api.specs.declared.MergeTuning.{MergeTuning}
 -- "Width W and height H", "N [..] frames", "a row length L" (request L9)
 abbrev pub shapeOf : Burst → Shape
 shapeOf burst = record { width = burst .width; height = burst .height; count = burst .count; «row_length» = burst .«row_length» }
+
+-- frames without a reference (request L1): a burst of which the index is not read
+abbrev pub ofFrames : Frames → Burst
+ofFrames frames =
+    record {
+      width = frames .width;
+      height = frames .height;
+      count = frames .count;
+      reference = 0;
+      «row_length» = frames .«row_length»;
+      black = frames .black;
+    }
 
 -- "a curve of two f64 numbers, shot and read"
 abbrev pub measured : BurstNoise → Noise

@@ -1,5 +1,6 @@
 // The calls for C and Rust: descriptions by value, a buffer as a pointer and its length. Each has the statement of the call behind it.
 pub mod align;
+pub mod choose;
 pub mod file;
 pub mod merge;
 pub mod netpbm;
@@ -15,6 +16,16 @@ pub struct Burst {
     pub height: u64,
     pub count: u64,
     pub reference: u64,
+    pub row_length: u64,
+    pub black: [u16; 4],
+}
+
+// The same without a reference, which is chosen.
+#[repr(C)]
+pub struct Frames {
+    pub width: u64,
+    pub height: u64,
+    pub count: u64,
     pub row_length: u64,
     pub black: [u16; 4],
 }

@@ -1,5 +1,6 @@
--- Try two bursts that differ only in spare words: align, merge and run give equal answers and leave equal buffers, whether they refuse or not.
-use Rattle.algebra.specs.Prelude.{_≡_, refl, sym, ap, ap₂, _∙_, Bool, _||_, List, _++_, ℕ, zero, suc, _-_, _/_, _%_, _<_, arith, ltb, ℤ}
+-- Try two bursts that differ only in spare words: align, merge, run and the run that chooses its reference give equal answers and leave equal buffers, whether they refuse
+-- or not.
+use Rattle.algebra.specs.Prelude.{_≡_, refl, sym, ap, ap₂, subst, _∙_, Bool, _||_, List, _++_, ℕ, zero, suc, _-_, _/_, _%_, _<_, arith, ltb, ℤ}
 use native.Mathlib.Nat.{mul-comm}
 use lib.ListN.{length, replicate}
 use Rattle.sequences.specs.Grid.{tab-ext}
@@ -24,10 +25,15 @@ use Rattle.recipe.specs.declared.Merge.{Merge}
 use Rattle.recipe.specs.declared.Tuning.{Tuning}
 use Rattle.recipe.specs.Scene.{sceneOf}
 use Rattle.recipe.specs.Merged.{merged}
+use Rattle.sharpness.specs.Sharpness.{sharpest}
+use Rattle.sharpness.specs.SharpnessLaws.{sharpest-same}
 use Rattle.stacker.specs.declared.Alignment.{Alignment}
+use Rattle.stacker.specs.declared.Choice.{Choice}
 use Rattle.stacker.specs.Refusals.{alignRefusal, contentTests, runTests, runRefusal, mergeRefusal, mergeOf}
 use Rattle.stacker.specs.Calls.{noSums, answered, Aligned, Merged, Ran}
 use Rattle.stacker.specs.AdmissionLaws.{align-passed, run-passed, merge-passed}
+use Rattle.stacker.specs.Choosing.{choosingTests, choosingRefusal, Chosen}
+use Rattle.stacker.specs.ChoosingLaws.{first-refusal}
 use Rattle.sanity.specs.Frames.{Same}
 use Rattle.sanity.specs.FrameLaws.{row-inside}
 use Rattle.sanity.specs.PyramidLaws.{pairs-agree}
@@ -160,3 +166,21 @@ module _ {s : Shape} {reference : ℕ} {samples samples₂ : List ℕ} {vectors 
               ∙ sym (call .result),
           call₂ .clean ∙ ap (λ n. after n work (zeros work)) tests ∙ sym (call .clean),
         )
+
+-- the run that chooses its reference (request L1) chooses the same, and does the same with it
+module _ {s : Shape} {noise : Noise} {tuning : Tuning} {samples samples₂ : List ℕ} {vectors vectors′ vectors₂′ work work′ work₂′ : List ℤ} {output output′ output₂′ : List ℕ} {r r₂ : Choice}
+    (d : SpareOnly s samples samples₂) where
+  pub choosing-spare : Chosen s noise tuning samples vectors vectors′ output output′ work work′ r → Chosen s noise tuning samples₂ vectors vectors₂′ output output₂′ work work₂′ r₂ →
+      (r₂ .reference ≡ r .reference) × (r₂ .alignment ≡ r .alignment) × (vectors₂′ ≡ vectors′) × (output₂′ ≡ output′) × (work₂′ ≡ work′)
+  unfolding choosingTests contentTests
+  choosing-spare call call₂ =
+      let number = choosingRefusal s noise tuning samples vectors output work in
+      let tests : choosingRefusal s noise tuning samples₂ vectors output work ≡ number = rw (d .long, test-same d) in
+      let ok : number ≡ 0 → Allowed s = λ z. run-passed s 0 samples vectors noise tuning output work (first-refusal s noise tuning samples vectors output work ∙ z) .fits .burst .allowed in
+      let index : r₂ .reference ≡ r .reference =
+      call₂ .chosen
+      ∙ ap (λ n. after n 0 (sharpest s samples₂)) tests
+      ∙ after-ext number 0 (λ z. sharpest-same s samples samples₂ (ok z) (d .same))
+      ∙ sym (call .chosen) in
+      let same = run-spare d (call .ran) (subst (λ i. Ran s i noise tuning samples₂ vectors vectors₂′ output output₂′ work work₂′ (r₂ .alignment)) index (call₂ .ran)) in
+      (index, same .0, same .1, same .2, same .3)

@@ -4,3 +4,6 @@ pub mod Admission
 pub mod AdmissionLaws
 pub mod CallLaws
 pub mod CloseLaws
+pub mod RanLaws
+pub mod Choosing
+pub mod ChoosingLaws

@@ -1,6 +1,7 @@
 // The calls: each tests what it is lent in the order of the refusals' numbers, works, and clears the work area. None has a `requires`.
 mod admission;
 pub mod align;
+pub mod choose;
 pub mod merge;
 pub mod run;
 
@@ -9,4 +10,11 @@ pub mod run;
 pub struct Alignment {
     pub refusal: u64,
     pub residuals: [u64; 7],
+}
+
+// What a run that chooses its reference answers: what run does with that reference, and its index; 0 beside a refusal.
+#[repr(C)]
+pub struct Choice {
+    pub alignment: Alignment,
+    pub reference: u64,
 }

@@ -13,12 +13,30 @@ use std::io::{Read, Write};
 pub fn answer_each(perform: fn(&mut Call) -> Answer) -> Outcome {
     wire::answer_each(|input, out| {
         let mut call = take_call(input)?;
-        let answer = perform(&mut call);
-        answer.number.put(out)?;
-        put_many(out, &answer.residuals)?;
-        put_many(out, &call.vectors)?;
-        Ok(put_many(out, &call.output)?)
+        put_answer(out, &perform(&mut call))?;
+        put_buffers(out, &call)
     })
+}
+
+/// Answers every choosing run on standard input: the chosen index comes after run's answer.
+pub fn choose_each() -> Outcome {
+    wire::answer_each(|input, out| {
+        let mut call = take_call(input)?;
+        let (answer, reference) = call.choose();
+        put_answer(out, &answer)?;
+        reference.put(out)?;
+        put_buffers(out, &call)
+    })
+}
+
+fn put_answer(out: &mut impl Write, answer: &Answer) -> Outcome {
+    answer.number.put(out)?;
+    Ok(put_many(out, &answer.residuals)?)
+}
+
+fn put_buffers(out: &mut impl Write, call: &Call) -> Outcome {
+    put_many(out, &call.vectors)?;
+    Ok(put_many(out, &call.output)?)
 }
 
 pub fn take_call(input: &mut impl Read) -> Result<Call, Box<dyn Error>> {

@@ -1,0 +1,15 @@
+-- Two samples and the step between, by definition.
+use Rattle.algebra.specs.Prelude.{ap₂, _∙_, needs}
+use Rattle.sharpness.specs.Sharpness.{step}
+use Rattle.sharpness.specs.Words.{lastStep}
+use Rattle.sharpness.proofs.last_step.Statement.{statement}
+use Rattle.sharpness.proofs.last_step.Tie as tie
+
+returns : tie.Need-returns
+unfolding lastStep
+returns c = let below = c .before in let here = below .before in c .step .ensures ∙ ap₂ step (here .sample .ensures .0) (below .sample2 .ensures .0)
+
+pub last-step-spec : {M : Type 1} → statement M
+last-step-spec = tie.close (tie.spec
+    (λ c. search needs) (λ c. search needs) (λ c. search needs) (λ c. search needs) (λ c κs. search needs)
+    (λ c. search needs) (λ c. search needs) (λ c κs. search needs) (λ c κs. search needs) returns)

@@ -1,0 +1,3 @@
+pub mod Sharpness
+pub mod Words
+pub mod SharpnessLaws

@@ -1,0 +1,61 @@
+-- What run owes where its tests refuse, and where they pass and the core has run on the levels that they found.
+use Rattle.algebra.specs.Prelude.{_≡_, sym, ap₂, subst, _∙_, List, ℕ, _≤_, ℤ}
+use Rattle.refusals.specs.AfterLaws.{kept, made}
+use Rattle.geometry.specs.declared.Shape.{Shape}
+use Rattle.noise.specs.declared.Noise.{Noise}
+use Rattle.alignment.specs.Aligned.{alignedVectors}
+use Rattle.recipe.specs.declared.Merge.{Merge}
+use Rattle.recipe.specs.declared.Tuning.{Tuning}
+use Rattle.recipe.specs.Scene.{sceneOf}
+use Rattle.recipe.specs.Merged.{merged}
+use Rattle.pipeline.specs.Levels.{Runnable, RanLevels}
+use Rattle.stacker.specs.declared.admission.Tested.{Tested}
+use Rattle.stacker.specs.Admission.{RunTested}
+use Rattle.stacker.specs.AdmissionLaws.{run-passed}
+use Rattle.stacker.specs.CallLaws.{answer-refused, answer-accepted}
+use Rattle.stacker.specs.CloseLaws.{found-close}
+use Rattle.stacker.specs.Refusals.{runRefusal}
+use Rattle.stacker.specs.Calls.{noSums, Ran}
+
+-- a merge with the levels that the tests found
+abbrev pub levelled : Shape → (reference : ℕ) → Tuning → Tested → Merge
+levelled s reference tuning tested = record { shape = s; reference = reference; shot = tested .shot; read = tested .read; tuning = tuning }
+
+module _ {s : Shape} {reference : ℕ} {noise : Noise} {tuning : Tuning} {samples : List ℕ} {vectors : List ℤ} {output : List ℕ} {work : List ℤ} {tested : Tested}
+    (t : RunTested s reference noise tuning samples vectors output work tested) where
+  pub ran-refused : (tested .refusal ≡ 0 → ⊥) → Ran s reference noise tuning samples vectors vectors output output work work (record { refusal = tested .refusal; residuals = noSums })
+  ran-refused h =
+      let e = t .number in
+      record {
+        answer = answer-refused _ _ e h;
+        found = kept _ _ _ e h;
+        result = kept _ _ _ e h;
+        clean = kept _ _ _ e h;
+        near = λ z. absurd (h z);
+      }
+
+  module _ (z : tested .refusal ≡ 0) where
+    pub runnable : Runnable (levelled s reference tuning tested) samples vectors output work
+    runnable =
+        let ready = run-passed s reference samples vectors noise tuning output work (sym (t .number) ∙ z) in
+        record {
+          fits = ready .fits;
+          samples-fit = ready .samples-fit;
+          shot-most = subst (λ n. n ≤ 65536) (sym (t .shot-is z)) (ready .shot-most);
+          read-most = subst (λ n. n ≤ 4194304) (sym (t .read-is z)) (ready .read-most);
+          strength-most = ready .strength-most;
+        }
+
+    pub ran-accepted : {vectors′ work′ : List ℤ} {output′ sums : List ℕ} → RanLevels (levelled s reference tuning tested) samples vectors′ output′ work work′ sums →
+        Ran s reference noise tuning samples vectors vectors′ output output′ work work′ (record { refusal = 0; residuals = sums })
+    ran-accepted {vectors′} {work′} {output′} {sums} is =
+        let e = t .number in
+        let found = alignedVectors s reference samples in
+        let result = is .result ∙ ap₂ (λ shot read. merged (sceneOf (record { shape = s; reference = reference; shot = shot; read = read; tuning = tuning }) samples found)) (t .shot-is z) (t .read-is z) in
+        record {
+          answer = answer-accepted _ _ e z (is .sums-are);
+          found = made _ _ _ e z (is .found);
+          result = made _ _ _ e z result;
+          clean = made _ _ _ e z (is .clean);
+          near = λ _. found-close _ _ _ _ _ (runnable .fits .burst .allowed .few) (is .found) result;
+        }
