@@ -1,5 +1,5 @@
 -- What a loop by pairs of rows counts and answers, and what the loop over the offsets makes of it.
-use Rattle.algebra.specs.Prelude.{_≡_, refl, sym, ap, _∙_, Bool, true, false, ℕ, suc, _+_, _-_, _*_, _≤_, _<_, arith, leb}
+use Rattle.algebra.specs.Prelude.{_≡_, refl, sym, ap, _∙_, Bool, true, false, cond, ℕ, suc, _+_, _-_, _*_, _≤_, _<_, arith, leb}
 use mathlib.Core.Logic.{⊎-elim}
 use borrow.Author.Tests.{leb-true, leb-false}
 use Rattle.algebra.specs.Sums.{sumN}
@@ -43,21 +43,21 @@ module _ {best : ℕ} {f : ℕ → ℕ} {b m : ℕ} where
         }
 
     -- an offset that is left in these rows
-    pub run-left : {r : Tried} → best ≤ both → (r .total ≡ both) × (best ≤ first → r .rows ≡ 2 * i + 1) × (first < best → r .rows ≡ 2 * i + 2) → Left best f (2 * m) r
+    pub run-left : {r : Tried} → best ≤ both → (r .total ≡ both) × (r .rows ≡ 2 * i + cond (leb best first) 1 2) → Left best f (2 * m) r
     run-left {r} k a =
         record {
-          rows-are = by (leb best first) refl;
+          rows-are = a .1 ∙ by (leb best first) refl;
           whole = λ l. absurd (omega (arith, a .0));
           left = λ l. omega (arith, both-is, sums-grow f (suc (suc (2 * i))) (2 * m) (omega arith));
         }
       where
-        by : (t : Bool) → leb best first ≡ t → r .rows ≡ rows best f (2 * m)
+        by : (t : Bool) → leb best first ≡ t → 2 * i + cond t 1 2 ≡ rows best f (2 * m)
         by true e =
             let l = leb-true best first e in
-            a .1 l ∙ omega (arith, rows-left best f (2 * m) (2 * i) (omega arith) (λ p. omega (arith, w .is, w .below (omega arith))) (omega (arith, first-is)))
+            omega (arith, rows-left best f (2 * m) (2 * i) (omega arith) (λ p. omega (arith, w .is, w .below (omega arith))) (omega (arith, first-is)))
         by false e =
             let l = leb-false best first e in
-            a .2 l ∙ omega (arith, rows-left best f (2 * m) (suc (2 * i)) (omega arith) (λ p. omega (arith, first-is)) (omega (arith, both-is)))
+            omega (arith, rows-left best f (2 * m) (suc (2 * i)) (omega arith) (λ p. omega (arith, first-is)) (omega (arith, both-is)))
 
   -- and one that is summed whole
   pub run-done : {i sum : ℕ} {r : Tried} → Running best f b m i sum → m ≤ i → 0 < m → r .total ≡ sum → r .rows ≡ 2 * m → Left best f (2 * m) r

@@ -1,6 +1,7 @@
 // The search around a guess: residuals on local arrays, and the 81 offsets in tie order.
 ghost use mathlib.Core.Path.{_≡_};
-ghost use Prim.Native.Nat.{_+_, _≤_, _<_};
+ghost use mathlib.Core.Bool.{cond};
+ghost use Prim.Native.Nat.{_+_, _≤_};
 
 pub mod copy;
 mod eight;
@@ -21,13 +22,13 @@ pub struct Tried {
     pub rows: u64,
 }
 
-// An offset that is left in the two rows after the first `before`: after the first of them, if `first`, the total up to it, has reached `low`.
-fn leave(total: u64, first: u64, low: u64, before: usize) -> Tried
+// An offset that is left in the two rows after the first `before`: after the first of them if the total up to it has reached the best so far.
+fn leave(total: u64, reached: bool, before: usize) -> Tried
     requires { ⌜ before ≤ 64 ⌝ }
-    ensures { λ r. ⌜ (r .total ≡ total) × (low ≤ first → r .rows ≡ before + 1) × (first < low → r .rows ≡ before + 2) ⌝ }
+    ensures { λ r. ⌜ (r .total ≡ total) × (r .rows ≡ before + cond reached 1 2) ⌝ }
 {
     let rows = before as u64;
-    if first >= low {
+    if reached {
         return Tried {
             total: total,
             rows: rows + 1,

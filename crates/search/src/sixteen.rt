@@ -121,6 +121,16 @@ fn two_rows(tile: &[u16], window: &[u16], a: usize, b: usize) -> u32
     sum
 }
 
+// `low` in 32 bits, where every total by absolute differences is below the greatest of them: so the sums stay in vectors of 32 bits.
+fn clipped(low: u64) -> u32
+    ensures { λ r. ⌜ (r ≤ low) × (r ≤ 4294967295) × (r < 4294967295 → r ≡ low) ⌝ }
+{
+    if low < 4294967295 {
+        return low as u32;
+    }
+    4294967295
+}
+
 // An offset by absolute differences, whose first sample lies in row `y` and column `x` of the window: two rows at a time, left as soon as their
 // total reaches `low`. Only then is the first of the two summed by itself, to tell at which of them it was reached.
 pub fn absolute_offset(tile: &[u16], window: &[u16], y: usize, x: usize, low: u64) -> Tried
@@ -128,17 +138,18 @@ pub fn absolute_offset(tile: &[u16], window: &[u16], y: usize, x: usize, low: u6
     ensures { λ r. ⌜ Left low (squareRow false (now (tile .entry)) (now (window .entry)) (y * 24 + x) 24 16) 16 r ⌝ }
 {
     let start = y * 24 + x;
-    let mut sum: u64 = 0;
+    let limit = clipped(low);
+    let mut sum: u32 = 0;
     for i in 0..8 {
-        let both = sum + two_rows(tile, window, 32 * i, start + 48 * i) as u64;
-        if both >= low {
-            let first = sum + absolute_row(tile, window, 32 * i, start + 48 * i) as u64;
-            return leave(both, first, low, 2 * i);
+        let both = sum + two_rows(tile, window, 32 * i, start + 48 * i);
+        if both >= limit {
+            let first = sum + absolute_row(tile, window, 32 * i, start + 48 * i);
+            return leave(both as u64, first >= limit, 2 * i);
         }
         sum = both;
     }
     Tried {
-        total: sum,
+        total: sum as u64,
         rows: 16,
     }
 }
@@ -152,16 +163,28 @@ pub fn square(x: u16, y: u16) -> u32
     (d * d) as u32
 }
 
-// Squared differences of a row of the tile from `a` on and the window's from `b` on.
-fn squared_row(tile: &[u16], window: &[u16], a: usize, b: usize) -> u32
-    requires { ⌜ (Low (now tile) (a + 16)) × (Low (now window) (b + 16)) ⌝ }
-    ensures { λ r. ⌜ (r ≡ rowSum true (now (tile .entry)) (now (window .entry)) a b 16) × (r ≤ squaredRowMost) ⌝ }
+// The sums of two rows, one under the other.
+struct Two {
+    upper: u32,
+    lower: u32,
+}
+
+// Squared differences of a row of the tile from `a` on and the window's from `b` on, and of the row under it. One call for both, so that it is
+// compiled into the loop over the rows.
+fn squared_rows(tile: &[u16], window: &[u16], a: usize, b: usize) -> Two
+    requires { ⌜ (Low (now tile) (a + 32)) × (Low (now window) (b + 40)) ⌝ }
+    ensures { λ r. ⌜ (r .upper ≡ rowSum true (now (tile .entry)) (now (window .entry)) a b 16) × (r .lower ≡ rowSum true (now (tile .entry)) (now (window .entry)) (a + 16) (b + 24) 16) × (r .upper ≤ squaredRowMost) × (r .lower ≤ squaredRowMost) ⌝ }
 {
-    let mut sum: u32 = 0;
+    let mut upper: u32 = 0;
+    let mut lower: u32 = 0;
     for j in 0..16 {
-        sum += square(tile[a + j], window[b + j]);
+        upper += square(tile[a + j], window[b + j]);
+        lower += square(tile[a + 16 + j], window[b + 24 + j]);
     }
-    sum
+    Two {
+        upper: upper,
+        lower: lower,
+    }
 }
 
 // The same as `absolute_offset` by squared differences.
@@ -172,10 +195,11 @@ pub fn squared_offset(tile: &[u16], window: &[u16], y: usize, x: usize, low: u64
     let start = y * 24 + x;
     let mut sum: u64 = 0;
     for i in 0..8 {
-        let first = sum + squared_row(tile, window, 32 * i, start + 48 * i) as u64;
-        let both = first + squared_row(tile, window, 32 * i + 16, start + 48 * i + 24) as u64;
+        let rows = squared_rows(tile, window, 32 * i, start + 48 * i);
+        let first = sum + rows.upper as u64;
+        let both = first + rows.lower as u64;
         if both >= low {
-            return leave(both, first, low, 2 * i);
+            return leave(both, first >= low, 2 * i);
         }
         sum = both;
     }

@@ -13,34 +13,31 @@ Inv-loop tile window y x low start sum₀ i₀ sum i = Running low (squareRow tr
 abbrev μ-loop : tie.MeasureT-loop
 μ-loop tile window y x low start sum₀ i₀ sum i = 8 - i
 
-squared-row-requires : tie.Need-squared-row-requires Inv-loop μ-loop
-squared-row-requires c κs = let s = c .before .before .before .before in (low-less (s .pre .0) _ (omega arith), low-less (s .pre .1) _ (omega arith))
-
-squared-row-requires-2 : tie.Need-squared-row-requires-2 Inv-loop μ-loop
-squared-row-requires-2 c κs = let s = c .before .before .before .before .before in (low-less (s .pre .0) _ (omega arith), low-less (s .pre .1) _ (omega arith))
+squared-rows-requires : tie.Need-squared-rows-requires Inv-loop μ-loop
+squared-rows-requires c κs = let s = c .before .before .before .before in (low-less (s .pre .0) _ (omega arith), low-less (s .pre .1) _ (omega arith))
 
 -- the two rows
-upper : (c : tie.After-squared-row Inv-loop μ-loop) → let a = c .before .before .before .before .before .args in c .squared-row .result ≡ squareRow true (a .tile .now) (a .window .now) (a .y * 24 + a .x) 24 16 (2 * c .before .before .loop .i)
+upper : (c : tie.After-squared-rows Inv-loop μ-loop) → let a = c .before .before .before .before .before .args in c .squared-rows .result .upper ≡ squareRow true (a .tile .now) (a .window .now) (a .y * 24 + a .x) 24 16 (2 * c .before .before .loop .i)
 upper c =
     let a = c .before .before .before .before .before .args in
-    c .squared-row .ensures .0 ∙ row-at true (a .tile .now) (a .window .now) (a .y * 24 + a .x) 24 16 (2 * c .before .before .loop .i) _ _ (omega arith) (omega arith)
+    c .squared-rows .ensures .0 ∙ row-at true (a .tile .now) (a .window .now) (a .y * 24 + a .x) 24 16 (2 * c .before .before .loop .i) _ _ (omega arith) (omega arith)
 
-lower : (c : tie.After-squared-row2 Inv-loop μ-loop) → let a = c .before .before .before .before .before .before .args in c .squared-row2 .result ≡ squareRow true (a .tile .now) (a .window .now) (a .y * 24 + a .x) 24 16 (2 * c .before .before .before .loop .i + 1)
+lower : (c : tie.After-squared-rows Inv-loop μ-loop) → let a = c .before .before .before .before .before .args in c .squared-rows .result .lower ≡ squareRow true (a .tile .now) (a .window .now) (a .y * 24 + a .x) 24 16 (2 * c .before .before .loop .i + 1)
 lower c =
-    let a = c .before .before .before .before .before .before .args in
-    c .squared-row2 .ensures .0 ∙ row-at true (a .tile .now) (a .window .now) (a .y * 24 + a .x) 24 16 (2 * c .before .before .before .loop .i + 1) _ _ (omega arith) (omega arith)
+    let a = c .before .before .before .before .before .args in
+    c .squared-rows .ensures .1 ∙ row-at true (a .tile .now) (a .window .now) (a .y * 24 + a .x) 24 16 (2 * c .before .before .loop .i + 1) _ _ (omega arith) (omega arith)
 
 returns : tie.Need-returns Inv-loop μ-loop
 returns c =
-    let w = c .before .before in
-    let l = w .before .before .before .loop in
-    run-left (l .inv) (omega arith) (ap (λ n. l .sum + n) (upper (w .before))) (ap (λ n. l .sum + w .before .squared-row .result + n) (lower w)) (c .before .if1 .taken) (c .leave .ensures)
+    let w = c .before .before .before .before in
+    let l = w .before .before .loop in
+    run-left (l .inv) (omega arith) (ap (λ n. l .sum + n) (upper w)) (ap (λ n. l .sum + w .squared-rows .result .upper + n) (lower w)) (c .before .if1 .taken) (c .leave .ensures)
 
 loop-again : tie.Need-loop-again Inv-loop μ-loop
 loop-again c =
-    let w = c .before in
-    let l = w .before .before .before .loop in
-    run-turn (l .inv) (omega arith) (ap (λ n. l .sum + n) (upper (w .before))) (ap (λ n. l .sum + w .before .squared-row .result + n) (lower w)) (omega arith) (c .if1 .left)
+    let w = c .before .before .before in
+    let l = w .before .before .loop in
+    run-turn (l .inv) (omega arith) (ap (λ n. l .sum + n) (upper w)) (ap (λ n. l .sum + w .squared-rows .result .upper + n) (lower w)) (omega arith) (c .if1 .left)
 
 returns-2 : tie.Need-returns-2 Inv-loop μ-loop
 returns-2 c = run-done (c .before .loop .inv) (omega arith) (lit< tt) refl refl
@@ -48,8 +45,7 @@ returns-2 c = run-done (c .before .loop .inv) (omega arith) (lit< tt) refl refl
 pub squared-offset-spec : {M : Type 1} → statement M
 squared-offset-spec = tie.close (tie.spec
     Inv-loop μ-loop (λ c. search needs) (λ c. search needs) (λ c. run-start) (λ c. search needs)
-    (λ c. search needs) (λ c. search needs) squared-row-requires (λ c. search needs)
-    (λ c. search needs) (λ c. search needs) (λ c. search needs) (λ c. search needs)
-    (λ c. search needs) (λ c. search needs) squared-row-requires-2 (λ c. search needs)
+    (λ c. search needs) (λ c. search needs) squared-rows-requires (λ c. search needs)
+    (λ c. search needs) (λ c. search needs)
     (λ c. search needs) (λ c. search needs) (λ c κs. search needs) returns (λ c. search needs)
     (λ c. search needs) loop-again returns-2)
