@@ -54,6 +54,7 @@ typedef struct {
 typedef struct {
     uint64_t refusal;
     uint64_t residuals[7]; /* per other frame in rising index, its sum of finest residuals; unused places are 0 */
+    uint64_t rows;         /* tile rows that were summed in all, see SEARCH below: at most 789,503,736 */
 } stacker_alignment;
 
 typedef struct {
