@@ -6,6 +6,7 @@ use Rattle.geometry.specs.Shape.{vectorLength}
 use Rattle.geometry.specs.Fits.{BurstFits, SamplesFit}
 use Rattle.noise.specs.declared.Noise.{Noise}
 use Rattle.alignment.specs.Aligned.{alignedVectors, residualSums}
+use Rattle.alignment.specs.Rows.{rowsSummed}
 use Rattle.alignment.specs.Burst.{Ready}
 use Rattle.recipe.specs.declared.Merge.{Merge}
 use Rattle.recipe.specs.Scene.{sceneOf}
@@ -28,6 +29,7 @@ pub record Found (s : Shape) (reference : ℕ) (samples : List ℕ) (vectors vec
   pub lent : Lent s reference samples vectors
   pub vectors-are : vectors′ ≡ alignedVectors s reference samples
   pub sums-are : r .residuals ≡ residualSums s reference samples
+  pub rows-are : r .rows ≡ rowsSummed s reference samples
 
 -- the fields of an answer
 number-is : {r : Alignment} (number : ℕ) (sums : List ℕ) (rows : ℕ) → r ≡ answered number sums rows → r .refusal ≡ 0 → number ≡ 0
@@ -37,6 +39,10 @@ number-is number sums rows e accepted = sym (ap (λ a. a .refusal) e) ∙ accept
 residuals-are : {r : Alignment} (number : ℕ) (sums : List ℕ) (rows : ℕ) → r ≡ answered number sums rows → number ≡ 0 → r .residuals ≡ sums
 unfolding answered
 residuals-are number sums rows e z = result-made number noSums sums z (ap (λ a. a .residuals) e)
+
+rows-by : {r : Alignment} (number : ℕ) (sums : List ℕ) (rows : ℕ) → r ≡ answered number sums rows → number ≡ 0 → r .rows ≡ rows
+unfolding answered
+rows-by number sums rows e z = result-made number 0 rows z (ap (λ a. a .rows) e)
 
 module _ {s : Shape} {reference : ℕ} {samples : List ℕ} {vectors : List ℤ} where
   lent-by : BurstFits s reference (length samples) (length vectors) → SamplesFit s samples → Lent s reference samples vectors
@@ -58,6 +64,7 @@ module _ {s : Shape} {reference : ℕ} {samples : List ℕ} {vectors work work�
         lent = align-lent (align-passed s reference samples vectors work passed);
         vectors-are = result-made number vectors _ passed (call .found);
         sums-are = residuals-are number _ _ (call .answer) passed;
+        rows-are = rows-by number _ _ (call .answer) passed;
       }
 
   module _ {noise : Noise} {tuning : Tuning} {output output′ : List ℕ} where
@@ -79,6 +86,7 @@ module _ {s : Shape} {reference : ℕ} {samples : List ℕ} {vectors work work�
             lent = run-lent (run-passed s reference samples vectors noise tuning output work passed);
             vectors-are = result-made first vectors _ passed (call .found);
             sums-are = residuals-are first _ _ (call .answer) passed;
+            rows-are = rows-by first _ _ (call .answer) passed;
           },
           result-made first output _ passed (call .result),
         )

@@ -1,5 +1,5 @@
 -- The residual in the middle of the window is the own candidate's; the window is searched where that one is the guess.
-use Rattle.algebra.specs.Prelude.{_≡_, refl, sym, ap₂, subst, _∙_, arith, needs, lit≤}
+use Rattle.algebra.specs.Prelude.{_≡_, refl, sym, ap₂, subst, _∙_, _-_, arith, needs, lit≤}
 use mathlib.Core.Logic.{inr}
 use Rattle.search.specs.Bounds.{Within}
 use Rattle.search.specs.SearchLaws.{guess-within}
@@ -43,9 +43,10 @@ returns c = let s = c .before .before .before .before .before .before .before .b
     let a = s .args in
     let b = c .before .search .ensures in
     let m = c .moved .ensures in
+    let n = c .moved .result .rows - c .before .search .result .rows in
     let i = c .before .before .before in (
-      search-answer (s .pre .0) (c .before .before .before .before .before .before .before .before .before .before .before .before .before .copy-window .ensures) (a .squared) 48 (s .pre .1) b m
-          ∙ ap₂ (refined (a .squared) (a .words .now) (a .area) (a .tile)) (sym (i .before .same .ensures (i .if1 .taken)) ∙ best-is (i .before .before)) (omega (arith, s .pre .1)),
+      search-answer (s .pre .0) (c .before .before .before .before .before .before .before .before .before .before .before .before .before .copy-window .ensures) (a .squared) n (s .pre .1) b (m .0, m .1, omega (arith, m .2))
+          ∙ ap₂ (refined (a .squared) (a .words .now) (a .area) (a .tile)) (sym (i .before .same .ensures (i .if1 .taken)) ∙ best-is (i .before .before)) (omega (arith, m .2, s .pre .1)),
       omega (arith, m .1, b .most),
     )
 
