@@ -1,5 +1,5 @@
 -- What a loop by pairs of rows counts and answers, and what the loop over the offsets makes of it.
-use Rattle.algebra.specs.Prelude.{_≡_, refl, sym, ap, _∙_, Bool, true, false, cond, ℕ, suc, _+_, _-_, _*_, _≤_, _<_, arith, leb}
+use Rattle.algebra.specs.Prelude.{_≡_, refl, sym, ap, subst, _∙_, Bool, true, false, cond, ℕ, suc, _+_, _-_, _*_, _≤_, _<_, arith, T, leb}
 use mathlib.Core.Logic.{⊎-elim}
 use borrow.Author.Tests.{leb-true, leb-false}
 use Rattle.algebra.specs.Sums.{sumN}
@@ -43,11 +43,11 @@ module _ {best : ℕ} {f : ℕ → ℕ} {b m : ℕ} where
         }
 
     -- an offset that is left in these rows
-    pub run-left : {r : Tried} → best ≤ both → (r .total ≡ both) × (r .rows ≡ 2 * i + cond (leb best first) 1 2) → Left best f (2 * m) r
+    pub run-left : {r : Tried} → best ≤ both → (r .best ≡ false) × (r .rows ≡ 2 * i + cond (leb best first) 1 2) → Left best f (2 * m) r
     run-left {r} k a =
         record {
           rows-are = a .1 ∙ by (leb best first) refl;
-          whole = λ l. absurd (omega (arith, a .0));
+          whole = λ l. absurd (subst T (a .0) (subst T (sym l) tt));
           left = λ l. omega (arith, both-is, sums-grow f (suc (suc (2 * i))) (2 * m) (omega arith));
         }
       where
@@ -60,14 +60,14 @@ module _ {best : ℕ} {f : ℕ → ℕ} {b m : ℕ} where
             omega (arith, rows-left best f (2 * m) (suc (2 * i)) (omega arith) (λ p. omega (arith, first-is)) (omega (arith, both-is)))
 
   -- and one that is summed whole
-  pub run-done : {i sum : ℕ} {r : Tried} → Running best f b m i sum → m ≤ i → 0 < m → r .total ≡ sum → r .rows ≡ 2 * m → Left best f (2 * m) r
-  run-done {i} {sum} {r} w h s t n =
+  pub run-done : {i sum : ℕ} {r : Tried} → Running best f b m i sum → m ≤ i → 0 < m → r .best ≡ true → r .total ≡ sum → r .rows ≡ 2 * m → Left best f (2 * m) r
+  run-done {i} {sum} {r} w h s u t n =
       let e : sum ≡ sumN (2 * m) f = w .is ∙ ap (λ n. sumN n f) (omega (arith, w .count)) in
       let l = w .below (omega arith) in
       record {
         rows-are = n ∙ sym (rows-all best f (2 * m) (omega arith));
-        whole = λ h. t ∙ e;
-        left = λ h. absurd (omega arith);
+        whole = λ h. (omega arith, t ∙ e);
+        left = λ h. absurd (subst T h (subst T (sym u) tt));
       }
 
 -- the rows of the next offset, against the least of those before

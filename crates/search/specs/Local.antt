@@ -1,5 +1,5 @@
 -- Inner vocabulary: squares of samples in local arrays: a square's rows stand one after the other.
-use Rattle.algebra.specs.Prelude.{_≡_, Bool, true, List, ℕ, _+_, _*_, _≤_, _<_, length, getD, ℤ, pos, _+ℤ_}
+use Rattle.algebra.specs.Prelude.{_≡_, Bool, true, false, List, ℕ, _+_, _*_, _≤_, _<_, length, getD, ℤ, pos, _+ℤ_}
 use mathlib.Core.Logic.{_⊎_}
 use Rattle.algebra.specs.Sums.{sumN}
 use Rattle.sequences.specs.Least.{firstMin}
@@ -53,11 +53,11 @@ pub record Window (tile window : List ℕ) (side : ℕ) : Type 0 where
 pub record Kind (squared : Bool) (side : ℕ) : Type 0 where
   pub is : ((side ≡ 8) × (squared ≡ true)) ⊎ (side ≡ 16)
 
--- an offset whose n rows have the sums f was tried against low: the rows that the rule counts, and the whole total unless it reaches low
+-- an offset whose n rows have the sums f was tried against low: the rows that the rule counts, and the total where it is below low
 pub record Left (low : ℕ) (f : ℕ → ℕ) (n : ℕ) (r : Tried) : Type 0 where
   pub rows-are : r .rows ≡ rows low f n
-  pub whole : r .total < low → r .total ≡ sumN n f
-  pub left : low ≤ r .total → low ≤ sumN n f
+  pub whole : r .best ≡ true → (r .total < low) × (r .total ≡ sumN n f)
+  pub left : r .best ≡ false → low ≤ sumN n f
 
 -- the first least of the 81 totals, where row i of offset k has the sum f k i, and the rows summed
 pub record Searched (f : ℕ → ℕ → ℕ) (n : ℕ) (r : Best) : Type 0 where

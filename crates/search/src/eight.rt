@@ -31,11 +31,12 @@ pub fn squared_offset(tile: &[u16], window: &[u16], y: usize, x: usize, low: u64
         let first = sum + squared_row(tile, window, 16 * i, start + 32 * i) as u64;
         let both = first + squared_row(tile, window, 16 * i + 8, start + 32 * i + 16) as u64;
         if both >= low {
-            return leave(both, first >= low, 2 * i);
+            return leave(first >= low, 2 * i);
         }
         sum = both;
     }
     Tried {
+        best: true,
         total: sum,
         rows: 8,
     }

@@ -1,6 +1,6 @@
 // The search around a guess: residuals on local arrays, and the 81 offsets in tie order.
 ghost use mathlib.Core.Path.{_≡_};
-ghost use mathlib.Core.Bool.{cond};
+ghost use mathlib.Core.Bool.{cond, false};
 ghost use Prim.Native.Nat.{_+_, _≤_};
 
 pub mod copy;
@@ -16,26 +16,29 @@ pub struct Tile {
     pub origin: Vector,
 }
 
-// What trying an offset has given: the total of the rows that were summed, and how many of them the rule counts.
+// What trying an offset has given: whether it is the best so far, then its total, else 0; and how many rows the rule counts.
 pub struct Tried {
+    pub best: bool,
     pub total: u64,
     pub rows: u64,
 }
 
 // An offset that is left in the two rows after the first `before`: after the first of them if the total up to it has reached the best so far.
-fn leave(total: u64, reached: bool, before: usize) -> Tried
+fn leave(reached: bool, before: usize) -> Tried
     requires { ⌜ before ≤ 64 ⌝ }
-    ensures { λ r. ⌜ (r .total ≡ total) × (r .rows ≡ before + cond reached 1 2) ⌝ }
+    ensures { λ r. ⌜ (r .best ≡ false) × (r .rows ≡ before + cond reached 1 2) ⌝ }
 {
     let rows = before as u64;
     if reached {
         return Tried {
-            total: total,
+            best: false,
+            total: 0,
             rows: rows + 1,
         };
     }
     Tried {
-        total: total,
+        best: false,
+        total: 0,
         rows: rows + 2,
     }
 }

@@ -144,11 +144,12 @@ pub fn absolute_offset(tile: &[u16], window: &[u16], y: usize, x: usize, low: u6
         let both = sum + two_rows(tile, window, 32 * i, start + 48 * i);
         if both >= limit {
             let first = sum + absolute_row(tile, window, 32 * i, start + 48 * i);
-            return leave(both as u64, first >= limit, 2 * i);
+            return leave(first >= limit, 2 * i);
         }
         sum = both;
     }
     Tried {
+        best: true,
         total: sum as u64,
         rows: 16,
     }
@@ -199,11 +200,12 @@ pub fn squared_offset(tile: &[u16], window: &[u16], y: usize, x: usize, low: u64
         let first = sum + rows.upper as u64;
         let both = first + rows.lower as u64;
         if both >= low {
-            return leave(both, first >= low, 2 * i);
+            return leave(first >= low, 2 * i);
         }
         sum = both;
     }
     Tried {
+        best: true,
         total: sum,
         rows: 16,
     }

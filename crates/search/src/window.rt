@@ -265,7 +265,7 @@ pub fn search(squared: bool, side: usize, tile: &[u16], window: &[u16]) -> Best
         let x = wide(right[k]);
         let tried = try_offset(squared, side, &own, window, y, x, low);
         rows += tried.rows;
-        if tried.total < low {
+        if tried.best {
             low = tried.total;
             best = k;
         }

@@ -43,7 +43,7 @@ loop-again c =
     run-turn (l .inv) (omega arith) (ap (λ n. l .sum + n) (upper (w .before))) (ap (λ n. l .sum + w .before .squared-row .result + n) (lower w)) (omega arith) (c .if1 .left)
 
 returns-2 : tie.Need-returns-2 Inv-loop μ-loop
-returns-2 c = run-done (c .before .loop .inv) (omega arith) (lit< tt) refl refl
+returns-2 c = run-done (c .before .loop .inv) (omega arith) (lit< tt) refl refl refl
 
 pub squared-offset-spec : {M : Type 1} → statement M
 squared-offset-spec = tie.close (tie.spec

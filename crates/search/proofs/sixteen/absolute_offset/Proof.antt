@@ -43,7 +43,7 @@ returns c =
     let l = w .before .before .loop in
     let k = w .before .before .before .clipped .ensures in
     let e = k .2 (omega (arith, l .inv .most, w .two-rows .ensures .1, u .before .if1 .taken)) in
-    run-left (l .inv) (omega arith) (ap (λ n. l .sum + n) (upper u)) (omega (arith, both w, upper u)) (omega (arith, e, u .before .if1 .taken))
+    run-left {both = l .sum + w .two-rows .result} (l .inv) (omega arith) (ap (λ n. l .sum + n) (upper u)) (omega (arith, both w, upper u)) (omega (arith, e, u .before .if1 .taken))
     (c .leave .ensures .0, subst (λ b. c .leave .result .rows ≡ 2 * l .i + cond (leb b (l .sum + u .absolute-row .result)) 1 2) e (c .leave .ensures .1))
 
 loop-again : tie.Need-loop-again Inv-loop μ-loop
@@ -53,13 +53,13 @@ loop-again c =
     run-turn (l .inv) (omega arith) refl (omega (arith, both w)) (omega arith) (omega (arith, w .before .before .before .clipped .ensures .0, c .if1 .left))
 
 returns-2 : tie.Need-returns-2 Inv-loop μ-loop
-returns-2 c = run-done (c .before .loop .inv) (omega arith) (lit< tt) refl refl
+returns-2 c = run-done (c .before .loop .inv) (omega arith) (lit< tt) refl refl refl
 
 pub absolute-offset-spec : {M : Type 1} → statement M
 absolute-offset-spec = tie.close (tie.spec
     Inv-loop μ-loop (λ c. search needs) (λ c. search needs) (λ c κs. search needs) (λ c. run-start)
     (λ c. search needs) (λ c. search needs) (λ c. search needs) two-rows-requires
     (λ c. search needs) (λ c. search needs) (λ c. search needs) (λ c. search needs)
-    absolute-row-requires (λ c. search needs) (λ c. search needs) (λ c. search needs)
+    absolute-row-requires (λ c. search needs) (λ c. search needs)
     (λ c κs. search needs) returns (λ c. search needs) (λ c. search needs) loop-again
     (λ c. search needs) returns-2)

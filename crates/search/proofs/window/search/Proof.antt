@@ -80,14 +80,14 @@ add-rows c =
 
 loop-again : tie.Need-loop-again Inv-loop μ-loop
 loop-again c =
-    let t = c .before .before .before in
+    let t = c .before .before in
     let i = t .before .before .before .before in
     let l = i .before in
     let s = l .before .before .before .before in
     let q = left t in
     let b = window-most (seen (l .before)) (small s) (s .args .squared) (l .loop .k) (i .loop-test .taken) in (
       ⊎-elim
-          (λ w. rw (w .1, w .2) (lowest-take (l .loop .inv .0) (i .loop-test .taken) (q .whole (w .0 .taken)) (omega (arith, q .whole (w .0 .taken), b)) (w .0 .taken)))
+          (λ w. rw (w .1, w .2) (lowest-take (l .loop .inv .0) (i .loop-test .taken) (q .whole (w .0 .taken) .1) (omega (arith, q .whole (w .0 .taken) .1, b)) (q .whole (w .0 .taken) .0)))
           (λ w. rw (w .1, w .2) (lowest-keep (l .loop .inv .0) (i .loop-test .taken) refl b (lit< tt) (q .left (w .0 .left))))
           (c .if1 .came),
       sum-turn (l .loop .inv .1) (i .loop-test .taken) (rows-are t) (rows-few t),
