@@ -243,7 +243,7 @@ static inline const char *stacker_refusal_text(uint64_t number)
    least so far; the three candidates that a tile of levels 2 to 0 starts from are always summed whole. The answer counts the rows that this rule sums, over
    all tiles, levels and frames: at most 648 for a tile of level 3, 1,344 for any other, 789,503,736 in all. A picture with much to tell offsets apart
    takes few. The count has its price, a sum for each row of its own: beside an align that sums every offset whole and counts nothing, this one took
-   1.06 to 1.15 times the time on a textured scene, and 1.33 to 1.43 times on dark noise, where offsets are left near their last row.
+   1.08 to 1.25 times the time on a textured scene, and 1.44 to 1.48 times on dark noise, where offsets are left near their last row.
 
    SHARPNESS of a frame is the sum, over its green plane of even rows and odd columns, of the absolute steps to the right neighbour and to the one
    below, where the plane has one. Of frames that are equally sharp the first is chosen.

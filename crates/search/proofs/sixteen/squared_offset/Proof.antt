@@ -31,13 +31,13 @@ returns : tie.Need-returns Inv-loop μ-loop
 returns c =
     let w = c .before .before .before .before in
     let l = w .before .before .loop in
-    run-left (l .inv) (omega arith) (ap (λ n. l .sum + n) (upper w)) (ap (λ n. l .sum + w .squared-rows .result .upper + n) (lower w)) (c .before .if1 .taken) (c .leave .ensures)
+    run-left (l .inv) (omega arith) (ap (λ n. l .sum + n) (upper w)) (ap (λ n. l .sum + w .squared-rows .result .upper + n) (lower w)) (omega (arith, c .before .if1 .taken)) (c .leave .ensures)
 
 loop-again : tie.Need-loop-again Inv-loop μ-loop
 loop-again c =
     let w = c .before .before .before in
     let l = w .before .before .loop in
-    run-turn (l .inv) (omega arith) (ap (λ n. l .sum + n) (upper w)) (ap (λ n. l .sum + w .squared-rows .result .upper + n) (lower w)) (omega arith) (c .if1 .left)
+    run-turn (l .inv) (omega arith) (ap (λ n. l .sum + n) (upper w)) (ap (λ n. l .sum + w .squared-rows .result .upper + n) (lower w)) (omega arith) (omega (arith, c .if1 .left))
 
 returns-2 : tie.Need-returns-2 Inv-loop μ-loop
 returns-2 c = run-done (c .before .loop .inv) (omega arith) (lit< tt) refl refl refl
