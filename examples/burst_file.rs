@@ -33,6 +33,7 @@ struct Tuning {
 struct Alignment {
     refusal: u64,
     residuals: [u64; 7],
+    _rows: u64,
 }
 
 #[repr(C)]

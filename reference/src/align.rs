@@ -11,6 +11,8 @@ pub struct Alignment {
     /// "per other frame in that order, the sum of finest residuals; the rest of its seven
     /// places are 0".
     pub residuals: [u64; 7],
+    /// "how many tile rows it summed in all".
+    pub rows: u64,
 }
 
 #[derive(Clone, Copy, Debug, PartialEq, Eq)]
@@ -31,6 +33,16 @@ struct Field {
     columns: i64,
     vectors: Vec<Vector>,
     residual: i64,
+    /// Tile rows summed on this level and those above.
+    summed: u64,
+}
+
+/// What the search of one tile finds.
+struct Found {
+    residual: i64,
+    vector: Vector,
+    /// Tile rows summed, candidates included.
+    summed: u64,
 }
 
 pub fn align(burst: &Burst) -> Alignment {
@@ -38,10 +50,12 @@ pub fn align(burst: &Burst) -> Alignment {
     let mut alignment = Alignment {
         vectors: Vec::new(),
         residuals: [0; 7],
+        rows: 0,
     };
     for (slot, frame) in burst.others().into_iter().enumerate() {
         let field = align_frame(&reference, &pyramid(burst, frame));
         alignment.residuals[slot] = field.residual as u64;
+        alignment.rows += field.summed;
         for vector in field.vectors {
             let parts = [vector.down as i32, vector.right as i32];
             alignment.vectors.extend(parts);
@@ -84,6 +98,7 @@ struct Pair<'a> {
     other: &'a Image,
     side: i64,
     difference: Difference,
+    offsets: Vec<(i64, i64)>,
 }
 
 impl<'a> Pair<'a> {
@@ -98,6 +113,7 @@ impl<'a> Pair<'a> {
                 0 => Difference::Absolute,
                 _ => Difference::Squared,
             },
+            offsets: offsets_in_tie_order(),
         }
     }
 
@@ -117,13 +133,14 @@ impl<'a> Pair<'a> {
             columns: self.tiles(self.reference.width),
             vectors: Vec::new(),
             residual: 0,
+            summed: coarse.map_or(0, |coarse| coarse.field.summed),
         };
         for row in 0..field.rows {
             for column in 0..field.columns {
-                let tile = TilePair::new(self, row, column);
-                let (residual, vector) = tile.best_around(tile.guess(coarse));
-                field.residual += residual;
-                field.vectors.push(vector);
+                let found = TilePair::new(self, row, column).search(coarse);
+                field.residual += found.residual;
+                field.vectors.push(found.vector);
+                field.summed += found.summed;
             }
         }
         field
@@ -155,19 +172,25 @@ impl<'a> TilePair<'a> {
         }
     }
 
-    /// "At level 3 the guess is (0,0)"; elsewhere "least sum of absolute differences becomes
-    /// the guess, the earlier on a tie".
-    fn guess(&self, coarse: Option<Coarse>) -> Vector {
+    /// "At level 3 the guess is (0,0)"; elsewhere "the three candidates are always summed whole".
+    fn search(&self, coarse: Option<Coarse>) -> Found {
         let Some(coarse) = coarse else {
-            return Vector { down: 0, right: 0 };
+            return self.best_around(Vector { down: 0, right: 0 });
         };
         let candidates = self.candidates(coarse);
-        let sum = |vector: &Vector| {
-            let moved = self.moved(*vector, self.pair.side);
-            residual(Difference::Absolute, &self.tile, &moved, 0, 0)
+        let mut found = self.best_around(self.guess(&candidates));
+        found.summed += (candidates.len() * self.tile.side) as u64;
+        found
+    }
+
+    /// "least sum of absolute differences becomes the guess, the earlier on a tie".
+    fn guess(&self, candidates: &[Vector; 3]) -> Vector {
+        let sum = |vector: &&Vector| -> i64 {
+            let moved = self.moved(**vector, self.pair.side);
+            row_sums(Difference::Absolute, &self.tile, &moved, 0, 0).sum()
         };
         // The first of equal minima is taken.
-        candidates.into_iter().min_by_key(sum).unwrap()
+        *candidates.iter().min_by_key(sum).unwrap()
     }
 
     /// "Three candidates, their vectors times f: own; neighbour sideways; neighbour
@@ -194,29 +217,29 @@ impl<'a> TilePair<'a> {
         ]
     }
 
-    /// "all offsets −4..4 in both directions"; "Ties: smaller |down|+|right| offset, then
-    /// smaller down, then smaller right". Returns the residual and the vector.
-    fn best_around(&self, guess: Vector) -> (i64, Vector) {
+    /// "all offsets −4..4 in both directions". Sums are whole: in tie order a later offset has to be better.
+    fn best_around(&self, guess: Vector) -> Found {
         let plus = |down, right| Vector {
             down: guess.down + down,
             right: guess.right + right,
         };
         let around = self.moved(plus(-4, -4), self.pair.side + 8);
-        let offsets = (-4..=4).flat_map(|down| (-4..=4).map(move |right| (down, right)));
-        let tried = offsets.map(|(down, right): (i64, i64)| {
-            let (row, column) = (down + 4, right + 4);
-            let difference = self.pair.difference;
-            let residual = residual(
-                difference,
-                &self.tile,
-                &around,
-                row as usize,
-                column as usize,
-            );
-            (residual, down.abs() + right.abs(), down, right)
-        });
-        let (residual, _, down, right) = tried.min().unwrap();
-        (residual, plus(down, right))
+        let mut best = Found {
+            residual: i64::MAX,
+            vector: guess,
+            summed: 0,
+        };
+        for &(down, right) in &self.pair.offsets {
+            let (row, column) = ((down + 4) as usize, (right + 4) as usize);
+            let sums = row_sums(self.pair.difference, &self.tile, &around, row, column);
+            let (residual, rows) = sum_and_rows(best.residual, sums);
+            best.summed += rows;
+            if residual < best.residual {
+                best.residual = residual;
+                best.vector = plus(down, right);
+            }
+        }
+        best
     }
 
     /// The other frame's square that begins at the tile's origin moved by `vector`.
@@ -226,15 +249,36 @@ impl<'a> TilePair<'a> {
     }
 }
 
-/// The sum over a tile and the part of `around` that begins at `row` and `column`.
-fn residual(
+/// "Ties: smaller |down|+|right| offset, then smaller down, then smaller right."
+fn offsets_in_tie_order() -> Vec<(i64, i64)> {
+    let all = (-4..=4).flat_map(|down| (-4..=4).map(move |right| (down, right)));
+    let mut offsets: Vec<(i64, i64)> = all.collect();
+    offsets.sort_by_key(|&(down, right)| (down.abs() + right.abs(), down, right));
+    offsets
+}
+
+/// The whole sum, and the rows summed when an offset is left "after the row at which its running total reaches the best
+/// so far".
+fn sum_and_rows(best: i64, sums: impl Iterator<Item = i64>) -> (i64, u64) {
+    let (mut total, mut rows) = (0, 0);
+    for sum in sums {
+        if rows == 0 || total < best {
+            rows += 1;
+        }
+        total += sum;
+    }
+    (total, rows)
+}
+
+/// The sums over the rows of a tile and of the part of `around` that begins at `row` and `column`.
+fn row_sums<'a>(
     difference: Difference,
-    tile: &Square,
-    around: &Square,
+    tile: &'a Square,
+    around: &'a Square,
     row: usize,
     column: usize,
-) -> i64 {
-    let row_sum = |y| -> i64 {
+) -> impl Iterator<Item = i64> + 'a {
+    (0..tile.side).map(move |y| {
         let moved = &around.row(row + y)[column..][..tile.side];
         let pixels = tile.row(y).iter().zip(moved);
         let distances = pixels.map(|(a, b)| i64::from(a.abs_diff(*b)));
@@ -242,8 +286,7 @@ fn residual(
             Difference::Absolute => distances.sum(),
             Difference::Squared => distances.map(|distance| distance * distance).sum(),
         }
-    };
-    (0..tile.side).map(row_sum).sum()
+    })
 }
 
 /// Coarse indices of a tile in one direction.
@@ -262,5 +305,30 @@ pub fn own_and_neighbour(index: i64, ratio: i64, last: i64) -> CoarseIndices {
     CoarseIndices {
         own: own.min(last),
         neighbour: neighbour.min(last),
+    }
+}
+
+#[cfg(test)]
+mod tests {
+    use super::*;
+
+    #[test]
+    fn rows_until_the_best_is_reached() {
+        let sums = [3, 3, 4, 9];
+        let rows = |best| sum_and_rows(best, sums.into_iter());
+        assert_eq!(
+            [0, 3, 4, 6, 7, 10].map(rows),
+            [1, 1, 2, 2, 3, 3].map(|rows| (19, rows))
+        );
+        assert_eq!([11, 19, 20, i64::MAX].map(rows), [(19, 4); 4]);
+    }
+
+    #[test]
+    fn offset_zero_comes_first() {
+        let offsets = offsets_in_tie_order();
+        assert_eq!(offsets.len(), 81);
+        let first = [(0, 0), (-1, 0), (0, -1), (0, 1), (1, 0), (-2, 0), (-1, -1)];
+        assert_eq!(offsets[..7], first);
+        assert_eq!(offsets[80], (4, 4));
     }
 }

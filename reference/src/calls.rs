@@ -4,7 +4,7 @@ use crate::align;
 use crate::burst::Burst;
 use crate::merge::{self, Setting};
 use crate::noise::{Denoising, NoiseModel};
-use crate::refusal::{number, require, Refusal};
+use crate::refusal::{require, Refusal};
 use crate::sharpness::sharpest;
 
 /// A call's arguments and lent buffers; of the work area only the length matters here.
@@ -17,11 +17,12 @@ pub struct Call {
     pub work_length: u64,
 }
 
-/// "Align, and so run, also returns ... the sum of finest residuals."
-#[derive(Clone, Copy, Debug, PartialEq, Eq)]
+/// "Align, and so run, also returns ... the sum of finest residuals", and "how many tile rows it summed in all".
+#[derive(Clone, Copy, Debug, Default, PartialEq, Eq)]
 pub struct Answer {
     pub number: u64,
     pub residuals: [u64; 7],
+    pub rows: u64,
 }
 
 impl Call {
@@ -36,7 +37,7 @@ impl Call {
         let accepted = self.check_merge();
         answer(accepted.map(|noise| {
             self.merge_output(noise);
-            [0; 7]
+            Answer::default()
         }))
     }
 
@@ -44,9 +45,9 @@ impl Call {
     pub fn run(&mut self) -> Answer {
         let accepted = self.check_run();
         answer(accepted.map(|noise| {
-            let residuals = self.find_vectors();
+            let found = self.find_vectors();
             self.merge_output(noise);
-            residuals
+            found
         }))
     }
 
@@ -149,11 +150,14 @@ impl Call {
         )
     }
 
-    /// Aligns and returns the residual sums.
-    fn find_vectors(&mut self) -> [u64; 7] {
+    fn find_vectors(&mut self) -> Answer {
         let alignment = align::align(&self.burst);
         self.vectors = alignment.vectors;
-        alignment.residuals
+        Answer {
+            number: 0,
+            residuals: alignment.residuals,
+            rows: alignment.rows,
+        }
     }
 
     fn merge_output(&mut self, noise: NoiseModel) {
@@ -162,9 +166,9 @@ impl Call {
 }
 
 /// "beside a refusal every other returned field is 0".
-fn answer(accepted: Result<[u64; 7], Refusal>) -> Answer {
-    Answer {
-        number: number(&accepted),
-        residuals: accepted.unwrap_or([0; 7]),
-    }
+fn answer(accepted: Result<Answer, Refusal>) -> Answer {
+    accepted.unwrap_or_else(|refusal| Answer {
+        number: refusal.number(),
+        ..Answer::default()
+    })
 }

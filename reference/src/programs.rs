@@ -61,6 +61,7 @@ fn stacked(bytes: &[u8]) -> Result<Stacked, Stop> {
         Answer {
             number: 0,
             residuals,
+            ..
         } => Ok(Stacked { call, residuals }),
         Answer { number, .. } => Err(Stop::Refused(number)),
     }

@@ -30,6 +30,15 @@ fn good() -> Call {
     }
 }
 
+/// All sums of a tile are equal, so every offset is summed whole: 4 tiles of side 8 and 4 + 9 + 25 of side 16.
+fn flat_answer() -> Answer {
+    Answer {
+        number: 0,
+        residuals: [102400, 0, 0, 0, 0, 0, 0],
+        rows: 4 * 648 + 38 * 1344,
+    }
+}
+
 fn with_fault(mut call: Call, number: u64) -> Call {
     add_fault(&mut call, number, &mut Random::new(number));
     call
@@ -46,7 +55,7 @@ fn check_pairs(perform: fn(&mut Call) -> Answer, tested: &[u64]) {
             let mut call = lent.clone();
             let refused = Answer {
                 number,
-                residuals: [0; 7],
+                ..Answer::default()
             };
             assert_eq!(perform(&mut call), refused, "{first} and {second}");
             assert_eq!(call.vectors, lent.vectors);
@@ -101,10 +110,7 @@ fn the_choosing_run_is_run_with_its_choice() {
 
 #[test]
 fn untested_faults_are_accepted() {
-    let accepted = Answer {
-        number: 0,
-        residuals: [102400, 0, 0, 0, 0, 0, 0],
-    };
+    let accepted = flat_answer();
     for fault in [6, 8, 9, 10, 18, 12] {
         let lent = with_fault(good(), fault);
         let mut call = lent.clone();
@@ -152,12 +158,8 @@ fn a_lone_frame_comes_out_unchanged() {
     call.burst.shape.count = 1;
     call.burst.samples = (0..4096).collect();
     call.vectors.clear();
-    let accepted = Answer {
-        number: 0,
-        residuals: [0; 7],
-    };
     for perform in [Call::align, Call::merge, Call::run] {
-        assert_eq!(perform(&mut call), accepted);
+        assert_eq!(perform(&mut call), Answer::default());
     }
     assert_eq!((call.vectors.len(), &call.output), (0, &call.burst.samples));
     for fault in [2, 3, 4, 5, 6, 7, 11] {
@@ -178,4 +180,16 @@ fn spare_words_do_not_count() {
     assert_eq!(answers[0], answers[1]);
     let mut packed = good();
     assert_eq!(answers[0], (packed.run(), packed.vectors, packed.output));
+}
+
+/// Where the best is 0, each of the other 80 offsets is left after one row.
+#[test]
+fn rows_of_equal_frames() {
+    let mut call = good();
+    call.burst.shape.count = 3;
+    call.burst.samples = vec![7; 3 * 4096];
+    call.vectors = vec![0; 100];
+    let rows = 2 * (4 * (8 + 80) + 38 * (48 + 16 + 80));
+    assert_eq!((call.align().rows, call.run().rows), (rows, rows));
+    assert_eq!(call.merge().rows, 0);
 }

@@ -90,7 +90,7 @@ fn pgm_files() {
 fn calls() {
     let twice = [flat_call(), flat_call()].concat();
     let zero_vectors = vec![0; 4 * 50];
-    let sums = words(&[0, 102400, 0, 0, 0, 0, 0, 0]);
+    let sums = words(&[0, 102400, 0, 0, 0, 0, 0, 0, 53664]);
     let aligned = [&sums[..], &zero_vectors, &[[7, 0]; 4096].concat()].concat();
     assert_eq!(
         reference(&["align"], &twice).stdout,

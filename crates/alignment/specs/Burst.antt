@@ -1,5 +1,5 @@
 -- Inner vocabulary: what the loop over the frames asks, and what it leaves.
-use Rattle.algebra.specs.Prelude.{_≡_, List, ℕ, length, ℤ}
+use Rattle.algebra.specs.Prelude.{_≡_, List, ℕ, _≤_, length, ℤ}
 use Rattle.sequences.specs.Write.{written}
 use Rattle.geometry.specs.declared.Shape.{Shape}
 use Rattle.geometry.specs.Read.{Image}
@@ -8,6 +8,10 @@ use Rattle.geometry.specs.Vectors.{word}
 use Rattle.geometry.specs.Fits.{AlignFits, SamplesFit}
 use Rattle.pyramid.specs.Layout.{Levels}
 use Rattle.alignment.specs.Frames.{vectorsOf, residualOf}
+use Rattle.alignment.specs.Rows.{rowsOf, rowsSummed}
+use Rattle.alignment.specs.Magnitudes.{frameRowsMost}
+use Rattle.alignment.specs.declared.fields.Sums.{Sums}
+use Rattle.alignment.specs.declared.burst.Totals.{Totals}
 use Rattle.alignment.specs.Aligned.{alignedVectors, residualSums}
 
 -- what alignment needs: a burst that its tests have let through
@@ -15,15 +19,18 @@ pub record Ready (s : Shape) (reference : ℕ) (samples : List ℕ) (vectors wor
   pub fits : AlignFits s reference (length samples) (length vectors) (length work)
   pub samples-fit : SamplesFit s samples
 
--- what it leaves: the vectors and the sums; the work area keeps its length
-pub record AlignedBurst (s : Shape) (reference : ℕ) (samples : List ℕ) (vectors : List ℤ) (work work′ : List ℤ) (sums : List ℕ) : Type 0 where
+-- what it leaves: the vectors, the sums and the rows summed; the work area keeps its length
+pub record AlignedBurst (s : Shape) (reference : ℕ) (samples : List ℕ) (vectors : List ℤ) (work work′ : List ℤ) (r : Totals) : Type 0 where
   pub found : vectors ≡ alignedVectors s reference samples
-  pub sums-are : sums ≡ residualSums s reference samples
+  pub sums-are : r .residuals ≡ residualSums s reference samples
+  pub rows-are : r .rows ≡ rowsSummed s reference samples
   pub same : length work′ ≡ length work
 
 -- one frame's vectors are written from `to` on, and the reference's pyramid stays
-pub record OneAligned (s : Shape) (reference other : Image) (d : List ℤ) (to : ℕ) (l : List ℤ) (work work′ : List ℤ) (sum : ℕ) : Type 0 where
+pub record OneAligned (s : Shape) (reference other : Image) (d : List ℤ) (to : ℕ) (l : List ℤ) (work work′ : List ℤ) (r : Sums) : Type 0 where
   pub vectors : l ≡ written d to (word (tileColumns s) (vectorsOf s reference other)) (frameParts s)
-  pub residual : sum ≡ residualOf s reference other
+  pub residual-is : r .residual ≡ residualOf s reference other
+  pub rows-are : r .rows ≡ rowsOf s reference other
+  pub few : r .rows ≤ frameRowsMost
   pub levels : Levels s reference 0 work′
   pub same : length work′ ≡ length work

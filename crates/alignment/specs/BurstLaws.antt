@@ -21,6 +21,11 @@ use Rattle.pyramid.specs.Frame.{Frame}
 use Rattle.pyramid.specs.FrameLaws.{frame-fits}
 use Rattle.alignment.specs.Fields.{field0, residualSum}
 use Rattle.alignment.specs.Frames.{pairs, vectorsOf, residualOf}
+use Rattle.alignment.specs.Magnitudes.{frameRowsMost}
+use Rattle.alignment.specs.Rows.{frameRows, rowsOf, rowsSummed}
+use Rattle.alignment.specs.RowLaws.{frame-rows-most}
+use Rattle.alignment.specs.declared.fields.Sums.{Sums}
+use Rattle.sequences.specs.Sum.{Summed, sum-start, sum-turn, sum-done}
 use Rattle.alignment.specs.FrameLaws.{frame-standing, frame-pairs}
 use Rattle.alignment.specs.Sites.{pairsIn, Standing, Aligned}
 use Rattle.alignment.specs.Aligned.{fieldOf, sumOf, alignedVectors, residualSums}
@@ -44,12 +49,15 @@ module _ {s : Shape} {reference other : Image} {d l : List ℤ} (ok : Allowed s)
   both-pairs : pairsIn s l ≡ pairs s reference other
   both-pairs = frame-pairs ok reference-stays (b .levels)
 
-  pub one-aligned : {v v′ : List ℤ} {to : ℕ} {l′ : List ℤ} {sum : ℕ} → Aligned s l v to l′ v′ sum → OneAligned s reference other v to v′ d l′ sum
-  unfolding vectorsOf residualOf
+  pub one-aligned : {v v′ : List ℤ} {to : ℕ} {l′ : List ℤ} {t : Sums} → Aligned s l v to l′ v′ t → OneAligned s reference other v to v′ d l′ t
+  unfolding vectorsOf residualOf rowsOf
   one-aligned {v} {v′} {to} a =
+      let rows = a .rows-are ∙ ap frameRows both-pairs in
       record {
         vectors = a .vectors ∙ ap (λ p. written v to (word (tileColumns s) (field0 p)) (frameParts s)) both-pairs;
-        residual = a .residual ∙ ap residualSum both-pairs;
+        residual-is = a .residual-is ∙ ap residualSum both-pairs;
+        rows-are = rows;
+        few = omega (arith, rows, frame-rows-most ok reference other);
         levels = levels-kept reference-stays (kept-less (omega arith) (a .kept));
         same = a .kept .same ∙ b .same;
       }
@@ -64,6 +72,10 @@ module _ {s : Shape} {reference : ℕ} {samples : List ℕ} {vectors work : List
   pub work-room : alignLength s ≤ length work
   work-room = let e = r .fits .work-long in omega (arith, align-fits (r .fits .burst .allowed))
 
+-- the rows summed for the k-th other frame
+abbrev countOf : (s : Shape) → (reference : ℕ) → (samples : List ℕ) → ℕ → ℕ
+countOf s reference samples k = rowsOf s (sampleAt s samples reference) (sampleAt s samples (otherFrame reference k))
+
 -- the k-th frame's vectors lie within the lent ones
 pub place-room : (s : Shape) (k : ℕ) → k < s .count - 1 → k * frameParts s + frameParts s ≤ vectorLength s
 unfolding vectorLength
@@ -77,48 +89,52 @@ drop-zeros n m = go n m (m - n) (omega arith) (omega arith)
     go (suc n) zero k l h = let e : 0 ≡ k = omega arith in ap (λ i. replicate i 0) e
     go (suc n) (suc m) k l h = go n m k (omega arith) (omega arith)
 
--- the reference's pyramid stands, and the first k other frames have their vectors and sums
-pub record Aligning (s : Shape) (reference : ℕ) (samples : List ℕ) (vectors₀ work₀ : List ℤ) (sums₀ : List ℕ) (k : ℕ) (vectors work : List ℤ) (sums : List ℕ) : Type 0 where
+-- the reference's pyramid stands, and the first k other frames have their vectors, sums and rows
+pub record Aligning (s : Shape) (reference : ℕ) (samples : List ℕ) (vectors₀ work₀ : List ℤ) (sums₀ : List ℕ) (k : ℕ) (vectors work : List ℤ) (sums : List ℕ) (rows : ℕ) : Type 0 where
   pub levels : Levels s (sampleAt s samples reference) 0 work
   pub same : length work ≡ length work₀
   pub writing : Writing vectors₀ 0 (wordOf s (fieldOf s reference samples)) (vectorLength s) (k * frameParts s) vectors
   pub filled : Filled (sumOf s reference samples) 7 k sums₀ sums
+  pub counted : Summed (countOf s reference samples) frameRowsMost (s .count - 1) k rows
 
 module _ {s : Shape} {reference : ℕ} {samples : List ℕ} {vectors₀ work₀ : List ℤ} {sums₀ : List ℕ} where
   pub aligning-start : length vectors₀ ≡ vectorLength s → length sums₀ ≡ 7 → Levels s (sampleAt s samples reference) 0 work₀ →
-      Aligning s reference samples vectors₀ work₀ sums₀ 0 vectors₀ work₀ sums₀
+      Aligning s reference samples vectors₀ work₀ sums₀ 0 vectors₀ work₀ sums₀ 0
   aligning-start long seven h =
       record {
         levels = h;
         same = refl;
         writing = subst (λ j. Writing vectors₀ 0 (wordOf s (fieldOf s reference samples)) (vectorLength s) j vectors₀) (sym (zero-mul (frameParts s))) (write-start (omega arith));
         filled = fill-start seven;
+        counted = sum-start;
       }
 
-  pub aligning-turn : {k frame to : ℕ} {vectors vectors′ work work′ : List ℤ} {sums : List ℕ} {sum : ℕ} → Aligning s reference samples vectors₀ work₀ sums₀ k vectors work sums → k < s .count - 1 → k < 7 →
-      frame ≡ otherFrame reference k → to ≡ k * frameParts s → OneAligned s (sampleAt s samples reference) (sampleAt s samples frame) vectors to vectors′ work work′ sum →
-      Aligning s reference samples vectors₀ work₀ sums₀ (k + 1) vectors′ work′ (set sums k sum)
+  pub aligning-turn : {k frame to : ℕ} {vectors vectors′ work work′ : List ℤ} {sums : List ℕ} {rows : ℕ} {r : Sums} → Aligning s reference samples vectors₀ work₀ sums₀ k vectors work sums rows → k < s .count - 1 → k < 7 →
+      frame ≡ otherFrame reference k → to ≡ k * frameParts s → OneAligned s (sampleAt s samples reference) (sampleAt s samples frame) vectors to vectors′ work work′ r →
+      Aligning s reference samples vectors₀ work₀ sums₀ (k + 1) vectors′ work′ (set sums k (r .residual)) (rows + r .rows)
   unfolding sumOf fieldOf
-  aligning-turn {k} {frame} {to} {vectors} {vectors′} {work} {work′} {sums} {sum} w h l f t b =
-      let a : OneAligned s (sampleAt s samples reference) (sampleAt s samples (otherFrame reference k)) vectors (k * frameParts s) vectors′ work work′ sum =
-      subst₂ (λ f t. OneAligned s (sampleAt s samples reference) (sampleAt s samples f) vectors t vectors′ work work′ sum) f t b in
+  aligning-turn {k} {frame} {to} {vectors} {vectors′} {work} {work′} {sums} {rows} {r} w h l f t b =
+      let a : OneAligned s (sampleAt s samples reference) (sampleAt s samples (otherFrame reference k)) vectors (k * frameParts s) vectors′ work work′ r =
+      subst₂ (λ f t. OneAligned s (sampleAt s samples reference) (sampleAt s samples f) vectors t vectors′ work work′ r) f t b in
       record {
         levels = a .levels;
         same = a .same ∙ w .same;
         writing =
             subst (λ j. Writing vectors₀ 0 (wordOf s (fieldOf s reference samples)) (vectorLength s) j vectors′) (omega (arith, suc-mul k (frameParts s)))
             (write-part (w .writing) (place-room s k h) (λ i b. sym (word-of s (fieldOf s reference samples) k i b)) (rw zero-add (a .vectors)));
-        filled = fill-turn (w .filled) l (a .residual);
+        filled = fill-turn (w .filled) l (a .residual-is);
+        counted = sum-turn (w .counted) h (a .rows-are) (a .few);
       }
 
-  pub aligning-done : {k : ℕ} {vectors work : List ℤ} {sums : List ℕ} → length vectors₀ ≡ vectorLength s → sums₀ ≡ replicate 7 0 → k ≡ s .count - 1 →
-      Aligning s reference samples vectors₀ work₀ sums₀ k vectors work sums → AlignedBurst s reference samples vectors work₀ work sums
-  unfolding alignedVectors vectorList vectorLength residualSums
+  pub aligning-done : {k : ℕ} {vectors work : List ℤ} {sums : List ℕ} {rows : ℕ} → length vectors₀ ≡ vectorLength s → sums₀ ≡ replicate 7 0 → k ≡ s .count - 1 →
+      Aligning s reference samples vectors₀ work₀ sums₀ k vectors work sums rows → AlignedBurst s reference samples vectors work₀ work (record { residuals = sums; rows = rows })
+  unfolding alignedVectors vectorList vectorLength residualSums rowsSummed
   aligning-done {k} {vectors} long zeros e w =
       record {
         found =
             write-done (w .writing) (omega (arith, ap (λ n. n * frameParts s) e))
             ∙ written-all (pos 0) vectors₀ (wordOf s (fieldOf s reference samples)) (vectorLength s) long;
         sums-are = w .filled .is ∙ ap₂ (λ n l. tab n (sumOf s reference samples) ++ drop n l) e zeros ∙ ap (λ l. tab (s .count - 1) (sumOf s reference samples) ++ l) (drop-zeros (s .count - 1) 7);
+        rows-are = sum-done (w .counted) (omega arith);
         same = w .same;
       }

@@ -1,5 +1,5 @@
 -- Laws of fields: what a field's words are, on what a finer field depends, and the bounds 4, 20, 84 and 172.
-use Rattle.algebra.specs.Prelude.{_≡_, refl, sym, _∙_, List, ℕ, zero, suc, _+_, _*_, _/_, _%_, _≤_, _<_, arith, lit≤, length, set, ℤ, pos, natAbs}
+use Rattle.algebra.specs.Prelude.{_≡_, refl, sym, ap, _∙_, List, ℕ, zero, suc, _+_, _*_, _/_, _%_, _≤_, _<_, arith, lit≤, length, set, ℤ, pos, natAbs}
 use Rattle.algebra.specs.Order.{abs-mul-le}
 use Rattle.geometry.specs.Tiles.{Level, level0, level1, level2, level3, Step, step1to0, step2to1, step3to2, own, neighbour, capped}
 use Rattle.sequences.specs.Write.{written, Writing, write-start, write-turn, write-done}
@@ -7,6 +7,8 @@ use Rattle.geometry.specs.declared.vectors.Vector.{Vector}
 use Rattle.search.specs.Vectors.{still, _times_}
 use Rattle.search.specs.Bounds.{Within}
 use Rattle.search.specs.Residual.{Pair}
+use Rattle.search.specs.declared.Tile.{Tile}
+use Rattle.search.specs.Search.{found}
 use Rattle.search.specs.SearchLaws.{found-within, guess-within}
 use Rattle.geometry.specs.Vectors.{Field, numbered, part, word}
 use Rattle.geometry.specs.VectorLaws.{word-down, word-right}
@@ -49,14 +51,19 @@ capped-below : (count index : ℕ) → 0 < count → capped count index < count
 unfolding capped
 capped-below count index h = omega arith
 
-pub finer-agree : (l : Level) (s : Step) (rows columns : ℕ) (p : Pair) (f g : Field) → 0 < rows → 0 < columns → ((row column : ℕ) → row < rows → column < columns → f row column ≡ g row column) → (row column : ℕ) → finer l s rows columns p f row column ≡ finer l s rows columns p g row column
-unfolding finer fromCoarse
-finer-agree l s rows columns p f g hr hc e row column =
+pub from-coarse-agree : (s : Step) (rows columns : ℕ) (p : Pair) (t : Tile) (f g : Field) → 0 < rows → 0 < columns → ((row column : ℕ) → row < rows → column < columns → f row column ≡ g row column) → (row column : ℕ) → fromCoarse s rows columns p t f row column ≡ fromCoarse s rows columns p t g row column
+unfolding fromCoarse
+from-coarse-agree s rows columns p t f g hr hc e row column =
     let r = capped-below rows (own (s .quotient) row) hr in
     let r′ = capped-below rows (neighbour (s .quotient) row) hr in
     let k = capped-below columns (own (s .quotient) column) hc in
     let k′ = capped-below columns (neighbour (s .quotient) column) hc in
     rw (e _ _ r k, e _ _ r k′, e _ _ r′ k)
+
+pub finer-agree : (l : Level) (s : Step) (rows columns : ℕ) (p : Pair) (f g : Field) → 0 < rows → 0 < columns → ((row column : ℕ) → row < rows → column < columns → f row column ≡ g row column) → (row column : ℕ) → finer l s rows columns p f row column ≡ finer l s rows columns p g row column
+unfolding finer
+finer-agree l s rows columns p f g hr hc e row column =
+    ap (found (l .squared) p (tileAt l row column)) (from-coarse-agree s rows columns p (tileAt l row column) f g hr hc e row column)
 
 -- "vectors found level by level reach at most 4, 20, 84 and 172"
 times-within : {v : Vector} (b f : ℕ) → Within b v → Within (b * f) (v times f)

@@ -17,11 +17,14 @@ use Rattle.alignment.specs.declared.matching.Area.{Area}
 use Rattle.search.specs.Bounds.{Within}
 use Rattle.geometry.specs.Vectors.{Field, word}
 use Rattle.alignment.specs.Fields.{levelAt, levelRows, levelColumns, coarsest, finer, field0, field1, field2, field3, residuals, residualSum}
+use Rattle.alignment.specs.Rows.{coarsestRows, finerRows, rows0, rows1, rows2, rows3, coarseRows, frameRows}
+use Rattle.alignment.specs.RowLaws.{finer-rows-agree}
+use Rattle.alignment.specs.declared.fields.Sums.{Sums}
 use Rattle.alignment.specs.Steps.{stepTo}
 use Rattle.alignment.specs.FieldLaws.{finer-agree, word-most, field0-within, field1-within, field2-within, field3-within}
 use Rattle.alignment.specs.Stored.{pairIn, Stored, Before, Few}
 use Rattle.alignment.specs.StoredLaws.{kept-stored, kept-pair}
-use Rattle.alignment.specs.Grids.{fieldAt, finestIn, Finest}
+use Rattle.alignment.specs.Grids.{fieldAt, finestIn, finerRowsIn, Finest}
 use Rattle.alignment.specs.GridLaws.{written-field, written-vectors}
 use Rattle.alignment.specs.Sites.{areaAt, gridAt, after, pairsIn, Standing, Reached, Aligned}
 
@@ -87,6 +90,12 @@ module _ {d : List ℤ} {base : ℕ} where
       ap (λ p. finer v s (g .rows) (g .columns) p (fieldAt l (g .at) (g .columns))) (kept-pair (r .kept) a stored before)
       ∙ fun-ext (λ row. fun-ext (λ column. finer-agree v s (g .rows) (g .columns) (pairIn d a) (fieldAt l (g .at) (g .columns)) f (r .vectors .some-rows) (r .vectors .some-columns) (r .field) row column))
 
+  -- and the rows summed for it are
+  next-counted : {g : Grid} {f : Field} {l : List ℤ} (v : Level) (s : Step) (a : Area) → Reached d base g f l → Stored d a → Before a base → (rows columns : ℕ) → finerRows v s (g .rows) (g .columns) (pairIn l a) (fieldAt l (g .at) (g .columns)) rows columns ≡ finerRows v s (g .rows) (g .columns) (pairIn d a) f rows columns
+  next-counted {g} {f} {l} v s a r stored before rows columns =
+      ap (λ p. finerRows v s (g .rows) (g .columns) p (fieldAt l (g .at) (g .columns)) rows columns) (kept-pair (r .kept) a stored before)
+      ∙ finer-rows-agree v s (g .rows) (g .columns) (pairIn d a) (fieldAt l (g .at) (g .columns)) f (r .vectors .some-rows) (r .vectors .some-columns) (r .field) rows columns
+
 -- the pyramids still stand
 pub standing-kept : {shape : Shape} {d l : List ℤ} → Standing shape d → Kept d (2 * pyramidLength shape) l → Standing shape l
 standing-kept {shape} s k = record { stored = λ n. kept-stored k (areaAt shape n) (s .stored n) (area-before shape n) }
@@ -110,6 +119,13 @@ unfolding gridAt pairsIn levelRows levelColumns levelTiles areaAt pairIn
 next-field shape {d} {l} {g} {f} k c at r s e =
     next (levelAt k) (stepTo k) (areaAt shape k) r (s .stored k) (area-before shape k)
     ∙ ap (λ g. finer (levelAt k) (stepTo k) (g .rows) (g .columns) (pairsIn shape d k) f) e
+
+-- and so are the rows summed for a level: h is its grid
+counted : (shape : Shape) {d l : List ℤ} {g h : Grid} {f : Field} (k c at to : ℕ) → Reached d (2 * pyramidLength shape) g f l → Standing shape d → g ≡ gridAt shape c at → h ≡ gridAt shape k to → finerRows (levelAt k) (stepTo k) (g .rows) (g .columns) (pairsIn shape l k) (fieldAt l (g .at) (g .columns)) (h .rows) (h .columns) ≡ finerRows (levelAt k) (stepTo k) (levelRows (levelAt c) (pairsIn shape d c)) (levelColumns (levelAt c) (pairsIn shape d c)) (pairsIn shape d k) f (levelRows (levelAt k) (pairsIn shape d k)) (levelColumns (levelAt k) (pairsIn shape d k))
+unfolding gridAt pairsIn levelRows levelColumns levelTiles areaAt pairIn
+counted shape {d} {l} {g} {h} {f} k c at to r s e i =
+    next-counted (levelAt k) (stepTo k) (areaAt shape k) r (s .stored k) (area-before shape k) (h .rows) (h .columns)
+    ∙ ap₂ (λ g h. finerRows (levelAt k) (stepTo k) (g .rows) (g .columns) (pairsIn shape d k) f (h .rows) (h .columns)) e i
 
 -- where the vectors of levels 3, 2 and 1 stand
 abbrev pub site3 : Shape → Grid
@@ -152,6 +168,24 @@ module _ {shape : Shape} {d : List ℤ} (s : Standing shape d) (room : alignLeng
       (el ∙ ap (λ f. written m (after (site2 shape)) (word (g .columns) f) (2 * (g .rows * g .columns))) (next-field shape 1 2 (after (site3 shape)) r s ec))
       (lit≤ tt) (field1-within (pairsIn shape d))
 
+  -- the rows summed for the three
+  pub counted3 : (g : Grid) → g ≡ site3 shape → coarsestRows level3 (pairsIn shape d 3) (g .rows) (g .columns) ≡ rows3 (pairsIn shape d)
+  unfolding rows3 gridAt pairsIn levelRows levelColumns levelTiles areaAt pairIn
+  counted3 g e = ap (λ g. coarsestRows level3 (pairsIn shape d 3) (g .rows) (g .columns)) e
+
+  pub counted2 : {m : List ℤ} (c g : Grid) → Reached d (2 * pyramidLength shape) c (field3 (pairsIn shape d)) m → c ≡ site3 shape → g ≡ site2 shape → finerRows level2 step3to2 (c .rows) (c .columns) (pairsIn shape m 2) (fieldAt m (c .at) (c .columns)) (g .rows) (g .columns) ≡ rows2 (pairsIn shape d)
+  unfolding rows2
+  counted2 c g r ec e = counted shape 2 3 (2 * pyramidLength shape) (after (site3 shape)) r s ec e
+
+  pub counted1 : {m : List ℤ} (c g : Grid) → Reached d (2 * pyramidLength shape) c (field2 (pairsIn shape d)) m → c ≡ site2 shape → g ≡ site1 shape → finerRows level1 step2to1 (c .rows) (c .columns) (pairsIn shape m 1) (fieldAt m (c .at) (c .columns)) (g .rows) (g .columns) ≡ rows1 (pairsIn shape d)
+  unfolding rows1
+  counted1 c g r ec e = counted shape 1 2 (after (site3 shape)) (after (site2 shape)) r s ec e
+
+  counted0 : {l : List ℤ} {a : Area} (c g : Grid) → Reached d (2 * pyramidLength shape) c (field1 (pairsIn shape d)) l → c ≡ gridAt shape 1 (c .at) → a ≡ areaAt shape 0 → g ≡ gridAt shape 0 0 → finerRowsIn 0 l a c (g .rows) (g .columns) ≡ rows0 (pairsIn shape d)
+  unfolding rows0 pairsIn
+  counted0 {l} {a} c g r ec ea eg =
+      ap (λ a. finerRowsIn 0 l a c (g .rows) (g .columns)) ea ∙ counted shape 0 1 (c .at) 0 r s ec eg
+
   -- and level 0's as well, from what stands there
   pub finest-field : {l : List ℤ} (c : Grid) → Reached d (2 * pyramidLength shape) c (field1 (pairsIn shape d)) l → c ≡ gridAt shape 1 (c .at) → finestIn l (areaAt shape 0) c ≡ field0 (pairsIn shape d)
   unfolding finestIn field0 pairsIn
@@ -167,9 +201,9 @@ module _ {shape : Shape} {d : List ℤ} (s : Standing shape d) (room : alignLeng
       rw (← finest-tiles (ok .high), ← finest-tiles (ok .wide))
       (ap₂ (λ q w. residuals level0 q (levelTiles level0 (shape .height)) (levelTiles level0 (shape .width)) w) (finest-pair r) (finest-field c r e))
 
-  pub aligned : Allowed shape → {l v v′ : List ℤ} {to sum : ℕ} {c g : Grid} {a : Area} → Reached d (2 * pyramidLength shape) c (field1 (pairsIn shape d)) l → c ≡ gridAt shape 1 (c .at) → a ≡ areaAt shape 0 → g ≡ gridAt shape 0 0 → to + frameParts shape ≤ length v → Finest l a c (g .rows) (g .columns) v to v′ sum → Aligned shape d v to l v′ sum
-  unfolding gridAt
-  aligned ok {l} {v} {v′} {to} {sum} {c} {g} {a} r ec ea eg fits fin =
+  pub aligned : Allowed shape → {l v v′ : List ℤ} {to n : ℕ} {t : Sums} {c g : Grid} {a : Area} → Reached d (2 * pyramidLength shape) c (field1 (pairsIn shape d)) l → c ≡ gridAt shape 1 (c .at) → n ≡ coarseRows (pairsIn shape d) → a ≡ areaAt shape 0 → g ≡ gridAt shape 0 0 → to + frameParts shape ≤ length v → Finest l a c (g .rows) (g .columns) v to v′ t → Aligned shape d v to l v′ (record { residual = t .residual; rows = n + t .rows })
+  unfolding gridAt frameRows
+  aligned ok {l} {v} {v′} {to} {n} {t} {c} {g} {a} r ec en ea eg fits fin =
       let f = rw (ea, eg, finest-tiles (ok .high), finest-tiles (ok .wide)) at fin in
       let columns = tileColumns shape in
       let w = field0 (pairsIn shape d) in
@@ -179,7 +213,8 @@ module _ {shape : Shape} {d : List ℤ} (s : Standing shape d) (room : alignLeng
         bound = λ k h.
             subst (λ z. natAbs z ≤ 172) (sym (ap (λ x. getD x (to + k) (pos 0)) e ∙ written-in v to (word columns w) (frameParts shape) (pos 0) fits k h))
             (word-most columns w 172 (field0-within (pairsIn shape d)) k);
-        residual = f .residual ∙ finest-sum ok c r ec;
+        residual-is = f .residual-is ∙ finest-sum ok c r ec;
         most = fin .most;
+        rows-are = ap₂ _+_ en (fin .rows-are ∙ counted0 c g r ec ea eg);
         kept = r .kept;
       }

@@ -1,5 +1,6 @@
 pub mod Fields
 pub mod Frames
+pub mod Rows
 pub mod Aligned
 pub mod Magnitudes
 pub mod Steps
@@ -8,6 +9,7 @@ pub mod Grids
 pub mod Sites
 pub mod Burst
 pub mod FieldLaws
+pub mod RowLaws
 pub mod StoredLaws
 pub mod GridLaws
 pub mod LevelLaws

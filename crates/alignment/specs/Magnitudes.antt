@@ -21,3 +21,14 @@ wayMost = 257
 
 abbrev pub tilesMost : ℕ
 tilesMost = 66049
+
+-- the rows summed for a tile of side 16: 81 · 16 and the candidates' 48
+abbrev pub tileRowsMost : ℕ
+tileRowsMost = 1344
+
+-- those of a frame of 4096 by 4096: 1344 · (257² + 129² + 33²) + 648 · 17², and of its burst of eight
+abbrev pub frameRowsMost : ℕ
+frameRowsMost = 112786248
+
+abbrev pub burstRowsMost : ℕ
+burstRowsMost = 789503736

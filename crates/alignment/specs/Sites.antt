@@ -8,6 +8,8 @@ use Rattle.pyramid.specs.WordsLaws.{Kept}
 use Rattle.sequences.specs.Write.{written}
 use Rattle.search.specs.Magnitudes.{residualMost}
 use Rattle.alignment.specs.Magnitudes.{tilesMost}
+use Rattle.alignment.specs.declared.fields.Sums.{Sums}
+use Rattle.alignment.specs.Rows.{frameRows}
 use Rattle.alignment.specs.declared.levels.Grid.{Grid}
 use Rattle.alignment.specs.declared.matching.Area.{Area}
 use Rattle.search.specs.Residual.{Pair}
@@ -53,10 +55,12 @@ pub record Reached (d : List ℤ) (base : ℕ) (g : Grid) (f : Field) (l : List 
   pub vectors : Vectors l g
   pub field : (row column : ℕ) → row < g .rows → column < g .columns → fieldAt l (g .at) (g .columns) row column ≡ f row column
 
--- the vectors at level 0 are written from `to` on, with parts of at most 172, the sum of their residuals is answered, and the pyramids stay
-pub record Aligned (shape : Shape) (words : List ℤ) (d : List ℤ) (to : ℕ) (words′ l : List ℤ) (sum : ℕ) : Type 0 where
+-- the vectors at level 0 are written from `to` on, with parts of at most 172, the sum of their residuals and the rows summed are answered, and the
+-- pyramids stay
+pub record Aligned (shape : Shape) (words : List ℤ) (d : List ℤ) (to : ℕ) (words′ l : List ℤ) (r : Sums) : Type 0 where
   pub vectors : l ≡ written d to (word (tileColumns shape) (field0 (pairsIn shape words))) (frameParts shape)
   pub bound : (k : ℕ) → k < frameParts shape → natAbs (getD l (to + k) (pos 0)) ≤ level0 .bound
-  pub residual : sum ≡ residualSum (pairsIn shape words)
-  pub most : sum ≤ tilesMost * residualMost
+  pub residual-is : r .residual ≡ residualSum (pairsIn shape words)
+  pub most : r .residual ≤ tilesMost * residualMost
+  pub rows-are : r .rows ≡ frameRows (pairsIn shape words)
   pub kept : Kept words (2 * pyramidLength shape) words′

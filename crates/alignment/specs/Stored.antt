@@ -1,5 +1,5 @@
 -- Inner vocabulary: a level's two images where they stand in the work area, and a tile of the reference in a local array.
-use Rattle.algebra.specs.Prelude.{_≡_, Bool, List, ℕ, _+_, _*_, _%_, _≤_, _<_, length, ℤ, negsuc, _+ℤ_}
+use Rattle.algebra.specs.Prelude.{_≡_, Bool, cond, List, ℕ, _+_, _*_, _%_, _≤_, _<_, ltb, length, ℤ, negsuc, _+ℤ_}
 use Rattle.geometry.specs.Read.{read}
 use Rattle.pyramid.specs.Words.{imageAt, Source}
 use Rattle.search.specs.declared.Tile.{Tile}
@@ -10,6 +10,7 @@ use Rattle.alignment.specs.Magnitudes.{originMost, wayMost}
 use Rattle.search.specs.Bounds.{Within}
 use Rattle.search.specs.Residual.{Pair, residual}
 use Rattle.search.specs.Search.{found, guessed}
+use Rattle.search.specs.Rows.{searchRows}
 use Rattle.search.specs.Local.{Copied}
 
 -- the images that stand there, read inside and outside
@@ -55,13 +56,19 @@ pub record Around (words : List ℤ) (a : Area) (t : Tile) (guess : Vector) (win
   pub room : (t .side + 8) * (t .side + 8) ≤ length window
   pub copied : Copied window (t .side + 8) (t .side + 8) (pairIn words a .other) (t .origin .down +ℤ guess .down +ℤ negsuc 3) (t .origin .right +ℤ guess .right +ℤ negsuc 3)
 
--- the answer for a tile: a vector and its residual
-abbrev pub answer : (squared : Bool) → Pair → Tile → Vector → Found
-answer squared p t v = record { vector = v; residual = residual squared p t v }
+-- the answer for a tile: a vector, its residual, and the rows summed
+abbrev pub answer : (squared : Bool) → Pair → Tile → Vector → (rows : ℕ) → Found
+answer squared p t v rows = record { vector = v; residual = residual squared p t v; rows = rows }
 
--- that of the search around a guess, in the images that stand there
-abbrev pub refined : (squared : Bool) → List ℤ → Area → Tile → (guess : Vector) → Found
-refined squared words a t guess = answer squared (pairIn words a) t (found squared (pairIn words a) t guess)
+-- that of the search around a guess, in the images that stand there, after so many rows
+abbrev pub refined : (squared : Bool) → List ℤ → Area → Tile → (guess : Vector) → (before : ℕ) → Found
+refined squared words a t guess before =
+    answer squared (pairIn words a) t (found squared (pairIn words a) t guess) (before + searchRows squared (pairIn words a) t guess)
+
+-- the first of three vectors whose numbers are least
+abbrev pub leastOfThree : (own sideways vertically : Vector) → (first second third : ℕ) → Vector
+leastOfThree own sideways vertically first second third =
+    cond (ltb second first) (cond (ltb third second) vertically sideways) (cond (ltb third first) vertically own)
 
 -- the guess of three candidates there
 abbrev pub guessedIn : List ℤ → Area → Tile → (own sideways vertically : Vector) → Vector

@@ -1,7 +1,8 @@
 -- From what is copied and searched to the answer for a tile.
 use mathlib.Core.Path.{_≡_, refl, sym, ap, ap₂, _∙_, subst, fun-ext}
-use Rattle.algebra.specs.Prelude.{Bool, false, List, ℕ, zero, suc, _+_, _*_, _/_, _%_, _^_, _≤_, _<_, arith, lit≤, length, getD, ℤ, pos, _+ℤ_}
-use native.Mathlib.Nat.{mul-le-mul, zero-mul, div-add-mod'}
+use Rattle.algebra.specs.Prelude.{Bool, true, false, cond, List, ℕ, zero, suc, _+_, _*_, _/_, _%_, _^_, _≤_, _<_, arith, lit≤, ltb, length, getD, ℤ, pos, _+ℤ_}
+use borrow.Author.Tests.{ltb-true, ltb-false}
+use native.Mathlib.Nat.{mul-le-mul, zero-add, zero-mul, div-add-mod'}
 use Rattle.geometry.specs.Read.{inside, read}
 use Rattle.geometry.specs.ReadLaws.{inside-below}
 use Rattle.geometry.specs.Tiles.{Level, level3, Step}
@@ -17,14 +18,17 @@ use Rattle.search.specs.Bounds.{Within}
 use Rattle.search.specs.VectorLaws.{within-more}
 use Rattle.search.specs.Offsets.{offset}
 use Rattle.search.specs.Residual.{Pair, residual}
-use Rattle.search.specs.Search.{found}
-use Rattle.search.specs.SearchLaws.{found-within}
+use Rattle.search.specs.Search.{found, guessed}
+use Rattle.search.specs.SearchLaws.{found-within, guess-own, guess-sideways, guess-third, guess-last}
+use Rattle.search.specs.Rows.{offsetRows, searchRows, candidateRows}
+use Rattle.search.specs.RowLaws.{offset-rows-most}
+use Rattle.algebra.specs.SumLaws.{sumN-bound}
 use Rattle.geometry.specs.Vectors.{Field}
 use Rattle.alignment.specs.Fields.{levelAt, tileAt, coarsest, fromCoarse, finer}
 use Rattle.sequences.specs.Place.{row-below, column-below}
-use Rattle.search.specs.Local.{squareSum, Low, Window, Searched, Copied}
+use Rattle.search.specs.Local.{squareSum, windowRow, Low, Window, Searched, Copied}
 use Rattle.search.specs.LocalLaws.{middle-residual, searched-finds}
-use Rattle.alignment.specs.Stored.{pairIn, Stored, Before, Placed, Ready, Around, answer, refined}
+use Rattle.alignment.specs.Stored.{pairIn, Stored, Before, Placed, Ready, Around, answer, refined, leastOfThree}
 
 -- what is copied from an image is low
 pub copied-low : {words : List ℤ} {from height width : ℕ} → Source words from height width → {l : List ℕ} {n : ℕ} {row column : ℤ} → n * n ≤ length l → Copied l n n (read height width (imageAt words from width)) row column → Low l (n * n)
@@ -72,24 +76,44 @@ module _ {words : List ℤ} {a : Area} {t : Tile} {samples : List ℕ} {guess : 
       ∙ middle-residual false (pairIn words a) t guess samples window (r .copied) (w .copied)
 
   -- the answer that the search there gives
-  pub search-answer : {squared : Bool} {best : Best} {f : Found} {n : ℕ} → t .side ≡ n → Searched squared samples window n best → f .vector ≡ guess plus offset (best .offset) → f .residual ≡ best .residual → f ≡ refined squared words a t guess
+  pub search-answer : (squared : Bool) (before : ℕ) {best : Best} {f : Found} {n : ℕ} → t .side ≡ n → Searched (windowRow squared samples window n) n best → (f .vector ≡ guess plus offset (best .offset)) × (f .residual ≡ best .residual) × (f .rows ≡ before + best .rows) → f ≡ refined squared words a t guess before
   unfolding found
-  search-answer {squared} {best} {f} side s ev er =
-      let (is, low) = searched-finds squared (pairIn words a) t guess samples window best (r .copied) (w .copied) (subst (λ n. Searched squared samples window n best) (sym side) s) in
-      ap₂ (λ v n. record { vector = v; residual = n }) (ev ∙ ap (λ k. guess plus offset k) is) (er ∙ low)
+  search-answer squared before {best} {f} {n} side s e =
+      let (is, low, rows) = searched-finds squared (pairIn words a) t guess samples window best (r .copied) (w .copied) (subst (λ n. Searched (windowRow squared samples window n) n best) (sym side) s) in
+      let ev = e .0 ∙ ap (λ k. guess plus offset k) is in
+      let er = e .1 ∙ low in
+      let es = e .2 ∙ ap (λ m. before + m) rows in
+      made ev er es
+    where
+      made : {v v′ : Vector} {m m′ k k′ : ℕ} → v ≡ v′ → m ≡ m′ → k ≡ k′ → _≡_ {A = Found} (record { vector = v; residual = m; rows = k }) (record { vector = v′; residual = m′; rows = k′ })
+      made ev er es = rw (ev, er, es)
+
+-- the rows of a search
+pub searched-few : {f : ℕ → ℕ → ℕ} {n : ℕ} {best : Best} → Searched f n best → n ≤ 16 → best .rows ≤ 1296
+searched-few {f} {n} s h = omega (arith, s .rows-are, sumN-bound 81 n (offsetRows f n) (λ k l. offset-rows-most f n k))
+
+-- the first of the least of three candidates is the guess
+pub guess-is : (p : Pair) (t : Tile) (own sideways vertically : Vector) (x y z : ℕ) → x ≡ residual false p t own → y ≡ residual false p t sideways → z ≡ residual false p t vertically → leastOfThree own sideways vertically x y z ≡ guessed p t own sideways vertically
+guess-is p t own sideways vertically x y z ex ey ez = by (ltb y x) refl (ltb z y) refl (ltb z x) refl
+  where
+    by : (d : Bool) → ltb y x ≡ d → (e : Bool) → ltb z y ≡ e → (f : Bool) → ltb z x ≡ f → cond d (cond e vertically sideways) (cond f vertically own) ≡ guessed p t own sideways vertically
+    by true h true k f l = guess-last p t own sideways vertically x y z ex ey ez (ltb-true y x h) (ltb-true z y k)
+    by true h false k f l = guess-sideways p t own sideways vertically x y z ex ey ez (ltb-true y x h) (ltb-false z y k)
+    by false h e k true l = guess-third p t own sideways vertically x y z ex ey ez (ltb-false y x h) (ltb-true z x l)
+    by false h e k false l = guess-own p t own sideways vertically x y z ex ey ez (ltb-false y x h) (ltb-false z x l)
 
 -- the answer's parts are at most 4 more than the guess's
-pub answer-within : (squared : Bool) (p : Pair) (t : Tile) (guess : Vector) (r : Found) → r ≡ answer squared p t (found squared p t guess) → (b : ℕ) → Within b guess → Within (b + 4) (r .vector)
-answer-within squared p t guess r is b w = subst (Within (b + 4)) (sym (ap (λ x. x .vector) is)) (found-within squared p t guess b w)
+pub answer-within : (squared : Bool) (p : Pair) (t : Tile) (guess : Vector) (n : ℕ) (r : Found) → r ≡ answer squared p t (found squared p t guess) n → (b : ℕ) → Within b guess → Within (b + 4) (r .vector)
+answer-within squared p t guess n r is b w = subst (Within (b + 4)) (sym (ap (λ x. x .vector) is)) (found-within squared p t guess b w)
 
 -- the answer for a level's tile
 module _ (l : Level) (p : Pair) (row column : ℕ) (t : Tile) (r : Found) (at : t ≡ tileAt l row column) where
-  pub coarsest-answer : r ≡ answer (l .squared) p t (found (l .squared) p t still) → r ≡ answer (l .squared) p (tileAt l row column) (coarsest l p row column)
+  pub coarsest-answer : r ≡ answer (l .squared) p t (found (l .squared) p t still) (0 + searchRows (l .squared) p t still) → r ≡ answer (l .squared) p (tileAt l row column) (coarsest l p row column) (searchRows (l .squared) p (tileAt l row column) still)
   unfolding coarsest
-  coarsest-answer is = is ∙ rw at
+  coarsest-answer is = is ∙ rw (at, zero-add (searchRows (l .squared) p (tileAt l row column) still))
 
-  pub finer-answer : (s : Step) (rows columns : ℕ) (coarse : Field) → r ≡ answer (l .squared) p t (found (l .squared) p t (fromCoarse s rows columns p t coarse row column)) → r ≡ answer (l .squared) p (tileAt l row column) (finer l s rows columns p coarse row column)
-  unfolding finer
+  pub finer-answer : (s : Step) (rows columns : ℕ) (coarse : Field) → r ≡ answer (l .squared) p t (found (l .squared) p t (fromCoarse s rows columns p t coarse row column)) (3 * t .side + searchRows (l .squared) p t (fromCoarse s rows columns p t coarse row column)) → r ≡ answer (l .squared) p (tileAt l row column) (finer l s rows columns p coarse row column) (candidateRows (l .squared) p (tileAt l row column) (fromCoarse s rows columns p (tileAt l row column) coarse row column))
+  unfolding finer candidateRows
   finer-answer s rows columns coarse is = is ∙ rw at
 
 -- the tiles of level 3 have side 8

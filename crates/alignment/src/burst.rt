@@ -8,12 +8,20 @@ ghost use Rattle.geometry.specs.Tiles.{frameParts};
 ghost use Rattle.pyramid.specs.Layout.{alignLength, Levels};
 ghost use Rattle.pyramid.specs.Frame.{Frame};
 ghost use Rattle.alignment.specs.Burst.{Ready, AlignedBurst, OneAligned};
+use crate::fields::Sums;
 use crate::frame::align_levels;
 use geometry::Shape;
 use geometry::tiles::frame_parts;
 use geometry::vectors::other_frame;
 
-// One frame against the reference, whose pyramid stands at the work area's start: its vectors from `to` on, and the sum of their residuals.
+// What aligning a burst adds up: the sums of residuals of the other frames in rising index, unused places 0, and the tile rows that were summed in all.
+pub struct Totals {
+    pub residuals: [u64; 7],
+    pub rows: u64,
+}
+
+// One frame against the reference, whose pyramid stands at the work area's start: its vectors from `to` on, the sum of their residuals, and the
+// tile rows that were summed.
 fn align_frame(
     shape: Shape,
     reference: usize,
@@ -22,7 +30,7 @@ fn align_frame(
     vectors: &mut [i32],
     to: usize,
     work: &mut [i64],
-) -> u64
+) -> Sums
     requires { ⌜ (Frame shape frame (now samples)) × (Levels shape (sampleAt shape (now samples) reference) 0 (now work)) × (alignLength shape ≤ length (now work)) × (to + frameParts shape ≤ length (now vectors)) ⌝ }
     ensures { λ r. ⌜ OneAligned shape (sampleAt shape (now (samples .entry)) reference) (sampleAt shape (now (samples .entry)) frame) (now (vectors .entry)) to (now (vectors .exit)) (now (work .entry)) (now (work .exit)) r ⌝ }
 {
@@ -31,23 +39,24 @@ fn align_frame(
     align_levels(shape, &mut *work, &mut *vectors, to)
 }
 
-// The vectors of every other frame in rising index, and their sums of residuals; unused places are 0. It neither tests nor clears.
+// The vectors of every other frame in rising index, their sums of residuals, and the tile rows that were summed. It neither tests nor clears.
 pub fn align_frames(
     shape: Shape,
     reference: usize,
     samples: &[u16],
     vectors: &mut [i32],
     work: &mut [i64],
-) -> [u64; 7]
+) -> Totals
     requires { ⌜ Ready shape reference (now samples) (now vectors) (now work) ⌝ }
     ensures { λ r. ⌜ AlignedBurst shape reference (now (samples .entry)) (now (vectors .exit)) (now (work .entry)) (now (work .exit)) r ⌝ }
 {
     pyramid::build(shape, reference, samples, &mut *work, 0);
     let parts = frame_parts(shape);
     let mut sums = [0u64; 7];
+    let mut rows: u64 = 0;
     for k in 0..shape.count - 1 {
         let frame = other_frame(reference, k);
-        sums[k] = align_frame(
+        let aligned = align_frame(
             shape,
             reference,
             frame,
@@ -56,6 +65,11 @@ pub fn align_frames(
             k * parts,
             &mut *work,
         );
+        sums[k] = aligned.residual;
+        rows += aligned.rows;
     }
-    sums
+    Totals {
+        residuals: sums,
+        rows: rows,
+    }
 }

@@ -4,12 +4,13 @@ ghost use Prim.Native.Nat.{_+_, _*_, _≤_, _<_};
 ghost use lib.ListN.{length, set};
 ghost use Rattle.geometry.specs.Tiles.{level3};
 ghost use Rattle.sequences.specs.Write.{written};
-ghost use Rattle.alignment.specs.Magnitudes.{foundMost};
+ghost use Rattle.alignment.specs.Magnitudes.{foundMost, tilesMost, tileRowsMost};
 ghost use Rattle.search.specs.Bounds.{Within};
 ghost use Rattle.geometry.specs.Vectors.{word};
 ghost use Rattle.alignment.specs.Fields.{coarsest};
 ghost use Rattle.alignment.specs.Stored.{pairIn, Stored, Before, Few};
-ghost use Rattle.alignment.specs.Grids.{Vectors, Ends, finerIn, Finest};
+ghost use Rattle.alignment.specs.Grids.{Vectors, Ends, finerIn, finerRowsIn, Finest};
+ghost use Rattle.alignment.specs.Rows.{coarsestRows};
 use crate::levels::Grid;
 use crate::levels::coarsest_tile;
 use crate::levels::finer_tile;
@@ -27,19 +28,28 @@ fn put(work: &mut [i64], at: usize, v: Vector)
     work[at + 1] = right;
 }
 
-// Level 3, into the work area from `to` on.
-pub fn coarsest_field(work: &mut [i64], area: Area, to: usize, rows: usize, columns: usize)
+// What a frame's finest level adds up: its residuals, and the tile rows that were summed.
+pub struct Sums {
+    pub residual: u64,
+    pub rows: u64,
+}
+
+// Level 3, into the work area from `to` on, and the tile rows that were summed.
+pub fn coarsest_field(work: &mut [i64], area: Area, to: usize, rows: usize, columns: usize) -> u64
     requires { ⌜ (Stored (now work) area) × (Before area to) × (Few rows columns) × (to + 2 * (rows * columns) ≤ length (now work)) ⌝ }
-    ensures { λ _. ⌜ now (work .exit) ≡ written (now (work .entry)) to (word columns (coarsest level3 (pairIn (now (work .entry)) area))) (2 * (rows * columns)) ⌝ }
+    ensures { λ r. ⌜ (now (work .exit) ≡ written (now (work .entry)) to (word columns (coarsest level3 (pairIn (now (work .entry)) area))) (2 * (rows * columns))) × (r ≡ coarsestRows level3 (pairIn (now (work .entry)) area) rows columns) × (r ≤ tilesMost * tileRowsMost) ⌝ }
 {
+    let mut summed: u64 = 0;
     for k in 0..rows * columns {
         let found = coarsest_tile(&*work, area, k / columns, k % columns);
         let v = found.vector;
         put(&mut *work, to + 2 * k, v);
+        summed += found.rows;
     }
+    summed
 }
 
-// A level from 2 to 0, into the work area from `to` on.
+// A level from 2 to 0, into the work area from `to` on, and the tile rows that were summed.
 pub fn finer_field(
     work: &mut [i64],
     area: Area,
@@ -48,15 +58,18 @@ pub fn finer_field(
     to: usize,
     rows: usize,
     columns: usize,
-)
+) -> u64
     requires { ⌜ (Stored (now work) area) × (Before area to) × (Vectors (now work) coarse) × (Ends coarse to) × (level ≤ 2) × (Few rows columns) × (to + 2 * (rows * columns) ≤ length (now work)) ⌝ }
-    ensures { λ _. ⌜ now (work .exit) ≡ written (now (work .entry)) to (word columns (finerIn level (now (work .entry)) area coarse)) (2 * (rows * columns)) ⌝ }
+    ensures { λ r. ⌜ (now (work .exit) ≡ written (now (work .entry)) to (word columns (finerIn level (now (work .entry)) area coarse)) (2 * (rows * columns))) × (r ≡ finerRowsIn level (now (work .entry)) area coarse rows columns) × (r ≤ tilesMost * tileRowsMost) ⌝ }
 {
+    let mut summed: u64 = 0;
     for k in 0..rows * columns {
         let found = finer_tile(&*work, area, level, coarse, k / columns, k % columns);
         let v = found.vector;
         put(&mut *work, to + 2 * k, v);
+        summed += found.rows;
     }
+    summed
 }
 
 // Both parts of a vector, side by side.
@@ -78,7 +91,7 @@ fn hand_over(vectors: &mut [i32], at: usize, v: Vector)
     set_parts(&mut *vectors, at, down, right);
 }
 
-// Level 0, into the lent vectors from `to` on, and the sum of its residuals.
+// Level 0, into the lent vectors from `to` on, the sum of its residuals, and the tile rows that were summed.
 pub fn finest_field(
     work: &[i64],
     area: Area,
@@ -87,16 +100,21 @@ pub fn finest_field(
     to: usize,
     rows: usize,
     columns: usize,
-) -> u64
+) -> Sums
     requires { ⌜ (Stored (now work) area) × (Vectors (now work) coarse) × (Few rows columns) × (to + 2 * (rows * columns) ≤ length (now vectors)) ⌝ }
     ensures { λ r. ⌜ Finest (now (work .entry)) area coarse rows columns (now (vectors .entry)) to (now (vectors .exit)) r ⌝ }
 {
     let mut sum: u64 = 0;
+    let mut summed: u64 = 0;
     for k in 0..rows * columns {
         let found = finer_tile(work, area, 0, coarse, k / columns, k % columns);
         let v = found.vector;
         hand_over(&mut *vectors, to + 2 * k, v);
         sum += found.residual;
+        summed += found.rows;
     }
-    sum
+    Sums {
+        residual: sum,
+        rows: summed,
+    }
 }

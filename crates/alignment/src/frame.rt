@@ -9,9 +9,12 @@ ghost use Rattle.sequences.specs.Write.{written};
 ghost use Rattle.geometry.specs.Vectors.{word};
 ghost use Rattle.alignment.specs.Fields.{levelAt, coarsest, finer, field1};
 ghost use Rattle.alignment.specs.Steps.{stepTo};
+ghost use Rattle.alignment.specs.Magnitudes.{tilesMost, tileRowsMost};
+ghost use Rattle.alignment.specs.Rows.{coarsestRows, finerRows, coarseRows};
 ghost use Rattle.alignment.specs.Stored.{Few};
 ghost use Rattle.alignment.specs.Grids.{fieldAt, Vectors};
 ghost use Rattle.alignment.specs.Sites.{imageNumber, areaAt, gridAt, after, pairsIn, Standing, Reached, Aligned};
+use crate::fields::Sums;
 use crate::fields::coarsest_field;
 use crate::fields::finer_field;
 use crate::fields::finest_field;
@@ -20,6 +23,12 @@ use crate::levels::half_of;
 use crate::matching::Area;
 use geometry::Shape;
 use geometry::tiles::tile_count;
+
+// A level's tiles, whose vectors stand in the work area, and the tile rows that were summed for them and the levels before.
+struct Reach {
+    grid: Grid,
+    rows: u64,
+}
 
 // A level's number among a pyramid's six images.
 fn image_number(level: usize) -> usize
@@ -82,47 +91,61 @@ fn after(grid: Grid) -> usize
 }
 
 // Level 3, from `at` on.
-fn coarsest_level(shape: Shape, work: &mut [i64], at: usize) -> Grid
+fn coarsest_level(shape: Shape, work: &mut [i64], at: usize) -> Reach
     requires { ⌜ (Allowed shape) × (Standing shape (now work)) × (2 * pyramidLength shape ≤ at) × (after (gridAt shape 3 at) ≤ length (now work)) ⌝ }
-    ensures { λ r. ⌜ (r ≡ gridAt shape 3 at) × (now (work .exit) ≡ written (now (work .entry)) at (word (r .columns) (coarsest level3 (pairsIn shape (now (work .entry)) 3))) (2 * (r .rows * r .columns))) ⌝ }
+    ensures { λ r. ⌜ (r .grid ≡ gridAt shape 3 at) × (now (work .exit) ≡ written (now (work .entry)) at (word (r .grid .columns) (coarsest level3 (pairsIn shape (now (work .entry)) 3))) (2 * (r .grid .rows * r .grid .columns))) × (r .rows ≡ coarsestRows level3 (pairsIn shape (now (work .entry)) 3) (r .grid .rows) (r .grid .columns)) × (r .rows ≤ tilesMost * tileRowsMost) ⌝ }
 {
     let area = area_at(shape, 3);
     let grid = grid_at(shape, 3, at);
-    coarsest_field(&mut *work, area, at, grid.rows, grid.columns);
-    grid
+    let rows = coarsest_field(&mut *work, area, at, grid.rows, grid.columns);
+    Reach {
+        grid: grid,
+        rows: rows,
+    }
 }
 
 // A level from 2 to 0, from `at` on.
-fn next_level(shape: Shape, work: &mut [i64], level: usize, coarse: Grid, at: usize) -> Grid
+fn next_level(shape: Shape, work: &mut [i64], level: usize, coarse: Grid, at: usize) -> Reach
     requires { ⌜ (Allowed shape) × (Standing shape (now work)) × (2 * pyramidLength shape ≤ at) × (after (gridAt shape level at) ≤ length (now work)) × (level ≤ 2) × (Vectors (now work) coarse) × (after coarse ≤ at) ⌝ }
-    ensures { λ r. ⌜ (r ≡ gridAt shape level at) × (now (work .exit) ≡ written (now (work .entry)) at (word (r .columns) (finer (levelAt level) (stepTo level) (coarse .rows) (coarse .columns) (pairsIn shape (now (work .entry)) level) (fieldAt (now (work .entry)) (coarse .at) (coarse .columns)))) (2 * (r .rows * r .columns))) ⌝ }
+    ensures { λ r. ⌜ (r .grid ≡ gridAt shape level at) × (now (work .exit) ≡ written (now (work .entry)) at (word (r .grid .columns) (finer (levelAt level) (stepTo level) (coarse .rows) (coarse .columns) (pairsIn shape (now (work .entry)) level) (fieldAt (now (work .entry)) (coarse .at) (coarse .columns)))) (2 * (r .grid .rows * r .grid .columns))) × (r .rows ≡ finerRows (levelAt level) (stepTo level) (coarse .rows) (coarse .columns) (pairsIn shape (now (work .entry)) level) (fieldAt (now (work .entry)) (coarse .at) (coarse .columns)) (r .grid .rows) (r .grid .columns)) × (r .rows ≤ tilesMost * tileRowsMost) ⌝ }
 {
     let area = area_at(shape, level);
     let grid = grid_at(shape, level, at);
-    finer_field(&mut *work, area, level, coarse, at, grid.rows, grid.columns);
-    grid
+    let rows = finer_field(&mut *work, area, level, coarse, at, grid.rows, grid.columns);
+    Reach {
+        grid: grid,
+        rows: rows,
+    }
 }
 
 // Levels 3 to 1, behind the two pyramids.
-fn coarse_levels(shape: Shape, work: &mut [i64]) -> Grid
+fn coarse_levels(shape: Shape, work: &mut [i64]) -> Reach
     requires { ⌜ (Allowed shape) × (Standing shape (now work)) × (alignLength shape ≤ length (now work)) ⌝ }
-    ensures { λ r. ⌜ (Reached (now (work .entry)) (2 * pyramidLength shape) r (field1 (pairsIn shape (now (work .entry)))) (now (work .exit))) × (r ≡ gridAt shape 1 (r .at)) ⌝ }
+    ensures { λ r. ⌜ (Reached (now (work .entry)) (2 * pyramidLength shape) (r .grid) (field1 (pairsIn shape (now (work .entry)))) (now (work .exit))) × (r .grid ≡ gridAt shape 1 (r .grid .at)) × (r .rows ≡ coarseRows (pairsIn shape (now (work .entry)))) × (r .rows ≤ 3 * (tilesMost * tileRowsMost)) ⌝ }
 {
     let base = 2 * pyramid::offset(shape, 6);
     let third = coarsest_level(shape, &mut *work, base);
-    let second = next_level(shape, &mut *work, 2, third, after(third));
-    next_level(shape, &mut *work, 1, second, after(second))
+    let coarsest = third.grid;
+    let second = next_level(shape, &mut *work, 2, coarsest, after(coarsest));
+    let middle = second.grid;
+    let first = next_level(shape, &mut *work, 1, middle, after(middle));
+    let grid = first.grid;
+    Reach {
+        grid: grid,
+        rows: third.rows + second.rows + first.rows,
+    }
 }
 
-// The vectors at level 0, into the lent vectors from `to` on, and the sum of their residuals.
-pub fn align_levels(shape: Shape, work: &mut [i64], vectors: &mut [i32], to: usize) -> u64
+// The vectors at level 0, into the lent vectors from `to` on, the sum of their residuals, and the tile rows that were summed at all four levels.
+pub fn align_levels(shape: Shape, work: &mut [i64], vectors: &mut [i32], to: usize) -> Sums
     requires { ⌜ (Allowed shape) × (Standing shape (now work)) × (alignLength shape ≤ length (now work)) × (to + frameParts shape ≤ length (now vectors)) ⌝ }
     ensures { λ r. ⌜ Aligned shape (now (work .entry)) (now (vectors .entry)) to (now (work .exit)) (now (vectors .exit)) r ⌝ }
 {
-    let coarse = coarse_levels(shape, &mut *work);
+    let reach = coarse_levels(shape, &mut *work);
+    let coarse = reach.grid;
     let area = area_at(shape, 0);
     let grid = grid_at(shape, 0, 0);
-    finest_field(
+    let finest = finest_field(
         &*work,
         area,
         coarse,
@@ -130,5 +153,9 @@ pub fn align_levels(shape: Shape, work: &mut [i64], vectors: &mut [i32], to: usi
         to,
         grid.rows,
         grid.columns,
-    )
+    );
+    Sums {
+        residual: finest.residual,
+        rows: reach.rows + finest.rows,
+    }
 }

@@ -5,18 +5,19 @@ ghost use lib.ListN.{length, getD};
 ghost use lib.IntN.{pos, natAbs, _*ℤ_};
 ghost use Rattle.geometry.specs.Quotient.{Quotient};
 ghost use Rattle.geometry.specs.Tiles.{level3};
-ghost use Rattle.search.specs.Vectors.{_times_};
+ghost use Rattle.search.specs.Vectors.{still, _times_};
+ghost use Rattle.search.specs.Rows.{searchRows};
 ghost use Rattle.search.specs.Bounds.{Within};
 ghost use Rattle.alignment.specs.Fields.{levelAt, tileAt, coarsest};
 ghost use Rattle.alignment.specs.Steps.{stepTo};
 ghost use Rattle.alignment.specs.Stored.{pairIn, Stored, Placed, Ready, answer, refined};
 ghost use Rattle.search.specs.Magnitudes.{residualMost};
-ghost use Rattle.alignment.specs.Magnitudes.{coarseMost, guessMost, foundMost};
+ghost use Rattle.alignment.specs.Magnitudes.{coarseMost, guessMost, foundMost, tileRowsMost};
 ghost use Rattle.alignment.specs.Grids.{fieldAt, Vectors, guessFrom, finerAnswer};
 use crate::matching::Area;
 use crate::matching::Found;
+use crate::matching::refine;
 use crate::matching::refine_candidates;
-use crate::matching::refine_eight;
 use geometry::tiles::capped;
 use geometry::tiles::neighbour;
 use geometry::tiles::origin;
@@ -114,7 +115,7 @@ fn refine_coarse(
     column: usize,
 ) -> Found
     requires { ⌜ (Ready (now words) area tile (now samples)) × (tile .side ≡ 16) × (Vectors (now words) coarse) × (level ≤ 2) × (row ≤ 4096) × (column ≤ 4096) ⌝ }
-    ensures { λ r. ⌜ (r ≡ refined (levelAt level .squared) (now (words .entry)) area tile (guessFrom level (now (words .entry)) area coarse tile row column)) × (Within foundMost (r .vector)) × (r .residual ≤ residualMost) ⌝ }
+    ensures { λ r. ⌜ (r ≡ refined (levelAt level .squared) (now (words .entry)) area tile (guessFrom level (now (words .entry)) area coarse tile row column) (3 * tile .side)) × (Within foundMost (r .vector)) × (r .residual ≤ residualMost) ⌝ }
 {
     let squared = is_squared(level);
     let q = quotient(level);
@@ -141,7 +142,7 @@ fn refine_coarse(
 // The vector of a tile of level 3, whose guess is (0,0).
 pub fn coarsest_tile(words: &[i64], area: Area, row: usize, column: usize) -> Found
     requires { ⌜ (Stored (now words) area) × (row ≤ 4096) × (column ≤ 4096) ⌝ }
-    ensures { λ r. ⌜ (r ≡ answer (level3 .squared) (pairIn (now (words .entry)) area) (tileAt level3 row column) (coarsest level3 (pairIn (now (words .entry)) area) row column)) × (Within 4 (r .vector)) ⌝ }
+    ensures { λ r. ⌜ (r ≡ answer (level3 .squared) (pairIn (now (words .entry)) area) (tileAt level3 row column) (coarsest level3 (pairIn (now (words .entry)) area) row column) (searchRows (level3 .squared) (pairIn (now (words .entry)) area) (tileAt level3 row column) still)) × (Within 4 (r .vector)) × (r .rows ≤ tileRowsMost) ⌝ }
 {
     let tile = tile_at(3, row, column);
     let origin = tile.origin;
@@ -155,7 +156,15 @@ pub fn coarsest_tile(words: &[i64], area: Area, row: usize, column: usize) -> Fo
         tile.side,
         &mut samples,
     );
-    refine_eight(words, area, tile, &samples, Vector { down: 0, right: 0 })
+    refine(
+        words,
+        area,
+        tile,
+        &samples,
+        true,
+        Vector { down: 0, right: 0 },
+        0,
+    )
 }
 
 // The vector of a tile of a finer level.
@@ -168,7 +177,7 @@ pub fn finer_tile(
     column: usize,
 ) -> Found
     requires { ⌜ (Stored (now words) area) × (Vectors (now words) coarse) × (level ≤ 2) × (row ≤ 4096) × (column ≤ 4096) ⌝ }
-    ensures { λ r. ⌜ (r ≡ finerAnswer level (now (words .entry)) area coarse row column) × (Within foundMost (r .vector)) × (r .residual ≤ residualMost) ⌝ }
+    ensures { λ r. ⌜ (r ≡ finerAnswer level (now (words .entry)) area coarse row column) × (Within foundMost (r .vector)) × (r .residual ≤ residualMost) × (r .rows ≤ tileRowsMost) ⌝ }
 {
     let tile = tile_at(level, row, column);
     let origin = tile.origin;

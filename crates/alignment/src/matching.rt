@@ -1,23 +1,23 @@
 // The vector of one tile: the residuals of candidates, the guess, and the search around it.
 ghost use mathlib.Core.Path.{_≡_};
 ghost use mathlib.Core.Bool.{true, false};
-ghost use Prim.Native.Nat.{_≤_, _<_, _^_};
+ghost use Prim.Native.Nat.{_+_, _*_, _≤_, _<_, _^_};
 ghost use lib.ListN.{length};
 ghost use Rattle.search.specs.Vectors.{_plus_};
 ghost use Rattle.search.specs.Bounds.{Within};
 ghost use Rattle.search.specs.Offsets.{offset};
 ghost use Rattle.search.specs.Residual.{residual};
+ghost use Rattle.search.specs.Local.{squareSum, Window, Kind};
 ghost use Rattle.search.specs.Magnitudes.{residualMost};
 ghost use Rattle.alignment.specs.Magnitudes.{guessMost};
-ghost use Rattle.alignment.specs.Stored.{pairIn, Stored, Placed, Ready, Around, refined, guessedIn};
+ghost use Rattle.alignment.specs.Stored.{pairIn, Stored, Placed, Ready, Around, refined, guessedIn, leastOfThree};
 use geometry::vectors::Vector;
 use search::Tile;
 use search::copy::copy_square;
 use search::sixteen::absolute_sum;
 use search::window::Best;
 use search::window::offset;
-use search::window::search_eight;
-use search::window::search_sixteen;
+use search::window::search;
 
 // Where a level's two images stand in the work area, and their size.
 pub struct Area {
@@ -27,11 +27,15 @@ pub struct Area {
     pub width: usize,
 }
 
-// A tile's vector and its residual.
+// A tile's vector, its residual, and how many of the tile's rows were summed to find it.
 pub struct Found {
     pub vector: Vector,
     pub residual: u64,
+    pub rows: u64,
 }
+
+// The three candidates' rows, at side 16.
+const CANDIDATE_ROWS: u64 = 48;
 
 // The sum of two vectors.
 fn sum(a: Vector, b: Vector) -> Vector
@@ -74,41 +78,17 @@ fn candidate_sum(words: &[i64], area: Area, tile: Tile, samples: &[u16], v: Vect
     absolute_sum(samples, &other, 0, 16) as u64
 }
 
-// The same, where the residual of a candidate that may be the same one is known.
-fn other_sum(
-    words: &[i64],
-    area: Area,
-    tile: Tile,
-    samples: &[u16],
-    v: Vector,
-    known: Vector,
-    sum: u64,
-) -> u64
-    requires { ⌜ (Ready (now words) area tile (now samples)) × (tile .side ≡ 16) × (Within guessMost v) × (Within guessMost known) × (sum ≡ residual false (pairIn (now words) area) tile known) ⌝ }
-    ensures { λ r. ⌜ r ≡ residual false (pairIn (now (words .entry)) area) tile v ⌝ }
-{
-    if same(v, known) {
-        return sum;
-    }
-    candidate_sum(words, area, tile, samples, v)
-}
-
-// The candidate of the least residual, the earlier on a tie; `first` is the own one's residual.
+// The candidate of the least residual, the earlier on a tie.
 fn guess(
-    words: &[i64],
-    area: Area,
-    tile: Tile,
-    samples: &[u16],
     own: Vector,
     sideways: Vector,
     vertically: Vector,
     first: u64,
+    second: u64,
+    third: u64,
 ) -> Vector
-    requires { ⌜ (Ready (now words) area tile (now samples)) × (tile .side ≡ 16) × (Within guessMost own) × (Within guessMost sideways) × (Within guessMost vertically) × (first ≡ residual false (pairIn (now words) area) tile own) ⌝ }
-    ensures { λ r. ⌜ (r ≡ guessedIn (now (words .entry)) area tile own sideways vertically) × (Within guessMost r) ⌝ }
+    ensures { λ r. ⌜ r ≡ leastOfThree own sideways vertically first second third ⌝ }
 {
-    let second = other_sum(words, area, tile, samples, sideways, own, first);
-    let third = other_sum(words, area, tile, samples, vertically, own, first);
     if second < first {
         if third < second {
             return vertically;
@@ -145,43 +125,62 @@ fn copy_window(words: &[i64], area: Area, tile: Tile, guess: Vector, window: &mu
     );
 }
 
-// What the search around a guess has found there.
-fn moved(guess: Vector, best: Best) -> Found
-    requires { ⌜ (Within guessMost guess) × (best .offset < 81) ⌝ }
-    ensures { λ r. ⌜ (r .vector ≡ guess plus offset (best .offset)) × (r .residual ≡ best .residual) ⌝ }
+// The residual of the guess of such a window, in its middle.
+fn middle_sum(samples: &[u16], window: &[u16]) -> u64
+    requires { ⌜ Window (now samples) (now window) 16 ⌝ }
+    ensures { λ r. ⌜ r ≡ squareSum false (now (samples .entry)) (now (window .entry)) 100 24 16 ⌝ }
+{
+    absolute_sum(samples, window, 4 * 24 + 4, 24) as u64
+}
+
+// The residual of another candidate than the own one, whose window is there: a candidate equal to it is summed again, but not copied again.
+fn other_sum(
+    words: &[i64],
+    area: Area,
+    tile: Tile,
+    samples: &[u16],
+    window: &[u16],
+    v: Vector,
+    own: Vector,
+) -> u64
+    requires { ⌜ (Ready (now words) area tile (now samples)) × (tile .side ≡ 16) × (Around (now words) area tile own (now window)) × (Within guessMost v) × (Within guessMost own) ⌝ }
+    ensures { λ r. ⌜ r ≡ residual false (pairIn (now (words .entry)) area) tile v ⌝ }
+{
+    if same(v, own) {
+        return middle_sum(samples, window);
+    }
+    candidate_sum(words, area, tile, samples, v)
+}
+
+// What the search around a guess has found there, and the rows summed, those before the search included.
+fn moved(guess: Vector, best: Best, before: u64) -> Found
+    requires { ⌜ (Within guessMost guess) × (best .offset < 81) × (best .rows ≤ 1296) × (before ≤ 48) ⌝ }
+    ensures { λ r. ⌜ (r .vector ≡ guess plus offset (best .offset)) × (r .residual ≡ best .residual) × (r .rows ≡ before + best .rows) ⌝ }
 {
     let vector = sum(guess, offset(best.offset));
     Found {
         vector: vector,
         residual: best.residual,
+        rows: before + best.rows,
     }
 }
 
-// The search around a guess, at side 16.
-fn refine(
+// The search around a guess, after so many rows of candidates.
+pub fn refine(
     words: &[i64],
     area: Area,
     tile: Tile,
     samples: &[u16],
     squared: bool,
     guess: Vector,
+    before: u64,
 ) -> Found
-    requires { ⌜ (Ready (now words) area tile (now samples)) × (tile .side ≡ 16) × (Within guessMost guess) ⌝ }
-    ensures { λ r. ⌜ (r ≡ refined squared (now (words .entry)) area tile guess) × (r .residual ≤ residualMost) ⌝ }
+    requires { ⌜ (Ready (now words) area tile (now samples)) × (Kind squared (tile .side)) × (Within guessMost guess) × (before ≤ 48) ⌝ }
+    ensures { λ r. ⌜ (r ≡ refined squared (now (words .entry)) area tile guess before) × (r .residual ≤ residualMost) ⌝ }
 {
     let mut window = [0u16; 576];
     copy_window(words, area, tile, guess, &mut window);
-    moved(guess, search_sixteen(squared, samples, &window))
-}
-
-// The same at side 8, by squared differences.
-pub fn refine_eight(words: &[i64], area: Area, tile: Tile, samples: &[u16], guess: Vector) -> Found
-    requires { ⌜ (Ready (now words) area tile (now samples)) × (tile .side ≡ 8) × (Within guessMost guess) ⌝ }
-    ensures { λ r. ⌜ r ≡ refined true (now (words .entry)) area tile guess ⌝ }
-{
-    let mut window = [0u16; 576];
-    copy_window(words, area, tile, guess, &mut window);
-    moved(guess, search_eight(samples, &window))
+    moved(guess, search(squared, tile.side, samples, &window), before)
 }
 
 // The search around the best of three candidates. The window around the own one is copied first: its middle gives that one's residual,
@@ -197,14 +196,16 @@ pub fn refine_candidates(
     vertically: Vector,
 ) -> Found
     requires { ⌜ (Ready (now words) area tile (now samples)) × (tile .side ≡ 16) × (Within guessMost own) × (Within guessMost sideways) × (Within guessMost vertically) ⌝ }
-    ensures { λ r. ⌜ (r ≡ refined squared (now (words .entry)) area tile (guessedIn (now (words .entry)) area tile own sideways vertically)) × (r .residual ≤ residualMost) ⌝ }
+    ensures { λ r. ⌜ (r ≡ refined squared (now (words .entry)) area tile (guessedIn (now (words .entry)) area tile own sideways vertically) (3 * tile .side)) × (r .residual ≤ residualMost) ⌝ }
 {
     let mut window = [0u16; 576];
     copy_window(words, area, tile, own, &mut window);
-    let first = absolute_sum(samples, &window, 4 * 24 + 4, 24) as u64;
-    let best = guess(words, area, tile, samples, own, sideways, vertically, first);
+    let first = middle_sum(samples, &window);
+    let second = other_sum(words, area, tile, samples, &window, sideways, own);
+    let third = other_sum(words, area, tile, samples, &window, vertically, own);
+    let best = guess(own, sideways, vertically, first, second, third);
     if same(best, own) {
-        return moved(own, search_sixteen(squared, samples, &window));
+        return moved(own, search(squared, 16, samples, &window), CANDIDATE_ROWS);
     }
-    refine(words, area, tile, samples, squared, best)
+    refine(words, area, tile, samples, squared, best, CANDIDATE_ROWS)
 }

@@ -2,7 +2,9 @@
 use Rattle.algebra.specs.Prelude.{_≡_, List, ℕ, _≤_, length, ℤ}
 use Rattle.sequences.specs.Clear.{zeros}
 use Rattle.geometry.specs.Fits.{MergeFits, SamplesFit}
+use Rattle.alignment.specs.declared.burst.Totals.{Totals}
 use Rattle.alignment.specs.Aligned.{alignedVectors, residualSums}
+use Rattle.alignment.specs.Rows.{rowsSummed}
 use Rattle.recipe.specs.declared.Merge.{Merge}
 use Rattle.recipe.specs.Scene.{sceneOf}
 use Rattle.recipe.specs.Merged.{merged}
@@ -16,8 +18,9 @@ pub record Runnable (m : Merge) (samples : List ℕ) (vectors : List ℤ) (outpu
   pub strength-most : m .tuning .strength ≤ 1024
 
 -- "align, then merge", and a zeroed work area
-pub record RanLevels (m : Merge) (samples : List ℕ) (vectors′ : List ℤ) (output′ : List ℕ) (work work′ : List ℤ) (sums : List ℕ) : Type 0 where
-  pub sums-are : sums ≡ residualSums (m .shape) (m .reference) samples
+pub record RanLevels (m : Merge) (samples : List ℕ) (vectors′ : List ℤ) (output′ : List ℕ) (work work′ : List ℤ) (r : Totals) : Type 0 where
+  pub sums-are : r .residuals ≡ residualSums (m .shape) (m .reference) samples
+  pub rows-are : r .rows ≡ rowsSummed (m .shape) (m .reference) samples
   pub found : vectors′ ≡ alignedVectors (m .shape) (m .reference) samples
   pub result : output′ ≡ merged (sceneOf m samples (alignedVectors (m .shape) (m .reference) samples))
   pub clean : work′ ≡ zeros work

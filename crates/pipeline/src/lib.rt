@@ -2,6 +2,7 @@
 ghost use mathlib.Core.Path.{_≡_};
 ghost use Rattle.sequences.specs.Clear.{zeros};
 ghost use Rattle.pipeline.specs.Levels.{Runnable, RanLevels};
+use alignment::burst::Totals;
 use recipe::Merge;
 
 // Sets the work area to zero.
@@ -15,20 +16,21 @@ pub fn clear(work: &mut [i64])
     }
 }
 
-// Align, merge and clear, from the levels on: answers the sums of finest residuals. The vectors found need no test: they fit (`found-fit`).
+// Align, merge and clear, from the levels on: answers the sums of finest residuals and the tile rows summed. The vectors found need no test: they
+// fit (`found-fit`).
 pub fn run_levels(
     m: Merge,
     samples: &[u16],
     vectors: &mut [i32],
     output: &mut [u16],
     work: &mut [i64],
-) -> [u64; 7]
+) -> Totals
     requires { ⌜ Runnable m (now samples) (now vectors) (now output) (now work) ⌝ }
     ensures { λ r. ⌜ RanLevels m (now (samples .entry)) (now (vectors .exit)) (now (output .exit)) (now (work .entry)) (now (work .exit)) r ⌝ }
 {
     let shape = m.shape;
     let reference = m.reference;
-    let residuals = alignment::burst::align_frames(
+    let totals = alignment::burst::align_frames(
         shape,
         reference,
         samples,
@@ -37,5 +39,5 @@ pub fn run_levels(
     );
     merging::merge_frames(m, samples, &*vectors, &mut *output, &mut *work);
     clear(&mut *work);
-    residuals
+    totals
 }

@@ -61,7 +61,8 @@ fn align_burst(header: Header, samples: &[u16], vectors: &mut [i32], work: &mut 
 {
     let shape = header.shape;
     let end = PARTS * (shape.count - 1);
-    align_frames(shape, header.reference, samples, &mut vectors[..end], work)
+    let totals = align_frames(shape, header.reference, samples, &mut vectors[..end], work);
+    totals.residuals
 }
 
 // The names, and the lines of the burst's alignment.

@@ -6,6 +6,7 @@ use Rattle.geometry.specs.Shape.{vectorLength}
 use Rattle.geometry.specs.Fits.{BurstFits, SamplesFit}
 use Rattle.noise.specs.declared.Noise.{Noise}
 use Rattle.alignment.specs.Aligned.{alignedVectors, residualSums}
+use Rattle.alignment.specs.Rows.{rowsSummed}
 use Rattle.alignment.specs.Burst.{Ready}
 use Rattle.recipe.specs.declared.Merge.{Merge}
 use Rattle.recipe.specs.Scene.{sceneOf}
@@ -28,15 +29,20 @@ pub record Found (s : Shape) (reference : ℕ) (samples : List ℕ) (vectors vec
   pub lent : Lent s reference samples vectors
   pub vectors-are : vectors′ ≡ alignedVectors s reference samples
   pub sums-are : r .residuals ≡ residualSums s reference samples
+  pub rows-are : r .rows ≡ rowsSummed s reference samples
 
--- the two fields of an answer
-number-is : {r : Alignment} (number : ℕ) (sums : List ℕ) → r ≡ answered number sums → r .refusal ≡ 0 → number ≡ 0
+-- the fields of an answer
+number-is : {r : Alignment} (number : ℕ) (sums : List ℕ) (rows : ℕ) → r ≡ answered number sums rows → r .refusal ≡ 0 → number ≡ 0
 unfolding answered
-number-is number sums e accepted = sym (ap (λ a. a .refusal) e) ∙ accepted
+number-is number sums rows e accepted = sym (ap (λ a. a .refusal) e) ∙ accepted
 
-residuals-are : {r : Alignment} (number : ℕ) (sums : List ℕ) → r ≡ answered number sums → number ≡ 0 → r .residuals ≡ sums
+residuals-are : {r : Alignment} (number : ℕ) (sums : List ℕ) (rows : ℕ) → r ≡ answered number sums rows → number ≡ 0 → r .residuals ≡ sums
 unfolding answered
-residuals-are number sums e z = result-made number noSums sums z (ap (λ a. a .residuals) e)
+residuals-are number sums rows e z = result-made number noSums sums z (ap (λ a. a .residuals) e)
+
+rows-by : {r : Alignment} (number : ℕ) (sums : List ℕ) (rows : ℕ) → r ≡ answered number sums rows → number ≡ 0 → r .rows ≡ rows
+unfolding answered
+rows-by number sums rows e z = result-made number 0 rows z (ap (λ a. a .rows) e)
 
 module _ {s : Shape} {reference : ℕ} {samples : List ℕ} {vectors : List ℤ} where
   lent-by : BurstFits s reference (length samples) (length vectors) → SamplesFit s samples → Lent s reference samples vectors
@@ -53,11 +59,12 @@ module _ {s : Shape} {reference : ℕ} {samples : List ℕ} {vectors work work�
   pub align-accepted : {vectors′ : List ℤ} {r : Alignment} → Aligned s reference samples vectors vectors′ work work′ r → r .refusal ≡ 0 → Found s reference samples vectors vectors′ r
   align-accepted call accepted =
       let number = alignRefusal s reference samples vectors work in
-      let passed = number-is number _ (call .answer) accepted in
+      let passed = number-is number _ _ (call .answer) accepted in
       record {
         lent = align-lent (align-passed s reference samples vectors work passed);
         vectors-are = result-made number vectors _ passed (call .found);
-        sums-are = residuals-are number _ (call .answer) passed;
+        sums-are = residuals-are number _ _ (call .answer) passed;
+        rows-are = rows-by number _ _ (call .answer) passed;
       }
 
   module _ {noise : Noise} {tuning : Tuning} {output output′ : List ℕ} where
@@ -74,11 +81,12 @@ module _ {s : Shape} {reference : ℕ} {samples : List ℕ} {vectors work work�
         Found s reference samples vectors vectors′ r × (output′ ≡ merged (sceneOf (mergeOf s reference noise tuning) samples (alignedVectors s reference samples)))
     run-accepted call accepted =
         let first = runRefusal s reference noise tuning samples vectors output work in
-        let passed = number-is first _ (call .answer) accepted in (
+        let passed = number-is first _ _ (call .answer) accepted in (
           record {
             lent = run-lent (run-passed s reference samples vectors noise tuning output work passed);
             vectors-are = result-made first vectors _ passed (call .found);
-            sums-are = residuals-are first _ (call .answer) passed;
+            sums-are = residuals-are first _ _ (call .answer) passed;
+            rows-are = rows-by first _ _ (call .answer) passed;
           },
           result-made first output _ passed (call .result),
         )

@@ -61,7 +61,7 @@ module _ {s : Shape} {reference : ℕ} {samples : List ℕ} {vectors work work�
         let (f, is) = run-accepted call accepted in
         is ∙ StrengthZero.burst-back (mergeOf s reference noise tuning) samples (alignedVectors s reference samples) (f .lent .burst) off
 
-    -- "With N = 1 the answer is that frame unchanged, the vector buffer has length 0 and the seven residual sums are 0"
+    -- "With N = 1 the answer is that frame unchanged, the vector buffer has length 0 and the seven residual sums are 0"; and no row is summed
     pub merge-lone : {number : ℕ} → Merged s reference noise tuning samples vectors output output′ work work′ number → number ≡ 0 →
         s .count ≡ 1 → output′ ≡ frameWords s samples reference
     merge-lone call accepted lone =
@@ -69,10 +69,11 @@ module _ {s : Shape} {reference : ℕ} {samples : List ℕ} {vectors work work�
         is ∙ LoneFrame.burst-back (mergeOf s reference noise tuning) samples vectors (lent .burst) lone
 
     pub run-lone : {vectors′ : List ℤ} {r : Alignment} → Ran s reference noise tuning samples vectors vectors′ output output′ work work′ r → r .refusal ≡ 0 →
-        s .count ≡ 1 → Unmoved vectors vectors′ r × (length vectors ≡ 0) × (output′ ≡ frameWords s samples reference)
+        s .count ≡ 1 → Unmoved vectors vectors′ r × (r .rows ≡ 0) × (length vectors ≡ 0) × (output′ ≡ frameWords s samples reference)
     run-lone call accepted lone =
         let (f, is) = run-accepted call accepted in (
           unmoved f (LoneFrame.alone s reference samples lone (f .lent .burst .below)),
+          f .rows-are ∙ LoneFrame.no-rows s reference samples lone,
           f .lent .long ∙ LoneFrame.no-vectors s lone,
           is ∙ LoneFrame.burst-back (mergeOf s reference noise tuning) samples (alignedVectors s reference samples) (f .lent .burst) lone,
         )

@@ -1,13 +1,15 @@
 -- Try a burst of one frame: it comes back unchanged, whatever the noise and the strength are.
-use Rattle.algebra.specs.Prelude.{_≡_, sym, ap, _∙_, List, ℕ, _+_, _-_, _*_, _<_, _≤_, arith, ℤ, pos}
+use Rattle.algebra.specs.Prelude.{_≡_, refl, sym, ap, _∙_, List, ℕ, _+_, _-_, _*_, _<_, _≤_, arith, ℤ, pos}
 use native.Mathlib.Nat.{zero-mul, mul-le-mul-right}
 use Rattle.algebra.specs.Order.{zarith}
+use Rattle.algebra.specs.Sums.{sumN}
 use Rattle.algebra.specs.Clamp.{clampZ}
 use Rattle.algebra.specs.Fraction.{whole, _+F_, _-F_, over, sumF, held, Within}
 use Rattle.algebra.specs.FractionLaws.{within-same}
 use Rattle.algebra.specs.ClampLaws.{clamp-same}
 use Rattle.geometry.specs.declared.Shape.{Shape}
 use Rattle.geometry.specs.Shape.{vectorLength}
+use Rattle.alignment.specs.Rows.{rowsSummed}
 use Rattle.recipe.specs.declared.Merge.{Merge}
 use Rattle.recipe.specs.Scene.{Scene, sceneOf}
 use Rattle.recipe.specs.Merged.{outputAt, merged}
@@ -46,6 +48,11 @@ alone s reference samples lone below =
 pub no-vectors : (s : Shape) → s .count ≡ 1 → vectorLength s ≡ 0
 unfolding vectorLength
 no-vectors s lone = let none : s .count - 1 ≡ 0 = omega arith in rw none (zero-mul _)
+
+-- and no row is summed
+pub no-rows : (s : Shape) (reference : ℕ) (samples : List ℕ) → s .count ≡ 1 → rowsSummed s reference samples ≡ 0
+unfolding rowsSummed sumN
+no-rows s reference samples lone = let none : s .count - 1 ≡ 0 = omega arith in rw none refl
 
 -- The exact merge of a lone frame is that frame too: the distance is 0
 module _ (n : Side) (a b t : ℕ) (noise : ℕ → ℕ) (d : ℕ → ℕ → ℕ → ℕ → ℤ) (most : t ≤ 4095) where

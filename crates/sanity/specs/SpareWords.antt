@@ -21,6 +21,8 @@ use Rattle.noise.specs.declared.Noise.{Noise}
 use Rattle.alignment.specs.Fields.{field0, residualSum}
 use Rattle.alignment.specs.Frames.{pairs, vectorsOf, residualOf}
 use Rattle.alignment.specs.Aligned.{fieldOf, sumOf, alignedVectors, residualSums}
+use Rattle.alignment.specs.Rows.{frameRows, rowsOf, rowsSummed}
+use Rattle.algebra.specs.SumLaws.{sumN-cong}
 use Rattle.recipe.specs.declared.Merge.{Merge}
 use Rattle.recipe.specs.declared.Tuning.{Tuning}
 use Rattle.recipe.specs.Scene.{sceneOf}
@@ -89,6 +91,10 @@ module _ {s : Shape} {samples samples₂ : List ℕ} (d : SpareOnly s samples sa
     unfolding residualSums
     sums-same = ap (λ l. l ++ replicate (7 - (s .count - 1)) 0) (tab-ext (s .count - 1) _ _ sum-same)
 
+    rows-same : rowsSummed s reference samples₂ ≡ rowsSummed s reference samples
+    unfolding rowsSummed rowsOf
+    rows-same = sumN-cong (s .count - 1) _ _ (λ k h. ap frameRows (pair-same k h))
+
 merge-same : (m : Merge) {samples samples₂ : List ℕ} → SpareOnly (m .shape) samples samples₂ → Allowed (m .shape) → m .reference < m .shape .count → (vectors : List ℤ) →
     merged (sceneOf m samples₂ vectors) ≡ merged (sceneOf m samples vectors)
 unfolding sceneOf
@@ -119,8 +125,8 @@ module _ {s : Shape} {reference : ℕ} {samples samples₂ : List ℕ} {vectors 
       let tests : alignRefusal s reference samples₂ vectors work ≡ number = rw (d .long, test-same d) in
       let fits : number ≡ 0 → BurstFits s reference (length samples) (length vectors) = λ z. align-passed s reference samples vectors work z .fits .burst in (
         call₂ .answer
-            ∙ ap (λ n. answered n (residualSums s reference samples₂)) tests
-            ∙ ap (λ l. record { refusal = number; residuals = l }) (after-ext number noSums (λ z. sums-same d reference (fits z .allowed) (fits z .reference-below)))
+            ∙ ap (λ n. answered n (residualSums s reference samples₂) (rowsSummed s reference samples₂)) tests
+            ∙ ap₂ (λ l m. record { refusal = number; residuals = l; rows = m }) (after-ext number noSums (λ z. sums-same d reference (fits z .allowed) (fits z .reference-below))) (after-ext number 0 (λ z. rows-same d reference (fits z .allowed) (fits z .reference-below)))
             ∙ sym (call .answer),
         call₂ .found
             ∙ ap (λ n. after n vectors (alignedVectors s reference samples₂)) tests
@@ -156,8 +162,8 @@ module _ {s : Shape} {reference : ℕ} {samples samples₂ : List ℕ} {vectors 
         let fits : number ≡ 0 → BurstFits s reference (length samples) (length vectors) = λ z. run-passed s reference samples vectors noise tuning output work z .fits .burst in
         let found : number ≡ 0 → alignedVectors s reference samples₂ ≡ alignedVectors s reference samples = λ z. vectors-same d reference (fits z .allowed) (fits z .reference-below) in (
           call₂ .answer
-              ∙ ap (λ n. answered n (residualSums s reference samples₂)) tests
-              ∙ ap (λ l. record { refusal = number; residuals = l }) (after-ext number noSums (λ z. sums-same d reference (fits z .allowed) (fits z .reference-below)))
+              ∙ ap (λ n. answered n (residualSums s reference samples₂) (rowsSummed s reference samples₂)) tests
+              ∙ ap₂ (λ l m. record { refusal = number; residuals = l; rows = m }) (after-ext number noSums (λ z. sums-same d reference (fits z .allowed) (fits z .reference-below))) (after-ext number 0 (λ z. rows-same d reference (fits z .allowed) (fits z .reference-below)))
               ∙ sym (call .answer),
           call₂ .found ∙ ap (λ n. after n vectors (alignedVectors s reference samples₂)) tests ∙ after-ext number vectors found ∙ sym (call .found),
           call₂ .result

@@ -3,12 +3,14 @@ pub mod Vectors
 pub mod Residual
 pub mod Offsets
 pub mod Search
+pub mod Rows
 pub mod Ties
 pub mod Bounds
 pub mod Local
 pub mod VectorLaws
 pub mod OffsetLaws
 pub mod SearchLaws
+pub mod RowLaws
+pub mod LeaveLaws
 pub mod SixteenLaws
-pub mod BoxLaws
 pub mod LocalLaws

@@ -2,6 +2,7 @@
 use Rattle.algebra.specs.Prelude.{_≡_, refl, ap, ap₂, subst, _∙_, Bool, List, ℕ, _+_, _*_, _≤_, _<_, arith, length, getD}
 use borrow.Author.Count.{below-more}
 use lib.IntN.{ℤ, pos, negsuc, _+ℤ_, _-ℤ_, +ℤ-idr}
+use Rattle.algebra.specs.Sums.{sumN}
 use Rattle.algebra.specs.SumLaws.{sumN-cong}
 use Rattle.algebra.specs.Order.{zarith, add-pn, sub-pn}
 use Rattle.sequences.specs.Write.{written, written-in, written-before}
@@ -14,9 +15,12 @@ use Rattle.search.specs.OffsetLaws.{parts-most}
 use Rattle.sequences.specs.Place.{row-room}
 use Rattle.search.specs.Residual.{difference, Pair, rowResidual, residual}
 use Rattle.search.specs.Search.{tried, chosen, found}
+use Rattle.search.specs.Rows.{offsetRows, searchRows}
+use Rattle.search.specs.RowLaws.{same-total, offset-rows-cong}
+use Rattle.sequences.specs.Sum.{Summed, sum-done}
 use Rattle.sequences.specs.LeastLaws.{firstMin-most, firstMin-cong, Lowest, lowest-done}
 use Rattle.search.specs.declared.window.Best.{Best}
-use Rattle.search.specs.Local.{rowSum, squareSum, windowSum, Searched, Copied}
+use Rattle.search.specs.Local.{rowSum, squareRow, squareSum, windowRow, Searched, Copied}
 
 -- one row more
 pub copied-turn : {l : List ℕ} {i n : ℕ} {f : ℤ → ℤ → ℕ} {row column : ℤ} → Copied l i n f row column → i * n + n ≤ length l → (g : ℕ → ℕ) → ((j : ℕ) → g j ≡ f (row +ℤ pos i) (column +ℤ pos j)) → Copied (written l (i * n) g n) (i + 1) n f row column
@@ -40,27 +44,31 @@ module _ (squared : Bool) (p : Pair) (t : Tile) (v : Vector) (tile window : List
     (copied : Copied tile (t .side) (t .side) (p .reference) (t .origin .down) (t .origin .right)) (seen : Copied window stride stride (p .other) row column)
     (high : y + t .side ≤ stride) (wide : x + t .side ≤ stride) (from : start ≡ y * stride + x)
     (down : row +ℤ pos y ≡ t .origin .down +ℤ v .down) (right : column +ℤ pos x ≡ t .origin .right +ℤ v .right) where
-  square-residual : squareSum squared tile window start stride (t .side) ≡ residual squared p t v
-  unfolding squareSum rowSum residual rowResidual
-  square-residual =
+  square-row : (i : ℕ) → i < t .side → squareRow squared tile window start stride (t .side) i ≡ rowResidual squared p t v i
+  unfolding squareRow rowSum rowResidual
+  square-row i h =
       sumN-cong (t .side) _ _
-      (λ i h. sumN-cong (t .side) _ _
       (λ j k. ap₂ (difference squared) (copied .cell i j h k)
       (ap (λ n. getD window n 0) (cell-place y x i j start stride from)
       ∙ seen .cell (y + i) (x + j) (omega arith) (omega arith)
-      ∙ ap₂ (p .other) (same-place row (pos y) (t .origin .down) (pos i) (v .down) down) (same-place column (pos x) (t .origin .right) (pos j) (v .right) right))))
+      ∙ ap₂ (p .other) (same-place row (pos y) (t .origin .down) (pos i) (v .down) down) (same-place column (pos x) (t .origin .right) (pos j) (v .right) right)))
+
+  square-residual : squareSum squared tile window start stride (t .side) ≡ residual squared p t v
+  unfolding squareSum residual
+  square-residual = sumN-cong (t .side) _ _ square-row
 
 biased : (r g n : ℤ) → r +ℤ g +ℤ negsuc 3 +ℤ n ≡ r +ℤ (g +ℤ (n -ℤ pos 4))
 biased r g n =
     omega (zarith, add-pn (r +ℤ g +ℤ negsuc 3) n, add-pn (r +ℤ g) (negsuc 3), add-pn r g, add-pn r (g +ℤ (n -ℤ pos 4)), add-pn g (n -ℤ pos 4), sub-pn n (pos 4))
 
--- the sums in a window that starts 4 rows and columns before the tile moved by the guess are the residuals that are tried
-window-tried : (squared : Bool) (p : Pair) (t : Tile) (guess : Vector) (tile window : List ℕ) → Copied tile (t .side) (t .side) (p .reference) (t .origin .down) (t .origin .right) → Copied window (t .side + 8) (t .side + 8) (p .other) (t .origin .down +ℤ guess .down +ℤ negsuc 3) (t .origin .right +ℤ guess .right +ℤ negsuc 3) → (k : ℕ) → k < 81 → windowSum squared tile window (t .side) k ≡ tried squared p t guess k
-unfolding windowSum tried offset
-window-tried squared p t guess tile window copied seen k h =
-    square-residual squared p t (guess plus offset k) tile window (getD downs k 0 * (t .side + 8) + getD rights k 0) (t .side + 8) (getD downs k 0) (getD rights k 0) (t .origin .down +ℤ guess .down +ℤ negsuc 3) (t .origin .right +ℤ guess .right +ℤ negsuc 3) copied seen
+-- the rows in a window that starts 4 rows and columns before the tile moved by the guess are those of the residuals that are tried
+window-row : (squared : Bool) (p : Pair) (t : Tile) (guess : Vector) (tile window : List ℕ) → Copied tile (t .side) (t .side) (p .reference) (t .origin .down) (t .origin .right) → Copied window (t .side + 8) (t .side + 8) (p .other) (t .origin .down +ℤ guess .down +ℤ negsuc 3) (t .origin .right +ℤ guess .right +ℤ negsuc 3) → (k i : ℕ) → k < 81 → i < t .side → windowRow squared tile window (t .side) k i ≡ rowResidual squared p t (guess plus offset k) i
+unfolding windowRow offset
+window-row squared p t guess tile window copied seen k i h l =
+    square-row squared p t (guess plus offset k) tile window (getD downs k 0 * (t .side + 8) + getD rights k 0) (t .side + 8) (getD downs k 0) (getD rights k 0) (t .origin .down +ℤ guess .down +ℤ negsuc 3) (t .origin .right +ℤ guess .right +ℤ negsuc 3) copied seen
     (omega (arith, parts-most k h .0)) (omega (arith, parts-most k h .1)) refl
     (biased (t .origin .down) (guess .down) (pos (getD downs k 0))) (biased (t .origin .right) (guess .right) (pos (getD rights k 0)))
+    i l
 
 -- a square of the other image at the tile moved by v, of side n
 pub moved-residual : (squared : Bool) (p : Pair) (t : Tile) (v : Vector) (tile moved : List ℕ) (row column : ℤ) (n : ℕ) → t .side ≡ n → Copied tile (t .side) (t .side) (p .reference) (t .origin .down) (t .origin .right) → Copied moved n n (p .other) row column → row ≡ t .origin .down +ℤ v .down → column ≡ t .origin .right +ℤ v .right → squareSum squared tile moved 0 n n ≡ residual squared p t v
@@ -78,20 +86,32 @@ middle-residual squared p t guess tile window copied seen =
     square-residual squared p t guess tile window (4 * (t .side + 8) + 4) (t .side + 8) 4 4 (t .origin .down +ℤ guess .down +ℤ negsuc 3) (t .origin .right +ℤ guess .right +ℤ negsuc 3) copied seen
     (omega arith) (omega arith) refl (middle (t .origin .down) (guess .down)) (middle (t .origin .right) (guess .right))
 
--- the first least sum in the window is what the search finds
-pub searched-finds : (squared : Bool) (p : Pair) (t : Tile) (guess : Vector) (tile window : List ℕ) (best : Best) → Copied tile (t .side) (t .side) (p .reference) (t .origin .down) (t .origin .right) → Copied window (t .side + 8) (t .side + 8) (p .other) (t .origin .down +ℤ guess .down +ℤ negsuc 3) (t .origin .right +ℤ guess .right +ℤ negsuc 3) → Searched squared tile window (t .side) best → (best .offset ≡ chosen squared p t guess) × (best .residual ≡ residual squared p t (found squared p t guess))
-unfolding chosen found tried
-searched-finds squared p t guess tile window best copied seen s =
-    let e = s .is ∙ firstMin-cong (windowSum squared tile window (t .side)) (tried squared p t guess) 80 (λ k h. window-tried squared p t guess tile window copied seen k (omega arith)) in
-    (e, s .low ∙ window-tried squared p t guess tile window copied seen (best .offset) (s .within) ∙ ap (tried squared p t guess) e)
+-- what is searched among the same rows
+pub searched-same : {f g : ℕ → ℕ → ℕ} {n : ℕ} {r : Best} → ((k i : ℕ) → k < 81 → i < n → f k i ≡ g k i) → Searched f n r → Searched g n r
+searched-same {f} {g} {n} {r} e s =
+    record {
+      is = s .is ∙ firstMin-cong (λ k. sumN n (f k)) (λ k. sumN n (g k)) 80 (λ k h. same-total f n g 81 e k (omega arith));
+      low = s .low ∙ same-total f n g 81 e (r .offset) (s .within);
+      within = s .within;
+      most = s .most;
+      rows-are = s .rows-are ∙ sumN-cong 81 (offsetRows f n) (offsetRows g n) (offset-rows-cong f n g 81 e);
+    }
 
--- the lowest of the 81 sums is what is searched for
-pub lowest-searched : {squared : Bool} {tile window : List ℕ} {side b top k at low : ℕ} → Lowest (windowSum squared tile window side) b top 81 k at low → 81 ≤ k → b ≤ residualMost → Searched squared tile window side (record { offset = at; residual = low })
-lowest-searched {squared} {tile} {window} {side} w h l =
+-- the first least sum in the window is what the search finds, and the rows are those that the rule counts
+pub searched-finds : (squared : Bool) (p : Pair) (t : Tile) (guess : Vector) (tile window : List ℕ) (best : Best) → Copied tile (t .side) (t .side) (p .reference) (t .origin .down) (t .origin .right) → Copied window (t .side + 8) (t .side + 8) (p .other) (t .origin .down +ℤ guess .down +ℤ negsuc 3) (t .origin .right +ℤ guess .right +ℤ negsuc 3) → Searched (windowRow squared tile window (t .side)) (t .side) best → (best .offset ≡ chosen squared p t guess) × (best .residual ≡ residual squared p t (found squared p t guess)) × (best .rows ≡ searchRows squared p t guess)
+unfolding chosen found tried residual searchRows
+searched-finds squared p t guess tile window best copied seen s =
+    let r = searched-same (window-row squared p t guess tile window copied seen) s in
+    (r .is, r .low ∙ ap (tried squared p t guess) (r .is), r .rows-are)
+
+-- the lowest of the 81 totals is what is searched for
+pub lowest-searched : {f : ℕ → ℕ → ℕ} {n b c top k at low rows : ℕ} → Lowest (λ k. sumN n (f k)) b top 81 k at low → Summed (offsetRows f n) c 81 k rows → 81 ≤ k → b ≤ residualMost → Searched f n (record { offset = at; residual = low; rows = rows })
+lowest-searched {f} {n} w s h l =
     let d = lowest-done w h in
     record {
       is = d .0;
       low = d .1;
-      within = omega (arith, d .0, firstMin-most (windowSum squared tile window side) 80);
+      within = omega (arith, d .0, firstMin-most (λ k. sumN n (f k)) 80);
       most = omega (arith, d .2);
+      rows-are = sum-done s h;
     }

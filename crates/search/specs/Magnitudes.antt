@@ -5,10 +5,6 @@ use Prim.Native.Nat.{ℕ}
 abbrev pub squareMost : ℕ
 squareMost = 268304400
 
--- a residual by absolute differences, and a sum of values: 256 · 16380
-abbrev pub absoluteMost : ℕ
-absoluteMost = 4193280
-
 -- what 64 numbers of 16 bits add up to at most: 64 · 65535
 abbrev pub totalMost : ℕ
 totalMost = 4194240
@@ -21,9 +17,10 @@ residualMost = 68685926400
 abbrev pub squaredRowMost : ℕ
 squaredRowMost = 4292870400
 
--- four values, and sixteen: one under the other
+-- four distances
 abbrev pub fourMost : ℕ
 fourMost = 65520
 
-abbrev pub columnMost : ℕ
-columnMost = 262080
+-- what eight numbers of 16 bits add up to at most: 8 · 65535
+abbrev pub pairMost : ℕ
+pairMost = 524280

@@ -4,6 +4,7 @@ use lib.Dec.{T, ltb, eqb, leb, ltb→lt, leb→le, eqb→eq}
 use Rattle.algebra.specs.Test.{both, both-l, both-r, all, all-sound}
 use Rattle.algebra.specs.Order.{zarith, abs-pn, min-pn, add-pn, sub-pn}
 use Rattle.geometry.specs.declared.vectors.Vector.{Vector}
+use Rattle.search.specs.Vectors.{still}
 use Rattle.search.specs.Bounds.{Within}
 use Rattle.search.specs.Offsets.{downs, rights, offset}
 use Rattle.search.specs.Ties.{earlier}
@@ -29,6 +30,11 @@ offset-order i k h l =
     same-eq (ltb i k) (earlier (offset i) (offset k))
     (all-sound 81 (λ k. same (ltb i k) (earlier (offset i) (offset k)))
     (all-sound 81 (λ i. all 81 (λ k. same (ltb i k) (earlier (offset i) (offset k)))) ordered i h) k l)
+
+-- "offset zero first"
+pub offset-zero : offset 0 ≡ still
+unfolding offset downs rights
+offset-zero = refl
 
 -- where the table has the parts d and r, plus 4
 place : ℕ → ℕ → ℕ → ℕ

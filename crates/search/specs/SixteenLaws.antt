@@ -1,13 +1,15 @@
--- At side 16: the sums over four rows at a time are the sums over a tile's rows, a copy of the tile has its sums, and where the offsets lie in the window.
-use Rattle.algebra.specs.Prelude.{_≡_, refl, ap, ap₂, subst, _∙_, Bool, false, List, ℕ, zero, suc, _+_, _*_, _≤_, _<_, arith, length, getD}
+-- Sums in parts that become vectors are the sums over a tile's rows, a copy of the tile has its rows, and how large totals are.
+use Rattle.algebra.specs.Prelude.{_≡_, refl, ap, ap₂, subst, _∙_, Bool, true, false, List, ℕ, zero, suc, _+_, _*_, _≤_, _<_, arith, length, getD}
+use native.Mathlib.Nat.{mul-le-mul}
 use Rattle.algebra.specs.Sums.{sumN}
-use Rattle.algebra.specs.SumLaws.{sumN-cong}
+use Rattle.algebra.specs.SumLaws.{sumN-cong, sumN-add, sumN-bound}
+use Rattle.sequences.specs.Place.{row-room}
 use Rattle.sequences.specs.Tab.{tab}
 use Rattle.sequences.specs.TabLaws.{length-tab, getD-tab}
 use Rattle.search.specs.Offsets.{downs, rights}
 use Rattle.search.specs.OffsetLaws.{parts-most}
 use Rattle.search.specs.Residual.{gap, difference}
-use Rattle.search.specs.Local.{rowSum, squareSum, columnSum, pairSum, Low, windowSum, Window}
+use Rattle.search.specs.Local.{rowSum, squareRow, squareSum, columnSum, pairSum, besideSum, Low, windowRow, Window}
 
 -- what holds of more values holds of fewer
 pub low-less : {l : List ℕ} {n : ℕ} → Low l n → (m : ℕ) → m ≤ n → Low l m
@@ -85,47 +87,73 @@ module _ (f : ℕ → ℕ → ℕ) (tile window : List ℕ) (start stride : ℕ)
 
 -- the distances are the absolute differences
 pub absolute-pairs : (tile window : List ℕ) (start stride : ℕ) → pairSum gap tile window start stride ≡ squareSum false tile window start stride 16
-unfolding pairSum squareSum rowSum difference
+unfolding pairSum squareSum squareRow rowSum difference
 absolute-pairs tile window start stride = refl
+
+-- eight pairs of places, eight apart
+halves : (f : ℕ → ℕ) → sumN 8 (λ j. f j + f (8 + j)) ≡ sumN 16 f
+unfolding sumN
+halves f = omega arith
+
+-- a row from pairs of samples eight apart
+pub beside-row : (tile window : List ℕ) (a b : ℕ) → sumN 8 (λ j. besideSum tile window (a + j) (b + j)) ≡ rowSum false tile window a b 16
+unfolding rowSum difference
+beside-row tile window a b =
+    let f : ℕ → ℕ = λ j. gap (getD tile (a + j) 0) (getD window (b + j) 0) in
+    sumN-cong 8 _ _ (λ j h. ap₂ (λ m n. f j + gap (getD tile m 0) (getD window n 0)) (omega arith) (omega arith))
+    ∙ halves f
+
+-- and two of them
+pub four-rows : (tile window : List ℕ) (a b : ℕ) → sumN 8 (λ j. besideSum tile window (a + j) (b + j) + besideSum tile window (a + j + 16) (b + j + 24)) ≡ rowSum false tile window a b 16 + rowSum false tile window (a + 16) (b + 24) 16
+four-rows tile window a b =
+    sumN-add 8 (λ j. besideSum tile window (a + j) (b + j)) (λ j. besideSum tile window (a + j + 16) (b + j + 24))
+    ∙ ap₂ _+_ (beside-row tile window a b)
+    (sumN-cong 8 _ _ (λ j h. ap₂ (besideSum tile window) (omega arith) (omega arith)) ∙ beside-row tile window (a + 16) (b + 24))
+
+-- a row by its index
+pub row-at : (squared : Bool) (tile window : List ℕ) (start stride side i a b : ℕ) → a ≡ i * side → b ≡ start + i * stride → rowSum squared tile window a b side ≡ squareRow squared tile window start stride side i
+unfolding squareRow
+row-at squared tile window start stride side i a b e f = ap₂ (λ a b. rowSum squared tile window a b side) e f
 
 -- what copies of a tile's samples hold
 module _ (tile own : List ℕ) (is : own ≡ tab 256 (λ k. getD tile k 0)) where
   own-at : (k : ℕ) → k < 256 → getD own k 0 ≡ getD tile k 0
   own-at k h = ap (λ l. getD l k 0) is ∙ getD-tab (λ k. getD tile k 0) 0 256 k h
 
-  pub own-window : {window : List ℕ} → Window tile window 16 → Window own window 16
-  own-window w =
-      record {
-        tile-low =
-            record {
-              room = omega (arith, ap length is, length-tab (λ k. getD tile k 0) 256);
-              most = λ k h. omega (arith, own-at k h, w .tile-low .most k h);
-            };
-        window-low = w .window-low;
-      }
+  module _ (side : ℕ) (small : side ≤ 16) where
+    pub own-window : {window : List ℕ} → Window tile window side → Window own window side
+    own-window w =
+        let l = mul-le-mul small small in
+        record {
+          tile-low =
+              record {
+                room = omega (arith, ap length is, length-tab (λ k. getD tile k 0) 256);
+                most = λ k h. omega (arith, own-at k (omega arith), w .tile-low .most k h);
+              };
+          window-low = w .window-low;
+        }
 
-  pub own-sum : (squared : Bool) (window : List ℕ) (k : ℕ) → windowSum squared own window 16 k ≡ windowSum squared tile window 16 k
-  unfolding windowSum squareSum rowSum
-  own-sum squared window k =
-      sumN-cong 16 _ _
-      (λ i h. sumN-cong 16 _ _ (λ j l. rw (own-at (i * 16 + j) (omega arith))))
+    pub own-row : (squared : Bool) (window : List ℕ) (k i : ℕ) → i < side → windowRow squared own window side k i ≡ windowRow squared tile window side k i
+    unfolding windowRow squareRow rowSum
+    own-row squared window k i h =
+        sumN-cong side _ _
+        (λ j l. rw (own-at (i * side + j) (omega (arith, row-room i side side h, mul-le-mul small small))))
 
--- the offset number k in a window
-module _ {k y x : ℕ} (h : k < 81) (down : y ≡ getD downs k 0) (right : x ≡ getD rights k 0) where
-  pub place-most : (y ≤ 8) × (x ≤ 8)
-  place-most = (omega (arith, parts-most k h .0), omega (arith, parts-most k h .1))
+-- how large the totals are
+difference-most : (squared : Bool) (a b : ℕ) → a ≤ 16380 → b ≤ 16380 → difference squared a b ≤ 268304400
+unfolding difference
+difference-most true a b h k = let l : gap a b ≤ 16380 = omega arith in omega (arith, mul-le-mul l l)
+difference-most false a b h k = omega arith
 
-  pub place-low : {window : List ℕ} → Low window 576 → Low window (24 * y + x + 15 * 24 + 16)
-  place-low w = low-less w _ (omega (arith, place-most))
-
-  pub place-sum : (squared : Bool) (tile window : List ℕ) → squareSum squared tile window (24 * y + x) 24 16 ≡ windowSum squared tile window 16 k
-  unfolding windowSum
-  place-sum squared tile window = ap (λ start. squareSum squared tile window start 24 16) (omega arith)
-
-  -- the same at side 8
-  pub eight-low : {window : List ℕ} → Low window 256 → Low window (16 * y + x + 7 * 16 + 8)
-  eight-low w = low-less w _ (omega (arith, place-most))
-
-  pub eight-sum : (squared : Bool) (tile window : List ℕ) → squareSum squared tile window (16 * y + x) 16 8 ≡ windowSum squared tile window 8 k
-  unfolding windowSum
-  eight-sum squared tile window = ap (λ start. squareSum squared tile window start 16 8) (omega arith)
+pub window-most : {tile window : List ℕ} {side : ℕ} → Window tile window side → side ≤ 16 → (squared : Bool) (k : ℕ) → k < 81 → sumN side (windowRow squared tile window side k) ≤ 68685926400
+unfolding windowRow squareRow rowSum
+window-most {tile} {window} {side} w small squared k h =
+    omega (arith, mul-le-mul small small, sumN-bound side (side * 268304400) _ row)
+  where
+    row : (i : ℕ) → i < side → rowSum squared tile window (i * side) (getD downs k 0 * (side + 8) + getD rights k 0 + i * (side + 8)) side ≤ side * 268304400
+    row i l =
+        let (y, x) = parts-most k h in
+        sumN-bound side 268304400 _
+        (λ j m. difference-most squared (getD tile (i * side + j) 0) (getD window (getD downs k 0 * (side + 8) + getD rights k 0 + i * (side + 8) + j) 0)
+        (w .tile-low .most (i * side + j) (omega (arith, row-room i side side l)))
+        (w .window-low .most (getD downs k 0 * (side + 8) + getD rights k 0 + i * (side + 8) + j) (omega (arith, row-room (getD downs k 0 + i) (side + 8) (side + 8) (omega arith)))))

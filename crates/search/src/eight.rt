@@ -2,13 +2,15 @@
 ghost use mathlib.Core.Path.{_≡_};
 ghost use mathlib.Core.Bool.{true};
 ghost use Prim.Native.Nat.{_+_, _*_, _≤_};
-ghost use Rattle.search.specs.Local.{rowSum, squareSum, Low};
-ghost use Rattle.search.specs.Magnitudes.{squaredRowMost, residualMost};
+ghost use Rattle.search.specs.Local.{rowSum, squareRow, Low, Left};
+ghost use Rattle.search.specs.Magnitudes.{squaredRowMost};
+use crate::Tried;
+use crate::leave;
 use crate::sixteen::square;
 
 // Eight samples of the tile from `a` on against those of the window from `b` on.
 fn squared_row(tile: &[u16], window: &[u16], a: usize, b: usize) -> u32
-    requires { ⌜ (Low (now tile) (a + 8)) × (Low (now window) (b + 8)) × (a ≤ 64) × (b ≤ 576) ⌝ }
+    requires { ⌜ (Low (now tile) (a + 8)) × (Low (now window) (b + 8)) ⌝ }
     ensures { λ r. ⌜ (r ≡ rowSum true (now (tile .entry)) (now (window .entry)) a b 8) × (r ≤ squaredRowMost) ⌝ }
 {
     let mut sum: u32 = 0;
@@ -18,14 +20,24 @@ fn squared_row(tile: &[u16], window: &[u16], a: usize, b: usize) -> u32
     sum
 }
 
-// A whole tile against the window from `start` on.
-pub fn squared_sum(tile: &[u16], window: &[u16], start: usize) -> u64
-    requires { ⌜ (Low (now tile) 64) × (Low (now window) (start + 7 * 16 + 8)) × (start ≤ 256) ⌝ }
-    ensures { λ r. ⌜ (r ≡ squareSum true (now (tile .entry)) (now (window .entry)) start 16 8) × (r ≤ residualMost) ⌝ }
+// An offset, as `sixteen::squared_offset`.
+pub fn squared_offset(tile: &[u16], window: &[u16], y: usize, x: usize, low: u64) -> Tried
+    requires { ⌜ (Low (now tile) 64) × (Low (now window) 256) × (y ≤ 8) × (x ≤ 8) ⌝ }
+    ensures { λ r. ⌜ Left low (squareRow true (now (tile .entry)) (now (window .entry)) (y * 16 + x) 16 8) 8 r ⌝ }
 {
+    let start = y * 16 + x;
     let mut sum: u64 = 0;
-    for i in 0..8 {
-        sum += squared_row(tile, window, i * 8, start + i * 16) as u64;
+    for i in 0..4 {
+        let first = sum + squared_row(tile, window, 16 * i, start + 32 * i) as u64;
+        let both = first + squared_row(tile, window, 16 * i + 8, start + 32 * i + 16) as u64;
+        if both >= low {
+            return leave(first >= low, 2 * i);
+        }
+        sum = both;
     }
-    sum
+    Tried {
+        best: true,
+        total: sum,
+        rows: 8,
+    }
 }

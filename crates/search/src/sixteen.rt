@@ -7,9 +7,11 @@ ghost use lib.ListN.{getD};
 ghost use Rattle.algebra.specs.Sums.{sumN};
 ghost use Rattle.sequences.specs.Tab.{tab};
 ghost use Rattle.pyramid.specs.Magnitudes.{valueMost};
-ghost use Rattle.search.specs.Magnitudes.{squareMost, squaredRowMost, fourMost, totalMost, residualMost};
+ghost use Rattle.search.specs.Magnitudes.{squareMost, squaredRowMost, fourMost, pairMost, totalMost};
 ghost use Rattle.search.specs.Residual.{gap};
-ghost use Rattle.search.specs.Local.{rowSum, squareSum, over, columnSum, pairSum, Low};
+ghost use Rattle.search.specs.Local.{rowSum, squareSum, squareRow, columnSum, besideSum, Low, Left};
+use crate::Tried;
+use crate::leave;
 
 // Two samples, the tile's at `a` and the window's at `b`.
 fn apart(tile: &[u16], window: &[u16], a: usize, b: usize) -> u16
@@ -46,7 +48,7 @@ fn columns(tile: &[u16], window: &[u16], a: usize, b: usize, stride: usize) -> [
 }
 
 // A sample in 32 bits.
-pub fn wide(x: u16) -> u32
+fn wide(x: u16) -> u32
     ensures { λ r. ⌜ (r ≡ x) × (r ≤ 65535) ⌝ }
 {
     x as u32
@@ -75,50 +77,82 @@ pub fn absolute_sum(tile: &[u16], window: &[u16], start: usize, stride: usize) -
     total(first, second, third, fourth)
 }
 
-// By how much the window's sample is above the tile's, or 0: one instruction for eight of them, where a distance takes more.
-fn over(tile: &[u16; 256], window: &[u16], a: usize, b: usize) -> u16
-    requires { ⌜ (Low (now tile) 256) × (a < 256) × (Low (now window) (b + 1)) ⌝ }
-    ensures { λ r. ⌜ (r ≡ over (getD (now (tile .entry)) a 0) (getD (now (window .entry)) b 0)) × (r ≤ valueMost) ⌝ }
+// Two samples of a row, eight apart.
+fn beside(tile: &[u16], window: &[u16], a: usize, b: usize) -> u16
+    requires { ⌜ (Low (now tile) (a + 9)) × (Low (now window) (b + 9)) ⌝ }
+    ensures { λ r. ⌜ (r ≡ besideSum (now (tile .entry)) (now (window .entry)) a b) × (r ≤ 2 * valueMost) ⌝ }
 {
-    let x = tile[a];
-    let y = window[b];
-    if x < y { y - x } else { 0 }
+    let first = apart(tile, window, a, b);
+    let second = apart(tile, window, a + 8, b + 8);
+    first + second
 }
 
-// Four of them, one under the other.
-fn over_column(tile: &[u16; 256], window: &[u16], a: usize, b: usize, stride: usize) -> u16
-    requires { ⌜ (Low (now tile) 256) × (a + 48 < 256) × (Low (now window) (b + 3 * stride + 1)) × (stride ≤ 64) ⌝ }
-    ensures { λ r. ⌜ (r ≡ columnSum over (now (tile .entry)) (now (window .entry)) a b stride) × (r ≤ fourMost) ⌝ }
+// The same of two rows, one under the other.
+fn four(tile: &[u16], window: &[u16], a: usize, b: usize) -> u16
+    requires { ⌜ (Low (now tile) (a + 25)) × (Low (now window) (b + 33)) ⌝ }
+    ensures { λ r. ⌜ (r ≡ besideSum (now (tile .entry)) (now (window .entry)) a b + besideSum (now (tile .entry)) (now (window .entry)) (a + 16) (b + 24)) × (r ≤ fourMost) ⌝ }
 {
-    let first = over(tile, window, a, b);
-    let second = over(tile, window, a + 16, b + stride);
-    let third = over(tile, window, a + 32, b + 2 * stride);
-    let fourth = over(tile, window, a + 48, b + 3 * stride);
-    first + second + third + fourth
+    let upper = beside(tile, window, a, b);
+    let lower = beside(tile, window, a + 16, b + 24);
+    upper + lower
 }
 
-// Sixteen such columns side by side.
-fn over_columns(tile: &[u16; 256], window: &[u16], a: usize, b: usize, stride: usize) -> [u16; 16]
-    requires { ⌜ (Low (now tile) 256) × (a + 64 ≤ 256) × (Low (now window) (b + 3 * stride + 16)) × (stride ≤ 64) ⌝ }
-    ensures { λ r. ⌜ r ≡ tab 16 (λ j. columnSum over (now (tile .entry)) (now (window .entry)) (a + j) (b + j) stride) ⌝ }
+// A row of the tile from `a` on against the window's from `b` on.
+fn absolute_row(tile: &[u16], window: &[u16], a: usize, b: usize) -> u32
+    requires { ⌜ (Low (now tile) (a + 16)) × (Low (now window) (b + 16)) ⌝ }
+    ensures { λ r. ⌜ (r ≡ rowSum false (now (tile .entry)) (now (window .entry)) a b 16) × (r ≤ pairMost) ⌝ }
 {
-    let mut sums = [0u16; 16];
-    for j in 0..16 {
-        sums[j] = over_column(tile, window, a + j, b + j, stride);
+    let mut sum: u32 = 0;
+    for j in 0..8 {
+        sum += wide(beside(tile, window, a + j, b + j));
     }
-    sums
+    sum
 }
 
-// The same with one-sided differences.
-pub fn over_sum(tile: &[u16; 256], window: &[u16], start: usize, stride: usize) -> u32
-    requires { ⌜ (Low (now tile) 256) × (Low (now window) (start + 15 * stride + 16)) × (stride ≤ 64) ⌝ }
-    ensures { λ r. ⌜ (r ≡ pairSum over (now (tile .entry)) (now (window .entry)) start stride) × (r ≤ totalMost) ⌝ }
+// That row and the one under it, in a window of side 24.
+fn two_rows(tile: &[u16], window: &[u16], a: usize, b: usize) -> u32
+    requires { ⌜ (Low (now tile) (a + 32)) × (Low (now window) (b + 40)) ⌝ }
+    ensures { λ r. ⌜ (r ≡ rowSum false (now (tile .entry)) (now (window .entry)) a b 16 + rowSum false (now (tile .entry)) (now (window .entry)) (a + 16) (b + 24) 16) × (r ≤ pairMost) ⌝ }
 {
-    let first = over_columns(tile, window, 0, start, stride);
-    let second = over_columns(tile, window, 64, start + 4 * stride, stride);
-    let third = over_columns(tile, window, 128, start + 8 * stride, stride);
-    let fourth = over_columns(tile, window, 192, start + 12 * stride, stride);
-    total(first, second, third, fourth)
+    let mut sum: u32 = 0;
+    for j in 0..8 {
+        sum += wide(four(tile, window, a + j, b + j));
+    }
+    sum
+}
+
+// `low` in 32 bits, where every total by absolute differences is below the greatest of them: so the sums stay in vectors of 32 bits.
+fn clipped(low: u64) -> u32
+    ensures { λ r. ⌜ (r ≤ low) × (r ≤ 4294967295) × (r < 4294967295 → r ≡ low) ⌝ }
+{
+    if low < 4294967295 {
+        return low as u32;
+    }
+    4294967295
+}
+
+// An offset by absolute differences, whose first sample lies in row `y` and column `x` of the window: two rows at a time, left as soon as their
+// total reaches `low`. Only then is the first of the two summed by itself, to tell at which of them it was reached.
+pub fn absolute_offset(tile: &[u16], window: &[u16], y: usize, x: usize, low: u64) -> Tried
+    requires { ⌜ (Low (now tile) 256) × (Low (now window) 576) × (y ≤ 8) × (x ≤ 8) ⌝ }
+    ensures { λ r. ⌜ Left low (squareRow false (now (tile .entry)) (now (window .entry)) (y * 24 + x) 24 16) 16 r ⌝ }
+{
+    let start = y * 24 + x;
+    let limit = clipped(low);
+    let mut sum: u32 = 0;
+    for i in 0..8 {
+        let both = sum + two_rows(tile, window, 32 * i, start + 48 * i);
+        if both >= limit {
+            let first = sum + absolute_row(tile, window, 32 * i, start + 48 * i);
+            return leave(first >= limit, 2 * i);
+        }
+        sum = both;
+    }
+    Tried {
+        best: true,
+        total: sum as u64,
+        rows: 16,
+    }
 }
 
 // The square of two samples' difference.
@@ -130,34 +164,49 @@ pub fn square(x: u16, y: u16) -> u32
     (d * d) as u32
 }
 
-// Of the tile's sample at `a` and the window's at `b`.
-fn squared(tile: &[u16; 256], window: &[u16], a: usize, b: usize) -> u32
-    requires { ⌜ (Low (now tile) 256) × (a < 256) × (Low (now window) (b + 1)) ⌝ }
-    ensures { λ r. ⌜ (r ≡ gap (getD (now (tile .entry)) a 0) (getD (now (window .entry)) b 0) * gap (getD (now (tile .entry)) a 0) (getD (now (window .entry)) b 0)) × (r ≤ squareMost) ⌝ }
-{
-    square(tile[a], window[b])
+// The sums of two rows, one under the other.
+struct Two {
+    upper: u32,
+    lower: u32,
 }
 
-// Of a row of the tile from `a` on and the window's from `b` on.
-fn squared_row(tile: &[u16; 256], window: &[u16], a: usize, b: usize) -> u32
-    requires { ⌜ (Low (now tile) 256) × (a + 16 ≤ 256) × (Low (now window) (b + 16)) ⌝ }
-    ensures { λ r. ⌜ (r ≡ rowSum true (now (tile .entry)) (now (window .entry)) a b 16) × (r ≤ squaredRowMost) ⌝ }
+// Squared differences of a row of the tile from `a` on and the window's from `b` on, and of the row under it. One call for both, so that it is
+// compiled into the loop over the rows.
+fn squared_rows(tile: &[u16], window: &[u16], a: usize, b: usize) -> Two
+    requires { ⌜ (Low (now tile) (a + 32)) × (Low (now window) (b + 40)) ⌝ }
+    ensures { λ r. ⌜ (r .upper ≡ rowSum true (now (tile .entry)) (now (window .entry)) a b 16) × (r .lower ≡ rowSum true (now (tile .entry)) (now (window .entry)) (a + 16) (b + 24) 16) × (r .upper ≤ squaredRowMost) × (r .lower ≤ squaredRowMost) ⌝ }
 {
-    let mut sum: u32 = 0;
+    let mut upper: u32 = 0;
+    let mut lower: u32 = 0;
     for j in 0..16 {
-        sum += squared(tile, window, a + j, b + j);
+        upper += square(tile[a + j], window[b + j]);
+        lower += square(tile[a + 16 + j], window[b + 24 + j]);
     }
-    sum
+    Two {
+        upper: upper,
+        lower: lower,
+    }
 }
 
-// The same with squared differences.
-pub fn squared_sum(tile: &[u16; 256], window: &[u16], start: usize, stride: usize) -> u64
-    requires { ⌜ (Low (now tile) 256) × (Low (now window) (start + 15 * stride + 16)) × (stride ≤ 64) ⌝ }
-    ensures { λ r. ⌜ (r ≡ squareSum true (now (tile .entry)) (now (window .entry)) start stride 16) × (r ≤ residualMost) ⌝ }
+// The same as `absolute_offset` by squared differences.
+pub fn squared_offset(tile: &[u16], window: &[u16], y: usize, x: usize, low: u64) -> Tried
+    requires { ⌜ (Low (now tile) 256) × (Low (now window) 576) × (y ≤ 8) × (x ≤ 8) ⌝ }
+    ensures { λ r. ⌜ Left low (squareRow true (now (tile .entry)) (now (window .entry)) (y * 24 + x) 24 16) 16 r ⌝ }
 {
+    let start = y * 24 + x;
     let mut sum: u64 = 0;
-    for i in 0..16 {
-        sum += squared_row(tile, window, i * 16, start + i * stride) as u64;
+    for i in 0..8 {
+        let rows = squared_rows(tile, window, 32 * i, start + 48 * i);
+        let first = sum + rows.upper as u64;
+        let both = first + rows.lower as u64;
+        if both >= low {
+            return leave(first >= low, 2 * i);
+        }
+        sum = both;
     }
-    sum
+    Tried {
+        best: true,
+        total: sum,
+        rows: 16,
+    }
 }

@@ -1,20 +1,15 @@
 // The search in tie order around a guess, in local arrays.
 ghost use mathlib.Core.Path.{_≡_};
-ghost use mathlib.Core.Bool.{true, false};
 ghost use Prim.Native.Nat.{_+_, _*_, _<_, _≤_};
 ghost use lib.IntN.{pos, _-ℤ_};
 ghost use lib.ListN.{length, getD};
-ghost use Rattle.algebra.specs.Sums.{sumN};
 ghost use Rattle.sequences.specs.Tab.{tab};
-ghost use Rattle.search.specs.Offsets.{downs, rights, offset};
+ghost use Rattle.search.specs.Offsets.{offset};
 ghost use Rattle.search.specs.Bounds.{Within};
-ghost use Rattle.search.specs.Magnitudes.{absoluteMost, totalMost, residualMost};
-ghost use Rattle.search.specs.Local.{boxSums, windowSum, Window, Searched};
-use crate::boxes::boxes;
-use crate::boxes::tile_total;
+ghost use Rattle.search.specs.Local.{squareRow, windowRow, Window, Kind, Left, Searched};
+use crate::Tried;
 use crate::eight;
-use crate::sixteen::over_sum;
-use crate::sixteen::squared_sum;
+use crate::sixteen;
 use geometry::vectors::Vector;
 
 // The parts of the offsets in tie order, each plus 4.
@@ -186,10 +181,11 @@ const RIGHT: [u8; 81] = [
     8,
 ];
 
-// An offset by its number in tie order, and its residual.
+// An offset by its number in tie order, its residual, and how many rows of all 81 were summed.
 pub struct Best {
     pub offset: usize,
     pub residual: u64,
+    pub rows: u64,
 }
 
 // An entry of the tables, as an index.
@@ -218,7 +214,7 @@ pub fn offset(k: usize) -> Vector
     }
 }
 
-// A tile of side 16 in an array of its own, whose alignment the compiler knows.
+// A tile in an array of its own, whose alignment the compiler knows.
 fn copied(tile: &[u16]) -> [u16; 256]
     requires { ⌜ 256 ≤ length (now tile) ⌝ }
     ensures { λ r. ⌜ r ≡ tab 256 (λ k. getD (now (tile .entry)) k 0) ⌝ }
@@ -230,128 +226,53 @@ fn copied(tile: &[u16]) -> [u16; 256]
     own
 }
 
-// The residual at the offset number `k`, by absolute differences: Σ|w − t| = 2 Σ(w ∸ t) + Σt − Σw, where Σt is the total, and Σw stands in the boxes.
-fn absolute_offset(
-    tile: &[u16; 256],
+// An offset whose first sample lies in row `y` and column `x` of the window, left where its total reaches `low`.
+fn try_offset(
+    squared: bool,
+    side: usize,
+    tile: &[u16],
     window: &[u16],
-    total: u32,
-    boxes: &[u32; 81],
-    down: &[u8; 81],
-    right: &[u8; 81],
-    k: usize,
-) -> u32
-    requires { ⌜ (Window (now tile) (now window) 16) × (total ≡ sumN 256 (λ k. getD (now tile) k 0)) × (total ≤ absoluteMost) × (now boxes ≡ boxSums (now window)) × (now down ≡ downs) × (now right ≡ rights) × (k < 81) ⌝ }
-    ensures { λ r. ⌜ (r ≡ windowSum false (now (tile .entry)) (now (window .entry)) 16 k) × (r ≤ 2 * totalMost + absoluteMost) ⌝ }
+    y: usize,
+    x: usize,
+    low: u64,
+) -> Tried
+    requires { ⌜ (Window (now tile) (now window) side) × (Kind squared side) × (y ≤ 8) × (x ≤ 8) ⌝ }
+    ensures { λ r. ⌜ Left low (squareRow squared (now (tile .entry)) (now (window .entry)) (y * (side + 8) + x) (side + 8) side) side r ⌝ }
 {
-    let y = wide(down[k]);
-    let x = wide(right[k]);
-    2 * over_sum(tile, window, 24 * y + x, 24) + total - boxes[9 * y + x]
-}
-
-// The first of the least residuals by absolute differences, at side 16. `low` starts above every sum: so the sum has one call, and is compiled into the loop.
-fn search_absolute(tile: &[u16], window: &[u16]) -> Best
-    requires { ⌜ Window (now tile) (now window) 16 ⌝ }
-    ensures { λ r. ⌜ Searched false (now (tile .entry)) (now (window .entry)) 16 r ⌝ }
-{
-    let down = DOWN;
-    let right = RIGHT;
-    let own = copied(tile);
-    let total = tile_total(&own);
-    let sums = boxes(window);
-    let mut best: usize = 0;
-    let mut low: u32 = 4294967295;
-    for k in 0..81 {
-        let distance = absolute_offset(&own, window, total, &sums, &down, &right, k);
-        if distance < low {
-            low = distance;
-            best = k;
-        }
+    if side == 8 {
+        return eight::squared_offset(tile, window, y, x, low);
     }
-    let residual = low as u64;
-    Best {
-        offset: best,
-        residual: residual,
-    }
-}
-
-// The same by squared differences.
-fn squared_offset(
-    tile: &[u16; 256],
-    window: &[u16],
-    down: &[u8; 81],
-    right: &[u8; 81],
-    k: usize,
-) -> u64
-    requires { ⌜ (Window (now tile) (now window) 16) × (now down ≡ downs) × (now right ≡ rights) × (k < 81) ⌝ }
-    ensures { λ r. ⌜ (r ≡ windowSum true (now (tile .entry)) (now (window .entry)) 16 k) × (r ≤ residualMost) ⌝ }
-{
-    let y = wide(down[k]);
-    let x = wide(right[k]);
-    squared_sum(tile, window, 24 * y + x, 24)
-}
-
-// The first of the least residuals by squared differences, at side 16.
-fn search_squared(tile: &[u16], window: &[u16]) -> Best
-    requires { ⌜ Window (now tile) (now window) 16 ⌝ }
-    ensures { λ r. ⌜ Searched true (now (tile .entry)) (now (window .entry)) 16 r ⌝ }
-{
-    let down = DOWN;
-    let right = RIGHT;
-    let own = copied(tile);
-    let mut best: usize = 0;
-    let mut low: u64 = 18446744073709551615;
-    for k in 0..81 {
-        let square = squared_offset(&own, window, &down, &right, k);
-        if square < low {
-            low = square;
-            best = k;
-        }
-    }
-    Best {
-        offset: best,
-        residual: low,
-    }
-}
-
-// The first of the least residuals, at side 16.
-pub fn search_sixteen(squared: bool, tile: &[u16], window: &[u16]) -> Best
-    requires { ⌜ Window (now tile) (now window) 16 ⌝ }
-    ensures { λ r. ⌜ Searched squared (now (tile .entry)) (now (window .entry)) 16 r ⌝ }
-{
     if squared {
-        return search_squared(tile, window);
+        return sixteen::squared_offset(tile, window, y, x, low);
     }
-    search_absolute(tile, window)
+    sixteen::absolute_offset(tile, window, y, x, low)
 }
 
-// The residual at the offset number `k`, at side 8.
-fn eight_offset(tile: &[u16], window: &[u16], down: &[u8; 81], right: &[u8; 81], k: usize) -> u64
-    requires { ⌜ (Window (now tile) (now window) 8) × (now down ≡ downs) × (now right ≡ rights) × (k < 81) ⌝ }
-    ensures { λ r. ⌜ (r ≡ windowSum true (now (tile .entry)) (now (window .entry)) 8 k) × (r ≤ residualMost) ⌝ }
-{
-    let y = wide(down[k]);
-    let x = wide(right[k]);
-    eight::squared_sum(tile, window, 16 * y + x)
-}
-
-// The first of the least residuals by squared differences, at side 8.
-pub fn search_eight(tile: &[u16], window: &[u16]) -> Best
-    requires { ⌜ Window (now tile) (now window) 8 ⌝ }
-    ensures { λ r. ⌜ Searched true (now (tile .entry)) (now (window .entry)) 8 r ⌝ }
+// The first of the least residuals, and the rows summed: the offsets in tie order, offset zero first, each left after the row at which its total
+// reaches the least so far. `low` starts above every total, so that offset zero is summed whole.
+pub fn search(squared: bool, side: usize, tile: &[u16], window: &[u16]) -> Best
+    requires { ⌜ (Window (now tile) (now window) side) × (Kind squared side) × (256 ≤ length (now tile)) ⌝ }
+    ensures { λ r. ⌜ Searched (windowRow squared (now (tile .entry)) (now (window .entry)) side) side r ⌝ }
 {
     let down = DOWN;
     let right = RIGHT;
+    let own = copied(tile);
     let mut best: usize = 0;
     let mut low: u64 = 18446744073709551615;
+    let mut rows: u64 = 0;
     for k in 0..81 {
-        let square = eight_offset(tile, window, &down, &right, k);
-        if square < low {
-            low = square;
+        let y = wide(down[k]);
+        let x = wide(right[k]);
+        let tried = try_offset(squared, side, &own, window, y, x, low);
+        rows += tried.rows;
+        if tried.best {
+            low = tried.total;
             best = k;
         }
     }
     Best {
         offset: best,
         residual: low,
+        rows: rows,
     }
 }

@@ -6,6 +6,7 @@ use Rattle.geometry.specs.declared.Shape.{Shape}
 use Rattle.refusals.specs.After.{after}
 use Rattle.noise.specs.declared.Noise.{Noise}
 use Rattle.alignment.specs.Aligned.{alignedVectors, residualSums}
+use Rattle.alignment.specs.Rows.{rowsSummed}
 use Rattle.recipe.specs.Scene.{Scene, sceneOf}
 use Rattle.recipe.specs.Merged.{merged}
 use Rattle.recipe.specs.ExactMerge.{exactAt}
@@ -17,9 +18,10 @@ use Rattle.stacker.specs.Refusals.{alignRefusal, runRefusal, mergeRefusa
 abbrev pub noSums : List ℕ
 noSums = 0 ∷ 0 ∷ 0 ∷ 0 ∷ 0 ∷ 0 ∷ 0 ∷ []
 
--- "Align, and so run, also returns, per other frame in that order, the sum of finest residuals": the answer beside a number
-unfoldable pub answered : (number : ℕ) (sums : List ℕ) → Alignment
-answered number sums = record { refusal = number; residuals = after number noSums sums }
+-- "Align, and so run, also returns, per other frame in that order, the sum of finest residuals", and "how many tile rows it summed in all" (request
+-- L12): the answer beside a number
+unfoldable pub answered : (number : ℕ) (sums : List ℕ) (rows : ℕ) → Alignment
+answered number sums rows = record { refusal = number; residuals = after number noSums sums; rows = after number 0 rows }
 
 -- Demand 3: "every sample of the merged frame differs by at most five eighths of one sample step from the sample at the same place in the exact HDR+ merge"
 pub record Close (scene : Scene) (output : List ℕ) : Type 0 where
@@ -27,7 +29,7 @@ pub record Close (scene : Scene) (output : List ℕ) : Type 0 where
 
 -- align: "burst to vectors"
 pub record Aligned (s : Shape) (reference : ℕ) (samples : List ℕ) (vectors vectors′ work work′ : List ℤ) (r : Alignment) : Type 0 where
-  pub answer : r ≡ answered (alignRefusal s reference samples vectors work) (residualSums s reference samples)
+  pub answer : r ≡ answered (alignRefusal s reference samples vectors work) (residualSums s reference samples) (rowsSummed s reference samples)
   pub found : vectors′ ≡ after (alignRefusal s reference samples vectors work) vectors (alignedVectors s reference samples)
   pub clean : work′ ≡ after (alignRefusal s reference samples vectors work) work (zeros work)
 
@@ -40,7 +42,7 @@ pub record Merged (s : Shape) (reference : ℕ) (noise : Noise) (tuning : Tuning
 
 -- run: "align, then merge"
 pub record Ran (s : Shape) (reference : ℕ) (noise : Noise) (tuning : Tuning) (samples : List ℕ) (vectors vectors′ : List ℤ) (output output′ : List ℕ) (work work′ : List ℤ) (r : Alignment) : Type 0 where
-  pub answer : r ≡ answered (runRefusal s reference noise tuning samples vectors output work) (residualSums s reference samples)
+  pub answer : r ≡ answered (runRefusal s reference noise tuning samples vectors output work) (residualSums s reference samples) (rowsSummed s reference samples)
   pub found : vectors′ ≡ after (runRefusal s reference noise tuning samples vectors output work) vectors (alignedVectors s reference samples)
   pub result : output′ ≡ after (runRefusal s reference noise tuning samples vectors output work) output (merged (sceneOf (mergeOf s reference noise tuning) samples (alignedVectors s reference samples)))
   pub clean : work′ ≡ after (runRefusal s reference noise tuning samples vectors output work) work (zeros work)

@@ -3,6 +3,7 @@ use Rattle.algebra.specs.Prelude.{_≡_, sym, ap₂, subst, _∙_, List, ℕ, _
 use Rattle.refusals.specs.AfterLaws.{kept, made}
 use Rattle.geometry.specs.declared.Shape.{Shape}
 use Rattle.noise.specs.declared.Noise.{Noise}
+use Rattle.alignment.specs.declared.burst.Totals.{Totals}
 use Rattle.alignment.specs.Aligned.{alignedVectors}
 use Rattle.recipe.specs.declared.Merge.{Merge}
 use Rattle.recipe.specs.declared.Tuning.{Tuning}
@@ -23,11 +24,11 @@ levelled s reference tuning tested = record { shape = s; reference = reference; 
 
 module _ {s : Shape} {reference : ℕ} {noise : Noise} {tuning : Tuning} {samples : List ℕ} {vectors : List ℤ} {output : List ℕ} {work : List ℤ} {tested : Tested}
     (t : RunTested s reference noise tuning samples vectors output work tested) where
-  pub ran-refused : (tested .refusal ≡ 0 → ⊥) → Ran s reference noise tuning samples vectors vectors output output work work (record { refusal = tested .refusal; residuals = noSums })
+  pub ran-refused : (tested .refusal ≡ 0 → ⊥) → Ran s reference noise tuning samples vectors vectors output output work work (record { refusal = tested .refusal; residuals = noSums; rows = 0 })
   ran-refused h =
       let e = t .number in
       record {
-        answer = answer-refused _ _ e h;
+        answer = answer-refused _ _ _ e h;
         found = kept _ _ _ e h;
         result = kept _ _ _ e h;
         clean = kept _ _ _ e h;
@@ -46,14 +47,14 @@ module _ {s : Shape} {reference : ℕ} {noise : Noise} {tuning : Tuning} {sample
           strength-most = ready .strength-most;
         }
 
-    pub ran-accepted : {vectors′ work′ : List ℤ} {output′ sums : List ℕ} → RanLevels (levelled s reference tuning tested) samples vectors′ output′ work work′ sums →
-        Ran s reference noise tuning samples vectors vectors′ output output′ work work′ (record { refusal = 0; residuals = sums })
-    ran-accepted {vectors′} {work′} {output′} {sums} is =
+    pub ran-accepted : {vectors′ work′ : List ℤ} {output′ : List ℕ} {r : Totals} → RanLevels (levelled s reference tuning tested) samples vectors′ output′ work work′ r →
+        Ran s reference noise tuning samples vectors vectors′ output output′ work work′ (record { refusal = 0; residuals = r .residuals; rows = r .rows })
+    ran-accepted {vectors′} {work′} {output′} {r} is =
         let e = t .number in
         let found = alignedVectors s reference samples in
         let result = is .result ∙ ap₂ (λ shot read. merged (sceneOf (record { shape = s; reference = reference; shot = shot; read = read; tuning = tuning }) samples found)) (t .shot-is z) (t .read-is z) in
         record {
-          answer = answer-accepted _ _ e z (is .sums-are);
+          answer = answer-accepted _ _ _ e z (is .sums-are) (is .rows-are);
           found = made _ _ _ e z (is .found);
           result = made _ _ _ e z result;
           clean = made _ _ _ e z (is .clean);

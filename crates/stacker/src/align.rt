@@ -5,7 +5,7 @@ use crate::admission::align_refusal;
 use geometry::Shape;
 use pipeline::clear;
 
-// The vectors of a burst, and per other frame its sum of finest residuals.
+// The vectors of a burst, per other frame its sum of finest residuals, and the tile rows summed.
 pub fn align(
     shape: Shape,
     reference: usize,
@@ -20,9 +20,10 @@ pub fn align(
         return Alignment {
             refusal,
             residuals: [0u64; 7],
+            rows: 0,
         };
     }
-    let residuals = alignment::burst::align_frames(
+    let totals = alignment::burst::align_frames(
         shape,
         reference,
         samples,
@@ -30,8 +31,10 @@ pub fn align(
         &mut *work,
     );
     clear(&mut *work);
+    let residuals = totals.residuals;
     Alignment {
         refusal: 0,
         residuals,
+        rows: totals.rows,
     }
 }

@@ -38,6 +38,7 @@ pub fn run_sharpest(
             alignment: Alignment {
                 refusal,
                 residuals: [0u64; 7],
+                rows: 0,
             },
             reference: 0,
         };
@@ -50,11 +51,13 @@ pub fn run_sharpest(
         read: tested.read,
         tuning,
     };
-    let residuals = run_levels(m, samples, &mut *vectors, &mut *output, &mut *work);
+    let totals = run_levels(m, samples, &mut *vectors, &mut *output, &mut *work);
+    let residuals = totals.residuals;
     Choice {
         alignment: Alignment {
             refusal: 0,
             residuals,
+            rows: totals.rows,
         },
         reference: reference as u64,
     }

@@ -5,11 +5,13 @@ pub mod choose;
 pub mod merge;
 pub mod run;
 
-// What align and run answer: the refusal's number, or 0 and per other frame, in rising index, its sum of finest residuals; unused places are 0.
+// What align and run answer: the refusal's number, or 0, per other frame, in rising index, its sum of finest residuals, unused places 0, and how many
+// tile rows were summed in all.
 #[repr(C)]
 pub struct Alignment {
     pub refusal: u64,
     pub residuals: [u64; 7],
+    pub rows: u64,
 }
 
 // What a run that chooses its reference answers: what run does with that reference, and its index; 0 beside a refusal.

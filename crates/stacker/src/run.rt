@@ -36,6 +36,7 @@ pub fn run(
         return Alignment {
             refusal,
             residuals: [0u64; 7],
+            rows: 0,
         };
     }
     let m = Merge {
@@ -45,9 +46,11 @@ pub fn run(
         read: tested.read,
         tuning,
     };
-    let residuals = run_levels(m, samples, &mut *vectors, &mut *output, &mut *work);
+    let totals = run_levels(m, samples, &mut *vectors, &mut *output, &mut *work);
+    let residuals = totals.residuals;
     Alignment {
         refusal: 0,
         residuals,
+        rows: totals.rows,
     }
 }

@@ -31,7 +31,8 @@ pub fn choose_each() -> Outcome {
 
 fn put_answer(out: &mut impl Write, answer: &Answer) -> Outcome {
     answer.number.put(out)?;
-    Ok(put_many(out, &answer.residuals)?)
+    put_many(out, &answer.residuals)?;
+    Ok(answer.rows.put(out)?)
 }
 
 fn put_buffers(out: &mut impl Write, call: &Call) -> Outcome {

@@ -42,6 +42,7 @@ returns c =
     let a = frames .before .before .before .before .before .before .args in
     record {
       sums-are = aligned .sums-are;
+      rows-are = aligned .rows-are;
       found = aligned .found;
       result = merge .merge-frames .ensures ∙ ap (λ v. merged (sceneOf (a .m) (a .samples .now) v)) (aligned .found);
       clean = c .before .clear .ensures ∙ zeros-length _ _ (search needs);

@@ -6,10 +6,10 @@ use Rattle.alignment.proofs.burst.align_frames.Statement.{statement}
 use Rattle.alignment.proofs.burst.align_frames.Tie as tie
 
 abbrev Inv-loop : tie.InvT-loop
-Inv-loop shape reference samples vectors₀ work₀ parts sums₀ k₀ k-end vectors work sums k = (Aligning shape reference samples vectors₀ work₀ sums₀ k vectors work sums) × (k ≤ k-end)
+Inv-loop shape reference samples vectors₀ work₀ parts sums₀ rows₀ k₀ k-end vectors work sums rows k = (Aligning shape reference samples vectors₀ work₀ sums₀ k vectors work sums rows) × (k ≤ k-end)
 
 abbrev μ-loop : tie.MeasureT-loop
-μ-loop shape reference samples vectors₀ work₀ parts sums₀ k₀ k-end vectors work sums k = k-end - k
+μ-loop shape reference samples vectors₀ work₀ parts sums₀ rows₀ k₀ k-end vectors work sums rows k = k-end - k
 
 build-requires : tie.Need-build-requires Inv-loop μ-loop
 build-requires c κs =
@@ -48,22 +48,28 @@ array-write-sums c =
     let seven = loop .loop .inv .0 .filled .same in
     omega (arith, loop .before .before .before .before .before .before .before .pre .fits .burst .allowed .few)
 
+add-rows : tie.Need-add-rows Inv-loop μ-loop
+add-rows c =
+    let loop = c .before .before .before .before .before .before .before .before in
+    let few = loop .before .before .before .before .before .before .before .pre .fits .burst .allowed .few in
+    omega (arith, few, loop .loop .inv .0 .counted .most, c .before .before .before .align-frame .ensures .few)
+
 loop-again : tie.Need-loop-again Inv-loop μ-loop
 loop-again c =
-    let loop = c .before .before .before .before .before .before .before in
+    let loop = c .before .before .before .before .before .before .before .before in
     let few = loop .before .before .before .before .before .before .before .pre .fits .burst .allowed .few in
-    (aligning-turn (loop .loop .inv .0) (omega arith) (omega arith) (c .before .before .before .before .before .other-frame .ensures .0) (ap (λ n. loop .loop .k * n) (loop .before .before .frame-parts .ensures .0)) (c .before .before .align-frame .ensures), omega arith)
+    (aligning-turn (loop .loop .inv .0) (omega arith) (omega arith) (c .before .before .before .before .before .before .other-frame .ensures .0) (ap (λ n. loop .loop .k * n) (loop .before .before .frame-parts .ensures .0)) (c .before .before .before .align-frame .ensures), omega arith)
 
 returns : tie.Need-returns Inv-loop μ-loop
 returns c =
     let loop = c .before in
     let burst = loop .before .before .before .before .before .before .before .pre .fits .burst in
     let done = aligning-done (burst .vectors-long) refl (omega arith) (loop .loop .inv .0) in
-    record { found = done .found; sums-are = done .sums-are; same = done .same ∙ loop .before .before .before .before .build .ensures .same }
+    record { found = done .found; sums-are = done .sums-are; rows-are = done .rows-are; same = done .same ∙ loop .before .before .before .before .build .ensures .same }
 
 pub align-frames-spec : {M : Type 1} → statement M
 align-frames-spec = tie.close (tie.spec
     Inv-loop μ-loop build-requires frame-parts-requires (λ c. search needs) loop-holds
     (λ c κs. search needs) mul-align-frame align-frame-requires (λ c. search needs)
-    array-write-sums (λ c. search needs) (λ c. search needs) loop-again (λ c. search needs)
+    array-write-sums add-rows (λ c. search needs) (λ c. search needs) loop-again (λ c. search needs)
     (λ c. search needs) returns)

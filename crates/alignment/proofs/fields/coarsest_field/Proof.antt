@@ -3,23 +3,38 @@ use Rattle.geometry.specs.Tiles.{level3}
 use Rattle.pyramid.specs.WordsLaws.{Kept, writing-kept}
 use Rattle.search.specs.VectorLaws.{within-more}
 use Rattle.sequences.specs.Place.{row-below, column-below}
-use Rattle.alignment.specs.Fields.{coarsest}
+use native.Mathlib.Nat.{mul-le-mul}
+use Rattle.sequences.specs.Sum.{Summed, sum-start, sum-turn, sum-done, sum-most}
+use Rattle.search.specs.Vectors.{still}
+use Rattle.search.specs.Rows.{searchRows}
+use Rattle.alignment.specs.Magnitudes.{tilesMost, tileRowsMost}
+use Rattle.alignment.specs.Fields.{tileAt, coarsest}
+use Rattle.alignment.specs.Rows.{coarsestRows}
 use Rattle.alignment.specs.FieldLaws.{Placing, place-start, place-turn, place-done}
-use Rattle.alignment.specs.Stored.{pairIn}
+use Rattle.alignment.specs.Stored.{pairIn, Few}
 use Rattle.alignment.specs.StoredLaws.{kept-stored, kept-pair}
-use Rattle.algebra.specs.Prelude.{ap, _∙_, _-_, _*_, _/_, _%_, arith, needs, lit≤}
+use Rattle.algebra.specs.Prelude.{ap, _∙_, ℕ, _-_, _*_, _/_, _%_, _≤_, arith, needs, lit≤}
 use Rattle.alignment.proofs.fields.coarsest_field.Statement.{statement}
 use Rattle.alignment.proofs.fields.coarsest_field.Tie as tie
 
 abbrev Inv-loop : tie.InvT-loop
-Inv-loop work₀ area to rows columns k₀ k-end work k = Placing work₀ to columns (rows * columns) (coarsest level3 (pairIn work₀ area)) k work
+Inv-loop work₀ area to rows columns summed₀ k₀ k-end work summed k = Placing work₀ to columns (rows * columns) (coarsest level3 (pairIn work₀ area)) k work × Summed (λ k. searchRows (level3 .squared) (pairIn work₀ area) (tileAt level3 (k / columns) (k % columns)) still) tileRowsMost (rows * columns) k summed
 
 abbrev μ-loop : tie.MeasureT-loop
-μ-loop work₀ area to rows columns k₀ k-end work k = rows * columns - k
+μ-loop work₀ area to rows columns summed₀ k₀ k-end work summed k = rows * columns - k
 
 -- what the turn finds in the work area as it is
 kept : (c : tie.In-loop Inv-loop μ-loop) → Kept (c .before .before .args .work .now) (c .before .before .args .to) (c .before .loop .work)
-kept c = writing-kept (c .before .loop .inv .writing)
+kept c = writing-kept (c .before .loop .inv .0 .writing)
+
+few : (rows columns : ℕ) → Few rows columns → rows * columns ≤ tilesMost
+few rows columns g = mul-le-mul (g .few-rows) (g .few-columns)
+
+add-summed : tie.Need-add-summed Inv-loop μ-loop
+add-summed c =
+    let l = c .before .before .before .before .before .before .before .before in
+    let s = l .before in
+    omega (arith, l .loop .inv .1 .most, c .before .before .before .before .before .coarsest-tile .ensures .2, few (s .args .rows) (s .args .columns) (s .pre .2))
 
 coarsest-tile-requires : tie.Need-coarsest-tile-requires Inv-loop μ-loop
 coarsest-tile-requires c κs = let s = c .before .before .before in
@@ -30,18 +45,25 @@ put-requires : tie.Need-put-requires Inv-loop μ-loop
 put-requires c κs = (omega arith, within-more 340 (c .before .before .coarsest-tile .ensures .1) (lit≤ tt))
 
 loop-again : tie.Need-loop-again Inv-loop μ-loop
-loop-again c = let t = c .before .before .before .before in
+loop-again c = let t = c .before .before .before .before .before in
     let i = t .before .before in
     let a = i .before .before .args in
     let k = i .before .loop .k in
-    let e = ap (λ r. r .vector) (t .coarsest-tile .ensures .0) ∙ ap (λ p. coarsest level3 p (k / a .columns) (k % a .columns)) (kept-pair (kept i) (a .area) (i .before .before .pre .0) (i .before .before .pre .1)) in
-    rw (c .before .put .ensures) (place-turn (i .before .loop .inv) (i .loop-test .taken) (ap (λ v. v .down) e) (ap (λ v. v .right) e))
+    let same = kept-pair (kept i) (a .area) (i .before .before .pre .0) (i .before .before .pre .1) in
+    let e = ap (λ r. r .vector) (t .coarsest-tile .ensures .0) ∙ ap (λ p. coarsest level3 p (k / a .columns) (k % a .columns)) same in (
+      rw (c .before .before .put .ensures) (place-turn (i .before .loop .inv .0) (i .loop-test .taken) (ap (λ v. v .down) e) (ap (λ v. v .right) e)),
+      sum-turn (i .before .loop .inv .1) (i .loop-test .taken) (ap (λ r. r .rows) (t .coarsest-tile .ensures .0) ∙ ap (λ p. searchRows (level3 .squared) p (tileAt level3 (k / a .columns) (k % a .columns)) still) same) (t .coarsest-tile .ensures .2),
+    )
 
 returns : tie.Need-returns Inv-loop μ-loop
-returns c = place-done (c .before .loop .inv) (c .loop-test .left)
+unfolding coarsestRows
+returns c =
+    let s = c .before .before in
+    let l = c .before .loop .inv in
+    (place-done (l .0) (c .loop-test .left), sum-done (l .1) (c .loop-test .left), omega (arith, sum-most (l .1) (c .loop-test .left), few (s .args .rows) (s .args .columns) (s .pre .2)))
 
 pub coarsest-field-spec : {M : Type 1} → statement M
 coarsest-field-spec = tie.close (tie.spec
-    Inv-loop μ-loop (λ c. search needs) (λ c. place-start (c .pre .3)) (λ c. search needs)
+    Inv-loop μ-loop (λ c. search needs) (λ c. (place-start (c .pre .3), sum-start)) (λ c. search needs)
     (λ c. search needs) coarsest-tile-requires (λ c. search needs) (λ c. search needs) put-requires
-    (λ c. search needs) (λ c. search needs) loop-again (λ c. search needs) returns)
+    add-summed (λ c. search needs) (λ c. search needs) loop-again (λ c. search needs) returns)

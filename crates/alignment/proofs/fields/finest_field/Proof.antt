@@ -4,22 +4,24 @@ use Rattle.geometry.specs.Tiles.{level0}
 use Rattle.sequences.specs.Sum.{Summed, sum-start, sum-turn, sum-done, sum-most}
 use Rattle.sequences.specs.Place.{row-below, column-below}
 use Rattle.search.specs.Magnitudes.{residualMost}
-use Rattle.alignment.specs.Magnitudes.{tilesMost}
+use Rattle.search.specs.Rows.{candidateRows}
+use Rattle.alignment.specs.Rows.{finerRows}
+use Rattle.alignment.specs.Magnitudes.{tilesMost, tileRowsMost}
 use Rattle.search.specs.Residual.{residual}
 use Rattle.geometry.specs.Vectors.{numbered}
 use Rattle.alignment.specs.Fields.{tileAt, residuals}
 use Rattle.alignment.specs.FieldLaws.{Placing, place-start, place-turn, place-done}
 use Rattle.alignment.specs.Stored.{pairIn, Few}
-use Rattle.alignment.specs.Grids.{finestIn}
+use Rattle.alignment.specs.Grids.{finestIn, guessFrom}
 use Rattle.algebra.specs.Prelude.{ap, ℕ, _-_, _*_, _/_, _%_, _≤_, arith, needs}
 use Rattle.alignment.proofs.fields.finest_field.Statement.{statement}
 use Rattle.alignment.proofs.fields.finest_field.Tie as tie
 
 abbrev Inv-loop : tie.InvT-loop
-Inv-loop work area coarse vectors₀ to rows columns sum₀ k₀ k-end vectors sum k = Placing vectors₀ to columns (rows * columns) (finestIn work area coarse) k vectors × Summed (λ k. residual (level0 .squared) (pairIn work area) (tileAt level0 (k / columns) (k % columns)) (numbered columns (finestIn work area coarse) k)) residualMost (rows * columns) k sum
+Inv-loop work area coarse vectors₀ to rows columns sum₀ summed₀ k₀ k-end vectors sum summed k = Placing vectors₀ to columns (rows * columns) (finestIn work area coarse) k vectors × Summed (λ k. residual (level0 .squared) (pairIn work area) (tileAt level0 (k / columns) (k % columns)) (numbered columns (finestIn work area coarse) k)) residualMost (rows * columns) k sum × Summed (λ k. candidateRows (level0 .squared) (pairIn work area) (tileAt level0 (k / columns) (k % columns)) (guessFrom 0 work area coarse (tileAt level0 (k / columns) (k % columns)) (k / columns) (k % columns))) tileRowsMost (rows * columns) k summed
 
 abbrev μ-loop : tie.MeasureT-loop
-μ-loop work area coarse vectors₀ to rows columns sum₀ k₀ k-end vectors sum k = rows * columns - k
+μ-loop work area coarse vectors₀ to rows columns sum₀ summed₀ k₀ k-end vectors sum summed k = rows * columns - k
 
 few : (rows columns : ℕ) → Few rows columns → rows * columns ≤ tilesMost
 few rows columns g = mul-le-mul (g .few-rows) (g .few-columns)
@@ -36,31 +38,43 @@ hand-over-requires : tie.Need-hand-over-requires Inv-loop μ-loop
 hand-over-requires c κs = (omega arith, c .before .before .finer-tile .ensures .1)
 
 add-sum : tie.Need-add-sum Inv-loop μ-loop
-add-sum c = let s = c .before .before .before .before .before .before .before .before in omega (arith, few (s .args .rows) (s .args .columns) (s .pre .2))
+add-sum c =
+    let l = c .before .before .before .before .before .before .before in
+    let s = l .before in
+    omega (arith, l .loop .inv .1 .most, c .before .before .before .before .before .finer-tile .ensures .2, few (s .args .rows) (s .args .columns) (s .pre .2))
+
+add-summed : tie.Need-add-summed Inv-loop μ-loop
+add-summed c =
+    let l = c .before .before .before .before .before .before .before .before in
+    let s = l .before in
+    omega (arith, l .loop .inv .2 .most, c .before .before .before .before .before .before .finer-tile .ensures .3, few (s .args .rows) (s .args .columns) (s .pre .2))
 
 loop-again : tie.Need-loop-again Inv-loop μ-loop
 unfolding finestIn
-loop-again c = let t = c .before .before .before .before .before in
+loop-again c = let t = c .before .before .before .before .before .before in
     let i = t .before in
     let e = t .finer-tile .ensures in
     let v = ap (λ r. r .vector) (e .0) in (
-      rw (c .before .before .hand-over .ensures) (place-turn (i .before .loop .inv .0) (i .loop-test .taken) (ap (λ v. v .down) v) (ap (λ v. v .right) v)),
+      rw (c .before .before .before .hand-over .ensures) (place-turn (i .before .loop .inv .0) (i .loop-test .taken) (ap (λ v. v .down) v) (ap (λ v. v .right) v)),
       sum-turn (i .before .loop .inv .1) (i .loop-test .taken) (ap (λ r. r .residual) (e .0)) (e .2),
+      sum-turn (i .before .loop .inv .2) (i .loop-test .taken) (ap (λ r. r .rows) (e .0)) (e .3),
     )
 
 returns : tie.Need-returns Inv-loop μ-loop
-unfolding residuals
+unfolding residuals finerRows
 returns c = let s = c .before .before in
     let l = c .before .loop .inv in
     record {
       vectors = place-done (l .0) (c .loop-test .left);
-      residual = sum-done (l .1) (c .loop-test .left);
+      residual-is = sum-done (l .1) (c .loop-test .left);
       most = omega (arith, sum-most (l .1) (c .loop-test .left), few (s .args .rows) (s .args .columns) (s .pre .2));
+      rows-are = sum-done (l .2) (c .loop-test .left);
+      few = omega (arith, sum-most (l .2) (c .loop-test .left), few (s .args .rows) (s .args .columns) (s .pre .2));
     }
 
 pub finest-field-spec : {M : Type 1} → statement M
 finest-field-spec = tie.close (tie.spec
-    Inv-loop μ-loop mul-k-end (λ c. (place-start (c .pre .3), sum-start)) (λ c. search needs)
+    Inv-loop μ-loop mul-k-end (λ c. (place-start (c .pre .3), sum-start, sum-start)) (λ c. search needs)
     (λ c. search needs) finer-tile-requires (λ c. search needs) (λ c. search needs)
-    hand-over-requires add-sum (λ c. search needs) (λ c. search needs) loop-again
+    hand-over-requires add-sum add-summed (λ c. search needs) (λ c. search needs) loop-again
     (λ c. search needs) returns)

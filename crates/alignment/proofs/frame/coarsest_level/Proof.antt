@@ -10,7 +10,10 @@ coarsest-field-requires c κs = let s = c .before .before .before .pre in level-
 
 returns : tie.Need-returns
 unfolding pairsIn
-returns c = let g = c .before .before .before in (g .grid-at .ensures, rw (g .before .area-at .ensures) at (c .before .coarsest-field .ensures))
+returns c =
+    let g = c .before .before .before in
+    let e = c .before .coarsest-field .ensures in
+    (g .grid-at .ensures, rw (g .before .area-at .ensures) at (e .0), rw (g .before .area-at .ensures) at (e .1), e .2)
 
 pub coarsest-level-spec : {M : Type 1} → statement M
 coarsest-level-spec = tie.close (tie.spec

@@ -12,7 +12,10 @@ finer-field-requires c κs = let s = c .before .before .before .pre in
 
 returns : tie.Need-returns
 unfolding pairsIn
-returns c = let g = c .before .before .before in (g .grid-at .ensures, rw (g .before .area-at .ensures) at (c .before .finer-field .ensures))
+returns c =
+    let g = c .before .before .before in
+    let e = c .before .finer-field .ensures in
+    (g .grid-at .ensures, rw (g .before .area-at .ensures) at (e .0), rw (g .before .area-at .ensures) at (e .1), e .2)
 
 pub next-level-spec : {M : Type 1} → statement M
 next-level-spec = tie.close (tie.spec

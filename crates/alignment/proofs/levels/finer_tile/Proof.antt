@@ -1,9 +1,10 @@
 -- The reference's samples of the tile are copied once, for the candidates and for the search.
-use Rattle.alignment.specs.Fields.{levelAt}
+use Rattle.search.specs.RowLaws.{sixteen-rows-most}
+use Rattle.alignment.specs.Fields.{levelAt, tileAt}
 use Rattle.alignment.specs.Steps.{stepTo}
 use Rattle.alignment.specs.Stored.{pairIn}
 use Rattle.alignment.specs.StoredLaws.{copyable, ready, finer-answer, finer-side}
-use Rattle.alignment.specs.Grids.{fieldAt}
+use Rattle.alignment.specs.Grids.{fieldAt, guessFrom}
 use Rattle.algebra.specs.Prelude.{ap, _∙_, arith, needs}
 use Rattle.alignment.proofs.levels.finer_tile.Statement.{statement}
 use Rattle.alignment.proofs.levels.finer_tile.Tie as tie
@@ -23,10 +24,13 @@ returns c = let s = c .before .before .before .before .before .before .before in
     let t = c .before .before .before .before .before .before .tile-at in
     let l = levelAt (a .level) in
     let p = pairIn (a .words .now) (a .area) in
-    let m = c .refine-coarse in (
-      finer-answer l p (a .row) (a .column) (t .result) (m .result) (t .ensures .0) (stepTo (a .level)) (a .coarse .rows) (a .coarse .columns) (fieldAt (a .words .now) (a .coarse .at) (a .coarse .columns)) (m .ensures .0),
+    let m = c .refine-coarse in
+    let e =
+    finer-answer l p (a .row) (a .column) (t .result) (m .result) (t .ensures .0) (stepTo (a .level)) (a .coarse .rows) (a .coarse .columns) (fieldAt (a .words .now) (a .coarse .at) (a .coarse .columns)) (m .ensures .0) in (
+      e,
       m .ensures .1,
       m .ensures .2,
+      omega (arith, ap (λ r. r .rows) e, sixteen-rows-most (l .squared) p (tileAt l (a .row) (a .column)) (guessFrom (a .level) (a .words .now) (a .area) (a .coarse) (tileAt l (a .row) (a .column)) (a .row) (a .column)) (finer-side (a .level) (a .row) (a .column) (s .pre .2))),
     )
 
 pub finer-tile-spec : {M : Type 1} → statement M

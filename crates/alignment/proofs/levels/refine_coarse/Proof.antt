@@ -12,7 +12,8 @@ use Rattle.alignment.specs.Steps.{stepTo}
 use Rattle.alignment.specs.Stored.{pairIn, answer}
 use Rattle.alignment.specs.StoredLaws.{answer-within}
 use Rattle.alignment.specs.Grids.{fieldAt}
-use Rattle.algebra.specs.Prelude.{_≡_, ap, ap₂, _∙_, ℕ, needs}
+use Rattle.search.specs.Rows.{searchRows}
+use Rattle.algebra.specs.Prelude.{_≡_, ap, ap₂, _∙_, ℕ, _+_, _*_, needs}
 use Rattle.alignment.proofs.levels.refine_coarse.Statement.{statement}
 use Rattle.alignment.proofs.levels.refine_coarse.Tie as tie
 
@@ -40,7 +41,7 @@ returns c = let v = c .before .before .before in
     let z = c .before .coarse-vector3 in
     let m = c .refine-candidates in (
       m .ensures .0
-          ∙ ap₂ (λ q v. answer q p (a .tile) (found q p (a .tile) v)) (q .is-squared .ensures)
+          ∙ ap₂ (λ q v. answer q p (a .tile) (found q p (a .tile) v) (3 * a .tile .side + searchRows q p (a .tile) v)) (q .is-squared .ensures)
           (made (stepTo (a .level)) (a .coarse .rows) (a .coarse .columns) p (a .tile) (fieldAt (a .words .now) (a .coarse .at) (a .coarse .columns)) (a .row) (a .column) _ _ _ _ _ _ _ _ _
           (f .before .quotient .ensures .0) (f .factor .ensures .0)
           (r .capped .ensures .0 ∙ ap (capped (a .coarse .rows)) (r .before .own .ensures))
@@ -48,7 +49,7 @@ returns c = let v = c .before .before .before in
           (k .capped3 .ensures .0 ∙ ap (capped (a .coarse .columns)) (k .before .own2 .ensures))
           (k′ .capped4 .ensures .0 ∙ ap (capped (a .coarse .columns)) (k′ .before .neighbour2 .ensures))
           (x .ensures .0) (y .ensures .0) (z .ensures .0)),
-      answer-within (q .is-squared .result) p (a .tile) (guessed p (a .tile) (x .result) (y .result) (z .result)) (m .result) (m .ensures .0) 336 (guess-within p (a .tile) (x .result) (y .result) (z .result) 336 (x .ensures .1) (y .ensures .1) (z .ensures .1)),
+      answer-within (q .is-squared .result) p (a .tile) (guessed p (a .tile) (x .result) (y .result) (z .result)) _ (m .result) (m .ensures .0) 336 (guess-within p (a .tile) (x .result) (y .result) (z .result) 336 (x .ensures .1) (y .ensures .1) (z .ensures .1)),
       m .ensures .1,
     )
 

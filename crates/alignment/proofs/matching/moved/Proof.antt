@@ -9,7 +9,7 @@ sum-requires : tie.Need-sum-requires
 sum-requires c κs = (within-more (2 ^ 20) (c .before .pre .0) (lit≤ tt), within-more (2 ^ 20) (c .offset .ensures .1) (lit≤ tt))
 
 returns : tie.Need-returns
-returns c = (c .sum .ensures ∙ ap (λ o. c .before .before .args .guess plus o) (c .before .offset .ensures .0), refl)
+returns c = let d = c .before in (d .sum .ensures ∙ ap (λ o. d .before .before .args .guess plus o) (d .before .offset .ensures .0), refl, refl)
 
 pub moved-spec : {M : Type 1} → statement M
-moved-spec = tie.close (tie.spec (λ c κs. search needs) sum-requires returns)
+moved-spec = tie.close (tie.spec (λ c κs. search needs) sum-requires (λ c. search needs) returns)

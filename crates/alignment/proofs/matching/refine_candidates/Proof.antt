@@ -1,51 +1,66 @@
 -- The residual in the middle of the window is the own candidate's; the window is searched where that one is the guess.
-use Rattle.algebra.specs.Prelude.{sym, ap, _∙_, arith, needs, lit≤}
-use Rattle.search.specs.Search.{found}
-use Rattle.alignment.specs.Stored.{pairIn, answer}
-use Rattle.alignment.specs.StoredLaws.{window-low, guess-residual, search-answer}
-use Rattle.search.specs.SixteenLaws.{low-less}
+use Rattle.algebra.specs.Prelude.{_≡_, refl, sym, ap₂, subst, _∙_, _-_, arith, needs, lit≤}
+use mathlib.Core.Logic.{inr}
+use Rattle.search.specs.Bounds.{Within}
+use Rattle.search.specs.SearchLaws.{guess-within}
+use Rattle.alignment.specs.Stored.{pairIn, refined, guessedIn}
+use Rattle.alignment.specs.StoredLaws.{window-low, guess-residual, guess-is, search-answer, searched-few}
 use Rattle.alignment.proofs.matching.refine_candidates.Statement.{statement}
 use Rattle.alignment.proofs.matching.refine_candidates.Tie as tie
 
-absolute-sum-requires : tie.Need-absolute-sum-requires
-absolute-sum-requires c κs = let s = c .before .before .before .before .before in
-    let w = window-low (s .pre .0) (c .before .before .copy-window .ensures) 16 (s .pre .1) in
-    (w .tile-low, low-less (w .window-low) 476 (lit≤ tt), lit≤ tt)
+middle-sum-requires : tie.Need-middle-sum-requires
+middle-sum-requires c κs = let s = c .before .before .before .before .before in window-low (s .pre .0) (c .before .before .copy-window .ensures) 16 (s .pre .1)
 
-guess-requires : tie.Need-guess-requires
-guess-requires c κs = let s = c .before .before .before .before .before .before in
-    (s .pre .0, s .pre .1, s .pre .2, s .pre .3, s .pre .4, c .absolute-sum .ensures .0 ∙ guess-residual (s .pre .0) (c .before .before .before .copy-window .ensures) (s .pre .1))
+other-sum-requires : tie.Need-other-sum-requires
+other-sum-requires c κs = let s = c .before .before .before .before .before .before .before in (s .pre .0, s .pre .1, c .before .before .before .before .copy-window .ensures, s .pre .3, s .pre .2)
 
-search-sixteen-requires : tie.Need-search-sixteen-requires
-search-sixteen-requires c κs = let s = c .before .before .before .before .before .before .before .before .before .before in window-low (s .pre .0) (c .before .before .before .before .before .before .before .copy-window .ensures) 16 (s .pre .1)
+other-sum-requires-2 : tie.Need-other-sum-requires-2
+other-sum-requires-2 c κs = let s = c .before .before .before .before .before .before .before .before .before in (s .pre .0, s .pre .1, c .before .before .before .before .before .before .copy-window .ensures, s .pre .4, s .pre .2)
+
+-- the guess is the definition's
+best-is : (c : tie.After-guess) → let a = c .before .before .before .before .before .before .before .before .before .before .before .args in c .guess .result ≡ guessedIn (a .words .now) (a .area) (a .tile) (a .own) (a .sideways) (a .vertically)
+best-is c =
+    let s = c .before .before .before .before .before .before .before .before .before .before .before in
+    let a = s .args in
+    c .guess .ensures
+    ∙ guess-is (pairIn (a .words .now) (a .area)) (a .tile) (a .own) (a .sideways) (a .vertically) _ _ _
+    (c .before .before .before .before .before .middle-sum .ensures ∙ guess-residual (s .pre .0) (c .before .before .before .before .before .before .before .before .copy-window .ensures) (s .pre .1)) (c .before .before .before .other-sum .ensures) (c .before .other-sum2 .ensures)
+
+best-within : (c : tie.After-guess) → Within 336 (c .guess .result)
+best-within c =
+    let s = c .before .before .before .before .before .before .before .before .before .before .before in
+    let a = s .args in
+    subst (Within 336) (sym (best-is c)) (guess-within (pairIn (a .words .now) (a .area)) (a .tile) (a .own) (a .sideways) (a .vertically) 336 (s .pre .2) (s .pre .3) (s .pre .4))
+
+search-requires : tie.Need-search-requires
+search-requires c κs = let s = c .before .before .before .before .before .before .before .before .before .before .before .before .before .before in (window-low (s .pre .0) (c .before .before .before .before .before .before .before .before .before .before .before .copy-window .ensures) 16 (s .pre .1), record { is = inr refl }, s .pre .0 .room)
 
 moved-requires : tie.Need-moved-requires
-moved-requires c κs = (c .before .before .before .before .before .before .before .before .before .before .before .pre .2, c .search-sixteen .ensures .within)
+moved-requires c κs = (c .before .before .before .before .before .before .before .before .before .before .before .before .before .before .before .pre .2, c .search .ensures .within, searched-few (c .search .ensures) (lit≤ tt), lit≤ tt)
 
 returns : tie.Need-returns
-returns c = let s = c .before .before .before .before .before .before .before .before .before .before .before .before in
+returns c = let s = c .before .before .before .before .before .before .before .before .before .before .before .before .before .before .before .before in
     let a = s .args in
-    let p = pairIn (a .words .now) (a .area) in
-    let b = c .before .search-sixteen .ensures in
+    let b = c .before .search .ensures in
     let m = c .moved .ensures in
-    let i = c .before .before .before in
-    let w = c .before .before .before .before .before .before .before .before .before .copy-window .ensures in (
-      search-answer (s .pre .0) w (s .pre .1) b (m .0) (m .1)
-          ∙ ap (λ v. answer (a .squared) p (a .tile) (found (a .squared) p (a .tile) v)) (sym (i .before .same .ensures (i .if1 .taken)) ∙ i .before .before .guess .ensures .0),
+    let n = c .moved .result .rows - c .before .search .result .rows in
+    let i = c .before .before .before in (
+      search-answer (s .pre .0) (c .before .before .before .before .before .before .before .before .before .before .before .before .before .copy-window .ensures) (a .squared) n (s .pre .1) b (m .0, m .1, omega (arith, m .2))
+          ∙ ap₂ (refined (a .squared) (a .words .now) (a .area) (a .tile)) (sym (i .before .same .ensures (i .if1 .taken)) ∙ best-is (i .before .before)) (omega (arith, m .2, s .pre .1)),
       omega (arith, m .1, b .most),
     )
 
 refine-requires : tie.Need-refine-requires
-refine-requires c κs = let s = c .before .before .before .before .before .before .before .before .before in (s .pre .0, s .pre .1, c .before .before .guess .ensures .1)
+refine-requires c κs = let s = c .before .before .before .before .before .before .before .before .before .before .before .before .before in (s .pre .0, record { is = inr (s .pre .1) }, best-within (c .before .before), lit≤ tt)
 
 returns-2 : tie.Need-returns-2
-returns-2 c = let a = c .before .before .before .before .before .before .before .before .before .before .args in
-    let p = pairIn (a .words .now) (a .area) in
-    (c .refine .ensures .0 ∙ ap (λ v. answer (a .squared) p (a .tile) (found (a .squared) p (a .tile) v)) (c .before .before .before .guess .ensures .0), c .refine .ensures .1)
+returns-2 c = let s = c .before .before .before .before .before .before .before .before .before .before .before .before .before .before in
+    let a = s .args in
+    (c .refine .ensures .0 ∙ ap₂ (refined (a .squared) (a .words .now) (a .area) (a .tile)) (best-is (c .before .before .before)) (omega (arith, s .pre .1)), c .refine .ensures .1)
 
 pub refine-candidates-spec : {M : Type 1} → statement M
 refine-candidates-spec = tie.close (tie.spec
-    (λ c. search needs) (λ c κs. search needs) (λ c. search needs) (λ c. search needs)
-    (λ c. search needs) absolute-sum-requires (λ c. search needs) guess-requires
-    (λ c κs. search needs) (λ c. search needs) search-sixteen-requires moved-requires returns
-    refine-requires returns-2)
+    (λ c. search needs) (λ c κs. search needs) (λ c. search needs) middle-sum-requires
+    (λ c. search needs) other-sum-requires (λ c. search needs) other-sum-requires-2
+    (λ c κs. search needs) (λ c κs. (best-within c, c .before .before .before .before .before .before .before .before .before .before .before .pre .2)) (λ c. search needs) search-requires
+    moved-requires returns refine-requires returns-2)

@@ -16,13 +16,13 @@ align-frames-requires c κs =
 
 returns : tie.Need-returns
 returns c =
-    let start = c .before .before .before .before .before .before .before .before in
-    let aligned = c .before .before .align-frames .ensures in
+    let start = c .before .before .before .before .before .before .before .before .before in
+    let aligned = c .before .before .before .align-frames .ensures in
     let n = vectorRoom (start .args .header .shape .count - 1) in
     let fits : n ≤ length (start .args .vectors .now) = omega (arith, start .pre .taken .allowed .few) in
     let vectors = start .args .vectors .now in
     let whole = length-take-le n vectors fits in
-    let part = c .before .before .align-frames .last .1 .1 .1 .0 in
+    let part = c .before .before .before .align-frames .last .1 .1 .1 .0 in
     let same : length part ≡ n = omega (arith, whole) in
     record { found = front-is n vectors part fits same ∙ aligned .found; residuals = aligned .sums-are; same = front-length n vectors part fits same ∙ start .pre .vectors-room }
 

@@ -11,21 +11,21 @@ returns : tie.Need-returns
 returns c =
     let e = c .before .align-refusal .ensures in
     let h = c .if1 .taken in
-    record { answer = answer-refused _ _ e h; found = kept _ _ _ e h; clean = kept _ _ _ e h }
+    record { answer = answer-refused _ _ _ e h; found = kept _ _ _ e h; clean = kept _ _ _ e h }
 
 align-frames-requires : tie.Need-align-frames-requires
 align-frames-requires c κs = align-passed _ _ _ _ _ (sym (c .before .before .before .align-refusal .ensures) ∙ c .before .before .if1 .left)
 
 returns-2 : tie.Need-returns-2
 returns-2 c =
-    let tested = c .before .before .before .before .before .before .before .before in
+    let tested = c .before .before .before .before .before .before .before .before .before in
     let e = tested .before .align-refusal .ensures in
     let z = tested .if1 .left in
-    let aligned = c .before .before .before .before .before .align-frames .ensures in
+    let aligned = c .before .before .before .before .before .before .align-frames .ensures in
     record {
-      answer = answer-accepted _ _ e z (aligned .sums-are);
+      answer = answer-accepted _ _ _ e z (aligned .sums-are) (aligned .rows-are);
       found = made _ _ _ e z (aligned .found);
-      clean = made _ _ _ e z (c .before .clear .ensures ∙ zeros-length _ _ (aligned .same));
+      clean = made _ _ _ e z (c .before .before .clear .ensures ∙ zeros-length _ _ (aligned .same));
     }
 
 pub align-spec : {M : Type 1} → statement M

@@ -26,7 +26,7 @@ run-levels-requires c κs =
 
 returns-2 : tie.Need-returns-2
 returns-2 c =
-    let ran = c .before .before .before .before in
+    let ran = c .before .before .before .before .before in
     let chosen = ran .before .before .before .before in
     let passed = chosen .before in
     let t = passed .before .run-refusal .ensures in

@@ -12,7 +12,7 @@ run-levels-requires c κs = let passed = c .before .before .before in runnable (
 
 returns-2 : tie.Need-returns-2
 returns-2 c =
-    let ran = c .before .before .before .before in
+    let ran = c .before .before .before .before .before in
     let passed = ran .before .before .before .before in
     ran-accepted (passed .before .run-refusal .ensures) (passed .if1 .left) (ran .run-levels .ensures)
 

@@ -1,0 +1,51 @@
+-- "how many tile rows it summed in all" (request L12): level by level as the vectors are found, over the tiles, the frames and the burst.
+use Rattle.algebra.specs.Prelude.{List, ℕ, _+_, _-_, _*_, _/_, _%_}
+use Rattle.algebra.specs.Sums.{sumN}
+use Rattle.geometry.specs.declared.Shape.{Shape}
+use Rattle.geometry.specs.Read.{Image, sampleAt}
+use Rattle.geometry.specs.Tiles.{Level, level0, level1, level2, level3, Step, step1to0, step2to1, step3to2}
+use Rattle.geometry.specs.Vectors.{Field, otherFrame}
+use Rattle.search.specs.Vectors.{still}
+use Rattle.search.specs.Residual.{Pair}
+use Rattle.search.specs.Rows.{searchRows, candidateRows}
+use Rattle.alignment.specs.Fields.{tileAt, fromCoarse, levelRows, levelColumns, field1, field2, field3}
+use Rattle.alignment.specs.Frames.{pairs}
+
+-- level 3, which has no candidates
+unfoldable pub coarsestRows : Level → Pair → (rows columns : ℕ) → ℕ
+coarsestRows l p rows columns = sumN (rows * columns) (λ k. searchRows (l .squared) p (tileAt l (k / columns) (k % columns)) still)
+
+-- a finer level: the candidates of each tile and the search around its guess
+unfoldable pub finerRows : Level → Step → (coarseRows coarseColumns : ℕ) → Pair → Field → (rows columns : ℕ) → ℕ
+finerRows l s coarseRows coarseColumns p coarse rows columns =
+    sumN (rows * columns)
+    (λ k.
+    let row = k / columns in
+    let column = k % columns in
+    candidateRows (l .squared) p (tileAt l row column) (fromCoarse s coarseRows coarseColumns p (tileAt l row column) coarse row column))
+
+-- the levels 3 to 0 of a frame, from the levels' pairs of images
+unfoldable pub rows3 : (ℕ → Pair) → ℕ
+rows3 p = coarsestRows level3 (p 3) (levelRows level3 (p 3)) (levelColumns level3 (p 3))
+
+unfoldable pub rows2 : (ℕ → Pair) → ℕ
+rows2 p = finerRows level2 step3to2 (levelRows level3 (p 3)) (levelColumns level3 (p 3)) (p 2) (field3 p) (levelRows level2 (p 2)) (levelColumns level2 (p 2))
+
+unfoldable pub rows1 : (ℕ → Pair) → ℕ
+rows1 p = finerRows level1 step2to1 (levelRows level2 (p 2)) (levelColumns level2 (p 2)) (p 1) (field2 p) (levelRows level1 (p 1)) (levelColumns level1 (p 1))
+
+unfoldable pub rows0 : (ℕ → Pair) → ℕ
+rows0 p = finerRows level0 step1to0 (levelRows level1 (p 1)) (levelColumns level1 (p 1)) (p 0) (field1 p) (levelRows level0 (p 0)) (levelColumns level0 (p 0))
+
+unfoldable pub coarseRows : (ℕ → Pair) → ℕ
+coarseRows p = rows3 p + rows2 p + rows1 p
+
+unfoldable pub frameRows : (ℕ → Pair) → ℕ
+frameRows p = coarseRows p + rows0 p
+
+unfoldable pub rowsOf : Shape → (reference other : Image) → ℕ
+rowsOf shape reference other = frameRows (pairs shape reference other)
+
+-- all other frames of a burst
+unfoldable pub rowsSummed : (s : Shape) → (reference : ℕ) → (samples : List ℕ) → ℕ
+rowsSummed s reference samples = sumN (s .count - 1) (λ k. rowsOf s (sampleAt s samples reference) (sampleAt s samples (otherFrame reference k)))

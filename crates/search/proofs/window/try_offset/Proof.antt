@@ -1,0 +1,44 @@
+-- The side and the kind of differences decide which loop it is.
+use Rattle.algebra.specs.Prelude.{_≡_, subst, true, arith}
+use mathlib.Core.Logic.{⊎-elim}
+use Rattle.search.specs.Local.{Window}
+use Rattle.search.proofs.window.try_offset.Statement.{statement}
+use Rattle.search.proofs.window.try_offset.Tie as tie
+
+-- at side 8 differences are squared, and another side is 16
+squared-is : (c : tie.Then1) → c .before .before .before .args .squared ≡ true
+squared-is c = ⊎-elim (λ k. k .1) (λ k. absurd (omega (arith, k, c .if1 .taken))) (c .before .before .before .pre .1 .is)
+
+side-is : (c : tie.Else1) → c .before .before .before .args .side ≡ 16
+side-is c = ⊎-elim (λ k. absurd (c .if1 .left (k .0))) (λ k. k) (c .before .before .before .pre .1 .is)
+
+squared-offset-requires : tie.Need-squared-offset-requires
+squared-offset-requires c κs =
+    let s = c .before .before .before in
+    let w = subst (Window (s .args .tile .now) (s .args .window .now)) (c .if1 .taken) (s .pre .0) in
+    (w .tile-low, w .window-low, s .pre .2, s .pre .3)
+
+returns : tie.Need-returns
+returns c = rw (squared-is (c .before), c .before .if1 .taken) (c .squared-offset .ensures)
+
+squared-offset-requires-2 : tie.Need-squared-offset-requires-2
+squared-offset-requires-2 c κs =
+    let s = c .before .before .before .before in
+    let w = subst (Window (s .args .tile .now) (s .args .window .now)) (side-is (c .before)) (s .pre .0) in
+    (w .tile-low, w .window-low, s .pre .2, s .pre .3)
+
+returns-2 : tie.Need-returns-2
+returns-2 c = rw (c .before .if2 .taken, side-is (c .before .before)) (c .squared-offset2 .ensures)
+
+absolute-offset-requires : tie.Need-absolute-offset-requires
+absolute-offset-requires c κs =
+    let s = c .before .before .before .before in
+    let w = subst (Window (s .args .tile .now) (s .args .window .now)) (side-is (c .before)) (s .pre .0) in
+    (w .tile-low, w .window-low, s .pre .2, s .pre .3)
+
+returns-3 : tie.Need-returns-3
+returns-3 c = rw (c .before .if2 .left, side-is (c .before .before)) (c .absolute-offset .ensures)
+
+pub try-offset-spec : {M : Type 1} → statement M
+try-offset-spec = tie.close (tie.spec
+    squared-offset-requires returns squared-offset-requires-2 returns-2 absolute-offset-requires returns-3)

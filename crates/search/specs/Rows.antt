@@ -1,0 +1,33 @@
+-- How many tile rows a search sums (request L12).
+use Rattle.algebra.specs.Prelude.{Bool, cond, ℕ, zero, suc, _+_, _*_, leb}
+use Rattle.algebra.specs.Sums.{sumN}
+use Rattle.sequences.specs.Least.{firstMin}
+use Rattle.search.specs.declared.Tile.{Tile}
+use Rattle.geometry.specs.declared.vectors.Vector.{Vector}
+use Rattle.search.specs.Vectors.{_plus_}
+use Rattle.search.specs.Offsets.{offset}
+use Rattle.search.specs.Residual.{Pair, rowResidual}
+
+-- "leave one after the row at which its running total reaches the best so far": of n rows with the sums f, the least j from 1 on such that the first j
+-- rows' total reaches the best, else all n. One row more than suc n is summed unless the total of these has reached it.
+unfoldable pub rows : (best : ℕ) → (f : ℕ → ℕ) → (n : ℕ) → ℕ
+rows best f zero = 0
+rows best f (suc zero) = 1
+rows best f (suc (suc n)) = cond (leb best (sumN (suc n) f)) (rows best f (suc n)) (suc (suc n))
+
+-- the least of the first k + 1 of some numbers
+unfoldable pub leastOf : (ℕ → ℕ) → (k : ℕ) → ℕ
+leastOf f k = f (firstMin f k)
+
+-- "Try offsets in tie order, offset zero first": the rows of the k-th, where f k i is the sum of its row i. Before offset zero there is no best.
+unfoldable pub offsetRows : (f : ℕ → ℕ → ℕ) → (n k : ℕ) → ℕ
+offsetRows f n zero = n
+offsetRows f n (suc k) = rows (leastOf (λ k. sumN n (f k)) k) (f (suc k)) n
+
+-- the rows summed in a search around a guess
+unfoldable pub searchRows : (squared : Bool) → Pair → Tile → (guess : Vector) → ℕ
+searchRows squared p t guess = sumN 81 (offsetRows (λ k. rowResidual squared p t (guess plus offset k)) (t .side))
+
+-- "the three candidates are always summed whole": the rows of a tile that has candidates
+unfoldable pub candidateRows : (squared : Bool) → Pair → Tile → (guess : Vector) → ℕ
+candidateRows squared p t guess = 3 * t .side + searchRows squared p t guess
