@@ -18,14 +18,11 @@ use crate::sizes::size_refusal;
 fn frame_refusal(shape: Shape, reference: usize) -> u64
     ensures { λ r. ⌜ r ≡ first (frameTests shape reference) ⌝ }
 {
-    refusals::first(
-        &[
-            size_refusal(shape),
-            count_refusal(shape),
-            reference_refusal(shape, reference),
-            row_refusal(shape),
-        ],
-    )
+    let size = size_refusal(shape);
+    let count = count_refusal(shape);
+    let third = reference_refusal(shape, reference);
+    let row = row_refusal(shape);
+    refusals::first(&[size, count, third, row])
 }
 
 // Tests 4, 5 and 7.

@@ -25,7 +25,7 @@ pub fn sample_at(shape: Shape, samples: &[u16], frame: usize, row: usize, column
 }
 
 // The index at a place of the first period: forward, then backward.
-fn folded(place: usize, size: usize) -> usize
+pub fn folded(place: usize, size: usize) -> usize
     requires { ⌜ (0 < size) × (size ≤ 2 ^ 32) × (place < 2 * size) ⌝ }
     ensures { λ r. ⌜ (r ≡ mirrored size place) × (r < size) ⌝ }
 {
@@ -47,7 +47,7 @@ fn mirrored(k: usize, size: usize) -> usize
 }
 
 // How far z lies from 0, or from −1 where it is negative: both ways the places are numbered from 0 on.
-fn distance(z: i64) -> usize
+pub fn distance(z: i64) -> usize
     ensures { λ r. ⌜ r ≡ mag z ⌝ }
 {
     if z < 0 {

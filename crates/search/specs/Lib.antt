@@ -14,3 +14,5 @@ pub mod RowLaws
 pub mod LeaveLaws
 pub mod SixteenLaws
 pub mod LocalLaws
+pub mod Period
+pub mod PeriodLaws

@@ -9,6 +9,7 @@ ghost use Rattle.sequences.specs.Write.{written};
 ghost use Rattle.pyramid.specs.Words.{Held, Row, wordAt, imageAt, Source};
 ghost use Rattle.search.specs.Local.{Copied};
 ghost use Rattle.search.specs.Bounds.{Within};
+ghost use Rattle.search.specs.Period.{placeIn, nextIn};
 use geometry::vectors::Vector;
 
 // A row or a column, `j` further.
@@ -47,7 +48,67 @@ fn copy_inside(words: &[i64], from: usize, n: usize, out: &mut [u16], to: usize)
     }
 }
 
-// `n` samples of the row that starts at `start`, those from `column` on, each read by the rule.
+// The place of a column in the period of the mirrored ones.
+fn first_place(column: i64, width: usize) -> usize
+    requires { ⌜ (0 < width) × (width ≤ 4096) ⌝ }
+    ensures { λ r. ⌜ r ≡ placeIn width column ⌝ }
+{
+    let k = geometry::read::distance(column) % (2 * width);
+    if column < 0 {
+        return 2 * width - 1 - k;
+    }
+    k
+}
+
+// The place behind it.
+fn next_place(place: usize, width: usize) -> usize
+    requires { ⌜ (place < 2 * width) × (width ≤ 4096) ⌝ }
+    ensures { λ r. ⌜ r ≡ nextIn width place ⌝ }
+{
+    if place + 1 == 2 * width {
+        return 0;
+    }
+    place + 1
+}
+
+// Eight samples of the row that starts at `start`, those from `column` on, mirrored outside. One remainder is taken for all of them.
+fn copy_outside(words: &[i64], start: usize, width: usize, column: i64, out: &mut [u16], to: usize)
+    requires { ⌜ (Row (now words) start width) × (0 < width) × (width ≤ 4096) × (to + 8 ≤ length (now out)) ⌝ }
+    ensures { λ _. ⌜ now (out .exit) ≡ written (now (out .entry)) to (λ j. wordAt (now (words .entry)) (start + inside width (column +ℤ pos j))) 8 ⌝ }
+{
+    let mut place = first_place(column, width);
+    for j in 0..8 {
+        let x = geometry::read::folded(place, width);
+        out[to + j] = sample(words, start + x);
+        place = next_place(place, width);
+    }
+}
+
+// A column as an index, or one behind the row where it is negative.
+fn index(column: i64, width: usize) -> usize
+    requires { ⌜ (AtMost (2 ^ 32) column) × (width ≤ 4096) ⌝ }
+    ensures { λ r. ⌜ (r ≤ width → column ≡ pos r) × (r ≤ 2 ^ 32) ⌝ }
+{
+    if column < 0 {
+        return width + 1;
+    }
+    column as usize
+}
+
+// Eight samples of the row, at once where all of them lie in it.
+fn copy_group(words: &[i64], start: usize, width: usize, column: i64, out: &mut [u16], to: usize)
+    requires { ⌜ (Row (now words) start width) × (0 < width) × (width ≤ 4096) × (AtMost (2 ^ 32) column) × (to + 8 ≤ length (now out)) ⌝ }
+    ensures { λ _. ⌜ now (out .exit) ≡ written (now (out .entry)) to (λ j. wordAt (now (words .entry)) (start + inside width (column +ℤ pos j))) 8 ⌝ }
+{
+    let x = index(column, width);
+    if x + 8 <= width {
+        copy_eight(words, start + x, &mut *out, to);
+        return;
+    }
+    copy_outside(words, start, width, column, &mut *out, to);
+}
+
+// `n` samples of a row that reaches outside, by eights.
 fn copy_edge(
     words: &[i64],
     start: usize,
@@ -57,16 +118,16 @@ fn copy_edge(
     out: &mut [u16],
     to: usize,
 )
-    requires { ⌜ (Row (now words) start width) × (0 < width) × (width ≤ 4096) × (AtMost (2 ^ 32) column) × (n ≤ 64) × (to + n ≤ length (now out)) ⌝ }
+    requires { ⌜ (Row (now words) start width) × (0 < width) × (width ≤ 4096) × (AtMost (2 ^ 20) column) × (n ≤ 64) × (n % 8 ≡ 0) × (to + n ≤ length (now out)) ⌝ }
     ensures { λ _. ⌜ now (out .exit) ≡ written (now (out .entry)) to (λ j. wordAt (now (words .entry)) (start + inside width (column +ℤ pos j))) n ⌝ }
 {
-    for j in 0..n {
-        let x = geometry::read::inside(shifted(column, j), width);
-        out[to + j] = sample(words, start + x);
+    for k in 0..n / 8 {
+        let first = shifted(column, 8 * k);
+        copy_group(words, start, width, first, &mut *out, to + 8 * k);
     }
 }
 
-// The same, at once where all of them lie in the row.
+// `n` samples of a row, at once where all of them lie in it.
 fn copy_row(
     words: &[i64],
     start: usize,
@@ -76,15 +137,13 @@ fn copy_row(
     out: &mut [u16],
     to: usize,
 )
-    requires { ⌜ (Row (now words) start width) × (0 < width) × (width ≤ 4096) × (AtMost (2 ^ 32) column) × (n ≤ 64) × (n % 8 ≡ 0) × (to + n ≤ length (now out)) ⌝ }
+    requires { ⌜ (Row (now words) start width) × (0 < width) × (width ≤ 4096) × (AtMost (2 ^ 20) column) × (n ≤ 64) × (n % 8 ≡ 0) × (to + n ≤ length (now out)) ⌝ }
     ensures { λ _. ⌜ now (out .exit) ≡ written (now (out .entry)) to (λ j. wordAt (now (words .entry)) (start + inside width (column +ℤ pos j))) n ⌝ }
 {
-    if column >= 0 {
-        let x = column as usize;
-        if x + n <= width {
-            copy_inside(words, start + x, n, &mut *out, to);
-            return;
-        }
+    let x = index(column, width);
+    if x + n <= width {
+        copy_inside(words, start + x, n, &mut *out, to);
+        return;
     }
     copy_edge(words, start, width, column, n, &mut *out, to);
 }

@@ -1,32 +1,49 @@
--- Each store is one of a part written from its front; the index that is read is below the width.
-use Rattle.algebra.specs.Prelude.{ap, _∙_, _+_, _-_, arith, needs, pos, _+ℤ_, w64, toZ, toZ-ofZ}
+-- Each turn writes eight samples more of the part.
+use lib.IntN.{+ℤ-assoc}
+use Rattle.algebra.specs.Prelude.{_≡_, ap, _∙_, ℕ, _+_, _-_, _*_, _^_, _≤_, arith, needs, ℤ, pos, natAbs, _+ℤ_, w64, toZ, ofZ, toZ-ofZ}
 use Rattle.algebra.specs.Back.{back}
+use Rattle.algebra.specs.Bound.{AtMost}
+use Rattle.algebra.specs.Order.{abs-add}
 use Rattle.geometry.specs.Read.{inside}
-use Rattle.sequences.specs.Write.{Writing, write-start, write-turn, write-done}
+use Rattle.sequences.specs.Write.{Writing, write-start, write-part, write-done}
 use Rattle.pyramid.specs.Words.{wordAt}
 use Rattle.search.proofs.copy.copy_edge.Statement.{statement}
 use Rattle.search.proofs.copy.copy_edge.Tie as tie
 
 abbrev Inv-loop : tie.InvT-loop
-Inv-loop words start width column n out₀ to j₀ out j = Writing out₀ to (λ k. wordAt words (start + inside width (toZ w64 column +ℤ pos k))) n j out
+Inv-loop words start width column n out₀ to k₀ k-end out k = Writing out₀ to (λ j. wordAt words (start + inside width (toZ w64 column +ℤ pos j))) n (8 * k) out
 
 abbrev μ-loop : tie.MeasureT-loop
-μ-loop words start width column n out₀ to j₀ out j = n - j
+μ-loop words start width column n out₀ to k₀ k-end out k = k-end - k
 
-sample-requires : tie.Need-sample-requires Inv-loop μ-loop
-sample-requires c κs = c .before .before .before .before .before .pre .0 .held _ (c .inside .ensures .1)
+-- a column of the row, eights further, is small
+further : (z column : ℤ) (j : ℕ) → z ≡ column +ℤ pos j → natAbs column ≤ 2 ^ 20 → j ≤ 64 → AtMost (2 ^ 32) z
+further z column j e h l = rw e (record { most = omega (arith, abs-add column (pos j)) })
+
+-- eight columns further, j places on
+eights : (column : ℤ) (k j : ℕ) → column +ℤ pos k +ℤ pos j ≡ column +ℤ pos (k + j)
+eights column k j = +ℤ-assoc column (pos k) (pos j)
+
+shifted-requires : tie.Need-shifted-requires Inv-loop μ-loop
+shifted-requires c κs = let s = c .before .before .before in
+    rw (toZ-ofZ (s .fits .column)) (record { most = omega (arith, s .pre .3 .most) }, omega arith)
+
+copy-group-requires : tie.Need-copy-group-requires Inv-loop μ-loop
+copy-group-requires c κs = let s = c .before .before .before .before .before in
+    let m = c .before .shifted in
+    (s .pre .0, s .pre .1, s .pre .2, further _ (toZ w64 (ofZ w64 (s .args .column))) (8 * c .before .before .before .loop .k) (back (m .result) (m .ok) ∙ m .ensures) (rw (toZ-ofZ (s .fits .column)) (s .pre .3 .most)) (omega arith), omega arith)
 
 loop-again : tie.Need-loop-again Inv-loop μ-loop
-loop-again c = let a = c .before .before .before .before .before .before .args in
-    let s = c .before .before .shifted in
-    write-turn (c .before .before .before .before .loop .inv) (omega arith)
-    (c .sample .ensures ∙ ap (λ x. wordAt (a .words .now) (a .start + x)) (c .before .inside .ensures .0 ∙ ap (inside (a .width)) (back (s .result) (s .ok) ∙ s .ensures)))
+loop-again c = let a = c .before .before .before .before .before .before .before .before .args in
+    let l = c .before .before .before .before .before .before .loop in
+    let m = c .before .before .before .before .shifted in
+    let e : 8 * (l .k + 1) ≡ 8 * l .k + 8 = omega arith in
+    rw e (write-part (l .inv) (omega arith) (λ j h. ap (λ x. wordAt (a .words .now) (a .start + inside (a .width) x)) (ap (λ z. z +ℤ pos j) (back (m .result) (m .ok) ∙ m .ensures) ∙ eights (toZ w64 (ofZ w64 (a .column))) (8 * l .k) j)) (c .before .before .copy-group .ensures))
 
 returns : tie.Need-returns Inv-loop μ-loop
 returns c = simp (toZ-ofZ (c .before .before .before .fits .column)) at (write-done (c .before .loop .inv) (omega arith))
 
 pub copy-edge-spec : {M : Type 1} → statement M
 copy-edge-spec = tie.close (tie.spec
-    Inv-loop μ-loop (λ c. write-start (search needs)) (λ c κs. search needs) (λ c κs. search needs)
-    (λ c. search needs) sample-requires (λ c. search needs) (λ c. search needs) (λ c. search needs)
-    (λ c. search needs) (λ c. search needs) loop-again (λ c. search needs) returns)
+    Inv-loop μ-loop (λ c. write-start (search needs)) (λ c. search needs) shifted-requires (λ c. search needs) (λ c. search needs) copy-group-requires (λ c. search needs)
+    (λ c. search needs) loop-again (λ c. search needs) returns)
