@@ -74,6 +74,12 @@ typedef struct {
     uint64_t width, height;
 } stacker_pgm;
 
+typedef struct {
+    uint64_t refusal;
+    double shot, read; /* of the file's noise profile, for stacker_noise; not tested */
+    uint16_t black[4]; /* the file's levels, for stacker_burst; not tested */
+} stacker_dng;
+
 typedef enum {
     STACKER_ACCEPTED = 0,
     STACKER_REFUSED_SIZE = 1,
@@ -94,6 +100,9 @@ typedef enum {
     STACKER_REFUSED_BYTES_LENGTH = 16,
     STACKER_REFUSED_PGM = 17,
     STACKER_REFUSED_BLACK = 18,
+    STACKER_REFUSED_DNG_STRUCTURE = 19,
+    STACKER_REFUSED_DNG_TAG = 20,
+    STACKER_REFUSED_DNG_VALUE = 21,
     STACKER_REFUSED_ROW_LENGTH = 23
 } stacker_refusal;
 
@@ -134,6 +143,9 @@ uint64_t stacker_write_pgm(uint64_t width, uint64_t height, const uint16_t *fram
 /* Reads a PGM file in the same spelling into a lent frame of the file's width * height samples. */
 stacker_pgm stacker_read_pgm(const uint8_t *bytes, size_t bytes_length, uint16_t *frame, size_t frame_length);
 
+/* Reads a DNG file into one frame of the lent samples, by its index, and touches no other word of them: width, height and row length are the burst's. */
+stacker_dng stacker_read_dng(const uint8_t *file, size_t file_length, stacker_frames frames, uint64_t frame, uint16_t *samples, size_t samples_length);
+
 /* What merge and run take of a file that was read: its frames, its noise and its strength. */
 
 static inline stacker_burst stacker_file_burst(stacker_file file)
@@ -162,7 +174,7 @@ static inline const char *stacker_refusal_text(uint64_t number)
     case STACKER_ACCEPTED: return "accepted";
     case STACKER_REFUSED_SIZE: return "width or height not a multiple of 64 from 64 to 4096";
     case STACKER_REFUSED_COUNT: return "count of frames 0 or above 8";
-    case STACKER_REFUSED_REFERENCE: return "reference not below the count of frames";
+    case STACKER_REFUSED_REFERENCE: return "reference, or index of the frame to be read, not below the count of frames";
     case STACKER_REFUSED_SAMPLES_LENGTH: return "samples not of length count * row_length * height";
     case STACKER_REFUSED_VECTORS_LENGTH: return "vectors not of length (count - 1) * 2 * (width / 16 + 1) * (height / 16 + 1)";
     case STACKER_REFUSED_OUTPUT_LENGTH: return "output or frame not of length width * height";
@@ -178,6 +190,9 @@ static inline const char *stacker_refusal_text(uint64_t number)
     case STACKER_REFUSED_BYTES_LENGTH: return "bytes not of the length that stacker_pgm_length answers";
     case STACKER_REFUSED_PGM: return "not a PGM file as stacker_write_pgm writes it";
     case STACKER_REFUSED_BLACK: return "a black level above 255";
+    case STACKER_REFUSED_DNG_STRUCTURE: return "not a little-endian TIFF file, or a part of it lies past its end";
+    case STACKER_REFUSED_DNG_TAG: return "a DNG file in which a needed tag is absent or a listed one stands twice";
+    case STACKER_REFUSED_DNG_VALUE: return "a DNG file with a type, count or value that is not read, or of another size than the burst";
     case STACKER_REFUSED_ROW_LENGTH: return "row length not from width to width + 256";
     default: return "no refusal of this version";
     }
@@ -232,7 +247,7 @@ static inline const char *stacker_refusal_text(uint64_t number)
            return 1;
        fwrite(pgm, 1, pgm_length, stdout);
 
-   examples/merge.c and examples/sharpest.c are whole programs; examples/burst_file.rs calls from Rust.
+   examples/merge.c, examples/sharpest.c and examples/merge_dng.c, which reads its frames from DNG files, are whole programs; examples/burst_file.rs calls from Rust.
 
    FRAMES are Bayer RGGB, row by row, frame after frame: 16-bit words that hold 0..4095. Black is already subtracted, or the burst says what it is.
    A row takes row_length words: those after its W samples are spare. They may hold anything and are never read into a result. Output rows have none.
@@ -263,6 +278,9 @@ static inline const char *stacker_refusal_text(uint64_t number)
    behind it. Its frame has W*H uint16_t, its bytes are as many as stacker_pgm_length answers. Writing reads the frame and writes the bytes, reading the
    other way round.
 
+   A DNG file brings one frame: width * height words of samples are written, row by row, and neither spare words nor another frame. docs/DNG.md has which
+   tags it must have, which are passed over and what is refused.
+
    - Any length may be passed: a wrong one is refused, and nothing is read or written beyond it.
    - A pointer may be NULL where its length is 0, and only there.
    - A buffer that is written or cleared must not overlap another lent one, and each must be aligned for its elements, as malloc's memory is.
@@ -276,6 +294,7 @@ static inline const char *stacker_refusal_text(uint64_t number)
    and 23; merge 1 to 12, 18 and 23; run 1 to 11, 18 and 23; run_sharpest run's but for 3, whichever frame it chooses.
    A file is tested line by line: no first LF 15, 13; line two 15, 14, then 1, 2, 3, 9, 10, 4; each row 15, 14, 11; then what follows, 15.
    Writing a PGM file tests 1, 6, 16, 11 in that order, reading one 17, 6, 11.
+   Reading a DNG file tests 19, 20, 21, then 1, 2, 3 of the frame's index, 23, 4 and 11 of the file's samples.
 
    NOISE. stacker_merge_iso, stacker_run_iso and stacker_run_sharpest_iso scale the curve for ISO 100 by a = iso / 100: shot by a, read by a * a. A
    file has the levels floor(1024 shot) and floor(1024 read) instead; stacker_file_noise turns them back. The curve speaks of light: in the noise of a

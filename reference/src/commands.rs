@@ -2,6 +2,7 @@
 
 mod calls;
 mod data;
+mod dng;
 mod exact;
 mod files;
 mod lines;
@@ -33,6 +34,7 @@ pub fn dispatch(arguments: &[String]) -> Outcome {
         ["choose"] => calls::choose_each(),
         ["write-pgm"] => pgm::answer_writings(),
         ["read-pgm"] => pgm::answer_readings(),
+        ["read-dng"] => dng::answer_readings(),
         ["exact"] => exact::answer_each(),
         ["lone-sample"] => data::write_lone_sample(),
         ["cases", directory, seed] => data::write_files(directory, seed, cases),
@@ -41,6 +43,7 @@ pub fn dispatch(arguments: &[String]) -> Outcome {
         ["calls", side, count, seed] => data::write_calls(side, count, seed),
         ["pgm-frames", count, seed] => pgm::put_writings(count, seed),
         ["pgm-files", count, seed] => pgm::put_readings(count, seed),
+        ["dng-files", count, seed] => dng::put_readings(count, seed),
         ["fixed-calls"] => data::write_each(fixed_calls::calls()),
         ["fixed-calls", width, height, round] => {
             let calls = fixed_calls::of_size(width.parse()?, height.parse()?, round.parse()?);

@@ -7,6 +7,8 @@ pub mod align;
 pub mod burst;
 pub mod calls;
 pub mod cases;
+pub mod dng;
+pub mod dng_data;
 pub mod exact;
 pub mod file;
 pub mod fixed_calls;

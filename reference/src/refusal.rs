@@ -21,6 +21,9 @@ pub enum Refusal {
     BytesLength = 16,
     Pgm = 17,
     BlackLevel = 18,
+    DngOutside = 19,
+    DngTags = 20,
+    DngValue = 21,
     RowLength = 23,
 }
 

@@ -87,6 +87,15 @@ fn pgm_files() {
 }
 
 #[test]
+fn dng_files() {
+    // A header alone: 19, and the lent samples come back.
+    let file = b"II\x2a\0\x08\0\0\0";
+    let reading = [&words(&[64, 64, 1, 64, 0, 2, 8])[..], &[1, 2, 3, 4], file].concat();
+    let answer = [&words(&[19, 0, 0, 0, 0, 0, 0])[..], &[1, 2, 3, 4]].concat();
+    assert_eq!(reference(&["read-dng"], &reading).stdout, answer);
+}
+
+#[test]
 fn calls() {
     let twice = [flat_call(), flat_call()].concat();
     let zero_vectors = vec![0; 4 * 50];

@@ -15,7 +15,7 @@ use crate::sizes::row_refusal;
 use crate::sizes::size_refusal;
 
 // Tests 1 to 3, and 23.
-fn frame_refusal(shape: Shape, reference: usize) -> u64
+pub fn frame_refusal(shape: Shape, reference: usize) -> u64
     ensures { λ r. ⌜ r ≡ first (frameTests shape reference) ⌝ }
 {
     let size = size_refusal(shape);

@@ -8,7 +8,7 @@ ghost use Rattle.geometry.specs.Fits.{Allowed, Sampled};
 use crate::Shape;
 
 // Where the sample of a frame at a row and a column stands.
-fn sample_index(shape: Shape, frame: usize, row: usize, column: usize) -> usize
+pub fn sample_index(shape: Shape, frame: usize, row: usize, column: usize) -> usize
     requires { ⌜ (Allowed shape) × (frame < shape .count) × (row < shape .height) × (column < shape .width) ⌝ }
     ensures { λ r. ⌜ (r ≡ sampleIndex shape frame row column) × (r < sampleLength shape) ⌝ }
 {

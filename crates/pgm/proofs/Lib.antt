@@ -1,3 +1,2 @@
 pub mod Scanning
 pub mod Framing
-pub mod Seen

@@ -5,3 +5,4 @@ pub mod Some
 pub mod TestLaws
 pub mod AfterLaws
 pub mod SomeLaws
+pub mod SeenLaws

@@ -73,6 +73,18 @@ pgmForm = 17
 abbrev pub blackLevel : ℕ
 blackLevel = 18
 
+-- L7: "header not II 42, or directory (its count and entries), strip (start by 273, length by 279) or a listed tag's value outside the file"
+abbrev pub dngStructure : ℕ
+dngStructure = 19
+
+-- L7: "a needed tag absent or a listed one given twice"
+abbrev pub dngTag : ℕ
+dngTag = 20
+
+-- L7: "a listed type, count or value other than above"
+abbrev pub dngValue : ℕ
+dngValue = 21
+
 -- L8: "a side other than 16 or 32"
 abbrev pub side : ℕ
 side = 22

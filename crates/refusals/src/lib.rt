@@ -38,6 +38,12 @@ pub const PGM_FORM: u64 = 17;
 
 pub const BLACK_LEVEL: u64 = 18;
 
+pub const DNG_STRUCTURE: u64 = 19;
+
+pub const DNG_TAG: u64 = 20;
+
+pub const DNG_VALUE: u64 = 21;
+
 pub const SIDE: u64 = 22;
 
 pub const ROW_LENGTH: u64 = 23;

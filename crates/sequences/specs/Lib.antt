@@ -2,6 +2,7 @@ pub mod Tab
 pub mod TabLaws
 pub mod Grid
 pub mod Place
+pub mod Written
 pub mod Write
 pub mod Sum
 pub mod Least

@@ -1,4 +1,4 @@
--- A list with a part of it written over: the invariant of a loop that stores f 0 .. f (n − 1) from a place on.
+-- A list with a part of it written over: the invariant of a loop that stores f 0 .. f (n − 1) from a place on, and what stands where afterwards.
 use mathlib.Core.Path.{_≡_, refl, sym, ap, _∙_, subst, subst₂}
 use Rattle.algebra.specs.Prelude.{List, _++_, ℕ, zero, suc, _+_, _≤_, _<_, arith}
 use native.Mathlib.Numerals.{add-one}
@@ -9,10 +9,7 @@ use lib.ListN.{List·getD-append}
 use Rattle.sequences.specs.Tab.{tab}
 use Rattle.sequences.specs.TabLaws.{length-tab, getD-tab}
 use Rattle.sequences.specs.Grid.{tab-ext}
-
--- d with f 0 .. f (n - 1) at the places from at on
-unfoldable pub written : {A : Type 0} → List A → ℕ → (ℕ → A) → ℕ → List A
-written d at f n = paste d at (tab n f) n
+unfoldable pub use Rattle.sequences.specs.Written.{written}
 
 -- l is d after j of the n stores: a loop's invariant
 pub record Writing {A : Type 0} (d : List A) (at : ℕ) (f : ℕ → A) (n j : ℕ) (l : List A) : Type 0 where

@@ -1,7 +1,7 @@
 -- After i turns the bits of the first i samples are gathered.
 use Rattle.algebra.specs.Prelude.{refl, _-_, arith, needs, length, getD}
 use Rattle.pgm.specs.Writing.{someAbove}
-use Rattle.pgm.proofs.Seen.{Seen, seen-start, seen-turn, seen-done}
+use Rattle.refusals.specs.SeenLaws.{Seen, seen-start, seen-turn, seen-done}
 use Rattle.pgm.proofs.samples.bits.Statement.{statement}
 use Rattle.pgm.proofs.samples.bits.Tie as tie
 

@@ -2,7 +2,7 @@
 use Rattle.algebra.specs.Prelude.{refl, _-_, _%_, _+_, arith, needs, getD}
 use native.Mathlib.Nat.{mul-le-mul}
 use Rattle.pgm.specs.Blocks.{high}
-use Rattle.pgm.proofs.Seen.{Seen, seen-start, seen-turn, seen-done}
+use Rattle.refusals.specs.SeenLaws.{Seen, seen-start, seen-turn, seen-done}
 use Rattle.pgm.proofs.samples.high_bits.Statement.{statement}
 use Rattle.pgm.proofs.samples.high_bits.Tie as tie
 

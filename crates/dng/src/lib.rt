@@ -1,0 +1,25 @@
+// One frame of a burst from an Adobe DNG file, with the noise curve and the black levels that the file gives.
+mod curve;
+mod reading;
+mod strip;
+mod tags;
+mod tests;
+
+pub use reading::read_dng;
+
+// What reading a file answers: the number of the refusal with every other field 0, or 0 with the file's curve and its black levels, in the
+// pattern's order.
+#[repr(C)]
+pub struct DngRead {
+    pub refusal: u64,
+    pub shot: f64,
+    pub read: f64,
+    pub black: [u16; 4],
+}
+
+// A value that a file must have: of the tag at a row of the table, at an index.
+struct Demand {
+    row: usize,
+    index: usize,
+    value: usize,
+}

@@ -1,0 +1,12 @@
+-- Tag, type and count, then four bytes more.
+use Rattle.algebra.specs.Prelude.{arith, needs}
+use Rattle.tiff.proofs.directory.entry_at.Statement.{statement}
+use Rattle.tiff.proofs.directory.entry_at.Tie as tie
+
+returns : tie.Need-returns
+returns c = record { is = cc; fits = record { count-small = omega arith; at-small = omega arith } }
+
+pub entry-at-spec : {M : Type 1} → statement M
+entry-at-spec = tie.close (tie.spec
+    (λ c κs. search needs) (λ c. search needs) (λ c κs. search needs) (λ c. search needs)
+    (λ c κs. search needs) (λ c. search needs) returns)
