@@ -5,6 +5,7 @@ ghost use lib.IntN.{pos, natAbs, _+ℤ_};
 ghost use lib.ListN.{length};
 ghost use Rattle.algebra.specs.Bound.{AtMost};
 ghost use Rattle.geometry.specs.Read.{inside, read};
+ghost use Rattle.sequences.specs.Tab.{tab};
 ghost use Rattle.sequences.specs.Write.{written};
 ghost use Rattle.pyramid.specs.Words.{Held, Row, wordAt, imageAt, Source};
 ghost use Rattle.search.specs.Local.{Copied};
@@ -28,13 +29,39 @@ fn sample(words: &[i64], k: usize) -> u16
     words[k] as u16
 }
 
-// Eight samples from `from` on: a loop of a fixed count, which becomes vector instructions.
+// One of the eight samples from `from` on.
+fn one(words: &[i64], from: usize, j: usize) -> u16
+    requires { ⌜ (Row (now words) from 8) × (j < 8) ⌝ }
+    ensures { λ r. ⌜ r ≡ wordAt (now (words .entry)) (from + j) ⌝ }
+{
+    sample(words, from + j)
+}
+
+// All of them, read before the first is stored: nothing has to be known of where they go, and both become vector instructions.
+fn eight(words: &[i64], from: usize) -> [u16; 8]
+    requires { ⌜ Row (now words) from 8 ⌝ }
+    ensures { λ r. ⌜ r ≡ tab 8 (λ j. wordAt (now (words .entry)) (from + j)) ⌝ }
+{
+    [
+        one(words, from, 0),
+        one(words, from, 1),
+        one(words, from, 2),
+        one(words, from, 3),
+        one(words, from, 4),
+        one(words, from, 5),
+        one(words, from, 6),
+        one(words, from, 7),
+    ]
+}
+
+// They are copied.
 fn copy_eight(words: &[i64], from: usize, out: &mut [u16], to: usize)
     requires { ⌜ (Row (now words) from 8) × (to + 8 ≤ length (now out)) ⌝ }
     ensures { λ _. ⌜ now (out .exit) ≡ written (now (out .entry)) to (λ j. wordAt (now (words .entry)) (from + j)) 8 ⌝ }
 {
+    let r = eight(words, from);
     for j in 0..8 {
-        out[to + j] = sample(words, from + j);
+        out[to + j] = r[j];
     }
 }
 
