@@ -8,7 +8,7 @@ use Rattle.geometry.specs.declared.Shape.{Shape}
 use Rattle.refusals.specs.TestLaws.{among, passed}
 use Rattle.geometry.specs.Shape.{sampleLength}
 use Rattle.geometry.specs.Fits.{Allowed}
-use Rattle.geometry.specs.Order.{shapeTests}
+use Rattle.limits.specs.Order.{shapeTests}
 use Rattle.burst_file.specs.declared.Header.{Header}
 use Rattle.burst_file.specs.Burst.{Burst}
 use Rattle.burst_file.specs.Part.{Part, refused, found, numberOf, _then_, mapped}

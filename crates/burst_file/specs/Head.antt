@@ -7,7 +7,7 @@ use lib.ListN.{length, getD, drop}
 use Rattle.refusals.specs.Numbers as no
 use Rattle.refusals.specs.Tests.{refuse, first}
 use Rattle.geometry.specs.Shape.{shaped, referenceRefusal}
-use Rattle.geometry.specs.Order.{shapeTests}
+use Rattle.limits.specs.Order.{shapeTests}
 use Rattle.noise.specs.Levels.{levelRefusal, strengthRefusal}
 use Rattle.burst_file.specs.Part.{Part, refused, found, unless, _then_}
 use Rattle.burst_file.specs.Line.{lineEnd, valueLine}

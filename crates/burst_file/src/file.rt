@@ -11,8 +11,8 @@ use crate::Header;
 use crate::first_lines::read_head;
 use crate::rows::check_frames;
 use crate::scanning::value_at;
-use geometry::lengths::length_refusal;
-use geometry::lengths::sample_length;
+use limits::lengths::length_refusal;
+use limits::lengths::sample_length;
 
 // The number of the first refusal but 4, or 0.
 pub fn check_file(file: &[u8]) -> u64

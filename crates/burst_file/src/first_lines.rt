@@ -9,9 +9,9 @@ use crate::Line;
 use crate::lines::check_line;
 use crate::scanning::has_lf;
 use crate::scanning::value_at;
-use geometry::sizes::count_refusal;
-use geometry::sizes::reference_refusal;
-use geometry::sizes::size_refusal;
+use limits::sizes::count_refusal;
+use limits::sizes::reference_refusal;
+use limits::sizes::size_refusal;
 use noise::level_refusal;
 use noise::strength_refusal;
 

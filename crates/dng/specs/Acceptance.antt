@@ -6,7 +6,7 @@ use Rattle.refusals.specs.Numbers as no
 use Rattle.refusals.specs.Tests.{first}
 use Rattle.refusals.specs.TestLaws.{here, there, passed, goes, both-passed, lone, refuse-not}
 use Rattle.geometry.specs.Shape.{sampleLength, lengthRefusal}
-use Rattle.geometry.specs.Order.{frameTests}
+use Rattle.limits.specs.Order.{frameTests}
 use Rattle.geometry.specs.ShapeLaws.{right-length}
 use Rattle.refusals.specs.Some.{some}
 use Rattle.refusals.specs.SomeLaws.{none, not-one}

@@ -5,7 +5,7 @@ use Rattle.refusals.specs.Tests.{first}
 use Rattle.refusals.specs.TestLaws.{among, passed}
 use Rattle.geometry.specs.declared.Shape.{Shape}
 use Rattle.geometry.specs.Shape.{sampleLength}
-use Rattle.geometry.specs.Order.{shapeTests, frameTests}
+use Rattle.limits.specs.Order.{shapeTests, frameTests}
 use Rattle.geometry.specs.ShapeLaws.{allowed, below-count, right-length}
 use Rattle.dng.specs.Refusals.{roomTests}
 use Rattle.dng.specs.Fits.{FrameFits}

@@ -6,7 +6,7 @@ use Rattle.refusals.specs.Tests.{refuse, first}
 use Rattle.refusals.specs.Some.{some}
 use Rattle.geometry.specs.declared.Shape.{Shape}
 use Rattle.geometry.specs.Shape.{sampleLength, lengthRefusal}
-use Rattle.geometry.specs.Order.{frameTests}
+use Rattle.limits.specs.Order.{frameTests}
 use Rattle.tiff.specs.declared.Entry.{Entry}
 use Rattle.tiff.specs.Bytes.{short}
 use Rattle.tiff.specs.Directory.{headerWrong, directoryOutside, timesOf}

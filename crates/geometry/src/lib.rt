@@ -1,10 +1,5 @@
-// Sizes, lengths, places and refusals of a burst: what document 01 says of the lent buffers before any arithmetic on samples.
-pub mod bounds;
-pub mod lengths;
-pub mod order;
-pub mod question;
+// The shape of a burst, and where its samples, tiles and vectors stand.
 pub mod read;
-pub mod sizes;
 pub mod tiles;
 pub mod vectors;
 

@@ -6,7 +6,7 @@ ghost use Rattle.printing.specs.Put.{Printed};
 ghost use Rattle.pgm.specs.Form.{headerOf, fileLength, sizesAllowed, pgmLength};
 ghost use Rattle.pgm.specs.Fits.{Sized};
 use crate::digits::digits;
-use geometry::sizes::size_allowed;
+use limits::sizes::size_allowed;
 use printing::pieces::put_byte;
 use printing::pieces::put_bytes;
 use printing::pieces::put_number;

@@ -13,7 +13,7 @@ use crate::header::put_header;
 use crate::header::sizes_allowed;
 use crate::samples::fill;
 use crate::samples::raster_refusal;
-use geometry::lengths::length_refusal;
+use limits::lengths::length_refusal;
 use refusals::OUTPUT_LENGTH;
 use refusals::PGM_FORM;
 use refusals::first;

@@ -6,7 +6,7 @@ use crate::header::put_header;
 use crate::header::sizes_allowed;
 use crate::samples::frame_refusal;
 use crate::samples::put_frame;
-use geometry::lengths::length_refusal;
+use limits::lengths::length_refusal;
 use refusals::BYTE_LENGTH;
 use refusals::OUTPUT_LENGTH;
 use refusals::SIZE;

@@ -5,7 +5,7 @@ use lib.Seq.{length-take-le, take-at}
 use borrow.Author.Tests.{lt-ltb, le-ltb, eq-eqb, ne-eqb}
 use Rattle.geometry.specs.declared.Shape.{Shape}
 use Rattle.geometry.specs.Shape.{sampleLength, lengthRefusal}
-use Rattle.geometry.specs.Order.{shapeTests}
+use Rattle.limits.specs.Order.{shapeTests}
 use Rattle.geometry.specs.Fits.{Allowed}
 use Rattle.geometry.specs.ShapeLaws.{below-count}
 use Rattle.refusals.specs.Numbers as no

@@ -4,7 +4,7 @@ use Rattle.refusals.specs.Tests.{first}
 use Rattle.refusals.specs.After.{after}
 use Rattle.geometry.specs.declared.Shape.{Shape}
 use Rattle.geometry.specs.Shape.{rowRefusal}
-use Rattle.geometry.specs.Order.{shapeTests, mergeLengths}
+use Rattle.limits.specs.Order.{shapeTests, mergeLengths}
 use Rattle.noise.specs.declared.Noise.{Noise}
 use Rattle.noise.specs.Levels.{noiseTests}
 use Rattle.recipe.specs.declared.Tuning.{Tuning}

@@ -7,7 +7,7 @@ use Rattle.refusals.specs.Tests.{first}
 use Rattle.refusals.specs.After.{after}
 use Rattle.geometry.specs.declared.Shape.{Shape}
 use Rattle.geometry.specs.Shape.{countAllowed, countRefusal, referenceRefusal}
-use Rattle.geometry.specs.Order.{shapeTests, frameTests, mergeShapeTests}
+use Rattle.limits.specs.Order.{shapeTests, frameTests, mergeShapeTests}
 use Rattle.noise.specs.declared.Noise.{Noise}
 use Rattle.recipe.specs.declared.Tuning.{Tuning}
 use Rattle.sharpness.specs.SharpnessLaws.{lone-first}

@@ -2,8 +2,8 @@
 use Rattle.algebra.specs.Prelude.{List, [], _∷_, _++_, ℕ, length, ℤ}
 use Rattle.refusals.specs.Tests.{first}
 use Rattle.geometry.specs.declared.Shape.{Shape}
-use Rattle.geometry.specs.Order.{alignShapeTests, mergeShapeTests}
-use Rattle.geometry.specs.Bounds.{sampleRefusal, vectorRefusal}
+use Rattle.limits.specs.Order.{alignShapeTests, mergeShapeTests}
+use Rattle.limits.specs.Bounds.{sampleRefusal, vectorRefusal}
 use Rattle.noise.specs.declared.Noise.{Noise}
 use Rattle.noise.specs.Levels.{levelsOf, noiseTests, shotLevel, readLevel, strengthRefusal, blackRefusal}
 use Rattle.recipe.specs.declared.Merge.{Merge}
@@ -18,7 +18,7 @@ alignRefusal s reference samples vectors work =
 unfoldable pub contentTests : Shape → Tuning → (samples : List ℕ) → List ℕ
 contentTests s tuning samples = strengthRefusal (tuning .strength) ∷ blackRefusal (tuning .black) ∷ sampleRefusal s samples ∷ []
 
--- "run 1 to 11", and 18 among them
+-- "run 1 to 11", and 18 and 23 among them
 unfoldable pub runTests : Shape → (reference : ℕ) → Noise → Tuning → (samples : List ℕ) (vectors : List ℤ) (output : List ℕ) (work : List ℤ) → List ℕ
 runTests s reference noise tuning samples vectors output work =
     mergeShapeTests s reference (length samples) (length vectors) (length output) (length work) ++ (noiseTests noise ++ contentTests s tuning samples)

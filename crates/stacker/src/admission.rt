@@ -19,7 +19,7 @@ pub fn align_refusal(
 ) -> u64
     ensures { λ r. ⌜ r ≡ alignRefusal shape reference (now (samples .entry)) (now (vectors .entry)) (now (work .entry)) ⌝ }
 {
-    let lengths = geometry::order::align_shape_refusal(
+    let lengths = limits::order::align_shape_refusal(
         shape,
         reference,
         samples.len(),
@@ -29,7 +29,7 @@ pub fn align_refusal(
     if lengths != 0 {
         return lengths;
     }
-    geometry::bounds::sample_refusal(shape, samples)
+    limits::bounds::sample_refusal(shape, samples)
 }
 
 // Tests 10, 18 and 11.
@@ -40,7 +40,7 @@ fn content_refusal(shape: Shape, tuning: Tuning, samples: &[u16]) -> u64
     let strength = noise::strength_refusal(tuning.strength);
     let levels = tuning.black;
     let black = noise::black_refusal(levels);
-    let sample = geometry::bounds::sample_refusal(shape, samples);
+    let sample = limits::bounds::sample_refusal(shape, samples);
     refusals::first(&[strength, black, sample])
 }
 
@@ -64,7 +64,7 @@ pub fn run_refusal(
 ) -> Tested
     ensures { λ r. ⌜ RunTested shape reference noise tuning (now (samples .entry)) (now (vectors .entry)) (now (output .entry)) (now (work .entry)) r ⌝ }
 {
-    let lengths = geometry::order::merge_shape_refusal(
+    let lengths = limits::order::merge_shape_refusal(
         shape,
         reference,
         samples.len(),

@@ -1,6 +1,6 @@
 // The capture station's questions, for C. Each is total: it answers for every argument.
 ghost use mathlib.Core.Path.{_≡_};
-ghost use Rattle.geometry.specs.Question.{lengthQuestion};
+ghost use Rattle.limits.specs.Question.{lengthQuestion};
 ghost use Rattle.burst_file.specs.Reading.{fileCheck};
 ghost use Rattle.station.specs.Station.{noiseQuestion};
 use noise::Curve;
@@ -19,7 +19,7 @@ pub extern "C" fn station_length(
 ) -> u64
     ensures { λ r. ⌜ r ≡ lengthQuestion width height count side «row_length» number ⌝ }
 {
-    geometry::question::length_question(width, height, count, side, row_length, number)
+    limits::question::length_question(width, height, count, side, row_length, number)
 }
 
 // V of a curve, a strength and a root; 0 where refusal 8, 9 or 10 would stand, or the root exceeds 65520.

@@ -1,6 +1,6 @@
 -- `header_refusal`: each test is its definition, so the first of them is.
 use borrow.Author.Needs.{needs}
-use Rattle.geometry.specs.Order.{shapeTests}
+use Rattle.limits.specs.Order.{shapeTests}
 use Rattle.burst_file.specs.Head.{headerRefusal}
 use Rattle.burst_file.proofs.first_lines.header_refusal.Statement.{statement}
 use Rattle.burst_file.proofs.first_lines.header_refusal.Tie as tie

@@ -3,7 +3,7 @@ use Rattle.algebra.specs.Prelude.{sym, ap, _∙_, needs}
 use Rattle.refusals.specs.Numbers as no
 use Rattle.refusals.specs.TestLaws.{stops, goes, lone}
 use Rattle.geometry.specs.Shape.{lengthRefusal}
-use Rattle.geometry.specs.OrderLaws.{frames-allowed}
+use Rattle.limits.specs.OrderLaws.{frames-allowed}
 use Rattle.dng.specs.Refusals.{roomTests}
 use Rattle.dng.proofs.reading.room_refusal.Statement.{statement}
 use Rattle.dng.proofs.reading.room_refusal.Tie as tie

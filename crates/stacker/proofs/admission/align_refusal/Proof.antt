@@ -1,7 +1,7 @@
 -- `stacker::admission::align_refusal`: the tests of shape and lengths in one call, then 11.
 use Rattle.algebra.specs.Prelude.{sym, _∙_, needs}
 use Rattle.refusals.specs.TestLaws.{stops, goes, lone}
-use Rattle.geometry.specs.OrderLaws.{align-fits}
+use Rattle.limits.specs.OrderLaws.{align-fits}
 use Rattle.stacker.specs.Refusals.{alignRefusal}
 use Rattle.stacker.proofs.admission.align_refusal.Statement.{statement}
 use Rattle.stacker.proofs.admission.align_refusal.Tie as tie

@@ -3,7 +3,7 @@ use Rattle.algebra.specs.Prelude.{_≡_, refl, sym, ap, _∙_, needs}
 use Rattle.refusals.specs.TestLaws.{stops, goes}
 use Rattle.noise.specs.declared.Levels.the-variants.{Found, Refused}
 use Rattle.noise.specs.Levels.{levelsOf, refusalOf, shotLevel, readLevel}
-use Rattle.geometry.specs.OrderLaws.{merge-fits}
+use Rattle.limits.specs.OrderLaws.{merge-fits}
 use Rattle.noise.specs.LevelLaws.{levels-number, refused-above}
 use Rattle.stacker.specs.Refusals.{runTests}
 use Rattle.stacker.proofs.admission.run_refusal.Statement.{statement}

@@ -1,0 +1,16 @@
+-- The one test on a length.
+use borrow.Author.Tests.{eq-eqb, ne-eqb}
+use Rattle.geometry.specs.Shape.{lengthRefusal}
+use Rattle.limits.proofs.lengths.length_refusal.Statement.{statement}
+use Rattle.limits.proofs.lengths.length_refusal.Tie as tie
+
+returns : tie.Need-returns
+unfolding lengthRefusal
+returns c = rw (eq-eqb _ _ (c .if1 .taken))
+
+returns-2 : tie.Need-returns-2
+unfolding lengthRefusal
+returns-2 c = rw (ne-eqb _ _ (c .if1 .left))
+
+pub length-refusal-spec : {M : Type 1} → statement M
+length-refusal-spec = tie.close (tie.spec returns returns-2)

@@ -1,0 +1,6 @@
+pub mod Order
+pub mod OrderLaws
+pub mod Question
+pub mod Bounds
+pub mod Excess
+pub mod BoundLaws

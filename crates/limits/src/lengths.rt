@@ -1,0 +1,46 @@
+// The lengths of the four lent buffers, and the tests on them: refusals 4 to 7.
+ghost use mathlib.Core.Path.{_≡_};
+ghost use Prim.Native.Nat.{_≤_};
+ghost use Rattle.geometry.specs.Shape.{sampleLength, vectorLength, outputLength, workLength, lengthRefusal};
+ghost use Rattle.geometry.specs.Fits.{Allowed};
+use geometry::Shape;
+use geometry::tiles::frame_parts;
+
+// Words of samples: count times a frame's, spare ones included.
+pub fn sample_length(shape: Shape) -> usize
+    requires { ⌜ Allowed shape ⌝ }
+    ensures { λ r. ⌜ (r ≡ sampleLength shape) × (r ≤ 142606336) ⌝ }
+{
+    shape.count * (shape.row_length * shape.height)
+}
+
+// Words of vectors: two to a tile, for each frame but the reference.
+pub fn vector_length(shape: Shape) -> usize
+    requires { ⌜ Allowed shape ⌝ }
+    ensures { λ r. ⌜ (r ≡ vectorLength shape) × (r ≤ 924686) ⌝ }
+{
+    (shape.count - 1) * frame_parts(shape)
+}
+
+// Words of output: a frame's samples.
+pub fn output_length(shape: Shape) -> usize
+    requires { ⌜ Allowed shape ⌝ }
+    ensures { λ r. ⌜ (r ≡ outputLength shape) × (r ≤ 16777216) ⌝ }
+{
+    shape.width * shape.height
+}
+
+// Words of work: two to a sample of a frame.
+pub fn work_length(shape: Shape) -> usize
+    requires { ⌜ Allowed shape ⌝ }
+    ensures { λ r. ⌜ (r ≡ workLength shape) × (r ≤ 33554432) ⌝ }
+{
+    2 * (shape.width * shape.height)
+}
+
+// The test `number` of a buffer of `length`, whose right length is `right`.
+pub fn length_refusal(number: u64, right: usize, length: usize) -> u64
+    ensures { λ r. ⌜ r ≡ lengthRefusal number right length ⌝ }
+{
+    if length == right { 0 } else { number }
+}

@@ -1,0 +1,90 @@
+// The tests 1 to 7 of the calls, in the order of the numbers with 23 before 4, on the lengths of the lent buffers.
+ghost use mathlib.Core.Path.{_≡_};
+ghost use Rattle.refusals.specs.Tests.{first};
+ghost use Rattle.limits.specs.Order.{frameTests, alignLengths, mergeLengths, alignShapeTests, mergeShapeTests};
+ghost use Rattle.geometry.specs.Fits.{Allowed};
+use crate::lengths::length_refusal;
+use crate::lengths::output_length;
+use crate::lengths::sample_length;
+use crate::lengths::vector_length;
+use crate::lengths::work_length;
+use crate::sizes::count_refusal;
+use crate::sizes::reference_refusal;
+use crate::sizes::row_refusal;
+use crate::sizes::size_refusal;
+use geometry::Shape;
+
+// Tests 1 to 3, and 23.
+pub fn frame_refusal(shape: Shape, reference: usize) -> u64
+    ensures { λ r. ⌜ r ≡ first (frameTests shape reference) ⌝ }
+{
+    let size = size_refusal(shape);
+    let count = count_refusal(shape);
+    let third = reference_refusal(shape, reference);
+    let row = row_refusal(shape);
+    refusals::first(&[size, count, third, row])
+}
+
+// Tests 4, 5 and 7.
+fn align_lengths(shape: Shape, samples: usize, vectors: usize, work: usize) -> u64
+    requires { ⌜ Allowed shape ⌝ }
+    ensures { λ r. ⌜ r ≡ first (alignLengths shape samples vectors work) ⌝ }
+{
+    refusals::first(
+        &[
+            length_refusal(refusals::SAMPLE_LENGTH, sample_length(shape), samples),
+            length_refusal(refusals::VECTOR_LENGTH, vector_length(shape), vectors),
+            length_refusal(refusals::WORK_LENGTH, work_length(shape), work),
+        ],
+    )
+}
+
+// Tests 4 to 7.
+fn merge_lengths(shape: Shape, samples: usize, vectors: usize, output: usize, work: usize) -> u64
+    requires { ⌜ Allowed shape ⌝ }
+    ensures { λ r. ⌜ r ≡ first (mergeLengths shape samples vectors output work) ⌝ }
+{
+    refusals::first(
+        &[
+            length_refusal(refusals::SAMPLE_LENGTH, sample_length(shape), samples),
+            length_refusal(refusals::VECTOR_LENGTH, vector_length(shape), vectors),
+            length_refusal(refusals::OUTPUT_LENGTH, output_length(shape), output),
+            length_refusal(refusals::WORK_LENGTH, work_length(shape), work),
+        ],
+    )
+}
+
+// Tests 1 to 5 and 7, and 23 before 4.
+pub fn align_shape_refusal(
+    shape: Shape,
+    reference: usize,
+    samples: usize,
+    vectors: usize,
+    work: usize,
+) -> u64
+    ensures { λ r. ⌜ r ≡ first (alignShapeTests shape reference samples vectors work) ⌝ }
+{
+    let frames = frame_refusal(shape, reference);
+    if frames != 0 {
+        return frames;
+    }
+    align_lengths(shape, samples, vectors, work)
+}
+
+// Tests 1 to 7, and 23 before 4.
+pub fn merge_shape_refusal(
+    shape: Shape,
+    reference: usize,
+    samples: usize,
+    vectors: usize,
+    output: usize,
+    work: usize,
+) -> u64
+    ensures { λ r. ⌜ r ≡ first (mergeShapeTests shape reference samples vectors output work) ⌝ }
+{
+    let frames = frame_refusal(shape, reference);
+    if frames != 0 {
+        return frames;
+    }
+    merge_lengths(shape, samples, vectors, output, work)
+}

@@ -1,0 +1,72 @@
+// The length question of the capture station.
+ghost use mathlib.Core.Path.{_≡_};
+ghost use Rattle.refusals.specs.Tests.{first};
+ghost use Rattle.geometry.specs.Fits.{Allowed};
+ghost use Rattle.limits.specs.Question.{lengthTested, sideRefusal, questionTests, lengthQuestion};
+use crate::lengths::output_length;
+use crate::lengths::sample_length;
+use crate::lengths::vector_length;
+use crate::lengths::work_length;
+use crate::sizes::count_refusal;
+use crate::sizes::row_refusal;
+use crate::sizes::size_refusal;
+use geometry::Shape;
+use geometry::shaped;
+use geometry::tiles::FINEST_SIDE;
+
+// The length that refusal `number` tests, from 4 to 7; else 0.
+fn length_tested(shape: Shape, number: u64) -> u64
+    requires { ⌜ Allowed shape ⌝ }
+    ensures { λ r. ⌜ r ≡ lengthTested shape number ⌝ }
+{
+    match number {
+        4 => sample_length(shape) as u64,
+        5 => vector_length(shape) as u64,
+        6 => output_length(shape) as u64,
+        7 => work_length(shape) as u64,
+        _ => 0,
+    }
+}
+
+// Refusal 22.
+fn side_refusal(side: u64) -> u64
+    ensures { λ r. ⌜ r ≡ sideRefusal side ⌝ }
+{
+    if side == FINEST_SIDE as u64 {
+        0
+    } else {
+        refusals::SIDE
+    }
+}
+
+// Tests 1, 2, 22 and 23, which let the lengths be worked out.
+fn question_refusal(shape: Shape, side: u64) -> u64
+    ensures { λ r. ⌜ r ≡ first (questionTests shape side) ⌝ }
+{
+    refusals::first(
+        &[
+            size_refusal(shape),
+            count_refusal(shape),
+            side_refusal(side),
+            row_refusal(shape),
+        ],
+    )
+}
+
+// The length that refusal `number` tests, or 0 where refusal 1, 2, 22 or 23 stands.
+pub fn length_question(
+    width: u64,
+    height: u64,
+    count: u64,
+    side: u64,
+    row_length: u64,
+    number: u64,
+) -> u64
+    ensures { λ r. ⌜ r ≡ lengthQuestion width height count side «row_length» number ⌝ }
+{
+    let shape = shaped(width, height, count, row_length);
+    if question_refusal(shape, side) != 0 {
+        return 0;
+    }
+    length_tested(shape, number)
+}

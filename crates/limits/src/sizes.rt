@@ -1,0 +1,70 @@
+// Sizes, counts, the reference and the row length: refusals 1 to 3 and 23.
+ghost use mathlib.Core.Path.{_≡_};
+ghost use Rattle.geometry.specs.Shape.{sizeAllowed, sizeRefusal, countRefusal, referenceRefusal, rowRefusal};
+use geometry::Shape;
+
+// A multiple of 64 from 64 to 4096.
+pub fn size_allowed(size: usize) -> bool
+    ensures { λ r. ⌜ r ≡ sizeAllowed size ⌝ }
+{
+    if size < 64 {
+        return false;
+    }
+    if 4096 < size {
+        return false;
+    }
+    size % 64 == 0
+}
+
+// Refusal 1.
+pub fn size_refusal(shape: Shape) -> u64
+    ensures { λ r. ⌜ r ≡ sizeRefusal shape ⌝ }
+{
+    if !size_allowed(shape.width) {
+        return refusals::SIZE;
+    }
+    if !size_allowed(shape.height) {
+        return refusals::SIZE;
+    }
+    0
+}
+
+// Refusal 2.
+pub fn count_refusal(shape: Shape) -> u64
+    ensures { λ r. ⌜ r ≡ countRefusal shape ⌝ }
+{
+    if shape.count < 1 {
+        return refusals::COUNT;
+    }
+    if 8 < shape.count {
+        return refusals::COUNT;
+    }
+    0
+}
+
+// Refusal 3.
+pub fn reference_refusal(shape: Shape, reference: usize) -> u64
+    ensures { λ r. ⌜ r ≡ referenceRefusal shape reference ⌝ }
+{
+    if reference >= shape.count {
+        refusals::REFERENCE
+    } else {
+        0
+    }
+}
+
+// How many words after a row's samples may be spare.
+const SPARE_MOST: usize = 256;
+
+// Refusal 23.
+pub fn row_refusal(shape: Shape) -> u64
+    ensures { λ r. ⌜ r ≡ rowRefusal shape ⌝ }
+{
+    if shape.row_length < shape.width {
+        return refusals::ROW_LENGTH;
+    }
+    if SPARE_MOST < shape.row_length - shape.width {
+        return refusals::ROW_LENGTH;
+    }
+    0
+}
