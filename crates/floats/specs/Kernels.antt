@@ -1,9 +1,10 @@
 -- Straight-line forms of sums, differences and products with positive constants: worked out in floats they give, as a float, what they give in whole numbers,
 -- if no intermediate is larger than what the format counts without a gap. No −0 arises.
-use Rattle.algebra.specs.Prelude.{_≡_, refl, sym, ap, ap₂, _∙_, Bool, true, false, not, ℕ, zero, suc, _+_, _*_, _^_, _≤_, _<_, arith, T, leb, ltb, lit<, ℤ, pos, negsuc, natAbs, negℤ, _+ℤ_, _-ℤ_, _*ℤ_}
+use Rattle.algebra.specs.Prelude.{_≡_, refl, sym, ap, ap₂, _∙_, Bool, true, false, not, List, [], _∷_, ℕ, zero, suc, _+_, _*_, _^_, _≤_, _<_, arith, T, leb, ltb, lit<, getD, ℤ, pos, negsuc, natAbs, negℤ, _+ℤ_, _-ℤ_, _*ℤ_}
 use native.Mathlib.Nat.{le-trans, add-le-add, mul-le-mul-left}
 use borrow.Author.Tests.{lt-ltb}
 use lib.Dec.{leb→le, ltb→lt}
+use mathlib.Core.List.{map}
 use lib.IntN.{+ℤ-idr}
 use lib.Ieee.{Float, Format, prec, round, neg, add, sub, mul, ofInt}
 use Rattle.algebra.specs.Diff.{sub-cases}
@@ -97,7 +98,7 @@ counts f (minus a b) β = both (leb (most a β + most b β) (2 ^ prec f)) (both 
 counts f (times n a) β = both (leb (n * most a β) (2 ^ prec f)) (both (both (ltb 0 n) (leb n (2 ^ prec f))) (counts f a β))
 
 module _ (f : Format) (σ : ℕ → ℤ) (ρ : ℕ → Float) (β : ℕ → ℕ) (same : (i : ℕ) → ρ i ≡ ofInt f (σ i)) (bounded : (i : ℕ) → natAbs (σ i) ≤ β i) where
-  within : (e : Form) → natAbs (whole e σ) ≤ most e β
+  pub within : (e : Form) → natAbs (whole e σ) ≤ most e β
   within (var i) = bounded i
   within (plus a b) = le-trans (abs-add (whole a σ) (whole b σ)) (add-le-add (within a) (within b))
   within (minus a b) = le-trans (abs-sub (whole a σ) (whole b σ)) (add-le-add (within a) (within b))
@@ -130,3 +131,37 @@ module _ (f : Format) (σ : ℕ → ℤ) (ρ : ℕ → Float) (β : ℕ → ℕ)
       let w = both-r (both (ltb 0 n) (leb n (2 ^ prec f))) (counts f a β) u in
       ap (mul f (ofInt f (pos n))) (float-whole a w)
       ∙ product-of f n (whole a σ) (ltb→lt 0 n (both-l (ltb 0 n) (leb n (2 ^ prec f)) v)) (whole-of f (pos n) (leb→le n (2 ^ prec f) (both-r (ltb 0 n) (leb n (2 ^ prec f)) v))) (whole-of f (whole a σ) (counted a w))
+
+-- ---- several forms of the numbers in a list; a variable past its end is 0
+
+abbrev pub wholes : List Form → List ℤ → List ℤ
+wholes [] xs = []
+wholes (e ∷ es) xs = whole e (λ i. getD xs i (pos 0)) ∷ wholes es xs
+
+abbrev pub floats : Format → List Form → List ℤ → List Float
+floats f [] xs = []
+floats f (e ∷ es) xs = float f e (λ i. ofInt f (getD xs i (pos 0))) ∷ floats f es xs
+
+-- the tests, from a bound of each number: none on the way is too large, and each result is at most h
+abbrev pub allCount : Format → List Form → ℕ → Bool
+allCount f [] m = true
+allCount f (e ∷ es) m = both (counts f e (λ i. m)) (allCount f es m)
+
+abbrev pub allMost : ℕ → List Form → ℕ → Bool
+allMost h [] m = true
+allMost h (e ∷ es) m = both (leb (most e (λ i. m)) h) (allMost h es m)
+
+module _ (f : Format) {m : ℕ} (xs : List ℤ) (bounded : (i : ℕ) → natAbs (getD xs i (pos 0)) ≤ m) where
+  pub floats-wholes : (es : List Form) → T (allCount f es m) → floats f es xs ≡ map (ofInt f) (wholes es xs)
+  floats-wholes [] t = refl
+  floats-wholes (e ∷ es) t =
+      let u = both-l (counts f e (λ i. m)) (allCount f es m) t in
+      let w = both-r (counts f e (λ i. m)) (allCount f es m) t in
+      ap₂ _∷_ (float-whole f (λ i. getD xs i (pos 0)) (λ i. ofInt f (getD xs i (pos 0))) (λ i. m) (λ i. refl) bounded e u) (floats-wholes es w)
+
+  pub wholes-most : {h : ℕ} (es : List Form) → T (allMost h es m) → (i : ℕ) → natAbs (getD (wholes es xs) i (pos 0)) ≤ h
+  wholes-most {h} [] t i = omega arith
+  wholes-most {h} (e ∷ es) t zero =
+      le-trans (within f (λ i. getD xs i (pos 0)) (λ i. ofInt f (getD xs i (pos 0))) (λ i. m) (λ i. refl) bounded e)
+      (leb→le (most e (λ i. m)) h (both-l (leb (most e (λ i. m)) h) (allMost h es m) t))
+  wholes-most {h} (e ∷ es) t (suc i) = wholes-most es (both-r (leb (most e (λ i. m)) h) (allMost h es m) t) i

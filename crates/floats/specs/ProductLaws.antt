@@ -1,22 +1,17 @@
 -- A whole number B below 2^50 divided by 2^k, to nearest, halves away from zero, by one product: B·2^−k·(1 + 2^−51), rounded, lies above B/2^k by less than 2^−k,
 -- and what is below a half is so by 2^−k at least.
-use Rattle.algebra.specs.Prelude.{_≡_, refl, sym, ap, subst, _∙_, Bool, true, false, cond, ℕ, zero, suc, _+_, _-_, _*_, _/_, _^_, _≤_, _<_, arith, lit<, lit≤, ℤ, pos, negsuc, natAbs, negℤ, _-ℤ_}
-use native.Mathlib.Nat.{le-trans, lt-of-le-of-lt, mul-pos, mul-le-mul, one-mul, div-eq-of-lt, div-lt-iff-lt-mul, mul-le-mul-right, mul-lt-mul-of-pos-right, lt-of-mul-lt-mul-left}
+use Rattle.algebra.specs.Prelude.{_≡_, refl, sym, ap, subst, _∙_, Bool, false, not, cond, ℕ, zero, suc, _+_, _-_, _*_, _/_, _^_, _≤_, _<_, arith, T, lit<, lit≤, ℤ, pos, negsuc, natAbs, negℤ, _-ℤ_}
+use native.Mathlib.Nat.{le-trans, lt-of-le-of-lt, mul-pos, mul-le-mul, one-mul, div-eq-of-lt, mul-le-mul-right, mul-lt-mul-of-pos-right, lt-of-mul-lt-mul-left}
 use lib.Pow.{pow-add, pow-pos, pow-mono}
-use lib.Ieee.{Float, fin, binary64, round, add, sub, mul, ofInt, unlike}
+use lib.Ieee.{Float, fin, binary64, round, add, sub, mul, ofInt, toBits, isNan, unlike}
+use Rattle.algebra.specs.Nearest.{away}
 use Rattle.floats.specs.Fractions.{Is, product-rounded}
 use Rattle.floats.specs.Wholes.{Whole, whole-of, nothing-times}
-use Rattle.floats.specs.Kernels.{difference-of}
-use Rattle.algebra.specs.Diff.{pos-as, neg-as}
-use Rattle.algebra.specs.Nearest.{away}
 use Rattle.floats.specs.RelativeError.{Rounded, rounded}
-use Rattle.floats.specs.NearestWhole.{sum-nearest, Closer, upward-closer, half-above}
+use Rattle.floats.specs.NearestWhole.{Closer, upward-closer, half-above}
 use Rattle.floats.specs.Ranges.{Between, whole-between, wider, product-between, part-over, part-under}
+use Rattle.floats.specs.Middle.{middle, middleBits, NearestTo, quotient-small, nearest-nothing, nearest-again, nearest-bits, bits-below, sum-number}
 use Rattle.floats.specs.QuotientLaws.{above-it}
-
--- 1.5·2^52
-unfoldable pub middle : Float
-middle = fin false 3 (pos 51)
 
 -- 2^−k·(1 + 2^−51)
 unfoldable pub fraction : ℕ → Float
@@ -45,13 +40,13 @@ module _ {B k : ℕ} {y : Float} {s : Bool} (p : Whole y s B) (above : 0 < B) (b
       let l : 2 ^ 52 ≤ 2 ^ (k + 51) = pow-mono {i = 52} {j = k + 51} (omega arith) in
       record { low = omega arith; high = le-trans (lit≤ {m = 2 ^ 51 + 1} {n = 2 ^ 52 * 1} tt) (mul-le-mul l (pow-pos (k + 51))) }
 
-  pub product : Rounded binary64 (mul binary64 y (fraction k)) (unlike s false) (B * (2 ^ 51 + 1)) (2 ^ (k + 51))
+  product : Rounded binary64 (mul binary64 y (fraction k)) (unlike s false) (B * (2 ^ 51 + 1)) (2 ^ (k + 51))
   product =
       let w = subst (λ n. Between 1022 (B * (2 ^ 51 + 1)) n) (one-mul (2 ^ (k + 51))) (wider {j = 1022} (omega arith) (product-between (whole-between 50 B above (omega arith)) fraction-between)) in
       rw (product-rounded binary64 p (lit< tt) (fraction-is k) (pow-pos (k + 51)) ∙ ap (round binary64 (unlike s false) (B * (2 ^ 51 + 1))) (one-mul (2 ^ (k + 51))))
       (rounded binary64 (unlike s false) (B * (2 ^ 51 + 1)) (2 ^ (k + 51)) (pow-pos (k + 51)) (w .low) (w .high))
 
-  pub product-closer : Closer ((2 * B + 2 ^ k) / (2 * 2 ^ k)) (product .num) (product .den)
+  product-closer : Closer ((2 * B + 2 ^ k) / (2 * 2 ^ k)) (product .num) (product .den)
   product-closer =
       let e : 2 * 2 ^ (k - 1) ≡ 2 ^ k = sym (pow-add 2 1 (k - 1)) ∙ ap (λ n. 2 ^ n) (back k k-above) in
       let x = product .num in
@@ -72,36 +67,46 @@ module _ {B k : ℕ} {y : Float} {s : Bool} (p : Whole y s B) (above : 0 < B) (b
       upper : (A C m n x e D : ℕ) → A * (x * (D * n)) ≤ C * (B * m * e) → A * n * (x * D) ≤ C * m * (B * e)
       upper A C m n x e D h = omega (arith, h)
 
--- ---- the sum with 1.5·2^52, and that taken off again
+  whole-nearest : NearestTo (mul binary64 y (fraction k)) (cond (unlike s false) (negℤ (pos ((2 * B + 2 ^ k) / (2 * 2 ^ k)))) (pos ((2 * B + 2 ^ k) / (2 * 2 ^ k))))
+  whole-nearest =
+      record {
+        sign = unlike s false;
+        num = product .num;
+        den = product .den;
+        count = (2 * B + 2 ^ k) / (2 * 2 ^ k);
+        above = product .above;
+        is = product .is;
+        close = product-closer;
+        small = quotient-small B (2 ^ k) (pow-pos k) below;
+        value = refl;
+      }
 
-middle-is : Whole middle false (3 * 2 ^ 51)
-unfolding middle
-middle-is = record { digits = 3; exponent = pos 51; is = refl; value = refl }
-
-nearest-again : {x : Float} {a c k : ℕ} (s : Bool) → Is x s a c → 0 < c → Closer k a c → k < 2 ^ 51 → sub binary64 (add binary64 x middle) middle ≡ ofInt binary64 (cond s (negℤ (pos k)) (pos k))
-nearest-again {x} {a} {c} {k} s p C h small =
-    let l : k * c + c ≤ 2 ^ 51 * c = omega (arith, mul-le-mul-right {m = k + 1} {n = 2 ^ 51} c (omega arith)) in
-    difference-of binary64 (pos (cond s (3 * 2 ^ 51 - k) (3 * 2 ^ 51 + k))) (pos (3 * 2 ^ 51))
-    (sum-nearest binary64 middle-is C (omega (arith, l, h .under)) (omega (arith, l, h .under)) h s p) middle-is
-    ∙ ap (ofInt binary64) (taken s)
-  where
-    taken : (s : Bool) → pos (cond s (3 * 2 ^ 51 - k) (3 * 2 ^ 51 + k)) -ℤ pos (3 * 2 ^ 51) ≡ cond s (negℤ (pos k)) (pos k)
-    taken true = sym (neg-as k (3 * 2 ^ 51 - k) (3 * 2 ^ 51) (omega arith))
-    taken false = sym (pos-as k (3 * 2 ^ 51 + k) (3 * 2 ^ 51) (omega arith))
-
-quotient-small : (n D : ℕ) → 0 < D → n < 2 ^ 50 → (2 * n + D) / (2 * D) < 2 ^ 51
-quotient-small n D h k = div-lt-iff-lt-mul {k = 2 * D} {x = 2 * n + D} {y = 2 ^ 51} (omega arith) .1 (omega arith)
+-- ---- the sum with 1.5·2^52
 
 -- a whole number of less than 2^50 over 2^k, to nearest, halves away from zero
-pub product-away : (z : ℤ) (k : ℕ) → natAbs z < 2 ^ 50 → 0 < k → k ≤ 900 → sub binary64 (add binary64 (mul binary64 (ofInt binary64 z) (fraction k)) middle) middle ≡ ofInt binary64 (away z (2 ^ k))
-unfolding away
-product-away (pos zero) k h l m =
-    let none : Closer 0 0 1 = record { over = lit< tt; under = lit< tt } in
-    nearest-again false (nothing-times binary64 (whole-of binary64 (pos 0) (lit≤ tt)) (fraction-is k) (pow-pos (k + 51))) (lit< tt) none (lit< tt)
-    ∙ ap (λ n. ofInt binary64 (pos n)) (sym (div-eq-of-lt {n = 0 + 2 ^ k} {m = 2 * 2 ^ k} (omega (arith, pow-pos k))))
-product-away (pos (suc n)) k h l m =
-    let p = whole-of binary64 (pos (suc n)) (omega arith) in
-    nearest-again false (product p (omega arith) h l m .is) (product p (omega arith) h l m .above) (product-closer p (omega arith) h l m) (quotient-small (suc n) (2 ^ k) (pow-pos k) h)
-product-away (negsuc n) k h l m =
-    let p = whole-of binary64 (negsuc n) (omega arith) in
-    nearest-again true (product p (omega arith) h l m .is) (product p (omega arith) h l m .above) (product-closer p (omega arith) h l m) (quotient-small (suc n) (2 ^ k) (pow-pos k) h)
+module _ (z : ℤ) (k : ℕ) (below : natAbs z < 2 ^ 50) (k-above : 0 < k) (k-most : k ≤ 900) where
+  product-nearest : NearestTo (mul binary64 (ofInt binary64 z) (fraction k)) (away z (2 ^ k))
+  unfolding away
+  product-nearest = go z below
+    where
+      go : (z : ℤ) → natAbs z < 2 ^ 50 → NearestTo (mul binary64 (ofInt binary64 z) (fraction k)) (away z (2 ^ k))
+      go (pos zero) h =
+          let e : pos 0 ≡ away (pos 0) (2 ^ k) = ap pos (sym (div-eq-of-lt {n = 0 + 2 ^ k} {m = 2 * 2 ^ k} (omega (arith, pow-pos k)))) in
+          subst (NearestTo (mul binary64 (ofInt binary64 (pos 0)) (fraction k))) e
+          (nearest-nothing (nothing-times binary64 (whole-of binary64 (pos 0) (lit≤ tt)) (fraction-is k) (pow-pos (k + 51))))
+      go (pos (suc n)) h = whole-nearest (whole-of binary64 (pos (suc n)) (omega arith)) (omega arith) h k-above k-most
+      go (negsuc n) h = whole-nearest (whole-of binary64 (negsuc n) (omega arith)) (omega arith) h k-above k-most
+
+  -- as a float
+  pub product-away : sub binary64 (add binary64 (mul binary64 (ofInt binary64 z) (fraction k)) middle) middle ≡ ofInt binary64 (away z (2 ^ k))
+  product-away = nearest-again product-nearest
+
+  -- by the sum's bits
+  pub product-bits : pos (toBits binary64 (add binary64 (mul binary64 (ofInt binary64 z) (fraction k)) middle)) -ℤ pos middleBits ≡ away z (2 ^ k)
+  product-bits = nearest-bits product-nearest
+
+  pub product-bits-below : toBits binary64 (add binary64 (mul binary64 (ofInt binary64 z) (fraction k)) middle) < 2 ^ 63
+  product-bits-below = bits-below product-nearest
+
+  pub product-number : T (not (isNan (add binary64 (mul binary64 (ofInt binary64 z) (fraction k)) middle)))
+  product-number = sum-number product-nearest

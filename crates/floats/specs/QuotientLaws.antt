@@ -1,16 +1,15 @@
 -- A quotient V·q/D to nearest, halves away from zero, by one division in double and one product, where V·|q| is at most 2^48: with W = V·(1 + 2^−50), rounded,
 -- x = q·(W/D) lies above V·q/D, by less than one part in 2^49, so that a half moves away from zero and what is below a half, by 1/(2·D) at least, stays below.
-use Rattle.algebra.specs.Prelude.{_≡_, not, T, refl, sym, ap, subst, _∙_, Bool, true, false, ℕ, zero, suc, _+_, _*_, _/_, _^_, _≤_, _<_, arith, lit<, lit≤, ℤ, pos, negsuc, natAbs, _*ℤ_}
+use Rattle.algebra.specs.Prelude.{_≡_, refl, sym, ap, subst, _∙_, Bool, false, cond, ℕ, zero, suc, _+_, _*_, _/_, _^_, _≤_, _<_, arith, lit<, lit≤, ℤ, pos, negsuc, natAbs, negℤ, _*ℤ_}
 use native.Mathlib.Nat.{mul-pos, mul-one, one-mul, mul-le-mul-left, mul-le-mul-right, mul-lt-mul-of-pos-right, lt-of-lt-of-le, lt-of-mul-lt-mul-left, div-eq-of-lt}
-use lib.Ieee.{Float, fin, binary64, round, mul, div, ofInt, unlike, isNan}
+use lib.Ieee.{Float, fin, binary64, round, add, sub, mul, div, ofInt, unlike}
 use Rattle.algebra.specs.Nearest.{away}
 use Rattle.algebra.specs.NearestLaws.{away-odd}
 use Rattle.floats.specs.Fractions.{Is, product-rounded, quotient-rounded}
-use Rattle.floats.specs.Wholes.{Whole, negative, whole-of, nothing-times}
-use Rattle.floats.specs.Numbers.{round-number}
+use Rattle.floats.specs.Wholes.{Whole, whole-of, nothing-times}
 use Rattle.floats.specs.RelativeError.{Rounded, rounded}
 use Rattle.floats.specs.NearestWhole.{Closer, upward-closer, half-above}
-use Rattle.floats.specs.LastBits.{lastBits, last-bits}
+use Rattle.floats.specs.Middle.{middle, NearestTo, quotient-small, nearest-nothing, nearest-again}
 use Rattle.floats.specs.Ranges.{Between, whole-between, wider, product-between, quotient-between, rounded-between, Times, part-over, part-under, times-product, times-quotient, times-times}
 
 -- 1 + 2^−50
@@ -99,22 +98,33 @@ module _ {v d : ℕ} {y z : Float} (p : Whole y false v) (r : Whole z false d) (
         upper : (A B m n x e : ℕ) → A * (x * (n * d)) ≤ B * (q * (v * m) * e) → A * n * (x * d) ≤ B * m * (v * q * e)
         upper A B m n x e h = omega (arith, h)
 
-  pub quotient-number : (q : ℤ) → natAbs q ≤ 2 ^ 53 → T (not (isNan (mul binary64 (ofInt binary64 q) (div binary64 (mul binary64 y slightlyMore) z))))
-  quotient-number q m =
-      rw (product-rounded binary64 (whole-of binary64 q m) (lit< tt) (ratio .is) (ratio .above))
-      (round-number binary64 (unlike (negative q) false) (natAbs q * ratio .num) (1 * ratio .den))
+    part-nearest : v * q ≤ 2 ^ 48 → NearestTo (mul binary64 t (div binary64 (mul binary64 y slightlyMore) z)) (cond (unlike s false) (negℤ (pos ((2 * (v * q) + d) / (2 * d)))) (pos ((2 * (v * q) + d) / (2 * d))))
+    part-nearest h =
+        record {
+          sign = unlike s false;
+          num = part .num;
+          den = part .den;
+          count = (2 * (v * q) + d) / (2 * d);
+          above = part .above;
+          is = part .is;
+          close = part-closer h;
+          small = quotient-small (v * q) d d-above (omega arith);
+          value = refl;
+        }
 
   -- halves away from zero, with q's sign; a q of 0 gives 0
-  pub quotient-away : (q : ℤ) → natAbs q ≤ 2 ^ 53 → v * natAbs q ≤ 2 ^ 48 → (2 * (v * natAbs q) + d) / (2 * d) < 2 ^ 15
-      → lastBits (mul binary64 (ofInt binary64 q) (div binary64 (mul binary64 y slightlyMore) z)) ≡ away (pos v *ℤ q) d
+  quotient-nearest : (q : ℤ) → natAbs q ≤ 2 ^ 53 → v * natAbs q ≤ 2 ^ 48 → NearestTo (mul binary64 (ofInt binary64 q) (div binary64 (mul binary64 y slightlyMore) z)) (away (pos v *ℤ q) d)
   unfolding away
-  quotient-away (pos zero) m h k =
-      let none : Closer 0 0 1 = record { over = lit< tt; under = lit< tt } in
-      last-bits (lit< tt) none (lit< tt) false (nothing-times binary64 (whole-of binary64 (pos 0) m) (ratio .is) (ratio .above))
-      ∙ ap pos (sym (div-eq-of-lt {n = 2 * (v * 0) + d} {m = 2 * d} (omega arith)))
-  quotient-away (pos (suc n)) m h k =
-      let u = whole-of binary64 (pos (suc n)) m in
-      last-bits (part u (omega arith) m .above) (part-closer u (omega arith) m h) k false (part u (omega arith) m .is)
-  quotient-away (negsuc n) m h k =
-      let u = whole-of binary64 (negsuc n) m in
-      last-bits (part u (omega arith) m .above) (part-closer u (omega arith) m h) k true (part u (omega arith) m .is) ∙ sym (away-odd (pos (v * suc n)) d d-above)
+  quotient-nearest (pos zero) m h =
+      let e : pos 0 ≡ away (pos (v * 0)) d = ap pos (sym (div-eq-of-lt {n = 2 * (v * 0) + d} {m = 2 * d} (omega arith))) in
+      subst (NearestTo (mul binary64 (ofInt binary64 (pos 0)) (div binary64 (mul binary64 y slightlyMore) z))) e
+      (nearest-nothing (nothing-times binary64 (whole-of binary64 (pos 0) m) (ratio .is) (ratio .above)))
+  quotient-nearest (pos (suc n)) m h = part-nearest (whole-of binary64 (pos (suc n)) m) (omega arith) m h
+  quotient-nearest (negsuc n) m h =
+      subst (NearestTo (mul binary64 (ofInt binary64 (negsuc n)) (div binary64 (mul binary64 y slightlyMore) z))) (sym (away-odd (pos (v * suc n)) d d-above))
+      (part-nearest (whole-of binary64 (negsuc n) m) (omega arith) m h)
+
+  -- the same as a float
+  pub quotient-again : (q : ℤ) → natAbs q ≤ 2 ^ 53 → v * natAbs q ≤ 2 ^ 48
+      → sub binary64 (add binary64 (mul binary64 (ofInt binary64 q) (div binary64 (mul binary64 y slightlyMore) z)) middle) middle ≡ ofInt binary64 (away (pos v *ℤ q) d)
+  quotient-again q m h = nearest-again (quotient-nearest q m h)

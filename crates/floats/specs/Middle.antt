@@ -1,0 +1,88 @@
+-- The whole number nearest to a float of less than 2^51, from its sum with 1.5·2^52: as a float, by a difference, and as a whole number, by the sum's bits.
+use Rattle.algebra.specs.Prelude.{_≡_, refl, sym, ap, subst, _∙_, Bool, true, false, not, cond, ℕ, _+_, _-_, _*_, _/_, _^_, _≤_, _<_, arith, T, lit<, ℤ, pos, negℤ, _-ℤ_}
+use native.Mathlib.Nat.{div-lt-iff-lt-mul, mul-le-mul-right}
+use lib.Ieee.{Float, fin, binary64, add, sub, ofInt, toBits, isNan}
+use Rattle.algebra.specs.Diff.{pos-as, neg-as, sub-eq}
+use Rattle.floats.specs.Fractions.{Is}
+use Rattle.floats.specs.Wholes.{Whole, whole-bits}
+use Rattle.floats.specs.NearestWhole.{Closer, sum-nearest}
+use Rattle.floats.specs.Kernels.{difference-of}
+
+-- 1.5·2^52, and its bits
+unfoldable pub middle : Float
+middle = fin false 3 (pos 51)
+
+abbrev pub middleBits : ℕ
+middleBits = 4843621399236968448
+
+middle-is : Whole middle false (3 * 2 ^ 51)
+unfolding middle
+middle-is = record { digits = 3; exponent = pos 51; is = refl; value = refl }
+
+-- z is closer to x than a half, and less than 2^51 in magnitude
+pub record NearestTo (x : Float) (z : ℤ) : Type 0 where
+  pub sign : Bool
+  pub num : ℕ
+  pub den : ℕ
+  pub count : ℕ
+  pub above : 0 < den
+  pub is : Is x sign num den
+  pub close : Closer count num den
+  pub small : count < 2 ^ 51
+  pub value : cond sign (negℤ (pos count)) (pos count) ≡ z
+
+pub quotient-small : (n D : ℕ) → 0 < D → n < 2 ^ 50 → (2 * n + D) / (2 * D) < 2 ^ 51
+quotient-small n D h k = div-lt-iff-lt-mul {k = 2 * D} {x = 2 * n + D} {y = 2 ^ 51} (omega arith) .1 (omega arith)
+
+pub nearest-nothing : {x : Float} → Whole x false 0 → NearestTo x (pos 0)
+nearest-nothing w =
+    record { sign = false; num = 0; den = 1; count = 0; above = lit< tt; is = w; close = record { over = lit< tt; under = lit< tt }; small = lit< tt; value = refl }
+
+-- the sum's digits
+abbrev digits : Bool → ℕ → ℕ
+digits s k = cond s (3 * 2 ^ 51 - k) (3 * 2 ^ 51 + k)
+
+digits-low : (s : Bool) (k : ℕ) → k < 2 ^ 51 → 2 ^ 52 ≤ digits s k
+digits-low true k h = omega arith
+digits-low false k h = omega arith
+
+digits-high : (s : Bool) (k : ℕ) → k < 2 ^ 51 → digits s k < 2 ^ 53
+digits-high true k h = omega arith
+digits-high false k h = omega arith
+
+less-middle : (s : Bool) (k : ℕ) → k < 2 ^ 51 → pos (digits s k) -ℤ pos (3 * 2 ^ 51) ≡ cond s (negℤ (pos k)) (pos k)
+less-middle true k h = sym (neg-as k (3 * 2 ^ 51 - k) (3 * 2 ^ 51) (omega arith))
+less-middle false k h = sym (pos-as k (3 * 2 ^ 51 + k) (3 * 2 ^ 51) (omega arith))
+
+-- the bits count the digits
+less-bits : (m : ℕ) → pos (1074 * 2 ^ 52 + m) -ℤ pos middleBits ≡ pos m -ℤ pos (3 * 2 ^ 51)
+less-bits m = sub-eq (1074 * 2 ^ 52 + m) middleBits m (3 * 2 ^ 51) (omega arith)
+
+module _ {x : Float} {z : ℤ} (n : NearestTo x z) where
+  sum-is : Whole (add binary64 x middle) false (digits (n .sign) (n .count))
+  sum-is =
+      let c = n .den in
+      let k = n .count in
+      let l : k * c + c ≤ 2 ^ 51 * c = omega (arith, mul-le-mul-right {m = k + 1} {n = 2 ^ 51} c (omega (arith, n .small))) in
+      let h = n .close in
+      sum-nearest binary64 middle-is (n .above) (omega (arith, l, h .under)) (omega (arith, l, h .under)) h (n .sign) (n .is)
+
+  -- as a float
+  pub nearest-again : sub binary64 (add binary64 x middle) middle ≡ ofInt binary64 z
+  nearest-again =
+      difference-of binary64 (pos (digits (n .sign) (n .count))) (pos (3 * 2 ^ 51)) sum-is middle-is
+      ∙ ap (ofInt binary64) (less-middle (n .sign) (n .count) (n .small) ∙ n .value)
+
+  -- by bits
+  sum-bits : toBits binary64 (add binary64 x middle) ≡ 1074 * 2 ^ 52 + digits (n .sign) (n .count)
+  sum-bits = whole-bits binary64 sum-is (digits-low (n .sign) (n .count) (n .small)) (digits-high (n .sign) (n .count) (n .small))
+
+  pub nearest-bits : pos (toBits binary64 (add binary64 x middle)) -ℤ pos middleBits ≡ z
+  nearest-bits = ap (λ b. pos b -ℤ pos middleBits) sum-bits ∙ less-bits (digits (n .sign) (n .count)) ∙ less-middle (n .sign) (n .count) (n .small) ∙ n .value
+
+  pub bits-below : toBits binary64 (add binary64 x middle) < 2 ^ 63
+  bits-below = omega (arith, sum-bits, digits-high (n .sign) (n .count) (n .small))
+
+  pub sum-number : T (not (isNan (add binary64 x middle)))
+  unfolding isNan
+  sum-number = subst (λ y. T (not (isNan y))) (sym (sum-is .is)) tt
