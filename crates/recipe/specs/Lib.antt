@@ -8,5 +8,6 @@ pub mod Output
 pub mod Merged
 pub mod Exact
 pub mod ExactMerge
+pub mod TableRules
 pub mod TableLaws
 pub mod CorrectionLaws

@@ -1,10 +1,11 @@
 -- The rules of document 01's tables, each one computed test over the whole table.
-use Rattle.algebra.specs.Prelude.{_≡_, ap, _∙_, Bool, false, ℕ, _+_, _-_, _*_, _%_, _≤_, _<_, ℤ, pos, negsuc, natAbs, negℤ}
+use Rattle.algebra.specs.Prelude.{_≡_, refl, sym, ap, _∙_, Bool, false, ℕ, _+_, _-_, _*_, _%_, _≤_, _<_, arith, ℤ, pos, negsuc, natAbs, negℤ}
 use native.Mathlib.Nat.{mod-lt, mod-add-mod}
 use lib.Dec.{T, eqb, eqb→eq, leb, leb→le, lit<}
 use Rattle.algebra.specs.Test.{all, all-sound}
 use Rattle.recipe.specs.Side.{cosAt, sinAt}
 use Rattle.recipe.specs.Tables.{cosines, cosine16, sine16, windows, window16, side16}
+use Rattle.recipe.specs.TableRules.{Rules}
 
 -- the index −k
 abbrev pub opposite : ℕ → ℕ
@@ -83,3 +84,24 @@ pair k = natAbs (cosine16 k) + natAbs (sine16 k)
 pub pair-most : (k : ℕ) → natAbs (cosAt side16 k) + natAbs (sinAt side16 k) ≤ 23170
 unfolding cosAt sinAt side16 sine16 cosine16 cosines
 pair-most k = leb→le (pair (k % 16)) 23170 (all-sound 16 (λ k. leb (pair k) 23170) tt (k % 16) (mod-lt k (lit< tt)))
+
+-- C(k+8) = −C(k)
+half-turn : (k : ℕ) → k < 16 → cosine16 ((k + 8) % 16) ≡ negℤ (cosine16 k)
+unfolding cosine16 cosines
+half-turn = agree 16 (λ k. cosine16 ((k + 8) % 16)) (λ k. negℤ (cosine16 k)) tt
+
+-- C(16−k) = C(k), for 16 too
+mirrored : (k : ℕ) → k < 17 → cosine16 ((16 - k) % 16) ≡ cosine16 (k % 16)
+unfolding cosine16 cosines
+mirrored = agree 17 (λ k. cosine16 ((16 - k) % 16)) (λ k. cosine16 (k % 16)) tt
+
+pub rules16 : Rules side16
+unfolding cosAt side16
+rules16 =
+    record {
+      whole = refl;
+      quarters = refl;
+      half-turn = λ j. ap cosine16 (sym (mod-add-mod j 16 8)) ∙ half-turn (j % 16) (mod-lt j (lit< tt));
+      mirrored = λ k h. mirrored k (omega (arith, h));
+      most = cosine-most;
+    }
