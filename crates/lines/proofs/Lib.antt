@@ -5,3 +5,7 @@ pub mod BackwardEven
 pub mod BackwardOdd
 pub mod Folding
 pub mod Unfolding
+pub mod DoubleForms
+pub mod PairFolding
+pub mod PairStores
+pub mod DoubleUnfolding

@@ -9,7 +9,7 @@ use Rattle.algebra.specs.Fit.{sfits-abs}
 use Rattle.algebra.specs.Code.{Code, par, lit, Bounded, bnd, ok, raw, nthN, fits}
 use Rattle.lines.specs.Lines.{LineMost}
 
-nth-is : (x : List ℤ) (i : ℕ) → nth x i ≡ getD x i (pos 0)
+pub nth-is : (x : List ℤ) (i : ℕ) → nth x i ≡ getD x i (pos 0)
 nth-is [] i = refl
 nth-is (a ∷ x) zero = refl
 nth-is (a ∷ x) (suc i) = nth-is x i

@@ -1,8 +1,25 @@
--- A line folded in halves. C(j+8) = −C(j), so a transform's even places need only the sums of numbers half a line apart, and its odd places only their
+-- A line folded in halves. C(j+n/2) = −C(j), so a transform's even places need only the sums of numbers half a line apart, and its odd places only their
 -- differences; on the way back, the numbers of the two halves are the even places' sum and the odd places' sum, added and subtracted.
 use Rattle.algebra.specs.Prelude.{ℕ, _+_, _*_, ℤ, _+ℤ_, _-ℤ_, _*ℤ_}
 use Rattle.algebra.specs.Sums.{sumZ}
-use Rattle.lines.specs.Halfcomplex.{basis}
+use Rattle.recipe.specs.Side.{Side}
+use Rattle.lines.specs.Halfcomplex.{basisOf, basis, halfBasis}
+
+-- ---- a line of any side
+
+module _ (s : Side) where
+  -- number n of the fold for the even places, and for the odd ones
+  unfoldable pub sumOf : (ℕ → ℤ) → ℕ → ℤ
+  sumOf x n = x n +ℤ x (n + s .half)
+
+  unfoldable pub differenceOf : (ℕ → ℤ) → ℕ → ℤ
+  differenceOf x n = x n -ℤ x (n + s .half)
+
+  -- place k of the transform, of a folded line
+  unfoldable pub foldedOf : (ℕ → ℤ) → ℕ → ℤ
+  foldedOf z k = sumZ (s .half) (λ n. z n *ℤ basisOf s k n)
+
+-- ---- a line of sixteen
 
 -- number n of the fold for the even places, and for the odd ones
 unfoldable pub sumAt : (ℕ → ℤ) → ℕ → ℤ
@@ -21,3 +38,7 @@ evenSum z n = sumZ 8 (λ k. z k *ℤ basis (2 * k) n)
 
 abbrev pub oddSum : (ℕ → ℤ) → ℕ → ℤ
 oddSum z n = sumZ 8 (λ k. z k *ℤ basis (2 * k + 1) n)
+
+-- the same over the even places for half of the sum
+abbrev pub evenHalf : (ℕ → ℤ) → ℕ → ℤ
+evenHalf z n = sumZ 8 (λ k. z k *ℤ halfBasis (2 * k) n)

@@ -1,4 +1,7 @@
 pub mod Lines
 pub mod Halfcomplex
+pub mod HalfSumLaws
 pub mod Fold
+pub mod SideFolds
 pub mod Magnitudes
+pub mod Doubles

@@ -1,5 +1,5 @@
--- Bounds of lines and of tiles of numbers, their lengths, and those that hold nothing but 0.
-use Rattle.algebra.specs.Prelude.{_≡_, List, [], ℕ, _≤_, _<_, getD, ℤ, pos, natAbs}
+-- Bounds of lines and of tiles of numbers, and their lengths.
+use Rattle.algebra.specs.Prelude.{_≡_, List, [], ℕ, _≤_, getD, ℤ, pos, natAbs}
 use Rattle.sequences.specs.Grid.{grid, cell}
 
 -- each number of the line is at most b, as an absolute value
@@ -13,10 +13,3 @@ pub record TileMost (b : ℕ) (t : List (List ℤ)) : Type 0 where
 -- sixteen lines of sixteen numbers
 pub record Square (t : List (List ℤ)) : Type 0 where
   pub is : t ≡ grid 16 16 (cell (pos 0) t)
-
--- each number is 0
-pub record EmptyLine (x : ℕ → ℤ) : Type 0 where
-  pub none : (i : ℕ) → i < 16 → x i ≡ pos 0
-
-pub record EmptyTile (t : ℕ → ℕ → ℤ) : Type 0 where
-  pub none : (u i : ℕ) → u < 16 → i < 16 → t u i ≡ pos 0

@@ -1,5 +1,5 @@
 -- The largest numbers of a line that the passes are proved for.
-use Prim.Native.Nat.{ℕ, _-_, _^_}
+use Prim.Native.Nat.{ℕ, _-_, _*_, _^_}
 
 -- ---- in 64 bits
 
@@ -25,12 +25,24 @@ differenceMost = 4095
 abbrev pub differenceFoldMost : ℕ
 differenceFoldMost = 8190
 
--- ---- back, in 32 bits
+-- ---- two lines side by side, in double
 
--- a number of the folded G where the noise is small
-abbrev pub narrowMost : ℕ
-narrowMost = 8192
+-- a place of the first pass, at most 1073479680
+abbrev pub pairLineMost : ℕ
+pairLineMost = 2 ^ 30
 
--- a sum back over its even places, or over the odd ones: two of these fit an i32
-abbrev pub narrowHalfMost : ℕ
-narrowHalfMost = 2 ^ 30 - 1
+-- a sum or difference of two of these
+abbrev pub pairSumMost : ℕ
+pairSumMost = 2 ^ 31
+
+-- back: a number of the folded G
+abbrev pub pairFoldMost : ℕ
+pairFoldMost = 2 ^ 14
+
+-- a sum back down a column
+abbrev pub pairColumnMost : ℕ
+pairColumnMost = 2 ^ 32
+
+-- half of a sum back along a row: (2·8192 + 14·16384) times these
+abbrev pub pairHalfMost : ℕ
+pairHalfMost = 15 * 2 ^ 46

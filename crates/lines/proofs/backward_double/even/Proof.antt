@@ -1,0 +1,45 @@
+-- `lines::backward_double::even`: the even places' sums, by computed tests for either `own`.
+use Rattle.algebra.specs.Prelude.{List, [], _∷_, ℕ, _*_}
+use lib.Ieee.{ofBits, ofInt}
+use Rattle.algebra.specs.Ring.{con, _⊠_}
+use Rattle.algebra.specs.Ring as ring
+use Rattle.algebra.specs.Sums.{sumZ}
+use Rattle.algebra.specs.Forms.{sumE}
+use Rattle.sequences.specs.Tab.{tab}
+use Rattle.floats.specs.Kernels.{Form, var, plus, minus, times}
+use Rattle.recipe.specs.Side.{cosAt}
+use Rattle.recipe.specs.Tables.{cosines, cosine16, side16}
+use Rattle.lines.specs.Halfcomplex.{frequency, phase, basis, halfBasis}
+use Rattle.lines.proofs.DoubleForms.{forms-are}
+use Rattle.lines.proofs.backward_double.even.Statement.{statement}
+use Rattle.lines.proofs.backward_double.even.Tie as tie
+
+-- var k is place 2k
+abbrev results : (own : ℕ) → List Form
+results own =
+    let p = times own (plus (var 0) (var 4)) in
+    let m = times own (minus (var 0) (var 4)) in
+    let k = times 16384 (var 2) in
+    let j = times 16384 (var 6) in
+    let a = plus p k in
+    let b = minus m j in
+    let c = minus p k in
+    let d = plus m j in
+    let e = times 16384 (plus (var 1) (var 3)) in
+    let f = times 16384 (minus (var 7) (var 5)) in
+    let g = times 11585 (minus (var 1) (var 3)) in
+    let h = times 11585 (plus (var 5) (var 7)) in
+    let q = minus g h in
+    let u = plus g h in
+    plus a e ∷ plus b q ∷ plus c f ∷ minus d u ∷ minus a e ∷ minus b q ∷ minus c f ∷ plus d u ∷ []
+
+returns : tie.Need-returns
+unfolding tab sumZ halfBasis basis frequency phase cosAt side16 cosine16 cosines ofBits ofInt
+returns c =
+    record {
+      whole = λ o z most e. rw o (forms-are 8 z most e (results 16384) (tab 8 (λ n. sumE 8 (λ k. ring.var k ⊠ con (basis (2 * k) n)))) tt tt);
+      half = λ o z most e. rw o (forms-are 8 z most e (results 8192) (tab 8 (λ n. sumE 8 (λ k. ring.var k ⊠ con (halfBasis (2 * k) n)))) tt tt);
+    }
+
+pub even-spec : {M : Type 1} → statement M
+even-spec = tie.close (tie.spec returns)
