@@ -17,7 +17,7 @@ use Rattle.recipe.specs.Correction.{wiener, rowRe, rowIm, binRe, binIm, quantiz
 use Rattle.recipe.specs.TableLaws.{window-halves}
 use Rattle.recipe.specs.Output.{rowIn, columnIn, weightIn, outputSample}
 use Rattle.closeness.specs.Windows.{four-windows}
-use Rattle.transform.specs.ZeroLaws.{sumZ-zero, away-zero, wiener-zero, less-zero, less-none, more-none}
+use Rattle.spectrum.specs.ZeroLaws.{sumZ-zero, away-zero, wiener-zero, less-zero, less-none, more-none}
 use Rattle.sanity.specs.RoundLaws.{away-whole, away-scale, upward-scale}
 use Rattle.sanity.specs.Flat.{flatCorrection}
 

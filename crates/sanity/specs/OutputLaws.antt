@@ -10,7 +10,7 @@ use Rattle.algebra.specs.Nearest.{upward}
 use Rattle.recipe.specs.Side.{Side}
 use Rattle.recipe.specs.Correction.{correctionAt}
 use Rattle.recipe.specs.Output.{rowIn, columnIn, weightIn, outputSample}
-use Rattle.transform.specs.ZeroLaws.{sumZ-zero}
+use Rattle.spectrum.specs.ZeroLaws.{sumZ-zero}
 
 -- m·n/m to nearest is n
 upward-whole : (n m : ℕ) → 0 < m → upward (pos n *ℤ pos m -ℤ pos 0) m ≡ pos n

@@ -10,7 +10,7 @@ use Rattle.algebra.specs.Order.{0≤pos}
 use Rattle.algebra.specs.Cert.{nn, le, lt, _⊕_, _⊗_, by-le, by-lt, le-pos}
 use Rattle.algebra.specs.Floor.{floor-le, floor-lt, floor-unique}
 use Rattle.algebra.specs.Nearest.{away, upward}
-use Rattle.transform.specs.ZeroLaws.{away-zero}
+use Rattle.spectrum.specs.ZeroLaws.{away-zero}
 
 away-neg : (z : ℤ) (m : ℕ) → 0 < m → away (negℤ z) m ≡ negℤ (away z m)
 unfolding away

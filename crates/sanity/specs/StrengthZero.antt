@@ -8,7 +8,7 @@ use Rattle.recipe.specs.Scene.{Scene, sceneOf, blackOf, referenceTile, tileNois
 use Rattle.recipe.specs.Merged.{outputAt, merged}
 use Rattle.sanity.specs.Frames.{frameWords, Burst}
 use Rattle.sanity.specs.FrameLaws.{frame-words}
-use Rattle.transform.specs.ZeroLaws.{no-noise}
+use Rattle.spectrum.specs.ZeroLaws.{no-noise}
 use Rattle.sanity.specs.MergeLaws.{Uncorrected, output-is, merged-is}
 
 module _ (s : Scene) (off : s .tuning .strength ≡ 0) where

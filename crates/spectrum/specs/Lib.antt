@@ -1,0 +1,17 @@
+pub mod Magnitudes
+pub mod Spectrum
+pub mod Pairs
+pub mod FoldLaws
+pub mod SpectrumLaws
+pub mod ZeroLaws
+pub mod RoundingLaws
+pub mod WienerLaws
+pub mod SizeLaws
+pub mod DifferenceLaws
+pub mod QuietLaws
+pub mod Apart
+pub mod QuadLaws
+pub mod LineLaws
+pub mod PlaceLaws
+pub mod CorrectionLaws
+pub mod FoldSizes

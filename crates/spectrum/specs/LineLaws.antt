@@ -1,0 +1,50 @@
+-- The sums of a line against its basis: what they depend on, and how large they are.
+use Rattle.algebra.specs.Prelude.{_≡_, ap, _∙_, List, ℕ, _*_, _≤_, _<_, getD, ℤ, pos, natAbs, _*ℤ_}
+use Rattle.algebra.specs.Sums.{sumZ}
+use Rattle.algebra.specs.SumLaws.{sumZ-cong}
+use Rattle.sequences.specs.Tab.{tab}
+use Rattle.sequences.specs.TabLaws.{getD-tab}
+use Rattle.sequences.specs.Grid.{tab-ext}
+use Rattle.lines.specs.Halfcomplex.{basis, halfcomplex, backward}
+use Rattle.lines.specs.HalfSumLaws.{basis-most}
+use Rattle.spectrum.specs.SizeLaws.{sum-most}
+
+-- sixteen products, with whatever entries of the table
+module _ (c : (i : ℕ) → ℤ) where
+  abbrev sum : (f : ℕ → ℤ) → ℤ
+  sum f = sumZ 16 (λ i. f i *ℤ c i)
+
+  sum-ext : (f g : ℕ → ℤ) → ((i : ℕ) → i < 16 → f i ≡ g i) → sum f ≡ sum g
+  sum-ext f g h = sumZ-cong 16 _ _ (λ i l. ap (λ z. z *ℤ c i) (h i l))
+
+module _ (b : ℕ) (f : ℕ → ℤ) (h : (i : ℕ) → natAbs (f i) ≤ b) where
+  pub halfcomplex-most : (k : ℕ) → natAbs (halfcomplex f k) ≤ 16 * (b * 16384)
+  unfolding halfcomplex
+  halfcomplex-most k = sum-most (basis k) b f (basis-most k) h
+
+  pub backward-most : (n : ℕ) → natAbs (backward f n) ≤ 16 * (b * 16384)
+  unfolding backward
+  backward-most n = sum-most (λ k. basis k n) b f (λ k. basis-most k n) h
+
+module _ (f g : ℕ → ℤ) (h : (i : ℕ) → i < 16 → f i ≡ g i) where
+  pub halfcomplex-ext : (k : ℕ) → halfcomplex f k ≡ halfcomplex g k
+  unfolding halfcomplex
+  halfcomplex-ext k = sum-ext (basis k) f g h
+
+  pub backward-ext : (n : ℕ) → backward f n ≡ backward g n
+  unfolding backward
+  backward-ext n = sum-ext (λ k. basis k n) f g h
+
+-- of a line x whose numbers are f's
+module _ {x : List ℤ} (f : ℕ → ℤ) (e : x ≡ tab 16 f) where
+  pub number : (i : ℕ) → i < 16 → getD x i (pos 0) ≡ f i
+  number i h = ap (λ l. getD l i (pos 0)) e ∙ getD-tab f (pos 0) 16 i h
+
+  pub halfcomplex-line : tab 16 (halfcomplex (λ n. getD x n (pos 0))) ≡ tab 16 (halfcomplex f)
+  halfcomplex-line = tab-ext 16 _ _ (λ k h. halfcomplex-ext _ f number k)
+
+  pub backward-line : tab 16 (backward (λ k. getD x k (pos 0))) ≡ tab 16 (backward f)
+  backward-line = tab-ext 16 _ _ (λ n h. backward-ext _ f number n)
+
+  pub each-line : (g : ℤ → ℤ) → tab 16 (λ i. g (getD x i (pos 0))) ≡ tab 16 (λ i. g (f i))
+  each-line g = tab-ext 16 _ _ (λ i h. ap g (number i h))

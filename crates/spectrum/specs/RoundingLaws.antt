@@ -1,0 +1,26 @@
+-- How large a rounded quotient is.
+use Rattle.algebra.specs.Prelude.{_≡_, refl, ℕ, suc, _+_, _*_, _/_, _≤_, _<_, arith, lit<, ℤ, pos, negsuc, natAbs}
+use native.Mathlib.Nat.{le-trans, le-div-iff-mul-le, div-lt-iff-lt-mul, div-mul-le-self, mul-pos}
+use Rattle.algebra.specs.Order.{abs-neg}
+use Rattle.algebra.specs.Nearest.{away}
+
+pub away-abs : (z : ℤ) (m : ℕ) → natAbs (away z m) ≡ (2 * natAbs z + m) / (2 * m)
+unfolding away
+away-abs (pos a) m = refl
+away-abs (negsuc a) m = abs-neg (pos ((2 * suc a + m) / (2 * m)))
+
+div-mono : (a b m : ℕ) → 0 < m → a ≤ b → a / m ≤ b / m
+div-mono a b m h l = le-div-iff-mul-le {k = m} {x = a / m} {y = b} h .1 (le-trans (div-mul-le-self a m) l)
+
+pub away-most : (z : ℤ) (m b : ℕ) → 0 < m → natAbs z ≤ b → natAbs (away z m) ≤ (2 * b + m) / (2 * m)
+away-most z m b h l =
+    rw (away-abs z m) (div-mono (2 * natAbs z + m) (2 * b + m) (2 * m) (mul-pos {m = 2} (lit< tt) h) (omega arith))
+
+-- (2·n + m)/(2·m) < b + 1, since n ≤ b·m
+quotient : (n m b : ℕ) → 0 < m → n ≤ b * m → (2 * n + m) / (2 * m) ≤ b
+quotient n m b h l =
+    let k : (2 * n + m) / (2 * m) < b + 1 = div-lt-iff-lt-mul {k = 2 * m} {x = 2 * n + m} {y = b + 1} (omega arith) .1 (omega (arith, l)) in
+    omega arith
+
+pub away-within : (z : ℤ) (m b : ℕ) → 0 < m → natAbs z ≤ b * m → natAbs (away z m) ≤ b
+away-within z m b h l = rw (away-abs z m) (quotient (natAbs z) m b h l)
