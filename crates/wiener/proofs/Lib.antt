@@ -1,2 +1,5 @@
-pub mod QuotientLaws
-pub mod Guesses
+pub mod Distances
+pub mod LaneLaws
+pub mod NewQuads
+pub mod QuadGains
+pub mod FilterLaws

@@ -1,4 +1,4 @@
-pub mod Magnitudes
-pub mod RoundingLaws
-pub mod WienerLaws
-pub mod FloatQuotient
+pub mod Doubles
+pub mod Columns
+pub mod DoubleLaws
+pub mod Lanes

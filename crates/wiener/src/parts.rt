@@ -4,7 +4,7 @@ ghost use Prim.Native.Nat.{_≤_};
 ghost use Rattle.algebra.specs.Bound.{AtMost};
 ghost use Rattle.recipe.specs.Tables.{side16};
 ghost use Rattle.recipe.specs.Correction.{wiener, quantized, filtered};
-ghost use Rattle.wiener.specs.Magnitudes.{binMost, gainMost, noiseMost};
+ghost use Rattle.spectrum.specs.Magnitudes.{binMost, gainMost, noiseMost};
 
 // One part of Q: that part of B divided by 2^24.
 pub fn quantized_part(b: i64) -> i64

@@ -3,8 +3,8 @@ use Rattle.algebra.specs.Prelude.{_≡_, refl, ap, _∙_, _^_, arith, needs, li
 use Rattle.algebra.specs.Nearest.{away}
 use Rattle.recipe.specs.Tables.{side16}
 use Rattle.recipe.specs.Correction.{quantized}
-use Rattle.wiener.specs.Magnitudes.{binMost}
-use Rattle.wiener.specs.RoundingLaws.{away-most}
+use Rattle.spectrum.specs.Magnitudes.{binMost}
+use Rattle.spectrum.specs.RoundingLaws.{away-most}
 use Rattle.wiener.proofs.parts.quantized_part.Statement.{statement}
 use Rattle.wiener.proofs.parts.quantized_part.Tie as tie
 

@@ -12,8 +12,8 @@ use Rattle.algebra.specs.Nearest.{away}
 use Rattle.rounding.proofs.round_away.Reads as round-away-reads
 use Rattle.recipe.specs.Correction.{power, wiener}
 use Rattle.recipe.specs.CorrectionLaws.{power-is}
-use Rattle.wiener.specs.Magnitudes.{gainMost, noiseMost}
-use Rattle.wiener.specs.WienerLaws.{wiener-is, wiener-most}
+use Rattle.spectrum.specs.Magnitudes.{gainMost, noiseMost}
+use Rattle.spectrum.specs.WienerLaws.{wiener-is, wiener-most}
 use Rattle.wiener.proofs.parts.wiener_part.Statement.{statement}
 use Rattle.wiener.proofs.parts.wiener_part.Tie as tie
 use Rattle.wiener.proofs.parts.wiener_part.Reads as reads

@@ -1,0 +1,138 @@
+-- Quads of two tiles side by side: the store of one, and loops that replace them one after the other.
+use Rattle.algebra.specs.Prelude.{_≡_, refl, sym, ap, ap₂, subst, _∙_, List, [], _∷_, ℕ, zero, suc, _+_, _*_, _/_, _%_, _≤_, _<_, arith, ltb, getD, set, Bool, true, false}
+use borrow.Author.Tests.{eq-eqb, ne-eqb, ltb-true, ltb-false}
+use lib.Ieee.{Float, nan}
+use Rattle.sequences.specs.TabLaws.{Filled, fill-turn}
+use Rattle.sequences.specs.Grid.{grid, cell, cell-grid, grid-ext, grid-of, stored, stored-here, stored-apart, set-grid}
+use Rattle.spectrum.specs.QuadLaws.{four}
+use Rattle.spectrum.specs.Pairs.{either, Paired}
+use Rattle.wiener.specs.Lanes.{numberOf, quadIn, quadAt, newQuad, WithQuad, Lanes}
+
+-- ---- a pair by its quads
+
+module _ {A : Type 0} (z : A) where
+  pick : (f : ℕ → ℕ → A) (u l i j : ℕ) → i < 2 → j < 2 → f (8 * j + u) (16 * i + l) ≡ getD (quadAt f u l) (2 * i + j) z
+  unfolding quadAt
+  pick f u l zero zero h k = ap₂ f (omega arith) (omega arith)
+  pick f u l zero (suc zero) h k = ap₂ f (omega arith) (omega arith)
+  pick f u l (suc zero) zero h k = ap₂ f (omega arith) (omega arith)
+  pick f u l (suc zero) (suc zero) h k = ap₂ f (omega arith) (omega arith)
+  pick f u l zero (suc (suc j)) h k = absurd (omega arith)
+  pick f u l (suc zero) (suc (suc j)) h k = absurd (omega arith)
+  pick f u l (suc (suc i)) j h k = absurd (omega arith)
+
+  pub quads-ext : (f g : ℕ → ℕ → A) → ((u l : ℕ) → u < 8 → l < 16 → quadAt f u l ≡ quadAt g u l) → grid 16 32 f ≡ grid 16 32 g
+  quads-ext f g e =
+      grid-ext 16 32 f g
+      (λ y k h o. at f y k h o ∙ ap (λ q. getD q (2 * (k / 16) + y / 8) z) (e (y % 8) (k % 16) (omega arith) (omega arith)) ∙ sym (at g y k h o))
+    where
+      at : (f : ℕ → ℕ → A) (y k : ℕ) → y < 16 → k < 32 → f y k ≡ getD (quadAt f (y % 8) (k % 16)) (2 * (k / 16) + y / 8) z
+      at f y k h o = ap₂ f (omega arith) (omega arith) ∙ pick f (y % 8) (k % 16) (k / 16) (y / 8) (omega arith) (omega arith)
+
+-- quads of a table
+pub quad-grid : {A : Type 0} (z : A) (f : ℕ → ℕ → A) {r : List (List A)} → r ≡ grid 16 32 f → (u l : ℕ) → u < 8 → l < 16 → quadAt (cell z r) u l ≡ quadAt f u l
+unfolding quadAt
+quad-grid z f {r} e u l h k = four (at u l (omega arith) (omega arith)) (at (8 + u) l (omega arith) (omega arith)) (at u (16 + l) (omega arith) (omega arith)) (at (8 + u) (16 + l) (omega arith) (omega arith))
+  where
+    at : (y k : ℕ) → y < 16 → k < 32 → cell z r y k ≡ f y k
+    at y k h o = ap (λ t. cell z t y k) e ∙ cell-grid z 16 32 f y k h o
+
+-- ---- the store of a quad
+
+abbrev put : ℕ → ℕ → Float → List (List Float) → List (List Float)
+put i j x t = set t i (set (getD t i []) j x)
+
+module _ (u l : ℕ) (h : u < 8) (k : l < 16) (q : List Float) (f : ℕ → ℕ → Float) where
+  abbrev one : ℕ → ℕ → Float
+  one = stored u l (numberOf q 0) f
+
+  abbrev two : ℕ → ℕ → Float
+  two = stored (8 + u) l (numberOf q 1) one
+
+  abbrev three : ℕ → ℕ → Float
+  three = stored u (16 + l) (numberOf q 2) two
+
+  abbrev all : ℕ → ℕ → Float
+  all = stored (8 + u) (16 + l) (numberOf q 3) three
+
+  all-here : quadAt all u l ≡ numberOf q 0 ∷ numberOf q 1 ∷ numberOf q 2 ∷ numberOf q 3 ∷ []
+  unfolding quadAt
+  all-here =
+      four
+      (stored-apart _ _ _ three u l (λ p r. omega arith) ∙ stored-apart _ _ _ two u l (λ p r. omega arith) ∙ stored-apart _ _ _ one u l (λ p r. omega arith) ∙ stored-here _ _ _ f u l refl refl)
+      (stored-apart _ _ _ three (8 + u) l (λ p r. omega arith) ∙ stored-apart _ _ _ two (8 + u) l (λ p r. omega arith) ∙ stored-here _ _ _ one (8 + u) l refl refl)
+      (stored-apart _ _ _ three u (16 + l) (λ p r. omega arith) ∙ stored-here _ _ _ two u (16 + l) refl refl)
+      (stored-here _ _ _ three (8 + u) (16 + l) refl refl)
+
+  all-apart : (x y : ℕ) → x < 8 → y < 16 → (16 * x + y ≡ 16 * u + l → ⊥) → quadAt all x y ≡ quadAt f x y
+  unfolding quadAt
+  all-apart x y i j o =
+      four (at x y (omega arith) (omega arith)) (at (8 + x) y (omega arith) (omega arith)) (at x (16 + y) (omega arith) (omega arith)) (at (8 + x) (16 + y) (omega arith) (omega arith))
+    where
+      at : (a b : ℕ) → a % 8 ≡ x → b % 16 ≡ y → all a b ≡ f a b
+      at a b c d =
+          stored-apart _ _ _ three a b (λ p r. o (omega arith)) ∙ stored-apart _ _ _ two a b (λ p r. o (omega arith))
+          ∙ stored-apart _ _ _ one a b (λ p r. o (omega arith)) ∙ stored-apart _ _ _ f a b (λ p r. o (omega arith))
+
+pub with-quad : (u l : ℕ) → u < 8 → l < 16 → (q : List Float) {b : List (List Float)} → Paired nan b → WithQuad u l q b (put (8 + u) (16 + l) (numberOf q 3) (put u (16 + l) (numberOf q 2) (put (8 + u) l (numberOf q 1) (put u l (numberOf q 0) b))))
+with-quad u l h k q {b} p =
+    let f = cell nan b in
+    let e =
+    set-grid (8 + u) (16 + l) _ (three u l h k q f) 16 32
+    (set-grid u (16 + l) _ (two u l h k q f) 16 32 (set-grid (8 + u) l _ (one u l h k q f) 16 32 (set-grid u l _ f 16 32 (p .is) (omega arith)) (omega arith)) (omega arith))
+    (omega arith) in
+    record {
+      paired = record { is = grid-of nan 16 32 (all u l h k q f) e };
+      here = quad-grid nan (all u l h k q f) e u l h k ∙ all-here u l h k q f;
+      apart = λ x y i j o. quad-grid nan (all u l h k q f) e x y i j ∙ all-apart u l h k q f x y i j o;
+    }
+
+-- ---- loops
+
+module _ {v w : List Float} where
+  pub lanes-start : (n : ℕ) {b : List (List Float)} → Paired nan b → Lanes v w n n b b
+  lanes-start n p = record { paired = p; new = λ u l h k i j. absurd (omega arith); rest = λ u l h k o. refl }
+
+  pub lanes-at : {m n o : ℕ} {b r : List (List Float)} → Lanes v w m n b r → n ≡ o → Lanes v w m o b r
+  lanes-at {m} {b = b} {r} p e = subst (λ n. Lanes v w m n b r) e p
+
+  -- one quad
+  lanes-one : {u l n : ℕ} → u < 8 → l < 16 → 16 * u + l ≡ n → {q : List Float} {b r : List (List Float)} → WithQuad u l q b r → numberOf q 0 ∷ numberOf q 1 ∷ numberOf q 2 ∷ numberOf q 3 ∷ [] ≡ newQuad v w b u l → Lanes v w n (n + 1) b r
+  lanes-one {u} {l} {n} h k o {q} {b} {r} p e =
+      record { paired = p .paired; new = new; rest = λ x y i j z. p .apart x y i j (λ a. z (omega arith) (omega arith)) }
+    where
+      new : (x y : ℕ) → x < 8 → y < 16 → n ≤ 16 * x + y → 16 * x + y < n + 1 → quadAt (cell nan r) x y ≡ newQuad v w b x y
+      new x y i j a c =
+          let f : u ≡ x = omega arith in
+          let g : l ≡ y = omega arith in
+          rw (sym f, sym g) (p .here ∙ e)
+
+  -- quads from m on and then from n on
+  pub lanes-join : {m n o : ℕ} {b r s : List (List Float)} → m ≤ n → n ≤ o → Lanes v w m n b r → Lanes v w n o r s → Lanes v w m o b s
+  unfolding newQuad
+  lanes-join {m} {n} {o} {b} {r} {s} i j p q =
+      record {
+        paired = q .paired;
+        new = λ u l h k a c. new u l h k a c (ltb (16 * u + l) n) refl;
+        rest = λ u l h k z. q .rest u l h k (λ a c. z (omega arith) (omega arith)) ∙ p .rest u l h k (λ a c. z (omega arith) (omega arith));
+      }
+    where
+      new : (u l : ℕ) → u < 8 → l < 16 → m ≤ 16 * u + l → 16 * u + l < o → (c : Bool) → ltb (16 * u + l) n ≡ c → quadAt (cell nan s) u l ≡ newQuad v w b u l
+      new u l h k a c true e =
+          let d : 16 * u + l < n = ltb-true (16 * u + l) n e in
+          q .rest u l h k (λ a c. omega arith) ∙ p .new u l h k a d
+      new u l h k a c false e =
+          let d : n ≤ 16 * u + l = ltb-false (16 * u + l) n e in
+          q .new u l h k d c ∙ ap (quadIn (getD v l nan) (getD w l nan) (l / 2) u) (p .rest u l h k (λ a c. omega arith))
+
+  pub lanes-turn : {u l m n : ℕ} {q : List Float} {b r s : List (List Float)} → Lanes v w m n b r → m ≤ n → u < 8 → l < 16 → 16 * u + l ≡ n → WithQuad u l q r s → numberOf q 0 ∷ numberOf q 1 ∷ numberOf q 2 ∷ numberOf q 3 ∷ [] ≡ newQuad v w r u l → Lanes v w m (n + 1) b s
+  lanes-turn p i h k o s e = lanes-join i (omega arith) p (lanes-one h k o s e)
+
+-- ---- a number for each plane in its lanes
+
+module _ {A : Type 0} (a b : A) where
+  pub planes-turn : {k : ℕ} {d r : List A} → Filled (λ l. either a b (l % 2)) 16 (2 * k) d r → k < 8 → Filled (λ l. either a b (l % 2)) 16 (2 * (k + 1)) d (set (set r (2 * k) a) (2 * k + 1) b)
+  planes-turn {k} {d} {r} w h =
+      let e : 2 * k + 1 + 1 ≡ 2 * (k + 1) = omega arith in
+      subst (λ n. Filled (λ l. either a b (l % 2)) 16 n d (set (set r (2 * k) a) (2 * k + 1) b)) e
+      (fill-turn (fill-turn w (omega arith) (rw (eq-eqb (2 * k % 2) 0 (omega arith)))) (omega arith) (rw (ne-eqb ((2 * k + 1) % 2) 0 (λ e. omega arith))))

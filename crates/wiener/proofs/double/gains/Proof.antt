@@ -1,0 +1,13 @@
+-- `wiener::double::gains`: the definition's own operations.
+use Rattle.algebra.specs.Prelude.{needs}
+use Rattle.wiener.specs.Doubles.{powerIn, gainsIn}
+use Rattle.wiener.proofs.double.gains.Statement.{statement}
+use Rattle.wiener.proofs.double.gains.Tie as tie
+
+returns : tie.Need-returns
+unfolding powerIn gainsIn
+returns c = cc
+
+pub gains-spec : {M : Type 1} → statement M
+gains-spec = tie.close (tie.spec
+    (λ c κs. search needs) (λ c κs. search needs) (λ c κs. search needs) (λ c κs. search needs) returns)

@@ -1,0 +1,17 @@
+-- `wiener::filter::set_quad`: four stores.
+use borrow.Author.Needs.{needs}
+use Rattle.wiener.proofs.LaneLaws.{with-quad}
+use Rattle.wiener.proofs.filter.set_quad.Statement.{statement}
+use Rattle.wiener.proofs.filter.set_quad.Tie as tie
+
+returns : tie.Need-returns
+returns c = with-quad (c .args .u) (c .args .l) (c .pre .0) (c .pre .1) (c .args .t4) (c .pre .2)
+
+pub set-quad-spec : {M : Type 1} → statement M
+set-quad-spec = tie.close (tie.spec
+    (λ c. search needs) (λ c. search needs) (λ c. search needs) (λ c. search needs)
+    (λ c. search needs) (λ c. search needs) (λ c. search needs) (λ c. search needs)
+    (λ c. search needs) (λ c. search needs) (λ c. search needs) (λ c. search needs)
+    (λ c. search needs) (λ c. search needs) (λ c. search needs) (λ c. search needs)
+    (λ c. search needs) (λ c. search needs) (λ c. search needs) (λ c. search needs)
+    (λ c. search needs) (λ c. search needs) (λ c. search needs) (λ c. search needs) returns)

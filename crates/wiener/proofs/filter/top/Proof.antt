@@ -1,0 +1,46 @@
+-- `wiener::filter::top`: two bins a turn, each with its conjugate.
+use Rattle.algebra.specs.Prelude.{refl, _+_, _-_, _*_, _≤_, arith, needs, now}
+use Rattle.wiener.specs.Lanes.{Lanes}
+use Rattle.wiener.proofs.LaneLaws.{lanes-start, lanes-at, lanes-turn}
+use Rattle.wiener.proofs.NewQuads.{new-top}
+use Rattle.wiener.proofs.filter.top.Statement.{statement}
+use Rattle.wiener.proofs.filter.top.Tie as tie
+
+abbrev Inv-loop : tie.InvT-loop
+Inv-loop b₀ v w u l₀ b l = (l ≤ 2) × (Lanes v w (16 * u) (16 * u + l) b₀ b)
+
+abbrev μ-loop : tie.MeasureT-loop
+μ-loop b₀ v w u l₀ b l = 2 - l
+
+loop-holds : tie.Need-loop-holds Inv-loop μ-loop
+loop-holds c = (omega arith, lanes-at (lanes-start (16 * c .args .u) (c .pre .2)) (omega arith))
+
+set-quad-requires : tie.Need-set-quad-requires Inv-loop μ-loop
+set-quad-requires c κs =
+    let p = c .before .before .before .before .before .before .before .before .before .before .before .before in
+    (p .before .pre .1, omega arith, p .loop .inv .1 .paired)
+
+loop-again : tie.Need-loop-again Inv-loop μ-loop
+loop-again c =
+    let h = c .before .before in
+    let g = h .before .before .before .before .before in
+    let p = g .before .before .before .before .before .before in
+    let s = p .before in
+    (omega arith, lanes-at (lanes-turn (p .loop .inv .1) (omega arith) (s .pre .1) (omega arith) refl (c .set-quad .ensures) (new-top (now (s .args .v)) (now (s .args .w)) (p .loop .b) (s .args .u) (p .loop .l) (s .pre .0) (omega arith) (g .gains .ensures) (h .gains2 .ensures))) (omega arith))
+
+returns : tie.Need-returns Inv-loop μ-loop
+returns c = lanes-at (c .before .loop .inv .1) (omega arith)
+
+pub top-spec : {M : Type 1} → statement M
+top-spec = tie.close (tie.spec
+    Inv-loop μ-loop loop-holds (λ c. search needs) (λ c. search needs) (λ c. search needs)
+    (λ c. search needs) (λ c. search needs) (λ c. search needs) (λ c. search needs)
+    (λ c. search needs) (λ c. search needs) (λ c. search needs) (λ c. search needs)
+    (λ c. search needs) (λ c. search needs) (λ c κs. search needs) (λ c. search needs)
+    (λ c. search needs) (λ c. search needs) (λ c. search needs) (λ c. search needs)
+    (λ c. search needs) (λ c. search needs) (λ c. search needs) (λ c. search needs)
+    (λ c. search needs) (λ c. search needs) (λ c. search needs) (λ c. search needs)
+    (λ c. search needs) (λ c. search needs) (λ c κs. search needs) (λ c. search needs)
+    (λ c. search needs) (λ c. search needs) (λ c. search needs) (λ c. search needs)
+    (λ c. search needs) (λ c. search needs) (λ c. search needs) set-quad-requires
+    (λ c. search needs) (λ c. search needs) loop-again returns)

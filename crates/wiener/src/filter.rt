@@ -1,0 +1,120 @@
+// The Wiener step on two tiles side by side, in double, by quads: rows u and 8 + u of lanes l and 16 + l hold bins (u, v) and (16 − u, v) of a plane, with
+// v = l / 2, and what comes of them is folded for the inverse. A turn of a loop is a quad, and the compiler does two at a time.
+use crate::double::gains;
+use crate::double::real_gain;
+ghost use mathlib.Core.Path.{_≡_};
+ghost use Prim.Native.Nat.{ℕ, _+_, _*_, _%_, _≤_, _<_};
+ghost use lib.IntN.{ℤ};
+ghost use lib.Ieee.{nan};
+ghost use Rattle.sequences.specs.Tab.{tab};
+ghost use Rattle.spectrum.specs.Magnitudes.{pairNoise};
+ghost use Rattle.spectrum.specs.Spectrum.{transposed, spread, gainRe, gainIm};
+ghost use Rattle.spectrum.specs.Pairs.{sideBySide, either, Paired, doubles, Quiet};
+ghost use Rattle.wiener.specs.Lanes.{WithQuad, Lanes};
+
+// 1 + 2^-50
+const SLIGHTLY_MORE: f64 = 1.0000000000000008881784197001252;
+
+// Stores quad (u, l).
+fn set_quad(b: &mut [[f64; 32]; 16], u: usize, l: usize, q: [f64; 4])
+    requires { ⌜ (u < 8) × (l < 16) × (Paired nan (now b)) ⌝ }
+    ensures { λ _. ⌜ WithQuad u l q (now (b .entry)) (now (b .exit)) ⌝ }
+{
+    b[u][l] = q[0];
+    b[8 + u][l] = q[1];
+    b[u][16 + l] = q[2];
+    b[8 + u][16 + l] = q[3];
+}
+
+// The quads at u = 0 and v = 0: four real bins.
+fn corner(b: &mut [[f64; 32]; 16], v: &[f64; 16], w: &[f64; 16])
+    requires { ⌜ Paired nan (now b) ⌝ }
+    ensures { λ _. ⌜ Lanes (now (v .entry)) (now (w .entry)) 0 2 (now (b .entry)) (now (b .exit)) ⌝ }
+{
+    for l in 0..2 {
+        let q = [
+            real_gain(v[l], w[l], b[0][l]),
+            real_gain(v[l], w[l], b[8][l]),
+            real_gain(v[l], w[l], b[0][16 + l]),
+            real_gain(v[l], w[l], b[8][16 + l]),
+        ];
+        set_quad(&mut *b, 0, l, q);
+    }
+}
+
+// The other quads at u = 0: bins (0, v) and (8, v).
+fn left(b: &mut [[f64; 32]; 16], v: &[f64; 16], w: &[f64; 16])
+    requires { ⌜ Paired nan (now b) ⌝ }
+    ensures { λ _. ⌜ Lanes (now (v .entry)) (now (w .entry)) 2 16 (now (b .entry)) (now (b .exit)) ⌝ }
+{
+    for l in 2..16 {
+        let g = gains(v[l], w[l], b[0][l], b[0][16 + l]);
+        let h = gains(v[l], w[l], b[8][l], b[8][16 + l]);
+        set_quad(&mut *b, 0, l, [g[0], h[0], g[1], h[1]]);
+    }
+}
+
+// The quads at u and v = 0: bins (u, 0) and (u, 8), and their conjugates.
+fn top(b: &mut [[f64; 32]; 16], v: &[f64; 16], w: &[f64; 16], u: usize)
+    requires { ⌜ (0 < u) × (u < 8) × (Paired nan (now b)) ⌝ }
+    ensures { λ _. ⌜ Lanes (now (v .entry)) (now (w .entry)) (16 * u) (16 * u + 2) (now (b .entry)) (now (b .exit)) ⌝ }
+{
+    for l in 0..2 {
+        let g = gains(v[l], w[l], b[u][l], b[8 + u][l]);
+        let h = gains(v[l], w[l], b[u][16 + l], b[8 + u][16 + l]);
+        set_quad(
+            &mut *b,
+            u,
+            l,
+            [g[0] + g[0], g[1] + g[1], h[0] + h[0], h[1] + h[1]],
+        );
+    }
+}
+
+// The other quads at u.
+fn inner(b: &mut [[f64; 32]; 16], v: &[f64; 16], w: &[f64; 16], u: usize)
+    requires { ⌜ (0 < u) × (u < 8) × (Paired nan (now b)) ⌝ }
+    ensures { λ _. ⌜ Lanes (now (v .entry)) (now (w .entry)) (16 * u + 2) (16 * u + 16) (now (b .entry)) (now (b .exit)) ⌝ }
+{
+    for l in 2..16 {
+        let x = b[u][l];
+        let y = b[8 + u][l];
+        let z = b[u][16 + l];
+        let t = b[8 + u][16 + l];
+        let g = gains(v[l], w[l], x - t, y + z);
+        let h = gains(v[l], w[l], x + t, z - y);
+        set_quad(
+            &mut *b,
+            u,
+            l,
+            [g[0] + h[0], g[1] - h[1], g[1] + h[1], h[0] - g[0]],
+        );
+    }
+}
+
+// a in the lanes of plane 0 and b in those of plane 1.
+fn alternating(a: f64, b: f64) -> [f64; 16]
+    ensures { λ r. ⌜ r ≡ tab 16 (λ l. either a b (l % 2)) ⌝ }
+{
+    let mut r = [0.0f64; 16];
+    for k in 0..8 {
+        r[2 * k] = a;
+        r[2 * k + 1] = b;
+    }
+    r
+}
+
+// G of two planes at their noise numbers, folded, in the place of B.
+pub fn filter(b: &mut [[f64; 32]; 16], first: u64, second: u64)
+    requires { ⌜ record { paired : Paired nan (now b); first-most : first ≤ pairNoise; second-most : second ≤ pairNoise } ⌝ }
+    ensures { λ _. ⌜ record { paired : Paired nan (now (b .exit)); is : (t : ℕ → ℕ → ℕ → ℤ) → Quiet first (t 0) → Quiet second (t 1) → now (b .entry) ≡ doubles (sideBySide (λ p. transposed (t p))) → now (b .exit) ≡ doubles (sideBySide (λ p. transposed (spread (gainRe (either first second p) (t p)) (gainIm (either first second p) (t p))))) } ⌝ }
+{
+    let v = alternating(first as f64, second as f64);
+    let w = alternating(first as f64 * SLIGHTLY_MORE, second as f64 * SLIGHTLY_MORE);
+    corner(&mut *b, &v, &w);
+    left(&mut *b, &v, &w);
+    for u in 1..8 {
+        top(&mut *b, &v, &w, u);
+        inner(&mut *b, &v, &w, u);
+    }
+}
