@@ -1,9 +1,6 @@
 pub mod Sums
 pub mod ColumnLaws
-pub mod Sizes
-pub mod Apart
-pub mod QuadLaws
 pub mod QuadStores
 pub mod Spectra
 pub mod Corrections
-pub mod SlotLaws
+pub mod PlaneLaws

@@ -5,8 +5,8 @@ use borrow.Author.Count.{below-more}
 use borrow.Author.Tests.{eqb-true, eqb-false}
 use Rattle.sequences.specs.Grid.{grid, cell, cell-grid, grid-ext, stored, stored-here, stored-apart, set-grid}
 use Rattle.lines.specs.Lines.{LineMost, TileMost, Square}
-use Rattle.transform.specs.Magnitudes.{quadMost}
-use Rattle.transform.specs.Spectrum.{Quads, transposed, quadOf, withQuad}
+use Rattle.spectrum.specs.Magnitudes.{quadMost}
+use Rattle.spectrum.specs.Spectrum.{Quads, transposed, quadOf, withQuad}
 use Rattle.lines.proofs.Tiles.{tile-each}
 use Rattle.transform.proofs.ColumnLaws.{square-grid}
 
@@ -78,9 +78,6 @@ module _ (v u : ℕ) (m : v < 8) (n : u < 8) (q : List ℤ) (f : ℕ → ℕ →
 module _ {q : (v u : ℕ) → List ℤ} where
   pub quads-start : {r : List (List ℤ)} → Square r → Quads q 0 r
   quads-start e = record { count = zero-le; square = e; is = λ k b h l i. absurd (omega arith); most = λ v u h l i. absurd (omega arith) }
-
-  pub quads-at : {m n : ℕ} {r : List (List ℤ)} → Quads q m r → m ≡ n → Quads q n r
-  quads-at {r = r} w e = subst (λ n. Quads q n r) e w
 
   module _ {n : ℕ} (v u : ℕ) {r r' : List (List ℤ)} {x : List ℤ} (w : Quads q n r) (i : v < 8) (j : u < 8) (o : 8 * u + v ≡ n) (e : x ≡ q v u) (m : LineMost quadMost x) (p : r' ≡ grid 16 16 (transposed (withQuad v u x (transposed (cell (pos 0) r))))) where
     -- quad (v, u), and those before it

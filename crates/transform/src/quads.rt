@@ -10,10 +10,10 @@ ghost use Rattle.sequences.specs.Tab.{tab};
 ghost use Rattle.sequences.specs.Grid.{grid, cell};
 ghost use Rattle.recipe.specs.Tables.{side16};
 ghost use Rattle.recipe.specs.Correction.{filtered};
-ghost use Rattle.wiener.specs.Magnitudes.{binMost, gainMost, noiseMost};
-ghost use Rattle.transform.specs.Magnitudes.{quadMost};
+ghost use Rattle.spectrum.specs.Magnitudes.{binMost, gainMost, noiseMost};
+ghost use Rattle.spectrum.specs.Magnitudes.{quadMost};
 ghost use Rattle.lines.specs.Lines.{LineMost, TileMost, Square};
-ghost use Rattle.transform.specs.Spectrum.{
+ghost use Rattle.spectrum.specs.Spectrum.{
   BinsMost,
   transposed,
   quadOf,
@@ -26,7 +26,7 @@ ghost use Rattle.transform.specs.Spectrum.{
 };
 
 // The parts of the two bins of quad (v, u) of the tile t.
-pub fn two_bins(t: &[[i64; 16]; 16], v: usize, u: usize) -> [i64; 4]
+fn two_bins(t: &[[i64; 16]; 16], v: usize, u: usize) -> [i64; 4]
     requires { ⌜ (v < 8) × (u < 8) × (BinsMost (now t)) ⌝ }
     ensures { λ r. ⌜ (r ≡ twoBins (transposed (cell (pos 0) (now (t .entry)))) v u) × (LineMost binMost r) ⌝ }
 {
@@ -44,7 +44,7 @@ pub fn two_bins(t: &[[i64; 16]; 16], v: usize, u: usize) -> [i64; 4]
 }
 
 // G at the two bins of quad (v, u), folded. The corner is not folded.
-pub fn folded(v: usize, u: usize, re: i64, im: i64, re2: i64, im2: i64) -> [i64; 4]
+fn folded(v: usize, u: usize, re: i64, im: i64, re2: i64, im2: i64) -> [i64; 4]
     requires { ⌜ (AtMost gainMost re) × (AtMost gainMost im) × (AtMost gainMost re2) × (AtMost gainMost im2) ⌝ }
     ensures { λ r. ⌜ (r ≡ foldedQuad v u re im re2 im2) × (LineMost quadMost r) ⌝ }
 {
@@ -71,7 +71,7 @@ fn corner_quad(noise: u64, b: &[i64; 4]) -> [i64; 4]
 }
 
 // Quad (v, u) of the tile t.
-pub fn quad(t: &[[i64; 16]; 16], noise: u64, v: usize, u: usize) -> [i64; 4]
+fn quad(t: &[[i64; 16]; 16], noise: u64, v: usize, u: usize) -> [i64; 4]
     requires { ⌜ (noise ≤ noiseMost) × (v < 8) × (u < 8) × (BinsMost (now t)) ⌝ }
     ensures { λ r. ⌜ (r ≡ quadOf (spread (gainRe noise (transposed (cell (pos 0) (now (t .entry))))) (gainIm noise (transposed (cell (pos 0) (now (t .entry)))))) v u) × (LineMost quadMost r) ⌝ }
 {
@@ -90,7 +90,7 @@ pub fn quad(t: &[[i64; 16]; 16], noise: u64, v: usize, u: usize) -> [i64; 4]
 }
 
 // Stores quad (v, u) in the tile r.
-pub fn set_quad(r: &mut [[i32; 16]; 16], v: usize, u: usize, q: &[i64; 4])
+fn set_quad(r: &mut [[i32; 16]; 16], v: usize, u: usize, q: &[i64; 4])
     requires { ⌜ (v < 8) × (u < 8) × (LineMost quadMost (now q)) × (Square (now r)) ⌝ }
     ensures { λ _. ⌜ now (r .exit) ≡ grid 16 16 (transposed (withQuad v u (now (q .entry)) (transposed (cell (pos 0) (now (r .entry)))))) ⌝ }
 {

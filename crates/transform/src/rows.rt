@@ -1,5 +1,4 @@
-// The passes along the rows of a tile that passes along its columns leave.
-use lines::backward;
+// The transform of the rows of a tile, and what the last pass of the inverse does with the numbers of a row.
 use lines::halfcomplex;
 ghost use mathlib.Core.Path.{_≡_};
 ghost use Prim.Native.Nat.{_^_};
@@ -9,9 +8,9 @@ ghost use Rattle.algebra.specs.Bound.{AtMost};
 ghost use Rattle.algebra.specs.Nearest.{away};
 ghost use Rattle.sequences.specs.Tab.{tab};
 ghost use Rattle.sequences.specs.Grid.{grid, cell};
-ghost use Rattle.lines.specs.Halfcomplex.{halfcomplex, backward};
-ghost use Rattle.transform.specs.Spectrum.{counted};
-ghost use Rattle.transform.specs.Magnitudes.{rowMost, columnMost, sumMost};
+ghost use Rattle.lines.specs.Halfcomplex.{halfcomplex};
+ghost use Rattle.spectrum.specs.Spectrum.{counted};
+ghost use Rattle.spectrum.specs.Magnitudes.{rowMost, columnMost, sumMost};
 ghost use Rattle.lines.specs.Lines.{LineMost, TileMost};
 
 // A row in 64-bit numbers.
@@ -45,18 +44,6 @@ pub fn counted(k: usize, z: i64) -> i64
         return z;
     }
     2 * z
-}
-
-// A row, each column counted once or twice.
-fn counted_line(row: &[i32; 16]) -> [i64; 16]
-    requires { ⌜ LineMost columnMost (now row) ⌝ }
-    ensures { λ r. ⌜ r ≡ tab 16 (λ k. counted k (getD (now (row .entry)) k (pos 0))) ⌝ }
-{
-    let mut r = [0i64; 16];
-    for k in 0..16 {
-        r[k] = counted(k, row[k] as i64);
-    }
-    r
 }
 
 // P from its sum: in 1/256, halves away from zero.
@@ -97,16 +84,4 @@ pub fn added_row(sum: [i64; 16], term: [i32; 16]) -> [i64; 16]
         row[j] = plus(sum[j], term[j]);
     }
     row
-}
-
-// The sums back along each row, divided by 2^32, are added to the sum.
-pub fn add_back(t: &[[i32; 16]; 16], sum: &mut [[i64; 16]; 16])
-    requires { ⌜ (TileMost columnMost (now t)) × (length (now sum) ≡ 16) × (TileMost (2 ^ 40) (now sum)) ⌝ }
-    ensures { λ _. ⌜ now (sum .exit) ≡ grid 16 16 (λ y x. cell (pos 0) (now (sum .entry)) y x +ℤ away (backward (λ k. counted k (cell (pos 0) (now (t .entry)) y k)) x) (2 ^ 32)) ⌝ }
-{
-    for y in 0..16 {
-        let x = counted_line(&t[y]);
-        let z = backward::backward(&x);
-        sum[y] = added_row(sum[y], rounded_line(&z));
-    }
 }

@@ -1,5 +1,4 @@
-// The passes of the inverse where V may be large and sums along the columns exceed 32 bits.
-use crate::columns_back::column;
+// The two passes of the inverse, in 64 bits: V may be large, and then sums along the columns exceed 32.
 use crate::rows::added_row;
 use crate::rows::counted;
 use crate::rows::rounded_line;
@@ -13,9 +12,21 @@ ghost use Rattle.algebra.specs.Nearest.{away};
 ghost use Rattle.sequences.specs.Tab.{tab};
 ghost use Rattle.sequences.specs.Grid.{grid, cell};
 ghost use Rattle.lines.specs.Halfcomplex.{backward};
-ghost use Rattle.transform.specs.Spectrum.{counted};
-ghost use Rattle.transform.specs.Magnitudes.{quadMost, columnMost};
+ghost use Rattle.spectrum.specs.Spectrum.{counted};
+ghost use Rattle.spectrum.specs.Magnitudes.{quadMost, columnMost};
 ghost use Rattle.lines.specs.Lines.{TileMost};
+
+// Place k of each line.
+fn column(g: &[[i32; 16]; 16], k: usize) -> [i32; 16]
+    requires { ⌜ k < 16 ⌝ }
+    ensures { λ r. ⌜ r ≡ tab 16 (λ b. cell (pos 0) (now (g .entry)) b k) ⌝ }
+{
+    let mut r = [0i32; 16];
+    for b in 0..16 {
+        r[b] = g[b][k];
+    }
+    r
+}
 
 // r: the sums back along each column of a folded spectrum, as a line.
 pub fn columns_back(g: &[[i32; 16]; 16], r: &mut [[i64; 16]; 16])

@@ -4,7 +4,7 @@ use Rattle.sequences.specs.Grid.{cell}
 use Rattle.lines.specs.Halfcomplex.{halfcomplex}
 use Rattle.lines.specs.Magnitudes.{differenceMost}
 use Rattle.lines.proofs.Tiles.{line-most, cells-most}
-use Rattle.transform.proofs.Sums.{halfcomplex-line}
+use Rattle.spectrum.specs.LineLaws.{halfcomplex-line}
 use Rattle.transform.proofs.ColumnLaws.{ColumnsSet, columns-start, columns-turn, columns-done}
 use Rattle.transform.proofs.columns.forward.Statement.{statement}
 use Rattle.transform.proofs.columns.forward.Tie as tie

@@ -5,11 +5,11 @@ use Rattle.algebra.specs.Bound.{AtMost}
 use Rattle.sequences.specs.Tab.{tab}
 use Rattle.recipe.specs.Tables.{side16}
 use Rattle.recipe.specs.Correction.{filtered}
-use Rattle.wiener.specs.Magnitudes.{binMost, gainMost}
+use Rattle.spectrum.specs.Magnitudes.{binMost, gainMost}
 use Rattle.lines.specs.Lines.{LineMost}
 use Rattle.lines.proofs.Held.{number-is, number-most, held-is, held-most}
 use Rattle.lines.proofs.Tiles.{line-more}
-use Rattle.transform.proofs.QuadLaws.{four, four-most}
+use Rattle.spectrum.specs.QuadLaws.{four, four-most}
 use Rattle.transform.proofs.quads.corner_quad.Statement.{statement}
 use Rattle.transform.proofs.quads.corner_quad.Tie as tie
 

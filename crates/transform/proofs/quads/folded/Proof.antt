@@ -3,10 +3,10 @@ use Rattle.algebra.specs.Prelude.{sym, _∙_, List, [], _∷_, ℕ, arith, ℤ,
 use Rattle.algebra.specs.Ring.{nth, var, _⊞_, _⊟_}
 use Rattle.algebra.specs.Code.{Code, par, add, sub, Bounded, fits}
 use Rattle.algebra.specs.Forms.{vals-are, vals-most}
-use Rattle.transform.specs.Spectrum.{foldedQuad}
-use Rattle.wiener.specs.Magnitudes.{gainMost}
-use Rattle.transform.specs.Magnitudes.{quadMost}
-use Rattle.transform.proofs.QuadLaws.{is-top, is-left, is-inner}
+use Rattle.spectrum.specs.Spectrum.{foldedQuad}
+use Rattle.spectrum.specs.Magnitudes.{gainMost}
+use Rattle.spectrum.specs.Magnitudes.{quadMost}
+use Rattle.spectrum.specs.QuadLaws.{is-top, is-left, is-inner}
 use Rattle.transform.proofs.quads.folded.Statement.{statement}
 use Rattle.transform.proofs.quads.folded.Tie as tie
 use Rattle.transform.proofs.quads.folded.Reads as reads

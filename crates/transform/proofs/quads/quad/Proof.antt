@@ -5,11 +5,11 @@ use Rattle.sequences.specs.Tab.{tab}
 use Rattle.sequences.specs.Grid.{cell}
 use Rattle.recipe.specs.Tables.{side16}
 use Rattle.recipe.specs.Correction.{filtered}
-use Rattle.wiener.specs.Magnitudes.{binMost, gainMost}
+use Rattle.spectrum.specs.Magnitudes.{binMost, gainMost}
 use Rattle.lines.specs.Lines.{LineMost}
-use Rattle.transform.specs.Spectrum.{transposed, foldedQuad}
+use Rattle.spectrum.specs.Spectrum.{transposed, foldedQuad}
 use Rattle.lines.proofs.Held.{number-is, number-most, held-is, held-most}
-use Rattle.transform.proofs.QuadLaws.{quad-ext, quad-is, corner-is}
+use Rattle.spectrum.specs.QuadLaws.{quad-ext, quad-is, corner-is}
 use Rattle.transform.proofs.quads.quad.Statement.{statement}
 use Rattle.transform.proofs.quads.quad.Tie as tie
 

@@ -1,7 +1,7 @@
 -- `transform::quads::quads`: the quads are stored one after the other.
 use Rattle.algebra.specs.Prelude.{refl, List, ℕ, _-_, arith, needs, ℤ, pos}
 use Rattle.sequences.specs.Grid.{cell}
-use Rattle.transform.specs.Spectrum.{Quads, transposed, quadOf, spread, gainRe, gainIm}
+use Rattle.spectrum.specs.Spectrum.{Quads, transposed, quadOf, spread, gainRe, gainIm}
 use Rattle.transform.proofs.QuadStores.{quads-start, quads-turn, quads-done, quads-most}
 use Rattle.transform.proofs.quads.quads.Statement.{statement}
 use Rattle.transform.proofs.quads.quads.Tie as tie

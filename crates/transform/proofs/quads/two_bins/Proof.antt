@@ -3,11 +3,11 @@ use Rattle.algebra.specs.Prelude.{_≡_, sym, ap₂, subst, _∙_, [], ℕ, _+_
 use Rattle.algebra.specs.Bound.{AtMost, add-fits, sub-fits}
 use Rattle.sequences.specs.Grid.{cell}
 use Rattle.lines.specs.Lines.{LineMost}
-use Rattle.transform.specs.Spectrum.{transposed, quadOf, twoBins}
-use Rattle.wiener.specs.Magnitudes.{binMost}
-use Rattle.transform.specs.Magnitudes.{placeMost}
+use Rattle.spectrum.specs.Spectrum.{transposed, quadOf, twoBins}
+use Rattle.spectrum.specs.Magnitudes.{binMost}
+use Rattle.spectrum.specs.Magnitudes.{placeMost}
 use Rattle.lines.proofs.Held.{held-is}
-use Rattle.transform.proofs.QuadLaws.{four, is-top, is-left, is-inner, bins-most}
+use Rattle.spectrum.specs.QuadLaws.{four, is-top, is-left, is-inner, bins-most}
 use Rattle.transform.proofs.quads.two_bins.Statement.{statement}
 use Rattle.transform.proofs.quads.two_bins.Tie as tie
 use Rattle.transform.proofs.quads.two_bins.Reads as reads

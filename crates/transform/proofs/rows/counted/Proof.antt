@@ -1,9 +1,9 @@
 -- `transform::rows::counted`: twice a number of at most 12436262354944 fits.
 use Rattle.algebra.specs.Prelude.{sym, _∙_, ℤ, pos, _*ℤ_, w64, SFits, toZ-ofZ}
 use Rattle.algebra.specs.Bound.{AtMost, mul-fits, lit-most}
-use Rattle.transform.specs.Magnitudes.{columnMost}
-use Rattle.transform.specs.Spectrum.{counted}
-use Rattle.transform.proofs.Apart.{is-own, is-paired}
+use Rattle.spectrum.specs.Magnitudes.{columnMost}
+use Rattle.spectrum.specs.Spectrum.{counted}
+use Rattle.spectrum.specs.Apart.{is-own, is-paired}
 use Rattle.transform.proofs.rows.counted.Statement.{statement}
 use Rattle.transform.proofs.rows.counted.Tie as tie
 

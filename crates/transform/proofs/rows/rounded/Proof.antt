@@ -3,8 +3,8 @@ use Rattle.algebra.specs.Prelude.{_≡_, ap, _∙_, _-_, _^_, arith, needs, lit
 use native.Mathlib.Nat.{le-trans}
 use Rattle.algebra.specs.Nearest.{away}
 use Rattle.algebra.specs.Bound.{AtMost, most-fits}
-use Rattle.transform.specs.Magnitudes.{sumMost}
-use Rattle.wiener.specs.RoundingLaws.{away-most}
+use Rattle.spectrum.specs.Magnitudes.{sumMost}
+use Rattle.spectrum.specs.RoundingLaws.{away-most}
 use Rattle.transform.proofs.rows.rounded.Statement.{statement}
 use Rattle.transform.proofs.rows.rounded.Tie as tie
 

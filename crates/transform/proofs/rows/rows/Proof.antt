@@ -4,9 +4,9 @@ use Rattle.sequences.specs.Tab.{tab}
 use Rattle.sequences.specs.TabLaws.{Filled, fill-start, fill-turn, fill-done}
 use Rattle.sequences.specs.Grid.{grid, cell}
 use Rattle.lines.specs.Halfcomplex.{halfcomplex}
-use Rattle.transform.specs.Magnitudes.{rowMost}
+use Rattle.spectrum.specs.Magnitudes.{rowMost}
 use Rattle.lines.proofs.Tiles.{line-most, line-more}
-use Rattle.transform.proofs.Sums.{halfcomplex-line}
+use Rattle.spectrum.specs.LineLaws.{halfcomplex-line}
 use Rattle.transform.proofs.rows.rows.Statement.{statement}
 use Rattle.transform.proofs.rows.rows.Tie as tie
 

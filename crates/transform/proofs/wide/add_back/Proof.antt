@@ -5,7 +5,7 @@ use Rattle.sequences.specs.Tab.{tab}
 use Rattle.sequences.specs.TabLaws.{Filled, fill-start, fill-turn, fill-rest, fill-done}
 use Rattle.sequences.specs.Grid.{grid, cell}
 use Rattle.lines.specs.Halfcomplex.{backward}
-use Rattle.transform.specs.Spectrum.{counted}
+use Rattle.spectrum.specs.Spectrum.{counted}
 use Rattle.lines.specs.Lines.{LineMost}
 use Rattle.lines.proofs.Tiles.{cells-most}
 use Rattle.transform.proofs.Sums.{row-small, row-sums-small, row-added}

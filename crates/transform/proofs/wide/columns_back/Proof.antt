@@ -4,9 +4,9 @@ use Rattle.sequences.specs.Tab.{tab}
 use Rattle.sequences.specs.TabLaws.{Filled, fill-start, fill-turn, fill-done}
 use Rattle.sequences.specs.Grid.{grid, cell}
 use Rattle.lines.specs.Halfcomplex.{backward}
-use Rattle.transform.specs.Magnitudes.{quadMost}
+use Rattle.spectrum.specs.Magnitudes.{quadMost}
 use Rattle.lines.proofs.Tiles.{line-most, line-more, cells-most}
-use Rattle.transform.proofs.Sums.{backward-line, each-line}
+use Rattle.spectrum.specs.LineLaws.{backward-line, each-line}
 use Rattle.transform.proofs.wide.columns_back.Statement.{statement}
 use Rattle.transform.proofs.wide.columns_back.Tie as tie
 

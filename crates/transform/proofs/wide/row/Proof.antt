@@ -2,7 +2,7 @@
 use Rattle.algebra.specs.Prelude.{_≡_, refl, ap, _∙_, _-_, arith, needs, pos, w64, toZ, ofZ}
 use Rattle.sequences.specs.TabLaws.{Filled, fill-start, fill-turn, fill-done}
 use Rattle.sequences.specs.Grid.{cell}
-use Rattle.transform.specs.Spectrum.{counted}
+use Rattle.spectrum.specs.Spectrum.{counted}
 use Rattle.lines.proofs.Held.{held-is, held-most}
 use Rattle.transform.proofs.wide.row.Statement.{statement}
 use Rattle.transform.proofs.wide.row.Tie as tie

@@ -1,9 +1,9 @@
--- `transform::columns_back::column`: the places are stored one after the other.
+-- `transform::wide::column`: the places are stored one after the other.
 use Rattle.algebra.specs.Prelude.{_≡_, refl, [], _-_, arith, needs, getD, pos, w32, toZ, ofZ, now}
 use Rattle.sequences.specs.TabLaws.{Filled, fill-start, fill-turn, fill-done}
 use Rattle.sequences.specs.Grid.{cell}
-use Rattle.transform.proofs.columns_back.column.Statement.{statement}
-use Rattle.transform.proofs.columns_back.column.Tie as tie
+use Rattle.transform.proofs.wide.column.Statement.{statement}
+use Rattle.transform.proofs.wide.column.Tie as tie
 
 abbrev Inv-loop : tie.InvT-loop
 Inv-loop g k r₀ b₀ r b = Filled (λ b. cell (pos 0) g b k) 16 b r₀ r
