@@ -1,0 +1,25 @@
+-- Whole numbers in double: one, and a row of thirty-two; and P of one.
+use Rattle.algebra.specs.Prelude.{_≡_, List, ℕ, _≤_, ℤ, pos, natAbs, _-ℤ_}
+use lib.Ieee.{Float, binary64, ofInt, add, mul, toBits}
+use Rattle.floats.specs.Middle.{middle, middleBits}
+use Rattle.floats.specs.ProductLaws.{fraction}
+use Rattle.lines.specs.Doubles.{doubleLine}
+
+-- x is a whole number of at most m
+pub record WholeDouble (m : ℕ) (x : Float) : Type 0 where
+  pub number : ℤ
+  pub most : natAbs number ≤ m
+  pub is : x ≡ ofInt binary64 number
+
+-- and so is each of a row
+pub record WholeRow (m : ℕ) (x : List Float) : Type 0 where
+  pub number : ℕ → ℤ
+  pub most : (l : ℕ) → natAbs (number l) ≤ m
+  pub is : x ≡ doubleLine 32 number
+
+-- x over 2^31, from the bits of its sum with 1.5·2^52
+unfoldable pub roundedBits : Float → ℕ
+roundedBits x = toBits binary64 (add binary64 (mul binary64 x (fraction 31)) middle)
+
+unfoldable pub roundedDouble : Float → ℤ
+roundedDouble x = pos (roundedBits x) -ℤ pos middleBits
