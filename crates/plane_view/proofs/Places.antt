@@ -1,12 +1,12 @@
 -- Places of a plane are places of its frame, and a frame is small.
-use Rattle.algebra.specs.Prelude.{_≡_, ap, _∙_, List, ℕ, _+_, _*_, _^_, _≤_, _<_, arith, lit≤, length, getD, ℤ, pos, negsuc, natAbs, _+ℤ_}
+use Rattle.algebra.specs.Prelude.{_≡_, ap, _∙_, List, ℕ, _+_, _*_, _/_, _%_, _^_, _≤_, _<_, arith, lit≤, length, getD, ℤ, pos, negsuc, natAbs, _+ℤ_}
 use native.Mathlib.Nat.{le-trans, mul-le-mul, mul-le-mul-right, add-mul}
 use lib.Signed.{_≤ℤ_}
 use Rattle.sequences.specs.Tab.{tab}
 use Rattle.sequences.specs.Grid.{tab-ext}
 use Rattle.geometry.specs.Read.{sampleIndex, sampleAt, planeOf, inside, read}
 use Rattle.geometry.specs.ReadLaws.{inside-same}
-use Rattle.plane_view.specs.View.{rowLengthOf, planeImage, planeSample, planeRow, Shaped, FrameRows, RowStart}
+use Rattle.plane_view.specs.View.{rowLengthOf, planeImage, planeSample, pairRow, Shaped, FrameRows, RowStart}
 
 module _ {rowLength height rowParity columnParity : ℕ} (p : FrameRows rowLength height rowParity columnParity) where
   -- the row of the frame ends in it
@@ -28,14 +28,19 @@ pub sample-in-row : {y : ℤ} {height rowParity columnParity r : ℕ} (samples :
 unfolding planeSample planeImage planeOf read sampleAt sampleIndex
 sample-in-row samples width x s = ap (λ n. getD samples n 0) (omega (arith, s .is))
 
--- a row of a tile by where its row starts
-module _ {y : ℤ} {height rowParity columnParity r : ℕ} (samples : List ℕ) (width : ℕ) (s : RowStart y (rowLengthOf (length samples) height) height rowParity columnParity r) where
-  pub row-by-start : (side : ℕ) (x : ℤ) → tab side (λ j. getD samples (r + 2 * inside width (x +ℤ pos j)) 0) ≡ planeRow side y x samples width height rowParity columnParity
-  unfolding planeRow
-  row-by-start side x = tab-ext side _ _ (λ j h. sample-in-row samples width (x +ℤ pos j) s)
+-- a row of a pair by where its row starts in the plane of column parity 0
+module _ {y : ℤ} {height rowParity r : ℕ} (samples : List ℕ) (width : ℕ) (s : RowStart y (rowLengthOf (length samples) height) height rowParity 0 r) where
+  -- the sample of the plane beside stands one word further
+  beside : (x : ℤ) (p : ℕ) → getD samples (r + 2 * inside width x + p) 0 ≡ planeSample y x samples width height rowParity p
+  unfolding planeSample planeImage planeOf read sampleAt sampleIndex
+  beside x p = ap (λ n. getD samples n 0) (omega (arith, s .is))
 
-  -- inside the plane, nothing is held to an edge
-  pub inner-by-start : (side : ℕ) (x : ℤ) → pos 0 ≤ℤ x → natAbs x + side ≤ width → tab side (λ j. getD samples (r + 2 * natAbs x + 2 * j) 0) ≡ planeRow side y x samples width height rowParity columnParity
-  inner-by-start side (pos first) h room =
-      tab-ext side _ _ (λ j l. let same = inside-same width (first + j) (omega arith) in ap (λ n. getD samples n 0) (omega (arith, same))) ∙ row-by-start side (pos first)
-  inner-by-start side (negsuc a) h room = absurd (h .le)
+  pub row-by-start : (x : ℤ) → tab 32 (λ l. getD samples (r + 2 * inside width (x +ℤ pos (l / 2)) + l % 2) 0) ≡ pairRow y x samples width height rowParity
+  unfolding pairRow
+  row-by-start x = tab-ext 32 _ _ (λ l h. beside (x +ℤ pos (l / 2)) (l % 2))
+
+  -- inside the planes, nothing is held to an edge
+  pub inner-by-start : (x : ℤ) → pos 0 ≤ℤ x → natAbs x + 16 ≤ width → tab 32 (λ l. getD samples (r + 2 * natAbs x + l) 0) ≡ pairRow y x samples width height rowParity
+  inner-by-start (pos first) h room =
+      tab-ext 32 _ _ (λ l b. let same = inside-same width (first + l / 2) (omega arith) in ap (λ n. getD samples n 0) (omega (arith, same))) ∙ row-by-start (pos first)
+  inner-by-start (negsuc a) h room = absurd (h .le)

@@ -1,5 +1,5 @@
--- What a view of one plane reads: samples and tiles of a plane, by the list of its frame's samples.
-use Rattle.algebra.specs.Prelude.{_≡_, List, ℕ, _+_, _*_, _/_, _^_, _≤_, _<_, length, take, drop, ℤ, pos, natAbs, _+ℤ_}
+-- What a view of one plane reads: samples of the plane, and tiles of it and of the plane beside it, by the list of its frame's samples.
+use Rattle.algebra.specs.Prelude.{_≡_, List, ℕ, _+_, _*_, _/_, _%_, _^_, _≤_, _<_, length, take, drop, ℤ, pos, natAbs, _+ℤ_}
 use Rattle.sequences.specs.Tab.{tab}
 use Rattle.sequences.specs.Grid.{grid}
 use Rattle.geometry.specs.declared.Shape.{Shape}
@@ -14,28 +14,33 @@ rowLengthOf count height = count / (2 * height)
 abbrev pub frameOf : (width height rowLength : ℕ) → Shape
 frameOf width height rowLength = record { width = 2 * width; height = 2 * height; count = 1; «row_length» = rowLength }
 
--- "Each frame has four planes of W/2 by H/2, by parity of row and column": a plane of the frame whose samples are at hand
+-- the frame whose samples are at hand
+abbrev pub frameImage : List ℕ → (width height : ℕ) → Image
+frameImage samples width height = sampleAt (frameOf width height (rowLengthOf (length samples) height)) samples 0
+
+-- "Each frame has four planes of W/2 by H/2, by parity of row and column": a plane of that frame
 unfoldable pub planeImage : List ℕ → (width height rowParity columnParity : ℕ) → Image
-planeImage samples width height rowParity columnParity = planeOf (sampleAt (frameOf width height (rowLengthOf (length samples) height)) samples 0) rowParity columnParity
+planeImage samples width height rowParity columnParity = planeOf (frameImage samples width height) rowParity columnParity
 
 -- the samples of one frame of a burst
 unfoldable pub framePart : Shape → List ℕ → (frame : ℕ) → List ℕ
 framePart s samples frame = take (frameStride s) (drop (frame * frameStride s) samples)
 
--- "Tiles have side 16": a tile of an image, at an origin that may lie outside
-unfoldable pub tileOf : (side height width : ℕ) → Image → ℤ → ℤ → List (List ℕ)
-tileOf side height width image y x = grid side side (λ i j. read height width image (y +ℤ pos i) (x +ℤ pos j))
+-- "Tiles have side 16": two tiles side by side, of the planes of one row parity of a frame, at an origin that may lie outside. Place 2·j + p of a row is
+-- column j of the plane of column parity p, so that inside the planes a row is thirty-two samples of the frame one after the other
+unfoldable pub pairOf : (height width : ℕ) → Image → (rowParity : ℕ) → ℤ → ℤ → List (List ℕ)
+pairOf height width frame rowParity y x = grid 16 32 (λ i l. read height width (planeOf frame rowParity (l % 2)) (y +ℤ pos i) (x +ℤ pos (l / 2)))
 
 -- "A view of one plane reads the caller's samples": one of them
 unfoldable pub planeSample : ℤ → ℤ → List ℕ → (width height rowParity columnParity : ℕ) → ℕ
 planeSample y x samples width height rowParity columnParity = read height width (planeImage samples width height rowParity columnParity) y x
 
--- a tile of the plane at row y and column x, and one row of a tile
-unfoldable pub planeTile : (side : ℕ) → ℤ → ℤ → List ℕ → (width height rowParity columnParity : ℕ) → List (List ℕ)
-planeTile side y x samples width height rowParity columnParity = tileOf side height width (planeImage samples width height rowParity columnParity) y x
+-- a pair of the frame at row y and column x, and one row of a pair
+unfoldable pub planePair : ℤ → ℤ → List ℕ → (width height rowParity : ℕ) → List (List ℕ)
+planePair y x samples width height rowParity = pairOf height width (frameImage samples width height) rowParity y x
 
-unfoldable pub planeRow : (side : ℕ) → ℤ → ℤ → List ℕ → (width height rowParity columnParity : ℕ) → List ℕ
-planeRow side y x samples width height rowParity columnParity = tab side (λ j. planeSample y (x +ℤ pos j) samples width height rowParity columnParity)
+unfoldable pub pairRow : ℤ → ℤ → List ℕ → (width height rowParity : ℕ) → List ℕ
+pairRow y x samples width height rowParity = tab 32 (λ l. planeSample y (x +ℤ pos (l / 2)) samples width height rowParity (l % 2))
 
 -- a plane of `height` rows of `width` samples
 pub record Planar (width height rowParity columnParity : ℕ) : Type 0 where
@@ -56,6 +61,13 @@ pub record Shaped (count width height rowParity columnParity : ℕ) : Type 0 whe
 -- a row or column near enough for sums with a tile's indices
 pub record Near (z : ℤ) : Type 0 where
   pub near : natAbs z ≤ 2 ^ 20
+
+-- where a pair is read: in a frame, by the first of the two planes, from an origin that is near enough
+pub record PairPlace (count width height rowParity columnParity : ℕ) (y x : ℤ) : Type 0 where
+  pub shaped : Shaped count width height rowParity columnParity
+  pub first : columnParity ≡ 0
+  pub near-y : Near y
+  pub near-x : Near x
 
 -- the rows of a frame, which is small
 pub record FrameRows (rowLength height rowParity columnParity : ℕ) : Type 0 where

@@ -9,14 +9,14 @@ use Rattle.geometry.specs.Shape.{frameStride, sampleLength}
 use Rattle.geometry.specs.Fits.{Allowed}
 use Rattle.geometry.specs.Read.{Image, sampleIndex, sampleAt, planeOf, read}
 use Rattle.geometry.specs.ReadLaws.{cell-below, frame-room, inside-below}
-use Rattle.plane_view.specs.View.{rowLengthOf, frameOf, framePart, planeImage, tileOf, planeTile, Planar, Shaped}
+use Rattle.plane_view.specs.View.{rowLengthOf, frameImage, framePart, pairOf, planePair, Planar, Shaped}
 
--- a tile depends on what the image has inside alone
-pub tile-ext : (side height width : ℕ) (f g : Image) → 0 < height → 0 < width → ((row column : ℕ) → row < height → column < width → f row column ≡ g row column) →
-    (y x : ℤ) → tileOf side height width f y x ≡ tileOf side height width g y x
-unfolding tileOf read
-tile-ext side height width f g h w e y x =
-    grid-ext side side _ _ (λ i j _ _. e _ _ (inside-below height (y +ℤ pos i) h) (inside-below width (x +ℤ pos j) w))
+-- a pair depends on what the frame has inside alone
+pair-ext : (height width : ℕ) (f g : Image) → 0 < height → 0 < width → (rowParity : ℕ) → rowParity < 2 →
+    ((row column : ℕ) → row < 2 * height → column < 2 * width → f row column ≡ g row column) → (y x : ℤ) → pairOf height width f rowParity y x ≡ pairOf height width g rowParity y x
+unfolding pairOf read planeOf
+pair-ext height width f g h w rowParity p e y x =
+    grid-ext 16 32 _ _ (λ i l _ _. e _ _ (omega (arith, inside-below height (y +ℤ pos i) h)) (omega (arith, inside-below width (x +ℤ pos (l / 2)) w)))
 
 module _ (s : Shape) (samples : List ℕ) (frame : ℕ) (ok : Allowed s) (long : length samples ≡ sampleLength s) (below : frame < s .count) where
   module _ {width height rowParity columnParity : ℕ} (p : Planar width height rowParity columnParity) (wide : s .width ≡ 2 * width) (high : s .height ≡ 2 * height) where
@@ -38,15 +38,12 @@ module _ (s : Shape) (samples : List ℕ) (frame : ℕ) (ok : Allowed s) (long :
         }
 
     part-sample : (row column : ℕ) → row < 2 * height → column < 2 * width →
-        sampleAt (frameOf width height (rowLengthOf (length (framePart s samples frame)) height)) (framePart s samples frame) 0 row column ≡ sampleAt s samples frame row column
+        frameImage (framePart s samples frame) width height row column ≡ sampleAt s samples frame row column
     unfolding framePart sampleAt sampleIndex
     part-sample row column h k =
         let below : (0 * (2 * height) + row) * s .«row_length» + column < frameStride s = omega (arith, cell-below row column (s .height) (s .«row_length») (omega arith) (omega (arith, ok .row-least)), mul-comm (s .«row_length») (s .height)) in
         rw (part-row, getD-take, getD-drop) (ap (λ n. getD samples n 0) (rw high (omega arith)))
 
-    pub part-tile : (side : ℕ) (y x : ℤ) →
-        planeTile side y x (framePart s samples frame) width height rowParity columnParity ≡ tileOf side height width (planeOf (sampleAt s samples frame) rowParity columnParity) y x
-    unfolding planeTile planeImage planeOf
-    part-tile side y x =
-        tile-ext side height width _ _ (p .high) (p .wide)
-        (λ row column h k. part-sample (2 * row + rowParity) (2 * column + columnParity) (omega (arith, p .row)) (omega (arith, p .column))) y x
+    pub part-pair : (y x : ℤ) → planePair y x (framePart s samples frame) width height rowParity ≡ pairOf height width (sampleAt s samples frame) rowParity y x
+    unfolding planePair
+    part-pair y x = pair-ext height width _ _ (p .high) (p .wide) rowParity (p .row) part-sample y x

@@ -1,12 +1,12 @@
 // A view of one plane of one frame: it reads the caller's samples without copying them.
 ghost use mathlib.Core.Path.{_≡_};
-ghost use Prim.Native.Nat.{_+_, _*_, _/_, _≤_, _<_};
+ghost use Prim.Native.Nat.{_+_, _*_, _/_, _%_, _≤_, _<_};
 ghost use lib.IntN.{pos, _+ℤ_};
 ghost use lib.ListN.{length, getD};
 ghost use Rattle.sequences.specs.Tab.{tab};
-ghost use Rattle.geometry.specs.Read.{sampleAt, planeOf, inside};
+ghost use Rattle.geometry.specs.Read.{sampleAt, inside};
 ghost use Rattle.geometry.specs.Fits.{Sampled};
-ghost use Rattle.plane_view.specs.View.{rowLengthOf, tileOf, planeSample, planeRow, planeTile, Shaped, Near, FrameRows, RowStart};
+ghost use Rattle.plane_view.specs.View.{rowLengthOf, pairOf, planeSample, pairRow, planePair, Shaped, Near, PairPlace, FrameRows, RowStart};
 use geometry::Shape;
 use geometry::read::inside;
 
@@ -60,32 +60,34 @@ fn along(z: i64, k: usize) -> i64
     z + k as i64
 }
 
-// A row of a tile that lies inside the plane, by the place of its first sample: no sample needs a test against the edges.
-fn inner_row(samples: &[u16], first: usize) -> [u16; 16]
-    requires { ⌜ first + 30 < length (now samples) ⌝ }
-    ensures { λ r. ⌜ r ≡ tab 16 (λ j. getD (now (samples .entry)) (first + 2 * j) 0) ⌝ }
+// A row of a pair that lies inside its planes, by the place of its first sample: no sample needs a test against the edges.
+fn inner_pair(samples: &[u16], first: usize) -> [u16; 32]
+    requires { ⌜ first + 31 < length (now samples) ⌝ }
+    ensures { λ r. ⌜ r ≡ tab 32 (λ l. getD (now (samples .entry)) (first + l) 0) ⌝ }
 {
-    let mut row = [0u16; 16];
-    for j in 0..16 {
-        row[j] = samples[first + 2 * j];
+    let mut row = [0u16; 32];
+    for l in 0..32 {
+        row[l] = samples[first + l];
     }
     row
 }
 
-// A row of a tile that may reach over an edge, by where the row starts; its first column is x.
-fn edge_row(start: usize, x: i64, samples: &[u16], width: usize) -> [u16; 16]
-    requires { ⌜ (0 < width) × (width ≤ 2048) × (start + 2 * width ≤ length (now samples) + 1) × (Near x) ⌝ }
-    ensures { λ r. ⌜ r ≡ tab 16 (λ j. getD (now (samples .entry)) (start + 2 * inside width (x +ℤ pos j)) 0) ⌝ }
+// A row of a pair that may reach over an edge, by where the row starts; its first column is x.
+fn edge_pair(start: usize, x: i64, samples: &[u16], width: usize) -> [u16; 32]
+    requires { ⌜ record { wide : 0 < width; most : width ≤ 2048; room : start + 2 * width ≤ length (now samples); near : Near x } ⌝ }
+    ensures { λ r. ⌜ r ≡ tab 32 (λ l. getD (now (samples .entry)) (start + 2 * inside width (x +ℤ pos (l / 2)) + l % 2) 0) ⌝ }
 {
-    let mut row = [0u16; 16];
+    let mut row = [0u16; 32];
     for j in 0..16 {
-        row[j] = samples[start + 2 * inside(along(x, j), width)];
+        let at = start + 2 * inside(along(x, j), width);
+        row[2 * j] = samples[at];
+        row[2 * j + 1] = samples[at + 1];
     }
     row
 }
 
-// Row y of a tile whose first column is x, in a frame of rows of `row_length`.
-fn tile_row(
+// Row y of a pair whose first column is x, in a frame of rows of `row_length`.
+fn pair_row(
     y: i64,
     x: i64,
     samples: &[u16],
@@ -94,22 +96,22 @@ fn tile_row(
     height: usize,
     row_parity: usize,
     column_parity: usize,
-) -> [u16; 16]
-    requires { ⌜ (Shaped (length (now samples)) width height «row_parity» «column_parity») × (Near x) × («row_length» ≡ rowLengthOf (length (now samples)) height) ⌝ }
-    ensures { λ r. ⌜ r ≡ planeRow 16 y x (now (samples .entry)) width height «row_parity» «column_parity» ⌝ }
+) -> [u16; 32]
+    requires { ⌜ record { shaped : Shaped (length (now samples)) width height «row_parity» «column_parity»; first : «column_parity» ≡ 0; near : Near x; row : «row_length» ≡ rowLengthOf (length (now samples)) height } ⌝ }
+    ensures { λ r. ⌜ r ≡ pairRow y x (now (samples .entry)) width height «row_parity» ⌝ }
 {
     let start = row_start(y, row_length, height, row_parity, column_parity);
     if 0 <= x {
         let first = x as usize;
         if first + 16 <= width {
-            return inner_row(samples, start + 2 * first);
+            return inner_pair(samples, start + 2 * first);
         }
     }
-    edge_row(start, x, samples, width)
+    edge_pair(start, x, samples, width)
 }
 
-// The tile whose first row is y and whose first column is x.
-pub fn tile_at(
+// The pair whose first row is y and whose first column is x: the tile of the plane of column parity 0, and that of the plane beside it.
+pub fn pair_at(
     y: i64,
     x: i64,
     samples: &[u16],
@@ -117,14 +119,14 @@ pub fn tile_at(
     height: usize,
     row_parity: usize,
     column_parity: usize,
-) -> [[u16; 16]; 16]
-    requires { ⌜ (Shaped (length (now samples)) width height «row_parity» «column_parity») × (Near y) × (Near x) ⌝ }
-    ensures { λ r. ⌜ r ≡ planeTile 16 y x (now (samples .entry)) width height «row_parity» «column_parity» ⌝ }
+) -> [[u16; 32]; 16]
+    requires { ⌜ PairPlace (length (now samples)) width height «row_parity» «column_parity» y x ⌝ }
+    ensures { λ r. ⌜ r ≡ planePair y x (now (samples .entry)) width height «row_parity» ⌝ }
 {
     let row_length = samples.len() / (2 * height);
-    let mut tile = [[0u16; 16]; 16];
+    let mut tile = [[0u16; 32]; 16];
     for i in 0..16 {
-        tile[i] = tile_row(
+        tile[i] = pair_row(
             along(y, i),
             x,
             samples,
@@ -154,12 +156,13 @@ pub fn sample<'a>(view: PlaneView<'a>, y: i64, x: i64) -> u16
     )
 }
 
-// The view's tile whose first row is y and whose first column is x.
-pub fn tile<'a>(view: PlaneView<'a>, y: i64, x: i64) -> [[u16; 16]; 16]
-    requires { ⌜ (Shaped (length (now (view .samples))) (view .width) (view .height) (view .«row_parity») (view .«column_parity»)) × (Near y) × (Near x) ⌝ }
-    ensures { λ r. ⌜ r ≡ planeTile 16 y x (now (view .entry .samples)) (view .entry .width) (view .entry .height) (view .entry .«row_parity») (view .entry .«column_parity») ⌝ }
+// The pair of tiles of the view's plane, which is of column parity 0, and of the plane beside it, whose samples stand one word further:
+// the samples are in the order of the frame's rows. The first row is y and the first column x.
+pub fn pair<'a>(view: PlaneView<'a>, y: i64, x: i64) -> [[u16; 32]; 16]
+    requires { ⌜ PairPlace (length (now (view .samples))) (view .width) (view .height) (view .«row_parity») (view .«column_parity») y x ⌝ }
+    ensures { λ r. ⌜ r ≡ planePair y x (now (view .entry .samples)) (view .entry .width) (view .entry .height) (view .entry .«row_parity») ⌝ }
 {
-    tile_at(
+    pair_at(
         y,
         x,
         view.samples,
@@ -171,7 +174,7 @@ pub fn tile<'a>(view: PlaneView<'a>, y: i64, x: i64) -> [[u16; 16]; 16]
 }
 
 // The same of plain parameters: the view is made of them and read, so that a caller holds no view.
-pub fn tile_of(
+pub fn pair_of(
     y: i64,
     x: i64,
     samples: &[u16],
@@ -179,11 +182,11 @@ pub fn tile_of(
     height: usize,
     row_parity: usize,
     column_parity: usize,
-) -> [[u16; 16]; 16]
-    requires { ⌜ (Shaped (length (now samples)) width height «row_parity» «column_parity») × (Near y) × (Near x) ⌝ }
-    ensures { λ r. ⌜ r ≡ planeTile 16 y x (now (samples .entry)) width height «row_parity» «column_parity» ⌝ }
+) -> [[u16; 32]; 16]
+    requires { ⌜ PairPlace (length (now samples)) width height «row_parity» «column_parity» y x ⌝ }
+    ensures { λ r. ⌜ r ≡ planePair y x (now (samples .entry)) width height «row_parity» ⌝ }
 {
-    tile(
+    pair(
         PlaneView {
             samples,
             width,
@@ -196,29 +199,28 @@ pub fn tile_of(
     )
 }
 
-// The tile of a plane of one frame of a burst: the view is made of that frame's part of the words.
-pub fn frame_tile(
+// The pair of tiles of one row parity of one frame of a burst: the view is made of that frame's part of the words.
+pub fn frame_pair(
     shape: Shape,
     samples: &[u16],
     frame: usize,
     row_parity: usize,
-    column_parity: usize,
     y: i64,
     x: i64,
-) -> [[u16; 16]; 16]
-    requires { ⌜ (Sampled shape (now samples)) × (frame < shape .count) × («row_parity» < 2) × («column_parity» < 2) × (Near y) × (Near x) ⌝ }
-    ensures { λ r. ⌜ r ≡ tileOf 16 (shape .height / 2) (shape .width / 2) (planeOf (sampleAt shape (now (samples .entry)) frame) «row_parity» «column_parity») y x ⌝ }
+) -> [[u16; 32]; 16]
+    requires { ⌜ record { sampled : Sampled shape (now samples); frame-below : frame < shape .count; parity : «row_parity» < 2; near-y : Near y; near-x : Near x } ⌝ }
+    ensures { λ r. ⌜ r ≡ pairOf (shape .height / 2) (shape .width / 2) (sampleAt shape (now (samples .entry)) frame) «row_parity» y x ⌝ }
 {
     let words = shape.row_length * shape.height;
     let start = frame * words;
     let end = start + words;
-    tile_of(
+    pair_of(
         y,
         x,
         &samples[start..end],
         shape.width / 2,
         shape.height / 2,
         row_parity,
-        column_parity,
+        0,
     )
 }

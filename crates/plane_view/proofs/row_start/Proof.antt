@@ -15,4 +15,5 @@ returns c = let p = c .before .pre in record { is = rw (c .inside .ensures .0, t
 
 pub row-start-spec : {M : Type 1} → statement M
 row-start-spec = tie.close (tie.spec
-    (λ c κs. search needs) (λ c. search needs) (λ c. search needs) mul-result-2 add-result-2 returns)
+    (λ c κs. search needs) (λ c. search needs) (λ c. search needs) mul-result-2 add-result-2
+    returns)

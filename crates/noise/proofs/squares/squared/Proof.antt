@@ -1,14 +1,17 @@
--- A square of at most 65535².
+-- A square of at most 4095².
 use native.Mathlib.Nat.{mul-le-mul}
-use Rattle.algebra.specs.Prelude.{arith, needs}
+use Rattle.algebra.specs.Prelude.{_≤_, arith, needs}
 use Rattle.noise.proofs.squares.squared.Statement.{statement}
 use Rattle.noise.proofs.squares.squared.Tie as tie
 
+most : (c : tie.After-intensity) → c .intensity .result ≤ 4095
+most c = omega (arith, c .intensity .ensures, c .before .pre)
+
 mul-result : tie.Need-mul-result
-mul-result c = let h = c .intensity .ensures .1 in omega (arith, mul-le-mul h h)
+mul-result c = omega (arith, mul-le-mul (most c) (most c))
 
 returns : tie.Need-returns
-returns c = let h = c .intensity .ensures .1 in (rw (c .intensity .ensures .0), omega (arith, mul-le-mul h h))
+returns c = (rw (c .intensity .ensures), omega (arith, mul-le-mul (most c) (most c)))
 
 pub squared-spec : {M : Type 1} → statement M
 squared-spec = tie.close (tie.spec (λ c κs. search needs) (λ c. search needs) mul-result returns)
