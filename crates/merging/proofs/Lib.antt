@@ -3,7 +3,6 @@ pub mod Quotients
 pub mod Weights
 pub mod Gathering
 pub mod Holding
-pub mod Striding
 pub mod Blocks
 pub mod Advance
 pub mod Bands

@@ -1,4 +1,4 @@
--- Each row of the frame lies in it, and two rows of tiles in the work area.
+-- Each row of the frame lies in it, and two rows of pairs of tiles in the work area.
 use Rattle.algebra.specs.Prelude.{ℕ, _+_, _*_, _≤_, _<_, arith}
 use native.Mathlib.Nat.{mul-le-mul-left, mul-comm}
 use Rattle.sequences.specs.Place.{row-room}

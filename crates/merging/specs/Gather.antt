@@ -6,11 +6,12 @@ use Rattle.algebra.specs.Nearest.{upward}
 use Rattle.sequences.specs.Tab.{tab}
 use Rattle.recipe.specs.Side.{Side}
 use Rattle.recipe.specs.Tables.{window16, side16}
-use Rattle.recipe.specs.Output.{rowIn, columnIn, weightIn}
+use Rattle.recipe.specs.Output.{rowIn, weightIn}
+use Rattle.merging.specs.declared.output.Span.{Span}
 
--- the weights of row i of a tile
+-- the weights of row i of a pair of tiles: place l is column l/2 of one of the two
 unfoldable pub weightRow : (i : ℕ) → List ℤ
-weightRow i = tab 16 (λ j. pos (window16 i * window16 j))
+weightRow i = tab 32 (λ l. pos (window16 i * window16 (l / 2)))
 
 -- what the four tiles over a sample have at it, windowed and added; the sample is row i and column j of the last tile
 unfoldable pub windowed : Side → (i j : ℕ) → (ℕ → ℤ) → ℤ
@@ -22,12 +23,12 @@ corrected n t0 sum others =
     let whole = 256 * (n .weight * suc others) in
     clampZ (pos 0) (pos 4095) (upward (pos t0 *ℤ pos whole -ℤ sum) whole)
 
--- where the words of the upper and the lower row of tiles start
-abbrev pub startOf : (above below : ℕ) → ℕ → ℕ
-startOf above below zero = below
-startOf above below (suc u) = above
+-- where the words of the lower and the upper row of pairs start
+abbrev pub startOf : Span → ℕ → ℕ
+startOf p zero = p .below
+startOf p (suc u) = p .above
 
--- what tile t over the sample at column x, and row i of the last tile, has in the work area
-unfoldable pub wordOver : List ℤ → (above below i x t : ℕ) → ℤ
-wordOver work above below i x t =
-    getD work (startOf above below (t / 2) + (256 * (x / 8 + 1 - t % 2) + (16 * rowIn side16 i t + columnIn side16 (x % 8) t))) (pos 0)
+-- what tile t over the word c places further on has at it, in the work area
+unfoldable pub wordOver : List ℤ → Span → (c t : ℕ) → ℤ
+wordOver work p c t =
+    getD work (startOf p (t / 2) + (512 * (c / 16 + 1 - t % 2) + (32 * rowIn side16 (p .i) t + (c % 16 + 16 * (t % 2))))) (pos 0)

@@ -1,4 +1,3 @@
 pub mod Gather
-pub mod Strided
 pub mod Work
 pub mod Progress

@@ -1,15 +1,24 @@
--- Inside this crate: the two rows of correction tiles that the work area holds, and a word of the output worked out from them.
-use Rattle.algebra.specs.Prelude.{_≡_, List, ℕ, _+_, _-_, _*_, _/_, _%_, _≤_, _<_, length, getD, ℤ, pos, natAbs}
+-- Inside this crate: the two rows of pairs of correction tiles that the work area holds, and a word of the output worked out from them.
+use Rattle.algebra.specs.Prelude.{_≡_, List, ℕ, _+_, _-_, _*_, _/_, _%_, _^_, _≤_, _<_, length, getD, ℤ, pos, natAbs}
 use Rattle.geometry.specs.declared.Shape.{Shape}
-use Rattle.geometry.specs.Read.{sampleAt, planeOf}
-use Rattle.geometry.specs.Fits.{Sampled}
+use Rattle.geometry.specs.Shape.{rowStride, frameStride, sampleLength, outputLength}
+use Rattle.geometry.specs.Fits.{Allowed}
 use Rattle.recipe.specs.Tables.{side16}
-use Rattle.tiles.specs.declared.Plane.{Plane}
-use Rattle.tiles.specs.Accepted.{Planar}
 use Rattle.tiles.specs.Sum.{summedMost}
 use Rattle.tiles.specs.Rows.{rowWords, slotOf, rowWord}
 use Rattle.recipe.specs.Scene.{Scene}
+use Rattle.merging.specs.declared.output.Span.{Span}
 use Rattle.merging.specs.Gather.{weightRow, windowed, corrected, wordOver}
+
+-- the largest product of two windows, the largest word of the work area weighed by one, and four of those
+abbrev pub weightMost : ℕ
+weightMost = 2 ^ 24
+
+abbrev pub partMost : ℕ
+partMost = weightMost * summedMost
+
+abbrev pub sumMost : ℕ
+sumMost = 4 * partMost
 
 -- N = `count` is 1 to 8, and `inverse` is 2^19/N, rounding up
 pub record Divided (count inverse : ℕ) : Type 0 where
@@ -22,34 +31,62 @@ pub record Words (work : List ℤ) (at n : ℕ) : Type 0 where
   pub room : at + n ≤ length work
   pub most : (k : ℕ) → k < n → natAbs (getD work (at + k) (pos 0)) ≤ summedMost
 
--- two tiles from `above` on, two from `below` on, and the weights of row i of the lower ones and of row i + 8 of the upper ones
-pub record Weighed (work : List ℤ) (above below : ℕ) (lower upper : List ℤ) (i : ℕ) : Type 0 where
-  pub upper-words : Words work above 512
-  pub lower-words : Words work below 512
-  pub lower-weights : lower ≡ weightRow i
-  pub upper-weights : upper ≡ weightRow (i + 8)
-  pub row : i < 8
+-- the pairs of tiles over a block, two of the upper row and two of the lower, and the weights of its row in them
+pub record Weighed (work : List ℤ) (p : Span) (lower upper : List ℤ) : Type 0 where
+  pub upper-words : Words work (p .above) 1024
+  pub lower-words : Words work (p .below) 1024
+  pub lower-weights : lower ≡ weightRow (p .i)
+  pub upper-weights : upper ≡ weightRow (p .i + 8)
+  pub row : p .i < 8
 
--- the work area holds a row of tiles
-pub record Held (s : Scene) (p : Plane) (row : ℕ) (work : List ℤ) : Type 0 where
+-- the work area holds a row of pairs
+pub record Held (s : Scene) (rowParity row : ℕ) (work : List ℤ) : Type 0 where
   pub words : Words work (slotOf (s .width) row) (rowWords (s .width))
-  pub is : (k : ℕ) → k < rowWords (s .width) → getD work (slotOf (s .width) row + k) (pos 0) ≡ rowWord s p row k
+  pub is : (k : ℕ) → k < rowWords (s .width) → getD work (slotOf (s .width) row + k) (pos 0) ≡ rowWord s rowParity row k
 
--- the output's word at column x of a row: it is row i of the tiles from `below` on and row i + 8 of those from `above` on, and its samples are every second
--- word from `from` on
-unfoldable pub wordFrom : (samples : List ℕ) (from : ℕ) (work : List ℤ) (above below i count x : ℕ) → ℕ
-wordFrom samples from work above below i count x = natAbs (corrected side16 (getD samples (from + 2 * x) 0) (windowed side16 i (x % 8) (wordOver work above below i x)) (count - 1))
-
--- the output's word at row y and column x of a plane, from the rows of tiles in the work area
-unfoldable pub outputWord : Shape → (reference : ℕ) (samples : List ℕ) (work : List ℤ) → Plane → (y x : ℕ) → ℕ
-outputWord s reference samples work p y x =
-    natAbs (corrected side16 (planeOf (sampleAt s samples reference) (p .«row_parity») (p .«column_parity») y x) (windowed side16 (y % 8) (x % 8) (wordOver work (slotOf (s .width) (y / 8)) (slotOf (s .width) (y / 8 + 1)) (y % 8) x)) (s .count - 1))
-
--- what it is worked out from
-pub record Ready (s : Shape) (reference : ℕ) (samples : List ℕ) (work : List ℤ) (p : Plane) (y : ℕ) : Type 0 where
-  pub sampled : Sampled s samples
+-- row y of a row parity lies in the reference's frame
+pub record Inside (s : Shape) (reference rowParity y : ℕ) : Type 0 where
+  pub allowed : Allowed s
   pub reference-below : reference < s .count
-  pub planar : Planar p
+  pub parity : rowParity < 2
   pub row : y < s .height / 2
-  pub above : Words work (slotOf (s .width) (y / 8)) (rowWords (s .width))
-  pub below : Words work (slotOf (s .width) (y / 8 + 1)) (rowWords (s .width))
+
+-- that row from its first word on, and from its block number `column` on
+unfoldable pub rowSpan : Shape → (reference rowParity y : ℕ) → Span
+rowSpan s reference rowParity y =
+    record {
+      from = reference * frameStride s + (2 * y + rowParity) * rowStride s;
+      start = (2 * y + rowParity) * s .width;
+      above = slotOf (s .width) (y / 8);
+      below = slotOf (s .width) (y / 8 + 1);
+      i = y % 8;
+    }
+
+abbrev pub further : Span → (column : ℕ) → Span
+further p column =
+    record { from = p .from + 16 * column; start = p .start + 16 * column; above = p .above + 512 * column; below = p .below + 512 * column; i = p .i }
+
+-- nothing starts later in the samples, the output or the work area
+abbrev pub startMost : ℕ
+startMost = 2 ^ 28
+
+pub record Small (p : Span) : Type 0 where
+  pub from : p .from ≤ startMost
+  pub start : p .start ≤ startMost
+  pub above : p .above ≤ startMost
+  pub below : p .below ≤ startMost
+
+-- a whole row from there on lies in the samples and in the output
+pub record Roomy (s : Shape) (p : Span) : Type 0 where
+  pub small : Small p
+  pub samples : p .from + s .width ≤ sampleLength s
+  pub output : p .start + s .width ≤ outputLength s
+
+-- the words of the two rows of pairs over row y are small enough to be weighed and added
+pub record Over (work : List ℤ) (width y : ℕ) : Type 0 where
+  pub above : Words work (slotOf width (y / 8)) (rowWords width)
+  pub below : Words work (slotOf width (y / 8 + 1)) (rowWords width)
+
+-- the output's word c places further on, of N = `count` frames
+unfoldable pub wordFrom : (samples : List ℕ) (work : List ℤ) → Span → (count c : ℕ) → ℕ
+wordFrom samples work p count c = natAbs (corrected side16 (getD samples (p .from + c) 0) (windowed side16 (p .i) (c / 2 % 8) (wordOver work p c)) (count - 1))

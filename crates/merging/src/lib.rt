@@ -1,4 +1,4 @@
-// The merge of a burst: the output, gathered from the corrections of each plane's tiles.
+// The merge of a burst: the output, gathered from the corrections of pairs of tiles.
 mod output;
 mod planes;
 
@@ -9,7 +9,6 @@ ghost use Rattle.recipe.specs.Scene.{sceneOf};
 ghost use Rattle.recipe.specs.Merged.{merged};
 ghost use Rattle.tiles.specs.Accepted.{Accepted};
 use recipe::Merge;
-use tiles::Plane;
 
 // The merge, of input that has passed the tests; it neither tests nor clears. The work area's words are left as they come.
 pub fn merge_frames(
@@ -22,24 +21,6 @@ pub fn merge_frames(
     requires { ⌜ (Accepted m (now samples) (now vectors)) × (length (now output) ≡ outputLength (m .shape)) × (length (now work) ≡ workLength (m .shape)) ⌝ }
     ensures { λ _. ⌜ now (output .exit) ≡ merged (sceneOf m (now (samples .entry)) (now (vectors .entry))) ⌝ }
 {
-    let even = Plane {
-        row_parity: 0,
-        column_parity: 0,
-    };
-    let right = Plane {
-        row_parity: 0,
-        column_parity: 1,
-    };
-    let down = Plane {
-        row_parity: 1,
-        column_parity: 0,
-    };
-    let odd = Plane {
-        row_parity: 1,
-        column_parity: 1,
-    };
-    planes::merge_plane(m, samples, vectors, even, &mut *output, &mut *work);
-    planes::merge_plane(m, samples, vectors, right, &mut *output, &mut *work);
-    planes::merge_plane(m, samples, vectors, down, &mut *output, &mut *work);
-    planes::merge_plane(m, samples, vectors, odd, &mut *output, &mut *work);
+    planes::merge_parity(m, samples, vectors, 0, &mut *output, &mut *work);
+    planes::merge_parity(m, samples, vectors, 1, &mut *output, &mut *work);
 }

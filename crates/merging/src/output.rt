@@ -6,14 +6,29 @@ ghost use lib.Signed.{shrZ};
 ghost use lib.ListN.{length, getD};
 ghost use Rattle.algebra.specs.Bound.{AtMost};
 ghost use Rattle.algebra.specs.Clamp.{clampZ};
-ghost use Rattle.geometry.specs.Shape.{outputLength};
+ghost use Rattle.geometry.specs.Shape.{sampleLength, outputLength};
+ghost use Rattle.sequences.specs.Written.{written};
 ghost use Rattle.recipe.specs.Tables.{windows, window16, side16};
 ghost use Rattle.merging.specs.Gather.{weightRow, corrected, windowed, wordOver};
-ghost use Rattle.merging.specs.Strided.{strided};
-ghost use Rattle.merging.specs.Work.{Divided, Words, Weighed, wordFrom, outputWord, Ready};
+ghost use Rattle.merging.specs.Work.{weightMost, partMost, sumMost, Divided, Words, Weighed, rowSpan, further, Small, Inside, Roomy, Over, wordFrom};
 use geometry::Shape;
-use tiles::Plane;
 use tiles::rows::slot;
+
+// Where a part of an output row stands, and what it is made of: its samples are those from `from` on, its words those of the output from `start` on. It is row
+// `i` of the pairs of tiles that the work area has from `below` on, and row `i` + 8 of those from `above` on.
+struct Span {
+    from: usize,
+    start: usize,
+    above: usize,
+    below: usize,
+    i: usize,
+}
+
+// The number of frames N, and 2^19/N, rounding up.
+struct Divisor {
+    count: usize,
+    inverse: u64,
+}
 
 // w(0..15)
 const WINDOW: [u64; 16] = [
@@ -37,7 +52,7 @@ const WINDOW: [u64; 16] = [
 
 // N·(T0 + 1/2) − sum/2^32 with N = `count`, rounding down. A division by N that rounds down makes it T0 − sum/(2^32·N), to nearest, halves upward.
 fn scaled(t0: u16, sum: i64, count: usize) -> i64
-    requires { ⌜ (count ≤ 8) × (AtMost (2 ^ 59) sum) ⌝ }
+    requires { ⌜ (count ≤ 8) × (AtMost sumMost sum) ⌝ }
     ensures { λ r. ⌜ r ≡ pos t0 *ℤ pos count +ℤ shrZ (pos count *ℤ pos (2 ^ 31) -ℤ sum) (2 ^ 32) ⌝ }
 {
     t0 as i64 * count as i64 + ((count as i64 * 2147483648 - sum) >> 32)
@@ -59,7 +74,7 @@ fn held(z: i64, count: usize, inverse: u64) -> u16
 
 // A sample of the reference less the windowed sum of its corrections, of `count` frames.
 fn corrected(t0: u16, sum: i64, count: usize, inverse: u64) -> u16
-    requires { ⌜ (Divided count inverse) × (AtMost (2 ^ 59) sum) ⌝ }
+    requires { ⌜ (Divided count inverse) × (AtMost sumMost sum) ⌝ }
     ensures { λ r. ⌜ r ≡ natAbs (corrected side16 t0 sum (count - 1)) ⌝ }
 {
     held(scaled(t0, sum, count), count, inverse)
@@ -68,113 +83,126 @@ fn corrected(t0: u16, sum: i64, count: usize, inverse: u64) -> u16
 // The product of two windows.
 fn weight(window: &[u64; 16], i: usize, j: usize) -> i64
     requires { ⌜ record { table : now window ≡ windows; row : i < 16; column : j < 16 } ⌝ }
-    ensures { λ r. ⌜ (r ≡ pos (window16 i * window16 j)) × (AtMost (2 ^ 24) r) ⌝ }
+    ensures { λ r. ⌜ (r ≡ pos (window16 i * window16 j)) × (AtMost weightMost r) ⌝ }
 {
     (window[i] * window[j]) as i64
 }
 
-// w(i)·w(0..15)
-fn weights(window: &[u64; 16], i: usize) -> [i64; 16]
+// w(i)·w(0..15), each twice: for the two planes.
+fn weights(window: &[u64; 16], i: usize) -> [i64; 32]
     requires { ⌜ (now window ≡ windows) × (i < 16) ⌝ }
     ensures { λ r. ⌜ r ≡ weightRow i ⌝ }
 {
-    let mut row = [0i64; 16];
+    let mut row = [0i64; 32];
     for j in 0..16 {
-        row[j] = weight(window, i, j);
+        let w = weight(window, i, j);
+        row[2 * j] = w;
+        row[2 * j + 1] = w;
     }
     row
 }
 
-// What a tile has at its row i and column j, weighed. Its words start at `start`.
-fn part(work: &[i64], weights: &[i64; 16], start: usize, i: usize, j: usize) -> i64
-    requires { ⌜ record { words : Words (now work) start 256; weights-are : now weights ≡ weightRow i; row : i < 16; column : j < 16 } ⌝ }
-    ensures { λ r. ⌜ (r ≡ pos (window16 i * window16 j) *ℤ getD (now (work .entry)) (start + (16 * i + j)) (pos 0)) × (AtMost (2 ^ 57) r) ⌝ }
+// What a pair of tiles has at its row i and place l = 2·x + p, which is column x of plane p, weighed. Its words start at `start`.
+fn part(work: &[i64], weights: &[i64; 32], start: usize, i: usize, l: usize) -> i64
+    requires { ⌜ record { words : Words (now work) start 512; weights-are : now weights ≡ weightRow i; row : i < 16; place : l < 32 } ⌝ }
+    ensures { λ r. ⌜ (r ≡ pos (window16 i * window16 (l / 2)) *ℤ getD (now (work .entry)) (start + (32 * i + l)) (pos 0)) × (AtMost partMost r) ⌝ }
 {
-    weights[j] * work[start + (16 * i + j)]
+    weights[l] * work[start + (32 * i + l)]
 }
 
-// What the four tiles over a sample have at it, windowed and added: row i and column j of the last of them. The left two start at `above` and `below`.
-fn windowed(
-    work: &[i64],
-    lower: &[i64; 16],
-    upper: &[i64; 16],
-    above: usize,
-    below: usize,
-    i: usize,
-    j: usize,
-) -> i64
-    requires { ⌜ (Weighed (now work) above below (now lower) (now upper) i) × (j < 8) ⌝ }
-    ensures { λ r. ⌜ (r ≡ windowed side16 i j (wordOver (now (work .entry)) above below i j)) × (AtMost (2 ^ 59) r) ⌝ }
+// What the four tiles over a sample have at it, windowed and added: row i and place l of the last pair.
+fn windowed(work: &[i64], lower: &[i64; 32], upper: &[i64; 32], span: Span, l: usize) -> i64
+    requires { ⌜ (Weighed (now work) span (now lower) (now upper)) × (l < 16) ⌝ }
+    ensures { λ r. ⌜ (r ≡ windowed side16 (span .i) (l / 2) (wordOver (now (work .entry)) span l)) × (AtMost sumMost r) ⌝ }
 {
-    part(work, lower, below + 256, i, j)
-        + part(work, lower, below, i, j + 8)
-        + part(work, upper, above + 256, i + 8, j)
-        + part(work, upper, above, i + 8, j + 8)
+    let above = span.above;
+    let below = span.below;
+    let i = span.i;
+    part(work, lower, below + 512, i, l)
+        + part(work, lower, below, i, l + 16)
+        + part(work, upper, above + 512, i + 8, l)
+        + part(work, upper, above, i + 8, l + 16)
 }
 
-// The eight samples of a row over the same four tiles. The samples and the output of the plane are every second word from `from` and `start` on.
+// The sixteen words of a row over the same four pairs.
 fn output_block(
     samples: &[u16],
-    from: usize,
     work: &[i64],
-    lower: &[i64; 16],
-    upper: &[i64; 16],
-    above: usize,
-    below: usize,
-    i: usize,
-    count: usize,
-    inverse: u64,
+    lower: &[i64; 32],
+    upper: &[i64; 32],
+    span: Span,
+    by: Divisor,
     output: &mut [u16],
-    start: usize,
 )
-    requires { ⌜ record { weighed : Weighed (now work) above below (now lower) (now upper) i; divided : Divided count inverse; samples-room : from + 14 < length (now samples); output-room : start + 14 < length (now output) } ⌝ }
-    ensures { λ _. ⌜ now (output .exit) ≡ strided (now (output .entry)) start (wordFrom (now (samples .entry)) from (now (work .entry)) above below i count) 8 ⌝ }
+    requires { ⌜ record { weighed : Weighed (now work) span (now lower) (now upper); divided : Divided (by .count) (by .inverse); samples-room : span .from + 16 ≤ length (now samples); output-room : span .start + 16 ≤ length (now output) } ⌝ }
+    ensures { λ _. ⌜ now (output .exit) ≡ written (now (output .entry)) (span .start) (wordFrom (now (samples .entry)) (now (work .entry)) span (by .count)) 16 ⌝ }
 {
-    for j in 0..8 {
-        let sum = windowed(work, lower, upper, above, below, i, j);
-        let t0 = samples[from + 2 * j];
-        output[start + 2 * j] = corrected(t0, sum, count, inverse);
+    let from = span.from;
+    let start = span.start;
+    for l in 0..16 {
+        let sum = windowed(work, lower, upper, span, l);
+        let t0 = samples[from + l];
+        output[start + l] = corrected(t0, sum, by.count, by.inverse);
     }
 }
 
-// One row of a plane's output.
+// Row y of a row parity, from its first word on.
+fn row_span(shape: Shape, reference: usize, row_parity: usize, y: usize) -> Span
+    requires { ⌜ Inside shape reference «row_parity» y ⌝ }
+    ensures { λ r. ⌜ (r ≡ rowSpan shape reference «row_parity» y) × (Roomy shape r) ⌝ }
+{
+    let row = 2 * y + row_parity;
+    let from = reference * (shape.row_length * shape.height) + row * shape.row_length;
+    let start = row * shape.width;
+    let above = slot(shape.width, y / 8);
+    let below = slot(shape.width, y / 8 + 1);
+    Span {
+        from,
+        start,
+        above,
+        below,
+        i: y % 8,
+    }
+}
+
+// The same from its block number `column` on: a block has sixteen words, and a pair of tiles 512.
+fn further(span: Span, column: usize) -> Span
+    requires { ⌜ (Small span) × (column < 256) ⌝ }
+    ensures { λ r. ⌜ r ≡ further span column ⌝ }
+{
+    Span {
+        from: span.from + 16 * column,
+        start: span.start + 16 * column,
+        above: span.above + 512 * column,
+        below: span.below + 512 * column,
+        i: span.i,
+    }
+}
+
+// One row of the output: row y of a row parity, block by block.
 pub fn output_row(
     shape: Shape,
     reference: usize,
     samples: &[u16],
-    plane: Plane,
+    row_parity: usize,
     y: usize,
     work: &[i64],
     output: &mut [u16],
 )
-    requires { ⌜ (Ready shape reference (now samples) (now work) plane y) × (length (now output) ≡ outputLength shape) ⌝ }
-    ensures { λ _. ⌜ now (output .exit) ≡ strided (now (output .entry)) ((2 * y + plane .«row_parity») * shape .width + plane .«column_parity») (outputWord shape reference (now (samples .entry)) (now (work .entry)) plane y) (shape .width / 2) ⌝ }
+    requires { ⌜ record { inside : Inside shape reference «row_parity» y; over : Over (now work) (shape .width) y; samples-long : length (now samples) ≡ sampleLength shape; output-long : length (now output) ≡ outputLength shape } ⌝ }
+    ensures { λ _. ⌜ now (output .exit) ≡ written (now (output .entry)) ((2 * y + «row_parity») * shape .width) (wordFrom (now (samples .entry)) (now (work .entry)) (rowSpan shape reference «row_parity» y) (shape .count)) (shape .width) ⌝ }
 {
-    let width = shape.width;
-    let row_length = shape.row_length;
-    let above = slot(width, y / 8);
-    let below = slot(width, y / 8 + 1);
     let window = WINDOW;
     let lower = weights(&window, y % 8);
     let upper = weights(&window, y % 8 + 8);
-    let inverse = (524287 + shape.count as u64) / shape.count as u64;
-    let row = 2 * y + plane.row_parity;
-    let start = row * width + plane.column_parity;
-    let from = reference * (row_length * shape.height) + (row * row_length + plane.column_parity);
-    for column in 0..width / 16 {
-        output_block(
-            samples,
-            from + 16 * column,
-            work,
-            &lower,
-            &upper,
-            above + 256 * column,
-            below + 256 * column,
-            y % 8,
-            shape.count,
-            inverse,
-            &mut *output,
-            start + 16 * column,
-        );
+    let count = shape.count;
+    let by = Divisor {
+        count,
+        inverse: (524287 + count as u64) / count as u64,
+    };
+    let row = row_span(shape, reference, row_parity, y);
+    for column in 0..shape.width / 16 {
+        let span = further(row, column);
+        output_block(samples, work, &lower, &upper, span, by, &mut *output);
     }
 }

@@ -1,64 +1,70 @@
--- A tile, stored row by row, and a row of tiles, stored tile by tile: its record, and how it starts, goes on and ends.
+-- A pair of tiles, stored row by row, and a row of pairs, stored pair by pair: its record, and how it starts, goes on and ends.
 use Rattle.algebra.specs.Prelude.{_≡_, ap, subst, _∙_, List, [], ℕ, _+_, _*_, _/_, _%_, _≤_, _<_, arith, length, getD, ℤ, pos, natAbs}
-use borrow.Author.Count.{below-more}
+use borrow.Author.Count.{below-none, below-more}
 use Rattle.sequences.specs.Grid.{cell, cell-grid}
 use Rattle.sequences.specs.Write.{written, Writing, write-start, write-part, write-done}
-use Rattle.tiles.specs.declared.Plane.{Plane}
+use Rattle.geometry.specs.Tiles.{finestSide}
 use Rattle.recipe.specs.Scene.{Scene}
-use Rattle.tiles.specs.Sum.{summedAt}
-use Rattle.tiles.specs.Sum.{summedMost, Summed}
+use Rattle.spectrum.specs.Pairs.{sideBySide}
+use Rattle.tiles.specs.Sum.{summedAt, summedMost, Summed}
 use Rattle.tiles.specs.Rows.{rowWords, slotOf, rowWord, Stored}
 
--- a tile, stored row by row: word k is its cell at row k / 16 and column k % 16
-pub tile-turn : (tile : List (List ℤ)) {d l r : List ℤ} {at i : ℕ} → Writing d at (λ k. cell (pos 0) tile (k / 16) (k % 16)) 256 (16 * i) l → i < 16
-    → r ≡ written l (at + 16 * i) (λ j. getD (getD tile i []) j (pos 0)) 16 → Writing d at (λ k. cell (pos 0) tile (k / 16) (k % 16)) 256 (16 * (i + 1)) r
+-- a pair, stored row by row: word k is its cell at row k / 32 and place k % 32
+pub tile-turn : (tile : List (List ℤ)) {d l r : List ℤ} {at i : ℕ} → Writing d at (λ k. cell (pos 0) tile (k / 32) (k % 32)) 512 (32 * i) l → i < 16
+    → r ≡ written l (at + 32 * i) (λ j. getD (getD tile i []) j (pos 0)) 32 → Writing d at (λ k. cell (pos 0) tile (k / 32) (k % 32)) 512 (32 * (i + 1)) r
 unfolding cell
 tile-turn tile {d} {r = r} {at = at} {i = i} w h is =
-    subst (λ k. Writing d at (λ k. cell (pos 0) tile (k / 16) (k % 16)) 256 k r) (omega arith) (write-part w (omega arith) word is)
+    subst (λ k. Writing d at (λ k. cell (pos 0) tile (k / 32) (k % 32)) 512 k r) (omega arith) (write-part w (omega arith) word is)
   where
-    word : (j : ℕ) → j < 16 → getD (getD tile i []) j (pos 0) ≡ cell (pos 0) tile ((16 * i + j) / 16) ((16 * i + j) % 16)
+    word : (j : ℕ) → j < 32 → getD (getD tile i []) j (pos 0) ≡ cell (pos 0) tile ((32 * i + j) / 32) ((32 * i + j) % 32)
     word j b =
-        let row : (16 * i + j) / 16 ≡ i = omega arith in
-        let column : (16 * i + j) % 16 ≡ j = omega arith in
+        let row : (32 * i + j) / 32 ≡ i = omega arith in
+        let column : (32 * i + j) % 32 ≡ j = omega arith in
         rw (row, column)
 
--- l is d after the first n tiles of the row
-pub record Storing (s : Scene) (p : Plane) (row : ℕ) (d : List ℤ) (n : ℕ) (l : List ℤ) : Type 0 where
-  pub count : n ≤ s .width / 16 + 1
-  pub writing : Writing d (slotOf (s .width) row) (rowWord s p row) (256 * (s .width / 16 + 1)) (256 * n) l
-  pub most : (b : ℕ) → b < n → (i j : ℕ) → i < 16 → j < 16 → natAbs (summedAt s (p .«row_parity») (p .«column_parity») row b i j) ≤ summedMost
+-- the summed corrections of a pair
+abbrev pairAt : Scene → (rowParity row column i l : ℕ) → ℤ
+pairAt s rowParity row column = sideBySide (λ p. summedAt s rowParity p row column)
 
-module _ {s : Scene} {p : Plane} {row : ℕ} {d : List ℤ} where
-  pub store-start : slotOf (s .width) row + rowWords (s .width) ≤ length d → Storing s p row d 0 d
+-- l is d after the first n pairs of the row
+pub record Storing (s : Scene) (rowParity row : ℕ) (d : List ℤ) (n : ℕ) (l : List ℤ) : Type 0 where
+  pub count : n ≤ s .width / finestSide + 1
+  pub writing : Writing d (slotOf (s .width) row) (rowWord s rowParity row) (512 * (s .width / finestSide + 1)) (512 * n) l
+  pub most : (b : ℕ) → b < n → (i l : ℕ) → i < 16 → l < 32 → natAbs (pairAt s rowParity row b i l) ≤ summedMost
+
+module _ {s : Scene} {rowParity row : ℕ} {d : List ℤ} where
+  pub store-start : slotOf (s .width) row + rowWords (s .width) ≤ length d → Storing s rowParity row d 0 d
   unfolding rowWords
-  store-start room = record { count = omega arith; writing = write-start room; most = λ b h. absurd (none h) }
-    where
-      none : {k : ℕ} → k < 0 → ⊥
-      none h = omega arith
+  store-start room = record { count = omega arith; writing = write-start room; most = below-none (λ b. (i l : ℕ) → i < 16 → l < 32 → natAbs (pairAt s rowParity row b i l) ≤ summedMost) }
 
-  pub store-turn : {n : ℕ} {l r : List ℤ} {tile : List (List ℤ)} → Storing s p row d n l → n < s .width / 16 + 1
-      → Summed s (record { «row_parity» = p .«row_parity»; «column_parity» = p .«column_parity»; row = row; column = n }) tile
-      → r ≡ written l (slotOf (s .width) row + 256 * n) (λ k. cell (pos 0) tile (k / 16) (k % 16)) 256
-      → Storing s p row d (n + 1) r
+  pub store-turn : {n : ℕ} {l r : List ℤ} {tile : List (List ℤ)} → Storing s rowParity row d n l → n < s .width / finestSide + 1
+      → Summed s (record { «row_parity» = rowParity; row = row; column = n }) tile
+      → r ≡ written l (slotOf (s .width) row + 512 * n) (λ k. cell (pos 0) tile (k / 32) (k % 32)) 512
+      → Storing s rowParity row d (n + 1) r
   unfolding rowWord
   store-turn {n} {l} {r} {tile} w h sum is =
       record {
         count = omega arith;
-        writing = subst (λ k. Writing d (slotOf (s .width) row) (rowWord s p row) (256 * (s .width / 16 + 1)) k r) (omega arith) (write-part (w .writing) (omega arith) word is);
-        most = below-more (λ b. (i j : ℕ) → i < 16 → j < 16 → natAbs (summedAt s (p .«row_parity») (p .«column_parity») row b i j) ≤ summedMost) n (w .most) (sum .most);
+        writing = subst (λ k. Writing d (slotOf (s .width) row) (rowWord s rowParity row) (512 * (s .width / finestSide + 1)) k r) (omega arith) (write-part (w .writing) (omega arith) word is);
+        most = below-more (λ b. (i l : ℕ) → i < 16 → l < 32 → natAbs (pairAt s rowParity row b i l) ≤ summedMost) n (w .most) (sum .most);
       }
     where
-      place : (k : ℕ) → k < 256 → summedAt s (p .«row_parity») (p .«column_parity») row n (k / 16) (k % 16) ≡ rowWord s p row (256 * n + k)
+      place : (k : ℕ) → k < 512 → pairAt s rowParity row n (k / 32) (k % 32) ≡ rowWord s rowParity row (512 * n + k)
       place k b =
-          let tileOf : (256 * n + k) / 256 ≡ n = omega arith in
-          let rowOf : (256 * n + k) % 256 / 16 ≡ k / 16 = omega arith in
-          let columnOf : (256 * n + k) % 16 ≡ k % 16 = omega arith in
-          rw (tileOf, rowOf, columnOf)
+          let parityOf : (512 * n + k) % 2 ≡ k % 32 % 2 = omega arith in
+          let pairOf : (512 * n + k) / 512 ≡ n = omega arith in
+          let rowOf : (512 * n + k) % 512 / 32 ≡ k / 32 = omega arith in
+          let columnOf : (512 * n + k) % 32 / 2 ≡ k % 32 / 2 = omega arith in
+          rw (parityOf, pairOf, rowOf, columnOf)
 
-      word : (k : ℕ) → k < 256 → cell (pos 0) tile (k / 16) (k % 16) ≡ rowWord s p row (256 * n + k)
-      word k b = ap (λ x. cell (pos 0) x (k / 16) (k % 16)) (sum .is) ∙ cell-grid (pos 0) 16 16 _ (k / 16) (k % 16) (omega arith) (omega arith) ∙ place k b
+      word : (k : ℕ) → k < 512 → cell (pos 0) tile (k / 32) (k % 32) ≡ rowWord s rowParity row (512 * n + k)
+      word k b = ap (λ x. cell (pos 0) x (k / 32) (k % 32)) (sum .is) ∙ cell-grid (pos 0) 16 32 _ (k / 32) (k % 32) (omega arith) (omega arith) ∙ place k b
 
-  pub store-done : {n : ℕ} {l : List ℤ} → Storing s p row d n l → s .width / 16 + 1 ≤ n → Stored s p row d l
+  pub store-done : {n : ℕ} {l : List ℤ} → Storing s rowParity row d n l → s .width / finestSide + 1 ≤ n → Stored s rowParity row d l
   unfolding rowWords rowWord
-  store-done w h =
-      record { is = write-done (w .writing) (omega arith); most = λ k b. w .most (k / 256) (omega arith) (k % 256 / 16) (k % 16) (omega arith) (omega arith) }
+  store-done {n} {l} w h = record { is = write-done (w .writing) (omega arith); most = most }
+    where
+      most : (k : ℕ) → k < rowWords (s .width) → natAbs (rowWord s rowParity row k) ≤ summedMost
+      most k b =
+          let parity : k % 32 % 2 ≡ k % 2 = omega arith in
+          rw parity at (w .most (k / 512) (omega arith) (k % 512 / 32) (k % 32) (omega arith) (omega arith))

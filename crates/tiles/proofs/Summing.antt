@@ -1,5 +1,5 @@
--- The sum of a tile's corrections, frame by frame: its record, and how it starts, goes on and ends.
-use Rattle.algebra.specs.Prelude.{_≡_, sym, ap, ap₂, subst, _∙_, List, [], ℕ, _+_, _*_, _^_, _≤_, _<_, arith, ℤ, pos, natAbs, _+ℤ_}
+-- The sum of a pair's corrections, frame by frame: its record, and how it starts, goes on and ends.
+use Rattle.algebra.specs.Prelude.{_≡_, sym, ap, ap₂, subst, _∙_, List, [], ℕ, _+_, _*_, _/_, _%_, _^_, _≤_, _<_, arith, ℤ, pos, natAbs, _+ℤ_}
 use native.Mathlib.Numerals.{add-one}
 use Rattle.algebra.specs.Order.{abs-add}
 use Rattle.algebra.specs.Sums.{sumZ}
@@ -9,85 +9,92 @@ use Rattle.sequences.specs.TabLaws.{tab-each}
 use Rattle.sequences.specs.Grid.{grid, cell, cell-grid, grid-ext, grid-of}
 use Rattle.recipe.specs.Tables.{side16}
 use Rattle.recipe.specs.Correction.{correctionAt}
-use Rattle.transform.specs.ZeroLaws.{no-noise}
-use Rattle.lines.specs.Lines.{LineMost, TileMost, Square}
-use Rattle.transform.specs.Magnitudes.{correctionMost}
+use Rattle.spectrum.specs.ZeroLaws.{no-noise}
+use Rattle.spectrum.specs.DifferenceLaws.{correction-cong}
+use Rattle.spectrum.specs.Pairs.{planeIn, sideBySide, either, Paired}
+use Rattle.lines.specs.Lines.{LineMost, TileMost}
+use Rattle.spectrum.specs.Magnitudes.{correctionMost}
 use Rattle.tiles.specs.declared.Site.{Site}
 use Rattle.recipe.specs.Scene.{Scene, tileNoise, difference}
-use Rattle.tiles.specs.Sum.{summedAt}
-use Rattle.tiles.specs.Sum.{summedMost, Summed}
-use Rattle.tiles.proofs.Differences.{correction-cong}
+use Rattle.tiles.specs.Sum.{summedAt, summedMost, Summed}
 
 module _ (s : Scene) (t : Site) where
-  -- P of the tile for the k-th other frame, and the sum of the first n of these
-  abbrev pub termAt : (k i j : ℕ) → ℤ
-  termAt k = correctionAt (s .side) (tileNoise s (t .«row_parity») (t .«column_parity») (t .row) (t .column)) (difference s (t .«row_parity») (t .«column_parity») (t .row) (t .column) k)
+  -- P of the tile of column parity p for the k-th other frame, and the sums of the first n of these, side by side
+  abbrev pub termAt : (k p i j : ℕ) → ℤ
+  termAt k p = correctionAt (s .side) (tileNoise s (t .«row_parity») p (t .row) (t .column)) (difference s (t .«row_parity») p (t .row) (t .column) k)
 
-  abbrev pub partAt : (n i j : ℕ) → ℤ
-  partAt n i j = sumZ n (λ k. termAt k i j)
+  abbrev pub partAt : (n i l : ℕ) → ℤ
+  partAt n i l = sumZ n (λ k. sideBySide (termAt k) i l)
 
 -- the sum after n of the other frames, up to seven
 pub record Summing (s : Scene) (t : Site) (n : ℕ) (sum : List (List ℤ)) : Type 0 where
   pub count : n ≤ s .others
   pub few : s .others ≤ 7
   pub of-16 : s .side ≡ side16
-  pub is : sum ≡ grid 16 16 (partAt s t n)
-  pub most : (i j : ℕ) → i < 16 → j < 16 → natAbs (partAt s t n i j) ≤ n * correctionMost
+  pub is : sum ≡ grid 16 32 (partAt s t n)
+  pub most : (i l : ℕ) → i < 16 → l < 32 → natAbs (partAt s t n i l) ≤ n * correctionMost
 
--- where V is 0, so is the sum
-pub zero-summed : {s : Scene} {t : Site} {sum : List (List ℤ)} → tileNoise s (t .«row_parity») (t .«column_parity») (t .row) (t .column) ≡ 0 → sum ≡ grid 16 16 (λ i j. pos 0) → Summed s t sum
+-- where both V are 0, so is the sum
+pub zero-summed : {s : Scene} {t : Site} {sum : List (List ℤ)} → ((p : ℕ) → p < 2 → tileNoise s (t .«row_parity») p (t .row) (t .column) ≡ 0) → sum ≡ grid 16 32 (λ i l. pos 0) → Summed s t sum
 unfolding summedAt
-zero-summed {s} {t} {sum} v e = record { is = e ∙ sym (grid-ext 16 16 _ _ (λ i j h k. zero i j)); most = λ i j h k. rw (zero i j) (omega arith) }
+zero-summed {s} {t} {sum} v e = record { is = e ∙ sym (grid-ext 16 32 _ _ (λ i l h k. zero (l % 2) (omega arith) i (l / 2))); most = λ i l h k. rw (zero (l % 2) (omega arith) i (l / 2)) (omega arith) }
   where
-    zero : (i j : ℕ) → summedAt s (t .«row_parity») (t .«column_parity») (t .row) (t .column) i j ≡ pos 0
-    zero i j = rw v (sumZ-cong (s .others) _ (λ k. pos 0) (λ k h. no-noise (s .side) (s .side .divisor-above) _ i j) ∙ sumZ-0 (s .others))
+    zero : (p : ℕ) → p < 2 → (i j : ℕ) → summedAt s (t .«row_parity») p (t .row) (t .column) i j ≡ pos 0
+    zero p c i j = rw (v p c) (sumZ-cong (s .others) _ (λ k. pos 0) (λ k h. no-noise (s .side) (s .side .divisor-above) _ i j) ∙ sumZ-0 (s .others))
 
 module _ {s : Scene} {t : Site} where
-  pub sum-start : {sum : List (List ℤ)} → s .side ≡ side16 → s .others ≤ 7 → sum ≡ grid 16 16 (λ i j. pos 0) → Summing s t 0 sum
+  pub sum-start : {sum : List (List ℤ)} → s .side ≡ side16 → s .others ≤ 7 → sum ≡ grid 16 32 (λ i l. pos 0) → Summing s t 0 sum
   unfolding sumZ
-  sum-start n few e = record { count = omega arith; few = few; of-16 = n; is = e; most = λ i j h k. omega arith }
+  sum-start n few e = record { count = omega arith; few = few; of-16 = n; is = e; most = λ i l h k. omega arith }
 
-  cell-at : {n : ℕ} {sum : List (List ℤ)} → Summing s t n sum → (i j : ℕ) → i < 16 → j < 16 → cell (pos 0) sum i j ≡ partAt s t n i j
-  cell-at {n} w i j h k = ap (λ x. cell (pos 0) x i j) (w .is) ∙ cell-grid (pos 0) 16 16 (partAt s t n) i j h k
+  cell-at : {n : ℕ} {sum : List (List ℤ)} → Summing s t n sum → (i l : ℕ) → i < 16 → l < 32 → cell (pos 0) sum i l ≡ partAt s t n i l
+  cell-at {n} w i l h k = ap (λ x. cell (pos 0) x i l) (w .is) ∙ cell-grid (pos 0) 16 32 (partAt s t n) i l h k
 
-  -- one more frame: d its differences, and r the sum with their correction
+  -- one more frame: d its differences, and r the sum with their corrections
   module _ {n : ℕ} {sum : List (List ℤ)} (w : Summing s t n sum) (h : n < s .others) where
-    pub sum-turn : {noise : ℕ} {d r : List (List ℤ)} → noise ≡ tileNoise s (t .«row_parity») (t .«column_parity») (t .row) (t .column)
-        → d ≡ grid 16 16 (difference s (t .«row_parity») (t .«column_parity») (t .row) (t .column) n)
-        → r ≡ grid 16 16 (λ i j. cell (pos 0) sum i j +ℤ correctionAt side16 noise (cell (pos 0) d) i j)
-        → ((i j : ℕ) → natAbs (termAt s t n i j) ≤ correctionMost)
+    pub sum-turn : (first second : ℕ) {d r : List (List ℤ)} → ((p : ℕ) → p < 2 → either first second p ≡ tileNoise s (t .«row_parity») p (t .row) (t .column))
+        → d ≡ grid 16 32 (sideBySide (λ p. difference s (t .«row_parity») p (t .row) (t .column) n))
+        → r ≡ grid 16 32 (λ i l. cell (pos 0) sum i l +ℤ correctionAt side16 (either first second (l % 2)) (planeIn (cell (pos 0) d) (l % 2)) i (l / 2))
+        → ((p : ℕ) → p < 2 → (i j : ℕ) → natAbs (termAt s t n p i j) ≤ correctionMost)
         → Summing s t (n + 1) r
     unfolding side16
-    sum-turn {noise} {d} {r} v de re small =
+    sum-turn first second {d} {r} v de re small =
         record {
           count = omega arith;
           few = w .few;
           of-16 = w .of-16;
-          is = re ∙ grid-ext 16 16 _ _ (λ i j k l. ap₂ _+ℤ_ (cell-at w i j k l) (term i j) ∙ next i j);
-          most = λ i j k l. subst (λ z. natAbs z ≤ (n + 1) * correctionMost) (next i j) (omega (arith, abs-add (partAt s t n i j) (termAt s t n i j), small i j, w .most i j k l));
+          is = re ∙ grid-ext 16 32 _ _ (λ i l g k. ap₂ _+ℤ_ (cell-at w i l g k) (term (l % 2) (omega arith) i (l / 2)) ∙ next i l);
+          most = λ i l g k. subst (λ z. natAbs z ≤ (n + 1) * correctionMost) (next i l)
+              (omega (arith, abs-add (partAt s t n i l) (sideBySide (termAt s t n) i l), small (l % 2) (omega arith) i (l / 2), w .most i l g k));
         }
       where
         inside : {k : ℕ} → k < s .side .side → k < 16
         inside {k} h = subst (λ n. k < n .side) (w .of-16) h
 
-        term : (i j : ℕ) → correctionAt side16 noise (cell (pos 0) d) i j ≡ termAt s t n i j
-        term i j =
-            ap₂ (λ n m. correctionAt n m (cell (pos 0) d) i j) (sym (w .of-16)) v
-            ∙ correction-cong (s .side) (cell (pos 0) d) _ (λ y x g f. ap (λ z. cell (pos 0) z y x) de ∙ cell-grid (pos 0) 16 16 _ y x (inside g) (inside f)) _ i j
+        plane : (p : ℕ) → p < 2 → (y x : ℕ) → y < 16 → x < 16 → planeIn (cell (pos 0) d) p y x ≡ difference s (t .«row_parity») p (t .row) (t .column) n y x
+        plane p c y x g f =
+            let parity : (2 * x + p) % 2 ≡ p = omega arith in
+            let column : (2 * x + p) / 2 ≡ x = omega arith in
+            ap (λ z. cell (pos 0) z y (2 * x + p)) de ∙ cell-grid (pos 0) 16 32 _ y (2 * x + p) g (omega arith) ∙ rw (parity, column)
 
-        next : (i j : ℕ) → partAt s t n i j +ℤ termAt s t n i j ≡ partAt s t (n + 1) i j
-        next i j = rw (add-one n, sumZ-suc)
+        term : (p : ℕ) → p < 2 → (i j : ℕ) → correctionAt side16 (either first second p) (planeIn (cell (pos 0) d) p) i j ≡ termAt s t n p i j
+        term p c i j =
+            ap₂ (λ n m. correctionAt n m (planeIn (cell (pos 0) d) p) i j) (sym (w .of-16)) (v p c)
+            ∙ correction-cong (s .side) (planeIn (cell (pos 0) d) p) _ (λ y x g f. plane p c y x (inside g) (inside f)) _ i j
 
-  pub sum-square : {n : ℕ} {sum : List (List ℤ)} → Summing s t n sum → Square sum
-  sum-square {n} w = record { is = grid-of (pos 0) 16 16 (partAt s t n) (w .is) }
+        next : (i l : ℕ) → partAt s t n i l +ℤ sideBySide (termAt s t n) i l ≡ partAt s t (n + 1) i l
+        next i l = rw (add-one n, sumZ-suc)
+
+  pub sum-paired : {n : ℕ} {sum : List (List ℤ)} → Summing s t n sum → Paired (pos 0) sum
+  sum-paired {n} w = record { is = grid-of (pos 0) 16 32 (partAt s t n) (w .is) }
 
   pub sum-small : {n : ℕ} {sum : List (List ℤ)} → Summing s t n sum → TileMost (2 ^ 40) sum
   unfolding grid
   sum-small {n} {sum} w =
       record {
         line = λ i. rw (w .is)
-            (tab-each (LineMost (2 ^ 40)) [] (λ i. tab 16 (partAt s t n i)) (record { at = λ j. omega arith }) 16
-            (λ u h. record { at = tab-each (λ z. natAbs z ≤ 2 ^ 40) (pos 0) (partAt s t n u) (omega arith) 16 (λ j k. omega (arith, w .most u j h k, w .few, w .count)) }) i);
+            (tab-each (LineMost (2 ^ 40)) [] (λ i. tab 32 (partAt s t n i)) (record { at = λ l. omega arith }) 16
+            (λ u h. record { at = tab-each (λ z. natAbs z ≤ 2 ^ 40) (pos 0) (partAt s t n u) (omega arith) 32 (λ l k. omega (arith, w .most u l h k, w .few, w .count)) }) i);
       }
 
   pub sum-done : {n : ℕ} {sum : List (List ℤ)} → Summing s t n sum → s .others ≤ n → Summed s t sum
@@ -95,6 +102,6 @@ module _ {s : Scene} {t : Site} where
   sum-done {n} {sum} w h =
       let e : n ≡ s .others = omega (arith, w .count) in
       record {
-        is = w .is ∙ ap (λ m. grid 16 16 (partAt s t m)) e;
-        most = λ i j k l. subst (λ m. natAbs (partAt s t m i j) ≤ summedMost) e (omega (arith, w .most i j k l, w .few));
+        is = w .is ∙ ap (λ m. grid 16 32 (partAt s t m)) e;
+        most = λ i l g k. subst (λ m. natAbs (partAt s t m i l) ≤ summedMost) e (omega (arith, w .most i l g k, w .few));
       }

@@ -1,9 +1,8 @@
--- Inside the crates of the merge: what is known of a merge that its tests have let through, of its planes and tiles.
+-- Inside the crates of the merge: what is known of a merge that its tests have let through, and of a pair of its tiles.
 use Rattle.algebra.specs.Prelude.{List, ℕ, _/_, _≤_, _<_, length, ℤ}
 use Rattle.geometry.specs.declared.Shape.{Shape}
 use Rattle.geometry.specs.Fits.{BurstFits, SamplesFit, VectorsFit}
 use Rattle.recipe.specs.declared.Merge.{Merge}
-use Rattle.tiles.specs.declared.Plane.{Plane}
 use Rattle.tiles.specs.declared.Site.{Site}
 
 pub record Accepted (m : Merge) (samples : List ℕ) (vectors : List ℤ) : Type 0 where
@@ -14,14 +13,8 @@ pub record Accepted (m : Merge) (samples : List ℕ) (vectors : List ℤ) : Type
   pub read-most : m .read ≤ 4194304
   pub strength-most : m .tuning .strength ≤ 1024
 
--- one of the four planes
-pub record Planar (p : Plane) : Type 0 where
-  pub row-parity : p .«row_parity» < 2
-  pub column-parity : p .«column_parity» < 2
-
--- a tile of one of them
+-- a pair of tiles of the planes of one row parity
 pub record Sited (s : Shape) (t : Site) : Type 0 where
   pub row-parity : t .«row_parity» < 2
-  pub column-parity : t .«column_parity» < 2
   pub row : t .row ≤ s .height / 16
   pub column : t .column ≤ s .width / 16

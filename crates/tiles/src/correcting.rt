@@ -1,113 +1,77 @@
-// The corrections of a tile: its noise number, its differences to the other frames, and P summed over them.
+// The corrections of a pair of tiles: its noise numbers, its differences to the other frames, and P summed over them.
 ghost use mathlib.Core.Path.{_≡_};
 ghost use Prim.Native.Nat.{_≤_, _<_};
-ghost use lib.IntN.{pos, _-ℤ_};
-ghost use lib.ListN.{getD};
-ghost use Rattle.sequences.specs.Tab.{tab};
-ghost use Rattle.sequences.specs.Grid.{grid, cell};
-ghost use Rattle.geometry.specs.Fits.{ValuesFit};
+ghost use lib.IntN.{pos};
+ghost use Rattle.sequences.specs.Grid.{grid};
 ghost use Rattle.recipe.specs.Tables.{side16};
-ghost use Rattle.recipe.specs.NoiseNumber.{tileRoot, noiseNumber};
+ghost use Rattle.recipe.specs.NoiseNumber.{noiseNumber};
 ghost use Rattle.recipe.specs.Scene.{sceneOf, blackOf};
+ghost use Rattle.spectrum.specs.Magnitudes.{noiseMost};
 ghost use Rattle.tiles.specs.Accepted.{Accepted, Sited};
-ghost use Rattle.tiles.specs.Sum.{TileFits, TileOf, Summed};
+ghost use Rattle.tiles.specs.Sum.{TileOf, Summed};
 use crate::Site;
-use crate::reading::other_tile;
-use crate::reading::tile;
+use crate::reading::differences;
+use crate::reading::pair;
 use recipe::Merge;
 use recipe::Tuning;
 
-// The difference of two samples.
-fn minus(a: u16, b: u16) -> i16
-    requires { ⌜ (a ≤ 4095) × (b ≤ 4095) ⌝ }
-    ensures { λ r. ⌜ r ≡ pos a -ℤ pos b ⌝ }
+// The black level of a plane.
+fn plane_black(tuning: Tuning, row_parity: usize, column_parity: usize) -> u16
+    requires { ⌜ («row_parity» < 2) × («column_parity» < 2) ⌝ }
+    ensures { λ r. ⌜ r ≡ blackOf tuning «row_parity» «column_parity» ⌝ }
 {
-    a as i16 - b as i16
+    tuning.black[2 * row_parity + column_parity]
 }
 
-// One row of T0 - Tz.
-fn difference_row(a: &[u16; 16], b: &[u16; 16]) -> [i16; 16]
-    requires { ⌜ (ValuesFit (now a)) × (ValuesFit (now b)) ⌝ }
-    ensures { λ r. ⌜ r ≡ tab 16 (λ j. pos (getD (now (a .entry)) j 0) -ℤ pos (getD (now (b .entry)) j 0)) ⌝ }
+// V of a tile, by its r.
+fn tile_noise(m: Merge, root: u64) -> u64
+    requires { ⌜ record { shot-most : m .shot ≤ 65536; read-most : m .read ≤ 4194304; strength-most : m .tuning .strength ≤ 1024; root-most : root ≤ 65520 } ⌝ }
+    ensures { λ r. ⌜ (r ≡ noiseNumber side16 (m .tuning .strength) (m .shot) (m .read) root) × (r ≤ noiseMost) ⌝ }
 {
-    let mut row = [0i16; 16];
-    for j in 0..16 {
-        row[j] = minus(a[j], b[j]);
-    }
-    row
+    noise::noise_number(m.tuning.strength, m.shot, m.read, root)
 }
 
-// T0 - Tz.
-fn difference(t0: &[[u16; 16]; 16], tz: &[[u16; 16]; 16]) -> [[i16; 16]; 16]
-    requires { ⌜ (TileFits (now t0)) × (TileFits (now tz)) ⌝ }
-    ensures { λ r. ⌜ r ≡ grid 16 16 (λ i j. pos (cell 0 (now (t0 .entry)) i j) -ℤ pos (cell 0 (now (tz .entry)) i j)) ⌝ }
-{
-    let mut d = [[0i16; 16]; 16];
-    for i in 0..16 {
-        d[i] = difference_row(&t0[i], &tz[i]);
-    }
-    d
-}
-
-// The black level of a tile's plane.
-fn plane_black(tuning: Tuning, site: Site) -> u16
-    requires { ⌜ (site .«row_parity» < 2) × (site .«column_parity» < 2) ⌝ }
-    ensures { λ r. ⌜ r ≡ blackOf tuning (site .«row_parity») (site .«column_parity») ⌝ }
-{
-    tuning.black[2 * site.row_parity + site.column_parity]
-}
-
-// V of a tile.
-fn tile_noise(m: Merge, black: u16, t0: [[u16; 16]; 16]) -> u64
-    requires { ⌜ record { shot-most : m .shot ≤ 65536; read-most : m .read ≤ 4194304; strength-most : m .tuning .strength ≤ 1024 } ⌝ }
-    ensures { λ r. ⌜ r ≡ noiseNumber side16 (m .tuning .strength) (m .shot) (m .read) (tileRoot 16 black (cell 0 t0)) ⌝ }
-{
-    noise::noise_number(
-        m.tuning.strength,
-        m.shot,
-        m.read,
-        noise::tile_root(black, t0),
-    )
-}
-
-// The corrections of a tile at its noise number, summed over the other frames from 0.
+// The corrections of a pair of tiles at their noise numbers, summed over the other frames from 0.
 fn corrections(
     m: Merge,
     samples: &[u16],
     vectors: &[i32],
     site: Site,
-    t0: &[[u16; 16]; 16],
-    noise: u64,
-    sum: &mut [[i64; 16]; 16],
+    t0: &[[u16; 32]; 16],
+    first: u64,
+    second: u64,
+    sum: &mut [[i64; 32]; 16],
 )
-    requires { ⌜ record { accepted : Accepted m (now samples) (now vectors); sited : Sited (m .shape) site; tile : TileOf (sceneOf m (now samples) (now vectors)) site (now t0) noise; cleared : now sum ≡ grid 16 16 (λ i j. pos 0) } ⌝ }
+    requires { ⌜ record { accepted : Accepted m (now samples) (now vectors); sited : Sited (m .shape) site; tile : TileOf (sceneOf m (now samples) (now vectors)) site (now t0) first second; cleared : now sum ≡ grid 16 32 (λ i l. pos 0) } ⌝ }
     ensures { λ _. ⌜ Summed (sceneOf m (now (samples .entry)) (now (vectors .entry))) site (now (sum .exit)) ⌝ }
 {
     let others = m.shape.count - 1;
     for k in 0..others {
-        let tz = other_tile(m, samples, vectors, site, k);
-        let d = difference(t0, &tz);
-        transform::add_correction(d, noise, &mut *sum);
+        let d = differences(m, samples, vectors, site, k, t0);
+        pairs::add_corrections(d, first, second, &mut *sum);
     }
 }
 
-// T0, r and V of a tile, and its corrections, summed over the other frames from 0; all 0 where V is.
+// T0, r and V of a pair of tiles, and its corrections, summed over the other frames from 0; all 0 where both V are.
 pub fn tile_correction(
     m: Merge,
     samples: &[u16],
     vectors: &[i32],
     site: Site,
-    sum: &mut [[i64; 16]; 16],
+    sum: &mut [[i64; 32]; 16],
 )
-    requires { ⌜ record { accepted : Accepted m (now samples) (now vectors); sited : Sited (m .shape) site; cleared : now sum ≡ grid 16 16 (λ i j. pos 0) } ⌝ }
+    requires { ⌜ record { accepted : Accepted m (now samples) (now vectors); sited : Sited (m .shape) site; cleared : now sum ≡ grid 16 32 (λ i l. pos 0) } ⌝ }
     ensures { λ _. ⌜ Summed (sceneOf m (now (samples .entry)) (now (vectors .entry))) site (now (sum .exit)) ⌝ }
 {
     let shape = m.shape;
-    let t0 = tile(shape, samples, m.reference, site, 0, 0);
-    let black = plane_black(m.tuning, site);
-    let noise = tile_noise(m, black, t0);
-    if noise == 0 {
+    let t0 = pair(shape, samples, m.reference, site, 0, 0);
+    let first_black = plane_black(m.tuning, site.row_parity, 0);
+    let second_black = plane_black(m.tuning, site.row_parity, 1);
+    let roots = noise::pair_roots(first_black, second_black, &t0);
+    let first = tile_noise(m, roots.first);
+    let second = tile_noise(m, roots.second);
+    if first + second == 0 {
         return;
     }
-    corrections(m, samples, vectors, site, &t0, noise, &mut *sum);
+    corrections(m, samples, vectors, site, &t0, first, second, &mut *sum);
 }

@@ -1,18 +1,13 @@
-// The tiles of a merge: T0 and Tz read from the planes, and the corrections of each tile, summed over the other frames, in the work area.
+// The tiles of a merge, those of the two column parities in pairs: T0 and Tz read from the planes, and the corrections of each pair, summed over the other
+// frames, in the work area.
 mod correcting;
 mod reading;
 pub mod rows;
 
-// One of the four planes, by the parities of its rows and columns.
-pub struct Plane {
-    pub row_parity: usize,
-    pub column_parity: usize,
-}
-
-// A tile: the parities of its plane, and its row and column among the plane's tiles.
+// A pair of tiles: the parity of its rows, and its row and column among its planes' tiles. Its rows are thirty-two samples, and place 2·x + p of one is column x
+// of the tile of column parity p.
 pub struct Site {
     pub row_parity: usize,
-    pub column_parity: usize,
     pub row: usize,
     pub column: usize,
 }

@@ -1,16 +1,20 @@
-// Tiles of a plane, read through its view: T0 and Tz.
+// Pairs of tiles, read from a frame: T0, and its differences to Tz.
 ghost use mathlib.Core.Path.{_≡_};
 ghost use Prim.Native.Nat.{_+_, _≤_, _<_};
-ghost use lib.IntN.{_+ℤ_};
+ghost use lib.IntN.{pos, _+ℤ_, _-ℤ_};
+ghost use lib.ListN.{getD};
 ghost use Rattle.algebra.specs.Bound.{AtMost};
-ghost use Rattle.sequences.specs.Grid.{grid};
-ghost use Rattle.geometry.specs.Fits.{Sampled};
+ghost use Rattle.sequences.specs.Tab.{tab};
+ghost use Rattle.sequences.specs.Grid.{grid, cell};
+ghost use Rattle.geometry.specs.Fits.{Sampled, ValuesFit};
 ghost use Rattle.geometry.specs.Read.{sampleAt};
 ghost use Rattle.geometry.specs.Tiles.{origin};
 ghost use Rattle.plane_view.specs.View.{Near};
+ghost use Rattle.spectrum.specs.Pairs.{sideBySide};
 ghost use Rattle.recipe.specs.Tables.{side16};
-ghost use Rattle.recipe.specs.Scene.{sceneOf, tileAt, otherTile};
+ghost use Rattle.recipe.specs.Scene.{sceneOf, tileAt, referenceTile, difference};
 ghost use Rattle.tiles.specs.Accepted.{Accepted, Sited};
+ghost use Rattle.tiles.specs.Sum.{TileFits};
 use crate::Site;
 use geometry::Shape;
 use geometry::vectors::other_frame;
@@ -25,46 +29,72 @@ fn moved(index: usize, part: i32) -> i64
     geometry::tiles::origin(8, index) + part as i64
 }
 
-// The tile of a frame, moved by a vector.
-pub fn tile(
+// The difference of two samples.
+fn minus(a: u16, b: u16) -> i16
+    requires { ⌜ (a ≤ 4095) × (b ≤ 4095) ⌝ }
+    ensures { λ r. ⌜ r ≡ pos a -ℤ pos b ⌝ }
+{
+    a as i16 - b as i16
+}
+
+// One row of T0 - Tz.
+fn difference_row(a: &[u16; 32], b: &[u16; 32]) -> [i16; 32]
+    requires { ⌜ (ValuesFit (now a)) × (ValuesFit (now b)) ⌝ }
+    ensures { λ r. ⌜ r ≡ tab 32 (λ j. pos (getD (now (a .entry)) j 0) -ℤ pos (getD (now (b .entry)) j 0)) ⌝ }
+{
+    let mut row = [0i16; 32];
+    for j in 0..32 {
+        row[j] = minus(a[j], b[j]);
+    }
+    row
+}
+
+// T0 - Tz.
+fn difference(t0: &[[u16; 32]; 16], tz: &[[u16; 32]; 16]) -> [[i16; 32]; 16]
+    requires { ⌜ (TileFits (now t0)) × (TileFits (now tz)) ⌝ }
+    ensures { λ r. ⌜ r ≡ grid 16 32 (λ i l. pos (cell 0 (now (t0 .entry)) i l) -ℤ pos (cell 0 (now (tz .entry)) i l)) ⌝ }
+{
+    let mut d = [[0i16; 32]; 16];
+    for i in 0..16 {
+        d[i] = difference_row(&t0[i], &tz[i]);
+    }
+    d
+}
+
+// The pair of tiles of a frame, moved by a vector.
+pub fn pair(
     shape: Shape,
     samples: &[u16],
     frame: usize,
     site: Site,
     down: i32,
     right: i32,
-) -> [[u16; 16]; 16]
+) -> [[u16; 32]; 16]
     requires { ⌜ record { sampled : Sampled shape (now samples); frame-below : frame < shape .count; sited : Sited shape site; down-most : AtMost 172 down; right-most : AtMost 172 right } ⌝ }
-    ensures { λ r. ⌜ r ≡ grid 16 16 (tileAt side16 (shape .height) (shape .width) (site .«row_parity») (site .«column_parity») (sampleAt shape (now (samples .entry)) frame) down right (site .row) (site .column)) ⌝ }
+    ensures { λ r. ⌜ r ≡ grid 16 32 (sideBySide (λ p. tileAt side16 (shape .height) (shape .width) (site .«row_parity») p (sampleAt shape (now (samples .entry)) frame) down right (site .row) (site .column))) ⌝ }
 {
     let y = moved(site.row, down);
     let x = moved(site.column, right);
-    plane_view::frame_tile(
-        shape,
-        samples,
-        frame,
-        site.row_parity,
-        site.column_parity,
-        y,
-        x,
-    )
+    plane_view::frame_pair(shape, samples, frame, site.row_parity, y, x)
 }
 
-// Tz of the k-th other frame.
-pub fn other_tile(
+// T0 - Tz of the k-th other frame.
+pub fn differences(
     m: Merge,
     samples: &[u16],
     vectors: &[i32],
     site: Site,
     k: usize,
-) -> [[u16; 16]; 16]
-    requires { ⌜ record { accepted : Accepted m (now samples) (now vectors); sited : Sited (m .shape) site; frame : k + 1 < m .shape .count } ⌝ }
-    ensures { λ r. ⌜ r ≡ grid 16 16 (otherTile (sceneOf m (now (samples .entry)) (now (vectors .entry))) (site .«row_parity») (site .«column_parity») (site .row) (site .column) k) ⌝ }
+    t0: &[[u16; 32]; 16],
+) -> [[i16; 32]; 16]
+    requires { ⌜ record { accepted : Accepted m (now samples) (now vectors); sited : Sited (m .shape) site; frame : k + 1 < m .shape .count; tile : now t0 ≡ grid 16 32 (sideBySide (λ p. referenceTile (sceneOf m (now samples) (now vectors)) (site .«row_parity») p (site .row) (site .column))) } ⌝ }
+    ensures { λ r. ⌜ r ≡ grid 16 32 (sideBySide (λ p. difference (sceneOf m (now (samples .entry)) (now (vectors .entry))) (site .«row_parity») p (site .row) (site .column) k)) ⌝ }
 {
     let shape = m.shape;
     let place = vector_place(shape, k, site.row, site.column);
     let down = vectors[place];
     let right = vectors[place + 1];
     let frame = other_frame(m.reference, k);
-    tile(shape, samples, frame, site, down, right)
+    let tz = pair(shape, samples, frame, site, down, right);
+    difference(t0, &tz)
 }

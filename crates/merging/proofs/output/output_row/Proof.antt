@@ -1,56 +1,18 @@
--- A block of eight words a turn, each from the four tiles over it.
-use Rattle.algebra.specs.Prelude.{_≡_, refl, sym, subst, _+_, _-_, _*_, _/_, _%_, _≤_, _<_, arith, needs, length, now}
-use Rattle.geometry.specs.Shape.{rowStride, frameStride, sampleLength, outputLength}
-use Rattle.geometry.specs.ShapeLaws.{area-most, samples-most}
-use Rattle.geometry.specs.ReadLaws.{frame-room}
+-- A block of sixteen words a turn, each from the four pairs of tiles over it.
+use mathlib.Core.Path.{_≡_, refl, sym, ap, ap₂, _∙_, subst}
+use Rattle.algebra.specs.Prelude.{_-_, _*_, _/_, arith, needs, now}
+use Rattle.sequences.specs.Write.{written, Writing, write-start, write-done}
 use Rattle.recipe.specs.Tables.{windows}
-use Rattle.tiles.specs.Rows.{rowWords}
-use Rattle.merging.specs.Work.{Words, wordFrom}
-use Rattle.merging.proofs.Places.{output-room, frame-row-room}
-use Rattle.merging.proofs.Striding.{Striding, stride-start}
-use Rattle.merging.proofs.Weights.{words-later}
-use Rattle.merging.proofs.Blocks.{block-turn, row-done}
+use Rattle.merging.specs.Work.{Weighed, rowSpan, further, Roomy, wordFrom}
+use Rattle.merging.proofs.Blocks.{block-turn, block-weighed}
 use Rattle.merging.proofs.output.output_row.Statement.{statement}
 use Rattle.merging.proofs.output.output_row.Tie as tie
 
 abbrev Inv-loop : tie.InvT-loop
-Inv-loop shape reference samples y work output₀ width row-length above below lower upper inverse row start from column₀ column-end output column =
-    Striding output₀ start (wordFrom samples from work above below (y % 8) (shape .count)) (width / 2) (8 * column) output
+Inv-loop reference samples row-parity y work output₀ lower upper count by row column₀ column-end output column = Writing output₀ (row .start) (wordFrom samples work row count) (16 * column-end) (16 * column) output
 
 abbrev μ-loop : tie.MeasureT-loop
-μ-loop shape reference samples y work output₀ width row-length above below lower upper inverse row start from column₀ column-end output column = width / 16 - column
-
--- the row lies in its frame, for the output and for the samples, and frames are small
-room : (c : tie.Start Inv-loop μ-loop) → let s = c .args .shape in
-    record {
-      output-row : (2 * c .args .y + c .args .plane .«row_parity») * s .width + s .width ≤ s .width * s .height;
-      output-small : s .width * s .height ≤ 16777216;
-      frame-row : (2 * c .args .y + c .args .plane .«row_parity») * rowStride s + rowStride s ≤ frameStride s;
-      frame : c .args .reference * frameStride s + frameStride s ≤ s .count * frameStride s;
-      samples-small : s .count * frameStride s ≤ 142606336;
-      longer : s .width ≤ rowStride s;
-    }
-unfolding outputLength sampleLength
-room c =
-    let r = c .pre .0 in
-    let ok = r .sampled .allowed in
-    let s = c .args .shape in
-    let below : 2 * c .args .y + c .args .plane .«row_parity» < s .height = omega (arith, r .row, r .planar, ok) in
-    record {
-      output-row = output-room s _ below;
-      output-small = area-most ok;
-      frame-row = frame-row-room s _ below;
-      frame = frame-room s (c .args .reference) (r .reference-below);
-      samples-small = samples-most ok;
-      longer = ok .row-least;
-    }
-
-long : (c : tie.Start Inv-loop μ-loop) → let s = c .args .shape in (length (now (c .args .output)) ≡ s .width * s .height) × (length (now (c .args .samples)) ≡ s .count * frameStride s)
-unfolding outputLength sampleLength
-long c = (c .pre .1, c .pre .0 .sampled .long)
-
-wide : (c : tie.Start Inv-loop μ-loop) → c .args .shape .width ≤ 4096
-wide c = c .pre .0 .sampled .allowed .wide .most
+μ-loop reference samples row-parity y work output₀ lower upper count by row column₀ column-end output column = column-end - column
 
 weights-requires : tie.Need-weights-requires Inv-loop μ-loop
 unfolding windows
@@ -60,102 +22,61 @@ weights-requires-2 : tie.Need-weights-requires-2 Inv-loop μ-loop
 unfolding windows
 weights-requires-2 c κs = (refl, omega arith)
 
-mul-start : tie.Need-mul-start Inv-loop μ-loop
-mul-start c = omega (arith, room (c .before .before .before .before .before .before .before .before .before))
+-- the function's start, and the room of the row, at a turn
+abbrev start : tie.At-loop Inv-loop μ-loop → tie.Start Inv-loop μ-loop
+start l = l .before .before .before .before .before .before .before .before .before
 
-add-start : tie.Need-add-start Inv-loop μ-loop
-add-start c = let s = c .before .before .before .before .before .before .before .before .before .before in omega (arith, room s, s .pre .0 .planar)
+abbrev roomy : (l : tie.At-loop Inv-loop μ-loop) → Roomy (start l .args .shape) (l .before .before .row-span .result)
+roomy l = l .before .before .row-span .ensures .1
 
-mul-from : tie.Need-mul-from Inv-loop μ-loop
-mul-from c = omega (arith, room (c .before .before .before .before .before .before .before .before .before .before .before))
+loop-holds : tie.Need-loop-holds Inv-loop μ-loop
+loop-holds c =
+    let s = c .before .before .before .before .before .before .before .before in
+    write-start (omega (arith, c .before .row-span .ensures .1 .output, s .pre .output-long))
 
-mul-from-2 : tie.Need-mul-from-2 Inv-loop μ-loop
-mul-from-2 c = omega (arith, room (c .before .before .before .before .before .before .before .before .before .before .before))
-
-mul-from-3 : tie.Need-mul-from-3 Inv-loop μ-loop
-mul-from-3 c = omega (arith, room (c .before .before .before .before .before .before .before .before .before .before .before))
-
-add-from : tie.Need-add-from Inv-loop μ-loop
-add-from c = let s = c .before .before .before .before .before .before .before .before .before .before .before .before in omega (arith, room s, s .pre .0 .planar)
-
-add-from-2 : tie.Need-add-from-2 Inv-loop μ-loop
-add-from-2 c = let s = c .before .before .before .before .before .before .before .before .before .before .before .before in omega (arith, room s, s .pre .0 .planar)
-
-add-output-block : tie.Need-add-output-block Inv-loop μ-loop
-add-output-block c = let s = c .before .before .before .before .before .before .before .before .before .before .before .before .before .before in omega (arith, room s, s .pre .0 .planar, c .loop-test .taken)
-
-mul-output-block-2 : tie.Need-mul-output-block-2 Inv-loop μ-loop
-mul-output-block-2 c = omega (arith, c .before .before .loop-test .taken, wide (c .before .before .before .before .before .before .before .before .before .before .before .before .before .before .before .before))
-
-add-output-block-2 : tie.Need-add-output-block-2 Inv-loop μ-loop
-unfolding rowWords
-add-output-block-2 c = omega (arith, c .before .before .loop-test .taken, wide (c .before .before .before .before .before .before .before .before .before .before .before .before .before .before .before .before), c .before .before .before .before .before .before .before .before .before .before .before .before .before .slot .ensures .1)
-
-mul-output-block-3 : tie.Need-mul-output-block-3 Inv-loop μ-loop
-mul-output-block-3 c = omega (arith, c .before .before .loop-test .taken, wide (c .before .before .before .before .before .before .before .before .before .before .before .before .before .before .before .before))
-
-add-output-block-3 : tie.Need-add-output-block-3 Inv-loop μ-loop
-unfolding rowWords
-add-output-block-3 c = omega (arith, c .before .before .loop-test .taken, wide (c .before .before .before .before .before .before .before .before .before .before .before .before .before .before .before .before), c .before .before .before .before .before .before .before .before .before .before .before .before .slot2 .ensures .1)
-
-mul-output-block-4 : tie.Need-mul-output-block-4 Inv-loop μ-loop
-mul-output-block-4 c = omega (arith, c .before .before .before .loop-test .taken, wide (c .before .before .before .before .before .before .before .before .before .before .before .before .before .before .before .before .before))
-
-add-output-block-4 : tie.Need-add-output-block-4 Inv-loop μ-loop
-add-output-block-4 c = let s = c .before .before .before .before .before .before .before .before .before .before .before .before .before .before .before .before .before in omega (arith, room s, s .pre .0 .planar, c .before .before .before .loop-test .taken)
+further-requires : tie.Need-further-requires Inv-loop μ-loop
+further-requires c κs =
+    let l = c .before in
+    (roomy l .small, omega (arith, c .loop-test .taken, start l .pre .inside .allowed .wide .most))
 
 output-block-requires : tie.Need-output-block-requires Inv-loop μ-loop
-unfolding rowWords
 output-block-requires c κs =
-    let t = c .before .before .before in
-    let s2 = t .before .before .before .before .before .before .before .before .before .before in
-    let s = s2 .before .before .before .before in
-    let r = s .pre .0 in
-    let n = t .before .loop .column in
-    let taken = t .loop-test .taken in
-    let work = now (s .args .work) in
+    let f = c .before .before .before in
+    let l = f .before .before in
+    let s = start l in
+    let a = s .args in
+    let r = l .before .before .row-span in
+    let column = l .loop .column in
+    let taken = f .before .loop-test .taken in
+    let e = f .further .ensures in
+    let w = l .before .before .before in
     record {
-      weighed = record {
-        upper-words = subst (λ a. Words work (a + 256 * n) 512) (sym (s2 .before .slot .ensures .0)) (words-later (256 * n) 512 (r .above) (omega arith));
-        lower-words = subst (λ a. Words work (a + 256 * n) 512) (sym (s2 .slot2 .ensures .0)) (words-later (256 * n) 512 (r .below) (omega arith));
-        lower-weights = t .before .before .before .before .before .before .before .before .weights .ensures;
-        upper-weights = t .before .before .before .before .before .before .weights2 .ensures;
-        row = omega arith;
-      };
-      divided = record { some = r .sampled .allowed .some; few = r .sampled .allowed .few; inverse-is = refl };
-      samples-room = omega (arith, room s, long s, r .planar, taken);
-      output-room = omega (arith, room s, long s, r .planar, taken, t .before .loop .inv .same);
+      weighed =
+          subst (λ p. Weighed (now (a .work)) p (w .before .before .weights .result) (w .weights2 .result)) (sym (e ∙ ap (λ p. further p column) (r .ensures .0)))
+          (block-weighed (a .shape) (a .reference) (a .«row-parity») (a .y) column (s .pre .over) (w .before .before .weights .ensures) (w .weights2 .ensures) taken);
+      divided = record { some = s .pre .inside .allowed .some; few = s .pre .inside .allowed .few; inverse-is = refl };
+      samples-room = rw e (omega (arith, roomy l .samples, s .pre .samples-long, taken));
+      output-room = rw e (omega (arith, roomy l .output, s .pre .output-long, taken, l .loop .inv .same));
     }
-
-add-column : tie.Need-add-column Inv-loop μ-loop
-add-column c = omega (arith, c .before .before .before .before .before .before .loop-test .taken, wide (c .before .before .before .before .before .before .before .before .before .before .before .before .before .before .before .before .before .before .before .before))
-
-loop-less : tie.Need-loop-less Inv-loop μ-loop
-loop-less c = omega (arith, c .before .before .before .before .before .before .loop-test .taken)
-
-same-length : tie.Need-same-length Inv-loop μ-loop
-same-length c = search needs
 
 loop-again : tie.Need-loop-again Inv-loop μ-loop
 loop-again c =
     let b = c .before .before in
-    let l = b .before .before .before .before .before in
-    block-turn _ _ _ _ _ _ _ _ (l .loop .inv) (omega arith) (b .output-block .ensures)
+    let f = b .before .before .before .before in
+    block-turn _ _ _ _ _ (f .before .before .loop .inv) (omega arith) (f .further .ensures) (b .output-block .ensures)
 
 returns : tie.Need-returns Inv-loop μ-loop
+unfolding rowSpan
 returns c =
     let l = c .before in
-    let s2 = l .before .before .before .before .before .before .before .before .before in
-    let s = s2 .before .before .before .before in
+    let s = start l in
     let a = s .args in
-    row-done (a .shape) (a .reference) (now (a .samples)) (now (a .work)) (a .plane) (a .y) (s2 .before .slot .ensures .0) (s2 .slot2 .ensures .0)
-    (l .loop .inv) (omega (arith, s .pre .0 .sampled .allowed .wide, c .loop-test .left))
+    let whole : 16 * (a .shape .width / 16) ≡ a .shape .width = omega (arith, s .pre .inside .allowed .wide) in
+    write-done (l .loop .inv) (omega (arith, c .loop-test .left))
+    ∙ ap₂ (λ p n. written (now (a .output)) (p .start) (wordFrom (now (a .samples)) (now (a .work)) p (a .shape .count)) n) (l .before .before .row-span .ensures .0) whole
 
 pub output-row-spec : {M : Type 1} → statement M
 output-row-spec = tie.close (tie.spec
-    Inv-loop μ-loop (λ c κs. search needs) (λ c. search needs) (λ c κs. search needs)
-    weights-requires (λ c. search needs) weights-requires-2 (λ c. search needs) (λ c. search needs)
-    (λ c. search needs) (λ c. search needs) mul-start add-start mul-from mul-from-2 mul-from-3 add-from add-from-2
-    (λ c. stride-start) (λ c. search needs) add-output-block mul-output-block-2 add-output-block-2
-    mul-output-block-3 add-output-block-3 mul-output-block-4 add-output-block-4 output-block-requires
-    add-column loop-less loop-again same-length returns)
+    Inv-loop μ-loop weights-requires (λ c. search needs) weights-requires-2 (λ c. search needs)
+    (λ c. search needs) (λ c κs. search needs) loop-holds further-requires output-block-requires
+    (λ c. search needs) (λ c. search needs) loop-again (λ c. search needs) returns)

@@ -3,6 +3,7 @@ use Rattle.algebra.specs.Prelude.{_≡_, _∙_, List, [], _∷_, ℕ, _^_, arit
 use mir.Facts.{toZ-pos}
 use Rattle.algebra.specs.Ring.{nth}
 use Rattle.algebra.specs.Code.{Code, par, loc, lit, add, sub, mul, shr, Bounded, fits, val-den}
+use Rattle.merging.specs.Work.{sumMost}
 use Rattle.merging.proofs.output.scaled.Statement.{statement}
 use Rattle.merging.proofs.output.scaled.Tie as tie
 
@@ -10,7 +11,7 @@ abbrev xs : tie.Start → List ℤ
 xs c = toZ w64 (c .args .t0) ∷ toZ w64 (c .args .count) ∷ c .args .sum ∷ []
 
 abbrev bs : List ℕ
-bs = 65535 ∷ 8 ∷ 2 ^ 59 ∷ []
+bs = 65535 ∷ 8 ∷ sumMost ∷ []
 
 t0-is : (c : tie.Start) → toZ w64 (c .args .t0) ≡ pos (c .args .t0)
 t0-is c = toZ-pos w64 (omega (arith, c .fits .t0))

@@ -1,14 +1,14 @@
--- A row of the plane a turn, from the two rows of tiles that are held.
+-- A row a turn, from the two rows of pairs of tiles that are held.
 use Rattle.algebra.specs.Prelude.{_-_, arith, needs}
-use Rattle.merging.proofs.Bands.{InBand, band-start, band-ready, band-turn, band-done}
+use Rattle.merging.proofs.Bands.{InBand, band-start, band-inside, band-over, band-turn, band-done}
 use Rattle.merging.proofs.planes.merge_band.Statement.{statement}
 use Rattle.merging.proofs.planes.merge_band.Tie as tie
 
 abbrev Inv-loop : tie.InvT-loop
-Inv-loop m samples vectors plane band output₀ work shape i₀ output i = InBand m samples vectors plane band work output₀ i output
+Inv-loop m samples vectors row-parity band output₀ work shape i₀ output i = InBand m samples vectors row-parity band work output₀ i output
 
 abbrev μ-loop : tie.MeasureT-loop
-μ-loop m samples vectors plane band output₀ work shape i₀ output i = 8 - i
+μ-loop m samples vectors row-parity band output₀ work shape i₀ output i = 8 - i
 
 loop-holds : tie.Need-loop-holds Inv-loop μ-loop
 loop-holds c =
@@ -21,13 +21,19 @@ output-row-requires c κs =
     let l = c .before .before .before in
     let s = l .before .before .before .before .before .before .before in
     let w = l .loop .inv in
-    (band-ready (s .pre .accepted) (s .pre .planar) (s .pre .band-below) w (omega arith), omega (arith, s .pre .output-long, w .rows .toward .same))
+    let ok = s .pre .accepted in
+    record {
+      inside = band-inside ok (s .pre .parity) (s .pre .band-below) w (omega arith);
+      over = band-over ok (s .pre .parity) (s .pre .band-below) w (omega arith);
+      samples-long = ok .burst .samples-long;
+      output-long = omega (arith, s .pre .output-long, w .rows .toward .same);
+    }
 
 loop-again : tie.Need-loop-again Inv-loop μ-loop
 loop-again c =
     let l = c .before .before .before .before .before .before in
     let s = l .before .before .before .before .before .before .before in
-    band-turn (s .pre .accepted) (s .pre .planar) (s .pre .band-below) (l .loop .inv) (omega arith) (s .pre .output-long) (c .before .before .output-row .ensures)
+    band-turn (s .pre .accepted) (s .pre .parity) (s .pre .band-below) (l .loop .inv) (omega arith) (s .pre .output-long) (c .before .before .output-row .ensures)
 
 returns : tie.Need-returns Inv-loop μ-loop
 returns c = band-done (c .before .loop .inv) (omega arith)

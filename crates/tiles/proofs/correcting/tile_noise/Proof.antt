@@ -1,14 +1,14 @@
--- V of r.
-use Rattle.algebra.specs.Prelude.{ap, _∙_, needs}
-use Rattle.recipe.specs.Tables.{side16}
-use Rattle.recipe.specs.NoiseNumber.{noiseNumber}
+-- V of r, which is at most 65520.
+use Rattle.algebra.specs.Prelude.{needs}
+use Rattle.noise.specs.NoiseNumberLaws.{noise-number-bound}
 use Rattle.tiles.proofs.correcting.tile_noise.Statement.{statement}
 use Rattle.tiles.proofs.correcting.tile_noise.Tie as tie
 
 returns : tie.Need-returns
 returns c =
-    let m = c .before .before .args .m in
-    c .noise-number .ensures .0 ∙ ap (noiseNumber side16 (m .tuning .strength) (m .shot) (m .read)) (c .before .tile-root .ensures .0)
+    let s = c .before .pre in
+    let e = c .noise-number .ensures .0 in
+    (e, rw e (noise-number-bound (s .strength-most) (s .shot-most) (s .read-most) (s .root-most)))
 
 pub tile-noise-spec : {M : Type 1} → statement M
-tile-noise-spec = tie.close (tie.spec (λ c κs. search needs) (λ c κs. search needs) returns)
+tile-noise-spec = tie.close (tie.spec (λ c κs. search needs) returns)

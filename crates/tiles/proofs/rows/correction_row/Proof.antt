@@ -1,4 +1,4 @@
--- A tile a turn, each at its place of the row.
+-- A pair a turn, each at its place of the row.
 use Rattle.algebra.specs.Prelude.{refl, _-_, arith, needs}
 use Rattle.sequences.specs.Tab.{tab}
 use Rattle.sequences.specs.Grid.{grid}
@@ -9,22 +9,22 @@ use Rattle.tiles.proofs.rows.correction_row.Statement.{statement}
 use Rattle.tiles.proofs.rows.correction_row.Tie as tie
 
 abbrev Inv-loop : tie.InvT-loop
-Inv-loop m samples vectors plane row work₀ width start column₀ column-end work column = Storing (sceneOf m samples vectors) plane row work₀ column work
+Inv-loop m samples vectors row-parity row work₀ start columns column₀ work column = Storing (sceneOf m samples vectors) row-parity row work₀ column work
 
 abbrev μ-loop : tie.MeasureT-loop
-μ-loop m samples vectors plane row work₀ width start column₀ column-end work column = column-end - column
+μ-loop m samples vectors row-parity row work₀ start columns column₀ work column = columns - column
 
 loop-holds : tie.Need-loop-holds Inv-loop μ-loop
 unfolding sceneOf
-loop-holds c = store-start (omega (arith, c .slot .ensures))
+loop-holds c = store-start (omega (arith, c .before .slot .ensures))
 
 tile-correction-requires : tie.Need-tile-correction-requires Inv-loop μ-loop
 unfolding grid tab
 tile-correction-requires c κs =
-    let s = c .before .before .before .before .before in
+    let s = c .before .before .before .before .before .before in
     record {
       accepted = s .pre .accepted;
-      sited = record { row-parity = s .pre .planar .row-parity; column-parity = s .pre .planar .column-parity; row = s .pre .row-most; column = omega arith };
+      sited = record { row-parity = s .pre .parity; row = s .pre .row-most; column = omega arith };
       cleared = refl;
     }
 
@@ -37,13 +37,13 @@ unfolding sceneOf
 store-tile-requires c κs =
     let l = c .before .before .before .before .before in
     let w = l .loop .inv .writing in
-    omega (arith, l .before .slot .ensures .0, w .room, w .same)
+    omega (arith, l .before .before .slot .ensures .0, w .room, w .same)
 
 loop-again : tie.Need-loop-again Inv-loop μ-loop
 unfolding sceneOf
 loop-again c =
     let l = c .before .before .before .before .before .before .before in
-    store-turn (l .loop .inv) (omega arith) (c .before .before .before .before .tile-correction .ensures) (rw (l .before .slot .ensures .0) at (c .before .store-tile .ensures))
+    store-turn (l .loop .inv) (omega arith) (c .before .before .before .before .tile-correction .ensures) (rw (l .before .before .slot .ensures .0) at (c .before .store-tile .ensures))
 
 returns : tie.Need-returns Inv-loop μ-loop
 unfolding sceneOf

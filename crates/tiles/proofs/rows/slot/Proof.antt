@@ -1,11 +1,12 @@
 -- A row's place is one of two.
 use Rattle.algebra.specs.Prelude.{refl, _+_, _*_, _/_, _%_, _≤_, arith, needs}
 use native.Mathlib.Nat.{mul-le-mul-right}
+use Rattle.geometry.specs.Tiles.{finestSide}
 use Rattle.tiles.specs.Rows.{rowWords, slotOf}
 use Rattle.tiles.proofs.rows.slot.Statement.{statement}
 use Rattle.tiles.proofs.rows.slot.Tie as tie
 
-half : (c : tie.Start) → c .args .row % 2 * (256 * (c .args .width / 16 + 1)) ≤ 1 * (256 * (c .args .width / 16 + 1))
+half : (c : tie.Start) → c .args .row % 2 * (512 * (c .args .width / finestSide + 1)) ≤ 1 * (512 * (c .args .width / finestSide + 1))
 half c = mul-le-mul-right _ (omega arith)
 
 returns : tie.Need-returns

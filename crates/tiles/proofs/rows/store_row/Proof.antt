@@ -5,10 +5,10 @@ use Rattle.tiles.proofs.rows.store_row.Statement.{statement}
 use Rattle.tiles.proofs.rows.store_row.Tie as tie
 
 abbrev Inv-loop : tie.InvT-loop
-Inv-loop work₀ at row j₀ work j = Writing work₀ at (λ j. getD row j (pos 0)) 16 j work
+Inv-loop work₀ at row j₀ work j = Writing work₀ at (λ j. getD row j (pos 0)) 32 j work
 
 abbrev μ-loop : tie.MeasureT-loop
-μ-loop work₀ at row j₀ work j = 16 - j
+μ-loop work₀ at row j₀ work j = 32 - j
 
 loop-again : tie.Need-loop-again Inv-loop μ-loop
 loop-again c = write-turn (c .before .before .loop .inv) (omega arith) (toZ-ofZ (record { sfits = c .work .given }))

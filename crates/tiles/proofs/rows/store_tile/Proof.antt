@@ -7,7 +7,7 @@ use Rattle.tiles.proofs.rows.store_tile.Statement.{statement}
 use Rattle.tiles.proofs.rows.store_tile.Tie as tie
 
 abbrev Inv-loop : tie.InvT-loop
-Inv-loop work₀ at tile i₀ work i = Writing work₀ at (λ k. cell (pos 0) tile (k / 16) (k % 16)) 256 (16 * i) work
+Inv-loop work₀ at tile i₀ work i = Writing work₀ at (λ k. cell (pos 0) tile (k / 32) (k % 32)) 512 (32 * i) work
 
 abbrev μ-loop : tie.MeasureT-loop
 μ-loop work₀ at tile i₀ work i = 16 - i

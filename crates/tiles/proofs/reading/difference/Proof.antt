@@ -3,11 +3,11 @@ use Rattle.algebra.specs.Prelude.{refl, _-_, arith, needs, pos, _-ℤ_}
 use Rattle.sequences.specs.Tab.{tab}
 use Rattle.sequences.specs.TabLaws.{Filled, fill-start, fill-turn, fill-done}
 use Rattle.sequences.specs.Grid.{grid, cell}
-use Rattle.tiles.proofs.correcting.difference.Statement.{statement}
-use Rattle.tiles.proofs.correcting.difference.Tie as tie
+use Rattle.tiles.proofs.reading.difference.Statement.{statement}
+use Rattle.tiles.proofs.reading.difference.Tie as tie
 
 abbrev Inv-loop : tie.InvT-loop
-Inv-loop t0 tz d₀ i₀ d i = Filled (λ i. tab 16 (λ j. pos (cell 0 t0 i j) -ℤ pos (cell 0 tz i j))) 16 i d₀ d
+Inv-loop t0 tz d₀ i₀ d i = Filled (λ i. tab 32 (λ l. pos (cell 0 t0 i l) -ℤ pos (cell 0 tz i l))) 16 i d₀ d
 
 abbrev μ-loop : tie.MeasureT-loop
 μ-loop t0 tz d₀ i₀ d i = 16 - i

@@ -2,8 +2,8 @@
 use Rattle.algebra.specs.Prelude.{_≡_, _∙_, ℕ, _≤_, arith, needs, pos, _-ℤ_, w16, SFits, toZ}
 use mir.Facts.{toZ-ofZ, toZ-pos}
 use Rattle.algebra.specs.Bound.{sub-fits}
-use Rattle.tiles.proofs.correcting.minus.Statement.{statement}
-use Rattle.tiles.proofs.correcting.minus.Tie as tie
+use Rattle.tiles.proofs.reading.minus.Statement.{statement}
+use Rattle.tiles.proofs.reading.minus.Tie as tie
 
 module _ {a b : ℕ} (h : a ≤ 4095) (k : b ≤ 4095) where
   difference : toZ w16 a -ℤ toZ w16 b ≡ pos a -ℤ pos b

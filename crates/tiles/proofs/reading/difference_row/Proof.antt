@@ -1,14 +1,14 @@
 -- A row of differences: filled from the front.
 use Rattle.algebra.specs.Prelude.{_≡_, refl, _∙_, _-_, arith, needs, getD, pos, _-ℤ_, w16, toZ, ofZ}
 use Rattle.sequences.specs.TabLaws.{Filled, fill-start, fill-turn, fill-done}
-use Rattle.tiles.proofs.correcting.difference_row.Statement.{statement}
-use Rattle.tiles.proofs.correcting.difference_row.Tie as tie
+use Rattle.tiles.proofs.reading.difference_row.Statement.{statement}
+use Rattle.tiles.proofs.reading.difference_row.Tie as tie
 
 abbrev Inv-loop : tie.InvT-loop
-Inv-loop a b row₀ j₀ row j = Filled (λ j. pos (getD a j 0) -ℤ pos (getD b j 0)) 16 j row₀ row
+Inv-loop a b row₀ j₀ row j = Filled (λ j. pos (getD a j 0) -ℤ pos (getD b j 0)) 32 j row₀ row
 
 abbrev μ-loop : tie.MeasureT-loop
-μ-loop a b row₀ j₀ row j = 16 - j
+μ-loop a b row₀ j₀ row j = 32 - j
 
 minus-requires : tie.Need-minus-requires Inv-loop μ-loop
 minus-requires c κs =
