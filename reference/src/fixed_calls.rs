@@ -26,6 +26,8 @@ pub fn calls() -> impl Iterator<Item = Call> {
         .chain(soft_frames())
         .chain(refused_vectors())
         .chain(faults_beside_black())
+        .chain(noise_numbers())
+        .chain(dark_planes())
 }
 
 /// Every count with every reference at one size. In eight rounds each of them meets every picture,
@@ -190,6 +192,59 @@ fn faults_beside_black() -> impl Iterator<Item = Call> {
             }
             call
         })
+}
+
+/// Without shot noise V is t·Lr: powers of two from 2^22 to 2^30, and the number next below and next above each, where
+/// the strength leaves one; differences of every size.
+fn noise_numbers() -> impl Iterator<Item = Call> {
+    let shape = Shape::packed(128, 64, 2);
+    let mut random = Random::new(6);
+    let powers = [4, 16, 64, 256, 1024];
+    let levels = [(1 << 20) - 1, 1 << 20, (1 << 20) + 1];
+    let pictures = [Picture::Shifted, Picture::Extremes, Picture::Noise, Picture::Flat];
+    let numbers = powers
+        .into_iter()
+        .flat_map(move |strength| levels.map(|level| (strength, level)));
+    let each = numbers.flat_map(move |number| pictures.map(|picture| (number, picture)));
+    each.map(move |((strength, level), picture)| {
+        let mut call = call(2, shape, 1, &mut random);
+        let curve = Curve {
+            shot: 0.0,
+            read: f64::from(level) / 1024.0,
+        };
+        call.burst.samples = picture.samples(shape, &mut random);
+        call.denoising = Denoising {
+            noise: Noise::Curve(curve),
+            strength,
+        };
+        call
+    })
+}
+
+/// Frames of noise with one or two of the reference's planes black: without read noise V is 0 there, and not beside them.
+fn dark_planes() -> impl Iterator<Item = Call> {
+    let shape = Shape::packed(64, 64, 3);
+    let mut random = Random::new(7);
+    (1..16).map(move |planes| {
+        let mut call = call(2, shape, 0, &mut random);
+        call.burst.samples = Picture::Noise.samples(shape, &mut random);
+        for row in 0..64 {
+            for column in 0..64 {
+                if planes >> (2 * (row % 2) + column % 2) & 1 == 1 {
+                    call.burst.samples[64 * row + column] = 0;
+                }
+            }
+        }
+        let curve = Curve {
+            shot: 0.37,
+            read: 0.0,
+        };
+        call.denoising = Denoising {
+            noise: Noise::Curve(curve),
+            strength: 8,
+        };
+        call
+    })
 }
 
 /// Flat frames of 64 by 64 with bumps in the green plane whose sharpness decides, or in others.
