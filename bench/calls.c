@@ -14,7 +14,7 @@ enum { MOST_REPEATS = 9 };
 
 static const int REPEATS[SIZES] = { 9, 5, 3 };
 
-/* The scene's own curve, and tau = 1. */
+/* The scene's own curve, and tau = 1; timed with a tau of 8 as well. */
 static const noise_levels SCENE_NOISE = { 1536, 20480, 8 };
 
 /* ---- small bursts ---- */
@@ -87,19 +87,21 @@ static double median(double *values, int length)
 /* All variants in turn, again and again. */
 static void measure_time(measurements *m, int size, int count, distance *d)
 {
-    static double times[CALLS][MOST_REPEATS][MOST_LINES];
+    static double times[TIMED][MOST_REPEATS][MOST_LINES];
     subject s = make_subject(SIZE[size], SIZE[size], COUNT[count], 0);
     s.noise = SCENE_NOISE;
     fill_scene(s.samples, SIZE[size], SIZE[size], COUNT[count]);
     for (int repeat = 0; repeat < REPEATS[size]; repeat++)
-        for (int call = 0; call < CALLS; call++)
-            run_lines(&s, call, times[call][repeat], d);
-    for (int call = 0; call < CALLS; call++)
-        for (int i = 0; i < LENGTH[call]; i++) {
+        for (int timed = 0; timed < TIMED; timed++) {
+            s.noise.strength = timed == 0 ? SCENE_NOISE.strength : STRENGTH[timed - 1];
+            run_lines(&s, call_of(timed), times[timed][repeat], d);
+        }
+    for (int timed = 0; timed < TIMED; timed++)
+        for (int i = 0; i < LENGTH[call_of(timed)]; i++) {
             double of_line[MOST_REPEATS];
             for (int repeat = 0; repeat < REPEATS[size]; repeat++)
-                of_line[repeat] = times[call][repeat][i];
-            m->ns[call][i][size][count] = median(of_line, REPEATS[size]) / ((double)pixels(&s.burst) * (COUNT[count] - 1));
+                of_line[repeat] = times[timed][repeat][i];
+            m->ns[timed][i][size][count] = median(of_line, REPEATS[size]) / ((double)pixels(&s.burst) * (COUNT[count] - 1));
         }
     free_subject(&s);
 }
