@@ -92,7 +92,7 @@ static unsigned header_refusal(const uint32_t v[7])
 {
     if (!size_allowed(v[0]) || !size_allowed(v[1]))
         return 1;
-    if (v[2] < 2 || v[2] > 8)
+    if (v[2] < 1 || v[2] > 8)
         return 2;
     if (v[3] >= v[2])
         return 3;
