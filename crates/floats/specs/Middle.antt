@@ -31,8 +31,8 @@ pub record NearestTo (x : Float) (z : ℤ) : Type 0 where
   pub small : count < 2 ^ 51
   pub value : cond sign (negℤ (pos count)) (pos count) ≡ z
 
-pub quotient-small : (n D : ℕ) → 0 < D → n < 2 ^ 50 → (2 * n + D) / (2 * D) < 2 ^ 51
-quotient-small n D h k = div-lt-iff-lt-mul {k = 2 * D} {x = 2 * n + D} {y = 2 ^ 51} (omega arith) .1 (omega arith)
+pub quotient-small : (n D : ℕ) → n < 2 ^ 50 * D → (2 * n + D) / (2 * D) < 2 ^ 51
+quotient-small n D h = div-lt-iff-lt-mul {k = 2 * D} {x = 2 * n + D} {y = 2 ^ 51} (omega arith) .1 (omega arith)
 
 pub nearest-nothing : {x : Float} → Whole x false 0 → NearestTo x (pos 0)
 nearest-nothing w =

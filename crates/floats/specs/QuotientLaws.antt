@@ -1,5 +1,5 @@
--- A quotient V·q/D to nearest, halves away from zero, by one division in double and one product, where V·|q| is at most 2^48: with W = V·(1 + 2^−50), rounded,
--- x = q·(W/D) lies above V·q/D, by less than one part in 2^49, so that a half moves away from zero and what is below a half, by 1/(2·D) at least, stays below.
+-- A quotient V·q/D to nearest, halves away from zero, by one division in double and one product, where V·|q| is at most 2^49: with W = V·(1 + 2^−51), rounded,
+-- x = q·(W/D) lies above V·q/D, by less than one part in 2^50, so that a half moves away from zero and what is below a half, by 1/(2·D) at least, stays below.
 use Rattle.algebra.specs.Prelude.{_≡_, refl, sym, ap, subst, _∙_, Bool, false, cond, ℕ, zero, suc, _+_, _*_, _/_, _^_, _≤_, _<_, arith, lit<, lit≤, ℤ, pos, negsuc, natAbs, negℤ, _*ℤ_}
 use native.Mathlib.Nat.{mul-pos, mul-one, one-mul, mul-le-mul-left, mul-le-mul-right, mul-lt-mul-of-pos-right, lt-of-lt-of-le, lt-of-mul-lt-mul-left, div-eq-of-lt}
 use lib.Ieee.{Float, fin, binary64, round, add, sub, mul, div, ofInt, unlike}
@@ -12,21 +12,25 @@ use Rattle.floats.specs.NearestWhole.{Closer, upward-closer, half-above}
 use Rattle.floats.specs.Middle.{middle, NearestTo, quotient-small, nearest-nothing, nearest-again}
 use Rattle.floats.specs.Ranges.{Between, whole-between, wider, product-between, quotient-between, rounded-between, Times, part-over, part-under, times-product, times-quotient, times-times}
 
--- 1 + 2^−50
-unfoldable pub slightlyMore : Float
-slightlyMore = fin false (2 ^ 50 + 1) (negsuc 49)
+-- V·|q| up to which the quotient is right
+abbrev productMost : ℕ
+productMost = 2 ^ 49
 
-slightly-more-is : Is slightlyMore false (2 ^ 50 + 1) (2 ^ 50)
+-- 1 + 2^−51
+unfoldable pub slightlyMore : Float
+slightlyMore = fin false (2 ^ 51 + 1) (negsuc 50)
+
+slightly-more-is : Is slightlyMore false (2 ^ 51 + 1) (2 ^ 51)
 unfolding slightlyMore
-slightly-more-is = record { digits = 2 ^ 50 + 1; exponent = negsuc 49; is = refl; value = refl }
+slightly-more-is = record { digits = 2 ^ 51 + 1; exponent = negsuc 50; is = refl; value = refl }
 
 -- ---- in fractions
 
--- x/e is above N/D by more than nothing and less than one part in 2^49: closer than a half to the whole number that N/D rounds to
-closer : (N D x e : ℕ) → 0 < D → 0 < e → N ≤ 2 ^ 48 → N * e < x * D → 2 ^ 49 * (x * D) < (2 ^ 49 + 1) * (N * e) → Closer ((2 * N + D) / (2 * D)) x e
+-- x/e is above N/D by more than nothing and less than one part in 2^50: closer than a half to the whole number that N/D rounds to
+closer : (N D x e : ℕ) → 0 < D → 0 < e → N ≤ productMost → N * e < x * D → 2 ^ 50 * (x * D) < (2 ^ 50 + 1) * (N * e) → Closer ((2 * N + D) / (2 * D)) x e
 closer N D x e h E most above below =
     let upper : 2 * N + 1 ≤ (2 * N + D) / (2 * D) * (2 * D) + D = omega (arith, half-above N D h) in
-    upward-closer N D x e h above (lt-of-mul-lt-mul-left (2 ^ 49) (omega (arith, mul-le-mul-right e upper, mul-le-mul-right e most, below)))
+    upward-closer N D x e h above (lt-of-mul-lt-mul-left (2 ^ 50) (omega (arith, mul-le-mul-right e upper, mul-le-mul-right e most, below)))
 
 -- factors that are literals
 pub above-it : (A B n x : ℕ) → B < A → 0 < n → A * n ≤ B * x → n < x
@@ -43,12 +47,12 @@ double s {j} {a} {c} C h r = let w = wider h r in rounded binary64 s a c C (w .l
 
 module _ {v d : ℕ} {y z : Float} (p : Whole y false v) (r : Whole z false d) (v-above : 0 < v) (v-most : v ≤ 2 ^ 53) (d-above : 0 < d) (d-most : d ≤ 2 ^ 53) where
   -- W, and W/D
-  weight-between : Between (53 + 1) (v * (2 ^ 50 + 1)) (2 ^ 50)
+  weight-between : Between (53 + 1) (v * (2 ^ 51 + 1)) (2 ^ 51)
   weight-between =
-      let more : Between 1 (2 ^ 50 + 1) (2 ^ 50) = record { low = lit≤ tt; high = lit≤ tt } in
+      let more : Between 1 (2 ^ 51 + 1) (2 ^ 51) = record { low = lit≤ tt; high = lit≤ tt } in
       product-between (whole-between 53 v v-above v-most) more
 
-  weight : Rounded binary64 (mul binary64 y slightlyMore) false (v * (2 ^ 50 + 1)) (2 ^ 50)
+  weight : Rounded binary64 (mul binary64 y slightlyMore) false (v * (2 ^ 51 + 1)) (2 ^ 51)
   weight = rw (product-rounded binary64 p (lit< tt) slightly-more-is (lit< tt)) (double false (lit< tt) (lit≤ tt) weight-between)
 
   ratio-between : Between (53 + 1 + 1 + 53) (weight .num) (weight .den * d)
@@ -72,25 +76,25 @@ module _ {v d : ℕ} {y z : Float} (p : Whole y false v) (r : Whole z false d) (
         rw (product-rounded binary64 u (lit< tt) (ratio .is) (ratio .above) ∙ ap (round binary64 (unlike s false) (q * ratio .num)) (one-mul (ratio .den)))
         (double (unlike s false) (ratio .above) (lit≤ tt) part-between)
 
-    -- the three together: at most 5 parts in 2^53 too much, and 7 too little
-    over : Times (2 ^ 53) (2 ^ 53 + 5) (q * (v * (2 ^ 50 + 1))) (2 ^ 50 * d) (part .num) (part .den)
+    -- the three together: at most 7 parts in 2^54 too much, or too little
+    over : Times (2 ^ 54) (2 ^ 54 + 7) (q * (v * (2 ^ 51 + 1))) (2 ^ 51 * d) (part .num) (part .den)
     over =
         let w = times-quotient (part-over (weight .near)) d in
-        let c : Times (2 ^ 53) (2 ^ 53 + 3) (v * (2 ^ 50 + 1)) (2 ^ 50 * d) (ratio .num) (ratio .den) = times-times w (part-over (ratio .near)) (mul-pos (weight .above) d-above) (lit< tt) (lit≤ tt) in
+        let c : Times (2 ^ 55) (2 ^ 55 + 9) (v * (2 ^ 51 + 1)) (2 ^ 51 * d) (ratio .num) (ratio .den) = times-times w (part-over (ratio .near)) (mul-pos (weight .above) d-above) (lit< tt) (lit≤ tt) in
         times-times (times-product c q) (part-over (part .near)) (ratio .above) (lit< tt) (lit≤ tt)
 
-    under : Times (2 ^ 53) (2 ^ 53 + 7) (part .num) (part .den) (q * (v * (2 ^ 50 + 1))) (2 ^ 50 * d)
+    under : Times (2 ^ 54) (2 ^ 54 + 7) (part .num) (part .den) (q * (v * (2 ^ 51 + 1))) (2 ^ 51 * d)
     under =
         let w = times-product (times-quotient (part-under (weight .near)) d) q in
-        let c : Times (2 ^ 54) (2 ^ 54 + 9) (part .num) (part .den) (q * weight .num) (weight .den * d) = times-times (part-under (part .near)) (times-product (part-under (ratio .near)) q) (ratio .above) (lit< tt) (lit≤ tt) in
+        let c : Times (2 ^ 55) (2 ^ 55 + 9) (part .num) (part .den) (q * weight .num) (weight .den * d) = times-times (part-under (part .near)) (times-product (part-under (ratio .near)) q) (ratio .above) (lit< tt) (lit≤ tt) in
         times-times c w (mul-pos (weight .above) d-above) (lit< tt) (lit≤ tt)
 
-    part-closer : v * q ≤ 2 ^ 48 → Closer ((2 * (v * q) + d) / (2 * d)) (part .num) (part .den)
+    part-closer : v * q ≤ productMost → Closer ((2 * (v * q) + d) / (2 * d)) (part .num) (part .den)
     part-closer h =
         let n : 0 < v * q * part .den = mul-pos (mul-pos v-above q-above) (part .above) in
         closer (v * q) d (part .num) (part .den) d-above (part .above) h
-        (above-it (2 ^ 53 * (2 ^ 50 + 1)) ((2 ^ 53 + 7) * 2 ^ 50) _ _ (lit< tt) n (lower (2 ^ 53) (2 ^ 53 + 7) (2 ^ 50 + 1) (2 ^ 50) (part .num) (part .den) (under .most)))
-        (below-it (2 ^ 53 * 2 ^ 50) ((2 ^ 53 + 5) * (2 ^ 50 + 1)) _ _ _ _ (lit< tt) n (upper (2 ^ 53) (2 ^ 53 + 5) (2 ^ 50 + 1) (2 ^ 50) (part .num) (part .den) (over .most)))
+        (above-it (2 ^ 54 * (2 ^ 51 + 1)) ((2 ^ 54 + 7) * 2 ^ 51) _ _ (lit< tt) n (lower (2 ^ 54) (2 ^ 54 + 7) (2 ^ 51 + 1) (2 ^ 51) (part .num) (part .den) (under .most)))
+        (below-it (2 ^ 54 * 2 ^ 51) ((2 ^ 54 + 7) * (2 ^ 51 + 1)) _ _ _ _ (lit< tt) n (upper (2 ^ 54) (2 ^ 54 + 7) (2 ^ 51 + 1) (2 ^ 51) (part .num) (part .den) (over .most)))
       where
         lower : (A B m n x e : ℕ) → A * (q * (v * m) * e) ≤ B * (x * (n * d)) → A * m * (v * q * e) ≤ B * n * (x * d)
         lower A B m n x e h = omega (arith, h)
@@ -98,7 +102,7 @@ module _ {v d : ℕ} {y z : Float} (p : Whole y false v) (r : Whole z false d) (
         upper : (A B m n x e : ℕ) → A * (x * (n * d)) ≤ B * (q * (v * m) * e) → A * n * (x * d) ≤ B * m * (v * q * e)
         upper A B m n x e h = omega (arith, h)
 
-    part-nearest : v * q ≤ 2 ^ 48 → NearestTo (mul binary64 t (div binary64 (mul binary64 y slightlyMore) z)) (cond (unlike s false) (negℤ (pos ((2 * (v * q) + d) / (2 * d)))) (pos ((2 * (v * q) + d) / (2 * d))))
+    part-nearest : v * q ≤ productMost → NearestTo (mul binary64 t (div binary64 (mul binary64 y slightlyMore) z)) (cond (unlike s false) (negℤ (pos ((2 * (v * q) + d) / (2 * d)))) (pos ((2 * (v * q) + d) / (2 * d))))
     part-nearest h =
         record {
           sign = unlike s false;
@@ -108,12 +112,12 @@ module _ {v d : ℕ} {y z : Float} (p : Whole y false v) (r : Whole z false d) (
           above = part .above;
           is = part .is;
           close = part-closer h;
-          small = quotient-small (v * q) d d-above (omega arith);
+          small = quotient-small (v * q) d (omega arith);
           value = refl;
         }
 
   -- halves away from zero, with q's sign; a q of 0 gives 0
-  quotient-nearest : (q : ℤ) → natAbs q ≤ 2 ^ 53 → v * natAbs q ≤ 2 ^ 48 → NearestTo (mul binary64 (ofInt binary64 q) (div binary64 (mul binary64 y slightlyMore) z)) (away (pos v *ℤ q) d)
+  quotient-nearest : (q : ℤ) → natAbs q ≤ 2 ^ 53 → v * natAbs q ≤ productMost → NearestTo (mul binary64 (ofInt binary64 q) (div binary64 (mul binary64 y slightlyMore) z)) (away (pos v *ℤ q) d)
   unfolding away
   quotient-nearest (pos zero) m h =
       let e : pos 0 ≡ away (pos (v * 0)) d = ap pos (sym (div-eq-of-lt {n = 2 * (v * 0) + d} {m = 2 * d} (omega arith))) in
@@ -125,6 +129,6 @@ module _ {v d : ℕ} {y z : Float} (p : Whole y false v) (r : Whole z false d) (
       (part-nearest (whole-of binary64 (negsuc n) m) (omega arith) m h)
 
   -- the same as a float
-  pub quotient-again : (q : ℤ) → natAbs q ≤ 2 ^ 53 → v * natAbs q ≤ 2 ^ 48
+  pub quotient-again : (q : ℤ) → natAbs q ≤ 2 ^ 53 → v * natAbs q ≤ productMost
       → sub binary64 (add binary64 (mul binary64 (ofInt binary64 q) (div binary64 (mul binary64 y slightlyMore) z)) middle) middle ≡ ofInt binary64 (away (pos v *ℤ q) d)
   quotient-again q m h = nearest-again (quotient-nearest q m h)

@@ -1,5 +1,5 @@
 -- Fractions between 2^−j and 2^j, and fractions that differ by a factor: how both carry over products, quotients and roundings.
-use Rattle.algebra.specs.Prelude.{ap, ℕ, zero, suc, _+_, _*_, _^_, _≤_, _<_, arith}
+use Rattle.algebra.specs.Prelude.{ap, ℕ, zero, suc, _+_, _-_, _*_, _^_, _≤_, _<_, arith}
 use native.Mathlib.Nat.{le-trans, mul-le-mul, mul-le-mul-left, mul-le-mul-right, le-of-mul-le-mul-left, le-of-mul-le-mul-right}
 use lib.Pow.{pow-add, pow-pos, pow-mono}
 use Rattle.floats.specs.RelativeError.{OnePart}
@@ -57,7 +57,7 @@ pub record Times (A B a c b d : ℕ) : Type 0 where
 pub part-over : {a c b d : ℕ} → OnePart 53 a c b d → Times (2 ^ 53) (2 ^ 53 + 1) a c b d
 part-over n = record { most = omega (arith, n .over) }
 
-pub part-under : {a c b d : ℕ} → OnePart 53 a c b d → Times (2 ^ 52) (2 ^ 52 + 1) b d a c
+pub part-under : {a c b d : ℕ} → OnePart 53 a c b d → Times (2 ^ 53 - 1) (2 ^ 53) b d a c
 part-under n = record { most = omega (arith, n .under) }
 
 module _ {A B a c b d : ℕ} (t : Times A B a c b d) where

@@ -12,9 +12,9 @@ use Rattle.sequences.specs.TabLaws.{getD-tab}
 use Rattle.sequences.specs.Grid.{tab-ext}
 use Rattle.recipe.specs.Tables.{side16}
 use Rattle.recipe.specs.TableLaws.{rules16}
-use Rattle.lines.specs.Halfcomplex.{frequencyOf, phaseOf, basisOf, halfcomplexOf, basis, frequency, phase, halfcomplex}
+use Rattle.lines.specs.Halfcomplex.{basis, halfcomplex}
 use Rattle.lines.specs.Fold.{sumOf, differenceOf, foldedOf, sumAt, differenceAt, folded}
-use Rattle.lines.specs.SideFolds as sides
+use Rattle.lines.specs.SideFolds.{even-folded, odd-folded}
 use Rattle.lines.specs.Lines.{LineMost}
 use Rattle.lines.proofs.Tiles.{line-most}
 use Rattle.lines.proofs.Held.{held-is, held-most, held, eight, held-tab}
@@ -50,39 +50,29 @@ module _ (w : Width) {b : ℕ} {x : List ℤ} (m : LineMost b x) (t : T (ltb (b 
   sum-fits = add-fits w near far b b near-most far-most t
 
   pub sum-is : toZ w (ofZ w (near +ℤ far)) ≡ sumAt (of x) i
-  unfolding sumAt
+  unfolding sumOf side16
   sum-is = toZ-ofZ sum-fits ∙ ap₂ _+ℤ_ near-is far-is
 
   pub difference-fits : SFits w (near -ℤ far)
   difference-fits = sub-fits w near far b b near-most far-most t
 
   pub difference-is : toZ w (ofZ w (near -ℤ far)) ≡ differenceAt (of x) i
-  unfolding differenceAt
+  unfolding differenceOf side16
   difference-is = toZ-ofZ difference-fits ∙ ap₂ _-ℤ_ near-is far-is
 
 module _ {b : ℕ} {x : List ℤ} (m : LineMost b x) where
   pub sums-most : {s : List ℤ} → s ≡ tab 8 (sumAt (of x)) → LineMost (b + b) s
-  unfolding sumAt
+  unfolding sumOf side16
   sums-most e =
       rw e (line-most (b + b) (sumAt (of x)) (λ n. le-trans (abs-add (of x n) (of x (n + 8))) (add-le-add (m .at n) (m .at (n + 8)))) 8)
 
   pub differences-most : {s : List ℤ} → s ≡ tab 8 (differenceAt (of x)) → LineMost (b + b) s
-  unfolding differenceAt
+  unfolding differenceOf side16
   differences-most e =
       rw e (line-most (b + b) (differenceAt (of x)) (λ n. le-trans (abs-sub (of x n) (of x (n + 8))) (add-le-add (m .at n) (m .at (n + 8)))) 8)
 
--- each place of the transform is that of the folded line, by the rules of side 16
-module _ (x : ℕ → ℤ) (i : ℕ) where
-  pub even-folded : folded (sumAt x) (2 * i) ≡ halfcomplex x (2 * i)
-  unfolding folded sumAt halfcomplex basis frequency phase foldedOf sumOf halfcomplexOf basisOf frequencyOf phaseOf side16
-  even-folded = sides.even-folded rules16 x i
-
-  pub odd-folded : folded (differenceAt x) (2 * i + 1) ≡ halfcomplex x (2 * i + 1)
-  unfolding folded differenceAt halfcomplex basis frequency phase foldedOf differenceOf halfcomplexOf basisOf frequencyOf phaseOf side16
-  odd-folded = sides.odd-folded rules16 x i
-
 pub folded-ext : (f g : ℕ → ℤ) → ((n : ℕ) → n < 8 → f n ≡ g n) → (k : ℕ) → folded f k ≡ folded g k
-unfolding folded
+unfolding foldedOf side16
 folded-ext f g h k = sumZ-cong 8 (λ n. f n *ℤ basis k n) (λ n. g n *ℤ basis k n) (λ n l. ap (λ z. z *ℤ basis k n) (h n l))
 
 -- the places, from eight sums or differences as the code holds them
@@ -93,10 +83,10 @@ module _ (w : Width) {b : ℕ} {x : List ℤ} (m : LineMost b x) (t : T (ltb (b 
       (λ i l. folded-ext (of (held w s eight)) f (λ n j. ap (λ z. of z n) (held-tab w f k t e) ∙ getD-tab f (pos 0) 8 n j) (g i) ∙ h i l)
 
   pub even-held : s ≡ tab 8 (sumAt (of x)) → tab 8 (λ i. folded (of (held w s eight)) (2 * i)) ≡ tab 8 (λ i. halfcomplex (of x) (2 * i))
-  even-held e = places-are (sums-most m e) (sumAt (of x)) (λ i. 2 * i) e (λ i l. even-folded (of x) i)
+  even-held e = places-are (sums-most m e) (sumAt (of x)) (λ i. 2 * i) e (λ i l. even-folded rules16 (of x) i)
 
   pub odd-held : s ≡ tab 8 (differenceAt (of x)) → tab 8 (λ i. folded (of (held w s eight)) (2 * i + 1)) ≡ tab 8 (λ i. halfcomplex (of x) (2 * i + 1))
-  odd-held e = places-are (differences-most m e) (differenceAt (of x)) (λ i. 2 * i + 1) e (λ i l. odd-folded (of x) i)
+  odd-held e = places-are (differences-most m e) (differenceAt (of x)) (λ i. 2 * i + 1) e (λ i l. odd-folded rules16 (of x) i)
 
 -- place k, from the even places e and the odd ones o
 abbrev pub placed : (e o : List ℤ) → ℕ → ℤ

@@ -1,9 +1,9 @@
 -- Numbers as the code holds them.
 use Rattle.algebra.specs.Prelude.{_≡_, refl, sym, ap, ap₂, subst, _∙_, List, [], _∷_, T, ltb, getD, ℤ, pos, natAbs, toZ-ofZ}
 use Prim.Native.Nat.{ℕ, zero, suc, _^_, _≤_, zero-le}
-use mir.Syntax.{Width, w32, w64}
+use mir.Syntax.{Width}
 use mir.Val.{SFits, toZ, ofZ, hbits}
-use Rattle.algebra.specs.Bound.{AtMost, most-fits, widen-fits}
+use Rattle.algebra.specs.Bound.{AtMost, most-fits}
 use Rattle.algebra.specs.Code.{Bounded}
 use Rattle.sequences.specs.Tab.{tab}
 use Rattle.lines.specs.Lines.{LineMost}
@@ -15,10 +15,6 @@ number-is w {b} {z} m t = toZ-ofZ (most-fits w z b m t)
 pub number-most : (w : Width) {b : ℕ} {z : ℤ} → AtMost b z → T (ltb b (2 ^ hbits w)) → AtMost b (toZ w (ofZ w z))
 number-most w {b} m t = subst (AtMost b) (sym (number-is w m t)) m
 
--- a number of 32 bits in 64
-pub widened-is : {z : ℤ} → SFits w32 z → toZ w64 (ofZ w64 (toZ w32 (ofZ w32 z))) ≡ z
-widened-is {z} h = ap (λ z. toZ w64 (ofZ w64 z)) (toZ-ofZ h) ∙ toZ-ofZ (widen-fits z h)
-
 -- a number of at most b from width w in width w'
 module _ (w w' : Width) {b : ℕ} {z : ℤ} (m : AtMost b z) (t : T (ltb b (2 ^ hbits w))) (t' : T (ltb b (2 ^ hbits w'))) where
   pub cast-fits : SFits w' (toZ w (ofZ w z))
@@ -26,9 +22,6 @@ module _ (w w' : Width) {b : ℕ} {z : ℤ} (m : AtMost b z) (t : T (ltb b (2 ^ 
 
   pub cast-is : toZ w' (ofZ w' (toZ w (ofZ w z))) ≡ z
   cast-is = number-is w' (number-most w m t) t' ∙ number-is w m t
-
-  pub cast-most : AtMost b (toZ w' (ofZ w' (toZ w (ofZ w z))))
-  cast-most = number-most w' (number-most w m t) t'
 
 -- number j of a line
 pub line-at : {b : ℕ} {x : List ℤ} → LineMost b x → (j : ℕ) → AtMost b (getD x j (pos 0))
@@ -51,7 +44,7 @@ held w z [] = []
 held w z (k ∷ ks) = toZ w (ofZ w (getD z k (pos 0))) ∷ held w z ks
 
 module _ (w : Width) {b : ℕ} {z : List ℤ} (m : LineMost b z) (t : T (ltb b (2 ^ hbits w))) where
-  pub all-held : (ks : List ℕ) → held w z ks ≡ picked z ks
+  all-held : (ks : List ℕ) → held w z ks ≡ picked z ks
   all-held [] = refl
   all-held (k ∷ ks) = ap₂ _∷_ (held-is w m k t) (all-held ks)
 

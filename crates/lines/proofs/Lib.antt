@@ -1,10 +1,7 @@
 pub mod Tiles
 pub mod Held
 pub mod Steps
-pub mod BackwardEven
-pub mod BackwardOdd
 pub mod Folding
-pub mod Unfolding
 pub mod DoubleForms
 pub mod PairFolding
 pub mod PairStores

@@ -3,13 +3,16 @@ use Rattle.algebra.specs.Prelude.{_≡_, ap, ap₂, _∙_, List, ℕ, _+_, _*_,
 use lib.Ieee.{Float, binary64, ofInt, add, sub}
 use Rattle.algebra.specs.Order.{abs-add, abs-sub}
 use Rattle.sequences.specs.Grid.{tab-ext}
+use Rattle.recipe.specs.Tables.{side16}
+use Rattle.recipe.specs.TableLaws.{rules16}
 use Rattle.lines.specs.Halfcomplex.{halfcomplex}
-use Rattle.lines.specs.Fold.{sumAt, differenceAt, folded}
+use Rattle.lines.specs.Fold.{sumOf, differenceOf, sumAt, differenceAt, folded}
 use Rattle.lines.specs.Lines.{LineMost}
 use Rattle.lines.specs.Doubles.{doubleLine}
 use Rattle.lines.specs.Magnitudes.{pairLineMost, pairSumMost}
 use Rattle.lines.proofs.Held.{held-is}
-use Rattle.lines.proofs.Folding.{of, even-folded, odd-folded, folded-ext}
+use Rattle.lines.specs.SideFolds.{even-folded, odd-folded}
+use Rattle.lines.proofs.Folding.{of, folded-ext}
 use Rattle.lines.proofs.DoubleForms.{sum-exact, difference-exact}
 
 -- the sum and the difference of two numbers half a line apart
@@ -49,13 +52,13 @@ module _ (x : List ℤ) (p : ℕ) where
   far n = ap (of x) (omega arith)
 
   pub even-line : doubleLine 8 (λ i. folded (λ n. sumsOf x (2 * n + p)) (2 * i)) ≡ doubleLine 8 (λ i. halfcomplex (lineOf x p) (2 * i))
-  unfolding sumAt
+  unfolding sumOf side16
   even-line =
       tab-ext 8 _ _
-      (λ i l. ap (ofInt binary64) (folded-ext (λ n. sumsOf x (2 * n + p)) (sumAt (lineOf x p)) (λ n j. ap (λ z. lineOf x p n +ℤ z) (far n)) (2 * i) ∙ even-folded (lineOf x p) i))
+      (λ i l. ap (ofInt binary64) (folded-ext (λ n. sumsOf x (2 * n + p)) (sumAt (lineOf x p)) (λ n j. ap (λ z. lineOf x p n +ℤ z) (far n)) (2 * i) ∙ even-folded rules16 (lineOf x p) i))
 
   pub odd-line : doubleLine 8 (λ i. folded (λ n. differencesOf x (2 * n + p)) (2 * i + 1)) ≡ doubleLine 8 (λ i. halfcomplex (lineOf x p) (2 * i + 1))
-  unfolding differenceAt
+  unfolding differenceOf side16
   odd-line =
       tab-ext 8 _ _
-      (λ i l. ap (ofInt binary64) (folded-ext (λ n. differencesOf x (2 * n + p)) (differenceAt (lineOf x p)) (λ n j. ap (λ z. lineOf x p n -ℤ z) (far n)) (2 * i + 1) ∙ odd-folded (lineOf x p) i))
+      (λ i l. ap (ofInt binary64) (folded-ext (λ n. differencesOf x (2 * n + p)) (differenceAt (lineOf x p)) (λ n j. ap (λ z. lineOf x p n -ℤ z) (far n)) (2 * i + 1) ∙ odd-folded rules16 (lineOf x p) i))

@@ -3,7 +3,8 @@
 use Rattle.algebra.specs.Prelude.{ℕ, _+_, _*_, ℤ, _+ℤ_, _-ℤ_, _*ℤ_}
 use Rattle.algebra.specs.Sums.{sumZ}
 use Rattle.recipe.specs.Side.{Side}
-use Rattle.lines.specs.Halfcomplex.{basisOf, basis, halfBasis}
+use Rattle.recipe.specs.Tables.{side16}
+use Rattle.lines.specs.Halfcomplex.{basisOf, halfBasisOf}
 
 -- ---- a line of any side
 
@@ -19,26 +20,33 @@ module _ (s : Side) where
   unfoldable pub foldedOf : (ℕ → ℤ) → ℕ → ℤ
   foldedOf z k = sumZ (s .half) (λ n. z n *ℤ basisOf s k n)
 
+  -- number n of the transposed sum over the even places z, and over the odd ones
+  unfoldable pub evenSumOf : (ℕ → ℤ) → ℕ → ℤ
+  evenSumOf z n = sumZ (s .half) (λ k. z k *ℤ basisOf s (2 * k) n)
+
+  unfoldable pub oddSumOf : (ℕ → ℤ) → ℕ → ℤ
+  oddSumOf z n = sumZ (s .half) (λ k. z k *ℤ basisOf s (2 * k + 1) n)
+
+  -- the same over the even places for half of the sum; the odd places' sum is the same for it
+  unfoldable pub evenHalfOf : (ℕ → ℤ) → ℕ → ℤ
+  evenHalfOf z n = sumZ (s .half) (λ k. z k *ℤ halfBasisOf s (2 * k) n)
+
 -- ---- a line of sixteen
 
--- number n of the fold for the even places, and for the odd ones
-unfoldable pub sumAt : (ℕ → ℤ) → ℕ → ℤ
-sumAt x n = x n +ℤ x (n + 8)
+abbrev pub sumAt : (ℕ → ℤ) → ℕ → ℤ
+sumAt = sumOf side16
 
-unfoldable pub differenceAt : (ℕ → ℤ) → ℕ → ℤ
-differenceAt x n = x n -ℤ x (n + 8)
+abbrev pub differenceAt : (ℕ → ℤ) → ℕ → ℤ
+differenceAt = differenceOf side16
 
--- place k of the transform, of a folded line
-unfoldable pub folded : (ℕ → ℤ) → ℕ → ℤ
-folded s k = sumZ 8 (λ n. s n *ℤ basis k n)
+abbrev pub folded : (ℕ → ℤ) → ℕ → ℤ
+folded = foldedOf side16
 
--- number n of the transposed sum over the even places z, and over the odd ones
 abbrev pub evenSum : (ℕ → ℤ) → ℕ → ℤ
-evenSum z n = sumZ 8 (λ k. z k *ℤ basis (2 * k) n)
+evenSum = evenSumOf side16
 
 abbrev pub oddSum : (ℕ → ℤ) → ℕ → ℤ
-oddSum z n = sumZ 8 (λ k. z k *ℤ basis (2 * k + 1) n)
+oddSum = oddSumOf side16
 
--- the same over the even places for half of the sum
 abbrev pub evenHalf : (ℕ → ℤ) → ℕ → ℤ
-evenHalf z n = sumZ 8 (λ k. z k *ℤ halfBasis (2 * k) n)
+evenHalf = evenHalfOf side16

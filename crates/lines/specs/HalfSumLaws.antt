@@ -1,57 +1,110 @@
--- Half of the sum back: twice it is the sum in which all places but 0 and 8 count twice; and its bound.
-use Rattle.algebra.specs.Prelude.{_≡_, refl, sym, ap, _∙_, Bool, true, false, cond, [], _∷_, ℕ, _+_, _*_, _%_, _^_, _≤_, _<_, eqb, lit≤, ℤ, pos, natAbs, negℤ, _*ℤ_}
-use native.Mathlib.Nat.{le-trans}
-use Rattle.algebra.specs.Order.{abs-mul-le}
-use Rattle.algebra.specs.Ring.{var, #_, _⊠_, ring}
+-- Half of the sum back: twice it is the sum in which all places but 0 and n/2 count twice; and its bound.
+use Rattle.algebra.specs.Prelude.{_≡_, refl, sym, ap, subst, _∙_, Bool, true, false, cond, [], _∷_, ℕ, zero, suc, _+_, _-_, _*_, _/_, _%_, _≤_, _<_, arith, eqb, lit≤, ℤ, pos, negsuc, natAbs, negℤ, _*ℤ_}
+use native.Mathlib.Nat.{le-trans, zero-mul, suc-mul, mul-zero, mul-suc, mul-assoc, mul-comm, div-add-mod}
+use borrow.Author.Tests.{eqb-true, lt-ltb}
+use lib.IntN.{negℤ-negℤ}
+use Rattle.algebra.specs.Order.{abs-neg, abs-mul-le}
+use Rattle.algebra.specs.Ring.{var, #_, _⊠_, ⊖_, ring}
 use Rattle.algebra.specs.Sums.{sumN}
 use Rattle.algebra.specs.SumLaws.{sumZ-cong, sumZ-scale, sumN-mono, abs-sum}
-use Rattle.recipe.specs.Side.{cosAt}
+use Rattle.recipe.specs.Side.{Side, cosAt}
 use Rattle.recipe.specs.Tables.{cosines, cosine16, side16}
-use Rattle.recipe.specs.TableLaws.{agree-both, cosine-most}
-use Rattle.lines.specs.Halfcomplex.{frequency, phase, basis, backward, halfBasis, halfSum}
+use Rattle.recipe.specs.TableRules.{Rules}
+use Rattle.recipe.specs.TableLaws.{rules16}
+use Rattle.lines.specs.Halfcomplex.{halfZ, frequencyOf, phaseOf, basisOf, backwardOf, halfBasisOf, halfSumOf, backward, halfSum}
 use Rattle.lines.specs.Magnitudes.{pairColumnMost, pairHalfMost}
 
 -- ---- twice the half
 
-twice : (k n : ℕ) → k < 16 → n < 16 → cond (eqb (k % 8) 0) (basis k n) (pos 2 *ℤ basis k n) ≡ pos 2 *ℤ halfBasis k n
-unfolding halfBasis basis frequency phase cosAt side16 cosine16 cosines
-twice = agree-both 16 16 (λ k n. cond (eqb (k % 8) 0) (basis k n) (pos 2 *ℤ basis k n)) (λ k n. pos 2 *ℤ halfBasis k n) tt
+abbrev Even : ℤ → Type 0
+Even z = pos 2 *ℤ halfZ z ≡ z
+
+half-negative : (z : ℤ) → halfZ (negℤ z) ≡ negℤ (halfZ z)
+unfolding halfZ
+half-negative (pos zero) = refl
+half-negative (pos (suc a)) = refl
+half-negative (negsuc a) = sym (negℤ-negℤ (pos (suc a / 2)))
+
+even-negative : (z : ℤ) → Even z → Even (negℤ z)
+even-negative z e = ap (λ h. pos 2 *ℤ h) (half-negative z) ∙ ring (halfZ z ∷ []) (# 2 ⊠ ⊖ var 0) (⊖ (# 2 ⊠ var 0)) tt ∙ ap negℤ e
+
+-- a whole number of halves below two of them is at most one
+one-half : (h m k : ℕ) → k ≡ h * m → k < 2 * h → k < h + 1
+one-half h zero k e l = omega (arith, e, mul-zero h)
+one-half h (suc zero) k e l = omega (arith, e, mul-suc h 0, mul-zero h)
+one-half h (suc (suc m)) k e l = absurd (omega (arith, e, l, mul-suc h (suc m), mul-suc h m))
 
 moved : (b : Bool) (z w : ℤ) → cond b z (pos 2 *ℤ z) *ℤ w ≡ z *ℤ cond b w (pos 2 *ℤ w)
 moved true z w = refl
 moved false z w = ring (z ∷ w ∷ []) (# 2 ⊠ var 0 ⊠ var 1) (var 0 ⊠ (# 2 ⊠ var 1)) tt
 
-pub half-sum : (z : ℕ → ℤ) (n : ℕ) → n < 16 → pos 2 *ℤ halfSum z n ≡ backward (λ k. cond (eqb (k % 8) 0) (z k) (pos 2 *ℤ z k)) n
-unfolding halfSum backward
-half-sum z n h =
-    sym (sumZ-scale 16 (pos 2) (λ k. z k *ℤ halfBasis k n))
-    ∙ sumZ-cong 16 _ (λ k. cond (eqb (k % 8) 0) (z k) (pos 2 *ℤ z k) *ℤ basis k n)
-    (λ k l. ring (z k ∷ halfBasis k n ∷ []) (# 2 ⊠ (var 0 ⊠ var 1)) (var 0 ⊠ (# 2 ⊠ var 1)) tt ∙ ap (λ w. z k *ℤ w) (sym (twice k n l h)) ∙ sym (moved (eqb (k % 8) 0) (z k) (basis k n)))
+-- of a side whose C(0) is even
+module _ {s : Side} (r : Rules s) (even : Even (cosAt s 0)) where
+  turns-even : (m : ℕ) → Even (cosAt s (m * s .half))
+  turns-even zero = subst Even (ap (cosAt s) (sym (zero-mul (s .half)))) even
+  turns-even (suc m) =
+      subst Even (sym (ap (cosAt s) (suc-mul m (s .half)) ∙ r .half-turn (m * s .half))) (even-negative (cosAt s (m * s .half)) (turns-even m))
+
+  -- places 0 and n/2 stand against C(0) or −C(0)
+  own-even : (k n : ℕ) → k < s .side → k % s .half ≡ 0 → Even (basisOf s k n)
+  unfolding basisOf frequencyOf phaseOf
+  own-even k n l e =
+      let m = k / s .half in
+      let whole : k ≡ s .half * m = omega (arith, div-add-mod k (s .half), e) in
+      let low : k < s .half + 1 = one-half (s .half) m k whole (omega (arith, l, r .whole)) in
+      let product : k * n ≡ m * n * s .half = ap (λ k. k * n) whole ∙ mul-assoc (s .half) m n ∙ mul-comm (s .half) (m * n) in
+      subst Even
+      (sym (ap (λ b. cosAt s (cond b k (k - s .half) * n + cond b 0 (s .side / 4))) (lt-ltb k (s .half + 1) low) ∙ ap (cosAt s) (omega (arith, product))))
+      (turns-even (m * n))
+
+  twice : (k n : ℕ) → k < s .side → cond (eqb (k % s .half) 0) (basisOf s k n) (pos 2 *ℤ basisOf s k n) ≡ pos 2 *ℤ halfBasisOf s k n
+  unfolding halfBasisOf
+  twice k n l = go (eqb (k % s .half) 0) (eqb-true (k % s .half) 0)
+    where
+      go : (b : Bool) → (b ≡ true → k % s .half ≡ 0) → cond b (basisOf s k n) (pos 2 *ℤ basisOf s k n) ≡ pos 2 *ℤ cond b (halfZ (basisOf s k n)) (basisOf s k n)
+      go true e = sym (own-even k n l (e refl))
+      go false e = refl
+
+  pub twice-half : (z : ℕ → ℤ) (n : ℕ) → pos 2 *ℤ halfSumOf s z n ≡ backwardOf s (λ k. cond (eqb (k % s .half) 0) (z k) (pos 2 *ℤ z k)) n
+  unfolding halfSumOf backwardOf
+  twice-half z n =
+      sym (sumZ-scale (s .side) (pos 2) (λ k. z k *ℤ halfBasisOf s k n))
+      ∙ sumZ-cong (s .side) _ (λ k. cond (eqb (k % s .half) 0) (z k) (pos 2 *ℤ z k) *ℤ basisOf s k n)
+      (λ k l. ring (z k ∷ halfBasisOf s k n ∷ []) (# 2 ⊠ (var 0 ⊠ var 1)) (var 0 ⊠ (# 2 ⊠ var 1)) tt ∙ ap (λ w. z k *ℤ w) (sym (twice k n l)) ∙ sym (moved (eqb (k % s .half) 0) (z k) (basisOf s k n)))
+
+pub half-sum : (z : ℕ → ℤ) (n : ℕ) → pos 2 *ℤ halfSum z n ≡ backward (λ k. cond (eqb (k % 8) 0) (z k) (pos 2 *ℤ z k)) n
+unfolding halfZ cosAt side16 cosine16 cosines
+half-sum = twice-half rules16 refl
 
 -- ---- bounds
 
-pub basis-most : (k n : ℕ) → natAbs (basis k n) ≤ 16384
-unfolding basis
-basis-most k n = cosine-most (frequency k * n + phase k)
+half-within : (z : ℤ) (b : ℕ) → natAbs z ≤ 2 * b → natAbs (halfZ z) ≤ b
+unfolding halfZ
+half-within (pos a) b h = omega (arith, h)
+half-within (negsuc a) b h = omega (arith, h, abs-neg (pos (suc a / 2)))
 
-half-basis-within : (k n : ℕ) → natAbs (halfBasis k n) ≤ cond (eqb (k % 8) 0) 8192 16384
-unfolding halfBasis
-half-basis-within k n = go (eqb (k % 8) 0) (eqb (k * n % 16) 0)
-  where
-    go : (b c : Bool) → natAbs (cond b (cond c (pos 8192) (negℤ (pos 8192))) (basis k n)) ≤ cond b 8192 16384
-    go true true = lit≤ tt
-    go true false = lit≤ tt
-    go false c = basis-most k n
+module _ {s : Side} (r : Rules s) (k n : ℕ) where
+  pub basis-most : natAbs (basisOf s k n) ≤ 16384
+  unfolding basisOf
+  basis-most = r .most (frequencyOf s k * n + phaseOf s k)
 
-pub half-basis-most : (k n : ℕ) → natAbs (halfBasis k n) ≤ 16384
-half-basis-most k n = le-trans (half-basis-within k n) (go (eqb (k % 8) 0))
-  where
-    go : (b : Bool) → cond b 8192 16384 ≤ 16384
-    go true = lit≤ tt
-    go false = lit≤ tt
+  half-basis-within : natAbs (halfBasisOf s k n) ≤ cond (eqb (k % s .half) 0) 8192 16384
+  unfolding halfBasisOf
+  half-basis-within = go (eqb (k % s .half) 0)
+    where
+      go : (b : Bool) → natAbs (cond b (halfZ (basisOf s k n)) (basisOf s k n)) ≤ cond b 8192 16384
+      go true = half-within (basisOf s k n) 8192 basis-most
+      go false = basis-most
+
+  pub half-basis-most : natAbs (halfBasisOf s k n) ≤ 16384
+  half-basis-most = le-trans half-basis-within (go (eqb (k % s .half) 0))
+    where
+      go : (b : Bool) → cond b 8192 16384 ≤ 16384
+      go true = lit≤ tt
+      go false = lit≤ tt
 
 pub half-sum-most : (z : ℕ → ℤ) → ((k : ℕ) → natAbs (z k) ≤ pairColumnMost) → (n : ℕ) → natAbs (halfSum z n) ≤ pairHalfMost
-unfolding halfSum sumN
+unfolding halfSumOf side16 sumN
 half-sum-most z h n =
-    le-trans (abs-sum 16 (λ k. z k *ℤ halfBasis k n))
-    (sumN-mono 16 (λ k. natAbs (z k *ℤ halfBasis k n)) (λ k. 2 ^ 32 * cond (eqb (k % 8) 0) 8192 16384) (λ k l. abs-mul-le (z k) (halfBasis k n) (h k) (half-basis-within k n)))
+    le-trans (abs-sum 16 (λ k. z k *ℤ halfBasisOf side16 k n))
+    (sumN-mono 16 (λ k. natAbs (z k *ℤ halfBasisOf side16 k n)) (λ k. pairColumnMost * cond (eqb (k % 8) 0) 8192 16384) (λ k l. abs-mul-le (z k) (halfBasisOf side16 k n) (h k) (half-basis-within rules16 k n)))

@@ -3,5 +3,6 @@ pub mod Halfcomplex
 pub mod HalfSumLaws
 pub mod Fold
 pub mod SideFolds
+pub mod SideSums
 pub mod Magnitudes
 pub mod Doubles

@@ -10,14 +10,8 @@ use Rattle.algebra.specs.Sums.{sumZ}
 use Rattle.algebra.specs.SumLaws.{sumZ-cong, sumZ-add, sumZ-parts}
 use Rattle.recipe.specs.Side.{Side, cosAt}
 use Rattle.recipe.specs.TableRules.{Rules, Doubled}
-use Rattle.recipe.specs.Tables.{side16}
-use Rattle.lines.specs.Halfcomplex.{frequencyOf, phaseOf, basisOf, halfcomplexOf, frequency, phase, basis}
+use Rattle.lines.specs.Halfcomplex.{frequencyOf, phaseOf, basisOf, halfcomplexOf}
 use Rattle.lines.specs.Fold.{sumOf, differenceOf, foldedOf}
-
--- the basis of a line of sixteen is that of side 16
-pub basis-is : (k n : ℕ) → basis k n ≡ basisOf side16 k n
-unfolding basis frequency phase basisOf frequencyOf phaseOf side16
-basis-is k n = refl
 
 -- twice q off twice i, and off the next number
 cut-even : (h q i : ℕ) → h ≡ 2 * q → 2 * i - h ≡ (i - q) + (i - q)

@@ -1,5 +1,6 @@
-// The transposed transform of `backward` in double, for columns, and half of it for two rows side by side. No number on the way is above 2^53, so each is
-// exact. Number n of row p stands at 2n + p.
+// The transposed transform of a halfcomplex line in double, for columns, and half of it for two rows side by side, folded in halves as the transform is:
+// from number n to number n + 8 the even places' sum stays and the odd places' sum changes its sign. No number on the way is above 2^53, so each is exact.
+// Number n of row p stands at 2n + p.
 ghost use mathlib.Core.Path.{_≡_};
 ghost use mathlib.Core.List.{[], _∷_};
 ghost use Prim.Native.Nat.{ℕ, _+_, _*_, _/_, _%_, _≤_, _<_};
@@ -11,7 +12,8 @@ ghost use Rattle.lines.specs.Fold.{evenSum, oddSum, evenHalf};
 ghost use Rattle.lines.specs.Magnitudes.{pairFoldMost, pairColumnMost};
 ghost use Rattle.lines.specs.Doubles.{doubleLine, From, joinedAt};
 
-// The even places' sum at the numbers 0 to 7, as in `backward`; of places 0 and 8 with the cosine `own`: 16384, or half of it.
+// The even places' sum at the numbers 0 to 7; of places 0 and 8 with the cosine `own`: 16384, or half of it. From number n to number n + 4 what 2, 6, 10 and
+// 14 add changes its sign.
 fn even(
     own: f64,
     z0: f64,
@@ -42,7 +44,7 @@ fn even(
     [a + e, b + q, c + f, d - u, a - e, b - q, c - f, d + u]
 }
 
-// The odd places' sum at the numbers 0 to 7, as in `backward`.
+// The odd places' sum at the numbers 0 to 7. From number n to number 8 − n what the real parts add changes its sign, and what the imaginary parts add stays.
 fn odd(z1: f64, z3: f64, z5: f64, z7: f64, z9: f64, z11: f64, z13: f64, z15: f64) -> [f64; 8]
     ensures { λ r. ⌜ From pairColumnMost 8 (z1 ∷ z3 ∷ z5 ∷ z7 ∷ z9 ∷ z11 ∷ z13 ∷ z15 ∷ []) (λ z. r ≡ doubleLine 8 (oddSum z)) ⌝ }
 {

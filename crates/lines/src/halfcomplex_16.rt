@@ -1,5 +1,6 @@
-// The transform of a line of sixteen differences, folded as in `halfcomplex`, in numbers narrow enough that the compiler takes several lines at once: the
-// folds in 16 bits, the products in 32.
+// The transform of a line of sixteen differences in halfcomplex form, folded in halves, in numbers narrow enough that the compiler takes several lines at
+// once: the folds in 16 bits, the products in 32. The tables are exactly symmetric, so each fold is exact: C(k+8) = −C(k), C(8−k) = −C(k), S(k) = C(k+12)
+// and C(4) = 0.
 ghost use mathlib.Core.Path.{_≡_};
 ghost use mathlib.Core.Bool.{cond};
 ghost use mathlib.Core.List.{[], _∷_};
@@ -37,7 +38,8 @@ fn differences(x: &[i16; 16]) -> [i16; 8]
     r
 }
 
-// The even places, from the sums. p ∓ q is a sum of eight differences, which still fits 16 bits: 8·4095 = 32760.
+// The even places, from the sums. Their cosines lie an even number of steps apart, so C(k+8) = −C(k) folds the sums again, four numbers apart. p ∓ q is a
+// sum of eight differences, which still fits 16 bits: 8·4095 = 32760.
 fn even(s0: i16, s1: i16, s2: i16, s3: i16, s4: i16, s5: i16, s6: i16, s7: i16) -> [i32; 8]
     requires { ⌜ LineMost differenceFoldMost (s0 ∷ s1 ∷ s2 ∷ s3 ∷ s4 ∷ s5 ∷ s6 ∷ s7 ∷ []) ⌝ }
     ensures { λ r. ⌜ r ≡ tab 8 (λ i. folded (λ n. getD (s0 ∷ s1 ∷ s2 ∷ s3 ∷ s4 ∷ s5 ∷ s6 ∷ s7 ∷ []) n (pos 0)) (2 * i)) ⌝ }
@@ -64,7 +66,8 @@ fn even(s0: i16, s1: i16, s2: i16, s3: i16, s4: i16, s5: i16, s6: i16, s7: i16) 
     ]
 }
 
-// The odd places, from the differences: four real parts, then four imaginary parts.
+// The odd places, from the differences: four real parts, then four imaginary parts. C(8−k) = −C(k) and S(8−k) = S(k): the differences n and 8 − n share a
+// cosine, with opposite signs, and a sine.
 fn odd(t0: i16, t1: i16, t2: i16, t3: i16, t4: i16, t5: i16, t6: i16, t7: i16) -> [i32; 8]
     requires { ⌜ LineMost differenceFoldMost (t0 ∷ t1 ∷ t2 ∷ t3 ∷ t4 ∷ t5 ∷ t6 ∷ t7 ∷ []) ⌝ }
     ensures { λ r. ⌜ r ≡ tab 8 (λ i. folded (λ n. getD (t0 ∷ t1 ∷ t2 ∷ t3 ∷ t4 ∷ t5 ∷ t6 ∷ t7 ∷ []) n (pos 0)) (2 * i + 1)) ⌝ }

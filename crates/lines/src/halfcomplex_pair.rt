@@ -1,4 +1,4 @@
-// The transforms of two lines of sixteen numbers side by side, folded as in `halfcomplex`, in double: no number on the way is above 2^53, so each is exact.
+// The transforms of two lines of sixteen numbers side by side, folded as in `halfcomplex_16`, in double: no number on the way is above 2^53, so each is exact.
 // Number n of line p stands at 2n + p.
 ghost use mathlib.Core.Path.{_≡_};
 ghost use mathlib.Core.List.{[], _∷_};

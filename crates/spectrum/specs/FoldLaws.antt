@@ -9,7 +9,7 @@ use Rattle.recipe.specs.Tables.{cosines, cosine16, sine16, side16}
 use Rattle.recipe.specs.Correction.{twiddleRe, twiddleIm, inverseRe}
 use Rattle.recipe.specs.TableLaws.{opposite, agree-both, cosine-opposite, sine-opposite}
 use Rattle.recipe.specs.CorrectionLaws.{alongRe, alongIm, two-way}
-use Rattle.lines.specs.Halfcomplex.{frequency, phase, basis, backward}
+use Rattle.lines.specs.Halfcomplex.{frequencyOf, phaseOf, basisOf, backwardOf, basis, backward}
 use Rattle.spectrum.specs.Spectrum.{apart, foldRe, foldIm, spread, counted, backSum, Mirrored}
 
 -- ---- the tables at products u·y
@@ -21,12 +21,12 @@ sine-own = agree-both 2 16 (λ u y. sinAt side16 (8 * u * y)) (λ u y. pos 0) tt
 
 -- the places of real parts stand against C(k·y)
 basis-real : (k y : ℕ) → k < 9 → y < 16 → basis k y ≡ cosAt side16 (k * y)
-unfolding basis frequency phase cosAt side16 cosine16 cosines
+unfolding basisOf frequencyOf phaseOf cosAt side16 cosine16 cosines
 basis-real = agree-both 9 16 basis (λ k y. cosAt side16 (k * y)) tt
 
 -- and those of imaginary parts against −S
 basis-imaginary : (i y : ℕ) → i < 7 → y < 16 → basis (9 + i) y ≡ negℤ (sinAt side16 ((1 + i) * y))
-unfolding basis frequency phase cosAt sinAt side16 sine16 cosine16 cosines
+unfolding basisOf frequencyOf phaseOf cosAt sinAt side16 sine16 cosine16 cosines
 basis-imaginary = agree-both 7 16 (λ i y. basis (9 + i) y) (λ i y. negℤ (sinAt side16 ((1 + i) * y))) tt
 
 -- ---- sums of sixteen, rearranged
@@ -82,7 +82,7 @@ module _ (a c a' c' s : ℤ) {x x' s' b b' : ℤ} (p : x' ≡ x) (q : s' ≡ neg
 module _ (g h : ℕ → ℤ) (y : ℕ) (l : y < 16) where
   -- the inverse's real parts are the sums back from one fold
   fold-real : sumZ 16 (λ u. g u *ℤ cosAt side16 (u * y) -ℤ h u *ℤ sinAt side16 (u * y)) ≡ backward (foldRe g h) y
-  unfolding backward
+  unfolding backwardOf side16
   fold-real =
       paired (λ u. g u *ℤ cosAt side16 (u * y) -ℤ h u *ℤ sinAt side16 (u * y))
       ∙ ap₂ _+ℤ_ (ap₂ _+ℤ_ (own-real (g 0) (h 0) (sine-own 0 y (lit< tt) l) (basis-real 0 y (lit< tt) l)) (own-real (g 8) (h 8) (sine-own 1 y (lit< tt) l) (basis-real 8 y (lit< tt) l)))
@@ -93,7 +93,7 @@ module _ (g h : ℕ → ℤ) (y : ℕ) (l : y < 16) where
 
   -- and its imaginary parts those from the other
   fold-imaginary : sumZ 16 (λ u. g u *ℤ sinAt side16 (u * y) +ℤ h u *ℤ cosAt side16 (u * y)) ≡ backward (foldIm g h) y
-  unfolding backward
+  unfolding backwardOf side16
   fold-imaginary =
       paired (λ u. g u *ℤ sinAt side16 (u * y) +ℤ h u *ℤ cosAt side16 (u * y))
       ∙ ap₂ _+ℤ_ (ap₂ _+ℤ_ (own-imaginary (g 0) (h 0) (sine-own 0 y (lit< tt) l) (basis-real 0 y (lit< tt) l)) (own-imaginary (g 8) (h 8) (sine-own 1 y (lit< tt) l) (basis-real 8 y (lit< tt) l)))
@@ -177,7 +177,7 @@ module _ (g h : ℕ → ℕ → ℤ) (y : ℕ) where
 
     -- the inverse sum of a spectrum of real differences is the sum back over its folded columns, both ways
     pub inverse-folds : Mirrored g h → (x : ℕ) → x < 16 → inverseRe side16 g h y x ≡ backSum (spread g h) y x
-    unfolding backward backSum
+    unfolding backwardOf backSum side16
     inverse-folds m x q =
         by-columns x ∙ fold-real columnRe columnIm x q ∙ folded-real columnRe columnIm (λ k. basis k x)
         ∙ ap₂ _+ℤ_ (ap₂ (λ s t. s *ℤ basis 0 x +ℤ t *ℤ basis 8 x) (column-real 0) (column-real 8))

@@ -5,7 +5,9 @@ use Rattle.algebra.specs.SumLaws.{sumZ-cong}
 use Rattle.sequences.specs.Tab.{tab}
 use Rattle.sequences.specs.TabLaws.{getD-tab}
 use Rattle.sequences.specs.Grid.{tab-ext}
-use Rattle.lines.specs.Halfcomplex.{basis, halfcomplex, backward}
+use Rattle.recipe.specs.Tables.{side16}
+use Rattle.recipe.specs.TableLaws.{rules16}
+use Rattle.lines.specs.Halfcomplex.{halfcomplexOf, backwardOf, basis, halfcomplex, backward}
 use Rattle.lines.specs.HalfSumLaws.{basis-most}
 use Rattle.spectrum.specs.SizeLaws.{sum-most}
 
@@ -19,32 +21,26 @@ module _ (c : (i : ℕ) → ℤ) where
 
 module _ (b : ℕ) (f : ℕ → ℤ) (h : (i : ℕ) → natAbs (f i) ≤ b) where
   pub halfcomplex-most : (k : ℕ) → natAbs (halfcomplex f k) ≤ 16 * (b * 16384)
-  unfolding halfcomplex
-  halfcomplex-most k = sum-most (basis k) b f (basis-most k) h
+  unfolding halfcomplexOf side16
+  halfcomplex-most k = sum-most (basis k) b f (basis-most rules16 k) h
 
   pub backward-most : (n : ℕ) → natAbs (backward f n) ≤ 16 * (b * 16384)
-  unfolding backward
-  backward-most n = sum-most (λ k. basis k n) b f (λ k. basis-most k n) h
+  unfolding backwardOf side16
+  backward-most n = sum-most (λ k. basis k n) b f (λ k. basis-most rules16 k n) h
 
 module _ (f g : ℕ → ℤ) (h : (i : ℕ) → i < 16 → f i ≡ g i) where
   pub halfcomplex-ext : (k : ℕ) → halfcomplex f k ≡ halfcomplex g k
-  unfolding halfcomplex
+  unfolding halfcomplexOf side16
   halfcomplex-ext k = sum-ext (basis k) f g h
 
   pub backward-ext : (n : ℕ) → backward f n ≡ backward g n
-  unfolding backward
+  unfolding backwardOf side16
   backward-ext n = sum-ext (λ k. basis k n) f g h
 
 -- of a line x whose numbers are f's
 module _ {x : List ℤ} (f : ℕ → ℤ) (e : x ≡ tab 16 f) where
-  pub number : (i : ℕ) → i < 16 → getD x i (pos 0) ≡ f i
+  number : (i : ℕ) → i < 16 → getD x i (pos 0) ≡ f i
   number i h = ap (λ l. getD l i (pos 0)) e ∙ getD-tab f (pos 0) 16 i h
 
   pub halfcomplex-line : tab 16 (halfcomplex (λ n. getD x n (pos 0))) ≡ tab 16 (halfcomplex f)
   halfcomplex-line = tab-ext 16 _ _ (λ k h. halfcomplex-ext _ f number k)
-
-  pub backward-line : tab 16 (backward (λ k. getD x k (pos 0))) ≡ tab 16 (backward f)
-  backward-line = tab-ext 16 _ _ (λ n h. backward-ext _ f number n)
-
-  pub each-line : (g : ℤ → ℤ) → tab 16 (λ i. g (getD x i (pos 0))) ≡ tab 16 (λ i. g (f i))
-  each-line g = tab-ext 16 _ _ (λ i h. ap g (number i h))

@@ -21,22 +21,6 @@ gainMost = 23720288
 abbrev pub rowMost : ℕ
 rowMost = 1073479680
 
--- a place of the tile in halfcomplex form both ways: sixteen of these times a cosine
-abbrev pub placeMost : ℕ
-placeMost = 281406257233920
-
--- a number of the folded G: two parts of G
-abbrev pub quadMost : ℕ
-quadMost = 47440576
-
--- a sum of sixteen of these times a cosine
-abbrev pub columnMost : ℕ
-columnMost = 12436262354944
-
--- a sum of sixteen of their doubles times a cosine
-abbrev pub sumMost : ℕ
-sumMost = 6520183117548879872
-
 -- P
 abbrev pub correctionMost : ℕ
 correctionMost = 2 ^ 30
@@ -45,8 +29,16 @@ correctionMost = 2 ^ 30
 
 -- V up to which they are worked out in double
 abbrev pub pairNoise : ℕ
-pairNoise = 2 ^ 28
+pairNoise = 2 ^ 30
 
 -- a part of G at such a V: half the root of V
 abbrev pub pairGainMost : ℕ
-pairGainMost = 8192
+pairGainMost = 16384
+
+-- V·|q|, for a part q of Q, up to which the quotients are right
+abbrev pub productMost : ℕ
+productMost = 2 ^ 49
+
+-- V up to which that holds of any differences: a part of Q is at most 2^24
+abbrev pub alwaysNoise : ℕ
+alwaysNoise = 2 ^ 25

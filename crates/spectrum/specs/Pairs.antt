@@ -1,12 +1,12 @@
 -- Inside the crates of the merge: two tiles side by side, those of column parity 0 and 1 at one place of one row parity. Place 2·x + p of a row is column x of
 -- plane p, so that a row of the pair is thirty-two samples of the frame one after the other.
-use Rattle.algebra.specs.Prelude.{_≡_, cond, List, ℕ, _+_, _*_, _/_, _%_, _^_, _≤_, _<_, eqb, ℤ, natAbs}
+use Rattle.algebra.specs.Prelude.{_≡_, cond, List, ℕ, _+_, _*_, _/_, _%_, _≤_, _<_, eqb, ℤ, natAbs}
 use lib.Ieee.{Float, binary64, ofInt}
 use Rattle.sequences.specs.Grid.{grid, cell}
 use Rattle.recipe.specs.Tables.{side16}
 use Rattle.recipe.specs.Correction.{quantized}
-use Rattle.spectrum.specs.Magnitudes.{binMost, pairNoise}
-use Rattle.spectrum.specs.Spectrum.{tileRe, tileIm}
+use Rattle.spectrum.specs.Magnitudes.{binMost, pairNoise, productMost}
+use Rattle.spectrum.specs.Spectrum.{tileRe, tileIm, transposed}
 
 -- plane p of a pair
 abbrev pub planeIn : {A : Type 0} → (t : ℕ → ℕ → A) (p : ℕ) → ℕ → ℕ → A
@@ -28,17 +28,46 @@ pub record Paired {A : Type 0} (z : A) (t : List (List A)) : Type 0 where
 unfoldable pub doubles : (ℕ → ℕ → ℤ) → List (List Float)
 doubles t = grid 16 32 (λ y l. ofInt binary64 (t y l))
 
--- whole numbers of at most m in double
+-- a whole number of at most m in double
+pub record WholeDouble (m : ℕ) (x : Float) : Type 0 where
+  pub number : ℤ
+  pub most : natAbs number ≤ m
+  pub is : x ≡ ofInt binary64 number
+
+-- and a pair of them
 pub record InDouble (m : ℕ) (g : List (List Float)) : Type 0 where
   pub number : (y l : ℕ) → ℤ
   pub most : (y l : ℕ) → natAbs (number y l) ≤ m
   pub is : g ≡ doubles number
 
+-- the bins of the plane t are those that differences can have
+pub record Binned (t : ℕ → ℕ → ℤ) : Type 0 where
+  pub re-most : (u v : ℕ) → u < 16 → v < 9 → natAbs (tileRe t u v) ≤ binMost
+  pub im-most : (u v : ℕ) → u < 16 → v < 9 → natAbs (tileIm t u v) ≤ binMost
+
+-- two such planes, held by columns, in double
+pub record BinnedPair (b : List (List Float)) : Type 0 where
+  pub plane : (p : ℕ) → ℕ → ℕ → ℤ
+  pub first : Binned (plane 0)
+  pub second : Binned (plane 1)
+  pub is : b ≡ doubles (sideBySide (λ p. transposed (plane p)))
+
+-- the noise numbers of a pair that is worked out in double
+pub record PairNoise (first second : ℕ) : Type 0 where
+  pub first-above : 0 < first
+  pub second-above : 0 < second
+  pub first-most : first ≤ pairNoise
+  pub second-most : second ≤ pairNoise
+
 -- at the noise number V the quotients of the bins of the plane t can be taken in double
 pub record Quiet (noise : ℕ) (t : ℕ → ℕ → ℤ) : Type 0 where
   pub above : 0 < noise
   pub most : noise ≤ pairNoise
-  pub re-most : (u v : ℕ) → u < 16 → v < 9 → natAbs (tileRe t u v) ≤ binMost
-  pub im-most : (u v : ℕ) → u < 16 → v < 9 → natAbs (tileIm t u v) ≤ binMost
-  pub re : (u v : ℕ) → u < 16 → v < 9 → noise * natAbs (quantized side16 (tileRe t u v)) ≤ 2 ^ 48
-  pub im : (u v : ℕ) → u < 16 → v < 9 → noise * natAbs (quantized side16 (tileIm t u v)) ≤ 2 ^ 48
+  pub binned : Binned t
+  pub re : (u v : ℕ) → u < 16 → v < 9 → noise * natAbs (quantized side16 (tileRe t u v)) ≤ productMost
+  pub im : (u v : ℕ) → u < 16 → v < 9 → noise * natAbs (quantized side16 (tileIm t u v)) ≤ productMost
+
+-- and those of both planes
+pub record QuietPair (first second : ℕ) (t : (p : ℕ) → ℕ → ℕ → ℤ) : Type 0 where
+  pub first-quiet : Quiet first (t 0)
+  pub second-quiet : Quiet second (t 1)

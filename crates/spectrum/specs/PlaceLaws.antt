@@ -1,44 +1,9 @@
--- A spectrum in halfcomplex form looks at its sixteen by sixteen places only, on the way in and on the way back.
-use Rattle.algebra.specs.Prelude.{_≡_, refl, ap, ap₂, Bool, true, false, cond, ℕ, _+_, _-_, _%_, _≤_, _<_, arith, eqb, ltb, ℤ, pos, negℤ, _+ℤ_, _-ℤ_}
-use borrow.Author.Tests.{eqb-false, ltb-true, ltb-false}
-use Rattle.spectrum.specs.Spectrum.{apart, realOf, imaginaryOf, beside, tileRe, tileIm, foldRe, foldIm, spread, counted, backSum}
+-- The way back from a spectrum in halfcomplex form looks at its sixteen by sixteen places only.
+use Rattle.algebra.specs.Prelude.{_≡_, refl, ap, ap₂, Bool, true, false, cond, ℕ, _-_, _≤_, _<_, arith, ltb, ℤ, _+ℤ_, _-ℤ_}
+use borrow.Author.Tests.{ltb-true, ltb-false}
+use Rattle.spectrum.specs.Spectrum.{foldRe, foldIm, spread, counted, backSum}
 use Rattle.spectrum.specs.Apart.{below-ext, apart-ext}
 use Rattle.spectrum.specs.LineLaws.{backward-ext}
-
--- lines
-module _ (z z' : ℕ → ℤ) (e : (b : ℕ) → b < 16 → z b ≡ z' b) (u : ℕ) (h : u < 16) where
-  real-ext : realOf z u ≡ realOf z' u
-  unfolding realOf
-  real-ext = below-ext u 9 (z u) (z (16 - u)) (z' u) (z' (16 - u)) (λ l. e u h) (λ l. e (16 - u) (omega arith))
-
-  imaginary-ext : imaginaryOf z u ≡ imaginaryOf z' u
-  unfolding imaginaryOf
-  imaginary-ext =
-      apart-ext u (pos 0) _ (pos 0) _ refl
-      (λ o. below-ext u 9 (z (8 + u)) (negℤ (z (24 - u))) (z' (8 + u)) (negℤ (z' (24 - u))) (λ l. e (8 + u) (small l o)) (λ l. ap negℤ (e (24 - u) (omega arith))))
-    where
-      small : u < 9 → (u % 8 ≡ 0 → ⊥) → 8 + u < 16
-      small l o = omega (arith, o)
-
--- tiles
-module _ (t t' : ℕ → ℕ → ℤ) (e : (k b : ℕ) → k < 16 → b < 16 → t k b ≡ t' k b) (u v : ℕ) (h : u < 16) (l : v < 9) where
-  part : (f : (ℕ → ℤ) → ℤ) → ((z z' : ℕ → ℤ) → ((b : ℕ) → b < 16 → z b ≡ z' b) → f z ≡ f z') → f (beside t v) ≡ f (beside t' v)
-  unfolding beside apart
-  part f ext = go (eqb (v % 8) 0) (eqb-false (v % 8) 0)
-    where
-      go : (c : Bool) → (c ≡ false → v % 8 ≡ 0 → ⊥) → f (cond c (λ b. pos 0) (t (8 + v))) ≡ f (cond c (λ b. pos 0) (t' (8 + v)))
-      go true o = refl
-      go false o = ext (t (8 + v)) (t' (8 + v)) (λ b k. e (8 + v) b (omega (arith, o refl)) k)
-
-  pub tile-re : tileRe t u v ≡ tileRe t' u v
-  unfolding tileRe
-  tile-re =
-      ap₂ _-ℤ_ (real-ext (t v) (t' v) (λ b k. e v b (omega arith) k) u h) (part (λ z. imaginaryOf z u) (λ z z' k. imaginary-ext z z' k u h))
-
-  pub tile-im : tileIm t u v ≡ tileIm t' u v
-  unfolding tileIm
-  tile-im =
-      ap₂ _+ℤ_ (imaginary-ext (t v) (t' v) (λ b k. e v b (omega arith) k) u h) (part (λ z. realOf z u) (λ z z' k. real-ext z z' k u h))
 
 -- folded lines and columns
 module _ (g h g' h' : ℕ → ℤ) (p : (u : ℕ) → u < 16 → g u ≡ g' u) (q : (u : ℕ) → u < 16 → h u ≡ h' u) (b : ℕ) (l : b < 16) where

@@ -1,18 +1,16 @@
 -- The quads of a folded G: what the four places at u and 8 + u of lines v and 8 + v come to.
 use Rattle.algebra.specs.Prelude.{_≡_, refl, ap, ap₂, subst, _∙_, Bool, true, false, cond, List, [], _∷_, arith, ltb, getD}
-use Prim.Native.Nat.{ℕ, zero, suc, _+_, _-_, _%_, _<_, _≤_, zero-le}
+use Prim.Native.Nat.{ℕ, zero, suc, _+_, _-_, _%_, _<_}
 use borrow.Author.Tests.{lt-ltb, le-ltb}
-use lib.IntN.{ℤ, pos, negℤ, natAbs, _+ℤ_, _-ℤ_, +ℤ-idr, +ℤ-idl, +ℤ-comm, negℤ-negℤ}
+use lib.IntN.{ℤ, pos, negℤ, _+ℤ_, _-ℤ_, +ℤ-idr, +ℤ-idl, +ℤ-comm, negℤ-negℤ}
 use Rattle.sequences.specs.Tab.{tab}
-use Rattle.lines.specs.Lines.{LineMost}
-use Rattle.spectrum.specs.Magnitudes.{binMost}
 use Rattle.recipe.specs.Tables.{side16}
 use Rattle.recipe.specs.Correction.{filtered}
 use Rattle.spectrum.specs.Spectrum.{realOf, imaginaryOf, beside, tileRe, tileIm, foldRe, foldIm, spread, quadOf, byKind, twoBins, foldedQuad, gainRe, gainIm}
 use Rattle.spectrum.specs.SpectrumLaws.{filtered-odd, filtered-even}
 use Rattle.spectrum.specs.Apart.{is-own, is-paired, apart-cases}
 
-pub quad-ext : {A B : Type 0} (q : A → A → A → A → B) {a b c d a' b' c' d' : A} → a ≡ a' → b ≡ b' → c ≡ c' → d ≡ d' → q a b c d ≡ q a' b' c' d'
+quad-ext : {A B : Type 0} (q : A → A → A → A → B) {a b c d a' b' c' d' : A} → a ≡ a' → b ≡ b' → c ≡ c' → d ≡ d' → q a b c d ≡ q a' b' c' d'
 quad-ext q a b c d = ap₂ (λ g h. g h) (ap₂ (λ g h. g h) (ap₂ q a b) c) d
 
 pub four : {A : Type 0} {a b c d a' b' c' d' : A} → a ≡ a' → b ≡ b' → c ≡ c' → d ≡ d' → a ∷ b ∷ c ∷ d ∷ [] ≡ a' ∷ b' ∷ c' ∷ d' ∷ []
@@ -25,9 +23,6 @@ four-each P a b c d n p q r s (suc zero) = q
 four-each P a b c d n p q r s (suc (suc zero)) = r
 four-each P a b c d n p q r s (suc (suc (suc zero))) = s
 four-each P a b c d n p q r s (suc (suc (suc (suc i)))) = n
-
-pub four-most : (m : ℕ) (a b c d : ℤ) → natAbs a ≤ m → natAbs b ≤ m → natAbs c ≤ m → natAbs d ≤ m → LineMost m (a ∷ b ∷ c ∷ d ∷ [])
-four-most m a b c d p q r s = record { at = four-each (λ z. natAbs z ≤ m) a b c d zero-le p q r s }
 
 -- the kind of quad (v, u)
 module _ {A : Type 0} (top left inner : A) where
@@ -297,6 +292,3 @@ module _ (t : ℕ → ℕ → ℤ) (P : ℤ → Type 0) (none : P (pos 0)) (re :
   bins-each (suc v) (suc u) m l =
       four-each P _ _ _ _ none (subst P (low-re 0 t (suc v) (omega arith) m (suc u) (omega arith) l) (re (suc u) (suc v) (omega arith) (omega arith))) (subst P (low-im 0 t (suc v) (omega arith) m (suc u) (omega arith) l) (im (suc u) (suc v) (omega arith) (omega arith)))
       (subst P (high-re 0 t (suc v) (omega arith) m (suc u) (omega arith) l) (re (16 - suc u) (suc v) (omega arith) (omega arith))) (subst P (high-im 0 t (suc v) (omega arith) m (suc u) (omega arith) l) (im (16 - suc u) (suc v) (omega arith) (omega arith)))
-
-pub bins-most : (t : ℕ → ℕ → ℤ) → ((u v : ℕ) → u < 16 → v < 9 → natAbs (tileRe t u v) ≤ binMost) → ((u v : ℕ) → u < 16 → v < 9 → natAbs (tileIm t u v) ≤ binMost) → (v u : ℕ) → v < 8 → u < 8 → LineMost binMost (twoBins t v u)
-bins-most t re im v u m l = record { at = bins-each t (λ z. natAbs z ≤ binMost) zero-le re im v u m l }

@@ -12,9 +12,9 @@ use Rattle.recipe.specs.Side.{cosAt, sinAt}
 use Rattle.recipe.specs.Tables.{cosines, cosine16, sine16, side16}
 use Rattle.recipe.specs.Correction.{rowRe, rowIm, binRe, binIm, quantized}
 use Rattle.lines.specs.Magnitudes.{differenceMost}
-use Rattle.spectrum.specs.Magnitudes.{pairNoise}
+use Rattle.spectrum.specs.Magnitudes.{pairNoise, productMost, alwaysNoise}
 use Rattle.spectrum.specs.Spectrum.{twoWay}
-use Rattle.spectrum.specs.Pairs.{Quiet}
+use Rattle.spectrum.specs.Pairs.{Binned, Quiet}
 use Rattle.spectrum.specs.SpectrumLaws.{bin-re, bin-im}
 use Rattle.spectrum.specs.RoundingLaws.{away-within}
 use Rattle.spectrum.specs.SizeLaws.{bin-re-most, bin-im-most}
@@ -89,10 +89,17 @@ quantized-within : (n : ℕ) (b : ℤ) → natAbs b ≤ n * 2 ^ 24 → natAbs (q
 unfolding quantized side16
 quantized-within n b h = away-within b (2 ^ 24) n (lit< tt) h
 
+pub differences-binned : (d : ℕ → ℕ → ℤ) → ((y x : ℕ) → natAbs (d y x) ≤ differenceMost) → Binned (twoWay d)
+differences-binned d m =
+    record {
+      re-most = λ u v h l. rw (bin-re d u v h l) (bin-re-most d m u v);
+      im-most = λ u v h l. rw (bin-im d u v h l) (bin-im-most d m u v);
+    }
+
 -- n is at least each part of Q
 module _ (d : ℕ → ℕ → ℤ) (m : (y x : ℕ) → natAbs (d y x) ≤ differenceMost) (noise : ℕ) (above : 0 < noise) (small : noise ≤ pairNoise) where
-  module _ (n : ℕ) (far : factorMost * distance d ≤ n * 2 ^ 24) (near : noise * n ≤ 2 ^ 48) where
-    part : (b : ℤ) → natAbs b ≤ factorMost * distance d → noise * natAbs (quantized side16 b) ≤ 2 ^ 48
+  module _ (n : ℕ) (far : factorMost * distance d ≤ n * 2 ^ 24) (near : noise * n ≤ productMost) where
+    part : (b : ℤ) → natAbs b ≤ factorMost * distance d → noise * natAbs (quantized side16 b) ≤ productMost
     part b h = le-trans (mul-le-mul-left noise (quantized-within n b (le-trans h far))) near
 
     quiet-within : Quiet noise (twoWay d)
@@ -100,20 +107,19 @@ module _ (d : ℕ → ℕ → ℤ) (m : (y x : ℕ) → natAbs (d y x) ≤ diffe
         record {
           above = above;
           most = small;
-          re-most = λ u v h l. rw (bin-re d u v h l) (bin-re-most d m u v);
-          im-most = λ u v h l. rw (bin-im d u v h l) (bin-im-most d m u v);
+          binned = differences-binned d m;
           re = λ u v h l. rw (bin-re d u v h l) (part _ (re-far d u v));
           im = λ u v h l. rw (bin-im d u v h l) (part _ (im-far d u v));
         }
 
   -- |Q| ≤ 17·S, since 17·2^24 is above the factors
-  pub quiet-near : noise * (17 * distance d) ≤ 2 ^ 48 → Quiet noise (twoWay d)
+  pub quiet-near : noise * (17 * distance d) ≤ productMost → Quiet noise (twoWay d)
   quiet-near near = quiet-within (17 * distance d) (omega arith) near
 
   distance-most : distance d ≤ 16 * (16 * differenceMost)
   distance-most = sumN-bound 16 (16 * differenceMost) _ (λ y i. sumN-bound 16 differenceMost _ (λ x k. m y x))
 
   -- |Q| ≤ 2^24, whatever the differences
-  pub quiet-always : noise ≤ 2 ^ 24 → Quiet noise (twoWay d)
+  pub quiet-always : noise ≤ alwaysNoise → Quiet noise (twoWay d)
   quiet-always l =
       quiet-within (2 ^ 24) (omega (arith, distance-most)) (le-trans (mul-le-mul l (le-refl (2 ^ 24))) (lit≤ tt))

@@ -4,7 +4,7 @@ use native.Mathlib.Nat.{le-trans, le-div-iff-mul-le, div-lt-iff-lt-mul, div-mul-
 use Rattle.algebra.specs.Order.{abs-neg}
 use Rattle.algebra.specs.Nearest.{away}
 
-pub away-abs : (z : ℤ) (m : ℕ) → natAbs (away z m) ≡ (2 * natAbs z + m) / (2 * m)
+away-abs : (z : ℤ) (m : ℕ) → natAbs (away z m) ≡ (2 * natAbs z + m) / (2 * m)
 unfolding away
 away-abs (pos a) m = refl
 away-abs (negsuc a) m = abs-neg (pos ((2 * suc a + m) / (2 * m)))

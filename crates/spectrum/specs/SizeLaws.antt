@@ -72,7 +72,7 @@ part-most : (b : ℤ) → natAbs b ≤ binMost → natAbs (quantized side16 b) �
 unfolding quantized side16
 part-most b h = away-most b (2 ^ 24) binMost (lit< tt) h
 
-gain-most : (noise : ℕ) (b c : ℤ) → natAbs b ≤ binMost → natAbs (filtered side16 noise b c) ≤ gainMost
+pub gain-most : (noise : ℕ) (b c : ℤ) → natAbs b ≤ binMost → natAbs (filtered side16 noise b c) ≤ gainMost
 unfolding filtered
 gain-most noise b c h = le-trans (wiener-most noise (quantized side16 b) (quantized side16 c)) (part-most b h)
 

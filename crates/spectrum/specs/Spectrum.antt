@@ -1,14 +1,10 @@
 -- The bins of a tile of real differences in halfcomplex form both ways: line k holds place k of the rows' transforms, and along it stand the places of
 -- the columns'. And the way back: G folded to the same form, and the sums over it.
-use Rattle.algebra.specs.Prelude.{_≡_, cond, List, [], _∷_, ℕ, zero, suc, _+_, _-_, _*_, _/_, _%_, _≤_, _<_, eqb, ltb, getD, ℤ, pos, natAbs, negℤ, _+ℤ_, _-ℤ_, _*ℤ_}
-use Rattle.sequences.specs.Grid.{cell}
+use Rattle.algebra.specs.Prelude.{_≡_, cond, List, [], _∷_, ℕ, zero, suc, _+_, _-_, _%_, _<_, eqb, ltb, ℤ, pos, negℤ, _+ℤ_, _-ℤ_, _*ℤ_}
 use Rattle.lines.specs.Halfcomplex.{halfcomplex, backward}
 use Rattle.recipe.specs.Tables.{side16}
 use Rattle.recipe.specs.TableLaws.{opposite}
 use Rattle.recipe.specs.Correction.{binRe, binIm, filtered}
-use Rattle.spectrum.specs.Magnitudes.{binMost}
-use Rattle.spectrum.specs.Magnitudes.{placeMost, quadMost}
-use Rattle.lines.specs.Lines.{LineMost, TileMost, Square}
 
 -- place b of line k, from the differences
 unfoldable pub twoWay : (d : ℕ → ℕ → ℤ) → (k b : ℕ) → ℤ
@@ -90,17 +86,6 @@ foldedQuad v u re im re' im' =
     (re ∷ re' ∷ im ∷ im' ∷ [])
     ((re +ℤ re') ∷ (im -ℤ im') ∷ (im +ℤ im') ∷ (re' -ℤ re) ∷ [])
 
--- s with the numbers q for its quad (v, u)
-unfoldable pub withQuad : (v u : ℕ) (q : List ℤ) (s : ℕ → ℕ → ℤ) (k b : ℕ) → ℤ
-withQuad v u q s k b = cond (eqb (8 * (k % 8) + b % 8) (8 * v + u)) (getD q (2 * (k / 8) + b / 8) (pos 0)) (s k b)
-
--- r holds, by columns, the first n of the quads q in the order of 8·u + v, and each of these is small: a loop's invariant
-pub record Quads (q : (v u : ℕ) → List ℤ) (n : ℕ) (r : List (List ℤ)) : Type 0 where
-  pub count : n ≤ 64
-  pub square : Square r
-  pub is : (k b : ℕ) → k < 16 → b < 16 → 8 * (b % 8) + k % 8 < n → cell (pos 0) r b k ≡ getD (q (k % 8) (b % 8)) (2 * (k / 8) + b / 8) (pos 0)
-  pub most : (v u : ℕ) → v < 8 → u < 8 → 8 * u + v < n → LineMost quadMost (q v u)
-
 -- G of the tile t at the noise number
 unfoldable pub gainRe : (noise : ℕ) (t : ℕ → ℕ → ℤ) (u v : ℕ) → ℤ
 gainRe noise t u v = filtered side16 noise (tileRe t u v) (tileIm t u v)
@@ -112,9 +97,3 @@ gainIm noise t u v = filtered side16 noise (tileIm t u v) (tileRe t u v)
 pub record BinsOf (d t : ℕ → ℕ → ℤ) : Type 0 where
   pub re : (u v : ℕ) → u < 16 → v < 9 → tileRe t u v ≡ binRe side16 d u v
   pub im : (u v : ℕ) → u < 16 → v < 9 → tileIm t u v ≡ binIm side16 d u v
-
--- the bins of the tile t, which the code holds by columns, are at most binMost
-pub record BinsMost (t : List (List ℤ)) : Type 0 where
-  pub place : TileMost placeMost t
-  pub re : (u v : ℕ) → u < 16 → v < 9 → natAbs (tileRe (transposed (cell (pos 0) t)) u v) ≤ binMost
-  pub im : (u v : ℕ) → u < 16 → v < 9 → natAbs (tileIm (transposed (cell (pos 0) t)) u v) ≤ binMost

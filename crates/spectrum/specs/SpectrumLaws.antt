@@ -15,29 +15,29 @@ use Rattle.recipe.specs.Side.{cosAt, sinAt}
 use Rattle.recipe.specs.Tables.{cosines, cosine16, sine16, side16}
 use Rattle.recipe.specs.TableLaws.{opposite, agree-both, cosine-opposite, sine-opposite}
 use Rattle.recipe.specs.Correction.{power, wiener, rowRe, rowIm, binRe, binIm, quantized, filtered}
-use Rattle.lines.specs.Halfcomplex.{frequency, phase, basis, halfcomplex}
+use Rattle.lines.specs.Halfcomplex.{frequencyOf, phaseOf, basisOf, halfcomplexOf, basis, halfcomplex}
 use Rattle.spectrum.specs.Spectrum.{Mirrored, twoWay, apart, realOf, imaginaryOf, beside, tileRe, tileIm}
 
 -- ---- a line: the halfcomplex form gives each number's parts
 
 -- number u's parts of the bases at n are C(un) and −S(un)
 basis-real : (u n : ℕ) → u < 16 → n < 16 → realOf (λ k. basis k n) u ≡ cosAt side16 (u * n)
-unfolding realOf basis frequency phase cosAt side16 cosine16 cosines
+unfolding realOf basisOf frequencyOf phaseOf cosAt side16 cosine16 cosines
 basis-real = agree-both 16 16 (λ u n. realOf (λ k. basis k n) u) (λ u n. cosAt side16 (u * n)) tt
 
 basis-imaginary : (u n : ℕ) → u < 16 → n < 16 → imaginaryOf (λ k. basis k n) u ≡ negℤ (sinAt side16 (u * n))
-unfolding imaginaryOf apart basis frequency phase cosAt sinAt side16 sine16 cosine16 cosines
+unfolding imaginaryOf apart basisOf frequencyOf phaseOf cosAt sinAt side16 sine16 cosine16 cosines
 basis-imaginary = agree-both 16 16 (λ u n. imaginaryOf (λ k. basis k n) u) (λ u n. negℤ (sinAt side16 (u * n))) tt
 
 module _ (x : ℕ → ℤ) where
   -- a part of the sums is the sum against that part of the bases
   real-terms : (b : Bool) (j k : ℕ) → cond b (halfcomplex x j) (halfcomplex x k) ≡ sumZ 16 (λ n. x n *ℤ cond b (basis j n) (basis k n))
-  unfolding halfcomplex
+  unfolding halfcomplexOf side16
   real-terms true j k = refl
   real-terms false j k = refl
 
   imaginary-terms : (a b : Bool) (j k : ℕ) → cond a (pos 0) (cond b (halfcomplex x j) (negℤ (halfcomplex x k))) ≡ sumZ 16 (λ n. x n *ℤ cond a (pos 0) (cond b (basis j n) (negℤ (basis k n))))
-  unfolding halfcomplex
+  unfolding halfcomplexOf side16
   imaginary-terms true b j k = sym (sumZ-cong 16 _ (λ n. pos 0) (λ n l. *ℤ-zero (x n)) ∙ sumZ-0 16)
   imaginary-terms false true j k = refl
   imaginary-terms false false j k =
@@ -62,7 +62,7 @@ module _ (d : ℕ → ℕ → ℤ) (v : ℕ) (h : v < 9) where
       ap halfcomplex (fun-ext (λ y. sym (ap (λ b. cond b (halfcomplex (d y) v) (halfcomplex (d y) (16 - v))) (lt-ltb v 9 h)) ∙ line-real (d y) v (omega arith)))
 
   beside-terms : (a : Bool) → cond a (λ b. pos 0) (twoWay d (8 + v)) ≡ halfcomplex (λ y. cond a (pos 0) (halfcomplex (d y) (8 + v)))
-  unfolding twoWay halfcomplex
+  unfolding twoWay halfcomplexOf side16
   beside-terms true = fun-ext (λ b. sym (sumZ-cong 16 _ (λ n. pos 0) (λ n l. zero-*ℤ (basis b n)) ∙ sumZ-0 16))
   beside-terms false = refl
 
@@ -103,7 +103,7 @@ bin-im d u v h l = bin-imaginary d v l u h
 
 -- the columns' transforms first, and then the rows' along them, come to the same
 pub columns-first : (d : ℕ → ℕ → ℤ) (k b : ℕ) → twoWay d k b ≡ halfcomplex (λ x. halfcomplex (λ y. d y x) b) k
-unfolding twoWay halfcomplex
+unfolding twoWay halfcomplexOf side16
 columns-first d k b =
     sumZ-cong 16 _ (λ y. sumZ 16 (λ x. d y x *ℤ basis k x *ℤ basis b y)) (λ y i. sym (sumZ-scaler 16 (basis b y) (λ x. d y x *ℤ basis k x)))
     ∙ sumZ-exchange 16 16 (λ y x. d y x *ℤ basis k x *ℤ basis b y)

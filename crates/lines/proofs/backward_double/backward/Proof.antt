@@ -4,13 +4,10 @@ use lib.Ieee.{ofBits, ofInt}
 use Rattle.sequences.specs.Tab.{tab}
 use Rattle.sequences.specs.TabLaws.{Filled, fill-start, fill-turn, fill-done}
 use Rattle.sequences.specs.Grid.{tab-ext}
-use Rattle.lines.specs.Halfcomplex.{basis, backward}
-use Rattle.lines.specs.HalfSumLaws.{basis-most}
 use Rattle.lines.specs.Doubles.{joinedAt}
 use Rattle.lines.specs.Magnitudes.{pairColumnMost}
-use Rattle.lines.proofs.Unfolding.{basis-halves}
 use Rattle.lines.proofs.DoubleForms.{picked-line}
-use Rattle.lines.proofs.DoubleUnfolding.{line-at}
+use Rattle.lines.proofs.DoubleUnfolding.{back-at}
 use Rattle.lines.proofs.backward_double.backward.Statement.{statement}
 use Rattle.lines.proofs.backward_double.backward.Tie as tie
 
@@ -24,14 +21,14 @@ loop-again : tie.Need-loop-again Inv-loop μ-loop
 loop-again c = fill-turn (c .before .before .before .before .loop .inv) (omega arith) (c .unfolded .ensures)
 
 returns : tie.Need-returns Inv-loop μ-loop
-unfolding tab ofBits ofInt backward
+unfolding tab ofBits ofInt
 returns c g most e =
     let t = c .before .before in
     let s = t .before .before .before .before .before .before .before .before .before in
     let more : (k : ℕ) → natAbs (g k) ≤ pairColumnMost = λ k. omega (arith, most k) in
     fill-done (c .before .loop .inv) (omega arith)
     ∙ tab-ext 16 _ _
-    (line-at basis basis-most basis-halves g more
+    (back-at g more
     (s .even .ensures .whole refl (λ k. g (2 * k)) (λ k. more (2 * k)) (picked-line 16 g e (λ k. 2 * k) (λ k. 2 * k) (λ k l. refl) (λ k l. omega arith)))
     (t .odd .ensures (λ k. g (2 * k + 1)) (λ k. more (2 * k + 1)) (picked-line 16 g e (λ k. 2 * k + 1) (λ k. 2 * k + 1) (λ k l. refl) (λ k l. omega arith))))
 

@@ -9,7 +9,8 @@ use Rattle.sequences.specs.Tab.{tab}
 use Rattle.floats.specs.Kernels.{Form, var, plus, minus, times}
 use Rattle.recipe.specs.Side.{cosAt}
 use Rattle.recipe.specs.Tables.{cosines, cosine16, side16}
-use Rattle.lines.specs.Halfcomplex.{frequency, phase, basis, halfBasis}
+use Rattle.lines.specs.Halfcomplex.{halfZ, frequencyOf, phaseOf, basisOf, halfBasisOf, basis}
+use Rattle.lines.specs.Fold.{evenSumOf, evenHalfOf}
 use Rattle.lines.proofs.DoubleForms.{forms-are}
 use Rattle.lines.proofs.backward_double.even.Statement.{statement}
 use Rattle.lines.proofs.backward_double.even.Tie as tie
@@ -34,11 +35,11 @@ results own =
     plus a e ∷ plus b q ∷ plus c f ∷ minus d u ∷ minus a e ∷ minus b q ∷ minus c f ∷ plus d u ∷ []
 
 returns : tie.Need-returns
-unfolding tab sumZ halfBasis basis frequency phase cosAt side16 cosine16 cosines ofBits ofInt
+unfolding tab sumZ evenSumOf evenHalfOf halfZ halfBasisOf basisOf frequencyOf phaseOf cosAt side16 cosine16 cosines ofBits ofInt
 returns c =
     record {
       whole = λ o z most e. rw o (forms-are 8 z most e (results 16384) (tab 8 (λ n. sumE 8 (λ k. ring.var k ⊠ con (basis (2 * k) n)))) tt tt);
-      half = λ o z most e. rw o (forms-are 8 z most e (results 8192) (tab 8 (λ n. sumE 8 (λ k. ring.var k ⊠ con (halfBasis (2 * k) n)))) tt tt);
+      half = λ o z most e. rw o (forms-are 8 z most e (results 8192) (tab 8 (λ n. sumE 8 (λ k. ring.var k ⊠ con (halfBasisOf side16 (2 * k) n)))) tt tt);
     }
 
 pub even-spec : {M : Type 1} → statement M

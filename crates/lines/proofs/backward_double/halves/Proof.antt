@@ -3,10 +3,11 @@ use Rattle.algebra.specs.Prelude.{_∙_, ℕ, ℤ, _-_, _/_, _%_, arith, needs}
 use lib.Ieee.{binary64, ofInt}
 use Rattle.algebra.specs.Sums.{sumZ}
 use Rattle.sequences.specs.Tab.{tab}
-use Rattle.lines.specs.Halfcomplex.{halfBasis, halfSum}
-use Rattle.lines.specs.HalfSumLaws.{half-basis-most}
+use Rattle.recipe.specs.Tables.{side16}
+use Rattle.lines.specs.Halfcomplex.{halfSum}
+use Rattle.lines.specs.Fold.{oddSumOf, evenHalfOf}
 use Rattle.lines.proofs.PairStores.{byHalves, Halved, halved-start, halves-turn, halved-done, halves-are}
-use Rattle.lines.proofs.DoubleUnfolding.{half-basis-halves, line-at}
+use Rattle.lines.proofs.DoubleUnfolding.{half-at}
 use Rattle.lines.proofs.backward_double.halves.Statement.{statement}
 use Rattle.lines.proofs.backward_double.halves.Tie as tie
 
@@ -25,7 +26,7 @@ loop-again c =
     halves-turn (s0 .even-of .result) (s1 .even-of2 .result) (t0 .odd-of .result) (t1 .odd-of2 .result) (c .before .loop .inv) (c .loop-test .taken)
 
 returns : tie.Need-returns Inv-loop μ-loop
-unfolding tab sumZ halfBasis halfSum
+unfolding tab sumZ oddSumOf evenHalfOf side16
 returns c =
     let t1 = c .before .before in
     let t0 = t1 .before in
@@ -37,8 +38,8 @@ returns c =
           let z : ℕ → ℤ = λ l. g (l % 2) (l / 2) in
           halved-done (c .before .loop .inv) (omega arith)
           ∙ halves-are (s0 .even-of .result) (s1 .even-of2 .result) (t0 .odd-of .result) (t1 .odd-of2 .result) (λ p n. ofInt binary64 (halfSum (g p) n))
-          (line-at halfBasis half-basis-most half-basis-halves (g 0) (most 0) (s0 .even-of .ensures z (λ l. most (l % 2) (l / 2)) e) (t0 .odd-of .ensures z (λ l. most (l % 2) (l / 2)) e))
-          (line-at halfBasis half-basis-most half-basis-halves (g 1) (most 1) (s1 .even-of2 .ensures z (λ l. most (l % 2) (l / 2)) e) (t1 .odd-of2 .ensures z (λ l. most (l % 2) (l / 2)) e));
+          (half-at (g 0) (most 0) (s0 .even-of .ensures z (λ l. most (l % 2) (l / 2)) e) (t0 .odd-of .ensures z (λ l. most (l % 2) (l / 2)) e))
+          (half-at (g 1) (most 1) (s1 .even-of2 .ensures z (λ l. most (l % 2) (l / 2)) e) (t1 .odd-of2 .ensures z (λ l. most (l % 2) (l / 2)) e));
     }
 
 pub halves-spec : {M : Type 1} → statement M

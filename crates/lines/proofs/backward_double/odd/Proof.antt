@@ -9,7 +9,8 @@ use Rattle.sequences.specs.Tab.{tab}
 use Rattle.floats.specs.Kernels.{Form, var, plus, minus, times}
 use Rattle.recipe.specs.Side.{cosAt}
 use Rattle.recipe.specs.Tables.{cosines, cosine16, side16}
-use Rattle.lines.specs.Halfcomplex.{frequency, phase, basis}
+use Rattle.lines.specs.Halfcomplex.{frequencyOf, phaseOf, basisOf, basis}
+use Rattle.lines.specs.Fold.{oddSumOf}
 use Rattle.lines.proofs.DoubleForms.{forms-are}
 use Rattle.lines.proofs.backward_double.odd.Statement.{statement}
 use Rattle.lines.proofs.backward_double.odd.Tie as tie
@@ -34,7 +35,7 @@ results =
     times 16384 (plus r s) ∷ minus a d ∷ plus b e ∷ plus c f ∷ times 16384 (plus x y) ∷ minus f c ∷ minus e b ∷ minus (minus (var 8) a) d ∷ []
 
 returns : tie.Need-returns
-unfolding tab sumZ basis frequency phase cosAt side16 cosine16 cosines ofBits ofInt
+unfolding tab sumZ oddSumOf basisOf frequencyOf phaseOf cosAt side16 cosine16 cosines ofBits ofInt
 returns c z most e = forms-are 8 z most e results (tab 8 (λ n. sumE 8 (λ k. ring.var k ⊠ con (basis (2 * k + 1) n)))) tt tt
 
 pub odd-spec : {M : Type 1} → statement M

@@ -9,8 +9,8 @@ use Rattle.sequences.specs.Tab.{tab}
 use Rattle.floats.specs.Kernels.{Form, var, plus, minus, times}
 use Rattle.recipe.specs.Side.{cosAt}
 use Rattle.recipe.specs.Tables.{cosines, cosine16, side16}
-use Rattle.lines.specs.Halfcomplex.{frequency, phase, basis}
-use Rattle.lines.specs.Fold.{folded}
+use Rattle.lines.specs.Halfcomplex.{frequencyOf, phaseOf, basisOf, basis}
+use Rattle.lines.specs.Fold.{foldedOf}
 use Rattle.lines.proofs.DoubleForms.{forms-are}
 use Rattle.lines.proofs.halfcomplex_pair.even.Statement.{statement}
 use Rattle.lines.proofs.halfcomplex_pair.even.Tie as tie
@@ -31,7 +31,7 @@ results =
     times 16384 (plus (plus a c) (plus b d)) ∷ plus m g ∷ times 16384 (minus a c) ∷ minus m g ∷ times 16384 (minus (plus a c) (plus b d)) ∷ minus (minus (var 8) n) h ∷ times 16384 (minus d b) ∷ minus n h ∷ []
 
 returns : tie.Need-returns
-unfolding tab sumZ folded basis frequency phase cosAt side16 cosine16 cosines ofBits ofInt
+unfolding tab sumZ foldedOf basisOf frequencyOf phaseOf cosAt side16 cosine16 cosines ofBits ofInt
 returns c s most e = forms-are 8 s most e results (tab 8 (λ i. sumE 8 (λ n. ring.var n ⊠ con (basis (2 * i) n)))) tt tt
 
 pub even-spec : {M : Type 1} → statement M

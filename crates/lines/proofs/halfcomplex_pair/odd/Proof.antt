@@ -9,8 +9,8 @@ use Rattle.sequences.specs.Tab.{tab}
 use Rattle.floats.specs.Kernels.{Form, var, plus, minus, times}
 use Rattle.recipe.specs.Side.{cosAt}
 use Rattle.recipe.specs.Tables.{cosines, cosine16, side16}
-use Rattle.lines.specs.Halfcomplex.{frequency, phase, basis}
-use Rattle.lines.specs.Fold.{folded}
+use Rattle.lines.specs.Halfcomplex.{frequencyOf, phaseOf, basisOf, basis}
+use Rattle.lines.specs.Fold.{foldedOf}
 use Rattle.lines.proofs.DoubleForms.{forms-are}
 use Rattle.lines.proofs.halfcomplex_pair.odd.Statement.{statement}
 use Rattle.lines.proofs.halfcomplex_pair.odd.Tie as tie
@@ -33,7 +33,7 @@ results =
     plus (plus a c) p ∷ plus (minus a c) q ∷ minus (minus a c) q ∷ minus (plus a c) p ∷ minus (minus (minus (var 8) e) g) u ∷ plus (minus e g) w ∷ plus (minus g e) w ∷ minus (plus e g) u ∷ []
 
 returns : tie.Need-returns
-unfolding tab sumZ folded basis frequency phase cosAt side16 cosine16 cosines ofBits ofInt
+unfolding tab sumZ foldedOf basisOf frequencyOf phaseOf cosAt side16 cosine16 cosines ofBits ofInt
 returns c t most e = forms-are 8 t most e results (tab 8 (λ i. sumE 8 (λ n. ring.var n ⊠ con (basis (2 * i + 1) n)))) tt tt
 
 pub odd-spec : {M : Type 1} → statement M
