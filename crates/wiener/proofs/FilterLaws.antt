@@ -1,5 +1,5 @@
 -- Two planes side by side, all quads of which were replaced by those of G: both folded.
-use Rattle.algebra.specs.Prelude.{_≡_, refl, sym, ap, ap₂, _∙_, Bool, true, false, cond, List, ℕ, zero, suc, _+_, _/_, _%_, _<_, arith, eqb, getD, ℤ, pos}
+use Rattle.algebra.specs.Prelude.{_≡_, refl, sym, ap, ap₂, subst, _∙_, Bool, true, false, cond, List, ℕ, zero, suc, _+_, _/_, _%_, _<_, arith, eqb, getD, ℤ, pos}
 use mathlib.Core.List.{map}
 use Prim.Native.Nat.{zero-le}
 use lib.Ieee.{Float, nan, binary64, ofInt}
@@ -7,12 +7,12 @@ use Rattle.sequences.specs.Tab.{tab}
 use Rattle.sequences.specs.TabLaws.{getD-tab}
 use Rattle.sequences.specs.Grid.{cell}
 use Rattle.spectrum.specs.Spectrum.{transposed, spread, quadOf, gainRe, gainIm}
-use Rattle.spectrum.specs.Pairs.{sideBySide, either, doubles, Quiet}
+use Rattle.spectrum.specs.Pairs.{sideBySide, either, doubles, Binned, Quiet}
 use Rattle.spectrum.specs.QuadLaws.{four}
-use Rattle.wiener.specs.DoubleLaws.{weight}
-use Rattle.wiener.specs.Lanes.{quadAt, newQuad, Lanes}
+use Rattle.bins.specs.DoubleLaws.{weight}
+use Rattle.wiener.specs.Lanes.{quadAt, newQuad, newExactly, WholeBins, Lanes}
 use Rattle.wiener.proofs.LaneLaws.{quads-ext, quad-grid}
-use Rattle.wiener.proofs.QuadGains.{quad-gains}
+use Rattle.wiener.proofs.QuadGains.{double-gains, exact-gains, whole-bins}
 
 -- what goes with either plane
 either-of : {A B : Type 0} (f : A → B) (x y : A) (p : ℕ) → either (f x) (f y) p ≡ f (either x y p)
@@ -30,24 +30,56 @@ plane-quad s u l = four refl refl (high u) (high (8 + u))
     high : (y : ℕ) → ofInt binary64 (s ((16 + l) % 2) ((16 + l) / 2) y) ≡ ofInt binary64 (s (l % 2) (8 + l / 2) y)
     high y = ap₂ (λ p k. ofInt binary64 (s p k y)) (omega arith) (omega arith)
 
-module _ (first second : ℕ) (t : ℕ → ℕ → ℕ → ℤ) (quiet : Quiet first (t 0)) (quiet' : Quiet second (t 1)) where
-  quiet-plane : (p : ℕ) → p < 2 → Quiet (either first second p) (t p)
-  quiet-plane zero h = quiet
-  quiet-plane (suc zero) h = quiet'
-  quiet-plane (suc (suc p)) h = absurd (omega arith)
+-- of the plane of each lane
+by-plane : (P : ℕ → Type 0) → P 0 → P 1 → (l : ℕ) → P (l % 2)
+by-plane P a b l = go (l % 2) (omega arith)
+  where
+    go : (p : ℕ) → p < 2 → P p
+    go zero h = a
+    go (suc zero) h = b
+    go (suc (suc p)) h = absurd (omega arith)
+
+module _ (first second : ℕ) (t : ℕ → ℕ → ℕ → ℤ) where
+  abbrev noise : ℕ → ℕ
+  noise = either first second
 
   abbrev gain : (p k b : ℕ) → ℤ
-  gain p = spread (gainRe (either first second p) (t p)) (gainIm (either first second p) (t p))
+  gain p = spread (gainRe (noise p) (t p)) (gainIm (noise p) (t p))
 
-  pub pair-filtered : {v w : List Float} → v ≡ tab 16 (λ l. either (ofInt binary64 (pos first)) (ofInt binary64 (pos second)) (l % 2)) → w ≡ tab 16 (λ l. either (weight first) (weight second) (l % 2)) → {b r : List (List Float)} → Lanes v w 0 128 b r → b ≡ doubles (sideBySide (λ p. transposed (t p))) → r ≡ doubles (sideBySide (λ p. transposed (gain p)))
-  unfolding doubles newQuad
-  pair-filtered {v} {w} V' W' {b} {r} n e =
+  -- f makes quads of the folded G of those of B
+  pub record Gains (f : (u l : ℕ) → List Float → List Float) : Type 0 where
+    pub quad : (u l : ℕ) → u < 8 → l < 16 → f u l (map (ofInt binary64) (quadOf (t (l % 2)) (l / 2) u)) ≡ map (ofInt binary64) (quadOf (gain (l % 2)) (l / 2) u)
+
+  -- quad (u, l) of B
+  pub quad-of : {b : List (List Float)} → b ≡ doubles (sideBySide (λ p. transposed (t p))) → (u l : ℕ) → u < 8 → l < 16 → quadAt (cell nan b) u l ≡ map (ofInt binary64) (quadOf (t (l % 2)) (l / 2) u)
+  unfolding doubles
+  quad-of e u l h k = quad-grid nan _ e u l h k ∙ plane-quad t u l
+
+  pub pair-filtered : {f : (u l : ℕ) → List Float → List Float} → Gains f → {b r : List (List Float)} → Lanes f 0 128 b r → b ≡ doubles (sideBySide (λ p. transposed (t p))) → r ≡ doubles (sideBySide (λ p. transposed (gain p)))
+  unfolding doubles
+  pair-filtered {f} g {b} {r} n e =
       n .paired .is
       ∙ quads-ext nan (cell nan r) (λ y k. ofInt binary64 (sideBySide (λ p. transposed (gain p)) y k))
-      (λ u l h k. n .new u l h k zero-le (omega arith) ∙ rw (noise l k, weights l k, quad-grid nan _ e u l h k ∙ plane-quad t u l) (quad-gains (either first second (l % 2)) (t (l % 2)) (quiet-plane (l % 2) (omega arith)) (l / 2) u (omega arith) h) ∙ sym (plane-quad gain u l))
-    where
-      noise : (l : ℕ) → l < 16 → getD v l nan ≡ ofInt binary64 (pos (either first second (l % 2)))
-      noise l k = ap (λ v. getD v l nan) V' ∙ getD-tab _ nan 16 l k ∙ either-of (λ n. ofInt binary64 (pos n)) first second (l % 2)
+      (λ u l h k. n .new u l h k zero-le (omega arith) ∙ ap (f u l) (quad-of e u l h k) ∙ g .quad u l h k ∙ sym (plane-quad gain u l))
 
-      weights : (l : ℕ) → l < 16 → getD w l nan ≡ weight (either first second (l % 2))
-      weights l k = ap (λ w. getD w l nan) W' ∙ getD-tab _ nan 16 l k ∙ either-of weight first second (l % 2)
+  pub double-quads : Quiet first (t 0) → Quiet second (t 1) → {v w : List Float} → v ≡ tab 16 (λ l. either (ofInt binary64 (pos first)) (ofInt binary64 (pos second)) (l % 2)) → w ≡ tab 16 (λ l. either (weight first) (weight second) (l % 2)) → Gains (newQuad v w)
+  unfolding newQuad
+  double-quads q q' {v} {w} V' W' =
+      record { quad = λ u l h k. rw (noise-at l k, weight-at l k) (double-gains (noise (l % 2)) (t (l % 2)) (by-plane (λ p. Quiet (noise p) (t p)) q q' l) (l / 2) u (omega arith) h) }
+    where
+      noise-at : (l : ℕ) → l < 16 → getD v l nan ≡ ofInt binary64 (pos (noise (l % 2)))
+      noise-at l k = ap (λ v. getD v l nan) V' ∙ getD-tab _ nan 16 l k ∙ either-of (λ n. ofInt binary64 (pos n)) first second (l % 2)
+
+      weight-at : (l : ℕ) → l < 16 → getD w l nan ≡ weight (noise (l % 2))
+      weight-at l k = ap (λ w. getD w l nan) W' ∙ getD-tab _ nan 16 l k ∙ either-of weight first second (l % 2)
+
+  module _ (a : Binned (t 0)) (b : Binned (t 1)) where
+    binned-at : (l : ℕ) → Binned (t (l % 2))
+    binned-at = by-plane (λ p. Binned (t p)) a b
+
+    pub exact-quads : Gains (newExactly first second)
+    unfolding newExactly
+    exact-quads = record { quad = λ u l h k. exact-gains (noise (l % 2)) (t (l % 2)) (binned-at l) (l / 2) u (omega arith) h }
+
+    pub whole-quad : {b : List (List Float)} → b ≡ doubles (sideBySide (λ p. transposed (t p))) → (u l : ℕ) → u < 8 → l < 16 → WholeBins (l / 2) u (quadAt (cell nan b) u l)
+    whole-quad e u l h k = subst (WholeBins (l / 2) u) (sym (quad-of e u l h k)) (whole-bins (t (l % 2)) (binned-at l) (l / 2) u (omega arith) h)

@@ -1,12 +1,12 @@
 -- Quads of two tiles side by side: the store of one, and loops that replace them one after the other.
-use Rattle.algebra.specs.Prelude.{_≡_, refl, sym, ap, ap₂, subst, _∙_, List, [], _∷_, ℕ, zero, suc, _+_, _*_, _/_, _%_, _≤_, _<_, arith, ltb, getD, set, Bool, true, false}
+use Rattle.algebra.specs.Prelude.{_≡_, refl, sym, ap, ap₂, subst, _∙_, List, [], _∷_, ℕ, zero, suc, _+_, _*_, _/_, _%_, _≤_, _<_, arith, ltb, getD, set, Bool, true, false, ℤ}
 use borrow.Author.Tests.{eq-eqb, ne-eqb, ltb-true, ltb-false}
-use lib.Ieee.{Float, nan}
+use lib.Ieee.{Float, nan, binary64, ofInt}
 use Rattle.sequences.specs.TabLaws.{Filled, fill-turn}
 use Rattle.sequences.specs.Grid.{grid, cell, cell-grid, grid-ext, grid-of, stored, stored-here, stored-apart, set-grid}
 use Rattle.spectrum.specs.QuadLaws.{four}
-use Rattle.spectrum.specs.Pairs.{either, Paired}
-use Rattle.wiener.specs.Lanes.{numberOf, quadIn, quadAt, newQuad, WithQuad, Lanes}
+use Rattle.spectrum.specs.Pairs.{either, Paired, doubles}
+use Rattle.wiener.specs.Lanes.{numberOf, quadAt, WithQuad, Lanes}
 
 -- ---- a pair by its quads
 
@@ -36,6 +36,11 @@ quad-grid z f {r} e u l h k = four (at u l (omega arith) (omega arith)) (at (8 +
   where
     at : (y k : ℕ) → y < 16 → k < 32 → cell z r y k ≡ f y k
     at y k h o = ap (λ t. cell z t y k) e ∙ cell-grid z 16 32 f y k h o
+
+-- whole numbers side by side are a pair
+pub paired-doubles : (t : ℕ → ℕ → ℤ) {b : List (List Float)} → b ≡ doubles t → Paired nan b
+unfolding doubles
+paired-doubles t e = record { is = grid-of nan 16 32 (λ y l. ofInt binary64 (t y l)) e }
 
 -- ---- the store of a quad
 
@@ -89,27 +94,26 @@ with-quad u l h k q {b} p =
 
 -- ---- loops
 
-module _ {v w : List Float} where
-  pub lanes-start : (n : ℕ) {b : List (List Float)} → Paired nan b → Lanes v w n n b b
+module _ {f : (u l : ℕ) → List Float → List Float} where
+  pub lanes-start : (n : ℕ) {b : List (List Float)} → Paired nan b → Lanes f n n b b
   lanes-start n p = record { paired = p; new = λ u l h k i j. absurd (omega arith); rest = λ u l h k o. refl }
 
-  pub lanes-at : {m n o : ℕ} {b r : List (List Float)} → Lanes v w m n b r → n ≡ o → Lanes v w m o b r
-  lanes-at {m} {b = b} {r} p e = subst (λ n. Lanes v w m n b r) e p
+  pub lanes-at : {m n o : ℕ} {b r : List (List Float)} → Lanes f m n b r → n ≡ o → Lanes f m o b r
+  lanes-at {m} {b = b} {r} p e = subst (λ n. Lanes f m n b r) e p
 
   -- one quad
-  lanes-one : {u l n : ℕ} → u < 8 → l < 16 → 16 * u + l ≡ n → {q : List Float} {b r : List (List Float)} → WithQuad u l q b r → numberOf q 0 ∷ numberOf q 1 ∷ numberOf q 2 ∷ numberOf q 3 ∷ [] ≡ newQuad v w b u l → Lanes v w n (n + 1) b r
+  lanes-one : {u l n : ℕ} → u < 8 → l < 16 → 16 * u + l ≡ n → {q : List Float} {b r : List (List Float)} → WithQuad u l q b r → numberOf q 0 ∷ numberOf q 1 ∷ numberOf q 2 ∷ numberOf q 3 ∷ [] ≡ f u l (quadAt (cell nan b) u l) → Lanes f n (n + 1) b r
   lanes-one {u} {l} {n} h k o {q} {b} {r} p e =
       record { paired = p .paired; new = new; rest = λ x y i j z. p .apart x y i j (λ a. z (omega arith) (omega arith)) }
     where
-      new : (x y : ℕ) → x < 8 → y < 16 → n ≤ 16 * x + y → 16 * x + y < n + 1 → quadAt (cell nan r) x y ≡ newQuad v w b x y
+      new : (x y : ℕ) → x < 8 → y < 16 → n ≤ 16 * x + y → 16 * x + y < n + 1 → quadAt (cell nan r) x y ≡ f x y (quadAt (cell nan b) x y)
       new x y i j a c =
-          let f : u ≡ x = omega arith in
-          let g : l ≡ y = omega arith in
-          rw (sym f, sym g) (p .here ∙ e)
+          let g : u ≡ x = omega arith in
+          let i : l ≡ y = omega arith in
+          rw (sym g, sym i) (p .here ∙ e)
 
   -- quads from m on and then from n on
-  pub lanes-join : {m n o : ℕ} {b r s : List (List Float)} → m ≤ n → n ≤ o → Lanes v w m n b r → Lanes v w n o r s → Lanes v w m o b s
-  unfolding newQuad
+  pub lanes-join : {m n o : ℕ} {b r s : List (List Float)} → m ≤ n → n ≤ o → Lanes f m n b r → Lanes f n o r s → Lanes f m o b s
   lanes-join {m} {n} {o} {b} {r} {s} i j p q =
       record {
         paired = q .paired;
@@ -117,15 +121,15 @@ module _ {v w : List Float} where
         rest = λ u l h k z. q .rest u l h k (λ a c. z (omega arith) (omega arith)) ∙ p .rest u l h k (λ a c. z (omega arith) (omega arith));
       }
     where
-      new : (u l : ℕ) → u < 8 → l < 16 → m ≤ 16 * u + l → 16 * u + l < o → (c : Bool) → ltb (16 * u + l) n ≡ c → quadAt (cell nan s) u l ≡ newQuad v w b u l
+      new : (u l : ℕ) → u < 8 → l < 16 → m ≤ 16 * u + l → 16 * u + l < o → (c : Bool) → ltb (16 * u + l) n ≡ c → quadAt (cell nan s) u l ≡ f u l (quadAt (cell nan b) u l)
       new u l h k a c true e =
           let d : 16 * u + l < n = ltb-true (16 * u + l) n e in
           q .rest u l h k (λ a c. omega arith) ∙ p .new u l h k a d
       new u l h k a c false e =
           let d : n ≤ 16 * u + l = ltb-false (16 * u + l) n e in
-          q .new u l h k d c ∙ ap (quadIn (getD v l nan) (getD w l nan) (l / 2) u) (p .rest u l h k (λ a c. omega arith))
+          q .new u l h k d c ∙ ap (f u l) (p .rest u l h k (λ a c. omega arith))
 
-  pub lanes-turn : {u l m n : ℕ} {q : List Float} {b r s : List (List Float)} → Lanes v w m n b r → m ≤ n → u < 8 → l < 16 → 16 * u + l ≡ n → WithQuad u l q r s → numberOf q 0 ∷ numberOf q 1 ∷ numberOf q 2 ∷ numberOf q 3 ∷ [] ≡ newQuad v w r u l → Lanes v w m (n + 1) b s
+  pub lanes-turn : {u l m n : ℕ} {q : List Float} {b r s : List (List Float)} → Lanes f m n b r → m ≤ n → u < 8 → l < 16 → 16 * u + l ≡ n → WithQuad u l q r s → numberOf q 0 ∷ numberOf q 1 ∷ numberOf q 2 ∷ numberOf q 3 ∷ [] ≡ f u l (quadAt (cell nan r) u l) → Lanes f m (n + 1) b s
   lanes-turn p i h k o s e = lanes-join i (omega arith) p (lanes-one h k o s e)
 
 -- ---- a number for each plane in its lanes

@@ -1,5 +1,5 @@
-pub mod Distances
 pub mod LaneLaws
 pub mod NewQuads
+pub mod ExactLaws
 pub mod QuadGains
 pub mod FilterLaws

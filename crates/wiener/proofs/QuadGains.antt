@@ -1,24 +1,23 @@
 -- A quad of G worked out in double from one of B is, as doubles, that of the folded G: all sums and differences are exact.
-use Rattle.algebra.specs.Prelude.{_≡_, refl, sym, ap, subst, _∙_, List, [], _∷_, ℕ, zero, suc, _+_, _*_, _^_, _≤_, _<_, arith, lit<, getD, length, ℤ, pos, natAbs, _+ℤ_, _-ℤ_}
+use Rattle.algebra.specs.Prelude.{_≡_, refl, sym, ap, subst, _∙_, List, [], _∷_, ℕ, zero, suc, _+_, _*_, _≤_, _<_, arith, lit<, getD, length, ℤ, pos, natAbs, _+ℤ_, _-ℤ_}
 use mathlib.Core.List.{map}
 use Prim.Native.Nat.{zero-le}
 use lib.IntN.{+ℤ-comm}
 use lib.Ieee.{Float, binary64, ofInt}
 use Rattle.algebra.specs.Order.{sub-pn, add-pn, abs-pn, min-pn}
-use Rattle.algebra.specs.Nearest.{away}
 use Rattle.sequences.specs.Tab.{tab}
 use Rattle.recipe.specs.Tables.{side16}
 use Rattle.recipe.specs.Correction.{quantized, filtered}
 use Rattle.floats.specs.Kernels.{var, plus, minus, floats-wholes}
-use Rattle.spectrum.specs.Magnitudes.{binMost, pairGainMost}
+use Rattle.spectrum.specs.Magnitudes.{binMost, gainMost, productMost}
 use Rattle.spectrum.specs.Spectrum.{spread, quadOf, byKind, twoBins, foldedQuad, gainRe, gainIm}
-use Rattle.spectrum.specs.Pairs.{Quiet}
-use Rattle.spectrum.specs.WienerLaws.{wiener-root}
+use Rattle.spectrum.specs.Pairs.{Binned, Quiet}
+use Rattle.spectrum.specs.SizeLaws.{gain-most}
 use Rattle.spectrum.specs.QuadLaws.{four, four-each, quad-is, corner-is, bins-each}
-use Rattle.wiener.specs.Doubles.{gainsIn, realGainIn}
-use Rattle.wiener.specs.DoubleLaws.{weight, gains-are, real-gain-is}
-use Rattle.wiener.specs.Lanes.{numberOf, binsIn, foldedIn, cornerIn, foldIn, quadIn}
+use Rattle.bins.specs.DoubleLaws.{weight, quantized-nothing, gains-are, real-gain-is}
+use Rattle.wiener.specs.Lanes.{numberOf, binsIn, foldedIn, cornerIn, foldIn, quadIn, doubleQuad, exactQuad, WholeBins}
 use Rattle.wiener.proofs.NewQuads.{quad-corner, quad-others}
+use Rattle.wiener.proofs.ExactLaws.{exact-gains-are}
 
 -- whole numbers in double
 abbrev double : ℤ → Float
@@ -44,75 +43,99 @@ half a b p q =
 
 -- ---- the fold
 
-folded-is : (k u : ℕ) (a b c d : ℤ) → natAbs a ≤ pairGainMost → natAbs b ≤ pairGainMost → natAbs c ≤ pairGainMost → natAbs d ≤ pairGainMost → foldedIn k u (double a) (double b) (double c) (double d) ≡ map double (foldedQuad k u a b c d)
+folded-is : (k u : ℕ) (a b c d : ℤ) → natAbs a ≤ gainMost → natAbs b ≤ gainMost → natAbs c ≤ gainMost → natAbs d ≤ gainMost → foldedIn k u (double a) (double b) (double c) (double d) ≡ map double (foldedQuad k u a b c d)
 unfolding foldedIn foldedQuad byKind
 folded-is zero u a b c d i j m n =
-    floats-wholes binary64 (a ∷ b ∷ c ∷ d ∷ []) (four-each (λ z. natAbs z ≤ pairGainMost) a b c d zero-le i j m n)
+    floats-wholes binary64 (a ∷ b ∷ c ∷ d ∷ []) (four-each (λ z. natAbs z ≤ gainMost) a b c d zero-le i j m n)
     (plus (var 0) (var 0) ∷ plus (var 1) (var 1) ∷ plus (var 2) (var 2) ∷ plus (var 3) (var 3) ∷ []) tt
 folded-is (suc k) zero a b c d i j m n = refl
 folded-is (suc k) (suc u) a b c d i j m n =
-    floats-wholes binary64 (a ∷ b ∷ c ∷ d ∷ []) (four-each (λ z. natAbs z ≤ pairGainMost) a b c d zero-le i j m n)
+    floats-wholes binary64 (a ∷ b ∷ c ∷ d ∷ []) (four-each (λ z. natAbs z ≤ gainMost) a b c d zero-le i j m n)
     (plus (var 0) (var 2) ∷ minus (var 1) (var 3) ∷ plus (var 1) (var 3) ∷ minus (var 2) (var 0) ∷ []) tt
 
 -- ---- the bins
 
-module _ (v : ℕ) (t : ℕ → ℕ → ℤ) (quiet : Quiet v t) where
-  -- what a quotient in double asks of a part of B
-  abbrev Divides : ℤ → Type 0
-  Divides z = (natAbs z ≤ binMost) × (v * natAbs (quantized side16 z) ≤ 2 ^ 48)
+module _ (t : ℕ → ℕ → ℤ) (binned : Binned t) where
+  abbrev Bin : (k u i : ℕ) → ℤ
+  Bin k u i = getD (twoBins t k u) i (pos 0)
 
-  nothing : Divides (pos 0)
-  unfolding quantized side16 away
-  nothing = (zero-le, omega arith)
-
-  bins-divide : (k u : ℕ) → k < 8 → u < 8 → (i : ℕ) → Divides (getD (twoBins t k u) i (pos 0))
-  bins-divide =
-      bins-each t Divides nothing (λ u v h l. (quiet .re-most u v h l, quiet .re u v h l)) (λ u v h l. (quiet .im-most u v h l, quiet .im u v h l))
+  bins-small : (k u : ℕ) → k < 8 → u < 8 → (i : ℕ) → natAbs (Bin k u i) ≤ binMost
+  bins-small = bins-each t (λ z. natAbs z ≤ binMost) zero-le (binned .re-most) (binned .im-most)
 
   bins-are : (k u : ℕ) → k < 8 → u < 8 → binsIn k u (map double (quadOf t k u)) ≡ map double (twoBins t k u)
   unfolding binsIn twoBins byKind quadOf
   bins-are zero u h l = refl
   bins-are (suc k) zero h l = refl
   bins-are (suc k) (suc u) h l =
-      let bin = bins-divide (suc k) (suc u) h l in
-      let a = half (t (suc k) (suc u)) (t (8 + suc k) (8 + suc u)) (bin 0 .0) (bin 2 .0) in
-      let b = half (t (8 + suc k) (suc u)) (t (suc k) (8 + suc u)) (bin 3 .0) (subst (λ z. natAbs z ≤ binMost) (+ℤ-comm (t (suc k) (8 + suc u)) (t (8 + suc k) (suc u))) (bin 1 .0)) in
+      let bin = bins-small (suc k) (suc u) h l in
+      let a = half (t (suc k) (suc u)) (t (8 + suc k) (8 + suc u)) (bin 0) (bin 2) in
+      let b = half (t (8 + suc k) (suc u)) (t (suc k) (8 + suc u)) (bin 3) (subst (λ z. natAbs z ≤ binMost) (+ℤ-comm (t (suc k) (8 + suc u)) (t (8 + suc k) (suc u))) (bin 1)) in
       floats-wholes binary64 (quadOf t (suc k) (suc u)) (four-each (λ z. natAbs z ≤ binMost) _ _ _ _ zero-le (a .0) (b .1) (b .0) (a .1))
       (minus (var 0) (var 3) ∷ plus (var 1) (var 2) ∷ plus (var 0) (var 3) ∷ minus (var 2) (var 1) ∷ []) tt
 
-  -- ---- G
+  pub whole-bins : (k u : ℕ) → k < 8 → u < 8 → WholeBins k u (map double (quadOf t k u))
+  whole-bins k u h l =
+      record {
+        at = λ i j. record {
+          number = Bin k u i;
+          most = bins-small k u h l i;
+          is = ap (λ q. numberOf q i) (bins-are k u h l) ∙ number-of (twoBins t k u) i (omega (arith, bins-four t k u));
+        };
+      }
 
-  gain-small : (a b : ℤ) → natAbs (filtered side16 v a b) ≤ pairGainMost
-  unfolding filtered
-  gain-small a b = wiener-root v pairGainMost (quantized side16 a) (quantized side16 b) (lit< tt) (omega (arith, quiet .most))
+  -- ---- G, by any functions that give its doubles at the bins, where P holds
 
-  gains-at : (a b : ℤ) → Divides a → Divides b → gainsIn (double (pos v)) (weight v) (double a) (double b) ≡ double (filtered side16 v a b) ∷ double (filtered side16 v b a) ∷ []
-  gains-at a b p q = gains-are v a b (quiet .above) (quiet .most) (p .0) (q .0) (p .1) (q .1)
+  module _ (v : ℕ) (P : ℤ → Type 0) (each : (k u : ℕ) → k < 8 → u < 8 → (i : ℕ) → P (Bin k u i)) (real : Float → Float) (real-at : (a : ℤ) → P a → real (double a) ≡ double (filtered side16 v a (pos 0))) (gains : (a b : Float) → List Float) (gains-at : (a b : ℤ) → P a → P b → gains (double a) (double b) ≡ double (filtered side16 v a b) ∷ double (filtered side16 v b a) ∷ []) where
+    abbrev Quad : (k u : ℕ) → List ℤ
+    Quad = quadOf (spread (gainRe v t) (gainIm v t))
 
-  abbrev Quad : (k u : ℕ) → List ℤ
-  Quad = quadOf (spread (gainRe v t) (gainIm v t))
+    others : (k u : ℕ) → k < 8 → u < 8 → 0 < k + u → foldIn gains k u (binsIn k u (map double (quadOf t k u))) ≡ map double (Quad k u)
+    unfolding foldIn
+    others k u h l o =
+        let b = twoBins t k u in
+        let bin = Bin k u in
+        let fit = each k u h l in
+        let long = bins-four t k u in
+        let f = filtered side16 v in
+        let small : (i j : ℕ) → natAbs (f (bin i) (bin j)) ≤ gainMost = λ i j. gain-most v (bin i) (bin j) (bins-small k u h l i) in
+        ap (foldIn gains k u) (bins-are k u h l)
+        ∙ rw (number-of b 0 (omega arith), number-of b 1 (omega arith), number-of b 2 (omega arith), number-of b 3 (omega arith), gains-at (bin 0) (bin 1) (fit 0) (fit 1), gains-at (bin 2) (bin 3) (fit 2) (fit 3))
+        (folded-is k u (f (bin 0) (bin 1)) (f (bin 1) (bin 0)) (f (bin 2) (bin 3)) (f (bin 3) (bin 2)) (small 0 1) (small 1 0) (small 2 3) (small 3 2))
+        ∙ ap (map double) (sym (quad-is v t k u h l o))
 
-  others : (k u : ℕ) → k < 8 → u < 8 → 0 < k + u → foldIn (double (pos v)) (weight v) k u (binsIn k u (map double (quadOf t k u))) ≡ map double (Quad k u)
-  unfolding foldIn
-  others k u h l o =
-      let b = twoBins t k u in
-      let bin : ℕ → ℤ = λ i. getD b i (pos 0) in
-      let fit = bins-divide k u h l in
-      let long = bins-four t k u in
-      let f = filtered side16 v in
-      ap (foldIn (double (pos v)) (weight v) k u) (bins-are k u h l)
-      ∙ rw (number-of b 0 (omega arith), number-of b 1 (omega arith), number-of b 2 (omega arith), number-of b 3 (omega arith), gains-at (bin 0) (bin 1) (fit 0) (fit 1), gains-at (bin 2) (bin 3) (fit 2) (fit 3))
-      (folded-is k u (f (bin 0) (bin 1)) (f (bin 1) (bin 0)) (f (bin 2) (bin 3)) (f (bin 3) (bin 2)) (gain-small (bin 0) (bin 1)) (gain-small (bin 1) (bin 0)) (gain-small (bin 2) (bin 3)) (gain-small (bin 3) (bin 2)))
-      ∙ ap (map double) (sym (quad-is v t k u h l o))
+    corner : cornerIn real (map double (quadOf t 0 0)) ≡ map double (Quad 0 0)
+    unfolding cornerIn quadOf twoBins byKind tab
+    corner = four (at 0) (at 1) (at 2) (at 3) ∙ ap (map double) (sym (corner-is v t))
+      where
+        at : (i : ℕ) → real (double (getD (twoBins t 0 0) i (pos 0))) ≡ double (filtered side16 v (getD (twoBins t 0 0) i (pos 0)) (pos 0))
+        at i = real-at (getD (twoBins t 0 0) i (pos 0)) (each 0 0 (lit< tt) (lit< tt) i)
 
-  corner : cornerIn (double (pos v)) (weight v) (map double (quadOf t 0 0)) ≡ map double (Quad 0 0)
-  unfolding cornerIn quadOf twoBins byKind tab
-  corner = four (real 0) (real 1) (real 2) (real 3) ∙ ap (map double) (sym (corner-is v t))
-    where
-      real : (i : ℕ) → realGainIn (double (pos v)) (weight v) (double (getD (twoBins t 0 0) i (pos 0))) ≡ double (filtered side16 v (getD (twoBins t 0 0) i (pos 0)) (pos 0))
-      real i = let p = bins-divide 0 0 (lit< tt) (lit< tt) i in real-gain-is v (getD (twoBins t 0 0) i (pos 0)) (quiet .above) (quiet .most) (p .0) (p .1)
+    quad-gains : (k u : ℕ) → k < 8 → u < 8 → quadIn real gains k u (map double (quadOf t k u)) ≡ map double (Quad k u)
+    quad-gains zero zero h l = quad-corner _ _ 0 0 _ refl ∙ corner
+    quad-gains zero (suc u) h l = quad-others _ _ 0 (suc u) _ (omega arith) ∙ others 0 (suc u) h l (omega arith)
+    quad-gains (suc k) u h l = quad-others _ _ (suc k) u _ (omega arith) ∙ others (suc k) u h l (omega arith)
 
-  pub quad-gains : (k u : ℕ) → k < 8 → u < 8 → quadIn (double (pos v)) (weight v) k u (map double (quadOf t k u)) ≡ map double (Quad k u)
-  quad-gains zero zero h l = quad-corner _ _ 0 0 _ refl ∙ corner
-  quad-gains zero (suc u) h l = quad-others _ _ 0 (suc u) _ (omega arith) ∙ others 0 (suc u) h l (omega arith)
-  quad-gains (suc k) u h l = quad-others _ _ (suc k) u _ (omega arith) ∙ others (suc k) u h l (omega arith)
+-- with quotients in double
+module _ (v : ℕ) (t : ℕ → ℕ → ℤ) (quiet : Quiet v t) where
+  -- what these ask of a part of B
+  abbrev Divides : ℤ → Type 0
+  Divides z = (natAbs z ≤ binMost) × (v * natAbs (quantized side16 z) ≤ productMost)
+
+  nothing : Divides (pos 0)
+  nothing = (zero-le, rw quantized-nothing (omega arith))
+
+  bins-divide : (k u : ℕ) → k < 8 → u < 8 → (i : ℕ) → Divides (getD (twoBins t k u) i (pos 0))
+  bins-divide =
+      bins-each t Divides nothing (λ u v h l. (quiet .binned .re-most u v h l, quiet .re u v h l)) (λ u v h l. (quiet .binned .im-most u v h l, quiet .im u v h l))
+
+  pub double-gains : (k u : ℕ) → k < 8 → u < 8 → doubleQuad (double (pos v)) (weight v) k u (map double (quadOf t k u)) ≡ map double (quadOf (spread (gainRe v t) (gainIm v t)) k u)
+  unfolding doubleQuad
+  double-gains =
+      quad-gains t (quiet .binned) v Divides bins-divide _ (λ a p. real-gain-is v a (quiet .above) (quiet .most) (p .0) (p .1))
+      _ (λ a b p q. gains-are v a b (quiet .above) (quiet .most) (p .0) (q .0) (p .1) (q .1))
+
+-- with quotients in whole numbers
+pub exact-gains : (v : ℕ) (t : ℕ → ℕ → ℤ) → Binned t → (k u : ℕ) → k < 8 → u < 8 → exactQuad v k u (map double (quadOf t k u)) ≡ map double (quadOf (spread (gainRe v t) (gainIm v t)) k u)
+unfolding exactQuad
+exact-gains v t binned =
+    quad-gains t binned v (λ z. natAbs z ≤ binMost) (bins-small t binned) _ (λ a p. ap (λ g. numberOf g 0) (exact-gains-are v a (pos 0) p zero-le)) _ (exact-gains-are v)

@@ -1,4 +1,1 @@
-pub mod Doubles
-pub mod Columns
-pub mod DoubleLaws
 pub mod Lanes

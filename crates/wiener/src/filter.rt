@@ -1,7 +1,7 @@
 // The Wiener step on two tiles side by side, in double, by quads: rows u and 8 + u of lanes l and 16 + l hold bins (u, v) and (16 − u, v) of a plane, with
 // v = l / 2, and what comes of them is folded for the inverse. A turn of a loop is a quad, and the compiler does two at a time.
-use crate::double::gains;
-use crate::double::real_gain;
+use bins::double::gains;
+use bins::double::real_gain;
 ghost use mathlib.Core.Path.{_≡_};
 ghost use Prim.Native.Nat.{ℕ, _+_, _*_, _%_, _≤_, _<_};
 ghost use lib.IntN.{ℤ};
@@ -10,13 +10,13 @@ ghost use Rattle.sequences.specs.Tab.{tab};
 ghost use Rattle.spectrum.specs.Magnitudes.{pairNoise};
 ghost use Rattle.spectrum.specs.Spectrum.{transposed, spread, gainRe, gainIm};
 ghost use Rattle.spectrum.specs.Pairs.{sideBySide, either, Paired, doubles, Quiet};
-ghost use Rattle.wiener.specs.Lanes.{WithQuad, Lanes};
+ghost use Rattle.wiener.specs.Lanes.{newQuad, WithQuad, Lanes};
 
-// 1 + 2^-50
-const SLIGHTLY_MORE: f64 = 1.0000000000000008881784197001252;
+// 1 + 2^-51
+const SLIGHTLY_MORE: f64 = 1.0000000000000004440892098500626;
 
 // Stores quad (u, l).
-fn set_quad(b: &mut [[f64; 32]; 16], u: usize, l: usize, q: [f64; 4])
+pub fn set_quad(b: &mut [[f64; 32]; 16], u: usize, l: usize, q: [f64; 4])
     requires { ⌜ (u < 8) × (l < 16) × (Paired nan (now b)) ⌝ }
     ensures { λ _. ⌜ WithQuad u l q (now (b .entry)) (now (b .exit)) ⌝ }
 {
@@ -29,7 +29,7 @@ fn set_quad(b: &mut [[f64; 32]; 16], u: usize, l: usize, q: [f64; 4])
 // The quads at u = 0 and v = 0: four real bins.
 fn corner(b: &mut [[f64; 32]; 16], v: &[f64; 16], w: &[f64; 16])
     requires { ⌜ Paired nan (now b) ⌝ }
-    ensures { λ _. ⌜ Lanes (now (v .entry)) (now (w .entry)) 0 2 (now (b .entry)) (now (b .exit)) ⌝ }
+    ensures { λ _. ⌜ Lanes (newQuad (now (v .entry)) (now (w .entry))) 0 2 (now (b .entry)) (now (b .exit)) ⌝ }
 {
     for l in 0..2 {
         let q = [
@@ -45,7 +45,7 @@ fn corner(b: &mut [[f64; 32]; 16], v: &[f64; 16], w: &[f64; 16])
 // The other quads at u = 0: bins (0, v) and (8, v).
 fn left(b: &mut [[f64; 32]; 16], v: &[f64; 16], w: &[f64; 16])
     requires { ⌜ Paired nan (now b) ⌝ }
-    ensures { λ _. ⌜ Lanes (now (v .entry)) (now (w .entry)) 2 16 (now (b .entry)) (now (b .exit)) ⌝ }
+    ensures { λ _. ⌜ Lanes (newQuad (now (v .entry)) (now (w .entry))) 2 16 (now (b .entry)) (now (b .exit)) ⌝ }
 {
     for l in 2..16 {
         let g = gains(v[l], w[l], b[0][l], b[0][16 + l]);
@@ -57,7 +57,7 @@ fn left(b: &mut [[f64; 32]; 16], v: &[f64; 16], w: &[f64; 16])
 // The quads at u and v = 0: bins (u, 0) and (u, 8), and their conjugates.
 fn top(b: &mut [[f64; 32]; 16], v: &[f64; 16], w: &[f64; 16], u: usize)
     requires { ⌜ (0 < u) × (u < 8) × (Paired nan (now b)) ⌝ }
-    ensures { λ _. ⌜ Lanes (now (v .entry)) (now (w .entry)) (16 * u) (16 * u + 2) (now (b .entry)) (now (b .exit)) ⌝ }
+    ensures { λ _. ⌜ Lanes (newQuad (now (v .entry)) (now (w .entry))) (16 * u) (16 * u + 2) (now (b .entry)) (now (b .exit)) ⌝ }
 {
     for l in 0..2 {
         let g = gains(v[l], w[l], b[u][l], b[8 + u][l]);
@@ -74,7 +74,7 @@ fn top(b: &mut [[f64; 32]; 16], v: &[f64; 16], w: &[f64; 16], u: usize)
 // The other quads at u.
 fn inner(b: &mut [[f64; 32]; 16], v: &[f64; 16], w: &[f64; 16], u: usize)
     requires { ⌜ (0 < u) × (u < 8) × (Paired nan (now b)) ⌝ }
-    ensures { λ _. ⌜ Lanes (now (v .entry)) (now (w .entry)) (16 * u + 2) (16 * u + 16) (now (b .entry)) (now (b .exit)) ⌝ }
+    ensures { λ _. ⌜ Lanes (newQuad (now (v .entry)) (now (w .entry))) (16 * u + 2) (16 * u + 16) (now (b .entry)) (now (b .exit)) ⌝ }
 {
     for l in 2..16 {
         let x = b[u][l];

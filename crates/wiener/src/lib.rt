@@ -1,5 +1,3 @@
-// The Wiener step, Q and G: one part of a bin at a time in whole numbers, or two tiles side by side in double; and whether these can be worked out so.
-pub mod double;
+// The Wiener step, Q and G, on two tiles side by side in double, with quotients in double or in whole numbers.
+pub mod exact;
 pub mod filter;
-pub mod parts;
-pub mod quiet;

@@ -1,13 +1,13 @@
 -- `wiener::filter::corner`: four real bins a turn.
 use Rattle.algebra.specs.Prelude.{_-_, _≤_, arith, needs, now, lit<}
-use Rattle.wiener.specs.Lanes.{Lanes}
+use Rattle.wiener.specs.Lanes.{newQuad, Lanes}
 use Rattle.wiener.proofs.LaneLaws.{lanes-start, lanes-at, lanes-turn}
 use Rattle.wiener.proofs.NewQuads.{new-corner}
 use Rattle.wiener.proofs.filter.corner.Statement.{statement}
 use Rattle.wiener.proofs.filter.corner.Tie as tie
 
 abbrev Inv-loop : tie.InvT-loop
-Inv-loop b₀ v w l₀ b l = (l ≤ 2) × (Lanes v w 0 l b₀ b)
+Inv-loop b₀ v w l₀ b l = (l ≤ 2) × (Lanes (newQuad v w) 0 l b₀ b)
 
 abbrev μ-loop : tie.MeasureT-loop
 μ-loop b₀ v w l₀ b l = 2 - l

@@ -3,14 +3,14 @@ use Rattle.algebra.specs.Prelude.{_-_, _*_, _^_, _≤_, arith, needs, lit≤}
 use lib.Dec.{le→leb}
 use lib.Ieee.{inFloat, ofBits}
 use Rattle.floats.specs.QuotientLaws.{slightlyMore}
-use Rattle.wiener.specs.Lanes.{Lanes}
+use Rattle.wiener.specs.Lanes.{newQuad, Lanes}
 use Rattle.wiener.proofs.LaneLaws.{lanes-start, lanes-at, lanes-join}
-use Rattle.wiener.proofs.FilterLaws.{pair-filtered}
+use Rattle.wiener.proofs.FilterLaws.{double-quads, pair-filtered}
 use Rattle.wiener.proofs.filter.filter.Statement.{statement}
 use Rattle.wiener.proofs.filter.filter.Tie as tie
 
 abbrev Inv-loop : tie.InvT-loop
-Inv-loop b₀ first second v w u₀ b u = (1 ≤ u) × (u ≤ 8) × (Lanes v w 16 (16 * u) b₀ b)
+Inv-loop b₀ first second v w u₀ b u = (1 ≤ u) × (u ≤ 8) × (Lanes (newQuad v w) 16 (16 * u) b₀ b)
 
 abbrev μ-loop : tie.MeasureT-loop
 μ-loop b₀ first second v w u₀ b u = 8 - u
@@ -50,7 +50,7 @@ returns c =
     let first = second .before .before .before in
     let s = first .before .before .before in
     let all = lanes-at {o = 128} (lanes-join (omega arith) (omega arith) (lanes-join (lit≤ tt) (lit≤ tt) (o .corner .ensures) (l .left .ensures)) (p .loop .inv .2)) (omega arith) in
-    record { paired = all .paired; is = λ t q q' e. pair-filtered (s .args .first) (s .args .second) t q q' (first .alternating .ensures) (second .alternating2 .ensures) all e }
+    record { paired = all .paired; is = λ t q q' e. pair-filtered (s .args .first) (s .args .second) t (double-quads (s .args .first) (s .args .second) t q q' (first .alternating .ensures) (second .alternating2 .ensures)) all e }
 
 pub filter-spec : {M : Type 1} → statement M
 filter-spec = tie.close (tie.spec

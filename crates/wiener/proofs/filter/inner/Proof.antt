@@ -1,13 +1,13 @@
 -- `wiener::filter::inner`: two bins a turn, folded with each other.
 use Rattle.algebra.specs.Prelude.{refl, _+_, _-_, _*_, _≤_, arith, needs, now}
-use Rattle.wiener.specs.Lanes.{Lanes}
+use Rattle.wiener.specs.Lanes.{newQuad, Lanes}
 use Rattle.wiener.proofs.LaneLaws.{lanes-start, lanes-at, lanes-turn}
 use Rattle.wiener.proofs.NewQuads.{new-inner}
 use Rattle.wiener.proofs.filter.inner.Statement.{statement}
 use Rattle.wiener.proofs.filter.inner.Tie as tie
 
 abbrev Inv-loop : tie.InvT-loop
-Inv-loop b₀ v w u l₀ b l = (2 ≤ l) × (l ≤ 16) × (Lanes v w (16 * u + 2) (16 * u + l) b₀ b)
+Inv-loop b₀ v w u l₀ b l = (2 ≤ l) × (l ≤ 16) × (Lanes (newQuad v w) (16 * u + 2) (16 * u + l) b₀ b)
 
 abbrev μ-loop : tie.MeasureT-loop
 μ-loop b₀ v w u l₀ b l = 16 - l

@@ -1,13 +1,13 @@
 -- `wiener::filter::left`: two bins a turn, as they are.
 use Rattle.algebra.specs.Prelude.{_-_, _≤_, arith, needs, now, lit<}
-use Rattle.wiener.specs.Lanes.{Lanes}
+use Rattle.wiener.specs.Lanes.{newQuad, Lanes}
 use Rattle.wiener.proofs.LaneLaws.{lanes-start, lanes-at, lanes-turn}
 use Rattle.wiener.proofs.NewQuads.{new-left}
 use Rattle.wiener.proofs.filter.left.Statement.{statement}
 use Rattle.wiener.proofs.filter.left.Tie as tie
 
 abbrev Inv-loop : tie.InvT-loop
-Inv-loop b₀ v w l₀ b l = (2 ≤ l) × (l ≤ 16) × (Lanes v w 2 l b₀ b)
+Inv-loop b₀ v w l₀ b l = (2 ≤ l) × (l ≤ 16) × (Lanes (newQuad v w) 2 l b₀ b)
 
 abbrev μ-loop : tie.MeasureT-loop
 μ-loop b₀ v w l₀ b l = 16 - l

@@ -1,13 +1,13 @@
 -- `wiener::filter::top`: two bins a turn, each with its conjugate.
 use Rattle.algebra.specs.Prelude.{refl, _+_, _-_, _*_, _≤_, arith, needs, now}
-use Rattle.wiener.specs.Lanes.{Lanes}
+use Rattle.wiener.specs.Lanes.{newQuad, Lanes}
 use Rattle.wiener.proofs.LaneLaws.{lanes-start, lanes-at, lanes-turn}
 use Rattle.wiener.proofs.NewQuads.{new-top}
 use Rattle.wiener.proofs.filter.top.Statement.{statement}
 use Rattle.wiener.proofs.filter.top.Tie as tie
 
 abbrev Inv-loop : tie.InvT-loop
-Inv-loop b₀ v w u l₀ b l = (l ≤ 2) × (Lanes v w (16 * u) (16 * u + l) b₀ b)
+Inv-loop b₀ v w u l₀ b l = (l ≤ 2) × (Lanes (newQuad v w) (16 * u) (16 * u + l) b₀ b)
 
 abbrev μ-loop : tie.MeasureT-loop
 μ-loop b₀ v w u l₀ b l = 2 - l

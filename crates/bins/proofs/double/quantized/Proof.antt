@@ -1,0 +1,14 @@
+-- `bins::double::quantized`: the definition's own product, with BY_2_24 for the number that it denotes.
+use Rattle.algebra.specs.Prelude.{needs}
+use lib.Ieee.{ofBits}
+use Rattle.floats.specs.ProductLaws.{fraction}
+use Rattle.bins.specs.Doubles.{quantizedIn}
+use Rattle.bins.proofs.double.quantized.Statement.{statement}
+use Rattle.bins.proofs.double.quantized.Tie as tie
+
+returns : tie.Need-returns
+unfolding ofBits fraction quantizedIn
+returns c = c .nearest-whole .ensures
+
+pub quantized-spec : {M : Type 1} → statement M
+quantized-spec = tie.close (tie.spec (λ c κs. search needs) returns)

@@ -1,0 +1,45 @@
+-- Inside the crates of the merge: the Wiener step in double, as the code works it out. Each operation is rounded once.
+use Rattle.algebra.specs.Prelude.{List, [], _∷_, ℕ, ℤ}
+use lib.Ieee.{Float, binary64, add, sub, mul, div, ofInt, toSigned}
+use Rattle.floats.specs.Middle.{middle}
+use Rattle.floats.specs.ProductLaws.{fraction}
+use Rattle.recipe.specs.Correction.{wiener}
+
+-- the whole number nearest to x
+unfoldable pub nearestWhole : Float → Float
+nearestWhole x = sub binary64 (add binary64 x middle) middle
+
+-- one part of Q, from that part of B
+unfoldable pub quantizedIn : Float → Float
+quantizedIn b = nearestWhole (mul binary64 b (fraction 24))
+
+-- |Q|² + V
+unfoldable pub powerIn : (v q r : Float) → Float
+powerIn v q r = add binary64 (add binary64 (mul binary64 q q) (mul binary64 r r)) v
+
+-- both parts of G at a bin, from those of B; w is V, slightly more
+unfoldable pub gainsIn : (v w a b : Float) → List Float
+gainsIn v w a b =
+    let q = quantizedIn a in
+    let r = quantizedIn b in
+    let g = div binary64 w (powerIn v q r) in
+    nearestWhole (mul binary64 q g) ∷ nearestWhole (mul binary64 r g) ∷ []
+
+-- G at a bin that is real
+unfoldable pub realGainIn : (v w a : Float) → Float
+realGainIn v w a =
+    let q = quantizedIn a in
+    nearestWhole (mul binary64 q (div binary64 w (add binary64 (mul binary64 q q) v)))
+
+-- ---- with quotients in whole numbers
+
+-- one part of Q, from that part of B
+unfoldable pub wholeQuantized : Float → ℤ
+wholeQuantized b = toSigned 63 (quantizedIn b)
+
+-- both parts of G at a bin, from those of B
+unfoldable pub exactGainsIn : (noise : ℕ) (a b : Float) → List Float
+exactGainsIn noise a b =
+    let q = wholeQuantized a in
+    let r = wholeQuantized b in
+    ofInt binary64 (wiener noise q r) ∷ ofInt binary64 (wiener noise r q) ∷ []
