@@ -1,30 +1,38 @@
 -- P of the two planes of a pair of differences d at the noise numbers first and second, added to the tile s: the steps in double as the code hands them on are
 -- the recipe's, and so are the two planes one after the other.
-use Rattle.algebra.specs.Prelude.{_≡_, refl, sym, ap, ap₂, subst, _∙_, cond, List, ℕ, zero, suc, _+_, _*_, _/_, _%_, _^_, _≤_, _<_, arith, eqb, lit<, ℤ, pos, natAbs, _+ℤ_}
-use borrow.Author.Tests.{ne-eqb}
+use Rattle.algebra.specs.Prelude.{_≡_, sym, ap, ap₂, subst, _∙_, List, ℕ, zero, suc, _+_, _*_, _/_, _%_, _^_, _≤_, _<_, arith, eqb, lit<, ℤ, pos, natAbs, _+ℤ_}
 use lib.Ieee.{Float}
 use Rattle.algebra.specs.Nearest.{away}
 use Rattle.sequences.specs.Grid.{grid, cell, cell-grid, grid-ext}
 use Rattle.recipe.specs.Tables.{side16}
 use Rattle.recipe.specs.Correction.{quantized, filtered, correctionAt}
 use Rattle.lines.specs.Lines.{TileMost}
-use Rattle.lines.proofs.Tiles.{cells-most}
-use Rattle.lines.specs.Magnitudes.{pairFoldMost}
+use Rattle.lines.proofs.Tiles.{tile-most, cells-most}
+use Rattle.lines.specs.Magnitudes.{differenceMost, pairFoldMost}
 use Rattle.spectrum.specs.Magnitudes.{pairNoise, pairGainMost}
 use Rattle.spectrum.specs.Spectrum.{BinsOf, twoWay, transposed, spread, gainRe, gainIm, backSum}
 use Rattle.spectrum.specs.SpectrumLaws.{bin-re, bin-im}
 use Rattle.spectrum.specs.WienerLaws.{wiener-root}
-use Rattle.spectrum.specs.Pairs.{InDouble, planeIn, sideBySide, either, doubles}
+use Rattle.spectrum.specs.Pairs.{InDouble, Binned, BinnedPair, planeIn, sideBySide, either, doubles}
 use Rattle.spectrum.specs.Apart.{cond-cases}
 use Rattle.spectrum.specs.PlaceLaws.{back-ext}
 use Rattle.spectrum.specs.CorrectionLaws.{corrected}
+use Rattle.spectrum.specs.QuietLaws.{differences-binned}
 use Rattle.spectrum.specs.FoldSizes.{spread-most}
+use Rattle.spectrum.specs.DifferenceLaws.{correction-cong}
 
 -- ---- both planes in double
 
 -- B of the differences
 bins : (d : ℕ → ℕ → ℤ) → BinsOf d (twoWay d)
 bins d = record { re = bin-re d; im = bin-im d }
+
+pub plane-binned : {d : List (List ℤ)} → TileMost differenceMost d → (p : ℕ) → Binned (twoWay (planeIn (cell (pos 0) d) p))
+plane-binned m p = differences-binned _ (λ y x. cells-most m y (2 * x + p))
+
+-- those of both planes
+abbrev pub binned-pair : {d : List (List ℤ)} → TileMost differenceMost d → {b : List (List Float)} → b ≡ doubles (sideBySide (λ p. transposed (twoWay (planeIn (cell (pos 0) d) p)))) → BinnedPair b
+binned-pair {d} m e = record { plane = λ p. twoWay (planeIn (cell (pos 0) d) p); first = plane-binned m 0; second = plane-binned m 1; is = e }
 
 gain-most : (noise : ℕ) (b c : ℤ) → noise ≤ pairNoise → natAbs (filtered side16 noise b c) ≤ pairGainMost
 unfolding filtered
@@ -69,28 +77,26 @@ module _ (first second : ℕ) (d : ℕ → ℕ → ℤ) (s : List (List ℤ)) wh
 
 -- ---- one plane after the other
 
--- the numbers f of plane p are added to the sums s
-abbrev pub withPlane : (p : ℕ) (f : ℕ → ℕ → ℤ) (s : List (List ℤ)) → List (List ℤ)
-withPlane p f s = grid 16 32 (λ y l. cond (eqb (l % 2) p) (cell (pos 0) s y l +ℤ f y (l / 2)) (cell (pos 0) s y l))
+pub plane-most : {b : ℕ} (s : List (List ℤ)) (p : ℕ) {t : List (List ℤ)} → t ≡ grid 16 16 (planeIn (cell (pos 0) s) p) → TileMost b s → TileMost b t
+plane-most {b} s p e m = subst (TileMost b) (sym e) (tile-most b _ (λ y x. cells-most m y (2 * x + p)))
 
-either-plane : (q : ℕ) → q < 2 → (c : ℤ) (a : ℕ → ℤ) → cond (eqb q 1) (cond (eqb q 0) (c +ℤ a 0) c +ℤ a 1) (cond (eqb q 0) (c +ℤ a 0) c) ≡ c +ℤ a q
-either-plane zero h c a = refl
-either-plane (suc zero) h c a = refl
-either-plane (suc (suc q)) h c a = absurd (omega arith)
+-- the corrections t of plane p, taken out as e
+plane-correction : (d : ℕ → ℕ → ℤ) (p noise : ℕ) {e t : List (List ℤ)} → e ≡ grid 16 16 (planeIn d p) → t ≡ grid 16 16 (correctionAt side16 noise (cell (pos 0) e))
+    → (y x : ℕ) → y < 16 → x < 16 → cell (pos 0) t y x ≡ correctionAt side16 noise (planeIn d p) y x
+unfolding side16
+plane-correction d p noise {e} {t} q r y x h k =
+    ap (λ t. cell (pos 0) t y x) r ∙ cell-grid (pos 0) 16 16 _ y x h k
+    ∙ correction-cong side16 _ _ (λ y x h k. ap (λ t. cell (pos 0) t y x) q ∙ cell-grid (pos 0) 16 16 (planeIn d p) y x h k) noise y x
 
-module _ (f : ℕ → ℕ → ℕ → ℤ) (s : List (List ℤ)) {t : List (List ℤ)} (e : t ≡ withPlane 0 (f 0) s) where
-  after : (y l : ℕ) → y < 16 → l < 32 → cell (pos 0) t y l ≡ cond (eqb (l % 2) 0) (cell (pos 0) s y l +ℤ f 0 y (l / 2)) (cell (pos 0) s y l)
-  after y l h k = ap (λ t. cell (pos 0) t y l) e ∙ cell-grid (pos 0) 16 32 _ y l h k
+either-plane : (a b : List (List ℤ)) (f : ℕ → ℕ → ℕ → ℤ) (y x : ℕ) → cell (pos 0) a y x ≡ f 0 y x → cell (pos 0) b y x ≡ f 1 y x → (p : ℕ) → p < 2 → cell (pos 0) (either a b p) y x ≡ f p y x
+either-plane a b f y x i j zero h = i
+either-plane a b f y x i j (suc zero) h = j
+either-plane a b f y x i j (suc (suc p)) h = absurd (omega arith)
 
-  pub other-most : {m : ℕ} → TileMost m s → (y x : ℕ) → y < 16 → x < 16 → natAbs (planeIn (cell (pos 0) t) 1 y x) ≤ m
-  other-most {m} w y x h k =
-      subst (λ z. natAbs z ≤ m)
-      (sym (after y (2 * x + 1) h (omega arith) ∙ ap (λ b. cond b (cell (pos 0) s y (2 * x + 1) +ℤ f 0 y ((2 * x + 1) / 2)) (cell (pos 0) s y (2 * x + 1))) (ne-eqb ((2 * x + 1) % 2) 0 (odd x))))
-      (cells-most w y (2 * x + 1))
-    where
-      odd : (x : ℕ) → (2 * x + 1) % 2 ≡ 0 → ⊥
-      odd x e = omega arith
-
-  pub both-planes : withPlane 1 (f 1) t ≡ grid 16 32 (λ y l. cell (pos 0) s y l +ℤ f (l % 2) y (l / 2))
-  both-planes =
-      grid-ext 16 32 _ _ (λ y l h k. ap (λ z. cond (eqb (l % 2) 1) (z +ℤ f 1 y (l / 2)) z) (after y l h k) ∙ either-plane (l % 2) (omega arith) (cell (pos 0) s y l) (λ p. f p y (l / 2)))
+pub both-planes : (first second : ℕ) (d : ℕ → ℕ → ℤ) (s : List (List ℤ)) {a b e f : List (List ℤ)}
+    → e ≡ grid 16 16 (planeIn d 0) → a ≡ grid 16 16 (correctionAt side16 first (cell (pos 0) e))
+    → f ≡ grid 16 16 (planeIn d 1) → b ≡ grid 16 16 (correctionAt side16 second (cell (pos 0) f))
+    → grid 16 32 (λ y l. cell (pos 0) s y l +ℤ cell (pos 0) (either a b (l % 2)) y (l / 2)) ≡ grid 16 32 (λ y l. cell (pos 0) s y l +ℤ correctionAt side16 (either first second (l % 2)) (planeIn d (l % 2)) y (l / 2))
+both-planes first second d s i j m n =
+    grid-ext 16 32 _ _ (λ y l h k. ap (λ z. cell (pos 0) s y l +ℤ z)
+    (either-plane _ _ (λ p. correctionAt side16 (either first second p) (planeIn d p)) y (l / 2) (plane-correction d 0 first i j y (l / 2) h (omega arith)) (plane-correction d 1 second m n y (l / 2) h (omega arith)) (l % 2) (omega arith)))

@@ -63,4 +63,4 @@ pub back-is : (s : ℕ → ℕ → ℤ) (t : List (List ℤ)) → grid 16 32 (λ
 unfolding backSum counted apart
 back-is s t =
     grid-ext 16 32 _ _ (λ y l h k. ap (λ z. cell (pos 0) t y l +ℤ z)
-    (away-half (halfSum (λ x. backward (λ b. s b (2 * x + l % 2)) y) (l / 2)) (backSum (transposed (planeIn s (l % 2))) y (l / 2)) (half-sum (λ x. backward (λ b. s b (2 * x + l % 2)) y) (l / 2) (omega arith))))
+    (away-half (halfSum (λ x. backward (λ b. s b (2 * x + l % 2)) y) (l / 2)) (backSum (transposed (planeIn s (l % 2))) y (l / 2)) (half-sum (λ x. backward (λ b. s b (2 * x + l % 2)) y) (l / 2))))

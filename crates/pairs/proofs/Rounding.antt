@@ -1,5 +1,5 @@
 -- P of a whole number in double, and a sum that it is added to.
-use Rattle.algebra.specs.Prelude.{_≡_, sym, ap, ap₂, subst, _∙_, not, List, [], ℕ, _+_, _*_, _/_, _%_, _^_, _≤_, _<_, arith, T, lit<, lit≤, getD, ℤ, pos, natAbs, _+ℤ_, _-ℤ_, w64, SFits, toZ, ofZ, toZ-ofZ}
+use Rattle.algebra.specs.Prelude.{_≡_, sym, ap, ap₂, subst, _∙_, not, List, [], ℕ, _+_, _*_, _/_, _%_, _^_, _≤_, _<_, arith, T, ltb, lit<, lit≤, getD, ℤ, pos, natAbs, _+ℤ_, _-ℤ_, w64, SFits, toZ, ofZ, toZ-ofZ}
 use native.Mathlib.Nat.{le-trans}
 use mir.ValLaws.{toZ-pos}
 use lib.Ieee.{Float, nan, isNan, binary64, ofInt, add, mul}
@@ -15,12 +15,12 @@ use Rattle.lines.specs.Halfcomplex.{halfSum}
 use Rattle.lines.specs.HalfSumLaws.{half-sum-most}
 use Rattle.lines.proofs.Held.{number-is, number-most}
 use Rattle.lines.specs.Magnitudes.{pairColumnMost, pairHalfMost}
-use Rattle.spectrum.specs.Pairs.{InDouble, doubles}
+use Rattle.spectrum.specs.Pairs.{WholeDouble, InDouble, doubles}
 use Rattle.spectrum.specs.RoundingLaws.{away-most}
-use Rattle.pairs.specs.Whole.{WholeDouble, WholeRow, roundedBits, roundedDouble}
+use Rattle.pairs.specs.Whole.{WholeRow, roundedBits, roundedDouble}
 
 module _ {x : Float} (w : WholeDouble pairHalfMost x) where
-  small : natAbs (w .number) < 2 ^ 50
+  small : natAbs (w .number) < 2 ^ 51
   small = omega (arith, w .most)
 
   pub rounded-number : T (not (isNan (add binary64 (mul binary64 x (fraction 31)) middle)))
@@ -64,13 +64,13 @@ halves-row f w = record {
   is = f (λ p k. w .number (2 * k + p)) (λ p k. w .most (2 * k + p)) (w .is ∙ by-lanes (w .number));
 }
 
--- a sum of a few terms, and one more
-module _ {s r : ℤ} (m : AtMost (2 ^ 40) s) (n : AtMost (2 ^ 20) r) where
+-- a sum of a few terms, and one more of at most b
+module _ {b : ℕ} {s r : ℤ} (m : AtMost (2 ^ 40) s) (n : AtMost b r) (t : T (ltb b (2 ^ 63))) (u : T (ltb (2 ^ 40 + b) (2 ^ 63))) where
   pub more-fits : SFits w64 (toZ w64 (ofZ w64 s) +ℤ toZ w64 (ofZ w64 r))
-  more-fits = add-fits w64 _ _ _ _ (number-most w64 m tt) (number-most w64 n tt) tt
+  more-fits = add-fits w64 _ _ _ _ (number-most w64 m tt) (number-most w64 n t) u
 
   pub more-is : toZ w64 (ofZ w64 (toZ w64 (ofZ w64 s) +ℤ toZ w64 (ofZ w64 r))) ≡ s +ℤ r
-  more-is = toZ-ofZ more-fits ∙ ap₂ _+ℤ_ (number-is w64 m tt) (number-is w64 n tt)
+  more-is = toZ-ofZ more-fits ∙ ap₂ _+ℤ_ (number-is w64 m tt) (number-is w64 n t)
 
 -- a row of a pair
 pub row-of : (f : ℕ → ℕ → ℤ) {t : List (List Float)} → t ≡ doubles f → (y : ℕ) → y < 16 → getD t y [] ≡ doubleLine 32 (f y)

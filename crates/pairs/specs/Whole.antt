@@ -1,17 +1,11 @@
--- Whole numbers in double: one, and a row of thirty-two; and P of one.
+-- Whole numbers in double: a row of thirty-two, and P of one.
 use Rattle.algebra.specs.Prelude.{_≡_, List, ℕ, _≤_, ℤ, pos, natAbs, _-ℤ_}
-use lib.Ieee.{Float, binary64, ofInt, add, mul, toBits}
+use lib.Ieee.{Float, binary64, add, mul, toBits}
 use Rattle.floats.specs.Middle.{middle, middleBits}
 use Rattle.floats.specs.ProductLaws.{fraction}
 use Rattle.lines.specs.Doubles.{doubleLine}
 
--- x is a whole number of at most m
-pub record WholeDouble (m : ℕ) (x : Float) : Type 0 where
-  pub number : ℤ
-  pub most : natAbs number ≤ m
-  pub is : x ≡ ofInt binary64 number
-
--- and so is each of a row
+-- each number of a row is a whole one of at most m
 pub record WholeRow (m : ℕ) (x : List Float) : Type 0 where
   pub number : ℕ → ℤ
   pub most : (l : ℕ) → natAbs (number l) ≤ m

@@ -1,16 +1,21 @@
 // The two-way transform, the Wiener step and the inverse of document 01, on two tiles side by side, in double: place 2·x + p of a row is column x of plane p.
 mod columns;
 mod columns_back;
+mod planes;
 mod rows;
 mod rows_back;
 
-use transform::add_plane;
+use crate::planes::add_planes;
+use crate::planes::plane;
+use plain::correction;
+use quiet::in_double;
+use quiet::quotients_in_double;
+use wiener::exact::filter_exactly;
 use wiener::filter::filter;
-use wiener::quiet::in_double;
 ghost use mathlib.Core.Path.{_≡_};
-ghost use Prim.Native.Nat.{ℕ, _/_, _%_, _^_, _≤_};
-ghost use lib.IntN.{ℤ, pos, _+ℤ_};
-ghost use lib.Ieee.{nan};
+ghost use mathlib.Core.Bool.{true};
+ghost use Prim.Native.Nat.{_/_, _%_, _^_, _≤_};
+ghost use lib.IntN.{pos, _+ℤ_};
 ghost use Rattle.algebra.specs.Nearest.{away};
 ghost use Rattle.sequences.specs.Grid.{grid, cell};
 ghost use Rattle.recipe.specs.Tables.{side16};
@@ -19,7 +24,7 @@ ghost use Rattle.lines.specs.Magnitudes.{differenceMost, pairFoldMost};
 ghost use Rattle.lines.specs.Lines.{TileMost};
 ghost use Rattle.spectrum.specs.Magnitudes.{noiseMost, pairNoise};
 ghost use Rattle.spectrum.specs.Spectrum.{twoWay, transposed, spread, gainRe, gainIm, backSum};
-ghost use Rattle.spectrum.specs.Pairs.{Paired, InDouble, Quiet, planeIn, sideBySide, either, doubles};
+ghost use Rattle.spectrum.specs.Pairs.{Paired, InDouble, BinnedPair, QuietPair, planeIn, sideBySide, either, doubles};
 
 // B of both planes, in exact whole numbers.
 pub fn forward(d: [[i16; 32]; 16]) -> [[f64; 32]; 16]
@@ -33,12 +38,16 @@ pub fn forward(d: [[i16; 32]; 16]) -> [[f64; 32]; 16]
     b
 }
 
-// Q and G of both planes at their noise numbers.
-pub fn wiener(mut b: [[f64; 32]; 16], first: u64, second: u64) -> [[f64; 32]; 16]
-    requires { ⌜ record { paired : Paired nan b; first-most : first ≤ pairNoise; second-most : second ≤ pairNoise } ⌝ }
-    ensures { λ r. ⌜ ((t : ℕ → ℕ → ℕ → ℤ) → Quiet first (t 0) → Quiet second (t 1) → b ≡ doubles (sideBySide (λ p. transposed (t p))) → r ≡ doubles (sideBySide (λ p. transposed (spread (gainRe (either first second p) (t p)) (gainIm (either first second p) (t p)))))) ⌝ }
+// Q and G of both planes at their noise numbers, with quotients in double where both planes are quiet, and else in whole numbers.
+pub fn wiener(mut b: [[f64; 32]; 16], first: u64, second: u64, quiet: bool) -> [[f64; 32]; 16]
+    requires { ⌜ record { binned : BinnedPair b; first-most : first ≤ pairNoise; second-most : second ≤ pairNoise } ⌝ }
+    ensures { λ r. ⌜ ((w : BinnedPair b) → (quiet ≡ true → QuietPair first second (w .plane)) → r ≡ doubles (sideBySide (λ p. transposed (spread (gainRe (either first second p) (w .plane p)) (gainIm (either first second p) (w .plane p)))))) ⌝ }
 {
-    filter(&mut b, first, second);
+    if quiet {
+        filter(&mut b, first, second);
+        return b;
+    }
+    filter_exactly(&mut b, first, second);
     b
 }
 
@@ -51,18 +60,20 @@ pub fn add_inverse(mut g: [[f64; 32]; 16], sum: &mut [[i64; 32]; 16])
     rows_back::add_back(&g, &mut *sum);
 }
 
-// P of both planes of a pair of tiles of differences, at their noise numbers, is added to their sums: in double where both planes are quiet, and else in whole
-// numbers.
-pub fn add_corrections(d: [[i16; 32]; 16], first: u64, second: u64, sum: &mut [[i64; 32]; 16])
-    requires { ⌜ record { differences : TileMost differenceMost d; first-most : first ≤ noiseMost; second-most : second ≤ noiseMost; sums-most : TileMost (2 ^ 40) (now sum); paired : Paired (pos 0) (now sum) } ⌝ }
-    ensures { λ _. ⌜ now (sum .exit) ≡ grid 16 32 (λ y l. cell (pos 0) (now (sum .entry)) y l +ℤ correctionAt side16 (either first second (l % 2)) (planeIn (cell (pos 0) d) (l % 2)) y (l / 2)) ⌝ }
+// P of both planes of a pair of tiles of differences, at their noise numbers, is added to their sums: in double where both noise numbers allow it, and else in
+// whole numbers.
+pub fn add_corrections(d: &[[i16; 32]; 16], first: u64, second: u64, sum: &mut [[i64; 32]; 16])
+    requires { ⌜ record { differences : TileMost differenceMost (now d); first-most : first ≤ noiseMost; second-most : second ≤ noiseMost; sums-most : TileMost (2 ^ 40) (now sum); paired : Paired (pos 0) (now sum) } ⌝ }
+    ensures { λ _. ⌜ now (sum .exit) ≡ grid 16 32 (λ y l. cell (pos 0) (now (sum .entry)) y l +ℤ correctionAt side16 (either first second (l % 2)) (planeIn (cell (pos 0) (now (d .entry))) (l % 2)) y (l / 2)) ⌝ }
 {
-    if in_double(&d, first, second) {
-        let b = forward(d);
-        let g = wiener(b, first, second);
+    if in_double(first, second) {
+        let quiet = quotients_in_double(d, first, second);
+        let b = forward(*d);
+        let g = wiener(b, first, second, quiet);
         add_inverse(g, &mut *sum);
         return;
     }
-    add_plane(&d, 0, first, &mut *sum);
-    add_plane(&d, 1, second, &mut *sum);
+    let a = correction(plane(d, 0), first);
+    let b = correction(plane(d, 1), second);
+    add_planes(&mut *sum, &a, &b);
 }

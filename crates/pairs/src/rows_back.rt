@@ -12,11 +12,11 @@ ghost use Rattle.sequences.specs.Grid.{grid, cell};
 ghost use Rattle.lines.specs.Halfcomplex.{halfSum};
 ghost use Rattle.lines.specs.Lines.{LineMost, TileMost};
 ghost use Rattle.lines.specs.Magnitudes.{pairColumnMost, pairHalfMost};
-ghost use Rattle.spectrum.specs.Pairs.{Paired, InDouble, planeIn};
-ghost use Rattle.pairs.specs.Whole.{WholeDouble, WholeRow, roundedDouble};
+ghost use Rattle.spectrum.specs.Pairs.{Paired, WholeDouble, InDouble, planeIn};
+ghost use Rattle.pairs.specs.Whole.{WholeRow, roundedDouble};
 
-// 2^-31·(1 + 2^-51): a product with it lies above the quotient by 2^31, by too little for anything but a half to be rounded otherwise
-const BY_2_31: f64 = 0.00000000046566128730773946460765313825692;
+// 2^-31·(1 + 2^-52): a product with it lies above the quotient by 2^31, by too little for anything but a half to be rounded otherwise
+const BY_2_31: f64 = 0.00000000046566128730773936121007656912846;
 
 // 1.5·2^52: a sum with it has units of 1
 const MIDDLE: f64 = 6755399441055744.0;

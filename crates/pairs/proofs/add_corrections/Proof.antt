@@ -1,44 +1,42 @@
 -- `pairs::add_corrections`: B, Q, G and P one after the other in double, or one plane after the other.
-use Rattle.algebra.specs.Prelude.{_∙_, ℕ, _+_, _*_, lit<, ℤ, pos, now}
+use Rattle.algebra.specs.Prelude.{_∙_, arith, needs, ℕ, lit<, ℤ, pos, now}
 use Rattle.sequences.specs.Grid.{cell}
-use Rattle.lines.proofs.Tiles.{cells-most}
-use Rattle.recipe.specs.Tables.{side16}
-use Rattle.recipe.specs.Correction.{correctionAt}
 use Rattle.spectrum.specs.Spectrum.{twoWay}
-use Rattle.spectrum.specs.Pairs.{planeIn, either, doubles}
-use Rattle.pairs.proofs.ColumnLaws.{paired-grid}
-use Rattle.pairs.proofs.Corrections.{folded-whole, corrections-are, other-most, both-planes}
+use Rattle.spectrum.specs.Pairs.{planeIn}
+use Rattle.pairs.proofs.Corrections.{binned-pair, folded-whole, corrections-are, plane-most, both-planes}
 use Rattle.pairs.proofs.add_corrections.Statement.{statement}
 use Rattle.pairs.proofs.add_corrections.Tie as tie
 
--- the differences of plane p, their bins and their corrections
+-- the differences of plane p, and their bins
 abbrev plane : tie.Start → ℕ → ℕ → ℕ → ℤ
-plane s = planeIn (cell (pos 0) (s .args .t1))
+plane s = planeIn (cell (pos 0) (now (s .args .d)))
 
 abbrev bins : tie.Start → ℕ → ℕ → ℕ → ℤ
 bins s p = twoWay (plane s p)
 
-abbrev correction : tie.Start → ℕ → ℕ → ℕ → ℤ
-correction s p = correctionAt side16 (either (s .args .first) (s .args .second) p) (plane s p)
+quotients-in-double-requires : tie.Need-quotients-in-double-requires
+quotients-in-double-requires c κs = (c .before .before .pre .differences, c .before .in-double .ensures (c .if1 .taken))
 
 forward-requires : tie.Need-forward-requires
-forward-requires c κs = c .before .before .before .pre .differences
+forward-requires c κs = c .before .before .before .before .pre .differences
 
 wiener-requires : tie.Need-wiener-requires
-unfolding doubles
 wiener-requires c κs =
-    let q = c .before .before .in-double .ensures (c .before .if1 .taken) in
-    record { paired = paired-grid _ (c .forward .ensures); first-most = q .first .most; second-most = q .second .most }
+    let t = c .before .before .before in
+    let n = t .before .in-double .ensures (t .if1 .taken) in
+    record { binned = binned-pair (t .before .before .pre .differences) (c .forward .ensures); first-most = omega arith; second-most = omega arith }
 
 add-inverse-requires : tie.Need-add-inverse-requires
 add-inverse-requires c κs =
     let g = c .before in
     let b = g .before in
-    let i = b .before .before in
-    let s = i .before .before in
-    let q = i .in-double .ensures (b .before .if1 .taken) in
+    let q = b .before .before in
+    let t = q .before in
+    let s = t .before .before in
+    let n = t .before .in-double .ensures (t .if1 .taken) in
+    let e = g .wiener .ensures (binned-pair (s .pre .differences) (b .forward .ensures)) (q .quotients-in-double .ensures) in
     record {
-      whole = folded-whole (s .args .first) (s .args .second) (bins s) (q .first .most) (q .second .most) (g .wiener .ensures (bins s) (q .first) (q .second) (b .forward .ensures));
+      whole = folded-whole (s .args .first) (s .args .second) (bins s) (n .first-most) (n .second-most) e;
       sums-most = s .pre .sums-most;
       paired = s .pre .paired;
     }
@@ -47,42 +45,41 @@ returns : tie.Need-returns
 returns c =
     let g = c .before .before in
     let b = g .before in
-    let i = b .before .before in
-    let s = i .before .before in
-    let q = i .in-double .ensures (b .before .if1 .taken) in
-    c .add-inverse .ensures (folded-whole (s .args .first) (s .args .second) (bins s) (q .first .most) (q .second .most) (g .wiener .ensures (bins s) (q .first) (q .second) (b .forward .ensures)))
-    ∙ corrections-are (s .args .first) (s .args .second) (cell (pos 0) (s .args .t1)) (now (s .args .sum))
+    let q = b .before .before in
+    let t = q .before in
+    let s = t .before .before in
+    let n = t .before .in-double .ensures (t .if1 .taken) in
+    let e = g .wiener .ensures (binned-pair (s .pre .differences) (b .forward .ensures)) (q .quotients-in-double .ensures) in
+    c .add-inverse .ensures (folded-whole (s .args .first) (s .args .second) (bins s) (n .first-most) (n .second-most) e)
+    ∙ corrections-are (s .args .first) (s .args .second) (cell (pos 0) (now (s .args .d))) (now (s .args .sum))
 
-add-plane-requires : tie.Need-add-plane-requires
-add-plane-requires c κs =
+correction-requires : tie.Need-correction-requires
+correction-requires c κs =
+    let s = c .before .before .before in
+    record { differences = plane-most (now (s .args .d)) 0 (c .plane .ensures) (s .pre .differences); noise-most = s .pre .first-most }
+
+correction-requires-2 : tie.Need-correction-requires-2
+correction-requires-2 c κs =
     let s = c .before .before .before .before .before in
-    record {
-      differences = s .pre .differences;
-      plane = lit< tt;
-      noise-most = s .pre .first-most;
-      sums-most = λ y x h k. cells-most (s .pre .sums-most) y (2 * x + 0);
-      paired = s .pre .paired;
-    }
+    record { differences = plane-most (now (s .args .d)) 1 (c .plane2 .ensures) (s .pre .differences); noise-most = s .pre .second-most }
 
-add-plane-requires-2 : tie.Need-add-plane-requires-2
-add-plane-requires-2 c κs =
-    let a = c .before .before in
-    let s = a .before .before .before .before .before .before in
-    record {
-      differences = s .pre .differences;
-      plane = lit< tt;
-      noise-most = s .pre .second-most;
-      sums-most = other-most (correction s) (now (s .args .sum)) (a .add-plane .ensures) (s .pre .sums-most);
-      paired = paired-grid _ (a .add-plane .ensures);
-    }
+add-planes-requires : tie.Need-add-planes-requires
+add-planes-requires c κs =
+    let b = c .before .before .before in
+    let a = b .before .before in
+    let s = a .before .before .before .before in
+    record { first-most = a .correction .ensures .1; second-most = b .correction2 .ensures .1; sums-most = s .pre .sums-most; paired = s .pre .paired }
 
 returns-2 : tie.Need-returns-2
 returns-2 c =
-    let a = c .before .before .before in
-    let s = a .before .before .before .before .before .before in
-    c .add-plane2 .ensures ∙ both-planes (correction s) (now (s .args .sum)) (a .add-plane .ensures)
+    let b = c .before .before .before .before in
+    let a = b .before .before in
+    let s = a .before .before .before .before in
+    c .add-planes .ensures
+    ∙ both-planes (s .args .first) (s .args .second) (cell (pos 0) (now (s .args .d))) (now (s .args .sum)) (a .before .plane .ensures) (a .correction .ensures .0) (b .before .plane2 .ensures) (b .correction2 .ensures .0)
 
 pub add-corrections-spec : {M : Type 1} → statement M
 add-corrections-spec = tie.close (tie.spec
-    (λ c κs. c .before .pre .differences) forward-requires wiener-requires add-inverse-requires
-    returns add-plane-requires add-plane-requires-2 returns-2)
+    (λ c κs. search needs) quotients-in-double-requires forward-requires wiener-requires add-inverse-requires
+    returns (λ c κs. lit< tt) correction-requires (λ c κs. lit< tt) correction-requires-2
+    add-planes-requires returns-2)

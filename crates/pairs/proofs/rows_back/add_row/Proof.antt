@@ -34,13 +34,13 @@ sum-most c =
     subst (AtMost (2 ^ 40)) (sym (fill-rest (l .loop .inv) (omega arith) (pos 0))) (line-at (l .before .pre .sums-most) (l .loop .l))
 
 add-sum : tie.Need-add-sum Inv-loop μ-loop
-add-sum c = more-fits (sum-most c) (c .rounded .ensures .1)
+add-sum c = more-fits (sum-most c) (c .rounded .ensures .1) tt tt
 
 loop-again : tie.Need-loop-again Inv-loop μ-loop
 loop-again c =
     let l = c .before .before .before .before in
     fill-turn (l .loop .inv) (omega arith)
-    (more-is (sum-most c) (c .rounded .ensures .1) ∙ ap₂ _+ℤ_ (fill-rest (l .loop .inv) (omega arith) (pos 0)) (c .rounded .ensures .0))
+    (more-is (sum-most c) (c .rounded .ensures .1) tt tt ∙ ap₂ _+ℤ_ (fill-rest (l .loop .inv) (omega arith) (pos 0)) (c .rounded .ensures .0))
 
 returns : tie.Need-returns Inv-loop μ-loop
 returns c w =
