@@ -2,4 +2,4 @@ pub mod Places
 pub mod Contracts
 pub mod Reading
 pub mod Making
-pub mod Pairs
+pub mod PairRows

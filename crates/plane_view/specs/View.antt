@@ -62,12 +62,11 @@ pub record Shaped (count width height rowParity columnParity : ℕ) : Type 0 whe
 pub record Near (z : ℤ) : Type 0 where
   pub near : natAbs z ≤ 2 ^ 20
 
--- where a pair is read: in a frame, by the first of the two planes, from an origin that is near enough
-pub record PairPlace (count width height rowParity columnParity : ℕ) (y x : ℤ) : Type 0 where
+-- where a row of a pair is read: in a frame, by the first of the two planes, from a column that is near enough
+pub record RowPlace (count width height rowParity columnParity : ℕ) (x : ℤ) : Type 0 where
   pub shaped : Shaped count width height rowParity columnParity
   pub first : columnParity ≡ 0
-  pub near-y : Near y
-  pub near-x : Near x
+  pub near : Near x
 
 -- the rows of a frame, which is small
 pub record FrameRows (rowLength height rowParity columnParity : ℕ) : Type 0 where

@@ -6,7 +6,7 @@ ghost use lib.ListN.{length, getD};
 ghost use Rattle.sequences.specs.Tab.{tab};
 ghost use Rattle.geometry.specs.Read.{sampleAt, inside};
 ghost use Rattle.geometry.specs.Fits.{Sampled};
-ghost use Rattle.plane_view.specs.View.{rowLengthOf, pairOf, planeSample, pairRow, planePair, Shaped, Near, PairPlace, FrameRows, RowStart};
+ghost use Rattle.plane_view.specs.View.{pairOf, planeSample, pairRow, planePair, Shaped, Near, RowPlace, FrameRows, RowStart};
 use geometry::Shape;
 use geometry::read::inside;
 
@@ -86,20 +86,20 @@ fn edge_pair(start: usize, x: i64, samples: &[u16], width: usize) -> [u16; 32]
     row
 }
 
-// Row y of a pair whose first column is x, in a frame of rows of `row_length`.
-fn pair_row(
+// Row y of the pair whose first column is x: the samples of the plane of column parity 0 and of the plane beside it.
+pub fn row_at(
     y: i64,
     x: i64,
     samples: &[u16],
-    row_length: usize,
     width: usize,
     height: usize,
     row_parity: usize,
     column_parity: usize,
 ) -> [u16; 32]
-    requires { ⌜ record { shaped : Shaped (length (now samples)) width height «row_parity» «column_parity»; first : «column_parity» ≡ 0; near : Near x; row : «row_length» ≡ rowLengthOf (length (now samples)) height } ⌝ }
+    requires { ⌜ RowPlace (length (now samples)) width height «row_parity» «column_parity» x ⌝ }
     ensures { λ r. ⌜ r ≡ pairRow y x (now (samples .entry)) width height «row_parity» ⌝ }
 {
+    let row_length = samples.len() / (2 * height);
     let start = row_start(y, row_length, height, row_parity, column_parity);
     if 0 <= x {
         let first = x as usize;
@@ -108,36 +108,6 @@ fn pair_row(
         }
     }
     edge_pair(start, x, samples, width)
-}
-
-// The pair whose first row is y and whose first column is x: the tile of the plane of column parity 0, and that of the plane beside it.
-pub fn pair_at(
-    y: i64,
-    x: i64,
-    samples: &[u16],
-    width: usize,
-    height: usize,
-    row_parity: usize,
-    column_parity: usize,
-) -> [[u16; 32]; 16]
-    requires { ⌜ PairPlace (length (now samples)) width height «row_parity» «column_parity» y x ⌝ }
-    ensures { λ r. ⌜ r ≡ planePair y x (now (samples .entry)) width height «row_parity» ⌝ }
-{
-    let row_length = samples.len() / (2 * height);
-    let mut tile = [[0u16; 32]; 16];
-    for i in 0..16 {
-        tile[i] = pair_row(
-            along(y, i),
-            x,
-            samples,
-            row_length,
-            width,
-            height,
-            row_parity,
-            column_parity,
-        );
-    }
-    tile
 }
 
 // The view's sample that is read for row y and column x.
@@ -156,13 +126,13 @@ pub fn sample<'a>(view: PlaneView<'a>, y: i64, x: i64) -> u16
     )
 }
 
-// The pair of tiles of the view's plane, which is of column parity 0, and of the plane beside it, whose samples stand one word further:
-// the samples are in the order of the frame's rows. The first row is y and the first column x.
-pub fn pair<'a>(view: PlaneView<'a>, y: i64, x: i64) -> [[u16; 32]; 16]
-    requires { ⌜ PairPlace (length (now (view .samples))) (view .width) (view .height) (view .«row_parity») (view .«column_parity») y x ⌝ }
-    ensures { λ r. ⌜ r ≡ planePair y x (now (view .entry .samples)) (view .entry .width) (view .entry .height) (view .entry .«row_parity») ⌝ }
+// A row of the pair of tiles of the view's plane, which is of column parity 0, and of the plane beside it, whose samples stand one word further:
+// the samples are in the order of the frame's row. The row is y and the first column x.
+pub fn row<'a>(view: PlaneView<'a>, y: i64, x: i64) -> [u16; 32]
+    requires { ⌜ RowPlace (length (now (view .samples))) (view .width) (view .height) (view .«row_parity») (view .«column_parity») x ⌝ }
+    ensures { λ r. ⌜ r ≡ pairRow y x (now (view .entry .samples)) (view .entry .width) (view .entry .height) (view .entry .«row_parity») ⌝ }
 {
-    pair_at(
+    row_at(
         y,
         x,
         view.samples,
@@ -174,7 +144,7 @@ pub fn pair<'a>(view: PlaneView<'a>, y: i64, x: i64) -> [[u16; 32]; 16]
 }
 
 // The same of plain parameters: the view is made of them and read, so that a caller holds no view.
-pub fn pair_of(
+pub fn row_of(
     y: i64,
     x: i64,
     samples: &[u16],
@@ -182,11 +152,11 @@ pub fn pair_of(
     height: usize,
     row_parity: usize,
     column_parity: usize,
-) -> [[u16; 32]; 16]
-    requires { ⌜ PairPlace (length (now samples)) width height «row_parity» «column_parity» y x ⌝ }
-    ensures { λ r. ⌜ r ≡ planePair y x (now (samples .entry)) width height «row_parity» ⌝ }
+) -> [u16; 32]
+    requires { ⌜ RowPlace (length (now samples)) width height «row_parity» «column_parity» x ⌝ }
+    ensures { λ r. ⌜ r ≡ pairRow y x (now (samples .entry)) width height «row_parity» ⌝ }
 {
-    pair(
+    row(
         PlaneView {
             samples,
             width,
@@ -199,7 +169,25 @@ pub fn pair_of(
     )
 }
 
-// The pair of tiles of one row parity of one frame of a burst: the view is made of that frame's part of the words.
+// tile: the pair whose first row is y and whose first column is x.
+fn fill_pair(
+    y: i64,
+    x: i64,
+    samples: &[u16],
+    width: usize,
+    height: usize,
+    row_parity: usize,
+    tile: &mut [[u16; 32]; 16],
+)
+    requires { ⌜ record { place : RowPlace (length (now samples)) width height «row_parity» 0 x; near : Near y; rows : length (now tile) ≡ 16 } ⌝ }
+    ensures { λ _. ⌜ now (tile .exit) ≡ planePair y x (now (samples .entry)) width height «row_parity» ⌝ }
+{
+    for i in 0..16 {
+        tile[i] = row_of(along(y, i), x, samples, width, height, row_parity, 0);
+    }
+}
+
+// tile: the pair of tiles of one row parity of one frame of a burst; the views are made of that frame's part of the words.
 pub fn frame_pair(
     shape: Shape,
     samples: &[u16],
@@ -207,20 +195,21 @@ pub fn frame_pair(
     row_parity: usize,
     y: i64,
     x: i64,
-) -> [[u16; 32]; 16]
-    requires { ⌜ record { sampled : Sampled shape (now samples); frame-below : frame < shape .count; parity : «row_parity» < 2; near-y : Near y; near-x : Near x } ⌝ }
-    ensures { λ r. ⌜ r ≡ pairOf (shape .height / 2) (shape .width / 2) (sampleAt shape (now (samples .entry)) frame) «row_parity» y x ⌝ }
+    tile: &mut [[u16; 32]; 16],
+)
+    requires { ⌜ record { sampled : Sampled shape (now samples); frame-below : frame < shape .count; parity : «row_parity» < 2; near-y : Near y; near-x : Near x; rows : length (now tile) ≡ 16 } ⌝ }
+    ensures { λ _. ⌜ now (tile .exit) ≡ pairOf (shape .height / 2) (shape .width / 2) (sampleAt shape (now (samples .entry)) frame) «row_parity» y x ⌝ }
 {
     let words = shape.row_length * shape.height;
     let start = frame * words;
     let end = start + words;
-    pair_of(
+    fill_pair(
         y,
         x,
         &samples[start..end],
         shape.width / 2,
         shape.height / 2,
         row_parity,
-        0,
-    )
+        &mut *tile,
+    );
 }

@@ -1,8 +1,8 @@
 -- Pairs of tiles of an accepted burst: samples up to 4095, so differences up to 4095.
-use Rattle.algebra.specs.Prelude.{_≡_, ap₂, List, [], ℕ, _-_, _/_, _%_, _≤_, _<_, arith, ℤ, pos, natAbs, _-ℤ_}
+use Rattle.algebra.specs.Prelude.{_≡_, ap, ap₂, _∙_, List, [], ℕ, _-_, _/_, _%_, _≤_, _<_, arith, length, ℤ, pos, natAbs, _-ℤ_}
 use Rattle.algebra.specs.Order.{zarith, sub-pn, min-pn, abs-pn}
 use Rattle.sequences.specs.Tab.{tab}
-use Rattle.sequences.specs.TabLaws.{tab-every}
+use Rattle.sequences.specs.TabLaws.{length-tab, tab-every}
 use Rattle.sequences.specs.Grid.{grid, cell, cell-grid, grid-ext}
 use Rattle.geometry.specs.declared.Shape.{Shape}
 use Rattle.geometry.specs.Read.{sampleAt, planeOf, read}
@@ -20,6 +20,11 @@ use Rattle.tiles.specs.Sum.{TileFits}
 use Rattle.lines.specs.Lines.{LineMost, TileMost}
 use Rattle.lines.specs.Magnitudes.{differenceMost}
 use Rattle.spectrum.specs.Pairs.{sideBySide}
+
+-- a pair has sixteen rows
+pub pair-rows : {A : Type 0} (f : ℕ → ℕ → A) {t : List (List A)} → t ≡ grid 16 32 f → length t ≡ 16
+unfolding grid
+pair-rows f e = ap length e ∙ length-tab (λ i. tab 32 (f i)) 16
 
 -- differences of pairs, cell by cell
 pub difference-grid : (s : Scene) (rowParity a b k : ℕ) {t0 tz : List (List ℕ)} → t0 ≡ grid 16 32 (sideBySide (λ p. referenceTile s rowParity p a b)) → tz ≡ grid 16 32 (sideBySide (λ p. otherTile s rowParity p a b k))

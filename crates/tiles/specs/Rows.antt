@@ -1,4 +1,4 @@
--- Inside this crate and merging: rows of pairs of correction tiles in the work area, two of them, each of 512 words a pair.
+-- Inside this crate, gather and merging: rows of pairs of correction tiles in the work area, two of them, each of 512 words a pair.
 use Rattle.algebra.specs.Prelude.{_≡_, List, ℕ, _+_, _*_, _/_, _%_, _≤_, _<_, ℤ, natAbs}
 use Rattle.sequences.specs.Write.{written}
 use Rattle.geometry.specs.Tiles.{finestSide}

@@ -1,4 +1,4 @@
--- Inside this crate and merging: the corrections of a pair of tiles, summed over the other frames, and the pair on the way there.
+-- Inside this crate, gather and merging: the corrections of a pair of tiles, summed over the other frames, and the pair on the way there.
 use Rattle.algebra.specs.Prelude.{_≡_, List, [], ℕ, _^_, _≤_, _<_, getD, ℤ, natAbs}
 use Rattle.algebra.specs.Sums.{sumZ}
 use Rattle.sequences.specs.Grid.{grid}

@@ -46,9 +46,11 @@ fn corrections(
     ensures { λ _. ⌜ Summed (sceneOf m (now (samples .entry)) (now (vectors .entry))) site (now (sum .exit)) ⌝ }
 {
     let others = m.shape.count - 1;
+    let mut tz = [[0u16; 32]; 16];
+    let mut d = [[0i16; 32]; 16];
     for k in 0..others {
-        let d = differences(m, samples, vectors, site, k, t0);
-        pairs::add_corrections(d, first, second, &mut *sum);
+        differences(m, samples, vectors, site, k, t0, &mut tz, &mut d);
+        pairs::add_corrections(&d, first, second, &mut *sum);
     }
 }
 
@@ -64,10 +66,11 @@ pub fn tile_correction(
     ensures { λ _. ⌜ Summed (sceneOf m (now (samples .entry)) (now (vectors .entry))) site (now (sum .exit)) ⌝ }
 {
     let shape = m.shape;
-    let t0 = pair(shape, samples, m.reference, site, 0, 0);
+    let mut t0 = [[0u16; 32]; 16];
+    pair(shape, samples, m.reference, site, 0, 0, &mut t0);
     let first_black = plane_black(m.tuning, site.row_parity, 0);
     let second_black = plane_black(m.tuning, site.row_parity, 1);
-    let roots = noise::pair_roots(first_black, second_black, &t0);
+    let roots = roots::pair_roots(first_black, second_black, &t0);
     let first = tile_noise(m, roots.first);
     let second = tile_noise(m, roots.second);
     if first + second == 0 {

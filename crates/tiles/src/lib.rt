@@ -4,6 +4,11 @@ mod correcting;
 mod reading;
 pub mod rows;
 
+// A pair of tiles side by side: the words of one of its rows, and of all.
+pub const PAIR_WIDTH: usize = 32;
+
+pub const PAIR_WORDS: usize = 512;
+
 // A pair of tiles: the parity of its rows, and its row and column among its planes' tiles. Its rows are thirty-two samples, and place 2·x + p of one is column x
 // of the tile of column parity p.
 pub struct Site {

@@ -2,7 +2,7 @@
 ghost use mathlib.Core.Path.{_≡_};
 ghost use Prim.Native.Nat.{_+_, _≤_, _<_};
 ghost use lib.IntN.{pos, _+ℤ_, _-ℤ_};
-ghost use lib.ListN.{getD};
+ghost use lib.ListN.{length, getD};
 ghost use Rattle.algebra.specs.Bound.{AtMost};
 ghost use Rattle.sequences.specs.Tab.{tab};
 ghost use Rattle.sequences.specs.Grid.{grid, cell};
@@ -49,19 +49,17 @@ fn difference_row(a: &[u16; 32], b: &[u16; 32]) -> [i16; 32]
     row
 }
 
-// T0 - Tz.
-fn difference(t0: &[[u16; 32]; 16], tz: &[[u16; 32]; 16]) -> [[i16; 32]; 16]
-    requires { ⌜ (TileFits (now t0)) × (TileFits (now tz)) ⌝ }
-    ensures { λ r. ⌜ r ≡ grid 16 32 (λ i l. pos (cell 0 (now (t0 .entry)) i l) -ℤ pos (cell 0 (now (tz .entry)) i l)) ⌝ }
+// d: T0 - Tz.
+fn difference(t0: &[[u16; 32]; 16], tz: &[[u16; 32]; 16], d: &mut [[i16; 32]; 16])
+    requires { ⌜ record { reference : TileFits (now t0); other : TileFits (now tz); rows : length (now d) ≡ 16 } ⌝ }
+    ensures { λ _. ⌜ now (d .exit) ≡ grid 16 32 (λ i l. pos (cell 0 (now (t0 .entry)) i l) -ℤ pos (cell 0 (now (tz .entry)) i l)) ⌝ }
 {
-    let mut d = [[0i16; 32]; 16];
     for i in 0..16 {
         d[i] = difference_row(&t0[i], &tz[i]);
     }
-    d
 }
 
-// The pair of tiles of a frame, moved by a vector.
+// tile: the pair of tiles of a frame, moved by a vector.
 pub fn pair(
     shape: Shape,
     samples: &[u16],
@@ -69,16 +67,17 @@ pub fn pair(
     site: Site,
     down: i32,
     right: i32,
-) -> [[u16; 32]; 16]
-    requires { ⌜ record { sampled : Sampled shape (now samples); frame-below : frame < shape .count; sited : Sited shape site; down-most : AtMost 172 down; right-most : AtMost 172 right } ⌝ }
-    ensures { λ r. ⌜ r ≡ grid 16 32 (sideBySide (λ p. tileAt side16 (shape .height) (shape .width) (site .«row_parity») p (sampleAt shape (now (samples .entry)) frame) down right (site .row) (site .column))) ⌝ }
+    tile: &mut [[u16; 32]; 16],
+)
+    requires { ⌜ record { sampled : Sampled shape (now samples); frame-below : frame < shape .count; sited : Sited shape site; down-most : AtMost 172 down; right-most : AtMost 172 right; rows : length (now tile) ≡ 16 } ⌝ }
+    ensures { λ _. ⌜ now (tile .exit) ≡ grid 16 32 (sideBySide (λ p. tileAt side16 (shape .height) (shape .width) (site .«row_parity») p (sampleAt shape (now (samples .entry)) frame) down right (site .row) (site .column))) ⌝ }
 {
     let y = moved(site.row, down);
     let x = moved(site.column, right);
-    plane_view::frame_pair(shape, samples, frame, site.row_parity, y, x)
+    plane_view::frame_pair(shape, samples, frame, site.row_parity, y, x, &mut *tile);
 }
 
-// T0 - Tz of the k-th other frame.
+// d: T0 - Tz of the k-th other frame, by way of tz.
 pub fn differences(
     m: Merge,
     samples: &[u16],
@@ -86,15 +85,17 @@ pub fn differences(
     site: Site,
     k: usize,
     t0: &[[u16; 32]; 16],
-) -> [[i16; 32]; 16]
-    requires { ⌜ record { accepted : Accepted m (now samples) (now vectors); sited : Sited (m .shape) site; frame : k + 1 < m .shape .count; tile : now t0 ≡ grid 16 32 (sideBySide (λ p. referenceTile (sceneOf m (now samples) (now vectors)) (site .«row_parity») p (site .row) (site .column))) } ⌝ }
-    ensures { λ r. ⌜ r ≡ grid 16 32 (sideBySide (λ p. difference (sceneOf m (now (samples .entry)) (now (vectors .entry))) (site .«row_parity») p (site .row) (site .column) k)) ⌝ }
+    tz: &mut [[u16; 32]; 16],
+    d: &mut [[i16; 32]; 16],
+)
+    requires { ⌜ record { accepted : Accepted m (now samples) (now vectors); sited : Sited (m .shape) site; frame : k + 1 < m .shape .count; tile : now t0 ≡ grid 16 32 (sideBySide (λ p. referenceTile (sceneOf m (now samples) (now vectors)) (site .«row_parity») p (site .row) (site .column))); tz-rows : length (now tz) ≡ 16; d-rows : length (now d) ≡ 16 } ⌝ }
+    ensures { λ _. ⌜ (now (d .exit) ≡ grid 16 32 (sideBySide (λ p. difference (sceneOf m (now (samples .entry)) (now (vectors .entry))) (site .«row_parity») p (site .row) (site .column) k))) × (length (now (tz .exit)) ≡ 16) ⌝ }
 {
     let shape = m.shape;
     let place = vector_place(shape, k, site.row, site.column);
     let down = vectors[place];
     let right = vectors[place + 1];
     let frame = other_frame(m.reference, k);
-    let tz = pair(shape, samples, frame, site, down, right);
-    difference(t0, &tz)
+    pair(shape, samples, frame, site, down, right, &mut *tz);
+    difference(t0, &*tz, &mut *d);
 }

@@ -1,4 +1,4 @@
-// Rows of pairs of correction tiles in the work area: 512 words a pair, and a place for a row of either parity.
+// Rows of pairs of correction tiles in the work area: pair after pair, and a place for a row of either parity.
 ghost use mathlib.Core.Path.{_≡_};
 ghost use Prim.Native.Nat.{_+_, _*_, _/_, _%_, _≤_, _<_};
 ghost use lib.IntN.{pos};
@@ -8,6 +8,8 @@ ghost use Rattle.sequences.specs.Write.{written};
 ghost use Rattle.recipe.specs.Scene.{sceneOf};
 ghost use Rattle.tiles.specs.Accepted.{Accepted};
 ghost use Rattle.tiles.specs.Rows.{rowWords, slotOf, Stored};
+use crate::PAIR_WIDTH;
+use crate::PAIR_WORDS;
 use crate::Site;
 use crate::correcting::tile_correction;
 use geometry::tiles::FINEST_SIDE;
@@ -15,22 +17,22 @@ use geometry::tiles::tile_columns;
 use recipe::Merge;
 
 // A row of a pair is stored.
-fn store_row(work: &mut [i64], at: usize, row: &[i64; 32])
+fn store_row(work: &mut [i64], at: usize, row: &[i64; PAIR_WIDTH])
     requires { ⌜ at + 32 ≤ length (now work) ⌝ }
     ensures { λ _. ⌜ now (work .exit) ≡ written (now (work .entry)) at (λ j. getD (now (row .entry)) j (pos 0)) 32 ⌝ }
 {
-    for j in 0..32 {
+    for j in 0..PAIR_WIDTH {
         work[at + j] = row[j];
     }
 }
 
 // A pair is stored, row by row.
-fn store_tile(work: &mut [i64], at: usize, tile: &[[i64; 32]; 16])
+fn store_tile(work: &mut [i64], at: usize, tile: &[[i64; PAIR_WIDTH]; FINEST_SIDE])
     requires { ⌜ at + 512 ≤ length (now work) ⌝ }
     ensures { λ _. ⌜ now (work .exit) ≡ written (now (work .entry)) at (λ k. cell (pos 0) (now (tile .entry)) (k / 32) (k % 32)) 512 ⌝ }
 {
-    for i in 0..16 {
-        store_row(&mut *work, at + 32 * i, &tile[i]);
+    for i in 0..FINEST_SIDE {
+        store_row(&mut *work, at + PAIR_WIDTH * i, &tile[i]);
     }
 }
 
@@ -39,7 +41,7 @@ pub fn slot(width: usize, row: usize) -> usize
     requires { ⌜ width ≤ 4096 ⌝ }
     ensures { λ r. ⌜ (r ≡ slotOf width row) × (r ≤ rowWords width) ⌝ }
 {
-    row % 2 * (512 * (width / FINEST_SIDE + 1))
+    row % 2 * (PAIR_WORDS * (width / FINEST_SIDE + 1))
 }
 
 // The corrections of each pair of a row.
@@ -62,8 +64,8 @@ pub fn correction_row(
             row,
             column,
         };
-        let mut sum = [[0i64; 32]; 16];
+        let mut sum = [[0i64; PAIR_WIDTH]; FINEST_SIDE];
         tile_correction(m, samples, vectors, site, &mut sum);
-        store_tile(&mut *work, start + 512 * column, &sum);
+        store_tile(&mut *work, start + PAIR_WORDS * column, &sum);
     }
 }

@@ -60,28 +60,31 @@ mul-start c = omega (arith, room (c .before .before), small (c .before .before))
 add-end : tie.Need-add-end
 add-end c = omega (arith, room (c .before .before), small (c .before .before))
 
-mul-pair-of : tie.Need-mul-pair-of
-mul-pair-of c = omega (arith, room (c .before .before), small (c .before .before))
+mul-fill-pair : tie.Need-mul-fill-pair
+mul-fill-pair c = omega (arith, room (c .before .before), small (c .before .before))
 
-pair-of-requires : tie.Need-pair-of-requires
-pair-of-requires c κs =
-    let b = c .before .before .before .before .before in
+fill-pair-requires : tie.Need-fill-pair-requires
+fill-pair-requires c κs =
+    let b = c .before .before .before .before .before .before in
     let frame = b .args .frame in
     record {
-      shaped = rw (lent (s b) (all b) frame) (part-shaped (s b) (all b) frame (b .pre .sampled .allowed) (b .pre .sampled .long) (b .pre .frame-below) (planar b) (wide b) (high b));
-      first = refl;
-      near-y = rw (toZ-ofZ (b .fits .y)) (b .pre .near-y);
-      near-x = rw (toZ-ofZ (b .fits .x)) (b .pre .near-x);
+      place = record {
+        shaped = rw (lent (s b) (all b) frame) (part-shaped (s b) (all b) frame (b .pre .sampled .allowed) (b .pre .sampled .long) (b .pre .frame-below) (planar b) (wide b) (high b));
+        first = refl;
+        near = rw (toZ-ofZ (b .fits .x)) (b .pre .near-x);
+      };
+      near = rw (toZ-ofZ (b .fits .y)) (b .pre .near-y);
+      rows = b .pre .rows;
     }
 
 returns : tie.Need-returns
 returns c =
-    let b = c .before .before .before .before .before .before in
+    let b = c .before .before .before .before .before .before .before in
     let frame = b .args .frame in
-    rw (c .pair-of .ensures, lent (s b) (all b) frame, toZ-ofZ (b .fits .y), toZ-ofZ (b .fits .x))
+    rw (c .fill-pair .ensures, lent (s b) (all b) frame, toZ-ofZ (b .fits .y), toZ-ofZ (b .fits .x))
     (part-pair (s b) (all b) frame (b .pre .sampled .allowed) (b .pre .sampled .long) (b .pre .frame-below) (planar b) (wide b) (high b) (b .args .y) (b .args .x))
 
 pub frame-pair-spec : {M : Type 1} → statement M
 frame-pair-spec = tie.close (tie.spec
-    mul-words mul-start add-end mul-pair-of (λ c. search needs) (λ c. search needs)
-    (λ c. room (c .before .before)) pair-of-requires returns)
+    mul-words mul-start add-end mul-fill-pair (λ c. search needs) (λ c. search needs)
+    (λ c. room (c .before .before)) fill-pair-requires returns)

@@ -1,54 +1,59 @@
 -- The sum goes on by one frame a turn.
-use Rattle.algebra.specs.Prelude.{refl, sym, subst, _-_, arith, needs}
+use Rattle.algebra.specs.Prelude.{_≡_, refl, sym, subst, _-_, arith, needs, length}
 use Rattle.recipe.specs.Scene.{sceneOf}
 use Rattle.lines.specs.Lines.{TileMost}
 use Rattle.lines.specs.Magnitudes.{differenceMost}
 use Rattle.spectrum.specs.SizeLaws.{correction-most}
-use Rattle.tiles.proofs.Differences.{difference-most, tile-most}
+use Rattle.tiles.proofs.Differences.{pair-rows, difference-most, tile-most}
 use Rattle.tiles.proofs.Summing.{Summing, sum-start, sum-turn, sum-paired, sum-small, sum-done}
 use Rattle.tiles.proofs.correcting.corrections.Statement.{statement}
 use Rattle.tiles.proofs.correcting.corrections.Tie as tie
 
 abbrev Inv-loop : tie.InvT-loop
-Inv-loop m samples vectors site t0 first second sum₀ others k₀ sum k = Summing (sceneOf m samples vectors) site k sum
+Inv-loop m samples vectors site t0 first second sum₀ others tz₀ d₀ k₀ sum tz d k = record { sums : Summing (sceneOf m samples vectors) site k sum; tz-rows : length tz ≡ 16; d-rows : length d ≡ 16 }
 
 abbrev μ-loop : tie.MeasureT-loop
-μ-loop m samples vectors site t0 first second sum₀ others k₀ sum k = others - k
+μ-loop m samples vectors site t0 first second sum₀ others tz₀ d₀ k₀ sum tz d k = others - k
 
 loop-holds : tie.Need-loop-holds Inv-loop μ-loop
 unfolding sceneOf
-loop-holds c = sum-start refl (omega arith) (c .before .before .pre .cleared)
+loop-holds c = record { sums = sum-start refl (omega arith) (c .before .before .pre .cleared); tz-rows = refl; d-rows = refl }
 
 differences-requires : tie.Need-differences-requires Inv-loop μ-loop
 differences-requires c κs =
-    let s = c .before .before .before .before in
-    record { accepted = s .pre .accepted; sited = s .pre .sited; frame = omega arith; tile = s .pre .tile .is }
+    let l = c .before .before .before in
+    let s = l .before .before .before in
+    record { accepted = s .pre .accepted; sited = s .pre .sited; frame = omega arith; tile = s .pre .tile .is; tz-rows = l .loop .inv .tz-rows; d-rows = l .loop .inv .d-rows }
 
 add-corrections-requires : tie.Need-add-corrections-requires Inv-loop μ-loop
 add-corrections-requires c κs =
-    let d = c .before in
-    let l = d .before .before in
+    let d = c .before .before in
+    let l = d .before .before .before .before in
     let s = l .before .before .before in
     record {
-      differences = subst (TileMost differenceMost) (sym (d .differences .ensures)) (tile-most (s .pre .accepted) (s .pre .sited) (l .loop .k) (omega arith));
+      differences = subst (TileMost differenceMost) (sym (d .differences .ensures .0)) (tile-most (s .pre .accepted) (s .pre .sited) (l .loop .k) (omega arith));
       first-most = s .pre .tile .first-most;
       second-most = s .pre .tile .second-most;
-      sums-most = sum-small (l .loop .inv);
-      paired = sum-paired (l .loop .inv);
+      sums-most = sum-small (l .loop .inv .sums);
+      paired = sum-paired (l .loop .inv .sums);
     }
 
 loop-again : tie.Need-loop-again Inv-loop μ-loop
 unfolding sceneOf
 loop-again c =
-    let d = c .before .before in
-    let l = d .before .before in
+    let d = c .before .before .before in
+    let l = d .before .before .before .before in
     let s = l .before .before .before in
-    sum-turn (l .loop .inv) (omega arith) (s .args .first) (s .args .second) (s .pre .tile .number) (d .differences .ensures) (c .add-corrections .ensures)
-    (λ p h. correction-most _ _ (difference-most (s .pre .accepted) (s .pre .sited) (l .loop .k) (omega arith) p h))
+    record {
+      sums = sum-turn (l .loop .inv .sums) (omega arith) (s .args .first) (s .args .second) (s .pre .tile .number) (d .differences .ensures .0) (c .add-corrections .ensures)
+          (λ p h. correction-most _ _ (difference-most (s .pre .accepted) (s .pre .sited) (l .loop .k) (omega arith) p h));
+      tz-rows = d .differences .ensures .1;
+      d-rows = pair-rows _ (d .differences .ensures .0);
+    }
 
 returns : tie.Need-returns Inv-loop μ-loop
 unfolding sceneOf
-returns c = sum-done (c .before .loop .inv) (omega arith)
+returns c = sum-done (c .before .loop .inv .sums) (omega arith)
 
 pub corrections-spec : {M : Type 1} → statement M
 corrections-spec = tie.close (tie.spec

@@ -4,7 +4,7 @@ use borrow.Author.Count.{below-none, below-more}
 use Rattle.sequences.specs.Grid.{grid, cell, cell-grid}
 use Rattle.recipe.specs.Tables.{side16}
 use Rattle.recipe.specs.NoiseNumber.{tileRoot, noiseNumber}
-use Rattle.noise.specs.NoiseNumberLaws.{tile-root-cong}
+use Rattle.roots.specs.TileRootLaws.{tile-root-cong}
 use Rattle.spectrum.specs.Magnitudes.{noiseMost}
 use Rattle.spectrum.specs.Pairs.{sideBySide, either}
 use Rattle.recipe.specs.declared.Merge.{Merge}
@@ -48,8 +48,8 @@ no-noise-of {s} {t} {first = first} {second = second} k h =
     both (λ p. tileNoise s (t .«row_parity») p (t .row) (t .column) ≡ 0) (sym (k .number 0 (lit< tt)) ∙ f) (sym (k .number 1 (lit< tt)) ∙ g)
 
 -- T0
-tile-is : (c : tie.After-pair) → let a = c .before .before .before .args in
-    c .pair .result ≡ grid 16 32 (sideBySide (λ p. referenceTile (sceneOf (a .m) (now (a .samples)) (now (a .vectors))) (a .site .«row_parity») p (a .site .row) (a .site .column)))
+tile-is : (c : tie.After-pair) → let a = c .before .before .before .before .args in
+    c .pair .last .1 .1 .1 .1 .1 .1 .0 ≡ grid 16 32 (sideBySide (λ p. referenceTile (sceneOf (a .m) (now (a .samples)) (now (a .vectors))) (a .site .«row_parity») p (a .site .row) (a .site .column)))
 unfolding referenceTile sceneOf
 tile-is c = c .pair .ensures
 
@@ -57,30 +57,30 @@ pair-roots-requires : tie.Need-pair-roots-requires
 unfolding cell
 pair-roots-requires c κs =
     let t = c .before .before .before in
-    let s = t .before .before .before in
+    let s = t .before .before .before .before in
     let fits = tile-fits _ (reference-most (s .pre .accepted) (s .pre .sited)) (tile-is t) in
     record { most = λ i l. fits .row i .most l }
 
-known : (c : tie.After-tile-noise2) → let t = c .before .before .before .before .before .before in let a = t .before .before .before .args in
-    TileOf (sceneOf (a .m) (now (a .samples)) (now (a .vectors))) (a .site) (t .pair .result) (c .before .tile-noise .result) (c .tile-noise2 .result)
+known : (c : tie.After-tile-noise2) → let t = c .before .before .before .before .before .before in let a = t .before .before .before .before .args in
+    TileOf (sceneOf (a .m) (now (a .samples)) (now (a .vectors))) (a .site) (t .pair .last .1 .1 .1 .1 .1 .1 .0) (c .before .tile-noise .result) (c .tile-noise2 .result)
 known c =
     let v = c .before in
     let r = v .before in
     let b = r .before .before in
     let t = b .before .before in
-    let a = t .before .before .before .args in
+    let a = t .before .before .before .before .args in
     tile-of (a .m) (now (a .samples)) (now (a .vectors)) (a .site) (tile-is t)
     (number (a .m) (now (a .samples)) (now (a .vectors)) (a .site) (tile-is t) 0 (lit< tt) (λ j. 2 * j) (λ j. omega arith) (b .before .plane-black .ensures) (r .pair-roots .ensures .first) (v .tile-noise .ensures .0))
     (number (a .m) (now (a .samples)) (now (a .vectors)) (a .site) (tile-is t) 1 (lit< tt) (λ j. 2 * j + 1) (λ j. omega arith) (b .plane-black2 .ensures) (r .pair-roots .ensures .second) (c .tile-noise2 .ensures .0))
     (v .tile-noise .ensures .1) (c .tile-noise2 .ensures .1)
 
 returns : tie.Need-returns
-returns c = zero-summed (no-noise-of (known (c .before)) (c .if1 .taken)) (c .before .before .before .before .before .before .before .before .before .before .pre .cleared)
+returns c = zero-summed (no-noise-of (known (c .before)) (c .if1 .taken)) (c .before .before .before .before .before .before .before .before .before .before .before .pre .cleared)
 
 corrections-requires : tie.Need-corrections-requires
 corrections-requires c κs =
     let n = c .before .before .before in
-    let s = n .before .before .before .before .before .before .before .before .before in
+    let s = n .before .before .before .before .before .before .before .before .before .before in
     record { accepted = s .pre .accepted; sited = s .pre .sited; tile = known n; cleared = s .pre .cleared }
 
 pub tile-correction-spec : {M : Type 1} → statement M

@@ -1,5 +1,5 @@
 -- A tile of differences: filled row by row from the front.
-use Rattle.algebra.specs.Prelude.{refl, _-_, arith, needs, pos, _-ℤ_}
+use Rattle.algebra.specs.Prelude.{_-_, arith, needs, pos, _-ℤ_}
 use Rattle.sequences.specs.Tab.{tab}
 use Rattle.sequences.specs.TabLaws.{Filled, fill-start, fill-turn, fill-done}
 use Rattle.sequences.specs.Grid.{grid, cell}
@@ -15,7 +15,7 @@ abbrev μ-loop : tie.MeasureT-loop
 difference-row-requires : tie.Need-difference-row-requires Inv-loop μ-loop
 difference-row-requires c κs =
     let l = c .before .before .before in
-    (l .before .pre .0 .row (l .loop .i), l .before .pre .1 .row (l .loop .i))
+    (l .before .pre .reference .row (l .loop .i), l .before .pre .other .row (l .loop .i))
 
 loop-again : tie.Need-loop-again Inv-loop μ-loop
 unfolding cell
@@ -27,6 +27,6 @@ returns c = fill-done (c .before .loop .inv) (omega arith)
 
 pub difference-spec : {M : Type 1} → statement M
 difference-spec = tie.close (tie.spec
-    Inv-loop μ-loop (λ c. fill-start refl) (λ c. search needs) (λ c. search needs)
+    Inv-loop μ-loop (λ c. fill-start (c .pre .rows)) (λ c. search needs) (λ c. search needs)
     (λ c. search needs) (λ c. search needs) difference-row-requires (λ c. search needs)
     (λ c. search needs) (λ c. search needs) (λ c. search needs) loop-again returns)

@@ -9,7 +9,7 @@ use Rattle.spectrum.specs.Pairs.{sideBySide}
 use Rattle.recipe.specs.Tables.{side16}
 use Rattle.recipe.specs.declared.Merge.{Merge}
 use Rattle.recipe.specs.Scene.{sceneOf, tileAt, otherTile}
-use Rattle.tiles.proofs.Differences.{difference-grid, tile-fits, reference-most, other-most}
+use Rattle.tiles.proofs.Differences.{pair-rows, difference-grid, tile-fits, reference-most, other-most}
 use Rattle.tiles.proofs.reading.differences.Statement.{statement}
 use Rattle.tiles.proofs.reading.differences.Tie as tie
 
@@ -29,32 +29,37 @@ other-pair-is m samples vectors rowParity a b k f p d r = rw (d, r, f, p)
 
 pair-requires : tie.Need-pair-requires
 pair-requires c κs =
-    let s = c .before .before .before .before .before .before in
+    let s = c .before .before .before .before .before .before .before in
     let v = s .pre .accepted .vectors-fit in
-    record { sampled = search needs; frame-below = search needs; sited = s .pre .sited; down-most = rw (part-is v _) (part-most v _); right-most = rw (part-is v _) (part-most v _) }
+    record { sampled = search needs; frame-below = search needs; sited = s .pre .sited; down-most = rw (part-is v _) (part-most v _); right-most = rw (part-is v _) (part-most v _); rows = s .pre .tz-rows }
 
 -- Tz
-other-is : (c : tie.After-pair) → let a = c .before .before .before .before .before .before .before .args in
-    c .pair .result ≡ grid 16 32 (sideBySide (λ p. otherTile (sceneOf (a .m) (now (a .samples)) (now (a .vectors))) (a .site .«row_parity») p (a .site .row) (a .site .column) (a .k)))
+other-is : (c : tie.After-pair) → let a = c .before .before .before .before .before .before .before .before .args in
+    c .pair .last .1 .1 .1 .1 .1 .1 .0 ≡ grid 16 32 (sideBySide (λ p. otherTile (sceneOf (a .m) (now (a .samples)) (now (a .vectors))) (a .site .«row_parity») p (a .site .row) (a .site .column) (a .k)))
 other-is c =
-    let place = c .before .before .before .before in
+    let place = c .before .before .before .before .before in
     let s = place .before .before .before in
     let v = s .pre .accepted .vectors-fit in
     c .pair .ensures
     ∙ other-pair-is (s .args .m) (now (s .args .samples)) (now (s .args .vectors)) _ _ _ (s .args .k)
-    (c .before .other-frame .ensures .0) (place .vector-place .ensures .0) (part-is v _) (part-is v _)
+    (c .before .before .other-frame .ensures .0) (place .vector-place .ensures .0) (part-is v _) (part-is v _)
 
 difference-requires : tie.Need-difference-requires
 difference-requires c κs =
-    let s = c .before .before .before .before .before .before .before .before in
+    let tz = c .before .before in
+    let s = tz .before .before .before .before .before .before .before .before in
     let ok = s .pre .accepted in
-    (tile-fits _ (reference-most ok (s .pre .sited)) (s .pre .tile), tile-fits _ (other-most ok (s .pre .sited) (s .args .k) (omega arith)) (other-is (c .before)))
+    record {
+      reference = tile-fits _ (reference-most ok (s .pre .sited)) (s .pre .tile);
+      other = tile-fits _ (other-most ok (s .pre .sited) (s .args .k) (omega arith)) (other-is tz);
+      rows = s .pre .d-rows;
+    }
 
 returns : tie.Need-returns
 returns c =
-    let tz = c .before .before in
-    let s = tz .before .before .before .before .before .before .before in
-    c .difference .ensures ∙ difference-grid (sceneOf (s .args .m) (now (s .args .samples)) (now (s .args .vectors))) _ _ _ _ (s .pre .tile) (other-is tz)
+    let tz = c .before .before .before in
+    let s = tz .before .before .before .before .before .before .before .before in
+    (c .difference .ensures ∙ difference-grid (sceneOf (s .args .m) (now (s .args .samples)) (now (s .args .vectors))) _ _ _ _ (s .pre .tile) (other-is tz), pair-rows _ (other-is tz))
 
 pub differences-spec : {M : Type 1} → statement M
 differences-spec = tie.close (tie.spec

@@ -12,10 +12,10 @@ use Rattle.tiles.proofs.reading.pair.Tie as tie
 returns : tie.Need-returns
 unfolding pairOf tileAt side16
 returns c =
-    let s = c .before .before .before .before in
+    let s = c .before .before .before .before .before in
     let a = s .args in
-    let y = c .before .before .moved in
-    let x = c .before .moved2 in
+    let y = c .before .before .before .moved in
+    let x = c .before .before .moved2 in
     let ey : toZ w64 (ofZ w64 (y .result)) ≡ y .result = search needs in
     let ex : toZ w64 (ofZ w64 (x .result)) ≡ x .result = search needs in
     c .frame-pair .ensures

@@ -3,8 +3,8 @@ use Rattle.algebra.specs.Prelude.{sym, subst, _∙_, _+_, _*_, _≤_, arith, ne
 use lib.Signed.{_≤ℤ_, leZ-yes, yes-nonNeg}
 use Rattle.plane_view.specs.View.{rowLengthOf, RowStart}
 use Rattle.plane_view.proofs.Places.{shaped-small, row-by-start, inner-by-start}
-use Rattle.plane_view.proofs.pair_row.Statement.{statement}
-use Rattle.plane_view.proofs.pair_row.Tie as tie
+use Rattle.plane_view.proofs.row_at.Statement.{statement}
+use Rattle.plane_view.proofs.row_at.Tie as tie
 
 -- the first column is not before the plane's
 inner : (c : tie.Then1) → pos 0 ≤ℤ toZ w64 (ofZ w64 (c .before .before .before .args .x))
@@ -13,7 +13,7 @@ inner c = leZ-yes (subst T (sym (c .if1 .taken)) tt)
 -- where the row starts, by the frame's row length, in the plane of column parity 0
 started : (c : tie.After-row-start) → let s = c .before .before in
     RowStart (toZ w64 (ofZ w64 (s .args .y))) (rowLengthOf (length (s .args .samples .now)) (s .args .height)) (s .args .height) (s .args .row-parity) 0 (c .row-start .result)
-started c = let s = c .before .before in rw (s .pre .row, s .pre .first) at (c .row-start .ensures)
+started c = let s = c .before .before in rw (s .pre .first) at (c .row-start .ensures)
 
 -- its samples end in the frame, which is small
 ends : (c : tie.After-row-start) → c .row-start .result + 2 * c .before .before .args .width ≤ length (c .before .before .args .samples .now)
@@ -48,7 +48,7 @@ add-inner-pair c = let r = c .before .before in omega (arith, ends r, c .if2 .ta
 inner-pair-requires : tie.Need-inner-pair-requires
 inner-pair-requires c κs = omega (arith, ends (c .before .before), c .if2 .taken)
 
-pub pair-row-spec : {M : Type 1} → statement M
-pair-row-spec = tie.close (tie.spec
-    (λ c κs. search needs) cast-first add-if2 (λ c. search needs) add-inner-pair inner-pair-requires
+pub row-at-spec : {M : Type 1} → statement M
+row-at-spec = tie.close (tie.spec
+    (λ c. search needs) (λ c. search needs) (λ c κs. search needs) cast-first add-if2 (λ c. search needs) add-inner-pair inner-pair-requires
     returns (λ c κs. let r = ends (c .before) in search needs) returns-2)
