@@ -4,8 +4,7 @@ use lib.ListN.{replicate}
 use Rattle.sequences.specs.Tab.{tab}
 use Rattle.geometry.specs.declared.Shape.{Shape}
 use Rattle.geometry.specs.Read.{sampleAt}
-use Rattle.geometry.specs.Vectors.{otherFrame, vectorList}
-use Rattle.geometry.specs.Vectors.{Field}
+use Rattle.geometry.specs.Vectors.{otherFrame, vectorList, Field}
 use Rattle.alignment.specs.Frames.{vectorsOf, residualOf}
 
 module _ (s : Shape) (reference : ℕ) (samples : List ℕ) where

@@ -10,7 +10,7 @@ use Rattle.pyramid.specs.Layout.{Levels}
 use Rattle.alignment.specs.Frames.{vectorsOf, residualOf}
 use Rattle.alignment.specs.Rows.{rowsOf, rowsSummed}
 use Rattle.alignment.specs.Magnitudes.{frameRowsMost}
-use Rattle.alignment.specs.declared.fields.Sums.{Sums}
+use Rattle.fields.specs.declared.Sums.{Sums}
 use Rattle.alignment.specs.declared.burst.Totals.{Totals}
 use Rattle.alignment.specs.Aligned.{alignedVectors, residualSums}
 

@@ -24,7 +24,7 @@ use Rattle.alignment.specs.Frames.{pairs, vectorsOf, residualOf}
 use Rattle.alignment.specs.Magnitudes.{frameRowsMost}
 use Rattle.alignment.specs.Rows.{frameRows, rowsOf, rowsSummed}
 use Rattle.alignment.specs.RowLaws.{frame-rows-most}
-use Rattle.alignment.specs.declared.fields.Sums.{Sums}
+use Rattle.fields.specs.declared.Sums.{Sums}
 use Rattle.sequences.specs.Sum.{Summed, sum-start, sum-turn, sum-done}
 use Rattle.alignment.specs.FrameLaws.{frame-standing, frame-pairs}
 use Rattle.alignment.specs.Sites.{pairsIn, Standing, Aligned}

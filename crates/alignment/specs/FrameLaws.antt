@@ -9,8 +9,8 @@ use Rattle.geometry.specs.Tiles.{levelSize}
 use Rattle.pyramid.specs.Words.{Holds}
 use Rattle.pyramid.specs.WordsLaws.{holds-source, own-read}
 use Rattle.pyramid.specs.Layout.{offset, pyramidLength, Levels}
-use Rattle.alignment.specs.Fields.{levelAt}
-use Rattle.alignment.specs.Stored.{pairIn}
+use Rattle.levels.specs.Fields.{levelAt}
+use Rattle.matching.specs.Stored.{pairIn}
 use Rattle.alignment.specs.Frames.{levelImage, pairs}
 use Rattle.alignment.specs.Sites.{imageNumber, areaAt, pairsIn, Standing}
 

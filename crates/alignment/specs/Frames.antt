@@ -4,9 +4,10 @@ use Rattle.geometry.specs.declared.Shape.{Shape}
 use Rattle.geometry.specs.Read.{Image, read}
 use Rattle.geometry.specs.Tiles.{levelSize}
 use Rattle.pyramid.specs.Pyramid.{image0, image1, image2, image3}
-use Rattle.search.specs.Residual.{Pair}
+use Rattle.residuals.specs.Residual.{Pair}
 use Rattle.geometry.specs.Vectors.{Field}
-use Rattle.alignment.specs.Fields.{levelAt, field0, residualSum}
+use Rattle.levels.specs.Fields.{levelAt}
+use Rattle.alignment.specs.Fields.{field0, residualSum}
 
 -- the image of a level by its number
 abbrev pub levelImage : ℕ → Shape → Image → Image

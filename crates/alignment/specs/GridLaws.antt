@@ -1,34 +1,14 @@
--- Coarse vectors: they stay where nothing is written, and a field that was written stands there.
+-- A field that was written stands there.
 use Rattle.algebra.specs.Prelude.{_≡_, sym, ap, ap₂, subst, _∙_, List, ℕ, _+_, _*_, _≤_, _<_, arith, length, getD, ℤ, pos, natAbs}
 use native.Mathlib.Nat.{add-assoc}
 use Rattle.geometry.specs.ReadLaws.{cell-below}
 use Rattle.sequences.specs.Place.{place-row, place-column}
-use Rattle.pyramid.specs.WordsLaws.{Kept}
 use Rattle.sequences.specs.Write.{written, written-in, written-length}
-use Rattle.alignment.specs.declared.levels.Grid.{Grid}
-use Rattle.search.specs.Bounds.{Within}
+use Rattle.patches.specs.Bounds.{Within}
 use Rattle.geometry.specs.Vectors.{Field, numbered, word}
 use Rattle.geometry.specs.VectorLaws.{word-down, word-right}
 use Rattle.alignment.specs.FieldLaws.{word-most}
-use Rattle.alignment.specs.Grids.{fieldAt, Vectors}
-
-module _ {d l : List ℤ} {n : ℕ} (k : Kept d n l) (c : Grid) (before : c .at + 2 * (c .rows * c .columns) ≤ n) where
-  pub kept-vectors : Vectors d c → Vectors l c
-  kept-vectors v =
-      record {
-        some-rows = v .some-rows;
-        some-columns = v .some-columns;
-        room = omega (arith, k .same, v .room);
-        most = λ j h. subst (λ z. natAbs z ≤ 84) (sym (k .kept (c .at + j) (omega arith))) (v .most j h);
-      }
-
-  pub kept-field : (row column : ℕ) → row < c .rows → column < c .columns → fieldAt l (c .at) (c .columns) row column ≡ fieldAt d (c .at) (c .columns) row column
-  unfolding fieldAt
-  kept-field row column h m =
-      let b = cell-below row column (c .rows) (c .columns) h m in
-      ap₂ (λ x y. record { down = x; right = y })
-      (k .kept (c .at + 2 * (row * c .columns + column)) (omega arith))
-      (k .kept (c .at + 2 * (row * c .columns + column) + 1) (omega arith))
+use Rattle.levels.specs.Grids.{fieldAt, Vectors}
 
 -- a field that was written
 module _ (d : List ℤ) (to rows columns : ℕ) (f : Field) (room : to + 2 * (rows * columns) ≤ length d) where

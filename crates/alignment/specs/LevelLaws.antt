@@ -4,7 +4,7 @@ use Rattle.algebra.specs.Prelude.{List, ℕ, zero, suc, _+_, _*_, _≤_, _<_, a
 use native.Mathlib.Nat.{le-trans}
 use Rattle.geometry.specs.declared.Shape.{Shape}
 use Rattle.geometry.specs.Fits.{Allowed}
-use Rattle.geometry.specs.Tiles.{Level, Step, level0, level1, level2, level3, step2to1, step3to2, levelSize, tileCount, tileRows, tileColumns, frameParts}
+use Rattle.geometry.specs.Tiles.{Level, Step, level0, level3, levelSize, tileCount, tileRows, tileColumns, frameParts}
 use Rattle.geometry.specs.LevelTiles.{levelTiles}
 use Rattle.geometry.specs.TileLaws.{finest-tiles}
 use Rattle.pyramid.specs.ChainLaws.{words-end}
@@ -12,21 +12,25 @@ use Rattle.pyramid.specs.Layout.{offset, pyramidLength, tiles, alignLength}
 use Rattle.pyramid.specs.LayoutLaws.{size0, size1, size3, size5}
 use Rattle.pyramid.specs.WordsLaws.{Kept}
 use Rattle.sequences.specs.Write.{written, written-in, written-before, written-length}
-use Rattle.alignment.specs.declared.levels.Grid.{Grid}
-use Rattle.alignment.specs.declared.matching.Area.{Area}
-use Rattle.search.specs.Bounds.{Within}
+use Rattle.levels.specs.declared.Grid.{Grid}
+use Rattle.matching.specs.declared.Area.{Area}
+use Rattle.patches.specs.Bounds.{Within}
 use Rattle.geometry.specs.Vectors.{Field, word}
-use Rattle.alignment.specs.Fields.{levelAt, levelRows, levelColumns, coarsest, finer, field0, field1, field2, field3, residuals, residualSum}
-use Rattle.alignment.specs.Rows.{coarsestRows, finerRows, rows0, rows1, rows2, rows3, coarseRows, frameRows}
+use Rattle.levels.specs.Fields.{levelAt, coarsest, finer}
+use Rattle.alignment.specs.Fields.{levelRows, levelColumns, field0, field1, field2, field3, residualSum}
+use Rattle.fields.specs.LevelSums.{residuals, coarsestRows, finerRows}
+use Rattle.alignment.specs.Rows.{rows0, rows1, rows2, rows3, frameRows}
 use Rattle.alignment.specs.RowLaws.{finer-rows-agree}
-use Rattle.alignment.specs.declared.fields.Sums.{Sums}
-use Rattle.alignment.specs.Steps.{stepTo}
-use Rattle.alignment.specs.FieldLaws.{finer-agree, word-most, field0-within, field1-within, field2-within, field3-within}
-use Rattle.alignment.specs.Stored.{pairIn, Stored, Before, Few}
-use Rattle.alignment.specs.StoredLaws.{kept-stored, kept-pair}
-use Rattle.alignment.specs.Grids.{fieldAt, finestIn, finerRowsIn, Finest}
+use Rattle.fields.specs.declared.Sums.{Sums}
+use Rattle.levels.specs.Steps.{stepTo}
+use Rattle.levels.specs.FieldLaws.{finer-agree}
+use Rattle.alignment.specs.FieldLaws.{word-most, field0-within, field1-within, field2-within, field3-within}
+use Rattle.matching.specs.Stored.{pairIn, Stored}
+use Rattle.fields.specs.Loops.{Before, Few, Room, finestIn, finerRowsIn, Finest}
+use Rattle.fields.specs.LoopLaws.{kept-stored, kept-pair}
+use Rattle.levels.specs.Grids.{fieldAt}
 use Rattle.alignment.specs.GridLaws.{written-field, written-vectors}
-use Rattle.alignment.specs.Sites.{areaAt, gridAt, after, pairsIn, Standing, Reached, Aligned}
+use Rattle.alignment.specs.Sites.{areaAt, gridAt, after, pairsIn, nextIn, nextRowsIn, Standing, Site, Prepared, Reached, Coarse, Aligned}
 
 written-kept : (d : List ℤ) (at : ℕ) (f : ℕ → ℤ) (n : ℕ) → at + n ≤ length d → Kept d at (written d at f n)
 written-kept d at f n h = record { same = written-length d at f n (pos 0) h; kept = written-before d at f n (pos 0) h }
@@ -101,11 +105,12 @@ pub standing-kept : {shape : Shape} {d l : List ℤ} → Standing shape d → Ke
 standing-kept {shape} s k = record { stored = λ n. kept-stored k (areaAt shape n) (s .stored n) (area-before shape n) }
 
 -- what a level's loop asks of its images and its grid
-pub level-ready : {shape : Shape} {l : List ℤ} (k at : ℕ) {a : Area} {g : Grid} → Allowed shape → Standing shape l → 2 * pyramidLength shape ≤ at → after (gridAt shape k at) ≤ length l → a ≡ areaAt shape k → g ≡ gridAt shape k at → Stored l a × Before a at × Few (g .rows) (g .columns) × (at + 2 * (g .rows * g .columns) ≤ length l)
+pub level-ready : {shape : Shape} {l : List ℤ} (k at : ℕ) {a : Area} {g : Grid} → Site shape l k at → a ≡ areaAt shape k → g ≡ gridAt shape k at → Room l a at (g .rows) (g .columns)
 unfolding gridAt
-level-ready {shape} {l} k at ok s behind room ea eg =
+level-ready {shape} {l} k at s ea eg =
     let b = area-before shape k in
-    rw (ea, eg) (s .stored k, record { reference = le-trans (b .reference) behind; other = le-trans (b .other) behind }, grid-few ok k, room)
+    let behind = s .behind in
+    rw (ea, eg) (record { stored = s .standing .stored k; before = record { reference = le-trans (b .reference) behind; other = le-trans (b .other) behind }; few = grid-few (s .allowed) k; room = s .room })
 
 -- a level is reached where its field is written
 reached : (shape : Shape) {d m l : List ℤ} (k at : ℕ) (g : Grid) (f : Field) (b : ℕ) → Kept d (2 * pyramidLength shape) m → 2 * pyramidLength shape ≤ at → after (gridAt shape k at) ≤ length m → g ≡ gridAt shape k at → l ≡ written m at (word (g .columns) f) (2 * (g .rows * g .columns)) → b ≤ 84 → ((row column : ℕ) → Within b (f row column)) → Reached d (2 * pyramidLength shape) g f l
@@ -114,14 +119,14 @@ reached shape {d} {m} {l} k at g f b kept behind room eg el small w =
     rw (el, eg) (reach (gridAt shape k at) f b kept behind (some-tiles (shape .height) k) (some-tiles (shape .width) k) room small w)
 
 -- and the next one's field is the definition's
-next-field : (shape : Shape) {d l : List ℤ} {g : Grid} {f : Field} (k c at : ℕ) → Reached d (2 * pyramidLength shape) g f l → Standing shape d → g ≡ gridAt shape c at → finer (levelAt k) (stepTo k) (g .rows) (g .columns) (pairsIn shape l k) (fieldAt l (g .at) (g .columns)) ≡ finer (levelAt k) (stepTo k) (levelRows (levelAt c) (pairsIn shape d c)) (levelColumns (levelAt c) (pairsIn shape d c)) (pairsIn shape d k) f
+next-field : (shape : Shape) {d l : List ℤ} {g : Grid} {f : Field} (k c at : ℕ) → Reached d (2 * pyramidLength shape) g f l → Standing shape d → g ≡ gridAt shape c at → nextIn shape l k g ≡ finer (levelAt k) (stepTo k) (levelRows (levelAt c) (pairsIn shape d c)) (levelColumns (levelAt c) (pairsIn shape d c)) (pairsIn shape d k) f
 unfolding gridAt pairsIn levelRows levelColumns levelTiles areaAt pairIn
 next-field shape {d} {l} {g} {f} k c at r s e =
     next (levelAt k) (stepTo k) (areaAt shape k) r (s .stored k) (area-before shape k)
     ∙ ap (λ g. finer (levelAt k) (stepTo k) (g .rows) (g .columns) (pairsIn shape d k) f) e
 
 -- and so are the rows summed for a level: h is its grid
-counted : (shape : Shape) {d l : List ℤ} {g h : Grid} {f : Field} (k c at to : ℕ) → Reached d (2 * pyramidLength shape) g f l → Standing shape d → g ≡ gridAt shape c at → h ≡ gridAt shape k to → finerRows (levelAt k) (stepTo k) (g .rows) (g .columns) (pairsIn shape l k) (fieldAt l (g .at) (g .columns)) (h .rows) (h .columns) ≡ finerRows (levelAt k) (stepTo k) (levelRows (levelAt c) (pairsIn shape d c)) (levelColumns (levelAt c) (pairsIn shape d c)) (pairsIn shape d k) f (levelRows (levelAt k) (pairsIn shape d k)) (levelColumns (levelAt k) (pairsIn shape d k))
+counted : (shape : Shape) {d l : List ℤ} {g h : Grid} {f : Field} (k c at to : ℕ) → Reached d (2 * pyramidLength shape) g f l → Standing shape d → g ≡ gridAt shape c at → h ≡ gridAt shape k to → nextRowsIn shape l k g (h .rows) (h .columns) ≡ finerRows (levelAt k) (stepTo k) (levelRows (levelAt c) (pairsIn shape d c)) (levelColumns (levelAt c) (pairsIn shape d c)) (pairsIn shape d k) f (levelRows (levelAt k) (pairsIn shape d k)) (levelColumns (levelAt k) (pairsIn shape d k))
 unfolding gridAt pairsIn levelRows levelColumns levelTiles areaAt pairIn
 counted shape {d} {l} {g} {h} {f} k c at to r s e i =
     next-counted (levelAt k) (stepTo k) (areaAt shape k) r (s .stored k) (area-before shape k) (h .rows) (h .columns)
@@ -143,29 +148,32 @@ unfolding alignLength tiles gridAt
 sites-fit shape = (omega arith, omega arith, omega arith, omega arith)
 
 -- level by level, the fields are the definition's
-module _ {shape : Shape} {d : List ℤ} (s : Standing shape d) (room : alignLength shape ≤ length d) where
+module _ {shape : Shape} {d : List ℤ} (p : Prepared shape d) where
   pub reached3 : {l : List ℤ} (g : Grid) → g ≡ site3 shape → l ≡ written d (2 * pyramidLength shape) (word (g .columns) (coarsest level3 (pairsIn shape d 3))) (2 * (g .rows * g .columns)) → Reached d (2 * pyramidLength shape) g (field3 (pairsIn shape d)) l
   unfolding field3
   reached3 g e el =
       let f = sites-fit shape in
+      let room = p .room in
       reached shape 3 (2 * pyramidLength shape) g (field3 (pairsIn shape d)) 4 (record { same = refl; kept = λ i h. refl }) (omega arith) (omega arith) e el (lit≤ tt) (field3-within (pairsIn shape d))
 
-  pub reached2 : {m l : List ℤ} (c g : Grid) → Reached d (2 * pyramidLength shape) c (field3 (pairsIn shape d)) m → c ≡ site3 shape → g ≡ site2 shape → l ≡ written m (after (site3 shape)) (word (g .columns) (finer level2 step3to2 (c .rows) (c .columns) (pairsIn shape m 2) (fieldAt m (c .at) (c .columns)))) (2 * (g .rows * g .columns)) → Reached d (2 * pyramidLength shape) g (field2 (pairsIn shape d)) l
+  pub reached2 : {m l : List ℤ} (c g : Grid) → Reached d (2 * pyramidLength shape) c (field3 (pairsIn shape d)) m → c ≡ site3 shape → g ≡ site2 shape → l ≡ written m (after (site3 shape)) (word (g .columns) (nextIn shape m 2 c)) (2 * (g .rows * g .columns)) → Reached d (2 * pyramidLength shape) g (field2 (pairsIn shape d)) l
   unfolding field2
   reached2 {m} {l} c g r ec e el =
       let f = sites-fit shape in
+      let room = p .room in
       let same = r .kept .same in
       reached shape 2 (after (site3 shape)) g (field2 (pairsIn shape d)) 20 (r .kept) (omega arith) (omega arith) e
-      (el ∙ ap (λ f. written m (after (site3 shape)) (word (g .columns) f) (2 * (g .rows * g .columns))) (next-field shape 2 3 (2 * pyramidLength shape) r s ec))
+      (el ∙ ap (λ f. written m (after (site3 shape)) (word (g .columns) f) (2 * (g .rows * g .columns))) (next-field shape 2 3 (2 * pyramidLength shape) r (p .standing) ec))
       (lit≤ tt) (field2-within (pairsIn shape d))
 
-  pub reached1 : {m l : List ℤ} (c g : Grid) → Reached d (2 * pyramidLength shape) c (field2 (pairsIn shape d)) m → c ≡ site2 shape → g ≡ site1 shape → l ≡ written m (after (site2 shape)) (word (g .columns) (finer level1 step2to1 (c .rows) (c .columns) (pairsIn shape m 1) (fieldAt m (c .at) (c .columns)))) (2 * (g .rows * g .columns)) → Reached d (2 * pyramidLength shape) g (field1 (pairsIn shape d)) l
+  pub reached1 : {m l : List ℤ} (c g : Grid) → Reached d (2 * pyramidLength shape) c (field2 (pairsIn shape d)) m → c ≡ site2 shape → g ≡ site1 shape → l ≡ written m (after (site2 shape)) (word (g .columns) (nextIn shape m 1 c)) (2 * (g .rows * g .columns)) → Reached d (2 * pyramidLength shape) g (field1 (pairsIn shape d)) l
   unfolding field1
   reached1 {m} {l} c g r ec e el =
       let f = sites-fit shape in
+      let room = p .room in
       let same = r .kept .same in
       reached shape 1 (after (site2 shape)) g (field1 (pairsIn shape d)) 84 (r .kept) (omega arith) (omega arith) e
-      (el ∙ ap (λ f. written m (after (site2 shape)) (word (g .columns) f) (2 * (g .rows * g .columns))) (next-field shape 1 2 (after (site3 shape)) r s ec))
+      (el ∙ ap (λ f. written m (after (site2 shape)) (word (g .columns) f) (2 * (g .rows * g .columns))) (next-field shape 1 2 (after (site3 shape)) r (p .standing) ec))
       (lit≤ tt) (field1-within (pairsIn shape d))
 
   -- the rows summed for the three
@@ -173,48 +181,52 @@ module _ {shape : Shape} {d : List ℤ} (s : Standing shape d) (room : alignLeng
   unfolding rows3 gridAt pairsIn levelRows levelColumns levelTiles areaAt pairIn
   counted3 g e = ap (λ g. coarsestRows level3 (pairsIn shape d 3) (g .rows) (g .columns)) e
 
-  pub counted2 : {m : List ℤ} (c g : Grid) → Reached d (2 * pyramidLength shape) c (field3 (pairsIn shape d)) m → c ≡ site3 shape → g ≡ site2 shape → finerRows level2 step3to2 (c .rows) (c .columns) (pairsIn shape m 2) (fieldAt m (c .at) (c .columns)) (g .rows) (g .columns) ≡ rows2 (pairsIn shape d)
+  pub counted2 : {m : List ℤ} (c g : Grid) → Reached d (2 * pyramidLength shape) c (field3 (pairsIn shape d)) m → c ≡ site3 shape → g ≡ site2 shape → nextRowsIn shape m 2 c (g .rows) (g .columns) ≡ rows2 (pairsIn shape d)
   unfolding rows2
-  counted2 c g r ec e = counted shape 2 3 (2 * pyramidLength shape) (after (site3 shape)) r s ec e
+  counted2 c g r ec e = counted shape 2 3 (2 * pyramidLength shape) (after (site3 shape)) r (p .standing) ec e
 
-  pub counted1 : {m : List ℤ} (c g : Grid) → Reached d (2 * pyramidLength shape) c (field2 (pairsIn shape d)) m → c ≡ site2 shape → g ≡ site1 shape → finerRows level1 step2to1 (c .rows) (c .columns) (pairsIn shape m 1) (fieldAt m (c .at) (c .columns)) (g .rows) (g .columns) ≡ rows1 (pairsIn shape d)
+  pub counted1 : {m : List ℤ} (c g : Grid) → Reached d (2 * pyramidLength shape) c (field2 (pairsIn shape d)) m → c ≡ site2 shape → g ≡ site1 shape → nextRowsIn shape m 1 c (g .rows) (g .columns) ≡ rows1 (pairsIn shape d)
   unfolding rows1
-  counted1 c g r ec e = counted shape 1 2 (after (site3 shape)) (after (site2 shape)) r s ec e
+  counted1 c g r ec e = counted shape 1 2 (after (site3 shape)) (after (site2 shape)) r (p .standing) ec e
 
   counted0 : {l : List ℤ} {a : Area} (c g : Grid) → Reached d (2 * pyramidLength shape) c (field1 (pairsIn shape d)) l → c ≡ gridAt shape 1 (c .at) → a ≡ areaAt shape 0 → g ≡ gridAt shape 0 0 → finerRowsIn 0 l a c (g .rows) (g .columns) ≡ rows0 (pairsIn shape d)
   unfolding rows0 pairsIn
   counted0 {l} {a} c g r ec ea eg =
-      ap (λ a. finerRowsIn 0 l a c (g .rows) (g .columns)) ea ∙ counted shape 0 1 (c .at) 0 r s ec eg
+      ap (λ a. finerRowsIn 0 l a c (g .rows) (g .columns)) ea ∙ counted shape 0 1 (c .at) 0 r (p .standing) ec eg
 
   -- and level 0's as well, from what stands there
   pub finest-field : {l : List ℤ} (c : Grid) → Reached d (2 * pyramidLength shape) c (field1 (pairsIn shape d)) l → c ≡ gridAt shape 1 (c .at) → finestIn l (areaAt shape 0) c ≡ field0 (pairsIn shape d)
   unfolding finestIn field0 pairsIn
-  finest-field c r e = next-field shape 0 1 (c .at) r s e
+  finest-field c r e = next-field shape 0 1 (c .at) r (p .standing) e
 
   finest-pair : {l : List ℤ} {c : Grid} {f : Field} → Reached d (2 * pyramidLength shape) c f l → pairIn l (areaAt shape 0) ≡ pairsIn shape d 0
   unfolding pairsIn
-  finest-pair r = kept-pair (r .kept) (areaAt shape 0) (s .stored 0) (area-before shape 0)
+  finest-pair r = kept-pair (r .kept) (areaAt shape 0) (p .standing .stored 0) (area-before shape 0)
 
-  finest-sum : Allowed shape → {l : List ℤ} (c : Grid) → Reached d (2 * pyramidLength shape) c (field1 (pairsIn shape d)) l → c ≡ gridAt shape 1 (c .at) → residuals level0 (pairIn l (areaAt shape 0)) (tileRows shape) (tileColumns shape) (finestIn l (areaAt shape 0) c) ≡ residualSum (pairsIn shape d)
+  finest-sum : {l : List ℤ} (c : Grid) → Reached d (2 * pyramidLength shape) c (field1 (pairsIn shape d)) l → c ≡ gridAt shape 1 (c .at) → residuals level0 (pairIn l (areaAt shape 0)) (tileRows shape) (tileColumns shape) (finestIn l (areaAt shape 0) c) ≡ residualSum (pairsIn shape d)
   unfolding residualSum levelRows levelColumns levelTiles pairsIn areaAt pairIn
-  finest-sum ok c r e =
+  finest-sum c r e =
+      let ok = p .allowed in
       rw (← finest-tiles (ok .high), ← finest-tiles (ok .wide))
       (ap₂ (λ q w. residuals level0 q (levelTiles level0 (shape .height)) (levelTiles level0 (shape .width)) w) (finest-pair r) (finest-field c r e))
 
-  pub aligned : Allowed shape → {l v v′ : List ℤ} {to n : ℕ} {t : Sums} {c g : Grid} {a : Area} → Reached d (2 * pyramidLength shape) c (field1 (pairsIn shape d)) l → c ≡ gridAt shape 1 (c .at) → n ≡ coarseRows (pairsIn shape d) → a ≡ areaAt shape 0 → g ≡ gridAt shape 0 0 → to + frameParts shape ≤ length v → Finest l a c (g .rows) (g .columns) v to v′ t → Aligned shape d v to l v′ (record { residual = t .residual; rows = n + t .rows })
+  pub aligned : {l v v′ : List ℤ} {to n : ℕ} {t : Sums} {c g : Grid} {a : Area} → Coarse shape d l c n → a ≡ areaAt shape 0 → g ≡ gridAt shape 0 0 → to + frameParts shape ≤ length v → Finest l a c (g .rows) (g .columns) v to v′ t → Aligned shape d v to l v′ (record { residual = t .residual; rows = n + t .rows })
   unfolding gridAt frameRows
-  aligned ok {l} {v} {v′} {to} {n} {t} {c} {g} {a} r ec en ea eg fits fin =
+  aligned {l} {v} {v′} {to} {n} {t} {c} {g} {a} k ea eg fits fin =
+      let ok = p .allowed in
+      let r = k .reached in
+      let ec = k .grid-is in
       let f = rw (ea, eg, finest-tiles (ok .high), finest-tiles (ok .wide)) at fin in
       let columns = tileColumns shape in
       let w = field0 (pairsIn shape d) in
       let e : v′ ≡ written v to (word columns w) (frameParts shape) = f .vectors ∙ ap (λ w. written v to (word columns w) (frameParts shape)) (finest-field c r ec) in
       record {
         vectors = e;
-        bound = λ k h.
-            subst (λ z. natAbs z ≤ 172) (sym (ap (λ x. getD x (to + k) (pos 0)) e ∙ written-in v to (word columns w) (frameParts shape) (pos 0) fits k h))
-            (word-most columns w 172 (field0-within (pairsIn shape d)) k);
-        residual-is = f .residual-is ∙ finest-sum ok c r ec;
+        bound = λ i h.
+            subst (λ z. natAbs z ≤ 172) (sym (ap (λ x. getD x (to + i) (pos 0)) e ∙ written-in v to (word columns w) (frameParts shape) (pos 0) fits i h))
+            (word-most columns w 172 (field0-within (pairsIn shape d)) i);
+        residual-is = f .residual-is ∙ finest-sum c r ec;
         most = fin .most;
-        rows-are = ap₂ _+_ en (fin .rows-are ∙ counted0 c g r ec ea eg);
+        rows-are = ap₂ _+_ (k .rows-are) (fin .rows-are ∙ counted0 c g r ec ea eg);
         kept = r .kept;
       }

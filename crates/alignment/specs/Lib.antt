@@ -3,14 +3,10 @@ pub mod Frames
 pub mod Rows
 pub mod Aligned
 pub mod Magnitudes
-pub mod Steps
-pub mod Stored
-pub mod Grids
 pub mod Sites
 pub mod Burst
 pub mod FieldLaws
 pub mod RowLaws
-pub mod StoredLaws
 pub mod GridLaws
 pub mod LevelLaws
 pub mod FrameLaws

@@ -1,22 +1,24 @@
 -- Laws of the rows summed: on what a level's depend, and the bounds 112,786,248 of a frame and 789,503,736 of a burst.
-use Rattle.algebra.specs.Prelude.{_≡_, refl, ap, List, ℕ, _+_, _-_, _*_, _/_, _%_, _≤_, _<_, arith}
+use Rattle.algebra.specs.Prelude.{_≡_, ap, List, ℕ, _-_, _*_, _/_, _%_, _≤_, _<_, arith}
 use native.Mathlib.Nat.{mul-le-mul}
-use Rattle.algebra.specs.Sums.{sumN}
 use Rattle.algebra.specs.SumLaws.{sumN-cong, sumN-bound}
 use Rattle.geometry.specs.declared.Shape.{Shape}
 use Rattle.geometry.specs.Fits.{Allowed}
 use Rattle.geometry.specs.Read.{Image, sampleAt}
 use Rattle.geometry.specs.Tiles.{Level, level0, level1, level2, level3, Step, step1to0, step2to1, step3to2, tileCount, levelSize}
+use Rattle.geometry.specs.LevelTiles.{levelTiles}
 use Rattle.geometry.specs.Vectors.{Field, otherFrame}
 use Rattle.search.specs.Vectors.{still}
-use Rattle.search.specs.Residual.{Pair}
+use Rattle.residuals.specs.Residual.{Pair}
 use Rattle.search.specs.Rows.{candidateRows}
 use Rattle.search.specs.RowLaws.{search-rows-most, candidate-rows-most}
 use Rattle.alignment.specs.Magnitudes.{frameRowsMost, burstRowsMost}
-use Rattle.alignment.specs.Fields.{tileAt, fromCoarse, levelRows, levelColumns, field1, field2, field3}
-use Rattle.alignment.specs.FieldLaws.{from-coarse-agree}
+use Rattle.levels.specs.Fields.{levelAt, tileAt, fromCoarse}
+use Rattle.alignment.specs.Fields.{levelRows, levelColumns, field1, field2, field3}
+use Rattle.levels.specs.FieldLaws.{from-coarse-agree}
 use Rattle.alignment.specs.Frames.{pairs}
-use Rattle.alignment.specs.Rows.{coarsestRows, finerRows, rows0, rows1, rows2, rows3, coarseRows, frameRows, rowsOf, rowsSummed}
+use Rattle.fields.specs.LevelSums.{coarsestRows, finerRows}
+use Rattle.alignment.specs.Rows.{rows0, rows1, rows2, rows3, coarseRows, frameRows, rowsOf, rowsSummed}
 
 -- a finer level's depend on the coarse vectors that there are
 pub finer-rows-agree : (l : Level) (s : Step) (coarseRows coarseColumns : ℕ) (p : Pair) (f g : Field) → 0 < coarseRows → 0 < coarseColumns → ((row column : ℕ) → row < coarseRows → column < coarseColumns → f row column ≡ g row column) → (rows columns : ℕ) → finerRows l s coarseRows coarseColumns p f rows columns ≡ finerRows l s coarseRows coarseColumns p g rows columns
@@ -38,45 +40,21 @@ finer-rows-most l s coarseRows coarseColumns p f rows columns =
     (λ k h. candidate-rows-most (l .squared) p (tileAt l (k / columns) (k % columns)) (fromCoarse s coarseRows coarseColumns p (tileAt l (k / columns) (k % columns)) f (k / columns) (k % columns)))
 
 module _ {shape : Shape} (ok : Allowed shape) (reference other : Image) where
-  -- how many tiles the levels have
-  tiles0 : levelRows level0 (pairs shape reference other 0) * levelColumns level0 (pairs shape reference other 0) ≤ 257 * 257
-  unfolding levelRows levelColumns pairs tileCount levelSize
-  tiles0 =
-      let h : levelRows level0 (pairs shape reference other 0) ≤ 257 = omega (arith, ok .high .most) in
-      let w : levelColumns level0 (pairs shape reference other 0) ≤ 257 = omega (arith, ok .wide .most) in
-      mul-le-mul h w
-
-  tiles1 : levelRows level1 (pairs shape reference other 1) * levelColumns level1 (pairs shape reference other 1) ≤ 129 * 129
-  unfolding levelRows levelColumns pairs tileCount levelSize
-  tiles1 =
-      let h : levelRows level1 (pairs shape reference other 1) ≤ 129 = omega (arith, ok .high .most) in
-      let w : levelColumns level1 (pairs shape reference other 1) ≤ 129 = omega (arith, ok .wide .most) in
-      mul-le-mul h w
-
-  tiles2 : levelRows level2 (pairs shape reference other 2) * levelColumns level2 (pairs shape reference other 2) ≤ 33 * 33
-  unfolding levelRows levelColumns pairs tileCount levelSize
-  tiles2 =
-      let h : levelRows level2 (pairs shape reference other 2) ≤ 33 = omega (arith, ok .high .most) in
-      let w : levelColumns level2 (pairs shape reference other 2) ≤ 33 = omega (arith, ok .wide .most) in
-      mul-le-mul h w
-
-  tiles3 : levelRows level3 (pairs shape reference other 3) * levelColumns level3 (pairs shape reference other 3) ≤ 17 * 17
-  unfolding levelRows levelColumns pairs tileCount levelSize
-  tiles3 =
-      let h : levelRows level3 (pairs shape reference other 3) ≤ 17 = omega (arith, ok .high .most) in
-      let w : levelColumns level3 (pairs shape reference other 3) ≤ 17 = omega (arith, ok .wide .most) in
-      mul-le-mul h w
+  -- how many tiles a level has, from how many it has each way
+  tiles : (k n : ℕ) → ((size : ℕ) → size ≤ 4096 → levelTiles (levelAt k) size ≤ n) → levelRows (levelAt k) (pairs shape reference other k) * levelColumns (levelAt k) (pairs shape reference other k) ≤ n * n
+  unfolding levelRows levelColumns pairs levelTiles
+  tiles k n most = mul-le-mul (most (shape .height) (ok .high .most)) (most (shape .width) (ok .wide .most))
 
   pub frame-rows-most : rowsOf shape reference other ≤ frameRowsMost
-  unfolding rowsOf frameRows coarseRows rows0 rows1 rows2 rows3
+  unfolding rowsOf frameRows coarseRows rows0 rows1 rows2 rows3 levelTiles tileCount levelSize
   frame-rows-most =
       let p = pairs shape reference other in
       omega (
         arith,
-        tiles0,
-        tiles1,
-        tiles2,
-        tiles3,
+        tiles 0 257 (λ size h. omega arith),
+        tiles 1 129 (λ size h. omega arith),
+        tiles 2 33 (λ size h. omega arith),
+        tiles 3 17 (λ size h. omega arith),
         coarsest-rows-most level3 (p 3) (levelRows level3 (p 3)) (levelColumns level3 (p 3)),
         finer-rows-most level2 step3to2 (levelRows level3 (p 3)) (levelColumns level3 (p 3)) (p 2) (field3 p) (levelRows level2 (p 2)) (levelColumns level2 (p 2)),
         finer-rows-most level1 step2to1 (levelRows level2 (p 2)) (levelColumns level2 (p 2)) (p 1) (field2 p) (levelRows level1 (p 1)) (levelColumns level1 (p 1)),

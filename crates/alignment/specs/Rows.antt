@@ -1,28 +1,14 @@
--- "how many tile rows it summed in all" (request L12): level by level as the vectors are found, over the tiles, the frames and the burst.
-use Rattle.algebra.specs.Prelude.{List, ℕ, _+_, _-_, _*_, _/_, _%_}
+-- "how many tile rows it summed in all" (request L12): level by level as the vectors are found, over the frames and the burst.
+use Rattle.algebra.specs.Prelude.{List, ℕ, _+_, _-_}
 use Rattle.algebra.specs.Sums.{sumN}
 use Rattle.geometry.specs.declared.Shape.{Shape}
 use Rattle.geometry.specs.Read.{Image, sampleAt}
-use Rattle.geometry.specs.Tiles.{Level, level0, level1, level2, level3, Step, step1to0, step2to1, step3to2}
-use Rattle.geometry.specs.Vectors.{Field, otherFrame}
-use Rattle.search.specs.Vectors.{still}
-use Rattle.search.specs.Residual.{Pair}
-use Rattle.search.specs.Rows.{searchRows, candidateRows}
-use Rattle.alignment.specs.Fields.{tileAt, fromCoarse, levelRows, levelColumns, field1, field2, field3}
+use Rattle.geometry.specs.Tiles.{level0, level1, level2, level3, step1to0, step2to1, step3to2}
+use Rattle.geometry.specs.Vectors.{otherFrame}
+use Rattle.residuals.specs.Residual.{Pair}
+use Rattle.fields.specs.LevelSums.{coarsestRows, finerRows}
+use Rattle.alignment.specs.Fields.{levelRows, levelColumns, field1, field2, field3}
 use Rattle.alignment.specs.Frames.{pairs}
-
--- level 3, which has no candidates
-unfoldable pub coarsestRows : Level → Pair → (rows columns : ℕ) → ℕ
-coarsestRows l p rows columns = sumN (rows * columns) (λ k. searchRows (l .squared) p (tileAt l (k / columns) (k % columns)) still)
-
--- a finer level: the candidates of each tile and the search around its guess
-unfoldable pub finerRows : Level → Step → (coarseRows coarseColumns : ℕ) → Pair → Field → (rows columns : ℕ) → ℕ
-finerRows l s coarseRows coarseColumns p coarse rows columns =
-    sumN (rows * columns)
-    (λ k.
-    let row = k / columns in
-    let column = k % columns in
-    candidateRows (l .squared) p (tileAt l row column) (fromCoarse s coarseRows coarseColumns p (tileAt l row column) coarse row column))
 
 -- the levels 3 to 0 of a frame, from the levels' pairs of images
 unfoldable pub rows3 : (ℕ → Pair) → ℕ

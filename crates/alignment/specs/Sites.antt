@@ -1,22 +1,28 @@
 -- Inner vocabulary: where the levels' images and vectors stand in the work area: the reference's pyramid, the other frame's, then the vectors of levels 3 to 1.
-use Rattle.algebra.specs.Prelude.{_≡_, List, ℕ, zero, suc, _+_, _*_, _≤_, _<_, getD, ℤ, pos, natAbs}
+use Rattle.algebra.specs.Prelude.{_≡_, List, ℕ, zero, suc, _+_, _*_, _≤_, _<_, length, getD, ℤ, pos, natAbs}
 use Rattle.geometry.specs.declared.Shape.{Shape}
+use Rattle.geometry.specs.Fits.{Allowed}
 use Rattle.geometry.specs.Tiles.{level0, levelSize, tileColumns, frameParts}
 use Rattle.geometry.specs.LevelTiles.{levelTiles}
-use Rattle.pyramid.specs.Layout.{offset, pyramidLength}
+use Rattle.pyramid.specs.Layout.{offset, pyramidLength, alignLength}
 use Rattle.pyramid.specs.WordsLaws.{Kept}
 use Rattle.sequences.specs.Write.{written}
-use Rattle.search.specs.Magnitudes.{residualMost}
-use Rattle.alignment.specs.Magnitudes.{tilesMost}
-use Rattle.alignment.specs.declared.fields.Sums.{Sums}
-use Rattle.alignment.specs.Rows.{frameRows}
-use Rattle.alignment.specs.declared.levels.Grid.{Grid}
-use Rattle.alignment.specs.declared.matching.Area.{Area}
-use Rattle.search.specs.Residual.{Pair}
+use Rattle.residuals.specs.Magnitudes.{residualMost}
+use Rattle.fields.specs.Magnitudes.{tilesMost}
+use Rattle.fields.specs.declared.Sums.{Sums}
+use Rattle.alignment.specs.Rows.{coarseRows, frameRows}
+use Rattle.levels.specs.declared.Grid.{Grid}
+use Rattle.matching.specs.declared.Area.{Area}
+use Rattle.residuals.specs.Residual.{Pair}
 use Rattle.geometry.specs.Vectors.{Field, word}
-use Rattle.alignment.specs.Fields.{levelAt, field0, residualSum}
-use Rattle.alignment.specs.Stored.{pairIn, Stored}
-use Rattle.alignment.specs.Grids.{fieldAt, Vectors}
+use Rattle.levels.specs.Magnitudes.{tileRowsMost}
+use Rattle.levels.specs.Steps.{stepTo}
+use Rattle.levels.specs.Fields.{levelAt, finer}
+use Rattle.fields.specs.LevelSums.{finerRows}
+use Rattle.fields.specs.Loops.{Laid}
+use Rattle.alignment.specs.Fields.{field0, field1, residualSum}
+use Rattle.matching.specs.Stored.{pairIn, Stored}
+use Rattle.levels.specs.Grids.{fieldAt, Vectors}
 
 -- a level's number among a pyramid's six images
 abbrev pub imageNumber : ℕ → ℕ
@@ -48,12 +54,45 @@ pairsIn shape words k = pairIn words (areaAt shape k)
 pub record Standing (shape : Shape) (words : List ℤ) : Type 0 where
   pub stored : (k : ℕ) → Stored words (areaAt shape k)
 
+-- the field of a level from 2 to 0, and the rows summed for it, from what stands there
+abbrev pub nextIn : Shape → List ℤ → (level : ℕ) → Grid → Field
+nextIn shape words level c = finer (levelAt level) (stepTo level) (c .rows) (c .columns) (pairsIn shape words level) (fieldAt words (c .at) (c .columns))
+
+abbrev pub nextRowsIn : Shape → List ℤ → (level : ℕ) → Grid → (rows columns : ℕ) → ℕ
+nextRowsIn shape words level c rows columns =
+    finerRows (levelAt level) (stepTo level) (c .rows) (c .columns) (pairsIn shape words level) (fieldAt words (c .at) (c .columns)) rows columns
+
+-- behind the pyramids there is room for a level's vectors from `at` on
+pub record Site (shape : Shape) (words : List ℤ) (level at : ℕ) : Type 0 where
+  pub allowed : Allowed shape
+  pub standing : Standing shape words
+  pub behind : 2 * pyramidLength shape ≤ at
+  pub room : after (gridAt shape level at) ≤ length words
+
+-- they are written there, and the rows summed for them are answered
+pub record LaidAt (shape : Shape) (level at : ℕ) (f : Field) (n : (rows columns : ℕ) → ℕ) (words words′ : List ℤ) (g : Grid) (rows : ℕ) : Type 0 where
+  pub grid-is : g ≡ gridAt shape level at
+  pub laid : Laid words at (g .rows) (g .columns) f (n (g .rows) (g .columns)) words′ rows
+
+-- behind the pyramids there is room for the vectors of all levels
+pub record Prepared (shape : Shape) (words : List ℤ) : Type 0 where
+  pub allowed : Allowed shape
+  pub standing : Standing shape words
+  pub room : alignLength shape ≤ length words
+
 -- l is d up to the base, and the vectors of a grid behind it are a field's
 pub record Reached (d : List ℤ) (base : ℕ) (g : Grid) (f : Field) (l : List ℤ) : Type 0 where
   pub kept : Kept d base l
   pub behind : base ≤ g .at
   pub vectors : Vectors l g
   pub field : (row column : ℕ) → row < g .rows → column < g .columns → fieldAt l (g .at) (g .columns) row column ≡ f row column
+
+-- the vectors of levels 3 to 1 stand behind the pyramids, level 1's in a grid, and the rows summed for them are answered
+pub record Coarse (shape : Shape) (words words′ : List ℤ) (g : Grid) (rows : ℕ) : Type 0 where
+  pub reached : Reached words (2 * pyramidLength shape) g (field1 (pairsIn shape words)) words′
+  pub grid-is : g ≡ gridAt shape 1 (g .at)
+  pub rows-are : rows ≡ coarseRows (pairsIn shape words)
+  pub few : rows ≤ 3 * (tilesMost * tileRowsMost)
 
 -- the vectors at level 0 are written from `to` on, with parts of at most 172, the sum of their residuals and the rows summed are answered, and the
 -- pyramids stay

@@ -1,15 +1,13 @@
 // The vectors of every other frame of a burst.
-ghost use mathlib.Core.Path.{_≡_};
-ghost use Prim.Native.Nat.{_+_, _*_, _≤_, _<_};
+ghost use Prim.Native.Nat.{_+_, _≤_};
 ghost use lib.ListN.{length};
 ghost use Rattle.geometry.specs.Read.{sampleAt};
-ghost use Rattle.geometry.specs.Fits.{Allowed};
 ghost use Rattle.geometry.specs.Tiles.{frameParts};
 ghost use Rattle.pyramid.specs.Layout.{alignLength, Levels};
 ghost use Rattle.pyramid.specs.Frame.{Frame};
 ghost use Rattle.alignment.specs.Burst.{Ready, AlignedBurst, OneAligned};
-use crate::fields::Sums;
 use crate::frame::align_levels;
+use fields::Sums;
 use geometry::Shape;
 use geometry::tiles::frame_parts;
 use geometry::vectors::other_frame;
@@ -31,7 +29,7 @@ fn align_frame(
     to: usize,
     work: &mut [i64],
 ) -> Sums
-    requires { ⌜ (Frame shape frame (now samples)) × (Levels shape (sampleAt shape (now samples) reference) 0 (now work)) × (alignLength shape ≤ length (now work)) × (to + frameParts shape ≤ length (now vectors)) ⌝ }
+    requires { ⌜ record { readable : Frame shape frame (now samples); levels : Levels shape (sampleAt shape (now samples) reference) 0 (now work); room : alignLength shape ≤ length (now work); vectors-room : to + frameParts shape ≤ length (now vectors) } ⌝ }
     ensures { λ r. ⌜ OneAligned shape (sampleAt shape (now (samples .entry)) reference) (sampleAt shape (now (samples .entry)) frame) (now (vectors .entry)) to (now (vectors .exit)) (now (work .entry)) (now (work .exit)) r ⌝ }
 {
     let at = pyramid::offset(shape, 6);

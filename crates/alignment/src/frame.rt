@@ -4,25 +4,20 @@ ghost use Prim.Native.Nat.{_+_, _*_, _≤_, _<_, _^_};
 ghost use lib.ListN.{length};
 ghost use Rattle.geometry.specs.Fits.{Allowed};
 ghost use Rattle.geometry.specs.Tiles.{level3, frameParts};
-ghost use Rattle.pyramid.specs.Layout.{alignLength, pyramidLength};
-ghost use Rattle.sequences.specs.Write.{written};
-ghost use Rattle.geometry.specs.Vectors.{word};
-ghost use Rattle.alignment.specs.Fields.{levelAt, coarsest, finer, field1};
-ghost use Rattle.alignment.specs.Steps.{stepTo};
-ghost use Rattle.alignment.specs.Magnitudes.{tilesMost, tileRowsMost};
-ghost use Rattle.alignment.specs.Rows.{coarsestRows, finerRows, coarseRows};
-ghost use Rattle.alignment.specs.Stored.{Few};
-ghost use Rattle.alignment.specs.Grids.{fieldAt, Vectors};
-ghost use Rattle.alignment.specs.Sites.{imageNumber, areaAt, gridAt, after, pairsIn, Standing, Reached, Aligned};
-use crate::fields::Sums;
-use crate::fields::coarsest_field;
-use crate::fields::finer_field;
-use crate::fields::finest_field;
-use crate::levels::Grid;
-use crate::levels::half_of;
-use crate::matching::Area;
+ghost use Rattle.levels.specs.Fields.{levelAt, coarsest};
+ghost use Rattle.levels.specs.Grids.{Vectors};
+ghost use Rattle.fields.specs.LevelSums.{coarsestRows};
+ghost use Rattle.fields.specs.Loops.{Few};
+ghost use Rattle.alignment.specs.Sites.{imageNumber, areaAt, gridAt, after, pairsIn, nextIn, nextRowsIn, Site, LaidAt, Prepared, Coarse, Aligned};
+use fields::Sums;
+use fields::coarsest_field;
+use fields::finer_field;
+use fields::finest_field;
 use geometry::Shape;
 use geometry::tiles::tile_count;
+use levels::Grid;
+use levels::half_of;
+use matching::Area;
 
 // A level's tiles, whose vectors stand in the work area, and the tile rows that were summed for them and the levels before.
 struct Reach {
@@ -92,8 +87,8 @@ fn after(grid: Grid) -> usize
 
 // Level 3, from `at` on.
 fn coarsest_level(shape: Shape, work: &mut [i64], at: usize) -> Reach
-    requires { ⌜ (Allowed shape) × (Standing shape (now work)) × (2 * pyramidLength shape ≤ at) × (after (gridAt shape 3 at) ≤ length (now work)) ⌝ }
-    ensures { λ r. ⌜ (r .grid ≡ gridAt shape 3 at) × (now (work .exit) ≡ written (now (work .entry)) at (word (r .grid .columns) (coarsest level3 (pairsIn shape (now (work .entry)) 3))) (2 * (r .grid .rows * r .grid .columns))) × (r .rows ≡ coarsestRows level3 (pairsIn shape (now (work .entry)) 3) (r .grid .rows) (r .grid .columns)) × (r .rows ≤ tilesMost * tileRowsMost) ⌝ }
+    requires { ⌜ Site shape (now work) 3 at ⌝ }
+    ensures { λ r. ⌜ LaidAt shape 3 at (coarsest level3 (pairsIn shape (now (work .entry)) 3)) (coarsestRows level3 (pairsIn shape (now (work .entry)) 3)) (now (work .entry)) (now (work .exit)) (r .grid) (r .rows) ⌝ }
 {
     let area = area_at(shape, 3);
     let grid = grid_at(shape, 3, at);
@@ -106,8 +101,8 @@ fn coarsest_level(shape: Shape, work: &mut [i64], at: usize) -> Reach
 
 // A level from 2 to 0, from `at` on.
 fn next_level(shape: Shape, work: &mut [i64], level: usize, coarse: Grid, at: usize) -> Reach
-    requires { ⌜ (Allowed shape) × (Standing shape (now work)) × (2 * pyramidLength shape ≤ at) × (after (gridAt shape level at) ≤ length (now work)) × (level ≤ 2) × (Vectors (now work) coarse) × (after coarse ≤ at) ⌝ }
-    ensures { λ r. ⌜ (r .grid ≡ gridAt shape level at) × (now (work .exit) ≡ written (now (work .entry)) at (word (r .grid .columns) (finer (levelAt level) (stepTo level) (coarse .rows) (coarse .columns) (pairsIn shape (now (work .entry)) level) (fieldAt (now (work .entry)) (coarse .at) (coarse .columns)))) (2 * (r .grid .rows * r .grid .columns))) × (r .rows ≡ finerRows (levelAt level) (stepTo level) (coarse .rows) (coarse .columns) (pairsIn shape (now (work .entry)) level) (fieldAt (now (work .entry)) (coarse .at) (coarse .columns)) (r .grid .rows) (r .grid .columns)) × (r .rows ≤ tilesMost * tileRowsMost) ⌝ }
+    requires { ⌜ record { site : Site shape (now work) level at; level-most : level ≤ 2; vectors : Vectors (now work) coarse; ends : after coarse ≤ at } ⌝ }
+    ensures { λ r. ⌜ LaidAt shape level at (nextIn shape (now (work .entry)) level coarse) (nextRowsIn shape (now (work .entry)) level coarse) (now (work .entry)) (now (work .exit)) (r .grid) (r .rows) ⌝ }
 {
     let area = area_at(shape, level);
     let grid = grid_at(shape, level, at);
@@ -120,8 +115,8 @@ fn next_level(shape: Shape, work: &mut [i64], level: usize, coarse: Grid, at: us
 
 // Levels 3 to 1, behind the two pyramids.
 fn coarse_levels(shape: Shape, work: &mut [i64]) -> Reach
-    requires { ⌜ (Allowed shape) × (Standing shape (now work)) × (alignLength shape ≤ length (now work)) ⌝ }
-    ensures { λ r. ⌜ (Reached (now (work .entry)) (2 * pyramidLength shape) (r .grid) (field1 (pairsIn shape (now (work .entry)))) (now (work .exit))) × (r .grid ≡ gridAt shape 1 (r .grid .at)) × (r .rows ≡ coarseRows (pairsIn shape (now (work .entry)))) × (r .rows ≤ 3 * (tilesMost * tileRowsMost)) ⌝ }
+    requires { ⌜ Prepared shape (now work) ⌝ }
+    ensures { λ r. ⌜ Coarse shape (now (work .entry)) (now (work .exit)) (r .grid) (r .rows) ⌝ }
 {
     let base = 2 * pyramid::offset(shape, 6);
     let third = coarsest_level(shape, &mut *work, base);
@@ -138,7 +133,7 @@ fn coarse_levels(shape: Shape, work: &mut [i64]) -> Reach
 
 // The vectors at level 0, into the lent vectors from `to` on, the sum of their residuals, and the tile rows that were summed at all four levels.
 pub fn align_levels(shape: Shape, work: &mut [i64], vectors: &mut [i32], to: usize) -> Sums
-    requires { ⌜ (Allowed shape) × (Standing shape (now work)) × (alignLength shape ≤ length (now work)) × (to + frameParts shape ≤ length (now vectors)) ⌝ }
+    requires { ⌜ (Prepared shape (now work)) × (to + frameParts shape ≤ length (now vectors)) ⌝ }
     ensures { λ r. ⌜ Aligned shape (now (work .entry)) (now (vectors .entry)) to (now (work .exit)) (now (vectors .exit)) r ⌝ }
 {
     let reach = coarse_levels(shape, &mut *work);

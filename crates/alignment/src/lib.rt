@@ -1,6 +1,3 @@
-// Alignment: three candidates for each tile, the loop over the levels, and the frames of a burst.
+// Alignment: the four levels of a frame, and the frames of a burst.
 pub mod burst;
-pub mod fields;
 pub mod frame;
-pub mod levels;
-pub mod matching;

@@ -2,9 +2,10 @@
 use Prim.Native.Nat.{ℕ}
 use Rattle.geometry.specs.Tiles.{level1, finestLevel, finestStep}
 use Rattle.geometry.specs.Vectors.{Field}
-use Rattle.search.specs.Bounds.{Within}
-use Rattle.search.specs.Residual.{Pair}
-use Rattle.alignment.specs.Fields.{levelRows, levelColumns, finer, field0, field1, field2, field3}
+use Rattle.patches.specs.Bounds.{Within}
+use Rattle.residuals.specs.Residual.{Pair}
+use Rattle.alignment.specs.Fields.{levelRows, levelColumns, field0, field1, field2, field3}
+use Rattle.levels.specs.Fields.{finer}
 use Rattle.alignment.specs.FieldLaws.{finer-within, field0-within, field1-within, field2-within, field3-within}
 
 -- level 0's vectors where its tiles have side 32 and half step 16, and q is 1

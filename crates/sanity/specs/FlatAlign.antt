@@ -10,11 +10,12 @@ use Rattle.geometry.specs.Tiles.{level0, levelSize}
 use Rattle.geometry.specs.LevelTiles.{levelTiles}
 use Rattle.pyramid.specs.Pyramid.{bayerSum, weighted, halved, quartered, image0, image1, image2, image3}
 use Rattle.pyramid.specs.Layout.{tiles}
-use Rattle.search.specs.declared.Tile.{Tile}
+use Rattle.residuals.specs.declared.Tile.{Tile}
 use Rattle.geometry.specs.declared.vectors.Vector.{Vector}
 use Rattle.search.specs.Vectors.{still}
-use Rattle.search.specs.Residual.{gap, difference, Pair, rowResidual, residual}
-use Rattle.alignment.specs.Fields.{levelAt, tileAt, levelRows, levelColumns, residualSum}
+use Rattle.residuals.specs.Residual.{gap, difference, Pair, rowResidual, residual}
+use Rattle.levels.specs.Fields.{levelAt, tileAt}
+use Rattle.alignment.specs.Fields.{levelRows, levelColumns, residualSum}
 use Rattle.alignment.specs.Frames.{levelImage, pairs, vectorsOf, residualOf}
 use Rattle.alignment.specs.Aligned.{fieldOf, sumOf, alignedVectors}
 use Rattle.sanity.specs.FrameLaws.{flat-same}

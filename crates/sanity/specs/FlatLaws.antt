@@ -9,7 +9,7 @@ use Rattle.algebra.specs.SumLaws.{sumZ-cong, sumZ-scale, sumZ-scaler, sumN-cong
 use Rattle.algebra.specs.Test.{all, all-sound}
 use Rattle.algebra.specs.Nearest.{away, upward}
 use Rattle.algebra.specs.Clamp.{clampZ}
-use Rattle.noise.specs.RootLaws.{root-unique}
+use Rattle.roots.specs.RootLaws.{root-unique}
 use Rattle.recipe.specs.NoiseNumber.{sumOfSquares, tileRoot}
 use Rattle.recipe.specs.Side.{Side, cosAt, sinAt}
 use Rattle.recipe.specs.Tables.{cosines, cosine16, sine16, side16}

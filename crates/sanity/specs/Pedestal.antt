@@ -9,7 +9,8 @@ use Rattle.algebra.specs.SumLaws.{sumN-cong}
 use Rattle.sequences.specs.Tab.{tab}
 use Rattle.sequences.specs.TabLaws.{getD-tab}
 use Rattle.geometry.specs.Read.{planeOf}
-use Rattle.noise.specs.NoiseNumberLaws.{tile-root-bound, tile-root-falls, noise-number-mono}
+use Rattle.roots.specs.TileRootLaws.{tile-root-bound, tile-root-falls}
+use Rattle.noise.specs.NoiseNumberLaws.{noise-number-mono}
 use Rattle.recipe.specs.declared.Tuning.{Tuning}
 use Rattle.recipe.specs.declared.Merge.{Merge}
 use Rattle.recipe.specs.Tables.{side16}

@@ -8,7 +8,7 @@ use Rattle.geometry.specs.ReadLaws.{inside-below}
 use Rattle.geometry.specs.Tiles.{level1, level2, levelSize}
 use Rattle.pyramid.specs.Pyramid.{bayerSum, halved, quartered, image0, image1, image2, image3}
 use Rattle.pyramid.specs.PyramidLaws.{halved-agree}
-use Rattle.alignment.specs.Fields.{levelAt}
+use Rattle.levels.specs.Fields.{levelAt}
 use Rattle.alignment.specs.Frames.{levelImage, pairs}
 use Rattle.sanity.specs.Frames.{Same}
 use Rattle.sanity.specs.StillLaws.{Equal}

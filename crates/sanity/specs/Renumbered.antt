@@ -8,7 +8,7 @@ use Rattle.sequences.specs.Grid.{tab-ext}
 use Rattle.geometry.specs.Fits.{AllowedSize}
 use Rattle.geometry.specs.Read.{planeOf}
 use Rattle.recipe.specs.NoiseNumber.{noiseNumber}
-use Rattle.noise.specs.NoiseNumberLaws.{tile-root-cong}
+use Rattle.roots.specs.TileRootLaws.{tile-root-cong}
 use Rattle.recipe.specs.declared.Merge.{Merge}
 use Rattle.recipe.specs.Side.{Side}
 use Rattle.recipe.specs.Tables.{side16}

@@ -12,15 +12,17 @@ use Rattle.geometry.specs.declared.Shape.{Shape}
 use Rattle.geometry.specs.Shape.{vectorLength}
 use Rattle.geometry.specs.Fits.{Allowed}
 use Rattle.geometry.specs.Tiles.{Level, level0, level1, level2, level3, Step, step1to0, step2to1, step3to2, frameParts}
-use Rattle.search.specs.declared.Tile.{Tile}
+use Rattle.residuals.specs.declared.Tile.{Tile}
 use Rattle.geometry.specs.declared.vectors.Vector.{Vector}
 use Rattle.search.specs.Vectors.{still, _plus_, _times_}
 use Rattle.search.specs.Offsets.{downs, rights, offset}
-use Rattle.search.specs.Residual.{gap, difference, Pair, rowResidual, residual}
+use Rattle.residuals.specs.Residual.{gap, difference, Pair, rowResidual, residual}
 use Rattle.search.specs.Search.{tried, chosen, found, three, guessed}
 use Rattle.sequences.specs.LeastLaws.{first}
 use Rattle.geometry.specs.Vectors.{Field, part, word, wordOf, vectorList}
-use Rattle.alignment.specs.Fields.{tileAt, coarsest, fromCoarse, finer, field0, field1, field2, field3, levelRows, levelColumns, residuals, residualSum}
+use Rattle.levels.specs.Fields.{tileAt, coarsest, fromCoarse, finer}
+use Rattle.alignment.specs.Fields.{field0, field1, field2, field3, levelRows, levelColumns, residualSum}
+use Rattle.fields.specs.LevelSums.{residuals}
 use Rattle.alignment.specs.Aligned.{fieldOf, alignedVectors}
 use Rattle.sanity.specs.FrameLaws.{row-inside}
 

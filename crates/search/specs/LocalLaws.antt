@@ -1,36 +1,25 @@
 -- What is found in local arrays is what the definitions say of the images that were copied there.
-use Rattle.algebra.specs.Prelude.{_≡_, refl, ap, ap₂, subst, _∙_, Bool, List, ℕ, _+_, _*_, _≤_, _<_, arith, length, getD}
-use borrow.Author.Count.{below-more}
+use Rattle.algebra.specs.Prelude.{_≡_, refl, ap, ap₂, subst, _∙_, Bool, List, ℕ, _+_, _*_, _≤_, _<_, arith, getD}
 use lib.IntN.{ℤ, pos, negsuc, _+ℤ_, _-ℤ_, +ℤ-idr}
 use Rattle.algebra.specs.Sums.{sumN}
 use Rattle.algebra.specs.SumLaws.{sumN-cong}
 use Rattle.algebra.specs.Order.{zarith, add-pn, sub-pn}
-use Rattle.sequences.specs.Write.{written, written-in, written-before}
-use Rattle.search.specs.declared.Tile.{Tile}
+use Rattle.residuals.specs.declared.Tile.{Tile}
 use Rattle.geometry.specs.declared.vectors.Vector.{Vector}
 use Rattle.search.specs.Vectors.{_plus_}
-use Rattle.search.specs.Magnitudes.{residualMost}
+use Rattle.residuals.specs.Magnitudes.{residualMost}
 use Rattle.search.specs.Offsets.{downs, rights, offset}
 use Rattle.search.specs.OffsetLaws.{parts-most}
-use Rattle.sequences.specs.Place.{row-room}
-use Rattle.search.specs.Residual.{difference, Pair, rowResidual, residual}
+use Rattle.residuals.specs.Residual.{difference, Pair, rowResidual, residual}
 use Rattle.search.specs.Search.{tried, chosen, found}
 use Rattle.search.specs.Rows.{offsetRows, searchRows}
 use Rattle.search.specs.RowLaws.{same-total, offset-rows-cong}
 use Rattle.sequences.specs.Sum.{Summed, sum-done}
 use Rattle.sequences.specs.LeastLaws.{firstMin-most, firstMin-cong, Lowest, lowest-done}
 use Rattle.search.specs.declared.window.Best.{Best}
-use Rattle.search.specs.Local.{rowSum, squareRow, squareSum, windowRow, Searched, Copied}
-
--- one row more
-pub copied-turn : {l : List ℕ} {i n : ℕ} {f : ℤ → ℤ → ℕ} {row column : ℤ} → Copied l i n f row column → i * n + n ≤ length l → (g : ℕ → ℕ) → ((j : ℕ) → g j ≡ f (row +ℤ pos i) (column +ℤ pos j)) → Copied (written l (i * n) g n) (i + 1) n f row column
-copied-turn {l} {i} {n} {f} {row} {column} c room g e =
-    record {
-      cell = λ k j h m.
-          below-more (λ k. getD (written l (i * n) g n) (k * n + j) 0 ≡ f (row +ℤ pos k) (column +ℤ pos j)) i
-          (λ k b. written-before l (i * n) g n 0 room (k * n + j) (omega (arith, row-room _ _ n b)) ∙ c .cell k j b m)
-          (written-in l (i * n) g n 0 room j m ∙ e j) k h;
-    }
+use Rattle.residuals.specs.Local.{rowSum, squareRow, squareSum}
+use Rattle.search.specs.Local.{windowRow, Searched}
+use Rattle.patches.specs.Copies.{Copied}
 
 same-place : (a b c i d : ℤ) → a +ℤ b ≡ c +ℤ d → a +ℤ (b +ℤ i) ≡ c +ℤ i +ℤ d
 same-place a b c i d e =

@@ -5,7 +5,7 @@ use Rattle.algebra.specs.Test.{both, both-l, both-r, all, all-sound}
 use Rattle.algebra.specs.Order.{zarith, abs-pn, min-pn, add-pn, sub-pn}
 use Rattle.geometry.specs.declared.vectors.Vector.{Vector}
 use Rattle.search.specs.Vectors.{still}
-use Rattle.search.specs.Bounds.{Within}
+use Rattle.patches.specs.Bounds.{Within}
 use Rattle.search.specs.Offsets.{downs, rights, offset}
 use Rattle.search.specs.Ties.{earlier}
 

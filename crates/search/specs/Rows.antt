@@ -1,19 +1,13 @@
 -- How many tile rows a search sums (request L12).
-use Rattle.algebra.specs.Prelude.{Bool, cond, ℕ, zero, suc, _+_, _*_, leb}
+use Rattle.algebra.specs.Prelude.{Bool, ℕ, zero, suc, _+_, _*_}
 use Rattle.algebra.specs.Sums.{sumN}
 use Rattle.sequences.specs.Least.{firstMin}
-use Rattle.search.specs.declared.Tile.{Tile}
 use Rattle.geometry.specs.declared.vectors.Vector.{Vector}
+use Rattle.residuals.specs.declared.Tile.{Tile}
+use Rattle.residuals.specs.Residual.{Pair, rowResidual}
+use Rattle.trials.specs.Rows.{rows}
 use Rattle.search.specs.Vectors.{_plus_}
 use Rattle.search.specs.Offsets.{offset}
-use Rattle.search.specs.Residual.{Pair, rowResidual}
-
--- "leave one after the row at which its running total reaches the best so far": of n rows with the sums f, the least j from 1 on such that the first j
--- rows' total reaches the best, else all n. One row more than suc n is summed unless the total of these has reached it.
-unfoldable pub rows : (best : ℕ) → (f : ℕ → ℕ) → (n : ℕ) → ℕ
-rows best f zero = 0
-rows best f (suc zero) = 1
-rows best f (suc (suc n)) = cond (leb best (sumN (suc n) f)) (rows best f (suc n)) (suc (suc n))
 
 -- the least of the first k + 1 of some numbers
 unfoldable pub leastOf : (ℕ → ℕ) → (k : ℕ) → ℕ

@@ -1,19 +1,18 @@
 -- The offset that is chosen is the least by residual, then by the order of ties; and the bounds of what is found.
 use Rattle.algebra.specs.Prelude.{_≡_, refl, sym, subst, _∙_, Bool, true, false, ℕ, zero, suc, _+_, _≤_, _<_, arith, ltb}
 use borrow.Author.Tests.{ltb-true, lt-ltb, le-ltb}
-use Rattle.sequences.specs.Least.{firstMin}
-use Rattle.sequences.specs.LeastLoop.{least}
-use Rattle.search.specs.declared.Tile.{Tile}
+use Rattle.sequences.specs.Least.{firstBy, firstMin}
+use Rattle.residuals.specs.declared.Tile.{Tile}
 use Rattle.geometry.specs.declared.vectors.Vector.{Vector}
 use Rattle.search.specs.Vectors.{_plus_}
-use Rattle.search.specs.Bounds.{Within}
+use Rattle.patches.specs.Bounds.{Within}
 use Rattle.search.specs.VectorLaws.{plus-within}
 use Rattle.search.specs.Offsets.{offset}
 use Rattle.search.specs.Ties.{earlier}
 use Rattle.search.specs.OffsetLaws.{offset-order, offset-at, offset-within}
-use Rattle.search.specs.Residual.{Pair, residual}
+use Rattle.residuals.specs.Residual.{Pair, residual}
 use Rattle.search.specs.Search.{tried, chosen, found, three, guessed}
-use Rattle.sequences.specs.LeastLaws.{firstMin-most, first}
+use Rattle.sequences.specs.LeastLaws.{firstMin-most, least, first}
 
 module _ (squared : Bool) (p : Pair) (t : Tile) (guess : Vector) where
   chosen-most : chosen squared p t guess < 81
@@ -48,19 +47,19 @@ module _ (squared : Bool) (p : Pair) (t : Tile) (guess : Vector) where
 -- which of three candidates is the guess
 module _ (p : Pair) (t : Tile) (own sideways vertically : Vector) (x y z : ℕ) (ex : x ≡ residual false p t own) (ey : y ≡ residual false p t sideways) (ez : z ≡ residual false p t vertically) where
   pub guess-own : x ≤ y → x ≤ z → own ≡ guessed p t own sideways vertically
-  unfolding guessed firstMin three
+  unfolding guessed firstBy three
   guess-own h k = rw (← ex, ← ey, le-ltb y x h, ← ex, ← ez, le-ltb z x k)
 
   pub guess-sideways : y < x → y ≤ z → sideways ≡ guessed p t own sideways vertically
-  unfolding guessed firstMin three
+  unfolding guessed firstBy three
   guess-sideways h k = rw (← ex, ← ey, lt-ltb y x h, ← ey, ← ez, le-ltb z y k)
 
   pub guess-third : x ≤ y → z < x → vertically ≡ guessed p t own sideways vertically
-  unfolding guessed firstMin three
+  unfolding guessed firstBy three
   guess-third h k = rw (← ex, ← ey, le-ltb y x h, ← ex, ← ez, lt-ltb z x k)
 
   pub guess-last : y < x → z < y → vertically ≡ guessed p t own sideways vertically
-  unfolding guessed firstMin three
+  unfolding guessed firstBy three
   guess-last h k = rw (← ex, ← ey, lt-ltb y x h, ← ey, ← ez, lt-ltb z y k)
 
 -- and what bounds the three bounds it

@@ -3,7 +3,7 @@ use Rattle.algebra.specs.Prelude.{ℕ, _+_, _≤_, arith}
 use Rattle.algebra.specs.Order.{abs-add}
 use Rattle.geometry.specs.declared.vectors.Vector.{Vector}
 use Rattle.search.specs.Vectors.{_plus_}
-use Rattle.search.specs.Bounds.{Within}
+use Rattle.patches.specs.Bounds.{Within}
 
 pub within-more : {a : ℕ} {v : Vector} (b : ℕ) → Within a v → a ≤ b → Within b v
 within-more b w h = record { vertical = omega (arith, w .vertical); sideways = omega (arith, w .sideways) }

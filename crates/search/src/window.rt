@@ -5,12 +5,14 @@ ghost use lib.IntN.{pos, _-ℤ_};
 ghost use lib.ListN.{length, getD};
 ghost use Rattle.sequences.specs.Tab.{tab};
 ghost use Rattle.search.specs.Offsets.{offset};
-ghost use Rattle.search.specs.Bounds.{Within};
-ghost use Rattle.search.specs.Local.{squareRow, windowRow, Window, Kind, Left, Searched};
-use crate::Tried;
-use crate::eight;
-use crate::sixteen;
+ghost use Rattle.patches.specs.Bounds.{Within};
+ghost use Rattle.residuals.specs.Local.{squareRow};
+ghost use Rattle.trials.specs.Trial.{InWindow, Left};
+ghost use Rattle.search.specs.Local.{windowRow, Window, Kind, Searched};
 use geometry::vectors::Vector;
+use trials::Tried;
+use trials::eight;
+use trials::sixteen;
 
 // The parts of the offsets in tie order, each plus 4.
 const DOWN: [u8; 81] = [
@@ -236,7 +238,7 @@ fn try_offset(
     x: usize,
     low: u64,
 ) -> Tried
-    requires { ⌜ (Window (now tile) (now window) side) × (Kind squared side) × (y ≤ 8) × (x ≤ 8) ⌝ }
+    requires { ⌜ (InWindow (now tile) (now window) side y x) × (Kind squared side) ⌝ }
     ensures { λ r. ⌜ Left low (squareRow squared (now (tile .entry)) (now (window .entry)) (y * (side + 8) + x) (side + 8) side) side r ⌝ }
 {
     if side == 8 {
@@ -251,7 +253,7 @@ fn try_offset(
 // The first of the least residuals, and the rows summed: the offsets in tie order, offset zero first, each left after the row at which its total
 // reaches the least so far. `low` starts above every total, so that offset zero is summed whole.
 pub fn search(squared: bool, side: usize, tile: &[u16], window: &[u16]) -> Best
-    requires { ⌜ (Window (now tile) (now window) side) × (Kind squared side) × (256 ≤ length (now tile)) ⌝ }
+    requires { ⌜ record { around : Window (now tile) (now window) side; kind : Kind squared side; room : 256 ≤ length (now tile) } ⌝ }
     ensures { λ r. ⌜ Searched (windowRow squared (now (tile .entry)) (now (window .entry)) side) side r ⌝ }
 {
     let down = DOWN;

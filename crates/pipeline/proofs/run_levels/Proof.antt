@@ -16,8 +16,9 @@ align-frames-requires c κs =
 merge-frames-requires : tie.Need-merge-frames-requires
 merge-frames-requires c κs =
     let frames = c .before .before .before .before .before in
-    let ready = frames .before .before .before .before .before .before .pre in (
-      record {
+    let ready = frames .before .before .before .before .before .before .pre in
+    record {
+      accepted = record {
         burst = record {
           allowed = ready .fits .burst .allowed;
           reference-below = ready .fits .burst .reference-below;
@@ -29,10 +30,10 @@ merge-frames-requires c κs =
         shot-most = ready .shot-most;
         read-most = ready .read-most;
         strength-most = ready .strength-most;
-      },
-      ready .fits .output-long,
-      frames .align-frames .ensures .same ∙ ready .fits .work-long,
-    )
+      };
+      output-long = ready .fits .output-long;
+      work-long = frames .align-frames .ensures .same ∙ ready .fits .work-long;
+    }
 
 returns : tie.Need-returns
 returns c =

@@ -3,8 +3,8 @@ use Rattle.algebra.specs.Prelude.{_≡_, ap, ap₂, _∙_, ℕ, _+_, _/_, needs
 use Rattle.geometry.specs.declared.Shape.{Shape}
 use Rattle.geometry.specs.Tiles.{levelSize}
 use Rattle.pyramid.specs.Layout.{offset, pyramidLength}
-use Rattle.alignment.specs.declared.matching.Area.{Area}
-use Rattle.alignment.specs.Fields.{levelAt}
+use Rattle.matching.specs.declared.Area.{Area}
+use Rattle.levels.specs.Fields.{levelAt}
 use Rattle.alignment.specs.Sites.{imageNumber, areaAt}
 use Rattle.alignment.proofs.frame.area_at.Statement.{statement}
 use Rattle.alignment.proofs.frame.area_at.Tie as tie

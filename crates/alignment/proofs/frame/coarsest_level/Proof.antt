@@ -6,14 +6,14 @@ use Rattle.alignment.proofs.frame.coarsest_level.Statement.{statement}
 use Rattle.alignment.proofs.frame.coarsest_level.Tie as tie
 
 coarsest-field-requires : tie.Need-coarsest-field-requires
-coarsest-field-requires c κs = let s = c .before .before .before .pre in level-ready 3 (c .before .before .before .args .at) (s .0) (s .1) (s .2) (s .3) (c .before .before .area-at .ensures) (c .before .grid-at .ensures)
+coarsest-field-requires c κs = let s = c .before .before .before in level-ready 3 (s .args .at) (s .pre) (c .before .before .area-at .ensures) (c .before .grid-at .ensures)
 
 returns : tie.Need-returns
 unfolding pairsIn
 returns c =
     let g = c .before .before .before in
     let e = c .before .coarsest-field .ensures in
-    (g .grid-at .ensures, rw (g .before .area-at .ensures) at (e .0), rw (g .before .area-at .ensures) at (e .1), e .2)
+    record { grid-is = g .grid-at .ensures; laid = rw (g .before .area-at .ensures) at e }
 
 pub coarsest-level-spec : {M : Type 1} → statement M
 coarsest-level-spec = tie.close (tie.spec

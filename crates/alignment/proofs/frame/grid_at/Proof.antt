@@ -3,18 +3,18 @@ use native.Mathlib.Nat.{div-le-self}
 use Rattle.geometry.specs.declared.Shape.{Shape}
 use Rattle.geometry.specs.Tiles.{levelSize, tileCount}
 use Rattle.geometry.specs.LevelTiles.{levelTiles}
-use Rattle.alignment.specs.declared.levels.Grid.{Grid}
-use Rattle.alignment.specs.Fields.{levelAt}
+use Rattle.levels.specs.declared.Grid.{Grid}
+use Rattle.levels.specs.Fields.{levelAt}
 use Rattle.alignment.specs.Sites.{gridAt}
 use Rattle.algebra.specs.Prelude.{_≡_, ℕ, _/_, arith, needs}
 use Rattle.alignment.proofs.frame.grid_at.Statement.{statement}
 use Rattle.alignment.proofs.frame.grid_at.Tie as tie
 
 tile-count-requires : tie.Need-tile-count-requires
-tile-count-requires c κs = let a = c .before .before .before .args in (omega arith, omega arith, omega (arith, div-le-self (a .shape .height) (c .before .scale-of .result)))
+tile-count-requires c κs = let a = c .before .before .before .args in record { some = omega arith; most = omega arith; size-most = omega (arith, div-le-self (a .shape .height) (c .before .scale-of .result)) }
 
 tile-count-requires-2 : tie.Need-tile-count-requires-2
-tile-count-requires-2 c κs = let a = c .before .before .before .before .before .args in (omega arith, omega arith, omega (arith, div-le-self (a .shape .width) (c .before .before .before .scale-of .result)))
+tile-count-requires-2 c κs = let a = c .before .before .before .before .before .args in record { some = omega arith; most = omega arith; size-most = omega (arith, div-le-self (a .shape .width) (c .before .before .before .scale-of .result)) }
 
 made : (shape : Shape) (level at half scale r k : ℕ) → half ≡ levelAt level .half → scale ≡ levelAt level .scale → r ≡ tileCount half (shape .height / scale) → k ≡ tileCount half (shape .width / scale) → _≡_ {A = Grid} (record { at = at; rows = r; columns = k }) (gridAt shape level at)
 unfolding gridAt levelTiles levelSize
@@ -24,7 +24,7 @@ returns : tie.Need-returns
 returns c = let r = c .before .before in
     let s = r .before .before in
     let a = s .before .before .args in
-    made (a .shape) (a .level) (a .at) _ _ _ _ (s .before .half-of .ensures .0) (s .scale-of .ensures .0) (r .tile-count .ensures .0) (c .tile-count2 .ensures .0)
+    made (a .shape) (a .level) (a .at) _ _ _ _ (s .before .half-of .ensures .is) (s .scale-of .ensures .0) (r .tile-count .ensures .is) (c .tile-count2 .ensures .is)
 
 pub grid-at-spec : {M : Type 1} → statement M
 grid-at-spec = tie.close (tie.spec

@@ -6,16 +6,20 @@ use Rattle.alignment.proofs.frame.next_level.Statement.{statement}
 use Rattle.alignment.proofs.frame.next_level.Tie as tie
 
 finer-field-requires : tie.Need-finer-field-requires
-finer-field-requires c κs = let s = c .before .before .before .pre in
-    let r = level-ready (c .before .before .before .args .level) (c .before .before .before .args .at) (s .0) (s .1) (s .2) (s .3) (c .before .before .area-at .ensures) (c .before .grid-at .ensures) in
-    (r .0, r .1, s .5, record { end = s .6 }, s .4, r .2, r .3)
+finer-field-requires c κs = let s = c .before .before .before in
+    record {
+      fits = level-ready (s .args .level) (s .args .at) (s .pre .site) (c .before .before .area-at .ensures) (c .before .grid-at .ensures);
+      vectors = s .pre .vectors;
+      ends = record { end = s .pre .ends };
+      level-most = s .pre .level-most;
+    }
 
 returns : tie.Need-returns
 unfolding pairsIn
 returns c =
     let g = c .before .before .before in
     let e = c .before .finer-field .ensures in
-    (g .grid-at .ensures, rw (g .before .area-at .ensures) at (e .0), rw (g .before .area-at .ensures) at (e .1), e .2)
+    record { grid-is = g .grid-at .ensures; laid = rw (g .before .area-at .ensures) at e }
 
 pub next-level-spec : {M : Type 1} → statement M
 next-level-spec = tie.close (tie.spec

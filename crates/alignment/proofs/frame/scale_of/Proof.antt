@@ -1,5 +1,5 @@
 -- The level's scale, by its number.
-use Rattle.alignment.specs.Fields.{levelAt}
+use Rattle.levels.specs.Fields.{levelAt}
 use Rattle.algebra.specs.Prelude.{_≡_, refl, ℕ, zero, suc, arith, needs}
 use Rattle.alignment.proofs.frame.scale_of.Statement.{statement}
 use Rattle.alignment.proofs.frame.scale_of.Tie as tie

@@ -1,7 +1,7 @@
 -- Both parts stand in the table and are at most 8.
 use Rattle.algebra.specs.Prelude.{_≡_, sym, subst, _∙_, ℕ, needs, getD, ℤ, pos, _-ℤ_}
 use Rattle.geometry.specs.declared.vectors.Vector.{Vector}
-use Rattle.search.specs.Bounds.{Within}
+use Rattle.patches.specs.Bounds.{Within}
 use Rattle.algebra.specs.Back.{back}
 use Rattle.search.specs.Offsets.{downs, rights, offset}
 use Rattle.search.specs.OffsetLaws.{parts-most, offset-within}

@@ -1,19 +1,20 @@
 -- The loop keeps the first least of the offsets tried so far and the rows that they took; the arrays are the table's, and the tile is a copy.
-use Rattle.algebra.specs.Prelude.{_≡_, refl, sym, subst, ap, ap₂, _∙_, _+_, _-_, _*_, _≤_, _<_, arith, needs, lit≤, lit<, getD}
+use Rattle.algebra.specs.Prelude.{_≡_, refl, subst, ap₂, _∙_, _+_, _-_, _*_, _≤_, arith, needs, lit≤, lit<, getD}
 use mathlib.Core.Logic.{⊎-elim}
 use Rattle.algebra.specs.Sums.{sumN}
 use Rattle.sequences.specs.Sum.{Summed, sum-start, sum-turn}
 use Rattle.sequences.specs.LeastLaws.{Lowest, lowest-start, lowest-take, lowest-keep}
-use Rattle.search.specs.declared.Tried.{Tried}
-use Rattle.search.specs.Magnitudes.{residualMost}
+use Rattle.residuals.specs.Magnitudes.{residualMost}
 use Rattle.search.specs.Offsets.{downs, rights}
 use Rattle.search.specs.OffsetLaws.{parts-most}
 use Rattle.search.specs.Rows.{offsetRows}
 use Rattle.search.specs.RowLaws.{offset-rows-most}
-use Rattle.search.specs.Local.{squareRow, windowRow, Window, Left}
+use Rattle.residuals.specs.Local.{squareRow}
+use Rattle.trials.specs.Trial.{Left}
+use Rattle.search.specs.Local.{windowRow, Window}
 use Rattle.search.specs.LocalLaws.{lowest-searched, searched-same}
-use Rattle.search.specs.LeaveLaws.{next-rows}
-use Rattle.search.specs.SixteenLaws.{own-window, own-row, window-most}
+use Rattle.search.specs.RowLaws.{next-rows}
+use Rattle.search.specs.WindowLaws.{own-window, own-row, window-most}
 use Rattle.search.proofs.window.search.Statement.{statement}
 use Rattle.search.proofs.window.search.Tie as tie
 
@@ -24,11 +25,11 @@ abbrev μ-loop : tie.MeasureT-loop
 μ-loop squared side tile window down right own best₀ low₀ rows₀ k₀ best low rows k = 81 - k
 
 small : (s : tie.Start Inv-loop μ-loop) → s .args .side ≤ 16
-small s = ⊎-elim (λ k. omega (arith, k .0)) (λ k. omega (arith, k)) (s .pre .1 .is)
+small s = ⊎-elim (λ k. omega (arith, k .0)) (λ k. omega (arith, k)) (s .pre .kind .is)
 
 -- the copy and the window
 seen : (c : tie.After-copied Inv-loop μ-loop) → let a = c .before .before .before .args in Window (c .copied .result) (a .window .now) (a .side)
-seen c = let s = c .before .before .before in own-window (s .args .tile .now) (c .copied .result) (c .copied .ensures) (s .args .side) (small s) (s .pre .0)
+seen c = let s = c .before .before .before in own-window (s .args .tile .now) (c .copied .result) (c .copied .ensures) (s .args .side) (small s) (s .pre .around)
 
 -- the offset's place
 down-is : (c : tie.After-wide Inv-loop μ-loop) → c .wide .result ≡ getD downs (c .before .before .loop .k) 0
@@ -44,7 +45,14 @@ try-offset-requires c κs =
     let w = c .before in
     let l = w .before .before .before in
     let m = parts-most (l .loop .k) (w .before .before .loop-test .taken) in
-    (seen (l .before), l .before .before .before .before .pre .1, omega (arith, down-is (w .before), m .0), omega (arith, right-is w, m .1))
+    let v = seen (l .before) in (
+      record {
+        compared = record { tile-low = v .tile-low; window-low = v .window-low };
+        vertical = omega (arith, down-is (w .before), m .0);
+        sideways = omega (arith, right-is w, m .1);
+      },
+      l .before .before .before .before .pre .kind,
+    )
 
 -- what trying the offset gave
 left : (c : tie.After-try-offset Inv-loop μ-loop) → let l = c .before .before .before .before .before in let a = l .before .before .before .before .args in Left (l .loop .low) (windowRow (a .squared) (l .before .copied .result) (a .window .now) (a .side) (l .loop .k)) (a .side) (c .try-offset .result)
@@ -103,7 +111,7 @@ returns c =
 
 pub search-spec : {M : Type 1} → statement M
 search-spec = tie.close (tie.spec
-    Inv-loop μ-loop (λ c κs. c .before .before .pre .2) (λ c. (lowest-start, sum-start))
+    Inv-loop μ-loop (λ c κs. c .before .before .pre .room) (λ c. (lowest-start, sum-start))
     (λ c. search needs) (λ c κs. search needs) (λ c. search needs) (λ c κs. search needs)
     (λ c. search needs) try-offset-requires add-rows (λ c. search needs) (λ c. search needs)
     loop-again returns)

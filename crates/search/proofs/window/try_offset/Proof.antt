@@ -1,7 +1,7 @@
 -- The side and the kind of differences decide which loop it is.
 use Rattle.algebra.specs.Prelude.{_≡_, subst, true, arith}
 use mathlib.Core.Logic.{⊎-elim}
-use Rattle.search.specs.Local.{Window}
+use Rattle.trials.specs.Trial.{InWindow}
 use Rattle.search.proofs.window.try_offset.Statement.{statement}
 use Rattle.search.proofs.window.try_offset.Tie as tie
 
@@ -15,8 +15,7 @@ side-is c = ⊎-elim (λ k. absurd (c .if1 .left (k .0))) (λ k. k) (c .before .
 squared-offset-requires : tie.Need-squared-offset-requires
 squared-offset-requires c κs =
     let s = c .before .before .before in
-    let w = subst (Window (s .args .tile .now) (s .args .window .now)) (c .if1 .taken) (s .pre .0) in
-    (w .tile-low, w .window-low, s .pre .2, s .pre .3)
+    subst (λ side. InWindow (s .args .tile .now) (s .args .window .now) side (s .args .y) (s .args .x)) (c .if1 .taken) (s .pre .0)
 
 returns : tie.Need-returns
 returns c = rw (squared-is (c .before), c .before .if1 .taken) (c .squared-offset .ensures)
@@ -24,8 +23,7 @@ returns c = rw (squared-is (c .before), c .before .if1 .taken) (c .squared-offse
 squared-offset-requires-2 : tie.Need-squared-offset-requires-2
 squared-offset-requires-2 c κs =
     let s = c .before .before .before .before in
-    let w = subst (Window (s .args .tile .now) (s .args .window .now)) (side-is (c .before)) (s .pre .0) in
-    (w .tile-low, w .window-low, s .pre .2, s .pre .3)
+    subst (λ side. InWindow (s .args .tile .now) (s .args .window .now) side (s .args .y) (s .args .x)) (side-is (c .before)) (s .pre .0)
 
 returns-2 : tie.Need-returns-2
 returns-2 c = rw (c .before .if2 .taken, side-is (c .before .before)) (c .squared-offset2 .ensures)
@@ -33,8 +31,7 @@ returns-2 c = rw (c .before .if2 .taken, side-is (c .before .before)) (c .square
 absolute-offset-requires : tie.Need-absolute-offset-requires
 absolute-offset-requires c κs =
     let s = c .before .before .before .before in
-    let w = subst (Window (s .args .tile .now) (s .args .window .now)) (side-is (c .before)) (s .pre .0) in
-    (w .tile-low, w .window-low, s .pre .2, s .pre .3)
+    subst (λ side. InWindow (s .args .tile .now) (s .args .window .now) side (s .args .y) (s .args .x)) (side-is (c .before)) (s .pre .0)
 
 returns-3 : tie.Need-returns-3
 returns-3 c = rw (c .before .if2 .left, side-is (c .before .before)) (c .absolute-offset .ensures)

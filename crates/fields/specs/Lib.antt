@@ -1,0 +1,4 @@
+pub mod LevelSums
+pub mod Magnitudes
+pub mod Loops
+pub mod LoopLaws

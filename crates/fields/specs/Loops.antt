@@ -1,0 +1,60 @@
+-- Inner vocabulary: what the loop over a level's tiles asks of the work area, and what it leaves.
+use Rattle.algebra.specs.Prelude.{_≡_, List, ℕ, _+_, _*_, _≤_, _<_, length, ℤ}
+use Rattle.matching.specs.declared.Area.{Area}
+use Rattle.fields.specs.Magnitudes.{wayMost, tilesMost}
+use Rattle.geometry.specs.Tiles.{level0, step1to0}
+use Rattle.sequences.specs.Write.{written}
+use Rattle.levels.specs.declared.Grid.{Grid}
+use Rattle.geometry.specs.Vectors.{Field, word}
+use Rattle.residuals.specs.Magnitudes.{residualMost}
+use Rattle.fields.specs.LevelSums.{finerRows, residuals}
+use Rattle.fields.specs.declared.Sums.{Sums}
+use Rattle.levels.specs.Magnitudes.{tileRowsMost}
+use Rattle.levels.specs.Fields.{levelAt, finer}
+use Rattle.levels.specs.Steps.{stepTo}
+use Rattle.levels.specs.Grids.{fieldAt}
+use Rattle.matching.specs.Stored.{pairIn, Stored}
+
+-- a level's images stand before place n
+pub record Before (a : Area) (n : ℕ) : Type 0 where
+  pub reference : a .reference + a .height * a .width ≤ n
+  pub other : a .other + a .height * a .width ≤ n
+
+-- a grid of some columns, and of no more rows and columns than level 0 of a frame of 4096 by 4096 has
+pub record Few (rows columns : ℕ) : Type 0 where
+  pub some-columns : 0 < columns
+  pub few-rows : rows ≤ wayMost
+  pub few-columns : columns ≤ wayMost
+
+-- coarse vectors end before place n
+pub record Ends (c : Grid) (n : ℕ) : Type 0 where
+  pub end : c .at + 2 * (c .rows * c .columns) ≤ n
+
+-- a level's images stand in the work area, and behind them there is room for its vectors from `to` on
+pub record Room (words : List ℤ) (a : Area) (to rows columns : ℕ) : Type 0 where
+  pub stored : Stored words a
+  pub before : Before a to
+  pub few : Few rows columns
+  pub room : to + 2 * (rows * columns) ≤ length words
+
+-- a field's vectors are written from `to` on, and the n rows summed for it are answered
+pub record Laid (d : List ℤ) (to rows columns : ℕ) (f : Field) (n : ℕ) (l : List ℤ) (r : ℕ) : Type 0 where
+  pub vectors : l ≡ written d to (word columns f) (2 * (rows * columns))
+  pub rows-are : r ≡ n
+  pub few : r ≤ tilesMost * tileRowsMost
+
+-- the finest field
+unfoldable pub finestIn : List ℤ → Area → Grid → Field
+finestIn words a c = finer level0 step1to0 (c .rows) (c .columns) (pairIn words a) (fieldAt words (c .at) (c .columns))
+
+-- the rows summed for a level from 2 to 0 of so many rows and columns of tiles
+abbrev pub finerRowsIn : (level : ℕ) → List ℤ → Area → Grid → (rows columns : ℕ) → ℕ
+finerRowsIn level words a c rows columns = finerRows (levelAt level) (stepTo level) (c .rows) (c .columns) (pairIn words a) (fieldAt words (c .at) (c .columns)) rows columns
+
+-- its vectors are written from `to` on, and the sum of its residuals and the rows summed are answered
+pub record Finest (words : List ℤ) (a : Area) (c : Grid) (rows columns : ℕ) (d : List ℤ) (to : ℕ) (l : List ℤ) (r : Sums) : Type 0 where
+  pub vectors : l ≡ written d to (word columns (finestIn words a c)) (2 * (rows * columns))
+  pub residual-is : r .residual ≡ residuals level0 (pairIn words a) rows columns (finestIn words a c)
+  pub most : r .residual ≤ tilesMost * residualMost
+  pub rows-are : r .rows ≡ finerRowsIn 0 words a c rows columns
+  pub few : r .rows ≤ tilesMost * tileRowsMost

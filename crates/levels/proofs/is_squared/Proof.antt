@@ -1,0 +1,15 @@
+-- The kind of differences, by the level's number.
+use Rattle.algebra.specs.Prelude.{_≡_, refl, not, ℕ, zero, suc, arith, eqb}
+use borrow.Author.Tests.{ne-eqb}
+use Rattle.levels.specs.Fields.{levelAt}
+use Rattle.levels.proofs.is_squared.Statement.{statement}
+use Rattle.levels.proofs.is_squared.Tie as tie
+
+is : (level : ℕ) → not (eqb level 0) ≡ levelAt level .squared
+is zero = refl
+is (suc zero) = refl
+is (suc (suc zero)) = refl
+is (suc (suc (suc k))) = rw (ne-eqb (suc (suc (suc k))) 0 (λ e. omega arith))
+
+pub is-squared-spec : {M : Type 1} → statement M
+is-squared-spec = tie.close (tie.spec (λ c. is (c .args .level)))

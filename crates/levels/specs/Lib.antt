@@ -1,0 +1,5 @@
+pub mod Fields
+pub mod Magnitudes
+pub mod Steps
+pub mod Grids
+pub mod FieldLaws

@@ -1,0 +1,194 @@
+// The tiles of a level: each from a guess, and the guess from the coarse level's vectors.
+ghost use mathlib.Core.Path.{_≡_};
+ghost use Prim.Native.Nat.{_*_, _%_, _≤_, _<_};
+ghost use lib.ListN.{length, getD};
+ghost use lib.IntN.{pos, natAbs, _*ℤ_};
+ghost use Rattle.geometry.specs.Quotient.{Quotient};
+ghost use Rattle.search.specs.Vectors.{_times_};
+ghost use Rattle.patches.specs.Bounds.{Within};
+ghost use Rattle.levels.specs.Fields.{levelAt, tileAt};
+ghost use Rattle.levels.specs.Steps.{stepTo};
+ghost use Rattle.matching.specs.Stored.{Stored, Placed, Ready, refined};
+ghost use Rattle.residuals.specs.Magnitudes.{residualMost};
+ghost use Rattle.levels.specs.Magnitudes.{coarseMost, foundMost, tileRowsMost};
+ghost use Rattle.matching.specs.Magnitudes.{guessMost};
+ghost use Rattle.levels.specs.Grids.{fieldAt, Vectors, guessFrom, coarsestAnswer, finerAnswer};
+use geometry::tiles::capped;
+use geometry::tiles::neighbour;
+use geometry::tiles::origin;
+use geometry::tiles::own;
+use geometry::vectors::Vector;
+use matching::Area;
+use matching::Found;
+use matching::refine;
+use matching::refine_candidates;
+use patches::copy_square;
+use residuals::Tile;
+
+// A level's rows and columns of tiles, and where their vectors stand in the work area, row by row.
+pub struct Grid {
+    pub at: usize,
+    pub rows: usize,
+    pub columns: usize,
+}
+
+// f of the step to a level.
+fn factor(level: usize) -> usize
+    requires { ⌜ level ≤ 2 ⌝ }
+    ensures { λ r. ⌜ (r ≡ stepTo level .factor) × (r ≤ 4) ⌝ }
+{
+    if level == 0 { 2 } else { 4 }
+}
+
+// q of the step to a level.
+fn quotient(level: usize) -> usize
+    requires { ⌜ level ≤ 2 ⌝ }
+    ensures { λ r. ⌜ (r ≡ stepTo level .quotient) × (Quotient r) ⌝ }
+{
+    if level == 1 { 4 } else { 2 }
+}
+
+// The half step of a level's tiles.
+pub fn half_of(level: usize) -> usize
+    requires { ⌜ level ≤ 3 ⌝ }
+    ensures { λ r. ⌜ record { is : r ≡ levelAt level .half; twice : 2 * r ≡ levelAt level .side; fours : r % 4 ≡ 0; some : 0 < r; most : r ≤ 8 } ⌝ }
+{
+    if level == 3 { 4 } else { 8 }
+}
+
+// The tile at a row and a column of tiles.
+fn tile_at(level: usize, row: usize, column: usize) -> Tile
+    requires { ⌜ record { level-most : level ≤ 3; row-most : row ≤ 4096; column-most : column ≤ 4096 } ⌝ }
+    ensures { λ r. ⌜ (r ≡ tileAt (levelAt level) row column) × (Placed r) ⌝ }
+{
+    let half = half_of(level);
+    let corner = Vector {
+        down: origin(half, row),
+        right: origin(half, column),
+    };
+    Tile {
+        side: 2 * half,
+        origin: corner,
+    }
+}
+
+// A part of a coarse vector, times f.
+fn coarse_part(words: &[i64], k: usize, f: usize) -> i64
+    requires { ⌜ record { inside : k < length (now words); small : natAbs (getD (now words) k (pos 0)) ≤ coarseMost; factor-most : f ≤ 4 } ⌝ }
+    ensures { λ r. ⌜ (r ≡ getD (now (words .entry)) k (pos 0) *ℤ pos f) × (natAbs r ≤ guessMost) ⌝ }
+{
+    words[k] * f as i64
+}
+
+// A coarse vector, times f.
+fn coarse_vector(words: &[i64], coarse: Grid, row: usize, column: usize, f: usize) -> Vector
+    requires { ⌜ record { vectors : Vectors (now words) coarse; row-below : row < coarse .rows; column-below : column < coarse .columns; factor-most : f ≤ 4 } ⌝ }
+    ensures { λ r. ⌜ (r ≡ fieldAt (now (words .entry)) (coarse .at) (coarse .columns) row column times f) × (Within guessMost r) ⌝ }
+{
+    let k = coarse.at + 2 * (row * coarse.columns + column);
+    let down = coarse_part(words, k, f);
+    let right = coarse_part(words, k + 1, f);
+    Vector {
+        down: down,
+        right: right,
+    }
+}
+
+// Whether a level's residuals are of squared differences.
+fn is_squared(level: usize) -> bool
+    requires { ⌜ level ≤ 3 ⌝ }
+    ensures { λ r. ⌜ r ≡ levelAt level .squared ⌝ }
+{
+    level != 0
+}
+
+// The vector of a tile, from the coarse vectors around it.
+fn refine_coarse(
+    words: &[i64],
+    area: Area,
+    tile: Tile,
+    samples: &[u16],
+    level: usize,
+    coarse: Grid,
+    row: usize,
+    column: usize,
+) -> Found
+    requires { ⌜ record { ready : Ready (now words) area tile (now samples); sixteen : tile .side ≡ 16; vectors : Vectors (now words) coarse; level-most : level ≤ 2; row-most : row ≤ 4096; column-most : column ≤ 4096 } ⌝ }
+    ensures { λ r. ⌜ record { is : r ≡ refined (levelAt level .squared) (now (words .entry)) area tile (guessFrom level (now (words .entry)) area coarse tile row column) (3 * tile .side); near : Within foundMost (r .vector); most : r .residual ≤ residualMost } ⌝ }
+{
+    let squared = is_squared(level);
+    let q = quotient(level);
+    let f = factor(level);
+    let own_row = capped(coarse.rows, own(q, row));
+    let next_row = capped(coarse.rows, neighbour(q, row));
+    let own_column = capped(coarse.columns, own(q, column));
+    let next_column = capped(coarse.columns, neighbour(q, column));
+    let here = coarse_vector(words, coarse, own_row, own_column, f);
+    let sideways = coarse_vector(words, coarse, own_row, next_column, f);
+    let vertically = coarse_vector(words, coarse, next_row, own_column, f);
+    refine_candidates(
+        words,
+        area,
+        tile,
+        samples,
+        squared,
+        here,
+        sideways,
+        vertically,
+    )
+}
+
+// The vector of a tile of level 3, whose guess is (0,0).
+pub fn coarsest_tile(words: &[i64], area: Area, row: usize, column: usize) -> Found
+    requires { ⌜ record { stored : Stored (now words) area; row-most : row ≤ 4096; column-most : column ≤ 4096 } ⌝ }
+    ensures { λ r. ⌜ record { is : r ≡ coarsestAnswer (now (words .entry)) area row column; near : Within 4 (r .vector); few : r .rows ≤ tileRowsMost } ⌝ }
+{
+    let tile = tile_at(3, row, column);
+    let origin = tile.origin;
+    let mut samples = [0u16; 256];
+    copy_square(
+        words,
+        area.reference,
+        area.height,
+        area.width,
+        origin,
+        tile.side,
+        &mut samples,
+    );
+    refine(
+        words,
+        area,
+        tile,
+        &samples,
+        true,
+        Vector { down: 0, right: 0 },
+        0,
+    )
+}
+
+// The vector of a tile of a finer level.
+pub fn finer_tile(
+    words: &[i64],
+    area: Area,
+    level: usize,
+    coarse: Grid,
+    row: usize,
+    column: usize,
+) -> Found
+    requires { ⌜ record { stored : Stored (now words) area; vectors : Vectors (now words) coarse; level-most : level ≤ 2; row-most : row ≤ 4096; column-most : column ≤ 4096 } ⌝ }
+    ensures { λ r. ⌜ record { is : r ≡ finerAnswer level (now (words .entry)) area coarse row column; near : Within foundMost (r .vector); most : r .residual ≤ residualMost; few : r .rows ≤ tileRowsMost } ⌝ }
+{
+    let tile = tile_at(level, row, column);
+    let origin = tile.origin;
+    let mut samples = [0u16; 256];
+    copy_square(
+        words,
+        area.reference,
+        area.height,
+        area.width,
+        origin,
+        tile.side,
+        &mut samples,
+    );
+    refine_coarse(words, area, tile, &samples, level, coarse, row, column)
+}

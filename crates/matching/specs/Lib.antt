@@ -1,0 +1,3 @@
+pub mod Magnitudes
+pub mod Stored
+pub mod StoredLaws

@@ -1,0 +1,211 @@
+// The vector of one tile: the residuals of candidates, the guess, and the search around it.
+ghost use mathlib.Core.Path.{_≡_};
+ghost use mathlib.Core.Bool.{true, false};
+ghost use Prim.Native.Nat.{_+_, _*_, _≤_, _<_, _^_};
+ghost use lib.ListN.{length};
+ghost use Rattle.search.specs.Vectors.{_plus_};
+ghost use Rattle.patches.specs.Bounds.{Within};
+ghost use Rattle.residuals.specs.Residual.{residual};
+ghost use Rattle.residuals.specs.Local.{squareSum};
+ghost use Rattle.search.specs.Local.{Window, Kind};
+ghost use Rattle.residuals.specs.Magnitudes.{residualMost};
+ghost use Rattle.matching.specs.Magnitudes.{guessMost};
+ghost use Rattle.matching.specs.Stored.{pairIn, Stored, Placed, Ready, Around, Moved, refined, guessedIn, leastOfThree};
+use geometry::vectors::Vector;
+use patches::copy_square;
+use residuals::Tile;
+use residuals::sixteen::absolute_sum;
+use search::window::Best;
+use search::window::offset;
+use search::window::search;
+
+// Where a level's two images stand in the work area, and their size.
+pub struct Area {
+    pub reference: usize,
+    pub other: usize,
+    pub height: usize,
+    pub width: usize,
+}
+
+// A tile's vector, its residual, and how many of the tile's rows were summed to find it.
+pub struct Found {
+    pub vector: Vector,
+    pub residual: u64,
+    pub rows: u64,
+}
+
+// The three candidates' rows, at side 16.
+const CANDIDATE_ROWS: u64 = 48;
+
+// The sum of two vectors.
+fn sum(a: Vector, b: Vector) -> Vector
+    requires { ⌜ (Within (2 ^ 20) a) × (Within (2 ^ 20) b) ⌝ }
+    ensures { λ r. ⌜ r ≡ a plus b ⌝ }
+{
+    Vector {
+        down: a.down + b.down,
+        right: a.right + b.right,
+    }
+}
+
+// Whether two vectors are known to be equal.
+fn same(a: Vector, b: Vector) -> bool
+    requires { ⌜ (Within guessMost a) × (Within guessMost b) ⌝ }
+    ensures { λ r. ⌜ (r ≡ true → a ≡ b) ⌝ }
+{
+    if a.down != b.down {
+        return false;
+    }
+    a.right == b.right
+}
+
+// The residual of a candidate: always by absolute differences.
+fn candidate_sum(words: &[i64], area: Area, tile: Tile, samples: &[u16], v: Vector) -> u64
+    requires { ⌜ record { ready : Ready (now words) area tile (now samples); sixteen : tile .side ≡ 16; near : Within guessMost v } ⌝ }
+    ensures { λ r. ⌜ r ≡ residual false (pairIn (now (words .entry)) area) tile v ⌝ }
+{
+    let origin = tile.origin;
+    let mut other = [0u16; 256];
+    copy_square(
+        words,
+        area.other,
+        area.height,
+        area.width,
+        sum(origin, v),
+        16,
+        &mut other,
+    );
+    absolute_sum(samples, &other, 0, 16) as u64
+}
+
+// The candidate of the least residual, the earlier on a tie.
+fn guess(
+    own: Vector,
+    sideways: Vector,
+    vertically: Vector,
+    first: u64,
+    second: u64,
+    third: u64,
+) -> Vector
+    ensures { λ r. ⌜ r ≡ leastOfThree own sideways vertically first second third ⌝ }
+{
+    if second < first {
+        if third < second {
+            return vertically;
+        }
+        return sideways;
+    }
+    if third < first {
+        return vertically;
+    }
+    own
+}
+
+// The window around a guess, 4 samples further than the tile each way.
+fn copy_window(words: &[i64], area: Area, tile: Tile, guess: Vector, window: &mut [u16])
+    requires { ⌜ record { stored : Stored (now words) area; placed : Placed tile; near : Within guessMost guess; room : 576 ≤ length (now window) } ⌝ }
+    ensures { λ _. ⌜ Around (now (words .entry)) area tile guess (now (window .exit)) ⌝ }
+{
+    let origin = tile.origin;
+    let corner = sum(
+        sum(origin, guess),
+        Vector {
+            down: -4,
+            right: -4,
+        },
+    );
+    copy_square(
+        words,
+        area.other,
+        area.height,
+        area.width,
+        corner,
+        tile.side + 8,
+        &mut *window,
+    );
+}
+
+// The residual of the guess of such a window, in its middle.
+fn middle_sum(samples: &[u16], window: &[u16]) -> u64
+    requires { ⌜ Window (now samples) (now window) 16 ⌝ }
+    ensures { λ r. ⌜ r ≡ squareSum false (now (samples .entry)) (now (window .entry)) 100 24 16 ⌝ }
+{
+    absolute_sum(samples, window, 4 * 24 + 4, 24) as u64
+}
+
+// The residual of another candidate than the own one, whose window is there: a candidate equal to it is summed again, but not copied again.
+fn other_sum(
+    words: &[i64],
+    area: Area,
+    tile: Tile,
+    samples: &[u16],
+    window: &[u16],
+    v: Vector,
+    own: Vector,
+) -> u64
+    requires { ⌜ record { ready : Ready (now words) area tile (now samples); sixteen : tile .side ≡ 16; around : Around (now words) area tile own (now window); near : Within guessMost v; own-near : Within guessMost own } ⌝ }
+    ensures { λ r. ⌜ r ≡ residual false (pairIn (now (words .entry)) area) tile v ⌝ }
+{
+    if same(v, own) {
+        return middle_sum(samples, window);
+    }
+    candidate_sum(words, area, tile, samples, v)
+}
+
+// What the search around a guess has found there, and the rows summed, those before the search included.
+fn moved(guess: Vector, best: Best, before: u64) -> Found
+    requires { ⌜ record { near : Within guessMost guess; tried : best .offset < 81; few : best .rows ≤ 1296; few-before : before ≤ 48 } ⌝ }
+    ensures { λ r. ⌜ Moved guess best before r ⌝ }
+{
+    let vector = sum(guess, offset(best.offset));
+    Found {
+        vector: vector,
+        residual: best.residual,
+        rows: before + best.rows,
+    }
+}
+
+// The search around a guess, after so many rows of candidates.
+pub fn refine(
+    words: &[i64],
+    area: Area,
+    tile: Tile,
+    samples: &[u16],
+    squared: bool,
+    guess: Vector,
+    before: u64,
+) -> Found
+    requires { ⌜ record { ready : Ready (now words) area tile (now samples); kind : Kind squared (tile .side); near : Within guessMost guess; few-before : before ≤ 48 } ⌝ }
+    ensures { λ r. ⌜ (r ≡ refined squared (now (words .entry)) area tile guess before) × (r .residual ≤ residualMost) ⌝ }
+{
+    let mut window = [0u16; 576];
+    copy_window(words, area, tile, guess, &mut window);
+    moved(guess, search(squared, tile.side, samples, &window), before)
+}
+
+// The search around the best of three candidates. The window around the own one is copied first: its middle gives that one's residual,
+// and it is searched itself where that one is the best.
+pub fn refine_candidates(
+    words: &[i64],
+    area: Area,
+    tile: Tile,
+    samples: &[u16],
+    squared: bool,
+    own: Vector,
+    sideways: Vector,
+    vertically: Vector,
+) -> Found
+    requires { ⌜ record { ready : Ready (now words) area tile (now samples); sixteen : tile .side ≡ 16; own-near : Within guessMost own; sideways-near : Within guessMost sideways; vertically-near : Within guessMost vertically } ⌝ }
+    ensures { λ r. ⌜ (r ≡ refined squared (now (words .entry)) area tile (guessedIn (now (words .entry)) area tile own sideways vertically) (3 * tile .side)) × (r .residual ≤ residualMost) ⌝ }
+{
+    let mut window = [0u16; 576];
+    copy_window(words, area, tile, own, &mut window);
+    let first = middle_sum(samples, &window);
+    let second = other_sum(words, area, tile, samples, &window, sideways, own);
+    let third = other_sum(words, area, tile, samples, &window, vertically, own);
+    let best = guess(own, sideways, vertically, first, second, third);
+    if same(best, own) {
+        return moved(own, search(squared, 16, samples, &window), CANDIDATE_ROWS);
+    }
+    refine(words, area, tile, samples, squared, best, CANDIDATE_ROWS)
+}

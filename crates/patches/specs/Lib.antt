@@ -1,0 +1,5 @@
+pub mod Bounds
+pub mod Copies
+pub mod Period
+pub mod CopyLaws
+pub mod PeriodLaws

@@ -1,0 +1,4 @@
+pub mod Magnitudes
+pub mod Residual
+pub mod Local
+pub mod SixteenLaws

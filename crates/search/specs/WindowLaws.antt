@@ -1,0 +1,56 @@
+-- A copy of a tile has its rows, and how large the totals in a window are.
+use Rattle.algebra.specs.Prelude.{_≡_, ap, _∙_, Bool, true, false, List, ℕ, _+_, _*_, _≤_, _<_, arith, length, getD}
+use native.Mathlib.Nat.{mul-le-mul}
+use Rattle.algebra.specs.Sums.{sumN}
+use Rattle.algebra.specs.SumLaws.{sumN-cong, sumN-bound}
+use Rattle.sequences.specs.Place.{row-room}
+use Rattle.sequences.specs.Tab.{tab}
+use Rattle.sequences.specs.TabLaws.{length-tab, getD-tab}
+use Rattle.residuals.specs.Residual.{gap, difference}
+use Rattle.residuals.specs.Local.{rowSum, squareRow}
+use Rattle.search.specs.Offsets.{downs, rights}
+use Rattle.search.specs.OffsetLaws.{parts-most}
+use Rattle.search.specs.Local.{windowRow, Window}
+
+-- what copies of a tile's samples hold
+module _ (tile own : List ℕ) (is : own ≡ tab 256 (λ k. getD tile k 0)) where
+  own-at : (k : ℕ) → k < 256 → getD own k 0 ≡ getD tile k 0
+  own-at k h = ap (λ l. getD l k 0) is ∙ getD-tab (λ k. getD tile k 0) 0 256 k h
+
+  module _ (side : ℕ) (small : side ≤ 16) where
+    pub own-window : {window : List ℕ} → Window tile window side → Window own window side
+    own-window w =
+        let l = mul-le-mul small small in
+        record {
+          tile-low =
+              record {
+                room = omega (arith, ap length is, length-tab (λ k. getD tile k 0) 256);
+                most = λ k h. omega (arith, own-at k (omega arith), w .tile-low .most k h);
+              };
+          window-low = w .window-low;
+        }
+
+    pub own-row : (squared : Bool) (window : List ℕ) (k i : ℕ) → i < side → windowRow squared own window side k i ≡ windowRow squared tile window side k i
+    unfolding windowRow squareRow rowSum
+    own-row squared window k i h =
+        sumN-cong side _ _
+        (λ j l. rw (own-at (i * side + j) (omega (arith, row-room i side side h, mul-le-mul small small))))
+
+-- how large the totals are
+difference-most : (squared : Bool) (a b : ℕ) → a ≤ 16380 → b ≤ 16380 → difference squared a b ≤ 268304400
+unfolding difference
+difference-most true a b h k = let l : gap a b ≤ 16380 = omega arith in omega (arith, mul-le-mul l l)
+difference-most false a b h k = omega arith
+
+pub window-most : {tile window : List ℕ} {side : ℕ} → Window tile window side → side ≤ 16 → (squared : Bool) (k : ℕ) → k < 81 → sumN side (windowRow squared tile window side k) ≤ 68685926400
+unfolding windowRow squareRow rowSum
+window-most {tile} {window} {side} w small squared k h =
+    omega (arith, mul-le-mul small small, sumN-bound side (side * 268304400) _ row)
+  where
+    row : (i : ℕ) → i < side → rowSum squared tile window (i * side) (getD downs k 0 * (side + 8) + getD rights k 0 + i * (side + 8)) side ≤ side * 268304400
+    row i l =
+        let (y, x) = parts-most k h in
+        sumN-bound side 268304400 _
+        (λ j m. difference-most squared (getD tile (i * side + j) 0) (getD window (getD downs k 0 * (side + 8) + getD rights k 0 + i * (side + 8) + j) 0)
+        (w .tile-low .most (i * side + j) (omega (arith, row-room i side side l)))
+        (w .window-low .most (getD downs k 0 * (side + 8) + getD rights k 0 + i * (side + 8) + j) (omega (arith, row-room (getD downs k 0 + i) (side + 8) (side + 8) (omega arith)))))

@@ -1,0 +1,4 @@
+pub mod Rows
+pub mod Trial
+pub mod RowLaws
+pub mod LeaveLaws

@@ -1,0 +1,34 @@
+// An offset tried in a window: its rows summed two at a time, and left where their total reaches the least so far.
+ghost use mathlib.Core.Path.{_≡_};
+ghost use mathlib.Core.Bool.{cond, false};
+ghost use Prim.Native.Nat.{_+_, _≤_};
+
+pub mod eight;
+pub mod sixteen;
+
+// What trying an offset has given: whether it is the best so far, then its total, else 0; and how many rows the rule counts.
+pub struct Tried {
+    pub best: bool,
+    pub total: u64,
+    pub rows: u64,
+}
+
+// An offset that is left in the two rows after the first `before`: after the first of them if the total up to it has reached the best so far.
+fn leave(reached: bool, before: usize) -> Tried
+    requires { ⌜ before ≤ 64 ⌝ }
+    ensures { λ r. ⌜ (r .best ≡ false) × (r .rows ≡ before + cond reached 1 2) ⌝ }
+{
+    let rows = before as u64;
+    if reached {
+        return Tried {
+            best: false,
+            total: 0,
+            rows: rows + 1,
+        };
+    }
+    Tried {
+        best: false,
+        total: 0,
+        rows: rows + 2,
+    }
+}

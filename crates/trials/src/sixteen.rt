@@ -1,0 +1,68 @@
+// Offsets of tiles of side 16, in windows of side 24.
+ghost use mathlib.Core.Path.{_≡_};
+ghost use mathlib.Core.Bool.{true, false};
+ghost use Prim.Native.Nat.{_+_, _*_, _<_, _≤_};
+ghost use Rattle.residuals.specs.Local.{squareRow};
+ghost use Rattle.trials.specs.Trial.{InWindow, Left};
+use crate::Tried;
+use crate::leave;
+use residuals::sixteen::absolute_row;
+use residuals::sixteen::squared_rows;
+use residuals::sixteen::two_rows;
+
+// `low` in 32 bits, where every total by absolute differences is below the greatest of them: so the sums stay in vectors of 32 bits.
+fn clipped(low: u64) -> u32
+    ensures { λ r. ⌜ record { below : r ≤ low; fits : r ≤ 4294967295; same : r < 4294967295 → r ≡ low } ⌝ }
+{
+    if low < 4294967295 {
+        return low as u32;
+    }
+    4294967295
+}
+
+// An offset by absolute differences, whose first sample lies in row `y` and column `x` of the window: two rows at a time, left as soon as their
+// total reaches `low`. Only then is the first of the two summed by itself, to tell at which of them it was reached.
+pub fn absolute_offset(tile: &[u16], window: &[u16], y: usize, x: usize, low: u64) -> Tried
+    requires { ⌜ InWindow (now tile) (now window) 16 y x ⌝ }
+    ensures { λ r. ⌜ Left low (squareRow false (now (tile .entry)) (now (window .entry)) (y * 24 + x) 24 16) 16 r ⌝ }
+{
+    let start = y * 24 + x;
+    let limit = clipped(low);
+    let mut sum: u32 = 0;
+    for i in 0..8 {
+        let both = sum + two_rows(tile, window, 32 * i, start + 48 * i);
+        if both >= limit {
+            let first = sum + absolute_row(tile, window, 32 * i, start + 48 * i);
+            return leave(first >= limit, 2 * i);
+        }
+        sum = both;
+    }
+    Tried {
+        best: true,
+        total: sum as u64,
+        rows: 16,
+    }
+}
+
+// The same as `absolute_offset` by squared differences.
+pub fn squared_offset(tile: &[u16], window: &[u16], y: usize, x: usize, low: u64) -> Tried
+    requires { ⌜ InWindow (now tile) (now window) 16 y x ⌝ }
+    ensures { λ r. ⌜ Left low (squareRow true (now (tile .entry)) (now (window .entry)) (y * 24 + x) 24 16) 16 r ⌝ }
+{
+    let start = y * 24 + x;
+    let mut sum: u64 = 0;
+    for i in 0..8 {
+        let rows = squared_rows(tile, window, 32 * i, start + 48 * i);
+        let first = sum + rows.upper as u64;
+        let both = first + rows.lower as u64;
+        if both >= low {
+            return leave(first >= low, 2 * i);
+        }
+        sum = both;
+    }
+    Tried {
+        best: true,
+        total: sum,
+        rows: 16,
+    }
+}
