@@ -9,19 +9,19 @@ use Rattle.refusals.specs.TestLaws.{among, passed}
 use Rattle.geometry.specs.Shape.{sampleLength}
 use Rattle.geometry.specs.Fits.{Allowed}
 use Rattle.limits.specs.Order.{shapeTests}
-use Rattle.burst_file.specs.declared.Header.{Header}
+use Rattle.file_lines.specs.Part.{Part, refused, found, numberOf, _then_, mapped}
+use Rattle.file_lines.specs.PartLaws.{both-sound, sound-at, sound-found, unless-stops, unless-goes, number-mapped, number-stops}
+use Rattle.file_lines.specs.Line.{above}
+use Rattle.file_lines.specs.Scan.{nextValues}
+use Rattle.file_lines.specs.ScanLaws.{Next, next-all}
+use Rattle.file_head.specs.declared.Header.{Header}
+use Rattle.file_head.specs.Head.{headerRefusal, headOf}
+use Rattle.file_head.specs.HeadLaws.{HeadRead, packed-allowed, head-sound}
 use Rattle.burst_file.specs.Burst.{Burst}
-use Rattle.burst_file.specs.Part.{Part, refused, found, numberOf, _then_, mapped}
-use Rattle.burst_file.specs.PartLaws.{both-sound, sound-at, sound-found}
-use Rattle.burst_file.specs.Line.{above}
-use Rattle.burst_file.specs.Head.{headerRefusal, headOf}
-use Rattle.burst_file.specs.HeadLaws.{HeadRead, packed-allowed, head-sound}
 use Rattle.burst_file.specs.Rows.{rows, framesOf}
 use Rattle.burst_file.specs.RowLaws.{SmallRows, rows-sound, ended-sound}
 use Rattle.burst_file.specs.Reading.{bodyOf, reading}
-use Rattle.burst_file.specs.Scan.{nextValues}
-use Rattle.burst_file.proofs.Next.{Next, next-all, rows-next}
-use Rattle.burst_file.proofs.Parts.{unless-stops, unless-goes, number-mapped, number-stops}
+use Rattle.burst_file.proofs.Next.{rows-next}
 
 -- an accepted head's shape is allowed
 pub head-allowed : (file : List ℕ) (header : Header) (rest : List ℕ) → found header rest ≡ headOf file → Allowed (header .shape)

@@ -8,8 +8,8 @@ use lib.ListN.{length, getD, drop}
 use lib.Seq.{drop-cons}
 use Rattle.sequences.specs.Tab.{tab}
 use Rattle.sequences.specs.Grid.{tab-of}
-use Rattle.burst_file.specs.Line.{itemOf}
-use Rattle.burst_file.specs.Scan.{valueIn, restIn, nextValues}
+use Rattle.file_lines.specs.Line.{itemOf}
+use Rattle.file_lines.specs.Scan.{valueIn, restIn, nextValues}
 
 -- t is what is left of s after j of its next n values
 pub record Taking (n : ℕ) (s : List ℕ) (j : ℕ) (t : List ℕ) : Type 0 where

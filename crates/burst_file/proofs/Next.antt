@@ -1,55 +1,21 @@
--- The values of lines that are found are the next values, across the lines.
-use mathlib.Core.Path.{_≡_, refl, sym, ap, _∙_}
-use mathlib.Core.Bool.{Bool, true, false, cond}
-use mathlib.Core.List.{List, [], _∷_, _++_, append-nil, append-assoc}
+-- The values of rows that are found are the next values, across the lines.
+use mathlib.Core.Path.{sym, ap, _∙_}
+use mathlib.Core.List.{List, _++_, append-assoc}
 use Prim.Native.Nat.{ℕ, zero, suc, _+_, _*_}
-use native.Mathlib.Nat.{add-zero, suc-mul}
+use native.Mathlib.Nat.{suc-mul}
 use native.Mathlib.Omega.{arith}
-use lib.Dec.{eqb}
-use borrow.Author.Tests.{eqb-true}
 use Rattle.refusals.specs.Numbers as no
 use Rattle.refusals.specs.Tests.{refuse}
-use Rattle.burst_file.specs.Part.{Part, refused, found}
-use Rattle.burst_file.specs.PartLaws.{Sound, unless-sound, found-refused, then-sound}
-use Rattle.burst_file.specs.Line.{Item, last, more, bad, itemOf, afterItem, valuesOf, lineEnd, valueLine, above}
-use Rattle.burst_file.specs.LineLaws.{malformed}
+use Rattle.file_lines.specs.Part.{found}
+use Rattle.file_lines.specs.PartLaws.{Sound, unless-sound, then-sound}
+use Rattle.file_lines.specs.Line.{valueLine, above}
+use Rattle.file_lines.specs.Scan.{nextValues}
+use Rattle.file_lines.specs.ScanLaws.{Next, line-next}
 use Rattle.burst_file.specs.Rows.{row, rows}
-use Rattle.burst_file.specs.Scan.{valueIn, restIn, nextValues, judged}
-
--- the next values of s are `count` values and, with any m more, those of `rest`
-abbrev pub Next : (count : ℕ) (s values rest : List ℕ) → Type 0
-Next count s values rest = (m : ℕ) → nextValues (count + m) s ≡ values ++ nextValues m rest
-
-pub next-all : (count : ℕ) (s values rest : List ℕ) → Next count s values rest → nextValues count s ≡ values
-unfolding nextValues
-next-all count s values rest next = ap (λ (n : ℕ). nextValues n s) (sym (add-zero count)) ∙ next 0 ∙ append-nil values
 
 next-join : (a b : ℕ) (s t rest values others : List ℕ) → Next a s values t → Next b t others rest → Next (a + b) s (values ++ others) rest
 next-join a b s t rest values others p q m =
     ap (λ (n : ℕ). nextValues n s) (omega arith) ∙ p (b + m) ∙ ap (λ (x : List ℕ). values ++ x) (q m) ∙ sym (append-assoc values others (nextValues m rest))
-
-values-next : (count : ℕ) (s : List ℕ) → Sound (Next count s) (valuesOf count s)
-unfolding valuesOf nextValues
-values-next zero s = malformed
-values-next (suc count) s = from (itemOf s) (λ m. refl) (λ t. values-next count t)
-  where
-    from : (item : Item) → ((m : ℕ) → nextValues (suc m) s ≡ valueIn item ∷ nextValues m (restIn item)) → ((t : List ℕ) → Sound (Next count t) (valuesOf count t))
-        → Sound (Next (suc count) s) (afterItem count (λ t. valuesOf count t) item)
-    from (last v rest) one again = ends (eqb count 0) refl
-      where
-        ends : (x : Bool) → eqb count 0 ≡ x → Sound (Next (suc count) s) (cond x (found (v ∷ []) rest) (refused no.valueLine))
-        ends true p = λ m. ap (λ (k : ℕ). nextValues k s) (alone m (eqb-true count 0 p)) ∙ one m
-          where
-            alone : (m : ℕ) → count ≡ 0 → suc count + m ≡ suc m
-            alone m e = omega arith
-        ends false p = malformed
-    from (more v rest) one again =
-        then-sound (Next count rest) (Next (suc count) s) (valuesOf count rest) _ (again rest)
-        (λ values t next m. let e : suc count + m ≡ suc (count + m) = omega arith in ap (λ (k : ℕ). nextValues k s) e ∙ one (count + m) ∙ ap (λ (x : List ℕ). v ∷ x) (next m))
-    from bad one again = malformed
-
-line-next : (count : ℕ) (s : List ℕ) → Sound (Next count s) (valueLine count s)
-line-next count s = unless-sound (Next count s) (lineEnd s) (valuesOf count s) (λ e. values-next count s)
 
 row-next : (width : ℕ) (s : List ℕ) → Sound (Next width s) (row width s)
 unfolding row
@@ -64,15 +30,3 @@ rows-next (suc count) width s =
     then-sound (Next width s) (Next (suc count * width) s) (row width s) _ (row-next width s)
     (λ values t p. then-sound (Next (count * width) t) (Next (suc count * width) s) (rows count width t) _ (rows-next count width t)
     (λ others rest q m. ap (λ (n : ℕ). nextValues (n + m) s) (omega (arith, suc-mul count width)) ∙ next-join width (count * width) s t rest values others p q m))
-
--- a line that is judged was found, with the next values, or has the refusal
-pub line-found-next : (k : ℕ) (s : List ℕ) (bound : ℕ) (o : Bool) (t : List ℕ) → found o t ≡ judged false bound (valueLine k s) → valueLine k s ≡ found (nextValues k s) t
-line-found-next k s bound o t e = from (valueLine k s) (line-next k s) e
-  where
-    from : (line : Part (List ℕ)) → Sound (Next k s) line → found o t ≡ judged false bound line → line ≡ found (nextValues k s) t
-    from (refused number) next e = absurd (found-refused e)
-    from (found values rest) next e = let same : t ≡ rest = cc in rw (same, next-all k s values rest next)
-
-pub line-refused : (bound number : ℕ) (line : Part (List ℕ)) → refused number ≡ judged false bound line → line ≡ refused number
-line-refused bound number (refused n) e = let same : n ≡ number = cc in ap refused same
-line-refused bound number (found values rest) e = absurd (found-refused (sym e))

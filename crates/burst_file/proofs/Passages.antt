@@ -7,15 +7,20 @@ use native.Mathlib.Numerals.{sub-one}
 use native.Mathlib.Omega.{arith}
 use lib.ListN.{length, drop, drop-of-length-le}
 use Rattle.refusals.specs.Numbers as no
-use Rattle.burst_file.specs.Part.{Part, refused, found, numberOf, _then_, mapped}
-use Rattle.burst_file.specs.Line.{valueLine, above}
+use Rattle.file_lines.specs.Part.{Part, refused, found, numberOf, _then_, mapped}
+use Rattle.file_lines.specs.Line.{valueLine, above}
+use Rattle.file_lines.specs.Scan.{judged}
+use Rattle.file_lines.specs.ScanLaws.{step}
 use Rattle.burst_file.specs.Rows.{unlessAbove, row, rows, ended}
-use Rattle.burst_file.specs.Scan.{briefly, judged}
-use Rattle.burst_file.proofs.Bytes.{step}
+use Rattle.burst_file.specs.Passage.{rowsIn, endedRow, briefly}
 
 -- what the judgement of a line makes of a row
 abbrev pub decided : Part Bool → Part Unit
 decided line = line then (λ over rest. unlessAbove over tt rest)
+
+pub row-end : (file : List ℕ) (next : ℕ) (over : Bool) → rowsIn file (endedRow next over) ≡ decided (found over (drop next file))
+row-end file next true = refl
+row-end file next false = refl
 
 pub row-decided : (width : ℕ) (s : List ℕ) → decided (judged false 4095 (valueLine width s)) ≡ briefly (row width s)
 unfolding row

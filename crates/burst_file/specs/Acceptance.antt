@@ -4,12 +4,12 @@ use mathlib.Core.List.{List, []}
 use Prim.Native.Nat.{ℕ, _*_}
 use Rattle.geometry.specs.declared.Shape.{Shape}
 use Rattle.geometry.specs.Fits.{ValuesFit}
+use Rattle.file_lines.specs.Part.{found, numberOf}
+use Rattle.file_lines.specs.PartLaws.{Sound, unless-sound, sound-at, sound-found, then-sound}
+use Rattle.file_head.specs.Head.{headerRefusal, headOf}
+use Rattle.file_head.specs.HeadLaws.{HeadRead, head-sound, head-complete}
 use Rattle.burst_file.specs.Burst.{Burst}
 use Rattle.burst_file.specs.Grammar.{BurstFile}
-use Rattle.burst_file.specs.Part.{found, numberOf}
-use Rattle.burst_file.specs.PartLaws.{Sound, unless-sound, sound-at, sound-found, then-sound}
-use Rattle.burst_file.specs.Head.{headerRefusal, headOf}
-use Rattle.burst_file.specs.HeadLaws.{HeadRead, head-sound, head-complete}
 use Rattle.burst_file.specs.Rows.{rows, framesOf}
 use Rattle.burst_file.specs.RowLaws.{above-at, above-none, SmallRows, rows-sound, rows-complete, ended-sound}
 use Rattle.burst_file.specs.Reading.{bodyOf, reading}

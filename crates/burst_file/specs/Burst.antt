@@ -1,16 +1,8 @@
--- How a burst file begins, and what it holds.
-use mathlib.Core.List.{List, [], _∷_}
+-- What a burst file holds.
+use mathlib.Core.List.{List}
 use Prim.Native.Nat.{ℕ}
-use Rattle.burst_file.specs.declared.Header.{Header}
+use Rattle.file_head.specs.declared.Header.{Header}
 
--- "A line of names, `width height count reference shot read strength`", with its LF
-abbrev pub names : List ℕ
-names =
-    119 ∷ 105 ∷ 100 ∷ 116 ∷ 104 ∷ 32 ∷ 104 ∷ 101 ∷ 105 ∷ 103 ∷ 104 ∷ 116 ∷ 32 ∷ 99 ∷ 111 ∷ 117 ∷ 110 ∷ 116 ∷ 32
-    ∷ 114 ∷ 101 ∷ 102 ∷ 101 ∷ 114 ∷ 101 ∷ 110 ∷ 99 ∷ 101 ∷ 32 ∷ 115 ∷ 104 ∷ 111 ∷ 116 ∷ 32 ∷ 114 ∷ 101 ∷ 97 ∷ 100 ∷ 32
-    ∷ 115 ∷ 116 ∷ 114 ∷ 101 ∷ 110 ∷ 103 ∷ 116 ∷ 104 ∷ 10 ∷ []
-
--- what a file holds
 pub record Burst : Type 0 where
   pub header : Header
   pub samples : List ℕ

@@ -1,13 +1,7 @@
 pub mod Burst
-pub mod Part
-pub mod Line
-pub mod Head
 pub mod Rows
 pub mod Reading
 pub mod Grammar
 pub mod Acceptance
-pub mod Scan
-pub mod PartLaws
-pub mod LineLaws
+pub mod Passage
 pub mod RowLaws
-pub mod HeadLaws

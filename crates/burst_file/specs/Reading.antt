@@ -6,12 +6,12 @@ use lib.ListN.{length}
 use Rattle.refusals.specs.Numbers as no
 use Rattle.geometry.specs.declared.Shape.{Shape}
 use Rattle.geometry.specs.Shape.{sampleLength, lengthRefusal}
-use Rattle.burst_file.specs.Part.{Part, refused, found, unless, numberOf, _then_, mapped}
+use Rattle.file_lines.specs.Part.{Part, refused, found, unless, numberOf, _then_, mapped}
+use Rattle.file_head.specs.Head.{headOf}
+use Rattle.file_head.specs.declared.Header.{Header}
 use Rattle.burst_file.specs.Burst.{Burst}
-use Rattle.burst_file.specs.Head.{headOf}
 use Rattle.burst_file.specs.Rows.{framesOf}
 use Rattle.burst_file.specs.declared.FileAnswer.{FileAnswer}
-use Rattle.burst_file.specs.declared.Header.{Header}
 
 -- "4, then each row by 15, 14, 11, then trailing bytes 15": what follows the header, where `lengthTest` is refusal 4 or nothing
 unfoldable pub bodyOf : (lengthTest : Shape → ℕ) → Header → List ℕ → Part Burst

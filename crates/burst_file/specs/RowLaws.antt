@@ -10,12 +10,13 @@ use borrow.Author.Tests.{ltb-false, le-ltb}
 use Rattle.refusals.specs.Numbers as no
 use Rattle.refusals.specs.Tests.{refuse}
 use Rattle.refusals.specs.TestLaws.{refuse-not}
-use Rattle.burst_file.specs.Part.{Part, refused, found}
-use Rattle.burst_file.specs.PartLaws.{Sound, unless-sound, then-sound}
-use Rattle.burst_file.specs.Line.{valueLine, above}
+use Rattle.file_lines.specs.Part.{Part, refused, found}
+use Rattle.file_lines.specs.PartLaws.{Sound, unless-sound, then-sound}
+use Rattle.file_lines.specs.Line.{valueLine, above}
+use Rattle.file_lines.specs.Grammar.{ValueLine}
+use Rattle.file_lines.specs.LineLaws.{line-sound, line-complete}
 use Rattle.burst_file.specs.Rows.{row, rows, ended}
-use Rattle.burst_file.specs.Grammar.{ValueLine, Rows, noRow, rowThen}
-use Rattle.burst_file.specs.LineLaws.{line-sound, line-complete}
+use Rattle.burst_file.specs.Grammar.{Rows, noRow, rowThen}
 
 neither : (a b : Bool) → (a || b) ≡ false → (a ≡ false) × (b ≡ false)
 neither false b e = (refl, e)

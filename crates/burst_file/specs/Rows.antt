@@ -5,8 +5,8 @@ use Prim.Native.Nat.{ℕ, zero, suc, _*_}
 use Rattle.geometry.specs.declared.Shape.{Shape}
 use Rattle.refusals.specs.Numbers as no
 use Rattle.refusals.specs.Tests.{refuse}
-use Rattle.burst_file.specs.Part.{Part, refused, found, unless, _then_, mapped}
-use Rattle.burst_file.specs.Line.{valueLine, above}
+use Rattle.file_lines.specs.Part.{Part, refused, found, unless, _then_, mapped}
+use Rattle.file_lines.specs.Line.{valueLine, above}
 
 -- refusal 11, "sample > 4095", of what was read
 abbrev pub unlessAbove : {A : Type 0} → Bool → A → List ℕ → Part A

@@ -2,15 +2,15 @@
 ghost use mathlib.Core.Path.{_≡_};
 ghost use mathlib.Core.Bool.{false};
 ghost use lib.ListN.{length, drop};
-ghost use Rattle.burst_file.specs.Line.{above};
+ghost use Rattle.file_lines.specs.Line.{above};
+ghost use Rattle.file_lines.specs.Scan.{nextValues};
 ghost use Rattle.burst_file.specs.Reading.{fileCheck, refusedAnswer, acceptedAnswer, FileRead};
-ghost use Rattle.burst_file.specs.Scan.{nextValues};
 use crate::FileAnswer;
-use crate::Head;
-use crate::Header;
-use crate::first_lines::read_head;
 use crate::rows::check_frames;
-use crate::scanning::value_at;
+use file_head::Head;
+use file_head::Header;
+use file_head::read_head;
+use file_lines::value_at;
 use limits::lengths::length_refusal;
 use limits::lengths::sample_length;
 

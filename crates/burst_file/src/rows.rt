@@ -2,13 +2,25 @@
 ghost use mathlib.Core.Path.{_≡_};
 ghost use lib.ListN.{drop};
 ghost use Rattle.geometry.specs.Fits.{Allowed};
-ghost use Rattle.burst_file.specs.Part.{numberOf};
+ghost use Rattle.file_lines.specs.Part.{numberOf};
 ghost use Rattle.burst_file.specs.Rows.{row, rows, framesOf};
-ghost use Rattle.burst_file.specs.Scan.{rowsIn, briefly};
-use crate::Line;
+ghost use Rattle.burst_file.specs.Passage.{rowsIn, endedRow, briefly};
 use crate::Passage;
-use crate::lines::check_line;
+use file_lines::Line;
+use file_lines::check_line;
 use geometry::Shape;
+
+// A row whose line is well formed: 11.
+fn end_row(next: usize, over: bool) -> Passage
+    ensures { λ r. ⌜ r ≡ endedRow next over ⌝ }
+{
+    if over {
+        return Passage::Refused {
+            number: refusals::SAMPLE_VALUE,
+        };
+    }
+    Passage::Found { next }
+}
 
 // One row: 15, 14, 11.
 fn check_row(file: &[u8], at: usize, width: usize) -> Passage
@@ -16,14 +28,7 @@ fn check_row(file: &[u8], at: usize, width: usize) -> Passage
 {
     match check_line(file, at, width, 4095) {
         Line::Refused { number } => Passage::Refused { number },
-        Line::Found { next, over } => {
-            if over {
-                return Passage::Refused {
-                    number: refusals::SAMPLE_VALUE,
-                };
-            }
-            Passage::Found { next }
-        }
+        Line::Found { next, over } => end_row(next, over),
     }
 }
 

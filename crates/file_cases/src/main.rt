@@ -1,6 +1,6 @@
 // Each argument names a burst file: its name, the file check's number and that of reading it into 8192 samples, a line for each.
 ghost use mathlib.Core.Path.{_≡_};
-ghost use Rattle.burst_file.specs.Part.{numberOf};
+ghost use Rattle.file_lines.specs.Part.{numberOf};
 ghost use Rattle.burst_file.specs.Reading.{readingInto};
 use libc::STDOUT_FILENO;
 

@@ -6,9 +6,9 @@ use Rattle.recipe.specs.declared.Merge.{Merge}
 use Rattle.recipe.specs.Scene.{sceneOf}
 use Rattle.tiles.specs.Accepted.{Accepted}
 use Rattle.tiles.specs.Rows.{rowWords, slotOf, Stored}
-use Rattle.merging.specs.Work.{Held, Inside, Over, rowSpan, wordFrom}
-use Rattle.merging.specs.Progress.{RowsMerged, BandMerged}
-use Rattle.merging.proofs.Places.{output-room}
+use Rattle.gather.specs.Work.{Inside, Over, rowSpan, wordFrom}
+use Rattle.merging.specs.Progress.{Held, RowsMerged, BandMerged}
+use Rattle.gather.specs.Places.{output-room}
 use Rattle.merging.proofs.Holding.{stored-held, held-kept, next-room, output-word}
 use Rattle.merging.proofs.Advance.{rows-start, rows-on, row-merged}
 

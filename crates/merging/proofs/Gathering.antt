@@ -9,7 +9,7 @@ use Rattle.recipe.specs.Output.{rowIn, columnIn, weightIn, outputSample}
 use Rattle.recipe.specs.Scene.{Scene, tileOver, noiseOver, differenceOver}
 use Rattle.recipe.specs.Merged.{planeOutput}
 use Rattle.tiles.specs.Sum.{summedAt}
-use Rattle.merging.specs.Gather.{windowed, corrected}
+use Rattle.gather.specs.Gather.{windowed, corrected}
 
 module _ (s : Scene) (rowParity columnParity y x : ℕ) where
   abbrev i : ℕ

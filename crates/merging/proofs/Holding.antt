@@ -14,11 +14,12 @@ use Rattle.recipe.specs.declared.Merge.{Merge}
 use Rattle.recipe.specs.Scene.{Scene, sceneOf, tileOver}
 use Rattle.recipe.specs.Merged.{planeOutput}
 use Rattle.tiles.specs.Sum.{summedAt}
-use Rattle.merging.specs.declared.output.Span.{Span}
-use Rattle.merging.specs.Gather.{windowed, corrected, startOf, wordOver}
+use Rattle.gather.specs.declared.Span.{Span}
+use Rattle.gather.specs.Gather.{windowed, corrected, startOf, wordOver}
 use Rattle.tiles.specs.Sum.{summedMost}
 use Rattle.tiles.specs.Rows.{rowWords, slotOf, rowWord, Stored}
-use Rattle.merging.specs.Work.{Held, rowSpan, wordFrom}
+use Rattle.gather.specs.Work.{rowSpan, wordFrom}
+use Rattle.merging.specs.Progress.{Held}
 use Rattle.merging.proofs.Gathering.{summedOver, gathered}
 
 -- the places of a row and of the next one: one row's words are those before the other's

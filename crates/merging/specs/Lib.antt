@@ -1,3 +1,2 @@
-pub mod Gather
-pub mod Work
 pub mod Progress
+pub mod Ready

@@ -1,8 +1,14 @@
--- Inside this crate: rows of the output that are merged.
-use Rattle.algebra.specs.Prelude.{_≡_, List, ℕ, _+_, _*_, _≤_, _<_, length, getD, ℤ}
+-- Inside this crate: a row of pairs of tiles that the work area holds, and rows of the output that are merged.
+use Rattle.algebra.specs.Prelude.{_≡_, List, ℕ, _+_, _*_, _≤_, _<_, length, getD, ℤ, pos}
 use Rattle.recipe.specs.Scene.{Scene}
 use Rattle.recipe.specs.Merged.{wordAt}
-use Rattle.merging.specs.Work.{Held}
+use Rattle.tiles.specs.Rows.{rowWords, slotOf, rowWord}
+use Rattle.gather.specs.Work.{Words}
+
+-- the work area holds a row of pairs
+pub record Held (s : Scene) (rowParity row : ℕ) (work : List ℤ) : Type 0 where
+  pub words : Words work (slotOf (s .width) row) (rowWords (s .width))
+  pub is : (k : ℕ) → k < rowWords (s .width) → getD work (slotOf (s .width) row + k) (pos 0) ≡ rowWord s rowParity row k
 
 -- m is as long as l, and has the word g k at each place k where l has it
 pub record Toward {A : Type 0} (z : A) (g : ℕ → A) (l m : List A) : Type 0 where

@@ -1,14 +1,12 @@
 // The two planes of a row parity: sixteen rows of the frame at a time, eight of them of the parity, between two rows of pairs of tiles.
-ghost use mathlib.Core.Path.{_≡_};
-ghost use Prim.Native.Nat.{_*_, _/_, _≤_, _<_};
+ghost use Prim.Native.Nat.{_/_};
 ghost use lib.ListN.{length};
-ghost use Rattle.geometry.specs.Shape.{outputLength};
 ghost use Rattle.recipe.specs.Scene.{sceneOf};
-ghost use Rattle.tiles.specs.Accepted.{Accepted};
-ghost use Rattle.tiles.specs.Rows.{rowWords};
-ghost use Rattle.merging.specs.Work.{Held};
+ghost use Rattle.merging.specs.Ready.{ParityReady, BandReady};
 ghost use Rattle.merging.specs.Progress.{RowsMerged, BandMerged};
-use crate::output::output_row;
+use gather::HALF_SIDE;
+use gather::output_row;
+use geometry::tiles::FINEST_SIDE;
 use recipe::Merge;
 use tiles::rows::correction_row;
 
@@ -22,18 +20,18 @@ fn merge_band(
     output: &mut [u16],
     work: &mut [i64],
 )
-    requires { ⌜ record { accepted : Accepted m (now samples) (now vectors); parity : «row_parity» < 2; band-below : band < m .shape .height / 16; output-long : length (now output) ≡ outputLength (m .shape); room : 2 * rowWords (m .shape .width) ≤ length (now work); held : Held (sceneOf m (now samples) (now vectors)) «row_parity» band (now work) } ⌝ }
+    requires { ⌜ BandReady m (now samples) (now vectors) «row_parity» band (length (now output)) (now work) ⌝ }
     ensures { λ _. ⌜ BandMerged (sceneOf m (now (samples .entry)) (now (vectors .entry))) «row_parity» band (now (output .entry)) (now (output .exit)) (now (work .exit)) ⌝ }
 {
     correction_row(m, samples, vectors, row_parity, band + 1, &mut *work);
     let shape = m.shape;
-    for i in 0..8 {
+    for i in 0..HALF_SIDE {
         output_row(
             shape,
             m.reference,
             samples,
             row_parity,
-            8 * band + i,
+            HALF_SIDE * band + i,
             &*work,
             &mut *output,
         );
@@ -49,11 +47,11 @@ pub fn merge_parity(
     output: &mut [u16],
     work: &mut [i64],
 )
-    requires { ⌜ record { accepted : Accepted m (now samples) (now vectors); parity : «row_parity» < 2; output-long : length (now output) ≡ outputLength (m .shape); room : 2 * rowWords (m .shape .width) ≤ length (now work) } ⌝ }
+    requires { ⌜ ParityReady m (now samples) (now vectors) «row_parity» (length (now output)) (length (now work)) ⌝ }
     ensures { λ _. ⌜ RowsMerged (sceneOf m (now (samples .entry)) (now (vectors .entry))) «row_parity» 0 (m .shape .height / 2) (now (output .entry)) (now (output .exit)) ⌝ }
 {
     correction_row(m, samples, vectors, row_parity, 0, &mut *work);
-    let bands = m.shape.height / 16;
+    let bands = m.shape.height / FINEST_SIDE;
     for band in 0..bands {
         merge_band(
             m,

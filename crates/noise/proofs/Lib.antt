@@ -1,3 +1,2 @@
 pub mod Comparisons
 pub mod Fields
-pub mod Lanes

@@ -2,9 +2,7 @@ pub mod Curve
 pub mod Level
 pub mod Levels
 pub mod Range
-pub mod Lanes
 pub mod Within
-pub mod RootLaws
 pub mod NoiseNumberLaws
 pub mod ScalingLaws
 pub mod LevelLaws

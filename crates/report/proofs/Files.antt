@@ -12,11 +12,11 @@ use Rattle.refusals.specs.Numbers as no
 use Rattle.refusals.specs.TestLaws.{among, passed}
 use Rattle.noise.specs.LevelLaws.{levels-most, strength-most}
 use Rattle.burst_file.specs.declared.FileAnswer.{FileAnswer}
-use Rattle.burst_file.specs.declared.Header.{Header}
+use Rattle.file_head.specs.declared.Header.{Header}
 use Rattle.burst_file.specs.Burst.{Burst}
-use Rattle.burst_file.specs.Part.{Part, refused, found, numberOf}
-use Rattle.burst_file.specs.Head.{headerRefusal, headOf}
-use Rattle.burst_file.specs.HeadLaws.{HeadRead, packed-allowed, head-complete}
+use Rattle.file_lines.specs.Part.{Part, refused, found, numberOf}
+use Rattle.file_head.specs.Head.{headerRefusal, headOf}
+use Rattle.file_head.specs.HeadLaws.{HeadRead, packed-allowed, head-complete}
 use Rattle.burst_file.specs.Reading.{reading, fileCheck, samplesAfter, FileRead}
 use Rattle.burst_file.specs.Acceptance.{Accepted, sound-number, complete}
 use Rattle.printing.specs.Lines.{tooLarge, refusal}

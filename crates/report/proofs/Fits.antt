@@ -2,7 +2,7 @@
 use Rattle.algebra.specs.Prelude.{_≡_, _∙_, List, ℕ, _-_, arith, length}
 use Rattle.geometry.specs.Shape.{sampleLength, vectorLength, outputLength, workLength}
 use Rattle.geometry.specs.Fits.{BurstFits, AlignFits, MergeFits}
-use Rattle.burst_file.specs.declared.Header.{Header}
+use Rattle.file_head.specs.declared.Header.{Header}
 use Rattle.report.specs.Inner.{room, vectorRoom, workRoom, Taken}
 
 module _ {header : Header} {samples : List ℕ} (t : Taken header samples) where

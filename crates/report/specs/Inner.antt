@@ -2,7 +2,7 @@
 use Rattle.algebra.specs.Prelude.{_≡_, List, ℕ, _-_, _*_, _≤_, _<_, length, take, ℤ}
 use Rattle.geometry.specs.Fits.{Allowed, ValuesFit}
 use Rattle.alignment.specs.Aligned.{alignedVectors, residualSums}
-use Rattle.burst_file.specs.declared.Header.{Header}
+use Rattle.file_head.specs.declared.Header.{Header}
 use Rattle.burst_file.specs.Burst.{Burst}
 use Rattle.printing.specs.Lines.{tooLarge, refusal}
 use Rattle.report.specs.declared.opening.Opened.{Opened}

@@ -2,7 +2,7 @@
 use Rattle.algebra.specs.Prelude.{Bool, cond, _&&_, List, ℕ, eqb, ltb, length}
 use Rattle.geometry.specs.declared.Shape.{Shape}
 use Rattle.burst_file.specs.Burst.{Burst}
-use Rattle.burst_file.specs.Part.{Part, refused, found}
+use Rattle.file_lines.specs.Part.{Part, refused, found}
 use Rattle.burst_file.specs.Reading.{reading}
 use Rattle.printing.specs.Lines.{tooLarge, refusal}
 

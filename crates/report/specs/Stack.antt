@@ -4,7 +4,7 @@ use Rattle.alignment.specs.Aligned.{alignedVectors}
 use Rattle.recipe.specs.declared.Merge.{Merge}
 use Rattle.recipe.specs.Scene.{sceneOf}
 use Rattle.recipe.specs.Merged.{merged}
-use Rattle.burst_file.specs.declared.Header.{Header}
+use Rattle.file_head.specs.declared.Header.{Header}
 use Rattle.burst_file.specs.Burst.{Burst}
 use Rattle.printing.specs.Lines.{stackNames, numberLine, frameRows}
 use Rattle.report.specs.Program.{programText}

@@ -10,7 +10,7 @@ use crate::sizes::PARTS;
 use crate::sizes::VECTOR_ROOM;
 use crate::sizes::WORK_ROOM;
 use alignment::burst::align_frames;
-use burst_file::Header;
+use file_head::Header;
 use geometry::vectors::other_frame;
 use printing::fixed::put_motion_names;
 use printing::lines::put_numbers;

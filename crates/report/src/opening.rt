@@ -5,11 +5,11 @@ ghost use Rattle.report.specs.Program.{fileMost};
 ghost use Rattle.report.specs.Inner.{room, Opens};
 use crate::sizes::FRAME;
 use crate::sizes::SIDE;
-use burst_file::Head;
-use burst_file::Header;
 use burst_file::check_file;
 use burst_file::read_file;
-use burst_file::read_head;
+use file_head::Head;
+use file_head::Header;
+use file_head::read_head;
 
 // A file that is not read, or the header of one whose frames have the size that the programs take.
 pub enum Opened {

@@ -11,7 +11,7 @@ use crate::sizes::PARTS;
 use crate::sizes::SIDE;
 use crate::sizes::VECTOR_ROOM;
 use crate::sizes::WORK_ROOM;
-use burst_file::Header;
+use file_head::Header;
 use pipeline::run_levels;
 use printing::fixed::put_stack_names;
 use printing::lines::put_numbers;

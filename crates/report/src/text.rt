@@ -16,7 +16,7 @@ use crate::sizes::FRAME;
 use crate::sizes::SAMPLE_ROOM;
 use crate::sizes::TEXT_ROOM;
 use crate::stack::put_stack;
-use burst_file::Header;
+use file_head::Header;
 use printing::fixed::put_refusal;
 use printing::fixed::put_too_large;
 

@@ -4,7 +4,7 @@ use mathlib.Core.List.{List}
 use Prim.Native.Nat.{ℕ}
 use lib.ListN.{length}
 use borrow.Author.Needs.{needs}
-use Rattle.burst_file.specs.Part.{Part, refused, found, numberOf}
+use Rattle.file_lines.specs.Part.{Part, refused, found, numberOf}
 use Rattle.burst_file.specs.Burst.{Burst}
 use Rattle.burst_file.specs.Reading.{answerOf, readingInto, FileRead}
 use Rattle.burst_file.specs.declared.FileAnswer.{FileAnswer}

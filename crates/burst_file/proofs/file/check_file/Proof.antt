@@ -1,12 +1,12 @@
 -- `check_file`: the head's refusal, or that of the frames behind it.
 use mathlib.Core.Path.{_≡_, sym, ap, _∙_}
 use borrow.Author.Needs.{needs}
-use Rattle.burst_file.specs.Part.{Part, numberOf, _then_}
-use Rattle.burst_file.specs.Head.{headOf, headIn}
+use Rattle.file_lines.specs.Part.{Part, numberOf, _then_}
+use Rattle.file_head.specs.Head.{headOf, headIn}
+use Rattle.file_head.specs.declared.Head.{Head}
+use Rattle.file_head.specs.declared.Head.the-variants.{Found, Refused}
+use Rattle.file_head.specs.declared.Header.{Header}
 use Rattle.burst_file.specs.Reading.{bodyOf, reading, fileCheck}
-use Rattle.burst_file.specs.declared.Head.{Head}
-use Rattle.burst_file.specs.declared.Head.the-variants.{Found, Refused}
-use Rattle.burst_file.specs.declared.Header.{Header}
 use Rattle.burst_file.proofs.Bodies.{head-allowed, body-unmeasured}
 use Rattle.burst_file.proofs.file.check_file.Statement.{statement}
 use Rattle.burst_file.proofs.file.check_file.Tie as tie

@@ -5,9 +5,9 @@ use native.Mathlib.Omega.{arith}
 use borrow.Author.Needs.{needs}
 use lib.ListN.{length, getD, drop}
 use Rattle.sequences.specs.TabLaws.{Filled, fill-start, fill-turn, fill-done}
-use Rattle.burst_file.specs.Scan.{nextValues}
-use Rattle.burst_file.proofs.Fills.{Taking, take-start, take-value, take-turn, next-table}
+use Rattle.file_lines.specs.Scan.{nextValues}
 use Rattle.burst_file.specs.RowLaws.{above-at}
+use Rattle.burst_file.proofs.Fills.{Taking, take-start, take-value, take-turn, next-table}
 use Rattle.burst_file.proofs.file.fill.Statement.{statement}
 use Rattle.burst_file.proofs.file.fill.Tie as tie
 

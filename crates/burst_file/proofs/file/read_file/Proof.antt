@@ -8,15 +8,15 @@ use lib.ListN.{length, drop}
 use Rattle.geometry.specs.Shape.{sampleLength, lengthRefusal}
 use Rattle.refusals.specs.Numbers as no
 use Rattle.refusals.specs.TestLaws.{refuse-not}
+use Rattle.file_lines.specs.Part.{Part, refused, found}
+use Rattle.file_lines.specs.Line.{above}
+use Rattle.file_lines.specs.Scan.{nextValues}
+use Rattle.file_head.specs.Head.{headOf, headIn}
+use Rattle.file_head.specs.declared.Head.{Head}
+use Rattle.file_head.specs.declared.Head.the-variants.{Found, Refused}
 use Rattle.burst_file.specs.Burst.{Burst}
-use Rattle.burst_file.specs.Part.{Part, refused, found}
-use Rattle.burst_file.specs.Line.{above}
-use Rattle.burst_file.specs.Head.{headOf, headIn}
 use Rattle.burst_file.specs.Reading.{readingInto, refusedAnswer, acceptedAnswer, answerOf, samplesAfter, FileRead}
-use Rattle.burst_file.specs.Scan.{nextValues}
 use Rattle.burst_file.specs.declared.FileAnswer.{FileAnswer}
-use Rattle.burst_file.specs.declared.Head.{Head}
-use Rattle.burst_file.specs.declared.Head.the-variants.{Found, Refused}
 use Rattle.burst_file.proofs.Bodies.{head-allowed, head-packed, frames-next, head-refuses, length-refuses, frames-refuse, frames-accept}
 use Rattle.burst_file.proofs.file.read_file.Statement.{statement}
 use Rattle.burst_file.proofs.file.read_file.Tie as tie

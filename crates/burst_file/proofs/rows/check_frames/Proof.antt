@@ -5,9 +5,9 @@ use native.Mathlib.Nat.{mul-le-mul}
 use native.Mathlib.Omega.{arith}
 use borrow.Author.Needs.{needs}
 use lib.ListN.{drop}
-use Rattle.burst_file.specs.Part.{Part, numberOf}
+use Rattle.file_lines.specs.Part.{Part, numberOf}
 use Rattle.burst_file.specs.Rows.{rows, ended, framesOf}
-use Rattle.burst_file.specs.Scan.{rowsIn}
+use Rattle.burst_file.specs.Passage.{rowsIn}
 use Rattle.burst_file.specs.declared.Passage.{Passage}
 use Rattle.burst_file.specs.declared.Passage.the-variants.{Found, Refused}
 use Rattle.burst_file.proofs.Passages.{ended-briefly, trailing, at-end}

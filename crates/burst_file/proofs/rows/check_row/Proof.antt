@@ -2,11 +2,12 @@
 use mathlib.Core.Path.{_≡_, sym, ap, _∙_}
 use borrow.Author.Needs.{needs}
 use lib.ListN.{drop}
+use Rattle.file_lines.specs.Scan.{lineIn}
+use Rattle.file_lines.specs.declared.Line.{Line}
+use Rattle.file_lines.specs.declared.Line.the-variants.{Found, Refused}
 use Rattle.burst_file.specs.Rows.{row}
-use Rattle.burst_file.specs.Scan.{lineIn, briefly}
-use Rattle.burst_file.specs.declared.Line.{Line}
-use Rattle.burst_file.specs.declared.Line.the-variants.{Found, Refused}
-use Rattle.burst_file.proofs.Passages.{decided, row-decided}
+use Rattle.burst_file.specs.Passage.{rowsIn, briefly}
+use Rattle.burst_file.proofs.Passages.{decided, row-end, row-decided}
 use Rattle.burst_file.proofs.rows.check_row.Statement.{statement}
 use Rattle.burst_file.proofs.rows.check_row.Tie as tie
 
@@ -20,19 +21,16 @@ told c line e =
 
 returns : tie.Need-returns
 returns c =
-    let g = c .before .before .next .given in
-    rw (c .if1 .taken) at (told (c .before .before .before .before) (Found (g .0 .0) (g .0 .1 .0)) (g .1))
-
-returns-2 : tie.Need-returns-2
-returns-2 c =
     let g = c .before .number .given in
     told (c .before .before .before) (Refused (g .0 .0)) (g .1)
 
-returns-3 : tie.Need-returns-3
-returns-3 c =
+returns-2 : tie.Need-returns-2
+returns-2 c =
     let g = c .before .before .next .given in
-    rw (c .if1 .left) at (told (c .before .before .before .before) (Found (g .0 .0) (g .0 .1 .0)) (g .1))
+    let at = c .before .before .before .before in
+    let file = at .before .before .args .file .now in
+    ap (rowsIn file) (c .end-row .ensures) ∙ row-end file (g .0 .0) (g .0 .1 .0) ∙ told at (Found (g .0 .0) (g .0 .1 .0)) (g .1)
 
 pub check-row-spec : {M : Type 1} → statement M
 check-row-spec = tie.close (tie.spec
-    (λ c κs. search needs) (λ c. search needs) (λ c. search needs) returns returns-2 returns-3)
+    (λ c κs. search needs) (λ c. search needs) (λ c. search needs) (λ c κs. search needs) returns returns-2)

@@ -4,9 +4,9 @@ use Prim.Native.Nat.{_-_}
 use native.Mathlib.Omega.{arith}
 use borrow.Author.Needs.{needs}
 use lib.ListN.{drop}
-use Rattle.burst_file.specs.Part.{Part, _then_}
+use Rattle.file_lines.specs.Part.{Part, _then_}
 use Rattle.burst_file.specs.Rows.{rows}
-use Rattle.burst_file.specs.Scan.{rowsIn, briefly}
+use Rattle.burst_file.specs.Passage.{rowsIn, briefly}
 use Rattle.burst_file.specs.declared.Passage.{Passage}
 use Rattle.burst_file.specs.declared.Passage.the-variants.{Found, Refused}
 use Rattle.burst_file.proofs.Passages.{rows-step, rows-none}

@@ -14,26 +14,26 @@ loop-holds : tie.Need-loop-holds Inv-loop μ-loop
 loop-holds c =
     let r = c .before .before in
     let s = r .before .before .before .before in
-    band-start (r .correction-row .ensures) (s .pre .room) (s .pre .held)
+    band-start (r .correction-row .ensures) (s .pre .ready .room) (s .pre .held)
 
 output-row-requires : tie.Need-output-row-requires Inv-loop μ-loop
 output-row-requires c κs =
     let l = c .before .before .before in
     let s = l .before .before .before .before .before .before .before in
     let w = l .loop .inv in
-    let ok = s .pre .accepted in
+    let ok = s .pre .ready .accepted in
     record {
-      inside = band-inside ok (s .pre .parity) (s .pre .band-below) w (omega arith);
-      over = band-over ok (s .pre .parity) (s .pre .band-below) w (omega arith);
+      inside = band-inside ok (s .pre .ready .parity) (s .pre .band-below) w (omega arith);
+      over = band-over ok (s .pre .ready .parity) (s .pre .band-below) w (omega arith);
       samples-long = ok .burst .samples-long;
-      output-long = omega (arith, s .pre .output-long, w .rows .toward .same);
+      output-long = omega (arith, s .pre .ready .output-long, w .rows .toward .same);
     }
 
 loop-again : tie.Need-loop-again Inv-loop μ-loop
 loop-again c =
     let l = c .before .before .before .before .before .before in
     let s = l .before .before .before .before .before .before .before in
-    band-turn (s .pre .accepted) (s .pre .parity) (s .pre .band-below) (l .loop .inv) (omega arith) (s .pre .output-long) (c .before .before .output-row .ensures)
+    band-turn (s .pre .ready .accepted) (s .pre .ready .parity) (s .pre .band-below) (l .loop .inv) (omega arith) (s .pre .ready .output-long) (c .before .before .output-row .ensures)
 
 returns : tie.Need-returns Inv-loop μ-loop
 returns c = band-done (c .before .loop .inv) (omega arith)

@@ -22,11 +22,13 @@ merge-band-requires c κs =
     let s = r .before .before .before .before in
     let w = l .loop .inv in
     record {
-      accepted = s .pre .accepted;
-      parity = s .pre .parity;
+      ready = record {
+        accepted = s .pre .accepted;
+        parity = s .pre .parity;
+        output-long = omega (arith, s .pre .output-long, w .0 .rows .toward .same);
+        room = omega (arith, s .pre .room, w .1, r .correction-row .kept);
+      };
       band-below = omega arith;
-      output-long = omega (arith, s .pre .output-long, w .0 .rows .toward .same);
-      room = omega (arith, s .pre .room, w .1, r .correction-row .kept);
       held = w .0 .held;
     }
 

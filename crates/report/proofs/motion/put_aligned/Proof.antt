@@ -3,7 +3,7 @@ use Rattle.algebra.specs.Prelude.{_≡_, sym, ap, List, _++_, ℕ, _-_, arith, 
 use lib.Seq.{length-take-le}
 use Rattle.geometry.specs.Tiles.{frameParts}
 use Rattle.alignment.specs.Aligned.{alignedVectors, residualSums}
-use Rattle.burst_file.specs.declared.Header.{Header}
+use Rattle.file_head.specs.declared.Header.{Header}
 use Rattle.printing.specs.Lines.{motionNames}
 use Rattle.printing.specs.PutLaws.{printed-then}
 use Rattle.report.specs.Inner.{vectorRoom, burstOf, Taken}

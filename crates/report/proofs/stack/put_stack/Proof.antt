@@ -1,6 +1,6 @@
 -- `report::stack::put_stack`: what is printed is the frame that the run left in the output.
 use Rattle.algebra.specs.Prelude.{_≡_, sym, ap, ap₂, _∙_, List, ℕ, needs}
-use Rattle.burst_file.specs.declared.Header.{Header}
+use Rattle.file_head.specs.declared.Header.{Header}
 use Rattle.report.specs.Program.{side}
 use Rattle.report.specs.Stack.{frameText, frameOf, stackOf}
 use Rattle.report.specs.Inner.{burstOf, Taken}

@@ -33,18 +33,19 @@ merge-frames-requires c κs =
     let passed = lent .before .before in
     let tested = passed .before .before .run-refusal .ensures in
     let z = passed .if1 .left in
-    let ready = run-passed _ _ _ _ _ _ _ _ (sym (tested .number) ∙ z) in (
-      record {
+    let ready = run-passed _ _ _ _ _ _ _ _ (sym (tested .number) ∙ z) in
+    record {
+      accepted = record {
         burst = ready .fits .burst;
         samples-fit = ready .samples-fit;
         vectors-fit = vectors-fit _ (sym (lent .before .vector-refusal .ensures) ∙ lent .if2 .left);
         shot-most = subst (λ n. n ≤ 65536) (sym (tested .shot-is z)) (ready .shot-most);
         read-most = subst (λ n. n ≤ 4194304) (sym (tested .read-is z)) (ready .read-most);
         strength-most = ready .strength-most;
-      },
-      ready .fits .output-long,
-      ready .fits .work-long,
-    )
+      };
+      output-long = ready .fits .output-long;
+      work-long = ready .fits .work-long;
+    }
 
 returns-3 : tie.Need-returns-3
 unfolding mergeRefusal

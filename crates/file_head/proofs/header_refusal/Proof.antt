@@ -1,0 +1,14 @@
+-- `header_refusal`: each test is its definition, so the first of them is.
+use borrow.Author.Needs.{needs}
+use Rattle.limits.specs.Order.{shapeTests}
+use Rattle.file_head.specs.Head.{headerRefusal}
+use Rattle.file_head.proofs.header_refusal.Statement.{statement}
+use Rattle.file_head.proofs.header_refusal.Tie as tie
+
+returns : tie.Need-returns
+unfolding headerRefusal shapeTests
+returns c = cc
+
+pub header-refusal-spec : {M : Type 1} → statement M
+header-refusal-spec = tie.close (tie.spec
+    (λ c κs. search needs) (λ c κs. search needs) (λ c κs. search needs) (λ c κs. search needs) (λ c κs. search needs) (λ c. search needs) (λ c κs. search needs) returns)

@@ -1,0 +1,9 @@
+-- The second line in the grammar of a burst file. No contract needs it.
+use mathlib.Core.List.{List, [], _∷_}
+use Prim.Native.Nat.{ℕ}
+use Rattle.file_head.specs.declared.Header.{Header}
+
+-- "those seven values (shot and read are Ls and Lr)", in the order of the names
+abbrev pub sevenOf : Header → List ℕ
+sevenOf header =
+    header .shape .width ∷ header .shape .height ∷ header .shape .count ∷ header .reference ∷ header .«shot_level» ∷ header .«read_level» ∷ header .strength ∷ []

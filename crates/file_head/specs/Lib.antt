@@ -1,0 +1,4 @@
+pub mod Names
+pub mod Head
+pub mod Grammar
+pub mod HeadLaws

@@ -1,0 +1,3 @@
+pub mod Quotients
+pub mod Weighing
+pub mod Blocks

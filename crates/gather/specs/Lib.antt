@@ -1,0 +1,4 @@
+pub mod Gather
+pub mod Work
+pub mod Ready
+pub mod Places

@@ -1,0 +1,223 @@
+// A row of the output: at each sample the corrections of the four tiles over it, windowed, and the sample less their sum, rounded and held to 0..4095.
+ghost use mathlib.Core.Path.{_≡_};
+ghost use Prim.Native.Nat.{_+_, _-_, _*_, _/_, _%_, _≤_, _<_, _^_};
+ghost use lib.IntN.{pos, natAbs, _+ℤ_, _-ℤ_, _*ℤ_};
+ghost use lib.Signed.{shrZ};
+ghost use lib.ListN.{length, getD};
+ghost use Rattle.algebra.specs.Bound.{AtMost};
+ghost use Rattle.algebra.specs.Clamp.{clampZ};
+ghost use Rattle.sequences.specs.Written.{written};
+ghost use Rattle.recipe.specs.Tables.{windows, window16, side16};
+ghost use Rattle.gather.specs.Gather.{weightRow, corrected, windowed, wordOver};
+ghost use Rattle.gather.specs.Work.{weightMost, partMost, sumMost, Divided, Words, Weighed, rowSpan, further, Small, Inside, Roomy, wordFrom, rowWritten};
+ghost use Rattle.gather.specs.Ready.{BlockReady, RowReady};
+use geometry::Shape;
+use geometry::tiles::FINEST_SIDE;
+use tiles::PAIR_WIDTH;
+use tiles::PAIR_WORDS;
+use tiles::rows::slot;
+
+// Tiles stand half a side apart, in a plane.
+pub const HALF_SIDE: usize = 8;
+
+// The words of a frame's row from one pair to the next: half a side of either plane.
+const BLOCK: usize = 16;
+
+// Where a part of an output row stands, and what it is made of: its samples are those from `from` on, its words those of the output from `start` on. It is row
+// `i` of the pairs of tiles that the work area has from `below` on, and row `i` + 8 of those from `above` on.
+pub struct Span {
+    pub from: usize,
+    pub start: usize,
+    pub above: usize,
+    pub below: usize,
+    pub i: usize,
+}
+
+// The number of frames N, and 2^19/N, rounding up.
+struct Divisor {
+    count: usize,
+    inverse: u64,
+}
+
+// w(0..15)
+const WINDOW: [u64; FINEST_SIDE] = [
+    39,
+    345,
+    910,
+    1648,
+    2448,
+    3186,
+    3751,
+    4057,
+    4057,
+    3751,
+    3186,
+    2448,
+    1648,
+    910,
+    345,
+    39,
+];
+
+// N·(T0 + 1/2) − sum/2^32 with N = `count`, rounding down. A division by N that rounds down makes it T0 − sum/(2^32·N), to nearest, halves upward.
+fn scaled(t0: u16, sum: i64, count: usize) -> i64
+    requires { ⌜ (count ≤ 8) × (AtMost sumMost sum) ⌝ }
+    ensures { λ r. ⌜ r ≡ pos t0 *ℤ pos count +ℤ shrZ (pos count *ℤ pos (2 ^ 31) -ℤ sum) (2 ^ 32) ⌝ }
+{
+    t0 as i64 * count as i64 + ((count as i64 * 2147483648 - sum) >> 32)
+}
+
+// z / count, rounding down, held to 0..4095. `inverse` is 2^19 / count, rounding up: below 4096·count a product with it and a shift are that division.
+fn held(z: i64, count: usize, inverse: u64) -> u16
+    requires { ⌜ Divided count inverse ⌝ }
+    ensures { λ r. ⌜ r ≡ natAbs (clampZ (pos 0) (pos 4095) (shrZ z count)) ⌝ }
+{
+    if z < 0 {
+        return 0;
+    }
+    if z < 4096 * count as i64 {
+        return ((z as u64 * inverse) >> 19) as u16;
+    }
+    4095
+}
+
+// A sample of the reference less the windowed sum of its corrections, of `count` frames.
+fn corrected(t0: u16, sum: i64, count: usize, inverse: u64) -> u16
+    requires { ⌜ (Divided count inverse) × (AtMost sumMost sum) ⌝ }
+    ensures { λ r. ⌜ r ≡ natAbs (corrected side16 t0 sum (count - 1)) ⌝ }
+{
+    held(scaled(t0, sum, count), count, inverse)
+}
+
+// The product of two windows.
+fn weight(window: &[u64; FINEST_SIDE], i: usize, j: usize) -> i64
+    requires { ⌜ record { table : now window ≡ windows; row : i < 16; column : j < 16 } ⌝ }
+    ensures { λ r. ⌜ (r ≡ pos (window16 i * window16 j)) × (AtMost weightMost r) ⌝ }
+{
+    (window[i] * window[j]) as i64
+}
+
+// w(i)·w(0..15), each twice: for the two planes.
+fn weights(window: &[u64; FINEST_SIDE], i: usize) -> [i64; PAIR_WIDTH]
+    requires { ⌜ (now window ≡ windows) × (i < 16) ⌝ }
+    ensures { λ r. ⌜ r ≡ weightRow i ⌝ }
+{
+    let mut row = [0i64; PAIR_WIDTH];
+    for j in 0..FINEST_SIDE {
+        let w = weight(window, i, j);
+        row[2 * j] = w;
+        row[2 * j + 1] = w;
+    }
+    row
+}
+
+// What a pair of tiles has at its row i and place l = 2·x + p, which is column x of plane p, weighed. Its words start at `start`.
+fn part(work: &[i64], weights: &[i64; PAIR_WIDTH], start: usize, i: usize, l: usize) -> i64
+    requires { ⌜ record { words : Words (now work) start 512; weights-are : now weights ≡ weightRow i; row : i < 16; place : l < 32 } ⌝ }
+    ensures { λ r. ⌜ (r ≡ pos (window16 i * window16 (l / 2)) *ℤ getD (now (work .entry)) (start + (32 * i + l)) (pos 0)) × (AtMost partMost r) ⌝ }
+{
+    weights[l] * work[start + (PAIR_WIDTH * i + l)]
+}
+
+// What the four tiles over a sample have at it, windowed and added: row i and place l of the last pair.
+fn windowed(
+    work: &[i64],
+    lower: &[i64; PAIR_WIDTH],
+    upper: &[i64; PAIR_WIDTH],
+    span: Span,
+    l: usize,
+) -> i64
+    requires { ⌜ (Weighed (now work) span (now lower) (now upper)) × (l < 16) ⌝ }
+    ensures { λ r. ⌜ (r ≡ windowed side16 (span .i) (l / 2) (wordOver (now (work .entry)) span l)) × (AtMost sumMost r) ⌝ }
+{
+    let above = span.above;
+    let below = span.below;
+    let i = span.i;
+    part(work, lower, below + PAIR_WORDS, i, l)
+        + part(work, lower, below, i, l + BLOCK)
+        + part(work, upper, above + PAIR_WORDS, i + HALF_SIDE, l)
+        + part(work, upper, above, i + HALF_SIDE, l + BLOCK)
+}
+
+// A block: the words of a row over the same four pairs.
+fn output_block(
+    samples: &[u16],
+    work: &[i64],
+    lower: &[i64; PAIR_WIDTH],
+    upper: &[i64; PAIR_WIDTH],
+    span: Span,
+    by: Divisor,
+    output: &mut [u16],
+)
+    requires { ⌜ BlockReady span by (length (now samples)) (length (now output)) (now work) (now lower) (now upper) ⌝ }
+    ensures { λ _. ⌜ now (output .exit) ≡ written (now (output .entry)) (span .start) (wordFrom (now (samples .entry)) (now (work .entry)) span (by .count)) 16 ⌝ }
+{
+    let from = span.from;
+    let start = span.start;
+    for l in 0..BLOCK {
+        let sum = windowed(work, lower, upper, span, l);
+        let t0 = samples[from + l];
+        output[start + l] = corrected(t0, sum, by.count, by.inverse);
+    }
+}
+
+// Row y of a row parity, from its first word on.
+fn row_span(shape: Shape, reference: usize, row_parity: usize, y: usize) -> Span
+    requires { ⌜ Inside shape reference «row_parity» y ⌝ }
+    ensures { λ r. ⌜ (r ≡ rowSpan shape reference «row_parity» y) × (Roomy shape r) ⌝ }
+{
+    let row = 2 * y + row_parity;
+    let from = reference * (shape.row_length * shape.height) + row * shape.row_length;
+    let start = row * shape.width;
+    let above = slot(shape.width, y / HALF_SIDE);
+    let below = slot(shape.width, y / HALF_SIDE + 1);
+    Span {
+        from,
+        start,
+        above,
+        below,
+        i: y % HALF_SIDE,
+    }
+}
+
+// The same from its block number `column` on.
+fn further(span: Span, column: usize) -> Span
+    requires { ⌜ (Small span) × (column < 256) ⌝ }
+    ensures { λ r. ⌜ r ≡ further span column ⌝ }
+{
+    Span {
+        from: span.from + BLOCK * column,
+        start: span.start + BLOCK * column,
+        above: span.above + PAIR_WORDS * column,
+        below: span.below + PAIR_WORDS * column,
+        i: span.i,
+    }
+}
+
+// One row of the output: row y of a row parity, block by block.
+pub fn output_row(
+    shape: Shape,
+    reference: usize,
+    samples: &[u16],
+    row_parity: usize,
+    y: usize,
+    work: &[i64],
+    output: &mut [u16],
+)
+    requires { ⌜ RowReady shape reference «row_parity» y (length (now samples)) (length (now output)) (now work) ⌝ }
+    ensures { λ _. ⌜ now (output .exit) ≡ rowWritten (now (output .entry)) (now (samples .entry)) (now (work .entry)) shape reference «row_parity» y ⌝ }
+{
+    let window = WINDOW;
+    let lower = weights(&window, y % HALF_SIDE);
+    let upper = weights(&window, y % HALF_SIDE + HALF_SIDE);
+    let count = shape.count;
+    let by = Divisor {
+        count,
+        inverse: (524287 + count as u64) / count as u64,
+    };
+    let row = row_span(shape, reference, row_parity, y);
+    for column in 0..shape.width / BLOCK {
+        let span = further(row, column);
+        output_block(samples, work, &lower, &upper, span, by, &mut *output);
+    }
+}

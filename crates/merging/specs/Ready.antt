@@ -1,0 +1,27 @@
+-- Inside this crate: what the merge and each part of it require. A buffer that is only measured stands here as its length.
+use Rattle.algebra.specs.Prelude.{_≡_, List, ℕ, _*_, _/_, _≤_, _<_, length, ℤ}
+use Rattle.geometry.specs.Shape.{outputLength, workLength}
+use Rattle.recipe.specs.declared.Merge.{Merge}
+use Rattle.recipe.specs.Scene.{sceneOf}
+use Rattle.tiles.specs.Accepted.{Accepted}
+use Rattle.tiles.specs.Rows.{rowWords}
+use Rattle.merging.specs.Progress.{Held}
+
+-- the merge: accepted input, and an output and a work area of the right lengths
+pub record Lent (m : Merge) (samples : List ℕ) (vectors : List ℤ) (output work : ℕ) : Type 0 where
+  pub accepted : Accepted m samples vectors
+  pub output-long : output ≡ outputLength (m .shape)
+  pub work-long : work ≡ workLength (m .shape)
+
+-- the planes of a row parity: the same, where the work area has room for two rows of pairs of tiles
+pub record ParityReady (m : Merge) (samples : List ℕ) (vectors : List ℤ) (rowParity output work : ℕ) : Type 0 where
+  pub accepted : Accepted m samples vectors
+  pub parity : rowParity < 2
+  pub output-long : output ≡ outputLength (m .shape)
+  pub room : 2 * rowWords (m .shape .width) ≤ work
+
+-- the rows between the tile rows `band`, which the work area holds, and `band` + 1
+pub record BandReady (m : Merge) (samples : List ℕ) (vectors : List ℤ) (rowParity band output : ℕ) (work : List ℤ) : Type 0 where
+  pub ready : ParityReady m samples vectors rowParity output (length work)
+  pub band-below : band < m .shape .height / 16
+  pub held : Held (sceneOf m samples vectors) rowParity band work

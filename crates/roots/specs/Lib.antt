@@ -1,0 +1,4 @@
+pub mod Range
+pub mod Lanes
+pub mod RootLaws
+pub mod TileRootLaws
