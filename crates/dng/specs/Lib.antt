@@ -1,5 +1,6 @@
 pub mod Tags
 pub mod Refusals
+pub mod RowTests
 pub mod Curve
 pub mod Reading
 pub mod Fits

@@ -5,6 +5,7 @@ ghost use Rattle.tiff.specs.Directory.{entries};
 ghost use Rattle.refusals.specs.Tests.{first};
 ghost use Rattle.refusals.specs.Some.{some};
 ghost use Rattle.dng.specs.Refusals.{absent, valueOf, valueOutside, notOnce, demandMissed, stripStart, stripLength, stripOutside, outside, sizeDiffers, otherwise, tagTests};
+ghost use Rattle.dng.specs.RowTests.{rowHit};
 use crate::tags::IMAGE_LENGTH;
 use crate::tags::IMAGE_WIDTH;
 use crate::tags::STRIP_BYTE_COUNTS;
@@ -25,6 +26,14 @@ use tiff::directory::times;
 use tiff::fields::field;
 use tiff::fields::field_outside;
 use tiff::fields::value;
+
+// A test of a row: of the table of tags, or of the second table (`Missed`).
+enum RowTest {
+    Outside,
+    NotOnce,
+    Absent,
+    Missed,
+}
 
 // No entry of the tag at a row has its type and count.
 fn absent(file: &[u8], row: usize) -> bool
@@ -62,13 +71,41 @@ fn value_outside(file: &[u8], row: usize) -> bool
     field_outside(file, tag(row))
 }
 
-// Those of one of the first `rows` tags do.
-fn some_outside(file: &[u8], rows: usize) -> bool
-    ensures { λ r. ⌜ r ≡ some rows (λ row. valueOutside (now (file .entry)) (entries (now (file .entry))) row) ⌝ }
+// The tag at a row is absent or given twice.
+fn not_once(file: &[u8], row: usize) -> bool
+    ensures { λ r. ⌜ r ≡ notOnce (entries (now (file .entry))) row ⌝ }
+{
+    let wanted = tag(row);
+    times(file, wanted.tag) != 1
+}
+
+// The value that a row of the second table asks for is another.
+fn demand_missed(file: &[u8], row: usize) -> bool
+    ensures { λ r. ⌜ r ≡ demandMissed (now (file .entry)) (entries (now (file .entry))) row ⌝ }
+{
+    let asked = demand(row);
+    value(file, tag(asked.row), asked.index) != asked.value
+}
+
+// What a test says of a row.
+fn hit(test: RowTest, file: &[u8], row: usize) -> bool
+    ensures { λ r. ⌜ r ≡ rowHit test (now (file .entry)) (entries (now (file .entry))) row ⌝ }
+{
+    match test {
+        RowTest::Outside => value_outside(file, row),
+        RowTest::NotOnce => not_once(file, row),
+        RowTest::Absent => absent(file, row),
+        RowTest::Missed => demand_missed(file, row),
+    }
+}
+
+// A test hits one of the first `rows` rows.
+fn some_hit(test: RowTest, file: &[u8], rows: usize) -> bool
+    ensures { λ r. ⌜ r ≡ some rows (λ row. rowHit test (now (file .entry)) (entries (now (file .entry))) row) ⌝ }
 {
     let mut row = 0;
     while row < rows {
-        if value_outside(file, row) {
+        if hit(test, file, row) {
             return true;
         }
         row += 1;
@@ -99,46 +136,10 @@ fn outside(file: &[u8]) -> bool
     if directory_outside(file) {
         return true;
     }
-    if some_outside(file, listed(file)) {
+    if some_hit(RowTest::Outside, file, listed(file)) {
         return true;
     }
     strip_outside(file)
-}
-
-// The tag at a row is absent or given twice.
-fn not_once(file: &[u8], row: usize) -> bool
-    ensures { λ r. ⌜ r ≡ notOnce (entries (now (file .entry))) row ⌝ }
-{
-    let wanted = tag(row);
-    times(file, wanted.tag) != 1
-}
-
-// The condition of 20, of the first `rows` tags.
-fn some_not_once(file: &[u8], rows: usize) -> bool
-    ensures { λ r. ⌜ r ≡ some rows (λ row. notOnce (entries (now (file .entry))) row) ⌝ }
-{
-    let mut row = 0;
-    while row < rows {
-        if not_once(file, row) {
-            return true;
-        }
-        row += 1;
-    }
-    false
-}
-
-// One of the first `rows` tags has no entry of its type and count.
-fn some_absent(file: &[u8], rows: usize) -> bool
-    ensures { λ r. ⌜ r ≡ some rows (λ row. absent (now (file .entry)) (entries (now (file .entry))) row) ⌝ }
-{
-    let mut row = 0;
-    while row < rows {
-        if absent(file, row) {
-            return true;
-        }
-        row += 1;
-    }
-    false
 }
 
 // The sizes, and the strip's length. The product is formed once both sizes are known to be LONGs.
@@ -158,39 +159,17 @@ fn size_differs(file: &[u8], shape: Shape) -> bool
     length / 2 != shape.width * shape.height
 }
 
-// The value that a row of the second table asks for is another.
-fn demand_missed(file: &[u8], row: usize) -> bool
-    ensures { λ r. ⌜ r ≡ demandMissed (now (file .entry)) (entries (now (file .entry))) row ⌝ }
-{
-    let asked = demand(row);
-    value(file, tag(asked.row), asked.index) != asked.value
-}
-
-// One of the first `rows` values differs.
-fn some_missed(file: &[u8], rows: usize) -> bool
-    ensures { λ r. ⌜ r ≡ some rows (λ row. demandMissed (now (file .entry)) (entries (now (file .entry))) row) ⌝ }
-{
-    let mut row = 0;
-    while row < rows {
-        if demand_missed(file, row) {
-            return true;
-        }
-        row += 1;
-    }
-    false
-}
-
 // The condition of 21.
 fn otherwise(file: &[u8], shape: Shape) -> bool
     ensures { λ r. ⌜ r ≡ otherwise (now (file .entry)) (entries (now (file .entry))) shape ⌝ }
 {
-    if some_absent(file, listed(file)) {
+    if some_hit(RowTest::Absent, file, listed(file)) {
         return true;
     }
     if size_differs(file, shape) {
         return true;
     }
-    some_missed(file, demanded(file))
+    some_hit(RowTest::Missed, file, demanded(file))
 }
 
 // Tests 19, 20 and 21.
@@ -198,7 +177,7 @@ pub fn tag_refusal(file: &[u8], shape: Shape) -> u64
     ensures { λ r. ⌜ r ≡ first (tagTests (now (file .entry)) (entries (now (file .entry))) shape) ⌝ }
 {
     let structure = refuse(DNG_STRUCTURE, outside(file));
-    let tags = refuse(DNG_TAG, some_not_once(file, listed(file)));
+    let tags = refuse(DNG_TAG, some_hit(RowTest::NotOnce, file, listed(file)));
     let values = refuse(DNG_VALUE, otherwise(file, shape));
     first(&[structure, tags, values])
 }

@@ -18,6 +18,12 @@ pub record Allowed (s : Shape) : Type 0 where
   pub row-least : s .width ≤ s .«row_length»
   pub row-most : s .«row_length» ≤ s .width + 256
 
+-- a sample's frame, row and column
+pub record Placed (s : Shape) (frame row column : ℕ) : Type 0 where
+  pub frame-in : frame < s .count
+  pub row-in : row < s .height
+  pub column-in : column < s .width
+
 -- the samples of a burst, as many as its shape says
 pub record Sampled (s : Shape) (samples : List ℕ) : Type 0 where
   pub allowed : Allowed s

@@ -4,12 +4,12 @@ ghost use Prim.Native.Nat.{_*_, _%_, _^_, _≤_, _<_};
 ghost use lib.Signed.{mag};
 ghost use Rattle.geometry.specs.Shape.{sampleLength};
 ghost use Rattle.geometry.specs.Read.{sampleIndex, sampleAt, mirrored, inside};
-ghost use Rattle.geometry.specs.Fits.{Allowed, Sampled};
+ghost use Rattle.geometry.specs.Fits.{Allowed, Placed, Sampled};
 use crate::Shape;
 
 // Where the sample of a frame at a row and a column stands.
 pub fn sample_index(shape: Shape, frame: usize, row: usize, column: usize) -> usize
-    requires { ⌜ (Allowed shape) × (frame < shape .count) × (row < shape .height) × (column < shape .width) ⌝ }
+    requires { ⌜ (Allowed shape) × (Placed shape frame row column) ⌝ }
     ensures { λ r. ⌜ (r ≡ sampleIndex shape frame row column) × (r < sampleLength shape) ⌝ }
 {
     (frame * shape.height + row) * shape.row_length + column
@@ -17,7 +17,7 @@ pub fn sample_index(shape: Shape, frame: usize, row: usize, column: usize) -> us
 
 // The sample of a frame at a row and a column.
 pub fn sample_at(shape: Shape, samples: &[u16], frame: usize, row: usize, column: usize) -> u16
-    requires { ⌜ (Sampled shape (now samples)) × (frame < shape .count) × (row < shape .height) × (column < shape .width) ⌝ }
+    requires { ⌜ (Sampled shape (now samples)) × (Placed shape frame row column) ⌝ }
     ensures { λ r. ⌜ r ≡ sampleAt shape (now (samples .entry)) frame row column ⌝ }
 {
     let index = sample_index(shape, frame, row, column);
@@ -26,7 +26,7 @@ pub fn sample_at(shape: Shape, samples: &[u16], frame: usize, row: usize, column
 
 // The index at a place of the first period: forward, then backward.
 pub fn folded(place: usize, size: usize) -> usize
-    requires { ⌜ (0 < size) × (size ≤ 2 ^ 32) × (place < 2 * size) ⌝ }
+    requires { ⌜ record { some : 0 < size; most : size ≤ 2 ^ 32; place-in : place < 2 * size } ⌝ }
     ensures { λ r. ⌜ (r ≡ mirrored size place) × (r < size) ⌝ }
 {
     if place < size {

@@ -12,8 +12,8 @@ pub const FINEST_SIDE: usize = 16;
 
 // How many tiles there are, one way.
 pub fn tile_count(half: usize, size: usize) -> usize
-    requires { ⌜ (0 < half) × (half ≤ 16) × (size ≤ 4096) ⌝ }
-    ensures { λ r. ⌜ (r ≡ tileCount half size) × (0 < r) × (r ≤ size + 1) ⌝ }
+    requires { ⌜ record { some : 0 < half; most : half ≤ 16; size-most : size ≤ 4096 } ⌝ }
+    ensures { λ r. ⌜ record { is : r ≡ tileCount half size; some : 0 < r; most : r ≤ size + 1 } ⌝ }
 {
     (size + (half - 1)) / half + 1
 }

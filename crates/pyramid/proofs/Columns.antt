@@ -4,8 +4,9 @@ use native.Mathlib.Nat.{zero-add, add-zero}
 use Rattle.geometry.specs.Read.{inside}
 use Rattle.geometry.specs.ReadLaws.{inside-below}
 use Rattle.sequences.specs.Write.{written, Writing, written-in}
+use Rattle.pyramid.specs.Magnitudes.{columnMost}
 use Rattle.pyramid.specs.Pyramid.{weights, tap, weighted, halved}
-use Rattle.pyramid.specs.Columns.{columnSum}
+use Rattle.pyramid.specs.Columns.{columnSum, edgedSum}
 use Rattle.pyramid.specs.PyramidLaws.{column-most, halved-columns, inside-tap}
 use Rattle.pyramid.specs.Words.{imageAt, Source}
 use Rattle.pyramid.proofs.Ends.{ends-done}
@@ -20,11 +21,11 @@ columns-done sum d a width some room w h first last =
     (last ∙ ap sum (omega (arith, inside-tap width 0 (1 + width) some (omega arith))))
 
 module _ {words : List ℤ} {from height width : ℕ} {sums : List ℕ} (source : Source words from height width) (row : ℕ) (s : List ℕ) (room : width + 2 ≤ length s)
-    (is : sums ≡ written s 0 (λ k. columnSum height (imageAt words from width) row (inside width (tap 0 k))) (width + 2)) where
-  number : (k : ℕ) → k < width + 2 → getD sums k 0 ≡ columnSum height (imageAt words from width) row (inside width (tap 0 k))
-  number k h = ap (λ l. getD l k 0) is ∙ (rw zero-add at (written-in s 0 (λ k. columnSum height (imageAt words from width) row (inside width (tap 0 k))) (width + 2) 0 (omega arith) k h))
+    (is : sums ≡ written s 0 (edgedSum height width (imageAt words from width) row) (width + 2)) where
+  number : (k : ℕ) → k < width + 2 → getD sums k 0 ≡ edgedSum height width (imageAt words from width) row k
+  number k h = ap (λ l. getD l k 0) is ∙ (rw zero-add at (written-in s 0 (edgedSum height width (imageAt words from width) row) (width + 2) 0 (omega arith) k h))
 
-  pub sum-most : (k : ℕ) → k < width + 2 → getD sums k 0 ≤ 131040
+  pub sum-most : (k : ℕ) → k < width + 2 → getD sums k 0 ≤ columnMost
   sum-most k h =
       rw (number k h)
       (column-most height width (source .high) (source .wide) 16380 _ (source .holds .most) row (inside width (tap 0 k)) (inside-below width (tap 0 k) (source .wide)))

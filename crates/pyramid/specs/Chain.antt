@@ -19,6 +19,12 @@ unfoldable pub chain : (height width : ℕ) → Image → ℕ → Image
 chain height width image zero = image
 chain height width image (suc k) = halved (halves height k) (halves width k) (chain height width image k)
 
+-- from `from` on stands an image of a height and a width, with room for its halving from `to` on, after it
+pub record RoomAt (words : List ℤ) (from height width to : ℕ) : Type 0 where
+  pub source : Source words from height width
+  pub after : from + height * width ≤ to
+  pub room : to + height / 2 * (width / 2) ≤ length words
+
 -- from `at` on stands an image of a height and a width, with room for five halvings after it
 pub record Room (list : List ℤ) (at height width : ℕ) : Type 0 where
   pub source : Source list at height width

@@ -20,6 +20,10 @@ wordOf image width k = pos (image (k / width) (k % width))
 unfoldable pub laid : List ℤ → (at height width : ℕ) → Image → List ℤ
 laid words at height width image = written words at (wordOf image width) (height * width)
 
+-- the words with one of an image's rows written from `at` on
+abbrev pub laidRow : List ℤ → (at width : ℕ) → Image → (row : ℕ) → List ℤ
+laidRow words at width image row = written words at (λ column. pos (image row column)) width
+
 -- from `at` on stands an image of a height and a width
 pub record Holds (words : List ℤ) (at height width : ℕ) (image : Image) : Type 0 where
   pub room : at + height * width ≤ length words
@@ -44,3 +48,8 @@ pub record Source (words : List ℤ) (from height width : ℕ) : Type 0 where
   pub high-small : height ≤ 4096
   pub wide-small : width ≤ 4096
   pub holds : Holds words from height width (imageAt words from width)
+
+-- the same, and its halving has the row, which comes of four of the image's
+pub record FourRows (words : List ℤ) (from height width row : ℕ) : Type 0 where
+  pub source : Source words from height width
+  pub row-in : 2 * row + 2 ≤ height

@@ -1,18 +1,17 @@
 // Halving an image inside the work area.
 ghost use mathlib.Core.Path.{_≡_};
 ghost use Prim.Native.Nat.{_+_, _*_, _/_, _<_, _≤_};
-ghost use lib.IntN.{pos};
 ghost use lib.ListN.{length};
 ghost use Rattle.geometry.specs.Read.{inside};
 ghost use Rattle.sequences.specs.Write.{written};
 ghost use Rattle.pyramid.specs.Pyramid.{weights, tap, halved};
-ghost use Rattle.pyramid.specs.Columns.{columnSum};
-ghost use Rattle.pyramid.specs.Words.{wordAt, imageAt, laid, Held, Source};
-ghost use Rattle.pyramid.specs.Chain.{Room, Halvings};
+ghost use Rattle.pyramid.specs.Columns.{columnSum, edgedSum, FourSums};
+ghost use Rattle.pyramid.specs.Words.{wordAt, imageAt, laid, laidRow, Held, FourRows};
+ghost use Rattle.pyramid.specs.Chain.{RoomAt, Room, Halvings};
 
 // The weights 1 3 3 1.
 fn weigh(a: u32, b: u32, c: u32, d: u32) -> u32
-    requires { ⌜ (a ≤ 131040) × (b ≤ 131040) × (c ≤ 131040) × (d ≤ 131040) ⌝ }
+    requires { ⌜ FourSums a b c d ⌝ }
     ensures { λ r. ⌜ r ≡ weights a b c d ⌝ }
 {
     a + 3 * b + 3 * c + d
@@ -20,7 +19,7 @@ fn weigh(a: u32, b: u32, c: u32, d: u32) -> u32
 
 // The index that is read at the place number `k` of the four around `p`. They reach one place outside at most, where a mirror reads the nearest edge.
 fn tap_index(size: usize, p: usize, k: usize) -> usize
-    requires { ⌜ (0 < size) × (size ≤ 4096) × (2 * p + k ≤ size + 1) ⌝ }
+    requires { ⌜ record { some : 0 < size; most : size ≤ 4096; near : 2 * p + k ≤ size + 1 } ⌝ }
     ensures { λ r. ⌜ (r ≡ inside size (tap p k)) × (r < size) ⌝ }
 {
     let q = 2 * p + k;
@@ -51,7 +50,7 @@ fn tap_value(
     k: usize,
     column: usize,
 ) -> u32
-    requires { ⌜ (Source (now work) from height width) × (2 * row + 2 ≤ height) × (k < 4) × (column < width) ⌝ }
+    requires { ⌜ record { rows : FourRows (now work) from height width row; tap-in : k < 4; column-in : column < width } ⌝ }
     ensures { λ r. ⌜ (r ≡ imageAt (now (work .entry)) from width (inside height (tap row k)) column) × (r ≤ 16380) ⌝ }
 {
     let y = tap_index(height, row, k);
@@ -67,7 +66,7 @@ fn column_sum(
     row: usize,
     column: usize,
 ) -> u32
-    requires { ⌜ (Source (now work) from height width) × (2 * row + 2 ≤ height) × (column < width) ⌝ }
+    requires { ⌜ (FourRows (now work) from height width row) × (column < width) ⌝ }
     ensures { λ r. ⌜ r ≡ columnSum height (imageAt (now (work .entry)) from width) row column ⌝ }
 {
     let a = tap_value(work, from, height, width, row, 0, column);
@@ -79,8 +78,8 @@ fn column_sum(
 
 // The same of every column, and at each end of the nearest once more: number `k` is that of column `k` − 1.
 fn column_sums(work: &[i64], from: usize, height: usize, width: usize, row: usize, sums: &mut [u32])
-    requires { ⌜ (Source (now work) from height width) × (2 * row + 2 ≤ height) × (width + 2 ≤ length (now sums)) ⌝ }
-    ensures { λ _. ⌜ now (sums .exit) ≡ written (now (sums .entry)) 0 (λ k. columnSum height (imageAt (now (work .entry)) from width) row (inside width (tap 0 k))) (width + 2) ⌝ }
+    requires { ⌜ (FourRows (now work) from height width row) × (width + 2 ≤ length (now sums)) ⌝ }
+    ensures { λ _. ⌜ now (sums .exit) ≡ written (now (sums .entry)) 0 (edgedSum height width (imageAt (now (work .entry)) from width) row) (width + 2) ⌝ }
 {
     sums[0] = column_sum(work, from, height, width, row, 0);
     for column in 0..width {
@@ -91,7 +90,7 @@ fn column_sums(work: &[i64], from: usize, height: usize, width: usize, row: usiz
 
 // The value of the halved image from four column sums.
 fn halved_value(a: u32, b: u32, c: u32, d: u32) -> u32
-    requires { ⌜ (a ≤ 131040) × (b ≤ 131040) × (c ≤ 131040) × (d ≤ 131040) ⌝ }
+    requires { ⌜ FourSums a b c d ⌝ }
     ensures { λ r. ⌜ r ≡ (weights a b c d + 32) / 64 ⌝ }
 {
     (weigh(a, b, c, d) + 32) / 64
@@ -107,8 +106,8 @@ fn halve_row(
     to: usize,
     sums: &mut [u32],
 )
-    requires { ⌜ (Source (now work) from height width) × (2 * row + 2 ≤ height) × (to + width / 2 ≤ length (now work)) × (width + 2 ≤ length (now sums)) ⌝ }
-    ensures { λ _. ⌜ now (work .exit) ≡ written (now (work .entry)) to (λ column. pos (halved height width (imageAt (now (work .entry)) from width) row column)) (width / 2) ⌝ }
+    requires { ⌜ record { rows : FourRows (now work) from height width row; room : to + width / 2 ≤ length (now work); sums-room : width + 2 ≤ length (now sums) } ⌝ }
+    ensures { λ _. ⌜ now (work .exit) ≡ laidRow (now (work .entry)) to (width / 2) (halved height width (imageAt (now (work .entry)) from width)) row ⌝ }
 {
     column_sums(&*work, from, height, width, row, &mut *sums);
     for column in 0..width / 2 {
@@ -120,7 +119,7 @@ fn halve_row(
 
 // The image that stands from `from` on, halved, from `to` on.
 fn halve(work: &mut [i64], from: usize, height: usize, width: usize, to: usize, sums: &mut [u32])
-    requires { ⌜ (Source (now work) from height width) × (from + height * width ≤ to) × (to + height / 2 * (width / 2) ≤ length (now work)) × (4098 ≤ length (now sums)) ⌝ }
+    requires { ⌜ (RoomAt (now work) from height width to) × (4098 ≤ length (now sums)) ⌝ }
     ensures { λ _. ⌜ now (work .exit) ≡ laid (now (work .entry)) to (height / 2) (width / 2) (halved height width (imageAt (now (work .entry)) from width)) ⌝ }
 {
     for row in 0..height / 2 {

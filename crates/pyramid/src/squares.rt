@@ -1,19 +1,17 @@
 // Level 0: the sums of the 2 by 2 Bayer squares.
 ghost use mathlib.Core.Path.{_≡_};
 ghost use Prim.Native.Nat.{_+_, _*_, _/_, _<_, _≤_};
-ghost use lib.IntN.{pos};
 ghost use lib.ListN.{length};
 ghost use Rattle.geometry.specs.Read.{sampleAt};
-ghost use Rattle.sequences.specs.Write.{written};
 ghost use Rattle.pyramid.specs.Pyramid.{bayerSum};
 ghost use Rattle.pyramid.specs.Frame.{Frame};
-ghost use Rattle.pyramid.specs.Words.{laid};
+ghost use Rattle.pyramid.specs.Words.{laid, laidRow};
 use geometry::Shape;
 use geometry::read::sample_at;
 
 // A sample of a frame.
 fn sample(shape: Shape, frame: usize, samples: &[u16], row: usize, column: usize) -> u16
-    requires { ⌜ (Frame shape frame (now samples)) × (row < shape .height) × (column < shape .width) ⌝ }
+    requires { ⌜ record { framed : Frame shape frame (now samples); row-in : row < shape .height; column-in : column < shape .width } ⌝ }
     ensures { λ r. ⌜ (r ≡ sampleAt shape (now (samples .entry)) frame row column) × (r ≤ 4095) ⌝ }
 {
     sample_at(shape, samples, frame, row, column)
@@ -21,7 +19,7 @@ fn sample(shape: Shape, frame: usize, samples: &[u16], row: usize, column: usize
 
 // The sum of a 2 by 2 Bayer square.
 fn square_sum(shape: Shape, frame: usize, samples: &[u16], row: usize, column: usize) -> u16
-    requires { ⌜ (Frame shape frame (now samples)) × (row < shape .height / 2) × (column < shape .width / 2) ⌝ }
+    requires { ⌜ record { framed : Frame shape frame (now samples); row-in : row < shape .height / 2; column-in : column < shape .width / 2 } ⌝ }
     ensures { λ r. ⌜ (r ≡ bayerSum (sampleAt shape (now (samples .entry)) frame) row column) × (r ≤ 16380) ⌝ }
 {
     let a = sample(shape, frame, samples, 2 * row, 2 * column);
@@ -33,8 +31,8 @@ fn square_sum(shape: Shape, frame: usize, samples: &[u16], row: usize, column: u
 
 // One row of level 0, from `to` on.
 fn square_row(shape: Shape, frame: usize, samples: &[u16], row: usize, work: &mut [i64], to: usize)
-    requires { ⌜ (Frame shape frame (now samples)) × (row < shape .height / 2) × (to + shape .width / 2 ≤ length (now work)) ⌝ }
-    ensures { λ _. ⌜ now (work .exit) ≡ written (now (work .entry)) to (λ column. pos (bayerSum (sampleAt shape (now (samples .entry)) frame) row column)) (shape .width / 2) ⌝ }
+    requires { ⌜ record { framed : Frame shape frame (now samples); row-in : row < shape .height / 2; room : to + shape .width / 2 ≤ length (now work) } ⌝ }
+    ensures { λ _. ⌜ now (work .exit) ≡ laidRow (now (work .entry)) to (shape .width / 2) (bayerSum (sampleAt shape (now (samples .entry)) frame)) row ⌝ }
 {
     for column in 0..shape.width / 2 {
         let value = square_sum(shape, frame, samples, row, column);

@@ -6,7 +6,7 @@ pub mod Written
 pub mod Write
 pub mod Sum
 pub mod Least
-pub mod LeastLoop
+pub mod FirstLaws
 pub mod LeastLaws
 pub mod Clear
 pub mod ClearLaws

@@ -1,8 +1,8 @@
 -- Sharpness, and the frame that is chosen by it: request L1.
-use Rattle.algebra.specs.Prelude.{List, ℕ, zero, suc, _+_, _-_, _/_, ltb}
+use Rattle.algebra.specs.Prelude.{List, ℕ, _+_, _-_, _/_, ltb}
 use Prim.Native.Nat.{min}
 use Rattle.algebra.specs.Sums.{sumN}
-use Rattle.sequences.specs.Least.{pick}
+use Rattle.sequences.specs.Least.{firstBy}
 use Rattle.geometry.specs.declared.Shape.{Shape}
 use Rattle.geometry.specs.Read.{Image, sampleAt, planeOf}
 
@@ -28,9 +28,8 @@ sharpness s samples frame =
     steps (s .height / 2) (s .width / 2) 0 1 (green s samples frame) + steps (s .height / 2) (s .width / 2) 1 0 (green s samples frame)
 
 -- the place among 0 .. n at which f is greatest: "A tie goes to the lower index."
-unfoldable pub firstMax : (ℕ → ℕ) → ℕ → ℕ
-firstMax f zero = 0
-firstMax f (suc n) = pick (ltb (f (firstMax f n)) (f (suc n))) (suc n) (firstMax f n)
+abbrev pub firstMax : (ℕ → ℕ) → ℕ → ℕ
+firstMax f n = firstBy (λ a b. ltb b a) f n
 
 -- "the sharpest of the first three frames, or of both when there are two"; of one, 0
 unfoldable pub sharpest : Shape → List ℕ → ℕ

@@ -1,11 +1,11 @@
 -- What is known of sharpness and of the frame chosen by it.
-use Rattle.algebra.specs.Prelude.{_≡_, refl, ap₂, Bool, true, false, List, ℕ, zero, suc, _+_, _-_, _*_, _/_, _≤_, _<_, arith, ltb}
+use Rattle.algebra.specs.Prelude.{_≡_, ap₂, List, ℕ, _+_, _-_, _*_, _/_, _≤_, _<_, arith, ltb}
 use Prim.Native.Nat.{min}
-use native.Mathlib.Nat.{le-trans, mul-le-mul}
-use borrow.Author.Count.{below-more}
-use borrow.Author.Tests.{ltb-true, ltb-false}
+use native.Mathlib.Nat.{mul-le-mul}
+use borrow.Author.Tests.{lt-ltb, le-ltb, ltb-true, ltb-false}
 use Rattle.algebra.specs.SumLaws.{sumN-cong, sumN-bound}
-use Rattle.sequences.specs.Least.{pick}
+use Rattle.sequences.specs.Least.{firstBy}
+use Rattle.sequences.specs.FirstLaws.{first-most, first-cong, Order, unbeaten, beats-before}
 use Rattle.geometry.specs.declared.Shape.{Shape}
 use Rattle.geometry.specs.Read.{Image, sampleAt, planeOf}
 use Rattle.geometry.specs.Fits.{Allowed, SamplesFit}
@@ -33,37 +33,17 @@ sharpness-most {s} {samples} ok fit frame h =
       mul-le-mul {n₁ = high - 1} {m₁ = (wide - 0) * 4095} {n₂ = 2047} {m₂ = 8386560} (omega (arith, ok .high .most)) (omega (arith, ok .wide .most)),
     )
 
+greater : Order (λ a b. ltb b a)
+greater =
+    record {
+      never = λ a. le-ltb a a (omega arith);
+      not-back = λ a b h. le-ltb a b (omega (arith, ltb-true b a h));
+      over = λ a b c h l. lt-ltb c a (omega (arith, ltb-true b a h, ltb-false b c l));
+    }
+
 -- a place of those compared
-pub firstMax-most : (f : ℕ → ℕ) (n : ℕ) → firstMax f n ≤ n
-unfolding firstMax
-firstMax-most f zero = omega arith
-firstMax-most f (suc n) = by (firstMax-most f n) (ltb (f (firstMax f n)) (f (suc n)))
-  where
-    by : firstMax f n ≤ n → (t : Bool) → pick t (suc n) (firstMax f n) ≤ suc n
-    by h true = omega arith
-    by h false = omega arith
-
--- nothing is greater
-taken : (f : ℕ → ℕ) (a b : ℕ) (t : Bool) → ltb (f b) (f a) ≡ t → (f a ≤ f (pick t a b)) × (f b ≤ f (pick t a b))
-taken f a b true e = (omega arith, omega (arith, ltb-true (f b) (f a) e))
-taken f a b false e = (ltb-false (f b) (f a) e, omega arith)
-
-pub greatest : (f : ℕ → ℕ) (n k : ℕ) → k < n + 1 → f k ≤ f (firstMax f n)
-unfolding firstMax
-greatest f zero k h = let e : k ≡ 0 = omega arith in rw e (omega arith)
-greatest f (suc n) k h =
-    let both = taken f (suc n) (firstMax f n) (ltb (f (firstMax f n)) (f (suc n))) refl in
-    below-more (λ (j : ℕ). f j ≤ f (firstMax f (suc n))) (suc n) (λ j g. le-trans (greatest f n j (omega arith)) (both .1)) (both .0) k h
-
--- what stands before is less
-pub before-less : (f : ℕ → ℕ) (n k : ℕ) → k < firstMax f n → f k < f (firstMax f n)
-unfolding firstMax
-before-less f zero k h = absurd (omega arith)
-before-less f (suc n) k h = by (before-less f n k) (ltb (f (firstMax f n)) (f (suc n))) refl h
-  where
-    by : (k < firstMax f n → f k < f (firstMax f n)) → (t : Bool) → ltb (f (firstMax f n)) (f (suc n)) ≡ t → k < pick t (suc n) (firstMax f n) → f k < f (pick t (suc n) (firstMax f n))
-    by g true e h = omega (arith, ltb-true (f (firstMax f n)) (f (suc n)) e, greatest f n k (omega arith))
-    by g false e h = g h
+firstMax-most : (f : ℕ → ℕ) (n : ℕ) → firstMax f n ≤ n
+firstMax-most = first-most (λ a b. ltb b a)
 
 module _ (s : Shape) (samples : List ℕ) where
   -- one of the burst's frames, and of the first three
@@ -78,27 +58,17 @@ module _ (s : Shape) (samples : List ℕ) where
   -- "the sharpest": none of the first three is sharper
   pub none-sharper : (frame : ℕ) → frame < s .count → frame < 3 → sharpness s samples frame ≤ sharpness s samples (sharpest s samples)
   unfolding sharpest
-  none-sharper frame h t = greatest (sharpness s samples) (min (s .count) 3 - 1) frame (omega arith)
+  none-sharper frame h t = ltb-false _ _ (unbeaten greater (sharpness s samples) (min (s .count) 3 - 1) frame (omega arith))
 
   -- "A tie goes to the lower index": those before it are less sharp
   pub earlier-less : (frame : ℕ) → frame < sharpest s samples → sharpness s samples frame < sharpness s samples (sharpest s samples)
   unfolding sharpest
-  earlier-less frame h = before-less (sharpness s samples) (min (s .count) 3 - 1) frame h
+  earlier-less frame h = ltb-true _ _ (beats-before greater (sharpness s samples) (min (s .count) 3 - 1) frame h)
 
   -- "0 where there is one"
   pub lone-first : s .count ≤ 1 → sharpest s samples ≡ 0
-  unfolding sharpest firstMax
+  unfolding sharpest firstBy
   lone-first h = let none : min (s .count) 3 - 1 ≡ 0 = omega arith in rw none
-
--- the same values, the same place
-firstMax-cong : (f g : ℕ → ℕ) (n : ℕ) → ((k : ℕ) → k < n + 1 → f k ≡ g k) → firstMax f n ≡ firstMax g n
-unfolding firstMax
-firstMax-cong f g zero e = refl
-firstMax-cong f g (suc n) e =
-    let s = firstMax-cong f g n (λ k h. e k (omega arith)) in
-    let a = e (suc n) (omega arith) in
-    let b = e (firstMax f n) (omega (arith, firstMax-most f n)) in
-    rw (a, b, s)
 
 steps-same : (height width down right : ℕ) (p q : Image) → ((row column : ℕ) → row < height → column < width → p row column ≡ q row column) → steps height width down right p ≡ steps height width down right q
 unfolding steps rowSteps
@@ -111,7 +81,7 @@ pub sharpest-same : (s : Shape) (samples samples₂ : List ℕ) → Allowed s �
     ((frame row column : ℕ) → frame < s .count → row < s .height → column < s .width → sampleAt s samples₂ frame row column ≡ sampleAt s samples frame row column) →
     sharpest s samples₂ ≡ sharpest s samples
 unfolding sharpest sharpness planeOf
-sharpest-same s samples samples₂ ok same = firstMax-cong (sharpness s samples₂) (sharpness s samples) (min (s .count) 3 - 1) (λ frame h. frames frame (omega (arith, ok .some)))
+sharpest-same s samples samples₂ ok same = first-cong (λ a b. ltb b a) (sharpness s samples₂) (sharpness s samples) (min (s .count) 3 - 1) (λ frame h. frames frame (omega (arith, ok .some)))
   where
     frames : (frame : ℕ) → frame < s .count → sharpness s samples₂ frame ≡ sharpness s samples frame
     frames frame f =

@@ -1,15 +1,16 @@
 -- The loop keeps the first greatest of the frames seen so far.
-use Rattle.algebra.specs.Prelude.{sym, _-_, arith, needs}
+use Rattle.algebra.specs.Prelude.{sym, true, false, _-_, arith, needs, ltb}
 use Prim.Native.Nat.{min}
 use mathlib.Core.Logic.{⊎-elim}
+use borrow.Author.Tests.{lt-ltb, le-ltb}
+use Rattle.sequences.specs.FirstLaws.{First, first-start, first-turn, first-done}
 use Rattle.sharpness.specs.Sharpness.{sharpness, sharpest}
 use Rattle.sharpness.specs.SharpnessLaws.{lone-first}
-use Rattle.sharpness.proofs.Greatest.{Greatest, greatest-start, greatest-take, greatest-keep, greatest-done}
 use Rattle.sharpness.proofs.sharpest.Statement.{statement}
 use Rattle.sharpness.proofs.sharpest.Tie as tie
 
 abbrev Inv-loop : tie.InvT-loop
-Inv-loop shape samples best₀ most₀ frame₀ frame-end best most frame = Greatest (sharpness shape samples) (min (shape .count) 3) frame best most
+Inv-loop shape samples best₀ most₀ frame₀ frame-end best most frame = First (λ a b. ltb b a) (sharpness shape samples) (min (shape .count) 3) frame best most
 
 abbrev μ-loop : tie.MeasureT-loop
 μ-loop shape samples best₀ most₀ frame₀ frame-end best most frame = min (shape .count) 3 - frame
@@ -18,7 +19,7 @@ returns : tie.Need-returns Inv-loop μ-loop
 returns c = let a = c .before .before .before .args in (sym (lone-first (a .shape) (a .samples .now) (omega arith)), omega arith)
 
 loop-holds : tie.Need-loop-holds Inv-loop μ-loop
-loop-holds c = greatest-start (omega arith) (c .before .sharpness .ensures)
+loop-holds c = first-start (omega arith) (c .before .sharpness .ensures)
 
 loop-again : tie.Need-loop-again Inv-loop μ-loop
 loop-again c =
@@ -26,15 +27,15 @@ loop-again c =
     let l = seen .before .before .loop in
     let is = seen .sharpness2 .ensures in
     ⊎-elim
-    (λ w. rw (w .1, w .2) (greatest-take (l .inv) (omega arith) is (w .0 .taken)))
-    (λ w. rw (w .1, w .2) (greatest-keep (l .inv) (omega arith) is (w .0 .left)))
+    (λ w. rw (w .1, w .2) (first-turn true (l .inv) (omega arith) is (lt-ltb _ _ (w .0 .taken))))
+    (λ w. rw (w .1, w .2) (first-turn false (l .inv) (omega arith) is (le-ltb _ _ (w .0 .left))))
     (c .if2 .came)
 
 returns-2 : tie.Need-returns-2 Inv-loop μ-loop
 unfolding sharpest
 returns-2 c =
     let l = c .before .loop in (
-      greatest-done (l .inv) (omega arith),
+      first-done (l .inv) (omega arith),
       omega (arith, l .inv .within),
     )
 

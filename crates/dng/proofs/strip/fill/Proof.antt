@@ -19,7 +19,7 @@ in-strip c = strip-row (c .before .before .before .before .before .args .shape) 
 sample-index-requires : tie.Need-sample-index-requires Inv-loop μ-loop
 sample-index-requires c κs =
     let fits = c .before .before .before .before .before .pre .1 in
-    (fits .allowed, fits .below, c .if1 .taken, omega (arith, fits .allowed .wide .least))
+    (fits .allowed, record { frame-in = fits .below; row-in = c .if1 .taken; column-in = omega (arith, fits .allowed .wide .least) })
 
 mul-fill-row : tie.Need-mul-fill-row Inv-loop μ-loop
 mul-fill-row c = omega (arith, in-strip (c .before .before), c .before .before .before .before .before .before .before .pre .0)

@@ -20,7 +20,7 @@ unfolding outside
 returns-3 c =
     let second = c .before .before .before in
     let first = second .before .before in
-    let value = rw (c .before .before .listed .ensures) at (c .before .some-outside .ensures) in
+    let value = rw (c .before .before .listed .ensures) at (c .before .some-hit .ensures) in
     misses (first .before .header-wrong .ensures) (first .if1 .left) (misses (second .before .directory-outside .ensures) (second .if2 .left) (hits _ value (c .if3 .taken)))
 
 returns-4 : tie.Need-returns-4
@@ -29,7 +29,7 @@ returns-4 c =
     let third = c .before in
     let second = third .before .before .before in
     let first = second .before .before in
-    let value = rw (third .before .before .listed .ensures) at (third .before .some-outside .ensures) in
+    let value = rw (third .before .before .listed .ensures) at (third .before .some-hit .ensures) in
     misses (first .before .header-wrong .ensures) (first .if1 .left) (misses (second .before .directory-outside .ensures) (second .if2 .left) (misses value (third .if3 .left) (c .strip-outside .ensures)))
 
 pub outside-spec : {M : Type 1} → statement M

@@ -3,29 +3,26 @@ use Rattle.algebra.specs.Prelude.{refl, ℕ, _+_, _*_, _<_, arith}
 use native.Mathlib.Nat.{le-trans, mul-le-mul}
 use Rattle.geometry.specs.declared.Shape.{Shape}
 use Rattle.geometry.specs.Shape.{sampleLength}
-use Rattle.geometry.specs.Fits.{Allowed}
+use Rattle.geometry.specs.Fits.{Allowed, Placed}
 use Rattle.geometry.specs.ShapeLaws.{samples-most}
 use Rattle.geometry.specs.Read.{sampleIndex}
 use Rattle.geometry.specs.ReadLaws.{cell-below, index-below}
 use Rattle.geometry.proofs.read.sample_index.Statement.{statement}
 use Rattle.geometry.proofs.read.sample_index.Tie as tie
 
--- what the call requires
-abbrev Asked : Shape → (frame row column : ℕ) → Type 0
-Asked s frame row column = (Allowed s) × (frame < s .count) × (row < s .height) × (column < s .width)
+module _ {s : Shape} {frame row column : ℕ} (a : (Allowed s) × (Placed s frame row column)) where
+  rows : frame * s .height + row < 32768
+  rows =
+      le-trans
+      (cell-below frame row (s .count) (s .height) (a .1 .frame-in) (a .1 .row-in))
+      (mul-le-mul {n₁ = s .count} {m₁ = s .height} {n₂ = 8} {m₂ = 4096} (a .0 .few) (a .0 .high .most))
 
-rows : {s : Shape} {frame row column : ℕ} → Asked s frame row column → frame * s .height + row < 32768
-rows {s} {frame} {row} a =
-    le-trans
-    (cell-below frame row (s .count) (s .height) (a .1) (a .2))
-    (mul-le-mul {n₁ = s .count} {m₁ = s .height} {n₂ = 8} {m₂ = 4096} (a .0 .few) (a .0 .high .most))
+  below : sampleIndex s frame row column < sampleLength s
+  below = index-below _ _ _ _ (a .1 .frame-in) (a .1 .row-in) (le-trans (a .1 .column-in) (a .0 .row-least))
 
-below : {s : Shape} {frame row column : ℕ} → Asked s frame row column → sampleIndex s frame row column < sampleLength s
-below a = index-below _ _ _ _ (a .1) (a .2) (le-trans (a .3) (a .0 .row-least))
-
-index : {s : Shape} {frame row column : ℕ} → Asked s frame row column → (frame * s .height + row) * s .«row_length» + column < 142606336
-unfolding sampleIndex sampleLength
-index a = le-trans (below a) (samples-most (a .0))
+  index : (frame * s .height + row) * s .«row_length» + column < 142606336
+  unfolding sampleIndex sampleLength
+  index = le-trans below (samples-most (a .0))
 
 mul-result-2 : tie.Need-mul-result-2
 mul-result-2 c = omega (arith, index (c .before .before .pre))

@@ -7,11 +7,11 @@ use Rattle.geometry.proofs.tiles.tile_count.Tie as tie
 
 add-result-2 : tie.Need-add-result-2
 unfolding tileCount
-add-result-2 c = omega (arith, count-most (c .args .half) (c .args .size) (c .pre .0))
+add-result-2 c = omega (arith, count-most (c .args .half) (c .args .size) (c .pre .some))
 
 returns : tie.Need-returns
 unfolding tileCount
-returns c = (refl, omega arith, count-most (c .args .half) (c .args .size) (c .pre .0))
+returns c = record { is = refl; some = omega arith; most = count-most (c .args .half) (c .args .size) (c .pre .some) }
 
 pub tile-count-spec : {M : Type 1} → statement M
 tile-count-spec = tie.close (tie.spec

@@ -22,7 +22,8 @@ halve-row-requires c κs =
     let s = c .before .before .before .before .before in
     let a = s .args in
     let r = room (c .before .before) in
-    (kept-source (laying-kept (c .before .before .before .loop .inv .0)) (a .from) (a .height) (a .width) (omega arith) (s .pre .0), omega arith, omega arith, omega arith)
+    let source = kept-source (laying-kept (c .before .before .before .loop .inv .0)) (a .from) (a .height) (a .width) (omega arith) (s .pre .0 .source) in
+    record { rows = record { source = source; row-in = omega arith }; room = omega arith; sums-room = omega arith }
 
 loop-again : tie.Need-loop-again Inv-loop μ-loop
 loop-again c =
@@ -31,7 +32,7 @@ loop-again c =
     let s = called .before .before .before .before .before .before in
     let a = s .args in (
       lay-turn (turn .inv .0) (omega arith)
-          (λ column k. ap pos (kept-halved (laying-kept (turn .inv .0)) (a .from) (a .height) (a .width) (omega arith) (s .pre .0) _ column))
+          (λ column k. ap pos (kept-halved (laying-kept (turn .inv .0)) (a .from) (a .height) (a .width) (omega arith) (s .pre .0 .source) _ column))
           (called .halve-row .ensures),
       search needs,
     )

@@ -15,7 +15,7 @@ room : (c : tie.In-loop Inv-loop μ-loop) → let s = c .before .loop in s .from
 room c = halving-room (c .before .before .pre) (c .before .loop .inv .0) (omega arith)
 
 halve-requires : tie.Need-halve-requires Inv-loop μ-loop
-halve-requires c κs = let at = c .before .before .before in (halving-source (at .before .pre) (at .loop .inv .0), omega arith, room (c .before .before), omega arith)
+halve-requires c κs = let at = c .before .before .before in (record { source = halving-source (at .before .pre) (at .loop .inv .0); after = omega arith; room = room (c .before .before) }, omega arith)
 
 loop-again : tie.Need-loop-again Inv-loop μ-loop
 loop-again c = let s = c .before .before .before .before .before .before in (halving-turn (s .before .pre) (s .loop .inv .0) (omega arith) (c .before .before .halve .ensures), search needs)

@@ -2,6 +2,7 @@
 use Rattle.algebra.specs.Prelude.{ap, _∙_, ℕ, _+_, _-_, _/_, _≤_, _<_, arith, needs, getD, pos, w64}
 use mir.ValLaws.{toZ-pos}
 use Rattle.sequences.specs.Write.{Writing, write-start, write-turn, write-done}
+use Rattle.pyramid.specs.Magnitudes.{columnMost}
 use Rattle.pyramid.specs.Pyramid.{halved}
 use Rattle.pyramid.specs.Words.{imageAt}
 use Rattle.pyramid.proofs.Columns.{sum-most, sums-halved}
@@ -14,13 +15,13 @@ Inv-loop work₀ from height width row to sums column₀ column-end work column 
 abbrev μ-loop : tie.MeasureT-loop
 μ-loop work₀ from height width row to sums column₀ column-end work column = width / 2 - column
 
-low : (c : tie.After-column-sums Inv-loop μ-loop) (k : ℕ) → k < c .before .before .before .before .args .width + 2 → getD (c .column-sums .last .1 .1 .1 .1 .1 .0) k 0 ≤ 131040
-low c = let s = c .before .before .before .before in sum-most (s .pre .0) (s .args .row) (s .args .sums .now) (omega arith) (c .column-sums .ensures)
+low : (c : tie.After-column-sums Inv-loop μ-loop) (k : ℕ) → k < c .before .before .before .before .args .width + 2 → getD (c .column-sums .last .1 .1 .1 .1 .1 .0) k 0 ≤ columnMost
+low c = let s = c .before .before .before .before in sum-most (s .pre .rows .source) (s .args .row) (s .args .sums .now) (omega arith) (c .column-sums .ensures)
 
 halved-value-requires : tie.Need-halved-value-requires Inv-loop μ-loop
 halved-value-requires c κs =
     let most = low (c .before .before .before .before .before .before .before .before) in
-    (most _ (omega arith), most _ (omega arith), most _ (omega arith), most _ (omega arith))
+    record { first = most _ (omega arith); second = most _ (omega arith); third = most _ (omega arith); fourth = most _ (omega arith) }
 
 loop-again : tie.Need-loop-again Inv-loop μ-loop
 loop-again c =
@@ -30,7 +31,7 @@ loop-again c =
     write-turn (turn .inv) (omega arith)
     (toZ-pos w64 _ (omega arith)
     ∙ ap pos (c .halved-value .ensures)
-    ∙ ap pos (sums-halved (s .pre .0) (s .args .row) (s .args .sums .now) (omega arith) (summed .column-sums .ensures) (turn .column) (omega arith)))
+    ∙ ap pos (sums-halved (s .pre .rows .source) (s .args .row) (s .args .sums .now) (omega arith) (summed .column-sums .ensures) (turn .column) (omega arith)))
 
 returns : tie.Need-returns Inv-loop μ-loop
 returns c = write-done (c .before .loop .inv) (omega arith)

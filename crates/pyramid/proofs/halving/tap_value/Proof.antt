@@ -6,7 +6,7 @@ use Rattle.pyramid.proofs.halving.tap_value.Statement.{statement}
 use Rattle.pyramid.proofs.halving.tap_value.Tie as tie
 
 row : (c : tie.After-tap-index) → Row (c .before .args .work .now) (c .before .args .from + c .tap-index .result * c .before .args .width) (c .before .args .width)
-row c = row-held (c .tap-index .result) (c .before .pre .0 .holds) (c .tap-index .ensures .1)
+row c = row-held (c .tap-index .result) (c .before .pre .rows .source .holds) (c .tap-index .ensures .1)
 
 word-requires : tie.Need-word-requires
 word-requires c κs = row c .held (c .before .args .column) (omega arith)

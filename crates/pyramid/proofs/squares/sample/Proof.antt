@@ -4,7 +4,7 @@ use Rattle.pyramid.proofs.squares.sample.Statement.{statement}
 use Rattle.pyramid.proofs.squares.sample.Tie as tie
 
 returns : tie.Need-returns
-returns c = let s = c .before .before in (c .sample-at .ensures, omega (arith, c .sample-at .ensures, s .pre .0 .most (s .args .row) (s .args .column) (omega arith) (omega arith)))
+returns c = let s = c .before .before in (c .sample-at .ensures, omega (arith, c .sample-at .ensures, s .pre .framed .most (s .args .row) (s .args .column) (omega arith) (omega arith)))
 
 pub sample-spec : {M : Type 1} → statement M
 sample-spec = tie.close (tie.spec (λ c κs. search needs) returns)
