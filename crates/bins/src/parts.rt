@@ -16,7 +16,7 @@ pub fn quantized_part(b: i64) -> i64
 
 // One part of G, from that part q of Q and the other part r.
 pub fn wiener_part(noise: u64, q: i64, r: i64) -> i64
-    requires { ⌜ (noise ≤ noiseMost) × (AtMost gainMost q) × (AtMost gainMost r) ⌝ }
+    requires { ⌜ record { noise-most : noise ≤ noiseMost; part : AtMost gainMost q; other : AtMost gainMost r } ⌝ }
     ensures { λ g. ⌜ (g ≡ wiener noise q r) × (AtMost gainMost g) ⌝ }
 {
     if noise == 0 {
@@ -30,7 +30,7 @@ pub fn wiener_part(noise: u64, q: i64, r: i64) -> i64
 
 // One part of G, from that part b of B and the other part c.
 pub fn filtered_part(noise: u64, b: i64, c: i64) -> i64
-    requires { ⌜ (noise ≤ noiseMost) × (AtMost binMost b) × (AtMost binMost c) ⌝ }
+    requires { ⌜ record { noise-most : noise ≤ noiseMost; part : AtMost binMost b; other : AtMost binMost c } ⌝ }
     ensures { λ g. ⌜ (g ≡ filtered side16 noise b c) × (AtMost gainMost g) ⌝ }
 {
     wiener_part(noise, quantized_part(b), quantized_part(c))

@@ -12,33 +12,23 @@ ghost use Rattle.lines.specs.Fold.{evenSum, oddSum, evenHalf};
 ghost use Rattle.lines.specs.Magnitudes.{pairFoldMost, pairColumnMost};
 ghost use Rattle.lines.specs.Doubles.{doubleLine, From, joinedAt};
 
-// The even places' sum at the numbers 0 to 7; of places 0 and 8 with the cosine `own`: 16384, or half of it. From number n to number n + 4 what 2, 6, 10 and
-// 14 add changes its sign.
-fn even(
-    own: f64,
-    z0: f64,
-    z2: f64,
-    z4: f64,
-    z6: f64,
-    z8: f64,
-    z10: f64,
-    z12: f64,
-    z14: f64,
-) -> [f64; 8]
-    ensures { λ r. ⌜ record { whole : own ≡ ofInt binary64 (pos 16384) → From pairColumnMost 8 (z0 ∷ z2 ∷ z4 ∷ z6 ∷ z8 ∷ z10 ∷ z12 ∷ z14 ∷ []) (λ z. r ≡ doubleLine 8 (evenSum z)); half : own ≡ ofInt binary64 (pos 8192) → From pairColumnMost 8 (z0 ∷ z2 ∷ z4 ∷ z6 ∷ z8 ∷ z10 ∷ z12 ∷ z14 ∷ []) (λ z. r ≡ doubleLine 8 (evenHalf z)) } ⌝ }
+// The even places' sum at the numbers 0 to 7, z[k] being place 2k; of places 0 and 8 with the cosine `own`: 16384, or half of it. From number n to number
+// n + 4 what places 2, 6, 10 and 14 add changes its sign.
+fn even(own: f64, z: [f64; 8]) -> [f64; 8]
+    ensures { λ r. ⌜ record { whole : own ≡ ofInt binary64 (pos 16384) → From pairColumnMost 8 z (λ g. r ≡ doubleLine 8 (evenSum g)); half : own ≡ ofInt binary64 (pos 8192) → From pairColumnMost 8 z (λ g. r ≡ doubleLine 8 (evenHalf g)) } ⌝ }
 {
-    let p = own * (z0 + z8);
-    let m = own * (z0 - z8);
-    let k = 16384.0 * z4;
-    let j = 16384.0 * z12;
+    let p = own * (z[0] + z[4]);
+    let m = own * (z[0] - z[4]);
+    let k = 16384.0 * z[2];
+    let j = 16384.0 * z[6];
     let a = p + k;
     let b = m - j;
     let c = p - k;
     let d = m + j;
-    let e = 16384.0 * (z2 + z6);
-    let f = 16384.0 * (z14 - z10);
-    let g = 11585.0 * (z2 - z6);
-    let h = 11585.0 * (z10 + z14);
+    let e = 16384.0 * (z[1] + z[3]);
+    let f = 16384.0 * (z[7] - z[5]);
+    let g = 11585.0 * (z[1] - z[3]);
+    let h = 11585.0 * (z[5] + z[7]);
     let q = g - h;
     let u = g + h;
     [a + e, b + q, c + f, d - u, a - e, b - q, c - f, d + u]
@@ -89,7 +79,7 @@ fn unfolded(s: &[f64; 8], t: &[f64; 8], n: usize) -> f64
 pub fn backward(z: &[f64; 16]) -> [f64; 16]
     ensures { λ r. ⌜ From pairFoldMost 16 (now (z .entry)) (λ g. r ≡ doubleLine 16 (backward g)) ⌝ }
 {
-    let s = even(16384.0, z[0], z[2], z[4], z[6], z[8], z[10], z[12], z[14]);
+    let s = even(16384.0, [z[0], z[2], z[4], z[6], z[8], z[10], z[12], z[14]]);
     let t = odd(z[1], z[3], z[5], z[7], z[9], z[11], z[13], z[15]);
     let mut r = [0.0f64; 16];
     for n in 0..16 {
@@ -105,14 +95,16 @@ fn even_of(h: &[f64; 32], p: usize) -> [f64; 8]
 {
     even(
         8192.0,
-        h[p],
-        h[p + 4],
-        h[p + 8],
-        h[p + 12],
-        h[p + 16],
-        h[p + 20],
-        h[p + 24],
-        h[p + 28],
+        [
+            h[p],
+            h[p + 4],
+            h[p + 8],
+            h[p + 12],
+            h[p + 16],
+            h[p + 20],
+            h[p + 24],
+            h[p + 28],
+        ],
     )
 }
 

@@ -42,7 +42,7 @@ fn long(a: u64, m: u64) -> u64
 
 // a / m to nearest, halves upward.
 fn halves_up(a: u64, m: u64) -> u64
-    requires { ⌜ (0 < m) × (m < 2 ^ 60) × (a < 2 ^ 63) ⌝ }
+    requires { ⌜ record { divisor-some : 0 < m; divisor-below : m < 2 ^ 60; dividend-below : a < 2 ^ 63 } ⌝ }
     ensures { λ r. ⌜ (pos r ≡ upward (pos a) m) × (r ≤ a) ⌝ }
 {
     long(a + m / 2, m) / m
@@ -50,7 +50,7 @@ fn halves_up(a: u64, m: u64) -> u64
 
 // z / m to nearest, halves away from zero.
 pub fn round_away(z: i64, m: u64) -> i64
-    requires { ⌜ (0 < m) × (m < 2 ^ 60) × (natAbs z < 2 ^ 63) ⌝ }
+    requires { ⌜ record { divisor-some : 0 < m; divisor-below : m < 2 ^ 60; dividend-below : natAbs z < 2 ^ 63 } ⌝ }
     ensures { λ r. ⌜ r ≡ away z m ⌝ }
 {
     let n = halves_up(magnitude(z), m);

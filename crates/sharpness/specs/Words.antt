@@ -1,8 +1,17 @@
 -- The steps as the code takes them: from word to word of a frame, the other plane's words between. Inner vocabulary.
-use Rattle.algebra.specs.Prelude.{List, ℕ, _+_, _-_, _*_, getD}
+use Rattle.algebra.specs.Prelude.{List, ℕ, _+_, _-_, _*_, _/_, _<_, getD}
 use Rattle.algebra.specs.Sums.{sumN}
+use Rattle.geometry.specs.declared.Shape.{Shape}
+use Rattle.geometry.specs.Fits.{Sampled, SamplesFit}
 use Rattle.geometry.specs.Read.{Image}
 use Rattle.sharpness.specs.Sharpness.{step, rowSteps}
+
+-- a row of the plane of a frame of a burst, and the row so many further down
+pub record RowsIn (s : Shape) (samples : List ℕ) (frame row down : ℕ) : Type 0 where
+  pub sampled : Sampled s samples
+  pub fit : SamplesFit s samples
+  pub frame-in : frame < s .count
+  pub rows-in : row + down < s .height / 2
 
 -- from the word at a column, in a row of the plane: to the next of its plane, and so many rows of the plane down
 unfoldable pub wordSteps : Image → (row down column : ℕ) → ℕ

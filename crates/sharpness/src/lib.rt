@@ -1,12 +1,12 @@
 // The sharpest of a burst's first frames: the reference that is chosen for the caller.
 ghost use mathlib.Core.Path.{_≡_};
 ghost use Prim.Native.Nat.{_+_, _-_, _*_, _/_, _≤_, _<_, min};
-ghost use Rattle.geometry.specs.Fits.{Sampled, SamplesFit};
+ghost use Rattle.geometry.specs.Fits.{Placed, Sampled, SamplesFit};
 ghost use Rattle.geometry.specs.Read.{sampleAt};
 ghost use Rattle.algebra.specs.Sums.{sumN};
 ghost use Rattle.sequences.specs.Tab.{tab};
 ghost use Rattle.sharpness.specs.Sharpness.{green, step, sharpness, sharpest};
-ghost use Rattle.sharpness.specs.Words.{wordSteps, placeSteps, laneOf, greenTotal, lastStep, bothSteps, wordMost, rowMost};
+ghost use Rattle.sharpness.specs.Words.{RowsIn, wordSteps, placeSteps, laneOf, greenTotal, lastStep, bothSteps, wordMost, rowMost};
 use geometry::Shape;
 use geometry::read::sample_at;
 
@@ -15,7 +15,7 @@ const GREEN: usize = 1;
 
 // A sample of a frame.
 fn sample(shape: Shape, samples: &[u16], frame: usize, row: usize, column: usize) -> u16
-    requires { ⌜ (Sampled shape (now samples)) × (SamplesFit shape (now samples)) × (frame < shape .count) × (row < shape .height) × (column < shape .width) ⌝ }
+    requires { ⌜ record { sampled : Sampled shape (now samples); fit : SamplesFit shape (now samples); placed : Placed shape frame row column } ⌝ }
     ensures { λ r. ⌜ (r ≡ sampleAt shape (now (samples .entry)) frame row column) × (r ≤ 4095) ⌝ }
 {
     sample_at(shape, samples, frame, row, column)
@@ -37,7 +37,7 @@ fn word_steps(
     down: usize,
     column: usize,
 ) -> u16
-    requires { ⌜ (Sampled shape (now samples)) × (SamplesFit shape (now samples)) × (frame < shape .count) × (row + down < shape .height / 2) × (column + 2 < shape .width) ⌝ }
+    requires { ⌜ (RowsIn shape (now samples) frame row down) × (column + 2 < shape .width) ⌝ }
     ensures { λ r. ⌜ (r ≡ wordSteps (sampleAt shape (now (samples .entry)) frame) row down column) × (r ≤ wordMost) ⌝ }
 {
     let here = sample(shape, samples, frame, 2 * row, column);
@@ -56,7 +56,7 @@ fn lanes(
     down: usize,
     column: usize,
 ) -> [u16; 16]
-    requires { ⌜ (Sampled shape (now samples)) × (SamplesFit shape (now samples)) × (frame < shape .count) × (row + down < shape .height / 2) × (column + 34 ≤ shape .width) ⌝ }
+    requires { ⌜ (RowsIn shape (now samples) frame row down) × (column + 34 ≤ shape .width) ⌝ }
     ensures { λ r. ⌜ r ≡ tab 16 (laneOf (wordSteps (sampleAt shape (now (samples .entry)) frame) row down) column) ⌝ }
 {
     let mut sums = [0u16; 16];
@@ -88,7 +88,7 @@ fn green_total(lanes: [u16; 16]) -> u32
 
 // Both steps from each of a row's places, but for the last sixteen.
 fn block_steps(shape: Shape, samples: &[u16], frame: usize, row: usize, down: usize) -> u32
-    requires { ⌜ (Sampled shape (now samples)) × (SamplesFit shape (now samples)) × (frame < shape .count) × (row + down < shape .height / 2) ⌝ }
+    requires { ⌜ RowsIn shape (now samples) frame row down ⌝ }
     ensures { λ r. ⌜ (r ≡ sumN ((shape .width / 32 - 1) * 16) (placeSteps (sampleAt shape (now (samples .entry)) frame) row down)) × (r ≤ (shape .width / 32 - 1) * 524280) ⌝ }
 {
     let mut sum: u32 = 0;
@@ -101,7 +101,7 @@ fn block_steps(shape: Shape, samples: &[u16], frame: usize, row: usize, down: us
 
 // The step from the last place of a row, which has none to its right.
 fn last_step(shape: Shape, samples: &[u16], frame: usize, row: usize, down: usize) -> u16
-    requires { ⌜ (Sampled shape (now samples)) × (SamplesFit shape (now samples)) × (frame < shape .count) × (row + down < shape .height / 2) ⌝ }
+    requires { ⌜ RowsIn shape (now samples) frame row down ⌝ }
     ensures { λ r. ⌜ r ≡ lastStep (sampleAt shape (now (samples .entry)) frame) (shape .width / 2) row down ⌝ }
 {
     let column = 2 * (shape.width / 2 - 1) + GREEN;
@@ -112,7 +112,7 @@ fn last_step(shape: Shape, samples: &[u16], frame: usize, row: usize, down: usiz
 
 // The steps of a row of the plane to the right, and so many rows down.
 fn row_steps(shape: Shape, samples: &[u16], frame: usize, row: usize, down: usize) -> u32
-    requires { ⌜ (Sampled shape (now samples)) × (SamplesFit shape (now samples)) × (frame < shape .count) × (row + down < shape .height / 2) ⌝ }
+    requires { ⌜ RowsIn shape (now samples) frame row down ⌝ }
     ensures { λ r. ⌜ (r ≡ bothSteps (shape .width / 2) down (green shape (now (samples .entry)) frame) row) × (r ≤ rowMost) ⌝ }
 {
     let mut sum = block_steps(shape, samples, frame, row, down);
@@ -124,7 +124,7 @@ fn row_steps(shape: Shape, samples: &[u16], frame: usize, row: usize, down: usiz
 
 // The sharpness of a frame. The last row has none below: a step down by no row is 0.
 fn sharpness(shape: Shape, samples: &[u16], frame: usize) -> u64
-    requires { ⌜ (Sampled shape (now samples)) × (SamplesFit shape (now samples)) × (frame < shape .count) ⌝ }
+    requires { ⌜ record { sampled : Sampled shape (now samples); fit : SamplesFit shape (now samples); frame-in : frame < shape .count } ⌝ }
     ensures { λ r. ⌜ r ≡ sharpness shape (now (samples .entry)) frame ⌝ }
 {
     let last = shape.height / 2 - 1;

@@ -17,7 +17,7 @@ const SLIGHTLY_MORE: f64 = 1.0000000000000004440892098500626;
 
 // Stores quad (u, l).
 pub fn set_quad(b: &mut [[f64; 32]; 16], u: usize, l: usize, q: [f64; 4])
-    requires { ⌜ (u < 8) × (l < 16) × (Paired nan (now b)) ⌝ }
+    requires { ⌜ record { u-below : u < 8; l-below : l < 16; paired : Paired nan (now b) } ⌝ }
     ensures { λ _. ⌜ WithQuad u l q (now (b .entry)) (now (b .exit)) ⌝ }
 {
     b[u][l] = q[0];
@@ -56,7 +56,7 @@ fn left(b: &mut [[f64; 32]; 16], v: &[f64; 16], w: &[f64; 16])
 
 // The quads at u and v = 0: bins (u, 0) and (u, 8), and their conjugates.
 fn top(b: &mut [[f64; 32]; 16], v: &[f64; 16], w: &[f64; 16], u: usize)
-    requires { ⌜ (0 < u) × (u < 8) × (Paired nan (now b)) ⌝ }
+    requires { ⌜ record { u-some : 0 < u; u-below : u < 8; paired : Paired nan (now b) } ⌝ }
     ensures { λ _. ⌜ Lanes (newQuad (now (v .entry)) (now (w .entry))) (16 * u) (16 * u + 2) (now (b .entry)) (now (b .exit)) ⌝ }
 {
     for l in 0..2 {
@@ -73,7 +73,7 @@ fn top(b: &mut [[f64; 32]; 16], v: &[f64; 16], w: &[f64; 16], u: usize)
 
 // The other quads at u.
 fn inner(b: &mut [[f64; 32]; 16], v: &[f64; 16], w: &[f64; 16], u: usize)
-    requires { ⌜ (0 < u) × (u < 8) × (Paired nan (now b)) ⌝ }
+    requires { ⌜ record { u-some : 0 < u; u-below : u < 8; paired : Paired nan (now b) } ⌝ }
     ensures { λ _. ⌜ Lanes (newQuad (now (v .entry)) (now (w .entry))) (16 * u + 2) (16 * u + 16) (now (b .entry)) (now (b .exit)) ⌝ }
 {
     for l in 2..16 {

@@ -7,8 +7,8 @@ use Rattle.rounding.proofs.halves_up.Tie as tie
 returns : tie.Need-returns
 returns c =
     let s = c .before in
-    rw (c .long .ensures) (up (s .args .a) (s .args .m) (s .pre .0))
+    rw (c .long .ensures) (up (s .args .a) (s .args .m) (s .pre .divisor-some))
 
 pub halves-up-spec : {M : Type 1} → statement M
 halves-up-spec = tie.close (tie.spec
-    (λ c. omega (arith, c .pre .1, c .pre .2)) (λ c κs. search needs) (λ c. search needs) returns)
+    (λ c. omega (arith, c .pre .divisor-below, c .pre .dividend-below)) (λ c κs. search needs) (λ c. search needs) returns)

@@ -7,13 +7,17 @@ use Rattle.rounding.proofs.round_away.Tie as tie
 halves-up-requires : tie.Need-halves-up-requires
 halves-up-requires c κs =
     let s = c .before in
-    (s .pre .0, s .pre .1, rw (c .magnitude .ensures, toZ-ofZ (s .fits .z)) (s .pre .2))
+    record {
+      divisor-some = s .pre .divisor-some;
+      divisor-below = s .pre .divisor-below;
+      dividend-below = rw (c .magnitude .ensures, toZ-ofZ (s .fits .z)) (s .pre .dividend-below);
+    }
 
 negated-requires : tie.Need-negated-requires
 negated-requires c κs =
     let b = c .before in
     let s = b .before .before in
-    half-fits (s .args .m) _ (s .fits .z) (b .before .magnitude .ensures) (b .halves-up .ensures .1) (s .pre .2)
+    half-fits (s .args .m) _ (s .fits .z) (b .before .magnitude .ensures) (b .halves-up .ensures .1) (s .pre .dividend-below)
 
 returns : tie.Need-returns
 returns c =
@@ -27,7 +31,7 @@ signed-requires : tie.Need-signed-requires
 signed-requires c κs =
     let b = c .before in
     let s = b .before .before in
-    half-fits (s .args .m) _ (s .fits .z) (b .before .magnitude .ensures) (b .halves-up .ensures .1) (s .pre .2)
+    half-fits (s .args .m) _ (s .fits .z) (b .before .magnitude .ensures) (b .halves-up .ensures .1) (s .pre .dividend-below)
 
 returns-2 : tie.Need-returns-2
 returns-2 c =
@@ -39,5 +43,5 @@ returns-2 c =
 
 pub round-away-spec : {M : Type 1} → statement M
 round-away-spec = tie.close (tie.spec
-    (λ c κs. rw (toZ-ofZ (c .fits .z)) (c .pre .2)) halves-up-requires negated-requires returns
+    (λ c κs. rw (toZ-ofZ (c .fits .z)) (c .pre .dividend-below)) halves-up-requires negated-requires returns
     signed-requires returns-2)

@@ -24,7 +24,7 @@ returns c =
     let ended = c .before in
     let s = ended .before .before .before .before .before .before in
     let a = s .args in
-    let wide = s .pre .0 .allowed .wide in
+    let wide = s .pre .sampled .allowed .wide in
     let l = ended .before .loop .inv in (
       row-sum (sampleAt (a .shape) (a .samples .now) (a .frame)) (a .shape .width / 2) (a .row) (a .down) (omega (arith, wide .least)) (sum-done l (omega arith)) (c .last-step .ensures),
       omega (arith, wide .most, l .count, l .most),

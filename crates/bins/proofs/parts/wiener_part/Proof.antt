@@ -29,10 +29,10 @@ abbrev bs : List ℕ
 bs = gainMost ∷ gainMost ∷ noiseMost ∷ []
 
 noise-is : (s : At) → toZ w64 (s .args .noise) ≡ pos (s .args .noise)
-noise-is s = toZ-pos w64 (s .args .noise) (omega (arith, s .pre .0))
+noise-is s = toZ-pos w64 (s .args .noise) (omega (arith, s .pre .noise-most))
 
 small : (s : At) → Bounded (xs s) bs
-small s = (s .pre .1 .most, (s .pre .2 .most, (rw (noise-is s) (s .pre .0), tt)))
+small s = (s .pre .part .most, (s .pre .other .most, (rw (noise-is s) (s .pre .noise-most), tt)))
 
 abbrev Q : (s : At) → Code (nth (xs s))
 Q s = par w64 0 (s .fits .q)
@@ -64,11 +64,11 @@ power-fits s =
 
 power-small : (s : At) → power (s .args .noise) (s .args .q) (s .args .r) < 2 ^ 60
 power-small s =
-    lt-of-le-of-lt (add-le-add (add-le-add (mul-le-mul (s .pre .1 .most) (s .pre .1 .most)) (mul-le-mul (s .pre .2 .most) (s .pre .2 .most))) (s .pre .0)) (lit< tt)
+    lt-of-le-of-lt (add-le-add (add-le-add (mul-le-mul (s .pre .part .most) (s .pre .part .most)) (mul-le-mul (s .pre .other .most) (s .pre .other .most))) (s .pre .noise-most)) (lit< tt)
 
 product-small : (s : At) → natAbs (pos (s .args .noise) *ℤ s .args .q) < 2 ^ 63
 product-small s =
-    lt-of-le-of-lt (abs-mul-le (pos (s .args .noise)) (s .args .q) (s .pre .0) (s .pre .1 .most)) (lit< tt)
+    lt-of-le-of-lt (abs-mul-le (pos (s .args .noise)) (s .args .q) (s .pre .noise-most) (s .pre .part .most)) (lit< tt)
 
 returns : tie.Need-returns
 unfolding wiener
@@ -96,7 +96,7 @@ round-away-requires : tie.Need-round-away-requires
 round-away-requires c κs =
     let s = c .before in
     let n : 0 < s .args .noise = omega arith in
-    rw (power-at s, product-at s) (omega arith, power-small s, product-small s)
+    rw (power-at s, product-at s) (record { divisor-some = omega arith; divisor-below = power-small s; dividend-below = product-small s })
 
 returns-2 : tie.Need-returns-2
 returns-2 c =
@@ -105,7 +105,7 @@ returns-2 c =
     let e : toZ w64 (ofZ w64 (c .round-away .result)) ≡ c .round-away .result = search needs in
     let f : c .round-away .result ≡ wiener (s .args .noise) (s .args .q) (s .args .r) =
     c .round-away .ensures ∙ ap₂ (λ z p. away z (natAbs p)) (product-at s) (power-at s) ∙ sym (wiener-is (s .args .noise) (s .args .q) (s .args .r) n) in
-    rw (e, f) (refl, record { most = le-trans (wiener-most (s .args .noise) (s .args .q) (s .args .r)) (s .pre .1 .most) })
+    rw (e, f) (refl, record { most = le-trans (wiener-most (s .args .noise) (s .args .q) (s .args .r)) (s .pre .part .most) })
 
 pub wiener-part-spec : {M : Type 1} → statement M
 wiener-part-spec = tie.close (tie.spec

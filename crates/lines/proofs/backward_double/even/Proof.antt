@@ -1,6 +1,6 @@
 -- `lines::backward_double::even`: the even places' sums, by computed tests for either `own`.
-use Rattle.algebra.specs.Prelude.{List, [], _∷_, ℕ, _*_}
-use lib.Ieee.{ofBits, ofInt}
+use Rattle.algebra.specs.Prelude.{refl, ap, _∙_, List, [], _∷_, ℕ, _*_, needs, getD}
+use lib.Ieee.{Float, nan, ofBits, ofInt}
 use Rattle.algebra.specs.Ring.{con, _⊠_}
 use Rattle.algebra.specs.Ring as ring
 use Rattle.algebra.specs.Sums.{sumZ}
@@ -11,7 +11,7 @@ use Rattle.recipe.specs.Side.{cosAt}
 use Rattle.recipe.specs.Tables.{cosines, cosine16, side16}
 use Rattle.lines.specs.Halfcomplex.{halfZ, frequencyOf, phaseOf, basisOf, halfBasisOf, basis}
 use Rattle.lines.specs.Fold.{evenSumOf, evenHalfOf}
-use Rattle.lines.proofs.DoubleForms.{forms-are}
+use Rattle.lines.proofs.DoubleForms.{floats, forms-are}
 use Rattle.lines.proofs.backward_double.even.Statement.{statement}
 use Rattle.lines.proofs.backward_double.even.Tie as tie
 
@@ -34,13 +34,20 @@ results own =
     let u = plus g h in
     plus a e ∷ plus b q ∷ plus c f ∷ minus d u ∷ minus a e ∷ minus b q ∷ minus c f ∷ plus d u ∷ []
 
+-- as the code reads them
+abbrev read : (own : ℕ) → List Float → List Float
+read own z = floats (results own) (λ k. getD z k nan)
+
 returns : tie.Need-returns
 unfolding tab sumZ evenSumOf evenHalfOf halfZ halfBasisOf basisOf frequencyOf phaseOf cosAt side16 cosine16 cosines ofBits ofInt
 returns c =
     record {
-      whole = λ o z most e. rw o (forms-are 8 z most e (results 16384) (tab 8 (λ n. sumE 8 (λ k. ring.var k ⊠ con (basis (2 * k) n)))) tt tt);
-      half = λ o z most e. rw o (forms-are 8 z most e (results 8192) (tab 8 (λ n. sumE 8 (λ k. ring.var k ⊠ con (halfBasisOf side16 (2 * k) n)))) tt tt);
+      whole = λ o g most e. rw o (ap (read 16384) e ∙ forms-are 8 g most refl (results 16384) (tab 8 (λ n. sumE 8 (λ k. ring.var k ⊠ con (basis (2 * k) n)))) tt tt);
+      half = λ o g most e. rw o (ap (read 8192) e ∙ forms-are 8 g most refl (results 8192) (tab 8 (λ n. sumE 8 (λ k. ring.var k ⊠ con (halfBasisOf side16 (2 * k) n)))) tt tt);
     }
 
 pub even-spec : {M : Type 1} → statement M
-even-spec = tie.close (tie.spec returns)
+even-spec = tie.close (tie.spec
+    (λ c. search needs) (λ c. search needs) (λ c. search needs) (λ c. search needs) (λ c. search needs)
+    (λ c. search needs) (λ c. search needs) (λ c. search needs) (λ c. search needs) (λ c. search needs)
+    (λ c. search needs) (λ c. search needs) (λ c. search needs) (λ c. search needs) returns)

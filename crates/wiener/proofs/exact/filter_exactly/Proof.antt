@@ -39,7 +39,7 @@ quad-requires c κs =
 set-quad-requires : tie.Need-set-quad-requires Inv-loop μ-loop
 set-quad-requires c κs =
     let p = c .before .before .before .before .before .before .before .before in
-    (omega arith, omega arith, p .loop .inv .1 .paired)
+    record { u-below = omega arith; l-below = omega arith; paired = p .loop .inv .1 .paired }
 
 loop-again : tie.Need-loop-again Inv-loop μ-loop
 unfolding quadAt cell

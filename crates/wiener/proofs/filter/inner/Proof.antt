@@ -13,7 +13,7 @@ abbrev μ-loop : tie.MeasureT-loop
 μ-loop b₀ v w u l₀ b l = 16 - l
 
 loop-holds : tie.Need-loop-holds Inv-loop μ-loop
-loop-holds c = (omega arith, omega arith, lanes-start (16 * c .args .u + 2) (c .pre .2))
+loop-holds c = (omega arith, omega arith, lanes-start (16 * c .args .u + 2) (c .pre .paired))
 
 loop-again : tie.Need-loop-again Inv-loop μ-loop
 loop-again c =
@@ -23,7 +23,7 @@ loop-again c =
     let p = i .before in
     let below = i .loop-test .taken in
     let s = p .before in
-    (omega arith, omega arith, lanes-at (lanes-turn (p .loop .inv .2) (omega arith) (s .pre .1) (omega arith) refl (c .set-quad .ensures) (new-inner (now (s .args .v)) (now (s .args .w)) (p .loop .b) (s .args .u) (p .loop .l) (s .pre .0) (omega arith) (g .gains .ensures) (h .gains2 .ensures))) (omega arith))
+    (omega arith, omega arith, lanes-at (lanes-turn (p .loop .inv .2) (omega arith) (s .pre .u-below) (omega arith) refl (c .set-quad .ensures) (new-inner (now (s .args .v)) (now (s .args .w)) (p .loop .b) (s .args .u) (p .loop .l) (s .pre .u-some) (omega arith) (g .gains .ensures) (h .gains2 .ensures))) (omega arith))
 
 returns : tie.Need-returns Inv-loop μ-loop
 returns c = lanes-at (c .before .loop .inv .2) (omega arith)

@@ -5,7 +5,7 @@ use Rattle.wiener.proofs.filter.set_quad.Statement.{statement}
 use Rattle.wiener.proofs.filter.set_quad.Tie as tie
 
 returns : tie.Need-returns
-returns c = with-quad (c .args .u) (c .args .l) (c .pre .0) (c .pre .1) (c .args .t4) (c .pre .2)
+returns c = with-quad (c .args .u) (c .args .l) (c .pre .u-below) (c .pre .l-below) (c .args .t4) (c .pre .paired)
 
 pub set-quad-spec : {M : Type 1} → statement M
 set-quad-spec = tie.close (tie.spec

@@ -13,12 +13,12 @@ abbrev μ-loop : tie.MeasureT-loop
 μ-loop b₀ v w u l₀ b l = 2 - l
 
 loop-holds : tie.Need-loop-holds Inv-loop μ-loop
-loop-holds c = (omega arith, lanes-at (lanes-start (16 * c .args .u) (c .pre .2)) (omega arith))
+loop-holds c = (omega arith, lanes-at (lanes-start (16 * c .args .u) (c .pre .paired)) (omega arith))
 
 set-quad-requires : tie.Need-set-quad-requires Inv-loop μ-loop
 set-quad-requires c κs =
     let p = c .before .before .before .before .before .before .before .before .before .before .before .before in
-    (p .before .pre .1, omega arith, p .loop .inv .1 .paired)
+    record { u-below = p .before .pre .u-below; l-below = omega arith; paired = p .loop .inv .1 .paired }
 
 loop-again : tie.Need-loop-again Inv-loop μ-loop
 loop-again c =
@@ -26,7 +26,7 @@ loop-again c =
     let g = h .before .before .before .before .before in
     let p = g .before .before .before .before .before .before in
     let s = p .before in
-    (omega arith, lanes-at (lanes-turn (p .loop .inv .1) (omega arith) (s .pre .1) (omega arith) refl (c .set-quad .ensures) (new-top (now (s .args .v)) (now (s .args .w)) (p .loop .b) (s .args .u) (p .loop .l) (s .pre .0) (omega arith) (g .gains .ensures) (h .gains2 .ensures))) (omega arith))
+    (omega arith, lanes-at (lanes-turn (p .loop .inv .1) (omega arith) (s .pre .u-below) (omega arith) refl (c .set-quad .ensures) (new-top (now (s .args .v)) (now (s .args .w)) (p .loop .b) (s .args .u) (p .loop .l) (s .pre .u-some) (omega arith) (g .gains .ensures) (h .gains2 .ensures))) (omega arith))
 
 returns : tie.Need-returns Inv-loop μ-loop
 returns c = lanes-at (c .before .loop .inv .1) (omega arith)
