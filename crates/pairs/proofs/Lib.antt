@@ -1,3 +1,4 @@
+pub mod TileStores
 pub mod ColumnLaws
 pub mod RowLaws
 pub mod Rounding

@@ -24,7 +24,8 @@ ghost use Rattle.lines.specs.Magnitudes.{differenceMost, pairFoldMost};
 ghost use Rattle.lines.specs.Lines.{TileMost};
 ghost use Rattle.spectrum.specs.Magnitudes.{noiseMost, pairNoise};
 ghost use Rattle.spectrum.specs.Spectrum.{twoWay, transposed, spread, gainRe, gainIm, backSum};
-ghost use Rattle.spectrum.specs.Pairs.{Paired, InDouble, BinnedPair, QuietPair, planeIn, sideBySide, either, doubles};
+ghost use Rattle.spectrum.specs.Pairs.{Paired, PairNoise, InDouble, BinnedPair, QuietPair, planeIn, sideBySide, either, doubles};
+ghost use Rattle.pairs.specs.Added.{addedCorrections};
 
 // B of both planes, in exact whole numbers.
 pub fn forward(d: [[i16; 32]; 16]) -> [[f64; 32]; 16]
@@ -60,6 +61,27 @@ pub fn add_inverse(mut g: [[f64; 32]; 16], sum: &mut [[i64; 32]; 16])
     rows_back::add_back(&g, &mut *sum);
 }
 
+// P of both planes is added to their sums, in double.
+fn add_in_double(d: &[[i16; 32]; 16], first: u64, second: u64, sum: &mut [[i64; 32]; 16])
+    requires { ⌜ record { differences : TileMost differenceMost (now d); noises : PairNoise first second; sums-most : TileMost (2 ^ 40) (now sum); paired : Paired (pos 0) (now sum) } ⌝ }
+    ensures { λ _. ⌜ now (sum .exit) ≡ addedCorrections first second (now (d .entry)) (now (sum .entry)) ⌝ }
+{
+    let quiet = quotients_in_double(d, first, second);
+    let b = forward(*d);
+    let g = wiener(b, first, second, quiet);
+    add_inverse(g, &mut *sum);
+}
+
+// The same in whole numbers, one plane after the other.
+fn add_plainly(d: &[[i16; 32]; 16], first: u64, second: u64, sum: &mut [[i64; 32]; 16])
+    requires { ⌜ record { differences : TileMost differenceMost (now d); first-most : first ≤ noiseMost; second-most : second ≤ noiseMost; sums-most : TileMost (2 ^ 40) (now sum); paired : Paired (pos 0) (now sum) } ⌝ }
+    ensures { λ _. ⌜ now (sum .exit) ≡ addedCorrections first second (now (d .entry)) (now (sum .entry)) ⌝ }
+{
+    let a = correction(plane(d, 0), first);
+    let b = correction(plane(d, 1), second);
+    add_planes(&mut *sum, &a, &b);
+}
+
 // P of both planes of a pair of tiles of differences, at their noise numbers, is added to their sums: in double where both noise numbers allow it, and else in
 // whole numbers.
 pub fn add_corrections(d: &[[i16; 32]; 16], first: u64, second: u64, sum: &mut [[i64; 32]; 16])
@@ -67,13 +89,8 @@ pub fn add_corrections(d: &[[i16; 32]; 16], first: u64, second: u64, sum: &mut [
     ensures { λ _. ⌜ now (sum .exit) ≡ grid 16 32 (λ y l. cell (pos 0) (now (sum .entry)) y l +ℤ correctionAt side16 (either first second (l % 2)) (planeIn (cell (pos 0) (now (d .entry))) (l % 2)) y (l / 2)) ⌝ }
 {
     if in_double(first, second) {
-        let quiet = quotients_in_double(d, first, second);
-        let b = forward(*d);
-        let g = wiener(b, first, second, quiet);
-        add_inverse(g, &mut *sum);
+        add_in_double(d, first, second, &mut *sum);
         return;
     }
-    let a = correction(plane(d, 0), first);
-    let b = correction(plane(d, 1), second);
-    add_planes(&mut *sum, &a, &b);
+    add_plainly(d, first, second, &mut *sum);
 }

@@ -1,23 +1,24 @@
 -- The recipe's steps as passes: a tile that holds a step's numbers gives a tile that holds the next step's.
-use Rattle.algebra.specs.Prelude.{_≡_, sym, ap, ap₂, subst, _∙_, List, [], _∷_, ℕ, _+_, _*_, _≤_, _<_, ℤ, pos, natAbs, negℤ, _+ℤ_, _-ℤ_, _*ℤ_}
+use Rattle.algebra.specs.Prelude.{_≡_, refl, sym, ap, ap₂, subst, _∙_, cond, List, [], _∷_, ℕ, _+_, _-_, _*_, _/_, _%_, _^_, _≤_, _<_, arith, eqb, lit≤, ℤ, pos, natAbs, negℤ, _+ℤ_, _-ℤ_, _*ℤ_}
 use native.Mathlib.Nat.{le-trans, add-zero, add-le-add, mul-comm, mod-add-mod}
 use Prim.Native.Nat.{zero-le}
 use Rattle.algebra.specs.Order.{abs-add, abs-mul-le}
 use Rattle.algebra.specs.Ring.{var, #_, ⊖_, _⊞_, _⊟_, _⊠_, ring}
+use Rattle.algebra.specs.Nearest.{away}
 use Rattle.algebra.specs.Sums.{sumZ}
 use Rattle.algebra.specs.SumLaws.{sumZ-cong, abs-sum-bound}
-use Rattle.sequences.specs.Grid.{grid, cell, cell-grid, grid-ext, grid-of}
+use Rattle.sequences.specs.Grid.{grid-ext}
 use Rattle.recipe.specs.Side.{cosAt, sinAt}
 use Rattle.recipe.specs.Tables.{side16, sine16}
 use Rattle.recipe.specs.TableLaws.{cosine-most, minus-sine-is}
-use Rattle.recipe.specs.Correction.{rowRe, rowIm, binRe, binIm, filtered, inverseRe}
+use Rattle.recipe.specs.Correction.{rowRe, rowIm, binRe, binIm, twiddleRe, twiddleIm, inverseRe, inverseAt}
 use Rattle.recipe.specs.CorrectionLaws.{alongRe, alongIm, two-way}
-use Rattle.lines.specs.Lines.{TileMost, Square}
+use Rattle.lines.specs.Lines.{TileMost}
 use Rattle.lines.specs.Magnitudes.{differenceMost}
-use Rattle.lines.proofs.Tiles.{tile-most}
-use Rattle.spectrum.specs.Magnitudes.{binMost, gainMost}
-use Rattle.spectrum.specs.SizeLaws.{gain-most, bin-re-most, bin-im-most}
-use Rattle.plain.specs.Passes.{along, partMost, placeMost}
+use Rattle.spectrum.specs.Magnitudes.{gainMost}
+use Rattle.plain.specs.Complex.{complexTile, realOf, imaginaryOf}
+use Rattle.plain.specs.Passes.{along, passedRe, passedIm, partMost}
+use Rattle.plain.proofs.ComplexLaws.{real-is, imaginary-is, complex-most, less-most}
 
 -- ---- one place of a pass
 
@@ -92,107 +93,91 @@ module _ (g h : ℕ → ℕ → ℤ) where
 
 -- ---- tiles
 
--- t holds the numbers f, each of at most b
-pub record Holds (f : ℕ → ℕ → ℤ) (b : ℕ) (t : List (List ℤ)) : Type 0 where
-  pub is : t ≡ grid 16 16 f
-  pub most : (i j : ℕ) → natAbs (f i j) ≤ b
+-- z holds the numbers f + i·g, whose parts are at most b
+pub record Holds (f g : ℕ → ℕ → ℤ) (b : ℕ) (z : List (List ℤ)) : Type 0 where
+  pub re-is : (i j : ℕ) → i < 16 → j < 16 → realOf z i j ≡ f i j
+  pub im-is : (i j : ℕ) → i < 16 → j < 16 → imaginaryOf z i j ≡ g i j
+  pub re-most : (i j : ℕ) → natAbs (f i j) ≤ b
+  pub im-most : (i j : ℕ) → natAbs (g i j) ≤ b
 
-module _ {f : ℕ → ℕ → ℤ} {b : ℕ} {t : List (List ℤ)} (w : Holds f b t) where
-  pub holds-most : {c : ℕ} → b ≤ c → TileMost c t
-  holds-most {c} h = subst (TileMost c) (sym (w .is)) (tile-most c f (λ i j. le-trans (w .most i j) h))
+pub holds : {f g : ℕ → ℕ → ℤ} {b : ℕ} {z : List (List ℤ)} → z ≡ complexTile f g → ((i j : ℕ) → natAbs (f i j) ≤ b) → ((i j : ℕ) → natAbs (g i j) ≤ b) → Holds f g b z
+holds {f} {g} e m n = record { re-is = real-is f g e; im-is = imaginary-is f g e; re-most = m; im-most = n }
 
-  pub held-at : (i j : ℕ) → i < 16 → j < 16 → cell (pos 0) t i j ≡ f i j
-  held-at i j h k = ap (λ t. cell (pos 0) t i j) (w .is) ∙ cell-grid (pos 0) 16 16 f i j h k
+along-cong : (p q : ℕ) (x y u v : ℕ → ℤ) → ((j : ℕ) → j < 16 → x j ≡ u j) → ((j : ℕ) → j < 16 → y j ≡ v j) → (k : ℕ) → along p q x y k ≡ along p q u v k
+unfolding along
+along-cong p q x y u v h l k = sumZ-cong 16 _ _ (λ j m. ap₂ (λ a b. a *ℤ cosAt side16 (k * j + p) +ℤ b *ℤ cosAt side16 (k * j + q)) (h j m) (l j m))
 
-  pub held-square : Square t
-  held-square = record { is = grid-of (pos 0) 16 16 f (w .is) }
+-- what a pass makes of the parts of at most b
+abbrev pub passMost : ℕ → ℕ
+passMost b = 16 * (b * 16384 + b * 16384)
 
-  pub lessened : {c : ℕ} → ((i j : ℕ) → natAbs (f i j) ≤ c) → Holds f c t
-  lessened m = record { is = w .is; most = m }
-
--- what a pass asks of the two tiles that it takes, and of the one that it fills
-pub ready : {f g : ℕ → ℕ → ℤ} {b p q : ℕ} {x y r : List (List ℤ)} → Holds f b x → Holds g b y → b ≤ partMost → p < 16 → q < 16 → Square r
-    → record { re-most : TileMost partMost x; im-most : TileMost partMost y; p-below : p < 16; q-below : q < 16; square : Square r }
-ready v w h k l s = record { re-most = holds-most v h; im-most = holds-most w h; p-below = k; q-below = l; square = s }
-
--- a pass over a tile x + i·y
-module _ {f g : ℕ → ℕ → ℤ} {b : ℕ} {x y : List (List ℤ)} (v : Holds f b x) (w : Holds g b y) (p q : ℕ) where
-  place-most : (k i : ℕ) → natAbs (along p q (f i) (g i) k) ≤ 16 * (b * 16384 + b * 16384)
+-- a pass over the tile z
+module _ {f g : ℕ → ℕ → ℤ} {b : ℕ} {z : List (List ℤ)} (w : Holds f g b z) where
+  place-most : (p q k i : ℕ) → natAbs (along p q (f i) (g i) k) ≤ passMost b
   unfolding along
-  place-most k i =
+  place-most p q k i =
       abs-sum-bound 16 (b * 16384 + b * 16384) _
       (λ j h. le-trans (abs-add (f i j *ℤ cosAt side16 (k * j + p)) (g i j *ℤ cosAt side16 (k * j + q)))
-      (add-le-add (abs-mul-le (f i j) (cosAt side16 (k * j + p)) (v .most i j) (cosine-most (k * j + p))) (abs-mul-le (g i j) (cosAt side16 (k * j + q)) (w .most i j) (cosine-most (k * j + q)))))
+      (add-le-add (abs-mul-le (f i j) (cosAt side16 (k * j + p)) (w .re-most i j) (cosine-most (k * j + p))) (abs-mul-le (g i j) (cosAt side16 (k * j + q)) (w .im-most i j) (cosine-most (k * j + q)))))
 
-  pub passed : {r : List (List ℤ)} (e : ℕ → ℕ → ℤ) → ((k i : ℕ) → along p q (f i) (g i) k ≡ e k i)
-      → r ≡ grid 16 16 (λ k i. along p q (cell (pos 0) x i) (cell (pos 0) y i) k) → Holds e (16 * (b * 16384 + b * 16384)) r
-  unfolding along
-  passed e is r =
-      record {
-        is = r ∙ grid-ext 16 16 _ _ (λ k i h l. sumZ-cong 16 _ _ (λ j m. ap₂ (λ x y. x *ℤ cosAt side16 (k * j + p) +ℤ y *ℤ cosAt side16 (k * j + q)) (held-at v i j l m) (held-at w i j l m)) ∙ is k i);
-        most = λ k i. subst (λ z. natAbs z ≤ 16 * (b * 16384 + b * 16384)) (is k i) (place-most k i);
-      }
+  pub place-is : (p q k i : ℕ) → i < 16 → along p q (realOf z i) (imaginaryOf z i) k ≡ along p q (f i) (g i) k
+  place-is p q k i h = along-cong p q _ _ (f i) (g i) (λ j l. w .re-is i j h l) (λ j l. w .im-is i j h l) k
 
--- G from the bins
-module _ (noise : ℕ) {f g : ℕ → ℕ → ℤ} {x y : List (List ℤ)} (v : Holds f binMost x) (w : Holds g binMost y) where
-  pub gains : {r : List (List ℤ)} → r ≡ grid 16 16 (λ u k. filtered side16 noise (cell (pos 0) x u k) (cell (pos 0) y u k)) → Holds (λ u k. filtered side16 noise (f u k) (g u k)) gainMost r
-  gains e = record { is = e ∙ grid-ext 16 16 _ _ (λ u k h l. ap₂ (filtered side16 noise) (held-at v u k h l) (held-at w u k h l)); most = λ u k. gain-most noise (f u k) (g u k) (v .most u k) }
+  module _ (q : ℕ) (d e : ℕ → ℕ → ℤ) (re : (k i : ℕ) → along 0 q (f i) (g i) k ≡ d k i) (im : (k i : ℕ) → along (16 - q) 0 (f i) (g i) k ≡ e k i) where
+    pub passed : {r : List (List ℤ)} → r ≡ complexTile (passedRe q z) (passedIm q z) → r ≡ complexTile d e
+    passed s =
+        s
+        ∙ grid-ext 16 32 _ _ (λ k l h m. let i : l / 2 < 16 = omega arith in
+        ap₂ (cond (eqb (l % 2) 0)) (place-is 0 q k (l / 2) i ∙ re k (l / 2)) (place-is (16 - q) 0 k (l / 2) i ∙ im k (l / 2)))
 
--- ---- from the differences to P
+    pub re-passed : (k i : ℕ) → natAbs (d k i) ≤ passMost b
+    re-passed k i = subst (λ z. natAbs z ≤ passMost b) (re k i) (place-most 0 q k i)
 
--- a part of a row's transform
-abbrev pub rowMost : ℕ
-rowMost = 16 * (differenceMost * 16384 + differenceMost * 16384)
+    pub im-passed : (k i : ℕ) → natAbs (e k i) ≤ passMost b
+    im-passed k i = subst (λ z. natAbs z ≤ passMost b) (im k i) (place-most (16 - q) 0 k i)
 
--- the differences d, as x + i·0
-module _ (d : ℕ → ℕ → ℤ) (most : (i j : ℕ) → natAbs (d i j) ≤ differenceMost) {x z : List (List ℤ)} (e : x ≡ grid 16 16 d) (o : z ≡ grid 16 16 (λ i j. pos 0)) where
-  abbrev pub wide : Holds d differenceMost x
-  wide = record { is = e; most = most }
+    pub passed-on : {r : List (List ℤ)} → r ≡ complexTile (passedRe q z) (passedIm q z) → Holds d e (passMost b) r
+    passed-on s = holds (passed s) re-passed im-passed
 
-  abbrev pub nothing : Holds (λ i j. pos 0) differenceMost z
-  nothing = record { is = o; most = λ i j. zero-le }
+    pub passed-most : {r : List (List ℤ)} → r ≡ complexTile (passedRe q z) (passedIm q z) → TileMost (passMost b) r
+    passed-most s = complex-most d e (passed s) (passMost b) re-passed im-passed
 
-  pub rows-re : {r : List (List ℤ)} → r ≡ grid 16 16 (λ k i. along 0 12 (cell (pos 0) x i) (cell (pos 0) z i) k) → Holds (λ v y. rowRe side16 d y v) rowMost r
-  rows-re = passed wide nothing 0 12 _ (row-re-is d)
+-- ---- from the differences to B
 
-  pub rows-im : {r : List (List ℤ)} → r ≡ grid 16 16 (λ k i. along 4 0 (cell (pos 0) x i) (cell (pos 0) z i) k) → Holds (λ v y. rowIm side16 d y v) rowMost r
-  rows-im = passed wide nothing 4 0 _ (row-im-is d)
+module _ (d : ℕ → ℕ → ℤ) (most : (i j : ℕ) → natAbs (d i j) ≤ differenceMost) {x : List (List ℤ)} (e : x ≡ complexTile d (λ i j. pos 0)) where
+  wide : Holds d (λ i j. pos 0) differenceMost x
+  wide = holds e most (λ i j. zero-le)
 
-module _ (d : ℕ → ℕ → ℤ) {x y : List (List ℤ)} (v : Holds (λ v y. rowRe side16 d y v) rowMost x) (w : Holds (λ v y. rowIm side16 d y v) rowMost y) where
-  pub bins-re : {r : List (List ℤ)} → r ≡ grid 16 16 (λ k i. along 0 12 (cell (pos 0) x i) (cell (pos 0) y i) k) → r ≡ grid 16 16 (binRe side16 d)
-  bins-re e = passed v w 0 12 _ (bin-re-is d) e .is
+  pub wide-most : TileMost partMost x
+  wide-most = less-most (complex-most d (λ i j. pos 0) e differenceMost most (λ i j. zero-le)) (lit≤ tt)
 
-  pub bins-im : {r : List (List ℤ)} → r ≡ grid 16 16 (λ k i. along 4 0 (cell (pos 0) x i) (cell (pos 0) y i) k) → r ≡ grid 16 16 (binIm side16 d)
-  bins-im e = passed v w 4 0 _ (bin-im-is d) e .is
+  module _ {r : List (List ℤ)} (s : r ≡ complexTile (passedRe 12 x) (passedIm 12 x)) where
+    rows : Holds (λ v y. rowRe side16 d y v) (λ v y. rowIm side16 d y v) (passMost differenceMost) r
+    rows = passed-on wide 12 _ _ (row-re-is d) (row-im-is d) s
 
--- B in x and y, and G in u and v
-module _ (noise : ℕ) (d : ℕ → ℕ → ℤ) (most : (i j : ℕ) → natAbs (d i j) ≤ differenceMost) {x y : List (List ℤ)} (e : x ≡ grid 16 16 (binRe side16 d)) (o : y ≡ grid 16 16 (binIm side16 d)) where
-  abbrev pub gainRe : ℕ → ℕ → ℤ
-  gainRe u v = filtered side16 noise (binRe side16 d u v) (binIm side16 d u v)
+    pub rows-most : TileMost partMost r
+    rows-most = less-most (passed-most wide 12 _ _ (row-re-is d) (row-im-is d) s) (lit≤ tt)
 
-  abbrev pub gainIm : ℕ → ℕ → ℤ
-  gainIm u v = filtered side16 noise (binIm side16 d u v) (binRe side16 d u v)
+    pub bins-are : {b : List (List ℤ)} → b ≡ complexTile (passedRe 12 r) (passedIm 12 r) → b ≡ complexTile (binRe side16 d) (binIm side16 d)
+    bins-are = passed rows 12 _ _ (bin-re-is d) (bin-im-is d)
 
-  abbrev pub real : Holds (binRe side16 d) binMost x
-  real = record { is = e; most = bin-re-most d most }
+-- ---- from G to P
 
-  abbrev pub imaginary : Holds (binIm side16 d) binMost y
-  imaginary = record { is = o; most = bin-im-most d most }
+module _ {g : List (List ℤ)} (m : TileMost gainMost g) {r : List (List ℤ)} (s : r ≡ complexTile (passedRe 4 g) (passedIm 4 g)) where
+  parts : Holds (realOf g) (imaginaryOf g) gainMost g
+  parts = record { re-is = λ i j h k. refl; im-is = λ i j h k. refl; re-most = λ i j. m .line i .at (2 * j); im-most = λ i j. m .line i .at (2 * j + 1) }
 
-  module _ {u v : List (List ℤ)} (a : u ≡ grid 16 16 (λ i k. filtered side16 noise (cell (pos 0) x i k) (cell (pos 0) y i k))) (b : v ≡ grid 16 16 (λ i k. filtered side16 noise (cell (pos 0) y i k) (cell (pos 0) x i k))) where
-    pub gains-re : Holds gainRe gainMost u
-    gains-re = gains noise real imaginary a
+  alongs : Holds (alongRe side16 (realOf g) (imaginaryOf g)) (alongIm side16 (realOf g) (imaginaryOf g)) (passMost gainMost) r
+  alongs = passed-on parts 4 _ _ (along-re-is (realOf g) (imaginaryOf g)) (along-im-is (realOf g) (imaginaryOf g)) s
 
-    pub gains-im : Holds gainIm gainMost v
-    gains-im = gains noise imaginary real b
+  pub alongs-most : TileMost partMost r
+  alongs-most = less-most (passed-most parts 4 _ _ (along-re-is (realOf g) (imaginaryOf g)) (along-im-is (realOf g) (imaginaryOf g)) s) (lit≤ tt)
 
-    -- the sums along the rows of G, and along their columns
-    module _ {p q : List (List ℤ)} (c : p ≡ grid 16 16 (λ k i. along 0 4 (cell (pos 0) u i) (cell (pos 0) v i) k)) (f : q ≡ grid 16 16 (λ k i. along 12 0 (cell (pos 0) u i) (cell (pos 0) v i) k)) where
-      pub alongs-re : Holds (alongRe side16 gainRe gainIm) partMost p
-      alongs-re = passed gains-re gains-im 0 4 _ (along-re-is gainRe gainIm) c
+  pub sums-are : (y x : ℕ) → x < 16 → passedRe 4 r y x ≡ inverseRe side16 (realOf g) (imaginaryOf g) y x
+  sums-are y x h = place-is alongs 0 4 y x h ∙ inverse-is (realOf g) (imaginaryOf g) y x
 
-      pub alongs-im : Holds (alongIm side16 gainRe gainIm) partMost q
-      alongs-im = passed gains-re gains-im 12 0 _ (along-im-is gainRe gainIm) f
-
-      pub sums-are : {r : List (List ℤ)} → r ≡ grid 16 16 (λ k i. along 0 4 (cell (pos 0) p i) (cell (pos 0) q i) k) → Holds (inverseRe side16 gainRe gainIm) placeMost r
-      sums-are = passed alongs-re alongs-im 0 4 _ (inverse-is gainRe gainIm)
+pub inverse-cong : (f g d e : ℕ → ℕ → ℤ) → ((u v : ℕ) → u < 16 → v < 16 → f u v ≡ d u v) → ((u v : ℕ) → u < 16 → v < 16 → g u v ≡ e u v) → (y x : ℕ) → inverseAt side16 f g y x ≡ inverseAt side16 d e y x
+unfolding inverseAt inverseRe side16
+inverse-cong f g d e p q y x =
+    ap (λ z. away z (2 ^ 32))
+    (sumZ-cong 16 _ _ (λ u h. sumZ-cong 16 _ _ (λ v k. ap₂ (λ a b. twiddleRe side16 y x u v *ℤ a -ℤ twiddleIm side16 y x u v *ℤ b) (p u v h k) (q u v h k))))

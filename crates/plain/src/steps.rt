@@ -1,50 +1,62 @@
 // The steps that take each number of a tile by itself.
 use bins::parts::filtered_part;
-use rounding::round_away_32;
 ghost use mathlib.Core.Path.{_≡_};
-ghost use Prim.Native.Nat.{_^_, _≤_};
+ghost use Prim.Native.Nat.{_≤_, _<_};
 ghost use lib.IntN.{pos};
-ghost use Rattle.algebra.specs.Nearest.{away};
-ghost use Rattle.sequences.specs.Grid.{grid, cell};
+ghost use lib.ListN.{getD};
+ghost use Rattle.sequences.specs.Tab.{tab};
+ghost use Rattle.sequences.specs.Grid.{cell};
 ghost use Rattle.recipe.specs.Tables.{side16};
 ghost use Rattle.recipe.specs.Correction.{filtered};
-ghost use Rattle.lines.specs.Lines.{TileMost, Square};
+ghost use Rattle.lines.specs.Lines.{LineMost, TileMost};
 ghost use Rattle.lines.specs.Magnitudes.{differenceMost};
 ghost use Rattle.spectrum.specs.Magnitudes.{binMost, noiseMost};
-ghost use Rattle.plain.specs.Passes.{placeMost};
+ghost use Rattle.plain.specs.Complex.{complexAt, complexTile, real, imaginary};
 
-// r: the differences in 64-bit numbers.
-pub fn widen(d: &[[i16; 16]; 16], r: &mut [[i64; 16]; 16])
-    requires { ⌜ (TileMost differenceMost (now d)) × (Square (now r)) ⌝ }
-    ensures { λ _. ⌜ now (r .exit) ≡ grid 16 16 (cell (pos 0) (now (d .entry))) ⌝ }
+// Place l of the complex line whose real part is d.
+fn wide_part(d: &[i16; 16], l: usize) -> i64
+    requires { ⌜ (LineMost differenceMost (now d)) × (l < 32) ⌝ }
+    ensures { λ r. ⌜ r ≡ complexAt (λ j. getD (now (d .entry)) j (pos 0)) (λ j. pos 0) l ⌝ }
 {
-    for n in 0..256 {
-        let i = n / 16;
-        let j = n % 16;
-        r[i][j] = d[i][j] as i64;
+    if l % 2 == 0 {
+        return d[l / 2] as i64;
     }
+    0
 }
 
-// r: one part of G, from that part b of B and the other part c.
-pub fn filter(noise: u64, b: &[[i64; 16]; 16], c: &[[i64; 16]; 16], r: &mut [[i64; 16]; 16])
-    requires { ⌜ record { noise-most : noise ≤ noiseMost; part : TileMost binMost (now b); other : TileMost binMost (now c); square : Square (now r) } ⌝ }
-    ensures { λ _. ⌜ now (r .exit) ≡ grid 16 16 (λ u v. filtered side16 noise (cell (pos 0) (now (b .entry)) u v) (cell (pos 0) (now (c .entry)) u v)) ⌝ }
+// That line.
+fn wide_line(d: &[i16; 16]) -> [i64; 32]
+    requires { ⌜ LineMost differenceMost (now d) ⌝ }
+    ensures { λ r. ⌜ r ≡ tab 32 (complexAt (λ j. getD (now (d .entry)) j (pos 0)) (λ j. pos 0)) ⌝ }
 {
-    for n in 0..256 {
-        let i = n / 16;
-        let j = n % 16;
-        r[i][j] = filtered_part(noise, b[i][j], c[i][j]);
+    let mut r = [0i64; 32];
+    for l in 0..32 {
+        r[l] = wide_part(d, l);
     }
+    r
 }
 
-// r: P from its sums, divided by 2^32 to nearest, halves away from zero.
-pub fn round(z: &[[i64; 16]; 16], r: &mut [[i64; 16]; 16])
-    requires { ⌜ (TileMost placeMost (now z)) × (Square (now r)) ⌝ }
-    ensures { λ _. ⌜ now (r .exit) ≡ grid 16 16 (λ y x. away (cell (pos 0) (now (z .entry)) y x) (2 ^ 32)) ⌝ }
+// The differences as a complex tile.
+pub fn widen(d: &[[i16; 16]; 16]) -> [[i64; 32]; 16]
+    requires { ⌜ TileMost differenceMost (now d) ⌝ }
+    ensures { λ r. ⌜ r ≡ complexTile (cell (pos 0) (now (d .entry))) (λ i j. pos 0) ⌝ }
 {
-    for n in 0..256 {
-        let i = n / 16;
-        let j = n % 16;
-        r[i][j] = round_away_32(z[i][j]);
+    let mut r = [[0i64; 32]; 16];
+    for i in 0..16 {
+        r[i] = wide_line(&d[i]);
     }
+    r
+}
+
+// A line of G from that line of B. Next to an even place is the one after it, and to an odd one that before it.
+pub fn gains(b: &[i64; 32], noise: u64) -> [i64; 32]
+    requires { ⌜ (noise ≤ noiseMost) × (LineMost binMost (now b)) ⌝ }
+    ensures { λ r. ⌜ r ≡ tab 32 (complexAt (λ v. filtered side16 noise (real (now (b .entry)) v) (imaginary (now (b .entry)) v)) (λ v. filtered side16 noise (imaginary (now (b .entry)) v) (real (now (b .entry)) v))) ⌝ }
+{
+    let mut r = [0i64; 32];
+    for l in 0..32 {
+        let other = l + 1 - 2 * (l % 2);
+        r[l] = filtered_part(noise, b[l], b[other]);
+    }
+    r
 }

@@ -1,122 +1,65 @@
 -- `plain::correction`: B, G and P one after the other, each tile by what it holds.
-use Rattle.algebra.specs.Prelude.{_≡_, refl, sym, ap, subst, _∙_, ℕ, _^_, _≤_, _<_, lit≤, lit<, ℤ, pos, natAbs}
-use Rattle.algebra.specs.Nearest.{away}
-use Rattle.sequences.specs.Tab.{tab}
-use Rattle.sequences.specs.Grid.{grid, cell, grid-ext, grid-of}
+use Rattle.algebra.specs.Prelude.{_≡_, sym, ap₂, subst, _∙_, List, ℕ, _+_, _*_, _≤_, ℤ, pos, natAbs}
+use Rattle.sequences.specs.Grid.{cell, grid-ext}
 use Rattle.recipe.specs.Tables.{side16}
-use Rattle.recipe.specs.Correction.{inverseAt, correctionAt}
-use Rattle.lines.specs.Lines.{TileMost, Square}
+use Rattle.recipe.specs.Correction.{binRe, binIm, filtered, inverseAt, correctionAt}
+use Rattle.lines.specs.Lines.{TileMost}
 use Rattle.lines.specs.Magnitudes.{differenceMost}
 use Rattle.lines.proofs.Tiles.{cells-most, tile-most}
-use Rattle.spectrum.specs.Magnitudes.{correctionMost}
-use Rattle.spectrum.specs.SizeLaws.{correction-most}
-use Rattle.plain.proofs.Recipe.{holds-most, held-at, held-square, ready, real, imaginary, gains-re, gains-im, alongs-re, alongs-im, sums-are}
+use Rattle.spectrum.specs.Magnitudes.{binMost, gainMost, correctionMost}
+use Rattle.spectrum.specs.SizeLaws.{bin-re-most, bin-im-most, gain-most, correction-most}
+use Rattle.plain.specs.Complex.{complexTile, realOf, imaginaryOf}
+use Rattle.plain.proofs.ComplexLaws.{real-is, imaginary-is, complex-most}
+use Rattle.plain.proofs.Recipe.{inverse-cong}
 use Rattle.plain.proofs.correction.Statement.{statement}
 use Rattle.plain.proofs.correction.Tie as tie
 
+module _ (noise : ℕ) (d : ℕ → ℕ → ℤ) (most : (i j : ℕ) → natAbs (d i j) ≤ differenceMost) {b : List (List ℤ)} (e : b ≡ complexTile (binRe side16 d) (binIm side16 d)) where
+  bins-most : TileMost binMost b
+  bins-most = complex-most (binRe side16 d) (binIm side16 d) e binMost (bin-re-most d most) (bin-im-most d most)
+
+  abbrev gainRe : ℕ → ℕ → ℤ
+  gainRe u v = filtered side16 noise (realOf b u v) (imaginaryOf b u v)
+
+  abbrev gainIm : ℕ → ℕ → ℤ
+  gainIm u v = filtered side16 noise (imaginaryOf b u v) (realOf b u v)
+
+  module _ {g : List (List ℤ)} (o : g ≡ complexTile gainRe gainIm) where
+    gains-most : TileMost gainMost g
+    gains-most = complex-most gainRe gainIm o gainMost (λ u v. gain-most noise _ _ (bins-most .line u .at (2 * v))) (λ u v. gain-most noise _ _ (bins-most .line u .at (2 * v + 1)))
+
+    corrections-are : (y x : ℕ) → inverseAt side16 (realOf g) (imaginaryOf g) y x ≡ correctionAt side16 noise d y x
+    unfolding correctionAt
+    corrections-are =
+        inverse-cong _ _ _ _
+        (λ u v h k. real-is gainRe gainIm o u v h k ∙ ap₂ (filtered side16 noise) (real-is (binRe side16 d) (binIm side16 d) e u v h k) (imaginary-is (binRe side16 d) (binIm side16 d) e u v h k))
+        (λ u v h k. imaginary-is gainRe gainIm o u v h k ∙ ap₂ (filtered side16 noise) (imaginary-is (binRe side16 d) (binIm side16 d) e u v h k) (real-is (binRe side16 d) (binIm side16 d) e u v h k))
+
 abbrev d : tie.Start → ℕ → ℕ → ℤ
-d s = cell (pos 0) (s .args .t1)
+d s = cell (pos 0) (s .args .d)
 
 most : (s : tie.Start) (i j : ℕ) → natAbs (d s i j) ≤ differenceMost
 most s = cells-most (s .pre .differences)
 
--- a new tile
-blank : Square (grid 16 16 (λ i j. pos 0))
-blank = record { is = grid-of (pos 0) 16 16 _ refl }
+wiener-requires : tie.Need-wiener-requires
+wiener-requires c κs =
+    let s = c .before in
+    (s .pre .noise-most, bins-most (s .args .noise) (d s) (most s) (c .transform .ensures))
 
--- where the call began
-abbrev start : tie.After-transform → tie.Start
-start t = t .before .before .before .before .before .before
-
-transform-requires : tie.Need-transform-requires
-unfolding grid tab
-transform-requires c κs =
-    let s = c .before .before .before .before .before in
-    record { differences = s .pre .differences; re-square = blank; im-zero = refl; row-re-square = blank; row-im-square = blank }
-
-filter-requires : tie.Need-filter-requires
-filter-requires c κs =
-    let t = c .before .before .before in
-    let s = start t in
-    let e = t .transform .ensures in
-    let n = s .args .noise in
-    record { noise-most = s .pre .noise-most; part = holds-most (real n (d s) (most s) (e .re-is) (e .im-is)) (lit≤ tt); other = holds-most (imaginary n (d s) (most s) (e .re-is) (e .im-is)) (lit≤ tt); square = e .row-re-square }
-
-filter-requires-2 : tie.Need-filter-requires-2
-filter-requires-2 c κs =
-    let t = c .before .before .before .before .before .before .before in
-    let s = start t in
-    let e = t .transform .ensures in
-    let n = s .args .noise in
-    record { noise-most = s .pre .noise-most; part = holds-most (imaginary n (d s) (most s) (e .re-is) (e .im-is)) (lit≤ tt); other = holds-most (real n (d s) (most s) (e .re-is) (e .im-is)) (lit≤ tt); square = e .row-im-square }
-
-pass-requires : tie.Need-pass-requires
-pass-requires c κs =
-    let h = c .before .before .before in
-    let g = h .before .before .before .before in
-    let t = g .before .before .before .before in
-    let s = start t in
-    let e = t .transform .ensures in
-    let n = s .args .noise in
-    ready (gains-re n (d s) (most s) (e .re-is) (e .im-is) (g .filter .ensures) (h .filter2 .ensures)) (gains-im n (d s) (most s) (e .re-is) (e .im-is) (g .filter .ensures) (h .filter2 .ensures))
-    (lit≤ tt) (lit< tt) (lit< tt) (held-square (real n (d s) (most s) (e .re-is) (e .im-is)))
-
-pass-requires-2 : tie.Need-pass-requires-2
-pass-requires-2 c κs =
-    let h = c .before .before .before .before .before .before .before in
-    let g = h .before .before .before .before in
-    let t = g .before .before .before .before in
-    let s = start t in
-    let e = t .transform .ensures in
-    let n = s .args .noise in
-    ready (gains-re n (d s) (most s) (e .re-is) (e .im-is) (g .filter .ensures) (h .filter2 .ensures)) (gains-im n (d s) (most s) (e .re-is) (e .im-is) (g .filter .ensures) (h .filter2 .ensures))
-    (lit≤ tt) (lit< tt) (lit< tt) (held-square (imaginary n (d s) (most s) (e .re-is) (e .im-is)))
-
-pass-requires-3 : tie.Need-pass-requires-3
-pass-requires-3 c κs =
-    let q = c .before .before .before in
-    let p = q .before .before .before .before in
-    let h = p .before .before .before .before in
-    let g = h .before .before .before .before in
-    let t = g .before .before .before .before in
-    let s = start t in
-    let e = t .transform .ensures in
-    let n = s .args .noise in
-    ready (alongs-re n (d s) (most s) (e .re-is) (e .im-is) (g .filter .ensures) (h .filter2 .ensures) (p .pass .ensures) (q .pass2 .ensures)) (alongs-im n (d s) (most s) (e .re-is) (e .im-is) (g .filter .ensures) (h .filter2 .ensures) (p .pass .ensures) (q .pass2 .ensures))
-    (lit≤ tt) (lit< tt) (lit< tt) (held-square (gains-re n (d s) (most s) (e .re-is) (e .im-is) (g .filter .ensures) (h .filter2 .ensures)))
-
-round-requires : tie.Need-round-requires
-round-requires c κs =
-    let r = c .before .before in
-    let q = r .before .before .before .before in
-    let p = q .before .before .before .before in
-    let h = p .before .before .before .before in
-    let g = h .before .before .before .before in
-    let t = g .before .before .before .before in
-    let s = start t in
-    let e = t .transform .ensures in
-    let n = s .args .noise in (
-      holds-most (sums-are n (d s) (most s) (e .re-is) (e .im-is) (g .filter .ensures) (h .filter2 .ensures) (p .pass .ensures) (q .pass2 .ensures) (r .pass3 .ensures)) (lit≤ tt),
-      held-square (alongs-re n (d s) (most s) (e .re-is) (e .im-is) (g .filter .ensures) (h .filter2 .ensures) (p .pass .ensures) (q .pass2 .ensures)),
-    )
+inverse-requires : tie.Need-inverse-requires
+inverse-requires c κs =
+    let b = c .before in
+    let s = b .before in
+    gains-most (s .args .noise) (d s) (most s) (b .transform .ensures) (c .wiener .ensures)
 
 returns : tie.Need-returns
-unfolding correctionAt inverseAt side16
 returns c =
-    let r = c .before .before .before in
-    let q = r .before .before .before .before in
-    let p = q .before .before .before .before in
-    let h = p .before .before .before .before in
-    let g = h .before .before .before .before in
-    let t = g .before .before .before .before in
-    let s = start t in
-    let e = t .transform .ensures in
+    let g = c .before in
+    let b = g .before in
+    let s = b .before in
     let n = s .args .noise in
-    let z = sums-are n (d s) (most s) (e .re-is) (e .im-is) (g .filter .ensures) (h .filter2 .ensures) (p .pass .ensures) (q .pass2 .ensures) (r .pass3 .ensures) in
-    let is = c .round .ensures ∙ grid-ext 16 16 _ (correctionAt side16 n (d s)) (λ y x i j. ap (λ z. away z (2 ^ 32)) (held-at z y x i j)) in
+    let is = c .inverse .ensures ∙ grid-ext 16 16 _ (correctionAt side16 n (d s)) (λ y x i j. corrections-are n (d s) (most s) (b .transform .ensures) (g .wiener .ensures) y x) in
     (is, subst (TileMost correctionMost) (sym is) (tile-most correctionMost _ (correction-most n (d s) (most s))))
 
 pub correction-spec : {M : Type 1} → statement M
-correction-spec = tie.close (tie.spec
-    transform-requires filter-requires filter-requires-2 pass-requires pass-requires-2 pass-requires-3
-    round-requires returns)
+correction-spec = tie.close (tie.spec (λ c κs. c .pre .differences) wiener-requires inverse-requires returns)

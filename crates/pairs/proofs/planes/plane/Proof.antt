@@ -3,7 +3,7 @@ use Rattle.algebra.specs.Prelude.{_≡_, refl, [], _+_, _-_, _*_, _/_, _%_, ari
 use Rattle.sequences.specs.Tab.{tab}
 use Rattle.sequences.specs.Grid.{grid, cell}
 use Rattle.spectrum.specs.Pairs.{planeIn}
-use Rattle.plain.proofs.Loops.{Stored, store-new, store-turn, store-done}
+use Rattle.pairs.proofs.TileStores.{Stored, store-new, store-turn, store-done}
 use Rattle.pairs.proofs.planes.plane.Statement.{statement}
 use Rattle.pairs.proofs.planes.plane.Tie as tie
 
