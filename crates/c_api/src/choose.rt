@@ -12,17 +12,16 @@ use recipe::Tuning;
 use stacker::Choice;
 
 // Choose the reference, align, then merge.
-#[no_mangle]
-pub extern "C" fn stacker_run_sharpest(
+fn with_noise(
     frames: Frames,
-    noise: BurstNoise,
+    noise: Noise,
     tuning: MergeTuning,
     samples: &[u16],
     vectors: &mut [i32],
     output: &mut [u16],
     work: &mut [i64],
 ) -> Choice
-    ensures { λ r. ⌜ Chosen (shapeOf (ofFrames frames)) (measured noise) (tuned (ofFrames frames) tuning) (now (samples .entry)) (now (vectors .entry)) (now (vectors .exit)) (now (output .entry)) (now (output .exit)) (now (work .entry)) (now (work .exit)) r ⌝ }
+    ensures { λ r. ⌜ Chosen (shapeOf (ofFrames frames)) noise (tuned (ofFrames frames) tuning) (now (samples .entry)) (now (vectors .entry)) (now (vectors .exit)) (now (output .entry)) (now (output .exit)) (now (work .entry)) (now (work .exit)) r ⌝ }
 {
     let shape = Shape {
         width: frames.width as usize,
@@ -30,10 +29,6 @@ pub extern "C" fn stacker_run_sharpest(
         count: frames.count as usize,
         row_length: frames.row_length as usize,
     };
-    let noise = Noise::Measured(Curve {
-        shot: noise.shot,
-        read: noise.read,
-    });
     let black = frames.black;
     let tuning = Tuning {
         strength: tuning.strength,
@@ -50,6 +45,26 @@ pub extern "C" fn stacker_run_sharpest(
     )
 }
 
+// The same with the burst's own curve.
+#[no_mangle]
+pub extern "C" fn stacker_run_sharpest(
+    frames: Frames,
+    noise: BurstNoise,
+    tuning: MergeTuning,
+    samples: &[u16],
+    vectors: &mut [i32],
+    output: &mut [u16],
+    work: &mut [i64],
+) -> Choice
+    ensures { λ r. ⌜ Chosen (shapeOf (ofFrames frames)) (measured noise) (tuned (ofFrames frames) tuning) (now (samples .entry)) (now (vectors .entry)) (now (vectors .exit)) (now (output .entry)) (now (output .exit)) (now (work .entry)) (now (work .exit)) r ⌝ }
+{
+    let noise = Noise::Measured(Curve {
+        shot: noise.shot,
+        read: noise.read,
+    });
+    with_noise(frames, noise, tuning, samples, vectors, output, work)
+}
+
 // The same with the curve for ISO 100.
 #[no_mangle]
 pub extern "C" fn stacker_run_sharpest_iso(
@@ -63,30 +78,11 @@ pub extern "C" fn stacker_run_sharpest_iso(
 ) -> Choice
     ensures { λ r. ⌜ Chosen (shapeOf (ofFrames frames)) (atIso noise) (tuned (ofFrames frames) tuning) (now (samples .entry)) (now (vectors .entry)) (now (vectors .exit)) (now (output .entry)) (now (output .exit)) (now (work .entry)) (now (work .exit)) r ⌝ }
 {
-    let shape = Shape {
-        width: frames.width as usize,
-        height: frames.height as usize,
-        count: frames.count as usize,
-        row_length: frames.row_length as usize,
-    };
     let iso = noise.iso;
     let base = Curve {
         shot: noise.shot,
         read: noise.read,
     };
     let noise = Noise::Iso { iso, base };
-    let black = frames.black;
-    let tuning = Tuning {
-        strength: tuning.strength,
-        black,
-    };
-    stacker::choose::run_sharpest(
-        shape,
-        noise,
-        tuning,
-        samples,
-        &mut *vectors,
-        &mut *output,
-        &mut *work,
-    )
+    with_noise(frames, noise, tuning, samples, vectors, output, work)
 }

@@ -11,17 +11,16 @@ use noise::Noise;
 use recipe::Tuning;
 
 // A burst and lent vectors to the output.
-#[no_mangle]
-pub extern "C" fn stacker_merge(
+fn with_noise(
     burst: Burst,
-    noise: BurstNoise,
+    noise: Noise,
     tuning: MergeTuning,
     samples: &[u16],
     vectors: &[i32],
     output: &mut [u16],
     work: &mut [i64],
 ) -> u64
-    ensures { λ r. ⌜ Merged (shapeOf burst) (burst .reference) (measured noise) (tuned burst tuning) (now (samples .entry)) (now (vectors .entry)) (now (output .entry)) (now (output .exit)) (now (work .entry)) (now (work .exit)) r ⌝ }
+    ensures { λ r. ⌜ Merged (shapeOf burst) (burst .reference) noise (tuned burst tuning) (now (samples .entry)) (now (vectors .entry)) (now (output .entry)) (now (output .exit)) (now (work .entry)) (now (work .exit)) r ⌝ }
 {
     let shape = Shape {
         width: burst.width as usize,
@@ -29,10 +28,6 @@ pub extern "C" fn stacker_merge(
         count: burst.count as usize,
         row_length: burst.row_length as usize,
     };
-    let noise = Noise::Measured(Curve {
-        shot: noise.shot,
-        read: noise.read,
-    });
     let black = burst.black;
     let tuning = Tuning {
         strength: tuning.strength,
@@ -50,6 +45,26 @@ pub extern "C" fn stacker_merge(
     )
 }
 
+// The same with the burst's own curve.
+#[no_mangle]
+pub extern "C" fn stacker_merge(
+    burst: Burst,
+    noise: BurstNoise,
+    tuning: MergeTuning,
+    samples: &[u16],
+    vectors: &[i32],
+    output: &mut [u16],
+    work: &mut [i64],
+) -> u64
+    ensures { λ r. ⌜ Merged (shapeOf burst) (burst .reference) (measured noise) (tuned burst tuning) (now (samples .entry)) (now (vectors .entry)) (now (output .entry)) (now (output .exit)) (now (work .entry)) (now (work .exit)) r ⌝ }
+{
+    let noise = Noise::Measured(Curve {
+        shot: noise.shot,
+        read: noise.read,
+    });
+    with_noise(burst, noise, tuning, samples, vectors, output, work)
+}
+
 // The same with the curve for ISO 100.
 #[no_mangle]
 pub extern "C" fn stacker_merge_iso(
@@ -63,31 +78,11 @@ pub extern "C" fn stacker_merge_iso(
 ) -> u64
     ensures { λ r. ⌜ Merged (shapeOf burst) (burst .reference) (atIso noise) (tuned burst tuning) (now (samples .entry)) (now (vectors .entry)) (now (output .entry)) (now (output .exit)) (now (work .entry)) (now (work .exit)) r ⌝ }
 {
-    let shape = Shape {
-        width: burst.width as usize,
-        height: burst.height as usize,
-        count: burst.count as usize,
-        row_length: burst.row_length as usize,
-    };
     let iso = noise.iso;
     let base = Curve {
         shot: noise.shot,
         read: noise.read,
     };
     let noise = Noise::Iso { iso, base };
-    let black = burst.black;
-    let tuning = Tuning {
-        strength: tuning.strength,
-        black,
-    };
-    stacker::merge::merge(
-        shape,
-        burst.reference as usize,
-        noise,
-        tuning,
-        samples,
-        vectors,
-        &mut *output,
-        &mut *work,
-    )
+    with_noise(burst, noise, tuning, samples, vectors, output, work)
 }

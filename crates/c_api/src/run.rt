@@ -12,17 +12,16 @@ use recipe::Tuning;
 use stacker::Alignment;
 
 // Align, then merge.
-#[no_mangle]
-pub extern "C" fn stacker_run(
+fn with_noise(
     burst: Burst,
-    noise: BurstNoise,
+    noise: Noise,
     tuning: MergeTuning,
     samples: &[u16],
     vectors: &mut [i32],
     output: &mut [u16],
     work: &mut [i64],
 ) -> Alignment
-    ensures { λ r. ⌜ Ran (shapeOf burst) (burst .reference) (measured noise) (tuned burst tuning) (now (samples .entry)) (now (vectors .entry)) (now (vectors .exit)) (now (output .entry)) (now (output .exit)) (now (work .entry)) (now (work .exit)) r ⌝ }
+    ensures { λ r. ⌜ Ran (shapeOf burst) (burst .reference) noise (tuned burst tuning) (now (samples .entry)) (now (vectors .entry)) (now (vectors .exit)) (now (output .entry)) (now (output .exit)) (now (work .entry)) (now (work .exit)) r ⌝ }
 {
     let shape = Shape {
         width: burst.width as usize,
@@ -30,10 +29,6 @@ pub extern "C" fn stacker_run(
         count: burst.count as usize,
         row_length: burst.row_length as usize,
     };
-    let noise = Noise::Measured(Curve {
-        shot: noise.shot,
-        read: noise.read,
-    });
     let black = burst.black;
     let tuning = Tuning {
         strength: tuning.strength,
@@ -51,6 +46,26 @@ pub extern "C" fn stacker_run(
     )
 }
 
+// The same with the burst's own curve.
+#[no_mangle]
+pub extern "C" fn stacker_run(
+    burst: Burst,
+    noise: BurstNoise,
+    tuning: MergeTuning,
+    samples: &[u16],
+    vectors: &mut [i32],
+    output: &mut [u16],
+    work: &mut [i64],
+) -> Alignment
+    ensures { λ r. ⌜ Ran (shapeOf burst) (burst .reference) (measured noise) (tuned burst tuning) (now (samples .entry)) (now (vectors .entry)) (now (vectors .exit)) (now (output .entry)) (now (output .exit)) (now (work .entry)) (now (work .exit)) r ⌝ }
+{
+    let noise = Noise::Measured(Curve {
+        shot: noise.shot,
+        read: noise.read,
+    });
+    with_noise(burst, noise, tuning, samples, vectors, output, work)
+}
+
 // The same with the curve for ISO 100.
 #[no_mangle]
 pub extern "C" fn stacker_run_iso(
@@ -64,31 +79,11 @@ pub extern "C" fn stacker_run_iso(
 ) -> Alignment
     ensures { λ r. ⌜ Ran (shapeOf burst) (burst .reference) (atIso noise) (tuned burst tuning) (now (samples .entry)) (now (vectors .entry)) (now (vectors .exit)) (now (output .entry)) (now (output .exit)) (now (work .entry)) (now (work .exit)) r ⌝ }
 {
-    let shape = Shape {
-        width: burst.width as usize,
-        height: burst.height as usize,
-        count: burst.count as usize,
-        row_length: burst.row_length as usize,
-    };
     let iso = noise.iso;
     let base = Curve {
         shot: noise.shot,
         read: noise.read,
     };
     let noise = Noise::Iso { iso, base };
-    let black = burst.black;
-    let tuning = Tuning {
-        strength: tuning.strength,
-        black,
-    };
-    stacker::run::run(
-        shape,
-        burst.reference as usize,
-        noise,
-        tuning,
-        samples,
-        &mut *vectors,
-        &mut *output,
-        &mut *work,
-    )
+    with_noise(burst, noise, tuning, samples, vectors, output, work)
 }
