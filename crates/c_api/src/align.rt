@@ -1,8 +1,8 @@
 // Align, for C.
 ghost use Rattle.stacker.specs.Calls.{Aligned};
-ghost use Rattle.c_api.specs.Parameters.{shapeOf};
-use crate::Burst;
-use geometry::Shape;
+ghost use Rattle.descriptions.specs.Parameters.{shapeOf};
+use descriptions::Burst;
+use descriptions::shape_of;
 use stacker::Alignment;
 
 // A burst to its vectors.
@@ -15,14 +15,8 @@ pub extern "C" fn stacker_align(
 ) -> Alignment
     ensures { λ r. ⌜ Aligned (shapeOf burst) (burst .reference) (now (samples .entry)) (now (vectors .entry)) (now (vectors .exit)) (now (work .entry)) (now (work .exit)) r ⌝ }
 {
-    let shape = Shape {
-        width: burst.width as usize,
-        height: burst.height as usize,
-        count: burst.count as usize,
-        row_length: burst.row_length as usize,
-    };
     stacker::align::align(
-        shape,
+        shape_of(burst),
         burst.reference as usize,
         samples,
         &mut *vectors,

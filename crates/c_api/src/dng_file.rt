@@ -1,9 +1,10 @@
 // Reading a DNG file, for C.
 ghost use Rattle.dng.specs.Reading.{FrameRead};
-ghost use Rattle.c_api.specs.Parameters.{shapeOf, ofFrames};
-use crate::Frames;
+ghost use Rattle.descriptions.specs.Parameters.{shapeOf, ofFrames};
+use descriptions::Frames;
+use descriptions::of_frames;
+use descriptions::shape_of;
 use dng::DngRead;
-use geometry::Shape;
 
 // Reads a DNG file into one frame of the lent samples. The black levels of the description are not read.
 #[no_mangle]
@@ -15,11 +16,6 @@ pub extern "C" fn stacker_read_dng(
 ) -> DngRead
     ensures { λ r. ⌜ FrameRead (now (file .entry)) (shapeOf (ofFrames frames)) frame (now (samples .entry)) r (now (samples .exit)) ⌝ }
 {
-    let shape = Shape {
-        width: frames.width as usize,
-        height: frames.height as usize,
-        count: frames.count as usize,
-        row_length: frames.row_length as usize,
-    };
+    let shape = shape_of(of_frames(frames));
     dng::read_dng(file, shape, frame as usize, &mut *samples)
 }

@@ -1,52 +1,17 @@
 // Align and merge, for C: with the burst's own noise curve, or with that of ISO 100.
 ghost use Rattle.stacker.specs.Calls.{Ran};
-ghost use Rattle.c_api.specs.Parameters.{shapeOf, measured, atIso, tuned};
-use crate::Burst;
-use crate::BurstNoise;
-use crate::IsoNoise;
-use crate::MergeTuning;
-use geometry::Shape;
-use noise::Curve;
-use noise::Noise;
-use recipe::Tuning;
+ghost use Rattle.descriptions.specs.Parameters.{shapeOf, measured, atIso, tuned};
+use descriptions::Burst;
+use descriptions::BurstNoise;
+use descriptions::IsoNoise;
+use descriptions::MergeTuning;
+use descriptions::at_iso;
+use descriptions::measured;
+use descriptions::shape_of;
+use descriptions::tuned;
 use stacker::Alignment;
 
-// Align, then merge.
-fn with_noise(
-    burst: Burst,
-    noise: Noise,
-    tuning: MergeTuning,
-    samples: &[u16],
-    vectors: &mut [i32],
-    output: &mut [u16],
-    work: &mut [i64],
-) -> Alignment
-    ensures { λ r. ⌜ Ran (shapeOf burst) (burst .reference) noise (tuned burst tuning) (now (samples .entry)) (now (vectors .entry)) (now (vectors .exit)) (now (output .entry)) (now (output .exit)) (now (work .entry)) (now (work .exit)) r ⌝ }
-{
-    let shape = Shape {
-        width: burst.width as usize,
-        height: burst.height as usize,
-        count: burst.count as usize,
-        row_length: burst.row_length as usize,
-    };
-    let black = burst.black;
-    let tuning = Tuning {
-        strength: tuning.strength,
-        black,
-    };
-    stacker::run::run(
-        shape,
-        burst.reference as usize,
-        noise,
-        tuning,
-        samples,
-        &mut *vectors,
-        &mut *output,
-        &mut *work,
-    )
-}
-
-// The same with the burst's own curve.
+// Align, then merge, with the burst's own curve.
 #[no_mangle]
 pub extern "C" fn stacker_run(
     burst: Burst,
@@ -59,11 +24,16 @@ pub extern "C" fn stacker_run(
 ) -> Alignment
     ensures { λ r. ⌜ Ran (shapeOf burst) (burst .reference) (measured noise) (tuned burst tuning) (now (samples .entry)) (now (vectors .entry)) (now (vectors .exit)) (now (output .entry)) (now (output .exit)) (now (work .entry)) (now (work .exit)) r ⌝ }
 {
-    let noise = Noise::Measured(Curve {
-        shot: noise.shot,
-        read: noise.read,
-    });
-    with_noise(burst, noise, tuning, samples, vectors, output, work)
+    stacker::run::run(
+        shape_of(burst),
+        burst.reference as usize,
+        measured(noise),
+        tuned(burst, tuning),
+        samples,
+        &mut *vectors,
+        &mut *output,
+        &mut *work,
+    )
 }
 
 // The same with the curve for ISO 100.
@@ -79,11 +49,14 @@ pub extern "C" fn stacker_run_iso(
 ) -> Alignment
     ensures { λ r. ⌜ Ran (shapeOf burst) (burst .reference) (atIso noise) (tuned burst tuning) (now (samples .entry)) (now (vectors .entry)) (now (vectors .exit)) (now (output .entry)) (now (output .exit)) (now (work .entry)) (now (work .exit)) r ⌝ }
 {
-    let iso = noise.iso;
-    let base = Curve {
-        shot: noise.shot,
-        read: noise.read,
-    };
-    let noise = Noise::Iso { iso, base };
-    with_noise(burst, noise, tuning, samples, vectors, output, work)
+    stacker::run::run(
+        shape_of(burst),
+        burst.reference as usize,
+        at_iso(noise),
+        tuned(burst, tuning),
+        samples,
+        &mut *vectors,
+        &mut *output,
+        &mut *work,
+    )
 }

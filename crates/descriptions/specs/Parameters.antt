@@ -1,17 +1,18 @@
 -- What the descriptions that C passes stand for.
 use Rattle.geometry.specs.declared.Shape.{Shape}
+use Rattle.geometry.specs.Shape.{shaped}
 use Rattle.noise.specs.declared.Noise.{Noise}
 use Rattle.noise.specs.declared.Noise.the-variants.{Measured, Iso}
 use Rattle.recipe.specs.declared.Tuning.{Tuning}
-use Rattle.c_api.specs.declared.Burst.{Burst}
-use Rattle.c_api.specs.declared.Frames.{Frames}
-use Rattle.c_api.specs.declared.BurstNoise.{BurstNoise}
-use Rattle.c_api.specs.declared.IsoNoise.{IsoNoise}
-use Rattle.c_api.specs.declared.MergeTuning.{MergeTuning}
+use Rattle.descriptions.specs.declared.Burst.{Burst}
+use Rattle.descriptions.specs.declared.Frames.{Frames}
+use Rattle.descriptions.specs.declared.BurstNoise.{BurstNoise}
+use Rattle.descriptions.specs.declared.IsoNoise.{IsoNoise}
+use Rattle.descriptions.specs.declared.MergeTuning.{MergeTuning}
 
 -- "Width W and height H", "N [..] frames", "a row length L" (request L9)
 abbrev pub shapeOf : Burst → Shape
-shapeOf burst = record { width = burst .width; height = burst .height; count = burst .count; «row_length» = burst .«row_length» }
+shapeOf burst = shaped (burst .width) (burst .height) (burst .count) (burst .«row_length»)
 
 -- frames without a reference (request L1): a burst of which the index is not read
 abbrev pub ofFrames : Frames → Burst
