@@ -17,8 +17,8 @@ use Rattle.sequences.specs.Place.{row-room}
 use Rattle.pyramid.specs.WordsLaws.{Kept}
 use Rattle.pyramid.specs.Layout.{pyramidLength, alignLength, Levels, Built}
 use Rattle.pyramid.specs.LayoutLaws.{align-fits, built-kept, levels-kept}
-use Rattle.pyramid.specs.Frame.{Frame}
-use Rattle.pyramid.specs.FrameLaws.{frame-fits}
+use Rattle.bayer.specs.Frame.{Frame}
+use Rattle.bayer.specs.FrameLaws.{frame-fits}
 use Rattle.alignment.specs.Fields.{field0, residualSum}
 use Rattle.alignment.specs.Frames.{pairs, vectorsOf, residualOf}
 use Rattle.alignment.specs.Magnitudes.{frameRowsMost}

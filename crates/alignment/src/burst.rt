@@ -4,7 +4,7 @@ ghost use lib.ListN.{length};
 ghost use Rattle.geometry.specs.Read.{sampleAt};
 ghost use Rattle.geometry.specs.Tiles.{frameParts};
 ghost use Rattle.pyramid.specs.Layout.{alignLength, Levels};
-ghost use Rattle.pyramid.specs.Frame.{Frame};
+ghost use Rattle.bayer.specs.Frame.{Frame};
 ghost use Rattle.alignment.specs.Burst.{Ready, AlignedBurst, OneAligned};
 use crate::frame::align_levels;
 use fields::Sums;

@@ -8,11 +8,11 @@ use file_lines::check_line;
 use file_lines::has_lf;
 use file_lines::value_at;
 use geometry::Shape;
-use limits::sizes::count_refusal;
-use limits::sizes::reference_refusal;
-use limits::sizes::size_refusal;
 use noise::level_refusal;
 use noise::strength_refusal;
+use sizes::count_refusal;
+use sizes::reference_refusal;
+use sizes::size_refusal;
 
 // The seven values of a file's second line.
 pub struct Header {

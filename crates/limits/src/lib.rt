@@ -1,6 +1,4 @@
-// Which sizes, lengths and values are let through: refusals 1 to 7, 11, 12 and 23, in their order, and the length question.
-pub mod bounds;
+// Tests 1 to 7 and 23 in their order, the lengths that 4 to 7 test, and the length question.
 pub mod lengths;
 pub mod order;
 pub mod question;
-pub mod sizes;

@@ -8,11 +8,11 @@ use crate::lengths::output_length;
 use crate::lengths::sample_length;
 use crate::lengths::vector_length;
 use crate::lengths::work_length;
-use crate::sizes::count_refusal;
-use crate::sizes::reference_refusal;
-use crate::sizes::row_refusal;
-use crate::sizes::size_refusal;
 use geometry::Shape;
+use sizes::count_refusal;
+use sizes::reference_refusal;
+use sizes::row_refusal;
+use sizes::size_refusal;
 
 // Tests 1 to 3, and 23.
 pub fn frame_refusal(shape: Shape, reference: usize) -> u64

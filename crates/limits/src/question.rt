@@ -7,12 +7,12 @@ use crate::lengths::output_length;
 use crate::lengths::sample_length;
 use crate::lengths::vector_length;
 use crate::lengths::work_length;
-use crate::sizes::count_refusal;
-use crate::sizes::row_refusal;
-use crate::sizes::size_refusal;
 use geometry::Shape;
 use geometry::shaped;
 use geometry::tiles::FINEST_SIDE;
+use sizes::count_refusal;
+use sizes::row_refusal;
+use sizes::size_refusal;
 
 // The length that refusal `number` tests, from 4 to 7; else 0.
 fn length_tested(shape: Shape, number: u64) -> u64

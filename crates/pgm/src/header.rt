@@ -6,10 +6,10 @@ ghost use Rattle.printing.specs.Put.{Printed};
 ghost use Rattle.pgm.specs.Form.{headerOf, fileLength, sizesAllowed, pgmLength};
 ghost use Rattle.pgm.specs.Fits.{Sized};
 use crate::digits::digits;
-use limits::sizes::size_allowed;
 use printing::pieces::put_byte;
 use printing::pieces::put_bytes;
 use printing::pieces::put_number;
+use sizes::size_allowed;
 
 // Both sizes are allowed: refusal 1 would not stand.
 pub fn sizes_allowed(width: usize, height: usize) -> bool

@@ -4,10 +4,10 @@ use native.Mathlib.Nat.{zero-add, add-zero}
 use Rattle.geometry.specs.Read.{inside}
 use Rattle.geometry.specs.ReadLaws.{inside-below}
 use Rattle.sequences.specs.Write.{written, Writing, written-in}
-use Rattle.pyramid.specs.Magnitudes.{columnMost}
-use Rattle.pyramid.specs.Pyramid.{weights, tap, weighted, halved}
-use Rattle.pyramid.specs.Columns.{columnSum, edgedSum}
-use Rattle.pyramid.specs.PyramidLaws.{column-most, halved-columns, inside-tap}
+use Rattle.halving.specs.Magnitudes.{columnMost}
+use Rattle.halving.specs.Halving.{weights, tap, weighted, halved}
+use Rattle.halving.specs.Columns.{columnSum, edgedSum}
+use Rattle.halving.specs.HalvingLaws.{column-most, halved-columns, inside-tap}
 use Rattle.pyramid.specs.Words.{imageAt, Source}
 use Rattle.pyramid.proofs.Ends.{ends-done}
 

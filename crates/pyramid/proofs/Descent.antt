@@ -4,8 +4,8 @@ use mathlib.Core.Logic.{⊎-elim}
 use native.Mathlib.Nat.{add-zero, eq-or-lt-of-le, le-refl}
 use native.Mathlib.Numerals.{add-one}
 use Rattle.geometry.specs.Read.{Image}
-use Rattle.pyramid.specs.Pyramid.{halved}
-use Rattle.pyramid.specs.PyramidLaws.{halved-agree, halved-most}
+use Rattle.halving.specs.Halving.{halved}
+use Rattle.halving.specs.HalvingLaws.{halved-agree, halved-most}
 use Rattle.pyramid.specs.Words.{imageAt, laid, Source}
 use Rattle.pyramid.specs.WordsLaws.{Kept, own-image, holds-source, holds-agree, kept-holds, laid-kept, laid-after, laid-holds}
 use Rattle.pyramid.specs.Chain.{halves, wordsBefore, chain, HoldsImage, Room, Halvings}

@@ -3,7 +3,7 @@ use Rattle.algebra.specs.Prelude.{_≡_, refl, ap, ℕ, zero, suc, _+_, _*_, _/
 use mathlib.Core.Logic.{⊎-elim}
 use native.Mathlib.Nat.{mul-le-mul, pow-suc, pow-le-pow-right, eq-or-lt-of-le}
 use Rattle.geometry.specs.Read.{Image}
-use Rattle.pyramid.specs.PyramidLaws.{halved-agree}
+use Rattle.halving.specs.HalvingLaws.{halved-agree}
 use Rattle.pyramid.specs.Chain.{halves, wordsBefore, chain}
 
 -- a size stays at most the first, and above 0 down to the last image

@@ -1,9 +1,4 @@
-pub mod Magnitudes
 pub mod Pyramid
-pub mod Columns
-pub mod PyramidLaws
-pub mod Frame
-pub mod FrameLaws
 pub mod Words
 pub mod WordsLaws
 pub mod Chain

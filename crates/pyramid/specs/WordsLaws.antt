@@ -9,8 +9,8 @@ use Rattle.sequences.specs.Tab.{tab}
 use Rattle.sequences.specs.TabLaws.{length-tab}
 use Rattle.sequences.specs.Place.{row-room, place-row, place-column}
 use Rattle.sequences.specs.Write.{written, Writing, written-in, written-before, written-after, written-length}
-use Rattle.pyramid.specs.Pyramid.{halved}
-use Rattle.pyramid.specs.PyramidLaws.{halved-agree}
+use Rattle.halving.specs.Halving.{halved}
+use Rattle.halving.specs.HalvingLaws.{halved-agree}
 use Rattle.pyramid.specs.Words.{wordAt, imageAt, wordOf, laid, Holds, Row, Source}
 
 -- l has d's length and its first n words

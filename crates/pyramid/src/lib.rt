@@ -1,5 +1,5 @@
 // The pyramid of a frame: level 0, halving, and the four levels in the work area.
-pub mod halving;
+pub mod images;
 pub mod squares;
 
 ghost use mathlib.Core.Path.{_≡_};
@@ -7,9 +7,9 @@ ghost use Prim.Native.Nat.{_+_, _≤_};
 ghost use lib.ListN.{length};
 ghost use Rattle.geometry.specs.Fits.{Allowed};
 ghost use Rattle.geometry.specs.Read.{sampleAt};
-ghost use Rattle.pyramid.specs.Frame.{Frame};
+ghost use Rattle.bayer.specs.Frame.{Frame};
 ghost use Rattle.pyramid.specs.Layout.{offset, pyramidLength, Built};
-use crate::halving::halve_down;
+use crate::images::halve_down;
 use crate::squares::lay_squares;
 use geometry::Shape;
 

@@ -1,6 +1,6 @@
-// Whether a pair of tiles is worked out in double, and whether its quotients are too: V·|Q| is at most 2^49 at each bin of both planes. The latter is decided from
-// the differences, before the transform: a part of Q is at most 17 times the sum of their magnitudes, and at most 2^24 whatever they are. Magnitudes are added up in the pair's thirty-two
-// columns, where sixteen of them fit 16 bits: the compiler takes eight columns at a time.
+// Whether a pair of tiles is worked out in double, and whether its quotients are too: V·|Q| is at most 2^49 at each bin of both planes. The latter is decided
+// from the differences, before the transform: a part of Q is at most 17 times the sum of their magnitudes, and at most 2^24 whatever they are. Magnitudes are
+// added up in the pair's thirty-two columns, where sixteen of them fit 16 bits: the compiler takes eight columns at a time.
 ghost use mathlib.Core.Path.{_≡_};
 ghost use mathlib.Core.Bool.{true};
 ghost use Prim.Native.Nat.{_+_, _*_, _≤_, _<_};

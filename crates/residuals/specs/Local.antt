@@ -1,7 +1,7 @@
 -- Inner vocabulary: squares of samples in local arrays: a square's rows stand one after the other.
 use Rattle.algebra.specs.Prelude.{Bool, List, ℕ, _+_, _*_, _≤_, _<_, length, getD}
 use Rattle.algebra.specs.Sums.{sumN}
-use Rattle.pyramid.specs.Magnitudes.{valueMost}
+use Rattle.halving.specs.Magnitudes.{valueMost}
 use Rattle.residuals.specs.Residual.{gap, difference}
 
 -- the sum of differences of `side` samples, those of the tile from `a` on and of the window from `b` on

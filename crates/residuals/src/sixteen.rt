@@ -6,7 +6,7 @@ ghost use Prim.Native.Nat.{_+_, _*_, _<_, _≤_};
 ghost use lib.ListN.{getD};
 ghost use Rattle.algebra.specs.Sums.{sumN};
 ghost use Rattle.sequences.specs.Tab.{tab};
-ghost use Rattle.pyramid.specs.Magnitudes.{valueMost};
+ghost use Rattle.halving.specs.Magnitudes.{valueMost};
 ghost use Rattle.residuals.specs.Magnitudes.{squareMost, squaredRowMost, fourMost, pairMost, totalMost};
 ghost use Rattle.residuals.specs.Residual.{gap};
 ghost use Rattle.residuals.specs.Local.{rowSum, squareSum, columnSum, besideSum, Compared};

@@ -8,7 +8,9 @@ use Rattle.geometry.specs.Read.{Image, read, sampleAt}
 use Rattle.geometry.specs.Vectors.{otherFrame}
 use Rattle.geometry.specs.Tiles.{level0, levelSize}
 use Rattle.geometry.specs.LevelTiles.{levelTiles}
-use Rattle.pyramid.specs.Pyramid.{bayerSum, weighted, halved, quartered, image0, image1, image2, image3}
+use Rattle.bayer.specs.Bayer.{bayerSum}
+use Rattle.halving.specs.Halving.{weighted, halved}
+use Rattle.pyramid.specs.Pyramid.{quartered, image0, image1, image2, image3}
 use Rattle.pyramid.specs.Layout.{tiles}
 use Rattle.residuals.specs.declared.Tile.{Tile}
 use Rattle.geometry.specs.declared.vectors.Vector.{Vector}

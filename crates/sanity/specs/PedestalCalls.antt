@@ -3,7 +3,7 @@
 use Rattle.algebra.specs.Prelude.{_≡_, refl, sym, ap, _∙_, List, [], _∷_, _++_, ℕ, zero, suc, _*_, _/_, _%_, _<_, length, getD, ℤ}
 use Rattle.geometry.specs.declared.Shape.{Shape}
 use Rattle.limits.specs.Order.{mergeShapeTests}
-use Rattle.limits.specs.Bounds.{sampleRefusal, vectorRefusal}
+use Rattle.values.specs.Bounds.{sampleRefusal, vectorRefusal}
 use Rattle.refusals.specs.Tests.{_before_, first}
 use Rattle.refusals.specs.Some.{some}
 use Rattle.noise.specs.declared.Noise.{Noise}

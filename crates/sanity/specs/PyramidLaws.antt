@@ -6,8 +6,10 @@ use Rattle.geometry.specs.Fits.{Allowed}
 use Rattle.geometry.specs.Read.{Image, inside, read}
 use Rattle.geometry.specs.ReadLaws.{inside-below}
 use Rattle.geometry.specs.Tiles.{level1, level2, levelSize}
-use Rattle.pyramid.specs.Pyramid.{bayerSum, halved, quartered, image0, image1, image2, image3}
-use Rattle.pyramid.specs.PyramidLaws.{halved-agree}
+use Rattle.bayer.specs.Bayer.{bayerSum}
+use Rattle.halving.specs.Halving.{halved}
+use Rattle.halving.specs.HalvingLaws.{halved-agree}
+use Rattle.pyramid.specs.Pyramid.{quartered, image0, image1, image2, image3}
 use Rattle.levels.specs.Fields.{levelAt}
 use Rattle.alignment.specs.Frames.{levelImage, pairs}
 use Rattle.sanity.specs.Frames.{Same}

@@ -15,7 +15,7 @@ use Rattle.geometry.specs.Read.{sampleAt}
 use Rattle.geometry.specs.Tiles.{tileColumns, frameParts}
 use Rattle.geometry.specs.Vectors.{otherFrame, word, wordOf, vectorList}
 use Rattle.geometry.specs.VectorLaws.{other-below}
-use Rattle.limits.specs.Bounds.{sampleRefusal}
+use Rattle.values.specs.Bounds.{sampleRefusal}
 use Rattle.geometry.specs.Fits.{Allowed, BurstFits}
 use Rattle.noise.specs.declared.Noise.{Noise}
 use Rattle.alignment.specs.Fields.{field0, residualSum}

@@ -4,8 +4,8 @@ use Rattle.refusals.specs.TestLaws.{among, passed, both-passed}
 use Rattle.geometry.specs.declared.Shape.{Shape}
 use Rattle.limits.specs.Order.{alignShapeTests, mergeShapeTests}
 use Rattle.limits.specs.OrderLaws.{align-fits, merge-fits}
-use Rattle.limits.specs.Bounds.{vectorRefusal}
-use Rattle.limits.specs.BoundLaws.{samples-fit}
+use Rattle.values.specs.Bounds.{vectorRefusal}
+use Rattle.values.specs.BoundLaws.{samples-fit}
 use Rattle.noise.specs.declared.Noise.{Noise}
 use Rattle.noise.specs.Levels.{noiseTests}
 use Rattle.noise.specs.LevelLaws.{shot-level-bound, read-level-bound, strength-most}

@@ -3,7 +3,7 @@ use Rattle.algebra.specs.Prelude.{List, [], _∷_, _++_, ℕ, length, ℤ}
 use Rattle.refusals.specs.Tests.{first}
 use Rattle.geometry.specs.declared.Shape.{Shape}
 use Rattle.limits.specs.Order.{alignShapeTests, mergeShapeTests}
-use Rattle.limits.specs.Bounds.{sampleRefusal, vectorRefusal}
+use Rattle.values.specs.Bounds.{sampleRefusal, vectorRefusal}
 use Rattle.noise.specs.declared.Noise.{Noise}
 use Rattle.noise.specs.Levels.{levelsOf, noiseTests, shotLevel, readLevel, strengthRefusal, blackRefusal}
 use Rattle.recipe.specs.declared.Merge.{Merge}

@@ -29,7 +29,7 @@ pub fn align_refusal(
     if lengths != 0 {
         return lengths;
     }
-    limits::bounds::sample_refusal(shape, samples)
+    values::sample_refusal(shape, samples)
 }
 
 // Tests 10, 18 and 11.
@@ -40,7 +40,7 @@ fn content_refusal(shape: Shape, tuning: Tuning, samples: &[u16]) -> u64
     let strength = noise::strength_refusal(tuning.strength);
     let levels = tuning.black;
     let black = noise::black_refusal(levels);
-    let sample = limits::bounds::sample_refusal(shape, samples);
+    let sample = values::sample_refusal(shape, samples);
     refusals::first(&[strength, black, sample])
 }
 

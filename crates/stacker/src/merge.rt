@@ -33,7 +33,7 @@ pub fn merge(
     if tested.refusal != 0 {
         return tested.refusal;
     }
-    let lent = limits::bounds::vector_refusal(vectors);
+    let lent = values::vector_refusal(vectors);
     if lent != 0 {
         return lent;
     }

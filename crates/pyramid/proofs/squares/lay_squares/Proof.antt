@@ -1,6 +1,6 @@
 -- Level 0 is laid row by row.
 use Rattle.geometry.specs.Read.{sampleAt}
-use Rattle.pyramid.specs.Pyramid.{bayerSum}
+use Rattle.bayer.specs.Bayer.{bayerSum}
 use Rattle.sequences.specs.Place.{row-room}
 use Rattle.pyramid.proofs.Lay.{Laying, lay-start, lay-turn, lay-done}
 use Rattle.algebra.specs.Prelude.{refl, _+_, _-_, _*_, _/_, _≤_, arith, needs}

@@ -3,7 +3,7 @@ use Rattle.algebra.specs.Prelude.{ap, _∙_, _-_, _/_, arith, needs, pos, w64}
 use mir.ValLaws.{toZ-pos}
 use Rattle.geometry.specs.Read.{sampleAt}
 use Rattle.sequences.specs.Write.{Writing, write-start, write-turn, write-done}
-use Rattle.pyramid.specs.Pyramid.{bayerSum}
+use Rattle.bayer.specs.Bayer.{bayerSum}
 use Rattle.pyramid.proofs.squares.square_row.Statement.{statement}
 use Rattle.pyramid.proofs.squares.square_row.Tie as tie
 

@@ -1,7 +1,7 @@
 -- `report::stack::run_burst`: what the file check has tested is what a run from the levels asks for.
 use Rattle.algebra.specs.Prelude.{sym, arith, needs}
 use lib.Seq.{length-take-le}
-use Rattle.limits.specs.BoundLaws.{values-samples}
+use Rattle.values.specs.BoundLaws.{values-samples}
 use Rattle.report.specs.Stack.{frameOf}
 use Rattle.report.proofs.Fits.{merge-fits}
 use Rattle.report.proofs.stack.run_burst.Statement.{statement}

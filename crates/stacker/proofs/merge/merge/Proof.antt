@@ -2,7 +2,7 @@
 use Rattle.algebra.specs.Prelude.{sym, ap₂, subst, _∙_, _≤_, needs}
 use Rattle.sequences.specs.ClearLaws.{zeros-length}
 use Rattle.refusals.specs.TestLaws.{stops, goes, lone}
-use Rattle.limits.specs.BoundLaws.{vectors-fit}
+use Rattle.values.specs.BoundLaws.{vectors-fit}
 use Rattle.recipe.specs.Scene.{sceneOf}
 use Rattle.recipe.specs.Merged.{merged}
 use Rattle.stacker.specs.Refusals.{mergeRefusal}

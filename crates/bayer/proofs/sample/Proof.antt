@@ -1,0 +1,10 @@
+-- A frame's samples are at most 4095.
+use Rattle.algebra.specs.Prelude.{arith, needs}
+use Rattle.bayer.proofs.sample.Statement.{statement}
+use Rattle.bayer.proofs.sample.Tie as tie
+
+returns : tie.Need-returns
+returns c = let s = c .before .before in (c .sample-at .ensures, omega (arith, c .sample-at .ensures, s .pre .framed .most (s .args .row) (s .args .column) (omega arith) (omega arith)))
+
+pub sample-spec : {M : Type 1} → statement M
+sample-spec = tie.close (tie.spec (λ c κs. search needs) returns)

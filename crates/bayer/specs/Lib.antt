@@ -1,0 +1,4 @@
+pub mod Bayer
+pub mod BayerLaws
+pub mod Frame
+pub mod FrameLaws

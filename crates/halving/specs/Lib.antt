@@ -1,0 +1,4 @@
+pub mod Magnitudes
+pub mod Halving
+pub mod Columns
+pub mod HalvingLaws

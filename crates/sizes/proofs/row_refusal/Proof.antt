@@ -1,0 +1,25 @@
+-- The two tests on the row length.
+use Rattle.algebra.specs.Prelude.{_+_, arith}
+use borrow.Author.Tests.{le-leb, lt-leb}
+use Rattle.geometry.specs.Shape.{rowAllowed, rowRefusal}
+use Rattle.sizes.proofs.row_refusal.Statement.{statement}
+use Rattle.sizes.proofs.row_refusal.Tie as tie
+
+returns : tie.Need-returns
+unfolding rowRefusal rowAllowed
+returns c = rw (lt-leb _ _ (c .if1 .taken))
+
+returns-2 : tie.Need-returns-2
+unfolding rowRefusal rowAllowed
+returns-2 c =
+    let s = c .before .before .before .before .args .shape in
+    rw (le-leb (s .width) (s .«row_length») (omega arith), lt-leb (s .«row_length») (s .width + 256) (omega arith))
+
+returns-3 : tie.Need-returns-3
+unfolding rowRefusal rowAllowed
+returns-3 c =
+    let s = c .before .before .before .before .args .shape in
+    rw (le-leb (s .width) (s .«row_length») (omega arith), le-leb (s .«row_length») (s .width + 256) (omega arith))
+
+pub row-refusal-spec : {M : Type 1} → statement M
+row-refusal-spec = tie.close (tie.spec returns returns-2 returns-3)

@@ -1,0 +1,66 @@
+// What the lent samples and vectors hold: refusals 11 and 12.
+ghost use mathlib.Core.Path.{_≡_};
+ghost use Prim.Native.Nat.{_+_, _%_, _≤_};
+ghost use lib.ListN.{length};
+ghost use Rattle.values.specs.Bounds.{sampleRefusal, vectorRefusal};
+ghost use Rattle.geometry.specs.Fits.{Sampled};
+ghost use Rattle.values.specs.Excess.{excess, rowAbove};
+use geometry::Shape;
+
+// 0 where none of the 64 samples from `at` on is above 4095. A sum without branches becomes vector instructions.
+fn excess(samples: &[u16], at: usize) -> u16
+    requires { ⌜ at + 64 ≤ length (now samples) ⌝ }
+    ensures { λ r. ⌜ r ≡ excess (now (samples .entry)) at ⌝ }
+{
+    let mut sum: u16 = 0;
+    for k in 0..64 {
+        sum += samples[at + k] / 4096;
+    }
+    sum
+}
+
+// One of the `width` samples from `start` on is above 4095.
+fn row_above(samples: &[u16], start: usize, width: usize) -> bool
+    requires { ⌜ (start + width ≤ length (now samples)) × (width % 64 ≡ 0) ⌝ }
+    ensures { λ r. ⌜ r ≡ rowAbove (now (samples .entry)) start width ⌝ }
+{
+    let mut column = 0;
+    while column < width {
+        if excess(samples, start + column) > 0 {
+            return true;
+        }
+        column += 64;
+    }
+    false
+}
+
+// Refusal 11, row by row: spare words are not read.
+pub fn sample_refusal(shape: Shape, samples: &[u16]) -> u64
+    requires { ⌜ Sampled shape (now samples) ⌝ }
+    ensures { λ r. ⌜ r ≡ sampleRefusal shape (now (samples .entry)) ⌝ }
+{
+    for row in 0..shape.count * shape.height {
+        if row_above(samples, row * shape.row_length, shape.width) {
+            return refusals::SAMPLE_VALUE;
+        }
+    }
+    0
+}
+
+// Refusal 12.
+pub fn vector_refusal(vectors: &[i32]) -> u64
+    ensures { λ r. ⌜ r ≡ vectorRefusal (now (vectors .entry)) ⌝ }
+{
+    let mut i = 0;
+    while i < vectors.len() {
+        let part = vectors[i];
+        if part < -172 {
+            return refusals::VECTOR_PART;
+        }
+        if part > 172 {
+            return refusals::VECTOR_PART;
+        }
+        i += 1;
+    }
+    0
+}
