@@ -1,9 +1,9 @@
-// The tests of the calls.
+// The tests that the calls share, in the order in which they are made: align's, and those of merge and run.
 ghost use mathlib.Core.Path.{_≡_};
 ghost use Rattle.refusals.specs.Tests.{first};
 ghost use Rattle.geometry.specs.Fits.{Sampled};
-ghost use Rattle.stacker.specs.Refusals.{alignRefusal, contentTests};
-ghost use Rattle.stacker.specs.Admission.{RunTested};
+ghost use Rattle.admission.specs.Refusals.{alignRefusal, contentTests};
+ghost use Rattle.admission.specs.Admission.{RunTested};
 use geometry::Shape;
 use noise::Levels;
 use noise::Noise;

@@ -1,10 +1,10 @@
--- `stacker::admission::align_refusal`: the tests of shape and lengths in one call, then 11.
+-- `admission::align_refusal`: the tests of shape and lengths in one call, then 11.
 use Rattle.algebra.specs.Prelude.{sym, _∙_, needs}
 use Rattle.refusals.specs.TestLaws.{stops, goes, lone}
 use Rattle.limits.specs.OrderLaws.{align-fits}
-use Rattle.stacker.specs.Refusals.{alignRefusal}
-use Rattle.stacker.proofs.admission.align_refusal.Statement.{statement}
-use Rattle.stacker.proofs.admission.align_refusal.Tie as tie
+use Rattle.admission.specs.Refusals.{alignRefusal}
+use Rattle.admission.proofs.align_refusal.Statement.{statement}
+use Rattle.admission.proofs.align_refusal.Tie as tie
 
 returns : tie.Need-returns
 unfolding alignRefusal

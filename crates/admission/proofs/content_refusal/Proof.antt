@@ -1,9 +1,9 @@
--- `stacker::admission::content_refusal`: each test is its definition, so the first of them is.
+-- `admission::content_refusal`: each test is its definition, so the first of them is.
 use Rattle.algebra.specs.Prelude.{_≡_, ap, _∙_, [], _∷_, ℕ, needs}
 use Rattle.refusals.specs.Tests.{first}
-use Rattle.stacker.specs.Refusals.{contentTests}
-use Rattle.stacker.proofs.admission.content_refusal.Statement.{statement}
-use Rattle.stacker.proofs.admission.content_refusal.Tie as tie
+use Rattle.admission.specs.Refusals.{contentTests}
+use Rattle.admission.proofs.content_refusal.Statement.{statement}
+use Rattle.admission.proofs.content_refusal.Tie as tie
 
 each : {a b c a′ b′ c′ : ℕ} → a ≡ a′ → b ≡ b′ → c ≡ c′ → first (a ∷ b ∷ c ∷ []) ≡ first (a′ ∷ b′ ∷ c′ ∷ [])
 each {b = b} {c} {a′} {b′} ea eb ec = ap (λ n. first (n ∷ b ∷ c ∷ [])) ea ∙ ap (λ n. first (a′ ∷ n ∷ c ∷ [])) eb ∙ ap (λ n. first (a′ ∷ b′ ∷ n ∷ [])) ec

@@ -4,8 +4,8 @@ use Rattle.geometry.specs.declared.Shape.{Shape}
 use Rattle.noise.specs.declared.Noise.{Noise}
 use Rattle.noise.specs.Levels.{levelsOf, shotLevel, readLevel}
 use Rattle.recipe.specs.declared.Tuning.{Tuning}
-use Rattle.stacker.specs.declared.admission.Tested.{Tested}
-use Rattle.stacker.specs.Refusals.{runRefusal}
+use Rattle.admission.specs.declared.Tested.{Tested}
+use Rattle.admission.specs.Refusals.{runRefusal}
 
 pub record RunTested (s : Shape) (reference : ℕ) (noise : Noise) (tuning : Tuning) (samples : List ℕ) (vectors : List ℤ) (output : List ℕ) (work : List ℤ) (r : Tested) : Type 0 where
   pub number : r .refusal ≡ runRefusal s reference noise tuning samples vectors output work

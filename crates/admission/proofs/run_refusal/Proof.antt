@@ -1,13 +1,13 @@
--- `stacker::admission::run_refusal`: 1 to 7 in one call, 8 and 9 by the levels found or refused, then 10 and 11.
+-- `admission::run_refusal`: 1 to 7 in one call, 8 and 9 by the levels found or refused, then 10 and 11.
 use Rattle.algebra.specs.Prelude.{_≡_, refl, sym, ap, _∙_, needs}
 use Rattle.refusals.specs.TestLaws.{stops, goes}
 use Rattle.noise.specs.declared.Levels.the-variants.{Found, Refused}
 use Rattle.noise.specs.Levels.{levelsOf, refusalOf, shotLevel, readLevel}
 use Rattle.limits.specs.OrderLaws.{merge-fits}
 use Rattle.noise.specs.LevelLaws.{levels-number, refused-above}
-use Rattle.stacker.specs.Refusals.{runTests}
-use Rattle.stacker.proofs.admission.run_refusal.Statement.{statement}
-use Rattle.stacker.proofs.admission.run_refusal.Tie as tie
+use Rattle.admission.specs.Refusals.{runTests}
+use Rattle.admission.proofs.run_refusal.Statement.{statement}
+use Rattle.admission.proofs.run_refusal.Tie as tie
 
 returns : tie.Need-returns
 unfolding runTests
