@@ -15,10 +15,12 @@ use Rattle.tiff.specs.Bytes.{short}
 use Rattle.tiff.specs.Directory.{headerWrong, directoryStart, entryCount, directoryOutside, timesOf}
 use Rattle.tiff.specs.Fields.{firstField, fieldOutside, valueAt}
 use Rattle.tiff.specs.FieldLaws.{HasRight, has-size, size-has}
-use Rattle.dng.specs.Tags.{ImageWidth, ImageLength, StripOffsets, StripByteCounts, tagAt, demandAt, listed, demanded}
-use Rattle.dng.specs.Refusals.{absent, valueOf, stripStart, stripLength, valueOutside, stripOutside, outside, notOnce, sizeDiffers, demandMissed, otherwise, tagTests, roomTests, stripSample, stripRefusal, dngRefusal}
-use Rattle.dng.specs.TestLaws.{neither}
-use Rattle.dng.specs.TagLaws.{listed-least, listed-most, tag-sized}
+use Rattle.dng_tags.specs.Tags.{ImageWidth, ImageLength, StripOffsets, StripByteCounts, tagAt, demandAt, listed, demanded}
+use Rattle.dng_tags.specs.Refusals.{absent, valueOf, stripStart, stripLength, valueOutside, stripOutside, outside, notOnce, sizeDiffers, demandMissed, otherwise, tagTests}
+use Rattle.dng_tags.specs.TestLaws.{neither}
+use Rattle.dng_tags.specs.TagLaws.{listed-least, listed-most, tag-sized}
+use Rattle.dng_strip.specs.Strip.{stripSample, stripRefusal}
+use Rattle.dng.specs.Refusals.{roomTests, dngRefusal}
 
 -- past 19: "header .. II 42", and directory, strip and the listed tags' values in the file
 pub record Inside (file : List ℕ) (es : List Entry) : Type 0 where

@@ -7,8 +7,8 @@ use Rattle.geometry.specs.declared.Shape.{Shape}
 use Rattle.geometry.specs.Shape.{sampleLength}
 use Rattle.limits.specs.Order.{shapeTests, frameTests}
 use Rattle.geometry.specs.ShapeLaws.{allowed, below-count, right-length}
+use Rattle.dng_strip.specs.Fits.{FrameFits}
 use Rattle.dng.specs.Refusals.{roomTests}
-use Rattle.dng.specs.Fits.{FrameFits}
 
 pub frame-fits : (s : Shape) (frame room : ℕ) → first (roomTests s frame room) ≡ 0 → FrameFits s frame room
 unfolding roomTests frameTests shapeTests

@@ -1,15 +1,8 @@
-pub mod Tags
 pub mod Refusals
-pub mod RowTests
 pub mod Curve
 pub mod Reading
-pub mod Fits
-pub mod TestLaws
-pub mod TagLaws
 pub mod FrameLaws
-pub mod StripLaws
 pub mod Acceptance
 pub mod ReadingLaws
-pub mod RowLaws
 pub mod PlaceLaws
 pub mod PassingLaws

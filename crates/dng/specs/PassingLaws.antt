@@ -8,12 +8,13 @@ use Rattle.tiff.specs.declared.Entry.{Entry}
 use Rattle.tiff.specs.Directory.{entries}
 use Rattle.tiff.specs.Fields.{firstField, fieldOutside, valueAt}
 use Rattle.tiff.specs.ScanLaws.{times-past, field-past}
+use Rattle.dng_tags.specs.Tags.{ImageWidth, ImageLength, StripOffsets, StripByteCounts, NoiseProfile, BlackLevel, tags, tagAt, demands, demandAt, hasBlack, listed, demanded}
+use Rattle.dng_tags.specs.Refusals.{absent, valueOf, stripStart, stripLength, valueOutside, stripOutside, outside, notOnce, sizeDiffers, demandMissed, otherwise, tagTests}
+use Rattle.dng_tags.specs.TagLaws.{listed-least}
+use Rattle.dng_strip.specs.StripLaws.{same-test}
 use Rattle.dng.specs.declared.DngRead.{DngRead}
-use Rattle.dng.specs.Tags.{ImageWidth, ImageLength, StripOffsets, StripByteCounts, NoiseProfile, BlackLevel, tags, tagAt, demands, demandAt, hasBlack, listed, demanded}
-use Rattle.dng.specs.Refusals.{absent, valueOf, stripStart, stripLength, valueOutside, stripOutside, outside, notOnce, sizeDiffers, demandMissed, otherwise, tagTests, dngRefusal}
+use Rattle.dng.specs.Refusals.{dngRefusal}
 use Rattle.dng.specs.Reading.{blackAt, acceptedAnswer, answerOf, FrameReadBy, FrameRead}
-use Rattle.dng.specs.TestLaws.{same-test}
-use Rattle.dng.specs.TagLaws.{listed-least}
 
 -- a tag that is not listed beside the entries es, and is not 50714
 pub record Unlisted (tag : ℕ) (es : List Entry) : Type 0 where

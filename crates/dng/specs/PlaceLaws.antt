@@ -10,13 +10,15 @@ use Rattle.geometry.specs.declared.Shape.{Shape}
 use Rattle.geometry.specs.Shape.{rowStride}
 use Rattle.geometry.specs.Read.{sampleIndex, sampleAt}
 use Rattle.tiff.specs.declared.Entry.{Entry}
+use Rattle.dng_tags.specs.Refusals.{stripStart, tagTests}
+use Rattle.dng_strip.specs.Strip.{stripSample, filledRows}
+use Rattle.dng_strip.specs.Fits.{FrameFits}
+use Rattle.dng_strip.specs.RowLaws.{row-fits, filled-length, elsewhere-before, elsewhere-behind}
 use Rattle.dng.specs.declared.DngRead.{DngRead}
-use Rattle.dng.specs.Refusals.{stripStart, stripSample, tagTests, roomTests, dngRefusal}
-use Rattle.dng.specs.Fits.{FrameFits}
+use Rattle.dng.specs.Refusals.{roomTests, dngRefusal}
 use Rattle.dng.specs.FrameLaws.{frame-fits}
-use Rattle.dng.specs.Reading.{filledRows, filled, FrameReadBy}
+use Rattle.dng.specs.Reading.{filled, FrameReadBy}
 use Rattle.dng.specs.ReadingLaws.{answer-number}
-use Rattle.dng.specs.RowLaws.{row-fits, filled-length, elsewhere-before, elsewhere-behind}
 
 -- a word that is no sample of the frame
 abbrev pub Apart : Shape → (frame k : ℕ) → Type 0

@@ -1,18 +1,18 @@
 -- Reading one frame of a burst from a DNG file.
-use Rattle.algebra.specs.Prelude.{_≡_, cond, List, [], _∷_, ℕ, zero, suc, _+_, _*_, length, pos}
+use Rattle.algebra.specs.Prelude.{_≡_, cond, List, [], _∷_, ℕ, _+_, _*_, length, pos}
 use lib.Ieee.{Float, binary64, ofBits, ofInt}
 use Rattle.refusals.specs.After.{after}
-use Rattle.sequences.specs.Written.{written}
 use Rattle.geometry.specs.declared.Shape.{Shape}
-use Rattle.geometry.specs.Read.{sampleIndex}
 use Rattle.tiff.specs.declared.Entry.{Entry}
 use Rattle.tiff.specs.Bytes.{short, eight}
 use Rattle.tiff.specs.Directory.{entries}
 use Rattle.tiff.specs.Fields.{firstField}
+use Rattle.dng_tags.specs.Tags.{NoiseProfile, BlackLevel, tagAt, hasBlack}
+use Rattle.dng_tags.specs.Refusals.{stripStart}
+use Rattle.dng_strip.specs.Strip.{filledRows}
 use Rattle.dng.specs.declared.DngRead.{DngRead}
-use Rattle.dng.specs.Tags.{NoiseProfile, BlackLevel, tagAt, hasBlack}
 use Rattle.dng.specs.Curve.{shotOf, readOf}
-use Rattle.dng.specs.Refusals.{stripStart, stripSample, dngRefusal}
+use Rattle.dng.specs.Refusals.{dngRefusal}
 
 -- "NoiseProfile (tag 51041) with one pair S, O": two DOUBLEs
 abbrev pub noiseS : List ℕ → List Entry → Float
@@ -45,12 +45,7 @@ acceptedAnswer file es =
 unfoldable pub answerOf : (number : ℕ) → List ℕ → List Entry → DngRead
 answerOf number file es = after number (refusedAnswer number) (acceptedAnswer file es)
 
--- "The reader fills one frame of the lent burst and touches no other": the strip's first rows, each at the place where that row of the frame begins
-unfoldable pub filledRows : List ℕ → (start : ℕ) → Shape → (frame rows : ℕ) → List ℕ → List ℕ
-filledRows file start s frame zero samples = samples
-filledRows file start s frame (suc row) samples =
-    written (filledRows file start s frame row samples) (sampleIndex s frame row 0) (λ column. stripSample file start (row * s .width + column)) (s .width)
-
+-- all rows of the frame
 abbrev pub filled : List ℕ → List Entry → Shape → (frame : ℕ) → List ℕ → List ℕ
 filled file es s frame samples = filledRows file (stripStart file es) s frame (s .height) samples
 

@@ -5,9 +5,11 @@ use Rattle.refusals.specs.After.{after}
 use Rattle.refusals.specs.AfterLaws.{kept, made, result-made}
 use Rattle.geometry.specs.declared.Shape.{Shape}
 use Rattle.tiff.specs.declared.Entry.{Entry}
+use Rattle.dng_tags.specs.Refusals.{stripStart}
+use Rattle.dng_strip.specs.Strip.{filledRows}
 use Rattle.dng.specs.declared.DngRead.{DngRead}
-use Rattle.dng.specs.Refusals.{stripStart, dngRefusal}
-use Rattle.dng.specs.Reading.{noiseS, noiseO, refusedAnswer, acceptedAnswer, answerOf, filledRows, filled, FrameReadBy}
+use Rattle.dng.specs.Refusals.{dngRefusal}
+use Rattle.dng.specs.Reading.{noiseS, noiseO, refusedAnswer, acceptedAnswer, answerOf, filled, FrameReadBy}
 
 module _ (file : List ℕ) (es : List Entry) (s : Shape) (frame : ℕ) (samples : List ℕ) where
   abbrev of : ℕ

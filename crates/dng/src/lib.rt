@@ -1,9 +1,6 @@
 // One frame of a burst from an Adobe DNG file, with the noise curve and the black levels that the file gives.
 mod curve;
 mod reading;
-mod strip;
-mod tags;
-mod tests;
 
 pub use reading::read_dng;
 
@@ -15,11 +12,4 @@ pub struct DngRead {
     pub shot: f64,
     pub read: f64,
     pub black: [u16; 4],
-}
-
-// A value that a file must have: of the tag at a row of the table, at an index.
-struct Demand {
-    row: usize,
-    index: usize,
-    value: usize,
 }

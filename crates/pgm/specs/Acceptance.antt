@@ -8,12 +8,14 @@ use Rattle.refusals.specs.TestLaws.{here, there, passed, refuse-not}
 use Rattle.refusals.specs.SomeLaws.{one, none, not-one, every}
 use Rattle.geometry.specs.Shape.{lengthRefusal}
 use Rattle.geometry.specs.ShapeLaws.{right-length}
-use Rattle.pgm.specs.Form.{headerOf, bytesOf, fileOf, PgmFile, fileLength}
-use Rattle.pgm.specs.Writing.{someAbove, aboveRefusal, writeRefusal}
-use Rattle.pgm.specs.Reading.{widthIn, heightIn, samplesOf, samplesAs, samplesIn, formed, refusalAs, readRefusal}
-use Rattle.pgm.specs.Blocks.{Bytes}
+use Rattle.pgm_header.specs.Header.{headerOf}
+use Rattle.pgm_samples.specs.Samples.{bytesOf, someAbove, aboveRefusal, samplesOf}
+use Rattle.pgm.specs.Form.{fileOf, PgmFile, fileLength}
+use Rattle.pgm.specs.Writing.{writeRefusal}
+use Rattle.pgm.specs.Reading.{widthIn, heightIn, samplesAs, samplesIn, formed, refusalAs, readRefusal}
+use Rattle.pgm_samples.specs.Blocks.{Bytes}
 use Rattle.pgm.specs.FormLaws.{passes, length-passes, length-stops, bytes-long, file-long}
-use Rattle.pgm.specs.SampleLaws.{bytes-drop, samples-bytes, samples-long, bytes-samples}
+use Rattle.pgm_samples.specs.SampleLaws.{bytes-drop, samples-bytes, samples-long, bytes-samples}
 use Rattle.pgm.specs.HeaderLaws.{Formed, form-sound, form-complete, width-read, height-read}
 
 -- refusal 11 passes exactly the samples up to 4095

@@ -1,17 +1,8 @@
 -- L2, the PGM file of a frame: "`P5`, LF, width, a space, height, LF, `4095`, LF, then each sample as two bytes, high byte first".
-use Rattle.algebra.specs.Prelude.{_≡_, Bool, true, cond, _&&_, List, [], _∷_, _++_, ℕ, _+_, _*_, _/_, _%_, _≤_, length, getD}
+use Rattle.algebra.specs.Prelude.{_≡_, Bool, true, cond, _&&_, List, _++_, ℕ, _+_, _*_, _≤_, length, getD}
 use Rattle.geometry.specs.Shape.{sizeAllowed}
-use Rattle.printing.specs.Ascii.{ascii}
-use Rattle.printing.specs.Decimal.{decimal}
-
--- what stands before the samples
-unfoldable pub headerOf : (width height : ℕ) → List ℕ
-headerOf width height = ascii "P5\n" ++ decimal width ++ ascii " " ++ decimal height ++ ascii "\n4095\n"
-
--- "each sample as two bytes, high byte first"
-unfoldable pub bytesOf : (samples : List ℕ) → List ℕ
-bytesOf [] = []
-bytesOf (sample ∷ samples) = sample / 256 ∷ sample % 256 ∷ bytesOf samples
+use Rattle.pgm_header.specs.Header.{headerOf}
+use Rattle.pgm_samples.specs.Samples.{bytesOf}
 
 -- the whole file
 unfoldable pub fileOf : (width height : ℕ) (frame : List ℕ) → List ℕ

@@ -9,9 +9,10 @@ use Rattle.refusals.specs.Tests.{refuse}
 use Rattle.refusals.specs.TestLaws.{refuse-not}
 use Rattle.geometry.specs.Shape.{lengthRefusal}
 use Rattle.geometry.specs.ShapeLaws.{both, allowed-size}
-use Rattle.printing.specs.Decimal.{decimal}
 use Rattle.printing.specs.Put.{put, Printed}
-use Rattle.pgm.specs.Form.{headerOf, bytesOf, fileOf, fileLength, sizesAllowed}
+use Rattle.pgm_header.specs.Header.{headerOf}
+use Rattle.pgm_samples.specs.Samples.{bytesOf}
+use Rattle.pgm.specs.Form.{fileOf, fileLength, sizesAllowed}
 use Rattle.pgm.specs.Fits.{Sized}
 
 -- the test of a size
@@ -43,10 +44,6 @@ module _ {width height : ℕ} (ok : Sized width height) where
   area-whole =
       let blocks : height ≡ height / 64 * 64 = omega (arith, ok .high .whole) in
       ap (λ n. width * n % 64) blocks ∙ ap (λ n. n % 64) (sym (mul-assoc width (height / 64) 64)) ∙ mul-mod-left (width * (height / 64)) 64
-
-pub header-long : (width height : ℕ) → length (headerOf width height) ≡ 10 + length (decimal width) + length (decimal height)
-unfolding headerOf
-header-long width height = simp length-append (omega arith)
 
 pub bytes-long : (samples : List ℕ) → length (bytesOf samples) ≡ 2 * length samples
 unfolding bytesOf

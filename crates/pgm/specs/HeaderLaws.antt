@@ -7,11 +7,12 @@ use borrow.Author.Tests.{eq-eqb, eqb-true, not-true, not-false}
 use Rattle.geometry.specs.ShapeLaws.{both}
 use Rattle.refusals.specs.SomeLaws.{none, not-one}
 use Rattle.printing.specs.Decimal.{decimal}
-use Rattle.pgm.specs.Form.{headerOf, fileLength, sizesAllowed}
+use Rattle.pgm_header.specs.Header.{headerOf, leading}
+use Rattle.pgm.specs.Form.{fileLength, sizesAllowed}
 use Rattle.pgm.specs.Fits.{Sized}
-use Rattle.pgm.specs.Reading.{leading, widthIn, heightIn, differs, formed}
+use Rattle.pgm.specs.Reading.{widthIn, heightIn, differs, formed}
 use Rattle.pgm.specs.FormLaws.{sized}
-use Rattle.pgm.specs.DigitLaws.{leading-decimal}
+use Rattle.pgm_header.specs.DigitLaws.{leading-decimal}
 
 -- the bytes are a header of an allowed size and two bytes for each sample
 pub record Formed (width height : ℕ) (bytes raster : List ℕ) : Type 0 where

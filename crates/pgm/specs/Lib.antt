@@ -2,10 +2,7 @@ pub mod Form
 pub mod Writing
 pub mod Reading
 pub mod Fits
-pub mod Blocks
 pub mod Acceptance
 pub mod RoundTrip
 pub mod FormLaws
-pub mod SampleLaws
-pub mod DigitLaws
 pub mod HeaderLaws

@@ -1,5 +1,5 @@
 -- Reading a PGM file into a lent frame, "only in that spelling, with width and height handed back": "reading 17, 6, 11".
-use Rattle.algebra.specs.Prelude.{_≡_, Bool, not, cond, _&&_, List, [], _∷_, ℕ, zero, suc, _+_, _-_, _*_, eqb, leb, length, getD, drop}
+use Rattle.algebra.specs.Prelude.{_≡_, Bool, not, _&&_, List, [], _∷_, ℕ, _+_, _*_, eqb, length, getD, drop}
 use Rattle.refusals.specs.Numbers as no
 use Rattle.refusals.specs.Tests.{refuse, first}
 use Rattle.refusals.specs.After.{after}
@@ -7,14 +7,9 @@ use Rattle.refusals.specs.Some.{some}
 use Rattle.geometry.specs.Shape.{lengthRefusal}
 use Rattle.printing.specs.Decimal.{decimal}
 use Rattle.pgm.specs.declared.PgmRead.{PgmRead}
-use Rattle.pgm.specs.Form.{headerOf, PgmFile, fileLength, sizesAllowed}
-use Rattle.pgm.specs.Writing.{aboveRefusal}
-
--- the number that the digits in front, `most` of them at most, write behind those of `value`
-unfoldable pub leading : (most value : ℕ) → List ℕ → ℕ
-leading zero value bytes = value
-leading (suc most) value [] = value
-leading (suc most) value (byte ∷ bytes) = cond (leb 48 byte && leb byte 57) (leading most (value * 10 + (byte - 48)) bytes) value
+use Rattle.pgm_header.specs.Header.{headerOf, leading}
+use Rattle.pgm.specs.Form.{PgmFile, fileLength, sizesAllowed}
+use Rattle.pgm_samples.specs.Samples.{aboveRefusal, samplesOf}
 
 -- the only width and the only height that the bytes can be a file of: an allowed size has at most four digits
 unfoldable pub widthIn : List ℕ → ℕ
@@ -31,12 +26,6 @@ differs text bytes = some (length text) (λ k. not (eqb (getD bytes k 0) (getD t
 unfoldable pub formed : (width height : ℕ) → List ℕ → Bool
 formed width height bytes =
     sizesAllowed width height && (eqb (length bytes) (fileLength width height) && not (differs (headerOf width height) bytes))
-
--- two bytes to a sample, the high one first
-unfoldable pub samplesOf : List ℕ → List ℕ
-samplesOf [] = []
-samplesOf (byte ∷ []) = []
-samplesOf (high ∷ low ∷ bytes) = (high * 256 + low) ∷ samplesOf bytes
 
 -- the samples behind the header of a size
 unfoldable pub samplesAs : (width height : ℕ) → List ℕ → List ℕ

@@ -1,18 +1,11 @@
 -- Writing a frame into a lent byte buffer: "Writing tests 1, 6, 16, 11".
-use Rattle.algebra.specs.Prelude.{_≡_, Bool, not, List, [], _∷_, ℕ, _*_, ltb, length, getD}
+use Rattle.algebra.specs.Prelude.{_≡_, not, List, [], _∷_, ℕ, _*_, length}
 use Rattle.refusals.specs.Numbers as no
 use Rattle.refusals.specs.Tests.{refuse, first}
 use Rattle.refusals.specs.After.{after}
-use Rattle.refusals.specs.Some.{some}
 use Rattle.geometry.specs.Shape.{lengthRefusal}
+use Rattle.pgm_samples.specs.Samples.{aboveRefusal}
 use Rattle.pgm.specs.Form.{fileOf, fileLength, sizesAllowed}
-
--- refusal 11: "sample > 4095"
-unfoldable pub someAbove : (samples : List ℕ) → Bool
-someAbove samples = some (length samples) (λ k. ltb 4095 (getD samples k 0))
-
-unfoldable pub aboveRefusal : (samples : List ℕ) → ℕ
-aboveRefusal samples = refuse no.sampleValue (someAbove samples)
 
 -- 1: "W or H not allowed"; 6: "a frame buffer of wrong length"; 16: "a byte buffer of wrong length when writing"
 unfoldable pub writeRefusal : (width height : ℕ) (frame bytes : List ℕ) → ℕ

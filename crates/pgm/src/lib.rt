@@ -1,11 +1,9 @@
 // A frame as a Netpbm PGM file: how long it is, the writing of it into a lent byte buffer, and the reading of it back.
-mod digits;
-mod header;
+mod lengths;
 mod reading;
-mod samples;
 mod writing;
 
-pub use header::pgm_length;
+pub use lengths::pgm_length;
 pub use reading::read_pgm;
 pub use writing::write_pgm;
 

@@ -1,12 +1,12 @@
 // Writing a frame.
 ghost use mathlib.Core.Path.{_≡_};
 ghost use Rattle.pgm.specs.Writing.{writeRefusal, WritesPgm};
-use crate::header::file_length;
-use crate::header::put_header;
-use crate::header::sizes_allowed;
-use crate::samples::frame_refusal;
-use crate::samples::put_frame;
+use crate::lengths::file_length;
+use crate::lengths::sizes_allowed;
 use limits::lengths::length_refusal;
+use pgm_header::put_header;
+use pgm_samples::frame_refusal;
+use pgm_samples::put_frame;
 use refusals::BYTE_LENGTH;
 use refusals::OUTPUT_LENGTH;
 use refusals::SIZE;

@@ -13,7 +13,7 @@ use Rattle.recipe.specs.Scene.{sceneOf}
 use Rattle.recipe.specs.Merged.{merged}
 use Rattle.stacker.specs.declared.Alignment.{Alignment}
 use Rattle.recipe.specs.declared.Tuning.{Tuning}
-use Rattle.stacker.specs.Refusals.{alignRefusal, runRefusal, mergeRefusal, mergeOf}
+use Rattle.admission.specs.Refusals.{alignRefusal, runRefusal, mergeRefusal, mergeOf}
 use Rattle.stacker.specs.Calls.{noSums, answered, Aligned, Merged, Ran}
 use Rattle.pipeline.specs.Levels.{Runnable}
 use Rattle.stacker.specs.AdmissionLaws.{align-passed, run-passed, merge-passed}

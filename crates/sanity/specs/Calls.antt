@@ -10,7 +10,7 @@ use Rattle.recipe.specs.Scene.{sceneOf}
 use Rattle.recipe.specs.Merged.{merged}
 use Rattle.stacker.specs.declared.Alignment.{Alignment}
 use Rattle.recipe.specs.declared.Tuning.{Tuning}
-use Rattle.stacker.specs.Refusals.{mergeOf}
+use Rattle.admission.specs.Refusals.{mergeOf}
 use Rattle.stacker.specs.Calls.{noSums, Aligned, Merged, Ran}
 use Rattle.sanity.specs.Frames.{frameWords, Alike}
 use Rattle.sanity.specs.StrengthZero as StrengthZero

@@ -12,7 +12,7 @@ use Rattle.alignment.specs.Aligned.{alignedVectors}
 use Rattle.recipe.specs.declared.Tuning.{Tuning}
 use Rattle.recipe.specs.Scene.{sceneOf, blackOf}
 use Rattle.stacker.specs.declared.Alignment.{Alignment}
-use Rattle.stacker.specs.Refusals.{contentTests, runTests, runRefusal, mergeRefusal, mergeOf}
+use Rattle.admission.specs.Refusals.{contentTests, runTests, runRefusal, mergeRefusal, mergeOf}
 use Rattle.stacker.specs.Calls.{Merged, Ran}
 use Rattle.sanity.specs.Pedestal.{zeroBlack, zero-black, plainMerged, plain-merged, word-stays}
 use Rattle.sanity.specs.AcceptedLaws.{merge-accepted, run-accepted}

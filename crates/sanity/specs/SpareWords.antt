@@ -31,7 +31,7 @@ use Rattle.sharpness.specs.Sharpness.{sharpest}
 use Rattle.sharpness.specs.SharpnessLaws.{sharpest-same}
 use Rattle.stacker.specs.declared.Alignment.{Alignment}
 use Rattle.stacker.specs.declared.Choice.{Choice}
-use Rattle.stacker.specs.Refusals.{alignRefusal, contentTests, runTests, runRefusal, mergeRefusal, mergeOf}
+use Rattle.admission.specs.Refusals.{alignRefusal, contentTests, runTests, runRefusal, mergeRefusal, mergeOf}
 use Rattle.stacker.specs.Calls.{noSums, answered, Aligned, Merged, Ran}
 use Rattle.stacker.specs.AdmissionLaws.{align-passed, run-passed, merge-passed}
 use Rattle.stacker.specs.Choosing.{choosingTests, choosingRefusal, Chosen}

@@ -12,7 +12,7 @@ use Rattle.noise.specs.LevelLaws.{shot-level-bound, read-level-bound, strength-
 use Rattle.alignment.specs.Burst.{Ready}
 use Rattle.pipeline.specs.Levels.{Runnable}
 use Rattle.recipe.specs.declared.Tuning.{Tuning}
-use Rattle.stacker.specs.Refusals.{alignRefusal, contentTests, runTests, runRefusal, mergeRefusal, mergeOf}
+use Rattle.admission.specs.Refusals.{alignRefusal, contentTests, runTests, runRefusal, mergeRefusal, mergeOf}
 
 module _ (s : Shape) (reference : ℕ) (samples : List ℕ) (vectors : List ℤ) where
   pub align-passed : (work : List ℤ) → alignRefusal s reference samples vectors work ≡ 0 → Ready s reference samples vectors work

@@ -12,7 +12,7 @@ use Rattle.recipe.specs.Merged.{merged}
 use Rattle.recipe.specs.ExactMerge.{exactAt}
 use Rattle.stacker.specs.declared.Alignment.{Alignment}
 use Rattle.recipe.specs.declared.Tuning.{Tuning}
-use Rattle.stacker.specs.Refusals.{alignRefusal, runRefusal, mergeRefusal, mergeOf}
+use Rattle.admission.specs.Refusals.{alignRefusal, runRefusal, mergeRefusal, mergeOf}
 
 -- "beside a refusal every other returned field is 0": the seven residual sums
 abbrev pub noSums : List ℕ

@@ -10,7 +10,7 @@ use Rattle.noise.specs.Levels.{noiseTests}
 use Rattle.recipe.specs.declared.Tuning.{Tuning}
 use Rattle.sharpness.specs.Sharpness.{sharpest}
 use Rattle.stacker.specs.declared.Choice.{Choice}
-use Rattle.stacker.specs.Refusals.{contentTests}
+use Rattle.admission.specs.Refusals.{contentTests}
 use Rattle.stacker.specs.Calls.{Ran}
 
 -- "Refusal 3 has no place in this call": the others of run, in its order

@@ -13,9 +13,9 @@ use Rattle.recipe.specs.declared.Tuning.{Tuning}
 use Rattle.sharpness.specs.SharpnessLaws.{lone-first}
 use Rattle.stacker.specs.declared.Alignment.{Alignment}
 use Rattle.stacker.specs.declared.Choice.{Choice}
-use Rattle.stacker.specs.declared.admission.Tested.{Tested}
-use Rattle.stacker.specs.Admission.{RunTested}
-use Rattle.stacker.specs.Refusals.{runTests, runRefusal}
+use Rattle.admission.specs.declared.Tested.{Tested}
+use Rattle.admission.specs.Admission.{RunTested}
+use Rattle.admission.specs.Refusals.{runTests, runRefusal}
 use Rattle.stacker.specs.Calls.{Ran}
 use Rattle.stacker.specs.Choosing.{choosingTests, choosingRefusal, Chosen}
 

@@ -10,12 +10,12 @@ use Rattle.recipe.specs.declared.Tuning.{Tuning}
 use Rattle.recipe.specs.Scene.{sceneOf}
 use Rattle.recipe.specs.Merged.{merged}
 use Rattle.pipeline.specs.Levels.{Runnable, RanLevels}
-use Rattle.stacker.specs.declared.admission.Tested.{Tested}
-use Rattle.stacker.specs.Admission.{RunTested}
+use Rattle.admission.specs.declared.Tested.{Tested}
+use Rattle.admission.specs.Admission.{RunTested}
 use Rattle.stacker.specs.AdmissionLaws.{run-passed}
 use Rattle.stacker.specs.CallLaws.{answer-refused, answer-accepted}
 use Rattle.stacker.specs.CloseLaws.{found-close}
-use Rattle.stacker.specs.Refusals.{runRefusal}
+use Rattle.admission.specs.Refusals.{runRefusal}
 use Rattle.stacker.specs.Calls.{noSums, Ran}
 
 -- a merge with the levels that the tests found

@@ -1,7 +1,7 @@
 // Align: a burst to its vectors.
 ghost use Rattle.stacker.specs.Calls.{Aligned};
 use crate::Alignment;
-use crate::admission::align_refusal;
+use admission::align_refusal;
 use geometry::Shape;
 use pipeline::clear;
 

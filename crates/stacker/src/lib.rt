@@ -1,5 +1,4 @@
 // The calls: each tests what it is lent in the order of the refusals' numbers, works, and clears the work area. None has a `requires`.
-mod admission;
 pub mod align;
 pub mod choose;
 pub mod merge;

@@ -1,6 +1,6 @@
 // Merge: a burst and lent vectors to the output.
 ghost use Rattle.stacker.specs.Calls.{Merged};
-use crate::admission::run_refusal;
+use admission::run_refusal;
 use geometry::Shape;
 use noise::Noise;
 use pipeline::clear;

@@ -3,12 +3,14 @@ use Rattle.algebra.specs.Prelude.{_≡_, sym, ap, _∙_, _+_, _*_, _%_, _≤_, 
 use Rattle.refusals.specs.TestLaws.{stops, goes, lone}
 use Rattle.geometry.specs.Shape.{outputLength}
 use Rattle.tiff.specs.Directory.{entries}
+use Rattle.dng_tags.specs.Refusals.{stripStart}
+use Rattle.dng_tags.specs.TagLaws.{strip-inside}
+use Rattle.dng_strip.specs.Strip.{stripRefusal}
+use Rattle.dng_strip.specs.Fits.{FrameFits}
+use Rattle.dng_strip.specs.StripLaws.{area-whole}
 use Rattle.dng.specs.ReadingLaws.{refusal, acceptance, filled-by}
-use Rattle.dng.specs.Refusals.{stripStart, stripRefusal, dngRefusal}
-use Rattle.dng.specs.Fits.{FrameFits}
-use Rattle.dng.specs.TagLaws.{strip-inside}
+use Rattle.dng.specs.Refusals.{dngRefusal}
 use Rattle.dng.specs.FrameLaws.{frame-fits}
-use Rattle.dng.specs.StripLaws.{area-whole}
 use Rattle.dng.proofs.reading.read_dng.Statement.{statement}
 use Rattle.dng.proofs.reading.read_dng.Tie as tie
 

@@ -1,6 +1,6 @@
 -- The header of the size, put into a buffer of its own, beside the bytes.
 use Rattle.algebra.specs.Prelude.{_≡_, ap, _∙_, arith, needs, length, take}
-use Rattle.pgm.specs.Form.{headerOf}
+use Rattle.pgm_header.specs.Header.{headerOf}
 use Rattle.pgm.specs.Reading.{differs}
 use Rattle.pgm.specs.FormLaws.{printed-front}
 use Rattle.pgm.proofs.reading.header_differs.Statement.{statement}

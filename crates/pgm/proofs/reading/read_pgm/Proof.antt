@@ -3,8 +3,10 @@ use Rattle.algebra.specs.Prelude.{_≡_, true, sym, ap, ap₂, _∙_, _+_, _*_,
 use Rattle.refusals.specs.AfterLaws.{kept, made}
 use Rattle.printing.specs.Decimal.{decimal}
 use Rattle.pgm.specs.declared.PgmRead.{PgmRead}
-use Rattle.pgm.specs.Form.{headerOf, fileLength}
-use Rattle.pgm.specs.Reading.{leading, widthIn, heightIn, samplesOf, samplesAs, samplesIn, formed, refusalAs, readRefusal, refusedAnswer, acceptedAnswer, answered}
+use Rattle.pgm_header.specs.Header.{headerOf, leading}
+use Rattle.pgm.specs.Form.{fileLength}
+use Rattle.pgm_samples.specs.Samples.{samplesOf}
+use Rattle.pgm.specs.Reading.{widthIn, heightIn, samplesAs, samplesIn, formed, refusalAs, readRefusal, refusedAnswer, acceptedAnswer, answered}
 use Rattle.pgm.specs.FormLaws.{area-whole}
 use Rattle.pgm.specs.HeaderLaws.{form-sized, form-long}
 use Rattle.pgm.specs.Acceptance.{readable, sound}

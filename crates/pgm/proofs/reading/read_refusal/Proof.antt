@@ -3,8 +3,8 @@ use Rattle.algebra.specs.Prelude.{_≡_, true, sym, ap, ap₂, _∙_, [], _∷_
 use borrow.Author.Tests.{not-true, not-false}
 use Rattle.refusals.specs.Tests.{first}
 use Rattle.pgm.specs.Form.{fileLength}
-use Rattle.pgm.specs.Writing.{aboveRefusal}
-use Rattle.pgm.specs.Reading.{formed, samplesOf, samplesAs, refusalAs}
+use Rattle.pgm_samples.specs.Samples.{aboveRefusal, samplesOf}
+use Rattle.pgm.specs.Reading.{formed, samplesAs, refusalAs}
 use Rattle.pgm.specs.FormLaws.{area-most, area-whole}
 use Rattle.pgm.specs.HeaderLaws.{form-sized, form-long}
 use Rattle.pgm.proofs.reading.read_refusal.Statement.{statement}

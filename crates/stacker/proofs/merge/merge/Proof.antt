@@ -5,7 +5,7 @@ use Rattle.refusals.specs.TestLaws.{stops, goes, lone}
 use Rattle.values.specs.BoundLaws.{vectors-fit}
 use Rattle.recipe.specs.Scene.{sceneOf}
 use Rattle.recipe.specs.Merged.{merged}
-use Rattle.stacker.specs.Refusals.{mergeRefusal}
+use Rattle.admission.specs.Refusals.{mergeRefusal}
 use Rattle.refusals.specs.AfterLaws.{kept, made}
 use Rattle.stacker.specs.AdmissionLaws.{run-passed}
 use Rattle.stacker.specs.CloseLaws.{output-close}

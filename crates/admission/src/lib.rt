@@ -1,0 +1,94 @@
+// The tests that the calls share, in the order in which they are made: align's, and those of merge and run.
+ghost use mathlib.Core.Path.{_≡_};
+ghost use Rattle.refusals.specs.Tests.{first};
+ghost use Rattle.geometry.specs.Fits.{Sampled};
+ghost use Rattle.admission.specs.Refusals.{alignRefusal, contentTests};
+ghost use Rattle.admission.specs.Admission.{RunTested};
+use geometry::Shape;
+use noise::Levels;
+use noise::Noise;
+use recipe::Tuning;
+
+// Tests 1 to 5, 7 and 11: those of align.
+pub fn align_refusal(
+    shape: Shape,
+    reference: usize,
+    samples: &[u16],
+    vectors: &[i32],
+    work: &[i64],
+) -> u64
+    ensures { λ r. ⌜ r ≡ alignRefusal shape reference (now (samples .entry)) (now (vectors .entry)) (now (work .entry)) ⌝ }
+{
+    let lengths = limits::order::align_shape_refusal(
+        shape,
+        reference,
+        samples.len(),
+        vectors.len(),
+        work.len(),
+    );
+    if lengths != 0 {
+        return lengths;
+    }
+    values::sample_refusal(shape, samples)
+}
+
+// Tests 10, 18 and 11.
+fn content_refusal(shape: Shape, tuning: Tuning, samples: &[u16]) -> u64
+    requires { ⌜ Sampled shape (now samples) ⌝ }
+    ensures { λ r. ⌜ r ≡ first (contentTests shape tuning (now (samples .entry))) ⌝ }
+{
+    let strength = noise::strength_refusal(tuning.strength);
+    let levels = tuning.black;
+    let black = noise::black_refusal(levels);
+    let sample = values::sample_refusal(shape, samples);
+    refusals::first(&[strength, black, sample])
+}
+
+// A refusal's number, or 0 with the levels Ls and Lr.
+pub struct Tested {
+    pub refusal: u64,
+    pub shot: u64,
+    pub read: u64,
+}
+
+// Tests 1 to 10, 18 and 11: those that merge and run share.
+pub fn run_refusal(
+    shape: Shape,
+    reference: usize,
+    noise: Noise,
+    tuning: Tuning,
+    samples: &[u16],
+    vectors: &[i32],
+    output: &[u16],
+    work: &[i64],
+) -> Tested
+    ensures { λ r. ⌜ RunTested shape reference noise tuning (now (samples .entry)) (now (vectors .entry)) (now (output .entry)) (now (work .entry)) r ⌝ }
+{
+    let lengths = limits::order::merge_shape_refusal(
+        shape,
+        reference,
+        samples.len(),
+        vectors.len(),
+        output.len(),
+        work.len(),
+    );
+    if lengths != 0 {
+        return Tested {
+            refusal: lengths,
+            shot: 0,
+            read: 0,
+        };
+    }
+    match noise::levels_of(noise) {
+        Levels::Refused(number) => Tested {
+            refusal: number,
+            shot: 0,
+            read: 0,
+        },
+        Levels::Found { shot, read } => Tested {
+            refusal: content_refusal(shape, tuning, samples),
+            shot,
+            read,
+        },
+    }
+}

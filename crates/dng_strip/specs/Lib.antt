@@ -1,0 +1,4 @@
+pub mod Strip
+pub mod Fits
+pub mod StripLaws
+pub mod RowLaws

@@ -1,0 +1,16 @@
+-- Two rows more where the tag 50714 stands.
+use Rattle.algebra.specs.Prelude.{sym, _∙_, needs}
+use Rattle.dng_tags.specs.Tags.{demanded}
+use Rattle.dng_tags.proofs.tags.demanded.Statement.{statement}
+use Rattle.dng_tags.proofs.tags.demanded.Tie as tie
+
+returns : tie.Need-returns
+unfolding demanded
+returns c = rw (sym (c .before .has-black .ensures) ∙ c .if1 .taken)
+
+returns-2 : tie.Need-returns-2
+unfolding demanded
+returns-2 c = rw (sym (c .before .has-black .ensures) ∙ c .if1 .left)
+
+pub demanded-spec : {M : Type 1} → statement M
+demanded-spec = tie.close (tie.spec (λ c κs. search needs) returns returns-2)

@@ -1,0 +1,13 @@
+-- The test as it stands.
+use borrow.Author.Needs.{needs}
+use Rattle.dng_tags.specs.Refusals.{demandMissed}
+use Rattle.dng_tags.proofs.tests.demand_missed.Statement.{statement}
+use Rattle.dng_tags.proofs.tests.demand_missed.Tie as tie
+
+returns : tie.Need-returns
+unfolding demandMissed
+returns c = rw (c .before .value .ensures .0, c .before .before .tag .ensures .0, c .before .before .before .demand .ensures .0)
+
+pub demand-missed-spec : {M : Type 1} → statement M
+demand-missed-spec = tie.close (tie.spec
+    (λ c κs. search needs) (λ c κs. search needs) (λ c κs. search needs) returns)

@@ -1,0 +1,24 @@
+-- Each test is its definition, so the first of them is.
+use Rattle.algebra.specs.Prelude.{ap, _∙_, needs}
+use Rattle.refusals.specs.Numbers as no
+use Rattle.refusals.specs.Tests.{refuse}
+use Rattle.dng_tags.specs.Refusals.{tagTests}
+use Rattle.dng_tags.proofs.tests.tag_refusal.Statement.{statement}
+use Rattle.dng_tags.proofs.tests.tag_refusal.Tie as tie
+
+returns : tie.Need-returns
+unfolding tagTests
+returns c =
+    let values = c .before .before in
+    let tags = values .before .before in
+    let structure = tags .before .before .before in
+    let outside = structure .refuse .ensures ∙ ap (refuse no.dngStructure) (structure .before .outside .ensures) in
+    let once = tags .refuse2 .ensures ∙ ap (refuse no.dngTag) (rw (tags .before .before .listed .ensures) at (tags .before .some-hit .ensures)) in
+    let otherwise = values .refuse3 .ensures ∙ ap (refuse no.dngValue) (values .before .otherwise .ensures) in
+    c .first .ensures ∙ rw (outside, once, otherwise)
+
+pub tag-refusal-spec : {M : Type 1} → statement M
+tag-refusal-spec = tie.close (tie.spec
+    (λ c κs. search needs) (λ c κs. search needs) (λ c κs. search needs) (λ c κs. search needs)
+    (λ c κs. search needs) (λ c κs. search needs) (λ c κs. search needs) (λ c. search needs)
+    (λ c κs. search needs) returns)

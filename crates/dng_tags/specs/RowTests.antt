@@ -1,0 +1,12 @@
+-- Inner vocabulary, which no public contract reaches: the tests of a row, by their names in the code.
+use Rattle.algebra.specs.Prelude.{Bool, List, ℕ}
+use Rattle.tiff.specs.declared.Entry.{Entry}
+use Rattle.dng_tags.specs.Refusals.{absent, valueOutside, notOnce, demandMissed}
+use Rattle.dng_tags.specs.declared.tests.RowTest.{RowTest}
+use Rattle.dng_tags.specs.declared.tests.RowTest.the-variants.{Outside, NotOnce, Absent, Missed}
+
+abbrev pub rowHit : RowTest → List ℕ → List Entry → (row : ℕ) → Bool
+rowHit Outside file es row = valueOutside file es row
+rowHit NotOnce file es row = notOnce es row
+rowHit Absent file es row = absent file es row
+rowHit Missed file es row = demandMissed file es row

@@ -1,0 +1,20 @@
+-- The width, then the height.
+use Rattle.algebra.specs.Prelude.{sym, _∙_, needs}
+use borrow.Author.Tests.{not-true, not-false}
+use Rattle.pgm.specs.Form.{sizesAllowed}
+use Rattle.pgm.proofs.lengths.sizes_allowed.Statement.{statement}
+use Rattle.pgm.proofs.lengths.sizes_allowed.Tie as tie
+
+returns : tie.Need-returns
+unfolding sizesAllowed
+returns c = rw (sym (c .before .size-allowed .ensures) ∙ not-true _ (c .if1 .taken))
+
+returns-2 : tie.Need-returns-2
+unfolding sizesAllowed
+returns-2 c =
+    let wide = c .before in
+    rw (sym (wide .before .size-allowed .ensures) ∙ not-false _ (wide .if1 .left)) (c .size-allowed2 .ensures)
+
+pub sizes-allowed-spec : {M : Type 1} → statement M
+sizes-allowed-spec = tie.close (tie.spec
+    (λ c κs. search needs) returns (λ c κs. search needs) returns-2)

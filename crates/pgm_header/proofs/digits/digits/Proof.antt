@@ -1,0 +1,21 @@
+-- Each branch is a number of digits.
+use Rattle.algebra.specs.Prelude.{sym, ap, arith, length}
+use Rattle.printing.specs.DecimalLaws.{decimal-small}
+use Rattle.pgm_header.specs.DigitLaws.{two, three, four}
+use Rattle.pgm_header.proofs.digits.digits.Statement.{statement}
+use Rattle.pgm_header.proofs.digits.digits.Tie as tie
+
+returns : tie.Need-returns
+returns c = (sym (ap length (decimal-small (c .if1 .taken))), omega arith)
+
+returns-2 : tie.Need-returns-2
+returns-2 c = (sym (ap length (two _ (c .before .if1 .left) (c .if2 .taken))), omega arith)
+
+returns-3 : tie.Need-returns-3
+returns-3 c = (sym (ap length (three _ (c .before .if2 .left) (c .if3 .taken))), omega arith)
+
+returns-4 : tie.Need-returns-4
+returns-4 c = (sym (ap length (four _ (c .if3 .left) (omega arith))), omega arith)
+
+pub digits-spec : {M : Type 1} → statement M
+digits-spec = tie.close (tie.spec returns returns-2 returns-3 returns-4)

@@ -1,0 +1,18 @@
+-- The digits of width and height, and ten bytes more.
+use Rattle.algebra.specs.Prelude.{_≡_, ℕ, _+_, arith, needs}
+use lib.ListN.{length, length-append}
+use Rattle.printing.specs.Decimal.{decimal}
+use Rattle.pgm_header.specs.Header.{headerOf}
+use Rattle.pgm_header.proofs.header_length.Statement.{statement}
+use Rattle.pgm_header.proofs.header_length.Tie as tie
+
+header-long : (width height : ℕ) → length (headerOf width height) ≡ 10 + length (decimal width) + length (decimal height)
+unfolding headerOf
+header-long width height = simp length-append (omega arith)
+
+returns : tie.Need-returns
+returns c = (omega (arith, header-long (c .before .before .args .width) (c .before .before .args .height)), omega arith)
+
+pub header-length-spec : {M : Type 1} → statement M
+header-length-spec = tie.close (tie.spec
+    (λ c κs. search needs) (λ c. search needs) (λ c κs. search needs) (λ c. search needs) returns)

@@ -1,0 +1,28 @@
+-- The five pieces of the header, one after the other.
+use Prim.Native.Nat.{zero-le}
+use Rattle.algebra.specs.Prelude.{arith, needs}
+use Rattle.printing.specs.PutLaws.{printed-then}
+use Rattle.pgm_header.specs.Header.{headerOf}
+use Rattle.pgm_header.proofs.put_header.Statement.{statement}
+use Rattle.pgm_header.proofs.put_header.Tie as tie
+
+returns : tie.Need-returns
+unfolding headerOf
+returns c =
+    let tail = c .before .before in
+    let high = tail .before .before .before .before .before in
+    let space = high .before .before .before .before in
+    let wide = space .before .before .before .before in
+    let magic = wide .before .before .before .before in (
+      printed-then zero-le
+          (printed-then zero-le
+          (printed-then zero-le (printed-then zero-le (magic .put-bytes .ensures) (wide .put-number .ensures .0)) (space .put-byte .ensures))
+          (high .put-number2 .ensures .0))
+          (tail .put-bytes2 .ensures),
+      omega arith,
+    )
+
+pub put-header-spec : {M : Type 1} → statement M
+put-header-spec = tie.close (tie.spec
+    (λ c. search needs) (λ c κs. search needs) (λ c κs. search needs) (λ c κs. search needs)
+    (λ c κs. search needs) (λ c. search needs) (λ c κs. search needs) (λ c. search needs) returns)

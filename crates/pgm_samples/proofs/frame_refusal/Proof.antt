@@ -1,0 +1,17 @@
+-- The bits of all samples are above 4095 where a sample is.
+use Rattle.algebra.specs.Prelude.{_∙_, needs}
+use borrow.Author.Tests.{lt-ltb, le-ltb}
+use Rattle.pgm_samples.specs.Samples.{aboveRefusal}
+use Rattle.pgm_samples.proofs.frame_refusal.Statement.{statement}
+use Rattle.pgm_samples.proofs.frame_refusal.Tie as tie
+
+returns : tie.Need-returns
+unfolding aboveRefusal
+returns c = rw (c .before .bits .ensures ∙ lt-ltb 4095 (c .before .bits .result) (c .if1 .taken))
+
+returns-2 : tie.Need-returns-2
+unfolding aboveRefusal
+returns-2 c = rw (c .before .bits .ensures ∙ le-ltb 4095 (c .before .bits .result) (c .if1 .left))
+
+pub frame-refusal-spec : {M : Type 1} → statement M
+frame-refusal-spec = tie.close (tie.spec (λ c κs. search needs) returns returns-2)
