@@ -4,7 +4,7 @@ use lib.Dec.{le→leb, lt→ltb}
 use lib.Ieee.{Float, binary64, ofInt, toSigned, inSigned, inFloat}
 use lib.Ieee.Back.{positive-back, negative-back}
 use Rattle.algebra.specs.Bound.{AtMost}
-use Rattle.lines.proofs.Held.{number-is}
+use Rattle.lines.specs.Held.{number-is}
 use Rattle.recipe.specs.Tables.{side16}
 use Rattle.recipe.specs.Correction.{quantized, filtered}
 use Rattle.spectrum.specs.Magnitudes.{binMost, gainMost}

@@ -1,7 +1,7 @@
 -- `wiener::exact::gains`: the definition's own steps.
 use Rattle.algebra.specs.Prelude.{ap₂, _∙_, [], _∷_, needs, w64}
 use lib.Ieee.{binary64, ofInt}
-use Rattle.lines.proofs.Held.{number-is}
+use Rattle.lines.specs.Held.{number-is}
 use Rattle.recipe.specs.Correction.{wiener}
 use Rattle.bins.specs.Doubles.{exactGainsIn}
 use Rattle.wiener.proofs.ExactLaws.{held-counted}

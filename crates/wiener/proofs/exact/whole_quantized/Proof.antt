@@ -2,7 +2,7 @@
 use Rattle.algebra.specs.Prelude.{sym, ap, subst, _∙_, needs, T, w64}
 use lib.Ieee.{binary64, inSigned, toSigned}
 use Rattle.algebra.specs.Bound.{AtMost}
-use Rattle.lines.proofs.Held.{number-is, number-most}
+use Rattle.lines.specs.Held.{number-is, number-most}
 use Rattle.spectrum.specs.Magnitudes.{gainMost}
 use Rattle.bins.specs.Doubles.{wholeQuantized}
 use Rattle.wiener.proofs.ExactLaws.{quantized-fits, whole-most}
