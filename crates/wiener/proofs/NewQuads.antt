@@ -1,45 +1,12 @@
--- A quad of G, from the four numbers of a pair that the code reads.
-use Rattle.algebra.specs.Prelude.{_≡_, refl, sym, ap, _∙_, List, [], _∷_, ℕ, zero, suc, _+_, _/_, _%_, _≤_, _<_, arith, eqb, getD}
-use borrow.Author.Tests.{eq-eqb, ne-eqb}
+-- A quad of G with quotients in double, by kind, from the four numbers of a pair that the code reads.
+use Rattle.algebra.specs.Prelude.{_≡_, refl, sym, ap, _∙_, List, [], _∷_, ℕ, _+_, _/_, _≤_, _<_, arith, getD}
 use lib.Ieee.{Float, nan, binary64, add, sub}
 use Rattle.sequences.specs.Grid.{cell}
-use Rattle.spectrum.specs.Spectrum.{byKind}
-use Rattle.spectrum.specs.Apart.{cond-cases}
-use Rattle.spectrum.specs.Pairs.{either}
 use Rattle.spectrum.specs.QuadLaws.{four, is-top, is-left, is-inner}
 use Rattle.bins.specs.Doubles.{gainsIn, realGainIn}
-use Rattle.wiener.specs.Lanes.{numberOf, binsIn, foldedIn, cornerIn, foldIn, quadIn, doubleQuad, exactQuad, quadAt, newQuad, newExactly}
-
-module _ (real : Float → Float) (gains : (a b : Float) → List Float) (k u : ℕ) (q : List Float) where
-  pub quad-corner : k + u ≡ 0 → quadIn real gains k u q ≡ cornerIn real q
-  unfolding quadIn
-  quad-corner e = rw (eq-eqb (k + u) 0 e)
-
-  pub quad-others : 0 < k + u → quadIn real gains k u q ≡ foldIn gains k u (binsIn k u q)
-  unfolding quadIn
-  quad-others h = rw (ne-eqb (k + u) 0 (λ e. omega arith))
-
--- ---- with quotients in whole numbers
-
--- a quad has four numbers
-abbrev Four : List Float → Type 0
-Four q = numberOf q 0 ∷ numberOf q 1 ∷ numberOf q 2 ∷ numberOf q 3 ∷ [] ≡ q
-
-folded-four : (k u : ℕ) (a b c d : Float) → Four (foldedIn k u a b c d)
-unfolding foldedIn byKind
-folded-four zero u a b c d = refl
-folded-four (suc k) zero a b c d = refl
-folded-four (suc k) (suc u) a b c d = refl
-
-exact-four : (noise k u : ℕ) (q : List Float) → Four (exactQuad noise k u q)
-unfolding exactQuad quadIn cornerIn foldIn
-exact-four noise k u q = cond-cases Four (eqb (k + u) 0) refl (folded-four k u _ _ _ _)
-
-pub new-exactly : {noise : ℕ} (first second u l : ℕ) (q : List Float) → noise ≡ either first second (l % 2) → {r : List Float} → r ≡ exactQuad noise (l / 2) u q → numberOf r 0 ∷ numberOf r 1 ∷ numberOf r 2 ∷ numberOf r 3 ∷ [] ≡ newExactly first second u l q
-unfolding newExactly
-new-exactly {noise} first second u l q n e = rw e (exact-four noise (l / 2) u q) ∙ ap (λ m. exactQuad m (l / 2) u q) n
-
--- ---- with quotients in double, by kind
+use Rattle.quads.specs.Lanes.{numberOf, binsIn, foldedIn, cornerIn, foldIn, quadAt}
+use Rattle.quads.specs.QuadGains.{quad-corner, quad-others}
+use Rattle.wiener.specs.DoubleQuads.{doubleQuad, newQuad}
 
 module _ (v w : List Float) (b : List (List Float)) where
   -- V and W of a lane, and what stands at a place

@@ -2,6 +2,7 @@
 // v = l / 2, and what comes of them is folded for the inverse. A turn of a loop is a quad, and the compiler does two at a time.
 use bins::double::gains;
 use bins::double::real_gain;
+use quads::set_quad;
 ghost use mathlib.Core.Path.{_≡_};
 ghost use Prim.Native.Nat.{ℕ, _+_, _*_, _%_, _≤_, _<_};
 ghost use lib.IntN.{ℤ};
@@ -10,21 +11,11 @@ ghost use Rattle.sequences.specs.Tab.{tab};
 ghost use Rattle.spectrum.specs.Magnitudes.{pairNoise};
 ghost use Rattle.spectrum.specs.Spectrum.{transposed, spread, gainRe, gainIm};
 ghost use Rattle.spectrum.specs.Pairs.{sideBySide, either, Paired, doubles, Quiet};
-ghost use Rattle.wiener.specs.Lanes.{newQuad, WithQuad, Lanes};
+ghost use Rattle.quads.specs.Lanes.{Lanes};
+ghost use Rattle.wiener.specs.DoubleQuads.{newQuad};
 
 // 1 + 2^-51
 const SLIGHTLY_MORE: f64 = 1.0000000000000004440892098500626;
-
-// Stores quad (u, l).
-pub fn set_quad(b: &mut [[f64; 32]; 16], u: usize, l: usize, q: [f64; 4])
-    requires { ⌜ record { u-below : u < 8; l-below : l < 16; paired : Paired nan (now b) } ⌝ }
-    ensures { λ _. ⌜ WithQuad u l q (now (b .entry)) (now (b .exit)) ⌝ }
-{
-    b[u][l] = q[0];
-    b[8 + u][l] = q[1];
-    b[u][16 + l] = q[2];
-    b[8 + u][16 + l] = q[3];
-}
 
 // The quads at u = 0 and v = 0: four real bins.
 fn corner(b: &mut [[f64; 32]; 16], v: &[f64; 16], w: &[f64; 16])

@@ -1,0 +1,16 @@
+// Quads of two tiles side by side in double: what a quad of G is made of, and the store of one. Rows u and 8 + u of lanes l and 16 + l are quad (u, l).
+ghost use Prim.Native.Nat.{_<_};
+ghost use lib.Ieee.{nan};
+ghost use Rattle.spectrum.specs.Pairs.{Paired};
+ghost use Rattle.quads.specs.Lanes.{WithQuad};
+
+// Stores quad (u, l).
+pub fn set_quad(b: &mut [[f64; 32]; 16], u: usize, l: usize, q: [f64; 4])
+    requires { ⌜ record { u-below : u < 8; l-below : l < 16; paired : Paired nan (now b) } ⌝ }
+    ensures { λ _. ⌜ WithQuad u l q (now (b .entry)) (now (b .exit)) ⌝ }
+{
+    b[u][l] = q[0];
+    b[8 + u][l] = q[1];
+    b[u][16 + l] = q[2];
+    b[8 + u][16 + l] = q[3];
+}
