@@ -2,6 +2,7 @@
 // and those of G come back. The rest is in double, by quads as in `wiener::filter`.
 use bins::double::quantized;
 use bins::parts::wiener_part;
+use quads::quad_at;
 use quads::set_quad;
 ghost use mathlib.Core.Path.{_≡_};
 ghost use Prim.Native.Nat.{_≤_, _<_};
@@ -107,7 +108,7 @@ pub fn filter_exactly(b: &mut [[f64; 32]; 16], first: u64, second: u64)
     for n in 0..128 {
         let u = n / 16;
         let l = n % 16;
-        let q = [b[u][l], b[8 + u][l], b[u][16 + l], b[8 + u][16 + l]];
+        let q = quad_at(&*b, u, l);
         let g = quad(of_plane(first, second, l % 2), l / 2, u, q);
         set_quad(&mut *b, u, l, g);
     }

@@ -1,1 +1,2 @@
-// The transform of a line of sixteen numbers in halfcomplex form, and the sums back from it, by the rounded tables of document 01: definitions and laws; no code.
+// The transform of a line of sixteen numbers in halfcomplex form, and the sums back from it, by the rounded tables of document 01:
+// definitions and laws; no code.

@@ -1,10 +1,8 @@
 -- `exact_wiener::exact::filter_exactly`: a quad a turn, in the order of 16·u + l.
-use Rattle.algebra.specs.Prelude.{sym, subst, _-_, _/_, _%_, _≤_, arith, needs, eqb}
-use lib.Ieee.{nan}
-use Rattle.sequences.specs.Grid.{cell}
+use Rattle.algebra.specs.Prelude.{sym, ap, subst, _∙_, _-_, _/_, _%_, _≤_, arith, needs, eqb}
 use Rattle.spectrum.specs.Magnitudes.{noiseMost}
 use Rattle.spectrum.specs.Apart.{cond-cases}
-use Rattle.quads.specs.Lanes.{quadAt, WholeBins, Lanes}
+use Rattle.quads.specs.Lanes.{WholeBins, Lanes}
 use Rattle.quads.specs.LaneLaws.{lanes-start, lanes-at, lanes-turn, paired-doubles}
 use Rattle.quads.specs.FilterLaws.{pair-filtered}
 use Rattle.exact_wiener.specs.ExactQuads.{newExactly}
@@ -22,9 +20,9 @@ loop-holds : tie.Need-loop-holds Inv-loop μ-loop
 loop-holds c = (omega arith, lanes-start 0 (paired-doubles _ (c .pre .binned .is)))
 
 quad-requires : tie.Need-quad-requires Inv-loop μ-loop
-unfolding quadAt cell
 quad-requires c κs =
-    let p = c .before .before .before .before .before .before in
+    let a = c .before in
+    let p = a .before .before .before in
     let s = p .before in
     let n = p .loop .n in
     let w = s .pre .binned in
@@ -33,25 +31,27 @@ quad-requires c κs =
       k-below = omega arith;
       u-below = omega arith;
       whole =
-          subst (WholeBins (n % 16 / 2) (n / 16)) (sym (p .loop .inv .1 .rest (n / 16) (n % 16) (omega arith) (omega arith) (λ i j. omega arith)))
+          subst (WholeBins (n % 16 / 2) (n / 16)) (sym (a .quad-at .ensures ∙ p .loop .inv .1 .rest (n / 16) (n % 16) (omega arith) (omega arith) (λ i j. omega arith)))
           (whole-quad (s .args .first) (s .args .second) (w .plane) (w .first) (w .second) (w .is) (n / 16) (n % 16) (omega arith) (omega arith));
     }
 
 set-quad-requires : tie.Need-set-quad-requires Inv-loop μ-loop
 set-quad-requires c κs =
-    let p = c .before .before .before .before .before .before .before .before in
+    let p = c .before .before .before .before .before .before in
     record { u-below = omega arith; l-below = omega arith; paired = p .loop .inv .1 .paired }
 
 loop-again : tie.Need-loop-again Inv-loop μ-loop
-unfolding quadAt cell
 loop-again c =
     let q = c .before .before in
     let o = q .before in
-    let p = o .before .before .before .before .before .before in
+    let a = o .before in
+    let p = a .before .before .before in
     let s = p .before in
     let u = p .loop .n / 16 in
     let l = p .loop .n % 16 in
-    let e = new-exactly (s .args .first) (s .args .second) u l (quadAt (cell nan (p .loop .b)) u l) (o .of-plane .ensures) (q .quad .ensures) in
+    let first = s .args .first in
+    let second = s .args .second in
+    let e = new-exactly first second u l (a .quad-at .result) (o .of-plane .ensures) (q .quad .ensures) ∙ ap (newExactly first second u l) (a .quad-at .ensures) in
     (omega arith, lanes-turn {u = u} {l = l} (p .loop .inv .1) (omega arith) (omega arith) (omega arith) (omega arith) (c .set-quad .ensures) e)
 
 returns : tie.Need-returns Inv-loop μ-loop
@@ -64,10 +64,5 @@ returns c w =
 
 pub filter-exactly-spec : {M : Type 1} → statement M
 filter-exactly-spec = tie.close (tie.spec
-    Inv-loop μ-loop loop-holds (λ c. search needs) (λ c. search needs) (λ c. search needs)
-    (λ c. search needs) (λ c. search needs) (λ c. search needs) (λ c. search needs)
-    (λ c. search needs) (λ c. search needs) (λ c. search needs) (λ c. search needs)
-    (λ c. search needs) (λ c. search needs) (λ c. search needs) (λ c. search needs)
-    (λ c. search needs) (λ c. search needs) (λ c. search needs) (λ c. search needs)
-    (λ c. search needs) (λ c κs. search needs) quad-requires set-quad-requires (λ c. search needs)
+    Inv-loop μ-loop loop-holds (λ c κs. search needs) (λ c κs. search needs) quad-requires set-quad-requires (λ c. search needs)
     (λ c. search needs) loop-again returns)
