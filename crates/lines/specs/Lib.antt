@@ -1,4 +1,6 @@
 pub mod Lines
+pub mod Tiles
+pub mod Held
 pub mod Halfcomplex
 pub mod HalfSumLaws
 pub mod Fold
@@ -6,3 +8,4 @@ pub mod SideFolds
 pub mod SideSums
 pub mod Magnitudes
 pub mod Doubles
+pub mod DoubleForms

@@ -9,9 +9,10 @@ use Rattle.algebra.specs.Ring.{var, _⊞_, _⊟_, _⊠_, ⊖_, ring}
 use Rattle.algebra.specs.Sums.{sumZ}
 use Rattle.algebra.specs.SumLaws.{sumZ-cong, sumZ-add, sumZ-parts}
 use Rattle.recipe.specs.Side.{Side, cosAt}
+use Rattle.recipe.specs.Tables.{side16}
 use Rattle.recipe.specs.TableRules.{Rules, Doubled}
-use Rattle.lines.specs.Halfcomplex.{frequencyOf, phaseOf, basisOf, halfcomplexOf}
-use Rattle.lines.specs.Fold.{sumOf, differenceOf, foldedOf}
+use Rattle.lines.specs.Halfcomplex.{frequencyOf, phaseOf, basisOf, halfcomplexOf, basis}
+use Rattle.lines.specs.Fold.{sumOf, differenceOf, foldedOf, folded}
 
 -- twice q off twice i, and off the next number
 cut-even : (h q i : ℕ) → h ≡ 2 * q → 2 * i - h ≡ (i - q) + (i - q)
@@ -132,3 +133,8 @@ module _ {s t : Side} (r : Rules s) (q : Rules t) (d : Doubled s t) where
       ap (λ m. sumZ m (λ n. sumOf s x n *ℤ basisOf t k n)) (sym (d .line))
       ∙ sumZ-cong (s .half) (λ n. sumOf s x n *ℤ basisOf t k n) (λ n. sumOf s x n *ℤ basisOf s (2 * k) n) (λ n l. ap (λ c. sumOf s x n *ℤ c) (sym (basis-doubled k n)))
       ∙ even-folded r x k
+
+-- the folded line's numbers alone count
+pub folded-ext : (f g : ℕ → ℤ) → ((n : ℕ) → n < 8 → f n ≡ g n) → (k : ℕ) → folded f k ≡ folded g k
+unfolding foldedOf side16
+folded-ext f g h k = sumZ-cong 8 (λ n. f n *ℤ basis k n) (λ n. g n *ℤ basis k n) (λ n l. ap (λ z. z *ℤ basis k n) (h n l))

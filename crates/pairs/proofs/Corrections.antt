@@ -7,7 +7,7 @@ use Rattle.sequences.specs.Grid.{grid, cell, cell-grid, grid-ext}
 use Rattle.recipe.specs.Tables.{side16}
 use Rattle.recipe.specs.Correction.{quantized, filtered, correctionAt}
 use Rattle.lines.specs.Lines.{TileMost}
-use Rattle.lines.proofs.Tiles.{tile-most, cells-most}
+use Rattle.lines.specs.Tiles.{tile-most, cells-most}
 use Rattle.lines.specs.Magnitudes.{differenceMost, pairFoldMost}
 use Rattle.spectrum.specs.Magnitudes.{pairNoise, pairGainMost}
 use Rattle.spectrum.specs.Spectrum.{BinsOf, twoWay, transposed, spread, gainRe, gainIm, backSum}

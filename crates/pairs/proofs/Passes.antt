@@ -12,7 +12,7 @@ use Rattle.lines.specs.Halfcomplex.{halfcomplex, backward, halfSum}
 use Rattle.lines.specs.HalfSumLaws.{half-sum}
 use Rattle.lines.specs.Magnitudes.{differenceMost, pairLineMost, pairFoldMost, pairColumnMost}
 use Rattle.lines.specs.Lines.{LineMost, TileMost}
-use Rattle.lines.proofs.Tiles.{line-most}
+use Rattle.lines.specs.Tiles.{line-most}
 use Rattle.spectrum.specs.Spectrum.{twoWay, transposed, apart, counted, backSum}
 use Rattle.spectrum.specs.SpectrumLaws.{columns-first}
 use Rattle.spectrum.specs.Pairs.{InDouble, planeIn, sideBySide, doubles}

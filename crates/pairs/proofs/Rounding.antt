@@ -13,7 +13,7 @@ use Rattle.floats.specs.ProductLaws.{fraction, product-bits, product-bits-below
 use Rattle.lines.specs.Doubles.{doubleLine}
 use Rattle.lines.specs.Halfcomplex.{halfSum}
 use Rattle.lines.specs.HalfSumLaws.{half-sum-most}
-use Rattle.lines.proofs.Held.{number-is, number-most}
+use Rattle.lines.specs.Held.{number-is, number-most}
 use Rattle.lines.specs.Magnitudes.{pairColumnMost, pairHalfMost}
 use Rattle.spectrum.specs.Pairs.{WholeDouble, InDouble, doubles}
 use Rattle.spectrum.specs.RoundingLaws.{away-most}

@@ -1,5 +1,5 @@
 // The first pass of the two-way transform, down the columns of a pair of differences.
-use lines::halfcomplex_16;
+use whole_lines::halfcomplex_16;
 ghost use mathlib.Core.Path.{_≡_};
 ghost use mathlib.Core.Bool.{cond};
 ghost use Prim.Native.Nat.{_<_};

@@ -1,5 +1,5 @@
 // The first pass of the inverse, down the columns of a pair of folded spectra, in place.
-use lines::backward_double;
+use lines_back::backward_double;
 ghost use mathlib.Core.Path.{_≡_};
 ghost use mathlib.Core.Bool.{cond};
 ghost use Prim.Native.Nat.{_<_};

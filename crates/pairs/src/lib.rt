@@ -7,10 +7,10 @@ mod rows_back;
 
 use crate::planes::add_planes;
 use crate::planes::plane;
+use exact_wiener::exact::filter_exactly;
 use plain::correction;
 use quiet::in_double;
 use quiet::quotients_in_double;
-use wiener::exact::filter_exactly;
 use wiener::filter::filter;
 ghost use mathlib.Core.Path.{_≡_};
 ghost use mathlib.Core.Bool.{true};

@@ -1,6 +1,6 @@
 // The second pass of the two-way transform, along the rows of a pair that the pass down the columns leaves. Its kernel is called from two places, so that it is
 // compiled by itself.
-use lines::halfcomplex_pair;
+use double_lines::halfcomplex_pair;
 ghost use mathlib.Core.Path.{_≡_};
 ghost use lib.IntN.{pos};
 ghost use Rattle.sequences.specs.Grid.{cell};

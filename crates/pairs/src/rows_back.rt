@@ -1,6 +1,6 @@
 // The second pass of the inverse, along the rows of a pair that the pass down the columns leaves: half of each sum back, which over 2^31 is P. Its kernel is
 // called from two places, so that it is compiled by itself.
-use lines::backward_double;
+use lines_back::backward_double;
 ghost use mathlib.Core.Path.{_≡_};
 ghost use Prim.Native.Nat.{_+_, _*_, _/_, _%_, _^_};
 ghost use lib.IntN.{pos, _+ℤ_};

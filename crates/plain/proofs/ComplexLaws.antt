@@ -7,7 +7,7 @@ use Rattle.sequences.specs.Tab.{tab}
 use Rattle.sequences.specs.TabLaws.{length-tab, tab-every}
 use Rattle.sequences.specs.Grid.{grid, cell, cell-grid}
 use Rattle.lines.specs.Lines.{LineMost, TileMost}
-use Rattle.lines.proofs.Tiles.{line-most}
+use Rattle.lines.specs.Tiles.{line-most}
 use Rattle.spectrum.specs.Apart.{cond-cases}
 use Rattle.plain.specs.Complex.{complexAt, complexTile, realOf, imaginaryOf}
 

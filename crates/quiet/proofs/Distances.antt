@@ -10,7 +10,7 @@ use Rattle.sequences.specs.TabLaws.{length-tab, getD-tab, tab-every}
 use Rattle.sequences.specs.Grid.{cell, tab-ext}
 use Rattle.lines.specs.Lines.{TileMost}
 use Rattle.lines.specs.Magnitudes.{differenceMost}
-use Rattle.lines.proofs.Tiles.{cells-most}
+use Rattle.lines.specs.Tiles.{cells-most}
 use Rattle.spectrum.specs.Magnitudes.{pairNoise, productMost, alwaysNoise}
 use Rattle.spectrum.specs.Spectrum.{twoWay}
 use Rattle.spectrum.specs.Pairs.{planeIn, Quiet}

@@ -1,4 +1,4 @@
--- How large sums over tiles of side 8 and 16 are, whose values are at most `valueMost` (pyramid/Magnitudes).
+-- How large sums over tiles of side 8 and 16 are, whose values are at most `valueMost` (halving/Magnitudes).
 use Prim.Native.Nat.{ℕ}
 
 -- a square of two values' difference: 16380²

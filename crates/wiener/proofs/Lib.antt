@@ -1,5 +1,2 @@
-pub mod LaneLaws
 pub mod NewQuads
-pub mod ExactLaws
-pub mod QuadGains
-pub mod FilterLaws
+pub mod DoubleGains

@@ -2,6 +2,8 @@
 // v = l / 2, and what comes of them is folded for the inverse. A turn of a loop is a quad, and the compiler does two at a time.
 use bins::double::gains;
 use bins::double::real_gain;
+use quads::quad_at;
+use quads::set_quad;
 ghost use mathlib.Core.Path.{_≡_};
 ghost use Prim.Native.Nat.{ℕ, _+_, _*_, _%_, _≤_, _<_};
 ghost use lib.IntN.{ℤ};
@@ -10,21 +12,11 @@ ghost use Rattle.sequences.specs.Tab.{tab};
 ghost use Rattle.spectrum.specs.Magnitudes.{pairNoise};
 ghost use Rattle.spectrum.specs.Spectrum.{transposed, spread, gainRe, gainIm};
 ghost use Rattle.spectrum.specs.Pairs.{sideBySide, either, Paired, doubles, Quiet};
-ghost use Rattle.wiener.specs.Lanes.{newQuad, WithQuad, Lanes};
+ghost use Rattle.quads.specs.Lanes.{Lanes};
+ghost use Rattle.wiener.specs.DoubleQuads.{newQuad};
 
 // 1 + 2^-51
 const SLIGHTLY_MORE: f64 = 1.0000000000000004440892098500626;
-
-// Stores quad (u, l).
-pub fn set_quad(b: &mut [[f64; 32]; 16], u: usize, l: usize, q: [f64; 4])
-    requires { ⌜ record { u-below : u < 8; l-below : l < 16; paired : Paired nan (now b) } ⌝ }
-    ensures { λ _. ⌜ WithQuad u l q (now (b .entry)) (now (b .exit)) ⌝ }
-{
-    b[u][l] = q[0];
-    b[8 + u][l] = q[1];
-    b[u][16 + l] = q[2];
-    b[8 + u][16 + l] = q[3];
-}
 
 // The quads at u = 0 and v = 0: four real bins.
 fn corner(b: &mut [[f64; 32]; 16], v: &[f64; 16], w: &[f64; 16])
@@ -32,13 +24,16 @@ fn corner(b: &mut [[f64; 32]; 16], v: &[f64; 16], w: &[f64; 16])
     ensures { λ _. ⌜ Lanes (newQuad (now (v .entry)) (now (w .entry))) 0 2 (now (b .entry)) (now (b .exit)) ⌝ }
 {
     for l in 0..2 {
-        let q = [
-            real_gain(v[l], w[l], b[0][l]),
-            real_gain(v[l], w[l], b[8][l]),
-            real_gain(v[l], w[l], b[0][16 + l]),
-            real_gain(v[l], w[l], b[8][16 + l]),
+        let q = quad_at(&*b, 0, l);
+        let a = v[l];
+        let c = w[l];
+        let g = [
+            real_gain(a, c, q[0]),
+            real_gain(a, c, q[1]),
+            real_gain(a, c, q[2]),
+            real_gain(a, c, q[3]),
         ];
-        set_quad(&mut *b, 0, l, q);
+        set_quad(&mut *b, 0, l, g);
     }
 }
 
@@ -48,8 +43,11 @@ fn left(b: &mut [[f64; 32]; 16], v: &[f64; 16], w: &[f64; 16])
     ensures { λ _. ⌜ Lanes (newQuad (now (v .entry)) (now (w .entry))) 2 16 (now (b .entry)) (now (b .exit)) ⌝ }
 {
     for l in 2..16 {
-        let g = gains(v[l], w[l], b[0][l], b[0][16 + l]);
-        let h = gains(v[l], w[l], b[8][l], b[8][16 + l]);
+        let q = quad_at(&*b, 0, l);
+        let a = v[l];
+        let c = w[l];
+        let g = gains(a, c, q[0], q[2]);
+        let h = gains(a, c, q[1], q[3]);
         set_quad(&mut *b, 0, l, [g[0], h[0], g[1], h[1]]);
     }
 }
@@ -60,8 +58,11 @@ fn top(b: &mut [[f64; 32]; 16], v: &[f64; 16], w: &[f64; 16], u: usize)
     ensures { λ _. ⌜ Lanes (newQuad (now (v .entry)) (now (w .entry))) (16 * u) (16 * u + 2) (now (b .entry)) (now (b .exit)) ⌝ }
 {
     for l in 0..2 {
-        let g = gains(v[l], w[l], b[u][l], b[8 + u][l]);
-        let h = gains(v[l], w[l], b[u][16 + l], b[8 + u][16 + l]);
+        let q = quad_at(&*b, u, l);
+        let a = v[l];
+        let c = w[l];
+        let g = gains(a, c, q[0], q[1]);
+        let h = gains(a, c, q[2], q[3]);
         set_quad(
             &mut *b,
             u,
@@ -77,12 +78,15 @@ fn inner(b: &mut [[f64; 32]; 16], v: &[f64; 16], w: &[f64; 16], u: usize)
     ensures { λ _. ⌜ Lanes (newQuad (now (v .entry)) (now (w .entry))) (16 * u + 2) (16 * u + 16) (now (b .entry)) (now (b .exit)) ⌝ }
 {
     for l in 2..16 {
-        let x = b[u][l];
-        let y = b[8 + u][l];
-        let z = b[u][16 + l];
-        let t = b[8 + u][16 + l];
-        let g = gains(v[l], w[l], x - t, y + z);
-        let h = gains(v[l], w[l], x + t, z - y);
+        let q = quad_at(&*b, u, l);
+        let a = v[l];
+        let c = w[l];
+        let x = q[0];
+        let y = q[1];
+        let z = q[2];
+        let t = q[3];
+        let g = gains(a, c, x - t, y + z);
+        let h = gains(a, c, x + t, z - y);
         set_quad(
             &mut *b,
             u,

@@ -3,7 +3,7 @@ use Rattle.algebra.specs.Prelude.{refl, _∙_, pos}
 use lib.Ieee.{binary64, ofBits}
 use Rattle.sequences.specs.Tab.{tab}
 use Rattle.sequences.specs.Grid.{grid, cell}
-use Rattle.lines.proofs.Tiles.{cells-most}
+use Rattle.lines.specs.Tiles.{cells-most}
 use Rattle.pairs.proofs.ColumnLaws.{paired-grid}
 use Rattle.pairs.proofs.Passes.{columns-small, both-ways}
 use Rattle.pairs.proofs.forward.Statement.{statement}

@@ -5,7 +5,7 @@ use Rattle.recipe.specs.Tables.{side16}
 use Rattle.recipe.specs.Correction.{binRe, binIm, filtered, inverseAt, correctionAt}
 use Rattle.lines.specs.Lines.{TileMost}
 use Rattle.lines.specs.Magnitudes.{differenceMost}
-use Rattle.lines.proofs.Tiles.{cells-most, tile-most}
+use Rattle.lines.specs.Tiles.{cells-most, tile-most}
 use Rattle.spectrum.specs.Magnitudes.{binMost, gainMost, correctionMost}
 use Rattle.spectrum.specs.SizeLaws.{bin-re-most, bin-im-most, gain-most, correction-most}
 use Rattle.plain.specs.Complex.{complexTile, realOf, imaginaryOf}

@@ -1,7 +1,7 @@
 -- `quiet::add_magnitudes`: the sums are stored one after the other.
 use Rattle.algebra.specs.Prelude.{ap, ap₂, _∙_, _+_, _-_, arith, needs, getD, pos, natAbs, w16}
 use Rattle.sequences.specs.TabLaws.{Filled, fill-start, fill-turn, fill-rest, fill-done}
-use Rattle.lines.proofs.Held.{held-is, held-most}
+use Rattle.lines.specs.Held.{held-is, held-most}
 use Rattle.quiet.proofs.add_magnitudes.Statement.{statement}
 use Rattle.quiet.proofs.add_magnitudes.Tie as tie
 

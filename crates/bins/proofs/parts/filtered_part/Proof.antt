@@ -2,7 +2,7 @@
 use Rattle.algebra.specs.Prelude.{_≡_, ap, ap₂, _∙_, needs, w64, toZ, ofZ, toZ-ofZ}
 use Rattle.recipe.specs.Tables.{side16}
 use Rattle.recipe.specs.Correction.{wiener, quantized, filtered}
-use Rattle.lines.proofs.Held.{number-is}
+use Rattle.lines.specs.Held.{number-is}
 use Rattle.bins.proofs.parts.filtered_part.Statement.{statement}
 use Rattle.bins.proofs.parts.filtered_part.Tie as tie
 

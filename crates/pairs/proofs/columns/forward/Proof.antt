@@ -3,7 +3,7 @@ use Rattle.algebra.specs.Prelude.{_∙_, _-_, arith, needs, pos}
 use Rattle.sequences.specs.Grid.{cell}
 use Rattle.lines.specs.Halfcomplex.{halfcomplex}
 use Rattle.lines.specs.Magnitudes.{differenceMost}
-use Rattle.lines.proofs.Tiles.{line-most, cells-most}
+use Rattle.lines.specs.Tiles.{line-most, cells-most}
 use Rattle.spectrum.specs.LineLaws.{halfcomplex-line}
 use Rattle.pairs.proofs.ColumnLaws.{ColumnsSet, columns-start, columns-turn, columns-done}
 use Rattle.pairs.proofs.columns.forward.Statement.{statement}

@@ -2,7 +2,7 @@
 use Rattle.algebra.specs.Prelude.{sym, ap₂, subst, _∙_, _-_, _/_, _%_, _^_, arith, needs, getD, pos, _+ℤ_}
 use Rattle.algebra.specs.Bound.{AtMost}
 use Rattle.sequences.specs.TabLaws.{Filled, fill-start, fill-turn, fill-rest, fill-done}
-use Rattle.lines.proofs.Held.{line-at}
+use Rattle.lines.specs.Held.{line-at}
 use Rattle.spectrum.specs.Pairs.{either}
 use Rattle.pairs.proofs.Rounding.{more-fits, more-is}
 use Rattle.pairs.proofs.planes.add_row.Statement.{statement}

@@ -1,7 +1,7 @@
 -- `pairs::planes::place`: of the first plane or of the second.
 use Rattle.algebra.specs.Prelude.{_/_, _%_, needs, w64}
 use borrow.Author.Tests.{eq-eqb, ne-eqb}
-use Rattle.lines.proofs.Held.{held-is, held-most}
+use Rattle.lines.specs.Held.{held-is, held-most}
 use Rattle.pairs.proofs.planes.place.Statement.{statement}
 use Rattle.pairs.proofs.planes.place.Tie as tie
 

@@ -4,7 +4,7 @@ use lib.Ieee.{ofBits}
 use Rattle.algebra.specs.Bound.{AtMost, most-fits}
 use Rattle.floats.specs.Middle.{middle, middleBits}
 use Rattle.floats.specs.ProductLaws.{fraction}
-use Rattle.lines.proofs.Held.{number-is}
+use Rattle.lines.specs.Held.{number-is}
 use Rattle.pairs.specs.Whole.{roundedBits}
 use Rattle.pairs.proofs.Rounding.{rounded-number, rounded-below, rounded-most, rounded-held}
 use Rattle.pairs.proofs.rows_back.rounded.Statement.{statement}

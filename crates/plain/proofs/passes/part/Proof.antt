@@ -1,7 +1,7 @@
 -- `plain::passes::part`: the one part or the other.
 use Rattle.algebra.specs.Prelude.{_∙_, _%_, arith, needs, w64}
 use borrow.Author.Tests.{eq-eqb, ne-eqb}
-use Rattle.lines.proofs.Held.{number-is}
+use Rattle.lines.specs.Held.{number-is}
 use Rattle.plain.proofs.passes.part.Statement.{statement}
 use Rattle.plain.proofs.passes.part.Tie as tie
 

@@ -3,7 +3,7 @@ use Rattle.algebra.specs.Prelude.{_≡_, sym, ap₂, subst, _∙_, ℕ, _+_, _-
 use native.Mathlib.Nat.{mul-le-mul}
 use Rattle.recipe.specs.Side.{cosAt}
 use Rattle.recipe.specs.Tables.{side16}
-use Rattle.lines.proofs.Held.{number-is, held-is, held-most}
+use Rattle.lines.specs.Held.{number-is, held-is, held-most}
 use Rattle.plain.specs.Complex.{real, imaginary}
 use Rattle.plain.specs.Passes.{along, termMost, placeMost}
 use Rattle.plain.proofs.Loops.{Summing, sum-start, sum-turn, sum-room, sum-is, sum-most, sum-done}

@@ -3,7 +3,7 @@ use Rattle.algebra.specs.Prelude.{_≡_, refl, ap, _∙_, _-_, _^_, arith, need
 use Rattle.algebra.specs.Nearest.{away}
 use Rattle.sequences.specs.TabLaws.{Filled, fill-start, fill-turn, fill-done}
 use Rattle.recipe.specs.Tables.{cosines}
-use Rattle.lines.proofs.Held.{number-is, number-most}
+use Rattle.lines.specs.Held.{number-is, number-most}
 use Rattle.plain.specs.Passes.{passedRe}
 use Rattle.plain.proofs.passes.rounded_places.Statement.{statement}
 use Rattle.plain.proofs.passes.rounded_places.Tie as tie

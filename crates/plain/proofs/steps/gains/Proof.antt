@@ -3,7 +3,7 @@ use Rattle.algebra.specs.Prelude.{_≡_, refl, ap, ap₂, _∙_, List, ℕ, _+_
 use Rattle.sequences.specs.TabLaws.{Filled, fill-start, fill-turn, fill-done}
 use Rattle.recipe.specs.Tables.{side16}
 use Rattle.recipe.specs.Correction.{filtered}
-use Rattle.lines.proofs.Held.{held-is, held-most}
+use Rattle.lines.specs.Held.{held-is, held-most}
 use Rattle.plain.specs.Complex.{complexAt, real, imaginary}
 use Rattle.plain.proofs.ComplexLaws.{complex-is}
 use Rattle.plain.proofs.steps.gains.Statement.{statement}

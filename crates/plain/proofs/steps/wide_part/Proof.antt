@@ -1,7 +1,7 @@
 -- `plain::steps::wide_part`: a difference, or nothing.
 use Rattle.algebra.specs.Prelude.{_/_, _%_, needs, w16, w64}
 use borrow.Author.Tests.{eq-eqb, ne-eqb}
-use Rattle.lines.proofs.Held.{cast-fits, cast-is, line-at}
+use Rattle.lines.specs.Held.{cast-fits, cast-is, line-at}
 use Rattle.plain.proofs.steps.wide_part.Statement.{statement}
 use Rattle.plain.proofs.steps.wide_part.Tie as tie
 

@@ -2,7 +2,7 @@
 use Rattle.algebra.specs.Prelude.{refl, _-_, _*_, _%_, arith, needs}
 use Rattle.sequences.specs.TabLaws.{Filled, fill-start, fill-done}
 use Rattle.spectrum.specs.Pairs.{either}
-use Rattle.wiener.proofs.LaneLaws.{planes-turn}
+use Rattle.wiener.proofs.DoubleGains.{planes-turn}
 use Rattle.wiener.proofs.filter.alternating.Statement.{statement}
 use Rattle.wiener.proofs.filter.alternating.Tie as tie
 

@@ -3,9 +3,11 @@ use Rattle.algebra.specs.Prelude.{_-_, _*_, _^_, _≤_, arith, needs, lit≤}
 use lib.Dec.{le→leb}
 use lib.Ieee.{inFloat, ofBits}
 use Rattle.floats.specs.QuotientLaws.{slightlyMore}
-use Rattle.wiener.specs.Lanes.{newQuad, Lanes}
-use Rattle.wiener.proofs.LaneLaws.{lanes-start, lanes-at, lanes-join}
-use Rattle.wiener.proofs.FilterLaws.{double-quads, pair-filtered}
+use Rattle.quads.specs.Lanes.{Lanes}
+use Rattle.quads.specs.LaneLaws.{lanes-start, lanes-at, lanes-join}
+use Rattle.quads.specs.FilterLaws.{pair-filtered}
+use Rattle.wiener.specs.DoubleQuads.{newQuad}
+use Rattle.wiener.proofs.DoubleGains.{double-quads}
 use Rattle.wiener.proofs.filter.filter.Statement.{statement}
 use Rattle.wiener.proofs.filter.filter.Tie as tie
 

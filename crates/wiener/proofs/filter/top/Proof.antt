@@ -1,7 +1,8 @@
 -- `wiener::filter::top`: two bins a turn, each with its conjugate.
 use Rattle.algebra.specs.Prelude.{refl, _+_, _-_, _*_, _≤_, arith, needs, now}
-use Rattle.wiener.specs.Lanes.{newQuad, Lanes}
-use Rattle.wiener.proofs.LaneLaws.{lanes-start, lanes-at, lanes-turn}
+use Rattle.quads.specs.Lanes.{Lanes}
+use Rattle.quads.specs.LaneLaws.{lanes-start, lanes-at, lanes-turn}
+use Rattle.wiener.specs.DoubleQuads.{newQuad}
 use Rattle.wiener.proofs.NewQuads.{new-top}
 use Rattle.wiener.proofs.filter.top.Statement.{statement}
 use Rattle.wiener.proofs.filter.top.Tie as tie
@@ -15,32 +16,23 @@ abbrev μ-loop : tie.MeasureT-loop
 loop-holds : tie.Need-loop-holds Inv-loop μ-loop
 loop-holds c = (omega arith, lanes-at (lanes-start (16 * c .args .u) (c .pre .paired)) (omega arith))
 
-set-quad-requires : tie.Need-set-quad-requires Inv-loop μ-loop
-set-quad-requires c κs =
-    let p = c .before .before .before .before .before .before .before .before .before .before .before .before in
-    record { u-below = p .before .pre .u-below; l-below = omega arith; paired = p .loop .inv .1 .paired }
-
 loop-again : tie.Need-loop-again Inv-loop μ-loop
 loop-again c =
     let h = c .before .before in
-    let g = h .before .before .before .before .before in
-    let p = g .before .before .before .before .before .before in
+    let g = h .before in
+    let q = g .before .before .before in
+    let p = q .before .before .before in
     let s = p .before in
-    (omega arith, lanes-at (lanes-turn (p .loop .inv .1) (omega arith) (s .pre .u-below) (omega arith) refl (c .set-quad .ensures) (new-top (now (s .args .v)) (now (s .args .w)) (p .loop .b) (s .args .u) (p .loop .l) (s .pre .u-some) (omega arith) (g .gains .ensures) (h .gains2 .ensures))) (omega arith))
+    (omega arith, lanes-at (lanes-turn (p .loop .inv .1) (omega arith) (s .pre .u-below) (omega arith) refl (c .set-quad .ensures) (new-top (now (s .args .v)) (now (s .args .w)) (q .quad-at .ensures) (s .args .u) (p .loop .l) (s .pre .u-some) (omega arith) (g .gains .ensures) (h .gains2 .ensures))) (omega arith))
 
 returns : tie.Need-returns Inv-loop μ-loop
 returns c = lanes-at (c .before .loop .inv .1) (omega arith)
 
 pub top-spec : {M : Type 1} → statement M
 top-spec = tie.close (tie.spec
-    Inv-loop μ-loop loop-holds (λ c. search needs) (λ c. search needs) (λ c. search needs)
+    Inv-loop μ-loop loop-holds (λ c κs. search needs) (λ c. search needs) (λ c. search needs)
+    (λ c. search needs) (λ c. search needs) (λ c. search needs) (λ c. search needs)
+    (λ c κs. search needs) (λ c. search needs) (λ c. search needs) (λ c κs. search needs)
     (λ c. search needs) (λ c. search needs) (λ c. search needs) (λ c. search needs)
     (λ c. search needs) (λ c. search needs) (λ c. search needs) (λ c. search needs)
-    (λ c. search needs) (λ c. search needs) (λ c κs. search needs) (λ c. search needs)
-    (λ c. search needs) (λ c. search needs) (λ c. search needs) (λ c. search needs)
-    (λ c. search needs) (λ c. search needs) (λ c. search needs) (λ c. search needs)
-    (λ c. search needs) (λ c. search needs) (λ c. search needs) (λ c. search needs)
-    (λ c. search needs) (λ c. search needs) (λ c κs. search needs) (λ c. search needs)
-    (λ c. search needs) (λ c. search needs) (λ c. search needs) (λ c. search needs)
-    (λ c. search needs) (λ c. search needs) (λ c. search needs) set-quad-requires
-    (λ c. search needs) (λ c. search needs) loop-again returns)
+    (λ c κs. search needs) (λ c. search needs) (λ c. search needs) loop-again returns)

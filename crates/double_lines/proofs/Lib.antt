@@ -1,0 +1,2 @@
+pub mod PairFolding
+pub mod PairStores

@@ -1,0 +1,2 @@
+pub mod HalfStores
+pub mod DoubleUnfolding
