@@ -1,2 +1,143 @@
-// The sums back from lines in halfcomplex form, in double: of a column, and half of those of two rows side by side.
-pub mod backward_double;
+// The transposed transform of a halfcomplex line in double, for columns, and half of it for two rows side by side, folded in halves as the transform is:
+// from number n to number n + 8 the even places' sum stays and the odd places' sum changes its sign. No number on the way is above 2^53, so each is exact.
+// Number n of row p stands at 2n + p.
+ghost use mathlib.Core.Path.{_≡_};
+ghost use mathlib.Core.List.{[], _∷_};
+ghost use Prim.Native.Nat.{ℕ, _+_, _*_, _/_, _%_, _≤_, _<_};
+ghost use lib.IntN.{ℤ, pos, natAbs};
+ghost use lib.ListN.{length};
+ghost use lib.Ieee.{binary64, ofInt};
+ghost use Rattle.lines.specs.Halfcomplex.{backward, halfSum};
+ghost use Rattle.lines.specs.Fold.{evenSum, oddSum, evenHalf};
+ghost use Rattle.lines.specs.Magnitudes.{pairFoldMost, pairColumnMost};
+ghost use Rattle.lines.specs.Doubles.{doubleLine, From, joinedAt};
+
+// The even places' sum at the numbers 0 to 7, z[k] being place 2k; of places 0 and 8 with the cosine `own`: 16384, or half of it. From number n to number
+// n + 4 what places 2, 6, 10 and 14 add changes its sign.
+fn even(own: f64, z: [f64; 8]) -> [f64; 8]
+    ensures { λ r. ⌜ record { whole : own ≡ ofInt binary64 (pos 16384) → From pairColumnMost 8 z (λ g. r ≡ doubleLine 8 (evenSum g)); half : own ≡ ofInt binary64 (pos 8192) → From pairColumnMost 8 z (λ g. r ≡ doubleLine 8 (evenHalf g)) } ⌝ }
+{
+    let p = own * (z[0] + z[4]);
+    let m = own * (z[0] - z[4]);
+    let k = 16384.0 * z[2];
+    let j = 16384.0 * z[6];
+    let a = p + k;
+    let b = m - j;
+    let c = p - k;
+    let d = m + j;
+    let e = 16384.0 * (z[1] + z[3]);
+    let f = 16384.0 * (z[7] - z[5]);
+    let g = 11585.0 * (z[1] - z[3]);
+    let h = 11585.0 * (z[5] + z[7]);
+    let q = g - h;
+    let u = g + h;
+    [a + e, b + q, c + f, d - u, a - e, b - q, c - f, d + u]
+}
+
+// The odd places' sum at the numbers 0 to 7. From number n to number 8 − n what the real parts add changes its sign, and what the imaginary parts add stays.
+fn odd(z1: f64, z3: f64, z5: f64, z7: f64, z9: f64, z11: f64, z13: f64, z15: f64) -> [f64; 8]
+    ensures { λ r. ⌜ From pairColumnMost 8 (z1 ∷ z3 ∷ z5 ∷ z7 ∷ z9 ∷ z11 ∷ z13 ∷ z15 ∷ []) (λ z. r ≡ doubleLine 8 (oddSum z)) ⌝ }
+{
+    let p = z1 - z7;
+    let q = z3 - z5;
+    let r = z1 + z7;
+    let s = z3 + z5;
+    let u = z9 + z15;
+    let w = z11 + z13;
+    let x = z15 - z9;
+    let y = z11 - z13;
+    let a = 15137.0 * p + 6270.0 * q;
+    let b = 11585.0 * (r - s);
+    let c = 6270.0 * p - 15137.0 * q;
+    let d = 15137.0 * w + 6270.0 * u;
+    let e = 11585.0 * (x - y);
+    let f = 6270.0 * w - 15137.0 * u;
+    [
+        16384.0 * (r + s),
+        a - d,
+        b + e,
+        c + f,
+        16384.0 * (x + y),
+        f - c,
+        e - b,
+        0.0 - a - d,
+    ]
+}
+
+// Number n of the line, from the sums of its even places and of its odd places.
+fn unfolded(s: &[f64; 8], t: &[f64; 8], n: usize) -> f64
+    requires { ⌜ n < 16 ⌝ }
+    ensures { λ r. ⌜ r ≡ joinedAt (now (s .entry)) (now (t .entry)) n ⌝ }
+{
+    if n < 8 {
+        return s[n] + t[n];
+    }
+    s[n - 8] - t[n - 8]
+}
+
+// The transposed sum of the places z, a column.
+pub fn backward(z: &[f64; 16]) -> [f64; 16]
+    ensures { λ r. ⌜ From pairFoldMost 16 (now (z .entry)) (λ g. r ≡ doubleLine 16 (backward g)) ⌝ }
+{
+    let s = even(16384.0, [z[0], z[2], z[4], z[6], z[8], z[10], z[12], z[14]]);
+    let t = odd(z[1], z[3], z[5], z[7], z[9], z[11], z[13], z[15]);
+    let mut r = [0.0f64; 16];
+    for n in 0..16 {
+        r[n] = unfolded(&s, &t, n);
+    }
+    r
+}
+
+// The even places' half of the sum of row p.
+fn even_of(h: &[f64; 32], p: usize) -> [f64; 8]
+    requires { ⌜ p < 2 ⌝ }
+    ensures { λ r. ⌜ From pairColumnMost 32 (now (h .entry)) (λ z. r ≡ doubleLine 8 (evenHalf (λ k. z (4 * k + p)))) ⌝ }
+{
+    even(
+        8192.0,
+        [
+            h[p],
+            h[p + 4],
+            h[p + 8],
+            h[p + 12],
+            h[p + 16],
+            h[p + 20],
+            h[p + 24],
+            h[p + 28],
+        ],
+    )
+}
+
+// The odd places' sum of row p.
+fn odd_of(h: &[f64; 32], p: usize) -> [f64; 8]
+    requires { ⌜ p < 2 ⌝ }
+    ensures { λ r. ⌜ From pairColumnMost 32 (now (h .entry)) (λ z. r ≡ doubleLine 8 (oddSum (λ k. z (4 * k + 2 + p)))) ⌝ }
+{
+    odd(
+        h[p + 2],
+        h[p + 6],
+        h[p + 10],
+        h[p + 14],
+        h[p + 18],
+        h[p + 22],
+        h[p + 26],
+        h[p + 30],
+    )
+}
+
+// Half of the transposed sums of two rows, in which places 0 and 8 count once and the others twice.
+pub fn halves(h: &[f64; 32], x: &mut [f64; 32])
+    requires { ⌜ length (now x) ≡ 32 ⌝ }
+    ensures { λ _. ⌜ record { long : length (now (x .exit)) ≡ 32; is : (g : ℕ → ℕ → ℤ) → ((p k : ℕ) → natAbs (g p k) ≤ pairColumnMost) → now (h .entry) ≡ doubleLine 32 (λ l. g (l % 2) (l / 2)) → now (x .exit) ≡ doubleLine 32 (λ l. halfSum (g (l % 2)) (l / 2)) } ⌝ }
+{
+    let s0 = even_of(h, 0);
+    let s1 = even_of(h, 1);
+    let t0 = odd_of(h, 0);
+    let t1 = odd_of(h, 1);
+    for n in 0..8 {
+        x[2 * n] = s0[n] + t0[n];
+        x[2 * n + 1] = s1[n] + t1[n];
+        x[2 * n + 16] = s0[n] - t0[n];
+        x[2 * n + 17] = s1[n] - t1[n];
+    }
+}

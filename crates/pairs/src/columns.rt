@@ -1,5 +1,4 @@
 // The first pass of the two-way transform, down the columns of a pair of differences.
-use whole_lines::halfcomplex_16;
 ghost use mathlib.Core.Path.{_≡_};
 ghost use mathlib.Core.Bool.{cond};
 ghost use Prim.Native.Nat.{_<_};
@@ -42,7 +41,7 @@ pub fn forward(d: &[[i16; 32]; 16], r: &mut [[i32; 32]; 16])
 {
     for l in 0..32 {
         let c = column(d, l);
-        let z = halfcomplex_16::halfcomplex(&c);
+        let z = whole_lines::halfcomplex(&c);
         set_column(&mut *r, l, &z);
     }
 }

@@ -1,5 +1,4 @@
 // The first pass of the inverse, down the columns of a pair of folded spectra, in place.
-use lines_back::backward_double;
 ghost use mathlib.Core.Path.{_≡_};
 ghost use mathlib.Core.Bool.{cond};
 ghost use Prim.Native.Nat.{_<_};
@@ -41,7 +40,7 @@ pub fn back(g: &mut [[f64; 32]; 16])
 {
     for l in 0..32 {
         let c = column(&*g, l);
-        let z = backward_double::backward(&c);
+        let z = lines_back::backward(&c);
         set_column(&mut *g, l, &z);
     }
 }

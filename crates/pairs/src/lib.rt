@@ -7,11 +7,11 @@ mod rows_back;
 
 use crate::planes::add_planes;
 use crate::planes::plane;
-use exact_wiener::exact::filter_exactly;
+use exact_wiener::filter_exactly;
 use plain::correction;
 use quiet::in_double;
 use quiet::quotients_in_double;
-use wiener::filter::filter;
+use wiener::filter;
 ghost use mathlib.Core.Path.{_≡_};
 ghost use mathlib.Core.Bool.{true};
 ghost use Prim.Native.Nat.{_/_, _%_, _^_, _≤_};

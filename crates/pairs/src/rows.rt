@@ -1,6 +1,5 @@
 // The second pass of the two-way transform, along the rows of a pair that the pass down the columns leaves. Its kernel is called from two places, so that it is
 // compiled by itself.
-use double_lines::halfcomplex_pair;
 ghost use mathlib.Core.Path.{_≡_};
 ghost use lib.IntN.{pos};
 ghost use Rattle.sequences.specs.Grid.{cell};
@@ -16,7 +15,7 @@ pub fn rows(t: &[[i32; 32]; 16], r: &mut [[f64; 32]; 16])
     ensures { λ _. ⌜ now (r .exit) ≡ doubles (sideBySide (λ p b. halfcomplex (planeIn (cell (pos 0) (now (t .entry))) p b))) ⌝ }
 {
     for b in 0..8 {
-        halfcomplex_pair::halfcomplex(&t[b], &mut r[b]);
-        halfcomplex_pair::halfcomplex(&t[8 + b], &mut r[8 + b]);
+        double_lines::halfcomplex(&t[b], &mut r[b]);
+        double_lines::halfcomplex(&t[8 + b], &mut r[8 + b]);
     }
 }

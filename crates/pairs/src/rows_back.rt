@@ -1,6 +1,5 @@
 // The second pass of the inverse, along the rows of a pair that the pass down the columns leaves: half of each sum back, which over 2^31 is P. Its kernel is
 // called from two places, so that it is compiled by itself.
-use lines_back::backward_double;
 ghost use mathlib.Core.Path.{_≡_};
 ghost use Prim.Native.Nat.{_+_, _*_, _/_, _%_, _^_};
 ghost use lib.IntN.{pos, _+ℤ_};
@@ -48,7 +47,7 @@ fn add_line(h: &[f64; 32], sum: &mut [i64; 32])
     ensures { λ _. ⌜ ((w : WholeRow pairColumnMost (now (h .entry))) → now (sum .exit) ≡ tab 32 (λ l. getD (now (sum .entry)) l (pos 0) +ℤ away (halfSum (λ k. w .number (2 * k + l % 2)) (l / 2)) (2 ^ 31))) ⌝ }
 {
     let mut x = [0.0f64; 32];
-    backward_double::halves(h, &mut x);
+    lines_back::halves(h, &mut x);
     add_row(&x, &mut *sum);
 }
 

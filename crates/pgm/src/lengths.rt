@@ -3,8 +3,8 @@ ghost use mathlib.Core.Path.{_≡_};
 ghost use Prim.Native.Nat.{_≤_};
 ghost use Rattle.pgm.specs.Form.{fileLength, sizesAllowed, pgmLength};
 ghost use Rattle.pgm.specs.Fits.{Sized};
-use sizes::size_allowed;
 use pgm_header::header_length;
+use sizes::size_allowed;
 
 // Both sizes are allowed: refusal 1 would not stand.
 pub fn sizes_allowed(width: usize, height: usize) -> bool

@@ -1,2 +1,124 @@
-// The Wiener step, Q and G, on two tiles side by side in double.
-pub mod filter;
+// The Wiener step on two tiles side by side, in double, by quads: rows u and 8 + u of lanes l and 16 + l hold bins (u, v) and (16 − u, v) of a plane, with
+// v = l / 2, and what comes of them is folded for the inverse. A turn of a loop is a quad, and the compiler does two at a time.
+use bins::double::gains;
+use bins::double::real_gain;
+use quads::quad_at;
+use quads::set_quad;
+ghost use mathlib.Core.Path.{_≡_};
+ghost use Prim.Native.Nat.{ℕ, _+_, _*_, _%_, _≤_, _<_};
+ghost use lib.IntN.{ℤ};
+ghost use lib.Ieee.{nan};
+ghost use Rattle.sequences.specs.Tab.{tab};
+ghost use Rattle.spectrum.specs.Magnitudes.{pairNoise};
+ghost use Rattle.spectrum.specs.Spectrum.{transposed, spread, gainRe, gainIm};
+ghost use Rattle.spectrum.specs.Pairs.{sideBySide, either, Paired, doubles, Quiet};
+ghost use Rattle.quads.specs.Lanes.{Lanes};
+ghost use Rattle.wiener.specs.DoubleQuads.{newQuad};
+
+// 1 + 2^-51
+const SLIGHTLY_MORE: f64 = 1.0000000000000004440892098500626;
+
+// The quads at u = 0 and v = 0: four real bins.
+fn corner(b: &mut [[f64; 32]; 16], v: &[f64; 16], w: &[f64; 16])
+    requires { ⌜ Paired nan (now b) ⌝ }
+    ensures { λ _. ⌜ Lanes (newQuad (now (v .entry)) (now (w .entry))) 0 2 (now (b .entry)) (now (b .exit)) ⌝ }
+{
+    for l in 0..2 {
+        let q = quad_at(&*b, 0, l);
+        let a = v[l];
+        let c = w[l];
+        let g = [
+            real_gain(a, c, q[0]),
+            real_gain(a, c, q[1]),
+            real_gain(a, c, q[2]),
+            real_gain(a, c, q[3]),
+        ];
+        set_quad(&mut *b, 0, l, g);
+    }
+}
+
+// The other quads at u = 0: bins (0, v) and (8, v).
+fn left(b: &mut [[f64; 32]; 16], v: &[f64; 16], w: &[f64; 16])
+    requires { ⌜ Paired nan (now b) ⌝ }
+    ensures { λ _. ⌜ Lanes (newQuad (now (v .entry)) (now (w .entry))) 2 16 (now (b .entry)) (now (b .exit)) ⌝ }
+{
+    for l in 2..16 {
+        let q = quad_at(&*b, 0, l);
+        let a = v[l];
+        let c = w[l];
+        let g = gains(a, c, q[0], q[2]);
+        let h = gains(a, c, q[1], q[3]);
+        set_quad(&mut *b, 0, l, [g[0], h[0], g[1], h[1]]);
+    }
+}
+
+// The quads at u and v = 0: bins (u, 0) and (u, 8), and their conjugates.
+fn top(b: &mut [[f64; 32]; 16], v: &[f64; 16], w: &[f64; 16], u: usize)
+    requires { ⌜ record { u-some : 0 < u; u-below : u < 8; paired : Paired nan (now b) } ⌝ }
+    ensures { λ _. ⌜ Lanes (newQuad (now (v .entry)) (now (w .entry))) (16 * u) (16 * u + 2) (now (b .entry)) (now (b .exit)) ⌝ }
+{
+    for l in 0..2 {
+        let q = quad_at(&*b, u, l);
+        let a = v[l];
+        let c = w[l];
+        let g = gains(a, c, q[0], q[1]);
+        let h = gains(a, c, q[2], q[3]);
+        set_quad(
+            &mut *b,
+            u,
+            l,
+            [g[0] + g[0], g[1] + g[1], h[0] + h[0], h[1] + h[1]],
+        );
+    }
+}
+
+// The other quads at u.
+fn inner(b: &mut [[f64; 32]; 16], v: &[f64; 16], w: &[f64; 16], u: usize)
+    requires { ⌜ record { u-some : 0 < u; u-below : u < 8; paired : Paired nan (now b) } ⌝ }
+    ensures { λ _. ⌜ Lanes (newQuad (now (v .entry)) (now (w .entry))) (16 * u + 2) (16 * u + 16) (now (b .entry)) (now (b .exit)) ⌝ }
+{
+    for l in 2..16 {
+        let q = quad_at(&*b, u, l);
+        let a = v[l];
+        let c = w[l];
+        let x = q[0];
+        let y = q[1];
+        let z = q[2];
+        let t = q[3];
+        let g = gains(a, c, x - t, y + z);
+        let h = gains(a, c, x + t, z - y);
+        set_quad(
+            &mut *b,
+            u,
+            l,
+            [g[0] + h[0], g[1] - h[1], g[1] + h[1], h[0] - g[0]],
+        );
+    }
+}
+
+// a in the lanes of plane 0 and b in those of plane 1.
+fn alternating(a: f64, b: f64) -> [f64; 16]
+    ensures { λ r. ⌜ r ≡ tab 16 (λ l. either a b (l % 2)) ⌝ }
+{
+    let mut r = [0.0f64; 16];
+    for k in 0..8 {
+        r[2 * k] = a;
+        r[2 * k + 1] = b;
+    }
+    r
+}
+
+// G of two planes at their noise numbers, folded, in the place of B.
+pub fn filter(b: &mut [[f64; 32]; 16], first: u64, second: u64)
+    requires { ⌜ record { paired : Paired nan (now b); first-most : first ≤ pairNoise; second-most : second ≤ pairNoise } ⌝ }
+    ensures { λ _. ⌜ record { paired : Paired nan (now (b .exit)); is : (t : ℕ → ℕ → ℕ → ℤ) → Quiet first (t 0) → Quiet second (t 1) → now (b .entry) ≡ doubles (sideBySide (λ p. transposed (t p))) → now (b .exit) ≡ doubles (sideBySide (λ p. transposed (spread (gainRe (either first second p) (t p)) (gainIm (either first second p) (t p))))) } ⌝ }
+{
+    let v = alternating(first as f64, second as f64);
+    let w = alternating(first as f64 * SLIGHTLY_MORE, second as f64 * SLIGHTLY_MORE);
+    corner(&mut *b, &v, &w);
+    left(&mut *b, &v, &w);
+    for u in 1..8 {
+        top(&mut *b, &v, &w, u);
+        inner(&mut *b, &v, &w, u);
+    }
+}

@@ -1,0 +1,10 @@
+-- `whole_lines::place`: one of two places of lines that are read.
+use borrow.Author.Needs.{needs}
+use borrow.Author.Tests.{eq-eqb, ne-eqb}
+use Rattle.whole_lines.proofs.place.Statement.{statement}
+use Rattle.whole_lines.proofs.place.Tie as tie
+
+pub place-spec : {M : Type 1} → statement M
+place-spec = tie.close (tie.spec
+    (λ c. search needs) (λ c. search needs) (λ c. search (needs, eq-eqb)) (λ c. search needs)
+    (λ c. search needs) (λ c. search (needs, ne-eqb)))
