@@ -22,11 +22,13 @@ fn end_row(next: usize, over: bool) -> Passage
     Passage::Found { next }
 }
 
+const SAMPLE_MOST: u64 = 4095;
+
 // One row: 15, 14, 11.
 fn check_row(file: &[u8], at: usize, width: usize) -> Passage
     ensures { λ r. ⌜ rowsIn (now (file .entry)) r ≡ briefly (row width (drop at (now (file .entry)))) ⌝ }
 {
-    match check_line(file, at, width, 4095) {
+    match check_line(file, at, width, SAMPLE_MOST) {
         Line::Refused { number } => Passage::Refused { number },
         Line::Found { next, over } => end_row(next, over),
     }

@@ -25,6 +25,8 @@ fn word_bits(file: &[u8], from: usize) -> u16
     seen
 }
 
+const SAMPLE_MOST: u16 = 4095;
+
 // Refusal 11.
 pub fn strip_refusal(file: &[u8], start: usize, count: usize) -> u64
     requires { ⌜ (start + 2 * count ≤ length (now file)) × (count % 64 ≡ 0) ⌝ }
@@ -32,7 +34,7 @@ pub fn strip_refusal(file: &[u8], start: usize, count: usize) -> u64
 {
     let mut i = 0;
     while i < count {
-        if word_bits(file, start + 2 * i) > 4095 {
+        if word_bits(file, start + 2 * i) > SAMPLE_MOST {
             return SAMPLE_VALUE;
         }
         i += 64;

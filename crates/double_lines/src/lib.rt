@@ -11,6 +11,15 @@ ghost use Rattle.lines.specs.Magnitudes.{pairLineMost, pairSumMost};
 ghost use Rattle.lines.specs.Lines.{LineMost};
 ghost use Rattle.lines.specs.Doubles.{doubleLine, From};
 
+// C(0) to C(3)
+const C0: f64 = 16384.0;
+
+const C1: f64 = 15137.0;
+
+const C2: f64 = 11585.0;
+
+const C3: f64 = 6270.0;
+
 // The sums of numbers half a line apart, for the even places.
 fn sums(x: &[i32; 32]) -> [f64; 16]
     requires { ⌜ LineMost pairLineMost (now x) ⌝ }
@@ -45,18 +54,18 @@ fn even(s0: f64, s1: f64, s2: f64, s3: f64, s4: f64, s5: f64, s6: f64, s7: f64) 
     let d = s3 + s7;
     let p = s1 - s5;
     let q = s3 - s7;
-    let m = 16384.0 * (s0 - s4);
-    let n = 16384.0 * (s2 - s6);
-    let g = 11585.0 * (p - q);
-    let h = 11585.0 * (p + q);
+    let m = C0 * (s0 - s4);
+    let n = C0 * (s2 - s6);
+    let g = C2 * (p - q);
+    let h = C2 * (p + q);
     [
-        16384.0 * (a + c + (b + d)),
+        C0 * (a + c + (b + d)),
         m + g,
-        16384.0 * (a - c),
+        C0 * (a - c),
         m - g,
-        16384.0 * (a + c - (b + d)),
+        C0 * (a + c - (b + d)),
         0.0 - n - h,
-        16384.0 * (d - b),
+        C0 * (d - b),
         n - h,
     ]
 }
@@ -65,18 +74,18 @@ fn even(s0: f64, s1: f64, s2: f64, s3: f64, s4: f64, s5: f64, s6: f64, s7: f64) 
 fn odd(t0: f64, t1: f64, t2: f64, t3: f64, t4: f64, t5: f64, t6: f64, t7: f64) -> [f64; 8]
     ensures { λ r. ⌜ From pairSumMost 8 (t0 ∷ t1 ∷ t2 ∷ t3 ∷ t4 ∷ t5 ∷ t6 ∷ t7 ∷ []) (λ t. r ≡ doubleLine 8 (λ i. folded t (2 * i + 1))) ⌝ }
 {
-    let a = 16384.0 * t0;
+    let a = C0 * t0;
     let b = t1 - t7;
-    let c = 11585.0 * (t2 - t6);
+    let c = C2 * (t2 - t6);
     let d = t3 - t5;
-    let p = 15137.0 * b + 6270.0 * d;
-    let q = 6270.0 * b - 15137.0 * d;
-    let e = 16384.0 * t4;
+    let p = C1 * b + C3 * d;
+    let q = C3 * b - C1 * d;
+    let e = C0 * t4;
     let f = t3 + t5;
-    let g = 11585.0 * (t2 + t6);
+    let g = C2 * (t2 + t6);
     let h = t1 + t7;
-    let u = 15137.0 * f + 6270.0 * h;
-    let w = 6270.0 * f - 15137.0 * h;
+    let u = C1 * f + C3 * h;
+    let w = C3 * f - C1 * h;
     [
         a + c + p,
         a - c + q,

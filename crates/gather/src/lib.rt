@@ -59,13 +59,21 @@ const WINDOW: [u64; FINEST_SIDE] = [
     39,
 ];
 
+// Half of 2^32.
+const HALF_2_32: i64 = 2147483648;
+
 // N·(T0 + 1/2) − sum/2^32 with N = `count`, rounding down. A division by N that rounds down makes it T0 − sum/(2^32·N), to nearest, halves upward.
 fn scaled(t0: u16, sum: i64, count: usize) -> i64
     requires { ⌜ (count ≤ 8) × (AtMost sumMost sum) ⌝ }
     ensures { λ r. ⌜ r ≡ pos t0 *ℤ pos count +ℤ shrZ (pos count *ℤ pos (2 ^ 31) -ℤ sum) (2 ^ 32) ⌝ }
 {
-    t0 as i64 * count as i64 + ((count as i64 * 2147483648 - sum) >> 32)
+    t0 as i64 * count as i64 + ((count as i64 * HALF_2_32 - sum) >> 32)
 }
+
+// Samples are 0 to 4095.
+const SAMPLE_MOST: u16 = 4095;
+
+const SAMPLE_VALUES: i64 = 4096;
 
 // z / count, rounding down, held to 0..4095. `inverse` is 2^19 / count, rounding up: below 4096·count a product with it and a shift are that division.
 fn held(z: i64, count: usize, inverse: u64) -> u16
@@ -75,10 +83,10 @@ fn held(z: i64, count: usize, inverse: u64) -> u16
     if z < 0 {
         return 0;
     }
-    if z < 4096 * count as i64 {
+    if z < SAMPLE_VALUES * count as i64 {
         return ((z as u64 * inverse) >> 19) as u16;
     }
-    4095
+    SAMPLE_MOST
 }
 
 // A sample of the reference less the windowed sum of its corrections, of `count` frames.

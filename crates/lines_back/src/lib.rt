@@ -12,6 +12,18 @@ ghost use Rattle.lines.specs.Fold.{evenSum, oddSum, evenHalf};
 ghost use Rattle.lines.specs.Magnitudes.{pairFoldMost, pairColumnMost};
 ghost use Rattle.lines.specs.Doubles.{doubleLine, From, joinedAt};
 
+// C(0) to C(3)
+const C0: f64 = 16384.0;
+
+const C1: f64 = 15137.0;
+
+const C2: f64 = 11585.0;
+
+const C3: f64 = 6270.0;
+
+// and half of C(0)
+const HALF_C0: f64 = 8192.0;
+
 // The even places' sum at the numbers 0 to 7, z[k] being place 2k; of places 0 and 8 with the cosine `own`: 16384, or half of it. From number n to number
 // n + 4 what places 2, 6, 10 and 14 add changes its sign.
 fn even(own: f64, z: [f64; 8]) -> [f64; 8]
@@ -19,16 +31,16 @@ fn even(own: f64, z: [f64; 8]) -> [f64; 8]
 {
     let p = own * (z[0] + z[4]);
     let m = own * (z[0] - z[4]);
-    let k = 16384.0 * z[2];
-    let j = 16384.0 * z[6];
+    let k = C0 * z[2];
+    let j = C0 * z[6];
     let a = p + k;
     let b = m - j;
     let c = p - k;
     let d = m + j;
-    let e = 16384.0 * (z[1] + z[3]);
-    let f = 16384.0 * (z[7] - z[5]);
-    let g = 11585.0 * (z[1] - z[3]);
-    let h = 11585.0 * (z[5] + z[7]);
+    let e = C0 * (z[1] + z[3]);
+    let f = C0 * (z[7] - z[5]);
+    let g = C2 * (z[1] - z[3]);
+    let h = C2 * (z[5] + z[7]);
     let q = g - h;
     let u = g + h;
     [a + e, b + q, c + f, d - u, a - e, b - q, c - f, d + u]
@@ -46,18 +58,18 @@ fn odd(z1: f64, z3: f64, z5: f64, z7: f64, z9: f64, z11: f64, z13: f64, z15: f64
     let w = z11 + z13;
     let x = z15 - z9;
     let y = z11 - z13;
-    let a = 15137.0 * p + 6270.0 * q;
-    let b = 11585.0 * (r - s);
-    let c = 6270.0 * p - 15137.0 * q;
-    let d = 15137.0 * w + 6270.0 * u;
-    let e = 11585.0 * (x - y);
-    let f = 6270.0 * w - 15137.0 * u;
+    let a = C1 * p + C3 * q;
+    let b = C2 * (r - s);
+    let c = C3 * p - C1 * q;
+    let d = C1 * w + C3 * u;
+    let e = C2 * (x - y);
+    let f = C3 * w - C1 * u;
     [
-        16384.0 * (r + s),
+        C0 * (r + s),
         a - d,
         b + e,
         c + f,
-        16384.0 * (x + y),
+        C0 * (x + y),
         f - c,
         e - b,
         0.0 - a - d,
@@ -79,7 +91,7 @@ fn unfolded(s: &[f64; 8], t: &[f64; 8], n: usize) -> f64
 pub fn backward(z: &[f64; 16]) -> [f64; 16]
     ensures { λ r. ⌜ From pairFoldMost 16 (now (z .entry)) (λ g. r ≡ doubleLine 16 (backward g)) ⌝ }
 {
-    let s = even(16384.0, [z[0], z[2], z[4], z[6], z[8], z[10], z[12], z[14]]);
+    let s = even(C0, [z[0], z[2], z[4], z[6], z[8], z[10], z[12], z[14]]);
     let t = odd(z[1], z[3], z[5], z[7], z[9], z[11], z[13], z[15]);
     let mut r = [0.0f64; 16];
     for n in 0..16 {
@@ -94,7 +106,7 @@ fn even_of(h: &[f64; 32], p: usize) -> [f64; 8]
     ensures { λ r. ⌜ From pairColumnMost 32 (now (h .entry)) (λ z. r ≡ doubleLine 8 (evenHalf (λ k. z (4 * k + p)))) ⌝ }
 {
     even(
-        8192.0,
+        HALF_C0,
         [
             h[p],
             h[p + 4],

@@ -49,14 +49,18 @@ fn invalid_curve(curve: Curve) -> bool
     invalid_number(curve.read)
 }
 
-// Outside 25 to 409600.
+const ISO_LEAST: u32 = 25;
+
+const ISO_MOST: u32 = 409600;
+
+// Outside these.
 fn invalid_iso(iso: u32) -> bool
     ensures { λ r. ⌜ r ≡ invalidIso iso ⌝ }
 {
-    if iso < 25 {
+    if iso < ISO_LEAST {
         return true;
     }
-    409600 < iso
+    ISO_MOST < iso
 }
 
 // The condition of refusal 8.
@@ -74,14 +78,18 @@ fn invalid_noise(noise: Noise) -> bool
     }
 }
 
+const SHOT_MOST: f64 = 64.0;
+
+const READ_MOST: f64 = 4096.0;
+
 // The condition of refusal 9.
 fn above_limits(curve: Curve) -> bool
     ensures { λ r. ⌜ r ≡ aboveLimits curve ⌝ }
 {
-    if curve.shot > 64.0 {
+    if curve.shot > SHOT_MOST {
         return true;
     }
-    curve.read > 4096.0
+    curve.read > READ_MOST
 }
 
 // Refusals 8 and 9.

@@ -40,14 +40,23 @@ pub fn levels_of(noise: Noise) -> Levels
     Levels::Found { shot, read }
 }
 
+// Ls and Lr in a burst file, t and black levels: from 0 to these.
+const SHOT_LEVEL_MOST: u64 = 65536;
+
+const READ_LEVEL_MOST: u64 = 4194304;
+
+const STRENGTH_MOST: u64 = 1024;
+
+const BLACK_MOST: u16 = 255;
+
 // Refusal 9 in a burst file.
 pub fn level_refusal(ls: u64, lr: u64) -> u64
     ensures { λ r. ⌜ r ≡ levelRefusal ls lr ⌝ }
 {
-    if 65536 < ls {
+    if SHOT_LEVEL_MOST < ls {
         return refusals::NOISE_LIMIT;
     }
-    if 4194304 < lr {
+    if READ_LEVEL_MOST < lr {
         return refusals::NOISE_LIMIT;
     }
     0
@@ -57,7 +66,7 @@ pub fn level_refusal(ls: u64, lr: u64) -> u64
 pub fn strength_refusal(t: u64) -> u64
     ensures { λ r. ⌜ r ≡ strengthRefusal t ⌝ }
 {
-    refusals::refuse(refusals::STRENGTH, 1024 < t)
+    refusals::refuse(refusals::STRENGTH, STRENGTH_MOST < t)
 }
 
 // Refusal 18.
@@ -66,7 +75,7 @@ pub fn black_refusal(black: [u16; 4]) -> u64
 {
     let mut k = 0;
     while k < 4 {
-        if 255 < black[k] {
+        if BLACK_MOST < black[k] {
             return refusals::BLACK_LEVEL;
         }
         k += 1;

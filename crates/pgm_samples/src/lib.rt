@@ -21,11 +21,13 @@ fn bits(frame: &[u16]) -> u16
     seen
 }
 
+const SAMPLE_MOST: u16 = 4095;
+
 // Refusal 11 of a frame.
 pub fn frame_refusal(frame: &[u16]) -> u64
     ensures { λ r. ⌜ r ≡ aboveRefusal (now (frame .entry)) ⌝ }
 {
-    if bits(frame) > 4095 {
+    if bits(frame) > SAMPLE_MOST {
         return SAMPLE_VALUE;
     }
     0

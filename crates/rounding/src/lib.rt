@@ -60,12 +60,17 @@ pub fn round_away(z: i64, m: u64) -> i64
     signed(n)
 }
 
+// Halves of 2^24 and of 2^32.
+const HALF_2_24: i64 = 8388608;
+
+const HALF_2_32: i64 = 2147483648;
+
 // z / 2^24 to nearest, halves away from zero, by shifts: z >> 63 is −1 below zero and 0 from zero on.
 pub fn round_away_24(z: i64) -> i64
     requires { ⌜ natAbs z < 2 ^ 63 - 2 ^ 32 ⌝ }
     ensures { λ r. ⌜ r ≡ away z (2 ^ 24) ⌝ }
 {
-    (z + 8388608 + (z >> 63)) >> 24
+    (z + HALF_2_24 + (z >> 63)) >> 24
 }
 
 // The same of z / 2^32.
@@ -73,5 +78,5 @@ pub fn round_away_32(z: i64) -> i64
     requires { ⌜ natAbs z < 2 ^ 63 - 2 ^ 32 ⌝ }
     ensures { λ r. ⌜ r ≡ away z (2 ^ 32) ⌝ }
 {
-    (z + 2147483648 + (z >> 63)) >> 32
+    (z + HALF_2_32 + (z >> 63)) >> 32
 }

@@ -250,6 +250,8 @@ fn try_offset(
     sixteen::absolute_offset(tile, window, y, x, low)
 }
 
+const ABOVE_ALL: u64 = 18446744073709551615;
+
 // The first of the least residuals, and the rows summed: the offsets in tie order, offset zero first, each left after the row at which its total
 // reaches the least so far. `low` starts above every total, so that offset zero is summed whole.
 pub fn search(squared: bool, side: usize, tile: &[u16], window: &[u16]) -> Best
@@ -260,7 +262,7 @@ pub fn search(squared: bool, side: usize, tile: &[u16], window: &[u16]) -> Best
     let right = RIGHT;
     let own = copied(tile);
     let mut best: usize = 0;
-    let mut low: u64 = 18446744073709551615;
+    let mut low: u64 = ABOVE_ALL;
     let mut rows: u64 = 0;
     for k in 0..81 {
         let y = wide(down[k]);

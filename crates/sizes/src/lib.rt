@@ -3,17 +3,22 @@ ghost use mathlib.Core.Path.{_≡_};
 ghost use Rattle.geometry.specs.Shape.{sizeAllowed, sizeRefusal, countRefusal, referenceRefusal, rowRefusal};
 use geometry::Shape;
 
-// A multiple of 64 from 64 to 4096.
+// Widths and heights are multiples of 64.
+const SIZE_STEP: usize = 64;
+
+const SIZE_MOST: usize = 4096;
+
+// A width or height that is let through.
 pub fn size_allowed(size: usize) -> bool
     ensures { λ r. ⌜ r ≡ sizeAllowed size ⌝ }
 {
-    if size < 64 {
+    if size < SIZE_STEP {
         return false;
     }
-    if 4096 < size {
+    if SIZE_MOST < size {
         return false;
     }
-    size % 64 == 0
+    size % SIZE_STEP == 0
 }
 
 // Refusal 1.
@@ -29,6 +34,8 @@ pub fn size_refusal(shape: Shape) -> u64
     0
 }
 
+const COUNT_MOST: usize = 8;
+
 // Refusal 2.
 pub fn count_refusal(shape: Shape) -> u64
     ensures { λ r. ⌜ r ≡ countRefusal shape ⌝ }
@@ -36,7 +43,7 @@ pub fn count_refusal(shape: Shape) -> u64
     if shape.count < 1 {
         return refusals::COUNT;
     }
-    if 8 < shape.count {
+    if COUNT_MOST < shape.count {
         return refusals::COUNT;
     }
     0

@@ -22,7 +22,10 @@ pub extern "C" fn station_length(
     limits::question::length_question(width, height, count, side, row_length, number)
 }
 
-// V of a curve, a strength and a root; 0 where refusal 8, 9 or 10 would stand, or the root exceeds 65520.
+// The root of a tile whose samples are all 4095.
+const ROOT_MOST: u64 = 65520;
+
+// V of a curve, a strength and a root; 0 where refusal 8, 9 or 10 would stand, or the root exceeds that.
 #[no_mangle]
 pub extern "C" fn station_noise(shot: f64, read: f64, strength: u64, root: u64) -> u64
     ensures { λ r. ⌜ r ≡ noiseQuestion shot read strength root ⌝ }
@@ -33,7 +36,7 @@ pub extern "C" fn station_noise(shot: f64, read: f64, strength: u64, root: u64) 
             if noise::strength_refusal(strength) != 0 {
                 return 0;
             }
-            if 65520 < root {
+            if ROOT_MOST < root {
                 return 0;
             }
             noise::noise_number(strength, ls, lr, root)

@@ -8,13 +8,18 @@ use crate::Entry;
 use crate::bytes::long_at;
 use crate::bytes::short_at;
 
-// Not eight bytes that begin with II and 42.
+// "II": low bytes first.
+const LITTLE_ENDIAN: usize = 18761;
+
+const VERSION: usize = 42;
+
+// Not eight bytes that begin with these.
 pub fn header_wrong(file: &[u8]) -> bool
     ensures { λ r. ⌜ r ≡ headerWrong (now (file .entry)) ⌝ }
 {
     let order = short_at(file, 0);
     let version = short_at(file, 2);
-    (file.len() < 8) | (order != 18761) | (version != 42)
+    (file.len() < 8) | (order != LITTLE_ENDIAN) | (version != VERSION)
 }
 
 // Where the first directory stands.

@@ -7,6 +7,9 @@ ghost use Rattle.geometry.specs.Fits.{Sampled};
 ghost use Rattle.values.specs.Excess.{excess, rowAbove};
 use geometry::Shape;
 
+// Samples are 0 to 4095.
+const SAMPLE_VALUES: u16 = 4096;
+
 // 0 where none of the 64 samples from `at` on is above 4095. A sum without branches becomes vector instructions.
 fn excess(samples: &[u16], at: usize) -> u16
     requires { ⌜ at + 64 ≤ length (now samples) ⌝ }
@@ -14,7 +17,7 @@ fn excess(samples: &[u16], at: usize) -> u16
 {
     let mut sum: u16 = 0;
     for k in 0..64 {
-        sum += samples[at + k] / 4096;
+        sum += samples[at + k] / SAMPLE_VALUES;
     }
     sum
 }
@@ -47,6 +50,11 @@ pub fn sample_refusal(shape: Shape, samples: &[u16]) -> u64
     0
 }
 
+// Vector parts are -172 to 172.
+const PART_LEAST: i32 = -172;
+
+const PART_MOST: i32 = 172;
+
 // Refusal 12.
 pub fn vector_refusal(vectors: &[i32]) -> u64
     ensures { λ r. ⌜ r ≡ vectorRefusal (now (vectors .entry)) ⌝ }
@@ -54,10 +62,10 @@ pub fn vector_refusal(vectors: &[i32]) -> u64
     let mut i = 0;
     while i < vectors.len() {
         let part = vectors[i];
-        if part < -172 {
+        if part < PART_LEAST {
             return refusals::VECTOR_PART;
         }
-        if part > 172 {
+        if part > PART_MOST {
             return refusals::VECTOR_PART;
         }
         i += 1;

@@ -14,6 +14,15 @@ ghost use Rattle.lines.specs.Fold.{sumAt, differenceAt, folded};
 ghost use Rattle.lines.specs.Magnitudes.{differenceMost, differenceFoldMost};
 ghost use Rattle.lines.specs.Lines.{LineMost};
 
+// C(0) to C(3)
+const C0: i32 = 16384;
+
+const C1: i32 = 15137;
+
+const C2: i32 = 11585;
+
+const C3: i32 = 6270;
+
 // The sums of numbers half a line apart, for the even places.
 fn sums(x: &[i16; 16]) -> [i16; 8]
     requires { ⌜ LineMost differenceMost (now x) ⌝ }
@@ -50,18 +59,18 @@ fn even(s0: i16, s1: i16, s2: i16, s3: i16, s4: i16, s5: i16, s6: i16, s7: i16) 
     let d = s3 as i32 + s7 as i32;
     let p = s1 - s5;
     let q = s3 - s7;
-    let m = 16384 * ((s0 - s4) as i32);
-    let n = 16384 * ((s2 - s6) as i32);
-    let g = 11585 * ((p - q) as i32);
-    let h = 11585 * ((p + q) as i32);
+    let m = C0 * ((s0 - s4) as i32);
+    let n = C0 * ((s2 - s6) as i32);
+    let g = C2 * ((p - q) as i32);
+    let h = C2 * ((p + q) as i32);
     [
-        16384 * (a + c + (b + d)),
+        C0 * (a + c + (b + d)),
         m + g,
-        16384 * (a - c),
+        C0 * (a - c),
         m - g,
-        16384 * (a + c - (b + d)),
+        C0 * (a + c - (b + d)),
         0 - n - h,
-        16384 * (d - b),
+        C0 * (d - b),
         n - h,
     ]
 }
@@ -72,18 +81,18 @@ fn odd(t0: i16, t1: i16, t2: i16, t3: i16, t4: i16, t5: i16, t6: i16, t7: i16) -
     requires { ⌜ LineMost differenceFoldMost (t0 ∷ t1 ∷ t2 ∷ t3 ∷ t4 ∷ t5 ∷ t6 ∷ t7 ∷ []) ⌝ }
     ensures { λ r. ⌜ r ≡ tab 8 (λ i. folded (λ n. getD (t0 ∷ t1 ∷ t2 ∷ t3 ∷ t4 ∷ t5 ∷ t6 ∷ t7 ∷ []) n (pos 0)) (2 * i + 1)) ⌝ }
 {
-    let a = 16384 * (t0 as i32);
+    let a = C0 * (t0 as i32);
     let b = (t1 - t7) as i32;
-    let c = 11585 * ((t2 - t6) as i32);
+    let c = C2 * ((t2 - t6) as i32);
     let d = (t3 - t5) as i32;
-    let p = 15137 * b + 6270 * d;
-    let q = 6270 * b - 15137 * d;
-    let e = 16384 * (t4 as i32);
+    let p = C1 * b + C3 * d;
+    let q = C3 * b - C1 * d;
+    let e = C0 * (t4 as i32);
     let f = (t3 + t5) as i32;
-    let g = 11585 * ((t2 + t6) as i32);
+    let g = C2 * ((t2 + t6) as i32);
     let h = (t1 + t7) as i32;
-    let u = 15137 * f + 6270 * h;
-    let w = 6270 * f - 15137 * h;
+    let u = C1 * f + C3 * h;
+    let w = C3 * f - C1 * h;
     [
         a + c + p,
         a - c + q,
