@@ -25,18 +25,18 @@ pub fn plane(d: &[[i16; 32]; 16], p: usize) -> [[i16; 16]; 16]
 }
 
 // Place l of a row of the pair of planes a and b.
-fn place(a: &[i64; 16], b: &[i64; 16], l: usize) -> i64
+fn place(a: &[i32; 16], b: &[i32; 16], l: usize) -> i64
     requires { ⌜ record { first-most : LineMost correctionMost (now a); second-most : LineMost correctionMost (now b); l-below : l < 32 } ⌝ }
     ensures { λ r. ⌜ (r ≡ getD (either (now (a .entry)) (now (b .entry)) (l % 2)) (l / 2) (pos 0)) × (AtMost correctionMost r) ⌝ }
 {
     if l % 2 == 0 {
-        return a[l / 2];
+        return a[l / 2] as i64;
     }
-    b[l / 2]
+    b[l / 2] as i64
 }
 
 // Such a row is added to a row of sums.
-fn add_row(sum: &mut [i64; 32], a: &[i64; 16], b: &[i64; 16])
+fn add_row(sum: &mut [i64; 32], a: &[i32; 16], b: &[i32; 16])
     requires { ⌜ record { first-most : LineMost correctionMost (now a); second-most : LineMost correctionMost (now b); sums-most : LineMost (2 ^ 40) (now sum); long : length (now sum) ≡ 32 } ⌝ }
     ensures { λ _. ⌜ now (sum .exit) ≡ tab 32 (λ l. getD (now (sum .entry)) l (pos 0) +ℤ getD (either (now (a .entry)) (now (b .entry)) (l % 2)) (l / 2) (pos 0)) ⌝ }
 {
@@ -46,7 +46,7 @@ fn add_row(sum: &mut [i64; 32], a: &[i64; 16], b: &[i64; 16])
 }
 
 // The planes a and b are added to the sums.
-pub fn add_planes(sum: &mut [[i64; 32]; 16], a: &[[i64; 16]; 16], b: &[[i64; 16]; 16])
+pub fn add_planes(sum: &mut [[i64; 32]; 16], a: &[[i32; 16]; 16], b: &[[i32; 16]; 16])
     requires { ⌜ record { first-most : TileMost correctionMost (now a); second-most : TileMost correctionMost (now b); sums-most : TileMost (2 ^ 40) (now sum); paired : Paired (pos 0) (now sum) } ⌝ }
     ensures { λ _. ⌜ now (sum .exit) ≡ grid 16 32 (λ y l. cell (pos 0) (now (sum .entry)) y l +ℤ cell (pos 0) (either (now (a .entry)) (now (b .entry)) (l % 2)) y (l / 2)) ⌝ }
 {

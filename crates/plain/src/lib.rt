@@ -46,7 +46,7 @@ fn wiener(mut b: [[i64; 32]; 16], noise: u64) -> [[i64; 32]; 16]
 }
 
 // P from G, along the rows and then along the columns.
-fn inverse(g: [[i64; 32]; 16]) -> [[i64; 16]; 16]
+fn inverse(g: [[i64; 32]; 16]) -> [[i32; 16]; 16]
     requires { ⌜ TileMost gainMost g ⌝ }
     ensures { λ r. ⌜ r ≡ grid 16 16 (inverseAt side16 (realOf g) (imaginaryOf g)) ⌝ }
 {
@@ -56,7 +56,7 @@ fn inverse(g: [[i64; 32]; 16]) -> [[i64; 16]; 16]
 }
 
 // P of a tile of differences at the noise number V.
-pub fn correction(d: [[i16; 16]; 16], noise: u64) -> [[i64; 16]; 16]
+pub fn correction(d: [[i16; 16]; 16], noise: u64) -> [[i32; 16]; 16]
     requires { ⌜ record { differences : TileMost differenceMost d; noise-most : noise ≤ noiseMost } ⌝ }
     ensures { λ r. ⌜ (r ≡ grid 16 16 (correctionAt side16 noise (cell (pos 0) d))) × (TileMost correctionMost r) ⌝ }
 {

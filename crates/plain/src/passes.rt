@@ -91,25 +91,33 @@ pub fn pass(z: &[[i64; 32]; 16], q: usize, r: &mut [[i64; 32]; 16])
     }
 }
 
-// The real part of place k of each line of z, divided by 2^32 to nearest, halves away from zero.
-fn rounded_places(z: &[[i64; 32]; 16], q: usize, k: usize) -> [i64; 16]
+// A place divided by 2^32 to nearest, halves away from zero: it fits 32 bits.
+fn rounded(z: i64) -> i32
+    requires { ⌜ AtMost placeMost z ⌝ }
+    ensures { λ r. ⌜ r ≡ away z (2 ^ 32) ⌝ }
+{
+    round_away_32(z) as i32
+}
+
+// The real part of place k of each line of z, so divided.
+fn rounded_places(z: &[[i64; 32]; 16], q: usize, k: usize) -> [i32; 16]
     requires { ⌜ record { most : TileMost partMost (now z); q-most : q ≤ 16; k-below : k < 16 } ⌝ }
     ensures { λ r. ⌜ r ≡ tab 16 (λ i. away (passedRe q (now (z .entry)) k i) (2 ^ 32)) ⌝ }
 {
     let table = COSINES;
-    let mut r = [0i64; 16];
+    let mut r = [0i32; 16];
     for i in 0..16 {
-        r[i] = round_away_32(place(&table, &z[i], k, 0, q));
+        r[i] = rounded(place(&table, &z[i], k, 0, q));
     }
     r
 }
 
 // A pass whose real part alone is wanted, divided by 2^32.
-pub fn rounded_pass(z: &[[i64; 32]; 16], q: usize) -> [[i64; 16]; 16]
+pub fn rounded_pass(z: &[[i64; 32]; 16], q: usize) -> [[i32; 16]; 16]
     requires { ⌜ record { most : TileMost partMost (now z); q-most : q ≤ 16 } ⌝ }
     ensures { λ r. ⌜ r ≡ grid 16 16 (λ k i. away (passedRe q (now (z .entry)) k i) (2 ^ 32)) ⌝ }
 {
-    let mut r = [[0i64; 16]; 16];
+    let mut r = [[0i32; 16]; 16];
     for k in 0..16 {
         r[k] = rounded_places(z, q, k);
     }

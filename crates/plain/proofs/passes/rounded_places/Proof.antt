@@ -1,5 +1,5 @@
 -- `plain::passes::rounded_places`: the quotients are stored one after the other.
-use Rattle.algebra.specs.Prelude.{_≡_, refl, ap, _∙_, _-_, _^_, arith, needs, w64, toZ, ofZ}
+use Rattle.algebra.specs.Prelude.{_≡_, refl, ap, _∙_, _-_, _^_, arith, needs, w32, w64, toZ, ofZ}
 use Rattle.algebra.specs.Nearest.{away}
 use Rattle.sequences.specs.TabLaws.{Filled, fill-start, fill-turn, fill-done}
 use Rattle.recipe.specs.Tables.{cosines}
@@ -21,19 +21,14 @@ place-requires c κs =
     let s = l .before in
     record { table-is = refl; most = s .pre .most .line (l .loop .i); k-below = s .pre .k-below; p-most = omega arith; q-most = s .pre .q-most }
 
-round-away-32-requires : tie.Need-round-away-32-requires Inv-loop μ-loop
-round-away-32-requires c κs =
-    let m = number-most w64 (c .place .ensures .1) tt in
-    omega (arith, m .most)
-
 loop-again : tie.Need-loop-again Inv-loop μ-loop
 loop-again c =
     let p = c .before in
-    let e : toZ w64 (ofZ w64 (c .round-away-32 .result)) ≡ c .round-away-32 .result = search needs in
+    let e : toZ w32 (ofZ w32 (c .rounded .result)) ≡ c .rounded .result = search needs in
     fill-turn (p .before .before .before .before .loop .inv) (omega arith)
-    (e ∙ c .round-away-32 .ensures ∙ ap (λ z. away z (2 ^ 32)) (number-is w64 (p .place .ensures .1) tt ∙ p .place .ensures .0))
+    (e ∙ c .rounded .ensures ∙ ap (λ z. away z (2 ^ 32)) (number-is w64 (p .place .ensures .1) tt ∙ p .place .ensures .0))
 
 pub rounded-places-spec : {M : Type 1} → statement M
 rounded-places-spec = tie.close (tie.spec
-    Inv-loop μ-loop (λ c. fill-start refl) (λ c. search needs) (λ c. search needs) place-requires round-away-32-requires (λ c. search needs)
+    Inv-loop μ-loop (λ c. fill-start refl) (λ c. search needs) (λ c. search needs) place-requires (λ c κs. number-most w64 (c .place .ensures .1) tt) (λ c. search needs)
     (λ c. search needs) (λ c. search needs) (λ c. search needs) loop-again (λ c. fill-done (c .before .loop .inv) (omega arith)))
