@@ -1,5 +1,5 @@
 -- `rounding::round_away`: the absolute value rounded, with the sign put back.
-use Rattle.algebra.specs.Prelude.{_≡_, _∙_, needs, w64, toZ, ofZ, toZ-ofZ}
+use Rattle.algebra.specs.Prelude.{_≡_, _∙_, _^_, _<_, needs, w64, toZ, ofZ, toZ-ofZ}
 use Rattle.rounding.proofs.Sign.{half-fits, away-below, away-from}
 use Rattle.rounding.proofs.round_away.Statement.{statement}
 use Rattle.rounding.proofs.round_away.Tie as tie
@@ -13,9 +13,9 @@ halves-up-requires c κs =
       dividend-below = rw (c .magnitude .ensures, toZ-ofZ (s .fits .z)) (s .pre .dividend-below);
     }
 
-negated-requires : tie.Need-negated-requires
-negated-requires c κs =
-    let b = c .before in
+-- the quotient of the absolute value fits with either sign
+fits : (b : tie.After-halves-up) → b .halves-up .result < 2 ^ 63
+fits b =
     let s = b .before .before in
     half-fits (s .args .m) _ (s .fits .z) (b .before .magnitude .ensures) (b .halves-up .ensures .1) (s .pre .dividend-below)
 
@@ -27,12 +27,6 @@ returns c =
     e ∙ c .negated .ensures
     ∙ away-below (s .args .m) _ (s .fits .z) (b .before .magnitude .ensures) (c .before .if1 .taken) (b .halves-up .ensures .0)
 
-signed-requires : tie.Need-signed-requires
-signed-requires c κs =
-    let b = c .before in
-    let s = b .before .before in
-    half-fits (s .args .m) _ (s .fits .z) (b .before .magnitude .ensures) (b .halves-up .ensures .1) (s .pre .dividend-below)
-
 returns-2 : tie.Need-returns-2
 returns-2 c =
     let b = c .before .before in
@@ -43,5 +37,5 @@ returns-2 c =
 
 pub round-away-spec : {M : Type 1} → statement M
 round-away-spec = tie.close (tie.spec
-    (λ c κs. rw (toZ-ofZ (c .fits .z)) (c .pre .dividend-below)) halves-up-requires negated-requires returns
-    signed-requires returns-2)
+    (λ c κs. rw (toZ-ofZ (c .fits .z)) (c .pre .dividend-below)) halves-up-requires (λ c κs. fits (c .before)) returns
+    (λ c κs. fits (c .before)) returns-2)
