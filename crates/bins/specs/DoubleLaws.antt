@@ -8,7 +8,7 @@ use Rattle.floats.specs.QuotientLaws.{slightlyMore, quotient-again}
 use Rattle.floats.specs.ProductLaws.{product-away}
 use Rattle.recipe.specs.Tables.{side16}
 use Rattle.recipe.specs.Correction.{power, quantized, wiener, filtered}
-use Rattle.spectrum.specs.Magnitudes.{binMost, gainMost, pairNoise, productMost}
+use Rattle.spectrum.specs.Magnitudes.{binMost, gainMost, noiseMost, productMost}
 use Rattle.spectrum.specs.RoundingLaws.{away-most}
 use Rattle.spectrum.specs.WienerLaws.{wiener-is}
 use Rattle.bins.specs.Doubles.{nearestWhole, quantizedIn, powerIn, gainsIn, realGainIn}
@@ -43,7 +43,7 @@ square z h =
 abbrev pub weight : ℕ → Float
 weight v = mul binary64 (ofInt binary64 (pos v)) slightlyMore
 
-module _ (v : ℕ) (q r : ℤ) (above : 0 < v) (small : v ≤ pairNoise) (first : natAbs q ≤ gainMost) (second : natAbs r ≤ gainMost) where
+module _ (v : ℕ) (q r : ℤ) (above : 0 < v) (small : v ≤ noiseMost) (first : natAbs q ≤ gainMost) (second : natAbs r ≤ gainMost) where
   power-most : power v q r ≤ 2 ^ 53
   power-most = le-trans (add-le-add (add-le-add (mul-le-mul first first) (mul-le-mul second second)) small) (lit≤ tt)
 
@@ -59,7 +59,7 @@ module _ (v : ℕ) (q r : ℤ) (above : 0 < v) (small : v ≤ pairNoise) (first 
       quotient-again (whole-of binary64 (pos v) (omega arith)) p above (omega arith) (omega arith) power-most q (omega arith) h
       ∙ ap (ofInt binary64) (sym (wiener-is v q r above))
 
-real-power-is : (v : ℕ) (q : ℤ) → 0 < v → v ≤ pairNoise → natAbs q ≤ gainMost → Whole (add binary64 (mul binary64 (ofInt binary64 q) (ofInt binary64 q)) (ofInt binary64 (pos v))) false (power v q (pos 0))
+real-power-is : (v : ℕ) (q : ℤ) → 0 < v → v ≤ noiseMost → natAbs q ≤ gainMost → Whole (add binary64 (mul binary64 (ofInt binary64 q) (ofInt binary64 q)) (ofInt binary64 (pos v))) false (power v q (pos 0))
 real-power-is v q above small h =
     let e : natAbs q * natAbs q + v ≡ power v q (pos 0) = omega arith in
     subst (λ n. Whole (add binary64 (mul binary64 (ofInt binary64 q) (ofInt binary64 q)) (ofInt binary64 (pos v))) false n) e
@@ -72,7 +72,7 @@ power-swapped {d} v q r p =
     let e : power v q r ≡ power v r q = omega arith in
     subst (λ n. Whole d false n) e p
 
-pub gains-are : (v : ℕ) (a b : ℤ) → 0 < v → v ≤ pairNoise → natAbs a ≤ binMost → natAbs b ≤ binMost → v * natAbs (quantized side16 a) ≤ productMost → v * natAbs (quantized side16 b) ≤ productMost
+pub gains-are : (v : ℕ) (a b : ℤ) → 0 < v → v ≤ noiseMost → natAbs a ≤ binMost → natAbs b ≤ binMost → v * natAbs (quantized side16 a) ≤ productMost → v * natAbs (quantized side16 b) ≤ productMost
     → gainsIn (ofInt binary64 (pos v)) (weight v) (ofInt binary64 a) (ofInt binary64 b) ≡ ofInt binary64 (filtered side16 v a b) ∷ ofInt binary64 (filtered side16 v b a) ∷ []
 unfolding gainsIn filtered
 gains-are v a b above small m n h k =
@@ -84,7 +84,7 @@ gains-are v a b above small m n h k =
     rw (quantized-is a m, quantized-is b n)
     (ap₂ (λ x y. x ∷ y ∷ []) (gain-is v q r above small l o p h) (gain-is v r q above small o l (power-swapped v q r p) k))
 
-pub real-gain-is : (v : ℕ) (a : ℤ) → 0 < v → v ≤ pairNoise → natAbs a ≤ binMost → v * natAbs (quantized side16 a) ≤ productMost
+pub real-gain-is : (v : ℕ) (a : ℤ) → 0 < v → v ≤ noiseMost → natAbs a ≤ binMost → v * natAbs (quantized side16 a) ≤ productMost
     → realGainIn (ofInt binary64 (pos v)) (weight v) (ofInt binary64 a) ≡ ofInt binary64 (filtered side16 v a (pos 0))
 unfolding realGainIn filtered
 real-gain-is v a above small m h =

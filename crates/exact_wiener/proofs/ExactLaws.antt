@@ -1,36 +1,19 @@
 -- The Wiener step at one bin with quotients in whole numbers: a whole number in double is itself as an i64, and so Q and G are the recipe's.
-use Rattle.algebra.specs.Prelude.{_≡_, refl, sym, ap, subst, _∙_, [], _∷_, ℕ, _^_, _≤_, arith, T, ℤ, pos, negsuc, natAbs, w64, toZ, ofZ}
-use lib.Dec.{le→leb, lt→ltb}
+use Rattle.algebra.specs.Prelude.{_≡_, refl, sym, ap, subst, _∙_, [], _∷_, ℕ, _≤_, arith, T, ℤ, natAbs, w64, toZ, ofZ}
 use lib.Ieee.{Float, binary64, ofInt, toSigned, inSigned, inFloat}
-use lib.Ieee.Back.{positive-back, negative-back}
 use Rattle.algebra.specs.Bound.{AtMost}
+use Rattle.floats.specs.Casts.{whole-counted, whole-back}
+use Rattle.lines.specs.Doubles.{WholeDouble}
 use Rattle.lines.specs.Held.{number-is}
 use Rattle.recipe.specs.Tables.{side16}
 use Rattle.recipe.specs.Correction.{quantized, filtered}
 use Rattle.spectrum.specs.Magnitudes.{binMost, gainMost}
-use Rattle.spectrum.specs.Pairs.{WholeDouble}
 use Rattle.bins.specs.Doubles.{quantizedIn, wholeQuantized, exactGainsIn}
 use Rattle.bins.specs.DoubleLaws.{quantized-is, quantized-most}
 
-module _ (z : ℤ) (most : natAbs z ≤ gainMost) where
-  counted : T (inFloat binary64 z)
-  unfolding inFloat
-  counted = go z most
-    where
-      go : (z : ℤ) → natAbs z ≤ gainMost → T (inFloat binary64 z)
-      go (pos n) h = le→leb n (2 ^ 53) (omega arith)
-      go (negsuc n) h = lt→ltb n (2 ^ 53) (omega arith)
-
-  back : T (inSigned binary64 63 (ofInt binary64 z)) × (toSigned 63 (ofInt binary64 z) ≡ z)
-  back = go z most counted
-    where
-      go : (z : ℤ) → natAbs z ≤ gainMost → T (inFloat binary64 z) → T (inSigned binary64 63 (ofInt binary64 z)) × (toSigned 63 (ofInt binary64 z) ≡ z)
-      go (pos n) h t = positive-back binary64 63 n t (omega arith)
-      go (negsuc n) h t = negative-back binary64 63 n t (omega arith)
-
 -- as the code holds it
 pub held-counted : {z : ℤ} → AtMost gainMost z → T (inFloat binary64 (toZ w64 (ofZ w64 z)))
-held-counted {z} m = subst (λ z. T (inFloat binary64 z)) (sym (number-is w64 m tt)) (counted z (m .most))
+held-counted {z} m = subst (λ z. T (inFloat binary64 z)) (sym (number-is w64 m tt)) (whole-counted z (omega (arith, m .most)))
 
 -- a part of Q
 module _ {x : Float} (w : WholeDouble binMost x) where
@@ -38,7 +21,7 @@ module _ {x : Float} (w : WholeDouble binMost x) where
   part = quantized side16 (w .number)
 
   part-back : T (inSigned binary64 63 (ofInt binary64 part)) × (toSigned 63 (ofInt binary64 part) ≡ part)
-  part-back = back part (quantized-most (w .number) (w .most))
+  part-back = whole-back part (omega (arith, quantized-most (w .number) (w .most)))
 
   in-double : quantizedIn x ≡ ofInt binary64 part
   in-double = ap quantizedIn (w .is) ∙ quantized-is (w .number) (w .most)

@@ -7,3 +7,4 @@ pub mod Kernels
 pub mod Middle
 pub mod QuotientLaws
 pub mod ProductLaws
+pub mod Casts

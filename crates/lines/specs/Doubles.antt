@@ -11,6 +11,21 @@ doubleLine n z = tab n (λ i. ofInt binary64 (z i))
 abbrev pub From : (m n : ℕ) → List Float → ((ℕ → ℤ) → Type 0) → Type 0
 From m n x holds = (z : ℕ → ℤ) → ((k : ℕ) → natAbs (z k) ≤ m) → x ≡ doubleLine n z → holds z
 
+-- a whole number of at most m in double
+pub record WholeDouble (m : ℕ) (x : Float) : Type 0 where
+  pub number : ℤ
+  pub most : natAbs number ≤ m
+  pub is : x ≡ ofInt binary64 number
+
+-- a row of thirty-two of them
+pub record WholeRow (m : ℕ) (x : List Float) : Type 0 where
+  pub number : ℕ → ℤ
+  pub most : (l : ℕ) → natAbs (number l) ≤ m
+  pub is : x ≡ doubleLine 32 number
+
 -- number n of a line, from the sums s of its even places and t of its odd places
+abbrev pub joinedBy : {A : Type 0} → (plus minus : Float → Float → A) (s t : List Float) → ℕ → A
+joinedBy plus minus s t n = cond (ltb n 8) (plus (getD s n nan) (getD t n nan)) (minus (getD s (n - 8) nan) (getD t (n - 8) nan))
+
 abbrev pub joinedAt : (s t : List Float) → ℕ → Float
-joinedAt s t n = cond (ltb n 8) (add binary64 (getD s n nan) (getD t n nan)) (sub binary64 (getD s (n - 8) nan) (getD t (n - 8) nan))
+joinedAt = joinedBy (add binary64) (sub binary64)

@@ -1,18 +1,16 @@
--- Half of the sum back: twice it is the sum in which all places but 0 and n/2 count twice; and its bound.
-use Rattle.algebra.specs.Prelude.{_≡_, refl, sym, ap, subst, _∙_, Bool, true, false, cond, [], _∷_, ℕ, zero, suc, _+_, _-_, _*_, _/_, _%_, _≤_, _<_, arith, eqb, lit≤, ℤ, pos, negsuc, natAbs, negℤ, _*ℤ_}
-use native.Mathlib.Nat.{le-trans, zero-mul, suc-mul, mul-zero, mul-suc, mul-assoc, mul-comm, div-add-mod}
+-- Half of the sum back: twice it is the sum in which all places but 0 and n/2 count twice; and the bounds of the basis.
+use Rattle.algebra.specs.Prelude.{_≡_, refl, sym, ap, subst, _∙_, Bool, true, false, cond, [], _∷_, ℕ, zero, suc, _+_, _-_, _*_, _/_, _%_, _≤_, _<_, arith, eqb, ℤ, pos, negsuc, natAbs, negℤ, _*ℤ_}
+use native.Mathlib.Nat.{zero-mul, suc-mul, mul-zero, mul-suc, mul-assoc, mul-comm, div-add-mod}
 use borrow.Author.Tests.{eqb-true, lt-ltb}
 use lib.IntN.{negℤ-negℤ}
-use Rattle.algebra.specs.Order.{abs-neg, abs-mul-le}
+use Rattle.algebra.specs.Order.{abs-neg}
 use Rattle.algebra.specs.Ring.{var, #_, _⊠_, ⊖_, ring}
-use Rattle.algebra.specs.Sums.{sumN}
-use Rattle.algebra.specs.SumLaws.{sumZ-cong, sumZ-scale, sumN-mono, abs-sum}
+use Rattle.algebra.specs.SumLaws.{sumZ-cong, sumZ-scale}
 use Rattle.recipe.specs.Side.{Side, cosAt}
 use Rattle.recipe.specs.Tables.{cosines, cosine16, side16}
 use Rattle.recipe.specs.TableRules.{Rules}
 use Rattle.recipe.specs.TableLaws.{rules16}
 use Rattle.lines.specs.Halfcomplex.{halfZ, frequencyOf, phaseOf, basisOf, backwardOf, halfBasisOf, halfSumOf, backward, halfSum}
-use Rattle.lines.specs.Magnitudes.{pairColumnMost, pairHalfMost}
 
 -- ---- twice the half
 
@@ -88,23 +86,10 @@ module _ {s : Side} (r : Rules s) (k n : ℕ) where
   unfolding basisOf
   basis-most = r .most (frequencyOf s k * n + phaseOf s k)
 
-  half-basis-within : natAbs (halfBasisOf s k n) ≤ cond (eqb (k % s .half) 0) 8192 16384
-  unfolding halfBasisOf
-  half-basis-within = go (eqb (k % s .half) 0)
-    where
-      go : (b : Bool) → natAbs (cond b (halfZ (basisOf s k n)) (basisOf s k n)) ≤ cond b 8192 16384
-      go true = half-within (basisOf s k n) 8192 basis-most
-      go false = basis-most
-
   pub half-basis-most : natAbs (halfBasisOf s k n) ≤ 16384
-  half-basis-most = le-trans half-basis-within (go (eqb (k % s .half) 0))
+  unfolding halfBasisOf
+  half-basis-most = go (eqb (k % s .half) 0)
     where
-      go : (b : Bool) → cond b 8192 16384 ≤ 16384
-      go true = lit≤ tt
-      go false = lit≤ tt
-
-pub half-sum-most : (z : ℕ → ℤ) → ((k : ℕ) → natAbs (z k) ≤ pairColumnMost) → (n : ℕ) → natAbs (halfSum z n) ≤ pairHalfMost
-unfolding halfSumOf side16 sumN
-half-sum-most z h n =
-    le-trans (abs-sum 16 (λ k. z k *ℤ halfBasisOf side16 k n))
-    (sumN-mono 16 (λ k. natAbs (z k *ℤ halfBasisOf side16 k n)) (λ k. pairColumnMost * cond (eqb (k % 8) 0) 8192 16384) (λ k l. abs-mul-le (z k) (halfBasisOf side16 k n) (h k) (half-basis-within rules16 k n)))
+      go : (b : Bool) → natAbs (cond b (halfZ (basisOf s k n)) (basisOf s k n)) ≤ 16384
+      go true = half-within (basisOf s k n) 16384 (omega (arith, basis-most))
+      go false = basis-most

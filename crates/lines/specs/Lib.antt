@@ -7,5 +7,6 @@ pub mod Fold
 pub mod SideFolds
 pub mod SideSums
 pub mod Magnitudes
+pub mod BackSizes
 pub mod Doubles
 pub mod DoubleForms

@@ -1,5 +1,5 @@
 -- The largest numbers of a line that the passes are proved for.
-use Prim.Native.Nat.{ℕ, _*_, _^_}
+use Rattle.algebra.specs.Prelude.{Bool, cond, ℕ, _*_, _^_}
 
 -- ---- in 16 bits, and products in 32
 
@@ -21,14 +21,34 @@ pairLineMost = 2 ^ 30
 abbrev pub pairSumMost : ℕ
 pairSumMost = 2 ^ 31
 
--- back: a number of the folded G, two parts of at most 2^14 each: half the root of V, which is up to 2^30
-abbrev pub pairFoldMost : ℕ
-pairFoldMost = 2 ^ 15
+-- ---- back, in double; `low` where the noise numbers are at most 2^32
 
--- a sum back down a column: 16·16384 times these
-abbrev pub pairColumnMost : ℕ
-pairColumnMost = 2 ^ 33
+-- a part of G: half the root of V, which is up to 2^32, or up to 279105765376
+abbrev pub partMost : (low : Bool) → ℕ
+partMost low = cond low (2 ^ 15) 264153
 
--- half of a sum back along a row: (2·8192 + 14·16384) times these
-abbrev pub pairHalfMost : ℕ
-pairHalfMost = 15 * 2 ^ 47
+-- a number of the folded G, two parts
+abbrev pub foldMost : (low : Bool) → ℕ
+foldMost low = 2 * partMost low
+
+-- what the magnitudes of the basis at a number add up to, at most, over the places of a line; and for half of the sum
+abbrev pub basisSum : ℕ
+basisSum = 181120
+
+abbrev pub halfBasisSum : ℕ
+halfBasisSum = 164736
+
+-- of that, over the even places and over the odd ones
+abbrev pub evenHalfSum : ℕ
+evenHalfSum = 79108
+
+abbrev pub oddBasisSum : ℕ
+oddBasisSum = 92680
+
+-- a sum back down a column
+abbrev pub columnMost : (low : Bool) → ℕ
+columnMost low = foldMost low * basisSum
+
+-- half of a sum back along a row: below 2^51 where noise is low, and else below 2^54
+abbrev pub halfMost : (low : Bool) → ℕ
+halfMost low = columnMost low * halfBasisSum

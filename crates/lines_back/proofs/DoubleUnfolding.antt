@@ -13,7 +13,6 @@ use Rattle.lines.specs.Fold.{evenSumOf, oddSumOf, evenHalfOf, evenSum, oddSum, 
 use Rattle.lines.specs.SideSums.{Halves, back-halves, half-halves}
 use Rattle.lines.specs.HalfSumLaws.{basis-most, half-basis-most}
 use Rattle.lines.specs.Doubles.{doubleLine, joinedAt}
-use Rattle.lines.specs.Magnitudes.{pairColumnMost}
 use Rattle.lines.specs.DoubleForms.{sum-exact, difference-exact}
 
 -- number n of a line
@@ -35,10 +34,10 @@ module _ {f e o : ℕ → ℤ} (h : Halves 8 f e o) (e-most : (n : ℕ) → natA
           ap₂ (sub binary64) (at e p (n - 8) m) (at o q (n - 8) m) ∙ difference-exact (e (n - 8)) (o (n - 8)) (e-most (n - 8)) (o-most (n - 8))
           ∙ ap (ofInt binary64) (sym (h .high (n - 8)) ∙ ap f back)
 
--- the sums of eight places are small
-module _ (z : ℕ → ℤ) (most : (k : ℕ) → natAbs (z k) ≤ pairColumnMost) (n : ℕ) where
+-- sums of eight places that are exact, where the places are at most 2^35
+module _ (z : ℕ → ℤ) (most : (k : ℕ) → natAbs (z k) ≤ 2 ^ 35) (n : ℕ) where
   eight-most : (w : ℕ → ℤ) → ((k : ℕ) → natAbs (w k) ≤ 16384) → natAbs (sumZ 8 (λ k. z k *ℤ w k)) ≤ 2 ^ 52
-  eight-most w m = omega (arith, abs-sum-bound 8 (pairColumnMost * 16384) (λ k. z k *ℤ w k) (λ k h. abs-mul-le (z k) (w k) (most k) (m k)))
+  eight-most w m = omega (arith, abs-sum-bound 8 (2 ^ 35 * 16384) (λ k. z k *ℤ w k) (λ k h. abs-mul-le (z k) (w k) (most k) (m k)))
 
   even-most : natAbs (evenSum z n) ≤ 2 ^ 52
   unfolding evenSumOf side16
@@ -53,7 +52,7 @@ module _ (z : ℕ → ℤ) (most : (k : ℕ) → natAbs (z k) ≤ pairColumnMost
   half-most = eight-most (λ k. halfBasisOf side16 (2 * k) n) (λ k. half-basis-most rules16 (2 * k) n)
 
 -- the sum back, and half of it
-module _ (z : ℕ → ℤ) (most : (k : ℕ) → natAbs (z k) ≤ pairColumnMost) {s t : List Float} where
+module _ (z : ℕ → ℤ) (most : (k : ℕ) → natAbs (z k) ≤ 2 ^ 35) {s t : List Float} where
   pub back-at : s ≡ doubleLine 8 (evenSum (λ k. z (2 * k))) → t ≡ doubleLine 8 (oddSum (λ k. z (2 * k + 1))) → (n : ℕ) → n < 16 → joinedAt s t n ≡ ofInt binary64 (backward z n)
   unfolding side16
   back-at = line-at (back-halves rules16 z) (even-most _ (λ k. most (2 * k))) (odd-most _ (λ k. most (2 * k + 1)))

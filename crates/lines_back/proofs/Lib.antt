@@ -1,2 +1,3 @@
 pub mod HalfStores
 pub mod DoubleUnfolding
+pub mod WholeHalves

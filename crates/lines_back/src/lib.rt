@@ -2,15 +2,17 @@
 // from number n to number n + 8 the even places' sum stays and the odd places' sum changes its sign. No number on the way is above 2^53, so each is exact.
 // Number n of row p stands at 2n + p.
 ghost use mathlib.Core.Path.{_≡_};
+ghost use mathlib.Core.Bool.{true, false};
 ghost use mathlib.Core.List.{[], _∷_};
-ghost use Prim.Native.Nat.{ℕ, _+_, _*_, _/_, _%_, _≤_, _<_};
-ghost use lib.IntN.{ℤ, pos, natAbs};
+ghost use Prim.Native.Nat.{ℕ, _+_, _*_, _/_, _%_, _^_, _≤_, _<_};
+ghost use lib.IntN.{ℤ, pos, natAbs, _+ℤ_, _-ℤ_};
 ghost use lib.ListN.{length};
-ghost use lib.Ieee.{binary64, ofInt};
+ghost use Rattle.sequences.specs.Tab.{tab};
+ghost use lib.Ieee.{binary64, ofInt, toSigned};
 ghost use Rattle.lines.specs.Halfcomplex.{backward, halfSum};
 ghost use Rattle.lines.specs.Fold.{evenSum, oddSum, evenHalf};
-ghost use Rattle.lines.specs.Magnitudes.{pairFoldMost, pairColumnMost};
-ghost use Rattle.lines.specs.Doubles.{doubleLine, From, joinedAt};
+ghost use Rattle.lines.specs.Magnitudes.{foldMost, columnMost};
+ghost use Rattle.lines.specs.Doubles.{doubleLine, From, WholeDouble, WholeRow, joinedAt};
 
 // C(0) to C(3)
 const C0: f64 = 16384.0;
@@ -27,7 +29,7 @@ const HALF_C0: f64 = 8192.0;
 // The even places' sum at the numbers 0 to 7, z[k] being place 2k; of places 0 and 8 with the cosine `own`: 16384, or half of it. From number n to number
 // n + 4 what places 2, 6, 10 and 14 add changes its sign.
 fn even(own: f64, z: [f64; 8]) -> [f64; 8]
-    ensures { λ r. ⌜ record { whole : own ≡ ofInt binary64 (pos 16384) → From pairColumnMost 8 z (λ g. r ≡ doubleLine 8 (evenSum g)); half : own ≡ ofInt binary64 (pos 8192) → From pairColumnMost 8 z (λ g. r ≡ doubleLine 8 (evenHalf g)) } ⌝ }
+    ensures { λ r. ⌜ record { whole : own ≡ ofInt binary64 (pos 16384) → From (foldMost false) 8 z (λ g. r ≡ doubleLine 8 (evenSum g)); half : own ≡ ofInt binary64 (pos 8192) → From (columnMost false) 8 z (λ g. r ≡ doubleLine 8 (evenHalf g)) } ⌝ }
 {
     let p = own * (z[0] + z[4]);
     let m = own * (z[0] - z[4]);
@@ -48,7 +50,7 @@ fn even(own: f64, z: [f64; 8]) -> [f64; 8]
 
 // The odd places' sum at the numbers 0 to 7. From number n to number 8 − n what the real parts add changes its sign, and what the imaginary parts add stays.
 fn odd(z1: f64, z3: f64, z5: f64, z7: f64, z9: f64, z11: f64, z13: f64, z15: f64) -> [f64; 8]
-    ensures { λ r. ⌜ From pairColumnMost 8 (z1 ∷ z3 ∷ z5 ∷ z7 ∷ z9 ∷ z11 ∷ z13 ∷ z15 ∷ []) (λ z. r ≡ doubleLine 8 (oddSum z)) ⌝ }
+    ensures { λ r. ⌜ From (columnMost false) 8 (z1 ∷ z3 ∷ z5 ∷ z7 ∷ z9 ∷ z11 ∷ z13 ∷ z15 ∷ []) (λ z. r ≡ doubleLine 8 (oddSum z)) ⌝ }
 {
     let p = z1 - z7;
     let q = z3 - z5;
@@ -89,7 +91,7 @@ fn unfolded(s: &[f64; 8], t: &[f64; 8], n: usize) -> f64
 
 // The transposed sum of the places z, a column.
 pub fn backward(z: &[f64; 16]) -> [f64; 16]
-    ensures { λ r. ⌜ From pairFoldMost 16 (now (z .entry)) (λ g. r ≡ doubleLine 16 (backward g)) ⌝ }
+    ensures { λ r. ⌜ From (foldMost false) 16 (now (z .entry)) (λ g. r ≡ doubleLine 16 (backward g)) ⌝ }
 {
     let s = even(C0, [z[0], z[2], z[4], z[6], z[8], z[10], z[12], z[14]]);
     let t = odd(z[1], z[3], z[5], z[7], z[9], z[11], z[13], z[15]);
@@ -103,7 +105,7 @@ pub fn backward(z: &[f64; 16]) -> [f64; 16]
 // The even places' half of the sum of row p.
 fn even_of(h: &[f64; 32], p: usize) -> [f64; 8]
     requires { ⌜ p < 2 ⌝ }
-    ensures { λ r. ⌜ From pairColumnMost 32 (now (h .entry)) (λ z. r ≡ doubleLine 8 (evenHalf (λ k. z (4 * k + p)))) ⌝ }
+    ensures { λ r. ⌜ From (columnMost false) 32 (now (h .entry)) (λ z. r ≡ doubleLine 8 (evenHalf (λ k. z (4 * k + p)))) ⌝ }
 {
     even(
         HALF_C0,
@@ -123,7 +125,7 @@ fn even_of(h: &[f64; 32], p: usize) -> [f64; 8]
 // The odd places' sum of row p.
 fn odd_of(h: &[f64; 32], p: usize) -> [f64; 8]
     requires { ⌜ p < 2 ⌝ }
-    ensures { λ r. ⌜ From pairColumnMost 32 (now (h .entry)) (λ z. r ≡ doubleLine 8 (oddSum (λ k. z (4 * k + 2 + p)))) ⌝ }
+    ensures { λ r. ⌜ From (columnMost false) 32 (now (h .entry)) (λ z. r ≡ doubleLine 8 (oddSum (λ k. z (4 * k + 2 + p)))) ⌝ }
 {
     odd(
         h[p + 2],
@@ -137,10 +139,10 @@ fn odd_of(h: &[f64; 32], p: usize) -> [f64; 8]
     )
 }
 
-// Half of the transposed sums of two rows, in which places 0 and 8 count once and the others twice.
+// Half of the transposed sums of two rows, in which places 0 and 8 count once and the others twice, where noise is low.
 pub fn halves(h: &[f64; 32], x: &mut [f64; 32])
     requires { ⌜ length (now x) ≡ 32 ⌝ }
-    ensures { λ _. ⌜ record { long : length (now (x .exit)) ≡ 32; is : (g : ℕ → ℕ → ℤ) → ((p k : ℕ) → natAbs (g p k) ≤ pairColumnMost) → now (h .entry) ≡ doubleLine 32 (λ l. g (l % 2) (l / 2)) → now (x .exit) ≡ doubleLine 32 (λ l. halfSum (g (l % 2)) (l / 2)) } ⌝ }
+    ensures { λ _. ⌜ record { long : length (now (x .exit)) ≡ 32; is : (g : ℕ → ℕ → ℤ) → ((p k : ℕ) → natAbs (g p k) ≤ columnMost true) → now (h .entry) ≡ doubleLine 32 (λ l. g (l % 2) (l / 2)) → now (x .exit) ≡ doubleLine 32 (λ l. halfSum (g (l % 2)) (l / 2)) } ⌝ }
 {
     let s0 = even_of(h, 0);
     let s1 = even_of(h, 1);
@@ -151,5 +153,37 @@ pub fn halves(h: &[f64; 32], x: &mut [f64; 32])
         x[2 * n + 1] = s1[n] + t1[n];
         x[2 * n + 16] = s0[n] - t0[n];
         x[2 * n + 17] = s1[n] - t1[n];
+    }
+}
+
+// a + b and a − b in 64 bits.
+fn whole_sum(a: f64, b: f64) -> i64
+    requires { ⌜ (WholeDouble (2 ^ 53) a) × (WholeDouble (2 ^ 53) b) ⌝ }
+    ensures { λ r. ⌜ r ≡ toSigned 63 a +ℤ toSigned 63 b ⌝ }
+{
+    a as i64 + b as i64
+}
+
+fn whole_difference(a: f64, b: f64) -> i64
+    requires { ⌜ (WholeDouble (2 ^ 53) a) × (WholeDouble (2 ^ 53) b) ⌝ }
+    ensures { λ r. ⌜ r ≡ toSigned 63 a -ℤ toSigned 63 b ⌝ }
+{
+    a as i64 - b as i64
+}
+
+// The same halves whatever the noise: the sums of the even and of the odd places are below 2^53, and what they add up to is taken in 64 bits.
+pub fn whole_halves(h: &[f64; 32], x: &mut [i64; 32])
+    requires { ⌜ (WholeRow (columnMost false) (now h)) × (length (now x) ≡ 32) ⌝ }
+    ensures { λ _. ⌜ ((w : WholeRow (columnMost false) (now (h .entry))) → now (x .exit) ≡ tab 32 (λ l. halfSum (λ k. w .number (2 * k + l % 2)) (l / 2))) ⌝ }
+{
+    let s0 = even_of(h, 0);
+    let s1 = even_of(h, 1);
+    let t0 = odd_of(h, 0);
+    let t1 = odd_of(h, 1);
+    for n in 0..8 {
+        x[2 * n] = whole_sum(s0[n], t0[n]);
+        x[2 * n + 1] = whole_sum(s1[n], t1[n]);
+        x[2 * n + 16] = whole_difference(s0[n], t0[n]);
+        x[2 * n + 17] = whole_difference(s1[n], t1[n]);
     }
 }

@@ -1,15 +1,16 @@
--- P of the two planes of a pair of differences d at the noise numbers first and second, added to the tile s: the steps in double as the code hands them on are
--- the recipe's, and so are the two planes one after the other.
-use Rattle.algebra.specs.Prelude.{_≡_, sym, ap, ap₂, subst, _∙_, List, ℕ, zero, suc, _+_, _*_, _/_, _%_, _^_, _≤_, _<_, arith, eqb, lit<, ℤ, pos, natAbs, _+ℤ_}
+-- P of the two planes of a pair of differences d at the noise numbers first and second, added to the tile s: the steps as the code hands them on are the
+-- recipe's.
+use Rattle.algebra.specs.Prelude.{_≡_, refl, ap, ap₂, _∙_, Bool, true, false, List, ℕ, _+_, _*_, _/_, _%_, _^_, _≤_, _<_, arith, eqb, lit<, lit≤, ℤ, pos, natAbs, _+ℤ_}
+use native.Mathlib.Nat.{le-trans}
 use lib.Ieee.{Float}
 use Rattle.algebra.specs.Nearest.{away}
-use Rattle.sequences.specs.Grid.{grid, cell, cell-grid, grid-ext}
+use Rattle.sequences.specs.Grid.{grid, cell, grid-ext}
 use Rattle.recipe.specs.Tables.{side16}
 use Rattle.recipe.specs.Correction.{quantized, filtered, correctionAt}
 use Rattle.lines.specs.Lines.{TileMost}
-use Rattle.lines.specs.Tiles.{tile-most, cells-most}
-use Rattle.lines.specs.Magnitudes.{differenceMost, pairFoldMost}
-use Rattle.spectrum.specs.Magnitudes.{pairNoise, pairGainMost}
+use Rattle.lines.specs.Tiles.{cells-most}
+use Rattle.lines.specs.Magnitudes.{differenceMost, partMost, foldMost}
+use Rattle.spectrum.specs.Magnitudes.{noiseMost, lowNoise}
 use Rattle.spectrum.specs.Spectrum.{BinsOf, twoWay, transposed, spread, gainRe, gainIm, backSum}
 use Rattle.spectrum.specs.SpectrumLaws.{bin-re, bin-im}
 use Rattle.spectrum.specs.WienerLaws.{wiener-root}
@@ -19,7 +20,6 @@ use Rattle.spectrum.specs.PlaceLaws.{back-ext}
 use Rattle.spectrum.specs.CorrectionLaws.{corrected}
 use Rattle.spectrum.specs.QuietLaws.{differences-binned}
 use Rattle.spectrum.specs.FoldSizes.{spread-most}
-use Rattle.spectrum.specs.DifferenceLaws.{correction-cong}
 
 -- ---- both planes in double
 
@@ -34,25 +34,34 @@ plane-binned m p = differences-binned _ (λ y x. cells-most m y (2 * x + p))
 abbrev pub binned-pair : {d : List (List ℤ)} → TileMost differenceMost d → {b : List (List Float)} → b ≡ doubles (sideBySide (λ p. transposed (twoWay (planeIn (cell (pos 0) d) p)))) → BinnedPair b
 binned-pair {d} m e = record { plane = λ p. twoWay (planeIn (cell (pos 0) d) p); first = plane-binned m 0; second = plane-binned m 1; is = e }
 
-gain-most : (noise : ℕ) (b c : ℤ) → noise ≤ pairNoise → natAbs (filtered side16 noise b c) ≤ pairGainMost
+-- V in terms of half its root
+root-most : (low : Bool) (n : ℕ) → (low ≡ true → n ≤ lowNoise) → n ≤ noiseMost → n ≤ 4 * partMost low * partMost low
+root-most true n h k = le-trans (h refl) (lit≤ tt)
+root-most false n h k = le-trans k (lit≤ tt)
+
+part-above : (low : Bool) → 0 < partMost low
+part-above true = lit< tt
+part-above false = lit< tt
+
+gain-most : (low : Bool) (noise : ℕ) (b c : ℤ) → noise ≤ 4 * partMost low * partMost low → natAbs (filtered side16 noise b c) ≤ partMost low
 unfolding filtered
-gain-most noise b c h = wiener-root noise pairGainMost (quantized side16 b) (quantized side16 c) (lit< tt) h
+gain-most low noise b c h = wiener-root noise (partMost low) (quantized side16 b) (quantized side16 c) (part-above low) h
 
 module _ (first second : ℕ) (t : ℕ → ℕ → ℕ → ℤ) where
   abbrev pub folded : ℕ → ℕ → ℕ → ℤ
   folded p = spread (gainRe (either first second p) (t p)) (gainIm (either first second p) (t p))
 
-  module _ (h : first ≤ pairNoise) (k : second ≤ pairNoise) where
-    noise-most : (p : ℕ) → either first second p ≤ pairNoise
-    noise-most p = cond-cases (λ n. n ≤ pairNoise) (eqb p 0) h k
+  module _ (low : Bool) (few : low ≡ true → (first ≤ lowNoise) × (second ≤ lowNoise)) (h : first ≤ noiseMost) (k : second ≤ noiseMost) where
+    noise-most : (p : ℕ) → either first second p ≤ 4 * partMost low * partMost low
+    noise-most p = cond-cases (λ n. n ≤ 4 * partMost low * partMost low) (eqb p 0) (root-most low first (λ e. few e .0) h) (root-most low second (λ e. few e .1) k)
 
-    pub folded-most : (p x b : ℕ) → natAbs (folded p x b) ≤ pairFoldMost
+    pub folded-most : (p x b : ℕ) → natAbs (folded p x b) ≤ foldMost low
     unfolding gainRe gainIm
     folded-most p x b =
-        spread-most pairGainMost (gainRe (either first second p) (t p)) (gainIm (either first second p) (t p))
-        (λ u v. gain-most (either first second p) _ _ (noise-most p)) (λ u v. gain-most (either first second p) _ _ (noise-most p)) x b
+        spread-most (partMost low) (gainRe (either first second p) (t p)) (gainIm (either first second p) (t p))
+        (λ u v. gain-most low (either first second p) _ _ (noise-most p)) (λ u v. gain-most low (either first second p) _ _ (noise-most p)) x b
 
-    abbrev pub folded-whole : {g : List (List Float)} → g ≡ doubles (sideBySide (λ p. transposed (folded p))) → InDouble pairFoldMost g
+    abbrev pub folded-whole : {g : List (List Float)} → g ≡ doubles (sideBySide (λ p. transposed (folded p))) → InDouble (foldMost low) g
     folded-whole e = record { number = sideBySide (λ p. transposed (folded p)); most = λ y l. folded-most (l % 2) (l / 2) y; is = e }
 
 -- lane 2·k + p is place k of plane p
@@ -74,29 +83,3 @@ module _ (first second : ℕ) (d : ℕ → ℕ → ℤ) (s : List (List ℤ)) wh
       grid-ext 16 32 _ _ (λ y l h k. ap (λ z. cell (pos 0) s y l +ℤ z)
       (ap (λ z. away z (2 ^ 32)) (back-ext (transposed (planeIn (sideBySide (λ p. transposed (back p))) (l % 2))) (back (l % 2)) (λ x b i j. lane (λ p x. back p x b) x l) y (l / 2))
       ∙ corrected (either first second (l % 2)) (planeIn d (l % 2)) (twoWay (planeIn d (l % 2))) (bins (planeIn d (l % 2))) y (l / 2) h (omega arith)))
-
--- ---- one plane after the other
-
-pub plane-most : {b : ℕ} (s : List (List ℤ)) (p : ℕ) {t : List (List ℤ)} → t ≡ grid 16 16 (planeIn (cell (pos 0) s) p) → TileMost b s → TileMost b t
-plane-most {b} s p e m = subst (TileMost b) (sym e) (tile-most b _ (λ y x. cells-most m y (2 * x + p)))
-
--- the corrections t of plane p, taken out as e
-plane-correction : (d : ℕ → ℕ → ℤ) (p noise : ℕ) {e t : List (List ℤ)} → e ≡ grid 16 16 (planeIn d p) → t ≡ grid 16 16 (correctionAt side16 noise (cell (pos 0) e))
-    → (y x : ℕ) → y < 16 → x < 16 → cell (pos 0) t y x ≡ correctionAt side16 noise (planeIn d p) y x
-unfolding side16
-plane-correction d p noise {e} {t} q r y x h k =
-    ap (λ t. cell (pos 0) t y x) r ∙ cell-grid (pos 0) 16 16 _ y x h k
-    ∙ correction-cong side16 _ _ (λ y x h k. ap (λ t. cell (pos 0) t y x) q ∙ cell-grid (pos 0) 16 16 (planeIn d p) y x h k) noise y x
-
-either-plane : (a b : List (List ℤ)) (f : ℕ → ℕ → ℕ → ℤ) (y x : ℕ) → cell (pos 0) a y x ≡ f 0 y x → cell (pos 0) b y x ≡ f 1 y x → (p : ℕ) → p < 2 → cell (pos 0) (either a b p) y x ≡ f p y x
-either-plane a b f y x i j zero h = i
-either-plane a b f y x i j (suc zero) h = j
-either-plane a b f y x i j (suc (suc p)) h = absurd (omega arith)
-
-pub both-planes : (first second : ℕ) (d : ℕ → ℕ → ℤ) (s : List (List ℤ)) {a b e f : List (List ℤ)}
-    → e ≡ grid 16 16 (planeIn d 0) → a ≡ grid 16 16 (correctionAt side16 first (cell (pos 0) e))
-    → f ≡ grid 16 16 (planeIn d 1) → b ≡ grid 16 16 (correctionAt side16 second (cell (pos 0) f))
-    → grid 16 32 (λ y l. cell (pos 0) s y l +ℤ cell (pos 0) (either a b (l % 2)) y (l / 2)) ≡ grid 16 32 (λ y l. cell (pos 0) s y l +ℤ correctionAt side16 (either first second (l % 2)) (planeIn d (l % 2)) y (l / 2))
-both-planes first second d s i j m n =
-    grid-ext 16 32 _ _ (λ y l h k. ap (λ z. cell (pos 0) s y l +ℤ z)
-    (either-plane _ _ (λ p. correctionAt side16 (either first second p) (planeIn d p)) y (l / 2) (plane-correction d 0 first i j y (l / 2) h (omega arith)) (plane-correction d 1 second m n y (l / 2) h (omega arith)) (l % 2) (omega arith)))

@@ -1,5 +1,5 @@
 -- P of a whole number in double, and a sum that it is added to.
-use Rattle.algebra.specs.Prelude.{_≡_, sym, ap, ap₂, subst, _∙_, not, List, [], ℕ, _+_, _*_, _/_, _%_, _^_, _≤_, _<_, arith, T, ltb, lit<, lit≤, getD, ℤ, pos, natAbs, _+ℤ_, _-ℤ_, w64, SFits, toZ, ofZ, toZ-ofZ}
+use Rattle.algebra.specs.Prelude.{_≡_, sym, ap, ap₂, subst, _∙_, Bool, true, false, not, List, [], ℕ, _+_, _*_, _/_, _%_, _^_, _≤_, _<_, arith, T, ltb, lit<, lit≤, getD, ℤ, pos, natAbs, _+ℤ_, _-ℤ_, w64, SFits, toZ, ofZ, toZ-ofZ}
 use native.Mathlib.Nat.{le-trans}
 use mir.ValLaws.{toZ-pos}
 use lib.Ieee.{Float, nan, isNan, binary64, ofInt, add, mul}
@@ -10,16 +10,18 @@ use Rattle.sequences.specs.Tab.{tab}
 use Rattle.sequences.specs.Grid.{grid, tab-ext}
 use Rattle.floats.specs.Middle.{middle, middleBits}
 use Rattle.floats.specs.ProductLaws.{fraction, product-bits, product-bits-below, product-number}
-use Rattle.lines.specs.Doubles.{doubleLine}
+use Rattle.lines.specs.Doubles.{doubleLine, WholeDouble, WholeRow}
 use Rattle.lines.specs.Halfcomplex.{halfSum}
-use Rattle.lines.specs.HalfSumLaws.{half-sum-most}
+use Rattle.lines.specs.BackSizes.{half-sum-most}
 use Rattle.lines.specs.Held.{number-is, number-most}
-use Rattle.lines.specs.Magnitudes.{pairColumnMost, pairHalfMost}
-use Rattle.spectrum.specs.Pairs.{WholeDouble, InDouble, doubles}
+use Rattle.lines.specs.Lines.{LineMost}
+use Rattle.lines.specs.Tiles.{line-most}
+use Rattle.lines.specs.Magnitudes.{columnMost, halfMost}
+use Rattle.spectrum.specs.Pairs.{InDouble, doubles}
 use Rattle.spectrum.specs.RoundingLaws.{away-most}
-use Rattle.pairs.specs.Whole.{WholeRow, roundedBits, roundedDouble}
+use Rattle.pairs.specs.Rounded.{roundedBits, roundedDouble}
 
-module _ {x : Float} (w : WholeDouble pairHalfMost x) where
+module _ {x : Float} (w : WholeDouble (halfMost true) x) where
   small : natAbs (w .number) < 2 ^ 51
   small = omega (arith, w .most)
 
@@ -36,7 +38,7 @@ module _ {x : Float} (w : WholeDouble pairHalfMost x) where
 
   pub rounded-most : AtMost (2 ^ 20) (roundedDouble x)
   rounded-most =
-      record { most = subst (λ z. natAbs z ≤ 2 ^ 20) (sym rounded-is) (le-trans (away-most (w .number) (2 ^ 31) pairHalfMost (lit< tt) (w .most)) (lit≤ tt)) }
+      record { most = subst (λ z. natAbs z ≤ 2 ^ 20) (sym rounded-is) (le-trans (away-most (w .number) (2 ^ 31) (halfMost true) (lit< tt) (w .most)) (lit≤ tt)) }
 
   -- as the code holds it
   pub rounded-held : toZ w64 (roundedBits x) -ℤ pos middleBits ≡ roundedDouble x
@@ -49,7 +51,7 @@ whole-at w l h = record { number = w .number l; most = w .most l; is = ap (λ x.
 
 -- the row x of the halves of a row h
 abbrev pub HalvesOf : (h x : List Float) → Type 0
-HalvesOf h x = (g : ℕ → ℕ → ℤ) → ((p k : ℕ) → natAbs (g p k) ≤ pairColumnMost) → h ≡ doubleLine 32 (λ l. g (l % 2) (l / 2)) → x ≡ doubleLine 32 (λ l. halfSum (g (l % 2)) (l / 2))
+HalvesOf h x = (g : ℕ → ℕ → ℤ) → ((p k : ℕ) → natAbs (g p k) ≤ columnMost true) → h ≡ doubleLine 32 (λ l. g (l % 2) (l / 2)) → x ≡ doubleLine 32 (λ l. halfSum (g (l % 2)) (l / 2))
 
 pub by-lanes : (f : ℕ → ℤ) → doubleLine 32 f ≡ doubleLine 32 (λ l. f (2 * (l / 2) + l % 2))
 by-lanes f = tab-ext 32 _ _ (λ l h. ap (λ n. ofInt binary64 (f n)) (lane l))
@@ -57,12 +59,25 @@ by-lanes f = tab-ext 32 _ _ (λ l h. ap (λ n. ofInt binary64 (f n)) (lane l))
     lane : (l : ℕ) → l ≡ 2 * (l / 2) + l % 2
     lane l = omega arith
 
-abbrev pub halves-row : {h x : List Float} → HalvesOf h x → WholeRow pairColumnMost h → WholeRow pairHalfMost x
+abbrev pub halves-row : {h x : List Float} → HalvesOf h x → WholeRow (columnMost true) h → WholeRow (halfMost true) x
 halves-row f w = record {
   number = λ l. halfSum (λ k. w .number (2 * k + l % 2)) (l / 2);
   most = λ l. half-sum-most (λ k. w .number (2 * k + l % 2)) (λ k. w .most (2 * k + l % 2)) (l / 2);
   is = f (λ p k. w .number (2 * k + p)) (λ p k. w .most (2 * k + p)) (w .is ∙ by-lanes (w .number));
 }
+
+-- where noise is known to be low, or is any
+abbrev pub row-at : (low : Bool) {h : List Float} (b : Bool) → low ≡ b → WholeRow (columnMost low) h → WholeRow (columnMost b) h
+row-at low b e w = record { number = w .number; most = λ l. subst (λ b. natAbs (w .number l) ≤ columnMost b) e (w .most l); is = w .is }
+
+-- the halves x of a row h in 64 bits
+pub whole-halves-most : {h : List Float} {x : List ℤ} (w : WholeRow (columnMost false) h) → x ≡ tab 32 (λ l. halfSum (λ k. w .number (2 * k + l % 2)) (l / 2)) → LineMost (halfMost false) x
+whole-halves-most w e =
+    subst (LineMost (halfMost false)) (sym e) (line-most (halfMost false) _ (λ l. half-sum-most (λ k. w .number (2 * k + l % 2)) (λ k. w .most (2 * k + l % 2)) (l / 2)) 32)
+
+-- and P of them, added to the sums s
+pub whole-added : {x : List ℤ} (s : List ℤ) (f : ℕ → ℤ) → x ≡ tab 32 f → tab 32 (λ l. getD s l (pos 0) +ℤ away (getD x l (pos 0)) (2 ^ 31)) ≡ tab 32 (λ l. getD s l (pos 0) +ℤ away (f l) (2 ^ 31))
+whole-added s f e = tab-ext 32 _ _ (λ l h. ap (λ z. getD s l (pos 0) +ℤ away z (2 ^ 31)) (ap (λ x. getD x l (pos 0)) e ∙ getD-tab f (pos 0) 32 l h))
 
 -- a sum of a few terms, and one more of at most b
 module _ {b : ℕ} {s r : ℤ} (m : AtMost (2 ^ 40) s) (n : AtMost b r) (t : T (ltb b (2 ^ 63))) (u : T (ltb (2 ^ 40 + b) (2 ^ 63))) where

@@ -1,13 +1,13 @@
 // The first pass of the inverse, down the columns of a pair of folded spectra, in place.
 ghost use mathlib.Core.Path.{_≡_};
-ghost use mathlib.Core.Bool.{cond};
+ghost use mathlib.Core.Bool.{false, cond};
 ghost use Prim.Native.Nat.{_<_};
 ghost use lib.Dec.{eqb};
 ghost use lib.ListN.{getD};
 ghost use Rattle.sequences.specs.Tab.{tab};
 ghost use Rattle.sequences.specs.Grid.{grid, cell};
 ghost use Rattle.lines.specs.Halfcomplex.{backward};
-ghost use Rattle.lines.specs.Magnitudes.{pairFoldMost};
+ghost use Rattle.lines.specs.Magnitudes.{foldMost};
 ghost use Rattle.spectrum.specs.Pairs.{Paired, InDouble, doubles};
 ghost use lib.Ieee.{nan};
 
@@ -36,7 +36,7 @@ fn set_column(t: &mut [[f64; 32]; 16], l: usize, z: &[f64; 16])
 // g: the sums back down each column.
 pub fn back(g: &mut [[f64; 32]; 16])
     requires { ⌜ Paired nan (now g) ⌝ }
-    ensures { λ _. ⌜ ((w : InDouble pairFoldMost (now (g .entry))) → now (g .exit) ≡ doubles (λ y l. backward (λ b. w .number b l) y)) ⌝ }
+    ensures { λ _. ⌜ ((w : InDouble (foldMost false) (now (g .entry))) → now (g .exit) ≡ doubles (λ y l. backward (λ b. w .number b l) y)) ⌝ }
 {
     for l in 0..32 {
         let c = column(&*g, l);

@@ -1,6 +1,9 @@
-// The second pass of the inverse, along the rows of a pair that the pass down the columns leaves: half of each sum back, which over 2^31 is P. Its kernel is
-// called from two places, so that it is compiled by itself.
+// The second pass of the inverse, along the rows of a pair that the pass down the columns leaves: half of each sum back, which over 2^31 is P. Where
+// noise is low that is below 2^51, and all is in double; else it is made of its two parts in 64 bits. A row's step is called from two places, so that it is
+// compiled by itself.
+use rounding::round_away_31;
 ghost use mathlib.Core.Path.{_≡_};
+ghost use mathlib.Core.Bool.{true, false};
 ghost use Prim.Native.Nat.{_+_, _*_, _/_, _%_, _^_};
 ghost use lib.IntN.{pos, _+ℤ_};
 ghost use lib.ListN.{length, getD};
@@ -10,9 +13,10 @@ ghost use Rattle.sequences.specs.Tab.{tab};
 ghost use Rattle.sequences.specs.Grid.{grid, cell};
 ghost use Rattle.lines.specs.Halfcomplex.{halfSum};
 ghost use Rattle.lines.specs.Lines.{LineMost, TileMost};
-ghost use Rattle.lines.specs.Magnitudes.{pairColumnMost, pairHalfMost};
-ghost use Rattle.spectrum.specs.Pairs.{Paired, WholeDouble, InDouble, planeIn};
-ghost use Rattle.pairs.specs.Whole.{WholeRow, roundedDouble};
+ghost use Rattle.lines.specs.Doubles.{WholeDouble, WholeRow};
+ghost use Rattle.lines.specs.Magnitudes.{columnMost, halfMost};
+ghost use Rattle.spectrum.specs.Pairs.{Paired, InDouble, planeIn};
+ghost use Rattle.pairs.specs.Rounded.{roundedDouble};
 
 // 2^-31·(1 + 2^-52): a product with it lies above the quotient by 2^31, by too little for anything but a half to be rounded otherwise
 const BY_2_31: f64 = 0.00000000046566128730773936121007656912846;
@@ -25,7 +29,7 @@ const MIDDLE_BITS: i64 = 4843621399236968448;
 
 // x over 2^31, to nearest, halves away from zero.
 fn rounded(x: f64) -> i64
-    requires { ⌜ WholeDouble pairHalfMost x ⌝ }
+    requires { ⌜ WholeDouble (halfMost true) x ⌝ }
     ensures { λ r. ⌜ (r ≡ roundedDouble x) × (AtMost (2 ^ 20) r) ⌝ }
 {
     f64::to_bits(x * BY_2_31 + MIDDLE) as i64 - MIDDLE_BITS
@@ -33,31 +37,47 @@ fn rounded(x: f64) -> i64
 
 // P of a row is added to its sums, from the halves x.
 fn add_row(x: &[f64; 32], sum: &mut [i64; 32])
-    requires { ⌜ record { whole : WholeRow pairHalfMost (now x); sums-most : LineMost (2 ^ 40) (now sum); long : length (now sum) ≡ 32 } ⌝ }
-    ensures { λ _. ⌜ ((w : WholeRow pairHalfMost (now (x .entry))) → now (sum .exit) ≡ tab 32 (λ l. getD (now (sum .entry)) l (pos 0) +ℤ away (w .number l) (2 ^ 31))) ⌝ }
+    requires { ⌜ record { whole : WholeRow (halfMost true) (now x); sums-most : LineMost (2 ^ 40) (now sum); long : length (now sum) ≡ 32 } ⌝ }
+    ensures { λ _. ⌜ ((w : WholeRow (halfMost true) (now (x .entry))) → now (sum .exit) ≡ tab 32 (λ l. getD (now (sum .entry)) l (pos 0) +ℤ away (w .number l) (2 ^ 31))) ⌝ }
 {
     for l in 0..32 {
         sum[l] = sum[l] + rounded(x[l]);
     }
 }
 
-// The same from the row h of the sums back down the columns.
-fn add_line(h: &[f64; 32], sum: &mut [i64; 32])
-    requires { ⌜ record { whole : WholeRow pairColumnMost (now h); sums-most : LineMost (2 ^ 40) (now sum); long : length (now sum) ≡ 32 } ⌝ }
-    ensures { λ _. ⌜ ((w : WholeRow pairColumnMost (now (h .entry))) → now (sum .exit) ≡ tab 32 (λ l. getD (now (sum .entry)) l (pos 0) +ℤ away (halfSum (λ k. w .number (2 * k + l % 2)) (l / 2)) (2 ^ 31))) ⌝ }
+// The same from halves in 64 bits, whatever the noise.
+fn add_whole_row(x: &[i64; 32], sum: &mut [i64; 32])
+    requires { ⌜ record { halves-most : LineMost (halfMost false) (now x); sums-most : LineMost (2 ^ 40) (now sum); long : length (now sum) ≡ 32 } ⌝ }
+    ensures { λ _. ⌜ now (sum .exit) ≡ tab 32 (λ l. getD (now (sum .entry)) l (pos 0) +ℤ away (getD (now (x .entry)) l (pos 0)) (2 ^ 31)) ⌝ }
 {
-    let mut x = [0.0f64; 32];
-    lines_back::halves(h, &mut x);
-    add_row(&x, &mut *sum);
+    for l in 0..32 {
+        sum[l] = sum[l] + round_away_31(x[l]);
+    }
+}
+
+// The same from the row h of the sums back down the columns: in double where noise is low.
+fn add_line(h: &[f64; 32], low: bool, sum: &mut [i64; 32])
+    requires { ⌜ record { whole : WholeRow (columnMost low) (now h); sums-most : LineMost (2 ^ 40) (now sum); long : length (now sum) ≡ 32 } ⌝ }
+    ensures { λ _. ⌜ ((w : WholeRow (columnMost low) (now (h .entry))) → now (sum .exit) ≡ tab 32 (λ l. getD (now (sum .entry)) l (pos 0) +ℤ away (halfSum (λ k. w .number (2 * k + l % 2)) (l / 2)) (2 ^ 31))) ⌝ }
+{
+    if low {
+        let mut x = [0.0f64; 32];
+        lines_back::halves(h, &mut x);
+        add_row(&x, &mut *sum);
+        return;
+    }
+    let mut x = [0i64; 32];
+    lines_back::whole_halves(h, &mut x);
+    add_whole_row(&x, &mut *sum);
 }
 
 // P of each row is added to its sums.
-pub fn add_back(h: &[[f64; 32]; 16], sum: &mut [[i64; 32]; 16])
-    requires { ⌜ record { whole : InDouble pairColumnMost (now h); sums-most : TileMost (2 ^ 40) (now sum); paired : Paired (pos 0) (now sum) } ⌝ }
-    ensures { λ _. ⌜ ((w : InDouble pairColumnMost (now (h .entry))) → now (sum .exit) ≡ grid 16 32 (λ y l. cell (pos 0) (now (sum .entry)) y l +ℤ away (halfSum (planeIn (w .number) (l % 2) y) (l / 2)) (2 ^ 31))) ⌝ }
+pub fn add_back(h: &[[f64; 32]; 16], low: bool, sum: &mut [[i64; 32]; 16])
+    requires { ⌜ record { whole : InDouble (columnMost low) (now h); sums-most : TileMost (2 ^ 40) (now sum); paired : Paired (pos 0) (now sum) } ⌝ }
+    ensures { λ _. ⌜ ((w : InDouble (columnMost low) (now (h .entry))) → now (sum .exit) ≡ grid 16 32 (λ y l. cell (pos 0) (now (sum .entry)) y l +ℤ away (halfSum (planeIn (w .number) (l % 2) y) (l / 2)) (2 ^ 31))) ⌝ }
 {
     for y in 0..8 {
-        add_line(&h[y], &mut sum[y]);
-        add_line(&h[8 + y], &mut sum[8 + y]);
+        add_line(&h[y], low, &mut sum[y]);
+        add_line(&h[8 + y], low, &mut sum[8 + y]);
     }
 }

@@ -5,7 +5,8 @@ use lib.Ieee.{Float, nan, binary64, add, sub}
 use Rattle.sequences.specs.Grid.{cell}
 use Rattle.spectrum.specs.Spectrum.{byKind}
 use Rattle.spectrum.specs.Magnitudes.{binMost}
-use Rattle.spectrum.specs.Pairs.{Paired, WholeDouble}
+use Rattle.lines.specs.Doubles.{WholeDouble}
+use Rattle.spectrum.specs.Pairs.{Paired}
 
 -- ---- a quad of G from that of B
 

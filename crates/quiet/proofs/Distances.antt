@@ -11,7 +11,7 @@ use Rattle.sequences.specs.Grid.{cell, tab-ext}
 use Rattle.lines.specs.Lines.{TileMost}
 use Rattle.lines.specs.Magnitudes.{differenceMost}
 use Rattle.lines.specs.Tiles.{cells-most}
-use Rattle.spectrum.specs.Magnitudes.{pairNoise, productMost, alwaysNoise}
+use Rattle.spectrum.specs.Magnitudes.{noiseMost, productMost, alwaysNoise}
 use Rattle.spectrum.specs.Spectrum.{twoWay}
 use Rattle.spectrum.specs.Pairs.{planeIn, Quiet}
 use Rattle.spectrum.specs.QuietLaws.{distance, quiet-near, quiet-always}
@@ -61,7 +61,7 @@ module _ (d : List (List ℤ)) (small : TileMost differenceMost d) {m : List ℕ
         q ∙ sumN-cong 16 _ (λ x. sumN 16 (λ y. natAbs (cell (pos 0) d y (2 * x + p)))) (λ x k. ap (λ m. getD m (2 * x + p) 0) e ∙ getD-tab _ 0 32 (2 * x + p) (omega arith))
         ∙ sumN-exchange 16 16 (λ x y. natAbs (cell (pos 0) d y (2 * x + p)))
 
-    pub plane-near : (noise : ℕ) → 0 < noise → noise ≤ pairNoise → noise * (17 * s) ≤ productMost → Quiet noise (twoWay (planeIn (cell (pos 0) d) p))
+    pub plane-near : (noise : ℕ) → 0 < noise → noise ≤ noiseMost → noise * (17 * s) ≤ productMost → Quiet noise (twoWay (planeIn (cell (pos 0) d) p))
     plane-near noise above most near =
         quiet-near _ (λ y x. cells-most small y (2 * x + p)) noise above most (subst (λ n. noise * (17 * n) ≤ productMost) distance-is near)
 

@@ -1,4 +1,4 @@
-// Whether a pair of tiles is worked out in double, and whether its quotients are too: V·|Q| is at most 2^49 at each bin of both planes. The latter is decided
+// Whether a pair's quotients are taken in double: V is above 0 and V·|Q| at most 2^49 at each bin of both planes. That is decided
 // from the differences, before the transform: a part of Q is at most 17 times the sum of their magnitudes, and at most 2^24 whatever they are. Magnitudes are
 // added up in the pair's thirty-two columns, where sixteen of them fit 16 bits: the compiler takes eight columns at a time.
 ghost use mathlib.Core.Path.{_≡_};
@@ -12,16 +12,16 @@ ghost use Rattle.sequences.specs.Tab.{tab};
 ghost use Rattle.sequences.specs.Grid.{cell};
 ghost use Rattle.lines.specs.Lines.{LineMost, TileMost};
 ghost use Rattle.lines.specs.Magnitudes.{differenceMost};
-ghost use Rattle.spectrum.specs.Magnitudes.{pairNoise, productMost};
+ghost use Rattle.spectrum.specs.Magnitudes.{noiseMost, lowNoise, productMost};
 ghost use Rattle.spectrum.specs.Spectrum.{twoWay};
-ghost use Rattle.spectrum.specs.Pairs.{planeIn, PairNoise, QuietPair};
+ghost use Rattle.spectrum.specs.Pairs.{planeIn, QuietPair};
 ghost use Rattle.quiet.specs.Columns.{columnMost, ColumnsMost};
 
 // 2^25: V up to which any differences will do
 const ALWAYS_NOISE: u64 = 33554432;
 
-// 2^30: V up to which a pair is worked out in double
-const PAIR_NOISE: u64 = 1073741824;
+// 2^32: V up to which the inverse's last sums stay below 2^51
+const LOW_NOISE: u64 = 4294967296;
 
 // 2^49: V·|Q| up to which the quotients in double are right
 const PRODUCT_MOST: u64 = 562949953421312;
@@ -73,7 +73,7 @@ fn distance(sum: &[u16; 32], p: usize) -> u64
 
 // Whether V·|Q| is sure to be at most 2^49 in a plane whose magnitudes add up to s.
 fn near(noise: u64, s: u64) -> bool
-    requires { ⌜ (noise ≤ pairNoise) × (s ≤ 16 * columnMost) ⌝ }
+    requires { ⌜ (noise ≤ noiseMost) × (s ≤ 16 * columnMost) ⌝ }
     ensures { λ r. ⌜ (r ≡ true → noise * (17 * s) ≤ productMost) ⌝ }
 {
     noise * (17 * s) <= PRODUCT_MOST
@@ -89,9 +89,17 @@ fn larger(a: u64, b: u64) -> u64
     a
 }
 
-// Whether a pair is worked out in double at the noise numbers of its planes.
-pub fn in_double(first: u64, second: u64) -> bool
-    ensures { λ r. ⌜ (r ≡ true → PairNoise first second) ⌝ }
+// Whether the inverse's last sums stay below 2^51 in both planes.
+pub fn low_noise(first: u64, second: u64) -> bool
+    ensures { λ r. ⌜ (r ≡ true → (first ≤ lowNoise) × (second ≤ lowNoise)) ⌝ }
+{
+    larger(first, second) <= LOW_NOISE
+}
+
+// Whether the quotients of a pair can be taken in double.
+pub fn quotients_in_double(d: &[[i16; 32]; 16], first: u64, second: u64) -> bool
+    requires { ⌜ record { differences : TileMost differenceMost (now d); first-most : first ≤ noiseMost; second-most : second ≤ noiseMost } ⌝ }
+    ensures { λ r. ⌜ (r ≡ true → QuietPair first second (λ p. twoWay (planeIn (cell (pos 0) (now (d .entry))) p))) ⌝ }
 {
     if first == 0 {
         return false;
@@ -99,14 +107,6 @@ pub fn in_double(first: u64, second: u64) -> bool
     if second == 0 {
         return false;
     }
-    larger(first, second) <= PAIR_NOISE
-}
-
-// Whether the quotients of such a pair can be taken in double.
-pub fn quotients_in_double(d: &[[i16; 32]; 16], first: u64, second: u64) -> bool
-    requires { ⌜ (TileMost differenceMost (now d)) × (PairNoise first second) ⌝ }
-    ensures { λ r. ⌜ (r ≡ true → QuietPair first second (λ p. twoWay (planeIn (cell (pos 0) (now (d .entry))) p))) ⌝ }
-{
     if larger(first, second) <= ALWAYS_NOISE {
         return true;
     }

@@ -60,8 +60,10 @@ pub fn round_away(z: i64, m: u64) -> i64
     signed(n)
 }
 
-// Halves of 2^24 and of 2^32.
+// Halves of 2^24, 2^31 and 2^32.
 const HALF_2_24: i64 = 8388608;
+
+const HALF_2_31: i64 = 1073741824;
 
 const HALF_2_32: i64 = 2147483648;
 
@@ -71,6 +73,14 @@ pub fn round_away_24(z: i64) -> i64
     ensures { λ r. ⌜ r ≡ away z (2 ^ 24) ⌝ }
 {
     (z + HALF_2_24 + (z >> 63)) >> 24
+}
+
+// The same of z / 2^31.
+pub fn round_away_31(z: i64) -> i64
+    requires { ⌜ natAbs z < 2 ^ 63 - 2 ^ 32 ⌝ }
+    ensures { λ r. ⌜ r ≡ away z (2 ^ 31) ⌝ }
+{
+    (z + HALF_2_31 + (z >> 63)) >> 31
 }
 
 // The same of z / 2^32.

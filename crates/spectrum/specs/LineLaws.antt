@@ -24,10 +24,6 @@ module _ (b : ℕ) (f : ℕ → ℤ) (h : (i : ℕ) → natAbs (f i) ≤ b) wher
   unfolding halfcomplexOf side16
   halfcomplex-most k = sum-most (basis k) b f (basis-most rules16 k) h
 
-  pub backward-most : (n : ℕ) → natAbs (backward f n) ≤ 16 * (b * 16384)
-  unfolding backwardOf side16
-  backward-most n = sum-most (λ k. basis k n) b f (λ k. basis-most rules16 k n) h
-
 module _ (f g : ℕ → ℤ) (h : (i : ℕ) → i < 16 → f i ≡ g i) where
   pub halfcomplex-ext : (k : ℕ) → halfcomplex f k ≡ halfcomplex g k
   unfolding halfcomplexOf side16

@@ -27,13 +27,9 @@ correctionMost = 2 ^ 30
 
 -- ---- of two tiles in double
 
--- V up to which they are worked out in double
-abbrev pub pairNoise : ℕ
-pairNoise = 2 ^ 30
-
--- a part of G at such a V: half the root of V
-abbrev pub pairGainMost : ℕ
-pairGainMost = 16384
+-- V up to which the inverse's last sums stay below 2^51
+abbrev pub lowNoise : ℕ
+lowNoise = 2 ^ 32
 
 -- V·|q|, for a part q of Q, up to which the quotients are right
 abbrev pub productMost : ℕ

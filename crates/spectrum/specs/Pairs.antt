@@ -5,7 +5,7 @@ use lib.Ieee.{Float, binary64, ofInt}
 use Rattle.sequences.specs.Grid.{grid, cell}
 use Rattle.recipe.specs.Tables.{side16}
 use Rattle.recipe.specs.Correction.{quantized}
-use Rattle.spectrum.specs.Magnitudes.{binMost, pairNoise, productMost}
+use Rattle.spectrum.specs.Magnitudes.{noiseMost, binMost, productMost}
 use Rattle.spectrum.specs.Spectrum.{tileRe, tileIm, transposed}
 
 -- plane p of a pair
@@ -28,13 +28,7 @@ pub record Paired {A : Type 0} (z : A) (t : List (List A)) : Type 0 where
 unfoldable pub doubles : (ℕ → ℕ → ℤ) → List (List Float)
 doubles t = grid 16 32 (λ y l. ofInt binary64 (t y l))
 
--- a whole number of at most m in double
-pub record WholeDouble (m : ℕ) (x : Float) : Type 0 where
-  pub number : ℤ
-  pub most : natAbs number ≤ m
-  pub is : x ≡ ofInt binary64 number
-
--- and a pair of them
+-- each of at most m
 pub record InDouble (m : ℕ) (g : List (List Float)) : Type 0 where
   pub number : (y l : ℕ) → ℤ
   pub most : (y l : ℕ) → natAbs (number y l) ≤ m
@@ -52,17 +46,10 @@ pub record BinnedPair (b : List (List Float)) : Type 0 where
   pub second : Binned (plane 1)
   pub is : b ≡ doubles (sideBySide (λ p. transposed (plane p)))
 
--- the noise numbers of a pair that is worked out in double
-pub record PairNoise (first second : ℕ) : Type 0 where
-  pub first-above : 0 < first
-  pub second-above : 0 < second
-  pub first-most : first ≤ pairNoise
-  pub second-most : second ≤ pairNoise
-
 -- at the noise number V the quotients of the bins of the plane t can be taken in double
 pub record Quiet (noise : ℕ) (t : ℕ → ℕ → ℤ) : Type 0 where
   pub above : 0 < noise
-  pub most : noise ≤ pairNoise
+  pub most : noise ≤ noiseMost
   pub binned : Binned t
   pub re : (u v : ℕ) → u < 16 → v < 9 → noise * natAbs (quantized side16 (tileRe t u v)) ≤ productMost
   pub im : (u v : ℕ) → u < 16 → v < 9 → noise * natAbs (quantized side16 (tileIm t u v)) ≤ productMost

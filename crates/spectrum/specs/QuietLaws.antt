@@ -12,7 +12,7 @@ use Rattle.recipe.specs.Side.{cosAt, sinAt}
 use Rattle.recipe.specs.Tables.{cosines, cosine16, sine16, side16}
 use Rattle.recipe.specs.Correction.{rowRe, rowIm, binRe, binIm, quantized}
 use Rattle.lines.specs.Magnitudes.{differenceMost}
-use Rattle.spectrum.specs.Magnitudes.{pairNoise, productMost, alwaysNoise}
+use Rattle.spectrum.specs.Magnitudes.{noiseMost, productMost, alwaysNoise}
 use Rattle.spectrum.specs.Spectrum.{twoWay}
 use Rattle.spectrum.specs.Pairs.{Binned, Quiet}
 use Rattle.spectrum.specs.SpectrumLaws.{bin-re, bin-im}
@@ -97,7 +97,7 @@ differences-binned d m =
     }
 
 -- n is at least each part of Q
-module _ (d : ℕ → ℕ → ℤ) (m : (y x : ℕ) → natAbs (d y x) ≤ differenceMost) (noise : ℕ) (above : 0 < noise) (small : noise ≤ pairNoise) where
+module _ (d : ℕ → ℕ → ℤ) (m : (y x : ℕ) → natAbs (d y x) ≤ differenceMost) (noise : ℕ) (above : 0 < noise) (small : noise ≤ noiseMost) where
   module _ (n : ℕ) (far : factorMost * distance d ≤ n * 2 ^ 24) (near : noise * n ≤ productMost) where
     part : (b : ℤ) → natAbs b ≤ factorMost * distance d → noise * natAbs (quantized side16 b) ≤ productMost
     part b h = le-trans (mul-le-mul-left noise (quantized-within n b (le-trans h far))) near

@@ -9,7 +9,7 @@ ghost use Prim.Native.Nat.{ℕ, _+_, _*_, _%_, _≤_, _<_};
 ghost use lib.IntN.{ℤ};
 ghost use lib.Ieee.{nan};
 ghost use Rattle.sequences.specs.Tab.{tab};
-ghost use Rattle.spectrum.specs.Magnitudes.{pairNoise};
+ghost use Rattle.spectrum.specs.Magnitudes.{noiseMost};
 ghost use Rattle.spectrum.specs.Spectrum.{transposed, spread, gainRe, gainIm};
 ghost use Rattle.spectrum.specs.Pairs.{sideBySide, either, Paired, doubles, Quiet};
 ghost use Rattle.quads.specs.Lanes.{Lanes};
@@ -110,7 +110,7 @@ fn alternating(a: f64, b: f64) -> [f64; 16]
 
 // G of two planes at their noise numbers, folded, in the place of B.
 pub fn filter(b: &mut [[f64; 32]; 16], first: u64, second: u64)
-    requires { ⌜ record { paired : Paired nan (now b); first-most : first ≤ pairNoise; second-most : second ≤ pairNoise } ⌝ }
+    requires { ⌜ record { paired : Paired nan (now b); first-most : first ≤ noiseMost; second-most : second ≤ noiseMost } ⌝ }
     ensures { λ _. ⌜ record { paired : Paired nan (now (b .exit)); is : (t : ℕ → ℕ → ℕ → ℤ) → Quiet first (t 0) → Quiet second (t 1) → now (b .entry) ≡ doubles (sideBySide (λ p. transposed (t p))) → now (b .exit) ≡ doubles (sideBySide (λ p. transposed (spread (gainRe (either first second p) (t p)) (gainIm (either first second p) (t p))))) } ⌝ }
 {
     let v = alternating(first as f64, second as f64);

@@ -2,7 +2,7 @@
 use Rattle.algebra.specs.Prelude.{_≡_, sym, ap, ap₂, subst, _∙_, List, [], _∷_, ℕ, _<_, arith, needs, lit<, pos}
 use lib.Ieee.{Float, binary64, ofInt}
 use Rattle.spectrum.specs.Magnitudes.{binMost}
-use Rattle.spectrum.specs.Pairs.{WholeDouble}
+use Rattle.lines.specs.Doubles.{WholeDouble}
 use Rattle.spectrum.specs.QuadLaws.{four, is-top}
 use Rattle.bins.specs.Doubles.{exactGainsIn}
 use Rattle.quads.specs.Lanes.{numberOf, binsIn, foldedIn, cornerIn, foldIn, WholeBins}

@@ -1,15 +1,15 @@
 -- `pairs::columns_back::back`: each column is read, and its sums stored in its place.
-use Rattle.algebra.specs.Prelude.{_∙_, _-_, arith, needs}
+use Rattle.algebra.specs.Prelude.{false, _∙_, _-_, arith, needs}
 use lib.Ieee.{nan, binary64, ofInt}
 use Rattle.lines.specs.Halfcomplex.{backward}
-use Rattle.lines.specs.Magnitudes.{pairFoldMost}
+use Rattle.lines.specs.Magnitudes.{foldMost}
 use Rattle.spectrum.specs.Pairs.{InDouble, doubles}
 use Rattle.pairs.proofs.ColumnLaws.{ColumnsSet, columns-start, columns-turn, columns-done, column-rest}
 use Rattle.pairs.proofs.columns_back.back.Statement.{statement}
 use Rattle.pairs.proofs.columns_back.back.Tie as tie
 
 abbrev Inv-loop : tie.InvT-loop
-Inv-loop g₀ l₀ g l = ColumnsSet nan {H = InDouble pairFoldMost g₀} (λ w y l. ofInt binary64 (backward (λ b. w .number b l) y)) l g₀ g
+Inv-loop g₀ l₀ g l = ColumnsSet nan {H = InDouble (foldMost false) g₀} (λ w y l. ofInt binary64 (backward (λ b. w .number b l) y)) l g₀ g
 
 abbrev μ-loop : tie.MeasureT-loop
 μ-loop g₀ l₀ g l = 32 - l

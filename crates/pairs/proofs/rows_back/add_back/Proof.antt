@@ -5,7 +5,7 @@ use Rattle.sequences.specs.Tab.{tab}
 use Rattle.sequences.specs.Grid.{grid, cell}
 use Rattle.lines.specs.Halfcomplex.{halfSum}
 use Rattle.lines.specs.Lines.{LineMost}
-use Rattle.lines.specs.Magnitudes.{pairColumnMost}
+use Rattle.lines.specs.Magnitudes.{columnMost}
 use Rattle.spectrum.specs.Pairs.{InDouble, planeIn}
 use Rattle.pairs.proofs.ColumnLaws.{paired-lines}
 use Rattle.pairs.proofs.RowLaws.{RowsSet, rows-start, rows-first, rows-second, rows-turn, rows-done, paired-length}
@@ -14,11 +14,11 @@ use Rattle.pairs.proofs.rows_back.add_back.Statement.{statement}
 use Rattle.pairs.proofs.rows_back.add_back.Tie as tie
 
 abbrev Inv-loop : tie.InvT-loop
-Inv-loop h sum₀ y₀ sum y =
-    RowsSet {H = InDouble pairColumnMost h} (λ w y. tab 32 (λ l. cell (pos 0) sum₀ y l +ℤ away (halfSum (planeIn (w .number) (l % 2) y) (l / 2)) (2 ^ 31))) y sum₀ sum
+Inv-loop h low sum₀ y₀ sum y =
+    RowsSet {H = InDouble (columnMost low) h} (λ w y. tab 32 (λ l. cell (pos 0) sum₀ y l +ℤ away (halfSum (planeIn (w .number) (l % 2) y) (l / 2)) (2 ^ 31))) y sum₀ sum
 
 abbrev μ-loop : tie.MeasureT-loop
-μ-loop h sum₀ y₀ sum y = 8 - y
+μ-loop h low sum₀ y₀ sum y = 8 - y
 
 add-line-requires : tie.Need-add-line-requires Inv-loop μ-loop
 add-line-requires c κs =
@@ -36,7 +36,7 @@ add-line-requires-2 c κs =
     let a = c .before .before in
     let l = a .before .before .before .before in
     let y = l .loop .y in
-    let e = rows-second (l .loop .inv) (omega arith) (a .add-line .last .1 .0) in
+    let e = rows-second (l .loop .inv) (omega arith) (a .add-line .last .1 .1 .0) in
     record {
       whole = whole-row (l .before .pre .whole) (8 + y) (omega arith);
       sums-most = subst (LineMost (2 ^ 40)) (sym e) (l .before .pre .sums-most .line (8 + y));
@@ -51,7 +51,7 @@ loop-again c =
     let y = l .loop .y in
     rows-turn (l .loop .inv) (omega arith)
     (λ w. a .add-line .ensures (whole-row w y (omega arith)) ∙ added-to _ (rows-first (l .loop .inv) (omega arith)))
-    (λ w. c .add-line2 .ensures (whole-row w (8 + y) (omega arith)) ∙ added-to _ (rows-second (l .loop .inv) (omega arith) (a .add-line .last .1 .0)))
+    (λ w. c .add-line2 .ensures (whole-row w (8 + y) (omega arith)) ∙ added-to _ (rows-second (l .loop .inv) (omega arith) (a .add-line .last .1 .1 .0)))
 
 returns : tie.Need-returns Inv-loop μ-loop
 unfolding grid

@@ -5,7 +5,7 @@ use Rattle.algebra.specs.Bound.{AtMost}
 use Rattle.sequences.specs.TabLaws.{Filled, fill-start, fill-turn, fill-rest, fill-done}
 use Rattle.sequences.specs.Grid.{tab-ext}
 use Rattle.lines.specs.Held.{line-at}
-use Rattle.pairs.specs.Whole.{roundedDouble}
+use Rattle.pairs.specs.Rounded.{roundedDouble}
 use Rattle.pairs.proofs.Rounding.{rounded-is, whole-at, more-fits, more-is}
 use Rattle.pairs.proofs.rows_back.add_row.Statement.{statement}
 use Rattle.pairs.proofs.rows_back.add_row.Tie as tie

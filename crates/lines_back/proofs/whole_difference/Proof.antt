@@ -1,0 +1,9 @@
+-- `lines_back::whole_difference`: both numbers fit, and so does what they make.
+use Rattle.lines_back.proofs.WholeHalves.{whole-fits, difference-fits, difference-is}
+use Rattle.lines_back.proofs.whole_difference.Statement.{statement}
+use Rattle.lines_back.proofs.whole_difference.Tie as tie
+
+pub whole-difference-spec : {M : Type 1} → statement M
+whole-difference-spec = tie.close (tie.spec
+    (λ c. whole-fits (c .before .pre .0)) (λ c. whole-fits (c .before .before .pre .1))
+    (λ c. difference-fits (c .before .before .pre .0) (c .before .before .pre .1)) (λ c. difference-is (c .before .before .pre .0) (c .before .before .pre .1)))

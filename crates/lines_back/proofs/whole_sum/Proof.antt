@@ -1,0 +1,9 @@
+-- `lines_back::whole_sum`: both numbers fit, and so does what they make.
+use Rattle.lines_back.proofs.WholeHalves.{whole-fits, sum-fits, sum-is}
+use Rattle.lines_back.proofs.whole_sum.Statement.{statement}
+use Rattle.lines_back.proofs.whole_sum.Tie as tie
+
+pub whole-sum-spec : {M : Type 1} → statement M
+whole-sum-spec = tie.close (tie.spec
+    (λ c. whole-fits (c .before .pre .0)) (λ c. whole-fits (c .before .before .pre .1))
+    (λ c. sum-fits (c .before .before .pre .0) (c .before .before .pre .1)) (λ c. sum-is (c .before .before .pre .0) (c .before .before .pre .1)))
