@@ -1,4 +1,4 @@
--- A whole number B below 2^51 divided by 2^k, to nearest, halves away from zero, by one product: B·2^−k·(1 + 2^−52), rounded, lies above B/2^k by less than 2^−k,
+-- A whole number B below 5·2^49 divided by 2^k, to nearest, halves away from zero, by one product: B·2^−k·(1 + 2^−52), rounded, lies above B/2^k by less than 2^−k,
 -- and what is below a half is so by 2^−k at least.
 use Rattle.algebra.specs.Prelude.{_≡_, refl, sym, ap, subst, _∙_, Bool, false, not, cond, ℕ, zero, suc, _+_, _-_, _*_, _/_, _^_, _≤_, _<_, arith, T, lit<, lit≤, ℤ, pos, negsuc, natAbs, negℤ, _-ℤ_}
 use native.Mathlib.Nat.{le-trans, lt-of-le-of-lt, mul-pos, mul-le-mul, one-mul, div-eq-of-lt, mul-le-mul-right, mul-lt-mul-of-pos-right, lt-of-mul-lt-mul-left}
@@ -34,7 +34,7 @@ closer B E x e h above below =
 below-it : (A J B x e : ℕ) → B * J < A → 0 < e → A * x ≤ (A + J) * (B * e) → x < B * e + e
 below-it A J B x e h k l = lt-of-mul-lt-mul-left A (omega (arith, l, mul-lt-mul-of-pos-right h k))
 
-module _ {B k : ℕ} {y : Float} {s : Bool} (p : Whole y s B) (above : 0 < B) (below : B < 2 ^ 51) (k-above : 0 < k) (k-most : k ≤ 900) where
+module _ {B k : ℕ} {y : Float} {s : Bool} (p : Whole y s B) (above : 0 < B) (below : B < 5 * 2 ^ 49) (k-above : 1 < k) (k-most : k ≤ 900) where
   fraction-between : Between (k + 52) (2 ^ 52 + 1) (2 ^ (k + 52))
   fraction-between =
       let l : 2 ^ 53 ≤ 2 ^ (k + 52) = pow-mono {i = 53} {j = k + 52} (omega arith) in
@@ -42,18 +42,18 @@ module _ {B k : ℕ} {y : Float} {s : Bool} (p : Whole y s B) (above : 0 < B) (b
 
   product : Rounded binary64 (mul binary64 y (fraction k)) (unlike s false) (B * (2 ^ 52 + 1)) (2 ^ (k + 52))
   product =
-      let w = subst (λ n. Between 1022 (B * (2 ^ 52 + 1)) n) (one-mul (2 ^ (k + 52))) (wider {j = 1022} (omega arith) (product-between (whole-between 51 B above (omega arith)) fraction-between)) in
+      let w = subst (λ n. Between 1022 (B * (2 ^ 52 + 1)) n) (one-mul (2 ^ (k + 52))) (wider {j = 1022} (omega arith) (product-between (whole-between 52 B above (omega arith)) fraction-between)) in
       rw (product-rounded binary64 p (lit< tt) (fraction-is k) (pow-pos (k + 52)) ∙ ap (round binary64 (unlike s false) (B * (2 ^ 52 + 1))) (one-mul (2 ^ (k + 52))))
       (rounded binary64 (unlike s false) (B * (2 ^ 52 + 1)) (2 ^ (k + 52)) (pow-pos (k + 52)) (w .low) (w .high))
 
   product-closer : Closer ((2 * B + 2 ^ k) / (2 * 2 ^ k)) (product .num) (product .den)
   product-closer =
-      let e : 2 * 2 ^ (k - 1) ≡ 2 ^ k = sym (pow-add 2 1 (k - 1)) ∙ ap (λ n. 2 ^ n) (back k k-above) in
+      let e : 2 * 2 ^ (k - 1) ≡ 2 ^ k = sym (pow-add 2 1 (k - 1)) ∙ ap (λ n. 2 ^ n) (back k (omega arith)) in
       let x = product .num in
       let d = product .den in
       let o = subst (λ n. 2 ^ 53 * (x * n) ≤ (2 ^ 53 + 1) * (B * (2 ^ 52 + 1) * d)) (pow-add 2 k 52) (part-over (product .near) .most) in
       let u = subst (λ n. (2 ^ 53 - 1) * (B * (2 ^ 52 + 1) * d) ≤ 2 ^ 53 * (x * n)) (pow-add 2 k 52) (part-under (product .near) .most) in
-      let m : B * (2 ^ 53 + 2 ^ 52 + 1) < 2 ^ 105 = lt-of-le-of-lt (mul-le-mul-right {m = B} {n = 2 ^ 51} (2 ^ 53 + 2 ^ 52 + 1) (omega arith)) (lit< tt) in
+      let m : B * (2 ^ 53 + 2 ^ 52 + 1) < 2 ^ 105 = lt-of-le-of-lt (mul-le-mul-right {m = B} {n = 5 * 2 ^ 49} (2 ^ 53 + 2 ^ 52 + 1) (omega arith)) (lit< tt) in
       let over = below-it (2 ^ 105) (2 ^ 53 + 2 ^ 52 + 1) B (x * 2 ^ k) d m (product .above) (upper (2 ^ 53) (2 ^ 53 + 1) (2 ^ 52 + 1) (2 ^ 52) x d (2 ^ k) o) in
       let under = above-it ((2 ^ 53 - 1) * (2 ^ 52 + 1)) (2 ^ 53 * 2 ^ 52) (B * d) (x * 2 ^ k) (lit< tt) (mul-pos above (product .above)) (lower (2 ^ 53 - 1) (2 ^ 53) (2 ^ 52 + 1) (2 ^ 52) x d (2 ^ k) u) in
       subst (λ D. Closer ((2 * B + D) / (2 * D)) x d) e (closer B (2 ^ (k - 1)) x d (pow-pos (k - 1)) (rw e under) (rw e over))
@@ -77,19 +77,19 @@ module _ {B k : ℕ} {y : Float} {s : Bool} (p : Whole y s B) (above : 0 < B) (b
         above = product .above;
         is = product .is;
         close = product-closer;
-        small = quotient-small B (2 ^ k) (omega (arith, below, pow-mono {i = 1} {j = k} k-above));
+        small = quotient-small B (2 ^ k) (omega (arith, below, pow-mono {i = 2} {j = k} k-above));
         value = refl;
       }
 
 -- ---- the sum with 1.5·2^52
 
--- a whole number of less than 2^51 over 2^k, to nearest, halves away from zero
-module _ (z : ℤ) (k : ℕ) (below : natAbs z < 2 ^ 51) (k-above : 0 < k) (k-most : k ≤ 900) where
+-- a whole number of less than 5·2^49 over 2^k, to nearest, halves away from zero
+module _ (z : ℤ) (k : ℕ) (below : natAbs z < 5 * 2 ^ 49) (k-above : 1 < k) (k-most : k ≤ 900) where
   product-nearest : NearestTo (mul binary64 (ofInt binary64 z) (fraction k)) (away z (2 ^ k))
   unfolding away
   product-nearest = go z below
     where
-      go : (z : ℤ) → natAbs z < 2 ^ 51 → NearestTo (mul binary64 (ofInt binary64 z) (fraction k)) (away z (2 ^ k))
+      go : (z : ℤ) → natAbs z < 5 * 2 ^ 49 → NearestTo (mul binary64 (ofInt binary64 z) (fraction k)) (away z (2 ^ k))
       go (pos zero) h =
           let e : pos 0 ≡ away (pos 0) (2 ^ k) = ap pos (sym (div-eq-of-lt {n = 0 + 2 ^ k} {m = 2 * 2 ^ k} (omega (arith, pow-pos k)))) in
           subst (NearestTo (mul binary64 (ofInt binary64 (pos 0)) (fraction k))) e

@@ -21,11 +21,11 @@ pairLineMost = 2 ^ 30
 abbrev pub pairSumMost : ℕ
 pairSumMost = 2 ^ 31
 
--- ---- back, in double; `low` where the noise numbers are at most 2^32
+-- ---- back, in double; `low` where the noise numbers are at most 2^33
 
--- a part of G: half the root of V, which is up to 2^32, or up to 279105765376
+-- a part of G: half the root of V, which is up to 2^33, or up to 279105765376
 abbrev pub partMost : (low : Bool) → ℕ
-partMost low = cond low (2 ^ 15) 264153
+partMost low = cond low 46341 264153
 
 -- a number of the folded G, two parts
 abbrev pub foldMost : (low : Bool) → ℕ
@@ -49,6 +49,6 @@ oddBasisSum = 92680
 abbrev pub columnMost : (low : Bool) → ℕ
 columnMost low = foldMost low * basisSum
 
--- half of a sum back along a row: below 2^51 where noise is low, and else below 2^54
+-- half of a sum back along a row: below 5·2^49 where noise is low, and else below 2^54
 abbrev pub halfMost : (low : Bool) → ℕ
 halfMost low = columnMost low * halfBasisSum

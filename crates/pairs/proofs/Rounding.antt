@@ -22,7 +22,7 @@ use Rattle.spectrum.specs.RoundingLaws.{away-most}
 use Rattle.pairs.specs.Rounded.{roundedBits, roundedDouble}
 
 module _ {x : Float} (w : WholeDouble (halfMost true) x) where
-  small : natAbs (w .number) < 2 ^ 51
+  small : natAbs (w .number) < 5 * 2 ^ 49
   small = omega (arith, w .most)
 
   pub rounded-number : T (not (isNan (add binary64 (mul binary64 x (fraction 31)) middle)))
@@ -36,9 +36,9 @@ module _ {x : Float} (w : WholeDouble (halfMost true) x) where
   unfolding roundedBits roundedDouble
   rounded-is = rw (w .is) (product-bits (w .number) 31 small (lit< tt) (lit≤ tt))
 
-  pub rounded-most : AtMost (2 ^ 20) (roundedDouble x)
+  pub rounded-most : AtMost (2 ^ 21) (roundedDouble x)
   rounded-most =
-      record { most = subst (λ z. natAbs z ≤ 2 ^ 20) (sym rounded-is) (le-trans (away-most (w .number) (2 ^ 31) (halfMost true) (lit< tt) (w .most)) (lit≤ tt)) }
+      record { most = subst (λ z. natAbs z ≤ 2 ^ 21) (sym rounded-is) (le-trans (away-most (w .number) (2 ^ 31) (halfMost true) (lit< tt) (w .most)) (lit≤ tt)) }
 
   -- as the code holds it
   pub rounded-held : toZ w64 (roundedBits x) -ℤ pos middleBits ≡ roundedDouble x

@@ -1,5 +1,5 @@
 // The second pass of the inverse, along the rows of a pair that the pass down the columns leaves: half of each sum back, which over 2^31 is P. Where
-// noise is low that is below 2^51, and all is in double; else it is made of its two parts in 64 bits. A row's step is called from two places, so that it is
+// noise is low that is below 5·2^49, and all is in double; else it is made of its two parts in 64 bits. A row's step is called from two places, so that it is
 // compiled by itself.
 use rounding::round_away_31;
 ghost use mathlib.Core.Path.{_≡_};
@@ -30,7 +30,7 @@ const MIDDLE_BITS: i64 = 4843621399236968448;
 // x over 2^31, to nearest, halves away from zero.
 fn rounded(x: f64) -> i64
     requires { ⌜ WholeDouble (halfMost true) x ⌝ }
-    ensures { λ r. ⌜ (r ≡ roundedDouble x) × (AtMost (2 ^ 20) r) ⌝ }
+    ensures { λ r. ⌜ (r ≡ roundedDouble x) × (AtMost (2 ^ 21) r) ⌝ }
 {
     f64::to_bits(x * BY_2_31 + MIDDLE) as i64 - MIDDLE_BITS
 }

@@ -20,8 +20,8 @@ ghost use Rattle.quiet.specs.Columns.{columnMost, ColumnsMost};
 // 2^25: V up to which any differences will do
 const ALWAYS_NOISE: u64 = 33554432;
 
-// 2^32: V up to which the inverse's last sums stay below 2^51
-const LOW_NOISE: u64 = 4294967296;
+// 2^33: V up to which the inverse's last sums stay below 5·2^49
+const LOW_NOISE: u64 = 8589934592;
 
 // 2^49: V·|Q| up to which the quotients in double are right
 const PRODUCT_MOST: u64 = 562949953421312;
@@ -89,7 +89,7 @@ fn larger(a: u64, b: u64) -> u64
     a
 }
 
-// Whether the inverse's last sums stay below 2^51 in both planes.
+// Whether the inverse's last sums stay below 5·2^49 in both planes.
 pub fn low_noise(first: u64, second: u64) -> bool
     ensures { λ r. ⌜ (r ≡ true → (first ≤ lowNoise) × (second ≤ lowNoise)) ⌝ }
 {

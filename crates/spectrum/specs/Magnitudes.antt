@@ -27,9 +27,9 @@ correctionMost = 2 ^ 30
 
 -- ---- of two tiles in double
 
--- V up to which the inverse's last sums stay below 2^51
+-- V up to which the inverse's last sums stay below 5·2^49
 abbrev pub lowNoise : ℕ
-lowNoise = 2 ^ 32
+lowNoise = 2 ^ 33
 
 -- V·|q|, for a part q of Q, up to which the quotients are right
 abbrev pub productMost : ℕ
