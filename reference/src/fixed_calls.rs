@@ -27,6 +27,7 @@ pub fn calls() -> impl Iterator<Item = Call> {
         .chain(refused_vectors())
         .chain(faults_beside_black())
         .chain(noise_numbers())
+        .chain(white_references())
         .chain(dark_planes())
 }
 
@@ -216,6 +217,37 @@ fn noise_numbers() -> impl Iterator<Item = Call> {
         call.denoising = Denoising {
             noise: Noise::Curve(curve),
             strength,
+        };
+        call
+    })
+}
+
+/// A white reference at strength 1024, where V is 1024·(4095·Ls + Lr): 2^33, that number less and more by 1024, and the
+/// greatest V; differences of every size.
+fn white_references() -> impl Iterator<Item = Call> {
+    let shape = Shape::packed(128, 64, 2);
+    let mut random = Random::new(8);
+    let levels = [
+        [1025, 4191232],
+        [1025, 4191233],
+        [1025, 4191234],
+        [65536, 4194304],
+    ];
+    let pictures = [Picture::Shifted, Picture::Extremes, Picture::Noise, Picture::Flat];
+    let each = levels
+        .into_iter()
+        .flat_map(move |level| pictures.map(|picture| (level, picture)));
+    each.map(move |([shot, read], picture)| {
+        let mut call = call(2, shape, 1, &mut random);
+        let curve = Curve {
+            shot: f64::from(shot) / 1024.0,
+            read: f64::from(read) / 1024.0,
+        };
+        call.burst.samples = picture.samples(shape, &mut random);
+        call.burst.samples[128 * 64..].fill(4095);
+        call.denoising = Denoising {
+            noise: Noise::Curve(curve),
+            strength: 1024,
         };
         call
     })
