@@ -3,6 +3,7 @@
    calls [greatest size [greatest N]] */
 #include "memory.h"
 #include "scene.h"
+#include "strengths.h"
 #include "subject.h"
 #include "tables.h"
 
@@ -14,7 +15,7 @@ enum { MOST_REPEATS = 9 };
 
 static const int REPEATS[SIZES] = { 9, 5, 3 };
 
-/* The scene's own curve, and tau = 1; timed with a tau of 8 as well. */
+/* The usual light's own curve, and tau = 1; timed at each of STRENGTH. */
 static const noise_levels SCENE_NOISE = { 1536, 20480, 8 };
 
 /* ---- small bursts ---- */
@@ -71,18 +72,6 @@ static void compare_all_small(void)
 }
 
 /* ---- large scenes ---- */
-
-static int rising(const void *a, const void *b)
-{
-    double x = *(const double *)a, y = *(const double *)b;
-    return (x > y) - (x < y);
-}
-
-static double median(double *values, int length)
-{
-    qsort(values, (size_t)length, sizeof *values, rising);
-    return values[length / 2];
-}
 
 /* All variants in turn, again and again. */
 static void measure_time(measurements *m, int size, int count, distance *d)
@@ -153,5 +142,6 @@ int main(int arguments, char **argument)
         SIZE[1], SIZE[2]);
     printf("-O3 is gcc -O3, native is gcc -O3 -march=native.\n");
     print_tables(&m);
+    print_strengths(m.sizes, m.counts);
     return 0;
 }

@@ -65,7 +65,9 @@ static int noisy(int level, const float deviation[CLIPPED + 1])
 /* Whole and half plane steps, so that some frames fit the reference exactly and some do not. */
 static const int SHAKE[8][2] = { { 0, 0 }, { -8, 10 }, { 13, -6 }, { 4, 18 }, { -17, 7 }, { 10, -14 }, { 21, 3 }, { -11, 26 } };
 
-static void fill_scene_row(uint16_t *row, int y, int width, int frame, const int16_t *canvas, const float *deviation)
+const lighting LIGHTING[LIGHTINGS] = { { "usual", 6, 1.5, 20 }, { "dim", 1, 2, 60 }, { "noisy", 6, 8, 200 } };
+
+static void fill_scene_row(uint16_t *row, int y, int width, int frame, int light, const int16_t *canvas, const float *deviation)
 {
     static const int gain[PARITIES] = { 200, 256, 256, 150 };
     int stride = width + 2 * MARGIN, down = y + MARGIN + SHAKE[frame][0], right = MARGIN + SHAKE[frame][1];
@@ -73,20 +75,25 @@ static void fill_scene_row(uint16_t *row, int y, int width, int frame, const int
     for (int x = 0; x < width; x++) {
         int object = across && (x + SPACING - 9 * frame) % SPACING < OBJECT;
         int level = object ? canvas[(size_t)(y + 5 * frame) * stride + x + SPACING - 9 * frame - 256] : canvas[(size_t)down * stride + x + right];
-        row[x] = (uint16_t)noisy(level * gain[2 * (y % 2) + x % 2] / 256, deviation);
+        row[x] = (uint16_t)noisy(level * gain[2 * (y % 2) + x % 2] * light / (6 * 256), deviation);
     }
 }
 
-void fill_scene(uint16_t *samples, int width, int height, int count)
+void fill_lit_scene(const lighting *l, uint16_t *samples, int width, int height, int count)
 {
     int16_t *canvas = make_canvas(width + 2 * MARGIN, height + 2 * MARGIN);
     float deviation[CLIPPED + 1];
     for (int i = 0; i <= CLIPPED; i++)
-        deviation[i] = sqrtf(1.5f * (float)i + 20);
+        deviation[i] = (float)sqrt(l->shot * i + l->read);
     for (int frame = 0; frame < count; frame++)
         for (int y = 0; y < height; y++)
-            fill_scene_row(samples + ((size_t)frame * height + y) * width, y, width, frame, canvas, deviation);
+            fill_scene_row(samples + ((size_t)frame * height + y) * width, y, width, frame, l->light, canvas, deviation);
     free(canvas);
+}
+
+void fill_scene(uint16_t *samples, int width, int height, int count)
+{
+    fill_lit_scene(&LIGHTING[USUAL], samples, width, height, count);
 }
 
 /* ---- bursts for the comparison alone ---- */

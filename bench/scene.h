@@ -4,8 +4,20 @@
 
 #include <stdint.h>
 
-/* A textured scene with edges, clipped lights and dark parts, shot by a shaking camera while squares move across it, with the noise of the
-   curve shot = 1.5, read = 20. */
+/* The light on the scene, in sixths of the usual, and the sensor's curve. */
+typedef struct {
+    const char *name;
+    int light;
+    double shot, read;
+} lighting;
+
+enum { USUAL, DIM, NOISY, LIGHTINGS };
+extern const lighting LIGHTING[LIGHTINGS];
+
+/* A textured scene with edges, clipped lights and dark parts, shot by a shaking camera while squares move across it. */
+void fill_lit_scene(const lighting *l, uint16_t *samples, int width, int height, int count);
+
+/* The same under the usual light. */
 void fill_scene(uint16_t *samples, int width, int height, int count);
 
 /* Patches of one level, or of two in stripes, which differ by a few steps from frame to frame: corrections and outputs that are exact halves. */

@@ -109,16 +109,35 @@ static double now(void)
     return (double)time.tv_sec * 1e9 + (double)time.tv_nsec;
 }
 
+double run_line(subject *s, int call, int i, distance *d)
+{
+    result *r = i == 0 ? &s->library : &s->found;
+    spoil(r, call, &s->burst);
+    double start = now();
+    LINES[call][i].peer->call(s->scratch[call][i], &s->burst, &s->noise, r);
+    double time = now() - start;
+    if (i > 0)
+        compare(s, call, &LINES[call][i], d);
+    return time;
+}
+
 void run_lines(subject *s, int call, double *times, distance *d)
 {
     for (int i = 0; i < LENGTH[call]; i++) {
-        result *r = i == 0 ? &s->library : &s->found;
-        spoil(r, call, &s->burst);
-        double start = now();
-        LINES[call][i].peer->call(s->scratch[call][i], &s->burst, &s->noise, r);
+        double time = run_line(s, call, i, d);
         if (times)
-            times[i] = now() - start;
-        if (i > 0)
-            compare(s, call, &LINES[call][i], d);
+            times[i] = time;
     }
+}
+
+static int rising(const void *a, const void *b)
+{
+    double x = *(const double *)a, y = *(const double *)b;
+    return (x > y) - (x < y);
+}
+
+double median(double *values, int length)
+{
+    qsort(values, (size_t)length, sizeof *values, rising);
+    return values[length / 2];
 }

@@ -37,7 +37,12 @@ typedef struct {
     int greatest;
 } distance;
 
-/* Each line once, its CPU time in ns unless `times` is NULL. Ends the program where an exact variant and the library differ in a word. */
+/* One line once; its CPU time in ns. Ends the program where it is exact and differs in a word from the library, which has to be run before it. */
+double run_line(subject *s, int call, int i, distance *d);
+
+/* Each line once, their times unless `times` is NULL. */
 void run_lines(subject *s, int call, double *times, distance *d);
+
+double median(double *values, int length);
 
 #endif

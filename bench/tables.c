@@ -2,7 +2,7 @@
 
 #include <stdio.h>
 
-const int SIZE[SIZES] = { 512, 1024, 2048 }, COUNT[COUNTS] = { 2, 4, 8 }, STRENGTH[STRENGTHS] = { 8, 64 };
+const int SIZE[SIZES] = { 512, 1024, 2048 }, COUNT[COUNTS] = { 2, 4, 8 }, STRENGTH[STRENGTHS] = { 64, 600 };
 
 int call_of(int timed)
 {

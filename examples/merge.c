@@ -2,8 +2,9 @@
      noisy.pgm, merged.pgm   the reference frame and the merged one, as Bayer samples
      vectors.txt             a line per other frame and tile: frame, row and column of the tile, down, right
      card.burst              a burst file of 64 by 64 samples of the first five frames, each sample up to 99
-   and prints how many vectors tell how the card moved, and how far both frames are from the card without noise. It ends with 1 where the call is
-   refused, less than nine tenths of the vectors are right, or the merged frame is not twice as near as the noisy one. */
+   and prints how many vectors tell how the card moved, how far both frames are from the card without noise, and how far merges of other strengths
+   are. It ends with 1 where a call is refused, less than nine tenths of the vectors are right, or the merged frame is not twice as near as the noisy
+   one. */
 #include "card.h"
 #include "stacker.h"
 
@@ -13,9 +14,9 @@
 
 enum { SIDE = 512, FRAMES = 8, REFERENCE = 0, TILES = SIDE / 16 + 1, FRAME = SIDE * SIDE };
 
-/* The noise of a sample x has the variance SHOT x + READ. The strength counts eighths of tau. */
+/* The noise of a sample x has the variance SHOT x + READ. The strength counts eighths of tau: the published analysis takes a tau of 75. */
 static const double SHOT = 3, READ = 100;
-static const uint64_t STRENGTH = 512;
+static const uint64_t STRENGTH = 600;
 
 /* the lent buffers, of the lengths that stacker.h gives */
 static uint16_t samples[FRAMES * FRAME], merged[FRAME];
@@ -132,6 +133,27 @@ static int right_vectors(void)
     return 1000 * right / ALL;
 }
 
+static void must_accept(uint64_t refusal)
+{
+    if (refusal == STACKER_ACCEPTED)
+        return;
+    printf("refused %" PRIu64 ": %s\n", refusal, stacker_refusal_text(refusal));
+    exit(1);
+}
+
+/* What a strength does, with the vectors found. */
+static void print_strengths(stacker_burst burst, stacker_noise noise)
+{
+    static const uint64_t strengths[] = { 0, 8, 64, 600, 1024 };
+    printf("strength   distance\n");
+    for (size_t i = 0; i < sizeof strengths / sizeof *strengths; i++) {
+        stacker_tuning tuning = { .strength = strengths[i] };
+        must_accept(stacker_merge(burst, noise, tuning, samples, FRAMES * FRAME, vectors, sizeof vectors / sizeof *vectors, merged, FRAME, work,
+            2 * FRAME));
+        printf("%8" PRIu64 "%11.2f\n", strengths[i], distance(merged));
+    }
+}
+
 int main(int argc, char **argv)
 {
     if (argc != 2)
@@ -140,12 +162,8 @@ int main(int argc, char **argv)
     stacker_burst burst = { .width = SIDE, .height = SIDE, .count = FRAMES, .reference = REFERENCE, .row_length = SIDE };
     stacker_noise noise = { .shot = SHOT, .read = READ };
     stacker_tuning tuning = { .strength = STRENGTH };
-    stacker_alignment answer = stacker_run(burst, noise, tuning, samples, FRAMES * FRAME, vectors, sizeof vectors / sizeof *vectors, merged, FRAME,
-        work, 2 * FRAME);
-    if (answer.refusal != STACKER_ACCEPTED) {
-        printf("refused %" PRIu64 ": %s\n", answer.refusal, stacker_refusal_text(answer.refusal));
-        return 1;
-    }
+    must_accept(stacker_run(burst, noise, tuning, samples, FRAMES * FRAME, vectors, sizeof vectors / sizeof *vectors, merged, FRAME, work,
+        2 * FRAME).refusal);
     write_frame(created(argv[1], "noisy.pgm"), samples + REFERENCE * FRAME);
     write_frame(created(argv[1], "merged.pgm"), merged);
     write_vectors(created(argv[1], "vectors.txt"));
@@ -154,5 +172,6 @@ int main(int argc, char **argv)
     double before = distance(samples + REFERENCE * FRAME), after = distance(merged);
     printf("vectors within one step of the card's move: %d of 1000\n", right);
     printf("distance from the card without noise: noisy %.2f, merged %.2f\n", before, after);
+    print_strengths(burst, noise);
     return right < 900 || after > before / 2;
 }

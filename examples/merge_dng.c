@@ -7,7 +7,7 @@
 #include <stdlib.h>
 
 /* eighths of tau */
-static const uint64_t STRENGTH = 512;
+static const uint64_t STRENGTH = 600;
 
 static void *room(size_t count, size_t size)
 {

@@ -1,7 +1,7 @@
 /* The burst stacker: one to eight raw frames of one scene are aligned on one of them, the reference, and merged into one cleaner frame.
 
    First come the types, the calls and what goes with them; behind them EXAMPLES, FRAMES, SHARPNESS, LENT BUFFERS, AFTER A CALL, REFUSALS, NOISE,
-   ZEROS and THE MACHINE. Link with libstacker.a. For x86-64 Linux; C99 and later, C++11 and later. */
+   STRENGTH, ZEROS and THE MACHINE. Link with libstacker.a. For x86-64 Linux; C99 and later, C++11 and later. */
 #ifndef STACKER_H
 #define STACKER_H
 
@@ -46,7 +46,7 @@ typedef struct {
 } stacker_iso_noise;
 
 typedef struct {
-    uint64_t strength; /* eighths of the published tau, 0..1024 */
+    uint64_t strength; /* eighths of the published tau, 0..1024: STRENGTH, below */
 } stacker_tuning;
 
 /* What a call answers: the refusal's number, or 0 with the other fields filled in. */
@@ -202,7 +202,7 @@ static inline const char *stacker_refusal_text(uint64_t number)
 }
 #endif
 
-/* EXAMPLES. Eight frames of 512 by 512 samples, merged on the first; noise of variance 3 x + 100 at a sample x; strength 512, so tau = 64:
+/* EXAMPLES. Eight frames of 512 by 512 samples, merged on the first; noise of variance 3 x + 100 at a sample x; strength 600, so tau = 75:
 
        enum { W = 512, H = 512, N = 8, VECTORS = (N - 1) * 2 * (W / 16 + 1) * (H / 16 + 1) };
        static uint16_t samples[N * W * H], output[W * H];
@@ -211,7 +211,7 @@ static inline const char *stacker_refusal_text(uint64_t number)
 
        stacker_burst burst = { .width = W, .height = H, .count = N, .row_length = W };
        stacker_noise noise = { .shot = 3.0, .read = 100.0 };
-       stacker_tuning tuning = { .strength = 512 };
+       stacker_tuning tuning = { .strength = 600 };
        stacker_alignment answer = stacker_run(burst, noise, tuning, samples, N * W * H, vectors, VECTORS, output, W * H, work, 2 * W * H);
        if (answer.refusal != STACKER_ACCEPTED) {
            fprintf(stderr, "refused: %s\n", stacker_refusal_text(answer.refusal));
@@ -300,6 +300,10 @@ static inline const char *stacker_refusal_text(uint64_t number)
    file has the levels floor(1024 shot) and floor(1024 read) instead; stacker_file_noise turns them back. The curve speaks of light: in the noise of a
    tile each sample of the reference counts as what it exceeds its plane's black level by, or 0. Nothing else looks at black levels: vectors,
    residuals and the merged frame keep the pedestal. A file means levels of 0.
+
+   STRENGTH. The greater, the more of the other frames is taken where they differ from the reference. Take 600, the tau of 75 that the published
+   analysis of HDR+ settled on; 64 is the tau of 8 that the original names, which that analysis found too weak. A strength of 0 gives the reference back,
+   1024 is the greatest. README has what they do to one scene.
 
    ZEROS. A width, height, count, row length or ISO of 0 is refused. Reference 0 is the first frame. Shot and read of 0 say that there is no noise, and
    strength 0 asks for no merging: either gives the reference back. Black levels of 0 say that black is already subtracted. A field that a later version
