@@ -1,17 +1,17 @@
--- The Wiener step in double gives the recipe's whole numbers: B is below 2^51, |Q|² + V at most 2^53, and V·|q| at most 2^49.
-use Rattle.algebra.specs.Prelude.{_≡_, refl, sym, ap, ap₂, subst, _∙_, Bool, true, false, [], _∷_, ℕ, _+_, _*_, _^_, _≤_, _<_, arith, lit≤, lit<, ℤ, pos, natAbs}
+-- The Wiener step in double gives the recipe's whole numbers where its quotients are certain: B is below 2^51, and |Q|² + V at most 2^53.
+use Rattle.algebra.specs.Prelude.{_≡_, refl, sym, ap, ap₂, subst, _∙_, Bool, true, false, [], _∷_, ℕ, _*_, _^_, _≤_, _<_, arith, lit≤, lit<, getD, ℤ, pos, natAbs}
 use native.Mathlib.Nat.{le-trans, mul-le-mul, add-le-add}
-use lib.Ieee.{Float, binary64, ofInt, add, mul, div, unlike}
-use Rattle.algebra.specs.Nearest.{away}
+use Prim.Native.Nat.{zero-le}
+use lib.Ieee.{Float, nan, binary64, ofInt, mul, div, unlike}
 use Rattle.floats.specs.Wholes.{Whole, negative, whole-of, whole-product, whole-sum}
-use Rattle.floats.specs.QuotientLaws.{slightlyMore, quotient-again}
+use Rattle.floats.specs.QuotientLaws.{slightlyMore, certain, quotient-again}
 use Rattle.floats.specs.ProductLaws.{product-away}
 use Rattle.recipe.specs.Tables.{side16}
 use Rattle.recipe.specs.Correction.{power, quantized, wiener, filtered}
-use Rattle.spectrum.specs.Magnitudes.{binMost, gainMost, noiseMost, productMost}
+use Rattle.spectrum.specs.Magnitudes.{binMost, gainMost, noiseMost}
 use Rattle.spectrum.specs.RoundingLaws.{away-most}
 use Rattle.spectrum.specs.WienerLaws.{wiener-is}
-use Rattle.bins.specs.Doubles.{nearestWhole, quantizedIn, powerIn, gainsIn, realGainIn}
+use Rattle.bins.specs.Doubles.{nearestWhole, quantizedIn, powerIn, quotientsIn, gainsIn, Sure, realGainIn}
 
 -- ---- Q
 
@@ -23,10 +23,6 @@ module _ (b : ℤ) (most : natAbs b ≤ binMost) where
   pub quantized-most : natAbs (quantized side16 b) ≤ gainMost
   unfolding quantized side16
   quantized-most = le-trans (away-most b (2 ^ 24) binMost (lit< tt) most) (lit≤ tt)
-
-pub quantized-nothing : quantized side16 (pos 0) ≡ pos 0
-unfolding quantized side16 away
-quantized-nothing = refl
 
 -- ---- |Q|² + V
 
@@ -52,18 +48,18 @@ module _ (v : ℕ) (q r : ℤ) (above : 0 < v) (small : v ≤ noiseMost) (first 
   power-is =
       whole-sum binary64 (whole-sum binary64 (square q first) (square r second) refl (omega (arith, power-most))) (whole-of binary64 (pos v) (omega arith)) refl power-most
 
+  quotient-most : v * natAbs q ≤ 2 ^ 48 * power v q r
+  quotient-most =
+      let l : v ≤ power v q r = omega arith in
+      let m : natAbs q ≤ 2 ^ 48 = omega arith in
+      le-trans (mul-le-mul l m) (omega arith)
+
   -- G from a divisor that is the power
-  gain-is : {d : Float} → Whole d false (power v q r) → v * natAbs q ≤ productMost → nearestWhole (mul binary64 (ofInt binary64 q) (div binary64 (weight v) d)) ≡ ofInt binary64 (wiener v q r)
+  gain-is : {d : Float} → Whole d false (power v q r) → certain (mul binary64 (ofInt binary64 q) (div binary64 (weight v) d)) ≡ true → nearestWhole (mul binary64 (ofInt binary64 q) (div binary64 (weight v) d)) ≡ ofInt binary64 (wiener v q r)
   unfolding nearestWhole
   gain-is p h =
-      quotient-again (whole-of binary64 (pos v) (omega arith)) p above (omega arith) (omega arith) power-most q (omega arith) h
+      quotient-again (whole-of binary64 (pos v) (omega arith)) p above (omega arith) (omega arith) power-most q (omega arith) quotient-most h
       ∙ ap (ofInt binary64) (sym (wiener-is v q r above))
-
-real-power-is : (v : ℕ) (q : ℤ) → 0 < v → v ≤ noiseMost → natAbs q ≤ gainMost → Whole (add binary64 (mul binary64 (ofInt binary64 q) (ofInt binary64 q)) (ofInt binary64 (pos v))) false (power v q (pos 0))
-real-power-is v q above small h =
-    let e : natAbs q * natAbs q + v ≡ power v q (pos 0) = omega arith in
-    subst (λ n. Whole (add binary64 (mul binary64 (ofInt binary64 q) (ofInt binary64 q)) (ofInt binary64 (pos v))) false n) e
-    (whole-sum binary64 (square q h) (whole-of binary64 (pos v) (omega arith)) refl (omega (arith, power-most v q (pos 0) above small h (lit≤ tt))))
 
 -- ---- G
 
@@ -72,22 +68,34 @@ power-swapped {d} v q r p =
     let e : power v q r ≡ power v r q = omega arith in
     subst (λ n. Whole d false n) e p
 
-pub gains-are : (v : ℕ) (a b : ℤ) → 0 < v → v ≤ noiseMost → natAbs a ≤ binMost → natAbs b ≤ binMost → v * natAbs (quantized side16 a) ≤ productMost → v * natAbs (quantized side16 b) ≤ productMost
-    → gainsIn (ofInt binary64 (pos v)) (weight v) (ofInt binary64 a) (ofInt binary64 b) ≡ ofInt binary64 (filtered side16 v a b) ∷ ofInt binary64 (filtered side16 v b a) ∷ []
-unfolding gainsIn filtered
-gains-are v a b above small m n h k =
-    let q = quantized side16 a in
-    let r = quantized side16 b in
-    let l = quantized-most a m in
-    let o = quantized-most b n in
-    let p = power-is v q r above small l o in
-    rw (quantized-is a m, quantized-is b n)
-    (ap₂ (λ x y. x ∷ y ∷ []) (gain-is v q r above small l o p h) (gain-is v r q above small o l (power-swapped v q r p) k))
+module _ (v : ℕ) (above : 0 < v) (small : v ≤ noiseMost) where
+  abbrev v' : Float
+  v' = ofInt binary64 (pos v)
 
-pub real-gain-is : (v : ℕ) (a : ℤ) → 0 < v → v ≤ noiseMost → natAbs a ≤ binMost → v * natAbs (quantized side16 a) ≤ productMost
-    → realGainIn (ofInt binary64 (pos v)) (weight v) (ofInt binary64 a) ≡ ofInt binary64 (filtered side16 v a (pos 0))
-unfolding realGainIn filtered
-real-gain-is v a above small m h =
-    let q = quantized side16 a in
-    let l = quantized-most a m in
-    rw (quantized-is a m, quantized-nothing) (gain-is v q (pos 0) above small l (lit≤ tt) (real-power-is v q above small l) h)
+  module _ (a b : ℤ) (m : natAbs a ≤ binMost) (n : natAbs b ≤ binMost) where
+    abbrev q : ℤ
+    q = quantized side16 a
+
+    abbrev r : ℤ
+    r = quantized side16 b
+
+    abbrev ratio : Float
+    ratio = div binary64 (weight v) (powerIn v' (ofInt binary64 q) (ofInt binary64 r))
+
+    quotients-are : quotientsIn v' (weight v) (ofInt binary64 a) (ofInt binary64 b) ≡ mul binary64 (ofInt binary64 q) ratio ∷ mul binary64 (ofInt binary64 r) ratio ∷ []
+    unfolding quotientsIn
+    quotients-are = rw (quantized-is a m, quantized-is b n) refl
+
+    pub gains-are : Sure v' (weight v) (ofInt binary64 a) (ofInt binary64 b) → gainsIn v' (weight v) (ofInt binary64 a) (ofInt binary64 b) ≡ ofInt binary64 (filtered side16 v a b) ∷ ofInt binary64 (filtered side16 v b a) ∷ []
+    unfolding gainsIn filtered
+    gains-are s =
+        let l = quantized-most a m in
+        let o = quantized-most b n in
+        let p = power-is v q r above small l o in
+        ap (λ x. nearestWhole (getD x 0 nan) ∷ nearestWhole (getD x 1 nan) ∷ []) quotients-are
+        ∙ ap₂ (λ x y. x ∷ y ∷ []) (gain-is v q r above small l o p (subst (λ x. certain (getD x 0 nan) ≡ true) quotients-are (s .first)))
+        (gain-is v r q above small o l (power-swapped v q r p) (subst (λ x. certain (getD x 1 nan) ≡ true) quotients-are (s .second)))
+
+  pub real-gain-is : (a : ℤ) → natAbs a ≤ binMost → Sure v' (weight v) (ofInt binary64 a) (ofInt binary64 (pos 0)) → realGainIn v' (weight v) (ofInt binary64 a) ≡ ofInt binary64 (filtered side16 v a (pos 0))
+  unfolding realGainIn
+  real-gain-is a m s = ap (λ g. getD g 0 nan) (gains-are a (pos 0) m zero-le s)

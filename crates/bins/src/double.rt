@@ -1,13 +1,19 @@
-// The Wiener step at one bin in double: Q from B, the quotients V/(|Q|² + V) and G. V and W = V·(1 + 2^-51) are given as doubles, and so are the parts of B.
-// Each number is a whole one, and each rounding to one is a sum with 1.5·2^52, from which that is taken off again.
+// The Wiener step at one bin in double: Q from B, the quotients V/(|Q|² + V) and G, and whether the quotients leave a doubt. V and W = V·(1 + 2^-51) are given
+// as doubles, and so are the parts of B. Each number but the quotients is a whole one, and each rounding to one is a sum with 1.5·2^52, from which that is taken
+// off again.
 ghost use mathlib.Core.Path.{_≡_};
-ghost use Rattle.bins.specs.Doubles.{nearestWhole, quantizedIn, gainsIn, realGainIn};
+ghost use mathlib.Core.Bool.{true};
+ghost use Rattle.floats.specs.QuotientLaws.{certain};
+ghost use Rattle.bins.specs.Doubles.{nearestWhole, quantizedIn, quotientsIn, gainsIn, Sure, realGainIn};
 
 // 1.5·2^52: a sum with it has units of 1
 const MIDDLE: f64 = 6755399441055744.0;
 
 // 2^-24·(1 + 2^-52): the last bits make a half more than a half, so that it is rounded away from zero
 const BY_2_24: f64 = 0.000000059604644775390638234889800848443;
+
+// 1 − 2^-49: more than all that makes a quotient too large
+const SLIGHTLY_LESS: f64 = 0.99999999999999822364316059974954;
 
 // The whole number nearest to x.
 fn nearest_whole(x: f64) -> f64
@@ -23,20 +29,53 @@ pub fn quantized(b: f64) -> f64
     nearest_whole(b * BY_2_24)
 }
 
-// Both parts of G at a bin, from those of B.
-pub fn gains(v: f64, w: f64, a: f64, b: f64) -> [f64; 2]
-    ensures { λ r. ⌜ r ≡ gainsIn v w a b ⌝ }
+// The quotients of both parts at a bin, slightly too large, from those of B.
+fn quotients(v: f64, w: f64, a: f64, b: f64) -> [f64; 2]
+    ensures { λ r. ⌜ r ≡ quotientsIn v w a b ⌝ }
 {
     let q = quantized(a);
     let r = quantized(b);
     let g = w / (q * q + r * r + v);
-    [nearest_whole(q * g), nearest_whole(r * g)]
+    [q * g, r * g]
+}
+
+// Both parts of G at a bin, from those of B.
+pub fn gains(v: f64, w: f64, a: f64, b: f64) -> [f64; 2]
+    ensures { λ r. ⌜ r ≡ gainsIn v w a b ⌝ }
+{
+    let x = quotients(v, w, a, b);
+    [nearest_whole(x[0]), nearest_whole(x[1])]
 }
 
 // G at a bin that is real.
 pub fn real_gain(v: f64, w: f64, a: f64) -> f64
     ensures { λ r. ⌜ r ≡ realGainIn v w a ⌝ }
 {
-    let q = quantized(a);
-    nearest_whole(q * (w / (q * q + v)))
+    let g = gains(v, w, a, 0.0);
+    g[0]
+}
+
+// Whether a quotient and what lies below the exact one are rounded to the same.
+fn no_doubt(x: f64) -> bool
+    ensures { λ r. ⌜ r ≡ certain x ⌝ }
+{
+    x + MIDDLE == x * SLIGHTLY_LESS + MIDDLE
+}
+
+// Whether both are true.
+pub fn both(a: bool, b: bool) -> bool
+    ensures { λ r. ⌜ (r ≡ true → (a ≡ true) × (b ≡ true)) ⌝ }
+{
+    if a {
+        return b;
+    }
+    false
+}
+
+// Whether `before` is true, and the quotients at a bin leave no doubt of G.
+pub fn sure(before: bool, v: f64, w: f64, a: f64, b: f64) -> bool
+    ensures { λ r. ⌜ (r ≡ true → (before ≡ true) × (Sure v w a b)) ⌝ }
+{
+    let x = quotients(v, w, a, b);
+    both(before, both(no_doubt(x[0]), no_doubt(x[1])))
 }

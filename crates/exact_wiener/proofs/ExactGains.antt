@@ -1,11 +1,10 @@
 -- Quads of G with quotients in whole numbers are those of the folded G.
-use Rattle.algebra.specs.Prelude.{_≡_, refl, sym, ap, subst, _∙_, List, [], _∷_, ℕ, zero, suc, _+_, _/_, _%_, _≤_, _<_, arith, eqb, ℤ, pos, natAbs}
+use Rattle.algebra.specs.Prelude.{_≡_, refl, sym, ap, subst, _∙_, List, [], _∷_, ℕ, zero, suc, _+_, _/_, _%_, _<_, arith, eqb, getD, ℤ, pos}
 use mathlib.Core.List.{map}
 use Prim.Native.Nat.{zero-le}
 use lib.Ieee.{Float, nan}
 use Rattle.sequences.specs.Grid.{cell}
-use Rattle.spectrum.specs.Magnitudes.{binMost}
-use Rattle.spectrum.specs.Spectrum.{transposed, spread, quadOf, byKind, gainRe, gainIm}
+use Rattle.spectrum.specs.Spectrum.{transposed, spread, quadOf, byKind, twoBins, gainRe, gainIm}
 use Rattle.spectrum.specs.Apart.{cond-cases}
 use Rattle.spectrum.specs.Pairs.{sideBySide, either, doubles, Binned}
 use Rattle.quads.specs.Lanes.{numberOf, foldedIn, cornerIn, foldIn, quadIn, WholeBins, quadAt}
@@ -35,8 +34,11 @@ new-exactly {noise} first second u l q n e = rw e (exact-four noise (l / 2) u q)
 -- a quad of a tile
 pub exact-gains : (v : ℕ) (t : ℕ → ℕ → ℤ) → Binned t → (k u : ℕ) → k < 8 → u < 8 → exactQuad v k u (map double (quadOf t k u)) ≡ map double (quadOf (spread (gainRe v t) (gainIm v t)) k u)
 unfolding exactQuad
-exact-gains v t binned =
-    quad-gains t binned v (λ z. natAbs z ≤ binMost) (bins-small t binned) _ (λ a p. ap (λ g. numberOf g 0) (exact-gains-are v a (pos 0) p zero-le)) _ (exact-gains-are v)
+exact-gains v t binned k u h l =
+    let bin : ℕ → ℤ = λ i. getD (twoBins t k u) i (pos 0) in
+    let most = bins-small t binned k u h l in
+    quad-gains t binned v _ _ k u h l (λ e i o. ap (λ g. numberOf g 0) (exact-gains-are v (bin i) (pos 0) (most i) zero-le))
+    (λ o. (exact-gains-are v (bin 0) (bin 1) (most 0) (most 1), exact-gains-are v (bin 2) (bin 3) (most 2) (most 3)))
 
 -- all quads of a pair
 module _ (first second : ℕ) (t : ℕ → ℕ → ℕ → ℤ) (a : Binned (t 0)) (b : Binned (t 1)) where

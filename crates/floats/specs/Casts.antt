@@ -1,5 +1,5 @@
 -- A whole number in double is itself as an i64.
-use Rattle.algebra.specs.Prelude.{_≡_, ℕ, _^_, _≤_, arith, T, ℤ, pos, negsuc, natAbs}
+use Rattle.algebra.specs.Prelude.{_≡_, _^_, _≤_, arith, T, ℤ, pos, negsuc, natAbs}
 use lib.Dec.{le→leb, lt→ltb}
 use lib.Ieee.{binary64, ofInt, toSigned, inSigned, inFloat}
 use lib.Ieee.Back.{positive-back, negative-back}

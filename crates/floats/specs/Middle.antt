@@ -1,11 +1,13 @@
 -- The whole number nearest to a float of less than 2^51, from its sum with 1.5·2^52: as a float, by a difference, and as a whole number, by the sum's bits.
 use Rattle.algebra.specs.Prelude.{_≡_, refl, sym, ap, subst, _∙_, Bool, true, false, not, cond, ℕ, _+_, _-_, _*_, _/_, _^_, _≤_, _<_, arith, T, lit<, ℤ, pos, negℤ, _-ℤ_}
-use native.Mathlib.Nat.{div-lt-iff-lt-mul, mul-le-mul-right}
-use lib.Ieee.{Float, fin, binary64, add, sub, ofInt, toBits, isNan}
+use native.Mathlib.Nat.{div-lt-iff-lt-mul, div-mul-le-self, mul-le-mul-right}
+use lib.Ieee.{Float, fin, binary64, add, sub, eq, ofInt, toBits, isNan}
+use lib.Ieee.Nearest.{closest}
 use Rattle.algebra.specs.Diff.{pos-as, neg-as, sub-eq}
 use Rattle.floats.specs.Fractions.{Is}
-use Rattle.floats.specs.Wholes.{Whole, whole-bits}
-use Rattle.floats.specs.NearestWhole.{Closer, sum-nearest}
+use Rattle.floats.specs.Wholes.{Whole, same-whole, whole-bits}
+use Rattle.floats.specs.NearestWhole.{Closer, half-above, no-less, no-more, sum-closest, sum-nearest}
+use Rattle.floats.specs.RelativeError.{closest-within}
 use Rattle.floats.specs.Kernels.{difference-of}
 
 -- 1.5·2^52, and its bits
@@ -58,6 +60,10 @@ less-middle false k h = sym (pos-as k (3 * 2 ^ 51 + k) (3 * 2 ^ 51) (omega arith
 less-bits : (m : ℕ) → pos (1074 * 2 ^ 52 + m) -ℤ pos middleBits ≡ pos m -ℤ pos (3 * 2 ^ 51)
 less-bits m = sub-eq (1074 * 2 ^ 52 + m) middleBits m (3 * 2 ^ 51) (omega arith)
 
+-- the sum, less 1.5·2^52 again
+less-again : (x : Float) (s : Bool) (k : ℕ) → k < 2 ^ 51 → Whole (add binary64 x middle) false (digits s k) → sub binary64 (add binary64 x middle) middle ≡ ofInt binary64 (cond s (negℤ (pos k)) (pos k))
+less-again x s k h w = difference-of binary64 (pos (digits s k)) (pos (3 * 2 ^ 51)) w middle-is ∙ ap (ofInt binary64) (less-middle s k h)
+
 module _ {x : Float} {z : ℤ} (n : NearestTo x z) where
   sum-is : Whole (add binary64 x middle) false (digits (n .sign) (n .count))
   sum-is =
@@ -69,9 +75,7 @@ module _ {x : Float} {z : ℤ} (n : NearestTo x z) where
 
   -- as a float
   pub nearest-again : sub binary64 (add binary64 x middle) middle ≡ ofInt binary64 z
-  nearest-again =
-      difference-of binary64 (pos (digits (n .sign) (n .count))) (pos (3 * 2 ^ 51)) sum-is middle-is
-      ∙ ap (ofInt binary64) (less-middle (n .sign) (n .count) (n .small) ∙ n .value)
+  nearest-again = less-again x (n .sign) (n .count) (n .small) sum-is ∙ ap (ofInt binary64) (n .value)
 
   -- by bits
   sum-bits : toBits binary64 (add binary64 x middle) ≡ 1074 * 2 ^ 52 + digits (n .sign) (n .count)
@@ -86,3 +90,30 @@ module _ {x : Float} {z : ℤ} (n : NearestTo x z) where
   pub sum-number : T (not (isNan (add binary64 x middle)))
   unfolding isNan
   sum-number = subst (λ y. T (not (isNan y))) (sym (sum-is .is)) tt
+
+-- ---- a fraction between two floats of one sign, whose sums with 1.5·2^52 are equal
+
+module _ {N D : ℕ} (D-above : 0 < D) (small : N < 2 ^ 50 * D) {a c : ℕ} (C : 0 < c) (most : a < 2 ^ 51 * c) (above : N * c < a * D) {a' c' : ℕ} (C' : 0 < c') (most' : a' < 2 ^ 51 * c') (below : a' * D < N * c') where
+  abbrev k : ℕ
+  k = (2 * N + D) / (2 * D)
+
+  -- what both are rounded to
+  between : (s : Bool) → closest (cond s (3 * 2 ^ 51 * c - a) (3 * 2 ^ 51 * c + a)) c ≡ closest (cond s (3 * 2 ^ 51 * c' - a') (3 * 2 ^ 51 * c' + a')) c' → closest (cond s (3 * 2 ^ 51 * c - a) (3 * 2 ^ 51 * c + a)) c ≡ digits s k
+  between false e =
+      let w = closest-within (3 * 2 ^ 51 * c + a) c C in
+      let w' = closest-within (3 * 2 ^ 51 * c' + a') c' C' in
+      let l = no-less N D k (div-mul-le-self (2 * N + D) (2 * D)) (half-above N D D-above) a c (3 * 2 ^ 51) (closest (3 * 2 ^ 51 * c + a) c) above (omega (arith, w .under)) in
+      let m = no-more N D k (div-mul-le-self (2 * N + D) (2 * D)) (half-above N D D-above) a' c' (3 * 2 ^ 51) (closest (3 * 2 ^ 51 * c' + a') c') below (omega (arith, w' .over)) in
+      omega (arith, e, l, m)
+  between true e =
+      let w = closest-within (3 * 2 ^ 51 * c - a) c C in
+      let w' = closest-within (3 * 2 ^ 51 * c' - a') c' C' in
+      let l = no-less N D k (div-mul-le-self (2 * N + D) (2 * D)) (half-above N D D-above) a c (closest (3 * 2 ^ 51 * c - a) c) (3 * 2 ^ 51) above (omega (arith, w .over)) in
+      let m = no-more N D k (div-mul-le-self (2 * N + D) (2 * D)) (half-above N D D-above) a' c' (closest (3 * 2 ^ 51 * c' - a') c') (3 * 2 ^ 51) below (omega (arith, w' .under)) in
+      omega (arith, e, l, m)
+
+  pub between-again : (s : Bool) {x y : Float} → Is x s a c → Is y s a' c' → eq (add binary64 x middle) (add binary64 y middle) ≡ true → sub binary64 (add binary64 x middle) middle ≡ ofInt binary64 (cond s (negℤ (pos k)) (pos k))
+  between-again s {x} {y} p q e =
+      let w = sum-closest binary64 middle-is C (omega arith) (omega arith) s p in
+      let w' = sum-closest binary64 middle-is C' (omega arith) (omega arith) s q in
+      less-again x s k (quotient-small N D small) (subst (λ n. Whole (add binary64 x middle) false n) (between s (same-whole w w' e)) w)

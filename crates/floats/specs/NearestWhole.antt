@@ -29,6 +29,18 @@ upward-closer N D a c h above below =
 pub half-above : (N D : ℕ) → 0 < D → 2 * N < (2 * N + D) / (2 * D) * (2 * D) + D
 half-above N D h = omega (arith, div-add-mod' (2 * N + D) (2 * D), mod-lt (2 * N + D) {m = 2 * D} (omega arith))
 
+-- k is N/D to nearest, halves upward: a fraction above N/D is rounded to no less, and one below it to no more
+module _ (N D k : ℕ) (lower : k * (2 * D) ≤ 2 * N + D) (upper : 2 * N < k * (2 * D) + D) where
+  pub no-less : (a c m n : ℕ) → N * c < a * D → 2 * (m * c) + 2 * a ≤ 2 * (n * c) + c → m + k ≤ n
+  no-less a c m n above sum =
+      let l : m + k < n + 1 = lt-of-mul-lt-mul-right (c * D) (omega (arith, mul-le-mul-right c lower, mul-le-mul-right D sum, above)) in
+      omega arith
+
+  pub no-more : (a c m n : ℕ) → a * D < N * c → 2 * (n * c) ≤ 2 * (m * c) + 2 * a + c → n ≤ m + k
+  no-more a c m n below sum =
+      let l : n < m + k + 1 = lt-of-mul-lt-mul-right (c * D) (omega (arith, mul-le-mul-right c upper, mul-le-mul-right D sum, below)) in
+      omega arith
+
 only-closest : (k a c : ℕ) → 0 < c → Closer k a c → closest a c ≡ k
 only-closest k a c C h =
     let n = closest a c in
@@ -77,19 +89,25 @@ module _ (f : Format) (s : Bool) (a c : ℕ) (C : 0 < c) (above : 2 ^ (prec f - 
 -- ---- the sum
 
 -- x is a/c with the sign s, and m the whole number y: none of what lies between m − a/c and m + a/c has less digits or more
-module _ (f : Format) {y : Float} {m : ℕ} (q : Whole y false m) {a c : ℕ} (C : 0 < c) (above : 2 ^ (prec f - 1) * c + a ≤ m * c) (below : m * c + a < 2 ^ prec f * c) {k : ℕ} (h : Closer k a c) where
-  pub sum-nearest : (s : Bool) {x : Float} → Is x s a c → Whole (add f x y) false (cond s (m - k) (m + k))
-  sum-nearest false p =
+module _ (f : Format) {y : Float} {m : ℕ} (q : Whole y false m) {a c : ℕ} (C : 0 < c) (above : 2 ^ (prec f - 1) * c + a ≤ m * c) (below : m * c + a < 2 ^ prec f * c) where
+  pub sum-closest : (s : Bool) {x : Float} → Is x s a c → Whole (add f x y) false (closest (cond s (m * c - a) (m * c + a)) c)
+  sum-closest false p =
       let n : a * 1 + m * c ≡ m * c + a = omega arith in
-      let e = only-closest (m + k) (m * c + a) c C (record { over = omega (arith, h .over); under = omega (arith, h .under) }) in
-      rw (sum-rounded f p C q (lit< tt) refl ∙ ap₂ (round f false) n (mul-one c))
-      (subst (λ n. Whole (round f false (m * c + a) c) false n) e (round-closest f false (m * c + a) c C (omega arith) below))
-  sum-nearest true p =
+      rw (sum-rounded f p C q (lit< tt) refl ∙ ap₂ (round f false) n (mul-one c)) (round-closest f false (m * c + a) c C (omega arith) below)
+  sum-closest true p =
       let pow : 0 < 2 ^ (prec f - 1) * c = mul-pos (pow-pos (prec f - 1)) C in
-      let less : k < m + 1 = lt-of-mul-lt-mul-right c (omega (arith, h .over)) in
-      let e = only-closest (m - k) (m * c - a) c C (record { over = omega (arith, h .under, distributed); under = omega (arith, h .over, distributed) }) in
       rw (difference-rounded f p C q (lit< tt) refl (m * c - a) (omega arith) (omega arith) ∙ ap (round f false (m * c - a)) (mul-one c))
-      (subst (λ n. Whole (round f false (m * c - a) c) false n) e (round-closest f false (m * c - a) c C (omega arith) (omega arith)))
-    where
-      distributed : (m - k) * c ≡ m * c - k * c
-      distributed = mul-comm (m - k) c ∙ mul-sub c m k ∙ ap₂ _-_ (mul-comm c m) (mul-comm c k)
+      (round-closest f false (m * c - a) c C (omega arith) (omega arith))
+
+  module _ {k : ℕ} (h : Closer k a c) where
+    is-closest : (s : Bool) → closest (cond s (m * c - a) (m * c + a)) c ≡ cond s (m - k) (m + k)
+    is-closest false = only-closest (m + k) (m * c + a) c C (record { over = omega (arith, h .over); under = omega (arith, h .under) })
+    is-closest true =
+        let less : k < m + 1 = lt-of-mul-lt-mul-right c (omega (arith, h .over)) in
+        only-closest (m - k) (m * c - a) c C (record { over = omega (arith, h .under, distributed); under = omega (arith, h .over, distributed) })
+      where
+        distributed : (m - k) * c ≡ m * c - k * c
+        distributed = mul-comm (m - k) c ∙ mul-sub c m k ∙ ap₂ _-_ (mul-comm c m) (mul-comm c k)
+
+    pub sum-nearest : (s : Bool) {x : Float} → Is x s a c → Whole (add f x y) false (cond s (m - k) (m + k))
+    sum-nearest s {x} p = subst (λ n. Whole (add f x y) false n) (is-closest s) (sum-closest s p)

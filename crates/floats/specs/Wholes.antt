@@ -1,9 +1,10 @@
 -- Floats that are whole numbers: a sum and a product are exact as far as the format counts without a gap, and from 2^(prec − 1) on the bits count them.
-use Rattle.algebra.specs.Prelude.{_≡_, sym, ap₂, subst, not, T, ap, _∙_, Bool, true, false, ℕ, suc, _+_, _-_, _*_, _/_, _^_, _≤_, _<_, arith, lit<, ℤ, pos, negsuc, natAbs}
-use native.Mathlib.Nat.{mul-pos, le-of-mul-le-mul-right, mul-div-cancel, lt-of-not-le, lt-of-lt-of-le, not-le-of-lt, mul-lt-mul-of-pos-right, mul-le-mul-right}
-use lib.Dec.{nltb→le}
+use Rattle.algebra.specs.Prelude.{_≡_, sym, ap₂, T, _&&_, eqb, ap, _∙_, Bool, true, false, ℕ, suc, _+_, _-_, _*_, _/_, _^_, _≤_, _<_, arith, lit<, ℤ, pos, negsuc, natAbs}
+use mathlib.Core.Bool.{false≢true}
+use native.Mathlib.Nat.{mul-pos, eq-of-mul-eq-mul-right, mul-div-cancel, lt-of-not-le, lt-of-lt-of-le, not-le-of-lt, mul-lt-mul-of-pos-right, mul-le-mul-right}
+use lib.Dec.{eqb→eq}
 use lib.Pow.{pow-add, pow-pos, pow-mono}
-use lib.Ieee.{Float, Format, prec, low, up, down, size, hid, unlike, round, add, mul, lt, ofInt, toBits}
+use lib.Ieee.{Float, Format, prec, low, up, down, size, hid, unlike, round, add, mul, eq, ofInt, toBits}
 use lib.Ieee.Digits.{size-lt, size-le}
 use lib.Ieee.Fits.{down-pos, two}
 use lib.Ieee.Back.{round-whole}
@@ -43,17 +44,21 @@ nothing-times f {s = s} {t} {b} {d} p q h =
     rw (product-rounded f p (lit< tt) q h ∙ round-same f (unlike s t) (0 * b) (1 * d) 0 1 (mul-pos {m = 1} (lit< tt) h) (lit< tt) (omega arith))
     (rounded-whole f (unlike s t) 0 (omega arith))
 
--- ---- the order
+-- ---- equality
 
-pub not-below : {x : Float} {a : ℕ} → Whole x false a → {y : Float} {b : ℕ} → Whole y false b → lt x y ≡ false → b ≤ a
-unfolding lt
-not-below {x} {a} p {y} {b} q h =
+pub same-whole : {x : Float} {a : ℕ} → Whole x false a → {y : Float} {b : ℕ} → Whole y false b → eq x y ≡ true → a ≡ b
+unfolding eq
+same-whole {x} {a} p {y} {b} q h =
     let d = down (p .exponent) in
     let e = down (q .exponent) in
     let m = p .digits * up (p .exponent) * e in
     let n = q .digits * up (q .exponent) * d in
-    let l : n ≤ m = nltb→le m n (subst (λ b. T (not b)) (sym (sym (ap₂ lt (p .is) (q .is)) ∙ h)) tt) in
-    le-of-mul-le-mul-right (omega (arith, l, ap (λ z. z * e) (p .value), ap (λ z. z * d) (q .value))) (mul-pos (down-pos (p .exponent)) (down-pos (q .exponent)))
+    let l : m ≡ n = eqb→eq m n (first (eqb m n) _ (sym (ap₂ eq (p .is) (q .is)) ∙ h)) in
+    eq-of-mul-eq-mul-right (d * e) (mul-pos (down-pos (p .exponent)) (down-pos (q .exponent))) a b (omega (arith, l, ap (λ z. z * e) (p .value), ap (λ z. z * d) (q .value)))
+  where
+    first : (a b : Bool) → a && b ≡ true → T a
+    first true b e = tt
+    first false b e = absurd (false≢true e)
 
 -- ---- how many digits, and the bits
 

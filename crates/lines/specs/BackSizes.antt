@@ -3,7 +3,7 @@ use Rattle.algebra.specs.Prelude.{_≡_, ap, _∙_, ℕ, _+_, _*_, _/_, _%_, _�
 use native.Mathlib.Nat.{le-refl, le-trans, mod-lt, mul-le-mul-left}
 use lib.Dec.{leb→le}
 use Rattle.algebra.specs.Order.{abs-mul-le}
-use Rattle.algebra.specs.Test.{all, all-sound}
+use Rattle.algebra.specs.Test.{all-sound}
 use Rattle.algebra.specs.Sums.{sumZ, sumN}
 use Rattle.algebra.specs.SumLaws.{sumN-cong, sumN-mono, sumN-scale, abs-sum}
 use Rattle.recipe.specs.Side.{cosAt}

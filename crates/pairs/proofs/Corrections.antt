@@ -18,7 +18,7 @@ use Rattle.spectrum.specs.Pairs.{InDouble, Binned, BinnedPair, planeIn, sideByS
 use Rattle.spectrum.specs.Apart.{cond-cases}
 use Rattle.spectrum.specs.PlaceLaws.{back-ext}
 use Rattle.spectrum.specs.CorrectionLaws.{corrected}
-use Rattle.spectrum.specs.QuietLaws.{differences-binned}
+use Rattle.spectrum.specs.BinLaws.{differences-binned}
 use Rattle.spectrum.specs.FoldSizes.{spread-most}
 
 -- ---- both planes in double

@@ -7,10 +7,8 @@ mod rows_back;
 
 use exact_wiener::filter_exactly;
 use quiet::low_noise;
-use quiet::quotients_in_double;
 use wiener::filter;
 ghost use mathlib.Core.Path.{_≡_};
-ghost use mathlib.Core.Bool.{true};
 ghost use Prim.Native.Nat.{_/_, _%_, _^_, _≤_};
 ghost use lib.IntN.{pos, _+ℤ_};
 ghost use Rattle.algebra.specs.Nearest.{away};
@@ -21,7 +19,7 @@ ghost use Rattle.lines.specs.Magnitudes.{differenceMost, foldMost};
 ghost use Rattle.lines.specs.Lines.{TileMost};
 ghost use Rattle.spectrum.specs.Magnitudes.{noiseMost};
 ghost use Rattle.spectrum.specs.Spectrum.{twoWay, transposed, spread, gainRe, gainIm, backSum};
-ghost use Rattle.spectrum.specs.Pairs.{Paired, InDouble, BinnedPair, QuietPair, planeIn, sideBySide, either, doubles};
+ghost use Rattle.spectrum.specs.Pairs.{Paired, InDouble, BinnedPair, planeIn, sideBySide, either, doubles};
 
 // B of both planes, in exact whole numbers.
 pub fn forward(d: [[i16; 32]; 16]) -> [[f64; 32]; 16]
@@ -35,17 +33,18 @@ pub fn forward(d: [[i16; 32]; 16]) -> [[f64; 32]; 16]
     b
 }
 
-// Q and G of both planes at their noise numbers, with quotients in double where both planes are quiet, and else in whole numbers.
-pub fn wiener(mut b: [[f64; 32]; 16], first: u64, second: u64, quiet: bool) -> [[f64; 32]; 16]
+// Q and G of both planes at their noise numbers, with quotients in double where none is in doubt, and else in whole numbers.
+pub fn wiener(b: [[f64; 32]; 16], first: u64, second: u64) -> [[f64; 32]; 16]
     requires { ⌜ record { binned : BinnedPair b; first-most : first ≤ noiseMost; second-most : second ≤ noiseMost } ⌝ }
-    ensures { λ r. ⌜ ((w : BinnedPair b) → (quiet ≡ true → QuietPair first second (w .plane)) → r ≡ doubles (sideBySide (λ p. transposed (spread (gainRe (either first second p) (w .plane p)) (gainIm (either first second p) (w .plane p)))))) ⌝ }
+    ensures { λ r. ⌜ ((w : BinnedPair b) → r ≡ doubles (sideBySide (λ p. transposed (spread (gainRe (either first second p) (w .plane p)) (gainIm (either first second p) (w .plane p)))))) ⌝ }
 {
-    if quiet {
-        filter(&mut b, first, second);
-        return b;
+    let mut g = b;
+    if filter(&mut g, first, second) {
+        return g;
     }
-    filter_exactly(&mut b, first, second);
-    b
+    g = b;
+    filter_exactly(&mut g, first, second);
+    g
 }
 
 // P of both planes is added to their sums; `low` where both noise numbers are.
@@ -62,9 +61,8 @@ pub fn add_corrections(d: &[[i16; 32]; 16], first: u64, second: u64, sum: &mut [
     requires { ⌜ record { differences : TileMost differenceMost (now d); first-most : first ≤ noiseMost; second-most : second ≤ noiseMost; sums-most : TileMost (2 ^ 40) (now sum); paired : Paired (pos 0) (now sum) } ⌝ }
     ensures { λ _. ⌜ now (sum .exit) ≡ grid 16 32 (λ y l. cell (pos 0) (now (sum .entry)) y l +ℤ correctionAt side16 (either first second (l % 2)) (planeIn (cell (pos 0) (now (d .entry))) (l % 2)) y (l / 2)) ⌝ }
 {
-    let quiet = quotients_in_double(d, first, second);
     let low = low_noise(first, second);
     let b = forward(*d);
-    let g = wiener(b, first, second, quiet);
+    let g = wiener(b, first, second);
     add_inverse(g, low, &mut *sum);
 }

@@ -80,44 +80,43 @@ module _ (t : ℕ → ℕ → ℤ) (binned : Binned t) where
       floats-wholes binary64 (quadOf t (suc k) (suc u)) (four-each (λ z. natAbs z ≤ binMost) _ _ _ _ zero-le (a .0) (b .1) (b .0) (a .1))
       (minus (var 0) (var 3) ∷ plus (var 1) (var 2) ∷ plus (var 0) (var 3) ∷ minus (var 2) (var 1) ∷ []) tt
 
+  pub bin-is : (k u : ℕ) → k < 8 → u < 8 → (i : ℕ) → i < 4 → numberOf (binsIn k u (map double (quadOf t k u))) i ≡ double (Bin k u i)
+  bin-is k u h l i j = ap (λ q. numberOf q i) (bins-are k u h l) ∙ number-of (twoBins t k u) i (omega (arith, bins-four t k u))
+
   pub whole-bins : (k u : ℕ) → k < 8 → u < 8 → WholeBins k u (map double (quadOf t k u))
-  whole-bins k u h l =
-      record {
-        at = λ i j. record {
-          number = Bin k u i;
-          most = bins-small k u h l i;
-          is = ap (λ q. numberOf q i) (bins-are k u h l) ∙ number-of (twoBins t k u) i (omega (arith, bins-four t k u));
-        };
-      }
+  whole-bins k u h l = record { at = λ i j. record { number = Bin k u i; most = bins-small k u h l i; is = bin-is k u h l i j } }
 
-  -- ---- G, by any functions that give its doubles at the bins, where P holds
+  -- ---- G, by any functions that give its doubles at the bins
 
-  module _ (v : ℕ) (P : ℤ → Type 0) (each : (k u : ℕ) → k < 8 → u < 8 → (i : ℕ) → P (Bin k u i)) (real : Float → Float) (real-at : (a : ℤ) → P a → real (double a) ≡ double (filtered side16 v a (pos 0))) (gains : (a b : Float) → List Float) (gains-at : (a b : ℤ) → P a → P b → gains (double a) (double b) ≡ double (filtered side16 v a b) ∷ double (filtered side16 v b a) ∷ []) where
+  module _ (v : ℕ) (real : Float → Float) (gains : (a b : Float) → List Float) where
     abbrev Quad : (k u : ℕ) → List ℤ
     Quad = quadOf (spread (gainRe v t) (gainIm v t))
 
-    others : (k u : ℕ) → k < 8 → u < 8 → 0 < k + u → foldIn gains k u (binsIn k u (map double (quadOf t k u))) ≡ map double (Quad k u)
+    -- at a real bin, and at the two parts of a bin
+    abbrev RealAt : (k u i : ℕ) → Type 0
+    RealAt k u i = real (double (Bin k u i)) ≡ double (filtered side16 v (Bin k u i) (pos 0))
+
+    abbrev GainsAt : (k u i j : ℕ) → Type 0
+    GainsAt k u i j = gains (double (Bin k u i)) (double (Bin k u j)) ≡ double (filtered side16 v (Bin k u i) (Bin k u j)) ∷ double (filtered side16 v (Bin k u j) (Bin k u i)) ∷ []
+
+    others : (k u : ℕ) → k < 8 → u < 8 → 0 < k + u → GainsAt k u 0 1 → GainsAt k u 2 3 → foldIn gains k u (binsIn k u (map double (quadOf t k u))) ≡ map double (Quad k u)
     unfolding foldIn
-    others k u h l o =
+    others k u h l o g g' =
         let b = twoBins t k u in
         let bin = Bin k u in
-        let fit = each k u h l in
         let long = bins-four t k u in
         let f = filtered side16 v in
         let small : (i j : ℕ) → natAbs (f (bin i) (bin j)) ≤ gainMost = λ i j. gain-most v (bin i) (bin j) (bins-small k u h l i) in
         ap (foldIn gains k u) (bins-are k u h l)
-        ∙ rw (number-of b 0 (omega arith), number-of b 1 (omega arith), number-of b 2 (omega arith), number-of b 3 (omega arith), gains-at (bin 0) (bin 1) (fit 0) (fit 1), gains-at (bin 2) (bin 3) (fit 2) (fit 3))
+        ∙ rw (number-of b 0 (omega arith), number-of b 1 (omega arith), number-of b 2 (omega arith), number-of b 3 (omega arith), g, g')
         (folded-is k u (f (bin 0) (bin 1)) (f (bin 1) (bin 0)) (f (bin 2) (bin 3)) (f (bin 3) (bin 2)) (small 0 1) (small 1 0) (small 2 3) (small 3 2))
         ∙ ap (map double) (sym (quad-is v t k u h l o))
 
-    corner : cornerIn real (map double (quadOf t 0 0)) ≡ map double (Quad 0 0)
+    corner : ((i : ℕ) → i < 4 → RealAt 0 0 i) → cornerIn real (map double (quadOf t 0 0)) ≡ map double (Quad 0 0)
     unfolding cornerIn quadOf twoBins byKind tab
-    corner = four (at 0) (at 1) (at 2) (at 3) ∙ ap (map double) (sym (corner-is v t))
-      where
-        at : (i : ℕ) → real (double (getD (twoBins t 0 0) i (pos 0))) ≡ double (filtered side16 v (getD (twoBins t 0 0) i (pos 0)) (pos 0))
-        at i = real-at (getD (twoBins t 0 0) i (pos 0)) (each 0 0 (lit< tt) (lit< tt) i)
+    corner at = four (at 0 (lit< tt)) (at 1 (lit< tt)) (at 2 (lit< tt)) (at 3 (lit< tt)) ∙ ap (map double) (sym (corner-is v t))
 
-    pub quad-gains : (k u : ℕ) → k < 8 → u < 8 → quadIn real gains k u (map double (quadOf t k u)) ≡ map double (Quad k u)
-    quad-gains zero zero h l = quad-corner _ _ 0 0 _ refl ∙ corner
-    quad-gains zero (suc u) h l = quad-others _ _ 0 (suc u) _ (omega arith) ∙ others 0 (suc u) h l (omega arith)
-    quad-gains (suc k) u h l = quad-others _ _ (suc k) u _ (omega arith) ∙ others (suc k) u h l (omega arith)
+    pub quad-gains : (k u : ℕ) → k < 8 → u < 8 → (k + u ≡ 0 → (i : ℕ) → i < 4 → RealAt k u i) → (0 < k + u → GainsAt k u 0 1 × GainsAt k u 2 3) → quadIn real gains k u (map double (quadOf t k u)) ≡ map double (Quad k u)
+    quad-gains zero zero h l at g = quad-corner _ _ 0 0 _ refl ∙ corner (at refl)
+    quad-gains zero (suc u) h l at g = let e = g (omega arith) in quad-others _ _ 0 (suc u) _ (omega arith) ∙ others 0 (suc u) h l (omega arith) (e .0) (e .1)
+    quad-gains (suc k) u h l at g = let e = g (omega arith) in quad-others _ _ (suc k) u _ (omega arith) ∙ others (suc k) u h l (omega arith) (e .0) (e .1)

@@ -8,7 +8,7 @@ pub mod RoundingLaws
 pub mod WienerLaws
 pub mod SizeLaws
 pub mod DifferenceLaws
-pub mod QuietLaws
+pub mod BinLaws
 pub mod Apart
 pub mod QuadLaws
 pub mod LineLaws

@@ -30,11 +30,3 @@ correctionMost = 2 ^ 30
 -- V up to which the inverse's last sums stay below 5·2^49
 abbrev pub lowNoise : ℕ
 lowNoise = 2 ^ 33
-
--- V·|q|, for a part q of Q, up to which the quotients are right
-abbrev pub productMost : ℕ
-productMost = 2 ^ 49
-
--- V up to which that holds of any differences: a part of Q is at most 2^24
-abbrev pub alwaysNoise : ℕ
-alwaysNoise = 2 ^ 25

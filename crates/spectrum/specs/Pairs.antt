@@ -3,9 +3,7 @@
 use Rattle.algebra.specs.Prelude.{_≡_, cond, List, ℕ, _+_, _*_, _/_, _%_, _≤_, _<_, eqb, ℤ, natAbs}
 use lib.Ieee.{Float, binary64, ofInt}
 use Rattle.sequences.specs.Grid.{grid, cell}
-use Rattle.recipe.specs.Tables.{side16}
-use Rattle.recipe.specs.Correction.{quantized}
-use Rattle.spectrum.specs.Magnitudes.{noiseMost, binMost, productMost}
+use Rattle.spectrum.specs.Magnitudes.{binMost}
 use Rattle.spectrum.specs.Spectrum.{tileRe, tileIm, transposed}
 
 -- plane p of a pair
@@ -45,16 +43,3 @@ pub record BinnedPair (b : List (List Float)) : Type 0 where
   pub first : Binned (plane 0)
   pub second : Binned (plane 1)
   pub is : b ≡ doubles (sideBySide (λ p. transposed (plane p)))
-
--- at the noise number V the quotients of the bins of the plane t can be taken in double
-pub record Quiet (noise : ℕ) (t : ℕ → ℕ → ℤ) : Type 0 where
-  pub above : 0 < noise
-  pub most : noise ≤ noiseMost
-  pub binned : Binned t
-  pub re : (u v : ℕ) → u < 16 → v < 9 → noise * natAbs (quantized side16 (tileRe t u v)) ≤ productMost
-  pub im : (u v : ℕ) → u < 16 → v < 9 → noise * natAbs (quantized side16 (tileIm t u v)) ≤ productMost
-
--- and those of both planes
-pub record QuietPair (first second : ℕ) (t : (p : ℕ) → ℕ → ℕ → ℤ) : Type 0 where
-  pub first-quiet : Quiet first (t 0)
-  pub second-quiet : Quiet second (t 1)

@@ -1,56 +1,74 @@
--- Quads of G with quotients in double are those of the folded G, where V and W of each lane are those of its plane.
-use Rattle.algebra.specs.Prelude.{_≡_, ap, subst, _∙_, List, ℕ, _+_, _*_, _/_, _%_, _≤_, _<_, arith, getD, set, ℤ, pos, natAbs}
+-- Quads of G with quotients in double are those of the folded G where these are certain, and V and W of each lane are those of its plane.
+use Rattle.algebra.specs.Prelude.{_≡_, ap, subst, _∙_, List, ℕ, _+_, _*_, _/_, _%_, _≤_, _<_, arith, lit<, getD, set, ℤ, pos}
 use mathlib.Core.List.{map}
 use Prim.Native.Nat.{zero-le}
 use borrow.Author.Tests.{eq-eqb, ne-eqb}
 use lib.Ieee.{Float, nan, binary64, ofInt}
 use Rattle.sequences.specs.Tab.{tab}
 use Rattle.sequences.specs.TabLaws.{getD-tab, Filled, fill-turn}
-use Rattle.recipe.specs.Tables.{side16}
-use Rattle.recipe.specs.Correction.{quantized}
-use Rattle.spectrum.specs.Magnitudes.{binMost, productMost}
-use Rattle.spectrum.specs.Spectrum.{spread, quadOf, twoBins, gainRe, gainIm}
-use Rattle.spectrum.specs.Pairs.{either, Quiet}
-use Rattle.spectrum.specs.QuadLaws.{bins-each}
-use Rattle.bins.specs.DoubleLaws.{weight, quantized-nothing, gains-are, real-gain-is}
-use Rattle.quads.specs.QuadGains.{double, quad-gains}
-use Rattle.quads.specs.FilterLaws.{either-of, by-plane, Gains}
-use Rattle.wiener.specs.DoubleQuads.{doubleQuad, newQuad}
+use Rattle.sequences.specs.Grid.{cell}
+use Rattle.spectrum.specs.Magnitudes.{noiseMost}
+use Rattle.spectrum.specs.Spectrum.{transposed, spread, quadOf, twoBins, gainRe, gainIm}
+use Rattle.spectrum.specs.Pairs.{sideBySide, either, doubles, Binned}
+use Rattle.bins.specs.Doubles.{Sure}
+use Rattle.bins.specs.DoubleLaws.{weight, gains-are, real-gain-is}
+use Rattle.quads.specs.Lanes.{numberOf, binsIn, quadAt}
+use Rattle.quads.specs.QuadGains.{double, bins-small, bin-is, quad-gains}
+use Rattle.quads.specs.FilterLaws.{either-of, by-plane, Gains, quad-of}
+use Rattle.wiener.specs.DoubleQuads.{doubleQuad, newQuad, SureQuad, SureQuads}
+
+-- what is known of a plane and its noise number
+pub record Known (v : ℕ) (t : ℕ → ℕ → ℤ) : Type 0 where
+  pub above : 0 < v
+  pub most : v ≤ noiseMost
+  pub binned : Binned t
 
 -- a quad of a tile
-module _ (v : ℕ) (t : ℕ → ℕ → ℤ) (quiet : Quiet v t) where
-  -- what these ask of a part of B
-  abbrev Divides : ℤ → Type 0
-  Divides z = (natAbs z ≤ binMost) × (v * natAbs (quantized side16 z) ≤ productMost)
+module _ (v : ℕ) (t : ℕ → ℕ → ℤ) (known : Known v t) (k u : ℕ) (h : k < 8) (l : u < 8) where
+  abbrev bin : ℕ → ℤ
+  bin i = getD (twoBins t k u) i (pos 0)
 
-  nothing : Divides (pos 0)
-  nothing = (zero-le, rw quantized-nothing (omega arith))
+  abbrev quad : List Float
+  quad = map double (quadOf t k u)
 
-  bins-divide : (k u : ℕ) → k < 8 → u < 8 → (i : ℕ) → Divides (getD (twoBins t k u) i (pos 0))
-  bins-divide =
-      bins-each t Divides nothing (λ u v h l. (quiet .binned .re-most u v h l, quiet .re u v h l)) (λ u v h l. (quiet .binned .im-most u v h l, quiet .im u v h l))
+  -- its bins' quotients, in terms of the bins
+  abbrev Certain : (a b : Float) → Type 0
+  Certain = Sure (double (pos v)) (weight v)
 
-  pub double-gains : (k u : ℕ) → k < 8 → u < 8 → doubleQuad (double (pos v)) (weight v) k u (map double (quadOf t k u)) ≡ map double (quadOf (spread (gainRe v t) (gainIm v t)) k u)
+  sure-first : (i : ℕ) → i < 4 → {b : Float} → Certain (numberOf (binsIn k u quad) i) b → Certain (double (bin i)) b
+  sure-first i o {b} s = subst (λ a. Certain a b) (bin-is t (known .binned) k u h l i o) s
+
+  sure-both : (i j : ℕ) → i < 4 → j < 4 → Certain (numberOf (binsIn k u quad) i) (numberOf (binsIn k u quad) j) → Certain (double (bin i)) (double (bin j))
+  sure-both i j o p s = sure-first i o (subst (λ b. Certain (numberOf (binsIn k u quad) i) b) (bin-is t (known .binned) k u h l j p) s)
+
+  pub double-gains : SureQuad (double (pos v)) (weight v) k u quad → doubleQuad (double (pos v)) (weight v) k u quad ≡ map double (quadOf (spread (gainRe v t) (gainIm v t)) k u)
   unfolding doubleQuad
-  double-gains =
-      quad-gains t (quiet .binned) v Divides bins-divide _ (λ a p. real-gain-is v a (quiet .above) (quiet .most) (p .0) (p .1))
-      _ (λ a b p q. gains-are v a b (quiet .above) (quiet .most) (p .0) (q .0) (p .1) (q .1))
+  double-gains s =
+      let most = bins-small t (known .binned) k u h l in
+      quad-gains t (known .binned) v _ _ k u h l (λ e i o. real-gain-is v (known .above) (known .most) (bin i) (most i) (sure-first i o (s .corner e i o)))
+      (λ o. (gains-are v (known .above) (known .most) (bin 0) (bin 1) (most 0) (most 1) (sure-both 0 1 (lit< tt) (lit< tt) (s .others o .0)), gains-are v (known .above) (known .most) (bin 2) (bin 3) (most 2) (most 3) (sure-both 2 3 (lit< tt) (lit< tt) (s .others o .1))))
 
 -- all quads of a pair
 module _ (first second : ℕ) (t : ℕ → ℕ → ℕ → ℤ) where
   abbrev noise : ℕ → ℕ
   noise = either first second
 
-  pub double-quads : Quiet first (t 0) → Quiet second (t 1) → {v w : List Float} → v ≡ tab 16 (λ l. either (ofInt binary64 (pos first)) (ofInt binary64 (pos second)) (l % 2)) → w ≡ tab 16 (λ l. either (weight first) (weight second) (l % 2)) → Gains first second t (newQuad v w)
+  pub double-quads : Known first (t 0) → Known second (t 1) → {v w : List Float} → v ≡ tab 16 (λ l. either (ofInt binary64 (pos first)) (ofInt binary64 (pos second)) (l % 2)) → w ≡ tab 16 (λ l. either (weight first) (weight second) (l % 2)) → {b : List (List Float)} → b ≡ doubles (sideBySide (λ p. transposed (t p))) → SureQuads v w 0 128 b → Gains first second t (newQuad v w)
   unfolding newQuad
-  double-quads q q' {v} {w} V' W' =
-      record { quad = λ u l h k. rw (noise-at l k, weight-at l k) (double-gains (noise (l % 2)) (t (l % 2)) (by-plane (λ p. Quiet (noise p) (t p)) q q' l) (l / 2) u (omega arith) h) }
+  double-quads q q' {v} {w} V' W' {b} e s =
+      record { quad = λ u l h k. rw (noise-at l k, weight-at l k) (double-gains (noise (l % 2)) (t (l % 2)) (by-plane (λ p. Known (noise p) (t p)) q q' l) (l / 2) u (omega arith) h (sure-at u l h k)) }
     where
       noise-at : (l : ℕ) → l < 16 → getD v l nan ≡ ofInt binary64 (pos (noise (l % 2)))
       noise-at l k = ap (λ v. getD v l nan) V' ∙ getD-tab _ nan 16 l k ∙ either-of (λ n. ofInt binary64 (pos n)) first second (l % 2)
 
       weight-at : (l : ℕ) → l < 16 → getD w l nan ≡ weight (noise (l % 2))
       weight-at l k = ap (λ w. getD w l nan) W' ∙ getD-tab _ nan 16 l k ∙ either-of weight first second (l % 2)
+
+      sure-at : (u l : ℕ) → u < 8 → l < 16 → SureQuad (double (pos (noise (l % 2)))) (weight (noise (l % 2))) (l / 2) u (map double (quadOf (t (l % 2)) (l / 2) u))
+      sure-at u l h k =
+          subst (SureQuad (double (pos (noise (l % 2)))) (weight (noise (l % 2))) (l / 2) u) (quad-of first second t e u l h k)
+          (subst (λ x. SureQuad x (weight (noise (l % 2))) (l / 2) u (quadAt (cell nan b) u l)) (noise-at l k)
+          (subst (λ y. SureQuad (getD v l nan) y (l / 2) u (quadAt (cell nan b) u l)) (weight-at l k) (s .quad u l h k zero-le (omega arith))))
 
 -- ---- a number for each plane in its lanes
 

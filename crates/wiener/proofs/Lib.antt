@@ -1,2 +1,3 @@
 pub mod NewQuads
+pub mod SureLaws
 pub mod DoubleGains

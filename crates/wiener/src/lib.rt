@@ -1,28 +1,32 @@
 // The Wiener step on two tiles side by side, in double, by quads: rows u and 8 + u of lanes l and 16 + l hold bins (u, v) and (16 − u, v) of a plane, with
-// v = l / 2, and what comes of them is folded for the inverse. A turn of a loop is a quad, and the compiler does two at a time.
+// v = l / 2, and what comes of them is folded for the inverse. A turn of a loop is a quad, and the compiler does two at a time. Each loop answers whether all of
+// its quotients are certain.
+use bins::double::both;
 use bins::double::gains;
 use bins::double::real_gain;
+use bins::double::sure;
 use quads::quad_at;
 use quads::set_quad;
 ghost use mathlib.Core.Path.{_≡_};
+ghost use mathlib.Core.Bool.{true};
 ghost use Prim.Native.Nat.{ℕ, _+_, _*_, _%_, _≤_, _<_};
 ghost use lib.IntN.{ℤ};
 ghost use lib.Ieee.{nan};
 ghost use Rattle.sequences.specs.Tab.{tab};
 ghost use Rattle.spectrum.specs.Magnitudes.{noiseMost};
 ghost use Rattle.spectrum.specs.Spectrum.{transposed, spread, gainRe, gainIm};
-ghost use Rattle.spectrum.specs.Pairs.{sideBySide, either, Paired, doubles, Quiet};
-ghost use Rattle.quads.specs.Lanes.{Lanes};
-ghost use Rattle.wiener.specs.DoubleQuads.{newQuad};
+ghost use Rattle.spectrum.specs.Pairs.{sideBySide, either, Paired, doubles, Binned};
+ghost use Rattle.wiener.specs.DoubleQuads.{Shrunk};
 
 // 1 + 2^-51
 const SLIGHTLY_MORE: f64 = 1.0000000000000004440892098500626;
 
 // The quads at u = 0 and v = 0: four real bins.
-fn corner(b: &mut [[f64; 32]; 16], v: &[f64; 16], w: &[f64; 16])
+fn corner(b: &mut [[f64; 32]; 16], v: &[f64; 16], w: &[f64; 16]) -> bool
     requires { ⌜ Paired nan (now b) ⌝ }
-    ensures { λ _. ⌜ Lanes (newQuad (now (v .entry)) (now (w .entry))) 0 2 (now (b .entry)) (now (b .exit)) ⌝ }
+    ensures { λ r. ⌜ Shrunk r (now (v .entry)) (now (w .entry)) 0 2 (now (b .entry)) (now (b .exit)) ⌝ }
 {
+    let mut s = true;
     for l in 0..2 {
         let q = quad_at(&*b, 0, l);
         let a = v[l];
@@ -33,36 +37,44 @@ fn corner(b: &mut [[f64; 32]; 16], v: &[f64; 16], w: &[f64; 16])
             real_gain(a, c, q[2]),
             real_gain(a, c, q[3]),
         ];
+        s = sure(sure(s, a, c, q[0], 0.0), a, c, q[1], 0.0);
+        s = sure(sure(s, a, c, q[2], 0.0), a, c, q[3], 0.0);
         set_quad(&mut *b, 0, l, g);
     }
+    s
 }
 
 // The other quads at u = 0: bins (0, v) and (8, v).
-fn left(b: &mut [[f64; 32]; 16], v: &[f64; 16], w: &[f64; 16])
+fn left(b: &mut [[f64; 32]; 16], v: &[f64; 16], w: &[f64; 16]) -> bool
     requires { ⌜ Paired nan (now b) ⌝ }
-    ensures { λ _. ⌜ Lanes (newQuad (now (v .entry)) (now (w .entry))) 2 16 (now (b .entry)) (now (b .exit)) ⌝ }
+    ensures { λ r. ⌜ Shrunk r (now (v .entry)) (now (w .entry)) 2 16 (now (b .entry)) (now (b .exit)) ⌝ }
 {
+    let mut s = true;
     for l in 2..16 {
         let q = quad_at(&*b, 0, l);
         let a = v[l];
         let c = w[l];
         let g = gains(a, c, q[0], q[2]);
         let h = gains(a, c, q[1], q[3]);
+        s = sure(sure(s, a, c, q[0], q[2]), a, c, q[1], q[3]);
         set_quad(&mut *b, 0, l, [g[0], h[0], g[1], h[1]]);
     }
+    s
 }
 
 // The quads at u and v = 0: bins (u, 0) and (u, 8), and their conjugates.
-fn top(b: &mut [[f64; 32]; 16], v: &[f64; 16], w: &[f64; 16], u: usize)
+fn top(b: &mut [[f64; 32]; 16], v: &[f64; 16], w: &[f64; 16], u: usize) -> bool
     requires { ⌜ record { u-some : 0 < u; u-below : u < 8; paired : Paired nan (now b) } ⌝ }
-    ensures { λ _. ⌜ Lanes (newQuad (now (v .entry)) (now (w .entry))) (16 * u) (16 * u + 2) (now (b .entry)) (now (b .exit)) ⌝ }
+    ensures { λ r. ⌜ Shrunk r (now (v .entry)) (now (w .entry)) (16 * u) (16 * u + 2) (now (b .entry)) (now (b .exit)) ⌝ }
 {
+    let mut s = true;
     for l in 0..2 {
         let q = quad_at(&*b, u, l);
         let a = v[l];
         let c = w[l];
         let g = gains(a, c, q[0], q[1]);
         let h = gains(a, c, q[2], q[3]);
+        s = sure(sure(s, a, c, q[0], q[1]), a, c, q[2], q[3]);
         set_quad(
             &mut *b,
             u,
@@ -70,13 +82,15 @@ fn top(b: &mut [[f64; 32]; 16], v: &[f64; 16], w: &[f64; 16], u: usize)
             [g[0] + g[0], g[1] + g[1], h[0] + h[0], h[1] + h[1]],
         );
     }
+    s
 }
 
 // The other quads at u.
-fn inner(b: &mut [[f64; 32]; 16], v: &[f64; 16], w: &[f64; 16], u: usize)
+fn inner(b: &mut [[f64; 32]; 16], v: &[f64; 16], w: &[f64; 16], u: usize) -> bool
     requires { ⌜ record { u-some : 0 < u; u-below : u < 8; paired : Paired nan (now b) } ⌝ }
-    ensures { λ _. ⌜ Lanes (newQuad (now (v .entry)) (now (w .entry))) (16 * u + 2) (16 * u + 16) (now (b .entry)) (now (b .exit)) ⌝ }
+    ensures { λ r. ⌜ Shrunk r (now (v .entry)) (now (w .entry)) (16 * u + 2) (16 * u + 16) (now (b .entry)) (now (b .exit)) ⌝ }
 {
+    let mut s = true;
     for l in 2..16 {
         let q = quad_at(&*b, u, l);
         let a = v[l];
@@ -87,6 +101,7 @@ fn inner(b: &mut [[f64; 32]; 16], v: &[f64; 16], w: &[f64; 16], u: usize)
         let t = q[3];
         let g = gains(a, c, x - t, y + z);
         let h = gains(a, c, x + t, z - y);
+        s = sure(sure(s, a, c, x - t, y + z), a, c, x + t, z - y);
         set_quad(
             &mut *b,
             u,
@@ -94,6 +109,7 @@ fn inner(b: &mut [[f64; 32]; 16], v: &[f64; 16], w: &[f64; 16], u: usize)
             [g[0] + h[0], g[1] - h[1], g[1] + h[1], h[0] - g[0]],
         );
     }
+    s
 }
 
 // a in the lanes of plane 0 and b in those of plane 1.
@@ -108,17 +124,20 @@ fn alternating(a: f64, b: f64) -> [f64; 16]
     r
 }
 
-// G of two planes at their noise numbers, folded, in the place of B.
-pub fn filter(b: &mut [[f64; 32]; 16], first: u64, second: u64)
+// G of two planes at their noise numbers, folded, in the place of B. Where the answer is false, V is 0 in one plane or a quotient is in doubt, and what stands there
+// is not to be used.
+pub fn filter(b: &mut [[f64; 32]; 16], first: u64, second: u64) -> bool
     requires { ⌜ record { paired : Paired nan (now b); first-most : first ≤ noiseMost; second-most : second ≤ noiseMost } ⌝ }
-    ensures { λ _. ⌜ record { paired : Paired nan (now (b .exit)); is : (t : ℕ → ℕ → ℕ → ℤ) → Quiet first (t 0) → Quiet second (t 1) → now (b .entry) ≡ doubles (sideBySide (λ p. transposed (t p))) → now (b .exit) ≡ doubles (sideBySide (λ p. transposed (spread (gainRe (either first second p) (t p)) (gainIm (either first second p) (t p))))) } ⌝ }
+    ensures { λ r. ⌜ (r ≡ true → (t : ℕ → ℕ → ℕ → ℤ) → Binned (t 0) → Binned (t 1) → now (b .entry) ≡ doubles (sideBySide (λ p. transposed (t p))) → now (b .exit) ≡ doubles (sideBySide (λ p. transposed (spread (gainRe (either first second p) (t p)) (gainIm (either first second p) (t p)))))) ⌝ }
 {
     let v = alternating(first as f64, second as f64);
     let w = alternating(first as f64 * SLIGHTLY_MORE, second as f64 * SLIGHTLY_MORE);
-    corner(&mut *b, &v, &w);
-    left(&mut *b, &v, &w);
+    let noisy = both(first > 0, second > 0);
+    let mut s = both(noisy, corner(&mut *b, &v, &w));
+    s = both(s, left(&mut *b, &v, &w));
     for u in 1..8 {
-        top(&mut *b, &v, &w, u);
-        inner(&mut *b, &v, &w, u);
+        s = both(s, top(&mut *b, &v, &w, u));
+        s = both(s, inner(&mut *b, &v, &w, u));
     }
+    s
 }

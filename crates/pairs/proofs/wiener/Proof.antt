@@ -8,18 +8,16 @@ use Rattle.pairs.proofs.wiener.Tie as tie
 filter-requires : tie.Need-filter-requires
 unfolding doubles
 filter-requires c κs =
-    let s = c .before .before in
+    let s = c .before in
     record { paired = paired-grid _ (s .pre .binned .is); first-most = s .pre .first-most; second-most = s .pre .second-most }
 
 returns : tie.Need-returns
-returns c w quiet =
-    let q = quiet (c .before .before .if1 .taken) in
-    c .filter .ensures .is (w .plane) (q .first-quiet) (q .second-quiet) (w .is)
+returns c w = c .before .filter .ensures (c .if1 .taken) (w .plane) (w .first) (w .second) (w .is)
 
 filter-exactly-requires : tie.Need-filter-exactly-requires
 filter-exactly-requires c κs =
-    let s = c .before .before in
+    let s = c .before .before .before .before in
     record { binned = s .pre .binned; first-most = omega arith; second-most = omega arith }
 
 pub wiener-spec : {M : Type 1} → statement M
-wiener-spec = tie.close (tie.spec filter-requires returns filter-exactly-requires (λ c w quiet. c .filter-exactly .ensures w))
+wiener-spec = tie.close (tie.spec filter-requires returns filter-exactly-requires (λ c w. c .filter-exactly .ensures w))

@@ -1,13 +1,13 @@
 -- `bins::double::gains`: the definition's own operations.
 use Rattle.algebra.specs.Prelude.{needs}
-use Rattle.bins.specs.Doubles.{powerIn, gainsIn}
+use Rattle.bins.specs.Doubles.{gainsIn}
 use Rattle.bins.proofs.double.gains.Statement.{statement}
 use Rattle.bins.proofs.double.gains.Tie as tie
 
 returns : tie.Need-returns
-unfolding powerIn gainsIn
+unfolding gainsIn
 returns c = cc
 
 pub gains-spec : {M : Type 1} → statement M
 gains-spec = tie.close (tie.spec
-    (λ c κs. search needs) (λ c κs. search needs) (λ c κs. search needs) (λ c κs. search needs) returns)
+    (λ c κs. search needs) (λ c. search needs) (λ c κs. search needs) (λ c. search needs) (λ c κs. search needs) returns)
