@@ -12,7 +12,7 @@ const MIDDLE: f64 = 6755399441055744.0;
 // 2^-24·(1 + 2^-52): the last bits make a half more than a half, so that it is rounded away from zero
 const BY_2_24: f64 = 0.000000059604644775390638234889800848443;
 
-// 1 − 2^-49: more than all that makes a quotient too large
+// 1 − 2^-49: a quotient times this lies below the exact one
 const SLIGHTLY_LESS: f64 = 0.99999999999999822364316059974954;
 
 // The whole number nearest to x.
@@ -55,7 +55,7 @@ pub fn real_gain(v: f64, w: f64, a: f64) -> f64
     g[0]
 }
 
-// Whether a quotient and what lies below the exact one are rounded to the same.
+// Whether a quotient and what is slightly less, on either side of the exact one, are rounded to one whole number.
 fn no_doubt(x: f64) -> bool
     ensures { λ r. ⌜ r ≡ certain x ⌝ }
 {
