@@ -1,9 +1,10 @@
 /* Eight noisy frames of a card are aligned and merged by one call: merge DIRECTORY. It writes there
      noisy.pgm, merged.pgm   the reference frame and the merged one, as Bayer samples
+     filtered.pgm            the same merge with the spatial filter
      vectors.txt             a line per other frame and tile: frame, row and column of the tile, down, right
      card.burst              a burst file of 64 by 64 samples of the first five frames, each sample up to 99
-   and prints how many vectors tell how the card moved, how far both frames are from the card without noise, and how far merges of other strengths
-   are. It ends with 1 where a call is refused, less than nine tenths of the vectors are right, or the merged frame is not twice as near as the noisy
+   and prints how many vectors tell how the card moved, how far both frames are from the card without noise, and how far merges of other tunings are,
+   with how much of the hairline is left in them. It ends with 1 where a call is refused, less than nine tenths of the vectors are right, or the merged frame is not twice as near as the noisy
    one. */
 #include "card.h"
 #include "stacker.h"
@@ -14,9 +15,10 @@
 
 enum { SIDE = 512, FRAMES = 8, REFERENCE = 0, TILES = SIDE / 16 + 1, FRAME = SIDE * SIDE };
 
-/* The noise of a sample x has the variance SHOT x + READ. The strength counts eighths of tau: the published analysis takes a tau of 75. */
+/* The noise of a sample x has the variance SHOT x + READ. The strength counts eighths of tau, the filter's s 256ths: the published analysis takes a tau
+   of 75 and an s of 0.1. */
 static const double SHOT = 3, READ = 100;
-static const uint64_t STRENGTH = 600;
+static const uint64_t STRENGTH = 600, SPATIAL = 26;
 
 /* the lent buffers, of the lengths that stacker.h gives */
 static uint16_t samples[FRAMES * FRAME], merged[FRAME];
@@ -141,16 +143,36 @@ static void must_accept(uint64_t refusal)
     exit(1);
 }
 
-/* What a strength does, with the vectors found. */
-static void print_strengths(stacker_burst burst, stacker_noise noise)
+/* How deep the hairline is in a frame, in hundredths of its depth on the card. */
+static double hairline_depth(const uint16_t *frame)
 {
-    static const uint64_t strengths[] = { 0, 8, 64, 600, 1024 };
-    printf("strength   distance\n");
-    for (size_t i = 0; i < sizeof strengths / sizeof *strengths; i++) {
-        stacker_tuning tuning = { .strength = strengths[i] };
-        must_accept(stacker_merge(burst, noise, tuning, samples, FRAMES * FRAME, vectors, sizeof vectors / sizeof *vectors, merged, FRAME, work,
-            2 * FRAME));
-        printf("%8" PRIu64 "%11.2f\n", strengths[i], distance(merged));
+    double depth = 0, whole = 0;
+    for (int i = 0; i < FRAME; i++) {
+        int y = i / SIDE, x = i % SIDE;
+        double left = left_by_hairline(y, x), clean = light(REFERENCE, y, x), ground = clean / left;
+        if (left > 0.5)
+            continue;
+        depth += ground - frame[i];
+        whole += ground - clean;
+    }
+    return 100 * depth / whole;
+}
+
+/* The merge by a tuning, with the vectors found. */
+static void merge_tuned(stacker_burst burst, stacker_noise noise, stacker_tuning tuning)
+{
+    must_accept(stacker_merge(burst, noise, tuning, samples, FRAMES * FRAME, vectors, sizeof vectors / sizeof *vectors, merged, FRAME, work,
+        2 * FRAME));
+}
+
+static void print_tunings(stacker_burst burst, stacker_noise noise)
+{
+    static const stacker_tuning tunings[] = { { .strength = 0 }, { .strength = 8 }, { .strength = 64 }, { .strength = 600 }, { .strength = 1024 },
+        { .strength = 600, .spatial = 26 }, { .strength = 600, .spatial = 128 }, { .strength = 600, .spatial = 256 } };
+    printf("strength   spatial   distance   hairline\n");
+    for (size_t i = 0; i < sizeof tunings / sizeof *tunings; i++) {
+        merge_tuned(burst, noise, tunings[i]);
+        printf("%8" PRIu64 "%10" PRIu64 "%11.2f%9.0f %%\n", tunings[i].strength, tunings[i].spatial, distance(merged), hairline_depth(merged));
     }
 }
 
@@ -172,6 +194,8 @@ int main(int argc, char **argv)
     double before = distance(samples + REFERENCE * FRAME), after = distance(merged);
     printf("vectors within one step of the card's move: %d of 1000\n", right);
     printf("distance from the card without noise: noisy %.2f, merged %.2f\n", before, after);
-    print_strengths(burst, noise);
+    merge_tuned(burst, noise, (stacker_tuning){ .strength = STRENGTH, .spatial = SPATIAL });
+    write_frame(created(argv[1], "filtered.pgm"), merged);
+    print_tunings(burst, noise);
     return right < 900 || after > before / 2;
 }

@@ -1,7 +1,7 @@
 /* The burst stacker: one to eight raw frames of one scene are aligned on one of them, the reference, and merged into one cleaner frame.
 
    First come the types, the calls and what goes with them; behind them EXAMPLES, FRAMES, SHARPNESS, LENT BUFFERS, AFTER A CALL, REFUSALS, NOISE,
-   STRENGTH, ZEROS and THE MACHINE. Link with libstacker.a. For x86-64 Linux; C99 and later, C++11 and later. */
+   STRENGTH, SPATIAL FILTER, ZEROS and THE MACHINE. Link with libstacker.a. For x86-64 Linux; C99 and later, C++11 and later. */
 #ifndef STACKER_H
 #define STACKER_H
 
@@ -308,9 +308,14 @@ static inline const char *stacker_refusal_text(uint64_t number)
    analysis of HDR+ settled on; 64 is the tau of 8 that the original names, which that analysis found too weak. A strength of 0 gives the reference back,
    1024 is the greatest. README has what they do to one scene.
 
+   SPATIAL FILTER. Where frames agree, grain that all of them share or that few of them can average stays. A spatial s above 0 takes some of it out of the
+   merged tile by a second Wiener step, whose noise grows with the frequency, with s and with the noise curve, and falls with the count of frames. The
+   published s is 0.1, so 26 here; text and lines that are near the noise lose contrast with it, so look before you raise it. It knows nothing of the
+   strength: at strength 0 the reference itself is filtered, and with one frame that frame. Where s is 0 a lone frame comes back unchanged, and only there.
+
    ZEROS. A width, height, count, row length or ISO of 0 is refused. Reference 0 is the first frame. Shot and read of 0 say that there is no noise, and
-   strength 0 asks for no merging: either gives the reference back. Black levels of 0 say that black is already subtracted. A field that a later version
-   adds is refused at zero, or means there what this version does.
+   strength 0 asks for no merging: either gives the reference back where the spatial s is 0 too, which asks for no filter. Black levels of 0 say that
+   black is already subtracted. A field that a later version adds is refused at zero, or means there what this version does.
 
    THE MACHINE. A call allocates nothing and needs less than 32 KB of stack. It keeps nothing between calls and has no state: threads may call at once,
    each with vectors, output and work area of its own that no other thread touches meanwhile. The floating-point environment must be the usual one: rounding
