@@ -12,7 +12,7 @@ use Rattle.algebra.specs.Fraction.{Frac, frac, _+F_, _·F_, _×F_, _÷F_, divid
 use Rattle.algebra.specs.Cert.{num, sqr, le, lt, eq, _⊕_, _⊗_, by-le, by-lt, by-le-times}
 use Rattle.algebra.specs.Lipschitz.{sq, lipschitz}
 use Rattle.algebra.specs.FractionLaws.{within-trans, within-same, within-near, near-mono, near-zero, Near, rounds-within}
-use Rattle.closeness.specs.Same.{near-same, near-cross}
+use Rattle.algebra.specs.Same.{near-same, near-cross}
 use Rattle.algebra.specs.Nearest.{away}
 use Rattle.algebra.specs.NearestLaws.{Rounds, away-rounds}
 use Rattle.recipe.specs.Side.{Side}

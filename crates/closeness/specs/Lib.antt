@@ -1,4 +1,3 @@
-pub mod Same
 pub mod Bins
 pub mod Windows
 pub mod Closeness

@@ -9,7 +9,7 @@ use Rattle.algebra.specs.Cert.{nn, le, sqr, _⊕_, _⊗_, by-le}
 use Rattle.algebra.specs.Lipschitz.{sq}
 use Rattle.algebra.specs.Sums.{sumZ}
 use Rattle.algebra.specs.SumLaws.{sumZ-cong, sumZ-scale, sumZ-exchange}
-use Rattle.spatial.specs.SumOrder.{sumZ-mono}
+use Rattle.algebra.specs.SumOrder.{sumZ-mono}
 use Rattle.recipe.specs.Side.{Side, cosAt, sinAt}
 use Rattle.recipe.specs.Correction.{rowRe, rowIm, binRe, binIm, inverseRe}
 use Rattle.recipe.specs.CorrectionLaws.{alongRe, alongIm, two-way}

@@ -11,7 +11,7 @@ use Rattle.algebra.specs.Cert.{num, nn, le, sqr, _⊕_, _⊗_, by-le, by-le-tim
 use Rattle.algebra.specs.Lipschitz.{sq}
 use Rattle.algebra.specs.NearestLaws.{away-rounds}
 use Rattle.algebra.specs.FractionLaws.{Near, near-add, near-scale, near-sums, near-mono, near-over, near-rounds}
-use Rattle.closeness.specs.Same.{pos-above}
+use Rattle.algebra.specs.Same.{pos-above}
 use Rattle.recipe.specs.Side.{Side}
 use Rattle.recipe.specs.Correction.{binRe, binIm, inverseRe, inverseAt}
 use Rattle.recipe.specs.Output.{rowIn, columnIn, weightIn}
@@ -19,7 +19,7 @@ use Rattle.recipe.specs.Exact.{exactWiener, exactInverseAt}
 use Rattle.closeness.specs.Closeness.{Fitting, tileError, tile-near, rounded-within}
 use Rattle.recipe.specs.Spatial.{Tile, mergedSum, copyAt, copyQuantized, copyFiltered, spatialAt, takenAt, filteredSample}
 use Rattle.recipe.specs.ExactSpatial.{exactBinRe, exactBinIm, exactSum, exactMergedAt, exactSpatialAt, exactTakenAt, exactFilteredSample}
-use Rattle.spatial.specs.Numerators.{ClearsBoth, tile-common, tiles-common, numerator, numerator-is, restored}
+use Rattle.algebra.specs.Numerators.{ClearsBoth, tile-common, tiles-common, numerator, numerator-is, restored}
 use Rattle.spatial.specs.Lengths.{tileSum, tile-mono, tile-add, tile-scale, tile-const, Length, moduli, length-at}
 use Rattle.spatial.specs.Linear.{mixed, inverse-linear, bin-re-linear, bin-im-linear}
 use Rattle.spatial.specs.Bessel.{Gain, back-length, forth-length}

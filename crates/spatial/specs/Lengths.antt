@@ -10,8 +10,8 @@ use Rattle.algebra.specs.Cert.{nn, le, sqr, _⊕_, _⊗_, by-le, by-le-times}
 use Rattle.algebra.specs.Lipschitz.{sq}
 use Rattle.algebra.specs.Sums.{sumZ}
 use Rattle.algebra.specs.SumLaws.{sumZ-cong, sumZ-add, sumZ-scale}
-use Rattle.spatial.specs.SumOrder.{sumZ-const, sumZ-mono, sumZ-nonneg, sumZ-at}
-use Rattle.closeness.specs.Same.{pos-above}
+use Rattle.algebra.specs.SumOrder.{sumZ-const, sumZ-mono, sumZ-nonneg, sumZ-at}
+use Rattle.algebra.specs.Same.{pos-above}
 
 -- ---- sums over a tile of n rows of n
 

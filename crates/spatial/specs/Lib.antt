@@ -1,5 +1,3 @@
-pub mod SumOrder
-pub mod Numerators
 pub mod Lengths
 pub mod Linear
 pub mod Bessel

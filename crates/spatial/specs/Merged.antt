@@ -19,7 +19,7 @@ use Rattle.closeness.specs.Bins.{bin-near}
 use Rattle.closeness.specs.Closeness.{Fitting}
 use Rattle.recipe.specs.Spatial.{Tile, mergedSum, copyAt}
 use Rattle.recipe.specs.ExactSpatial.{exactSum, exactMergedAt}
-use Rattle.spatial.specs.Numerators.{ClearsBoth, numerator, numerator-is, same-times, same-sum, cleared}
+use Rattle.algebra.specs.Numerators.{ClearsBoth, numerator, numerator-is, same-times, same-sum, cleared}
 use Rattle.spatial.specs.Lengths.{Length, squares, minus, length-bounded, length-sub, length-sums, length-cong}
 use Rattle.spatial.specs.Linear.{mixed, sum-linear, inverse-linear}
 use Rattle.spatial.specs.Bessel.{Gain, back-length}

@@ -6,7 +6,7 @@ use Rattle.recipe.specs.Side.{Side, cosAt, sinAt}
 use Rattle.recipe.specs.Correction.{rowRe, rowIm, binRe, binIm, twiddleRe, twiddleIm, inverseRe}
 use Rattle.recipe.specs.Exact.{exactInverseRe}
 use Rattle.recipe.specs.ExactSpatial.{exactRowRe, exactRowIm, exactBinRe, exactBinIm}
-use Rattle.spatial.specs.Numerators.{same-scale, same-scaled, same-sum}
+use Rattle.algebra.specs.Numerators.{same-scale, same-scaled, same-sum}
 
 pub inverse-same : (s : Side) {k : ℤ} (g h : ℕ → ℕ → ℤ) (g' h' : ℕ → ℕ → Frac) → ((u v : ℕ) → u < s .side → v < s .side → Near 0 1 (g u v) k (g' u v) × Near 0 1 (h u v) k (h' u v)) → (y x : ℕ) → Near 0 1 (inverseRe s g h y x) k (exactInverseRe s g' h' y x)
 unfolding inverseRe exactInverseRe

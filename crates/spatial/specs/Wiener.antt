@@ -13,8 +13,8 @@ use Rattle.algebra.specs.Lipschitz.{sq}
 use Rattle.algebra.specs.Nearest.{away}
 use Rattle.algebra.specs.NearestLaws.{Rounds, away-rounds}
 use Rattle.algebra.specs.FractionLaws.{Near}
-use Rattle.closeness.specs.Same.{pos-above, near-cross}
-use Rattle.spatial.specs.Numerators.{same-fraction}
+use Rattle.algebra.specs.Same.{pos-above, near-cross}
+use Rattle.algebra.specs.Numerators.{same-fraction}
 use Rattle.recipe.specs.Side.{Side}
 use Rattle.recipe.specs.Correction.{power, wiener}
 use Rattle.recipe.specs.CorrectionLaws.{power-is}

@@ -1,17 +1,17 @@
 -- Fractions as numerators over one denominator. `Near 0 1 a (pos k) x` says that x is a/k.
 use Rattle.algebra.specs.Prelude.{_≡_, sym, _∙_, ap, subst, [], _∷_, ℕ, zero, suc, _*_, _/_, _≤_, _<_, arith, lit<, ℤ, pos, natAbs, _-ℤ_, _*ℤ_}
 use native.Mathlib.Nat.{le-refl, mul-pos, mul-comm, mul-assoc, mul-div-cancel}
 use native.Mathlib.Decide.{ℕ-discrete}
 use lib.IntN.{*ℤ-comm}
 use Rattle.algebra.specs.Laws.{*ℤ-assoc}
 use Rattle.algebra.specs.Vars.{vars6, vars8}
 use Rattle.algebra.specs.Ring.{_⊟_, _⊠_, ⊖_}
 use Rattle.algebra.specs.Order.{≤ℤ-antisym, abs-upper, abs-lower, abs-le, 0≤pos}
 use Rattle.algebra.specs.Cert.{nn, le, eq, _⊕_, _⊗_, by-le-times}
 use Rattle.algebra.specs.Sums.{sumZ}
 use Rattle.algebra.specs.Fraction.{Frac, _·F_, sumF}
 use Rattle.algebra.specs.FractionLaws.{Near, near-scale, near-sums, near-mono}
-use Rattle.closeness.specs.Same.{pos-above, near-same, near-cross}
+use Rattle.algebra.specs.Same.{pos-above, near-same, near-cross}
 
 -- ---- one denominator for many fractions
 
