@@ -1,5 +1,5 @@
--- A row of the copy: each number is at most copyMost.
-use Rattle.algebra.specs.Prelude.{_≡_, List, ℕ, _+_, _*_, _≤_, arith, getD, ℤ, pos, natAbs, _-ℤ_, _*ℤ_, w64, toZ, ofZ}
+-- A row of the copies: each number is at most copyMost.
+use Rattle.algebra.specs.Prelude.{_≡_, List, ℕ, _*_, _≤_, arith, getD, ℤ, pos, natAbs, _-ℤ_, _*ℤ_, w64, toZ, ofZ}
 use native.Mathlib.Nat.{mul-le-mul-right}
 use Rattle.algebra.specs.Order.{abs-sub}
 use Rattle.algebra.specs.Bound.{AtMost}
@@ -29,9 +29,9 @@ module _ {frames t0 : ℕ} {sum : ℤ} (f : Frames frames) (l : t0 ≤ 4095) (m 
   pub held-sum : toZ w64 (ofZ w64 sum) ≡ sum
   held-sum = number-is w64 sum-most tt
 
--- number x of a row of the copy of plane p
-abbrev pub partOf : (frames : ℕ) (t0 : List ℕ) (sum : List ℤ) (p x : ℕ) → ℤ
-partOf frames t0 sum p x = away (pos (getD t0 (2 * x + p) 0) *ℤ pos (256 * frames) -ℤ getD sum (2 * x + p) (pos 0)) frames
+-- number l of a row of the copies
+abbrev pub partOf : (frames : ℕ) (t0 : List ℕ) (sum : List ℤ) (l : ℕ) → ℤ
+partOf frames t0 sum l = away (pos (getD t0 l 0) *ℤ pos (256 * frames) -ℤ getD sum l (pos 0)) frames
 
-pub part-most : {frames : ℕ} {t0 : List ℕ} {sum : List ℤ} → Frames frames → SampleRow t0 → SumRow frames sum → (p x : ℕ) → natAbs (partOf frames t0 sum p x) ≤ copyMost
-part-most f a b p x = quotient-most f (a .at (2 * x + p)) (b .at (2 * x + p)) .most
+pub part-most : {frames : ℕ} {t0 : List ℕ} {sum : List ℤ} → Frames frames → SampleRow t0 → SumRow frames sum → (l : ℕ) → natAbs (partOf frames t0 sum l) ≤ copyMost
+part-most f a b l = quotient-most f (a .at l) (b .at l) .most

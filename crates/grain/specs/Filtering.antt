@@ -4,11 +4,16 @@ use Rattle.algebra.specs.Nearest.{away}
 use Rattle.recipe.specs.Tables.{side16}
 use Rattle.recipe.specs.Correction.{binRe, binIm, inverseAt}
 use Rattle.recipe.specs.Spatial.{copyFiltered}
+use Rattle.recipe.specs.SpatialNoise.{frequency}
 use Rattle.spectrum.specs.Magnitudes.{smallMost}
 
 -- the copy of the merged tile of N = `frames` frames, in 1/256
 unfoldable pub copyIn : (frames : ℕ) (t0 : ℕ → ℕ → ℕ) (sum : ℕ → ℕ → ℤ) → ℕ → ℕ → ℤ
 copyIn frames t0 sum y x = away (pos (t0 y x) *ℤ pos (256 * frames) -ℤ sum y x) frames
+
+-- V' of bin (u, v), from those of indices up to 8
+abbrev pub binNoise : (noise : ℕ → ℕ → ℕ) → ℕ → ℕ → ℕ
+binNoise noise u v = noise (frequency u) (frequency v)
 
 -- P' of a copy c at V' of each bin
 unfoldable pub stepAt : (noise : ℕ → ℕ → ℕ) (c : ℕ → ℕ → ℤ) → ℕ → ℕ → ℤ
@@ -36,3 +41,10 @@ pub record SamplePair (t : List (List ℕ)) : Type 0 where
 
 pub record SumPair (frames : ℕ) (t : List (List ℤ)) : Type 0 where
   pub row : (y : ℕ) → SumRow frames (getD t y [])
+
+-- each noise number of a line, and of a table, is at most b
+pub record NoiseLine (b : ℕ) (x : List ℕ) : Type 0 where
+  pub at : (i : ℕ) → getD x i 0 ≤ b
+
+pub record NoisesMost (b : ℕ) (t : List (List ℕ)) : Type 0 where
+  pub line : (u : ℕ) → NoiseLine b (getD t u [])

@@ -1,6 +1,6 @@
 -- V' at its bounds, and as the code works it out.
-use Rattle.algebra.specs.Prelude.{_≡_, refl, sym, ap, subst, _∙_, Bool, true, false, cond, ℕ, _+_, _-_, _*_, _/_, _≤_, _<_, arith, lit≤, lit<, leb, ltb}
-use borrow.Author.Tests.{ltb-true, ltb-false}
+use Rattle.algebra.specs.Prelude.{_≡_, refl, sym, ap, ap₂, subst, _∙_, Bool, true, false, cond, ℕ, _+_, _-_, _*_, _/_, _≤_, _<_, arith, lit≤, lit<, leb, ltb}
+use borrow.Author.Tests.{le-ltb, ltb-true, ltb-false}
 use lib.Dec.{leb→le}
 use native.Mathlib.Nat.{le-trans, add-le-add, mul-le-mul, mul-le-mul-left, mul-comm, mul-assoc, le-div-iff-mul-le, div-mul-le-self}
 use Rattle.algebra.specs.Test.{all, all-sound}
@@ -10,8 +10,8 @@ use Rattle.recipe.specs.NoiseNumber.{variance}
 use Rattle.recipe.specs.SpatialNoise.{frequency, distance, spatialNumber}
 use Rattle.noise.specs.SpatialRange.{SpatialRange, scaleMost}
 
--- m is at most 181: an index counts as 8 at most
-frequency-most : (u : ℕ) → frequency u < 9
+-- an index counts as 8 at most
+pub frequency-most : (u : ℕ) → frequency u < 9
 unfolding frequency
 frequency-most u = go (ltb 8 u) (ltb-true 8 u) (ltb-false 8 u)
   where
@@ -19,6 +19,12 @@ frequency-most u = go (ltb 8 u) (ltb-true 8 u) (ltb-false 8 u)
     go true p q = let h = p refl in omega arith
     go false p q = let h = q refl in omega arith
 
+-- and as itself up to 8
+pub frequency-low : (u : ℕ) → u < 9 → frequency u ≡ u
+unfolding frequency
+frequency-low u h = rw (le-ltb 8 u (omega arith))
+
+-- m is at most 181
 abbrev within : ℕ → ℕ → Bool
 within a b = leb (wholeRoot (256 * (a * a + b * b))) 181
 
@@ -54,3 +60,11 @@ module _ {s ls lr r frames : ℕ} (ok : SpatialRange s ls lr r frames) where
       quotient d l =
           le-div-iff-mul-le {k = 16384} {x = distance u v * (s * variance side16 ls lr r) / d} {y = 181 * scaleMost} (lit< tt) .1
           (le-trans (mul-le-mul-left (distance u v * (s * variance side16 ls lr r) / d) l) (le-trans (div-mul-le-self (distance u v * (s * variance side16 ls lr r)) d) product))
+
+-- V' of a bin is that of the indices that it counts as
+pub number-folded : (s ls lr r frames u v : ℕ) → spatialNumber side16 s ls lr r frames (frequency u) (frequency v) ≡ spatialNumber side16 s ls lr r frames u v
+unfolding spatialNumber distance
+number-folded s ls lr r frames u v =
+    let p = frequency-low (frequency u) (frequency-most u) in
+    let q = frequency-low (frequency v) (frequency-most v) in
+    ap₂ (λ a b. s * wholeRoot (256 * (a * a + b * b)) * variance side16 ls lr r / (16384 * frames)) p q

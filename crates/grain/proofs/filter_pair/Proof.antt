@@ -1,50 +1,91 @@
--- N·P' of both planes, side by side.
-use Rattle.algebra.specs.Prelude.{_≡_, ap, _∙_, List, ℕ, _/_, _%_, _^_, _<_, arith, lit<, ℤ, pos, _+ℤ_, _*ℤ_, now}
-use borrow.Author.Count.{below-none, below-more}
+-- The copies, their bins, the step, and N·P' of it.
+use Rattle.algebra.specs.Prelude.{_≡_, refl, sym, ap, subst, _∙_, false, ℕ, _+_, _*_, _/_, _%_, _^_, arith, needs, ℤ, pos, _+ℤ_, _*ℤ_, now}
+use Prim.Native.Nat.{zero-le}
+use Rattle.sequences.specs.Tab.{tab}
 use Rattle.sequences.specs.Grid.{grid, cell, cell-grid, grid-ext}
 use Rattle.lines.specs.Lines.{TileMost}
-use Rattle.spectrum.specs.Pairs.{planeIn, either}
-use Rattle.grain.specs.Filtering.{copyIn, stepAt, Frames, SumPair}
+use Rattle.lines.specs.Magnitudes.{foldMost}
+use Rattle.spectrum.specs.Magnitudes.{spatialMost, spatialCorrectionMost}
+use Rattle.spectrum.specs.Pairs.{InDouble, planeIn, either}
+use Rattle.pairs.proofs.ColumnLaws.{paired-grid}
+use Rattle.grain.specs.Filtering.{copyIn, binNoise, stepAt, NoisesMost}
+use Rattle.grain.specs.FilteringLaws.{step-cong}
+use Rattle.grain.proofs.PairLaws.{table-most, lanes-most, step-whole, steps-are, steps-most}
 use Rattle.grain.proofs.filter_pair.Statement.{statement}
 use Rattle.grain.proofs.filter_pair.Tie as tie
 
--- the number of either plane
-either-cell : (f : ℕ → ℕ → ℕ → ℤ) {a b : List (List ℤ)} → a ≡ grid 16 16 (f 0) → b ≡ grid 16 16 (f 1) → (p : ℕ) → p < 2 → (y x : ℕ) → y < 16 → x < 16 → cell (pos 0) (either a b p) y x ≡ f p y x
-either-cell f {a} {b} d e =
-    below-more (λ p. (y x : ℕ) → y < 16 → x < 16 → cell (pos 0) (either a b p) y x ≡ f p y x) 1
-    (below-more (λ p. (y x : ℕ) → y < 16 → x < 16 → cell (pos 0) (either a b p) y x ≡ f p y x) 0 (below-none (λ p. (y x : ℕ) → y < 16 → x < 16 → cell (pos 0) (either a b p) y x ≡ f p y x))
-    (λ y x h k. ap (λ t. cell (pos 0) t y x) d ∙ cell-grid (pos 0) 16 16 (f 0) y x h k))
-    (λ y x h k. ap (λ t. cell (pos 0) t y x) e ∙ cell-grid (pos 0) 16 16 (f 1) y x h k)
+-- V' of both planes side by side
+noises-most : (n : tie.After-lanes) → NoisesMost spatialMost (n .lanes .result)
+noises-most n =
+    let s = n .before .before .before .before .before in
+    lanes-most (now (s .args .first)) (now (s .args .second)) (n .lanes .ensures) (s .pre .first-most) (s .pre .second-most)
 
-sums-most : {frames : ℕ} {t : List (List ℤ)} → Frames frames → SumPair frames t → TileMost (2 ^ 40) t
-sums-most f m = record { line = λ y. record { at = λ l. omega (arith, m .row y .at l .most, f .few) } }
+-- the step on their bins
+abbrev step-is : (g : tie.After-step) → InDouble (foldMost false) (g .step .result)
+step-is g =
+    let n = g .before .before .before in
+    step-whole (noises-most n) (n .before .bins .result) (g .step .ensures)
 
-plane-step-requires : tie.Need-plane-step-requires
-plane-step-requires c κs =
+-- P' of both
+steps : (i : tie.After-add-inverse) → let n = i .before .before .before .before .before in let k = n .before .before .before in let a = k .before .before .args in
+    i .add-inverse .last .1 .1 .0 ≡ grid 16 32 (λ y l. stepAt (binNoise (cell 0 (either (now (a .first)) (now (a .second)) (l % 2)))) (planeIn (cell (pos 0) (k .copy-pair .result)) (l % 2)) y (l / 2))
+unfolding grid tab
+steps i =
+    let g = i .before .before in
+    let n = g .before .before .before in
+    let k = n .before .before .before in
+    let a = k .before .before .args in
+    i .add-inverse .ensures (step-is g) ∙ steps-are (now (a .first)) (now (a .second)) (n .lanes .ensures) (k .copy-pair .result) (n .before .bins .ensures .0) refl
+
+copy-pair-requires : tie.Need-copy-pair-requires
+copy-pair-requires c κs =
     let p = c .before .pre in
-    record { frames-fit = p .frames-fit; noises-most = p .first-most; samples = p .samples; sums = p .sums; plane = lit< tt }
+    record { frames-fit = p .frames-fit; samples = p .samples; sums = p .sums }
 
-plane-step-requires-2 : tie.Need-plane-step-requires-2
-plane-step-requires-2 c κs =
-    let p = c .before .before .before .pre in
-    record { frames-fit = p .frames-fit; noises-most = p .second-most; samples = p .samples; sums = p .sums; plane = lit< tt }
+step-requires : tie.Need-step-requires
+step-requires c κs =
+    let n = c .before .before in
+    record { places-most = n .before .bins .ensures .1; noises-most = noises-most n }
 
-add-planes-requires : tie.Need-add-planes-requires
-add-planes-requires c κs =
-    let b = c .before .before .before in
-    let a = b .before .before in
-    let p = a .before .before .pre in
-    record { first-most = a .plane-step .ensures .1; second-most = b .plane-step2 .ensures .1; sums-most = sums-most (p .frames-fit) (p .sums); paired = p .paired }
+add-inverse-requires : tie.Need-add-inverse-requires
+unfolding grid tab
+add-inverse-requires c κs =
+    record {
+      whole = step-is (c .before);
+      sums-most = table-most (2 ^ 40) (λ y l. pos 0) (λ y l. zero-le) 16 32;
+      paired = paired-grid (λ y l. pos 0) refl;
+    }
+
+add-times-requires : tie.Need-add-times-requires
+add-times-requires c κs =
+    let i = c .before .before in
+    let n = i .before .before .before .before .before in
+    let k = n .before .before .before in
+    let s = k .before .before in
+    record {
+      frames-fit = s .pre .frames-fit;
+      part = subst (TileMost spatialCorrectionMost) (sym (steps i)) (steps-most (now (s .args .first)) (now (s .args .second)) (n .lanes .ensures) (k .copy-pair .result) (n .before .bins .ensures .0) (s .pre .first-most) (s .pre .second-most));
+      sums = s .pre .sums;
+      paired = s .pre .paired;
+    }
 
 returns : tie.Need-returns
+unfolding copyIn
 returns c =
-    let b = c .before .before .before .before in
-    let a = b .before .before in
-    let s = a .before .before in
-    let g = s .args in
-    let f : ℕ → ℕ → ℕ → ℤ = λ p y x. pos (g .frames) *ℤ stepAt (cell 0 (either (now (g .first)) (now (g .second)) p)) (copyIn (g .frames) (planeIn (cell 0 (now (g .t0))) p) (planeIn (cell (pos 0) (now (g .sum))) p)) y x in
-    c .add-planes .ensures
-    ∙ grid-ext 16 32 _ _ (λ y l h k. ap (λ z. cell (pos 0) (now (g .sum)) y l +ℤ z) (either-cell f (a .plane-step .ensures .0) (b .plane-step2 .ensures .0) (l % 2) (omega arith) y (l / 2) h (omega arith)))
+    let i = c .before .before .before in
+    let k = i .before .before .before .before .before .before .before .before in
+    let a = k .before .before .args in
+    let noise : ℕ → ℕ → ℕ → ℕ = λ p. cell 0 (either (now (a .first)) (now (a .second)) p) in
+    let copied : ℕ → ℕ → ℕ → ℤ = λ p. planeIn (cell (pos 0) (k .copy-pair .result)) p in
+    let copy : ℕ → ℕ → ℕ → ℤ = λ p. copyIn (a .frames) (planeIn (cell 0 (now (a .t0))) p) (planeIn (cell (pos 0) (now (a .sum))) p) in
+    c .add-times .ensures
+    ∙ grid-ext 16 32 _ _
+    (λ y l h j. ap (λ z. cell (pos 0) (now (a .sum)) y l +ℤ pos (a .frames) *ℤ z)
+    (ap (λ t. cell (pos 0) t y l) (steps i) ∙ cell-grid (pos 0) 16 32 (λ y l. stepAt (binNoise (noise (l % 2))) (copied (l % 2)) y (l / 2)) y l h j
+    ∙ step-cong (binNoise (noise (l % 2))) (copied (l % 2)) (copy (l % 2))
+    (λ y x g o. ap (λ t. cell (pos 0) t y (2 * x + l % 2)) (k .copy-pair .ensures .0) ∙ cell-grid (pos 0) 16 32 (copyIn (a .frames) (cell 0 (now (a .t0))) (cell (pos 0) (now (a .sum)))) y (2 * x + l % 2) g (omega arith)) y (l / 2)))
 
 pub filter-pair-spec : {M : Type 1} → statement M
-filter-pair-spec = tie.close (tie.spec plane-step-requires plane-step-requires-2 add-planes-requires returns)
+filter-pair-spec = tie.close (tie.spec
+    copy-pair-requires (λ c κs. c .before .copy-pair .ensures .1) (λ c κs. search needs)
+    step-requires add-inverse-requires add-times-requires returns)

@@ -29,9 +29,6 @@ module _ {frames t0 : ℕ} {sum : ℤ} (f : Frames frames) (l : t0 ≤ 4095) (m 
   pub number : toZ w64 (ofZ w64 held) ≡ z
   number = subst (λ h. toZ w64 (ofZ w64 h) ≡ z) (sym held-is) (number-is w64 z-most tt)
 
-mul-whole : tie.Need-mul-whole
-mul-whole c = omega (arith, c .pre .frames-fit .few)
-
 mul-whole-2 : tie.Need-mul-whole-2
 mul-whole-2 c = omega (arith, whole-most (c .pre .frames-fit) (c .pre .sample) (c .pre .sum-most))
 
@@ -62,13 +59,12 @@ most c =
     let p = c .before .pre in
     subst (AtMost copyMost) (sym (quotient-is c)) (quotient-most (p .frames-fit) (p .sample) (p .sum-most))
 
-cast-result : tie.Need-cast-result
-cast-result c = cast-fits w64 w32 (most c) tt tt
-
 returns : tie.Need-returns
 returns c =
     let e = cast-is w64 w32 (most c) tt tt in
     (e ∙ quotient-is c, subst (AtMost copyMost) (sym e) (most c))
 
 pub copy-part-spec : {M : Type 1} → statement M
-copy-part-spec = tie.close (tie.spec mul-whole mul-whole-2 cast-round-away sub-round-away round-away-requires cast-result returns)
+copy-part-spec = tie.close (tie.spec
+    (λ c. omega (arith, c .pre .frames-fit .few)) mul-whole-2 cast-round-away sub-round-away
+    round-away-requires (λ c. cast-fits w64 w32 (most c) tt tt) returns)

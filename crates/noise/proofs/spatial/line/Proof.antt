@@ -6,10 +6,10 @@ use Rattle.noise.proofs.spatial.line.Statement.{statement}
 use Rattle.noise.proofs.spatial.line.Tie as tie
 
 abbrev Inv-loop : tie.InvT-loop
-Inv-loop distances scale divisor r₀ v₀ r v = Filled (λ v. getD distances v 0 * scale / divisor) 16 v r₀ r
+Inv-loop distances scale divisor r₀ v₀ r v = Filled (λ v. getD distances v 0 * scale / divisor) 9 v r₀ r
 
 abbrev μ-loop : tie.MeasureT-loop
-μ-loop distances scale divisor r₀ v₀ r v = 16 - v
+μ-loop distances scale divisor r₀ v₀ r v = 9 - v
 
 mul-r-2 : tie.Need-mul-r-2 Inv-loop μ-loop
 mul-r-2 c =

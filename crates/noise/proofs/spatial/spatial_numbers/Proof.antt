@@ -14,18 +14,18 @@ use Rattle.noise.proofs.spatial.spatial_numbers.Statement.{statement}
 use Rattle.noise.proofs.spatial.spatial_numbers.Tie as tie
 
 abbrev Inv-loop : tie.InvT-loop
-Inv-loop s ls lr r frames table scale divisor n₀ u₀ n u = Filled (λ u. tab 16 (spatialNumber side16 s ls lr r frames u)) 16 u n₀ n
+Inv-loop s ls lr r frames table scale divisor n₀ u₀ n u = Filled (λ u. tab 9 (spatialNumber side16 s ls lr r frames u)) 9 u n₀ n
 
 abbrev μ-loop : tie.MeasureT-loop
-μ-loop s ls lr r frames table scale divisor n₀ u₀ n u = 16 - u
+μ-loop s ls lr r frames table scale divisor n₀ u₀ n u = 9 - u
 
 -- row u of the table
-row-is : (u : ℕ) → u < 16 → getD distances u [] ≡ tab 16 (distance u)
+row-is : (u : ℕ) → u < 9 → getD distances u [] ≡ tab 9 (distance u)
 unfolding grid
-row-is u h = ap (λ t. getD t u []) distances-are ∙ getD-tab (λ u. tab 16 (distance u)) [] 16 u h
+row-is u h = ap (λ t. getD t u []) distances-are ∙ getD-tab (λ u. tab 9 (distance u)) [] 9 u h
 
-row-most : (u : ℕ) → u < 16 → (j : ℕ) → getD (getD distances u []) j 0 ≤ 181
-row-most u h j = subst (λ l. getD l j 0 ≤ 181) (sym (row-is u h)) (tab-each (λ n. n ≤ 181) 0 (distance u) zero-le 16 (λ v k. distance-most u v) j)
+row-most : (u : ℕ) → u < 9 → (j : ℕ) → getD (getD distances u []) j 0 ≤ 181
+row-most u h j = subst (λ l. getD l j 0 ≤ 181) (sym (row-is u h)) (tab-each (λ n. n ≤ 181) 0 (distance u) zero-le 9 (λ v k. distance-most u v) j)
 
 mul-scale-3 : tie.Need-mul-scale-3 Inv-loop μ-loop
 unfolding variance side16
@@ -47,7 +47,7 @@ loop-again c =
     let a = s .args in
     fill-turn (l .loop .inv) (omega arith)
     (c .line .ensures
-    ∙ tab-ext 16 _ _ (λ v h. ap (λ m. m * (a .s * variance side16 (a .ls) (a .lr) (a .r)) / (16384 * a .frames)) (ap (λ t. getD t v 0) (row-is u (omega arith)) ∙ getD-tab (distance u) 0 16 v h) ∙ number-is (s .pre) u v))
+    ∙ tab-ext 9 _ _ (λ v h. ap (λ m. m * (a .s * variance side16 (a .ls) (a .lr) (a .r)) / (16384 * a .frames)) (ap (λ t. getD t v 0) (row-is u (omega arith)) ∙ getD-tab (distance u) 0 9 v h) ∙ number-is (s .pre) u v))
 
 returns : tie.Need-returns Inv-loop μ-loop
 unfolding grid
