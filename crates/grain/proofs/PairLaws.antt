@@ -31,7 +31,7 @@ use Rattle.grain.specs.Steps.{highOf, lowOf, placeMost, copyPlaceMost, p
 use Rattle.grain.proofs.SplitLaws.{split, two-way-most, two-way-sum}
 use Rattle.grain.proofs.PlaceParts.{place-is}
 use Rattle.grain.proofs.LinePlaces.{tile-re-ext, tile-im-ext}
-use Rattle.grain.proofs.StepLaws.{turned-back}
+use Rattle.grain.proofs.StepLaws.{steps-back}
 
 -- a table of small numbers
 pub table-most : (b : ℕ) (f : ℕ → ℕ → ℤ) → ((k l : ℕ) → natAbs (f k l) ≤ b) → (m n : ℕ) → TileMost b (grid m n f)
@@ -219,7 +219,7 @@ module _ (first second : List (List ℕ)) {noises : List (List ℕ)} (e : noises
         grid-ext 16 32 _ _
         (λ y l h k. ap₂ _+ℤ_ (ap (λ t. cell (pos 0) t y l) z ∙ cell-grid (pos 0) 16 32 (λ y l. pos 0) y l h k)
         (ap (λ z. away z (2 ^ 32)) (back-ext (transposed (planeIn (spreads noises w) (l % 2))) (spread (pairRe noises w (l % 2)) (pairIm noises w (l % 2))) (λ k b i j. spread-at l k b) y (l / 2))
-        ∙ turned-back (numbers (l % 2)) (copy (l % 2)) (pairRe noises w (l % 2)) (pairIm noises w (l % 2)) (pair-re-is (l % 2) (omega arith)) (pair-im-is (l % 2) (omega arith)) y (l / 2) h (omega arith))
+        ∙ steps-back (numbers (l % 2)) (copy (l % 2)) (pairRe noises w (l % 2)) (pairIm noises w (l % 2)) (pair-re-is (l % 2) (omega arith)) (pair-im-is (l % 2) (omega arith)) y (l / 2) h (omega arith))
         ∙ +ℤ-idl (stepIn y l))
 
     pub steps-most : NoisesMost spatialMost first → NoisesMost spatialMost second → TileMost spatialCorrectionMost (grid 16 32 stepIn)

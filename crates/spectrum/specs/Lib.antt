@@ -14,5 +14,6 @@ pub mod Apart
 pub mod QuadLaws
 pub mod LineLaws
 pub mod PlaceLaws
+pub mod BinFilters
 pub mod CorrectionLaws
 pub mod FoldSizes
