@@ -17,8 +17,8 @@ use crate::lanes::lanes;
 use crate::parts::highs;
 use crate::parts::lows;
 use crate::places::places;
-use pairs::add_inverse;
-use pairs::forward;
+use pairs::add_inverse_of;
+use pairs::forward_into;
 ghost use mathlib.Core.Path.{_≡_};
 ghost use Prim.Native.Nat.{_*_, _/_, _%_};
 ghost use lib.IntN.{pos, _+ℤ_, _*ℤ_};
@@ -35,8 +35,10 @@ fn bins(c: &[[i32; 32]; 16]) -> [[i64; 32]; 16]
     requires { ⌜ TileMost copyMost (now c) ⌝ }
     ensures { λ r. ⌜ (r ≡ grid 16 32 (sideBySide (λ p. transposed (twoWay (planeIn (cell (pos 0) (now (c .entry))) p))))) × (TileMost copyPlaceMost r) ⌝ }
 {
-    let high = forward(highs(c));
-    let low = forward(lows(c));
+    let mut high = [[0.0f64; 32]; 16];
+    forward_into(&highs(c), &mut high);
+    let mut low = [[0.0f64; 32]; 16];
+    forward_into(&lows(c), &mut low);
     places(&high, &low)
 }
 
@@ -67,8 +69,8 @@ pub fn filter_pair(
     let c = copy_pair(frames, t0, &*sum);
     let w = bins(&c);
     let noises = lanes(first, second);
-    let g = step(&w, &noises);
+    let mut g = step(&w, &noises);
     let mut p = [[0i64; 32]; 16];
-    add_inverse(g, false, &mut p);
+    add_inverse_of(&mut g, false, &mut p);
     add_times(frames, &p, &mut *sum);
 }

@@ -27,15 +27,15 @@ step-is g =
     step-whole (noises-most n) (n .before .bins .result) (g .step .ensures)
 
 -- P' of both
-steps : (i : tie.After-add-inverse) → let n = i .before .before .before .before .before in let k = n .before .before .before in let a = k .before .before .args in
-    i .add-inverse .last .1 .1 .0 ≡ grid 16 32 (λ y l. stepAt (binNoise (cell 0 (either (now (a .first)) (now (a .second)) (l % 2)))) (planeIn (cell (pos 0) (k .copy-pair .result)) (l % 2)) y (l / 2))
+steps : (i : tie.After-add-inverse-of) → let n = i .before .before .before .before .before .before in let k = n .before .before .before in let a = k .before .before .args in
+    i .add-inverse-of .last .1 .1 .0 ≡ grid 16 32 (λ y l. stepAt (binNoise (cell 0 (either (now (a .first)) (now (a .second)) (l % 2)))) (planeIn (cell (pos 0) (k .copy-pair .result)) (l % 2)) y (l / 2))
 unfolding grid tab
 steps i =
-    let g = i .before .before in
+    let g = i .before .before .before in
     let n = g .before .before .before in
     let k = n .before .before .before in
     let a = k .before .before .args in
-    i .add-inverse .ensures (step-is g) ∙ steps-are (now (a .first)) (now (a .second)) (n .lanes .ensures) (k .copy-pair .result) (n .before .bins .ensures .0) refl
+    i .add-inverse-of .ensures (step-is g) ∙ steps-are (now (a .first)) (now (a .second)) (n .lanes .ensures) (k .copy-pair .result) (n .before .bins .ensures .0) refl
 
 copy-pair-requires : tie.Need-copy-pair-requires
 copy-pair-requires c κs =
@@ -47,11 +47,11 @@ step-requires c κs =
     let n = c .before .before in
     record { places-most = n .before .bins .ensures .1; noises-most = noises-most n }
 
-add-inverse-requires : tie.Need-add-inverse-requires
+add-inverse-of-requires : tie.Need-add-inverse-of-requires
 unfolding grid tab
-add-inverse-requires c κs =
+add-inverse-of-requires c κs =
     record {
-      whole = step-is (c .before);
+      whole = step-is (c .before .before);
       sums-most = table-most (2 ^ 40) (λ y l. pos 0) (λ y l. zero-le) 16 32;
       paired = paired-grid (λ y l. pos 0) refl;
     }
@@ -59,7 +59,7 @@ add-inverse-requires c κs =
 add-times-requires : tie.Need-add-times-requires
 add-times-requires c κs =
     let i = c .before .before in
-    let n = i .before .before .before .before .before in
+    let n = i .before .before .before .before .before .before in
     let k = n .before .before .before in
     let s = k .before .before in
     record {
@@ -73,7 +73,7 @@ returns : tie.Need-returns
 unfolding copyIn
 returns c =
     let i = c .before .before .before in
-    let k = i .before .before .before .before .before .before .before .before in
+    let k = i .before .before .before .before .before .before .before .before .before in
     let a = k .before .before .args in
     let noise : ℕ → ℕ → ℕ → ℕ = λ p. cell 0 (either (now (a .first)) (now (a .second)) p) in
     let copied : ℕ → ℕ → ℕ → ℤ = λ p. planeIn (cell (pos 0) (k .copy-pair .result)) p in
@@ -88,4 +88,4 @@ returns c =
 pub filter-pair-spec : {M : Type 1} → statement M
 filter-pair-spec = tie.close (tie.spec
     copy-pair-requires (λ c κs. c .before .copy-pair .ensures .1) (λ c κs. search needs)
-    step-requires add-inverse-requires add-times-requires returns)
+    step-requires add-inverse-of-requires add-times-requires returns)
