@@ -103,6 +103,12 @@ static double clouds(double y, double x)
     return mixed(above, below, down);
 }
 
+/* How much of the light the hairline leaves at a place. */
+static double left_by_hairline(double y, double x)
+{
+    return mixed(1, 0.45, inside(hairline(y, x) - 1));
+}
+
 /* The light at a place. */
 static double card(double y, double x)
 {
@@ -111,7 +117,7 @@ static double card(double y, double x)
     level = module(level, y, x);
     if (digits(y, x) || lines(y, x))
         level *= 0.55;
-    return level * mixed(1, 0.45, inside(hairline(y, x) - 1));
+    return level * left_by_hairline(y, x);
 }
 
 #endif

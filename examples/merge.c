@@ -1,9 +1,10 @@
 /* Eight noisy frames of a card are aligned and merged by one call: merge DIRECTORY. It writes there
      noisy.pgm, merged.pgm   the reference frame and the merged one, as Bayer samples
+     spatial-0.pgm, spatial-26.pgm, spatial-256.pgm   the first two frames merged, without the spatial filter, with the published s and with the greatest
      vectors.txt             a line per other frame and tile: frame, row and column of the tile, down, right
      card.burst              a burst file of 64 by 64 samples of the first five frames, each sample up to 99
-   and prints how many vectors tell how the card moved, how far both frames are from the card without noise, and how far merges of other strengths
-   are. It ends with 1 where a call is refused, less than nine tenths of the vectors are right, or the merged frame is not twice as near as the noisy
+   and prints how many vectors tell how the card moved, how far both frames are from the card without noise, and how far merges of other tunings are,
+   with how much of the hairline is left in them. It ends with 1 where a call is refused, less than nine tenths of the vectors are right, or the merged frame is not twice as near as the noisy
    one. */
 #include "card.h"
 #include "stacker.h"
@@ -14,7 +15,8 @@
 
 enum { SIDE = 512, FRAMES = 8, REFERENCE = 0, TILES = SIDE / 16 + 1, FRAME = SIDE * SIDE };
 
-/* The noise of a sample x has the variance SHOT x + READ. The strength counts eighths of tau: the published analysis takes a tau of 75. */
+/* The noise of a sample x has the variance SHOT x + READ. The strength counts eighths of tau, the filter's s 256ths: the published analysis takes a tau
+   of 75 and an s of 0.1, so 26. */
 static const double SHOT = 3, READ = 100;
 static const uint64_t STRENGTH = 600;
 
@@ -141,16 +143,45 @@ static void must_accept(uint64_t refusal)
     exit(1);
 }
 
-/* What a strength does, with the vectors found. */
-static void print_strengths(stacker_burst burst, stacker_noise noise)
+/* How deep the hairline is in a frame, in hundredths of its depth on the card. */
+static double hairline_depth(const uint16_t *frame)
 {
-    static const uint64_t strengths[] = { 0, 8, 64, 600, 1024 };
-    printf("strength   distance\n");
-    for (size_t i = 0; i < sizeof strengths / sizeof *strengths; i++) {
-        stacker_tuning tuning = { .strength = strengths[i] };
-        must_accept(stacker_merge(burst, noise, tuning, samples, FRAMES * FRAME, vectors, sizeof vectors / sizeof *vectors, merged, FRAME, work,
-            2 * FRAME));
-        printf("%8" PRIu64 "%11.2f\n", strengths[i], distance(merged));
+    double depth = 0, whole = 0;
+    for (int i = 0; i < FRAME; i++) {
+        int y = i / SIDE, x = i % SIDE;
+        double left = left_by_hairline(y, x), clean = light(REFERENCE, y, x), ground = clean / left;
+        if (left > 0.5)
+            continue;
+        depth += ground - frame[i];
+        whole += ground - clean;
+    }
+    return 100 * depth / whole;
+}
+
+/* The first frames merged with the vectors found: those of the other frames stand one after the other. */
+static void merge_first(uint64_t count, uint64_t strength, uint64_t spatial)
+{
+    stacker_burst burst = { .width = SIDE, .height = SIDE, .count = count, .reference = REFERENCE, .row_length = SIDE };
+    stacker_noise noise = { .shot = SHOT, .read = READ };
+    stacker_tuning tuning = { .strength = strength, .spatial = spatial };
+    must_accept(stacker_merge(burst, noise, tuning, samples, count * FRAME, vectors, (count - 1) * 2 * TILES * TILES, merged, FRAME, work, 2 * FRAME));
+}
+
+static void write_filtered(const char *directory, const char *name, uint64_t spatial)
+{
+    merge_first(2, STRENGTH, spatial);
+    write_frame(created(directory, name), merged);
+}
+
+static void print_tunings(void)
+{
+    static const uint64_t tried[][3] = { { 8, 0, 0 }, { 8, 8, 0 }, { 8, 64, 0 }, { 8, 600, 0 }, { 8, 1024, 0 }, { 8, 600, 26 }, { 2, 600, 0 },
+        { 2, 600, 26 }, { 2, 600, 128 }, { 2, 600, 256 } };
+    printf("frames   strength   spatial   distance   hairline\n");
+    for (size_t i = 0; i < sizeof tried / sizeof *tried; i++) {
+        merge_first(tried[i][0], tried[i][1], tried[i][2]);
+        printf("%6" PRIu64 "%11" PRIu64 "%10" PRIu64 "%11.2f%9.0f %%\n", tried[i][0], tried[i][1], tried[i][2], distance(merged),
+            hairline_depth(merged));
     }
 }
 
@@ -172,6 +203,9 @@ int main(int argc, char **argv)
     double before = distance(samples + REFERENCE * FRAME), after = distance(merged);
     printf("vectors within one step of the card's move: %d of 1000\n", right);
     printf("distance from the card without noise: noisy %.2f, merged %.2f\n", before, after);
-    print_strengths(burst, noise);
+    write_filtered(argv[1], "spatial-0.pgm", 0);
+    write_filtered(argv[1], "spatial-26.pgm", 26);
+    write_filtered(argv[1], "spatial-256.pgm", 256);
+    print_tunings();
     return right < 900 || after > before / 2;
 }

@@ -1,7 +1,7 @@
 /* The burst stacker: one to eight raw frames of one scene are aligned on one of them, the reference, and merged into one cleaner frame.
 
    First come the types, the calls and what goes with them; behind them EXAMPLES, FRAMES, SHARPNESS, LENT BUFFERS, AFTER A CALL, REFUSALS, NOISE,
-   STRENGTH, ZEROS and THE MACHINE. Link with libstacker.a. For x86-64 Linux; C99 and later, C++11 and later. */
+   STRENGTH, SPATIAL FILTER, ZEROS and THE MACHINE. Link with libstacker.a. For x86-64 Linux; C99 and later, C++11 and later. */
 #ifndef STACKER_H
 #define STACKER_H
 
@@ -47,6 +47,7 @@ typedef struct {
 
 typedef struct {
     uint64_t strength; /* eighths of the published tau, 0..1024: STRENGTH, below */
+    uint64_t spatial;  /* the spatial filter's published s in 1/256, 0..256: SPATIAL FILTER, below; 0 is no filter */
 } stacker_tuning;
 
 /* What a call answers: the refusal's number, or 0 with the other fields filled in. */
@@ -103,7 +104,8 @@ typedef enum {
     STACKER_REFUSED_DNG_STRUCTURE = 19,
     STACKER_REFUSED_DNG_TAG = 20,
     STACKER_REFUSED_DNG_VALUE = 21,
-    STACKER_REFUSED_ROW_LENGTH = 23
+    STACKER_REFUSED_ROW_LENGTH = 23,
+    STACKER_REFUSED_SPATIAL = 24
 } stacker_refusal;
 
 /* Aligns each other frame on the reference. */
@@ -163,7 +165,7 @@ static inline stacker_noise stacker_file_noise(stacker_file file)
 
 static inline stacker_tuning stacker_file_tuning(stacker_file file)
 {
-    stacker_tuning tuning = { file.strength };
+    stacker_tuning tuning = { file.strength, 0 };
     return tuning;
 }
 
@@ -194,6 +196,7 @@ static inline const char *stacker_refusal_text(uint64_t number)
     case STACKER_REFUSED_DNG_TAG: return "a DNG file in which a needed tag is absent or a listed one stands twice";
     case STACKER_REFUSED_DNG_VALUE: return "a DNG file with a type, count or value that is not read, or of another size than the burst";
     case STACKER_REFUSED_ROW_LENGTH: return "row length not from width to width + 256";
+    case STACKER_REFUSED_SPATIAL: return "spatial strength above 256";
     default: return "no refusal of this version";
     }
 }
@@ -290,8 +293,8 @@ static inline const char *stacker_refusal_text(uint64_t number)
    AFTER A CALL that answers 0 the written buffers hold the result, every word of it, and the work area is zero. After a refusal every lent buffer is
    as it was, and every other field of the answer is 0, the index chosen too.
 
-   REFUSALS. A call makes its tests in the order of the numbers, but 23 before 4 and 18 after 10, and answers the first that fails: align 1 to 5, 7, 11
-   and 23; merge 1 to 12, 18 and 23; run 1 to 11, 18 and 23; run_sharpest run's but for 3, whichever frame it chooses.
+   REFUSALS. A call makes its tests in the order of the numbers, but 23 before 4, and 18 and 24 after 10, and answers the first that fails: align 1 to 5, 7, 11
+   and 23; merge 1 to 12, 18, 23 and 24; run 1 to 11, 18, 23 and 24; run_sharpest run's but for 3, whichever frame it chooses.
    A file is tested line by line: no first LF 15, 13; line two 15, 14, then 1, 2, 3, 9, 10, 4; each row 15, 14, 11; then what follows, 15.
    Writing a PGM file tests 1, 6, 16, 11 in that order, reading one 17, 6, 11.
    Reading a DNG file tests 19, 20, 21, then 1, 2, 3 of the frame's index, 23, 4 and 11 of the file's samples.
@@ -305,11 +308,16 @@ static inline const char *stacker_refusal_text(uint64_t number)
    analysis of HDR+ settled on; 64 is the tau of 8 that the original names, which that analysis found too weak. A strength of 0 gives the reference back,
    1024 is the greatest. README has what they do to one scene.
 
-   ZEROS. A width, height, count, row length or ISO of 0 is refused. Reference 0 is the first frame. Shot and read of 0 say that there is no noise, and
-   strength 0 asks for no merging: either gives the reference back. Black levels of 0 say that black is already subtracted. A field that a later version
-   adds is refused at zero, or means there what this version does.
+   SPATIAL FILTER. Where frames agree, grain that all of them share or that few of them can average stays. A spatial s above 0 takes some of it out of the
+   merged tile by a second Wiener step, whose noise grows with the frequency, with s and with the noise curve, and falls with the count of frames. The
+   published s is 0.1, so 26 here; text and lines that are near the noise lose contrast with it, so look before you raise it. It knows nothing of the
+   strength: at strength 0 the reference itself is filtered, and with one frame that frame. Where s is 0 a lone frame comes back unchanged, and only there.
 
-   THE MACHINE. A call allocates nothing and needs less than 32 KB of stack. It keeps nothing between calls and has no state: threads may call at once,
+   ZEROS. A width, height, count, row length or ISO of 0 is refused. Reference 0 is the first frame. Shot and read of 0 say that there is no noise, and
+   strength 0 asks for no merging: either gives the reference back where the spatial s is 0 too, which asks for no filter. Black levels of 0 say that
+   black is already subtracted. A field that a later version adds is refused at zero, or means there what this version does.
+
+   THE MACHINE. A call allocates nothing and needs less than 40 KB of stack. It keeps nothing between calls and has no state: threads may call at once,
    each with vectors, output and work area of its own that no other thread touches meanwhile. The floating-point environment must be the usual one: rounding
    to nearest, subnormal numbers kept. */
 #endif

@@ -21,3 +21,7 @@ pub mod Lipschitz
 pub mod Vars
 pub mod Fraction
 pub mod FractionLaws
+pub mod Most
+pub mod Same
+pub mod SumOrder
+pub mod Numerators

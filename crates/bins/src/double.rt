@@ -3,6 +3,8 @@
 // off again.
 ghost use mathlib.Core.Path.{_≡_};
 ghost use mathlib.Core.Bool.{true};
+ghost use lib.Ieee.{nan};
+ghost use lib.ListN.{getD};
 ghost use Rattle.floats.specs.QuotientLaws.{certain};
 ghost use Rattle.bins.specs.Doubles.{nearestWhole, quantizedIn, quotientsIn, gainsIn, Sure, realGainIn};
 
@@ -63,7 +65,7 @@ fn no_doubt(x: f64) -> bool
 }
 
 // Whether both are true.
-pub fn both(a: bool, b: bool) -> bool
+fn both(a: bool, b: bool) -> bool
     ensures { λ r. ⌜ (r ≡ true → (a ≡ true) × (b ≡ true)) ⌝ }
 {
     if a {
@@ -78,4 +80,15 @@ pub fn sure(before: bool, v: f64, w: f64, a: f64, b: f64) -> bool
 {
     let x = quotients(v, w, a, b);
     both(before, both(no_doubt(x[0]), no_doubt(x[1])))
+}
+
+// The same of a bin in each of two lanes, part by part, so that the compiler asks both lanes at once.
+pub fn sure_lanes(before: bool, v: [f64; 2], w: [f64; 2], a: [f64; 2], b: [f64; 2]) -> bool
+    ensures { λ r. ⌜ (r ≡ true → (before ≡ true) × (Sure (getD v 0 nan) (getD w 0 nan) (getD a 0 nan) (getD b 0 nan)) × (Sure (getD v 1 nan) (getD w 1 nan) (getD a 1 nan) (getD b 1 nan))) ⌝ }
+{
+    let x = quotients(v[0], w[0], a[0], b[0]);
+    let y = quotients(v[1], w[1], a[1], b[1]);
+    let first = both(no_doubt(x[0]), no_doubt(y[0]));
+    let second = both(no_doubt(x[1]), no_doubt(y[1]));
+    both(before, both(first, second))
 }

@@ -1,5 +1,4 @@
 pub mod Leak
-pub mod Most
 pub mod Share
 pub mod Ceiling
 pub mod Sides

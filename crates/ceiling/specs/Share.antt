@@ -13,7 +13,7 @@ use Rattle.algebra.specs.Nearest.{away}
 use Rattle.algebra.specs.NearestLaws.{Rounds, away-rounds}
 use Rattle.recipe.specs.Correction.{power, wiener}
 use Rattle.recipe.specs.CorrectionLaws.{power-is}
-use Rattle.ceiling.specs.Most.{rounds-abs}
+use Rattle.algebra.specs.Most.{rounds-abs}
 
 -- |V·(t·q − u·r)| ≤ m·b·(|Q|² + V), where |t + i·u| ≤ m and V ≤ 4·b². With A = |Q|² and D = A + V,
 -- 4·(m²·b²·D² − V²·(t·q − u·r)²) = m²·((4·b² − V)·D² + V·(A − V)²) + 4·(V²·A·(m² − t² − u²) + V²·(t·r + u·q)²)

@@ -2,4 +2,3 @@ pub mod Bins
 pub mod Windows
 pub mod Closeness
 pub mod Side16
-pub mod MergedClose

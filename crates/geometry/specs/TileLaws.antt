@@ -1,5 +1,5 @@
 -- Tile counts: a bound that holds at any size, and the count at level 0 of an allowed one.
-use Rattle.algebra.specs.Prelude.{_≡_, ℕ, _+_, _-_, _*_, _/_, _≤_, _<_, arith}
+use Rattle.algebra.specs.Prelude.{_≡_, ℕ, _+_, _-_, _/_, _≤_, _<_, arith}
 use native.Mathlib.Nat.{div-lt-iff-lt-mul, mul-le-mul-left, add-mul}
 use Rattle.geometry.specs.Fits.{AllowedSize}
 use Rattle.geometry.specs.Tiles.{level0, finestSide, levelSize, tileCount}

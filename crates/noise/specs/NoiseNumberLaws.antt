@@ -1,5 +1,5 @@
 -- V's bounds and its monotony in each of its arguments.
-use Rattle.algebra.specs.Prelude.{_≡_, ℕ, _*_, _≤_, arith, lit≤}
+use Rattle.algebra.specs.Prelude.{_≡_, ℕ, _≤_, arith, lit≤}
 use native.Mathlib.Nat.{le-trans, add-le-add, mul-le-mul, mul-le-mul-left, zero-mul, mul-zero, zero-div}
 use Rattle.recipe.specs.Side.{Side}
 use Rattle.recipe.specs.Tables.{side16}

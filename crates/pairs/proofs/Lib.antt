@@ -1,4 +1,3 @@
-pub mod TileStores
 pub mod ColumnLaws
 pub mod RowLaws
 pub mod Rounding

@@ -1,7 +1,6 @@
 // The two-way transform, the Wiener step and the inverse of document 01, on two tiles side by side, in double: place 2·x + p of a row is column x of plane p.
 mod columns;
 mod columns_back;
-pub mod planes;
 mod rows;
 mod rows_back;
 
@@ -10,6 +9,7 @@ use quiet::low_noise;
 use wiener::filter;
 ghost use mathlib.Core.Path.{_≡_};
 ghost use Prim.Native.Nat.{_/_, _%_, _^_, _≤_};
+ghost use lib.Ieee.{nan};
 ghost use lib.IntN.{pos, _+ℤ_};
 ghost use Rattle.algebra.specs.Nearest.{away};
 ghost use Rattle.sequences.specs.Grid.{grid, cell};
@@ -21,15 +21,23 @@ ghost use Rattle.spectrum.specs.Magnitudes.{noiseMost};
 ghost use Rattle.spectrum.specs.Spectrum.{twoWay, transposed, spread, gainRe, gainIm, backSum};
 ghost use Rattle.spectrum.specs.Pairs.{Paired, InDouble, BinnedPair, planeIn, sideBySide, either, doubles};
 
-// B of both planes, in exact whole numbers.
-pub fn forward(d: [[i16; 32]; 16]) -> [[f64; 32]; 16]
+// b: B of both planes of a pair of tiles of differences, in exact whole numbers.
+pub fn forward_into(d: &[[i16; 32]; 16], b: &mut [[f64; 32]; 16])
+    requires { ⌜ (TileMost differenceMost (now d)) × (Paired nan (now b)) ⌝ }
+    ensures { λ _. ⌜ now (b .exit) ≡ doubles (sideBySide (λ p. transposed (twoWay (planeIn (cell (pos 0) (now (d .entry))) p)))) ⌝ }
+{
+    let mut a = [[0i32; 32]; 16];
+    columns::forward(d, &mut a);
+    rows::rows(&a, &mut *b);
+}
+
+// The same by value.
+fn forward(d: [[i16; 32]; 16]) -> [[f64; 32]; 16]
     requires { ⌜ TileMost differenceMost d ⌝ }
     ensures { λ r. ⌜ r ≡ doubles (sideBySide (λ p. transposed (twoWay (planeIn (cell (pos 0) d) p)))) ⌝ }
 {
-    let mut a = [[0i32; 32]; 16];
-    columns::forward(&d, &mut a);
     let mut b = [[0.0f64; 32]; 16];
-    rows::rows(&a, &mut b);
+    forward_into(&d, &mut b);
     b
 }
 
@@ -47,13 +55,21 @@ pub fn wiener(b: [[f64; 32]; 16], first: u64, second: u64) -> [[f64; 32]; 16]
     g
 }
 
-// P of both planes is added to their sums; `low` where both noise numbers are.
-pub fn add_inverse(mut g: [[f64; 32]; 16], low: bool, sum: &mut [[i64; 32]; 16])
+// P of both planes is added to their sums, from the folded G, in whose place the sums down its columns come; `low` where both noise numbers are.
+pub fn add_inverse_of(g: &mut [[f64; 32]; 16], low: bool, sum: &mut [[i64; 32]; 16])
+    requires { ⌜ record { whole : InDouble (foldMost low) (now g); sums-most : TileMost (2 ^ 40) (now sum); paired : Paired (pos 0) (now sum) } ⌝ }
+    ensures { λ _. ⌜ ((w : InDouble (foldMost low) (now (g .entry))) → now (sum .exit) ≡ grid 16 32 (λ y l. cell (pos 0) (now (sum .entry)) y l +ℤ away (backSum (transposed (planeIn (w .number) (l % 2))) y (l / 2)) (2 ^ 32))) ⌝ }
+{
+    columns_back::back(&mut *g);
+    rows_back::add_back(&*g, low, &mut *sum);
+}
+
+// The same from G by value.
+fn add_inverse(mut g: [[f64; 32]; 16], low: bool, sum: &mut [[i64; 32]; 16])
     requires { ⌜ record { whole : InDouble (foldMost low) g; sums-most : TileMost (2 ^ 40) (now sum); paired : Paired (pos 0) (now sum) } ⌝ }
     ensures { λ _. ⌜ ((w : InDouble (foldMost low) g) → now (sum .exit) ≡ grid 16 32 (λ y l. cell (pos 0) (now (sum .entry)) y l +ℤ away (backSum (transposed (planeIn (w .number) (l % 2))) y (l / 2)) (2 ^ 32))) ⌝ }
 {
-    columns_back::back(&mut g);
-    rows_back::add_back(&g, low, &mut *sum);
+    add_inverse_of(&mut g, low, &mut *sum);
 }
 
 // P of both planes of a pair of tiles of differences, at their noise numbers, is added to their sums.

@@ -1,5 +1,5 @@
 -- A call's tests: which number they end with, and that it is 0 exactly where each of them is.
-use Rattle.algebra.specs.Prelude.{_≡_, refl, sym, ap, _∙_, Bool, true, false, List, [], _∷_, _++_, ℕ, zero, suc, arith, T, ltb}
+use Rattle.algebra.specs.Prelude.{_≡_, refl, Bool, true, false, List, [], _∷_, _++_, ℕ, zero, suc, arith, T, ltb}
 use Rattle.refusals.specs.Tests.{refuse, _before_, first}
 
 -- a test is one of a list

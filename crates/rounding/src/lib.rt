@@ -60,22 +60,12 @@ pub fn round_away(z: i64, m: u64) -> i64
     signed(n)
 }
 
-// Halves of 2^24, 2^31 and 2^32.
-const HALF_2_24: i64 = 8388608;
-
+// Halves of 2^31 and 2^32.
 const HALF_2_31: i64 = 1073741824;
 
 const HALF_2_32: i64 = 2147483648;
 
-// z / 2^24 to nearest, halves away from zero, by shifts: z >> 63 is −1 below zero and 0 from zero on.
-pub fn round_away_24(z: i64) -> i64
-    requires { ⌜ natAbs z < 2 ^ 63 - 2 ^ 32 ⌝ }
-    ensures { λ r. ⌜ r ≡ away z (2 ^ 24) ⌝ }
-{
-    (z + HALF_2_24 + (z >> 63)) >> 24
-}
-
-// The same of z / 2^31.
+// z / 2^31 to nearest, halves away from zero, by shifts: z >> 63 is −1 below zero and 0 from zero on.
 pub fn round_away_31(z: i64) -> i64
     requires { ⌜ natAbs z < 2 ^ 63 - 2 ^ 32 ⌝ }
     ensures { λ r. ⌜ r ≡ away z (2 ^ 31) ⌝ }

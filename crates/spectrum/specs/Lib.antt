@@ -4,6 +4,7 @@ pub mod Pairs
 pub mod FoldLaws
 pub mod SpectrumLaws
 pub mod ZeroLaws
+pub mod FilterZeroLaws
 pub mod RoundingLaws
 pub mod WienerLaws
 pub mod SizeLaws
@@ -13,5 +14,6 @@ pub mod Apart
 pub mod QuadLaws
 pub mod LineLaws
 pub mod PlaceLaws
+pub mod BinFilters
 pub mod CorrectionLaws
 pub mod FoldSizes

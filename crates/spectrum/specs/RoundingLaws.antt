@@ -1,13 +1,8 @@
 -- How large a rounded quotient is.
-use Rattle.algebra.specs.Prelude.{_≡_, refl, ℕ, suc, _+_, _*_, _/_, _≤_, _<_, arith, lit<, ℤ, pos, negsuc, natAbs}
+use Rattle.algebra.specs.Prelude.{ℕ, _+_, _*_, _/_, _≤_, _<_, arith, lit<, ℤ, natAbs}
 use native.Mathlib.Nat.{le-trans, le-div-iff-mul-le, div-lt-iff-lt-mul, div-mul-le-self, mul-pos}
-use Rattle.algebra.specs.Order.{abs-neg}
 use Rattle.algebra.specs.Nearest.{away}
-
-away-abs : (z : ℤ) (m : ℕ) → natAbs (away z m) ≡ (2 * natAbs z + m) / (2 * m)
-unfolding away
-away-abs (pos a) m = refl
-away-abs (negsuc a) m = abs-neg (pos ((2 * suc a + m) / (2 * m)))
+use Rattle.algebra.specs.Most.{away-abs}
 
 div-mono : (a b m : ℕ) → 0 < m → a ≤ b → a / m ≤ b / m
 div-mono a b m h l = le-div-iff-mul-le {k = m} {x = a / m} {y = b} h .1 (le-trans (div-mul-le-self a m) l)

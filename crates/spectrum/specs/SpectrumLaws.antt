@@ -1,5 +1,4 @@
--- Laws of the spectrum of real differences: its halfcomplex form holds the bins of document 01, the bins are mirror images, and so is what is filtered
--- from them.
+-- Laws of the spectrum of real differences: its halfcomplex form holds the bins of document 01, the bins are mirror images, and the filter keeps signs.
 use mathlib.Core.Path.{_≡_, refl, sym, ap, ap₂, _∙_, fun-ext}
 use Rattle.algebra.specs.Prelude.{Bool, true, false, cond, List, [], _∷_, ℕ, zero, suc, _+_, _-_, _*_, _%_, _^_, _<_, arith, eqb, ltb, lit<}
 use borrow.Author.Tests.{lt-ltb}
@@ -159,16 +158,16 @@ module _ (d : ℕ → ℕ → ℤ) where
   pub bins-mirrored : Mirrored (binRe side16 d) (binIm side16 d)
   bins-mirrored = record { re = re-mirror; im = im-mirror }
 
--- ---- the filter keeps signs, and so the mirror image
+-- ---- the filter keeps signs
 
-wiener-odd : (noise : ℕ) (q r : ℤ) → wiener noise (negℤ q) r ≡ negℤ (wiener noise q r)
+pub wiener-odd : (noise : ℕ) (q r : ℤ) → wiener noise (negℤ q) r ≡ negℤ (wiener noise q r)
 unfolding wiener
 wiener-odd zero q r = refl
 wiener-odd (suc v) q r =
     ap₂ away (ring (pos (suc v) ∷ q ∷ []) (var 0 ⊠ ⊖ var 1) (⊖ (var 0 ⊠ var 1)) tt) (ap (λ a. a * a + natAbs r * natAbs r + suc v) (abs-neg q))
     ∙ away-odd (pos (suc v) *ℤ q) (power (suc v) q r) (omega arith)
 
-wiener-even : (noise : ℕ) (q r : ℤ) → wiener noise q (negℤ r) ≡ wiener noise q r
+pub wiener-even : (noise : ℕ) (q r : ℤ) → wiener noise q (negℤ r) ≡ wiener noise q r
 unfolding wiener
 wiener-even zero q r = refl
 wiener-even (suc v) q r = ap (λ a. away (pos (suc v) *ℤ q) (natAbs q * natAbs q + a * a + suc v)) (abs-neg r)
@@ -188,11 +187,3 @@ module _ (noise : ℕ) where
   pub filtered-even : (b c : ℤ) → filtered side16 noise b (negℤ c) ≡ filtered side16 noise b c
   unfolding filtered
   filtered-even b c = ap (wiener noise (quantized side16 b)) (quantized-odd c) ∙ wiener-even noise (quantized side16 b) (quantized side16 c)
-
-  -- so G of a spectrum that is mirrored is mirrored
-  pub filtered-mirrored : (g h : ℕ → ℕ → ℤ) → Mirrored g h → Mirrored (λ u v. filtered side16 noise (g u v) (h u v)) (λ u v. filtered side16 noise (h u v) (g u v))
-  filtered-mirrored g h m =
-      record {
-        re = λ u v i j. ap₂ (filtered side16 noise) (m .re u v i j) (m .im u v i j) ∙ filtered-even (g u v) (h u v);
-        im = λ u v i j. ap₂ (filtered side16 noise) (m .im u v i j) (m .re u v i j) ∙ filtered-odd (h u v) (g u v);
-      }

@@ -16,7 +16,6 @@ use Rattle.stacker.specs.AdmissionLaws.{run-passed}
 use Rattle.stacker.specs.CallLaws.{answer-refused, answer-accepted}
 use Rattle.stacker.specs.CloseLaws.{found-close}
 use Rattle.stacker.specs.CeilingLaws.{found-capped}
-use Rattle.admission.specs.Refusals.{runRefusal}
 use Rattle.stacker.specs.Calls.{noSums, Ran}
 
 -- a merge with the levels that the tests found
@@ -47,6 +46,7 @@ module _ {s : Shape} {reference : ℕ} {noise : Noise} {tuning : Tuning} {sample
           shot-most = subst (λ n. n ≤ 65536) (sym (t .shot-is z)) (ready .shot-most);
           read-most = subst (λ n. n ≤ 4194304) (sym (t .read-is z)) (ready .read-most);
           strength-most = ready .strength-most;
+          spatial-most = ready .spatial-most;
         }
 
     pub ran-accepted : {vectors′ work′ : List ℤ} {output′ : List ℕ} {r : Totals} → RanLevels (levelled s reference tuning tested) samples vectors′ output′ work work′ r →

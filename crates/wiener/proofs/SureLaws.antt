@@ -9,11 +9,11 @@ use Rattle.quads.specs.LaneLaws.{lanes-start, lanes-turn, lanes-join}
 use Rattle.wiener.specs.DoubleQuads.{newQuad, SureQuad, SureQuads, Shrunk}
 
 -- quad (u, l) is certain, at V and W of its lane
-abbrev SureAt : (v w : List Float) (u l : ℕ) → List (List Float) → Type 0
+abbrev pub SureAt : (v w : List Float) (u l : ℕ) → List (List Float) → Type 0
 SureAt v w u l b = SureQuad (getD v l nan) (getD w l nan) (l / 2) u (quadAt (cell nan b) u l)
 
 module _ {v w : List Float} where
-  sure-one : {u l n : ℕ} {b : List (List Float)} → u < 8 → l < 16 → 16 * u + l ≡ n → SureAt v w u l b → SureQuads v w n (n + 1) b
+  pub sure-one : {u l n : ℕ} {b : List (List Float)} → u < 8 → l < 16 → 16 * u + l ≡ n → SureAt v w u l b → SureQuads v w n (n + 1) b
   sure-one {u} {l} {n} {b} h k o p = record { quad = one }
     where
       one : (x y : ℕ) → x < 8 → y < 16 → n ≤ 16 * x + y → 16 * x + y < n + 1 → SureAt v w x y b
@@ -23,7 +23,7 @@ module _ {v w : List Float} where
           rw (sym g, sym i) p
 
   -- quads from m on are replaced, and those from n on are as they were
-  sure-join : {m n o : ℕ} {b r : List (List Float)} → Lanes (newQuad v w) m n b r → SureQuads v w m n b → SureQuads v w n o r → SureQuads v w m o b
+  pub sure-join : {m n o : ℕ} {b r : List (List Float)} → Lanes (newQuad v w) m n b r → SureQuads v w m n b → SureQuads v w n o r → SureQuads v w m o b
   sure-join {m} {n} {o} {b} {r} z p q = record { quad = λ u l h k a c. go u l h k a c (ltb (16 * u + l) n) refl }
     where
       go : (u l : ℕ) → u < 8 → l < 16 → m ≤ 16 * u + l → 16 * u + l < o → (c : Bool) → ltb (16 * u + l) n ≡ c → SureAt v w u l b

@@ -1,10 +1,10 @@
 // The Wiener step on two tiles side by side, in double, by quads: rows u and 8 + u of lanes l and 16 + l hold bins (u, v) and (16 − u, v) of a plane, with
 // v = l / 2, and what comes of them is folded for the inverse. A turn of a loop is a quad, and the compiler does two at a time. Each loop answers whether all of
 // its quotients are certain.
-use bins::double::both;
 use bins::double::gains;
 use bins::double::real_gain;
 use bins::double::sure;
+use bins::double::sure_lanes;
 use quads::quad_at;
 use quads::set_quad;
 ghost use mathlib.Core.Path.{_≡_};
@@ -16,7 +16,9 @@ ghost use Rattle.sequences.specs.Tab.{tab};
 ghost use Rattle.spectrum.specs.Magnitudes.{noiseMost};
 ghost use Rattle.spectrum.specs.Spectrum.{transposed, spread, gainRe, gainIm};
 ghost use Rattle.spectrum.specs.Pairs.{sideBySide, either, Paired, doubles, Binned};
-ghost use Rattle.wiener.specs.DoubleQuads.{Shrunk};
+ghost use Rattle.sequences.specs.Grid.{cell};
+ghost use Rattle.quads.specs.Lanes.{quadAt, Lanes};
+ghost use Rattle.wiener.specs.DoubleQuads.{newQuad, Shrunk};
 
 // 1 + 2^-51
 const SLIGHTLY_MORE: f64 = 1.0000000000000004440892098500626;
@@ -62,27 +64,36 @@ fn left(b: &mut [[f64; 32]; 16], v: &[f64; 16], w: &[f64; 16]) -> bool
     s
 }
 
-// The quads at u and v = 0: bins (u, 0) and (u, 8), and their conjugates.
+// The quad at u and v = 0 in lane l: bins (u, 0) and (u, 8), and their conjugates. Answers B's quad.
+fn top_lane(b: &mut [[f64; 32]; 16], v: &[f64; 16], w: &[f64; 16], u: usize, l: usize) -> [f64; 4]
+    requires { ⌜ record { u-some : 0 < u; u-below : u < 8; l-below : l < 2; paired : Paired nan (now b) } ⌝ }
+    ensures { λ r. ⌜ (r ≡ quadAt (cell nan (now (b .entry))) u l) × (Lanes (newQuad (now (v .entry)) (now (w .entry))) (16 * u + l) (16 * u + l + 1) (now (b .entry)) (now (b .exit))) ⌝ }
+{
+    let q = quad_at(&*b, u, l);
+    let a = v[l];
+    let c = w[l];
+    let g = gains(a, c, q[0], q[1]);
+    let h = gains(a, c, q[2], q[3]);
+    set_quad(
+        &mut *b,
+        u,
+        l,
+        [g[0] + g[0], g[1] + g[1], h[0] + h[0], h[1] + h[1]],
+    );
+    q
+}
+
+// Both quads at u and v = 0. They are asked together, so that the compiler takes two lanes at a time here too.
 fn top(b: &mut [[f64; 32]; 16], v: &[f64; 16], w: &[f64; 16], u: usize) -> bool
     requires { ⌜ record { u-some : 0 < u; u-below : u < 8; paired : Paired nan (now b) } ⌝ }
     ensures { λ r. ⌜ Shrunk r (now (v .entry)) (now (w .entry)) (16 * u) (16 * u + 2) (now (b .entry)) (now (b .exit)) ⌝ }
 {
-    let mut s = true;
-    for l in 0..2 {
-        let q = quad_at(&*b, u, l);
-        let a = v[l];
-        let c = w[l];
-        let g = gains(a, c, q[0], q[1]);
-        let h = gains(a, c, q[2], q[3]);
-        s = sure(sure(s, a, c, q[0], q[1]), a, c, q[2], q[3]);
-        set_quad(
-            &mut *b,
-            u,
-            l,
-            [g[0] + g[0], g[1] + g[1], h[0] + h[0], h[1] + h[1]],
-        );
-    }
-    s
+    let q = top_lane(&mut *b, v, w, u, 0);
+    let p = top_lane(&mut *b, v, w, u, 1);
+    let a = [v[0], v[1]];
+    let c = [w[0], w[1]];
+    let s = sure_lanes(true, a, c, [q[0], p[0]], [q[1], p[1]]);
+    sure_lanes(s, a, c, [q[2], p[2]], [q[3], p[3]])
 }
 
 // The other quads at u.
@@ -132,12 +143,25 @@ pub fn filter(b: &mut [[f64; 32]; 16], first: u64, second: u64) -> bool
 {
     let v = alternating(first as f64, second as f64);
     let w = alternating(first as f64 * SLIGHTLY_MORE, second as f64 * SLIGHTLY_MORE);
-    let noisy = both(first > 0, second > 0);
-    let mut s = both(noisy, corner(&mut *b, &v, &w));
-    s = both(s, left(&mut *b, &v, &w));
-    for u in 1..8 {
-        s = both(s, top(&mut *b, &v, &w, u));
-        s = both(s, inner(&mut *b, &v, &w, u));
+    if first == 0 {
+        return false;
     }
-    s
+    if second == 0 {
+        return false;
+    }
+    if !corner(&mut *b, &v, &w) {
+        return false;
+    }
+    if !left(&mut *b, &v, &w) {
+        return false;
+    }
+    for u in 1..8 {
+        if !top(&mut *b, &v, &w, u) {
+            return false;
+        }
+        if !inner(&mut *b, &v, &w, u) {
+            return false;
+        }
+    }
+    true
 }

@@ -1,5 +1,5 @@
 -- The tests from i on say what all of them say: those before i are 0.
-use Rattle.algebra.specs.Prelude.{_≡_, refl, sym, ap, _∙_, List, _∷_, ℕ, zero, suc, _+_, _-_, _≤_, _<_, arith, needs, length, getD, drop}
+use Rattle.algebra.specs.Prelude.{_≡_, refl, sym, _∙_, List, ℕ, zero, suc, _+_, _-_, _≤_, _<_, arith, needs, length, getD, drop}
 use native.Mathlib.Numerals.{add-one}
 use lib.ListN.{drop-of-length-le}
 use lib.Seq.{drop-cons}

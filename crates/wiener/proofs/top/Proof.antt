@@ -1,46 +1,38 @@
--- `wiener::top`: two bins a turn, each with its conjugate.
-use Rattle.algebra.specs.Prelude.{refl, _+_, _-_, _*_, _≤_, arith, needs, now}
-use Rattle.wiener.proofs.NewQuads.{new-top, sure-top}
-use Rattle.wiener.proofs.SureLaws.{shrunk-start, shrunk-at, shrunk-turn}
-use Rattle.wiener.specs.DoubleQuads.{Shrunk}
+-- `wiener::top`: two lanes one after the other, asked together.
+use Rattle.algebra.specs.Prelude.{_≡_, refl, subst, List, ℕ, _+_, _*_, arith, needs, now, lit<}
+use lib.Ieee.{Float}
+use Rattle.quads.specs.Lanes.{Lanes}
+use Rattle.quads.specs.LaneLaws.{lanes-at, lanes-join}
+use Rattle.wiener.proofs.NewQuads.{sure-top}
+use Rattle.wiener.proofs.SureLaws.{sure-one, sure-join, shrunk-at}
 use Rattle.wiener.proofs.top.Statement.{statement}
 use Rattle.wiener.proofs.top.Tie as tie
 
-abbrev Inv-loop : tie.InvT-loop
-Inv-loop b₀ v w u s₀ l₀ b s l = (l ≤ 2) × (Shrunk s v w (16 * u) (16 * u + l) b₀ b)
+top-lane-requires-2 : tie.Need-top-lane-requires-2
+top-lane-requires-2 c κs = record { u-some = omega arith; u-below = omega arith; l-below = lit< tt; paired = c .before .top-lane .ensures .1 .paired }
 
-abbrev μ-loop : tie.MeasureT-loop
-μ-loop b₀ v w u s₀ l₀ b s l = 2 - l
+lanes-between : {f : (u l : ℕ) → List Float → List Float} {m n o p : ℕ} {b r : List (List Float)} → Lanes f m n b r → m ≡ o → n ≡ p → Lanes f o p b r
+lanes-between {f} {n = n} {b = b} {r} z d e = lanes-at (subst (λ m. Lanes f m n b r) d z) e
 
-loop-holds : tie.Need-loop-holds Inv-loop μ-loop
-loop-holds c = (omega arith, shrunk-at (shrunk-start (16 * c .args .u) (c .pre .paired)) (omega arith))
-
-set-quad-requires : tie.Need-set-quad-requires Inv-loop μ-loop
-set-quad-requires c κs =
-    let g = c .before .before .before .before in
-    let p = g .before .before .before .before .before .before in
-    record { u-below = p .before .pre .u-below; l-below = omega arith; paired = p .loop .inv .1 .new .paired }
-
-loop-again : tie.Need-loop-again Inv-loop μ-loop
-loop-again c =
-    let two = c .before .before in
-    let one = two .before in
-    let h = one .before in
-    let g = h .before in
-    let q = g .before .before .before in
-    let p = q .before .before .before in
-    let a = p .before in
+returns : tie.Need-returns
+returns c =
+    let one = c .before in
+    let p = one .before .before .before .before .before in
+    let q = p .before .before in
+    let a = q .before .before in
     let v = now (a .args .v) in
     let w = now (a .args .w) in
-    let l = p .loop .l in (
-      omega arith,
-      shrunk-at (shrunk-turn (p .loop .inv .1) (omega arith) (a .pre .u-below) (omega arith) refl (c .set-quad .ensures) (new-top v w (q .quad-at .ensures) (a .args .u) l (a .pre .u-some) (omega arith) (g .gains .ensures) (h .gains2 .ensures))
-          (λ e. let y = two .sure2 .ensures e in let x = one .sure .ensures (y .0) in (x .0, sure-top v w (q .quad-at .ensures) (a .args .u) l (a .pre .u-some) (omega arith) (x .1) (y .1)))) (omega arith),
-    )
-
-returns : tie.Need-returns Inv-loop μ-loop
-returns c = shrunk-at (c .before .loop .inv .1) (omega arith)
+    let u = a .args .u in
+    let some = a .pre .u-some in
+    let first = lanes-between {o = 16 * u} {p = 16 * u + 1} (q .top-lane .ensures .1) (omega arith) (omega arith) in
+    shrunk-at {n = 16 * u + 1 + 1}
+    (record {
+      new = lanes-join (omega arith) (omega arith) first (p .top-lane2 .ensures .1);
+      sure = λ e. let y = c .sure-lanes2 .ensures e in
+          let x = one .sure-lanes .ensures (y .0) in
+          sure-join first (sure-one {u = u} {l = 0} (a .pre .u-below) (lit< tt) (omega arith) (sure-top v w (q .top-lane .ensures .0) u 0 some (lit< tt) (x .1) (y .1)))
+          (sure-one {u = u} {l = 1} (a .pre .u-below) (lit< tt) refl (sure-top v w (p .top-lane2 .ensures .0) u 1 some (lit< tt) (x .2) (y .2)));
+    }) (omega arith)
 
 pub top-spec : {M : Type 1} → statement M
-top-spec = tie.close (tie.spec
-    Inv-loop μ-loop loop-holds (λ c κs. search needs) (λ c. search needs) (λ c. search needs) (λ c. search needs) (λ c. search needs) (λ c. search needs) (λ c. search needs) (λ c κs. search needs) (λ c. search needs) (λ c. search needs) (λ c κs. search needs) (λ c. search needs) (λ c. search needs) (λ c κs. search needs) (λ c. search needs) (λ c. search needs) (λ c κs. search needs) (λ c. search needs) (λ c. search needs) (λ c. search needs) (λ c. search needs) (λ c. search needs) (λ c. search needs) (λ c. search needs) (λ c. search needs) set-quad-requires (λ c. search needs) (λ c. search needs) loop-again returns)
+top-spec = tie.close (tie.spec (λ c κs. search needs) top-lane-requires-2 (λ c. search needs) (λ c. search needs) (λ c. search needs) (λ c. search needs) (λ c. search needs) (λ c. search needs) (λ c. search needs) (λ c. search needs) (λ c κs. search needs) (λ c. search needs) (λ c. search needs) (λ c. search needs) (λ c. search needs) (λ c κs. search needs) returns)

@@ -1,5 +1,5 @@
 -- −1−z is such a distance where z is negative.
-use Rattle.algebra.specs.Prelude.{_≡_, refl, ap, sym, subst, _∙_, true, false, ℕ, _<_, arith, T, ℤ, pos, negsuc, natAbs, _-ℤ_, w64, SFits}
+use Rattle.algebra.specs.Prelude.{_≡_, refl, sym, subst, true, false, ℕ, _<_, arith, T, ℤ, pos, negsuc, natAbs, _-ℤ_, w64, SFits}
 use lib.Signed.{mag, ltZ, nonNeg}
 use mir.Facts.{toZ-ofZ, fits-natAbs}
 use borrow.Author.Tests.{ltb-true}

@@ -1,5 +1,5 @@
 -- −1−k and k read the same index.
-use Rattle.algebra.specs.Prelude.{_≡_, refl, sym, ap, _∙_, ℕ, _*_, _%_, needs, ℤ, pos, negsuc, toZ-ofZ}
+use Rattle.algebra.specs.Prelude.{_≡_, refl, ap, _∙_, ℕ, _*_, _%_, needs, ℤ, pos, negsuc, toZ-ofZ}
 use lib.Signed.{mag}
 use Rattle.geometry.specs.Read.{mirrored, inside}
 use Rattle.geometry.proofs.read.inside.Statement.{statement}

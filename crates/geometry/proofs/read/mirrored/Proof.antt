@@ -1,5 +1,5 @@
 -- In the first period the place is k itself; beyond it, what the remainder leaves.
-use Rattle.algebra.specs.Prelude.{ap, sym, _∙_, arith, needs}
+use Rattle.algebra.specs.Prelude.{sym, _∙_, arith, needs}
 use native.Mathlib.Nat.{mod-lt}
 use Rattle.geometry.specs.ReadLaws.{first-period}
 use Rattle.geometry.proofs.read.mirrored.Statement.{statement}

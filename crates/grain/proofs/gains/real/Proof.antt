@@ -1,0 +1,32 @@
+-- The definition's own test.
+use Rattle.algebra.specs.Prelude.{arith, needs, w64, _-_}
+use borrow.Author.Tests.{lt-ltb, le-ltb}
+use Rattle.sequences.specs.Grid.{cell}
+use Rattle.lines.specs.Held.{held-is, held-most}
+use Rattle.spectrum.specs.Spectrum.{realOf}
+use Rattle.grain.proofs.gains.real.Statement.{statement}
+use Rattle.grain.proofs.gains.real.Tie as tie
+
+-- The definition's own test.
+
+returns : tie.Need-returns
+unfolding realOf cell
+returns c =
+    let s = c .before .before in
+    let u = s .args .u in
+    let m = s .pre .places-most .line u in
+    rw (lt-ltb u 9 (omega arith)) (held-is w64 m (s .args .l) tt, held-most w64 m (s .args .l) tt)
+
+returns-2 : tie.Need-returns-2
+unfolding realOf cell
+returns-2 c =
+    let s = c .before .before in
+    let u = s .args .u in
+    let m = s .pre .places-most .line (16 - u) in
+    rw (le-ltb u 9 (omega arith)) (held-is w64 m (s .args .l) tt, held-most w64 m (s .args .l) tt)
+
+pub real-spec : {M : Type 1} → statement M
+real-spec = tie.close (tie.spec
+    (λ c. search needs) (λ c. search needs) (λ c. search needs) (λ c. search needs) returns
+    (λ c. search needs) (λ c. search needs) (λ c. search needs) (λ c. search needs)
+    (λ c. search needs) returns-2)

@@ -1,0 +1,18 @@
+-- Of the first plane or of the second.
+use Rattle.algebra.specs.Prelude.{_%_, needs}
+use borrow.Author.Tests.{eq-eqb, ne-eqb}
+use Rattle.grain.proofs.lanes.lane.Statement.{statement}
+use Rattle.grain.proofs.lanes.lane.Tie as tie
+
+returns : tie.Need-returns
+returns c =
+    rw (eq-eqb (c .before .before .args .l % 2) 0 (c .before .if1 .taken))
+
+returns-2 : tie.Need-returns-2
+returns-2 c =
+    rw (ne-eqb (c .before .before .args .l % 2) 0 (c .before .if1 .left))
+
+pub lane-spec : {M : Type 1} → statement M
+lane-spec = tie.close (tie.spec
+    (λ c. search needs) (λ c. search needs) returns (λ c. search needs) (λ c. search needs)
+    returns-2)

@@ -1,0 +1,25 @@
+-- Each step fits 32 bits, and the low part 16.
+use Rattle.algebra.specs.Prelude.{ap, _∙_, w32}
+use Rattle.lines.specs.Held.{number-is, number-most}
+use Rattle.grain.specs.Steps.{lowOf}
+use Rattle.grain.proofs.SplitLaws.{product-fits, difference-fits, low-fits, low-is}
+use Rattle.grain.proofs.parts.low.Statement.{statement}
+use Rattle.grain.proofs.parts.low.Tie as tie
+
+-- Each step fits 32 bits, and the low part 16.
+
+mul-result : tie.Need-mul-result
+mul-result c =
+    product-fits (number-most w32 (c .pre) tt)
+
+sub-result : tie.Need-sub-result
+sub-result c =
+    difference-fits (number-most w32 (c .pre) tt)
+
+returns : tie.Need-returns
+returns c =
+    low-is (number-most w32 (c .pre) tt) ∙ ap lowOf (number-is w32 (c .pre) tt)
+
+pub low-spec : {M : Type 1} → statement M
+low-spec = tie.close (tie.spec
+    mul-result sub-result (λ c. low-fits (number-most w32 (c .pre) tt)) returns)

@@ -1,0 +1,3 @@
+pub mod Filtering
+pub mod FilteringLaws
+pub mod Steps

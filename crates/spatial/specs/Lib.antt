@@ -1,0 +1,11 @@
+pub mod Lengths
+pub mod Linear
+pub mod Bessel
+pub mod Bessel16
+pub mod Transforms
+pub mod Wiener
+pub mod Merged
+pub mod Closeness
+pub mod Side16
+pub mod PlainLaws
+pub mod MergedClose
