@@ -28,8 +28,8 @@ uint64_t station_length(uint64_t width, uint64_t height, uint64_t count, uint64_
 uint64_t station_noise(double shot, double read, uint64_t strength, uint64_t root);
 
 /* The number of the refusal with which reading a burst file of these bytes would end, or 0: every test of file reading but 4, the length
-   of the lent samples. `bytes` points to `length` bytes, and may be NULL where `length` is 0. */
-uint64_t station_check(const uint8_t *bytes, size_t length);
+   of the lent samples. `file` points to `file_length` bytes, and may be NULL where that is 0. */
+uint64_t station_check(const uint8_t *file, size_t file_length);
 
 #ifdef __cplusplus
 }
