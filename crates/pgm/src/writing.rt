@@ -12,7 +12,7 @@ use refusals::OUTPUT_LENGTH;
 use refusals::SIZE;
 use refusals::first;
 
-// Tests 1, 6, 16 and 11.
+// Tests 1, 6, 16 and 11. The frame's samples are looked at only where its length is right.
 fn write_refusal(width: usize, height: usize, frame: &[u16], bytes: &[u8]) -> u64
     ensures { λ r. ⌜ r ≡ writeRefusal width height (now (frame .entry)) (now (bytes .entry)) ⌝ }
 {
@@ -21,8 +21,11 @@ fn write_refusal(width: usize, height: usize, frame: &[u16], bytes: &[u8]) -> u6
     }
     let lent = length_refusal(OUTPUT_LENGTH, width * height, frame.len());
     let room = length_refusal(BYTE_LENGTH, file_length(width, height), bytes.len());
-    let above = frame_refusal(frame);
-    first(&[lent, room, above])
+    let lengths = first(&[lent, room]);
+    if lengths != 0 {
+        return lengths;
+    }
+    frame_refusal(frame)
 }
 
 // Writes the file of a frame over all of the bytes. Nothing is stored before every test has passed.

@@ -1,10 +1,11 @@
--- The size, then the three other tests in their order.
-use Rattle.algebra.specs.Prelude.{_≡_, true, sym, ap, ap₂, _∙_, [], _∷_, arith, needs, length}
+-- The size, then the two lengths, then the samples.
+use Rattle.algebra.specs.Prelude.{_≡_, true, not, sym, ap, ap₂, _∙_, [], _∷_, _*_, arith, needs, length}
 use borrow.Author.Tests.{not-true, not-false}
-use Rattle.refusals.specs.Numbers.{byteLength}
-use Rattle.refusals.specs.Tests.{first}
+use Rattle.refusals.specs.Numbers.{size, outputLength, byteLength}
+use Rattle.refusals.specs.Tests.{refuse, first}
+use Rattle.refusals.specs.TestLaws.{stops, goes, lone}
 use Rattle.geometry.specs.Shape.{lengthRefusal}
-use Rattle.pgm.specs.Form.{sizesAllowed}
+use Rattle.pgm.specs.Form.{fileLength, sizesAllowed}
 use Rattle.pgm.specs.Writing.{writeRefusal}
 use Rattle.pgm.specs.FormLaws.{sized, area-most}
 use Rattle.pgm.proofs.writing.write_refusal.Statement.{statement}
@@ -21,23 +22,36 @@ allowed c = sym (c .before .sizes-allowed .ensures) ∙ not-false _ (c .if1 .lef
 mul-length-refusal : tie.Need-mul-length-refusal
 mul-length-refusal c = omega (arith, area-most (sized (allowed c)))
 
-file-length-requires : tie.Need-file-length-requires
-file-length-requires c κs = sized (allowed (c .before))
-
-returns-2 : tie.Need-returns-2
-unfolding writeRefusal first
-returns-2 c =
-    let above = c .before .before in
-    let room = above .before in
+-- the tests before that of the samples
+lengths : (c : tie.After-first) →
+    let args = c .before .before .before .before .before .before .before .before .before .args in
+    c .first .result ≡
+    first
+    (refuse size (not (sizesAllowed (args .width) (args .height)))
+    ∷ lengthRefusal outputLength (args .width * args .height) (length (args .frame .now))
+    ∷ lengthRefusal byteLength (fileLength (args .width) (args .height)) (length (args .bytes .now))
+    ∷ [])
+unfolding first
+lengths c =
+    let room = c .before .before in
     let long = room .before in
     let lent = long .before in
     let bytes = lent .before .before .before .before .before .args .bytes .now in
     rw (allowed (lent .before))
     (c .first .ensures
-    ∙ ap₂ (λ a tests. first (a ∷ tests)) (lent .length-refusal .ensures)
-    (ap₂ (λ a b. a ∷ b ∷ []) (room .length-refusal2 .ensures ∙ ap (λ n. lengthRefusal byteLength n (length bytes)) (long .file-length .ensures .0)) (above .frame-refusal .ensures)))
+    ∙ ap₂ (λ a b. first (a ∷ b ∷ [])) (lent .length-refusal .ensures)
+    (room .length-refusal2 .ensures ∙ ap (λ n. lengthRefusal byteLength n (length bytes)) (long .file-length .ensures .0)))
+
+returns-2 : tie.Need-returns-2
+unfolding writeRefusal
+returns-2 c = stops _ _ (lengths (c .before)) (c .if2 .taken)
+
+returns-3 : tie.Need-returns-3
+unfolding writeRefusal
+returns-3 c = goes _ _ (lengths (c .before .before)) (c .before .if2 .left) (c .frame-refusal .ensures ∙ lone _)
 
 pub write-refusal-spec : {M : Type 1} → statement M
 write-refusal-spec = tie.close (tie.spec
-    (λ c κs. search needs) returns mul-length-refusal (λ c κs. search needs) file-length-requires
-    (λ c κs. search needs) (λ c κs. search needs) (λ c. search needs) (λ c κs. search needs) returns-2)
+    (λ c κs. search needs) returns mul-length-refusal (λ c κs. search needs)
+    (λ c κs. sized (allowed (c .before))) (λ c κs. search needs) (λ c. search needs)
+    (λ c κs. search needs) returns-2 (λ c κs. search needs) returns-3)

@@ -1,0 +1,197 @@
+/* Lengths that are told wrongly: pages BURST DNG. Every buffer of every call ends at a page that can be neither read nor written, and is told one element too long, twice
+   as long, and as long as can be told, alone and with all others. A call must refuse it by its number, and leave every buffer as it was, before it touches a word
+   that is not there. A DNG file may go on after its last part, so there only the end of the call is asked. */
+#define _DEFAULT_SOURCE
+#include "stacker.h"
+#include "station.h"
+
+#include <signal.h>
+#include <stdio.h>
+#include <stdlib.h>
+#include <string.h>
+#include <sys/mman.h>
+#include <unistd.h>
+
+enum { W = 64, H = 64, N = 5, DNG_W = 128, VECTORS_LONG = (N - 1) * 2 * (W / 16 + 1) * (H / 16 + 1) };
+
+/* The buffers; a call names those that it takes. */
+enum { SAMPLES, VECTORS, OUTPUT, WORK, BYTES, BURST_FILE, DNG_FILE, DNG_FRAME, BUFFERS };
+static const size_t element[BUFFERS] = { 2, 4, 2, 8, 1, 1, 1, 2 };
+static size_t length[BUFFERS] = { N * W * H, VECTORS_LONG, W * H, 2 * W * H, 0, 0, 0, DNG_W * H };
+static uint8_t *lent[BUFFERS], *held[BUFFERS];
+
+static const stacker_burst burst = { W, H, N, 0, W, { 0, 0, 0, 0 } };
+static const stacker_frames frames = { W, H, N, W, { 0, 0, 0, 0 } }, dng_frames = { DNG_W, H, 1, DNG_W, { 0, 0, 0, 0 } };
+static const stacker_noise noise = { 3.0, 100.0 };
+static const stacker_iso_noise iso = { 400, 1.0, 10.0 };
+static const stacker_tuning tuning = { 512, 0 };
+
+#define SAMPLES_READ (const uint16_t *)lent[SAMPLES], told[SAMPLES]
+#define VECTORS_READ (const int32_t *)lent[VECTORS], told[VECTORS]
+#define WRITTEN (uint16_t *)lent[OUTPUT], told[OUTPUT], (int64_t *)lent[WORK], told[WORK]
+#define FOUND (int32_t *)lent[VECTORS], told[VECTORS], WRITTEN
+
+static uint64_t align(const size_t *told)
+{
+    return stacker_align(burst, SAMPLES_READ, (int32_t *)lent[VECTORS], told[VECTORS], (int64_t *)lent[WORK], told[WORK]).refusal;
+}
+
+static uint64_t merge(const size_t *told) { return stacker_merge(burst, noise, tuning, SAMPLES_READ, VECTORS_READ, WRITTEN); }
+static uint64_t merge_iso(const size_t *told) { return stacker_merge_iso(burst, iso, tuning, SAMPLES_READ, VECTORS_READ, WRITTEN); }
+static uint64_t run(const size_t *told) { return stacker_run(burst, noise, tuning, SAMPLES_READ, FOUND).refusal; }
+static uint64_t run_iso(const size_t *told) { return stacker_run_iso(burst, iso, tuning, SAMPLES_READ, FOUND).refusal; }
+static uint64_t sharpest(const size_t *told) { return stacker_run_sharpest(frames, noise, tuning, SAMPLES_READ, FOUND).alignment.refusal; }
+static uint64_t sharpest_iso(const size_t *told) { return stacker_run_sharpest_iso(frames, iso, tuning, SAMPLES_READ, FOUND).alignment.refusal; }
+
+static uint64_t read_file(const size_t *told)
+{
+    return stacker_read_file(lent[BURST_FILE], told[BURST_FILE], (uint16_t *)lent[SAMPLES], told[SAMPLES]).refusal;
+}
+
+static uint64_t write_pgm(const size_t *told)
+{
+    return stacker_write_pgm(W, H, (const uint16_t *)lent[OUTPUT], told[OUTPUT], lent[BYTES], told[BYTES]);
+}
+
+static uint64_t read_pgm(const size_t *told)
+{
+    return stacker_read_pgm(lent[BYTES], told[BYTES], (uint16_t *)lent[OUTPUT], told[OUTPUT]).refusal;
+}
+
+static uint64_t read_dng(const size_t *told)
+{
+    return stacker_read_dng(lent[DNG_FILE], told[DNG_FILE], dng_frames, 0, (uint16_t *)lent[DNG_FRAME], told[DNG_FRAME]).refusal;
+}
+
+static uint64_t check(const size_t *told) { return station_check(lent[BURST_FILE], told[BURST_FILE]); }
+
+/* A call, and the number that refuses a wrong length of each buffer that it takes; NOT_TAKEN where it takes none, ANY where the length may be longer. */
+enum { NOT_TAKEN = 0, ANY = 1000 };
+static const struct {
+    const char *name;
+    uint64_t (*call)(const size_t *told);
+    uint64_t number[BUFFERS];
+} calls[] = {
+    { "stacker_align", align, { [SAMPLES] = 4, [VECTORS] = 5, [WORK] = 7 } },
+    { "stacker_merge", merge, { [SAMPLES] = 4, [VECTORS] = 5, [OUTPUT] = 6, [WORK] = 7 } },
+    { "stacker_merge_iso", merge_iso, { [SAMPLES] = 4, [VECTORS] = 5, [OUTPUT] = 6, [WORK] = 7 } },
+    { "stacker_run", run, { [SAMPLES] = 4, [VECTORS] = 5, [OUTPUT] = 6, [WORK] = 7 } },
+    { "stacker_run_iso", run_iso, { [SAMPLES] = 4, [VECTORS] = 5, [OUTPUT] = 6, [WORK] = 7 } },
+    { "stacker_run_sharpest", sharpest, { [SAMPLES] = 4, [VECTORS] = 5, [OUTPUT] = 6, [WORK] = 7 } },
+    { "stacker_run_sharpest_iso", sharpest_iso, { [SAMPLES] = 4, [VECTORS] = 5, [OUTPUT] = 6, [WORK] = 7 } },
+    { "stacker_read_file", read_file, { [SAMPLES] = 4, [BURST_FILE] = 15 } },
+    { "stacker_write_pgm", write_pgm, { [OUTPUT] = 6, [BYTES] = 16 } },
+    { "stacker_read_pgm", read_pgm, { [OUTPUT] = 6, [BYTES] = 17 } },
+    { "stacker_read_dng", read_dng, { [DNG_FILE] = ANY, [DNG_FRAME] = 4 } },
+    { "station_check", check, { [BURST_FILE] = 15 } },
+};
+
+/* what is being tried, for the handler of a fault */
+static char trying[128];
+
+static void fault(int number)
+{
+    (void)number;
+    ssize_t written = write(2, trying, strlen(trying));
+    _exit(written < 0 ? 3 : 1);
+}
+
+/* `size` bytes that end where a page begins that can be neither read nor written */
+static uint8_t *at_the_edge(size_t size)
+{
+    size_t page = (size_t)sysconf(_SC_PAGESIZE), whole = (size + page - 1) / page * page;
+    uint8_t *data = mmap(NULL, whole + page, PROT_READ | PROT_WRITE, MAP_PRIVATE | MAP_ANONYMOUS, -1, 0);
+    if (data == MAP_FAILED || mprotect(data + whole, page, PROT_NONE) != 0)
+        exit(2);
+    return data + whole - size;
+}
+
+static void fill(int buffer, const char *path)
+{
+    FILE *file = fopen(path, "rb");
+    if (file == NULL || fseek(file, 0, SEEK_END) != 0)
+        exit(2);
+    length[buffer] = (size_t)ftell(file);
+    lent[buffer] = at_the_edge(length[buffer]);
+    rewind(file);
+    if (fread(lent[buffer], 1, length[buffer], file) != length[buffer])
+        exit(2);
+    fclose(file);
+}
+
+static void restore(void)
+{
+    for (int i = 0; i < BUFFERS; i++)
+        memcpy(lent[i], held[i], element[i] * length[i]);
+}
+
+/* The call refuses the lengths with this number and leaves every buffer as it was. */
+static void refused(size_t c, const size_t *told, uint64_t number)
+{
+    uint64_t answer = calls[c].call(told);
+    int same = 1;
+    for (int i = 0; i < BUFFERS; i++)
+        same &= memcmp(lent[i], held[i], element[i] * length[i]) == 0;
+    if (number != ANY && (answer != number || !same)) {
+        fprintf(stderr, "%sanswered %d\n", trying, (int)answer);
+        exit(1);
+    }
+    restore();
+}
+
+/* Each buffer alone told too long, then all from that one on; how many lengths were tried. */
+static int wrong_lengths(size_t c)
+{
+    int tried = 0;
+    for (int i = 0; i < BUFFERS; i++) {
+        const size_t longer[] = { length[i] + 1, 2 * length[i], SIZE_MAX };
+        for (size_t k = 0; k < 3 && calls[c].number[i] != NOT_TAKEN; k++) {
+            size_t told[BUFFERS];
+            memcpy(told, length, sizeof told);
+            told[i] = longer[k];
+            snprintf(trying, sizeof trying, "tests: pages: %s: buffer %d told %zu for %zu: ", calls[c].name, i, longer[k], length[i]);
+            refused(c, told, calls[c].number[i]);
+            for (int j = 0; j < BUFFERS; j++)
+                told[j] = k == 0 ? length[j] + 1 : k == 1 ? 2 * length[j] : SIZE_MAX;
+            strcat(trying, "all: ");
+            refused(c, told, ANY);
+            tried++;
+        }
+    }
+    return tried;
+}
+
+int main(int count, char **names)
+{
+    if (count != 3)
+        return 2;
+    signal(SIGSEGV, fault);
+    signal(SIGBUS, fault);
+    fill(BURST_FILE, names[1]);
+    fill(DNG_FILE, names[2]);
+    length[BYTES] = stacker_pgm_length(W, H);
+    for (int i = 0; i < BUFFERS; i++) {
+        if (lent[i] == NULL)
+            lent[i] = at_the_edge(element[i] * length[i]);
+        held[i] = malloc(element[i] * length[i]);
+        if (held[i] == NULL)
+            return 2;
+    }
+    if (stacker_write_pgm(W, H, (const uint16_t *)lent[OUTPUT], W * H, lent[BYTES], length[BYTES]) != 0)
+        return 1;
+    for (int i = 0; i < BUFFERS; i++)
+        memcpy(held[i], lent[i], element[i] * length[i]);
+
+    int tried = 0;
+    for (size_t c = 0; c < sizeof calls / sizeof *calls; c++) {
+        snprintf(trying, sizeof trying, "tests: pages: %s: right lengths: ", calls[c].name);
+        if (calls[c].call(length) != 0) {
+            fprintf(stderr, "%srefused\n", trying);
+            return 1;
+        }
+        restore();
+        tried += wrong_lengths(c);
+    }
+    printf("tests: pages: %d wrong lengths of %d calls refused, no word read or written behind a buffer\n", tried, (int)(sizeof calls / sizeof *calls));
+    return 0;
+}
