@@ -317,7 +317,7 @@ static inline const char *stacker_refusal_text(uint64_t number)
    strength 0 asks for no merging: either gives the reference back where the spatial s is 0 too, which asks for no filter. Black levels of 0 say that
    black is already subtracted. A field that a later version adds is refused at zero, or means there what this version does.
 
-   THE MACHINE. A call allocates nothing and needs less than 40 KB of stack. It keeps nothing between calls and has no state: threads may call at once,
-   each with vectors, output and work area of its own that no other thread touches meanwhile. The floating-point environment must be the usual one: rounding
-   to nearest, subnormal numbers kept. */
+   THE MACHINE. A call allocates nothing. No proof bounds its stack: the tests fail where a call takes more than 40 KB. It keeps nothing between calls and has
+   no state: threads may call at once, each with vectors, output and work area of its own that no other thread touches meanwhile. The floating-point environment
+   must be the usual one: rounding to nearest, subnormal numbers kept. */
 #endif

@@ -33,6 +33,6 @@ mergeLengths s samples vectors output work =
 unfoldable pub alignShapeTests : Shape → (reference samples vectors work : ℕ) → List ℕ
 alignShapeTests s reference samples vectors work = frameTests s reference ++ alignLengths s samples vectors work
 
--- "merge 1 to 12; run 1 to 11, then 12": 1 to 7 of them
+-- "merge 1 to 12; run 1 to 11": 1 to 7 of them
 unfoldable pub mergeShapeTests : Shape → (reference samples vectors output work : ℕ) → List ℕ
 mergeShapeTests s reference samples vectors output work = frameTests s reference ++ mergeLengths s samples vectors output work
