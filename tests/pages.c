@@ -139,7 +139,7 @@ static void refused(size_t c, const size_t *told, uint64_t number)
     restore();
 }
 
-/* Each buffer alone told too long, then all from that one on; how many lengths were tried. */
+/* Each buffer alone told too long, and with all others; how many lengths were refused by their number. */
 static int wrong_lengths(size_t c)
 {
     int tried = 0;
@@ -155,7 +155,7 @@ static int wrong_lengths(size_t c)
                 told[j] = k == 0 ? length[j] + 1 : k == 1 ? 2 * length[j] : SIZE_MAX;
             strcat(trying, "all: ");
             refused(c, told, ANY);
-            tried++;
+            tried += calls[c].number[i] != ANY;
         }
     }
     return tried;
