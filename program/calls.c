@@ -1,0 +1,62 @@
+/* The proved calls as a request asks for them: the one place that fills in a tuning. */
+#include "program.h"
+
+#include <inttypes.h>
+#include <string.h>
+
+static stacker_tuning tuning_of(const request *r)
+{
+    stacker_tuning tuning = { .strength = r->strength, .spatial = r->spatial };
+    return tuning;
+}
+
+static stacker_iso_noise iso_noise_of(const request *r)
+{
+    stacker_iso_noise noise = { .iso = r->iso, .shot = r->noise.shot, .read = r->noise.read };
+    return noise;
+}
+
+void align_burst(job *j, const request *r)
+{
+    (void)r;
+    progress("aligning %" PRIu64 " frames of %" PRIu64 " by %" PRIu64 " ", j->burst.count, j->burst.width, j->burst.height);
+    j->answer = stacker_align(j->burst, j->samples, j->samples_length, j->vectors, j->vectors_length, j->work, j->work_length);
+    accepted("align", j->answer.refusal, "");
+}
+
+static void run_sharpest(job *j, const request *r)
+{
+    const stacker_burst *b = &j->burst;
+    stacker_frames frames = { .width = b->width, .height = b->height, .count = b->count, .row_length = b->row_length };
+    memcpy(frames.black, b->black, sizeof frames.black);
+    stacker_choice choice = r->iso != 0
+        ? stacker_run_sharpest_iso(frames, iso_noise_of(r), tuning_of(r), j->samples, j->samples_length, j->vectors, j->vectors_length, j->merged,
+            j->area, j->work, j->work_length)
+        : stacker_run_sharpest(frames, r->noise, tuning_of(r), j->samples, j->samples_length, j->vectors, j->vectors_length, j->merged, j->area,
+            j->work, j->work_length);
+    j->answer = choice.alignment;
+    j->burst.reference = choice.reference;
+}
+
+static void run(job *j, const request *r)
+{
+    j->answer = r->iso != 0
+        ? stacker_run_iso(j->burst, iso_noise_of(r), tuning_of(r), j->samples, j->samples_length, j->vectors, j->vectors_length, j->merged, j->area,
+            j->work, j->work_length)
+        : stacker_run(j->burst, r->noise, tuning_of(r), j->samples, j->samples_length, j->vectors, j->vectors_length, j->merged, j->area, j->work,
+            j->work_length);
+}
+
+void merge_burst(job *j, const request *r)
+{
+    progress("merging %" PRIu64 " frames of %" PRIu64 " by %" PRIu64 " ", j->burst.count, j->burst.width, j->burst.height);
+    (r->sharpest ? run_sharpest : run)(j, r);
+    accepted("merge", j->answer.refusal, "");
+    j->is_merged = 1;
+}
+
+/* V of a tile with this root: its RMS in sixteenths */
+uint64_t noise_number(const request *r, stacker_noise noise, uint64_t root)
+{
+    return station_noise(noise.shot, noise.read, r->strength, root);
+}

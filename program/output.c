@@ -1,0 +1,129 @@
+/* Outputs. Each is made in memory; when all are whole they are written under other names beside their own, and then renamed: a run that ends early
+   leaves nothing behind. */
+#define _POSIX_C_SOURCE 200809L
+#include "program.h"
+
+#include <errno.h>
+#include <stdlib.h>
+#include <string.h>
+#include <sys/stat.h>
+#include <unistd.h>
+
+enum { OUTPUTS_MOST = 3 };
+
+typedef struct {
+    const char *path;
+    char *bytes, *temporary;
+    size_t length;
+} output;
+
+static output outputs[OUTPUTS_MOST];
+static int made;
+
+FILE *output_begin(const char *path)
+{
+    output *o = &outputs[made++];
+    o->path = path;
+    FILE *file = open_memstream(&o->bytes, &o->length);
+    if (file == NULL)
+        fail(WRONG, "%s: %s", path, strerror(errno));
+    return file;
+}
+
+void output_end(FILE *file)
+{
+    if (ferror(file) | (fclose(file) != 0))
+        fail(WRONG, "%s: %s", outputs[made - 1].path, strerror(errno));
+}
+
+static void removed(void)
+{
+    for (int i = 0; i < made; i++)
+        if (outputs[i].temporary != NULL)
+            unlink(outputs[i].temporary);
+}
+
+static void failed(const char *path)
+{
+    int error = errno;
+    removed();
+    fail(WRONG, "%s: %s", path, strerror(error));
+}
+
+static void poured(const output *o, FILE *file)
+{
+    size_t written = fwrite(o->bytes, 1, o->length, file);
+    if ((written != o->length) | ((file == stdout ? fflush(file) : fclose(file)) != 0))
+        failed(o->path);
+}
+
+/* A regular file, or none yet: the bytes go under a name of their own first. Anything else, a pipe or a device, is written as it is. */
+static int is_plain(const char *path)
+{
+    struct stat is;
+    return lstat(path, &is) != 0 ? errno == ENOENT : S_ISREG(is.st_mode);
+}
+
+static void prepared(output *o)
+{
+    mode_t mask = umask(0);
+    umask(mask);
+    o->temporary = room(strlen(o->path) + 8, 1);
+    sprintf(o->temporary, "%s.XXXXXX", o->path);
+    int descriptor = mkstemp(o->temporary);
+    if (descriptor < 0) {
+        free(o->temporary);
+        o->temporary = NULL;
+        failed(o->path);
+    }
+    fchmod(descriptor, 0666 & ~mask);
+    FILE *file = fdopen(descriptor, "wb");
+    if (file == NULL)
+        failed(o->path);
+    poured(o, file);
+}
+
+static void written_through(const output *o)
+{
+    FILE *file = strcmp(o->path, "-") == 0 ? stdout : fopen(o->path, "wb");
+    if (file == NULL)
+        failed(o->path);
+    poured(o, file);
+}
+
+/* no output may be one of the files that are read */
+static void apart_from(const char *path, char **inputs, int count)
+{
+    struct stat out, in;
+    if (strcmp(path, "-") == 0 || stat(path, &out) != 0)
+        return;
+    for (int i = 0; i < count; i++)
+        if (stat(inputs[i], &in) == 0 && in.st_dev == out.st_dev && in.st_ino == out.st_ino)
+            fail(WRONG, "%s: is read too, and is not written over", path);
+}
+
+void outputs_written(char **inputs, int count)
+{
+    for (int i = 0; i < made; i++)
+        apart_from(outputs[i].path, inputs, count);
+    for (int i = 0; i < made; i++)
+        if (strcmp(outputs[i].path, "-") != 0 && is_plain(outputs[i].path))
+            prepared(&outputs[i]);
+    for (int i = 0; i < made; i++)
+        if (outputs[i].temporary == NULL)
+            written_through(&outputs[i]);
+    for (int i = 0; i < made; i++) {
+        if (outputs[i].temporary != NULL && rename(outputs[i].temporary, outputs[i].path) != 0)
+            failed(outputs[i].path);
+        free(outputs[i].temporary);
+        free(outputs[i].bytes);
+        outputs[i].temporary = NULL;
+    }
+    made = 0;
+}
+
+int ends_in(const char *path, const char *ending)
+{
+    size_t length = strlen(path), end = strlen(ending);
+    return length > end && strcmp(path + length - end, ending) == 0;
+}

@@ -1,0 +1,157 @@
+/* Outside the proofs: what a file is and how large its frames are, told by its head, and the residual of a tile. The proved readers test each file
+   whole, so that a wrong guess of a size is refused there; the residuals of a frame add up to the sum that the proved align answers, or the program stops. */
+#include "program.h"
+
+#include <inttypes.h>
+#include <stdlib.h>
+#include <string.h>
+
+/* SIZES */
+
+uint64_t little(const uint8_t *at, int bytes)
+{
+    uint64_t value = 0;
+    for (int i = 0; i < bytes; i++)
+        value |= (uint64_t)at[i] << 8 * i;
+    return value;
+}
+
+/* the first entry of a tag with one SHORT or LONG in the first directory, or NULL */
+uint8_t *dng_entry(content file, unsigned tag)
+{
+    enum { SHORT = 3, LONG = 4 };
+    uint64_t at = file.length < 8 ? file.length : little(file.bytes + 4, 4);
+    uint64_t entries = at + 2 <= file.length ? little(file.bytes + at, 2) : 0;
+    for (uint64_t i = 0; i < entries && at + 2 + 12 * (i + 1) <= file.length; i++) {
+        uint8_t *entry = file.bytes + at + 2 + 12 * i;
+        uint64_t type = little(entry + 2, 2);
+        if (little(entry, 2) == tag && (type == SHORT || type == LONG) && little(entry + 4, 4) == 1)
+            return entry;
+    }
+    return NULL;
+}
+
+/* its value, or 0 */
+uint64_t dng_value(content file, unsigned tag)
+{
+    const uint8_t *entry = dng_entry(file, tag);
+    return entry == NULL ? 0 : little(entry + 8, little(entry + 2, 2) == 3 ? 2 : 4);
+}
+
+/* a whole number behind white space and comments, as Netpbm reads it; *at moves behind it. UINT64_MAX where none stands. */
+static uint64_t pgm_number(content file, size_t *at)
+{
+    uint64_t value = UINT64_MAX;
+    int comment = 0;
+    for (; *at < file.length; (*at)++) {
+        uint8_t byte = file.bytes[*at];
+        if (comment || byte == '#')
+            comment = byte != '\n';
+        else if (strchr(" \t\r\n\v\f", byte) == NULL || byte == 0)
+            break;
+    }
+    for (; *at < file.length && file.bytes[*at] >= '0' && file.bytes[*at] <= '9'; (*at)++) {
+        value = value == UINT64_MAX ? 0 : value;
+        value = value < 1000000 ? 10 * value + file.bytes[*at] - '0' : value;
+    }
+    return value;
+}
+
+static head pgm_head(content file)
+{
+    size_t at = 2;
+    uint64_t width = pgm_number(file, &at), height = pgm_number(file, &at), maxval = pgm_number(file, &at);
+    if (width == UINT64_MAX || height == UINT64_MAX || maxval == UINT64_MAX)
+        return (head){ PGM, 0, 0, 1, 0, file.length };
+    return (head){ PGM, width, height, 1, maxval, at < file.length ? at + 1 : at };
+}
+
+/* the first three values of a burst file's second line */
+static head burst_head(content file)
+{
+    char line[128] = "";
+    head found = { BURST, 0, 0, 0, 0, 0 };
+    memcpy(line, file.bytes, file.length < sizeof line ? file.length : sizeof line - 1);
+    if (sscanf(line, "width %*[^\n] %9" SCNu64 " %9" SCNu64 " %9" SCNu64, &found.width, &found.height, &found.count) != 3)
+        return (head){ BURST, 0, 0, 0, 0, 0 };
+    return found;
+}
+
+head head_of(content file)
+{
+    if (file.length >= 2 && (memcmp(file.bytes, "II", 2) == 0 || memcmp(file.bytes, "MM", 2) == 0))
+        return (head){ DNG, dng_value(file, 256), dng_value(file, 257), 1, 0, 0 };
+    if (file.length >= 2 && memcmp(file.bytes, "P5", 2) == 0)
+        return pgm_head(file);
+    if (file.length >= 5 && memcmp(file.bytes, "width", 5) == 0)
+        return burst_head(file);
+    return (head){ OTHER, 0, 0, 0, 0, 0 };
+}
+
+/* RESIDUALS, by document 01: level 0 has the sum of each square of four samples, places outside are mirrored, differences are absolute */
+
+typedef struct {
+    uint16_t *sums;
+    int64_t width, height;
+} level;
+
+static level level_of(const job *j, uint64_t frame)
+{
+    size_t width = j->burst.width, half = width / 2;
+    level made = { room(j->area / 4, sizeof *made.sums), (int64_t)half, (int64_t)(j->burst.height / 2) };
+    for (size_t i = 0; i < j->area / 4; i++) {
+        const uint16_t *at = j->samples + frame * j->area + 2 * (i / half * width + i % half);
+        made.sums[i] = (uint16_t)(at[0] + at[1] + at[width] + at[width + 1]);
+    }
+    return made;
+}
+
+static int64_t mirrored(int64_t i, int64_t n)
+{
+    int64_t k = (i < 0 ? -1 - i : i) % (2 * n);
+    return k < n ? k : 2 * n - 1 - k;
+}
+
+/* `side` sums of a row from a place on, which may lie outside: where they stand, or copied to `beside` */
+static const uint16_t *row_at(const level *l, int64_t y, int64_t x, int64_t side, uint16_t *beside)
+{
+    const uint16_t *row = l->sums + mirrored(y, l->height) * l->width;
+    if (x >= 0 && x + side <= l->width)
+        return row + x;
+    for (int64_t i = 0; i < side; i++)
+        beside[i] = row[mirrored(x + i, l->width)];
+    return beside;
+}
+
+static uint32_t residual(const level *reference, const level *other, int64_t side, int64_t top, int64_t left, const int32_t *vector)
+{
+    enum { SIDE_ROOM = 32 };
+    uint16_t here[SIDE_ROOM], there[SIDE_ROOM];
+    uint32_t sum = 0;
+    for (int64_t y = top; y < top + side; y++) {
+        const uint16_t *a = row_at(reference, y, left, side, here);
+        const uint16_t *b = row_at(other, y + vector[0], left + vector[1], side, there);
+        for (int64_t i = 0; i < side; i++)
+            sum += (uint32_t)abs(a[i] - b[i]);
+    }
+    return sum;
+}
+
+/* each tile's residual at its own vector and at the field's common one; the former must add up to the frame's sum of the proved answer */
+void add_residuals(const job *j, field *f)
+{
+    size_t k = (size_t)(f - j->fields);
+    int64_t side = (int64_t)j->side, half = side / 2;
+    level reference = level_of(j, j->burst.reference), other = level_of(j, f->frame);
+    uint64_t sum = 0;
+    for (size_t t = 0; t < j->tiles; t++) {
+        int64_t top = half * (int64_t)(t / j->tile_columns) - half, left = half * (int64_t)(t % j->tile_columns) - half;
+        f->own[t] = residual(&reference, &other, side, top, left, j->vectors + 2 * (j->tiles * k + t));
+        f->at_common[t] = residual(&reference, &other, side, top, left, f->common);
+        sum += f->own[t];
+    }
+    free(reference.sums);
+    free(other.sums);
+    if (sum != j->answer.residuals[k])
+        fail(WRONG, "frame %" PRIu64 ": residuals of tiles add up to %" PRIu64 ", not to the proved %" PRIu64, f->frame, sum, j->answer.residuals[k]);
+}
