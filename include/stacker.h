@@ -50,6 +50,17 @@ typedef struct {
     uint64_t spatial;  /* the spatial filter's published s in 1/256, 0..256: SPATIAL FILTER, below; 0 is no filter */
 } stacker_tuning;
 
+/* Initialisers for the descriptions, as C and as C++11: frames without spare words, and 0 in all that is not named.
+
+       stacker_burst burst = STACKER_BURST(512, 512, 8, 0); */
+
+#define STACKER_BURST(width, height, count, reference) \
+    { (uint64_t)(width), (uint64_t)(height), (uint64_t)(count), (uint64_t)(reference), (uint64_t)(width), { 0, 0, 0, 0 } }
+#define STACKER_FRAMES(width, height, count) { (uint64_t)(width), (uint64_t)(height), (uint64_t)(count), (uint64_t)(width), { 0, 0, 0, 0 } }
+#define STACKER_NOISE(shot, read) { (double)(shot), (double)(read) }
+#define STACKER_ISO_NOISE(iso, shot, read) { (uint32_t)(iso), (double)(shot), (double)(read) }
+#define STACKER_TUNING(strength) { (uint64_t)(strength), 0 }
+
 /* What a call answers: the refusal's number, or 0 with the other fields filled in. */
 
 typedef struct {
@@ -152,7 +163,7 @@ stacker_dng stacker_read_dng(const uint8_t *file, size_t file_length, stacker_fr
 
 static inline stacker_burst stacker_file_burst(stacker_file file)
 {
-    stacker_burst burst = { file.width, file.height, file.count, file.reference, file.width, { 0, 0, 0, 0 } };
+    stacker_burst burst = STACKER_BURST(file.width, file.height, file.count, file.reference);
     return burst;
 }
 
@@ -165,7 +176,7 @@ static inline stacker_noise stacker_file_noise(stacker_file file)
 
 static inline stacker_tuning stacker_file_tuning(stacker_file file)
 {
-    stacker_tuning tuning = { file.strength, 0 };
+    stacker_tuning tuning = STACKER_TUNING(file.strength);
     return tuning;
 }
 
@@ -250,7 +261,8 @@ static inline const char *stacker_refusal_text(uint64_t number)
            return 1;
        fwrite(pgm, 1, pgm_length, stdout);
 
-   examples/merge.c, examples/sharpest.c and examples/merge_dng.c, which reads its frames from DNG files, are whole programs; examples/burst_file.rs calls from Rust.
+   examples/merge.c, examples/sharpest.c and examples/merge_dng.c, which reads its frames from DNG files, are whole programs;
+   examples/cpp/merge.cpp calls from C++, examples/merge.py from Python, examples/burst_file.rs from Rust.
 
    FRAMES are Bayer RGGB, row by row, frame after frame: 16-bit words that hold 0..4095. Black is already subtracted, or the burst says what it is.
    A row takes row_length words: those after its W samples are spare. They may hold anything and are never read into a result. Output rows have none.

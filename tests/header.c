@@ -1,4 +1,4 @@
-/* What stacker.h itself works out: what merge and run take of a file, each level there and back, and words for each refusal. */
+/* What stacker.h itself works out: its initialisers, what merge and run take of a file, each level there and back, and words for each refusal. */
 #include "stacker.h"
 
 #include <string.h>
@@ -12,6 +12,18 @@ static int describes(void)
     uint16_t none[4] = { 0, 0, 0, 0 };
     return burst.width == 64 && burst.height == 128 && burst.count == 3 && burst.reference == 2 && burst.row_length == 64
         && memcmp(burst.black, none, sizeof none) == 0 && stacker_file_tuning(file).strength == 5 && stacker_file_tuning(file).spatial == 0;
+}
+
+static int initialises(void)
+{
+    int width = 64, height = 128, count = 3;
+    stacker_burst burst = STACKER_BURST(width, height, count, 2), same_burst = { .width = 64, .height = 128, .count = 3, .reference = 2, .row_length = 64 };
+    stacker_frames frames = STACKER_FRAMES(width, height, count), same_frames = { .width = 64, .height = 128, .count = 3, .row_length = 64 };
+    stacker_noise noise = STACKER_NOISE(3, 100);
+    stacker_iso_noise iso = STACKER_ISO_NOISE(400, 3, 100);
+    stacker_tuning tuning = STACKER_TUNING(600), same_tuning = { .strength = 600 };
+    return memcmp(&burst, &same_burst, sizeof burst) == 0 && memcmp(&frames, &same_frames, sizeof frames) == 0 && noise.shot == 3 && noise.read == 100
+        && iso.iso == 400 && iso.shot == 3 && iso.read == 100 && memcmp(&tuning, &same_tuning, sizeof tuning) == 0;
 }
 
 static int keeps_levels(void)
@@ -42,5 +54,5 @@ static int has_words(void)
 
 int main(void)
 {
-    return !(describes() && keeps_levels() && has_words());
+    return !(describes() && initialises() && keeps_levels() && has_words());
 }
