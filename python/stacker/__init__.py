@@ -1,0 +1,211 @@
+"""Burst alignment and merge of raw frames, proved for every input: libstacker.so on buffers.
+
+    import numpy, stacker
+    frames = numpy.stack([...])                   # (N, H, W) of uint16, 0..4095, Bayer RGGB
+    done = stacker.run(frames, noise=(3, 100))    # a sample x has the variance 3 x + 100
+    numpy.asarray(done.merged)                    # (H, W) of uint16; nothing is copied
+    numpy.asarray(done.vectors)                   # (N-1, H/16+1, W/16+1, 2) of int32: down, right; a step is two samples
+
+Whatever has Python's buffer protocol is taken: numpy arrays, array.array, bytearray, mmap. What comes back are memoryviews with a shape, which numpy
+takes as they are; numpy itself is not needed. A call that is refused raises `Refused` with stacker.h's number, and changes nothing. Calls release the
+interpreter's lock: threads may call at once.
+
+The library is the file named by the environment's STACKER_LIBRARY, or libstacker.so.1 of the prefix that this package is installed under, or the system's.
+Proved are the calls of the library; this package, and its guess of a file's size, are not.
+"""
+from __future__ import annotations
+
+import ctypes
+import os
+from typing import Any, List, NamedTuple, Optional, Sequence, Tuple, Union
+
+from . import _calls, _unproved
+from ._calls import library
+from ._words import REFUSALS
+
+__all__ = ['Aligned', 'Burst', 'Frame', 'Merged', 'REFUSALS', 'Refused', 'STRENGTH', 'align', 'merge', 'noise_number', 'read_burst', 'read_dng',
+           'read_pgm', 'run', 'write_pgm']
+
+STRENGTH = 600  # document 002's tau = 75, in eighths
+
+Buffer = Any  # whatever memoryview takes
+Noise = Tuple[float, float]  # shot, read
+Levels = Sequence[int]  # black levels of R, G, G and B
+
+
+class Refused(ValueError):
+    """A call was refused, and nothing has changed. `number` is stacker.h's."""
+
+    def __init__(self, number: int, what: str = '') -> None:
+        super().__init__('%srefused %d: %s' % (what + ': ' if what else '', number, REFUSALS.get(number, 'no refusal of this version')))
+        self.number = number
+
+
+class Aligned(NamedTuple):
+    vectors: memoryview  #: (N-1, H/16+1, W/16+1, 2) of int32
+    residuals: List[int]  #: of each other frame, its sum of finest residuals
+    rows: int  #: how many tile rows were summed in all
+
+
+class Merged(NamedTuple):
+    merged: memoryview  #: (H, W) of uint16
+    vectors: memoryview
+    residuals: List[int]
+    rows: int
+    reference: int  #: index of the frame that the others were merged on
+
+
+class Frame(NamedTuple):
+    samples: memoryview  #: (H, W) of uint16
+    noise: Noise
+    black: Tuple[int, int, int, int]
+
+
+class Burst(NamedTuple):
+    frames: memoryview  #: (N, H, W) of uint16
+    reference: int
+    noise: Noise
+    strength: int
+
+
+def _accepted(number: int, what: str) -> None:
+    if number:
+        raise Refused(number, what)
+
+
+def _made(code: str, *shape: int) -> memoryview:
+    """A buffer of zeros with a shape."""
+    words = 1
+    for length in shape:
+        words *= length
+    flat = memoryview(bytearray(words * {'B': 1, 'H': 2, 'i': 4, 'q': 8}[code]))
+    return flat.cast(code, shape) if words else flat.cast(code)  # type: ignore[call-overload]
+
+
+def _lent(view: memoryview) -> Tuple[Any, int]:
+    """A buffer as the library takes it, and its length in elements. A read-only one is copied: ctypes lends writable memory alone."""
+    raw = ctypes.c_char * view.nbytes
+    return (raw.from_buffer_copy(view) if view.readonly else raw.from_buffer(view)), view.nbytes // view.itemsize
+
+
+def _words(buffer: Buffer, code: str, dimensions: int, what: str) -> memoryview:
+    view = memoryview(buffer)
+    if view.ndim != dimensions or view.format not in (code, '<' + code) or not view.c_contiguous:
+        bits = {'H': 'unsigned 16', 'i': 'signed 32'}[code]
+        raise TypeError('%s must be a contiguous buffer of %s-bit words in %d dimensions; numpy.ascontiguousarray makes one' % (what, bits, dimensions))
+    return view
+
+
+class _Lent:
+    """Frames with the description and the buffers that go with them."""
+
+    def __init__(self, frames: Buffer, width: Optional[int], black: Levels) -> None:
+        self.view = _words(frames, 'H', 3, 'frames')
+        self.count, self.height, self.row_length = self.view.shape  # type: ignore[misc]
+        self.width = self.row_length if width is None else width
+        self.black = black
+
+    def burst(self, reference: int) -> _calls.Burst:
+        return _calls.burst(self.width, self.height, self.count, reference, self.row_length, self.black)
+
+    def frames(self) -> _calls.Frames:
+        return _calls.frames(self.width, self.height, self.count, self.row_length, self.black)
+
+    def vectors(self) -> memoryview:
+        return _made('i', max(self.count - 1, 0), self.height // _calls.SIDE + 1, self.width // _calls.SIDE + 1, 2)
+
+    def output(self) -> memoryview:
+        return _made('H', self.height, self.width)
+
+    def work(self) -> memoryview:
+        return _made('q', 2 * self.width * self.height)
+
+    def sums(self, answer: _calls.Alignment) -> List[int]:
+        return list(answer.residuals)[:self.count - 1]
+
+
+def align(frames: Buffer, reference: int = 0, *, width: Optional[int] = None, black: Levels = (0, 0, 0, 0)) -> Aligned:
+    """The vectors of each other frame. `frames` is (N, H, L) of uint16; where rows have spare words, `width` tells how many of L are samples."""
+    lent = _Lent(frames, width, black)
+    vectors = lent.vectors()
+    answer = _calls.align(lent.burst(reference), *_lent(lent.view), *_lent(vectors), *_lent(lent.work()))
+    _accepted(answer.refusal, 'align')
+    return Aligned(vectors, lent.sums(answer), answer.rows)
+
+
+def merge(frames: Buffer, vectors: Buffer, *, noise: Noise, iso: Optional[int] = None, strength: int = STRENGTH, spatial: int = 0, reference: int = 0,
+          width: Optional[int] = None, black: Levels = (0, 0, 0, 0)) -> memoryview:
+    """The frame merged by these vectors, (H, W) of uint16."""
+    lent, moves = _Lent(frames, width, black), _words(vectors, 'i', memoryview(vectors).ndim, 'vectors')
+    output = lent.output()
+    number = _calls.merge(lent.burst(reference), _calls.noise(noise, iso), _calls.tuning(strength, spatial), *_lent(lent.view), *_lent(moves),
+                          *_lent(output), *_lent(lent.work()))
+    _accepted(number, 'merge')
+    return output
+
+
+def run(frames: Buffer, *, noise: Noise, iso: Optional[int] = None, strength: int = STRENGTH, spatial: int = 0, reference: Union[int, str] = 0,
+        width: Optional[int] = None, black: Levels = (0, 0, 0, 0)) -> Merged:
+    """Aligns and merges. `reference` is a frame's index, or 'sharpest': of the first three. With `iso` the noise is the curve for ISO 100."""
+    lent = _Lent(frames, width, black)
+    vectors, output = lent.vectors(), lent.output()
+    told = (_calls.noise(noise, iso), _calls.tuning(strength, spatial))
+    buffers = (*_lent(lent.view), *_lent(vectors), *_lent(output), *_lent(lent.work()))
+    if reference == 'sharpest':
+        choice = _calls.run_sharpest(lent.frames(), *told, *buffers)
+        answer, chosen = choice.alignment, choice.reference
+    else:
+        chosen = int(reference)
+        answer = _calls.run(lent.burst(chosen), *told, *buffers)
+    _accepted(answer.refusal, 'run')
+    return Merged(output, vectors, lent.sums(answer), answer.rows, chosen)
+
+
+def _content(path: Union[str, os.PathLike]) -> memoryview:
+    with open(path, 'rb') as file:
+        return memoryview(bytearray(file.read()))
+
+
+def read_dng(path: Union[str, os.PathLike]) -> Frame:
+    """The frame of a DNG file, its noise and its black levels."""
+    data = _content(path)
+    width, height = _unproved.dng_size(data)
+    samples = _made('H', height, width) if _unproved.is_allowed(width, height) else _made('H', 0)
+    answer = library.stacker_read_dng(*_lent(data), _calls.frames(width, height, 1, width, (0, 0, 0, 0)), 0, *_lent(samples))
+    _accepted(answer.refusal, os.fspath(path))
+    return Frame(samples, (answer.shot, answer.read), tuple(answer.black))  # type: ignore[arg-type]
+
+
+def read_pgm(path: Union[str, os.PathLike]) -> memoryview:
+    """The frame of a PGM file as `write_pgm` writes it."""
+    data = _content(path)
+    width, height = _unproved.pgm_size(data)
+    samples = _made('H', height, width) if _unproved.is_allowed(width, height) else _made('H', 0)
+    _accepted(library.stacker_read_pgm(*_lent(data), *_lent(samples)).refusal, os.fspath(path))
+    return samples
+
+
+def read_burst(path: Union[str, os.PathLike]) -> Burst:
+    """The frames of a burst file, and what it says of them."""
+    data = _content(path)
+    _accepted(library.station_check(*_lent(data)), os.fspath(path))
+    width, height, count = _unproved.burst_size(data)
+    frames = _made('H', count, height, width)
+    told = library.stacker_read_file(*_lent(data), *_lent(frames))
+    _accepted(told.refusal, os.fspath(path))
+    return Burst(frames, told.reference, (told.shot_level / 1024, told.read_level / 1024), told.strength)
+
+
+def write_pgm(path: Union[str, os.PathLike], frame: Buffer) -> None:
+    """Writes a frame, (H, W) of uint16, as a PGM file. A refused frame leaves the file as it was."""
+    view = _words(frame, 'H', 2, 'frame')
+    height, width = view.shape  # type: ignore[misc]
+    data = _made('B', library.stacker_pgm_length(width, height))
+    _accepted(library.stacker_write_pgm(width, height, *_lent(view), *_lent(data)), os.fspath(path))
+    with open(path, 'wb') as file:
+        file.write(data)
+
+
+def noise_number(shot: float, read: float, root: int, strength: int = STRENGTH) -> int:
+    """V of a tile, in 1/256 of a squared sample. `root` is the tile's RMS above black in sixteenths: 16 times the level of a flat one."""
+    return _calls.noise_number(shot, read, strength, root)

@@ -1,0 +1,27 @@
+"""What a refusal's number says, in the words of stacker.h: made by python/words."""
+
+REFUSALS = {
+    1: 'width or height not a multiple of 64 from 64 to 4096',
+    2: 'count of frames 0 or above 8',
+    3: 'reference, or index of the frame to be read, not below the count of frames',
+    4: 'samples not of length count * row_length * height',
+    5: 'vectors not of length (count - 1) * 2 * (width / 16 + 1) * (height / 16 + 1)',
+    6: 'output or frame not of length width * height',
+    7: 'work area not of length 2 * width * height',
+    8: 'shot or read negative or not finite, or ISO outside 25..409600',
+    9: "shot above 64 or read above 4096 after ISO, or a file's levels above 65536 or 4194304",
+    10: 'strength above 1024',
+    11: 'a sample above 4095',
+    12: 'a part of a vector outside -172..172',
+    13: 'a file whose first line differs',
+    14: 'a file with a malformed line of values',
+    15: 'a file that is short, or goes on after its last row',
+    16: 'bytes not of the length that stacker_pgm_length answers',
+    17: 'not a PGM file as stacker_write_pgm writes it',
+    18: 'a black level above 255',
+    19: 'not a little-endian TIFF file, or a part of it lies past its end',
+    20: 'a DNG file in which a needed tag is absent or a listed one stands twice',
+    21: 'a DNG file with a type, count or value that is not read, or of another size than the burst',
+    23: 'row length not from width to width + 256',
+    24: 'spatial strength above 256',
+}
