@@ -27,7 +27,8 @@ static void write_all(const job *j, const request *r)
 static void tell(const job *j, const request *r, double took)
 {
     const stacker_burst *b = &j->burst;
-    note("%" PRIu64 " frames of %" PRIu64 " by %" PRIu64 " on frame %" PRIu64 " in %.2f s", b->count, b->width, b->height, b->reference, took);
+    note("%" PRIu64 " frame%s of %" PRIu64 " by %" PRIu64 " on frame %" PRIu64 " in %.2f s", b->count, b->count == 1 ? "" : "s", b->width, b->height, b->reference,
+        took);
     for (uint64_t k = 0; k + 1 < b->count; k++) {
         const field *f = &j->fields[k];
         note("frame %" PRIu64 ": mostly %+d down %+d right; %zu of %zu tiles lifted; residual %" PRIu64, f->frame, (int)f->common[0], (int)f->common[1],

@@ -64,15 +64,16 @@ static void without_places(content file)
     put_little(file.bytes + at, kept, 2);
 }
 
-/* the part's samples behind all else, and the tags that say so */
+/* the part's samples in place of the strip where that comes last, else behind all else, and the tags that say so */
 static content cropped_dng(content file, const head *found, part p)
 {
-    uint64_t strip = dng_value(file, 273), start = (file.length + 1) / 2 * 2, length = 2 * p.width * p.height;
-    int small = found->width <= UINT16_MAX && found->height <= UINT16_MAX && start + length <= UINT32_MAX;
-    if (!small || strip + 2 * found->width * found->height > file.length)
+    uint64_t strip = dng_value(file, 273), end = strip + 2 * found->width * found->height, length = 2 * p.width * p.height;
+    int small = found->width <= UINT16_MAX && found->height <= UINT16_MAX && file.length + length <= UINT32_MAX;
+    if (!small || end > file.length)
         return file; /* refused by the proved reader: 19, or 1 for its size */
+    uint64_t start = end == file.length ? strip : file.length;
     content made = { room(start + length, 1), start + length };
-    memcpy(made.bytes, file.bytes, file.length);
+    memcpy(made.bytes, file.bytes, start);
     for (uint64_t y = 0; y < p.height; y++)
         memcpy(made.bytes + start + 2 * p.width * y, file.bytes + strip + 2 * ((p.top + y) * found->width + p.left), 2 * p.width);
     put_value(made, 256, p.width);

@@ -91,10 +91,15 @@ static void written_through(const output *o)
     poured(o, file);
 }
 
-/* no output may be one of the files that are read */
+/* no output may be one of the files that are read, nor another output */
 static void apart_from(const char *path, char **inputs, int count)
 {
     struct stat out, in;
+    int times = 0;
+    for (int i = 0; i < made; i++)
+        times += strcmp(outputs[i].path, path) == 0;
+    if (times > 1)
+        fail(WRONG, "%s: is asked for twice", path);
     if (strcmp(path, "-") == 0 || stat(path, &out) != 0)
         return;
     for (int i = 0; i < count; i++)

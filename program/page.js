@@ -324,7 +324,8 @@ addEventListener('resize', () => {
 });
 
 $('title').textContent = `${data.count} frames of ${data.width} by ${data.height}, ${pictures.merged ? 'merged' : 'aligned'} on frame ${data.reference}`;
-$('facts').textContent = [`noise ${+data.shot.toPrecision(6)} x + ${+data.read.toPrecision(6)}${data.iso ? ` at ISO 100, taken at ${data.iso}` : ''}`, `strength ${data.strength}`,
+const rounded = value => value === null ? '?' : +value.toPrecision(6);
+$('facts').textContent = [`noise ${rounded(data.shot)} x + ${rounded(data.read)}${data.iso ? ` at ISO 100, taken at ${data.iso}` : ''}`, `strength ${data.strength}`,
   `spatial ${data.spatial}`, `black ${data.black.join(' ')}`, `stacker ${data.stacker}`].join(' \u00b7 ');
 $('outside').hidden = !data.outside_the_proofs;
 $('outside').textContent = `Outside the proofs: ${data.outside_the_proofs}.`;

@@ -82,7 +82,7 @@ double seconds(void)
     return (double)now.tv_sec + 1e-9 * (double)now.tv_nsec;
 }
 
-/* The line of progress: what is being done, and since how many seconds. Once a second the signal writes it again, by write(2) alone. */
+/* The line of progress: what is being done, and since how many seconds. After each second the signal writes it, by write(2) alone: short work shows none. */
 static char line[160];
 static volatile sig_atomic_t line_length, ticks;
 static int shown;
@@ -127,7 +127,6 @@ void progress(const char *format, ...)
     line_length = length < (int)sizeof line ? length : (int)sizeof line - 1;
     ticks = 0;
     shown = 1;
-    fprintf(stderr, "\r%s", line);
     every_second(1);
 }
 

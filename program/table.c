@@ -2,17 +2,41 @@
 #include "program.h"
 
 #include <inttypes.h>
+#include <math.h>
 
-/* a JSON string that may stand in an HTML script too */
+/* how many bytes of well-formed UTF-8 stand here, 0 where none does */
+static int character(const unsigned char *at)
+{
+    int more = at[0] < 0x80 ? 0 : at[0] >= 0xc2 && at[0] < 0xe0 ? 1 : (at[0] & 0xf0) == 0xe0 ? 2 : at[0] >= 0xf0 && at[0] < 0xf5 ? 3 : -1;
+    for (int i = 1; i <= more; i++)
+        if ((at[i] & 0xc0) != 0x80)
+            return 0;
+    return more + 1;
+}
+
+/* a JSON string that may stand in an HTML script too; bytes that are no UTF-8 become the replacement character */
 static void put_string(FILE *to, const char *text)
 {
     fputc('"', to);
-    for (; *text; text++)
-        if (*text == '"' || *text == '\\' || *text == '<' || (unsigned char)*text < 32)
+    for (int length; *text; text += length > 0 ? length : 1) {
+        length = character((const unsigned char *)text);
+        if (length == 0)
+            fputs("\\ufffd", to);
+        else if (*text == '"' || *text == '\\' || *text == '<' || (unsigned char)*text < 32)
             fprintf(to, "\\u%04x", (unsigned char)*text);
         else
-            fputc(*text, to);
+            fwrite(text, 1, (size_t)length, to);
+    }
     fputc('"', to);
+}
+
+/* JSON has no number for what is not finite */
+static void put_number(FILE *to, const char *name, double value)
+{
+    if (isfinite(value))
+        fprintf(to, " \"%s\": %.17g,", name, value);
+    else
+        fprintf(to, " \"%s\": null,", name);
 }
 
 static void put_names(FILE *to, const job *j)
@@ -37,8 +61,10 @@ void write_facts(FILE *to, const job *j, const request *r)
     const stacker_burst *b = &j->burst;
     fprintf(to, "{\"stacker\": \"%s\", \"width\": %" PRIu64 ", \"height\": %" PRIu64 ", \"count\": %" PRIu64 ", \"reference\": %" PRIu64 ",\n", STACKER_VERSION,
         b->width, b->height, b->count, b->reference);
-    fprintf(to, " \"shot\": %.17g, \"read\": %.17g, \"iso\": %" PRIu32 ", \"strength\": %" PRIu64 ", \"spatial\": %" PRIu64 ", \"black\": [%d, %d, %d, %d],\n",
-        r->noise.shot, r->noise.read, r->iso, r->strength, r->spatial, b->black[0], b->black[1], b->black[2], b->black[3]);
+    put_number(to, "shot", r->noise.shot);
+    put_number(to, "read", r->noise.read);
+    fprintf(to, " \"iso\": %" PRIu32 ", \"strength\": %" PRIu64 ", \"spatial\": %" PRIu64 ", \"black\": [%d, %d, %d, %d],\n", r->iso, r->strength, r->spatial,
+        b->black[0], b->black[1], b->black[2], b->black[3]);
     fprintf(to, " \"side\": %" PRIu64 ", \"tile_rows\": %zu, \"tile_columns\": %zu, \"apart\": %" PRIu64 ", \"rows\": %" PRIu64 ",\n", j->side, j->tile_rows,
         j->tile_columns, r->apart, j->answer.rows);
     put_conversion(to, r);

@@ -79,8 +79,10 @@ static head burst_head(content file)
 
 head head_of(content file)
 {
-    if (file.length >= 2 && (memcmp(file.bytes, "II", 2) == 0 || memcmp(file.bytes, "MM", 2) == 0))
+    if (file.length >= 2 && memcmp(file.bytes, "II", 2) == 0)
         return (head){ DNG, dng_value(file, 256), dng_value(file, 257), 1, 0, 0 };
+    if (file.length >= 2 && memcmp(file.bytes, "MM", 2) == 0)
+        return (head){ DNG, 0, 0, 1, 0, 0 };
     if (file.length >= 2 && memcmp(file.bytes, "P5", 2) == 0)
         return pgm_head(file);
     if (file.length >= 5 && memcmp(file.bytes, "width", 5) == 0)
