@@ -1,1 +1,1 @@
-// The checked figures of document 01; no code.
+// The checked figures of document 01, and figures of our own; no code.

@@ -1,8 +1,7 @@
 -- Flat frames: a tile of equal differences has one bin and one correction everywhere, and the windows add up to one.
 use Rattle.algebra.specs.Prelude.{_≡_, refl, sym, ap, ap₂, _∙_, [], _∷_, ℕ, zero, suc, _+_, _-_, _*_, _%_, _<_, arith}
-use native.Mathlib.Nat.{zero-mul}
 use lib.Dec.{T, eqb, eqb→eq, lit<}
-use lib.IntN.{ℤ, pos, negsuc, negℤ, natAbs, _+ℤ_, _-ℤ_, _*ℤ_, +ℤ-idl, +ℤ-idr, *ℤ-zero, zero-*ℤ, *ℤ-comm}
+use lib.IntN.{ℤ, pos, negsuc, negℤ, natAbs, _+ℤ_, _-ℤ_, _*ℤ_, +ℤ-idr, *ℤ-zero, zero-*ℤ, *ℤ-comm}
 use Rattle.algebra.specs.Ring.{var, _⊠_, #_, ring, _⊟_}
 use Rattle.algebra.specs.Sums.{sumZ, sumN}
 use Rattle.algebra.specs.SumLaws.{sumZ-cong, sumZ-scale, sumZ-scaler, sumN-cong, sumN-const}
@@ -13,12 +12,13 @@ use Rattle.roots.specs.RootLaws.{root-unique}
 use Rattle.recipe.specs.NoiseNumber.{sumOfSquares, tileRoot}
 use Rattle.recipe.specs.Side.{Side, cosAt, sinAt}
 use Rattle.recipe.specs.Tables.{cosines, cosine16, sine16, side16}
-use Rattle.recipe.specs.Correction.{wiener, rowRe, rowIm, binRe, binIm, quantized, filtered, twiddleRe, twiddleIm, inverseRe, inverseAt, correctionAt}
+use Rattle.recipe.specs.Correction.{wiener, rowRe, rowIm, binRe, binIm, quantized, filtered, twiddleRe, twiddleIm, inverseAt, correctionAt}
 use Rattle.recipe.specs.TableLaws.{window-halves}
 use Rattle.recipe.specs.Output.{rowIn, columnIn, weightIn}
 use Rattle.recipe.specs.PlainOutput.{outputSample}
 use Rattle.closeness.specs.Windows.{four-windows}
-use Rattle.spectrum.specs.ZeroLaws.{sumZ-zero, away-zero, wiener-zero, less-zero, less-none, more-none}
+use Rattle.spectrum.specs.ZeroLaws.{sumZ-zero, away-zero, wiener-zero, less-none, more-none}
+use Rattle.figures.specs.LoneBin.{lone-bin}
 use Rattle.sanity.specs.RoundLaws.{away-whole, away-scale, upward-scale}
 use Rattle.sanity.specs.Flat.{flatCorrection}
 
@@ -58,15 +58,9 @@ more-second {a} {b} {d} p q e f = rw (e, f, zero-*ℤ q) (+ℤ-idr (b *ℤ p))
 less-last : {p q a b d : ℤ} → p ≡ q → a ≡ b → d ≡ pos 0 → (r : ℤ) → p *ℤ a -ℤ r *ℤ d ≡ b *ℤ q
 less-last {p} {q} {a} {b} {d} e f g r = rw (e, f, g, *ℤ-zero r) (+ℤ-idr (q *ℤ b) ∙ *ℤ-comm q b)
 
--- a sum of its first term alone
-first-only : (n : ℕ) (f : ℕ → ℤ) → ((i : ℕ) → i < n → f (suc i) ≡ pos 0) → sumZ (suc n) f ≡ f 0
-unfolding sumZ
-first-only zero f h = +ℤ-idl (f 0)
-first-only (suc n) f h = ap₂ _+ℤ_ (first-only n f (λ i k. h i (omega arith))) (h n (omega arith)) ∙ +ℤ-idr (f 0)
-
-twiddle-first : (y x : ℕ) → twiddleRe side16 y x 0 0 ≡ pos 268435456
+twiddle-first : twiddleRe side16 0 0 0 0 ≡ pos 268435456
 unfolding twiddleRe cosAt sinAt side16 sine16 cosine16 cosines
-twiddle-first y x = rw (zero-mul y, zero-mul x)
+twiddle-first = refl
 
 part-none : {z : ℤ} → z ≡ pos 0 → quantized side16 z ≡ pos 0
 unfolding quantized side16
@@ -137,21 +131,13 @@ module _ (c : ℤ) where
         ap₂ (wiener noise) (ap (λ z. away z 16777216) bin-first ∙ away-whole (c *ℤ pos 4096) 16777216 (lit< tt)) (part-none (bin-im-none 0 0 (lit< tt) (lit< tt)))
 
     -- P, everywhere on the tile
-    module _ (y x : ℕ) where
-      abbrev term : ℕ → ℕ → ℤ
-      term u v = twiddleRe side16 y x u v *ℤ re u v -ℤ twiddleIm side16 y x u v *ℤ im u v
-
-      term-none : (u v : ℕ) → u < 16 → v < 16 → 0 < u + v → term u v ≡ pos 0
-      term-none u v h k l = less-zero (twiddleRe side16 y x u v) (re u v) (twiddleIm side16 y x u v) (im u v) (re-none u v h k l) (im-none u v h k)
-
-      pub flat-correction : correctionAt side16 noise flat y x ≡ away (wiener noise (c *ℤ pos 4096) (pos 0)) 16
-      unfolding correctionAt inverseAt inverseRe side16
-      flat-correction =
-          ap (λ z. away z 4294967296)
-          (first-only 15 _ (λ u h. sumZ-zero 16 _ (λ v k. term-none (suc u) v (omega arith) k (omega arith)))
-          ∙ first-only 15 _ (λ v k. term-none 0 (suc v) (lit< tt) (omega arith) (omega arith))
-          ∙ less-last (twiddle-first y x) re-first (im-none 0 0 (lit< tt) (lit< tt)) (twiddleIm side16 y x 0 0))
-          ∙ away-scale (wiener noise (c *ℤ pos 4096) (pos 0)) 268435456 16 (lit< tt) (lit< tt)
+    pub flat-correction : (y x : ℕ) → correctionAt side16 noise flat y x ≡ away (wiener noise (c *ℤ pos 4096) (pos 0)) 16
+    unfolding correctionAt inverseAt side16
+    flat-correction y x =
+        ap (λ z. away z 4294967296)
+        (lone-bin side16 re im (λ u v h k l. (re-none u v h k l, im-none u v h k)) y x
+        ∙ less-last twiddle-first re-first (im-none 0 0 (lit< tt) (lit< tt)) (twiddleIm side16 0 0 0 0))
+        ∙ away-scale (wiener noise (c *ℤ pos 4096) (pos 0)) 268435456 16 (lit< tt) (lit< tt)
 
 -- r of a flat tile
 pub flat-root : (black a : ℕ) → tileRoot 16 black (λ i j. a) ≡ 16 * (a - black)
