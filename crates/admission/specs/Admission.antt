@@ -1,13 +1,17 @@
 -- The answer of tests 1 to 11, 18, 23 and 24. Inner vocabulary.
 use Rattle.algebra.specs.Prelude.{_≡_, List, ℕ, ℤ}
+use Rattle.refusals.specs.After.{after}
 use Rattle.geometry.specs.declared.Shape.{Shape}
 use Rattle.noise.specs.declared.Noise.{Noise}
+use Rattle.noise.specs.declared.Levels.{Levels}
 use Rattle.noise.specs.Levels.{levelsOf, shotLevel, readLevel}
 use Rattle.recipe.specs.declared.Tuning.{Tuning}
 use Rattle.admission.specs.declared.Tested.{Tested}
 use Rattle.admission.specs.Refusals.{runRefusal}
 
+-- "beside a refusal every other returned field is 0": the levels
+unfoldable pub testedAs : (number : ℕ) → Levels → Tested
+testedAs number levels = record { refusal = number; shot = after number 0 (shotLevel levels); read = after number 0 (readLevel levels) }
+
 pub record RunTested (s : Shape) (reference : ℕ) (noise : Noise) (tuning : Tuning) (samples : List ℕ) (vectors : List ℤ) (output : List ℕ) (work : List ℤ) (r : Tested) : Type 0 where
-  pub number : r .refusal ≡ runRefusal s reference noise tuning samples vectors output work
-  pub shot-is : r .refusal ≡ 0 → r .shot ≡ shotLevel (levelsOf noise)
-  pub read-is : r .refusal ≡ 0 → r .read ≡ readLevel (levelsOf noise)
+  pub answer : r ≡ testedAs (runRefusal s reference noise tuning samples vectors output work) (levelsOf noise)

@@ -45,11 +45,21 @@ fn content_refusal(shape: Shape, tuning: Tuning, samples: &[u16]) -> u64
     refusals::first(&[strength, black, spatial, sample])
 }
 
-// A refusal's number, or 0 with the levels Ls and Lr.
+// A refusal's number, or 0 with the levels Ls and Lr: beside a refusal they are 0.
 pub struct Tested {
     pub refusal: u64,
     pub shot: u64,
     pub read: u64,
+}
+
+fn refused(number: u64) -> Tested
+    ensures { λ r. ⌜ r ≡ record { refusal = number; shot = 0; read = 0 } ⌝ }
+{
+    Tested {
+        refusal: number,
+        shot: 0,
+        read: 0,
+    }
 }
 
 // Tests 1 to 10, 18, 24 and 11: those that merge and run share.
@@ -74,22 +84,20 @@ pub fn run_refusal(
         work.len(),
     );
     if lengths != 0 {
-        return Tested {
-            refusal: lengths,
-            shot: 0,
-            read: 0,
-        };
+        return refused(lengths);
     }
     match noise::levels_of(noise) {
-        Levels::Refused(number) => Tested {
-            refusal: number,
-            shot: 0,
-            read: 0,
-        },
-        Levels::Found { shot, read } => Tested {
-            refusal: content_refusal(shape, tuning, samples),
-            shot,
-            read,
-        },
+        Levels::Refused(number) => refused(number),
+        Levels::Found { shot, read } => {
+            let refusal = content_refusal(shape, tuning, samples);
+            if refusal != 0 {
+                return refused(refusal);
+            }
+            Tested {
+                refusal,
+                shot,
+                read,
+            }
+        }
     }
 }

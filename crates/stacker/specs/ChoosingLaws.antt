@@ -9,12 +9,13 @@ use Rattle.geometry.specs.declared.Shape.{Shape}
 use Rattle.geometry.specs.Shape.{countAllowed, countRefusal, referenceRefusal}
 use Rattle.limits.specs.Order.{shapeTests, frameTests, mergeShapeTests}
 use Rattle.noise.specs.declared.Noise.{Noise}
+use Rattle.noise.specs.Levels.{levelsOf}
 use Rattle.recipe.specs.declared.Tuning.{Tuning}
 use Rattle.sharpness.specs.SharpnessLaws.{lone-first}
 use Rattle.stacker.specs.declared.Alignment.{Alignment}
 use Rattle.stacker.specs.declared.Choice.{Choice}
 use Rattle.admission.specs.declared.Tested.{Tested}
-use Rattle.admission.specs.Admission.{RunTested}
+use Rattle.admission.specs.Admission.{testedAs, RunTested}
 use Rattle.admission.specs.Refusals.{runTests, runRefusal}
 use Rattle.stacker.specs.Calls.{Ran}
 use Rattle.stacker.specs.Choosing.{choosingTests, choosingRefusal, Chosen}
@@ -53,7 +54,10 @@ module _ {s : Shape} {noise : Noise} {tuning : Tuning} {samples : List ℕ} {vec
   -- the tests that were made with index 0 are those of any frame's
   pub tested-any : {tested : Tested} (reference : ℕ) → reference < s .count → RunTested s 0 noise tuning samples vectors output work tested
       → RunTested s reference noise tuning samples vectors output work tested
-  tested-any reference h t = record { number = t .number ∙ first-refusal s noise tuning samples vectors output work ∙ sym (same-refusal s noise tuning samples vectors output work reference h); shot-is = t .shot-is; read-is = t .read-is }
+  tested-any reference h t =
+      record {
+        answer = t .answer ∙ ap (λ n. testedAs n (levelsOf noise)) (first-refusal s noise tuning samples vectors output work ∙ sym (same-refusal s noise tuning samples vectors output work reference h));
+      }
 
   -- Its answer is run's: run with the index that was chosen answers the same and leaves the same in every buffer.
   pub as-run : {vectors′ vectors″ work′ work″ : List ℤ} {output′ output″ : List ℕ} {r : Choice} {ran : Alignment}

@@ -3,6 +3,7 @@ use Rattle.algebra.specs.Prelude.{_≡_, sym, ap₂, subst, _∙_, List, ℕ, _
 use Rattle.refusals.specs.AfterLaws.{kept, made}
 use Rattle.geometry.specs.declared.Shape.{Shape}
 use Rattle.noise.specs.declared.Noise.{Noise}
+use Rattle.noise.specs.Levels.{levelsOf, shotLevel, readLevel}
 use Rattle.alignment.specs.declared.burst.Totals.{Totals}
 use Rattle.alignment.specs.Aligned.{alignedVectors}
 use Rattle.recipe.specs.declared.Merge.{Merge}
@@ -12,6 +13,7 @@ use Rattle.recipe.specs.Merged.{merged}
 use Rattle.pipeline.specs.Levels.{Runnable, RanLevels}
 use Rattle.admission.specs.declared.Tested.{Tested}
 use Rattle.admission.specs.Admission.{RunTested}
+use Rattle.admission.specs.AdmissionLaws.{tested-number, tested-levels}
 use Rattle.stacker.specs.AdmissionLaws.{run-passed}
 use Rattle.stacker.specs.CallLaws.{answer-refused, answer-accepted}
 use Rattle.stacker.specs.CloseLaws.{found-close}
@@ -24,9 +26,15 @@ levelled s reference tuning tested = record { shape = s; reference = reference; 
 
 module _ {s : Shape} {reference : ℕ} {noise : Noise} {tuning : Tuning} {samples : List ℕ} {vectors : List ℤ} {output : List ℕ} {work : List ℤ} {tested : Tested}
     (t : RunTested s reference noise tuning samples vectors output work tested) where
+  number : tested .refusal ≡ runRefusal s reference noise tuning samples vectors output work
+  number = tested-number _ _ (t .answer)
+
+  levels : tested .refusal ≡ 0 → (tested .shot ≡ shotLevel (levelsOf noise)) × (tested .read ≡ readLevel (levelsOf noise))
+  levels = tested-levels _ _ (t .answer)
+
   pub ran-refused : (tested .refusal ≡ 0 → ⊥) → Ran s reference noise tuning samples vectors vectors output output work work (record { refusal = tested .refusal; residuals = noSums; rows = 0 })
   ran-refused h =
-      let e = t .number in
+      let e = number in
       record {
         answer = answer-refused _ _ _ e h;
         found = kept _ _ _ e h;
@@ -39,12 +47,12 @@ module _ {s : Shape} {reference : ℕ} {noise : Noise} {tuning : Tuning} {sample
   module _ (z : tested .refusal ≡ 0) where
     pub runnable : Runnable (levelled s reference tuning tested) samples vectors output work
     runnable =
-        let ready = run-passed s reference samples vectors noise tuning output work (sym (t .number) ∙ z) in
+        let ready = run-passed s reference samples vectors noise tuning output work (sym (number) ∙ z) in
         record {
           fits = ready .fits;
           samples-fit = ready .samples-fit;
-          shot-most = subst (λ n. n ≤ 65536) (sym (t .shot-is z)) (ready .shot-most);
-          read-most = subst (λ n. n ≤ 4194304) (sym (t .read-is z)) (ready .read-most);
+          shot-most = subst (λ n. n ≤ 65536) (sym (levels z .0)) (ready .shot-most);
+          read-most = subst (λ n. n ≤ 4194304) (sym (levels z .1)) (ready .read-most);
           strength-most = ready .strength-most;
           spatial-most = ready .spatial-most;
         }
@@ -52,9 +60,9 @@ module _ {s : Shape} {reference : ℕ} {noise : Noise} {tuning : Tuning} {sample
     pub ran-accepted : {vectors′ work′ : List ℤ} {output′ : List ℕ} {r : Totals} → RanLevels (levelled s reference tuning tested) samples vectors′ output′ work work′ r →
         Ran s reference noise tuning samples vectors vectors′ output output′ work work′ (record { refusal = 0; residuals = r .residuals; rows = r .rows })
     ran-accepted {vectors′} {work′} {output′} {r} is =
-        let e = t .number in
+        let e = number in
         let found = alignedVectors s reference samples in
-        let result = is .result ∙ ap₂ (λ shot read. merged (sceneOf (record { shape = s; reference = reference; shot = shot; read = read; tuning = tuning }) samples found)) (t .shot-is z) (t .read-is z) in
+        let result = is .result ∙ ap₂ (λ shot read. merged (sceneOf (record { shape = s; reference = reference; shot = shot; read = read; tuning = tuning }) samples found)) (levels z .0) (levels z .1) in
         record {
           answer = answer-accepted _ _ _ e z (is .sums-are) (is .rows-are);
           found = made _ _ _ e z (is .found);

@@ -1,6 +1,7 @@
 -- `stacker::choose::run_sharpest`: run's tests with index 0, which are those of any frame's; then run's core with the frame chosen.
 use Rattle.algebra.specs.Prelude.{sym, _∙_, needs}
 use Rattle.refusals.specs.AfterLaws.{kept, made}
+use Rattle.admission.specs.AdmissionLaws.{tested-number}
 use Rattle.stacker.specs.RanLaws.{ran-refused, runnable, ran-accepted}
 use Rattle.stacker.specs.ChoosingLaws.{first-refusal, tested-any}
 use Rattle.stacker.proofs.choose.run_sharpest.Statement.{statement}
@@ -10,7 +11,7 @@ returns : tie.Need-returns
 returns c =
     let h = c .if1 .taken in
     let t = c .before .run-refusal .ensures in
-    let e = t .number ∙ first-refusal _ _ _ _ _ _ _ in
+    let e = tested-number _ _ (t .answer) ∙ first-refusal _ _ _ _ _ _ _ in
     record { number = e; chosen = kept _ _ _ e h; ran = ran-refused t h }
 
 sharpest-requires : tie.Need-sharpest-requires
@@ -31,7 +32,7 @@ returns-2 c =
     let passed = chosen .before in
     let t = passed .before .run-refusal .ensures in
     let z = passed .if1 .left in
-    let e = t .number ∙ first-refusal _ _ _ _ _ _ _ in
+    let e = tested-number _ _ (t .answer) ∙ first-refusal _ _ _ _ _ _ _ in
     record {
       number = sym z ∙ e;
       chosen = made _ _ _ e z (chosen .sharpest .ensures .0);

@@ -6,6 +6,7 @@ use Rattle.values.specs.BoundLaws.{vectors-fit}
 use Rattle.recipe.specs.Scene.{sceneOf}
 use Rattle.recipe.specs.Merged.{merged}
 use Rattle.admission.specs.Refusals.{mergeRefusal}
+use Rattle.admission.specs.AdmissionLaws.{tested-number, tested-levels}
 use Rattle.refusals.specs.AfterLaws.{kept, made}
 use Rattle.stacker.specs.AdmissionLaws.{run-passed}
 use Rattle.stacker.specs.CloseLaws.{output-close}
@@ -17,7 +18,7 @@ returns : tie.Need-returns
 unfolding mergeRefusal
 returns c =
     let h = c .if1 .taken in
-    let e = stops _ _ (c .before .before .run-refusal .ensures .number) h in
+    let e = stops _ _ (tested-number _ _ (c .before .before .run-refusal .ensures .answer)) h in
     record { answer = e; result = kept _ _ _ e h; clean = kept _ _ _ e h; near = λ z. absurd (h z); ceiling = λ z. absurd (h z) }
 
 returns-2 : tie.Need-returns-2
@@ -25,23 +26,23 @@ unfolding mergeRefusal
 returns-2 c =
     let h = c .if2 .taken in
     let passed = c .before .before in
-    let e = goes _ _ (passed .before .before .run-refusal .ensures .number) (passed .if1 .left) (c .before .vector-refusal .ensures ∙ lone _) in
+    let e = goes _ _ (tested-number _ _ (passed .before .before .run-refusal .ensures .answer)) (passed .if1 .left) (c .before .vector-refusal .ensures ∙ lone _) in
     record { answer = e; result = kept _ _ _ e h; clean = kept _ _ _ e h; near = λ z. absurd (h z); ceiling = λ z. absurd (h z) }
 
 merge-frames-requires : tie.Need-merge-frames-requires
 merge-frames-requires c κs =
     let lent = c .before .before in
     let passed = lent .before .before in
-    let tested = passed .before .before .run-refusal .ensures in
+    let tested = passed .before .before .run-refusal .ensures .answer in
     let z = passed .if1 .left in
-    let ready = run-passed _ _ _ _ _ _ _ _ (sym (tested .number) ∙ z) in
+    let ready = run-passed _ _ _ _ _ _ _ _ (sym (tested-number _ _ tested) ∙ z) in
     record {
       accepted = record {
         burst = ready .fits .burst;
         samples-fit = ready .samples-fit;
         vectors-fit = vectors-fit _ (sym (lent .before .vector-refusal .ensures) ∙ lent .if2 .left);
-        shot-most = subst (λ n. n ≤ 65536) (sym (tested .shot-is z)) (ready .shot-most);
-        read-most = subst (λ n. n ≤ 4194304) (sym (tested .read-is z)) (ready .read-most);
+        shot-most = subst (λ n. n ≤ 65536) (sym (tested-levels _ _ tested z .0)) (ready .shot-most);
+        read-most = subst (λ n. n ≤ 4194304) (sym (tested-levels _ _ tested z .1)) (ready .read-most);
         strength-most = ready .strength-most;
         spatial-most = ready .spatial-most;
       };
@@ -55,12 +56,12 @@ returns-3 c =
     let merge = c .before .before .before .before .before .before in
     let lent = merge .before .before .before in
     let passed = lent .before .before in
-    let tested = passed .before .before .run-refusal .ensures in
+    let tested = passed .before .before .run-refusal .ensures .answer in
     let a = passed .before .before .before .before .before .before .before .args in
     let z = passed .if1 .left in
-    let e = goes _ _ (tested .number) z (lent .before .vector-refusal .ensures ∙ lone _) in
-    let is = merge .merge-frames .ensures ∙ ap₂ (λ shot read. merged (sceneOf (record { shape = a .shape; reference = a .reference; shot = shot; read = read; tuning = a .tuning }) (a .samples .now) (a .vectors .now))) (tested .shot-is z) (tested .read-is z) in
-    let ready = run-passed _ _ _ _ _ _ _ _ (sym (tested .number) ∙ z) in
+    let e = goes _ _ (tested-number _ _ tested) z (lent .before .vector-refusal .ensures ∙ lone _) in
+    let is = merge .merge-frames .ensures ∙ ap₂ (λ shot read. merged (sceneOf (record { shape = a .shape; reference = a .reference; shot = shot; read = read; tuning = a .tuning }) (a .samples .now) (a .vectors .now))) (tested-levels _ _ tested z .0) (tested-levels _ _ tested z .1) in
+    let ready = run-passed _ _ _ _ _ _ _ _ (sym (tested-number _ _ tested) ∙ z) in
     record {
       answer = sym (lent .if2 .left) ∙ e;
       result = made _ _ _ e (lent .if2 .left) is;
