@@ -15,7 +15,8 @@ use Rattle.geometry.specs.Tiles.{Level, level0, level1, level2, level3, Step, s
 use Rattle.residuals.specs.declared.Tile.{Tile}
 use Rattle.geometry.specs.declared.vectors.Vector.{Vector}
 use Rattle.search.specs.Vectors.{still, _plus_, _times_}
-use Rattle.search.specs.Offsets.{downs, rights, offset}
+use Rattle.search.specs.Offsets.{offset}
+use Rattle.search.specs.OffsetLaws.{offset-zero}
 use Rattle.residuals.specs.Residual.{gap, difference, Pair, rowResidual, residual}
 use Rattle.search.specs.Search.{tried, chosen, found, three, guessed}
 use Rattle.sequences.specs.LeastLaws.{first}
@@ -44,8 +45,9 @@ pub record AtRest (p : Pair) : Type 0 where
 
 module _ (p : Pair) (rest : AtRest p) where
   still-found : (squared : Bool) (t : Tile) → found squared p t still ≡ still
-  unfolding found chosen tried offset downs rights
-  still-found squared t = ap (λ k. still plus offset k) (first-least (tried squared p t still) 80 (λ k. rest .least squared t (still plus offset k)))
+  unfolding found chosen tried
+  still-found squared t =
+      ap (λ k. still plus offset k) (first-least (tried squared p t still) 80 (λ k. rw offset-zero (rest .least squared t (still plus offset k)))) ∙ ap (λ o. still plus o) offset-zero
 
   still-guess : (t : Tile) → guessed p t still still still ≡ still
   unfolding guessed three

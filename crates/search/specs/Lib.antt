@@ -5,6 +5,7 @@ pub mod Rows
 pub mod Ties
 pub mod Local
 pub mod VectorLaws
+pub mod Table
 pub mod OffsetLaws
 pub mod SearchLaws
 pub mod RowLaws

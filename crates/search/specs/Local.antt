@@ -6,7 +6,7 @@ use Rattle.sequences.specs.Least.{firstMin}
 use Rattle.residuals.specs.Magnitudes.{residualMost}
 use Rattle.residuals.specs.Local.{squareRow, Low}
 use Rattle.search.specs.declared.window.Best.{Best}
-use Rattle.search.specs.Offsets.{downs, rights}
+use Rattle.search.specs.Table.{downs, rights}
 use Rattle.search.specs.Rows.{offsetRows}
 
 -- row i at the offset number k, in a window that reaches 4 samples further than the tile each way

@@ -8,8 +8,9 @@ use Rattle.residuals.specs.declared.Tile.{Tile}
 use Rattle.geometry.specs.declared.vectors.Vector.{Vector}
 use Rattle.search.specs.Vectors.{_plus_}
 use Rattle.residuals.specs.Magnitudes.{residualMost}
-use Rattle.search.specs.Offsets.{downs, rights, offset}
-use Rattle.search.specs.OffsetLaws.{parts-most}
+use Rattle.search.specs.Offsets.{offset}
+use Rattle.search.specs.Table.{downs, rights, tabled}
+use Rattle.search.specs.OffsetLaws.{offset-tabled, parts-most}
 use Rattle.residuals.specs.Residual.{difference, Pair, rowResidual, residual}
 use Rattle.search.specs.Search.{tried, chosen, found}
 use Rattle.search.specs.Rows.{offsetRows, searchRows}
@@ -52,12 +53,13 @@ biased r g n =
 
 -- the rows in a window that starts 4 rows and columns before the tile moved by the guess are those of the residuals that are tried
 window-row : (squared : Bool) (p : Pair) (t : Tile) (guess : Vector) (tile window : List ℕ) → Copied tile (t .side) (t .side) (p .reference) (t .origin .down) (t .origin .right) → Copied window (t .side + 8) (t .side + 8) (p .other) (t .origin .down +ℤ guess .down +ℤ negsuc 3) (t .origin .right +ℤ guess .right +ℤ negsuc 3) → (k i : ℕ) → k < 81 → i < t .side → windowRow squared tile window (t .side) k i ≡ rowResidual squared p t (guess plus offset k) i
-unfolding windowRow offset
+unfolding windowRow tabled
 window-row squared p t guess tile window copied seen k i h l =
-    square-row squared p t (guess plus offset k) tile window (getD downs k 0 * (t .side + 8) + getD rights k 0) (t .side + 8) (getD downs k 0) (getD rights k 0) (t .origin .down +ℤ guess .down +ℤ negsuc 3) (t .origin .right +ℤ guess .right +ℤ negsuc 3) copied seen
+    rw (offset-tabled k h)
+    (square-row squared p t (guess plus tabled k) tile window (getD downs k 0 * (t .side + 8) + getD rights k 0) (t .side + 8) (getD downs k 0) (getD rights k 0) (t .origin .down +ℤ guess .down +ℤ negsuc 3) (t .origin .right +ℤ guess .right +ℤ negsuc 3) copied seen
     (omega (arith, parts-most k h .0)) (omega (arith, parts-most k h .1)) refl
     (biased (t .origin .down) (guess .down) (pos (getD downs k 0))) (biased (t .origin .right) (guess .right) (pos (getD rights k 0)))
-    i l
+    i l)
 
 -- a square of the other image at the tile moved by v, of side n
 pub moved-residual : (squared : Bool) (p : Pair) (t : Tile) (v : Vector) (tile moved : List ℕ) (row column : ℤ) (n : ℕ) → t .side ≡ n → Copied tile (t .side) (t .side) (p .reference) (t .origin .down) (t .origin .right) → Copied moved n n (p .other) row column → row ≡ t .origin .down +ℤ v .down → column ≡ t .origin .right +ℤ v .right → squareSum squared tile moved 0 n n ≡ residual squared p t v

@@ -1,13 +1,24 @@
 -- The offsets that are tried, in tie order.
-use Rattle.algebra.specs.Prelude.{List, [], _∷_, ℕ, getD, pos, _-ℤ_}
+use Rattle.algebra.specs.Prelude.{cond, List, [], _∷_, ℕ, _/_, _%_, getD, pos, _-ℤ_}
+use Rattle.sequences.specs.Tab.{tab}
 use Rattle.geometry.specs.declared.vectors.Vector.{Vector}
+use Rattle.search.specs.Vectors.{still}
+use Rattle.search.specs.Ties.{earlier}
 
--- "all offsets −4..4 in both directions", in the order of the ties: entry k is offset k's part plus 4
-unfoldable pub downs : List ℕ
-downs = 4 ∷ 3 ∷ 4 ∷ 4 ∷ 5 ∷ 2 ∷ 3 ∷ 3 ∷ 4 ∷ 4 ∷ 5 ∷ 5 ∷ 6 ∷ 1 ∷ 2 ∷ 2 ∷ 3 ∷ 3 ∷ 4 ∷ 4 ∷ 5 ∷ 5 ∷ 6 ∷ 6 ∷ 7 ∷ 0 ∷ 1 ∷ 1 ∷ 2 ∷ 2 ∷ 3 ∷ 3 ∷ 4 ∷ 4 ∷ 5 ∷ 5 ∷ 6 ∷ 6 ∷ 7 ∷ 7 ∷ 8 ∷ 0 ∷ 0 ∷ 1 ∷ 1 ∷ 2 ∷ 2 ∷ 3 ∷ 3 ∷ 5 ∷ 5 ∷ 6 ∷ 6 ∷ 7 ∷ 7 ∷ 8 ∷ 8 ∷ 0 ∷ 0 ∷ 1 ∷ 1 ∷ 2 ∷ 2 ∷ 6 ∷ 6 ∷ 7 ∷ 7 ∷ 8 ∷ 8 ∷ 0 ∷ 0 ∷ 1 ∷ 1 ∷ 7 ∷ 7 ∷ 8 ∷ 8 ∷ 0 ∷ 0 ∷ 8 ∷ 8 ∷ []
+-- "all offsets −4..4 in both directions", row by row
+unfoldable pub square : List Vector
+square = tab 81 (λ k. record { down = pos (k / 9) -ℤ pos 4; right = pos (k % 9) -ℤ pos 4 })
 
-unfoldable pub rights : List ℕ
-rights = 4 ∷ 4 ∷ 3 ∷ 5 ∷ 4 ∷ 4 ∷ 3 ∷ 5 ∷ 2 ∷ 6 ∷ 3 ∷ 5 ∷ 4 ∷ 4 ∷ 3 ∷ 5 ∷ 2 ∷ 6 ∷ 1 ∷ 7 ∷ 2 ∷ 6 ∷ 3 ∷ 5 ∷ 4 ∷ 4 ∷ 3 ∷ 5 ∷ 2 ∷ 6 ∷ 1 ∷ 7 ∷ 0 ∷ 8 ∷ 1 ∷ 7 ∷ 2 ∷ 6 ∷ 3 ∷ 5 ∷ 4 ∷ 3 ∷ 5 ∷ 2 ∷ 6 ∷ 1 ∷ 7 ∷ 0 ∷ 8 ∷ 0 ∷ 8 ∷ 1 ∷ 7 ∷ 2 ∷ 6 ∷ 3 ∷ 5 ∷ 2 ∷ 6 ∷ 1 ∷ 7 ∷ 0 ∷ 8 ∷ 0 ∷ 8 ∷ 1 ∷ 7 ∷ 2 ∷ 6 ∷ 1 ∷ 7 ∷ 0 ∷ 8 ∷ 0 ∷ 8 ∷ 1 ∷ 7 ∷ 0 ∷ 8 ∷ 0 ∷ 8 ∷ []
+-- an offset put before the first that it is earlier than
+unfoldable pub placed : Vector → List Vector → List Vector
+placed o [] = o ∷ []
+placed o (p ∷ others) = cond (earlier o p) (o ∷ p ∷ others) (p ∷ placed o others)
 
+-- offsets sorted by the tie rule
+unfoldable pub sorted : List Vector → List Vector
+sorted [] = []
+sorted (o ∷ others) = placed o (sorted others)
+
+-- "Try offsets in tie order" (request L12): the k-th of the 81
 unfoldable pub offset : ℕ → Vector
-offset k = record { down = pos (getD downs k 0) -ℤ pos 4; right = pos (getD rights k 0) -ℤ pos 4 }
+offset k = getD (sorted square) k still

@@ -8,7 +8,7 @@ use Rattle.sequences.specs.Tab.{tab}
 use Rattle.sequences.specs.TabLaws.{length-tab, getD-tab}
 use Rattle.residuals.specs.Residual.{gap, difference}
 use Rattle.residuals.specs.Local.{rowSum, squareRow}
-use Rattle.search.specs.Offsets.{downs, rights}
+use Rattle.search.specs.Table.{downs, rights}
 use Rattle.search.specs.OffsetLaws.{parts-most}
 use Rattle.search.specs.Local.{windowRow, Window}
 

@@ -5,7 +5,7 @@ use Rattle.algebra.specs.Sums.{sumN}
 use Rattle.sequences.specs.Sum.{Summed, sum-start, sum-turn}
 use Rattle.sequences.specs.LeastLaws.{Lowest, lowest-start, lowest-take, lowest-keep}
 use Rattle.residuals.specs.Magnitudes.{residualMost}
-use Rattle.search.specs.Offsets.{downs, rights}
+use Rattle.search.specs.Table.{downs, rights}
 use Rattle.search.specs.OffsetLaws.{parts-most}
 use Rattle.search.specs.Rows.{offsetRows}
 use Rattle.search.specs.RowLaws.{offset-rows-most}
