@@ -16,7 +16,7 @@ use Rattle.refusals.specs.Numbers as no
 use Rattle.refusals.specs.Tests.{refuse}
 use Rattle.refusals.specs.TestLaws.{refuse-not}
 use Rattle.refusals.specs.Some.{some}
-use Rattle.refusals.specs.SomeLaws.{or-false, or-true, some-rows, one, one-of, none, Passed, pass-turns, pass-done, every}
+use Rattle.refusals.specs.SomeLaws.{or-false, or-true, some-rows, one, one-of, none, not-one, Passed, pass-turns, pass-done, every}
 
 -- the test over frame, row and column is one over all rows
 flat : (s : Shape) (samples : List ℕ) → sampleRefusal s samples ≡ refuse no.sampleValue (some (s .count * s .height) (λ row. rowAbove samples (row * s .«row_length») (s .width)))
@@ -97,6 +97,12 @@ module _ (s : Shape) (samples : List ℕ) where
       record {
         most = λ frame row column f r c. ltb-false 4095 (sampleAt s samples frame row column) (none (s .width) (over frame row) (none (s .height) (inRow frame) (frames frame f) row r) column c);
       }
+
+  -- and all that is small
+  pub samples-pass : SamplesFit s samples → sampleRefusal s samples ≡ 0
+  unfolding sampleRefusal
+  samples-pass fit =
+      rw (not-one (s .count) inFrame (λ frame f. not-one (s .height) (inRow frame) (λ row r. not-one (s .width) (over frame row) (λ column c. le-ltb 4095 (sampleAt s samples frame row column) (fit .most frame row column f r c)))))
 
 pub values-samples : {samples : List ℕ} (s : Shape) → ValuesFit samples → SamplesFit s samples
 unfolding sampleAt

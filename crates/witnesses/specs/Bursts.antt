@@ -1,0 +1,153 @@
+-- Each call on a burst accepts document 01's figure, and has an input for each of its refusals. So no call refuses all bursts, and none of its numbers stands idle.
+use Rattle.algebra.specs.Prelude.{_≡_, refl, sym, ap, ap₂, _∙_, List, [], _∷_, _++_, ℕ, lit≤, length, ℤ, pos}
+use lib.ListN.{replicate, length-replicate}
+use Rattle.sequences.specs.Clear.{zeros}
+use Rattle.refusals.specs.Tests.{first}
+use Rattle.refusals.specs.TestLaws.{goes, lone}
+use Rattle.refusals.specs.Some.{some}
+use Rattle.refusals.specs.After.{after}
+use Rattle.refusals.specs.AfterLaws.{result-made}
+use Rattle.geometry.specs.Shape.{sizeAllowed, countAllowed, sizeRefusal, countRefusal, referenceRefusal, rowAllowed, rowRefusal, sampleLength, vectorLength, outputLength, workLength, lengthRefusal}
+use Rattle.geometry.specs.Read.{sampleIndex, sampleAt}
+use Rattle.limits.specs.Order.{shapeTests, frameTests, alignLengths, mergeLengths, alignShapeTests, mergeShapeTests}
+use Rattle.values.specs.Bounds.{sampleRefusal, vectorRefusal}
+use Rattle.values.specs.BoundLaws.{samples-pass, values-samples}
+use Rattle.noise.specs.Levels.{invalidCurve, invalidIso, invalidNoise, aboveLimits, noiseTests, levelsOf, strengthRefusal, blackRefusal, spatialRefusal}
+use Rattle.recipe.specs.Scene.{sceneOf}
+use Rattle.recipe.specs.Merged.{merged}
+use Rattle.alignment.specs.Aligned.{residualSums}
+use Rattle.alignment.specs.Rows.{rowsSummed}
+use Rattle.admission.specs.Refusals.{alignRefusal, contentTests, runTests, runRefusal, mergeRefusal, mergeOf}
+use Rattle.stacker.specs.declared.Alignment.{Alignment}
+use Rattle.stacker.specs.declared.Choice.{Choice}
+use Rattle.stacker.specs.Calls.{answered, Aligned, Merged, Ran}
+use Rattle.stacker.specs.Choosing.{choosingTests, choosingRefusal, Chosen}
+use Rattle.stacker.specs.ChoosingLaws.{first-refusal}
+use Rattle.sanity.specs.FlatFigure.{shape, plain, burst, merged-2, vectors-0, residual-102400}
+use Rattle.witnesses.specs.SmallLaws.{append-most, replicate-most}
+use Rattle.witnesses.specs.Inputs.{Input, dark, full, vectors, work, figure, width-96, nine-frames, reference-2, row-63, one-short, no-vectors, one-over, no-work, iso-24, shot-65, strength-1025, black-256, spatial-257, sample-4096, part-173}
+
+-- the number that each call answers
+abbrev pub alignNumber : Input → ℕ
+alignNumber i = alignRefusal (i .shape) (i .reference) (i .samples) (i .vectors) (i .work)
+
+abbrev pub mergeNumber : Input → ℕ
+mergeNumber i = mergeRefusal (i .shape) (i .reference) (i .noise) (i .tuning) (i .samples) (i .vectors) (i .output) (i .work)
+
+abbrev pub runNumber : Input → ℕ
+runNumber i = runRefusal (i .shape) (i .reference) (i .noise) (i .tuning) (i .samples) (i .vectors) (i .output) (i .work)
+
+abbrev pub choosingNumber : Input → ℕ
+choosingNumber i = choosingRefusal (i .shape) (i .noise) (i .tuning) (i .samples) (i .vectors) (i .output) (i .work)
+
+-- the numbers of some inputs
+abbrev pub numbers : (Input → ℕ) → List Input → List ℕ
+numbers number [] = []
+numbers number (i ∷ is) = number i ∷ numbers number is
+
+pub align-refuses : numbers alignNumber (width-96 ∷ nine-frames ∷ reference-2 ∷ row-63 ∷ one-short ∷ no-vectors ∷ no-work ∷ sample-4096 ∷ []) ≡ 1 ∷ 2 ∷ 3 ∷ 23 ∷ 4 ∷ 5 ∷ 7 ∷ 11 ∷ []
+unfolding plain alignRefusal alignShapeTests frameTests shapeTests alignLengths first some sizeAllowed countAllowed sizeRefusal countRefusal referenceRefusal rowAllowed rowRefusal sampleLength vectorLength workLength lengthRefusal sampleRefusal sampleAt sampleIndex
+align-refuses = refl
+
+-- what merge, run and the run that chooses have in common, but for 3
+abbrev pub shared : List Input
+shared = row-63 ∷ one-short ∷ no-vectors ∷ one-over ∷ no-work ∷ iso-24 ∷ shot-65 ∷ strength-1025 ∷ black-256 ∷ spatial-257 ∷ sample-4096 ∷ []
+
+abbrev pub sharedNumbers : List ℕ
+sharedNumbers = 23 ∷ 4 ∷ 5 ∷ 6 ∷ 7 ∷ 8 ∷ 9 ∷ 10 ∷ 18 ∷ 24 ∷ 11 ∷ []
+
+pub run-refuses : numbers runNumber (width-96 ∷ nine-frames ∷ reference-2 ∷ shared) ≡ 1 ∷ 2 ∷ 3 ∷ sharedNumbers
+unfolding plain runTests contentTests mergeShapeTests frameTests shapeTests mergeLengths first some sizeAllowed countAllowed sizeRefusal countRefusal referenceRefusal rowAllowed rowRefusal sampleLength vectorLength outputLength workLength lengthRefusal sampleRefusal sampleAt sampleIndex noiseTests invalidNoise invalidCurve invalidIso aboveLimits strengthRefusal blackRefusal spatialRefusal
+run-refuses = refl
+
+pub choosing-refuses : numbers choosingNumber (width-96 ∷ nine-frames ∷ shared) ≡ 1 ∷ 2 ∷ sharedNumbers
+unfolding plain choosingTests contentTests shapeTests mergeLengths first some sizeAllowed countAllowed sizeRefusal countRefusal rowAllowed rowRefusal sampleLength vectorLength outputLength workLength lengthRefusal sampleRefusal sampleAt sampleIndex noiseTests invalidNoise invalidCurve invalidIso aboveLimits strengthRefusal blackRefusal spatialRefusal
+choosing-refuses = refl
+
+pub merge-refuses : numbers mergeNumber (width-96 ∷ nine-frames ∷ reference-2 ∷ shared) ≡ 1 ∷ 2 ∷ 3 ∷ sharedNumbers
+unfolding plain mergeRefusal runTests contentTests mergeShapeTests frameTests shapeTests mergeLengths first some sizeAllowed countAllowed sizeRefusal countRefusal referenceRefusal rowAllowed rowRefusal sampleLength vectorLength outputLength workLength lengthRefusal sampleRefusal sampleAt sampleIndex noiseTests invalidNoise invalidCurve invalidIso aboveLimits strengthRefusal blackRefusal spatialRefusal
+merge-refuses = refl
+
+-- the figure's samples pass 11
+samples-small : sampleRefusal shape burst ≡ 0
+unfolding plain
+samples-small =
+    samples-pass shape burst (values-samples shape (record { most = append-most 4095 (plain 0) (plain 4) (replicate-most 4095 4096 0 (lit≤ tt)) (replicate-most 4095 4096 4 (lit≤ tt)) }))
+
+lengths-right : (vectors : List ℤ) → length vectors ≡ 50 → first (mergeShapeTests shape 0 (length burst) (length vectors) (length (plain 9)) (length work)) ≡ 0
+unfolding plain mergeShapeTests frameTests shapeTests mergeLengths first sizeAllowed countAllowed sizeRefusal countRefusal referenceRefusal rowAllowed rowRefusal sampleLength vectorLength outputLength workLength lengthRefusal
+lengths-right vectors e = rw e
+
+noise-passes : first (noiseTests dark) ≡ 0
+unfolding noiseTests first invalidNoise invalidCurve aboveLimits
+noise-passes = refl
+
+content-passes : first (contentTests shape full burst) ≡ 0
+unfolding contentTests first some strengthRefusal blackRefusal spatialRefusal
+content-passes = rw samples-small
+
+run-passes : (vectors : List ℤ) → length vectors ≡ 50 → runRefusal shape 0 dark full burst vectors (plain 9) work ≡ 0
+unfolding runTests
+run-passes vectors e = sym (goes (mergeShapeTests shape 0 (length burst) (length vectors) (length (plain 9)) (length work)) (noiseTests dark ++ contentTests shape full burst) (sym (lengths-right vectors e)) refl (goes (noiseTests dark) (contentTests shape full burst) (sym noise-passes) refl (sym content-passes)))
+
+-- "vector part outside −172..172"
+pub merge-refuses-12 : mergeNumber part-173 ≡ 12
+unfolding mergeRefusal first some vectorRefusal
+merge-refuses-12 = sym (goes (runTests shape 0 dark full burst (part-173 .vectors) (plain 9) work) _ (sym (run-passes (part-173 .vectors) refl)) refl refl)
+
+-- and the figure passes
+align-lengths : first (alignShapeTests shape 0 (length burst) (length vectors) (length work)) ≡ 0
+unfolding plain alignShapeTests frameTests shapeTests alignLengths first sizeAllowed countAllowed sizeRefusal countRefusal referenceRefusal rowAllowed rowRefusal sampleLength vectorLength workLength lengthRefusal
+align-lengths = refl
+
+pub align-number : alignNumber figure ≡ 0
+unfolding alignRefusal
+align-number = sym (goes (alignShapeTests shape 0 (length burst) (length vectors) (length work)) _ (sym align-lengths) refl (sym samples-small ∙ lone _))
+
+pub run-number : runNumber figure ≡ 0
+run-number = run-passes vectors refl
+
+pub choosing-number : choosingNumber figure ≡ 0
+choosing-number = sym (first-refusal shape dark full burst vectors (plain 9) work) ∙ run-number
+
+pub merge-number : mergeNumber figure ≡ 0
+unfolding mergeRefusal first some vectorRefusal
+merge-number = sym (goes (runTests shape 0 dark full burst vectors (plain 9) work) _ (sym run-number) refl refl)
+
+-- what they leave, by their contracts
+cleared : {number : ℕ} {work′ : List ℤ} → number ≡ 0 → work′ ≡ after number work (zeros work) → work′ ≡ replicate 8192 (pos 0)
+unfolding zeros
+cleared {number} z e = result-made number work (zeros work) z e ∙ ap (λ n. replicate n (pos 0)) (length-replicate 8192 (pos 5))
+
+-- "the sum of finest residuals; the rest of its seven places are 0"
+abbrev pub answer : Alignment
+answer = record { refusal = 0; residuals = 102400 ∷ 0 ∷ 0 ∷ 0 ∷ 0 ∷ 0 ∷ 0 ∷ []; rows = rowsSummed shape 0 burst }
+
+answer-is : {number : ℕ} {r : Alignment} → number ≡ 0 → r ≡ answered number (residualSums shape 0 burst) (rowsSummed shape 0 burst) → r ≡ answer
+unfolding answered after
+answer-is z e = e ∙ ap₂ (λ number sums. answered number sums (rowsSummed shape 0 burst)) z residual-102400
+
+pub align-accepts : {vectors′ work′ : List ℤ} {r : Alignment} → Aligned shape 0 burst vectors vectors′ work work′ r →
+    (r ≡ answer) × (vectors′ ≡ replicate 50 (pos 0)) × (work′ ≡ replicate 8192 (pos 0))
+align-accepts c = (answer-is align-number (c .answer), result-made (alignNumber figure) vectors _ align-number (c .found) ∙ vectors-0, cleared align-number (c .clean))
+
+frame-2 : (vectors : List ℤ) → merged (sceneOf (mergeOf shape 0 dark full) burst vectors) ≡ plain 2
+unfolding levelsOf noiseTests first after invalidNoise invalidCurve aboveLimits
+frame-2 vectors = merged-2 vectors
+
+-- "every merged sample is 2"
+pub merge-accepts : {output′ : List ℕ} {work′ : List ℤ} {number : ℕ} → Merged shape 0 dark full burst vectors (plain 9) output′ work work′ number →
+    (number ≡ 0) × (output′ ≡ plain 2) × (work′ ≡ replicate 8192 (pos 0))
+merge-accepts c = (c .answer ∙ merge-number, result-made (mergeNumber figure) (plain 9) _ merge-number (c .result) ∙ frame-2 vectors, cleared merge-number (c .clean))
+
+pub run-accepts : {vectors′ work′ : List ℤ} {output′ : List ℕ} {r : Alignment} → Ran shape 0 dark full burst vectors vectors′ (plain 9) output′ work work′ r →
+    (r ≡ answer) × (vectors′ ≡ replicate 50 (pos 0)) × (output′ ≡ plain 2) × (work′ ≡ replicate 8192 (pos 0))
+run-accepts c = (
+  answer-is run-number (c .answer),
+  result-made (runNumber figure) vectors _ run-number (c .found) ∙ vectors-0,
+  result-made (runNumber figure) (plain 9) _ run-number (c .result) ∙ frame-2 _,
+  cleared run-number (c .clean),
+)
+
+pub choosing-accepts : {vectors′ work′ : List ℤ} {output′ : List ℕ} {r : Choice} → Chosen shape dark full burst vectors vectors′ (plain 9) output′ work work′ r → r .alignment .refusal ≡ 0
+choosing-accepts c = c .number ∙ choosing-number

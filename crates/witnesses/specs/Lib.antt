@@ -1,0 +1,6 @@
+pub mod SmallLaws
+pub mod Inputs
+pub mod Bursts
+pub mod BurstFiles
+pub mod PgmFiles
+pub mod DngFiles

@@ -1,0 +1,1 @@
+// Inputs that each call accepts, and one for each of its refusals; no code.
