@@ -1,13 +1,15 @@
 -- A file is accepted exactly when it has the structure, the tags and the values that are asked for, and the burst has room for its frame.
-use Rattle.algebra.specs.Prelude.{_≡_, refl, sym, _∙_, Bool, false, not, _||_, List, [], _∷_, _++_, ℕ, _+_, _*_, _≤_, _<_, arith, eqb, ltb, length}
-use borrow.Author.Tests.{eq-eqb, ne-eqb, eqb-true, eqb-false, ltb-false, le-ltb, not-false}
+use Rattle.algebra.specs.Prelude.{_≡_, refl, sym, _∙_, Bool, false, not, _||_, List, [], _∷_, _++_, ℕ, _+_, _*_, _%_, _≤_, _<_, arith, eqb, ltb, length}
+use borrow.Author.Tests.{eq-eqb, ne-eqb, eqb-true, eqb-false, ltb-false, le-ltb, le-leb, lt-leb, not-false}
 use Rattle.geometry.specs.declared.Shape.{Shape}
 use Rattle.refusals.specs.Numbers as no
 use Rattle.refusals.specs.Tests.{first}
 use Rattle.refusals.specs.TestLaws.{here, there, passed, goes, both-passed, lone, refuse-not}
-use Rattle.geometry.specs.Shape.{sampleLength, lengthRefusal}
-use Rattle.limits.specs.Order.{frameTests}
-use Rattle.geometry.specs.ShapeLaws.{right-length}
+use Rattle.geometry.specs.Shape.{sizeAllowed, countAllowed, sizeRefusal, countRefusal, referenceRefusal, rowAllowed, rowRefusal, sampleLength, lengthRefusal}
+use Rattle.geometry.specs.Fits.{Allowed}
+use Rattle.limits.specs.Order.{shapeTests, frameTests}
+use Rattle.limits.specs.OrderLaws.{frames-allowed}
+use Rattle.geometry.specs.ShapeLaws.{below-count, right-length}
 use Rattle.refusals.specs.Some.{some}
 use Rattle.refusals.specs.SomeLaws.{none, not-one}
 use Rattle.tiff.specs.declared.Entry.{Entry}
@@ -43,12 +45,13 @@ pub record AsAsked (file : List ℕ) (es : List Entry) (s : Shape) : Type 0 wher
   pub whole : stripLength file es ≡ 2 * (s .width * s .height)
   pub values : (row : ℕ) → row < demanded es → valueAt file es (tagAt (demandAt row .row)) (demandAt row .index) ≡ demandAt row .value
 
--- then geometry's tests of the burst and the frame's index, 4 and 11
+-- past 1, 2, 3 and 23, 4 and 11
 pub record Accepted (file : List ℕ) (es : List Entry) (s : Shape) (frame room : ℕ) : Type 0 where
   pub inside : Inside file es
   pub once : Once es
   pub asked : AsAsked file es s
-  pub burst : first (frameTests s frame) ≡ 0
+  pub allowed : Allowed s
+  pub below : frame < s .count
   pub long : room ≡ sampleLength s
   pub small : (place : ℕ) → place < s .width * s .height → stripSample file (stripStart file es) place ≤ 4095
 
@@ -58,6 +61,24 @@ differs-not a b e = eqb-true a b (not-false _ e)
 
 equal-not : (a b : ℕ) → a ≡ b → not (eqb a b) ≡ false
 equal-not a b e = rw (eq-eqb a b e)
+
+-- 1, 2, 3 and 23 pass an allowed burst that has the frame
+frames-pass : (s : Shape) (frame : ℕ) → Allowed s → frame < s .count → first (frameTests s frame) ≡ 0
+unfolding frameTests shapeTests first sizeRefusal countRefusal referenceRefusal rowRefusal sizeAllowed countAllowed rowAllowed
+frames-pass s frame a h =
+    rw (
+      le-leb 64 (s .width) (a .wide .least),
+      le-leb (s .width) 4096 (a .wide .most),
+      eq-eqb (s .width % 64) 0 (a .wide .whole),
+      le-leb 64 (s .height) (a .high .least),
+      le-leb (s .height) 4096 (a .high .most),
+      eq-eqb (s .height % 64) 0 (a .high .whole),
+      le-leb 1 (s .count) (a .some),
+      le-leb (s .count) 8 (a .few),
+      lt-leb (s .count) frame h,
+      le-leb (s .width) (s .«row_length») (a .row-least),
+      le-leb (s .«row_length») (s .width + 256) (a .row-most),
+    )
 
 module _ (file : List ℕ) (es : List Entry) where
   -- rows that are always listed
@@ -171,6 +192,10 @@ module _ (file : List ℕ) (es : List Entry) where
       abbrev above : ℕ → Bool
       above place = ltb 4095 (stripSample file (stripStart file es) place)
 
+      frame-below : first (frameTests s frame) ≡ 0 → frame < s .count
+      unfolding frameTests shapeTests
+      frame-below e = below-count s frame (passed e (there (there here)))
+
       -- the number 0 is acceptance
       pub sound : dngRefusal file es s frame room ≡ 0 → Accepted file es s frame room
       unfolding dngRefusal roomTests stripRefusal
@@ -183,7 +208,8 @@ module _ (file : List ℕ) (es : List Entry) where
             inside = tagged .0;
             once = tagged .1 .0;
             asked = tagged .1 .1;
-            burst = room-parts .0;
+            allowed = frames-allowed s frame (room-parts .0);
+            below = frame-below (room-parts .0);
             long = right-length no.sampleLength (sampleLength s) room tt (passed (room-parts .1) here);
             small = λ place h. ltb-false 4095 (stripSample file (stripStart file es) place) (none (s .width * s .height) above (refuse-not no.sampleValue (some (s .width * s .height) above) tt (passed (placed .1) here)) place h);
           }
@@ -194,7 +220,7 @@ module _ (file : List ℕ) (es : List Entry) where
       complete a =
           let small : stripRefusal file (stripStart file es) (s .width * s .height) ≡ 0 = rw (not-one (s .width * s .height) above (λ place h. le-ltb 4095 (stripSample file (stripStart file es) place) (a .small place h))) in
           let long : lengthRefusal no.sampleLength (sampleLength s) room ≡ 0 = rw (equal-not room (sampleLength s) (a .long)) in
-          let burst = goes (frameTests s frame) (lengthRefusal no.sampleLength (sampleLength s) room ∷ []) (sym (a .burst)) refl (sym long ∙ lone _) in
+          let burst = goes (frameTests s frame) (lengthRefusal no.sampleLength (sampleLength s) room ∷ []) (sym (frames-pass s frame (a .allowed) (a .below))) refl (sym long ∙ lone _) in
           sym
           (goes (tagTests file es s) (roomTests s frame room ++ stripRefusal file (stripStart file es) (s .width * s .height) ∷ []) (sym (tags-complete (a .inside) (a .once) (a .asked))) refl
           (goes (roomTests s frame room) (stripRefusal file (stripStart file es) (s .width * s .height) ∷ []) burst refl (sym small ∙ lone _)))
