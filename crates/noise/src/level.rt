@@ -106,14 +106,19 @@ pub fn noise_refusal(noise: Noise) -> u64
     )
 }
 
-// By the exponent's field and the fraction's digits of x, which is from 0 to 4096.
+// By the sign, the exponent's field and the fraction's digits of x, which is from 0 to 4096.
 pub fn floor_1024(x: f64) -> u64
     requires { ⌜ T (within 4096 x) ⌝ }
     ensures { λ r. ⌜ r ≡ floor1024 x ⌝ }
 {
     let bits: u64 = f64::to_bits(x);
+    let sign: u64 = bits >> 63;
     let exponent: u64 = (bits >> 52) & 0x7ff;
     let fraction: u64 = bits & 0xf_ffff_ffff_ffff;
+    if sign != 0 {
+        // x is -0.0, which is zero
+        return 0;
+    }
     if exponent < 1013 {
         // x is below 2^-10
         return 0;

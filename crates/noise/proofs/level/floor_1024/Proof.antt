@@ -1,5 +1,6 @@
--- The bits' fields say where the digits are shifted (`told`).
-use Rattle.algebra.specs.Prelude.{sym, subst, _∙_, not, ℕ, _/_, _%_, _^_, arith, needs, T}
+-- The bits' fields say what is zero and where the digits are shifted (`told`).
+use Rattle.algebra.specs.Prelude.{sym, subst, _∙_, not, ℕ, _/_, _%_, _^_, arith, needs, T, leb}
+use borrow.Author.Tests.{le-leb}
 use lib.Bits.{bitAnd}
 use lib.Ieee.{Float, nan, inf, fin, isNan, toBits, binary64}
 use Rattle.noise.specs.Within.{within}
@@ -13,16 +14,19 @@ not-nan k nan w = w
 not-nan k (inf s) w = tt
 not-nan k (fin s m e) w = tt
 
-known : (c : tie.Start) → Told (c .args .x) (bitAnd (toBits binary64 (c .args .x) / 2 ^ 52) 2047) (toBits binary64 (c .args .x) % 2 ^ 52)
+known : (c : tie.Start) → Told (c .args .x) (leb (2 ^ 63) (toBits binary64 (c .args .x))) (bitAnd (toBits binary64 (c .args .x) / 2 ^ 52) 2047) (toBits binary64 (c .args .x) % 2 ^ 52)
 known c = told (c .args .x) (subst T (sym (c .good .0 .1)) tt) (c .pre)
 
 returns : tie.Need-returns
-returns c = sym (known (c .before) .low (c .if1 .taken))
+returns c = let b = toBits binary64 (c .before .args .x) in sym (known (c .before) .negative (le-leb (2 ^ 63) b (omega (arith, c .if1 .taken))))
 
 returns-2 : tie.Need-returns-2
-returns-2 c = joined (toBits binary64 (c .before .args .x)) _ ∙ sym (known (c .before) .high (c .if1 .left))
+returns-2 c = sym (known (c .before .before) .low (c .if2 .taken))
+
+returns-3 : tie.Need-returns-3
+returns-3 c = joined (toBits binary64 (c .before .before .args .x)) _ ∙ sym (known (c .before .before) .high (c .if2 .left))
 
 pub floor-1024-spec : {M : Type 1} → statement M
 floor-1024-spec = tie.close (tie.spec
-    (λ c. not-nan 4096 (c .args .x) (c .pre)) returns (λ c. omega (arith, known (c .before) .top))
-    (λ c. search needs) returns-2)
+    (λ c. not-nan 4096 (c .args .x) (c .pre)) returns returns-2 (λ c. omega (arith, known (c .before .before) .top))
+    (λ c. search needs) returns-3)
