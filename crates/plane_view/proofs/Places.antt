@@ -22,12 +22,6 @@ pub shaped-small : {count width height rowParity columnParity : ℕ} → Shaped 
 shaped-small {count} {height = height} s =
     omega (arith, s .whole, mul-le-mul {n₁ = 2 * height} {m₁ = rowLengthOf count height} {n₂ = 4096} {m₂ = 4352} (omega (arith, s .planar .height-most)) (s .row-most))
 
--- a sample by where its row starts
-pub sample-in-row : {y : ℤ} {height rowParity columnParity r : ℕ} (samples : List ℕ) (width : ℕ) (x : ℤ) → RowStart y (rowLengthOf (length samples) height) height rowParity columnParity r →
-    getD samples (r + 2 * inside width x) 0 ≡ planeSample y x samples width height rowParity columnParity
-unfolding planeSample planeImage planeOf read sampleAt sampleIndex
-sample-in-row samples width x s = ap (λ n. getD samples n 0) (omega (arith, s .is))
-
 -- a row of a pair by where its row starts in the plane of column parity 0
 module _ {y : ℤ} {height rowParity r : ℕ} (samples : List ℕ) (width : ℕ) (s : RowStart y (rowLengthOf (length samples) height) height rowParity 0 r) where
   -- the sample of the plane beside stands one word further

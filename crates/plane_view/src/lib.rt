@@ -6,7 +6,7 @@ ghost use lib.ListN.{length, getD};
 ghost use Rattle.sequences.specs.Tab.{tab};
 ghost use Rattle.geometry.specs.Read.{sampleAt, inside};
 ghost use Rattle.geometry.specs.Fits.{Sampled};
-ghost use Rattle.plane_view.specs.View.{pairOf, planeSample, pairRow, planePair, Shaped, Near, RowPlace, FrameRows, RowStart};
+ghost use Rattle.plane_view.specs.View.{pairOf, pairRow, planePair, Near, RowPlace, FrameRows, RowStart};
 use geometry::Shape;
 use geometry::read::inside;
 
@@ -32,24 +32,6 @@ fn row_start(
     ensures { λ r. ⌜ RowStart y «row_length» height «row_parity» «column_parity» r ⌝ }
 {
     (2 * inside(y, height) + row_parity) * row_length + column_parity
-}
-
-// The plane's sample that is read for row y and column x.
-pub fn sample_at(
-    y: i64,
-    x: i64,
-    samples: &[u16],
-    width: usize,
-    height: usize,
-    row_parity: usize,
-    column_parity: usize,
-) -> u16
-    requires { ⌜ Shaped (length (now samples)) width height «row_parity» «column_parity» ⌝ }
-    ensures { λ r. ⌜ r ≡ planeSample y x (now (samples .entry)) width height «row_parity» «column_parity» ⌝ }
-{
-    let row_length = samples.len() / (2 * height);
-    let start = row_start(y, row_length, height, row_parity, column_parity);
-    samples[start + 2 * inside(x, width)]
 }
 
 // Row or column k of a tile that starts at z.
@@ -108,22 +90,6 @@ pub fn row_at(
         }
     }
     edge_pair(start, x, samples, width)
-}
-
-// The view's sample that is read for row y and column x.
-pub fn sample<'a>(view: PlaneView<'a>, y: i64, x: i64) -> u16
-    requires { ⌜ Shaped (length (now (view .samples))) (view .width) (view .height) (view .«row_parity») (view .«column_parity») ⌝ }
-    ensures { λ r. ⌜ r ≡ planeSample y x (now (view .entry .samples)) (view .entry .width) (view .entry .height) (view .entry .«row_parity») (view .entry .«column_parity») ⌝ }
-{
-    sample_at(
-        y,
-        x,
-        view.samples,
-        view.width,
-        view.height,
-        view.row_parity,
-        view.column_parity,
-    )
 }
 
 // A row of the pair of tiles of the view's plane, which is of column parity 0, and of the plane beside it, whose samples stand one word further:
