@@ -107,23 +107,32 @@ static void apart_from(const char *path, char **inputs, int count)
             fail(WRONG, "%s: is read too, and is not written over", path);
 }
 
+/* what is written through must be whole before anything is renamed */
+static void prepare(output *o)
+{
+    if (strcmp(o->path, "-") != 0 && is_plain(o->path))
+        prepared(o);
+    else
+        written_through(o);
+}
+
+static void finish(output *o)
+{
+    if (o->temporary != NULL && rename(o->temporary, o->path) != 0)
+        failed(o->path);
+    free(o->temporary);
+    free(o->bytes);
+    o->temporary = NULL;
+}
+
 void outputs_written(char **inputs, int count)
 {
     for (int i = 0; i < made; i++)
         apart_from(outputs[i].path, inputs, count);
     for (int i = 0; i < made; i++)
-        if (strcmp(outputs[i].path, "-") != 0 && is_plain(outputs[i].path))
-            prepared(&outputs[i]);
+        prepare(&outputs[i]);
     for (int i = 0; i < made; i++)
-        if (outputs[i].temporary == NULL)
-            written_through(&outputs[i]);
-    for (int i = 0; i < made; i++) {
-        if (outputs[i].temporary != NULL && rename(outputs[i].temporary, outputs[i].path) != 0)
-            failed(outputs[i].path);
-        free(outputs[i].temporary);
-        free(outputs[i].bytes);
-        outputs[i].temporary = NULL;
-    }
+        finish(&outputs[i]);
     made = 0;
 }
 

@@ -87,21 +87,28 @@ static char line[160];
 static volatile sig_atomic_t line_length, ticks;
 static int shown;
 
+/* a whole number in decimal digits; how many */
+static size_t put_digits(char *to, int value)
+{
+    size_t count = 1;
+    for (int rest = value; rest >= 10; rest /= 10)
+        count++;
+    for (size_t i = count; i > 0; value /= 10)
+        to[--i] = (char)('0' + value % 10);
+    return count;
+}
+
 static void tick(int number)
 {
     (void)number;
     int saved = errno;
     char text[sizeof line + 16] = "\r";
-    size_t length = 1, n = 1;
-    memcpy(text + length, line, (size_t)line_length);
-    length += (size_t)line_length;
+    size_t length = 1 + (size_t)line_length;
+    memcpy(text + 1, line, (size_t)line_length);
     ticks++;
-    for (int rest = ticks; rest >= 10; rest /= 10)
-        n++;
-    for (int rest = ticks, i = (int)n; i > 0; rest /= 10)
-        text[length + (size_t)--i] = (char)('0' + rest % 10);
-    memcpy(text + length + n, " s", 2);
-    if (write(STDERR_FILENO, text, length + n + 2) < 0)
+    length += put_digits(text + length, ticks);
+    memcpy(text + length, " s", 2);
+    if (write(STDERR_FILENO, text, length + 2) < 0)
         line_length = 0;
     errno = saved;
 }

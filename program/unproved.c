@@ -38,21 +38,28 @@ uint64_t dng_value(content file, unsigned tag)
     return entry == NULL ? 0 : little(entry + 8, little(entry + 2, 2) == 3 ? 2 : 4);
 }
 
-/* a whole number behind white space and comments, as Netpbm reads it; *at moves behind it. UINT64_MAX where none stands. */
+/* the first place from `at` on that is neither white space nor in a comment, as Netpbm passes over them */
+static size_t behind_space(content file, size_t at)
+{
+    int comment = 0;
+    for (; at < file.length; at++) {
+        uint8_t byte = file.bytes[at];
+        int space = byte == ' ' || (byte >= '\t' && byte <= '\r');
+        if (comment || byte == '#')
+            comment = byte != '\n';
+        else if (!space)
+            break;
+    }
+    return at;
+}
+
+/* the whole number behind white space and comments; *at moves behind it. UINT64_MAX where none stands, and no more than 8 digits are heeded. */
 static uint64_t pgm_number(content file, size_t *at)
 {
     uint64_t value = UINT64_MAX;
-    int comment = 0;
-    for (; *at < file.length; (*at)++) {
-        uint8_t byte = file.bytes[*at];
-        if (comment || byte == '#')
-            comment = byte != '\n';
-        else if (strchr(" \t\r\n\v\f", byte) == NULL || byte == 0)
-            break;
-    }
-    for (; *at < file.length && file.bytes[*at] >= '0' && file.bytes[*at] <= '9'; (*at)++) {
+    for (*at = behind_space(file, *at); *at < file.length && file.bytes[*at] >= '0' && file.bytes[*at] <= '9'; (*at)++) {
         value = value == UINT64_MAX ? 0 : value;
-        value = value < 1000000 ? 10 * value + file.bytes[*at] - '0' : value;
+        value = value < 10000000 ? 10 * value + file.bytes[*at] - '0' : value;
     }
     return value;
 }
