@@ -18,6 +18,7 @@ use Rattle.stacker.specs.AdmissionLaws.{run-passed}
 use Rattle.stacker.specs.CallLaws.{answer-refused, answer-accepted}
 use Rattle.stacker.specs.CloseLaws.{found-close}
 use Rattle.stacker.specs.CeilingLaws.{found-capped}
+use Rattle.admission.specs.Refusals.{runRefusal}
 use Rattle.stacker.specs.Calls.{noSums, Ran}
 
 -- a merge with the levels that the tests found
