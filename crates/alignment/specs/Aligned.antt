@@ -4,12 +4,12 @@ use lib.ListN.{replicate}
 use Rattle.sequences.specs.Tab.{tab}
 use Rattle.geometry.specs.declared.Shape.{Shape}
 use Rattle.geometry.specs.Read.{sampleAt}
-use Rattle.geometry.specs.Vectors.{otherFrame, vectorList, Field}
+use Rattle.geometry.specs.Vectors.{otherFrame, vectorList, VectorField}
 use Rattle.alignment.specs.Frames.{vectorsOf, residualOf}
 
 module _ (s : Shape) (reference : ℕ) (samples : List ℕ) where
   -- the vectors of the k-th other frame
-  unfoldable pub fieldOf : (k : ℕ) → Field
+  unfoldable pub fieldOf : (k : ℕ) → VectorField
   fieldOf k = vectorsOf s (sampleAt s samples reference) (sampleAt s samples (otherFrame reference k))
 
   -- "the sum of finest residuals" of the k-th other frame

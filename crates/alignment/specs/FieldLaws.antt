@@ -7,8 +7,8 @@ use Rattle.search.specs.Vectors.{still, _times_}
 use Rattle.patches.specs.Bounds.{Within}
 use Rattle.residuals.specs.Residual.{Pair}
 use Rattle.search.specs.SearchLaws.{found-within, guess-within}
-use Rattle.geometry.specs.Vectors.{Field, numbered, part, word}
-use Rattle.levels.specs.Fields.{tileAt, coarsest, fromCoarse, finer}
+use Rattle.geometry.specs.Vectors.{VectorField, numbered, part, word}
+use Rattle.levels.specs.Fields.{levelTile, coarsest, fromCoarse, finer}
 use Rattle.alignment.specs.Fields.{field0, field1, field2, field3}
 
 part-most : (v : Vector) (b k : ℕ) → Within b v → natAbs (part k v) ≤ b
@@ -16,7 +16,7 @@ unfolding part
 part-most v b zero w = w .vertical
 part-most v b (suc k) w = w .sideways
 
-pub word-most : (columns : ℕ) (f : Field) (b : ℕ) → ((row column : ℕ) → Within b (f row column)) → (k : ℕ) → natAbs (word columns f k) ≤ b
+pub word-most : (columns : ℕ) (f : VectorField) (b : ℕ) → ((row column : ℕ) → Within b (f row column)) → (k : ℕ) → natAbs (word columns f k) ≤ b
 unfolding word
 word-most columns f b w k = part-most (numbered columns f (k / 2)) b (k % 2) (w (k / 2 / columns) (k / 2 % columns))
 
@@ -30,13 +30,13 @@ times-within {v} b f w =
 
 coarsest-within : (l : Level) (p : Pair) (row column : ℕ) → Within 4 (coarsest l p row column)
 unfolding coarsest
-coarsest-within l p row column = found-within (l .squared) p (tileAt l row column) still 0 (record { vertical = lit≤ tt; sideways = lit≤ tt })
+coarsest-within l p row column = found-within (l .squared) p (levelTile l row column) still 0 (record { vertical = lit≤ tt; sideways = lit≤ tt })
 
-pub finer-within : (l : Level) (s : Step) (rows columns : ℕ) (p : Pair) (f : Field) (b : ℕ) → ((row column : ℕ) → Within b (f row column)) → (row column : ℕ) → Within (b * s .factor + 4) (finer l s rows columns p f row column)
+pub finer-within : (l : Level) (s : Step) (rows columns : ℕ) (p : Pair) (f : VectorField) (b : ℕ) → ((row column : ℕ) → Within b (f row column)) → (row column : ℕ) → Within (b * s .factor + 4) (finer l s rows columns p f row column)
 unfolding finer fromCoarse
 finer-within l s rows columns p f b h row column =
-    found-within (l .squared) p (tileAt l row column) _ (b * s .factor)
-    (guess-within p (tileAt l row column) _ _ _ (b * s .factor) (times-within b (s .factor) (h _ _)) (times-within b (s .factor) (h _ _)) (times-within b (s .factor) (h _ _)))
+    found-within (l .squared) p (levelTile l row column) _ (b * s .factor)
+    (guess-within p (levelTile l row column) _ _ _ (b * s .factor) (times-within b (s .factor) (h _ _)) (times-within b (s .factor) (h _ _)) (times-within b (s .factor) (h _ _)))
 
 module _ (p : ℕ → Pair) where
   pub field3-within : (row column : ℕ) → Within (level3 .bound) (field3 p row column)

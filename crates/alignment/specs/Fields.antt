@@ -1,7 +1,7 @@
 -- The fields of a frame's four levels, from the coarsest to the finest.
 use Rattle.algebra.specs.Prelude.{ℕ}
 use Rattle.geometry.specs.Tiles.{Level, level0, level1, level2, level3, step1to0, step2to1, step3to2, tileCount}
-use Rattle.geometry.specs.Vectors.{Field}
+use Rattle.geometry.specs.Vectors.{VectorField}
 use Rattle.residuals.specs.Residual.{Pair}
 use Rattle.levels.specs.Fields.{coarsest, finer}
 use Rattle.fields.specs.LevelSums.{residuals}
@@ -14,16 +14,16 @@ unfoldable pub levelColumns : Level → Pair → ℕ
 levelColumns l p = tileCount (l .half) (p .width)
 
 -- the fields of the levels 3 to 0, from the levels' pairs of images
-unfoldable pub field3 : (ℕ → Pair) → Field
+unfoldable pub field3 : (ℕ → Pair) → VectorField
 field3 p = coarsest level3 (p 3)
 
-unfoldable pub field2 : (ℕ → Pair) → Field
+unfoldable pub field2 : (ℕ → Pair) → VectorField
 field2 p = finer level2 step3to2 (levelRows level3 (p 3)) (levelColumns level3 (p 3)) (p 2) (field3 p)
 
-unfoldable pub field1 : (ℕ → Pair) → Field
+unfoldable pub field1 : (ℕ → Pair) → VectorField
 field1 p = finer level1 step2to1 (levelRows level2 (p 2)) (levelColumns level2 (p 2)) (p 1) (field2 p)
 
-unfoldable pub field0 : (ℕ → Pair) → Field
+unfoldable pub field0 : (ℕ → Pair) → VectorField
 field0 p = finer level0 step1to0 (levelRows level1 (p 1)) (levelColumns level1 (p 1)) (p 0) (field1 p)
 
 -- "the sum of finest residuals"

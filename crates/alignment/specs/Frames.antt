@@ -5,7 +5,7 @@ use Rattle.geometry.specs.Read.{Image, read}
 use Rattle.geometry.specs.Tiles.{levelSize}
 use Rattle.pyramid.specs.Pyramid.{image0, image1, image2, image3}
 use Rattle.residuals.specs.Residual.{Pair}
-use Rattle.geometry.specs.Vectors.{Field}
+use Rattle.geometry.specs.Vectors.{VectorField}
 use Rattle.levels.specs.Fields.{levelAt}
 use Rattle.alignment.specs.Fields.{field0, residualSum}
 
@@ -29,7 +29,7 @@ pairs shape reference other k =
     }
 
 -- a frame's vectors at level 0, and the sum of their residuals
-unfoldable pub vectorsOf : Shape → (reference other : Image) → Field
+unfoldable pub vectorsOf : Shape → (reference other : Image) → VectorField
 vectorsOf shape reference other = field0 (pairs shape reference other)
 
 unfoldable pub residualOf : Shape → (reference other : Image) → ℕ

@@ -5,13 +5,13 @@ use Rattle.geometry.specs.ReadLaws.{cell-below}
 use Rattle.sequences.specs.Place.{place-row, place-column}
 use Rattle.sequences.specs.Write.{written, written-in, written-length}
 use Rattle.patches.specs.Bounds.{Within}
-use Rattle.geometry.specs.Vectors.{Field, numbered, word}
+use Rattle.geometry.specs.Vectors.{VectorField, numbered, word}
 use Rattle.geometry.specs.VectorLaws.{word-down, word-right}
 use Rattle.alignment.specs.FieldLaws.{word-most}
 use Rattle.levels.specs.Grids.{fieldAt, Vectors}
 
 -- a field that was written
-module _ (d : List ℤ) (to rows columns : ℕ) (f : Field) (room : to + 2 * (rows * columns) ≤ length d) where
+module _ (d : List ℤ) (to rows columns : ℕ) (f : VectorField) (room : to + 2 * (rows * columns) ≤ length d) where
   pub written-field : (row column : ℕ) → row < rows → column < columns → fieldAt (written d to (word columns f) (2 * (rows * columns))) to columns row column ≡ f row column
   unfolding fieldAt
   written-field row column h m =

@@ -15,7 +15,7 @@ use Rattle.sequences.specs.Write.{written, written-in, written-before, written-
 use Rattle.levels.specs.declared.Grid.{Grid}
 use Rattle.matching.specs.declared.Area.{Area}
 use Rattle.patches.specs.Bounds.{Within}
-use Rattle.geometry.specs.Vectors.{Field, word}
+use Rattle.geometry.specs.Vectors.{VectorField, word}
 use Rattle.levels.specs.Fields.{levelAt, coarsest, finer}
 use Rattle.alignment.specs.Fields.{levelRows, levelColumns, field0, field1, field2, field3, residualSum}
 use Rattle.fields.specs.LevelSums.{residuals, coarsestRows, finerRows}
@@ -79,7 +79,7 @@ grid-few {shape} ok k =
 
 module _ {d : List ℤ} {base : ℕ} where
   -- a grid whose vectors are written
-  pub reach : {m : List ℤ} (g : Grid) (f : Field) (b : ℕ) → Kept d base m → base ≤ g .at → 0 < g .rows → 0 < g .columns → after g ≤ length m → b ≤ 84 → ((row column : ℕ) → Within b (f row column)) → Reached d base g f (written m (g .at) (word (g .columns) f) (2 * (g .rows * g .columns)))
+  pub reach : {m : List ℤ} (g : Grid) (f : VectorField) (b : ℕ) → Kept d base m → base ≤ g .at → 0 < g .rows → 0 < g .columns → after g ≤ length m → b ≤ 84 → ((row column : ℕ) → Within b (f row column)) → Reached d base g f (written m (g .at) (word (g .columns) f) (2 * (g .rows * g .columns)))
   reach {m} g f b k behind some-rows some-columns room small w =
       record {
         kept = kept-more k (written-kept m (g .at) (word (g .columns) f) (2 * (g .rows * g .columns)) room) behind;
@@ -89,13 +89,13 @@ module _ {d : List ℤ} {base : ℕ} where
       }
 
   -- the next level's field, as the work area has it, is the definition's
-  pub next : {g : Grid} {f : Field} {l : List ℤ} (v : Level) (s : Step) (a : Area) → Reached d base g f l → Stored d a → Before a base → finer v s (g .rows) (g .columns) (pairIn l a) (fieldAt l (g .at) (g .columns)) ≡ finer v s (g .rows) (g .columns) (pairIn d a) f
+  pub next : {g : Grid} {f : VectorField} {l : List ℤ} (v : Level) (s : Step) (a : Area) → Reached d base g f l → Stored d a → Before a base → finer v s (g .rows) (g .columns) (pairIn l a) (fieldAt l (g .at) (g .columns)) ≡ finer v s (g .rows) (g .columns) (pairIn d a) f
   next {g} {f} {l} v s a r stored before =
       ap (λ p. finer v s (g .rows) (g .columns) p (fieldAt l (g .at) (g .columns))) (kept-pair (r .kept) a stored before)
       ∙ fun-ext (λ row. fun-ext (λ column. finer-agree v s (g .rows) (g .columns) (pairIn d a) (fieldAt l (g .at) (g .columns)) f (r .vectors .some-rows) (r .vectors .some-columns) (r .field) row column))
 
   -- and the rows summed for it are
-  next-counted : {g : Grid} {f : Field} {l : List ℤ} (v : Level) (s : Step) (a : Area) → Reached d base g f l → Stored d a → Before a base → (rows columns : ℕ) → finerRows v s (g .rows) (g .columns) (pairIn l a) (fieldAt l (g .at) (g .columns)) rows columns ≡ finerRows v s (g .rows) (g .columns) (pairIn d a) f rows columns
+  next-counted : {g : Grid} {f : VectorField} {l : List ℤ} (v : Level) (s : Step) (a : Area) → Reached d base g f l → Stored d a → Before a base → (rows columns : ℕ) → finerRows v s (g .rows) (g .columns) (pairIn l a) (fieldAt l (g .at) (g .columns)) rows columns ≡ finerRows v s (g .rows) (g .columns) (pairIn d a) f rows columns
   next-counted {g} {f} {l} v s a r stored before rows columns =
       ap (λ p. finerRows v s (g .rows) (g .columns) p (fieldAt l (g .at) (g .columns)) rows columns) (kept-pair (r .kept) a stored before)
       ∙ finer-rows-agree v s (g .rows) (g .columns) (pairIn d a) (fieldAt l (g .at) (g .columns)) f (r .vectors .some-rows) (r .vectors .some-columns) (r .field) rows columns
@@ -113,20 +113,20 @@ level-ready {shape} {l} k at s ea eg =
     rw (ea, eg) (record { stored = s .standing .stored k; before = record { reference = le-trans (b .reference) behind; other = le-trans (b .other) behind }; few = grid-few (s .allowed) k; room = s .room })
 
 -- a level is reached where its field is written
-reached : (shape : Shape) {d m l : List ℤ} (k at : ℕ) (g : Grid) (f : Field) (b : ℕ) → Kept d (2 * pyramidLength shape) m → 2 * pyramidLength shape ≤ at → after (gridAt shape k at) ≤ length m → g ≡ gridAt shape k at → l ≡ written m at (word (g .columns) f) (2 * (g .rows * g .columns)) → b ≤ 84 → ((row column : ℕ) → Within b (f row column)) → Reached d (2 * pyramidLength shape) g f l
+reached : (shape : Shape) {d m l : List ℤ} (k at : ℕ) (g : Grid) (f : VectorField) (b : ℕ) → Kept d (2 * pyramidLength shape) m → 2 * pyramidLength shape ≤ at → after (gridAt shape k at) ≤ length m → g ≡ gridAt shape k at → l ≡ written m at (word (g .columns) f) (2 * (g .rows * g .columns)) → b ≤ 84 → ((row column : ℕ) → Within b (f row column)) → Reached d (2 * pyramidLength shape) g f l
 unfolding gridAt
 reached shape {d} {m} {l} k at g f b kept behind room eg el small w =
     rw (el, eg) (reach (gridAt shape k at) f b kept behind (some-tiles (shape .height) k) (some-tiles (shape .width) k) room small w)
 
 -- and the next one's field is the definition's
-next-field : (shape : Shape) {d l : List ℤ} {g : Grid} {f : Field} (k c at : ℕ) → Reached d (2 * pyramidLength shape) g f l → Standing shape d → g ≡ gridAt shape c at → nextIn shape l k g ≡ finer (levelAt k) (stepTo k) (levelRows (levelAt c) (pairsIn shape d c)) (levelColumns (levelAt c) (pairsIn shape d c)) (pairsIn shape d k) f
+next-field : (shape : Shape) {d l : List ℤ} {g : Grid} {f : VectorField} (k c at : ℕ) → Reached d (2 * pyramidLength shape) g f l → Standing shape d → g ≡ gridAt shape c at → nextIn shape l k g ≡ finer (levelAt k) (stepTo k) (levelRows (levelAt c) (pairsIn shape d c)) (levelColumns (levelAt c) (pairsIn shape d c)) (pairsIn shape d k) f
 unfolding gridAt pairsIn levelRows levelColumns levelTiles areaAt pairIn
 next-field shape {d} {l} {g} {f} k c at r s e =
     next (levelAt k) (stepTo k) (areaAt shape k) r (s .stored k) (area-before shape k)
     ∙ ap (λ g. finer (levelAt k) (stepTo k) (g .rows) (g .columns) (pairsIn shape d k) f) e
 
 -- and so are the rows summed for a level: h is its grid
-counted : (shape : Shape) {d l : List ℤ} {g h : Grid} {f : Field} (k c at to : ℕ) → Reached d (2 * pyramidLength shape) g f l → Standing shape d → g ≡ gridAt shape c at → h ≡ gridAt shape k to → nextRowsIn shape l k g (h .rows) (h .columns) ≡ finerRows (levelAt k) (stepTo k) (levelRows (levelAt c) (pairsIn shape d c)) (levelColumns (levelAt c) (pairsIn shape d c)) (pairsIn shape d k) f (levelRows (levelAt k) (pairsIn shape d k)) (levelColumns (levelAt k) (pairsIn shape d k))
+counted : (shape : Shape) {d l : List ℤ} {g h : Grid} {f : VectorField} (k c at to : ℕ) → Reached d (2 * pyramidLength shape) g f l → Standing shape d → g ≡ gridAt shape c at → h ≡ gridAt shape k to → nextRowsIn shape l k g (h .rows) (h .columns) ≡ finerRows (levelAt k) (stepTo k) (levelRows (levelAt c) (pairsIn shape d c)) (levelColumns (levelAt c) (pairsIn shape d c)) (pairsIn shape d k) f (levelRows (levelAt k) (pairsIn shape d k)) (levelColumns (levelAt k) (pairsIn shape d k))
 unfolding gridAt pairsIn levelRows levelColumns levelTiles areaAt pairIn
 counted shape {d} {l} {g} {h} {f} k c at to r s e i =
     next-counted (levelAt k) (stepTo k) (areaAt shape k) r (s .stored k) (area-before shape k) (h .rows) (h .columns)
@@ -199,7 +199,7 @@ module _ {shape : Shape} {d : List ℤ} (p : Prepared shape d) where
   unfolding finestIn field0 pairsIn
   finest-field c r e = next-field shape 0 1 (c .at) r (p .standing) e
 
-  finest-pair : {l : List ℤ} {c : Grid} {f : Field} → Reached d (2 * pyramidLength shape) c f l → pairIn l (areaAt shape 0) ≡ pairsIn shape d 0
+  finest-pair : {l : List ℤ} {c : Grid} {f : VectorField} → Reached d (2 * pyramidLength shape) c f l → pairIn l (areaAt shape 0) ≡ pairsIn shape d 0
   unfolding pairsIn
   finest-pair r = kept-pair (r .kept) (areaAt shape 0) (p .standing .stored 0) (area-before shape 0)
 

@@ -7,13 +7,13 @@ use Rattle.geometry.specs.Fits.{Allowed}
 use Rattle.geometry.specs.Read.{Image, sampleAt}
 use Rattle.geometry.specs.Tiles.{Level, level0, level1, level2, level3, Step, step1to0, step2to1, step3to2, tileCount, levelSize}
 use Rattle.geometry.specs.LevelTiles.{levelTiles}
-use Rattle.geometry.specs.Vectors.{Field, otherFrame}
+use Rattle.geometry.specs.Vectors.{VectorField, otherFrame}
 use Rattle.search.specs.Vectors.{still}
 use Rattle.residuals.specs.Residual.{Pair}
 use Rattle.search.specs.Rows.{candidateRows}
 use Rattle.search.specs.RowLaws.{search-rows-most, candidate-rows-most}
 use Rattle.alignment.specs.Magnitudes.{frameRowsMost, burstRowsMost}
-use Rattle.levels.specs.Fields.{levelAt, tileAt, fromCoarse}
+use Rattle.levels.specs.Fields.{levelAt, levelTile, fromCoarse}
 use Rattle.alignment.specs.Fields.{levelRows, levelColumns, field1, field2, field3}
 use Rattle.levels.specs.FieldLaws.{from-coarse-agree}
 use Rattle.alignment.specs.Frames.{pairs}
@@ -21,23 +21,23 @@ use Rattle.fields.specs.LevelSums.{coarsestRows, finerRows}
 use Rattle.alignment.specs.Rows.{rows0, rows1, rows2, rows3, coarseRows, frameRows, rowsOf, rowsSummed}
 
 -- a finer level's depend on the coarse vectors that there are
-pub finer-rows-agree : (l : Level) (s : Step) (coarseRows coarseColumns : ℕ) (p : Pair) (f g : Field) → 0 < coarseRows → 0 < coarseColumns → ((row column : ℕ) → row < coarseRows → column < coarseColumns → f row column ≡ g row column) → (rows columns : ℕ) → finerRows l s coarseRows coarseColumns p f rows columns ≡ finerRows l s coarseRows coarseColumns p g rows columns
+pub finer-rows-agree : (l : Level) (s : Step) (coarseRows coarseColumns : ℕ) (p : Pair) (f g : VectorField) → 0 < coarseRows → 0 < coarseColumns → ((row column : ℕ) → row < coarseRows → column < coarseColumns → f row column ≡ g row column) → (rows columns : ℕ) → finerRows l s coarseRows coarseColumns p f rows columns ≡ finerRows l s coarseRows coarseColumns p g rows columns
 unfolding finerRows
 finer-rows-agree l s coarseRows coarseColumns p f g hr hc e rows columns =
     sumN-cong (rows * columns) _ _
-    (λ k h. ap (candidateRows (l .squared) p (tileAt l (k / columns) (k % columns))) (from-coarse-agree s coarseRows coarseColumns p (tileAt l (k / columns) (k % columns)) f g hr hc e (k / columns) (k % columns)))
+    (λ k h. ap (candidateRows (l .squared) p (levelTile l (k / columns) (k % columns))) (from-coarse-agree s coarseRows coarseColumns p (levelTile l (k / columns) (k % columns)) f g hr hc e (k / columns) (k % columns)))
 
 -- a level's tiles, each within its bound
 pub coarsest-rows-most : (l : Level) (p : Pair) (rows columns : ℕ) → coarsestRows l p rows columns ≤ rows * columns * (81 * l .side)
-unfolding coarsestRows tileAt
+unfolding coarsestRows levelTile
 coarsest-rows-most l p rows columns =
-    sumN-bound (rows * columns) (81 * l .side) _ (λ k h. search-rows-most (l .squared) p (tileAt l (k / columns) (k % columns)) still)
+    sumN-bound (rows * columns) (81 * l .side) _ (λ k h. search-rows-most (l .squared) p (levelTile l (k / columns) (k % columns)) still)
 
-pub finer-rows-most : (l : Level) (s : Step) (coarseRows coarseColumns : ℕ) (p : Pair) (f : Field) (rows columns : ℕ) → finerRows l s coarseRows coarseColumns p f rows columns ≤ rows * columns * (84 * l .side)
-unfolding finerRows tileAt
+pub finer-rows-most : (l : Level) (s : Step) (coarseRows coarseColumns : ℕ) (p : Pair) (f : VectorField) (rows columns : ℕ) → finerRows l s coarseRows coarseColumns p f rows columns ≤ rows * columns * (84 * l .side)
+unfolding finerRows levelTile
 finer-rows-most l s coarseRows coarseColumns p f rows columns =
     sumN-bound (rows * columns) (84 * l .side) _
-    (λ k h. candidate-rows-most (l .squared) p (tileAt l (k / columns) (k % columns)) (fromCoarse s coarseRows coarseColumns p (tileAt l (k / columns) (k % columns)) f (k / columns) (k % columns)))
+    (λ k h. candidate-rows-most (l .squared) p (levelTile l (k / columns) (k % columns)) (fromCoarse s coarseRows coarseColumns p (levelTile l (k / columns) (k % columns)) f (k / columns) (k % columns)))
 
 module _ {shape : Shape} (ok : Allowed shape) (reference other : Image) where
   -- how many tiles a level has, from how many it has each way

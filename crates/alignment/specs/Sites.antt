@@ -14,7 +14,7 @@ use Rattle.alignment.specs.Rows.{coarseRows, frameRows}
 use Rattle.levels.specs.declared.Grid.{Grid}
 use Rattle.matching.specs.declared.Area.{Area}
 use Rattle.residuals.specs.Residual.{Pair}
-use Rattle.geometry.specs.Vectors.{Field, word}
+use Rattle.geometry.specs.Vectors.{VectorField, word}
 use Rattle.levels.specs.Magnitudes.{tileRowsMost}
 use Rattle.levels.specs.Steps.{stepTo}
 use Rattle.levels.specs.Fields.{levelAt, finer}
@@ -55,7 +55,7 @@ pub record Standing (shape : Shape) (words : List ℤ) : Type 0 where
   pub stored : (k : ℕ) → Stored words (areaAt shape k)
 
 -- the field of a level from 2 to 0, and the rows summed for it, from what stands there
-abbrev pub nextIn : Shape → List ℤ → (level : ℕ) → Grid → Field
+abbrev pub nextIn : Shape → List ℤ → (level : ℕ) → Grid → VectorField
 nextIn shape words level c = finer (levelAt level) (stepTo level) (c .rows) (c .columns) (pairsIn shape words level) (fieldAt words (c .at) (c .columns))
 
 abbrev pub nextRowsIn : Shape → List ℤ → (level : ℕ) → Grid → (rows columns : ℕ) → ℕ
@@ -70,7 +70,7 @@ pub record Site (shape : Shape) (words : List ℤ) (level at : ℕ) : Type 0 whe
   pub room : after (gridAt shape level at) ≤ length words
 
 -- they are written there, and the rows summed for them are answered
-pub record LaidAt (shape : Shape) (level at : ℕ) (f : Field) (n : (rows columns : ℕ) → ℕ) (words words′ : List ℤ) (g : Grid) (rows : ℕ) : Type 0 where
+pub record LaidAt (shape : Shape) (level at : ℕ) (f : VectorField) (n : (rows columns : ℕ) → ℕ) (words words′ : List ℤ) (g : Grid) (rows : ℕ) : Type 0 where
   pub grid-is : g ≡ gridAt shape level at
   pub laid : Laid words at (g .rows) (g .columns) f (n (g .rows) (g .columns)) words′ rows
 
@@ -81,7 +81,7 @@ pub record Prepared (shape : Shape) (words : List ℤ) : Type 0 where
   pub room : alignLength shape ≤ length words
 
 -- l is d up to the base, and the vectors of a grid behind it are a field's
-pub record Reached (d : List ℤ) (base : ℕ) (g : Grid) (f : Field) (l : List ℤ) : Type 0 where
+pub record Reached (d : List ℤ) (base : ℕ) (g : Grid) (f : VectorField) (l : List ℤ) : Type 0 where
   pub kept : Kept d base l
   pub behind : base ≤ g .at
   pub vectors : Vectors l g

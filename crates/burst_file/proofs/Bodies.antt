@@ -17,8 +17,8 @@ use Rattle.file_lines.specs.ScanLaws.{Next, next-all}
 use Rattle.file_head.specs.declared.Header.{Header}
 use Rattle.file_head.specs.Head.{headerRefusal, headOf}
 use Rattle.file_head.specs.HeadLaws.{HeadRead, packed-allowed, head-sound}
-use Rattle.burst_file.specs.Burst.{Burst}
-use Rattle.burst_file.specs.Rows.{rows, framesOf}
+use Rattle.burst_file.specs.Burst.{FileBurst}
+use Rattle.burst_file.specs.Rows.{rowLines, framesOf}
 use Rattle.burst_file.specs.RowLaws.{SmallRows, rows-sound, ended-sound}
 use Rattle.burst_file.specs.Reading.{bodyOf, reading}
 use Rattle.burst_file.proofs.Next.{rows-next}
@@ -45,8 +45,8 @@ module _ (shape : Shape) (packed : shape .«row_length» ≡ shape .width) (byte
       let P : List ℕ → List ℕ → Type 0 = λ samples rest. Next (count * width) bytes samples rest × SmallRows count width bytes samples rest in
       let (samples, rest, is, all-rows) =
       sound-found (λ samples rest. P samples [] × (rest ≡ [])) (framesOf shape bytes) e
-      (ended-sound P (rows count width bytes)
-      (both-sound (Next (count * width) bytes) (SmallRows count width bytes) (rows count width bytes) (rows-next count width bytes) (rows-sound count width bytes))) in
+      (ended-sound P (rowLines count width bytes)
+      (both-sound (Next (count * width) bytes) (SmallRows count width bytes) (rowLines count width bytes) (rows-next count width bytes) (rows-sound count width bytes))) in
       let order : count * width ≡ shape .count * (shape .«row_length» * shape .height) =
       mul-assoc (shape .count) (shape .height) width ∙ ap (λ (k : ℕ). shape .count * k) (mul-comm (shape .height) width ∙ ap (λ (n : ℕ). n * shape .height) (sym packed)) in
       let all : nextValues (shape .count * (shape .«row_length» * shape .height)) bytes ≡ samples = ap (λ (k : ℕ). nextValues k bytes) (sym order) ∙ next-all (count * width) bytes samples [] (all-rows .0 .0) in
@@ -67,7 +67,7 @@ module _ (lengthTest : Shape → ℕ) (file : List ℕ) where
     unfolding reading
     body-decides = ap (λ (p : Part Header). p then bodyOf lengthTest) head
 
-    burst : List ℕ → Burst
+    burst : List ℕ → FileBurst
     burst samples = record { header = header; samples = samples }
 
     pub length-refuses : {r : ℕ} → r ≡ lengthTest (header .shape) → (r ≡ 0 → ⊥) → reading lengthTest file ≡ refused r

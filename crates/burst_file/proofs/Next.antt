@@ -11,7 +11,7 @@ use Rattle.file_lines.specs.PartLaws.{Sound, unless-sound, then-sound}
 use Rattle.file_lines.specs.Line.{valueLine, above}
 use Rattle.file_lines.specs.Scan.{nextValues}
 use Rattle.file_lines.specs.ScanLaws.{Next, line-next}
-use Rattle.burst_file.specs.Rows.{row, rows}
+use Rattle.burst_file.specs.Rows.{row, rowLines}
 
 next-join : (a b : ℕ) (s t rest values others : List ℕ) → Next a s values t → Next b t others rest → Next (a + b) s (values ++ others) rest
 next-join a b s t rest values others p q m =
@@ -23,10 +23,10 @@ row-next width s =
     then-sound (Next width s) (Next width s) (valueLine width s) _ (line-next width s)
     (λ values rest next. unless-sound (Next width s) (refuse no.sampleValue (above 4095 values)) (found values rest) (λ e. next))
 
-pub rows-next : (count width : ℕ) (s : List ℕ) → Sound (Next (count * width) s) (rows count width s)
-unfolding rows
+pub rows-next : (count width : ℕ) (s : List ℕ) → Sound (Next (count * width) s) (rowLines count width s)
+unfolding rowLines
 rows-next zero width s = λ m. ap (λ (n : ℕ). nextValues n s) (omega arith)
 rows-next (suc count) width s =
     then-sound (Next width s) (Next (suc count * width) s) (row width s) _ (row-next width s)
-    (λ values t p. then-sound (Next (count * width) t) (Next (suc count * width) s) (rows count width t) _ (rows-next count width t)
+    (λ values t p. then-sound (Next (count * width) t) (Next (suc count * width) s) (rowLines count width t) _ (rows-next count width t)
     (λ others rest q m. ap (λ (n : ℕ). nextValues (n + m) s) (omega (arith, suc-mul count width)) ∙ next-join width (count * width) s t rest values others p q m))

@@ -11,7 +11,7 @@ use Rattle.file_lines.specs.Part.{Part, refused, found, numberOf, _then_, mappe
 use Rattle.file_lines.specs.Line.{valueLine, above}
 use Rattle.file_lines.specs.Scan.{judged}
 use Rattle.file_lines.specs.ScanLaws.{step}
-use Rattle.burst_file.specs.Rows.{unlessAbove, row, rows, ended}
+use Rattle.burst_file.specs.Rows.{unlessAbove, row, rowLines, ended}
 use Rattle.burst_file.specs.Passage.{rowsIn, endedRow, briefly}
 
 -- what the judgement of a line makes of a row
@@ -35,8 +35,8 @@ row-decided width s = from (valueLine width s)
     from (found samples rest) = over (above 4095 samples) samples rest
 
 -- one row further
-pub rows-step : (k width : ℕ) (s : List ℕ) → 0 < k → (briefly (row width s) then (λ a rest. briefly (rows (k - 1) width rest))) ≡ briefly (rows k width s)
-unfolding rows
+pub rows-step : (k width : ℕ) (s : List ℕ) → 0 < k → (briefly (row width s) then (λ a rest. briefly (rowLines (k - 1) width rest))) ≡ briefly (rowLines k width s)
+unfolding rowLines
 rows-step zero width s h = absurd (omega arith)
 rows-step (suc k) width s h = rw (sub-one (suc k)) (from (row width s))
   where
@@ -44,12 +44,12 @@ rows-step (suc k) width s h = rw (sub-one (suc k)) (from (row width s))
     joined samples (refused number) = refl
     joined samples (found others rest) = refl
 
-    from : (line : Part (List ℕ)) → (briefly line then (λ a rest. briefly (rows k width rest))) ≡ briefly (line then (λ samples rest. mapped (λ others. samples ++ others) (rows k width rest)))
+    from : (line : Part (List ℕ)) → (briefly line then (λ a rest. briefly (rowLines k width rest))) ≡ briefly (line then (λ samples rest. mapped (λ others. samples ++ others) (rowLines k width rest)))
     from (refused number) = refl
-    from (found samples rest) = joined samples (rows k width rest)
+    from (found samples rest) = joined samples (rowLines k width rest)
 
-pub rows-none : (k width : ℕ) (s : List ℕ) → k ≤ 0 → found tt s ≡ briefly (rows k width s)
-unfolding rows
+pub rows-none : (k width : ℕ) (s : List ℕ) → k ≤ 0 → found tt s ≡ briefly (rowLines k width s)
+unfolding rowLines
 rows-none zero width s h = refl
 rows-none (suc k) width s h = absurd (omega arith)
 

@@ -8,21 +8,21 @@ use Rattle.file_lines.specs.Part.{found, numberOf}
 use Rattle.file_lines.specs.PartLaws.{Sound, unless-sound, sound-at, sound-found, then-sound}
 use Rattle.file_head.specs.Head.{headerRefusal, headOf}
 use Rattle.file_head.specs.HeadLaws.{HeadRead, head-sound, head-complete}
-use Rattle.burst_file.specs.Burst.{Burst}
+use Rattle.burst_file.specs.Burst.{FileBurst}
 use Rattle.burst_file.specs.Grammar.{BurstFile}
-use Rattle.burst_file.specs.Rows.{rows, framesOf}
+use Rattle.burst_file.specs.Rows.{rowLines, framesOf}
 use Rattle.burst_file.specs.RowLaws.{above-at, above-none, SmallRows, rows-sound, rows-complete, ended-sound}
 use Rattle.burst_file.specs.Reading.{bodyOf, reading}
 
 -- the grammar, and refusals 1, 2, 3, 9 and 10, then `lengthTest` (4, or nothing in the file check), then 11
-pub record Accepted (lengthTest : Shape → ℕ) (file : List ℕ) (burst : Burst) : Type 0 where
+pub record Accepted (lengthTest : Shape → ℕ) (file : List ℕ) (burst : FileBurst) : Type 0 where
   pub grammar : BurstFile file burst
   pub header : headerRefusal (burst .header) ≡ 0
   pub measured : lengthTest (burst .header .shape) ≡ 0
   pub small : ValuesFit (burst .samples)
 
 module _ (lengthTest : Shape → ℕ) (file : List ℕ) where
-  abbrev Ends : Burst → List ℕ → Type 0
+  abbrev Ends : FileBurst → List ℕ → Type 0
   Ends burst rest = Accepted lengthTest file burst × (rest ≡ [])
 
   reading-sound : Sound Ends (reading lengthTest file)
@@ -34,7 +34,7 @@ module _ (lengthTest : Shape → ℕ) (file : List ℕ) where
       let width = header .shape .width in
       let AllRows : List ℕ → List ℕ → Type 0 = λ samples rest. SmallRows count width body samples [] × (rest ≡ []) in
       unless-sound Ends (lengthTest (header .shape)) _
-      (λ measured. then-sound AllRows Ends (framesOf (header .shape) body) _ (ended-sound (SmallRows count width body) (rows count width body) (rows-sound count width body))
+      (λ measured. then-sound AllRows Ends (framesOf (header .shape) body) _ (ended-sound (SmallRows count width body) (rowLines count width body) (rows-sound count width body))
       (λ samples rest r. (
         record {
           grammar = record { afterNames = h .afterNames; afterValues = body; named = h .named; valued = h .valued; packed = h .packed; sampled = r .0 .0 };
@@ -46,15 +46,15 @@ module _ (lengthTest : Shape → ℕ) (file : List ℕ) where
       ))))
 
   -- what is read is a file of the grammar, whole
-  pub sound : (burst : Burst) (rest : List ℕ) → reading lengthTest file ≡ found burst rest → Accepted lengthTest file burst × (rest ≡ [])
+  pub sound : (burst : FileBurst) (rest : List ℕ) → reading lengthTest file ≡ found burst rest → Accepted lengthTest file burst × (rest ≡ [])
   sound burst rest e = sound-at Ends e reading-sound
 
   -- the number 0 is acceptance
-  pub sound-number : numberOf (reading lengthTest file) ≡ 0 → (burst : Burst) × Accepted lengthTest file burst
+  pub sound-number : numberOf (reading lengthTest file) ≡ 0 → (burst : FileBurst) × Accepted lengthTest file burst
   sound-number e = let (burst, rest, is, s) = sound-found Ends (reading lengthTest file) e reading-sound in (burst, s .0)
 
   -- each file of the grammar is read, and as what it holds
-  pub complete : (burst : Burst) → Accepted lengthTest file burst → reading lengthTest file ≡ found burst []
+  pub complete : (burst : FileBurst) → Accepted lengthTest file burst → reading lengthTest file ≡ found burst []
   unfolding reading bodyOf framesOf
   complete burst a =
       let g = a .grammar in

@@ -3,6 +3,6 @@ use mathlib.Core.List.{List}
 use Prim.Native.Nat.{ℕ}
 use Rattle.file_head.specs.declared.Header.{Header}
 
-pub record Burst : Type 0 where
+pub record FileBurst : Type 0 where
   pub header : Header
   pub samples : List ℕ

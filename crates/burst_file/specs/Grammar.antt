@@ -6,7 +6,7 @@ use Prim.Native.Nat.{ℕ, suc, _*_}
 use Rattle.file_lines.specs.Grammar.{ValueLine}
 use Rattle.file_head.specs.Names.{names}
 use Rattle.file_head.specs.Grammar.{sevenOf}
-use Rattle.burst_file.specs.Burst.{Burst}
+use Rattle.burst_file.specs.Burst.{FileBurst}
 
 -- "one line per row": `count` rows of `width` values, and what follows them
 pub data Rows : (count width : ℕ) (bytes values rest : List ℕ) → Type 0 where
@@ -14,7 +14,7 @@ pub data Rows : (count width : ℕ) (bytes values rest : List ℕ) → Type 0 wh
   rowThen : {count width : ℕ} {bytes values between others rest : List ℕ} → ValueLine width bytes values between → Rows count width between others rest → Rows (suc count) width bytes (values ++ others) rest
 
 -- "A line of names, .., then a line of those seven values .., then one line per row, frame after frame", and no byte more; "A burst file means L = W" (request L9)
-pub record BurstFile (file : List ℕ) (burst : Burst) : Type 0 where
+pub record BurstFile (file : List ℕ) (burst : FileBurst) : Type 0 where
   pub afterNames : List ℕ
   pub afterValues : List ℕ
   pub named : file ≡ names ++ afterNames

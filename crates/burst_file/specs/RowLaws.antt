@@ -15,7 +15,7 @@ use Rattle.file_lines.specs.PartLaws.{Sound, unless-sound, then-sound}
 use Rattle.file_lines.specs.Line.{valueLine, above}
 use Rattle.file_lines.specs.Grammar.{ValueLine}
 use Rattle.file_lines.specs.LineLaws.{line-sound, line-complete}
-use Rattle.burst_file.specs.Rows.{row, rows, ended}
+use Rattle.burst_file.specs.Rows.{row, rowLines, ended}
 use Rattle.burst_file.specs.Grammar.{Rows, noRow, rowThen}
 
 neither : (a b : Bool) → (a || b) ≡ false → (a ≡ false) × (b ≡ false)
@@ -56,16 +56,16 @@ row-sound width s =
     then-sound (ValueLine width s) (SmallLine width s) (valueLine width s) _ (line-sound width s)
     (λ values rest l. unless-sound (SmallLine width s) (refuse no.sampleValue (above 4095 values)) (found values rest) (λ e. (l, refuse-not no.sampleValue (above 4095 values) tt e)))
 
-pub rows-sound : (count width : ℕ) (s : List ℕ) → Sound (SmallRows count width s) (rows count width s)
-unfolding rows above
+pub rows-sound : (count width : ℕ) (s : List ℕ) → Sound (SmallRows count width s) (rowLines count width s)
+unfolding rowLines above
 rows-sound zero width s = (noRow, refl)
 rows-sound (suc count) width s =
     then-sound (SmallLine width s) (SmallRows (suc count) width s) (row width s) _ (row-sound width s)
-    (λ values t l. then-sound (SmallRows count width t) (SmallRows (suc count) width s) (rows count width t) _ (rows-sound count width t)
+    (λ values t l. then-sound (SmallRows count width t) (SmallRows (suc count) width s) (rowLines count width t) _ (rows-sound count width t)
     (λ others rest o. (rowThen (l .0) (o .0), above-append 4095 values others ∙ rw (l .1) (o .1))))
 
-pub rows-complete : {count width : ℕ} {s values rest : List ℕ} → Rows count width s values rest → above 4095 values ≡ false → rows count width s ≡ found values rest
-unfolding rows row
+pub rows-complete : {count width : ℕ} {s values rest : List ℕ} → Rows count width s values rest → above 4095 values ≡ false → rowLines count width s ≡ found values rest
+unfolding rowLines row
 rows-complete noRow e = refl
 rows-complete (rowThen {values = values} {others = others} l o) e =
     let small = neither (above 4095 values) (above 4095 others) (sym (above-append 4095 values others) ∙ e) in

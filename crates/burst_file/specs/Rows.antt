@@ -17,9 +17,9 @@ unfoldable pub row : (width : ℕ) → List ℕ → Part (List ℕ)
 row width bytes = valueLine width bytes then (λ samples rest. unlessAbove (above 4095 samples) samples rest)
 
 -- one row after the other
-unfoldable pub rows : (count width : ℕ) → List ℕ → Part (List ℕ)
-rows zero width bytes = found [] bytes
-rows (suc count) width bytes = row width bytes then (λ samples rest. mapped (λ others. samples ++ others) (rows count width rest))
+unfoldable pub rowLines : (count width : ℕ) → List ℕ → Part (List ℕ)
+rowLines zero width bytes = found [] bytes
+rowLines (suc count) width bytes = row width bytes then (λ samples rest. mapped (λ others. samples ++ others) (rowLines count width rest))
 
 -- "then trailing bytes 15"
 abbrev pub ended : {A : Type 0} → Part A → Part A
@@ -29,4 +29,4 @@ ended (found a (byte ∷ rest)) = refused no.fileEnd
 
 -- "one line per row, frame after frame", to the end of the file
 unfoldable pub framesOf : Shape → List ℕ → Part (List ℕ)
-framesOf shape bytes = ended (rows (shape .count * shape .height) (shape .width) bytes)
+framesOf shape bytes = ended (rowLines (shape .count * shape .height) (shape .width) bytes)

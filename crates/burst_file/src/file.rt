@@ -4,7 +4,7 @@ ghost use mathlib.Core.Bool.{false};
 ghost use lib.ListN.{length, drop};
 ghost use Rattle.file_lines.specs.Line.{above};
 ghost use Rattle.file_lines.specs.Scan.{nextValues};
-ghost use Rattle.burst_file.specs.Reading.{fileCheck, refusedAnswer, acceptedAnswer, FileRead};
+ghost use Rattle.burst_file.specs.Reading.{fileCheck, refusedFile, acceptedFile, FileRead};
 use crate::FileAnswer;
 use crate::rows::check_frames;
 use file_head::Head;
@@ -29,7 +29,7 @@ pub fn check_file(file: &[u8]) -> u64
 
 // The answer beside a refusal.
 fn refused(number: u64) -> FileAnswer
-    ensures { λ r. ⌜ r ≡ refusedAnswer number ⌝ }
+    ensures { λ r. ⌜ r ≡ refusedFile number ⌝ }
 {
     FileAnswer {
         refusal: number,
@@ -45,7 +45,7 @@ fn refused(number: u64) -> FileAnswer
 
 // The answer to an accepted file.
 fn accepted(header: Header) -> FileAnswer
-    ensures { λ r. ⌜ r ≡ acceptedAnswer header ⌝ }
+    ensures { λ r. ⌜ r ≡ acceptedFile header ⌝ }
 {
     let shape = header.shape;
     FileAnswer {

@@ -3,7 +3,7 @@ ghost use mathlib.Core.Path.{_≡_};
 ghost use lib.ListN.{drop};
 ghost use Rattle.geometry.specs.Fits.{Allowed};
 ghost use Rattle.file_lines.specs.Part.{numberOf};
-ghost use Rattle.burst_file.specs.Rows.{row, rows, framesOf};
+ghost use Rattle.burst_file.specs.Rows.{row, rowLines, framesOf};
 ghost use Rattle.burst_file.specs.Passage.{rowsIn, endedRow, briefly};
 use crate::Passage;
 use file_lines::Line;
@@ -36,7 +36,7 @@ fn check_row(file: &[u8], at: usize, width: usize) -> Passage
 
 // `count` rows, one after the other.
 fn check_rows(file: &[u8], at: usize, count: usize, width: usize) -> Passage
-    ensures { λ r. ⌜ rowsIn (now (file .entry)) r ≡ briefly (rows count width (drop at (now (file .entry)))) ⌝ }
+    ensures { λ r. ⌜ rowsIn (now (file .entry)) r ≡ briefly (rowLines count width (drop at (now (file .entry)))) ⌝ }
 {
     let mut left = count;
     let mut i = at;

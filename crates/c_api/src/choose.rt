@@ -1,6 +1,6 @@
 // Run on the sharpest frame, for C: with the burst's own noise curve, or with that of ISO 100.
 ghost use Rattle.stacker.specs.Choosing.{Chosen};
-ghost use Rattle.descriptions.specs.Parameters.{shapeOf, ofFrames, measured, atIso, tuned};
+ghost use Rattle.descriptions.specs.Parameters.{shapeOf, ofFrames, measured, isoNoise, tuned};
 use descriptions::BurstNoise;
 use descriptions::Frames;
 use descriptions::IsoNoise;
@@ -48,7 +48,7 @@ pub extern "C" fn stacker_run_sharpest_iso(
     output: &mut [u16],
     work: &mut [i64],
 ) -> Choice
-    ensures { λ r. ⌜ Chosen (shapeOf (ofFrames frames)) (atIso noise) (tuned (ofFrames frames) tuning) (now (samples .entry)) (now (vectors .entry)) (now (vectors .exit)) (now (output .entry)) (now (output .exit)) (now (work .entry)) (now (work .exit)) r ⌝ }
+    ensures { λ r. ⌜ Chosen (shapeOf (ofFrames frames)) (isoNoise noise) (tuned (ofFrames frames) tuning) (now (samples .entry)) (now (vectors .entry)) (now (vectors .exit)) (now (output .entry)) (now (output .exit)) (now (work .entry)) (now (work .exit)) r ⌝ }
 {
     let burst = of_frames(frames);
     stacker::choose::run_sharpest(

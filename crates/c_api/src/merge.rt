@@ -1,6 +1,6 @@
 // Merge by lent vectors, for C: with the burst's own noise curve, or with that of ISO 100.
 ghost use Rattle.stacker.specs.Calls.{Merged};
-ghost use Rattle.descriptions.specs.Parameters.{shapeOf, measured, atIso, tuned};
+ghost use Rattle.descriptions.specs.Parameters.{shapeOf, measured, isoNoise, tuned};
 use descriptions::Burst;
 use descriptions::BurstNoise;
 use descriptions::IsoNoise;
@@ -46,7 +46,7 @@ pub extern "C" fn stacker_merge_iso(
     output: &mut [u16],
     work: &mut [i64],
 ) -> u64
-    ensures { λ r. ⌜ Merged (shapeOf burst) (burst .reference) (atIso noise) (tuned burst tuning) (now (samples .entry)) (now (vectors .entry)) (now (output .entry)) (now (output .exit)) (now (work .entry)) (now (work .exit)) r ⌝ }
+    ensures { λ r. ⌜ Merged (shapeOf burst) (burst .reference) (isoNoise noise) (tuned burst tuning) (now (samples .entry)) (now (vectors .entry)) (now (output .entry)) (now (output .exit)) (now (work .entry)) (now (work .exit)) r ⌝ }
 {
     stacker::merge::merge(
         shape_of(burst),

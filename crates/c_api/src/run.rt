@@ -1,6 +1,6 @@
 // Align and merge, for C: with the burst's own noise curve, or with that of ISO 100.
 ghost use Rattle.stacker.specs.Calls.{Ran};
-ghost use Rattle.descriptions.specs.Parameters.{shapeOf, measured, atIso, tuned};
+ghost use Rattle.descriptions.specs.Parameters.{shapeOf, measured, isoNoise, tuned};
 use descriptions::Burst;
 use descriptions::BurstNoise;
 use descriptions::IsoNoise;
@@ -47,7 +47,7 @@ pub extern "C" fn stacker_run_iso(
     output: &mut [u16],
     work: &mut [i64],
 ) -> Alignment
-    ensures { λ r. ⌜ Ran (shapeOf burst) (burst .reference) (atIso noise) (tuned burst tuning) (now (samples .entry)) (now (vectors .entry)) (now (vectors .exit)) (now (output .entry)) (now (output .exit)) (now (work .entry)) (now (work .exit)) r ⌝ }
+    ensures { λ r. ⌜ Ran (shapeOf burst) (burst .reference) (isoNoise noise) (tuned burst tuning) (now (samples .entry)) (now (vectors .entry)) (now (vectors .exit)) (now (output .entry)) (now (output .exit)) (now (work .entry)) (now (work .exit)) r ⌝ }
 {
     stacker::run::run(
         shape_of(burst),

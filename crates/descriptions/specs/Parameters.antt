@@ -31,8 +31,8 @@ abbrev pub measured : BurstNoise → Noise
 measured noise = Measured (record { shot = noise .shot; read = noise .read })
 
 -- "an ISO number with the curve for ISO 100"
-abbrev pub atIso : IsoNoise → Noise
-atIso noise = Iso (noise .iso) (record { shot = noise .shot; read = noise .read })
+abbrev pub isoNoise : IsoNoise → Noise
+isoNoise noise = Iso (noise .iso) (record { shot = noise .shot; read = noise .read })
 
 -- "Strength t = 0..1024", "s = 0..256 is the published s in 1/256" (request L13), and "The burst gains a black level for each of the four planes" (request L3)
 abbrev pub tuned : Burst → MergeTuning → Tuning

@@ -1,6 +1,6 @@
 // What C passes by value, field by field as in include/stacker.h, and what it stands for.
 ghost use mathlib.Core.Path.{_≡_};
-ghost use Rattle.descriptions.specs.Parameters.{shapeOf, ofFrames, measured, atIso, tuned};
+ghost use Rattle.descriptions.specs.Parameters.{shapeOf, ofFrames, measured, isoNoise, tuned};
 use geometry::Shape;
 use geometry::shaped;
 use noise::Curve;
@@ -84,7 +84,7 @@ pub fn measured(noise: BurstNoise) -> Noise
 
 // The curve for ISO 100 at the burst's ISO number.
 pub fn at_iso(noise: IsoNoise) -> Noise
-    ensures { λ r. ⌜ r ≡ atIso noise ⌝ }
+    ensures { λ r. ⌜ r ≡ isoNoise noise ⌝ }
 {
     let iso = noise.iso;
     let base = Curve {

@@ -210,7 +210,7 @@ module _ (file : List ℕ) (es : List Entry) where
             asked = tagged .1 .1;
             allowed = frames-allowed s frame (room-parts .0);
             below = frame-below (room-parts .0);
-            long = right-length no.sampleLength (sampleLength s) room tt (passed (room-parts .1) here);
+            long = right-length no.wrongSampleLength (sampleLength s) room tt (passed (room-parts .1) here);
             small = λ place h. ltb-false 4095 (stripSample file (stripStart file es) place) (none (s .width * s .height) above (refuse-not no.sampleValue (some (s .width * s .height) above) tt (passed (placed .1) here)) place h);
           }
 
@@ -219,8 +219,8 @@ module _ (file : List ℕ) (es : List Entry) where
       unfolding dngRefusal roomTests stripRefusal lengthRefusal first
       complete a =
           let small : stripRefusal file (stripStart file es) (s .width * s .height) ≡ 0 = rw (not-one (s .width * s .height) above (λ place h. le-ltb 4095 (stripSample file (stripStart file es) place) (a .small place h))) in
-          let long : lengthRefusal no.sampleLength (sampleLength s) room ≡ 0 = rw (equal-not room (sampleLength s) (a .long)) in
-          let burst = goes (frameTests s frame) (lengthRefusal no.sampleLength (sampleLength s) room ∷ []) (sym (frames-pass s frame (a .allowed) (a .below))) refl (sym long ∙ lone _) in
+          let long : lengthRefusal no.wrongSampleLength (sampleLength s) room ≡ 0 = rw (equal-not room (sampleLength s) (a .long)) in
+          let burst = goes (frameTests s frame) (lengthRefusal no.wrongSampleLength (sampleLength s) room ∷ []) (sym (frames-pass s frame (a .allowed) (a .below))) refl (sym long ∙ lone _) in
           sym
           (goes (tagTests file es s) (roomTests s frame room ++ stripRefusal file (stripStart file es) (s .width * s .height) ∷ []) (sym (tags-complete (a .inside) (a .once) (a .asked))) refl
           (goes (roomTests s frame room) (stripRefusal file (stripStart file es) (s .width * s .height) ∷ []) burst refl (sym small ∙ lone _)))

@@ -16,5 +16,5 @@ frame-fits s frame room e =
     record {
       allowed = allowed s (passed e (search among depth 20)) (passed e (search among depth 20)) (passed e (search among depth 20));
       below = below-count s frame (passed e (search among depth 20));
-      long = right-length no.sampleLength (sampleLength s) room tt (passed e (search among depth 20));
+      long = right-length no.wrongSampleLength (sampleLength s) room tt (passed e (search among depth 20));
     }

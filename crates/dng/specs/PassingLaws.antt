@@ -14,7 +14,7 @@ use Rattle.dng_tags.specs.TagLaws.{listed-least}
 use Rattle.dng_strip.specs.StripLaws.{same-test}
 use Rattle.dng.specs.declared.DngRead.{DngRead}
 use Rattle.dng.specs.Refusals.{dngRefusal}
-use Rattle.dng.specs.Reading.{blackAt, acceptedAnswer, answerOf, FrameReadBy, FrameRead}
+use Rattle.dng.specs.Reading.{blackAt, acceptedDng, dngAnswer, FrameReadBy, FrameRead}
 
 -- a tag that is not listed beside the entries es, and is not 50714
 pub record Unlisted (tag : ℕ) (es : List Entry) : Type 0 where
@@ -112,12 +112,12 @@ module _ (file : List ℕ) (a : List Entry) (entry : Entry) (b : List Entry) (un
   unfolding blackAt tagAt tags
   black-level-past index = rw (black-past, field-past file (tagAt BlackLevel) a entry b (unlisted .not-black))
 
-  answer-past : acceptedAnswer file (a ++ entry ∷ b) ≡ acceptedAnswer file (a ++ b)
+  answer-past : acceptedDng file (a ++ entry ∷ b) ≡ acceptedDng file (a ++ b)
   answer-past = rw (row-past NoiseProfile (needed NoiseProfile (omega arith)), black-level-past 0, black-level-past 1, black-level-past 2, black-level-past 3)
 
   -- the answer and every word of the samples are those without the entry
   pub passed-over : {s : Shape} {frame : ℕ} {samples : List ℕ} {answer : DngRead} {samples′ : List ℕ} → FrameReadBy (a ++ entry ∷ b) file s frame samples answer samples′ → FrameReadBy (a ++ b) file s frame samples answer samples′
-  unfolding answerOf
+  unfolding dngAnswer
   passed-over {s} {frame} {samples} r =
       record {
         answered = r .answered ∙ rw (refusal-past s frame (length samples), answer-past);

@@ -28,12 +28,12 @@ blackAt file es index = cond (hasBlack es) (short file (firstField file (tagAt B
 abbrev pub noNumber : Float
 noNumber = ofInt binary64 (pos 0)
 
-abbrev pub refusedAnswer : ℕ → DngRead
-refusedAnswer number = record { refusal = number; shot = noNumber; read = noNumber; black = 0 ∷ 0 ∷ 0 ∷ 0 ∷ [] }
+abbrev pub refusedDng : ℕ → DngRead
+refusedDng number = record { refusal = number; shot = noNumber; read = noNumber; black = 0 ∷ 0 ∷ 0 ∷ 0 ∷ [] }
 
 -- "Curve and black levels are handed back untested."
-abbrev pub acceptedAnswer : List ℕ → List Entry → DngRead
-acceptedAnswer file es =
+abbrev pub acceptedDng : List ℕ → List Entry → DngRead
+acceptedDng file es =
     record {
       refusal = 0;
       shot = shotOf (noiseS file es);
@@ -42,8 +42,8 @@ acceptedAnswer file es =
     }
 
 -- "Acceptance is number 0; beside a refusal every other returned field is 0."
-unfoldable pub answerOf : (number : ℕ) → List ℕ → List Entry → DngRead
-answerOf number file es = after number (refusedAnswer number) (acceptedAnswer file es)
+unfoldable pub dngAnswer : (number : ℕ) → List ℕ → List Entry → DngRead
+dngAnswer number file es = after number (refusedDng number) (acceptedDng file es)
 
 -- all rows of the frame
 abbrev pub filled : List ℕ → List Entry → Shape → (frame : ℕ) → List ℕ → List ℕ
@@ -51,7 +51,7 @@ filled file es s frame samples = filledRows file (stripStart file es) s frame (s
 
 -- what reading leaves, by the entries of the directory: its answer, and every word of the samples
 pub record FrameReadBy (es : List Entry) (file : List ℕ) (s : Shape) (frame : ℕ) (samples : List ℕ) (answer : DngRead) (samples′ : List ℕ) : Type 0 where
-  pub answered : answer ≡ answerOf (dngRefusal file es s frame (length samples)) file es
+  pub answered : answer ≡ dngAnswer (dngRefusal file es s frame (length samples)) file es
   pub stored : samples′ ≡ after (dngRefusal file es s frame (length samples)) samples (filled file es s frame samples)
 
 -- by those of "first image directory"

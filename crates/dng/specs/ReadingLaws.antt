@@ -9,7 +9,7 @@ use Rattle.dng_tags.specs.Refusals.{stripStart}
 use Rattle.dng_strip.specs.Strip.{filledRows}
 use Rattle.dng.specs.declared.DngRead.{DngRead}
 use Rattle.dng.specs.Refusals.{dngRefusal}
-use Rattle.dng.specs.Reading.{noiseS, noiseO, refusedAnswer, acceptedAnswer, answerOf, filled, FrameReadBy}
+use Rattle.dng.specs.Reading.{noiseS, noiseO, refusedDng, acceptedDng, dngAnswer, filled, FrameReadBy}
 
 module _ (file : List ℕ) (es : List Entry) (s : Shape) (frame : ℕ) (samples : List ℕ) where
   abbrev of : ℕ
@@ -17,20 +17,20 @@ module _ (file : List ℕ) (es : List Entry) (s : Shape) (frame : ℕ) (samples 
 
   module _ {number : ℕ} {answer : DngRead} (is : number ≡ dngRefusal file es s frame (length samples)) where
     -- a refusal, and the samples as they were
-    pub refusal : (number ≡ 0 → ⊥) → answer ≡ refusedAnswer number → FrameReadBy es file s frame samples answer samples
-    unfolding answerOf
+    pub refusal : (number ≡ 0 → ⊥) → answer ≡ refusedDng number → FrameReadBy es file s frame samples answer samples
+    unfolding dngAnswer
     refusal h a =
         record {
-          answered = a ∙ ap refusedAnswer is ∙ kept of (refusedAnswer of) (acceptedAnswer file es) is h;
+          answered = a ∙ ap refusedDng is ∙ kept of (refusedDng of) (acceptedDng file es) is h;
           stored = kept of samples (filled file es s frame samples) is h;
         }
 
     -- acceptance, and the strip's samples in the frame
-    pub acceptance : {samples′ : List ℕ} → number ≡ 0 → answer ≡ acceptedAnswer file es → samples′ ≡ filled file es s frame samples → FrameReadBy es file s frame samples answer samples′
-    unfolding answerOf
+    pub acceptance : {samples′ : List ℕ} → number ≡ 0 → answer ≡ acceptedDng file es → samples′ ≡ filled file es s frame samples → FrameReadBy es file s frame samples answer samples′
+    unfolding dngAnswer
     acceptance z a f =
         record {
-          answered = made of (refusedAnswer of) (acceptedAnswer file es) is z a;
+          answered = made of (refusedDng of) (acceptedDng file es) is z a;
           stored = made of samples (filled file es s frame samples) is z f;
         }
 
@@ -42,10 +42,10 @@ filled-by file es s frame samples samples′ start e f = f ∙ ap (λ n. filledR
 -- the number is in the answer
 pub answer-number : {es : List Entry} {file : List ℕ} {s : Shape} {frame : ℕ} {samples : List ℕ} {answer : DngRead} {samples′ : List ℕ} → FrameReadBy es file s frame samples answer samples′ →
     answer .refusal ≡ dngRefusal file es s frame (length samples)
-unfolding answerOf after
+unfolding dngAnswer after
 answer-number {es} {file} {s} {frame} {samples} r = ap (λ a. a .refusal) (r .answered) ∙ from (dngRefusal file es s frame (length samples))
   where
-    from : (number : ℕ) → answerOf number file es .refusal ≡ number
+    from : (number : ℕ) → dngAnswer number file es .refusal ≡ number
     from zero = refl
     from (suc number) = refl
 
@@ -53,8 +53,8 @@ answer-number {es} {file} {s} {frame} {samples} r = ap (λ a. a .refusal) (r .an
 pub curve-read : {es : List Entry} {file : List ℕ} {s : Shape} {frame : ℕ} {samples : List ℕ} {answer : DngRead} {samples′ : List ℕ} → FrameReadBy es file s frame samples answer samples′ →
     answer .refusal ≡ 0 → (answer .shot ≡ mul binary64 (noiseS file es) (ofInt binary64 (pos 4095)))
     × (answer .read ≡ mul binary64 (mul binary64 (noiseO file es) (ofInt binary64 (pos 4095))) (ofInt binary64 (pos 4095)))
-unfolding answerOf
+unfolding dngAnswer
 curve-read {es} {file} {s} {frame} {samples} r z =
     let number = dngRefusal file es s frame (length samples) in
-    let is = result-made number (refusedAnswer number) (acceptedAnswer file es) (sym (answer-number r) ∙ z) (r .answered) in
+    let is = result-made number (refusedDng number) (acceptedDng file es) (sym (answer-number r) ∙ z) (r .answered) in
     (ap (λ a. a .shot) is, ap (λ a. a .read) is)

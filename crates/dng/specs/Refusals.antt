@@ -12,7 +12,7 @@ use Rattle.dng_strip.specs.Strip.{stripRefusal}
 
 -- "before 1, 2, 3 (frame index not below N), 4": of the burst, the frame's index and the length of the lent samples. 23 is the last of `frameTests`
 unfoldable pub roomTests : Shape → (frame room : ℕ) → List ℕ
-roomTests s frame room = frameTests s frame ++ lengthRefusal no.sampleLength (sampleLength s) room ∷ []
+roomTests s frame room = frameTests s frame ++ lengthRefusal no.wrongSampleLength (sampleLength s) room ∷ []
 
 -- all of them
 unfoldable pub dngRefusal : List ℕ → List Entry → Shape → (frame room : ℕ) → ℕ

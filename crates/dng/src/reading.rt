@@ -4,7 +4,7 @@ ghost use Prim.Native.Nat.{_≤_};
 ghost use Rattle.refusals.specs.Tests.{first};
 ghost use Rattle.tiff.specs.Directory.{entries};
 ghost use Rattle.dng.specs.Refusals.{roomTests};
-ghost use Rattle.dng.specs.Reading.{refusedAnswer, acceptedAnswer, blackAt, FrameRead};
+ghost use Rattle.dng.specs.Reading.{refusedDng, acceptedDng, blackAt, FrameRead};
 use crate::DngRead;
 use crate::curve::read_of;
 use crate::curve::shot_of;
@@ -39,7 +39,7 @@ fn room_refusal(shape: Shape, frame: usize, room: usize) -> u64
 
 // A refusal, with 0 in every other field.
 fn refused(number: u64) -> DngRead
-    ensures { λ r. ⌜ r ≡ refusedAnswer number ⌝ }
+    ensures { λ r. ⌜ r ≡ refusedDng number ⌝ }
 {
     DngRead {
         refusal: number,
@@ -63,7 +63,7 @@ fn black_at(file: &[u8], index: usize) -> u16
 
 // The curve and the black levels, untested.
 fn accepted(file: &[u8]) -> DngRead
-    ensures { λ r. ⌜ r ≡ acceptedAnswer (now (file .entry)) (entries (now (file .entry))) ⌝ }
+    ensures { λ r. ⌜ r ≡ acceptedDng (now (file .entry)) (entries (now (file .entry))) ⌝ }
 {
     let profile = field(file, tag(NOISE_PROFILE));
     let shot = shot_of(eight_at(file, profile.at));

@@ -1,17 +1,17 @@
 -- The vectors of a level's first tiles, as the loop writes them.
 use Rattle.algebra.specs.Prelude.{_≡_, refl, sym, _∙_, List, ℕ, _+_, _*_, _≤_, _<_, arith, length, set, ℤ}
 use Rattle.sequences.specs.Write.{written, Writing, write-start, write-turn, write-done}
-use Rattle.geometry.specs.Vectors.{Field, numbered, word}
+use Rattle.geometry.specs.Vectors.{VectorField, numbered, word}
 use Rattle.geometry.specs.VectorLaws.{word-down, word-right}
 
 -- l is d with the vectors of the first k of n tiles from `to` on: a loop's invariant
-pub record Placing (d : List ℤ) (to columns n : ℕ) (f : Field) (k : ℕ) (l : List ℤ) : Type 0 where
+pub record Placing (d : List ℤ) (to columns n : ℕ) (f : VectorField) (k : ℕ) (l : List ℤ) : Type 0 where
   pub count : k ≤ n
   pub same : length l ≡ length d
   pub room : to + 2 * n ≤ length d
   pub writing : Writing d to (word columns f) (2 * n) (2 * k) l
 
-module _ {d : List ℤ} {to columns n : ℕ} {f : Field} where
+module _ {d : List ℤ} {to columns n : ℕ} {f : VectorField} where
   pub place-start : to + 2 * n ≤ length d → Placing d to columns n f 0 d
   place-start h = record { count = omega arith; same = refl; room = h; writing = write-start h }
 

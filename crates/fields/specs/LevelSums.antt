@@ -2,26 +2,26 @@
 use Rattle.algebra.specs.Prelude.{ℕ, _*_, _/_, _%_}
 use Rattle.algebra.specs.Sums.{sumN}
 use Rattle.geometry.specs.Tiles.{Level, Step}
-use Rattle.geometry.specs.Vectors.{Field, numbered}
+use Rattle.geometry.specs.Vectors.{VectorField, numbered}
 use Rattle.search.specs.Vectors.{still}
 use Rattle.residuals.specs.Residual.{Pair, residual}
 use Rattle.search.specs.Rows.{searchRows, candidateRows}
-use Rattle.levels.specs.Fields.{tileAt, fromCoarse}
+use Rattle.levels.specs.Fields.{levelTile, fromCoarse}
 
 -- a level's sum of residuals, over its tiles
-unfoldable pub residuals : Level → Pair → (rows columns : ℕ) → Field → ℕ
+unfoldable pub residuals : Level → Pair → (rows columns : ℕ) → VectorField → ℕ
 residuals l p rows columns f =
-    sumN (rows * columns) (λ k. residual (l .squared) p (tileAt l (k / columns) (k % columns)) (numbered columns f k))
+    sumN (rows * columns) (λ k. residual (l .squared) p (levelTile l (k / columns) (k % columns)) (numbered columns f k))
 
 -- level 3, which has no candidates
 unfoldable pub coarsestRows : Level → Pair → (rows columns : ℕ) → ℕ
-coarsestRows l p rows columns = sumN (rows * columns) (λ k. searchRows (l .squared) p (tileAt l (k / columns) (k % columns)) still)
+coarsestRows l p rows columns = sumN (rows * columns) (λ k. searchRows (l .squared) p (levelTile l (k / columns) (k % columns)) still)
 
 -- a finer level: the candidates of each tile and the search around its guess
-unfoldable pub finerRows : Level → Step → (coarseRows coarseColumns : ℕ) → Pair → Field → (rows columns : ℕ) → ℕ
+unfoldable pub finerRows : Level → Step → (coarseRows coarseColumns : ℕ) → Pair → VectorField → (rows columns : ℕ) → ℕ
 finerRows l s coarseRows coarseColumns p coarse rows columns =
     sumN (rows * columns)
     (λ k.
     let row = k / columns in
     let column = k % columns in
-    candidateRows (l .squared) p (tileAt l row column) (fromCoarse s coarseRows coarseColumns p (tileAt l row column) coarse row column))
+    candidateRows (l .squared) p (levelTile l row column) (fromCoarse s coarseRows coarseColumns p (levelTile l row column) coarse row column))

@@ -5,7 +5,7 @@ use Rattle.fields.specs.Magnitudes.{wayMost, tilesMost}
 use Rattle.geometry.specs.Tiles.{level0, step1to0}
 use Rattle.sequences.specs.Write.{written}
 use Rattle.levels.specs.declared.Grid.{Grid}
-use Rattle.geometry.specs.Vectors.{Field, word}
+use Rattle.geometry.specs.Vectors.{VectorField, word}
 use Rattle.residuals.specs.Magnitudes.{residualMost}
 use Rattle.fields.specs.LevelSums.{finerRows, residuals}
 use Rattle.fields.specs.declared.Sums.{Sums}
@@ -38,13 +38,13 @@ pub record Room (words : List ℤ) (a : Area) (to rows columns : ℕ) : Type 0 w
   pub room : to + 2 * (rows * columns) ≤ length words
 
 -- a field's vectors are written from `to` on, and the n rows summed for it are answered
-pub record Laid (d : List ℤ) (to rows columns : ℕ) (f : Field) (n : ℕ) (l : List ℤ) (r : ℕ) : Type 0 where
+pub record Laid (d : List ℤ) (to rows columns : ℕ) (f : VectorField) (n : ℕ) (l : List ℤ) (r : ℕ) : Type 0 where
   pub vectors : l ≡ written d to (word columns f) (2 * (rows * columns))
   pub rows-are : r ≡ n
   pub few : r ≤ tilesMost * tileRowsMost
 
 -- the finest field
-unfoldable pub finestIn : List ℤ → Area → Grid → Field
+unfoldable pub finestIn : List ℤ → Area → Grid → VectorField
 finestIn words a c = finer level0 step1to0 (c .rows) (c .columns) (pairIn words a) (fieldAt words (c .at) (c .columns))
 
 -- the rows summed for a level from 2 to 0 of so many rows and columns of tiles

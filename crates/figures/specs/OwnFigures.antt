@@ -11,7 +11,7 @@ use Rattle.geometry.specs.declared.Shape.{Shape}
 use Rattle.geometry.specs.Read.{sampleIndex, sampleAt, planeOf, mirrored, inside, read}
 use Rattle.geometry.specs.Shape.{shaped, vectorLength}
 use Rattle.geometry.specs.Tiles.{origin}
-use Rattle.geometry.specs.Vectors.{otherFrame, vectorPlace, downAt, rightAt, Field, part, word, wordOf, vectorList}
+use Rattle.geometry.specs.Vectors.{otherFrame, vectorPlace, downAt, rightAt, VectorField, part, word, wordOf, vectorList}
 use Rattle.recipe.specs.declared.Merge.{Merge}
 use Rattle.recipe.specs.Root.{rootIn, wholeRoot}
 use Rattle.recipe.specs.NoiseNumber.{sumOfSquares, tileRoot, variance, noiseNumber}
@@ -19,9 +19,9 @@ use Rattle.recipe.specs.Side.{Side, cosAt, sinAt}
 use Rattle.recipe.specs.Tables.{cosines, cosine16, sine16, windows, window16, side16}
 use Rattle.recipe.specs.Correction.{wiener, rowRe, rowIm, binRe, binIm, quantized, filtered, twiddleRe, twiddleIm, inverseRe, inverseAt, correctionAt}
 use Rattle.recipe.specs.Output.{weightIn, rounded}
-use Rattle.recipe.specs.Spatial.{Tile, copyQuantized, copyFiltered, mergedSum, copyAt, spatialAt, takenAt, filteredSample}
+use Rattle.recipe.specs.Spatial.{FilteredTile, copyQuantized, copyFiltered, mergedSum, copyAt, spatialAt, takenAt, filteredSample}
 use Rattle.recipe.specs.SpatialNoise.{frequency, distance, spatialNumber}
-use Rattle.recipe.specs.Scene.{Scene, sceneOf, blackOf, tileOver, tileAt, referenceTile, otherTile, tileNoise, tileSpatial, difference}
+use Rattle.recipe.specs.Scene.{Scene, sceneOf, blackOf, tileOver, tileAt, referenceTile, otherTile, tileNoise, tileSpatial, tileDifference}
 use Rattle.recipe.specs.Exact.{exactBin, exactNoise, exactWiener, exactInverseRe, exactInverseAt, unrounded}
 use Rattle.recipe.specs.ExactSpatial.{exactRowRe, exactRowIm, exactBinRe, exactBinIm}
 use Rattle.sharpness.specs.Sharpness.{rowSteps, steps, sharpness, sharpest}
@@ -109,7 +109,7 @@ side4 =
     }
 
 -- differences of 97, 40 and 7, at V = 300001
-abbrev pub moved : Tile
+abbrev pub moved : FilteredTile
 moved =
     record {
       noise = 300001;
@@ -119,7 +119,7 @@ moved =
     }
 
 -- a lone sample of 4000, with V' in bin (1, 0) alone
-abbrev pub grainy : Tile
+abbrev pub grainy : FilteredTile
 grainy =
     record {
       noise = 0;
@@ -129,7 +129,7 @@ grainy =
     }
 
 -- and one of 64
-abbrev pub faint : Tile
+abbrev pub faint : FilteredTile
 faint = record { noise = 0; spatial = only 1 0 1000000 0; reference = only 1 0 (pos 64) (pos 0); differences = λ z. none }
 
 abbrev pub tiles : List Figure
@@ -215,7 +215,7 @@ scenes =
     ∷ (tileOver side16 19 1 counts 2)
     ∷ (referenceTile rising 1 0 0 2 1 3 counts 802)
     ∷ (otherTile rising 1 0 0 2 1 1 3 counts 2198)
-    ∷ (difference rising 1 0 0 2 1 1 3 is minus 1396)
+    ∷ (tileDifference rising 1 0 0 2 1 1 3 is minus 1396)
     ∷ (tileNoise rising 0 1 1 1 counts 7409664)
     ∷ (tileSpatial rising 0 1 1 1 3 4 counts 6174720)
     ∷ (inside 4 (minus 1) counts 0)
@@ -228,7 +228,7 @@ scenes =
     ∷ []
 
 -- the vectors of two other frames of 64 by 64, 25 tiles each: those of frame k, row a and column b are k, a and b in decimal, and that negated
-abbrev pub numberedField : ℕ → Field
+abbrev pub numberedField : ℕ → VectorField
 numberedField k a b = record { down = pos (100 * k + 10 * a + b); right = minus (100 * k + 10 * a + b) }
 
 abbrev pub three : Shape
@@ -270,5 +270,5 @@ abbrev pub table : List Figure
 table = noises ++ bins ++ tiles ++ outputs ++ exacts ++ scenes ++ layout ++ sharp
 
 pub own-figures : computed table ≡ stated table
-unfolding tileRoot sumOfSquares sumN wholeRoot rootIn noiseNumber variance frequency distance spatialNumber side16 binRe binIm rowRe rowIm quantized wiener filtered away inverseAt inverseRe twiddleRe twiddleIm cosAt sinAt cosine16 sine16 cosines sumZ correctionAt mergedSum copyAt copyQuantized copyFiltered spatialAt takenAt filteredSample windows window16 upward clampZ minZ maxZ exactBin exactNoise exactWiener exactRowRe exactRowIm exactBinRe exactBinIm exactInverseRe exactInverseAt frac whole _+F_ _-F_ _·F_ _×F_ divide _÷F_ over sumF held sceneOf sampleAt sampleIndex tab downAt rightAt vectorPlace otherFrame blackOf referenceTile otherTile tileAt read origin inside mirrored planeOf difference tileNoise tileSpatial vectorLength vectorList wordOf word part sharpness steps rowSteps sharpest firstBy
+unfolding tileRoot sumOfSquares sumN wholeRoot rootIn noiseNumber variance frequency distance spatialNumber side16 binRe binIm rowRe rowIm quantized wiener filtered away inverseAt inverseRe twiddleRe twiddleIm cosAt sinAt cosine16 sine16 cosines sumZ correctionAt mergedSum copyAt copyQuantized copyFiltered spatialAt takenAt filteredSample windows window16 upward clampZ minZ maxZ exactBin exactNoise exactWiener exactRowRe exactRowIm exactBinRe exactBinIm exactInverseRe exactInverseAt frac whole _+F_ _-F_ _·F_ _×F_ divide _÷F_ over sumF held sceneOf sampleAt sampleIndex tab downAt rightAt vectorPlace otherFrame blackOf referenceTile otherTile tileAt read origin inside mirrored planeOf tileDifference tileNoise tileSpatial vectorLength vectorList wordOf word part sharpness steps rowSteps sharpest firstBy
 own-figures = refl

@@ -22,7 +22,7 @@ unfolding valuesOf
 values-step zero s h = absurd (omega arith)
 values-step (suc k) s h = rw (sub-one (suc k))
 
-pub values-none : (k : ℕ) (s : List ℕ) → k ≤ 0 → valuesOf k s ≡ refused no.valueLine
+pub values-none : (k : ℕ) (s : List ℕ) → k ≤ 0 → valuesOf k s ≡ refused no.wrongValueLine
 unfolding valuesOf
 values-none zero s h = refl
 values-none (suc k) s h = absurd (omega arith)
@@ -41,7 +41,7 @@ judged-last a bound v rest = ap (λ (o : Bool). found o rest) (or-false a (ltb b
 pub judged-end : (left next : ℕ) (a : Bool) (bound v : ℕ) (file : List ℕ) (others : List ℕ → Part (List ℕ)) → lineIn file (endedLine left next (a || ltb bound v)) ≡ judged a bound (afterItem left others (last v (drop next file)))
 judged-end left next a bound v file others = from (eqb left 0)
   where
-    from : (none : Bool) → lineIn file (cond none (Found next (a || ltb bound v)) (Refused no.valueLine)) ≡ judged a bound (cond none (found (v ∷ []) (drop next file)) (refused no.valueLine))
+    from : (none : Bool) → lineIn file (cond none (Found next (a || ltb bound v)) (Refused no.wrongValueLine)) ≡ judged a bound (cond none (found (v ∷ []) (drop next file)) (refused no.wrongValueLine))
     from true = judged-last a bound v (drop next file)
     from false = refl
 

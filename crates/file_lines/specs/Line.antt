@@ -42,13 +42,13 @@ itemOf bytes = digitsFrom 0 0 bytes
 
 -- a line's item, where `others` reads the `left` values after it
 abbrev pub afterItem : (left : ℕ) (others : List ℕ → Part (List ℕ)) → Item → Part (List ℕ)
-afterItem left others (last value rest) = cond (eqb left 0) (found (value ∷ []) rest) (refused no.valueLine)
+afterItem left others (last value rest) = cond (eqb left 0) (found (value ∷ []) rest) (refused no.wrongValueLine)
 afterItem left others (more value rest) = mapped (λ values. value ∷ values) (others rest)
-afterItem left others bad = refused no.valueLine
+afterItem left others bad = refused no.wrongValueLine
 
 -- 14, "malformed value line"; "a line with too few or too many values is 14"
 unfoldable pub valuesOf : (count : ℕ) → List ℕ → Part (List ℕ)
-valuesOf zero bytes = refused no.valueLine
+valuesOf zero bytes = refused no.wrongValueLine
 valuesOf (suc count) bytes = afterItem count (λ rest. valuesOf count rest) (itemOf bytes)
 
 unfoldable pub hasLF : List ℕ → Bool

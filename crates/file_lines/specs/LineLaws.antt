@@ -137,7 +137,7 @@ values-sound (suc count) s = from (itemOf s) (digits-sound 0 0 s (omega arith)) 
     from : (item : Item) → SoundItem 0 0 s item → ((t : List ℕ) → Sound (ValueLine count t) (valuesOf count t)) → Sound (ValueLine (suc count) s) (afterItem count (λ t. valuesOf count t) item)
     from (last v rest) w again = ends (eqb count 0) refl
       where
-        ends : (x : Bool) → eqb count 0 ≡ x → Sound (ValueLine (suc count) s) (cond x (found (v ∷ []) rest) (refused no.valueLine))
+        ends : (x : Bool) → eqb count 0 ≡ x → Sound (ValueLine (suc count) s) (cond x (found (v ∷ []) rest) (refused no.wrongValueLine))
         ends true p = record { text = w .text; is = w .is; grammar = value (word-value w); counted = ap suc (sym (eqb-true count 0 p)) }
         ends false p = malformed
     from (more v rest) (t, w, g) again = line-more count w g (valuesOf count rest) (again rest)

@@ -24,7 +24,7 @@ lineIn file (FoundLine next over) = found over (drop next file)
 lineIn file (RefusedLine number) = refused number
 
 abbrev pub malformedLine : Line
-malformedLine = RefusedLine no.valueLine
+malformedLine = RefusedLine no.wrongValueLine
 
 -- a line that has ended, where `left` of its values have not come
 abbrev pub endedLine : (left next : ℕ) (over : Bool) → Line

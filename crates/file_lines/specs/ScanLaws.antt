@@ -37,7 +37,7 @@ values-next (suc count) s = from (itemOf s) (λ m. refl) (λ t. values-next coun
         → Sound (Next (suc count) s) (afterItem count (λ t. valuesOf count t) item)
     from (last v rest) one again = ends (eqb count 0) refl
       where
-        ends : (x : Bool) → eqb count 0 ≡ x → Sound (Next (suc count) s) (cond x (found (v ∷ []) rest) (refused no.valueLine))
+        ends : (x : Bool) → eqb count 0 ≡ x → Sound (Next (suc count) s) (cond x (found (v ∷ []) rest) (refused no.wrongValueLine))
         ends true p = λ m. ap (λ (k : ℕ). nextValues k s) (alone m (eqb-true count 0 p)) ∙ one m
           where
             alone : (m : ℕ) → count ≡ 0 → suc count + m ≡ suc m

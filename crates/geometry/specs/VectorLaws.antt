@@ -6,7 +6,7 @@ use Rattle.geometry.specs.declared.Shape.{Shape}
 use Rattle.geometry.specs.Shape.{vectorLength}
 use Rattle.geometry.specs.ReadLaws.{cell-below}
 use Rattle.geometry.specs.Tiles.{tileColumns, tileRows, frameParts}
-use Rattle.geometry.specs.Vectors.{otherFrame, Field, numbered, part, word, wordOf, vectorPlace, vectorList, downAt, rightAt}
+use Rattle.geometry.specs.Vectors.{otherFrame, VectorField, numbered, part, word, wordOf, vectorPlace, vectorList, downAt, rightAt}
 
 pub other-below : (reference k count : ℕ) → k < count - 1 → otherFrame reference k < count
 unfolding otherFrame
@@ -17,14 +17,14 @@ other-below reference k count h = by (ltb k reference)
     by false = omega arith
 
 -- a tile's two words
-pub word-down : (columns : ℕ) (f : Field) (k : ℕ) → word columns f (2 * k) ≡ numbered columns f k .down
+pub word-down : (columns : ℕ) (f : VectorField) (k : ℕ) → word columns f (2 * k) ≡ numbered columns f k .down
 unfolding word part
 word-down columns f k =
     let e : 2 * k % 2 ≡ 0 = omega arith in
     let d : 2 * k / 2 ≡ k = omega arith in
     rw (e, d)
 
-pub word-right : (columns : ℕ) (f : Field) (k : ℕ) → word columns f (2 * k + 1) ≡ numbered columns f k .right
+pub word-right : (columns : ℕ) (f : VectorField) (k : ℕ) → word columns f (2 * k + 1) ≡ numbered columns f k .right
 unfolding word part
 word-right columns f k =
     let e : (2 * k + 1) % 2 ≡ 1 = omega arith in
@@ -32,7 +32,7 @@ word-right columns f k =
     rw (e, d)
 
 -- word i of a frame's vectors
-pub word-of : (s : Shape) (f : ℕ → Field) (k i : ℕ) → i < frameParts s → wordOf s f (k * frameParts s + i) ≡ word (tileColumns s) (f k) i
+pub word-of : (s : Shape) (f : ℕ → VectorField) (k i : ℕ) → i < frameParts s → wordOf s f (k * frameParts s + i) ≡ word (tileColumns s) (f k) i
 unfolding wordOf
 word-of s f k i h = ap₂ (λ q r. word (tileColumns s) (f q) r) (place-row k i (frameParts s) h) (place-column k i (frameParts s) h)
 
@@ -48,7 +48,7 @@ module _ (s : Shape) (k row column : ℕ) (hk : k < s .count - 1) (hr : row < ti
   unfolding vectorPlace vectorLength
   place-below = omega (arith, cell-below k (2 * tile + 1) (s .count - 1) (frameParts s) hk tile-below)
 
-  module _ (f : ℕ → Field) where
+  module _ (f : ℕ → VectorField) where
     list-at : (i : ℕ) → i < frameParts s → getD (vectorList s f) (k * frameParts s + i) (pos 0) ≡ word (tileColumns s) (f k) i
     unfolding vectorList vectorLength
     list-at i h =

@@ -21,25 +21,25 @@ unfoldable pub rightAt : Shape → List ℤ → (k row column : ℕ) → ℤ
 rightAt s vectors k row column = getD vectors (vectorPlace s k row column + 1) (pos 0)
 
 -- the vector of the tile at a row and a column of tiles
-abbrev pub Field : Type 0
-Field = ℕ → ℕ → Vector
+abbrev pub VectorField : Type 0
+VectorField = ℕ → ℕ → Vector
 
 -- the same from the list's side: the vector of tile number k of a field of so many columns, and the number i of its parts
-abbrev pub numbered : (columns : ℕ) → Field → ℕ → Vector
+abbrev pub numbered : (columns : ℕ) → VectorField → ℕ → Vector
 numbered columns f k = f (k / columns) (k % columns)
 
 unfoldable pub part : ℕ → Vector → ℤ
 part zero v = v .down
 part (suc k) v = v .right
 
-unfoldable pub word : (columns : ℕ) → Field → ℕ → ℤ
+unfoldable pub word : (columns : ℕ) → VectorField → ℕ → ℤ
 word columns f i = part (i % 2) (numbered columns f (i / 2))
 
 -- and of the fields of all other frames; `list-down` and `list-right` (VectorLaws): each stands at its place
-unfoldable pub wordOf : Shape → (ℕ → Field) → ℕ → ℤ
+unfoldable pub wordOf : Shape → (ℕ → VectorField) → ℕ → ℤ
 wordOf s f i = word (tileColumns s) (f (i / frameParts s)) (i % frameParts s)
 
-unfoldable pub vectorList : Shape → (ℕ → Field) → List ℤ
+unfoldable pub vectorList : Shape → (ℕ → VectorField) → List ℤ
 vectorList s f = tab (vectorLength s) (wordOf s f)
 
 -- the parts of the k-th other frame, of so many each

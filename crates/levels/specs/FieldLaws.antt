@@ -3,15 +3,15 @@ use Rattle.algebra.specs.Prelude.{_≡_, ap, ℕ, _<_, arith}
 use Rattle.geometry.specs.Tiles.{Level, Step, own, neighbour, capped}
 use Rattle.residuals.specs.Residual.{Pair}
 use Rattle.residuals.specs.declared.Tile.{Tile}
-use Rattle.search.specs.Search.{found}
-use Rattle.geometry.specs.Vectors.{Field}
-use Rattle.levels.specs.Fields.{tileAt, fromCoarse, finer}
+use Rattle.search.specs.Search.{bestVector}
+use Rattle.geometry.specs.Vectors.{VectorField}
+use Rattle.levels.specs.Fields.{levelTile, fromCoarse, finer}
 
 capped-below : (count index : ℕ) → 0 < count → capped count index < count
 unfolding capped
 capped-below count index h = omega arith
 
-pub from-coarse-agree : (s : Step) (rows columns : ℕ) (p : Pair) (t : Tile) (f g : Field) → 0 < rows → 0 < columns → ((row column : ℕ) → row < rows → column < columns → f row column ≡ g row column) → (row column : ℕ) → fromCoarse s rows columns p t f row column ≡ fromCoarse s rows columns p t g row column
+pub from-coarse-agree : (s : Step) (rows columns : ℕ) (p : Pair) (t : Tile) (f g : VectorField) → 0 < rows → 0 < columns → ((row column : ℕ) → row < rows → column < columns → f row column ≡ g row column) → (row column : ℕ) → fromCoarse s rows columns p t f row column ≡ fromCoarse s rows columns p t g row column
 unfolding fromCoarse
 from-coarse-agree s rows columns p t f g hr hc e row column =
     let r = capped-below rows (own (s .quotient) row) hr in
@@ -20,7 +20,7 @@ from-coarse-agree s rows columns p t f g hr hc e row column =
     let k′ = capped-below columns (neighbour (s .quotient) column) hc in
     rw (e _ _ r k, e _ _ r k′, e _ _ r′ k)
 
-pub finer-agree : (l : Level) (s : Step) (rows columns : ℕ) (p : Pair) (f g : Field) → 0 < rows → 0 < columns → ((row column : ℕ) → row < rows → column < columns → f row column ≡ g row column) → (row column : ℕ) → finer l s rows columns p f row column ≡ finer l s rows columns p g row column
+pub finer-agree : (l : Level) (s : Step) (rows columns : ℕ) (p : Pair) (f g : VectorField) → 0 < rows → 0 < columns → ((row column : ℕ) → row < rows → column < columns → f row column ≡ g row column) → (row column : ℕ) → finer l s rows columns p f row column ≡ finer l s rows columns p g row column
 unfolding finer
 finer-agree l s rows columns p f g hr hc e row column =
-    ap (found (l .squared) p (tileAt l row column)) (from-coarse-agree s rows columns p (tileAt l row column) f g hr hc e row column)
+    ap (bestVector (l .squared) p (levelTile l row column)) (from-coarse-agree s rows columns p (levelTile l row column) f g hr hc e row column)

@@ -1,12 +1,12 @@
 -- The vector of a level's tile: at level 3 from no motion, at a finer level from the coarse vectors around it.
 use Rattle.algebra.specs.Prelude.{ℕ, zero, suc}
 use Rattle.geometry.specs.Tiles.{Level, level0, level1, level2, level3, Step, origin, own, neighbour, capped}
-use Rattle.geometry.specs.Vectors.{Field}
+use Rattle.geometry.specs.Vectors.{VectorField}
 use Rattle.residuals.specs.declared.Tile.{Tile}
 use Rattle.geometry.specs.declared.vectors.Vector.{Vector}
 use Rattle.search.specs.Vectors.{still, _times_}
 use Rattle.residuals.specs.Residual.{Pair}
-use Rattle.search.specs.Search.{found, guessed}
+use Rattle.search.specs.Search.{bestVector, guessed}
 
 -- the levels by number
 abbrev pub levelAt : ℕ → Level
@@ -16,15 +16,15 @@ levelAt (suc (suc zero)) = level2
 levelAt (suc (suc (suc k))) = level3
 
 -- "Tiles have side 16 (8 at level 3) and half step s = 8 (4). Indices run from 0 to ceil(size/s), origin −s + s·index, both ways."
-unfoldable pub tileAt : Level → (row column : ℕ) → Tile
-tileAt l row column = record { side = l .side; origin = record { down = origin (l .half) row; right = origin (l .half) column } }
+unfoldable pub levelTile : Level → (row column : ℕ) → Tile
+levelTile l row column = record { side = l .side; origin = record { down = origin (l .half) row; right = origin (l .half) column } }
 
 -- "At level 3 the guess is (0,0)."
-unfoldable pub coarsest : Level → Pair → Field
-coarsest l p row column = found (l .squared) p (tileAt l row column) still
+unfoldable pub coarsest : Level → Pair → VectorField
+coarsest l p row column = bestVector (l .squared) p (levelTile l row column) still
 
 -- "Three candidates, their vectors times f: own; neighbour sideways; neighbour vertically": the guess from a coarse field of so many rows and columns
-unfoldable pub fromCoarse : Step → (rows columns : ℕ) → Pair → Tile → Field → (row column : ℕ) → Vector
+unfoldable pub fromCoarse : Step → (rows columns : ℕ) → Pair → Tile → VectorField → (row column : ℕ) → Vector
 fromCoarse s rows columns p t coarse row column =
     let ownRow = capped rows (own (s .quotient) row) in
     let nextRow = capped rows (neighbour (s .quotient) row) in
@@ -33,6 +33,6 @@ fromCoarse s rows columns p t coarse row column =
     guessed p t (coarse ownRow ownColumn times s .factor) (coarse ownRow nextColumn times s .factor) (coarse nextRow ownColumn times s .factor)
 
 -- a finer level's field
-unfoldable pub finer : Level → Step → (rows columns : ℕ) → Pair → Field → Field
+unfoldable pub finer : Level → Step → (rows columns : ℕ) → Pair → VectorField → VectorField
 finer l s rows columns p coarse row column =
-    found (l .squared) p (tileAt l row column) (fromCoarse s rows columns p (tileAt l row column) coarse row column)
+    bestVector (l .squared) p (levelTile l row column) (fromCoarse s rows columns p (levelTile l row column) coarse row column)

@@ -6,7 +6,7 @@ ghost use lib.IntN.{pos, natAbs, _*ℤ_};
 ghost use Rattle.geometry.specs.Quotient.{Quotient};
 ghost use Rattle.search.specs.Vectors.{_times_};
 ghost use Rattle.patches.specs.Bounds.{Within};
-ghost use Rattle.levels.specs.Fields.{levelAt, tileAt};
+ghost use Rattle.levels.specs.Fields.{levelAt, levelTile};
 ghost use Rattle.levels.specs.Steps.{stepTo};
 ghost use Rattle.matching.specs.Stored.{Stored, Placed, Ready, refined};
 ghost use Rattle.residuals.specs.Magnitudes.{residualMost};
@@ -59,7 +59,7 @@ pub fn half_of(level: usize) -> usize
 // The tile at a row and a column of tiles.
 fn tile_at(level: usize, row: usize, column: usize) -> Tile
     requires { ⌜ record { level-most : level ≤ 3; row-most : row ≤ 4096; column-most : column ≤ 4096 } ⌝ }
-    ensures { λ r. ⌜ (r ≡ tileAt (levelAt level) row column) × (Placed r) ⌝ }
+    ensures { λ r. ⌜ (r ≡ levelTile (levelAt level) row column) × (Placed r) ⌝ }
 {
     let half = half_of(level);
     let corner = Vector {

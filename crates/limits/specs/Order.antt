@@ -15,18 +15,18 @@ frameTests s reference = shapeTests s ++ referenceRefusal s reference ∷ rowRef
 -- 4, 5 and 7
 unfoldable pub alignLengths : Shape → (samples vectors work : ℕ) → List ℕ
 alignLengths s samples vectors work =
-    lengthRefusal no.sampleLength (sampleLength s) samples
-    ∷ lengthRefusal no.vectorLength (vectorLength s) vectors
-    ∷ lengthRefusal no.workLength (workLength s) work
+    lengthRefusal no.wrongSampleLength (sampleLength s) samples
+    ∷ lengthRefusal no.wrongVectorLength (vectorLength s) vectors
+    ∷ lengthRefusal no.wrongWorkLength (workLength s) work
     ∷ []
 
 -- 4 to 7
 unfoldable pub mergeLengths : Shape → (samples vectors output work : ℕ) → List ℕ
 mergeLengths s samples vectors output work =
-    lengthRefusal no.sampleLength (sampleLength s) samples
-    ∷ lengthRefusal no.vectorLength (vectorLength s) vectors
-    ∷ lengthRefusal no.outputLength (outputLength s) output
-    ∷ lengthRefusal no.workLength (workLength s) work
+    lengthRefusal no.wrongSampleLength (sampleLength s) samples
+    ∷ lengthRefusal no.wrongVectorLength (vectorLength s) vectors
+    ∷ lengthRefusal no.wrongOutputLength (outputLength s) output
+    ∷ lengthRefusal no.wrongWorkLength (workLength s) work
     ∷ []
 
 -- "Align tests 1 to 5, 7"

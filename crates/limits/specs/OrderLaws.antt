@@ -27,10 +27,10 @@ module _ (s : Shape) (reference : ℕ) where
           burst = record {
             allowed = allowed s (passed e (search among depth 20)) (passed e (search among depth 20)) (passed e (search among depth 20));
             reference-below = below-count s reference (passed e (search among depth 20));
-            samples-long = right-length no.sampleLength (sampleLength s) samples tt (passed e (search among depth 20));
-            vectors-long = right-length no.vectorLength (vectorLength s) vectors tt (passed e (search among depth 20));
+            samples-long = right-length no.wrongSampleLength (sampleLength s) samples tt (passed e (search among depth 20));
+            vectors-long = right-length no.wrongVectorLength (vectorLength s) vectors tt (passed e (search among depth 20));
           };
-          work-long = right-length no.workLength (workLength s) work tt (passed e (search among depth 20));
+          work-long = right-length no.wrongWorkLength (workLength s) work tt (passed e (search among depth 20));
         }
 
     pub merge-fits : (output work : ℕ) → first (mergeShapeTests s reference samples vectors output work) ≡ 0 → MergeFits s reference samples vectors output work
@@ -40,9 +40,9 @@ module _ (s : Shape) (reference : ℕ) where
           burst = record {
             allowed = allowed s (passed e (search among depth 20)) (passed e (search among depth 20)) (passed e (search among depth 20));
             reference-below = below-count s reference (passed e (search among depth 20));
-            samples-long = right-length no.sampleLength (sampleLength s) samples tt (passed e (search among depth 20));
-            vectors-long = right-length no.vectorLength (vectorLength s) vectors tt (passed e (search among depth 20));
+            samples-long = right-length no.wrongSampleLength (sampleLength s) samples tt (passed e (search among depth 20));
+            vectors-long = right-length no.wrongVectorLength (vectorLength s) vectors tt (passed e (search among depth 20));
           };
-          output-long = right-length no.outputLength (outputLength s) output tt (passed e (search among depth 20));
-          work-long = right-length no.workLength (workLength s) work tt (passed e (search among depth 20));
+          output-long = right-length no.wrongOutputLength (outputLength s) output tt (passed e (search among depth 20));
+          work-long = right-length no.wrongWorkLength (workLength s) work tt (passed e (search among depth 20));
         }

@@ -10,10 +10,10 @@ use Rattle.limits.specs.Order.{shapeTests}
 -- the length that a refusal of the numbers 4 to 7 tests, "or 0 for any other number"
 unfoldable pub lengthTested : Shape → (number : ℕ) → ℕ
 lengthTested s number =
-    cond (eqb number no.sampleLength) (sampleLength s)
-    (cond (eqb number no.vectorLength) (vectorLength s)
-    (cond (eqb number no.outputLength) (outputLength s)
-    (cond (eqb number no.workLength) (workLength s) 0)))
+    cond (eqb number no.wrongSampleLength) (sampleLength s)
+    (cond (eqb number no.wrongVectorLength) (vectorLength s)
+    (cond (eqb number no.wrongOutputLength) (outputLength s)
+    (cond (eqb number no.wrongWorkLength) (workLength s) 0)))
 
 -- refusal 22: "a side other than" that of level 0's tiles
 unfoldable pub sideRefusal : (side : ℕ) → ℕ

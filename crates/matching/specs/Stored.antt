@@ -12,7 +12,7 @@ use Rattle.search.specs.Vectors.{_plus_}
 use Rattle.patches.specs.Bounds.{Within}
 use Rattle.search.specs.Offsets.{offset}
 use Rattle.residuals.specs.Residual.{Pair, residual}
-use Rattle.search.specs.Search.{found, guessed}
+use Rattle.search.specs.Search.{bestVector, guessed}
 use Rattle.search.specs.Rows.{searchRows}
 use Rattle.patches.specs.Copies.{Copied}
 
@@ -61,7 +61,7 @@ pub record Moved (guess : Vector) (best : Best) (before : ℕ) (r : Found) : Typ
 -- that of the definition, in the images that stand there, after so many rows
 abbrev pub refined : (squared : Bool) → List ℤ → Area → Tile → (guess : Vector) → (before : ℕ) → Found
 refined squared words a t guess before =
-    answer squared (pairIn words a) t (found squared (pairIn words a) t guess) (before + searchRows squared (pairIn words a) t guess)
+    answer squared (pairIn words a) t (bestVector squared (pairIn words a) t guess) (before + searchRows squared (pairIn words a) t guess)
 
 -- the first of three vectors whose numbers are least
 abbrev pub leastOfThree : (own sideways vertically : Vector) → (first second third : ℕ) → Vector

@@ -16,7 +16,7 @@ use Rattle.patches.specs.Bounds.{Within}
 use Rattle.search.specs.VectorLaws.{within-more}
 use Rattle.search.specs.Offsets.{offset}
 use Rattle.residuals.specs.Residual.{Pair, residual}
-use Rattle.search.specs.Search.{found, guessed}
+use Rattle.search.specs.Search.{bestVector, guessed}
 use Rattle.search.specs.SearchLaws.{found-within, guess-own, guess-sideways, guess-third, guess-last}
 use Rattle.search.specs.Rows.{offsetRows}
 use Rattle.search.specs.RowLaws.{offset-rows-most}
@@ -82,7 +82,7 @@ module _ {words : List ℤ} {a : Area} {t : Tile} {samples : List ℕ} {guess : 
 
   -- the answer that the search there gives
   pub search-answer : (squared : Bool) (before : ℕ) {best : Best} {f : Found} {n : ℕ} → t .side ≡ n → Searched (windowRow squared samples window n) n best → Moved guess best before f → f ≡ refined squared words a t guess before
-  unfolding found
+  unfolding bestVector
   search-answer squared before {best} {f} {n} side s m =
       let (is, low, rows) = searched-finds squared (pairIn words a) t guess samples window best (r .copied) (w .copied) (subst (λ n. Searched (windowRow squared samples window n) n best) (sym side) s) in
       let ev = m .vector-is ∙ ap (λ k. guess plus offset k) is in
@@ -108,5 +108,5 @@ guess-is p t own sideways vertically x y z ex ey ez = by (ltb y x) refl (ltb z y
     by false h e k false l = guess-own p t own sideways vertically x y z ex ey ez (ltb-false y x h) (ltb-false z x l)
 
 -- the answer's parts are at most 4 more than the guess's
-pub answer-within : (squared : Bool) (p : Pair) (t : Tile) (guess : Vector) (n : ℕ) (r : Found) → r ≡ answer squared p t (found squared p t guess) n → (b : ℕ) → Within b guess → Within (b + 4) (r .vector)
+pub answer-within : (squared : Bool) (p : Pair) (t : Tile) (guess : Vector) (n : ℕ) (r : Found) → r ≡ answer squared p t (bestVector squared p t guess) n → (b : ℕ) → Within b guess → Within (b + 4) (r .vector)
 answer-within squared p t guess n r is b w = subst (Within (b + 4)) (sym (ap (λ x. x .vector) is)) (found-within squared p t guess b w)

@@ -14,7 +14,7 @@ use Rattle.noise.specs.declared.Levels.the-variants.{Refused}
 use Rattle.noise.specs.Curve.{curveOf}
 use Rattle.noise.specs.Level.{exceeds, floor1024}
 use Rattle.noise.specs.Within.{within}
-use Rattle.noise.specs.Levels.{invalidNoise, aboveLimits, found, noiseTests, levelsOf, refusalOf, shotLevel, readLevel, levelRefusal, strengthRefusal, spatialRefusal}
+use Rattle.noise.specs.Levels.{invalidNoise, aboveLimits, curveLevels, noiseTests, levelsOf, refusalOf, shotLevel, readLevel, levelRefusal, strengthRefusal, spatialRefusal}
 use Rattle.noise.specs.ScalingLaws.{NotNegative, neither, curve-not-negative}
 
 not-over-within : (k : ℕ) (x : Float) → NotNegative x → exceeds k x ≡ false → T (within k x)
@@ -52,7 +52,7 @@ unfolding levelsOf after
 levels-bound noise = go (first (noiseTests noise)) refl
   where
     go : (n : ℕ) → first (noiseTests noise) ≡ n →
-        let levels = after n (Refused n) (found (curveOf noise)) in
+        let levels = after n (Refused n) (curveLevels (curveOf noise)) in
         (shotLevel levels ≤ 65536) × (readLevel levels ≤ 4194304)
     go zero e = let w = accepted-within noise e in (floor-most 64 (curveOf noise .shot) (w .0), floor-most 4096 (curveOf noise .read) (w .1))
     go (suc n) e = (omega arith, omega arith)
@@ -85,7 +85,7 @@ pub levels-number : (noise : Noise) → refusalOf (levelsOf noise) ≡ first (no
 unfolding levelsOf after
 levels-number noise = go (first (noiseTests noise))
   where
-    go : (n : ℕ) → refusalOf (after n (Refused n) (found (curveOf noise))) ≡ n
+    go : (n : ℕ) → refusalOf (after n (Refused n) (curveLevels (curveOf noise))) ≡ n
     go zero = refl
     go (suc n) = refl
 
@@ -94,6 +94,6 @@ pub refused-above : (noise : Noise) (n : ℕ) → levelsOf noise ≡ Refused n �
 unfolding levelsOf after
 refused-above noise n e z = go (first (noiseTests noise)) e
   where
-    go : (m : ℕ) → after m (Refused m) (found (curveOf noise)) ≡ Refused n → ⊥
+    go : (m : ℕ) → after m (Refused m) (curveLevels (curveOf noise)) ≡ Refused n → ⊥
     go zero e = let h : _≡_ {A = ℕ} 0 1 = cc in omega arith
     go (suc m) e = let same : suc m ≡ n = ap refusalOf e in omega arith

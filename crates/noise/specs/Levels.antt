@@ -29,8 +29,8 @@ unfoldable pub aboveLimits : Curve → Bool
 aboveLimits curve = exceeds 64 (curve .shot) || exceeds 4096 (curve .read)
 
 -- "Ls = floor(1024 shot) and Lr = floor(1024 read)"
-abbrev pub found : Curve → Levels
-found curve = Found (floor1024 (curve .shot)) (floor1024 (curve .read))
+abbrev pub curveLevels : Curve → Levels
+curveLevels curve = Found (floor1024 (curve .shot)) (floor1024 (curve .read))
 
 -- 8 and 9, "in the order of the numbers"
 unfoldable pub noiseTests : Noise → List ℕ
@@ -38,7 +38,7 @@ noiseTests noise = refuse no.noise (invalidNoise noise) ∷ refuse no.noiseLimit
 
 -- the answer for a noise: their number, else the levels of its curve
 unfoldable pub levelsOf : Noise → Levels
-levelsOf noise = let number = first (noiseTests noise) in after number (Refused number) (found (curveOf noise))
+levelsOf noise = let number = first (noiseTests noise) in after number (Refused number) (curveLevels (curveOf noise))
 
 -- each answer's number, "Acceptance is number 0", and its Ls and Lr, "beside a refusal every other returned field is 0"
 abbrev pub refusalOf : Levels → ℕ

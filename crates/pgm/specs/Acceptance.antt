@@ -8,7 +8,7 @@ use Rattle.refusals.specs.TestLaws.{here, there, passed, refuse-not}
 use Rattle.refusals.specs.SomeLaws.{one, none, not-one, every}
 use Rattle.geometry.specs.Shape.{lengthRefusal}
 use Rattle.geometry.specs.ShapeLaws.{right-length}
-use Rattle.pgm_header.specs.Header.{headerOf}
+use Rattle.pgm_header.specs.Header.{pgmHeader}
 use Rattle.pgm_samples.specs.Samples.{bytesOf, someAbove, aboveRefusal, samplesOf}
 use Rattle.pgm.specs.Form.{fileOf, PgmFile, fileLength}
 use Rattle.pgm.specs.Writing.{writeRefusal}
@@ -36,7 +36,7 @@ module _ (width height : ℕ) (frame bytes : List ℕ) where
   write-sound e = (
     record {
       allowed = passes no.size _ tt (passed e here);
-      long = right-length no.outputLength _ _ tt (passed e (there here));
+      long = right-length no.wrongOutputLength _ _ tt (passed e (there here));
       small = above-sound frame (passed e (there (there (there here))));
       is = refl;
     },
@@ -48,7 +48,7 @@ unfolding writeRefusal first
 write-complete {file} {width} {height} {frame} bytes p e =
     rw (
       p .allowed,
-      length-passes no.outputLength (width * height) (length frame) (p .long),
+      length-passes no.wrongOutputLength (width * height) (length frame) (p .long),
       length-passes no.byteLength (fileLength width height) (length bytes) (e ∙ ap length (p .is) ∙ file-long width height frame (p .long)),
       above-complete frame (p .small),
     )
@@ -56,7 +56,7 @@ write-complete {file} {width} {height} {frame} bytes p e =
 -- what is known of bytes that are let through as a file of a size
 pub readable : (width height : ℕ) (bytes : List ℕ) (room : ℕ) → refusalAs width height bytes room ≡ 0 → (formed width height bytes ≡ true) × (room ≡ width * height)
 unfolding refusalAs
-readable width height bytes room e = (passes no.pgmForm _ tt (passed e here), right-length no.outputLength _ _ tt (passed e (there here)))
+readable width height bytes room e = (passes no.pgmForm _ tt (passed e here), right-length no.wrongOutputLength _ _ tt (passed e (there here)))
 
 module _ (bytes : List ℕ) where
   -- what is accepted is a file, as long as the frame
@@ -65,7 +65,7 @@ module _ (bytes : List ℕ) where
   sound all room e =
       let width = widthIn bytes in
       let height = heightIn bytes in
-      let start = length (headerOf width height) in
+      let start = length (pgmHeader width height) in
       let fits = readable width height bytes room e in
       let f = form-sound width height bytes (fits .0) in
       let raster = bytes-drop bytes start all in (
@@ -73,7 +73,7 @@ module _ (bytes : List ℕ) where
           allowed = f .allowed;
           long = samples-long (width * height) (drop start bytes) (f .long);
           small = above-sound _ (passed e (there (there here)));
-          is = f .is ∙ ap (λ l. headerOf width height ++ l) (sym (bytes-samples (width * height) (drop start bytes) (f .long) raster));
+          is = f .is ∙ ap (λ l. pgmHeader width height ++ l) (sym (bytes-samples (width * height) (drop start bytes) (f .long) raster));
         },
         fits .1,
       )
@@ -89,23 +89,23 @@ module _ (bytes : List ℕ) where
 
 module _ {width height : ℕ} {bytes raster : List ℕ} (f : Formed width height bytes raster) where
   -- the tests left to bytes of the form
-  rest : (room : ℕ) → readRefusal bytes room ≡ first (lengthRefusal no.outputLength (width * height) room ∷ aboveRefusal (samplesOf raster) ∷ [])
+  rest : (room : ℕ) → readRefusal bytes room ≡ first (lengthRefusal no.wrongOutputLength (width * height) room ∷ aboveRefusal (samplesOf raster) ∷ [])
   unfolding readRefusal refusalAs samplesAs first
   rest room =
       ap₂ (λ w h. refusalAs w h bytes room) (width-read f) (height-read f)
-      ∙ rw (form-complete f, ap (drop (length (headerOf width height))) (f .is) ∙ drop-append-seam (headerOf width height) raster)
+      ∙ rw (form-complete f, ap (drop (length (pgmHeader width height))) (f .is) ∙ drop-append-seam (pgmHeader width height) raster)
 
   -- 6: a frame of another length
-  pub refused-6 : (room : ℕ) → (room ≡ width * height → ⊥) → readRefusal bytes room ≡ no.outputLength
+  pub refused-6 : (room : ℕ) → (room ≡ width * height → ⊥) → readRefusal bytes room ≡ no.wrongOutputLength
   unfolding first
-  refused-6 room h = rest room ∙ rw (length-stops no.outputLength _ _ h)
+  refused-6 room h = rest room ∙ rw (length-stops no.wrongOutputLength _ _ h)
 
   -- 11: a sample above 4095
   pub refused-11 : (k : ℕ) → k < length (samplesOf raster) → 4095 < getD (samplesOf raster) k 0 → readRefusal bytes (width * height) ≡ no.sampleValue
   unfolding aboveRefusal someAbove first
   refused-11 k h l =
       rest (width * height)
-      ∙ rw (length-passes no.outputLength (width * height) (width * height) refl, one (length (samplesOf raster)) (λ k. ltb 4095 (getD (samplesOf raster) k 0)) k h (lt-ltb 4095 (getD (samplesOf raster) k 0) l))
+      ∙ rw (length-passes no.wrongOutputLength (width * height) (width * height) refl, one (length (samplesOf raster)) (λ k. ltb 4095 (getD (samplesOf raster) k 0)) k h (lt-ltb 4095 (getD (samplesOf raster) k 0) l))
 
 -- the file of a frame is accepted, and as what it holds
 module _ {bytes : List ℕ} {width height : ℕ} {frame : List ℕ} (p : PgmFile bytes width height frame) where
@@ -117,12 +117,12 @@ module _ {bytes : List ℕ} {width height : ℕ} {frame : List ℕ} (p : PgmFile
   unfolding first
   complete =
       rest of-form (width * height)
-      ∙ rw (length-passes no.outputLength (width * height) (width * height) refl, samples-bytes frame, above-complete frame (p .small))
+      ∙ rw (length-passes no.wrongOutputLength (width * height) (width * height) refl, samples-bytes frame, above-complete frame (p .small))
 
   pub samples-read : samplesIn bytes ≡ frame
   unfolding samplesIn samplesAs fileOf
   samples-read =
       ap₂ (λ w h. samplesAs w h bytes) (width-read of-form) (height-read of-form)
-      ∙ ap (λ l. samplesOf (drop (length (headerOf width height)) l)) (p .is)
-      ∙ ap samplesOf (drop-append-seam (headerOf width height) (bytesOf frame))
+      ∙ ap (λ l. samplesOf (drop (length (pgmHeader width height)) l)) (p .is)
+      ∙ ap samplesOf (drop-append-seam (pgmHeader width height) (bytesOf frame))
       ∙ samples-bytes frame

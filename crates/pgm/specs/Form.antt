@@ -1,12 +1,12 @@
 -- L2, the PGM file of a frame: "`P5`, LF, width, a space, height, LF, `4095`, LF, then each sample as two bytes, high byte first".
 use Rattle.algebra.specs.Prelude.{_≡_, Bool, true, cond, _&&_, List, _++_, ℕ, _+_, _*_, _≤_, length, getD}
 use Rattle.geometry.specs.Shape.{sizeAllowed}
-use Rattle.pgm_header.specs.Header.{headerOf}
+use Rattle.pgm_header.specs.Header.{pgmHeader}
 use Rattle.pgm_samples.specs.Samples.{bytesOf}
 
 -- the whole file
 unfoldable pub fileOf : (width height : ℕ) (frame : List ℕ) → List ℕ
-fileOf width height frame = headerOf width height ++ bytesOf frame
+fileOf width height frame = pgmHeader width height ++ bytesOf frame
 
 -- "W or H not allowed", the other way round
 unfoldable pub sizesAllowed : (width height : ℕ) → Bool
@@ -21,7 +21,7 @@ pub record PgmFile (bytes : List ℕ) (width height : ℕ) (frame : List ℕ) : 
 
 -- "exactly the right length": that of the file of a frame of W·H samples (`file-long`)
 unfoldable pub fileLength : (width height : ℕ) → ℕ
-fileLength width height = length (headerOf width height) + 2 * (width * height)
+fileLength width height = length (pgmHeader width height) + 2 * (width * height)
 
 -- the length for whoever lends the buffer: 0 where the size is not allowed
 unfoldable pub pgmLength : (width height : ℕ) → ℕ

@@ -10,7 +10,7 @@ use Rattle.refusals.specs.TestLaws.{refuse-not}
 use Rattle.geometry.specs.Shape.{lengthRefusal}
 use Rattle.geometry.specs.ShapeLaws.{both, allowed-size}
 use Rattle.printing.specs.Put.{put, Printed}
-use Rattle.pgm_header.specs.Header.{headerOf}
+use Rattle.pgm_header.specs.Header.{pgmHeader}
 use Rattle.pgm_samples.specs.Samples.{bytesOf}
 use Rattle.pgm.specs.Form.{fileOf, fileLength, sizesAllowed}
 use Rattle.pgm.specs.Fits.{Sized}
@@ -53,7 +53,7 @@ bytes-long (sample ∷ samples) = omega (arith, bytes-long samples)
 -- the length of the file of a frame
 pub file-long : (width height : ℕ) (frame : List ℕ) → length frame ≡ width * height → length (fileOf width height frame) ≡ fileLength width height
 unfolding fileOf fileLength
-file-long width height frame e = length-append (headerOf width height) (bytesOf frame) ∙ ap (λ n. length (headerOf width height) + n) (bytes-long frame ∙ ap (λ n. 2 * n) e)
+file-long width height frame e = length-append (pgmHeader width height) (bytesOf frame) ∙ ap (λ n. length (pgmHeader width height) + n) (bytes-long frame ∙ ap (λ n. 2 * n) e)
 
 -- a text put over a whole buffer is what it then holds
 pub printed-whole : {l text m : List ℕ} {next : ℕ} → Printed l 0 text m next → length l ≡ length text → m ≡ text

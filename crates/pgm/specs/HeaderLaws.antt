@@ -7,7 +7,7 @@ use borrow.Author.Tests.{eq-eqb, eqb-true, not-true, not-false}
 use Rattle.geometry.specs.ShapeLaws.{both}
 use Rattle.refusals.specs.SomeLaws.{none, not-one}
 use Rattle.printing.specs.Decimal.{decimal}
-use Rattle.pgm_header.specs.Header.{headerOf, leading}
+use Rattle.pgm_header.specs.Header.{pgmHeader, leading}
 use Rattle.pgm.specs.Form.{fileLength, sizesAllowed}
 use Rattle.pgm.specs.Fits.{Sized}
 use Rattle.pgm.specs.Reading.{widthIn, heightIn, differs, formed}
@@ -18,7 +18,7 @@ use Rattle.pgm_header.specs.DigitLaws.{leading-decimal}
 pub record Formed (width height : ℕ) (bytes raster : List ℕ) : Type 0 where
   pub allowed : sizesAllowed width height ≡ true
   pub long : length raster ≡ 2 * (width * height)
-  pub is : bytes ≡ headerOf width height ++ raster
+  pub is : bytes ≡ pgmHeader width height ++ raster
 
 module _ (text : List ℕ) where
   starts : (bytes : List ℕ) → length text ≤ length bytes → differs text bytes ≡ false → bytes ≡ text ++ drop (length text) bytes
@@ -45,33 +45,33 @@ module _ (width height : ℕ) (bytes : List ℕ) (e : formed width height bytes 
   form-sized = sized allowed
 
   -- the length and the header
-  rest : (eqb (length bytes) (fileLength width height) ≡ true) × (not (differs (headerOf width height) bytes) ≡ true)
+  rest : (eqb (length bytes) (fileLength width height) ≡ true) × (not (differs (pgmHeader width height) bytes) ≡ true)
   unfolding formed
   rest = both (both {a = sizesAllowed width height} e .1)
 
   pub form-long : length bytes ≡ fileLength width height
   form-long = eqb-true _ _ (rest .0)
 
-  pub form-sound : Formed width height bytes (drop (length (headerOf width height)) bytes)
+  pub form-sound : Formed width height bytes (drop (length (pgmHeader width height)) bytes)
   unfolding fileLength
   form-sound =
       record {
         allowed = allowed;
-        long = omega (arith, form-long, length-drop (length (headerOf width height)) bytes);
-        is = starts (headerOf width height) bytes (omega (arith, form-long)) (not-true _ (rest .1));
+        long = omega (arith, form-long, length-drop (length (pgmHeader width height)) bytes);
+        is = starts (pgmHeader width height) bytes (omega (arith, form-long)) (not-true _ (rest .1));
       }
 
 -- what stands behind `P5` and LF
-behind : (width height : ℕ) (raster : List ℕ) → drop 3 (headerOf width height ++ raster) ≡ decimal width ++ (32 ∷ (decimal height ++ (10 ∷ (52 ∷ 48 ∷ 57 ∷ 53 ∷ 10 ∷ []) ++ raster)))
-unfolding headerOf
+behind : (width height : ℕ) (raster : List ℕ) → drop 3 (pgmHeader width height ++ raster) ≡ decimal width ++ (32 ∷ (decimal height ++ (10 ∷ (52 ∷ 48 ∷ 57 ∷ 53 ∷ 10 ∷ []) ++ raster)))
+unfolding pgmHeader
 behind width height raster = simp append-assoc
 
 module _ {width height : ℕ} {bytes raster : List ℕ} (f : Formed width height bytes raster) where
   pub form-complete : formed width height bytes ≡ true
   unfolding formed fileLength
   form-complete =
-      let long : length bytes ≡ length (headerOf width height) + 2 * (width * height) = ap length (f .is) ∙ length-append (headerOf width height) raster ∙ ap (λ n. length (headerOf width height) + n) (f .long) in
-      rw (f .allowed, eq-eqb (length bytes) (length (headerOf width height) + 2 * (width * height)) long, ap (differs (headerOf width height)) (f .is) ∙ same (headerOf width height) raster)
+      let long : length bytes ≡ length (pgmHeader width height) + 2 * (width * height) = ap length (f .is) ∙ length-append (pgmHeader width height) raster ∙ ap (λ n. length (pgmHeader width height) + n) (f .long) in
+      rw (f .allowed, eq-eqb (length bytes) (length (pgmHeader width height) + 2 * (width * height)) long, ap (differs (pgmHeader width height)) (f .is) ∙ same (pgmHeader width height) raster)
 
   pub width-read : widthIn bytes ≡ width
   unfolding widthIn

@@ -7,7 +7,7 @@ use Rattle.refusals.specs.Some.{some}
 use Rattle.geometry.specs.Shape.{lengthRefusal}
 use Rattle.printing.specs.Decimal.{decimal}
 use Rattle.pgm.specs.declared.PgmRead.{PgmRead}
-use Rattle.pgm_header.specs.Header.{headerOf, leading}
+use Rattle.pgm_header.specs.Header.{pgmHeader, leading}
 use Rattle.pgm.specs.Form.{PgmFile, fileLength, sizesAllowed}
 use Rattle.pgm_samples.specs.Samples.{aboveRefusal, samplesOf}
 
@@ -25,11 +25,11 @@ differs text bytes = some (length text) (λ k. not (eqb (getD bytes k 0) (getD t
 -- the bytes have the length and the header of a file of an allowed size
 unfoldable pub formed : (width height : ℕ) → List ℕ → Bool
 formed width height bytes =
-    sizesAllowed width height && (eqb (length bytes) (fileLength width height) && not (differs (headerOf width height) bytes))
+    sizesAllowed width height && (eqb (length bytes) (fileLength width height) && not (differs (pgmHeader width height) bytes))
 
 -- the samples behind the header of a size
 unfoldable pub samplesAs : (width height : ℕ) → List ℕ → List ℕ
-samplesAs width height bytes = samplesOf (drop (length (headerOf width height)) bytes)
+samplesAs width height bytes = samplesOf (drop (length (pgmHeader width height)) bytes)
 
 -- the tests of bytes that are read as a file of a size, into a frame of `room` samples. 17: "any other departure when reading, a size not allowed
 -- included"
@@ -37,7 +37,7 @@ unfoldable pub refusalAs : (width height : ℕ) (bytes : List ℕ) (room : ℕ) 
 refusalAs width height bytes room =
     first
     (refuse no.pgmForm (not (formed width height bytes))
-    ∷ lengthRefusal no.outputLength (width * height) room
+    ∷ lengthRefusal no.wrongOutputLength (width * height) room
     ∷ aboveRefusal (samplesAs width height bytes)
     ∷ [])
 
@@ -49,19 +49,19 @@ unfoldable pub samplesIn : List ℕ → List ℕ
 samplesIn bytes = samplesAs (widthIn bytes) (heightIn bytes) bytes
 
 -- "beside a refusal every other returned field is 0"
-abbrev pub refusedAnswer : (number : ℕ) → PgmRead
-refusedAnswer number = record { refusal = number; width = 0; height = 0 }
+abbrev pub refusedPgm : (number : ℕ) → PgmRead
+refusedPgm number = record { refusal = number; width = 0; height = 0 }
 
 -- "with width and height handed back"
-abbrev pub acceptedAnswer : (width height : ℕ) → PgmRead
-acceptedAnswer width height = record { refusal = 0; width = width; height = height }
+abbrev pub acceptedPgm : (width height : ℕ) → PgmRead
+acceptedPgm width height = record { refusal = 0; width = width; height = height }
 
 -- the answer beside a number
-unfoldable pub answered : (number width height : ℕ) → PgmRead
-answered number width height = after number (refusedAnswer number) (acceptedAnswer width height)
+unfoldable pub pgmAnswer : (number width height : ℕ) → PgmRead
+pgmAnswer number width height = after number (refusedPgm number) (acceptedPgm width height)
 
 -- what reading answers, and every word that it leaves: where it accepts, the frame that the bytes are the file of
 pub record ReadsPgm (bytes frame frame′ : List ℕ) (r : PgmRead) : Type 0 where
-  pub answer : r ≡ answered (readRefusal bytes (length frame)) (widthIn bytes) (heightIn bytes)
+  pub answer : r ≡ pgmAnswer (readRefusal bytes (length frame)) (widthIn bytes) (heightIn bytes)
   pub stored : frame′ ≡ after (readRefusal bytes (length frame)) frame (samplesIn bytes)
   pub file : r .refusal ≡ 0 → PgmFile bytes (r .width) (r .height) frame′

@@ -4,23 +4,23 @@ use Rattle.refusals.specs.AfterLaws.{result-made}
 use Rattle.pgm.specs.declared.PgmRead.{PgmRead}
 use Rattle.pgm.specs.Form.{PgmFile}
 use Rattle.pgm.specs.Writing.{WritesPgm}
-use Rattle.pgm.specs.Reading.{readRefusal, acceptedAnswer, answered, ReadsPgm}
+use Rattle.pgm.specs.Reading.{readRefusal, acceptedPgm, pgmAnswer, ReadsPgm}
 use Rattle.pgm.specs.HeaderLaws.{width-read, height-read}
 use Rattle.pgm.specs.Acceptance.{write-sound, write-complete, of-form, complete, samples-read}
 
 -- a file is read as what it holds
 module _ {bytes frame frame′ : List ℕ} {r : PgmRead} (reads : ReadsPgm bytes frame frame′ r) where
-  pub read-file : {width height : ℕ} {samples : List ℕ} → PgmFile bytes width height samples → length frame ≡ length samples → (r ≡ acceptedAnswer width height) × (frame′ ≡ samples)
-  unfolding answered
+  pub read-file : {width height : ℕ} {samples : List ℕ} → PgmFile bytes width height samples → length frame ≡ length samples → (r ≡ acceptedPgm width height) × (frame′ ≡ samples)
+  unfolding pgmAnswer
   read-file {width} {height} {samples} p e =
       let z : readRefusal bytes (length frame) ≡ 0 = ap (readRefusal bytes) (e ∙ p .long) ∙ complete p in (
-        result-made _ _ _ z (reads .answer) ∙ ap₂ acceptedAnswer (width-read (of-form p)) (height-read (of-form p)),
+        result-made _ _ _ z (reads .answer) ∙ ap₂ acceptedPgm (width-read (of-form p)) (height-read (of-form p)),
         result-made _ _ _ z (reads .stored) ∙ samples-read p,
       )
 
 -- "What is read after writing is the same frame"
 pub write-read : {width height : ℕ} {frame bytes bytes′ other other′ : List ℕ} {r : PgmRead}
-    → WritesPgm width height frame bytes bytes′ 0 → ReadsPgm bytes′ other other′ r → length other ≡ length frame → (r ≡ acceptedAnswer width height) × (other′ ≡ frame)
+    → WritesPgm width height frame bytes bytes′ 0 → ReadsPgm bytes′ other other′ r → length other ≡ length frame → (r ≡ acceptedPgm width height) × (other′ ≡ frame)
 write-read {width} {height} {frame} {bytes} {bytes′} writes reads e =
     let z = sym (writes .answer) in
     let p = write-sound width height frame bytes z .0 in

@@ -12,7 +12,7 @@ unfoldable pub writeRefusal : (width height : ℕ) (frame bytes : List ℕ) → 
 writeRefusal width height frame bytes =
     first
     (refuse no.size (not (sizesAllowed width height))
-    ∷ lengthRefusal no.outputLength (width * height) (length frame)
+    ∷ lengthRefusal no.wrongOutputLength (width * height) (length frame)
     ∷ lengthRefusal no.byteLength (fileLength width height) (length bytes)
     ∷ aboveRefusal frame
     ∷ [])

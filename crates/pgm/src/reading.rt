@@ -2,8 +2,8 @@
 ghost use mathlib.Core.Path.{_≡_};
 ghost use Prim.Native.Nat.{_≤_};
 ghost use lib.ListN.{length};
-ghost use Rattle.pgm_header.specs.Header.{headerOf};
-ghost use Rattle.pgm.specs.Reading.{differs, formed, refusalAs, refusedAnswer, ReadsPgm};
+ghost use Rattle.pgm_header.specs.Header.{pgmHeader};
+ghost use Rattle.pgm.specs.Reading.{differs, formed, refusalAs, refusedPgm, ReadsPgm};
 use crate::PgmRead;
 use crate::lengths::file_length;
 use crate::lengths::sizes_allowed;
@@ -35,8 +35,8 @@ fn differs(text: &[u8], bytes: &[u8]) -> bool
 
 // The bytes start with another header than that of the size.
 fn header_differs(width: usize, height: usize, bytes: &[u8]) -> bool
-    requires { ⌜ length (headerOf width height) ≤ length (now bytes) ⌝ }
-    ensures { λ r. ⌜ r ≡ differs (headerOf width height) (now (bytes .entry)) ⌝ }
+    requires { ⌜ length (pgmHeader width height) ≤ length (now bytes) ⌝ }
+    ensures { λ r. ⌜ r ≡ differs (pgmHeader width height) (now (bytes .entry)) ⌝ }
 {
     let mut text = [0u8; 64];
     let end = put_header(&mut text, width, height);
@@ -71,7 +71,7 @@ fn read_refusal(width: usize, height: usize, bytes: &[u8], room: usize) -> u64
 
 // A refusal, with 0 for width and height.
 fn refused(number: u64) -> PgmRead
-    ensures { λ r. ⌜ r ≡ refusedAnswer number ⌝ }
+    ensures { λ r. ⌜ r ≡ refusedPgm number ⌝ }
 {
     PgmRead {
         refusal: number,

@@ -4,8 +4,8 @@ use Rattle.printing.specs.Ascii.{ascii}
 use Rattle.printing.specs.Decimal.{decimal}
 
 -- what stands before the samples
-unfoldable pub headerOf : (width height : ℕ) → List ℕ
-headerOf width height = ascii "P5\n" ++ decimal width ++ ascii " " ++ decimal height ++ ascii "\n4095\n"
+unfoldable pub pgmHeader : (width height : ℕ) → List ℕ
+pgmHeader width height = ascii "P5\n" ++ decimal width ++ ascii " " ++ decimal height ++ ascii "\n4095\n"
 
 -- the number that the digits in front, `most` of them at most, write behind those of `value`
 unfoldable pub leading : (most value : ℕ) → List ℕ → ℕ

@@ -5,7 +5,7 @@ ghost use mathlib.Core.Path.{_≡_};
 ghost use Prim.Native.Nat.{_≤_};
 ghost use lib.ListN.{length};
 ghost use Rattle.printing.specs.Put.{Printed};
-ghost use Rattle.pgm_header.specs.Header.{headerOf};
+ghost use Rattle.pgm_header.specs.Header.{pgmHeader};
 use crate::digits::digits;
 use printing::pieces::put_byte;
 use printing::pieces::put_bytes;
@@ -14,7 +14,7 @@ use printing::pieces::put_number;
 // The bytes of the header: ten beside the digits.
 pub fn header_length(width: usize, height: usize) -> usize
     requires { ⌜ (width ≤ 9999) × (height ≤ 9999) ⌝ }
-    ensures { λ r. ⌜ (r ≡ length (headerOf width height)) × (r ≤ 18) ⌝ }
+    ensures { λ r. ⌜ (r ≡ length (pgmHeader width height)) × (r ≤ 18) ⌝ }
 {
     10 + digits(width) + digits(height)
 }
@@ -22,7 +22,7 @@ pub fn header_length(width: usize, height: usize) -> usize
 // Puts the header at the start of a buffer, and answers where the samples start.
 pub fn put_header(bytes: &mut [u8], width: usize, height: usize) -> usize
     requires { ⌜ 64 ≤ length (now bytes) ⌝ }
-    ensures { λ r. ⌜ (Printed (now (bytes .entry)) 0 (headerOf width height) (now (bytes .exit)) r) × (r ≤ 64) ⌝ }
+    ensures { λ r. ⌜ (Printed (now (bytes .entry)) 0 (pgmHeader width height) (now (bytes .exit)) r) × (r ≤ 64) ⌝ }
 {
     let magic = put_bytes(&mut *bytes, 0, b"P5\n");
     let wide = put_number(&mut *bytes, magic, width as u64);

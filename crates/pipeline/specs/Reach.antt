@@ -1,7 +1,7 @@
 -- "vectors found level by level reach at most 4, 20, 84 and 172, whatever the burst, with either tile side": of any images, whatever their sizes.
 use Prim.Native.Nat.{ℕ}
 use Rattle.geometry.specs.Tiles.{level1, finestLevel, finestStep}
-use Rattle.geometry.specs.Vectors.{Field}
+use Rattle.geometry.specs.Vectors.{VectorField}
 use Rattle.patches.specs.Bounds.{Within}
 use Rattle.residuals.specs.Residual.{Pair}
 use Rattle.alignment.specs.Fields.{levelRows, levelColumns, field0, field1, field2, field3}
@@ -9,7 +9,7 @@ use Rattle.levels.specs.Fields.{finer}
 use Rattle.alignment.specs.FieldLaws.{finer-within, field0-within, field1-within, field2-within, field3-within}
 
 -- level 0's vectors where its tiles have side 32 and half step 16, and q is 1
-unfoldable pub wideField0 : (ℕ → Pair) → Field
+unfoldable pub wideField0 : (ℕ → Pair) → VectorField
 wideField0 p = finer (finestLevel 32) (finestStep 32) (levelRows level1 (p 1)) (levelColumns level1 (p 1)) (p 0) (field1 p)
 
 -- the bounds of levels 3 to 0, at level 0 with either side

@@ -8,7 +8,7 @@ use native.Mathlib.Omega.{arith}
 use lib.ListN.{length, getD, take, drop, length-append, length-drop}
 use lib.Seq.{drop-cons, drop-drop}
 use Rattle.printing.specs.DecimalLaws.{decimal-length}
-use Rattle.printing.specs.Lines.{value, numberLine, frameRows}
+use Rattle.printing.specs.Lines.{value, numberLine, sampleRows}
 
 pub value-length : (m n left : ℕ) → n < 10 ^ suc m → length (value n left) ≤ suc m + 1
 unfolding value
@@ -21,9 +21,9 @@ line-next ns k h = rw (add-one, drop-cons ns k 0, length-drop)
 
 -- what is left of a frame from a row on
 pub rows-next : (width height : ℕ) (samples : List ℕ) (row : ℕ) → row < height →
-    frameRows width (height - row) (drop (row * width) samples)
-    ≡ numberLine (take width (drop (row * width) samples)) ++ frameRows width (height - (row + 1)) (drop ((row + 1) * width) samples)
-unfolding frameRows
+    sampleRows width (height - row) (drop (row * width) samples)
+    ≡ numberLine (take width (drop (row * width) samples)) ++ sampleRows width (height - (row + 1)) (drop ((row + 1) * width) samples)
+unfolding sampleRows
 rows-next width height samples row h =
     let e : height - row ≡ suc (height - (row + 1)) = omega arith in
     rw (e, drop-drop, add-one, suc-mul)

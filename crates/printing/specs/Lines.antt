@@ -18,9 +18,9 @@ numberLine [] = []
 numberLine (n ∷ ns) = value n (length ns) ++ numberLine ns
 
 -- "rows": a line for each
-unfoldable pub frameRows : ℕ → ℕ → List ℕ → List ℕ
-frameRows width zero samples = []
-frameRows width (suc height) samples = numberLine (take width samples) ++ frameRows width height (drop width samples)
+unfoldable pub sampleRows : ℕ → ℕ → List ℕ → List ℕ
+sampleRows width zero samples = []
+sampleRows width (suc height) samples = numberLine (take width samples) ++ sampleRows width height (drop width samples)
 
 -- the names over the lines of `motion`
 abbrev pub motionNames : List ℕ

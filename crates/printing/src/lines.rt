@@ -1,7 +1,7 @@
 // Lines of values, put into a lent buffer from a place on. Each function answers the place after what it put.
 ghost use Prim.Native.Nat.{_+_, _*_, _≤_};
 ghost use lib.ListN.{length, take, drop};
-ghost use Rattle.printing.specs.Lines.{value, numberLine, frameRows};
+ghost use Rattle.printing.specs.Lines.{value, numberLine, sampleRows};
 ghost use Rattle.printing.specs.Put.{Printed};
 use crate::pieces::put_byte;
 use crate::pieces::put_number;
@@ -45,7 +45,7 @@ pub fn put_samples(text: &mut [u8], at: usize, samples: &[u16], from: usize, cou
 // The rows of a frame, each of at most 6 bytes a sample.
 pub fn put_rows(text: &mut [u8], at: usize, samples: &[u16], width: usize, height: usize) -> usize
     requires { ⌜ (height * width ≤ length (now samples)) × (at + 6 * (height * width) + 21 ≤ length (now text)) ⌝ }
-    ensures { λ r. ⌜ (Printed (now (text .entry)) at (frameRows width height (now (samples .entry))) (now (text .exit)) r) × (r ≤ at + 6 * (height * width)) ⌝ }
+    ensures { λ r. ⌜ (Printed (now (text .entry)) at (sampleRows width height (now (samples .entry))) (now (text .exit)) r) × (r ≤ at + 6 * (height * width)) ⌝ }
 {
     let mut next = at;
     for row in 0..height {

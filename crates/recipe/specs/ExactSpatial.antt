@@ -4,7 +4,7 @@ use Rattle.algebra.specs.Fraction.{Frac, whole, _+F_, _-F_, _·F_, over, sumF}
 use Rattle.recipe.specs.Side.{Side, cosAt, sinAt}
 use Rattle.recipe.specs.Output.{rowIn, columnIn, weightIn}
 use Rattle.recipe.specs.Exact.{exactWiener, exactInverseAt, exactCorrectionAt, unrounded}
-use Rattle.recipe.specs.Spatial.{Tile}
+use Rattle.recipe.specs.Spatial.{FilteredTile}
 
 -- the bins of a tile m of fractions: the two-way transform with C(k) and −S(k), along each row and then along the columns, divided by its scale
 module _ (s : Side) (m : ℕ → ℕ → Frac) where
@@ -22,7 +22,7 @@ module _ (s : Side) (m : ℕ → ℕ → Frac) where
   exactBinIm u v =
       over (sumF (s .side) (λ y. negℤ (sinAt s (u * y)) ·F exactRowRe y v +F cosAt s (u * y) ·F exactRowIm y v)) (s .scale) (s .scale-above)
 
-module _ (s : Side) (others : ℕ) (t : Tile) where
+module _ (s : Side) (others : ℕ) (t : FilteredTile) where
   -- the sum of p over the other frames, and the merged tile: T0 less this over N
   unfoldable pub exactSum : ℕ → ℕ → Frac
   exactSum y x = sumF others (λ z. exactCorrectionAt s (t .noise) (t .differences z) y x)
@@ -41,6 +41,6 @@ module _ (s : Side) (others : ℕ) (t : Tile) where
   unfoldable pub exactTakenAt : ℕ → ℕ → Frac
   exactTakenAt y x = exactSum y x +F pos (suc others) ·F exactSpatialAt y x
 
-unfoldable pub exactFilteredSample : (s : Side) (a b others : ℕ) (tiles : ℕ → Tile) (t0 : ℤ) → Frac
+unfoldable pub exactFilteredSample : (s : Side) (a b others : ℕ) (tiles : ℕ → FilteredTile) (t0 : ℤ) → Frac
 exactFilteredSample s a b others tiles t0 =
     unrounded s others (λ t. pos (weightIn s a b t) ·F exactTakenAt s others (tiles t) (rowIn s a t) (columnIn s b t)) t0

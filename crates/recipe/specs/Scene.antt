@@ -9,7 +9,7 @@ use Rattle.recipe.specs.Side.{Side}
 use Rattle.recipe.specs.Tables.{side16}
 use Rattle.recipe.specs.NoiseNumber.{tileRoot, noiseNumber}
 use Rattle.recipe.specs.SpatialNoise.{spatialNumber}
-use Rattle.recipe.specs.Spatial.{Tile}
+use Rattle.recipe.specs.Spatial.{FilteredTile}
 
 -- The side of its tiles; `others` = N − 1 frames beside the reference, each of `height` rows of `width` samples; the vector of a tile row and
 -- tile column for the k-th of them, as down and right; Ls, Lr and the tuning
@@ -79,12 +79,12 @@ module _ (s : Scene) (rowParity columnParity : ℕ) where
     tileSpatial = spatialNumber (s .side) (s .tuning .spatial) (s .shot) (s .read) referenceRoot (suc (s .others))
 
     -- "T0−Tz"
-    unfoldable pub difference : (k i j : ℕ) → ℤ
-    difference k i j = pos (referenceTile i j) -ℤ pos (otherTile k i j)
+    unfoldable pub tileDifference : (k i j : ℕ) → ℤ
+    tileDifference k i j = pos (referenceTile i j) -ℤ pos (otherTile k i j)
 
     -- the tile, as the spatial filter takes it
-    unfoldable pub tileHere : Tile
-    tileHere = record { noise = tileNoise; spatial = tileSpatial; reference = λ i j. pos (referenceTile i j); differences = difference }
+    unfoldable pub tileHere : FilteredTile
+    tileHere = record { noise = tileNoise; spatial = tileSpatial; reference = λ i j. pos (referenceTile i j); differences = tileDifference }
 
   -- V and "T0−Tz" of the tiles over the plane's sample at row y and column x: four of them, tile t = 0..3 counted from the last
   module _ (y x : ℕ) where
@@ -92,7 +92,7 @@ module _ (s : Scene) (rowParity columnParity : ℕ) where
     noiseOver t = tileNoise (tileOver (s .side) y (t / 2)) (tileOver (s .side) x (t % 2))
 
     abbrev pub differenceOver : (t k i j : ℕ) → ℤ
-    differenceOver t = difference (tileOver (s .side) y (t / 2)) (tileOver (s .side) x (t % 2))
+    differenceOver t = tileDifference (tileOver (s .side) y (t / 2)) (tileOver (s .side) x (t % 2))
 
-    abbrev pub tilesOver : (t : ℕ) → Tile
+    abbrev pub tilesOver : (t : ℕ) → FilteredTile
     tilesOver t = tileHere (tileOver (s .side) y (t / 2)) (tileOver (s .side) x (t % 2))

@@ -7,7 +7,7 @@ use Rattle.recipe.specs.Correction.{wiener, binRe, binIm, inverseAt, cor
 use Rattle.recipe.specs.Output.{rowIn, columnIn, weightIn, rounded}
 
 -- what the filter takes of one tile
-pub record Tile : Type 0 where
+pub record FilteredTile : Type 0 where
   -- V
   pub noise : ℕ
   -- V' of bin (u, v)
@@ -26,7 +26,7 @@ module _ (s : Side) where
   unfoldable pub copyFiltered : ℕ → ℤ → ℤ → ℤ
   copyFiltered noise b c = wiener noise (copyQuantized b) (copyQuantized c)
 
-module _ (s : Side) (others : ℕ) (t : Tile) where
+module _ (s : Side) (others : ℕ) (t : FilteredTile) where
   -- the sum of P over the other frames: the merged tile is T0 less this over 256·N, where N = others + 1
   unfoldable pub mergedSum : ℕ → ℕ → ℤ
   mergedSum y x = sumZ others (λ z. correctionAt s (t .noise) (t .differences z) y x)
@@ -45,6 +45,6 @@ module _ (s : Side) (others : ℕ) (t : Tile) where
   takenAt y x = mergedSum y x +ℤ pos (suc others) *ℤ spatialAt y x
 
 -- "the windowed sum is rounded once, as in the base"; `tiles t` is tile t = 0..3 over the sample
-unfoldable pub filteredSample : (s : Side) (a b others : ℕ) (tiles : ℕ → Tile) (t0 : ℤ) → ℤ
+unfoldable pub filteredSample : (s : Side) (a b others : ℕ) (tiles : ℕ → FilteredTile) (t0 : ℤ) → ℤ
 filteredSample s a b others tiles t0 =
     rounded s others (λ t. pos (weightIn s a b t) *ℤ takenAt s others (tiles t) (rowIn s a t) (columnIn s b t)) t0

@@ -14,20 +14,20 @@ abbrev pub reference : ℕ
 reference = 3
 
 -- "sample length is N·L·H, and refusal 4 reads so" (request L9)
-abbrev pub sampleLength : ℕ
-sampleLength = 4
+abbrev pub wrongSampleLength : ℕ
+wrongSampleLength = 4
 
 -- "vectors' length wrong"
-abbrev pub vectorLength : ℕ
-vectorLength = 5
+abbrev pub wrongVectorLength : ℕ
+wrongVectorLength = 5
 
 -- "output not W·H"
-abbrev pub outputLength : ℕ
-outputLength = 6
+abbrev pub wrongOutputLength : ℕ
+wrongOutputLength = 6
 
 -- "work not 2·W·H"
-abbrev pub workLength : ℕ
-workLength = 7
+abbrev pub wrongWorkLength : ℕ
+wrongWorkLength = 7
 
 -- "shot or read negative or not finite, ISO not in 25..409600"
 abbrev pub noise : ℕ
@@ -54,8 +54,8 @@ abbrev pub firstLine : ℕ
 firstLine = 13
 
 -- "malformed value line"
-abbrev pub valueLine : ℕ
-valueLine = 14
+abbrev pub wrongValueLine : ℕ
+wrongValueLine = 14
 
 -- "file short, or bytes follow"
 abbrev pub fileEnd : ℕ

@@ -13,14 +13,14 @@ use Rattle.refusals.specs.TestLaws.{among, passed}
 use Rattle.noise.specs.LevelLaws.{levels-most, strength-most}
 use Rattle.burst_file.specs.declared.FileAnswer.{FileAnswer}
 use Rattle.file_head.specs.declared.Header.{Header}
-use Rattle.burst_file.specs.Burst.{Burst}
+use Rattle.burst_file.specs.Burst.{FileBurst}
 use Rattle.file_lines.specs.Part.{Part, refused, found, numberOf}
 use Rattle.file_head.specs.Head.{headerRefusal, headOf}
 use Rattle.file_head.specs.HeadLaws.{HeadRead, packed-allowed, head-complete}
 use Rattle.burst_file.specs.Reading.{reading, fileCheck, samplesAfter, FileRead}
 use Rattle.burst_file.specs.Acceptance.{Accepted, sound-number, complete}
 use Rattle.printing.specs.Lines.{tooLarge, refusal}
-use Rattle.report.specs.Program.{fileMost, side, taken, checked, answerText, programText}
+use Rattle.report.specs.Program.{fileMost, programSide, taken, checked, answerText, programText}
 use Rattle.report.specs.Inner.{room, burstOf, Holds}
 
 -- the file check has no test of lengths
@@ -28,27 +28,27 @@ abbrev pub noTest : Shape → ℕ
 noTest shape = 0
 
 abbrev roomTest : (count : ℕ) → Shape → ℕ
-roomTest count shape = lengthRefusal no.sampleLength (sampleLength shape) (room count)
+roomTest count shape = lengthRefusal no.wrongSampleLength (sampleLength shape) (room count)
 
-refused-part : (printed : Burst → List ℕ) (part : Part Burst) {number : ℕ} → number ≡ numberOf part → (number ≡ 0 → ⊥) → answerText printed part ≡ refusal number
+refused-part : (printed : FileBurst → List ℕ) (part : Part FileBurst) {number : ℕ} → number ≡ numberOf part → (number ≡ 0 → ⊥) → answerText printed part ≡ refusal number
 unfolding answerText
 refused-part printed (refused n) e h = ap refusal (sym e)
 refused-part printed (found burst rest) e h = absurd (h e)
 
 module _ (shape : Shape) where
-  taken-true : shape .width ≡ side → shape .height ≡ side → taken shape ≡ true
+  taken-true : shape .width ≡ programSide → shape .height ≡ programSide → taken shape ≡ true
   unfolding taken
-  taken-true w h = rw (eq-eqb (shape .width) side w, eq-eqb (shape .height) side h)
+  taken-true w h = rw (eq-eqb (shape .width) programSide w, eq-eqb (shape .height) programSide h)
 
-  pub wide-other : (shape .width ≡ side → ⊥) → taken shape ≡ false
+  pub wide-other : (shape .width ≡ programSide → ⊥) → taken shape ≡ false
   unfolding taken
-  wide-other w = rw (ne-eqb (shape .width) side w)
+  wide-other w = rw (ne-eqb (shape .width) programSide w)
 
-  pub high-other : shape .width ≡ side → (shape .height ≡ side → ⊥) → taken shape ≡ false
+  pub high-other : shape .width ≡ programSide → (shape .height ≡ programSide → ⊥) → taken shape ≡ false
   unfolding taken
-  high-other w h = rw (eq-eqb (shape .width) side w, ne-eqb (shape .height) side h)
+  high-other w h = rw (eq-eqb (shape .width) programSide w, ne-eqb (shape .height) programSide h)
 
-  frames-room : shape .«row_length» ≡ shape .width → shape .width ≡ side → shape .height ≡ side → sampleLength shape ≡ room (shape .count)
+  frames-room : shape .«row_length» ≡ shape .width → shape .width ≡ programSide → shape .height ≡ programSide → sampleLength shape ≡ room (shape .count)
   unfolding sampleLength
   frames-room p w h = rw (p, w, h)
 
@@ -103,38 +103,38 @@ headed-few {file} {header} f = admitted header (f .accepted .grammar .packed) (f
 
 -- what both programs print for a file
 module _ (file : List ℕ) where
-  pub long-text : fileMost < length file → (printed : Burst → List ℕ) → programText printed file ≡ tooLarge
+  pub long-text : fileMost < length file → (printed : FileBurst → List ℕ) → programText printed file ≡ tooLarge
   unfolding programText
   long-text h printed = rw (lt-ltb fileMost (length file) h)
 
   module _ (short : length file ≤ fileMost) where
-    pub refused-text : {number : ℕ} → number ≡ fileCheck file → (number ≡ 0 → ⊥) → (printed : Burst → List ℕ) → programText printed file ≡ refusal number
+    pub refused-text : {number : ℕ} → number ≡ fileCheck file → (number ≡ 0 → ⊥) → (printed : FileBurst → List ℕ) → programText printed file ≡ refusal number
     unfolding programText
     refused-text e h printed = rw (le-ltb fileMost (length file) short) (refused-part printed (checked file) e h)
 
-    module _ {burst : Burst} (a : Accepted noTest file burst) where
-      pub other-text : taken (burst .header .shape) ≡ false → (printed : Burst → List ℕ) → programText printed file ≡ tooLarge
+    module _ {burst : FileBurst} (a : Accepted noTest file burst) where
+      pub other-text : taken (burst .header .shape) ≡ false → (printed : FileBurst → List ℕ) → programText printed file ≡ tooLarge
       unfolding programText answerText
       other-text e printed = rw (le-ltb fileMost (length file) short, complete noTest file burst a, e)
 
-      pub burst-text : taken (burst .header .shape) ≡ true → (printed : Burst → List ℕ) → programText printed file ≡ printed burst
+      pub burst-text : taken (burst .header .shape) ≡ true → (printed : FileBurst → List ℕ) → programText printed file ≡ printed burst
       unfolding programText answerText
       burst-text e printed = rw (le-ltb fileMost (length file) short, complete noTest file burst a, e)
 
-    pub head-text : {number : ℕ} → refused number ≡ headOf file → (printed : Burst → List ℕ) → programText printed file ≡ refusal number
+    pub head-text : {number : ℕ} → refused number ≡ headOf file → (printed : FileBurst → List ℕ) → programText printed file ≡ refusal number
     unfolding programText answerText reading
     head-text e printed = rw (le-ltb fileMost (length file) short, sym e)
 
     module _ {header : Header} (f : Headed file header) where
-      pub wide-text : (header .shape .width ≡ side → ⊥) → (printed : Burst → List ℕ) → programText printed file ≡ tooLarge
+      pub wide-text : (header .shape .width ≡ programSide → ⊥) → (printed : FileBurst → List ℕ) → programText printed file ≡ tooLarge
       wide-text w = other-text (f .accepted) (wide-other (header .shape) w)
 
-      module _ (w : header .shape .width ≡ side) where
-        pub high-text : (header .shape .height ≡ side → ⊥) → (printed : Burst → List ℕ) → programText printed file ≡ tooLarge
+      module _ (w : header .shape .width ≡ programSide) where
+        pub high-text : (header .shape .height ≡ programSide → ⊥) → (printed : FileBurst → List ℕ) → programText printed file ≡ tooLarge
         high-text h = other-text (f .accepted) (high-other (header .shape) w h)
 
         -- the file is read into the front of the lent samples
-        pub opens : (samples : List ℕ) {part : List ℕ} {answer : FileAnswer} → header .shape .height ≡ side →
+        pub opens : (samples : List ℕ) {part : List ℕ} {answer : FileAnswer} → header .shape .height ≡ programSide →
             let n = room (header .shape .count) in
             n ≤ length samples → length part ≡ n → FileRead file (take n samples) answer part → Holds file header (take n (part ++ drop n samples))
         opens samples {part} {answer} h fits same read =
@@ -143,7 +143,7 @@ module _ (file : List ℕ) where
             let p = admitted header (f .accepted .grammar .packed) (f .accepted .header) in
             let a = f .accepted in
             let again : Accepted (roomTest count) file (burstOf header (f .samples)) =
-            record { grammar = a .grammar; header = a .header; measured = same-length no.sampleLength (frames-room (header .shape) (a .grammar .packed) w h); small = a .small } in
+            record { grammar = a .grammar; header = a .header; measured = same-length no.wrongSampleLength (frames-room (header .shape) (a .grammar .packed) w h); small = a .small } in
             let stored : part ≡ f .samples =
             (rw (length-take-le n samples fits) at (read .stored)) ∙ ap (λ found. samplesAfter found (take n samples)) (complete (roomTest count) file (burstOf header (f .samples)) again) in
             let holds : Holds file header (f .samples) =

@@ -3,33 +3,33 @@ use Rattle.algebra.specs.Prelude.{_≡_, List, ℕ, _-_, _*_, _≤_, _<_, lengt
 use Rattle.geometry.specs.Fits.{Allowed, ValuesFit}
 use Rattle.alignment.specs.Aligned.{alignedVectors, residualSums}
 use Rattle.file_head.specs.declared.Header.{Header}
-use Rattle.burst_file.specs.Burst.{Burst}
+use Rattle.burst_file.specs.Burst.{FileBurst}
 use Rattle.printing.specs.Lines.{tooLarge, refusal}
 use Rattle.report.specs.declared.opening.Opened.{Opened}
 use Rattle.report.specs.declared.text.Program.{Program}
 use Rattle.report.specs.declared.text.Program.the-variants.{Motion, Stack}
-use Rattle.report.specs.Program.{side, programText}
+use Rattle.report.specs.Program.{programSide, programText}
 use Rattle.report.specs.Motion.{motionOf}
 use Rattle.report.specs.Stack.{stackOf}
 
 -- the samples of so many frames
 abbrev pub room : (count : ℕ) → ℕ
-room count = count * (side * side)
+room count = count * (programSide * programSide)
 
 -- the vector parts of so many other frames: those of one are the paper's 2·(W/16+1)·(H/16+1)
 abbrev pub vectorRoom : (others : ℕ) → ℕ
 vectorRoom others = 50 * others
 
 abbrev pub workRoom : ℕ
-workRoom = 2 * (side * side)
+workRoom = 2 * (programSide * programSide)
 
-abbrev pub burstOf : Header → (samples : List ℕ) → Burst
+abbrev pub burstOf : Header → (samples : List ℕ) → FileBurst
 burstOf header samples = record { header = header; samples = samples }
 
 -- a burst that the file check accepts, of the size that the programs take: its header, and its samples
 pub record Taken (header : Header) (samples : List ℕ) : Type 0 where
-  pub wide : header .shape .width ≡ side
-  pub high : header .shape .height ≡ side
+  pub wide : header .shape .width ≡ programSide
+  pub high : header .shape .height ≡ programSide
   pub packed : header .shape .«row_length» ≡ header .shape .width
   pub allowed : Allowed (header .shape)
   pub reference-below : header .reference < header .shape .count
@@ -42,12 +42,12 @@ pub record Taken (header : Header) (samples : List ℕ) : Type 0 where
 -- a file that holds it: both programs print what they print for it
 pub record Holds (file : List ℕ) (header : Header) (samples : List ℕ) : Type 0 where
   pub taken : Taken header samples
-  pub text : (printed : Burst → List ℕ) → programText printed file ≡ printed (burstOf header samples)
+  pub text : (printed : FileBurst → List ℕ) → programText printed file ≡ printed (burstOf header samples)
 
 -- what was found of a file, and what the lent samples then hold
 abbrev pub Opens : (file samples : List ℕ) → Opened → Type 0
-Opens file samples Opened.TooLarge = (printed : Burst → List ℕ) → programText printed file ≡ tooLarge
-Opens file samples (Opened.Refused number) = (printed : Burst → List ℕ) → programText printed file ≡ refusal number
+Opens file samples Opened.TooLarge = (printed : FileBurst → List ℕ) → programText printed file ≡ tooLarge
+Opens file samples (Opened.Refused number) = (printed : FileBurst → List ℕ) → programText printed file ≡ refusal number
 Opens file samples (Opened.Taken header) = Holds file header (take (room (header .shape .count)) samples)
 
 -- the first of the lent vectors are those of the burst's alignment, beside its sums of finest residuals
@@ -57,6 +57,6 @@ pub record AlignedAs (header : Header) (samples : List ℕ) (vectors : List ℤ)
   pub same : length vectors ≡ vectorRoom 7
 
 -- what each program prints for a burst
-abbrev pub printedBy : Program → Burst → List ℕ
+abbrev pub printedBy : Program → FileBurst → List ℕ
 printedBy Motion burst = motionOf burst
 printedBy Stack burst = stackOf burst

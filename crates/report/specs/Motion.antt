@@ -3,7 +3,7 @@ use Rattle.algebra.specs.Prelude.{List, [], _∷_, _++_, ℕ, zero, suc, _-_, g
 use Rattle.geometry.specs.Tiles.{frameParts}
 use Rattle.geometry.specs.Vectors.{otherFrame, partsOf}
 use Rattle.alignment.specs.Aligned.{alignedVectors, residualSums}
-use Rattle.burst_file.specs.Burst.{Burst}
+use Rattle.burst_file.specs.Burst.{FileBurst}
 use Rattle.printing.specs.Lines.{motionNames, numberLine}
 use Rattle.tallies.specs.Tallies.{tiles, stillTiles, farthest}
 use Rattle.report.specs.Program.{programText}
@@ -19,7 +19,7 @@ frameLines reference count vectors sums (suc n) =
     frameLines reference count vectors sums n ++ frameLine (otherFrame reference n) (partsOf count vectors n) (getD sums n 0)
 
 -- what `motion` prints for a burst: the names, and the lines of its alignment
-unfoldable pub motionOf : Burst → List ℕ
+unfoldable pub motionOf : FileBurst → List ℕ
 motionOf burst =
     let shape = burst .header .shape in
     let reference = burst .header .reference in

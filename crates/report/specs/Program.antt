@@ -1,7 +1,7 @@
 -- Document 01, "Both programs [..] take files up to 65536 bytes with W = H = 64": what a program prints for a file, by what it prints for the burst in it.
 use Rattle.algebra.specs.Prelude.{Bool, cond, _&&_, List, ℕ, eqb, ltb, length}
 use Rattle.geometry.specs.declared.Shape.{Shape}
-use Rattle.burst_file.specs.Burst.{Burst}
+use Rattle.burst_file.specs.Burst.{FileBurst}
 use Rattle.file_lines.specs.Part.{Part, refused, found}
 use Rattle.burst_file.specs.Reading.{reading}
 use Rattle.printing.specs.Lines.{tooLarge, refusal}
@@ -15,19 +15,19 @@ abbrev pub textRoom : ℕ
 textRoom = 32768
 
 -- "with W = H = 64"
-abbrev pub side : ℕ
-side = 64
+abbrev pub programSide : ℕ
+programSide = 64
 
 unfoldable pub taken : Shape → Bool
-taken shape = eqb (shape .width) side && eqb (shape .height) side
+taken shape = eqb (shape .width) programSide && eqb (shape .height) programSide
 
 -- the file check
-abbrev pub checked : List ℕ → Part Burst
+abbrev pub checked : List ℕ → Part FileBurst
 checked file = reading (λ shape. 0) file
 
-module _ (printed : Burst → List ℕ) where
+module _ (printed : FileBurst → List ℕ) where
   -- "A refusal prints `refused`, a space, its number, LF"; "an accepted one of another size, prints only `too large`, LF"
-  unfoldable pub answerText : Part Burst → List ℕ
+  unfoldable pub answerText : Part FileBurst → List ℕ
   answerText (refused number) = refusal number
   answerText (found burst rest) = cond (taken (burst .header .shape)) (printed burst) tooLarge
 

@@ -5,8 +5,8 @@ use Rattle.recipe.specs.declared.Merge.{Merge}
 use Rattle.recipe.specs.Scene.{sceneOf}
 use Rattle.recipe.specs.Merged.{merged}
 use Rattle.file_head.specs.declared.Header.{Header}
-use Rattle.burst_file.specs.Burst.{Burst}
-use Rattle.printing.specs.Lines.{stackNames, numberLine, frameRows}
+use Rattle.burst_file.specs.Burst.{FileBurst}
+use Rattle.printing.specs.Lines.{stackNames, numberLine, sampleRows}
 use Rattle.report.specs.Program.{programText}
 
 -- "a burst file means zeros" (request L3)
@@ -26,15 +26,15 @@ fileMerge header =
 
 -- the frame's names, their values and its rows
 unfoldable pub frameText : (width height : ℕ) (samples : List ℕ) → List ℕ
-frameText width height samples = stackNames ++ numberLine (width ∷ height ∷ []) ++ frameRows width height samples
+frameText width height samples = stackNames ++ numberLine (width ∷ height ∷ []) ++ sampleRows width height samples
 
 -- "align, then merge": the frame of a burst, from the file's levels
-unfoldable pub frameOf : Burst → List ℕ
+unfoldable pub frameOf : FileBurst → List ℕ
 frameOf burst =
     merged (sceneOf (fileMerge (burst .header)) (burst .samples) (alignedVectors (burst .header .shape) (burst .header .reference) (burst .samples)))
 
 -- what `stack` prints for a burst
-unfoldable pub stackOf : Burst → List ℕ
+unfoldable pub stackOf : FileBurst → List ℕ
 stackOf burst = frameText (burst .header .shape .width) (burst .header .shape .height) (frameOf burst)
 
 -- what it prints for a file

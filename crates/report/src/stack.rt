@@ -3,7 +3,7 @@ ghost use mathlib.Core.Path.{_≡_};
 ghost use Prim.Native.Nat.{_≤_};
 ghost use lib.ListN.{length};
 ghost use Rattle.printing.specs.Put.{Printed};
-ghost use Rattle.report.specs.Program.{textRoom, side};
+ghost use Rattle.report.specs.Program.{textRoom, programSide};
 ghost use Rattle.report.specs.Stack.{frameText, frameOf, stackOf};
 ghost use Rattle.report.specs.Inner.{room, vectorRoom, workRoom, burstOf, Taken};
 use crate::sizes::FRAME;
@@ -22,7 +22,7 @@ use recipe::Tuning;
 // The names, the sizes and the rows of a frame.
 fn put_merged(text: &mut [u8], samples: &[u16]) -> usize
     requires { ⌜ (length (now samples) ≡ room 1) × (textRoom ≤ length (now text)) ⌝ }
-    ensures { λ r. ⌜ Printed (now (text .entry)) 0 (frameText side side (now (samples .entry))) (now (text .exit)) r ⌝ }
+    ensures { λ r. ⌜ Printed (now (text .entry)) 0 (frameText programSide programSide (now (samples .entry))) (now (text .exit)) r ⌝ }
 {
     let sizes = put_stack_names(&mut *text, 0);
     let rows = put_numbers(&mut *text, sizes, &[SIDE as u64, SIDE as u64]);

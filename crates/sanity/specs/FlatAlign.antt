@@ -16,7 +16,7 @@ use Rattle.residuals.specs.declared.Tile.{Tile}
 use Rattle.geometry.specs.declared.vectors.Vector.{Vector}
 use Rattle.search.specs.Vectors.{still}
 use Rattle.residuals.specs.Residual.{gap, difference, Pair, rowResidual, residual}
-use Rattle.levels.specs.Fields.{levelAt, tileAt}
+use Rattle.levels.specs.Fields.{levelAt, levelTile}
 use Rattle.alignment.specs.Fields.{levelRows, levelColumns, residualSum}
 use Rattle.alignment.specs.Frames.{levelImage, pairs, vectorsOf, residualOf}
 use Rattle.alignment.specs.Aligned.{fieldOf, sumOf, alignedVectors}
@@ -90,10 +90,10 @@ module _ {s : Shape} {reference : ℕ} {samples : List ℕ} {a : ℕ} {b : ℕ �
   field-flat k h = field-still _ (λ l. subst (λ p. AtRest (p l)) (sym (pair-is k h)) (flat-rest (flat-pair s a (b k) l)))
 
   pub sum-flat : (k : ℕ) → k < s .count - 1 → sumOf s reference samples k ≡ tiles level0 s * (1024 * gap a (b k))
-  unfolding sumOf residualOf tiles levelTiles levelRows levelColumns pairs tileAt difference
+  unfolding sumOf residualOf tiles levelTiles levelRows levelColumns pairs levelTile difference
   sum-flat k h =
       ap residualSum (pair-is k h)
-      ∙ sum-still _ (λ l. flat-rest (flat-pair s a (b k) l)) (16 * (16 * gap (4 * a) (4 * b k))) (λ row column. flat-residual (flat-pair s a (b k) 0) _ (tileAt level0 row column) still)
+      ∙ sum-still _ (λ l. flat-rest (flat-pair s a (b k) l)) (16 * (16 * gap (4 * a) (4 * b k))) (λ row column. flat-residual (flat-pair s a (b k) 0) _ (levelTile level0 row column) still)
       ∙ ap (λ n. tiles level0 s * n) (omega arith)
 
   -- and all of them

@@ -10,7 +10,7 @@ use Rattle.geometry.specs.Read.{planeOf, read}
 use Rattle.recipe.specs.Tables.{side16}
 use Rattle.recipe.specs.NoiseNumber.{tileRoot, noiseNumber}
 use Rattle.recipe.specs.declared.Merge.{Merge}
-use Rattle.recipe.specs.Scene.{Scene, sceneOf, blackOf, tileAt, referenceTile, otherTile, tileNoise, difference}
+use Rattle.recipe.specs.Scene.{Scene, sceneOf, blackOf, tileAt, referenceTile, otherTile, tileNoise, tileDifference}
 use Rattle.recipe.specs.Merged.{outputAt, wordAt, merged}
 use Rattle.spatial.specs.PlainLaws.{plain-output}
 use Rattle.sanity.specs.FrameLaws.{flat-same, row-inside, column-inside}
@@ -36,8 +36,8 @@ module _ (s : Scene) {a : ℕ} {b : ℕ → ℕ} (flat : Flat s a b) where
         ap₂ (λ n t. noiseNumber n (s .tuning .strength) (s .shot) (s .read) (tileRoot (n .side) (blackOf (s .tuning) rowParity columnParity) t)) (flat .of-16) (fun-ext (λ i. fun-ext (λ j. reference-tile i j)))
         ∙ ap (noiseNumber side16 (s .tuning .strength) (s .shot) (s .read)) (flat-root (blackOf (s .tuning) rowParity columnParity) a)
 
-    differences : (k : ℕ) → k < s .others → difference s rowParity columnParity row column k ≡ (λ i j. pos a -ℤ pos (b k))
-    unfolding difference
+    differences : (k : ℕ) → k < s .others → tileDifference s rowParity columnParity row column k ≡ (λ i j. pos a -ℤ pos (b k))
+    unfolding tileDifference
     differences k h = fun-ext (λ i. fun-ext (λ j. ap₂ (λ x y. pos x -ℤ pos y) (reference-tile i j) (other-tile k h i j)))
 
   -- sample for sample

@@ -8,7 +8,7 @@ use Rattle.search.specs.Offsets.{offset}
 use Rattle.search.specs.OffsetLaws.{offset-within}
 use Rattle.residuals.specs.Residual.{difference, Pair, rowResidual, residual}
 use Rattle.sequences.specs.LeastLaws.{firstMin-most}
-use Rattle.search.specs.Search.{tried, chosen, found}
+use Rattle.search.specs.Search.{tried, chosen, bestVector}
 use Rattle.search.specs.SearchLaws.{none-smaller}
 use Rattle.sanity.specs.StillLaws.{sumN-zero, difference-same}
 
@@ -23,10 +23,10 @@ moved-residual squared {p} {t} m =
     sumN-zero (t .side) _ (λ i h. sumN-zero (t .side) _ (λ j k. ap (difference squared _) (m .at i j h k) ∙ difference-same squared _))
 
 module _ (squared : Bool) (p : Pair) (t : Tile) (guess move : Vector) (near : Within 4 move) (m : Moved p t (guess plus move)) where
-  pub residual-none : residual squared p t (found squared p t guess) ≡ 0
+  pub residual-none : residual squared p t (bestVector squared p t guess) ≡ 0
   residual-none = omega (arith, none-smaller squared p t guess move near, moved-residual squared m)
 
-  pub move-found : ((o : Vector) → Within 4 o → residual squared p t (guess plus o) ≡ 0 → o ≡ move) → found squared p t guess ≡ guess plus move
-  unfolding found chosen
+  pub move-found : ((o : Vector) → Within 4 o → residual squared p t (guess plus o) ≡ 0 → o ≡ move) → bestVector squared p t guess ≡ guess plus move
+  unfolding bestVector chosen
   move-found alone =
       ap (λ o. guess plus o) (alone (offset (chosen squared p t guess)) (offset-within (chosen squared p t guess) (omega (arith, firstMin-most (tried squared p t guess) 80))) residual-none)

@@ -20,7 +20,7 @@ use Rattle.recipe.specs.PlainOutput.{outputSample}
 use Rattle.recipe.specs.SpatialNoise.{spatialNumber}
 use Rattle.recipe.specs.Spatial.{filteredSample}
 use Rattle.spatial.specs.PlainLaws.{plain-output as base-output}
-use Rattle.recipe.specs.Scene.{Scene, sceneOf, blackOf, tileOver, referenceTile, otherTile, tileNoise, tileSpatial, difference, differenceOver, tileHere}
+use Rattle.recipe.specs.Scene.{Scene, sceneOf, blackOf, tileOver, referenceTile, otherTile, tileNoise, tileSpatial, tileDifference, differenceOver, tileHere}
 use Rattle.recipe.specs.Merged.{planeOutput, outputAt, wordAt, merged}
 
 -- every plane has the same black level
@@ -116,12 +116,12 @@ module _ (m : Merge) (black : List ℕ) (samples : List ℕ) (vectors : List ℤ
 
   -- .. and its samples: "a plane's black moves only that plane's samples"
   pub sample-stays : (row column : ℕ) → blackOf (blackened m black .tuning) (row % 2) (column % 2) ≡ blackOf (m .tuning) (row % 2) (column % 2) → outputAt s′ row column ≡ outputAt s row column
-  unfolding sceneOf outputAt planeOutput tileHere difference referenceTile otherTile
+  unfolding sceneOf outputAt planeOutput tileHere tileDifference referenceTile otherTile
   sample-stays row column same =
       ap (λ tiles. filteredSample side16 (row / 2 % side16 .half) (column / 2 % side16 .half) (s .others) tiles (pos (planeOf (s .reference) (row % 2) (column % 2) (row / 2) (column / 2))))
       (fun-ext (λ t. let a = tileOver side16 (row / 2) (t / 2) in
       let b = tileOver side16 (column / 2) (t % 2) in
-      ap₂ (λ noise spatial. record { noise = noise; spatial = spatial; reference = λ i j. pos (referenceTile s (row % 2) (column % 2) a b i j); differences = difference s (row % 2) (column % 2) a b })
+      ap₂ (λ noise spatial. record { noise = noise; spatial = spatial; reference = λ i j. pos (referenceTile s (row % 2) (column % 2) a b i j); differences = tileDifference s (row % 2) (column % 2) a b })
       (noise-stays (row % 2) (column % 2) same a b) (spatial-stays (row % 2) (column % 2) same a b)))
 
   -- word for word

@@ -14,9 +14,9 @@ use Rattle.recipe.specs.Side.{Side}
 use Rattle.recipe.specs.Tables.{side16}
 use Rattle.recipe.specs.Correction.{binRe, binIm, inverseAt, correctionAt}
 use Rattle.recipe.specs.SpatialNoise.{spatialNumber}
-use Rattle.recipe.specs.Spatial.{Tile, copyFiltered, mergedSum, copyAt, spatialAt, takenAt, filteredSample}
+use Rattle.recipe.specs.Spatial.{FilteredTile, copyFiltered, mergedSum, copyAt, spatialAt, takenAt, filteredSample}
 use Rattle.recipe.specs.Output.{rowIn, columnIn, weightIn}
-use Rattle.recipe.specs.Scene.{Scene, sceneOf, tileAt, tileOver, referenceTile, otherTile, tileNoise, tileSpatial, difference, tileHere}
+use Rattle.recipe.specs.Scene.{Scene, sceneOf, tileAt, tileOver, referenceTile, otherTile, tileNoise, tileSpatial, tileDifference, tileHere}
 use Rattle.recipe.specs.Merged.{planeOutput, outputAt, wordAt, merged}
 use Rattle.sanity.specs.Frames.{Same}
 use Rattle.sanity.specs.FrameLaws.{row-inside, column-inside}
@@ -26,7 +26,7 @@ use Rattle.sanity.specs.RenumberLaws.{Renumbering, sum-renumbered}
 -- the output sample, with the other frames in another order
 module _ {others : ℕ} {to from : ℕ → ℕ} (order : Renumbering others to from) (s : Side) (a b : ℕ) where
   -- the sum of P over the frames
-  sum-stays : (tile tile′ : Tile) → tile′ .noise ≡ tile .noise → ((k : ℕ) → k < others → tile′ .differences k ≡ tile .differences (to k)) → mergedSum s others tile′ ≡ mergedSum s others tile
+  sum-stays : (tile tile′ : FilteredTile) → tile′ .noise ≡ tile .noise → ((k : ℕ) → k < others → tile′ .differences k ≡ tile .differences (to k)) → mergedSum s others tile′ ≡ mergedSum s others tile
   unfolding mergedSum
   sum-stays tile tile′ en ed =
       fun-ext (λ y. fun-ext (λ x.
@@ -38,11 +38,11 @@ module _ {others : ℕ} {to from : ℕ → ℕ} (order : Renumbering others to f
       let c : ℕ → ℕ → ℤ = λ y x. away (reference y x *ℤ pos (256 * suc others) -ℤ sum y x) (suc others) in
       sum y x +ℤ pos (suc others) *ℤ inverseAt s (λ u v. copyFiltered s (noise u v) (binRe s c u v) (binIm s c u v)) (λ u v. copyFiltered s (noise u v) (binIm s c u v) (binRe s c u v)) y x
 
-  taken-is : (tile : Tile) (y x : ℕ) → takenAt s others tile y x ≡ taken (mergedSum s others tile) (tile .reference) (tile .spatial) y x
+  taken-is : (tile : FilteredTile) (y x : ℕ) → takenAt s others tile y x ≡ taken (mergedSum s others tile) (tile .reference) (tile .spatial) y x
   unfolding takenAt spatialAt copyAt
   taken-is tile y x = refl
 
-  output-renumbered : (tiles tiles′ : ℕ → Tile) (t0 t0′ : ℤ) → ((t : ℕ) → tiles′ t .noise ≡ tiles t .noise) → ((t : ℕ) → tiles′ t .spatial ≡ tiles t .spatial) → ((t : ℕ) → tiles′ t .reference ≡ tiles t .reference) →
+  output-renumbered : (tiles tiles′ : ℕ → FilteredTile) (t0 t0′ : ℤ) → ((t : ℕ) → tiles′ t .noise ≡ tiles t .noise) → ((t : ℕ) → tiles′ t .spatial ≡ tiles t .spatial) → ((t : ℕ) → tiles′ t .reference ≡ tiles t .reference) →
       ((t k : ℕ) → k < others → tiles′ t .differences k ≡ tiles t .differences (to k)) → t0′ ≡ t0 → filteredSample s a b others tiles′ t0′ ≡ filteredSample s a b others tiles t0
   unfolding filteredSample
   output-renumbered tiles tiles′ t0 t0′ en es er ed e0 =
@@ -98,8 +98,8 @@ module _ (m : Merge) (reference : ℕ) (samples samples′ : List ℕ) (vectors 
           ap₂ (λ d c. tileAt side16 (s .height) (s .width) rowParity columnParity (s′ .other k) d c a b i j) (r .down-same k a b h ha hb) (r .right-same k a b h ha hb)
           ∙ tile-same side16 (s .height) (s .width) rowParity columnParity (s′ .other k) (s .other (to k)) (omega (arith, r .high .least)) (omega (arith, r .wide .least)) p q (r .other-same k h) (s .down (to k) a b) (s .right (to k) a b) a b i j
 
-      differences : difference s′ rowParity columnParity a b k ≡ difference s rowParity columnParity a b (to k)
-      unfolding difference
+      differences : tileDifference s′ rowParity columnParity a b k ≡ tileDifference s rowParity columnParity a b (to k)
+      unfolding tileDifference
       differences = fun-ext (λ i. fun-ext (λ j. ap₂ (λ x y. pos x -ℤ pos y) (reference-tile i j) (other-tile i j)))
 
   -- the tiles over a sample are tiles of the plane

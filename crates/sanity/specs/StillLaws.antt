@@ -18,10 +18,10 @@ use Rattle.search.specs.Vectors.{still, _plus_, _times_}
 use Rattle.search.specs.Offsets.{offset}
 use Rattle.search.specs.OffsetLaws.{offset-zero}
 use Rattle.residuals.specs.Residual.{gap, difference, Pair, rowResidual, residual}
-use Rattle.search.specs.Search.{tried, chosen, found, three, guessed}
+use Rattle.search.specs.Search.{tried, chosen, bestVector, three, guessed}
 use Rattle.sequences.specs.LeastLaws.{first}
-use Rattle.geometry.specs.Vectors.{Field, part, word, wordOf, vectorList}
-use Rattle.levels.specs.Fields.{tileAt, coarsest, fromCoarse, finer}
+use Rattle.geometry.specs.Vectors.{VectorField, part, word, wordOf, vectorList}
+use Rattle.levels.specs.Fields.{levelTile, coarsest, fromCoarse, finer}
 use Rattle.alignment.specs.Fields.{field0, field1, field2, field3, levelRows, levelColumns, residualSum}
 use Rattle.fields.specs.LevelSums.{residuals}
 use Rattle.alignment.specs.Aligned.{fieldOf, alignedVectors}
@@ -44,8 +44,8 @@ pub record AtRest (p : Pair) : Type 0 where
   pub least : (squared : Bool) (t : Tile) (v : Vector) → residual squared p t still ≤ residual squared p t v
 
 module _ (p : Pair) (rest : AtRest p) where
-  still-found : (squared : Bool) (t : Tile) → found squared p t still ≡ still
-  unfolding found chosen tried
+  still-found : (squared : Bool) (t : Tile) → bestVector squared p t still ≡ still
+  unfolding bestVector chosen tried
   still-found squared t =
       ap (λ k. still plus offset k) (first-least (tried squared p t still) 80 (λ k. rw offset-zero (rest .least squared t (still plus offset k)))) ∙ ap (λ o. still plus o) offset-zero
 
@@ -65,21 +65,21 @@ still-times : {v : Vector} (f : ℕ) → v ≡ still → v times f ≡ still
 still-times f e = ap (λ v. v times f) e ∙ ap₂ (λ d r. record { down = d; right = r }) (zero-*ℤ (pos f)) (zero-*ℤ (pos f))
 
 -- so the fields of all levels are still
-pub record StillField (f : Field) : Type 0 where
+pub record StillField (f : VectorField) : Type 0 where
   pub at : (row column : ℕ) → f row column ≡ still
 
 coarsest-still : (l : Level) (p : Pair) → AtRest p → StillField (coarsest l p)
 unfolding coarsest
-coarsest-still l p rest = record { at = λ row column. still-found p rest (l .squared) (tileAt l row column) }
+coarsest-still l p rest = record { at = λ row column. still-found p rest (l .squared) (levelTile l row column) }
 
-finer-still : (l : Level) (s : Step) (rows columns : ℕ) (p : Pair) (coarse : Field) → AtRest p → StillField coarse → StillField (finer l s rows columns p coarse)
+finer-still : (l : Level) (s : Step) (rows columns : ℕ) (p : Pair) (coarse : VectorField) → AtRest p → StillField coarse → StillField (finer l s rows columns p coarse)
 unfolding finer fromCoarse
 finer-still l s rows columns p coarse rest none =
     record {
       at = λ row column.
-          let t = tileAt l row column in
+          let t = levelTile l row column in
           let scaled : (a b : ℕ) → coarse a b times s .factor ≡ still = λ a b. still-times (s .factor) (none .at a b) in
-          ap (found (l .squared) p t) (guess-still p rest t (scaled _ _) (scaled _ _) (scaled _ _)) ∙ still-found p rest (l .squared) t;
+          ap (bestVector (l .squared) p t) (guess-still p rest t (scaled _ _) (scaled _ _) (scaled _ _)) ∙ still-found p rest (l .squared) t;
     }
 
 module _ (p : ℕ → Pair) (rest : (k : ℕ) → AtRest (p k)) where
@@ -90,7 +90,7 @@ module _ (p : ℕ → Pair) (rest : (k : ℕ) → AtRest (p k)) where
       (finer-still level1 step2to1 _ _ (p 1) _ (rest 1) (finer-still level2 step3to2 _ _ (p 2) _ (rest 2) (coarsest-still level3 (p 3) (rest 3))))
 
   -- where each tile that has not moved has the residual c
-  pub sum-still : (c : ℕ) → ((row column : ℕ) → residual (level0 .squared) (p 0) (tileAt level0 row column) still ≡ c) → residualSum p ≡ levelRows level0 (p 0) * levelColumns level0 (p 0) * c
+  pub sum-still : (c : ℕ) → ((row column : ℕ) → residual (level0 .squared) (p 0) (levelTile level0 row column) still ≡ c) → residualSum p ≡ levelRows level0 (p 0) * levelColumns level0 (p 0) * c
   unfolding residualSum residuals
   sum-still c e =
       sum-same (levelRows level0 (p 0) * levelColumns level0 (p 0)) c _
@@ -102,7 +102,7 @@ unfolding part
 part-none zero = refl
 part-none (suc k) = refl
 
-word-none : (columns : ℕ) (f : Field) → StillField f → (k : ℕ) → word columns f k ≡ pos 0
+word-none : (columns : ℕ) (f : VectorField) → StillField f → (k : ℕ) → word columns f k ≡ pos 0
 unfolding word
 word-none columns f none k = ap (part (k % 2)) (none .at (k / 2 / columns) (k / 2 % columns)) ∙ part-none (k % 2)
 

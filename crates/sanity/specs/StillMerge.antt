@@ -4,7 +4,7 @@ use lib.IntN.{pos, +ℤ-invr}
 use lib.ListN.{getD, replicate}
 use Rattle.geometry.specs.Vectors.{otherFrame, vectorPlace, downAt, rightAt}
 use Rattle.recipe.specs.declared.Merge.{Merge}
-use Rattle.recipe.specs.Scene.{Scene, sceneOf, tileAt, referenceTile, otherTile, difference}
+use Rattle.recipe.specs.Scene.{Scene, sceneOf, tileAt, referenceTile, otherTile, tileDifference}
 use Rattle.recipe.specs.Merged.{outputAt, merged}
 use Rattle.sanity.specs.Frames.{Burst, Same, Alike, imageWords, frameWords}
 use Rattle.geometry.specs.VectorLaws.{other-below}
@@ -22,8 +22,8 @@ pub record Still (s : Scene) : Type 0 where
 
 module _ (s : Scene) (plain : s .tuning .spatial ≡ 0) (still : Still s) where
   -- "T0−Tz" is 0
-  difference-none : (rowParity columnParity a b k i j : ℕ) → rowParity < 2 → columnParity < 2 → k < s .others → difference s rowParity columnParity a b k i j ≡ pos 0
-  unfolding difference referenceTile otherTile
+  difference-none : (rowParity columnParity a b k i j : ℕ) → rowParity < 2 → columnParity < 2 → k < s .others → tileDifference s rowParity columnParity a b k i j ≡ pos 0
+  unfolding tileDifference referenceTile otherTile
   difference-none rowParity columnParity a b k i j p q h =
       rw (still .no-down k a b h, still .no-right k a b h, tile-same (s .side) (s .height) (s .width) rowParity columnParity (s .reference) (s .other k) (still .high) (still .wide) p q (still .alike k h) (pos 0) (pos 0) a b i j)
       (+ℤ-invr (pos (tileAt (s .side) (s .height) (s .width) rowParity columnParity (s .other k) (pos 0) (pos 0) a b i j)))

@@ -12,7 +12,7 @@ use Rattle.search.specs.Offsets.{offset}
 use Rattle.search.specs.Table.{downs, rights, tabled}
 use Rattle.search.specs.OffsetLaws.{offset-tabled, parts-most}
 use Rattle.residuals.specs.Residual.{difference, Pair, rowResidual, residual}
-use Rattle.search.specs.Search.{tried, chosen, found}
+use Rattle.search.specs.Search.{tried, chosen, bestVector}
 use Rattle.search.specs.Rows.{offsetRows, searchRows}
 use Rattle.search.specs.RowLaws.{same-total, offset-rows-cong}
 use Rattle.sequences.specs.Sum.{Summed, sum-done}
@@ -89,8 +89,8 @@ searched-same {f} {g} {n} {r} e s =
     }
 
 -- the first least sum in the window is what the search finds, and the rows are those that the rule counts
-pub searched-finds : (squared : Bool) (p : Pair) (t : Tile) (guess : Vector) (tile window : List ℕ) (best : Best) → Copied tile (t .side) (t .side) (p .reference) (t .origin .down) (t .origin .right) → Copied window (t .side + 8) (t .side + 8) (p .other) (t .origin .down +ℤ guess .down +ℤ negsuc 3) (t .origin .right +ℤ guess .right +ℤ negsuc 3) → Searched (windowRow squared tile window (t .side)) (t .side) best → (best .offset ≡ chosen squared p t guess) × (best .residual ≡ residual squared p t (found squared p t guess)) × (best .rows ≡ searchRows squared p t guess)
-unfolding chosen found tried residual searchRows
+pub searched-finds : (squared : Bool) (p : Pair) (t : Tile) (guess : Vector) (tile window : List ℕ) (best : Best) → Copied tile (t .side) (t .side) (p .reference) (t .origin .down) (t .origin .right) → Copied window (t .side + 8) (t .side + 8) (p .other) (t .origin .down +ℤ guess .down +ℤ negsuc 3) (t .origin .right +ℤ guess .right +ℤ negsuc 3) → Searched (windowRow squared tile window (t .side)) (t .side) best → (best .offset ≡ chosen squared p t guess) × (best .residual ≡ residual squared p t (bestVector squared p t guess)) × (best .rows ≡ searchRows squared p t guess)
+unfolding chosen bestVector tried residual searchRows
 searched-finds squared p t guess tile window best copied seen s =
     let r = searched-same (window-row squared p t guess tile window copied seen) s in
     (r .is, r .low ∙ ap (tried squared p t guess) (r .is), r .rows-are)

@@ -15,8 +15,8 @@ tried squared p t guess k = residual squared p t (guess plus offset k)
 unfoldable pub chosen : (squared : Bool) → Pair → Tile → (guess : Vector) → ℕ
 chosen squared p t guess = firstMin (tried squared p t guess) 80
 
-unfoldable pub found : (squared : Bool) → Pair → Tile → (guess : Vector) → Vector
-found squared p t guess = guess plus offset (chosen squared p t guess)
+unfoldable pub bestVector : (squared : Bool) → Pair → Tile → (guess : Vector) → Vector
+bestVector squared p t guess = guess plus offset (chosen squared p t guess)
 
 -- the k-th of three
 unfoldable pub three : (first second third : Vector) → ℕ → Vector

@@ -11,7 +11,7 @@ use Rattle.search.specs.Offsets.{offset}
 use Rattle.search.specs.Ties.{earlier}
 use Rattle.search.specs.OffsetLaws.{offset-order, offset-at, offset-within}
 use Rattle.residuals.specs.Residual.{Pair, residual}
-use Rattle.search.specs.Search.{tried, chosen, found, three, guessed}
+use Rattle.search.specs.Search.{tried, chosen, bestVector, three, guessed}
 use Rattle.sequences.specs.LeastLaws.{firstMin-most, least, first}
 
 module _ (squared : Bool) (p : Pair) (t : Tile) (guess : Vector) where
@@ -20,28 +20,28 @@ module _ (squared : Bool) (p : Pair) (t : Tile) (guess : Vector) where
   chosen-most = omega (arith, firstMin-most (tried squared p t guess) 80)
 
   -- no offset of −4..4 has a smaller residual
-  pub none-smaller : (o : Vector) → Within 4 o → residual squared p t (found squared p t guess) ≤ residual squared p t (guess plus o)
-  unfolding tried chosen found
+  pub none-smaller : (o : Vector) → Within 4 o → residual squared p t (bestVector squared p t guess) ≤ residual squared p t (guess plus o)
+  unfolding tried chosen bestVector
   none-smaller o w =
       let (k, h, e) = offset-at o w in
-      subst (λ o. residual squared p t (found squared p t guess) ≤ residual squared p t (guess plus o)) e
+      subst (λ o. residual squared p t (bestVector squared p t guess) ≤ residual squared p t (guess plus o)) e
       (least (tried squared p t guess) 80 k (omega arith))
 
   -- and none of equal residual comes earlier
-  pub none-earlier : (o : Vector) → Within 4 o → residual squared p t (guess plus o) ≡ residual squared p t (found squared p t guess) → earlier o (offset (chosen squared p t guess)) ≡ false
-  unfolding tried chosen found
+  pub none-earlier : (o : Vector) → Within 4 o → residual squared p t (guess plus o) ≡ residual squared p t (bestVector squared p t guess) → earlier o (offset (chosen squared p t guess)) ≡ false
+  unfolding tried chosen bestVector
   none-earlier o w same =
       let (k, h, e) = offset-at o w in
-      subst (λ o. residual squared p t (guess plus o) ≡ residual squared p t (found squared p t guess) → earlier o (offset (chosen squared p t guess)) ≡ false) e
+      subst (λ o. residual squared p t (guess plus o) ≡ residual squared p t (bestVector squared p t guess) → earlier o (offset (chosen squared p t guess)) ≡ false) e
       (λ q. sym (offset-order k (chosen squared p t guess) h chosen-most) ∙ by k (ltb k (chosen squared p t guess)) refl q) same
     where
-      by : (k : ℕ) (b : Bool) → ltb k (chosen squared p t guess) ≡ b → residual squared p t (guess plus offset k) ≡ residual squared p t (found squared p t guess) → b ≡ false
+      by : (k : ℕ) (b : Bool) → ltb k (chosen squared p t guess) ≡ b → residual squared p t (guess plus offset k) ≡ residual squared p t (bestVector squared p t guess) → b ≡ false
       by k true e q = absurd (omega (arith, first (tried squared p t guess) 80 k (ltb-true k (chosen squared p t guess) e)))
       by k false e q = refl
 
   -- the parts of what is found are at most 4 more than those of the guess
-  pub found-within : (b : ℕ) → Within b guess → Within (b + 4) (found squared p t guess)
-  unfolding found
+  pub found-within : (b : ℕ) → Within b guess → Within (b + 4) (bestVector squared p t guess)
+  unfolding bestVector
   found-within b w = plus-within w (offset-within (chosen squared p t guess) chosen-most)
 
 -- which of three candidates is the guess

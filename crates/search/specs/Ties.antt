@@ -4,10 +4,10 @@ use lib.Signed.{ltZ, leZ}
 use Rattle.geometry.specs.declared.vectors.Vector.{Vector}
 
 -- |down|+|right|
-abbrev pub steps : Vector → ℕ
-steps o = natAbs (o .down) + natAbs (o .right)
+abbrev pub cityBlock : Vector → ℕ
+cityBlock o = natAbs (o .down) + natAbs (o .right)
 
 -- "Ties: smaller |down|+|right| offset, then smaller down, then smaller right."
 unfoldable pub earlier : Vector → Vector → Bool
 earlier a b =
-    ltb (steps a) (steps b) || leb (steps a) (steps b) && (ltZ (a .down) (b .down) || leZ (a .down) (b .down) && ltZ (a .right) (b .right))
+    ltb (cityBlock a) (cityBlock b) || leb (cityBlock a) (cityBlock b) && (ltZ (a .down) (b .down) || leZ (a .down) (b .down) && ltZ (a .right) (b .right))

@@ -17,7 +17,7 @@ use Rattle.recipe.specs.Correction.{binRe, binIm, inverseRe, inverseAt}
 use Rattle.recipe.specs.Output.{rowIn, columnIn, weightIn}
 use Rattle.recipe.specs.Exact.{exactWiener, exactInverseAt}
 use Rattle.closeness.specs.Closeness.{Fitting, tileError, tile-near, rounded-within}
-use Rattle.recipe.specs.Spatial.{Tile, mergedSum, copyAt, copyQuantized, copyFiltered, spatialAt, takenAt, filteredSample}
+use Rattle.recipe.specs.Spatial.{FilteredTile, mergedSum, copyAt, copyQuantized, copyFiltered, spatialAt, takenAt, filteredSample}
 use Rattle.recipe.specs.ExactSpatial.{exactBinRe, exactBinIm, exactSum, exactMergedAt, exactSpatialAt, exactTakenAt, exactFilteredSample}
 use Rattle.algebra.specs.Numerators.{ClearsBoth, tile-common, tiles-common, numerator, numerator-is, restored}
 use Rattle.spatial.specs.Lengths.{tileSum, tile-mono, tile-add, tile-scale, tile-const, Length, moduli, length-at}
@@ -65,7 +65,7 @@ step-length n C k e spread far q r l h g small enough =
     }
 
 -- the bins of the spatial correction: the recipe's, the exact ones, and these times C
-module _ (s : Side) (others : ℕ) (t : Tile) where
+module _ (s : Side) (others : ℕ) (t : FilteredTile) where
   abbrev copyRe : ℕ → ℕ → ℤ
   copyRe u v = copyFiltered s (t .spatial u v) (binRe s (copyAt s others t) u v) (binIm s (copyAt s others t) u v)
 
@@ -92,7 +92,7 @@ module _ (s : Side) (others : ℕ) (t : Tile) where
     abbrev errorIm : ℕ → ℕ → ℤ
     errorIm = mixed (pos C) (pos (s .parts)) copyIm wholeIm
 
-module _ {s : Side} {most w gain spread far others : ℕ} (f : Fitting s most w) (g : Gain s gain) (fig : Figures s gain spread far others) (t : Tile) where
+module _ {s : Side} {most w gain spread far others : ℕ} (f : Fitting s most w) (g : Gain s gain) (fig : Figures s gain spread far others) (t : FilteredTile) where
   -- with a common denominator D of the merge's bins, and C of the filter's
   module _ (D C : ℕ) (D-above : 0 < D) (C-above : 0 < C) (merge-clears : (z : ℕ) → z < others → ClearsBoth (s .side) D (exactRe s t z) (exactIm s t z)) (filter-clears : ClearsBoth (s .side) C (mergedRe s others t) (mergedIm s others t)) where
     -- the exact merged tile has the scale 256·m, and its bins in sixteenths the scale m·sixteenth
@@ -193,7 +193,7 @@ module _ {s : Side} {most w gain spread far others : ℕ} (f : Fitting s most w)
   inside : (a i : ℕ) → a < s .half → i ≤ 1 → a + i * s .half < s .side
   inside a i h l = omega (arith, mul-le-mul-right (s .half) l, fig .halves)
 
-  pub filtered-within : (a b : ℕ) (tiles : ℕ → Tile) (t0 : ℤ) → a < s .half → b < s .half → (m n : ℕ) →
+  pub filtered-within : (a b : ℕ) (tiles : ℕ → FilteredTile) (t0 : ℤ) → a < s .half → b < s .half → (m n : ℕ) →
       n * (others * tileError s most + suc others * spatialError s gain far + 128 * (2 * s .divisor * suc others)) ≤ m * (256 * (2 * s .divisor * suc others)) →
       Within m n (whole (filteredSample s a b others tiles t0)) (exactFilteredSample s a b others tiles t0)
   unfolding filteredSample exactFilteredSample

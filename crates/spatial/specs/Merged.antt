@@ -17,7 +17,7 @@ use Rattle.recipe.specs.Correction.{binRe, binIm, filtered, inverseRe, inverseA
 use Rattle.recipe.specs.Exact.{exactFiltered, exactInverseAt, exactCorrectionAt}
 use Rattle.closeness.specs.Bins.{bin-near}
 use Rattle.closeness.specs.Closeness.{Fitting}
-use Rattle.recipe.specs.Spatial.{Tile, mergedSum, copyAt}
+use Rattle.recipe.specs.Spatial.{FilteredTile, mergedSum, copyAt}
 use Rattle.recipe.specs.ExactSpatial.{exactSum, exactMergedAt}
 use Rattle.algebra.specs.Numerators.{ClearsBoth, numerator, numerator-is, same-times, same-sum, cleared}
 use Rattle.spatial.specs.Lengths.{Length, squares, minus, length-bounded, length-sub, length-sums, length-cong}
@@ -27,7 +27,7 @@ use Rattle.spatial.specs.Transforms.{inverse-same}
 use Rattle.spatial.specs.Wiener.{rounds-square}
 
 -- the bins of the z-th correction: the recipe's G, the exact ones, and these times D
-module _ (s : Side) (t : Tile) (z : ℕ) where
+module _ (s : Side) (t : FilteredTile) (z : ℕ) where
   abbrev pub recipeRe : ℕ → ℕ → ℤ
   recipeRe u v = filtered s (t .noise) (binRe s (t .differences z) u v) (binIm s (t .differences z) u v)
 
@@ -69,7 +69,7 @@ parts-bound D p a m b o h g =
     by-le (pos D ∷ p ∷ a ∷ m ∷ b ∷ o ∷ []) (# 64 ⊠ (u ⊠ u ⊞ v ⊠ v)) (# 17 ⊠ C ⊠ (# 17 ⊠ C))
     (num 16 ⊗ (le x E (abs-upper _ h) ⊗ le (⊖ E) x (abs-lower _ h) ⊕ le y E (abs-upper _ g) ⊗ le (⊖ E) y (abs-lower _ g)) ⊕ sqr C) tt
 
-module _ (s : Side) (others : ℕ) (t : Tile) (D : ℕ) where
+module _ (s : Side) (others : ℕ) (t : FilteredTile) (D : ℕ) where
   -- the exact merged tile times 256·D·divisor·N
   unfoldable pub wholeMerged : ℕ → ℕ → ℤ
   wholeMerged y x = t .reference y x *ℤ pos (256 * (D * s .divisor) * suc others) -ℤ sumZ others (λ z. pos (s .parts) *ℤ wholeInverse s t z D y x)

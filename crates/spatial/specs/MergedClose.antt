@@ -9,7 +9,7 @@ use Rattle.recipe.specs.Side.{Side}
 use Rattle.recipe.specs.Tables.{side16}
 use Rattle.recipe.specs.Scene.{Scene}
 use Rattle.recipe.specs.PlainOutput.{outputSample}
-use Rattle.recipe.specs.Spatial.{Tile, filteredSample}
+use Rattle.recipe.specs.Spatial.{FilteredTile, filteredSample}
 use Rattle.recipe.specs.Exact.{exactSample}
 use Rattle.recipe.specs.ExactSpatial.{exactFilteredSample}
 use Rattle.recipe.specs.Merged.{planeOutput, outputAt, wordAt, merged}
@@ -27,14 +27,14 @@ sample-close e y x others noise d t0 few =
     (five-eighths (y % 8) (x % 8) others noise d t0 (omega arith) (omega arith) few)
 
 -- `nine-tenths` and `two-steps` of a side that is side 16
-filtered-close : {n : Side} → n ≡ side16 → (y x others : ℕ) (tiles : ℕ → Tile) (t0 : ℤ) → others ≤ 7 →
+filtered-close : {n : Side} → n ≡ side16 → (y x others : ℕ) (tiles : ℕ → FilteredTile) (t0 : ℤ) → others ≤ 7 →
     Within 9 10 (whole (filteredSample n (y % n .half) (x % n .half) others tiles t0)) (exactFilteredSample n (y % n .half) (x % n .half) others tiles t0)
 unfolding side16
 filtered-close e y x others tiles t0 few =
     subst (λ n. Within 9 10 (whole (filteredSample n (y % n .half) (x % n .half) others tiles t0)) (exactFilteredSample n (y % n .half) (x % n .half) others tiles t0)) (sym e)
     (nine-tenths (y % 8) (x % 8) others tiles t0 (omega arith) (omega arith) few)
 
-filtered-two : {n : Side} → n ≡ side16 → (y x others : ℕ) (tiles : ℕ → Tile) (t0 : ℤ) → others ≤ 7 →
+filtered-two : {n : Side} → n ≡ side16 → (y x others : ℕ) (tiles : ℕ → FilteredTile) (t0 : ℤ) → others ≤ 7 →
     Within 2 1 (whole (filteredSample n (y % n .half) (x % n .half) others tiles t0)) (exactFilteredSample n (y % n .half) (x % n .half) others tiles t0)
 unfolding side16
 filtered-two e y x others tiles t0 few =

@@ -4,7 +4,7 @@ use Rattle.algebra.specs.Fraction.{whole, Within}
 use Rattle.recipe.specs.Tables.{side16}
 use Rattle.closeness.specs.Closeness.{tileError}
 use Rattle.closeness.specs.Side16.{fitting16}
-use Rattle.recipe.specs.Spatial.{Tile, filteredSample}
+use Rattle.recipe.specs.Spatial.{FilteredTile, filteredSample}
 use Rattle.recipe.specs.ExactSpatial.{exactFilteredSample}
 use Rattle.spatial.specs.Bessel16.{gain16}
 use Rattle.spatial.specs.Closeness.{Figures, spatialError, filtered-within}
@@ -15,7 +15,7 @@ unfolding side16
 figures16 others few = record { gain-above = lit< tt; halves = refl; spread-enough = omega arith; far-enough = lit≤ tt }
 
 -- one sample, for N = others + 1 from 1 to 8 frames, whatever the tiles hold: m/n is at least 1/2 + 7/8·0.1346 + 0.2676
-module _ (a b others : ℕ) (tiles : ℕ → Tile) (t0 : ℤ) (k : a < 8) (l : b < 8) (few : others ≤ 7) where
+module _ (a b others : ℕ) (tiles : ℕ → FilteredTile) (t0 : ℤ) (k : a < 8) (l : b < 8) (few : others ≤ 7) where
   within : (m n : ℕ) → n * (others * tileError side16 379633849 + suc others * spatialError side16 4295154752 68 + 128 * (2 * side16 .divisor * suc others)) ≤ m * (256 * (2 * side16 .divisor * suc others)) → Within m n (whole (filteredSample side16 a b others tiles t0)) (exactFilteredSample side16 a b others tiles t0)
   unfolding side16
   within = filtered-within fitting16 gain16 (figures16 others few) a b tiles t0 k l

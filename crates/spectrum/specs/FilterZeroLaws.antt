@@ -11,7 +11,7 @@ use Rattle.spectrum.specs.ZeroLaws.{inverse-zero}
 use Rattle.recipe.specs.Output.{rowIn, columnIn, weightIn}
 use Rattle.recipe.specs.PlainOutput.{outputSample}
 use Rattle.recipe.specs.SpatialNoise.{spatialNumber}
-use Rattle.recipe.specs.Spatial.{Tile, mergedSum, copyAt, copyFiltered, spatialAt, takenAt, filteredSample}
+use Rattle.recipe.specs.Spatial.{FilteredTile, mergedSum, copyAt, copyFiltered, spatialAt, takenAt, filteredSample}
 
 pub no-strength : (n : Side) (ls lr r frames u v : ℕ) → spatialNumber n 0 ls lr r frames u v ≡ 0
 unfolding spatialNumber
@@ -21,7 +21,7 @@ filtered-none : (s : Side) (noise : ℕ) (b c : ℤ) → noise ≡ 0 → copyFil
 unfolding copyFiltered wiener
 filtered-none s noise b c e = ap (λ n. copyFiltered s n b c) e
 
-module _ (s : Side) (others : ℕ) (t : Tile) (above : 0 < s .divisor) (none : (u v : ℕ) → t .spatial u v ≡ 0) (y x : ℕ) where
+module _ (s : Side) (others : ℕ) (t : FilteredTile) (above : 0 < s .divisor) (none : (u v : ℕ) → t .spatial u v ≡ 0) (y x : ℕ) where
   spatial-none : spatialAt s others t y x ≡ pos 0
   unfolding spatialAt
   spatial-none =
@@ -34,7 +34,7 @@ module _ (s : Side) (others : ℕ) (t : Tile) (above : 0 < s .divisor) (none : (
       ap (λ p. mergedSum s others t y x +ℤ pos (suc others) *ℤ p) spatial-none
       ∙ ring (mergedSum s others t y x ∷ pos (suc others) ∷ []) (var 0 ⊞ var 1 ⊠ # 0) (var 0) tt
 
-pub plain-merge : (s : Side) (a b others : ℕ) (tiles : ℕ → Tile) (t0 : ℤ) → 0 < s .divisor → ((t u v : ℕ) → tiles t .spatial u v ≡ 0) → filteredSample s a b others tiles t0 ≡ outputSample s a b others (λ t. tiles t .noise) (λ t. tiles t .differences) t0
+pub plain-merge : (s : Side) (a b others : ℕ) (tiles : ℕ → FilteredTile) (t0 : ℤ) → 0 < s .divisor → ((t u v : ℕ) → tiles t .spatial u v ≡ 0) → filteredSample s a b others tiles t0 ≡ outputSample s a b others (λ t. tiles t .noise) (λ t. tiles t .differences) t0
 unfolding filteredSample outputSample mergedSum
 plain-merge s a b others tiles t0 above none =
     let whole = 256 * (s .weight * suc others) in

@@ -12,12 +12,12 @@ use Rattle.recipe.specs.Tables.{side16}
 use Rattle.recipe.specs.NoiseNumber.{noiseNumber}
 
 -- of a noise's levels
-unfoldable pub answered : Levels → (strength root : ℕ) → ℕ
-answered levels strength root =
+unfoldable pub noiseAnswer : Levels → (strength root : ℕ) → ℕ
+noiseAnswer levels strength root =
     cond (eqb (first (refusalOf levels ∷ strengthRefusal strength ∷ [])) 0 && leb root 65520)
     (noiseNumber side16 strength (shotLevel levels) (readLevel levels) root)
     0
 
 -- "the noise number is V from a curve (no ISO), t and r, and answers 0 where 8, 9 or 10 would, or where its root r exceeds 65520"
 unfoldable pub noiseQuestion : Float → Float → (strength root : ℕ) → ℕ
-noiseQuestion shot read strength root = answered (levelsOf (Measured (record { shot = shot; read = read }))) strength root
+noiseQuestion shot read strength root = noiseAnswer (levelsOf (Measured (record { shot = shot; read = read }))) strength root

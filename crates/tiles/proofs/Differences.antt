@@ -13,7 +13,7 @@ use Rattle.geometry.specs.VectorLaws.{other-below}
 use Rattle.recipe.specs.Side.{Side}
 use Rattle.recipe.specs.Tables.{side16}
 use Rattle.recipe.specs.declared.Merge.{Merge}
-use Rattle.recipe.specs.Scene.{Scene, sceneOf, tileAt, referenceTile, otherTile, difference}
+use Rattle.recipe.specs.Scene.{Scene, sceneOf, tileAt, referenceTile, otherTile, tileDifference}
 use Rattle.tiles.specs.declared.Site.{Site}
 use Rattle.tiles.specs.Accepted.{Accepted, Sited}
 use Rattle.tiles.specs.Sum.{TileFits}
@@ -28,8 +28,8 @@ pair-rows f e = ap length e ∙ length-tab (λ i. tab 32 (f i)) 16
 
 -- differences of pairs, cell by cell
 pub difference-grid : (s : Scene) (rowParity a b k : ℕ) {t0 tz : List (List ℕ)} → t0 ≡ grid 16 32 (sideBySide (λ p. referenceTile s rowParity p a b)) → tz ≡ grid 16 32 (sideBySide (λ p. otherTile s rowParity p a b k))
-    → grid 16 32 (λ i l. pos (cell 0 t0 i l) -ℤ pos (cell 0 tz i l)) ≡ grid 16 32 (sideBySide (λ p. difference s rowParity p a b k))
-unfolding difference
+    → grid 16 32 (λ i l. pos (cell 0 t0 i l) -ℤ pos (cell 0 tz i l)) ≡ grid 16 32 (sideBySide (λ p. tileDifference s rowParity p a b k))
+unfolding tileDifference
 difference-grid s rowParity a b k e f =
     rw (e, f) (grid-ext 16 32 _ _ (λ i l g h. ap₂ (λ x y. pos x -ℤ pos y) (cell-grid 0 16 32 _ i l g h) (cell-grid 0 16 32 _ i l g h)))
 
@@ -64,11 +64,11 @@ module _ {m : Merge} {samples : List ℕ} {vectors : List ℤ} (ok : Accepted m 
     unfolding sceneOf otherTile
     other-most p c = tile-sample side16 (ok .burst .allowed) (ok .samples-fit) (otherFrame (m .reference) k) (other-below (m .reference) k (m .shape .count) h) (sited .row-parity) c _ _ (site .row) (site .column)
 
-    pub difference-most : (p : ℕ) → p < 2 → (i j : ℕ) → natAbs (difference s (site .«row_parity») p (site .row) (site .column) k i j) ≤ 4095
-    unfolding difference
+    pub difference-most : (p : ℕ) → p < 2 → (i j : ℕ) → natAbs (tileDifference s (site .«row_parity») p (site .row) (site .column) k i j) ≤ 4095
+    unfolding tileDifference
     difference-most p c i j = apart _ _ (reference-most p c i j) (other-most p c i j)
 
-    pub tile-most : TileMost differenceMost (grid 16 32 (sideBySide (λ p. difference s (site .«row_parity») p (site .row) (site .column) k)))
+    pub tile-most : TileMost differenceMost (grid 16 32 (sideBySide (λ p. tileDifference s (site .«row_parity») p (site .row) (site .column) k)))
     unfolding grid
     tile-most =
         record {

@@ -15,13 +15,13 @@ use Rattle.spectrum.specs.Pairs.{planeIn, sideBySide, either, Paired}
 use Rattle.lines.specs.Lines.{LineMost, TileMost}
 use Rattle.spectrum.specs.Magnitudes.{smallMost}
 use Rattle.tiles.specs.declared.Site.{Site}
-use Rattle.recipe.specs.Scene.{Scene, tileNoise, difference}
+use Rattle.recipe.specs.Scene.{Scene, tileNoise, tileDifference}
 use Rattle.tiles.specs.Sum.{summedAt, Summed}
 
 module _ (s : Scene) (t : Site) where
   -- P of the tile of column parity p for the k-th other frame, and the sums of the first n of these, side by side
   abbrev pub termAt : (k p i j : ℕ) → ℤ
-  termAt k p = correctionAt (s .side) (tileNoise s (t .«row_parity») p (t .row) (t .column)) (difference s (t .«row_parity») p (t .row) (t .column) k)
+  termAt k p = correctionAt (s .side) (tileNoise s (t .«row_parity») p (t .row) (t .column)) (tileDifference s (t .«row_parity») p (t .row) (t .column) k)
 
   abbrev pub partAt : (n i l : ℕ) → ℤ
   partAt n i l = sumZ n (λ k. sideBySide (termAt k) i l)
@@ -53,7 +53,7 @@ module _ {s : Scene} {t : Site} where
   -- one more frame: d its differences, and r the sum with their corrections
   module _ {n : ℕ} {sum : List (List ℤ)} (w : Summing s t n sum) (h : n < s .others) where
     pub sum-turn : (first second : ℕ) {d r : List (List ℤ)} → ((p : ℕ) → p < 2 → either first second p ≡ tileNoise s (t .«row_parity») p (t .row) (t .column))
-        → d ≡ grid 16 32 (sideBySide (λ p. difference s (t .«row_parity») p (t .row) (t .column) n))
+        → d ≡ grid 16 32 (sideBySide (λ p. tileDifference s (t .«row_parity») p (t .row) (t .column) n))
         → r ≡ grid 16 32 (λ i l. cell (pos 0) sum i l +ℤ correctionAt side16 (either first second (l % 2)) (planeIn (cell (pos 0) d) (l % 2)) i (l / 2))
         → ((p : ℕ) → p < 2 → (i j : ℕ) → natAbs (termAt s t n p i j) ≤ smallMost)
         → Summing s t (n + 1) r
@@ -71,7 +71,7 @@ module _ {s : Scene} {t : Site} where
         inside : {k : ℕ} → k < s .side .side → k < 16
         inside {k} h = subst (λ n. k < n .side) (w .of-16) h
 
-        plane : (p : ℕ) → p < 2 → (y x : ℕ) → y < 16 → x < 16 → planeIn (cell (pos 0) d) p y x ≡ difference s (t .«row_parity») p (t .row) (t .column) n y x
+        plane : (p : ℕ) → p < 2 → (y x : ℕ) → y < 16 → x < 16 → planeIn (cell (pos 0) d) p y x ≡ tileDifference s (t .«row_parity») p (t .row) (t .column) n y x
         plane p c y x g f =
             let parity : (2 * x + p) % 2 ≡ p = omega arith in
             let column : (2 * x + p) / 2 ≡ x = omega arith in

@@ -8,7 +8,7 @@ use Rattle.spectrum.specs.Pairs.{sideBySide, either}
 use Rattle.tiles.specs.declared.Site.{Site}
 use Rattle.recipe.specs.Correction.{correctionAt}
 use Rattle.recipe.specs.Spatial.{takenAt}
-use Rattle.recipe.specs.Scene.{Scene, referenceTile, tileNoise, difference, tileHere}
+use Rattle.recipe.specs.Scene.{Scene, referenceTile, tileNoise, tileDifference, tileHere}
 
 -- each sample of a pair is at most 4095
 pub record TileFits (t : List (List ℕ)) : Type 0 where
@@ -24,7 +24,7 @@ pub record TileOf (s : Scene) (t : Site) (t0 : List (List ℕ)) (first second : 
 -- P of a tile, summed over the other frames
 unfoldable pub summedAt : Scene → (rowParity columnParity a b i j : ℕ) → ℤ
 summedAt s rowParity columnParity a b i j =
-    sumZ (s .others) (λ k. correctionAt (s .side) (tileNoise s rowParity columnParity a b) (difference s rowParity columnParity a b k) i j)
+    sumZ (s .others) (λ k. correctionAt (s .side) (tileNoise s rowParity columnParity a b) (tileDifference s rowParity columnParity a b k) i j)
 
 -- r is the sums of a pair's corrections over the other frames
 pub record Summed (s : Scene) (t : Site) (r : List (List ℤ)) : Type 0 where

@@ -12,7 +12,7 @@ ghost use Rattle.geometry.specs.Tiles.{origin};
 ghost use Rattle.plane_view.specs.View.{Near};
 ghost use Rattle.spectrum.specs.Pairs.{sideBySide};
 ghost use Rattle.recipe.specs.Tables.{side16};
-ghost use Rattle.recipe.specs.Scene.{sceneOf, tileAt, referenceTile, difference};
+ghost use Rattle.recipe.specs.Scene.{sceneOf, tileAt, referenceTile, tileDifference};
 ghost use Rattle.tiles.specs.Accepted.{Accepted, Sited};
 ghost use Rattle.tiles.specs.Sum.{TileFits};
 use crate::Site;
@@ -89,7 +89,7 @@ pub fn differences(
     d: &mut [[i16; 32]; 16],
 )
     requires { ⌜ record { accepted : Accepted m (now samples) (now vectors); sited : Sited (m .shape) site; frame : k + 1 < m .shape .count; tile : now t0 ≡ grid 16 32 (sideBySide (λ p. referenceTile (sceneOf m (now samples) (now vectors)) (site .«row_parity») p (site .row) (site .column))); tz-rows : length (now tz) ≡ 16; d-rows : length (now d) ≡ 16 } ⌝ }
-    ensures { λ _. ⌜ (now (d .exit) ≡ grid 16 32 (sideBySide (λ p. difference (sceneOf m (now (samples .entry)) (now (vectors .entry))) (site .«row_parity») p (site .row) (site .column) k))) × (length (now (tz .exit)) ≡ 16) ⌝ }
+    ensures { λ _. ⌜ (now (d .exit) ≡ grid 16 32 (sideBySide (λ p. tileDifference (sceneOf m (now (samples .entry)) (now (vectors .entry))) (site .«row_parity») p (site .row) (site .column) k))) × (length (now (tz .exit)) ≡ 16) ⌝ }
 {
     let shape = m.shape;
     let place = vector_place(shape, k, site.row, site.column);

@@ -10,7 +10,7 @@ use Rattle.file_lines.specs.Line.{pastSpaces, afterDigits, digitsFrom, valuesOf
 use Rattle.file_head.specs.Names.{names}
 use Rattle.file_head.specs.Head.{startsWith, firstLineRefusal, headerRefusal, headOf}
 use Rattle.file_head.specs.declared.Header.{Header}
-use Rattle.burst_file.specs.Rows.{row, rows, framesOf}
+use Rattle.burst_file.specs.Rows.{row, rowLines, framesOf}
 use Rattle.burst_file.specs.Reading.{bodyOf, reading, readingInto, fileCheck}
 use Rattle.sanity.specs.FlatFigure.{shape, plain, burst}
 
@@ -32,11 +32,11 @@ abbrev pub header : Header
 header = record { shape = shape; reference = 0; «shot_level» = 0; «read_level» = 4194304; strength = 1024 }
 
 pub file-read : readingInto 8192 file ≡ found (record { header = header; samples = burst }) []
-unfolding reading bodyOf headOf firstLineRefusal startsWith hasLF valuesOf digitsFrom afterDigits pastSpaces above rows row framesOf headerRefusal shapeTests first sizeAllowed countAllowed sizeRefusal countRefusal referenceRefusal levelRefusal strengthRefusal sampleLength lengthRefusal plain
+unfolding reading bodyOf headOf firstLineRefusal startsWith hasLF valuesOf digitsFrom afterDigits pastSpaces above rowLines row framesOf headerRefusal shapeTests first sizeAllowed countAllowed sizeRefusal countRefusal referenceRefusal levelRefusal strengthRefusal sampleLength lengthRefusal plain
 file-read = refl
 
 pub check-accepts : fileCheck file ≡ 0
-unfolding reading bodyOf headOf firstLineRefusal startsWith hasLF valuesOf digitsFrom afterDigits pastSpaces above rows row framesOf headerRefusal shapeTests first sizeAllowed countAllowed sizeRefusal countRefusal referenceRefusal levelRefusal strengthRefusal
+unfolding reading bodyOf headOf firstLineRefusal startsWith hasLF valuesOf digitsFrom afterDigits pastSpaces above rowLines row framesOf headerRefusal shapeTests first sizeAllowed countAllowed sizeRefusal countRefusal referenceRefusal levelRefusal strengthRefusal
 check-accepts = refl
 
 -- a file whose second line is the text, and what follows it
@@ -74,11 +74,11 @@ numbers number [] = []
 numbers number (file ∷ files) = number file ∷ numbers number files
 
 pub check-refuses : numbers fileCheck faulty ≡ faults
-unfolding reading bodyOf headOf firstLineRefusal startsWith hasLF valuesOf digitsFrom afterDigits pastSpaces above rows row framesOf headerRefusal shapeTests first sizeAllowed countAllowed sizeRefusal countRefusal referenceRefusal levelRefusal strengthRefusal
+unfolding reading bodyOf headOf firstLineRefusal startsWith hasLF valuesOf digitsFrom afterDigits pastSpaces above rowLines row framesOf headerRefusal shapeTests first sizeAllowed countAllowed sizeRefusal countRefusal referenceRefusal levelRefusal strengthRefusal
 check-refuses = refl
 
 pub read-refuses : numbers (λ file. numberOf (readingInto 4096 file)) faulty ≡ faults
-unfolding reading bodyOf headOf firstLineRefusal startsWith hasLF valuesOf digitsFrom afterDigits pastSpaces above rows row framesOf headerRefusal shapeTests first sizeAllowed countAllowed sizeRefusal countRefusal referenceRefusal levelRefusal strengthRefusal sampleLength lengthRefusal
+unfolding reading bodyOf headOf firstLineRefusal startsWith hasLF valuesOf digitsFrom afterDigits pastSpaces above rowLines row framesOf headerRefusal shapeTests first sizeAllowed countAllowed sizeRefusal countRefusal referenceRefusal levelRefusal strengthRefusal sampleLength lengthRefusal
 read-refuses = refl
 
 pub read-refuses-4 : numberOf (readingInto 4095 bright) ≡ 4

@@ -5,7 +5,7 @@ use Rattle.refusals.specs.Tests.{first}
 use Rattle.refusals.specs.Some.{some}
 use Rattle.geometry.specs.Shape.{sizeAllowed, lengthRefusal}
 use Rattle.printing.specs.Decimal.{digits, decimal}
-use Rattle.pgm_header.specs.Header.{headerOf, leading}
+use Rattle.pgm_header.specs.Header.{pgmHeader, leading}
 use Rattle.pgm_samples.specs.Samples.{bytesOf, someAbove, aboveRefusal, samplesOf}
 use Rattle.pgm.specs.Form.{fileOf, sizesAllowed, PgmFile, fileLength, pgmLength}
 use Rattle.pgm.specs.Writing.{writeRefusal}
@@ -25,7 +25,7 @@ is-file = record { allowed = refl; long = length-replicate {A = ℕ} 4096 0; sma
 
 -- "`P5`, LF, width, a space, height, LF, `4095`, LF": 14 bytes, and two for each sample
 pub length-8206 : pgmLength 64 64 ≡ 8206
-unfolding pgmLength sizesAllowed sizeAllowed fileLength headerOf decimal digits
+unfolding pgmLength sizesAllowed sizeAllowed fileLength pgmHeader decimal digits
 length-8206 = refl
 
 pub write-accepts : (bytes : List ℕ) → length bytes ≡ length file → writeRefusal 64 64 black bytes ≡ 0
@@ -36,10 +36,10 @@ read-accepts = (Acceptance.complete is-file, Acceptance.samples-read is-file)
 
 -- 1, 6, 16 and 11
 pub write-refuses : writeRefusal 96 64 black [] ∷ writeRefusal 64 64 [] [] ∷ writeRefusal 64 64 black [] ∷ writeRefusal 64 64 (4096 ∷ replicate 4095 0) (replicate 8206 0) ∷ [] ≡ 1 ∷ 6 ∷ 16 ∷ 11 ∷ []
-unfolding writeRefusal first some sizesAllowed sizeAllowed lengthRefusal fileLength headerOf decimal digits aboveRefusal someAbove
+unfolding writeRefusal first some sizesAllowed sizeAllowed lengthRefusal fileLength pgmHeader decimal digits aboveRefusal someAbove
 write-refuses = refl
 
 -- 17: no byte, and a size that is not allowed; 6 and 11
-pub read-refuses : readRefusal [] 4096 ∷ readRefusal (headerOf 96 64) 6144 ∷ readRefusal file 4095 ∷ readRefusal (headerOf 64 64 ++ 16 ∷ 0 ∷ replicate 8190 0) 4096 ∷ [] ≡ 17 ∷ 17 ∷ 6 ∷ 11 ∷ []
-unfolding readRefusal refusalAs formed differs widthIn heightIn leading first some sizesAllowed sizeAllowed lengthRefusal fileLength fileOf bytesOf headerOf decimal digits samplesAs samplesOf aboveRefusal someAbove
+pub read-refuses : readRefusal [] 4096 ∷ readRefusal (pgmHeader 96 64) 6144 ∷ readRefusal file 4095 ∷ readRefusal (pgmHeader 64 64 ++ 16 ∷ 0 ∷ replicate 8190 0) 4096 ∷ [] ≡ 17 ∷ 17 ∷ 6 ∷ 11 ∷ []
+unfolding readRefusal refusalAs formed differs widthIn heightIn leading first some sizesAllowed sizeAllowed lengthRefusal fileLength fileOf bytesOf pgmHeader decimal digits samplesAs samplesOf aboveRefusal someAbove
 read-refuses = refl

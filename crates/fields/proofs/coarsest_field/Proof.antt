@@ -6,7 +6,7 @@ use Rattle.sequences.specs.Sum.{Summed, sum-start, sum-turn, sum-done, sum-most
 use Rattle.search.specs.Vectors.{still}
 use Rattle.search.specs.Rows.{searchRows}
 use Rattle.levels.specs.Magnitudes.{tileRowsMost}
-use Rattle.levels.specs.Fields.{tileAt, coarsest}
+use Rattle.levels.specs.Fields.{levelTile, coarsest}
 use Rattle.fields.specs.LevelSums.{coarsestRows}
 use Rattle.fields.proofs.Placing.{Placing, place-start, place-turn, place-done}
 use Rattle.matching.specs.Stored.{pairIn}
@@ -16,7 +16,7 @@ use Rattle.fields.proofs.coarsest_field.Statement.{statement}
 use Rattle.fields.proofs.coarsest_field.Tie as tie
 
 abbrev Inv-loop : tie.InvT-loop
-Inv-loop work₀ area to rows columns summed₀ k₀ k-end work summed k = Placing work₀ to columns (rows * columns) (coarsest level3 (pairIn work₀ area)) k work × Summed (λ k. searchRows (level3 .squared) (pairIn work₀ area) (tileAt level3 (k / columns) (k % columns)) still) tileRowsMost (rows * columns) k summed
+Inv-loop work₀ area to rows columns summed₀ k₀ k-end work summed k = Placing work₀ to columns (rows * columns) (coarsest level3 (pairIn work₀ area)) k work × Summed (λ k. searchRows (level3 .squared) (pairIn work₀ area) (levelTile level3 (k / columns) (k % columns)) still) tileRowsMost (rows * columns) k summed
 
 abbrev μ-loop : tie.MeasureT-loop
 μ-loop work₀ area to rows columns summed₀ k₀ k-end work summed k = rows * columns - k
@@ -47,7 +47,7 @@ loop-again c = let t = c .before .before .before .before .before in
     let same = kept-pair (kept i) (a .area) (i .before .before .pre .stored) (i .before .before .pre .before) in
     let e = ap (λ r. r .vector) (t .coarsest-tile .ensures .is) ∙ ap (λ p. coarsest level3 p (k / a .columns) (k % a .columns)) same in (
       rw (c .before .before .put .ensures) (place-turn (i .before .loop .inv .0) (i .loop-test .taken) (ap (λ v. v .down) e) (ap (λ v. v .right) e)),
-      sum-turn (i .before .loop .inv .1) (i .loop-test .taken) (ap (λ r. r .rows) (t .coarsest-tile .ensures .is) ∙ ap (λ p. searchRows (level3 .squared) p (tileAt level3 (k / a .columns) (k % a .columns)) still) same) (t .coarsest-tile .ensures .few),
+      sum-turn (i .before .loop .inv .1) (i .loop-test .taken) (ap (λ r. r .rows) (t .coarsest-tile .ensures .is) ∙ ap (λ p. searchRows (level3 .squared) p (levelTile level3 (k / a .columns) (k % a .columns)) still) same) (t .coarsest-tile .ensures .few),
     )
 
 returns : tie.Need-returns Inv-loop μ-loop

@@ -3,7 +3,7 @@ use Rattle.pyramid.specs.WordsLaws.{Kept, writing-kept}
 use Rattle.sequences.specs.Sum.{Summed, sum-start, sum-turn, sum-done, sum-most}
 use Rattle.search.specs.Rows.{candidateRows}
 use Rattle.levels.specs.Magnitudes.{tileRowsMost}
-use Rattle.levels.specs.Fields.{levelAt, tileAt, fromCoarse, finer}
+use Rattle.levels.specs.Fields.{levelAt, levelTile, fromCoarse, finer}
 use Rattle.fields.specs.LevelSums.{finerRows}
 use Rattle.levels.specs.Steps.{stepTo}
 use Rattle.fields.proofs.Placing.{Placing, place-start, place-turn, place-done}
@@ -16,7 +16,7 @@ use Rattle.fields.proofs.finer_field.Statement.{statement}
 use Rattle.fields.proofs.finer_field.Tie as tie
 
 abbrev Inv-loop : tie.InvT-loop
-Inv-loop work₀ area level coarse to rows columns summed₀ k₀ k-end work summed k = Placing work₀ to columns (rows * columns) (finer (levelAt level) (stepTo level) (coarse .rows) (coarse .columns) (pairIn work₀ area) (fieldAt work₀ (coarse .at) (coarse .columns))) k work × Summed (λ k. candidateRows (levelAt level .squared) (pairIn work₀ area) (tileAt (levelAt level) (k / columns) (k % columns)) (guessFrom level work₀ area coarse (tileAt (levelAt level) (k / columns) (k % columns)) (k / columns) (k % columns))) tileRowsMost (rows * columns) k summed
+Inv-loop work₀ area level coarse to rows columns summed₀ k₀ k-end work summed k = Placing work₀ to columns (rows * columns) (finer (levelAt level) (stepTo level) (coarse .rows) (coarse .columns) (pairIn work₀ area) (fieldAt work₀ (coarse .at) (coarse .columns))) k work × Summed (λ k. candidateRows (levelAt level .squared) (pairIn work₀ area) (levelTile (levelAt level) (k / columns) (k % columns)) (guessFrom level work₀ area coarse (levelTile (levelAt level) (k / columns) (k % columns)) (k / columns) (k % columns))) tileRowsMost (rows * columns) k summed
 
 abbrev μ-loop : tie.MeasureT-loop
 μ-loop work₀ area level coarse to rows columns summed₀ k₀ k-end work summed k = rows * columns - k
@@ -55,7 +55,7 @@ loop-again c = let t = c .before .before .before .before .before in
     let f = stepTo (a .level) in
     let p = pairIn (a .work .now) (a .area) in
     let same = kept-pair (kept i) (a .area) (s .pre .fits .stored) (s .pre .fits .before) in
-    let there = tileAt l (k / a .columns) (k % a .columns) in
+    let there = levelTile l (k / a .columns) (k % a .columns) in
     let e =
     ap (λ r. r .vector) (t .finer-tile .ensures .is)
     ∙ ap (λ p. finer l f (a .coarse .rows) (a .coarse .columns) p (fieldAt (i .before .loop .work) (a .coarse .at) (a .coarse .columns)) (k / a .columns) (k % a .columns)) same

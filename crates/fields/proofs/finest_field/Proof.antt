@@ -7,7 +7,7 @@ use Rattle.fields.specs.LevelSums.{finerRows, residuals}
 use Rattle.levels.specs.Magnitudes.{tileRowsMost}
 use Rattle.residuals.specs.Residual.{residual}
 use Rattle.geometry.specs.Vectors.{numbered}
-use Rattle.levels.specs.Fields.{tileAt}
+use Rattle.levels.specs.Fields.{levelTile}
 use Rattle.fields.proofs.Placing.{Placing, place-start, place-turn, place-done}
 use Rattle.matching.specs.Stored.{pairIn}
 use Rattle.fields.specs.LoopLaws.{tiles-few, place-few}
@@ -18,7 +18,7 @@ use Rattle.fields.proofs.finest_field.Statement.{statement}
 use Rattle.fields.proofs.finest_field.Tie as tie
 
 abbrev Inv-loop : tie.InvT-loop
-Inv-loop work area coarse vectors₀ to rows columns sum₀ summed₀ k₀ k-end vectors sum summed k = Placing vectors₀ to columns (rows * columns) (finestIn work area coarse) k vectors × Summed (λ k. residual (level0 .squared) (pairIn work area) (tileAt level0 (k / columns) (k % columns)) (numbered columns (finestIn work area coarse) k)) residualMost (rows * columns) k sum × Summed (λ k. candidateRows (level0 .squared) (pairIn work area) (tileAt level0 (k / columns) (k % columns)) (guessFrom 0 work area coarse (tileAt level0 (k / columns) (k % columns)) (k / columns) (k % columns))) tileRowsMost (rows * columns) k summed
+Inv-loop work area coarse vectors₀ to rows columns sum₀ summed₀ k₀ k-end vectors sum summed k = Placing vectors₀ to columns (rows * columns) (finestIn work area coarse) k vectors × Summed (λ k. residual (level0 .squared) (pairIn work area) (levelTile level0 (k / columns) (k % columns)) (numbered columns (finestIn work area coarse) k)) residualMost (rows * columns) k sum × Summed (λ k. candidateRows (level0 .squared) (pairIn work area) (levelTile level0 (k / columns) (k % columns)) (guessFrom 0 work area coarse (levelTile level0 (k / columns) (k % columns)) (k / columns) (k % columns))) tileRowsMost (rows * columns) k summed
 
 abbrev μ-loop : tie.MeasureT-loop
 μ-loop work area coarse vectors₀ to rows columns sum₀ summed₀ k₀ k-end vectors sum summed k = rows * columns - k

@@ -5,13 +5,13 @@ use Prim.Native.Nat.{ℕ}
 use lib.ListN.{length}
 use borrow.Author.Needs.{needs}
 use Rattle.file_lines.specs.Part.{Part, refused, found, numberOf}
-use Rattle.burst_file.specs.Burst.{Burst}
-use Rattle.burst_file.specs.Reading.{answerOf, readingInto, FileRead}
+use Rattle.burst_file.specs.Burst.{FileBurst}
+use Rattle.burst_file.specs.Reading.{fileAnswer, readingInto, FileRead}
 use Rattle.burst_file.specs.declared.FileAnswer.{FileAnswer}
 use Rattle.file_cases.proofs.reading_number.Statement.{statement}
 use Rattle.file_cases.proofs.reading_number.Tie as tie
 
-number-answered : (part : Part Burst) → answerOf part .refusal ≡ numberOf part
+number-answered : (part : Part FileBurst) → fileAnswer part .refusal ≡ numberOf part
 number-answered (refused number) = refl
 number-answered (found burst rest) = refl
 

@@ -2,7 +2,7 @@
 use Rattle.algebra.specs.Prelude.{refl, ap, _∙_, true, arith, needs, lit≤}
 use mathlib.Core.Logic.{inl}
 use Rattle.search.specs.RowLaws.{eight-rows-most}
-use Rattle.levels.specs.Fields.{tileAt}
+use Rattle.levels.specs.Fields.{levelTile}
 use Rattle.geometry.specs.Tiles.{level3}
 use Rattle.search.specs.Vectors.{still}
 use Rattle.matching.specs.Stored.{pairIn}
@@ -33,7 +33,7 @@ returns c = let s = c .before .before .before .before .before .before .before in
     record {
       is = e;
       near = answer-within true p (t .result) still _ (c .refine .result) (c .refine .ensures .0) 0 (record { vertical = lit≤ tt; sideways = lit≤ tt });
-      few = omega (arith, ap (λ r. r .rows) e, eight-rows-most true p (tileAt level3 (a .row) (a .column)) still (eight-side (a .row) (a .column)));
+      few = omega (arith, ap (λ r. r .rows) e, eight-rows-most true p (levelTile level3 (a .row) (a .column)) still (eight-side (a .row) (a .column)));
     }
 
 pub coarsest-tile-spec : {M : Type 1} → statement M

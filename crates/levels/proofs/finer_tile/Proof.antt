@@ -1,6 +1,6 @@
 -- The reference's samples of the tile are copied once, for the candidates and for the search.
 use Rattle.search.specs.RowLaws.{sixteen-rows-most}
-use Rattle.levels.specs.Fields.{levelAt, tileAt}
+use Rattle.levels.specs.Fields.{levelAt, levelTile}
 use Rattle.levels.specs.Steps.{stepTo}
 use Rattle.matching.specs.Stored.{pairIn}
 use Rattle.matching.specs.StoredLaws.{copyable, ready}
@@ -39,7 +39,7 @@ returns c = let s = c .before .before .before .before .before .before .before in
       is = e;
       near = m .ensures .near;
       most = m .ensures .most;
-      few = omega (arith, ap (λ r. r .rows) e, sixteen-rows-most (l .squared) p (tileAt l (a .row) (a .column)) (guessFrom (a .level) (a .words .now) (a .area) (a .coarse) (tileAt l (a .row) (a .column)) (a .row) (a .column)) (finer-side (a .level) (a .row) (a .column) (s .pre .level-most)));
+      few = omega (arith, ap (λ r. r .rows) e, sixteen-rows-most (l .squared) p (levelTile l (a .row) (a .column)) (guessFrom (a .level) (a .words .now) (a .area) (a .coarse) (levelTile l (a .row) (a .column)) (a .row) (a .column)) (finer-side (a .level) (a .row) (a .column) (s .pre .level-most)));
     }
 
 pub finer-tile-spec : {M : Type 1} → statement M

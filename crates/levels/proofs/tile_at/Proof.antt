@@ -3,12 +3,12 @@ use Rattle.algebra.specs.Prelude.{_≡_, ℕ, _*_, arith, needs, ℤ}
 use Rattle.geometry.specs.Tiles.{Level, origin}
 use Rattle.residuals.specs.declared.Tile.{Tile}
 use Rattle.algebra.specs.Back.{back}
-use Rattle.levels.specs.Fields.{levelAt, tileAt}
+use Rattle.levels.specs.Fields.{levelAt, levelTile}
 use Rattle.levels.proofs.tile_at.Statement.{statement}
 use Rattle.levels.proofs.tile_at.Tie as tie
 
-made : (l : Level) (half row column : ℕ) (d r : ℤ) → half ≡ l .half → 2 * half ≡ l .side → d ≡ origin half row → r ≡ origin half column → _≡_ {A = Tile} (record { side = 2 * half; origin = record { down = d; right = r } }) (tileAt l row column)
-unfolding tileAt
+made : (l : Level) (half row column : ℕ) (d r : ℤ) → half ≡ l .half → 2 * half ≡ l .side → d ≡ origin half row → r ≡ origin half column → _≡_ {A = Tile} (record { side = 2 * half; origin = record { down = d; right = r } }) (levelTile l row column)
+unfolding levelTile
 made l half row column d r h s e f = rw (s, e, f, h)
 
 returns : tie.Need-returns

@@ -2,12 +2,12 @@
 use Rattle.algebra.specs.Prelude.{_≡_, ℕ, _+_, arith, needs}
 use lib.ListN.{length, length-append}
 use Rattle.printing.specs.Decimal.{decimal}
-use Rattle.pgm_header.specs.Header.{headerOf}
+use Rattle.pgm_header.specs.Header.{pgmHeader}
 use Rattle.pgm_header.proofs.header_length.Statement.{statement}
 use Rattle.pgm_header.proofs.header_length.Tie as tie
 
-header-long : (width height : ℕ) → length (headerOf width height) ≡ 10 + length (decimal width) + length (decimal height)
-unfolding headerOf
+header-long : (width height : ℕ) → length (pgmHeader width height) ≡ 10 + length (decimal width) + length (decimal height)
+unfolding pgmHeader
 header-long width height = simp length-append (omega arith)
 
 returns : tie.Need-returns

@@ -2,12 +2,12 @@
 use Prim.Native.Nat.{zero-le}
 use Rattle.algebra.specs.Prelude.{arith, needs}
 use Rattle.printing.specs.PutLaws.{printed-then}
-use Rattle.pgm_header.specs.Header.{headerOf}
+use Rattle.pgm_header.specs.Header.{pgmHeader}
 use Rattle.pgm_header.proofs.put_header.Statement.{statement}
 use Rattle.pgm_header.proofs.put_header.Tie as tie
 
 returns : tie.Need-returns
-unfolding headerOf
+unfolding pgmHeader
 returns c =
     let tail = c .before .before in
     let high = tail .before .before .before .before .before in

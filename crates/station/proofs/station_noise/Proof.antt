@@ -7,7 +7,7 @@ use Rattle.noise.specs.declared.Noise.the-variants.{Measured}
 use Rattle.noise.specs.declared.Levels.the-variants.{Found}
 use Rattle.noise.specs.Levels.{levelsOf, shotLevel, readLevel, strengthRefusal}
 use Rattle.noise.specs.LevelLaws.{shot-level-bound, read-level-bound, strength-most}
-use Rattle.station.specs.Station.{answered, noiseQuestion}
+use Rattle.station.specs.Station.{noiseAnswer, noiseQuestion}
 use Rattle.station.proofs.Answers.{refused, too-strong, too-bright, numbered}
 use Rattle.station.proofs.station_noise.Statement.{statement}
 use Rattle.station.proofs.station_noise.Tie as tie
@@ -18,9 +18,9 @@ bound : (c : tie.After-ls) → let a = c .before .before .before .args in
 bound c = sym (c .before .before .levels-of .ensures) ∙ c .ls .given .1
 
 asked : (c : tie.After-ls) → let a = c .before .before .before .args in
-    answered (Found (c .ls .given .0 .0) (c .ls .given .0 .1 .0)) (a .strength) (a .root) ≡ noiseQuestion (a .shot) (a .read) (a .strength) (a .root)
+    noiseAnswer (Found (c .ls .given .0 .0) (c .ls .given .0 .1 .0)) (a .strength) (a .root) ≡ noiseQuestion (a .shot) (a .read) (a .strength) (a .root)
 unfolding noiseQuestion
-asked c = let a = c .before .before .before .args in ap (λ l. answered l (a .strength) (a .root)) (sym (bound c))
+asked c = let a = c .before .before .before .args in ap (λ l. noiseAnswer l (a .strength) (a .root)) (sym (bound c))
 
 passed : (c : tie.Else1) → strengthRefusal (c .before .before .before .before .before .before .args .strength) ≡ 0
 passed c = sym (c .before .strength-refusal .ensures) ∙ c .if1 .left
@@ -51,7 +51,7 @@ returns-3 : tie.Need-returns-3
 unfolding noiseQuestion
 returns-3 c =
     let a = c .before .before .before .args in
-    refused _ _ _ ∙ ap (λ l. answered l (a .strength) (a .root)) (sym (c .enum-told .given .1) ∙ c .before .before .levels-of .ensures)
+    refused _ _ _ ∙ ap (λ l. noiseAnswer l (a .strength) (a .root)) (sym (c .enum-told .given .1) ∙ c .before .before .levels-of .ensures)
 
 returns-4 : tie.Need-returns-4
 returns-4 c =

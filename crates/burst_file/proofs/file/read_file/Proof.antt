@@ -14,8 +14,8 @@ use Rattle.file_lines.specs.Scan.{nextValues}
 use Rattle.file_head.specs.Head.{headOf, headIn}
 use Rattle.file_head.specs.declared.Head.{Head}
 use Rattle.file_head.specs.declared.Head.the-variants.{Found, Refused}
-use Rattle.burst_file.specs.Burst.{Burst}
-use Rattle.burst_file.specs.Reading.{readingInto, refusedAnswer, acceptedAnswer, answerOf, samplesAfter, FileRead}
+use Rattle.burst_file.specs.Burst.{FileBurst}
+use Rattle.burst_file.specs.Reading.{readingInto, refusedFile, acceptedFile, fileAnswer, samplesAfter, FileRead}
 use Rattle.burst_file.specs.declared.FileAnswer.{FileAnswer}
 use Rattle.burst_file.proofs.Bodies.{head-allowed, head-packed, frames-next, head-refuses, length-refuses, frames-refuse, frames-accept}
 use Rattle.burst_file.proofs.file.read_file.Statement.{statement}
@@ -37,17 +37,17 @@ sample-length-requires c κs = head-allowed _ _ _ (headed (c .before .before))
 
 module _ (file samples : List ℕ) {answer : FileAnswer} where
   -- a refusal, and the samples as they were
-  refusal : {number : ℕ} → readingInto (length samples) file ≡ refused number → answer ≡ refusedAnswer number → FileRead file samples answer samples
-  refusal e a = record { answered = a ∙ sym (ap answerOf e); stored = sym (ap (λ (p : Part Burst). samplesAfter p samples) e) }
+  refusal : {number : ℕ} → readingInto (length samples) file ≡ refused number → answer ≡ refusedFile number → FileRead file samples answer samples
+  refusal e a = record { answered = a ∙ sym (ap fileAnswer e); stored = sym (ap (λ (p : Part FileBurst). samplesAfter p samples) e) }
 
   -- acceptance, and the file's samples
-  acceptance : {burst : Burst} {rest after : List ℕ} → readingInto (length samples) file ≡ found burst rest → answer ≡ acceptedAnswer (burst .header) → after ≡ burst .samples → FileRead file samples answer after
-  acceptance e a s = record { answered = a ∙ sym (ap answerOf e); stored = s ∙ sym (ap (λ (p : Part Burst). samplesAfter p samples) e) }
+  acceptance : {burst : FileBurst} {rest after : List ℕ} → readingInto (length samples) file ≡ found burst rest → answer ≡ acceptedFile (burst .header) → after ≡ burst .samples → FileRead file samples answer after
+  acceptance e a s = record { answered = a ∙ sym (ap fileAnswer e); stored = s ∙ sym (ap (λ (p : Part FileBurst). samplesAfter p samples) e) }
 
 -- refusal 4's number
 length-number : (c : tie.After-length-refusal) →
     let start = c .before .before .before .before .before .before .before .before .before in
-    c .length-refusal .result ≡ lengthRefusal no.sampleLength (sampleLength (c .before .before .before .before .header .given .0 .0 .shape)) (length (start .args .samples .now))
+    c .length-refusal .result ≡ lengthRefusal no.wrongSampleLength (sampleLength (c .before .before .before .before .header .given .0 .0 .shape)) (length (start .args .samples .now))
 length-number c =
     let start = c .before .before .before .before .before .before .before .before .before in
     c .length-refusal .ensures ∙ ap (λ (k : ℕ). lengthRefusal 4 k (length (start .args .samples .now))) (c .before .sample-length .ensures .0)
@@ -72,7 +72,7 @@ length-right : (c : tie.Else1) →
     let start = c .before .before .before .before .before .before .before .before .before .before in
     length (start .args .samples .now) ≡ sampleLength (c .before .before .before .before .before .header .given .0 .0 .shape)
 unfolding lengthRefusal
-length-right c = eqb-true _ _ (not-false _ (refuse-not no.sampleLength _ tt (sym (length-number (c .before)) ∙ c .if1 .left)))
+length-right c = eqb-true _ _ (not-false _ (refuse-not no.wrongSampleLength _ tt (sym (length-number (c .before)) ∙ c .if1 .left)))
 
 fill-requires : tie.Need-fill-requires
 fill-requires c κs =

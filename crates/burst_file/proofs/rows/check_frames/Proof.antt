@@ -6,7 +6,7 @@ use native.Mathlib.Omega.{arith}
 use borrow.Author.Needs.{needs}
 use lib.ListN.{drop}
 use Rattle.file_lines.specs.Part.{Part, numberOf}
-use Rattle.burst_file.specs.Rows.{rows, ended, framesOf}
+use Rattle.burst_file.specs.Rows.{rowLines, ended, framesOf}
 use Rattle.burst_file.specs.Passage.{rowsIn}
 use Rattle.burst_file.specs.declared.Passage.{Passage}
 use Rattle.burst_file.specs.declared.Passage.the-variants.{Found, Refused}
@@ -29,7 +29,7 @@ unfolding framesOf
 told c passed e =
     let a = c .before .before .before .args in
     ap (λ (p : Part Unit). numberOf (ended p)) (ap (rowsIn (a .file .now)) (sym e) ∙ c .check-rows .ensures)
-    ∙ ended-briefly (rows (a .shape .count * a .shape .height) (a .shape .width) (drop (a .at) (a .file .now)))
+    ∙ ended-briefly (rowLines (a .shape .count * a .shape .height) (a .shape .width) (drop (a .at) (a .file .now)))
 
 returns : tie.Need-returns
 returns c =

@@ -5,7 +5,7 @@ use native.Mathlib.Omega.{arith}
 use borrow.Author.Needs.{needs}
 use lib.ListN.{drop}
 use Rattle.file_lines.specs.Part.{Part, _then_}
-use Rattle.burst_file.specs.Rows.{rows}
+use Rattle.burst_file.specs.Rows.{rowLines}
 use Rattle.burst_file.specs.Passage.{rowsIn, briefly}
 use Rattle.burst_file.specs.declared.Passage.{Passage}
 use Rattle.burst_file.specs.declared.Passage.the-variants.{Found, Refused}
@@ -14,7 +14,7 @@ use Rattle.burst_file.proofs.rows.check_rows.Statement.{statement}
 use Rattle.burst_file.proofs.rows.check_rows.Tie as tie
 
 abbrev Inv-loop : tie.InvT-loop
-Inv-loop file at count width left₀ i₀ left i = briefly (rows left width (drop i file)) ≡ briefly (rows count width (drop at file))
+Inv-loop file at count width left₀ i₀ left i = briefly (rowLines left width (drop i file)) ≡ briefly (rowLines count width (drop at file))
 
 abbrev μ-loop : tie.MeasureT-loop
 μ-loop file at count width left₀ i₀ left i = left
@@ -23,11 +23,11 @@ abbrev μ-loop : tie.MeasureT-loop
 stepped : (c : tie.After-check-row Inv-loop μ-loop) (passed : Passage) → c .check-row .result ≡ passed →
     let l = c .before .before .loop in
     let a = c .before .before .before .before .args in
-    (rowsIn (a .file .now) passed then (λ u rest. briefly (rows (l .left - 1) (a .width) rest))) ≡ briefly (rows (a .count) (a .width) (drop (a .at) (a .file .now)))
+    (rowsIn (a .file .now) passed then (λ u rest. briefly (rowLines (l .left - 1) (a .width) rest))) ≡ briefly (rowLines (a .count) (a .width) (drop (a .at) (a .file .now)))
 stepped c passed e =
     let l = c .before .before .loop in
     let a = c .before .before .before .before .args in
-    ap (λ (p : Part Unit). p then (λ u rest. briefly (rows (l .left - 1) (a .width) rest))) (ap (rowsIn (a .file .now)) (sym e) ∙ c .check-row .ensures)
+    ap (λ (p : Part Unit). p then (λ u rest. briefly (rowLines (l .left - 1) (a .width) rest))) (ap (rowsIn (a .file .now)) (sym e) ∙ c .check-row .ensures)
     ∙ rows-step (l .left) (a .width) (drop (l .i) (a .file .now)) (c .before .loop-test .taken) ∙ l .inv
 
 returns : tie.Need-returns Inv-loop μ-loop

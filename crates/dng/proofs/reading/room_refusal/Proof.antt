@@ -21,7 +21,7 @@ returns-2 c =
     let sized = c .before in
     let room = sized .before .before .before .args .room in
     goes _ _ (sized .before .before .frame-refusal .ensures) (sized .before .if1 .left)
-    (c .length-refusal .ensures ∙ ap (λ n. lengthRefusal no.sampleLength n room) (sized .sample-length .ensures .0) ∙ lone _)
+    (c .length-refusal .ensures ∙ ap (λ n. lengthRefusal no.wrongSampleLength n room) (sized .sample-length .ensures .0) ∙ lone _)
 
 pub room-refusal-spec : {M : Type 1} → statement M
 room-refusal-spec = tie.close (tie.spec

@@ -1,13 +1,13 @@
 -- The header of the size, put into a buffer of its own, beside the bytes.
 use Rattle.algebra.specs.Prelude.{_≡_, ap, _∙_, arith, needs, length, take}
-use Rattle.pgm_header.specs.Header.{headerOf}
+use Rattle.pgm_header.specs.Header.{pgmHeader}
 use Rattle.pgm.specs.Reading.{differs}
 use Rattle.pgm.specs.FormLaws.{printed-front}
 use Rattle.pgm.proofs.reading.header_differs.Statement.{statement}
 use Rattle.pgm.proofs.reading.header_differs.Tie as tie
 
 -- what the buffer starts with
-front : (c : tie.After-put-header) → let args = c .before .before .before .args in take (c .put-header .result) (c .put-header .last .0) ≡ headerOf (args .width) (args .height)
+front : (c : tie.After-put-header) → let args = c .before .before .before .args in take (c .put-header .result) (c .put-header .last .0) ≡ pgmHeader (args .width) (args .height)
 front c = printed-front (c .put-header .ensures .0)
 
 slice-aggregate-differs : tie.Need-slice-aggregate-differs

@@ -3,10 +3,10 @@ use Rattle.algebra.specs.Prelude.{_≡_, true, sym, ap, ap₂, _∙_, _+_, _*_,
 use Rattle.refusals.specs.AfterLaws.{kept, made}
 use Rattle.printing.specs.Decimal.{decimal}
 use Rattle.pgm.specs.declared.PgmRead.{PgmRead}
-use Rattle.pgm_header.specs.Header.{headerOf, leading}
+use Rattle.pgm_header.specs.Header.{pgmHeader, leading}
 use Rattle.pgm.specs.Form.{fileLength}
 use Rattle.pgm_samples.specs.Samples.{samplesOf}
-use Rattle.pgm.specs.Reading.{widthIn, heightIn, samplesAs, samplesIn, formed, refusalAs, readRefusal, refusedAnswer, acceptedAnswer, answered}
+use Rattle.pgm.specs.Reading.{widthIn, heightIn, samplesAs, samplesIn, formed, refusalAs, readRefusal, refusedPgm, acceptedPgm, pgmAnswer}
 use Rattle.pgm.specs.FormLaws.{area-whole}
 use Rattle.pgm.specs.HeaderLaws.{form-sized, form-long}
 use Rattle.pgm.specs.Acceptance.{readable, sound}
@@ -33,12 +33,12 @@ number-is c =
     c .read-refusal .ensures ∙ ap₂ (λ w h. refusalAs w h (args .bytes .now) (length (args .frame .now))) (width-is (c .before)) (height-is (c .before))
 
 returns : tie.Need-returns
-unfolding answered
+unfolding pgmAnswer
 returns c =
     let e = number-is (c .before .before) in
     let h = c .before .if1 .taken in
     record {
-      answer = c .refused .ensures ∙ ap refusedAnswer e ∙ kept _ _ _ e h;
+      answer = c .refused .ensures ∙ ap refusedPgm e ∙ kept _ _ _ e h;
       stored = kept _ _ _ e h;
       file = λ z. absurd (h (sym (ap (λ (r : PgmRead). r .refusal) (c .refused .ensures)) ∙ z));
     }
@@ -59,7 +59,7 @@ fill-requires c κs =
     (omega (arith, form-long _ _ _ (fit .0), fit .1), ap (λ n. n % 64) (fit .1) ∙ area-whole (form-sized _ _ _ (fit .0)))
 
 returns-2 : tie.Need-returns-2
-unfolding answered samplesIn samplesAs
+unfolding pgmAnswer samplesIn samplesAs
 returns-2 c =
     let filled = c .before .before in
     let started = filled .before .before in
@@ -72,9 +72,9 @@ returns-2 c =
     let z = tested .if1 .left in
     let stored =
     filled .fill .ensures
-    ∙ ap (λ n. samplesOf (drop n bytes)) (started .header-length .ensures .0 ∙ ap₂ (λ w h. length (headerOf w h)) (width-is sized) (height-is sized)) in
+    ∙ ap (λ n. samplesOf (drop n bytes)) (started .header-length .ensures .0 ∙ ap₂ (λ w h. length (pgmHeader w h)) (width-is sized) (height-is sized)) in
     record {
-      answer = made _ _ _ e z (ap₂ acceptedAnswer (width-is sized) (height-is sized));
+      answer = made _ _ _ e z (ap₂ acceptedPgm (width-is sized) (height-is sized));
       stored = made _ _ _ e z stored;
       file = λ _.
           rw (width-is sized, height-is sized, stored)

@@ -1,7 +1,7 @@
 -- The size, then the two lengths, then the samples.
 use Rattle.algebra.specs.Prelude.{_≡_, true, not, sym, ap, ap₂, _∙_, [], _∷_, _*_, arith, needs, length}
 use borrow.Author.Tests.{not-true, not-false}
-use Rattle.refusals.specs.Numbers.{size, outputLength, byteLength}
+use Rattle.refusals.specs.Numbers.{size, wrongOutputLength, byteLength}
 use Rattle.refusals.specs.Tests.{refuse, first}
 use Rattle.refusals.specs.TestLaws.{stops, goes, lone}
 use Rattle.geometry.specs.Shape.{lengthRefusal}
@@ -28,7 +28,7 @@ lengths : (c : tie.After-first) →
     c .first .result ≡
     first
     (refuse size (not (sizesAllowed (args .width) (args .height)))
-    ∷ lengthRefusal outputLength (args .width * args .height) (length (args .frame .now))
+    ∷ lengthRefusal wrongOutputLength (args .width * args .height) (length (args .frame .now))
     ∷ lengthRefusal byteLength (fileLength (args .width) (args .height)) (length (args .bytes .now))
     ∷ [])
 unfolding first

@@ -6,14 +6,14 @@ use native.Mathlib.Numerals.{add-one}
 use mathlib.Core.Path.{_≡_}
 use Prim.Native.Nat.{ℕ, _+_, _-_, _*_, _≤_, _<_}
 use lib.ListN.{drop}
-use Rattle.printing.specs.Lines.{frameRows}
+use Rattle.printing.specs.Lines.{sampleRows}
 use Rattle.printing.specs.LineLaws.{rows-next}
 use Rattle.printing.specs.Printing.{Printing, printing-start, printing-turn, printing-done}
 use Rattle.printing.proofs.lines.put_rows.Statement.{statement}
 use Rattle.printing.proofs.lines.put_rows.Tie as tie
 
 abbrev Inv-loop : tie.InvT-loop
-Inv-loop text₀ at samples width height next₀ row₀ text next row = (Printing text₀ at (frameRows width height samples) (frameRows width (height - row) (drop (row * width) samples)) text next) × (row ≤ height) × (next ≤ at + 6 * (row * width))
+Inv-loop text₀ at samples width height next₀ row₀ text next row = (Printing text₀ at (sampleRows width height samples) (sampleRows width (height - row) (drop (row * width) samples)) text next) × (row ≤ height) × (next ≤ at + 6 * (row * width))
 
 abbrev μ-loop : tie.MeasureT-loop
 μ-loop text₀ at samples width height next₀ row₀ text next row = height - row
@@ -43,7 +43,7 @@ loop-again c =
     (printing-turn (at-loop .loop .inv .0) (rows-next width (start .args .height) (start .args .samples .now) row (omega arith)) (call .ensures .0), omega arith, rw row-after (omega arith))
 
 returns : tie.Need-returns Inv-loop μ-loop
-unfolding frameRows
+unfolding sampleRows
 returns c =
     let at-loop = c .before in
     let start = at-loop .before .before .before in

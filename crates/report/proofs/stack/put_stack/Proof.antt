@@ -1,16 +1,16 @@
 -- `report::stack::put_stack`: what is printed is the frame that the run left in the output.
 use Rattle.algebra.specs.Prelude.{_≡_, sym, ap, ap₂, _∙_, List, ℕ, needs}
 use Rattle.file_head.specs.declared.Header.{Header}
-use Rattle.report.specs.Program.{side}
+use Rattle.report.specs.Program.{programSide}
 use Rattle.report.specs.Stack.{frameText, frameOf, stackOf}
 use Rattle.report.specs.Inner.{burstOf, Taken}
 use Rattle.report.proofs.stack.put_stack.Statement.{statement}
 use Rattle.report.proofs.stack.put_stack.Tie as tie
 
-merged-text : {header : Header} {samples output : List ℕ} → Taken header samples → output ≡ frameOf (burstOf header samples) → frameText side side output ≡ stackOf (burstOf header samples)
+merged-text : {header : Header} {samples output : List ℕ} → Taken header samples → output ≡ frameOf (burstOf header samples) → frameText programSide programSide output ≡ stackOf (burstOf header samples)
 unfolding stackOf
 merged-text {header} {samples} {output} t e =
-    ap (frameText side side) e ∙ ap₂ (λ w h. frameText w h (frameOf (burstOf header samples))) (sym (t .wide)) (sym (t .high))
+    ap (frameText programSide programSide) e ∙ ap₂ (λ w h. frameText w h (frameOf (burstOf header samples))) (sym (t .wide)) (sym (t .high))
 
 returns : tie.Need-returns
 returns c =

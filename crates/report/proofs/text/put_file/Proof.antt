@@ -1,7 +1,7 @@
 -- `report::text::put_file`: what was opened decides what is printed.
 use Rattle.algebra.specs.Prelude.{_≡_, sym, subst, List, ℕ, arith, needs}
 use lib.Seq.{length-take-le}
-use Rattle.burst_file.specs.Burst.{Burst}
+use Rattle.burst_file.specs.Burst.{FileBurst}
 use Rattle.report.specs.declared.opening.Opened.{Opened}
 use Rattle.report.specs.declared.opening.Opened.the-variants.{TooLarge, Refused, Taken}
 use Rattle.report.specs.Inner.{Opens, printedBy}
@@ -9,7 +9,7 @@ use Rattle.report.proofs.text.put_file.Statement.{statement}
 use Rattle.report.proofs.text.put_file.Tie as tie
 
 -- what the program prints for a burst
-abbrev printer : tie.After-open-file → Burst → List ℕ
+abbrev printer : tie.After-open-file → FileBurst → List ℕ
 printer c = printedBy (c .before .before .before .before .before .args .program)
 
 -- where `opened` was found
