@@ -31,13 +31,15 @@ pub fn forward_into(d: &[[i16; 32]; 16], b: &mut [[f64; 32]; 16])
     rows::rows(&a, &mut *b);
 }
 
-// The same by value.
+// The same by value, for the merge: with one caller it is compiled into it, and neither tile is zeroed or copied for the call.
 fn forward(d: [[i16; 32]; 16]) -> [[f64; 32]; 16]
     requires { ⌜ TileMost differenceMost d ⌝ }
     ensures { λ r. ⌜ r ≡ doubles (sideBySide (λ p. transposed (twoWay (planeIn (cell (pos 0) d) p)))) ⌝ }
 {
+    let mut a = [[0i32; 32]; 16];
+    columns::forward(&d, &mut a);
     let mut b = [[0.0f64; 32]; 16];
-    forward_into(&d, &mut b);
+    rows::rows(&a, &mut b);
     b
 }
 
@@ -64,12 +66,13 @@ pub fn add_inverse_of(g: &mut [[f64; 32]; 16], low: bool, sum: &mut [[i64; 32]; 
     rows_back::add_back(&*g, low, &mut *sum);
 }
 
-// The same from G by value.
+// The same from G by value, for the merge as `forward`.
 fn add_inverse(mut g: [[f64; 32]; 16], low: bool, sum: &mut [[i64; 32]; 16])
     requires { ⌜ record { whole : InDouble (foldMost low) g; sums-most : TileMost (2 ^ 40) (now sum); paired : Paired (pos 0) (now sum) } ⌝ }
     ensures { λ _. ⌜ ((w : InDouble (foldMost low) g) → now (sum .exit) ≡ grid 16 32 (λ y l. cell (pos 0) (now (sum .entry)) y l +ℤ away (backSum (transposed (planeIn (w .number) (l % 2))) y (l / 2)) (2 ^ 32))) ⌝ }
 {
-    add_inverse_of(&mut g, low, &mut *sum);
+    columns_back::back(&mut g);
+    rows_back::add_back(&g, low, &mut *sum);
 }
 
 // P of both planes of a pair of tiles of differences, at their noise numbers, is added to their sums.
