@@ -36,18 +36,21 @@ void output_end(FILE *file)
         fail(WRONG, "%s: %s", outputs[made - 1].path, strerror(errno));
 }
 
-static void removed(void)
+/* what has been made goes, and so does what stands under another name: for a run that ends early */
+void outputs_dropped(void)
 {
-    for (int i = 0; i < made; i++)
+    for (int i = 0; i < made; i++) {
         if (outputs[i].temporary != NULL)
             unlink(outputs[i].temporary);
+        free(outputs[i].temporary);
+        outputs[i].temporary = NULL;
+    }
+    made = 0;
 }
 
 static void failed(const char *path)
 {
-    int error = errno;
-    removed();
-    fail(WRONG, "%s: %s", path, strerror(error));
+    fail(WRONG, "%s: %s", path, strerror(errno));
 }
 
 static void poured(const output *o, FILE *file)

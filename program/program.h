@@ -93,6 +93,7 @@ void progress_end(void);
 FILE *output_begin(const char *path);
 void output_end(FILE *file);
 void outputs_written(char **inputs, int count);
+void outputs_dropped(void);
 int ends_in(const char *path, const char *ending);
 
 /* unproved.c */

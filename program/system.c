@@ -20,6 +20,7 @@ void fail(int status, const char *format, ...)
     vfprintf(stderr, format, arguments);
     va_end(arguments);
     fputc('\n', stderr);
+    outputs_dropped();
     exit(status);
 }
 

@@ -1,18 +1,25 @@
-/* Damages files and runs the program on each in a process of its own: damaged COUNT SEED DIRECTORY GOOD FILE... GOOD is a frame that stays whole and goes
-   along in some runs; DIRECTORY takes what is written. Prints how the runs ended. It stops at one that ends by a signal, a sanitizer or a status
-   that the program does not have, and at one that was refused and has written something: damaged.log in DIRECTORY says why. */
-#define _XOPEN_SOURCE 700
+/* Damages files and runs the program on each: damaged COUNT SEED DIRECTORY GOOD FILE... GOOD is a frame that stays whole and goes along in some runs;
+   DIRECTORY takes what is written. Prints how the runs ended. It stops at one that ends by a signal, a sanitizer or a status that the program does not
+   have, and at one that was refused and has written something: damaged.log in DIRECTORY says why, and `file` is what was read.
+
+   The program's main has the name stacker_main, and its exit comes back here: some files go through each process, as starting one takes longer. */
+#define _GNU_SOURCE
 #include <fcntl.h>
+#include <getopt.h>
+#include <setjmp.h>
 #include <stdint.h>
 #include <stdio.h>
 #include <stdlib.h>
 #include <string.h>
+#include <sys/mman.h>
 #include <sys/wait.h>
 #include <unistd.h>
 
 int stacker_main(int argc, char **argv);
+void stacker_exit(int status);
+extern int quiet;
 
-enum { FILES_MOST = 16, WORDS_MOST = 16, RUNS = 10, STATUSES = 4 };
+enum { FILES_MOST = 16, WORDS_MOST = 16, RUNS = 10, STATUSES = 4, BATCH = 50 };
 
 typedef struct {
     uint8_t *bytes;
@@ -102,15 +109,32 @@ static const char *const runs[RUNS][WORDS_MOST] = {
     { "stacker", "calibrate", "F", "G", "G", "F" },
 };
 
-static void child(const char *const *words, char *good)
+static jmp_buf back;
+
+void stacker_exit(int status)
 {
-    char *arguments[WORDS_MOST + 1] = { 0 };
-    int count = 0, log = open("damaged.log", O_CREAT | O_TRUNC | O_WRONLY, 0666), none = open("/dev/null", O_WRONLY);
-    dup2(none, 1);
-    dup2(log, 2);
+    longjmp(back, status + 1);
+}
+
+static char *arguments[WORDS_MOST + 1];
+
+static int filled_in(const char *const *words, char *good)
+{
+    static char file[] = "file";
+    int count = 0;
     for (; count < WORDS_MOST && words[count] != NULL; count++)
-        arguments[count] = strcmp(words[count], "G") == 0 ? good : strdup(strcmp(words[count], "F") == 0 ? "file" : words[count]);
-    exit(stacker_main(count, arguments));
+        arguments[count] = strcmp(words[count], "G") == 0 ? good : strcmp(words[count], "F") == 0 ? file : (char *)(uintptr_t)words[count];
+    arguments[count] = NULL;
+    return count;
+}
+
+/* the status of one run of the program in this process */
+static int run(int count)
+{
+    optind = 0;
+    quiet = 0;
+    int ended = setjmp(back);
+    return ended == 0 ? stacker_main(count, arguments) : ended - 1;
 }
 
 static int written(void)
@@ -122,43 +146,65 @@ static int written(void)
     return some;
 }
 
-/* the status of one run, or -1 */
-static int run(int kind, char *good)
+typedef struct {
+    content whole[FILES_MOST];
+    uint64_t files;
+    char *good;
+    uint64_t *ended; /* by status; shared between processes */
+} plan;
+
+/* some files in a process of its own */
+static void batch(const plan *p, uint64_t count)
+{
+    int log = open("damaged.log", O_CREAT | O_TRUNC | O_WRONLY, 0666), none = open("/dev/null", O_WRONLY);
+    dup2(none, 1);
+    dup2(log, 2);
+    for (uint64_t i = 0; i < count; i++) {
+        write_damaged("file", p->whole[random_below(p->files)]);
+        int status = run(filled_in(runs[random_below(RUNS)], p->good)), some = written();
+        if (status < 0 || status >= STATUSES || ((status == 1 || status == 2) && some))
+            _exit(1);
+        p->ended[status]++;
+    }
+    _exit(0);
+}
+
+/* whether a batch ended as it should */
+static int passes(const plan *p, uint64_t count)
 {
     int status;
     pid_t process = fork();
     if (process == 0)
-        child(runs[kind], good);
-    if (process < 0 || waitpid(process, &status, 0) != process || !WIFEXITED(status) || WEXITSTATUS(status) >= STATUSES)
-        return -1;
-    int refused = WEXITSTATUS(status) == 1 || WEXITSTATUS(status) == 2, some = written();
-    return refused && some ? -1 : WEXITSTATUS(status);
+        batch(p, count);
+    return process > 0 && waitpid(process, &status, 0) == process && WIFEXITED(status) && WEXITSTATUS(status) == 0;
+}
+
+static plan planned(int argc, char **argv)
+{
+    plan p = { .files = 0 };
+    for (int i = 5; i < argc && i < 5 + FILES_MOST; i++)
+        p.whole[p.files++] = read_whole(argv[i]);
+    p.good = realpath(argv[4], NULL);
+    p.ended = mmap(NULL, STATUSES * sizeof *p.ended, PROT_READ | PROT_WRITE, MAP_SHARED | MAP_ANONYMOUS, -1, 0);
+    if (p.good == NULL || p.ended == MAP_FAILED || chdir(argv[3]) != 0)
+        exit(2);
+    return p;
 }
 
 int main(int argc, char **argv)
 {
-    content whole[FILES_MOST];
-    uint64_t ended[STATUSES] = { 0 };
-    int files = argc - 5;
-    if (files < 1 || files > FILES_MOST)
+    if (argc < 6)
         return 2;
-    for (int i = 0; i < files; i++)
-        whole[i] = read_whole(argv[5 + i]);
-    state = strtoull(argv[2], NULL, 10);
-    char *good = realpath(argv[4], NULL);
-    if (good == NULL || chdir(argv[3]) != 0)
-        return 2;
-    uint64_t count = strtoull(argv[1], NULL, 10);
-    for (uint64_t i = 0; i < count; i++) {
-        write_damaged("file", whole[random_below((uint64_t)files)]);
-        int kind = (int)random_below(RUNS), status = run(kind, good);
-        if (status < 0) {
-            printf("damaged: file %llu of seed %s, run %d: see %s/damaged.log\n", (unsigned long long)i, argv[2], kind, argv[3]);
+    plan p = planned(argc, argv);
+    uint64_t count = strtoull(argv[1], NULL, 10), seed = strtoull(argv[2], NULL, 10);
+    for (uint64_t done = 0; done < count; done += BATCH) {
+        state = seed << 32 | done;
+        if (!passes(&p, count - done < BATCH ? count - done : BATCH)) {
+            printf("damaged: a fault among the files from %llu on: see %s/damaged.log\n", (unsigned long long)done, argv[3]);
             return 1;
         }
-        ended[status]++;
     }
     printf("damaged: %llu files: %llu done, %llu refused, %llu wrong usage or file, %llu with lifted tiles; no fault\n", (unsigned long long)count,
-        (unsigned long long)ended[0], (unsigned long long)ended[1], (unsigned long long)ended[2], (unsigned long long)ended[3]);
+        (unsigned long long)p.ended[0], (unsigned long long)p.ended[1], (unsigned long long)p.ended[2], (unsigned long long)p.ended[3]);
     return 0;
 }
