@@ -73,6 +73,8 @@ content read_whole(const char *path)
         fail(WRONG, "%s: %s", path, strerror(errno));
     if (from != stdin)
         fclose(from);
+    uint8_t *fitting = realloc(file.bytes, file.length + (file.length == 0)); /* no room behind the file: a sanitizer sees what reads past it */
+    file.bytes = fitting != NULL ? fitting : file.bytes;
     return file;
 }
 
