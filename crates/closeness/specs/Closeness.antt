@@ -27,7 +27,7 @@ abbrev pub tileError : Side → ℕ → ℕ
 tileError s most = 3 * (s .side * s .side * most) + s .divisor
 
 module _ {s : Side} {most w : ℕ} (t : Fitting s most w) where
-  twiddle : (y x u v : ℕ) → natAbs (twiddleRe s y x u v) + natAbs (twiddleIm s y x u v) ≤ most
+  pub twiddle : (y x u v : ℕ) → natAbs (twiddleRe s y x u v) + natAbs (twiddleIm s y x u v) ≤ most
   unfolding twiddleRe twiddleIm cosAt sinAt
   twiddle y x u v =
       t .twiddle-small ((u * y) % s .side) ((v * x) % s .side) (mod-lt (u * y) (s .side-above)) (mod-lt (v * x) (s .side-above))

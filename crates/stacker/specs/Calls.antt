@@ -10,6 +10,7 @@ use Rattle.alignment.specs.Rows.{rowsSummed}
 use Rattle.recipe.specs.Scene.{Scene, sceneOf}
 use Rattle.recipe.specs.Merged.{merged}
 use Rattle.recipe.specs.ExactMerge.{exactAt}
+use Rattle.ceiling.specs.Leak.{largestOver, leak, UnderCeiling}
 use Rattle.stacker.specs.declared.Alignment.{Alignment}
 use Rattle.recipe.specs.declared.Tuning.{Tuning}
 use Rattle.admission.specs.Refusals.{alignRefusal, runRefusal, mergeRefusal, mergeOf}
@@ -27,6 +28,14 @@ answered number sums rows = record { refusal = number; residuals = after number 
 pub record Close (scene : Scene) (output : List ℕ) : Type 0 where
   pub close : (k : ℕ) → k < scene .width * scene .height → Within 5 8 (whole (pos (getD output k 0))) (exactAt scene (k / scene .width) (k % scene .width))
 
+-- Request L11: "a merged sample differs from the reference sample by at most one step plus half the square root of the largest noise number (in squared
+-- samples) of the four tiles over it"
+pub record Capped (scene : Scene) (output : List ℕ) : Type 0 where
+  pub capped : (k : ℕ) → k < scene .width * scene .height →
+      let row = k / scene .width in
+      let column = k % scene .width in
+      UnderCeiling (scene .side) (leak (pos (getD output k 0)) (pos (scene .reference row column))) (largestOver scene row column)
+
 -- align: "burst to vectors"
 pub record Aligned (s : Shape) (reference : ℕ) (samples : List ℕ) (vectors vectors′ work work′ : List ℤ) (r : Alignment) : Type 0 where
   pub answer : r ≡ answered (alignRefusal s reference samples vectors work) (residualSums s reference samples) (rowsSummed s reference samples)
@@ -39,6 +48,7 @@ pub record Merged (s : Shape) (reference : ℕ) (noise : Noise) (tuning : Tuning
   pub result : output′ ≡ after (mergeRefusal s reference noise tuning samples vectors output work) output (merged (sceneOf (mergeOf s reference noise tuning) samples vectors))
   pub clean : work′ ≡ after (mergeRefusal s reference noise tuning samples vectors output work) work (zeros work)
   pub near : number ≡ 0 → Close (sceneOf (mergeOf s reference noise tuning) samples vectors) output′
+  pub ceiling : number ≡ 0 → Capped (sceneOf (mergeOf s reference noise tuning) samples vectors) output′
 
 -- run: "align, then merge"
 pub record Ran (s : Shape) (reference : ℕ) (noise : Noise) (tuning : Tuning) (samples : List ℕ) (vectors vectors′ : List ℤ) (output output′ : List ℕ) (work work′ : List ℤ) (r : Alignment) : Type 0 where
@@ -47,3 +57,4 @@ pub record Ran (s : Shape) (reference : ℕ) (noise : Noise) (tuning : Tuning) (
   pub result : output′ ≡ after (runRefusal s reference noise tuning samples vectors output work) output (merged (sceneOf (mergeOf s reference noise tuning) samples (alignedVectors s reference samples)))
   pub clean : work′ ≡ after (runRefusal s reference noise tuning samples vectors output work) work (zeros work)
   pub near : r .refusal ≡ 0 → Close (sceneOf (mergeOf s reference noise tuning) samples vectors′) output′
+  pub ceiling : r .refusal ≡ 0 → Capped (sceneOf (mergeOf s reference noise tuning) samples vectors′) output′

@@ -15,6 +15,7 @@ use Rattle.admission.specs.Admission.{RunTested}
 use Rattle.stacker.specs.AdmissionLaws.{run-passed}
 use Rattle.stacker.specs.CallLaws.{answer-refused, answer-accepted}
 use Rattle.stacker.specs.CloseLaws.{found-close}
+use Rattle.stacker.specs.CeilingLaws.{found-capped}
 use Rattle.admission.specs.Refusals.{runRefusal}
 use Rattle.stacker.specs.Calls.{noSums, Ran}
 
@@ -33,6 +34,7 @@ module _ {s : Shape} {reference : ℕ} {noise : Noise} {tuning : Tuning} {sample
         result = kept _ _ _ e h;
         clean = kept _ _ _ e h;
         near = λ z. absurd (h z);
+        ceiling = λ z. absurd (h z);
       }
 
   module _ (z : tested .refusal ≡ 0) where
@@ -59,4 +61,5 @@ module _ {s : Shape} {reference : ℕ} {noise : Noise} {tuning : Tuning} {sample
           result = made _ _ _ e z result;
           clean = made _ _ _ e z (is .clean);
           near = λ _. found-close _ _ _ _ _ (runnable .fits .burst .allowed .few) (is .found) result;
+          ceiling = λ _. found-capped _ _ (runnable .fits .burst) (runnable .samples-fit) _ _ _ (is .found) result;
         }

@@ -9,6 +9,7 @@ use Rattle.admission.specs.Refusals.{mergeRefusal}
 use Rattle.refusals.specs.AfterLaws.{kept, made}
 use Rattle.stacker.specs.AdmissionLaws.{run-passed}
 use Rattle.stacker.specs.CloseLaws.{output-close}
+use Rattle.stacker.specs.CeilingLaws.{output-capped}
 use Rattle.stacker.proofs.merge.merge.Statement.{statement}
 use Rattle.stacker.proofs.merge.merge.Tie as tie
 
@@ -17,7 +18,7 @@ unfolding mergeRefusal
 returns c =
     let h = c .if1 .taken in
     let e = stops _ _ (c .before .before .run-refusal .ensures .number) h in
-    record { answer = e; result = kept _ _ _ e h; clean = kept _ _ _ e h; near = λ z. absurd (h z) }
+    record { answer = e; result = kept _ _ _ e h; clean = kept _ _ _ e h; near = λ z. absurd (h z); ceiling = λ z. absurd (h z) }
 
 returns-2 : tie.Need-returns-2
 unfolding mergeRefusal
@@ -25,7 +26,7 @@ returns-2 c =
     let h = c .if2 .taken in
     let passed = c .before .before in
     let e = goes _ _ (passed .before .before .run-refusal .ensures .number) (passed .if1 .left) (c .before .vector-refusal .ensures ∙ lone _) in
-    record { answer = e; result = kept _ _ _ e h; clean = kept _ _ _ e h; near = λ z. absurd (h z) }
+    record { answer = e; result = kept _ _ _ e h; clean = kept _ _ _ e h; near = λ z. absurd (h z); ceiling = λ z. absurd (h z) }
 
 merge-frames-requires : tie.Need-merge-frames-requires
 merge-frames-requires c κs =
@@ -58,11 +59,13 @@ returns-3 c =
     let z = passed .if1 .left in
     let e = goes _ _ (tested .number) z (lent .before .vector-refusal .ensures ∙ lone _) in
     let is = merge .merge-frames .ensures ∙ ap₂ (λ shot read. merged (sceneOf (record { shape = a .shape; reference = a .reference; shot = shot; read = read; tuning = a .tuning }) (a .samples .now) (a .vectors .now))) (tested .shot-is z) (tested .read-is z) in
+    let ready = run-passed _ _ _ _ _ _ _ _ (sym (tested .number) ∙ z) in
     record {
       answer = sym (lent .if2 .left) ∙ e;
       result = made _ _ _ e (lent .if2 .left) is;
       clean = made _ _ _ e (lent .if2 .left) (c .before .clear .ensures ∙ zeros-length _ _ (search needs));
-      near = λ _. output-close _ _ _ _ (run-passed _ _ _ _ _ _ _ _ (sym (tested .number) ∙ z) .fits .burst .allowed .few) is;
+      near = λ _. output-close _ _ _ _ (ready .fits .burst .allowed .few) is;
+      ceiling = λ _. output-capped _ _ (ready .fits .burst) (ready .samples-fit) _ _ is;
     }
 
 pub merge-spec : {M : Type 1} → statement M
