@@ -1,15 +1,15 @@
 -- The recipe is close to the exact merge, on one tile and at one sample, for any side whose tables and scales fit together.
-use Rattle.algebra.specs.Prelude.{_≡_, sym, ap, subst, _∙_, ℕ, suc, _+_, _*_, _%_, _≤_, _<_, arith, lit<, ℤ, pos, natAbs, _+ℤ_, _-ℤ_, _*ℤ_}
+use Rattle.algebra.specs.Prelude.{_≡_, sym, _∙_, ap, subst, ℕ, suc, _+_, _*_, _%_, _≤_, _<_, arith, lit<, ℤ, pos, natAbs, _+ℤ_, _-ℤ_, _*ℤ_}
 use native.Mathlib.Nat.{mul-pos, mul-le-mul-left, mod-lt, one-mul}
 use Rattle.algebra.specs.Sums.{sumZ}
 use Rattle.algebra.specs.SumLaws.{sumN-scale}
 use Rattle.algebra.specs.NearestLaws.{away-rounds, upward-rounds}
-use Rattle.algebra.specs.Fraction.{Frac, frac, whole, _-F_, _·F_, over, sumF, Within}
+use Rattle.algebra.specs.Fraction.{Frac, frac, whole, _-F_, over, sumF, Within}
 use Rattle.algebra.specs.FractionLaws.{Near, near-sub, near-scale, near-sum, near-sums, near-mono, near-over, near-rounds, near-whole, near-held, near-one, near-frac}
 use Rattle.recipe.specs.Side.{Side, cosAt, sinAt}
 use Rattle.recipe.specs.Correction.{binRe, binIm, twiddleRe, twiddleIm, inverseRe, inverseAt, correctionAt}
-use Rattle.recipe.specs.Output.{rowIn, columnIn, weightIn, outputSample}
-use Rattle.recipe.specs.Exact.{exactInverseRe, exactInverseAt, exactCorrectionAt, exactSample}
+use Rattle.recipe.specs.Output.{rowIn, columnIn, weightIn, rounded, outputSample}
+use Rattle.recipe.specs.Exact.{exactInverseRe, exactInverseAt, exactCorrectionAt, unrounded, exactSample}
 use Rattle.closeness.specs.Bins.{bin-near}
 use Rattle.closeness.specs.Windows.{four-windows}
 
@@ -49,7 +49,7 @@ module _ {s : Side} {most w : ℕ} (t : Fitting s most w) where
         (away-rounds (inverseRe s g h y x) (s .divisor) (s .divisor-above)))
 
   module _ (noise : ℕ) (d : ℕ → ℕ → ℤ) (y x : ℕ) where
-    tile-near : Near (tileError s most) (2 * s .divisor) (correctionAt s noise d y x) (pos 256) (exactCorrectionAt s noise d y x)
+    pub tile-near : Near (tileError s most) (2 * s .divisor) (correctionAt s noise d y x) (pos 256) (exactCorrectionAt s noise d y x)
     unfolding correctionAt exactCorrectionAt
     tile-near =
         let bin : (b c : ℤ) → Near 3 2 _ (pos (s .parts)) _ = bin-near s (s .quantum-above) (t .scale-is) noise in
@@ -59,43 +59,34 @@ module _ {s : Side} {most w : ℕ} (t : Fitting s most w) where
     pub tile-within : Within (tileError s most) (2 * s .divisor * 256) (frac (correctionAt s noise d y x) 256 (lit< tt)) (exactCorrectionAt s noise d y x)
     tile-within = near-frac (lit< tt) tile-near
 
-  -- one sample: tiles at row a and column b of the half step, `others` other frames
-  module _ (a b others : ℕ) (noise : ℕ → ℕ) (d : ℕ → ℕ → ℕ → ℕ → ℤ) (t0 : ℤ) (k : a < s .half) (l : b < s .half) where
-    abbrev P : ℕ → ℕ → ℤ
-    P t z = correctionAt s (noise t) (d t z) (rowIn s a t) (columnIn s b t)
-
-    abbrev p : ℕ → ℕ → Frac
-    p t z = exactCorrectionAt s (noise t) (d t z) (rowIn s a t) (columnIn s b t)
-
-    abbrev e : ℕ
-    e = tileError s most
-
-    abbrev sumP : ℤ
-    sumP = sumZ 4 (λ t. sumZ others (λ z. pos (weightIn s a b t) *ℤ P t z))
-
-    abbrev sump : Frac
-    sump = sumF 4 (λ t. sumF others (λ z. pos (weightIn s a b t) ·F p t z))
-
-    windows-near : Near (others * e * s .weight) (2 * s .divisor) sumP (pos 256) sump
+  -- one sample: tiles at row a and column b of the half step. Tile t puts P t, within e·w·w'/f of 256 times what it puts to the exact sum
+  module _ (a b others e f : ℕ) (P : ℕ → ℤ) (p : ℕ → Frac) (t0 : ℤ) (k : a < s .half) (l : b < s .half) (f-above : 0 < f) (h : (i : ℕ) → i < 4 → Near (e * weightIn s a b i) f (P i) (pos 256) (p i)) where
+    windows-near : Near (e * s .weight) f (sumZ 4 P) (pos 256) (sumF 4 p)
     windows-near =
-        subst (λ m. Near m (2 * s .divisor) sumP (pos 256) sump) (sumN-scale 4 (others * e) (weightIn s a b) ∙ ap (λ m. others * e * m) (four-windows s w (t .window-halves) a b k l ∙ t .weight-is))
-        (near-sum 4 (λ t. others * e * weightIn s a b t) _ _
-        (λ i j. near-mono d-above (omega arith) (near-sums others _ _ (λ z m. near-scale (pos (weightIn s a b i)) (tile-near (noise i) (d i z) (rowIn s a i) (columnIn s b i))))))
-      where
-        d-above : 0 < 2 * s .divisor
-        d-above = mul-pos {m = 2} (lit< tt) (s .divisor-above)
+        subst (λ m. Near m f (sumZ 4 P) (pos 256) (sumF 4 p)) (sumN-scale 4 e (weightIn s a b) ∙ ap (λ m. e * m) (four-windows s w (t .window-halves) a b k l ∙ t .weight-is))
+        (near-sum 4 (λ t. e * weightIn s a b t) P p h)
 
-    -- m/n is at least 1/2 + (N − 1)/N·tileError/(512·divisor)
-    pub sample-within : (m n : ℕ) → n * (others * e + 128 * (2 * s .divisor * suc others)) ≤ m * (256 * (2 * s .divisor * suc others)) → Within m n (whole (outputSample s a b others noise d t0)) (exactSample s a b others noise d t0)
-    unfolding outputSample exactSample
-    sample-within m n i =
+    -- m/n is at least 1/2 + e/(256·f·N)
+    pub rounded-within : (m n : ℕ) → n * (e + 128 * (f * suc others)) ≤ m * (256 * (f * suc others)) → Within m n (whole (rounded s others P t0)) (unrounded s others p t0)
+    rounded-within m n i =
         near-one
         (near-held 4095
-        (near-mono (mul-pos {m = 2} (lit< tt) (mul-pos {m = 2 * s .divisor} (mul-pos {m = 2} (lit< tt) (s .divisor-above)) above)) (omega (arith, mul-le-mul-left (2 * s .weight) i))
+        (near-mono (mul-pos {m = 2} (lit< tt) (mul-pos f-above above)) (omega (arith, mul-le-mul-left (2 * s .weight) i))
         (near-rounds
-        (subst (λ k. Near (0 + others * e * s .weight) (2 * s .divisor) (t0 *ℤ pos (256 * (s .weight * suc others)) -ℤ sumP) (pos k) (whole t0 -F over sump (s .weight * suc others) (mul-pos (s .weight-above) (omega arith)))) (sym (one-mul (256 * (s .weight * suc others))))
-        (near-sub (near-whole (2 * s .divisor) (256 * (s .weight * suc others)) t0) (near-over (s .weight * suc others) (mul-pos (s .weight-above) (omega arith)) windows-near)))
+        (subst (λ k. Near (0 + e * s .weight) f (t0 *ℤ pos (256 * (s .weight * suc others)) -ℤ sumZ 4 P) (pos k) (whole t0 -F over (sumF 4 p) (s .weight * suc others) (mul-pos (s .weight-above) (omega arith)))) (sym (one-mul (256 * (s .weight * suc others))))
+        (near-sub (near-whole f (256 * (s .weight * suc others)) t0) (near-over (s .weight * suc others) (mul-pos (s .weight-above) (omega arith)) windows-near)))
         (upward-rounds _ (256 * (s .weight * suc others)) above))))
       where
         above : 0 < 256 * (s .weight * suc others)
         above = mul-pos {m = 256} (lit< tt) (mul-pos (s .weight-above) (omega arith))
+
+  -- the base's sample, with `others` other frames: m/n is at least 1/2 + (N − 1)/N·tileError/(512·divisor)
+  pub sample-within : (a b others : ℕ) (noise : ℕ → ℕ) (d : ℕ → ℕ → ℕ → ℕ → ℤ) (t0 : ℤ) → a < s .half → b < s .half → (m n : ℕ) →
+      n * (others * tileError s most + 128 * (2 * s .divisor * suc others)) ≤ m * (256 * (2 * s .divisor * suc others)) → Within m n (whole (outputSample s a b others noise d t0)) (exactSample s a b others noise d t0)
+  unfolding outputSample exactSample
+  sample-within a b others noise d t0 k l =
+      rounded-within a b others (others * tileError s most) (2 * s .divisor) _ _ t0 k l above
+      (λ i j. near-mono above (omega arith) (near-sums others _ _ (λ z m. near-scale (pos (weightIn s a b i)) (tile-near (noise i) (d i z) (rowIn s a i) (columnIn s b i)))))
+    where
+      above : 0 < 2 * s .divisor
+      above = mul-pos {m = 2} (lit< tt) (s .divisor-above)

@@ -1,5 +1,5 @@
+pub mod Same
 pub mod Bins
 pub mod Windows
 pub mod Closeness
 pub mod Side16
-pub mod MergedClose

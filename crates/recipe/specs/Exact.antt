@@ -15,11 +15,14 @@ module _ (s : Side) where
   unfoldable pub exactNoise : ℕ → Frac
   exactNoise v = frac (pos v) (s .parts * s .parts) (mul-pos (s .parts-above) (s .parts-above))
 
-  -- one part of the bin's correction, from that part b of B and the other part c: noise·bin/(|bin|² + noise); 0 where V is 0
+  -- one part of the bin's correction, from that part b of the bin and the other part c: noise·bin/(|bin|² + noise); 0 where V is 0
+  unfoldable pub exactWiener : ℕ → Frac → Frac → Frac
+  exactWiener zero b c = whole (pos 0)
+  exactWiener (suc v) b c = (exactNoise (suc v) ×F b) ÷F (b ×F b +F c ×F c +F exactNoise (suc v))
+
+  -- the same from the parts of B
   unfoldable pub exactFiltered : ℕ → ℤ → ℤ → Frac
-  exactFiltered zero b c = whole (pos 0)
-  exactFiltered (suc v) b c =
-      (exactNoise (suc v) ×F exactBin b) ÷F (exactBin b ×F exactBin b +F exactBin c ×F exactBin c +F exactNoise (suc v))
+  exactFiltered v b c = exactWiener v (exactBin b) (exactBin c)
 
   -- the real part of the inverse sum of g + i·h at row y and column x, divided: by 256·2^28 for side 16
   module _ (g h : ℕ → ℕ → Frac) where
@@ -35,8 +38,11 @@ module _ (s : Side) where
   exactCorrectionAt noise d =
       exactInverseAt (λ u v. exactFiltered noise (binRe s d u v) (binIm s d u v)) (λ u v. exactFiltered noise (binIm s d u v) (binRe s d u v))
 
-  -- the exact sample: T0 − (sum over the four tiles and the other frames of w·w'·p)/(2^24·N), held to 0..4095; as `outputSample` takes them
+  -- the exact sample, where tile t puts q t to the sum: T0 − (sum over the four tiles)/(weight·N), held to 0..4095; weight is 2^24 for side 16
+  abbrev pub unrounded : (others : ℕ) (q : ℕ → Frac) (t0 : ℤ) → Frac
+  unrounded others q t0 = held 4095 (whole t0 -F over (sumF 4 q) (s .weight * suc others) (mul-pos (s .weight-above) (omega arith)))
+
+  -- tile t puts the sum over the other frames of w·w'·p; arguments as `outputSample` takes them
   unfoldable pub exactSample : (a b others : ℕ) (noise : ℕ → ℕ) (d : ℕ → ℕ → ℕ → ℕ → ℤ) (t0 : ℤ) → Frac
   exactSample a b others noise d t0 =
-      held 4095
-      (whole t0 -F over (sumF 4 (λ t. sumF others (λ z. pos (weightIn s a b t) ·F exactCorrectionAt (noise t) (d t z) (rowIn s a t) (columnIn s b t)))) (s .weight * suc others) (mul-pos (s .weight-above) (omega arith)))
+      unrounded others (λ t. sumF others (λ z. pos (weightIn s a b t) ·F exactCorrectionAt (noise t) (d t z) (rowIn s a t) (columnIn s b t))) t0

@@ -3,10 +3,13 @@ pub mod Tables
 pub mod Root
 pub mod NoiseNumber
 pub mod Correction
-pub mod Scene
 pub mod Output
+pub mod SpatialNoise
+pub mod Spatial
+pub mod Scene
 pub mod Merged
 pub mod Exact
+pub mod ExactSpatial
 pub mod ExactMerge
 pub mod TableRules
 pub mod TableLaws

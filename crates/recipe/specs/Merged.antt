@@ -2,13 +2,14 @@
 use Rattle.algebra.specs.Prelude.{List, ℕ, _*_, _/_, _%_, ℤ, pos, natAbs}
 use Rattle.sequences.specs.Tab.{tab}
 use Rattle.geometry.specs.Read.{planeOf}
-use Rattle.recipe.specs.Scene.{Scene, noiseOver, differenceOver}
-use Rattle.recipe.specs.Output.{outputSample}
+use Rattle.recipe.specs.Scene.{Scene, tilesOver}
+use Rattle.recipe.specs.Spatial.{filteredSample}
 
--- "Output = T0 − (sum over four tiles and the other frames of w·w'·P)/(2^32·N), to nearest, halves upward, held to 0..4095", at row y and column x of a plane
+-- "Output = T0 − (sum over four tiles and the other frames of w·w'·P)/(2^32·N), to nearest, halves upward, held to 0..4095", with the spatial filter of request L13,
+-- at row y and column x of a plane. At s = 0 that is document 01's own sample (`plain-output`, spatial/PlainLaws)
 unfoldable pub planeOutput : Scene → (rowParity columnParity y x : ℕ) → ℤ
 planeOutput s rowParity columnParity y x =
-    outputSample (s .side) (y % s .side .half) (x % s .side .half) (s .others) (noiseOver s rowParity columnParity y x) (differenceOver s rowParity columnParity y x)
+    filteredSample (s .side) (y % s .side .half) (x % s .side .half) (s .others) (tilesOver s rowParity columnParity y x)
     (pos (planeOf (s .reference) rowParity columnParity y x))
 
 -- its word at a row and a column of the frame, "by parity of row and column"

@@ -13,15 +13,19 @@ rowIn s a t = a + t / 2 * s .half
 abbrev pub columnIn : Side → ℕ → ℕ → ℕ
 columnIn s b t = b + t % 2 * s .half
 
+-- N = others + 1 frames, and tile t puts P t to the sum: T0 − (sum over the four tiles)/(256·weight·N), to nearest, halves upward, held to 0..4095;
+-- 256·weight is 2^32 for side 16
+abbrev pub rounded : Side → (others : ℕ) (P : ℕ → ℤ) (t0 : ℤ) → ℤ
+rounded s others P t0 =
+    let whole = 256 * (s .weight * suc others) in
+    clampZ (pos 0) (pos 4095) (upward (t0 *ℤ pos whole -ℤ sumZ 4 P) whole)
+
 module _ (s : Side) (a b : ℕ) where
   -- w·w' of tile t at the sample
   abbrev pub weightIn : ℕ → ℕ
   weightIn t = s .window (rowIn s a t) * s .window (columnIn s b t)
 
-  -- N = others + 1 frames; tile t has the noise number `noise t`, and `d t z` are its differences to the z-th other frame.
-  -- T0 − (sum over the tiles and the other frames of w·w'·P)/(256·weight·N), to nearest, halves upward, held to 0..4095; 256·weight is 2^32 for side 16
+  -- tile t has the noise number `noise t`, and `d t z` are its differences to the z-th other frame: it puts the sum over the other frames of w·w'·P
   unfoldable pub outputSample : (others : ℕ) (noise : ℕ → ℕ) (d : ℕ → ℕ → ℕ → ℕ → ℤ) (t0 : ℤ) → ℤ
   outputSample others noise d t0 =
-      let whole = 256 * (s .weight * suc others) in
-      clampZ (pos 0) (pos 4095)
-      (upward (t0 *ℤ pos whole -ℤ sumZ 4 (λ t. sumZ others (λ z. pos (weightIn t) *ℤ correctionAt s (noise t) (d t z) (rowIn s a t) (columnIn s b t)))) whole)
+      rounded s others (λ t. sumZ others (λ z. pos (weightIn t) *ℤ correctionAt s (noise t) (d t z) (rowIn s a t) (columnIn s b t))) t0

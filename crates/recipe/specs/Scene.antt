@@ -1,5 +1,5 @@
 -- What a merge reads, and its tiles: T0, Tz, their differences, and the noise number.
-use Rattle.algebra.specs.Prelude.{List, ℕ, _+_, _-_, _*_, _/_, _%_, getD, ℤ, pos, _+ℤ_, _-ℤ_}
+use Rattle.algebra.specs.Prelude.{List, ℕ, suc, _+_, _-_, _*_, _/_, _%_, getD, ℤ, pos, _+ℤ_, _-ℤ_}
 use Rattle.geometry.specs.Read.{Image, sampleAt, planeOf, read}
 use Rattle.geometry.specs.Tiles.{origin}
 use Rattle.geometry.specs.Vectors.{otherFrame, downAt, rightAt}
@@ -8,6 +8,8 @@ use Rattle.recipe.specs.declared.Merge.{Merge}
 use Rattle.recipe.specs.Side.{Side}
 use Rattle.recipe.specs.Tables.{side16}
 use Rattle.recipe.specs.NoiseNumber.{tileRoot, noiseNumber}
+use Rattle.recipe.specs.SpatialNoise.{spatialNumber}
+use Rattle.recipe.specs.Spatial.{Tile}
 
 -- The side of its tiles; `others` = N − 1 frames beside the reference, each of `height` rows of `width` samples; the vector of a tile row and
 -- tile column for the k-th of them, as down and right; Ls, Lr and the tuning
@@ -64,13 +66,25 @@ module _ (s : Scene) (rowParity columnParity : ℕ) where
     unfoldable pub otherTile : (k : ℕ) → Image
     otherTile k = tileAt (s .side) (s .height) (s .width) rowParity columnParity (s .other k) (s .down k a b) (s .right k a b) a b
 
-    -- r and V of the tile, with its plane's black level
+    -- r of the tile, with its plane's black level
+    abbrev pub referenceRoot : ℕ
+    referenceRoot = tileRoot (s .side .side) (blackOf (s .tuning) rowParity columnParity) referenceTile
+
+    -- V of the tile
     unfoldable pub tileNoise : ℕ
-    tileNoise = noiseNumber (s .side) (s .tuning .strength) (s .shot) (s .read) (tileRoot (s .side .side) (blackOf (s .tuning) rowParity columnParity) referenceTile)
+    tileNoise = noiseNumber (s .side) (s .tuning .strength) (s .shot) (s .read) referenceRoot
+
+    -- V' of its bin (u, v) (request L13)
+    unfoldable pub tileSpatial : (u v : ℕ) → ℕ
+    tileSpatial = spatialNumber (s .side) (s .tuning .spatial) (s .shot) (s .read) referenceRoot (suc (s .others))
 
     -- "T0−Tz"
     unfoldable pub difference : (k i j : ℕ) → ℤ
     difference k i j = pos (referenceTile i j) -ℤ pos (otherTile k i j)
+
+    -- the tile, as the spatial filter takes it
+    unfoldable pub tileHere : Tile
+    tileHere = record { noise = tileNoise; spatial = tileSpatial; reference = λ i j. pos (referenceTile i j); differences = difference }
 
   -- V and "T0−Tz" of the tiles over the plane's sample at row y and column x: four of them, tile t = 0..3 counted from the last
   module _ (y x : ℕ) where
@@ -79,3 +93,6 @@ module _ (s : Scene) (rowParity columnParity : ℕ) where
 
     abbrev pub differenceOver : (t k i j : ℕ) → ℤ
     differenceOver t = difference (tileOver (s .side) y (t / 2)) (tileOver (s .side) x (t % 2))
+
+    abbrev pub tilesOver : (t : ℕ) → Tile
+    tilesOver t = tileHere (tileOver (s .side) y (t / 2)) (tileOver (s .side) x (t % 2))

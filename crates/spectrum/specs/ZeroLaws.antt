@@ -34,7 +34,7 @@ wiener-zero (suc v) r = rw (*ℤ-zero (pos (suc v))) (away-zero (power (suc v) (
 
 module _ (s : Side) where
   -- P is 0 where G is
-  inverse-zero : 0 < s .divisor → (g h : ℕ → ℕ → ℤ) → ((u v : ℕ) → g u v ≡ pos 0) → ((u v : ℕ) → h u v ≡ pos 0) → (y x : ℕ) → inverseAt s g h y x ≡ pos 0
+  pub inverse-zero : 0 < s .divisor → (g h : ℕ → ℕ → ℤ) → ((u v : ℕ) → g u v ≡ pos 0) → ((u v : ℕ) → h u v ≡ pos 0) → (y x : ℕ) → inverseAt s g h y x ≡ pos 0
   unfolding inverseAt inverseRe
   inverse-zero above g h p q y x =
       ap (λ z. away z (s .divisor))

@@ -1,0 +1,14 @@
+pub mod SumOrder
+pub mod Numerators
+pub mod Lengths
+pub mod Linear
+pub mod Bessel
+pub mod Bessel16
+pub mod Transforms
+pub mod Wiener
+pub mod Merged
+pub mod Closeness
+pub mod ZeroLaws
+pub mod Side16
+pub mod PlainLaws
+pub mod MergedClose
