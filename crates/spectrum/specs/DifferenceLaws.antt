@@ -14,11 +14,11 @@ module _ (s : Side) (d e : ℕ → ℕ → ℤ) (same : (y x : ℕ) → y < s .s
   unfolding rowIm
   im-same y v h = sumZ-cong (s .side) _ _ (λ x k. ap (λ z. z *ℤ negℤ (sinAt s (v * x))) (same y x h k))
 
-  bin-re : binRe s d ≡ binRe s e
+  pub bin-re : binRe s d ≡ binRe s e
   unfolding binRe
   bin-re = fun-ext (λ u. fun-ext (λ v. sumZ-cong (s .side) _ _ (λ y h. ap₂ (λ a b. a *ℤ cosAt s (u * y) -ℤ b *ℤ negℤ (sinAt s (u * y))) (re-same y v h) (im-same y v h))))
 
-  bin-im : binIm s d ≡ binIm s e
+  pub bin-im : binIm s d ≡ binIm s e
   unfolding binIm
   bin-im = fun-ext (λ u. fun-ext (λ v. sumZ-cong (s .side) _ _ (λ y h. ap₂ (λ a b. a *ℤ negℤ (sinAt s (u * y)) +ℤ b *ℤ cosAt s (u * y)) (re-same y v h) (im-same y v h))))
 

@@ -1,5 +1,5 @@
 -- The largest magnitudes of a tile that the code is proved for, in the order of the computation.
-use Prim.Native.Nat.{ℕ, _^_}
+use Prim.Native.Nat.{ℕ, _*_, _^_}
 
 -- ---- of a bin
 
@@ -38,3 +38,33 @@ productMost = 2 ^ 49
 -- V up to which that holds of any differences: a part of Q is at most 2^24
 abbrev pub alwaysNoise : ℕ
 alwaysNoise = 2 ^ 25
+
+-- ---- of the spatial filter (request L13)
+
+-- a part of G at V up to noiseMost: half the root of V. And P of such parts
+abbrev pub rootMost : ℕ
+rootMost = 264153
+
+abbrev pub smallMost : ℕ
+smallMost = 8452550
+
+-- a sample of the copy, in 1/256: 256·4095, and P of seven frames over 8
+abbrev pub copyMost : ℕ
+copyMost = 8444302
+
+-- a part of its bins: two passes of sixteen terms of at most 2^15 times a number, and that over 2^32
+abbrev pub copyBinMost : ℕ
+copyBinMost = copyMost * 2 ^ 38
+
+abbrev pub copyPartMost : ℕ
+copyPartMost = copyMost * 64
+
+-- V' at s = 256, m = 181, Ls = 65536, Lr = 4194304, r = 65520 and N = 1; a part of the step at it, which is half the root of V', and P' of such parts
+abbrev pub spatialMost : ℕ
+spatialMost = 12333531136
+
+abbrev pub spatialGainMost : ℕ
+spatialGainMost = 55529
+
+abbrev pub spatialCorrectionMost : ℕ
+spatialCorrectionMost = 1776856

@@ -1,5 +1,5 @@
 -- How large the numbers of the recipe are: B, Q, G and P.
-use Rattle.algebra.specs.Prelude.{sym, subst, ℕ, _+_, _*_, _^_, _≤_, lit≤, lit<, ℤ, natAbs, negℤ, _+ℤ_, _-ℤ_, _*ℤ_}
+use Rattle.algebra.specs.Prelude.{sym, subst, ℕ, _+_, _*_, _/_, _^_, _≤_, lit≤, lit<, ℤ, natAbs, negℤ, _+ℤ_, _-ℤ_, _*ℤ_}
 use native.Mathlib.Nat.{le-refl, le-trans, add-comm, add-le-add, mul-add, mul-le-mul-left}
 use Rattle.algebra.specs.Order.{abs-add, abs-sub, abs-neg, abs-mul-le}
 use Rattle.algebra.specs.Sums.{sumZ}
@@ -7,13 +7,14 @@ use Rattle.algebra.specs.SumLaws.{abs-sum-bound}
 use Rattle.recipe.specs.Side.{cosAt, sinAt}
 use Rattle.recipe.specs.Tables.{side16}
 use Rattle.recipe.specs.TableLaws.{cosine-most, minus-sine-is, pair-most}
-use Rattle.recipe.specs.Correction.{rowRe, rowIm, binRe, binIm, quantized, filtered, inverseRe, inverseAt, correctionAt}
+use Rattle.recipe.specs.Correction.{wiener, rowRe, rowIm, binRe, binIm, quantized, filtered, inverseRe, inverseAt, correctionAt}
+use Rattle.recipe.specs.Spatial.{copyFiltered}
 use Rattle.recipe.specs.CorrectionLaws.{alongRe, alongIm, two-way}
-use Rattle.spectrum.specs.Magnitudes.{binMost, gainMost}
+use Rattle.spectrum.specs.Magnitudes.{binMost, gainMost, noiseMost, rootMost, smallMost, spatialMost, spatialGainMost, spatialCorrectionMost}
 use Rattle.spectrum.specs.Magnitudes.{rowMost, correctionMost}
 use Rattle.lines.specs.Magnitudes.{differenceMost}
 use Rattle.spectrum.specs.RoundingLaws.{away-most}
-use Rattle.spectrum.specs.WienerLaws.{wiener-most}
+use Rattle.spectrum.specs.WienerLaws.{wiener-most, wiener-root}
 
 -- sixteen products with entries of the table
 pub sum-most : (c : ℕ → ℤ) (b : ℕ) (f : ℕ → ℤ) → ((i : ℕ) → natAbs (c i) ≤ 16384) → ((i : ℕ) → natAbs (f i) ≤ b) → natAbs (sumZ 16 (λ i. f i *ℤ c i)) ≤ 16 * (b * 16384)
@@ -76,19 +77,19 @@ pub gain-most : (noise : ℕ) (b c : ℤ) → natAbs b ≤ binMost → natAbs (f
 unfolding filtered
 gain-most noise b c h = le-trans (wiener-most noise (quantized side16 b) (quantized side16 c)) (part-most b h)
 
--- P
-module _ (g h : ℕ → ℕ → ℤ) (p : (u v : ℕ) → natAbs (g u v) ≤ gainMost) (q : (u v : ℕ) → natAbs (h u v) ≤ gainMost) where
+-- P, of parts of G of at most b
+module _ (b : ℕ) (g h : ℕ → ℕ → ℤ) (p : (u v : ℕ) → natAbs (g u v) ≤ b) (q : (u v : ℕ) → natAbs (h u v) ≤ b) where
   abbrev alongMost : ℕ
-  alongMost = 16 * (gainMost * 23170)
+  alongMost = 16 * (b * 23170)
 
   along-re-most : (x u : ℕ) → natAbs (alongRe side16 g h x u) ≤ alongMost
   unfolding alongRe side16
   along-re-most x u =
-      differences-most gainMost (g u) (h u) (p u) (q u) (λ v. cosAt side16 (v * x)) (λ v. sinAt side16 (v * x)) (λ v. pair-most (v * x))
+      differences-most b (g u) (h u) (p u) (q u) (λ v. cosAt side16 (v * x)) (λ v. sinAt side16 (v * x)) (λ v. pair-most (v * x))
 
   along-im-most : (x u : ℕ) → natAbs (alongIm side16 g h x u) ≤ alongMost
   unfolding alongIm side16
-  along-im-most x u = sums-most gainMost (g u) (h u) (p u) (q u) (λ v. sinAt side16 (v * x)) (λ v. cosAt side16 (v * x)) (λ v. swapped (v * x))
+  along-im-most x u = sums-most b (g u) (h u) (p u) (q u) (λ v. sinAt side16 (v * x)) (λ v. cosAt side16 (v * x)) (λ v. swapped (v * x))
 
   sum-small : (y x : ℕ) → natAbs (inverseRe side16 g h y x) ≤ 16 * (alongMost * 23170)
   unfolding side16
@@ -96,12 +97,30 @@ module _ (g h : ℕ → ℕ → ℤ) (p : (u v : ℕ) → natAbs (g u v) ≤ gai
       subst (λ z. natAbs z ≤ 16 * (alongMost * 23170)) (sym (two-way side16 g h x y))
       (differences-most alongMost (alongRe side16 g h x) (alongIm side16 g h x) (along-re-most x) (along-im-most x) (λ u. cosAt side16 (u * y)) (λ u. sinAt side16 (u * y)) (λ u. pair-most (u * y)))
 
-  inverse-small : (y x : ℕ) → natAbs (inverseAt side16 g h y x) ≤ correctionMost
+  inverse-small : (y x : ℕ) → natAbs (inverseAt side16 g h y x) ≤ (2 * (16 * (alongMost * 23170)) + 2 ^ 32) / (2 * 2 ^ 32)
   unfolding inverseAt side16
-  inverse-small y x =
-      away-most (inverseRe side16 g h y x) (2 ^ 32) (2 ^ 62) (lit< tt) (le-trans (sum-small y x) (lit≤ tt))
+  inverse-small y x = away-most (inverseRe side16 g h y x) (2 ^ 32) (16 * (alongMost * 23170)) (lit< tt) (sum-small y x)
 
 pub correction-most : (noise : ℕ) (d : ℕ → ℕ → ℤ) → ((y x : ℕ) → natAbs (d y x) ≤ differenceMost) → (y x : ℕ) → natAbs (correctionAt side16 noise d y x) ≤ correctionMost
 unfolding correctionAt
-correction-most noise d m =
-    inverse-small _ _ (λ u v. gain-most noise (binRe side16 d u v) (binIm side16 d u v) (bin-re-most d m u v)) (λ u v. gain-most noise (binIm side16 d u v) (binRe side16 d u v) (bin-im-most d m u v))
+correction-most noise d m y x =
+    le-trans
+    (inverse-small gainMost _ _ (λ u v. gain-most noise (binRe side16 d u v) (binIm side16 d u v) (bin-re-most d m u v)) (λ u v. gain-most noise (binIm side16 d u v) (binRe side16 d u v) (bin-im-most d m u v)) y x)
+    (lit≤ tt)
+
+-- P of any differences, at V up to noiseMost
+pub correction-small : (noise : ℕ) → noise ≤ noiseMost → (d : ℕ → ℕ → ℤ) (y x : ℕ) → natAbs (correctionAt side16 noise d y x) ≤ smallMost
+unfolding correctionAt filtered
+correction-small noise l d y x =
+    let root : (q r : ℤ) → natAbs (wiener noise q r) ≤ rootMost = λ q r. wiener-root noise rootMost q r (lit< tt) (le-trans l (lit≤ tt)) in
+    le-trans (inverse-small rootMost _ _ (λ u v. root _ _) (λ u v. root _ _) y x) (lit≤ tt)
+
+-- the spatial filter's step and P' of any bins b + i·c, at V' up to spatialMost
+pub copy-gain-most : (noise : ℕ) → noise ≤ spatialMost → (q r : ℤ) → natAbs (wiener noise q r) ≤ spatialGainMost
+copy-gain-most noise l q r = wiener-root noise spatialGainMost q r (lit< tt) (le-trans l (lit≤ tt))
+
+pub spatial-small : (noise : ℕ → ℕ → ℕ) → ((u v : ℕ) → noise u v ≤ spatialMost) → (b c : ℕ → ℕ → ℤ) (y x : ℕ) →
+    natAbs (inverseAt side16 (λ u v. copyFiltered side16 (noise u v) (b u v) (c u v)) (λ u v. copyFiltered side16 (noise u v) (c u v) (b u v)) y x) ≤ spatialCorrectionMost
+unfolding copyFiltered
+spatial-small noise l b c y x =
+    le-trans (inverse-small spatialGainMost _ _ (λ u v. copy-gain-most (noise u v) (l u v) _ _) (λ u v. copy-gain-most (noise u v) (l u v) _ _) y x) (lit≤ tt)

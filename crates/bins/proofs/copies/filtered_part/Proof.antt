@@ -1,0 +1,22 @@
+-- `bins::copies::filtered_part`: both parts are quantized, then shrunk.
+use Rattle.algebra.specs.Prelude.{_≡_, ap, ap₂, _∙_, needs, w64, toZ, ofZ, toZ-ofZ}
+use Rattle.recipe.specs.Tables.{side16}
+use Rattle.recipe.specs.Correction.{wiener}
+use Rattle.recipe.specs.Spatial.{copyQuantized, copyFiltered}
+use Rattle.lines.specs.Held.{number-is}
+use Rattle.bins.proofs.copies.filtered_part.Statement.{statement}
+use Rattle.bins.proofs.copies.filtered_part.Tie as tie
+
+returns : tie.Need-returns
+unfolding copyFiltered
+returns c =
+    let q = c .before .before in
+    let s = q .before in
+    let e : toZ w64 (ofZ w64 (c .wiener-part .result)) ≡ c .wiener-part .result = search needs in
+    let b = number-is w64 (q .quantized-part .ensures .1) tt ∙ q .quantized-part .ensures .0 ∙ ap (copyQuantized side16) (toZ-ofZ (s .fits .b)) in
+    let d = number-is w64 (c .before .quantized-part2 .ensures .1) tt ∙ c .before .quantized-part2 .ensures .0 ∙ ap (copyQuantized side16) (toZ-ofZ (s .fits .c)) in
+    rw e (c .wiener-part .ensures .0 ∙ ap₂ (wiener (s .args .noise)) b d, c .wiener-part .ensures .1)
+
+pub filtered-part-spec : {M : Type 1} → statement M
+filtered-part-spec = tie.close (tie.spec
+    (λ c κs. search needs) (λ c κs. search needs) (λ c κs. search needs) returns)
