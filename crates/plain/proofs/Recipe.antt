@@ -14,7 +14,6 @@ use Rattle.recipe.specs.TableLaws.{cosine-most, minus-sine-is}
 use Rattle.recipe.specs.Correction.{rowRe, rowIm, binRe, binIm, twiddleRe, twiddleIm, inverseRe, inverseAt}
 use Rattle.recipe.specs.CorrectionLaws.{alongRe, alongIm, two-way}
 use Rattle.lines.specs.Lines.{TileMost}
-use Rattle.lines.specs.Magnitudes.{differenceMost}
 use Rattle.spectrum.specs.Magnitudes.{gainMost}
 use Rattle.plain.specs.Complex.{complexTile, realOf, imaginaryOf}
 use Rattle.plain.specs.Passes.{along, passedRe, passedIm, partMost}
@@ -142,24 +141,27 @@ module _ {f g : ℕ → ℕ → ℤ} {b : ℕ} {z : List (List ℤ)} (w : Holds 
     pub passed-most : {r : List (List ℤ)} → r ≡ complexTile (passedRe q z) (passedIm q z) → TileMost (passMost b) r
     passed-most s = complex-most d e (passed s) (passMost b) re-passed im-passed
 
--- ---- from the differences to B
+-- ---- from a tile of numbers of at most b, differences or the copy, to its bins
 
-module _ (d : ℕ → ℕ → ℤ) (most : (i j : ℕ) → natAbs (d i j) ≤ differenceMost) {x : List (List ℤ)} (e : x ≡ complexTile d (λ i j. pos 0)) where
-  wide : Holds d (λ i j. pos 0) differenceMost x
+module _ (b : ℕ) (small : b ≤ partMost) (rows-small : passMost b ≤ partMost) (d : ℕ → ℕ → ℤ) (most : (i j : ℕ) → natAbs (d i j) ≤ b) {x : List (List ℤ)} (e : x ≡ complexTile d (λ i j. pos 0)) where
+  wide : Holds d (λ i j. pos 0) b x
   wide = holds e most (λ i j. zero-le)
 
   pub wide-most : TileMost partMost x
-  wide-most = less-most (complex-most d (λ i j. pos 0) e differenceMost most (λ i j. zero-le)) (lit≤ tt)
+  wide-most = less-most (complex-most d (λ i j. pos 0) e b most (λ i j. zero-le)) small
 
   module _ {r : List (List ℤ)} (s : r ≡ complexTile (passedRe 12 x) (passedIm 12 x)) where
-    rows : Holds (λ v y. rowRe side16 d y v) (λ v y. rowIm side16 d y v) (passMost differenceMost) r
+    rows : Holds (λ v y. rowRe side16 d y v) (λ v y. rowIm side16 d y v) (passMost b) r
     rows = passed-on wide 12 _ _ (row-re-is d) (row-im-is d) s
 
     pub rows-most : TileMost partMost r
-    rows-most = less-most (passed-most wide 12 _ _ (row-re-is d) (row-im-is d) s) (lit≤ tt)
+    rows-most = less-most (passed-most wide 12 _ _ (row-re-is d) (row-im-is d) s) rows-small
 
     pub bins-are : {b : List (List ℤ)} → b ≡ complexTile (passedRe 12 r) (passedIm 12 r) → b ≡ complexTile (binRe side16 d) (binIm side16 d)
     bins-are = passed rows 12 _ _ (bin-re-is d) (bin-im-is d)
+
+    pub bins-most : {z : List (List ℤ)} → z ≡ complexTile (passedRe 12 r) (passedIm 12 r) → TileMost (passMost (passMost b)) z
+    bins-most = passed-most rows 12 _ _ (bin-re-is d) (bin-im-is d)
 
 -- ---- from G to P
 

@@ -1,6 +1,6 @@
 -- Inside the crate: complex lines and tiles, each in one array. Place 2·j of a line is the real part of its number j, and place 2·j + 1 the imaginary one.
-use Rattle.algebra.specs.Prelude.{cond, List, [], ℕ, _+_, _*_, _/_, _%_, eqb, getD, ℤ, pos}
-use Rattle.sequences.specs.Grid.{grid}
+use Rattle.algebra.specs.Prelude.{cond, List, [], ℕ, _+_, _*_, _/_, _%_, _≤_, eqb, getD, ℤ, pos}
+use Rattle.sequences.specs.Grid.{grid, cell}
 
 -- place l of the line x + i·y
 abbrev pub complexAt : (x y : ℕ → ℤ) → ℕ → ℤ
@@ -23,3 +23,10 @@ realOf t i = real (getD t i [])
 
 abbrev pub imaginaryOf : List (List ℤ) → ℕ → ℕ → ℤ
 imaginaryOf t i = imaginary (getD t i [])
+
+-- each noise number of a line, and of a tile, is at most b
+pub record NoiseLine (b : ℕ) (x : List ℕ) : Type 0 where
+  pub at : (i : ℕ) → getD x i 0 ≤ b
+
+pub record NoisesMost (b : ℕ) (t : List (List ℕ)) : Type 0 where
+  pub line : (u : ℕ) → NoiseLine b (getD t u [])

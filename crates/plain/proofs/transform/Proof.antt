@@ -18,21 +18,21 @@ pass-requires : tie.Need-pass-requires
 pass-requires c κs =
     let w = c .before .before in
     let s = w .before .before in
-    record { most = wide-most (d s) (most s) (w .widen .ensures); q-most = lit≤ tt; long = refl }
+    record { most = wide-most differenceMost (lit≤ tt) (lit≤ tt) (d s) (most s) (w .widen .ensures); q-most = lit≤ tt; long = refl }
 
 pass-requires-2 : tie.Need-pass-requires-2
 pass-requires-2 c κs =
     let p = c .before .before in
     let w = p .before .before .before in
     let s = w .before .before in
-    record { most = rows-most (d s) (most s) (w .widen .ensures) (p .pass .ensures); q-most = lit≤ tt; long = lines-16 (d s) (λ i j. pos 0) (w .widen .ensures) }
+    record { most = rows-most differenceMost (lit≤ tt) (lit≤ tt) (d s) (most s) (w .widen .ensures) (p .pass .ensures); q-most = lit≤ tt; long = lines-16 (d s) (λ i j. pos 0) (w .widen .ensures) }
 
 returns : tie.Need-returns
 returns c =
     let p = c .before .before .before in
     let w = p .before .before .before in
     let s = w .before .before in
-    bins-are (d s) (most s) (w .widen .ensures) (p .pass .ensures) (c .pass2 .ensures)
+    bins-are differenceMost (lit≤ tt) (lit≤ tt) (d s) (most s) (w .widen .ensures) (p .pass .ensures) (c .pass2 .ensures)
 
 pub transform-spec : {M : Type 1} → statement M
 transform-spec = tie.close (tie.spec (λ c κs. search needs) pass-requires pass-requires-2 returns)
