@@ -6,3 +6,6 @@ pub mod Within
 pub mod NoiseNumberLaws
 pub mod ScalingLaws
 pub mod LevelLaws
+pub mod DistanceTable
+pub mod SpatialRange
+pub mod SpatialLaws

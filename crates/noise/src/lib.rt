@@ -1,5 +1,6 @@
-// The noise of a burst: its levels Ls and Lr, and a tile's noise number V.
+// The noise of a burst: its levels Ls and Lr, a tile's noise number V, and V' of its bins.
 mod level;
+pub mod spatial;
 
 ghost use mathlib.Core.Path.{_≡_};
 ghost use Prim.Native.Nat.{_≤_};

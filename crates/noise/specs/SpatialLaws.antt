@@ -1,0 +1,45 @@
+-- V' at its bounds, and as the code works it out.
+use Rattle.algebra.specs.Prelude.{_≡_, sym, ap, subst, _∙_, List, [], ℕ, _+_, _*_, _/_, _≤_, _<_, arith, lit≤, lit<, leb, getD}
+use lib.Dec.{leb→le}
+use native.Mathlib.Nat.{le-trans, le-refl, add-le-add, mul-le-mul, mul-le-mul-left, mul-comm, mul-assoc, mul-pos, le-div-iff-mul-le, div-mul-le-self}
+use Prim.Native.Nat.{zero-le}
+use Rattle.algebra.specs.Test.{all, all-sound}
+use Rattle.sequences.specs.Tab.{tab}
+use Rattle.sequences.specs.TabLaws.{tab-every, tab-each}
+use Rattle.sequences.specs.Grid.{grid, cell, cell-grid}
+use Rattle.recipe.specs.Tables.{side16}
+use Rattle.recipe.specs.Root.{rootIn, wholeRoot}
+use Rattle.recipe.specs.NoiseNumber.{variance}
+use Rattle.recipe.specs.SpatialNoise.{frequency, distance, spatialNumber}
+use Rattle.noise.specs.SpatialRange.{SpatialRange, scaleMost}
+
+-- m is at most 181
+pub distance-most : (u v : ℕ) → u < 16 → v < 16 → distance u v ≤ 181
+unfolding distance frequency wholeRoot rootIn
+distance-most u v h k =
+    leb→le (distance u v) 181 (all-sound 16 (λ v. leb (distance u v) 181) (all-sound 16 (λ u. all 16 (λ v. leb (distance u v) 181)) tt u h) v k)
+
+module _ {s ls lr r frames : ℕ} (ok : SpatialRange s ls lr r frames) where
+  variance-most : variance side16 ls lr r ≤ 65536 * 65520 + 16 * 4194304
+  unfolding variance side16
+  variance-most = add-le-add (mul-le-mul (ok .shot) (ok .root)) (mul-le-mul-left 16 (ok .read))
+
+  pub scale-most : s * variance side16 ls lr r ≤ scaleMost
+  scale-most = mul-le-mul (ok .strength) variance-most
+
+  -- the code's order of the factors
+  pub number-is : (u v : ℕ) → distance u v * (s * variance side16 ls lr r) / (16384 * frames) ≡ spatialNumber side16 s ls lr r frames u v
+  unfolding spatialNumber
+  number-is u v = ap (λ n. n / (16384 * frames)) (sym (mul-assoc (distance u v) s (variance side16 ls lr r)) ∙ ap (λ n. n * variance side16 ls lr r) (mul-comm (distance u v) s))
+
+  -- the bound of V'
+  pub spatial-number-most : (u v : ℕ) → u < 16 → v < 16 → spatialNumber side16 s ls lr r frames u v ≤ 12333531136
+  spatial-number-most u v h k = subst (λ n. n ≤ 12333531136) (number-is u v) (le-trans (quotient (16384 * frames) (omega (arith, ok .some))) (lit≤ tt))
+    where
+      product : distance u v * (s * variance side16 ls lr r) ≤ 181 * scaleMost
+      product = mul-le-mul (distance-most u v h k) scale-most
+
+      quotient : (d : ℕ) → 16384 ≤ d → distance u v * (s * variance side16 ls lr r) / d ≤ 181 * scaleMost / 16384
+      quotient d l =
+          le-div-iff-mul-le {k = 16384} {x = distance u v * (s * variance side16 ls lr r) / d} {y = 181 * scaleMost} (lit< tt) .1
+          (le-trans (mul-le-mul-left (distance u v * (s * variance side16 ls lr r) / d) l) (le-trans (div-mul-le-self (distance u v * (s * variance side16 ls lr r)) d) product))
