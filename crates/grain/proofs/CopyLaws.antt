@@ -1,0 +1,37 @@
+-- A row of the copy: each number is at most copyMost.
+use Rattle.algebra.specs.Prelude.{_≡_, List, ℕ, _+_, _*_, _≤_, _<_, arith, getD, ℤ, pos, natAbs, _-ℤ_, _*ℤ_, w64, toZ, ofZ}
+use native.Mathlib.Nat.{mul-le-mul-right}
+use Rattle.algebra.specs.Order.{abs-sub}
+use Rattle.algebra.specs.Bound.{AtMost}
+use Rattle.algebra.specs.Nearest.{away}
+use Rattle.lines.specs.Held.{number-is}
+use Rattle.spectrum.specs.Magnitudes.{smallMost, copyMost}
+use Rattle.spectrum.specs.RoundingLaws.{away-within}
+use Rattle.grain.specs.Filtering.{Frames, SumMost, SampleRow, SumRow}
+
+-- T0 less the sum of P over N
+module _ {frames t0 : ℕ} {sum : ℤ} (f : Frames frames) (l : t0 ≤ 4095) (m : SumMost frames sum) where
+  product : t0 * (256 * frames) ≤ 4095 * (256 * frames)
+  product = mul-le-mul-right (256 * frames) l
+
+  pub whole-most : t0 * (256 * frames) ≤ 8386560
+  whole-most = omega (arith, product, f .few)
+
+  pub dividend-most : natAbs (pos (t0 * (256 * frames)) -ℤ sum) ≤ copyMost * frames
+  dividend-most = omega (arith, product, abs-sub (pos (t0 * (256 * frames))) sum, m .most, f .few, f .some)
+
+  pub quotient-most : AtMost copyMost (away (pos (t0 * (256 * frames)) -ℤ sum) frames)
+  quotient-most = record { most = away-within (pos (t0 * (256 * frames)) -ℤ sum) frames copyMost (omega (arith, f .some)) dividend-most }
+
+  pub sum-most : AtMost (7 * smallMost) sum
+  sum-most = record { most = omega (arith, m .most, f .few) }
+
+  pub held-sum : toZ w64 (ofZ w64 sum) ≡ sum
+  held-sum = number-is w64 sum-most tt
+
+-- number x of a row of the copy of plane p
+abbrev pub partOf : (frames : ℕ) (t0 : List ℕ) (sum : List ℤ) (p x : ℕ) → ℤ
+partOf frames t0 sum p x = away (pos (getD t0 (2 * x + p) 0) *ℤ pos (256 * frames) -ℤ getD sum (2 * x + p) (pos 0)) frames
+
+pub part-most : {frames : ℕ} {t0 : List ℕ} {sum : List ℤ} → Frames frames → SampleRow t0 → SumRow frames sum → (p x : ℕ) → natAbs (partOf frames t0 sum p x) ≤ copyMost
+part-most f a b p x = quotient-most f (a .at (2 * x + p)) (b .at (2 * x + p)) .most
