@@ -9,7 +9,7 @@ use Rattle.sequences.specs.TabLaws.{getD-tab, Filled, fill-turn}
 use Rattle.recipe.specs.Tables.{windows, window16, side16}
 use Rattle.gather.specs.declared.Span.{Span}
 use Rattle.gather.specs.Gather.{weightRow, windowed, wordOver}
-use Rattle.tiles.specs.Sum.{summedMost}
+use Rattle.tiles.specs.Sum.{takenMost}
 use Rattle.gather.specs.Work.{weightMost, Words}
 
 window-most : (i : ℕ) → i < 16 → window16 i ≤ 4096
@@ -43,7 +43,7 @@ pub words-later : {work : List ℤ} {at n : ℕ} (k m : ℕ) → Words work at n
 words-later {work} {at} k m w h =
     record {
       room = omega (arith, w .room);
-      most = λ j l. subst (λ p. natAbs (getD work p (pos 0)) ≤ summedMost) (omega arith) (w .most (k + j) (omega arith));
+      most = λ j l. subst (λ p. natAbs (getD work p (pos 0)) ≤ takenMost) (omega arith) (w .most (k + j) (omega arith));
     }
 
 -- what a pair of tiles whose words start at `start` has at its row i and place l, weighed

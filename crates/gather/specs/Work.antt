@@ -5,7 +5,7 @@ use Rattle.geometry.specs.Shape.{rowStride, frameStride, sampleLength, outputLe
 use Rattle.geometry.specs.Fits.{Allowed}
 use Rattle.sequences.specs.Written.{written}
 use Rattle.recipe.specs.Tables.{side16}
-use Rattle.tiles.specs.Sum.{summedMost}
+use Rattle.tiles.specs.Sum.{takenMost}
 use Rattle.tiles.specs.Rows.{rowWords, slotOf}
 use Rattle.gather.specs.declared.Span.{Span}
 use Rattle.gather.specs.Gather.{weightRow, windowed, corrected, wordOver}
@@ -15,7 +15,7 @@ abbrev pub weightMost : ℕ
 weightMost = 2 ^ 24
 
 abbrev pub partMost : ℕ
-partMost = weightMost * summedMost
+partMost = weightMost * takenMost
 
 abbrev pub sumMost : ℕ
 sumMost = 4 * partMost
@@ -29,7 +29,7 @@ pub record Divided (count inverse : ℕ) : Type 0 where
 -- n words from `at` on that are small enough to be weighed and added
 pub record Words (work : List ℤ) (at n : ℕ) : Type 0 where
   pub room : at + n ≤ length work
-  pub most : (k : ℕ) → k < n → natAbs (getD work (at + k) (pos 0)) ≤ summedMost
+  pub most : (k : ℕ) → k < n → natAbs (getD work (at + k) (pos 0)) ≤ takenMost
 
 -- the pairs of tiles over a block, two of the upper row and two of the lower, and the weights of its row in them
 pub record Weighed (work : List ℤ) (p : Span) (lower upper : List ℤ) : Type 0 where

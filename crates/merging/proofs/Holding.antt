@@ -13,14 +13,14 @@ use Rattle.recipe.specs.Output.{rowIn, columnIn, weightIn}
 use Rattle.recipe.specs.declared.Merge.{Merge}
 use Rattle.recipe.specs.Scene.{Scene, sceneOf, tileOver}
 use Rattle.recipe.specs.Merged.{planeOutput}
-use Rattle.tiles.specs.Sum.{summedAt}
+use Rattle.tiles.specs.Sum.{takenIn}
 use Rattle.gather.specs.declared.Span.{Span}
 use Rattle.gather.specs.Gather.{windowed, corrected, startOf, wordOver}
-use Rattle.tiles.specs.Sum.{summedMost}
+use Rattle.tiles.specs.Sum.{takenMost}
 use Rattle.tiles.specs.Rows.{rowWords, slotOf, rowWord, Stored}
 use Rattle.gather.specs.Work.{rowSpan, wordFrom}
 use Rattle.merging.specs.Progress.{Held}
-use Rattle.merging.proofs.Gathering.{summedOver, gathered}
+use Rattle.merging.proofs.Gathering.{takenOver, gathered}
 
 -- the places of a row and of the next one: one row's words are those before the other's
 slots : (width row : ℕ) → ((slotOf width row ≡ 0) × (slotOf width (row + 1) ≡ rowWords width)) ⊎ ((slotOf width row ≡ rowWords width) × (slotOf width (row + 1) ≡ 0))
@@ -49,7 +49,7 @@ module _ {s : Scene} {rowParity : ℕ} {row : ℕ} {d l : List ℤ} (w : Stored 
   pub stored-held : Held s rowParity row l
   stored-held =
       record {
-        words = record { room = omega (arith, stored-long); most = λ k h. subst (λ z. natAbs z ≤ summedMost) (sym (stored-word k h)) (w .most k h) };
+        words = record { room = omega (arith, stored-long); most = λ k h. subst (λ z. natAbs z ≤ takenMost) (sym (stored-word k h)) (w .most k h) };
         is = stored-word;
       }
 
@@ -69,7 +69,7 @@ module _ {s : Scene} {rowParity : ℕ} {row : ℕ} {d l : List ℤ} (w : Stored 
   pub held-kept : Held s rowParity row l
   held-kept =
       record {
-        words = record { room = omega (arith, stored-long w next-room, held .words .room); most = λ k h. subst (λ z. natAbs z ≤ summedMost) (sym (kept-word k h)) (held .words .most k h) };
+        words = record { room = omega (arith, stored-long w next-room, held .words .room); most = λ k h. subst (λ z. natAbs z ≤ takenMost) (sym (kept-word k h)) (held .words .most k h) };
         is = λ k h. kept-word k h ∙ held .is k h;
       }
 
@@ -100,7 +100,7 @@ module _ (m : Merge) (samples : List ℕ) (vectors : List ℤ) (rowParity : ℕ)
 
     -- a cell of a row that is held: row i and column j of plane p of a pair
     cell-held : {row : ℕ} → Held s rowParity row work → (p b i j : ℕ) → p < 2 → b < m .shape .width / 16 + 1 → i < 16 → j < 16
-        → getD work (slotOf (m .shape .width) row + (512 * b + (32 * i + (2 * j + p)))) (pos 0) ≡ summedAt s rowParity p row b i j
+        → getD work (slotOf (m .shape .width) row + (512 * b + (32 * i + (2 * j + p)))) (pos 0) ≡ takenIn s rowParity p row b i j
     unfolding sceneOf rowWords rowWord
     cell-held {row} held p b i j hp hb hi hj =
         let k = 512 * b + (32 * i + (2 * j + p)) in
@@ -110,7 +110,7 @@ module _ (m : Merge) (samples : List ℕ) (vectors : List ℤ) (rowParity : ℕ)
         let along : k % 32 / 2 ≡ j = omega arith in
         held .is k (omega arith) ∙ rw (plane, pair, down, along)
 
-    word-is : (t : ℕ) → t < 4 → wordOver work span c t ≡ summedOver s rowParity (c % 2) y (c / 2) t
+    word-is : (t : ℕ) → t < 4 → wordOver work span c t ≡ takenOver s rowParity (c % 2) y (c / 2) t
     unfolding wordOver rowSpan sceneOf side16
     word-is t h =
         ap (λ n. getD work n (pos 0)) (omega (arith, start-over (t / 2) (omega arith)))

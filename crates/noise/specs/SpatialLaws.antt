@@ -1,23 +1,34 @@
 -- V' at its bounds, and as the code works it out.
-use Rattle.algebra.specs.Prelude.{_≡_, sym, ap, subst, _∙_, List, [], ℕ, _+_, _*_, _/_, _≤_, _<_, arith, lit≤, lit<, leb, getD}
+use Rattle.algebra.specs.Prelude.{_≡_, refl, sym, ap, subst, _∙_, Bool, true, false, cond, ℕ, _+_, _-_, _*_, _/_, _≤_, _<_, arith, lit≤, lit<, leb, ltb}
+use borrow.Author.Tests.{ltb-true, ltb-false}
 use lib.Dec.{leb→le}
-use native.Mathlib.Nat.{le-trans, le-refl, add-le-add, mul-le-mul, mul-le-mul-left, mul-comm, mul-assoc, mul-pos, le-div-iff-mul-le, div-mul-le-self}
-use Prim.Native.Nat.{zero-le}
+use native.Mathlib.Nat.{le-trans, add-le-add, mul-le-mul, mul-le-mul-left, mul-comm, mul-assoc, le-div-iff-mul-le, div-mul-le-self}
 use Rattle.algebra.specs.Test.{all, all-sound}
-use Rattle.sequences.specs.Tab.{tab}
-use Rattle.sequences.specs.TabLaws.{tab-every, tab-each}
-use Rattle.sequences.specs.Grid.{grid, cell, cell-grid}
 use Rattle.recipe.specs.Tables.{side16}
 use Rattle.recipe.specs.Root.{rootIn, wholeRoot}
 use Rattle.recipe.specs.NoiseNumber.{variance}
 use Rattle.recipe.specs.SpatialNoise.{frequency, distance, spatialNumber}
 use Rattle.noise.specs.SpatialRange.{SpatialRange, scaleMost}
 
--- m is at most 181
-pub distance-most : (u v : ℕ) → u < 16 → v < 16 → distance u v ≤ 181
-unfolding distance frequency wholeRoot rootIn
-distance-most u v h k =
-    leb→le (distance u v) 181 (all-sound 16 (λ v. leb (distance u v) 181) (all-sound 16 (λ u. all 16 (λ v. leb (distance u v) 181)) tt u h) v k)
+-- m is at most 181: an index counts as 8 at most
+frequency-most : (u : ℕ) → frequency u < 9
+unfolding frequency
+frequency-most u = go (ltb 8 u) (ltb-true 8 u) (ltb-false 8 u)
+  where
+    go : (c : Bool) → (c ≡ true → 8 < u) → (c ≡ false → u ≤ 8) → cond c (16 - u) u < 9
+    go true p q = let h = p refl in omega arith
+    go false p q = let h = q refl in omega arith
+
+abbrev within : ℕ → ℕ → Bool
+within a b = leb (wholeRoot (256 * (a * a + b * b))) 181
+
+roots-most : (a b : ℕ) → a < 9 → b < 9 → wholeRoot (256 * (a * a + b * b)) ≤ 181
+unfolding wholeRoot rootIn
+roots-most a b h k = leb→le (wholeRoot (256 * (a * a + b * b))) 181 (all-sound 9 (within a) (all-sound 9 (λ a. all 9 (within a)) tt a h) b k)
+
+pub distance-most : (u v : ℕ) → distance u v ≤ 181
+unfolding distance
+distance-most u v = roots-most (frequency u) (frequency v) (frequency-most u) (frequency-most v)
 
 module _ {s ls lr r frames : ℕ} (ok : SpatialRange s ls lr r frames) where
   variance-most : variance side16 ls lr r ≤ 65536 * 65520 + 16 * 4194304
@@ -33,11 +44,11 @@ module _ {s ls lr r frames : ℕ} (ok : SpatialRange s ls lr r frames) where
   number-is u v = ap (λ n. n / (16384 * frames)) (sym (mul-assoc (distance u v) s (variance side16 ls lr r)) ∙ ap (λ n. n * variance side16 ls lr r) (mul-comm (distance u v) s))
 
   -- the bound of V'
-  pub spatial-number-most : (u v : ℕ) → u < 16 → v < 16 → spatialNumber side16 s ls lr r frames u v ≤ 12333531136
-  spatial-number-most u v h k = subst (λ n. n ≤ 12333531136) (number-is u v) (le-trans (quotient (16384 * frames) (omega (arith, ok .some))) (lit≤ tt))
+  pub spatial-number-most : (u v : ℕ) → spatialNumber side16 s ls lr r frames u v ≤ 12333531136
+  spatial-number-most u v = subst (λ n. n ≤ 12333531136) (number-is u v) (le-trans (quotient (16384 * frames) (omega (arith, ok .some))) (lit≤ tt))
     where
       product : distance u v * (s * variance side16 ls lr r) ≤ 181 * scaleMost
-      product = mul-le-mul (distance-most u v h k) scale-most
+      product = mul-le-mul (distance-most u v) scale-most
 
       quotient : (d : ℕ) → 16384 ≤ d → distance u v * (s * variance side16 ls lr r) / d ≤ 181 * scaleMost / 16384
       quotient d l =

@@ -8,7 +8,6 @@ pub mod Transforms
 pub mod Wiener
 pub mod Merged
 pub mod Closeness
-pub mod ZeroLaws
 pub mod Side16
 pub mod PlainLaws
 pub mod MergedClose

@@ -6,7 +6,7 @@ use Rattle.recipe.specs.Scene.{Scene, referenceRoot, tileSpatial, tileHere, noi
 use Rattle.recipe.specs.SpatialNoise.{spatialNumber}
 use Rattle.recipe.specs.Output.{outputSample}
 use Rattle.recipe.specs.Merged.{planeOutput}
-use Rattle.spatial.specs.ZeroLaws.{no-strength, plain-merge}
+use Rattle.spectrum.specs.FilterZeroLaws.{no-strength, plain-merge}
 
 module _ (s : Scene) (off : s .tuning .spatial ≡ 0) where
   pub no-spatial : (rowParity columnParity a b u v : ℕ) → tileSpatial s rowParity columnParity a b u v ≡ 0

@@ -4,6 +4,7 @@ pub mod Pairs
 pub mod FoldLaws
 pub mod SpectrumLaws
 pub mod ZeroLaws
+pub mod FilterZeroLaws
 pub mod RoundingLaws
 pub mod WienerLaws
 pub mod SizeLaws

@@ -6,7 +6,7 @@ use Rattle.sequences.specs.Write.{written, Writing, write-start, write-part, wr
 use Rattle.geometry.specs.Tiles.{finestSide}
 use Rattle.recipe.specs.Scene.{Scene}
 use Rattle.spectrum.specs.Pairs.{sideBySide}
-use Rattle.tiles.specs.Sum.{summedAt, summedMost, Summed}
+use Rattle.tiles.specs.Sum.{takenIn, takenMost, Taken}
 use Rattle.tiles.specs.Rows.{rowWords, slotOf, rowWord, Stored}
 
 -- a pair, stored row by row: word k is its cell at row k / 32 and place k % 32
@@ -22,23 +22,23 @@ tile-turn tile {d} {r = r} {at = at} {i = i} w h is =
         let column : (32 * i + j) % 32 ≡ j = omega arith in
         rw (row, column)
 
--- the summed corrections of a pair
+-- what is taken from a pair
 abbrev pairAt : Scene → (rowParity row column i l : ℕ) → ℤ
-pairAt s rowParity row column = sideBySide (λ p. summedAt s rowParity p row column)
+pairAt s rowParity row column = sideBySide (λ p. takenIn s rowParity p row column)
 
 -- l is d after the first n pairs of the row
 pub record Storing (s : Scene) (rowParity row : ℕ) (d : List ℤ) (n : ℕ) (l : List ℤ) : Type 0 where
   pub count : n ≤ s .width / finestSide + 1
   pub writing : Writing d (slotOf (s .width) row) (rowWord s rowParity row) (512 * (s .width / finestSide + 1)) (512 * n) l
-  pub most : (b : ℕ) → b < n → (i l : ℕ) → i < 16 → l < 32 → natAbs (pairAt s rowParity row b i l) ≤ summedMost
+  pub most : (b : ℕ) → b < n → (i l : ℕ) → i < 16 → l < 32 → natAbs (pairAt s rowParity row b i l) ≤ takenMost
 
 module _ {s : Scene} {rowParity row : ℕ} {d : List ℤ} where
   pub store-start : slotOf (s .width) row + rowWords (s .width) ≤ length d → Storing s rowParity row d 0 d
   unfolding rowWords
-  store-start room = record { count = omega arith; writing = write-start room; most = below-none (λ b. (i l : ℕ) → i < 16 → l < 32 → natAbs (pairAt s rowParity row b i l) ≤ summedMost) }
+  store-start room = record { count = omega arith; writing = write-start room; most = below-none (λ b. (i l : ℕ) → i < 16 → l < 32 → natAbs (pairAt s rowParity row b i l) ≤ takenMost) }
 
   pub store-turn : {n : ℕ} {l r : List ℤ} {tile : List (List ℤ)} → Storing s rowParity row d n l → n < s .width / finestSide + 1
-      → Summed s (record { «row_parity» = rowParity; row = row; column = n }) tile
+      → Taken s (record { «row_parity» = rowParity; row = row; column = n }) tile
       → r ≡ written l (slotOf (s .width) row + 512 * n) (λ k. cell (pos 0) tile (k / 32) (k % 32)) 512
       → Storing s rowParity row d (n + 1) r
   unfolding rowWord
@@ -46,7 +46,7 @@ module _ {s : Scene} {rowParity row : ℕ} {d : List ℤ} where
       record {
         count = omega arith;
         writing = subst (λ k. Writing d (slotOf (s .width) row) (rowWord s rowParity row) (512 * (s .width / finestSide + 1)) k r) (omega arith) (write-part (w .writing) (omega arith) word is);
-        most = below-more (λ b. (i l : ℕ) → i < 16 → l < 32 → natAbs (pairAt s rowParity row b i l) ≤ summedMost) n (w .most) (sum .most);
+        most = below-more (λ b. (i l : ℕ) → i < 16 → l < 32 → natAbs (pairAt s rowParity row b i l) ≤ takenMost) n (w .most) (sum .most);
       }
     where
       place : (k : ℕ) → k < 512 → pairAt s rowParity row n (k / 32) (k % 32) ≡ rowWord s rowParity row (512 * n + k)
@@ -64,7 +64,7 @@ module _ {s : Scene} {rowParity row : ℕ} {d : List ℤ} where
   unfolding rowWords rowWord
   store-done {n} {l} w h = record { is = write-done (w .writing) (omega arith); most = most }
     where
-      most : (k : ℕ) → k < rowWords (s .width) → natAbs (rowWord s rowParity row k) ≤ summedMost
+      most : (k : ℕ) → k < rowWords (s .width) → natAbs (rowWord s rowParity row k) ≤ takenMost
       most k b =
           let parity : k % 32 % 2 ≡ k % 2 = omega arith in
           rw parity at (w .most (k / 512) (omega arith) (k % 512 / 32) (k % 32) (omega arith) (omega arith))

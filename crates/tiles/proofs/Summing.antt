@@ -13,10 +13,10 @@ use Rattle.spectrum.specs.ZeroLaws.{no-noise}
 use Rattle.spectrum.specs.DifferenceLaws.{correction-cong}
 use Rattle.spectrum.specs.Pairs.{planeIn, sideBySide, either, Paired}
 use Rattle.lines.specs.Lines.{LineMost, TileMost}
-use Rattle.spectrum.specs.Magnitudes.{correctionMost}
+use Rattle.spectrum.specs.Magnitudes.{smallMost}
 use Rattle.tiles.specs.declared.Site.{Site}
 use Rattle.recipe.specs.Scene.{Scene, tileNoise, difference}
-use Rattle.tiles.specs.Sum.{summedAt, summedMost, Summed}
+use Rattle.tiles.specs.Sum.{summedAt, Summed}
 
 module _ (s : Scene) (t : Site) where
   -- P of the tile of column parity p for the k-th other frame, and the sums of the first n of these, side by side
@@ -32,7 +32,7 @@ pub record Summing (s : Scene) (t : Site) (n : ℕ) (sum : List (List ℤ)) : Ty
   pub few : s .others ≤ 7
   pub of-16 : s .side ≡ side16
   pub is : sum ≡ grid 16 32 (partAt s t n)
-  pub most : (i l : ℕ) → i < 16 → l < 32 → natAbs (partAt s t n i l) ≤ n * correctionMost
+  pub most : (i l : ℕ) → i < 16 → l < 32 → natAbs (partAt s t n i l) ≤ n * smallMost
 
 -- where both V are 0, so is the sum
 pub zero-summed : {s : Scene} {t : Site} {sum : List (List ℤ)} → ((p : ℕ) → p < 2 → tileNoise s (t .«row_parity») p (t .row) (t .column) ≡ 0) → sum ≡ grid 16 32 (λ i l. pos 0) → Summed s t sum
@@ -55,7 +55,7 @@ module _ {s : Scene} {t : Site} where
     pub sum-turn : (first second : ℕ) {d r : List (List ℤ)} → ((p : ℕ) → p < 2 → either first second p ≡ tileNoise s (t .«row_parity») p (t .row) (t .column))
         → d ≡ grid 16 32 (sideBySide (λ p. difference s (t .«row_parity») p (t .row) (t .column) n))
         → r ≡ grid 16 32 (λ i l. cell (pos 0) sum i l +ℤ correctionAt side16 (either first second (l % 2)) (planeIn (cell (pos 0) d) (l % 2)) i (l / 2))
-        → ((p : ℕ) → p < 2 → (i j : ℕ) → natAbs (termAt s t n p i j) ≤ correctionMost)
+        → ((p : ℕ) → p < 2 → (i j : ℕ) → natAbs (termAt s t n p i j) ≤ smallMost)
         → Summing s t (n + 1) r
     unfolding side16
     sum-turn first second {d} {r} v de re small =
@@ -64,7 +64,7 @@ module _ {s : Scene} {t : Site} where
           few = w .few;
           of-16 = w .of-16;
           is = re ∙ grid-ext 16 32 _ _ (λ i l g k. ap₂ _+ℤ_ (cell-at w i l g k) (term (l % 2) (omega arith) i (l / 2)) ∙ next i l);
-          most = λ i l g k. subst (λ z. natAbs z ≤ (n + 1) * correctionMost) (next i l)
+          most = λ i l g k. subst (λ z. natAbs z ≤ (n + 1) * smallMost) (next i l)
               (omega (arith, abs-add (partAt s t n i l) (sideBySide (termAt s t n) i l), small (l % 2) (omega arith) i (l / 2), w .most i l g k));
         }
       where
@@ -103,5 +103,5 @@ module _ {s : Scene} {t : Site} where
       let e : n ≡ s .others = omega (arith, w .count) in
       record {
         is = w .is ∙ ap (λ m. grid 16 32 (partAt s t m)) e;
-        most = λ i l g k. subst (λ m. natAbs (partAt s t m i l) ≤ summedMost) e (omega (arith, w .most i l g k, w .few));
+        most = λ i l g k. subst (λ m. natAbs (partAt s t m i l) ≤ m * smallMost) e (w .most i l g k);
       }

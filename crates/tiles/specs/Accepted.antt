@@ -12,6 +12,15 @@ pub record Accepted (m : Merge) (samples : List ℕ) (vectors : List ℤ) : Type
   pub shot-most : m .shot ≤ 65536
   pub read-most : m .read ≤ 4194304
   pub strength-most : m .tuning .strength ≤ 1024
+  pub spatial-most : m .tuning .spatial ≤ 256
+
+-- what the spatial filter needs of it
+pub record Tuned (m : Merge) : Type 0 where
+  pub some : 1 ≤ m .shape .count
+  pub few : m .shape .count ≤ 8
+  pub shot-most : m .shot ≤ 65536
+  pub read-most : m .read ≤ 4194304
+  pub spatial-most : m .tuning .spatial ≤ 256
 
 -- a pair of tiles of the planes of one row parity
 pub record Sited (s : Shape) (t : Site) : Type 0 where

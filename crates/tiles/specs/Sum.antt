@@ -1,13 +1,14 @@
--- Inside this crate, gather and merging: the corrections of a pair of tiles, summed over the other frames, and the pair on the way there.
-use Rattle.algebra.specs.Prelude.{_≡_, List, [], ℕ, _^_, _≤_, _<_, getD, ℤ, natAbs}
+-- Inside this crate, gather and merging: the corrections of a pair of tiles, summed over the other frames and filtered, and the pair on the way there.
+use Rattle.algebra.specs.Prelude.{_≡_, List, [], ℕ, _*_, _^_, _≤_, _<_, getD, ℤ, natAbs}
 use Rattle.algebra.specs.Sums.{sumZ}
 use Rattle.sequences.specs.Grid.{grid}
 use Rattle.geometry.specs.Fits.{ValuesFit}
-use Rattle.spectrum.specs.Magnitudes.{noiseMost}
+use Rattle.spectrum.specs.Magnitudes.{noiseMost, smallMost}
 use Rattle.spectrum.specs.Pairs.{sideBySide, either}
 use Rattle.tiles.specs.declared.Site.{Site}
 use Rattle.recipe.specs.Correction.{correctionAt}
-use Rattle.recipe.specs.Scene.{Scene, referenceTile, tileNoise, difference}
+use Rattle.recipe.specs.Spatial.{takenAt}
+use Rattle.recipe.specs.Scene.{Scene, referenceTile, tileNoise, difference, tileHere}
 
 -- each sample of a pair is at most 4095
 pub record TileFits (t : List (List ℕ)) : Type 0 where
@@ -25,11 +26,20 @@ unfoldable pub summedAt : Scene → (rowParity columnParity a b i j : ℕ) → �
 summedAt s rowParity columnParity a b i j =
     sumZ (s .others) (λ k. correctionAt (s .side) (tileNoise s rowParity columnParity a b) (difference s rowParity columnParity a b k) i j)
 
--- the largest such sum, of up to seven other frames
-abbrev pub summedMost : ℕ
-summedMost = 2 ^ 33
-
 -- r is the sums of a pair's corrections over the other frames
 pub record Summed (s : Scene) (t : Site) (r : List (List ℤ)) : Type 0 where
   pub is : r ≡ grid 16 32 (sideBySide (λ p. summedAt s (t .«row_parity») p (t .row) (t .column)))
-  pub most : (i l : ℕ) → i < 16 → l < 32 → natAbs (sideBySide (λ p. summedAt s (t .«row_parity») p (t .row) (t .column)) i l) ≤ summedMost
+  pub most : (i l : ℕ) → i < 16 → l < 32 → natAbs (sideBySide (λ p. summedAt s (t .«row_parity») p (t .row) (t .column)) i l) ≤ s .others * smallMost
+
+-- what is taken from T0 in all, in 1/(256·N): the sum of P, and N·P' of the spatial filter
+unfoldable pub takenIn : Scene → (rowParity columnParity a b i j : ℕ) → ℤ
+takenIn s rowParity columnParity a b = takenAt (s .side) (s .others) (tileHere s rowParity columnParity a b)
+
+-- the largest such number, of up to seven other frames
+abbrev pub takenMost : ℕ
+takenMost = 2 ^ 33
+
+-- r is what is taken from a pair
+pub record Taken (s : Scene) (t : Site) (r : List (List ℤ)) : Type 0 where
+  pub is : r ≡ grid 16 32 (sideBySide (λ p. takenIn s (t .«row_parity») p (t .row) (t .column)))
+  pub most : (i l : ℕ) → i < 16 → l < 32 → natAbs (sideBySide (λ p. takenIn s (t .«row_parity») p (t .row) (t .column)) i l) ≤ takenMost

@@ -1,17 +1,21 @@
-// The corrections of a pair of tiles: its noise numbers, its differences to the other frames, and P summed over them.
+// What is taken from a pair of tiles: its noise numbers, its differences to the other frames, P summed over them, and the spatial filter's P'.
 ghost use mathlib.Core.Path.{_≡_};
-ghost use Prim.Native.Nat.{_≤_, _<_};
-ghost use lib.IntN.{pos};
-ghost use Rattle.sequences.specs.Grid.{grid};
+ghost use Prim.Native.Nat.{_/_, _%_, _≤_, _<_};
+ghost use lib.IntN.{pos, _+ℤ_, _*ℤ_};
+ghost use Rattle.sequences.specs.Grid.{grid, cell};
 ghost use Rattle.recipe.specs.Tables.{side16};
 ghost use Rattle.recipe.specs.NoiseNumber.{noiseNumber};
+ghost use Rattle.recipe.specs.SpatialNoise.{spatialNumber};
 ghost use Rattle.recipe.specs.Scene.{sceneOf, blackOf};
 ghost use Rattle.spectrum.specs.Magnitudes.{noiseMost};
-ghost use Rattle.tiles.specs.Accepted.{Accepted, Sited};
-ghost use Rattle.tiles.specs.Sum.{TileOf, Summed};
+ghost use Rattle.spectrum.specs.Pairs.{Paired, planeIn, either};
+ghost use Rattle.grain.specs.Filtering.{copyIn, stepAt, SamplePair, SumPair};
+ghost use Rattle.tiles.specs.Accepted.{Accepted, Sited, Tuned};
+ghost use Rattle.tiles.specs.Sum.{TileOf, Summed, Taken};
 use crate::Site;
 use crate::reading::differences;
 use crate::reading::pair;
+use noise::spatial::spatial_numbers;
 use recipe::Merge;
 use recipe::Tuning;
 
@@ -54,7 +58,38 @@ fn corrections(
     }
 }
 
-// T0, r and V of a pair of tiles, and its corrections, summed over the other frames from 0; all 0 where both V are.
+// The same; all 0 where both V are.
+fn summed(
+    m: Merge,
+    samples: &[u16],
+    vectors: &[i32],
+    site: Site,
+    t0: &[[u16; 32]; 16],
+    first: u64,
+    second: u64,
+    sum: &mut [[i64; 32]; 16],
+)
+    requires { ⌜ record { accepted : Accepted m (now samples) (now vectors); sited : Sited (m .shape) site; tile : TileOf (sceneOf m (now samples) (now vectors)) site (now t0) first second; cleared : now sum ≡ grid 16 32 (λ i l. pos 0) } ⌝ }
+    ensures { λ _. ⌜ Summed (sceneOf m (now (samples .entry)) (now (vectors .entry))) site (now (sum .exit)) ⌝ }
+{
+    if first + second == 0 {
+        return;
+    }
+    corrections(m, samples, vectors, site, t0, first, second, &mut *sum);
+}
+
+// N·P' of the spatial filter is added to the sums of a pair of tiles of these roots.
+fn filter_sums(m: Merge, t0: &[[u16; 32]; 16], first: u64, second: u64, sum: &mut [[i64; 32]; 16])
+    requires { ⌜ record { tuned : Tuned m; first-most : first ≤ 65520; second-most : second ≤ 65520; samples : SamplePair (now t0); sums : SumPair (m .shape .count) (now sum); paired : Paired (pos 0) (now sum) } ⌝ }
+    ensures { λ _. ⌜ now (sum .exit) ≡ grid 16 32 (λ y l. cell (pos 0) (now (sum .entry)) y l +ℤ pos (m .shape .count) *ℤ stepAt (spatialNumber side16 (m .tuning .spatial) (m .shot) (m .read) (either first second (l % 2)) (m .shape .count)) (copyIn (m .shape .count) (planeIn (cell 0 (now (t0 .entry))) (l % 2)) (planeIn (cell (pos 0) (now (sum .entry))) (l % 2))) y (l / 2)) ⌝ }
+{
+    let frames = m.shape.count as u64;
+    let a = spatial_numbers(m.tuning.spatial, m.shot, m.read, first, frames);
+    let b = spatial_numbers(m.tuning.spatial, m.shot, m.read, second, frames);
+    grain::filter_pair(frames, &a, &b, t0, &mut *sum);
+}
+
+// T0, r and V of a pair of tiles, and what is taken from it: its corrections, summed over the other frames from 0, and where s is not 0 the spatial filter's.
 pub fn tile_correction(
     m: Merge,
     samples: &[u16],
@@ -63,7 +98,7 @@ pub fn tile_correction(
     sum: &mut [[i64; 32]; 16],
 )
     requires { ⌜ record { accepted : Accepted m (now samples) (now vectors); sited : Sited (m .shape) site; cleared : now sum ≡ grid 16 32 (λ i l. pos 0) } ⌝ }
-    ensures { λ _. ⌜ Summed (sceneOf m (now (samples .entry)) (now (vectors .entry))) site (now (sum .exit)) ⌝ }
+    ensures { λ _. ⌜ Taken (sceneOf m (now (samples .entry)) (now (vectors .entry))) site (now (sum .exit)) ⌝ }
 {
     let shape = m.shape;
     let mut t0 = [[0u16; 32]; 16];
@@ -73,8 +108,9 @@ pub fn tile_correction(
     let roots = roots::pair_roots(first_black, second_black, &t0);
     let first = tile_noise(m, roots.first);
     let second = tile_noise(m, roots.second);
-    if first + second == 0 {
+    summed(m, samples, vectors, site, &t0, first, second, &mut *sum);
+    if m.tuning.spatial == 0 {
         return;
     }
-    corrections(m, samples, vectors, site, &t0, first, second, &mut *sum);
+    filter_sums(m, &t0, roots.first, roots.second, &mut *sum);
 }

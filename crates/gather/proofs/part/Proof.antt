@@ -1,14 +1,14 @@
 -- A word of the row, which is small, times its weight.
 use Rattle.algebra.specs.Prelude.{_≡_, ap, _∙_, _+_, _*_, _/_, arith, needs, getD, pos, _*ℤ_, w64, toZ-ofZ, now}
 use Rattle.algebra.specs.Bound.{AtMost, most-fits}
-use Rattle.tiles.specs.Sum.{summedMost}
+use Rattle.tiles.specs.Sum.{takenMost}
 use Rattle.gather.specs.Work.{weightMost}
 use Rattle.gather.proofs.Weighing.{weight-most, weightOf, weight-at}
 use Rattle.tiles.specs.SignedLaws.{product-is, product-most}
 use Rattle.gather.proofs.part.Statement.{statement}
 use Rattle.gather.proofs.part.Tie as tie
 
-word-most : (c : tie.Start) → let a = c .args in AtMost summedMost (getD (now (a .work)) (a .start + (32 * a .i + a .l)) (pos 0))
+word-most : (c : tie.Start) → let a = c .args in AtMost takenMost (getD (now (a .work)) (a .start + (32 * a .i + a .l)) (pos 0))
 word-most c = record { most = c .pre .words .most _ (omega arith) }
 
 weight-is : (c : tie.Start) → let a = c .args in getD (now (a .weights)) (a .l) (pos 0) ≡ weightOf (a .i) (a .l)

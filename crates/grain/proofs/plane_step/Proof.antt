@@ -1,20 +1,11 @@
 -- The copy, P' of it, and N times that.
-use Rattle.algebra.specs.Prelude.{_≡_, ap, ap₂, _∙_, ℕ, _<_, needs, ℤ, pos, _*ℤ_, now}
+use Rattle.algebra.specs.Prelude.{ap, _∙_, needs, pos, _*ℤ_, now}
 use Rattle.sequences.specs.Grid.{grid, cell, cell-grid, grid-ext}
-use Rattle.recipe.specs.Tables.{side16}
-use Rattle.recipe.specs.Correction.{inverseAt}
-use Rattle.recipe.specs.Spatial.{copyFiltered}
-use Rattle.spectrum.specs.DifferenceLaws.{bin-re, bin-im}
 use Rattle.spectrum.specs.Pairs.{planeIn}
 use Rattle.grain.specs.Filtering.{copyIn, stepAt}
+use Rattle.grain.specs.FilteringLaws.{step-cong}
 use Rattle.grain.proofs.plane_step.Statement.{statement}
 use Rattle.grain.proofs.plane_step.Tie as tie
-
--- P' depends on the copy's numbers alone
-step-cong : (noise : ℕ → ℕ → ℕ) (c d : ℕ → ℕ → ℤ) → ((y x : ℕ) → y < 16 → x < 16 → c y x ≡ d y x) → (y x : ℕ) → stepAt noise c y x ≡ stepAt noise d y x
-unfolding stepAt side16
-step-cong noise c d same y x =
-    ap₂ (λ re im. inverseAt side16 (λ u v. copyFiltered side16 (noise u v) (re u v) (im u v)) (λ u v. copyFiltered side16 (noise u v) (im u v) (re u v)) y x) (bin-re side16 c d same) (bin-im side16 c d same)
 
 spatial-correction-requires : tie.Need-spatial-correction-requires
 spatial-correction-requires c κs = record { copy-most = c .copy-plane .ensures .1; noises-most = c .before .pre .noises-most }

@@ -25,7 +25,7 @@ unfolding grid
 row-is u h = ap (λ t. getD t u []) distances-are ∙ getD-tab (λ u. tab 16 (distance u)) [] 16 u h
 
 row-most : (u : ℕ) → u < 16 → (j : ℕ) → getD (getD distances u []) j 0 ≤ 181
-row-most u h j = subst (λ l. getD l j 0 ≤ 181) (sym (row-is u h)) (tab-each (λ n. n ≤ 181) 0 (distance u) zero-le 16 (λ v k. distance-most u v h k) j)
+row-most u h j = subst (λ l. getD l j 0 ≤ 181) (sym (row-is u h)) (tab-each (λ n. n ≤ 181) 0 (distance u) zero-le 16 (λ v k. distance-most u v) j)
 
 mul-scale-3 : tie.Need-mul-scale-3 Inv-loop μ-loop
 unfolding variance side16

@@ -1,10 +1,12 @@
 -- The sum goes on by one frame a turn.
-use Rattle.algebra.specs.Prelude.{_≡_, refl, sym, subst, _-_, arith, needs, length}
+use Rattle.algebra.specs.Prelude.{_≡_, refl, sym, subst, _-_, _≤_, arith, needs, eqb, length}
 use Rattle.recipe.specs.Scene.{sceneOf}
 use Rattle.lines.specs.Lines.{TileMost}
 use Rattle.lines.specs.Magnitudes.{differenceMost}
-use Rattle.spectrum.specs.SizeLaws.{correction-most}
-use Rattle.tiles.proofs.Differences.{pair-rows, difference-most, tile-most}
+use Rattle.spectrum.specs.Magnitudes.{noiseMost}
+use Rattle.spectrum.specs.SizeLaws.{correction-small}
+use Rattle.spectrum.specs.Apart.{cond-cases}
+use Rattle.tiles.proofs.Differences.{pair-rows, tile-most}
 use Rattle.tiles.proofs.Summing.{Summing, sum-start, sum-turn, sum-paired, sum-small, sum-done}
 use Rattle.tiles.proofs.correcting.corrections.Statement.{statement}
 use Rattle.tiles.proofs.correcting.corrections.Tie as tie
@@ -46,7 +48,7 @@ loop-again c =
     let s = l .before .before .before in
     record {
       sums = sum-turn (l .loop .inv .sums) (omega arith) (s .args .first) (s .args .second) (s .pre .tile .number) (d .differences .ensures .0) (c .add-corrections .ensures)
-          (λ p h. correction-most _ _ (difference-most (s .pre .accepted) (s .pre .sited) (l .loop .k) (omega arith) p h));
+          (λ p h. correction-small _ (subst (λ n. n ≤ noiseMost) (s .pre .tile .number p h) (cond-cases (λ n. n ≤ noiseMost) (eqb p 0) (s .pre .tile .first-most) (s .pre .tile .second-most))) _);
       tz-rows = d .differences .ensures .1;
       d-rows = pair-rows _ (d .differences .ensures .0);
     }

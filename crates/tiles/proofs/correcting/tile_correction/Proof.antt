@@ -1,6 +1,5 @@
--- T0 has its roots and its noise numbers; where both are 0, so is every correction.
-use Rattle.algebra.specs.Prelude.{_≡_, sym, ap, _∙_, List, ℕ, _+_, _*_, _/_, _%_, _≤_, _<_, arith, needs, lit<, ℤ, now}
-use borrow.Author.Count.{below-none, below-more}
+-- T0 has its roots and its noise numbers, and what is taken from it is its sums, or these with the spatial filter's.
+use Rattle.algebra.specs.Prelude.{_≡_, ap, _∙_, List, ℕ, suc, _+_, _*_, _/_, _%_, _≤_, _<_, arith, needs, lit<, ℤ, now}
 use Rattle.sequences.specs.Grid.{grid, cell, cell-grid}
 use Rattle.recipe.specs.Tables.{side16}
 use Rattle.recipe.specs.NoiseNumber.{tileRoot, noiseNumber}
@@ -9,24 +8,22 @@ use Rattle.spectrum.specs.Magnitudes.{noiseMost}
 use Rattle.spectrum.specs.Pairs.{sideBySide, either}
 use Rattle.recipe.specs.declared.Merge.{Merge}
 use Rattle.tiles.specs.declared.Site.{Site}
-use Rattle.recipe.specs.Scene.{Scene, sceneOf, blackOf, referenceTile, tileNoise}
+use Rattle.recipe.specs.Scene.{sceneOf, blackOf, referenceTile, referenceRoot, tileNoise}
+use Rattle.noise.specs.SpatialRange.{SpatialRange}
+use Rattle.tiles.specs.Accepted.{Accepted, Tuned}
 use Rattle.tiles.specs.Sum.{TileOf}
 use Rattle.tiles.proofs.Differences.{tile-fits, reference-most}
-use Rattle.tiles.proofs.Summing.{zero-summed}
+use Rattle.tiles.proofs.Noises.{both}
+use Rattle.tiles.proofs.Filtering.{sums-fit, sums-paired, taken-off, taken-on}
 use Rattle.tiles.proofs.correcting.tile_correction.Statement.{statement}
 use Rattle.tiles.proofs.correcting.tile_correction.Tie as tie
 
--- what holds of either column parity
-both : (P : ℕ → Type 0) → P 0 → P 1 → (p : ℕ) → p < 2 → P p
-both P a b = below-more P 1 (below-more P 0 (below-none P) a) b
-
 module _ (m : Merge) (samples : List ℕ) (vectors : List ℤ) (t : Site) {t0 : List (List ℕ)} (e : t0 ≡ grid 16 32 (sideBySide (λ p. referenceTile (sceneOf m samples vectors) (t .«row_parity») p (t .row) (t .column)))) where
-  -- V of the tile of column parity p, by the r of its cells
-  number : (p : ℕ) → p < 2 → (at : ℕ → ℕ) → ((j : ℕ) → at j ≡ 2 * j + p) → {black root noise : ℕ} → black ≡ blackOf (m .tuning) (t .«row_parity») p → root ≡ tileRoot 16 black (λ i j. cell 0 t0 i (at j))
-      → noise ≡ noiseNumber side16 (m .tuning .strength) (m .shot) (m .read) root → noise ≡ tileNoise (sceneOf m samples vectors) (t .«row_parity») p (t .row) (t .column)
-  unfolding tileNoise sceneOf side16
-  number p h at place b r v =
-      v ∙ ap (noiseNumber side16 (m .tuning .strength) (m .shot) (m .read)) (r ∙ ap (λ l. tileRoot 16 l (λ i j. cell 0 t0 i (at j))) b ∙ tile-root-cong 16 _ _ _ plane)
+  -- r of the tile of column parity p, by its cells
+  root-of : (p : ℕ) → p < 2 → (at : ℕ → ℕ) → ((j : ℕ) → at j ≡ 2 * j + p) → {black root : ℕ} → black ≡ blackOf (m .tuning) (t .«row_parity») p → root ≡ tileRoot 16 black (λ i j. cell 0 t0 i (at j))
+      → root ≡ referenceRoot (sceneOf m samples vectors) (t .«row_parity») p (t .row) (t .column)
+  unfolding sceneOf side16
+  root-of p h at place b r = r ∙ ap (λ l. tileRoot 16 l (λ i j. cell 0 t0 i (at j))) b ∙ tile-root-cong 16 _ _ _ plane
     where
       plane : (i j : ℕ) → i < 16 → j < 16 → cell 0 t0 i (at j) ≡ referenceTile (sceneOf m samples vectors) (t .«row_parity») p (t .row) (t .column) i j
       plane i j k l =
@@ -34,18 +31,17 @@ module _ (m : Merge) (samples : List ℕ) (vectors : List ℤ) (t : Site) {t0 : 
           let column : at j / 2 ≡ j = omega (arith, place j) in
           ap (λ x. cell 0 x i (at j)) e ∙ cell-grid 0 16 32 _ i (at j) k (omega (arith, place j)) ∙ rw (parity, column)
 
+  -- and its V
+  number : (p : ℕ) {root noise : ℕ} → root ≡ referenceRoot (sceneOf m samples vectors) (t .«row_parity») p (t .row) (t .column)
+      → noise ≡ noiseNumber side16 (m .tuning .strength) (m .shot) (m .read) root → noise ≡ tileNoise (sceneOf m samples vectors) (t .«row_parity») p (t .row) (t .column)
+  unfolding tileNoise sceneOf side16
+  number p r v = v ∙ ap (noiseNumber side16 (m .tuning .strength) (m .shot) (m .read)) r
+
   -- both of them
   tile-of : {first second : ℕ} → first ≡ tileNoise (sceneOf m samples vectors) (t .«row_parity») 0 (t .row) (t .column) → second ≡ tileNoise (sceneOf m samples vectors) (t .«row_parity») 1 (t .row) (t .column)
       → first ≤ noiseMost → second ≤ noiseMost → TileOf (sceneOf m samples vectors) t t0 first second
   tile-of {first} {second} v w f g =
       record { is = e; number = both (λ p. either first second p ≡ tileNoise (sceneOf m samples vectors) (t .«row_parity») p (t .row) (t .column)) v w; first-most = f; second-most = g }
-
--- where they add up to 0, neither tile has noise
-no-noise-of : {s : Scene} {t : Site} {t0 : List (List ℕ)} {first second : ℕ} → TileOf s t t0 first second → first + second ≡ 0 → (p : ℕ) → p < 2 → tileNoise s (t .«row_parity») p (t .row) (t .column) ≡ 0
-no-noise-of {s} {t} {first = first} {second = second} k h =
-    let f : first ≡ 0 = omega arith in
-    let g : second ≡ 0 = omega arith in
-    both (λ p. tileNoise s (t .«row_parity») p (t .row) (t .column) ≡ 0) (sym (k .number 0 (lit< tt)) ∙ f) (sym (k .number 1 (lit< tt)) ∙ g)
 
 -- T0
 tile-is : (c : tie.After-pair) → let a = c .before .before .before .before .args in
@@ -61,30 +57,88 @@ pair-roots-requires c κs =
     let fits = tile-fits _ (reference-most (s .pre .accepted) (s .pre .sited)) (tile-is t) in
     record { most = λ i l. fits .row i .most l }
 
+abbrev rootsOf : tie.After-tile-noise2 → ℕ → ℕ
+rootsOf c = either (c .before .before .pair-roots .result .first) (c .before .before .pair-roots .result .second)
+
+-- r of either plane
+roots-known : (c : tie.After-tile-noise2) → let a = c .before .before .before .before .before .before .before .before .before .before .args in
+    (p : ℕ) → p < 2 → rootsOf c p ≡ referenceRoot (sceneOf (a .m) (now (a .samples)) (now (a .vectors))) (a .site .«row_parity») p (a .site .row) (a .site .column)
+roots-known c =
+    let r = c .before .before in
+    let b = r .before .before in
+    let t = b .before .before in
+    let a = t .before .before .before .before .args in
+    both (λ p. rootsOf c p ≡ referenceRoot (sceneOf (a .m) (now (a .samples)) (now (a .vectors))) (a .site .«row_parity») p (a .site .row) (a .site .column))
+    (root-of (a .m) (now (a .samples)) (now (a .vectors)) (a .site) (tile-is t) 0 (lit< tt) (λ j. 2 * j) (λ j. omega arith) (b .before .plane-black .ensures) (r .pair-roots .ensures .first))
+    (root-of (a .m) (now (a .samples)) (now (a .vectors)) (a .site) (tile-is t) 1 (lit< tt) (λ j. 2 * j + 1) (λ j. omega arith) (b .plane-black2 .ensures) (r .pair-roots .ensures .second))
+
 known : (c : tie.After-tile-noise2) → let t = c .before .before .before .before .before .before in let a = t .before .before .before .before .args in
     TileOf (sceneOf (a .m) (now (a .samples)) (now (a .vectors))) (a .site) (t .pair .last .1 .1 .1 .1 .1 .1 .0) (c .before .tile-noise .result) (c .tile-noise2 .result)
 known c =
     let v = c .before in
-    let r = v .before in
-    let b = r .before .before in
-    let t = b .before .before in
+    let t = v .before .before .before .before .before in
     let a = t .before .before .before .before .args in
     tile-of (a .m) (now (a .samples)) (now (a .vectors)) (a .site) (tile-is t)
-    (number (a .m) (now (a .samples)) (now (a .vectors)) (a .site) (tile-is t) 0 (lit< tt) (λ j. 2 * j) (λ j. omega arith) (b .before .plane-black .ensures) (r .pair-roots .ensures .first) (v .tile-noise .ensures .0))
-    (number (a .m) (now (a .samples)) (now (a .vectors)) (a .site) (tile-is t) 1 (lit< tt) (λ j. 2 * j + 1) (λ j. omega arith) (b .plane-black2 .ensures) (r .pair-roots .ensures .second) (c .tile-noise2 .ensures .0))
+    (number (a .m) (now (a .samples)) (now (a .vectors)) (a .site) (tile-is t) 0 (roots-known c 0 (lit< tt)) (v .tile-noise .ensures .0))
+    (number (a .m) (now (a .samples)) (now (a .vectors)) (a .site) (tile-is t) 1 (roots-known c 1 (lit< tt)) (c .tile-noise2 .ensures .0))
     (v .tile-noise .ensures .1) (c .tile-noise2 .ensures .1)
 
-returns : tie.Need-returns
-returns c = zero-summed (no-noise-of (known (c .before)) (c .if1 .taken)) (c .before .before .before .before .before .before .before .before .before .before .before .pre .cleared)
-
-corrections-requires : tie.Need-corrections-requires
-corrections-requires c κs =
-    let n = c .before .before .before in
+summed-requires : tie.Need-summed-requires
+summed-requires c κs =
+    let n = c .before .before in
     let s = n .before .before .before .before .before .before .before .before .before .before in
     record { accepted = s .pre .accepted; sited = s .pre .sited; tile = known n; cleared = s .pre .cleared }
+
+returns : tie.Need-returns
+unfolding sceneOf
+returns c =
+    let u = c .before .before in
+    let s = u .before .before .before .before .before .before .before .before .before .before .before .before .before in
+    let few = s .pre .accepted .burst .allowed .few in
+    taken-off _ _ (c .if1 .taken) (omega arith) (u .summed .ensures)
+
+-- N frames
+frames-are : {m : Merge} {samples : List ℕ} {vectors : List ℤ} → Accepted m samples vectors → m .shape .count ≡ suc (sceneOf m samples vectors .others)
+unfolding sceneOf
+frames-are ok = let h = ok .burst .allowed .some in omega arith
+
+tuned : {m : Merge} {samples : List ℕ} {vectors : List ℤ} → Accepted m samples vectors → Tuned m
+tuned ok = record { some = ok .burst .allowed .some; few = ok .burst .allowed .few; shot-most = ok .shot-most; read-most = ok .read-most; spatial-most = ok .spatial-most }
+
+filter-sums-requires : tie.Need-filter-sums-requires
+filter-sums-requires c κs =
+    let u = c .before .before .before .before in
+    let n = u .before .before .before in
+    let r = n .before .before in
+    let t = r .before .before .before .before in
+    let s = t .before .before .before .before in
+    let fits = tile-fits _ (reference-most (s .pre .accepted) (s .pre .sited)) (tile-is t) in
+    record {
+      tuned = tuned (s .pre .accepted);
+      first-most = r .pair-roots .ensures .first-most;
+      second-most = r .pair-roots .ensures .second-most;
+      samples = record { row = λ y. record { at = λ l. fits .row y .most l } };
+      sums = sums-fit _ _ _ (frames-are (s .pre .accepted)) (u .summed .ensures);
+      paired = sums-paired (u .summed .ensures);
+    }
+
+returns-2 : tie.Need-returns-2
+returns-2 c =
+    let u = c .before .before .before .before .before in
+    let n = u .before .before .before in
+    let r = n .before .before in
+    let t = r .before .before .before .before in
+    let s = t .before .before .before .before in
+    let a = s .args in
+    let k = tuned (s .pre .accepted) in
+    let range : (root : ℕ) → root ≤ 65520 → SpatialRange (a .m .tuning .spatial) (a .m .shot) (a .m .read) root (a .m .shape .count) =
+    λ root h. record { strength = k .spatial-most; shot = k .shot-most; read = k .read-most; root = h; some = k .some; few = k .few } in
+    taken-on (a .m) (now (a .samples)) (now (a .vectors)) (a .site) _ _ (r .pair-roots .result .first) (r .pair-roots .result .second) (k .some) (k .few) (tile-is t) (u .summed .ensures) (roots-known n)
+    (both (λ p. SpatialRange (a .m .tuning .spatial) (a .m .shot) (a .m .read) (rootsOf n p) (a .m .shape .count)) (range _ (r .pair-roots .ensures .first-most)) (range _ (r .pair-roots .ensures .second-most)))
+    (c .filter-sums .ensures)
 
 pub tile-correction-spec : {M : Type 1} → statement M
 tile-correction-spec = tie.close (tie.spec
     (λ c κs. search needs) (λ c κs. search needs) (λ c κs. search needs) pair-roots-requires
-    (λ c κs. search needs) (λ c κs. search needs) (λ c. search needs) returns corrections-requires
-    (λ c. search needs))
+    (λ c κs. search needs) (λ c κs. search needs) summed-requires returns filter-sums-requires
+    returns-2)

@@ -27,7 +27,7 @@ module _ (s : Side) (others : ℕ) (t : Tile) (above : 0 < s .divisor) (none : (
       let c = copyAt s others t in
       inverse-zero s above _ _ (λ u v. filtered-none s (t .spatial u v) (binRe s c u v) (binIm s c u v) (none u v)) (λ u v. filtered-none s (t .spatial u v) (binIm s c u v) (binRe s c u v) (none u v)) y x
 
-  taken-none : takenAt s others t y x ≡ mergedSum s others t y x
+  pub taken-none : takenAt s others t y x ≡ mergedSum s others t y x
   unfolding takenAt
   taken-none =
       ap (λ p. mergedSum s others t y x +ℤ pos (suc others) *ℤ p) spatial-none

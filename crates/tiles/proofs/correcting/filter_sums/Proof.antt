@@ -1,0 +1,73 @@
+-- V' of both planes, and the filter.
+use Rattle.algebra.specs.Prelude.{_≡_, refl, ap, ap₂, subst, sym, _∙_, List, [], ℕ, _/_, _%_, _≤_, _<_, arith, needs, getD, ℤ, pos, _+ℤ_, _*ℤ_, now}
+use Prim.Native.Nat.{zero-le}
+use Rattle.sequences.specs.Tab.{tab}
+use Rattle.sequences.specs.TabLaws.{tab-every}
+use Rattle.sequences.specs.Grid.{grid, cell, cell-grid, grid-ext}
+use Rattle.recipe.specs.Tables.{side16}
+use Rattle.recipe.specs.SpatialNoise.{spatialNumber}
+use Rattle.recipe.specs.declared.Merge.{Merge}
+use Rattle.noise.specs.SpatialRange.{SpatialRange}
+use Rattle.noise.specs.SpatialLaws.{spatial-number-most}
+use Rattle.plain.specs.Complex.{NoiseLine, NoisesMost}
+use Rattle.spectrum.specs.Magnitudes.{spatialMost}
+use Rattle.spectrum.specs.Pairs.{planeIn, either}
+use Rattle.grain.specs.Filtering.{copyIn, stepAt}
+use Rattle.grain.specs.FilteringLaws.{step-noise}
+use Rattle.tiles.specs.Accepted.{Tuned}
+use Rattle.tiles.proofs.Noises.{both}
+use Rattle.tiles.proofs.correcting.filter_sums.Statement.{statement}
+use Rattle.tiles.proofs.correcting.filter_sums.Tie as tie
+
+range : {m : Merge} {root : ℕ} → Tuned m → root ≤ 65520 → SpatialRange (m .tuning .spatial) (m .shot) (m .read) root (m .shape .count)
+range t h = record { strength = t .spatial-most; shot = t .shot-most; read = t .read-most; root = h; some = t .some; few = t .few }
+
+numbers-most : (f : ℕ → ℕ → ℕ) → ((u v : ℕ) → f u v ≤ spatialMost) → {t : List (List ℕ)} → t ≡ grid 16 16 f → NoisesMost spatialMost t
+unfolding grid
+numbers-most f h e =
+    subst (NoisesMost spatialMost) (sym e)
+    (record { line = tab-every (NoiseLine spatialMost) [] (λ u. tab 16 (f u)) (record { at = λ v. zero-le }) (λ u. record { at = tab-every (λ n. n ≤ spatialMost) 0 (f u) zero-le (h u) 16 }) 16 })
+
+spatial-numbers-requires : tie.Need-spatial-numbers-requires
+spatial-numbers-requires c κs = range (c .pre .tuned) (c .pre .first-most)
+
+spatial-numbers-requires-2 : tie.Need-spatial-numbers-requires-2
+spatial-numbers-requires-2 c κs = range (c .before .pre .tuned) (c .before .pre .second-most)
+
+filter-pair-requires : tie.Need-filter-pair-requires
+filter-pair-requires c κs =
+    let b = c .before .before .before in
+    let a = b .before in
+    let p = a .before .pre in
+    record {
+      frames-fit = record { some = p .tuned .some; few = p .tuned .few };
+      first-most = numbers-most _ (spatial-number-most (range (p .tuned) (p .first-most))) (a .spatial-numbers .ensures);
+      second-most = numbers-most _ (spatial-number-most (range (p .tuned) (p .second-most))) (b .spatial-numbers2 .ensures);
+      samples = p .samples;
+      sums = p .sums;
+      paired = p .paired;
+    }
+
+-- V' of the tile of either plane
+either-number : (f : ℕ → ℕ → ℕ → ℕ) (first second : ℕ) {a b : List (List ℕ)} → a ≡ grid 16 16 (f first) → b ≡ grid 16 16 (f second) → (p : ℕ) → p < 2 → (u v : ℕ) → u < 16 → v < 16 → cell 0 (either a b p) u v ≡ f (either first second p) u v
+either-number f first second {a} {b} d e =
+    both (λ p. (u v : ℕ) → u < 16 → v < 16 → cell 0 (either a b p) u v ≡ f (either first second p) u v)
+    (λ u v h k. ap (λ t. cell 0 t u v) d ∙ cell-grid 0 16 16 (f first) u v h k)
+    (λ u v h k. ap (λ t. cell 0 t u v) e ∙ cell-grid 0 16 16 (f second) u v h k)
+
+returns : tie.Need-returns
+returns c =
+    let b = c .before .before .before .before in
+    let a = b .before in
+    let s = a .before in
+    let g = s .args in
+    let m = g .m in
+    let n = m .shape .count in
+    let f : ℕ → ℕ → ℕ → ℕ = λ r. spatialNumber side16 (m .tuning .spatial) (m .shot) (m .read) r n in
+    c .filter-pair .ensures
+    ∙ grid-ext 16 32 _ _
+    (λ y l h k. ap (λ z. cell (pos 0) (now (g .sum)) y l +ℤ pos n *ℤ z)
+    (step-noise _ (f (either (g .first) (g .second) (l % 2))) (either-number f (g .first) (g .second) (a .spatial-numbers .ensures) (b .spatial-numbers2 .ensures) (l % 2) (omega arith)) (copyIn n (planeIn (cell 0 (now (g .t0))) (l % 2)) (planeIn (cell (pos 0) (now (g .sum))) (l % 2))) y (l / 2)))
+
+pub filter-sums-spec : {M : Type 1} → statement M
+filter-sums-spec = tie.close (tie.spec spatial-numbers-requires spatial-numbers-requires-2 filter-pair-requires returns)
