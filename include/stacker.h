@@ -47,6 +47,7 @@ typedef struct {
 
 typedef struct {
     uint64_t strength; /* eighths of the published tau, 0..1024 */
+    uint64_t spatial; /* the spatial filter's published s in 1/256, 0..256; 0 is no filter */
 } stacker_tuning;
 
 /* What a call answers: the refusal's number, or 0 with the other fields filled in. */
@@ -103,7 +104,8 @@ typedef enum {
     STACKER_REFUSED_DNG_STRUCTURE = 19,
     STACKER_REFUSED_DNG_TAG = 20,
     STACKER_REFUSED_DNG_VALUE = 21,
-    STACKER_REFUSED_ROW_LENGTH = 23
+    STACKER_REFUSED_ROW_LENGTH = 23,
+    STACKER_REFUSED_SPATIAL = 24
 } stacker_refusal;
 
 /* Aligns each other frame on the reference. */
@@ -194,6 +196,7 @@ static inline const char *stacker_refusal_text(uint64_t number)
     case STACKER_REFUSED_DNG_TAG: return "a DNG file in which a needed tag is absent or a listed one stands twice";
     case STACKER_REFUSED_DNG_VALUE: return "a DNG file with a type, count or value that is not read, or of another size than the burst";
     case STACKER_REFUSED_ROW_LENGTH: return "row length not from width to width + 256";
+    case STACKER_REFUSED_SPATIAL: return "spatial strength above 256";
     default: return "no refusal of this version";
     }
 }

@@ -1,4 +1,4 @@
--- The answer of tests 1 to 11, 18 and 23. Inner vocabulary.
+-- The answer of tests 1 to 11, 18, 23 and 24. Inner vocabulary.
 use Rattle.algebra.specs.Prelude.{_≡_, List, ℕ, ℤ}
 use Rattle.geometry.specs.declared.Shape.{Shape}
 use Rattle.noise.specs.declared.Noise.{Noise}

@@ -5,7 +5,7 @@ use Rattle.geometry.specs.declared.Shape.{Shape}
 use Rattle.limits.specs.Order.{alignShapeTests, mergeShapeTests}
 use Rattle.values.specs.Bounds.{sampleRefusal, vectorRefusal}
 use Rattle.noise.specs.declared.Noise.{Noise}
-use Rattle.noise.specs.Levels.{levelsOf, noiseTests, shotLevel, readLevel, strengthRefusal, blackRefusal}
+use Rattle.noise.specs.Levels.{levelsOf, noiseTests, shotLevel, readLevel, strengthRefusal, blackRefusal, spatialRefusal}
 use Rattle.recipe.specs.declared.Merge.{Merge}
 use Rattle.recipe.specs.declared.Tuning.{Tuning}
 
@@ -14,11 +14,11 @@ unfoldable pub alignRefusal : Shape → (reference : ℕ) → (samples : List �
 alignRefusal s reference samples vectors work =
     first (alignShapeTests s reference (length samples) (length vectors) (length work) ++ sampleRefusal s samples ∷ [])
 
--- 10, "18, a black level above 255, tested after 10" (request L3), and 11
+-- 10, "18, a black level above 255, tested after 10" (request L3), "24, s above 256" (request L13) after both, and 11
 unfoldable pub contentTests : Shape → Tuning → (samples : List ℕ) → List ℕ
-contentTests s tuning samples = strengthRefusal (tuning .strength) ∷ blackRefusal (tuning .black) ∷ sampleRefusal s samples ∷ []
+contentTests s tuning samples = strengthRefusal (tuning .strength) ∷ blackRefusal (tuning .black) ∷ spatialRefusal (tuning .spatial) ∷ sampleRefusal s samples ∷ []
 
--- "run 1 to 11", and 18 and 23 among them
+-- "run 1 to 11", and 18, 23 and 24 among them
 unfoldable pub runTests : Shape → (reference : ℕ) → Noise → Tuning → (samples : List ℕ) (vectors : List ℤ) (output : List ℕ) (work : List ℤ) → List ℕ
 runTests s reference noise tuning samples vectors output work =
     mergeShapeTests s reference (length samples) (length vectors) (length output) (length work) ++ (noiseTests noise ++ contentTests s tuning samples)

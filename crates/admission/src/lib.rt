@@ -32,7 +32,7 @@ pub fn align_refusal(
     values::sample_refusal(shape, samples)
 }
 
-// Tests 10, 18 and 11.
+// Tests 10, 18, 24 and 11.
 fn content_refusal(shape: Shape, tuning: Tuning, samples: &[u16]) -> u64
     requires { ⌜ Sampled shape (now samples) ⌝ }
     ensures { λ r. ⌜ r ≡ first (contentTests shape tuning (now (samples .entry))) ⌝ }
@@ -40,8 +40,9 @@ fn content_refusal(shape: Shape, tuning: Tuning, samples: &[u16]) -> u64
     let strength = noise::strength_refusal(tuning.strength);
     let levels = tuning.black;
     let black = noise::black_refusal(levels);
+    let spatial = noise::spatial_refusal(tuning.spatial);
     let sample = values::sample_refusal(shape, samples);
-    refusals::first(&[strength, black, sample])
+    refusals::first(&[strength, black, spatial, sample])
 }
 
 // A refusal's number, or 0 with the levels Ls and Lr.
@@ -51,7 +52,7 @@ pub struct Tested {
     pub read: u64,
 }
 
-// Tests 1 to 10, 18 and 11: those that merge and run share.
+// Tests 1 to 10, 18, 24 and 11: those that merge and run share.
 pub fn run_refusal(
     shape: Shape,
     reference: usize,

@@ -1,12 +1,13 @@
--- Request L11 at a merged frame, over any side: "For every accepted burst, a merged sample differs from the reference sample by at most" the ceiling.
+-- Request L11 at a merged frame, over any side: "For every accepted burst, a merged sample differs from the reference sample by at most" the ceiling, where s is 0 (request L13).
 use Rattle.algebra.specs.Prelude.{_≡_, sym, ap, ap₂, subst, _∙_, ℕ, suc, zero, _*_, _/_, _%_, _≤_, _<_, arith, getD, pos}
 use native.Mathlib.Nat.{mod-lt, mul-comm, zero-mul, div-lt-iff-lt-mul}
 use Rattle.sequences.specs.TabLaws.{getD-tab}
 use Rattle.geometry.specs.Read.{planeOf}
 use Rattle.recipe.specs.Scene.{Scene}
-use Rattle.recipe.specs.Merged.{planeOutput, outputAt, wordAt, merged}
+use Rattle.recipe.specs.Merged.{outputAt, wordAt, merged}
 use Rattle.closeness.specs.Closeness.{Fitting}
-use Rattle.closeness.specs.MergedClose.{word-is}
+use Rattle.spatial.specs.PlainLaws.{plain-output}
+use Rattle.spatial.specs.MergedClose.{word-is}
 use Rattle.ceiling.specs.Leak.{largestOver, leak, UnderCeiling}
 use Rattle.ceiling.specs.Ceiling.{Circle, ceiling}
 
@@ -20,16 +21,17 @@ column-inside k (suc w) height h = mod-lt k (omega arith)
 
 -- up to seven other frames, and reference samples that refusal 11 lets through
 module _ (s : Scene) {m most w : ℕ} (fitting : Fitting (s .side) most w) (circle : Circle (s .side) m most) (few : s .others ≤ 7)
-    (low : (row column : ℕ) → row < s .height → column < s .width → s .reference row column ≤ 4095) where
+    (low : (row column : ℕ) → row < s .height → column < s .width → s .reference row column ≤ 4095) (off : s .tuning .spatial ≡ 0) where
   place : (row column : ℕ) → planeOf (s .reference) (row % 2) (column % 2) (row / 2) (column / 2) ≡ s .reference row column
   unfolding planeOf
   place row column = ap₂ (s .reference) (omega arith) (omega arith)
 
   output-capped : (row column : ℕ) → row < s .height → column < s .width → UnderCeiling (s .side) (leak (outputAt s row column) (pos (s .reference row column))) (largestOver s row column)
-  unfolding outputAt planeOutput
+  unfolding outputAt
   output-capped row column h k =
-      subst (λ t. UnderCeiling (s .side) (leak (outputAt s row column) (pos t)) (largestOver s row column)) (place row column)
-      (ceiling fitting circle _ _ (s .others) _ _ _ (mod-lt (row / 2) (circle .half-above)) (mod-lt (column / 2) (circle .half-above)) few (rw (place row column) (low row column h k)))
+      subst (λ z. UnderCeiling (s .side) (leak z (pos (s .reference row column))) (largestOver s row column)) (sym (plain-output s off (row % 2) (column % 2) (row / 2) (column / 2)))
+      (subst (λ t. UnderCeiling (s .side) (leak (outputSample (s .side) ((row / 2) % s .side .half) ((column / 2) % s .side .half) (s .others) (noiseOver s (row % 2) (column % 2) (row / 2) (column / 2)) (differenceOver s (row % 2) (column % 2) (row / 2) (column / 2)) (pos (planeOf (s .reference) (row % 2) (column % 2) (row / 2) (column / 2)))) (pos t)) (largestOver s row column)) (place row column)
+      (ceiling fitting circle _ _ (s .others) _ _ _ (mod-lt (row / 2) (circle .half-above)) (mod-lt (column / 2) (circle .half-above)) few (rw (place row column) (low row column h k))))
 
   pub merged-capped : (k : ℕ) → k < s .width * s .height →
       UnderCeiling (s .side) (leak (pos (getD (merged s) k 0)) (pos (s .reference (k / s .width) (k % s .width)))) (largestOver s (k / s .width) (k % s .width))

@@ -34,6 +34,6 @@ measured noise = Measured (record { shot = noise .shot; read = noise .read })
 abbrev pub atIso : IsoNoise → Noise
 atIso noise = Iso (noise .iso) (record { shot = noise .shot; read = noise .read })
 
--- "Strength t = 0..1024", and "The burst gains a black level for each of the four planes" (request L3)
+-- "Strength t = 0..1024", "s = 0..256 is the published s in 1/256" (request L13), and "The burst gains a black level for each of the four planes" (request L3)
 abbrev pub tuned : Burst → MergeTuning → Tuning
-tuned burst tuning = record { strength = tuning .strength; black = burst .black }
+tuned burst tuning = record { strength = tuning .strength; black = burst .black; spatial = tuning .spatial }

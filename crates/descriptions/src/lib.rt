@@ -47,6 +47,7 @@ pub struct IsoNoise {
 #[repr(C)]
 pub struct MergeTuning {
     pub strength: u64,
+    pub spatial: u64,
 }
 
 // The burst that the frames are with frame 0 as the reference, which is not read.
@@ -93,7 +94,7 @@ pub fn at_iso(noise: IsoNoise) -> Noise
     Noise::Iso { iso, base }
 }
 
-// The strength, with the burst's black levels.
+// The strengths t and s, with the burst's black levels.
 pub fn tuned(burst: Burst, tuning: MergeTuning) -> Tuning
     ensures { λ r. ⌜ r ≡ tuned burst tuning ⌝ }
 {
@@ -101,5 +102,6 @@ pub fn tuned(burst: Burst, tuning: MergeTuning) -> Tuning
     Tuning {
         strength: tuning.strength,
         black,
+        spatial: tuning.spatial,
     }
 }

@@ -1,4 +1,4 @@
--- The levels Ls and Lr of a noise, and refusals 8, 9, 10 and 18.
+-- The levels Ls and Lr of a noise, and refusals 8, 9, 10, 18 and 24.
 use Rattle.algebra.specs.Prelude.{Bool, _||_, List, [], _∷_, ℕ, ltb, getD}
 use Rattle.refusals.specs.Numbers as no
 use Rattle.refusals.specs.Tests.{refuse, first}
@@ -64,3 +64,10 @@ strengthRefusal t = refuse no.strength (ltb 1024 t)
 -- refusal 18, "a black level above 255" (request L3), of the four
 unfoldable pub blackRefusal : List ℕ → ℕ
 blackRefusal black = refuse no.blackLevel (some 4 (λ k. ltb 255 (getD black k 0)))
+
+-- refusal 24, "s above 256" (request L13)
+abbrev pub spatialStrength : ℕ
+spatialStrength = 24
+
+unfoldable pub spatialRefusal : ℕ → ℕ
+spatialRefusal s = refuse spatialStrength (ltb 256 s)

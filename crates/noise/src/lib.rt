@@ -4,7 +4,7 @@ pub mod spatial;
 
 ghost use mathlib.Core.Path.{_≡_};
 ghost use Prim.Native.Nat.{_≤_};
-ghost use Rattle.noise.specs.Levels.{levelsOf, levelRefusal, strengthRefusal, blackRefusal};
+ghost use Rattle.noise.specs.Levels.{levelsOf, levelRefusal, strengthRefusal, blackRefusal, spatialRefusal};
 ghost use Rattle.recipe.specs.Tables.{side16};
 ghost use Rattle.recipe.specs.NoiseNumber.{noiseNumber};
 ghost use Rattle.noise.specs.Range.{InRange};
@@ -41,7 +41,7 @@ pub fn levels_of(noise: Noise) -> Levels
     Levels::Found { shot, read }
 }
 
-// Ls and Lr in a burst file, t and black levels: from 0 to these.
+// Ls and Lr in a burst file, t, black levels and s: from 0 to these.
 const SHOT_LEVEL_MOST: u64 = 65536;
 
 const READ_LEVEL_MOST: u64 = 4194304;
@@ -49,6 +49,11 @@ const READ_LEVEL_MOST: u64 = 4194304;
 const STRENGTH_MOST: u64 = 1024;
 
 const BLACK_MOST: u16 = 255;
+
+const SPATIAL_MOST: u64 = 256;
+
+// The number of the refusal of s.
+const SPATIAL_STRENGTH: u64 = 24;
 
 // Refusal 9 in a burst file.
 pub fn level_refusal(ls: u64, lr: u64) -> u64
@@ -82,6 +87,13 @@ pub fn black_refusal(black: [u16; 4]) -> u64
         k += 1;
     }
     0
+}
+
+// Refusal 24.
+pub fn spatial_refusal(s: u64) -> u64
+    ensures { λ r. ⌜ r ≡ spatialRefusal s ⌝ }
+{
+    refusals::refuse(SPATIAL_STRENGTH, SPATIAL_MOST < s)
 }
 
 // V of a tile's root.

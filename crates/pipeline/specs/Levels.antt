@@ -16,6 +16,7 @@ pub record Runnable (m : Merge) (samples : List ℕ) (vectors : List ℤ) (outpu
   pub shot-most : m .shot ≤ 65536
   pub read-most : m .read ≤ 4194304
   pub strength-most : m .tuning .strength ≤ 1024
+  pub spatial-most : m .tuning .spatial ≤ 256
 
 -- "align, then merge", and a zeroed work area
 pub record RanLevels (m : Merge) (samples : List ℕ) (vectors′ : List ℤ) (output′ : List ℕ) (work work′ : List ℤ) (r : Totals) : Type 0 where

@@ -13,7 +13,7 @@ use Rattle.report.specs.Program.{programText}
 abbrev pub noBlack : List ℕ
 noBlack = 0 ∷ 0 ∷ 0 ∷ 0 ∷ []
 
--- a merge of the file's values: "shot and read are Ls and Lr"
+-- a merge of the file's values: "shot and read are Ls and Lr", and "A burst file means s = 0" (request L13)
 abbrev pub fileMerge : Header → Merge
 fileMerge header =
     record {
@@ -21,7 +21,7 @@ fileMerge header =
       reference = header .reference;
       shot = header .«shot_level»;
       read = header .«read_level»;
-      tuning = record { strength = header .strength; black = noBlack };
+      tuning = record { strength = header .strength; black = noBlack; spatial = 0 };
     }
 
 -- the frame's names, their values and its rows

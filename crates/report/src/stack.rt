@@ -46,6 +46,7 @@ fn run_burst(
     let tuning = Tuning {
         strength: header.strength,
         black,
+        spatial: 0,
     };
     let m = Merge {
         shape,

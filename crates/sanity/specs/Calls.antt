@@ -1,4 +1,4 @@
--- The same at the calls, once they have accepted: what merge, align and run leave at strength 0, of a lone frame, of frames that are all equal, and of frames
+-- The same at the calls, once they have accepted: what merge, align and run leave without the spatial filter at strength 0, of a lone frame, of frames that are all equal, and of frames
 -- in another order.
 use Rattle.algebra.specs.Prelude.{_≡_, sym, ap, _∙_, List, ℕ, ℤ, pos}
 use lib.ListN.{length, replicate}
@@ -42,47 +42,47 @@ module _ {s : Shape} {reference : ℕ} {samples : List ℕ} {vectors work work�
 
   module _ {noise : Noise} {tuning : Tuning} {output output′ : List ℕ} where
     pub merge-strength-zero : {number : ℕ} → Merged s reference noise tuning samples vectors output output′ work work′ number → number ≡ 0 →
-        tuning .strength ≡ 0 → output′ ≡ frameWords s samples reference
-    merge-strength-zero call accepted off =
+        tuning .spatial ≡ 0 → tuning .strength ≡ 0 → output′ ≡ frameWords s samples reference
+    merge-strength-zero call accepted plain off =
         let (lent, is) = merge-accepted call accepted in
-        is ∙ StrengthZero.burst-back (mergeOf s reference noise tuning) samples vectors (lent .burst) off
+        is ∙ StrengthZero.burst-back (mergeOf s reference noise tuning) samples vectors (lent .burst) plain off
 
     pub merge-still : {number : ℕ} → Merged s reference noise tuning samples vectors output output′ work work′ number → number ≡ 0 →
-        Alike s reference samples → vectors ≡ zeros vectors → output′ ≡ frameWords s samples reference
+        tuning .spatial ≡ 0 → Alike s reference samples → vectors ≡ zeros vectors → output′ ≡ frameWords s samples reference
     unfolding zeros
-    merge-still call accepted alike none =
+    merge-still call accepted plain alike none =
         let (lent, is) = merge-accepted call accepted in
         let m = mergeOf s reference noise tuning in
-        is ∙ ap (λ v. merged (sceneOf m samples v)) none ∙ StillMerge.burst-back m samples (lent .burst) alike (length vectors)
+        is ∙ ap (λ v. merged (sceneOf m samples v)) none ∙ StillMerge.burst-back m samples (lent .burst) alike plain (length vectors)
 
     pub run-strength-zero : {vectors′ : List ℤ} {r : Alignment} → Ran s reference noise tuning samples vectors vectors′ output output′ work work′ r → r .refusal ≡ 0 →
-        tuning .strength ≡ 0 → output′ ≡ frameWords s samples reference
-    run-strength-zero call accepted off =
+        tuning .spatial ≡ 0 → tuning .strength ≡ 0 → output′ ≡ frameWords s samples reference
+    run-strength-zero call accepted plain off =
         let (f, is) = run-accepted call accepted in
-        is ∙ StrengthZero.burst-back (mergeOf s reference noise tuning) samples (alignedVectors s reference samples) (f .lent .burst) off
+        is ∙ StrengthZero.burst-back (mergeOf s reference noise tuning) samples (alignedVectors s reference samples) (f .lent .burst) plain off
 
     -- "With N = 1 the answer is that frame unchanged, the vector buffer has length 0 and the seven residual sums are 0"; and no row is summed
     pub merge-lone : {number : ℕ} → Merged s reference noise tuning samples vectors output output′ work work′ number → number ≡ 0 →
-        s .count ≡ 1 → output′ ≡ frameWords s samples reference
-    merge-lone call accepted lone =
+        tuning .spatial ≡ 0 → s .count ≡ 1 → output′ ≡ frameWords s samples reference
+    merge-lone call accepted plain lone =
         let (lent, is) = merge-accepted call accepted in
-        is ∙ LoneFrame.burst-back (mergeOf s reference noise tuning) samples vectors (lent .burst) lone
+        is ∙ LoneFrame.burst-back (mergeOf s reference noise tuning) samples vectors (lent .burst) plain lone
 
     pub run-lone : {vectors′ : List ℤ} {r : Alignment} → Ran s reference noise tuning samples vectors vectors′ output output′ work work′ r → r .refusal ≡ 0 →
-        s .count ≡ 1 → Unmoved vectors vectors′ r × (r .rows ≡ 0) × (length vectors ≡ 0) × (output′ ≡ frameWords s samples reference)
-    run-lone call accepted lone =
+        tuning .spatial ≡ 0 → s .count ≡ 1 → Unmoved vectors vectors′ r × (r .rows ≡ 0) × (length vectors ≡ 0) × (output′ ≡ frameWords s samples reference)
+    run-lone call accepted plain lone =
         let (f, is) = run-accepted call accepted in (
           unmoved f (LoneFrame.alone s reference samples lone (f .lent .burst .below)),
           f .rows-are ∙ LoneFrame.no-rows s reference samples lone,
           f .lent .long ∙ LoneFrame.no-vectors s lone,
-          is ∙ LoneFrame.burst-back (mergeOf s reference noise tuning) samples (alignedVectors s reference samples) (f .lent .burst) lone,
+          is ∙ LoneFrame.burst-back (mergeOf s reference noise tuning) samples (alignedVectors s reference samples) (f .lent .burst) plain lone,
         )
 
     pub run-still : {vectors′ : List ℤ} {r : Alignment} → Ran s reference noise tuning samples vectors vectors′ output output′ work work′ r → r .refusal ≡ 0 →
-        Alike s reference samples → Unmoved vectors vectors′ r × (output′ ≡ frameWords s samples reference)
-    run-still call accepted alike =
+        tuning .spatial ≡ 0 → Alike s reference samples → Unmoved vectors vectors′ r × (output′ ≡ frameWords s samples reference)
+    run-still call accepted plain alike =
         let (f, is) = run-accepted call accepted in
-        (unmoved f alike, is ∙ run-back (mergeOf s reference noise tuning) samples (f .lent .burst) alike)
+        (unmoved f alike, is ∙ run-back (mergeOf s reference noise tuning) samples (f .lent .burst) alike plain)
 
 -- two accepted calls of run, on the frames of one burst in two orders, leave the same output
 pub run-shuffled : {s : Shape} {reference reference₂ : ℕ} {noise : Noise} {tuning : Tuning} {samples samples₂ : List ℕ} {vectors vectors′ vectors₂ vectors₂′ : List ℤ}

@@ -14,9 +14,10 @@ use Rattle.recipe.specs.Correction.{wiener}
 use Rattle.recipe.specs.Scene.{Scene}
 use Rattle.sanity.specs.Frames.{Same, frameWords}
 
--- the reference has the sample a everywhere, and the k-th other frame b k
+-- without the spatial filter, the reference has the sample a everywhere, and the k-th other frame b k
 pub record Flat (s : Scene) (a : ℕ) (b : ℕ → ℕ) : Type 0 where
   pub of-16 : s .side ≡ side16
+  pub plain : s .tuning .spatial ≡ 0
   pub high : 2 ≤ s .height
   pub wide : 2 ≤ s .width
   pub reference : Same (s .height) (s .width) (s .reference) (λ row column. a)

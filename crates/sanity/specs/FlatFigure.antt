@@ -38,7 +38,7 @@ abbrev pub burst : List ℕ
 burst = plain 0 ++ plain 4
 
 abbrev pub tuned : (strength : ℕ) → Merge
-tuned strength = record { shape = shape; reference = 0; shot = 0; read = 4194304; tuning = record { strength = strength; black = zeroBlack } }
+tuned strength = record { shape = shape; reference = 0; shot = 0; read = 4194304; tuning = record { strength = strength; black = zeroBlack; spatial = 0 } }
 
 plain-long : (v : ℕ) → length (plain v) ≡ 4096
 unfolding plain
@@ -80,11 +80,11 @@ flat =
 -- whatever the lent vectors are
 pub merged-2 : (vectors : List ℤ) → merged (sceneOf (tuned 1024) burst vectors) ≡ plain 2
 unfolding plain outputLength sceneOf flatOutput flatCorrection noiseNumber variance side16 wiener away upward clampZ minZ maxZ sumZ
-merged-2 vectors = burst-flat (tuned 1024) burst vectors flat (zero-black _ refl)
+merged-2 vectors = burst-flat (tuned 1024) burst vectors flat refl (zero-black _ refl)
 
 pub merged-0 : (vectors : List ℤ) → merged (sceneOf (tuned 0) burst vectors) ≡ plain 0
 unfolding plain outputLength sceneOf flatOutput flatCorrection noiseNumber variance side16 wiener away upward clampZ minZ maxZ sumZ
-merged-0 vectors = burst-flat (tuned 0) burst vectors flat (zero-black _ refl)
+merged-0 vectors = burst-flat (tuned 0) burst vectors flat refl (zero-black _ refl)
 
 -- "`motion` on that file prints exactly [..] 1 25 25 0 102400": 25 tiles, all with vector 0, 0, and the sum of finest residuals
 pub tiles-25 : tiles level0 shape ≡ 25

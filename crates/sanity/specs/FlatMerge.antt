@@ -11,7 +11,8 @@ use Rattle.recipe.specs.Tables.{side16}
 use Rattle.recipe.specs.NoiseNumber.{tileRoot, noiseNumber}
 use Rattle.recipe.specs.declared.Merge.{Merge}
 use Rattle.recipe.specs.Scene.{Scene, sceneOf, blackOf, tileAt, referenceTile, otherTile, tileNoise, difference}
-use Rattle.recipe.specs.Merged.{planeOutput, outputAt, wordAt, merged}
+use Rattle.recipe.specs.Merged.{outputAt, wordAt, merged}
+use Rattle.spatial.specs.PlainLaws.{plain-output}
 use Rattle.sanity.specs.FrameLaws.{flat-same, row-inside, column-inside}
 use Rattle.sanity.specs.MergeLaws.{tile-same}
 use Rattle.sanity.specs.FlatLaws.{flat-root, flat-sample}
@@ -41,11 +42,12 @@ module _ (s : Scene) {a : ℕ} {b : ℕ → ℕ} (flat : Flat s a b) where
 
   -- sample for sample
   pub sample-flat : (row column : ℕ) → row < s .height → column < s .width → outputAt s row column ≡ flatOutput s (blackOf (s .tuning) (row % 2) (column % 2)) a b
-  unfolding outputAt planeOutput planeOf flatOutput
+  unfolding outputAt planeOf flatOutput
   sample-flat row column h k =
       let p : row % 2 < 2 = omega arith in
       let q : column % 2 < 2 = omega arith in
-      flat-sample (flat .of-16) (row / 2) (column / 2) (s .others) _ _ _ _ _
+      plain-output s (flat .plain) (row % 2) (column % 2) (row / 2) (column / 2)
+      ∙ flat-sample (flat .of-16) (row / 2) (column / 2) (s .others) _ _ _ _ _
       (λ t. tile-noise (row % 2) (column % 2) p q _ _)
       (λ t z l. differences (row % 2) (column % 2) p q _ _ z l)
       ∙ rw (flat .reference .at (2 * (row / 2) + row % 2) (2 * (column / 2) + column % 2) (omega arith) (omega arith))
@@ -59,12 +61,13 @@ module _ (s : Scene) {a : ℕ} {b : ℕ → ℕ} (flat : Flat s a b) where
       ∙ tab-const (natAbs (flatOutput s black a b)) (s .width * s .height)
 
 -- and of a burst
-module _ (m : Merge) (samples : List ℕ) (vectors : List ℤ) {a : ℕ} {b : ℕ → ℕ} (flat : FlatBurst (m .shape) (m .reference) samples a b) where
+module _ (m : Merge) (samples : List ℕ) (vectors : List ℤ) {a : ℕ} {b : ℕ → ℕ} (flat : FlatBurst (m .shape) (m .reference) samples a b) (plain : m .tuning .spatial ≡ 0) where
   scene-flat : Flat (sceneOf m samples vectors) a b
   unfolding sceneOf
   scene-flat =
       record {
         of-16 = refl;
+        plain = plain;
         high = omega (arith, flat .sampled .allowed .high .least);
         wide = omega (arith, flat .sampled .allowed .wide .least);
         reference = flat-same (m .shape) samples (m .reference) a (flat .reference-words);

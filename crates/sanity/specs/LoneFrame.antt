@@ -1,4 +1,4 @@
--- Try a burst of one frame: it comes back unchanged, whatever the noise and the strength are.
+-- Try a burst of one frame, without the spatial filter ("only there is L4's lone frame promised unchanged"): it comes back unchanged, whatever the noise and the strength are.
 use Rattle.algebra.specs.Prelude.{_≡_, refl, sym, ap, _∙_, List, ℕ, _+_, _-_, _*_, _<_, _≤_, arith, ℤ, pos}
 use native.Mathlib.Nat.{zero-mul, mul-le-mul-right}
 use Rattle.algebra.specs.Order.{zarith}
@@ -20,21 +20,21 @@ use Rattle.sanity.specs.Frames.{frameWords, Burst, Alike}
 use Rattle.sanity.specs.FrameLaws.{frame-words}
 use Rattle.sanity.specs.MergeLaws.{Uncorrected, plane-place, output-is, merged-is}
 
-module _ (s : Scene) (lone : s .others ≡ 0) where
+module _ (s : Scene) (plain : s .tuning .spatial ≡ 0) (lone : s .others ≡ 0) where
   -- there is nothing to correct by
   uncorrected : (row column : ℕ) → Uncorrected s row column
   uncorrected row column = record { none = λ t k i j h. absurd (omega arith) }
 
   -- sample for sample
   pub sample-back : (row column : ℕ) → s .reference row column ≤ 4095 → outputAt s row column ≡ pos (s .reference row column)
-  sample-back row column most = output-is s row column most (uncorrected row column)
+  sample-back row column most = output-is s plain row column most (uncorrected row column)
 
 -- and the whole frame
-pub burst-back : (m : Merge) (samples : List ℕ) (vectors : List ℤ) → Burst (m .shape) (m .reference) samples → m .shape .count ≡ 1 →
+pub burst-back : (m : Merge) (samples : List ℕ) (vectors : List ℤ) → Burst (m .shape) (m .reference) samples → m .tuning .spatial ≡ 0 → m .shape .count ≡ 1 →
     merged (sceneOf m samples vectors) ≡ frameWords (m .shape) samples (m .reference)
 unfolding sceneOf
-burst-back m samples vectors burst lone =
-    merged-is (sceneOf m samples vectors) (λ row column h k. sample-back (sceneOf m samples vectors) (omega arith) row column (burst .fit .most (m .reference) row column (burst .below) h k))
+burst-back m samples vectors burst plain lone =
+    merged-is (sceneOf m samples vectors) (λ row column h k. sample-back (sceneOf m samples vectors) plain (omega arith) row column (burst .fit .most (m .reference) row column (burst .below) h k))
     ∙ sym (frame-words (m .shape) samples (m .reference))
 
 -- such a burst's frames are all the reference
@@ -65,8 +65,8 @@ module _ (n : Side) (a b t : ℕ) (noise : ℕ → ℕ) (d : ℕ → ℕ → ℕ
       within-same 1 _ _ (rw same (ap pos (omega arith)))
 
 -- so the merged sample is the exact one
-pub lone-near : (s : Scene) → s .others ≡ 0 → (row column : ℕ) → s .reference row column ≤ 4095 → Within 0 1 (whole (outputAt s row column)) (exactAt s row column)
+pub lone-near : (s : Scene) → s .tuning .spatial ≡ 0 → s .others ≡ 0 → (row column : ℕ) → s .reference row column ≤ 4095 → Within 0 1 (whole (outputAt s row column)) (exactAt s row column)
 unfolding exactAt planeExact
-lone-near s lone row column most =
+lone-near s plain lone row column most =
     let place = plane-place s row column in
-    rw (sample-back s lone row column most, lone, place) (exact-lone (s .side) _ _ (s .reference row column) _ _ most)
+    rw (sample-back s plain lone row column most, lone, place) (exact-lone (s .side) _ _ (s .reference row column) _ _ most)

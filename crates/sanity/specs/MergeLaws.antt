@@ -7,7 +7,8 @@ use Rattle.geometry.specs.Tiles.{origin}
 use Rattle.recipe.specs.Side.{Side}
 use Rattle.recipe.specs.Correction.{correctionAt}
 use Rattle.recipe.specs.Scene.{Scene, tileAt, noiseOver, differenceOver}
-use Rattle.recipe.specs.Merged.{planeOutput, outputAt, wordAt, merged}
+use Rattle.recipe.specs.Merged.{outputAt, wordAt, merged}
+use Rattle.spatial.specs.PlainLaws.{plain-output}
 use Rattle.sanity.specs.Frames.{Same, imageWords}
 use Rattle.sanity.specs.FrameLaws.{row-inside, column-inside}
 use Rattle.sanity.specs.OutputLaws.{output-kept}
@@ -32,10 +33,12 @@ module _ (s : Scene) where
   unfolding planeOf
   plane-place row column = ap₂ (s .reference) (omega arith) (omega arith)
 
-  pub output-is : (row column : ℕ) → s .reference row column ≤ 4095 → Uncorrected row column → outputAt s row column ≡ pos (s .reference row column)
-  unfolding outputAt planeOutput
-  output-is row column most u =
-      output-kept (s .side) _ _ (s .others) _ _ _ (rw (plane-place row column) most) (λ t z h k. u .none t z _ _ k) ∙ ap pos (plane-place row column)
+  -- at s = 0
+  pub output-is : s .tuning .spatial ≡ 0 → (row column : ℕ) → s .reference row column ≤ 4095 → Uncorrected row column → outputAt s row column ≡ pos (s .reference row column)
+  unfolding outputAt
+  output-is off row column most u =
+      plain-output s off (row % 2) (column % 2) (row / 2) (column / 2)
+      ∙ output-kept (s .side) _ _ (s .others) _ _ _ (rw (plane-place row column) most) (λ t z h k. u .none t z _ _ k) ∙ ap pos (plane-place row column)
 
   pub merged-is : ((row column : ℕ) → row < s .height → column < s .width → outputAt s row column ≡ pos (s .reference row column)) → merged s ≡ imageWords (s .height) (s .width) (s .reference)
   unfolding merged wordAt imageWords

@@ -1,6 +1,6 @@
 -- Try black levels (request L3): with all four 0 the merge is document 01's; a plane's level moves that plane's samples alone; V falls as the level rises, and
 -- a level above every sample leaves r = 0.
-use Rattle.algebra.specs.Prelude.{_≡_, refl, sym, ap, _∙_, List, [], _∷_, ℕ, zero, suc, _+_, _-_, _*_, _/_, _%_, _≤_, _<_, arith, getD, ℤ, pos, natAbs}
+use Rattle.algebra.specs.Prelude.{_≡_, refl, sym, ap, ap₂, _∙_, List, [], _∷_, ℕ, zero, suc, _+_, _-_, _*_, _/_, _%_, _≤_, _<_, arith, getD, ℤ, pos, natAbs}
 use mathlib.Core.Path.{fun-ext}
 use lib.ListN.{replicate}
 use native.Mathlib.Nat.{le-refl}
@@ -17,7 +17,10 @@ use Rattle.recipe.specs.Tables.{side16}
 use Rattle.recipe.specs.Root.{wholeRoot}
 use Rattle.recipe.specs.NoiseNumber.{squared, sumOfSquares, tileRoot, noiseNumber}
 use Rattle.recipe.specs.Output.{outputSample}
-use Rattle.recipe.specs.Scene.{Scene, sceneOf, blackOf, tileOver, referenceTile, otherTile, tileNoise, difference, differenceOver}
+use Rattle.recipe.specs.SpatialNoise.{spatialNumber}
+use Rattle.recipe.specs.Spatial.{Tile, filteredSample}
+use Rattle.spatial.specs.PlainLaws.{plain-output as base-output}
+use Rattle.recipe.specs.Scene.{Scene, sceneOf, blackOf, tileOver, referenceTile, otherTile, tileNoise, tileSpatial, difference, differenceOver, tileHere}
 use Rattle.recipe.specs.Merged.{planeOutput, outputAt, wordAt, merged}
 
 -- every plane has the same black level
@@ -73,20 +76,21 @@ module _ (s : Scene) (none : OneBlack (s .tuning) 0) where
       ap (noiseNumber (s .side) (s .tuning .strength) (s .shot) (s .read))
       (ap (λ l. tileRoot (s .side .side) l (referenceTile s rowParity columnParity a b)) (none .at rowParity columnParity) ∙ plain-root _ _)
 
-  pub plain-output : (rowParity columnParity y x : ℕ) → planeOutput s rowParity columnParity y x ≡ plainOutput s rowParity columnParity y x
-  unfolding planeOutput plainOutput
-  plain-output rowParity columnParity y x =
-      ap (λ noise. outputSample (s .side) (y % s .side .half) (x % s .side .half) (s .others) noise (differenceOver s rowParity columnParity y x) (pos (planeOf (s .reference) rowParity columnParity y x)))
+  pub plain-output : s .tuning .spatial ≡ 0 → (rowParity columnParity y x : ℕ) → planeOutput s rowParity columnParity y x ≡ plainOutput s rowParity columnParity y x
+  unfolding plainOutput
+  plain-output off rowParity columnParity y x =
+      base-output s off rowParity columnParity y x
+      ∙ ap (λ noise. outputSample (s .side) (y % s .side .half) (x % s .side .half) (s .others) noise (differenceOver s rowParity columnParity y x) (pos (planeOf (s .reference) rowParity columnParity y x)))
       (fun-ext (λ t. plain-noise rowParity columnParity (tileOver (s .side) y (t / 2)) (tileOver (s .side) x (t % 2))))
 
-  pub plain-merged : merged s ≡ plainMerged s
+  pub plain-merged : s .tuning .spatial ≡ 0 → merged s ≡ plainMerged s
   unfolding merged wordAt outputAt plainMerged plainWord
-  plain-merged = ap (tab (s .width * s .height)) (fun-ext (λ k. ap natAbs (plain-output (k / s .width % 2) (k % s .width % 2) (k / s .width / 2) (k % s .width / 2))))
+  plain-merged off = ap (tab (s .width * s .height)) (fun-ext (λ k. ap natAbs (plain-output off (k / s .width % 2) (k % s .width % 2) (k / s .width / 2) (k % s .width / 2))))
 
 -- ---- other black levels
 
 abbrev pub blackened : Merge → (black : List ℕ) → Merge
-blackened m black = record { shape = m .shape; reference = m .reference; shot = m .shot; read = m .read; tuning = record { strength = m .tuning .strength; black = black } }
+blackened m black = record { shape = m .shape; reference = m .reference; shot = m .shot; read = m .read; tuning = record { strength = m .tuning .strength; black = black; spatial = m .tuning .spatial } }
 
 module _ (m : Merge) (black : List ℕ) (samples : List ℕ) (vectors : List ℤ) where
   abbrev s : Scene
@@ -101,6 +105,10 @@ module _ (m : Merge) (black : List ℕ) (samples : List ℕ) (vectors : List ℤ
     unfolding sceneOf tileNoise referenceTile
     noise-stays same a b = ap (λ l. noiseNumber side16 (m .tuning .strength) (m .shot) (m .read) (tileRoot (side16 .side) l (referenceTile s rowParity columnParity a b))) same
 
+    spatial-stays : blackOf (blackened m black .tuning) rowParity columnParity ≡ blackOf (m .tuning) rowParity columnParity → (a b : ℕ) → tileSpatial s′ rowParity columnParity a b ≡ tileSpatial s rowParity columnParity a b
+    unfolding sceneOf tileSpatial referenceTile
+    spatial-stays same a b = ap (λ l. spatialNumber side16 (m .tuning .spatial) (m .shot) (m .read) (tileRoot (side16 .side) l (referenceTile s rowParity columnParity a b)) (suc (s .others))) same
+
     -- V falls as the level rises
     pub noise-falls : blackOf (m .tuning) rowParity columnParity ≤ blackOf (blackened m black .tuning) rowParity columnParity → (a b : ℕ) → tileNoise s′ rowParity columnParity a b ≤ tileNoise s rowParity columnParity a b
     unfolding sceneOf tileNoise referenceTile
@@ -108,10 +116,13 @@ module _ (m : Merge) (black : List ℕ) (samples : List ℕ) (vectors : List ℤ
 
   -- .. and its samples: "a plane's black moves only that plane's samples"
   pub sample-stays : (row column : ℕ) → blackOf (blackened m black .tuning) (row % 2) (column % 2) ≡ blackOf (m .tuning) (row % 2) (column % 2) → outputAt s′ row column ≡ outputAt s row column
-  unfolding sceneOf outputAt planeOutput difference referenceTile otherTile
+  unfolding sceneOf outputAt planeOutput tileHere difference referenceTile otherTile
   sample-stays row column same =
-      ap (λ noise. outputSample side16 (row / 2 % side16 .half) (column / 2 % side16 .half) (s .others) noise (differenceOver s (row % 2) (column % 2) (row / 2) (column / 2)) (pos (planeOf (s .reference) (row % 2) (column % 2) (row / 2) (column / 2))))
-      (fun-ext (λ t. noise-stays (row % 2) (column % 2) same (tileOver side16 (row / 2) (t / 2)) (tileOver side16 (column / 2) (t % 2))))
+      ap (λ tiles. filteredSample side16 (row / 2 % side16 .half) (column / 2 % side16 .half) (s .others) tiles (pos (planeOf (s .reference) (row % 2) (column % 2) (row / 2) (column / 2))))
+      (fun-ext (λ t. let a = tileOver side16 (row / 2) (t / 2) in
+      let b = tileOver side16 (column / 2) (t % 2) in
+      ap₂ (λ noise spatial. record { noise = noise; spatial = spatial; reference = λ i j. pos (referenceTile s (row % 2) (column % 2) a b i j); differences = difference s (row % 2) (column % 2) a b })
+      (noise-stays (row % 2) (column % 2) same a b) (spatial-stays (row % 2) (column % 2) same a b)))
 
   -- word for word
   pub word-stays : (k : ℕ) → k < m .shape .width * m .shape .height →

@@ -7,7 +7,7 @@ use Rattle.values.specs.Bounds.{sampleRefusal, vectorRefusal}
 use Rattle.refusals.specs.Tests.{_before_, first}
 use Rattle.refusals.specs.Some.{some}
 use Rattle.noise.specs.declared.Noise.{Noise}
-use Rattle.noise.specs.Levels.{noiseTests, strengthRefusal, blackRefusal}
+use Rattle.noise.specs.Levels.{noiseTests, strengthRefusal, blackRefusal, spatialRefusal}
 use Rattle.alignment.specs.Aligned.{alignedVectors}
 use Rattle.recipe.specs.declared.Tuning.{Tuning}
 use Rattle.recipe.specs.Scene.{sceneOf, blackOf}
@@ -28,12 +28,12 @@ module _ (s : Shape) (reference : ℕ) (noise : Noise) (tuning : Tuning) (sample
   unfoldable pub plainTests : List ℕ
   plainTests =
       mergeShapeTests s reference (length samples) (length vectors) (length output) (length work)
-      ++ (noiseTests noise ++ strengthRefusal (tuning .strength) ∷ sampleRefusal s samples ∷ [])
+      ++ (noiseTests noise ++ strengthRefusal (tuning .strength) ∷ spatialRefusal (tuning .spatial) ∷ sampleRefusal s samples ∷ [])
 
   module _ (none : tuning .black ≡ zeroBlack) where
-    content-plain : first (contentTests s tuning samples) ≡ first (strengthRefusal (tuning .strength) ∷ sampleRefusal s samples ∷ [])
+    content-plain : first (contentTests s tuning samples) ≡ first (strengthRefusal (tuning .strength) ∷ spatialRefusal (tuning .spatial) ∷ sampleRefusal s samples ∷ [])
     unfolding contentTests first blackRefusal some
-    content-plain = ap (λ black. first (strengthRefusal (tuning .strength) ∷ blackRefusal black ∷ sampleRefusal s samples ∷ [])) none
+    content-plain = ap (λ black. first (strengthRefusal (tuning .strength) ∷ blackRefusal black ∷ spatialRefusal (tuning .spatial) ∷ sampleRefusal s samples ∷ [])) none
 
     pub run-number-plain : runRefusal s reference noise tuning samples vectors output work ≡ first plainTests
     unfolding runTests plainTests
@@ -52,21 +52,21 @@ module _ (s : Shape) (reference : ℕ) (noise : Noise) (tuning : Tuning) (sample
 
 module _ {s : Shape} {reference : ℕ} {noise : Noise} {tuning : Tuning} {samples : List ℕ} {vectors work work′ : List ℤ} {output output′ : List ℕ} where
   pub merge-plain : {number : ℕ} → Merged s reference noise tuning samples vectors output output′ work work′ number → number ≡ 0 →
-      tuning .black ≡ zeroBlack → output′ ≡ plainMerged (sceneOf (mergeOf s reference noise tuning) samples vectors)
+      tuning .black ≡ zeroBlack → tuning .spatial ≡ 0 → output′ ≡ plainMerged (sceneOf (mergeOf s reference noise tuning) samples vectors)
   unfolding sceneOf
-  merge-plain call accepted none = merge-accepted call accepted .1 ∙ plain-merged (sceneOf (mergeOf s reference noise tuning) samples vectors) (zero-black tuning none)
+  merge-plain call accepted none off = merge-accepted call accepted .1 ∙ plain-merged (sceneOf (mergeOf s reference noise tuning) samples vectors) (zero-black tuning none) off
 
   pub run-plain : {vectors′ : List ℤ} {r : Alignment} → Ran s reference noise tuning samples vectors vectors′ output output′ work work′ r → r .refusal ≡ 0 →
-      tuning .black ≡ zeroBlack → output′ ≡ plainMerged (sceneOf (mergeOf s reference noise tuning) samples (alignedVectors s reference samples))
+      tuning .black ≡ zeroBlack → tuning .spatial ≡ 0 → output′ ≡ plainMerged (sceneOf (mergeOf s reference noise tuning) samples (alignedVectors s reference samples))
   unfolding sceneOf
-  run-plain call accepted none = run-accepted call accepted .1 ∙ plain-merged (sceneOf (mergeOf s reference noise tuning) samples (alignedVectors s reference samples)) (zero-black tuning none)
+  run-plain call accepted none off = run-accepted call accepted .1 ∙ plain-merged (sceneOf (mergeOf s reference noise tuning) samples (alignedVectors s reference samples)) (zero-black tuning none) off
 
   -- another accepted call of merge, with other black levels
   pub merge-planes-apart : {black : List ℕ} {number number₂ : ℕ} {output₂ output₂′ : List ℕ} {work₂ work₂′ : List ℤ} →
       Merged s reference noise tuning samples vectors output output′ work work′ number → number ≡ 0 →
-      Merged s reference noise (record { strength = tuning .strength; black = black }) samples vectors output₂ output₂′ work₂ work₂′ number₂ → number₂ ≡ 0 →
+      Merged s reference noise (record { strength = tuning .strength; black = black; spatial = tuning .spatial }) samples vectors output₂ output₂′ work₂ work₂′ number₂ → number₂ ≡ 0 →
       (k : ℕ) → k < s .width * s .height →
-      blackOf (record { strength = tuning .strength; black = black }) (k / s .width % 2) (k % s .width % 2) ≡ blackOf tuning (k / s .width % 2) (k % s .width % 2) →
+      blackOf (record { strength = tuning .strength; black = black; spatial = tuning .spatial }) (k / s .width % 2) (k % s .width % 2) ≡ blackOf tuning (k / s .width % 2) (k % s .width % 2) →
       getD output₂′ k 0 ≡ getD output′ k 0
   merge-planes-apart {black} call accepted call₂ accepted₂ k h same =
       ap (λ l. getD l k 0) (merge-accepted call₂ accepted₂ .1)

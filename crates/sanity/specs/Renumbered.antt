@@ -1,9 +1,9 @@
 -- Try the other frames in another order, each with its vectors: the merged frame stays the same.
-use mathlib.Core.Path.{_≡_, _∙_, ap, ap₂, fun-ext}
-use Rattle.algebra.specs.Prelude.{List, ℕ, suc, _*_, _/_, _%_, _≤_, _<_, arith, ℤ, pos, natAbs, _-ℤ_, _*ℤ_}
+use mathlib.Core.Path.{_≡_, refl, sym, _∙_, ap, ap₂, fun-ext}
+use Rattle.algebra.specs.Prelude.{List, ℕ, suc, _*_, _/_, _%_, _≤_, _<_, arith, ℤ, pos, natAbs, _+ℤ_, _-ℤ_, _*ℤ_}
 use Rattle.algebra.specs.SumLaws.{sumZ-cong}
 use Rattle.algebra.specs.Clamp.{clampZ}
-use Rattle.algebra.specs.Nearest.{upward}
+use Rattle.algebra.specs.Nearest.{away, upward}
 use Rattle.sequences.specs.Grid.{tab-ext}
 use Rattle.geometry.specs.Fits.{AllowedSize}
 use Rattle.geometry.specs.Read.{planeOf}
@@ -12,9 +12,11 @@ use Rattle.roots.specs.TileRootLaws.{tile-root-cong}
 use Rattle.recipe.specs.declared.Merge.{Merge}
 use Rattle.recipe.specs.Side.{Side}
 use Rattle.recipe.specs.Tables.{side16}
-use Rattle.recipe.specs.Correction.{correctionAt}
-use Rattle.recipe.specs.Output.{rowIn, columnIn, weightIn, outputSample}
-use Rattle.recipe.specs.Scene.{Scene, sceneOf, tileAt, tileOver, referenceTile, otherTile, tileNoise, difference}
+use Rattle.recipe.specs.Correction.{binRe, binIm, inverseAt, correctionAt}
+use Rattle.recipe.specs.SpatialNoise.{spatialNumber}
+use Rattle.recipe.specs.Spatial.{Tile, copyFiltered, mergedSum, copyAt, spatialAt, takenAt, filteredSample}
+use Rattle.recipe.specs.Output.{rowIn, columnIn, weightIn}
+use Rattle.recipe.specs.Scene.{Scene, sceneOf, tileAt, tileOver, referenceTile, otherTile, tileNoise, tileSpatial, difference, tileHere}
 use Rattle.recipe.specs.Merged.{planeOutput, outputAt, wordAt, merged}
 use Rattle.sanity.specs.Frames.{Same}
 use Rattle.sanity.specs.FrameLaws.{row-inside, column-inside}
@@ -23,16 +25,35 @@ use Rattle.sanity.specs.RenumberLaws.{Renumbering, sum-renumbered}
 
 -- the output sample, with the other frames in another order
 module _ {others : ℕ} {to from : ℕ → ℕ} (order : Renumbering others to from) (s : Side) (a b : ℕ) where
-  output-renumbered : (noise noise′ : ℕ → ℕ) (d d′ : ℕ → ℕ → ℕ → ℕ → ℤ) (t0 t0′ : ℤ) → ((t : ℕ) → noise′ t ≡ noise t) → ((t k : ℕ) → k < others → d′ t k ≡ d t (to k)) → t0′ ≡ t0 →
-      outputSample s a b others noise′ d′ t0′ ≡ outputSample s a b others noise d t0
-  unfolding outputSample
-  output-renumbered noise noise′ d d′ t0 t0′ en ed e0 =
+  -- the sum of P over the frames
+  sum-stays : (tile tile′ : Tile) → tile′ .noise ≡ tile .noise → ((k : ℕ) → k < others → tile′ .differences k ≡ tile .differences (to k)) → mergedSum s others tile′ ≡ mergedSum s others tile
+  unfolding mergedSum
+  sum-stays tile tile′ en ed =
+      fun-ext (λ y. fun-ext (λ x.
+      sumZ-cong others _ _ (λ k l. ap₂ (λ v f. correctionAt s v f y x) en (ed k l)) ∙ sum-renumbered order (λ k. correctionAt s (tile .noise) (tile .differences k) y x)))
+
+  -- what is taken from a tile, by that sum, T0 and V'
+  abbrev taken : (sum : ℕ → ℕ → ℤ) (reference : ℕ → ℕ → ℤ) (noise : ℕ → ℕ → ℕ) → ℕ → ℕ → ℤ
+  taken sum reference noise y x =
+      let c : ℕ → ℕ → ℤ = λ y x. away (reference y x *ℤ pos (256 * suc others) -ℤ sum y x) (suc others) in
+      sum y x +ℤ pos (suc others) *ℤ inverseAt s (λ u v. copyFiltered s (noise u v) (binRe s c u v) (binIm s c u v)) (λ u v. copyFiltered s (noise u v) (binIm s c u v) (binRe s c u v)) y x
+
+  taken-is : (tile : Tile) (y x : ℕ) → takenAt s others tile y x ≡ taken (mergedSum s others tile) (tile .reference) (tile .spatial) y x
+  unfolding takenAt spatialAt copyAt
+  taken-is tile y x = refl
+
+  output-renumbered : (tiles tiles′ : ℕ → Tile) (t0 t0′ : ℤ) → ((t : ℕ) → tiles′ t .noise ≡ tiles t .noise) → ((t : ℕ) → tiles′ t .spatial ≡ tiles t .spatial) → ((t : ℕ) → tiles′ t .reference ≡ tiles t .reference) →
+      ((t k : ℕ) → k < others → tiles′ t .differences k ≡ tiles t .differences (to k)) → t0′ ≡ t0 → filteredSample s a b others tiles′ t0′ ≡ filteredSample s a b others tiles t0
+  unfolding filteredSample
+  output-renumbered tiles tiles′ t0 t0′ en es er ed e0 =
       let whole = 256 * (s .weight * suc others) in
       ap₂ (λ z t. clampZ (pos 0) (pos 4095) (upward (t *ℤ pos whole -ℤ z) whole))
       (sumZ-cong 4 _ _
-      (λ t h.
-      sumZ-cong others _ _ (λ k l. ap₂ (λ v f. pos (weightIn s a b t) *ℤ correctionAt s v f (rowIn s a t) (columnIn s b t)) (en t) (ed t k l))
-      ∙ sum-renumbered order (λ k. pos (weightIn s a b t) *ℤ correctionAt s (noise t) (d t k) (rowIn s a t) (columnIn s b t))))
+      (λ t h. ap (λ z. pos (weightIn s a b t) *ℤ z)
+      (taken-is (tiles′ t) (rowIn s a t) (columnIn s b t)
+      ∙ ap₂ (λ sum reference. taken sum reference (tiles′ t .spatial) (rowIn s a t) (columnIn s b t)) (sum-stays (tiles t) (tiles′ t) (en t) (ed t)) (er t)
+      ∙ ap (λ noise. taken (mergedSum s others (tiles t)) (tiles t .reference) noise (rowIn s a t) (columnIn s b t)) (es t)
+      ∙ sym (taken-is (tiles t) (rowIn s a t) (columnIn s b t)))))
       e0
 
 -- the same merge with its reference at another place
@@ -66,6 +87,10 @@ module _ (m : Merge) (reference : ℕ) (samples samples′ : List ℕ) (vectors 
     unfolding sceneOf tileNoise
     tile-noise = ap (noiseNumber side16 (s .tuning .strength) (s .shot) (s .read)) (tile-root-cong (side16 .side) _ _ _ (λ i j h k. reference-tile i j))
 
+    tile-spatial : tileSpatial s′ rowParity columnParity a b ≡ tileSpatial s rowParity columnParity a b
+    unfolding sceneOf tileSpatial
+    tile-spatial = ap (λ r. spatialNumber side16 (s .tuning .spatial) (s .shot) (s .read) r (suc (s .others))) (tile-root-cong (side16 .side) _ _ _ (λ i j h k. reference-tile i j))
+
     module _ (ha : a ≤ s .height / 16) (hb : b ≤ s .width / 16) (k : ℕ) (h : k < s .others) where
       other-tile : (i j : ℕ) → otherTile s′ rowParity columnParity a b k i j ≡ otherTile s rowParity columnParity a b (to k) i j
       unfolding sceneOf otherTile
@@ -84,12 +109,14 @@ module _ (m : Merge) (reference : ℕ) (samples samples′ : List ℕ) (vectors 
 
   -- sample for sample
   pub sample-stays : (row column : ℕ) → row < s .height → column < s .width → outputAt s′ row column ≡ outputAt s row column
-  unfolding sceneOf outputAt planeOutput planeOf
+  unfolding sceneOf outputAt planeOutput planeOf tileHere
   sample-stays row column h k =
       let p : row % 2 < 2 = omega arith in
       let q : column % 2 < 2 = omega arith in
-      output-renumbered (r .order) side16 _ _ _ _ _ _ _ _
+      output-renumbered (r .order) side16 _ _ _ _ _ _
       (λ t. tile-noise (row % 2) (column % 2) p q _ _)
+      (λ t. tile-spatial (row % 2) (column % 2) p q _ _)
+      (λ t. fun-ext (λ i. fun-ext (λ j. ap pos (reference-tile (row % 2) (column % 2) p q _ _ i j))))
       (λ t z l. differences (row % 2) (column % 2) p q _ _ (over (s .height) row (t / 2) (r .high) h) (over (s .width) column (t % 2) (r .wide) k) z l)
       (ap pos (r .reference-same .at _ _ (omega arith) (omega arith)))
 

@@ -20,7 +20,7 @@ pub record Still (s : Scene) : Type 0 where
   pub no-down : (k a b : ℕ) → k < s .others → s .down k a b ≡ pos 0
   pub no-right : (k a b : ℕ) → k < s .others → s .right k a b ≡ pos 0
 
-module _ (s : Scene) (still : Still s) where
+module _ (s : Scene) (plain : s .tuning .spatial ≡ 0) (still : Still s) where
   -- "T0−Tz" is 0
   difference-none : (rowParity columnParity a b k i j : ℕ) → rowParity < 2 → columnParity < 2 → k < s .others → difference s rowParity columnParity a b k i j ≡ pos 0
   unfolding difference referenceTile otherTile
@@ -36,7 +36,7 @@ module _ (s : Scene) (still : Still s) where
 
   -- sample for sample
   pub sample-back : (row column : ℕ) → s .reference row column ≤ 4095 → outputAt s row column ≡ pos (s .reference row column)
-  sample-back row column most = output-is s row column most (uncorrected row column)
+  sample-back row column most = output-is s plain row column most (uncorrected row column)
 
   -- and the whole frame
   pub frame-back : ((row column : ℕ) → row < s .height → column < s .width → s .reference row column ≤ 4095) → merged s ≡ imageWords (s .height) (s .width) (s .reference)
@@ -48,7 +48,7 @@ zero-at (suc n) zero = refl
 zero-at (suc n) (suc k) = zero-at n k
 
 -- a burst of frames that are all equal, with vectors that are all 0
-module _ (m : Merge) (samples : List ℕ) (burst : Burst (m .shape) (m .reference) samples) (alike : Alike (m .shape) (m .reference) samples) (n : ℕ) where
+module _ (m : Merge) (samples : List ℕ) (burst : Burst (m .shape) (m .reference) samples) (alike : Alike (m .shape) (m .reference) samples) (plain : m .tuning .spatial ≡ 0) (n : ℕ) where
   still-burst : Still (sceneOf m samples (replicate n (pos 0)))
   unfolding sceneOf downAt rightAt
   still-burst =
@@ -63,5 +63,5 @@ module _ (m : Merge) (samples : List ℕ) (burst : Burst (m .shape) (m .referenc
   pub burst-back : merged (sceneOf m samples (replicate n (pos 0))) ≡ frameWords (m .shape) samples (m .reference)
   unfolding sceneOf
   burst-back =
-      frame-back (sceneOf m samples (replicate n (pos 0))) still-burst (λ row column h k. burst .fit .most (m .reference) row column (burst .below) h k)
+      frame-back (sceneOf m samples (replicate n (pos 0))) plain still-burst (λ row column h k. burst .fit .most (m .reference) row column (burst .below) h k)
       ∙ sym (frame-words (m .shape) samples (m .reference))

@@ -9,8 +9,8 @@ use Rattle.sanity.specs.Frames.{frameWords, Burst, Alike}
 use Rattle.sanity.specs.StillMerge.{burst-back}
 use Rattle.sanity.specs.StillAlign.{vectors-none}
 
-pub run-back : (m : Merge) (samples : List ℕ) → Burst (m .shape) (m .reference) samples → Alike (m .shape) (m .reference) samples →
+pub run-back : (m : Merge) (samples : List ℕ) → Burst (m .shape) (m .reference) samples → Alike (m .shape) (m .reference) samples → m .tuning .spatial ≡ 0 →
     merged (sceneOf m samples (alignedVectors (m .shape) (m .reference) samples)) ≡ frameWords (m .shape) samples (m .reference)
-run-back m samples burst alike =
+run-back m samples burst alike plain =
     ap (λ v. merged (sceneOf m samples v)) (vectors-none (m .shape) (m .reference) samples burst alike)
-    ∙ burst-back m samples burst alike (vectorLength (m .shape))
+    ∙ burst-back m samples burst alike plain (vectorLength (m .shape))

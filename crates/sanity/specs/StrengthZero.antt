@@ -1,4 +1,4 @@
--- Try strength 0: the merge hands back the reference, whatever the other frames, the vectors and the noise are.
+-- Try strength 0, and no spatial filter: the merge hands back the reference, whatever the other frames, the vectors and the noise are.
 use Rattle.algebra.specs.Prelude.{_≡_, sym, ap, _∙_, List, ℕ, _/_, _%_, _≤_, ℤ, pos}
 use Rattle.recipe.specs.NoiseNumber.{tileRoot, noiseNumber}
 use Rattle.noise.specs.NoiseNumberLaws.{noise-number-off}
@@ -11,7 +11,7 @@ use Rattle.sanity.specs.FrameLaws.{frame-words}
 use Rattle.spectrum.specs.ZeroLaws.{no-noise}
 use Rattle.sanity.specs.MergeLaws.{Uncorrected, output-is, merged-is}
 
-module _ (s : Scene) (off : s .tuning .strength ≡ 0) where
+module _ (s : Scene) (plain : s .tuning .spatial ≡ 0) (off : s .tuning .strength ≡ 0) where
   -- V of every tile is 0
   tile-none : (rowParity columnParity a b : ℕ) → tileNoise s rowParity columnParity a b ≡ 0
   unfolding tileNoise
@@ -29,12 +29,12 @@ module _ (s : Scene) (off : s .tuning .strength ≡ 0) where
 
   -- sample for sample
   pub sample-back : (row column : ℕ) → s .reference row column ≤ 4095 → outputAt s row column ≡ pos (s .reference row column)
-  sample-back row column most = output-is s row column most (uncorrected row column)
+  sample-back row column most = output-is s plain row column most (uncorrected row column)
 
 -- and the whole frame of a burst
-pub burst-back : (m : Merge) (samples : List ℕ) (vectors : List ℤ) → Burst (m .shape) (m .reference) samples → m .tuning .strength ≡ 0 →
+pub burst-back : (m : Merge) (samples : List ℕ) (vectors : List ℤ) → Burst (m .shape) (m .reference) samples → m .tuning .spatial ≡ 0 → m .tuning .strength ≡ 0 →
     merged (sceneOf m samples vectors) ≡ frameWords (m .shape) samples (m .reference)
 unfolding sceneOf
-burst-back m samples vectors burst off =
-    merged-is (sceneOf m samples vectors) (λ row column h k. sample-back (sceneOf m samples vectors) off row column (burst .fit .most (m .reference) row column (burst .below) h k))
+burst-back m samples vectors burst plain off =
+    merged-is (sceneOf m samples vectors) (λ row column h k. sample-back (sceneOf m samples vectors) plain off row column (burst .fit .most (m .reference) row column (burst .below) h k))
     ∙ sym (frame-words (m .shape) samples (m .reference))

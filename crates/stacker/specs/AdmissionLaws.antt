@@ -8,7 +8,7 @@ use Rattle.values.specs.Bounds.{vectorRefusal}
 use Rattle.values.specs.BoundLaws.{samples-fit}
 use Rattle.noise.specs.declared.Noise.{Noise}
 use Rattle.noise.specs.Levels.{noiseTests}
-use Rattle.noise.specs.LevelLaws.{shot-level-bound, read-level-bound, strength-most}
+use Rattle.noise.specs.LevelLaws.{shot-level-bound, read-level-bound, strength-most, spatial-most}
 use Rattle.alignment.specs.Burst.{Ready}
 use Rattle.pipeline.specs.Levels.{Runnable}
 use Rattle.recipe.specs.declared.Tuning.{Tuning}
@@ -35,6 +35,7 @@ module _ (s : Shape) (reference : ℕ) (samples : List ℕ) (vectors : List ℤ)
           shot-most = shot-level-bound noise;
           read-most = read-level-bound noise;
           strength-most = strength-most (tuning .strength) (passed content (search among));
+          spatial-most = spatial-most (tuning .spatial) (passed content (search among));
         }
 
     -- 12 comes last

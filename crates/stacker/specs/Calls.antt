@@ -9,7 +9,7 @@ use Rattle.alignment.specs.Aligned.{alignedVectors, residualSums}
 use Rattle.alignment.specs.Rows.{rowsSummed}
 use Rattle.recipe.specs.Scene.{Scene, sceneOf}
 use Rattle.recipe.specs.Merged.{merged}
-use Rattle.recipe.specs.ExactMerge.{exactAt}
+use Rattle.recipe.specs.ExactMerge.{exactAt, exactFilteredAt}
 use Rattle.ceiling.specs.Leak.{largestOver, leak, UnderCeiling}
 use Rattle.stacker.specs.declared.Alignment.{Alignment}
 use Rattle.recipe.specs.declared.Tuning.{Tuning}
@@ -24,14 +24,16 @@ noSums = 0 ∷ 0 ∷ 0 ∷ 0 ∷ 0 ∷ 0 ∷ 0 ∷ []
 unfoldable pub answered : (number : ℕ) (sums : List ℕ) (rows : ℕ) → Alignment
 answered number sums rows = record { refusal = number; residuals = after number noSums sums; rows = after number 0 rows }
 
--- Demand 3: "every sample of the merged frame differs by at most five eighths of one sample step from the sample at the same place in the exact HDR+ merge"
+-- Demand 3: "every sample of the merged frame differs by at most five eighths of one sample step from the sample at the same place in the exact HDR+ merge", where
+-- s is 0; and "users of the filter are owed a sample within two steps of the exact filtered merge with the same V'" (request L13), at any s
 pub record Close (scene : Scene) (output : List ℕ) : Type 0 where
-  pub close : (k : ℕ) → k < scene .width * scene .height → Within 5 8 (whole (pos (getD output k 0))) (exactAt scene (k / scene .width) (k % scene .width))
+  pub filtered : (k : ℕ) → k < scene .width * scene .height → Within 2 1 (whole (pos (getD output k 0))) (exactFilteredAt scene (k / scene .width) (k % scene .width))
+  pub close : scene .tuning .spatial ≡ 0 → (k : ℕ) → k < scene .width * scene .height → Within 5 8 (whole (pos (getD output k 0))) (exactAt scene (k / scene .width) (k % scene .width))
 
 -- Request L11: "a merged sample differs from the reference sample by at most one step plus half the square root of the largest noise number (in squared
--- samples) of the four tiles over it"
+-- samples) of the four tiles over it", which request L13 keeps where s is 0
 pub record Capped (scene : Scene) (output : List ℕ) : Type 0 where
-  pub capped : (k : ℕ) → k < scene .width * scene .height →
+  pub capped : scene .tuning .spatial ≡ 0 → (k : ℕ) → k < scene .width * scene .height →
       let row = k / scene .width in
       let column = k % scene .width in
       UnderCeiling (scene .side) (leak (pos (getD output k 0)) (pos (scene .reference row column))) (largestOver scene row column)

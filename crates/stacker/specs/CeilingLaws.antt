@@ -1,4 +1,4 @@
--- Request L11 at the calls: an output that is the merge keeps under the ceiling, whatever the vectors are.
+-- Request L11 at the calls: an output that is the merge keeps under the ceiling where s is 0, whatever the vectors are.
 use Rattle.algebra.specs.Prelude.{_≡_, sym, ap, subst, _∙_, List, ℕ, arith, ℤ}
 use Rattle.geometry.specs.Fits.{BurstFits, SamplesFit}
 use Rattle.recipe.specs.declared.Merge.{Merge}
@@ -15,9 +15,9 @@ module _ (m : Merge) (samples : List ℕ) {long wide : ℕ} (fits : BurstFits (m
   unfolding sceneOf
   burst-capped vectors =
       record {
-        capped =
+        capped = λ off.
             merged-capped (sceneOf m samples vectors) fitting16 circle16 (omega (arith, fits .allowed .few))
-            (λ row column h k. small .most (m .reference) row column (fits .reference-below) h k);
+            (λ row column h k. small .most (m .reference) row column (fits .reference-below) h k) off;
       }
 
   -- and an output that is this frame

@@ -5,8 +5,8 @@ use Rattle.recipe.specs.declared.Merge.{Merge}
 use Rattle.recipe.specs.Tables.{side16}
 use Rattle.recipe.specs.Scene.{sceneOf}
 use Rattle.recipe.specs.Merged.{merged}
-use Rattle.recipe.specs.ExactMerge.{exactAt}
-use Rattle.closeness.specs.MergedClose.{merged-close}
+use Rattle.recipe.specs.ExactMerge.{exactAt, exactFilteredAt}
+use Rattle.spatial.specs.MergedClose.{merged-close, merged-two-steps}
 use Rattle.stacker.specs.Calls.{Close}
 
 few : (m : Merge) (samples : List ℕ) (vectors : List ℤ) → m .shape .count ≤ 8 → sceneOf m samples vectors .others ≤ 7
@@ -22,7 +22,8 @@ pub output-close : (m : Merge) (samples : List ℕ) (vectors : List ℤ) (output
 output-close m samples vectors output h e =
     let scene = sceneOf m samples vectors in
     record {
-      close = λ k l. subst (λ o. Within 5 8 (whole (pos (getD o k 0))) (exactAt scene (k / scene .width) (k % scene .width))) (sym e) (merged-close scene (of-16 m samples vectors) (few m samples vectors h) k l);
+      filtered = λ k l. subst (λ o. Within 2 1 (whole (pos (getD o k 0))) (exactFilteredAt scene (k / scene .width) (k % scene .width))) (sym e) (merged-two-steps scene (of-16 m samples vectors) (few m samples vectors h) k l);
+      close = λ off k l. subst (λ o. Within 5 8 (whole (pos (getD o k 0))) (exactAt scene (k / scene .width) (k % scene .width))) (sym e) (merged-close scene (of-16 m samples vectors) (few m samples vectors h) off k l);
     }
 
 -- the same with the vectors as a buffer holds them

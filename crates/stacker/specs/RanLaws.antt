@@ -47,6 +47,7 @@ module _ {s : Shape} {reference : ℕ} {noise : Noise} {tuning : Tuning} {sample
           shot-most = subst (λ n. n ≤ 65536) (sym (t .shot-is z)) (ready .shot-most);
           read-most = subst (λ n. n ≤ 4194304) (sym (t .read-is z)) (ready .read-most);
           strength-most = ready .strength-most;
+          spatial-most = ready .spatial-most;
         }
 
     pub ran-accepted : {vectors′ work′ : List ℤ} {output′ : List ℕ} {r : Totals} → RanLevels (levelled s reference tuning tested) samples vectors′ output′ work work′ r →

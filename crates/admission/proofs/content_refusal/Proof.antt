@@ -5,16 +5,19 @@ use Rattle.admission.specs.Refusals.{contentTests}
 use Rattle.admission.proofs.content_refusal.Statement.{statement}
 use Rattle.admission.proofs.content_refusal.Tie as tie
 
-each : {a b c a′ b′ c′ : ℕ} → a ≡ a′ → b ≡ b′ → c ≡ c′ → first (a ∷ b ∷ c ∷ []) ≡ first (a′ ∷ b′ ∷ c′ ∷ [])
-each {b = b} {c} {a′} {b′} ea eb ec = ap (λ n. first (n ∷ b ∷ c ∷ [])) ea ∙ ap (λ n. first (a′ ∷ n ∷ c ∷ [])) eb ∙ ap (λ n. first (a′ ∷ b′ ∷ n ∷ [])) ec
+each : {a b c d a′ b′ c′ d′ : ℕ} → a ≡ a′ → b ≡ b′ → c ≡ c′ → d ≡ d′ → first (a ∷ b ∷ c ∷ d ∷ []) ≡ first (a′ ∷ b′ ∷ c′ ∷ d′ ∷ [])
+each {b = b} {c} {d} {a′} {b′} {c′} ea eb ec ed =
+    ap (λ n. first (n ∷ b ∷ c ∷ d ∷ [])) ea ∙ ap (λ n. first (a′ ∷ n ∷ c ∷ d ∷ [])) eb ∙ ap (λ n. first (a′ ∷ b′ ∷ n ∷ d ∷ [])) ec ∙ ap (λ n. first (a′ ∷ b′ ∷ c′ ∷ n ∷ [])) ed
 
 returns : tie.Need-returns
 unfolding contentTests
 returns c =
-    let black = c .before .before .before in
-    c .first .ensures ∙ each (black .before .before .strength-refusal .ensures) (black .black-refusal .ensures) (c .before .before .sample-refusal .ensures)
+    let sample = c .before .before in
+    let spatial = sample .before in
+    let black = spatial .before in
+    c .first .ensures ∙ each (black .before .before .strength-refusal .ensures) (black .black-refusal .ensures) (spatial .spatial-refusal .ensures) (sample .sample-refusal .ensures)
 
 pub content-refusal-spec : {M : Type 1} → statement M
 content-refusal-spec = tie.close (tie.spec
-    (λ c κs. search needs) (λ c κs. search needs) (λ c κs. search needs) (λ c. search needs)
+    (λ c κs. search needs) (λ c κs. search needs) (λ c κs. search needs) (λ c κs. search needs) (λ c. search needs)
     (λ c κs. search needs) returns)

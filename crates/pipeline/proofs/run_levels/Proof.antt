@@ -30,6 +30,7 @@ merge-frames-requires c κs =
         shot-most = ready .shot-most;
         read-most = ready .read-most;
         strength-most = ready .strength-most;
+        spatial-most = ready .spatial-most;
       };
       output-long = ready .fits .output-long;
       work-long = frames .align-frames .ensures .same ∙ ready .fits .work-long;

@@ -17,6 +17,7 @@ run-levels-requires c κs =
       shot-most = taken .shot-most;
       read-most = taken .read-most;
       strength-most = taken .strength-most;
+      spatial-most = lit≤ tt;
     }
 
 returns : tie.Need-returns

@@ -43,6 +43,7 @@ merge-frames-requires c κs =
         shot-most = subst (λ n. n ≤ 65536) (sym (tested .shot-is z)) (ready .shot-most);
         read-most = subst (λ n. n ≤ 4194304) (sym (tested .read-is z)) (ready .read-most);
         strength-most = ready .strength-most;
+        spatial-most = ready .spatial-most;
       };
       output-long = ready .fits .output-long;
       work-long = ready .fits .work-long;
