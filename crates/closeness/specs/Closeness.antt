@@ -8,7 +8,8 @@ use Rattle.algebra.specs.Fraction.{Frac, frac, whole, _-F_, over, sumF, Within}
 use Rattle.algebra.specs.FractionLaws.{Near, near-sub, near-scale, near-sum, near-sums, near-mono, near-over, near-rounds, near-whole, near-held, near-one, near-frac}
 use Rattle.recipe.specs.Side.{Side, cosAt, sinAt}
 use Rattle.recipe.specs.Correction.{binRe, binIm, twiddleRe, twiddleIm, inverseRe, inverseAt, correctionAt}
-use Rattle.recipe.specs.Output.{rowIn, columnIn, weightIn, rounded, outputSample}
+use Rattle.recipe.specs.Output.{rowIn, columnIn, weightIn, rounded}
+use Rattle.recipe.specs.PlainOutput.{outputSample}
 use Rattle.recipe.specs.Exact.{exactInverseRe, exactInverseAt, exactCorrectionAt, unrounded, exactSample}
 use Rattle.closeness.specs.Bins.{bin-near}
 use Rattle.closeness.specs.Windows.{four-windows}

@@ -6,7 +6,7 @@ use Rattle.algebra.specs.Fraction.{frac, whole, Within}
 use Rattle.recipe.specs.Tables.{cosines, cosine16, sine16, side16}
 use Rattle.recipe.specs.TableLaws.{window-halves}
 use Rattle.recipe.specs.Correction.{correctionAt}
-use Rattle.recipe.specs.Output.{outputSample}
+use Rattle.recipe.specs.PlainOutput.{outputSample}
 use Rattle.recipe.specs.Exact.{exactCorrectionAt, exactSample}
 use Rattle.closeness.specs.Closeness.{Fitting, tileError, tile-within, sample-within}
 

@@ -1,5 +1,5 @@
 -- A row of the copy: each number is at most copyMost.
-use Rattle.algebra.specs.Prelude.{_≡_, List, ℕ, _+_, _*_, _≤_, _<_, arith, getD, ℤ, pos, natAbs, _-ℤ_, _*ℤ_, w64, toZ, ofZ}
+use Rattle.algebra.specs.Prelude.{_≡_, List, ℕ, _+_, _*_, _≤_, arith, getD, ℤ, pos, natAbs, _-ℤ_, _*ℤ_, w64, toZ, ofZ}
 use native.Mathlib.Nat.{mul-le-mul-right}
 use Rattle.algebra.specs.Order.{abs-sub}
 use Rattle.algebra.specs.Bound.{AtMost}

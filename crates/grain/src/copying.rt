@@ -34,7 +34,12 @@ fn copy_line(frames: u64, t0: &[u16; 32], sum: &[i64; 32], p: usize) -> [i32; 16
 }
 
 // The copy of plane p.
-pub fn copy_plane(frames: u64, t0: &[[u16; 32]; 16], sum: &[[i64; 32]; 16], p: usize) -> [[i32; 16]; 16]
+pub fn copy_plane(
+    frames: u64,
+    t0: &[[u16; 32]; 16],
+    sum: &[[i64; 32]; 16],
+    p: usize,
+) -> [[i32; 16]; 16]
     requires { ⌜ record { frames-fit : Frames frames; samples : SamplePair (now t0); sums : SumPair frames (now sum); plane : p < 2 } ⌝ }
     ensures { λ r. ⌜ (r ≡ grid 16 16 (copyIn frames (planeIn (cell 0 (now (t0 .entry))) p) (planeIn (cell (pos 0) (now (sum .entry))) p))) × (TileMost copyMost r) ⌝ }
 {

@@ -1,6 +1,6 @@
 -- Inside the crate: complex lines and tiles, each in one array. Place 2·j of a line is the real part of its number j, and place 2·j + 1 the imaginary one.
 use Rattle.algebra.specs.Prelude.{cond, List, [], ℕ, _+_, _*_, _/_, _%_, _≤_, eqb, getD, ℤ, pos}
-use Rattle.sequences.specs.Grid.{grid, cell}
+use Rattle.sequences.specs.Grid.{grid}
 
 -- place l of the line x + i·y
 abbrev pub complexAt : (x y : ℕ → ℤ) → ℕ → ℤ

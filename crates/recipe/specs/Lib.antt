@@ -8,6 +8,7 @@ pub mod SpatialNoise
 pub mod Spatial
 pub mod Scene
 pub mod Merged
+pub mod PlainOutput
 pub mod Exact
 pub mod ExactSpatial
 pub mod ExactMerge

@@ -1,10 +1,9 @@
--- The output sample of document 01, from the reference sample and the tiles over it.
+-- The tiles over an output sample, and how what they put is summed and rounded.
 use Rattle.algebra.specs.Prelude.{ℕ, suc, _+_, _*_, _/_, _%_, ℤ, pos, _-ℤ_, _*ℤ_}
 use Rattle.algebra.specs.Sums.{sumZ}
 use Rattle.algebra.specs.Clamp.{clampZ}
 use Rattle.algebra.specs.Nearest.{upward}
 use Rattle.recipe.specs.Side.{Side}
-use Rattle.recipe.specs.Correction.{correctionAt}
 
 -- Four tiles lie over a sample, two by two. It is row a and column b, below the half step, of the last; tile t = 0..3, counted from the last, has it here
 abbrev pub rowIn : Side → ℕ → ℕ → ℕ
@@ -24,8 +23,3 @@ module _ (s : Side) (a b : ℕ) where
   -- w·w' of tile t at the sample
   abbrev pub weightIn : ℕ → ℕ
   weightIn t = s .window (rowIn s a t) * s .window (columnIn s b t)
-
-  -- tile t has the noise number `noise t`, and `d t z` are its differences to the z-th other frame: it puts the sum over the other frames of w·w'·P
-  unfoldable pub outputSample : (others : ℕ) (noise : ℕ → ℕ) (d : ℕ → ℕ → ℕ → ℕ → ℤ) (t0 : ℤ) → ℤ
-  outputSample others noise d t0 =
-      rounded s others (λ t. sumZ others (λ z. pos (weightIn t) *ℤ correctionAt s (noise t) (d t z) (rowIn s a t) (columnIn s b t))) t0

@@ -15,7 +15,8 @@ use Rattle.recipe.specs.Side.{Side, cosAt, sinAt}
 use Rattle.recipe.specs.Tables.{cosines, cosine16, sine16, side16}
 use Rattle.recipe.specs.Correction.{wiener, rowRe, rowIm, binRe, binIm, quantized, filtered, twiddleRe, twiddleIm, inverseRe, inverseAt, correctionAt}
 use Rattle.recipe.specs.TableLaws.{window-halves}
-use Rattle.recipe.specs.Output.{rowIn, columnIn, weightIn, outputSample}
+use Rattle.recipe.specs.Output.{rowIn, columnIn, weightIn}
+use Rattle.recipe.specs.PlainOutput.{outputSample}
 use Rattle.closeness.specs.Windows.{four-windows}
 use Rattle.spectrum.specs.ZeroLaws.{sumZ-zero, away-zero, wiener-zero, less-zero, less-none, more-none}
 use Rattle.sanity.specs.RoundLaws.{away-whole, away-scale, upward-scale}

@@ -9,7 +9,8 @@ use Rattle.algebra.specs.ClampLaws.{clamp-same}
 use Rattle.algebra.specs.Nearest.{upward}
 use Rattle.recipe.specs.Side.{Side}
 use Rattle.recipe.specs.Correction.{correctionAt}
-use Rattle.recipe.specs.Output.{rowIn, columnIn, weightIn, outputSample}
+use Rattle.recipe.specs.Output.{rowIn, columnIn, weightIn}
+use Rattle.recipe.specs.PlainOutput.{outputSample}
 use Rattle.spectrum.specs.ZeroLaws.{sumZ-zero}
 
 -- m·n/m to nearest is n

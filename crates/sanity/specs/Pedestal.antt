@@ -16,9 +16,9 @@ use Rattle.recipe.specs.declared.Merge.{Merge}
 use Rattle.recipe.specs.Tables.{side16}
 use Rattle.recipe.specs.Root.{wholeRoot}
 use Rattle.recipe.specs.NoiseNumber.{squared, sumOfSquares, tileRoot, noiseNumber}
-use Rattle.recipe.specs.Output.{outputSample}
+use Rattle.recipe.specs.PlainOutput.{outputSample}
 use Rattle.recipe.specs.SpatialNoise.{spatialNumber}
-use Rattle.recipe.specs.Spatial.{Tile, filteredSample}
+use Rattle.recipe.specs.Spatial.{filteredSample}
 use Rattle.spatial.specs.PlainLaws.{plain-output as base-output}
 use Rattle.recipe.specs.Scene.{Scene, sceneOf, blackOf, tileOver, referenceTile, otherTile, tileNoise, tileSpatial, difference, differenceOver, tileHere}
 use Rattle.recipe.specs.Merged.{planeOutput, outputAt, wordAt, merged}

@@ -8,7 +8,7 @@ use Rattle.sequences.specs.TabLaws.{getD-tab}
 use Rattle.recipe.specs.Side.{Side}
 use Rattle.recipe.specs.Tables.{side16}
 use Rattle.recipe.specs.Scene.{Scene}
-use Rattle.recipe.specs.Output.{outputSample}
+use Rattle.recipe.specs.PlainOutput.{outputSample}
 use Rattle.recipe.specs.Spatial.{Tile, filteredSample}
 use Rattle.recipe.specs.Exact.{exactSample}
 use Rattle.recipe.specs.ExactSpatial.{exactFilteredSample}

@@ -1,10 +1,9 @@
 -- "With s = 0 the plain merge comes out": the merged sample is document 01's, from the noise numbers and the differences of the four tiles.
 use Rattle.algebra.specs.Prelude.{_≡_, ap, _∙_, ℕ, suc, _/_, _%_, pos}
 use Rattle.geometry.specs.Read.{planeOf}
-use Rattle.recipe.specs.Side.{Side}
 use Rattle.recipe.specs.Scene.{Scene, referenceRoot, tileSpatial, tileHere, noiseOver, differenceOver, tilesOver, tileOver}
 use Rattle.recipe.specs.SpatialNoise.{spatialNumber}
-use Rattle.recipe.specs.Output.{outputSample}
+use Rattle.recipe.specs.PlainOutput.{outputSample}
 use Rattle.recipe.specs.Merged.{planeOutput}
 use Rattle.spectrum.specs.FilterZeroLaws.{no-strength, plain-merge}
 

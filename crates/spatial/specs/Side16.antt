@@ -1,8 +1,7 @@
 -- Request L13 for side 16: a filtered sample lies within two steps of the exact filtered merge's, in fact within nine tenths.
-use Rattle.algebra.specs.Prelude.{_≡_, refl, ℕ, suc, _+_, _*_, _≤_, _<_, arith, lit<, lit≤, ℤ}
+use Rattle.algebra.specs.Prelude.{refl, ℕ, suc, _+_, _*_, _≤_, _<_, arith, lit<, lit≤, ℤ}
 use Rattle.algebra.specs.Fraction.{whole, Within}
 use Rattle.recipe.specs.Tables.{side16}
-use Rattle.recipe.specs.Output.{outputSample}
 use Rattle.closeness.specs.Closeness.{tileError}
 use Rattle.closeness.specs.Side16.{fitting16}
 use Rattle.recipe.specs.Spatial.{Tile, filteredSample}

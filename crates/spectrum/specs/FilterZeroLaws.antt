@@ -8,7 +8,8 @@ use Rattle.algebra.specs.Nearest.{upward}
 use Rattle.recipe.specs.Side.{Side}
 use Rattle.recipe.specs.Correction.{wiener, binRe, binIm, correctionAt}
 use Rattle.spectrum.specs.ZeroLaws.{inverse-zero}
-use Rattle.recipe.specs.Output.{rowIn, columnIn, weightIn, outputSample}
+use Rattle.recipe.specs.Output.{rowIn, columnIn, weightIn}
+use Rattle.recipe.specs.PlainOutput.{outputSample}
 use Rattle.recipe.specs.SpatialNoise.{spatialNumber}
 use Rattle.recipe.specs.Spatial.{Tile, mergedSum, copyAt, copyFiltered, spatialAt, takenAt, filteredSample}
 

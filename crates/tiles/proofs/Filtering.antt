@@ -1,5 +1,5 @@
 -- What is taken from a pair: its sums where s is 0, and else its sums with N·P'.
-use Rattle.algebra.specs.Prelude.{_≡_, refl, sym, ap, ap₂, subst, _∙_, List, [], ℕ, suc, _+_, _-_, _*_, _/_, _%_, _^_, _≤_, _<_, arith, ℤ, pos, natAbs, _+ℤ_, _-ℤ_, _*ℤ_}
+use Rattle.algebra.specs.Prelude.{_≡_, refl, sym, ap, ap₂, subst, _∙_, List, [], ℕ, suc, _+_, _*_, _/_, _%_, _≤_, _<_, arith, ℤ, pos, natAbs, _+ℤ_, _-ℤ_, _*ℤ_}
 use Rattle.algebra.specs.Order.{abs-add, abs-mul-le}
 use Rattle.algebra.specs.Nearest.{away}
 use Rattle.sequences.specs.Tab.{tab}
@@ -12,7 +12,7 @@ use Rattle.recipe.specs.Spatial.{mergedSum, copyAt, spatialAt, takenAt}
 use Rattle.recipe.specs.Scene.{Scene, sceneOf, referenceTile, referenceRoot, tileSpatial, tileHere}
 use Rattle.noise.specs.SpatialRange.{SpatialRange}
 use Rattle.noise.specs.SpatialLaws.{spatial-number-most}
-use Rattle.spectrum.specs.Magnitudes.{smallMost, spatialMost, spatialCorrectionMost}
+use Rattle.spectrum.specs.Magnitudes.{smallMost, spatialCorrectionMost}
 use Rattle.spectrum.specs.FilterZeroLaws.{no-strength, taken-none}
 use Rattle.spectrum.specs.Pairs.{planeIn, sideBySide, either, Paired}
 use Rattle.grain.specs.Filtering.{copyIn, stepAt, SumMost, SumRow, SumPair}

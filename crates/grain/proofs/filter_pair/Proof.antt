@@ -1,5 +1,5 @@
 -- N·P' of both planes, side by side.
-use Rattle.algebra.specs.Prelude.{_≡_, ap, _∙_, List, [], ℕ, _+_, _*_, _/_, _%_, _^_, _≤_, _<_, arith, needs, lit<, getD, ℤ, pos, natAbs, _+ℤ_, _*ℤ_, now}
+use Rattle.algebra.specs.Prelude.{_≡_, ap, _∙_, List, ℕ, _/_, _%_, _^_, _<_, arith, lit<, ℤ, pos, _+ℤ_, _*ℤ_, now}
 use borrow.Author.Count.{below-none, below-more}
 use Rattle.sequences.specs.Grid.{grid, cell, cell-grid, grid-ext}
 use Rattle.lines.specs.Lines.{TileMost}

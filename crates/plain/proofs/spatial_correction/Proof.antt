@@ -1,5 +1,5 @@
 -- `plain::spatial_correction`: the copy's bins, the step and P' one after the other, each tile by what it holds.
-use Rattle.algebra.specs.Prelude.{_≡_, sym, ap₂, subst, _∙_, List, ℕ, _+_, _*_, _≤_, lit≤, ℤ, pos, natAbs, now}
+use Rattle.algebra.specs.Prelude.{_≡_, sym, ap₂, subst, _∙_, List, ℕ, _≤_, lit≤, ℤ, pos, now}
 use Rattle.sequences.specs.Grid.{cell, grid-ext}
 use Rattle.recipe.specs.Tables.{side16}
 use Rattle.recipe.specs.Correction.{binRe, binIm, inverseAt}

@@ -31,9 +31,10 @@ returns : tie.Need-returns
 returns c =
     let p = c .before .before .before in
     let w = p .before .before .before in
-    let s = w .before .before in
-    (bins-are copyMost (lit≤ tt) (lit≤ tt) (d s) (most s) (w .widen-copy .ensures) (p .pass .ensures) (c .pass2 .ensures),
-    less-most {b = copyBinMost} (bins-most copyMost (lit≤ tt) (lit≤ tt) (d s) (most s) (w .widen-copy .ensures) (p .pass .ensures) (c .pass2 .ensures)) (lit≤ tt))
+    let s = w .before .before in (
+      bins-are copyMost (lit≤ tt) (lit≤ tt) (d s) (most s) (w .widen-copy .ensures) (p .pass .ensures) (c .pass2 .ensures),
+      less-most {b = copyBinMost} (bins-most copyMost (lit≤ tt) (lit≤ tt) (d s) (most s) (w .widen-copy .ensures) (p .pass .ensures) (c .pass2 .ensures)) (lit≤ tt),
+    )
 
 pub transform-copy-spec : {M : Type 1} → statement M
 transform-copy-spec = tie.close (tie.spec (λ c κs. search needs) pass-requires pass-requires-2 returns)

@@ -12,7 +12,7 @@ use Rattle.algebra.specs.Nearest.{away}
 use Rattle.rounding.proofs.round_away.Reads as round-away-reads
 use Rattle.recipe.specs.Correction.{power, wiener}
 use Rattle.recipe.specs.CorrectionLaws.{power-is}
-use Rattle.spectrum.specs.Magnitudes.{copyPartMost, spatialMost, spatialGainMost}
+use Rattle.spectrum.specs.Magnitudes.{copyPartMost, spatialMost}
 use Rattle.spectrum.specs.WienerLaws.{wiener-is}
 use Rattle.spectrum.specs.SizeLaws.{copy-gain-most}
 use Rattle.bins.proofs.copies.wiener_part.Statement.{statement}

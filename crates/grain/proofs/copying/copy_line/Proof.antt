@@ -1,13 +1,11 @@
 -- The numbers are stored one after the other, each of at most copyMost.
-use Rattle.algebra.specs.Prelude.{_≡_, refl, ap, subst, sym, _∙_, ℕ, _+_, _-_, _*_, _≤_, _<_, arith, needs, List, getD, ℤ, pos, natAbs, _-ℤ_, _*ℤ_, now, w32, w64, toZ, ofZ}
-use Rattle.algebra.specs.Bound.{AtMost}
+use Rattle.algebra.specs.Prelude.{_≡_, refl, ap, subst, sym, _∙_, _+_, _-_, _*_, arith, needs, getD, pos, _-ℤ_, _*ℤ_, now, w32, toZ, ofZ}
 use Rattle.algebra.specs.Nearest.{away}
-use Rattle.sequences.specs.Tab.{tab}
-use Rattle.sequences.specs.TabLaws.{Filled, fill-start, fill-turn, fill-done, tab-each}
+use Rattle.sequences.specs.TabLaws.{Filled, fill-start, fill-turn, fill-done}
 use Rattle.lines.specs.Lines.{LineMost}
 use Rattle.lines.specs.Tiles.{line-most}
-use Rattle.spectrum.specs.Magnitudes.{smallMost, copyMost}
-use Rattle.grain.specs.Filtering.{SumMost, SampleRow, SumRow}
+use Rattle.spectrum.specs.Magnitudes.{copyMost}
+use Rattle.grain.specs.Filtering.{SumMost}
 use Rattle.grain.proofs.CopyLaws.{partOf, part-most, held-sum}
 use Rattle.grain.proofs.copying.copy_line.Statement.{statement}
 use Rattle.grain.proofs.copying.copy_line.Tie as tie

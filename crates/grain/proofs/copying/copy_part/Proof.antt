@@ -1,13 +1,10 @@
 -- The dividend is at most N times copyMost, so that the quotient is at most copyMost.
-use Rattle.algebra.specs.Prelude.{_≡_, refl, sym, ap, ap₂, subst, _∙_, ℕ, _+_, _*_, _^_, _≤_, _<_, arith, lit<, w32, w64, ℤ, pos, natAbs, _-ℤ_, _*ℤ_, SFits, toZ, ofZ}
-use native.Mathlib.Nat.{mul-le-mul-right, le-trans}
+use Rattle.algebra.specs.Prelude.{_≡_, sym, ap, ap₂, subst, _∙_, ℕ, _*_, _^_, _≤_, _<_, arith, w32, w64, ℤ, pos, natAbs, _-ℤ_, SFits, toZ, ofZ}
 use mir.ValLaws.{toZ-pos}
-use Rattle.algebra.specs.Order.{abs-sub}
 use Rattle.algebra.specs.Bound.{AtMost, most-fits}
 use Rattle.algebra.specs.Nearest.{away}
-use Rattle.lines.specs.Held.{number-is, number-most, cast-fits, cast-is}
-use Rattle.spectrum.specs.Magnitudes.{smallMost, copyMost}
-use Rattle.spectrum.specs.RoundingLaws.{away-within}
+use Rattle.lines.specs.Held.{number-is, cast-fits, cast-is}
+use Rattle.spectrum.specs.Magnitudes.{copyMost}
 use Rattle.grain.specs.Filtering.{Frames, SumMost}
 use Rattle.grain.proofs.CopyLaws.{whole-most, dividend-most, quotient-most, held-sum}
 use Rattle.grain.proofs.copying.copy_part.Statement.{statement}

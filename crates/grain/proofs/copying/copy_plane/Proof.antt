@@ -1,5 +1,5 @@
 -- The rows are stored one after the other.
-use Rattle.algebra.specs.Prelude.{refl, sym, subst, [], ℕ, _-_, _≤_, arith, needs, getD, ℤ, pos, natAbs, now}
+use Rattle.algebra.specs.Prelude.{refl, sym, subst, _-_, arith, needs, pos}
 use Rattle.sequences.specs.Tab.{tab}
 use Rattle.sequences.specs.TabLaws.{Filled, fill-start, fill-turn, fill-done}
 use Rattle.sequences.specs.Grid.{grid, cell}

@@ -1,5 +1,5 @@
 -- The lines are stored one after the other.
-use Rattle.algebra.specs.Prelude.{refl, sym, subst, [], ℕ, _-_, _*_, _≤_, arith, needs, lit≤, getD, ℤ, pos, natAbs, _*ℤ_, now}
+use Rattle.algebra.specs.Prelude.{refl, sym, subst, _-_, arith, needs, lit≤, pos, _*ℤ_, now}
 use native.Mathlib.Nat.{le-trans}
 use Rattle.algebra.specs.Order.{abs-mul-le}
 use Rattle.sequences.specs.Tab.{tab}
@@ -7,7 +7,7 @@ use Rattle.sequences.specs.TabLaws.{Filled, fill-start, fill-turn, fill-done}
 use Rattle.sequences.specs.Grid.{grid, cell}
 use Rattle.lines.specs.Lines.{TileMost}
 use Rattle.lines.specs.Tiles.{tile-most, cells-most}
-use Rattle.spectrum.specs.Magnitudes.{correctionMost, spatialCorrectionMost}
+use Rattle.spectrum.specs.Magnitudes.{correctionMost}
 use Rattle.grain.proofs.copying.times.Statement.{statement}
 use Rattle.grain.proofs.copying.times.Tie as tie
 

@@ -1,5 +1,5 @@
 -- The numbers are stored one after the other.
-use Rattle.algebra.specs.Prelude.{_≡_, refl, ap, _∙_, _-_, arith, needs, getD, pos, _*ℤ_, now, w32, toZ, ofZ}
+use Rattle.algebra.specs.Prelude.{_≡_, refl, ap, _∙_, _-_, arith, needs, getD, pos, _*ℤ_, w32, toZ, ofZ}
 use Rattle.sequences.specs.TabLaws.{Filled, fill-start, fill-turn, fill-done}
 use Rattle.lines.specs.Held.{held-is, held-most}
 use Rattle.grain.proofs.copying.times_line.Statement.{statement}

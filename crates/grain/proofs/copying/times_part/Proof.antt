@@ -1,5 +1,5 @@
 -- N is at most 8, and a number of P' at most 1776856.
-use Rattle.algebra.specs.Prelude.{_≡_, ap₂, subst, sym, _∙_, ℕ, _*_, _^_, _≤_, arith, w32, ℤ, pos, natAbs, _*ℤ_, SFits, toZ, ofZ}
+use Rattle.algebra.specs.Prelude.{_≡_, ap₂, subst, sym, ℕ, _*_, arith, w32, ℤ, pos, _*ℤ_, SFits, toZ, ofZ}
 use mir.ValLaws.{toZ-pos}
 use Rattle.algebra.specs.Bound.{AtMost, mul-most, most-fits}
 use Rattle.lines.specs.Held.{number-is}

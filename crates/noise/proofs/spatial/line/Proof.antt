@@ -1,8 +1,7 @@
 -- The numbers are stored one after the other; a product is at most 181 times the scale's bound.
-use Rattle.algebra.specs.Prelude.{refl, _*_, _/_, _-_, _≤_, arith, needs, getD, now}
+use Rattle.algebra.specs.Prelude.{refl, _*_, _/_, _-_, arith, needs, getD}
 use native.Mathlib.Nat.{mul-le-mul}
 use Rattle.sequences.specs.TabLaws.{Filled, fill-start, fill-turn, fill-done}
-use Rattle.noise.specs.SpatialRange.{scaleMost}
 use Rattle.noise.proofs.spatial.line.Statement.{statement}
 use Rattle.noise.proofs.spatial.line.Tie as tie
 

@@ -1,5 +1,5 @@
 -- The lines are stored one after the other; the table is that of m.
-use Rattle.algebra.specs.Prelude.{_≡_, refl, sym, ap, subst, _∙_, [], ℕ, _+_, _*_, _/_, _-_, _≤_, _<_, arith, needs, getD, now}
+use Rattle.algebra.specs.Prelude.{_≡_, refl, sym, ap, subst, _∙_, [], ℕ, _*_, _/_, _-_, _≤_, _<_, arith, needs, getD}
 use Prim.Native.Nat.{zero-le}
 use native.Mathlib.Nat.{mul-le-mul}
 use Rattle.sequences.specs.Tab.{tab}

@@ -1,5 +1,5 @@
 -- `plain::copies::copy_gains`: the parts of the step are stored one after the other.
-use Rattle.algebra.specs.Prelude.{_≡_, refl, ap, ap₂, _∙_, List, ℕ, _+_, _-_, _*_, _/_, _%_, arith, needs, getD, ℤ, pos, w64, toZ, ofZ, now}
+use Rattle.algebra.specs.Prelude.{_≡_, refl, ap₂, _∙_, List, ℕ, _+_, _-_, _*_, _/_, _%_, arith, needs, getD, ℤ, pos, w64, toZ, ofZ, now}
 use Rattle.sequences.specs.TabLaws.{Filled, fill-start, fill-turn, fill-done}
 use Rattle.recipe.specs.Tables.{side16}
 use Rattle.recipe.specs.Spatial.{copyFiltered}

@@ -1,5 +1,5 @@
 -- V' of both planes, and the filter.
-use Rattle.algebra.specs.Prelude.{_≡_, refl, ap, ap₂, subst, sym, _∙_, List, [], ℕ, _/_, _%_, _≤_, _<_, arith, needs, getD, ℤ, pos, _+ℤ_, _*ℤ_, now}
+use Rattle.algebra.specs.Prelude.{_≡_, ap, subst, sym, _∙_, List, [], ℕ, _/_, _%_, _≤_, _<_, arith, pos, _+ℤ_, _*ℤ_, now}
 use Prim.Native.Nat.{zero-le}
 use Rattle.sequences.specs.Tab.{tab}
 use Rattle.sequences.specs.TabLaws.{tab-every}
@@ -12,7 +12,7 @@ use Rattle.noise.specs.SpatialLaws.{spatial-number-most}
 use Rattle.plain.specs.Complex.{NoiseLine, NoisesMost}
 use Rattle.spectrum.specs.Magnitudes.{spatialMost}
 use Rattle.spectrum.specs.Pairs.{planeIn, either}
-use Rattle.grain.specs.Filtering.{copyIn, stepAt}
+use Rattle.grain.specs.Filtering.{copyIn}
 use Rattle.grain.specs.FilteringLaws.{step-noise}
 use Rattle.tiles.specs.Accepted.{Tuned}
 use Rattle.tiles.proofs.Noises.{both}
