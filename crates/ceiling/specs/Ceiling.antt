@@ -14,7 +14,8 @@ use Rattle.algebra.specs.Nearest.{upward}
 use Rattle.algebra.specs.NearestLaws.{upward-rounds}
 use Rattle.recipe.specs.Side.{Side, cosAt, sinAt}
 use Rattle.recipe.specs.Correction.{binRe, binIm, quantized, filtered, twiddleRe, twiddleIm, inverseRe, inverseAt, correctionAt}
-use Rattle.recipe.specs.Output.{rowIn, columnIn, weightIn, outputSample}
+use Rattle.recipe.specs.Output.{rowIn, columnIn, weightIn}
+use Rattle.recipe.specs.PlainOutput.{outputSample}
 use Rattle.closeness.specs.Windows.{four-windows}
 use Rattle.closeness.specs.Closeness.{Fitting, twiddle}
 use Rattle.ceiling.specs.Leak.{largest, leak, UnderCeiling}

@@ -3,7 +3,8 @@ use Rattle.algebra.specs.Prelude.{_≡_, sym, ap, ap₂, subst, _∙_, ℕ, suc
 use native.Mathlib.Nat.{mod-lt, mul-comm, zero-mul, div-lt-iff-lt-mul}
 use Rattle.sequences.specs.TabLaws.{getD-tab}
 use Rattle.geometry.specs.Read.{planeOf}
-use Rattle.recipe.specs.Scene.{Scene}
+use Rattle.recipe.specs.Scene.{Scene, noiseOver, differenceOver}
+use Rattle.recipe.specs.PlainOutput.{outputSample}
 use Rattle.recipe.specs.Merged.{outputAt, wordAt, merged}
 use Rattle.closeness.specs.Closeness.{Fitting}
 use Rattle.spatial.specs.PlainLaws.{plain-output}

@@ -4,7 +4,7 @@ use lib.Signed.{_≤ℤ_, leZ, leZ-yes}
 use Rattle.algebra.specs.Test.{all, all-sound}
 use Rattle.algebra.specs.Lipschitz.{sq}
 use Rattle.recipe.specs.Tables.{cosines, cosine16, sine16, side16}
-use Rattle.recipe.specs.Output.{outputSample}
+use Rattle.recipe.specs.PlainOutput.{outputSample}
 use Rattle.closeness.specs.Side16.{fitting16}
 use Rattle.ceiling.specs.Leak.{largest, leak}
 use Rattle.ceiling.specs.Ceiling.{Circle, ceiling}
