@@ -27,6 +27,7 @@ struct Noise {
 #[repr(C)]
 struct Tuning {
     strength: u64,
+    spatial: u64,
 }
 
 #[repr(C)]
@@ -71,6 +72,7 @@ impl BurstFile {
     fn tuning(&self) -> Tuning {
         Tuning {
             strength: self.strength,
+            spatial: 0,
         }
     }
 }

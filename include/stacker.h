@@ -165,7 +165,7 @@ static inline stacker_noise stacker_file_noise(stacker_file file)
 
 static inline stacker_tuning stacker_file_tuning(stacker_file file)
 {
-    stacker_tuning tuning = { file.strength };
+    stacker_tuning tuning = { file.strength, 0 };
     return tuning;
 }
 
@@ -293,8 +293,8 @@ static inline const char *stacker_refusal_text(uint64_t number)
    AFTER A CALL that answers 0 the written buffers hold the result, every word of it, and the work area is zero. After a refusal every lent buffer is
    as it was, and every other field of the answer is 0, the index chosen too.
 
-   REFUSALS. A call makes its tests in the order of the numbers, but 23 before 4 and 18 after 10, and answers the first that fails: align 1 to 5, 7, 11
-   and 23; merge 1 to 12, 18 and 23; run 1 to 11, 18 and 23; run_sharpest run's but for 3, whichever frame it chooses.
+   REFUSALS. A call makes its tests in the order of the numbers, but 23 before 4, and 18 and 24 after 10, and answers the first that fails: align 1 to 5, 7, 11
+   and 23; merge 1 to 12, 18, 23 and 24; run 1 to 11, 18, 23 and 24; run_sharpest run's but for 3, whichever frame it chooses.
    A file is tested line by line: no first LF 15, 13; line two 15, 14, then 1, 2, 3, 9, 10, 4; each row 15, 14, 11; then what follows, 15.
    Writing a PGM file tests 1, 6, 16, 11 in that order, reading one 17, 6, 11.
    Reading a DNG file tests 19, 20, 21, then 1, 2, 3 of the frame's index, 23, 4 and 11 of the file's samples.
