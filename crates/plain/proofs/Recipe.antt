@@ -16,8 +16,8 @@ use Rattle.recipe.specs.CorrectionLaws.{alongRe, alongIm, two-way}
 use Rattle.lines.specs.Lines.{TileMost}
 use Rattle.spectrum.specs.Magnitudes.{gainMost}
 use Rattle.plain.specs.Complex.{complexTile, realOf, imaginaryOf}
-use Rattle.plain.specs.Passes.{along, passedRe, passedIm, partMost}
-use Rattle.plain.proofs.ComplexLaws.{real-is, imaginary-is, complex-most, less-most}
+use Rattle.plain.specs.Passes.{along, passedRe, passedIm, inverseIm, partMost}
+use Rattle.plain.specs.ComplexLaws.{real-is, imaginary-is, complex-most, less-most}
 
 -- ---- one place of a pass
 
@@ -177,6 +177,9 @@ module _ {g : List (List ℤ)} (m : TileMost gainMost g) {r : List (List ℤ)} (
 
   pub sums-are : (y x : ℕ) → x < 16 → passedRe 4 r y x ≡ inverseRe side16 (realOf g) (imaginaryOf g) y x
   sums-are y x h = place-is alongs 0 4 y x h ∙ inverse-is (realOf g) (imaginaryOf g) y x
+
+  pub tile-sums : {t : List (List ℤ)} → t ≡ complexTile (passedRe 4 r) (passedIm 4 r) → t ≡ complexTile (inverseRe side16 (realOf g) (imaginaryOf g)) (inverseIm (realOf g) (imaginaryOf g))
+  tile-sums = passed alongs 4 _ _ (inverse-is (realOf g) (imaginaryOf g)) (λ k i. refl)
 
 pub inverse-cong : (f g d e : ℕ → ℕ → ℤ) → ((u v : ℕ) → u < 16 → v < 16 → f u v ≡ d u v) → ((u v : ℕ) → u < 16 → v < 16 → g u v ≡ e u v) → (y x : ℕ) → inverseAt side16 f g y x ≡ inverseAt side16 d e y x
 unfolding inverseAt inverseRe side16

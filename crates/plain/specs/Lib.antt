@@ -1,2 +1,3 @@
 pub mod Complex
 pub mod Passes
+pub mod ComplexLaws

@@ -3,6 +3,7 @@ use Rattle.algebra.specs.Prelude.{List, ℕ, _+_, _-_, _*_, _^_, ℤ, _+ℤ_, _
 use Rattle.algebra.specs.Sums.{sumZ}
 use Rattle.recipe.specs.Side.{cosAt}
 use Rattle.recipe.specs.Tables.{side16}
+use Rattle.recipe.specs.CorrectionLaws.{alongRe, alongIm}
 use Rattle.plain.specs.Complex.{realOf, imaginaryOf}
 
 -- one part of place k of the complex line x + i·y: the sum of its products with C(k·j + p) and C(k·j + q). Parts of the transform and of its inverse are made of
@@ -16,6 +17,10 @@ passedRe q z k i = along 0 q (realOf z i) (imaginaryOf z i) k
 
 abbrev pub passedIm : (q : ℕ) (z : List (List ℤ)) → ℕ → ℕ → ℤ
 passedIm q z k i = along (16 - q) 0 (realOf z i) (imaginaryOf z i) k
+
+-- the imaginary part of the inverse sum of g + i·h, of which nothing is asked
+abbrev pub inverseIm : (g h : ℕ → ℕ → ℤ) → ℕ → ℕ → ℤ
+inverseIm g h y x = along 12 0 (alongRe side16 g h x) (alongIm side16 g h x) y
 
 -- a number of a line that a pass takes. The largest are the inverse's sums along the rows of G: sixteen of gainMost·2^15
 abbrev pub partMost : ℕ

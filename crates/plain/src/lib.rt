@@ -1,7 +1,7 @@
 // P of document 01, and P' of the spatial filter (request L13), as their definitions read, in whole numbers: any V, any differences, and no thought of speed. For
 // whatever doubles do not serve.
 mod copies;
-mod passes;
+pub mod passes;
 mod steps;
 
 use crate::copies::copy_gains;
@@ -15,12 +15,13 @@ ghost use Prim.Native.Nat.{_≤_};
 ghost use lib.IntN.{pos};
 ghost use Rattle.sequences.specs.Grid.{grid, cell};
 ghost use Rattle.recipe.specs.Tables.{side16};
-ghost use Rattle.recipe.specs.Correction.{binRe, binIm, filtered, inverseAt, correctionAt};
+ghost use Rattle.recipe.specs.Correction.{binRe, binIm, filtered, inverseRe, inverseAt, correctionAt};
 ghost use Rattle.recipe.specs.Spatial.{copyFiltered};
 ghost use Rattle.lines.specs.Lines.{TileMost};
 ghost use Rattle.lines.specs.Magnitudes.{differenceMost};
 ghost use Rattle.spectrum.specs.Magnitudes.{binMost, gainMost, noiseMost, correctionMost, copyMost, copyBinMost, spatialMost, spatialCorrectionMost};
 ghost use Rattle.plain.specs.Complex.{complexTile, realOf, imaginaryOf, NoisesMost};
+ghost use Rattle.plain.specs.Passes.{inverseIm};
 
 // Where the cosine table has them: S(k) = C(k + 12), −S(k) = C(k + 4).
 const SINE: usize = 12;
@@ -28,7 +29,7 @@ const SINE: usize = 12;
 const MINUS_SINE: usize = 4;
 
 // B of a tile of differences, along the rows and then along the columns.
-fn transform(d: [[i16; 16]; 16]) -> [[i64; 32]; 16]
+pub fn transform(d: [[i16; 16]; 16]) -> [[i64; 32]; 16]
     requires { ⌜ TileMost differenceMost d ⌝ }
     ensures { λ r. ⌜ r ≡ complexTile (binRe side16 (cell (pos 0) d)) (binIm side16 (cell (pos 0) d)) ⌝ }
 {
@@ -40,7 +41,7 @@ fn transform(d: [[i16; 16]; 16]) -> [[i64; 32]; 16]
 }
 
 // G from B at the noise number V.
-fn wiener(mut b: [[i64; 32]; 16], noise: u64) -> [[i64; 32]; 16]
+pub fn wiener(mut b: [[i64; 32]; 16], noise: u64) -> [[i64; 32]; 16]
     requires { ⌜ (noise ≤ noiseMost) × (TileMost binMost b) ⌝ }
     ensures { λ r. ⌜ r ≡ complexTile (λ u v. filtered side16 noise (realOf b u v) (imaginaryOf b u v)) (λ u v. filtered side16 noise (imaginaryOf b u v) (realOf b u v)) ⌝ }
 {
@@ -48,6 +49,18 @@ fn wiener(mut b: [[i64; 32]; 16], noise: u64) -> [[i64; 32]; 16]
         b[u] = gains(&b[u], noise);
     }
     b
+}
+
+// The inverse sums of G, along the rows and then along the columns.
+pub fn sums(g: [[i64; 32]; 16]) -> [[i64; 32]; 16]
+    requires { ⌜ TileMost gainMost g ⌝ }
+    ensures { λ r. ⌜ r ≡ complexTile (inverseRe side16 (realOf g) (imaginaryOf g)) (inverseIm (realOf g) (imaginaryOf g)) ⌝ }
+{
+    let mut rows = [[0i64; 32]; 16];
+    pass(&g, MINUS_SINE, &mut rows);
+    let mut r = [[0i64; 32]; 16];
+    pass(&rows, MINUS_SINE, &mut r);
+    r
 }
 
 // P from G, along the rows and then along the columns.

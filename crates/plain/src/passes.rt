@@ -17,7 +17,7 @@ ghost use Rattle.plain.specs.Complex.{complexAt, complexTile, real, imag
 ghost use Rattle.plain.specs.Passes.{along, passedRe, passedIm, partMost, termMost, placeMost};
 
 // C(0..15)
-const COSINES: [i64; 16] = [
+pub const COSINES: [i64; 16] = [
     16384,
     15137,
     11585,
@@ -37,7 +37,7 @@ const COSINES: [i64; 16] = [
 ];
 
 // The products of the number x + i·y with C(p) and C(q).
-fn term(table: &[i64; 16], x: i64, y: i64, p: usize, q: usize) -> i64
+pub fn term(table: &[i64; 16], x: i64, y: i64, p: usize, q: usize) -> i64
     requires { ⌜ record { table-is : now table ≡ cosines; x-most : AtMost partMost x; y-most : AtMost partMost y } ⌝ }
     ensures { λ r. ⌜ (r ≡ x *ℤ cosAt side16 p +ℤ y *ℤ cosAt side16 q) × (AtMost termMost r) ⌝ }
 {

@@ -9,7 +9,7 @@ use Rattle.lines.specs.Tiles.{cells-most, tile-most}
 use Rattle.spectrum.specs.Magnitudes.{binMost, gainMost, correctionMost}
 use Rattle.spectrum.specs.SizeLaws.{bin-re-most, bin-im-most, gain-most, correction-most}
 use Rattle.plain.specs.Complex.{complexTile, realOf, imaginaryOf}
-use Rattle.plain.proofs.ComplexLaws.{real-is, imaginary-is, complex-most}
+use Rattle.plain.specs.ComplexLaws.{real-is, imaginary-is, complex-most}
 use Rattle.plain.proofs.Recipe.{inverse-cong}
 use Rattle.plain.proofs.correction.Statement.{statement}
 use Rattle.plain.proofs.correction.Tie as tie

@@ -5,7 +5,7 @@ use Rattle.sequences.specs.Grid.{grid-ext}
 use Rattle.recipe.specs.Tables.{side16}
 use Rattle.recipe.specs.Correction.{inverseAt}
 use Rattle.plain.specs.Complex.{realOf, imaginaryOf}
-use Rattle.plain.proofs.ComplexLaws.{less-most}
+use Rattle.plain.specs.ComplexLaws.{less-most}
 use Rattle.plain.proofs.Recipe.{alongs-most, sums-are}
 use Rattle.plain.proofs.inverse.Statement.{statement}
 use Rattle.plain.proofs.inverse.Tie as tie

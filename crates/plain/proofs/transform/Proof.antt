@@ -3,7 +3,7 @@ use Rattle.algebra.specs.Prelude.{refl, ℕ, natAbs, _≤_, needs, lit≤, ℤ,
 use Rattle.sequences.specs.Grid.{cell}
 use Rattle.lines.specs.Magnitudes.{differenceMost}
 use Rattle.lines.specs.Tiles.{cells-most}
-use Rattle.plain.proofs.ComplexLaws.{lines-16}
+use Rattle.plain.specs.ComplexLaws.{lines-16}
 use Rattle.plain.proofs.Recipe.{wide-most, rows-most, bins-are}
 use Rattle.plain.proofs.transform.Statement.{statement}
 use Rattle.plain.proofs.transform.Tie as tie
