@@ -33,7 +33,7 @@ pub fn align_refusal(
 }
 
 // Tests 10, 18, 24 and 11.
-pub fn content_refusal(shape: Shape, tuning: Tuning, samples: &[u16]) -> u64
+fn content_refusal(shape: Shape, tuning: Tuning, samples: &[u16]) -> u64
     requires { ⌜ Sampled shape (now samples) ⌝ }
     ensures { λ r. ⌜ r ≡ first (contentTests shape tuning (now (samples .entry))) ⌝ }
 {

@@ -99,8 +99,8 @@ module _ (lower upper : Noise) (c : Curve) (e : first (noiseTests lower) ≡ 0) 
       let w' = accepted-within upper e' in
       within-accepted c (within-between 64 _ (c .shot) _ (w .0) (w' .0) (h .shot) (k .shot)) (within-between 4096 _ (c .read) _ (w .1) (w' .1) (h .read) (k .read))
 
-  -- "For every curve between the two ends, the frame merged with it lies between low and high at each sample"
-  pub curve-inside : (s : Shape) (reference : ℕ) (tuning : Tuning) (samples : List ℕ) (vectors : List ℤ) (i : ℕ) → i < s .width * s .height →
+  -- "For every curve between the two ends, the frame merged with it lies between low and high at each sample", "without the spatial filter"
+  pub curve-inside : (s : Shape) (reference : ℕ) (tuning : Tuning) (samples : List ℕ) (vectors : List ℤ) → tuning .spatial ≡ 0 → (i : ℕ) → i < s .width * s .height →
       let at : Noise → Scene = λ noise. levelled s reference tuning samples vectors (shotLevel (levelsOf noise)) (readLevel (levelsOf noise)) in
       let low = getD (lowFrame (at lower) (at upper)) i 0 in
       let high = getD (highFrame (at lower) (at upper)) i 0 in

@@ -1,11 +1,11 @@
 -- Request L14, "Noise known only as a range": the low and the high sample where each tile's noise number is known only between two ends.
-use Rattle.algebra.specs.Prelude.{ℕ, suc, _*_, ℤ, pos, _-ℤ_, _*ℤ_}
+use Rattle.algebra.specs.Prelude.{ℕ, ℤ, pos, _-ℤ_, _*ℤ_}
 use Rattle.algebra.specs.Sums.{sumZ}
-use Rattle.algebra.specs.Nearest.{away, upward}
-use Rattle.algebra.specs.Clamp.{minZ, maxZ, clampZ}
+use Rattle.algebra.specs.Nearest.{away}
+use Rattle.algebra.specs.Clamp.{minZ, maxZ}
 use Rattle.recipe.specs.Side.{Side}
 use Rattle.recipe.specs.Correction.{binRe, binIm, filtered, twiddleRe, twiddleIm}
-use Rattle.recipe.specs.Output.{rowIn, columnIn, weightIn}
+use Rattle.recipe.specs.Output.{rowIn, columnIn, weightIn, rounded}
 
 module _ (s : Side) where
   -- "In each bin, the real and the imaginary part of G each range between their results at the lower and the upper V. Each pixel's sum takes the
@@ -24,11 +24,9 @@ module _ (s : Side) where
   unfoldable pub greatestAt : (lower upper : ℕ) (d : ℕ → ℕ → ℤ) → ℕ → ℕ → ℤ
   greatestAt lower upper d y x = away (endRe maxZ minZ lower upper d y x) (s .divisor)
 
-  -- `outputSample` (recipe/Output) from any corrections: `P t z` is tile t's for the z-th other frame at the sample
+  -- `outputSample` (recipe/PlainOutput) from any corrections: `P t z` is tile t's for the z-th other frame at the sample
   abbrev pub sampleFrom : (a b others : ℕ) (P : ℕ → ℕ → ℤ) (t0 : ℤ) → ℤ
-  sampleFrom a b others P t0 =
-      let whole = 256 * (s .weight * suc others) in
-      clampZ (pos 0) (pos 4095) (upward (t0 *ℤ pos whole -ℤ sumZ 4 (λ t. sumZ others (λ z. pos (weightIn s a b t) *ℤ P t z))) whole)
+  sampleFrom a b others P t0 = rounded s others (λ t. sumZ others (λ z. pos (weightIn s a b t) *ℤ P t z)) t0
 
   -- "two frames, low and high": P is subtracted, so the greatest gives the low sample. Tile t's noise number lies between `lower t` and `upper t`
   module _ (a b others : ℕ) (lower upper : ℕ → ℕ) (d : ℕ → ℕ → ℕ → ℕ → ℤ) where

@@ -15,7 +15,8 @@ use Rattle.algebra.specs.Nearest.{away}
 use Rattle.recipe.specs.Side.{Side}
 use Rattle.recipe.specs.Correction.{power, wiener, quantized, binRe, binIm, filtered, twiddleRe, twiddleIm, inverseRe, inverseAt, correctionAt}
 use Rattle.recipe.specs.CorrectionLaws.{power-is}
-use Rattle.recipe.specs.Output.{rowIn, columnIn, weightIn, outputSample}
+use Rattle.recipe.specs.Output.{rowIn, columnIn, weightIn}
+use Rattle.recipe.specs.PlainOutput.{outputSample}
 use Rattle.range.specs.Monotone.{away-mono, upward-mono, clamp-mono, sumZ-mono}
 use Rattle.range.specs.Range.{endRe, leastAt, greatestAt, sampleFrom, lowSample, highSample}
 

@@ -1,5 +1,6 @@
 -- Two tests with one number, of which merge's list has one: both lists of one decide.
-use Rattle.algebra.specs.Prelude.{_≡_, refl, sym, Bool, true, false, not, List, [], _∷_, _++_, ℕ, zero, suc, arith, eqb}
+use borrow.Author.Tests.{ltb-false}
+use Rattle.algebra.specs.Prelude.{_≡_, refl, sym, Bool, true, false, not, List, [], _∷_, _++_, ℕ, zero, suc, _≤_, arith, eqb, ltb}
 use Rattle.refusals.specs.Numbers as no
 use Rattle.refusals.specs.Tests.{refuse, first}
 use Rattle.geometry.specs.declared.Shape.{Shape}
@@ -7,7 +8,9 @@ use Rattle.geometry.specs.Shape.{sizeRefusal, countRefusal, referenceRefusal, r
 use Rattle.geometry.specs.Fits.{MergeFits}
 use Rattle.limits.specs.Order.{shapeTests, frameTests, mergeLengths, mergeShapeTests}
 use Rattle.limits.specs.OrderLaws.{merge-fits}
-use Rattle.range_admission.specs.Refusals.{rangeShapeTests}
+use Rattle.refusals.specs.TestLaws.{refuse-not}
+use Rattle.noise.specs.Levels.{spatialStrength}
+use Rattle.range_admission.specs.Refusals.{rangeShapeTests, filterRefusal}
 
 module _ (n w : ℕ) where
   -- the list with the second of them, with the first of them, and with both
@@ -59,3 +62,10 @@ module _ (s : Shape) (reference samples vectors low high work : ℕ) where
   pub range-fits : first (rangeShapeTests s reference samples vectors low high work) ≡ 0 → MergeFits s reference samples vectors low work
   unfolding shapeTests frameTests mergeLengths mergeShapeTests rangeShapeTests lengthRefusal
   range-fits e = merge-fits s reference samples vectors low work (both-one 5 (lengthRefusal no.workLength (workLength s) work) (wrong low) (wrong high) before-6 e)
+
+-- what 24 lets through
+pub unfiltered : (s : ℕ) → filterRefusal s ≡ 0 → s ≡ 0
+unfolding filterRefusal
+unfiltered s e =
+    let h : s ≤ 0 = ltb-false 0 s (refuse-not spatialStrength (ltb 0 s) tt e) in
+    omega arith

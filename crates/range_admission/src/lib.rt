@@ -1,8 +1,8 @@
 // The tests of the call of request L14, in their order.
 ghost use mathlib.Core.Path.{_≡_};
 ghost use Rattle.refusals.specs.Tests.{first};
-ghost use Rattle.range_admission.specs.Refusals.{rangeShapeTests, rangeRefusal};
-use admission::content_refusal;
+ghost use Rattle.geometry.specs.Fits.{Sampled};
+ghost use Rattle.range_admission.specs.Refusals.{rangeShapeTests, filterRefusal, rangeContentTests, rangeRefusal};
 use geometry::Shape;
 use limits::order::merge_shape_refusal;
 use noise::Noise;
@@ -26,6 +26,28 @@ fn shape_refusal(
         return second;
     }
     merge_shape_refusal(shape, reference, samples, vectors, low, work)
+}
+
+// 24, for s not 0.
+const FILTERED: u64 = 24;
+
+fn filter_refusal(s: u64) -> u64
+    ensures { λ r. ⌜ r ≡ filterRefusal s ⌝ }
+{
+    refusals::refuse(FILTERED, 0 < s)
+}
+
+// Tests 10, 18, 24 and 11.
+fn content_refusal(shape: Shape, tuning: Tuning, samples: &[u16]) -> u64
+    requires { ⌜ Sampled shape (now samples) ⌝ }
+    ensures { λ r. ⌜ r ≡ first (rangeContentTests shape tuning (now (samples .entry))) ⌝ }
+{
+    let strength = noise::strength_refusal(tuning.strength);
+    let levels = tuning.black;
+    let black = noise::black_refusal(levels);
+    let filter = filter_refusal(tuning.spatial);
+    let sample = values::sample_refusal(shape, samples);
+    refusals::first(&[strength, black, filter, sample])
 }
 
 // All of them.
