@@ -9,7 +9,7 @@ use Rattle.lines.specs.Tiles.{tile-most}
 use Rattle.spectrum.specs.Magnitudes.{gainMost, spatialMost, spatialGainMost, spatialCorrectionMost}
 use Rattle.spectrum.specs.SizeLaws.{copy-gain-most, spatial-small}
 use Rattle.plain.specs.Complex.{complexTile, realOf, imaginaryOf, NoisesMost}
-use Rattle.plain.proofs.ComplexLaws.{real-is, imaginary-is, complex-most, less-most}
+use Rattle.plain.specs.ComplexLaws.{real-is, imaginary-is, complex-most, less-most}
 use Rattle.plain.proofs.Recipe.{inverse-cong}
 use Rattle.plain.proofs.spatial_correction.Statement.{statement}
 use Rattle.plain.proofs.spatial_correction.Tie as tie

@@ -3,7 +3,7 @@ use Rattle.algebra.specs.Prelude.{refl, ℕ, natAbs, _≤_, needs, lit≤, ℤ,
 use Rattle.sequences.specs.Grid.{cell}
 use Rattle.spectrum.specs.Magnitudes.{copyMost, copyBinMost}
 use Rattle.lines.specs.Tiles.{cells-most}
-use Rattle.plain.proofs.ComplexLaws.{lines-16, less-most}
+use Rattle.plain.specs.ComplexLaws.{lines-16, less-most}
 use Rattle.plain.proofs.Recipe.{wide-most, rows-most, bins-are, bins-most}
 use Rattle.plain.proofs.transform_copy.Statement.{statement}
 use Rattle.plain.proofs.transform_copy.Tie as tie

@@ -5,7 +5,7 @@ use Rattle.recipe.specs.Tables.{side16}
 use Rattle.recipe.specs.Spatial.{copyFiltered}
 use Rattle.lines.specs.Held.{held-is, held-most}
 use Rattle.plain.specs.Complex.{complexAt, real, imaginary}
-use Rattle.plain.proofs.ComplexLaws.{complex-is}
+use Rattle.plain.specs.ComplexLaws.{complex-is}
 use Rattle.plain.proofs.copies.copy_gains.Statement.{statement}
 use Rattle.plain.proofs.copies.copy_gains.Tie as tie
 
