@@ -12,7 +12,7 @@ ghost use Rattle.gather.specs.Gather.{weightRow, corrected, windowed, wo
 ghost use Rattle.gather.specs.Work.{weightMost, partMost, sumMost, Divided, Words, Weighed, rowSpan, further, Small, Inside, Roomy, wordFrom, rowWritten};
 ghost use Rattle.gather.specs.Ready.{BlockReady, RowReady};
 use geometry::Shape;
-use geometry::tiles::FINEST_SIDE;
+use tiles::FINEST_SIDE;
 use tiles::PAIR_WIDTH;
 use tiles::PAIR_WORDS;
 use tiles::rows::slot;

@@ -1,5 +1,6 @@
 -- The tests 1 to 7 of each call, "in the order of the numbers" with 22 "tested after 3" (request L8) and 23 "tested before 4" (request L9), on the shape, the reference and the lengths of the lent buffers.
-use Rattle.algebra.specs.Prelude.{List, [], _∷_, _++_, ℕ}
+use Rattle.algebra.specs.Prelude.{not, List, [], _∷_, _++_, ℕ, eqb}
+use Rattle.refusals.specs.Tests.{refuse}
 use Rattle.refusals.specs.Numbers as no
 use Rattle.geometry.specs.declared.Shape.{Shape}
 use Rattle.geometry.specs.Shape.{sizeRefusal, countRefusal, referenceRefusal, sideRefusal, rowRefusal, sampleLength, vectorLength, outputLength, workLength, lengthRefusal}
@@ -15,6 +16,13 @@ frameTests s reference = shapeTests s ++ referenceRefusal s reference ∷ rowRef
 -- 1 to 3, 22 and 23: "by every call that tests 5" (request L8)
 unfoldable pub burstTests : Shape → (reference : ℕ) → List ℕ
 burstTests s reference = shapeTests s ++ referenceRefusal s reference ∷ sideRefusal s ∷ rowRefusal s ∷ []
+
+-- 22 where only side 16 is offered, and the tests with it: the merge's, until it has side 32
+unfoldable pub narrowRefusal : Shape → ℕ
+narrowRefusal s = refuse no.side (not (eqb (s .side) 16))
+
+unfoldable pub narrowTests : Shape → (reference : ℕ) → List ℕ
+narrowTests s reference = shapeTests s ++ referenceRefusal s reference ∷ narrowRefusal s ∷ rowRefusal s ∷ []
 
 -- 4, 5 and 7
 unfoldable pub alignLengths : Shape → (samples vectors work : ℕ) → List ℕ
@@ -39,4 +47,4 @@ alignShapeTests s reference samples vectors work = burstTests s reference ++ ali
 
 -- "merge 1 to 12; run 1 to 11, then 12": 1 to 7 of them
 unfoldable pub mergeShapeTests : Shape → (reference samples vectors output work : ℕ) → List ℕ
-mergeShapeTests s reference samples vectors output work = burstTests s reference ++ mergeLengths s samples vectors output work
+mergeShapeTests s reference samples vectors output work = narrowTests s reference ++ mergeLengths s samples vectors output work

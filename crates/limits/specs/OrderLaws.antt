@@ -1,14 +1,20 @@
 -- A call that its tests 1 to 7, 22 and 23 let through has an allowed shape and side, a reference and buffers of the right lengths.
-use Rattle.algebra.specs.Prelude.{_≡_, ℕ}
+use Rattle.algebra.specs.Prelude.{_≡_, not, ℕ, eqb}
+use mathlib.Core.Logic.{inl}
+use borrow.Author.Tests.{eqb-true, not-false}
 use Rattle.refusals.specs.Numbers as no
 use Rattle.refusals.specs.Tests.{first}
-use Rattle.refusals.specs.TestLaws.{among, passed}
+use Rattle.refusals.specs.TestLaws.{among, passed, refuse-not}
 use Rattle.geometry.specs.declared.Shape.{Shape}
 use Rattle.geometry.specs.Shape.{sampleLength, vectorLength, outputLength, workLength}
-use Rattle.limits.specs.Order.{shapeTests, frameTests, burstTests, alignLengths, mergeLengths, alignShapeTests, mergeShapeTests}
+use Rattle.limits.specs.Order.{shapeTests, frameTests, burstTests, narrowRefusal, narrowTests, alignLengths, mergeLengths, alignShapeTests, mergeShapeTests}
 use Rattle.limits.specs.Question.{questionTests}
 use Rattle.geometry.specs.Fits.{Allowed, TileSide, AlignFits, MergeFits}
 use Rattle.geometry.specs.ShapeLaws.{allowed, allowed-side, below-count, right-length}
+
+sixteen : (s : Shape) → narrowRefusal s ≡ 0 → s .side ≡ 16
+unfolding narrowRefusal
+sixteen s e = eqb-true (s .side) 16 (not-false _ (refuse-not no.side (not (eqb (s .side) 16)) tt e))
 
 pub question-allowed : (s : Shape) → first (questionTests s) ≡ 0 → (Allowed s) × (TileSide (s .side))
 unfolding shapeTests questionTests
@@ -24,6 +30,11 @@ module _ (s : Shape) (reference : ℕ) where
   unfolding shapeTests burstTests
   burst-allowed e =
       (allowed s (passed e (search among depth 20)) (passed e (search among depth 20)) (passed e (search among depth 20)), allowed-side s (passed e (search among depth 20)))
+
+  pub narrow-allowed : first (narrowTests s reference) ≡ 0 → (Allowed s) × (TileSide (s .side))
+  unfolding shapeTests narrowTests
+  narrow-allowed e =
+      (allowed s (passed e (search among depth 20)) (passed e (search among depth 20)) (passed e (search among depth 20)), record { is = inl (sixteen s (passed e (search among depth 20))) })
 
   module _ (samples vectors : ℕ) where
     pub align-fits : (work : ℕ) → first (alignShapeTests s reference samples vectors work) ≡ 0 → AlignFits s reference samples vectors work
@@ -41,12 +52,12 @@ module _ (s : Shape) (reference : ℕ) where
         }
 
     pub merge-fits : (output work : ℕ) → first (mergeShapeTests s reference samples vectors output work) ≡ 0 → MergeFits s reference samples vectors output work
-    unfolding shapeTests burstTests mergeLengths mergeShapeTests
+    unfolding shapeTests narrowTests mergeLengths mergeShapeTests
     merge-fits output work e =
         record {
           burst = record {
             allowed = allowed s (passed e (search among depth 20)) (passed e (search among depth 20)) (passed e (search among depth 20));
-            sided = allowed-side s (passed e (search among depth 20));
+            sided = record { is = inl (sixteen s (passed e (search among depth 20))) };
             reference-below = below-count s reference (passed e (search among depth 20));
             samples-long = right-length no.sampleLength (sampleLength s) samples tt (passed e (search among depth 20));
             vectors-long = right-length no.vectorLength (vectorLength s) vectors tt (passed e (search among depth 20));
@@ -54,3 +65,7 @@ module _ (s : Shape) (reference : ℕ) where
           output-long = right-length no.outputLength (outputLength s) output tt (passed e (search among depth 20));
           work-long = right-length no.workLength (workLength s) work tt (passed e (search among depth 20));
         }
+
+    pub merge-sixteen : (output work : ℕ) → first (mergeShapeTests s reference samples vectors output work) ≡ 0 → s .side ≡ 16
+    unfolding shapeTests narrowTests mergeLengths mergeShapeTests
+    merge-sixteen output work e = sixteen s (passed e (search among depth 20))

@@ -1,7 +1,7 @@
 // The tests 1 to 7 of the calls, in the order of the numbers with 22 after 3 and 23 before 4, on the lengths of the lent buffers.
 ghost use mathlib.Core.Path.{_≡_};
 ghost use Rattle.refusals.specs.Tests.{first};
-ghost use Rattle.limits.specs.Order.{frameTests, burstTests, alignLengths, mergeLengths, alignShapeTests, mergeShapeTests};
+ghost use Rattle.limits.specs.Order.{frameTests, burstTests, narrowRefusal, narrowTests, alignLengths, mergeLengths, alignShapeTests, mergeShapeTests};
 ghost use Rattle.geometry.specs.Fits.{Allowed, TileSide};
 use crate::lengths::length_refusal;
 use crate::lengths::output_length;
@@ -34,6 +34,25 @@ fn burst_refusal(shape: Shape, reference: usize) -> u64
     let count = count_refusal(shape);
     let third = reference_refusal(shape, reference);
     let side = side_refusal(shape);
+    let row = row_refusal(shape);
+    refusals::first(&[size, count, third, side, row])
+}
+
+// Refusal 22 where only side 16 is offered: the merge's, until it has side 32.
+fn narrow_refusal(shape: Shape) -> u64
+    ensures { λ r. ⌜ r ≡ narrowRefusal shape ⌝ }
+{
+    if shape.side == 16 { 0 } else { refusals::SIDE }
+}
+
+// The tests with it.
+fn narrow_tests(shape: Shape, reference: usize) -> u64
+    ensures { λ r. ⌜ r ≡ first (narrowTests shape reference) ⌝ }
+{
+    let size = size_refusal(shape);
+    let count = count_refusal(shape);
+    let third = reference_refusal(shape, reference);
+    let side = narrow_refusal(shape);
     let row = row_refusal(shape);
     refusals::first(&[size, count, third, side, row])
 }
@@ -95,7 +114,7 @@ pub fn merge_shape_refusal(
 ) -> u64
     ensures { λ r. ⌜ r ≡ first (mergeShapeTests shape reference samples vectors output work) ⌝ }
 {
-    let burst = burst_refusal(shape, reference);
+    let burst = narrow_tests(shape, reference);
     if burst != 0 {
         return burst;
     }

@@ -6,8 +6,8 @@ ghost use Rattle.merging.specs.Ready.{ParityReady, BandReady};
 ghost use Rattle.merging.specs.Progress.{RowsMerged, BandMerged};
 use gather::HALF_SIDE;
 use gather::output_row;
-use geometry::tiles::FINEST_SIDE;
 use recipe::Merge;
+use tiles::FINEST_SIDE;
 use tiles::rows::correction_row;
 
 // The rows between the tile rows `band`, which the work area holds, and `band` + 1.

@@ -3,11 +3,10 @@ use Rattle.algebra.specs.Prelude.{_≡_, ap, subst, _∙_, List, [], ℕ, _+_, 
 use borrow.Author.Count.{below-none, below-more}
 use Rattle.sequences.specs.Grid.{cell, cell-grid}
 use Rattle.sequences.specs.Write.{written, Writing, write-start, write-part, write-done}
-use Rattle.geometry.specs.Tiles.{finestSide}
 use Rattle.recipe.specs.Scene.{Scene}
 use Rattle.spectrum.specs.Pairs.{sideBySide}
 use Rattle.tiles.specs.Sum.{takenIn, takenMost, Taken}
-use Rattle.tiles.specs.Rows.{rowWords, slotOf, rowWord, Stored}
+use Rattle.tiles.specs.Rows.{finestSide, rowWords, slotOf, rowWord, Stored}
 
 -- a pair, stored row by row: word k is its cell at row k / 32 and place k % 32
 pub tile-turn : (tile : List (List ℤ)) {d l r : List ℤ} {at i : ℕ} → Writing d at (λ k. cell (pos 0) tile (k / 32) (k % 32)) 512 (32 * i) l → i < 16

@@ -1,5 +1,5 @@
 -- Inside the crates of the merge: what is known of a merge that its tests have let through, and of a pair of its tiles.
-use Rattle.algebra.specs.Prelude.{List, ℕ, _/_, _≤_, _<_, length, ℤ}
+use Rattle.algebra.specs.Prelude.{_≡_, List, ℕ, _/_, _≤_, _<_, length, ℤ}
 use Rattle.geometry.specs.declared.Shape.{Shape}
 use Rattle.geometry.specs.Fits.{BurstFits, SamplesFit, VectorsFit}
 use Rattle.recipe.specs.declared.Merge.{Merge}
@@ -7,6 +7,7 @@ use Rattle.tiles.specs.declared.Site.{Site}
 
 pub record Accepted (m : Merge) (samples : List ℕ) (vectors : List ℤ) : Type 0 where
   pub burst : BurstFits (m .shape) (m .reference) (length samples) (length vectors)
+  pub sixteen : m .shape .side ≡ 16
   pub samples-fit : SamplesFit (m .shape) samples
   pub vectors-fit : VectorsFit vectors
   pub shot-most : m .shot ≤ 65536

@@ -1,9 +1,12 @@
 -- Inside this crate, gather and merging: rows of pairs of correction tiles in the work area, two of them, each of 512 words a pair.
 use Rattle.algebra.specs.Prelude.{_≡_, List, ℕ, _+_, _*_, _/_, _%_, _≤_, _<_, ℤ, natAbs}
 use Rattle.sequences.specs.Write.{written}
-use Rattle.geometry.specs.Tiles.{finestSide}
 use Rattle.recipe.specs.Scene.{Scene}
 use Rattle.tiles.specs.Sum.{takenIn, takenMost}
+
+-- the side of the merge's tiles
+abbrev pub finestSide : ℕ
+finestSide = 16
 
 -- a row of pairs takes so many words, and starts here
 unfoldable pub rowWords : (width : ℕ) → ℕ

@@ -4,6 +4,9 @@ mod correcting;
 mod reading;
 pub mod rows;
 
+// The side of the merge's tiles.
+pub const FINEST_SIDE: usize = 16;
+
 // A pair of tiles side by side: the words of one of its rows, and of all.
 pub const PAIR_WIDTH: usize = 32;
 

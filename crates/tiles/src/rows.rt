@@ -8,11 +8,11 @@ ghost use Rattle.sequences.specs.Write.{written};
 ghost use Rattle.recipe.specs.Scene.{sceneOf};
 ghost use Rattle.tiles.specs.Accepted.{Accepted};
 ghost use Rattle.tiles.specs.Rows.{rowWords, slotOf, Stored};
+use crate::FINEST_SIDE;
 use crate::PAIR_WIDTH;
 use crate::PAIR_WORDS;
 use crate::Site;
 use crate::correcting::tile_correction;
-use geometry::tiles::FINEST_SIDE;
 use geometry::tiles::tile_columns;
 use recipe::Merge;
 

@@ -1,5 +1,5 @@
 -- The pair of the frame that the index names, moved by the vector that stands at its place.
-use Rattle.algebra.specs.Prelude.{_≡_, _∙_, List, ℕ, _+_, arith, needs, getD, ℤ, pos, w32, toZ, ofZ, toZ-ofZ, now}
+use Rattle.algebra.specs.Prelude.{_≡_, sym, subst, _∙_, List, ℕ, _+_, _/_, _<_, arith, needs, getD, ℤ, pos, w32, toZ, ofZ, toZ-ofZ, now}
 use Rattle.algebra.specs.Bound.{AtMost, most-fits}
 use Rattle.geometry.specs.Fits.{VectorsFit}
 use Rattle.geometry.specs.Read.{sampleAt}
@@ -26,6 +26,19 @@ other-pair-is : (m : Merge) (samples : List ℕ) (vectors : List ℤ) (rowParity
     ≡ grid 16 32 (sideBySide (λ p. otherTile (sceneOf m samples vectors) rowParity p a b k))
 unfolding otherTile sceneOf downAt rightAt
 other-pair-is m samples vectors rowParity a b k f p d r = rw (d, r, f, p)
+
+vector-place-requires : tie.Need-vector-place-requires
+vector-place-requires c κs =
+    let s = c .before .before in
+    let a = s .args in
+    let ok = s .pre .accepted in
+    record {
+      allowed = ok .burst .allowed;
+      sided = ok .burst .sided;
+      other = s .pre .frame;
+      row-in = subst (λ n. a .site .row < a .m .shape .height / n + 1) (sym (ok .sixteen)) (omega (arith, s .pre .sited .row));
+      column-in = subst (λ n. a .site .column < a .m .shape .width / n + 1) (sym (ok .sixteen)) (omega (arith, s .pre .sited .column));
+    }
 
 pair-requires : tie.Need-pair-requires
 pair-requires c κs =
@@ -63,6 +76,6 @@ returns c =
 
 pub differences-spec : {M : Type 1} → statement M
 differences-spec = tie.close (tie.spec
-    (λ c κs. search needs) (λ c. search needs) (λ c. search needs) (λ c. search needs)
+    vector-place-requires (λ c. search needs) (λ c. search needs) (λ c. search needs)
     (λ c. search needs) (λ c. search needs) (λ c κs. search needs) pair-requires difference-requires
     returns)

@@ -1,8 +1,7 @@
 -- A row's place is one of two.
 use Rattle.algebra.specs.Prelude.{refl, _+_, _*_, _/_, _%_, _≤_, arith, needs}
 use native.Mathlib.Nat.{mul-le-mul-right}
-use Rattle.geometry.specs.Tiles.{finestSide}
-use Rattle.tiles.specs.Rows.{rowWords, slotOf}
+use Rattle.tiles.specs.Rows.{finestSide, rowWords, slotOf}
 use Rattle.tiles.proofs.rows.slot.Statement.{statement}
 use Rattle.tiles.proofs.rows.slot.Tie as tie
 
