@@ -12,6 +12,7 @@ use Rattle.recipe.specs.Merged.{merged}
 -- what is known of a run that tests 1 to 11 have let through
 pub record Runnable (m : Merge) (samples : List ℕ) (vectors : List ℤ) (output : List ℕ) (work : List ℤ) : Type 0 where
   pub fits : MergeFits (m .shape) (m .reference) (length samples) (length vectors) (length output) (length work)
+  pub sixteen : m .shape .side ≡ 16
   pub samples-fit : SamplesFit (m .shape) samples
   pub shot-most : m .shot ≤ 65536
   pub read-most : m .read ≤ 4194304

@@ -39,11 +39,11 @@ module _ {s : Shape} {to from : ℕ → ℕ} {reference reference′ : ℕ} {sam
   -- alignment
   pub field-carried : (k : ℕ) → k < s .count - 1 → fieldOf s reference′ samples′ k ≡ fieldOf s reference samples (to k)
   unfolding fieldOf vectorsOf
-  field-carried k h = ap field0 (pairs-agree s (burst .sampled .allowed) _ _ _ _ reference-same (other-same k h))
+  field-carried k h = ap (field0 (s .side)) (pairs-agree s (burst .sampled .allowed) _ _ _ _ reference-same (other-same k h))
 
   pub sum-carried : (k : ℕ) → k < s .count - 1 → sumOf s reference′ samples′ k ≡ sumOf s reference samples (to k)
   unfolding sumOf residualOf
-  sum-carried k h = ap residualSum (pairs-agree s (burst .sampled .allowed) _ _ _ _ reference-same (other-same k h))
+  sum-carried k h = ap (residualSum (s .side)) (pairs-agree s (burst .sampled .allowed) _ _ _ _ reference-same (other-same k h))
 
   pub vectors-carried : Carried s to (alignedVectors s reference samples) (alignedVectors s reference′ samples′)
   unfolding alignedVectors

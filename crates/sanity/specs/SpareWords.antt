@@ -74,11 +74,11 @@ module _ {s : Shape} {samples samples₂ : List ℕ} (d : SpareOnly s samples sa
 
     field-same : (k : ℕ) → k < s .count - 1 → fieldOf s reference samples₂ k ≡ fieldOf s reference samples k
     unfolding fieldOf vectorsOf
-    field-same k h = ap field0 (pair-same k h)
+    field-same k h = ap (field0 (s .side)) (pair-same k h)
 
     sum-same : (k : ℕ) → k < s .count - 1 → sumOf s reference samples₂ k ≡ sumOf s reference samples k
     unfolding sumOf residualOf
-    sum-same k h = ap residualSum (pair-same k h)
+    sum-same k h = ap (residualSum (s .side)) (pair-same k h)
 
     vectors-same : alignedVectors s reference samples₂ ≡ alignedVectors s reference samples
     unfolding alignedVectors vectorList wordOf vectorLength
@@ -93,7 +93,7 @@ module _ {s : Shape} {samples samples₂ : List ℕ} (d : SpareOnly s samples sa
 
     rows-same : rowsSummed s reference samples₂ ≡ rowsSummed s reference samples
     unfolding rowsSummed rowsOf
-    rows-same = sumN-cong (s .count - 1) _ _ (λ k h. ap frameRows (pair-same k h))
+    rows-same = sumN-cong (s .count - 1) _ _ (λ k h. ap (frameRows (s .side)) (pair-same k h))
 
 merge-same : (m : Merge) {samples samples₂ : List ℕ} → SpareOnly (m .shape) samples samples₂ → Allowed (m .shape) → m .reference < m .shape .count → (vectors : List ℤ) →
     merged (sceneOf m samples₂ vectors) ≡ merged (sceneOf m samples vectors)

@@ -3,7 +3,7 @@ use Rattle.algebra.specs.Prelude.{_≡_, List, ℕ, length, ℤ}
 use Rattle.refusals.specs.TestLaws.{among, passed, both-passed}
 use Rattle.geometry.specs.declared.Shape.{Shape}
 use Rattle.limits.specs.Order.{alignShapeTests, mergeShapeTests}
-use Rattle.limits.specs.OrderLaws.{align-fits, merge-fits}
+use Rattle.limits.specs.OrderLaws.{align-fits, merge-fits, merge-sixteen}
 use Rattle.values.specs.Bounds.{vectorRefusal}
 use Rattle.values.specs.BoundLaws.{samples-fit}
 use Rattle.noise.specs.declared.Noise.{Noise}
@@ -31,6 +31,7 @@ module _ (s : Shape) (reference : ℕ) (samples : List ℕ) (vectors : List ℤ)
         let fits = merge-fits s reference (length samples) (length vectors) (length output) (length work) (both .0) in
         record {
           fits = fits;
+          sixteen = merge-sixteen s reference (length samples) (length vectors) (length output) (length work) (both .0);
           samples-fit = samples-fit s samples (passed content (search among));
           shot-most = shot-level-bound noise;
           read-most = read-level-bound noise;

@@ -43,6 +43,7 @@ module _ {s : Shape} {reference : ℕ} {noise : Noise} {tuning : Tuning} {sample
         let ready = run-passed s reference samples vectors noise tuning output work (sym (t .number) ∙ z) in
         record {
           fits = ready .fits;
+          sixteen = ready .sixteen;
           samples-fit = ready .samples-fit;
           shot-most = subst (λ n. n ≤ 65536) (sym (t .shot-is z)) (ready .shot-most);
           read-most = subst (λ n. n ≤ 4194304) (sym (t .read-is z)) (ready .read-most);

@@ -21,10 +21,12 @@ merge-frames-requires c κs =
       accepted = record {
         burst = record {
           allowed = ready .fits .burst .allowed;
+          sided = ready .fits .burst .sided;
           reference-below = ready .fits .burst .reference-below;
           samples-long = ready .fits .burst .samples-long;
           vectors-long = search needs;
         };
+        sixteen = ready .sixteen;
         samples-fit = ready .samples-fit;
         vectors-fit = subst VectorsFit (sym (frames .align-frames .ensures .found)) (found-fit _ _ _);
         shot-most = ready .shot-most;

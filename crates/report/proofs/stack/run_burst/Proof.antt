@@ -13,6 +13,7 @@ run-levels-requires c κs =
     let taken = start .pre .taken in
     record {
       fits = merge-fits taken (length-take-le _ (start .args .vectors .now) (omega (arith, taken .allowed .few))) (start .pre .work-room) (start .pre .output-room);
+      sixteen = taken .sixteen;
       samples-fit = values-samples _ (taken .small);
       shot-most = taken .shot-most;
       read-most = taken .read-most;

@@ -38,6 +38,7 @@ merge-frames-requires c κs =
     record {
       accepted = record {
         burst = ready .fits .burst;
+        sixteen = ready .sixteen;
         samples-fit = ready .samples-fit;
         vectors-fit = vectors-fit _ (sym (lent .before .vector-refusal .ensures) ∙ lent .if2 .left);
         shot-most = subst (λ n. n ≤ 65536) (sym (tested .shot-is z)) (ready .shot-most);
