@@ -77,6 +77,10 @@ module _ {s : Shape} {reference : ℕ} {samples : List ℕ} {vectors work work�
           result-made number output _ passed (call .result),
         )
 
+    pub run-sixteen : {vectors′ : List ℤ} {r : Alignment} → Ran s reference noise tuning samples vectors vectors′ output output′ work work′ r → r .refusal ≡ 0 → s .side ≡ 16
+    run-sixteen call accepted =
+        run-passed s reference samples vectors noise tuning output work (number-is (runRefusal s reference noise tuning samples vectors output work) _ _ (call .answer) accepted) .sixteen
+
     pub run-accepted : {vectors′ : List ℤ} {r : Alignment} → Ran s reference noise tuning samples vectors vectors′ output output′ work work′ r → r .refusal ≡ 0 →
         Found s reference samples vectors vectors′ r × (output′ ≡ merged (sceneOf (mergeOf s reference noise tuning) samples (alignedVectors s reference samples)))
     run-accepted call accepted =

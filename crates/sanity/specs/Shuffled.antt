@@ -56,7 +56,7 @@ module _ {s : Shape} {to from : ℕ → ℕ} {reference reference′ : ℕ} {sam
       }
 
 -- merge, with vectors that go with their frames
-module _ (m : Merge) {to from : ℕ → ℕ} {reference′ : ℕ} {samples samples′ : List ℕ} (burst : Burst (m .shape) (m .reference) samples) (sh : Shuffled (m .shape) to from (m .reference) reference′ samples samples′) where
+module _ (m : Merge) {to from : ℕ → ℕ} {reference′ : ℕ} {samples samples′ : List ℕ} (sixteen : m .shape .side ≡ 16) (burst : Burst (m .shape) (m .reference) samples) (sh : Shuffled (m .shape) to from (m .reference) reference′ samples samples′) where
   pub merge-stays : {vectors vectors′ : List ℤ} → Carried (m .shape) to vectors vectors′ → merged (sceneOf (moved m reference′) samples′ vectors′) ≡ merged (sceneOf m samples vectors)
   unfolding sceneOf
   merge-stays {vectors} {vectors′} c = frame-stays m reference′ samples samples′ vectors vectors′ reordered
@@ -69,8 +69,8 @@ module _ (m : Merge) {to from : ℕ → ℕ} {reference′ : ℕ} {samples sampl
             wide = burst .sampled .allowed .wide;
             reference-same = reference-same burst sh;
             other-same = other-same burst sh;
-            down-same = λ k a b h i j. c .down k a b h (omega arith) (omega arith);
-            right-same = λ k a b h i j. c .right k a b h (omega arith) (omega arith);
+            down-same = λ k a b h i j. c .down k a b h (rw sixteen (omega arith)) (rw sixteen (omega arith));
+            right-same = λ k a b h i j. c .right k a b h (rw sixteen (omega arith)) (rw sixteen (omega arith));
           }
 
   -- align and then merge
