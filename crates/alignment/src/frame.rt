@@ -106,7 +106,16 @@ fn next_level(shape: Shape, work: &mut [i64], level: usize, coarse: Grid, at: us
 {
     let area = area_at(shape, level);
     let grid = grid_at(shape, level, at);
-    let rows = finer_field(&mut *work, area, shape.side, level, coarse, at, grid.rows, grid.columns);
+    let rows = finer_field(
+        &mut *work,
+        area,
+        shape.side,
+        level,
+        coarse,
+        at,
+        grid.rows,
+        grid.columns,
+    );
     Reach {
         grid: grid,
         rows: rows,

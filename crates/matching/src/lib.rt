@@ -223,12 +223,39 @@ pub fn refine_candidates(
     let side = tile.side;
     copy_window(words, area, tile, own, &mut *window);
     let first = middle_sum(side, samples, &*window);
-    let second = other_sum(words, area, tile, samples, &*window, &mut *other, sideways, own);
-    let third = other_sum(words, area, tile, samples, &*window, &mut *other, vertically, own);
+    let second = other_sum(
+        words,
+        area,
+        tile,
+        samples,
+        &*window,
+        &mut *other,
+        sideways,
+        own,
+    );
+    let third = other_sum(
+        words,
+        area,
+        tile,
+        samples,
+        &*window,
+        &mut *other,
+        vertically,
+        own,
+    );
     let best = guess(own, sideways, vertically, first, second, third);
     let rows = 3 * side as u64;
     if same(best, own) {
         return moved(own, search(squared, side, samples, &*window), rows);
     }
-    refine(words, area, tile, samples, &mut *window, squared, best, rows)
+    refine(
+        words,
+        area,
+        tile,
+        samples,
+        &mut *window,
+        squared,
+        best,
+        rows,
+    )
 }

@@ -14,7 +14,7 @@ use Rattle.noise.specs.declared.Levels.the-variants.{Refused}
 use Rattle.noise.specs.Curve.{curveOf}
 use Rattle.noise.specs.Level.{exceeds, floor1024}
 use Rattle.noise.specs.Within.{within}
-use Rattle.noise.specs.Levels.{invalidNoise, aboveLimits, found, noiseTests, levelsOf, refusalOf, shotLevel, readLevel, levelRefusal, strengthRefusal, spatialStrength, spatialRefusal}
+use Rattle.noise.specs.Levels.{invalidNoise, aboveLimits, found, noiseTests, levelsOf, refusalOf, shotLevel, readLevel, levelRefusal, strengthRefusal, spatialRefusal}
 use Rattle.noise.specs.ScalingLaws.{NotNegative, neither, curve-not-negative}
 
 not-over-within : (k : ℕ) (x : Float) → NotNegative x → exceeds k x ≡ false → T (within k x)
@@ -77,7 +77,7 @@ strength-most t e = ltb-false 1024 t (refuse-not no.strength (ltb 1024 t) tt e)
 
 pub spatial-most : (s : ℕ) → spatialRefusal s ≡ 0 → s ≤ 256
 unfolding spatialRefusal
-spatial-most s e = ltb-false 256 s (refuse-not spatialStrength (ltb 256 s) tt e)
+spatial-most s e = ltb-false 256 s (refuse-not no.spatialStrength (ltb 256 s) tt e)
 
 -- ---- the answer's number is that of the tests
 

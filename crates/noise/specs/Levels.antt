@@ -66,8 +66,5 @@ unfoldable pub blackRefusal : List ℕ → ℕ
 blackRefusal black = refuse no.blackLevel (some 4 (λ k. ltb 255 (getD black k 0)))
 
 -- refusal 24, "s above 256" (request L13)
-abbrev pub spatialStrength : ℕ
-spatialStrength = 24
-
 unfoldable pub spatialRefusal : ℕ → ℕ
-spatialRefusal s = refuse spatialStrength (ltb 256 s)
+spatialRefusal s = refuse no.spatialStrength (ltb 256 s)

@@ -52,9 +52,6 @@ const BLACK_MOST: u16 = 255;
 
 const SPATIAL_MOST: u64 = 256;
 
-// The number of the refusal of s.
-const SPATIAL_STRENGTH: u64 = 24;
-
 // Refusal 9 in a burst file.
 pub fn level_refusal(ls: u64, lr: u64) -> u64
     ensures { λ r. ⌜ r ≡ levelRefusal ls lr ⌝ }
@@ -93,7 +90,7 @@ pub fn black_refusal(black: [u16; 4]) -> u64
 pub fn spatial_refusal(s: u64) -> u64
     ensures { λ r. ⌜ r ≡ spatialRefusal s ⌝ }
 {
-    refusals::refuse(SPATIAL_STRENGTH, SPATIAL_MOST < s)
+    refusals::refuse(refusals::SPATIAL_STRENGTH, SPATIAL_MOST < s)
 }
 
 // V of a tile's root.

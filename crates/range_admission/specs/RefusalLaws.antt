@@ -6,10 +6,9 @@ use Rattle.refusals.specs.Tests.{refuse, first}
 use Rattle.geometry.specs.declared.Shape.{Shape}
 use Rattle.geometry.specs.Shape.{sizeRefusal, countRefusal, referenceRefusal, rowRefusal, sampleLength, vectorLength, outputLength, workLength, lengthRefusal}
 use Rattle.geometry.specs.Fits.{MergeFits}
-use Rattle.limits.specs.Order.{shapeTests, frameTests, mergeLengths, mergeShapeTests}
+use Rattle.limits.specs.Order.{shapeTests, narrowRefusal, narrowTests, mergeLengths, mergeShapeTests}
 use Rattle.limits.specs.OrderLaws.{merge-fits}
 use Rattle.refusals.specs.TestLaws.{refuse-not}
-use Rattle.noise.specs.Levels.{spatialStrength}
 use Rattle.range_admission.specs.Refusals.{rangeShapeTests, filterRefusal}
 
 module _ (n w : ℕ) where
@@ -46,26 +45,26 @@ module _ (n w : ℕ) where
 
 module _ (s : Shape) (reference samples vectors low high work : ℕ) where
   abbrev before-6 : List ℕ
-  before-6 = sizeRefusal s ∷ countRefusal s ∷ referenceRefusal s reference ∷ rowRefusal s ∷ lengthRefusal no.sampleLength (sampleLength s) samples ∷ lengthRefusal no.vectorLength (vectorLength s) vectors ∷ []
+  before-6 = sizeRefusal s ∷ countRefusal s ∷ referenceRefusal s reference ∷ narrowRefusal s ∷ rowRefusal s ∷ lengthRefusal no.sampleLength (sampleLength s) samples ∷ lengthRefusal no.vectorLength (vectorLength s) vectors ∷ []
 
   abbrev wrong : ℕ → Bool
   wrong n = not (eqb n (outputLength s))
 
   pub high-refused : first (mergeShapeTests s reference samples vectors high work) ≡ no.outputLength → no.outputLength ≡ first (rangeShapeTests s reference samples vectors low high work)
-  unfolding shapeTests frameTests mergeLengths mergeShapeTests rangeShapeTests lengthRefusal
+  unfolding shapeTests narrowTests mergeLengths mergeShapeTests rangeShapeTests lengthRefusal
   high-refused e = sym (stopped 5 (lengthRefusal no.workLength (workLength s) work) (wrong low) (wrong high) before-6 e)
 
   pub high-passed : (first (mergeShapeTests s reference samples vectors high work) ≡ no.outputLength → ⊥) → first (mergeShapeTests s reference samples vectors low work) ≡ first (rangeShapeTests s reference samples vectors low high work)
-  unfolding shapeTests frameTests mergeLengths mergeShapeTests rangeShapeTests lengthRefusal
+  unfolding shapeTests narrowTests mergeLengths mergeShapeTests rangeShapeTests lengthRefusal
   high-passed e = went-on 5 (lengthRefusal no.workLength (workLength s) work) (wrong low) (wrong high) before-6 e
 
   pub range-fits : first (rangeShapeTests s reference samples vectors low high work) ≡ 0 → MergeFits s reference samples vectors low work
-  unfolding shapeTests frameTests mergeLengths mergeShapeTests rangeShapeTests lengthRefusal
+  unfolding shapeTests narrowTests mergeLengths mergeShapeTests rangeShapeTests lengthRefusal
   range-fits e = merge-fits s reference samples vectors low work (both-one 5 (lengthRefusal no.workLength (workLength s) work) (wrong low) (wrong high) before-6 e)
 
 -- what 24 lets through
 pub unfiltered : (s : ℕ) → filterRefusal s ≡ 0 → s ≡ 0
 unfolding filterRefusal
 unfiltered s e =
-    let h : s ≤ 0 = ltb-false 0 s (refuse-not spatialStrength (ltb 0 s) tt e) in
+    let h : s ≤ 0 = ltb-false 0 s (refuse-not no.spatialStrength (ltb 0 s) tt e) in
     omega arith

@@ -1,20 +1,20 @@
--- The tests of the call of request L14, "merge's tests" with two outputs and two noises. 22 comes with the side.
+-- The tests of the call of request L14, "merge's tests" with two outputs and two noises. 22 is "Side 32 is here refusal 22", and 24 is "s not 0".
 use Rattle.algebra.specs.Prelude.{List, [], _∷_, _++_, ℕ, length, ltb, ℤ}
 use Rattle.refusals.specs.Numbers as no
 use Rattle.refusals.specs.Tests.{refuse, first}
 use Rattle.geometry.specs.declared.Shape.{Shape}
 use Rattle.geometry.specs.Shape.{sampleLength, vectorLength, outputLength, workLength, lengthRefusal}
-use Rattle.limits.specs.Order.{frameTests}
+use Rattle.limits.specs.Order.{narrowTests}
 use Rattle.values.specs.Bounds.{sampleRefusal, vectorRefusal}
 use Rattle.noise.specs.declared.Noise.{Noise}
-use Rattle.noise.specs.Levels.{strengthRefusal, blackRefusal, spatialStrength}
+use Rattle.noise.specs.Levels.{strengthRefusal, blackRefusal}
 use Rattle.recipe.specs.declared.Tuning.{Tuning}
 use Rattle.range.specs.Crossed.{rangeNoiseTests}
 
--- 1 to 7 and 23: "Both output buffers have length W·H, else 6"
+-- 1 to 7, 22 and 23: "Both output buffers have length W·H, else 6"
 unfoldable pub rangeShapeTests : Shape → (reference samples vectors low high work : ℕ) → List ℕ
 rangeShapeTests s reference samples vectors low high work =
-    frameTests s reference
+    narrowTests s reference
     ++ (lengthRefusal no.sampleLength (sampleLength s) samples
     ∷ lengthRefusal no.vectorLength (vectorLength s) vectors
     ∷ lengthRefusal no.outputLength (outputLength s) low
@@ -24,7 +24,7 @@ rangeShapeTests s reference samples vectors low high work =
 
 -- "s not 0 refusal 24"
 unfoldable pub filterRefusal : ℕ → ℕ
-filterRefusal s = refuse spatialStrength (ltb 0 s)
+filterRefusal s = refuse no.spatialStrength (ltb 0 s)
 
 -- 10, 18, 24 and 11
 unfoldable pub rangeContentTests : Shape → Tuning → (samples : List ℕ) → List ℕ

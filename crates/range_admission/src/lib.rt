@@ -9,7 +9,7 @@ use noise::Noise;
 use range::range_noise_refusal;
 use recipe::Tuning;
 
-// Tests 1 to 7 and 23, with 6 on either output.
+// Tests 1 to 7, 22 and 23, with 6 on either output.
 fn shape_refusal(
     shape: Shape,
     reference: usize,
@@ -29,12 +29,10 @@ fn shape_refusal(
 }
 
 // 24, for s not 0.
-const FILTERED: u64 = 24;
-
 fn filter_refusal(s: u64) -> u64
     ensures { λ r. ⌜ r ≡ filterRefusal s ⌝ }
 {
-    refusals::refuse(FILTERED, 0 < s)
+    refusals::refuse(refusals::SPATIAL_STRENGTH, 0 < s)
 }
 
 // Tests 10, 18, 24 and 11.

@@ -92,3 +92,7 @@ side = 22
 -- L9: "a row length outside that range"
 abbrev pub rowLength : ℕ
 rowLength = 23
+
+-- "24, s above 256" (request L13); "s not 0 refusal 24" (request L14)
+abbrev pub spatialStrength : ℕ
+spatialStrength = 24

@@ -48,6 +48,8 @@ pub const SIDE: u64 = 22;
 
 pub const ROW_LENGTH: u64 = 23;
 
+pub const SPATIAL_STRENGTH: u64 = 24;
+
 // One test: its number where its condition holds, else 0.
 pub fn refuse(number: u64, condition: bool) -> u64
     ensures { λ r. ⌜ r ≡ refuse number condition ⌝ }

@@ -36,7 +36,8 @@ pub fn two_rows(tile: &[u16], window: &[u16], a: usize, b: usize) -> u32
 {
     let mut sum: u32 = 0;
     for j in 0..8 {
-        sum += wide(four(tile, window, a + j, b + j)) + wide(four(tile, window, a + 32 + j, b + 40 + j));
+        sum += wide(four(tile, window, a + j, b + j))
+            + wide(four(tile, window, a + 32 + j, b + 40 + j));
     }
     sum
 }
