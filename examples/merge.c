@@ -139,7 +139,7 @@ int main(int argc, char **argv)
     take_frames();
     stacker_burst burst = { .width = SIDE, .height = SIDE, .count = FRAMES, .reference = REFERENCE, .row_length = SIDE };
     stacker_noise noise = { .shot = SHOT, .read = READ };
-    stacker_tuning tuning = { .strength = STRENGTH };
+    stacker_tuning tuning = { .strength = STRENGTH, .side = 16 };
     stacker_alignment answer = stacker_run(burst, noise, tuning, samples, FRAMES * FRAME, vectors, sizeof vectors / sizeof *vectors, merged, FRAME,
         work, 2 * FRAME);
     if (answer.refusal != STACKER_ACCEPTED) {

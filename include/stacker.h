@@ -47,6 +47,7 @@ typedef struct {
 
 typedef struct {
     uint64_t strength; /* eighths of the published tau, 0..1024 */
+    uint64_t side; /* of the finest tiles: 16 or 32; merge and run offer 16 */
     uint64_t spatial; /* the spatial filter's published s in 1/256, 0..256; 0 is no filter */
 } stacker_tuning;
 
@@ -104,12 +105,13 @@ typedef enum {
     STACKER_REFUSED_DNG_STRUCTURE = 19,
     STACKER_REFUSED_DNG_TAG = 20,
     STACKER_REFUSED_DNG_VALUE = 21,
+    STACKER_REFUSED_SIDE = 22,
     STACKER_REFUSED_ROW_LENGTH = 23,
     STACKER_REFUSED_SPATIAL = 24
 } stacker_refusal;
 
-/* Aligns each other frame on the reference. */
-stacker_alignment stacker_align(stacker_burst burst, const uint16_t *samples, size_t samples_length, int32_t *vectors, size_t vectors_length,
+/* Aligns each other frame on the reference. Of the tuning only the side is read. */
+stacker_alignment stacker_align(stacker_burst burst, stacker_tuning tuning, const uint16_t *samples, size_t samples_length, int32_t *vectors, size_t vectors_length,
     int64_t *work, size_t work_length);
 
 /* Merges the frames by lent vectors, which are only read; answers the refusal's number, or 0. */
@@ -165,7 +167,7 @@ static inline stacker_noise stacker_file_noise(stacker_file file)
 
 static inline stacker_tuning stacker_file_tuning(stacker_file file)
 {
-    stacker_tuning tuning = { file.strength, 0 };
+    stacker_tuning tuning = { file.strength, 16, 0 };
     return tuning;
 }
 
@@ -178,7 +180,7 @@ static inline const char *stacker_refusal_text(uint64_t number)
     case STACKER_REFUSED_COUNT: return "count of frames 0 or above 8";
     case STACKER_REFUSED_REFERENCE: return "reference, or index of the frame to be read, not below the count of frames";
     case STACKER_REFUSED_SAMPLES_LENGTH: return "samples not of length count * row_length * height";
-    case STACKER_REFUSED_VECTORS_LENGTH: return "vectors not of length (count - 1) * 2 * (width / 16 + 1) * (height / 16 + 1)";
+    case STACKER_REFUSED_VECTORS_LENGTH: return "vectors not of length (count - 1) * 2 * (width / side + 1) * (height / side + 1)";
     case STACKER_REFUSED_OUTPUT_LENGTH: return "output or frame not of length width * height";
     case STACKER_REFUSED_WORK_LENGTH: return "work area not of length 2 * width * height";
     case STACKER_REFUSED_NOISE: return "shot or read negative or not finite, or ISO outside 25..409600";
@@ -195,6 +197,7 @@ static inline const char *stacker_refusal_text(uint64_t number)
     case STACKER_REFUSED_DNG_STRUCTURE: return "not a little-endian TIFF file, or a part of it lies past its end";
     case STACKER_REFUSED_DNG_TAG: return "a DNG file in which a needed tag is absent or a listed one stands twice";
     case STACKER_REFUSED_DNG_VALUE: return "a DNG file with a type, count or value that is not read, or of another size than the burst";
+    case STACKER_REFUSED_SIDE: return "side of the tiles neither 16 nor 32, or 32 where 16 alone is offered";
     case STACKER_REFUSED_ROW_LENGTH: return "row length not from width to width + 256";
     case STACKER_REFUSED_SPATIAL: return "spatial strength above 256";
     default: return "no refusal of this version";
@@ -214,7 +217,7 @@ static inline const char *stacker_refusal_text(uint64_t number)
 
        stacker_burst burst = { .width = W, .height = H, .count = N, .row_length = W };
        stacker_noise noise = { .shot = 3.0, .read = 100.0 };
-       stacker_tuning tuning = { .strength = 512 };
+       stacker_tuning tuning = { .strength = 512, .side = 16 };
        stacker_alignment answer = stacker_run(burst, noise, tuning, samples, N * W * H, vectors, VECTORS, output, W * H, work, 2 * W * H);
        if (answer.refusal != STACKER_ACCEPTED) {
            fprintf(stderr, "refused: %s\n", stacker_refusal_text(answer.refusal));
@@ -255,23 +258,24 @@ static inline const char *stacker_refusal_text(uint64_t number)
    FRAMES are Bayer RGGB, row by row, frame after frame: 16-bit words that hold 0..4095. Black is already subtracted, or the burst says what it is.
    A row takes row_length words: those after its W samples are spare. They may hold anything and are never read into a result. Output rows have none.
    VECTORS tell, for each other frame in rising index, tile by tile and row by row, how far down and then how far right the tile has moved in a
-   plane: a step is two samples. Tiles cover 16 by 16 places of a plane and begin every 8 places, the first at -8.
+   plane: a step is two samples. Tiles of side 16 cover 16 by 16 places of a plane and begin every 8 places, the first at -8; those of side 32 cover
+   32 by 32, begin every 16, the first at -16.
 
    ROWS. For each tile 81 offsets are tried, offset zero first, and each is left after the tile's row at which its running total of differences reaches the
    least so far; the three candidates that a tile of levels 2 to 0 starts from are always summed whole. The answer counts the rows that this rule sums, over
-   all tiles, levels and frames: at most 648 for a tile of level 3, 1,344 for any other, 789,503,736 in all. A picture with much to tell offsets apart
+   all tiles, levels and frames: at most 648 for a tile of level 3, 1,344 for any other, 2,688 for one of side 32, 789,503,736 in all. A picture with much to tell offsets apart
    takes few. The count has its price, a sum for each row of its own: beside an align that sums every offset whole and counts nothing, this one took
    1.08 to 1.25 times the time on a textured scene, and 1.44 to 1.48 times on dark noise, where offsets are left near their last row.
 
    SHARPNESS of a frame is the sum, over its green plane of even rows and odd columns, of the absolute steps to the right neighbour and to the one
    below, where the plane has one. Of frames that are equally sharp the first is chosen.
 
-   LENT BUFFERS, for frames of width W, height H and row length L, N of them; a file means L = W. A length counts elements, not bytes; station_length
+   LENT BUFFERS, for frames of width W, height H and row length L, N of them, and tiles of side S; a file means L = W and S = 16. A length counts elements, not bytes; station_length
    of station.h answers it too.
 
        buffer     elements    length                          read_file   align     merge     run
        samples    uint16_t    N*L*H                           written     read      read      read
-       vectors    int32_t     (N-1)*2*(W/16+1)*(H/16+1)                   written   read      written
+       vectors    int32_t     (N-1)*2*(W/S+1)*(H/S+1)                     written   read      written
        output     uint16_t    W*H                                                   written   written
        work       int64_t     2*W*H                                       cleared   cleared   cleared
 
@@ -293,8 +297,8 @@ static inline const char *stacker_refusal_text(uint64_t number)
    AFTER A CALL that answers 0 the written buffers hold the result, every word of it, and the work area is zero. After a refusal every lent buffer is
    as it was, and every other field of the answer is 0, the index chosen too.
 
-   REFUSALS. A call makes its tests in the order of the numbers, but 23 before 4, and 18 and 24 after 10, and answers the first that fails: align 1 to 5, 7, 11
-   and 23; merge 1 to 12, 18, 23 and 24; run 1 to 11, 18, 23 and 24; run_sharpest run's but for 3, whichever frame it chooses.
+   REFUSALS. A call makes its tests in the order of the numbers, but 22 and 23 before 4, and 18 and 24 after 10, and answers the first that fails: align 1 to 5, 7,
+   11, 22 and 23; merge 1 to 12, 18 and 22 to 24; run 1 to 11, 18 and 22 to 24; run_sharpest run's but for 3, whichever frame it chooses.
    A file is tested line by line: no first LF 15, 13; line two 15, 14, then 1, 2, 3, 9, 10, 4; each row 15, 14, 11; then what follows, 15.
    Writing a PGM file tests 1, 6, 16, 11 in that order, reading one 17, 6, 11.
    Reading a DNG file tests 19, 20, 21, then 1, 2, 3 of the frame's index, 23, 4 and 11 of the file's samples.

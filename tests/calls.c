@@ -57,12 +57,12 @@ static stacker_iso_noise at_iso(void)
 
 static stacker_tuning tuning(void)
 {
-    return (stacker_tuning){ .strength = head[STRENGTH] };
+    return (stacker_tuning){ .strength = head[STRENGTH], .side = 16 };
 }
 
 static void align(void)
 {
-    answer = stacker_align(burst(), samples, head[SAMPLES], vectors, head[VECTORS], work, head[WORK]);
+    answer = stacker_align(burst(), tuning(), samples, head[SAMPLES], vectors, head[VECTORS], work, head[WORK]);
 }
 
 static void merge(void)
