@@ -1,5 +1,6 @@
 pub mod Side
 pub mod Tables
+pub mod Tables32
 pub mod Root
 pub mod NoiseNumber
 pub mod Correction
@@ -14,4 +15,5 @@ pub mod ExactSpatial
 pub mod ExactMerge
 pub mod TableRules
 pub mod TableLaws
+pub mod TableLaws32
 pub mod CorrectionLaws
