@@ -98,7 +98,7 @@ module _ (a b : ℤ) (p : natAbs a ≤ 2 ^ 52) (q : natAbs b ≤ 2 ^ 52) where
   pub difference-exact : sub binary64 (ofInt binary64 a) (ofInt binary64 b) ≡ ofInt binary64 (a -ℤ b)
   difference-exact = float-whole binary64 (nth (a ∷ b ∷ [])) (at (inDouble (a ∷ b ∷ []))) (λ i. 2 ^ 52) (at-is (a ∷ b ∷ [])) two-most (minus (var 0) (var 1)) tt
 
--- ---- eight numbers of a line
+-- ---- numbers picked from a line
 
 -- each the n-th one from p on, as the code names their places
 abbrev pub from : (n p : ℕ) → ℕ → ℕ
@@ -109,6 +109,10 @@ pub from-is : (n p k : ℕ) → from n p k ≡ n * k + p
 from-is n p zero = omega arith
 from-is n p (suc k) = omega arith
 
+-- m of them
+pub picked : (m n : ℕ) {x : List Float} (z : ℕ → ℤ) → x ≡ doubleLine n z → (f g : ℕ → ℕ) → ((k : ℕ) → k < m → f k ≡ g k) → ((k : ℕ) → k < m → g k < n) → tab m (λ k. getD x (f k) nan) ≡ doubleLine m (λ k. z (g k))
+picked m n {x} z e f g s h =
+    tab-ext m _ _ (λ k l. ap₂ (λ x i. getD x i nan) e (s k l) ∙ getD-tab (λ i. ofInt binary64 (z i)) nan n (g k) (h k l))
+
 pub picked-line : (n : ℕ) {x : List Float} (z : ℕ → ℤ) → x ≡ doubleLine n z → (f g : ℕ → ℕ) → ((k : ℕ) → k < 8 → f k ≡ g k) → ((k : ℕ) → k < 8 → g k < n) → tab 8 (λ k. getD x (f k) nan) ≡ doubleLine 8 (λ k. z (g k))
-picked-line n {x} z e f g s h =
-    tab-ext 8 _ _ (λ k l. ap₂ (λ x i. getD x i nan) e (s k l) ∙ getD-tab (λ i. ofInt binary64 (z i)) nan n (g k) (h k l))
+picked-line = picked 8

@@ -10,3 +10,4 @@ pub mod Magnitudes
 pub mod BackSizes
 pub mod Doubles
 pub mod DoubleForms
+pub mod PairLines

@@ -1,5 +1,5 @@
 -- The largest numbers of a line that the passes are proved for.
-use Rattle.algebra.specs.Prelude.{Bool, cond, ℕ, _*_, _^_}
+use Rattle.algebra.specs.Prelude.{Bool, cond, ℕ, _-_, _*_, _^_}
 
 -- ---- in 16 bits, and products in 32
 
@@ -17,9 +17,9 @@ differenceFoldMost = 8190
 abbrev pub pairLineMost : ℕ
 pairLineMost = 2 ^ 30
 
--- a sum or difference of two of these
+-- a sum or difference that the kernels of sixteen numbers take: of two of these, or of four places of a line of thirty-two
 abbrev pub pairSumMost : ℕ
-pairSumMost = 2 ^ 31
+pairSumMost = 2 ^ 33
 
 -- ---- back, in double; `low` where the noise numbers are at most 2^33
 
@@ -52,3 +52,25 @@ columnMost low = foldMost low * basisSum
 -- half of a sum back along a row: below 5·2^49 where noise is low, and else below 2^54
 abbrev pub halfMost : (low : Bool) → ℕ
 halfMost low = columnMost low * halfBasisSum
+
+-- ---- lines of thirty-two numbers (request L8)
+
+-- in 32 bits: a place of the first pass, at most 2146959360
+abbrev pub longLineMost : ℕ
+longLineMost = 2 ^ 31 - 1
+
+-- a sum or difference of two of these
+abbrev pub longSumMost : ℕ
+longSumMost = 2 ^ 32
+
+-- back: a number of the folded G, two parts of at most 2^12 each: half the root of V, which is up to 2^25
+abbrev pub longFoldMost : ℕ
+longFoldMost = 2 ^ 13
+
+-- a sum back down a column: 32·16384 times these
+abbrev pub longColumnMost : ℕ
+longColumnMost = 2 ^ 32
+
+-- half of a sum back along a row: (2·8192 + 30·16384) times these
+abbrev pub longHalfMost : ℕ
+longHalfMost = 31 * 2 ^ 46
