@@ -11,7 +11,7 @@ use Rattle.recipe.specs.Tables.{side16}
 use Rattle.recipe.specs.Correction.{filtered}
 use Rattle.floats.specs.Kernels.{var, plus, minus, floats-wholes}
 use Rattle.spectrum.specs.Magnitudes.{binMost, gainMost}
-use Rattle.spectrum.specs.Spectrum.{spread, quadOf, byKind, twoBins, foldedQuad, gainRe, gainIm}
+use Rattle.spectrum.specs.Spectrum.{spread, quadOf, byKind, twoBins, foldedQuad, gainRe, gainIm, quadPlaces, twoBinsOf}
 use Rattle.spectrum.specs.Pairs.{Binned}
 use Rattle.spectrum.specs.SizeLaws.{gain-most}
 use Rattle.spectrum.specs.QuadLaws.{four, four-each, quad-is, corner-is, bins-each}
@@ -36,7 +36,7 @@ number-of (x ∷ q) zero h = refl
 number-of (x ∷ q) (suc i) h = number-of q i (omega arith)
 
 bins-four : (t : ℕ → ℕ → ℤ) (k u : ℕ) → length (twoBins t k u) ≡ 4
-unfolding twoBins byKind quadOf
+unfolding twoBinsOf byKind quadPlaces side16
 bins-four t zero u = refl
 bins-four t (suc k) zero = refl
 bins-four t (suc k) (suc u) = refl
@@ -70,7 +70,7 @@ module _ (t : ℕ → ℕ → ℤ) (binned : Binned t) where
   bins-small = bins-each t (λ z. natAbs z ≤ binMost) zero-le (binned .re-most) (binned .im-most)
 
   bins-are : (k u : ℕ) → k < 8 → u < 8 → binsIn k u (map double (quadOf t k u)) ≡ map double (twoBins t k u)
-  unfolding binsIn twoBins byKind quadOf
+  unfolding binsIn twoBinsOf byKind quadPlaces side16
   bins-are zero u h l = refl
   bins-are (suc k) zero h l = refl
   bins-are (suc k) (suc u) h l =
@@ -111,7 +111,7 @@ module _ (t : ℕ → ℕ → ℤ) (binned : Binned t) where
         ∙ ap (map double) (sym (quad-is v t k u h l o))
 
     corner : cornerIn real (map double (quadOf t 0 0)) ≡ map double (Quad 0 0)
-    unfolding cornerIn quadOf twoBins byKind tab
+    unfolding cornerIn quadPlaces twoBinsOf byKind tab side16
     corner = four (at 0) (at 1) (at 2) (at 3) ∙ ap (map double) (sym (corner-is v t))
       where
         at : (i : ℕ) → real (double (getD (twoBins t 0 0) i (pos 0))) ≡ double (filtered side16 v (getD (twoBins t 0 0) i (pos 0)) (pos 0))

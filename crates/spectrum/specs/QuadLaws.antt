@@ -6,7 +6,7 @@ use lib.IntN.{ℤ, pos, negℤ, _+ℤ_, _-ℤ_, +ℤ-idr, +ℤ-idl, +ℤ-comm, n
 use Rattle.sequences.specs.Tab.{tab}
 use Rattle.recipe.specs.Tables.{side16}
 use Rattle.recipe.specs.Correction.{filtered}
-use Rattle.spectrum.specs.Spectrum.{realOf, imaginaryOf, beside, tileRe, tileIm, foldRe, foldIm, spread, quadOf, byKind, twoBins, foldedQuad, gainRe, gainIm}
+use Rattle.spectrum.specs.Spectrum.{realOf, imaginaryOf, beside, tileRe, tileIm, foldRe, foldIm, spread, quadOf, byKind, twoBins, foldedQuad, gainRe, gainIm, besideOf, foldImOf, foldReOf, gainImOf, gainReOf, imaginaryPart, quadPlaces, realPart, spreadOf, tileImOf, tileReOf, twoBinsOf}
 use Rattle.spectrum.specs.SpectrumLaws.{filtered-odd, filtered-even}
 use Rattle.spectrum.specs.Apart.{is-own, is-paired, apart-cases}
 
@@ -48,23 +48,23 @@ either false = refl
 -- number u or 16 − u of a line in halfcomplex form
 module _ (z : ℕ → ℤ) (u : ℕ) where
   real-low : u < 9 → realOf z u ≡ z u
-  unfolding realOf
+  unfolding realPart side16
   real-low h = rw (lt-ltb u 9 h)
 
   real-high : 0 < u → u < 8 → realOf z (16 - u) ≡ z u
-  unfolding realOf
+  unfolding realPart side16
   real-high l h = let e : 16 - (16 - u) ≡ u = omega arith in rw (le-ltb (16 - u) 9 (omega arith), e)
 
   imaginary-own : u % 8 ≡ 0 → imaginaryOf z u ≡ pos 0
-  unfolding imaginaryOf
+  unfolding imaginaryPart side16
   imaginary-own h = is-own u (pos 0) _ h
 
   imaginary-low : 0 < u → u < 8 → imaginaryOf z u ≡ z (8 + u)
-  unfolding imaginaryOf
+  unfolding imaginaryPart side16
   imaginary-low l h = is-paired u (pos 0) _ (λ e. omega arith) ∙ rw (lt-ltb u 9 (omega arith))
 
   imaginary-high : 0 < u → u < 8 → imaginaryOf z (16 - u) ≡ negℤ (z (8 + u))
-  unfolding imaginaryOf
+  unfolding imaginaryPart side16
   imaginary-high l h =
       let e : 24 - (16 - u) ≡ 8 + u = omega arith in
       is-paired (16 - u) (pos 0) _ (λ e. omega arith) ∙ rw (le-ltb (16 - u) 9 (omega arith), e)
@@ -72,30 +72,30 @@ module _ (z : ℕ → ℤ) (u : ℕ) where
 -- the folds of a line
 module _ (g h : ℕ → ℤ) (b : ℕ) where
   re-own : b % 8 ≡ 0 → foldRe g h b ≡ g b
-  unfolding foldRe
+  unfolding foldReOf side16
   re-own k = is-own b (g b) _ k
 
   im-own : b % 8 ≡ 0 → foldIm g h b ≡ h b
-  unfolding foldIm
+  unfolding foldImOf side16
   im-own k = is-own b (h b) _ k
 
   re-low : 0 < b → b < 8 → foldRe g h b ≡ g b +ℤ g (16 - b)
-  unfolding foldRe
+  unfolding foldReOf side16
   re-low l k = is-paired b (g b) _ (λ e. omega arith) ∙ rw (lt-ltb b 9 (omega arith))
 
   im-low : 0 < b → b < 8 → foldIm g h b ≡ h b +ℤ h (16 - b)
-  unfolding foldIm
+  unfolding foldImOf side16
   im-low l k = is-paired b (h b) _ (λ e. omega arith) ∙ rw (lt-ltb b 9 (omega arith))
 
   re-high : 0 < b → b < 8 → foldRe g h (8 + b) ≡ h b -ℤ h (16 - b)
-  unfolding foldRe
+  unfolding foldReOf side16
   re-high l k =
       let e : 8 + b - 8 ≡ b = omega arith in
       let f : 24 - (8 + b) ≡ 16 - b = omega arith in
       is-paired (8 + b) (g (8 + b)) _ (λ e. omega arith) ∙ rw (le-ltb (8 + b) 9 (omega arith), e, f)
 
   im-high : 0 < b → b < 8 → foldIm g h (8 + b) ≡ g (16 - b) -ℤ g b
-  unfolding foldIm
+  unfolding foldImOf side16
   im-high l k =
       let e : 8 + b - 8 ≡ b = omega arith in
       let f : 24 - (8 + b) ≡ 16 - b = omega arith in
@@ -103,11 +103,11 @@ module _ (g h : ℕ → ℤ) (b : ℕ) where
 
 module _ (g h : ℕ → ℕ → ℤ) (b : ℕ) where
   line-re : (k : ℕ) → k < 9 → spread g h k b ≡ foldRe (λ u. g u k) (λ u. h u k) b
-  unfolding spread
+  unfolding spreadOf side16
   line-re k l = rw (lt-ltb k 9 l)
 
   line-im : (v : ℕ) → 0 < v → spread g h (8 + v) b ≡ foldIm (λ u. g u v) (λ u. h u v) b
-  unfolding spread
+  unfolding spreadOf side16
   line-im v l = let e : 8 + v - 8 ≡ v = omega arith in rw (le-ltb (8 + v) 9 (omega arith), e)
 
 module _ (noise : ℕ) (t : ℕ → ℕ → ℤ) where
@@ -120,26 +120,26 @@ module _ (noise : ℕ) (t : ℕ → ℕ → ℤ) where
   -- bins whose column has an imaginary line beside it
   module _ (v : ℕ) (m : 0 < v) (n : v < 8) where
     beside-is : beside t v ≡ t (8 + v)
-    unfolding beside
+    unfolding besideOf side16
     beside-is = is-paired v _ (t (8 + v)) (λ e. omega arith)
 
     module _ (u : ℕ) (l : 0 < u) (h : u < 8) where
       low-re : tileRe t u v ≡ t v u -ℤ t (8 + v) (8 + u)
-      unfolding tileRe
+      unfolding tileReOf side16
       low-re = ap₂ _-ℤ_ (real-low (t v) u (omega arith)) (ap (λ z. imaginaryOf z u) beside-is ∙ imaginary-low (t (8 + v)) u l h)
 
       low-im : tileIm t u v ≡ t v (8 + u) +ℤ t (8 + v) u
-      unfolding tileIm
+      unfolding tileImOf side16
       low-im = ap₂ _+ℤ_ (imaginary-low (t v) u l h) (ap (λ z. realOf z u) beside-is ∙ real-low (t (8 + v)) u (omega arith))
 
       high-re : tileRe t (16 - u) v ≡ t v u +ℤ t (8 + v) (8 + u)
-      unfolding tileRe
+      unfolding tileReOf side16
       high-re =
           ap₂ _-ℤ_ (real-high (t v) u l h) (ap (λ z. imaginaryOf z (16 - u)) beside-is ∙ imaginary-high (t (8 + v)) u l h)
           ∙ ap (λ z. t v u +ℤ z) (negℤ-negℤ (t (8 + v) (8 + u)))
 
       high-im : tileIm t (16 - u) v ≡ t (8 + v) u -ℤ t v (8 + u)
-      unfolding tileIm
+      unfolding tileImOf side16
       high-im =
           ap₂ _+ℤ_ (imaginary-high (t v) u l h) (ap (λ z. realOf z (16 - u)) beside-is ∙ real-high (t (8 + v)) u l h)
           ∙ +ℤ-comm (negℤ (t v (8 + u))) (t (8 + v) u)
@@ -147,28 +147,28 @@ module _ (noise : ℕ) (t : ℕ → ℕ → ℤ) where
     -- numbers 0 and 8
     module _ (u : ℕ) (l : u < 9) (o : u % 8 ≡ 0) where
       own-re : tileRe t u v ≡ t v u
-      unfolding tileRe
+      unfolding tileReOf side16
       own-re = ap₂ _-ℤ_ (real-low (t v) u l) (imaginary-own (beside t v) u o) ∙ +ℤ-idr (t v u)
 
       own-im : tileIm t u v ≡ t (8 + v) u
-      unfolding tileIm
+      unfolding tileImOf side16
       own-im =
           ap₂ _+ℤ_ (imaginary-own (t v) u o) (ap (λ z. realOf z u) beside-is ∙ real-low (t (8 + v)) u l) ∙ +ℤ-idl (t (8 + v) u)
 
   -- columns 0 and 8, with nothing beside
   module _ (v : ℕ) (o : v % 8 ≡ 0) where
     beside-none : beside t v ≡ (λ b. pos 0)
-    unfolding beside
+    unfolding besideOf side16
     beside-none = is-own v (λ b. pos 0) (t (8 + v)) o
 
     column-re : (u : ℕ) → tileRe t u v ≡ realOf (t v) u
-    unfolding tileRe imaginaryOf
+    unfolding tileReOf imaginaryPart side16
     column-re u =
         ap (λ z. realOf (t v) u -ℤ imaginaryOf z u) beside-none
         ∙ ap (λ z. realOf (t v) u -ℤ z) (apart-cases u (pos 0) _ (λ z. z ≡ pos 0) refl (either (ltb u 9))) ∙ +ℤ-idr (realOf (t v) u)
 
     column-im : (u : ℕ) → tileIm t u v ≡ imaginaryOf (t v) u
-    unfolding tileIm realOf
+    unfolding tileImOf realPart side16
     column-im u =
         ap (λ z. imaginaryOf (t v) u +ℤ realOf z u) beside-none ∙ ap (λ z. imaginaryOf (t v) u +ℤ z) (either (ltb u 9))
         ∙ +ℤ-idr (imaginaryOf (t v) u)
@@ -182,21 +182,21 @@ module _ (noise : ℕ) (t : ℕ → ℕ → ℤ) where
       line-low-im = column-im u ∙ imaginary-low (t v) u l h
 
       line-gain-re : gainRe noise t u v ≡ f (t v u) (t v (8 + u))
-      unfolding gainRe
+      unfolding gainReOf side16
       line-gain-re = ap₂ f line-low-re line-low-im
 
       line-gain-im : gainIm noise t u v ≡ f (t v (8 + u)) (t v u)
-      unfolding gainIm
+      unfolding gainImOf side16
       line-gain-im = ap₂ f line-low-im line-low-re
 
       mirror-re : gainRe noise t (16 - u) v ≡ f (t v u) (t v (8 + u))
-      unfolding gainRe
+      unfolding gainReOf side16
       mirror-re =
           ap₂ f (column-re (16 - u) ∙ real-high (t v) u l h) (column-im (16 - u) ∙ imaginary-high (t v) u l h)
           ∙ filtered-even noise (t v u) (t v (8 + u))
 
       mirror-im : gainIm noise t (16 - u) v ≡ negℤ (f (t v (8 + u)) (t v u))
-      unfolding gainIm
+      unfolding gainImOf side16
       mirror-im =
           ap₂ f (column-im (16 - u) ∙ imaginary-high (t v) u l h) (column-re (16 - u) ∙ real-high (t v) u l h)
           ∙ filtered-odd noise (t v (8 + u)) (t v u)
@@ -211,11 +211,11 @@ module _ (noise : ℕ) (t : ℕ → ℕ → ℤ) where
 
     -- numbers 0 and 8 of such a column are real
     column-own : (u : ℕ) → u < 9 → u % 8 ≡ 0 → foldRe (λ u. gainRe noise t u v) (λ u. gainIm noise t u v) u ≡ f (t v u) (pos 0)
-    unfolding gainRe
+    unfolding gainReOf side16
     column-own u l k = re-own _ _ u k ∙ ap₂ f (column-re u ∙ real-low (t v) u l) (column-im u ∙ imaginary-own (t v) u k)
 
   inner-quad : (v u : ℕ) → 0 < v → v < 8 → 0 < u → u < 8 → Quad v u ≡ (f (t v u -ℤ t (8 + v) (8 + u)) (t v (8 + u) +ℤ t (8 + v) u) +ℤ f (t v u +ℤ t (8 + v) (8 + u)) (t (8 + v) u -ℤ t v (8 + u))) ∷ (f (t v (8 + u) +ℤ t (8 + v) u) (t v u -ℤ t (8 + v) (8 + u)) -ℤ f (t (8 + v) u -ℤ t v (8 + u)) (t v u +ℤ t (8 + v) (8 + u))) ∷ (f (t v (8 + u) +ℤ t (8 + v) u) (t v u -ℤ t (8 + v) (8 + u)) +ℤ f (t (8 + v) u -ℤ t v (8 + u)) (t v u +ℤ t (8 + v) (8 + u))) ∷ (f (t v u +ℤ t (8 + v) (8 + u)) (t (8 + v) u -ℤ t v (8 + u)) -ℤ f (t v u -ℤ t (8 + v) (8 + u)) (t v (8 + u) +ℤ t (8 + v) u)) ∷ []
-  unfolding quadOf gainRe gainIm
+  unfolding quadPlaces gainReOf gainImOf side16
   inner-quad v u m n l h =
       four
       (line-re _ _ u v (omega arith) ∙ re-low _ _ u l h ∙ ap₂ _+ℤ_ re re')
@@ -236,7 +236,7 @@ module _ (noise : ℕ) (t : ℕ → ℕ → ℤ) where
       im' = ap₂ f (high-im v m n u l h) (high-re v m n u l h)
 
   left-quad : (v : ℕ) → 0 < v → v < 8 → Quad v 0 ≡ f (t v 0) (t (8 + v) 0) ∷ f (t v 8) (t (8 + v) 8) ∷ f (t (8 + v) 0) (t v 0) ∷ f (t (8 + v) 8) (t v 8) ∷ []
-  unfolding quadOf gainRe gainIm
+  unfolding quadPlaces gainReOf gainImOf side16
   left-quad v m n =
       four
       (line-re _ _ 0 v (omega arith) ∙ re-own _ _ 0 refl ∙ ap₂ f (own-re v m n 0 (omega arith) refl) (own-im v m n 0 (omega arith) refl))
@@ -245,7 +245,7 @@ module _ (noise : ℕ) (t : ℕ → ℕ → ℤ) where
       (line-im _ _ 8 v m ∙ im-own _ _ 8 refl ∙ ap₂ f (own-im v m n 8 (omega arith) refl) (own-re v m n 8 (omega arith) refl))
 
   top-quad : (u : ℕ) → 0 < u → u < 8 → Quad 0 u ≡ (f (t 0 u) (t 0 (8 + u)) +ℤ f (t 0 u) (t 0 (8 + u))) ∷ (f (t 0 (8 + u)) (t 0 u) +ℤ f (t 0 (8 + u)) (t 0 u)) ∷ (f (t 8 u) (t 8 (8 + u)) +ℤ f (t 8 u) (t 8 (8 + u))) ∷ (f (t 8 (8 + u)) (t 8 u) +ℤ f (t 8 (8 + u)) (t 8 u)) ∷ []
-  unfolding quadOf
+  unfolding quadPlaces side16
   top-quad u l h =
       four
       (line-re _ _ u 0 (omega arith) ∙ column-low 0 refl u l h)
@@ -258,14 +258,14 @@ module _ (noise : ℕ) (t : ℕ → ℕ → ℤ) where
   Bin v u i = getD (twoBins t v u) i (pos 0)
 
   pub quad-is : (v u : ℕ) → v < 8 → u < 8 → 0 < v + u → Quad v u ≡ foldedQuad v u (f (Bin v u 0) (Bin v u 1)) (f (Bin v u 1) (Bin v u 0)) (f (Bin v u 2) (Bin v u 3)) (f (Bin v u 3) (Bin v u 2))
-  unfolding twoBins foldedQuad byKind quadOf
+  unfolding twoBinsOf foldedQuad byKind quadPlaces side16
   quad-is zero zero h l o = absurd (omega arith)
   quad-is zero (suc u) h l o = top-quad (suc u) (omega arith) l
   quad-is (suc v) zero h l o = left-quad (suc v) (omega arith) h
   quad-is (suc v) (suc u) h l o = inner-quad (suc v) (suc u) (omega arith) h (omega arith) l
 
   pub corner-is : Quad 0 0 ≡ tab 4 (λ i. f (Bin 0 0 i) (pos 0))
-  unfolding quadOf twoBins byKind tab
+  unfolding quadPlaces twoBinsOf byKind tab side16
   corner-is =
       four
       (line-re _ _ 0 0 (omega arith) ∙ column-own 0 refl 0 (omega arith) refl)
@@ -276,7 +276,7 @@ module _ (noise : ℕ) (t : ℕ → ℕ → ℤ) where
 -- The two bins of a quad are bins of the tile
 module _ (t : ℕ → ℕ → ℤ) (P : ℤ → Type 0) (none : P (pos 0)) (re : (u v : ℕ) → u < 16 → v < 9 → P (tileRe t u v)) (im : (u v : ℕ) → u < 16 → v < 9 → P (tileIm t u v)) where
   pub bins-each : (v u : ℕ) → v < 8 → u < 8 → (i : ℕ) → P (getD (twoBins t v u) i (pos 0))
-  unfolding twoBins byKind quadOf
+  unfolding twoBinsOf byKind quadPlaces side16
   bins-each zero zero m l =
       four-each P _ _ _ _ none (own 0 refl (omega arith) 0 (omega arith) refl) (own 0 refl (omega arith) 8 (omega arith) refl)
       (own 8 refl (omega arith) 0 (omega arith) refl) (own 8 refl (omega arith) 8 (omega arith) refl)
