@@ -11,3 +11,6 @@ pub mod BackSizes
 pub mod Doubles
 pub mod DoubleForms
 pub mod PairLines
+pub mod Picked
+pub mod Steps
+pub mod WholeFolds

@@ -11,6 +11,10 @@ differenceMost = 4095
 abbrev pub differenceFoldMost : ℕ
 differenceFoldMost = 8190
 
+-- a sum or difference of four, in a line of thirty-two
+abbrev pub foldAgainMost : ℕ
+foldAgainMost = 16380
+
 -- ---- two lines side by side, in double
 
 -- a place of the first pass, at most 1073479680

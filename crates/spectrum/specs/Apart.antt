@@ -19,6 +19,10 @@ module _ (s : Side) {A : Type 0} (k : ℕ) (own paired : A) where
   unfolding apartOf
   side-paired h = rw (ne-eqb (k % s .half) 0 h)
 
+  pub side-cases : (P : A → Type 0) → P own → P paired → P (apartOf s k own paired)
+  unfolding apartOf
+  side-cases P p q = cond-cases P (eqb (k % s .half) 0) p q
+
 module _ {A : Type 0} (k : ℕ) (own paired : A) where
   pub is-own : k % 8 ≡ 0 → apart k own paired ≡ own
   unfolding side16

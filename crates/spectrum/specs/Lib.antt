@@ -2,6 +2,7 @@ pub mod Magnitudes
 pub mod Spectrum
 pub mod Turns
 pub mod Pairs
+pub mod FoldLaws
 pub mod SpectrumLaws
 pub mod ZeroLaws
 pub mod FilterZeroLaws
@@ -9,11 +10,10 @@ pub mod RoundingLaws
 pub mod WienerLaws
 pub mod SizeLaws
 pub mod DifferenceLaws
-pub mod Apart
-pub mod LineLaws
-pub mod FoldSizes
-pub mod FoldLaws
 pub mod QuietLaws
+pub mod Apart
 pub mod QuadLaws
+pub mod LineLaws
 pub mod PlaceLaws
 pub mod CorrectionLaws
+pub mod FoldSizes
