@@ -9,27 +9,40 @@ use Rattle.recipe.specs.Correction.{wiener}
 unfoldable pub nearestWhole : Float → Float
 nearestWhole x = sub binary64 (add binary64 x middle) middle
 
+-- ---- for any side, whose quantum is 2^k
+
 -- one part of Q, from that part of B
-unfoldable pub quantizedIn : Float → Float
-quantizedIn b = nearestWhole (mul binary64 b (fraction 24))
+unfoldable pub quantizedBy : ℕ → Float → Float
+quantizedBy k b = nearestWhole (mul binary64 b (fraction k))
 
 -- |Q|² + V
 unfoldable pub powerIn : (v q r : Float) → Float
 powerIn v q r = add binary64 (add binary64 (mul binary64 q q) (mul binary64 r r)) v
 
 -- both parts of G at a bin, from those of B; w is V, slightly more
-unfoldable pub gainsIn : (v w a b : Float) → List Float
-gainsIn v w a b =
-    let q = quantizedIn a in
-    let r = quantizedIn b in
+unfoldable pub gainsBy : (k : ℕ) (v w a b : Float) → List Float
+gainsBy k v w a b =
+    let q = quantizedBy k a in
+    let r = quantizedBy k b in
     let g = div binary64 w (powerIn v q r) in
     nearestWhole (mul binary64 q g) ∷ nearestWhole (mul binary64 r g) ∷ []
 
 -- G at a bin that is real
-unfoldable pub realGainIn : (v w a : Float) → Float
-realGainIn v w a =
-    let q = quantizedIn a in
+unfoldable pub realGainBy : (k : ℕ) (v w a : Float) → Float
+realGainBy k v w a =
+    let q = quantizedBy k a in
     nearestWhole (mul binary64 q (div binary64 w (add binary64 (mul binary64 q q) v)))
+
+-- ---- for side 16
+
+abbrev pub quantizedIn : Float → Float
+quantizedIn = quantizedBy 24
+
+abbrev pub gainsIn : (v w a b : Float) → List Float
+gainsIn = gainsBy 24
+
+abbrev pub realGainIn : (v w a : Float) → Float
+realGainIn = realGainBy 24
 
 -- ---- with quotients in whole numbers
 

@@ -10,7 +10,7 @@ const MIDDLE: f64 = 6755399441055744.0;
 const BY_2_24: f64 = 0.000000059604644775390638234889800848443;
 
 // The whole number nearest to x.
-fn nearest_whole(x: f64) -> f64
+pub fn nearest_whole(x: f64) -> f64
     ensures { λ r. ⌜ r ≡ nearestWhole x ⌝ }
 {
     x + MIDDLE - MIDDLE

@@ -1,6 +1,7 @@
 pub mod Side
 pub mod Tables
 pub mod Tables32
+pub mod Sides
 pub mod Root
 pub mod NoiseNumber
 pub mod Correction

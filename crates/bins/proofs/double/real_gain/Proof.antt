@@ -1,11 +1,11 @@
 -- `bins::double::real_gain`: the definition's own operations.
 use Rattle.algebra.specs.Prelude.{needs}
-use Rattle.bins.specs.Doubles.{realGainIn}
+use Rattle.bins.specs.Doubles.{realGainBy}
 use Rattle.bins.proofs.double.real_gain.Statement.{statement}
 use Rattle.bins.proofs.double.real_gain.Tie as tie
 
 returns : tie.Need-returns
-unfolding realGainIn
+unfolding realGainBy
 returns c = cc
 
 pub real-gain-spec : {M : Type 1} → statement M
