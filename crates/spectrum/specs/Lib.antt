@@ -10,6 +10,7 @@ pub mod RoundingLaws
 pub mod WienerLaws
 pub mod SizeLaws
 pub mod DifferenceLaws
+pub mod SideSizes
 pub mod QuietLaws
 pub mod Apart
 pub mod QuadLaws
