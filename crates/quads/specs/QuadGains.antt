@@ -30,7 +30,7 @@ module _ (real : Float → Float) (gains : (a b : Float) → List Float) (k u : 
 abbrev pub double : ℤ → Float
 double = ofInt binary64
 
-number-of : (q : List ℤ) (i : ℕ) → i < length q → numberOf (map double q) i ≡ double (getD q i (pos 0))
+pub number-of : (q : List ℤ) (i : ℕ) → i < length q → numberOf (map double q) i ≡ double (getD q i (pos 0))
 number-of [] i h = absurd (omega arith)
 number-of (x ∷ q) zero h = refl
 number-of (x ∷ q) (suc i) h = number-of q i (omega arith)
@@ -42,7 +42,7 @@ bins-four t (suc k) zero = refl
 bins-four t (suc k) (suc u) = refl
 
 -- two numbers are at most m if their difference and their sum are
-half : (a b : ℤ) {m : ℕ} → natAbs (a -ℤ b) ≤ m → natAbs (a +ℤ b) ≤ m → (natAbs a ≤ m) × (natAbs b ≤ m)
+pub half : (a b : ℤ) {m : ℕ} → natAbs (a -ℤ b) ≤ m → natAbs (a +ℤ b) ≤ m → (natAbs a ≤ m) × (natAbs b ≤ m)
 half a b p q =
     let d = sub-pn a b in
     let s = add-pn a b in
@@ -50,7 +50,7 @@ half a b p q =
 
 -- ---- the fold
 
-folded-is : (k u : ℕ) (a b c d : ℤ) → natAbs a ≤ gainMost → natAbs b ≤ gainMost → natAbs c ≤ gainMost → natAbs d ≤ gainMost → foldedIn k u (double a) (double b) (double c) (double d) ≡ map double (foldedQuad k u a b c d)
+pub folded-is : (k u : ℕ) (a b c d : ℤ) → natAbs a ≤ gainMost → natAbs b ≤ gainMost → natAbs c ≤ gainMost → natAbs d ≤ gainMost → foldedIn k u (double a) (double b) (double c) (double d) ≡ map double (foldedQuad k u a b c d)
 unfolding foldedIn foldedQuad byKind
 folded-is zero u a b c d i j m n =
     floats-wholes binary64 (a ∷ b ∷ c ∷ d ∷ []) (four-each (λ z. natAbs z ≤ gainMost) a b c d zero-le i j m n)

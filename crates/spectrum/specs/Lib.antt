@@ -18,3 +18,4 @@ pub mod LineLaws
 pub mod PlaceLaws
 pub mod CorrectionLaws
 pub mod FoldSizes
+pub mod LongPairs
