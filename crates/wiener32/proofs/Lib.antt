@@ -1,0 +1,2 @@
+pub mod NewQuads
+pub mod DoubleGains
