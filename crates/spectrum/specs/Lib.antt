@@ -19,3 +19,4 @@ pub mod PlaceLaws
 pub mod CorrectionLaws
 pub mod FoldSizes
 pub mod LongPairs
+pub mod LongLines

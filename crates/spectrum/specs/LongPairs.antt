@@ -8,7 +8,8 @@ use Rattle.recipe.specs.Tables32.{side32}
 use Rattle.recipe.specs.Correction.{quantized, filtered}
 use Rattle.lines.specs.Magnitudes.{differenceMost}
 use Rattle.spectrum.specs.Magnitudes.{gainMost, longBinMost, longPairNoise, productMost}
-use Rattle.spectrum.specs.Spectrum.{tileReOf, tileImOf, twoWayOf, spreadOf, quadPlaces, twoBinsOf, gainReOf, gainImOf, foldedQuad}
+use Rattle.spectrum.specs.Spectrum.{transposed, tileReOf, tileImOf, twoWayOf, spreadOf, quadPlaces, twoBinsOf, gainReOf, gainImOf, foldedQuad}
+use Rattle.spectrum.specs.Pairs.{sideBySide}
 use Rattle.spectrum.specs.Turns.{turns32}
 use Rattle.spectrum.specs.SpectrumLaws.{bin-re-of, bin-im-of}
 use Rattle.spectrum.specs.QuadLaws.{quad-is-of, corner-is-of, bins-each-of}
@@ -23,10 +24,30 @@ pub record LongPaired {A : Type 0} (z : A) (t : List (List A)) : Type 0 where
 unfoldable pub longDoubles : (ℕ → ℕ → ℤ) → List (List Float)
 longDoubles t = grid 32 64 (λ y l. ofInt binary64 (t y l))
 
+-- a pair of whole numbers of at most m in double
+pub record LongInDouble (m : ℕ) (g : List (List Float)) : Type 0 where
+  pub number : (y l : ℕ) → ℤ
+  pub most : (y l : ℕ) → natAbs (number y l) ≤ m
+  pub is : g ≡ longDoubles number
+
 -- the bins of the plane t are those that differences can have
 pub record LongBinned (t : ℕ → ℕ → ℤ) : Type 0 where
   pub re-most : (u v : ℕ) → u < 32 → v < 17 → natAbs (tileReOf side32 t u v) ≤ longBinMost
   pub im-most : (u v : ℕ) → u < 32 → v < 17 → natAbs (tileImOf side32 t u v) ≤ longBinMost
+
+-- two such planes, held by columns, in double
+pub record LongBinnedPair (b : List (List Float)) : Type 0 where
+  pub plane : (p : ℕ) → ℕ → ℕ → ℤ
+  pub first : LongBinned (plane 0)
+  pub second : LongBinned (plane 1)
+  pub is : b ≡ longDoubles (sideBySide (λ p. transposed (plane p)))
+
+-- the noise numbers of a pair that is worked out in double
+pub record LongPairNoise (first second : ℕ) : Type 0 where
+  pub first-above : 0 < first
+  pub second-above : 0 < second
+  pub first-most : first ≤ longPairNoise
+  pub second-most : second ≤ longPairNoise
 
 -- at the noise number V the quotients of the bins of the plane t can be taken in double
 pub record LongQuiet (noise : ℕ) (t : ℕ → ℕ → ℤ) : Type 0 where

@@ -86,3 +86,7 @@ longBinMost = 1591841547878400
 -- V up to which two tiles are worked out in double: |Q| is at most 2^24 whatever the differences, so that V·|q| is at most productMost
 abbrev pub longPairNoise : ℕ
 longPairNoise = 2 ^ 25
+
+-- a part of G at such a V: half the root of V
+abbrev pub longGainMost : ℕ
+longGainMost = 4096

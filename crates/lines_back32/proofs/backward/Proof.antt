@@ -1,10 +1,10 @@
 -- `lines_back32::backward`: the even and the odd places apart, and both halves of the column from their sums.
-use Rattle.algebra.specs.Prelude.{refl, _∙_, ℕ, _+_, _-_, _*_, _≤_, arith, needs, now, getD, natAbs}
+use Rattle.algebra.specs.Prelude.{refl, _∙_, false, ℕ, _+_, _-_, _*_, _≤_, arith, needs, now, getD, natAbs}
 use lib.Ieee.{nan, binary64, ofInt, add, sub}
 use Rattle.sequences.specs.TabLaws.{Filled, fill-start, fill-turn, fill-done}
 use Rattle.recipe.specs.Tables32.{side32}
 use Rattle.lines.specs.Halfcomplex.{backwardOf}
-use Rattle.lines.specs.Magnitudes.{pairFoldMost, longColumnMost}
+use Rattle.lines.specs.Magnitudes.{foldMost, longColumnMost}
 use Rattle.lines.specs.DoubleForms.{picked}
 use Rattle.lines_back32.proofs.BothHalves.{Both, both-start, both-turn, both-done, column-low, column-high}
 use Rattle.lines_back32.proofs.backward.Statement.{statement}
@@ -36,7 +36,7 @@ returns c z most e =
     let s = t .before in
     let l = s .before .before .before in
     let more : (k : ℕ) → natAbs (z k) ≤ longColumnMost = λ k. omega (arith, most k) in
-    let less : (k : ℕ) → natAbs (z k) ≤ pairFoldMost = λ k. omega (arith, most k) in
+    let less : (k : ℕ) → natAbs (z k) ≤ foldMost false = λ k. omega (arith, most k) in
     let p = s .backward .ensures (λ k. z (2 * k)) (λ k. less (2 * k)) (fill-done (l .loop .inv .0) (omega arith) ∙ picked 16 32 z e (λ k. 2 * k) (λ k. 2 * k) (λ k l. refl) (λ k l. omega arith)) in
     let q = t .odd .ensures (λ k. z (2 * k + 1)) (λ k. more (2 * k + 1)) (fill-done (l .loop .inv .1) (omega arith) ∙ picked 16 32 z e (λ k. 2 * k + 1) (λ k. 2 * k + 1) (λ k l. refl) (λ k l. omega arith)) in
     both-done (c .before .loop2 .inv) (omega arith) (λ n. ofInt binary64 (backwardOf side32 z n)) (column-low z more p q) (column-high z more p q)
