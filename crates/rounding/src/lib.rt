@@ -60,8 +60,10 @@ pub fn round_away(z: i64, m: u64) -> i64
     signed(n)
 }
 
-// Halves of 2^24, 2^31 and 2^32.
+// Halves of 2^24, 2^26, 2^31 and 2^32.
 const HALF_2_24: i64 = 8388608;
+
+const HALF_2_26: i64 = 33554432;
 
 const HALF_2_31: i64 = 1073741824;
 
@@ -73,6 +75,14 @@ pub fn round_away_24(z: i64) -> i64
     ensures { λ r. ⌜ r ≡ away z (2 ^ 24) ⌝ }
 {
     (z + HALF_2_24 + (z >> 63)) >> 24
+}
+
+// The same of z / 2^26.
+pub fn round_away_26(z: i64) -> i64
+    requires { ⌜ natAbs z < 2 ^ 63 - 2 ^ 32 ⌝ }
+    ensures { λ r. ⌜ r ≡ away z (2 ^ 26) ⌝ }
+{
+    (z + HALF_2_26 + (z >> 63)) >> 26
 }
 
 // The same of z / 2^31.
