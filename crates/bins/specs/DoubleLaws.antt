@@ -21,9 +21,9 @@ use Rattle.bins.specs.Doubles.{nearestWhole, powerIn, quantizedBy, gains
 -- a side whose quantum is 2^k, and whose parts of B are at most `most`, so that those of Q are at most gainMost
 pub record Quanta (s : Side) (k most : ℕ) : Type 0 where
   pub quantum-is : s .quantum ≡ 2 ^ k
-  pub k-above : 0 < k
+  pub k-above : 1 < k
   pub k-most : k ≤ 900
-  pub below : most < 2 ^ 51
+  pub below : most < 5 * 2 ^ 49
   pub parts : (2 * most + s .quantum) / (2 * s .quantum) ≤ gainMost
 
 pub quanta16 : Quanta side16 24 binMost

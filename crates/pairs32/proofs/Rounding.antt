@@ -11,18 +11,17 @@ use Rattle.sequences.specs.Tab.{tab}
 use Rattle.sequences.specs.Grid.{grid, tab-ext}
 use Rattle.floats.specs.Middle.{middle, middleBits}
 use Rattle.floats.specs.ProductLaws.{fraction, product-bits, product-bits-below, product-number}
-use Rattle.lines.specs.Doubles.{doubleLine}
+use Rattle.lines.specs.Doubles.{doubleLine, WholeDouble}
 use Rattle.lines.specs.Halfcomplex.{halfSumOf}
 use Rattle.spectrum.specs.LongLines.{half-sum-most}
 use Rattle.lines.specs.Held.{number-is, number-most}
 use Rattle.lines.specs.Magnitudes.{longColumnMost, longHalfMost}
-use Rattle.spectrum.specs.Pairs.{WholeDouble}
 use Rattle.spectrum.specs.LongPairs.{LongInDouble, longDoubles}
 use Rattle.spectrum.specs.RoundingLaws.{away-most}
 use Rattle.pairs32.specs.Whole.{WholeRow, roundedBits, roundedDouble}
 
 module _ {x : Float} (w : WholeDouble longHalfMost x) where
-  small : natAbs (w .number) < 2 ^ 51
+  small : natAbs (w .number) < 5 * 2 ^ 49
   small = omega (arith, w .most)
 
   pub rounded-number : T (not (isNan (add binary64 (mul binary64 x (fraction 31)) middle)))

@@ -12,7 +12,8 @@ ghost use Rattle.sequences.specs.Grid.{grid, cell};
 ghost use Rattle.lines.specs.Halfcomplex.{halfSumOf};
 ghost use Rattle.lines.specs.Lines.{LineMost, TileMost};
 ghost use Rattle.lines.specs.Magnitudes.{longColumnMost, longHalfMost};
-ghost use Rattle.spectrum.specs.Pairs.{WholeDouble, planeIn};
+ghost use Rattle.lines.specs.Doubles.{WholeDouble};
+ghost use Rattle.spectrum.specs.Pairs.{planeIn};
 ghost use Rattle.spectrum.specs.LongPairs.{LongPaired, LongInDouble};
 ghost use Rattle.pairs32.specs.Whole.{WholeRow, roundedDouble};
 
