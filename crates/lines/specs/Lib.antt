@@ -8,7 +8,9 @@ pub mod SideFolds
 pub mod SideSums
 pub mod Magnitudes
 pub mod BackSizes
+pub mod SecondPlaces
 pub mod Doubles
+pub mod DoubleCasts
 pub mod DoubleForms
 pub mod PairLines
 pub mod Picked

@@ -67,14 +67,30 @@ longLineMost = 2 ^ 31 - 1
 abbrev pub longSumMost : ℕ
 longSumMost = 2 ^ 32
 
--- back: a number of the folded G, two parts of at most 2^12 each: half the root of V, which is up to 2^25
-abbrev pub longFoldMost : ℕ
-longFoldMost = 2 ^ 13
+-- back, in double, and the last sums in 64 bits where noise is not low: `low` where the noise numbers are at most 2^29
 
--- a sum back down a column: 32·16384 times these
-abbrev pub longColumnMost : ℕ
-longColumnMost = 2 ^ 32
+-- a part of G: half the root of V, which is up to 2^29, or up to 69776441344
+abbrev pub longPartMost : (low : Bool) → ℕ
+longPartMost low = cond low 11586 132077
 
--- half of a sum back along a row: (2·8192 + 30·16384) times these
-abbrev pub longHalfMost : ℕ
-longHalfMost = 31 * 2 ^ 46
+-- a number of the folded G, two parts
+abbrev pub longFoldMost : (low : Bool) → ℕ
+longFoldMost low = 2 * longPartMost low
+
+-- what the magnitudes of the basis at a number add up to, at most, over the places of a line; for half of the sum; and over every second odd place
+abbrev pub longBasisSum : ℕ
+longBasisSum = 349080
+
+abbrev pub longHalfBasisSum : ℕ
+longHalfBasisSum = 332696
+
+abbrev pub secondOddSum : ℕ
+secondOddSum = 92680
+
+-- a sum back down a column
+abbrev pub longColumnMost : (low : Bool) → ℕ
+longColumnMost low = longFoldMost low * longBasisSum
+
+-- half of a sum back along a row: below 5·2^49 where noise is low, and else below 2^55
+abbrev pub longHalfMost : (low : Bool) → ℕ
+longHalfMost low = longColumnMost low * longHalfBasisSum
