@@ -1,6 +1,6 @@
 -- A line that a loop stores in both halves at once: number n and number n + h, which are the sums and the differences of two shorter lines.
 use mathlib.Core.Path.{fun-ext}
-use Rattle.algebra.specs.Prelude.{_≡_, refl, sym, ap, ap₂, _∙_, Bool, true, false, cond, List, ℕ, _+_, _-_, _*_, _/_, _%_, _^_, _≤_, _<_, arith, eqb, ltb, length, getD, set, ℤ, natAbs, _+ℤ_, _-ℤ_, _*ℤ_}
+use Rattle.algebra.specs.Prelude.{_≡_, refl, sym, ap, ap₂, _∙_, Bool, true, false, cond, List, ℕ, zero, suc, _+_, _-_, _*_, _/_, _%_, _^_, _≤_, _<_, arith, eqb, ltb, length, getD, set, ℤ, natAbs, _+ℤ_, _-ℤ_, _*ℤ_}
 use native.Mathlib.Decide.{ℕ-discrete}
 use borrow.Author.Tests.{eq-eqb, ne-eqb, ltb-true, ltb-false}
 use lib.ListN.{length-set}
@@ -17,7 +17,7 @@ use Rattle.recipe.specs.Tables32.{side32}
 use Rattle.recipe.specs.TableLaws.{rules16}
 use Rattle.recipe.specs.TableLaws32.{rules32, doubled32}
 use Rattle.lines.specs.Halfcomplex.{basisOf, halfBasisOf, backwardOf, halfSumOf}
-use Rattle.lines.specs.Fold.{evenSumOf, oddSumOf, evenHalfOf}
+use Rattle.lines.specs.Fold.{oddSumOf}
 use Rattle.lines.specs.SideSums.{Halves, back-halves, half-halves, even-back, even-half}
 use Rattle.lines.specs.HalfSumLaws.{basis-most, half-basis-most}
 use Rattle.lines.specs.Doubles.{doubleLine}
@@ -27,78 +27,87 @@ use Rattle.lines.specs.DoubleForms.{sum-exact, difference-exact}
 -- ---- the loop
 
 -- x holds f at the first i places of its first half of h places, and g at those of the other: a loop's invariant
-pub record Both (f g : ℕ → Float) (h i : ℕ) (x : List Float) : Type 0 where
+pub record Both {A : Type 0} (z : A) (f g : ℕ → A) (h i : ℕ) (x : List A) : Type 0 where
   pub count : i ≤ h
   pub same : length x ≡ h + h
-  pub low : (l : ℕ) → l < i → getD x l nan ≡ f l
-  pub high : (l : ℕ) → l < i → getD x (l + h) nan ≡ g l
+  pub low : (l : ℕ) → l < i → getD x l z ≡ f l
+  pub high : (l : ℕ) → l < i → getD x (l + h) z ≡ g l
 
 -- a store of v at i, where l is either that place or another
-put : (x : List Float) (i l : ℕ) (v w : Float) → i < length x → (l ≡ i → v ≡ w) → ((l ≡ i → ⊥) → getD x l nan ≡ w) → getD (set x i v) l nan ≡ w
-put x i l v w h e rest = go (ℕ-discrete l i)
+put : {A : Type 0} (z : A) (x : List A) (i l : ℕ) (v w : A) → i < length x → (l ≡ i → v ≡ w) → ((l ≡ i → ⊥) → getD x l z ≡ w) → getD (set x i v) l z ≡ w
+put z x i l v w h e rest = go (ℕ-discrete l i)
   where
-    go : Dec (l ≡ i) → getD (set x i v) l nan ≡ w
-    go (yes q) = ap (λ j. getD (set x i v) j nan) q ∙ getD-set-same x i v nan h ∙ e q
-    go (no q) = getD-set-other x i l v nan q ∙ rest q
+    go : Dec (l ≡ i) → getD (set x i v) l z ≡ w
+    go (yes q) = ap (λ j. getD (set x i v) j z) q ∙ getD-set-same x i v z h ∙ e q
+    go (no q) = getD-set-other x i l v z q ∙ rest q
 
-module _ {f g : ℕ → Float} {h : ℕ} where
-  pub both-start : {x : List Float} → length x ≡ h + h → Both f g h 0 x
+module _ {A : Type 0} {z : A} {f g : ℕ → A} {h : ℕ} where
+  pub both-start : {x : List A} → length x ≡ h + h → Both z f g h 0 x
   both-start e = record { count = omega arith; same = e; low = λ l k. absurd (omega arith); high = λ l k. absurd (omega arith) }
 
-  pub both-turn : {i : ℕ} {x : List Float} → Both f g h i x → i < h → Both f g h (i + 1) (set (set x i (f i)) (i + h) (g i))
-  both-turn {i} {x} w k =
-      let x1 = set x i (f i) in
+  pub both-turn : {i : ℕ} {x : List A} {a b : A} → Both z f g h i x → i < h → a ≡ f i → b ≡ g i → Both z f g h (i + 1) (set (set x i a) (i + h) b)
+  both-turn {i} {x} {a} {b} w k p q =
+      let x1 = set x i a in
       let long : i + h < length x1 = simp length-set (omega (arith, w .same)) in
       record {
         count = omega arith;
         same = simp length-set (w .same);
         low = λ l m.
-            put x1 (i + h) l (g i) (f l) long (λ e. absurd (omega (arith, e)))
-            (λ n. put x i l (f i) (f l) (omega (arith, w .same)) (λ e. ap f (sym e)) (λ n. w .low l (omega (arith, n))));
+            put z x1 (i + h) l b (f l) long (λ e. absurd (omega (arith, e)))
+            (λ n. put z x i l a (f l) (omega (arith, w .same)) (λ e. p ∙ ap f (sym e)) (λ n. w .low l (omega (arith, n))));
         high = λ l m.
-            put x1 (i + h) (l + h) (g i) (g l) long (λ e. ap g (omega (arith, e)))
-            (λ n. put x i (l + h) (f i) (g l) (omega (arith, w .same)) (λ e. absurd (omega (arith, e))) (λ o. w .high l (omega (arith, n))));
+            put z x1 (i + h) (l + h) b (g l) long (λ e. q ∙ ap g (omega (arith, e)))
+            (λ n. put z x i (l + h) a (g l) (omega (arith, w .same)) (λ e. absurd (omega (arith, e))) (λ o. w .high l (omega (arith, n))));
       }
 
-  pub both-done : {i : ℕ} {x : List Float} → Both f g h i x → h ≤ i → (v : ℕ → Float) → ((l : ℕ) → l < h → f l ≡ v l) → ((l : ℕ) → l < h → g l ≡ v (l + h)) → x ≡ tab (h + h) v
+  pub both-done : {i : ℕ} {x : List A} → Both z f g h i x → h ≤ i → (v : ℕ → A) → ((l : ℕ) → l < h → f l ≡ v l) → ((l : ℕ) → l < h → g l ≡ v (l + h)) → x ≡ tab (h + h) v
   both-done {i} {x} w k v p q =
-      tab-of nan x ∙ ap (λ m. tab m (λ l. getD x l nan)) (w .same) ∙ tab-ext (h + h) (λ l. getD x l nan) v (λ l m. go l m (ltb l h) (ltb-true l h) (ltb-false l h))
+      tab-of z x ∙ ap (λ m. tab m (λ l. getD x l z)) (w .same) ∙ tab-ext (h + h) (λ l. getD x l z) v (λ l m. go l m (ltb l h) (ltb-true l h) (ltb-false l h))
     where
-      go : (l : ℕ) → l < h + h → (b : Bool) → (b ≡ true → l < h) → (b ≡ false → h ≤ l) → getD x l nan ≡ v l
+      go : (l : ℕ) → l < h + h → (b : Bool) → (b ≡ true → l < h) → (b ≡ false → h ≤ l) → getD x l z ≡ v l
       go l m true a b = w .low l (omega (arith, a refl)) ∙ p l (a refl)
       go l m false a b =
           let j = l - h in
           let back : j + h ≡ l = omega (arith, b refl) in
-          ap (λ l. getD x l nan) (sym back) ∙ w .high j (omega (arith, b refl)) ∙ q j (omega (arith, b refl)) ∙ ap v back
+          ap (λ l. getD x l z) (sym back) ∙ w .high j (omega (arith, b refl)) ∙ q j (omega (arith, b refl)) ∙ ap v back
 
 -- ---- lines stored by twos
 
--- two lines side by side
-abbrev pub interleaved : (e o : List Float) → ℕ → Float
-interleaved e o l = cond (eqb (l % 2) 0) (getD e (l / 2) nan) (getD o (l / 2) nan)
+-- the lines e and o side by side
+abbrev pub inTurn : {A : Type 0} → (e o : ℕ → A) → ℕ → A
+inTurn e o l = cond (eqb (l % 2) 0) (e (l / 2)) (o (l / 2))
 
--- each second number of a line of twice the length, or two of four
+-- two of four numbers of a line of twice the length
 abbrev pub firstTwo : (x : List Float) → ℕ → Float
 firstTwo x l = getD x (4 * (l / 2) + l % 2) nan
 
-pub twos-turn : {f : ℕ → Float} {k : ℕ} {l r : List Float} {v w : Float} → Filled f 32 (2 * k) l r → k < 16 → v ≡ f (2 * k) → w ≡ f (2 * k + 1) → Filled f 32 (2 * (k + 1)) l (set (set r (2 * k) v) (2 * k + 1) w)
-twos-turn {f} {k} w h p q =
+pub twos-turn : {A : Type 0} {f : ℕ → A} {k : ℕ} {l r : List A} {v w : A} → Filled f 32 (2 * k) l r → k < 16 → v ≡ f (2 * k) → w ≡ f (2 * k + 1) → Filled f 32 (2 * (k + 1)) l (set (set r (2 * k) v) (2 * k + 1) w)
+twos-turn {f = f} {k} w h p q =
     let w1 = fill-turn w (omega arith) p in
     let w2 = fill-turn w1 (omega arith) q in
     let s2 : 2 * k + 1 + 1 ≡ 2 * (k + 1) = omega arith in
     rw s2 at w2
 
-module _ (e o : List Float) (k : ℕ) where
-  pub even-at : getD e k nan ≡ interleaved e o (2 * k)
-  even-at =
+module _ {A : Type 0} (e o : ℕ → A) where
+  pub even-at : (k : ℕ) → e k ≡ inTurn e o (2 * k)
+  even-at k =
       let m : 2 * k % 2 ≡ 0 = omega arith in
       let d : 2 * k / 2 ≡ k = omega arith in
       rw (eq-eqb (2 * k % 2) 0 m, d)
 
-  pub odd-at : getD o k nan ≡ interleaved e o (2 * k + 1)
-  odd-at =
+  pub odd-at : (k : ℕ) → o k ≡ inTurn e o (2 * k + 1)
+  odd-at k =
       let d : (2 * k + 1) / 2 ≡ k = omega arith in
       rw (ne-eqb ((2 * k + 1) % 2) 0 (λ z. omega arith), d)
+
+  -- the lines f 0 and f 1
+  pub in-turn-are : (f : ℕ → ℕ → A) → ((n : ℕ) → n < 16 → e n ≡ f 0 n) → ((n : ℕ) → n < 16 → o n ≡ f 1 n) → tab 32 (inTurn e o) ≡ tab 32 (λ l. f (l % 2) (l / 2))
+  in-turn-are f p q = tab-ext 32 _ _ (λ l h. go (l % 2) (l / 2) (omega arith) (omega arith))
+    where
+      go : (r n : ℕ) → r < 2 → n < 16 → cond (eqb r 0) (e n) (o n) ≡ f r n
+      go zero n k h = p n h
+      go (suc zero) n k h = q n h
+      go (suc (suc r)) n k h = absurd (omega arith)
 
 module _ (x : List Float) (k : ℕ) where
   pub first-at : getD x (4 * k) nan ≡ firstTwo x (2 * k)
@@ -108,22 +117,18 @@ module _ (x : List Float) (k : ℕ) where
   second-at = ap (λ i. getD x i nan) (omega arith)
 
 -- what they hold
-number : (n : ℕ) {x : List Float} (z : ℕ → ℤ) → x ≡ doubleLine n z → (i : ℕ) → i < n → getD x i nan ≡ ofInt binary64 (z i)
+pub number : (n : ℕ) {x : List Float} (z : ℕ → ℤ) → x ≡ doubleLine n z → (i : ℕ) → i < n → getD x i nan ≡ ofInt binary64 (z i)
 number n z e i h = ap (λ x. getD x i nan) e ∙ getD-tab (λ i. ofInt binary64 (z i)) nan n i h
 
 pub first-two : {x : List Float} (z : ℕ → ℤ) → x ≡ doubleLine 64 z → tab 32 (firstTwo x) ≡ doubleLine 32 (λ l. z (4 * (l / 2) + l % 2))
 first-two z e = tab-ext 32 _ _ (λ l h. number 64 z e (4 * (l / 2) + l % 2) (omega arith))
 
-pub interleaved-are : {e o : List Float} (f : ℕ → ℕ → ℤ) → e ≡ doubleLine 16 (f 0) → o ≡ doubleLine 16 (f 1) → tab 32 (interleaved e o) ≡ doubleLine 32 (λ l. f (l % 2) (l / 2))
-unfolding tab
-interleaved-are f p q = ap₂ (λ e o. tab 32 (interleaved e o)) p q
-
 -- ---- the sums of two lines
 
 -- the sums of sixteen places are small
-module _ (z : ℕ → ℤ) (most : (k : ℕ) → natAbs (z k) ≤ longColumnMost) (n : ℕ) where
+module _ (z : ℕ → ℤ) (most : (k : ℕ) → natAbs (z k) ≤ longColumnMost true) (n : ℕ) where
   sixteen-most : (w : ℕ → ℤ) → ((k : ℕ) → natAbs (w k) ≤ 16384) → natAbs (sumZ 16 (λ k. z k *ℤ w k)) ≤ 2 ^ 52
-  sixteen-most w m = omega (arith, abs-sum-bound 16 (longColumnMost * 16384) (λ k. z k *ℤ w k) (λ k h. abs-mul-le (z k) (w k) (most k) (m k)))
+  sixteen-most w m = omega (arith, abs-sum-bound 16 (longColumnMost true * 16384) (λ k. z k *ℤ w k) (λ k h. abs-mul-le (z k) (w k) (most k) (m k)))
 
   pub odd-most : natAbs (oddSumOf side32 z n) ≤ 2 ^ 52
   unfolding oddSumOf side32
@@ -167,7 +172,7 @@ module _ (z : ℕ → ℤ) where
 
 -- ---- the columns
 
-module _ (z : ℕ → ℤ) (most : (k : ℕ) → natAbs (z k) ≤ longColumnMost) {s t : List Float} (p : s ≡ doubleLine 16 (backwardOf side16 (λ k. z (2 * k)))) (q : t ≡ doubleLine 16 (oddSumOf side32 (λ k. z (2 * k + 1)))) (n : ℕ) (h : n < 16) where
+module _ (z : ℕ → ℤ) (most : (k : ℕ) → natAbs (z k) ≤ longColumnMost true) {s t : List Float} (p : s ≡ doubleLine 16 (backwardOf side16 (λ k. z (2 * k)))) (q : t ≡ doubleLine 16 (oddSumOf side32 (λ k. z (2 * k + 1)))) (n : ℕ) (h : n < 16) where
   pub column-low : add binary64 (getD s n nan) (getD t n nan) ≡ ofInt binary64 (backwardOf side32 z n)
   column-low =
       low-is _ _ p q n h (even-most (λ k. z (2 * k)) (λ k. most (2 * k)) n) (odd-most (λ k. z (2 * k + 1)) (λ k. most (2 * k + 1)) n) (long-halves z .low n)
@@ -197,7 +202,7 @@ module _ (g : ℕ → ℕ → ℤ) where
   pub row-odds : doubleLine 32 (λ l. oddSumOf side32 (λ k. rows (4 * k + 2 + l % 2)) (l / 2)) ≡ doubleLine 32 (λ l. oddSumOf side32 (λ k. g (l % 2) (2 * k + 1)) (l / 2))
   row-odds = tab-ext 32 _ _ (λ l h. ap (λ (f : ℕ → ℤ). ofInt binary64 (oddSumOf side32 f (l / 2))) (fun-ext (λ k. row-odd (l % 2) k (omega arith))))
 
-  module _ (most : (p k : ℕ) → natAbs (g p k) ≤ longColumnMost) {s t : List Float} (p : s ≡ doubleLine 32 (λ l. halfSumOf side16 (λ k. g (l % 2) (2 * k)) (l / 2))) (q : t ≡ doubleLine 32 (λ l. oddSumOf side32 (λ k. g (l % 2) (2 * k + 1)) (l / 2))) (l : ℕ) (h : l < 32) where
+  module _ (most : (p k : ℕ) → natAbs (g p k) ≤ longColumnMost true) {s t : List Float} (p : s ≡ doubleLine 32 (λ l. halfSumOf side16 (λ k. g (l % 2) (2 * k)) (l / 2))) (q : t ≡ doubleLine 32 (λ l. oddSumOf side32 (λ k. g (l % 2) (2 * k + 1)) (l / 2))) (l : ℕ) (h : l < 32) where
     abbrev line : ℕ → ℤ
     line = g (l % 2)
 

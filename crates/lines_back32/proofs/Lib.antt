@@ -1,1 +1,2 @@
 pub mod BothHalves
+pub mod WholeParts

@@ -1,5 +1,5 @@
 -- `lines_back32::backward`: the even and the odd places apart, and both halves of the column from their sums.
-use Rattle.algebra.specs.Prelude.{refl, _∙_, false, ℕ, _+_, _-_, _*_, _≤_, arith, needs, now, getD, natAbs}
+use Rattle.algebra.specs.Prelude.{refl, _∙_, true, false, ℕ, _+_, _-_, _*_, _≤_, arith, needs, getD, natAbs}
 use lib.Ieee.{nan, binary64, ofInt, add, sub}
 use Rattle.sequences.specs.TabLaws.{Filled, fill-start, fill-turn, fill-done}
 use Rattle.recipe.specs.Tables32.{side32}
@@ -17,7 +17,7 @@ abbrev μ-loop : tie.MeasureT-loop
 μ-loop z e₀ o₀ k₀ e o k = 16 - k
 
 abbrev Inv-loop2 : tie.InvT-loop2
-Inv-loop2 z s t r₀ n₀ r n = Both (λ n. add binary64 (getD s n nan) (getD t n nan)) (λ n. sub binary64 (getD s n nan) (getD t n nan)) 16 n r
+Inv-loop2 z s t r₀ n₀ r n = Both nan (λ n. add binary64 (getD s n nan) (getD t n nan)) (λ n. sub binary64 (getD s n nan) (getD t n nan)) 16 n r
 
 abbrev μ-loop2 : tie.MeasureT-loop2
 μ-loop2 z s t r₀ n₀ r n = 16 - n
@@ -28,17 +28,17 @@ loop-again c =
     (fill-turn (l .loop .inv .0) (omega arith) refl, fill-turn (l .loop .inv .1) (omega arith) refl)
 
 loop2-again : tie.Need-loop2-again Inv-loop μ-loop Inv-loop2 μ-loop2
-loop2-again c = both-turn (c .before .loop2 .inv) (c .loop2-test .taken)
+loop2-again c = both-turn (c .before .loop2 .inv) (c .loop2-test .taken) refl refl
 
 returns : tie.Need-returns Inv-loop μ-loop Inv-loop2 μ-loop2
 returns c z most e =
     let t = c .before .before in
     let s = t .before in
     let l = s .before .before .before in
-    let more : (k : ℕ) → natAbs (z k) ≤ longColumnMost = λ k. omega (arith, most k) in
+    let more : (k : ℕ) → natAbs (z k) ≤ longColumnMost true = λ k. omega (arith, most k) in
     let less : (k : ℕ) → natAbs (z k) ≤ foldMost false = λ k. omega (arith, most k) in
     let p = s .backward .ensures (λ k. z (2 * k)) (λ k. less (2 * k)) (fill-done (l .loop .inv .0) (omega arith) ∙ picked 16 32 z e (λ k. 2 * k) (λ k. 2 * k) (λ k l. refl) (λ k l. omega arith)) in
-    let q = t .odd .ensures (λ k. z (2 * k + 1)) (λ k. more (2 * k + 1)) (fill-done (l .loop .inv .1) (omega arith) ∙ picked 16 32 z e (λ k. 2 * k + 1) (λ k. 2 * k + 1) (λ k l. refl) (λ k l. omega arith)) in
+    let q = t .odd .ensures .low (λ k. z (2 * k + 1)) (λ k. more (2 * k + 1)) (fill-done (l .loop .inv .1) (omega arith) ∙ picked 16 32 z e (λ k. 2 * k + 1) (λ k. 2 * k + 1) (λ k l. refl) (λ k l. omega arith)) in
     both-done (c .before .loop2 .inv) (omega arith) (λ n. ofInt binary64 (backwardOf side32 z n)) (column-low z more p q) (column-high z more p q)
 
 pub backward-spec : {M : Type 1} → statement M

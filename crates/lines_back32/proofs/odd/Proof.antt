@@ -1,17 +1,20 @@
 -- `lines_back32::odd`: the odd places' sums, by computed tests.
-use Rattle.algebra.specs.Prelude.{refl, ap, _∙_, cond, List, [], _∷_, _+_, _*_, needs, ltb, getD, pos}
+use Rattle.algebra.specs.Prelude.{_≡_, refl, ap, _∙_, false, cond, List, [], _∷_, ℕ, zero, suc, _+_, _*_, _%_, _≤_, _<_, arith, needs, T, eqb, ltb, getD, ℤ, pos, natAbs}
 use lib.Ieee.{Float, nan, binary64, ofBits, ofInt}
-use Rattle.algebra.specs.Ring.{con, _⊠_}
+use Rattle.algebra.specs.Ring.{Expr, con, _⊠_, nth}
 use Rattle.algebra.specs.Ring as ring
 use Rattle.algebra.specs.Sums.{sumZ}
-use Rattle.algebra.specs.Forms.{sumE}
+use Rattle.algebra.specs.Forms.{evals, same, sumE}
 use Rattle.sequences.specs.Tab.{tab}
 use Rattle.floats.specs.Kernels.{Form, var, plus, minus, times}
 use Rattle.recipe.specs.Side.{cosAt}
 use Rattle.recipe.specs.Tables32.{cosines32, cosine32, side32}
 use Rattle.lines.specs.Halfcomplex.{frequencyOf, phaseOf, basisOf}
-use Rattle.lines.specs.Fold.{oddSumOf}
-use Rattle.lines.specs.DoubleForms.{floats, forms-are}
+use Rattle.lines.specs.Fold.{oddSumOf, everySecond}
+use Rattle.lines.specs.SecondPlaces.{second-most}
+use Rattle.lines.specs.Magnitudes.{longColumnMost}
+use Rattle.lines.specs.Doubles.{doubleLine}
+use Rattle.lines.specs.DoubleForms.{floats, inDouble, exprs, at, forms-within, forms-are}
 use Rattle.lines_back32.proofs.odd.Statement.{statement}
 use Rattle.lines_back32.proofs.odd.Tie as tie
 
@@ -62,9 +65,28 @@ results =
 abbrev read : List Float → List Float
 read t = floats results (λ k. cond (ltb k 16) (getD t k nan) (ofInt binary64 (pos 0)))
 
+-- they are the sums
+abbrev sums : List Expr
+sums = tab 16 (λ n. sumE 16 (λ k. ring.var k ⊠ con (basisOf side32 (2 * k + 1) n)))
+
+sums-same : T (same (exprs 16 results) sums)
+unfolding tab basisOf frequencyOf phaseOf cosAt side32 cosine32 cosines32
+sums-same = tt
+
+-- of every second place
+second : (p : ℕ) → p < 2 → (g : ℕ → ℤ) → ((k : ℕ) → natAbs (g k) ≤ longColumnMost false) → floats results (at (doubleLine 16 (everySecond p g))) ≡ inDouble (evals sums (nth (tab 16 (everySecond p g))))
+unfolding tab
+second zero h g most = forms-within 16 (everySecond 0 g) (λ k. cond (eqb (k % 2) 0) (longColumnMost false) 0) (second-most 0 g most) refl results sums tt sums-same
+second (suc zero) h g most = forms-within 16 (everySecond 1 g) (λ k. cond (eqb (k % 2) 1) (longColumnMost false) 0) (second-most 1 g most) refl results sums tt sums-same
+second (suc (suc p)) h g most = absurd (omega arith)
+
 returns : tie.Need-returns
 unfolding tab sumZ oddSumOf basisOf frequencyOf phaseOf cosAt side32 cosine32 cosines32 ofBits ofInt
-returns c z most e = ap read e ∙ forms-are 16 z most refl results (tab 16 (λ n. sumE 16 (λ k. ring.var k ⊠ con (basisOf side32 (2 * k + 1) n)))) tt tt
+returns c =
+    record {
+      low = λ z most e. ap read e ∙ forms-are 16 z most refl results sums tt sums-same;
+      second = λ p h g most e. ap read e ∙ second p h g most;
+    }
 
 pub odd-spec : {M : Type 1} → statement M
 odd-spec = tie.close (tie.spec

@@ -1,5 +1,5 @@
 -- `lines_back32::odd_of`: the odd places of row p, and their sum.
-use Rattle.algebra.specs.Prelude.{refl, _∙_, _+_, _-_, _*_, arith, needs, now, getD}
+use Rattle.algebra.specs.Prelude.{refl, _∙_, _+_, _-_, _*_, arith, needs, getD}
 use lib.Ieee.{nan}
 use Rattle.sequences.specs.TabLaws.{Filled, fill-start, fill-turn, fill-done}
 use Rattle.lines.specs.DoubleForms.{picked}
@@ -19,7 +19,7 @@ returns : tie.Need-returns Inv-loop μ-loop
 returns c z most e =
     let l = c .before .before in
     let p = l .before .args .p in
-    c .odd .ensures (λ k. z (4 * k + 2 + p)) (λ k. most (4 * k + 2 + p))
+    c .odd .ensures .low (λ k. z (4 * k + 2 + p)) (λ k. most (4 * k + 2 + p))
     (fill-done (l .loop .inv) (omega arith) ∙ picked 16 64 z e (λ k. 4 * k + 2 + p) (λ k. 4 * k + 2 + p) (λ k l. refl) (λ k l. omega arith))
 
 pub odd-of-spec : {M : Type 1} → statement M
