@@ -19,4 +19,5 @@ pub mod PlaceLaws
 pub mod CorrectionLaws
 pub mod FoldSizes
 pub mod LongPairs
+pub mod LongQuietLaws
 pub mod LongLines

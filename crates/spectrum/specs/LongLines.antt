@@ -1,10 +1,8 @@
 -- The laws of lines, folds and corrections that a pair of tiles of side 32 asks for (request L8), under the names that they have for side 16.
-use Rattle.algebra.specs.Prelude.{_≡_, refl, ap, _∙_, cond, List, ℕ, _+_, _-_, _*_, _/_, _%_, _^_, _≤_, _<_, arith, eqb, ltb, getD, ℤ, pos, natAbs, _*ℤ_}
-use native.Mathlib.Nat.{le-trans}
+use Rattle.algebra.specs.Prelude.{_≡_, refl, ap, _∙_, cond, List, ℕ, _+_, _-_, _*_, _%_, _^_, _≤_, _<_, arith, eqb, ltb, getD, ℤ, pos, natAbs, _*ℤ_}
 use Rattle.algebra.specs.Order.{abs-add, abs-sub, abs-mul-le}
 use Rattle.algebra.specs.Nearest.{away}
-use Rattle.algebra.specs.Sums.{sumZ, sumN}
-use Rattle.algebra.specs.SumLaws.{abs-sum, abs-sum-bound, sumN-mono}
+use Rattle.algebra.specs.SumLaws.{abs-sum-bound}
 use Rattle.sequences.specs.Tab.{tab}
 use Rattle.sequences.specs.TabLaws.{getD-tab}
 use Rattle.sequences.specs.Grid.{tab-ext}
@@ -13,10 +11,9 @@ use Rattle.recipe.specs.Tables32.{cosines32, cosine32, side32}
 use Rattle.recipe.specs.TableRules.{Rules}
 use Rattle.recipe.specs.TableLaws32.{rules32}
 use Rattle.recipe.specs.Correction.{correctionAt}
-use Rattle.lines.specs.Halfcomplex.{halfZ, basisOf, halfBasisOf, halfcomplexOf, backwardOf, halfSumOf}
-use Rattle.lines.specs.HalfSumLaws.{basis-most, half-basis-within, twice-half}
+use Rattle.lines.specs.Halfcomplex.{halfZ, basisOf, halfcomplexOf, backwardOf, halfSumOf}
+use Rattle.lines.specs.HalfSumLaws.{basis-most, twice-half}
 use Rattle.lines.specs.SideFolds.{line-ext}
-use Rattle.lines.specs.Magnitudes.{longColumnMost, longHalfMost}
 use Rattle.spectrum.specs.Spectrum.{twoWayOf, foldReOf, foldImOf, spreadOf, backSumOf, gainReOf, gainImOf, BinsHeld}
 use Rattle.spectrum.specs.Turns.{turns32}
 use Rattle.spectrum.specs.Apart.{cond-cases, side-cases}
@@ -30,20 +27,12 @@ module _ {s : Side} (r : Rules s) (b : ℕ) (f : ℕ → ℤ) (h : (i : ℕ) →
   unfolding halfcomplexOf
   side-halfcomplex-most k = abs-sum-bound (s .side) (b * 16384) (λ i. f i *ℤ basisOf s k i) (λ i l. abs-mul-le (f i) (basisOf s k i) (h i) (basis-most r k i))
 
-  side-backward-most : (n : ℕ) → natAbs (backwardOf s f n) ≤ s .side * (b * 16384)
-  unfolding backwardOf
-  side-backward-most n = abs-sum-bound (s .side) (b * 16384) (λ k. f k *ℤ basisOf s k n) (λ k l. abs-mul-le (f k) (basisOf s k n) (h k) (basis-most r k n))
-
 -- ---- lines of thirty-two
 
 module _ (b : ℕ) (f : ℕ → ℤ) (h : (i : ℕ) → natAbs (f i) ≤ b) where
   pub halfcomplex-most : (k : ℕ) → natAbs (halfcomplexOf side32 f k) ≤ 32 * (b * 16384)
   unfolding side32
   halfcomplex-most = side-halfcomplex-most rules32 b f h
-
-  pub backward-most : (n : ℕ) → natAbs (backwardOf side32 f n) ≤ 32 * (b * 16384)
-  unfolding side32
-  backward-most = side-backward-most rules32 b f h
 
 pub halfcomplex-ext : (f g : ℕ → ℤ) → ((i : ℕ) → i < 32 → f i ≡ g i) → (k : ℕ) → halfcomplexOf side32 f k ≡ halfcomplexOf side32 g k
 unfolding side32
@@ -55,12 +44,6 @@ halfcomplex-line f e = tab-ext 32 _ _ (λ k h. halfcomplex-ext _ f (λ i l. ap (
 pub half-sum : (z : ℕ → ℤ) (n : ℕ) → pos 2 *ℤ halfSumOf side32 z n ≡ backwardOf side32 (λ k. cond (eqb (k % 16) 0) (z k) (pos 2 *ℤ z k)) n
 unfolding halfZ cosAt side32 cosine32 cosines32
 half-sum = twice-half rules32 refl
-
-pub half-sum-most : (z : ℕ → ℤ) → ((k : ℕ) → natAbs (z k) ≤ longColumnMost) → (n : ℕ) → natAbs (halfSumOf side32 z n) ≤ longHalfMost
-unfolding halfSumOf side32 sumN
-half-sum-most z h n =
-    le-trans (abs-sum 32 (λ k. z k *ℤ halfBasisOf side32 k n))
-    (sumN-mono 32 (λ k. natAbs (z k *ℤ halfBasisOf side32 k n)) (λ k. longColumnMost * cond (eqb (k % 16) 0) 8192 16384) (λ k l. abs-mul-le (z k) (halfBasisOf side32 k n) (h k) (half-basis-within rules32 k n)))
 
 -- ---- tiles
 

@@ -1,20 +1,18 @@
 -- Inside the crates of the merge: two tiles of side 32 side by side (request L8), as Pairs has those of side 16.
-use Rattle.algebra.specs.Prelude.{_≡_, List, [], _∷_, ℕ, _+_, _*_, _≤_, _<_, arith, lit≤, getD, ℤ, pos, natAbs}
+use Rattle.algebra.specs.Prelude.{_≡_, List, ℕ, _+_, _*_, _≤_, _<_, lit≤, getD, ℤ, pos, natAbs}
 use native.Mathlib.Nat.{le-trans}
 use lib.Ieee.{Float, binary64, ofInt}
 use Rattle.sequences.specs.Tab.{tab}
 use Rattle.sequences.specs.Grid.{grid, cell}
 use Rattle.recipe.specs.Tables32.{side32}
 use Rattle.recipe.specs.Correction.{quantized, filtered}
-use Rattle.lines.specs.Magnitudes.{differenceMost}
-use Rattle.spectrum.specs.Magnitudes.{gainMost, longBinMost, longPairNoise, productMost}
-use Rattle.spectrum.specs.Spectrum.{transposed, tileReOf, tileImOf, twoWayOf, spreadOf, quadPlaces, twoBinsOf, gainReOf, gainImOf, foldedQuad}
+use Rattle.spectrum.specs.Magnitudes.{gainMost, longBinMost, longNoiseMost, productMost}
+use Rattle.spectrum.specs.Spectrum.{transposed, tileReOf, tileImOf, spreadOf, quadPlaces, twoBinsOf, gainReOf, gainImOf, foldedQuad}
 use Rattle.spectrum.specs.Pairs.{sideBySide}
 use Rattle.spectrum.specs.Turns.{turns32}
-use Rattle.spectrum.specs.SpectrumLaws.{bin-re-of, bin-im-of}
 use Rattle.spectrum.specs.QuadLaws.{quad-is-of, corner-is-of, bins-each-of}
 use Rattle.spectrum.specs.WienerLaws.{wiener-most}
-use Rattle.spectrum.specs.SideSizes.{part-within, long-quiet-re, long-quiet-im}
+use Rattle.spectrum.specs.SideSizes.{part-within}
 
 -- thirty-two rows of sixty-four
 pub record LongPaired {A : Type 0} (z : A) (t : List (List A)) : Type 0 where
@@ -42,34 +40,20 @@ pub record LongBinnedPair (b : List (List Float)) : Type 0 where
   pub second : LongBinned (plane 1)
   pub is : b ≡ longDoubles (sideBySide (λ p. transposed (plane p)))
 
--- the noise numbers of a pair that is worked out in double
-pub record LongPairNoise (first second : ℕ) : Type 0 where
-  pub first-above : 0 < first
-  pub second-above : 0 < second
-  pub first-most : first ≤ longPairNoise
-  pub second-most : second ≤ longPairNoise
-
 -- at the noise number V the quotients of the bins of the plane t can be taken in double
 pub record LongQuiet (noise : ℕ) (t : ℕ → ℕ → ℤ) : Type 0 where
   pub above : 0 < noise
-  pub most : noise ≤ longPairNoise
+  pub most : noise ≤ longNoiseMost
   pub binned : LongBinned t
   pub re : (u v : ℕ) → u < 32 → v < 17 → noise * natAbs (quantized side32 (tileReOf side32 t u v)) ≤ productMost
   pub im : (u v : ℕ) → u < 32 → v < 17 → noise * natAbs (quantized side32 (tileImOf side32 t u v)) ≤ productMost
 
--- so they are, whatever the differences, up to V = 2^25
-pub long-quiet-always : (d : ℕ → ℕ → ℤ) → ((y x : ℕ) → natAbs (d y x) ≤ differenceMost) → (noise : ℕ) → 0 < noise → noise ≤ longPairNoise → LongQuiet noise (twoWayOf side32 d)
-unfolding side32
-long-quiet-always d m noise above small =
-    record {
-      above = above;
-      most = small;
-      binned = record { re-most = λ u v h l. rw (bin-re-of turns32 d u v h l) (long-quiet-re d m noise small u v .most); im-most = λ u v h l. rw (bin-im-of turns32 d u v h l) (long-quiet-im d m noise small u v .most) };
-      re = λ u v h l. rw (bin-re-of turns32 d u v h l) (long-quiet-re d m noise small u v .product);
-      im = λ u v h l. rw (bin-im-of turns32 d u v h l) (long-quiet-im d m noise small u v .product);
-    }
+-- and those of both planes
+pub record LongQuietPair (first second : ℕ) (t : (p : ℕ) → ℕ → ℕ → ℤ) : Type 0 where
+  pub first-quiet : LongQuiet first (t 0)
+  pub second-quiet : LongQuiet second (t 1)
 
--- a part of G of such a bin
+-- a part of G of a bin of such a plane
 pub long-gain-most : (noise : ℕ) (b c : ℤ) → natAbs b ≤ longBinMost → natAbs (filtered side32 noise b c) ≤ gainMost
 unfolding filtered side32
 long-gain-most noise b c h = le-trans (wiener-most noise (quantized side32 b) (quantized side32 c)) (part-within side32 gainMost b (le-trans h (lit≤ tt)))

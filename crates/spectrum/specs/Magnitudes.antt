@@ -35,7 +35,7 @@ lowNoise = 2 ^ 33
 abbrev pub productMost : ℕ
 productMost = 2 ^ 49
 
--- V up to which that holds of any differences: a part of Q is at most 2^24
+-- V up to which that holds of any differences: a part of Q is at most 2^24, of either side
 abbrev pub alwaysNoise : ℕ
 alwaysNoise = 2 ^ 25
 
@@ -83,10 +83,6 @@ longRowMost = 2146959360
 abbrev pub longBinMost : ℕ
 longBinMost = 1591841547878400
 
--- V up to which two tiles are worked out in double: |Q| is at most 2^24 whatever the differences, so that V·|q| is at most productMost
-abbrev pub longPairNoise : ℕ
-longPairNoise = 2 ^ 25
-
--- a part of G at such a V: half the root of V
-abbrev pub longGainMost : ℕ
-longGainMost = 4096
+-- V up to which the inverse's last sums stay below 5·2^49
+abbrev pub longLowNoise : ℕ
+longLowNoise = 2 ^ 29

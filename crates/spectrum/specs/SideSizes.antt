@@ -1,6 +1,6 @@
 -- How large B and Q are by the sum of the magnitudes of a tile's differences, for any side whose factors are as small as `Factors` asks.
-use Rattle.algebra.specs.Prelude.{_≡_, sym, ap₂, _∙_, [], _∷_, ℕ, _+_, _*_, _%_, _^_, _≤_, _<_, arith, T, leb, lit≤, lit<, ℤ, natAbs, negℤ, _+ℤ_, _-ℤ_, _*ℤ_}
-use native.Mathlib.Nat.{le-refl, le-trans, mod-lt, mul-le-mul, mul-le-mul-left}
+use Rattle.algebra.specs.Prelude.{_≡_, sym, ap₂, _∙_, [], _∷_, ℕ, _*_, _%_, _≤_, _<_, arith, T, leb, lit<, ℤ, natAbs, negℤ, _+ℤ_, _-ℤ_, _*ℤ_}
+use native.Mathlib.Nat.{le-refl, le-trans, mod-lt}
 use lib.Dec.{leb→le}
 use Rattle.algebra.specs.Order.{abs-mul-le}
 use Rattle.algebra.specs.Vars.{vars5}
@@ -13,7 +13,6 @@ use Rattle.recipe.specs.Tables.{cosines, cosine16, sine16, side16}
 use Rattle.recipe.specs.Tables32.{cosines32, cosine32, sine32, side32}
 use Rattle.recipe.specs.Correction.{rowRe, rowIm, binRe, binIm, quantized}
 use Rattle.lines.specs.Magnitudes.{differenceMost}
-use Rattle.spectrum.specs.Magnitudes.{longBinMost, productMost, longPairNoise}
 use Rattle.spectrum.specs.RoundingLaws.{away-within}
 
 -- the sum of the magnitudes of n by n differences
@@ -103,33 +102,3 @@ part-within s n b h = away-within b (s .quantum) n (s .quantum-above) h
 pub distance-within : (s : Side) (d : ℕ → ℕ → ℤ) → ((y x : ℕ) → natAbs (d y x) ≤ differenceMost) → distanceOf s d ≤ s .side * (s .side * differenceMost)
 distance-within s d m =
     sumN-bound (s .side) (s .side * differenceMost) _ (λ y i. sumN-bound (s .side) differenceMost _ (λ x k. m y x))
-
--- ---- side 32: parts of B are at most longBinMost and those of Q at most 2^24, whatever the differences, so that quotients in double are right up to V = 2^25
-
--- what the Wiener step in double asks of a part of a bin
-pub record QuietPart (noise : ℕ) (b : ℤ) : Type 0 where
-  pub most : natAbs b ≤ longBinMost
-  pub product : noise * natAbs (quantized side32 b) ≤ productMost
-
-module _ (d : ℕ → ℕ → ℤ) (m : (y x : ℕ) → natAbs (d y x) ≤ differenceMost) where
-  far : factorMost * distanceOf side32 d ≤ 2 ^ 24 * 2 ^ 26
-  unfolding side32
-  far = le-trans (mul-le-mul-left factorMost (distance-within side32 d m)) (lit≤ tt)
-
-  module _ (b : ℤ) (h : natAbs b ≤ factorMost * distanceOf side32 d) where
-    long-bin-most : natAbs b ≤ longBinMost
-    long-bin-most = le-trans h (le-trans far (lit≤ tt))
-
-    long-part : natAbs (quantized side32 b) ≤ 2 ^ 24
-    unfolding side32
-    long-part = part-within side32 (2 ^ 24) b (le-trans h far)
-
-    long-quiet : (noise : ℕ) → noise ≤ longPairNoise → noise * natAbs (quantized side32 b) ≤ productMost
-    long-quiet noise l = le-trans (mul-le-mul l long-part) (lit≤ tt)
-
-  module _ (noise : ℕ) (l : noise ≤ longPairNoise) (u v : ℕ) where
-    pub long-quiet-re : QuietPart noise (binRe side32 d u v)
-    long-quiet-re = let h = re-far factors32 d u v in record { most = long-bin-most (binRe side32 d u v) h; product = long-quiet (binRe side32 d u v) h noise l }
-
-    pub long-quiet-im : QuietPart noise (binIm side32 d u v)
-    long-quiet-im = let h = im-far factors32 d u v in record { most = long-bin-most (binIm side32 d u v) h; product = long-quiet (binIm side32 d u v) h noise l }
