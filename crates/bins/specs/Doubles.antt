@@ -33,6 +33,17 @@ realGainBy k v w a =
     let q = quantizedBy k a in
     nearestWhole (mul binary64 q (div binary64 w (add binary64 (mul binary64 q q) v)))
 
+-- with quotients in whole numbers: one part of Q, from that part of B
+unfoldable pub wholeQuantizedBy : ℕ → Float → ℤ
+wholeQuantizedBy k b = toSigned 63 (quantizedBy k b)
+
+-- and both parts of G at a bin, from those of B
+unfoldable pub exactGainsBy : (k noise : ℕ) (a b : Float) → List Float
+exactGainsBy k noise a b =
+    let q = wholeQuantizedBy k a in
+    let r = wholeQuantizedBy k b in
+    ofInt binary64 (wiener noise q r) ∷ ofInt binary64 (wiener noise r q) ∷ []
+
 -- ---- for side 16
 
 abbrev pub quantizedIn : Float → Float
@@ -44,15 +55,8 @@ gainsIn = gainsBy 24
 abbrev pub realGainIn : (v w a : Float) → Float
 realGainIn = realGainBy 24
 
--- ---- with quotients in whole numbers
+abbrev pub wholeQuantized : Float → ℤ
+wholeQuantized = wholeQuantizedBy 24
 
--- one part of Q, from that part of B
-unfoldable pub wholeQuantized : Float → ℤ
-wholeQuantized b = toSigned 63 (quantizedIn b)
-
--- both parts of G at a bin, from those of B
-unfoldable pub exactGainsIn : (noise : ℕ) (a b : Float) → List Float
-exactGainsIn noise a b =
-    let q = wholeQuantized a in
-    let r = wholeQuantized b in
-    ofInt binary64 (wiener noise q r) ∷ ofInt binary64 (wiener noise r q) ∷ []
+abbrev pub exactGainsIn : (noise : ℕ) (a b : Float) → List Float
+exactGainsIn = exactGainsBy 24

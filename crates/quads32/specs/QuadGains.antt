@@ -14,7 +14,7 @@ use Rattle.spectrum.specs.Magnitudes.{longBinMost, gainMost}
 use Rattle.spectrum.specs.Spectrum.{spreadOf, quadPlaces, byKind, twoBinsOf, foldedQuad, gainReOf, gainImOf}
 use Rattle.spectrum.specs.LongPairs.{LongBinned, long-gain-most, long-quad-is, long-corner-is, long-bins-each}
 use Rattle.spectrum.specs.QuadLaws.{four, four-each}
-use Rattle.quads.specs.Lanes.{numberOf, binsIn, foldedIn, cornerIn, foldIn, quadIn}
+use Rattle.quads.specs.Lanes.{numberOf, binsIn, foldedIn, cornerIn, foldIn, quadIn, WholeBinsOf}
 use Rattle.quads.specs.QuadGains.{double, quad-corner, quad-others, folded-is, half, number-of}
 
 bins-four : (t : ℕ → ℕ → ℤ) (k u : ℕ) → length (twoBinsOf side32 t k u) ≡ 4
@@ -42,6 +42,16 @@ module _ (t : ℕ → ℕ → ℤ) (binned : LongBinned t) where
       let b = half (t (16 + suc k) (suc u)) (t (suc k) (16 + suc u)) (bin 3) (subst (λ z. natAbs z ≤ longBinMost) (+ℤ-comm (t (suc k) (16 + suc u)) (t (16 + suc k) (suc u))) (bin 1)) in
       floats-wholes binary64 (quadPlaces side32 t (suc k) (suc u)) (four-each (λ z. natAbs z ≤ longBinMost) _ _ _ _ zero-le (a .0) (b .1) (b .0) (a .1))
       (minus (var 0) (var 3) ∷ plus (var 1) (var 2) ∷ plus (var 0) (var 3) ∷ minus (var 2) (var 1) ∷ []) tt
+
+  pub whole-bins : (k u : ℕ) → k < 16 → u < 16 → WholeBinsOf longBinMost k u (map double (quadPlaces side32 t k u))
+  whole-bins k u h l =
+      record {
+        at = λ i j. record {
+          number = Bin k u i;
+          most = bins-small k u h l i;
+          is = ap (λ q. numberOf q i) (bins-are k u h l) ∙ number-of (twoBinsOf side32 t k u) i (omega (arith, bins-four t k u));
+        };
+      }
 
   -- ---- G, by any functions that give its longDoubles at the bins, where P holds
 
