@@ -1,8 +1,8 @@
--- Sums of sixteen magnitudes of differences, one for each column of a pair of tiles.
+-- Sums of magnitudes of differences, one for each column of a pair of tiles.
 use Rattle.algebra.specs.Prelude.{List, ℕ, _*_, _≤_, getD}
 use Rattle.lines.specs.Magnitudes.{differenceMost}
 
--- all sixteen: these fit 16 bits
+-- sixteen of them: these fit 16 bits
 abbrev pub columnMost : ℕ
 columnMost = 16 * differenceMost
 

@@ -27,7 +27,7 @@ const LOW_NOISE: u64 = 8589934592;
 const PRODUCT_MOST: u64 = 562949953421312;
 
 // |d|
-fn magnitude(d: i16) -> u16
+pub fn magnitude(d: i16) -> u16
     requires { ⌜ AtMost differenceMost d ⌝ }
     ensures { λ r. ⌜ (r ≡ natAbs d) × (r ≤ differenceMost) ⌝ }
 {
@@ -80,7 +80,7 @@ fn near(noise: u64, s: u64) -> bool
 }
 
 // The larger of two.
-fn larger(a: u64, b: u64) -> u64
+pub fn larger(a: u64, b: u64) -> u64
     ensures { λ r. ⌜ (a ≤ r) × (b ≤ r) ⌝ }
 {
     if a < b {

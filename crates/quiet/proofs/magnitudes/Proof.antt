@@ -1,31 +1,31 @@
 -- `quiet::magnitudes`: the rows are added one after the other.
 use Rattle.algebra.specs.Prelude.{refl, _-_, arith, needs}
 use Rattle.sequences.specs.Tab.{tab}
-use Rattle.quiet.proofs.Distances.{Added, added-start, added-long, added-most, added-turn, added-done}
+use Rattle.quiet.specs.MagnitudeSums.{Added, added-start, added-long, added-most, added-turn, added-done}
 use Rattle.quiet.proofs.magnitudes.Statement.{statement}
 use Rattle.quiet.proofs.magnitudes.Tie as tie
 
 abbrev Inv-loop : tie.InvT-loop
-Inv-loop d sum₀ y₀ sum y = Added d y sum
+Inv-loop d sum₀ y₀ sum y = Added 16 d y sum
 
 abbrev μ-loop : tie.MeasureT-loop
 μ-loop d sum₀ y₀ sum y = 16 - y
 
 loop-holds : tie.Need-loop-holds Inv-loop μ-loop
 unfolding tab
-loop-holds c = added-start refl
+loop-holds c = added-start 16 refl
 
 add-magnitudes-requires : tie.Need-add-magnitudes-requires Inv-loop μ-loop
 add-magnitudes-requires c κs =
     let l = c .before .before .before in
     let m = l .before .pre in
-    record { differences = m .line (l .loop .y); sums = added-most (l .loop .inv) m _ (omega arith); long = added-long (l .loop .inv) }
+    record { differences = m .line (l .loop .y); sums = added-most 16 (l .loop .inv) m _ (omega arith); long = added-long 16 (l .loop .inv) }
 
 loop-again : tie.Need-loop-again Inv-loop μ-loop
-loop-again c = added-turn (c .before .before .before .before .loop .inv) (omega arith) (c .add-magnitudes .ensures)
+loop-again c = added-turn 16 (c .before .before .before .before .loop .inv) (omega arith) (c .add-magnitudes .ensures)
 
 returns : tie.Need-returns Inv-loop μ-loop
-returns c = added-done (c .before .loop .inv) (omega arith)
+returns c = added-done 16 (c .before .loop .inv) (omega arith)
 
 pub magnitudes-spec : {M : Type 1} → statement M
 magnitudes-spec = tie.close (tie.spec
