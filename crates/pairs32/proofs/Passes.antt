@@ -1,5 +1,5 @@
 -- The two passes of the transform, and those of the inverse, on a pair.
-use Rattle.algebra.specs.Prelude.{_≡_, sym, ap, subst, _∙_, List, [], ℕ, suc, _+_, _*_, _/_, _%_, _^_, _≤_, arith, lit<, lit≤, ℤ, pos, negsuc, natAbs, negℤ, _+ℤ_, _*ℤ_}
+use Rattle.algebra.specs.Prelude.{_≡_, sym, ap, subst, _∙_, Bool, true, false, List, [], ℕ, suc, _+_, _*_, _/_, _%_, _^_, _≤_, arith, lit<, lit≤, ℤ, pos, negsuc, natAbs, negℤ, _+ℤ_, _*ℤ_}
 use Prim.Native.Nat.{zero-le}
 use native.Mathlib.Nat.{le-trans}
 use lib.Ieee.{Float, binary64, ofInt}
@@ -9,6 +9,7 @@ use Rattle.sequences.specs.Grid.{grid, cell, cell-grid, grid-ext}
 use Rattle.algebra.specs.Nearest.{away}
 use Rattle.algebra.specs.NearestLaws.{away-odd}
 use Rattle.lines.specs.Halfcomplex.{halfcomplexOf, backwardOf, halfSumOf}
+use Rattle.lines.specs.BackSizes.{long-backward-most}
 use Rattle.lines.specs.Magnitudes.{differenceMost, longLineMost, longFoldMost, longColumnMost}
 use Rattle.lines.specs.Lines.{LineMost, TileMost}
 use Rattle.lines.specs.Tiles.{line-most}
@@ -16,7 +17,7 @@ use Rattle.recipe.specs.Tables32.{side32}
 use Rattle.spectrum.specs.Spectrum.{twoWayOf, transposed, backSumOf, apartOf, countedOf}
 use Rattle.spectrum.specs.Pairs.{planeIn, sideBySide}
 use Rattle.spectrum.specs.LongPairs.{LongInDouble, longDoubles}
-use Rattle.spectrum.specs.LongLines.{half-sum, columns-first, halfcomplex-ext, halfcomplex-most, backward-most}
+use Rattle.spectrum.specs.LongLines.{half-sum, columns-first, halfcomplex-ext, halfcomplex-most}
 
 -- a pair of small numbers
 pub pair-most : (b : ℕ) (f : ℕ → ℕ → ℤ) → ((k l : ℕ) → natAbs (f k l) ≤ b) → TileMost b (grid 32 64 f)
@@ -51,11 +52,18 @@ away-half (negsuc a) b e =
     ap (λ n. negℤ (pos n)) (halved (suc a)) ∙ sym (away-odd (pos (2 * suc a)) (2 ^ 32) (lit< tt)) ∙ ap (λ b. away b (2 ^ 32)) e
 
 -- the sums back down the columns
-abbrev pub columns-whole : {g a : List (List Float)} → ((w : LongInDouble longFoldMost g) → a ≡ longDoubles (λ y l. backwardOf side32 (λ b. w .number b l) y)) → LongInDouble longFoldMost g → LongInDouble longColumnMost a
-columns-whole f w = record {
+pub fold-most : (low : Bool) (n : ℕ) → n ≤ longFoldMost low → n ≤ longFoldMost false
+fold-most true n h = omega (arith, h)
+fold-most false n h = h
+
+abbrev pub any-fold : (low : Bool) {g : List (List Float)} → LongInDouble (longFoldMost low) g → LongInDouble (longFoldMost false) g
+any-fold low w = record { number = w .number; most = λ y l. fold-most low (natAbs (w .number y l)) (w .most y l); is = w .is }
+
+abbrev pub columns-whole : (low : Bool) {g a : List (List Float)} → ((w : LongInDouble (longFoldMost false) g) → a ≡ longDoubles (λ y l. backwardOf side32 (λ b. w .number b l) y)) → LongInDouble (longFoldMost low) g → LongInDouble (longColumnMost low) a
+columns-whole low f w = record {
   number = λ y l. backwardOf side32 (λ b. w .number b l) y;
-  most = λ y l. backward-most longFoldMost (λ b. w .number b l) (λ b. w .most b l) y;
-  is = f w;
+  most = λ y l. long-backward-most (λ b. w .number b l) (λ b. w .most b l) y;
+  is = f (any-fold low w);
 }
 
 -- and P of their halves along the rows, added to the tile t

@@ -1,7 +1,7 @@
 // The first pass of the inverse, down the columns of a pair of folded spectra, in place.
 ghost use mathlib.Core.Path.{_≡_};
 ghost use Rattle.recipe.specs.Tables32.{side32};
-ghost use mathlib.Core.Bool.{cond};
+ghost use mathlib.Core.Bool.{false, cond};
 ghost use Prim.Native.Nat.{_<_};
 ghost use lib.Dec.{eqb};
 ghost use lib.ListN.{getD};
@@ -37,7 +37,7 @@ fn set_column(t: &mut [[f64; 64]; 32], l: usize, z: &[f64; 32])
 // g: the sums back down each column.
 pub fn back(g: &mut [[f64; 64]; 32])
     requires { ⌜ LongPaired nan (now g) ⌝ }
-    ensures { λ _. ⌜ ((w : LongInDouble longFoldMost (now (g .entry))) → now (g .exit) ≡ longDoubles (λ y l. backwardOf side32 (λ b. w .number b l) y)) ⌝ }
+    ensures { λ _. ⌜ ((w : LongInDouble (longFoldMost false) (now (g .entry))) → now (g .exit) ≡ longDoubles (λ y l. backwardOf side32 (λ b. w .number b l) y)) ⌝ }
 {
     for l in 0..64 {
         let c = column(&*g, l);

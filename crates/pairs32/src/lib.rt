@@ -4,8 +4,12 @@ mod columns_back;
 mod rows;
 mod rows_back;
 
+use exact_wiener32::filter_exactly;
+use quiet32::low_noise;
+use quiet32::quotients_in_double;
 use wiener32::filter;
 ghost use mathlib.Core.Path.{_≡_};
+ghost use mathlib.Core.Bool.{true};
 ghost use Prim.Native.Nat.{_/_, _%_, _^_, _≤_};
 ghost use lib.IntN.{pos, _+ℤ_};
 ghost use Rattle.algebra.specs.Nearest.{away};
@@ -14,10 +18,10 @@ ghost use Rattle.recipe.specs.Tables32.{side32};
 ghost use Rattle.recipe.specs.Correction.{correctionAt};
 ghost use Rattle.lines.specs.Magnitudes.{differenceMost, longFoldMost};
 ghost use Rattle.lines.specs.Lines.{TileMost};
-ghost use Rattle.spectrum.specs.Magnitudes.{longPairNoise};
+ghost use Rattle.spectrum.specs.Magnitudes.{longNoiseMost};
 ghost use Rattle.spectrum.specs.Spectrum.{twoWayOf, transposed, spreadOf, gainReOf, gainImOf, backSumOf};
 ghost use Rattle.spectrum.specs.Pairs.{planeIn, sideBySide, either};
-ghost use Rattle.spectrum.specs.LongPairs.{LongPaired, LongPairNoise, LongInDouble, LongBinnedPair, LongQuiet, longDoubles};
+ghost use Rattle.spectrum.specs.LongPairs.{LongPaired, LongInDouble, LongBinnedPair, LongQuietPair, longDoubles};
 
 // B of both planes, in exact whole numbers.
 pub fn forward(d: [[i16; 64]; 32]) -> [[f64; 64]; 32]
@@ -31,30 +35,36 @@ pub fn forward(d: [[i16; 64]; 32]) -> [[f64; 64]; 32]
     b
 }
 
-// Q and G of both planes at their noise numbers.
-pub fn wiener(mut b: [[f64; 64]; 32], first: u64, second: u64) -> [[f64; 64]; 32]
-    requires { ⌜ record { binned : LongBinnedPair b; first-most : first ≤ longPairNoise; second-most : second ≤ longPairNoise } ⌝ }
-    ensures { λ r. ⌜ ((w : LongBinnedPair b) → LongQuiet first (w .plane 0) → LongQuiet second (w .plane 1) → r ≡ longDoubles (sideBySide (λ p. transposed (spreadOf side32 (gainReOf side32 (either first second p) (w .plane p)) (gainImOf side32 (either first second p) (w .plane p)))))) ⌝ }
+// Q and G of both planes at their noise numbers, with quotients in double where both planes are quiet, and else in whole numbers.
+pub fn wiener(mut b: [[f64; 64]; 32], first: u64, second: u64, quiet: bool) -> [[f64; 64]; 32]
+    requires { ⌜ record { binned : LongBinnedPair b; first-most : first ≤ longNoiseMost; second-most : second ≤ longNoiseMost } ⌝ }
+    ensures { λ r. ⌜ ((w : LongBinnedPair b) → (quiet ≡ true → LongQuietPair first second (w .plane)) → r ≡ longDoubles (sideBySide (λ p. transposed (spreadOf side32 (gainReOf side32 (either first second p) (w .plane p)) (gainImOf side32 (either first second p) (w .plane p)))))) ⌝ }
 {
-    filter(&mut b, first, second);
+    if quiet {
+        filter(&mut b, first, second);
+        return b;
+    }
+    filter_exactly(&mut b, first, second);
     b
 }
 
-// P of both planes is added to their sums.
-pub fn add_inverse(mut g: [[f64; 64]; 32], sum: &mut [[i64; 64]; 32])
-    requires { ⌜ record { whole : LongInDouble longFoldMost g; sums-most : TileMost (2 ^ 40) (now sum); paired : LongPaired (pos 0) (now sum) } ⌝ }
-    ensures { λ _. ⌜ ((w : LongInDouble longFoldMost g) → now (sum .exit) ≡ grid 32 64 (λ y l. cell (pos 0) (now (sum .entry)) y l +ℤ away (backSumOf side32 (transposed (planeIn (w .number) (l % 2))) y (l / 2)) (2 ^ 32))) ⌝ }
+// P of both planes is added to their sums; `low` where both noise numbers are.
+pub fn add_inverse(mut g: [[f64; 64]; 32], low: bool, sum: &mut [[i64; 64]; 32])
+    requires { ⌜ record { whole : LongInDouble (longFoldMost low) g; sums-most : TileMost (2 ^ 40) (now sum); paired : LongPaired (pos 0) (now sum) } ⌝ }
+    ensures { λ _. ⌜ ((w : LongInDouble (longFoldMost low) g) → now (sum .exit) ≡ grid 32 64 (λ y l. cell (pos 0) (now (sum .entry)) y l +ℤ away (backSumOf side32 (transposed (planeIn (w .number) (l % 2))) y (l / 2)) (2 ^ 32))) ⌝ }
 {
     columns_back::back(&mut g);
-    rows_back::add_back(&g, &mut *sum);
+    rows_back::add_back(&g, low, &mut *sum);
 }
 
-// P of both planes of a pair of tiles of differences, at noise numbers that doubles serve, is added to their sums.
-pub fn add_in_double(d: &[[i16; 64]; 32], first: u64, second: u64, sum: &mut [[i64; 64]; 32])
-    requires { ⌜ record { differences : TileMost differenceMost (now d); noises : LongPairNoise first second; sums-most : TileMost (2 ^ 40) (now sum); paired : LongPaired (pos 0) (now sum) } ⌝ }
+// P of both planes of a pair of tiles of differences, at their noise numbers, is added to their sums.
+pub fn add_corrections(d: &[[i16; 64]; 32], first: u64, second: u64, sum: &mut [[i64; 64]; 32])
+    requires { ⌜ record { differences : TileMost differenceMost (now d); first-most : first ≤ longNoiseMost; second-most : second ≤ longNoiseMost; sums-most : TileMost (2 ^ 40) (now sum); paired : LongPaired (pos 0) (now sum) } ⌝ }
     ensures { λ _. ⌜ now (sum .exit) ≡ grid 32 64 (λ y l. cell (pos 0) (now (sum .entry)) y l +ℤ correctionAt side32 (either first second (l % 2)) (planeIn (cell (pos 0) (now (d .entry))) (l % 2)) y (l / 2)) ⌝ }
 {
+    let quiet = quotients_in_double(d, first, second);
+    let low = low_noise(first, second);
     let b = forward(*d);
-    let g = wiener(b, first, second);
-    add_inverse(g, &mut *sum);
+    let g = wiener(b, first, second, quiet);
+    add_inverse(g, low, &mut *sum);
 }

@@ -9,7 +9,7 @@ ghost use Prim.Native.Nat.{ℕ, _+_, _*_, _%_, _≤_, _<_};
 ghost use lib.IntN.{ℤ};
 ghost use lib.Ieee.{nan};
 ghost use Rattle.sequences.specs.Tab.{tab};
-ghost use Rattle.spectrum.specs.Magnitudes.{longPairNoise};
+ghost use Rattle.spectrum.specs.Magnitudes.{longNoiseMost};
 ghost use Rattle.spectrum.specs.Spectrum.{transposed, spreadOf, gainReOf, gainImOf};
 ghost use Rattle.recipe.specs.Tables32.{side32};
 ghost use Rattle.spectrum.specs.Pairs.{sideBySide, either};
@@ -112,7 +112,7 @@ fn alternating(a: f64, b: f64) -> [f64; 32]
 
 // G of two planes at their noise numbers, folded, in the place of B.
 pub fn filter(b: &mut [[f64; 64]; 32], first: u64, second: u64)
-    requires { ⌜ record { paired : LongPaired nan (now b); first-most : first ≤ longPairNoise; second-most : second ≤ longPairNoise } ⌝ }
+    requires { ⌜ record { paired : LongPaired nan (now b); first-most : first ≤ longNoiseMost; second-most : second ≤ longNoiseMost } ⌝ }
     ensures { λ _. ⌜ record { paired : LongPaired nan (now (b .exit)); is : (t : ℕ → ℕ → ℕ → ℤ) → LongQuiet first (t 0) → LongQuiet second (t 1) → now (b .entry) ≡ longDoubles (sideBySide (λ p. transposed (t p))) → now (b .exit) ≡ longDoubles (sideBySide (λ p. transposed (spreadOf side32 (gainReOf side32 (either first second p) (t p)) (gainImOf side32 (either first second p) (t p))))) } ⌝ }
 {
     let v = alternating(first as f64, second as f64);

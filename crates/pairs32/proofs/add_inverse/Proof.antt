@@ -14,13 +14,13 @@ add-back-requires : tie.Need-add-back-requires
 add-back-requires c κs =
     let a = c .before .before in
     let s = a .before .before in
-    record { whole = columns-whole (a .back .ensures) (s .pre .whole); sums-most = s .pre .sums-most; paired = s .pre .paired }
+    record { whole = columns-whole (s .args .low) (a .back .ensures) (s .pre .whole); sums-most = s .pre .sums-most; paired = s .pre .paired }
 
 returns : tie.Need-returns
 returns c w =
     let a = c .before .before .before in
     let s = a .before .before in
-    c .add-back .ensures (columns-whole (a .back .ensures) w) ∙ back-is (w .number) (now (s .args .sum))
+    c .add-back .ensures (columns-whole (s .args .low) (a .back .ensures) w) ∙ back-is (w .number) (now (s .args .sum))
 
 pub add-inverse-spec : {M : Type 1} → statement M
 add-inverse-spec = tie.close (tie.spec back-requires add-back-requires returns)

@@ -1,6 +1,6 @@
 -- `pairs32::columns_back::back`: each column is read, and its sums stored in its place.
 use Rattle.recipe.specs.Tables32.{side32}
-use Rattle.algebra.specs.Prelude.{_∙_, _-_, arith, needs}
+use Rattle.algebra.specs.Prelude.{false, _∙_, _-_, arith, needs}
 use lib.Ieee.{nan, binary64, ofInt}
 use Rattle.lines.specs.Halfcomplex.{backwardOf}
 use Rattle.lines.specs.Magnitudes.{longFoldMost}
@@ -10,7 +10,7 @@ use Rattle.pairs32.proofs.columns_back.back.Statement.{statement}
 use Rattle.pairs32.proofs.columns_back.back.Tie as tie
 
 abbrev Inv-loop : tie.InvT-loop
-Inv-loop g₀ l₀ g l = ColumnsSet nan {H = LongInDouble longFoldMost g₀} (λ w y l. ofInt binary64 (backwardOf side32 (λ b. w .number b l) y)) l g₀ g
+Inv-loop g₀ l₀ g l = ColumnsSet nan {H = LongInDouble (longFoldMost false) g₀} (λ w y l. ofInt binary64 (backwardOf side32 (λ b. w .number b l) y)) l g₀ g
 
 abbrev μ-loop : tie.MeasureT-loop
 μ-loop g₀ l₀ g l = 64 - l

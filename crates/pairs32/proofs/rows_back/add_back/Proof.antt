@@ -16,11 +16,11 @@ use Rattle.pairs32.proofs.rows_back.add_back.Statement.{statement}
 use Rattle.pairs32.proofs.rows_back.add_back.Tie as tie
 
 abbrev Inv-loop : tie.InvT-loop
-Inv-loop h sum₀ y₀ sum y =
-    RowsSet {H = LongInDouble longColumnMost h} (λ w y. tab 64 (λ l. cell (pos 0) sum₀ y l +ℤ away (halfSumOf side32 (planeIn (w .number) (l % 2) y) (l / 2)) (2 ^ 31))) y sum₀ sum
+Inv-loop h low sum₀ y₀ sum y =
+    RowsSet {H = LongInDouble (longColumnMost low) h} (λ w y. tab 64 (λ l. cell (pos 0) sum₀ y l +ℤ away (halfSumOf side32 (planeIn (w .number) (l % 2) y) (l / 2)) (2 ^ 31))) y sum₀ sum
 
 abbrev μ-loop : tie.MeasureT-loop
-μ-loop h sum₀ y₀ sum y = 16 - y
+μ-loop h low sum₀ y₀ sum y = 16 - y
 
 add-line-requires : tie.Need-add-line-requires Inv-loop μ-loop
 add-line-requires c κs =
@@ -38,7 +38,7 @@ add-line-requires-2 c κs =
     let a = c .before .before in
     let l = a .before .before .before .before in
     let y = l .loop .y in
-    let e = rows-second (l .loop .inv) (omega arith) (a .add-line .last .1 .0) in
+    let e = rows-second (l .loop .inv) (omega arith) (a .add-line .last .1 .1 .0) in
     record {
       whole = whole-row (l .before .pre .whole) (16 + y) (omega arith);
       sums-most = subst (LineMost (2 ^ 40)) (sym e) (l .before .pre .sums-most .line (16 + y));
@@ -53,7 +53,7 @@ loop-again c =
     let y = l .loop .y in
     rows-turn (l .loop .inv) (omega arith)
     (λ w. a .add-line .ensures (whole-row w y (omega arith)) ∙ added-to _ (rows-first (l .loop .inv) (omega arith)))
-    (λ w. c .add-line2 .ensures (whole-row w (16 + y) (omega arith)) ∙ added-to _ (rows-second (l .loop .inv) (omega arith) (a .add-line .last .1 .0)))
+    (λ w. c .add-line2 .ensures (whole-row w (16 + y) (omega arith)) ∙ added-to _ (rows-second (l .loop .inv) (omega arith) (a .add-line .last .1 .1 .0)))
 
 returns : tie.Need-returns Inv-loop μ-loop
 unfolding grid

@@ -5,8 +5,9 @@ use Rattle.algebra.specs.Bound.{AtMost}
 use Rattle.sequences.specs.TabLaws.{Filled, fill-start, fill-turn, fill-rest, fill-done}
 use Rattle.sequences.specs.Grid.{tab-ext}
 use Rattle.lines.specs.Held.{line-at}
-use Rattle.pairs32.specs.Whole.{roundedDouble}
-use Rattle.pairs32.proofs.Rounding.{rounded-is, whole-at, more-fits, more-is}
+use Rattle.pairs32.specs.Rounded.{roundedDouble}
+use Rattle.lines.specs.DoubleCasts.{whole-at}
+use Rattle.pairs32.proofs.Rounding.{rounded-is, more-fits, more-is}
 use Rattle.pairs32.proofs.rows_back.add_row.Statement.{statement}
 use Rattle.pairs32.proofs.rows_back.add_row.Tie as tie
 use Rattle.pairs32.proofs.rows_back.add_row.Reads as reads
