@@ -7,7 +7,7 @@ use Rattle.gather.specs.declared.Span.{Span}
 use Rattle.geometry.specs.declared.Shape.{Shape}
 use Rattle.tiles.specs.Rows.{rowWords}
 use Rattle.gather.specs.Gather.{weightRow, windowed, corrected, startOf, wordOver}
-use Rattle.gather.specs.Work.{Weighed, rowSpan, further, Over, wordFrom}
+use Rattle.gather.specs.Work.{Words, Weighed, rowSpan, further, Over, wordFrom}
 use Rattle.gather.proofs.Weighing.{words-later}
 
 module _ (samples : List ℕ) (work : List ℤ) (p : Span) (count column : ℕ) where
@@ -16,7 +16,7 @@ module _ (samples : List ℕ) (work : List ℤ) (p : Span) (count column : ℕ) 
   start-further (suc u) = refl
 
   word-further : (l : ℕ) → l < 16 → (t : ℕ) → wordOver work (further p column) l t ≡ wordOver work p (16 * column + l) t
-  unfolding wordOver side16
+  unfolding wordOver
   word-further l h t = ap (λ n. getD work n (pos 0)) (omega (arith, start-further (t / 2)))
 
   -- the word at place l of a block
@@ -34,15 +34,20 @@ module _ (samples : List ℕ) (work : List ℤ) (p : Span) (count column : ℕ) 
       subst (λ k. Writing d (p .start) (wordFrom samples work p count) n k o) (omega arith)
       (write-part w room block-word (is ∙ ap (λ q. written r (q .start) (wordFrom samples work q count) 16) e))
 
--- the pairs over a block of a row
-pub block-weighed : {work lower upper : List ℤ} (s : Shape) (reference rowParity y column : ℕ) → Over work (s .width) y → lower ≡ weightRow (y % 8) → upper ≡ weightRow (y % 8 + 8) → column < s .width / 16
-    → Weighed work (further (rowSpan s reference rowParity y) column) lower upper
+-- the words over a block of a row
+pub block-weighed : {work lower upper : List ℤ} (s : Shape) (reference rowParity y top column : ℕ) → Over work (s .width) y → lower ≡ weightRow (y % 8) → upper ≡ weightRow (y % 8 + 8) → column < s .width / 16
+    → Weighed work (further (rowSpan s reference rowParity y top) column) lower upper
 unfolding rowSpan rowWords
-block-weighed s reference rowParity y column over lower upper h =
+block-weighed {work} s reference rowParity y top column over lower upper h =
     record {
-      upper-words = words-later (512 * column) 1024 (over .above) (omega arith);
-      lower-words = words-later (512 * column) 1024 (over .below) (omega arith);
+      lower-later = words (over .below) (16 * (y % 8) + 512 * column) (omega arith) (omega arith);
+      lower-earlier = words (over .below) (16 * (y % 8) + 512 * column + 256) (omega arith) (omega arith);
+      upper-later = words (over .above) (16 * (y % 8 + 8) + 512 * column) (omega arith) (omega arith);
+      upper-earlier = words (over .above) (16 * (y % 8 + 8) + 512 * column + 256) (omega arith) (omega arith);
       lower-weights = lower;
       upper-weights = upper;
       row = omega arith;
     }
+  where
+    words : {at there : ℕ} → Words work at (rowWords 16 (s .width)) → (k : ℕ) → k + 16 ≤ 32 * s .width → at + k ≡ there → Words work there 16
+    words w k b e = subst (λ n. Words work n 16) e (words-later k 16 w b)

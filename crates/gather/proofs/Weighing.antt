@@ -1,5 +1,5 @@
 -- Weights, words that are weighed, and the windowed sum of the four tiles over a sample, term by term.
-use Rattle.algebra.specs.Prelude.{_≡_, subst, ap, _∙_, List, ℕ, _+_, _*_, _/_, _%_, _≤_, _<_, arith, set, getD}
+use Rattle.algebra.specs.Prelude.{_≡_, sym, subst, ap, _∙_, List, ℕ, _+_, _*_, _/_, _%_, _≤_, _<_, arith, set, getD}
 use native.Mathlib.Nat.{mul-le-mul}
 use lib.Dec.{leb, leb→le}
 use lib.IntN.{ℤ, pos, natAbs, _+ℤ_, _*ℤ_, +ℤ-idl}
@@ -35,10 +35,7 @@ weights-turn i j {l} {r} {v} w h e =
     subst (λ n. Filled (weightOf i) 32 n l (set (set r (2 * j) v) (2 * j + 1) v)) (omega arith)
     (fill-turn (fill-turn w (omega arith) (e ∙ ap (λ k. pos (window16 i * window16 k)) first)) (omega arith) (e ∙ ap (λ k. pos (window16 i * window16 k)) second))
 
--- fewer words from the same place on, and from a later one on
-pub words-fewer : {work : List ℤ} {at n : ℕ} (m : ℕ) → Words work at n → m ≤ n → Words work at m
-words-fewer m w h = record { room = omega (arith, w .room); most = λ k l. w .most k (omega arith) }
-
+-- words from a later place on
 pub words-later : {work : List ℤ} {at n : ℕ} (k m : ℕ) → Words work at n → k + m ≤ n → Words work (at + k) m
 words-later {work} {at} k m w h =
     record {
@@ -46,39 +43,52 @@ words-later {work} {at} k m w h =
       most = λ j l. subst (λ p. natAbs (getD work p (pos 0)) ≤ takenMost) (omega arith) (w .most (k + j) (omega arith));
     }
 
--- what a pair of tiles whose words start at `start` has at its row i and place l, weighed
-abbrev pub term : List ℤ → (start i l : ℕ) → ℤ
-term work start i l = weightOf i l *ℤ getD work (start + (32 * i + l)) (pos 0)
+-- a weight of a row of weights
+pub weight-is : (i l : ℕ) {weights : List ℤ} → weights ≡ weightRow i → l < 32 → getD weights l (pos 0) ≡ weightOf i l
+weight-is i l e h = ap (λ w. getD w l (pos 0)) e ∙ weight-at i l h
 
-module _ (work : List ℤ) (p : Span) (l : ℕ) (h : l < 16) where
-  abbrev i : ℕ
-  i = p .i
+pub weight-small : (i l : ℕ) {weights : List ℤ} → weights ≡ weightRow i → i < 16 → l < 32 → natAbs (getD weights l (pos 0)) ≤ weightMost
+weight-small i l e h k = subst (λ z. natAbs z ≤ weightMost) (sym (weight-is i l e k)) (weight-most i (l / 2) h (omega arith))
 
-  abbrev above : ℕ
-  above = p .above
-
-  abbrev below : ℕ
-  below = p .below
-
-  pub windowed-four : {a b c d : ℤ} → a ≡ term work (below + 512) i l → b ≡ term work below i (l + 16) → c ≡ term work (above + 512) (i + 8) l → d ≡ term work above (i + 8) (l + 16)
-      → a +ℤ b +ℤ c +ℤ d ≡ windowed side16 i (l / 2) (wordOver work p l)
+module _ (work : List ℤ) (p : Span) (l : ℕ) (h : l < 16) {lower upper : List ℤ} (lower-is : lower ≡ weightRow (p .i)) (upper-is : upper ≡ weightRow (p .i + 8)) where
+  pub windowed-four : {a b c d : ℤ} → a ≡ getD lower l (pos 0) *ℤ getD work (p .below + l) (pos 0) → b ≡ getD lower (l + 16) (pos 0) *ℤ getD work (p .below + 256 + l) (pos 0)
+      → c ≡ getD upper l (pos 0) *ℤ getD work (p .above + l) (pos 0) → d ≡ getD upper (l + 16) (pos 0) *ℤ getD work (p .above + 256 + l) (pos 0)
+      → a +ℤ b +ℤ c +ℤ d ≡ windowed side16 (p .i) (l / 2) (wordOver work p l)
   unfolding windowed wordOver sumZ side16
-  windowed-four a b c d = rw (a, b, c, d, +ℤ-idl, first, place, half, none i, none l, none (l / 2), right below (32 * i + l), right above (32 * (i + 8) + l), left below (32 * i + (l + 16)), left above (32 * (i + 8) + (l + 16)))
+  windowed-four a b c d =
+      rw (
+        a,
+        b,
+        c,
+        d,
+        weight-is (p .i) l lower-is small,
+        weight-is (p .i) (l + 16) lower-is large,
+        weight-is (p .i + 8) l upper-is small,
+        weight-is (p .i + 8) (l + 16) upper-is large,
+        +ℤ-idl,
+        half,
+        none (p .i),
+        none (l / 2),
+        later (p .below),
+        later (p .above),
+        earlier (p .below),
+        earlier (p .above),
+      )
     where
+      small : l < 32
+      small = omega arith
+
+      large : l + 16 < 32
+      large = omega arith
+
       none : (a : ℕ) → a + 0 ≡ a
       none a = omega arith
-
-      first : l / 16 ≡ 0
-      first = omega arith
-
-      place : l % 16 ≡ l
-      place = omega arith
 
       half : (l + 16) / 2 ≡ l / 2 + 8
       half = omega arith
 
-      right : (a b : ℕ) → a + 512 + b ≡ a + (512 + b)
-      right a b = omega arith
+      later : (a : ℕ) → a + l ≡ a + (256 * (2 * (l / 16) + 0) + l % 16)
+      later a = omega arith
 
-      left : (a b : ℕ) → a + (0 + b) ≡ a + b
-      left a b = omega arith
+      earlier : (a : ℕ) → a + 256 + l ≡ a + (256 * (2 * (l / 16) + 1) + l % 16)
+      earlier a = omega arith

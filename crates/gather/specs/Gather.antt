@@ -1,12 +1,12 @@
 -- Inside this crate and merging: the output as code gathers it, from corrections that are summed over the other frames first, and then windowed.
-use Rattle.algebra.specs.Prelude.{List, ℕ, zero, suc, _+_, _-_, _*_, _/_, _%_, getD, ℤ, pos, _-ℤ_, _*ℤ_}
+use Rattle.algebra.specs.Prelude.{List, ℕ, zero, suc, _+_, _*_, _/_, _%_, getD, ℤ, pos, _-ℤ_, _*ℤ_}
 use Rattle.algebra.specs.Sums.{sumZ}
 use Rattle.algebra.specs.Clamp.{clampZ}
 use Rattle.algebra.specs.Nearest.{upward}
 use Rattle.sequences.specs.Tab.{tab}
 use Rattle.recipe.specs.Side.{Side}
-use Rattle.recipe.specs.Tables.{window16, side16}
-use Rattle.recipe.specs.Output.{rowIn, weightIn}
+use Rattle.recipe.specs.Tables.{window16}
+use Rattle.recipe.specs.Output.{weightIn}
 use Rattle.gather.specs.declared.Span.{Span}
 
 -- the weights of row i of a pair of tiles: place l is column l/2 of one of the two
@@ -23,12 +23,11 @@ corrected n t0 sum others =
     let whole = 256 * (n .weight * suc others) in
     clampZ (pos 0) (pos 4095) (upward (pos t0 *ℤ pos whole -ℤ sum) whole)
 
--- where the words of the lower and the upper row of pairs start
+-- where the words of the lower and of the upper row of pairs start
 abbrev pub startOf : Span → ℕ → ℕ
 startOf p zero = p .below
 startOf p (suc u) = p .above
 
 -- what tile t over the word c places further on has at it, in the work area
 unfoldable pub wordOver : List ℤ → Span → (c t : ℕ) → ℤ
-wordOver work p c t =
-    getD work (startOf p (t / 2) + (512 * (c / 16 + 1 - t % 2) + (32 * rowIn side16 (p .i) t + (c % 16 + 16 * (t % 2))))) (pos 0)
+wordOver work p c t = getD work (startOf p (t / 2) + (256 * (2 * (c / 16) + t % 2) + c % 16)) (pos 0)

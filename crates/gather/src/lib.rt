@@ -8,23 +8,22 @@ ghost use Rattle.algebra.specs.Bound.{AtMost};
 ghost use Rattle.algebra.specs.Clamp.{clampZ};
 ghost use Rattle.sequences.specs.Written.{written};
 ghost use Rattle.recipe.specs.Tables.{windows, window16, side16};
+ghost use Rattle.tiles.specs.Sum.{takenMost};
 ghost use Rattle.gather.specs.Gather.{weightRow, corrected, windowed, wordOver};
-ghost use Rattle.gather.specs.Work.{weightMost, partMost, sumMost, Divided, Words, Weighed, rowSpan, further, Small, Inside, Roomy, wordFrom, rowWritten};
+ghost use Rattle.gather.specs.Work.{weightMost, partMost, sumMost, Divided, Weighed, rowSpan, further, Small, Inside, Roomy, wordFrom, rowWritten};
 ghost use Rattle.gather.specs.Ready.{BlockReady, RowReady};
 use geometry::Shape;
+use tiles::BLOCK;
 use tiles::FINEST_SIDE;
+use tiles::HALF_WORDS;
 use tiles::PAIR_WIDTH;
-use tiles::PAIR_WORDS;
 use tiles::rows::slot;
 
 // Tiles stand half a side apart, in a plane.
 pub const HALF_SIDE: usize = 8;
 
-// The words of a frame's row from one pair to the next: half a side of either plane.
-const BLOCK: usize = 16;
-
-// Where a part of an output row stands, and what it is made of: its samples are those from `from` on, its words those of the output from `start` on. It is row
-// `i` of the pairs of tiles that the work area has from `below` on, and row `i` + 8 of those from `above` on.
+// Where a part of an output row stands, and what it is made of: its samples are those from `from` on, its words those of the output from `start` on. The work
+// area has row `i` of the halves of pairs below it from `below` on, and row `i` + 8 of those above it from `above` on.
 pub struct Span {
     pub from: usize,
     pub start: usize,
@@ -119,12 +118,12 @@ fn weights(window: &[u64; FINEST_SIDE], i: usize) -> [i64; PAIR_WIDTH]
     row
 }
 
-// What a pair of tiles has at its row i and place l = 2·x + p, which is column x of plane p, weighed. Its words start at `start`.
-fn part(work: &[i64], weights: &[i64; PAIR_WIDTH], start: usize, i: usize, l: usize) -> i64
-    requires { ⌜ record { words : Words (now work) start 512; weights-are : now weights ≡ weightRow i; row : i < 16; place : l < 32 } ⌝ }
-    ensures { λ r. ⌜ (r ≡ pos (window16 i * window16 (l / 2)) *ℤ getD (now (work .entry)) (start + (32 * i + l)) (pos 0)) × (AtMost partMost r) ⌝ }
+// A word of the work area, weighed.
+fn part(work: &[i64], weights: &[i64; PAIR_WIDTH], at: usize, l: usize) -> i64
+    requires { ⌜ record { inside : at < length (now work); place : l < 32; word-most : natAbs (getD (now work) at (pos 0)) ≤ takenMost; weight-most : natAbs (getD (now weights) l (pos 0)) ≤ weightMost } ⌝ }
+    ensures { λ r. ⌜ (r ≡ getD (now (weights .entry)) l (pos 0) *ℤ getD (now (work .entry)) at (pos 0)) × (AtMost partMost r) ⌝ }
 {
-    weights[l] * work[start + (PAIR_WIDTH * i + l)]
+    weights[l] * work[at]
 }
 
 // What the four tiles over a sample have at it, windowed and added: row i and place l of the last pair.
@@ -140,11 +139,10 @@ fn windowed(
 {
     let above = span.above;
     let below = span.below;
-    let i = span.i;
-    part(work, lower, below + PAIR_WORDS, i, l)
-        + part(work, lower, below, i, l + BLOCK)
-        + part(work, upper, above + PAIR_WORDS, i + HALF_SIDE, l)
-        + part(work, upper, above, i + HALF_SIDE, l + BLOCK)
+    part(work, lower, below + l, l)
+        + part(work, lower, below + HALF_WORDS + l, l + BLOCK)
+        + part(work, upper, above + l, l)
+        + part(work, upper, above + HALF_WORDS + l, l + BLOCK)
 }
 
 // A block: the words of a row over the same four pairs.
@@ -169,22 +167,23 @@ fn output_block(
     }
 }
 
-// Row y of a row parity, from its first word on.
-fn row_span(shape: Shape, reference: usize, row_parity: usize, y: usize) -> Span
-    requires { ⌜ Inside shape reference «row_parity» y ⌝ }
-    ensures { λ r. ⌜ (r ≡ rowSpan shape reference «row_parity» y) × (Roomy shape r) ⌝ }
+// Row y of a row parity, from its first word on, for an output that begins with row `top` of the frame.
+fn row_span(shape: Shape, reference: usize, row_parity: usize, y: usize, top: usize) -> Span
+    requires { ⌜ Inside shape reference «row_parity» y top ⌝ }
+    ensures { λ r. ⌜ (r ≡ rowSpan shape reference «row_parity» y top) × (Roomy shape r) ⌝ }
 {
     let row = 2 * y + row_parity;
     let from = reference * (shape.row_length * shape.height) + row * shape.row_length;
-    let start = row * shape.width;
-    let above = slot(shape.width, y / HALF_SIDE);
-    let below = slot(shape.width, y / HALF_SIDE + 1);
+    let start = (row - top) * shape.width;
+    let i = y % HALF_SIDE;
+    let above = slot(shape.width, y / HALF_SIDE) + BLOCK * (i + HALF_SIDE);
+    let below = slot(shape.width, y / HALF_SIDE + 1) + BLOCK * i;
     Span {
         from,
         start,
         above,
         below,
-        i: y % HALF_SIDE,
+        i,
     }
 }
 
@@ -196,24 +195,25 @@ fn further(span: Span, column: usize) -> Span
     Span {
         from: span.from + BLOCK * column,
         start: span.start + BLOCK * column,
-        above: span.above + PAIR_WORDS * column,
-        below: span.below + PAIR_WORDS * column,
+        above: span.above + 2 * HALF_WORDS * column,
+        below: span.below + 2 * HALF_WORDS * column,
         i: span.i,
     }
 }
 
-// One row of the output: row y of a row parity, block by block.
+// One row of the output, which begins with row `top` of the frame: row y of a row parity, block by block.
 pub fn output_row(
     shape: Shape,
     reference: usize,
     samples: &[u16],
     row_parity: usize,
     y: usize,
+    top: usize,
     work: &[i64],
     output: &mut [u16],
 )
-    requires { ⌜ RowReady shape reference «row_parity» y (length (now samples)) (length (now output)) (now work) ⌝ }
-    ensures { λ _. ⌜ now (output .exit) ≡ rowWritten (now (output .entry)) (now (samples .entry)) (now (work .entry)) shape reference «row_parity» y ⌝ }
+    requires { ⌜ RowReady shape reference «row_parity» y top (length (now samples)) (length (now output)) (now work) ⌝ }
+    ensures { λ _. ⌜ now (output .exit) ≡ rowWritten (now (output .entry)) (now (samples .entry)) (now (work .entry)) shape reference «row_parity» y top ⌝ }
 {
     let window = WINDOW;
     let lower = weights(&window, y % HALF_SIDE);
@@ -223,7 +223,7 @@ pub fn output_row(
         count,
         inverse: (524287 + count as u64) / count as u64,
     };
-    let row = row_span(shape, reference, row_parity, y);
+    let row = row_span(shape, reference, row_parity, y, top);
     for column in 0..shape.width / BLOCK {
         let span = further(row, column);
         output_block(samples, work, &lower, &upper, span, by, &mut *output);

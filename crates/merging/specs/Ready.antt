@@ -1,5 +1,5 @@
 -- Inside this crate: what the merge and each part of it require. A buffer that is only measured stands here as its length.
-use Rattle.algebra.specs.Prelude.{_≡_, List, ℕ, _*_, _/_, _≤_, _<_, length, ℤ}
+use Rattle.algebra.specs.Prelude.{_≡_, List, ℕ, _+_, _-_, _*_, _/_, _≤_, _<_, length, ℤ}
 use Rattle.geometry.specs.Shape.{outputLength, workLength}
 use Rattle.recipe.specs.declared.Merge.{Merge}
 use Rattle.recipe.specs.Scene.{sceneOf}
@@ -13,15 +13,25 @@ pub record Lent (m : Merge) (samples : List ℕ) (vectors : List ℤ) (output wo
   pub output-long : output ≡ outputLength (m .shape)
   pub work-long : work ≡ workLength (m .shape)
 
--- the planes of a row parity: the same, where the work area has room for two rows of pairs of tiles
-pub record ParityReady (m : Merge) (samples : List ℕ) (vectors : List ℤ) (rowParity output work : ℕ) : Type 0 where
+-- the rows of the merge from 16·first to before 16·last: the same, for an output of just these rows, where the work area has room for two rows of pairs of tiles
+pub record RowsLent (m : Merge) (samples : List ℕ) (vectors : List ℤ) (first last output work : ℕ) : Type 0 where
   pub accepted : Accepted m samples vectors
+  pub ordered : first ≤ last
+  pub last-most : last ≤ m .shape .height / 16
+  pub output-long : output ≡ (16 * last - 16 * first) * m .shape .width
+  pub room : 2 * rowWords 16 (m .shape .width) ≤ work
+
+-- the planes of a row parity
+pub record ParityReady (m : Merge) (samples : List ℕ) (vectors : List ℤ) (rowParity first last output work : ℕ) : Type 0 where
+  pub lent : RowsLent m samples vectors first last output work
   pub parity : rowParity < 2
-  pub output-long : output ≡ outputLength (m .shape)
-  pub room : 2 * rowWords (m .shape .width) ≤ work
 
 -- the rows between the tile rows `band`, which the work area holds, and `band` + 1
-pub record BandReady (m : Merge) (samples : List ℕ) (vectors : List ℤ) (rowParity band output : ℕ) (work : List ℤ) : Type 0 where
-  pub ready : ParityReady m samples vectors rowParity output (length work)
+pub record BandReady (m : Merge) (samples : List ℕ) (vectors : List ℤ) (rowParity first band output : ℕ) (work : List ℤ) : Type 0 where
+  pub accepted : Accepted m samples vectors
+  pub parity : rowParity < 2
+  pub from-first : first ≤ band
   pub band-below : band < m .shape .height / 16
+  pub output-room : (16 * band + 16 - 16 * first) * m .shape .width ≤ output
+  pub room : 2 * rowWords 16 (m .shape .width) ≤ length work
   pub held : Held (sceneOf m samples vectors) rowParity band work

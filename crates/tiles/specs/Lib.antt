@@ -1,4 +1,5 @@
 pub mod Accepted
 pub mod Sum
+pub mod Toward
 pub mod Rows
 pub mod SignedLaws

@@ -9,10 +9,10 @@ use Rattle.gather.proofs.output_row.Statement.{statement}
 use Rattle.gather.proofs.output_row.Tie as tie
 
 abbrev Inv-loop : tie.InvT-loop
-Inv-loop reference samples row-parity y work output₀ lower upper count by row column₀ column-end output column = Writing output₀ (row .start) (wordFrom samples work row count) (16 * column-end) (16 * column) output
+Inv-loop reference samples row-parity y top work output₀ lower upper count by row column₀ column-end output column = Writing output₀ (row .start) (wordFrom samples work row count) (16 * column-end) (16 * column) output
 
 abbrev μ-loop : tie.MeasureT-loop
-μ-loop reference samples row-parity y work output₀ lower upper count by row column₀ column-end output column = column-end - column
+μ-loop reference samples row-parity y top work output₀ lower upper count by row column₀ column-end output column = column-end - column
 
 weights-requires : tie.Need-weights-requires Inv-loop μ-loop
 unfolding windows
@@ -30,9 +30,10 @@ abbrev roomy : (l : tie.At-loop Inv-loop μ-loop) → Roomy (start l .args .shap
 roomy l = l .before .before .row-span .ensures .1
 
 loop-holds : tie.Need-loop-holds Inv-loop μ-loop
+unfolding rowSpan
 loop-holds c =
     let s = c .before .before .before .before .before .before .before .before in
-    write-start (omega (arith, c .before .row-span .ensures .1 .output, s .pre .output-long))
+    write-start (omega (arith, ap (λ p. p .start) (c .before .row-span .ensures .0), s .pre .output-room))
 
 further-requires : tie.Need-further-requires Inv-loop μ-loop
 further-requires c κs =
@@ -40,6 +41,7 @@ further-requires c κs =
     (roomy l .small, omega (arith, c .loop-test .taken, start l .pre .inside .allowed .wide .most))
 
 output-block-requires : tie.Need-output-block-requires Inv-loop μ-loop
+unfolding rowSpan
 output-block-requires c κs =
     let f = c .before .before .before in
     let l = f .before .before in
@@ -53,10 +55,10 @@ output-block-requires c κs =
     record {
       weighed =
           subst (λ p. Weighed (now (a .work)) p (w .before .before .weights .result) (w .weights2 .result)) (sym (e ∙ ap (λ p. further p column) (r .ensures .0)))
-          (block-weighed (a .shape) (a .reference) (a .«row-parity») (a .y) column (s .pre .over) (w .before .before .weights .ensures) (w .weights2 .ensures) taken);
+          (block-weighed (a .shape) (a .reference) (a .«row-parity») (a .y) (a .top) column (s .pre .over) (w .before .before .weights .ensures) (w .weights2 .ensures) taken);
       divided = record { some = s .pre .inside .allowed .some; few = s .pre .inside .allowed .few; inverse-is = refl };
       samples-room = rw e (omega (arith, roomy l .samples, s .pre .samples-long, taken));
-      output-room = rw e (omega (arith, roomy l .output, s .pre .output-long, taken, l .loop .inv .same));
+      output-room = rw e (omega (arith, ap (λ p. p .start) (r .ensures .0), s .pre .output-room, taken, l .loop .inv .same));
     }
 
 loop-again : tie.Need-loop-again Inv-loop μ-loop
