@@ -5,14 +5,14 @@ ghost use lib.IntN.{pos};
 ghost use lib.ListN.{length, getD};
 ghost use Rattle.sequences.specs.Grid.{cell};
 ghost use Rattle.sequences.specs.Write.{written};
-ghost use Rattle.recipe.specs.Scene.{sceneOf};
+ghost use Rattle.recipe.specs.Tables.{side16};
+ghost use Rattle.scenes.specs.Scenes.{sceneAt};
 ghost use Rattle.tiles.specs.Accepted.{Accepted};
 ghost use Rattle.tiles.specs.Rows.{rowWords, slotOf, Stored, Spread};
 use crate::BLOCK;
-use crate::FINEST_SIDE;
 use crate::HALF_WORDS;
 use crate::PAIR_WIDTH;
-use crate::ROW_LINES;
+use crate::SIDE;
 use crate::Site;
 use crate::correcting::tile_correction;
 use geometry::tiles::tile_columns;
@@ -29,11 +29,11 @@ fn store_block(work: &mut [i64], at: usize, row: &[i64; PAIR_WIDTH], from: usize
 }
 
 // Half of each row of a pair is stored, one after the other.
-fn store_half(work: &mut [i64], at: usize, tile: &[[i64; PAIR_WIDTH]; FINEST_SIDE], from: usize)
+fn store_half(work: &mut [i64], at: usize, tile: &[[i64; PAIR_WIDTH]; SIDE], from: usize)
     requires { ⌜ (at + 256 ≤ length (now work)) × (from ≤ 16) ⌝ }
     ensures { λ _. ⌜ Spread (Unit {0}) (λ i j. cell (pos 0) (now (tile .entry)) i (from + j)) at 16 16 16 (now (work .entry)) (now (work .exit)) ⌝ }
 {
-    for i in 0..FINEST_SIDE {
+    for i in 0..SIDE {
         store_block(&mut *work, at + BLOCK * i, &tile[i], from);
     }
 }
@@ -43,7 +43,7 @@ fn store_left(
     work: &mut [i64],
     start: usize,
     column: usize,
-    tile: &[[i64; PAIR_WIDTH]; FINEST_SIDE],
+    tile: &[[i64; PAIR_WIDTH]; SIDE],
 )
     requires { ⌜ start + 512 * column ≤ length (now work) ⌝ }
     ensures { λ _. ⌜ Spread (0 < column) (λ i j. cell (pos 0) (now (tile .entry)) i (0 + j)) (start + 512 * (column - 1)) 16 16 16 (now (work .entry)) (now (work .exit)) ⌝ }
@@ -60,7 +60,7 @@ fn store_right(
     start: usize,
     blocks: usize,
     column: usize,
-    tile: &[[i64; PAIR_WIDTH]; FINEST_SIDE],
+    tile: &[[i64; PAIR_WIDTH]; SIDE],
 )
     requires { ⌜ (start + 512 * blocks ≤ length (now work)) × (column ≤ blocks) ⌝ }
     ensures { λ _. ⌜ Spread (column < blocks) (λ i j. cell (pos 0) (now (tile .entry)) i (16 + j)) (start + (512 * column + 256)) 16 16 16 (now (work .entry)) (now (work .exit)) ⌝ }
@@ -76,12 +76,12 @@ fn store_right(
     );
 }
 
-// Where a row of pairs starts.
-pub fn slot(width: usize, row: usize) -> usize
-    requires { ⌜ width ≤ 4096 ⌝ }
-    ensures { λ r. ⌜ (r ≡ slotOf 16 width row) × (r ≤ rowWords 16 width) ⌝ }
+// Where a row of pairs of tiles of a side starts: two halves are over each block.
+pub fn slot(side: usize, width: usize, row: usize) -> usize
+    requires { ⌜ (side ≤ 32) × (width ≤ 4096) ⌝ }
+    ensures { λ r. ⌜ record { is : r ≡ slotOf side width row; in-area : r ≤ rowWords side width; most : r ≤ 262144 } ⌝ }
 {
-    row % 2 * (ROW_LINES * width)
+    row % 2 * (2 * side * width)
 }
 
 // The corrections of each pair of a row.
@@ -93,10 +93,10 @@ pub fn correction_row(
     row: usize,
     work: &mut [i64],
 )
-    requires { ⌜ record { accepted : Accepted m (now samples) (now vectors); parity : «row_parity» < 2; row-most : row ≤ m .shape .height / 16; room : 2 * rowWords 16 (m .shape .width) ≤ length (now work) } ⌝ }
-    ensures { λ _. ⌜ Stored 16 (sceneOf m (now (samples .entry)) (now (vectors .entry))) «row_parity» row (now (work .entry)) (now (work .exit)) ⌝ }
+    requires { ⌜ record { accepted : Accepted 16 m (now samples) (now vectors); parity : «row_parity» < 2; row-most : row ≤ m .shape .height / 16; room : 2 * rowWords 16 (m .shape .width) ≤ length (now work) } ⌝ }
+    ensures { λ _. ⌜ Stored 16 (sceneAt side16 m (now (samples .entry)) (now (vectors .entry))) «row_parity» row (now (work .entry)) (now (work .exit)) ⌝ }
 {
-    let start = slot(m.shape.width, row);
+    let start = slot(SIDE, m.shape.width, row);
     let blocks = m.shape.width / BLOCK;
     let columns = tile_columns(m.shape);
     for column in 0..columns {
@@ -105,7 +105,7 @@ pub fn correction_row(
             row,
             column,
         };
-        let mut sum = [[0i64; PAIR_WIDTH]; FINEST_SIDE];
+        let mut sum = [[0i64; PAIR_WIDTH]; SIDE];
         tile_correction(m, samples, vectors, site, &mut sum);
         store_left(&mut *work, start, column, &sum);
         store_right(&mut *work, start, blocks, column, &sum);

@@ -2,7 +2,7 @@
 use Rattle.algebra.specs.Prelude.{_≡_, subst, _+_, _-_, _≤_, arith, needs, pos, now}
 use Rattle.sequences.specs.Grid.{cell}
 use Rattle.tiles.specs.Rows.{Spread}
-use Rattle.tiles.proofs.Storing.{spread-start, spread-turn}
+use Rattle.tiles.specs.StoreLaws.{spread-start, spread-turn}
 use Rattle.tiles.proofs.rows.store_half.Statement.{statement}
 use Rattle.tiles.proofs.rows.store_half.Tie as tie
 

@@ -1,6 +1,6 @@
 -- Outside the frame lies the left half of the first pair.
 use Rattle.algebra.specs.Prelude.{refl, arith, needs}
-use Rattle.tiles.proofs.Storing.{spread-when, spread-unless}
+use Rattle.tiles.specs.StoreLaws.{spread-when, spread-unless}
 use Rattle.tiles.proofs.rows.store_left.Statement.{statement}
 use Rattle.tiles.proofs.rows.store_left.Tie as tie
 

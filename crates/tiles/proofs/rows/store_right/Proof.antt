@@ -1,6 +1,6 @@
 -- Outside the frame lies the right half of the last pair.
 use Rattle.algebra.specs.Prelude.{refl, arith, needs}
-use Rattle.tiles.proofs.Storing.{spread-when, spread-unless}
+use Rattle.tiles.specs.StoreLaws.{spread-when, spread-unless}
 use Rattle.tiles.proofs.rows.store_right.Statement.{statement}
 use Rattle.tiles.proofs.rows.store_right.Tie as tie
 
