@@ -2,13 +2,13 @@
 use Rattle.algebra.specs.Prelude.{_≡_, List, ℕ, _+_, _-_, _*_, _/_, _%_, _^_, _≤_, _<_, length, getD, ℤ, pos, natAbs}
 use Rattle.geometry.specs.declared.Shape.{Shape}
 use Rattle.geometry.specs.Shape.{rowStride, frameStride, sampleLength}
-use Rattle.geometry.specs.Fits.{Allowed}
+use Rattle.geometry.specs.Fits.{Allowed, TileSide}
 use Rattle.sequences.specs.Written.{written}
-use Rattle.recipe.specs.Tables.{side16}
+use Rattle.recipe.specs.Sides.{sideOf}
 use Rattle.tiles.specs.Sum.{takenMost}
 use Rattle.tiles.specs.Rows.{rowWords, slotOf}
 use Rattle.gather.specs.declared.Span.{Span}
-use Rattle.gather.specs.Gather.{weightRow, windowed, corrected, wordOver}
+use Rattle.gather.specs.Gather.{Weights, windowed, corrected, wordOver}
 
 -- the largest product of two windows, the largest word of the work area weighed by one, and four of those
 abbrev pub weightMost : ℕ
@@ -33,17 +33,19 @@ pub record Words (work : List ℤ) (at n : ℕ) : Type 0 where
 
 -- the words over a block, of two halves of the lower row of pairs and two of the upper, and the weights of its row in them
 pub record Weighed (work : List ℤ) (p : Span) (lower upper : List ℤ) : Type 0 where
-  pub lower-later : Words work (p .below) 16
-  pub lower-earlier : Words work (p .below + 256) 16
-  pub upper-later : Words work (p .above) 16
-  pub upper-earlier : Words work (p .above + 256) 16
-  pub lower-weights : lower ≡ weightRow (p .i)
-  pub upper-weights : upper ≡ weightRow (p .i + 8)
-  pub row : p .i < 8
+  pub sided : TileSide (p .side)
+  pub lower-later : Words work (p .below) (p .side)
+  pub lower-earlier : Words work (p .below + p .side * p .side) (p .side)
+  pub upper-later : Words work (p .above) (p .side)
+  pub upper-earlier : Words work (p .above + p .side * p .side) (p .side)
+  pub lower-weights : Weights (p .side) (p .i) lower
+  pub upper-weights : Weights (p .side) (p .i + p .side / 2) upper
+  pub row : p .i < p .side / 2
 
 -- row y of a row parity lies in the reference's frame, and not above its row `top`, with which the output begins
 pub record Inside (s : Shape) (reference rowParity y top : ℕ) : Type 0 where
   pub allowed : Allowed s
+  pub sided : TileSide (s .side)
   pub reference-below : reference < s .count
   pub parity : rowParity < 2
   pub row : y < s .height / 2
@@ -52,17 +54,21 @@ pub record Inside (s : Shape) (reference rowParity y top : ℕ) : Type 0 where
 -- that row from its first word on, and from its block number `column` on
 unfoldable pub rowSpan : Shape → (reference rowParity y top : ℕ) → Span
 rowSpan s reference rowParity y top =
+    let half = s .side / 2 in
     record {
       from = reference * frameStride s + (2 * y + rowParity) * rowStride s;
       start = (2 * y + rowParity - top) * s .width;
-      above = slotOf 16 (s .width) (y / 8) + 16 * (y % 8 + 8);
-      below = slotOf 16 (s .width) (y / 8 + 1) + 16 * (y % 8);
-      i = y % 8;
+      above = slotOf (s .side) (s .width) (y / half) + s .side * (y % half + half);
+      below = slotOf (s .side) (s .width) (y / half + 1) + s .side * (y % half);
+      side = s .side;
+      i = y % half;
     }
 
 abbrev pub further : Span → (column : ℕ) → Span
 further p column =
-    record { from = p .from + 16 * column; start = p .start + 16 * column; above = p .above + 512 * column; below = p .below + 512 * column; i = p .i }
+    let words = p .side * column in
+    let halves = 2 * p .side * words in
+    record { from = p .from + words; start = p .start + words; above = p .above + halves; below = p .below + halves; side = p .side; i = p .i }
 
 -- nothing starts later in the samples, the output or the work area
 abbrev pub startMost : ℕ
@@ -80,13 +86,14 @@ pub record Roomy (s : Shape) (p : Span) : Type 0 where
   pub samples : p .from + s .width ≤ sampleLength s
 
 -- the words of the two rows of pairs over row y are small enough to be weighed and added
-pub record Over (work : List ℤ) (width y : ℕ) : Type 0 where
-  pub above : Words work (slotOf 16 width (y / 8)) (rowWords 16 width)
-  pub below : Words work (slotOf 16 width (y / 8 + 1)) (rowWords 16 width)
+pub record Over (work : List ℤ) (side width y : ℕ) : Type 0 where
+  pub above : Words work (slotOf side width (y / (side / 2))) (rowWords side width)
+  pub below : Words work (slotOf side width (y / (side / 2) + 1)) (rowWords side width)
 
 -- the output's word c places further on, of N = `count` frames
 unfoldable pub wordFrom : (samples : List ℕ) (work : List ℤ) → Span → (count c : ℕ) → ℕ
-wordFrom samples work p count c = natAbs (corrected side16 (getD samples (p .from + c) 0) (windowed side16 (p .i) (c / 2 % 8) (wordOver work p c)) (count - 1))
+wordFrom samples work p count c =
+    natAbs (corrected (sideOf (p .side)) (getD samples (p .from + c) 0) (windowed (sideOf (p .side)) (p .i) (c / 2 % (p .side / 2)) (wordOver work p c)) (count - 1))
 
 -- the output, which begins with row `top` of the frame, with row y of a row parity written
 abbrev pub rowWritten : (output samples : List ℕ) (work : List ℤ) → Shape → (reference rowParity y top : ℕ) → List ℕ

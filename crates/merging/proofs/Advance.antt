@@ -8,10 +8,11 @@ use Rattle.sequences.specs.TabLaws.{length-tab, getD-tab}
 use Rattle.sequences.specs.Grid.{tab-ext}
 use Rattle.sequences.specs.Write.{written}
 use Rattle.sequences.specs.Place.{place-row, place-column, row-below, column-below}
-use Rattle.geometry.specs.Fits.{AllowedSize}
+use Rattle.geometry.specs.Fits.{AllowedSize, TileSide}
 use Rattle.recipe.specs.Scene.{Scene}
 use Rattle.recipe.specs.Merged.{planeOutput, outputAt, wordAt, merged}
 use Rattle.tiles.specs.Toward.{Toward, toward-same, toward-on, written-right, written-toward}
+use Rattle.tiles.specs.Places.{by-side}
 use Rattle.merging.specs.Progress.{wordFrom, placeOf, RowsMerged, mergedRows}
 
 -- the output's word at a place
@@ -65,40 +66,51 @@ module _ {s : Scene} {top rowParity : ℕ} where
       right : (c : ℕ) → c < s .width → f c ≡ wordFrom s top (at + c)
       right c h = e c h ∙ sym (place-word s top rowParity y c parity under h)
 
+module _ {n : ℕ} (t : TileSide n) where
+  row-is : (first row : ℕ) → 2 * (n / 2 * first + row / 2) + row % 2 - n * first ≡ row
+  row-is = by-side t (λ n. (first row : ℕ) → 2 * (n / 2 * first + row / 2) + row % 2 - n * first ≡ row) (λ f r. omega arith) (λ f r. omega arith)
+
+  row-below-last : (first last row : ℕ) → row < n * last - n * first → n / 2 * first + row / 2 < n / 2 * last
+  row-below-last = by-side t (λ n. (first last row : ℕ) → row < n * last - n * first → n / 2 * first + row / 2 < n / 2 * last) (λ f l r h. omega arith) (λ f l r h. omega arith)
+
+  pub rows-whole : (height : ℕ) → height % 64 ≡ 0 → n * (height / n) - n * 0 ≡ height
+  rows-whole = by-side t (λ n. (height : ℕ) → height % 64 ≡ 0 → n * (height / n) - n * 0 ≡ height) (λ k h. omega arith) (λ k h. omega arith)
+
 -- both row parities
-pub all-merged : {s : Scene} (first last : ℕ) {l m o : List ℕ} → length l ≡ (16 * last - 16 * first) * s .width
-    → RowsMerged s (16 * first) 0 (8 * first) (8 * last) l m → RowsMerged s (16 * first) 1 (8 * first) (8 * last) m o → o ≡ mergedRows s first last
+pub all-merged : {side : ℕ} → TileSide side → {s : Scene} (first last : ℕ) {l m o : List ℕ} → length l ≡ (side * last - side * first) * s .width
+    → RowsMerged s (side * first) 0 (side / 2 * first) (side / 2 * last) l m → RowsMerged s (side * first) 1 (side / 2 * first) (side / 2 * last) m o → o ≡ mergedRows side s first last
 unfolding mergedRows
-all-merged {s} first last {l} {m} {o} long a b =
-    ext-getD 0 o (tab n (wordFrom s (16 * first))) (same ∙ sym (length-tab (wordFrom s (16 * first)) n))
-    (λ k h. let inside : k < n = omega (arith, same) in word k inside ∙ sym (getD-tab (wordFrom s (16 * first)) 0 n k inside))
+all-merged {side} sided {s} first last {l} {m} {o} long a b =
+    ext-getD 0 o (tab n (wordFrom s top)) (same ∙ sym (length-tab (wordFrom s top) n))
+    (λ k h. let inside : k < n = omega (arith, same) in word k inside ∙ sym (getD-tab (wordFrom s top) 0 n k inside))
   where
+    top : ℕ
+    top = side * first
+
     n : ℕ
-    n = (16 * last - 16 * first) * s .width
+    n = (side * last - side * first) * s .width
 
     same : length o ≡ n
     same = b .toward .same ∙ a .toward .same ∙ long
 
-    right : (parity y c : ℕ) → parity < 2 → 8 * first ≤ y → y < 8 * last → c < s .width → getD o (placeOf s (16 * first) parity y c) 0 ≡ wordFrom s (16 * first) (placeOf s (16 * first) parity y c)
+    right : (parity y c : ℕ) → parity < 2 → side / 2 * first ≤ y → y < side / 2 * last → c < s .width → getD o (placeOf s top parity y c) 0 ≡ wordFrom s top (placeOf s top parity y c)
     right zero y c h f i j = b .toward .keeps _ (a .right y c f i j)
     right (suc zero) y c h f i j = b .right y c f i j
     right (suc (suc p)) y c h f i j = absurd (omega arith)
 
-    word : (k : ℕ) → k < n → getD o k 0 ≡ wordFrom s (16 * first) k
+    word : (k : ℕ) → k < n → getD o k 0 ≡ wordFrom s top k
     word k h =
         let row = k / s .width in
         let column = k % s .width in
-        let below = row-below k (16 * last - 16 * first) (s .width) h in
+        let below = row-below k (side * last - side * first) (s .width) h in
         let whole : row * s .width + column ≡ k = div-add-mod' k (s .width) in
-        let row-is : 2 * (8 * first + row / 2) + row % 2 - 16 * first ≡ row = omega arith in
-        let place : placeOf s (16 * first) (row % 2) (8 * first + row / 2) column ≡ k = rw row-is whole in
-        subst (λ z. getD o z 0 ≡ wordFrom s (16 * first) z) place
-        (right (row % 2) (8 * first + row / 2) column (omega arith) (omega arith) (omega (arith, below)) (column-below k (16 * last - 16 * first) (s .width) h))
+        let place : placeOf s top (row % 2) (side / 2 * first + row / 2) column ≡ k = rw (row-is sided first row) whole in
+        subst (λ z. getD o z 0 ≡ wordFrom s top z) place
+        (right (row % 2) (side / 2 * first + row / 2) column (omega arith) (omega arith) (row-below-last sided first last row below) (column-below k (side * last - side * first) (s .width) h))
 
 -- all rows are the merge
-pub whole-merged : (s : Scene) → AllowedSize (s .height) → mergedRows s 0 (s .height / 16) ≡ merged s
+pub whole-merged : {side : ℕ} → TileSide side → (s : Scene) → AllowedSize (s .height) → mergedRows side s 0 (s .height / side) ≡ merged s
 unfolding mergedRows merged
-whole-merged s high =
-    let rows : 16 * (s .height / 16) - 16 * 0 ≡ s .height = omega (arith, high .whole) in
-    let size : (16 * (s .height / 16) - 16 * 0) * s .width ≡ s .width * s .height = ap (λ k. k * s .width) rows ∙ mul-comm (s .height) (s .width) in
-    ap (λ n. tab n (wordFrom s (16 * 0))) size ∙ tab-ext (s .width * s .height) (wordFrom s (16 * 0)) (wordAt s) (λ k h. ap (wordAt s) (omega arith))
+whole-merged {side} sided s high =
+    let size : (side * (s .height / side) - side * 0) * s .width ≡ s .width * s .height = ap (λ k. k * s .width) (rows-whole sided (s .height) (high .whole)) ∙ mul-comm (s .height) (s .width) in
+    ap (λ n. tab n (wordFrom s (side * 0))) size ∙ tab-ext (s .width * s .height) (wordFrom s (side * 0)) (wordAt s) (λ k h. ap (wordAt s) (omega arith))

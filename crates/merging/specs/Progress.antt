@@ -1,5 +1,5 @@
 -- Inside this crate: a row of pairs of tiles that the work area holds, and rows of the output that are merged.
-use Rattle.algebra.specs.Prelude.{_≡_, List, ℕ, _+_, _-_, _*_, _≤_, _<_, getD, ℤ, pos}
+use Rattle.algebra.specs.Prelude.{_≡_, List, ℕ, _+_, _-_, _*_, _/_, _≤_, _<_, getD, ℤ, pos}
 use Rattle.sequences.specs.Tab.{tab}
 use Rattle.recipe.specs.Scene.{Scene}
 use Rattle.recipe.specs.Merged.{wordAt}
@@ -7,10 +7,10 @@ use Rattle.tiles.specs.Rows.{rowWords, slotOf, rowWord}
 use Rattle.tiles.specs.Toward.{Toward}
 use Rattle.gather.specs.Work.{Words}
 
--- the work area holds a row of pairs
-pub record Held (s : Scene) (rowParity row : ℕ) (work : List ℤ) : Type 0 where
-  pub words : Words work (slotOf 16 (s .width) row) (rowWords 16 (s .width))
-  pub is : (k : ℕ) → k < rowWords 16 (s .width) → getD work (slotOf 16 (s .width) row + k) (pos 0) ≡ rowWord 16 s rowParity row k
+-- the work area holds a row of pairs of tiles of a side
+pub record Held (side : ℕ) (s : Scene) (rowParity row : ℕ) (work : List ℤ) : Type 0 where
+  pub words : Words work (slotOf side (s .width) row) (rowWords side (s .width))
+  pub is : (k : ℕ) → k < rowWords side (s .width) → getD work (slotOf side (s .width) row + k) (pos 0) ≡ rowWord side s rowParity row k
 
 -- An output begins with row `top` of the frame: its word k, and where its word at row y of a row parity and column c of the frame stands
 abbrev pub wordFrom : Scene → (top k : ℕ) → ℕ
@@ -24,11 +24,11 @@ pub record RowsMerged (s : Scene) (top rowParity a b : ℕ) (l m : List ℕ) : T
   pub toward : Toward 0 (wordFrom s top) l m
   pub right : (y c : ℕ) → a ≤ y → y < b → c < s .width → getD m (placeOf s top rowParity y c) 0 ≡ wordFrom s top (placeOf s top rowParity y c)
 
--- the same of the eight rows between the tile rows `band` and `band` + 1, of which the work area then holds the second
-pub record BandMerged (s : Scene) (top rowParity band : ℕ) (l m : List ℕ) (work : List ℤ) : Type 0 where
-  pub rows : RowsMerged s top rowParity (8 * band) (8 * band + 8) l m
-  pub held : Held s rowParity (band + 1) work
+-- the same of the rows between the tile rows `band` and `band` + 1, half a side of them, of which the work area then holds the second
+pub record BandMerged (side : ℕ) (s : Scene) (top rowParity band : ℕ) (l m : List ℕ) (work : List ℤ) : Type 0 where
+  pub rows : RowsMerged s top rowParity (side / 2 * band) (side / 2 * band + side / 2) l m
+  pub held : Held side s rowParity (band + 1) work
 
--- the rows of the merge from 16·first to before 16·last
-unfoldable pub mergedRows : Scene → (first last : ℕ) → List ℕ
-mergedRows s first last = tab ((16 * last - 16 * first) * s .width) (wordFrom s (16 * first))
+-- the rows of the merge from side·first to before side·last
+unfoldable pub mergedRows : (side : ℕ) → Scene → (first last : ℕ) → List ℕ
+mergedRows side s first last = tab ((side * last - side * first) * s .width) (wordFrom s (side * first))

@@ -3,14 +3,13 @@ mod planes;
 
 ghost use mathlib.Core.Path.{_≡_};
 ghost use lib.ListN.{length};
-ghost use Rattle.recipe.specs.Scene.{sceneOf};
+ghost use Rattle.scenes.specs.Scenes.{sceneOf};
 ghost use Rattle.recipe.specs.Merged.{merged};
 ghost use Rattle.merging.specs.Ready.{Lent, RowsLent};
 ghost use Rattle.merging.specs.Progress.{mergedRows};
 use recipe::Merge;
-use tiles::FINEST_SIDE;
 
-// The rows of the merge between the tile rows `first` and `last`, sixteen a tile row, into an output of just these rows, of input that has passed the tests; it
+// The rows of the merge between the tile rows `first` and `last`, a side of them a tile row, into an output of just these rows, of input that has passed the tests; it
 // neither tests nor clears. The work area's words are left as they come.
 pub fn merge_rows(
     m: Merge,
@@ -22,7 +21,7 @@ pub fn merge_rows(
     work: &mut [i64],
 )
     requires { ⌜ RowsLent m (now samples) (now vectors) first last (length (now output)) (length (now work)) ⌝ }
-    ensures { λ _. ⌜ now (output .exit) ≡ mergedRows (sceneOf m (now (samples .entry)) (now (vectors .entry))) first last ⌝ }
+    ensures { λ _. ⌜ now (output .exit) ≡ mergedRows (m .shape .side) (sceneOf m (now (samples .entry)) (now (vectors .entry))) first last ⌝ }
 {
     planes::merge_parity(
         m,
@@ -57,6 +56,6 @@ pub fn merge_frames(
     requires { ⌜ Lent m (now samples) (now vectors) (length (now output)) (length (now work)) ⌝ }
     ensures { λ _. ⌜ now (output .exit) ≡ merged (sceneOf m (now (samples .entry)) (now (vectors .entry))) ⌝ }
 {
-    let last = m.shape.height / FINEST_SIDE;
+    let last = m.shape.height / m.shape.side;
     merge_rows(m, samples, vectors, 0, last, &mut *output, &mut *work);
 }

@@ -1,7 +1,9 @@
 -- A band a turn, each under the row of pairs of tiles that the one before has left.
-use Rattle.algebra.specs.Prelude.{_≡_, refl, subst, _∙_, _+_, _-_, _*_, _≤_, _<_, arith, needs, length, now}
+use Rattle.algebra.specs.Prelude.{_≡_, refl, subst, _∙_, ℕ, _+_, _-_, _*_, _/_, _≤_, _<_, arith, needs, length, now}
 use native.Mathlib.Nat.{mul-le-mul-right}
-use Rattle.recipe.specs.Scene.{sceneOf}
+use Rattle.geometry.specs.Fits.{TileSide}
+use Rattle.tiles.specs.Places.{by-side}
+use Rattle.scenes.specs.Scenes.{sceneOf}
 use Rattle.merging.specs.Progress.{RowsMerged}
 use Rattle.merging.proofs.Bands.{InParity, parity-start, parity-turn}
 use Rattle.merging.proofs.planes.merge_parity.Statement.{statement}
@@ -12,6 +14,9 @@ Inv-loop m samples vectors row-parity first last output₀ work₀ band₀ outpu
 
 abbrev μ-loop : tie.MeasureT-loop
 μ-loop m samples vectors row-parity first last output₀ work₀ band₀ output work band = last - band
+
+bands : {n : ℕ} → TileSide n → (first band last : ℕ) → band < last → n * band + n - n * first ≤ n * last - n * first
+bands t = by-side t (λ n. (first band last : ℕ) → band < last → n * band + n - n * first ≤ n * last - n * first) (λ f b l h. omega arith) (λ f b l h. omega arith)
 
 loop-holds : tie.Need-loop-holds Inv-loop μ-loop
 loop-holds c =
@@ -26,13 +31,14 @@ merge-band-requires c κs =
     let s = r .before .before .before .before in
     let w = l .loop .inv in
     let lent = s .pre .lent in
+    let n = s .args .m .shape .side in
     let below : l .loop .band < s .args .last = omega arith in
     record {
       accepted = lent .accepted;
       parity = s .pre .parity;
       from-first = w .0 .from-first;
       band-below = omega (arith, below, lent .last-most);
-      output-room = omega (arith, lent .output-long, w .0 .rows .toward .same, mul-le-mul-right {m = 16 * l .loop .band + 16 - 16 * s .args .first} {n = 16 * s .args .last - 16 * s .args .first} (s .args .m .shape .width) (omega (arith, below)));
+      output-room = omega (arith, lent .output-long, w .0 .rows .toward .same, mul-le-mul-right {m = n * l .loop .band + n - n * s .args .first} {n = n * s .args .last - n * s .args .first} (s .args .m .shape .width) (bands (lent .accepted .burst .sided) (s .args .first) (l .loop .band) (s .args .last) below));
       room = omega (arith, lent .room, w .1, r .correction-row .kept);
       held = w .0 .held;
     }
@@ -48,7 +54,7 @@ returns c =
     let l = c .before in
     let s = l .before .before .before .before .before .before in
     let all : l .loop .band ≡ s .args .last = omega (arith, l .loop .inv .2) in
-    subst (λ n. RowsMerged (sceneOf (s .args .m) (now (s .args .samples)) (now (s .args .vectors))) (16 * s .args .first) (s .args .«row-parity») (8 * s .args .first) (8 * n) (now (s .args .output)) (l .loop .output)) all
+    subst (λ n. RowsMerged (sceneOf (s .args .m) (now (s .args .samples)) (now (s .args .vectors))) (s .args .m .shape .side * s .args .first) (s .args .«row-parity») (s .args .m .shape .side / 2 * s .args .first) (s .args .m .shape .side / 2 * n) (now (s .args .output)) (l .loop .output)) all
     (l .loop .inv .0 .rows)
 
 pub merge-parity-spec : {M : Type 1} → statement M
