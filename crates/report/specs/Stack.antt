@@ -2,7 +2,7 @@
 use Rattle.algebra.specs.Prelude.{List, [], _∷_, _++_, ℕ}
 use Rattle.alignment.specs.Aligned.{alignedVectors}
 use Rattle.recipe.specs.declared.Merge.{Merge}
-use Rattle.recipe.specs.Scene.{sceneOf}
+use Rattle.scenes.specs.Scenes.{sceneOf}
 use Rattle.recipe.specs.Merged.{merged}
 use Rattle.file_head.specs.declared.Header.{Header}
 use Rattle.burst_file.specs.Burst.{Burst}

@@ -1,5 +1,5 @@
 -- What a call's tests let through: each fact is that of one test, found in the list wherever it stands.
-use Rattle.algebra.specs.Prelude.{_≡_, List, ℕ, length, ℤ}
+use Rattle.algebra.specs.Prelude.{_≡_, List, ℕ, arith, length, ℤ}
 use Rattle.refusals.specs.TestLaws.{among, passed, both-passed}
 use Rattle.geometry.specs.declared.Shape.{Shape}
 use Rattle.limits.specs.Order.{alignShapeTests, mergeShapeTests}
@@ -31,12 +31,12 @@ module _ (s : Shape) (reference : ℕ) (samples : List ℕ) (vectors : List ℤ)
         let fits = merge-fits s reference (length samples) (length vectors) (length output) (length work) (both .0) in
         record {
           fits = fits;
-          sixteen = merge-sixteen s reference (length samples) (length vectors) (length output) (length work) (both .0);
           samples-fit = samples-fit s samples (passed content (search among));
           shot-most = shot-level-bound noise;
           read-most = read-level-bound noise;
           strength-most = strength-most (tuning .strength) (passed content (search among));
           spatial-most = spatial-most (tuning .spatial) (passed content (search among));
+          unfiltered = λ e. absurd (omega (arith, e, merge-sixteen s reference (length samples) (length vectors) (length output) (length work) (both .0)));
         }
 
     -- 12 comes last

@@ -7,7 +7,7 @@ use Rattle.alignment.specs.declared.burst.Totals.{Totals}
 use Rattle.alignment.specs.Aligned.{alignedVectors}
 use Rattle.recipe.specs.declared.Merge.{Merge}
 use Rattle.recipe.specs.declared.Tuning.{Tuning}
-use Rattle.recipe.specs.Scene.{sceneOf}
+use Rattle.scenes.specs.Scenes.{sceneOf}
 use Rattle.recipe.specs.Merged.{merged}
 use Rattle.pipeline.specs.Levels.{Runnable, RanLevels}
 use Rattle.admission.specs.declared.Tested.{Tested}
@@ -43,12 +43,12 @@ module _ {s : Shape} {reference : ℕ} {noise : Noise} {tuning : Tuning} {sample
         let ready = run-passed s reference samples vectors noise tuning output work (sym (t .number) ∙ z) in
         record {
           fits = ready .fits;
-          sixteen = ready .sixteen;
           samples-fit = ready .samples-fit;
           shot-most = subst (λ n. n ≤ 65536) (sym (t .shot-is z)) (ready .shot-most);
           read-most = subst (λ n. n ≤ 4194304) (sym (t .read-is z)) (ready .read-most);
           strength-most = ready .strength-most;
           spatial-most = ready .spatial-most;
+          unfiltered = ready .unfiltered;
         }
 
     pub ran-accepted : {vectors′ work′ : List ℤ} {output′ : List ℕ} {r : Totals} → RanLevels (levelled s reference tuning tested) samples vectors′ output′ work work′ r →
@@ -62,6 +62,6 @@ module _ {s : Shape} {reference : ℕ} {noise : Noise} {tuning : Tuning} {sample
           found = made _ _ _ e z (is .found);
           result = made _ _ _ e z result;
           clean = made _ _ _ e z (is .clean);
-          near = λ _. found-close _ _ _ _ _ (runnable .fits .burst .allowed .few) (is .found) result;
+          near = λ _. found-close _ _ _ _ _ (runnable .fits .burst .sided) (runnable .unfiltered) (runnable .fits .burst .allowed .few) (is .found) result;
           ceiling = λ _. found-capped _ _ (runnable .fits .burst) (runnable .samples-fit) _ _ _ (is .found) result;
         }

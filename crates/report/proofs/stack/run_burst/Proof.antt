@@ -1,5 +1,5 @@
 -- `report::stack::run_burst`: what the file check has tested is what a run from the levels asks for.
-use Rattle.algebra.specs.Prelude.{sym, arith, needs, lit≤}
+use Rattle.algebra.specs.Prelude.{refl, sym, arith, needs, lit≤}
 use lib.Seq.{length-take-le}
 use Rattle.values.specs.BoundLaws.{values-samples}
 use Rattle.report.specs.Stack.{frameOf}
@@ -13,12 +13,12 @@ run-levels-requires c κs =
     let taken = start .pre .taken in
     record {
       fits = merge-fits taken (length-take-le _ (start .args .vectors .now) (omega (arith, taken .allowed .few))) (start .pre .work-room) (start .pre .output-room);
-      sixteen = taken .sixteen;
       samples-fit = values-samples _ (taken .small);
       shot-most = taken .shot-most;
       read-most = taken .read-most;
       strength-most = taken .strength-most;
       spatial-most = lit≤ tt;
+      unfiltered = λ _. refl;
     }
 
 returns : tie.Need-returns
