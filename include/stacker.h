@@ -47,8 +47,8 @@ typedef struct {
 
 typedef struct {
     uint64_t strength; /* eighths of the published tau, 0..1024 */
-    uint64_t side; /* of the finest tiles: 16 or 32; merge and run offer 16 */
-    uint64_t spatial; /* the spatial filter's published s in 1/256, 0..256; 0 is no filter */
+    uint64_t side; /* of the finest tiles: 16 or 32 */
+    uint64_t spatial; /* the spatial filter's published s in 1/256, 0..256; 0 is no filter, and all that side 32 takes */
 } stacker_tuning;
 
 /* What a call answers: the refusal's number, or 0 with the other fields filled in. */
@@ -107,7 +107,8 @@ typedef enum {
     STACKER_REFUSED_DNG_VALUE = 21,
     STACKER_REFUSED_SIDE = 22,
     STACKER_REFUSED_ROW_LENGTH = 23,
-    STACKER_REFUSED_SPATIAL = 24
+    STACKER_REFUSED_SPATIAL = 24,
+    STACKER_REFUSED_SPATIAL_SIDE = 25
 } stacker_refusal;
 
 /* Aligns each other frame on the reference. Of the tuning only the side is read. */
@@ -197,9 +198,10 @@ static inline const char *stacker_refusal_text(uint64_t number)
     case STACKER_REFUSED_DNG_STRUCTURE: return "not a little-endian TIFF file, or a part of it lies past its end";
     case STACKER_REFUSED_DNG_TAG: return "a DNG file in which a needed tag is absent or a listed one stands twice";
     case STACKER_REFUSED_DNG_VALUE: return "a DNG file with a type, count or value that is not read, or of another size than the burst";
-    case STACKER_REFUSED_SIDE: return "side of the tiles neither 16 nor 32, or 32 where 16 alone is offered";
+    case STACKER_REFUSED_SIDE: return "side of the tiles neither 16 nor 32";
     case STACKER_REFUSED_ROW_LENGTH: return "row length not from width to width + 256";
     case STACKER_REFUSED_SPATIAL: return "spatial strength above 256";
+    case STACKER_REFUSED_SPATIAL_SIDE: return "spatial strength not 0 with tiles of side 32";
     default: return "no refusal of this version";
     }
 }
@@ -297,8 +299,8 @@ static inline const char *stacker_refusal_text(uint64_t number)
    AFTER A CALL that answers 0 the written buffers hold the result, every word of it, and the work area is zero. After a refusal every lent buffer is
    as it was, and every other field of the answer is 0, the index chosen too.
 
-   REFUSALS. A call makes its tests in the order of the numbers, but 22 and 23 before 4, and 18 and 24 after 10, and answers the first that fails: align 1 to 5, 7,
-   11, 22 and 23; merge 1 to 12, 18 and 22 to 24; run 1 to 11, 18 and 22 to 24; run_sharpest run's but for 3, whichever frame it chooses.
+   REFUSALS. A call makes its tests in the order of the numbers, but 22 and 23 before 4, and 18, 24 and 25 after 10, and answers the first that fails: align 1 to 5, 7,
+   11, 22 and 23; merge 1 to 12, 18 and 22 to 25; run 1 to 11, 18 and 22 to 25; run_sharpest run's but for 3, whichever frame it chooses.
    A file is tested line by line: no first LF 15, 13; line two 15, 14, then 1, 2, 3, 9, 10, 4; each row 15, 14, 11; then what follows, 15.
    Writing a PGM file tests 1, 6, 16, 11 in that order, reading one 17, 6, 11.
    Reading a DNG file tests 19, 20, 21, then 1, 2, 3 of the frame's index, 23, 4 and 11 of the file's samples.

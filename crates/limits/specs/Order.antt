@@ -17,7 +17,7 @@ frameTests s reference = shapeTests s ++ referenceRefusal s reference ∷ rowRef
 unfoldable pub burstTests : Shape → (reference : ℕ) → List ℕ
 burstTests s reference = shapeTests s ++ referenceRefusal s reference ∷ sideRefusal s ∷ rowRefusal s ∷ []
 
--- 22 where only side 16 is offered, and the tests with it: the merge's, until it has side 32
+-- 22 where only side 16 is offered, "Side 32 is here refusal 22" (request L14), and the tests with it
 unfoldable pub narrowRefusal : Shape → ℕ
 narrowRefusal s = refuse no.side (not (eqb (s .side) 16))
 
@@ -47,4 +47,8 @@ alignShapeTests s reference samples vectors work = burstTests s reference ++ ali
 
 -- "merge 1 to 12; run 1 to 11, then 12": 1 to 7 of them
 unfoldable pub mergeShapeTests : Shape → (reference samples vectors output work : ℕ) → List ℕ
-mergeShapeTests s reference samples vectors output work = narrowTests s reference ++ mergeLengths s samples vectors output work
+mergeShapeTests s reference samples vectors output work = burstTests s reference ++ mergeLengths s samples vectors output work
+
+-- the same where only side 16 is offered
+unfoldable pub narrowShapeTests : Shape → (reference samples vectors output work : ℕ) → List ℕ
+narrowShapeTests s reference samples vectors output work = narrowTests s reference ++ mergeLengths s samples vectors output work

@@ -7,7 +7,7 @@ use Rattle.refusals.specs.Tests.{first}
 use Rattle.refusals.specs.TestLaws.{among, passed, refuse-not}
 use Rattle.geometry.specs.declared.Shape.{Shape}
 use Rattle.geometry.specs.Shape.{sampleLength, vectorLength, outputLength, workLength}
-use Rattle.limits.specs.Order.{shapeTests, frameTests, burstTests, narrowRefusal, narrowTests, alignLengths, mergeLengths, alignShapeTests, mergeShapeTests}
+use Rattle.limits.specs.Order.{shapeTests, frameTests, burstTests, narrowRefusal, narrowTests, alignLengths, mergeLengths, alignShapeTests, mergeShapeTests, narrowShapeTests}
 use Rattle.limits.specs.Question.{questionTests}
 use Rattle.geometry.specs.Fits.{Allowed, TileSide, AlignFits, MergeFits}
 use Rattle.geometry.specs.ShapeLaws.{allowed, allowed-side, below-count, right-length}
@@ -52,8 +52,23 @@ module _ (s : Shape) (reference : ℕ) where
         }
 
     pub merge-fits : (output work : ℕ) → first (mergeShapeTests s reference samples vectors output work) ≡ 0 → MergeFits s reference samples vectors output work
-    unfolding shapeTests narrowTests mergeLengths mergeShapeTests
+    unfolding shapeTests burstTests mergeLengths mergeShapeTests
     merge-fits output work e =
+        record {
+          burst = record {
+            allowed = allowed s (passed e (search among depth 20)) (passed e (search among depth 20)) (passed e (search among depth 20));
+            sided = allowed-side s (passed e (search among depth 20));
+            reference-below = below-count s reference (passed e (search among depth 20));
+            samples-long = right-length no.sampleLength (sampleLength s) samples tt (passed e (search among depth 20));
+            vectors-long = right-length no.vectorLength (vectorLength s) vectors tt (passed e (search among depth 20));
+          };
+          output-long = right-length no.outputLength (outputLength s) output tt (passed e (search among depth 20));
+          work-long = right-length no.workLength (workLength s) work tt (passed e (search among depth 20));
+        }
+
+    pub narrow-fits : (output work : ℕ) → first (narrowShapeTests s reference samples vectors output work) ≡ 0 → MergeFits s reference samples vectors output work
+    unfolding shapeTests narrowTests mergeLengths narrowShapeTests
+    narrow-fits output work e =
         record {
           burst = record {
             allowed = allowed s (passed e (search among depth 20)) (passed e (search among depth 20)) (passed e (search among depth 20));
@@ -65,7 +80,3 @@ module _ (s : Shape) (reference : ℕ) where
           output-long = right-length no.outputLength (outputLength s) output tt (passed e (search among depth 20));
           work-long = right-length no.workLength (workLength s) work tt (passed e (search among depth 20));
         }
-
-    pub merge-sixteen : (output work : ℕ) → first (mergeShapeTests s reference samples vectors output work) ≡ 0 → s .side ≡ 16
-    unfolding shapeTests narrowTests mergeLengths mergeShapeTests
-    merge-sixteen output work e = sixteen s (passed e (search among depth 20))

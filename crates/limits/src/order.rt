@@ -1,7 +1,7 @@
 // The tests 1 to 7 of the calls, in the order of the numbers with 22 after 3 and 23 before 4, on the lengths of the lent buffers.
 ghost use mathlib.Core.Path.{_≡_};
 ghost use Rattle.refusals.specs.Tests.{first};
-ghost use Rattle.limits.specs.Order.{frameTests, burstTests, narrowRefusal, narrowTests, alignLengths, mergeLengths, alignShapeTests, mergeShapeTests};
+ghost use Rattle.limits.specs.Order.{frameTests, burstTests, narrowRefusal, narrowTests, alignLengths, mergeLengths, alignShapeTests, mergeShapeTests, narrowShapeTests};
 ghost use Rattle.geometry.specs.Fits.{Allowed, TileSide};
 use crate::lengths::length_refusal;
 use crate::lengths::output_length;
@@ -38,7 +38,7 @@ fn burst_refusal(shape: Shape, reference: usize) -> u64
     refusals::first(&[size, count, third, side, row])
 }
 
-// Refusal 22 where only side 16 is offered: the merge's, until it has side 32.
+// Refusal 22 where only side 16 is offered.
 fn narrow_refusal(shape: Shape) -> u64
     ensures { λ r. ⌜ r ≡ narrowRefusal shape ⌝ }
 {
@@ -113,6 +113,24 @@ pub fn merge_shape_refusal(
     work: usize,
 ) -> u64
     ensures { λ r. ⌜ r ≡ first (mergeShapeTests shape reference samples vectors output work) ⌝ }
+{
+    let burst = burst_refusal(shape, reference);
+    if burst != 0 {
+        return burst;
+    }
+    merge_lengths(shape, samples, vectors, output, work)
+}
+
+// The same where only side 16 is offered.
+pub fn narrow_shape_refusal(
+    shape: Shape,
+    reference: usize,
+    samples: usize,
+    vectors: usize,
+    output: usize,
+    work: usize,
+) -> u64
+    ensures { λ r. ⌜ r ≡ first (narrowShapeTests shape reference samples vectors output work) ⌝ }
 {
     let burst = narrow_tests(shape, reference);
     if burst != 0 {

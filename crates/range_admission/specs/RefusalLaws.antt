@@ -6,8 +6,8 @@ use Rattle.refusals.specs.Tests.{refuse, first}
 use Rattle.geometry.specs.declared.Shape.{Shape}
 use Rattle.geometry.specs.Shape.{sizeRefusal, countRefusal, referenceRefusal, rowRefusal, sampleLength, vectorLength, outputLength, workLength, lengthRefusal}
 use Rattle.geometry.specs.Fits.{MergeFits}
-use Rattle.limits.specs.Order.{shapeTests, narrowRefusal, narrowTests, mergeLengths, mergeShapeTests}
-use Rattle.limits.specs.OrderLaws.{merge-fits}
+use Rattle.limits.specs.Order.{shapeTests, narrowRefusal, narrowTests, mergeLengths, narrowShapeTests}
+use Rattle.limits.specs.OrderLaws.{narrow-fits}
 use Rattle.refusals.specs.TestLaws.{refuse-not}
 use Rattle.range_admission.specs.Refusals.{rangeShapeTests, filterRefusal}
 
@@ -50,17 +50,17 @@ module _ (s : Shape) (reference samples vectors low high work : ℕ) where
   abbrev wrong : ℕ → Bool
   wrong n = not (eqb n (outputLength s))
 
-  pub high-refused : first (mergeShapeTests s reference samples vectors high work) ≡ no.outputLength → no.outputLength ≡ first (rangeShapeTests s reference samples vectors low high work)
-  unfolding shapeTests narrowTests mergeLengths mergeShapeTests rangeShapeTests lengthRefusal
+  pub high-refused : first (narrowShapeTests s reference samples vectors high work) ≡ no.outputLength → no.outputLength ≡ first (rangeShapeTests s reference samples vectors low high work)
+  unfolding shapeTests narrowTests mergeLengths narrowShapeTests rangeShapeTests lengthRefusal
   high-refused e = sym (stopped 5 (lengthRefusal no.workLength (workLength s) work) (wrong low) (wrong high) before-6 e)
 
-  pub high-passed : (first (mergeShapeTests s reference samples vectors high work) ≡ no.outputLength → ⊥) → first (mergeShapeTests s reference samples vectors low work) ≡ first (rangeShapeTests s reference samples vectors low high work)
-  unfolding shapeTests narrowTests mergeLengths mergeShapeTests rangeShapeTests lengthRefusal
+  pub high-passed : (first (narrowShapeTests s reference samples vectors high work) ≡ no.outputLength → ⊥) → first (narrowShapeTests s reference samples vectors low work) ≡ first (rangeShapeTests s reference samples vectors low high work)
+  unfolding shapeTests narrowTests mergeLengths narrowShapeTests rangeShapeTests lengthRefusal
   high-passed e = went-on 5 (lengthRefusal no.workLength (workLength s) work) (wrong low) (wrong high) before-6 e
 
   pub range-fits : first (rangeShapeTests s reference samples vectors low high work) ≡ 0 → MergeFits s reference samples vectors low work
-  unfolding shapeTests narrowTests mergeLengths mergeShapeTests rangeShapeTests lengthRefusal
-  range-fits e = merge-fits s reference samples vectors low work (both-one 5 (lengthRefusal no.workLength (workLength s) work) (wrong low) (wrong high) before-6 e)
+  unfolding shapeTests narrowTests mergeLengths narrowShapeTests rangeShapeTests lengthRefusal
+  range-fits e = narrow-fits s reference samples vectors low work (both-one 5 (lengthRefusal no.workLength (workLength s) work) (wrong low) (wrong high) before-6 e)
 
 -- what 24 lets through
 pub unfiltered : (s : ℕ) → filterRefusal s ≡ 0 → s ≡ 0

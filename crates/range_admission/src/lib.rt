@@ -4,7 +4,7 @@ ghost use Rattle.refusals.specs.Tests.{first};
 ghost use Rattle.geometry.specs.Fits.{Sampled};
 ghost use Rattle.range_admission.specs.Refusals.{rangeShapeTests, filterRefusal, rangeContentTests, rangeRefusal};
 use geometry::Shape;
-use limits::order::merge_shape_refusal;
+use limits::order::narrow_shape_refusal;
 use noise::Noise;
 use range::range_noise_refusal;
 use recipe::Tuning;
@@ -21,11 +21,11 @@ fn shape_refusal(
 ) -> u64
     ensures { λ r. ⌜ r ≡ first (rangeShapeTests shape reference samples vectors low high work) ⌝ }
 {
-    let second = merge_shape_refusal(shape, reference, samples, vectors, high, work);
+    let second = narrow_shape_refusal(shape, reference, samples, vectors, high, work);
     if second == refusals::OUTPUT_LENGTH {
         return second;
     }
-    merge_shape_refusal(shape, reference, samples, vectors, low, work)
+    narrow_shape_refusal(shape, reference, samples, vectors, low, work)
 }
 
 // 24, for s not 0.

@@ -1,9 +1,9 @@
 -- What a call's tests let through: each fact is that of one test, found in the list wherever it stands.
-use Rattle.algebra.specs.Prelude.{_≡_, List, ℕ, arith, length, ℤ}
+use Rattle.algebra.specs.Prelude.{_≡_, List, ℕ, length, ℤ}
 use Rattle.refusals.specs.TestLaws.{among, passed, both-passed}
 use Rattle.geometry.specs.declared.Shape.{Shape}
 use Rattle.limits.specs.Order.{alignShapeTests, mergeShapeTests}
-use Rattle.limits.specs.OrderLaws.{align-fits, merge-fits, merge-sixteen}
+use Rattle.limits.specs.OrderLaws.{align-fits, merge-fits}
 use Rattle.values.specs.Bounds.{vectorRefusal}
 use Rattle.values.specs.BoundLaws.{samples-fit}
 use Rattle.noise.specs.declared.Noise.{Noise}
@@ -12,6 +12,7 @@ use Rattle.noise.specs.LevelLaws.{shot-level-bound, read-level-bound, strength-
 use Rattle.alignment.specs.Burst.{Ready}
 use Rattle.pipeline.specs.Levels.{Runnable}
 use Rattle.recipe.specs.declared.Tuning.{Tuning}
+use Rattle.admission.specs.FilterLaws.{unfiltered}
 use Rattle.admission.specs.Refusals.{alignRefusal, contentTests, runTests, runRefusal, mergeRefusal, mergeOf}
 
 module _ (s : Shape) (reference : ℕ) (samples : List ℕ) (vectors : List ℤ) where
@@ -36,7 +37,7 @@ module _ (s : Shape) (reference : ℕ) (samples : List ℕ) (vectors : List ℤ)
           read-most = read-level-bound noise;
           strength-most = strength-most (tuning .strength) (passed content (search among));
           spatial-most = spatial-most (tuning .spatial) (passed content (search among));
-          unfiltered = λ e. absurd (omega (arith, e, merge-sixteen s reference (length samples) (length vectors) (length output) (length work) (both .0)));
+          unfiltered = unfiltered (s .side) (tuning .spatial) (passed content (search among));
         }
 
     -- 12 comes last
