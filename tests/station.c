@@ -62,7 +62,7 @@ static double of_bits(uint64_t bits)
 static void ask_noise(double shot, double read, uint64_t strength, uint64_t root)
 {
     fprintf(questions, "%016" PRIx64 " %016" PRIx64 " %" PRIu64 " %" PRIu64 "\n", bits_of(shot), bits_of(read), strength, root);
-    fprintf(answers, "%" PRIu64 "\n", station_noise(shot, read, strength, root));
+    fprintf(answers, "%" PRIu64 "\n", station_noise(shot, read, strength, root, 16));
 }
 
 static void lengths(void)

@@ -1,5 +1,6 @@
 // The capture station's questions, for C. Each is total: it answers for every argument.
 ghost use mathlib.Core.Path.{_≡_};
+ghost use Rattle.geometry.specs.Shape.{sideAllowed};
 ghost use Rattle.limits.specs.Question.{lengthQuestion};
 ghost use Rattle.burst_file.specs.Reading.{fileCheck};
 ghost use Rattle.station.specs.Station.{noiseQuestion};
@@ -22,13 +23,29 @@ pub extern "C" fn station_length(
     limits::question::length_question(width, height, count, side, row_length, number)
 }
 
-// The root of a tile whose samples are all 4095.
-const ROOT_MOST: u64 = 65520;
+// Whether tiles have that side: refusal 22 stands for any other.
+fn known_side(side: u64) -> bool
+    ensures { λ r. ⌜ r ≡ sideAllowed side ⌝ }
+{
+    if side == 16 {
+        return true;
+    }
+    side == 32
+}
 
-// V of a curve, a strength and a root; 0 where refusal 8, 9 or 10 would stand, or the root exceeds that.
+// The root of a tile whose samples are all 4095 is that times its side.
+const SAMPLE_MOST: u64 = 4095;
+
+// V of a curve, a strength, a root and a side; 0 where refusal 8, 9, 10 or 22 would stand, or the root exceeds that.
 #[no_mangle]
-pub extern "C" fn station_noise(shot: f64, read: f64, strength: u64, root: u64) -> u64
-    ensures { λ r. ⌜ r ≡ noiseQuestion shot read strength root ⌝ }
+pub extern "C" fn station_noise(
+    shot: f64,
+    read: f64,
+    strength: u64,
+    root: u64,
+    side: u64,
+) -> u64
+    ensures { λ r. ⌜ r ≡ noiseQuestion shot read strength root side ⌝ }
 {
     match noise::levels_of(Noise::Measured(Curve { shot, read })) {
         Levels::Refused(_) => 0,
@@ -36,10 +53,13 @@ pub extern "C" fn station_noise(shot: f64, read: f64, strength: u64, root: u64) 
             if noise::strength_refusal(strength) != 0 {
                 return 0;
             }
-            if ROOT_MOST < root {
+            if !known_side(side) {
                 return 0;
             }
-            noise::noise_number(strength, ls, lr, root)
+            if SAMPLE_MOST * side < root {
+                return 0;
+            }
+            noise::side_noise_number(side as usize, strength, ls, lr, root)
         }
     }
 }
