@@ -124,7 +124,7 @@ fn samples_of(bytes: &[u8]) -> usize {
     let text = String::from_utf8_lossy(line);
     let values: Vec<usize> = text.split(' ').flat_map(str::parse).take(3).collect();
     match values[..] {
-        [width @ ..=4096, height @ ..=4096, count @ ..=8] => width * height * count,
+        [width @ 0..=4096, height @ 0..=4096, count @ 0..=8] => width * height * count,
         _ => 0,
     }
 }

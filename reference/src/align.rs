@@ -174,8 +174,9 @@ impl<'a> TilePair<'a> {
 
     /// "At level 3 the guess is (0,0)"; elsewhere "the three candidates are always summed whole".
     fn search(&self, coarse: Option<Coarse>) -> Found {
-        let Some(coarse) = coarse else {
-            return self.best_around(Vector { down: 0, right: 0 });
+        let coarse = match coarse {
+            Some(coarse) => coarse,
+            None => return self.best_around(Vector { down: 0, right: 0 }),
         };
         let candidates = self.candidates(coarse);
         let mut found = self.best_around(self.guess(&candidates));

@@ -241,8 +241,9 @@ fn change_names(names: &mut String, random: &mut Random) {
 }
 
 fn malform(words: &mut Vec<String>, random: &mut Random) {
-    let Some(last) = words.len().checked_sub(1) else {
-        return;
+    let last = match words.len().checked_sub(1) {
+        Some(last) => last,
+        None => return,
     };
     let index = random.below(words.len());
     match random.below(10) {

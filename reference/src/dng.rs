@@ -168,7 +168,7 @@ impl<'a> Directory<'a> {
         };
         let length = size * entry.count as usize;
         let start = match length {
-            ..=4 => entry.field,
+            0..=4 => entry.field,
             _ => long(&self.bytes[entry.field..]) as usize,
         };
         self.bytes.get(start..start + length)
@@ -201,7 +201,7 @@ impl<'a> Directory<'a> {
         let mut right = listed.iter().filter_map(|listed| self.first_right(listed));
         let strip = self
             .strip()
-            .is_none_or(|strip| strip.end <= self.bytes.len());
+            .map_or(true, |strip| strip.end <= self.bytes.len());
         strip && right.all(|entry| self.value(entry).is_some())
     }
 
@@ -216,8 +216,9 @@ impl<'a> Directory<'a> {
         let strip = shape.width.checked_mul(shape.height);
         let strip = strip.and_then(|samples| samples.checked_mul(2));
         let right = |listed: &Listed| {
-            let Some(value) = self.numbers(listed.tag) else {
-                return false;
+            let value = match self.numbers(listed.tag) {
+                Some(value) => value,
+                None => return false,
             };
             match listed.tag {
                 IMAGE_WIDTH => value == [shape.width],

@@ -313,7 +313,7 @@ impl File {
         for (index, entry) in entries.iter().enumerate() {
             let mut field = (random.word() as u32).to_le_bytes();
             match entry.value.len() {
-                length @ ..=4 => field[..length].copy_from_slice(&entry.value),
+                length @ 0..=4 => field[..length].copy_from_slice(&entry.value),
                 _ => field = (*outside.next().expect("a place each") as u32).to_le_bytes(),
             }
             if entry.tag == dng::STRIP_OFFSETS {

@@ -50,9 +50,8 @@ fn read_header(bytes: &[u8]) -> Result<(Header, &[u8]), Refusal> {
     require(first == NAMES, Refusal::FirstLine)?;
     let (second, rest) = split_line(rest)?;
     let values = values(second)?;
-    let [width, height, count, reference, shot, read, strength] = values[..] else {
-        return Err(Refusal::ValueLine);
-    };
+    let values: [_; 7] = values.try_into().map_err(|_| Refusal::ValueLine)?;
+    let [width, height, count, reference, shot, read, strength] = values;
     let header = Header {
         shape: Shape::packed(width, height, count),
         reference,

@@ -202,7 +202,12 @@ fn noise_numbers() -> impl Iterator<Item = Call> {
     let mut random = Random::new(6);
     let powers = [4, 16, 32, 64, 256, 512, 1024];
     let levels = [(1 << 20) - 1, 1 << 20, (1 << 20) + 1];
-    let pictures = [Picture::Shifted, Picture::Extremes, Picture::Noise, Picture::Flat];
+    let pictures = [
+        Picture::Shifted,
+        Picture::Extremes,
+        Picture::Noise,
+        Picture::Flat,
+    ];
     let numbers = powers
         .into_iter()
         .flat_map(move |strength| levels.map(|level| (strength, level)));
@@ -233,7 +238,12 @@ fn white_references() -> impl Iterator<Item = Call> {
         [1025, 4191234],
         [65536, 4194304],
     ];
-    let pictures = [Picture::Shifted, Picture::Extremes, Picture::Noise, Picture::Flat];
+    let pictures = [
+        Picture::Shifted,
+        Picture::Extremes,
+        Picture::Noise,
+        Picture::Flat,
+    ];
     let each = levels
         .into_iter()
         .flat_map(move |level| pictures.map(|picture| (level, picture)));

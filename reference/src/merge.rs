@@ -135,6 +135,18 @@ pub fn merge(setting: &Setting) -> Vec<u16> {
     frame.into_samples()
 }
 
+/// The greatest number whose square is at most n: bit by bit, from the highest.
+fn whole_root(n: u64) -> u64 {
+    (0..32).rev().fold(0, |root, bit| {
+        let more = root | 1 << bit;
+        if more * more <= n {
+            more
+        } else {
+            root
+        }
+    })
+}
+
 /// "r = floor of the root of the sum of T0 squared: the RMS in sixteenths", where "each reference sample counts as the
 /// amount by which it exceeds its plane's black, or 0".
 pub fn root(tile: &Tile, black: i64) -> u64 {
@@ -144,7 +156,7 @@ pub fn root(tile: &Tile, black: i64) -> u64 {
         .flatten()
         .map(|sample| excess(sample).pow(2))
         .sum();
-    (squares as u64).isqrt()
+    whole_root(squares as u64)
 }
 
 /// P of one difference tile.

@@ -68,7 +68,7 @@ fn file(head: [u64; 4], noise: [u64; 3], picture: Picture, random: &mut Random) 
     let [width, height, count, _] = head;
     let shape = Shape::packed(width, height, count);
     let highest = match shape.samples_length() / 4096 {
-        ..=3 => 4095,
+        0..=3 => 4095,
         4..=5 => 99,
         _ => 9,
     };

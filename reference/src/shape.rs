@@ -67,6 +67,6 @@ impl Shape {
 
 /// "Width W and height H are multiples of 64 from 64 to 4096."
 pub fn size_allowed(width: u64, height: u64) -> bool {
-    let allowed = |side: u64| side.is_multiple_of(64) && (64..=4096).contains(&side);
+    let allowed = |side: u64| side % 64 == 0 && (64..=4096).contains(&side);
     allowed(width) && allowed(height)
 }

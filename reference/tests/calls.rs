@@ -48,8 +48,9 @@ fn with_fault(mut call: Call, number: u64) -> Call {
 fn check_pairs(perform: fn(&mut Call) -> Answer, tested: &[u64]) {
     for (index, &first) in FAULTS.iter().enumerate() {
         for &second in &FAULTS[index..] {
-            let Some(&number) = tested.iter().find(|&&n| n == first || n == second) else {
-                continue;
+            let number = match tested.iter().find(|&&n| n == first || n == second) {
+                Some(&number) => number,
+                None => continue,
             };
             let lent = with_fault(with_fault(good(), second), first);
             let mut call = lent.clone();

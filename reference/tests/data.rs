@@ -84,7 +84,10 @@ fn vectors_outside_are_refused() {
 
 #[test]
 fn black_levels_are_tested_after_strength_and_before_samples() {
-    let last = calls().skip(198).take(3).map(|mut call| call.merge().number);
+    let last = calls()
+        .skip(198)
+        .take(3)
+        .map(|mut call| call.merge().number);
     assert_eq!(last.collect::<Vec<_>>(), [10, 18, 10]);
 }
 

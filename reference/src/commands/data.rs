@@ -70,7 +70,7 @@ pub fn write_with_places(calls: impl Iterator<Item = Call>) -> Outcome {
 fn put_call_with_places(out: &mut impl Write, call: &Call, places: &[[u64; 2]]) -> Outcome {
     put_call(out, call)?;
     (places.len() as u64).put(out)?;
-    put_many(out, places.as_flattened())?;
+    put_many(out, &places.concat())?;
     Ok(())
 }
 

@@ -26,8 +26,9 @@ fn take_places(input: &mut impl Read) -> std::io::Result<Vec<[u64; 2]>> {
 /// `refused N`, or one line per place.
 fn write_places(out: &mut impl Write, mut call: Call, places: &[[u64; 2]]) -> Outcome {
     let number = call.merge().number;
-    let (0, Ok(noise)) = (number, call.denoising.model()) else {
-        return Ok(writeln!(out, "refused {number}")?);
+    let noise = match (number, call.denoising.model()) {
+        (0, Ok(noise)) => noise,
+        _ => return Ok(writeln!(out, "refused {number}")?),
     };
     let shape = call.burst.shape;
     for &[row, column] in places {

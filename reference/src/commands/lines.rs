@@ -24,8 +24,9 @@ pub fn answer_each(answer: fn(&[&str]) -> Answer) -> Outcome {
 
 /// `width height count side row_length number`
 pub fn length(words: &[&str]) -> Answer {
-    let [width, height, count, side, row_length, number] = words else {
-        return Err("expected `width height count side row_length number`".into());
+    let [width, height, count, side, row_length, number] = match words {
+        [a, b, c, d, e, f] => [a, b, c, d, e, f],
+        _ => return Err("expected `width height count side row_length number`".into()),
     };
     let shape = Shape {
         width: width.parse()?,
@@ -39,8 +40,9 @@ pub fn length(words: &[&str]) -> Answer {
 
 /// `shotbits readbits strength root`
 pub fn noise(words: &[&str]) -> Answer {
-    let [shot, read, strength, root] = words else {
-        return Err("expected `shotbits readbits strength root`".into());
+    let [shot, read, strength, root] = match words {
+        [a, b, c, d] => [a, b, c, d],
+        _ => return Err("expected `shotbits readbits strength root`".into()),
     };
     let Curve { shot, read } = curve(shot, read)?;
     let answer = station_noise(shot, read, strength.parse()?, root.parse()?);

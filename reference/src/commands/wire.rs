@@ -28,7 +28,7 @@ macro_rules! word {
     ($($type:ty)*) => {$(
         impl Word for $type {
             fn take(input: &mut impl Read) -> Result<Self> {
-                let mut bytes = [0; size_of::<$type>()];
+                let mut bytes = [0; std::mem::size_of::<$type>()];
                 input.read_exact(&mut bytes)?;
                 Ok(<$type>::from_le_bytes(bytes))
             }
