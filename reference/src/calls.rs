@@ -26,6 +26,18 @@ pub struct Answer {
 }
 
 impl Call {
+    /// A call whose buffers have the right lengths: vectors of 0, and an output that no merge leaves.
+    pub fn fitting(burst: Burst, denoising: Denoising) -> Call {
+        let shape = burst.shape;
+        Call {
+            burst,
+            denoising,
+            vectors: vec![0; shape.vectors_length() as usize],
+            output: vec![55555; shape.output_length() as usize],
+            work_length: shape.work_length(),
+        }
+    }
+
     /// "align (burst to vectors)".
     pub fn align(&mut self) -> Answer {
         let accepted = self.check_align();

@@ -14,8 +14,8 @@ pub fn sample(setting: &Setting, row: i64, column: i64) -> Fraction {
     let plane = setting.plane(row % 2, column % 2);
     let mut terms = Vec::new();
     for cover in covering_tiles(row / 2, column / 2) {
-        let (differences, noise) = plane.differences(cover.tile_row, cover.tile_column);
-        for difference in differences {
+        let noise = plane.noise_number(cover.tile_row, cover.tile_column);
+        for difference in plane.differences(cover.tile_row, cover.tile_column) {
             terms.extend(weighted_correction(&difference, noise, &cover));
         }
     }

@@ -3,6 +3,7 @@
 
 use crate::burst::Burst;
 use crate::calls::Call;
+use crate::ghosts;
 use crate::noise::{Curve, Denoising, Noise};
 use crate::pictures::{dark, Picture};
 use crate::random::Random;
@@ -29,6 +30,7 @@ pub fn calls() -> impl Iterator<Item = Call> {
         .chain(noise_numbers())
         .chain(white_references())
         .chain(dark_planes())
+        .chain(ghosts::calls())
 }
 
 /// Every count with every reference at one size. In eight rounds each of them meets every picture,
@@ -62,24 +64,19 @@ fn all_frames() -> Vec<[u64; 2]> {
 
 /// The call whose turn it is: eight pictures, seven black levels, five noises and three kinds of lent vectors.
 fn call(turn: usize, shape: Shape, reference: u64, random: &mut Random) -> Call {
-    let samples = Picture::ALL[turn % 8].samples(shape, random);
-    let part = |_| match turn % 3 {
+    let burst = Burst {
+        shape,
+        reference,
+        black: black(turn),
+        samples: Picture::ALL[turn % 8].samples(shape, random),
+    };
+    let mut call = Call::fitting(burst, denoising(turn));
+    call.vectors.fill_with(|| match turn % 3 {
         0 => random.below(345) as i32 - 172,
         1 => random.pick(&[-172, 172]),
         _ => 0,
-    };
-    Call {
-        vectors: (0..shape.vectors_length()).map(part).collect(),
-        burst: Burst {
-            shape,
-            reference,
-            black: black(turn),
-            samples,
-        },
-        denoising: denoising(turn),
-        output: vec![55555; shape.output_length() as usize],
-        work_length: shape.work_length(),
-    }
+    });
+    call
 }
 
 fn black(turn: usize) -> [u64; 4] {

@@ -18,19 +18,15 @@ pub fn call() -> Call {
         shot: 0.0,
         read: 3422141.0 / 1024.0,
     };
-    Call {
-        burst: Burst {
-            shape,
-            reference: 0,
-            black: [0; 4],
-            samples,
-        },
-        denoising: Denoising {
-            noise: Noise::Curve(curve),
-            strength: 1024,
-        },
-        vectors: vec![0; shape.vectors_length() as usize],
-        output: vec![55555; shape.output_length() as usize],
-        work_length: shape.work_length(),
-    }
+    let burst = Burst {
+        shape,
+        reference: 0,
+        black: [0; 4],
+        samples,
+    };
+    let denoising = Denoising {
+        noise: Noise::Curve(curve),
+        strength: 1024,
+    };
+    Call::fitting(burst, denoising)
 }

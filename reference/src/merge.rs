@@ -21,7 +21,12 @@ pub struct Setting<'a> {
 }
 
 impl<'a> Setting<'a> {
-    /// One of the four planes, by parity of row and column.
+    /// "four planes of W/2 by H/2, by parity of row and column".
+    pub fn planes(&self) -> [Plane<'a>; 4] {
+        [(0, 0), (0, 1), (1, 0), (1, 1)].map(|(row, column)| self.plane(row, column))
+    }
+
+    /// One of them.
     pub fn plane(&self, row_parity: i64, column_parity: i64) -> Plane<'a> {
         let plane = |frame| self.burst.plane(frame, row_parity, column_parity);
         Plane {
@@ -47,18 +52,28 @@ impl Plane<'_> {
         (self.reference.height / 8, self.reference.width / 8)
     }
 
-    /// T0−Tz for each other frame, and V, of the tile with these indices.
-    pub fn differences(&self, row: i64, column: i64) -> (Vec<Tile>, u64) {
-        let (top, left) = (8 * row - 8, 8 * column - 8);
-        let tile = self.reference.tile(top, left);
+    /// A value for each tile, by its indices.
+    pub fn for_tiles<T>(&self, value: impl Fn(i64, i64) -> T) -> Vec<Vec<T>> {
+        let (last_row, last_column) = self.last_tile();
+        let tile_row = |row| (0..=last_column).map(|column| value(row, column)).collect();
+        (0..=last_row).map(tile_row).collect()
+    }
+
+    /// T0−Tz of the tile with these indices, for each other frame.
+    pub fn differences(&self, row: i64, column: i64) -> Vec<Tile> {
+        let tile = tile(&self.reference, row, column, (0, 0));
         let difference = |(slot, other): (usize, &Image)| {
-            let (down, right) = self.vector(slot, row, column);
-            let moved = other.tile(top + down, left + right);
+            let moved = self::tile(other, row, column, self.vector(slot, row, column));
             subtracted(&tile, &moved)
         };
-        let differences = self.others.iter().enumerate().map(difference).collect();
+        self.others.iter().enumerate().map(difference).collect()
+    }
+
+    /// V of the tile with these indices.
+    pub fn noise_number(&self, row: i64, column: i64) -> u64 {
+        let tile = tile(&self.reference, row, column, (0, 0));
         let root = root(&tile, self.black);
-        (differences, self.setting.noise.noise_number(root))
+        self.setting.noise.noise_number(root)
     }
 
     /// "use its vectors unscaled".
@@ -71,9 +86,9 @@ impl Plane<'_> {
 
     /// The sum over the other frames of P for the tile with these indices.
     fn corrections(&self, row: i64, column: i64) -> Tile {
-        let (differences, noise) = self.differences(row, column);
+        let noise = self.noise_number(row, column);
         let mut sum = [[0; 16]; 16];
-        for difference in differences {
+        for difference in self.differences(row, column) {
             let correction = correction(&difference, noise);
             sum = map_tile(|y, x| sum[y][x] + correction[y][x]);
         }
@@ -82,9 +97,7 @@ impl Plane<'_> {
 
     /// The merged plane.
     fn merged(&self) -> Image {
-        let (last_row, last_column) = self.last_tile();
-        let tile_row = |row| (0..=last_column).map(move |column| self.corrections(row, column));
-        let tiles: Vec<Vec<Tile>> = (0..=last_row).map(|row| tile_row(row).collect()).collect();
+        let tiles = self.for_tiles(|row, column| self.corrections(row, column));
         let count = self.setting.burst.shape.count as i64;
         let merged = |row, column| {
             let term = |cover: Cover| {
@@ -96,6 +109,11 @@ impl Plane<'_> {
         };
         Image::from_fn(self.reference.width, self.reference.height, merged)
     }
+}
+
+/// The tile with these indices, moved by a vector; its origin is one of level 0.
+fn tile(plane: &Image, row: i64, column: i64, (down, right): (i64, i64)) -> Tile {
+    plane.tile(8 * row - 8 + down, 8 * column - 8 + right)
 }
 
 /// A tile's indices, and a sample's place inside it.
@@ -126,8 +144,7 @@ pub fn covering_tiles(row: i64, column: i64) -> [Cover; 4] {
 
 /// The merged frame, row by row.
 pub fn merge(setting: &Setting) -> Vec<u16> {
-    let parities = [(0, 0), (0, 1), (1, 0), (1, 1)];
-    let planes = parities.map(|(row, column)| setting.plane(row, column).merged());
+    let planes = setting.planes().map(|plane| plane.merged());
     let shape = setting.burst.shape;
     let frame = Image::from_fn(shape.width as i64, shape.height as i64, |row, column| {
         planes[(2 * (row % 2) + column % 2) as usize].at(row / 2, column / 2)
@@ -136,7 +153,7 @@ pub fn merge(setting: &Setting) -> Vec<u16> {
 }
 
 /// The greatest number whose square is at most n: bit by bit, from the highest.
-fn whole_root(n: u64) -> u64 {
+pub fn whole_root(n: u64) -> u64 {
     (0..32).rev().fold(0, |root, bit| {
         let more = root | 1 << bit;
         if more * more <= n {

@@ -69,17 +69,11 @@ fn stacked(bytes: &[u8]) -> Result<Stacked, Stop> {
 
 /// The call of run for a file, with buffers of the right lengths.
 fn call(file: BurstFile) -> Call {
-    let shape = file.burst.shape;
-    Call {
-        burst: file.burst,
-        denoising: Denoising {
-            noise: Noise::Curve(curve(file.noise.levels)),
-            strength: file.noise.strength,
-        },
-        vectors: vec![0; shape.vectors_length() as usize],
-        output: vec![0; shape.output_length() as usize],
-        work_length: shape.work_length(),
-    }
+    let denoising = Denoising {
+        noise: Noise::Curve(curve(file.noise.levels)),
+        strength: file.noise.strength,
+    };
+    Call::fitting(file.burst, denoising)
 }
 
 /// The curve whose levels are a file's: both quotients are exact.

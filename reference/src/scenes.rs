@@ -39,11 +39,8 @@ fn call(side: u64, random: &mut Random) -> Call {
     };
     burst.pad(random.pick(&[0, 0, 1, 5, 256]), random);
     Call {
-        burst,
-        denoising: denoising(random),
         vectors,
-        output: vec![55555; shape.output_length() as usize],
-        work_length: shape.work_length(),
+        ..Call::fitting(burst, denoising(random))
     }
 }
 

@@ -1,8 +1,10 @@
 //! The fixed calls and the moving files hold what README.md says of them.
 
 use reference::calls::Call;
+use reference::ceiling::{self, Leaks};
 use reference::file::check;
 use reference::fixed_calls::{calls, of_size};
+use reference::ghosts;
 use reference::moving_files::cases;
 use reference::programs::{motion, stack};
 use std::collections::BTreeSet;
@@ -89,6 +91,22 @@ fn black_levels_are_tested_after_strength_and_before_samples() {
         .take(3)
         .map(|mut call| call.merge().number);
     assert_eq!(last.collect::<Vec<_>>(), [10, 18, 10]);
+}
+
+#[test]
+fn ghosts_come_near_the_ceiling() {
+    let mut leaks = Leaks::default();
+    let calls: Vec<Call> = ghosts::calls().collect();
+    assert_eq!(calls.len(), 5 * 8 * 3);
+    for mut call in calls {
+        assert_eq!(call.merge().number, 0);
+        let noise = call.denoising.model().unwrap();
+        let found = ceiling::leaks(&call.setting(noise), &call.output);
+        found.into_iter().for_each(|leak| leaks.add(leak));
+    }
+    assert_eq!((leaks.words, leaks.forbidden), (120 * 4096, None));
+    // Seven of eight frames lack the object: seven eighths of the noise's half root.
+    assert_eq!(leaks.nearest.to_string(), "1372 of 1568");
 }
 
 /// Why run has no refusal 12.

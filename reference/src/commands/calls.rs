@@ -4,29 +4,64 @@ use super::wire::{self, put_many, take_array, take_many, Word};
 use super::Outcome;
 use reference::burst::Burst;
 use reference::calls::{Answer, Call};
+use reference::ceiling::{self, Leaks};
 use reference::noise::{Curve, Denoising, Noise};
 use reference::shape::Shape;
 use std::error::Error;
 use std::io::{Read, Write};
 
-/// Answers every call on standard input.
-pub fn answer_each(perform: fn(&mut Call) -> Answer) -> Outcome {
+/// Answers every call of align on standard input.
+pub fn align_each() -> Outcome {
     wire::answer_each(|input, out| {
         let mut call = take_call(input)?;
-        put_answer(out, &perform(&mut call))?;
+        put_answer(out, &call.align())?;
         put_buffers(out, &call)
     })
 }
 
-/// Answers every choosing run on standard input: the chosen index comes after run's answer.
+/// Answers every call of merge or run on standard input, and tells of their leaks.
+pub fn merge_each(perform: fn(&mut Call) -> Answer) -> Outcome {
+    let mut leaks = Leaks::default();
+    wire::answer_each(|input, out| {
+        let mut call = take_call(input)?;
+        let answer = perform(&mut call);
+        add_leaks(&mut leaks, &call, &answer);
+        put_answer(out, &answer)?;
+        put_buffers(out, &call)
+    })?;
+    tell(&leaks)
+}
+
+/// Answers every choosing run on standard input, and tells of their leaks: the chosen index comes after run's answer.
 pub fn choose_each() -> Outcome {
+    let mut leaks = Leaks::default();
     wire::answer_each(|input, out| {
         let mut call = take_call(input)?;
         let (answer, reference) = call.choose();
+        add_leaks(&mut leaks, &call, &answer);
         put_answer(out, &answer)?;
         reference.put(out)?;
         put_buffers(out, &call)
-    })
+    })?;
+    tell(&leaks)
+}
+
+/// Adds the leaks of an accepted call.
+fn add_leaks(leaks: &mut Leaks, call: &Call, answer: &Answer) {
+    if let (0, Ok(noise)) = (answer.number, call.denoising.model()) {
+        for leak in ceiling::leaks(&call.setting(noise), &call.output) {
+            leaks.add(leak);
+        }
+    }
+}
+
+/// Writes to standard error what the leaks come to; one above its ceiling is an error.
+fn tell(leaks: &Leaks) -> Outcome {
+    eprintln!("{leaks}");
+    match leaks.forbidden {
+        Some(leak) => Err(format!("a merged sample lies above its ceiling: {leak}").into()),
+        None => Ok(()),
+    }
 }
 
 fn put_answer(out: &mut impl Write, answer: &Answer) -> Outcome {
