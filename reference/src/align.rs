@@ -1,8 +1,9 @@
 //! Alignment: tiles of each level, their candidates, and the search around the guess.
 
 use crate::burst::Burst;
-use crate::image::{Image, Square};
+use crate::image::Image;
 use crate::pyramid::pyramid;
+use crate::square::Square;
 
 /// What align finds for a burst.
 pub struct Alignment {
@@ -155,7 +156,7 @@ struct TilePair<'a> {
     top: i64,
     left: i64,
     /// The reference's.
-    tile: Square,
+    tile: Square<i32>,
 }
 
 impl<'a> TilePair<'a> {
@@ -180,7 +181,7 @@ impl<'a> TilePair<'a> {
         };
         let candidates = self.candidates(coarse);
         let mut found = self.best_around(self.guess(&candidates));
-        found.summed += (candidates.len() * self.tile.side) as u64;
+        found.summed += (candidates.len() * self.tile.side()) as u64;
         found
     }
 
@@ -244,7 +245,7 @@ impl<'a> TilePair<'a> {
     }
 
     /// The other frame's square that begins at the tile's origin moved by `vector`.
-    fn moved(&self, vector: Vector, side: i64) -> Square {
+    fn moved(&self, vector: Vector, side: i64) -> Square<i32> {
         let (top, left) = (self.top + vector.down, self.left + vector.right);
         self.pair.other.square(top, left, side)
     }
@@ -274,13 +275,13 @@ fn sum_and_rows(best: i64, sums: impl Iterator<Item = i64>) -> (i64, u64) {
 /// The sums over the rows of a tile and of the part of `around` that begins at `row` and `column`.
 fn row_sums<'a>(
     difference: Difference,
-    tile: &'a Square,
-    around: &'a Square,
+    tile: &'a Square<i32>,
+    around: &'a Square<i32>,
     row: usize,
     column: usize,
 ) -> impl Iterator<Item = i64> + 'a {
-    (0..tile.side).map(move |y| {
-        let moved = &around.row(row + y)[column..][..tile.side];
+    (0..tile.side()).map(move |y| {
+        let moved = &around.row(row + y)[column..][..tile.side()];
         let pixels = tile.row(y).iter().zip(moved);
         let distances = pixels.map(|(a, b)| i64::from(a.abs_diff(*b)));
         match difference {

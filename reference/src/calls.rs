@@ -3,7 +3,7 @@
 use crate::align;
 use crate::burst::Burst;
 use crate::merge::{self, Setting};
-use crate::noise::{Denoising, NoiseModel};
+use crate::noise::{Noise, NoiseModel, Tuning};
 use crate::refusal::{require, Refusal};
 use crate::sharpness::sharpest;
 
@@ -11,7 +11,8 @@ use crate::sharpness::sharpest;
 #[derive(Clone)]
 pub struct Call {
     pub burst: Burst,
-    pub denoising: Denoising,
+    pub noise: Noise,
+    pub tuning: Tuning,
     pub vectors: Vec<i32>,
     pub output: Vec<u16>,
     pub work_length: u64,
@@ -27,11 +28,12 @@ pub struct Answer {
 
 impl Call {
     /// A call whose buffers have the right lengths: vectors of 0, and an output that no merge leaves.
-    pub fn fitting(burst: Burst, denoising: Denoising) -> Call {
+    pub fn fitting(burst: Burst, noise: Noise, tuning: Tuning) -> Call {
         let shape = burst.shape;
         Call {
             burst,
-            denoising,
+            noise,
+            tuning,
             vectors: vec![0; shape.vectors_length() as usize],
             output: vec![55555; shape.output_length() as usize],
             work_length: shape.work_length(),
@@ -74,8 +76,13 @@ impl Call {
         (self.run(), self.burst.reference)
     }
 
-    /// What an accepted merge rests on.
-    pub fn setting(&self, noise: NoiseModel) -> Setting<'_> {
+    /// What an accepted merge rests on, or refusal 8, 9 or 10.
+    pub fn setting(&self) -> Result<Setting<'_>, Refusal> {
+        let noise = self.noise.model(self.tuning)?;
+        Ok(self.setting_with(noise))
+    }
+
+    fn setting_with(&self, noise: NoiseModel) -> Setting<'_> {
         Setting {
             burst: &self.burst,
             vectors: &self.vectors,
@@ -98,7 +105,7 @@ impl Call {
         Ok(noise)
     }
 
-    /// Refusals 1 to 10, with 23 before 4, then 18 and 11: vectors found level by level reach at most 4, 20, 84 and 172, so run has no 12.
+    /// Refusals 1 to 10, with 23 before 4, then 18, 24 and 11: vectors found level by level reach at most 4, 20, 84 and 172, so run has no 12.
     fn check_run(&self) -> Result<NoiseModel, Refusal> {
         self.check_burst()?;
         self.check_vectors_length()?;
@@ -108,8 +115,9 @@ impl Call {
             Refusal::OutputLength,
         )?;
         self.check_work_length()?;
-        let noise = self.denoising.model()?;
+        let noise = self.noise.model(self.tuning)?;
         self.check_black()?;
+        self.tuning.check_spatial()?;
         self.check_samples()?;
         Ok(noise)
     }
@@ -173,7 +181,7 @@ impl Call {
     }
 
     fn merge_output(&mut self, noise: NoiseModel) {
-        self.output = merge::merge(&self.setting(noise));
+        self.output = merge::merge(&self.setting_with(noise));
     }
 }
 

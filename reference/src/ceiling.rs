@@ -1,7 +1,8 @@
 //! The ceiling on what leaks into the reference: how far a merged sample lies from the reference sample, beside "one step
 //! plus half the square root of the largest noise number (in squared samples) of the four tiles over it".
 
-use crate::merge::{covering_tiles, whole_root, Cover, Setting};
+use crate::merge::{covering_tiles, Cover, Setting};
+use crate::noise::whole_root;
 use std::fmt;
 
 /// The leak at one merged sample.

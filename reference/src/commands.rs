@@ -12,8 +12,9 @@ mod wire;
 use reference::calls::Call;
 use reference::cases::cases;
 use reference::programs::{motion, stack};
-use reference::{fixed_calls, moving_files};
+use reference::{filtered_calls, fixed_calls, lone_sample, moving_files};
 use std::error::Error;
+use std::iter::once;
 
 pub type Outcome = Result<(), Box<dyn Error>>;
 
@@ -36,7 +37,12 @@ pub fn dispatch(arguments: &[String]) -> Outcome {
         ["read-pgm"] => pgm::answer_readings(),
         ["read-dng"] => dng::answer_readings(),
         ["exact"] => exact::answer_each(),
-        ["lone-sample"] => data::write_lone_sample(),
+        ["lone-sample"] => data::write_lone_samples(once(lone_sample::PLAIN)),
+        ["filtered-sample"] => data::write_lone_samples(once(lone_sample::FILTERED)),
+        ["filtered-samples", count, seed] => {
+            let samples = lone_sample::filtered(count.parse()?, seed.parse()?);
+            data::write_lone_samples(samples)
+        }
         ["cases", directory, seed] => data::write_files(directory, seed, cases),
         ["moving", directory, seed] => data::write_files(directory, seed, moving_files::cases),
         ["damaged", count, seed] => data::write_damaged(count, seed),
@@ -49,9 +55,17 @@ pub fn dispatch(arguments: &[String]) -> Outcome {
             let calls = fixed_calls::of_size(width.parse()?, height.parse()?, round.parse()?);
             data::write_each(calls)
         }
+        ["filtered-calls", width, height, round] => {
+            let calls = filtered_calls::of_size(width.parse()?, height.parse()?, round.parse()?);
+            data::write_each(calls)
+        }
         ["fixed-places", width, height, round] => {
             let calls = fixed_calls::of_size(width.parse()?, height.parse()?, round.parse()?);
-            data::write_with_places(calls)
+            data::write_with_places(calls, 8)
+        }
+        ["filtered-places", width, height, round] => {
+            let calls = filtered_calls::of_size(width.parse()?, height.parse()?, round.parse()?);
+            data::write_with_places(calls, 2)
         }
         _ => Err("unknown subcommand; README.md lists them".into()),
     }

@@ -1,10 +1,9 @@
 //! The exact merge: "the same r, V and vectors", "the other steps in fractions".
 
 use crate::fraction::Fraction;
-use crate::image::Tile;
 use crate::integer::Integer;
 use crate::merge::{covering_tiles, Cover, Setting};
-use crate::transform::{forward, turn};
+use crate::transform::{forward, turn, Tile, SIDE};
 use std::cmp::Ordering;
 use std::collections::BTreeMap;
 
@@ -44,9 +43,11 @@ fn correction_terms(difference: &Tile, noise: i128, cover: &Cover) -> BTreeMap<i
     if noise == 0 {
         return terms;
     }
-    let (y, x) = (cover.row as usize, cover.column as usize);
-    for (u, row) in forward(difference).iter().enumerate() {
-        for (v, bin) in row.iter().enumerate() {
+    let (y, x) = cover.place();
+    let bins = forward(difference);
+    for u in 0..SIDE {
+        for v in 0..SIDE {
+            let bin = bins[(u, v)];
             let factor = turn(u * y).times(turn(v * x));
             let denominator = 256 * (256 * bin.squared() + (noise << 56));
             *terms.entry(denominator).or_default() += bin.real_product(factor) * noise;
@@ -55,7 +56,7 @@ fn correction_terms(difference: &Tile, noise: i128, cover: &Cover) -> BTreeMap<i
     terms
 }
 
-fn held(value: Fraction) -> Fraction {
+pub fn held(value: Fraction) -> Fraction {
     let (lowest, highest) = (Fraction::from(0), Fraction::from(4095));
     match (value.compare(&lowest), value.compare(&highest)) {
         (Ordering::Less, _) => lowest,

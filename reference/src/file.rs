@@ -1,7 +1,7 @@
 //! The burst file: reading, and the file check.
 
 use crate::burst::Burst;
-use crate::noise::{Levels, NoiseModel};
+use crate::noise::{Levels, NoiseModel, Tuning};
 use crate::refusal::{number, require, Refusal};
 use crate::shape::Shape;
 
@@ -15,7 +15,7 @@ struct Header {
     noise: NoiseModel,
 }
 
-/// What an accepted file holds; its black levels are 0.
+/// What an accepted file holds; its black levels are 0, and it has no spatial filter.
 #[derive(Debug, PartialEq, Eq)]
 pub struct BurstFile {
     pub burst: Burst,
@@ -57,7 +57,7 @@ fn read_header(bytes: &[u8]) -> Result<(Header, &[u8]), Refusal> {
         reference,
         noise: NoiseModel {
             levels: Levels { shot, read },
-            strength,
+            tuning: Tuning::plain(strength),
         },
     };
     header.shape.check()?;

@@ -3,8 +3,9 @@
 
 use crate::burst::Burst;
 use crate::calls::Call;
+use crate::filtered_calls;
 use crate::ghosts;
-use crate::noise::{Curve, Denoising, Noise};
+use crate::noise::{Curve, Levels, Noise, Tuning};
 use crate::pictures::{dark, Picture};
 use crate::random::Random;
 use crate::shape::Shape;
@@ -31,6 +32,7 @@ pub fn calls() -> impl Iterator<Item = Call> {
         .chain(white_references())
         .chain(dark_planes())
         .chain(ghosts::calls())
+        .chain(filtered_calls::calls())
 }
 
 /// Every count with every reference at one size. In eight rounds each of them meets every picture,
@@ -70,7 +72,8 @@ fn call(turn: usize, shape: Shape, reference: u64, random: &mut Random) -> Call 
         black: black(turn),
         samples: Picture::ALL[turn % 8].samples(shape, random),
     };
-    let mut call = Call::fitting(burst, denoising(turn));
+    let (noise, strength) = noise_and_strength(turn);
+    let mut call = Call::fitting(burst, noise, Tuning::plain(strength));
     call.vectors.fill_with(|| match turn % 3 {
         0 => random.below(345) as i32 - 172,
         1 => random.pick(&[-172, 172]),
@@ -89,13 +92,13 @@ fn black(turn: usize) -> [u64; 4] {
     }
 }
 
-fn denoising(turn: usize) -> Denoising {
+fn noise_and_strength(turn: usize) -> (Noise, u64) {
     let curve = |shot, read| Noise::Curve(Curve { shot, read });
     let base = Curve {
         shot: 0.37,
         read: 2.5,
     };
-    let (noise, strength) = match turn % 5 {
+    match turn % 5 {
         0 => (curve(0.37, 100.0), 8),
         // The greatest noise number that there is.
         1 => (curve(64.0, 4096.0), 1024),
@@ -103,8 +106,7 @@ fn denoising(turn: usize) -> Denoising {
         2 => (curve(64.0, 4096.0), 0),
         3 => (curve(0.0, 0.0), 1024),
         _ => (Noise::Iso(3200, base), 77),
-    };
-    Denoising { noise, strength }
+    }
 }
 
 /// Vectors around the half periods of 32 wide planes, at which the direction of reading turns.
@@ -115,7 +117,7 @@ fn mirrored_reads() -> impl Iterator<Item = Call> {
         let shape = Shape::packed(width, height, 8);
         let mut call = call(turn, shape, 7, &mut random);
         call.burst.samples = Picture::Noise.samples(shape, &mut random);
-        call.denoising = denoising(1);
+        (call.noise, call.tuning.strength) = noise_and_strength(1);
         for part in &mut call.vectors {
             let turns = [0, 32, 64, 96, 128, 160];
             let place = random.pick(&turns) + random.below(3) as i32 - 1;
@@ -183,7 +185,7 @@ fn faults_beside_black() -> impl Iterator<Item = Call> {
             let mut call = call(0, shape, 0, &mut random);
             call.burst.black[2] = 256;
             if strength {
-                call.denoising.strength = 1025;
+                call.tuning.strength = 1025;
             }
             if sample {
                 call.burst.samples[7] = 4096;
@@ -211,15 +213,13 @@ fn noise_numbers() -> impl Iterator<Item = Call> {
     let each = numbers.flat_map(move |number| pictures.map(|picture| (number, picture)));
     each.map(move |((strength, level), picture)| {
         let mut call = call(2, shape, 1, &mut random);
-        let curve = Curve {
-            shot: 0.0,
-            read: f64::from(level) / 1024.0,
+        let levels = Levels {
+            shot: 0,
+            read: level,
         };
         call.burst.samples = picture.samples(shape, &mut random);
-        call.denoising = Denoising {
-            noise: Noise::Curve(curve),
-            strength,
-        };
+        call.noise = Noise::Curve(Curve::of_levels(levels));
+        call.tuning.strength = strength;
         call
     })
 }
@@ -246,16 +246,10 @@ fn white_references() -> impl Iterator<Item = Call> {
         .flat_map(move |level| pictures.map(|picture| (level, picture)));
     each.map(move |([shot, read], picture)| {
         let mut call = call(2, shape, 1, &mut random);
-        let curve = Curve {
-            shot: f64::from(shot) / 1024.0,
-            read: f64::from(read) / 1024.0,
-        };
         call.burst.samples = picture.samples(shape, &mut random);
         call.burst.samples[128 * 64..].fill(4095);
-        call.denoising = Denoising {
-            noise: Noise::Curve(curve),
-            strength: 1024,
-        };
+        call.noise = Noise::Curve(Curve::of_levels(Levels { shot, read }));
+        call.tuning.strength = 1024;
         call
     })
 }
@@ -278,10 +272,8 @@ fn dark_planes() -> impl Iterator<Item = Call> {
             shot: 0.37,
             read: 0.0,
         };
-        call.denoising = Denoising {
-            noise: Noise::Curve(curve),
-            strength: 8,
-        };
+        call.noise = Noise::Curve(curve);
+        call.tuning.strength = 8;
         call
     })
 }

@@ -2,8 +2,7 @@
 
 use crate::burst::Burst;
 use crate::calls::Call;
-use crate::merge::whole_root;
-use crate::noise::{Curve, Denoising, Noise};
+use crate::noise::{whole_root, Curve, Noise, Tuning};
 use crate::random::Random;
 use crate::shape::Shape;
 
@@ -69,23 +68,20 @@ impl Ghost {
             black: [0; 4],
             samples,
         };
-        let mut call = Call::fitting(burst, self.denoising());
+        let mut call = Call::fitting(burst, self.noise(), Tuning::plain(self.strength));
         if let Motion::Lent = self.motion {
             call.vectors.fill_with(|| random.pick(&[-172, 172]));
         }
         call
     }
 
-    fn denoising(&self) -> Denoising {
+    fn noise(&self) -> Noise {
         let (shot, read) = if self.shot {
             (64.0, 0.0)
         } else {
             (0.0, 4096.0)
         };
-        Denoising {
-            noise: Noise::Curve(Curve { shot, read }),
-            strength: self.strength,
-        }
+        Noise::Curve(Curve { shot, read })
     }
 
     /// The object's first row and column in a frame.

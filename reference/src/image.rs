@@ -1,25 +1,12 @@
 //! Images mirrored at their edges: planes, pyramid levels and what stands between two halvings.
 
+use crate::square::Square;
+
 pub struct Image {
     pub width: i64,
     pub height: i64,
     pixels: Vec<i32>,
 }
-
-/// Part of an image, its rows and columns equally many.
-pub struct Square {
-    pub side: usize,
-    pixels: Vec<i32>,
-}
-
-impl Square {
-    pub fn row(&self, row: usize) -> &[i32] {
-        &self.pixels[row * self.side..][..self.side]
-    }
-}
-
-/// A tile of sixteen rows of sixteen whole numbers.
-pub type Tile = [[i64; 16]; 16];
 
 impl Image {
     /// The image with `pixel(row, column)` at each place.
@@ -45,22 +32,18 @@ impl Image {
         self.pixels[(row * self.width + column) as usize].into()
     }
 
-    /// The tile whose first sample is at `row` and `column`.
-    pub fn tile(&self, row: i64, column: i64) -> Tile {
-        std::array::from_fn(|y| std::array::from_fn(|x| self.at(row + y as i64, column + x as i64)))
-    }
-
     /// The square whose first pixel is at `row` and `column`.
-    pub fn square(&self, row: i64, column: i64, side: i64) -> Square {
-        let mut pixels = Vec::with_capacity((side * side) as usize);
-        for row in row..row + side {
-            let row = mirrored(row, self.height);
-            let line = &self.pixels[(row * self.width) as usize..][..self.width as usize];
-            let places = (column..column + side).map(|column| mirrored(column, self.width));
-            pixels.extend(places.map(|column| line[column as usize]));
-        }
-        let side = side as usize;
-        Square { side, pixels }
+    pub fn square(&self, row: i64, column: i64, side: i64) -> Square<i32> {
+        let places = |first, size| -> Vec<i64> {
+            (first..first + side)
+                .map(|place| mirrored(place, size))
+                .collect()
+        };
+        let rows = places(row, self.height);
+        let columns = places(column, self.width);
+        Square::from_fn(side as usize, |y, x| {
+            self.pixels[(rows[y] * self.width + columns[x]) as usize]
+        })
     }
 
     /// The pixels row by row, as sample words.
@@ -92,10 +75,10 @@ mod tests {
     }
 
     #[test]
-    fn tiles_and_squares_mirror_both_ways() {
+    fn squares_mirror_both_ways() {
         let image = Image::from_fn(4, 2, |row, column| 10 * row + column);
         assert_eq!(image.at(-2, 5), 12);
-        assert_eq!(image.tile(-2, 2)[0][..5], [12, 13, 13, 12, 11]);
+        assert_eq!(image.square(-2, 2, 5).row(0), [12, 13, 13, 12, 11]);
         let square = image.square(1, -3, 4);
         let rows = [
             [12, 11, 10, 10],

@@ -2,9 +2,10 @@
 
 use std::cmp::Ordering;
 use std::fmt;
+use std::ops::{Add, Mul, Sub};
 
 /// Sign and magnitude; limbs from the least, the last one not 0, and 0 is not negative.
-#[derive(Clone, Debug, PartialEq, Eq)]
+#[derive(Clone, Debug, Default, PartialEq, Eq)]
 pub struct Integer {
     negative: bool,
     limbs: Vec<u64>,
@@ -52,6 +53,42 @@ impl Integer {
     pub fn times(&self, other: &Integer) -> Integer {
         let negative = self.negative != other.negative;
         Integer::new(negative, multiplied(&self.limbs, &other.limbs))
+    }
+
+    /// Times a power of two.
+    pub fn shifted(&self, bits: u32) -> Integer {
+        let mut limbs = vec![0; bits as usize / 64];
+        limbs.extend(multiplied(&self.limbs, &[1 << (bits % 64)]));
+        Integer::new(self.negative, limbs)
+    }
+
+    /// The quotient by a number above 0, cut toward zero.
+    pub fn divided(&self, divisor: &Integer) -> Integer {
+        Integer::new(self.negative, quotient(&self.limbs, &divisor.limbs))
+    }
+}
+
+impl Add for Integer {
+    type Output = Integer;
+
+    fn add(self, other: Integer) -> Integer {
+        self.plus(&other)
+    }
+}
+
+impl Sub for Integer {
+    type Output = Integer;
+
+    fn sub(self, other: Integer) -> Integer {
+        self.minus(&other)
+    }
+}
+
+impl Mul<i64> for Integer {
+    type Output = Integer;
+
+    fn mul(self, factor: i64) -> Integer {
+        self.times(&i128::from(factor).into())
     }
 }
 
@@ -130,6 +167,32 @@ fn multiplied(left: &[u64], right: &[u64]) -> Vec<u64> {
     product
 }
 
+/// Bit by bit, from the highest.
+fn quotient(dividend: &[u64], divisor: &[u64]) -> Vec<u64> {
+    let mut quotient = vec![0; dividend.len()];
+    // One limb more, into which the doubled remainder may reach.
+    let mut rest = vec![0; divisor.len() + 1];
+    for bit in (0..64 * dividend.len()).rev() {
+        let mut carry = dividend[bit / 64] >> (bit % 64) & 1;
+        for limb in &mut rest {
+            let doubled = *limb << 1 | carry;
+            carry = *limb >> 63;
+            *limb = doubled;
+        }
+        if not_below(&rest, divisor) {
+            rest = subtracted(&rest, divisor);
+            quotient[bit / 64] |= 1 << (bit % 64);
+        }
+    }
+    quotient
+}
+
+/// Whether a number with one limb more, which may be 0, is at least another.
+fn not_below(left: &[u64], right: &[u64]) -> bool {
+    let (last, lower) = left.split_last().expect("one limb more");
+    *last != 0 || compared(lower, right) != Ordering::Less
+}
+
 #[cfg(test)]
 mod tests {
     use super::*;
@@ -157,8 +220,26 @@ mod tests {
                 if let Some(product) = left.checked_mul(right) {
                     assert_eq!(a.times(&b), Integer::from(product));
                 }
+                if right > 0 {
+                    assert_eq!(a.divided(&b), Integer::from(left / right));
+                }
             }
         }
+    }
+
+    #[test]
+    fn quotients_undo_products() {
+        let divisor = Integer::from(SAMPLES[7]).shifted(131).plus(&1.into());
+        let product = Integer::from(i128::MIN).times(&divisor);
+        assert_eq!(product.divided(&divisor), Integer::from(i128::MIN));
+        assert_eq!(
+            product.plus(&1.into()).divided(&divisor),
+            Integer::from(i128::MIN + 1)
+        );
+        assert_eq!(
+            Integer::from(-5).shifted(64).shifted(3),
+            Integer::from(-5 << 67)
+        );
     }
 
     #[test]

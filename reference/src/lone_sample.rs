@@ -1,32 +1,92 @@
-//! A burst whose merge lies more than half a step from the exact one.
+//! Bursts that are black but for one sample of the reference: the rounding errors of all bins meet at its place.
 
 use crate::burst::Burst;
 use crate::calls::Call;
-use crate::noise::{Curve, Denoising, Noise};
+use crate::noise::{Curve, Levels, Noise, Tuning};
+use crate::random::Random;
 use crate::shape::Shape;
 
-/// Row and column of the one sample that is not 0.
-pub const PLACE: [u64; 2] = [36, 36];
+#[derive(Clone, Copy, Debug)]
+pub struct LoneSample {
+    pub count: u64,
+    pub value: u16,
+    /// Row and column in frame 0, the reference.
+    pub place: [u64; 2],
+    pub levels: Levels,
+    pub tuning: Tuning,
+}
 
-/// Eight frames, all 0 but one sample of 745 in the reference, whose levels are 0 and 3422141.
-pub fn call() -> Call {
-    let shape = Shape::packed(64, 64, 8);
-    let [row, column] = PLACE;
-    let mut samples = vec![0; shape.samples_length() as usize];
-    samples[(row * shape.width + column) as usize] = 745;
-    let curve = Curve {
-        shot: 0.0,
-        read: 3422141.0 / 1024.0,
-    };
-    let burst = Burst {
-        shape,
-        reference: 0,
-        black: [0; 4],
-        samples,
-    };
-    let denoising = Denoising {
-        noise: Noise::Curve(curve),
+/// The merge here is 118, and the exact one 118.5510720579...
+pub const PLAIN: LoneSample = LoneSample {
+    count: 8,
+    value: 745,
+    place: [36, 36],
+    levels: Levels {
+        shot: 0,
+        read: 3422141,
+    },
+    tuning: Tuning {
         strength: 1024,
-    };
-    Call::fitting(burst, denoising)
+        spatial: 0,
+    },
+};
+
+/// The farthest that a search found with the spatial filter: the merge here is 38, and the exact one 38.5467884039...
+pub const FILTERED: LoneSample = LoneSample {
+    count: 5,
+    value: 190,
+    place: [44, 20],
+    levels: Levels {
+        shot: 12,
+        read: 71276,
+    },
+    tuning: Tuning {
+        strength: 1023,
+        spatial: 256,
+    },
+};
+
+impl LoneSample {
+    pub fn call(&self) -> Call {
+        let shape = Shape::packed(64, 64, self.count);
+        let [row, column] = self.place;
+        let mut samples = vec![0; shape.samples_length() as usize];
+        samples[(row * shape.width + column) as usize] = self.value;
+        let burst = Burst {
+            shape,
+            reference: 0,
+            black: [0; 4],
+            samples,
+        };
+        let noise = Noise::Curve(Curve::of_levels(self.levels));
+        Call::fitting(burst, noise, self.tuning)
+    }
+}
+
+/// Lone samples of any height under the spatial filter, their noises of every size.
+pub fn filtered(count: usize, seed: u64) -> impl Iterator<Item = LoneSample> {
+    let mut random = Random::new(seed);
+    (0..count).map(move |_| {
+        let mut any_size = |limit: usize| random.below(limit) >> random.below(20);
+        let levels = Levels {
+            shot: any_size(65537) as u64,
+            read: any_size(4194305) as u64,
+        };
+        let value = any_size(4095) as u16 + 1;
+        // Far from the edges, where no tile sees it twice.
+        let mut coordinate = || 16 + random.below(32) as u64;
+        let place = [coordinate(), coordinate()];
+        let strength = 1 + random.below(1024) as u64;
+        let spatial = 1 + random.below(256) as u64;
+        LoneSample {
+            count: random.pick(&[1, 2, 3, 5, 8]),
+            value,
+            place,
+            levels,
+            tuning: Tuning {
+                strength: random.pick(&[0, strength, 1024]),
+                spatial: random.pick(&[spatial, 256]),
+            },
+        }
+    })
 }

@@ -1,9 +1,10 @@
 //! The merge recipe in whole numbers.
 
 use crate::burst::Burst;
-use crate::image::{Image, Tile};
-use crate::noise::NoiseModel;
-use crate::transform::{forward, inverse, rounded, Bins, Complex};
+use crate::image::Image;
+use crate::noise::{whole_root, NoiseModel};
+use crate::square::Square;
+use crate::transform::{forward, inverse, rounded, Bins, Complex, Tile, SIDE};
 
 /// "w(0..7) = ...; w(15−i) = w(i)".
 const WINDOW: [i64; 8] = [39, 345, 910, 1648, 2448, 3186, 3751, 4057];
@@ -59,21 +60,36 @@ impl Plane<'_> {
         (0..=last_row).map(tile_row).collect()
     }
 
-    /// T0−Tz of the tile with these indices, for each other frame.
+    /// T0 of the tile with these indices.
+    pub fn reference_tile(&self, row: i64, column: i64) -> Tile {
+        tile(&self.reference, row, column, (0, 0))
+    }
+
+    /// T0−Tz for each other frame.
     pub fn differences(&self, row: i64, column: i64) -> Vec<Tile> {
-        let tile = tile(&self.reference, row, column, (0, 0));
+        let reference = self.reference_tile(row, column);
         let difference = |(slot, other): (usize, &Image)| {
-            let moved = self::tile(other, row, column, self.vector(slot, row, column));
-            subtracted(&tile, &moved)
+            let moved = tile(other, row, column, self.vector(slot, row, column));
+            Square::from_fn(SIDE, |y, x| reference[(y, x)] - moved[(y, x)])
         };
         self.others.iter().enumerate().map(difference).collect()
     }
 
-    /// V of the tile with these indices.
+    /// V
     pub fn noise_number(&self, row: i64, column: i64) -> u64 {
-        let tile = tile(&self.reference, row, column, (0, 0));
-        let root = root(&tile, self.black);
-        self.setting.noise.noise_number(root)
+        self.setting.noise.noise_number(self.root(row, column))
+    }
+
+    /// V' of each bin.
+    pub fn spatial_numbers(&self, row: i64, column: i64) -> Square<u64> {
+        let (root, count) = (self.root(row, column), self.setting.burst.shape.count);
+        Square::from_fn(SIDE, |u, v| {
+            self.setting.noise.spatial_number(root, count, u, v)
+        })
+    }
+
+    fn root(&self, row: i64, column: i64) -> u64 {
+        root(&self.reference_tile(row, column), self.black)
     }
 
     /// "use its vectors unscaled".
@@ -87,22 +103,45 @@ impl Plane<'_> {
     /// The sum over the other frames of P for the tile with these indices.
     fn corrections(&self, row: i64, column: i64) -> Tile {
         let noise = self.noise_number(row, column);
-        let mut sum = [[0; 16]; 16];
+        let mut sum = Square::filled(SIDE, 0);
         for difference in self.differences(row, column) {
             let correction = correction(&difference, noise);
-            sum = map_tile(|y, x| sum[y][x] + correction[y][x]);
+            sum = Square::from_fn(SIDE, |y, x| sum[(y, x)] + correction[(y, x)]);
         }
         sum
     }
 
+    /// The same with the spatial filter, whose correction counts N times: it is subtracted from the merged tile, to which
+    /// each P gives an Nth.
+    fn filtered_corrections(&self, row: i64, column: i64) -> Tile {
+        let merged = self.corrections(row, column);
+        if self.setting.noise.tuning.spatial == 0 {
+            return merged;
+        }
+        let count = self.count();
+        let reference = self.reference_tile(row, column);
+        // "A copy of the merged tile, before windows, is rounded to 1/256, halves away from zero"
+        let copy = Square::from_fn(SIDE, |y, x| {
+            let numerator = 256 * count * reference[(y, x)] - merged[(y, x)];
+            rounded(numerator, count as u64)
+        });
+        let spatial = spatial_correction(&copy, &self.spatial_numbers(row, column));
+        Square::from_fn(SIDE, |y, x| merged[(y, x)] + count * spatial[(y, x)])
+    }
+
+    /// N
+    fn count(&self) -> i64 {
+        self.setting.burst.shape.count as i64
+    }
+
     /// The merged plane.
     fn merged(&self) -> Image {
-        let tiles = self.for_tiles(|row, column| self.corrections(row, column));
-        let count = self.setting.burst.shape.count as i64;
+        let tiles = self.for_tiles(|row, column| self.filtered_corrections(row, column));
+        let count = self.count();
         let merged = |row, column| {
             let term = |cover: Cover| {
                 let tile = &tiles[cover.tile_row as usize][cover.tile_column as usize];
-                cover.weight() * tile[cover.row as usize][cover.column as usize]
+                cover.weight() * tile[cover.place()]
             };
             let sum = covering_tiles(row, column).map(term).iter().sum();
             merged_sample(self.reference.at(row, column), sum, count)
@@ -113,7 +152,10 @@ impl Plane<'_> {
 
 /// The tile with these indices, moved by a vector; its origin is one of level 0.
 fn tile(plane: &Image, row: i64, column: i64, (down, right): (i64, i64)) -> Tile {
-    plane.tile(8 * row - 8 + down, 8 * column - 8 + right)
+    let (top, left) = (8 * row - 8 + down, 8 * column - 8 + right);
+    plane
+        .square(top, left, SIDE as i64)
+        .map(|&sample| sample.into())
 }
 
 /// A tile's indices, and a sample's place inside it.
@@ -128,6 +170,10 @@ impl Cover {
     /// "w·w'".
     pub fn weight(&self) -> i64 {
         window(self.row) * window(self.column)
+    }
+
+    pub fn place(&self) -> (usize, usize) {
+        (self.row as usize, self.column as usize)
     }
 }
 
@@ -152,43 +198,34 @@ pub fn merge(setting: &Setting) -> Vec<u16> {
     frame.into_samples()
 }
 
-/// The greatest number whose square is at most n: bit by bit, from the highest.
-pub fn whole_root(n: u64) -> u64 {
-    (0..32).rev().fold(0, |root, bit| {
-        let more = root | 1 << bit;
-        if more * more <= n {
-            more
-        } else {
-            root
-        }
-    })
-}
-
 /// "r = floor of the root of the sum of T0 squared: the RMS in sixteenths", where "each reference sample counts as the
 /// amount by which it exceeds its plane's black, or 0".
 pub fn root(tile: &Tile, black: i64) -> u64 {
     let excess = |sample: &i64| (sample - black).max(0);
-    let squares: i64 = tile
-        .iter()
-        .flatten()
-        .map(|sample| excess(sample).pow(2))
-        .sum();
+    let squares: i64 = tile.iter().map(|sample| excess(sample).pow(2)).sum();
     whole_root(squares as u64)
 }
 
 /// P of one difference tile.
 pub fn correction(difference: &Tile, noise: u64) -> Tile {
     // Every G is 0 then, and so is P.
-    if noise == 0 || difference == &[[0; 16]; 16] {
-        return [[0; 16]; 16];
+    if noise == 0 || difference.iter().all(|&part| part == 0) {
+        return Square::filled(SIDE, 0);
     }
-    let bins = forward(difference);
-    inverse_rounded(&bins.map(|row| row.map(|bin| shrunk(sixteenths(bin), noise))))
+    // "Q = B/2^24 (sixteenths), each part to nearest, halves away from zero."
+    let sixteenths = |bin: &Complex| bin.map(|&part| rounded(part, 1 << 24));
+    inverse_rounded(&forward(difference).map(|bin| shrunk(sixteenths(bin), noise)))
 }
 
-/// "Q = B/2^24 (sixteenths), each part to nearest, halves away from zero."
-fn sixteenths(bin: Complex) -> Complex {
-    bin.map(|part| rounded(part, 1 << 24))
+/// What the spatial filter takes from the merged tile, in 1/256: "transformed; bins are rounded likewise to sixteenths. The
+/// base's Wiener step on these bins, with V' for V, gives a correction that is turned back, rounded to 1/256".
+fn spatial_correction(copy: &Tile, noises: &Square<u64>) -> Tile {
+    let bins = forward(copy);
+    // The copy is in 1/256: its bins have the scale 2^36.
+    let sixteenths = |bin: &Complex| bin.map(|&part| rounded(part, 1 << 32));
+    inverse_rounded(&Square::from_fn(SIDE, |u, v| {
+        shrunk(sixteenths(&bins[(u, v)]), noises[(u, v)])
+    }))
 }
 
 /// "G = V·Q/(|Q|²+V), rounded likewise; 0 if V is 0."
@@ -196,14 +233,14 @@ pub fn shrunk(bin: Complex, noise: u64) -> Complex {
     if noise == 0 {
         return Complex { re: 0, im: 0 };
     }
-    let square = u64::try_from(bin.squared()).expect("Q has 25 bits");
+    let square = u64::try_from(bin.squared()).expect("Q has at most 29 bits");
     bin.map(|part| rounded(noise as i64 * part, square + noise))
 }
 
 /// "P = real part of the inverse sum of G with C(k) and +S(k), divided by 2^32, rounded
 /// likewise: 1/256 sample."
 pub fn inverse_rounded(bins: &Bins) -> Tile {
-    inverse(bins).map(|row| row.map(|sum| rounded(sum, 1 << 32)))
+    inverse(bins).map(|&sum| rounded(sum, 1 << 32))
 }
 
 /// "Output = T0 − (sum ...)/(2^32·N), to nearest, halves upward, held to 0..4095."
@@ -211,12 +248,4 @@ fn merged_sample(reference: i64, sum: i64, count: i64) -> i64 {
     let unit = count << 32;
     let doubled = 2 * (reference * unit - sum) + unit;
     doubled.div_euclid(2 * unit).clamp(0, 4095)
-}
-
-fn subtracted(left: &Tile, right: &Tile) -> Tile {
-    map_tile(|y, x| left[y][x] - right[y][x])
-}
-
-fn map_tile(value: impl Fn(usize, usize) -> i64) -> Tile {
-    std::array::from_fn(|y| std::array::from_fn(|x| value(y, x)))
 }

@@ -24,6 +24,13 @@ pub struct Levels {
 }
 
 impl Noise {
+    /// Refusals 8, 9 and 10.
+    pub fn model(self, tuning: Tuning) -> Result<NoiseModel, Refusal> {
+        let levels = self.levels()?;
+        tuning.check_strength()?;
+        Ok(NoiseModel { levels, tuning })
+    }
+
     /// The levels, or refusal 8 or 9.
     pub fn levels(self) -> Result<Levels, Refusal> {
         let curve = self.curve()?;
@@ -54,6 +61,14 @@ impl Noise {
 }
 
 impl Curve {
+    /// The curve with these levels: both quotients are exact.
+    pub fn of_levels(levels: Levels) -> Curve {
+        Curve {
+            shot: levels.shot as f64 / 1024.0,
+            read: levels.read as f64 / 1024.0,
+        }
+    }
+
     /// Neither part is "negative or not finite"; "negative zero is zero".
     fn valid(self) -> bool {
         let valid = |value: f64| value.is_finite() && value >= 0.0;
@@ -71,31 +86,40 @@ impl Curve {
     }
 }
 
-/// Noise and strength as merge and run take them.
-#[derive(Clone, Copy, Debug, PartialEq)]
-pub struct Denoising {
-    pub noise: Noise,
+/// How strongly merge and run take other frames in, and smooth.
+#[derive(Clone, Copy, Debug, PartialEq, Eq)]
+pub struct Tuning {
+    /// "Strength t = 0..1024 counts eighths of the source's τ."
     pub strength: u64,
+    /// "s = 0..256 is the published s in 1/256".
+    pub spatial: u64,
 }
 
-impl Denoising {
-    /// Refusals 8, 9 and 10.
-    pub fn model(self) -> Result<NoiseModel, Refusal> {
-        let model = NoiseModel {
-            levels: self.noise.levels()?,
-            strength: self.strength,
-        };
-        model.check_strength()?;
-        Ok(model)
+impl Tuning {
+    /// Without the spatial filter: "With s = 0 the plain merge comes out."
+    pub fn plain(strength: u64) -> Tuning {
+        Tuning {
+            strength,
+            spatial: 0,
+        }
+    }
+
+    /// Refusal 10.
+    fn check_strength(&self) -> Result<(), Refusal> {
+        require(self.strength <= 1024, Refusal::Strength)
+    }
+
+    /// Refusal 24: "s above 256".
+    pub fn check_spatial(&self) -> Result<(), Refusal> {
+        require(self.spatial <= 256, Refusal::Spatial)
     }
 }
 
-/// What the noise number rests on beside r.
+/// What the noise numbers rest on beside r.
 #[derive(Clone, Copy, Debug, PartialEq, Eq)]
 pub struct NoiseModel {
     pub levels: Levels,
-    /// "Strength t = 0..1024 counts eighths of the source's τ."
-    pub strength: u64,
+    pub tuning: Tuning,
 }
 
 impl NoiseModel {
@@ -105,17 +129,38 @@ impl NoiseModel {
             self.levels.shot <= 65536 && self.levels.read <= 4194304,
             Refusal::NoiseLimit,
         )?;
-        self.check_strength()
-    }
-
-    fn check_strength(&self) -> Result<(), Refusal> {
-        require(self.strength <= 1024, Refusal::Strength)
+        self.tuning.check_strength()
     }
 
     /// "V = floor(t·(Ls·r + 16·Lr)/16)".
     pub fn noise_number(&self, root: u64) -> u64 {
-        self.strength * (self.levels.shot * root + 16 * self.levels.read) / 16
+        self.tuning.strength * self.scaled_variance(root) / 16
     }
+
+    /// "V' = floor(s·m·(Ls·r+16·Lr)/(16384·N))", where "m is the whole root of 256·(u²+v²), and u and v are bin indices,
+    /// those above 8 counted as 16 minus themselves".
+    pub fn spatial_number(&self, root: u64, count: u64, u: usize, v: usize) -> u64 {
+        let squared = |index: usize| index.min(16 - index).pow(2) as u64;
+        let frequency = whole_root(256 * (squared(u) + squared(v)));
+        self.tuning.spatial * frequency * self.scaled_variance(root) / (16384 * count)
+    }
+
+    /// Ls·r + 16·Lr
+    fn scaled_variance(&self, root: u64) -> u64 {
+        self.levels.shot * root + 16 * self.levels.read
+    }
+}
+
+/// The greatest number whose square is at most n: bit by bit, from the highest.
+pub fn whole_root(n: u64) -> u64 {
+    (0..32).rev().fold(0, |root, bit| {
+        let more = root | 1 << bit;
+        if more * more <= n {
+            more
+        } else {
+            root
+        }
+    })
 }
 
 /// "The floor is worked out from the sign, exponent and fraction bits."

@@ -2,7 +2,7 @@
 
 use crate::calls::{Answer, Call};
 use crate::file::{self, BurstFile};
-use crate::noise::{Curve, Denoising, Levels, Noise};
+use crate::noise::{Curve, Noise};
 use crate::refusal::Refusal;
 use std::fmt::Display;
 
@@ -69,19 +69,8 @@ fn stacked(bytes: &[u8]) -> Result<Stacked, Stop> {
 
 /// The call of run for a file, with buffers of the right lengths.
 fn call(file: BurstFile) -> Call {
-    let denoising = Denoising {
-        noise: Noise::Curve(curve(file.noise.levels)),
-        strength: file.noise.strength,
-    };
-    Call::fitting(file.burst, denoising)
-}
-
-/// The curve whose levels are a file's: both quotients are exact.
-fn curve(levels: Levels) -> Curve {
-    Curve {
-        shot: levels.shot as f64 / 1024.0,
-        read: levels.read as f64 / 1024.0,
-    }
+    let noise = Noise::Curve(Curve::of_levels(file.noise.levels));
+    Call::fitting(file.burst, noise, file.noise.tuning)
 }
 
 /// "(frame index; its tiles; tiles with vector 0,0; greatest absolute part; sum of finest

@@ -25,6 +25,7 @@ pub enum Refusal {
     DngTags = 20,
     DngValue = 21,
     RowLength = 23,
+    Spatial = 24,
 }
 
 impl Refusal {

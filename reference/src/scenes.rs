@@ -2,13 +2,13 @@
 
 use crate::burst::Burst;
 use crate::calls::Call;
-use crate::noise::{Curve, Denoising, Noise};
+use crate::noise::{Curve, Noise, Tuning};
 use crate::pictures::{dark, Picture};
 use crate::random::Random;
 use crate::shape::Shape;
 
 /// The refusals that calls meet, in the order of their tests.
-pub const FAULTS: [u64; 14] = [1, 2, 3, 23, 4, 5, 6, 7, 8, 9, 10, 18, 11, 12];
+pub const FAULTS: [u64; 15] = [1, 2, 3, 23, 4, 5, 6, 7, 8, 9, 10, 18, 24, 11, 12];
 
 /// Calls of frames up to `side` in width and height; a third of them with one or two faults.
 pub fn calls(side: u64, count: usize, seed: u64) -> impl Iterator<Item = Call> {
@@ -40,7 +40,7 @@ fn call(side: u64, random: &mut Random) -> Call {
     burst.pad(random.pick(&[0, 0, 1, 5, 256]), random);
     Call {
         vectors,
-        ..Call::fitting(burst, denoising(random))
+        ..Call::fitting(burst, noise(random), tuning(random))
     }
 }
 
@@ -50,15 +50,19 @@ fn black(random: &mut Random) -> [u64; 4] {
     random.pick(&[[0; 4], [64; 4], [255; 4], any])
 }
 
-fn denoising(random: &mut Random) -> Denoising {
+fn noise(random: &mut Random) -> Noise {
     let curve = Curve {
         shot: random.pick(&[0.0, -0.0, 0.001, 0.37, 1.0, 64.0]),
         read: random.pick(&[0.0, 0.0009, 2.5, 100.0, 4096.0]),
     };
     let iso = random.pick(&[25, 31, 100, 400, 3200, 409600]);
-    Denoising {
-        noise: random.pick(&[Noise::Curve(curve), Noise::Iso(iso, curve)]),
+    random.pick(&[Noise::Curve(curve), Noise::Iso(iso, curve)])
+}
+
+fn tuning(random: &mut Random) -> Tuning {
+    Tuning {
         strength: random.pick(&[0, 1, 8, 77, 1024]),
+        spatial: random.pick(&[0, 0, 0, 1, 26, 256]),
     }
 }
 
@@ -100,10 +104,11 @@ pub fn add_fault(call: &mut Call, number: u64, random: &mut Random) {
         5 => misfit(&mut call.vectors, random),
         6 => misfit(&mut call.output, random),
         7 => call.work_length = random.pick(&[0, 1, call.work_length + 1]),
-        8 => call.denoising.noise = negative_or_not_finite(random),
-        9 => call.denoising.noise = curve(65.0),
-        10 => call.denoising.strength = random.pick(&[1025, u64::MAX]),
+        8 => call.noise = negative_or_not_finite(random),
+        9 => call.noise = curve(65.0),
+        10 => call.tuning.strength = random.pick(&[1025, u64::MAX]),
         18 => spoil(&mut call.burst.black, &[256, 257, 65535], random),
+        24 => call.tuning.spatial = random.pick(&[257, u64::MAX]),
         11 => spoil(&mut call.burst.samples, &[4096, 65535], random),
         _ => spoil(&mut call.vectors, &[173, -173, i32::MIN], random),
     }

@@ -1,6 +1,6 @@
 //! The capture station's questions on plain numbers.
 
-use crate::noise::{Curve, Denoising, Noise};
+use crate::noise::{Curve, Noise, Tuning};
 use crate::shape::Shape;
 
 /// The largest root r of a tile: every sample 4095.
@@ -29,11 +29,8 @@ pub fn station_length(shape: Shape, side: u64, number: u64) -> u64 {
 /// "The noise number is V from a curve (no ISO), t and r, and answers 0 where 8, 9 or 10
 /// would, or where its root r exceeds 65520."
 pub fn station_noise(shot: f64, read: f64, strength: u64, root: u64) -> u64 {
-    let denoising = Denoising {
-        noise: Noise::Curve(Curve { shot, read }),
-        strength,
-    };
-    match denoising.model() {
+    let noise = Noise::Curve(Curve { shot, read });
+    match noise.model(Tuning::plain(strength)) {
         Ok(model) if root <= LARGEST_ROOT => model.noise_number(root),
         _ => 0,
     }

@@ -1,23 +1,59 @@
-//! The two-way 16-point transform in exact whole numbers, and rounding.
+//! The two-way 16-point transform, exact in whole numbers, and rounding.
 
-use crate::image::Tile;
+use crate::square::Square;
+use std::ops::{Add, Mul, Sub};
 
-#[derive(Clone, Copy, Debug, PartialEq, Eq)]
-pub struct Complex {
-    pub re: i64,
-    pub im: i64,
+/// Whole numbers, which the tables turn without rounding.
+pub trait Whole:
+    Clone + Default + Add<Output = Self> + Sub<Output = Self> + Mul<i64, Output = Self>
+{
 }
 
-pub type Bins = [[Complex; 16]; 16];
+impl<T> Whole for T where
+    T: Clone + Default + Add<Output = T> + Sub<Output = T> + Mul<i64, Output = T>
+{
+}
 
-impl Complex {
-    pub fn map(self, part: impl Fn(i64) -> i64) -> Complex {
+#[derive(Clone, Copy, Debug, Default, PartialEq, Eq)]
+pub struct Complex<T = i64> {
+    pub re: T,
+    pub im: T,
+}
+
+/// A tile of whole numbers.
+pub type Tile<T = i64> = Square<T>;
+
+pub type Bins<T = i64> = Square<Complex<T>>;
+
+impl<T: Whole> Complex<T> {
+    pub fn map<U>(&self, part: impl Fn(&T) -> U) -> Complex<U> {
         Complex {
-            re: part(self.re),
-            im: part(self.im),
+            re: part(&self.re),
+            im: part(&self.im),
         }
     }
 
+    /// The real part of a product.
+    fn real(&self, factor: Complex) -> T {
+        self.re.clone() * factor.re - self.im.clone() * factor.im
+    }
+
+    pub fn plus(self, other: Complex<T>) -> Complex<T> {
+        Complex {
+            re: self.re + other.re,
+            im: self.im + other.im,
+        }
+    }
+
+    pub fn times(&self, factor: Complex) -> Complex<T> {
+        Complex {
+            re: self.real(factor),
+            im: self.re.clone() * factor.im + self.im.clone() * factor.re,
+        }
+    }
+}
+
+impl Complex {
     /// |z|²
     pub fn squared(self) -> i128 {
         let square = |part| i128::from(part) * i128::from(part);
@@ -29,26 +65,10 @@ impl Complex {
         let product = |left, right| i128::from(left) * i128::from(right);
         product(self.re, other.re) - product(self.im, other.im)
     }
-
-    /// The real part of a product.
-    fn real(self, other: Complex) -> i64 {
-        self.re * other.re - self.im * other.im
-    }
-
-    fn plus(self, other: Complex) -> Complex {
-        Complex {
-            re: self.re + other.re,
-            im: self.im + other.im,
-        }
-    }
-
-    pub fn times(self, other: Complex) -> Complex {
-        Complex {
-            re: self.real(other),
-            im: self.re * other.im + self.im * other.re,
-        }
-    }
 }
+
+/// Places of a line, and lines of a tile.
+pub const SIDE: usize = 16;
 
 /// "C(0..4) = 16384, 15137, 11585, 6270, 0; C(8−k) = −C(k), C(16−k) = C(k)", by index
 /// modulo 16.
@@ -84,40 +104,48 @@ fn turn_back(index: usize) -> Complex {
 
 /// "B = two-way 16-point transform of T0−Tz with C(k) and −S(k), exact whole numbers of
 /// scale 2^28."
-pub fn forward(tile: &Tile) -> Bins {
-    let turns = std::array::from_fn(turn_back);
-    let terms = |row: usize, x: usize, turn: Complex| turn.map(|part| part * tile[row][x]);
-    let rows = transposed_sums(&turns, terms);
-    row_pass(&rows, &turns)
+pub fn forward<T: Whole>(tile: &Tile<T>) -> Bins<T> {
+    let turns = turns(turn_back);
+    let scaled = |value: &T, turn: Complex| turn.map(|&part| value.clone() * part);
+    row_pass(&transposed_sums(tile, &turns, scaled), &turns)
 }
 
 /// The inverse sum with C(k) and +S(k), its real part, not divided.
-pub fn inverse(bins: &Bins) -> Tile {
-    let turns = std::array::from_fn(turn);
-    let rows = row_pass(bins, &turns);
-    let real = |row: usize, x: usize, turn: Complex| Complex {
-        re: rows[row][x].real(turn),
-        im: 0,
+pub fn inverse<T: Whole>(bins: &Bins<T>) -> Tile<T> {
+    let turns = turns(turn);
+    let real = |bin: &Complex<T>, turn| Complex {
+        re: bin.real(turn),
+        im: T::default(),
     };
-    transposed_sums(&turns, real).map(|row| row.map(|bin| bin.re))
+    let sums = transposed_sums(&row_pass(bins, &turns), &turns, real);
+    sums.map(|sum| sum.re.clone())
+}
+
+/// What a bin is turned by at each place of a line.
+fn turns(turn: fn(usize) -> Complex) -> Square<Complex> {
+    Square::from_fn(SIDE, |bin, x| turn(bin * x))
 }
 
 /// Transforms each row and transposes; nothing is rounded.
-fn row_pass(bins: &Bins, turns: &[Complex; 16]) -> Bins {
-    transposed_sums(turns, |row, x, turn| bins[row][x].times(turn))
+fn row_pass<T: Whole>(bins: &Bins<T>, turns: &Square<Complex>) -> Bins<T> {
+    transposed_sums(bins, turns, |bin, turn| bin.times(turn))
 }
 
-/// out(bin, row) = sum over x of term(row, x, turn(bin·x))
-fn transposed_sums(turns: &[Complex; 16], term: impl Fn(usize, usize, Complex) -> Complex) -> Bins {
-    let mut sums = [[Complex { re: 0, im: 0 }; 16]; 16];
-    for (bin, line) in sums.iter_mut().enumerate() {
-        for (row, sum) in line.iter_mut().enumerate() {
-            for x in 0..16 {
-                *sum = sum.plus(term(row, x, turns[bin * x % 16]));
-            }
-        }
-    }
-    sums
+/// out(bin, row) = sum over x of term(value(row, x), turn(bin·x))
+fn transposed_sums<V, T: Whole>(
+    values: &Square<V>,
+    turns: &Square<Complex>,
+    term: impl Fn(&V, Complex) -> Complex<T>,
+) -> Bins<T> {
+    let zero = || Complex {
+        re: T::default(),
+        im: T::default(),
+    };
+    Square::from_fn(values.side(), |bin, row| {
+        let places = values.row(row).iter().zip(turns.row(bin));
+        let terms = places.map(|(value, &turn)| term(value, turn));
+        terms.fold(zero(), Complex::plus)
+    })
 }
 
 /// A fraction "to nearest, halves away from zero"; the divisor is above 0.
@@ -132,29 +160,26 @@ mod tests {
 
     /// The transform as one double sum per bin.
     fn direct(bins: &Bins, turn: fn(usize) -> Complex) -> Bins {
-        let bin = |u: usize, v: usize| {
-            let mut sum = Complex { re: 0, im: 0 };
-            for (y, row) in bins.iter().enumerate() {
-                for (x, &value) in row.iter().enumerate() {
-                    sum = sum.plus(value.times(turn(u * y).times(turn(v * x))));
+        Square::from_fn(SIDE, |u, v| {
+            let mut sum = Complex::default();
+            for y in 0..SIDE {
+                for x in 0..SIDE {
+                    sum = sum.plus(bins[(y, x)].times(turn(u * y).times(turn(v * x))));
                 }
             }
             sum
-        };
-        std::array::from_fn(|u| std::array::from_fn(|v| bin(u, v)))
+        })
     }
 
     #[test]
     fn passes_equal_the_double_sum() {
-        let tile: Tile = std::array::from_fn(|y| {
-            std::array::from_fn(|x| ((y * 977 + x * x * 31) % 8191) as i64 - 4095)
-        });
+        let sample = |y, x| ((y * 977 + x * x * 31) % 8191) as i64 - 4095;
+        let tile: Tile = Square::from_fn(SIDE, sample);
         let bins = forward(&tile);
-        let input = tile.map(|row| row.map(|re| Complex { re, im: 0 }));
+        let input = tile.map(|&re| Complex { re, im: 0 });
         assert_eq!(bins, direct(&input, turn_back));
-        let small = bins.map(|row| row.map(|bin| bin.map(|part| part >> 28)));
-        let real = |row: [Complex; 16]| row.map(|bin| bin.re);
-        assert_eq!(inverse(&small), direct(&small, turn).map(real));
+        let small = bins.map(|bin| bin.map(|part| part >> 28));
+        assert_eq!(inverse(&small), direct(&small, turn).map(|bin| bin.re));
     }
 
     #[test]

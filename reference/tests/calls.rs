@@ -2,7 +2,7 @@
 
 use reference::burst::Burst;
 use reference::calls::{Answer, Call};
-use reference::noise::{Curve, Denoising, Noise};
+use reference::noise::{Curve, Noise, Tuning};
 use reference::random::Random;
 use reference::scenes::{add_fault, FAULTS};
 use reference::shape::Shape;
@@ -20,10 +20,8 @@ fn good() -> Call {
             black: [0; 4],
             samples: [vec![0; 4096], vec![4; 4096]].concat(),
         },
-        denoising: Denoising {
-            noise: Noise::Curve(curve),
-            strength: 1024,
-        },
+        noise: Noise::Curve(curve),
+        tuning: Tuning::plain(1024),
         vectors: vec![-172; 50],
         output: vec![9999; 4096],
         work_length: 8192,
@@ -77,12 +75,12 @@ fn refusals_of_merge() {
 
 #[test]
 fn refusals_of_run() {
-    check_pairs(Call::run, &FAULTS[..13]);
+    check_pairs(Call::run, &FAULTS[..14]);
 }
 
 #[test]
 fn refusals_of_the_choosing_run() {
-    let tested: Vec<u64> = FAULTS[..13]
+    let tested: Vec<u64> = FAULTS[..14]
         .iter()
         .copied()
         .filter(|&fault| fault != 3)
@@ -112,7 +110,7 @@ fn the_choosing_run_is_run_with_its_choice() {
 #[test]
 fn untested_faults_are_accepted() {
     let accepted = flat_answer();
-    for fault in [6, 8, 9, 10, 18, 12] {
+    for fault in [6, 8, 9, 10, 18, 24, 12] {
         let lent = with_fault(good(), fault);
         let mut call = lent.clone();
         assert_eq!(call.align(), accepted, "{fault}");

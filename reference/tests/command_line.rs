@@ -31,9 +31,9 @@ fn words(values: &[u64]) -> Vec<u8> {
 /// The flat example as a call, with buffers holding 7.
 fn flat_call() -> Vec<u8> {
     let burst = [64, 64, 2, 0, 64, 0, 0, 0, 0];
-    let denoising = [0, 0, 0, 4096f64.to_bits(), 1024];
+    let noise_and_tuning = [0, 0, 0, 4096f64.to_bits(), 1024, 0];
     let lengths = [8192, 50, 4096, 8192];
-    let mut call = [words(&burst), words(&denoising), words(&lengths)].concat();
+    let mut call = [words(&burst), words(&noise_and_tuning), words(&lengths)].concat();
     call.extend([[0, 0]; 4096].concat());
     call.extend([[4, 0]; 4096].concat());
     call.extend([[7, 0, 0, 0]; 50].concat());

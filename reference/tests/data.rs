@@ -40,7 +40,7 @@ fn rounds_turn_pictures_and_noises() {
     let mut greatest = BTreeSet::new();
     for round in 0..8 {
         let call = of_size(64, 64, round).next().unwrap();
-        strengths.insert(call.denoising.strength);
+        strengths.insert(call.tuning.strength);
         greatest.insert(brightest(&call));
         assert_eq!(of_size(64, 64, round).count(), 36);
     }
@@ -100,8 +100,7 @@ fn ghosts_come_near_the_ceiling() {
     assert_eq!(calls.len(), 5 * 8 * 3);
     for mut call in calls {
         assert_eq!(call.merge().number, 0);
-        let noise = call.denoising.model().unwrap();
-        let found = ceiling::leaks(&call.setting(noise), &call.output);
+        let found = ceiling::leaks(&call.setting().unwrap(), &call.output);
         found.into_iter().for_each(|leak| leaks.add(leak));
     }
     assert_eq!((leaks.words, leaks.forbidden), (120 * 4096, None));

@@ -2,14 +2,17 @@
 
 use reference::align::{own_and_neighbour, CoarseIndices};
 use reference::exact;
-use reference::image::Tile;
 use reference::lone_sample;
 use reference::merge::{correction, inverse_rounded, root, shrunk, window};
-use reference::noise::{Curve, Levels, Noise, NoiseModel};
+use reference::noise::{Curve, Levels, Noise, NoiseModel, Tuning};
 use reference::programs::{motion, stack};
-use reference::transform::Complex;
+use reference::square::Square;
+use reference::transform::{Bins, Complex, Tile};
 
-const NOTHING: Complex = Complex { re: 0, im: 0 };
+/// A tile of one value.
+fn flat(value: i64) -> Tile {
+    Square::filled(16, value)
+}
 
 fn levels(shot: u64, read: u64) -> Levels {
     Levels { shot, read }
@@ -17,22 +20,22 @@ fn levels(shot: u64, read: u64) -> Levels {
 
 #[test]
 fn m1_to_m3_roots() {
-    assert_eq!(root(&[[100; 16]; 16], 0), 1600);
-    assert_eq!(root(&[[4095; 16]; 16], 0), 65520);
-    let mut tile: Tile = [[0; 16]; 16];
-    tile[5][7] = 1;
+    assert_eq!(root(&flat(100), 0), 1600);
+    assert_eq!(root(&flat(4095), 0), 65520);
+    let mut tile = flat(0);
+    tile[(5, 7)] = 1;
     assert_eq!(root(&tile, 0), 1);
 }
 
 /// "the amount by which it exceeds its plane's black, or 0"
 #[test]
 fn roots_above_black() {
-    assert_eq!(root(&[[100; 16]; 16], 64), 36 * 16);
-    assert_eq!(root(&[[64; 16]; 16], 64), 0);
-    assert_eq!(root(&[[0; 16]; 16], 255), 0);
-    let mut tile: Tile = [[60; 16]; 16];
-    tile[0][0] = 67;
-    tile[9][3] = 68;
+    assert_eq!(root(&flat(100), 64), 36 * 16);
+    assert_eq!(root(&flat(64), 64), 0);
+    assert_eq!(root(&flat(0), 255), 0);
+    let mut tile = flat(60);
+    tile[(0, 0)] = 67;
+    tile[(9, 3)] = 68;
     assert_eq!(root(&tile, 64), 5);
 }
 
@@ -40,11 +43,11 @@ fn roots_above_black() {
 /// frame's difference is taken.
 #[test]
 fn black_levels_of_the_planes() {
-    let mut call = lone_sample::call();
+    let mut call = lone_sample::PLAIN.call();
     call.burst.shape.count = 2;
     call.burst.black = [64, 60, 64, 255];
     call.burst.samples = [vec![64; 4096], vec![68; 4096]].concat();
-    call.denoising.noise = Noise::Curve(Curve {
+    call.noise = Noise::Curve(Curve {
         shot: 64.0,
         read: 0.0,
     });
@@ -58,7 +61,7 @@ fn black_levels_of_the_planes() {
 fn m4_and_m5_noise_numbers() {
     let model = |strength| NoiseModel {
         levels: levels(1024, 0),
-        strength,
+        tuning: Tuning::plain(strength),
     };
     assert_eq!(model(8).noise_number(1600), 819200);
     assert_eq!(model(0).noise_number(1600), 0);
@@ -91,11 +94,11 @@ fn m10_and_m11_flat_bin() {
     let bin = Complex { re: -16384, im: 0 };
     let shrunk_bin = Complex { re: -15420, im: 0 };
     assert_eq!(shrunk(bin, 1 << 32), shrunk_bin);
-    let mut bins = [[NOTHING; 16]; 16];
-    bins[0][0] = shrunk_bin;
-    assert_eq!(inverse_rounded(&bins), [[-964; 16]; 16]);
-    assert_eq!(correction(&[[-4; 16]; 16], 1 << 32), [[-964; 16]; 16]);
-    assert_eq!(correction(&[[-4; 16]; 16], 0), [[0; 16]; 16]);
+    let mut bins: Bins = Square::filled(16, Complex::default());
+    bins[(0, 0)] = shrunk_bin;
+    assert_eq!(inverse_rounded(&bins), flat(-964));
+    assert_eq!(correction(&flat(-4), 1 << 32), flat(-964));
+    assert_eq!(correction(&flat(-4), 0), flat(0));
 }
 
 #[test]
@@ -166,7 +169,7 @@ fn mirrored_frames_agree() {
         (3, frame(&flipped)),
         (-5, frame(&flipped)),
     ] {
-        let mut call = lone_sample::call();
+        let mut call = lone_sample::PLAIN.call();
         call.burst.shape.count = 2;
         call.burst.reference = 1;
         call.burst.samples = [other, frame(&sample)].concat();
@@ -178,11 +181,11 @@ fn mirrored_frames_agree() {
 
 #[test]
 fn exact_merge_of_a_lone_sample() {
-    let mut call = lone_sample::call();
+    let mut call = lone_sample::PLAIN.call();
     assert_eq!(call.merge().number, 0);
     assert_eq!(call.output[36 * 64 + 36], 118);
-    let noise = call.denoising.model().unwrap();
-    assert_eq!(noise.levels, levels(0, 3422141));
-    let value = exact::sample(&call.setting(noise), 36, 36).decimal();
+    let setting = call.setting().unwrap();
+    assert_eq!(setting.noise.levels, levels(0, 3422141));
+    let value = exact::sample(&setting, 36, 36).decimal();
     assert!(value.starts_with("118.5510720579"), "{value}");
 }

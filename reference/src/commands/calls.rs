@@ -5,7 +5,7 @@ use super::Outcome;
 use reference::burst::Burst;
 use reference::calls::{Answer, Call};
 use reference::ceiling::{self, Leaks};
-use reference::noise::{Curve, Denoising, Noise};
+use reference::noise::{Curve, Noise, Tuning};
 use reference::shape::Shape;
 use std::error::Error;
 use std::io::{Read, Write};
@@ -46,10 +46,10 @@ pub fn choose_each() -> Outcome {
     tell(&leaks)
 }
 
-/// Adds the leaks of an accepted call.
+/// Adds the leaks of an accepted call: "The ghost ceiling of L11 covers s = 0 only."
 fn add_leaks(leaks: &mut Leaks, call: &Call, answer: &Answer) {
-    if let (0, Ok(noise)) = (answer.number, call.denoising.model()) {
-        for leak in ceiling::leaks(&call.setting(noise), &call.output) {
+    if let (0, 0, Ok(setting)) = (answer.number, call.tuning.spatial, call.setting()) {
+        for leak in ceiling::leaks(&setting, &call.output) {
             leaks.add(leak);
         }
     }
@@ -78,7 +78,8 @@ fn put_buffers(out: &mut impl Write, call: &Call) -> Outcome {
 pub fn take_call(input: &mut impl Read) -> Result<Call, Box<dyn Error>> {
     let [width, height, count, reference, row_length] = take_array(input)?;
     let black = take_array(input)?;
-    let denoising = take_denoising(input)?;
+    let noise = take_noise(input)?;
+    let [strength, spatial] = take_array(input)?;
     let [samples, vectors, output, work_length] = take_array(input)?;
     let shape = Shape {
         width,
@@ -93,25 +94,25 @@ pub fn take_call(input: &mut impl Read) -> Result<Call, Box<dyn Error>> {
             black,
             samples: take_many(input, samples)?,
         },
-        denoising,
+        noise,
+        tuning: Tuning { strength, spatial },
         vectors: take_many(input, vectors)?,
         output: take_many(input, output)?,
         work_length,
     })
 }
 
-fn take_denoising(input: &mut impl Read) -> Result<Denoising, Box<dyn Error>> {
-    let [kind, iso, shot, read, strength] = take_array(input)?;
+fn take_noise(input: &mut impl Read) -> Result<Noise, Box<dyn Error>> {
+    let [kind, iso, shot, read] = take_array(input)?;
     let curve = Curve {
         shot: f64::from_bits(shot),
         read: f64::from_bits(read),
     };
-    let noise = match kind {
-        0 => Noise::Curve(curve),
-        1 => Noise::Iso(iso.try_into()?, curve),
-        _ => return Err("the noise kind is neither 0 nor 1".into()),
-    };
-    Ok(Denoising { noise, strength })
+    match kind {
+        0 => Ok(Noise::Curve(curve)),
+        1 => Ok(Noise::Iso(iso.try_into()?, curve)),
+        _ => Err("the noise kind is neither 0 nor 1".into()),
+    }
 }
 
 pub fn put_call(out: &mut impl Write, call: &Call) -> std::io::Result<()> {
@@ -121,16 +122,12 @@ pub fn put_call(out: &mut impl Write, call: &Call) -> std::io::Result<()> {
         count,
         row_length,
     } = call.burst.shape;
-    let (kind, iso, curve) = match call.denoising.noise {
-        Noise::Curve(curve) => (0, 0, curve),
-        Noise::Iso(iso, curve) => (1, iso.into(), curve),
-    };
-    let (shot, read) = (curve.shot.to_bits(), curve.read.to_bits());
-    let strength = call.denoising.strength;
+    let Tuning { strength, spatial } = call.tuning;
     let reference = call.burst.reference;
     put_many(out, &[width, height, count, reference, row_length])?;
     put_many(out, &call.burst.black)?;
-    put_many(out, &[kind, iso, shot, read, strength])?;
+    put_noise(out, call.noise)?;
+    put_many(out, &[strength, spatial])?;
     (call.burst.samples.len() as u64).put(out)?;
     (call.vectors.len() as u64).put(out)?;
     (call.output.len() as u64).put(out)?;
@@ -138,4 +135,15 @@ pub fn put_call(out: &mut impl Write, call: &Call) -> std::io::Result<()> {
     put_many(out, &call.burst.samples)?;
     put_many(out, &call.vectors)?;
     put_many(out, &call.output)
+}
+
+fn put_noise(out: &mut impl Write, noise: Noise) -> std::io::Result<()> {
+    let (kind, iso, curve) = match noise {
+        Noise::Curve(curve) => (0, 0, curve),
+        Noise::Iso(iso, curve) => (1, iso.into(), curve),
+    };
+    put_many(
+        out,
+        &[kind, iso, curve.shot.to_bits(), curve.read.to_bits()],
+    )
 }

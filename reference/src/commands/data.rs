@@ -5,9 +5,10 @@ use super::wire::{put_many, Word};
 use super::Outcome;
 use reference::calls::Call;
 use reference::cases::{damaged_files, Case};
+use reference::lone_sample::LoneSample;
 use reference::random::Random;
+use reference::scenes;
 use reference::shape::Shape;
-use reference::{lone_sample, scenes};
 use std::io::{stdout, BufWriter, Write};
 use std::path::Path;
 
@@ -45,22 +46,24 @@ pub fn write_calls(side: &str, count: &str, seed: &str) -> Outcome {
     write_each(scenes::calls(side, count.parse()?, seed.parse()?))
 }
 
-/// Writes the call of the lone sample, and its place, as `exact` takes them.
-pub fn write_lone_sample() -> Outcome {
+/// Writes the call of each lone sample, and its place, as `exact` takes them.
+pub fn write_lone_samples(samples: impl Iterator<Item = LoneSample>) -> Outcome {
     let mut out = BufWriter::new(stdout().lock());
-    put_call_with_places(&mut out, &lone_sample::call(), &[lone_sample::PLACE])?;
+    for sample in samples {
+        put_call_with_places(&mut out, &sample.call(), &[sample.place])?;
+    }
     out.flush()?;
     Ok(())
 }
 
-/// Writes calls, each with eight random places, as `exact` takes them.
-pub fn write_with_places(calls: impl Iterator<Item = Call>) -> Outcome {
+/// Writes calls, each with so many random places, as `exact` takes them.
+pub fn write_with_places(calls: impl Iterator<Item = Call>, count: usize) -> Outcome {
     let mut out = BufWriter::new(stdout().lock());
     let mut random = Random::new(1);
     for call in calls {
         let Shape { width, height, .. } = call.burst.shape;
         let mut below = |side: u64| random.below(side as usize) as u64;
-        let places: [[u64; 2]; 8] = std::array::from_fn(|_| [below(height), below(width)]);
+        let places: Vec<_> = (0..count).map(|_| [below(height), below(width)]).collect();
         put_call_with_places(&mut out, &call, &places)?;
     }
     out.flush()?;

@@ -4,8 +4,8 @@ use super::calls::take_call;
 use super::wire::{self, take_array, Word};
 use super::Outcome;
 use reference::calls::Call;
-use reference::exact;
 use reference::fraction::Fraction;
+use reference::{exact, exact_filtered};
 use std::io::{Read, Write};
 
 /// Answers every call of merge on standard input, each followed by the count of its places
@@ -26,9 +26,13 @@ fn take_places(input: &mut impl Read) -> std::io::Result<Vec<[u64; 2]>> {
 /// `refused N`, or one line per place.
 fn write_places(out: &mut impl Write, mut call: Call, places: &[[u64; 2]]) -> Outcome {
     let number = call.merge().number;
-    let noise = match (number, call.denoising.model()) {
-        (0, Ok(noise)) => noise,
+    let setting = match (number, call.setting()) {
+        (0, Ok(setting)) => setting,
         _ => return Ok(writeln!(out, "refused {number}")?),
+    };
+    let exact_sample = match call.tuning.spatial {
+        0 => exact::sample,
+        _ => exact_filtered::sample,
     };
     let shape = call.burst.shape;
     for &[row, column] in places {
@@ -36,7 +40,7 @@ fn write_places(out: &mut impl Write, mut call: Call, places: &[[u64; 2]]) -> Ou
             return Err("a place lies outside the frame".into());
         }
         let word = call.output[(row * shape.width + column) as usize];
-        let sample = exact::sample(&call.setting(noise), row as i64, column as i64);
+        let sample = exact_sample(&setting, row as i64, column as i64);
         write!(out, "{row} {column} ")?;
         write_sample(out, word, &sample)?;
     }

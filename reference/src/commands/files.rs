@@ -49,7 +49,7 @@ fn header_values(file: &BurstFile) -> [u64; 7] {
         burst.reference,
         noise.levels.shot,
         noise.levels.read,
-        noise.strength,
+        noise.tuning.strength,
     ]
 }
 
