@@ -1,5 +1,5 @@
-/* Answers a stream of calls from standard input as the reference's `align`, `merge`, `run` or `choose` does, with the library:
-   calls align|merge|run|choose [SPARE]. With SPARE, samples of the right length are lent in rows with so many spare words, each 65535, in place of
+/* Answers a stream of calls from standard input as the reference's `align`, `merge`, `run`, `choose` or `range` does, with the library:
+   calls align|merge|run|choose|range [SPARE]. With SPARE, samples of the right length are lent in rows with so many spare words, each 65535, in place of
    the burst's own. It sees itself that the work area ends as promised, zero or after a refusal as it was, and that the stack is enough. At the end it
    writes to standard error how many calls there were, and the most stack that one took. */
 #include "stack.h"
@@ -11,11 +11,14 @@
 
 enum { WIDTH, HEIGHT, COUNT, REFERENCE, ROW_LENGTH, BLACK, NOISE_KIND = BLACK + 4, ISO, SHOT, READ, STRENGTH, SIDE, SPATIAL, SAMPLES, VECTORS, OUTPUT, WORK, WORDS };
 
+/* what a call of the range adds: its noise and output are the lower noise and the low frame */
+enum { UPPER_KIND, UPPER_ISO, UPPER_SHOT, UPPER_READ, HIGH, RANGE_WORDS };
+
 /* what the work area holds before a call */
 static const int64_t MARK = -4915937;
 
-static uint64_t head[WORDS];
-static uint16_t *samples, *output;
+static uint64_t head[WORDS], more[RANGE_WORDS];
+static uint16_t *samples, *output, *high;
 static int32_t *vectors;
 static int64_t *work;
 static stacker_alignment answer;
@@ -50,9 +53,19 @@ static stacker_noise measured(void)
     return (stacker_noise){ .shot = number(head[SHOT]), .read = number(head[READ]) };
 }
 
+static stacker_noise measured_upper(void)
+{
+    return (stacker_noise){ .shot = number(more[UPPER_SHOT]), .read = number(more[UPPER_READ]) };
+}
+
 static stacker_iso_noise at_iso(void)
 {
     return (stacker_iso_noise){ .iso = (uint32_t)head[ISO], .shot = number(head[SHOT]), .read = number(head[READ]) };
+}
+
+static stacker_iso_noise at_iso_upper(void)
+{
+    return (stacker_iso_noise){ .iso = (uint32_t)more[UPPER_ISO], .shot = number(more[UPPER_SHOT]), .read = number(more[UPPER_READ]) };
 }
 
 static stacker_tuning tuning(void)
@@ -74,6 +87,17 @@ static void merge(void)
     else
         answer.refusal = stacker_merge_iso(burst(), at_iso(), tuning(), samples, head[SAMPLES], vectors, head[VECTORS], output, head[OUTPUT],
             work, head[WORK]);
+}
+
+static void range(void)
+{
+    memset(&answer, 0, sizeof answer);
+    if (head[NOISE_KIND] == 0)
+        answer.refusal = stacker_range(burst(), measured(), measured_upper(), tuning(), samples, head[SAMPLES], vectors, head[VECTORS],
+            output, head[OUTPUT], high, more[HIGH], work, head[WORK]);
+    else
+        answer.refusal = stacker_range_iso(burst(), at_iso(), at_iso_upper(), tuning(), samples, head[SAMPLES], vectors, head[VECTORS],
+            output, head[OUTPUT], high, more[HIGH], work, head[WORK]);
 }
 
 static void run(void)
@@ -125,7 +149,8 @@ static void choose(void)
 
 static void (*called(const char *name))(void)
 {
-    return strcmp(name, "align") == 0 ? align : strcmp(name, "merge") == 0 ? merge : strcmp(name, "choose") == 0 ? choose : run;
+    return strcmp(name, "align") == 0 ? align : strcmp(name, "merge") == 0 ? merge : strcmp(name, "choose") == 0 ? choose
+        : strcmp(name, "range") == 0 ? range : run;
 }
 
 static void write_all(const void *data, size_t size)
@@ -145,6 +170,9 @@ int main(int argc, char **argv)
         samples = lent(head[SAMPLES], 2, 1);
         vectors = lent(head[VECTORS], 4, 1);
         output = lent(head[OUTPUT], 2, 1);
+        if (call == range && fread(more, 8, RANGE_WORDS, stdin) != RANGE_WORDS)
+            return 2;
+        high = lent(more[HIGH], 2, 1);
         work = lent(head[WORK], 8, 0);
         if (argc == 3)
             pad(strtoul(argv[2], NULL, 10));
@@ -160,9 +188,11 @@ int main(int argc, char **argv)
             write_all(&chosen, sizeof chosen);
         write_all(vectors, 4 * head[VECTORS]);
         write_all(output, 2 * head[OUTPUT]);
+        write_all(high, 2 * more[HIGH]);
         free(samples);
         free(vectors);
         free(output);
+        free(high);
         free(work);
     }
     fprintf(stderr, "%lu calls on at most %zu bytes of stack\n", count, deepest);

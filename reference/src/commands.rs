@@ -7,12 +7,13 @@ mod exact;
 mod files;
 mod lines;
 mod pgm;
+mod range;
 mod wire;
 
 use reference::calls::Call;
 use reference::cases::cases;
 use reference::programs::{motion, stack};
-use reference::{filtered_calls, fixed_calls, lone_sample, moving_files};
+use reference::{filtered_calls, fixed_calls, lone_sample, moving_files, range_calls};
 use std::error::Error;
 use std::iter::once;
 use std::num::ParseIntError;
@@ -34,6 +35,7 @@ pub fn dispatch(arguments: &[String]) -> Outcome {
         ["merge"] => calls::merge_each(Call::merge),
         ["run"] => calls::merge_each(Call::run),
         ["choose"] => calls::choose_each(),
+        ["range"] => range::answer_each(),
         ["write-pgm"] => pgm::answer_writings(),
         ["read-pgm"] => pgm::answer_readings(),
         ["read-dng"] => dng::answer_readings(),
@@ -63,6 +65,11 @@ pub fn dispatch(arguments: &[String]) -> Outcome {
         ["filtered-calls", width, height, round] => {
             let calls = filtered_calls::of_size(width.parse()?, height.parse()?, round.parse()?);
             data::write_each(calls)
+        }
+        ["range-calls"] => range::put_each(range_calls::calls()),
+        ["range-calls", width, height, round] => {
+            let calls = range_calls::of_size(width.parse()?, height.parse()?, round.parse()?);
+            range::put_each(calls)
         }
         ["fixed-places", side, width, height, round] => {
             data::write_with_places(fixed_of_size([side, width, height, round])?, 8)

@@ -171,6 +171,11 @@ pub fn pedestals() -> impl Iterator<Item = Call> {
     })
 }
 
+/// A good call of two frames of 64 by 64 without spare words.
+pub fn two_frames() -> Call {
+    call(0, Shape::packed(64, 64, 2), 1, &mut Random::new(5))
+}
+
 /// Row lengths at their limits and beyond, samples that are too great at the ends of rows, and lengths that leave out
 /// spare words.
 pub fn row_lengths() -> impl Iterator<Item = Call> {
