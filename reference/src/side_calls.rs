@@ -64,7 +64,7 @@ fn beside_a_refused_side() -> Vec<fn(&mut Call)> {
     ]
 }
 
-/// 5, and for a side of 32 that of 32 vectors is right.
+/// The length of the other side, and at side 32 the right one, one over and one short: 5 but for the right one.
 fn lengths_of_the_other_side() -> Vec<fn(&mut Call)> {
     vec![
         |call| call.tuning.side = 32,
