@@ -327,8 +327,8 @@ static inline const char *stacker_refusal_text(uint64_t number)
    analysis of HDR+ settled on; 64 is the tau of 8 that the original names, which that analysis found too weak. A strength of 0 gives the reference back,
    1024 is the greatest. README has what they do to one scene.
 
-   SIDE of the tiles, at align's finest level and in merge. Take 16; 32 is the original's for very dark scenes, where so few places tell little of how a tile
-   moved. The levels above keep their tiles. Side 32 has about a quarter of the vectors, so those of one side are refused, by their length, at the other.
+   SIDE of the tiles, at align's finest level and in merge. Take 16; 32 is the original's for very dark scenes, where 16 by 16 places tell too little of how a
+   tile moved. The levels above keep their tiles. Side 32 has about a quarter of the vectors, so those of one side are refused at the other, by their length.
    README has what either does to a dark scene.
 
    SPATIAL FILTER, for tiles of side 16 alone. Where frames agree, grain that all of them share or that few of them can average stays. A spatial s above 0 takes
