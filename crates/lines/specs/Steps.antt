@@ -1,4 +1,4 @@
--- All steps of straight-line code on eight numbers, each at its width: that each fits, by one computed test.
+-- All steps of straight-line code on the numbers of a line, each at its width: that each fits, by one computed test.
 use Rattle.algebra.specs.Prelude.{Bool, true, List, [], _∷_, T, ltb, ℤ, pos}
 use Prim.Native.Nat.{ℕ, zero, suc, _^_, zero-le}
 use mir.Syntax.{Width, w16, w32}
