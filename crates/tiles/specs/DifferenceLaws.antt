@@ -1,5 +1,5 @@
--- Pairs of tiles of an accepted burst: samples up to 4095, so differences up to 4095.
-use Rattle.algebra.specs.Prelude.{_≡_, ap, ap₂, _∙_, List, [], ℕ, _-_, _/_, _%_, _≤_, _<_, arith, length, ℤ, pos, natAbs, _-ℤ_}
+-- Inside the crates of the merge: pairs of tiles of an accepted burst: samples up to 4095, so differences up to 4095.
+use Rattle.algebra.specs.Prelude.{_≡_, ap, ap₂, _∙_, List, [], ℕ, _-_, _*_, _/_, _%_, _≤_, _<_, arith, length, ℤ, pos, natAbs, _-ℤ_}
 use Rattle.algebra.specs.Order.{zarith, sub-pn, min-pn, abs-pn}
 use Rattle.sequences.specs.Tab.{tab}
 use Rattle.sequences.specs.TabLaws.{length-tab, tab-every}
@@ -11,9 +11,8 @@ use Rattle.geometry.specs.Fits.{Allowed, SamplesFit, ValuesFit}
 use Rattle.geometry.specs.Vectors.{otherFrame}
 use Rattle.geometry.specs.VectorLaws.{other-below}
 use Rattle.recipe.specs.Side.{Side}
-use Rattle.recipe.specs.Tables.{side16}
 use Rattle.recipe.specs.declared.Merge.{Merge}
-use Rattle.recipe.specs.Scene.{Scene, sceneOf, tileAt, referenceTile, otherTile, tileDifference}
+use Rattle.recipe.specs.Scene.{Scene, tileAt, referenceTile, otherTile, tileDifference, sceneAt}
 use Rattle.tiles.specs.declared.Site.{Site}
 use Rattle.tiles.specs.Accepted.{Accepted, Sited}
 use Rattle.tiles.specs.Sum.{TileFits}
@@ -21,23 +20,23 @@ use Rattle.lines.specs.Lines.{LineMost, TileMost}
 use Rattle.lines.specs.Magnitudes.{differenceMost}
 use Rattle.spectrum.specs.Pairs.{sideBySide}
 
--- a pair has sixteen rows
-pub pair-rows : {A : Type 0} (f : ℕ → ℕ → A) {t : List (List A)} → t ≡ grid 16 32 f → length t ≡ 16
+-- the rows of a pair
+pub pair-rows : {A : Type 0} (n : ℕ) (f : ℕ → ℕ → A) {t : List (List A)} → t ≡ grid n (2 * n) f → length t ≡ n
 unfolding grid
-pair-rows f e = ap length e ∙ length-tab (λ i. tab 32 (f i)) 16
+pair-rows n f e = ap length e ∙ length-tab (λ i. tab (2 * n) (f i)) n
 
 -- differences of pairs, cell by cell
-pub difference-grid : (s : Scene) (rowParity a b k : ℕ) {t0 tz : List (List ℕ)} → t0 ≡ grid 16 32 (sideBySide (λ p. referenceTile s rowParity p a b)) → tz ≡ grid 16 32 (sideBySide (λ p. otherTile s rowParity p a b k))
-    → grid 16 32 (λ i l. pos (cell 0 t0 i l) -ℤ pos (cell 0 tz i l)) ≡ grid 16 32 (sideBySide (λ p. tileDifference s rowParity p a b k))
+pub difference-grid : (n : ℕ) (s : Scene) (rowParity a b k : ℕ) {t0 tz : List (List ℕ)} → t0 ≡ grid n (2 * n) (sideBySide (λ p. referenceTile s rowParity p a b)) → tz ≡ grid n (2 * n) (sideBySide (λ p. otherTile s rowParity p a b k))
+    → grid n (2 * n) (λ i l. pos (cell 0 t0 i l) -ℤ pos (cell 0 tz i l)) ≡ grid n (2 * n) (sideBySide (λ p. tileDifference s rowParity p a b k))
 unfolding tileDifference
-difference-grid s rowParity a b k e f =
-    rw (e, f) (grid-ext 16 32 _ _ (λ i l g h. ap₂ (λ x y. pos x -ℤ pos y) (cell-grid 0 16 32 _ i l g h) (cell-grid 0 16 32 _ i l g h)))
+difference-grid n s rowParity a b k e f =
+    rw (e, f) (grid-ext n (2 * n) _ _ (λ i l g h. ap₂ (λ x y. pos x -ℤ pos y) (cell-grid 0 n (2 * n) _ i l g h) (cell-grid 0 n (2 * n) _ i l g h)))
 
-pub tile-fits : {t : List (List ℕ)} (f : ℕ → ℕ → ℕ → ℕ) → ((p : ℕ) → p < 2 → (i j : ℕ) → f p i j ≤ 4095) → t ≡ grid 16 32 (sideBySide f) → TileFits t
+pub tile-fits : (n : ℕ) {t : List (List ℕ)} (f : ℕ → ℕ → ℕ → ℕ) → ((p : ℕ) → p < 2 → (i j : ℕ) → f p i j ≤ 4095) → t ≡ grid n (2 * n) (sideBySide f) → TileFits t
 unfolding grid
-tile-fits f h e =
+tile-fits n f h e =
     record {
-      row = rw e (tab-every ValuesFit [] (λ i. tab 32 (sideBySide f i)) (record { most = λ l. omega arith }) (λ i. record { most = tab-every (λ n. n ≤ 4095) 0 (sideBySide f i) (omega arith) (λ l. h (l % 2) (omega arith) i (l / 2)) 32 }) 16);
+      row = rw e (tab-every ValuesFit [] (λ i. tab (2 * n) (sideBySide f i)) (record { most = λ l. omega arith }) (λ i. record { most = tab-every (λ n. n ≤ 4095) 0 (sideBySide f i) (omega arith) (λ l. h (l % 2) (omega arith) i (l / 2)) (2 * n) }) n);
     }
 
 apart : (x y : ℕ) → x ≤ 4095 → y ≤ 4095 → natAbs (pos x -ℤ pos y) ≤ 4095
@@ -50,28 +49,28 @@ unfolding tileAt read planeOf
 tile-sample side ok fit frame f r c down right a b i j = fit .most frame _ _ f (plane-inside (ok .high) _ _ r) (plane-inside (ok .wide) _ _ c)
 
 -- those of column parity p
-module _ {m : Merge} {samples : List ℕ} {vectors : List ℤ} (ok : Accepted m samples vectors) {site : Site} (sited : Sited (m .shape) site) where
+module _ {n : ℕ} {m : Merge} {samples : List ℕ} {vectors : List ℤ} (side : Side) (ok : Accepted n m samples vectors) {site : Site} (sited : Sited n (m .shape) site) where
   abbrev s : Scene
-  s = sceneOf m samples vectors
+  s = sceneAt side m samples vectors
 
   pub reference-most : (p : ℕ) → p < 2 → (i j : ℕ) → referenceTile s (site .«row_parity») p (site .row) (site .column) i j ≤ 4095
-  unfolding sceneOf referenceTile
-  reference-most p c = tile-sample side16 (ok .burst .allowed) (ok .samples-fit) (m .reference) (ok .burst .reference-below) (sited .row-parity) c (pos 0) (pos 0) (site .row) (site .column)
+  unfolding sceneAt referenceTile
+  reference-most p c = tile-sample side (ok .burst .allowed) (ok .samples-fit) (m .reference) (ok .burst .reference-below) (sited .row-parity) c (pos 0) (pos 0) (site .row) (site .column)
 
   -- and the k-th other frame
   module _ (k : ℕ) (h : k < m .shape .count - 1) where
     pub other-most : (p : ℕ) → p < 2 → (i j : ℕ) → otherTile s (site .«row_parity») p (site .row) (site .column) k i j ≤ 4095
-    unfolding sceneOf otherTile
-    other-most p c = tile-sample side16 (ok .burst .allowed) (ok .samples-fit) (otherFrame (m .reference) k) (other-below (m .reference) k (m .shape .count) h) (sited .row-parity) c _ _ (site .row) (site .column)
+    unfolding sceneAt otherTile
+    other-most p c = tile-sample side (ok .burst .allowed) (ok .samples-fit) (otherFrame (m .reference) k) (other-below (m .reference) k (m .shape .count) h) (sited .row-parity) c _ _ (site .row) (site .column)
 
     pub difference-most : (p : ℕ) → p < 2 → (i j : ℕ) → natAbs (tileDifference s (site .«row_parity») p (site .row) (site .column) k i j) ≤ 4095
     unfolding tileDifference
     difference-most p c i j = apart _ _ (reference-most p c i j) (other-most p c i j)
 
-    pub tile-most : TileMost differenceMost (grid 16 32 (sideBySide (λ p. tileDifference s (site .«row_parity») p (site .row) (site .column) k)))
+    pub tile-most : TileMost differenceMost (grid n (2 * n) (sideBySide (λ p. tileDifference s (site .«row_parity») p (site .row) (site .column) k)))
     unfolding grid
     tile-most =
         record {
           line = tab-every (LineMost differenceMost) [] _ (record { at = λ i. omega arith })
-              (λ i. record { at = tab-every (λ z. natAbs z ≤ 4095) (pos 0) _ (omega arith) (λ l. difference-most (l % 2) (omega arith) i (l / 2)) 32 }) 16;
+              (λ i. record { at = tab-every (λ z. natAbs z ≤ 4095) (pos 0) _ (omega arith) (λ l. difference-most (l % 2) (omega arith) i (l / 2)) (2 * n) }) n;
         }
