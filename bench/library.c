@@ -36,8 +36,8 @@ static stacker_burst described(const burst *b)
 
 static void align(void *scratch, const burst *b, const noise_levels *n, result *r)
 {
-    (void)n;
-    stacker_alignment answer = stacker_align(described(b), b->samples, b->count * pixels(b), &r->vectors->down, vector_words(b), scratch,
+    stacker_tuning tuning = STACKER_TUNING(n->strength);
+    stacker_alignment answer = stacker_align(described(b), tuning, b->samples, b->count * pixels(b), &r->vectors->down, vector_words(b), scratch,
         2 * pixels(b));
     must_accept("stacker_align", answer.refusal);
     memcpy(r->residuals, answer.residuals, sizeof answer.residuals);
@@ -46,7 +46,7 @@ static void align(void *scratch, const burst *b, const noise_levels *n, result *
 static void merge(void *scratch, const burst *b, const noise_levels *n, result *r)
 {
     stacker_noise noise = { .shot = (double)n->shot / 1024, .read = (double)n->read / 1024 };
-    stacker_tuning tuning = { .strength = (uint64_t)n->strength };
+    stacker_tuning tuning = STACKER_TUNING(n->strength);
     uint64_t refusal = stacker_merge(described(b), noise, tuning, b->samples, b->count * pixels(b), &r->vectors->down, vector_words(b), r->output,
         pixels(b), scratch, 2 * pixels(b));
     must_accept("stacker_merge", refusal);

@@ -12,7 +12,7 @@
 enum { MOST = 1024, FRAMES = 8 };
 
 static const stacker_noise noise = { .shot = 1.5, .read = 20 };
-static const stacker_tuning tuning = { .strength = 64 };
+static const stacker_tuning tuning = { .strength = 64, .side = 16 };
 
 static double milliseconds(void)
 {

@@ -30,11 +30,12 @@ static void print_line(const lighting *l, int side, int count)
     uint64_t size = (uint64_t)side;
     stacker_burst burst = { .width = size, .height = size, .count = (uint64_t)count, .row_length = size };
     stacker_noise noise = { .shot = l->shot, .read = l->read };
-    if (stacker_align(burst, samples, count * frame, vectors, vector_words, work, 2 * frame).refusal != 0)
+    stacker_tuning tuning = { .strength = 600, .side = 16 };
+    if (stacker_align(burst, tuning, samples, count * frame, vectors, vector_words, work, 2 * frame).refusal != 0)
         exit(1);
     double best[TRIED] = { 0 };
     for (int round = 0; round < TRIED * ROUNDS; round++) {
-        stacker_tuning tuning = { .strength = 600, .spatial = SPATIAL[round % TRIED] };
+        tuning.spatial = SPATIAL[round % TRIED];
         double start = nanoseconds();
         if (stacker_merge(burst, noise, tuning, samples, count * frame, vectors, vector_words, output, frame, work, 2 * frame) != 0)
             exit(1);

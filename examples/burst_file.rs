@@ -6,6 +6,9 @@
 use std::io::Read;
 use std::process::exit;
 
+/// Of the tiles that a burst file means.
+const SIDE: usize = 16;
+
 // The structs of stacker.h.
 
 #[repr(C)]
@@ -27,6 +30,7 @@ struct Noise {
 #[repr(C)]
 struct Tuning {
     strength: u64,
+    side: u64,
     spatial: u64,
 }
 
@@ -72,6 +76,7 @@ impl BurstFile {
     fn tuning(&self) -> Tuning {
         Tuning {
             strength: self.strength,
+            side: SIDE as u64,
             spatial: 0,
         }
     }
@@ -81,7 +86,7 @@ impl BurstFile {
 #[rustfmt::skip]
 extern "C" {
     fn stacker_read_file(file: *const u8, file_length: usize, samples: *mut u16, samples_length: usize) -> BurstFile;
-    fn stacker_align(burst: Burst, samples: *const u16, samples_length: usize, vectors: *mut i32, vectors_length: usize,
+    fn stacker_align(burst: Burst, tuning: Tuning, samples: *const u16, samples_length: usize, vectors: *mut i32, vectors_length: usize,
         work: *mut i64, work_length: usize) -> Alignment;
     fn stacker_merge(burst: Burst, noise: Noise, tuning: Tuning, samples: *const u16, samples_length: usize,
         vectors: *const i32, vectors_length: usize, output: *mut u16, output_length: usize, work: *mut i64, work_length: usize) -> u64;
@@ -101,9 +106,9 @@ fn read_file(file: &[u8], samples: &mut [u16]) -> BurstFile {
 }
 
 #[rustfmt::skip]
-fn align(burst: Burst, samples: &[u16], vectors: &mut [i32], work: &mut [i64]) -> Alignment {
+fn align(file: &BurstFile, samples: &[u16], vectors: &mut [i32], work: &mut [i64]) -> Alignment {
     unsafe {
-        stacker_align(burst, samples.as_ptr(), samples.len(), vectors.as_mut_ptr(), vectors.len(), work.as_mut_ptr(), work.len())
+        stacker_align(file.burst(), file.tuning(), samples.as_ptr(), samples.len(), vectors.as_mut_ptr(), vectors.len(), work.as_mut_ptr(), work.len())
     }
 }
 
@@ -169,10 +174,10 @@ fn main() {
         file.height as usize,
         file.count as usize,
     );
-    let mut vectors = vec![0; (count - 1) * 2 * (width / 16 + 1) * (height / 16 + 1)];
+    let mut vectors = vec![0; (count - 1) * 2 * (width / SIDE + 1) * (height / SIDE + 1)];
     let mut output = vec![0; width * height];
     let mut work = vec![0; 2 * width * height];
-    let alignment = align(file.burst(), &samples, &mut vectors, &mut work);
+    let alignment = align(&file, &samples, &mut vectors, &mut work);
     accepted(alignment.refusal);
     accepted(merge(&file, &samples, &vectors, &mut output, &mut work));
 

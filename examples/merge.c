@@ -163,7 +163,7 @@ static void merge_first(uint64_t count, uint64_t strength, uint64_t spatial)
 {
     stacker_burst burst = { .width = SIDE, .height = SIDE, .count = count, .reference = REFERENCE, .row_length = SIDE };
     stacker_noise noise = { .shot = SHOT, .read = READ };
-    stacker_tuning tuning = { .strength = strength, .spatial = spatial };
+    stacker_tuning tuning = { .strength = strength, .side = 16, .spatial = spatial };
     must_accept(stacker_merge(burst, noise, tuning, samples, count * FRAME, vectors, (count - 1) * 2 * TILES * TILES, merged, FRAME, work, 2 * FRAME));
 }
 
@@ -192,7 +192,7 @@ int main(int argc, char **argv)
     take_frames();
     stacker_burst burst = { .width = SIDE, .height = SIDE, .count = FRAMES, .reference = REFERENCE, .row_length = SIDE };
     stacker_noise noise = { .shot = SHOT, .read = READ };
-    stacker_tuning tuning = { .strength = STRENGTH };
+    stacker_tuning tuning = { .strength = STRENGTH, .side = 16 };
     must_accept(stacker_run(burst, noise, tuning, samples, FRAMES * FRAME, vectors, sizeof vectors / sizeof *vectors, merged, FRAME, work,
         2 * FRAME).refusal);
     write_frame(created(argv[1], "noisy.pgm"), samples + REFERENCE * FRAME);

@@ -94,7 +94,7 @@ int main(int argc, char **argv)
     for (int plane = 0; plane < 4; plane++)
         burst.black[plane] = first.black[plane];
     stacker_noise noise = { .shot = first.shot, .read = first.read };
-    stacker_tuning tuning = { .strength = STRENGTH };
+    stacker_tuning tuning = { .strength = STRENGTH, .side = 16 };
     stacker_alignment answer =
         stacker_run(burst, noise, tuning, samples, samples_length, vectors, vectors_length, merged, area, work, 2 * area);
     accepted("merge", answer.refusal);

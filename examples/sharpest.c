@@ -11,7 +11,7 @@ enum { SIDE = 512, FRAMES = 4, SOFT = 0, TILES = SIDE / 16 + 1, FRAME = SIDE * S
 
 /* The noise of a sample x has the variance SHOT x + READ. The strength counts eighths of tau. */
 static const stacker_noise noise = { .shot = 0.25, .read = 16 };
-static const stacker_tuning tuning = { .strength = 600 };
+static const stacker_tuning tuning = { .strength = 600, .side = 16 };
 
 /* the lent buffers, of the lengths that stacker.h gives */
 static uint16_t samples[FRAMES * FRAME], merged[FRAME];

@@ -1,7 +1,7 @@
 /* The burst stacker: one to eight raw frames of one scene are aligned on one of them, the reference, and merged into one cleaner frame.
 
    First come the types, the calls and what goes with them; behind them EXAMPLES, FRAMES, SHARPNESS, LENT BUFFERS, AFTER A CALL, REFUSALS, NOISE,
-   STRENGTH, SPATIAL FILTER, ZEROS and THE MACHINE. Link with libstacker.a. For x86-64 Linux; C99 and later, C++11 and later. */
+   STRENGTH, SIDE, SPATIAL FILTER, ZEROS and THE MACHINE. Link with libstacker.a. For x86-64 Linux; C99 and later, C++11 and later. */
 #ifndef STACKER_H
 #define STACKER_H
 
@@ -47,10 +47,11 @@ typedef struct {
 
 typedef struct {
     uint64_t strength; /* eighths of the published tau, 0..1024: STRENGTH, below */
-    uint64_t spatial;  /* the spatial filter's published s in 1/256, 0..256: SPATIAL FILTER, below; 0 is no filter */
+    uint64_t side;     /* of the finest tiles and of the merge's, 16 or 32: SIDE, below */
+    uint64_t spatial;  /* the spatial filter's published s in 1/256, 0..256: SPATIAL FILTER, below; 0 is no filter, and all that side 32 takes */
 } stacker_tuning;
 
-/* Initialisers for the descriptions, as C and as C++11: frames without spare words, and 0 in all that is not named.
+/* Initialisers for the descriptions, as C and as C++11: frames without spare words, tiles of side 16, and 0 in all else that is not named.
 
        stacker_burst burst = STACKER_BURST(512, 512, 8, 0); */
 
@@ -59,7 +60,7 @@ typedef struct {
 #define STACKER_FRAMES(width, height, count) { (uint64_t)(width), (uint64_t)(height), (uint64_t)(count), (uint64_t)(width), { 0, 0, 0, 0 } }
 #define STACKER_NOISE(shot, read) { (double)(shot), (double)(read) }
 #define STACKER_ISO_NOISE(iso, shot, read) { (uint32_t)(iso), (double)(shot), (double)(read) }
-#define STACKER_TUNING(strength) { (uint64_t)(strength), 0 }
+#define STACKER_TUNING(strength) { (uint64_t)(strength), 16, 0 }
 
 /* What a call answers: the refusal's number, or 0 with the other fields filled in. */
 
@@ -115,13 +116,15 @@ typedef enum {
     STACKER_REFUSED_DNG_STRUCTURE = 19,
     STACKER_REFUSED_DNG_TAG = 20,
     STACKER_REFUSED_DNG_VALUE = 21,
+    STACKER_REFUSED_SIDE = 22,
     STACKER_REFUSED_ROW_LENGTH = 23,
-    STACKER_REFUSED_SPATIAL = 24
+    STACKER_REFUSED_SPATIAL = 24,
+    STACKER_REFUSED_SPATIAL_SIDE = 25
 } stacker_refusal;
 
-/* Aligns each other frame on the reference. */
-stacker_alignment stacker_align(stacker_burst burst, const uint16_t *samples, size_t samples_length, int32_t *vectors, size_t vectors_length,
-    int64_t *work, size_t work_length);
+/* Aligns each other frame on the reference. Of the tuning it reads the side alone. */
+stacker_alignment stacker_align(stacker_burst burst, stacker_tuning tuning, const uint16_t *samples, size_t samples_length, int32_t *vectors,
+    size_t vectors_length, int64_t *work, size_t work_length);
 
 /* Merges the frames by lent vectors, which are only read; answers the refusal's number, or 0. */
 uint64_t stacker_merge(stacker_burst burst, stacker_noise noise, stacker_tuning tuning, const uint16_t *samples, size_t samples_length,
@@ -159,7 +162,7 @@ stacker_pgm stacker_read_pgm(const uint8_t *bytes, size_t bytes_length, uint16_t
 /* Reads a DNG file into one frame of the lent samples, by its index, and touches no other word of them: width, height and row length are the burst's. */
 stacker_dng stacker_read_dng(const uint8_t *file, size_t file_length, stacker_frames frames, uint64_t frame, uint16_t *samples, size_t samples_length);
 
-/* What merge and run take of a file that was read: its frames, its noise and its strength. */
+/* What align, merge and run take of a file that was read: its frames, its noise, its strength and tiles of side 16. */
 
 static inline stacker_burst stacker_file_burst(stacker_file file)
 {
@@ -189,7 +192,7 @@ static inline const char *stacker_refusal_text(uint64_t number)
     case STACKER_REFUSED_COUNT: return "count of frames 0 or above 8";
     case STACKER_REFUSED_REFERENCE: return "reference, or index of the frame to be read, not below the count of frames";
     case STACKER_REFUSED_SAMPLES_LENGTH: return "samples not of length count * row_length * height";
-    case STACKER_REFUSED_VECTORS_LENGTH: return "vectors not of length (count - 1) * 2 * (width / 16 + 1) * (height / 16 + 1)";
+    case STACKER_REFUSED_VECTORS_LENGTH: return "vectors not of length (count - 1) * 2 * (width / side + 1) * (height / side + 1)";
     case STACKER_REFUSED_OUTPUT_LENGTH: return "output or frame not of length width * height";
     case STACKER_REFUSED_WORK_LENGTH: return "work area not of length 2 * width * height";
     case STACKER_REFUSED_NOISE: return "shot or read negative or not finite, or ISO outside 25..409600";
@@ -206,8 +209,10 @@ static inline const char *stacker_refusal_text(uint64_t number)
     case STACKER_REFUSED_DNG_STRUCTURE: return "not a little-endian TIFF file, or a part of it lies past its end";
     case STACKER_REFUSED_DNG_TAG: return "a DNG file in which a needed tag is absent or a listed one stands twice";
     case STACKER_REFUSED_DNG_VALUE: return "a DNG file with a type, count or value that is not read, or of another size than the burst";
+    case STACKER_REFUSED_SIDE: return "side of the tiles neither 16 nor 32";
     case STACKER_REFUSED_ROW_LENGTH: return "row length not from width to width + 256";
     case STACKER_REFUSED_SPATIAL: return "spatial strength above 256";
+    case STACKER_REFUSED_SPATIAL_SIDE: return "spatial strength not 0 with tiles of side 32";
     default: return "no refusal of this version";
     }
 }
@@ -216,16 +221,17 @@ static inline const char *stacker_refusal_text(uint64_t number)
 }
 #endif
 
-/* EXAMPLES. Eight frames of 512 by 512 samples, merged on the first; noise of variance 3 x + 100 at a sample x; strength 600, so tau = 75:
+/* EXAMPLES. Eight frames of 512 by 512 samples, merged on the first; noise of variance 3 x + 100 at a sample x; strength 600, so tau = 75;
+   tiles of side 16:
 
-       enum { W = 512, H = 512, N = 8, VECTORS = (N - 1) * 2 * (W / 16 + 1) * (H / 16 + 1) };
+       enum { W = 512, H = 512, N = 8, SIDE = 16, VECTORS = (N - 1) * 2 * (W / SIDE + 1) * (H / SIDE + 1) };
        static uint16_t samples[N * W * H], output[W * H];
        static int32_t vectors[VECTORS];
        static int64_t work[2 * W * H];
 
        stacker_burst burst = { .width = W, .height = H, .count = N, .row_length = W };
        stacker_noise noise = { .shot = 3.0, .read = 100.0 };
-       stacker_tuning tuning = { .strength = 600 };
+       stacker_tuning tuning = { .strength = 600, .side = SIDE };
        stacker_alignment answer = stacker_run(burst, noise, tuning, samples, N * W * H, vectors, VECTORS, output, W * H, work, 2 * W * H);
        if (answer.refusal != STACKER_ACCEPTED) {
            fprintf(stderr, "refused: %s\n", stacker_refusal_text(answer.refusal));
@@ -234,7 +240,7 @@ static inline const char *stacker_refusal_text(uint64_t number)
 
    Whether a tile of the k-th other frame has moved, at tile row a and tile column b:
 
-       const int32_t *vector = vectors + 2 * ((k * (H / 16 + 1) + a) * (W / 16 + 1) + b);
+       const int32_t *vector = vectors + 2 * ((k * (H / SIDE + 1) + a) * (W / SIDE + 1) + b);
        int moved = vector[0] != 0 || vector[1] != 0;
 
    The same frames on the sharpest of the first three, where the first may be soft:
@@ -267,23 +273,24 @@ static inline const char *stacker_refusal_text(uint64_t number)
    FRAMES are Bayer RGGB, row by row, frame after frame: 16-bit words that hold 0..4095. Black is already subtracted, or the burst says what it is.
    A row takes row_length words: those after its W samples are spare. They may hold anything and are never read into a result. Output rows have none.
    VECTORS tell, for each other frame in rising index, tile by tile and row by row, how far down and then how far right the tile has moved in a
-   plane: a step is two samples. Tiles cover 16 by 16 places of a plane and begin every 8 places, the first at -8.
+   plane: a step is two samples. Tiles of side 16 cover 16 by 16 places of a plane and begin every 8 places, the first at -8; those of side 32 cover 32 by
+   32 places and begin every 16, the first at -16.
 
    ROWS. For each tile 81 offsets are tried, offset zero first, and each is left after the tile's row at which its running total of differences reaches the
    least so far; the three candidates that a tile of levels 2 to 0 starts from are always summed whole. The answer counts the rows that this rule sums, over
-   all tiles, levels and frames: at most 648 for a tile of level 3, 1,344 for any other, 789,503,736 in all. A picture with much to tell offsets apart
-   takes few. The count has its price, a sum for each row of its own: beside an align that sums every offset whole and counts nothing, this one took
-   1.08 to 1.25 times the time on a textured scene, and 1.44 to 1.48 times on dark noise, where offsets are left near their last row.
+   all tiles, levels and frames: at most 648 for a tile of level 3, 2,688 for one of side 32, 1,344 for any other, 789,503,736 in all. A picture with much to
+   tell offsets apart takes few. The count has its price, a sum for each row of its own: beside an align that sums every offset whole and counts nothing,
+   this one took 1.08 to 1.25 times the time on a textured scene, and 1.44 to 1.48 times on dark noise, where offsets are left near their last row.
 
    SHARPNESS of a frame is the sum, over its green plane of even rows and odd columns, of the absolute steps to the right neighbour and to the one
    below, where the plane has one. Of frames that are equally sharp the first is chosen.
 
-   LENT BUFFERS, for frames of width W, height H and row length L, N of them; a file means L = W. A length counts elements, not bytes; station_length
-   of station.h answers it too.
+   LENT BUFFERS, for frames of width W, height H and row length L, N of them, and tiles of side S; a file means L = W and S = 16. A length counts elements,
+   not bytes; station_length of station.h answers it too.
 
        buffer     elements    length                          read_file   align     merge     run
        samples    uint16_t    N*L*H                           written     read      read      read
-       vectors    int32_t     (N-1)*2*(W/16+1)*(H/16+1)                   written   read      written
+       vectors    int32_t     (N-1)*2*(W/S+1)*(H/S+1)                     written   read      written
        output     uint16_t    W*H                                                   written   written
        work       int64_t     2*W*H                                       cleared   cleared   cleared
 
@@ -305,8 +312,8 @@ static inline const char *stacker_refusal_text(uint64_t number)
    AFTER A CALL that answers 0 the written buffers hold the result, every word of it, and the work area is zero. After a refusal every lent buffer is
    as it was, and every other field of the answer is 0, the index chosen too.
 
-   REFUSALS. A call makes its tests in the order of the numbers, but 23 before 4, and 18 and 24 after 10, and answers the first that fails: align 1 to 5, 7, 11
-   and 23; merge 1 to 12, 18, 23 and 24; run 1 to 11, 18, 23 and 24; run_sharpest run's but for 3, whichever frame it chooses.
+   REFUSALS. A call makes its tests in the order of the numbers, but 22 and 23 before 4, and 18, 24 and 25 after 10, and answers the first that fails: align 1 to
+   5, 7, 11, 22 and 23; merge 1 to 12, 18 and 22 to 25; run 1 to 11, 18 and 22 to 25; run_sharpest run's but for 3, whichever frame it chooses.
    A file is tested line by line: no first LF 15, 13; line two 15, 14, then 1, 2, 3, 9, 10, 4; each row 15, 14, 11; then what follows, 15.
    Writing a PGM file tests 1, 6, 16, 11 in that order, reading one 17, 6, 11.
    Reading a DNG file tests 19, 20, 21, then 1, 2, 3 of the frame's index, 23, 4 and 11 of the file's samples.
@@ -320,16 +327,20 @@ static inline const char *stacker_refusal_text(uint64_t number)
    analysis of HDR+ settled on; 64 is the tau of 8 that the original names, which that analysis found too weak. A strength of 0 gives the reference back,
    1024 is the greatest. README has what they do to one scene.
 
-   SPATIAL FILTER. Where frames agree, grain that all of them share or that few of them can average stays. A spatial s above 0 takes some of it out of the
-   merged tile by a second Wiener step, whose noise grows with the frequency, with s and with the noise curve, and falls with the count of frames. The
-   published s is 0.1, so 26 here; text and lines that are near the noise lose contrast with it, so look before you raise it. It knows nothing of the
-   strength: at strength 0 the reference itself is filtered, and with one frame that frame. Where s is 0 a lone frame comes back unchanged, and only there.
+   SIDE of the tiles, at align's finest level and in merge. Take 16; 32 is the original's for very dark scenes, where 16 by 16 places tell too little of how a
+   tile moved. The levels above keep their tiles. Side 32 has about a quarter of the vectors, so those of one side are refused at the other, by their length.
+   README has what either does to a dark scene.
 
-   ZEROS. A width, height, count, row length or ISO of 0 is refused. Reference 0 is the first frame. Shot and read of 0 say that there is no noise, and
+   SPATIAL FILTER, for tiles of side 16 alone. Where frames agree, grain that all of them share or that few of them can average stays. A spatial s above 0 takes
+   some of it out of the merged tile by a second Wiener step, whose noise grows with the frequency, with s and with the noise curve, and falls with the count
+   of frames. The published s is 0.1, so 26 here; text and lines that are near the noise lose contrast with it, so look before you raise it. It knows nothing of
+   the strength: at strength 0 the reference itself is filtered, and with one frame that frame. Where s is 0 a lone frame comes back unchanged, and only there.
+
+   ZEROS. A width, height, count, row length, side or ISO of 0 is refused. Reference 0 is the first frame. Shot and read of 0 say that there is no noise, and
    strength 0 asks for no merging: either gives the reference back where the spatial s is 0 too, which asks for no filter. Black levels of 0 say that
    black is already subtracted. A field that a later version adds is refused at zero, or means there what this version does.
 
-   THE MACHINE. A call allocates nothing. No proof bounds its stack: the tests fail where a call takes more than 40 KB. It keeps nothing between calls and has
+   THE MACHINE. A call allocates nothing. No proof bounds its stack: the tests fail where a call takes more than 64 KB. It keeps nothing between calls and has
    no state: threads may call at once, each with vectors, output and work area of its own that no other thread touches meanwhile. The floating-point environment
    must be the usual one: rounding to nearest, subnormal numbers kept. */
 #endif

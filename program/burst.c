@@ -31,7 +31,7 @@ static uint64_t length_of(const job *j, uint64_t number)
     return station_length(b->width, b->height, b->count, j->side, b->row_length, number);
 }
 
-/* makes the buffers; a size or count that is refused is answered by align's number for it */
+/* makes the buffers; a size, count or side that is refused is answered by align's number for it */
 void lend(job *j, const request *r, uint64_t width, uint64_t height, uint64_t count)
 {
     j->side = r->side;
@@ -86,7 +86,7 @@ static void read_frame(job *j, request *r, uint64_t i, content file, head found)
 {
     const char *path = j->names[i];
     if (i == 0) {
-        if (station_length(found.width, found.height, 1, r->side, found.width, STATION_OUTPUT) == 0)
+        if (station_length(found.width, found.height, 1, SIDE, found.width, STATION_OUTPUT) == 0)
             refuse_alone(path, file, found);
         lend(j, r, found.width, found.height, (uint64_t)j->files);
     }

@@ -6,7 +6,7 @@
 
 static stacker_tuning tuning_of(const request *r)
 {
-    stacker_tuning tuning = { .strength = r->strength, .spatial = r->spatial };
+    stacker_tuning tuning = { .strength = r->strength, .side = r->side, .spatial = r->spatial };
     return tuning;
 }
 
@@ -18,9 +18,8 @@ static stacker_iso_noise iso_noise_of(const request *r)
 
 void align_burst(job *j, const request *r)
 {
-    (void)r;
     progress("aligning %" PRIu64 " frames of %" PRIu64 " by %" PRIu64 " ", j->burst.count, j->burst.width, j->burst.height);
-    j->answer = stacker_align(j->burst, j->samples, j->samples_length, j->vectors, j->vectors_length, j->work, j->work_length);
+    j->answer = stacker_align(j->burst, tuning_of(r), j->samples, j->samples_length, j->vectors, j->vectors_length, j->work, j->work_length);
     accepted("align", j->answer.refusal, "");
 }
 
@@ -55,8 +54,8 @@ void merge_burst(job *j, const request *r)
     j->is_merged = 1;
 }
 
-/* V of a tile with this root: its RMS in sixteenths */
+/* V of a tile with this root: its RMS times the side */
 uint64_t noise_number(const request *r, stacker_noise noise, uint64_t root)
 {
-    return station_noise(noise.shot, noise.read, r->strength, root);
+    return station_noise(noise.shot, noise.read, r->strength, root, r->side);
 }

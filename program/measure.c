@@ -28,11 +28,12 @@ int noise_command(request *r, char **names, int count)
     if (count != 0 || !r->has_noise)
         fail(WRONG, "noise takes --noise SHOT,READ and no file");
     stacker_noise noise = at_iso(r);
-    accepted("noise", curve_refusal(noise), "");
-    printf("shot %.6g, read %.6g, strength %" PRIu64 "\nlevel above black   deviation   noise number V, in 1/256 of a squared sample\n", noise.shot, noise.read,
-        r->strength);
+    accepted("noise", r->side != 16 && r->side != 32 ? STACKER_REFUSED_SIDE : curve_refusal(noise), "");
+    printf("shot %.6g, read %.6g, strength %" PRIu64 ", side %" PRIu64 "\nlevel above black   deviation   noise number V, in 1/%d of a squared sample\n", noise.shot,
+        noise.read, r->strength, r->side, r->side == 16 ? 256 : 16);
     for (size_t i = 0; i < sizeof levels / sizeof *levels; i++)
-        printf("%17" PRIu64 "   %9.3f   %" PRIu64 "\n", levels[i], sqrt(noise.shot * (double)levels[i] + noise.read), noise_number(r, noise, 16 * levels[i]));
+        printf("%17" PRIu64 "   %9.3f   %" PRIu64 "\n", levels[i], sqrt(noise.shot * (double)levels[i] + noise.read),
+            noise_number(r, noise, r->side * levels[i]));
     return DONE;
 }
 

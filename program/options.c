@@ -23,7 +23,8 @@ static const char *const help[] = {
     "  -p, --page FILE         all of it as one HTML page for a browser\n",
     "  -r, --reference N       index of the frame to merge on, or sharpest: of the first three [0, or the burst file's]\n",
     "  -s, --strength N        0..1024, eighths of the published tau [600, or the burst file's]\n",
-    "  -f, --spatial N         0..256, the spatial filter's s in 1/256 [0: none]\n",
+    "  -t, --side N            16 or 32, of the tiles: 32 is for very dark scenes [16]\n",
+    "  -f, --spatial N         0..256, the spatial filter's s in 1/256, for side 16 [0: none]\n",
     "  -n, --noise SHOT,READ   a sample x has the variance SHOT x + READ [the first DNG's, or the burst file's]\n",
     "  -i, --iso N             the curve is for ISO 100, and the frames were taken at N\n",
     "  -b, --black R,G,G,B     black levels of the four planes, or one for all [the first DNG's, or 0]\n",
@@ -109,6 +110,7 @@ static void set_number(request *r, int letter, const char *text)
 {
     switch (letter) {
     case 's': r->strength = number("strength", text, UINT32_MAX); r->has_strength = 1; break;
+    case 't': r->side = number("side", text, UINT32_MAX); break;
     case 'f': r->spatial = number("spatial", text, UINT32_MAX); break;
     case 'i': r->iso = (uint32_t)number("iso", text, UINT32_MAX); break;
     case 'a': r->apart = number("apart", text, 2 * VECTOR_MOST); break;
@@ -136,10 +138,10 @@ static void set(request *r, int letter, const char *text)
 int options(request *r, int argc, char **argv)
 {
     static const struct option table[] = { { "output", 1, 0, 'o' }, { "vectors", 1, 0, 'v' }, { "page", 1, 0, 'p' }, { "reference", 1, 0, 'r' },
-        { "strength", 1, 0, 's' }, { "spatial", 1, 0, 'f' }, { "noise", 1, 0, 'n' }, { "iso", 1, 0, 'i' }, { "black", 1, 0, 'b' }, { "crop", 1, 0, 'c' },
-        { "scale", 1, 0, 'm' }, { "apart", 1, 0, 'a' }, { "lifted", 2, 0, 'l' }, { "quiet", 0, 0, 'q' }, { "help", 0, 0, 'h' }, { "version", 0, 0, 'V' },
-        { 0, 0, 0, 0 } };
-    for (int letter; (letter = getopt_long(argc, argv, "o:v:p:r:s:f:n:i:b:c:m:a:l::qhV", table, NULL)) != -1;) {
+        { "strength", 1, 0, 's' }, { "side", 1, 0, 't' }, { "spatial", 1, 0, 'f' }, { "noise", 1, 0, 'n' }, { "iso", 1, 0, 'i' }, { "black", 1, 0, 'b' },
+        { "crop", 1, 0, 'c' }, { "scale", 1, 0, 'm' }, { "apart", 1, 0, 'a' }, { "lifted", 2, 0, 'l' }, { "quiet", 0, 0, 'q' }, { "help", 0, 0, 'h' },
+        { "version", 0, 0, 'V' }, { 0, 0, 0, 0 } };
+    for (int letter; (letter = getopt_long(argc, argv, "o:v:p:r:s:t:f:n:i:b:c:m:a:l::qhV", table, NULL)) != -1;) {
         if (letter == '?')
             exit(WRONG);
         if (letter == 'h')

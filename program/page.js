@@ -326,7 +326,7 @@ addEventListener('resize', () => {
 $('title').textContent = `${data.count} frames of ${data.width} by ${data.height}, ${pictures.merged ? 'merged' : 'aligned'} on frame ${data.reference}`;
 const rounded = value => value === null ? '?' : +value.toPrecision(6);
 $('facts').textContent = [`noise ${rounded(data.shot)} x + ${rounded(data.read)}${data.iso ? ` at ISO 100, taken at ${data.iso}` : ''}`, `strength ${data.strength}`,
-  `spatial ${data.spatial}`, `black ${data.black.join(' ')}`, `stacker ${data.stacker}`].join(' \u00b7 ');
+  `side ${data.side}`, `spatial ${data.spatial}`, `black ${data.black.join(' ')}`, `stacker ${data.stacker}`].join(' \u00b7 ');
 $('outside').hidden = !data.outside_the_proofs;
 $('outside').textContent = `Outside the proofs: ${data.outside_the_proofs}.`;
 if (!pictures.merged) $('pictures').querySelectorAll('[data-picture]:not([data-picture=reference])').forEach(button => button.disabled = true);

@@ -13,7 +13,7 @@ enum { DONE = 0, REFUSED = 1, WRONG = 2, LIFTED = 3 }; /* exit status */
 
 enum { FRAMES_MOST = 8, SIDE_MOST = 4096, SAMPLE_MOST = 4095, VECTOR_MOST = 172 };
 
-enum { SIDE = 16, STRENGTH = 600 }; /* of tiles, and of the merge, where nothing else is asked for: document 002 has tau = 75 */
+enum { SIDE = 16, STRENGTH = 600 }; /* of tiles, and of the merge, where nothing else is asked for: document 002 has both, the latter as tau = 75 */
 
 /* Part of a frame, in samples. A width of 0 asks for the largest part in the middle that the library takes. */
 typedef struct {

@@ -1,12 +1,16 @@
-/* selftest: a burst of three frames of 64 by 64, from a few lines of arithmetic, whose merged frame and vectors are known. The frame's number is that of
-   the independent program's answer to the same burst (tests/people); both are FNV-1a over words. */
+/* selftest: a burst of three frames of 64 by 64, from a few lines of arithmetic, whose merged frame and vectors are known at both sides of tiles. The numbers
+   are those of the independent program's answers to the same burst (tests/people): FNV-1a over words. */
 #include "program.h"
 
 #include <inttypes.h>
 
 enum { WIDTH = 64, COUNT = 3, MOVE = 2 };
 
-static const uint64_t MERGED = 0xb9969f14afbe51ee, VECTORS = 0x4770820fcd6a05e5;
+typedef struct {
+    uint64_t side, merged, vectors;
+} known;
+
+static const known KNOWN[] = { { 16, 0xb9969f14afbe51ee, 0x4770820fcd6a05e5 }, { 32, 0xc6e45a779325cfa1, 0xa622087dd562eabb } };
 
 static void take_frames(job *j)
 {
@@ -23,26 +27,32 @@ static uint64_t mixed(uint64_t sum, uint64_t word)
     return (sum ^ word) * 1099511628211u;
 }
 
-int selftest_command(request *r, char **names, int count)
+static void try_side(const known *k)
 {
     job j = { 0 };
+    request r = { .strength = STRENGTH, .side = k->side, .noise = { .shot = 3, .read = 100 } };
     uint64_t merged = 14695981039346656037u, vectors = merged;
-    (void)names;
-    if (count != 0)
-        fail(WRONG, "selftest takes no file");
-    lend(&j, r, WIDTH, WIDTH, COUNT);
+    lend(&j, &r, WIDTH, WIDTH, COUNT);
     take_frames(&j);
-    r->noise = (stacker_noise){ .shot = 3, .read = 100 };
-    r->strength = STRENGTH;
-    merge_burst(&j, r);
+    merge_burst(&j, &r);
     for (size_t i = 0; i < j.area; i++)
         merged = mixed(merged, j.merged[i]);
     for (size_t i = 0; i < j.vectors_length; i++)
         vectors = mixed(vectors, (uint64_t)j.vectors[i]);
     progress_end();
     release(&j);
-    printf("selftest: merged frame %016" PRIx64 ", vectors %016" PRIx64 "\n", merged, vectors);
-    if (merged != MERGED || vectors != VECTORS)
-        fail(REFUSED, "selftest: merged frame must be %016" PRIx64 ", vectors %016" PRIx64, MERGED, VECTORS);
+    printf("selftest: side %" PRIu64 ": merged frame %016" PRIx64 ", vectors %016" PRIx64 "\n", k->side, merged, vectors);
+    if (merged != k->merged || vectors != k->vectors)
+        fail(REFUSED, "selftest: merged frame must be %016" PRIx64 ", vectors %016" PRIx64, k->merged, k->vectors);
+}
+
+int selftest_command(request *r, char **names, int count)
+{
+    (void)r;
+    (void)names;
+    if (count != 0)
+        fail(WRONG, "selftest takes no file");
+    for (size_t i = 0; i < sizeof KNOWN / sizeof *KNOWN; i++)
+        try_side(&KNOWN[i]);
     return DONE;
 }

@@ -9,7 +9,7 @@
 #include <stdlib.h>
 #include <string.h>
 
-enum { WIDTH, HEIGHT, COUNT, REFERENCE, ROW_LENGTH, BLACK, NOISE_KIND = BLACK + 4, ISO, SHOT, READ, STRENGTH, SPATIAL, SAMPLES, VECTORS, OUTPUT, WORK, WORDS };
+enum { WIDTH, HEIGHT, COUNT, REFERENCE, ROW_LENGTH, BLACK, NOISE_KIND = BLACK + 4, ISO, SHOT, READ, STRENGTH, SIDE, SPATIAL, SAMPLES, VECTORS, OUTPUT, WORK, WORDS };
 
 /* what the work area holds before a call */
 static const int64_t MARK = -4915937;
@@ -57,12 +57,12 @@ static stacker_iso_noise at_iso(void)
 
 static stacker_tuning tuning(void)
 {
-    return (stacker_tuning){ .strength = head[STRENGTH], .spatial = head[SPATIAL] };
+    return (stacker_tuning){ .strength = head[STRENGTH], .side = head[SIDE], .spatial = head[SPATIAL] };
 }
 
 static void align(void)
 {
-    answer = stacker_align(burst(), samples, head[SAMPLES], vectors, head[VECTORS], work, head[WORK]);
+    answer = stacker_align(burst(), tuning(), samples, head[SAMPLES], vectors, head[VECTORS], work, head[WORK]);
 }
 
 static void merge(void)

@@ -3,7 +3,7 @@
 
 #include <string.h>
 
-enum { GREATEST_LEVEL = 4194304, LAST_IN_TURN = STACKER_REFUSED_DNG_VALUE, REFUSALS = LAST_IN_TURN + 3 };
+enum { GREATEST_LEVEL = 4194304, LAST = STACKER_REFUSED_SPATIAL_SIDE, REFUSALS = LAST + 1 };
 
 static int describes(void)
 {
@@ -11,7 +11,8 @@ static int describes(void)
     stacker_burst burst = stacker_file_burst(file);
     uint16_t none[4] = { 0, 0, 0, 0 };
     return burst.width == 64 && burst.height == 128 && burst.count == 3 && burst.reference == 2 && burst.row_length == 64
-        && memcmp(burst.black, none, sizeof none) == 0 && stacker_file_tuning(file).strength == 5 && stacker_file_tuning(file).spatial == 0;
+        && memcmp(burst.black, none, sizeof none) == 0 && stacker_file_tuning(file).strength == 5 && stacker_file_tuning(file).side == 16
+        && stacker_file_tuning(file).spatial == 0;
 }
 
 static int initialises(void)
@@ -21,7 +22,7 @@ static int initialises(void)
     stacker_frames frames = STACKER_FRAMES(width, height, count), same_frames = { .width = 64, .height = 128, .count = 3, .row_length = 64 };
     stacker_noise noise = STACKER_NOISE(3, 100);
     stacker_iso_noise iso = STACKER_ISO_NOISE(400, 3, 100);
-    stacker_tuning tuning = STACKER_TUNING(600), same_tuning = { .strength = 600 };
+    stacker_tuning tuning = STACKER_TUNING(600), same_tuning = { .strength = 600, .side = 16 };
     return memcmp(&burst, &same_burst, sizeof burst) == 0 && memcmp(&frames, &same_frames, sizeof frames) == 0 && noise.shot == 3 && noise.read == 100
         && iso.iso == 400 && iso.shot == 3 && iso.read == 100 && memcmp(&tuning, &same_tuning, sizeof tuning) == 0;
 }
@@ -40,10 +41,8 @@ static int keeps_levels(void)
 static int has_words(void)
 {
     uint64_t numbers[REFUSALS + 1]; /* and one that no call answers */
-    for (uint64_t i = 0; i <= LAST_IN_TURN; i++)
+    for (uint64_t i = 0; i <= LAST; i++)
         numbers[i] = i;
-    numbers[LAST_IN_TURN + 1] = STACKER_REFUSED_ROW_LENGTH;
-    numbers[LAST_IN_TURN + 2] = STACKER_REFUSED_SPATIAL;
     numbers[REFUSALS] = UINT64_MAX;
     for (int i = 0; i <= REFUSALS; i++)
         for (int j = i + 1; j <= REFUSALS; j++)

@@ -1,6 +1,6 @@
-/* Lengths that are told wrongly: pages BURST DNG. Every buffer of every call ends at a page that can be neither read nor written, and is told one element too long, twice
-   as long, and as long as can be told, alone and with all others. A call must refuse it by its number, and leave every buffer as it was, before it touches a word
-   that is not there. A DNG file may go on after its last part, so there only the end of the call is asked. */
+/* Lengths that are told wrongly: pages BURST DNG. Every buffer of every call ends at a page that can be neither read nor written, and is told one element too
+   long, twice as long, and as long as can be told, alone and with all others, at both sides. A call must refuse it by its number, and leave every buffer as it
+   was, before it touches a word that is not there. A DNG file may go on after its last part, so there only the end of the call is asked. */
 #define _DEFAULT_SOURCE
 #include "stacker.h"
 #include "station.h"
@@ -12,19 +12,20 @@
 #include <sys/mman.h>
 #include <unistd.h>
 
-enum { W = 64, H = 64, N = 5, DNG_W = 128, VECTORS_LONG = (N - 1) * 2 * (W / 16 + 1) * (H / 16 + 1) };
+#define VECTORS_OF(side) ((N - 1) * 2 * (W / (side) + 1) * (H / (side) + 1))
+enum { W = 64, H = 64, N = 5, DNG_W = 128 };
 
 /* The buffers; a call names those that it takes. */
 enum { SAMPLES, VECTORS, OUTPUT, WORK, BYTES, BURST_FILE, DNG_FILE, DNG_FRAME, BUFFERS };
 static const size_t element[BUFFERS] = { 2, 4, 2, 8, 1, 1, 1, 2 };
-static size_t length[BUFFERS] = { N * W * H, VECTORS_LONG, W * H, 2 * W * H, 0, 0, 0, DNG_W * H };
+static size_t length[BUFFERS] = { N * W * H, VECTORS_OF(16), W * H, 2 * W * H, 0, 0, 0, DNG_W * H };
 static uint8_t *lent[BUFFERS], *held[BUFFERS];
 
 static const stacker_burst burst = { W, H, N, 0, W, { 0, 0, 0, 0 } };
 static const stacker_frames frames = { W, H, N, W, { 0, 0, 0, 0 } }, dng_frames = { DNG_W, H, 1, DNG_W, { 0, 0, 0, 0 } };
 static const stacker_noise noise = { 3.0, 100.0 };
 static const stacker_iso_noise iso = { 400, 1.0, 10.0 };
-static const stacker_tuning tuning = { 512, 0 };
+static stacker_tuning tuning = STACKER_TUNING(512);
 
 #define SAMPLES_READ (const uint16_t *)lent[SAMPLES], told[SAMPLES]
 #define VECTORS_READ (const int32_t *)lent[VECTORS], told[VECTORS]
@@ -33,7 +34,7 @@ static const stacker_tuning tuning = { 512, 0 };
 
 static uint64_t align(const size_t *told)
 {
-    return stacker_align(burst, SAMPLES_READ, (int32_t *)lent[VECTORS], told[VECTORS], (int64_t *)lent[WORK], told[WORK]).refusal;
+    return stacker_align(burst, tuning, SAMPLES_READ, (int32_t *)lent[VECTORS], told[VECTORS], (int64_t *)lent[WORK], told[WORK]).refusal;
 }
 
 static uint64_t merge(const size_t *told) { return stacker_merge(burst, noise, tuning, SAMPLES_READ, VECTORS_READ, WRITTEN); }
@@ -161,6 +162,31 @@ static int wrong_lengths(size_t c)
     return tried;
 }
 
+/* Each call with the right lengths, and with wrong ones; how many of those were refused by their number. */
+static int each_call(void)
+{
+    int tried = 0;
+    for (size_t c = 0; c < sizeof calls / sizeof *calls; c++) {
+        snprintf(trying, sizeof trying, "tests: pages: %s: right lengths: ", calls[c].name);
+        if (calls[c].call(length) != 0) {
+            fprintf(stderr, "%srefused\n", trying);
+            exit(1);
+        }
+        restore();
+        tried += wrong_lengths(c);
+    }
+    return tried;
+}
+
+/* Tiles of side 32, whose fewer vectors end at the same page. */
+static void widen(void)
+{
+    size_t fewer = VECTORS_OF(16) - VECTORS_OF(32);
+    tuning.side = 32;
+    length[VECTORS] -= fewer;
+    lent[VECTORS] += fewer * element[VECTORS];
+}
+
 int main(int count, char **names)
 {
     if (count != 3)
@@ -182,16 +208,9 @@ int main(int count, char **names)
     for (int i = 0; i < BUFFERS; i++)
         memcpy(held[i], lent[i], element[i] * length[i]);
 
-    int tried = 0;
-    for (size_t c = 0; c < sizeof calls / sizeof *calls; c++) {
-        snprintf(trying, sizeof trying, "tests: pages: %s: right lengths: ", calls[c].name);
-        if (calls[c].call(length) != 0) {
-            fprintf(stderr, "%srefused\n", trying);
-            return 1;
-        }
-        restore();
-        tried += wrong_lengths(c);
-    }
-    printf("tests: pages: %d wrong lengths of %d calls refused, no word read or written behind a buffer\n", tried, (int)(sizeof calls / sizeof *calls));
+    int tried = each_call();
+    widen();
+    tried += each_call();
+    printf("tests: pages: %d wrong lengths of %d calls refused at both sides, no word read or written behind a buffer\n", tried, (int)(sizeof calls / sizeof *calls));
     return 0;
 }

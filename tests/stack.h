@@ -8,7 +8,7 @@
 #include <ucontext.h>
 
 /* what stacker.h says of the stack */
-enum { STACK_MOST = 40960 };
+enum { STACK_MOST = 65536 };
 
 /* The bytes of stack down to the deepest that the call has written: it runs on a stack of its own, painted before. */
 static inline size_t stack_of(void (*call)(void))

@@ -37,7 +37,7 @@ static void ask_length(uint64_t width, uint64_t height, uint64_t count, uint64_t
 /* every side and row length of the list, and each number beside those of the buffers */
 static void ask_sides_and_rows(uint64_t width, uint64_t height, uint64_t count)
 {
-    static const uint64_t sides[] = { 0, 8, 16, 17 };
+    static const uint64_t sides[] = { 0, 8, 16, 17, 31, 32, 33, 64, UINT64_MAX };
     const uint64_t rows[] = { width - 1, width, width + 1, width + 255, width + 256, width + 257, 0, UINT64_MAX };
     for (size_t s = 0; s < sizeof sides / sizeof *sides; s++)
         for (size_t r = 0; r < sizeof rows / sizeof *rows; r++)
@@ -59,10 +59,17 @@ static double of_bits(uint64_t bits)
     return x;
 }
 
-static void ask_noise(double shot, double read, uint64_t strength, uint64_t root)
+static void ask_noise(double shot, double read, uint64_t strength, uint64_t root, uint64_t side)
 {
-    fprintf(questions, "%016" PRIx64 " %016" PRIx64 " %" PRIu64 " %" PRIu64 "\n", bits_of(shot), bits_of(read), strength, root);
-    fprintf(answers, "%" PRIu64 "\n", station_noise(shot, read, strength, root));
+    fprintf(questions, "%016" PRIx64 " %016" PRIx64 " %" PRIu64 " %" PRIu64 " %" PRIu64 "\n", bits_of(shot), bits_of(read), strength, root, side);
+    fprintf(answers, "%" PRIu64 "\n", station_noise(shot, read, strength, root, side));
+}
+
+/* at either side, with a root that it allows */
+static void ask_noise_of_root(double shot, double read, uint64_t strength)
+{
+    uint64_t side = 16 + 16 * below(2);
+    ask_noise(shot, read, strength, below(4095 * side + 1), side);
 }
 
 static void lengths(void)
@@ -74,17 +81,18 @@ static void lengths(void)
         for (int h = 0; h < SIZES; h++)
             for (int n = 0; n < COUNTS; n++)
                 for (uint64_t number = 3; number < 9; number++)
-                    ask_length(sizes[w], sizes[h], counts[n], 16, sizes[w], number);
+                    for (uint64_t side = 16; side <= 32; side += 16)
+                        ask_length(sizes[w], sizes[h], counts[n], side, sizes[w], number);
     static const uint64_t shapes[][3] = { { 64, 64, 2 }, { 128, 4096, 1 }, { 4096, 64, 8 }, { 4096, 4096, 8 }, { 65, 64, 2 }, { 64, 64, 9 } };
     for (size_t i = 0; i < sizeof shapes / sizeof *shapes; i++)
         ask_sides_and_rows(shapes[i][0], shapes[i][1], shapes[i][2]);
     for (int i = 0; i < 4000; i++) {
         uint64_t width = 64 * (1 + below(64));
-        ask_length(width, 64 * (1 + below(64)), 2 + below(7), 16, width + below(257), 4 + below(4));
+        ask_length(width, 64 * (1 + below(64)), 2 + below(7), 16 + 16 * below(2), width + below(257), 4 + below(4));
     }
     for (int i = 0; i < 1000; i++) {
         uint64_t width = below(4200);
-        ask_length(width, 64 * below(70), below(12), 15 + below(3), width + below(300), below(10));
+        ask_length(width, 64 * below(70), below(12), 15 + below(19), width + below(300), below(10));
     }
     for (int i = 0; i < 1000; i++)
         ask_length(any(), any(), any(), any(), any(), any());
@@ -96,21 +104,26 @@ static void noise(void)
         nextafter(64, 0), nextafter(64, 65), 65, 4095.9999, 4096, nextafter(4096, 0), nextafter(4096, 5000), -1, 1e300, -1e300,
         INFINITY, -INFINITY, NAN, -NAN };
     static const uint64_t strengths[] = { 0, 1, 8, 1023, 1024, 1025, UINT64_MAX };
-    static const uint64_t roots[] = { 0, 1, 1600, 65519, 65520, 65521, UINT64_MAX };
-    enum { NUMBERS = sizeof numbers / sizeof *numbers, STRENGTHS = sizeof strengths / sizeof *strengths, ROOTS = sizeof roots / sizeof *roots };
+    static const uint64_t roots[] = { 0, 1, 1600, 65519, 65520, 65521, 131039, 131040, 131041, UINT64_MAX };
+    static const uint64_t sides[] = { 16, 32, 0, 8, 17, 64, UINT64_MAX };
+    enum { NUMBERS = sizeof numbers / sizeof *numbers, STRENGTHS = sizeof strengths / sizeof *strengths, ROOTS = sizeof roots / sizeof *roots, SIDES = sizeof sides / sizeof *sides };
     for (int s = 0; s < NUMBERS; s++)
         for (int r = 0; r < NUMBERS; r++)
             for (int t = 0; t < STRENGTHS; t++)
-                ask_noise(numbers[s], numbers[r], strengths[t], roots[(s + r + t) % ROOTS]);
+                for (int side = 0; side < 2; side++)
+                    ask_noise(numbers[s], numbers[r], strengths[t], roots[(s + r + t) % ROOTS], sides[side]);
+    for (int side = 0; side < SIDES; side++)
+        for (int root = 0; root < ROOTS; root++)
+            ask_noise(64, 4096, 1024, roots[root], sides[side]);
     for (int i = 0; i < 4000; i++)
-        ask_noise(64 * ldexp((double)below(1u << 20), -20 - (int)below(20)), 4096 * ldexp((double)below(1u << 20), -20 - (int)below(20)),
-            below(1025), below(65521));
+        ask_noise_of_root(64 * ldexp((double)below(1u << 20), -20 - (int)below(20)),
+            4096 * ldexp((double)below(1u << 20), -20 - (int)below(20)), below(1025));
     for (int i = 0; i < 4000; i++)
-        ask_noise(of_bits(any()), of_bits(any()), below(1100), below(66000));
+        ask_noise(of_bits(any()), of_bits(any()), below(1100), below(132000), 15 + below(19));
     /* every exponent whose floor is above 0, and their neighbours, with random fractions */
     for (uint64_t exponent = 1010; exponent < 1040; exponent++)
         for (int i = 0; i < 40; i++)
-            ask_noise(of_bits(exponent << 52 | any() >> 12), of_bits(exponent << 52 | any() >> 12), below(1025), below(65521));
+            ask_noise_of_root(of_bits(exponent << 52 | any() >> 12), of_bits(exponent << 52 | any() >> 12), below(1025));
 }
 
 static int check(const char *path)

@@ -62,7 +62,7 @@ static void merge(std::uint64_t width, std::uint64_t height, const std::string &
 {
     const Burst burst = read_frames(width, height, paths);
     const stacker_tuning tuning = STACKER_TUNING(600);
-    std::vector<std::int32_t> vectors((paths.size() - 1) * 2 * (width / 16 + 1) * (height / 16 + 1));
+    std::vector<std::int32_t> vectors((paths.size() - 1) * 2 * (width / tuning.side + 1) * (height / tuning.side + 1));
     std::vector<std::uint16_t> merged(width * height);
     std::vector<std::int64_t> work(2 * width * height);
     const stacker_choice choice = stacker_run_sharpest(burst.frames, burst.noise, tuning, burst.samples.data(), burst.samples.size(), vectors.data(),

@@ -4,7 +4,7 @@
     frames = numpy.stack([...])                   # (N, H, W) of uint16, 0..4095, Bayer RGGB
     done = stacker.run(frames, noise=(3, 100))    # a sample x has the variance 3 x + 100
     numpy.asarray(done.merged)                    # (H, W) of uint16; nothing is copied
-    numpy.asarray(done.vectors)                   # (N-1, H/16+1, W/16+1, 2) of int32: down, right; a step is two samples
+    numpy.asarray(done.vectors)                   # (N-1, H/16+1, W/16+1, 2) of int32: down, right; a step is two samples; with side=32, H/32+1, W/32+1
 
 Whatever has Python's buffer protocol is taken: numpy arrays, array.array, bytearray, mmap. What comes back are memoryviews with a shape, which numpy
 takes as they are; numpy itself is not needed. A call that is refused raises `Refused` with stacker.h's number, and changes nothing. Calls release the
@@ -23,10 +23,11 @@ from . import _calls, _unproved
 from ._calls import library
 from ._words import REFUSALS
 
-__all__ = ['Aligned', 'Burst', 'Frame', 'Merged', 'REFUSALS', 'Refused', 'STRENGTH', 'align', 'merge', 'noise_number', 'read_burst', 'read_dng',
+__all__ = ['Aligned', 'Burst', 'Frame', 'Merged', 'REFUSALS', 'Refused', 'SIDE', 'STRENGTH', 'align', 'merge', 'noise_number', 'read_burst', 'read_dng',
            'read_pgm', 'run', 'write_pgm']
 
 STRENGTH = 600  # document 002's tau = 75, in eighths
+SIDE = 16  # of tiles, in places of a plane; 32 is for very dark scenes
 
 Buffer = Any  # whatever memoryview takes
 Noise = Tuple[float, float]  # shot, read
@@ -42,7 +43,7 @@ class Refused(ValueError):
 
 
 class Aligned(NamedTuple):
-    vectors: memoryview  #: (N-1, H/16+1, W/16+1, 2) of int32
+    vectors: memoryview  #: (N-1, H/side+1, W/side+1, 2) of int32
     residuals: List[int]  #: of each other frame, its sum of finest residuals
     rows: int  #: how many tile rows were summed in all
 
@@ -111,8 +112,10 @@ class _Lent:
     def frames(self) -> _calls.Frames:
         return _calls.frames(self.width, self.height, self.count, self.row_length, self.black)
 
-    def vectors(self) -> memoryview:
-        return _made('i', max(self.count - 1, 0), self.height // _calls.SIDE + 1, self.width // _calls.SIDE + 1, 2)
+    def vectors(self, side: int) -> memoryview:
+        if side not in _calls.SIDES:
+            return _made('i', 0)
+        return _made('i', max(self.count - 1, 0), self.height // side + 1, self.width // side + 1, 2)
 
     def output(self) -> memoryview:
         return _made('H', self.height, self.width)
@@ -124,32 +127,32 @@ class _Lent:
         return list(answer.residuals)[:self.count - 1]
 
 
-def align(frames: Buffer, reference: int = 0, *, width: Optional[int] = None, black: Levels = (0, 0, 0, 0)) -> Aligned:
+def align(frames: Buffer, reference: int = 0, *, side: int = SIDE, width: Optional[int] = None, black: Levels = (0, 0, 0, 0)) -> Aligned:
     """The vectors of each other frame. `frames` is (N, H, L) of uint16; where rows have spare words, `width` tells how many of L are samples."""
     lent = _Lent(frames, width, black)
-    vectors = lent.vectors()
-    answer = _calls.align(lent.burst(reference), *_lent(lent.view), *_lent(vectors), *_lent(lent.work()))
+    vectors = lent.vectors(side)
+    answer = _calls.align(lent.burst(reference), _calls.tuning(0, side, 0), *_lent(lent.view), *_lent(vectors), *_lent(lent.work()))
     _accepted(answer.refusal, 'align')
     return Aligned(vectors, lent.sums(answer), answer.rows)
 
 
-def merge(frames: Buffer, vectors: Buffer, *, noise: Noise, iso: Optional[int] = None, strength: int = STRENGTH, spatial: int = 0, reference: int = 0,
-          width: Optional[int] = None, black: Levels = (0, 0, 0, 0)) -> memoryview:
-    """The frame merged by these vectors, (H, W) of uint16."""
+def merge(frames: Buffer, vectors: Buffer, *, noise: Noise, iso: Optional[int] = None, strength: int = STRENGTH, side: int = SIDE, spatial: int = 0,
+          reference: int = 0, width: Optional[int] = None, black: Levels = (0, 0, 0, 0)) -> memoryview:
+    """The frame merged by these vectors, (H, W) of uint16; `side` is the one that they were found with."""
     lent, moves = _Lent(frames, width, black), _words(vectors, 'i', memoryview(vectors).ndim, 'vectors')
     output = lent.output()
-    number = _calls.merge(lent.burst(reference), _calls.noise(noise, iso), _calls.tuning(strength, spatial), *_lent(lent.view), *_lent(moves),
+    number = _calls.merge(lent.burst(reference), _calls.noise(noise, iso), _calls.tuning(strength, side, spatial), *_lent(lent.view), *_lent(moves),
                           *_lent(output), *_lent(lent.work()))
     _accepted(number, 'merge')
     return output
 
 
-def run(frames: Buffer, *, noise: Noise, iso: Optional[int] = None, strength: int = STRENGTH, spatial: int = 0, reference: Union[int, str] = 0,
-        width: Optional[int] = None, black: Levels = (0, 0, 0, 0)) -> Merged:
+def run(frames: Buffer, *, noise: Noise, iso: Optional[int] = None, strength: int = STRENGTH, side: int = SIDE, spatial: int = 0,
+        reference: Union[int, str] = 0, width: Optional[int] = None, black: Levels = (0, 0, 0, 0)) -> Merged:
     """Aligns and merges. `reference` is a frame's index, or 'sharpest': of the first three. With `iso` the noise is the curve for ISO 100."""
     lent = _Lent(frames, width, black)
-    vectors, output = lent.vectors(), lent.output()
-    told = (_calls.noise(noise, iso), _calls.tuning(strength, spatial))
+    vectors, output = lent.vectors(side), lent.output()
+    told = (_calls.noise(noise, iso), _calls.tuning(strength, side, spatial))
     buffers = (*_lent(lent.view), *_lent(vectors), *_lent(output), *_lent(lent.work()))
     if reference == 'sharpest':
         choice = _calls.run_sharpest(lent.frames(), *told, *buffers)
@@ -206,6 +209,6 @@ def write_pgm(path: Union[str, os.PathLike], frame: Buffer) -> None:
         file.write(data)
 
 
-def noise_number(shot: float, read: float, root: int, strength: int = STRENGTH) -> int:
-    """V of a tile, in 1/256 of a squared sample. `root` is the tile's RMS above black in sixteenths: 16 times the level of a flat one."""
-    return _calls.noise_number(shot, read, strength, root)
+def noise_number(shot: float, read: float, root: int, strength: int = STRENGTH, side: int = SIDE) -> int:
+    """V of a tile, in 1/256 of a squared sample, with side 32 in 1/16. `root` is the tile's RMS above black times the side."""
+    return _calls.noise_number(shot, read, strength, root, side)

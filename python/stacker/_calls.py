@@ -7,7 +7,7 @@ from typing import Any, Optional, Sequence, Tuple, Union
 
 u16, u32, u64, f64, size = ctypes.c_uint16, ctypes.c_uint32, ctypes.c_uint64, ctypes.c_double, ctypes.c_size_t
 
-SIDE = 16  # of tiles, in places of a plane
+SIDES = (16, 32)  # of tiles, in places of a plane
 
 
 class Frames(ctypes.Structure):
@@ -27,7 +27,7 @@ class IsoNoise(ctypes.Structure):
 
 
 class Tuning(ctypes.Structure):
-    _fields_ = [('strength', u64), ('spatial', u64)]
+    _fields_ = [('strength', u64), ('side', u64), ('spatial', u64)]
 
 
 class Alignment(ctypes.Structure):
@@ -53,7 +53,7 @@ class Dng(ctypes.Structure):
 
 _LENT = [ctypes.c_void_p, size]
 _CALLS = {
-    'stacker_align': (Alignment, [Burst] + 3 * _LENT),
+    'stacker_align': (Alignment, [Burst, Tuning] + 3 * _LENT),
     'stacker_merge': (u64, [Burst, Noise, Tuning] + 4 * _LENT),
     'stacker_merge_iso': (u64, [Burst, IsoNoise, Tuning] + 4 * _LENT),
     'stacker_run': (Alignment, [Burst, Noise, Tuning] + 4 * _LENT),
@@ -65,7 +65,7 @@ _CALLS = {
     'stacker_write_pgm': (u64, [u64, u64] + 2 * _LENT),
     'stacker_read_pgm': (Pgm, 2 * _LENT),
     'stacker_read_dng': (Dng, _LENT + [Frames, u64] + _LENT),
-    'station_noise': (u64, [f64, f64, u64, u64]),
+    'station_noise': (u64, [f64, f64, u64, u64, u64]),
     'station_check': (u64, _LENT),
 }
 
@@ -98,8 +98,8 @@ def noise(curve: Tuple[float, float], iso: Optional[int]) -> Union[Noise, IsoNoi
     return Noise(*curve) if iso is None else IsoNoise(iso, *curve)
 
 
-def tuning(strength: int, spatial: int) -> Tuning:
-    return Tuning(strength, spatial)
+def tuning(strength: int, side: int, spatial: int) -> Tuning:
+    return Tuning(strength, side, spatial)
 
 
 def _by_noise(name: str, told: Any, curve: Any, *rest: Any) -> Any:
@@ -107,8 +107,8 @@ def _by_noise(name: str, told: Any, curve: Any, *rest: Any) -> Any:
     return getattr(library, name + ('_iso' if isinstance(curve, IsoNoise) else ''))(told, curve, *rest)
 
 
-def align(told: Burst, *buffers: Any) -> Alignment:
-    return library.stacker_align(told, *buffers)
+def align(told: Burst, *rest: Any) -> Alignment:
+    return library.stacker_align(told, *rest)
 
 
 def merge(told: Burst, curve: Any, *rest: Any) -> int:
@@ -123,5 +123,5 @@ def run_sharpest(told: Frames, curve: Any, *rest: Any) -> Choice:
     return _by_noise('stacker_run_sharpest', told, curve, *rest)
 
 
-def noise_number(shot: float, read: float, strength: int, root: int) -> int:
-    return library.station_noise(shot, read, strength, root)
+def noise_number(shot: float, read: float, strength: int, root: int, side: int) -> int:
+    return library.station_noise(shot, read, strength, root, side)

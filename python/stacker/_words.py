@@ -5,7 +5,7 @@ REFUSALS = {
     2: 'count of frames 0 or above 8',
     3: 'reference, or index of the frame to be read, not below the count of frames',
     4: 'samples not of length count * row_length * height',
-    5: 'vectors not of length (count - 1) * 2 * (width / 16 + 1) * (height / 16 + 1)',
+    5: 'vectors not of length (count - 1) * 2 * (width / side + 1) * (height / side + 1)',
     6: 'output or frame not of length width * height',
     7: 'work area not of length 2 * width * height',
     8: 'shot or read negative or not finite, or ISO outside 25..409600',
@@ -22,6 +22,8 @@ REFUSALS = {
     19: 'not a little-endian TIFF file, or a part of it lies past its end',
     20: 'a DNG file in which a needed tag is absent or a listed one stands twice',
     21: 'a DNG file with a type, count or value that is not read, or of another size than the burst',
+    22: 'side of the tiles neither 16 nor 32',
     23: 'row length not from width to width + 256',
     24: 'spatial strength above 256',
+    25: 'spatial strength not 0 with tiles of side 32',
 }

@@ -52,6 +52,14 @@ class Calls(unittest.TestCase):
         self.assertEqual(stacker.run(frames, noise=(3, 100), strength=0).merged.tolist(), frames.tolist()[0])
         self.assertNotEqual(stacker.run(frames, noise=(3, 100), spatial=64).merged, plain)
 
+    def test_side(self):
+        frames = made()
+        done, found = stacker.run(frames, noise=(3, 100), side=32), stacker.align(frames, side=32)
+        self.assertEqual(done.vectors.shape, (COUNT - 1, HEIGHT // 32 + 1, WIDTH // 32 + 1, 2))
+        self.assertEqual((done.vectors, done.residuals, done.rows), found)
+        self.assertEqual(done.merged, stacker.merge(frames, found.vectors, noise=(3, 100), side=32))
+        self.assertNotEqual(done.merged, stacker.run(frames, noise=(3, 100)).merged)
+
     def test_sharpest(self):
         frames = made()
         done = stacker.run(frames, noise=(3, 100), reference='sharpest')
@@ -73,6 +81,8 @@ class Calls(unittest.TestCase):
 
     def test_noise_number(self):
         self.assertEqual(stacker.noise_number(1, 0, 1600, 8), 819200)  # the scope paper's M4
+        self.assertEqual(stacker.noise_number(1, 0, 3200, 8, side=32), 204800)  # the same level: floor(8 * 1024 * 3200 / 128)
+        self.assertEqual(stacker.noise_number(1, 0, 1600, 8, side=17), 0)
 
 
 class Refusals(unittest.TestCase):
@@ -93,8 +103,11 @@ class Refusals(unittest.TestCase):
         self.refused(10, stacker.run, frames, noise=(3, 100), strength=1025)
         self.refused(11, stacker.align, far)
         self.refused(18, stacker.run, frames, noise=(3, 100), black=(256, 0, 0, 0))
+        self.refused(22, stacker.align, frames, side=17)
+        self.refused(22, stacker.run, frames, noise=(3, 100), side=0)
         self.refused(23, stacker.align, frames, width=WIDTH + 64)
         self.refused(24, stacker.run, frames, noise=(3, 100), spatial=257)
+        self.refused(25, stacker.run, frames, noise=(3, 100), side=32, spatial=1)
         self.refused(5, stacker.merge, frames, array.array('i', [0]), noise=(3, 100))
         far_vectors = memoryview(bytearray(stacker.align(frames).vectors)).cast('i')
         far_vectors[0] = 173

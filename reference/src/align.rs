@@ -3,6 +3,7 @@
 use crate::burst::Burst;
 use crate::image::Image;
 use crate::pyramid::pyramid;
+use crate::side::Side;
 use crate::square::Square;
 
 /// What align finds for a burst.
@@ -46,7 +47,8 @@ struct Found {
     summed: u64,
 }
 
-pub fn align(burst: &Burst) -> Alignment {
+/// With tiles of this side at level 0.
+pub fn align(burst: &Burst, side: Side) -> Alignment {
     let reference = pyramid(burst, burst.reference);
     let mut alignment = Alignment {
         vectors: Vec::new(),
@@ -54,7 +56,7 @@ pub fn align(burst: &Burst) -> Alignment {
         rows: 0,
     };
     for (slot, frame) in burst.others().into_iter().enumerate() {
-        let field = align_frame(&reference, &pyramid(burst, frame));
+        let field = align_frame(side, &reference, &pyramid(burst, frame));
         alignment.residuals[slot] = field.residual as u64;
         alignment.rows += field.summed;
         for vector in field.vectors {
@@ -76,9 +78,12 @@ struct Coarse<'a> {
 }
 
 /// The field of level 0: "f = 2, q = 2 from level 1 to 0; f = 4, q = 4 from 2 to 1; f = 4,
-/// q = 2 from 3 to 2".
-fn align_frame(reference: &[Image; 4], other: &[Image; 4]) -> Field {
-    let search = |level, coarse| Pair::new(level, reference, other).search(coarse);
+/// q = 2 from 3 to 2". With side 32, "from level 1 to 0, q is then 1".
+fn align_frame(side: Side, reference: &[Image; 4], other: &[Image; 4]) -> Field {
+    // "Tiles have side 16 (8 at level 3)"; "the levels above keep their tiles".
+    let sides = [side.length as i64, 16, 16, 8];
+    let search =
+        |level: usize, coarse| Pair::new(level, sides[level], reference, other).search(coarse);
     let led = |level, field, factor, ratio| {
         let coarse = Coarse {
             field,
@@ -90,7 +95,7 @@ fn align_frame(reference: &[Image; 4], other: &[Image; 4]) -> Field {
     let level_3 = search(3, None);
     let level_2 = led(2, &level_3, 4, 2);
     let level_1 = led(1, &level_2, 4, 4);
-    led(0, &level_1, 2, 2)
+    led(0, &level_1, 2, 32 / side.length as i64)
 }
 
 /// The reference and another frame on one level.
@@ -103,13 +108,12 @@ struct Pair<'a> {
 }
 
 impl<'a> Pair<'a> {
-    /// "Tiles have side 16 (8 at level 3)"; "squared differences at levels 3 to 1, absolute at
-    /// level 0".
-    fn new(level: usize, reference: &'a [Image; 4], other: &'a [Image; 4]) -> Pair<'a> {
+    /// "squared differences at levels 3 to 1, absolute at level 0".
+    fn new(level: usize, side: i64, reference: &'a [Image; 4], other: &'a [Image; 4]) -> Pair<'a> {
         Pair {
             reference: &reference[level],
             other: &other[level],
-            side: if level == 3 { 8 } else { 16 },
+            side,
             difference: match level {
                 0 => Difference::Absolute,
                 _ => Difference::Squared,

@@ -6,6 +6,7 @@ use crate::merge::{self, Setting};
 use crate::noise::{Noise, NoiseModel, Tuning};
 use crate::refusal::{require, Refusal};
 use crate::sharpness::sharpest;
+use crate::side::Side;
 
 /// A call's arguments and lent buffers; of the work area only the length matters here.
 #[derive(Clone)]
@@ -30,27 +31,38 @@ impl Call {
     /// A call whose buffers have the right lengths: vectors of 0, and an output that no merge leaves.
     pub fn fitting(burst: Burst, noise: Noise, tuning: Tuning) -> Call {
         let shape = burst.shape;
-        Call {
+        let mut call = Call {
             burst,
             noise,
             tuning,
-            vectors: vec![0; shape.vectors_length() as usize],
+            vectors: Vec::new(),
             output: vec![55555; shape.output_length() as usize],
             work_length: shape.work_length(),
+        };
+        call.set_side(tuning.side);
+        call
+    }
+
+    /// Takes tiles of this side; the vectors get the length that it asks for, where burst and side are allowed.
+    pub fn set_side(&mut self, side: u64) {
+        self.tuning.side = side;
+        if let (Ok(()), Ok(side)) = (self.burst.shape.check(), Side::of(side)) {
+            let length = self.burst.shape.vectors_length(side);
+            self.vectors.resize(length as usize, 0);
         }
     }
 
     /// "align (burst to vectors)".
     pub fn align(&mut self) -> Answer {
         let accepted = self.check_align();
-        answer(accepted.map(|()| self.find_vectors()))
+        answer(accepted.map(|side| self.find_vectors(side)))
     }
 
     /// "merge (burst and lent vectors to output, the vectors only read)".
     pub fn merge(&mut self) -> Answer {
         let accepted = self.check_merge();
-        answer(accepted.map(|noise| {
-            self.merge_output(noise);
+        answer(accepted.map(|(side, noise)| {
+            self.merge_output(side, noise);
             Answer::default()
         }))
     }
@@ -58,9 +70,9 @@ impl Call {
     /// "run (align, then merge)".
     pub fn run(&mut self) -> Answer {
         let accepted = self.check_run();
-        answer(accepted.map(|noise| {
-            let found = self.find_vectors();
-            self.merge_output(noise);
+        answer(accepted.map(|(side, noise)| {
+            let found = self.find_vectors(side);
+            self.merge_output(side, noise);
             found
         }))
     }
@@ -76,39 +88,41 @@ impl Call {
         (self.run(), self.burst.reference)
     }
 
-    /// What an accepted merge rests on, or refusal 8, 9 or 10.
+    /// What an accepted merge rests on, or refusal 22, 8, 9 or 10.
     pub fn setting(&self) -> Result<Setting<'_>, Refusal> {
+        let side = Side::of(self.tuning.side)?;
         let noise = self.noise.model(self.tuning)?;
-        Ok(self.setting_with(noise))
+        Ok(self.setting_with(side, noise))
     }
 
-    fn setting_with(&self, noise: NoiseModel) -> Setting<'_> {
+    fn setting_with(&self, side: Side, noise: NoiseModel) -> Setting<'_> {
         Setting {
             burst: &self.burst,
             vectors: &self.vectors,
+            side,
             noise,
         }
     }
 
-    /// "Align tests 1 to 5, 7, 11", and 23 before 4.
-    fn check_align(&self) -> Result<(), Refusal> {
-        self.check_burst()?;
-        self.check_vectors_length()?;
+    /// "Align tests 1 to 5, 7, 11", and 22 and 23 before 4.
+    fn check_align(&self) -> Result<Side, Refusal> {
+        let side = self.check_burst()?;
         self.check_work_length()?;
-        self.check_samples()
+        self.check_samples()?;
+        Ok(side)
     }
 
     /// Run's refusals, then 12.
-    fn check_merge(&self) -> Result<NoiseModel, Refusal> {
-        let noise = self.check_run()?;
+    fn check_merge(&self) -> Result<(Side, NoiseModel), Refusal> {
+        let accepted = self.check_run()?;
         self.check_vectors()?;
-        Ok(noise)
+        Ok(accepted)
     }
 
-    /// Refusals 1 to 10, with 23 before 4, then 18, 24 and 11: vectors found level by level reach at most 4, 20, 84 and 172, so run has no 12.
-    fn check_run(&self) -> Result<NoiseModel, Refusal> {
-        self.check_burst()?;
-        self.check_vectors_length()?;
+    /// Refusals 1 to 10, with 22 and 23 before 4, then 18, 24, 25 and 11: vectors found level by level reach at most 4, 20,
+    /// 84 and 172, so run has no 12.
+    fn check_run(&self) -> Result<(Side, NoiseModel), Refusal> {
+        let side = self.check_burst()?;
         let length = self.output.len() as u64;
         require(
             length == self.burst.shape.output_length(),
@@ -119,26 +133,24 @@ impl Call {
         self.check_black()?;
         self.tuning.check_spatial()?;
         self.check_samples()?;
-        Ok(noise)
+        Ok((side, noise))
     }
 
-    /// Refusals 1, 2, 3, 23 and 4.
-    fn check_burst(&self) -> Result<(), Refusal> {
+    /// Refusals 1, 2, 3, 22, 23, 4 and 5.
+    fn check_burst(&self) -> Result<Side, Refusal> {
         let shape = self.burst.shape;
         shape.check()?;
         shape.check_reference(self.burst.reference)?;
+        let side = Side::of(self.tuning.side)?;
         shape.check_row_length()?;
-        let length = self.burst.samples.len() as u64;
-        require(length == shape.samples_length(), Refusal::SamplesLength)
-    }
-
-    /// Refusal 5.
-    fn check_vectors_length(&self) -> Result<(), Refusal> {
-        let length = self.vectors.len() as u64;
+        let samples = self.burst.samples.len() as u64;
+        require(samples == shape.samples_length(), Refusal::SamplesLength)?;
+        let vectors = self.vectors.len() as u64;
         require(
-            length == self.burst.shape.vectors_length(),
+            vectors == shape.vectors_length(side),
             Refusal::VectorsLength,
-        )
+        )?;
+        Ok(side)
     }
 
     /// Refusal 7.
@@ -170,8 +182,8 @@ impl Call {
         )
     }
 
-    fn find_vectors(&mut self) -> Answer {
-        let alignment = align::align(&self.burst);
+    fn find_vectors(&mut self, side: Side) -> Answer {
+        let alignment = align::align(&self.burst, side);
         self.vectors = alignment.vectors;
         Answer {
             number: 0,
@@ -180,8 +192,8 @@ impl Call {
         }
     }
 
-    fn merge_output(&mut self, noise: NoiseModel) {
-        self.output = merge::merge(&self.setting_with(noise));
+    fn merge_output(&mut self, side: Side, noise: NoiseModel) {
+        self.output = merge::merge(&self.setting_with(side, noise));
     }
 }
 

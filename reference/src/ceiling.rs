@@ -10,7 +10,7 @@ use std::fmt;
 pub struct Leak {
     /// From the reference sample to the merged one.
     pub steps: u64,
-    /// The largest V of the four tiles over it, in 1/256 of a squared sample.
+    /// The largest V of the four tiles over it, in 1/256 of a squared sample: with side 32, 16·V.
     pub noise: u64,
 }
 
@@ -42,15 +42,16 @@ pub fn leaks(setting: &Setting, output: &[u16]) -> Vec<Leak> {
         .planes()
         .map(|plane| plane.for_tiles(|row, column| plane.noise_number(row, column)));
     let width = setting.burst.shape.width as usize;
+    let scale = 256 / setting.side.bin_parts.pow(2);
     let leak = |(index, &word): (usize, &u16)| {
         let (row, column) = ((index / width) as i64, (index % width) as i64);
         let noises = &noises[(2 * (row % 2) + column % 2) as usize];
         let noise = |cover: Cover| noises[cover.tile_row as usize][cover.tile_column as usize];
-        let tiles = covering_tiles(row / 2, column / 2).map(noise);
+        let tiles = covering_tiles(setting.side, row / 2, column / 2).map(noise);
         let sample = setting.burst.sample(setting.burst.reference, row, column);
         Leak {
             steps: sample.abs_diff(word.into()),
-            noise: tiles.into_iter().fold(0, u64::max),
+            noise: scale * tiles.into_iter().fold(0, u64::max),
         }
     };
     output.iter().enumerate().map(leak).collect()

@@ -15,6 +15,7 @@ use reference::programs::{motion, stack};
 use reference::{filtered_calls, fixed_calls, lone_sample, moving_files};
 use std::error::Error;
 use std::iter::once;
+use std::num::ParseIntError;
 
 pub type Outcome = Result<(), Box<dyn Error>>;
 
@@ -38,7 +39,12 @@ pub fn dispatch(arguments: &[String]) -> Outcome {
         ["read-dng"] => dng::answer_readings(),
         ["exact"] => exact::answer_each(),
         ["lone-sample"] => data::write_lone_samples(once(lone_sample::PLAIN)),
+        ["wide-sample"] => data::write_lone_samples(once(lone_sample::WIDE)),
         ["filtered-sample"] => data::write_lone_samples(once(lone_sample::FILTERED)),
+        ["wide-samples", count, seed] => {
+            let samples = lone_sample::wide(count.parse()?, seed.parse()?);
+            data::write_lone_samples(samples)
+        }
         ["filtered-samples", count, seed] => {
             let samples = lone_sample::filtered(count.parse()?, seed.parse()?);
             data::write_lone_samples(samples)
@@ -51,17 +57,15 @@ pub fn dispatch(arguments: &[String]) -> Outcome {
         ["pgm-files", count, seed] => pgm::put_readings(count, seed),
         ["dng-files", count, seed] => dng::put_readings(count, seed),
         ["fixed-calls"] => data::write_each(fixed_calls::calls()),
-        ["fixed-calls", width, height, round] => {
-            let calls = fixed_calls::of_size(width.parse()?, height.parse()?, round.parse()?);
-            data::write_each(calls)
+        ["fixed-calls", side, width, height, round] => {
+            data::write_each(fixed_of_size([side, width, height, round])?)
         }
         ["filtered-calls", width, height, round] => {
             let calls = filtered_calls::of_size(width.parse()?, height.parse()?, round.parse()?);
             data::write_each(calls)
         }
-        ["fixed-places", width, height, round] => {
-            let calls = fixed_calls::of_size(width.parse()?, height.parse()?, round.parse()?);
-            data::write_with_places(calls, 8)
+        ["fixed-places", side, width, height, round] => {
+            data::write_with_places(fixed_of_size([side, width, height, round])?, 8)
         }
         ["filtered-places", width, height, round] => {
             let calls = filtered_calls::of_size(width.parse()?, height.parse()?, round.parse()?);
@@ -69,4 +73,16 @@ pub fn dispatch(arguments: &[String]) -> Outcome {
         }
         _ => Err("unknown subcommand; README.md lists them".into()),
     }
+}
+
+/// The fixed calls of a side, width and height in a round.
+fn fixed_of_size(words: [&str; 4]) -> Result<impl Iterator<Item = Call>, ParseIntError> {
+    let [side, width, height, round] = words;
+    let (side, round) = (side.parse()?, round.parse()?);
+    Ok(fixed_calls::of_size(
+        side,
+        width.parse()?,
+        height.parse()?,
+        round,
+    ))
 }

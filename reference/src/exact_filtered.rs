@@ -1,4 +1,4 @@
-//! The exact filtered merge: "with the same V', worked in the same fractions, the copy and its bins unrounded too".
+//! The exact filtered merge, for side 16: "with the same V', worked in the same fractions, the copy and its bins unrounded too".
 //!
 //! A sample's whole fraction has millions of digits, so here each part of a bin that a Wiener step gives is cut to a multiple
 //! of 2^-96. That step passes an error of its bin on no larger than it came, and the other steps are exact: the sample is
@@ -8,8 +8,9 @@ use crate::exact::held;
 use crate::fraction::Fraction;
 use crate::integer::Integer;
 use crate::merge::{covering_tiles, Cover, Plane, Setting};
+use crate::side::SIXTEEN;
 use crate::square::Square;
-use crate::transform::{forward, inverse, turn, Bins, Complex, Tile, SIDE};
+use crate::transform::{forward, inverse, turn, Bins, Complex, Tile};
 
 /// Bins are kept in units of 2^-96.
 const BITS: u32 = 96;
@@ -21,8 +22,8 @@ const INVERSE_BITS: u32 = 36 + BITS;
 pub fn sample(setting: &Setting, row: i64, column: i64) -> Fraction {
     let plane = setting.plane(row % 2, column % 2);
     let count = i128::from(setting.burst.shape.count);
-    let term = |cover: &Cover| filtered(&plane, cover, count) * cover.weight();
-    let sum = covering_tiles(row / 2, column / 2)
+    let term = |cover: &Cover| filtered(&plane, cover, count) * cover.weight;
+    let sum = covering_tiles(SIXTEEN, row / 2, column / 2)
         .iter()
         .map(term)
         .fold(Integer::default(), |sum, term| sum + term);
@@ -37,28 +38,29 @@ fn filtered(plane: &Plane, cover: &Cover, count: i128) -> Integer {
     let (row, column) = (cover.tile_row, cover.tile_column);
     let merged = merged_tile(plane, row, column, count);
     let noises = plane.spatial_numbers(row, column);
-    let bins = forward(&merged);
+    let bins = forward(SIXTEEN, &merged);
     // The bins of the merged tile have the scale 2^28 beside its own.
     let scale = Integer::from(count).shifted(28 + INVERSE_BITS);
-    let shrunk = Square::from_fn(SIDE, |u, v| shrunk(&bins[(u, v)], &scale, noises[(u, v)]));
-    merged[cover.place()].minus(&(inverse_at(&shrunk, cover) * count as i64))
+    let shrunk = |u, v| shrunk(&bins[(u, v)], &scale, noises[(u, v)]);
+    let shrunk = Square::from_fn(SIXTEEN.length, shrunk);
+    merged[cover.place].minus(&(inverse_at(&shrunk, cover) * count as i64))
 }
 
 /// "T0 − Σp/N", N·2^INVERSE_BITS times.
 fn merged_tile(plane: &Plane, row: i64, column: i64, count: i128) -> Tile<Integer> {
     let noise = plane.noise_number(row, column);
     let scale = Integer::from(1).shifted(28);
-    let mut sum: Bins<Integer> = Square::filled(SIDE, Complex::default());
+    let mut sum: Bins<Integer> = Square::filled(SIXTEEN.length, Complex::default());
     for difference in plane.differences(row, column) {
-        let bins = forward(&difference);
+        let bins = forward(SIXTEEN, &difference);
         let bin = |u, v| bins[(u, v)].map(|&part| Integer::from(i128::from(part)));
-        sum = Square::from_fn(SIDE, |u, v| {
+        sum = Square::from_fn(SIXTEEN.length, |u, v| {
             sum[(u, v)].clone().plus(shrunk(&bin(u, v), &scale, noise))
         });
     }
     let reference = plane.reference_tile(row, column);
-    let corrections = inverse(&sum);
-    Square::from_fn(SIDE, |y, x| {
+    let corrections = inverse(SIXTEEN, &sum);
+    Square::from_fn(SIXTEEN.length, |y, x| {
         let sample = Integer::from(count * i128::from(reference[(y, x)]));
         sample.shifted(INVERSE_BITS).minus(&corrections[(y, x)])
     })
@@ -79,11 +81,11 @@ fn shrunk(bin: &Complex<Integer>, scale: &Integer, noise: u64) -> Complex<Intege
 
 /// One sample of the inverse sum, not divided.
 fn inverse_at(bins: &Bins<Integer>, cover: &Cover) -> Integer {
-    let (y, x) = cover.place();
+    let (y, x) = cover.place;
     let mut sum = Integer::default();
-    for u in 0..SIDE {
-        for v in 0..SIDE {
-            let factor = turn(u * y).times(turn(v * x));
+    for u in 0..SIXTEEN.length {
+        for v in 0..SIXTEEN.length {
+            let factor = turn(SIXTEEN, u * y).times(turn(SIXTEEN, v * x));
             sum = sum + bins[(u, v)].times(factor).re;
         }
     }

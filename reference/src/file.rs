@@ -15,7 +15,7 @@ struct Header {
     noise: NoiseModel,
 }
 
-/// What an accepted file holds; its black levels are 0, and it has no spatial filter.
+/// What an accepted file holds; its black levels are 0, its tiles of side 16, and it has no spatial filter.
 #[derive(Debug, PartialEq, Eq)]
 pub struct BurstFile {
     pub burst: Burst,
@@ -57,7 +57,7 @@ fn read_header(bytes: &[u8]) -> Result<(Header, &[u8]), Refusal> {
         reference,
         noise: NoiseModel {
             levels: Levels { shot, read },
-            tuning: Tuning::plain(strength),
+            tuning: Tuning::of_file(strength),
         },
     };
     header.shape.check()?;

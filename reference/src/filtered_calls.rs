@@ -28,7 +28,7 @@ pub fn of_size(width: u64, height: u64, round: u64) -> impl Iterator<Item = Call
         .into_iter()
         .cycle()
         .skip(round as usize % 4);
-    let calls = fixed_calls::of_size(width, height, round);
+    let calls = fixed_calls::of_size(16, width, height, round);
     calls.zip(spatials).map(|(mut call, spatial)| {
         call.tuning.spatial = spatial;
         call
@@ -151,7 +151,10 @@ const GREATEST: Curve = Curve {
 };
 
 fn tuning(strength: u64, spatial: u64) -> Tuning {
-    Tuning { strength, spatial }
+    Tuning {
+        spatial,
+        ..Tuning::of_file(strength)
+    }
 }
 
 /// A call for each picture.

@@ -1,5 +1,5 @@
 //! Fixed lists of library calls: every frame count and reference, every kind of picture, noise and
-//! lent vectors, from the smallest frames to 1024 by 1024 and 64 by 4096, and reads far outside.
+//! lent vectors at both sides, from the smallest frames to 1024 by 1024 and 64 by 4096, and reads far outside.
 
 use crate::burst::Burst;
 use crate::calls::Call;
@@ -9,36 +9,59 @@ use crate::noise::{Curve, Levels, Noise, Tuning};
 use crate::pictures::{dark, Picture};
 use crate::random::Random;
 use crate::shape::Shape;
+use crate::side_calls;
 
-/// Every count and reference at the smaller sizes, some at the greater ones, and vectors that merge
-/// refuses.
+/// Both sides, the spatial filter for side 16, and what is about the side itself.
 pub fn calls() -> impl Iterator<Item = Call> {
+    general()
+        .chain(aimed(16))
+        .chain(filtered_calls::calls())
+        .chain(with_side(32, general()))
+        .chain(aimed(32))
+        .chain(side_calls::calls())
+}
+
+/// Every count and reference at the smaller sizes, some at the greater ones, and what is not aimed at a tile's size; the
+/// side is 16.
+fn general() -> impl Iterator<Item = Call> {
     let small = [(64, 64), (128, 64), (64, 192), (256, 256)];
     let small = (0..).zip(small);
     let tall = [[8, 5], [1, 0]]
         .into_iter()
         .chain((0..7).map(|k| [2, k % 2]));
     small
-        .flat_map(|(round, (width, height))| of_size(width, height, round))
+        .flat_map(|(round, (width, height))| of_size(16, width, height, round))
         .chain(in_turn(64, 4096, 0, tall.collect()))
+        .chain(in_turn(4096, 64, 0, vec![[8, 3], [1, 0], [2, 1]]))
         .chain(in_turn(1024, 1024, 0, vec![[2, 0], [2, 1], [1, 0]]))
         .chain(mirrored_reads())
         .chain(pedestals())
         .chain(row_lengths())
         .chain(soft_frames())
-        .chain(refused_vectors())
         .chain(faults_beside_black())
         .chain(noise_numbers())
-        .chain(white_references())
         .chain(dark_planes())
-        .chain(ghosts::calls())
-        .chain(filtered_calls::calls())
 }
 
-/// Every count with every reference at one size. In eight rounds each of them meets every picture,
+/// Noise numbers, leaks and vectors at the limits, which go by the side.
+fn aimed(side: u64) -> impl Iterator<Item = Call> {
+    white_references(side)
+        .chain(refused_vectors(side))
+        .chain(ghosts::calls(side))
+}
+
+/// Every count with every reference at one side and size. In eight rounds each of them meets every picture,
 /// every noise and every kind of lent vectors.
-pub fn of_size(width: u64, height: u64, round: u64) -> impl Iterator<Item = Call> {
-    in_turn(width, height, round, all_frames())
+pub fn of_size(side: u64, width: u64, height: u64, round: u64) -> impl Iterator<Item = Call> {
+    with_side(side, in_turn(width, height, round, all_frames()))
+}
+
+/// These calls with tiles of another side and as many of the vectors as it takes.
+fn with_side(side: u64, calls: impl Iterator<Item = Call>) -> impl Iterator<Item = Call> {
+    calls.map(move |mut call| {
+        call.set_side(side);
+        call
+    })
 }
 
 /// A call for each count and reference; the pictures, noises and lent vectors take turns.
@@ -73,7 +96,7 @@ fn call(turn: usize, shape: Shape, reference: u64, random: &mut Random) -> Call 
         samples: Picture::ALL[turn % 8].samples(shape, random),
     };
     let (noise, strength) = noise_and_strength(turn);
-    let mut call = Call::fitting(burst, noise, Tuning::plain(strength));
+    let mut call = Call::fitting(burst, noise, Tuning::of_file(strength));
     call.vectors.fill_with(|| match turn % 3 {
         0 => random.below(345) as i32 - 172,
         1 => random.pick(&[-172, 172]),
@@ -129,7 +152,7 @@ fn mirrored_reads() -> impl Iterator<Item = Call> {
 
 /// Dark frames, whose samples lie about the black levels or below all of them, and black levels of 256, which merge and
 /// run refuse.
-fn pedestals() -> impl Iterator<Item = Call> {
+pub fn pedestals() -> impl Iterator<Item = Call> {
     let shape = Shape::packed(64, 64, 3);
     let equal = [0, 64, 200, 201, 255, 256].map(|black| [black; 4]);
     let unequal = [[50, 100, 150, 255], [201, 0, 199, 64]];
@@ -150,7 +173,7 @@ fn pedestals() -> impl Iterator<Item = Call> {
 
 /// Row lengths at their limits and beyond, samples that are too great at the ends of rows, and lengths that leave out
 /// spare words.
-fn row_lengths() -> impl Iterator<Item = Call> {
+pub fn row_lengths() -> impl Iterator<Item = Call> {
     let shape = Shape::packed(64, 64, 2);
     let mut random = Random::new(5);
     let mut padded = |spare| {
@@ -176,7 +199,7 @@ fn row_lengths() -> impl Iterator<Item = Call> {
 }
 
 /// A black level of 256 beside a strength above 1024, a sample above 4095 and both: 18 comes after 10 and before 11.
-fn faults_beside_black() -> impl Iterator<Item = Call> {
+pub fn faults_beside_black() -> impl Iterator<Item = Call> {
     let shape = Shape::packed(64, 64, 2);
     let mut random = Random::new(5);
     [(true, false), (false, true), (true, true)]
@@ -194,8 +217,8 @@ fn faults_beside_black() -> impl Iterator<Item = Call> {
         })
 }
 
-/// Without shot noise V is t·Lr: powers of two from 2^22 to 2^30, and the number next below and next above each, where
-/// the strength leaves one; differences of every size.
+/// Without shot noise V is t·Lr, or a quarter of it for side 32: powers of two from 2^22 to 2^30, and the number next below
+/// and next above each, where the strength leaves one; differences of every size.
 fn noise_numbers() -> impl Iterator<Item = Call> {
     let shape = Shape::packed(128, 64, 2);
     let mut random = Random::new(6);
@@ -224,28 +247,26 @@ fn noise_numbers() -> impl Iterator<Item = Call> {
     })
 }
 
-/// A white reference at strength 1024, where V is 1024·(4095·Ls + Lr): 2^33, that number less and more by 1024, and the
-/// greatest V; differences of every size.
-fn white_references() -> impl Iterator<Item = Call> {
+/// A white reference at strength 1024, where V is 4095·Ls + Lr times 1024, or times 256 for side 32: 2^31 and 2^33, the next
+/// below and above each, and the greatest V; differences of every size.
+fn white_references(side: u64) -> impl Iterator<Item = Call> {
     let shape = Shape::packed(128, 64, 2);
     let mut random = Random::new(8);
-    let levels = [
-        [1025, 4191232],
-        [1025, 4191233],
-        [1025, 4191234],
-        [65536, 4194304],
-    ];
+    let levels = [1 << 31, 1 << 33].into_iter().flat_map(move |number: u64| {
+        let sum = number / ((1 << 18) / (side * side));
+        [sum - 1, sum, sum + 1].map(|sum| [sum / 4095, sum % 4095])
+    });
+    let levels = levels.chain([[65536, 4194304]]);
     let pictures = [
         Picture::Shifted,
         Picture::Extremes,
         Picture::Noise,
         Picture::Flat,
     ];
-    let each = levels
-        .into_iter()
-        .flat_map(move |level| pictures.map(|picture| (level, picture)));
+    let each = levels.flat_map(move |level| pictures.map(|picture| (level, picture)));
     each.map(move |([shot, read], picture)| {
         let mut call = call(2, shape, 1, &mut random);
+        call.set_side(side);
         call.burst.samples = picture.samples(shape, &mut random);
         call.burst.samples[128 * 64..].fill(4095);
         call.noise = Noise::Curve(Curve::of_levels(Levels { shot, read }));
@@ -279,7 +300,7 @@ fn dark_planes() -> impl Iterator<Item = Call> {
 }
 
 /// Flat frames of 64 by 64 with bumps in the green plane whose sharpness decides, or in others.
-fn soft_frames() -> impl Iterator<Item = Call> {
+pub fn soft_frames() -> impl Iterator<Item = Call> {
     // In that plane: inside, at an edge and in a corner, with four, three and two steps.
     const INSIDE: [u64; 2] = [30, 31];
     const EDGE: [u64; 2] = [62, 31];
@@ -314,15 +335,16 @@ fn soft_frames() -> impl Iterator<Item = Call> {
 }
 
 /// One part of the lent vectors just outside what merge takes, or far outside, at either end.
-fn refused_vectors() -> impl Iterator<Item = Call> {
+pub fn refused_vectors(side: u64) -> impl Iterator<Item = Call> {
     let shape = Shape::packed(64, 64, 3);
-    let last = shape.vectors_length() as usize - 1;
     let parts = [173, -173, i32::MAX, i32::MIN];
     let places = parts
         .into_iter()
-        .flat_map(move |part| [(0, part), (last, part)]);
-    places.map(move |(place, part)| {
+        .flat_map(|part| [(false, part), (true, part)]);
+    places.map(move |(last, part)| {
         let mut call = call(1, shape, 1, &mut Random::new(2));
+        call.set_side(side);
+        let place = if last { call.vectors.len() - 1 } else { 0 };
         call.vectors[place] = part;
         call
     })

@@ -1,4 +1,4 @@
-//! Calls aimed at the ceiling on leaks: a bright object that has moved, at every strength and count.
+//! Calls aimed at the ceiling on leaks: a bright object that has moved, at every side, strength and count.
 
 use crate::burst::Burst;
 use crate::calls::Call;
@@ -7,7 +7,7 @@ use crate::random::Random;
 use crate::shape::Shape;
 
 /// Rows and columns of a frame.
-const SIDE: u64 = 64;
+const FRAME: u64 = 64;
 
 /// Row and column at which the object begins in the reference.
 const PLACE: u64 = 30;
@@ -25,6 +25,8 @@ enum Motion {
 
 #[derive(Clone, Copy)]
 struct Ghost {
+    /// Of the tiles.
+    side: u64,
     strength: u64,
     count: u64,
     motion: Motion,
@@ -35,7 +37,7 @@ struct Ghost {
 }
 
 /// Every strength with every count and motion; the object's sizes and the noises take turns.
-pub fn calls() -> impl Iterator<Item = Call> {
+pub fn calls(side: u64) -> impl Iterator<Item = Call> {
     let strengths = [0, 8, 64, 600, 1024].into_iter();
     let counts = strengths.flat_map(|strength| (1..=8).map(move |count| (strength, count)));
     let motions = [Motion::Lent, Motion::Gone, Motion::Moving];
@@ -46,6 +48,7 @@ pub fn calls() -> impl Iterator<Item = Call> {
         .zip(each)
         .map(move |(turn, (strength, count, motion))| {
             let ghost = Ghost {
+                side,
                 strength,
                 count,
                 motion,
@@ -58,7 +61,7 @@ pub fn calls() -> impl Iterator<Item = Call> {
 
 impl Ghost {
     fn call(&self, random: &mut Random) -> Call {
-        let shape = Shape::packed(SIDE, SIDE, self.count);
+        let shape = Shape::packed(FRAME, FRAME, self.count);
         let reference = random.below(self.count as usize) as u64;
         let frame = |frame| self.frame(self.place(frame, reference));
         let samples = (0..self.count).map(frame).collect::<Vec<_>>().concat();
@@ -68,7 +71,11 @@ impl Ghost {
             black: [0; 4],
             samples,
         };
-        let mut call = Call::fitting(burst, self.noise(), Tuning::plain(self.strength));
+        let tuning = Tuning {
+            side: self.side,
+            ..Tuning::of_file(self.strength)
+        };
+        let mut call = Call::fitting(burst, self.noise(), tuning);
         if let Motion::Lent = self.motion {
             call.vectors.fill_with(|| random.pick(&[-172, 172]));
         }
@@ -96,23 +103,23 @@ impl Ghost {
 
     /// A black frame with the object.
     fn frame(&self, place: Option<u64>) -> Vec<u16> {
-        let mut samples = vec![0; (SIDE * SIDE) as usize];
+        let mut samples = vec![0; (FRAME * FRAME) as usize];
         if let Some(place) = place {
-            for row in place..SIDE.min(place + self.size) {
-                let line = &mut samples[(row * SIDE) as usize..][..SIDE as usize];
-                line[place as usize..SIDE.min(place + self.size) as usize].fill(self.brightness());
+            for row in place..FRAME.min(place + self.size) {
+                let line = &mut samples[(row * FRAME) as usize..][..FRAME as usize];
+                line[place as usize..FRAME.min(place + self.size) as usize].fill(self.brightness());
             }
         }
         samples
     }
 
     /// The most leaks where a difference of one sample in each plane is as large as the noise's root: read noise of 4096
-    /// gives tiles a V of 4·t·4096 squared samples, and shot noise of 64 beside a lone sample x one of 16·t·x.
+    /// gives tiles of side n a V of 64·n²·t squared samples, and shot noise of 64 beside a lone sample x one of n·t·x.
     fn brightness(&self) -> u16 {
         let brightness = match (self.strength, self.shot) {
             (0, _) => 4095,
-            (strength, true) => 16 * strength,
-            (strength, false) => whole_root(4 * strength * 4096),
+            (strength, true) => self.side * strength,
+            (strength, false) => whole_root(64 * self.side.pow(2) * strength),
         };
         brightness.min(4095) as u16
     }

@@ -33,6 +33,8 @@ pub mod refusal;
 pub mod scenes;
 pub mod shape;
 pub mod sharpness;
+pub mod side;
+pub mod side_calls;
 pub mod square;
 pub mod station;
 pub mod transform;

@@ -27,6 +27,7 @@ pub const PLAIN: LoneSample = LoneSample {
     },
     tuning: Tuning {
         strength: 1024,
+        side: 16,
         spatial: 0,
     },
 };
@@ -42,13 +43,31 @@ pub const FILTERED: LoneSample = LoneSample {
     },
     tuning: Tuning {
         strength: 1023,
+        side: 16,
         spatial: 256,
+    },
+};
+
+/// The farthest that a search found with side 32: the merge here is 393, and the exact one 393.7118421615...
+pub const WIDE: LoneSample = LoneSample {
+    count: 8,
+    value: 2450,
+    place: [40, 40],
+    levels: Levels {
+        shot: 62561,
+        read: 4038866,
+    },
+    tuning: Tuning {
+        strength: 1024,
+        side: 32,
+        spatial: 0,
     },
 };
 
 impl LoneSample {
     pub fn call(&self) -> Call {
-        let shape = Shape::packed(64, 64, self.count);
+        let size = frame_size(self.tuning.side);
+        let shape = Shape::packed(size, size, self.count);
         let [row, column] = self.place;
         let mut samples = vec![0; shape.samples_length() as usize];
         samples[(row * shape.width + column) as usize] = self.value;
@@ -61,6 +80,11 @@ impl LoneSample {
         let noise = Noise::Curve(Curve::of_levels(self.levels));
         Call::fitting(burst, noise, self.tuning)
     }
+}
+
+/// Rows and columns of the frames: in the middle half of them no tile sees a sample twice.
+fn frame_size(side: u64) -> u64 {
+    4 * side
 }
 
 /// Lone samples of any height under the spatial filter, their noises of every size.
@@ -85,7 +109,31 @@ pub fn filtered(count: usize, seed: u64) -> impl Iterator<Item = LoneSample> {
             levels,
             tuning: Tuning {
                 strength: random.pick(&[0, strength, 1024]),
+                side: 16,
                 spatial: random.pick(&[spatial, 256]),
+            },
+        }
+    })
+}
+
+/// Lone samples without the filter for tiles of side 32, where the errors of bins add up: the noise is above the square of
+/// most, and at every fourth row and column many bins are turned alike.
+pub fn wide(count: usize, seed: u64) -> impl Iterator<Item = LoneSample> {
+    let mut random = Random::new(seed);
+    (0..count).map(move |_| {
+        let mut coordinate = || 32 + 4 * random.below(16) as u64;
+        let place = [coordinate(), coordinate()];
+        LoneSample {
+            count: 8,
+            value: 1 + random.below(4095) as u16,
+            place,
+            levels: Levels {
+                shot: random.below(65537) as u64,
+                read: random.below(4194305) as u64,
+            },
+            tuning: Tuning {
+                side: 32,
+                ..Tuning::of_file(1024)
             },
         }
     })

@@ -3,21 +3,16 @@
 use crate::burst::Burst;
 use crate::image::Image;
 use crate::noise::{whole_root, NoiseModel};
+use crate::side::{Side, SIXTEEN};
 use crate::square::Square;
-use crate::transform::{forward, inverse, rounded, Bins, Complex, Tile, SIDE};
-
-/// "w(0..7) = ...; w(15−i) = w(i)".
-const WINDOW: [i64; 8] = [39, 345, 910, 1648, 2448, 3186, 3751, 4057];
-
-pub fn window(index: i64) -> i64 {
-    WINDOW[index.min(15 - index) as usize]
-}
+use crate::transform::{forward, inverse, rounded, Bins, Complex, Tile};
 
 /// What the merge of a burst rests on; the vectors are only read.
 #[derive(Clone, Copy)]
 pub struct Setting<'a> {
     pub burst: &'a Burst,
     pub vectors: &'a [i32],
+    pub side: Side,
     pub noise: NoiseModel,
 }
 
@@ -48,9 +43,14 @@ pub struct Plane<'a> {
 }
 
 impl Plane<'_> {
+    pub fn side(&self) -> Side {
+        self.setting.side
+    }
+
     /// Tile indices run from 0 to these, "at level 0's origins".
     fn last_tile(&self) -> (i64, i64) {
-        (self.reference.height / 8, self.reference.width / 8)
+        let step = self.side().step();
+        (self.reference.height / step, self.reference.width / step)
     }
 
     /// A value for each tile, by its indices.
@@ -62,28 +62,38 @@ impl Plane<'_> {
 
     /// T0 of the tile with these indices.
     pub fn reference_tile(&self, row: i64, column: i64) -> Tile {
-        tile(&self.reference, row, column, (0, 0))
+        self.tile(&self.reference, row, column, (0, 0))
+    }
+
+    /// The tile with these indices, moved by a vector; its origin is one of level 0.
+    fn tile(&self, plane: &Image, row: i64, column: i64, (down, right): (i64, i64)) -> Tile {
+        let step = self.side().step();
+        let (top, left) = (step * (row - 1) + down, step * (column - 1) + right);
+        plane
+            .square(top, left, self.side().length as i64)
+            .map(|&sample| sample.into())
     }
 
     /// T0−Tz for each other frame.
     pub fn differences(&self, row: i64, column: i64) -> Vec<Tile> {
         let reference = self.reference_tile(row, column);
         let difference = |(slot, other): (usize, &Image)| {
-            let moved = tile(other, row, column, self.vector(slot, row, column));
-            Square::from_fn(SIDE, |y, x| reference[(y, x)] - moved[(y, x)])
+            let moved = self.tile(other, row, column, self.vector(slot, row, column));
+            Square::from_fn(reference.side(), |y, x| reference[(y, x)] - moved[(y, x)])
         };
         self.others.iter().enumerate().map(difference).collect()
     }
 
     /// V
     pub fn noise_number(&self, row: i64, column: i64) -> u64 {
-        self.setting.noise.noise_number(self.root(row, column))
+        let root = self.root(row, column);
+        self.setting.noise.noise_number(self.side(), root)
     }
 
-    /// V' of each bin.
+    /// V' of each bin, for tiles of side 16.
     pub fn spatial_numbers(&self, row: i64, column: i64) -> Square<u64> {
         let (root, count) = (self.root(row, column), self.setting.burst.shape.count);
-        Square::from_fn(SIDE, |u, v| {
+        Square::from_fn(SIXTEEN.length, |u, v| {
             self.setting.noise.spatial_number(root, count, u, v)
         })
     }
@@ -103,10 +113,10 @@ impl Plane<'_> {
     /// The sum over the other frames of P for the tile with these indices.
     fn corrections(&self, row: i64, column: i64) -> Tile {
         let noise = self.noise_number(row, column);
-        let mut sum = Square::filled(SIDE, 0);
+        let mut sum = Square::filled(self.side().length, 0);
         for difference in self.differences(row, column) {
-            let correction = correction(&difference, noise);
-            sum = Square::from_fn(SIDE, |y, x| sum[(y, x)] + correction[(y, x)]);
+            let correction = correction(self.side(), &difference, noise);
+            sum = Square::from_fn(sum.side(), |y, x| sum[(y, x)] + correction[(y, x)]);
         }
         sum
     }
@@ -121,12 +131,14 @@ impl Plane<'_> {
         let count = self.count();
         let reference = self.reference_tile(row, column);
         // "A copy of the merged tile, before windows, is rounded to 1/256, halves away from zero"
-        let copy = Square::from_fn(SIDE, |y, x| {
+        let copy = Square::from_fn(merged.side(), |y, x| {
             let numerator = 256 * count * reference[(y, x)] - merged[(y, x)];
             rounded(numerator, count as u64)
         });
         let spatial = spatial_correction(&copy, &self.spatial_numbers(row, column));
-        Square::from_fn(SIDE, |y, x| merged[(y, x)] + count * spatial[(y, x)])
+        Square::from_fn(merged.side(), |y, x| {
+            merged[(y, x)] + count * spatial[(y, x)]
+        })
     }
 
     /// N
@@ -141,50 +153,41 @@ impl Plane<'_> {
         let merged = |row, column| {
             let term = |cover: Cover| {
                 let tile = &tiles[cover.tile_row as usize][cover.tile_column as usize];
-                cover.weight() * tile[cover.place()]
+                cover.weight * tile[cover.place]
             };
-            let sum = covering_tiles(row, column).map(term).iter().sum();
+            let sum = covering_tiles(self.side(), row, column)
+                .map(term)
+                .iter()
+                .sum();
             merged_sample(self.reference.at(row, column), sum, count)
         };
         Image::from_fn(self.reference.width, self.reference.height, merged)
     }
 }
 
-/// The tile with these indices, moved by a vector; its origin is one of level 0.
-fn tile(plane: &Image, row: i64, column: i64, (down, right): (i64, i64)) -> Tile {
-    let (top, left) = (8 * row - 8 + down, 8 * column - 8 + right);
-    plane
-        .square(top, left, SIDE as i64)
-        .map(|&sample| sample.into())
-}
-
 /// A tile's indices, and a sample's place inside it.
 pub struct Cover {
     pub tile_row: i64,
     pub tile_column: i64,
-    pub row: i64,
-    pub column: i64,
-}
-
-impl Cover {
+    pub place: (usize, usize),
     /// "w·w'".
-    pub fn weight(&self) -> i64 {
-        window(self.row) * window(self.column)
-    }
-
-    pub fn place(&self) -> (usize, usize) {
-        (self.row as usize, self.column as usize)
-    }
+    pub weight: i64,
 }
 
 /// The "four tiles" that cover a plane's sample.
-pub fn covering_tiles(row: i64, column: i64) -> [Cover; 4] {
-    let places = [(0, 0), (0, 1), (1, 0), (1, 1)];
-    places.map(|(down, right)| Cover {
-        tile_row: row / 8 + down,
-        tile_column: column / 8 + right,
-        row: row % 8 + 8 - 8 * down,
-        column: column % 8 + 8 - 8 * right,
+pub fn covering_tiles(side: Side, row: i64, column: i64) -> [Cover; 4] {
+    let step = side.step();
+    // Of the tiles that overlap in one direction, the earlier or the later one.
+    let inside = |place: i64, later: i64| (place % step + step * (1 - later)) as usize;
+    let tiles = [(0, 0), (0, 1), (1, 0), (1, 1)];
+    tiles.map(|(down, right)| {
+        let (y, x) = (inside(row, down), inside(column, right));
+        Cover {
+            tile_row: row / step + down,
+            tile_column: column / step + right,
+            place: (y, x),
+            weight: side.window(y) * side.window(x),
+        }
     })
 }
 
@@ -198,7 +201,7 @@ pub fn merge(setting: &Setting) -> Vec<u16> {
     frame.into_samples()
 }
 
-/// "r = floor of the root of the sum of T0 squared: the RMS in sixteenths", where "each reference sample counts as the
+/// "r = floor of the root of the sum of T0 squared: the RMS in sixteenths", or "in thirty-seconds", where "each reference sample counts as the
 /// amount by which it exceeds its plane's black, or 0".
 pub fn root(tile: &Tile, black: i64) -> u64 {
     let excess = |sample: &i64| (sample - black).max(0);
@@ -207,25 +210,29 @@ pub fn root(tile: &Tile, black: i64) -> u64 {
 }
 
 /// P of one difference tile.
-pub fn correction(difference: &Tile, noise: u64) -> Tile {
+pub fn correction(side: Side, difference: &Tile, noise: u64) -> Tile {
     // Every G is 0 then, and so is P.
     if noise == 0 || difference.iter().all(|&part| part == 0) {
-        return Square::filled(SIDE, 0);
+        return Square::filled(side.length, 0);
     }
-    // "Q = B/2^24 (sixteenths), each part to nearest, halves away from zero."
-    let sixteenths = |bin: &Complex| bin.map(|&part| rounded(part, 1 << 24));
-    inverse_rounded(&forward(difference).map(|bin| shrunk(sixteenths(bin), noise)))
+    let bins = rounded_bins(side, difference);
+    inverse_rounded(side, &bins.map(|&bin| shrunk(bin, noise)))
+}
+
+/// "Q = B/2^24 (sixteenths), each part to nearest, halves away from zero", or "in quarters".
+fn rounded_bins(side: Side, difference: &Tile) -> Bins {
+    let divisor = (1 << 28) / side.bin_parts;
+    forward(side, difference).map(|bin| bin.map(|&part| rounded(part, divisor)))
 }
 
 /// What the spatial filter takes from the merged tile, in 1/256: "transformed; bins are rounded likewise to sixteenths. The
 /// base's Wiener step on these bins, with V' for V, gives a correction that is turned back, rounded to 1/256".
 fn spatial_correction(copy: &Tile, noises: &Square<u64>) -> Tile {
-    let bins = forward(copy);
+    let bins = forward(SIXTEEN, copy);
     // The copy is in 1/256: its bins have the scale 2^36.
     let sixteenths = |bin: &Complex| bin.map(|&part| rounded(part, 1 << 32));
-    inverse_rounded(&Square::from_fn(SIDE, |u, v| {
-        shrunk(sixteenths(&bins[(u, v)]), noises[(u, v)])
-    }))
+    let shrunk = |u, v| shrunk(sixteenths(&bins[(u, v)]), noises[(u, v)]);
+    inverse_rounded(SIXTEEN, &Square::from_fn(SIXTEEN.length, shrunk))
 }
 
 /// "G = V·Q/(|Q|²+V), rounded likewise; 0 if V is 0."
@@ -238,9 +245,9 @@ pub fn shrunk(bin: Complex, noise: u64) -> Complex {
 }
 
 /// "P = real part of the inverse sum of G with C(k) and +S(k), divided by 2^32, rounded
-/// likewise: 1/256 sample."
-pub fn inverse_rounded(bins: &Bins) -> Tile {
-    inverse(bins).map(|&sum| rounded(sum, 1 << 32))
+/// likewise: 1/256 sample." For side 32, "P keeps its rule".
+pub fn inverse_rounded(side: Side, bins: &Bins) -> Tile {
+    inverse(side, bins).map(|&sum| rounded(sum, 1 << 32))
 }
 
 /// "Output = T0 − (sum ...)/(2^32·N), to nearest, halves upward, held to 0..4095."

@@ -1,6 +1,7 @@
 //! The noise curve, its whole-number levels and the noise number V.
 
 use crate::refusal::{require, Refusal};
+use crate::side::{Side, SIXTEEN};
 
 /// "a curve of two f64 numbers, shot and read (in samples and samples squared)".
 #[derive(Clone, Copy, Debug, PartialEq)]
@@ -86,20 +87,23 @@ impl Curve {
     }
 }
 
-/// How strongly merge and run take other frames in, and smooth.
+/// How strongly merge and run take other frames in, and smooth, and by which tiles.
 #[derive(Clone, Copy, Debug, PartialEq, Eq)]
 pub struct Tuning {
     /// "Strength t = 0..1024 counts eighths of the source's τ."
     pub strength: u64,
+    /// Of the tiles of level 0 and of the merge: 16 or 32.
+    pub side: u64,
     /// "s = 0..256 is the published s in 1/256".
     pub spatial: u64,
 }
 
 impl Tuning {
-    /// Without the spatial filter: "With s = 0 the plain merge comes out."
-    pub fn plain(strength: u64) -> Tuning {
+    /// "Burst files mean side 16", and s = 0.
+    pub fn of_file(strength: u64) -> Tuning {
         Tuning {
             strength,
+            side: 16,
             spatial: 0,
         }
     }
@@ -109,9 +113,10 @@ impl Tuning {
         require(self.strength <= 1024, Refusal::Strength)
     }
 
-    /// Refusal 24: "s above 256".
+    /// Refusal 24, "s above 256", and refusal 25, "s not 0 with side 32".
     pub fn check_spatial(&self) -> Result<(), Refusal> {
-        require(self.spatial <= 256, Refusal::Spatial)
+        require(self.spatial <= 256, Refusal::Spatial)?;
+        require(self.spatial == 0 || self.side != 32, Refusal::SpatialSide)
     }
 }
 
@@ -132,9 +137,9 @@ impl NoiseModel {
         self.tuning.check_strength()
     }
 
-    /// "V = floor(t·(Ls·r + 16·Lr)/16)".
-    pub fn noise_number(&self, root: u64) -> u64 {
-        self.tuning.strength * self.scaled_variance(root) / 16
+    /// "V = floor(t·(Ls·r + 16·Lr)/16)", "V = floor(t·(Ls·r+32·Lr)/128), in sixteenths".
+    pub fn noise_number(&self, side: Side, root: u64) -> u64 {
+        self.tuning.strength * self.scaled_variance(side, root) / side.noise_divisor()
     }
 
     /// "V' = floor(s·m·(Ls·r+16·Lr)/(16384·N))", where "m is the whole root of 256·(u²+v²), and u and v are bin indices,
@@ -142,12 +147,12 @@ impl NoiseModel {
     pub fn spatial_number(&self, root: u64, count: u64, u: usize, v: usize) -> u64 {
         let squared = |index: usize| index.min(16 - index).pow(2) as u64;
         let frequency = whole_root(256 * (squared(u) + squared(v)));
-        self.tuning.spatial * frequency * self.scaled_variance(root) / (16384 * count)
+        self.tuning.spatial * frequency * self.scaled_variance(SIXTEEN, root) / (16384 * count)
     }
 
-    /// Ls·r + 16·Lr
-    fn scaled_variance(&self, root: u64) -> u64 {
-        self.levels.shot * root + 16 * self.levels.read
+    /// Ls·r + 16·Lr, or 32·Lr
+    fn scaled_variance(&self, side: Side, root: u64) -> u64 {
+        self.levels.shot * root + side.length as u64 * self.levels.read
     }
 }
 

@@ -4,6 +4,7 @@ use crate::calls::{Answer, Call};
 use crate::file::{self, BurstFile};
 use crate::noise::{Curve, Noise};
 use crate::refusal::Refusal;
+use crate::side::SIXTEEN;
 use std::fmt::Display;
 
 /// "take files up to 65536 bytes with W = H = 64".
@@ -77,7 +78,7 @@ fn call(file: BurstFile) -> Call {
 /// residuals)".
 fn motion_lines(stacked: &Stacked) -> String {
     let burst = &stacked.call.burst;
-    let tiles = burst.shape.tiles();
+    let tiles = burst.shape.tiles(SIXTEEN);
     let fields = stacked.call.vectors.chunks(2 * tiles as usize);
     let found = fields.zip(stacked.residuals);
     let mut text = "frame tiles still far residual\n".to_string();

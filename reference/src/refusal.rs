@@ -24,8 +24,10 @@ pub enum Refusal {
     DngOutside = 19,
     DngTags = 20,
     DngValue = 21,
+    Side = 22,
     RowLength = 23,
     Spatial = 24,
+    SpatialSide = 25,
 }
 
 impl Refusal {

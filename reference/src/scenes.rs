@@ -8,7 +8,7 @@ use crate::random::Random;
 use crate::shape::Shape;
 
 /// The refusals that calls meet, in the order of their tests.
-pub const FAULTS: [u64; 15] = [1, 2, 3, 23, 4, 5, 6, 7, 8, 9, 10, 18, 24, 11, 12];
+pub const FAULTS: [u64; 17] = [1, 2, 3, 22, 23, 4, 5, 6, 7, 8, 9, 10, 18, 24, 25, 11, 12];
 
 /// Calls of frames up to `side` in width and height; a third of them with one or two faults.
 pub fn calls(side: u64, count: usize, seed: u64) -> impl Iterator<Item = Call> {
@@ -28,9 +28,6 @@ fn call(side: u64, random: &mut Random) -> Call {
     let (width, height) = (length(), length());
     let count = 1 + random.below(8) as u64;
     let shape = Shape::packed(width, height, count);
-    let reach = random.pick(&[0, 3, 172]);
-    let mut part = || random.below(2 * reach + 1) as i32 - reach as i32;
-    let vectors = (0..shape.vectors_length()).map(|_| part()).collect();
     let mut burst = Burst {
         shape,
         reference: random.below(count as usize) as u64,
@@ -38,10 +35,11 @@ fn call(side: u64, random: &mut Random) -> Call {
         samples: samples(shape, random),
     };
     burst.pad(random.pick(&[0, 0, 1, 5, 256]), random);
-    Call {
-        vectors,
-        ..Call::fitting(burst, noise(random), tuning(random))
-    }
+    let mut call = Call::fitting(burst, noise(random), tuning(random));
+    let reach = random.pick(&[0, 3, 172]);
+    let mut part = || random.below(2 * reach + 1) as i32 - reach as i32;
+    call.vectors.fill_with(&mut part);
+    call
 }
 
 fn black(random: &mut Random) -> [u64; 4] {
@@ -60,9 +58,11 @@ fn noise(random: &mut Random) -> Noise {
 }
 
 fn tuning(random: &mut Random) -> Tuning {
+    let (side, spatial) = random.pick(&[(16, 0), (16, 0), (16, 1), (16, 26), (16, 256), (32, 0)]);
     Tuning {
         strength: random.pick(&[0, 1, 8, 77, 1024]),
-        spatial: random.pick(&[0, 0, 0, 1, 26, 256]),
+        side,
+        spatial,
     }
 }
 
@@ -96,6 +96,7 @@ pub fn add_fault(call: &mut Call, number: u64, random: &mut Random) {
         1 => *[width, height][random.below(2)] = random.pick(&[0, 63, 96, 4160, u64::MAX]),
         2 => *count = random.pick(&[0, 9, u64::MAX]),
         3 => call.burst.reference = random.pick(&[*count, 9, u64::MAX]),
+        22 => call.tuning.side = random.pick(&[0, 8, 17, 64, u64::MAX]),
         23 => {
             let short = width.saturating_sub(1);
             *row_length = random.pick(&[0, short, width.saturating_add(257), u64::MAX])
@@ -109,6 +110,10 @@ pub fn add_fault(call: &mut Call, number: u64, random: &mut Random) {
         10 => call.tuning.strength = random.pick(&[1025, u64::MAX]),
         18 => spoil(&mut call.burst.black, &[256, 257, 65535], random),
         24 => call.tuning.spatial = random.pick(&[257, u64::MAX]),
+        25 => {
+            call.set_side(32);
+            call.tuning.spatial = random.pick(&[1, 26, 256]);
+        }
         11 => spoil(&mut call.burst.samples, &[4096, 65535], random),
         _ => spoil(&mut call.vectors, &[173, -173, i32::MIN], random),
     }

@@ -1,6 +1,7 @@
 //! Width, height, frame count and row length, and the lengths that follow from them.
 
 use crate::refusal::{require, Refusal};
+use crate::side::Side;
 
 #[derive(Clone, Copy, Debug, PartialEq, Eq)]
 pub struct Shape {
@@ -44,9 +45,9 @@ impl Shape {
         self.count * self.row_length * self.height
     }
 
-    /// "vectors (N−1)·2·(W/16+1)·(H/16+1)", 0 for a lone frame.
-    pub fn vectors_length(&self) -> u64 {
-        (self.count - 1) * 2 * self.tiles()
+    /// "vectors (N−1)·2·(W/16+1)·(H/16+1)", "per frame: 2·(W/32+1)·(H/32+1)", 0 for a lone frame.
+    pub fn vectors_length(&self, side: Side) -> u64 {
+        (self.count - 1) * 2 * self.tiles(side)
     }
 
     /// "output W·H".
@@ -60,8 +61,9 @@ impl Shape {
     }
 
     /// Tiles of level 0, and so of each plane.
-    pub fn tiles(&self) -> u64 {
-        (self.width / 16 + 1) * (self.height / 16 + 1)
+    pub fn tiles(&self, side: Side) -> u64 {
+        let side = side.length as u64;
+        (self.width / side + 1) * (self.height / side + 1)
     }
 }
 

@@ -1,5 +1,6 @@
-//! The two-way 16-point transform, exact in whole numbers, and rounding.
+//! The two-way transform of a tile, exact in whole numbers, and rounding.
 
+use crate::side::Side;
 use crate::square::Square;
 use std::ops::{Add, Mul, Sub};
 
@@ -67,52 +68,33 @@ impl Complex {
     }
 }
 
-/// Places of a line, and lines of a tile.
-pub const SIDE: usize = 16;
-
-/// "C(0..4) = 16384, 15137, 11585, 6270, 0; C(8−k) = −C(k), C(16−k) = C(k)", by index
-/// modulo 16.
-pub fn cosine(index: usize) -> i64 {
-    const FIRST: [i64; 5] = [16384, 15137, 11585, 6270, 0];
-    match index % 16 {
-        k @ 0..=4 => FIRST[k],
-        k @ 5..=8 => -FIRST[8 - k],
-        k => cosine(16 - k),
-    }
-}
-
-/// "S(k) = C(k+12)".
-pub fn sine(index: usize) -> i64 {
-    cosine(index + 12)
-}
-
 /// C(k) + i·S(k)
-pub fn turn(index: usize) -> Complex {
+pub fn turn(side: Side, index: usize) -> Complex {
     Complex {
-        re: cosine(index),
-        im: sine(index),
+        re: side.cosine(index),
+        im: side.sine(index),
     }
 }
 
 /// C(k) − i·S(k)
-fn turn_back(index: usize) -> Complex {
+fn turn_back(side: Side, index: usize) -> Complex {
     Complex {
-        re: cosine(index),
-        im: -sine(index),
+        re: side.cosine(index),
+        im: -side.sine(index),
     }
 }
 
 /// "B = two-way 16-point transform of T0−Tz with C(k) and −S(k), exact whole numbers of
-/// scale 2^28."
-pub fn forward<T: Whole>(tile: &Tile<T>) -> Bins<T> {
-    let turns = turns(turn_back);
+/// scale 2^28", or the 32-point one.
+pub fn forward<T: Whole>(side: Side, tile: &Tile<T>) -> Bins<T> {
+    let turns = turns(side, turn_back);
     let scaled = |value: &T, turn: Complex| turn.map(|&part| value.clone() * part);
     row_pass(&transposed_sums(tile, &turns, scaled), &turns)
 }
 
 /// The inverse sum with C(k) and +S(k), its real part, not divided.
-pub fn inverse<T: Whole>(bins: &Bins<T>) -> Tile<T> {
-    let turns = turns(turn);
+pub fn inverse<T: Whole>(side: Side, bins: &Bins<T>) -> Tile<T> {
+    let turns = turns(side, turn);
     let real = |bin: &Complex<T>, turn| Complex {
         re: bin.real(turn),
         im: T::default(),
@@ -122,8 +104,8 @@ pub fn inverse<T: Whole>(bins: &Bins<T>) -> Tile<T> {
 }
 
 /// What a bin is turned by at each place of a line.
-fn turns(turn: fn(usize) -> Complex) -> Square<Complex> {
-    Square::from_fn(SIDE, |bin, x| turn(bin * x))
+fn turns(side: Side, turn: fn(Side, usize) -> Complex) -> Square<Complex> {
+    Square::from_fn(side.length, |bin, x| turn(side, bin * x))
 }
 
 /// Transforms each row and transposes; nothing is rounded.
@@ -157,14 +139,17 @@ pub fn rounded(dividend: i64, divisor: u64) -> i64 {
 #[cfg(test)]
 mod tests {
     use super::*;
+    use crate::side::{SIXTEEN, THIRTY_TWO};
 
     /// The transform as one double sum per bin.
-    fn direct(bins: &Bins, turn: fn(usize) -> Complex) -> Bins {
-        Square::from_fn(SIDE, |u, v| {
+    fn direct(side: Side, bins: &Bins, turn: fn(Side, usize) -> Complex) -> Bins {
+        let places = 0..side.length;
+        Square::from_fn(side.length, |u, v| {
             let mut sum = Complex::default();
-            for y in 0..SIDE {
-                for x in 0..SIDE {
-                    sum = sum.plus(bins[(y, x)].times(turn(u * y).times(turn(v * x))));
+            for y in places.clone() {
+                for x in places.clone() {
+                    let factor = turn(side, u * y).times(turn(side, v * x));
+                    sum = sum.plus(bins[(y, x)].times(factor));
                 }
             }
             sum
@@ -174,24 +159,15 @@ mod tests {
     #[test]
     fn passes_equal_the_double_sum() {
         let sample = |y, x| ((y * 977 + x * x * 31) % 8191) as i64 - 4095;
-        let tile: Tile = Square::from_fn(SIDE, sample);
-        let bins = forward(&tile);
-        let input = tile.map(|&re| Complex { re, im: 0 });
-        assert_eq!(bins, direct(&input, turn_back));
-        let small = bins.map(|bin| bin.map(|part| part >> 28));
-        assert_eq!(inverse(&small), direct(&small, turn).map(|bin| bin.re));
-    }
-
-    #[test]
-    fn table_values() {
-        let cosines: Vec<i64> = (0..17).map(cosine).collect();
-        let half = [16384, 15137, 11585, 6270, 0, -6270, -11585, -15137];
-        let negated = half.map(|value| -value);
-        assert_eq!(cosines, [&half[..], &negated, &[16384]].concat());
-        assert_eq!(
-            (sine(0), sine(1), sine(4), sine(12)),
-            (0, 6270, 16384, -16384)
-        );
+        for side in [SIXTEEN, THIRTY_TWO] {
+            let tile: Tile = Square::from_fn(side.length, sample);
+            let bins = forward(side, &tile);
+            let input = tile.map(|&re| Complex { re, im: 0 });
+            assert_eq!(bins, direct(side, &input, turn_back));
+            let small = bins.map(|bin| bin.map(|part| part >> 28));
+            let sums = direct(side, &small, turn).map(|bin| bin.re);
+            assert_eq!(inverse(side, &small), sums);
+        }
     }
 
     #[test]

@@ -2,6 +2,7 @@
 
 use reference::burst::Burst;
 use reference::calls::{Answer, Call};
+use reference::fixed_calls;
 use reference::noise::{Curve, Noise, Tuning};
 use reference::random::Random;
 use reference::scenes::{add_fault, FAULTS};
@@ -21,20 +22,31 @@ fn good() -> Call {
             samples: [vec![0; 4096], vec![4; 4096]].concat(),
         },
         noise: Noise::Curve(curve),
-        tuning: Tuning::plain(1024),
+        tuning: Tuning::of_file(1024),
         vectors: vec![-172; 50],
         output: vec![9999; 4096],
         work_length: 8192,
     }
 }
 
-/// All sums of a tile are equal, so every offset is summed whole: 4 tiles of side 8 and 4 + 9 + 25 of side 16.
-fn flat_answer() -> Answer {
+/// All sums of a tile are equal, so every offset is summed whole: 4 tiles of side 8 and 4 + 9 of side 16 on the levels
+/// above, and these rows of level 0, whose tiles cover `area` pixels in all, each 16 off.
+fn flat_answer(area: u64, finest_rows: u64) -> Answer {
     Answer {
         number: 0,
-        residuals: [102400, 0, 0, 0, 0, 0, 0],
-        rows: 4 * 648 + 38 * 1344,
+        residuals: [16 * area, 0, 0, 0, 0, 0, 0],
+        rows: 4 * 648 + 13 * 1344 + finest_rows,
     }
+}
+
+/// Of 25 tiles of side 16.
+fn flat_16() -> Answer {
+    flat_answer(25 * 16 * 16, 25 * 1344)
+}
+
+/// Of 9 tiles of side 32.
+fn flat_32() -> Answer {
+    flat_answer(9 * 32 * 32, 9 * 2688)
 }
 
 fn with_fault(mut call: Call, number: u64) -> Call {
@@ -65,7 +77,7 @@ fn check_pairs(perform: fn(&mut Call) -> Answer, tested: &[u64]) {
 
 #[test]
 fn refusals_of_align() {
-    check_pairs(Call::align, &[1, 2, 3, 23, 4, 5, 7, 11]);
+    check_pairs(Call::align, &[1, 2, 3, 22, 23, 4, 5, 7, 11]);
 }
 
 #[test]
@@ -75,12 +87,12 @@ fn refusals_of_merge() {
 
 #[test]
 fn refusals_of_run() {
-    check_pairs(Call::run, &FAULTS[..14]);
+    check_pairs(Call::run, &FAULTS[..16]);
 }
 
 #[test]
 fn refusals_of_the_choosing_run() {
-    let tested: Vec<u64> = FAULTS[..14]
+    let tested: Vec<u64> = FAULTS[..16]
         .iter()
         .copied()
         .filter(|&fault| fault != 3)
@@ -109,7 +121,7 @@ fn the_choosing_run_is_run_with_its_choice() {
 
 #[test]
 fn untested_faults_are_accepted() {
-    let accepted = flat_answer();
+    let accepted = flat_16();
     for fault in [6, 8, 9, 10, 18, 24, 12] {
         let lent = with_fault(good(), fault);
         let mut call = lent.clone();
@@ -191,4 +203,39 @@ fn rows_of_equal_frames() {
     let rows = 2 * (4 * (8 + 80) + 38 * (48 + 16 + 80));
     assert_eq!((call.align().rows, call.run().rows), (rows, rows));
     assert_eq!(call.merge().rows, 0);
+}
+
+#[test]
+fn flat_frames_at_side_32() {
+    let mut call = good();
+    call.set_side(32);
+    assert_eq!(call.vectors, [-172; 18]);
+    assert_eq!(call.merge().number, 0);
+    assert_eq!(
+        (&call.vectors[..], &call.output),
+        (&[-172; 18][..], &vec![2; 4096])
+    );
+    // Align does not look at s.
+    call.tuning.spatial = 1;
+    assert_eq!(call.align(), flat_32());
+    assert_eq!(call.run().number, 25);
+    call.tuning.spatial = 0;
+    call.output.fill(9);
+    assert_eq!(call.run(), flat_32());
+    assert_eq!((call.vectors, call.output), (vec![0; 18], vec![2; 4096]));
+}
+
+/// At every side no tile sums more rows than the bound allows, and found vectors stay within 172.
+#[test]
+fn rows_and_vectors_stay_within_their_bounds() {
+    for (side, bound) in [(16, 1344), (32, 2688)] {
+        for mut call in fixed_calls::of_size(side, 128, 64, 3) {
+            let rows = call.align().rows;
+            // Level 0 has 64 by 32 pixels, level 1 half and level 2 an eighth of that; level 3 is 2 by 1.
+            let finest = (128 / side + 1) * (64 / side + 1) * bound;
+            let above = (5 * 3 + 2 * 2) * 1344 + 2 * 2 * 648;
+            assert!(rows <= (call.burst.shape.count - 1) * (finest + above));
+            assert!(call.vectors.iter().all(|part| part.abs() <= 172));
+        }
+    }
 }

@@ -31,7 +31,7 @@ fn words(values: &[u64]) -> Vec<u8> {
 /// The flat example as a call, with buffers holding 7.
 fn flat_call() -> Vec<u8> {
     let burst = [64, 64, 2, 0, 64, 0, 0, 0, 0];
-    let noise_and_tuning = [0, 0, 0, 4096f64.to_bits(), 1024, 0];
+    let noise_and_tuning = [0, 0, 0, 4096f64.to_bits(), 1024, 16, 0];
     let lengths = [8192, 50, 4096, 8192];
     let mut call = [words(&burst), words(&noise_and_tuning), words(&lengths)].concat();
     call.extend([[0, 0]; 4096].concat());
@@ -44,11 +44,14 @@ fn flat_call() -> Vec<u8> {
 #[test]
 fn lines() {
     assert_eq!(
-        printed(&["lengths"], b"64 64 2 16 64 5\n64 64 2 32 64 5\n"),
-        "50\n0\n"
+        printed(
+            &["lengths"],
+            b"64 64 2 16 64 5\n64 64 2 32 64 5\n64 64 2 64 64 5\n"
+        ),
+        "50\n18\n0\n"
     );
-    let noise = b"3ff0000000000000 0000000000000000 8 1600\n";
-    assert_eq!(printed(&["noise"], noise), "819200\n");
+    let noise = b"3ff0000000000000 0000000000000000 8 1600 16\n3ff0000000000000 0000000000000000 8 1600 32\n";
+    assert_eq!(printed(&["noise"], noise), "819200\n102400\n");
     let levels = b"i 400 3ff0000000000000 3ff0000000000000\nc 7ff8000000000000 0\n";
     assert_eq!(printed(&["levels"], levels), "4096 16384\nrefused 8\n");
 }

@@ -11,8 +11,8 @@ fn model(shot: u64, read: u64) -> NoiseModel {
     NoiseModel {
         levels: Levels { shot, read },
         tuning: Tuning {
-            strength: 0,
             spatial: 256,
+            ..Tuning::of_file(0)
         },
     }
 }

@@ -3,9 +3,10 @@
 use reference::align::{own_and_neighbour, CoarseIndices};
 use reference::exact;
 use reference::lone_sample;
-use reference::merge::{correction, inverse_rounded, root, shrunk, window};
+use reference::merge::{correction, inverse_rounded, root, shrunk};
 use reference::noise::{Curve, Levels, Noise, NoiseModel, Tuning};
 use reference::programs::{motion, stack};
+use reference::side::{SIXTEEN, THIRTY_TWO};
 use reference::square::Square;
 use reference::transform::{Bins, Complex, Tile};
 
@@ -61,10 +62,10 @@ fn black_levels_of_the_planes() {
 fn m4_and_m5_noise_numbers() {
     let model = |strength| NoiseModel {
         levels: levels(1024, 0),
-        tuning: Tuning::plain(strength),
+        tuning: Tuning::of_file(strength),
     };
-    assert_eq!(model(8).noise_number(1600), 819200);
-    assert_eq!(model(0).noise_number(1600), 0);
+    assert_eq!(model(8).noise_number(SIXTEEN, 1600), 819200);
+    assert_eq!(model(0).noise_number(SIXTEEN, 1600), 0);
 }
 
 #[test]
@@ -96,14 +97,19 @@ fn m10_and_m11_flat_bin() {
     assert_eq!(shrunk(bin, 1 << 32), shrunk_bin);
     let mut bins: Bins = Square::filled(16, Complex::default());
     bins[(0, 0)] = shrunk_bin;
-    assert_eq!(inverse_rounded(&bins), flat(-964));
-    assert_eq!(correction(&flat(-4), 1 << 32), flat(-964));
-    assert_eq!(correction(&flat(-4), 0), flat(0));
+    assert_eq!(inverse_rounded(SIXTEEN, &bins), flat(-964));
+    assert_eq!(correction(SIXTEEN, &flat(-4), 1 << 32), flat(-964));
+    assert_eq!(correction(SIXTEEN, &flat(-4), 0), flat(0));
 }
 
+/// The same tile at side 32: the bin is −4·1024 samples, −16384 quarters, and V is that number squared, so that half of
+/// the difference is taken.
 #[test]
-fn windows_add_up() {
-    assert!((0..8).all(|index| window(index) + window(index + 8) == 4096));
+fn flat_bin_at_side_32() {
+    let tile = |value| Square::filled(32, value);
+    assert_eq!(correction(THIRTY_TWO, &tile(-4), 1 << 28), tile(-512));
+    assert_eq!(root(&tile(100), 0), 3200);
+    assert_eq!(root(&tile(4095), 0), THIRTY_TWO.largest_root());
 }
 
 /// The flat example as a file with this strength.
@@ -188,4 +194,34 @@ fn exact_merge_of_a_lone_sample() {
     assert_eq!(setting.noise.levels, levels(0, 3422141));
     let value = exact::sample(&setting, 36, 36).decimal();
     assert!(value.starts_with("118.5510720579"), "{value}");
+}
+
+/// Five eighths do not hold at side 32.
+#[test]
+fn exact_merge_of_a_lone_sample_at_side_32() {
+    let mut call = lone_sample::WIDE.call();
+    assert_eq!(call.merge().number, 0);
+    assert_eq!(call.output[40 * 128 + 40], 393);
+    let value = exact::sample(&call.setting().unwrap(), 40, 40).decimal();
+    assert!(value.starts_with("393.7118421615"), "{value}");
+}
+
+/// The difference is 1 all over, and V, in sixteenths, is |Q|²: half of it is taken, and half of that for the two frames.
+#[test]
+fn exact_merge_of_flat_frames_at_side_32() {
+    let mut call = lone_sample::WIDE.call();
+    call.burst.shape.count = 2;
+    call.burst.samples = [vec![8; 128 * 128], vec![9; 128 * 128]].concat();
+    call.noise = Noise::Curve(Curve {
+        shot: 0.0,
+        read: 64.0,
+    });
+    call.set_side(32);
+    let setting = call.setting().unwrap();
+    for (row, column) in [(0, 0), (31, 32), (65, 127)] {
+        assert_eq!(
+            exact::sample(&setting, row, column).decimal(),
+            "8.250000000000"
+        );
+    }
 }

@@ -98,6 +98,19 @@ fn station_lengths() {
     }
 }
 
+#[test]
+fn station_lengths_at_side_32() {
+    let length = |width, height, count, number| {
+        station_length(Shape::packed(width, height, count), 32, number)
+    };
+    assert_eq!(
+        [4, 5, 6, 7].map(|number| length(64, 64, 2, number)),
+        [8192, 18, 4096, 8192]
+    );
+    assert_eq!(length(4096, 64, 8, 5), 7 * 2 * 129 * 3);
+    assert_eq!(length(64, 64, 1, 5), 0);
+}
+
 /// "The length question takes side and L, and is 0 where 22 or 23 would stand."
 #[test]
 fn station_lengths_of_padded_rows() {
@@ -117,6 +130,8 @@ fn station_lengths_of_padded_rows() {
         (64, 0),
         (64, 8),
         (64, 17),
+        (63, 32),
+        (64, 64),
     ] {
         assert_eq!(lengths(row_length, side), [0; 4]);
     }
@@ -124,16 +139,31 @@ fn station_lengths_of_padded_rows() {
 
 #[test]
 fn station_noise_numbers() {
-    assert_eq!(station_noise(1.0, 0.0, 8, 1600), 819200);
+    let noise = |shot, read, strength, root| station_noise(shot, read, strength, root, 16);
+    assert_eq!(noise(1.0, 0.0, 8, 1600), 819200);
     // One floor, after multiplying by t.
-    assert_eq!(station_noise(1.0 / 1024.0, 0.0, 15, 1), 0);
-    assert_eq!(station_noise(1.0 / 1024.0, 0.0, 16, 1), 1);
-    assert_eq!(station_noise(1.0 / 1024.0, 0.0, 2, 15), 1);
+    assert_eq!(noise(1.0 / 1024.0, 0.0, 15, 1), 0);
+    assert_eq!(noise(1.0 / 1024.0, 0.0, 16, 1), 1);
+    assert_eq!(noise(1.0 / 1024.0, 0.0, 2, 15), 1);
     let largest = 1024 * (65536 * 65520 + 16 * 4194304) / 16;
-    assert_eq!(station_noise(64.0, 4096.0, 1024, 65520), largest);
-    assert_eq!(station_noise(64.0, 4096.0, 1024, 65521), 0);
-    assert_eq!(station_noise(64.0, 4096.0, 1025, 65520), 0);
-    assert_eq!(station_noise(64.0, 4096.0, u64::MAX, u64::MAX), 0);
-    assert_eq!(station_noise(65.0, 4096.0, 1024, 65520), 0);
-    assert_eq!(station_noise(64.0, f64::NAN, 1024, 65520), 0);
+    assert_eq!(noise(64.0, 4096.0, 1024, 65520), largest);
+    assert_eq!(noise(64.0, 4096.0, 1024, 65521), 0);
+    assert_eq!(noise(64.0, 4096.0, 1025, 65520), 0);
+    assert_eq!(noise(64.0, 4096.0, u64::MAX, u64::MAX), 0);
+    assert_eq!(noise(65.0, 4096.0, 1024, 65520), 0);
+    assert_eq!(noise(64.0, f64::NAN, 1024, 65520), 0);
+}
+
+#[test]
+fn station_noise_numbers_of_sides() {
+    let noise = |strength, root, side| station_noise(64.0, 4096.0, strength, root, side);
+    let largest = 1024 * (65536 * 131040 + 32 * 4194304) / 128;
+    assert_eq!(noise(1024, 131040, 32), largest);
+    assert_eq!(noise(1024, 131041, 32), 0);
+    assert_eq!(noise(1025, 131040, 32), 0);
+    assert_eq!(station_noise(1.0 / 1024.0, 0.0, 127, 1, 32), 0);
+    assert_eq!(station_noise(1.0 / 1024.0, 0.0, 128, 1, 32), 1);
+    for side in [0, 8, 15, 17, 31, 33, 64, u64::MAX] {
+        assert_eq!(noise(1024, 1, side), 0);
+    }
 }

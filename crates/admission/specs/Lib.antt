@@ -1,3 +1,4 @@
 pub mod Refusals
+pub mod FilterLaws
 pub mod Admission
 pub mod AdmissionLaws

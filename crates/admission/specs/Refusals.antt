@@ -1,6 +1,7 @@
 -- The tests of each call, "in the order of the numbers".
-use Rattle.algebra.specs.Prelude.{List, [], _∷_, _++_, ℕ, length, ℤ}
-use Rattle.refusals.specs.Tests.{first}
+use Rattle.algebra.specs.Prelude.{_&&_, List, [], _∷_, _++_, ℕ, eqb, ltb, length, ℤ}
+use Rattle.refusals.specs.Numbers as no
+use Rattle.refusals.specs.Tests.{refuse, first}
 use Rattle.geometry.specs.declared.Shape.{Shape}
 use Rattle.limits.specs.Order.{alignShapeTests, mergeShapeTests}
 use Rattle.values.specs.Bounds.{sampleRefusal, vectorRefusal}
@@ -14,11 +15,15 @@ unfoldable pub alignRefusal : Shape → (reference : ℕ) → (samples : List �
 alignRefusal s reference samples vectors work =
     first (alignShapeTests s reference (length samples) (length vectors) (length work) ++ sampleRefusal s samples ∷ [])
 
--- 10, "18, a black level above 255, tested after 10" (request L3), "24, s above 256" (request L13) after both, and 11
-unfoldable pub contentTests : Shape → Tuning → (samples : List ℕ) → List ℕ
-contentTests s tuning samples = strengthRefusal (tuning .strength) ∷ blackRefusal (tuning .black) ∷ spatialRefusal (tuning .spatial) ∷ sampleRefusal s samples ∷ []
+-- refusal 25, "s not 0 with side 32" (request L13)
+unfoldable pub filterSideRefusal : (side s : ℕ) → ℕ
+filterSideRefusal side s = refuse no.filteredSide (eqb side 32 && ltb 0 s)
 
--- "run 1 to 11", and 18, 23 and 24 among them
+-- 10, "18, a black level above 255, tested after 10" (request L3), "24, s above 256" (request L13) after both, 25, and 11
+unfoldable pub contentTests : Shape → Tuning → (samples : List ℕ) → List ℕ
+contentTests s tuning samples = strengthRefusal (tuning .strength) ∷ blackRefusal (tuning .black) ∷ spatialRefusal (tuning .spatial) ∷ filterSideRefusal (s .side) (tuning .spatial) ∷ sampleRefusal s samples ∷ []
+
+-- "run 1 to 11", and 18 and 22 to 25 among them
 unfoldable pub runTests : Shape → (reference : ℕ) → Noise → Tuning → (samples : List ℕ) (vectors : List ℤ) (output : List ℕ) (work : List ℤ) → List ℕ
 runTests s reference noise tuning samples vectors output work =
     mergeShapeTests s reference (length samples) (length vectors) (length output) (length work) ++ (noiseTests noise ++ contentTests s tuning samples)

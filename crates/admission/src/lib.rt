@@ -2,7 +2,7 @@
 ghost use mathlib.Core.Path.{_≡_};
 ghost use Rattle.refusals.specs.Tests.{first};
 ghost use Rattle.geometry.specs.Fits.{Sampled};
-ghost use Rattle.admission.specs.Refusals.{alignRefusal, contentTests};
+ghost use Rattle.admission.specs.Refusals.{alignRefusal, filterSideRefusal, contentTests};
 ghost use Rattle.admission.specs.Admission.{RunTested};
 use geometry::Shape;
 use noise::Levels;
@@ -32,7 +32,17 @@ pub fn align_refusal(
     values::sample_refusal(shape, samples)
 }
 
-// Tests 10, 18, 24 and 11.
+// Refusal 25: the spatial filter is side 16's.
+fn filter_side_refusal(side: usize, s: u64) -> u64
+    ensures { λ r. ⌜ r ≡ filterSideRefusal side s ⌝ }
+{
+    if side != 32 {
+        return 0;
+    }
+    refusals::refuse(refusals::FILTERED_SIDE, 0 < s)
+}
+
+// Tests 10, 18, 24, 25 and 11.
 fn content_refusal(shape: Shape, tuning: Tuning, samples: &[u16]) -> u64
     requires { ⌜ Sampled shape (now samples) ⌝ }
     ensures { λ r. ⌜ r ≡ first (contentTests shape tuning (now (samples .entry))) ⌝ }
@@ -41,8 +51,9 @@ fn content_refusal(shape: Shape, tuning: Tuning, samples: &[u16]) -> u64
     let levels = tuning.black;
     let black = noise::black_refusal(levels);
     let spatial = noise::spatial_refusal(tuning.spatial);
+    let filtered = filter_side_refusal(shape.side, tuning.spatial);
     let sample = values::sample_refusal(shape, samples);
-    refusals::first(&[strength, black, spatial, sample])
+    refusals::first(&[strength, black, spatial, filtered, sample])
 }
 
 // A refusal's number, or 0 with the levels Ls and Lr: beside a refusal they are 0.
@@ -62,7 +73,7 @@ fn refused(number: u64) -> Tested
     }
 }
 
-// Tests 1 to 10, 18, 24 and 11: those that merge and run share.
+// Tests 1 to 10, 18, 22 to 25 and 11: those that merge and run share.
 pub fn run_refusal(
     shape: Shape,
     reference: usize,

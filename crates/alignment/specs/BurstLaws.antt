@@ -5,7 +5,7 @@ use native.Mathlib.Nat.{zero-add, zero-mul, suc-mul}
 use lib.ListN.{length, set, drop, replicate}
 use Rattle.geometry.specs.declared.Shape.{Shape}
 use Rattle.geometry.specs.Shape.{vectorLength}
-use Rattle.geometry.specs.Fits.{Allowed}
+use Rattle.geometry.specs.Fits.{Allowed, TileSide}
 use Rattle.geometry.specs.Read.{Image, sampleAt}
 use Rattle.geometry.specs.Tiles.{tileColumns, frameParts}
 use Rattle.geometry.specs.Vectors.{otherFrame, word, wordOf, vectorList}
@@ -39,7 +39,7 @@ two-pyramids s h = omega arith
 kept-less : {d l : List ℤ} {m n : ℕ} → m ≤ n → Kept d n l → Kept d m l
 kept-less h k = record { same = k .same; kept = λ i l. k .kept i (omega arith) }
 
-module _ {s : Shape} {reference other : Image} {d l : List ℤ} (ok : Allowed s) (r : Levels s reference 0 d) (b : Built s other (pyramidLength s) d l) where
+module _ {s : Shape} {reference other : Image} {d l : List ℤ} (ok : Allowed s) (sided : TileSide (s .side)) (r : Levels s reference 0 d) (b : Built s other (pyramidLength s) d l) where
   reference-stays : Levels s reference 0 l
   reference-stays = levels-kept r (kept-less (omega arith) (built-kept b))
 
@@ -52,12 +52,12 @@ module _ {s : Shape} {reference other : Image} {d l : List ℤ} (ok : Allowed s)
   pub one-aligned : {v v′ : List ℤ} {to : ℕ} {l′ : List ℤ} {t : Sums} → Aligned s l v to l′ v′ t → OneAligned s reference other v to v′ d l′ t
   unfolding vectorsOf residualOf rowsOf
   one-aligned {v} {v′} {to} a =
-      let rows = a .rows-are ∙ ap frameRows both-pairs in
+      let rows = a .rows-are ∙ ap (frameRows (s .side)) both-pairs in
       record {
-        vectors = a .vectors ∙ ap (λ p. written v to (word (tileColumns s) (field0 p)) (frameParts s)) both-pairs;
-        residual-is = a .residual-is ∙ ap residualSum both-pairs;
+        vectors = a .vectors ∙ ap (λ p. written v to (word (tileColumns s) (field0 (s .side) p)) (frameParts s)) both-pairs;
+        residual-is = a .residual-is ∙ ap (residualSum (s .side)) both-pairs;
         rows-are = rows;
-        few = omega (arith, rows, frame-rows-most ok reference other);
+        few = omega (arith, rows, frame-rows-most ok sided reference other);
         levels = levels-kept reference-stays (kept-less (omega arith) (a .kept));
         same = a .kept .same ∙ b .same;
       }

@@ -1,7 +1,7 @@
 -- Laws of fields: what a field's words are, and the bounds 4, 20, 84 and 172.
 use Rattle.algebra.specs.Prelude.{ℕ, zero, suc, _+_, _*_, _/_, _%_, _≤_, arith, lit≤, pos, natAbs}
 use Rattle.algebra.specs.Order.{abs-mul-le}
-use Rattle.geometry.specs.Tiles.{Level, level0, level1, level2, level3, Step, step1to0, step2to1, step3to2}
+use Rattle.geometry.specs.Tiles.{Level, finestLevel, level1, level2, level3, Step, finestStep, step2to1, step3to2}
 use Rattle.geometry.specs.declared.vectors.Vector.{Vector}
 use Rattle.search.specs.Vectors.{still, _times_}
 use Rattle.patches.specs.Bounds.{Within}
@@ -51,6 +51,6 @@ module _ (p : ℕ → Pair) where
   unfolding field1
   field1-within = finer-within level1 step2to1 _ _ (p 1) (field2 p) 20 field2-within
 
-  pub field0-within : (row column : ℕ) → Within (level0 .bound) (field0 p row column)
+  pub field0-within : (side row column : ℕ) → Within (finestLevel side .bound) (field0 side p row column)
   unfolding field0
-  field0-within = finer-within level0 step1to0 _ _ (p 0) (field1 p) 84 field1-within
+  field0-within side = finer-within (finestLevel side) (finestStep side) _ _ (p 0) (field1 p) 84 field1-within

@@ -1,6 +1,6 @@
 -- The fields of a frame's four levels, from the coarsest to the finest.
 use Rattle.algebra.specs.Prelude.{ℕ}
-use Rattle.geometry.specs.Tiles.{Level, level0, level1, level2, level3, step1to0, step2to1, step3to2, tileCount}
+use Rattle.geometry.specs.Tiles.{Level, finestLevel, level1, level2, level3, finestStep, step2to1, step3to2, tileCount}
 use Rattle.geometry.specs.Vectors.{VectorField}
 use Rattle.residuals.specs.Residual.{Pair}
 use Rattle.levels.specs.Fields.{coarsest, finer}
@@ -23,9 +23,10 @@ field2 p = finer level2 step3to2 (levelRows level3 (p 3)) (levelColumns level3 (
 unfoldable pub field1 : (ℕ → Pair) → VectorField
 field1 p = finer level1 step2to1 (levelRows level2 (p 2)) (levelColumns level2 (p 2)) (p 1) (field2 p)
 
-unfoldable pub field0 : (ℕ → Pair) → VectorField
-field0 p = finer level0 step1to0 (levelRows level1 (p 1)) (levelColumns level1 (p 1)) (p 0) (field1 p)
+-- level 0's with tiles of a side
+unfoldable pub field0 : (side : ℕ) → (ℕ → Pair) → VectorField
+field0 side p = finer (finestLevel side) (finestStep side) (levelRows level1 (p 1)) (levelColumns level1 (p 1)) (p 0) (field1 p)
 
 -- "the sum of finest residuals"
-unfoldable pub residualSum : (ℕ → Pair) → ℕ
-residualSum p = residuals level0 (p 0) (levelRows level0 (p 0)) (levelColumns level0 (p 0)) (field0 p)
+unfoldable pub residualSum : (side : ℕ) → (ℕ → Pair) → ℕ
+residualSum side p = residuals (finestLevel side) (p 0) (levelRows (finestLevel side) (p 0)) (levelColumns (finestLevel side) (p 0)) (field0 side p)

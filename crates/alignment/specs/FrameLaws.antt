@@ -15,28 +15,29 @@ use Rattle.alignment.specs.Frames.{levelImage, pairs}
 use Rattle.alignment.specs.Sites.{imageNumber, areaAt, pairsIn, Standing}
 
 -- a level of a pyramid by its number
-level-held : {shape : Shape} {frame : Image} {at : ℕ} {words : List ℤ} → Levels shape frame at words → (k : ℕ) → Holds words (at + offset shape (imageNumber k)) (levelSize (levelAt k) (shape .height)) (levelSize (levelAt k) (shape .width)) (levelImage k shape frame)
+level-held : {shape : Shape} {frame : Image} {at : ℕ} {words : List ℤ} → Levels shape frame at words → (k : ℕ) → Holds words (at + offset shape (imageNumber k)) (levelSize (levelAt (shape .side) k) (shape .height)) (levelSize (levelAt (shape .side) k) (shape .width)) (levelImage k shape frame)
+unfolding levelSize
 level-held h zero = h .holds0
 level-held h (suc zero) = h .holds1
 level-held h (suc (suc zero)) = h .holds2
 level-held h (suc (suc (suc k))) = h .holds3
 
-size-some : {size : ℕ} → AllowedSize size → (k : ℕ) → 0 < levelSize (levelAt k) size
+size-some : {size : ℕ} → AllowedSize size → (side k : ℕ) → 0 < levelSize (levelAt side k) size
 unfolding levelSize
-size-some ok zero = omega arith
-size-some ok (suc zero) = omega arith
-size-some ok (suc (suc zero)) = omega arith
-size-some ok (suc (suc (suc k))) = omega arith
+size-some ok side zero = omega arith
+size-some ok side (suc zero) = omega arith
+size-some ok side (suc (suc zero)) = omega arith
+size-some ok side (suc (suc (suc k))) = omega arith
 
-size-most : {size : ℕ} → AllowedSize size → (k : ℕ) → levelSize (levelAt k) size ≤ 4096
+size-most : {size : ℕ} → AllowedSize size → (side k : ℕ) → levelSize (levelAt side k) size ≤ 4096
 unfolding levelSize
-size-most ok zero = omega arith
-size-most ok (suc zero) = omega arith
-size-most ok (suc (suc zero)) = omega arith
-size-most ok (suc (suc (suc k))) = omega arith
+size-most ok side zero = omega arith
+size-most ok side (suc zero) = omega arith
+size-most ok side (suc (suc zero)) = omega arith
+size-most ok side (suc (suc (suc k))) = omega arith
 
 module _ {shape : Shape} {reference other : Image} {words : List ℤ} (ok : Allowed shape) (r : Levels shape reference 0 words) (o : Levels shape other (pyramidLength shape) words) where
-  first-held : (k : ℕ) → Holds words (offset shape (imageNumber k)) (levelSize (levelAt k) (shape .height)) (levelSize (levelAt k) (shape .width)) (levelImage k shape reference)
+  first-held : (k : ℕ) → Holds words (offset shape (imageNumber k)) (levelSize (levelAt (shape .side) k) (shape .height)) (levelSize (levelAt (shape .side) k) (shape .width)) (levelImage k shape reference)
   first-held k = rw zero-add at (level-held r k)
 
   pub frame-standing : Standing shape words
@@ -45,8 +46,8 @@ module _ {shape : Shape} {reference other : Image} {words : List ℤ} (ok : Allo
       record {
         stored = λ k.
             record {
-              reference = holds-source (size-some (ok .high) k) (size-some (ok .wide) k) (size-most (ok .high) k) (size-most (ok .wide) k) (first-held k);
-              other = holds-source (size-some (ok .high) k) (size-some (ok .wide) k) (size-most (ok .high) k) (size-most (ok .wide) k) (level-held o k);
+              reference = holds-source (size-some (ok .high) (shape .side) k) (size-some (ok .wide) (shape .side) k) (size-most (ok .high) (shape .side) k) (size-most (ok .wide) (shape .side) k) (first-held k);
+              other = holds-source (size-some (ok .high) (shape .side) k) (size-some (ok .wide) (shape .side) k) (size-most (ok .high) (shape .side) k) (size-most (ok .wide) (shape .side) k) (level-held o k);
             };
       }
 
@@ -55,6 +56,6 @@ module _ {shape : Shape} {reference other : Image} {words : List ℤ} (ok : Allo
   frame-pairs =
       fun-ext
       (λ k.
-      ap₂ (λ x y. record { height = levelSize (levelAt k) (shape .height); width = levelSize (levelAt k) (shape .width); reference = x; other = y })
-      (fun-ext (λ row. fun-ext (λ column. own-read (size-some (ok .high) k) (size-some (ok .wide) k) (first-held k) row column)))
-      (fun-ext (λ row. fun-ext (λ column. own-read (size-some (ok .high) k) (size-some (ok .wide) k) (level-held o k) row column))))
+      ap₂ (λ x y. record { height = levelSize (levelAt (shape .side) k) (shape .height); width = levelSize (levelAt (shape .side) k) (shape .width); reference = x; other = y })
+      (fun-ext (λ row. fun-ext (λ column. own-read (size-some (ok .high) (shape .side) k) (size-some (ok .wide) (shape .side) k) (first-held k) row column)))
+      (fun-ext (λ row. fun-ext (λ column. own-read (size-some (ok .high) (shape .side) k) (size-some (ok .wide) (shape .side) k) (level-held o k) row column))))

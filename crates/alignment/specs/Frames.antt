@@ -19,8 +19,8 @@ levelImage (suc (suc (suc k))) = image3
 -- "Outside reads are to mirror [..] in pyramid, residuals and merge tiles": a level's images of the reference and of another frame
 unfoldable pub pairs : Shape → (reference other : Image) → ℕ → Pair
 pairs shape reference other k =
-    let height = levelSize (levelAt k) (shape .height) in
-    let width = levelSize (levelAt k) (shape .width) in
+    let height = levelSize (levelAt (shape .side) k) (shape .height) in
+    let width = levelSize (levelAt (shape .side) k) (shape .width) in
     record {
       height = height;
       width = width;
@@ -30,7 +30,7 @@ pairs shape reference other k =
 
 -- a frame's vectors at level 0, and the sum of their residuals
 unfoldable pub vectorsOf : Shape → (reference other : Image) → VectorField
-vectorsOf shape reference other = field0 (pairs shape reference other)
+vectorsOf shape reference other = field0 (shape .side) (pairs shape reference other)
 
 unfoldable pub residualOf : Shape → (reference other : Image) → ℕ
-residualOf shape reference other = residualSum (pairs shape reference other)
+residualOf shape reference other = residualSum (shape .side) (pairs shape reference other)

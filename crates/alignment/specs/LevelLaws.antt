@@ -3,8 +3,9 @@ use mathlib.Core.Path.{_≡_, refl, sym, ap, ap₂, _∙_, subst, fun-ext}
 use Rattle.algebra.specs.Prelude.{List, ℕ, zero, suc, _+_, _*_, _≤_, _<_, arith, lit≤, length, getD, ℤ, pos, natAbs}
 use native.Mathlib.Nat.{le-trans}
 use Rattle.geometry.specs.declared.Shape.{Shape}
-use Rattle.geometry.specs.Fits.{Allowed}
-use Rattle.geometry.specs.Tiles.{Level, Step, level0, level3, levelSize, tileCount, tileRows, tileColumns, frameParts}
+use mathlib.Core.Logic.{⊎-elim}
+use Rattle.geometry.specs.Fits.{Allowed, TileSide}
+use Rattle.geometry.specs.Tiles.{Level, Step, finestLevel, level0, level3, levelSize, tileCount, tileRows, tileColumns, frameParts}
 use Rattle.geometry.specs.LevelTiles.{levelTiles}
 use Rattle.geometry.specs.TileLaws.{finest-tiles}
 use Rattle.pyramid.specs.ChainLaws.{words-end}
@@ -40,7 +41,7 @@ kept-more k j h = record { same = j .same ∙ k .same; kept = λ i l. j .kept i 
 
 -- a level's images end before the vectors begin
 area-before : (shape : Shape) (k : ℕ) → Before (areaAt shape k) (2 * pyramidLength shape)
-unfolding areaAt offset
+unfolding areaAt offset levelSize
 area-before shape zero =
     let e = rw (size0 (shape .height), size0 (shape .width)) at (words-end (levelSize level0 (shape .height)) (levelSize level0 (shape .width)) 0 (omega arith)) in
     record { reference = omega arith; other = omega arith }
@@ -55,26 +56,26 @@ area-before shape (suc (suc (suc k))) =
     record { reference = omega arith; other = omega arith }
 
 -- a level has some tiles, and few
-some-tiles : (size k : ℕ) → 0 < levelTiles (levelAt k) size
+some-tiles : (side size k : ℕ) → 0 < levelTiles (levelAt side k) size
 unfolding levelTiles tileCount
-some-tiles size zero = omega arith
-some-tiles size (suc zero) = omega arith
-some-tiles size (suc (suc zero)) = omega arith
-some-tiles size (suc (suc (suc k))) = omega arith
+some-tiles side size zero = omega arith
+some-tiles side size (suc zero) = omega arith
+some-tiles side size (suc (suc zero)) = omega arith
+some-tiles side size (suc (suc (suc k))) = omega arith
 
-few-tiles : (size k : ℕ) → size ≤ 4096 → levelTiles (levelAt k) size ≤ 257
+few-tiles : {side : ℕ} → TileSide side → (size k : ℕ) → size ≤ 4096 → levelTiles (levelAt side k) size ≤ 257
 unfolding levelTiles tileCount levelSize
-few-tiles size zero h = omega arith
-few-tiles size (suc zero) h = omega arith
-few-tiles size (suc (suc zero)) h = omega arith
-few-tiles size (suc (suc (suc k))) h = omega arith
+few-tiles sided size zero h = ⊎-elim (λ e. rw e (omega arith)) (λ e. rw e (omega arith)) (sided .is)
+few-tiles sided size (suc zero) h = omega arith
+few-tiles sided size (suc (suc zero)) h = omega arith
+few-tiles sided size (suc (suc (suc k))) h = omega arith
 
-pub grid-few : {shape : Shape} → Allowed shape → (k : ℕ) → Few (levelTiles (levelAt k) (shape .height)) (levelTiles (levelAt k) (shape .width))
-grid-few {shape} ok k =
+pub grid-few : {shape : Shape} → Allowed shape → TileSide (shape .side) → (k : ℕ) → Few (levelTiles (levelAt (shape .side) k) (shape .height)) (levelTiles (levelAt (shape .side) k) (shape .width))
+grid-few {shape} ok sided k =
     record {
-      some-columns = some-tiles (shape .width) k;
-      few-rows = few-tiles (shape .height) k (ok .high .most);
-      few-columns = few-tiles (shape .width) k (ok .wide .most);
+      some-columns = some-tiles (shape .side) (shape .width) k;
+      few-rows = few-tiles sided (shape .height) k (ok .high .most);
+      few-columns = few-tiles sided (shape .width) k (ok .wide .most);
     }
 
 module _ {d : List ℤ} {base : ℕ} where
@@ -110,27 +111,27 @@ unfolding gridAt
 level-ready {shape} {l} k at s ea eg =
     let b = area-before shape k in
     let behind = s .behind in
-    rw (ea, eg) (record { stored = s .standing .stored k; before = record { reference = le-trans (b .reference) behind; other = le-trans (b .other) behind }; few = grid-few (s .allowed) k; room = s .room })
+    rw (ea, eg) (record { stored = s .standing .stored k; before = record { reference = le-trans (b .reference) behind; other = le-trans (b .other) behind }; few = grid-few (s .allowed) (s .sided) k; room = s .room })
 
 -- a level is reached where its field is written
 reached : (shape : Shape) {d m l : List ℤ} (k at : ℕ) (g : Grid) (f : VectorField) (b : ℕ) → Kept d (2 * pyramidLength shape) m → 2 * pyramidLength shape ≤ at → after (gridAt shape k at) ≤ length m → g ≡ gridAt shape k at → l ≡ written m at (word (g .columns) f) (2 * (g .rows * g .columns)) → b ≤ 84 → ((row column : ℕ) → Within b (f row column)) → Reached d (2 * pyramidLength shape) g f l
 unfolding gridAt
 reached shape {d} {m} {l} k at g f b kept behind room eg el small w =
-    rw (el, eg) (reach (gridAt shape k at) f b kept behind (some-tiles (shape .height) k) (some-tiles (shape .width) k) room small w)
+    rw (el, eg) (reach (gridAt shape k at) f b kept behind (some-tiles (shape .side) (shape .height) k) (some-tiles (shape .side) (shape .width) k) room small w)
 
 -- and the next one's field is the definition's
-next-field : (shape : Shape) {d l : List ℤ} {g : Grid} {f : VectorField} (k c at : ℕ) → Reached d (2 * pyramidLength shape) g f l → Standing shape d → g ≡ gridAt shape c at → nextIn shape l k g ≡ finer (levelAt k) (stepTo k) (levelRows (levelAt c) (pairsIn shape d c)) (levelColumns (levelAt c) (pairsIn shape d c)) (pairsIn shape d k) f
+next-field : (shape : Shape) {d l : List ℤ} {g : Grid} {f : VectorField} (k c at : ℕ) → Reached d (2 * pyramidLength shape) g f l → Standing shape d → g ≡ gridAt shape c at → nextIn shape l k g ≡ finer (levelAt (shape .side) k) (stepTo (shape .side) k) (levelRows (levelAt (shape .side) c) (pairsIn shape d c)) (levelColumns (levelAt (shape .side) c) (pairsIn shape d c)) (pairsIn shape d k) f
 unfolding gridAt pairsIn levelRows levelColumns levelTiles areaAt pairIn
 next-field shape {d} {l} {g} {f} k c at r s e =
-    next (levelAt k) (stepTo k) (areaAt shape k) r (s .stored k) (area-before shape k)
-    ∙ ap (λ g. finer (levelAt k) (stepTo k) (g .rows) (g .columns) (pairsIn shape d k) f) e
+    next (levelAt (shape .side) k) (stepTo (shape .side) k) (areaAt shape k) r (s .stored k) (area-before shape k)
+    ∙ ap (λ g. finer (levelAt (shape .side) k) (stepTo (shape .side) k) (g .rows) (g .columns) (pairsIn shape d k) f) e
 
 -- and so are the rows summed for a level: h is its grid
-counted : (shape : Shape) {d l : List ℤ} {g h : Grid} {f : VectorField} (k c at to : ℕ) → Reached d (2 * pyramidLength shape) g f l → Standing shape d → g ≡ gridAt shape c at → h ≡ gridAt shape k to → nextRowsIn shape l k g (h .rows) (h .columns) ≡ finerRows (levelAt k) (stepTo k) (levelRows (levelAt c) (pairsIn shape d c)) (levelColumns (levelAt c) (pairsIn shape d c)) (pairsIn shape d k) f (levelRows (levelAt k) (pairsIn shape d k)) (levelColumns (levelAt k) (pairsIn shape d k))
+counted : (shape : Shape) {d l : List ℤ} {g h : Grid} {f : VectorField} (k c at to : ℕ) → Reached d (2 * pyramidLength shape) g f l → Standing shape d → g ≡ gridAt shape c at → h ≡ gridAt shape k to → nextRowsIn shape l k g (h .rows) (h .columns) ≡ finerRows (levelAt (shape .side) k) (stepTo (shape .side) k) (levelRows (levelAt (shape .side) c) (pairsIn shape d c)) (levelColumns (levelAt (shape .side) c) (pairsIn shape d c)) (pairsIn shape d k) f (levelRows (levelAt (shape .side) k) (pairsIn shape d k)) (levelColumns (levelAt (shape .side) k) (pairsIn shape d k))
 unfolding gridAt pairsIn levelRows levelColumns levelTiles areaAt pairIn
 counted shape {d} {l} {g} {h} {f} k c at to r s e i =
-    next-counted (levelAt k) (stepTo k) (areaAt shape k) r (s .stored k) (area-before shape k) (h .rows) (h .columns)
-    ∙ ap₂ (λ g h. finerRows (levelAt k) (stepTo k) (g .rows) (g .columns) (pairsIn shape d k) f (h .rows) (h .columns)) e i
+    next-counted (levelAt (shape .side) k) (stepTo (shape .side) k) (areaAt shape k) r (s .stored k) (area-before shape k) (h .rows) (h .columns)
+    ∙ ap₂ (λ g h. finerRows (levelAt (shape .side) k) (stepTo (shape .side) k) (g .rows) (g .columns) (pairsIn shape d k) f (h .rows) (h .columns)) e i
 
 -- where the vectors of levels 3, 2 and 1 stand
 abbrev pub site3 : Shape → Grid
@@ -189,13 +190,13 @@ module _ {shape : Shape} {d : List ℤ} (p : Prepared shape d) where
   unfolding rows1
   counted1 c g r ec e = counted shape 1 2 (after (site3 shape)) (after (site2 shape)) r (p .standing) ec e
 
-  counted0 : {l : List ℤ} {a : Area} (c g : Grid) → Reached d (2 * pyramidLength shape) c (field1 (pairsIn shape d)) l → c ≡ gridAt shape 1 (c .at) → a ≡ areaAt shape 0 → g ≡ gridAt shape 0 0 → finerRowsIn 0 l a c (g .rows) (g .columns) ≡ rows0 (pairsIn shape d)
+  counted0 : {l : List ℤ} {a : Area} (c g : Grid) → Reached d (2 * pyramidLength shape) c (field1 (pairsIn shape d)) l → c ≡ gridAt shape 1 (c .at) → a ≡ areaAt shape 0 → g ≡ gridAt shape 0 0 → finerRowsIn (shape .side) 0 l a c (g .rows) (g .columns) ≡ rows0 (shape .side) (pairsIn shape d)
   unfolding rows0 pairsIn
   counted0 {l} {a} c g r ec ea eg =
-      ap (λ a. finerRowsIn 0 l a c (g .rows) (g .columns)) ea ∙ counted shape 0 1 (c .at) 0 r (p .standing) ec eg
+      ap (λ a. finerRowsIn (shape .side) 0 l a c (g .rows) (g .columns)) ea ∙ counted shape 0 1 (c .at) 0 r (p .standing) ec eg
 
   -- and level 0's as well, from what stands there
-  pub finest-field : {l : List ℤ} (c : Grid) → Reached d (2 * pyramidLength shape) c (field1 (pairsIn shape d)) l → c ≡ gridAt shape 1 (c .at) → finestIn l (areaAt shape 0) c ≡ field0 (pairsIn shape d)
+  pub finest-field : {l : List ℤ} (c : Grid) → Reached d (2 * pyramidLength shape) c (field1 (pairsIn shape d)) l → c ≡ gridAt shape 1 (c .at) → finestIn (shape .side) l (areaAt shape 0) c ≡ field0 (shape .side) (pairsIn shape d)
   unfolding finestIn field0 pairsIn
   finest-field c r e = next-field shape 0 1 (c .at) r (p .standing) e
 
@@ -203,28 +204,28 @@ module _ {shape : Shape} {d : List ℤ} (p : Prepared shape d) where
   unfolding pairsIn
   finest-pair r = kept-pair (r .kept) (areaAt shape 0) (p .standing .stored 0) (area-before shape 0)
 
-  finest-sum : {l : List ℤ} (c : Grid) → Reached d (2 * pyramidLength shape) c (field1 (pairsIn shape d)) l → c ≡ gridAt shape 1 (c .at) → residuals level0 (pairIn l (areaAt shape 0)) (tileRows shape) (tileColumns shape) (finestIn l (areaAt shape 0) c) ≡ residualSum (pairsIn shape d)
+  finest-sum : {l : List ℤ} (c : Grid) → Reached d (2 * pyramidLength shape) c (field1 (pairsIn shape d)) l → c ≡ gridAt shape 1 (c .at) → residuals (finestLevel (shape .side)) (pairIn l (areaAt shape 0)) (tileRows shape) (tileColumns shape) (finestIn (shape .side) l (areaAt shape 0) c) ≡ residualSum (shape .side) (pairsIn shape d)
   unfolding residualSum levelRows levelColumns levelTiles pairsIn areaAt pairIn
   finest-sum c r e =
       let ok = p .allowed in
-      rw (← finest-tiles (ok .high), ← finest-tiles (ok .wide))
-      (ap₂ (λ q w. residuals level0 q (levelTiles level0 (shape .height)) (levelTiles level0 (shape .width)) w) (finest-pair r) (finest-field c r e))
+      rw (← finest-tiles (p .sided) (ok .high), ← finest-tiles (p .sided) (ok .wide))
+      (ap₂ (λ q w. residuals (finestLevel (shape .side)) q (levelTiles (finestLevel (shape .side)) (shape .height)) (levelTiles (finestLevel (shape .side)) (shape .width)) w) (finest-pair r) (finest-field c r e))
 
-  pub aligned : {l v v′ : List ℤ} {to n : ℕ} {t : Sums} {c g : Grid} {a : Area} → Coarse shape d l c n → a ≡ areaAt shape 0 → g ≡ gridAt shape 0 0 → to + frameParts shape ≤ length v → Finest l a c (g .rows) (g .columns) v to v′ t → Aligned shape d v to l v′ (record { residual = t .residual; rows = n + t .rows })
+  pub aligned : {l v v′ : List ℤ} {to n : ℕ} {t : Sums} {c g : Grid} {a : Area} → Coarse shape d l c n → a ≡ areaAt shape 0 → g ≡ gridAt shape 0 0 → to + frameParts shape ≤ length v → Finest (shape .side) l a c (g .rows) (g .columns) v to v′ t → Aligned shape d v to l v′ (record { residual = t .residual; rows = n + t .rows })
   unfolding gridAt frameRows
   aligned {l} {v} {v′} {to} {n} {t} {c} {g} {a} k ea eg fits fin =
       let ok = p .allowed in
       let r = k .reached in
       let ec = k .grid-is in
-      let f = rw (ea, eg, finest-tiles (ok .high), finest-tiles (ok .wide)) at fin in
+      let f = rw (ea, eg, finest-tiles (p .sided) (ok .high), finest-tiles (p .sided) (ok .wide)) at fin in
       let columns = tileColumns shape in
-      let w = field0 (pairsIn shape d) in
+      let w = field0 (shape .side) (pairsIn shape d) in
       let e : v′ ≡ written v to (word columns w) (frameParts shape) = f .vectors ∙ ap (λ w. written v to (word columns w) (frameParts shape)) (finest-field c r ec) in
       record {
         vectors = e;
         bound = λ i h.
             subst (λ z. natAbs z ≤ 172) (sym (ap (λ x. getD x (to + i) (pos 0)) e ∙ written-in v to (word columns w) (frameParts shape) (pos 0) fits i h))
-            (word-most columns w 172 (field0-within (pairsIn shape d)) i);
+            (word-most columns w 172 (field0-within (pairsIn shape d) (shape .side)) i);
         residual-is = f .residual-is ∙ finest-sum c r ec;
         most = fin .most;
         rows-are = ap₂ _+_ (k .rows-are) (fin .rows-are ∙ counted0 c g r ec ea eg);

@@ -3,9 +3,10 @@ use Rattle.algebra.specs.Prelude.{_≡_, ap, List, ℕ, _-_, _*_, _/_, _%_, _�
 use native.Mathlib.Nat.{mul-le-mul}
 use Rattle.algebra.specs.SumLaws.{sumN-cong, sumN-bound}
 use Rattle.geometry.specs.declared.Shape.{Shape}
-use Rattle.geometry.specs.Fits.{Allowed}
+use mathlib.Core.Logic.{⊎-elim}
+use Rattle.geometry.specs.Fits.{Allowed, TileSide}
 use Rattle.geometry.specs.Read.{Image, sampleAt}
-use Rattle.geometry.specs.Tiles.{Level, level0, level1, level2, level3, Step, step1to0, step2to1, step3to2, tileCount, levelSize}
+use Rattle.geometry.specs.Tiles.{Level, finestLevel, level1, level2, level3, Step, finestStep, step2to1, step3to2, tileCount, levelSize}
 use Rattle.geometry.specs.LevelTiles.{levelTiles}
 use Rattle.geometry.specs.Vectors.{VectorField, otherFrame}
 use Rattle.search.specs.Vectors.{still}
@@ -39,35 +40,50 @@ finer-rows-most l s coarseRows coarseColumns p f rows columns =
     sumN-bound (rows * columns) (84 * l .side) _
     (λ k h. candidate-rows-most (l .squared) p (levelTile l (k / columns) (k % columns)) (fromCoarse s coarseRows coarseColumns p (levelTile l (k / columns) (k % columns)) f (k / columns) (k % columns)))
 
-module _ {shape : Shape} (ok : Allowed shape) (reference other : Image) where
+-- those of level 0, with tiles of either side, of an image that is small
+finest-rows-most : (side : ℕ) → TileSide side → (p : ℕ → Pair) → p 0 .height ≤ 2048 → p 0 .width ≤ 2048 → rows0 side p ≤ 88769856
+unfolding rows0 levelRows levelColumns tileCount
+finest-rows-most side sided p high wide =
+    ⊎-elim
+    (λ e. rw e (omega (arith, most 16, mul-le-mul {n₁ = tileCount 8 (p 0 .height)} {m₁ = tileCount 8 (p 0 .width)} {n₂ = 257} {m₂ = 257} (omega arith) (omega arith))))
+    (λ e. rw e (omega (arith, most 32, mul-le-mul {n₁ = tileCount 16 (p 0 .height)} {m₁ = tileCount 16 (p 0 .width)} {n₂ = 129} {m₂ = 129} (omega arith) (omega arith))))
+    (sided .is)
+  where
+    most : (n : ℕ) → rows0 n p ≤ levelRows (finestLevel n) (p 0) * levelColumns (finestLevel n) (p 0) * (84 * n)
+    most n = finer-rows-most (finestLevel n) (finestStep n) (levelRows level1 (p 1)) (levelColumns level1 (p 1)) (p 0) (field1 p) (levelRows (finestLevel n) (p 0)) (levelColumns (finestLevel n) (p 0))
+
+module _ {shape : Shape} (ok : Allowed shape) (sided : TileSide (shape .side)) (reference other : Image) where
   -- how many tiles a level has, from how many it has each way
-  tiles : (k n : ℕ) → ((size : ℕ) → size ≤ 4096 → levelTiles (levelAt k) size ≤ n) → levelRows (levelAt k) (pairs shape reference other k) * levelColumns (levelAt k) (pairs shape reference other k) ≤ n * n
+  tiles : (k n : ℕ) → ((size : ℕ) → size ≤ 4096 → levelTiles (levelAt (shape .side) k) size ≤ n) → levelRows (levelAt (shape .side) k) (pairs shape reference other k) * levelColumns (levelAt (shape .side) k) (pairs shape reference other k) ≤ n * n
   unfolding levelRows levelColumns pairs levelTiles
   tiles k n most = mul-le-mul (most (shape .height) (ok .high .most)) (most (shape .width) (ok .wide .most))
 
+  finest : rows0 (shape .side) (pairs shape reference other) ≤ 88769856
+  unfolding pairs levelSize
+  finest = finest-rows-most (shape .side) sided (pairs shape reference other) (omega (arith, ok .high .most)) (omega (arith, ok .wide .most))
+
   pub frame-rows-most : rowsOf shape reference other ≤ frameRowsMost
-  unfolding rowsOf frameRows coarseRows rows0 rows1 rows2 rows3 levelTiles tileCount levelSize
+  unfolding rowsOf frameRows coarseRows rows1 rows2 rows3 levelTiles tileCount levelSize
   frame-rows-most =
       let p = pairs shape reference other in
       omega (
         arith,
-        tiles 0 257 (λ size h. omega arith),
         tiles 1 129 (λ size h. omega arith),
         tiles 2 33 (λ size h. omega arith),
         tiles 3 17 (λ size h. omega arith),
         coarsest-rows-most level3 (p 3) (levelRows level3 (p 3)) (levelColumns level3 (p 3)),
         finer-rows-most level2 step3to2 (levelRows level3 (p 3)) (levelColumns level3 (p 3)) (p 2) (field3 p) (levelRows level2 (p 2)) (levelColumns level2 (p 2)),
         finer-rows-most level1 step2to1 (levelRows level2 (p 2)) (levelColumns level2 (p 2)) (p 1) (field2 p) (levelRows level1 (p 1)) (levelColumns level1 (p 1)),
-        finer-rows-most level0 step1to0 (levelRows level1 (p 1)) (levelColumns level1 (p 1)) (p 0) (field1 p) (levelRows level0 (p 0)) (levelColumns level0 (p 0)),
+        finest,
       )
 
 -- "u64 room for the whole"
-pub burst-rows-most : {shape : Shape} → Allowed shape → (reference : ℕ) (samples : List ℕ) → rowsSummed shape reference samples ≤ burstRowsMost
+pub burst-rows-most : {shape : Shape} → Allowed shape → TileSide (shape .side) → (reference : ℕ) (samples : List ℕ) → rowsSummed shape reference samples ≤ burstRowsMost
 unfolding rowsSummed
-burst-rows-most {shape} ok reference samples =
+burst-rows-most {shape} ok sided reference samples =
     let few = ok .few in
     omega (
       arith,
-      sumN-bound (shape .count - 1) frameRowsMost _ (λ k h. frame-rows-most ok (sampleAt shape samples reference) (sampleAt shape samples (otherFrame reference k))),
+      sumN-bound (shape .count - 1) frameRowsMost _ (λ k h. frame-rows-most ok sided (sampleAt shape samples reference) (sampleAt shape samples (otherFrame reference k))),
       few,
     )

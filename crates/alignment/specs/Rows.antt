@@ -3,7 +3,7 @@ use Rattle.algebra.specs.Prelude.{List, ℕ, _+_, _-_}
 use Rattle.algebra.specs.Sums.{sumN}
 use Rattle.geometry.specs.declared.Shape.{Shape}
 use Rattle.geometry.specs.Read.{Image, sampleAt}
-use Rattle.geometry.specs.Tiles.{level0, level1, level2, level3, step1to0, step2to1, step3to2}
+use Rattle.geometry.specs.Tiles.{finestLevel, level1, level2, level3, finestStep, step2to1, step3to2}
 use Rattle.geometry.specs.Vectors.{otherFrame}
 use Rattle.residuals.specs.Residual.{Pair}
 use Rattle.fields.specs.LevelSums.{coarsestRows, finerRows}
@@ -20,17 +20,18 @@ rows2 p = finerRows level2 step3to2 (levelRows level3 (p 3)) (levelColumns level
 unfoldable pub rows1 : (ℕ → Pair) → ℕ
 rows1 p = finerRows level1 step2to1 (levelRows level2 (p 2)) (levelColumns level2 (p 2)) (p 1) (field2 p) (levelRows level1 (p 1)) (levelColumns level1 (p 1))
 
-unfoldable pub rows0 : (ℕ → Pair) → ℕ
-rows0 p = finerRows level0 step1to0 (levelRows level1 (p 1)) (levelColumns level1 (p 1)) (p 0) (field1 p) (levelRows level0 (p 0)) (levelColumns level0 (p 0))
+unfoldable pub rows0 : (side : ℕ) → (ℕ → Pair) → ℕ
+rows0 side p =
+    finerRows (finestLevel side) (finestStep side) (levelRows level1 (p 1)) (levelColumns level1 (p 1)) (p 0) (field1 p) (levelRows (finestLevel side) (p 0)) (levelColumns (finestLevel side) (p 0))
 
 unfoldable pub coarseRows : (ℕ → Pair) → ℕ
 coarseRows p = rows3 p + rows2 p + rows1 p
 
-unfoldable pub frameRows : (ℕ → Pair) → ℕ
-frameRows p = coarseRows p + rows0 p
+unfoldable pub frameRows : (side : ℕ) → (ℕ → Pair) → ℕ
+frameRows side p = coarseRows p + rows0 side p
 
 unfoldable pub rowsOf : Shape → (reference other : Image) → ℕ
-rowsOf shape reference other = frameRows (pairs shape reference other)
+rowsOf shape reference other = frameRows (shape .side) (pairs shape reference other)
 
 -- all other frames of a burst
 unfoldable pub rowsSummed : (s : Shape) → (reference : ℕ) → (samples : List ℕ) → ℕ

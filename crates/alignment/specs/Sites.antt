@@ -1,8 +1,8 @@
 -- Inner vocabulary: where the levels' images and vectors stand in the work area: the reference's pyramid, the other frame's, then the vectors of levels 3 to 1.
 use Rattle.algebra.specs.Prelude.{_≡_, List, ℕ, zero, suc, _+_, _*_, _≤_, _<_, length, getD, ℤ, pos, natAbs}
 use Rattle.geometry.specs.declared.Shape.{Shape}
-use Rattle.geometry.specs.Fits.{Allowed}
-use Rattle.geometry.specs.Tiles.{level0, levelSize, tileColumns, frameParts}
+use Rattle.geometry.specs.Fits.{Allowed, TileSide}
+use Rattle.geometry.specs.Tiles.{finestLevel, levelSize, tileColumns, frameParts}
 use Rattle.geometry.specs.LevelTiles.{levelTiles}
 use Rattle.pyramid.specs.Layout.{offset, pyramidLength, alignLength}
 use Rattle.pyramid.specs.WordsLaws.{Kept}
@@ -36,12 +36,12 @@ areaAt shape k =
     record {
       reference = offset shape (imageNumber k);
       other = pyramidLength shape + offset shape (imageNumber k);
-      height = levelSize (levelAt k) (shape .height);
-      width = levelSize (levelAt k) (shape .width);
+      height = levelSize (levelAt (shape .side) k) (shape .height);
+      width = levelSize (levelAt (shape .side) k) (shape .width);
     }
 
 unfoldable pub gridAt : Shape → ℕ → (at : ℕ) → Grid
-gridAt shape k at = record { at = at; rows = levelTiles (levelAt k) (shape .height); columns = levelTiles (levelAt k) (shape .width) }
+gridAt shape k at = record { at = at; rows = levelTiles (levelAt (shape .side) k) (shape .height); columns = levelTiles (levelAt (shape .side) k) (shape .width) }
 
 abbrev pub after : Grid → ℕ
 after g = g .at + 2 * (g .rows * g .columns)
@@ -56,15 +56,16 @@ pub record Standing (shape : Shape) (words : List ℤ) : Type 0 where
 
 -- the field of a level from 2 to 0, and the rows summed for it, from what stands there
 abbrev pub nextIn : Shape → List ℤ → (level : ℕ) → Grid → VectorField
-nextIn shape words level c = finer (levelAt level) (stepTo level) (c .rows) (c .columns) (pairsIn shape words level) (fieldAt words (c .at) (c .columns))
+nextIn shape words level c = finer (levelAt (shape .side) level) (stepTo (shape .side) level) (c .rows) (c .columns) (pairsIn shape words level) (fieldAt words (c .at) (c .columns))
 
 abbrev pub nextRowsIn : Shape → List ℤ → (level : ℕ) → Grid → (rows columns : ℕ) → ℕ
 nextRowsIn shape words level c rows columns =
-    finerRows (levelAt level) (stepTo level) (c .rows) (c .columns) (pairsIn shape words level) (fieldAt words (c .at) (c .columns)) rows columns
+    finerRows (levelAt (shape .side) level) (stepTo (shape .side) level) (c .rows) (c .columns) (pairsIn shape words level) (fieldAt words (c .at) (c .columns)) rows columns
 
 -- behind the pyramids there is room for a level's vectors from `at` on
 pub record Site (shape : Shape) (words : List ℤ) (level at : ℕ) : Type 0 where
   pub allowed : Allowed shape
+  pub sided : TileSide (shape .side)
   pub standing : Standing shape words
   pub behind : 2 * pyramidLength shape ≤ at
   pub room : after (gridAt shape level at) ≤ length words
@@ -77,6 +78,7 @@ pub record LaidAt (shape : Shape) (level at : ℕ) (f : VectorField) (n : (rows 
 -- behind the pyramids there is room for the vectors of all levels
 pub record Prepared (shape : Shape) (words : List ℤ) : Type 0 where
   pub allowed : Allowed shape
+  pub sided : TileSide (shape .side)
   pub standing : Standing shape words
   pub room : alignLength shape ≤ length words
 
@@ -97,9 +99,9 @@ pub record Coarse (shape : Shape) (words words′ : List ℤ) (g : Grid) (rows :
 -- the vectors at level 0 are written from `to` on, with parts of at most 172, the sum of their residuals and the rows summed are answered, and the
 -- pyramids stay
 pub record Aligned (shape : Shape) (words : List ℤ) (d : List ℤ) (to : ℕ) (words′ l : List ℤ) (r : Sums) : Type 0 where
-  pub vectors : l ≡ written d to (word (tileColumns shape) (field0 (pairsIn shape words))) (frameParts shape)
-  pub bound : (k : ℕ) → k < frameParts shape → natAbs (getD l (to + k) (pos 0)) ≤ level0 .bound
-  pub residual-is : r .residual ≡ residualSum (pairsIn shape words)
+  pub vectors : l ≡ written d to (word (tileColumns shape) (field0 (shape .side) (pairsIn shape words))) (frameParts shape)
+  pub bound : (k : ℕ) → k < frameParts shape → natAbs (getD l (to + k) (pos 0)) ≤ finestLevel (shape .side) .bound
+  pub residual-is : r .residual ≡ residualSum (shape .side) (pairsIn shape words)
   pub most : r .residual ≤ tilesMost * residualMost
-  pub rows-are : r .rows ≡ frameRows (pairsIn shape words)
+  pub rows-are : r .rows ≡ frameRows (shape .side) (pairsIn shape words)
   pub kept : Kept words (2 * pyramidLength shape) words′

@@ -1,6 +1,7 @@
 // The vectors of every other frame of a burst.
 ghost use Prim.Native.Nat.{_+_, _≤_};
 ghost use lib.ListN.{length};
+ghost use Rattle.geometry.specs.Fits.{TileSide};
 ghost use Rattle.geometry.specs.Read.{sampleAt};
 ghost use Rattle.geometry.specs.Tiles.{frameParts};
 ghost use Rattle.pyramid.specs.Layout.{alignLength, Levels};
@@ -29,7 +30,7 @@ fn align_frame(
     to: usize,
     work: &mut [i64],
 ) -> Sums
-    requires { ⌜ record { readable : Frame shape frame (now samples); levels : Levels shape (sampleAt shape (now samples) reference) 0 (now work); room : alignLength shape ≤ length (now work); vectors-room : to + frameParts shape ≤ length (now vectors) } ⌝ }
+    requires { ⌜ record { readable : Frame shape frame (now samples); sided : TileSide (shape .side); levels : Levels shape (sampleAt shape (now samples) reference) 0 (now work); room : alignLength shape ≤ length (now work); vectors-room : to + frameParts shape ≤ length (now vectors) } ⌝ }
     ensures { λ r. ⌜ OneAligned shape (sampleAt shape (now (samples .entry)) reference) (sampleAt shape (now (samples .entry)) frame) (now (vectors .entry)) to (now (vectors .exit)) (now (work .entry)) (now (work .exit)) r ⌝ }
 {
     let at = pyramid::offset(shape, 6);

@@ -2,7 +2,7 @@
 ghost use mathlib.Core.Path.{_≡_};
 ghost use Prim.Native.Nat.{_+_, _*_, _≤_, _<_, _^_};
 ghost use lib.ListN.{length};
-ghost use Rattle.geometry.specs.Fits.{Allowed};
+ghost use Rattle.geometry.specs.Fits.{Allowed, TileSide};
 ghost use Rattle.geometry.specs.Tiles.{level3, frameParts};
 ghost use Rattle.levels.specs.Fields.{levelAt, coarsest};
 ghost use Rattle.levels.specs.Grids.{Vectors};
@@ -34,9 +34,9 @@ fn image_number(level: usize) -> usize
 }
 
 // How many of the frame's samples one of a level's stands for, each way.
-fn scale_of(level: usize) -> usize
+fn scale_of(side: usize, level: usize) -> usize
     requires { ⌜ level ≤ 3 ⌝ }
-    ensures { λ r. ⌜ (r ≡ levelAt level .scale) × (0 < r) ⌝ }
+    ensures { λ r. ⌜ (r ≡ levelAt side level .scale) × (0 < r) ⌝ }
 {
     if level == 0 {
         return 2;
@@ -54,7 +54,7 @@ fn area_at(shape: Shape, level: usize) -> Area
 {
     let from = pyramid::offset(shape, image_number(level));
     let length = pyramid::offset(shape, 6);
-    let scale = scale_of(level);
+    let scale = scale_of(shape.side, level);
     Area {
         reference: from,
         other: length + from,
@@ -65,11 +65,11 @@ fn area_at(shape: Shape, level: usize) -> Area
 
 // A level's tiles, whose vectors stand from `at` on.
 fn grid_at(shape: Shape, level: usize, at: usize) -> Grid
-    requires { ⌜ (Allowed shape) × (level ≤ 3) ⌝ }
+    requires { ⌜ record { allowed : Allowed shape; sided : TileSide (shape .side); level-most : level ≤ 3 } ⌝ }
     ensures { λ r. ⌜ r ≡ gridAt shape level at ⌝ }
 {
-    let half = half_of(level);
-    let scale = scale_of(level);
+    let half = half_of(shape.side, level);
+    let scale = scale_of(shape.side, level);
     Grid {
         at: at,
         rows: tile_count(half, shape.height / scale),
@@ -106,7 +106,16 @@ fn next_level(shape: Shape, work: &mut [i64], level: usize, coarse: Grid, at: us
 {
     let area = area_at(shape, level);
     let grid = grid_at(shape, level, at);
-    let rows = finer_field(&mut *work, area, level, coarse, at, grid.rows, grid.columns);
+    let rows = finer_field(
+        &mut *work,
+        area,
+        shape.side,
+        level,
+        coarse,
+        at,
+        grid.rows,
+        grid.columns,
+    );
     Reach {
         grid: grid,
         rows: rows,
@@ -143,6 +152,7 @@ pub fn align_levels(shape: Shape, work: &mut [i64], vectors: &mut [i32], to: usi
     let finest = finest_field(
         &*work,
         area,
+        shape.side,
         coarse,
         &mut *vectors,
         to,

@@ -1,28 +1,48 @@
--- The Wiener step in double gives the recipe's whole numbers where its quotients are certain: B is below 2^51, and |Q|² + V at most 2^53.
-use Rattle.algebra.specs.Prelude.{_≡_, refl, sym, ap, ap₂, subst, _∙_, Bool, true, false, [], _∷_, ℕ, _*_, _^_, _≤_, _<_, arith, lit≤, lit<, getD, ℤ, pos, natAbs}
-use native.Mathlib.Nat.{le-trans, mul-le-mul, add-le-add}
+-- The Wiener step in double gives the recipe's whole numbers where its quotients are certain: B is below 5·2^49, and |Q|² + V at most 2^53.
+use Rattle.algebra.specs.Prelude.{_≡_, refl, sym, ap, ap₂, subst, _∙_, Bool, true, false, [], _∷_, ℕ, _+_, _*_, _/_, _^_, _≤_, _<_, arith, lit≤, lit<, getD, ℤ, pos, natAbs}
+use native.Mathlib.Nat.{le-trans, lt-of-le-of-lt, mul-le-mul, add-le-add}
 use Prim.Native.Nat.{zero-le}
 use lib.Ieee.{Float, nan, binary64, ofInt, mul, div, unlike}
+use Rattle.algebra.specs.Nearest.{away}
 use Rattle.floats.specs.Wholes.{Whole, negative, whole-of, whole-product, whole-sum}
 use Rattle.floats.specs.QuotientLaws.{slightlyMore, certain, quotient-again}
 use Rattle.floats.specs.ProductLaws.{product-away}
+use Rattle.recipe.specs.Side.{Side}
 use Rattle.recipe.specs.Tables.{side16}
+use Rattle.recipe.specs.Tables32.{side32}
 use Rattle.recipe.specs.Correction.{power, quantized, wiener, filtered}
-use Rattle.spectrum.specs.Magnitudes.{binMost, gainMost, noiseMost}
+use Rattle.spectrum.specs.Magnitudes.{binMost, longBinMost, gainMost, noiseMost}
 use Rattle.spectrum.specs.RoundingLaws.{away-most}
 use Rattle.spectrum.specs.WienerLaws.{wiener-is}
-use Rattle.bins.specs.Doubles.{nearestWhole, quantizedIn, powerIn, quotientsIn, gainsIn, Sure, realGainIn}
+use Rattle.bins.specs.Doubles.{nearestWhole, powerIn, quantizedBy, quotientsBy, gainsBy, SureBy, realGainBy}
 
 -- ---- Q
 
-module _ (b : ℤ) (most : natAbs b ≤ binMost) where
-  pub quantized-is : quantizedIn (ofInt binary64 b) ≡ ofInt binary64 (quantized side16 b)
-  unfolding quantizedIn nearestWhole quantized side16
-  quantized-is = product-away b 24 (omega arith) (lit< tt) (lit≤ tt)
+-- a side whose quantum is 2^k, and whose parts of B are at most `most`, so that those of Q are at most gainMost
+pub record Quanta (s : Side) (k most : ℕ) : Type 0 where
+  pub quantum-is : s .quantum ≡ 2 ^ k
+  pub k-above : 1 < k
+  pub k-most : k ≤ 900
+  pub below : most < 5 * 2 ^ 49
+  pub parts : (2 * most + s .quantum) / (2 * s .quantum) ≤ gainMost
 
-  pub quantized-most : natAbs (quantized side16 b) ≤ gainMost
-  unfolding quantized side16
-  quantized-most = le-trans (away-most b (2 ^ 24) binMost (lit< tt) most) (lit≤ tt)
+pub quanta16 : Quanta side16 24 binMost
+unfolding side16
+quanta16 = record { quantum-is = refl; k-above = lit< tt; k-most = lit≤ tt; below = lit< tt; parts = lit≤ tt }
+
+pub quanta32 : Quanta side32 26 longBinMost
+unfolding side32
+quanta32 = record { quantum-is = refl; k-above = lit< tt; k-most = lit≤ tt; below = lit< tt; parts = lit≤ tt }
+
+module _ {s : Side} {k bins : ℕ} (f : Quanta s k bins) (b : ℤ) (most : natAbs b ≤ bins) where
+  pub quantized-is : quantizedBy k (ofInt binary64 b) ≡ ofInt binary64 (quantized s b)
+  unfolding quantizedBy nearestWhole quantized
+  quantized-is =
+      product-away b k (lt-of-le-of-lt most (f .below)) (f .k-above) (f .k-most) ∙ ap (λ m. ofInt binary64 (away b m)) (sym (f .quantum-is))
+
+  pub quantized-most : natAbs (quantized s b) ≤ gainMost
+  unfolding quantized
+  quantized-most = le-trans (away-most b (s .quantum) bins (s .quantum-above) most) (f .parts)
 
 -- ---- |Q|² + V
 
@@ -68,34 +88,34 @@ power-swapped {d} v q r p =
     let e : power v q r ≡ power v r q = omega arith in
     subst (λ n. Whole d false n) e p
 
-module _ (v : ℕ) (above : 0 < v) (small : v ≤ noiseMost) where
+module _ {s : Side} {k bins : ℕ} (f : Quanta s k bins) (v : ℕ) (above : 0 < v) (small : v ≤ noiseMost) where
   abbrev v' : Float
   v' = ofInt binary64 (pos v)
 
-  module _ (a b : ℤ) (m : natAbs a ≤ binMost) (n : natAbs b ≤ binMost) where
+  module _ (a b : ℤ) (m : natAbs a ≤ bins) (n : natAbs b ≤ bins) where
     abbrev q : ℤ
-    q = quantized side16 a
+    q = quantized s a
 
     abbrev r : ℤ
-    r = quantized side16 b
+    r = quantized s b
 
     abbrev ratio : Float
     ratio = div binary64 (weight v) (powerIn v' (ofInt binary64 q) (ofInt binary64 r))
 
-    quotients-are : quotientsIn v' (weight v) (ofInt binary64 a) (ofInt binary64 b) ≡ mul binary64 (ofInt binary64 q) ratio ∷ mul binary64 (ofInt binary64 r) ratio ∷ []
-    unfolding quotientsIn
-    quotients-are = rw (quantized-is a m, quantized-is b n) refl
+    quotients-are : quotientsBy k v' (weight v) (ofInt binary64 a) (ofInt binary64 b) ≡ mul binary64 (ofInt binary64 q) ratio ∷ mul binary64 (ofInt binary64 r) ratio ∷ []
+    unfolding quotientsBy
+    quotients-are = rw (quantized-is f a m, quantized-is f b n) refl
 
-    pub gains-are : Sure v' (weight v) (ofInt binary64 a) (ofInt binary64 b) → gainsIn v' (weight v) (ofInt binary64 a) (ofInt binary64 b) ≡ ofInt binary64 (filtered side16 v a b) ∷ ofInt binary64 (filtered side16 v b a) ∷ []
-    unfolding gainsIn filtered
-    gains-are s =
-        let l = quantized-most a m in
-        let o = quantized-most b n in
+    pub gains-are : SureBy k v' (weight v) (ofInt binary64 a) (ofInt binary64 b) → gainsBy k v' (weight v) (ofInt binary64 a) (ofInt binary64 b) ≡ ofInt binary64 (filtered s v a b) ∷ ofInt binary64 (filtered s v b a) ∷ []
+    unfolding gainsBy filtered
+    gains-are c =
+        let l = quantized-most f a m in
+        let o = quantized-most f b n in
         let p = power-is v q r above small l o in
         ap (λ x. nearestWhole (getD x 0 nan) ∷ nearestWhole (getD x 1 nan) ∷ []) quotients-are
-        ∙ ap₂ (λ x y. x ∷ y ∷ []) (gain-is v q r above small l o p (subst (λ x. certain (getD x 0 nan) ≡ true) quotients-are (s .first)))
-        (gain-is v r q above small o l (power-swapped v q r p) (subst (λ x. certain (getD x 1 nan) ≡ true) quotients-are (s .second)))
+        ∙ ap₂ (λ x y. x ∷ y ∷ []) (gain-is v q r above small l o p (subst (λ x. certain (getD x 0 nan) ≡ true) quotients-are (c .first)))
+        (gain-is v r q above small o l (power-swapped v q r p) (subst (λ x. certain (getD x 1 nan) ≡ true) quotients-are (c .second)))
 
-  pub real-gain-is : (a : ℤ) → natAbs a ≤ binMost → Sure v' (weight v) (ofInt binary64 a) (ofInt binary64 (pos 0)) → realGainIn v' (weight v) (ofInt binary64 a) ≡ ofInt binary64 (filtered side16 v a (pos 0))
-  unfolding realGainIn
-  real-gain-is a m s = ap (λ g. getD g 0 nan) (gains-are a (pos 0) m zero-le s)
+  pub real-gain-is : (a : ℤ) → natAbs a ≤ bins → SureBy k v' (weight v) (ofInt binary64 a) (ofInt binary64 (pos 0)) → realGainBy k v' (weight v) (ofInt binary64 a) ≡ ofInt binary64 (filtered s v a (pos 0))
+  unfolding realGainBy
+  real-gain-is a m c = ap (λ g. getD g 0 nan) (gains-are a (pos 0) m zero-le c)

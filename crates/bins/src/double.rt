@@ -18,7 +18,7 @@ const BY_2_24: f64 = 0.000000059604644775390638234889800848443;
 const SLIGHTLY_LESS: f64 = 0.99999999999999822364316059974954;
 
 // The whole number nearest to x.
-fn nearest_whole(x: f64) -> f64
+pub fn nearest_whole(x: f64) -> f64
     ensures { λ r. ⌜ r ≡ nearestWhole x ⌝ }
 {
     x + MIDDLE - MIDDLE
@@ -58,14 +58,14 @@ pub fn real_gain(v: f64, w: f64, a: f64) -> f64
 }
 
 // Whether a quotient and what is slightly less, on either side of the exact one, are rounded to one whole number.
-fn no_doubt(x: f64) -> bool
+pub fn no_doubt(x: f64) -> bool
     ensures { λ r. ⌜ r ≡ certain x ⌝ }
 {
     x + MIDDLE == x * SLIGHTLY_LESS + MIDDLE
 }
 
 // Whether both are true.
-fn both(a: bool, b: bool) -> bool
+pub fn both(a: bool, b: bool) -> bool
     ensures { λ r. ⌜ (r ≡ true → (a ≡ true) × (b ≡ true)) ⌝ }
 {
     if a {

@@ -37,7 +37,7 @@ module _ (lengthTest : Shape → ℕ) (file : List ℕ) where
       (λ measured. then-sound AllRows Ends (framesOf (header .shape) body) _ (ended-sound (SmallRows count width body) (rowLines count width body) (rows-sound count width body))
       (λ samples rest r. (
         record {
-          grammar = record { afterNames = h .afterNames; afterValues = body; named = h .named; valued = h .valued; packed = h .packed; sampled = r .0 .0 };
+          grammar = record { afterNames = h .afterNames; afterValues = body; named = h .named; valued = h .valued; sixteen = h .sixteen; packed = h .packed; sampled = r .0 .0 };
           header = h .passed;
           measured = measured;
           small = record { most = above-at 4095 samples (r .0 .1) };
@@ -58,5 +58,5 @@ module _ (lengthTest : Shape → ℕ) (file : List ℕ) where
   unfolding reading bodyOf framesOf
   complete burst a =
       let g = a .grammar in
-      let h : HeadRead file (burst .header) (g .afterValues) = record { afterNames = g .afterNames; named = g .named; valued = g .valued; packed = g .packed; passed = a .header } in
+      let h : HeadRead file (burst .header) (g .afterValues) = record { afterNames = g .afterNames; named = g .named; valued = g .valued; sixteen = g .sixteen; packed = g .packed; passed = a .header } in
       rw (head-complete h, a .measured, rows-complete (g .sampled) (above-none 4095 (burst .samples) (a .small .most)))

@@ -13,11 +13,13 @@ pub data Rows : (count width : ℕ) (bytes values rest : List ℕ) → Type 0 wh
   noRow : {width : ℕ} {bytes : List ℕ} → Rows 0 width bytes [] bytes
   rowThen : {count width : ℕ} {bytes values between others rest : List ℕ} → ValueLine width bytes values between → Rows count width between others rest → Rows (suc count) width bytes (values ++ others) rest
 
--- "A line of names, .., then a line of those seven values .., then one line per row, frame after frame", and no byte more; "A burst file means L = W" (request L9)
+-- "A line of names, .., then a line of those seven values .., then one line per row, frame after frame", and no byte more; "A burst file means L = W" (request L9);
+-- "Burst files mean side 16" (request L8)
 pub record BurstFile (file : List ℕ) (burst : FileBurst) : Type 0 where
   pub afterNames : List ℕ
   pub afterValues : List ℕ
   pub named : file ≡ names ++ afterNames
   pub valued : ValueLine 7 afterNames (sevenOf (burst .header)) afterValues
+  pub sixteen : burst .header .shape .side ≡ 16
   pub packed : burst .header .shape .«row_length» ≡ burst .header .shape .width
   pub sampled : Rows (burst .header .shape .count * burst .header .shape .height) (burst .header .shape .width) afterValues (burst .samples) []

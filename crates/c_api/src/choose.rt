@@ -23,11 +23,11 @@ pub extern "C" fn stacker_run_sharpest(
     output: &mut [u16],
     work: &mut [i64],
 ) -> Choice
-    ensures { λ r. ⌜ Chosen (shapeOf (ofFrames frames)) (measured noise) (tuned (ofFrames frames) tuning) (now (samples .entry)) (now (vectors .entry)) (now (vectors .exit)) (now (output .entry)) (now (output .exit)) (now (work .entry)) (now (work .exit)) r ⌝ }
+    ensures { λ r. ⌜ Chosen (shapeOf (ofFrames frames) (tuning .side)) (measured noise) (tuned (ofFrames frames) tuning) (now (samples .entry)) (now (vectors .entry)) (now (vectors .exit)) (now (output .entry)) (now (output .exit)) (now (work .entry)) (now (work .exit)) r ⌝ }
 {
     let burst = of_frames(frames);
     stacker::choose::run_sharpest(
-        shape_of(burst),
+        shape_of(burst, tuning.side),
         measured(noise),
         tuned(burst, tuning),
         samples,
@@ -48,11 +48,11 @@ pub extern "C" fn stacker_run_sharpest_iso(
     output: &mut [u16],
     work: &mut [i64],
 ) -> Choice
-    ensures { λ r. ⌜ Chosen (shapeOf (ofFrames frames)) (isoNoise noise) (tuned (ofFrames frames) tuning) (now (samples .entry)) (now (vectors .entry)) (now (vectors .exit)) (now (output .entry)) (now (output .exit)) (now (work .entry)) (now (work .exit)) r ⌝ }
+    ensures { λ r. ⌜ Chosen (shapeOf (ofFrames frames) (tuning .side)) (isoNoise noise) (tuned (ofFrames frames) tuning) (now (samples .entry)) (now (vectors .entry)) (now (vectors .exit)) (now (output .entry)) (now (output .exit)) (now (work .entry)) (now (work .exit)) r ⌝ }
 {
     let burst = of_frames(frames);
     stacker::choose::run_sharpest(
-        shape_of(burst),
+        shape_of(burst, tuning.side),
         at_iso(noise),
         tuned(burst, tuning),
         samples,

@@ -6,7 +6,7 @@ use descriptions::of_frames;
 use descriptions::shape_of;
 use dng::DngRead;
 
-// Reads a DNG file into one frame of the lent samples. The black levels of the description are not read.
+// Reads a DNG file into one frame of the lent samples. The black levels of the description are not read, and no tiles are laid.
 #[no_mangle]
 pub extern "C" fn stacker_read_dng(
     file: &[u8],
@@ -14,8 +14,8 @@ pub extern "C" fn stacker_read_dng(
     frame: u64,
     samples: &mut [u16],
 ) -> DngRead
-    ensures { λ r. ⌜ FrameRead (now (file .entry)) (shapeOf (ofFrames frames)) frame (now (samples .entry)) r (now (samples .exit)) ⌝ }
+    ensures { λ r. ⌜ FrameRead (now (file .entry)) (shapeOf (ofFrames frames) 16) frame (now (samples .entry)) r (now (samples .exit)) ⌝ }
 {
-    let shape = shape_of(of_frames(frames));
+    let shape = shape_of(of_frames(frames), 16);
     dng::read_dng(file, shape, frame as usize, &mut *samples)
 }

@@ -21,10 +21,10 @@ pub extern "C" fn stacker_merge(
     output: &mut [u16],
     work: &mut [i64],
 ) -> u64
-    ensures { λ r. ⌜ Merged (shapeOf burst) (burst .reference) (measured noise) (tuned burst tuning) (now (samples .entry)) (now (vectors .entry)) (now (output .entry)) (now (output .exit)) (now (work .entry)) (now (work .exit)) r ⌝ }
+    ensures { λ r. ⌜ Merged (shapeOf burst (tuning .side)) (burst .reference) (measured noise) (tuned burst tuning) (now (samples .entry)) (now (vectors .entry)) (now (output .entry)) (now (output .exit)) (now (work .entry)) (now (work .exit)) r ⌝ }
 {
     stacker::merge::merge(
-        shape_of(burst),
+        shape_of(burst, tuning.side),
         burst.reference as usize,
         measured(noise),
         tuned(burst, tuning),
@@ -46,10 +46,10 @@ pub extern "C" fn stacker_merge_iso(
     output: &mut [u16],
     work: &mut [i64],
 ) -> u64
-    ensures { λ r. ⌜ Merged (shapeOf burst) (burst .reference) (isoNoise noise) (tuned burst tuning) (now (samples .entry)) (now (vectors .entry)) (now (output .entry)) (now (output .exit)) (now (work .entry)) (now (work .exit)) r ⌝ }
+    ensures { λ r. ⌜ Merged (shapeOf burst (tuning .side)) (burst .reference) (isoNoise noise) (tuned burst tuning) (now (samples .entry)) (now (vectors .entry)) (now (output .entry)) (now (output .exit)) (now (work .entry)) (now (work .exit)) r ⌝ }
 {
     stacker::merge::merge(
-        shape_of(burst),
+        shape_of(burst, tuning.side),
         burst.reference as usize,
         at_iso(noise),
         tuned(burst, tuning),

@@ -22,10 +22,10 @@ pub extern "C" fn stacker_run(
     output: &mut [u16],
     work: &mut [i64],
 ) -> Alignment
-    ensures { λ r. ⌜ Ran (shapeOf burst) (burst .reference) (measured noise) (tuned burst tuning) (now (samples .entry)) (now (vectors .entry)) (now (vectors .exit)) (now (output .entry)) (now (output .exit)) (now (work .entry)) (now (work .exit)) r ⌝ }
+    ensures { λ r. ⌜ Ran (shapeOf burst (tuning .side)) (burst .reference) (measured noise) (tuned burst tuning) (now (samples .entry)) (now (vectors .entry)) (now (vectors .exit)) (now (output .entry)) (now (output .exit)) (now (work .entry)) (now (work .exit)) r ⌝ }
 {
     stacker::run::run(
-        shape_of(burst),
+        shape_of(burst, tuning.side),
         burst.reference as usize,
         measured(noise),
         tuned(burst, tuning),
@@ -47,10 +47,10 @@ pub extern "C" fn stacker_run_iso(
     output: &mut [u16],
     work: &mut [i64],
 ) -> Alignment
-    ensures { λ r. ⌜ Ran (shapeOf burst) (burst .reference) (isoNoise noise) (tuned burst tuning) (now (samples .entry)) (now (vectors .entry)) (now (vectors .exit)) (now (output .entry)) (now (output .exit)) (now (work .entry)) (now (work .exit)) r ⌝ }
+    ensures { λ r. ⌜ Ran (shapeOf burst (tuning .side)) (burst .reference) (isoNoise noise) (tuned burst tuning) (now (samples .entry)) (now (vectors .entry)) (now (vectors .exit)) (now (output .entry)) (now (output .exit)) (now (work .entry)) (now (work .exit)) r ⌝ }
 {
     stacker::run::run(
-        shape_of(burst),
+        shape_of(burst, tuning.side),
         burst.reference as usize,
         at_iso(noise),
         tuned(burst, tuning),

@@ -1,35 +1,23 @@
 -- Demand 3 for side 16: the output sample lies within five eighths of the exact merge's.
-use Rattle.algebra.specs.Prelude.{refl, ℕ, suc, _+_, _*_, _≤_, _<_, arith, ℤ, natAbs, _+ℤ_, _-ℤ_, _*ℤ_}
-use lib.Dec.{leb, leb→le, lit<}
-use Rattle.algebra.specs.Test.{all, all-sound}
+use Rattle.algebra.specs.Prelude.{refl, ℕ, suc, _+_, _*_, _≤_, _<_, arith, lit<, ℤ}
 use Rattle.algebra.specs.Fraction.{frac, whole, Within}
 use Rattle.recipe.specs.Tables.{cosines, cosine16, sine16, side16}
 use Rattle.recipe.specs.TableLaws.{window-halves}
 use Rattle.recipe.specs.Correction.{correctionAt}
 use Rattle.recipe.specs.PlainOutput.{outputSample}
 use Rattle.recipe.specs.Exact.{exactCorrectionAt, exactSample}
+use Rattle.closeness.specs.Twiddles.{twiddles-small}
 use Rattle.closeness.specs.Closeness.{Fitting, tileError, tile-within, sample-within}
 
--- one computed test over the 256 pairs of entries
-abbrev size : ℕ → ℕ → ℕ
-size a b =
-    natAbs (cosine16 a *ℤ cosine16 b -ℤ sine16 a *ℤ sine16 b) + natAbs (cosine16 a *ℤ sine16 b +ℤ sine16 a *ℤ cosine16 b)
-
-twiddle-small : (a b : ℕ) → a < 16 → b < 16 → size a b ≤ 379633849
-unfolding cosines cosine16 sine16
-twiddle-small a b h k =
-    leb→le (size a b) 379633849
-    (all-sound 16 (λ b. leb (size a b) 379633849) (all-sound 16 (λ a. all 16 (λ b. leb (size a b) 379633849)) tt a h) b k)
-
 pub fitting16 : Fitting side16 379633849 4096
-unfolding side16
+unfolding side16 cosines cosine16 sine16
 fitting16 =
     record {
       scale-is = refl;
       divisor-is = refl;
       weight-is = refl;
       window-halves = window-halves;
-      twiddle-small = twiddle-small;
+      twiddle-small = twiddles-small 16 379633849 cosine16 sine16 tt;
     }
 
 -- one tile: P/256 lies within 0.1346 of a sample step of p

@@ -1,4 +1,5 @@
 -- What the descriptions that C passes stand for.
+use Prim.Native.Nat.{ℕ}
 use Rattle.geometry.specs.declared.Shape.{Shape}
 use Rattle.geometry.specs.Shape.{shaped}
 use Rattle.noise.specs.declared.Noise.{Noise}
@@ -10,9 +11,9 @@ use Rattle.descriptions.specs.declared.BurstNoise.{BurstNoise}
 use Rattle.descriptions.specs.declared.IsoNoise.{IsoNoise}
 use Rattle.descriptions.specs.declared.MergeTuning.{MergeTuning}
 
--- "Width W and height H", "N [..] frames", "a row length L" (request L9)
-abbrev pub shapeOf : Burst → Shape
-shapeOf burst = shaped (burst .width) (burst .height) (burst .count) (burst .«row_length»)
+-- "Width W and height H", "N [..] frames", a side (request L8), "a row length L" (request L9)
+abbrev pub shapeOf : Burst → (side : ℕ) → Shape
+shapeOf burst side = shaped (burst .width) (burst .height) (burst .count) side (burst .«row_length»)
 
 -- frames without a reference (request L1): a burst of which the index is not read
 abbrev pub ofFrames : Frames → Burst

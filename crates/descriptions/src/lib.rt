@@ -44,9 +44,11 @@ pub struct IsoNoise {
     pub read: f64,
 }
 
+// The strength, and the side of the tiles, which align takes as well.
 #[repr(C)]
 pub struct MergeTuning {
     pub strength: u64,
+    pub side: u64,
     pub spatial: u64,
 }
 
@@ -65,11 +67,17 @@ pub fn of_frames(frames: Frames) -> Burst
     }
 }
 
-// A burst's shape.
-pub fn shape_of(burst: Burst) -> Shape
-    ensures { λ r. ⌜ r ≡ shapeOf burst ⌝ }
+// A burst's shape, with tiles of a side.
+pub fn shape_of(burst: Burst, side: u64) -> Shape
+    ensures { λ r. ⌜ r ≡ shapeOf burst side ⌝ }
 {
-    shaped(burst.width, burst.height, burst.count, burst.row_length)
+    shaped(
+        burst.width,
+        burst.height,
+        burst.count,
+        side,
+        burst.row_length,
+    )
 }
 
 // The burst's own curve.

@@ -1,2 +1,1 @@
 pub mod PairFolding
-pub mod PairStores

@@ -6,12 +6,12 @@ use Rattle.sequences.specs.Grid.{tab-ext}
 use Rattle.recipe.specs.Tables.{side16}
 use Rattle.recipe.specs.TableLaws.{rules16}
 use Rattle.lines.specs.Halfcomplex.{halfcomplex}
-use Rattle.lines.specs.Fold.{sumOf, differenceOf, sumAt, differenceAt, folded}
+use Rattle.lines.specs.Fold.{folded}
 use Rattle.lines.specs.Lines.{LineMost}
 use Rattle.lines.specs.Doubles.{doubleLine}
 use Rattle.lines.specs.Magnitudes.{pairLineMost, pairSumMost}
 use Rattle.lines.specs.Held.{of, held-is}
-use Rattle.lines.specs.SideFolds.{even-folded, odd-folded, folded-ext}
+use Rattle.lines.specs.PairLines.{pair-even, pair-odd}
 use Rattle.lines.specs.DoubleForms.{sum-exact, difference-exact}
 
 -- the sum and the difference of two numbers half a line apart
@@ -47,17 +47,10 @@ module _ {x : List ℤ} (m : LineMost pairLineMost x) (i : ℕ) where
 
 -- the places of line p, from its sums and from its differences
 module _ (x : List ℤ) (p : ℕ) where
-  far : (n : ℕ) → of x (2 * n + p + 16) ≡ lineOf x p (n + 8)
-  far n = ap (of x) (omega arith)
-
   pub even-line : doubleLine 8 (λ i. folded (λ n. sumsOf x (2 * n + p)) (2 * i)) ≡ doubleLine 8 (λ i. halfcomplex (lineOf x p) (2 * i))
-  unfolding sumOf side16
-  even-line =
-      tab-ext 8 _ _
-      (λ i l. ap (ofInt binary64) (folded-ext (λ n. sumsOf x (2 * n + p)) (sumAt (lineOf x p)) (λ n j. ap (λ z. lineOf x p n +ℤ z) (far n)) (2 * i) ∙ even-folded rules16 (lineOf x p) i))
+  unfolding side16
+  even-line = tab-ext 8 _ _ (λ i l. ap (ofInt binary64) (pair-even rules16 (of x) p i))
 
   pub odd-line : doubleLine 8 (λ i. folded (λ n. differencesOf x (2 * n + p)) (2 * i + 1)) ≡ doubleLine 8 (λ i. halfcomplex (lineOf x p) (2 * i + 1))
-  unfolding differenceOf side16
-  odd-line =
-      tab-ext 8 _ _
-      (λ i l. ap (ofInt binary64) (folded-ext (λ n. differencesOf x (2 * n + p)) (differenceAt (lineOf x p)) (λ n j. ap (λ z. lineOf x p n -ℤ z) (far n)) (2 * i + 1) ∙ odd-folded rules16 (lineOf x p) i))
+  unfolding side16
+  odd-line = tab-ext 8 _ _ (λ i l. ap (ofInt binary64) (pair-odd rules16 (of x) p i))

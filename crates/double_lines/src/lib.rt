@@ -99,7 +99,7 @@ fn odd(t0: f64, t1: f64, t2: f64, t3: f64, t4: f64, t5: f64, t6: f64, t7: f64) -
 }
 
 // The even places of line p.
-fn even_of(s: &[f64; 16], p: usize) -> [f64; 8]
+pub fn even_of(s: &[f64; 16], p: usize) -> [f64; 8]
     requires { ⌜ p < 2 ⌝ }
     ensures { λ r. ⌜ From pairSumMost 16 (now (s .entry)) (λ s. r ≡ doubleLine 8 (λ i. folded (λ n. s (2 * n + p)) (2 * i))) ⌝ }
 {
@@ -116,7 +116,7 @@ fn even_of(s: &[f64; 16], p: usize) -> [f64; 8]
 }
 
 // The odd places of line p.
-fn odd_of(t: &[f64; 16], p: usize) -> [f64; 8]
+pub fn odd_of(t: &[f64; 16], p: usize) -> [f64; 8]
     requires { ⌜ p < 2 ⌝ }
     ensures { λ r. ⌜ From pairSumMost 16 (now (t .entry)) (λ t. r ≡ doubleLine 8 (λ i. folded (λ n. t (2 * n + p)) (2 * i + 1))) ⌝ }
 {

@@ -1,2 +1,1 @@
-pub mod ExactLaws
 pub mod ExactGains

@@ -1,1 +1,2 @@
 pub mod ExactQuads
+pub mod ExactQuadLaws

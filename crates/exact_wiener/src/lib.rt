@@ -47,7 +47,7 @@ fn real_gain(noise: u64, a: f64) -> f64
 }
 
 // The parts of the two bins of a quad.
-fn bins(k: usize, u: usize, q: [f64; 4]) -> [f64; 4]
+pub fn bins(k: usize, u: usize, q: [f64; 4]) -> [f64; 4]
     ensures { λ r. ⌜ r ≡ binsIn k u q ⌝ }
 {
     if k == 0 {
@@ -60,7 +60,7 @@ fn bins(k: usize, u: usize, q: [f64; 4]) -> [f64; 4]
 }
 
 // G of two bins, folded.
-fn folded(k: usize, u: usize, g: [f64; 2], h: [f64; 2]) -> [f64; 4]
+pub fn folded(k: usize, u: usize, g: [f64; 2], h: [f64; 2]) -> [f64; 4]
     ensures { λ r. ⌜ r ≡ foldedIn k u (numberOf g 0) (numberOf g 1) (numberOf h 0) (numberOf h 1) ⌝ }
 {
     if k == 0 {
@@ -92,7 +92,7 @@ fn quad(noise: u64, k: usize, u: usize, q: [f64; 4]) -> [f64; 4]
 }
 
 // What goes with plane p.
-fn of_plane(first: u64, second: u64, p: usize) -> u64
+pub fn of_plane(first: u64, second: u64, p: usize) -> u64
     ensures { λ r. ⌜ r ≡ either first second p ⌝ }
 {
     if p == 0 {

@@ -2,7 +2,7 @@
 use Rattle.algebra.specs.Prelude.{_≡_, List, ℕ, _+_, _*_, _≤_, _<_, length, ℤ}
 use Rattle.matching.specs.declared.Area.{Area}
 use Rattle.fields.specs.Magnitudes.{wayMost, tilesMost}
-use Rattle.geometry.specs.Tiles.{level0, step1to0}
+use Rattle.geometry.specs.Tiles.{finestLevel, finestStep}
 use Rattle.sequences.specs.Write.{written}
 use Rattle.levels.specs.declared.Grid.{Grid}
 use Rattle.geometry.specs.Vectors.{VectorField, word}
@@ -44,17 +44,17 @@ pub record Laid (d : List ℤ) (to rows columns : ℕ) (f : VectorField) (n : �
   pub few : r ≤ tilesMost * tileRowsMost
 
 -- the finest field
-unfoldable pub finestIn : List ℤ → Area → Grid → VectorField
-finestIn words a c = finer level0 step1to0 (c .rows) (c .columns) (pairIn words a) (fieldAt words (c .at) (c .columns))
+unfoldable pub finestIn : (side : ℕ) → List ℤ → Area → Grid → VectorField
+finestIn side words a c = finer (finestLevel side) (finestStep side) (c .rows) (c .columns) (pairIn words a) (fieldAt words (c .at) (c .columns))
 
 -- the rows summed for a level from 2 to 0 of so many rows and columns of tiles
-abbrev pub finerRowsIn : (level : ℕ) → List ℤ → Area → Grid → (rows columns : ℕ) → ℕ
-finerRowsIn level words a c rows columns = finerRows (levelAt level) (stepTo level) (c .rows) (c .columns) (pairIn words a) (fieldAt words (c .at) (c .columns)) rows columns
+abbrev pub finerRowsIn : (side level : ℕ) → List ℤ → Area → Grid → (rows columns : ℕ) → ℕ
+finerRowsIn side level words a c rows columns = finerRows (levelAt side level) (stepTo side level) (c .rows) (c .columns) (pairIn words a) (fieldAt words (c .at) (c .columns)) rows columns
 
 -- its vectors are written from `to` on, and the sum of its residuals and the rows summed are answered
-pub record Finest (words : List ℤ) (a : Area) (c : Grid) (rows columns : ℕ) (d : List ℤ) (to : ℕ) (l : List ℤ) (r : Sums) : Type 0 where
-  pub vectors : l ≡ written d to (word columns (finestIn words a c)) (2 * (rows * columns))
-  pub residual-is : r .residual ≡ residuals level0 (pairIn words a) rows columns (finestIn words a c)
+pub record Finest (side : ℕ) (words : List ℤ) (a : Area) (c : Grid) (rows columns : ℕ) (d : List ℤ) (to : ℕ) (l : List ℤ) (r : Sums) : Type 0 where
+  pub vectors : l ≡ written d to (word columns (finestIn side words a c)) (2 * (rows * columns))
+  pub residual-is : r .residual ≡ residuals (finestLevel side) (pairIn words a) rows columns (finestIn side words a c)
   pub most : r .residual ≤ tilesMost * residualMost
-  pub rows-are : r .rows ≡ finerRowsIn 0 words a c rows columns
+  pub rows-are : r .rows ≡ finerRowsIn side 0 words a c rows columns
   pub few : r .rows ≤ tilesMost * tileRowsMost

@@ -2,6 +2,7 @@
 ghost use mathlib.Core.Path.{_≡_};
 ghost use Prim.Native.Nat.{_+_, _*_, _≤_, _<_};
 ghost use lib.ListN.{length, set};
+ghost use Rattle.geometry.specs.Fits.{TileSide};
 ghost use Rattle.geometry.specs.Tiles.{level3};
 ghost use Rattle.levels.specs.Magnitudes.{foundMost};
 ghost use Rattle.patches.specs.Bounds.{Within};
@@ -48,22 +49,23 @@ pub fn coarsest_field(work: &mut [i64], area: Area, to: usize, rows: usize, colu
     summed
 }
 
-// A level from 2 to 0, into the work area from `to` on, and the tile rows that were summed.
+// A level from 2 to 0, with level 0's tiles of a side, into the work area from `to` on, and the tile rows that were summed.
 pub fn finer_field(
     work: &mut [i64],
     area: Area,
+    side: usize,
     level: usize,
     coarse: Grid,
     to: usize,
     rows: usize,
     columns: usize,
 ) -> u64
-    requires { ⌜ record { fits : Room (now work) area to rows columns; vectors : Vectors (now work) coarse; ends : Ends coarse to; level-most : level ≤ 2 } ⌝ }
-    ensures { λ r. ⌜ Laid (now (work .entry)) to rows columns (finerIn level (now (work .entry)) area coarse) (finerRowsIn level (now (work .entry)) area coarse rows columns) (now (work .exit)) r ⌝ }
+    requires { ⌜ record { fits : Room (now work) area to rows columns; vectors : Vectors (now work) coarse; ends : Ends coarse to; sided : TileSide side; level-most : level ≤ 2 } ⌝ }
+    ensures { λ r. ⌜ Laid (now (work .entry)) to rows columns (finerIn side level (now (work .entry)) area coarse) (finerRowsIn side level (now (work .entry)) area coarse rows columns) (now (work .exit)) r ⌝ }
 {
     let mut summed: u64 = 0;
     for k in 0..rows * columns {
-        let found = finer_tile(&*work, area, level, coarse, k / columns, k % columns);
+        let found = finer_tile(&*work, area, side, level, coarse, k / columns, k % columns);
         let v = found.vector;
         put(&mut *work, to + 2 * k, v);
         summed += found.rows;
@@ -90,23 +92,24 @@ fn hand_over(vectors: &mut [i32], at: usize, v: Vector)
     set_parts(&mut *vectors, at, down, right);
 }
 
-// Level 0, into the lent vectors from `to` on, the sum of its residuals, and the tile rows that were summed.
+// Level 0 with tiles of a side, into the lent vectors from `to` on, the sum of its residuals, and the tile rows that were summed.
 pub fn finest_field(
     work: &[i64],
     area: Area,
+    side: usize,
     coarse: Grid,
     vectors: &mut [i32],
     to: usize,
     rows: usize,
     columns: usize,
 ) -> Sums
-    requires { ⌜ record { stored : Stored (now work) area; coarse-vectors : Vectors (now work) coarse; few : Few rows columns; room : to + 2 * (rows * columns) ≤ length (now vectors) } ⌝ }
-    ensures { λ r. ⌜ Finest (now (work .entry)) area coarse rows columns (now (vectors .entry)) to (now (vectors .exit)) r ⌝ }
+    requires { ⌜ record { stored : Stored (now work) area; coarse-vectors : Vectors (now work) coarse; sided : TileSide side; few : Few rows columns; room : to + 2 * (rows * columns) ≤ length (now vectors) } ⌝ }
+    ensures { λ r. ⌜ Finest side (now (work .entry)) area coarse rows columns (now (vectors .entry)) to (now (vectors .exit)) r ⌝ }
 {
     let mut sum: u64 = 0;
     let mut summed: u64 = 0;
     for k in 0..rows * columns {
-        let found = finer_tile(work, area, 0, coarse, k / columns, k % columns);
+        let found = finer_tile(work, area, side, 0, coarse, k / columns, k % columns);
         let v = found.vector;
         hand_over(&mut *vectors, to + 2 * k, v);
         sum += found.residual;

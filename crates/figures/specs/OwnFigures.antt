@@ -17,11 +17,13 @@ use Rattle.recipe.specs.Root.{rootIn, wholeRoot}
 use Rattle.recipe.specs.NoiseNumber.{sumOfSquares, tileRoot, variance, noiseNumber}
 use Rattle.recipe.specs.Side.{Side, cosAt, sinAt}
 use Rattle.recipe.specs.Tables.{cosines, cosine16, sine16, windows, window16, side16}
+use Rattle.recipe.specs.Tables32.{cosines32, cosine32, sine32, side32}
+use Rattle.recipe.specs.Sides.{sideOf}
 use Rattle.recipe.specs.Correction.{wiener, rowRe, rowIm, binRe, binIm, quantized, filtered, twiddleRe, twiddleIm, inverseRe, inverseAt, correctionAt}
 use Rattle.recipe.specs.Output.{weightIn, rounded}
 use Rattle.recipe.specs.Spatial.{FilteredTile, copyQuantized, copyFiltered, mergedSum, copyAt, spatialAt, takenAt, filteredSample}
 use Rattle.recipe.specs.SpatialNoise.{frequency, distance, spatialNumber}
-use Rattle.recipe.specs.Scene.{Scene, sceneOf, blackOf, tileOver, tileAt, referenceTile, otherTile, tileNoise, tileSpatial, tileDifference}
+use Rattle.recipe.specs.Scene.{Scene, sceneAt, sceneOf, blackOf, tileOver, tileAt, referenceTile, otherTile, tileNoise, tileSpatial, tileDifference}
 use Rattle.recipe.specs.Exact.{exactBin, exactNoise, exactWiener, exactInverseRe, exactInverseAt, unrounded}
 use Rattle.recipe.specs.ExactSpatial.{exactRowRe, exactRowIm, exactBinRe, exactBinIm}
 use Rattle.sharpness.specs.Sharpness.{rowSteps, steps, sharpness, sharpest}
@@ -49,10 +51,11 @@ minus n = negℤ (pos n)
 abbrev pub none : ℕ → ℕ → ℤ
 none i j = pos 0
 
--- "16·Lr"; samples of 100, 68 and 60 on a plane of black level 64; m and V', with bin indices of 8 and above it
+-- "16·Lr", and at side 32 "V = floor(t·(Ls·r + 32·Lr)/128)"; samples of 100, 68 and 60 on a plane of black level 64; m and V', with bin indices of 8 and above it
 abbrev pub noises : List Figure
 noises =
     (noiseNumber side16 8 1024 1024 1600 counts 827392)
+    ∷ (noiseNumber side32 8 1024 1024 1600 counts 104448)
     ∷ (tileRoot 16 64 (λ i j. 100) counts 576)
     ∷ (tileRoot 16 64 (λ i j. cond (eqb j 0) 68 60) counts 16)
     ∷ (distance 3 4 counts 80)
@@ -68,6 +71,9 @@ abbrev pub bins : List Figure
 bins =
     (binRe side16 (only 1 0 (pos 1) (pos 0)) 1 0 is pos 248004608)
     ∷ (binIm side16 (only 1 0 (pos 1) (pos 0)) 1 0 is minus 102727680)
+    ∷ (binRe side32 (only 1 0 (pos 1) (pos 0)) 1 0 is pos 263274496)
+    ∷ (binIm side32 (only 1 0 (pos 1) (pos 0)) 1 0 is minus 52363264)
+    ∷ (quantized side32 (minus 100663296) is minus 2)
     ∷ (binRe side16 (only 1 0 (pos 1) (pos 0)) 0 1 is pos 268435456)
     ∷ (binIm side16 (only 1 0 (pos 1) (pos 0)) 0 1 is pos 0)
     ∷ (binRe side16 (only 2 1 (pos 1) (pos 0)) 3 5 is minus 102724195)
@@ -179,7 +185,7 @@ exacts =
 
 -- a burst of three frames of 2 by 2 samples in rows of three words, whose words count from 100
 abbrev pub counted : Merge
-counted = record { shape = shaped 2 2 3 3; reference = 1; shot = 5; read = 6; tuning = record { strength = 7; black = 10 ∷ 200 ∷ 30 ∷ 40 ∷ []; spatial = 8 } }
+counted = record { shape = shaped 2 2 3 16 3; reference = 1; shot = 5; read = 6; tuning = record { strength = 7; black = 10 ∷ 200 ∷ 30 ∷ 40 ∷ []; spatial = 8 } }
 
 abbrev pub countedScene : Scene
 countedScene = sceneOf counted (tab 18 (λ i. 100 + i)) (pos 1 ∷ pos 2 ∷ pos 3 ∷ pos 4 ∷ [])
@@ -232,7 +238,7 @@ abbrev pub numberedField : ℕ → VectorField
 numberedField k a b = record { down = pos (100 * k + 10 * a + b); right = minus (100 * k + 10 * a + b) }
 
 abbrev pub three : Shape
-three = shaped 64 64 3 64
+three = shaped 64 64 3 16 64
 
 abbrev pub layout : List Figure
 layout =
@@ -252,10 +258,10 @@ greens g = 7 ∷ 10 ∷ 7 ∷ g ∷ 999 ∷ 50 ∷ 60 ∷ 70 ∷ 80 ∷ 999 ∷ 
 
 abbrev pub sharp : List Figure
 sharp =
-    (sharpness (shaped 4 4 1 5) (greens 25) 0 counts 44)
-    ∷ (sharpest (shaped 4 4 4 5) (greens 24 ++ greens 25 ++ greens 25 ++ greens 99) counts 1)
-    ∷ (sharpest (shaped 4 4 2 5) (greens 24 ++ greens 25) counts 1)
-    ∷ (sharpest (shaped 4 4 1 5) (greens 25) counts 0)
+    (sharpness (shaped 4 4 1 16 5) (greens 25) 0 counts 44)
+    ∷ (sharpest (shaped 4 4 4 16 5) (greens 24 ++ greens 25 ++ greens 25 ++ greens 99) counts 1)
+    ∷ (sharpest (shaped 4 4 2 16 5) (greens 24 ++ greens 25) counts 1)
+    ∷ (sharpest (shaped 4 4 1 16 5) (greens 25) counts 0)
     ∷ []
 
 abbrev pub computed : List Figure → List ℤ
@@ -270,5 +276,5 @@ abbrev pub table : List Figure
 table = noises ++ bins ++ tiles ++ outputs ++ exacts ++ scenes ++ layout ++ sharp
 
 pub own-figures : computed table ≡ stated table
-unfolding tileRoot sumOfSquares sumN wholeRoot rootIn noiseNumber variance frequency distance spatialNumber side16 binRe binIm rowRe rowIm quantized wiener filtered away inverseAt inverseRe twiddleRe twiddleIm cosAt sinAt cosine16 sine16 cosines sumZ correctionAt mergedSum copyAt copyQuantized copyFiltered spatialAt takenAt filteredSample windows window16 upward clampZ minZ maxZ exactBin exactNoise exactWiener exactRowRe exactRowIm exactBinRe exactBinIm exactInverseRe exactInverseAt frac whole _+F_ _-F_ _·F_ _×F_ divide _÷F_ over sumF held sceneOf sampleAt sampleIndex tab downAt rightAt vectorPlace otherFrame blackOf referenceTile otherTile tileAt read origin inside mirrored planeOf tileDifference tileNoise tileSpatial vectorLength vectorList wordOf word part sharpness steps rowSteps sharpest firstBy
+unfolding tileRoot sumOfSquares sumN wholeRoot rootIn noiseNumber variance frequency distance spatialNumber side16 side32 binRe binIm rowRe rowIm quantized wiener filtered away inverseAt inverseRe twiddleRe twiddleIm cosAt sinAt cosine16 sine16 cosines cosine32 sine32 cosines32 sumZ correctionAt mergedSum copyAt copyQuantized copyFiltered spatialAt takenAt filteredSample windows window16 upward clampZ minZ maxZ exactBin exactNoise exactWiener exactRowRe exactRowIm exactBinRe exactBinIm exactInverseRe exactInverseAt frac whole _+F_ _-F_ _·F_ _×F_ divide _÷F_ over sumF held sceneAt sideOf sampleAt sampleIndex tab downAt rightAt vectorPlace otherFrame blackOf referenceTile otherTile tileAt read origin inside mirrored planeOf tileDifference tileNoise tileSpatial vectorLength vectorList wordOf word part sharpness steps rowSteps sharpest firstBy
 own-figures = refl

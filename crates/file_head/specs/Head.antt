@@ -26,11 +26,12 @@ startsWith (byte ∷ text) (b ∷ bytes) = cond (eqb b byte) (startsWith text by
 unfoldable pub firstLineRefusal : List ℕ → ℕ
 firstLineRefusal file = first (lineEnd file ∷ refuse no.firstLine (not (startsWith names file)) ∷ [])
 
--- "then a line of those seven values (shot and read are Ls and Lr)"; "A burst file means L = W" (request L9)
+-- "then a line of those seven values (shot and read are Ls and Lr)"; "A burst file means L = W" (request L9);
+-- "Burst files mean side 16" (request L8)
 abbrev pub headerOf : (values : List ℕ) → Header
 headerOf values =
     record {
-      shape = shaped (getD values 0 0) (getD values 1 0) (getD values 2 0) (getD values 0 0);
+      shape = shaped (getD values 0 0) (getD values 1 0) (getD values 2 0) 16 (getD values 0 0);
       reference = getD values 3 0;
       «shot_level» = getD values 4 0;
       «read_level» = getD values 5 0;

@@ -1,5 +1,5 @@
 -- The first two lines are read exactly where the grammar has them with values that pass their tests.
-use mathlib.Core.Path.{_≡_, refl, sym, ap, _∙_}
+use mathlib.Core.Path.{_≡_, refl, sym, ap, ap₂, _∙_}
 use mathlib.Core.Bool.{Bool, true, false, false≢true, cond, not}
 use mathlib.Core.List.{List, [], _∷_, _++_}
 use Prim.Native.Nat.{ℕ, _+_}
@@ -46,11 +46,11 @@ seven : (values : List ℕ) → length values ≡ 7 → sevenOf (headerOf values
 unfolding tab
 seven values e = sym (tab-of 0 values ∙ ap (λ (n : ℕ). tab n (λ i. getD values i 0)) e)
 
--- and the header of seven values is theirs, with rows that have no spare words
-seven-of : (header : Header) → header .shape .«row_length» ≡ header .shape .width → headerOf (sevenOf header) ≡ header
-seven-of header e =
+-- and the header of seven values is theirs, with tiles of side 16 and rows that have no spare words
+seven-of : (header : Header) → header .shape .side ≡ 16 → header .shape .«row_length» ≡ header .shape .width → headerOf (sevenOf header) ≡ header
+seven-of header f e =
     let s = header .shape in
-    ap (λ n. record { shape = shaped (s .width) (s .height) (s .count) n; reference = header .reference; «shot_level» = header .«shot_level»; «read_level» = header .«read_level»; strength = header .strength }) (sym e)
+    ap₂ (λ m n. record { shape = shaped (s .width) (s .height) (s .count) m n; reference = header .reference; «shot_level» = header .«shot_level»; «read_level» = header .«read_level»; strength = header .strength }) (sym f) (sym e)
 
 -- such a shape passes 23, and so is allowed where it passes 1 and 2
 pub packed-allowed : (s : Shape) → s .«row_length» ≡ s .width → sizeRefusal s ≡ 0 → countRefusal s ≡ 0 → Allowed s
@@ -62,6 +62,7 @@ pub record HeadRead (file : List ℕ) (header : Header) (rest : List ℕ) : Type
   pub afterNames : List ℕ
   pub named : file ≡ names ++ afterNames
   pub valued : ValueLine 7 afterNames (sevenOf header) rest
+  pub sixteen : header .shape .side ≡ 16
   pub packed : header .shape .«row_length» ≡ header .shape .width
   pub passed : headerRefusal header ≡ 0
 
@@ -75,10 +76,11 @@ head-sound file =
       afterNames = drop (length names) file;
       named = starts-sound names file (not-false _ (refuse-not no.firstLine (not (startsWith names file)) tt (passed named (search among))));
       valued = rw (seven values (l .counted)) l;
+      sixteen = refl;
       packed = refl;
       passed = e;
     })))
 
 pub head-complete : {file : List ℕ} {header : Header} {rest : List ℕ} → HeadRead file header rest → headOf file ≡ found header rest
 unfolding headOf firstLineRefusal first hasLF
-head-complete {file} {header} {rest} h = ap headOf (h .named) ∙ rw (starts-complete names (h .afterNames), line-complete (h .valued), seven-of header (h .packed), h .passed)
+head-complete {file} {header} {rest} h = ap headOf (h .named) ∙ rw (starts-complete names (h .afterNames), line-complete (h .valued), seven-of header (h .sixteen) (h .packed), h .passed)

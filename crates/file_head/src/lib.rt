@@ -71,7 +71,7 @@ fn header_at(file: &[u8], at: usize) -> Header
     let read_level = value_at(file, shot_level.next);
     let strength = value_at(file, read_level.next);
     Header {
-        shape: geometry::shaped(width.value, height.value, count.value, width.value),
+        shape: geometry::shaped(width.value, height.value, count.value, 16, width.value),
         reference: reference.value as usize,
         shot_level: shot_level.value,
         read_level: read_level.value,

@@ -1,48 +1,70 @@
--- A row of the output by blocks of sixteen: a word of a block is one of the row.
-use mathlib.Core.Path.{_≡_, refl, ap, ap₂, _∙_, subst, fun-ext}
+-- A row of the output by blocks, and a block by parts: a word of either is one of the row.
+use mathlib.Core.Path.{_≡_, refl, sym, ap, ap₂, _∙_, subst, fun-ext}
 use Rattle.algebra.specs.Prelude.{List, ℕ, zero, suc, _+_, _-_, _*_, _/_, _%_, _≤_, _<_, arith, getD, ℤ, pos, natAbs}
 use Rattle.sequences.specs.Write.{written, Writing, write-part}
-use Rattle.recipe.specs.Tables.{side16}
-use Rattle.gather.specs.declared.Span.{Span}
+use Rattle.geometry.specs.Fits.{TileSide}
 use Rattle.geometry.specs.declared.Shape.{Shape}
+use Rattle.recipe.specs.Sides.{sideOf}
+use Rattle.gather.specs.declared.Span.{Span}
 use Rattle.tiles.specs.Rows.{rowWords}
-use Rattle.gather.specs.Gather.{weightRow, windowed, corrected, startOf, wordOver}
-use Rattle.gather.specs.Work.{Weighed, rowSpan, further, Over, wordFrom}
-use Rattle.gather.proofs.Weighing.{words-later}
+use Rattle.gather.specs.Gather.{Weights, windowed, corrected, startOf, wordOver}
+use Rattle.gather.specs.Work.{Words, Weighed, rowSpan, further, Over, wordFrom}
+use Rattle.gather.proofs.Weighing.{words-later, later-room, block-of, word-of-block, column-of, block-first, block-word, row-in-half}
 
-module _ (samples : List ℕ) (work : List ℤ) (p : Span) (count column : ℕ) where
-  start-further : (u : ℕ) → startOf (further p column) u ≡ startOf p u + 512 * column
+module _ (samples : List ℕ) (work : List ℤ) (p : Span) (count column : ℕ) (sided : TileSide (p .side)) where
+  start-further : (u : ℕ) → startOf (further p column) u ≡ startOf p u + 2 * p .side * (p .side * column)
   start-further zero = refl
   start-further (suc u) = refl
 
-  word-further : (l : ℕ) → l < 16 → (t : ℕ) → wordOver work (further p column) l t ≡ wordOver work p (16 * column + l) t
-  unfolding wordOver side16
-  word-further l h t = ap (λ n. getD work n (pos 0)) (omega (arith, start-further (t / 2)))
+  word-further : (l : ℕ) → l < p .side → (t : ℕ) → wordOver work (further p column) l t ≡ wordOver work p (p .side * column + l) t
+  unfolding wordOver
+  word-further l h t =
+      ap (λ n. getD work n (pos 0))
+      (rw (start-further (t / 2), block-first sided l h, block-word sided l h, block-of sided column l h, word-of-block sided column l h) (omega arith))
 
   -- the word at place l of a block
-  block-word : (l : ℕ) → l < 16 → wordFrom samples work (further p column) count l ≡ wordFrom samples work p count (16 * column + l)
+  block-word-is : (l : ℕ) → l < p .side → wordFrom samples work (further p column) count l ≡ wordFrom samples work p count (p .side * column + l)
   unfolding wordFrom
-  block-word l h =
-      let there : p .from + 16 * column + l ≡ p .from + (16 * column + l) = omega arith in
-      let inner : l / 2 % 8 ≡ (16 * column + l) / 2 % 8 = omega arith in
-      ap₂ (λ t0 sum. natAbs (corrected side16 t0 sum (count - 1))) (ap (λ n. getD samples n 0) there) (ap₂ (λ k c. windowed side16 (p .i) k c) inner (fun-ext (word-further l h)))
+  block-word-is l h =
+      let there : p .from + p .side * column + l ≡ p .from + (p .side * column + l) = omega arith in
+      ap₂ (λ t0 sum. natAbs (corrected (sideOf (p .side)) t0 sum (count - 1))) (ap (λ n. getD samples n 0) there)
+      (ap₂ (λ k c. windowed (sideOf (p .side)) (p .i) k c) (column-of sided column l) (fun-ext (word-further l h)))
 
   -- one more block of a row
-  pub block-turn : {d r o : List ℕ} {n : ℕ} {q : Span} → Writing d (p .start) (wordFrom samples work p count) n (16 * column) r → 16 * column + 16 ≤ n
-      → q ≡ further p column → o ≡ written r (q .start) (wordFrom samples work q count) 16 → Writing d (p .start) (wordFrom samples work p count) n (16 * (column + 1)) o
+  pub block-turn : {d r o : List ℕ} {n : ℕ} {q : Span} → Writing d (p .start) (wordFrom samples work p count) n (p .side * column) r → p .side * column + p .side ≤ n
+      → q ≡ further p column → o ≡ written r (q .start) (wordFrom samples work q count) (q .side) → Writing d (p .start) (wordFrom samples work p count) n (p .side * (column + 1)) o
   block-turn {d} {r} {o} {n} w room e is =
       subst (λ k. Writing d (p .start) (wordFrom samples work p count) n k o) (omega arith)
-      (write-part w room block-word (is ∙ ap (λ q. written r (q .start) (wordFrom samples work q count) 16) e))
+      (write-part w room block-word-is (is ∙ ap (λ q. written r (q .start) (wordFrom samples work q count) (q .side)) e))
 
--- the pairs over a block of a row
-pub block-weighed : {work lower upper : List ℤ} (s : Shape) (reference rowParity y column : ℕ) → Over work (s .width) y → lower ≡ weightRow (y % 8) → upper ≡ weightRow (y % 8 + 8) → column < s .width / 16
-    → Weighed work (further (rowSpan s reference rowParity y) column) lower upper
+-- one more part of a block
+pub part-turn : (samples : List ℕ) (work : List ℤ) (p : Span) (count k : ℕ) {d r o : List ℕ} {n : ℕ} → Writing d (p .start) (wordFrom samples work p count) n (16 * k) r → 16 * k + 16 ≤ n
+    → o ≡ written r (p .start + 16 * k) (λ l. wordFrom samples work p count (16 * k + l)) 16 → Writing d (p .start) (wordFrom samples work p count) n (16 * (k + 1)) o
+part-turn samples work p count k {d} {r} {o} {n} w room is =
+    subst (λ j. Writing d (p .start) (wordFrom samples work p count) n j o) (omega arith) (write-part w room (λ l h. refl) is)
+
+-- the words over a block of a row
+pub block-weighed : {work lower upper : List ℤ} (s : Shape) (reference rowParity y top column : ℕ) → TileSide (s .side) → Over work (s .side) (s .width) y
+    → Weights (s .side) (y % (s .side / 2)) lower → Weights (s .side) (y % (s .side / 2) + s .side / 2) upper → column < s .width / s .side
+    → Weighed work (further (rowSpan s reference rowParity y top) column) lower upper
 unfolding rowSpan rowWords
-block-weighed s reference rowParity y column over lower upper h =
+block-weighed {work} s reference rowParity y top column sided over lower upper h =
     record {
-      upper-words = words-later (512 * column) 1024 (over .above) (omega arith);
-      lower-words = words-later (512 * column) 1024 (over .below) (omega arith);
+      sided = sided;
+      lower-later = words (over .below) (n * (y % (n / 2)) + 2 * n * (n * column)) (omega (arith, room)) (omega arith);
+      lower-earlier = words (over .below) (n * (y % (n / 2)) + 2 * n * (n * column) + n * n) (omega (arith, room)) (omega arith);
+      upper-later = words (over .above) (n * (y % (n / 2) + n / 2) + 2 * n * (n * column)) (omega (arith, room)) (omega arith);
+      upper-earlier = words (over .above) (n * (y % (n / 2) + n / 2) + 2 * n * (n * column) + n * n) (omega (arith, room)) (omega arith);
       lower-weights = lower;
       upper-weights = upper;
-      row = omega arith;
+      row = row-in-half sided y;
     }
+  where
+    n : ℕ
+    n = s .side
+
+    room : n * (y % (n / 2) + n / 2) + 2 * n * (n * column) + n * n + n ≤ 2 * n * s .width
+    room = later-room sided (s .width) y column h
+
+    words : {at there : ℕ} → Words work at (rowWords n (s .width)) → (k : ℕ) → k + n ≤ 2 * n * s .width → at + k ≡ there → Words work there n
+    words w k b e = subst (λ j. Words work j n) e (words-later k n w b)

@@ -1,17 +1,27 @@
 -- Inside this crate and merging: the output as code gathers it, from corrections that are summed over the other frames first, and then windowed.
-use Rattle.algebra.specs.Prelude.{List, ℕ, zero, suc, _+_, _-_, _*_, _/_, _%_, getD, ℤ, pos, _-ℤ_, _*ℤ_}
+use Rattle.algebra.specs.Prelude.{_≡_, cond, List, _++_, ℕ, zero, suc, _+_, _*_, _/_, _%_, _<_, eqb, getD, ℤ, pos, _-ℤ_, _*ℤ_}
 use Rattle.algebra.specs.Sums.{sumZ}
 use Rattle.algebra.specs.Clamp.{clampZ}
 use Rattle.algebra.specs.Nearest.{upward}
 use Rattle.sequences.specs.Tab.{tab}
 use Rattle.recipe.specs.Side.{Side}
-use Rattle.recipe.specs.Tables.{window16, side16}
-use Rattle.recipe.specs.Output.{rowIn, weightIn}
+use Rattle.recipe.specs.Tables.{windows}
+use Rattle.recipe.specs.Tables32.{windows32}
+use Rattle.recipe.specs.Sides.{sideOf}
+use Rattle.recipe.specs.Output.{weightIn}
 use Rattle.gather.specs.declared.Span.{Span}
 
--- the weights of row i of a pair of tiles: place l is column l/2 of one of the two
-unfoldable pub weightRow : (i : ℕ) → List ℤ
-weightRow i = tab 32 (λ l. pos (window16 i * window16 (l / 2)))
+-- the windows of a side as code holds them: thirty-two numbers, of which side 16 has the first sixteen
+unfoldable pub windowTable : (side : ℕ) → List ℕ
+windowTable side = cond (eqb side 32) windows32 (windows ++ tab 16 (λ _. 0))
+
+-- the weight at place l of row i of a pair of tiles, which is column l/2 of one of the two
+abbrev pub weightOf : (side i l : ℕ) → ℤ
+weightOf side i l = pos (sideOf side .window i * sideOf side .window (l / 2))
+
+-- r is the weights of row i, and numbers that are not read
+pub record Weights (side i : ℕ) (r : List ℤ) : Type 0 where
+  pub at : (l : ℕ) → l < 2 * side → getD r l (pos 0) ≡ weightOf side i l
 
 -- what the four tiles over a sample have at it, windowed and added; the sample is row i and column j of the last tile
 unfoldable pub windowed : Side → (i j : ℕ) → (ℕ → ℤ) → ℤ
@@ -23,12 +33,11 @@ corrected n t0 sum others =
     let whole = 256 * (n .weight * suc others) in
     clampZ (pos 0) (pos 4095) (upward (pos t0 *ℤ pos whole -ℤ sum) whole)
 
--- where the words of the lower and the upper row of pairs start
+-- where the words of the lower and of the upper row of pairs start
 abbrev pub startOf : Span → ℕ → ℕ
 startOf p zero = p .below
 startOf p (suc u) = p .above
 
 -- what tile t over the word c places further on has at it, in the work area
 unfoldable pub wordOver : List ℤ → Span → (c t : ℕ) → ℤ
-wordOver work p c t =
-    getD work (startOf p (t / 2) + (512 * (c / 16 + 1 - t % 2) + (32 * rowIn side16 (p .i) t + (c % 16 + 16 * (t % 2))))) (pos 0)
+wordOver work p c t = getD work (startOf p (t / 2) + (p .side * p .side * (2 * (c / p .side) + t % 2) + c % p .side)) (pos 0)

@@ -7,29 +7,28 @@ ghost use lib.ListN.{length, getD};
 ghost use Rattle.algebra.specs.Bound.{AtMost};
 ghost use Rattle.algebra.specs.Clamp.{clampZ};
 ghost use Rattle.sequences.specs.Written.{written};
-ghost use Rattle.recipe.specs.Tables.{windows, window16, side16};
-ghost use Rattle.gather.specs.Gather.{weightRow, corrected, windowed, wordOver};
-ghost use Rattle.gather.specs.Work.{weightMost, partMost, sumMost, Divided, Words, Weighed, rowSpan, further, Small, Inside, Roomy, wordFrom, rowWritten};
+ghost use Rattle.geometry.specs.Fits.{TileSide};
+ghost use Rattle.recipe.specs.Tables.{side16};
+ghost use Rattle.recipe.specs.Sides.{sideOf};
+ghost use Rattle.tiles.specs.Sum.{takenMost};
+ghost use Rattle.gather.specs.Gather.{windowTable, Weights, corrected, windowed, wordOver};
+ghost use Rattle.gather.specs.Work.{weightMost, partMost, sumMost, Divided, Weighed, rowSpan, further, Small, Inside, Roomy, wordFrom, rowWritten};
 ghost use Rattle.gather.specs.Ready.{BlockReady, RowReady};
 use geometry::Shape;
-use geometry::tiles::FINEST_SIDE;
-use tiles::PAIR_WIDTH;
-use tiles::PAIR_WORDS;
 use tiles::rows::slot;
 
-// Tiles stand half a side apart, in a plane.
-pub const HALF_SIDE: usize = 8;
+// Words are gathered sixteen at a time: a block of side 16, half a block of side 32.
+const PART: usize = 16;
 
-// The words of a frame's row from one pair to the next: half a side of either plane.
-const BLOCK: usize = 16;
-
-// Where a part of an output row stands, and what it is made of: its samples are those from `from` on, its words those of the output from `start` on. It is row
-// `i` of the pairs of tiles that the work area has from `below` on, and row `i` + 8 of those from `above` on.
+// Where a block of an output row, or a row from its first block on, stands, and what it is made of: its samples are those from `from` on, its words those of the
+// output from `start` on. The work area has row `i` of the halves of pairs of tiles of `side` below it from `below` on, and row `i` + side/2 of those above it
+// from `above` on.
 pub struct Span {
     pub from: usize,
     pub start: usize,
     pub above: usize,
     pub below: usize,
+    pub side: usize,
     pub i: usize,
 }
 
@@ -39,8 +38,8 @@ struct Divisor {
     inverse: u64,
 }
 
-// w(0..15)
-const WINDOW: [u64; FINEST_SIDE] = [
+// w(0..15) of side 16, and zeros.
+const WINDOW_16: [u64; 32] = [
     39,
     345,
     910,
@@ -57,6 +56,58 @@ const WINDOW: [u64; FINEST_SIDE] = [
     910,
     345,
     39,
+    0,
+    0,
+    0,
+    0,
+    0,
+    0,
+    0,
+    0,
+    0,
+    0,
+    0,
+    0,
+    0,
+    0,
+    0,
+    0,
+];
+
+// w(0..31) of side 32.
+const WINDOW_32: [u64; 32] = [
+    10,
+    88,
+    242,
+    465,
+    749,
+    1083,
+    1453,
+    1847,
+    2249,
+    2643,
+    3013,
+    3347,
+    3631,
+    3854,
+    4008,
+    4086,
+    4086,
+    4008,
+    3854,
+    3631,
+    3347,
+    3013,
+    2643,
+    2249,
+    1847,
+    1453,
+    1083,
+    749,
+    465,
+    242,
+    88,
+    10,
 ];
 
 // Half of 2^32.
@@ -97,134 +148,179 @@ fn corrected(t0: u16, sum: i64, count: usize, inverse: u64) -> u16
     held(scaled(t0, sum, count), count, inverse)
 }
 
+// The windows of a side.
+fn window_of(side: usize) -> [u64; 32]
+    ensures { λ r. ⌜ r ≡ windowTable side ⌝ }
+{
+    if side == 32 {
+        return WINDOW_32;
+    }
+    WINDOW_16
+}
+
 // The product of two windows.
-fn weight(window: &[u64; FINEST_SIDE], i: usize, j: usize) -> i64
-    requires { ⌜ record { table : now window ≡ windows; row : i < 16; column : j < 16 } ⌝ }
-    ensures { λ r. ⌜ (r ≡ pos (window16 i * window16 j)) × (AtMost weightMost r) ⌝ }
+fn weight(window: &[u64; 32], side: usize, i: usize, j: usize) -> i64
+    requires { ⌜ record { sided : TileSide side; table : now window ≡ windowTable side; row : i < side; column : j < side } ⌝ }
+    ensures { λ r. ⌜ (r ≡ pos (sideOf side .window i * sideOf side .window j)) × (AtMost weightMost r) ⌝ }
 {
     (window[i] * window[j]) as i64
 }
 
-// w(i)·w(0..15), each twice: for the two planes.
-fn weights(window: &[u64; FINEST_SIDE], i: usize) -> [i64; PAIR_WIDTH]
-    requires { ⌜ (now window ≡ windows) × (i < 16) ⌝ }
-    ensures { λ r. ⌜ r ≡ weightRow i ⌝ }
+// w(i)·w(0..side−1), each twice: for the two planes.
+fn weights(window: &[u64; 32], side: usize, i: usize) -> [i64; 64]
+    requires { ⌜ record { sided : TileSide side; table : now window ≡ windowTable side; row : i < side } ⌝ }
+    ensures { λ r. ⌜ Weights side i r ⌝ }
 {
-    let mut row = [0i64; PAIR_WIDTH];
-    for j in 0..FINEST_SIDE {
-        let w = weight(window, i, j);
+    let mut row = [0i64; 64];
+    for j in 0..side {
+        let w = weight(window, side, i, j);
         row[2 * j] = w;
         row[2 * j + 1] = w;
     }
     row
 }
 
-// What a pair of tiles has at its row i and place l = 2·x + p, which is column x of plane p, weighed. Its words start at `start`.
-fn part(work: &[i64], weights: &[i64; PAIR_WIDTH], start: usize, i: usize, l: usize) -> i64
-    requires { ⌜ record { words : Words (now work) start 512; weights-are : now weights ≡ weightRow i; row : i < 16; place : l < 32 } ⌝ }
-    ensures { λ r. ⌜ (r ≡ pos (window16 i * window16 (l / 2)) *ℤ getD (now (work .entry)) (start + (32 * i + l)) (pos 0)) × (AtMost partMost r) ⌝ }
+// A word of the work area, weighed.
+fn part(work: &[i64], weights: &[i64; 64], at: usize, l: usize) -> i64
+    requires { ⌜ record { inside : at < length (now work); place : l < 64; word-most : natAbs (getD (now work) at (pos 0)) ≤ takenMost; weight-most : natAbs (getD (now weights) l (pos 0)) ≤ weightMost } ⌝ }
+    ensures { λ r. ⌜ (r ≡ getD (now (weights .entry)) l (pos 0) *ℤ getD (now (work .entry)) at (pos 0)) × (AtMost partMost r) ⌝ }
 {
-    weights[l] * work[start + (PAIR_WIDTH * i + l)]
+    weights[l] * work[at]
 }
 
 // What the four tiles over a sample have at it, windowed and added: row i and place l of the last pair.
-fn windowed(
-    work: &[i64],
-    lower: &[i64; PAIR_WIDTH],
-    upper: &[i64; PAIR_WIDTH],
-    span: Span,
-    l: usize,
-) -> i64
-    requires { ⌜ (Weighed (now work) span (now lower) (now upper)) × (l < 16) ⌝ }
-    ensures { λ r. ⌜ (r ≡ windowed side16 (span .i) (l / 2) (wordOver (now (work .entry)) span l)) × (AtMost sumMost r) ⌝ }
+fn windowed(work: &[i64], lower: &[i64; 64], upper: &[i64; 64], span: Span, l: usize) -> i64
+    requires { ⌜ (Weighed (now work) span (now lower) (now upper)) × (l < span .side) ⌝ }
+    ensures { λ r. ⌜ (r ≡ windowed (sideOf (span .side)) (span .i) (l / 2) (wordOver (now (work .entry)) span l)) × (AtMost sumMost r) ⌝ }
 {
     let above = span.above;
     let below = span.below;
-    let i = span.i;
-    part(work, lower, below + PAIR_WORDS, i, l)
-        + part(work, lower, below, i, l + BLOCK)
-        + part(work, upper, above + PAIR_WORDS, i + HALF_SIDE, l)
-        + part(work, upper, above, i + HALF_SIDE, l + BLOCK)
+    let side = span.side;
+    let half = side * side;
+    part(work, lower, below + l, l)
+        + part(work, lower, below + half + l, l + side)
+        + part(work, upper, above + l, l)
+        + part(work, upper, above + half + l, l + side)
+}
+
+// Words of a block, sixteen of them from `place` on.
+fn output_part(
+    samples: &[u16],
+    work: &[i64],
+    lower: &[i64; 64],
+    upper: &[i64; 64],
+    span: Span,
+    place: usize,
+    by: Divisor,
+    output: &mut [u16],
+)
+    requires { ⌜ (BlockReady span by (length (now samples)) (length (now output)) (now work) (now lower) (now upper)) × (place + 16 ≤ span .side) ⌝ }
+    ensures { λ _. ⌜ now (output .exit) ≡ written (now (output .entry)) (span .start + place) (λ l. wordFrom (now (samples .entry)) (now (work .entry)) span (by .count) (place + l)) 16 ⌝ }
+{
+    let from = span.from + place;
+    let start = span.start + place;
+    for l in 0..PART {
+        let sum = windowed(work, lower, upper, span, place + l);
+        let t0 = samples[from + l];
+        output[start + l] = corrected(t0, sum, by.count, by.inverse);
+    }
 }
 
 // A block: the words of a row over the same four pairs.
 fn output_block(
     samples: &[u16],
     work: &[i64],
-    lower: &[i64; PAIR_WIDTH],
-    upper: &[i64; PAIR_WIDTH],
+    lower: &[i64; 64],
+    upper: &[i64; 64],
     span: Span,
     by: Divisor,
     output: &mut [u16],
 )
     requires { ⌜ BlockReady span by (length (now samples)) (length (now output)) (now work) (now lower) (now upper) ⌝ }
-    ensures { λ _. ⌜ now (output .exit) ≡ written (now (output .entry)) (span .start) (wordFrom (now (samples .entry)) (now (work .entry)) span (by .count)) 16 ⌝ }
+    ensures { λ _. ⌜ now (output .exit) ≡ written (now (output .entry)) (span .start) (wordFrom (now (samples .entry)) (now (work .entry)) span (by .count)) (span .side) ⌝ }
 {
-    let from = span.from;
-    let start = span.start;
-    for l in 0..BLOCK {
-        let sum = windowed(work, lower, upper, span, l);
-        let t0 = samples[from + l];
-        output[start + l] = corrected(t0, sum, by.count, by.inverse);
+    let parts = span.side / PART;
+    for q in 0..parts {
+        output_part(
+            samples,
+            work,
+            lower,
+            upper,
+            span,
+            PART * q,
+            by,
+            &mut *output,
+        );
     }
 }
 
-// Row y of a row parity, from its first word on.
-fn row_span(shape: Shape, reference: usize, row_parity: usize, y: usize) -> Span
-    requires { ⌜ Inside shape reference «row_parity» y ⌝ }
-    ensures { λ r. ⌜ (r ≡ rowSpan shape reference «row_parity» y) × (Roomy shape r) ⌝ }
+// Row y of a row parity, from its first word on, for an output that begins with row `top` of the frame.
+fn row_span(shape: Shape, reference: usize, row_parity: usize, y: usize, top: usize) -> Span
+    requires { ⌜ Inside shape reference «row_parity» y top ⌝ }
+    ensures { λ r. ⌜ (r ≡ rowSpan shape reference «row_parity» y top) × (Roomy shape r) ⌝ }
 {
     let row = 2 * y + row_parity;
     let from = reference * (shape.row_length * shape.height) + row * shape.row_length;
-    let start = row * shape.width;
-    let above = slot(shape.width, y / HALF_SIDE);
-    let below = slot(shape.width, y / HALF_SIDE + 1);
+    let start = (row - top) * shape.width;
+    let side = shape.side;
+    let half = side / 2;
+    let i = y % half;
+    let above = slot(side, shape.width, y / half) + side * (i + half);
+    let below = slot(side, shape.width, y / half + 1) + side * i;
     Span {
         from,
         start,
         above,
         below,
-        i: y % HALF_SIDE,
+        side,
+        i,
     }
 }
 
 // The same from its block number `column` on.
 fn further(span: Span, column: usize) -> Span
-    requires { ⌜ (Small span) × (column < 256) ⌝ }
+    requires { ⌜ record { small : Small span; sided : TileSide (span .side); column-below : column < 256 } ⌝ }
     ensures { λ r. ⌜ r ≡ further span column ⌝ }
 {
+    let side = span.side;
+    let words = side * column;
+    let halves = 2 * side * words;
     Span {
-        from: span.from + BLOCK * column,
-        start: span.start + BLOCK * column,
-        above: span.above + PAIR_WORDS * column,
-        below: span.below + PAIR_WORDS * column,
+        from: span.from + words,
+        start: span.start + words,
+        above: span.above + halves,
+        below: span.below + halves,
+        side,
         i: span.i,
     }
 }
 
-// One row of the output: row y of a row parity, block by block.
+// One row of the output, which begins with row `top` of the frame: row y of a row parity, block by block.
 pub fn output_row(
     shape: Shape,
     reference: usize,
     samples: &[u16],
     row_parity: usize,
     y: usize,
+    top: usize,
     work: &[i64],
     output: &mut [u16],
 )
-    requires { ⌜ RowReady shape reference «row_parity» y (length (now samples)) (length (now output)) (now work) ⌝ }
-    ensures { λ _. ⌜ now (output .exit) ≡ rowWritten (now (output .entry)) (now (samples .entry)) (now (work .entry)) shape reference «row_parity» y ⌝ }
+    requires { ⌜ RowReady shape reference «row_parity» y top (length (now samples)) (length (now output)) (now work) ⌝ }
+    ensures { λ _. ⌜ now (output .exit) ≡ rowWritten (now (output .entry)) (now (samples .entry)) (now (work .entry)) shape reference «row_parity» y top ⌝ }
 {
-    let window = WINDOW;
-    let lower = weights(&window, y % HALF_SIDE);
-    let upper = weights(&window, y % HALF_SIDE + HALF_SIDE);
+    let side = shape.side;
+    let half = side / 2;
+    let window = window_of(side);
+    let lower = weights(&window, side, y % half);
+    let upper = weights(&window, side, y % half + half);
     let count = shape.count;
     let by = Divisor {
         count,
         inverse: (524287 + count as u64) / count as u64,
     };
-    let row = row_span(shape, reference, row_parity, y);
-    for column in 0..shape.width / BLOCK {
+    let row = row_span(shape, reference, row_parity, y, top);
+    for column in 0..shape.width / side {
         let span = further(row, column);
         output_block(samples, work, &lower, &upper, span, by, &mut *output);
     }

@@ -1,5 +1,6 @@
 -- What is known of a burst and its lent buffers once the tests have let them through. Inner vocabulary: `requires` and laws speak of it, no answer does.
 use Rattle.algebra.specs.Prelude.{_≡_, List, ℕ, _+_, _%_, _≤_, _<_, length, getD, ℤ, pos, natAbs}
+use mathlib.Core.Logic.{_⊎_}
 use Rattle.geometry.specs.declared.Shape.{Shape}
 use Rattle.geometry.specs.Shape.{sampleLength, vectorLength, outputLength, workLength}
 use Rattle.geometry.specs.Read.{sampleAt}
@@ -18,6 +19,10 @@ pub record Allowed (s : Shape) : Type 0 where
   pub row-least : s .width ≤ s .«row_length»
   pub row-most : s .«row_length» ≤ s .width + 256
 
+-- refusal 22
+pub record TileSide (side : ℕ) : Type 0 where
+  pub is : (side ≡ 16) ⊎ (side ≡ 32)
+
 -- a sample's frame, row and column
 pub record Placed (s : Shape) (frame row column : ℕ) : Type 0 where
   pub frame-in : frame < s .count
@@ -29,9 +34,10 @@ pub record Sampled (s : Shape) (samples : List ℕ) : Type 0 where
   pub allowed : Allowed s
   pub long : length samples ≡ sampleLength s
 
--- refusals 1 to 5 and 23, and then 6 and 7
+-- refusals 1 to 5, 22 and 23, and then 6 and 7
 pub record BurstFits (s : Shape) (reference samples vectors : ℕ) : Type 0 where
   pub allowed : Allowed s
+  pub sided : TileSide (s .side)
   pub reference-below : reference < s .count
   pub samples-long : samples ≡ sampleLength s
   pub vectors-long : vectors ≡ vectorLength s

@@ -3,10 +3,10 @@ pub mod Shape
 pub mod Read
 pub mod Vectors
 pub mod Fits
-pub mod ShapeLaws
 pub mod ReadLaws
 pub mod LevelTiles
 pub mod Quotient
 pub mod TileLaws
+pub mod ShapeLaws
 pub mod NeighbourLaws
 pub mod VectorLaws

@@ -1,8 +1,8 @@
--- The coarse indices by cases are those of document 01's formulas, for every index and both q.
+-- The coarse indices by cases are those of document 01's formulas, for every index and each q.
 use Rattle.algebra.specs.Prelude.{_≡_, refl, cond, ℕ, zero, suc, _+_, _*_, _/_, _%_, arith, ltb}
 use mathlib.Core.Logic.{⊎-elim}
 use borrow.Author.Tests.{lt-ltb, le-ltb}
-use Rattle.geometry.specs.Tiles.{own2, own4, own, neighbour2, neighbour4, neighbour}
+use Rattle.geometry.specs.Tiles.{own1, own2, own4, own, neighbour1, neighbour2, neighbour4, neighbour}
 use Rattle.geometry.specs.Quotient.{Quotient}
 
 -- "Own coarse index of a: floor((2a+q)/(2q))."
@@ -14,6 +14,14 @@ abbrev pub neighbourFormula : (q a : ℕ) → ℕ
 neighbourFormula q a = cond (ltb (a / q) (ownFormula q a)) (a / q) (ownFormula q a + 1)
 
 module _ (a : ℕ) where
+  own-1 : own1 a ≡ ownFormula 1 a
+  unfolding own1
+  own-1 = omega arith
+
+  neighbour-1 : neighbour1 a ≡ neighbourFormula 1 a
+  unfolding neighbour1
+  neighbour-1 = rw (le-ltb (a / 1) (ownFormula 1 a) (omega arith)) (omega arith)
+
   own-2 : (r : ℕ) → r ≡ a % 2 → own2 r (a / 2) ≡ ownFormula 2 a
   unfolding own2
   own-2 zero e = omega arith
@@ -45,8 +53,8 @@ module _ (a : ℕ) where
 -- every index is the same
 pub same-own : (q a : ℕ) → Quotient q → own q a ≡ ownFormula q a
 unfolding own
-same-own q a h = ⊎-elim (λ e. rw e (own-2 a (a % 2) refl)) (λ e. rw e (own-4 a (a % 4) refl)) (h .is)
+same-own q a h = ⊎-elim (λ e. rw e (own-1 a)) (⊎-elim (λ e. rw e (own-2 a (a % 2) refl)) (λ e. rw e (own-4 a (a % 4) refl))) (h .is)
 
 pub same-neighbour : (q a : ℕ) → Quotient q → neighbour q a ≡ neighbourFormula q a
 unfolding neighbour
-same-neighbour q a h = ⊎-elim (λ e. rw e (neighbour-2 a (a % 2) refl)) (λ e. rw e (neighbour-4 a (a % 4) refl)) (h .is)
+same-neighbour q a h = ⊎-elim (λ e. rw e (neighbour-1 a)) (⊎-elim (λ e. rw e (neighbour-2 a (a % 2) refl)) (λ e. rw e (neighbour-4 a (a % 4) refl))) (h .is)

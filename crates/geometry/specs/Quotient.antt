@@ -3,4 +3,4 @@ use Rattle.algebra.specs.Prelude.{_≡_, ℕ}
 use mathlib.Core.Logic.{_⊎_}
 
 pub record Quotient (q : ℕ) : Type 0 where
-  pub is : (q ≡ 2) ⊎ (q ≡ 4)
+  pub is : (q ≡ 1) ⊎ ((q ≡ 2) ⊎ (q ≡ 4))

@@ -1,13 +1,13 @@
--- Sizes, counts and row lengths that are allowed, the lengths of the four lent buffers, and refusals 1 to 7 and 23.
-use Rattle.algebra.specs.Prelude.{Bool, not, _&&_, ℕ, _+_, _-_, _*_, _%_, eqb, leb}
+-- Sizes, counts, sides and row lengths that are allowed, the lengths of the four lent buffers, and refusals 1 to 7, 22 and 23.
+use Rattle.algebra.specs.Prelude.{Bool, not, _&&_, _||_, ℕ, _+_, _-_, _*_, _/_, _%_, eqb, leb}
 use Rattle.refusals.specs.Numbers as no
 use Rattle.refusals.specs.Tests.{refuse}
 use Rattle.geometry.specs.declared.Shape.{Shape}
 use Rattle.geometry.specs.Tiles.{frameParts}
 
--- a burst's shape, by W, H, N and L
-abbrev pub shaped : (width height count rowLength : ℕ) → Shape
-shaped width height count rowLength = record { width = width; height = height; count = count; «row_length» = rowLength }
+-- a burst's shape, by W, H, N, the side of its tiles and L
+abbrev pub shaped : (width height count side rowLength : ℕ) → Shape
+shaped width height count side rowLength = record { width = width; height = height; count = count; side = side; «row_length» = rowLength }
 
 -- "Width W and height H are multiples of 64 from 64 to 4096."
 unfoldable pub sizeAllowed : ℕ → Bool
@@ -29,6 +29,14 @@ countRefusal s = refuse no.count (not (countAllowed (s .count)))
 unfoldable pub referenceRefusal : Shape → ℕ → ℕ
 referenceRefusal s reference = refuse no.reference (leb (s .count) reference)
 
+-- "Offer side 32 at level 0 and in the merge" (request L8)
+unfoldable pub sideAllowed : ℕ → Bool
+sideAllowed side = eqb side 16 || eqb side 32
+
+-- refusal 22: "a side other than 16 or 32" (request L8)
+unfoldable pub sideRefusal : Shape → ℕ
+sideRefusal s = refuse no.side (not (sideAllowed (s .side)))
+
 -- "a row length L, from W to W + 256" (request L9)
 unfoldable pub rowAllowed : (width rowLength : ℕ) → Bool
 rowAllowed width rowLength = leb width rowLength && leb rowLength (width + 256)
@@ -48,7 +56,7 @@ frameStride s = rowStride s * s .height
 unfoldable pub sampleLength : Shape → ℕ
 sampleLength s = s .count * frameStride s
 
--- "Lengths: vectors (N−1)·2·(W/16+1)·(H/16+1)"
+-- "Lengths: vectors (N−1)·2·(W/16+1)·(H/16+1)"; with side 32, "Vectors per frame: 2·(W/32+1)·(H/32+1)" (request L8)
 unfoldable pub vectorLength : Shape → ℕ
 vectorLength s = (s .count - 1) * frameParts s
 

@@ -1,13 +1,15 @@
 -- What acceptance says of sizes, counts, row lengths and buffers, in a form that linear arithmetic reads.
-use Rattle.algebra.specs.Prelude.{_≡_, refl, subst, Bool, true, false, not, _&&_, ℕ, _-_, _*_, _≤_, _<_, arith, T, leb, eqb, ltb}
+use mathlib.Core.Logic.{_⊎_, inl, inr}
+use Rattle.algebra.specs.Prelude.{_≡_, refl, subst, Bool, true, false, not, _&&_, _||_, ℕ, _-_, _*_, _≤_, _<_, arith, T, leb, eqb, ltb}
 use native.Mathlib.Nat.{mul-le-mul}
 use borrow.Author.Tests.{leb-true, leb-false, eqb-true, not-false}
 use Rattle.refusals.specs.Numbers as no
 use Rattle.refusals.specs.TestLaws.{refuse-not}
 use Rattle.geometry.specs.declared.Shape.{Shape}
 use Rattle.geometry.specs.Tiles.{tileColumns, tileRows, frameParts}
-use Rattle.geometry.specs.Shape.{sizeAllowed, countAllowed, rowAllowed, sizeRefusal, countRefusal, rowRefusal, referenceRefusal, frameStride, lengthRefusal}
-use Rattle.geometry.specs.Fits.{AllowedSize, Allowed}
+use Rattle.geometry.specs.Shape.{sizeAllowed, countAllowed, sideAllowed, rowAllowed, sizeRefusal, countRefusal, sideRefusal, rowRefusal, referenceRefusal, frameStride, lengthRefusal}
+use Rattle.geometry.specs.Fits.{AllowedSize, Allowed, TileSide}
+use Rattle.geometry.specs.TileLaws.{sided-most}
 
 -- both parts of a test that holds
 pub both : {a b : Bool} → a && b ≡ true → (a ≡ true) × (b ≡ true)
@@ -36,6 +38,14 @@ allowed s size count row =
       row-most = leb-true _ _ (rows .1);
     }
 
+pub allowed-side : (s : Shape) → sideRefusal s ≡ 0 → TileSide (s .side)
+unfolding sideRefusal sideAllowed
+allowed-side s e = record { is = by (eqb (s .side) 16) refl (not-false _ (refuse-not no.side (not (sideAllowed (s .side))) tt e)) }
+  where
+    by : (b : Bool) → eqb (s .side) 16 ≡ b → b || eqb (s .side) 32 ≡ true → (s .side ≡ 16) ⊎ (s .side ≡ 32)
+    by true h k = inl (eqb-true _ _ h)
+    by false h k = inr (eqb-true _ _ k)
+
 pub below-count : (s : Shape) (reference : ℕ) → referenceRefusal s reference ≡ 0 → reference < s .count
 unfolding referenceRefusal
 below-count s reference e = leb-false (s .count) reference (refuse-not no.reference (leb (s .count) reference) tt e)
@@ -55,8 +65,10 @@ module _ {s : Shape} (ok : Allowed s) where
   pub samples-most : s .count * frameStride s ≤ 142606336
   samples-most = mul-le-mul {n₁ = s .count} {m₁ = frameStride s} {n₂ = 8} {m₂ = 17825792} (ok .few) frame-most
 
-  pub tiles-most : tileRows s * tileColumns s ≤ 66049
-  tiles-most = mul-le-mul {n₁ = tileRows s} {m₁ = tileColumns s} {n₂ = 257} {m₂ = 257} (omega arith) (omega arith)
+  module _ (sided : TileSide (s .side)) where
+    pub tiles-most : tileRows s * tileColumns s ≤ 66049
+    tiles-most =
+        mul-le-mul {n₁ = tileRows s} {m₁ = tileColumns s} {n₂ = 257} {m₂ = 257} (sided-most sided (s .height) (ok .high .most)) (sided-most sided (s .width) (ok .wide .most))
 
-  pub vectors-most : (s .count - 1) * frameParts s ≤ 924686
-  vectors-most = mul-le-mul {n₁ = s .count - 1} {m₁ = frameParts s} {n₂ = 7} {m₂ = 132098} (omega arith) (omega (arith, tiles-most))
+    pub vectors-most : (s .count - 1) * frameParts s ≤ 924686
+    vectors-most = mul-le-mul {n₁ = s .count - 1} {m₁ = frameParts s} {n₂ = 7} {m₂ = 132098} (omega arith) (omega (arith, tiles-most))

@@ -12,9 +12,14 @@ pub record Level : Type 0 where
   pub bound : ℕ
 
 -- "Level 0: the sum of each 2 by 2 Bayer square. Level 1 halves it; level 2 is a quarter of level 1, level 3 a quarter of level 2";
--- "Tiles have side 16 (8 at level 3) and half step s = 8 (4)"; "squared differences at levels 3 to 1, absolute at level 0"
+-- "Tiles have side 16 (8 at level 3) and half step s = 8 (4)"; "side 32 at level 0 and in the merge, half step 16; the levels above keep their tiles"
+-- (request L8); "squared differences at levels 3 to 1, absolute at level 0"
 abbrev pub finestLevel : (side : ℕ) → Level
 finestLevel side = record { scale = 2; side = side; half = side / 2; squared = false; bound = 172 }
+
+-- where its size alone is asked for, which is the same with either side
+abbrev pub level0 : Level
+level0 = finestLevel 16
 
 abbrev pub level1 : Level
 level1 = record { scale = 4; side = 16; half = 8; squared = true; bound = 84 }
@@ -25,13 +30,6 @@ level2 = record { scale = 16; side = 16; half = 8; squared = true; bound = 20 }
 abbrev pub level3 : Level
 level3 = record { scale = 64; side = 8; half = 4; squared = true; bound = 4 }
 
--- the side of level 0's tiles, which are the merge's as well
-abbrev pub finestSide : ℕ
-finestSide = 16
-
-abbrev pub level0 : Level
-level0 = finestLevel finestSide
-
 -- a level's size, of a frame's
 unfoldable pub levelSize : Level → ℕ → ℕ
 levelSize l size = size / l .scale
@@ -41,12 +39,10 @@ pub record Step : Type 0 where
   pub factor : ℕ
   pub quotient : ℕ
 
--- "f = 2, q = 2 from level 1 to 0; f = 4, q = 4 from 2 to 1; f = 4, q = 2 from 3 to 2": level 1's tiles lie 16 of level 0's samples apart
+-- "f = 2, q = 2 from level 1 to 0; f = 4, q = 4 from 2 to 1; f = 4, q = 2 from 3 to 2": level 1's tiles lie 16 of level 0's samples apart, so that
+-- "From level 1 to 0, q is then 1" where the side is 32 (request L8)
 abbrev pub finestStep : (side : ℕ) → Step
 finestStep side = record { factor = 2; quotient = 32 / side }
-
-abbrev pub step1to0 : Step
-step1to0 = finestStep finestSide
 
 abbrev pub step2to1 : Step
 step2to1 = record { factor = 4; quotient = 4 }
@@ -58,12 +54,12 @@ step3to2 = record { factor = 4; quotient = 2 }
 unfoldable pub tileCount : (half size : ℕ) → ℕ
 tileCount half size = (size + (half - 1)) / half + 1
 
--- "(W/16+1)·(H/16+1)": the columns and the rows of level 0's tiles (`finest-tiles`, TileLaws)
+-- "(W/16+1)·(H/16+1)", or "(W/32+1)·(H/32+1)" (request L8): the columns and the rows of level 0's tiles (`finest-tiles`, TileLaws)
 abbrev pub tileColumns : Shape → ℕ
-tileColumns s = s .width / finestSide + 1
+tileColumns s = s .width / s .side + 1
 
 abbrev pub tileRows : Shape → ℕ
-tileRows s = s .height / finestSide + 1
+tileRows s = s .height / s .side + 1
 
 -- how many parts the vectors of one frame have, two for each tile
 abbrev pub frameParts : Shape → ℕ
@@ -75,6 +71,13 @@ origin half index = pos (half * index) -ℤ pos half
 
 -- "Own coarse index of a" and "the neighbour", by the remainder of a divided by q, as docs/NEIGHBOURS.md draws them: the fine tile lies between the coarse
 -- tiles m and m + 1, where m is a divided by q. The nearer one is its own, the other one its neighbour; half way, the later one is its own.
+-- q = 1 (request L8): no remainder but 0
+unfoldable pub own1 : (m : ℕ) → ℕ
+own1 m = m
+
+unfoldable pub neighbour1 : (m : ℕ) → ℕ
+neighbour1 m = m + 1
+
 -- q = 2: two remainders
 unfoldable pub own2 : (remainder m : ℕ) → ℕ
 own2 zero m = m
@@ -101,10 +104,10 @@ neighbour4 (suc (suc (suc r))) m = m
 
 -- the steps have no other q
 unfoldable pub own : (q a : ℕ) → ℕ
-own q a = cond (eqb q 2) (own2 (a % 2) (a / 2)) (own4 (a % 4) (a / 4))
+own q a = cond (eqb q 1) (own1 a) (cond (eqb q 2) (own2 (a % 2) (a / 2)) (own4 (a % 4) (a / 4)))
 
 unfoldable pub neighbour : (q a : ℕ) → ℕ
-neighbour q a = cond (eqb q 2) (neighbour2 (a % 2) (a / 2)) (neighbour4 (a % 4) (a / 4))
+neighbour q a = cond (eqb q 1) (neighbour1 a) (cond (eqb q 2) (neighbour2 (a % 2) (a / 2)) (neighbour4 (a % 4) (a / 4)))
 
 -- "Both are capped at the last index."
 unfoldable pub capped : (count index : ℕ) → ℕ

@@ -2,13 +2,10 @@
 ghost use mathlib.Core.Path.{_≡_};
 ghost use Prim.Native.Nat.{_+_, _/_, _%_, _<_, _≤_};
 ghost use Rattle.algebra.specs.Bound.{AtMost};
-ghost use Rattle.geometry.specs.Fits.{Allowed};
+ghost use Rattle.geometry.specs.Fits.{Allowed, TileSide};
 ghost use Rattle.geometry.specs.Tiles.{tileCount, tileRows, tileColumns, frameParts, origin, own2, own4, own, neighbour2, neighbour4, neighbour, capped};
 ghost use Rattle.geometry.specs.Quotient.{Quotient};
 use crate::Shape;
-
-// The side of level 0's tiles, which are the merge's as well.
-pub const FINEST_SIDE: usize = 16;
 
 // How many tiles there are, one way.
 pub fn tile_count(half: usize, size: usize) -> usize
@@ -18,25 +15,36 @@ pub fn tile_count(half: usize, size: usize) -> usize
     (size + (half - 1)) / half + 1
 }
 
+// How many tiles level 0 has, one way.
+fn finest_count(side: usize, size: usize) -> usize
+    requires { ⌜ (TileSide side) × (size ≤ 4096) ⌝ }
+    ensures { λ r. ⌜ (r ≡ size / side + 1) × (r ≤ 257) ⌝ }
+{
+    if side == 32 {
+        return size / 32 + 1;
+    }
+    size / 16 + 1
+}
+
 // The rows of level 0's tiles.
 pub fn tile_rows(shape: Shape) -> usize
-    requires { ⌜ Allowed shape ⌝ }
+    requires { ⌜ (Allowed shape) × (TileSide (shape .side)) ⌝ }
     ensures { λ r. ⌜ (r ≡ tileRows shape) × (r ≤ 257) ⌝ }
 {
-    shape.height / FINEST_SIDE + 1
+    finest_count(shape.side, shape.height)
 }
 
 // Their columns.
 pub fn tile_columns(shape: Shape) -> usize
-    requires { ⌜ Allowed shape ⌝ }
+    requires { ⌜ (Allowed shape) × (TileSide (shape .side)) ⌝ }
     ensures { λ r. ⌜ (r ≡ tileColumns shape) × (r ≤ 257) ⌝ }
 {
-    shape.width / FINEST_SIDE + 1
+    finest_count(shape.side, shape.width)
 }
 
 // How many parts the vectors of one frame have.
 pub fn frame_parts(shape: Shape) -> usize
-    requires { ⌜ Allowed shape ⌝ }
+    requires { ⌜ (Allowed shape) × (TileSide (shape .side)) ⌝ }
     ensures { λ r. ⌜ (r ≡ frameParts shape) × (r ≤ 132098) ⌝ }
 {
     2 * (tile_rows(shape) * tile_columns(shape))
@@ -79,6 +87,9 @@ pub fn own(q: usize, a: usize) -> usize
     requires { ⌜ (Quotient q) × (a ≤ 4096) ⌝ }
     ensures { λ r. ⌜ r ≡ own q a ⌝ }
 {
+    if q == 1 {
+        return a;
+    }
     if q == 2 { own_2(a) } else { own_4(a) }
 }
 
@@ -111,6 +122,9 @@ pub fn neighbour(q: usize, a: usize) -> usize
     requires { ⌜ (Quotient q) × (a ≤ 4096) ⌝ }
     ensures { λ r. ⌜ r ≡ neighbour q a ⌝ }
 {
+    if q == 1 {
+        return a + 1;
+    }
     if q == 2 {
         neighbour_2(a)
     } else {

@@ -2,7 +2,7 @@
 ghost use mathlib.Core.Path.{_≡_};
 ghost use Prim.Native.Nat.{_+_, _≤_, _<_};
 ghost use Rattle.geometry.specs.Shape.{vectorLength};
-ghost use Rattle.geometry.specs.Fits.{Allowed};
+ghost use Rattle.geometry.specs.Fits.{Allowed, TileSide};
 ghost use Rattle.geometry.specs.Tiles.{tileRows, tileColumns};
 ghost use Rattle.geometry.specs.Vectors.{otherFrame, vectorPlace};
 use crate::Shape;
@@ -25,7 +25,7 @@ pub fn other_frame(reference: usize, k: usize) -> usize
 
 // Where the vector of a tile stands, for the k-th other frame.
 pub fn vector_place(shape: Shape, k: usize, row: usize, column: usize) -> usize
-    requires { ⌜ record { allowed : Allowed shape; other : k + 1 < shape .count; row-in : row < tileRows shape; column-in : column < tileColumns shape } ⌝ }
+    requires { ⌜ record { allowed : Allowed shape; sided : TileSide (shape .side); other : k + 1 < shape .count; row-in : row < tileRows shape; column-in : column < tileColumns shape } ⌝ }
     ensures { λ r. ⌜ (r ≡ vectorPlace shape k row column) × (r + 1 < vectorLength shape) ⌝ }
 {
     k * frame_parts(shape) + 2 * (row * tile_columns(shape) + column)

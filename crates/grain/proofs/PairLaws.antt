@@ -23,6 +23,7 @@ use Rattle.spectrum.specs.Magnitudes.{spatialMost, spatialGainMost, spatialCorr
 use Rattle.spectrum.specs.PlaceLaws.{spread-ext, back-ext}
 use Rattle.spectrum.specs.SizeLaws.{copy-gain-most}
 use Rattle.spectrum.specs.Spectrum.{twoWay, transposed, spread, backSum, tileRe, tileIm}
+use Rattle.spectrum.specs.Turns.{turns16}
 use Rattle.spectrum.specs.SpectrumLaws.{bin-re, bin-im}
 use Rattle.spectrum.specs.Pairs.{InDouble, planeIn, sideBySide, either, doubles}
 use Rattle.grain.specs.Filtering.{binNoise, stepAt, NoiseLine, NoisesMost}
@@ -143,10 +144,10 @@ module _ (noises : List (List ℕ)) (w : List (List ℤ)) where
       rw (parity, column)
 
   pub spreads-are : {g h : List (List ℤ)} → g ≡ grid 16 18 (λ u l. laneRe (getD noises (frequency u) []) w u l) → h ≡ grid 16 18 (λ u l. laneIm (getD noises (frequency u) []) w u l) → doubles (sideBySide (λ p. transposed (spread (planeIn (cell (pos 0) g) p) (planeIn (cell (pos 0) h) p)))) ≡ doubles (spreads noises w)
-  unfolding doubles
+  unfolding doubles side16
   spreads-are {g} {h} d e =
       grid-ext 16 32 _ _ (λ y l i j. ap (ofInt binary64)
-      (spread-ext (planeIn (cell (pos 0) g) (l % 2)) (planeIn (cell (pos 0) h) (l % 2)) (pairRe noises w (l % 2)) (pairIm noises w (l % 2))
+      (spread-ext turns16 (planeIn (cell (pos 0) g) (l % 2)) (planeIn (cell (pos 0) h) (l % 2)) (pairRe noises w (l % 2)) (pairIm noises w (l % 2))
       (λ u v n k. lane-at laneRe d (l % 2) (omega arith) u v n k ∙ re-at (l % 2) u v (omega arith)) (λ u v n k. lane-at laneIm e (l % 2) (omega arith) u v n k ∙ im-at (l % 2) u v (omega arith)) (l / 2) y (omega arith) i))
 
 -- ---- the noise numbers
@@ -218,7 +219,7 @@ module _ (first second : List (List ℕ)) {noises : List (List ℕ)} (e : noises
     steps-are z =
         grid-ext 16 32 _ _
         (λ y l h k. ap₂ _+ℤ_ (ap (λ t. cell (pos 0) t y l) z ∙ cell-grid (pos 0) 16 32 (λ y l. pos 0) y l h k)
-        (ap (λ z. away z (2 ^ 32)) (back-ext (transposed (planeIn (spreads noises w) (l % 2))) (spread (pairRe noises w (l % 2)) (pairIm noises w (l % 2))) (λ k b i j. spread-at l k b) y (l / 2))
+        (ap (λ z. away z (2 ^ 32)) (back-ext side16 (transposed (planeIn (spreads noises w) (l % 2))) (spread (pairRe noises w (l % 2)) (pairIm noises w (l % 2))) (λ k b i j. spread-at l k b) y (l / 2))
         ∙ steps-back (numbers (l % 2)) (copy (l % 2)) (pairRe noises w (l % 2)) (pairIm noises w (l % 2)) (pair-re-is (l % 2) (omega arith)) (pair-im-is (l % 2) (omega arith)) y (l / 2) h (omega arith))
         ∙ +ℤ-idl (stepIn y l))
 

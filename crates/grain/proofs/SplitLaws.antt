@@ -13,7 +13,7 @@ use Rattle.lines.specs.Held.{number-is, number-most, cast-fits, cast-is}
 use Rattle.lines.specs.Magnitudes.{differenceMost}
 use Rattle.spectrum.specs.LineLaws.{halfcomplex-ext, halfcomplex-most}
 use Rattle.spectrum.specs.Magnitudes.{copyMost}
-use Rattle.spectrum.specs.Spectrum.{twoWay}
+use Rattle.spectrum.specs.Spectrum.{twoWay, twoWayOf}
 use Rattle.grain.specs.Steps.{highOf, lowOf, placeMost}
 
 -- ---- one sample
@@ -72,7 +72,7 @@ module _ {c : ℤ} (m : AtMost copyMost c) where
 
 -- a place of the transform of small numbers
 pub two-way-most : (d : ℕ → ℕ → ℤ) → ((y x : ℕ) → natAbs (d y x) ≤ differenceMost) → (k b : ℕ) → natAbs (twoWay d k b) ≤ placeMost
-unfolding twoWay
+unfolding twoWayOf side16
 two-way-most d m k b =
     le-trans (halfcomplex-most (16 * (differenceMost * 16384)) (λ y. halfcomplex (d y) k) (λ y. halfcomplex-most differenceMost (d y) (m y) k) b) (lit≤ tt)
 
@@ -86,7 +86,7 @@ line-sum f g k =
     ∙ ap (λ z. z +ℤ halfcomplex g k) (sumZ-scale 16 (pos 4096) (λ i. f i *ℤ basis k i))
 
 pub two-way-sum : (c h l : ℕ → ℕ → ℤ) → ((y x : ℕ) → y < 16 → x < 16 → c y x ≡ pos 4096 *ℤ h y x +ℤ l y x) → (k b : ℕ) → twoWay c k b ≡ pos 4096 *ℤ twoWay h k b +ℤ twoWay l k b
-unfolding twoWay
+unfolding twoWayOf side16
 two-way-sum c h l e k b =
     halfcomplex-ext _ (λ y. pos 4096 *ℤ halfcomplex (h y) k +ℤ halfcomplex (l y) k)
     (λ y i. halfcomplex-ext (c y) (λ x. pos 4096 *ℤ h y x +ℤ l y x) (λ x j. e y x i j) k ∙ line-sum (h y) (l y) k) b

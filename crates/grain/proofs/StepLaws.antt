@@ -10,6 +10,7 @@ use Rattle.recipe.specs.Correction.{wiener, binRe, binIm}
 use Rattle.recipe.specs.Spatial.{copyQuantized, copyFiltered}
 use Rattle.recipe.specs.SpatialNoise.{frequency}
 use Rattle.spectrum.specs.Spectrum.{spread, backSum}
+use Rattle.spectrum.specs.Turns.{turns16}
 use Rattle.spectrum.specs.SpectrumLaws.{wiener-odd, wiener-even}
 use Rattle.spectrum.specs.BinFilters.{BinFilter, filteredBy, turned-back}
 use Rattle.grain.specs.Filtering.{binNoise, stepAt}
@@ -37,7 +38,8 @@ module _ (noise : ℕ → ℕ → ℕ) where
   abbrev pub step : (u v : ℕ) → ℤ → ℤ → ℤ
   step u v = copyFiltered side16 (binNoise noise u v)
 
-  by-bin : BinFilter step
+  by-bin : BinFilter side16 step
+  unfolding side16
   by-bin =
       record {
         odd = λ u v. copy-odd (binNoise noise u v);
@@ -48,5 +50,5 @@ module _ (noise : ℕ → ℕ → ℕ) where
   -- of the copy c, from the step (g, h) on its bins in columns 0 to 8
   pub steps-back : (c g h : ℕ → ℕ → ℤ) → ((u v : ℕ) → u < 16 → v < 9 → g u v ≡ filteredBy step (binRe side16 c) (binIm side16 c) u v) → ((u v : ℕ) → u < 16 → v < 9 → h u v ≡ filteredBy step (binIm side16 c) (binRe side16 c) u v)
       → (y x : ℕ) → y < 16 → x < 16 → away (backSum (spread g h) y x) (2 ^ 32) ≡ stepAt (binNoise noise) c y x
-  unfolding stepAt
-  steps-back = turned-back by-bin
+  unfolding stepAt side16
+  steps-back = turned-back turns16 by-bin

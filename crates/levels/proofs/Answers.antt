@@ -1,7 +1,13 @@
 -- From the answer for a tile to that for a level's tile.
 use mathlib.Core.Path.{_≡_, refl, _∙_}
-use Rattle.algebra.specs.Prelude.{ℕ, zero, suc, _+_, _*_, _≤_, arith}
+use Rattle.algebra.specs.Prelude.{Bool, ℕ, zero, suc, _+_, _*_, _≤_, arith}
+use mathlib.Core.Logic.{inl, inr, ⊎-elim}
 use native.Mathlib.Nat.{zero-add}
+use Rattle.geometry.specs.Fits.{TileSide}
+use Rattle.search.specs.Local.{Kind}
+use Rattle.search.specs.RowLaws.{candidate-rows-most}
+use Rattle.geometry.specs.declared.vectors.Vector.{Vector}
+use Rattle.levels.specs.Magnitudes.{tileRowsMost}
 use Rattle.geometry.specs.Tiles.{Level, level3, Step}
 use Rattle.residuals.specs.declared.Tile.{Tile}
 use Rattle.matching.specs.declared.Found.{Found}
@@ -28,10 +34,23 @@ pub eight-side : (row column : ℕ) → levelTile level3 row column .side ≡ 8
 unfolding levelTile
 eight-side row column = refl
 
--- the tiles of the finer levels have side 16
-pub finer-side : (level row column : ℕ) → level ≤ 2 → levelTile (levelAt level) row column .side ≡ 16
+-- the tiles of the finer levels have side 16, or 32 at level 0 by absolute differences
+pub finer-sided : (side level row column : ℕ) → TileSide side → level ≤ 2 → TileSide (levelTile (levelAt side level) row column .side)
 unfolding levelTile
-finer-side zero row column h = refl
-finer-side (suc zero) row column h = refl
-finer-side (suc (suc zero)) row column h = refl
-finer-side (suc (suc (suc k))) row column h = absurd (omega arith)
+finer-sided side zero row column s h = s
+finer-sided side (suc zero) row column s h = record { is = inl refl }
+finer-sided side (suc (suc zero)) row column s h = record { is = inl refl }
+finer-sided side (suc (suc (suc k))) row column s h = absurd (omega arith)
+
+pub finer-kind : (side level row column : ℕ) → TileSide side → level ≤ 2 → Kind (levelAt side level .squared) (levelTile (levelAt side level) row column .side)
+unfolding levelTile
+finer-kind side zero row column s h = record { is = ⊎-elim (λ e. inl (record { is = inr e })) (λ e. inr (e, refl)) (s .is) }
+finer-kind side (suc zero) row column s h = record { is = inl (record { is = inr refl }) }
+finer-kind side (suc (suc zero)) row column s h = record { is = inl (record { is = inr refl }) }
+finer-kind side (suc (suc (suc k))) row column s h = absurd (omega arith)
+
+-- so few rows are summed for one
+pub finer-few : (side level row column : ℕ) → TileSide side → level ≤ 2 → (squared : Bool) (p : Pair) (guess : Vector) → candidateRows squared p (levelTile (levelAt side level) row column) guess ≤ tileRowsMost
+finer-few side level row column s h squared p guess =
+    let t = levelTile (levelAt side level) row column in
+    ⊎-elim (λ e. omega (arith, e, candidate-rows-most squared p t guess)) (λ e. omega (arith, e, candidate-rows-most squared p t guess)) (finer-sided side level row column s h .is)

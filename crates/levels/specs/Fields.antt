@@ -1,6 +1,6 @@
 -- The vector of a level's tile: at level 3 from no motion, at a finer level from the coarse vectors around it.
 use Rattle.algebra.specs.Prelude.{ℕ, zero, suc}
-use Rattle.geometry.specs.Tiles.{Level, level0, level1, level2, level3, Step, origin, own, neighbour, capped}
+use Rattle.geometry.specs.Tiles.{Level, finestLevel, level1, level2, level3, Step, origin, own, neighbour, capped}
 use Rattle.geometry.specs.Vectors.{VectorField}
 use Rattle.residuals.specs.declared.Tile.{Tile}
 use Rattle.geometry.specs.declared.vectors.Vector.{Vector}
@@ -8,12 +8,12 @@ use Rattle.search.specs.Vectors.{still, _times_}
 use Rattle.residuals.specs.Residual.{Pair}
 use Rattle.search.specs.Search.{bestVector, guessed}
 
--- the levels by number
-abbrev pub levelAt : ℕ → Level
-levelAt zero = level0
-levelAt (suc zero) = level1
-levelAt (suc (suc zero)) = level2
-levelAt (suc (suc (suc k))) = level3
+-- the levels by number, with level 0's tiles of a side
+abbrev pub levelAt : (side : ℕ) → ℕ → Level
+levelAt side zero = finestLevel side
+levelAt side (suc zero) = level1
+levelAt side (suc (suc zero)) = level2
+levelAt side (suc (suc (suc k))) = level3
 
 -- "Tiles have side 16 (8 at level 3) and half step s = 8 (4). Indices run from 0 to ceil(size/s), origin −s + s·index, both ways."
 unfoldable pub levelTile : Level → (row column : ℕ) → Tile

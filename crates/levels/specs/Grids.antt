@@ -1,5 +1,5 @@
 -- Inner vocabulary: a coarse level's vectors where they stand in the work area, and the answers for a level's tiles.
-use Rattle.algebra.specs.Prelude.{List, ℕ, _+_, _*_, _≤_, _<_, length, getD, ℤ, pos, natAbs}
+use Rattle.algebra.specs.Prelude.{_≡_, List, ℕ, _+_, _*_, _≤_, _<_, length, getD, ℤ, pos, natAbs}
 use Rattle.levels.specs.declared.Grid.{Grid}
 use Rattle.matching.specs.declared.Area.{Area}
 use Rattle.geometry.specs.Tiles.{level3}
@@ -9,10 +9,14 @@ use Rattle.search.specs.Rows.{searchRows, candidateRows}
 use Rattle.residuals.specs.declared.Tile.{Tile}
 use Rattle.geometry.specs.declared.vectors.Vector.{Vector}
 use Rattle.matching.specs.declared.Found.{Found}
-use Rattle.levels.specs.Magnitudes.{coarseMost}
+use Rattle.levels.specs.Magnitudes.{coarseMost, foundMost}
+use Rattle.residuals.specs.Magnitudes.{residualMost}
+use Rattle.patches.specs.Bounds.{Within}
+use Rattle.geometry.specs.Fits.{TileSide}
+use Rattle.search.specs.Local.{Kind}
 use Rattle.levels.specs.Fields.{levelAt, levelTile, coarsest, fromCoarse, finer}
 use Rattle.levels.specs.Steps.{stepTo}
-use Rattle.matching.specs.Stored.{pairIn, answer}
+use Rattle.matching.specs.Stored.{pairIn, Stored, Placed, answer, refined}
 
 -- the field whose vectors stand from `at` on, row by row of so many columns
 unfoldable pub fieldAt : List ℤ → (at columns : ℕ) → VectorField
@@ -32,14 +36,32 @@ coarsestAnswer words a row column =
     answer (level3 .squared) (pairIn words a) (levelTile level3 row column) (coarsest level3 (pairIn words a) row column) (searchRows (level3 .squared) (pairIn words a) (levelTile level3 row column) still)
 
 -- the field of a level from 2 to 0, from the images and the coarse vectors in the work area
-abbrev pub finerIn : (level : ℕ) → List ℤ → Area → Grid → VectorField
-finerIn level words a c = finer (levelAt level) (stepTo level) (c .rows) (c .columns) (pairIn words a) (fieldAt words (c .at) (c .columns))
+abbrev pub finerIn : (side level : ℕ) → List ℤ → Area → Grid → VectorField
+finerIn side level words a c = finer (levelAt side level) (stepTo side level) (c .rows) (c .columns) (pairIn words a) (fieldAt words (c .at) (c .columns))
 
 -- its guess for a tile, and the answer
-abbrev pub guessFrom : (level : ℕ) → List ℤ → Area → Grid → Tile → (row column : ℕ) → Vector
-guessFrom level words a c t row column = fromCoarse (stepTo level) (c .rows) (c .columns) (pairIn words a) t (fieldAt words (c .at) (c .columns)) row column
+abbrev pub guessFrom : (side level : ℕ) → List ℤ → Area → Grid → Tile → (row column : ℕ) → Vector
+guessFrom side level words a c t row column = fromCoarse (stepTo side level) (c .rows) (c .columns) (pairIn words a) t (fieldAt words (c .at) (c .columns)) row column
 
-abbrev pub finerAnswer : (level : ℕ) → List ℤ → Area → Grid → (row column : ℕ) → Found
-finerAnswer level words a c row column =
-    answer (levelAt level .squared) (pairIn words a) (levelTile (levelAt level) row column) (finerIn level words a c row column)
-    (candidateRows (levelAt level .squared) (pairIn words a) (levelTile (levelAt level) row column) (guessFrom level words a c (levelTile (levelAt level) row column) row column))
+abbrev pub finerAnswer : (side level : ℕ) → List ℤ → Area → Grid → (row column : ℕ) → Found
+finerAnswer side level words a c row column =
+    let l = levelAt side level in
+    answer (l .squared) (pairIn words a) (levelTile l row column) (finerIn side level words a c row column)
+    (candidateRows (l .squared) (pairIn words a) (levelTile l row column) (guessFrom side level words a c (levelTile l row column) row column))
+
+-- what is asked where a tile of such a level is at hand, and what is found for it
+pub record Finer (words : List ℤ) (a : Area) (t : Tile) (side level : ℕ) (c : Grid) (row column : ℕ) : Type 0 where
+  pub stored : Stored words a
+  pub placed : Placed t
+  pub tile-sided : TileSide (t .side)
+  pub kind : Kind (levelAt side level .squared) (t .side)
+  pub sided : TileSide side
+  pub vectors : Vectors words c
+  pub level-most : level ≤ 2
+  pub row-most : row ≤ 4096
+  pub column-most : column ≤ 4096
+
+pub record FinerFound (words : List ℤ) (a : Area) (t : Tile) (side level : ℕ) (c : Grid) (row column : ℕ) (r : Found) : Type 0 where
+  pub is : r ≡ refined (levelAt side level .squared) words a t (guessFrom side level words a c t row column) (3 * t .side)
+  pub near : Within foundMost (r .vector)
+  pub most : r .residual ≤ residualMost

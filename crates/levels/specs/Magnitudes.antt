@@ -8,6 +8,6 @@ coarseMost = 84
 abbrev pub foundMost : ℕ
 foundMost = 340
 
--- the rows summed for a tile of side 16: 81 · 16 and the candidates' 48
+-- the rows summed for a tile of side 32: 81 · 32 and the candidates' 96. Of side 16 they are half as many
 abbrev pub tileRowsMost : ℕ
-tileRowsMost = 1344
+tileRowsMost = 2688

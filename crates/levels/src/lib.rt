@@ -3,16 +3,17 @@ ghost use mathlib.Core.Path.{_≡_};
 ghost use Prim.Native.Nat.{_*_, _%_, _≤_, _<_};
 ghost use lib.ListN.{length, getD};
 ghost use lib.IntN.{pos, natAbs, _*ℤ_};
+ghost use Rattle.geometry.specs.Fits.{TileSide};
 ghost use Rattle.geometry.specs.Quotient.{Quotient};
 ghost use Rattle.search.specs.Vectors.{_times_};
 ghost use Rattle.patches.specs.Bounds.{Within};
 ghost use Rattle.levels.specs.Fields.{levelAt, levelTile};
 ghost use Rattle.levels.specs.Steps.{stepTo};
-ghost use Rattle.matching.specs.Stored.{Stored, Placed, Ready, refined};
+ghost use Rattle.matching.specs.Stored.{Stored, Placed, Ready, Roomy};
 ghost use Rattle.residuals.specs.Magnitudes.{residualMost};
 ghost use Rattle.levels.specs.Magnitudes.{coarseMost, foundMost, tileRowsMost};
 ghost use Rattle.matching.specs.Magnitudes.{guessMost};
-ghost use Rattle.levels.specs.Grids.{fieldAt, Vectors, guessFrom, coarsestAnswer, finerAnswer};
+ghost use Rattle.levels.specs.Grids.{fieldAt, Vectors, coarsestAnswer, finerAnswer, Finer, FinerFound};
 use geometry::tiles::capped;
 use geometry::tiles::neighbour;
 use geometry::tiles::origin;
@@ -33,35 +34,44 @@ pub struct Grid {
 }
 
 // f of the step to a level.
-fn factor(level: usize) -> usize
+fn factor(side: usize, level: usize) -> usize
     requires { ⌜ level ≤ 2 ⌝ }
-    ensures { λ r. ⌜ (r ≡ stepTo level .factor) × (r ≤ 4) ⌝ }
+    ensures { λ r. ⌜ (r ≡ stepTo side level .factor) × (r ≤ 4) ⌝ }
 {
     if level == 0 { 2 } else { 4 }
 }
 
 // q of the step to a level.
-fn quotient(level: usize) -> usize
-    requires { ⌜ level ≤ 2 ⌝ }
-    ensures { λ r. ⌜ (r ≡ stepTo level .quotient) × (Quotient r) ⌝ }
+fn quotient(side: usize, level: usize) -> usize
+    requires { ⌜ (TileSide side) × (level ≤ 2) ⌝ }
+    ensures { λ r. ⌜ (r ≡ stepTo side level .quotient) × (Quotient r) ⌝ }
 {
-    if level == 1 { 4 } else { 2 }
+    if level == 1 {
+        return 4;
+    }
+    if level == 2 {
+        return 2;
+    }
+    if side == 32 { 1 } else { 2 }
 }
 
 // The half step of a level's tiles.
-pub fn half_of(level: usize) -> usize
-    requires { ⌜ level ≤ 3 ⌝ }
-    ensures { λ r. ⌜ record { is : r ≡ levelAt level .half; twice : 2 * r ≡ levelAt level .side; fours : r % 4 ≡ 0; some : 0 < r; most : r ≤ 8 } ⌝ }
+pub fn half_of(side: usize, level: usize) -> usize
+    requires { ⌜ (TileSide side) × (level ≤ 3) ⌝ }
+    ensures { λ r. ⌜ record { is : r ≡ levelAt side level .half; twice : 2 * r ≡ levelAt side level .side; fours : r % 4 ≡ 0; some : 0 < r; most : r ≤ 16 } ⌝ }
 {
-    if level == 3 { 4 } else { 8 }
+    if level == 3 {
+        return 4;
+    }
+    if level == 0 { side / 2 } else { 8 }
 }
 
 // The tile at a row and a column of tiles.
-fn tile_at(level: usize, row: usize, column: usize) -> Tile
-    requires { ⌜ record { level-most : level ≤ 3; row-most : row ≤ 4096; column-most : column ≤ 4096 } ⌝ }
-    ensures { λ r. ⌜ (r ≡ levelTile (levelAt level) row column) × (Placed r) ⌝ }
+fn tile_at(side: usize, level: usize, row: usize, column: usize) -> Tile
+    requires { ⌜ record { sided : TileSide side; level-most : level ≤ 3; row-most : row ≤ 4096; column-most : column ≤ 4096 } ⌝ }
+    ensures { λ r. ⌜ (r ≡ levelTile (levelAt side level) row column) × (Placed r) ⌝ }
 {
-    let half = half_of(level);
+    let half = half_of(side, level);
     let corner = Vector {
         down: origin(half, row),
         right: origin(half, column),
@@ -95,30 +105,33 @@ fn coarse_vector(words: &[i64], coarse: Grid, row: usize, column: usize, f: usiz
 }
 
 // Whether a level's residuals are of squared differences.
-fn is_squared(level: usize) -> bool
+fn is_squared(side: usize, level: usize) -> bool
     requires { ⌜ level ≤ 3 ⌝ }
-    ensures { λ r. ⌜ r ≡ levelAt level .squared ⌝ }
+    ensures { λ r. ⌜ r ≡ levelAt side level .squared ⌝ }
 {
     level != 0
 }
 
-// The vector of a tile, from the coarse vectors around it.
+// The vector of a tile, from the coarse vectors around it. `window` and `other` are for samples of the other image.
 fn refine_coarse(
     words: &[i64],
     area: Area,
     tile: Tile,
     samples: &[u16],
+    window: &mut [u16],
+    other: &mut [u16],
+    side: usize,
     level: usize,
     coarse: Grid,
     row: usize,
     column: usize,
 ) -> Found
-    requires { ⌜ record { ready : Ready (now words) area tile (now samples); sixteen : tile .side ≡ 16; vectors : Vectors (now words) coarse; level-most : level ≤ 2; row-most : row ≤ 4096; column-most : column ≤ 4096 } ⌝ }
-    ensures { λ r. ⌜ record { is : r ≡ refined (levelAt level .squared) (now (words .entry)) area tile (guessFrom level (now (words .entry)) area coarse tile row column) (3 * tile .side); near : Within foundMost (r .vector); most : r .residual ≤ residualMost } ⌝ }
+    requires { ⌜ record { finer : Finer (now words) area tile side level coarse row column; ready : Ready (now words) area tile (now samples); roomy : Roomy tile (length (now samples)) (length (now window)) (length (now other)) } ⌝ }
+    ensures { λ r. ⌜ FinerFound (now (words .entry)) area tile side level coarse row column r ⌝ }
 {
-    let squared = is_squared(level);
-    let q = quotient(level);
-    let f = factor(level);
+    let squared = is_squared(side, level);
+    let q = quotient(side, level);
+    let f = factor(side, level);
     let own_row = capped(coarse.rows, own(q, row));
     let next_row = capped(coarse.rows, neighbour(q, row));
     let own_column = capped(coarse.columns, own(q, column));
@@ -131,6 +144,8 @@ fn refine_coarse(
         area,
         tile,
         samples,
+        &mut *window,
+        &mut *other,
         squared,
         here,
         sideways,
@@ -143,7 +158,7 @@ pub fn coarsest_tile(words: &[i64], area: Area, row: usize, column: usize) -> Fo
     requires { ⌜ record { stored : Stored (now words) area; row-most : row ≤ 4096; column-most : column ≤ 4096 } ⌝ }
     ensures { λ r. ⌜ record { is : r ≡ coarsestAnswer (now (words .entry)) area row column; near : Within 4 (r .vector); few : r .rows ≤ tileRowsMost } ⌝ }
 {
-    let tile = tile_at(3, row, column);
+    let tile = tile_at(16, 3, row, column);
     let origin = tile.origin;
     let mut samples = [0u16; 256];
     copy_square(
@@ -155,32 +170,37 @@ pub fn coarsest_tile(words: &[i64], area: Area, row: usize, column: usize) -> Fo
         tile.side,
         &mut samples,
     );
+    let mut window = [0u16; 576];
     refine(
         words,
         area,
         tile,
         &samples,
+        &mut window,
         true,
         Vector { down: 0, right: 0 },
         0,
     )
 }
 
-// The vector of a tile of a finer level.
-pub fn finer_tile(
+// The vector of a tile of a finer level, whose samples are copied first. `samples`, `window` and `other` are for samples.
+fn sampled_tile(
     words: &[i64],
     area: Area,
+    tile: Tile,
+    samples: &mut [u16],
+    window: &mut [u16],
+    other: &mut [u16],
+    side: usize,
     level: usize,
     coarse: Grid,
     row: usize,
     column: usize,
 ) -> Found
-    requires { ⌜ record { stored : Stored (now words) area; vectors : Vectors (now words) coarse; level-most : level ≤ 2; row-most : row ≤ 4096; column-most : column ≤ 4096 } ⌝ }
-    ensures { λ r. ⌜ record { is : r ≡ finerAnswer level (now (words .entry)) area coarse row column; near : Within foundMost (r .vector); most : r .residual ≤ residualMost; few : r .rows ≤ tileRowsMost } ⌝ }
+    requires { ⌜ (Finer (now words) area tile side level coarse row column) × (Roomy tile (length (now samples)) (length (now window)) (length (now other))) ⌝ }
+    ensures { λ r. ⌜ FinerFound (now (words .entry)) area tile side level coarse row column r ⌝ }
 {
-    let tile = tile_at(level, row, column);
     let origin = tile.origin;
-    let mut samples = [0u16; 256];
     copy_square(
         words,
         area.reference,
@@ -188,7 +208,103 @@ pub fn finer_tile(
         area.width,
         origin,
         tile.side,
-        &mut samples,
+        &mut *samples,
     );
-    refine_coarse(words, area, tile, &samples, level, coarse, row, column)
+    refine_coarse(
+        words,
+        area,
+        tile,
+        &*samples,
+        &mut *window,
+        &mut *other,
+        side,
+        level,
+        coarse,
+        row,
+        column,
+    )
+}
+
+// The same of side 16, in arrays for it.
+fn narrow_tile(
+    words: &[i64],
+    area: Area,
+    tile: Tile,
+    side: usize,
+    level: usize,
+    coarse: Grid,
+    row: usize,
+    column: usize,
+) -> Found
+    requires { ⌜ (Finer (now words) area tile side level coarse row column) × (tile .side ≡ 16) ⌝ }
+    ensures { λ r. ⌜ FinerFound (now (words .entry)) area tile side level coarse row column r ⌝ }
+{
+    let mut samples = [0u16; 256];
+    let mut window = [0u16; 576];
+    let mut other = [0u16; 256];
+    sampled_tile(
+        words,
+        area,
+        tile,
+        &mut samples,
+        &mut window,
+        &mut other,
+        side,
+        level,
+        coarse,
+        row,
+        column,
+    )
+}
+
+// The same of side 32.
+fn wide_tile(
+    words: &[i64],
+    area: Area,
+    tile: Tile,
+    side: usize,
+    level: usize,
+    coarse: Grid,
+    row: usize,
+    column: usize,
+) -> Found
+    requires { ⌜ (Finer (now words) area tile side level coarse row column) × (tile .side ≡ 32) ⌝ }
+    ensures { λ r. ⌜ FinerFound (now (words .entry)) area tile side level coarse row column r ⌝ }
+{
+    let mut samples = [0u16; 1024];
+    let mut window = [0u16; 1600];
+    let mut other = [0u16; 1024];
+    sampled_tile(
+        words,
+        area,
+        tile,
+        &mut samples,
+        &mut window,
+        &mut other,
+        side,
+        level,
+        coarse,
+        row,
+        column,
+    )
+}
+
+// The vector of a tile of a finer level, with level 0's tiles of a side.
+pub fn finer_tile(
+    words: &[i64],
+    area: Area,
+    side: usize,
+    level: usize,
+    coarse: Grid,
+    row: usize,
+    column: usize,
+) -> Found
+    requires { ⌜ record { stored : Stored (now words) area; vectors : Vectors (now words) coarse; sided : TileSide side; level-most : level ≤ 2; row-most : row ≤ 4096; column-most : column ≤ 4096 } ⌝ }
+    ensures { λ r. ⌜ record { is : r ≡ finerAnswer side level (now (words .entry)) area coarse row column; near : Within foundMost (r .vector); most : r .residual ≤ residualMost; few : r .rows ≤ tileRowsMost } ⌝ }
+{
+    let tile = tile_at(side, level, row, column);
+    if tile.side == 32 {
+        return wide_tile(words, area, tile, side, level, coarse, row, column);
+    }
+    narrow_tile(words, area, tile, side, level, coarse, row, column)
 }

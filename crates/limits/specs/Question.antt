@@ -1,10 +1,9 @@
 -- The length question of the capture station.
-use Rattle.algebra.specs.Prelude.{not, cond, List, [], _∷_, _++_, ℕ, eqb}
+use Rattle.algebra.specs.Prelude.{cond, List, [], _∷_, _++_, ℕ, eqb}
 use Rattle.refusals.specs.Numbers as no
-use Rattle.refusals.specs.Tests.{refuse, first}
+use Rattle.refusals.specs.Tests.{first}
 use Rattle.geometry.specs.declared.Shape.{Shape}
-use Rattle.geometry.specs.Tiles.{finestSide}
-use Rattle.geometry.specs.Shape.{shaped, rowRefusal, sampleLength, vectorLength, outputLength, workLength}
+use Rattle.geometry.specs.Shape.{shaped, sideRefusal, rowRefusal, sampleLength, vectorLength, outputLength, workLength}
 use Rattle.limits.specs.Order.{shapeTests}
 
 -- the length that a refusal of the numbers 4 to 7 tests, "or 0 for any other number"
@@ -15,17 +14,13 @@ lengthTested s number =
     (cond (eqb number no.wrongOutputLength) (outputLength s)
     (cond (eqb number no.wrongWorkLength) (workLength s) 0)))
 
--- refusal 22: "a side other than" that of level 0's tiles
-unfoldable pub sideRefusal : (side : ℕ) → ℕ
-sideRefusal side = refuse no.side (not (eqb side finestSide))
-
 -- 1, 2, 22 and 23: "takes side and L, and is 0 where 22 or 23 would stand" (request L9)
-unfoldable pub questionTests : Shape → (side : ℕ) → List ℕ
-questionTests s side = shapeTests s ++ sideRefusal side ∷ rowRefusal s ∷ []
+unfoldable pub questionTests : Shape → List ℕ
+questionTests s = shapeTests s ++ sideRefusal s ∷ rowRefusal s ∷ []
 
 -- "given W, H, N and one of the numbers 4 to 7, answers the length which that refusal tests, or 0 for any other number or where
 -- refusal 1 or 2 would stand"
 unfoldable pub lengthQuestion : (width height count side rowLength number : ℕ) → ℕ
 lengthQuestion width height count side rowLength number =
-    let s = shaped width height count rowLength in
-    cond (eqb (first (questionTests s side)) 0) (lengthTested s number) 0
+    let s = shaped width height count side rowLength in
+    cond (eqb (first (questionTests s)) 0) (lengthTested s number) 0

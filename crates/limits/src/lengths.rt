@@ -2,7 +2,7 @@
 ghost use mathlib.Core.Path.{_≡_};
 ghost use Prim.Native.Nat.{_≤_};
 ghost use Rattle.geometry.specs.Shape.{sampleLength, vectorLength, outputLength, workLength, lengthRefusal};
-ghost use Rattle.geometry.specs.Fits.{Allowed};
+ghost use Rattle.geometry.specs.Fits.{Allowed, TileSide};
 use geometry::Shape;
 use geometry::tiles::frame_parts;
 
@@ -16,7 +16,7 @@ pub fn sample_length(shape: Shape) -> usize
 
 // Words of vectors: two to a tile, for each frame but the reference.
 pub fn vector_length(shape: Shape) -> usize
-    requires { ⌜ Allowed shape ⌝ }
+    requires { ⌜ (Allowed shape) × (TileSide (shape .side)) ⌝ }
     ensures { λ r. ⌜ (r ≡ vectorLength shape) × (r ≤ 924686) ⌝ }
 {
     (shape.count - 1) * frame_parts(shape)

@@ -1,8 +1,8 @@
-// The tests 1 to 7 of the calls, in the order of the numbers with 23 before 4, on the lengths of the lent buffers.
+// The tests 1 to 7 of the calls, in the order of the numbers with 22 after 3 and 23 before 4, on the lengths of the lent buffers.
 ghost use mathlib.Core.Path.{_≡_};
 ghost use Rattle.refusals.specs.Tests.{first};
-ghost use Rattle.limits.specs.Order.{frameTests, alignLengths, mergeLengths, alignShapeTests, mergeShapeTests};
-ghost use Rattle.geometry.specs.Fits.{Allowed};
+ghost use Rattle.limits.specs.Order.{frameTests, burstTests, alignLengths, mergeLengths, alignShapeTests, mergeShapeTests};
+ghost use Rattle.geometry.specs.Fits.{Allowed, TileSide};
 use crate::lengths::length_refusal;
 use crate::lengths::output_length;
 use crate::lengths::sample_length;
@@ -12,9 +12,10 @@ use geometry::Shape;
 use sizes::count_refusal;
 use sizes::reference_refusal;
 use sizes::row_refusal;
+use sizes::side_refusal;
 use sizes::size_refusal;
 
-// Tests 1 to 3, and 23.
+// Tests 1 to 3, and 23: of frames that no tiles are laid on.
 pub fn frame_refusal(shape: Shape, reference: usize) -> u64
     ensures { λ r. ⌜ r ≡ first (frameTests shape reference) ⌝ }
 {
@@ -25,9 +26,21 @@ pub fn frame_refusal(shape: Shape, reference: usize) -> u64
     refusals::first(&[size, count, third, row])
 }
 
+// Tests 1 to 3, 22 and 23.
+fn burst_refusal(shape: Shape, reference: usize) -> u64
+    ensures { λ r. ⌜ r ≡ first (burstTests shape reference) ⌝ }
+{
+    let size = size_refusal(shape);
+    let count = count_refusal(shape);
+    let third = reference_refusal(shape, reference);
+    let side = side_refusal(shape);
+    let row = row_refusal(shape);
+    refusals::first(&[size, count, third, side, row])
+}
+
 // Tests 4, 5 and 7.
 fn align_lengths(shape: Shape, samples: usize, vectors: usize, work: usize) -> u64
-    requires { ⌜ Allowed shape ⌝ }
+    requires { ⌜ (Allowed shape) × (TileSide (shape .side)) ⌝ }
     ensures { λ r. ⌜ r ≡ first (alignLengths shape samples vectors work) ⌝ }
 {
     refusals::first(
@@ -41,7 +54,7 @@ fn align_lengths(shape: Shape, samples: usize, vectors: usize, work: usize) -> u
 
 // Tests 4 to 7.
 fn merge_lengths(shape: Shape, samples: usize, vectors: usize, output: usize, work: usize) -> u64
-    requires { ⌜ Allowed shape ⌝ }
+    requires { ⌜ (Allowed shape) × (TileSide (shape .side)) ⌝ }
     ensures { λ r. ⌜ r ≡ first (mergeLengths shape samples vectors output work) ⌝ }
 {
     refusals::first(
@@ -54,7 +67,7 @@ fn merge_lengths(shape: Shape, samples: usize, vectors: usize, output: usize, wo
     )
 }
 
-// Tests 1 to 5 and 7, and 23 before 4.
+// Tests 1 to 5 and 7, with 22 after 3 and 23 before 4.
 pub fn align_shape_refusal(
     shape: Shape,
     reference: usize,
@@ -64,14 +77,14 @@ pub fn align_shape_refusal(
 ) -> u64
     ensures { λ r. ⌜ r ≡ first (alignShapeTests shape reference samples vectors work) ⌝ }
 {
-    let frames = frame_refusal(shape, reference);
-    if frames != 0 {
-        return frames;
+    let burst = burst_refusal(shape, reference);
+    if burst != 0 {
+        return burst;
     }
     align_lengths(shape, samples, vectors, work)
 }
 
-// Tests 1 to 7, and 23 before 4.
+// Tests 1 to 7, with 22 after 3 and 23 before 4.
 pub fn merge_shape_refusal(
     shape: Shape,
     reference: usize,
@@ -82,9 +95,9 @@ pub fn merge_shape_refusal(
 ) -> u64
     ensures { λ r. ⌜ r ≡ first (mergeShapeTests shape reference samples vectors output work) ⌝ }
 {
-    let frames = frame_refusal(shape, reference);
-    if frames != 0 {
-        return frames;
+    let burst = burst_refusal(shape, reference);
+    if burst != 0 {
+        return burst;
     }
     merge_lengths(shape, samples, vectors, output, work)
 }

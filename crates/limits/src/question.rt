@@ -1,22 +1,22 @@
 // The length question of the capture station.
 ghost use mathlib.Core.Path.{_≡_};
 ghost use Rattle.refusals.specs.Tests.{first};
-ghost use Rattle.geometry.specs.Fits.{Allowed};
-ghost use Rattle.limits.specs.Question.{lengthTested, sideRefusal, questionTests, lengthQuestion};
+ghost use Rattle.geometry.specs.Fits.{Allowed, TileSide};
+ghost use Rattle.limits.specs.Question.{lengthTested, questionTests, lengthQuestion};
 use crate::lengths::output_length;
 use crate::lengths::sample_length;
 use crate::lengths::vector_length;
 use crate::lengths::work_length;
 use geometry::Shape;
 use geometry::shaped;
-use geometry::tiles::FINEST_SIDE;
 use sizes::count_refusal;
 use sizes::row_refusal;
+use sizes::side_refusal;
 use sizes::size_refusal;
 
 // The length that refusal `number` tests, from 4 to 7; else 0.
 fn length_tested(shape: Shape, number: u64) -> u64
-    requires { ⌜ Allowed shape ⌝ }
+    requires { ⌜ (Allowed shape) × (TileSide (shape .side)) ⌝ }
     ensures { λ r. ⌜ r ≡ lengthTested shape number ⌝ }
 {
     match number {
@@ -28,26 +28,15 @@ fn length_tested(shape: Shape, number: u64) -> u64
     }
 }
 
-// Refusal 22.
-fn side_refusal(side: u64) -> u64
-    ensures { λ r. ⌜ r ≡ sideRefusal side ⌝ }
-{
-    if side == FINEST_SIDE as u64 {
-        0
-    } else {
-        refusals::SIDE
-    }
-}
-
 // Tests 1, 2, 22 and 23, which let the lengths be worked out.
-fn question_refusal(shape: Shape, side: u64) -> u64
-    ensures { λ r. ⌜ r ≡ first (questionTests shape side) ⌝ }
+fn question_refusal(shape: Shape) -> u64
+    ensures { λ r. ⌜ r ≡ first (questionTests shape) ⌝ }
 {
     refusals::first(
         &[
             size_refusal(shape),
             count_refusal(shape),
-            side_refusal(side),
+            side_refusal(shape),
             row_refusal(shape),
         ],
     )
@@ -64,8 +53,8 @@ pub fn length_question(
 ) -> u64
     ensures { λ r. ⌜ r ≡ lengthQuestion width height count side «row_length» number ⌝ }
 {
-    let shape = shaped(width, height, count, row_length);
-    if question_refusal(shape, side) != 0 {
+    let shape = shaped(width, height, count, side, row_length);
+    if question_refusal(shape) != 0 {
         return 0;
     }
     length_tested(shape, number)

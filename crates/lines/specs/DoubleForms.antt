@@ -1,7 +1,7 @@
 -- Forms of the numbers of a line, worked out in double: their results are the doubles of ring expressions, by two computed tests.
-use Rattle.algebra.specs.Prelude.{_≡_, refl, ap, ap₂, _∙_, Bool, true, false, cond, List, [], _∷_, ℕ, zero, suc, _+_, _*_, _^_, _≤_, _<_, arith, T, ltb, length, getD, ℤ, pos, natAbs, _+ℤ_, _-ℤ_, _*ℤ_}
+use Rattle.algebra.specs.Prelude.{_≡_, refl, sym, ap, ap₂, subst, _∙_, Bool, true, false, cond, List, [], _∷_, ℕ, zero, suc, _+_, _*_, _^_, _≤_, _<_, arith, T, ltb, length, getD, ℤ, pos, natAbs, _+ℤ_, _-ℤ_, _*ℤ_}
 use Prim.Native.Nat.{zero-le}
-use borrow.Author.Tests.{ltb-false}
+use borrow.Author.Tests.{ltb-true, ltb-false}
 use lib.Ieee.{Float, nan, binary64, ofInt, add, sub}
 use Rattle.algebra.specs.Test.{both, both-l, both-r}
 use Rattle.algebra.specs.Ring.{Expr, con, _⊞_, _⊟_, _⊠_, nth, eval}
@@ -12,7 +12,6 @@ use Rattle.sequences.specs.TabLaws.{length-tab, getD-tab}
 use Rattle.sequences.specs.Grid.{tab-ext}
 use Rattle.floats.specs.Kernels.{Form, var, plus, minus, times, whole, float, counts, float-whole}
 use Rattle.lines.specs.Doubles.{doubleLine}
-use Rattle.lines.specs.Tiles.{line-most}
 use Rattle.lines.specs.Held.{nth-is}
 
 -- ---- lists of forms
@@ -25,10 +24,10 @@ abbrev pub inDouble : List ℤ → List Float
 inDouble [] = []
 inDouble (z ∷ zs) = ofInt binary64 z ∷ inDouble zs
 
--- no number on the way is too large, where the line's are at most b
-abbrev pub allCount : ℕ → List Form → Bool
-allCount b [] = true
-allCount b (e ∷ es) = both (counts binary64 e (λ i. b)) (allCount b es)
+-- no number on the way is too large, where number i of the line is at most β i
+abbrev pub allCount : (ℕ → ℕ) → List Form → Bool
+allCount β [] = true
+allCount β (e ∷ es) = both (counts binary64 e β) (allCount β es)
 
 -- ---- forms as ring expressions
 
@@ -70,19 +69,31 @@ past-end [] i h = refl
 past-end (z ∷ zs) zero h = absurd (omega arith)
 past-end (z ∷ zs) (suc i) h = past-end zs i (omega arith)
 
-module _ (b : ℕ) (zs : List ℤ) (most : (i : ℕ) → natAbs (nth zs i) ≤ b) where
-  floats-are : (es : List Form) → T (allCount b es) → floats es (at (inDouble zs)) ≡ inDouble (evals (exprs (length zs) es) (nth zs))
+module _ (β : ℕ → ℕ) (zs : List ℤ) (most : (i : ℕ) → natAbs (nth zs i) ≤ β i) where
+  floats-are : (es : List Form) → T (allCount β es) → floats es (at (inDouble zs)) ≡ inDouble (evals (exprs (length zs) es) (nth zs))
   floats-are [] t = refl
   floats-are (e ∷ es) t =
       ap₂ _∷_
-      (float-whole binary64 (nth zs) (at (inDouble zs)) (λ i. b) (at-is zs) most e (both-l (counts binary64 e (λ i. b)) (allCount b es) t)
+      (float-whole binary64 (nth zs) (at (inDouble zs)) β (at-is zs) most e (both-l (counts binary64 e β) (allCount β es) t)
       ∙ ap (ofInt binary64) (whole-is (length zs) (nth zs) (past-end zs) e))
-      (floats-are es (both-r (counts binary64 e (λ i. b)) (allCount b es) t))
+      (floats-are es (both-r (counts binary64 e β) (allCount β es) t))
 
-pub forms-are : {b : ℕ} (n : ℕ) (z : ℕ → ℤ) → ((k : ℕ) → natAbs (z k) ≤ b) → {x : List Float} → x ≡ inDouble (tab n z) → (es : List Form) (rs : List Expr) → T (allCount b es) → T (same (exprs n es) rs) → floats es (at x) ≡ inDouble (evals rs (nth (tab n z)))
-forms-are {b} n z most e es rs t u =
-    ap (λ x. floats es (at x)) e ∙ floats-are b (tab n z) (λ i. rw (nth-is (tab n z) i) (line-most b z most n .at i)) es t
-    ∙ ap (λ m. inDouble (evals (exprs m es) (nth (tab n z)))) (length-tab z n) ∙ ap inDouble (rings (tab n z) (exprs n es) rs u)
+module _ (n : ℕ) (z : ℕ → ℤ) (β : ℕ → ℕ) (most : (k : ℕ) → natAbs (z k) ≤ β k) where
+  nth-most : (i : ℕ) → natAbs (nth (tab n z) i) ≤ β i
+  nth-most i = go (ltb i n) (ltb-true i n) (ltb-false i n)
+    where
+      go : (b : Bool) → (b ≡ true → i < n) → (b ≡ false → n ≤ i) → natAbs (nth (tab n z) i) ≤ β i
+      go true l g = subst (λ a. natAbs a ≤ β i) (sym (nth-is (tab n z) i ∙ getD-tab z (pos 0) n i (l refl))) (most i)
+      go false l g = subst (λ a. natAbs a ≤ β i) (sym (past-end (tab n z) i (omega (arith, length-tab z n, g refl)))) zero-le
+
+  pub forms-within : {x : List Float} → x ≡ inDouble (tab n z) → (es : List Form) (rs : List Expr) → T (allCount β es) → T (same (exprs n es) rs) → floats es (at x) ≡ inDouble (evals rs (nth (tab n z)))
+  forms-within e es rs t u =
+      ap (λ x. floats es (at x)) e ∙ floats-are β (tab n z) nth-most es t
+      ∙ ap (λ m. inDouble (evals (exprs m es) (nth (tab n z)))) (length-tab z n) ∙ ap inDouble (rings (tab n z) (exprs n es) rs u)
+
+-- where all are at most b
+pub forms-are : {b : ℕ} (n : ℕ) (z : ℕ → ℤ) → ((k : ℕ) → natAbs (z k) ≤ b) → {x : List Float} → x ≡ inDouble (tab n z) → (es : List Form) (rs : List Expr) → T (allCount (λ k. b) es) → T (same (exprs n es) rs) → floats es (at x) ≡ inDouble (evals rs (nth (tab n z)))
+forms-are {b} n z most = forms-within n z (λ k. b) most
 
 -- ---- two numbers
 
@@ -98,7 +109,7 @@ module _ (a b : ℤ) (p : natAbs a ≤ 2 ^ 52) (q : natAbs b ≤ 2 ^ 52) where
   pub difference-exact : sub binary64 (ofInt binary64 a) (ofInt binary64 b) ≡ ofInt binary64 (a -ℤ b)
   difference-exact = float-whole binary64 (nth (a ∷ b ∷ [])) (at (inDouble (a ∷ b ∷ []))) (λ i. 2 ^ 52) (at-is (a ∷ b ∷ [])) two-most (minus (var 0) (var 1)) tt
 
--- ---- eight numbers of a line
+-- ---- numbers picked from a line
 
 -- each the n-th one from p on, as the code names their places
 abbrev pub from : (n p : ℕ) → ℕ → ℕ
@@ -109,6 +120,10 @@ pub from-is : (n p k : ℕ) → from n p k ≡ n * k + p
 from-is n p zero = omega arith
 from-is n p (suc k) = omega arith
 
+-- m of them
+pub picked : (m n : ℕ) {x : List Float} (z : ℕ → ℤ) → x ≡ doubleLine n z → (f g : ℕ → ℕ) → ((k : ℕ) → k < m → f k ≡ g k) → ((k : ℕ) → k < m → g k < n) → tab m (λ k. getD x (f k) nan) ≡ doubleLine m (λ k. z (g k))
+picked m n {x} z e f g s h =
+    tab-ext m _ _ (λ k l. ap₂ (λ x i. getD x i nan) e (s k l) ∙ getD-tab (λ i. ofInt binary64 (z i)) nan n (g k) (h k l))
+
 pub picked-line : (n : ℕ) {x : List Float} (z : ℕ → ℤ) → x ≡ doubleLine n z → (f g : ℕ → ℕ) → ((k : ℕ) → k < 8 → f k ≡ g k) → ((k : ℕ) → k < 8 → g k < n) → tab 8 (λ k. getD x (f k) nan) ≡ doubleLine 8 (λ k. z (g k))
-picked-line n {x} z e f g s h =
-    tab-ext 8 _ _ (λ k l. ap₂ (λ x i. getD x i nan) e (s k l) ∙ getD-tab (λ i. ofInt binary64 (z i)) nan n (g k) (h k l))
+picked-line = picked 8

@@ -17,11 +17,15 @@ pub record WholeDouble (m : ℕ) (x : Float) : Type 0 where
   pub most : natAbs number ≤ m
   pub is : x ≡ ofInt binary64 number
 
--- a row of thirty-two of them
-pub record WholeRow (m : ℕ) (x : List Float) : Type 0 where
+-- a line of n of them
+pub record WholeLine (n m : ℕ) (x : List Float) : Type 0 where
   pub number : ℕ → ℤ
   pub most : (l : ℕ) → natAbs (number l) ≤ m
-  pub is : x ≡ doubleLine 32 number
+  pub is : x ≡ doubleLine n number
+
+-- a row of thirty-two, two lines of sixteen
+abbrev pub WholeRow : (m : ℕ) → List Float → Type 0
+WholeRow = WholeLine 32
 
 -- number n of a line, from the sums s of its even places and t of its odd places
 abbrev pub joinedBy : {A : Type 0} → (plus minus : Float → Float → A) (s t : List Float) → ℕ → A

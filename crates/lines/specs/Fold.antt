@@ -1,6 +1,6 @@
 -- A line folded in halves. C(j+n/2) = −C(j), so a transform's even places need only the sums of numbers half a line apart, and its odd places only their
 -- differences; on the way back, the numbers of the two halves are the even places' sum and the odd places' sum, added and subtracted.
-use Rattle.algebra.specs.Prelude.{ℕ, _+_, _*_, ℤ, _+ℤ_, _-ℤ_, _*ℤ_}
+use Rattle.algebra.specs.Prelude.{cond, ℕ, _+_, _*_, _%_, eqb, ℤ, pos, _+ℤ_, _-ℤ_, _*ℤ_}
 use Rattle.algebra.specs.Sums.{sumZ}
 use Rattle.recipe.specs.Side.{Side}
 use Rattle.recipe.specs.Tables.{side16}
@@ -30,6 +30,10 @@ module _ (s : Side) where
   -- the same over the even places for half of the sum; the odd places' sum is the same for it
   unfoldable pub evenHalfOf : (ℕ → ℤ) → ℕ → ℤ
   evenHalfOf z n = sumZ (s .half) (λ k. z k *ℤ halfBasisOf s (2 * k) n)
+
+-- every second of the numbers z, those of parity p, and 0 for the others
+unfoldable pub everySecond : (p : ℕ) → (ℕ → ℤ) → ℕ → ℤ
+everySecond p z k = cond (eqb (k % 2) p) (z k) (pos 0)
 
 -- ---- a line of sixteen
 

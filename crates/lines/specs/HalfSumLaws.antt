@@ -1,6 +1,6 @@
 -- Half of the sum back: twice it is the sum in which all places but 0 and n/2 count twice; and the bounds of the basis.
-use Rattle.algebra.specs.Prelude.{_≡_, refl, sym, ap, subst, _∙_, Bool, true, false, cond, [], _∷_, ℕ, zero, suc, _+_, _-_, _*_, _/_, _%_, _≤_, _<_, arith, eqb, ℤ, pos, negsuc, natAbs, negℤ, _*ℤ_}
-use native.Mathlib.Nat.{zero-mul, suc-mul, mul-zero, mul-suc, mul-assoc, mul-comm, div-add-mod}
+use Rattle.algebra.specs.Prelude.{_≡_, refl, sym, ap, subst, _∙_, Bool, true, false, cond, [], _∷_, ℕ, zero, suc, _+_, _-_, _*_, _/_, _%_, _≤_, _<_, arith, eqb, lit≤, ℤ, pos, negsuc, natAbs, negℤ, _*ℤ_}
+use native.Mathlib.Nat.{le-trans, zero-mul, suc-mul, mul-zero, mul-suc, mul-assoc, mul-comm, div-add-mod}
 use borrow.Author.Tests.{eqb-true, lt-ltb}
 use lib.IntN.{negℤ-negℤ}
 use Rattle.algebra.specs.Order.{abs-neg}
@@ -86,10 +86,17 @@ module _ {s : Side} (r : Rules s) (k n : ℕ) where
   unfolding basisOf
   basis-most = r .most (frequencyOf s k * n + phaseOf s k)
 
-  pub half-basis-most : natAbs (halfBasisOf s k n) ≤ 16384
+  pub half-basis-within : natAbs (halfBasisOf s k n) ≤ cond (eqb (k % s .half) 0) 8192 16384
   unfolding halfBasisOf
-  half-basis-most = go (eqb (k % s .half) 0)
+  half-basis-within = go (eqb (k % s .half) 0)
     where
-      go : (b : Bool) → natAbs (cond b (halfZ (basisOf s k n)) (basisOf s k n)) ≤ 16384
-      go true = half-within (basisOf s k n) 16384 (omega (arith, basis-most))
+      go : (b : Bool) → natAbs (cond b (halfZ (basisOf s k n)) (basisOf s k n)) ≤ cond b 8192 16384
+      go true = half-within (basisOf s k n) 8192 basis-most
       go false = basis-most
+
+  pub half-basis-most : natAbs (halfBasisOf s k n) ≤ 16384
+  half-basis-most = le-trans half-basis-within (go (eqb (k % s .half) 0))
+    where
+      go : (b : Bool) → cond b 8192 16384 ≤ 16384
+      go true = lit≤ tt
+      go false = lit≤ tt

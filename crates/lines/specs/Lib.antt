@@ -9,4 +9,9 @@ pub mod SideSums
 pub mod Magnitudes
 pub mod BackSizes
 pub mod Doubles
+pub mod DoubleCasts
 pub mod DoubleForms
+pub mod PairLines
+pub mod Picked
+pub mod Steps
+pub mod WholeFolds

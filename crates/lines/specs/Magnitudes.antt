@@ -1,5 +1,5 @@
 -- The largest numbers of a line that the passes are proved for.
-use Rattle.algebra.specs.Prelude.{Bool, cond, ℕ, _*_, _^_}
+use Rattle.algebra.specs.Prelude.{Bool, cond, ℕ, _-_, _*_, _^_}
 
 -- ---- in 16 bits, and products in 32
 
@@ -11,15 +11,19 @@ differenceMost = 4095
 abbrev pub differenceFoldMost : ℕ
 differenceFoldMost = 8190
 
+-- a sum or difference of four, in a line of thirty-two
+abbrev pub foldAgainMost : ℕ
+foldAgainMost = 16380
+
 -- ---- two lines side by side, in double
 
 -- a place of the first pass, at most 1073479680
 abbrev pub pairLineMost : ℕ
 pairLineMost = 2 ^ 30
 
--- a sum or difference of two of these
+-- a sum or difference that the kernels of sixteen numbers take: of two of these, or of four places of a line of thirty-two
 abbrev pub pairSumMost : ℕ
-pairSumMost = 2 ^ 31
+pairSumMost = 2 ^ 33
 
 -- ---- back, in double; `low` where the noise numbers are at most 2^33
 
@@ -52,3 +56,38 @@ columnMost low = foldMost low * basisSum
 -- half of a sum back along a row: below 5·2^49 where noise is low, and else below 2^54
 abbrev pub halfMost : (low : Bool) → ℕ
 halfMost low = columnMost low * halfBasisSum
+
+-- ---- lines of thirty-two numbers (request L8)
+
+-- in 32 bits: a place of the first pass, at most 2146959360
+abbrev pub longLineMost : ℕ
+longLineMost = 2 ^ 31 - 1
+
+-- a sum or difference of two of these
+abbrev pub longSumMost : ℕ
+longSumMost = 2 ^ 32
+
+-- back, in double, and the last sums in 64 bits where noise is not low: `low` where the noise numbers are at most 2^29
+
+-- a part of G: half the root of V, which is up to 2^29, or up to 69776441344
+abbrev pub longPartMost : (low : Bool) → ℕ
+longPartMost low = cond low 11586 132077
+
+-- a number of the folded G, two parts
+abbrev pub longFoldMost : (low : Bool) → ℕ
+longFoldMost low = 2 * longPartMost low
+
+-- what the magnitudes of the basis at a number add up to, at most, over the places of a line; for half of the sum; and over every second odd place
+abbrev pub longBasisSum : ℕ
+longBasisSum = 349080
+
+abbrev pub longHalfBasisSum : ℕ
+longHalfBasisSum = 332696
+
+-- a sum back down a column
+abbrev pub longColumnMost : (low : Bool) → ℕ
+longColumnMost low = longFoldMost low * longBasisSum
+
+-- half of a sum back along a row: below 5·2^49 where noise is low, and else below 2^55
+abbrev pub longHalfMost : (low : Bool) → ℕ
+longHalfMost low = longColumnMost low * longHalfBasisSum

@@ -11,7 +11,7 @@ use Rattle.algebra.specs.SumLaws.{sumZ-cong, sumZ-add, sumZ-parts}
 use Rattle.recipe.specs.Side.{Side, cosAt}
 use Rattle.recipe.specs.Tables.{side16}
 use Rattle.recipe.specs.TableRules.{Rules, Doubled}
-use Rattle.lines.specs.Halfcomplex.{frequencyOf, phaseOf, basisOf, halfcomplexOf, basis}
+use Rattle.lines.specs.Halfcomplex.{frequencyOf, phaseOf, basisOf, halfcomplexOf}
 use Rattle.lines.specs.Fold.{sumOf, differenceOf, foldedOf, folded}
 
 -- twice q off twice i, and off the next number
@@ -134,7 +134,16 @@ module _ {s t : Side} (r : Rules s) (q : Rules t) (d : Doubled s t) where
       ∙ sumZ-cong (s .half) (λ n. sumOf s x n *ℤ basisOf t k n) (λ n. sumOf s x n *ℤ basisOf s (2 * k) n) (λ n l. ap (λ c. sumOf s x n *ℤ c) (sym (basis-doubled k n)))
       ∙ even-folded r x k
 
--- the folded line's numbers alone count
+-- the line's numbers alone count, and the folded line's
+module _ (s : Side) (f g : ℕ → ℤ) where
+  pub line-ext : ((n : ℕ) → n < s .side → f n ≡ g n) → (k : ℕ) → halfcomplexOf s f k ≡ halfcomplexOf s g k
+  unfolding halfcomplexOf
+  line-ext h k = sumZ-cong (s .side) _ _ (λ n l. ap (λ z. z *ℤ basisOf s k n) (h n l))
+
+  pub folds-ext : ((n : ℕ) → n < s .half → f n ≡ g n) → (k : ℕ) → foldedOf s f k ≡ foldedOf s g k
+  unfolding foldedOf
+  folds-ext h k = sumZ-cong (s .half) _ _ (λ n l. ap (λ z. z *ℤ basisOf s k n) (h n l))
+
 pub folded-ext : (f g : ℕ → ℤ) → ((n : ℕ) → n < 8 → f n ≡ g n) → (k : ℕ) → folded f k ≡ folded g k
-unfolding foldedOf side16
-folded-ext f g h k = sumZ-cong 8 (λ n. f n *ℤ basis k n) (λ n. g n *ℤ basis k n) (λ n l. ap (λ z. z *ℤ basis k n) (h n l))
+unfolding side16
+folded-ext f g h = folds-ext side16 f g h

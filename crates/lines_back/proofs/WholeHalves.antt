@@ -1,11 +1,10 @@
 -- The sums of a line's even and odd places, whatever the noise: whole numbers of at most 2^53 in double, and in 64 bits they make half of the sum back.
-use Rattle.algebra.specs.Prelude.{_≡_, refl, sym, ap, ap₂, subst, _∙_, Bool, true, false, cond, List, ℕ, _+_, _-_, _*_, _^_, _≤_, _<_, arith, ltb, lit≤, getD, ℤ, natAbs, _+ℤ_, _-ℤ_, w64, SFits, toZ, ofZ, toZ-ofZ, T}
+use Rattle.algebra.specs.Prelude.{_≡_, refl, sym, ap, ap₂, _∙_, Bool, true, false, cond, List, ℕ, _+_, _-_, _*_, _^_, _≤_, _<_, arith, ltb, lit≤, getD, ℤ, natAbs, _+ℤ_, _-ℤ_, w64, SFits, toZ, ofZ, toZ-ofZ}
 use native.Mathlib.Nat.{le-trans}
 use borrow.Author.Tests.{ltb-true, ltb-false}
-use lib.Ieee.{Float, nan, binary64, ofInt, toSigned, inSigned}
-use Rattle.algebra.specs.Bound.{AtMost, add-fits, sub-fits}
+use lib.Ieee.{Float, nan, binary64, ofInt, toSigned}
+use Rattle.algebra.specs.Bound.{add-fits, sub-fits}
 use Rattle.sequences.specs.TabLaws.{getD-tab}
-use Rattle.floats.specs.Casts.{whole-back}
 use Rattle.recipe.specs.Tables.{side16}
 use Rattle.recipe.specs.TableLaws.{rules16}
 use Rattle.lines.specs.Halfcomplex.{halfSum}
@@ -13,6 +12,7 @@ use Rattle.lines.specs.Fold.{oddSum, evenHalf}
 use Rattle.lines.specs.SideSums.{Halves, half-halves}
 use Rattle.lines.specs.BackSizes.{even-half-most, odd-sum-most}
 use Rattle.lines.specs.Doubles.{doubleLine, WholeDouble, joinedBy}
+use Rattle.lines.specs.DoubleCasts.{whole-is, whole-most}
 use Rattle.lines.specs.Held.{number-is, number-most}
 use Rattle.lines.specs.Magnitudes.{columnMost}
 
@@ -23,16 +23,6 @@ wholePlus a b = toSigned 63 a +ℤ toSigned 63 b
 
 abbrev pub wholeMinus : Float → Float → ℤ
 wholeMinus a b = toSigned 63 a -ℤ toSigned 63 b
-
-module _ {x : Float} (w : WholeDouble (2 ^ 53) x) where
-  pub whole-fits : T (inSigned binary64 63 x)
-  whole-fits = subst (λ y. T (inSigned binary64 63 y)) (sym (w .is)) (whole-back (w .number) (w .most) .0)
-
-  whole-is : toSigned 63 x ≡ w .number
-  whole-is = ap (toSigned 63) (w .is) ∙ whole-back (w .number) (w .most) .1
-
-  whole-most : AtMost (2 ^ 53) (toSigned 63 x)
-  whole-most = record { most = subst (λ z. natAbs z ≤ 2 ^ 53) (sym whole-is) (w .most) }
 
 module _ {a b : Float} (v : WholeDouble (2 ^ 53) a) (w : WholeDouble (2 ^ 53) b) where
   abbrev held : Float → ℤ

@@ -157,14 +157,14 @@ pub fn halves(h: &[f64; 32], x: &mut [f64; 32])
 }
 
 // a + b and a − b in 64 bits.
-fn whole_sum(a: f64, b: f64) -> i64
+pub fn whole_sum(a: f64, b: f64) -> i64
     requires { ⌜ (WholeDouble (2 ^ 53) a) × (WholeDouble (2 ^ 53) b) ⌝ }
     ensures { λ r. ⌜ r ≡ toSigned 63 a +ℤ toSigned 63 b ⌝ }
 {
     a as i64 + b as i64
 }
 
-fn whole_difference(a: f64, b: f64) -> i64
+pub fn whole_difference(a: f64, b: f64) -> i64
     requires { ⌜ (WholeDouble (2 ^ 53) a) × (WholeDouble (2 ^ 53) b) ⌝ }
     ensures { λ r. ⌜ r ≡ toSigned 63 a -ℤ toSigned 63 b ⌝ }
 {

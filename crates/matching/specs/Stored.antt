@@ -30,9 +30,9 @@ pub record Stored (words : List ℤ) (a : Area) : Type 0 where
   pub reference : Source words (a .reference) (a .height) (a .width)
   pub other : Source words (a .other) (a .height) (a .width)
 
--- a tile of side 8 or 16 that is near the images, so that its samples can be copied
+-- a tile of side 8, 16 or 32 that is near the images, so that its samples can be copied
 pub record Placed (t : Tile) : Type 0 where
-  pub small : t .side ≤ 16
+  pub small : t .side ≤ 32
   pub eights : t .side % 8 ≡ 0
   pub near : Within originMost (t .origin)
 
@@ -40,13 +40,21 @@ pub record Placed (t : Tile) : Type 0 where
 pub record Ready (words : List ℤ) (a : Area) (t : Tile) (samples : List ℕ) : Type 0 where
   pub stored : Stored words a
   pub placed : Placed t
-  pub room : 256 ≤ length samples
+  pub room : t .side * t .side ≤ length samples
+  pub enough : 256 ≤ length samples
   pub copied : Copied samples (t .side) (t .side) (pairIn words a .reference) (t .origin .down) (t .origin .right)
 
 -- and the other image's around the tile moved by a guess, 4 samples further each way
 pub record Around (words : List ℤ) (a : Area) (t : Tile) (guess : Vector) (window : List ℕ) : Type 0 where
   pub room : (t .side + 8) * (t .side + 8) ≤ length window
   pub copied : Copied window (t .side + 8) (t .side + 8) (pairIn words a .other) (t .origin .down +ℤ guess .down +ℤ negsuc 3) (t .origin .right +ℤ guess .right +ℤ negsuc 3)
+
+-- local arrays of so many values are enough for its samples, for that window, and for a square of the other image
+pub record Roomy (t : Tile) (samples window other : ℕ) : Type 0 where
+  pub enough : 256 ≤ samples
+  pub samples-room : t .side * t .side ≤ samples
+  pub window-room : (t .side + 8) * (t .side + 8) ≤ window
+  pub other-room : t .side * t .side ≤ other
 
 -- the answer for a tile: a vector, its residual, and the rows summed
 abbrev pub answer : (squared : Bool) → Pair → Tile → Vector → (rows : ℕ) → Found

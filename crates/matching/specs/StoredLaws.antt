@@ -44,20 +44,20 @@ copied-low {words} {from} {height} {width} s {l} {n} {row} {column} room c = rec
         omega (arith, e, s .holds .most (inside height (row +ℤ pos (k / n))) (inside width (column +ℤ pos (k % n))) (inside-below height (row +ℤ pos (k / n)) (s .high)) (inside-below width (column +ℤ pos (k % n)) (s .wide)))
 
 -- what copying a tile's samples asks
-pub copyable : {words : List ℤ} {a : Area} {t : Tile} → Stored words a → Placed t → SquareCopy words (a .reference) (a .height) (a .width) (t .origin) (t .side) 256
-copyable s h =
+pub copyable : {words : List ℤ} {a : Area} {t : Tile} {many : ℕ} → Stored words a → Placed t → t .side * t .side ≤ many → SquareCopy words (a .reference) (a .height) (a .width) (t .origin) (t .side) many
+copyable s h room =
     record {
       source = s .reference;
       near = within-more (2 ^ 20) (h .near) (lit≤ tt);
       small = omega (arith, h .small);
       eights = h .eights;
-      room = omega (arith, mul-le-mul (h .small) (h .small));
+      room = room;
     }
 
 -- and what it makes ready
-pub ready : {words : List ℤ} {a : Area} {t : Tile} {l : List ℕ} → Stored words a → Placed t → length l ≡ 256 → Copied l (t .side) (t .side) (read (a .height) (a .width) (imageAt words (a .reference) (a .width))) (t .origin .down) (t .origin .right) → Ready words a t l
+pub ready : {words : List ℤ} {a : Area} {t : Tile} {l : List ℕ} → Stored words a → Placed t → t .side * t .side ≤ length l → 256 ≤ length l → Copied l (t .side) (t .side) (read (a .height) (a .width) (imageAt words (a .reference) (a .width))) (t .origin .down) (t .origin .right) → Ready words a t l
 unfolding pairIn
-ready s h e c = record { stored = s; placed = h; room = omega arith; copied = c }
+ready s h room enough c = record { stored = s; placed = h; room = room; enough = enough; copied = c }
 
 -- a tile's samples and the window around a guess
 module _ {words : List ℤ} {a : Area} {t : Tile} {samples : List ℕ} {guess : Vector} {window : List ℕ} (r : Ready words a t samples) (w : Around words a t guess window) where
@@ -65,20 +65,14 @@ module _ {words : List ℤ} {a : Area} {t : Tile} {samples : List ℕ} {guess : 
   side-low : Window samples window (t .side)
   unfolding pairIn
   side-low =
-      let small = r .placed .small in
-      record {
-        tile-low = copied-low (r .stored .reference) (omega (arith, r .room, mul-le-mul small small)) (r .copied);
-        window-low = copied-low (r .stored .other) (w .room) (w .copied);
-      }
+      record { tile-low = copied-low (r .stored .reference) (r .room) (r .copied); window-low = copied-low (r .stored .other) (w .room) (w .copied) }
 
   pub window-low : (n : ℕ) → t .side ≡ n → Window samples window n
   window-low n e = subst (Window samples window) e side-low
 
-  -- the guess's residual, where the side is 16
-  pub guess-residual : t .side ≡ 16 → squareSum false samples window 100 24 16 ≡ residual false (pairIn words a) t guess
-  guess-residual e =
-      ap (λ n. squareSum false samples window (4 * (n + 8) + 4) (n + 8) n) (sym e)
-      ∙ middle-residual false (pairIn words a) t guess samples window (r .copied) (w .copied)
+  -- the guess's residual
+  pub guess-residual : squareSum false samples window (4 * (t .side + 8) + 4) (t .side + 8) (t .side) ≡ residual false (pairIn words a) t guess
+  guess-residual = middle-residual false (pairIn words a) t guess samples window (r .copied) (w .copied)
 
   -- the answer that the search there gives
   pub search-answer : (squared : Bool) (before : ℕ) {best : Best} {f : Found} {n : ℕ} → t .side ≡ n → Searched (windowRow squared samples window n) n best → Moved guess best before f → f ≡ refined squared words a t guess before
@@ -94,7 +88,7 @@ module _ {words : List ℤ} {a : Area} {t : Tile} {samples : List ℕ} {guess : 
       made ev er es = rw (ev, er, es)
 
 -- the rows of a search
-pub searched-few : {f : ℕ → ℕ → ℕ} {n : ℕ} {best : Best} → Searched f n best → n ≤ 16 → best .rows ≤ 1296
+pub searched-few : {f : ℕ → ℕ → ℕ} {n : ℕ} {best : Best} → Searched f n best → n ≤ 32 → best .rows ≤ 2592
 searched-few {f} {n} s h = omega (arith, s .rows-are, sumN-bound 81 n (offsetRows f n) (λ k l. offset-rows-most f n k))
 
 -- the first of the least of three candidates is the guess

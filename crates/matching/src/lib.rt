@@ -6,7 +6,8 @@ ghost use lib.ListN.{length};
 ghost use Rattle.search.specs.Vectors.{_plus_};
 ghost use Rattle.patches.specs.Bounds.{Within};
 ghost use Rattle.residuals.specs.Residual.{residual};
-ghost use Rattle.residuals.specs.Local.{squareSum};
+ghost use Rattle.geometry.specs.Fits.{TileSide};
+ghost use Rattle.residuals.specs.Local.{squareSum, Compared};
 ghost use Rattle.search.specs.Local.{Window, Kind};
 ghost use Rattle.residuals.specs.Magnitudes.{residualMost};
 ghost use Rattle.matching.specs.Magnitudes.{guessMost};
@@ -14,7 +15,8 @@ ghost use Rattle.matching.specs.Stored.{pairIn, Stored, Placed, Ready, A
 use geometry::vectors::Vector;
 use patches::copy_square;
 use residuals::Tile;
-use residuals::sixteen::absolute_sum;
+use residuals::sixteen;
+use residuals::thirty_two;
 use search::window::Best;
 use search::window::offset;
 use search::window::search;
@@ -33,9 +35,6 @@ pub struct Found {
     pub residual: u64,
     pub rows: u64,
 }
-
-// The three candidates' rows, at side 16.
-const CANDIDATE_ROWS: u64 = 48;
 
 // The sum of two vectors.
 fn sum(a: Vector, b: Vector) -> Vector
@@ -59,23 +58,40 @@ fn same(a: Vector, b: Vector) -> bool
     a.right == b.right
 }
 
-// The residual of a candidate: always by absolute differences.
-fn candidate_sum(words: &[i64], area: Area, tile: Tile, samples: &[u16], v: Vector) -> u64
-    requires { ⌜ record { ready : Ready (now words) area tile (now samples); sixteen : tile .side ≡ 16; near : Within guessMost v } ⌝ }
+// The sum of a tile against a square.
+fn square_sum(side: usize, samples: &[u16], other: &[u16]) -> u64
+    requires { ⌜ (TileSide side) × (Compared (now samples) (now other) (side * side) (side * side)) ⌝ }
+    ensures { λ r. ⌜ r ≡ squareSum false (now (samples .entry)) (now (other .entry)) 0 side side ⌝ }
+{
+    if side == 32 {
+        return thirty_two::absolute_sum(samples, other, 0, 32) as u64;
+    }
+    sixteen::absolute_sum(samples, other, 0, 16) as u64
+}
+
+// The residual of a candidate: always by absolute differences. `other` is for its square of the other image.
+fn candidate_sum(
+    words: &[i64],
+    area: Area,
+    tile: Tile,
+    samples: &[u16],
+    other: &mut [u16],
+    v: Vector,
+) -> u64
+    requires { ⌜ record { ready : Ready (now words) area tile (now samples); sided : TileSide (tile .side); room : tile .side * tile .side ≤ length (now other); near : Within guessMost v } ⌝ }
     ensures { λ r. ⌜ r ≡ residual false (pairIn (now (words .entry)) area) tile v ⌝ }
 {
     let origin = tile.origin;
-    let mut other = [0u16; 256];
     copy_square(
         words,
         area.other,
         area.height,
         area.width,
         sum(origin, v),
-        16,
-        &mut other,
+        tile.side,
+        &mut *other,
     );
-    absolute_sum(samples, &other, 0, 16) as u64
+    square_sum(tile.side, samples, &*other)
 }
 
 // The candidate of the least residual, the earlier on a tie.
@@ -103,7 +119,7 @@ fn guess(
 
 // The window around a guess, 4 samples further than the tile each way.
 fn copy_window(words: &[i64], area: Area, tile: Tile, guess: Vector, window: &mut [u16])
-    requires { ⌜ record { stored : Stored (now words) area; placed : Placed tile; near : Within guessMost guess; room : 576 ≤ length (now window) } ⌝ }
+    requires { ⌜ record { stored : Stored (now words) area; placed : Placed tile; near : Within guessMost guess; room : (tile .side + 8) * (tile .side + 8) ≤ length (now window) } ⌝ }
     ensures { λ _. ⌜ Around (now (words .entry)) area tile guess (now (window .exit)) ⌝ }
 {
     let origin = tile.origin;
@@ -126,11 +142,14 @@ fn copy_window(words: &[i64], area: Area, tile: Tile, guess: Vector, window: &mu
 }
 
 // The residual of the guess of such a window, in its middle.
-fn middle_sum(samples: &[u16], window: &[u16]) -> u64
-    requires { ⌜ Window (now samples) (now window) 16 ⌝ }
-    ensures { λ r. ⌜ r ≡ squareSum false (now (samples .entry)) (now (window .entry)) 100 24 16 ⌝ }
+fn middle_sum(side: usize, samples: &[u16], window: &[u16]) -> u64
+    requires { ⌜ (TileSide side) × (Window (now samples) (now window) side) ⌝ }
+    ensures { λ r. ⌜ r ≡ squareSum false (now (samples .entry)) (now (window .entry)) (4 * (side + 8) + 4) (side + 8) side ⌝ }
 {
-    absolute_sum(samples, window, 4 * 24 + 4, 24) as u64
+    if side == 32 {
+        return thirty_two::absolute_sum(samples, window, 4 * 40 + 4, 40) as u64;
+    }
+    sixteen::absolute_sum(samples, window, 4 * 24 + 4, 24) as u64
 }
 
 // The residual of another candidate than the own one, whose window is there: a candidate equal to it is summed again, but not copied again.
@@ -140,21 +159,22 @@ fn other_sum(
     tile: Tile,
     samples: &[u16],
     window: &[u16],
+    other: &mut [u16],
     v: Vector,
     own: Vector,
 ) -> u64
-    requires { ⌜ record { ready : Ready (now words) area tile (now samples); sixteen : tile .side ≡ 16; around : Around (now words) area tile own (now window); near : Within guessMost v; own-near : Within guessMost own } ⌝ }
+    requires { ⌜ record { ready : Ready (now words) area tile (now samples); sided : TileSide (tile .side); room : tile .side * tile .side ≤ length (now other); around : Around (now words) area tile own (now window); near : Within guessMost v; own-near : Within guessMost own } ⌝ }
     ensures { λ r. ⌜ r ≡ residual false (pairIn (now (words .entry)) area) tile v ⌝ }
 {
     if same(v, own) {
-        return middle_sum(samples, window);
+        return middle_sum(tile.side, samples, window);
     }
-    candidate_sum(words, area, tile, samples, v)
+    candidate_sum(words, area, tile, samples, &mut *other, v)
 }
 
 // What the search around a guess has found there, and the rows summed, those before the search included.
 fn moved(guess: Vector, best: Best, before: u64) -> Found
-    requires { ⌜ record { near : Within guessMost guess; tried : best .offset < 81; few : best .rows ≤ 1296; few-before : before ≤ 48 } ⌝ }
+    requires { ⌜ record { near : Within guessMost guess; tried : best .offset < 81; few : best .rows ≤ 2592; few-before : before ≤ 96 } ⌝ }
     ensures { λ r. ⌜ Moved guess best before r ⌝ }
 {
     let vector = sum(guess, offset(best.offset));
@@ -165,47 +185,77 @@ fn moved(guess: Vector, best: Best, before: u64) -> Found
     }
 }
 
-// The search around a guess, after so many rows of candidates.
+// The search around a guess, after so many rows of candidates. `window` is for the other image's samples around it.
 pub fn refine(
     words: &[i64],
     area: Area,
     tile: Tile,
     samples: &[u16],
+    window: &mut [u16],
     squared: bool,
     guess: Vector,
     before: u64,
 ) -> Found
-    requires { ⌜ record { ready : Ready (now words) area tile (now samples); kind : Kind squared (tile .side); near : Within guessMost guess; few-before : before ≤ 48 } ⌝ }
+    requires { ⌜ record { ready : Ready (now words) area tile (now samples); kind : Kind squared (tile .side); room : (tile .side + 8) * (tile .side + 8) ≤ length (now window); near : Within guessMost guess; few-before : before ≤ 96 } ⌝ }
     ensures { λ r. ⌜ (r ≡ refined squared (now (words .entry)) area tile guess before) × (r .residual ≤ residualMost) ⌝ }
 {
-    let mut window = [0u16; 576];
-    copy_window(words, area, tile, guess, &mut window);
-    moved(guess, search(squared, tile.side, samples, &window), before)
+    copy_window(words, area, tile, guess, &mut *window);
+    moved(guess, search(squared, tile.side, samples, &*window), before)
 }
 
 // The search around the best of three candidates. The window around the own one is copied first: its middle gives that one's residual,
-// and it is searched itself where that one is the best.
+// and it is searched itself where that one is the best. `window` and `other` are for samples of the other image.
 pub fn refine_candidates(
     words: &[i64],
     area: Area,
     tile: Tile,
     samples: &[u16],
+    window: &mut [u16],
+    other: &mut [u16],
     squared: bool,
     own: Vector,
     sideways: Vector,
     vertically: Vector,
 ) -> Found
-    requires { ⌜ record { ready : Ready (now words) area tile (now samples); sixteen : tile .side ≡ 16; own-near : Within guessMost own; sideways-near : Within guessMost sideways; vertically-near : Within guessMost vertically } ⌝ }
+    requires { ⌜ record { ready : Ready (now words) area tile (now samples); sided : TileSide (tile .side); kind : Kind squared (tile .side); window-room : (tile .side + 8) * (tile .side + 8) ≤ length (now window); other-room : tile .side * tile .side ≤ length (now other); own-near : Within guessMost own; sideways-near : Within guessMost sideways; vertically-near : Within guessMost vertically } ⌝ }
     ensures { λ r. ⌜ (r ≡ refined squared (now (words .entry)) area tile (guessedIn (now (words .entry)) area tile own sideways vertically) (3 * tile .side)) × (r .residual ≤ residualMost) ⌝ }
 {
-    let mut window = [0u16; 576];
-    copy_window(words, area, tile, own, &mut window);
-    let first = middle_sum(samples, &window);
-    let second = other_sum(words, area, tile, samples, &window, sideways, own);
-    let third = other_sum(words, area, tile, samples, &window, vertically, own);
+    let side = tile.side;
+    copy_window(words, area, tile, own, &mut *window);
+    let first = middle_sum(side, samples, &*window);
+    let second = other_sum(
+        words,
+        area,
+        tile,
+        samples,
+        &*window,
+        &mut *other,
+        sideways,
+        own,
+    );
+    let third = other_sum(
+        words,
+        area,
+        tile,
+        samples,
+        &*window,
+        &mut *other,
+        vertically,
+        own,
+    );
     let best = guess(own, sideways, vertically, first, second, third);
+    let rows = 3 * side as u64;
     if same(best, own) {
-        return moved(own, search(squared, 16, samples, &window), CANDIDATE_ROWS);
+        return moved(own, search(squared, side, samples, &*window), rows);
     }
-    refine(words, area, tile, samples, squared, best, CANDIDATE_ROWS)
+    refine(
+        words,
+        area,
+        tile,
+        samples,
+        &mut *window,
+        squared,
+        best,
+        rows,
+    )
 }

@@ -1,63 +1,96 @@
-// The two planes of a row parity: sixteen rows of the frame at a time, eight of them of the parity, between two rows of pairs of tiles.
-ghost use Prim.Native.Nat.{_/_};
+// The two planes of a row parity: as many rows of the frame at a time as a tile has, half of them of the parity, between two rows of pairs of tiles.
+ghost use Prim.Native.Nat.{_*_, _/_, _<_, _≤_};
 ghost use lib.ListN.{length};
 ghost use Rattle.recipe.specs.Scene.{sceneOf};
+ghost use Rattle.tiles.specs.Accepted.{Accepted};
+ghost use Rattle.tiles.specs.Rows.{rowWords, Stored};
 ghost use Rattle.merging.specs.Ready.{ParityReady, BandReady};
 ghost use Rattle.merging.specs.Progress.{RowsMerged, BandMerged};
-use gather::HALF_SIDE;
 use gather::output_row;
-use geometry::tiles::FINEST_SIDE;
 use recipe::Merge;
-use tiles::rows::correction_row;
 
-// The rows between the tile rows `band`, which the work area holds, and `band` + 1.
+// The corrections of each pair of a row, of either side. Called from two places each, the rows of either side are compiled by themselves, so that neither takes
+// the other's stack.
+fn correction_row(
+    m: Merge,
+    samples: &[u16],
+    vectors: &[i32],
+    row_parity: usize,
+    row: usize,
+    work: &mut [i64],
+)
+    requires { ⌜ record { accepted : Accepted (m .shape .side) m (now samples) (now vectors); parity : «row_parity» < 2; row-most : row ≤ m .shape .height / m .shape .side; room : 2 * rowWords (m .shape .side) (m .shape .width) ≤ length (now work) } ⌝ }
+    ensures { λ _. ⌜ Stored (m .shape .side) (sceneOf m (now (samples .entry)) (now (vectors .entry))) «row_parity» row (now (work .entry)) (now (work .exit)) ⌝ }
+{
+    if m.shape.side == 32 {
+        if row_parity == 0 {
+            tiles32::rows::correction_row(m, samples, vectors, 0, row, &mut *work);
+            return;
+        }
+        tiles32::rows::correction_row(m, samples, vectors, 1, row, &mut *work);
+        return;
+    }
+    if row_parity == 0 {
+        tiles::rows::correction_row(m, samples, vectors, 0, row, &mut *work);
+        return;
+    }
+    tiles::rows::correction_row(m, samples, vectors, 1, row, &mut *work);
+}
+
+// The rows between the tile rows `band`, which the work area holds, and `band` + 1, of an output that begins at the tile row `first`.
 fn merge_band(
     m: Merge,
     samples: &[u16],
     vectors: &[i32],
     row_parity: usize,
+    first: usize,
     band: usize,
     output: &mut [u16],
     work: &mut [i64],
 )
-    requires { ⌜ BandReady m (now samples) (now vectors) «row_parity» band (length (now output)) (now work) ⌝ }
-    ensures { λ _. ⌜ BandMerged (sceneOf m (now (samples .entry)) (now (vectors .entry))) «row_parity» band (now (output .entry)) (now (output .exit)) (now (work .exit)) ⌝ }
+    requires { ⌜ BandReady m (now samples) (now vectors) «row_parity» first band (length (now output)) (now work) ⌝ }
+    ensures { λ _. ⌜ BandMerged (m .shape .side) (sceneOf m (now (samples .entry)) (now (vectors .entry))) (m .shape .side * first) «row_parity» band (now (output .entry)) (now (output .exit)) (now (work .exit)) ⌝ }
 {
     correction_row(m, samples, vectors, row_parity, band + 1, &mut *work);
     let shape = m.shape;
-    for i in 0..HALF_SIDE {
+    let half = shape.side / 2;
+    let top = shape.side * first;
+    for i in 0..half {
         output_row(
             shape,
             m.reference,
             samples,
             row_parity,
-            HALF_SIDE * band + i,
+            half * band + i,
+            top,
             &*work,
             &mut *output,
         );
     }
 }
 
-// The rows of a parity.
+// The rows of a parity between the tile rows `first` and `last`.
 pub fn merge_parity(
     m: Merge,
     samples: &[u16],
     vectors: &[i32],
     row_parity: usize,
+    first: usize,
+    last: usize,
     output: &mut [u16],
     work: &mut [i64],
 )
-    requires { ⌜ ParityReady m (now samples) (now vectors) «row_parity» (length (now output)) (length (now work)) ⌝ }
-    ensures { λ _. ⌜ RowsMerged (sceneOf m (now (samples .entry)) (now (vectors .entry))) «row_parity» 0 (m .shape .height / 2) (now (output .entry)) (now (output .exit)) ⌝ }
+    requires { ⌜ ParityReady m (now samples) (now vectors) «row_parity» first last (length (now output)) (length (now work)) ⌝ }
+    ensures { λ _. ⌜ RowsMerged (sceneOf m (now (samples .entry)) (now (vectors .entry))) (m .shape .side * first) «row_parity» (m .shape .side / 2 * first) (m .shape .side / 2 * last) (now (output .entry)) (now (output .exit)) ⌝ }
 {
-    correction_row(m, samples, vectors, row_parity, 0, &mut *work);
-    let bands = m.shape.height / FINEST_SIDE;
-    for band in 0..bands {
+    correction_row(m, samples, vectors, row_parity, first, &mut *work);
+    for band in first..last {
         merge_band(
             m,
             samples,
             vectors,
             row_parity,
+            first,
             band,
             &mut *output,
             &mut *work,

@@ -3,6 +3,7 @@ use Rattle.algebra.specs.Prelude.{_≡_, ℕ, _≤_, arith, lit≤}
 use native.Mathlib.Nat.{le-trans, add-le-add, mul-le-mul, mul-le-mul-left, zero-mul, mul-zero, zero-div}
 use Rattle.recipe.specs.Side.{Side}
 use Rattle.recipe.specs.Tables.{side16}
+use Rattle.recipe.specs.Tables32.{side32}
 use Rattle.recipe.specs.NoiseNumber.{variance, noiseNumber}
 
 -- no strength, or no level: no noise
@@ -24,7 +25,16 @@ pub noise-number-mono : {t ls lr r t' ls' lr' r' : ℕ} → t ≤ t' → ls ≤ 
 unfolding noiseNumber side16
 noise-number-mono ht hs hr h = omega (arith, mul-le-mul ht (variance-mono side16 hs hr h))
 
+-- and so it does at side 32
+pub long-noise-mono : {t ls lr r t' ls' lr' r' : ℕ} → t ≤ t' → ls ≤ ls' → lr ≤ lr' → r ≤ r' → noiseNumber side32 t ls lr r ≤ noiseNumber side32 t' ls' lr' r'
+unfolding noiseNumber side32
+long-noise-mono ht hs hr h = omega (arith, mul-le-mul ht (variance-mono side32 hs hr h))
+
 -- and this is its bound where every sample is at most 4095
 pub noise-number-bound : {t ls lr r : ℕ} → t ≤ 1024 → ls ≤ 65536 → lr ≤ 4194304 → r ≤ 65520 → noiseNumber side16 t ls lr r ≤ 279105765376
 unfolding noiseNumber variance side16
 noise-number-bound ht hs hr h = le-trans (noise-number-mono ht hs hr h) (lit≤ tt)
+
+pub long-noise-bound : {t ls lr r : ℕ} → t ≤ 1024 → ls ≤ 65536 → lr ≤ 4194304 → r ≤ 131040 → noiseNumber side32 t ls lr r ≤ 69776441344
+unfolding noiseNumber variance side32
+long-noise-bound ht hs hr h = le-trans (long-noise-mono ht hs hr h) (lit≤ tt)

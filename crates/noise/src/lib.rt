@@ -6,6 +6,8 @@ ghost use mathlib.Core.Path.{_≡_};
 ghost use Prim.Native.Nat.{_≤_};
 ghost use Rattle.noise.specs.Levels.{levelsOf, levelRefusal, strengthRefusal, blackRefusal, spatialRefusal};
 ghost use Rattle.recipe.specs.Tables.{side16};
+ghost use Rattle.recipe.specs.Tables32.{side32};
+ghost use Rattle.recipe.specs.Sides.{sideOf};
 ghost use Rattle.recipe.specs.NoiseNumber.{noiseNumber};
 ghost use Rattle.noise.specs.Range.{InRange};
 
@@ -99,4 +101,23 @@ pub fn noise_number(t: u64, ls: u64, lr: u64, r: u64) -> u64
     ensures { λ v. ⌜ (v ≡ noiseNumber side16 t ls lr r) × (v ≤ 4402274369536) ⌝ }
 {
     t * (ls * r + 16 * lr) / 16
+}
+
+// V of the root of a tile of side 32: in sixteenths, where r counts thirty-seconds.
+fn long_noise_number(t: u64, ls: u64, lr: u64, r: u64) -> u64
+    requires { ⌜ InRange t ls lr r ⌝ }
+    ensures { λ v. ⌜ (v ≡ noiseNumber side32 t ls lr r) × (v ≤ 4402274369536) ⌝ }
+{
+    t * (ls * r + 32 * lr) / 128
+}
+
+// V of a tile's root, for tiles of that side.
+pub fn side_noise_number(side: usize, t: u64, ls: u64, lr: u64, r: u64) -> u64
+    requires { ⌜ InRange t ls lr r ⌝ }
+    ensures { λ v. ⌜ (v ≡ noiseNumber (sideOf side) t ls lr r) × (v ≤ 4402274369536) ⌝ }
+{
+    if side == 32 {
+        return long_noise_number(t, ls, lr, r);
+    }
+    noise_number(t, ls, lr, r)
 }

@@ -11,7 +11,7 @@ use Rattle.lines.specs.Lines.{TileMost}
 use Rattle.lines.specs.Tiles.{cells-most}
 use Rattle.lines.specs.Magnitudes.{differenceMost, partMost, foldMost}
 use Rattle.spectrum.specs.Magnitudes.{noiseMost, lowNoise}
-use Rattle.spectrum.specs.Spectrum.{BinsOf, twoWay, transposed, spread, gainRe, gainIm, backSum}
+use Rattle.spectrum.specs.Spectrum.{BinsOf, twoWay, transposed, spread, gainRe, gainIm, backSum, gainImOf, gainReOf}
 use Rattle.spectrum.specs.SpectrumLaws.{bin-re, bin-im}
 use Rattle.spectrum.specs.WienerLaws.{wiener-root}
 use Rattle.spectrum.specs.Pairs.{InDouble, Binned, BinnedPair, planeIn, sideBySide, either, doubles}
@@ -25,6 +25,7 @@ use Rattle.spectrum.specs.FoldSizes.{spread-most}
 
 -- B of the differences
 bins : (d : ℕ → ℕ → ℤ) → BinsOf d (twoWay d)
+unfolding side16
 bins d = record { re = bin-re d; im = bin-im d }
 
 pub plane-binned : {d : List (List ℤ)} → TileMost differenceMost d → (p : ℕ) → Binned (twoWay (planeIn (cell (pos 0) d) p))
@@ -56,7 +57,7 @@ module _ (first second : ℕ) (t : ℕ → ℕ → ℕ → ℤ) where
     noise-most p = cond-cases (λ n. n ≤ 4 * partMost low * partMost low) (eqb p 0) (root-most low first (λ e. few e .0) h) (root-most low second (λ e. few e .1) k)
 
     pub folded-most : (p x b : ℕ) → natAbs (folded p x b) ≤ foldMost low
-    unfolding gainRe gainIm
+    unfolding gainReOf gainImOf side16
     folded-most p x b =
         spread-most (partMost low) (gainRe (either first second p) (t p)) (gainIm (either first second p) (t p))
         (λ u v. gain-most low (either first second p) _ _ (noise-most p)) (λ u v. gain-most low (either first second p) _ _ (noise-most p)) x b
@@ -81,5 +82,5 @@ module _ (first second : ℕ) (d : ℕ → ℕ → ℤ) (s : List (List ℤ)) wh
   pub corrections-are : grid 16 32 (λ y l. cell (pos 0) s y l +ℤ away (backSum (transposed (planeIn (sideBySide (λ p. transposed (back p))) (l % 2))) y (l / 2)) (2 ^ 32)) ≡ grid 16 32 (λ y l. cell (pos 0) s y l +ℤ correction (l % 2) y (l / 2))
   corrections-are =
       grid-ext 16 32 _ _ (λ y l h k. ap (λ z. cell (pos 0) s y l +ℤ z)
-      (ap (λ z. away z (2 ^ 32)) (back-ext (transposed (planeIn (sideBySide (λ p. transposed (back p))) (l % 2))) (back (l % 2)) (λ x b i j. lane (λ p x. back p x b) x l) y (l / 2))
+      (ap (λ z. away z (2 ^ 32)) (back-ext side16 (transposed (planeIn (sideBySide (λ p. transposed (back p))) (l % 2))) (back (l % 2)) (λ x b i j. lane (λ p x. back p x b) x l) y (l / 2))
       ∙ corrected (either first second (l % 2)) (planeIn d (l % 2)) (twoWay (planeIn d (l % 2))) (bins (planeIn d (l % 2))) y (l / 2) h (omega arith)))

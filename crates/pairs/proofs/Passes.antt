@@ -14,7 +14,8 @@ use Rattle.lines.specs.BackSizes.{backward-most}
 use Rattle.lines.specs.Magnitudes.{differenceMost, pairLineMost, foldMost, columnMost}
 use Rattle.lines.specs.Lines.{LineMost, TileMost}
 use Rattle.lines.specs.Tiles.{line-most}
-use Rattle.spectrum.specs.Spectrum.{twoWay, transposed, apart, counted, backSum}
+use Rattle.recipe.specs.Tables.{side16}
+use Rattle.spectrum.specs.Spectrum.{twoWay, transposed, backSum, apartOf, backSumOf, countedOf}
 use Rattle.spectrum.specs.SpectrumLaws.{columns-first}
 use Rattle.spectrum.specs.Pairs.{InDouble, planeIn, sideBySide, doubles}
 use Rattle.spectrum.specs.LineLaws.{halfcomplex-ext, halfcomplex-most}
@@ -68,7 +69,7 @@ columns-whole low f w = record {
 
 -- and P of their halves along the rows, added to the tile t
 pub back-is : (s : ℕ → ℕ → ℤ) (t : List (List ℤ)) → grid 16 32 (λ y l. cell (pos 0) t y l +ℤ away (halfSum (planeIn (λ y l. backward (λ b. s b l) y) (l % 2) y) (l / 2)) (2 ^ 31)) ≡ grid 16 32 (λ y l. cell (pos 0) t y l +ℤ away (backSum (transposed (planeIn s (l % 2))) y (l / 2)) (2 ^ 32))
-unfolding backSum counted apart
+unfolding backSumOf countedOf apartOf side16
 back-is s t =
     grid-ext 16 32 _ _ (λ y l h k. ap (λ z. cell (pos 0) t y l +ℤ z)
     (away-half (halfSum (λ x. backward (λ b. s b (2 * x + l % 2)) y) (l / 2)) (backSum (transposed (planeIn s (l % 2))) y (l / 2)) (half-sum (λ x. backward (λ b. s b (2 * x + l % 2)) y) (l / 2))))

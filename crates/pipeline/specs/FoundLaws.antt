@@ -3,7 +3,6 @@ use Rattle.algebra.specs.Prelude.{List, ℕ, _≤_, arith, pos, natAbs}
 use Rattle.sequences.specs.TabLaws.{tab-every}
 use Rattle.geometry.specs.declared.Shape.{Shape}
 use Rattle.geometry.specs.Shape.{vectorLength}
-use Rattle.geometry.specs.Tiles.{level0}
 use Rattle.geometry.specs.Fits.{VectorsFit}
 use Rattle.geometry.specs.Vectors.{wordOf, vectorList}
 use Rattle.alignment.specs.FieldLaws.{word-most}
@@ -12,10 +11,10 @@ use Rattle.alignment.specs.Aligned.{fieldOf, alignedVectors}
 use Rattle.pipeline.specs.Reach.{reaches}
 
 module _ (s : Shape) (reference : ℕ) (samples : List ℕ) where
-  part-fits : (i : ℕ) → natAbs (wordOf s (fieldOf s reference samples) i) ≤ level0 .bound
+  part-fits : (i : ℕ) → natAbs (wordOf s (fieldOf s reference samples) i) ≤ 172
   unfolding wordOf fieldOf vectorsOf
-  part-fits i = word-most _ _ _ (reaches _ .at0) _
+  part-fits i = word-most _ _ _ (reaches _ .at0 _) _
 
   pub found-fit : VectorsFit (alignedVectors s reference samples)
   unfolding alignedVectors vectorList
-  found-fit = record { most = tab-every (λ z. natAbs z ≤ level0 .bound) (pos 0) (wordOf s (fieldOf s reference samples)) (omega arith) part-fits (vectorLength s) }
+  found-fit = record { most = tab-every (λ z. natAbs z ≤ 172) (pos 0) (wordOf s (fieldOf s reference samples)) (omega arith) part-fits (vectorLength s) }

@@ -17,6 +17,7 @@ pub record Runnable (m : Merge) (samples : List ℕ) (vectors : List ℤ) (outpu
   pub read-most : m .read ≤ 4194304
   pub strength-most : m .tuning .strength ≤ 1024
   pub spatial-most : m .tuning .spatial ≤ 256
+  pub unfiltered : m .shape .side ≡ 32 → m .tuning .spatial ≡ 0
 
 -- "align, then merge", and a zeroed work area
 pub record RanLevels (m : Merge) (samples : List ℕ) (vectors′ : List ℤ) (output′ : List ℕ) (work work′ : List ℤ) (r : Totals) : Type 0 where

@@ -28,4 +28,4 @@ abbrev pub Fine : PlaneView → ℤ → ℤ → Type 0
 Fine d y x = RowPlace (length (now (d .samples))) (d .width) (d .height) (d .«row_parity») (d .«column_parity») x
 
 abbrev pub found : PlaneView → ℤ → ℤ → List ℕ
-found d y x = pairRow y x (now (d .samples)) (d .width) (d .height) (d .«row_parity»)
+found d y x = pairRow 16 y x (now (d .samples)) (d .width) (d .height) (d .«row_parity»)

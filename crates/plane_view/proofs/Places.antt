@@ -29,12 +29,12 @@ module _ {y : ℤ} {height rowParity r : ℕ} (samples : List ℕ) (width : ℕ)
   unfolding planeSample planeImage planeOf read sampleAt sampleIndex
   beside x p = ap (λ n. getD samples n 0) (omega (arith, s .is))
 
-  pub row-by-start : (x : ℤ) → tab 32 (λ l. getD samples (r + 2 * inside width (x +ℤ pos (l / 2)) + l % 2) 0) ≡ pairRow y x samples width height rowParity
+  pub row-by-start : (side : ℕ) (x : ℤ) → tab (2 * side) (λ l. getD samples (r + 2 * inside width (x +ℤ pos (l / 2)) + l % 2) 0) ≡ pairRow side y x samples width height rowParity
   unfolding pairRow
-  row-by-start x = tab-ext 32 _ _ (λ l h. beside (x +ℤ pos (l / 2)) (l % 2))
+  row-by-start side x = tab-ext (2 * side) _ _ (λ l h. beside (x +ℤ pos (l / 2)) (l % 2))
 
   -- inside the planes, nothing is held to an edge
-  pub inner-by-start : (x : ℤ) → pos 0 ≤ℤ x → natAbs x + 16 ≤ width → tab 32 (λ l. getD samples (r + 2 * natAbs x + l) 0) ≡ pairRow y x samples width height rowParity
-  inner-by-start (pos first) h room =
-      tab-ext 32 _ _ (λ l b. let same = inside-same width (first + l / 2) (omega arith) in ap (λ n. getD samples n 0) (omega (arith, same))) ∙ row-by-start (pos first)
-  inner-by-start (negsuc a) h room = absurd (h .le)
+  pub inner-by-start : (side : ℕ) (x : ℤ) → pos 0 ≤ℤ x → natAbs x + side ≤ width → tab (2 * side) (λ l. getD samples (r + 2 * natAbs x + l) 0) ≡ pairRow side y x samples width height rowParity
+  inner-by-start side (pos first) h room =
+      tab-ext (2 * side) _ _ (λ l b. let same = inside-same width (first + l / 2) (omega arith) in ap (λ n. getD samples n 0) (omega (arith, same))) ∙ row-by-start side (pos first)
+  inner-by-start side (negsuc a) h room = absurd (h .le)

@@ -12,7 +12,7 @@ rowLengthOf count height = count / (2 * height)
 
 -- the frame of four planes of `height` rows of `width` samples, as a burst of its own
 abbrev pub frameOf : (width height rowLength : ℕ) → Shape
-frameOf width height rowLength = record { width = 2 * width; height = 2 * height; count = 1; «row_length» = rowLength }
+frameOf width height rowLength = record { width = 2 * width; height = 2 * height; count = 1; side = 16; «row_length» = rowLength }
 
 -- the frame whose samples are at hand
 abbrev pub frameImage : List ℕ → (width height : ℕ) → Image
@@ -26,21 +26,21 @@ planeImage samples width height rowParity columnParity = planeOf (frameImage sam
 unfoldable pub framePart : Shape → List ℕ → (frame : ℕ) → List ℕ
 framePart s samples frame = take (frameStride s) (drop (frame * frameStride s) samples)
 
--- "Tiles have side 16": two tiles side by side, of the planes of one row parity of a frame, at an origin that may lie outside. Place 2·j + p of a row is
--- column j of the plane of column parity p, so that inside the planes a row is thirty-two samples of the frame one after the other
-unfoldable pub pairOf : (height width : ℕ) → Image → (rowParity : ℕ) → ℤ → ℤ → List (List ℕ)
-pairOf height width frame rowParity y x = grid 16 32 (λ i l. read height width (planeOf frame rowParity (l % 2)) (y +ℤ pos i) (x +ℤ pos (l / 2)))
+-- "Tiles have side 16", or 32 (request L8): two tiles of a side side by side, of the planes of one row parity of a frame, at an origin that may lie outside.
+-- Place 2·j + p of a row is column j of the plane of column parity p, so that inside the planes a row is 2·side samples of the frame one after the other
+unfoldable pub pairOf : (side height width : ℕ) → Image → (rowParity : ℕ) → ℤ → ℤ → List (List ℕ)
+pairOf side height width frame rowParity y x = grid side (2 * side) (λ i l. read height width (planeOf frame rowParity (l % 2)) (y +ℤ pos i) (x +ℤ pos (l / 2)))
 
 -- "A view of one plane reads the caller's samples": one of them
 unfoldable pub planeSample : ℤ → ℤ → List ℕ → (width height rowParity columnParity : ℕ) → ℕ
 planeSample y x samples width height rowParity columnParity = read height width (planeImage samples width height rowParity columnParity) y x
 
 -- a pair of the frame at row y and column x, and one row of a pair
-unfoldable pub planePair : ℤ → ℤ → List ℕ → (width height rowParity : ℕ) → List (List ℕ)
-planePair y x samples width height rowParity = pairOf height width (frameImage samples width height) rowParity y x
+unfoldable pub planePair : (side : ℕ) → ℤ → ℤ → List ℕ → (width height rowParity : ℕ) → List (List ℕ)
+planePair side y x samples width height rowParity = pairOf side height width (frameImage samples width height) rowParity y x
 
-unfoldable pub pairRow : ℤ → ℤ → List ℕ → (width height rowParity : ℕ) → List ℕ
-pairRow y x samples width height rowParity = tab 32 (λ l. planeSample y (x +ℤ pos (l / 2)) samples width height rowParity (l % 2))
+unfoldable pub pairRow : (side : ℕ) → ℤ → ℤ → List ℕ → (width height rowParity : ℕ) → List ℕ
+pairRow side y x samples width height rowParity = tab (2 * side) (λ l. planeSample y (x +ℤ pos (l / 2)) samples width height rowParity (l % 2))
 
 -- a plane of `height` rows of `width` samples
 pub record Planar (width height rowParity columnParity : ℕ) : Type 0 where

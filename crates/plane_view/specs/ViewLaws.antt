@@ -12,11 +12,11 @@ use Rattle.geometry.specs.ReadLaws.{cell-below, frame-room, inside-below}
 use Rattle.plane_view.specs.View.{rowLengthOf, frameImage, framePart, pairOf, planePair, Planar, Shaped}
 
 -- a pair depends on what the frame has inside alone
-pair-ext : (height width : ℕ) (f g : Image) → 0 < height → 0 < width → (rowParity : ℕ) → rowParity < 2 →
-    ((row column : ℕ) → row < 2 * height → column < 2 * width → f row column ≡ g row column) → (y x : ℤ) → pairOf height width f rowParity y x ≡ pairOf height width g rowParity y x
+pair-ext : (side height width : ℕ) (f g : Image) → 0 < height → 0 < width → (rowParity : ℕ) → rowParity < 2 →
+    ((row column : ℕ) → row < 2 * height → column < 2 * width → f row column ≡ g row column) → (y x : ℤ) → pairOf side height width f rowParity y x ≡ pairOf side height width g rowParity y x
 unfolding pairOf read planeOf
-pair-ext height width f g h w rowParity p e y x =
-    grid-ext 16 32 _ _ (λ i l _ _. e _ _ (omega (arith, inside-below height (y +ℤ pos i) h)) (omega (arith, inside-below width (x +ℤ pos (l / 2)) w)))
+pair-ext side height width f g h w rowParity p e y x =
+    grid-ext side (2 * side) _ _ (λ i l _ _. e _ _ (omega (arith, inside-below height (y +ℤ pos i) h)) (omega (arith, inside-below width (x +ℤ pos (l / 2)) w)))
 
 module _ (s : Shape) (samples : List ℕ) (frame : ℕ) (ok : Allowed s) (long : length samples ≡ sampleLength s) (below : frame < s .count) where
   module _ {width height rowParity columnParity : ℕ} (p : Planar width height rowParity columnParity) (wide : s .width ≡ 2 * width) (high : s .height ≡ 2 * height) where
@@ -44,6 +44,6 @@ module _ (s : Shape) (samples : List ℕ) (frame : ℕ) (ok : Allowed s) (long :
         let below : (0 * (2 * height) + row) * s .«row_length» + column < frameStride s = omega (arith, cell-below row column (s .height) (s .«row_length») (omega arith) (omega (arith, ok .row-least)), mul-comm (s .«row_length») (s .height)) in
         rw (part-row, getD-take, getD-drop) (ap (λ n. getD samples n 0) (rw high (omega arith)))
 
-    pub part-pair : (y x : ℤ) → planePair y x (framePart s samples frame) width height rowParity ≡ pairOf height width (sampleAt s samples frame) rowParity y x
+    pub part-pair : (side : ℕ) (y x : ℤ) → planePair side y x (framePart s samples frame) width height rowParity ≡ pairOf side height width (sampleAt s samples frame) rowParity y x
     unfolding planePair
-    part-pair y x = pair-ext height width _ _ (p .high) (p .wide) rowParity (p .row) part-sample y x
+    part-pair side y x = pair-ext side height width _ _ (p .high) (p .wide) rowParity (p .row) part-sample y x

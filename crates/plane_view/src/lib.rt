@@ -1,4 +1,6 @@
 // A view of one plane of one frame: it reads the caller's samples without copying them.
+pub mod thirty_two;
+
 ghost use mathlib.Core.Path.{_≡_};
 ghost use Prim.Native.Nat.{_+_, _*_, _/_, _%_, _≤_, _<_};
 ghost use lib.IntN.{pos, _+ℤ_};
@@ -36,7 +38,7 @@ fn row_start(
 
 // Row or column k of a tile that starts at z.
 fn along(z: i64, k: usize) -> i64
-    requires { ⌜ (Near z) × (k < 16) ⌝ }
+    requires { ⌜ (Near z) × (k < 32) ⌝ }
     ensures { λ r. ⌜ r ≡ z +ℤ pos k ⌝ }
 {
     z + k as i64
@@ -79,7 +81,7 @@ pub fn row_at(
     column_parity: usize,
 ) -> [u16; 32]
     requires { ⌜ RowPlace (length (now samples)) width height «row_parity» «column_parity» x ⌝ }
-    ensures { λ r. ⌜ r ≡ pairRow y x (now (samples .entry)) width height «row_parity» ⌝ }
+    ensures { λ r. ⌜ r ≡ pairRow 16 y x (now (samples .entry)) width height «row_parity» ⌝ }
 {
     let row_length = samples.len() / (2 * height);
     let start = row_start(y, row_length, height, row_parity, column_parity);
@@ -96,7 +98,7 @@ pub fn row_at(
 // the samples are in the order of the frame's row. The row is y and the first column x.
 pub fn row<'a>(view: PlaneView<'a>, y: i64, x: i64) -> [u16; 32]
     requires { ⌜ RowPlace (length (now (view .samples))) (view .width) (view .height) (view .«row_parity») (view .«column_parity») x ⌝ }
-    ensures { λ r. ⌜ r ≡ pairRow y x (now (view .entry .samples)) (view .entry .width) (view .entry .height) (view .entry .«row_parity») ⌝ }
+    ensures { λ r. ⌜ r ≡ pairRow 16 y x (now (view .entry .samples)) (view .entry .width) (view .entry .height) (view .entry .«row_parity») ⌝ }
 {
     row_at(
         y,
@@ -120,7 +122,7 @@ pub fn row_of(
     column_parity: usize,
 ) -> [u16; 32]
     requires { ⌜ RowPlace (length (now samples)) width height «row_parity» «column_parity» x ⌝ }
-    ensures { λ r. ⌜ r ≡ pairRow y x (now (samples .entry)) width height «row_parity» ⌝ }
+    ensures { λ r. ⌜ r ≡ pairRow 16 y x (now (samples .entry)) width height «row_parity» ⌝ }
 {
     row(
         PlaneView {
@@ -146,7 +148,7 @@ fn fill_pair(
     tile: &mut [[u16; 32]; 16],
 )
     requires { ⌜ record { place : RowPlace (length (now samples)) width height «row_parity» 0 x; near : Near y; rows : length (now tile) ≡ 16 } ⌝ }
-    ensures { λ _. ⌜ now (tile .exit) ≡ planePair y x (now (samples .entry)) width height «row_parity» ⌝ }
+    ensures { λ _. ⌜ now (tile .exit) ≡ planePair 16 y x (now (samples .entry)) width height «row_parity» ⌝ }
 {
     for i in 0..16 {
         tile[i] = row_of(along(y, i), x, samples, width, height, row_parity, 0);
@@ -164,7 +166,7 @@ pub fn frame_pair(
     tile: &mut [[u16; 32]; 16],
 )
     requires { ⌜ record { sampled : Sampled shape (now samples); frame-below : frame < shape .count; parity : «row_parity» < 2; near-y : Near y; near-x : Near x; rows : length (now tile) ≡ 16 } ⌝ }
-    ensures { λ _. ⌜ now (tile .exit) ≡ pairOf (shape .height / 2) (shape .width / 2) (sampleAt shape (now (samples .entry)) frame) «row_parity» y x ⌝ }
+    ensures { λ _. ⌜ now (tile .exit) ≡ pairOf 16 (shape .height / 2) (shape .width / 2) (sampleAt shape (now (samples .entry)) frame) «row_parity» y x ⌝ }
 {
     let words = shape.row_length * shape.height;
     let start = frame * words;

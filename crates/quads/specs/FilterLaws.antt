@@ -4,7 +4,8 @@ use mathlib.Core.List.{map}
 use Prim.Native.Nat.{zero-le}
 use lib.Ieee.{Float, nan, binary64, ofInt}
 use Rattle.sequences.specs.Grid.{cell}
-use Rattle.spectrum.specs.Spectrum.{transposed, spread, quadOf, gainRe, gainIm}
+use Rattle.recipe.specs.Tables.{side16}
+use Rattle.spectrum.specs.Spectrum.{transposed, spread, quadOf, gainRe, gainIm, quadPlaces}
 use Rattle.spectrum.specs.Pairs.{sideBySide, either, doubles}
 use Rattle.spectrum.specs.QuadLaws.{four}
 use Rattle.quads.specs.Lanes.{quadAt, Lanes}
@@ -20,7 +21,7 @@ either-of f x y p = go (eqb p 0)
 
 -- quad (u, l) of a pair is quad (l / 2, u) of one of its planes
 plane-quad : (s : ℕ → ℕ → ℕ → ℤ) (u l : ℕ) → quadAt (λ y k. ofInt binary64 (sideBySide (λ p. transposed (s p)) y k)) u l ≡ map (ofInt binary64) (quadOf (s (l % 2)) (l / 2) u)
-unfolding quadAt quadOf
+unfolding quadAt quadPlaces side16
 plane-quad s u l = four refl refl (high u) (high (8 + u))
   where
     high : (y : ℕ) → ofInt binary64 (s ((16 + l) % 2) ((16 + l) / 2) y) ≡ ofInt binary64 (s (l % 2) (8 + l / 2) y)

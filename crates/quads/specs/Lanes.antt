@@ -42,9 +42,12 @@ foldIn gains k u b =
 unfoldable pub quadIn : (real : Float → Float) (gains : (a b : Float) → List Float) (k u : ℕ) (q : List Float) → List Float
 quadIn real gains k u q = cond (eqb (k + u) 0) (cornerIn real q) (foldIn gains k u (binsIn k u q))
 
--- the parts of the bins of a quad are whole numbers
-pub record WholeBins (k u : ℕ) (q : List Float) : Type 0 where
-  pub at : (i : ℕ) → i < 4 → WholeDouble binMost (numberOf (binsIn k u q) i)
+-- the parts of the bins of a quad are whole numbers of at most m; of side 16
+pub record WholeBinsOf (m k u : ℕ) (q : List Float) : Type 0 where
+  pub at : (i : ℕ) → i < 4 → WholeDouble m (numberOf (binsIn k u q) i)
+
+abbrev pub WholeBins : (k u : ℕ) (q : List Float) → Type 0
+WholeBins = WholeBinsOf binMost
 
 -- ---- quads of a pair
 

@@ -11,7 +11,7 @@ use Rattle.recipe.specs.Tables.{side16}
 use Rattle.recipe.specs.Correction.{filtered}
 use Rattle.floats.specs.Kernels.{var, plus, minus, floats-wholes}
 use Rattle.spectrum.specs.Magnitudes.{binMost, gainMost}
-use Rattle.spectrum.specs.Spectrum.{spread, quadOf, byKind, twoBins, foldedQuad, gainRe, gainIm}
+use Rattle.spectrum.specs.Spectrum.{spread, quadOf, byKind, twoBins, foldedQuad, gainRe, gainIm, quadPlaces, twoBinsOf}
 use Rattle.spectrum.specs.Pairs.{Binned}
 use Rattle.spectrum.specs.SizeLaws.{gain-most}
 use Rattle.spectrum.specs.QuadLaws.{four, four-each, quad-is, corner-is, bins-each}
@@ -30,19 +30,19 @@ module _ (real : Float → Float) (gains : (a b : Float) → List Float) (k u : 
 abbrev pub double : ℤ → Float
 double = ofInt binary64
 
-number-of : (q : List ℤ) (i : ℕ) → i < length q → numberOf (map double q) i ≡ double (getD q i (pos 0))
+pub number-of : (q : List ℤ) (i : ℕ) → i < length q → numberOf (map double q) i ≡ double (getD q i (pos 0))
 number-of [] i h = absurd (omega arith)
 number-of (x ∷ q) zero h = refl
 number-of (x ∷ q) (suc i) h = number-of q i (omega arith)
 
 bins-four : (t : ℕ → ℕ → ℤ) (k u : ℕ) → length (twoBins t k u) ≡ 4
-unfolding twoBins byKind quadOf
+unfolding twoBinsOf byKind quadPlaces side16
 bins-four t zero u = refl
 bins-four t (suc k) zero = refl
 bins-four t (suc k) (suc u) = refl
 
 -- two numbers are at most m if their difference and their sum are
-half : (a b : ℤ) {m : ℕ} → natAbs (a -ℤ b) ≤ m → natAbs (a +ℤ b) ≤ m → (natAbs a ≤ m) × (natAbs b ≤ m)
+pub half : (a b : ℤ) {m : ℕ} → natAbs (a -ℤ b) ≤ m → natAbs (a +ℤ b) ≤ m → (natAbs a ≤ m) × (natAbs b ≤ m)
 half a b p q =
     let d = sub-pn a b in
     let s = add-pn a b in
@@ -50,7 +50,7 @@ half a b p q =
 
 -- ---- the fold
 
-folded-is : (k u : ℕ) (a b c d : ℤ) → natAbs a ≤ gainMost → natAbs b ≤ gainMost → natAbs c ≤ gainMost → natAbs d ≤ gainMost → foldedIn k u (double a) (double b) (double c) (double d) ≡ map double (foldedQuad k u a b c d)
+pub folded-is : (k u : ℕ) (a b c d : ℤ) → natAbs a ≤ gainMost → natAbs b ≤ gainMost → natAbs c ≤ gainMost → natAbs d ≤ gainMost → foldedIn k u (double a) (double b) (double c) (double d) ≡ map double (foldedQuad k u a b c d)
 unfolding foldedIn foldedQuad byKind
 folded-is zero u a b c d i j m n =
     floats-wholes binary64 (a ∷ b ∷ c ∷ d ∷ []) (four-each (λ z. natAbs z ≤ gainMost) a b c d zero-le i j m n)
@@ -70,7 +70,7 @@ module _ (t : ℕ → ℕ → ℤ) (binned : Binned t) where
   bins-small = bins-each t (λ z. natAbs z ≤ binMost) zero-le (binned .re-most) (binned .im-most)
 
   bins-are : (k u : ℕ) → k < 8 → u < 8 → binsIn k u (map double (quadOf t k u)) ≡ map double (twoBins t k u)
-  unfolding binsIn twoBins byKind quadOf
+  unfolding binsIn twoBinsOf byKind quadPlaces side16
   bins-are zero u h l = refl
   bins-are (suc k) zero h l = refl
   bins-are (suc k) (suc u) h l =
@@ -113,7 +113,7 @@ module _ (t : ℕ → ℕ → ℤ) (binned : Binned t) where
         ∙ ap (map double) (sym (quad-is v t k u h l o))
 
     corner : ((i : ℕ) → i < 4 → RealAt 0 0 i) → cornerIn real (map double (quadOf t 0 0)) ≡ map double (Quad 0 0)
-    unfolding cornerIn quadOf twoBins byKind tab
+    unfolding cornerIn quadPlaces twoBinsOf byKind tab side16
     corner at = four (at 0 (lit< tt)) (at 1 (lit< tt)) (at 2 (lit< tt)) (at 3 (lit< tt)) ∙ ap (map double) (sym (corner-is v t))
 
     pub quad-gains : (k u : ℕ) → k < 8 → u < 8 → (k + u ≡ 0 → (i : ℕ) → i < 4 → RealAt k u i) → (0 < k + u → GainsAt k u 0 1 × GainsAt k u 2 3) → quadIn real gains k u (map double (quadOf t k u)) ≡ map double (Quad k u)

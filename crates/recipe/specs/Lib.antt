@@ -1,5 +1,7 @@
 pub mod Side
 pub mod Tables
+pub mod Tables32
+pub mod Sides
 pub mod Root
 pub mod NoiseNumber
 pub mod Correction
@@ -14,4 +16,6 @@ pub mod ExactSpatial
 pub mod ExactMerge
 pub mod TableRules
 pub mod TableLaws
+pub mod TableLaws32
+pub mod SideLaws
 pub mod CorrectionLaws

@@ -6,7 +6,7 @@ use Rattle.geometry.specs.Vectors.{otherFrame, downAt, rightAt}
 use Rattle.recipe.specs.declared.Tuning.{Tuning}
 use Rattle.recipe.specs.declared.Merge.{Merge}
 use Rattle.recipe.specs.Side.{Side}
-use Rattle.recipe.specs.Tables.{side16}
+use Rattle.recipe.specs.Sides.{sideOf}
 use Rattle.recipe.specs.NoiseNumber.{tileRoot, noiseNumber}
 use Rattle.recipe.specs.SpatialNoise.{spatialNumber}
 use Rattle.recipe.specs.Spatial.{FilteredTile}
@@ -26,11 +26,11 @@ pub record Scene : Type 0 where
   pub read : ℕ
   pub tuning : Tuning
 
--- "Merge tiles lie on each plane at level 0's origins and use its vectors unscaled": side 16
-unfoldable pub sceneOf : Merge → (samples : List ℕ) (vectors : List ℤ) → Scene
-sceneOf m samples vectors =
+-- "Merge tiles lie on each plane at level 0's origins and use its vectors unscaled": a merge with tiles of that side
+unfoldable pub sceneAt : Side → Merge → (samples : List ℕ) (vectors : List ℤ) → Scene
+sceneAt side m samples vectors =
     record {
-      side = side16;
+      side = side;
       height = m .shape .height;
       width = m .shape .width;
       others = m .shape .count - 1;
@@ -42,6 +42,10 @@ sceneOf m samples vectors =
       read = m .read;
       tuning = m .tuning;
     }
+
+-- "one side a burst" (request L8)
+abbrev pub sceneOf : Merge → (samples : List ℕ) (vectors : List ℤ) → Scene
+sceneOf m = sceneAt (sideOf (m .shape .side)) m
 
 -- "a black level for each of the four planes" (request L3), in the pattern's order: R and G in rows of parity 0, G and B in those of parity 1
 unfoldable pub blackOf : Tuning → (rowParity columnParity : ℕ) → ℕ

@@ -25,8 +25,11 @@ same-sound (negsuc a) (pos b) t = absurd t
 same-sound (negsuc a) (negsuc b) t = ap negsuc (eqb→eq a b t)
 
 -- f and g agree below n
-agree : (n : ℕ) (f g : ℕ → ℤ) → T (all n (λ k. sameZ (f k) (g k))) → (k : ℕ) → k < n → f k ≡ g k
+pub agree : (n : ℕ) (f g : ℕ → ℤ) → T (all n (λ k. sameZ (f k) (g k))) → (k : ℕ) → k < n → f k ≡ g k
 agree n f g t k h = same-sound (f k) (g k) (all-sound n (λ k. sameZ (f k) (g k)) t k h)
+
+pub agree-nat : (n : ℕ) (f g : ℕ → ℕ) → T (all n (λ k. eqb (f k) (g k))) → (k : ℕ) → k < n → f k ≡ g k
+agree-nat n f g t k h = eqb→eq (f k) (g k) (all-sound n (λ k. eqb (f k) (g k)) t k h)
 
 -- f and g agree below n and m
 pub agree-both : (n m : ℕ) (f g : ℕ → ℕ → ℤ) → T (all n (λ i. all m (λ k. sameZ (f i k) (g i k)))) → (i k : ℕ) → i < n → k < m → f i k ≡ g i k
@@ -59,12 +62,12 @@ sine-opposite = agree-both 16 16 (λ u n. sinAt side16 (opposite u * n)) (λ u n
 -- w(15−i) = w(i)
 pub window-mirror : (i : ℕ) → i < 16 → window16 (15 - i) ≡ window16 i
 unfolding window16 windows
-window-mirror i h = eqb→eq (window16 (15 - i)) (window16 i) (all-sound 16 (λ i. eqb (window16 (15 - i)) (window16 i)) tt i h)
+window-mirror = agree-nat 16 (λ i. window16 (15 - i)) window16 tt
 
 -- w(i) + w(i+8) = 4096
 pub window-halves : (i : ℕ) → i < 8 → window16 i + window16 (i + 8) ≡ 4096
 unfolding window16 windows
-window-halves i h = eqb→eq (window16 i + window16 (i + 8)) 4096 (all-sound 8 (λ i. eqb (window16 i + window16 (i + 8)) 4096) tt i h)
+window-halves = agree-nat 8 (λ i. window16 i + window16 (i + 8)) (λ i. 4096) tt
 
 -- |C(k)| ≤ 16384, whatever the index
 pub cosine-most : (k : ℕ) → natAbs (cosAt side16 k) ≤ 16384

@@ -1,5 +1,5 @@
 -- The rules of a side's cosines that folds of lines use, whatever the side.
-use Rattle.algebra.specs.Prelude.{_≡_, ℕ, _+_, _-_, _*_, _/_, _≤_, natAbs, negℤ}
+use Rattle.algebra.specs.Prelude.{_≡_, ℕ, _+_, _-_, _*_, _/_, _%_, _≤_, natAbs, negℤ}
 use Rattle.recipe.specs.Side.{Side, cosAt}
 
 pub record Rules (s : Side) : Type 0 where
@@ -11,6 +11,10 @@ pub record Rules (s : Side) : Type 0 where
   -- C(n−k) = C(k)
   pub mirrored : (k : ℕ) → k ≤ s .side → cosAt s (s .side - k) ≡ cosAt s k
   pub most : (k : ℕ) → natAbs (cosAt s k) ≤ 16384
+
+-- the index −k
+abbrev pub oppositeOf : Side → ℕ → ℕ
+oppositeOf s k = (s .side - k) % s .side
 
 -- a side s of twice the numbers of t: C(2j) of s is C(j) of t
 pub record Doubled (s t : Side) : Type 0 where

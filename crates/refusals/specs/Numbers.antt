@@ -96,3 +96,7 @@ rowLength = 23
 -- "24, s above 256" (request L13); "s not 0 refusal 24" (request L14)
 abbrev pub spatialStrength : ℕ
 spatialStrength = 24
+
+-- "25, s not 0 with side 32" (request L13)
+abbrev pub filteredSide : ℕ
+filteredSide = 25

@@ -93,7 +93,7 @@ pub headed : {file rest : List ℕ} {header : Header} → fileCheck file ≡ 0 �
 headed {file} {rest} {header} e f =
     let (burst, a) = sound-number noTest file e in
     let g = a .grammar in
-    let read : HeadRead file (burst .header) (g .afterValues) = record { afterNames = g .afterNames; named = g .named; valued = g .valued; packed = g .packed; passed = a .header } in
+    let read : HeadRead file (burst .header) (g .afterValues) = record { afterNames = g .afterNames; named = g .named; valued = g .valued; sixteen = g .sixteen; packed = g .packed; passed = a .header } in
     let both = f ∙ head-complete read in
     let same : header ≡ burst .header = cc in
     record { samples = burst .samples; accepted = subst (λ (h : Header). Accepted noTest file (burstOf h (burst .samples))) (sym same) a }
@@ -151,6 +151,7 @@ module _ (file : List ℕ) where
               taken = record {
                 wide = w;
                 high = h;
+                sixteen = a .grammar .sixteen;
                 packed = a .grammar .packed;
                 allowed = p .allowed;
                 reference-below = p .reference-below;

@@ -1,5 +1,6 @@
 -- A burst that the programs take has the shape and the lengths that the cores of the calls ask for.
 use Rattle.algebra.specs.Prelude.{_≡_, _∙_, List, ℕ, _-_, arith, length}
+use mathlib.Core.Logic.{inl}
 use Rattle.geometry.specs.Shape.{sampleLength, vectorLength, outputLength, workLength}
 use Rattle.geometry.specs.Fits.{BurstFits, AlignFits, MergeFits}
 use Rattle.file_head.specs.declared.Header.{Header}
@@ -12,7 +13,7 @@ module _ {header : Header} {samples : List ℕ} (t : Taken header samples) where
 
   vector-length : vectorRoom (header .shape .count - 1) ≡ vectorLength (header .shape)
   unfolding vectorLength
-  vector-length = rw (t .wide, t .high) (omega arith)
+  vector-length = rw (t .sixteen, t .wide, t .high) (omega arith)
 
   work-length : workRoom ≡ workLength (header .shape)
   unfolding workLength
@@ -24,7 +25,7 @@ module _ {header : Header} {samples : List ℕ} (t : Taken header samples) where
 
   module _ {vectors : ℕ} (v : vectors ≡ vectorRoom (header .shape .count - 1)) where
     burst-fits : BurstFits (header .shape) (header .reference) (length samples) vectors
-    burst-fits = record { allowed = t .allowed; reference-below = t .reference-below; samples-long = sample-length; vectors-long = v ∙ vector-length }
+    burst-fits = record { allowed = t .allowed; sided = record { is = inl (t .sixteen) }; reference-below = t .reference-below; samples-long = sample-length; vectors-long = v ∙ vector-length }
 
     module _ {work : ℕ} (k : work ≡ workRoom) where
       pub align-fits : AlignFits (header .shape) (header .reference) (length samples) vectors work

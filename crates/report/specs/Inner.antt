@@ -30,6 +30,7 @@ burstOf header samples = record { header = header; samples = samples }
 pub record Taken (header : Header) (samples : List ℕ) : Type 0 where
   pub wide : header .shape .width ≡ programSide
   pub high : header .shape .height ≡ programSide
+  pub sixteen : header .shape .side ≡ 16
   pub packed : header .shape .«row_length» ≡ header .shape .width
   pub allowed : Allowed (header .shape)
   pub reference-below : header .reference < header .shape .count

@@ -2,3 +2,4 @@ pub mod Magnitudes
 pub mod Residual
 pub mod Local
 pub mod SixteenLaws
+pub mod ThirtyTwoLaws

@@ -2,6 +2,7 @@
 
 pub mod eight;
 pub mod sixteen;
+pub mod thirty_two;
 
 use geometry::vectors::Vector;
 

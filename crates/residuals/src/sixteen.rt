@@ -46,7 +46,7 @@ fn columns(tile: &[u16], window: &[u16], a: usize, b: usize, stride: usize) -> [
 }
 
 // A sample in 32 bits.
-fn wide(x: u16) -> u32
+pub fn wide(x: u16) -> u32
     ensures { λ r. ⌜ (r ≡ x) × (r ≤ 65535) ⌝ }
 {
     x as u32
@@ -76,7 +76,7 @@ pub fn absolute_sum(tile: &[u16], window: &[u16], start: usize, stride: usize) -
 }
 
 // Two samples of a row, eight apart.
-fn beside(tile: &[u16], window: &[u16], a: usize, b: usize) -> u16
+pub fn beside(tile: &[u16], window: &[u16], a: usize, b: usize) -> u16
     requires { ⌜ Compared (now tile) (now window) (a + 9) (b + 9) ⌝ }
     ensures { λ r. ⌜ (r ≡ besideSum (now (tile .entry)) (now (window .entry)) a b) × (r ≤ 2 * valueMost) ⌝ }
 {

@@ -3,7 +3,7 @@ use Rattle.algebra.specs.Prelude.{_≡_, sym, ap, _∙_, List, ℕ, length, ℤ
 use Rattle.geometry.specs.declared.Shape.{Shape}
 use Rattle.refusals.specs.AfterLaws.{result-made}
 use Rattle.geometry.specs.Shape.{vectorLength}
-use Rattle.geometry.specs.Fits.{BurstFits, SamplesFit}
+use Rattle.geometry.specs.Fits.{BurstFits, SamplesFit, TileSide}
 use Rattle.noise.specs.declared.Noise.{Noise}
 use Rattle.alignment.specs.Aligned.{alignedVectors, residualSums}
 use Rattle.alignment.specs.Rows.{rowsSummed}
@@ -76,6 +76,10 @@ module _ {s : Shape} {reference : ℕ} {samples : List ℕ} {vectors work work�
           run-lent (run-passed s reference samples vectors noise tuning output work (merge-passed s reference samples vectors noise tuning output work passed .0)),
           result-made number output _ passed (call .result),
         )
+
+    pub run-sided : {vectors′ : List ℤ} {r : Alignment} → Ran s reference noise tuning samples vectors vectors′ output output′ work work′ r → r .refusal ≡ 0 → TileSide (s .side)
+    run-sided call accepted =
+        run-passed s reference samples vectors noise tuning output work (number-is (runRefusal s reference noise tuning samples vectors output work) _ _ (call .answer) accepted) .fits .burst .sided
 
     pub run-accepted : {vectors′ : List ℤ} {r : Alignment} → Ran s reference noise tuning samples vectors vectors′ output output′ work work′ r → r .refusal ≡ 0 →
         Found s reference samples vectors vectors′ r × (output′ ≡ merged (sceneOf (mergeOf s reference noise tuning) samples (alignedVectors s reference samples)))

@@ -19,7 +19,7 @@ use Rattle.sanity.specs.StillMerge as StillMerge
 use Rattle.sanity.specs.StillAlign.{vectors-none, sums-none}
 use Rattle.sanity.specs.StillRun.{run-back}
 use Rattle.sanity.specs.Shuffled.{Shuffled, run-stays}
-use Rattle.sanity.specs.AcceptedLaws.{Found, align-accepted, merge-accepted, run-accepted}
+use Rattle.sanity.specs.AcceptedLaws.{Found, align-accepted, merge-accepted, run-sided, run-accepted}
 
 -- no tile has moved: every vector is 0, and so is every sum of residuals
 pub record Unmoved (vectors vectors′ : List ℤ) (r : Alignment) : Type 0 where
@@ -93,4 +93,4 @@ pub run-shuffled : {s : Shape} {reference reference₂ : ℕ} {noise : Noise} {t
 run-shuffled {s} {reference} {noise = noise} {tuning = tuning} call accepted call₂ accepted₂ sh =
     let (f, is) = run-accepted call accepted in
     let (_, is₂) = run-accepted call₂ accepted₂ in
-    is₂ ∙ run-stays (mergeOf s reference noise tuning) (f .lent .burst) sh ∙ sym is
+    is₂ ∙ run-stays (mergeOf s reference noise tuning) (run-sided call accepted) (f .lent .burst) sh ∙ sym is

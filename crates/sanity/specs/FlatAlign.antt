@@ -6,7 +6,7 @@ use Rattle.geometry.specs.declared.Shape.{Shape}
 use Rattle.geometry.specs.Shape.{vectorLength}
 use Rattle.geometry.specs.Read.{Image, read, sampleAt}
 use Rattle.geometry.specs.Vectors.{otherFrame}
-use Rattle.geometry.specs.Tiles.{level0, levelSize}
+use Rattle.geometry.specs.Tiles.{finestLevel, levelSize}
 use Rattle.geometry.specs.LevelTiles.{levelTiles}
 use Rattle.bayer.specs.Bayer.{bayerSum}
 use Rattle.halving.specs.Halving.{weighted, halved}
@@ -74,7 +74,7 @@ module _ {p : Pair} {x y : ℕ} (f : FlatPair p x y) where
 flat-pair : (s : Shape) (a b k : ℕ) → FlatPair (pairs s (λ y x. a) (λ y x. b) k) (4 * a) (4 * b)
 unfolding pairs read
 flat-pair s a b k =
-    let taken : Image → ℤ → ℤ → ℕ = read (levelSize (levelAt k) (s .height)) (levelSize (levelAt k) (s .width)) in
+    let taken : Image → ℤ → ℤ → ℕ = read (levelSize (levelAt (s .side) k) (s .height)) (levelSize (levelAt (s .side) k) (s .width)) in
     record { reference = λ row column. ap (λ f. taken f row column) (level-flat s a k); other = λ row column. ap (λ f. taken f row column) (level-flat s b k) }
 
 module _ {s : Shape} {reference : ℕ} {samples : List ℕ} {a : ℕ} {b : ℕ → ℕ} (flat : FlatBurst s reference samples a b) where
@@ -84,17 +84,16 @@ module _ {s : Shape} {reference : ℕ} {samples : List ℕ} {a : ℕ} {b : ℕ �
       (flat-same s samples reference a (flat .reference-words))
       (flat-same s samples (otherFrame reference k) (b k) (flat .other-words k h))
 
-  -- of each other frame; a tile has 256 sums of four samples
+  -- of each other frame; a tile of side n has n² sums of four samples
   pub field-flat : (k : ℕ) → k < s .count - 1 → StillField (fieldOf s reference samples k)
   unfolding fieldOf vectorsOf
-  field-flat k h = field-still _ (λ l. subst (λ p. AtRest (p l)) (sym (pair-is k h)) (flat-rest (flat-pair s a (b k) l)))
+  field-flat k h = field-still _ _ (λ l. subst (λ p. AtRest (p l)) (sym (pair-is k h)) (flat-rest (flat-pair s a (b k) l)))
 
-  pub sum-flat : (k : ℕ) → k < s .count - 1 → sumOf s reference samples k ≡ tiles level0 s * (1024 * gap a (b k))
+  pub sum-flat : (k : ℕ) → k < s .count - 1 → sumOf s reference samples k ≡ tiles (finestLevel (s .side)) s * (s .side * (s .side * gap (4 * a) (4 * b k)))
   unfolding sumOf residualOf tiles levelTiles levelRows levelColumns pairs levelTile difference
   sum-flat k h =
-      ap residualSum (pair-is k h)
-      ∙ sum-still _ (λ l. flat-rest (flat-pair s a (b k) l)) (16 * (16 * gap (4 * a) (4 * b k))) (λ row column. flat-residual (flat-pair s a (b k) 0) _ (levelTile level0 row column) still)
-      ∙ ap (λ n. tiles level0 s * n) (omega arith)
+      ap (residualSum (s .side)) (pair-is k h)
+      ∙ sum-still (s .side) _ (λ l. flat-rest (flat-pair s a (b k) l)) (s .side * (s .side * gap (4 * a) (4 * b k))) (λ row column. flat-residual (flat-pair s a (b k) 0) _ (levelTile (finestLevel (s .side)) row column) still)
 
   -- and all of them
   pub vectors-flat : alignedVectors s reference samples ≡ replicate (vectorLength s) (pos 0)

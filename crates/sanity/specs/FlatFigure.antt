@@ -15,10 +15,11 @@ use Rattle.geometry.specs.LevelTiles.{levelTiles}
 use Rattle.pyramid.specs.Layout.{tiles}
 use Rattle.alignment.specs.Aligned.{alignedVectors, residualSums}
 use Rattle.recipe.specs.Tables.{side16}
+use Rattle.recipe.specs.Sides.{sideOf}
 use Rattle.recipe.specs.NoiseNumber.{variance, noiseNumber}
 use Rattle.recipe.specs.Correction.{wiener}
 use Rattle.recipe.specs.declared.Merge.{Merge}
-use Rattle.recipe.specs.Scene.{sceneOf}
+use Rattle.recipe.specs.Scene.{sceneOf, sceneAt}
 use Rattle.recipe.specs.Merged.{merged}
 use Rattle.sanity.specs.Frames.{frameWords}
 use Rattle.sanity.specs.FrameLaws.{packed-words}
@@ -28,7 +29,7 @@ use Rattle.sanity.specs.Pedestal.{zeroBlack, zero-black}
 use Rattle.sanity.specs.FlatAlign.{vectors-flat, sum-flat}
 
 abbrev pub shape : Shape
-shape = record { width = 64; height = 64; count = 2; «row_length» = 64 }
+shape = record { width = 64; height = 64; count = 2; side = 16; «row_length» = 64 }
 
 -- a frame of one value
 unfoldable pub plain : ℕ → List ℕ
@@ -79,12 +80,12 @@ flat =
 
 -- whatever the lent vectors are
 pub merged-2 : (vectors : List ℤ) → merged (sceneOf (tuned 1024) burst vectors) ≡ plain 2
-unfolding plain outputLength sceneOf flatOutput flatCorrection noiseNumber variance side16 wiener away upward clampZ minZ maxZ sumZ
-merged-2 vectors = burst-flat (tuned 1024) burst vectors flat refl (zero-black _ refl)
+unfolding plain outputLength sceneAt sideOf flatOutput flatCorrection noiseNumber variance side16 wiener away upward clampZ minZ maxZ sumZ
+merged-2 vectors = burst-flat (tuned 1024) burst vectors flat refl refl (zero-black _ refl)
 
 pub merged-0 : (vectors : List ℤ) → merged (sceneOf (tuned 0) burst vectors) ≡ plain 0
-unfolding plain outputLength sceneOf flatOutput flatCorrection noiseNumber variance side16 wiener away upward clampZ minZ maxZ sumZ
-merged-0 vectors = burst-flat (tuned 0) burst vectors flat refl (zero-black _ refl)
+unfolding plain outputLength sceneAt sideOf flatOutput flatCorrection noiseNumber variance side16 wiener away upward clampZ minZ maxZ sumZ
+merged-0 vectors = burst-flat (tuned 0) burst vectors flat refl refl (zero-black _ refl)
 
 -- "`motion` on that file prints exactly [..] 1 25 25 0 102400": 25 tiles, all with vector 0, 0, and the sum of finest residuals
 pub tiles-25 : tiles level0 shape ≡ 25

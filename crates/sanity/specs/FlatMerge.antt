@@ -8,9 +8,10 @@ use Rattle.geometry.specs.Shape.{outputLength}
 use Rattle.geometry.specs.Vectors.{otherFrame}
 use Rattle.geometry.specs.Read.{planeOf, read}
 use Rattle.recipe.specs.Tables.{side16}
+use Rattle.recipe.specs.SideLaws.{of-16}
 use Rattle.recipe.specs.NoiseNumber.{tileRoot, noiseNumber}
 use Rattle.recipe.specs.declared.Merge.{Merge}
-use Rattle.recipe.specs.Scene.{Scene, sceneOf, blackOf, tileAt, referenceTile, otherTile, tileNoise, tileDifference}
+use Rattle.recipe.specs.Scene.{Scene, sceneOf, blackOf, tileAt, referenceTile, otherTile, tileNoise, tileDifference, sceneAt}
 use Rattle.recipe.specs.Merged.{outputAt, wordAt, merged}
 use Rattle.spatial.specs.PlainLaws.{plain-output}
 use Rattle.sanity.specs.FrameLaws.{flat-same, row-inside, column-inside}
@@ -60,13 +61,13 @@ module _ (s : Scene) {a : ℕ} {b : ℕ → ℕ} (flat : Flat s a b) where
       (λ k l. ap natAbs (sample-flat (k / s .width) (k % s .width) (row-inside k (s .width) (s .height) l) (column-inside k (s .width) (s .height) l) ∙ ap (λ x. flatOutput s x a b) (one .at _ _)))
       ∙ tab-const (natAbs (flatOutput s black a b)) (s .width * s .height)
 
--- and of a burst
-module _ (m : Merge) (samples : List ℕ) (vectors : List ℤ) {a : ℕ} {b : ℕ → ℕ} (flat : FlatBurst (m .shape) (m .reference) samples a b) (plain : m .tuning .spatial ≡ 0) where
+-- and of a burst with tiles of side 16
+module _ (m : Merge) (samples : List ℕ) (vectors : List ℤ) {a : ℕ} {b : ℕ → ℕ} (flat : FlatBurst (m .shape) (m .reference) samples a b) (sixteen : m .shape .side ≡ 16) (plain : m .tuning .spatial ≡ 0) where
   scene-flat : Flat (sceneOf m samples vectors) a b
-  unfolding sceneOf
+  unfolding sceneAt
   scene-flat =
       record {
-        of-16 = refl;
+        of-16 = of-16 sixteen;
         plain = plain;
         high = omega (arith, flat .sampled .allowed .high .least);
         wide = omega (arith, flat .sampled .allowed .wide .least);
@@ -75,5 +76,5 @@ module _ (m : Merge) (samples : List ℕ) (vectors : List ℤ) {a : ℕ} {b : �
       }
 
   pub burst-flat : {black : ℕ} → OneBlack (m .tuning) black → merged (sceneOf m samples vectors) ≡ replicate (outputLength (m .shape)) (natAbs (flatOutput (sceneOf m samples vectors) black a b))
-  unfolding sceneOf outputLength
+  unfolding sceneAt outputLength
   burst-flat one = frame-flat (sceneOf m samples vectors) scene-flat one

@@ -11,7 +11,7 @@ use Rattle.geometry.specs.declared.Shape.{Shape}
 use Rattle.geometry.specs.Shape.{vectorLength}
 use Rattle.alignment.specs.Rows.{rowsSummed}
 use Rattle.recipe.specs.declared.Merge.{Merge}
-use Rattle.recipe.specs.Scene.{Scene, sceneOf}
+use Rattle.recipe.specs.Scene.{Scene, sceneOf, sceneAt}
 use Rattle.recipe.specs.Merged.{outputAt, merged}
 use Rattle.recipe.specs.Side.{Side}
 use Rattle.recipe.specs.Exact.{exactSample}
@@ -32,7 +32,7 @@ module _ (s : Scene) (plain : s .tuning .spatial ≡ 0) (lone : s .others ≡ 0)
 -- and the whole frame
 pub burst-back : (m : Merge) (samples : List ℕ) (vectors : List ℤ) → Burst (m .shape) (m .reference) samples → m .tuning .spatial ≡ 0 → m .shape .count ≡ 1 →
     merged (sceneOf m samples vectors) ≡ frameWords (m .shape) samples (m .reference)
-unfolding sceneOf
+unfolding sceneAt
 burst-back m samples vectors burst plain lone =
     merged-is (sceneOf m samples vectors) (λ row column h k. sample-back (sceneOf m samples vectors) plain (omega arith) row column (burst .fit .most (m .reference) row column (burst .below) h k))
     ∙ sym (frame-words (m .shape) samples (m .reference))

@@ -1,6 +1,6 @@
 -- Try black levels (request L3): with all four 0 the merge is document 01's; a plane's level moves that plane's samples alone; V falls as the level rises, and
 -- a level above every sample leaves r = 0.
-use Rattle.algebra.specs.Prelude.{_≡_, refl, sym, ap, ap₂, _∙_, List, [], _∷_, ℕ, zero, suc, _+_, _-_, _*_, _/_, _%_, _≤_, _<_, arith, getD, ℤ, pos, natAbs}
+use Rattle.algebra.specs.Prelude.{_≡_, refl, sym, ap, ap₂, _∙_, List, [], _∷_, ℕ, zero, suc, _+_, _-_, _*_, _/_, _%_, _≤_, _<_, arith, eqb, getD, ℤ, pos, natAbs}
 use mathlib.Core.Path.{fun-ext}
 use lib.ListN.{replicate}
 use native.Mathlib.Nat.{le-refl}
@@ -10,17 +10,18 @@ use Rattle.sequences.specs.Tab.{tab}
 use Rattle.sequences.specs.TabLaws.{getD-tab}
 use Rattle.geometry.specs.Read.{planeOf}
 use Rattle.roots.specs.TileRootLaws.{tile-root-bound, tile-root-falls}
-use Rattle.noise.specs.NoiseNumberLaws.{noise-number-mono}
+use Rattle.noise.specs.NoiseNumberLaws.{noise-number-mono, long-noise-mono}
 use Rattle.recipe.specs.declared.Tuning.{Tuning}
 use Rattle.recipe.specs.declared.Merge.{Merge}
-use Rattle.recipe.specs.Tables.{side16}
 use Rattle.recipe.specs.Root.{wholeRoot}
 use Rattle.recipe.specs.NoiseNumber.{squared, sumOfSquares, tileRoot, noiseNumber}
+use Rattle.recipe.specs.Sides.{sideOf}
+use Rattle.spectrum.specs.Apart.{cond-cases}
 use Rattle.recipe.specs.PlainOutput.{outputSample}
 use Rattle.recipe.specs.SpatialNoise.{spatialNumber}
 use Rattle.recipe.specs.Spatial.{filteredSample}
 use Rattle.spatial.specs.PlainLaws.{plain-output as base-output}
-use Rattle.recipe.specs.Scene.{Scene, sceneOf, blackOf, tileOver, referenceTile, otherTile, tileNoise, tileSpatial, tileDifference, differenceOver, tileHere}
+use Rattle.recipe.specs.Scene.{Scene, sceneOf, blackOf, tileOver, referenceTile, otherTile, tileNoise, tileSpatial, tileDifference, differenceOver, tileHere, sceneAt}
 use Rattle.recipe.specs.Merged.{planeOutput, outputAt, wordAt, merged}
 
 -- every plane has the same black level
@@ -102,32 +103,35 @@ module _ (m : Merge) (black : List ℕ) (samples : List ℕ) (vectors : List ℤ
   module _ (rowParity columnParity : ℕ) where
     -- where a plane keeps its level, so do its noise numbers ..
     noise-stays : blackOf (blackened m black .tuning) rowParity columnParity ≡ blackOf (m .tuning) rowParity columnParity → (a b : ℕ) → tileNoise s′ rowParity columnParity a b ≡ tileNoise s rowParity columnParity a b
-    unfolding sceneOf tileNoise referenceTile
-    noise-stays same a b = ap (λ l. noiseNumber side16 (m .tuning .strength) (m .shot) (m .read) (tileRoot (side16 .side) l (referenceTile s rowParity columnParity a b))) same
+    unfolding sceneAt tileNoise referenceTile
+    noise-stays same a b = ap (λ l. noiseNumber (s .side) (m .tuning .strength) (m .shot) (m .read) (tileRoot (s .side .side) l (referenceTile s rowParity columnParity a b))) same
 
     spatial-stays : blackOf (blackened m black .tuning) rowParity columnParity ≡ blackOf (m .tuning) rowParity columnParity → (a b : ℕ) → tileSpatial s′ rowParity columnParity a b ≡ tileSpatial s rowParity columnParity a b
-    unfolding sceneOf tileSpatial referenceTile
-    spatial-stays same a b = ap (λ l. spatialNumber side16 (m .tuning .spatial) (m .shot) (m .read) (tileRoot (side16 .side) l (referenceTile s rowParity columnParity a b)) (suc (s .others))) same
+    unfolding sceneAt tileSpatial referenceTile
+    spatial-stays same a b = ap (λ l. spatialNumber (s .side) (m .tuning .spatial) (m .shot) (m .read) (tileRoot (s .side .side) l (referenceTile s rowParity columnParity a b)) (suc (s .others))) same
 
     -- V falls as the level rises
     pub noise-falls : blackOf (m .tuning) rowParity columnParity ≤ blackOf (blackened m black .tuning) rowParity columnParity → (a b : ℕ) → tileNoise s′ rowParity columnParity a b ≤ tileNoise s rowParity columnParity a b
-    unfolding sceneOf tileNoise referenceTile
-    noise-falls higher a b = noise-number-mono (le-refl _) (le-refl _) (le-refl _) (tile-root-falls (side16 .side) higher (referenceTile s rowParity columnParity a b))
+    unfolding sceneAt tileNoise referenceTile sideOf
+    noise-falls higher a b =
+        let h = tile-root-falls (s .side .side) higher (referenceTile s rowParity columnParity a b) in
+        cond-cases (λ n. noiseNumber n (m .tuning .strength) (m .shot) (m .read) (tileRoot (s .side .side) (blackOf (blackened m black .tuning) rowParity columnParity) (referenceTile s rowParity columnParity a b)) ≤ noiseNumber n (m .tuning .strength) (m .shot) (m .read) (tileRoot (s .side .side) (blackOf (m .tuning) rowParity columnParity) (referenceTile s rowParity columnParity a b)))
+        (eqb (m .shape .side) 32) (long-noise-mono (le-refl _) (le-refl _) (le-refl _) h) (noise-number-mono (le-refl _) (le-refl _) (le-refl _) h)
 
   -- .. and its samples: "a plane's black moves only that plane's samples"
   pub sample-stays : (row column : ℕ) → blackOf (blackened m black .tuning) (row % 2) (column % 2) ≡ blackOf (m .tuning) (row % 2) (column % 2) → outputAt s′ row column ≡ outputAt s row column
-  unfolding sceneOf outputAt planeOutput tileHere tileDifference referenceTile otherTile
+  unfolding sceneAt outputAt planeOutput tileHere tileDifference referenceTile otherTile
   sample-stays row column same =
-      ap (λ tiles. filteredSample side16 (row / 2 % side16 .half) (column / 2 % side16 .half) (s .others) tiles (pos (planeOf (s .reference) (row % 2) (column % 2) (row / 2) (column / 2))))
-      (fun-ext (λ t. let a = tileOver side16 (row / 2) (t / 2) in
-      let b = tileOver side16 (column / 2) (t % 2) in
+      ap (λ tiles. filteredSample (s .side) (row / 2 % s .side .half) (column / 2 % s .side .half) (s .others) tiles (pos (planeOf (s .reference) (row % 2) (column % 2) (row / 2) (column / 2))))
+      (fun-ext (λ t. let a = tileOver (s .side) (row / 2) (t / 2) in
+      let b = tileOver (s .side) (column / 2) (t % 2) in
       ap₂ (λ noise spatial. record { noise = noise; spatial = spatial; reference = λ i j. pos (referenceTile s (row % 2) (column % 2) a b i j); differences = tileDifference s (row % 2) (column % 2) a b })
       (noise-stays (row % 2) (column % 2) same a b) (spatial-stays (row % 2) (column % 2) same a b)))
 
   -- word for word
   pub word-stays : (k : ℕ) → k < m .shape .width * m .shape .height →
       blackOf (blackened m black .tuning) (k / m .shape .width % 2) (k % m .shape .width % 2) ≡ blackOf (m .tuning) (k / m .shape .width % 2) (k % m .shape .width % 2) → getD (merged s′) k 0 ≡ getD (merged s) k 0
-  unfolding merged wordAt sceneOf
+  unfolding merged wordAt sceneAt
   word-stays k h same =
       getD-tab (wordAt s′) 0 (m .shape .width * m .shape .height) k h
       ∙ ap natAbs (sample-stays (k / m .shape .width) (k % m .shape .width) same)

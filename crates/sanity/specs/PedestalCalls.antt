@@ -10,9 +10,9 @@ use Rattle.noise.specs.declared.Noise.{Noise}
 use Rattle.noise.specs.Levels.{noiseTests, strengthRefusal, blackRefusal, spatialRefusal}
 use Rattle.alignment.specs.Aligned.{alignedVectors}
 use Rattle.recipe.specs.declared.Tuning.{Tuning}
-use Rattle.recipe.specs.Scene.{sceneOf, blackOf}
+use Rattle.recipe.specs.Scene.{sceneOf, blackOf, sceneAt}
 use Rattle.stacker.specs.declared.Alignment.{Alignment}
-use Rattle.admission.specs.Refusals.{contentTests, runTests, runRefusal, mergeRefusal, mergeOf}
+use Rattle.admission.specs.Refusals.{contentTests, runTests, runRefusal, mergeRefusal, mergeOf, filterSideRefusal}
 use Rattle.stacker.specs.Calls.{Merged, Ran}
 use Rattle.sanity.specs.Pedestal.{zeroBlack, zero-black, plainMerged, plain-merged, word-stays}
 use Rattle.sanity.specs.AcceptedLaws.{merge-accepted, run-accepted}
@@ -28,12 +28,12 @@ module _ (s : Shape) (reference : ℕ) (noise : Noise) (tuning : Tuning) (sample
   unfoldable pub plainTests : List ℕ
   plainTests =
       mergeShapeTests s reference (length samples) (length vectors) (length output) (length work)
-      ++ (noiseTests noise ++ strengthRefusal (tuning .strength) ∷ spatialRefusal (tuning .spatial) ∷ sampleRefusal s samples ∷ [])
+      ++ (noiseTests noise ++ strengthRefusal (tuning .strength) ∷ spatialRefusal (tuning .spatial) ∷ filterSideRefusal (s .side) (tuning .spatial) ∷ sampleRefusal s samples ∷ [])
 
   module _ (none : tuning .black ≡ zeroBlack) where
-    content-plain : first (contentTests s tuning samples) ≡ first (strengthRefusal (tuning .strength) ∷ spatialRefusal (tuning .spatial) ∷ sampleRefusal s samples ∷ [])
+    content-plain : first (contentTests s tuning samples) ≡ first (strengthRefusal (tuning .strength) ∷ spatialRefusal (tuning .spatial) ∷ filterSideRefusal (s .side) (tuning .spatial) ∷ sampleRefusal s samples ∷ [])
     unfolding contentTests first blackRefusal some
-    content-plain = ap (λ black. first (strengthRefusal (tuning .strength) ∷ blackRefusal black ∷ spatialRefusal (tuning .spatial) ∷ sampleRefusal s samples ∷ [])) none
+    content-plain = ap (λ black. first (strengthRefusal (tuning .strength) ∷ blackRefusal black ∷ spatialRefusal (tuning .spatial) ∷ filterSideRefusal (s .side) (tuning .spatial) ∷ sampleRefusal s samples ∷ [])) none
 
     pub run-number-plain : runRefusal s reference noise tuning samples vectors output work ≡ first plainTests
     unfolding runTests plainTests
@@ -53,12 +53,12 @@ module _ (s : Shape) (reference : ℕ) (noise : Noise) (tuning : Tuning) (sample
 module _ {s : Shape} {reference : ℕ} {noise : Noise} {tuning : Tuning} {samples : List ℕ} {vectors work work′ : List ℤ} {output output′ : List ℕ} where
   pub merge-plain : {number : ℕ} → Merged s reference noise tuning samples vectors output output′ work work′ number → number ≡ 0 →
       tuning .black ≡ zeroBlack → tuning .spatial ≡ 0 → output′ ≡ plainMerged (sceneOf (mergeOf s reference noise tuning) samples vectors)
-  unfolding sceneOf
+  unfolding sceneAt
   merge-plain call accepted none off = merge-accepted call accepted .1 ∙ plain-merged (sceneOf (mergeOf s reference noise tuning) samples vectors) (zero-black tuning none) off
 
   pub run-plain : {vectors′ : List ℤ} {r : Alignment} → Ran s reference noise tuning samples vectors vectors′ output output′ work work′ r → r .refusal ≡ 0 →
       tuning .black ≡ zeroBlack → tuning .spatial ≡ 0 → output′ ≡ plainMerged (sceneOf (mergeOf s reference noise tuning) samples (alignedVectors s reference samples))
-  unfolding sceneOf
+  unfolding sceneAt
   run-plain call accepted none off = run-accepted call accepted .1 ∙ plain-merged (sceneOf (mergeOf s reference noise tuning) samples (alignedVectors s reference samples)) (zero-black tuning none) off
 
   -- another accepted call of merge, with other black levels

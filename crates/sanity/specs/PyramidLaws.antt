@@ -30,12 +30,12 @@ quartered-same height width high wide f g same =
     halved-same (height / 2) (width / 2) (omega arith) (omega arith) _ _ (halved-same height width (omega arith) (omega arith) f g same (height / 2) (width / 2))
 
 -- every level of an allowed size can be read, and levels 1 and 2 have a quarter
-some : (k size : ℕ) → 64 ≤ size → 0 < levelSize (levelAt k) size
+some : (side k size : ℕ) → 64 ≤ size → 0 < levelSize (levelAt side k) size
 unfolding levelSize
-some zero size h = omega arith
-some (suc zero) size h = omega arith
-some (suc (suc zero)) size h = omega arith
-some (suc (suc (suc k))) size h = omega arith
+some side zero size h = omega arith
+some side (suc zero) size h = omega arith
+some side (suc (suc zero)) size h = omega arith
+some side (suc (suc (suc k))) size h = omega arith
 
 large : (size : ℕ) → 64 ≤ size → (2 ≤ levelSize level1 size) × (2 ≤ levelSize level2 size)
 unfolding levelSize
@@ -43,7 +43,7 @@ large size h = (omega arith, omega arith)
 
 module _ (s : Shape) (ok : Allowed s) (f g : Image) (same : Same (s .height) (s .width) f g) where
   abbrev SameLevel : ℕ → Type 0
-  SameLevel k = Same (levelSize (levelAt k) (s .height)) (levelSize (levelAt k) (s .width)) (levelImage k s f) (levelImage k s g)
+  SameLevel k = Same (levelSize (levelAt (s .side) k) (s .height)) (levelSize (levelAt (s .side) k) (s .width)) (levelImage k s f) (levelImage k s g)
 
   level0-same : SameLevel 0
   unfolding image0 bayerSum levelSize
@@ -58,8 +58,8 @@ module _ (s : Shape) (ok : Allowed s) (f g : Image) (same : Same (s .height) (s 
       }
 
   level1-same : SameLevel 1
-  unfolding image1
-  level1-same = halved-same _ _ (some 0 _ (ok .high .least)) (some 0 _ (ok .wide .least)) _ _ level0-same _ _
+  unfolding image1 levelSize
+  level1-same = halved-same _ _ (some (s .side) 0 _ (ok .high .least)) (some (s .side) 0 _ (ok .wide .least)) _ _ level0-same _ _
 
   level2-same : SameLevel 2
   unfolding image2
@@ -75,8 +75,8 @@ module _ (s : Shape) (ok : Allowed s) (f g : Image) (same : Same (s .height) (s 
   levels-same (suc (suc zero)) = level2-same
   levels-same (suc (suc (suc k))) = level3-same
 
-  reads-same : (k : ℕ) (row column : ℤ) → read (levelSize (levelAt k) (s .height)) (levelSize (levelAt k) (s .width)) (levelImage k s f) row column ≡ read (levelSize (levelAt k) (s .height)) (levelSize (levelAt k) (s .width)) (levelImage k s g) row column
-  reads-same k = read-same _ _ (some k _ (ok .high .least)) (some k _ (ok .wide .least)) (levelImage k s f) (levelImage k s g) (levels-same k)
+  reads-same : (k : ℕ) (row column : ℤ) → read (levelSize (levelAt (s .side) k) (s .height)) (levelSize (levelAt (s .side) k) (s .width)) (levelImage k s f) row column ≡ read (levelSize (levelAt (s .side) k) (s .height)) (levelSize (levelAt (s .side) k) (s .width)) (levelImage k s g) row column
+  reads-same k = read-same _ _ (some (s .side) k _ (ok .high .least)) (some (s .side) k _ (ok .wide .least)) (levelImage k s f) (levelImage k s g) (levels-same k)
 
   pub pairs-equal : (k : ℕ) → Equal (pairs s f g k)
   unfolding pairs
@@ -86,6 +86,6 @@ module _ (s : Shape) (ok : Allowed s) (f g : Image) (same : Same (s .height) (s 
 pub pairs-agree : (s : Shape) → Allowed s → (f f′ g g′ : Image) → Same (s .height) (s .width) f f′ → Same (s .height) (s .width) g g′ → pairs s f g ≡ pairs s f′ g′
 unfolding pairs
 pairs-agree s ok f f′ g g′ p q =
-    fun-ext (λ k. ap₂ (λ r o. record { height = levelSize (levelAt k) (s .height); width = levelSize (levelAt k) (s .width); reference = r; other = o })
+    fun-ext (λ k. ap₂ (λ r o. record { height = levelSize (levelAt (s .side) k) (s .height); width = levelSize (levelAt (s .side) k) (s .width); reference = r; other = o })
     (fun-ext (λ row. fun-ext (λ column. reads-same s ok f f′ p k row column)))
     (fun-ext (λ row. fun-ext (λ column. reads-same s ok g g′ q k row column))))

@@ -5,18 +5,21 @@ use Rattle.algebra.specs.SumLaws.{sumZ-cong}
 use Rattle.algebra.specs.Clamp.{clampZ}
 use Rattle.algebra.specs.Nearest.{away, upward}
 use Rattle.sequences.specs.Grid.{tab-ext}
-use Rattle.geometry.specs.Fits.{AllowedSize}
+use Rattle.geometry.specs.Fits.{AllowedSize, TileSide}
 use Rattle.geometry.specs.Read.{planeOf}
 use Rattle.recipe.specs.NoiseNumber.{noiseNumber}
 use Rattle.roots.specs.TileRootLaws.{tile-root-cong}
 use Rattle.recipe.specs.declared.Merge.{Merge}
 use Rattle.recipe.specs.Side.{Side}
 use Rattle.recipe.specs.Tables.{side16}
+use Rattle.recipe.specs.Tables32.{side32}
+use Rattle.recipe.specs.Sides.{sideOf}
+use Rattle.recipe.specs.SideLaws.{by-table}
 use Rattle.recipe.specs.Correction.{binRe, binIm, inverseAt, correctionAt}
 use Rattle.recipe.specs.SpatialNoise.{spatialNumber}
 use Rattle.recipe.specs.Spatial.{FilteredTile, copyFiltered, mergedSum, copyAt, spatialAt, takenAt, filteredSample}
 use Rattle.recipe.specs.Output.{rowIn, columnIn, weightIn}
-use Rattle.recipe.specs.Scene.{Scene, sceneOf, tileAt, tileOver, referenceTile, otherTile, tileNoise, tileSpatial, tileDifference, tileHere}
+use Rattle.recipe.specs.Scene.{Scene, sceneOf, tileAt, tileOver, referenceTile, otherTile, tileNoise, tileSpatial, tileDifference, tileHere, sceneAt}
 use Rattle.recipe.specs.Merged.{planeOutput, outputAt, wordAt, merged}
 use Rattle.sanity.specs.Frames.{Same}
 use Rattle.sanity.specs.FrameLaws.{row-inside, column-inside}
@@ -67,11 +70,14 @@ pub record Reordered (s s′ : Scene) (to from : ℕ → ℕ) : Type 0 where
   pub wide : AllowedSize (s .width)
   pub reference-same : Same (s .height) (s .width) (s′ .reference) (s .reference)
   pub other-same : (k : ℕ) → k < s .others → Same (s .height) (s .width) (s′ .other k) (s .other (to k))
-  pub down-same : (k a b : ℕ) → k < s .others → a ≤ s .height / 16 → b ≤ s .width / 16 → s′ .down k a b ≡ s .down (to k) a b
-  pub right-same : (k a b : ℕ) → k < s .others → a ≤ s .height / 16 → b ≤ s .width / 16 → s′ .right k a b ≡ s .right (to k) a b
+  pub down-same : (k a b : ℕ) → k < s .others → a ≤ s .height / s .side .side → b ≤ s .width / s .side .side → s′ .down k a b ≡ s .down (to k) a b
+  pub right-same : (k a b : ℕ) → k < s .others → a ≤ s .height / s .side .side → b ≤ s .width / s .side .side → s′ .right k a b ≡ s .right (to k) a b
 
 module _ (m : Merge) (reference : ℕ) (samples samples′ : List ℕ) (vectors vectors′ : List ℤ) {to from : ℕ → ℕ}
-    (r : Reordered (sceneOf m samples vectors) (sceneOf (moved m reference) samples′ vectors′) to from) where
+    (sided : TileSide (m .shape .side)) (r : Reordered (sceneOf m samples vectors) (sceneOf (moved m reference) samples′ vectors′) to from) where
+  abbrev n : Side
+  n = sideOf (m .shape .side)
+
   abbrev s : Scene
   s = sceneOf m samples vectors
 
@@ -80,40 +86,46 @@ module _ (m : Merge) (reference : ℕ) (samples samples′ : List ℕ) (vectors 
 
   module _ (rowParity columnParity : ℕ) (p : rowParity < 2) (q : columnParity < 2) (a b : ℕ) where
     reference-tile : (i j : ℕ) → referenceTile s′ rowParity columnParity a b i j ≡ referenceTile s rowParity columnParity a b i j
-    unfolding sceneOf referenceTile
-    reference-tile i j = tile-same side16 (s .height) (s .width) rowParity columnParity (s′ .reference) (s .reference) (omega (arith, r .high .least)) (omega (arith, r .wide .least)) p q (r .reference-same) (pos 0) (pos 0) a b i j
+    unfolding sceneAt referenceTile
+    reference-tile i j = tile-same n (s .height) (s .width) rowParity columnParity (s′ .reference) (s .reference) (omega (arith, r .high .least)) (omega (arith, r .wide .least)) p q (r .reference-same) (pos 0) (pos 0) a b i j
 
     tile-noise : tileNoise s′ rowParity columnParity a b ≡ tileNoise s rowParity columnParity a b
-    unfolding sceneOf tileNoise
-    tile-noise = ap (noiseNumber side16 (s .tuning .strength) (s .shot) (s .read)) (tile-root-cong (side16 .side) _ _ _ (λ i j h k. reference-tile i j))
+    unfolding sceneAt tileNoise
+    tile-noise = ap (noiseNumber n (s .tuning .strength) (s .shot) (s .read)) (tile-root-cong (n .side) _ _ _ (λ i j h k. reference-tile i j))
 
     tile-spatial : tileSpatial s′ rowParity columnParity a b ≡ tileSpatial s rowParity columnParity a b
-    unfolding sceneOf tileSpatial
-    tile-spatial = ap (λ r. spatialNumber side16 (s .tuning .spatial) (s .shot) (s .read) r (suc (s .others))) (tile-root-cong (side16 .side) _ _ _ (λ i j h k. reference-tile i j))
+    unfolding sceneAt tileSpatial
+    tile-spatial = ap (λ r. spatialNumber n (s .tuning .spatial) (s .shot) (s .read) r (suc (s .others))) (tile-root-cong (n .side) _ _ _ (λ i j h k. reference-tile i j))
 
-    module _ (ha : a ≤ s .height / 16) (hb : b ≤ s .width / 16) (k : ℕ) (h : k < s .others) where
+    module _ (ha : a ≤ s .height / s .side .side) (hb : b ≤ s .width / s .side .side) (k : ℕ) (h : k < s .others) where
       other-tile : (i j : ℕ) → otherTile s′ rowParity columnParity a b k i j ≡ otherTile s rowParity columnParity a b (to k) i j
-      unfolding sceneOf otherTile
+      unfolding sceneAt otherTile
       other-tile i j =
-          ap₂ (λ d c. tileAt side16 (s .height) (s .width) rowParity columnParity (s′ .other k) d c a b i j) (r .down-same k a b h ha hb) (r .right-same k a b h ha hb)
-          ∙ tile-same side16 (s .height) (s .width) rowParity columnParity (s′ .other k) (s .other (to k)) (omega (arith, r .high .least)) (omega (arith, r .wide .least)) p q (r .other-same k h) (s .down (to k) a b) (s .right (to k) a b) a b i j
+          ap₂ (λ d c. tileAt n (s .height) (s .width) rowParity columnParity (s′ .other k) d c a b i j) (r .down-same k a b h ha hb) (r .right-same k a b h ha hb)
+          ∙ tile-same n (s .height) (s .width) rowParity columnParity (s′ .other k) (s .other (to k)) (omega (arith, r .high .least)) (omega (arith, r .wide .least)) p q (r .other-same k h) (s .down (to k) a b) (s .right (to k) a b) a b i j
 
       differences : tileDifference s′ rowParity columnParity a b k ≡ tileDifference s rowParity columnParity a b (to k)
       unfolding tileDifference
       differences = fun-ext (λ i. fun-ext (λ j. ap₂ (λ x y. pos x -ℤ pos y) (reference-tile i j) (other-tile i j)))
 
   -- the tiles over a sample are tiles of the plane
-  over : (size y t : ℕ) → AllowedSize size → y < size → tileOver side16 (y / 2) t ≤ size / 16
-  unfolding side16
-  over size y t ok h = omega (arith, ok .whole)
+  over : (size y t : ℕ) → AllowedSize size → y < size → tileOver n (y / 2) t ≤ size / n .side
+  unfolding side16 side32
+  over size y t ok h = by-table sided (λ k s. tileOver s (y / 2) t ≤ size / s .side) sixteen thirty-two
+    where
+      sixteen : tileOver side16 (y / 2) t ≤ size / side16 .side
+      sixteen = omega (arith, ok .whole)
+
+      thirty-two : tileOver side32 (y / 2) t ≤ size / side32 .side
+      thirty-two = omega (arith, ok .whole)
 
   -- sample for sample
   pub sample-stays : (row column : ℕ) → row < s .height → column < s .width → outputAt s′ row column ≡ outputAt s row column
-  unfolding sceneOf outputAt planeOutput planeOf tileHere
+  unfolding sceneAt outputAt planeOutput planeOf tileHere
   sample-stays row column h k =
       let p : row % 2 < 2 = omega arith in
       let q : column % 2 < 2 = omega arith in
-      output-renumbered (r .order) side16 _ _ _ _ _ _
+      output-renumbered (r .order) n _ _ _ _ _ _
       (λ t. tile-noise (row % 2) (column % 2) p q _ _)
       (λ t. tile-spatial (row % 2) (column % 2) p q _ _)
       (λ t. fun-ext (λ i. fun-ext (λ j. ap pos (reference-tile (row % 2) (column % 2) p q _ _ i j))))
@@ -122,7 +134,7 @@ module _ (m : Merge) (reference : ℕ) (samples samples′ : List ℕ) (vectors 
 
   -- and the whole frame
   pub frame-stays : merged s′ ≡ merged s
-  unfolding sceneOf merged wordAt
+  unfolding sceneAt merged wordAt
   frame-stays =
       tab-ext (s .width * s .height) _ _
       (λ k l. ap natAbs (sample-stays (k / s .width) (k % s .width) (row-inside k (s .width) (s .height) l) (column-inside k (s .width) (s .height) l)))

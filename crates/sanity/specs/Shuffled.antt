@@ -1,7 +1,8 @@
 -- Try the frames of a burst in another order, the reference at another place among them: each other frame keeps its vectors and its sum of
 -- residuals, and the merged frame stays the same.
-use Rattle.algebra.specs.Prelude.{_≡_, sym, ap, _∙_, List, ℕ, _-_, _<_, arith, ℤ}
+use Rattle.algebra.specs.Prelude.{_≡_, refl, sym, ap, subst, _∙_, List, ℕ, _+_, _-_, _/_, _≤_, _<_, arith, ℤ}
 use Rattle.geometry.specs.declared.Shape.{Shape}
+use Rattle.geometry.specs.Fits.{TileSide}
 use Rattle.geometry.specs.Read.{sampleAt}
 use Rattle.geometry.specs.Tiles.{tileRows, tileColumns}
 use Rattle.geometry.specs.Vectors.{otherFrame, downAt, rightAt}
@@ -10,7 +11,11 @@ use Rattle.alignment.specs.Fields.{field0, residualSum}
 use Rattle.alignment.specs.Frames.{vectorsOf, residualOf}
 use Rattle.alignment.specs.Aligned.{fieldOf, sumOf, alignedVectors}
 use Rattle.recipe.specs.declared.Merge.{Merge}
-use Rattle.recipe.specs.Scene.{sceneOf}
+use Rattle.recipe.specs.Tables.{side16}
+use Rattle.recipe.specs.Tables32.{side32}
+use Rattle.recipe.specs.Sides.{sideOf}
+use Rattle.recipe.specs.SideLaws.{by-table}
+use Rattle.recipe.specs.Scene.{sceneOf, sceneAt}
 use Rattle.recipe.specs.Merged.{merged}
 use Rattle.sanity.specs.Frames.{frameWords, Burst, Same}
 use Rattle.sanity.specs.FrameLaws.{frames-same}
@@ -39,11 +44,11 @@ module _ {s : Shape} {to from : ℕ → ℕ} {reference reference′ : ℕ} {sam
   -- alignment
   pub field-carried : (k : ℕ) → k < s .count - 1 → fieldOf s reference′ samples′ k ≡ fieldOf s reference samples (to k)
   unfolding fieldOf vectorsOf
-  field-carried k h = ap field0 (pairs-agree s (burst .sampled .allowed) _ _ _ _ reference-same (other-same k h))
+  field-carried k h = ap (field0 (s .side)) (pairs-agree s (burst .sampled .allowed) _ _ _ _ reference-same (other-same k h))
 
   pub sum-carried : (k : ℕ) → k < s .count - 1 → sumOf s reference′ samples′ k ≡ sumOf s reference samples (to k)
   unfolding sumOf residualOf
-  sum-carried k h = ap residualSum (pairs-agree s (burst .sampled .allowed) _ _ _ _ reference-same (other-same k h))
+  sum-carried k h = ap (residualSum (s .side)) (pairs-agree s (burst .sampled .allowed) _ _ _ _ reference-same (other-same k h))
 
   pub vectors-carried : Carried s to (alignedVectors s reference samples) (alignedVectors s reference′ samples′)
   unfolding alignedVectors
@@ -56,10 +61,19 @@ module _ {s : Shape} {to from : ℕ → ℕ} {reference reference′ : ℕ} {sam
       }
 
 -- merge, with vectors that go with their frames
-module _ (m : Merge) {to from : ℕ → ℕ} {reference′ : ℕ} {samples samples′ : List ℕ} (burst : Burst (m .shape) (m .reference) samples) (sh : Shuffled (m .shape) to from (m .reference) reference′ samples samples′) where
+module _ (m : Merge) {to from : ℕ → ℕ} {reference′ : ℕ} {samples samples′ : List ℕ} (sided : TileSide (m .shape .side)) (burst : Burst (m .shape) (m .reference) samples) (sh : Shuffled (m .shape) to from (m .reference) reference′ samples samples′) where
+  side-is : sideOf (m .shape .side) .side ≡ m .shape .side
+  unfolding side16 side32
+  side-is = by-table sided (λ n s. s .side ≡ n) refl refl
+
+  below : (size a : ℕ) → a ≤ size / sideOf (m .shape .side) .side → a < size / m .shape .side + 1
+  below size a h =
+      let l : a ≤ size / m .shape .side = subst (λ n. a ≤ size / n) side-is h in
+      omega (arith, l)
+
   pub merge-stays : {vectors vectors′ : List ℤ} → Carried (m .shape) to vectors vectors′ → merged (sceneOf (moved m reference′) samples′ vectors′) ≡ merged (sceneOf m samples vectors)
-  unfolding sceneOf
-  merge-stays {vectors} {vectors′} c = frame-stays m reference′ samples samples′ vectors vectors′ reordered
+  unfolding sceneAt
+  merge-stays {vectors} {vectors′} c = frame-stays m reference′ samples samples′ vectors vectors′ sided reordered
     where
       reordered : Reordered (sceneOf m samples vectors) (sceneOf (moved m reference′) samples′ vectors′) to from
       reordered =
@@ -69,8 +83,8 @@ module _ (m : Merge) {to from : ℕ → ℕ} {reference′ : ℕ} {samples sampl
             wide = burst .sampled .allowed .wide;
             reference-same = reference-same burst sh;
             other-same = other-same burst sh;
-            down-same = λ k a b h i j. c .down k a b h (omega arith) (omega arith);
-            right-same = λ k a b h i j. c .right k a b h (omega arith) (omega arith);
+            down-same = λ k a b h i j. c .down k a b h (below (m .shape .height) a i) (below (m .shape .width) b j);
+            right-same = λ k a b h i j. c .right k a b h (below (m .shape .height) a i) (below (m .shape .width) b j);
           }
 
   -- align and then merge

@@ -16,7 +16,7 @@ use Rattle.geometry.specs.Tiles.{tileColumns, frameParts}
 use Rattle.geometry.specs.Vectors.{otherFrame, word, wordOf, vectorList}
 use Rattle.geometry.specs.VectorLaws.{other-below}
 use Rattle.values.specs.Bounds.{sampleRefusal}
-use Rattle.geometry.specs.Fits.{Allowed, BurstFits}
+use Rattle.geometry.specs.Fits.{Allowed, BurstFits, TileSide}
 use Rattle.noise.specs.declared.Noise.{Noise}
 use Rattle.alignment.specs.Fields.{field0, residualSum}
 use Rattle.alignment.specs.Frames.{pairs, vectorsOf, residualOf}
@@ -25,7 +25,7 @@ use Rattle.alignment.specs.Rows.{frameRows, rowsOf, rowsSummed}
 use Rattle.algebra.specs.SumLaws.{sumN-cong}
 use Rattle.recipe.specs.declared.Merge.{Merge}
 use Rattle.recipe.specs.declared.Tuning.{Tuning}
-use Rattle.recipe.specs.Scene.{sceneOf}
+use Rattle.recipe.specs.Scene.{sceneOf, sceneAt}
 use Rattle.recipe.specs.Merged.{merged}
 use Rattle.sharpness.specs.Sharpness.{sharpest}
 use Rattle.sharpness.specs.SharpnessLaws.{sharpest-same}
@@ -74,11 +74,11 @@ module _ {s : Shape} {samples samples₂ : List ℕ} (d : SpareOnly s samples sa
 
     field-same : (k : ℕ) → k < s .count - 1 → fieldOf s reference samples₂ k ≡ fieldOf s reference samples k
     unfolding fieldOf vectorsOf
-    field-same k h = ap field0 (pair-same k h)
+    field-same k h = ap (field0 (s .side)) (pair-same k h)
 
     sum-same : (k : ℕ) → k < s .count - 1 → sumOf s reference samples₂ k ≡ sumOf s reference samples k
     unfolding sumOf residualOf
-    sum-same k h = ap residualSum (pair-same k h)
+    sum-same k h = ap (residualSum (s .side)) (pair-same k h)
 
     vectors-same : alignedVectors s reference samples₂ ≡ alignedVectors s reference samples
     unfolding alignedVectors vectorList wordOf vectorLength
@@ -93,13 +93,13 @@ module _ {s : Shape} {samples samples₂ : List ℕ} (d : SpareOnly s samples sa
 
     rows-same : rowsSummed s reference samples₂ ≡ rowsSummed s reference samples
     unfolding rowsSummed rowsOf
-    rows-same = sumN-cong (s .count - 1) _ _ (λ k h. ap frameRows (pair-same k h))
+    rows-same = sumN-cong (s .count - 1) _ _ (λ k h. ap (frameRows (s .side)) (pair-same k h))
 
-merge-same : (m : Merge) {samples samples₂ : List ℕ} → SpareOnly (m .shape) samples samples₂ → Allowed (m .shape) → m .reference < m .shape .count → (vectors : List ℤ) →
+merge-same : (m : Merge) {samples samples₂ : List ℕ} → SpareOnly (m .shape) samples samples₂ → Allowed (m .shape) → TileSide (m .shape .side) → m .reference < m .shape .count → (vectors : List ℤ) →
     merged (sceneOf m samples₂ vectors) ≡ merged (sceneOf m samples vectors)
-unfolding sceneOf
-merge-same m {samples} {samples₂} d ok below vectors =
-    frame-stays m (m .reference) samples samples₂ vectors vectors {to = λ k. k} {from = λ k. k}
+unfolding sceneAt
+merge-same m {samples} {samples₂} d ok sided below vectors =
+    frame-stays m (m .reference) samples samples₂ vectors vectors {to = λ k. k} {from = λ k. k} sided
     (record {
       order = record { to-below = λ i h. h; from-below = λ i h. h; from-to = λ i h. refl; to-from = λ i h. refl };
       high = ok .high;
@@ -147,7 +147,7 @@ module _ {s : Shape} {reference : ℕ} {samples samples₂ : List ℕ} {vectors 
           call₂ .answer ∙ tests ∙ sym (call .answer),
           call₂ .result
               ∙ ap (λ n. after n output (merged (sceneOf m samples₂ vectors))) tests
-              ∙ after-ext number output (λ z. merge-same m d (fits z .allowed) (fits z .reference-below) vectors)
+              ∙ after-ext number output (λ z. merge-same m d (fits z .allowed) (fits z .sided) (fits z .reference-below) vectors)
               ∙ sym (call .result),
           call₂ .clean ∙ ap (λ n. after n work (zeros work)) tests ∙ sym (call .clean),
         )
@@ -168,7 +168,7 @@ module _ {s : Shape} {reference : ℕ} {samples samples₂ : List ℕ} {vectors 
           call₂ .found ∙ ap (λ n. after n vectors (alignedVectors s reference samples₂)) tests ∙ after-ext number vectors found ∙ sym (call .found),
           call₂ .result
               ∙ ap (λ n. after n output (merged (sceneOf m samples₂ (alignedVectors s reference samples₂)))) tests
-              ∙ after-ext number output (λ z. merge-same m d (fits z .allowed) (fits z .reference-below) (alignedVectors s reference samples₂) ∙ ap (λ v. merged (sceneOf m samples v)) (found z))
+              ∙ after-ext number output (λ z. merge-same m d (fits z .allowed) (fits z .sided) (fits z .reference-below) (alignedVectors s reference samples₂) ∙ ap (λ v. merged (sceneOf m samples v)) (found z))
               ∙ sym (call .result),
           call₂ .clean ∙ ap (λ n. after n work (zeros work)) tests ∙ sym (call .clean),
         )

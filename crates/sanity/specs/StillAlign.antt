@@ -23,11 +23,11 @@ module _ (s : Shape) (reference : ℕ) (samples : List ℕ) (burst : Burst s ref
   -- of each other frame
   pub field-none : (k : ℕ) → k < s .count - 1 → StillField (fieldOf s reference samples k)
   unfolding fieldOf vectorsOf
-  field-none k h = field-still _ (λ l. equal-rest _ (pair-equal k h l))
+  field-none k h = field-still _ _ (λ l. equal-rest _ (pair-equal k h l))
 
   pub residual-none : (k : ℕ) → k < s .count - 1 → sumOf s reference samples k ≡ 0
   unfolding sumOf residualOf
-  residual-none k h = sum-still _ (λ l. equal-rest _ (pair-equal k h l)) 0 (λ row column. still-residual _ (pair-equal k h 0) _ _) ∙ mul-zero _
+  residual-none k h = sum-still _ _ (λ l. equal-rest _ (pair-equal k h l)) 0 (λ row column. still-residual _ (pair-equal k h 0) _ _) ∙ mul-zero _
 
   -- and all of them
   pub vectors-none : alignedVectors s reference samples ≡ replicate (vectorLength s) (pos 0)

@@ -11,7 +11,7 @@ use Rattle.sequences.specs.Least.{firstMin}
 use Rattle.geometry.specs.declared.Shape.{Shape}
 use Rattle.geometry.specs.Shape.{vectorLength}
 use Rattle.geometry.specs.Fits.{Allowed}
-use Rattle.geometry.specs.Tiles.{Level, level0, level1, level2, level3, Step, step1to0, step2to1, step3to2, frameParts}
+use Rattle.geometry.specs.Tiles.{Level, finestLevel, level1, level2, level3, Step, finestStep, step2to1, step3to2, frameParts}
 use Rattle.residuals.specs.declared.Tile.{Tile}
 use Rattle.geometry.specs.declared.vectors.Vector.{Vector}
 use Rattle.search.specs.Vectors.{still, _plus_, _times_}
@@ -82,19 +82,19 @@ finer-still l s rows columns p coarse rest none =
           ap (bestVector (l .squared) p t) (guess-still p rest t (scaled _ _) (scaled _ _) (scaled _ _)) ∙ still-found p rest (l .squared) t;
     }
 
-module _ (p : ℕ → Pair) (rest : (k : ℕ) → AtRest (p k)) where
-  pub field-still : StillField (field0 p)
+module _ (side : ℕ) (p : ℕ → Pair) (rest : (k : ℕ) → AtRest (p k)) where
+  pub field-still : StillField (field0 side p)
   unfolding field0 field1 field2 field3
   field-still =
-      finer-still level0 step1to0 _ _ (p 0) _ (rest 0)
+      finer-still (finestLevel side) (finestStep side) _ _ (p 0) _ (rest 0)
       (finer-still level1 step2to1 _ _ (p 1) _ (rest 1) (finer-still level2 step3to2 _ _ (p 2) _ (rest 2) (coarsest-still level3 (p 3) (rest 3))))
 
   -- where each tile that has not moved has the residual c
-  pub sum-still : (c : ℕ) → ((row column : ℕ) → residual (level0 .squared) (p 0) (levelTile level0 row column) still ≡ c) → residualSum p ≡ levelRows level0 (p 0) * levelColumns level0 (p 0) * c
+  pub sum-still : (c : ℕ) → ((row column : ℕ) → residual (finestLevel side .squared) (p 0) (levelTile (finestLevel side) row column) still ≡ c) → residualSum side p ≡ levelRows (finestLevel side) (p 0) * levelColumns (finestLevel side) (p 0) * c
   unfolding residualSum residuals
   sum-still c e =
-      sum-same (levelRows level0 (p 0) * levelColumns level0 (p 0)) c _
-      (λ k h. ap (residual (level0 .squared) (p 0) _) (field-still .at (k / levelColumns level0 (p 0)) (k % levelColumns level0 (p 0))) ∙ e _ _)
+      sum-same (levelRows (finestLevel side) (p 0) * levelColumns (finestLevel side) (p 0)) c _
+      (λ k h. ap (residual (finestLevel side .squared) (p 0) _) (field-still .at (k / levelColumns (finestLevel side) (p 0)) (k % levelColumns (finestLevel side) (p 0))) ∙ e _ _)
 
 -- the words of still fields
 part-none : (k : ℕ) → part k still ≡ pos 0

@@ -4,7 +4,7 @@ use lib.IntN.{pos, +ℤ-invr}
 use lib.ListN.{getD, replicate}
 use Rattle.geometry.specs.Vectors.{otherFrame, vectorPlace, downAt, rightAt}
 use Rattle.recipe.specs.declared.Merge.{Merge}
-use Rattle.recipe.specs.Scene.{Scene, sceneOf, tileAt, referenceTile, otherTile, tileDifference}
+use Rattle.recipe.specs.Scene.{Scene, sceneOf, tileAt, referenceTile, otherTile, tileDifference, sceneAt}
 use Rattle.recipe.specs.Merged.{outputAt, merged}
 use Rattle.sanity.specs.Frames.{Burst, Same, Alike, imageWords, frameWords}
 use Rattle.geometry.specs.VectorLaws.{other-below}
@@ -50,7 +50,7 @@ zero-at (suc n) (suc k) = zero-at n k
 -- a burst of frames that are all equal, with vectors that are all 0
 module _ (m : Merge) (samples : List ℕ) (burst : Burst (m .shape) (m .reference) samples) (alike : Alike (m .shape) (m .reference) samples) (plain : m .tuning .spatial ≡ 0) (n : ℕ) where
   still-burst : Still (sceneOf m samples (replicate n (pos 0)))
-  unfolding sceneOf downAt rightAt
+  unfolding sceneAt downAt rightAt
   still-burst =
       record {
         high = omega (arith, burst .sampled .allowed .high .least);
@@ -61,7 +61,7 @@ module _ (m : Merge) (samples : List ℕ) (burst : Burst (m .shape) (m .referenc
       }
 
   pub burst-back : merged (sceneOf m samples (replicate n (pos 0))) ≡ frameWords (m .shape) samples (m .reference)
-  unfolding sceneOf
+  unfolding sceneAt
   burst-back =
       frame-back (sceneOf m samples (replicate n (pos 0))) plain still-burst (λ row column h k. burst .fit .most (m .reference) row column (burst .below) h k)
       ∙ sym (frame-words (m .shape) samples (m .reference))

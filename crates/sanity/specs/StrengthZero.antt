@@ -4,7 +4,7 @@ use Rattle.recipe.specs.NoiseNumber.{tileRoot, noiseNumber}
 use Rattle.noise.specs.NoiseNumberLaws.{noise-number-off}
 use Rattle.recipe.specs.Correction.{correctionAt}
 use Rattle.recipe.specs.declared.Merge.{Merge}
-use Rattle.recipe.specs.Scene.{Scene, sceneOf, blackOf, referenceTile, tileNoise, differenceOver}
+use Rattle.recipe.specs.Scene.{Scene, sceneOf, blackOf, referenceTile, tileNoise, differenceOver, sceneAt}
 use Rattle.recipe.specs.Merged.{outputAt, merged}
 use Rattle.sanity.specs.Frames.{frameWords, Burst}
 use Rattle.sanity.specs.FrameLaws.{frame-words}
@@ -34,7 +34,7 @@ module _ (s : Scene) (plain : s .tuning .spatial ≡ 0) (off : s .tuning .streng
 -- and the whole frame of a burst
 pub burst-back : (m : Merge) (samples : List ℕ) (vectors : List ℤ) → Burst (m .shape) (m .reference) samples → m .tuning .spatial ≡ 0 → m .tuning .strength ≡ 0 →
     merged (sceneOf m samples vectors) ≡ frameWords (m .shape) samples (m .reference)
-unfolding sceneOf
+unfolding sceneAt
 burst-back m samples vectors burst plain off =
     merged-is (sceneOf m samples vectors) (λ row column h k. sample-back (sceneOf m samples vectors) plain off row column (burst .fit .most (m .reference) row column (burst .below) h k))
     ∙ sym (frame-words (m .shape) samples (m .reference))

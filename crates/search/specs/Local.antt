@@ -1,5 +1,5 @@
 -- Inner vocabulary: the search in local arrays: a tile's square, and its window's, which reaches 4 samples further each way.
-use Rattle.algebra.specs.Prelude.{_≡_, Bool, true, List, ℕ, _+_, _*_, _≤_, _<_, getD}
+use Rattle.algebra.specs.Prelude.{_≡_, Bool, true, false, List, ℕ, _+_, _*_, _≤_, _<_, getD}
 use mathlib.Core.Logic.{_⊎_}
 use Rattle.algebra.specs.Sums.{sumN}
 use Rattle.sequences.specs.Least.{firstMin}
@@ -17,9 +17,13 @@ pub record Window (tile window : List ℕ) (side : ℕ) : Type 0 where
   pub tile-low : Low tile (side * side)
   pub window-low : Low window ((side + 8) * (side + 8))
 
--- the tiles that there are: of side 8 by squared differences, and of side 16 by either
-pub record Kind (squared : Bool) (side : ℕ) : Type 0 where
+-- the narrow tiles that there are: of side 8 by squared differences, and of side 16 by either
+pub record Narrow (squared : Bool) (side : ℕ) : Type 0 where
   pub is : ((side ≡ 8) × (squared ≡ true)) ⊎ (side ≡ 16)
+
+-- and the wide ones: of side 32 by absolute differences (request L8)
+pub record Kind (squared : Bool) (side : ℕ) : Type 0 where
+  pub is : (Narrow squared side) ⊎ ((side ≡ 32) × (squared ≡ false))
 
 -- the first least of the 81 totals, where row i of offset k has the sum f k i, and the rows summed
 pub record Searched (f : ℕ → ℕ → ℕ) (n : ℕ) (r : Best) : Type 0 where

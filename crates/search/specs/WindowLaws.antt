@@ -42,15 +42,22 @@ unfolding difference
 difference-most true a b h k = let l : gap a b ≤ 16380 = omega arith in omega (arith, mul-le-mul l l)
 difference-most false a b h k = omega arith
 
-pub window-most : {tile window : List ℕ} {side : ℕ} → Window tile window side → side ≤ 16 → (squared : Bool) (k : ℕ) → k < 81 → sumN side (windowRow squared tile window side k) ≤ 68685926400
+window-bound : {tile window : List ℕ} {side : ℕ} → Window tile window side → (squared : Bool) (b : ℕ) → ((x y : ℕ) → x ≤ 16380 → y ≤ 16380 → difference squared x y ≤ b) → (k : ℕ) → k < 81 → sumN side (windowRow squared tile window side k) ≤ side * (side * b)
 unfolding windowRow squareRow rowSum
-window-most {tile} {window} {side} w small squared k h =
-    omega (arith, mul-le-mul small small, sumN-bound side (side * 268304400) _ row)
+window-bound {tile} {window} {side} w squared b each k h = sumN-bound side (side * b) _ row
   where
-    row : (i : ℕ) → i < side → rowSum squared tile window (i * side) (getD downs k 0 * (side + 8) + getD rights k 0 + i * (side + 8)) side ≤ side * 268304400
+    row : (i : ℕ) → i < side → rowSum squared tile window (i * side) (getD downs k 0 * (side + 8) + getD rights k 0 + i * (side + 8)) side ≤ side * b
     row i l =
         let (y, x) = parts-most k h in
-        sumN-bound side 268304400 _
-        (λ j m. difference-most squared (getD tile (i * side + j) 0) (getD window (getD downs k 0 * (side + 8) + getD rights k 0 + i * (side + 8) + j) 0)
+        sumN-bound side b _
+        (λ j m. each (getD tile (i * side + j) 0) (getD window (getD downs k 0 * (side + 8) + getD rights k 0 + i * (side + 8) + j) 0)
         (w .tile-low .most (i * side + j) (omega (arith, row-room i side side l)))
         (w .window-low .most (getD downs k 0 * (side + 8) + getD rights k 0 + i * (side + 8) + j) (omega (arith, row-room (getD downs k 0 + i) (side + 8) (side + 8) (omega arith)))))
+
+pub window-most : {tile window : List ℕ} {side : ℕ} → Window tile window side → side ≤ 16 → (squared : Bool) (k : ℕ) → k < 81 → sumN side (windowRow squared tile window side k) ≤ 68685926400
+window-most {side = side} w small squared k h =
+    omega (arith, mul-le-mul small small, window-bound w squared 268304400 (difference-most squared) k h)
+
+pub wide-most : {tile window : List ℕ} → Window tile window 32 → (k : ℕ) → k < 81 → sumN 32 (windowRow false tile window 32 k) ≤ 68685926400
+unfolding difference
+wide-most w k h = omega (arith, window-bound w false 16380 (λ x y l m. omega arith) k h)

@@ -1,5 +1,6 @@
 // The search in tie order around a guess, in local arrays.
 ghost use mathlib.Core.Path.{_≡_};
+ghost use mathlib.Core.Bool.{false};
 ghost use Prim.Native.Nat.{_+_, _*_, _<_, _≤_};
 ghost use lib.IntN.{pos, _-ℤ_};
 ghost use lib.ListN.{length, getD};
@@ -8,11 +9,12 @@ ghost use Rattle.search.specs.Offsets.{offset};
 ghost use Rattle.patches.specs.Bounds.{Within};
 ghost use Rattle.residuals.specs.Local.{squareRow};
 ghost use Rattle.trials.specs.Trial.{InWindow, Left};
-ghost use Rattle.search.specs.Local.{windowRow, Window, Kind, Searched};
+ghost use Rattle.search.specs.Local.{windowRow, Window, Narrow, Kind, Searched};
 use geometry::vectors::Vector;
 use trials::Tried;
 use trials::eight;
 use trials::sixteen;
+use trials::thirty_two;
 
 // The parts of the offsets in tie order, each plus 4.
 const DOWN: [u8; 81] = [
@@ -238,7 +240,7 @@ fn try_offset(
     x: usize,
     low: u64,
 ) -> Tried
-    requires { ⌜ (InWindow (now tile) (now window) side y x) × (Kind squared side) ⌝ }
+    requires { ⌜ (InWindow (now tile) (now window) side y x) × (Narrow squared side) ⌝ }
     ensures { λ r. ⌜ Left low (squareRow squared (now (tile .entry)) (now (window .entry)) (y * (side + 8) + x) (side + 8) side) side r ⌝ }
 {
     if side == 8 {
@@ -252,10 +254,10 @@ fn try_offset(
 
 const ABOVE_ALL: u64 = 18446744073709551615;
 
-// The first of the least residuals, and the rows summed: the offsets in tie order, offset zero first, each left after the row at which its total
+// The search of a tile of side 8 or 16: the offsets in tie order, offset zero first, each left after the row at which its total
 // reaches the least so far. `low` starts above every total, so that offset zero is summed whole.
-pub fn search(squared: bool, side: usize, tile: &[u16], window: &[u16]) -> Best
-    requires { ⌜ record { around : Window (now tile) (now window) side; kind : Kind squared side; room : 256 ≤ length (now tile) } ⌝ }
+fn narrow_search(squared: bool, side: usize, tile: &[u16], window: &[u16]) -> Best
+    requires { ⌜ record { around : Window (now tile) (now window) side; kind : Narrow squared side; room : 256 ≤ length (now tile) } ⌝ }
     ensures { λ r. ⌜ Searched (windowRow squared (now (tile .entry)) (now (window .entry)) side) side r ⌝ }
 {
     let down = DOWN;
@@ -279,4 +281,45 @@ pub fn search(squared: bool, side: usize, tile: &[u16], window: &[u16]) -> Best
         residual: low,
         rows: rows,
     }
+}
+
+// The same of a tile of side 32.
+fn wide_search(tile: &[u16], window: &[u16]) -> Best
+    requires { ⌜ Window (now tile) (now window) 32 ⌝ }
+    ensures { λ r. ⌜ Searched (windowRow false (now (tile .entry)) (now (window .entry)) 32) 32 r ⌝ }
+{
+    let down = DOWN;
+    let right = RIGHT;
+    let mut best: usize = 0;
+    let mut low: u64 = ABOVE_ALL;
+    let mut rows: u64 = 0;
+    for k in 0..81 {
+        let y = wide(down[k]);
+        let x = wide(right[k]);
+        let tried = thirty_two::absolute_offset(tile, window, y, x, low);
+        rows += tried.rows;
+        if tried.best {
+            low = tried.total;
+            best = k;
+        }
+    }
+    Best {
+        offset: best,
+        residual: low,
+        rows: rows,
+    }
+}
+
+// The first of the least residuals, and the rows summed. Called from two places, the narrow search is compiled by itself, not together with the wide one.
+pub fn search(squared: bool, side: usize, tile: &[u16], window: &[u16]) -> Best
+    requires { ⌜ record { around : Window (now tile) (now window) side; kind : Kind squared side; room : 256 ≤ length (now tile) } ⌝ }
+    ensures { λ r. ⌜ Searched (windowRow squared (now (tile .entry)) (now (window .entry)) side) side r ⌝ }
+{
+    if side == 32 {
+        return wide_search(tile, window);
+    }
+    if side == 8 {
+        return narrow_search(squared, 8, tile, window);
+    }
+    narrow_search(squared, 16, tile, window)
 }

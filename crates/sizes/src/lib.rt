@@ -1,6 +1,6 @@
-// Sizes, counts, the reference and the row length: refusals 1 to 3 and 23.
+// Sizes, counts, the reference, the side and the row length: refusals 1 to 3, 22 and 23.
 ghost use mathlib.Core.Path.{_≡_};
-ghost use Rattle.geometry.specs.Shape.{sizeAllowed, sizeRefusal, countRefusal, referenceRefusal, rowRefusal};
+ghost use Rattle.geometry.specs.Shape.{sizeAllowed, sizeRefusal, countRefusal, referenceRefusal, sideAllowed, sideRefusal, rowRefusal};
 use geometry::Shape;
 
 // Widths and heights are multiples of 64.
@@ -58,6 +58,26 @@ pub fn reference_refusal(shape: Shape, reference: usize) -> u64
     } else {
         0
     }
+}
+
+// A side of tiles that is let through.
+pub fn side_allowed(side: usize) -> bool
+    ensures { λ r. ⌜ r ≡ sideAllowed side ⌝ }
+{
+    if side == 16 {
+        return true;
+    }
+    side == 32
+}
+
+// Refusal 22.
+pub fn side_refusal(shape: Shape) -> u64
+    ensures { λ r. ⌜ r ≡ sideRefusal shape ⌝ }
+{
+    if side_allowed(shape.side) {
+        return 0;
+    }
+    refusals::SIDE
 }
 
 // How many words after a row's samples may be spare.

@@ -1,5 +1,5 @@
--- Demand 3 for side 16: at s = 0 each word of the merged frame lies within five eighths of the exact merge's sample at its place, and at any s within two steps of
--- the exact filtered merge's (request L13), in fact within nine tenths.
+-- At s = 0 each word of the merged frame lies close to the exact merge's sample at its place: within five eighths for side 16 (demand 3), within one step for
+-- side 32 (request L8). For side 16 it lies at any s within two steps of the exact filtered merge's (request L13), in fact within nine tenths.
 use Rattle.algebra.specs.Prelude.{_≡_, sym, ap, subst, _∙_, ℕ, _*_, _/_, _%_, _≤_, _<_, arith, getD, ℤ, pos, natAbs}
 use Rattle.algebra.specs.Order.{abs-nonneg, zarith}
 use Rattle.algebra.specs.ClampLaws.{clamp-low}
@@ -7,6 +7,7 @@ use Rattle.algebra.specs.Fraction.{whole, Within}
 use Rattle.sequences.specs.TabLaws.{getD-tab}
 use Rattle.recipe.specs.Side.{Side}
 use Rattle.recipe.specs.Tables.{side16}
+use Rattle.recipe.specs.Tables32.{side32}
 use Rattle.recipe.specs.Scene.{Scene}
 use Rattle.recipe.specs.PlainOutput.{outputSample}
 use Rattle.recipe.specs.Spatial.{FilteredTile, filteredSample}
@@ -15,16 +16,23 @@ use Rattle.recipe.specs.ExactSpatial.{exactFilteredSample}
 use Rattle.recipe.specs.Merged.{planeOutput, outputAt, wordAt, merged}
 use Rattle.recipe.specs.ExactMerge.{planeExact, exactAt, planeExactFiltered, exactFilteredAt}
 use Rattle.closeness.specs.Side16.{five-eighths}
+use Rattle.closeness.specs.Side32.{one-step}
 use Rattle.spatial.specs.Side16.{nine-tenths, two-steps}
 use Rattle.spatial.specs.PlainLaws.{plain-output}
 
--- `five-eighths` of a side that is side 16
-sample-close : {n : Side} → n ≡ side16 → (y x others : ℕ) (noise : ℕ → ℕ) (d : ℕ → ℕ → ℕ → ℕ → ℤ) (t0 : ℤ) → others ≤ 7 →
-    Within 5 8 (whole (outputSample n (y % n .half) (x % n .half) others noise d t0)) (exactSample n (y % n .half) (x % n .half) others noise d t0)
+-- without the filter within p/q at any sample, for up to seven other frames
+abbrev CloseSide : Side → (p q : ℕ) → Type 0
+CloseSide n p q =
+    (y x others : ℕ) (noise : ℕ → ℕ) (d : ℕ → ℕ → ℕ → ℕ → ℤ) (t0 : ℤ) → others ≤ 7 →
+    Within p q (whole (outputSample n (y % n .half) (x % n .half) others noise d t0)) (exactSample n (y % n .half) (x % n .half) others noise d t0)
+
+close-16 : CloseSide side16 5 8
 unfolding side16
-sample-close e y x others noise d t0 few =
-    subst (λ n. Within 5 8 (whole (outputSample n (y % n .half) (x % n .half) others noise d t0)) (exactSample n (y % n .half) (x % n .half) others noise d t0)) (sym e)
-    (five-eighths (y % 8) (x % 8) others noise d t0 (omega arith) (omega arith) few)
+close-16 y x others noise d t0 few = five-eighths (y % 8) (x % 8) others noise d t0 (omega arith) (omega arith) few
+
+close-32 : CloseSide side32 1 1
+unfolding side32
+close-32 y x others noise d t0 few = one-step (y % 16) (x % 16) others noise d t0 (omega arith) (omega arith) few
 
 -- `nine-tenths` and `two-steps` of a side that is side 16
 filtered-close : {n : Side} → n ≡ side16 → (y x others : ℕ) (tiles : ℕ → FilteredTile) (t0 : ℤ) → others ≤ 7 →
@@ -50,17 +58,28 @@ word-at : (s : Scene) (k : ℕ) → k < s .width * s .height → outputAt s (k /
 unfolding merged wordAt
 word-at s k h = sym (ap pos (getD-tab _ 0 (s .width * s .height) k h) ∙ word-is s (k / s .width) (k % s .width))
 
--- up to seven other frames
+-- the whole frame, up to seven other frames
+module _ {p q : ℕ} (s : Scene) (close : CloseSide (s .side) p q) (few : s .others ≤ 7) (off : s .tuning .spatial ≡ 0) where
+  output-near : (row column : ℕ) → Within p q (whole (outputAt s row column)) (exactAt s row column)
+  unfolding outputAt exactAt planeExact
+  output-near row column =
+      subst (λ z. Within p q (whole z) (exactAt s row column)) (sym (plain-output s off (row % 2) (column % 2) (row / 2) (column / 2)))
+      (close (row / 2) (column / 2) (s .others) _ _ _ few)
+
+  merged-near : (k : ℕ) → k < s .width * s .height → Within p q (whole (pos (getD (merged s) k 0))) (exactAt s (k / s .width) (k % s .width))
+  merged-near k h = subst (λ z. Within p q (whole z) (exactAt s (k / s .width) (k % s .width))) (word-at s k h) (output-near (k / s .width) (k % s .width))
+
+module _ (s : Scene) (of-32 : s .side ≡ side32) (few : s .others ≤ 7) (off : s .tuning .spatial ≡ 0) where
+  pub merged-close-32 : (k : ℕ) → k < s .width * s .height → Within 1 1 (whole (pos (getD (merged s) k 0))) (exactAt s (k / s .width) (k % s .width))
+  merged-close-32 = merged-near s (subst (λ n. CloseSide n 1 1) (sym of-32) close-32) few off
+
 module _ (s : Scene) (of-16 : s .side ≡ side16) (few : s .others ≤ 7) where
   module _ (off : s .tuning .spatial ≡ 0) where
     pub output-close : (row column : ℕ) → Within 5 8 (whole (outputAt s row column)) (exactAt s row column)
-    unfolding outputAt exactAt planeExact
-    output-close row column =
-        subst (λ z. Within 5 8 (whole z) (exactAt s row column)) (sym (plain-output s off (row % 2) (column % 2) (row / 2) (column / 2)))
-        (sample-close of-16 (row / 2) (column / 2) (s .others) _ _ _ few)
+    output-close = output-near s (subst (λ n. CloseSide n 5 8) (sym of-16) close-16) few off
 
     pub merged-close : (k : ℕ) → k < s .width * s .height → Within 5 8 (whole (pos (getD (merged s) k 0))) (exactAt s (k / s .width) (k % s .width))
-    merged-close k h = subst (λ z. Within 5 8 (whole z) (exactAt s (k / s .width) (k % s .width))) (word-at s k h) (output-close (k / s .width) (k % s .width))
+    merged-close = merged-near s (subst (λ n. CloseSide n 5 8) (sym of-16) close-16) few off
 
   pub output-two-steps : (row column : ℕ) → Within 2 1 (whole (outputAt s row column)) (exactFilteredAt s row column)
   unfolding outputAt planeOutput exactFilteredAt planeExactFiltered

@@ -1,24 +1,39 @@
--- Numbers 0 and 8 of a line apart from the others.
+-- Numbers 0 and n/2 of a line apart from the others.
 use Rattle.algebra.specs.Prelude.{_≡_, refl, Bool, true, false, cond, ℕ, _%_, _≤_, _<_, eqb, ltb}
 use borrow.Author.Tests.{eq-eqb, ne-eqb, eqb-false, ltb-true, ltb-false}
-use Rattle.spectrum.specs.Spectrum.{apart}
+use Rattle.recipe.specs.Side.{Side}
+use Rattle.recipe.specs.Tables.{side16}
+use Rattle.spectrum.specs.Spectrum.{apart, apartOf}
 
 -- what holds of either
 pub cond-cases : {A : Type 0} (P : A → Type 0) (b : Bool) {x y : A} → P x → P y → P (cond b x y)
 cond-cases P true p q = p
 cond-cases P false p q = q
 
+module _ (s : Side) {A : Type 0} (k : ℕ) (own paired : A) where
+  pub side-own : k % s .half ≡ 0 → apartOf s k own paired ≡ own
+  unfolding apartOf
+  side-own h = rw (eq-eqb (k % s .half) 0 h)
+
+  pub side-paired : (k % s .half ≡ 0 → ⊥) → apartOf s k own paired ≡ paired
+  unfolding apartOf
+  side-paired h = rw (ne-eqb (k % s .half) 0 h)
+
+  pub side-cases : (P : A → Type 0) → P own → P paired → P (apartOf s k own paired)
+  unfolding apartOf
+  side-cases P p q = cond-cases P (eqb (k % s .half) 0) p q
+
 module _ {A : Type 0} (k : ℕ) (own paired : A) where
   pub is-own : k % 8 ≡ 0 → apart k own paired ≡ own
-  unfolding apart
-  is-own h = rw (eq-eqb (k % 8) 0 h)
+  unfolding side16
+  is-own = side-own side16 k own paired
 
   pub is-paired : (k % 8 ≡ 0 → ⊥) → apart k own paired ≡ paired
-  unfolding apart
-  is-paired h = rw (ne-eqb (k % 8) 0 h)
+  unfolding side16
+  is-paired = side-paired side16 k own paired
 
   pub apart-cases : (P : A → Type 0) → P own → P paired → P (apart k own paired)
-  unfolding apart
+  unfolding apartOf side16
   apart-cases P p q = cond-cases P (eqb (k % 8) 0) p q
 
 -- what is the same in both cases
@@ -29,6 +44,6 @@ cond-ext false x y x' y' p q = q refl
 pub below-ext : {A : Type 0} (k n : ℕ) (x y x' y' : A) → (k < n → x ≡ x') → (n ≤ k → y ≡ y') → cond (ltb k n) x y ≡ cond (ltb k n) x' y'
 below-ext k n x y x' y' p q = cond-ext (ltb k n) x y x' y' (λ e. p (ltb-true k n e)) (λ e. q (ltb-false k n e))
 
-pub apart-ext : {A : Type 0} (k : ℕ) (x y x' y' : A) → x ≡ x' → ((k % 8 ≡ 0 → ⊥) → y ≡ y') → apart k x y ≡ apart k x' y'
-unfolding apart
-apart-ext k x y x' y' p q = cond-ext (eqb (k % 8) 0) x y x' y' (λ e. p) (λ e. q (eqb-false (k % 8) 0 e))
+pub side-ext : (s : Side) {A : Type 0} (k : ℕ) (x y x' y' : A) → x ≡ x' → ((k % s .half ≡ 0 → ⊥) → y ≡ y') → apartOf s k x y ≡ apartOf s k x' y'
+unfolding apartOf
+side-ext s k x y x' y' p q = cond-ext (eqb (k % s .half) 0) x y x' y' (λ e. p) (λ e. q (eqb-false (k % s .half) 0 e))

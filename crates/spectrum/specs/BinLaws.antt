@@ -1,14 +1,33 @@
 -- The bins of a plane of differences are those that differences can have.
-use Rattle.algebra.specs.Prelude.{ℕ, _≤_, ℤ, natAbs}
+use Rattle.algebra.specs.Prelude.{ℕ, _*_, _≤_, ℤ, natAbs, lit≤}
+use native.Mathlib.Nat.{le-trans, mul-le-mul-left}
 use Rattle.lines.specs.Magnitudes.{differenceMost}
-use Rattle.spectrum.specs.Spectrum.{twoWay}
+use Rattle.recipe.specs.Tables32.{side32}
+use Rattle.spectrum.specs.Magnitudes.{longBinMost}
+use Rattle.spectrum.specs.Spectrum.{twoWay, twoWayOf}
+use Rattle.spectrum.specs.Turns.{turns32}
 use Rattle.spectrum.specs.Pairs.{Binned}
-use Rattle.spectrum.specs.SpectrumLaws.{bin-re, bin-im}
+use Rattle.spectrum.specs.LongPairs.{LongBinned}
+use Rattle.spectrum.specs.SpectrumLaws.{bin-re, bin-im, bin-re-of, bin-im-of}
 use Rattle.spectrum.specs.SizeLaws.{bin-re-most, bin-im-most}
+use Rattle.spectrum.specs.SideSizes.{distanceOf, factorMost, factors32, re-far, im-far, distance-within}
 
-pub differences-binned : (d : ℕ → ℕ → ℤ) → ((y x : ℕ) → natAbs (d y x) ≤ differenceMost) → Binned (twoWay d)
-differences-binned d m =
-    record {
-      re-most = λ u v h l. rw (bin-re d u v h l) (bin-re-most d m u v);
-      im-most = λ u v h l. rw (bin-im d u v h l) (bin-im-most d m u v);
-    }
+module _ (d : ℕ → ℕ → ℤ) (m : (y x : ℕ) → natAbs (d y x) ≤ differenceMost) where
+  pub differences-binned : Binned (twoWay d)
+  differences-binned =
+      record {
+        re-most = λ u v h l. rw (bin-re d u v h l) (bin-re-most d m u v);
+        im-most = λ u v h l. rw (bin-im d u v h l) (bin-im-most d m u v);
+      }
+
+  far-most : factorMost * distanceOf side32 d ≤ longBinMost
+  unfolding side32
+  far-most = le-trans (mul-le-mul-left factorMost (distance-within side32 d m)) (lit≤ tt)
+
+  pub long-binned : LongBinned (twoWayOf side32 d)
+  unfolding side32
+  long-binned =
+      record {
+        re-most = λ u v h l. rw (bin-re-of turns32 d u v h l) (le-trans (re-far factors32 d u v) far-most);
+        im-most = λ u v h l. rw (bin-im-of turns32 d u v h l) (le-trans (im-far factors32 d u v) far-most);
+      }

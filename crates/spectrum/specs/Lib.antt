@@ -1,5 +1,6 @@
 pub mod Magnitudes
 pub mod Spectrum
+pub mod Turns
 pub mod Pairs
 pub mod FoldLaws
 pub mod SpectrumLaws
@@ -9,7 +10,7 @@ pub mod RoundingLaws
 pub mod WienerLaws
 pub mod SizeLaws
 pub mod DifferenceLaws
-pub mod BinLaws
+pub mod SideSizes
 pub mod Apart
 pub mod QuadLaws
 pub mod LineLaws
@@ -17,3 +18,6 @@ pub mod PlaceLaws
 pub mod BinFilters
 pub mod CorrectionLaws
 pub mod FoldSizes
+pub mod LongPairs
+pub mod BinLaws
+pub mod LongLines

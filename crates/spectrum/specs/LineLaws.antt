@@ -5,9 +5,10 @@ use Rattle.algebra.specs.SumLaws.{sumZ-cong}
 use Rattle.sequences.specs.Tab.{tab}
 use Rattle.sequences.specs.TabLaws.{getD-tab}
 use Rattle.sequences.specs.Grid.{tab-ext}
+use Rattle.recipe.specs.Side.{Side}
 use Rattle.recipe.specs.Tables.{side16}
 use Rattle.recipe.specs.TableLaws.{rules16}
-use Rattle.lines.specs.Halfcomplex.{halfcomplexOf, backwardOf, basis, halfcomplex, backward}
+use Rattle.lines.specs.Halfcomplex.{basisOf, halfcomplexOf, backwardOf, basis, halfcomplex, backward}
 use Rattle.lines.specs.HalfSumLaws.{basis-most}
 use Rattle.spectrum.specs.SizeLaws.{sum-most}
 
@@ -23,6 +24,11 @@ module _ (b : ℕ) (f : ℕ → ℤ) (h : (i : ℕ) → natAbs (f i) ≤ b) wher
   pub halfcomplex-most : (k : ℕ) → natAbs (halfcomplex f k) ≤ 16 * (b * 16384)
   unfolding halfcomplexOf side16
   halfcomplex-most k = sum-most (basis k) b f (basis-most rules16 k) h
+
+-- what the sum back depends on, for any side
+pub back-line-ext : (s : Side) (f g : ℕ → ℤ) → ((i : ℕ) → i < s .side → f i ≡ g i) → (n : ℕ) → backwardOf s f n ≡ backwardOf s g n
+unfolding backwardOf
+back-line-ext s f g h n = sumZ-cong (s .side) _ _ (λ k l. ap (λ z. z *ℤ basisOf s k n) (h k l))
 
 module _ (f g : ℕ → ℤ) (h : (i : ℕ) → i < 16 → f i ≡ g i) where
   pub halfcomplex-ext : (k : ℕ) → halfcomplex f k ≡ halfcomplex g k

@@ -60,3 +60,21 @@ spatialGainMost = 55529
 
 abbrev pub spatialCorrectionMost : ℕ
 spatialCorrectionMost = 1776856
+
+-- ---- of side 32 (request L8)
+
+-- V at t = 1024, Ls = 65536, Lr = 4194304 and r = 131040
+abbrev pub longNoiseMost : ℕ
+longNoiseMost = 69776441344
+
+-- a part of a row's transform, or of a column's: thirty-two differences times a cosine of at most 16384
+abbrev pub longRowMost : ℕ
+longRowMost = 2146959360
+
+-- a part of B: thirty-two times that times |C(k)| + |S(k)|, which is at most 23170; over 2^26 it is gainMost again
+abbrev pub longBinMost : ℕ
+longBinMost = 1591841547878400
+
+-- V up to which the inverse's last sums stay below 5·2^49
+abbrev pub longLowNoise : ℕ
+longLowNoise = 2 ^ 29

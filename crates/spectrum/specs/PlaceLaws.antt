@@ -1,34 +1,58 @@
--- The way back from a spectrum in halfcomplex form looks at its sixteen by sixteen places only.
-use Rattle.algebra.specs.Prelude.{_≡_, refl, ap, ap₂, Bool, true, false, cond, ℕ, _-_, _≤_, _<_, arith, ltb, ℤ, _+ℤ_, _-ℤ_}
+-- The way back from a spectrum in halfcomplex form looks at its n by n places only.
+use Rattle.algebra.specs.Prelude.{_≡_, refl, ap, ap₂, Bool, true, false, cond, ℕ, zero, suc, _+_, _-_, _*_, _%_, _≤_, _<_, arith, ltb, ℤ, _+ℤ_, _-ℤ_}
+use native.Mathlib.Nat.{zero-mod}
 use borrow.Author.Tests.{ltb-true, ltb-false}
-use Rattle.spectrum.specs.Spectrum.{foldRe, foldIm, spread, counted, backSum}
-use Rattle.spectrum.specs.Apart.{below-ext, apart-ext}
-use Rattle.spectrum.specs.LineLaws.{backward-ext}
+use Rattle.recipe.specs.Side.{Side}
+use Rattle.spectrum.specs.Spectrum.{foldReOf, foldImOf, spreadOf, countedOf, backSumOf}
+use Rattle.spectrum.specs.Turns.{Turns}
+use Rattle.spectrum.specs.Apart.{below-ext, side-ext}
+use Rattle.spectrum.specs.LineLaws.{back-line-ext}
 
--- folded lines and columns
-module _ (g h g' h' : ℕ → ℤ) (p : (u : ℕ) → u < 16 → g u ≡ g' u) (q : (u : ℕ) → u < 16 → h u ≡ h' u) (b : ℕ) (l : b < 16) where
-  fold-re : foldRe g h b ≡ foldRe g' h' b
-  unfolding foldRe
-  fold-re =
-      apart-ext b (g b) _ (g' b) _ (p b l)
-      (λ o. below-ext b 9 (g b +ℤ g (16 - b)) (h (b - 8) -ℤ h (24 - b)) (g' b +ℤ g' (16 - b)) (h' (b - 8) -ℤ h' (24 - b)) (λ k. ap₂ _+ℤ_ (p b l) (p (16 - b) (omega (arith, o)))) (λ k. ap₂ _-ℤ_ (q (b - 8) (omega arith)) (q (24 - b) (omega arith))))
+module _ {s : Side} (t : Turns s) where
+  -- a place that is paired is not 0
+  not-zero : (b : ℕ) → (b % s .half ≡ 0 → ⊥) → 0 < b
+  not-zero zero o = absurd (o (zero-mod (s .half)))
+  not-zero (suc b) o = omega arith
 
-  fold-im : foldIm g h b ≡ foldIm g' h' b
-  unfolding foldIm
-  fold-im =
-      apart-ext b (h b) _ (h' b) _ (q b l)
-      (λ o. below-ext b 9 (h b +ℤ h (16 - b)) (g (24 - b) -ℤ g (b - 8)) (h' b +ℤ h' (16 - b)) (g' (24 - b) -ℤ g' (b - 8)) (λ k. ap₂ _+ℤ_ (q b l) (q (16 - b) (omega (arith, o)))) (λ k. ap₂ _-ℤ_ (p (24 - b) (omega arith)) (p (b - 8) (omega arith))))
+  -- folded lines and columns
+  module _ (g h g' h' : ℕ → ℤ) (p : (u : ℕ) → u < s .side → g u ≡ g' u) (q : (u : ℕ) → u < s .side → h u ≡ h' u) (b : ℕ) (l : b < s .side) where
+    abbrev far : ℕ
+    far = s .side + s .half - b
 
-pub spread-ext : (g h g' h' : ℕ → ℕ → ℤ) → ((u v : ℕ) → u < 16 → v < 9 → g u v ≡ g' u v) → ((u v : ℕ) → u < 16 → v < 9 → h u v ≡ h' u v) → (k b : ℕ) → k < 16 → b < 16 → spread g h k b ≡ spread g' h' k b
-unfolding spread
-spread-ext g h g' h' p q k b m l = go (ltb k 9) (ltb-true k 9) (ltb-false k 9)
-  where
-    go : (c : Bool) → (c ≡ true → k < 9) → (c ≡ false → 9 ≤ k) → cond c (foldRe (λ u. g u k) (λ u. h u k)) (foldIm (λ u. g u (k - 8)) (λ u. h u (k - 8))) b ≡ cond c (foldRe (λ u. g' u k) (λ u. h' u k)) (foldIm (λ u. g' u (k - 8)) (λ u. h' u (k - 8))) b
-    go true r s = fold-re _ _ _ _ (λ u n. p u k n (r refl)) (λ u n. q u k n (r refl)) b l
-    go false r s = fold-im _ _ _ _ (λ u n. p u (k - 8) n (omega (arith, s refl))) (λ u n. q u (k - 8) n (omega (arith, s refl))) b l
+    low : (b % s .half ≡ 0 → ⊥) → s .side - b < s .side
+    low o = omega (arith, l, not-zero b o)
+
+    near : b - s .half < s .side
+    near = omega (arith, l)
+
+    high : s .half + 1 ≤ b → far < s .side
+    high k = omega (arith, l, k)
+
+    fold-re : foldReOf s g h b ≡ foldReOf s g' h' b
+    unfolding foldReOf
+    fold-re =
+        side-ext s b (g b) _ (g' b) _ (p b l)
+        (λ o. below-ext b (s .half + 1) (g b +ℤ g (s .side - b)) (h (b - s .half) -ℤ h far) (g' b +ℤ g' (s .side - b)) (h' (b - s .half) -ℤ h' far) (λ k. ap₂ _+ℤ_ (p b l) (p (s .side - b) (low o))) (λ k. ap₂ _-ℤ_ (q (b - s .half) near) (q far (high k))))
+
+    fold-im : foldImOf s g h b ≡ foldImOf s g' h' b
+    unfolding foldImOf
+    fold-im =
+        side-ext s b (h b) _ (h' b) _ (q b l)
+        (λ o. below-ext b (s .half + 1) (h b +ℤ h (s .side - b)) (g far -ℤ g (b - s .half)) (h' b +ℤ h' (s .side - b)) (g' far -ℤ g' (b - s .half)) (λ k. ap₂ _+ℤ_ (q b l) (q (s .side - b) (low o))) (λ k. ap₂ _-ℤ_ (p far (high k)) (p (b - s .half) near)))
+
+  pub spread-ext : (g h g' h' : ℕ → ℕ → ℤ) → ((u v : ℕ) → u < s .side → v < s .half + 1 → g u v ≡ g' u v) → ((u v : ℕ) → u < s .side → v < s .half + 1 → h u v ≡ h' u v) → (k b : ℕ) → k < s .side → b < s .side → spreadOf s g h k b ≡ spreadOf s g' h' k b
+  unfolding spreadOf
+  spread-ext g h g' h' p q k b m l = go (ltb k (s .half + 1)) (ltb-true k (s .half + 1)) (ltb-false k (s .half + 1))
+    where
+      beyond : s .half + 1 ≤ k → k - s .half < s .half + 1
+      beyond r = omega (arith, m, r, t .whole)
+
+      go : (c : Bool) → (c ≡ true → k < s .half + 1) → (c ≡ false → s .half + 1 ≤ k) → cond c (foldReOf s (λ u. g u k) (λ u. h u k)) (foldImOf s (λ u. g u (k - s .half)) (λ u. h u (k - s .half))) b ≡ cond c (foldReOf s (λ u. g' u k) (λ u. h' u k)) (foldImOf s (λ u. g' u (k - s .half)) (λ u. h' u (k - s .half))) b
+      go true r z = fold-re _ _ _ _ (λ u n. p u k n (r refl)) (λ u n. q u k n (r refl)) b l
+      go false r z = fold-im _ _ _ _ (λ u n. p u (k - s .half) n (beyond (z refl))) (λ u n. q u (k - s .half) n (beyond (z refl))) b l
 
 -- the sum back
-pub back-ext : (s s' : ℕ → ℕ → ℤ) → ((k b : ℕ) → k < 16 → b < 16 → s k b ≡ s' k b) → (y x : ℕ) → backSum s y x ≡ backSum s' y x
-unfolding backSum
-back-ext s s' e y x =
-    backward-ext _ _ (λ k l. ap (counted k) (backward-ext (s k) (s' k) (λ b m. e k b l m) y)) x
+pub back-ext : (s : Side) (z z' : ℕ → ℕ → ℤ) → ((k b : ℕ) → k < s .side → b < s .side → z k b ≡ z' k b) → (y x : ℕ) → backSumOf s z y x ≡ backSumOf s z' y x
+unfolding backSumOf
+back-ext s z z' e y x =
+    back-line-ext s _ _ (λ k l. ap (countedOf s k) (back-line-ext s (z k) (z' k) (λ b m. e k b l m) y)) x

@@ -12,6 +12,7 @@ use Rattle.noise.specs.LevelLaws.{shot-level-bound, read-level-bound, strength-
 use Rattle.alignment.specs.Burst.{Ready}
 use Rattle.pipeline.specs.Levels.{Runnable}
 use Rattle.recipe.specs.declared.Tuning.{Tuning}
+use Rattle.admission.specs.FilterLaws.{unfiltered}
 use Rattle.admission.specs.Refusals.{alignRefusal, contentTests, runTests, runRefusal, mergeRefusal, mergeOf}
 
 module _ (s : Shape) (reference : ℕ) (samples : List ℕ) (vectors : List ℤ) where
@@ -36,6 +37,7 @@ module _ (s : Shape) (reference : ℕ) (samples : List ℕ) (vectors : List ℤ)
           read-most = read-level-bound noise;
           strength-most = strength-most (tuning .strength) (passed content (search among));
           spatial-most = spatial-most (tuning .spatial) (passed content (search among));
+          unfiltered = unfiltered (s .side) (tuning .spatial) (passed content (search among));
         }
 
     -- 12 comes last

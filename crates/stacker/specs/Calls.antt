@@ -25,10 +25,12 @@ unfoldable pub answered : (number : ℕ) (sums : List ℕ) (rows : ℕ) → Alig
 answered number sums rows = record { refusal = number; residuals = after number noSums sums; rows = after number 0 rows }
 
 -- Demand 3: "every sample of the merged frame differs by at most five eighths of one sample step from the sample at the same place in the exact HDR+ merge", where
--- s is 0; and "users of the filter are owed a sample within two steps of the exact filtered merge with the same V'" (request L13), at any s
+-- s is 0, and by at most one step at side 32 (request L8), which takes no other s; and "users of the filter are owed a sample within two steps of the exact
+-- filtered merge with the same V'" (request L13), at any s
 pub record Close (scene : Scene) (output : List ℕ) : Type 0 where
-  pub filtered : (k : ℕ) → k < scene .width * scene .height → Within 2 1 (whole (pos (getD output k 0))) (exactFilteredAt scene (k / scene .width) (k % scene .width))
-  pub close : scene .tuning .spatial ≡ 0 → (k : ℕ) → k < scene .width * scene .height → Within 5 8 (whole (pos (getD output k 0))) (exactAt scene (k / scene .width) (k % scene .width))
+  pub filtered : scene .side .side ≡ 16 → (k : ℕ) → k < scene .width * scene .height → Within 2 1 (whole (pos (getD output k 0))) (exactFilteredAt scene (k / scene .width) (k % scene .width))
+  pub close : scene .side .side ≡ 16 → scene .tuning .spatial ≡ 0 → (k : ℕ) → k < scene .width * scene .height → Within 5 8 (whole (pos (getD output k 0))) (exactAt scene (k / scene .width) (k % scene .width))
+  pub wide : scene .side .side ≡ 32 → (k : ℕ) → k < scene .width * scene .height → Within 1 1 (whole (pos (getD output k 0))) (exactAt scene (k / scene .width) (k % scene .width))
 
 -- Request L11: "a merged sample differs from the reference sample by at most one step plus half the square root of the largest noise number (in squared
 -- samples) of the four tiles over it", which request L13 keeps where s is 0

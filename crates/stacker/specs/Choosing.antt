@@ -3,7 +3,7 @@ use Rattle.algebra.specs.Prelude.{_≡_, List, _∷_, _++_, ℕ, length, ℤ}
 use Rattle.refusals.specs.Tests.{first}
 use Rattle.refusals.specs.After.{after}
 use Rattle.geometry.specs.declared.Shape.{Shape}
-use Rattle.geometry.specs.Shape.{rowRefusal}
+use Rattle.geometry.specs.Shape.{sideRefusal, rowRefusal}
 use Rattle.limits.specs.Order.{shapeTests, mergeLengths}
 use Rattle.noise.specs.declared.Noise.{Noise}
 use Rattle.noise.specs.Levels.{noiseTests}
@@ -13,10 +13,10 @@ use Rattle.stacker.specs.declared.Choice.{Choice}
 use Rattle.admission.specs.Refusals.{contentTests}
 use Rattle.stacker.specs.Calls.{Ran}
 
--- "Refusal 3 has no place in this call": the others of run, in its order
+-- "Refusal 3 has no place in this call": the others of run, in its order, with 22 "where 3 would stand" (request L8)
 unfoldable pub choosingTests : Shape → Noise → Tuning → (samples : List ℕ) (vectors : List ℤ) (output : List ℕ) (work : List ℤ) → List ℕ
 choosingTests s noise tuning samples vectors output work =
-    shapeTests s ++ (rowRefusal s ∷ mergeLengths s (length samples) (length vectors) (length output) (length work) ++ (noiseTests noise ++ contentTests s tuning samples))
+    shapeTests s ++ (sideRefusal s ∷ rowRefusal s ∷ mergeLengths s (length samples) (length vectors) (length output) (length work) ++ (noiseTests noise ++ contentTests s tuning samples))
 
 abbrev pub choosingRefusal : Shape → Noise → Tuning → (samples : List ℕ) (vectors : List ℤ) (output : List ℕ) (work : List ℤ) → ℕ
 choosingRefusal s noise tuning samples vectors output work = first (choosingTests s noise tuning samples vectors output work)

@@ -7,7 +7,7 @@ use Rattle.refusals.specs.Tests.{first}
 use Rattle.refusals.specs.After.{after}
 use Rattle.geometry.specs.declared.Shape.{Shape}
 use Rattle.geometry.specs.Shape.{countAllowed, countRefusal, referenceRefusal}
-use Rattle.limits.specs.Order.{shapeTests, frameTests, mergeShapeTests}
+use Rattle.limits.specs.Order.{shapeTests, burstTests, mergeShapeTests}
 use Rattle.noise.specs.declared.Noise.{Noise}
 use Rattle.noise.specs.Levels.{levelsOf}
 use Rattle.recipe.specs.declared.Tuning.{Tuning}
@@ -38,12 +38,12 @@ after-same (suc number) x = refl
 module _ (s : Shape) (noise : Noise) (tuning : Tuning) (samples : List ℕ) (vectors : List ℤ) (output : List ℕ) (work : List ℤ) where
   -- "refusals are those run gives with that index", whichever frame's it is
   pub same-refusal : (reference : ℕ) → reference < s .count → runRefusal s reference noise tuning samples vectors output work ≡ choosingRefusal s noise tuning samples vectors output work
-  unfolding first shapeTests frameTests mergeShapeTests runTests choosingTests
+  unfolding first shapeTests burstTests mergeShapeTests runTests choosingTests
   same-refusal reference h = rw (below-passes s reference h)
 
   -- and with index 0 where there is no frame
   pub first-refusal : runRefusal s 0 noise tuning samples vectors output work ≡ choosingRefusal s noise tuning samples vectors output work
-  unfolding first shapeTests frameTests mergeShapeTests runTests choosingTests
+  unfolding first shapeTests burstTests mergeShapeTests runTests choosingTests
   first-refusal = by (decLt 0 (s .count))
     where
       by : Dec (0 < s .count) → runRefusal s 0 noise tuning samples vectors output work ≡ choosingRefusal s noise tuning samples vectors output work

@@ -56,6 +56,7 @@ module _ {s : Shape} {reference : ℕ} {noise : Noise} {tuning : Tuning} {sample
           read-most = subst (λ n. n ≤ 4194304) (sym (levels z .1)) (ready .read-most);
           strength-most = ready .strength-most;
           spatial-most = ready .spatial-most;
+          unfiltered = ready .unfiltered;
         }
 
     pub ran-accepted : {vectors′ work′ : List ℤ} {output′ : List ℕ} {r : Totals} → RanLevels (levelled s reference tuning tested) samples vectors′ output′ work work′ r →
@@ -69,6 +70,6 @@ module _ {s : Shape} {reference : ℕ} {noise : Noise} {tuning : Tuning} {sample
           found = made _ _ _ e z (is .found);
           result = made _ _ _ e z result;
           clean = made _ _ _ e z (is .clean);
-          near = λ _. found-close _ _ _ _ _ (runnable .fits .burst .allowed .few) (is .found) result;
+          near = λ _. found-close _ _ _ _ _ (runnable .fits .burst .sided) (runnable .unfiltered) (runnable .fits .burst .allowed .few) (is .found) result;
           ceiling = λ _. found-capped _ _ (runnable .fits .burst) (runnable .samples-fit) _ _ _ (is .found) result;
         }

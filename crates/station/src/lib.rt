@@ -22,13 +22,13 @@ pub extern "C" fn station_length(
     limits::question::length_question(width, height, count, side, row_length, number)
 }
 
-// The root of a tile whose samples are all 4095.
-const ROOT_MOST: u64 = 65520;
+// The root of a tile whose samples are all 4095 is that times its side.
+const SAMPLE_MOST: u64 = 4095;
 
-// V of a curve, a strength and a root; 0 where refusal 8, 9 or 10 would stand, or the root exceeds that.
+// V of a curve, a strength, a root and a side; 0 where refusal 8, 9, 10 or 22 would stand, or the root exceeds that.
 #[no_mangle]
-pub extern "C" fn station_noise(shot: f64, read: f64, strength: u64, root: u64) -> u64
-    ensures { λ r. ⌜ r ≡ noiseQuestion shot read strength root ⌝ }
+pub extern "C" fn station_noise(shot: f64, read: f64, strength: u64, root: u64, side: u64) -> u64
+    ensures { λ r. ⌜ r ≡ noiseQuestion shot read strength root side ⌝ }
 {
     match noise::levels_of(Noise::Measured(Curve { shot, read })) {
         Levels::Refused(_) => 0,
@@ -36,10 +36,13 @@ pub extern "C" fn station_noise(shot: f64, read: f64, strength: u64, root: u64) 
             if noise::strength_refusal(strength) != 0 {
                 return 0;
             }
-            if ROOT_MOST < root {
+            if !sizes::side_allowed(side as usize) {
                 return 0;
             }
-            noise::noise_number(strength, ls, lr, root)
+            if SAMPLE_MOST * side < root {
+                return 0;
+            }
+            noise::side_noise_number(side as usize, strength, ls, lr, root)
         }
     }
 }

@@ -1,4 +1,4 @@
--- What is taken from a pair: its sums where s is 0, and else its sums with N·P'.
+-- What is taken from a pair of side 16 where s is not 0: its sums with N·P'.
 use Rattle.algebra.specs.Prelude.{_≡_, refl, sym, ap, ap₂, subst, _∙_, List, [], ℕ, suc, _+_, _*_, _/_, _%_, _≤_, _<_, arith, ℤ, pos, natAbs, _+ℤ_, _-ℤ_, _*ℤ_}
 use Rattle.algebra.specs.Order.{abs-add, abs-mul-le}
 use Rattle.algebra.specs.Nearest.{away}
@@ -9,11 +9,10 @@ use Rattle.recipe.specs.Tables.{side16}
 use Rattle.recipe.specs.declared.Merge.{Merge}
 use Rattle.recipe.specs.SpatialNoise.{spatialNumber}
 use Rattle.recipe.specs.Spatial.{mergedSum, copyAt, spatialAt, takenAt}
-use Rattle.recipe.specs.Scene.{Scene, sceneOf, referenceTile, referenceRoot, tileSpatial, tileHere}
+use Rattle.recipe.specs.Scene.{Scene, referenceTile, referenceRoot, tileSpatial, tileHere, sceneAt}
 use Rattle.noise.specs.SpatialRange.{SpatialRange}
 use Rattle.noise.specs.SpatialLaws.{spatial-number-most}
 use Rattle.spectrum.specs.Magnitudes.{smallMost, spatialCorrectionMost}
-use Rattle.spectrum.specs.FilterZeroLaws.{no-strength, taken-none}
 use Rattle.spectrum.specs.Pairs.{planeIn, sideBySide, either, Paired}
 use Rattle.grain.specs.Filtering.{copyIn, stepAt, SumMost, SumRow, SumPair}
 use Rattle.grain.specs.FilteringLaws.{step-cong, step-most}
@@ -21,7 +20,7 @@ use Rattle.tiles.specs.declared.Site.{Site}
 use Rattle.tiles.specs.Sum.{summedAt, Summed, takenIn, takenMost, Taken}
 
 -- the sums of a pair, as the filter takes them
-pub sums-fit : (s : Scene) (t : Site) (frames : ℕ) → frames ≡ suc (s .others) → {r : List (List ℤ)} → Summed s t r → SumPair frames r
+pub sums-fit : (s : Scene) (t : Site) (frames : ℕ) → frames ≡ suc (s .others) → {r : List (List ℤ)} → Summed 16 smallMost s t r → SumPair frames r
 unfolding grid
 sums-fit s t frames e {r} w =
     record {
@@ -33,34 +32,18 @@ sums-fit s t frames e {r} w =
     f : ℕ → ℕ → ℤ
     f = sideBySide (λ p. summedAt s (t .«row_parity») p (t .row) (t .column))
 
-pub sums-paired : {s : Scene} {t : Site} {r : List (List ℤ)} → Summed s t r → Paired (pos 0) r
+pub sums-paired : {s : Scene} {t : Site} {r : List (List ℤ)} → Summed 16 smallMost s t r → Paired (pos 0) r
 sums-paired {s} {t} w = record { is = grid-of (pos 0) 16 32 (sideBySide (λ p. summedAt s (t .«row_parity») p (t .row) (t .column))) (w .is) }
-
--- s = 0
-module _ (s : Scene) (t : Site) (off : s .tuning .spatial ≡ 0) (few : s .others ≤ 7) where
-  none : (p i j : ℕ) → takenIn s (t .«row_parity») p (t .row) (t .column) i j ≡ summedAt s (t .«row_parity») p (t .row) (t .column) i j
-  unfolding takenIn summedAt mergedSum tileHere tileSpatial
-  none p i j =
-      taken-none (s .side) (s .others) (tileHere s (t .«row_parity») p (t .row) (t .column)) (s .side .divisor-above)
-      (λ u v. let root = referenceRoot s (t .«row_parity») p (t .row) (t .column) in
-      ap (λ n. spatialNumber (s .side) n (s .shot) (s .read) root (suc (s .others)) u v) off ∙ no-strength (s .side) (s .shot) (s .read) root (suc (s .others)) u v) i j
-
-  pub taken-off : {r : List (List ℤ)} → Summed s t r → Taken s t r
-  taken-off w =
-      record {
-        is = w .is ∙ grid-ext 16 32 _ _ (λ i l h k. sym (none (l % 2) i (l / 2)));
-        most = λ i l h k. subst (λ z. natAbs z ≤ takenMost) (sym (none (l % 2) i (l / 2))) (omega (arith, w .most i l h k, few));
-      }
 
 -- s above 0: t0 is T0 of both planes, and sum their sums
 module _ (m : Merge) (samples : List ℕ) (vectors : List ℤ) (t : Site) (t0 : List (List ℕ)) (sum : List (List ℤ)) (first second : ℕ)
     (some : 1 ≤ m .shape .count) (few : m .shape .count ≤ 8)
-    (tile : t0 ≡ grid 16 32 (sideBySide (λ p. referenceTile (sceneOf m samples vectors) (t .«row_parity») p (t .row) (t .column))))
-    (w : Summed (sceneOf m samples vectors) t sum)
-    (roots : (p : ℕ) → p < 2 → either first second p ≡ referenceRoot (sceneOf m samples vectors) (t .«row_parity») p (t .row) (t .column))
+    (tile : t0 ≡ grid 16 32 (sideBySide (λ p. referenceTile (sceneAt side16 m samples vectors) (t .«row_parity») p (t .row) (t .column))))
+    (w : Summed 16 smallMost (sceneAt side16 m samples vectors) t sum)
+    (roots : (p : ℕ) → p < 2 → either first second p ≡ referenceRoot (sceneAt side16 m samples vectors) (t .«row_parity») p (t .row) (t .column))
     (ranges : (p : ℕ) → p < 2 → SpatialRange (m .tuning .spatial) (m .shot) (m .read) (either first second p) (m .shape .count)) where
   abbrev s : Scene
-  s = sceneOf m samples vectors
+  s = sceneAt side16 m samples vectors
 
   abbrev frames : ℕ
   frames = m .shape .count
@@ -72,7 +55,7 @@ module _ (m : Merge) (samples : List ℕ) (vectors : List ℤ) (t : Site) (t0 : 
   copy p = copyIn frames (planeIn (cell 0 t0) p) (planeIn (cell (pos 0) sum) p)
 
   frames-is : frames ≡ suc (s .others)
-  unfolding sceneOf
+  unfolding sceneAt
   frames-is = omega (arith, some)
 
   -- plane p of a pair
@@ -93,11 +76,11 @@ module _ (m : Merge) (samples : List ℕ) (vectors : List ℤ) (t : Site) (t0 : 
       ∙ ap (λ n. away (pos (referenceTile s (t .«row_parity») p (t .row) (t .column) y x) *ℤ pos (256 * n) -ℤ mergedSum (s .side) (s .others) (tileHere s (t .«row_parity») p (t .row) (t .column)) y x) n) frames-is
 
   noise-is : (p : ℕ) → p < 2 → noise p ≡ tileSpatial s (t .«row_parity») p (t .row) (t .column)
-  unfolding tileSpatial sceneOf
+  unfolding tileSpatial sceneAt
   noise-is p c = ap₂ (λ r n. spatialNumber side16 (m .tuning .spatial) (m .shot) (m .read) r n) (roots p c) frames-is
 
   step-is : (p : ℕ) → p < 2 → (y x : ℕ) → stepAt (noise p) (copy p) y x ≡ spatialAt (s .side) (s .others) (tileHere s (t .«row_parity») p (t .row) (t .column)) y x
-  unfolding stepAt spatialAt tileHere sceneOf
+  unfolding stepAt spatialAt tileHere sceneAt
   step-is p c y x =
       step-cong (noise p) (copy p) (copyAt side16 (s .others) (tileHere s (t .«row_parity») p (t .row) (t .column))) (copy-is p c) y x
       ∙ ap (λ n. stepAt n (copyAt side16 (s .others) (tileHere s (t .«row_parity») p (t .row) (t .column))) y x) (noise-is p c)
@@ -108,14 +91,14 @@ module _ (m : Merge) (samples : List ℕ) (vectors : List ℤ) (t : Site) (t0 : 
       ap₂ _+ℤ_ (ap (λ z. cell (pos 0) z i l) (w .is) ∙ cell-grid (pos 0) 16 32 _ i l h k) (ap₂ (λ n z. pos n *ℤ z) frames-is (step-is (l % 2) (omega arith) i (l / 2)))
 
   number-most : (i l : ℕ) → i < 16 → l < 32 → natAbs (cell (pos 0) sum i l +ℤ pos frames *ℤ stepAt (noise (l % 2)) (copy (l % 2)) i (l / 2)) ≤ takenMost
-  unfolding sceneOf
+  unfolding sceneAt
   number-most i l h k =
       let z = stepAt (noise (l % 2)) (copy (l % 2)) i (l / 2) in
       let a : natAbs (cell (pos 0) sum i l) ≤ s .others * smallMost = subst (λ z. natAbs z ≤ s .others * smallMost) (sym (ap (λ z. cell (pos 0) z i l) (w .is) ∙ cell-grid (pos 0) 16 32 _ i l h k)) (w .most i l h k) in
       let b : natAbs (pos frames *ℤ z) ≤ 8 * spatialCorrectionMost = abs-mul-le (pos frames) z few (step-most (noise (l % 2)) (spatial-number-most (ranges (l % 2) (omega arith))) (copy (l % 2)) i (l / 2)) in
       omega (arith, abs-add (cell (pos 0) sum i l) (pos frames *ℤ z), a, b, few)
 
-  pub taken-on : {r : List (List ℤ)} → r ≡ grid 16 32 (λ i l. cell (pos 0) sum i l +ℤ pos frames *ℤ stepAt (noise (l % 2)) (copy (l % 2)) i (l / 2)) → Taken s t r
+  pub taken-on : {r : List (List ℤ)} → r ≡ grid 16 32 (λ i l. cell (pos 0) sum i l +ℤ pos frames *ℤ stepAt (noise (l % 2)) (copy (l % 2)) i (l / 2)) → Taken 16 s t r
   taken-on e =
       record {
         is = e ∙ grid-ext 16 32 _ _ cell-is;

@@ -1,18 +1,20 @@
--- Inside the crates of the merge: what is known of a merge that its tests have let through, and of a pair of its tiles.
-use Rattle.algebra.specs.Prelude.{List, ℕ, _/_, _≤_, _<_, length, ℤ}
+-- Inside the crates of the merge: what is known of a merge with tiles of a side that its tests have let through, and of a pair of its tiles.
+use Rattle.algebra.specs.Prelude.{_≡_, List, ℕ, _/_, _≤_, _<_, length, ℤ}
 use Rattle.geometry.specs.declared.Shape.{Shape}
 use Rattle.geometry.specs.Fits.{BurstFits, SamplesFit, VectorsFit}
 use Rattle.recipe.specs.declared.Merge.{Merge}
 use Rattle.tiles.specs.declared.Site.{Site}
 
-pub record Accepted (m : Merge) (samples : List ℕ) (vectors : List ℤ) : Type 0 where
+pub record Accepted (side : ℕ) (m : Merge) (samples : List ℕ) (vectors : List ℤ) : Type 0 where
   pub burst : BurstFits (m .shape) (m .reference) (length samples) (length vectors)
+  pub side-is : m .shape .side ≡ side
   pub samples-fit : SamplesFit (m .shape) samples
   pub vectors-fit : VectorsFit vectors
   pub shot-most : m .shot ≤ 65536
   pub read-most : m .read ≤ 4194304
   pub strength-most : m .tuning .strength ≤ 1024
   pub spatial-most : m .tuning .spatial ≤ 256
+  pub unfiltered : m .shape .side ≡ 32 → m .tuning .spatial ≡ 0
 
 -- what the spatial filter needs of it
 pub record Tuned (m : Merge) : Type 0 where
@@ -23,7 +25,7 @@ pub record Tuned (m : Merge) : Type 0 where
   pub spatial-most : m .tuning .spatial ≤ 256
 
 -- a pair of tiles of the planes of one row parity
-pub record Sited (s : Shape) (t : Site) : Type 0 where
+pub record Sited (side : ℕ) (s : Shape) (t : Site) : Type 0 where
   pub row-parity : t .«row_parity» < 2
-  pub row : t .row ≤ s .height / 16
-  pub column : t .column ≤ s .width / 16
+  pub row : t .row ≤ s .height / side
+  pub column : t .column ≤ s .width / side

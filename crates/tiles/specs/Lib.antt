@@ -1,4 +1,11 @@
 pub mod Accepted
 pub mod Sum
+pub mod Toward
 pub mod Rows
+pub mod Places
 pub mod SignedLaws
+pub mod DifferenceLaws
+pub mod NoiseLaws
+pub mod SumLaws
+pub mod TileLaws
+pub mod StoreLaws

@@ -3,7 +3,6 @@ use Rattle.algebra.specs.Prelude.{_≡_, List, [], ℕ, _*_, _^_, _≤_, _<_, g
 use Rattle.algebra.specs.Sums.{sumZ}
 use Rattle.sequences.specs.Grid.{grid}
 use Rattle.geometry.specs.Fits.{ValuesFit}
-use Rattle.spectrum.specs.Magnitudes.{noiseMost, smallMost}
 use Rattle.spectrum.specs.Pairs.{sideBySide, either}
 use Rattle.tiles.specs.declared.Site.{Site}
 use Rattle.recipe.specs.Correction.{correctionAt}
@@ -14,22 +13,22 @@ use Rattle.recipe.specs.Scene.{Scene, referenceTile, tileNoise, tileDifference,
 pub record TileFits (t : List (List ℕ)) : Type 0 where
   pub row : (i : ℕ) → ValuesFit (getD t i [])
 
--- t0 is the pair of reference tiles, and `first` and `second` are the noise numbers of those of column parity 0 and 1
-pub record TileOf (s : Scene) (t : Site) (t0 : List (List ℕ)) (first second : ℕ) : Type 0 where
-  pub is : t0 ≡ grid 16 32 (sideBySide (λ p. referenceTile s (t .«row_parity») p (t .row) (t .column)))
+-- t0 is the pair of reference tiles, of a side, and `first` and `second` are the noise numbers of those of column parity 0 and 1, each of at most `top`
+pub record TileOf (side top : ℕ) (s : Scene) (t : Site) (t0 : List (List ℕ)) (first second : ℕ) : Type 0 where
+  pub is : t0 ≡ grid side (2 * side) (sideBySide (λ p. referenceTile s (t .«row_parity») p (t .row) (t .column)))
   pub number : (p : ℕ) → p < 2 → either first second p ≡ tileNoise s (t .«row_parity») p (t .row) (t .column)
-  pub first-most : first ≤ noiseMost
-  pub second-most : second ≤ noiseMost
+  pub first-most : first ≤ top
+  pub second-most : second ≤ top
 
 -- P of a tile, summed over the other frames
 unfoldable pub summedAt : Scene → (rowParity columnParity a b i j : ℕ) → ℤ
 summedAt s rowParity columnParity a b i j =
     sumZ (s .others) (λ k. correctionAt (s .side) (tileNoise s rowParity columnParity a b) (tileDifference s rowParity columnParity a b k) i j)
 
--- r is the sums of a pair's corrections over the other frames
-pub record Summed (s : Scene) (t : Site) (r : List (List ℤ)) : Type 0 where
-  pub is : r ≡ grid 16 32 (sideBySide (λ p. summedAt s (t .«row_parity») p (t .row) (t .column)))
-  pub most : (i l : ℕ) → i < 16 → l < 32 → natAbs (sideBySide (λ p. summedAt s (t .«row_parity») p (t .row) (t .column)) i l) ≤ s .others * smallMost
+-- r is the sums of a pair's corrections, each of at most `small`, over the other frames
+pub record Summed (side small : ℕ) (s : Scene) (t : Site) (r : List (List ℤ)) : Type 0 where
+  pub is : r ≡ grid side (2 * side) (sideBySide (λ p. summedAt s (t .«row_parity») p (t .row) (t .column)))
+  pub most : (i l : ℕ) → i < side → l < 2 * side → natAbs (sideBySide (λ p. summedAt s (t .«row_parity») p (t .row) (t .column)) i l) ≤ s .others * small
 
 -- what is taken from T0 in all, in 1/(256·N): the sum of P, and N·P' of the spatial filter
 unfoldable pub takenIn : Scene → (rowParity columnParity a b i j : ℕ) → ℤ
@@ -40,6 +39,6 @@ abbrev pub takenMost : ℕ
 takenMost = 2 ^ 33
 
 -- r is what is taken from a pair
-pub record Taken (s : Scene) (t : Site) (r : List (List ℤ)) : Type 0 where
-  pub is : r ≡ grid 16 32 (sideBySide (λ p. takenIn s (t .«row_parity») p (t .row) (t .column)))
-  pub most : (i l : ℕ) → i < 16 → l < 32 → natAbs (sideBySide (λ p. takenIn s (t .«row_parity») p (t .row) (t .column)) i l) ≤ takenMost
+pub record Taken (side : ℕ) (s : Scene) (t : Site) (r : List (List ℤ)) : Type 0 where
+  pub is : r ≡ grid side (2 * side) (sideBySide (λ p. takenIn s (t .«row_parity») p (t .row) (t .column)))
+  pub most : (i l : ℕ) → i < side → l < 2 * side → natAbs (sideBySide (λ p. takenIn s (t .«row_parity») p (t .row) (t .column)) i l) ≤ takenMost

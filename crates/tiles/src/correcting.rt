@@ -6,8 +6,8 @@ ghost use Rattle.sequences.specs.Grid.{grid, cell};
 ghost use Rattle.recipe.specs.Tables.{side16};
 ghost use Rattle.recipe.specs.NoiseNumber.{noiseNumber};
 ghost use Rattle.recipe.specs.SpatialNoise.{spatialNumber};
-ghost use Rattle.recipe.specs.Scene.{sceneOf, blackOf};
-ghost use Rattle.spectrum.specs.Magnitudes.{noiseMost};
+ghost use Rattle.recipe.specs.Scene.{blackOf, sceneAt};
+ghost use Rattle.spectrum.specs.Magnitudes.{noiseMost, smallMost};
 ghost use Rattle.spectrum.specs.Pairs.{Paired, planeIn, either};
 ghost use Rattle.grain.specs.Filtering.{copyIn, stepAt, SamplePair, SumPair};
 ghost use Rattle.tiles.specs.Accepted.{Accepted, Sited, Tuned};
@@ -20,7 +20,7 @@ use recipe::Merge;
 use recipe::Tuning;
 
 // The black level of a plane.
-fn plane_black(tuning: Tuning, row_parity: usize, column_parity: usize) -> u16
+pub fn plane_black(tuning: Tuning, row_parity: usize, column_parity: usize) -> u16
     requires { ⌜ («row_parity» < 2) × («column_parity» < 2) ⌝ }
     ensures { λ r. ⌜ r ≡ blackOf tuning «row_parity» «column_parity» ⌝ }
 {
@@ -46,8 +46,8 @@ fn corrections(
     second: u64,
     sum: &mut [[i64; 32]; 16],
 )
-    requires { ⌜ record { accepted : Accepted m (now samples) (now vectors); sited : Sited (m .shape) site; tile : TileOf (sceneOf m (now samples) (now vectors)) site (now t0) first second; cleared : now sum ≡ grid 16 32 (λ i l. pos 0) } ⌝ }
-    ensures { λ _. ⌜ Summed (sceneOf m (now (samples .entry)) (now (vectors .entry))) site (now (sum .exit)) ⌝ }
+    requires { ⌜ record { accepted : Accepted 16 m (now samples) (now vectors); sited : Sited 16 (m .shape) site; tile : TileOf 16 noiseMost (sceneAt side16 m (now samples) (now vectors)) site (now t0) first second; cleared : now sum ≡ grid 16 32 (λ i l. pos 0) } ⌝ }
+    ensures { λ _. ⌜ Summed 16 smallMost (sceneAt side16 m (now (samples .entry)) (now (vectors .entry))) site (now (sum .exit)) ⌝ }
 {
     let others = m.shape.count - 1;
     let mut tz = [[0u16; 32]; 16];
@@ -69,8 +69,8 @@ fn summed(
     second: u64,
     sum: &mut [[i64; 32]; 16],
 )
-    requires { ⌜ record { accepted : Accepted m (now samples) (now vectors); sited : Sited (m .shape) site; tile : TileOf (sceneOf m (now samples) (now vectors)) site (now t0) first second; cleared : now sum ≡ grid 16 32 (λ i l. pos 0) } ⌝ }
-    ensures { λ _. ⌜ Summed (sceneOf m (now (samples .entry)) (now (vectors .entry))) site (now (sum .exit)) ⌝ }
+    requires { ⌜ record { accepted : Accepted 16 m (now samples) (now vectors); sited : Sited 16 (m .shape) site; tile : TileOf 16 noiseMost (sceneAt side16 m (now samples) (now vectors)) site (now t0) first second; cleared : now sum ≡ grid 16 32 (λ i l. pos 0) } ⌝ }
+    ensures { λ _. ⌜ Summed 16 smallMost (sceneAt side16 m (now (samples .entry)) (now (vectors .entry))) site (now (sum .exit)) ⌝ }
 {
     if first + second == 0 {
         return;
@@ -97,8 +97,8 @@ pub fn tile_correction(
     site: Site,
     sum: &mut [[i64; 32]; 16],
 )
-    requires { ⌜ record { accepted : Accepted m (now samples) (now vectors); sited : Sited (m .shape) site; cleared : now sum ≡ grid 16 32 (λ i l. pos 0) } ⌝ }
-    ensures { λ _. ⌜ Taken (sceneOf m (now (samples .entry)) (now (vectors .entry))) site (now (sum .exit)) ⌝ }
+    requires { ⌜ record { accepted : Accepted 16 m (now samples) (now vectors); sited : Sited 16 (m .shape) site; cleared : now sum ≡ grid 16 32 (λ i l. pos 0) } ⌝ }
+    ensures { λ _. ⌜ Taken 16 (sceneAt side16 m (now (samples .entry)) (now (vectors .entry))) site (now (sum .exit)) ⌝ }
 {
     let shape = m.shape;
     let mut t0 = [[0u16; 32]; 16];

@@ -12,25 +12,26 @@ ghost use Rattle.geometry.specs.Tiles.{origin};
 ghost use Rattle.plane_view.specs.View.{Near};
 ghost use Rattle.spectrum.specs.Pairs.{sideBySide};
 ghost use Rattle.recipe.specs.Tables.{side16};
-ghost use Rattle.recipe.specs.Scene.{sceneOf, tileAt, referenceTile, tileDifference};
+ghost use Rattle.recipe.specs.Scene.{tileAt, referenceTile, tileDifference, sceneAt};
 ghost use Rattle.tiles.specs.Accepted.{Accepted, Sited};
 ghost use Rattle.tiles.specs.Sum.{TileFits};
+use crate::HALF_SIDE;
 use crate::Site;
 use geometry::Shape;
 use geometry::vectors::other_frame;
 use geometry::vectors::vector_place;
 use recipe::Merge;
 
-// Where a tile begins that is moved by one part of a vector.
-fn moved(index: usize, part: i32) -> i64
-    requires { ⌜ (index ≤ 4096) × (AtMost 172 part) ⌝ }
-    ensures { λ r. ⌜ (r ≡ origin 8 index +ℤ part) × (Near r) ⌝ }
+// Where a tile begins that is moved by one part of a vector, where tiles stand `half` apart.
+pub fn moved(half: usize, index: usize, part: i32) -> i64
+    requires { ⌜ record { apart : half ≤ 16; index-most : index ≤ 4096; part-most : AtMost 172 part } ⌝ }
+    ensures { λ r. ⌜ record { is : r ≡ origin half index +ℤ part; near : Near r; beside : Near (r +ℤ pos 16) } ⌝ }
 {
-    geometry::tiles::origin(8, index) + part as i64
+    geometry::tiles::origin(half, index) + part as i64
 }
 
 // The difference of two samples.
-fn minus(a: u16, b: u16) -> i16
+pub fn minus(a: u16, b: u16) -> i16
     requires { ⌜ (a ≤ 4095) × (b ≤ 4095) ⌝ }
     ensures { λ r. ⌜ r ≡ pos a -ℤ pos b ⌝ }
 {
@@ -69,11 +70,11 @@ pub fn pair(
     right: i32,
     tile: &mut [[u16; 32]; 16],
 )
-    requires { ⌜ record { sampled : Sampled shape (now samples); frame-below : frame < shape .count; sited : Sited shape site; down-most : AtMost 172 down; right-most : AtMost 172 right; rows : length (now tile) ≡ 16 } ⌝ }
+    requires { ⌜ record { sampled : Sampled shape (now samples); frame-below : frame < shape .count; sited : Sited 16 shape site; down-most : AtMost 172 down; right-most : AtMost 172 right; rows : length (now tile) ≡ 16 } ⌝ }
     ensures { λ _. ⌜ now (tile .exit) ≡ grid 16 32 (sideBySide (λ p. tileAt side16 (shape .height) (shape .width) (site .«row_parity») p (sampleAt shape (now (samples .entry)) frame) down right (site .row) (site .column))) ⌝ }
 {
-    let y = moved(site.row, down);
-    let x = moved(site.column, right);
+    let y = moved(HALF_SIDE, site.row, down);
+    let x = moved(HALF_SIDE, site.column, right);
     plane_view::frame_pair(shape, samples, frame, site.row_parity, y, x, &mut *tile);
 }
 
@@ -88,8 +89,8 @@ pub fn differences(
     tz: &mut [[u16; 32]; 16],
     d: &mut [[i16; 32]; 16],
 )
-    requires { ⌜ record { accepted : Accepted m (now samples) (now vectors); sited : Sited (m .shape) site; frame : k + 1 < m .shape .count; tile : now t0 ≡ grid 16 32 (sideBySide (λ p. referenceTile (sceneOf m (now samples) (now vectors)) (site .«row_parity») p (site .row) (site .column))); tz-rows : length (now tz) ≡ 16; d-rows : length (now d) ≡ 16 } ⌝ }
-    ensures { λ _. ⌜ (now (d .exit) ≡ grid 16 32 (sideBySide (λ p. tileDifference (sceneOf m (now (samples .entry)) (now (vectors .entry))) (site .«row_parity») p (site .row) (site .column) k))) × (length (now (tz .exit)) ≡ 16) ⌝ }
+    requires { ⌜ record { accepted : Accepted 16 m (now samples) (now vectors); sited : Sited 16 (m .shape) site; frame : k + 1 < m .shape .count; tile : now t0 ≡ grid 16 32 (sideBySide (λ p. referenceTile (sceneAt side16 m (now samples) (now vectors)) (site .«row_parity») p (site .row) (site .column))); tz-rows : length (now tz) ≡ 16; d-rows : length (now d) ≡ 16 } ⌝ }
+    ensures { λ _. ⌜ (now (d .exit) ≡ grid 16 32 (sideBySide (λ p. tileDifference (sceneAt side16 m (now (samples .entry)) (now (vectors .entry))) (site .«row_parity») p (site .row) (site .column) k))) × (length (now (tz .exit)) ≡ 16) ⌝ }
 {
     let shape = m.shape;
     let place = vector_place(shape, k, site.row, site.column);

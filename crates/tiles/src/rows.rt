@@ -1,47 +1,82 @@
-// Rows of pairs of correction tiles in the work area: pair after pair, and a place for a row of either parity.
+// Rows of pairs of correction tiles in the work area, by halves of the pairs, and a place for a row of either parity.
 ghost use mathlib.Core.Path.{_≡_};
-ghost use Prim.Native.Nat.{_+_, _*_, _/_, _%_, _≤_, _<_};
+ghost use Prim.Native.Nat.{_+_, _-_, _*_, _/_, _≤_, _<_};
 ghost use lib.IntN.{pos};
 ghost use lib.ListN.{length, getD};
 ghost use Rattle.sequences.specs.Grid.{cell};
 ghost use Rattle.sequences.specs.Write.{written};
-ghost use Rattle.recipe.specs.Scene.{sceneOf};
+ghost use Rattle.recipe.specs.Tables.{side16};
+ghost use Rattle.recipe.specs.Scene.{sceneAt};
 ghost use Rattle.tiles.specs.Accepted.{Accepted};
-ghost use Rattle.tiles.specs.Rows.{rowWords, slotOf, Stored};
+ghost use Rattle.tiles.specs.Rows.{rowWords, slotOf, Stored, Spread};
+use crate::BLOCK;
+use crate::HALF_WORDS;
 use crate::PAIR_WIDTH;
-use crate::PAIR_WORDS;
+use crate::SIDE;
 use crate::Site;
 use crate::correcting::tile_correction;
-use geometry::tiles::FINEST_SIDE;
 use geometry::tiles::tile_columns;
 use recipe::Merge;
 
-// A row of a pair is stored.
-fn store_row(work: &mut [i64], at: usize, row: &[i64; PAIR_WIDTH])
-    requires { ⌜ at + 32 ≤ length (now work) ⌝ }
-    ensures { λ _. ⌜ now (work .exit) ≡ written (now (work .entry)) at (λ j. getD (now (row .entry)) j (pos 0)) 32 ⌝ }
+// Half of a row of a pair is stored.
+fn store_block(work: &mut [i64], at: usize, row: &[i64; PAIR_WIDTH], from: usize)
+    requires { ⌜ (at + 16 ≤ length (now work)) × (from ≤ 16) ⌝ }
+    ensures { λ _. ⌜ now (work .exit) ≡ written (now (work .entry)) at (λ j. getD (now (row .entry)) (from + j) (pos 0)) 16 ⌝ }
 {
-    for j in 0..PAIR_WIDTH {
-        work[at + j] = row[j];
+    for j in 0..BLOCK {
+        work[at + j] = row[from + j];
     }
 }
 
-// A pair is stored, row by row.
-fn store_tile(work: &mut [i64], at: usize, tile: &[[i64; PAIR_WIDTH]; FINEST_SIDE])
-    requires { ⌜ at + 512 ≤ length (now work) ⌝ }
-    ensures { λ _. ⌜ now (work .exit) ≡ written (now (work .entry)) at (λ k. cell (pos 0) (now (tile .entry)) (k / 32) (k % 32)) 512 ⌝ }
+// Half of each row of a pair is stored, one after the other.
+fn store_half(work: &mut [i64], at: usize, tile: &[[i64; PAIR_WIDTH]; SIDE], from: usize)
+    requires { ⌜ (at + 256 ≤ length (now work)) × (from ≤ 16) ⌝ }
+    ensures { λ _. ⌜ Spread (Unit {0}) (λ i j. cell (pos 0) (now (tile .entry)) i (from + j)) at 16 16 16 (now (work .entry)) (now (work .exit)) ⌝ }
 {
-    for i in 0..FINEST_SIDE {
-        store_row(&mut *work, at + PAIR_WIDTH * i, &tile[i]);
+    for i in 0..SIDE {
+        store_block(&mut *work, at + BLOCK * i, &tile[i], from);
     }
 }
 
-// Where a row of pairs starts.
-pub fn slot(width: usize, row: usize) -> usize
-    requires { ⌜ width ≤ 4096 ⌝ }
-    ensures { λ r. ⌜ (r ≡ slotOf width row) × (r ≤ rowWords width) ⌝ }
+// The left half of pair `column` of a row whose words start at `start`, unless it lies outside the frame.
+fn store_left(work: &mut [i64], start: usize, column: usize, tile: &[[i64; PAIR_WIDTH]; SIDE])
+    requires { ⌜ start + 512 * column ≤ length (now work) ⌝ }
+    ensures { λ _. ⌜ Spread (0 < column) (λ i j. cell (pos 0) (now (tile .entry)) i (0 + j)) (start + 512 * (column - 1)) 16 16 16 (now (work .entry)) (now (work .exit)) ⌝ }
 {
-    row % 2 * (PAIR_WORDS * (width / FINEST_SIDE + 1))
+    if column == 0 {
+        return;
+    }
+    store_half(&mut *work, start + 2 * HALF_WORDS * (column - 1), tile, 0);
+}
+
+// The right half likewise, of a row of `blocks` blocks.
+fn store_right(
+    work: &mut [i64],
+    start: usize,
+    blocks: usize,
+    column: usize,
+    tile: &[[i64; PAIR_WIDTH]; SIDE],
+)
+    requires { ⌜ (start + 512 * blocks ≤ length (now work)) × (column ≤ blocks) ⌝ }
+    ensures { λ _. ⌜ Spread (column < blocks) (λ i j. cell (pos 0) (now (tile .entry)) i (16 + j)) (start + (512 * column + 256)) 16 16 16 (now (work .entry)) (now (work .exit)) ⌝ }
+{
+    if column == blocks {
+        return;
+    }
+    store_half(
+        &mut *work,
+        start + (2 * HALF_WORDS * column + HALF_WORDS),
+        tile,
+        BLOCK,
+    );
+}
+
+// Where a row of pairs of tiles of a side starts: two halves are over each block.
+pub fn slot(side: usize, width: usize, row: usize) -> usize
+    requires { ⌜ (side ≤ 32) × (width ≤ 4096) ⌝ }
+    ensures { λ r. ⌜ record { is : r ≡ slotOf side width row; in-area : r ≤ rowWords side width; most : r ≤ 262144 } ⌝ }
+{
+    row % 2 * (2 * side * width)
 }
 
 // The corrections of each pair of a row.
@@ -53,10 +88,11 @@ pub fn correction_row(
     row: usize,
     work: &mut [i64],
 )
-    requires { ⌜ record { accepted : Accepted m (now samples) (now vectors); parity : «row_parity» < 2; row-most : row ≤ m .shape .height / 16; room : 2 * rowWords (m .shape .width) ≤ length (now work) } ⌝ }
-    ensures { λ _. ⌜ Stored (sceneOf m (now (samples .entry)) (now (vectors .entry))) «row_parity» row (now (work .entry)) (now (work .exit)) ⌝ }
+    requires { ⌜ record { accepted : Accepted 16 m (now samples) (now vectors); parity : «row_parity» < 2; row-most : row ≤ m .shape .height / 16; room : 2 * rowWords 16 (m .shape .width) ≤ length (now work) } ⌝ }
+    ensures { λ _. ⌜ Stored 16 (sceneAt side16 m (now (samples .entry)) (now (vectors .entry))) «row_parity» row (now (work .entry)) (now (work .exit)) ⌝ }
 {
-    let start = slot(m.shape.width, row);
+    let start = slot(SIDE, m.shape.width, row);
+    let blocks = m.shape.width / BLOCK;
     let columns = tile_columns(m.shape);
     for column in 0..columns {
         let site = Site {
@@ -64,8 +100,9 @@ pub fn correction_row(
             row,
             column,
         };
-        let mut sum = [[0i64; PAIR_WIDTH]; FINEST_SIDE];
+        let mut sum = [[0i64; PAIR_WIDTH]; SIDE];
         tile_correction(m, samples, vectors, site, &mut sum);
-        store_tile(&mut *work, start + PAIR_WORDS * column, &sum);
+        store_left(&mut *work, start, column, &sum);
+        store_right(&mut *work, start, blocks, column, &sum);
     }
 }

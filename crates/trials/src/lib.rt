@@ -1,16 +1,27 @@
 // An offset tried in a window: its rows summed two at a time, and left where their total reaches the least so far.
 ghost use mathlib.Core.Path.{_≡_};
 ghost use mathlib.Core.Bool.{cond, false};
-ghost use Prim.Native.Nat.{_+_, _≤_};
+ghost use Prim.Native.Nat.{_+_, _<_, _≤_};
 
 pub mod eight;
 pub mod sixteen;
+pub mod thirty_two;
 
 // What trying an offset has given: whether it is the best so far, then its total, else 0; and how many rows the rule counts.
 pub struct Tried {
     pub best: bool,
     pub total: u64,
     pub rows: u64,
+}
+
+// `low` in 32 bits, where every total by absolute differences is below the greatest of them: so the sums stay in vectors of 32 bits.
+fn clipped(low: u64) -> u32
+    ensures { λ r. ⌜ record { below : r ≤ low; fits : r ≤ 4294967295; same : r < 4294967295 → r ≡ low } ⌝ }
+{
+    if low < 4294967295 {
+        return low as u32;
+    }
+    4294967295
 }
 
 // An offset that is left in the two rows after the first `before`: after the first of them if the total up to it has reached the best so far.

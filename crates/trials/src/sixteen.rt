@@ -1,24 +1,14 @@
 // Offsets of tiles of side 16, in windows of side 24.
-ghost use mathlib.Core.Path.{_≡_};
 ghost use mathlib.Core.Bool.{true, false};
-ghost use Prim.Native.Nat.{_+_, _*_, _<_, _≤_};
+ghost use Prim.Native.Nat.{_+_, _*_};
 ghost use Rattle.residuals.specs.Local.{squareRow};
 ghost use Rattle.trials.specs.Trial.{InWindow, Left};
 use crate::Tried;
+use crate::clipped;
 use crate::leave;
 use residuals::sixteen::absolute_row;
 use residuals::sixteen::squared_rows;
 use residuals::sixteen::two_rows;
-
-// `low` in 32 bits, where every total by absolute differences is below the greatest of them: so the sums stay in vectors of 32 bits.
-fn clipped(low: u64) -> u32
-    ensures { λ r. ⌜ record { below : r ≤ low; fits : r ≤ 4294967295; same : r < 4294967295 → r ≡ low } ⌝ }
-{
-    if low < 4294967295 {
-        return low as u32;
-    }
-    4294967295
-}
 
 // An offset by absolute differences, whose first sample lies in row `y` and column `x` of the window: two rows at a time, left as soon as their
 // total reaches `low`. Only then is the first of the two summed by itself, to tell at which of them it was reached.

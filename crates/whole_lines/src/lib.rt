@@ -11,7 +11,7 @@ ghost use lib.ListN.{getD};
 ghost use Rattle.sequences.specs.Tab.{tab};
 ghost use Rattle.lines.specs.Halfcomplex.{halfcomplex};
 ghost use Rattle.lines.specs.Fold.{sumAt, differenceAt, folded};
-ghost use Rattle.lines.specs.Magnitudes.{differenceMost, differenceFoldMost};
+ghost use Rattle.lines.specs.Magnitudes.{differenceMost, differenceFoldMost, foldAgainMost};
 ghost use Rattle.lines.specs.Lines.{LineMost};
 
 // C(0) to C(3)
@@ -77,8 +77,8 @@ fn even(s0: i16, s1: i16, s2: i16, s3: i16, s4: i16, s5: i16, s6: i16, s7: i16) 
 
 // The odd places, from the differences: four real parts, then four imaginary parts. C(8−k) = −C(k) and S(8−k) = S(k): the differences n and 8 − n share a
 // cosine, with opposite signs, and a sine.
-fn odd(t0: i16, t1: i16, t2: i16, t3: i16, t4: i16, t5: i16, t6: i16, t7: i16) -> [i32; 8]
-    requires { ⌜ LineMost differenceFoldMost (t0 ∷ t1 ∷ t2 ∷ t3 ∷ t4 ∷ t5 ∷ t6 ∷ t7 ∷ []) ⌝ }
+pub fn odd(t0: i16, t1: i16, t2: i16, t3: i16, t4: i16, t5: i16, t6: i16, t7: i16) -> [i32; 8]
+    requires { ⌜ LineMost foldAgainMost (t0 ∷ t1 ∷ t2 ∷ t3 ∷ t4 ∷ t5 ∷ t6 ∷ t7 ∷ []) ⌝ }
     ensures { λ r. ⌜ r ≡ tab 8 (λ i. folded (λ n. getD (t0 ∷ t1 ∷ t2 ∷ t3 ∷ t4 ∷ t5 ∷ t6 ∷ t7 ∷ []) n (pos 0)) (2 * i + 1)) ⌝ }
 {
     let a = C0 * (t0 as i32);

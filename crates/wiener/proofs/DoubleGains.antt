@@ -11,11 +11,11 @@ use Rattle.spectrum.specs.Magnitudes.{noiseMost}
 use Rattle.spectrum.specs.Spectrum.{transposed, spread, quadOf, twoBins, gainRe, gainIm}
 use Rattle.spectrum.specs.Pairs.{sideBySide, either, doubles, Binned}
 use Rattle.bins.specs.Doubles.{Sure}
-use Rattle.bins.specs.DoubleLaws.{weight, gains-are, real-gain-is}
+use Rattle.bins.specs.DoubleLaws.{weight, quanta16, gains-are, real-gain-is}
 use Rattle.quads.specs.Lanes.{numberOf, binsIn, quadAt}
 use Rattle.quads.specs.QuadGains.{double, bins-small, bin-is, quad-gains}
 use Rattle.quads.specs.FilterLaws.{either-of, by-plane, Gains, quad-of}
-use Rattle.wiener.specs.DoubleQuads.{doubleQuad, newQuad, SureQuad, SureQuads}
+use Rattle.wiener.specs.DoubleQuads.{doubleQuad, newQuadBy, newQuad, SureQuad, SureQuads}
 
 -- what is known of a plane and its noise number
 pub record Known (v : ℕ) (t : ℕ → ℕ → ℤ) : Type 0 where
@@ -41,12 +41,12 @@ module _ (v : ℕ) (t : ℕ → ℕ → ℤ) (known : Known v t) (k u : ℕ) (h 
   sure-both : (i j : ℕ) → i < 4 → j < 4 → Certain (numberOf (binsIn k u quad) i) (numberOf (binsIn k u quad) j) → Certain (double (bin i)) (double (bin j))
   sure-both i j o p s = sure-first i o (subst (λ b. Certain (numberOf (binsIn k u quad) i) b) (bin-is t (known .binned) k u h l j p) s)
 
-  pub double-gains : SureQuad (double (pos v)) (weight v) k u quad → doubleQuad (double (pos v)) (weight v) k u quad ≡ map double (quadOf (spread (gainRe v t) (gainIm v t)) k u)
+  pub double-gains : SureQuad (double (pos v)) (weight v) k u quad → doubleQuad 24 (double (pos v)) (weight v) k u quad ≡ map double (quadOf (spread (gainRe v t) (gainIm v t)) k u)
   unfolding doubleQuad
   double-gains s =
       let most = bins-small t (known .binned) k u h l in
-      quad-gains t (known .binned) v _ _ k u h l (λ e i o. real-gain-is v (known .above) (known .most) (bin i) (most i) (sure-first i o (s .corner e i o)))
-      (λ o. (gains-are v (known .above) (known .most) (bin 0) (bin 1) (most 0) (most 1) (sure-both 0 1 (lit< tt) (lit< tt) (s .others o .0)), gains-are v (known .above) (known .most) (bin 2) (bin 3) (most 2) (most 3) (sure-both 2 3 (lit< tt) (lit< tt) (s .others o .1))))
+      quad-gains t (known .binned) v _ _ k u h l (λ e i o. real-gain-is quanta16 v (known .above) (known .most) (bin i) (most i) (sure-first i o (s .corner e i o)))
+      (λ o. (gains-are quanta16 v (known .above) (known .most) (bin 0) (bin 1) (most 0) (most 1) (sure-both 0 1 (lit< tt) (lit< tt) (s .others o .0)), gains-are quanta16 v (known .above) (known .most) (bin 2) (bin 3) (most 2) (most 3) (sure-both 2 3 (lit< tt) (lit< tt) (s .others o .1))))
 
 -- all quads of a pair
 module _ (first second : ℕ) (t : ℕ → ℕ → ℕ → ℤ) where
@@ -54,7 +54,7 @@ module _ (first second : ℕ) (t : ℕ → ℕ → ℕ → ℤ) where
   noise = either first second
 
   pub double-quads : Known first (t 0) → Known second (t 1) → {v w : List Float} → v ≡ tab 16 (λ l. either (ofInt binary64 (pos first)) (ofInt binary64 (pos second)) (l % 2)) → w ≡ tab 16 (λ l. either (weight first) (weight second) (l % 2)) → {b : List (List Float)} → b ≡ doubles (sideBySide (λ p. transposed (t p))) → SureQuads v w 0 128 b → Gains first second t (newQuad v w)
-  unfolding newQuad
+  unfolding newQuadBy
   double-quads q q' {v} {w} V' W' {b} e s =
       record { quad = λ u l h k. rw (noise-at l k, weight-at l k) (double-gains (noise (l % 2)) (t (l % 2)) (by-plane (λ p. Known (noise p) (t p)) q q' l) (l / 2) u (omega arith) h (sure-at u l h k)) }
     where

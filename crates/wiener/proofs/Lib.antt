@@ -1,3 +1,2 @@
-pub mod NewQuads
 pub mod SureLaws
 pub mod DoubleGains

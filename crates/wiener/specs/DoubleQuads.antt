@@ -1,22 +1,30 @@
--- Inside the crates of the merge: a quad of G from that of B, with quotients in double, and where these leave no doubt of it.
+-- Inside the crates of the merge: a quad of G from that of B, with quotients in double, and where these leave no doubt of it. A side's quantum is 2^bits.
 use Rattle.algebra.specs.Prelude.{_≡_, Bool, true, List, ℕ, _+_, _*_, _/_, _≤_, _<_, getD, pos}
 use lib.Ieee.{Float, nan, binary64, ofInt}
 use Rattle.sequences.specs.Grid.{cell}
-use Rattle.bins.specs.Doubles.{gainsIn, Sure, realGainIn}
+use Rattle.bins.specs.Doubles.{gainsBy, SureBy, realGainBy}
 use Rattle.quads.specs.Lanes.{numberOf, binsIn, quadIn, quadAt, Lanes}
 
 -- at V and W
-unfoldable pub doubleQuad : (v w : Float) (k u : ℕ) (q : List Float) → List Float
-doubleQuad v w = quadIn (realGainIn v w) (gainsIn v w)
+unfoldable pub doubleQuad : (bits : ℕ) (v w : Float) (k u : ℕ) (q : List Float) → List Float
+doubleQuad bits v w = quadIn (realGainBy bits v w) (gainsBy bits v w)
 
 -- quad (u, l), at V and W of each lane
-unfoldable pub newQuad : (v w : List Float) (u l : ℕ) → List Float → List Float
-newQuad v w u l = doubleQuad (getD v l nan) (getD w l nan) (l / 2) u
+unfoldable pub newQuadBy : (bits : ℕ) (v w : List Float) (u l : ℕ) → List Float → List Float
+newQuadBy bits v w u l = doubleQuad bits (getD v l nan) (getD w l nan) (l / 2) u
 
 -- the quotients of a quad's bins are certain: of the four real ones of the corner, and else of two
-pub record SureQuad (v w : Float) (k u : ℕ) (q : List Float) : Type 0 where
-  pub corner : k + u ≡ 0 → (i : ℕ) → i < 4 → Sure v w (numberOf (binsIn k u q) i) (ofInt binary64 (pos 0))
-  pub others : 0 < k + u → Sure v w (numberOf (binsIn k u q) 0) (numberOf (binsIn k u q) 1) × Sure v w (numberOf (binsIn k u q) 2) (numberOf (binsIn k u q) 3)
+pub record SureQuadBy (bits : ℕ) (v w : Float) (k u : ℕ) (q : List Float) : Type 0 where
+  pub corner : k + u ≡ 0 → (i : ℕ) → i < 4 → SureBy bits v w (numberOf (binsIn k u q) i) (ofInt binary64 (pos 0))
+  pub others : 0 < k + u → SureBy bits v w (numberOf (binsIn k u q) 0) (numberOf (binsIn k u q) 1) × SureBy bits v w (numberOf (binsIn k u q) 2) (numberOf (binsIn k u q) 3)
+
+-- ---- for side 16
+
+abbrev pub newQuad : (v w : List Float) (u l : ℕ) → List Float → List Float
+newQuad = newQuadBy 24
+
+abbrev pub SureQuad : (v w : Float) (k u : ℕ) (q : List Float) → Type 0
+SureQuad = SureQuadBy 24
 
 -- those of the quads from m on and below n, in the order of 16·u + l
 pub record SureQuads (v w : List Float) (m n : ℕ) (b : List (List Float)) : Type 0 where

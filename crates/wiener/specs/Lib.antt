@@ -1,1 +1,2 @@
 pub mod DoubleQuads
+pub mod NewQuads

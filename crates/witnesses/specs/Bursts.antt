@@ -7,9 +7,9 @@ use Rattle.refusals.specs.TestLaws.{goes, lone}
 use Rattle.refusals.specs.Some.{some}
 use Rattle.refusals.specs.After.{after}
 use Rattle.refusals.specs.AfterLaws.{result-made}
-use Rattle.geometry.specs.Shape.{sizeAllowed, countAllowed, sizeRefusal, countRefusal, referenceRefusal, rowAllowed, rowRefusal, sampleLength, vectorLength, outputLength, workLength, lengthRefusal}
+use Rattle.geometry.specs.Shape.{sizeAllowed, countAllowed, sizeRefusal, countRefusal, referenceRefusal, sideAllowed, sideRefusal, rowAllowed, rowRefusal, sampleLength, vectorLength, outputLength, workLength, lengthRefusal}
 use Rattle.geometry.specs.Read.{sampleIndex, sampleAt}
-use Rattle.limits.specs.Order.{shapeTests, frameTests, alignLengths, mergeLengths, alignShapeTests, mergeShapeTests}
+use Rattle.limits.specs.Order.{shapeTests, frameTests, burstTests, alignLengths, mergeLengths, alignShapeTests, mergeShapeTests}
 use Rattle.values.specs.Bounds.{sampleRefusal, vectorRefusal}
 use Rattle.values.specs.BoundLaws.{samples-pass, values-samples}
 use Rattle.noise.specs.Levels.{invalidCurve, invalidIso, invalidNoise, aboveLimits, noiseTests, levelsOf, strengthRefusal, blackRefusal, spatialRefusal}
@@ -17,7 +17,7 @@ use Rattle.recipe.specs.Scene.{sceneOf}
 use Rattle.recipe.specs.Merged.{merged}
 use Rattle.alignment.specs.Aligned.{residualSums}
 use Rattle.alignment.specs.Rows.{rowsSummed}
-use Rattle.admission.specs.Refusals.{alignRefusal, contentTests, runTests, runRefusal, mergeRefusal, mergeOf}
+use Rattle.admission.specs.Refusals.{alignRefusal, filterSideRefusal, contentTests, runTests, runRefusal, mergeRefusal, mergeOf}
 use Rattle.stacker.specs.declared.Alignment.{Alignment}
 use Rattle.stacker.specs.declared.Choice.{Choice}
 use Rattle.stacker.specs.Calls.{answered, Aligned, Merged, Ran}
@@ -25,7 +25,7 @@ use Rattle.stacker.specs.Choosing.{choosingTests, choosingRefusal, Chosen}
 use Rattle.stacker.specs.ChoosingLaws.{first-refusal}
 use Rattle.sanity.specs.FlatFigure.{shape, plain, burst, merged-2, vectors-0, residual-102400}
 use Rattle.witnesses.specs.SmallLaws.{append-most, replicate-most}
-use Rattle.witnesses.specs.Inputs.{Input, dark, full, vectors, work, figure, width-96, nine-frames, reference-2, row-63, one-short, no-vectors, one-over, no-work, iso-24, shot-65, strength-1025, black-256, spatial-257, sample-4096, part-173}
+use Rattle.witnesses.specs.Inputs.{Input, dark, full, vectors, work, figure, width-96, nine-frames, reference-2, side-24, row-63, one-short, no-vectors, one-over, no-work, iso-24, shot-65, strength-1025, black-256, spatial-257, spatial-at-32, sample-4096, part-173}
 
 -- the number that each call answers
 abbrev pub alignNumber : Input → ℕ
@@ -45,27 +45,27 @@ abbrev pub numbers : (Input → ℕ) → List Input → List ℕ
 numbers number [] = []
 numbers number (i ∷ is) = number i ∷ numbers number is
 
-pub align-refuses : numbers alignNumber (width-96 ∷ nine-frames ∷ reference-2 ∷ row-63 ∷ one-short ∷ no-vectors ∷ no-work ∷ sample-4096 ∷ []) ≡ 1 ∷ 2 ∷ 3 ∷ 23 ∷ 4 ∷ 5 ∷ 7 ∷ 11 ∷ []
-unfolding plain alignRefusal alignShapeTests frameTests shapeTests alignLengths first some sizeAllowed countAllowed sizeRefusal countRefusal referenceRefusal rowAllowed rowRefusal sampleLength vectorLength workLength lengthRefusal sampleRefusal sampleAt sampleIndex
+pub align-refuses : numbers alignNumber (width-96 ∷ nine-frames ∷ reference-2 ∷ side-24 ∷ row-63 ∷ one-short ∷ no-vectors ∷ no-work ∷ sample-4096 ∷ []) ≡ 1 ∷ 2 ∷ 3 ∷ 22 ∷ 23 ∷ 4 ∷ 5 ∷ 7 ∷ 11 ∷ []
+unfolding plain alignRefusal alignShapeTests frameTests burstTests shapeTests alignLengths first some sizeAllowed countAllowed sizeRefusal countRefusal referenceRefusal sideAllowed sideRefusal rowAllowed rowRefusal sampleLength vectorLength workLength lengthRefusal sampleRefusal sampleAt sampleIndex
 align-refuses = refl
 
 -- what merge, run and the run that chooses have in common, but for 3
 abbrev pub shared : List Input
-shared = row-63 ∷ one-short ∷ no-vectors ∷ one-over ∷ no-work ∷ iso-24 ∷ shot-65 ∷ strength-1025 ∷ black-256 ∷ spatial-257 ∷ sample-4096 ∷ []
+shared = side-24 ∷ row-63 ∷ one-short ∷ no-vectors ∷ one-over ∷ no-work ∷ iso-24 ∷ shot-65 ∷ strength-1025 ∷ black-256 ∷ spatial-257 ∷ spatial-at-32 ∷ sample-4096 ∷ []
 
 abbrev pub sharedNumbers : List ℕ
-sharedNumbers = 23 ∷ 4 ∷ 5 ∷ 6 ∷ 7 ∷ 8 ∷ 9 ∷ 10 ∷ 18 ∷ 24 ∷ 11 ∷ []
+sharedNumbers = 22 ∷ 23 ∷ 4 ∷ 5 ∷ 6 ∷ 7 ∷ 8 ∷ 9 ∷ 10 ∷ 18 ∷ 24 ∷ 25 ∷ 11 ∷ []
 
 pub run-refuses : numbers runNumber (width-96 ∷ nine-frames ∷ reference-2 ∷ shared) ≡ 1 ∷ 2 ∷ 3 ∷ sharedNumbers
-unfolding plain runTests contentTests mergeShapeTests frameTests shapeTests mergeLengths first some sizeAllowed countAllowed sizeRefusal countRefusal referenceRefusal rowAllowed rowRefusal sampleLength vectorLength outputLength workLength lengthRefusal sampleRefusal sampleAt sampleIndex noiseTests invalidNoise invalidCurve invalidIso aboveLimits strengthRefusal blackRefusal spatialRefusal
+unfolding plain runTests contentTests mergeShapeTests frameTests burstTests shapeTests mergeLengths first some sizeAllowed countAllowed sizeRefusal countRefusal referenceRefusal sideAllowed sideRefusal rowAllowed rowRefusal sampleLength vectorLength outputLength workLength lengthRefusal sampleRefusal sampleAt sampleIndex noiseTests invalidNoise invalidCurve invalidIso aboveLimits strengthRefusal blackRefusal spatialRefusal filterSideRefusal
 run-refuses = refl
 
 pub choosing-refuses : numbers choosingNumber (width-96 ∷ nine-frames ∷ shared) ≡ 1 ∷ 2 ∷ sharedNumbers
-unfolding plain choosingTests contentTests shapeTests mergeLengths first some sizeAllowed countAllowed sizeRefusal countRefusal rowAllowed rowRefusal sampleLength vectorLength outputLength workLength lengthRefusal sampleRefusal sampleAt sampleIndex noiseTests invalidNoise invalidCurve invalidIso aboveLimits strengthRefusal blackRefusal spatialRefusal
+unfolding plain choosingTests contentTests burstTests shapeTests mergeLengths first some sizeAllowed countAllowed sizeRefusal countRefusal sideAllowed sideRefusal rowAllowed rowRefusal sampleLength vectorLength outputLength workLength lengthRefusal sampleRefusal sampleAt sampleIndex noiseTests invalidNoise invalidCurve invalidIso aboveLimits strengthRefusal blackRefusal spatialRefusal filterSideRefusal
 choosing-refuses = refl
 
 pub merge-refuses : numbers mergeNumber (width-96 ∷ nine-frames ∷ reference-2 ∷ shared) ≡ 1 ∷ 2 ∷ 3 ∷ sharedNumbers
-unfolding plain mergeRefusal runTests contentTests mergeShapeTests frameTests shapeTests mergeLengths first some sizeAllowed countAllowed sizeRefusal countRefusal referenceRefusal rowAllowed rowRefusal sampleLength vectorLength outputLength workLength lengthRefusal sampleRefusal sampleAt sampleIndex noiseTests invalidNoise invalidCurve invalidIso aboveLimits strengthRefusal blackRefusal spatialRefusal
+unfolding plain mergeRefusal runTests contentTests mergeShapeTests frameTests burstTests shapeTests mergeLengths first some sizeAllowed countAllowed sizeRefusal countRefusal referenceRefusal sideAllowed sideRefusal rowAllowed rowRefusal sampleLength vectorLength outputLength workLength lengthRefusal sampleRefusal sampleAt sampleIndex noiseTests invalidNoise invalidCurve invalidIso aboveLimits strengthRefusal blackRefusal spatialRefusal filterSideRefusal
 merge-refuses = refl
 
 -- the figure's samples pass 11
@@ -75,7 +75,7 @@ samples-small =
     samples-pass shape burst (values-samples shape (record { most = append-most 4095 (plain 0) (plain 4) (replicate-most 4095 4096 0 (lit≤ tt)) (replicate-most 4095 4096 4 (lit≤ tt)) }))
 
 lengths-right : (vectors : List ℤ) → length vectors ≡ 50 → first (mergeShapeTests shape 0 (length burst) (length vectors) (length (plain 9)) (length work)) ≡ 0
-unfolding plain mergeShapeTests frameTests shapeTests mergeLengths first sizeAllowed countAllowed sizeRefusal countRefusal referenceRefusal rowAllowed rowRefusal sampleLength vectorLength outputLength workLength lengthRefusal
+unfolding plain mergeShapeTests frameTests burstTests shapeTests mergeLengths first sizeAllowed countAllowed sizeRefusal countRefusal referenceRefusal sideAllowed sideRefusal rowAllowed rowRefusal sampleLength vectorLength outputLength workLength lengthRefusal
 lengths-right vectors e = rw e
 
 noise-passes : first (noiseTests dark) ≡ 0
@@ -83,7 +83,7 @@ unfolding noiseTests first invalidNoise invalidCurve aboveLimits
 noise-passes = refl
 
 content-passes : first (contentTests shape full burst) ≡ 0
-unfolding contentTests first some strengthRefusal blackRefusal spatialRefusal
+unfolding contentTests first some strengthRefusal blackRefusal spatialRefusal filterSideRefusal
 content-passes = rw samples-small
 
 run-passes : (vectors : List ℤ) → length vectors ≡ 50 → runRefusal shape 0 dark full burst vectors (plain 9) work ≡ 0
@@ -97,7 +97,7 @@ merge-refuses-12 = sym (goes (runTests shape 0 dark full burst (part-173 .vector
 
 -- and the figure passes
 align-lengths : first (alignShapeTests shape 0 (length burst) (length vectors) (length work)) ≡ 0
-unfolding plain alignShapeTests frameTests shapeTests alignLengths first sizeAllowed countAllowed sizeRefusal countRefusal referenceRefusal rowAllowed rowRefusal sampleLength vectorLength workLength lengthRefusal
+unfolding plain alignShapeTests frameTests burstTests shapeTests alignLengths first sizeAllowed countAllowed sizeRefusal countRefusal referenceRefusal sideAllowed sideRefusal rowAllowed rowRefusal sampleLength vectorLength workLength lengthRefusal
 align-lengths = refl
 
 pub align-number : alignNumber figure ≡ 0

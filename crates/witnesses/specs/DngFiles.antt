@@ -58,7 +58,7 @@ abbrev pub file : List ℕ
 file = dng 64 64 1 (replicate 8192 0)
 
 abbrev pub frame64 : Shape
-frame64 = shaped 64 64 1 64
+frame64 = shaped 64 64 1 16 64
 
 abbrev pub answered : (file : List ℕ) → Shape → (frame room : ℕ) → ℕ
 answered file s frame room = dngRefusal file (entries file) s frame room
@@ -100,10 +100,10 @@ tags-refused = refl
 
 -- 1, 2, 3, 23 and 4, and 11: a width of 32, no frame, frame 1 of 1, a row length of 63, a room of 0, and a first sample of 4096
 pub burst-refused :
-    answered (dng 32 64 1 (replicate 4096 0)) (shaped 32 64 1 32) 0 2048
-    ∷ answered file (shaped 64 64 0 64) 0 0
+    answered (dng 32 64 1 (replicate 4096 0)) (shaped 32 64 1 16 32) 0 2048
+    ∷ answered file (shaped 64 64 0 16 64) 0 0
     ∷ answered file frame64 1 4096
-    ∷ answered file (shaped 64 64 1 63) 0 4032
+    ∷ answered file (shaped 64 64 1 16 63) 0 4032
     ∷ answered file frame64 0 0
     ∷ answered (dng 64 64 1 (0 ∷ 16 ∷ replicate 8190 0)) frame64 0 4096
     ∷ []

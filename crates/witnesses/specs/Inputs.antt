@@ -52,16 +52,19 @@ abbrev pub figure : Input
 figure = input shape 0 dark full burst vectors (plain 9) work
 
 abbrev pub width-96 : Input
-width-96 = input (shaped 96 64 2 96) 0 dark full burst vectors (plain 9) work
+width-96 = input (shaped 96 64 2 16 96) 0 dark full burst vectors (plain 9) work
 
 abbrev pub nine-frames : Input
-nine-frames = input (shaped 64 64 9 64) 0 dark full burst vectors (plain 9) work
+nine-frames = input (shaped 64 64 9 16 64) 0 dark full burst vectors (plain 9) work
 
 abbrev pub reference-2 : Input
 reference-2 = input shape 2 dark full burst vectors (plain 9) work
 
+abbrev pub side-24 : Input
+side-24 = input (shaped 64 64 2 24 64) 0 dark full burst vectors (plain 9) work
+
 abbrev pub row-63 : Input
-row-63 = input (shaped 64 64 2 63) 0 dark full burst vectors (plain 9) work
+row-63 = input (shaped 64 64 2 16 63) 0 dark full burst vectors (plain 9) work
 
 abbrev pub one-short : Input
 one-short = input shape 0 dark full (replicate 8191 0) vectors (plain 9) work
@@ -89,6 +92,10 @@ black-256 = input shape 0 dark (tuned 1024 (0 ∷ 0 ∷ 256 ∷ 0 ∷ []) 0) bur
 
 abbrev pub spatial-257 : Input
 spatial-257 = input shape 0 dark (tuned 1024 zeroBlack 257) burst vectors (plain 9) work
+
+-- nine tiles of side 32, and a filter
+abbrev pub spatial-at-32 : Input
+spatial-at-32 = input (shaped 64 64 2 32 64) 0 dark (tuned 1024 zeroBlack 1) burst (replicate 18 (pos 7)) (plain 9) work
 
 abbrev pub sample-4096 : Input
 sample-4096 = input shape 0 dark full (4096 ∷ replicate 8191 0) vectors (plain 9) work

@@ -79,7 +79,7 @@ pub fn take_call(input: &mut impl Read) -> Result<Call, Box<dyn Error>> {
     let [width, height, count, reference, row_length] = take_array(input)?;
     let black = take_array(input)?;
     let noise = take_noise(input)?;
-    let [strength, spatial] = take_array(input)?;
+    let [strength, side, spatial] = take_array(input)?;
     let [samples, vectors, output, work_length] = take_array(input)?;
     let shape = Shape {
         width,
@@ -95,7 +95,11 @@ pub fn take_call(input: &mut impl Read) -> Result<Call, Box<dyn Error>> {
             samples: take_many(input, samples)?,
         },
         noise,
-        tuning: Tuning { strength, spatial },
+        tuning: Tuning {
+            strength,
+            side,
+            spatial,
+        },
         vectors: take_many(input, vectors)?,
         output: take_many(input, output)?,
         work_length,
@@ -122,12 +126,16 @@ pub fn put_call(out: &mut impl Write, call: &Call) -> std::io::Result<()> {
         count,
         row_length,
     } = call.burst.shape;
-    let Tuning { strength, spatial } = call.tuning;
+    let Tuning {
+        strength,
+        side,
+        spatial,
+    } = call.tuning;
     let reference = call.burst.reference;
     put_many(out, &[width, height, count, reference, row_length])?;
     put_many(out, &call.burst.black)?;
     put_noise(out, call.noise)?;
-    put_many(out, &[strength, spatial])?;
+    put_many(out, &[strength, side, spatial])?;
     (call.burst.samples.len() as u64).put(out)?;
     (call.vectors.len() as u64).put(out)?;
     (call.output.len() as u64).put(out)?;

@@ -38,14 +38,15 @@ pub fn length(words: &[&str]) -> Answer {
     Ok(answer.to_string())
 }
 
-/// `shotbits readbits strength root`
+/// `shotbits readbits strength root side`
 pub fn noise(words: &[&str]) -> Answer {
-    let [shot, read, strength, root] = match words {
-        [a, b, c, d] => [a, b, c, d],
-        _ => return Err("expected `shotbits readbits strength root`".into()),
+    let [shot, read, strength, root, side] = match words {
+        [a, b, c, d, e] => [a, b, c, d, e],
+        _ => return Err("expected `shotbits readbits strength root side`".into()),
     };
     let Curve { shot, read } = curve(shot, read)?;
-    let answer = station_noise(shot, read, strength.parse()?, root.parse()?);
+    let (root, side) = (root.parse()?, side.parse()?);
+    let answer = station_noise(shot, read, strength.parse()?, root, side);
     Ok(answer.to_string())
 }
 

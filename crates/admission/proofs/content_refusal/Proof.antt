@@ -1,23 +1,21 @@
 -- `admission::content_refusal`: each test is its definition, so the first of them is.
-use Rattle.algebra.specs.Prelude.{_≡_, ap, _∙_, [], _∷_, ℕ, needs}
+use Rattle.algebra.specs.Prelude.{ap, ap₂, _∙_, [], _∷_, needs}
 use Rattle.refusals.specs.Tests.{first}
 use Rattle.admission.specs.Refusals.{contentTests}
 use Rattle.admission.proofs.content_refusal.Statement.{statement}
 use Rattle.admission.proofs.content_refusal.Tie as tie
 
-each : {a b c d a′ b′ c′ d′ : ℕ} → a ≡ a′ → b ≡ b′ → c ≡ c′ → d ≡ d′ → first (a ∷ b ∷ c ∷ d ∷ []) ≡ first (a′ ∷ b′ ∷ c′ ∷ d′ ∷ [])
-each {b = b} {c} {d} {a′} {b′} {c′} ea eb ec ed =
-    ap (λ n. first (n ∷ b ∷ c ∷ d ∷ [])) ea ∙ ap (λ n. first (a′ ∷ n ∷ c ∷ d ∷ [])) eb ∙ ap (λ n. first (a′ ∷ b′ ∷ n ∷ d ∷ [])) ec ∙ ap (λ n. first (a′ ∷ b′ ∷ c′ ∷ n ∷ [])) ed
-
 returns : tie.Need-returns
 unfolding contentTests
 returns c =
     let sample = c .before .before in
-    let spatial = sample .before in
+    let filtered = sample .before in
+    let spatial = filtered .before in
     let black = spatial .before in
-    c .first .ensures ∙ each (black .before .before .strength-refusal .ensures) (black .black-refusal .ensures) (spatial .spatial-refusal .ensures) (sample .sample-refusal .ensures)
+    c .first .ensures
+    ∙ ap first (ap₂ _∷_ (black .before .before .strength-refusal .ensures) (ap₂ _∷_ (black .black-refusal .ensures) (ap₂ _∷_ (spatial .spatial-refusal .ensures) (ap₂ _∷_ (filtered .filter-side-refusal .ensures) (ap (λ n. n ∷ []) (sample .sample-refusal .ensures))))))
 
 pub content-refusal-spec : {M : Type 1} → statement M
 content-refusal-spec = tie.close (tie.spec
-    (λ c κs. search needs) (λ c κs. search needs) (λ c κs. search needs) (λ c κs. search needs) (λ c. search needs)
+    (λ c κs. search needs) (λ c κs. search needs) (λ c κs. search needs) (λ c κs. search needs) (λ c κs. search needs) (λ c. search needs)
     (λ c κs. search needs) returns)

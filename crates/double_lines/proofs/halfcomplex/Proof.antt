@@ -2,8 +2,8 @@
 use Rattle.algebra.specs.Prelude.{_∙_, _-_, _*_, arith, needs, now}
 use Rattle.sequences.specs.TabLaws.{Filled, fill-start, fill-done}
 use Rattle.lines.specs.Halfcomplex.{halfcomplex}
+use Rattle.lines.specs.PairLines.{byFours, fours-turn, fours-are}
 use Rattle.double_lines.proofs.PairFolding.{sumsOf, differencesOf, lineOf, sums-most, differences-most, even-line, odd-line}
-use Rattle.double_lines.proofs.PairStores.{byFours, fours-turn, fours-are}
 use Rattle.double_lines.proofs.halfcomplex.Statement.{statement}
 use Rattle.double_lines.proofs.halfcomplex.Tie as tie
 
@@ -19,7 +19,7 @@ loop-again c =
     let o0 = o1 .before .before in
     let e1 = o0 .before .before in
     let e0 = e1 .before .before in
-    fours-turn (e0 .even-of .result) (e1 .even-of2 .result) (o0 .odd-of .result) (o1 .odd-of2 .result) (c .before .loop .inv) (c .loop-test .taken)
+    fours-turn (e0 .even-of .result) (e1 .even-of2 .result) (o0 .odd-of .result) (o1 .odd-of2 .result) 8 (c .before .loop .inv) (c .loop-test .taken)
 
 returns : tie.Need-returns Inv-loop μ-loop
 returns c =
@@ -32,7 +32,7 @@ returns c =
     let m = s .before .pre .0 in
     let x = now (s .before .args .x) in
     fill-done (c .before .loop .inv) (omega arith)
-    ∙ fours-are (λ p. halfcomplex (lineOf x p))
+    ∙ fours-are 8 (λ p. halfcomplex (lineOf x p))
     (e0 .even-of .ensures (sumsOf x) (sums-most m) (s .sums .ensures) ∙ even-line x 0)
     (e1 .even-of2 .ensures (sumsOf x) (sums-most m) (s .sums .ensures) ∙ even-line x 1)
     (o0 .odd-of .ensures (differencesOf x) (differences-most m) (t .differences .ensures) ∙ odd-line x 0)

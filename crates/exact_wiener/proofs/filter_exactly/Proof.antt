@@ -6,7 +6,8 @@ use Rattle.quads.specs.Lanes.{WholeBins, Lanes}
 use Rattle.quads.specs.LaneLaws.{lanes-start, lanes-at, lanes-turn, paired-doubles}
 use Rattle.quads.specs.FilterLaws.{pair-filtered}
 use Rattle.exact_wiener.specs.ExactQuads.{newExactly}
-use Rattle.exact_wiener.proofs.ExactGains.{new-exactly, exact-quads, whole-quad}
+use Rattle.exact_wiener.specs.ExactQuadLaws.{new-exactly}
+use Rattle.exact_wiener.proofs.ExactGains.{exact-quads, whole-quad}
 use Rattle.exact_wiener.proofs.filter_exactly.Statement.{statement}
 use Rattle.exact_wiener.proofs.filter_exactly.Tie as tie
 
@@ -51,7 +52,7 @@ loop-again c =
     let l = p .loop .n % 16 in
     let first = s .args .first in
     let second = s .args .second in
-    let e = new-exactly first second u l (a .quad-at .result) (o .of-plane .ensures) (q .quad .ensures) ∙ ap (newExactly first second u l) (a .quad-at .ensures) in
+    let e = new-exactly 24 first second u l (a .quad-at .result) (o .of-plane .ensures) (q .quad .ensures) ∙ ap (newExactly first second u l) (a .quad-at .ensures) in
     (omega arith, lanes-turn {u = u} {l = l} (p .loop .inv .1) (omega arith) (omega arith) (omega arith) (omega arith) (c .set-quad .ensures) e)
 
 returns : tie.Need-returns Inv-loop μ-loop

@@ -3,8 +3,8 @@ use Rattle.algebra.specs.Prelude.{ap₂, _∙_, [], _∷_, needs, w64}
 use lib.Ieee.{binary64, ofInt}
 use Rattle.lines.specs.Held.{number-is}
 use Rattle.recipe.specs.Correction.{wiener}
-use Rattle.bins.specs.Doubles.{exactGainsIn}
-use Rattle.exact_wiener.proofs.ExactLaws.{held-counted}
+use Rattle.bins.specs.Doubles.{exactGainsBy}
+use Rattle.bins.specs.ExactLaws.{held-counted}
 use Rattle.exact_wiener.proofs.gains.Statement.{statement}
 use Rattle.exact_wiener.proofs.gains.Tie as tie
 
@@ -15,7 +15,7 @@ int-to-float-t9 : tie.Need-int-to-float-t9
 int-to-float-t9 c = held-counted (c .before .before .wiener-part2 .ensures .1)
 
 returns : tie.Need-returns
-unfolding exactGainsIn
+unfolding exactGainsBy
 returns c =
     let h = c .before .before in
     let g = h .before in

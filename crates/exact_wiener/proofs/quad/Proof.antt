@@ -7,7 +7,7 @@ use Rattle.spectrum.specs.QuadLaws.{four, is-top}
 use Rattle.bins.specs.Doubles.{exactGainsIn}
 use Rattle.quads.specs.Lanes.{numberOf, binsIn, foldedIn, cornerIn, foldIn, WholeBins}
 use Rattle.quads.specs.QuadGains.{quad-corner, quad-others}
-use Rattle.exact_wiener.specs.ExactQuads.{exactQuad}
+use Rattle.exact_wiener.specs.ExactQuads.{exactQuadBy}
 use Rattle.exact_wiener.proofs.quad.Statement.{statement}
 use Rattle.exact_wiener.proofs.quad.Tie as tie
 
@@ -28,7 +28,7 @@ real-gain-requires-4 : tie.Need-real-gain-requires-4
 real-gain-requires-4 c κs = let b = c .before .before .before .before in (b .before .pre .noise-most, part (b .before .pre .whole) (b .bins .ensures) 3 (lit< tt))
 
 returns : tie.Need-returns
-unfolding exactQuad cornerIn binsIn
+unfolding exactQuadBy cornerIn binsIn
 returns c =
     let r = c .before in
     let p = r .before in
@@ -55,7 +55,7 @@ gains-requires-2 c κs =
     record { noise-most = b .before .pre .noise-most; first = w 2 (lit< tt); second = w 3 (lit< tt) }
 
 returns-2 : tie.Need-returns-2
-unfolding exactQuad foldIn
+unfolding exactQuadBy foldIn
 returns-2 c =
     let h = c .before in
     let g = h .before in

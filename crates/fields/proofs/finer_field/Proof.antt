@@ -16,10 +16,10 @@ use Rattle.fields.proofs.finer_field.Statement.{statement}
 use Rattle.fields.proofs.finer_field.Tie as tie
 
 abbrev Inv-loop : tie.InvT-loop
-Inv-loop work₀ area level coarse to rows columns summed₀ k₀ k-end work summed k = Placing work₀ to columns (rows * columns) (finer (levelAt level) (stepTo level) (coarse .rows) (coarse .columns) (pairIn work₀ area) (fieldAt work₀ (coarse .at) (coarse .columns))) k work × Summed (λ k. candidateRows (levelAt level .squared) (pairIn work₀ area) (levelTile (levelAt level) (k / columns) (k % columns)) (guessFrom level work₀ area coarse (levelTile (levelAt level) (k / columns) (k % columns)) (k / columns) (k % columns))) tileRowsMost (rows * columns) k summed
+Inv-loop work₀ area side level coarse to rows columns summed₀ k₀ k-end work summed k = Placing work₀ to columns (rows * columns) (finer (levelAt side level) (stepTo side level) (coarse .rows) (coarse .columns) (pairIn work₀ area) (fieldAt work₀ (coarse .at) (coarse .columns))) k work × Summed (λ k. candidateRows (levelAt side level .squared) (pairIn work₀ area) (levelTile (levelAt side level) (k / columns) (k % columns)) (guessFrom side level work₀ area coarse (levelTile (levelAt side level) (k / columns) (k % columns)) (k / columns) (k % columns))) tileRowsMost (rows * columns) k summed
 
 abbrev μ-loop : tie.MeasureT-loop
-μ-loop work₀ area level coarse to rows columns summed₀ k₀ k-end work summed k = rows * columns - k
+μ-loop work₀ area side level coarse to rows columns summed₀ k₀ k-end work summed k = rows * columns - k
 
 -- what the turn finds in the work area as it is
 kept : (c : tie.In-loop Inv-loop μ-loop) → Kept (c .before .before .args .work .now) (c .before .before .args .to) (c .before .loop .work)
@@ -37,6 +37,7 @@ finer-tile-requires c κs = let s = c .before .before .before in
     record {
       stored = kept-stored (kept (c .before)) (s .args .area) (s .pre .fits .stored) (s .pre .fits .before);
       vectors = kept-vectors (kept (c .before)) (s .args .coarse) (s .pre .ends .end) (s .pre .vectors);
+      sided = s .pre .sided;
       level-most = s .pre .level-most;
       row-most = at .0;
       column-most = at .1;
@@ -51,8 +52,8 @@ loop-again c = let t = c .before .before .before .before .before in
     let s = i .before .before in
     let a = s .args in
     let k = i .before .loop .k in
-    let l = levelAt (a .level) in
-    let f = stepTo (a .level) in
+    let l = levelAt (a .side) (a .level) in
+    let f = stepTo (a .side) (a .level) in
     let p = pairIn (a .work .now) (a .area) in
     let same = kept-pair (kept i) (a .area) (s .pre .fits .stored) (s .pre .fits .before) in
     let there = levelTile l (k / a .columns) (k % a .columns) in

@@ -1,5 +1,5 @@
 -- Each turn writes a tile's vector and adds its residual.
-use Rattle.geometry.specs.Tiles.{level0}
+use Rattle.geometry.specs.Tiles.{finestLevel}
 use Rattle.sequences.specs.Sum.{Summed, sum-start, sum-turn, sum-done, sum-most}
 use Rattle.residuals.specs.Magnitudes.{residualMost}
 use Rattle.search.specs.Rows.{candidateRows}
@@ -18,10 +18,10 @@ use Rattle.fields.proofs.finest_field.Statement.{statement}
 use Rattle.fields.proofs.finest_field.Tie as tie
 
 abbrev Inv-loop : tie.InvT-loop
-Inv-loop work area coarse vectors₀ to rows columns sum₀ summed₀ k₀ k-end vectors sum summed k = Placing vectors₀ to columns (rows * columns) (finestIn work area coarse) k vectors × Summed (λ k. residual (level0 .squared) (pairIn work area) (levelTile level0 (k / columns) (k % columns)) (numbered columns (finestIn work area coarse) k)) residualMost (rows * columns) k sum × Summed (λ k. candidateRows (level0 .squared) (pairIn work area) (levelTile level0 (k / columns) (k % columns)) (guessFrom 0 work area coarse (levelTile level0 (k / columns) (k % columns)) (k / columns) (k % columns))) tileRowsMost (rows * columns) k summed
+Inv-loop work area side coarse vectors₀ to rows columns sum₀ summed₀ k₀ k-end vectors sum summed k = Placing vectors₀ to columns (rows * columns) (finestIn side work area coarse) k vectors × Summed (λ k. residual (finestLevel side .squared) (pairIn work area) (levelTile (finestLevel side) (k / columns) (k % columns)) (numbered columns (finestIn side work area coarse) k)) residualMost (rows * columns) k sum × Summed (λ k. candidateRows (finestLevel side .squared) (pairIn work area) (levelTile (finestLevel side) (k / columns) (k % columns)) (guessFrom side 0 work area coarse (levelTile (finestLevel side) (k / columns) (k % columns)) (k / columns) (k % columns))) tileRowsMost (rows * columns) k summed
 
 abbrev μ-loop : tie.MeasureT-loop
-μ-loop work area coarse vectors₀ to rows columns sum₀ summed₀ k₀ k-end vectors sum summed k = rows * columns - k
+μ-loop work area side coarse vectors₀ to rows columns sum₀ summed₀ k₀ k-end vectors sum summed k = rows * columns - k
 
 mul-k-end : tie.Need-mul-k-end Inv-loop μ-loop
 mul-k-end c = omega (arith, tiles-few (c .pre .few))
@@ -29,7 +29,7 @@ mul-k-end c = omega (arith, tiles-few (c .pre .few))
 finer-tile-requires : tie.Need-finer-tile-requires Inv-loop μ-loop
 finer-tile-requires c κs = let s = c .before .before in
     let at = place-few (s .pre .few) (c .before .loop .k) (c .loop-test .taken) in
-    record { stored = s .pre .stored; vectors = s .pre .coarse-vectors; level-most = omega arith; row-most = at .0; column-most = at .1 }
+    record { stored = s .pre .stored; vectors = s .pre .coarse-vectors; sided = s .pre .sided; level-most = omega arith; row-most = at .0; column-most = at .1 }
 
 hand-over-requires : tie.Need-hand-over-requires Inv-loop μ-loop
 hand-over-requires c κs = (omega arith, c .before .before .finer-tile .ensures .near)

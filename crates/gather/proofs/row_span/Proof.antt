@@ -1,11 +1,12 @@
 -- The row lies in its frame, for the output and for the samples, and frames are small.
-use Rattle.algebra.specs.Prelude.{_+_, _*_, _≤_, _<_, arith, needs}
+use Rattle.algebra.specs.Prelude.{_+_, _-_, _*_, _/_, _%_, _≤_, _<_, arith, needs}
+use native.Mathlib.Nat.{mul-le-mul-right}
 use Rattle.geometry.specs.Shape.{rowStride, frameStride, sampleLength, outputLength}
 use Rattle.geometry.specs.ShapeLaws.{area-most, samples-most}
 use Rattle.geometry.specs.ReadLaws.{frame-room}
-use Rattle.tiles.specs.Rows.{rowWords}
 use Rattle.gather.specs.Work.{rowSpan}
 use Rattle.gather.specs.Places.{output-room, frame-row-room}
+use Rattle.gather.proofs.Weighing.{side-most, half-above, quotient-most, row-in-half, place-most}
 use Rattle.gather.proofs.row_span.Statement.{statement}
 use Rattle.gather.proofs.row_span.Tie as tie
 
@@ -17,6 +18,7 @@ room : (c : tie.Start) → let s = c .args .shape in let row = 2 * c .args .y + 
       frame : c .args .reference * frameStride s + frameStride s ≤ s .count * frameStride s;
       samples-small : s .count * frameStride s ≤ 142606336;
       longer : s .width ≤ rowStride s;
+      from-top : (row - c .args .top) * s .width ≤ row * s .width;
     }
 unfolding outputLength sampleLength
 room c =
@@ -30,24 +32,43 @@ room c =
       frame = frame-room s (c .args .reference) (w .reference-below);
       samples-small = samples-most (w .allowed);
       longer = w .allowed .row-least;
+      from-top = mul-le-mul-right (s .width) (omega arith);
     }
 
-mul-start : tie.Need-mul-start
-mul-start c = omega (arith, room (c .before .before .before))
+-- where rows of pairs lie in the work area
+above-most : (c : tie.Start) → let n = c .args .shape .side in n * (c .args .y % (n / 2) + n / 2) ≤ 1024
+above-most c = place-most (c .pre .sided) (c .args .y)
+
+below-most : (c : tie.Start) → let n = c .args .shape .side in n * (c .args .y % (n / 2)) ≤ 1024
+below-most c = omega (arith, above-most c)
+
+add-above : tie.Need-add-above
+add-above c =
+    let s = c .before .before .before .before in
+    omega (arith, row-in-half (s .pre .sided) (s .args .y), side-most (s .pre .sided))
+
+add-above-2 : tie.Need-add-above-2
+add-above-2 c = omega (arith, above-most (c .before .before .before .before), c .slot .ensures .most)
+
+add-slot : tie.Need-add-slot
+add-slot c =
+    let s = c .before .before .before .before in
+    omega (arith, quotient-most (s .pre .sided) (s .args .y), s .pre .row, s .pre .allowed .high .most)
+
+add-below : tie.Need-add-below
+add-below c = omega (arith, below-most (c .before .before .before .before .before), c .slot2 .ensures .most)
 
 returns : tie.Need-returns
-unfolding rowSpan rowWords sampleLength outputLength
+unfolding rowSpan sampleLength outputLength
 returns c =
     let s = c .before .before .before .before .before in
     let r = room s in
-    let wide = s .pre .allowed .wide .most in
     let above = c .before .slot .ensures in
     let below = c .slot2 .ensures in (
-      rw (above .0, below .0),
+      rw (above .is, below .is),
       record {
-        small = record { from = omega (arith, r); start = omega (arith, r); above = omega (arith, above, wide); below = omega (arith, below, wide) };
+        small = record { from = omega (arith, r); start = omega (arith, r); above = omega (arith, above .most, above-most s); below = omega (arith, below .most, below-most s) };
         samples = omega (arith, r);
-        output = omega (arith, r);
       },
     )
 
@@ -55,5 +76,10 @@ pub row-span-spec : {M : Type 1} → statement M
 row-span-spec = tie.close (tie.spec
     (λ c. search needs) (λ c. search needs) (λ c. omega (arith, room (c .before)))
     (λ c. omega (arith, room (c .before))) (λ c. omega (arith, room (c .before .before)))
-    (λ c. omega (arith, room (c .before .before))) mul-start (λ c κs. search needs)
-    (λ c. search needs) (λ c κs. search needs) returns)
+    (λ c. omega (arith, room (c .before .before))) (λ c. c .before .before .pre .under) (λ c. omega (arith, room (c .before .before .before)))
+    (λ c. half-above (c .before .before .before .pre .sided)) (λ c. half-above (c .before .before .before .pre .sided))
+    (λ c κs. (side-most (c .before .before .before .pre .sided), c .before .before .before .pre .allowed .wide .most))
+    add-above (λ c. omega (arith, above-most (c .before .before .before .before))) add-above-2
+    (λ c. half-above (c .before .before .before .before .pre .sided)) add-slot
+    (λ c κs. (side-most (c .before .before .before .before .pre .sided), c .before .before .before .before .pre .allowed .wide .most))
+    (λ c. omega (arith, below-most (c .before .before .before .before .before))) add-below returns)

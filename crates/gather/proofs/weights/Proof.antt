@@ -1,30 +1,35 @@
 -- A row of weights, filled from the front, two a turn.
-use Rattle.algebra.specs.Prelude.{_≡_, refl, _∙_, _-_, _*_, arith, needs, w64, toZ, ofZ}
-use Rattle.sequences.specs.TabLaws.{Filled, fill-start, fill-done}
-use Rattle.gather.specs.Gather.{weightRow}
-use Rattle.gather.proofs.Weighing.{weightOf, weights-turn}
+use Rattle.algebra.specs.Prelude.{_≡_, refl, subst, _∙_, _-_, _*_, _≤_, _<_, arith, needs, w64, toZ, ofZ}
+use Rattle.sequences.specs.TabLaws.{Filled, fill-start}
+use Rattle.gather.specs.Gather.{weightOf}
+use Rattle.gather.proofs.Weighing.{weights-turn, weights-done, side-most}
 use Rattle.gather.proofs.weights.Statement.{statement}
 use Rattle.gather.proofs.weights.Tie as tie
 
 abbrev Inv-loop : tie.InvT-loop
-Inv-loop window i row₀ j₀ row j = Filled (weightOf i) 32 (2 * j) row₀ row
+Inv-loop window side i row₀ j₀ row j = (Filled (weightOf side i) 64 (2 * j) row₀ row) × (j ≤ side)
 
 abbrev μ-loop : tie.MeasureT-loop
-μ-loop window i row₀ j₀ row j = 16 - j
+μ-loop window side i row₀ j₀ row j = side - j
 
 loop-again : tie.Need-loop-again Inv-loop μ-loop
 loop-again c =
     let w = c .weight in
+    let l = c .before .before in
+    let s = l .before in
     let e : toZ w64 (ofZ w64 (w .result)) ≡ w .result = search needs in
-    weights-turn (c .before .before .before .args .i) (c .before .before .loop .j) (c .before .before .loop .inv) (omega arith) (e ∙ w .ensures .0)
+    (weights-turn (s .args .side) (s .args .i) (l .loop .j) (l .loop .inv .0) (omega (arith, side-most (s .pre .sided))) (e ∙ w .ensures .0), omega arith)
 
 returns : tie.Need-returns Inv-loop μ-loop
-unfolding weightRow
-returns c = fill-done (c .before .loop .inv) (omega arith)
+returns c =
+    let l = c .before in
+    let s = l .before in
+    let all : l .loop .j ≡ s .args .side = omega (arith, l .loop .inv .1) in
+    weights-done (s .args .side) (s .args .i) (subst (λ n. Filled (weightOf (s .args .side) (s .args .i)) 64 (2 * n) _ (l .loop .row)) all (l .loop .inv .0))
 
 pub weights-spec : {M : Type 1} → statement M
 weights-spec = tie.close (tie.spec
-    Inv-loop μ-loop (λ c. fill-start refl) (λ c κs. search needs) (λ c. search needs)
-    (λ c. search needs) (λ c. search needs) (λ c. search needs) (λ c. search needs)
-    (λ c. search needs) (λ c. search needs) (λ c. search needs) (λ c. search needs) loop-again
+    Inv-loop μ-loop (λ c. (fill-start refl, omega arith)) (λ c κs. search needs) (λ c. search needs)
+    (λ c. search needs) (λ c. omega (arith, side-most (c .before .before .before .pre .sided))) (λ c. search needs) (λ c. search needs)
+    (λ c. omega (arith, side-most (c .before .before .before .pre .sided))) (λ c. omega (arith, side-most (c .before .before .before .pre .sided))) (λ c. search needs) (λ c. search needs) loop-again
     returns)

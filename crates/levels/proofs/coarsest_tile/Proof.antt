@@ -1,5 +1,5 @@
 -- The reference's samples of the tile are copied, and the search starts from no motion.
-use Rattle.algebra.specs.Prelude.{refl, ap, _∙_, true, arith, needs, lit≤}
+use Rattle.algebra.specs.Prelude.{_≡_, refl, ap, _∙_, true, _+_, _*_, arith, needs, lit≤}
 use mathlib.Core.Logic.{inl}
 use Rattle.search.specs.RowLaws.{eight-rows-most}
 use Rattle.levels.specs.Fields.{levelTile}
@@ -11,32 +11,40 @@ use Rattle.levels.proofs.Answers.{coarsest-answer, eight-side}
 use Rattle.levels.proofs.coarsest_tile.Statement.{statement}
 use Rattle.levels.proofs.coarsest_tile.Tie as tie
 
+tile-at-requires : tie.Need-tile-at-requires
+tile-at-requires c κs = record { sided = record { is = inl refl }; level-most = lit≤ tt; row-most = c .pre .row-most; column-most = c .pre .column-most }
+
+eight : (c : tie.After-tile-at) → c .tile-at .result .side ≡ 8
+eight c = ap (λ t. t .side) (c .tile-at .ensures .0) ∙ eight-side (c .before .args .row) (c .before .args .column)
+
 copy-square-requires : tie.Need-copy-square-requires
-copy-square-requires c κs = let t = c .before .before .tile-at .ensures in copyable (c .before .before .before .pre .stored) (t .1)
+copy-square-requires c κs = let t = c .before .before in copyable (t .before .pre .stored) (t .tile-at .ensures .1) (omega (arith, ap (λ n. n * n) (eight t)))
 
 refine-requires : tie.Need-refine-requires
-refine-requires c κs = let s = c .before .before .before .before .before .before in
-    let t = c .before .before .before .before .before .tile-at .ensures in
+refine-requires c κs = let t = c .before .before .before .before .before .before in
+    let s = t .before in
     record {
-      ready = ready (s .pre .stored) (t .1) (omega arith) (c .before .before .copy-square .ensures);
-      kind = record { is = inl (ap (λ t. t .side) (t .0) ∙ eight-side (s .args .row) (s .args .column), refl) };
+      ready = ready (s .pre .stored) (t .tile-at .ensures .1) (omega (arith, ap (λ n. n * n) (eight t))) (omega arith) (c .before .before .before .copy-square .ensures);
+      kind = record { is = inl (record { is = inl (eight t, refl) }) };
+      room = omega (arith, ap (λ n. (n + 8) * (n + 8)) (eight t));
       near = record { vertical = lit≤ tt; sideways = lit≤ tt };
       few-before = lit≤ tt;
     }
 
 returns : tie.Need-returns
-returns c = let s = c .before .before .before .before .before .before .before in
+returns c = let s = c .before .before .before .before .before .before .before .before .before in
     let a = s .args in
-    let t = c .before .before .before .before .before .before .tile-at in
+    let t = c .before .before .before .before .before .before .before .before .tile-at in
+    let m = c .before .refine in
     let p = pairIn (a .words .now) (a .area) in
-    let e = coarsest-answer level3 p (a .row) (a .column) (t .result) (c .refine .result) (t .ensures .0) (c .refine .ensures .0) in
+    let e = coarsest-answer level3 p (a .row) (a .column) (t .result) (m .result) (t .ensures .0) (m .ensures .0) in
     record {
       is = e;
-      near = answer-within true p (t .result) still _ (c .refine .result) (c .refine .ensures .0) 0 (record { vertical = lit≤ tt; sideways = lit≤ tt });
+      near = answer-within true p (t .result) still _ (m .result) (m .ensures .0) 0 (record { vertical = lit≤ tt; sideways = lit≤ tt });
       few = omega (arith, ap (λ r. r .rows) e, eight-rows-most true p (levelTile level3 (a .row) (a .column)) still (eight-side (a .row) (a .column)));
     }
 
 pub coarsest-tile-spec : {M : Type 1} → statement M
 coarsest-tile-spec = tie.close (tie.spec
-    (λ c κs. search needs) (λ c. search needs) copy-square-requires (λ c. search needs)
-    refine-requires returns)
+    tile-at-requires (λ c. search needs) copy-square-requires (λ c. search needs)
+    (λ c. search needs) refine-requires returns)

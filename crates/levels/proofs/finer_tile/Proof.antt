@@ -1,48 +1,66 @@
--- The reference's samples of the tile are copied once, for the candidates and for the search.
-use Rattle.search.specs.RowLaws.{sixteen-rows-most}
+-- The side decides how long the arrays are; either way the answer is the definition's.
+use Rattle.algebra.specs.Prelude.{_≡_, sym, ap, subst, _≤_, arith, needs}
+use mathlib.Core.Logic.{⊎-elim}
+use Rattle.geometry.specs.Fits.{TileSide}
+use Rattle.residuals.specs.declared.Tile.{Tile}
+use Rattle.matching.specs.declared.Found.{Found}
+use Rattle.matching.specs.Stored.{pairIn}
+use Rattle.search.specs.Local.{Kind}
 use Rattle.levels.specs.Fields.{levelAt, levelTile}
 use Rattle.levels.specs.Steps.{stepTo}
-use Rattle.matching.specs.Stored.{pairIn}
-use Rattle.matching.specs.StoredLaws.{copyable, ready}
-use Rattle.levels.proofs.Answers.{finer-answer, finer-side}
-use Rattle.levels.specs.Grids.{fieldAt, guessFrom}
-use Rattle.algebra.specs.Prelude.{ap, _∙_, arith, needs}
+use Rattle.levels.specs.Grids.{fieldAt, guessFrom, finerAnswer, Finer, FinerFound}
+use Rattle.levels.proofs.Answers.{finer-answer, finer-sided, finer-kind, finer-few}
 use Rattle.levels.proofs.finer_tile.Statement.{statement}
 use Rattle.levels.proofs.finer_tile.Tie as tie
 
-copy-square-requires : tie.Need-copy-square-requires
-copy-square-requires c κs = let t = c .before .before .tile-at .ensures in copyable (c .before .before .before .pre .stored) (t .1)
-
-refine-coarse-requires : tie.Need-refine-coarse-requires
-refine-coarse-requires c κs = let s = c .before .before .before .before .before .before in
+-- what the tile's vector needs
+finer : (c : tie.After-tile-at) → let a = c .before .args in Finer (a .words .now) (a .area) (c .tile-at .result) (a .side) (a .level) (a .coarse) (a .row) (a .column)
+finer c =
+    let s = c .before in
     let a = s .args in
-    let t = c .before .before .before .before .before .tile-at .ensures in
+    let t = c .tile-at .ensures in
     record {
-      ready = ready (s .pre .stored) (t .1) (omega arith) (c .before .before .copy-square .ensures);
-      sixteen = ap (λ t. t .side) (t .0) ∙ finer-side (a .level) (a .row) (a .column) (s .pre .level-most);
+      stored = s .pre .stored;
+      placed = t .1;
+      tile-sided = subst (λ t. TileSide (t .side)) (sym (t .0)) (finer-sided (a .side) (a .level) (a .row) (a .column) (s .pre .sided) (s .pre .level-most));
+      kind = subst (λ t. Kind (levelAt (a .side) (a .level) .squared) (t .side)) (sym (t .0)) (finer-kind (a .side) (a .level) (a .row) (a .column) (s .pre .sided) (s .pre .level-most));
+      sided = s .pre .sided;
       vectors = s .pre .vectors;
       level-most = s .pre .level-most;
       row-most = s .pre .row-most;
       column-most = s .pre .column-most;
     }
 
-returns : tie.Need-returns
-returns c = let s = c .before .before .before .before .before .before .before in
+-- what is found is the definition's
+is : (c : tie.After-tile-at) (r : Found) → let a = c .before .args in FinerFound (a .words .now) (a .area) (c .tile-at .result) (a .side) (a .level) (a .coarse) (a .row) (a .column) r → r ≡ finerAnswer (a .side) (a .level) (a .words .now) (a .area) (a .coarse) (a .row) (a .column)
+is c r f =
+    let a = c .before .args in
+    finer-answer (levelAt (a .side) (a .level)) (pairIn (a .words .now) (a .area)) (a .row) (a .column) (c .tile-at .result) r (c .tile-at .ensures .0) (stepTo (a .side) (a .level)) (a .coarse .rows) (a .coarse .columns) (fieldAt (a .words .now) (a .coarse .at) (a .coarse .columns)) (f .is)
+
+few : (c : tie.After-tile-at) (r : Found) → let a = c .before .args in r ≡ finerAnswer (a .side) (a .level) (a .words .now) (a .area) (a .coarse) (a .row) (a .column) → r .rows ≤ 2688
+few c r e =
+    let s = c .before in
     let a = s .args in
-    let t = c .before .before .before .before .before .before .tile-at in
-    let l = levelAt (a .level) in
-    let p = pairIn (a .words .now) (a .area) in
-    let m = c .refine-coarse in
-    let e =
-    finer-answer l p (a .row) (a .column) (t .result) (m .result) (t .ensures .0) (stepTo (a .level)) (a .coarse .rows) (a .coarse .columns) (fieldAt (a .words .now) (a .coarse .at) (a .coarse .columns)) (m .ensures .is) in
-    record {
-      is = e;
-      near = m .ensures .near;
-      most = m .ensures .most;
-      few = omega (arith, ap (λ r. r .rows) e, sixteen-rows-most (l .squared) p (levelTile l (a .row) (a .column)) (guessFrom (a .level) (a .words .now) (a .area) (a .coarse) (levelTile l (a .row) (a .column)) (a .row) (a .column)) (finer-side (a .level) (a .row) (a .column) (s .pre .level-most)));
-    }
+    let l = levelAt (a .side) (a .level) in
+    omega (arith, ap (λ r. r .rows) e, finer-few (a .side) (a .level) (a .row) (a .column) (s .pre .sided) (s .pre .level-most) (l .squared) (pairIn (a .words .now) (a .area)) (guessFrom (a .side) (a .level) (a .words .now) (a .area) (a .coarse) (levelTile l (a .row) (a .column)) (a .row) (a .column)))
+
+narrow-tile-requires : tie.Need-narrow-tile-requires
+narrow-tile-requires c κs = let t = c .before .before in
+    let f = finer t in
+    (f, ⊎-elim (λ e. e) (λ e. absurd (c .if1 .left e)) (f .tile-sided .is))
+
+returns : tie.Need-returns
+returns c = let t = c .before .before .before in
+    let m = c .wide-tile in
+    let e = is t (m .result) (m .ensures) in
+    record { is = e; near = m .ensures .near; most = m .ensures .most; few = few t (m .result) e }
+
+returns-2 : tie.Need-returns-2
+returns-2 c = let t = c .before .before .before in
+    let m = c .narrow-tile in
+    let e = is t (m .result) (m .ensures) in
+    record { is = e; near = m .ensures .near; most = m .ensures .most; few = few t (m .result) e }
 
 pub finer-tile-spec : {M : Type 1} → statement M
 finer-tile-spec = tie.close (tie.spec
-    (λ c κs. search needs) (λ c. search needs) copy-square-requires (λ c. search needs)
-    refine-coarse-requires returns)
+    (λ c κs. search needs) (λ c κs. (finer (c .before .before), c .if1 .taken)) returns narrow-tile-requires returns-2)

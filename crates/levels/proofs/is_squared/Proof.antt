@@ -5,11 +5,11 @@ use Rattle.levels.specs.Fields.{levelAt}
 use Rattle.levels.proofs.is_squared.Statement.{statement}
 use Rattle.levels.proofs.is_squared.Tie as tie
 
-is : (level : ℕ) → not (eqb level 0) ≡ levelAt level .squared
-is zero = refl
-is (suc zero) = refl
-is (suc (suc zero)) = refl
-is (suc (suc (suc k))) = rw (ne-eqb (suc (suc (suc k))) 0 (λ e. omega arith))
+is : (side level : ℕ) → not (eqb level 0) ≡ levelAt side level .squared
+is side zero = refl
+is side (suc zero) = refl
+is side (suc (suc zero)) = refl
+is side (suc (suc (suc k))) = rw (ne-eqb (suc (suc (suc k))) 0 (λ e. omega arith))
 
 pub is-squared-spec : {M : Type 1} → statement M
-is-squared-spec = tie.close (tie.spec (λ c. is (c .args .level)))
+is-squared-spec = tie.close (tie.spec (λ c. is (c .args .side) (c .args .level)))

@@ -13,18 +13,31 @@ use Rattle.matching.specs.Stored.{pairIn, answer}
 use Rattle.matching.specs.StoredLaws.{answer-within}
 use Rattle.levels.specs.Grids.{fieldAt}
 use Rattle.search.specs.Rows.{searchRows}
-use Rattle.algebra.specs.Prelude.{_≡_, ap, ap₂, _∙_, ℕ, _+_, _*_, needs}
+use Rattle.search.specs.Local.{Kind}
+use Rattle.algebra.specs.Prelude.{_≡_, sym, ap, ap₂, subst, _∙_, ℕ, _+_, _*_, needs}
 use Rattle.levels.proofs.refine_coarse.Statement.{statement}
 use Rattle.levels.proofs.refine_coarse.Tie as tie
 
+coarse-vector-requires : tie.Need-coarse-vector-requires
+coarse-vector-requires c κs = record { vectors = c .before .before .before .before .before .before .before .before .before .before .before .before .before .before .pre .finer .vectors; row-below = c .before .before .before .before .before .before .capped .ensures .1; column-below = c .before .before .capped3 .ensures .1; factor-most = c .before .before .before .before .before .before .before .before .factor .ensures .1 }
+
+coarse-vector-requires-2 : tie.Need-coarse-vector-requires-2
+coarse-vector-requires-2 c κs = record { vectors = c .before .before .before .before .before .before .before .before .before .before .before .before .before .before .before .pre .finer .vectors; row-below = c .before .before .before .before .before .before .before .capped .ensures .1; column-below = c .before .capped4 .ensures .1; factor-most = c .before .before .before .before .before .before .before .before .before .factor .ensures .1 }
+
+coarse-vector-requires-3 : tie.Need-coarse-vector-requires-3
+coarse-vector-requires-3 c κs = record { vectors = c .before .before .before .before .before .before .before .before .before .before .before .before .before .before .before .before .pre .finer .vectors; row-below = c .before .before .before .before .before .before .capped2 .ensures .1; column-below = c .before .before .before .before .capped3 .ensures .1; factor-most = c .before .before .before .before .before .before .before .before .before .before .factor .ensures .1 }
+
 refine-candidates-requires : tie.Need-refine-candidates-requires
-refine-candidates-requires c κs = let s = c .before .before .before .before .before .before .before .before .before .before .before .before .before .before .before in
+refine-candidates-requires c κs = let s = c .before .before .before .before .before .before .before .before .before .before .before .before .before .before .before .before .before .before .before in
     record {
       ready = s .pre .ready;
-      sixteen = s .pre .sixteen;
-      own-near = c .before .before .coarse-vector .ensures .1;
-      sideways-near = c .before .coarse-vector2 .ensures .1;
-      vertically-near = c .coarse-vector3 .ensures .1;
+      sided = s .pre .finer .tile-sided;
+      kind = subst (λ q. Kind q (s .args .tile .side)) (sym (c .before .before .before .before .before .before .before .before .before .before .before .before .before .before .before .is-squared .ensures)) (s .pre .finer .kind);
+      window-room = s .pre .roomy .window-room;
+      other-room = s .pre .roomy .other-room;
+      own-near = c .before .before .before .before .coarse-vector .ensures .1;
+      sideways-near = c .before .before .before .coarse-vector2 .ensures .1;
+      vertically-near = c .before .before .coarse-vector3 .ensures .1;
     }
 
 made : (s : Step) (rows columns : ℕ) (p : Pair) (t : Tile) (field : VectorField) (row column q f r r′ k k′ : ℕ) (x y z : Vector) → q ≡ s .quotient → f ≡ s .factor → r ≡ capped rows (own q row) → r′ ≡ capped rows (neighbour q row) → k ≡ capped columns (own q column) → k′ ≡ capped columns (neighbour q column) → x ≡ field r k times f → y ≡ field r k′ times f → z ≡ field r′ k times f → guessed p t x y z ≡ fromCoarse s rows columns p t field row column
@@ -32,24 +45,24 @@ unfolding fromCoarse
 made s rows columns p t field row column q f r r′ k k′ x y z eq ef er er′ ek ek′ ex ey ez = rw (ex, ey, ez, er, er′, ek, ek′, eq, ef)
 
 returns : tie.Need-returns
-returns c = let v = c .before .before .before in
+returns c = let v = c .before .before .before .before .before .before .before .before .before in
     let k′ = v .before in
     let k = k′ .before .before in
     let r′ = k .before .before in
     let r = r′ .before .before in
     let f = r .before .before in
     let q = f .before .before in
-    let s = q .before .before in
+    let s = q .before .before .before .before in
     let a = s .args in
     let p = pairIn (a .words .now) (a .area) in
     let x = v .coarse-vector in
-    let y = c .before .before .coarse-vector2 in
-    let z = c .before .coarse-vector3 in
-    let m = c .refine-candidates in
+    let y = c .before .before .before .before .before .before .before .before .coarse-vector2 in
+    let z = c .before .before .before .before .before .before .before .coarse-vector3 in
+    let m = c .before .before .before .before .refine-candidates in
     record {
       is = m .ensures .0
           ∙ ap₂ (λ q v. answer q p (a .tile) (bestVector q p (a .tile) v) (3 * a .tile .side + searchRows q p (a .tile) v)) (q .is-squared .ensures)
-          (made (stepTo (a .level)) (a .coarse .rows) (a .coarse .columns) p (a .tile) (fieldAt (a .words .now) (a .coarse .at) (a .coarse .columns)) (a .row) (a .column) _ _ _ _ _ _ _ _ _
+          (made (stepTo (a .side) (a .level)) (a .coarse .rows) (a .coarse .columns) p (a .tile) (fieldAt (a .words .now) (a .coarse .at) (a .coarse .columns)) (a .row) (a .column) _ _ _ _ _ _ _ _ _
           (f .before .quotient .ensures .0) (f .factor .ensures .0)
           (r .capped .ensures .0 ∙ ap (capped (a .coarse .rows)) (r .before .own .ensures))
           (r′ .capped2 .ensures .0 ∙ ap (capped (a .coarse .rows)) (r′ .before .neighbour .ensures))
@@ -64,5 +77,5 @@ pub refine-coarse-spec : {M : Type 1} → statement M
 refine-coarse-spec = tie.close (tie.spec
     (λ c κs. search needs) (λ c κs. search needs) (λ c κs. search needs) (λ c κs. search needs)
     (λ c κs. search needs) (λ c κs. search needs) (λ c κs. search needs) (λ c κs. search needs)
-    (λ c κs. search needs) (λ c κs. search needs) (λ c κs. search needs) (λ c κs. search needs)
-    (λ c κs. search needs) (λ c κs. search needs) refine-candidates-requires returns)
+    (λ c κs. search needs) (λ c κs. search needs) (λ c κs. search needs) coarse-vector-requires
+    coarse-vector-requires-2 coarse-vector-requires-3 refine-candidates-requires (λ c. search needs) (λ c. search needs) returns)

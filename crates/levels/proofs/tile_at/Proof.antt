@@ -17,7 +17,7 @@ returns c = let a = c .before .before .before .args in
     let d = c .before .origin in
     let r = c .origin2 in
     rw (back (d .result) (d .ok), back (r .result) (r .ok))
-    (made (levelAt (a .level)) (h .result) (a .row) (a .column) (d .result) (r .result) (h .ensures .is) (h .ensures .twice) (d .ensures .0) (r .ensures .0), record { small = omega arith; eights = omega arith; near = record { vertical = d .ensures .1 .most; sideways = r .ensures .1 .most } })
+    (made (levelAt (a .side) (a .level)) (h .result) (a .row) (a .column) (d .result) (r .result) (h .ensures .is) (h .ensures .twice) (d .ensures .0) (r .ensures .0), record { small = omega arith; eights = omega arith; near = record { vertical = d .ensures .1 .most; sideways = r .ensures .1 .most } })
 
 pub tile-at-spec : {M : Type 1} → statement M
 tile-at-spec = tie.close (tie.spec

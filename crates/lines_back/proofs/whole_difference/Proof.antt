@@ -1,5 +1,6 @@
 -- `lines_back::whole_difference`: both numbers fit, and so does what they make.
-use Rattle.lines_back.proofs.WholeHalves.{whole-fits, difference-fits, difference-is}
+use Rattle.lines.specs.DoubleCasts.{whole-fits}
+use Rattle.lines_back.proofs.WholeHalves.{difference-fits, difference-is}
 use Rattle.lines_back.proofs.whole_difference.Statement.{statement}
 use Rattle.lines_back.proofs.whole_difference.Tie as tie
 

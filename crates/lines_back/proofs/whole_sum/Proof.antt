@@ -1,5 +1,6 @@
 -- `lines_back::whole_sum`: both numbers fit, and so does what they make.
-use Rattle.lines_back.proofs.WholeHalves.{whole-fits, sum-fits, sum-is}
+use Rattle.lines.specs.DoubleCasts.{whole-fits}
+use Rattle.lines_back.proofs.WholeHalves.{sum-fits, sum-is}
 use Rattle.lines_back.proofs.whole_sum.Statement.{statement}
 use Rattle.lines_back.proofs.whole_sum.Tie as tie
 

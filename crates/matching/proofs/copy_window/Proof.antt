@@ -1,5 +1,4 @@
 -- The window starts 4 rows and columns before the tile moved by the guess.
-use native.Mathlib.Nat.{mul-le-mul}
 use Rattle.algebra.specs.Prelude.{_≡_, ap, _∙_, _^_, arith, needs, lit≤, negsuc}
 use Rattle.search.specs.Vectors.{_plus_}
 use Rattle.patches.specs.Bounds.{Within}
@@ -20,12 +19,12 @@ copy-square-requires : tie.Need-copy-square-requires
 copy-square-requires c κs = let s = c .before .before .before .before .before .before in
     let h = s .pre .placed in
     let four : Within 4 (record { down = negsuc 3; right = negsuc 3 }) = record { vertical = lit≤ tt; sideways = lit≤ tt } in
-    record { source = s .pre .stored .other; near = rw (corner (c .before .before)) (within-more (2 ^ 20) (plus-within (plus-within (h .near) (s .pre .near)) four) (lit≤ tt)); small = omega (arith, h .small); eights = omega (arith, h .eights); room = omega (arith, h .small, mul-le-mul (h .small) (h .small)) }
+    record { source = s .pre .stored .other; near = rw (corner (c .before .before)) (within-more (2 ^ 20) (plus-within (plus-within (h .near) (s .pre .near)) four) (lit≤ tt)); small = omega (arith, h .small); eights = omega (arith, h .eights); room = s .pre .room }
 
 returns : tie.Need-returns
 unfolding pairIn
-returns c = let small = c .before .before .before .before .before .before .before .before .before .pre .placed .small in
-    record { room = omega (arith, mul-le-mul small small); copied = rw (corner (c .before .before .before .before .before)) at (c .before .before .copy-square .ensures) }
+returns c = let s = c .before .before .before .before .before .before .before .before .before in
+    record { room = omega (arith, s .pre .room); copied = rw (corner (c .before .before .before .before .before)) at (c .before .before .copy-square .ensures) }
 
 pub copy-window-spec : {M : Type 1} → statement M
 copy-window-spec = tie.close (tie.spec

@@ -1,39 +1,47 @@
--- The two row parities, one after the other.
-use Rattle.algebra.specs.Prelude.{_*_, _≤_, arith, needs, lit<}
-use native.Mathlib.Nat.{mul-le-mul-left}
+-- All rows: two rows of pairs of tiles lie in the work area.
+use Rattle.algebra.specs.Prelude.{_≡_, sym, ap, _∙_, _-_, _*_, _/_, _≤_, arith, needs, now}
+use native.Mathlib.Nat.{mul-le-mul-left, mul-comm}
 use Rattle.geometry.specs.declared.Shape.{Shape}
 use Rattle.geometry.specs.Shape.{outputLength, workLength}
-use Rattle.geometry.specs.Fits.{Allowed}
-use Rattle.recipe.specs.Scene.{sceneOf}
+use Rattle.geometry.specs.Fits.{Allowed, TileSide}
+use Rattle.recipe.specs.Scene.{sceneAt, sceneOf}
 use Rattle.tiles.specs.Rows.{rowWords}
-use Rattle.merging.proofs.Advance.{all-merged}
+use Rattle.tiles.specs.Places.{by-side}
+use Rattle.merging.proofs.Advance.{rows-whole, whole-merged}
+use Rattle.merging.proofs.Bands.{side-above}
 use Rattle.merging.proofs.merge_frames.Statement.{statement}
 use Rattle.merging.proofs.merge_frames.Tie as tie
 
--- two rows of pairs of tiles lie in the work area
-rows-fit : {s : Shape} → Allowed s → 2 * rowWords (s .width) ≤ workLength s
+rows-fit : {s : Shape} → Allowed s → TileSide (s .side) → 2 * rowWords (s .side) (s .width) ≤ workLength s
 unfolding rowWords workLength
-rows-fit {s} ok = omega (arith, mul-le-mul-left {m = 64} {n = s .height} (s .width) (ok .high .least))
+rows-fit {s} ok sided =
+    let narrow : 4 * s .side * s .width ≤ 128 * s .width = by-side sided (λ n. 4 * n * s .width ≤ 128 * s .width) (omega arith) (omega arith) in
+    omega (arith, narrow, mul-le-mul-left {m = 64} {n = s .height} (s .width) (ok .high .least))
 
-merge-parity-requires : tie.Need-merge-parity-requires
-merge-parity-requires c κs =
-    let s = c .before .before .before .before in
-    record { accepted = s .pre .accepted; parity = lit< tt; output-long = s .pre .output-long; room = omega (arith, rows-fit (s .pre .accepted .burst .allowed), s .pre .work-long) }
+all-rows : {s : Shape} → Allowed s → TileSide (s .side) → outputLength s ≡ (s .side * (s .height / s .side) - s .side * 0) * s .width
+unfolding outputLength
+all-rows {s} ok sided = mul-comm (s .width) (s .height) ∙ ap (λ k. k * s .width) (sym (rows-whole sided (s .height) (ok .high .whole)))
 
-merge-parity-requires-2 : tie.Need-merge-parity-requires-2
-merge-parity-requires-2 c κs =
-    let p = c .before .before .before .before .before in
-    let s = p .before .before .before .before .before in
-    record { accepted = s .pre .accepted; parity = lit< tt; output-long = omega (arith, p .merge-parity .kept, s .pre .output-long); room = omega (arith, p .merge-parity .kept, rows-fit (s .pre .accepted .burst .allowed), s .pre .work-long) }
+merge-rows-requires : tie.Need-merge-rows-requires
+merge-rows-requires c κs =
+    let s = c .before .before .before .before .before in
+    let ok = s .pre .accepted .burst .allowed in
+    let sided = s .pre .accepted .burst .sided in
+    record {
+      accepted = s .pre .accepted;
+      ordered = omega arith;
+      last-most = omega arith;
+      output-long = s .pre .output-long ∙ all-rows ok sided;
+      room = omega (arith, rows-fit ok sided, s .pre .work-long);
+    }
 
 returns : tie.Need-returns
-unfolding outputLength sceneOf
+unfolding sceneAt
 returns c =
-    let q = c .before .before .before in
-    let p = q .before .before .before .before .before .before in
-    let s = p .before .before .before .before .before in
-    all-merged (s .pre .accepted .burst .allowed .high) (s .pre .output-long) (p .merge-parity .ensures) (q .merge-parity2 .ensures)
+    let r = c .before .before .before in
+    let s = r .before .before .before .before .before .before in
+    r .merge-rows .ensures ∙ whole-merged (s .pre .accepted .burst .sided) (sceneOf (s .args .m) (now (s .args .samples)) (now (s .args .vectors))) (s .pre .accepted .burst .allowed .high)
 
 pub merge-frames-spec : {M : Type 1} → statement M
 merge-frames-spec = tie.close (tie.spec
-    merge-parity-requires merge-parity-requires-2 (λ c. search needs) (λ c. search needs) returns)
+    (λ c. side-above (c .before .before .before .pre .accepted .burst .sided)) merge-rows-requires (λ c. search needs) (λ c. search needs) returns)

@@ -1,5 +1,5 @@
 -- `pipeline::run_levels`: the vectors found are those that align defines, so they fit, and the merge is theirs.
-use Rattle.algebra.specs.Prelude.{sym, ap, subst, _∙_, needs}
+use Rattle.algebra.specs.Prelude.{refl, sym, ap, subst, _∙_, needs}
 use Rattle.sequences.specs.ClearLaws.{zeros-length}
 use Rattle.geometry.specs.Fits.{VectorsFit}
 use Rattle.recipe.specs.Scene.{sceneOf}
@@ -21,16 +21,19 @@ merge-frames-requires c κs =
       accepted = record {
         burst = record {
           allowed = ready .fits .burst .allowed;
+          sided = ready .fits .burst .sided;
           reference-below = ready .fits .burst .reference-below;
           samples-long = ready .fits .burst .samples-long;
           vectors-long = search needs;
         };
+        side-is = refl;
         samples-fit = ready .samples-fit;
         vectors-fit = subst VectorsFit (sym (frames .align-frames .ensures .found)) (found-fit _ _ _);
         shot-most = ready .shot-most;
         read-most = ready .read-most;
         strength-most = ready .strength-most;
         spatial-most = ready .spatial-most;
+        unfiltered = ready .unfiltered;
       };
       output-long = ready .fits .output-long;
       work-long = frames .align-frames .ensures .same ∙ ready .fits .work-long;

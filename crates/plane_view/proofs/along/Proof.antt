@@ -7,7 +7,7 @@ use Rattle.plane_view.specs.View.{Near}
 use Rattle.plane_view.proofs.along.Statement.{statement}
 use Rattle.plane_view.proofs.along.Tie as tie
 
-small : (z : ℤ) (k : ℕ) → Near z → k < 16 → SFits w64 (z +ℤ pos k)
+small : (z : ℤ) (k : ℕ) → Near z → k < 32 → SFits w64 (z +ℤ pos k)
 small z k h l = sfits-abs (z +ℤ pos k) (2 ^ 21) (omega (arith, abs-add z (pos k))) tt
 
 add-result : tie.Need-add-result

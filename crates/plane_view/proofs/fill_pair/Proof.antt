@@ -8,7 +8,7 @@ use Rattle.plane_view.proofs.fill_pair.Tie as tie
 
 abbrev Inv-loop : tie.InvT-loop
 Inv-loop y x samples width height row-parity tile₀ i₀ tile i =
-    Filled (λ k. pairRow (toZ w64 y +ℤ pos k) (toZ w64 x) samples width height row-parity) 16 i tile₀ tile
+    Filled (λ k. pairRow 16 (toZ w64 y +ℤ pos k) (toZ w64 x) samples width height row-parity) 16 i tile₀ tile
 
 abbrev μ-loop : tie.MeasureT-loop
 μ-loop y x samples width height row-parity tile₀ i₀ tile i = 16 - i

@@ -34,13 +34,13 @@ returns c =
     let t = c .before .before in
     let r = t .before in
     let s = r .before .before in
-    rw (← toZ-ofZ (s .fits .y), ← toZ-ofZ (s .fits .x)) (c .inner-pair .ensures ∙ inner-by-start _ (s .args .width) (started r) _ (inner t) (c .before .if2 .taken))
+    rw (← toZ-ofZ (s .fits .y), ← toZ-ofZ (s .fits .x)) (c .inner-pair .ensures ∙ inner-by-start _ (s .args .width) (started r) 16 _ (inner t) (c .before .if2 .taken))
 
 returns-2 : tie.Need-returns-2
 returns-2 c =
     let r = c .before .before in
     let s = r .before .before in
-    rw (← toZ-ofZ (s .fits .y), ← toZ-ofZ (s .fits .x)) (c .edge-pair .ensures ∙ row-by-start _ (s .args .width) (started r) _)
+    rw (← toZ-ofZ (s .fits .y), ← toZ-ofZ (s .fits .x)) (c .edge-pair .ensures ∙ row-by-start _ (s .args .width) (started r) 16 _)
 
 add-inner-pair : tie.Need-add-inner-pair
 add-inner-pair c = let r = c .before .before in omega (arith, ends r, c .if2 .taken, shaped-small (r .before .before .pre .shaped))

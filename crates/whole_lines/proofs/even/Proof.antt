@@ -10,8 +10,8 @@ use Rattle.recipe.specs.Tables.{cosines, cosine16, side16}
 use Rattle.lines.specs.Halfcomplex.{frequencyOf, phaseOf, basisOf, basis}
 use Rattle.lines.specs.Fold.{foldedOf}
 use Rattle.lines.specs.Magnitudes.{differenceFoldMost}
-use Rattle.whole_lines.proofs.Eight.{eightMost, eight-small}
-use Rattle.whole_lines.proofs.Steps.{Step, number, short, long, step, results, steps-fit}
+use Rattle.lines.specs.Picked.{eightMost, eight-small}
+use Rattle.lines.specs.Steps.{Step, number, short, long, step, results, steps-fit}
 use Rattle.whole_lines.proofs.even.Statement.{statement}
 use Rattle.whole_lines.proofs.even.Tie as tie
 use Rattle.whole_lines.proofs.even.Reads as reads

@@ -1,19 +1,27 @@
 -- `whole_lines::even_places`: the places of the folded line are those of the line.
-use Rattle.algebra.specs.Prelude.{_∙_, lit<, w16}
-use Rattle.whole_lines.proofs.Eight.{eight, all-most}
-use Rattle.whole_lines.proofs.Folding.{sums-most, even-held}
+use Rattle.algebra.specs.Prelude.{_∙_, _*_, lit<, w16, now}
+use Rattle.sequences.specs.Tab.{tab}
+use Rattle.recipe.specs.Tables.{side16}
+use Rattle.recipe.specs.TableLaws.{rules16}
+use Rattle.lines.specs.Fold.{sumAt}
+use Rattle.lines.specs.SideFolds.{even-folded}
+use Rattle.lines.specs.Held.{of}
+use Rattle.lines.specs.Picked.{eight, eight-picked, all-most}
+use Rattle.lines.specs.WholeFolds.{sums-most, places-held}
 use Rattle.whole_lines.proofs.even_places.Statement.{statement}
 use Rattle.whole_lines.proofs.even_places.Tie as tie
 
 even-requires : tie.Need-even-requires
 even-requires c κs =
     let s = c .before .before .before .before .before .before .before .before in
-    all-most w16 (sums-most (s .before .pre) (s .sums .ensures)) tt eight
+    all-most w16 (sums-most side16 8 (s .before .pre) (s .sums .ensures)) tt eight
 
 returns : tie.Need-returns
+unfolding side16
 returns c =
     let s = c .before .before .before .before .before .before .before .before .before in
-    c .even .ensures ∙ even-held w16 (s .before .pre) tt (s .sums .ensures)
+    let x = now (s .before .args .x) in
+    c .even .ensures ∙ places-held side16 w16 8 eight (sumAt (of x)) (eight-picked (sumAt (of x))) (sums-most side16 8 (s .before .pre) (s .sums .ensures)) tt (s .sums .ensures) (λ i. 2 * i) _ (λ i. even-folded rules16 (of x) i)
 
 pub even-places-spec : {M : Type 1} → statement M
 even-places-spec = tie.close (tie.spec

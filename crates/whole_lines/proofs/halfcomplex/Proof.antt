@@ -1,7 +1,7 @@
 -- `whole_lines::halfcomplex`: the places are stored one after the other, even and odd ones by turns.
 use Rattle.algebra.specs.Prelude.{refl, _∙_, _-_, arith, needs}
 use Rattle.sequences.specs.TabLaws.{Filled, fill-start, fill-turn, fill-done}
-use Rattle.whole_lines.proofs.Folding.{placed, placed-is}
+use Rattle.lines.specs.WholeFolds.{placed, placed-is}
 use Rattle.whole_lines.proofs.halfcomplex.Statement.{statement}
 use Rattle.whole_lines.proofs.halfcomplex.Tie as tie
 

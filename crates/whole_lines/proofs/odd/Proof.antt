@@ -9,9 +9,9 @@ use Rattle.recipe.specs.Side.{cosAt}
 use Rattle.recipe.specs.Tables.{cosines, cosine16, side16}
 use Rattle.lines.specs.Halfcomplex.{frequencyOf, phaseOf, basisOf, basis}
 use Rattle.lines.specs.Fold.{foldedOf}
-use Rattle.lines.specs.Magnitudes.{differenceFoldMost}
-use Rattle.whole_lines.proofs.Eight.{eightMost, eight-small}
-use Rattle.whole_lines.proofs.Steps.{Step, number, short, long, step, results, steps-fit}
+use Rattle.lines.specs.Magnitudes.{foldAgainMost}
+use Rattle.lines.specs.Picked.{eightMost, eight-small}
+use Rattle.lines.specs.Steps.{Step, number, short, long, step, results, steps-fit}
 use Rattle.whole_lines.proofs.odd.Statement.{statement}
 use Rattle.whole_lines.proofs.odd.Tie as tie
 use Rattle.whole_lines.proofs.odd.Reads as reads
@@ -68,11 +68,11 @@ steps s =
     long (add w32 E G) ∷ long (sub w32 (add w32 E G) U) ∷ []
 
 fit : (k : ℕ) (s : At) → SFits (step (steps s) k .0) (raw (step (steps s) k .1))
-fit k s = steps-fit (xs s) (eightMost differenceFoldMost) (eight-small (s .pre)) (steps s) tt k
+fit k s = steps-fit (xs s) (eightMost foldAgainMost) (eight-small (s .pre)) (steps s) tt k
 
 returns : tie.Need-returns
 unfolding tab sumZ foldedOf basisOf frequencyOf phaseOf cosAt side16 cosine16 cosines
-returns s = vals-are (xs s) (eightMost differenceFoldMost) (eight-small (s .pre)) (results (steps s) (31 ∷ 33 ∷ 35 ∷ 37 ∷ 40 ∷ 42 ∷ 44 ∷ 46 ∷ [])) (tab 8 (λ i. sumE 8 (λ n. var n ⊠ con (basis (2 * i + 1) n)))) tt tt
+returns s = vals-are (xs s) (eightMost foldAgainMost) (eight-small (s .pre)) (results (steps s) (31 ∷ 33 ∷ 35 ∷ 37 ∷ 40 ∷ 42 ∷ 44 ∷ 46 ∷ [])) (tab 8 (λ i. sumE 8 (λ n. var n ⊠ con (basis (2 * i + 1) n)))) tt tt
 
 pub odd-spec : {M : Type 1} → statement M
 odd-spec = tie.close (tie.spec

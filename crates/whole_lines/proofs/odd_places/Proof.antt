@@ -1,19 +1,27 @@
 -- `whole_lines::odd_places`: the places of the folded line are those of the line.
-use Rattle.algebra.specs.Prelude.{_∙_, lit<, w16}
-use Rattle.whole_lines.proofs.Eight.{eight, all-most}
-use Rattle.whole_lines.proofs.Folding.{differences-most, odd-held}
+use Rattle.algebra.specs.Prelude.{_∙_, _+_, _*_, lit≤, lit<, w16, now}
+use Rattle.sequences.specs.Tab.{tab}
+use Rattle.recipe.specs.Tables.{side16}
+use Rattle.recipe.specs.TableLaws.{rules16}
+use Rattle.lines.specs.Fold.{differenceAt}
+use Rattle.lines.specs.SideFolds.{odd-folded}
+use Rattle.lines.specs.Held.{of}
+use Rattle.lines.specs.Picked.{eight, eight-picked, all-most}
+use Rattle.lines.specs.WholeFolds.{line-wider, differences-most, places-held}
 use Rattle.whole_lines.proofs.odd_places.Statement.{statement}
 use Rattle.whole_lines.proofs.odd_places.Tie as tie
 
 odd-requires : tie.Need-odd-requires
 odd-requires c κs =
     let s = c .before .before .before .before .before .before .before .before in
-    all-most w16 (differences-most (s .before .pre) (s .differences .ensures)) tt eight
+    line-wider (lit≤ tt) (all-most w16 (differences-most side16 8 (s .before .pre) (s .differences .ensures)) tt eight)
 
 returns : tie.Need-returns
+unfolding side16
 returns c =
     let s = c .before .before .before .before .before .before .before .before .before in
-    c .odd .ensures ∙ odd-held w16 (s .before .pre) tt (s .differences .ensures)
+    let x = now (s .before .args .x) in
+    c .odd .ensures ∙ places-held side16 w16 8 eight (differenceAt (of x)) (eight-picked (differenceAt (of x))) (differences-most side16 8 (s .before .pre) (s .differences .ensures)) tt (s .differences .ensures) (λ i. 2 * i + 1) _ (λ i. odd-folded rules16 (of x) i)
 
 pub odd-places-spec : {M : Type 1} → statement M
 odd-places-spec = tie.close (tie.spec

@@ -1,6 +1,6 @@
 -- `wiener::inner`: two bins a turn, folded with each other.
 use Rattle.algebra.specs.Prelude.{refl, _+_, _-_, _*_, _≤_, arith, needs, now}
-use Rattle.wiener.proofs.NewQuads.{new-inner, sure-inner}
+use Rattle.wiener.specs.NewQuads.{new-inner, sure-inner}
 use Rattle.wiener.proofs.SureLaws.{shrunk-start, shrunk-at, shrunk-turn}
 use Rattle.wiener.specs.DoubleQuads.{Shrunk}
 use Rattle.wiener.proofs.inner.Statement.{statement}
@@ -35,8 +35,8 @@ loop-again c =
     let l = p .loop .l in (
       omega arith,
       omega arith,
-      shrunk-at (shrunk-turn (p .loop .inv .2) (omega arith) (a .pre .u-below) (omega arith) refl (c .set-quad .ensures) (new-inner v w (q .quad-at .ensures) (a .args .u) l (a .pre .u-some) (omega arith) (g .gains .ensures) (h .gains2 .ensures))
-          (λ e. let y = two .sure2 .ensures e in let x = one .sure .ensures (y .0) in (x .0, sure-inner v w (q .quad-at .ensures) (a .args .u) l (a .pre .u-some) (omega arith) (x .1) (y .1)))) (omega arith),
+      shrunk-at (shrunk-turn (p .loop .inv .2) (omega arith) (a .pre .u-below) (omega arith) refl (c .set-quad .ensures) (new-inner 24 v w (q .quad-at .ensures) (a .args .u) l (a .pre .u-some) (omega arith) (g .gains .ensures) (h .gains2 .ensures))
+          (λ e. let y = two .sure2 .ensures e in let x = one .sure .ensures (y .0) in (x .0, sure-inner 24 v w (q .quad-at .ensures) (a .args .u) l (a .pre .u-some) (omega arith) (x .1) (y .1)))) (omega arith),
     )
 
 returns : tie.Need-returns Inv-loop μ-loop

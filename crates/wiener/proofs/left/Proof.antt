@@ -1,6 +1,6 @@
 -- `wiener::left`: two bins a turn, as they are.
 use Rattle.algebra.specs.Prelude.{_-_, _≤_, arith, needs, now, lit<}
-use Rattle.wiener.proofs.NewQuads.{new-left, sure-left}
+use Rattle.wiener.specs.NewQuads.{new-left, sure-left}
 use Rattle.wiener.proofs.SureLaws.{shrunk-start, shrunk-at, shrunk-turn}
 use Rattle.wiener.specs.DoubleQuads.{Shrunk}
 use Rattle.wiener.proofs.left.Statement.{statement}
@@ -34,8 +34,8 @@ loop-again c =
     let l = p .loop .l in (
       omega arith,
       omega arith,
-      shrunk-turn (p .loop .inv .2) (omega arith) (lit< tt) (omega arith) (omega arith) (c .set-quad .ensures) (new-left v w (q .quad-at .ensures) l (omega arith) (g .gains .ensures) (h .gains2 .ensures))
-          (λ e. let y = two .sure2 .ensures e in let x = one .sure .ensures (y .0) in (x .0, sure-left v w (q .quad-at .ensures) l (omega arith) (x .1) (y .1))),
+      shrunk-turn (p .loop .inv .2) (omega arith) (lit< tt) (omega arith) (omega arith) (c .set-quad .ensures) (new-left 24 v w (q .quad-at .ensures) l (omega arith) (g .gains .ensures) (h .gains2 .ensures))
+          (λ e. let y = two .sure2 .ensures e in let x = one .sure .ensures (y .0) in (x .0, sure-left 24 v w (q .quad-at .ensures) l (omega arith) (x .1) (y .1))),
     )
 
 returns : tie.Need-returns Inv-loop μ-loop

@@ -1,7 +1,7 @@
 -- `wiener::top_lane`: two bins, each with its conjugate.
 use Rattle.algebra.specs.Prelude.{refl, _+_, _*_, arith, needs, now}
 use Rattle.quads.specs.LaneLaws.{lanes-start, lanes-turn}
-use Rattle.wiener.proofs.NewQuads.{new-top}
+use Rattle.wiener.specs.NewQuads.{new-top}
 use Rattle.wiener.proofs.top_lane.Statement.{statement}
 use Rattle.wiener.proofs.top_lane.Tie as tie
 
@@ -13,7 +13,7 @@ returns c =
     let s = q .before .before in
     let u = s .args .u in
     let l = s .args .l in
-    (q .quad-at .ensures, lanes-turn (lanes-start (16 * u + l) (s .pre .paired)) (omega arith) (s .pre .u-below) (omega arith) refl (c .set-quad .ensures) (new-top (now (s .args .v)) (now (s .args .w)) (q .quad-at .ensures) u l (s .pre .u-some) (s .pre .l-below) (g .gains .ensures) (h .gains2 .ensures)))
+    (q .quad-at .ensures, lanes-turn (lanes-start (16 * u + l) (s .pre .paired)) (omega arith) (s .pre .u-below) (omega arith) refl (c .set-quad .ensures) (new-top 24 (now (s .args .v)) (now (s .args .w)) (q .quad-at .ensures) u l (s .pre .u-some) (s .pre .l-below) (g .gains .ensures) (h .gains2 .ensures)))
 
 pub top-lane-spec : {M : Type 1} → statement M
 top-lane-spec = tie.close (tie.spec

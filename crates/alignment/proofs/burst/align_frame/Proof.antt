@@ -25,12 +25,12 @@ align-levels-requires c κs =
     let b = built (c .before .before .before) in
     let same = b .same in
     let ok = start .pre .readable .sampled .allowed in
-    (record { allowed = ok; standing = both-standing ok (start .pre .levels) b; room = omega (arith, start .pre .room) }, start .pre .vectors-room)
+    (record { allowed = ok; sided = start .pre .sided; standing = both-standing ok (start .pre .sided) (start .pre .levels) b; room = omega (arith, start .pre .room) }, start .pre .vectors-room)
 
 returns : tie.Need-returns
 returns c =
     let start = c .before .before .before .before .before .before .before .before .before .before in
-    one-aligned (start .pre .readable .sampled .allowed) (start .pre .levels) (built (c .before .before .before .before .before .before)) (c .before .before .align-levels .ensures)
+    one-aligned (start .pre .readable .sampled .allowed) (start .pre .sided) (start .pre .levels) (built (c .before .before .before .before .before .before)) (c .before .before .align-levels .ensures)
 
 pub align-frame-spec : {M : Type 1} → statement M
 align-frame-spec = tie.close (tie.spec

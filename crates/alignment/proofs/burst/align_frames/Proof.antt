@@ -17,7 +17,7 @@ build-requires c κs =
     (frame-of (start .pre) _ (start .pre .fits .burst .reference-below), omega (arith, two-pyramids (start .args .shape) (work-room (start .pre))))
 
 frame-parts-requires : tie.Need-frame-parts-requires Inv-loop μ-loop
-frame-parts-requires c κs = c .before .before .before .before .pre .fits .burst .allowed
+frame-parts-requires c κs = let b = c .before .before .before .before .pre .fits .burst in (b .allowed, b .sided)
 
 loop-holds : tie.Need-loop-holds Inv-loop μ-loop
 loop-holds c =
@@ -42,6 +42,7 @@ align-frame-requires c κs =
     let place = ap (λ n. loop .loop .k * n) (loop .before .before .frame-parts .ensures .0) in
     record {
       readable = frame-of (start .pre) _ (omega (arith, c .before .before .other-frame .ensures .1));
+      sided = burst .sided;
       levels = inv .levels;
       room = omega (arith, work-room (start .pre), loop .before .before .before .before .build .ensures .same);
       vectors-room = omega (arith, place, burst .vectors-long, place-room (start .args .shape) (loop .loop .k) (omega arith));

@@ -10,7 +10,7 @@ area-at-requires : tie.Need-area-at-requires
 area-at-requires c κs = (c .before .before .before .before .pre .0 .allowed, omega arith)
 
 grid-at-requires : tie.Need-grid-at-requires
-grid-at-requires c κs = (c .before .before .before .before .before .pre .0 .allowed, omega arith)
+grid-at-requires c κs = let p = c .before .before .before .before .before .pre .0 in record { allowed = p .allowed; sided = p .sided; level-most = omega arith }
 
 finest-field-requires : tie.Need-finest-field-requires
 unfolding gridAt
@@ -20,8 +20,9 @@ finest-field-requires c κs = let r = c .before .before .before .before .before 
     record {
       stored = rw (c .before .before .before .area-at .ensures) (standing-kept (s .pre .0 .standing) (r .kept) .stored 0);
       coarse-vectors = r .vectors;
-      few = rw (c .before .before .grid-at .ensures) (grid-few ok 0);
-      room = rw (c .before .before .grid-at .ensures, finest-tiles (ok .high), finest-tiles (ok .wide)) (s .pre .1);
+      sided = s .pre .0 .sided;
+      few = rw (c .before .before .grid-at .ensures) (grid-few ok (s .pre .0 .sided) 0);
+      room = rw (c .before .before .grid-at .ensures, finest-tiles (s .pre .0 .sided) (ok .high), finest-tiles (s .pre .0 .sided) (ok .wide)) (s .pre .1);
     }
 
 add-t16 : tie.Need-add-t16

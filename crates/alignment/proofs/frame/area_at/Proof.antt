@@ -9,7 +9,7 @@ use Rattle.alignment.specs.Sites.{imageNumber, areaAt}
 use Rattle.alignment.proofs.frame.area_at.Statement.{statement}
 use Rattle.alignment.proofs.frame.area_at.Tie as tie
 
-made : (shape : Shape) (level r o h w : ℕ) → r ≡ offset shape (imageNumber level) → o ≡ pyramidLength shape + offset shape (imageNumber level) → h ≡ shape .height / levelAt level .scale → w ≡ shape .width / levelAt level .scale → _≡_ {A = Area} (record { reference = r; other = o; height = h; width = w }) (areaAt shape level)
+made : (shape : Shape) (level r o h w : ℕ) → r ≡ offset shape (imageNumber level) → o ≡ pyramidLength shape + offset shape (imageNumber level) → h ≡ shape .height / levelAt (shape .side) level .scale → w ≡ shape .width / levelAt (shape .side) level .scale → _≡_ {A = Area} (record { reference = r; other = o; height = h; width = w }) (areaAt shape level)
 unfolding areaAt levelSize
 made shape level r o h w er eo eh ew = rw (er, eo, eh, ew)
 

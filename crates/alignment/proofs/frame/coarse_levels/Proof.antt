@@ -41,20 +41,20 @@ behind-second c = c .after2 .ensures ∙ ap after (second-is (c .before .before 
 coarsest-level-requires : tie.Need-coarsest-level-requires
 coarsest-level-requires c κs = let s = c .before .before in
     let f = sites-fit (s .args .shape) in
-    record { allowed = s .pre .allowed; standing = s .pre .standing; behind = omega (arith, base-is (c .before)); room = rw (base-is (c .before)) (omega (arith, s .pre .room)) }
+    record { allowed = s .pre .allowed; sided = s .pre .sided; standing = s .pre .standing; behind = omega (arith, base-is (c .before)); room = rw (base-is (c .before)) (omega (arith, s .pre .room)) }
 
 after-requires : tie.Need-after-requires
 unfolding gridAt
 after-requires c κs = let t = c .before .before .before in
     let o = t .before .before in
-    rw (third-is t) (omega (arith, base-is o, o .offset .ensures .1), grid-few (o .before .pre .allowed) 3)
+    rw (third-is t) (omega (arith, base-is o, o .offset .ensures .1), grid-few (o .before .pre .allowed) (o .before .pre .sided) 3)
 
 next-level-requires : tie.Need-next-level-requires
 next-level-requires c κs = let r = third (c .before .before .before .before) in
     let s = c .before .before .before .before .before .before .before in
     let f = sites-fit (s .args .shape) in
     record {
-      site = record { allowed = s .pre .allowed; standing = standing-kept (s .pre .standing) (r .kept); behind = rw (behind-third c) (f .0); room = rw (behind-third c) (omega (arith, r .kept .same, s .pre .room)) };
+      site = record { allowed = s .pre .allowed; sided = s .pre .sided; standing = standing-kept (s .pre .standing) (r .kept); behind = rw (behind-third c) (f .0); room = rw (behind-third c) (omega (arith, r .kept .same, s .pre .room)) };
       level-most = omega arith;
       vectors = r .vectors;
       ends = omega (arith, c .after .ensures);
@@ -64,14 +64,14 @@ after-requires-2 : tie.Need-after-requires-2
 unfolding gridAt
 after-requires-2 c κs = let n = c .before .before .before in
     let o = n .before .before .before .before .before .before .before in
-    rw (second-is n) (omega (arith, base-is o, o .offset .ensures .1, tiles-few (grid-few (o .before .pre .allowed) 3)), grid-few (o .before .pre .allowed) 2)
+    rw (second-is n) (omega (arith, base-is o, o .offset .ensures .1, tiles-few (grid-few (o .before .pre .allowed) (o .before .pre .sided) 3)), grid-few (o .before .pre .allowed) (o .before .pre .sided) 2)
 
 next-level-requires-2 : tie.Need-next-level-requires-2
 next-level-requires-2 c κs = let r = second (c .before .before .before .before) in
     let s = c .before .before .before .before .before .before .before .before .before .before .before .before in
     let f = sites-fit (s .args .shape) in
     record {
-      site = record { allowed = s .pre .allowed; standing = standing-kept (s .pre .standing) (r .kept); behind = rw (behind-second c) (omega arith); room = rw (behind-second c) (omega (arith, r .kept .same, s .pre .room)) };
+      site = record { allowed = s .pre .allowed; sided = s .pre .sided; standing = standing-kept (s .pre .standing) (r .kept); behind = rw (behind-second c) (omega arith); room = rw (behind-second c) (omega (arith, r .kept .same, s .pre .room)) };
       level-most = omega arith;
       vectors = r .vectors;
       ends = omega (arith, c .after2 .ensures);

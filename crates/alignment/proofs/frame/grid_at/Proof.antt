@@ -16,7 +16,7 @@ tile-count-requires c κs = let a = c .before .before .before .args in record { 
 tile-count-requires-2 : tie.Need-tile-count-requires-2
 tile-count-requires-2 c κs = let a = c .before .before .before .before .before .args in record { some = omega arith; most = omega arith; size-most = omega (arith, div-le-self (a .shape .width) (c .before .before .before .scale-of .result)) }
 
-made : (shape : Shape) (level at half scale r k : ℕ) → half ≡ levelAt level .half → scale ≡ levelAt level .scale → r ≡ tileCount half (shape .height / scale) → k ≡ tileCount half (shape .width / scale) → _≡_ {A = Grid} (record { at = at; rows = r; columns = k }) (gridAt shape level at)
+made : (shape : Shape) (level at half scale r k : ℕ) → half ≡ levelAt (shape .side) level .half → scale ≡ levelAt (shape .side) level .scale → r ≡ tileCount half (shape .height / scale) → k ≡ tileCount half (shape .width / scale) → _≡_ {A = Grid} (record { at = at; rows = r; columns = k }) (gridAt shape level at)
 unfolding gridAt levelTiles levelSize
 made shape level at half scale r k eh es er ek = rw (er, ek, eh, es)
 

@@ -11,6 +11,7 @@ finer-field-requires c κs = let s = c .before .before .before in
       fits = level-ready (s .args .level) (s .args .at) (s .pre .site) (c .before .before .area-at .ensures) (c .before .grid-at .ensures);
       vectors = s .pre .vectors;
       ends = record { end = s .pre .ends };
+      sided = s .pre .site .sided;
       level-most = s .pre .level-most;
     }
 

@@ -4,14 +4,14 @@ use Rattle.algebra.specs.Prelude.{_≡_, refl, ℕ, zero, suc, arith, needs}
 use Rattle.alignment.proofs.frame.scale_of.Statement.{statement}
 use Rattle.alignment.proofs.frame.scale_of.Tie as tie
 
-last : (level : ℕ) → (level ≡ 0 → ⊥) → (level ≡ 1 → ⊥) → (level ≡ 2 → ⊥) → 64 ≡ levelAt level .scale
-last zero a b d = absurd (a refl)
-last (suc zero) a b d = absurd (b refl)
-last (suc (suc zero)) a b d = absurd (d refl)
-last (suc (suc (suc k))) a b d = refl
+last : (side level : ℕ) → (level ≡ 0 → ⊥) → (level ≡ 1 → ⊥) → (level ≡ 2 → ⊥) → 64 ≡ levelAt side level .scale
+last side zero a b d = absurd (a refl)
+last side (suc zero) a b d = absurd (b refl)
+last side (suc (suc zero)) a b d = absurd (d refl)
+last side (suc (suc (suc k))) a b d = refl
 
 returns-4 : tie.Need-returns-4
-returns-4 c = (last (c .before .before .before .args .level) (c .before .before .if1 .left) (c .before .if2 .left) (c .if3 .left), omega arith)
+returns-4 c = (last (c .before .before .before .args .side) (c .before .before .before .args .level) (c .before .before .if1 .left) (c .before .if2 .left) (c .if3 .left), omega arith)
 
 pub scale-of-spec : {M : Type 1} → statement M
 scale-of-spec = tie.close (tie.spec

@@ -1,11 +1,11 @@
 -- `bins::double::gains`: the definition's own operations.
 use Rattle.algebra.specs.Prelude.{needs}
-use Rattle.bins.specs.Doubles.{gainsIn}
+use Rattle.bins.specs.Doubles.{gainsBy}
 use Rattle.bins.proofs.double.gains.Statement.{statement}
 use Rattle.bins.proofs.double.gains.Tie as tie
 
 returns : tie.Need-returns
-unfolding gainsIn
+unfolding gainsBy
 returns c = cc
 
 pub gains-spec : {M : Type 1} → statement M

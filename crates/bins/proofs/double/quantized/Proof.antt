@@ -2,12 +2,12 @@
 use Rattle.algebra.specs.Prelude.{needs}
 use lib.Ieee.{ofBits}
 use Rattle.floats.specs.ProductLaws.{fraction}
-use Rattle.bins.specs.Doubles.{quantizedIn}
+use Rattle.bins.specs.Doubles.{quantizedBy}
 use Rattle.bins.proofs.double.quantized.Statement.{statement}
 use Rattle.bins.proofs.double.quantized.Tie as tie
 
 returns : tie.Need-returns
-unfolding ofBits fraction quantizedIn
+unfolding ofBits fraction quantizedBy
 returns c = c .nearest-whole .ensures
 
 pub quantized-spec : {M : Type 1} → statement M

@@ -1,26 +1,31 @@
 -- The place lies among the vectors, which are few.
-use Rattle.algebra.specs.Prelude.{ap₂, _+_, _*_, arith, needs}
+use Rattle.algebra.specs.Prelude.{ap₂, _+_, _*_, _≤_, arith, needs}
 use native.Mathlib.Nat.{mul-le-mul}
 use Rattle.geometry.specs.Vectors.{vectorPlace}
+use Rattle.geometry.specs.TileLaws.{sided-most}
 use Rattle.geometry.specs.VectorLaws.{place-below}
 use Rattle.geometry.proofs.vectors.vector_place.Statement.{statement}
 use Rattle.geometry.proofs.vectors.vector_place.Tie as tie
+
+-- rows are few
+row-most : (s : tie.Start) → s .args .row ≤ 256
+row-most s = omega (arith, s .pre .row-in, sided-most (s .pre .sided) (s .args .shape .height) (s .pre .allowed .high .most))
 
 mul-result : tie.Need-mul-result
 mul-result c = omega (arith, mul-le-mul {n₁ = c .before .args .k} {n₂ = 7} (omega arith) (c .frame-parts .ensures .1))
 
 mul-result-2 : tie.Need-mul-result-2
-mul-result-2 c = omega (arith, mul-le-mul {n₁ = c .before .before .args .row} {n₂ = 256} (omega arith) (c .tile-columns .ensures .1))
+mul-result-2 c = omega (arith, mul-le-mul {n₁ = c .before .before .args .row} {n₂ = 256} (row-most (c .before .before)) (c .tile-columns .ensures .1))
 
 add-result : tie.Need-add-result
-add-result c = omega (arith, mul-le-mul {n₁ = c .before .before .args .row} {n₂ = 256} (omega arith) (c .tile-columns .ensures .1))
+add-result c = omega (arith, mul-le-mul {n₁ = c .before .before .args .row} {n₂ = 256} (row-most (c .before .before)) (c .tile-columns .ensures .1))
 
 mul-result-3 : tie.Need-mul-result-3
-mul-result-3 c = omega (arith, mul-le-mul {n₁ = c .before .before .args .row} {n₂ = 256} (omega arith) (c .tile-columns .ensures .1))
+mul-result-3 c = omega (arith, mul-le-mul {n₁ = c .before .before .args .row} {n₂ = 256} (row-most (c .before .before)) (c .tile-columns .ensures .1))
 
 add-result-2 : tie.Need-add-result-2
 add-result-2 c =
-    omega (arith, mul-le-mul {n₁ = c .before .before .args .k} {n₂ = 7} (omega arith) (c .before .frame-parts .ensures .1), mul-le-mul {n₁ = c .before .before .args .row} {n₂ = 256} (omega arith) (c .tile-columns .ensures .1))
+    omega (arith, mul-le-mul {n₁ = c .before .before .args .k} {n₂ = 7} (omega arith) (c .before .frame-parts .ensures .1), mul-le-mul {n₁ = c .before .before .args .row} {n₂ = 256} (row-most (c .before .before)) (c .tile-columns .ensures .1))
 
 returns : tie.Need-returns
 unfolding vectorPlace

@@ -3,7 +3,8 @@ use Rattle.algebra.specs.Prelude.{_≡_, ap, _∙_, arith, needs, _+_, _-_, _*_
 use borrow.Author.Tests.{lt-ltb, le-ltb}
 use Rattle.sequences.specs.Grid.{cell}
 use Rattle.lines.specs.Held.{number-is, number-most}
-use Rattle.spectrum.specs.Spectrum.{foldRe, foldIm, spread}
+use Rattle.recipe.specs.Tables.{side16}
+use Rattle.spectrum.specs.Spectrum.{foldRe, foldIm, spreadOf}
 use Rattle.grain.proofs.folds.folded.Statement.{statement}
 use Rattle.grain.proofs.folds.folded.Tie as tie
 
@@ -13,7 +14,7 @@ re-place-requires c κs =
     record { re-most = p .re-most; im-most = p .im-most; b-below = p .b-below; l-below = omega arith }
 
 returns : tie.Need-returns
-unfolding spread
+unfolding spreadOf side16
 returns c =
     let a = c .before .before .args in
     let column : a .l ≡ 2 * (a .l / 2) + a .l % 2 = omega arith in
@@ -25,7 +26,7 @@ im-place-requires c κs =
     record { re-most = p .re-most; im-most = p .im-most; b-below = p .b-below; l-below = omega (arith, p .l-below) }
 
 returns-2 : tie.Need-returns-2
-unfolding spread
+unfolding spreadOf side16
 returns-2 c =
     let a = c .before .before .args in
     let column : a .l - 16 ≡ 2 * (a .l / 2 - 8) + a .l % 2 = omega arith in

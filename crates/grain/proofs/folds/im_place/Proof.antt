@@ -4,13 +4,14 @@ use borrow.Author.Tests.{lt-ltb, le-ltb}
 use Rattle.sequences.specs.Grid.{cell}
 use Rattle.lines.specs.Held.{held-is, held-most, line-at}
 use Rattle.spectrum.specs.Apart.{is-own, is-paired}
-use Rattle.spectrum.specs.Spectrum.{foldIm}
+use Rattle.recipe.specs.Tables.{side16}
+use Rattle.spectrum.specs.Spectrum.{foldImOf}
 use Rattle.grain.proofs.Sums64.{sum-fits, sum-is, sum-most, difference-fits, difference-is, difference-most}
 use Rattle.grain.proofs.folds.im_place.Statement.{statement}
 use Rattle.grain.proofs.folds.im_place.Tie as tie
 
 returns : tie.Need-returns
-unfolding foldIm cell
+unfolding foldImOf cell side16
 returns c =
     let s = c .before .before in
     let b = s .args .b in
@@ -24,7 +25,7 @@ add-result c =
     sum-fits (line-at (s .pre .im-most .line b) (s .args .l)) (line-at (s .pre .im-most .line (16 - b)) (s .args .l)) tt tt
 
 returns-2 : tie.Need-returns-2
-unfolding foldIm cell
+unfolding foldImOf cell side16
 returns-2 c =
     let s = c .before .before .before .before in
     let b = s .args .b in
@@ -39,7 +40,7 @@ sub-result-4 c =
     difference-fits (line-at (s .pre .re-most .line (24 - b)) (s .args .l)) (line-at (s .pre .re-most .line (b - 8)) (s .args .l)) tt tt
 
 returns-3 : tie.Need-returns-3
-unfolding foldIm cell
+unfolding foldImOf cell side16
 returns-3 c =
     let s = c .before .before .before .before in
     let b = s .args .b in

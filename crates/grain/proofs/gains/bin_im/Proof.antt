@@ -3,7 +3,8 @@ use Rattle.algebra.specs.Prelude.{_≡_, sym, ap, ap₂, _∙_, subst, arith, _
 use Rattle.algebra.specs.Bound.{AtMost, add-most}
 use Rattle.sequences.specs.Grid.{cell}
 use Rattle.spectrum.specs.Magnitudes.{copyBinMost}
-use Rattle.spectrum.specs.Spectrum.{imaginaryOf, tileIm}
+use Rattle.recipe.specs.Tables.{side16}
+use Rattle.spectrum.specs.Spectrum.{imaginaryOf, tileImOf}
 use Rattle.grain.proofs.Sums64.{sum-fits, sum-is}
 use Rattle.grain.proofs.gains.bin_im.Statement.{statement}
 use Rattle.grain.proofs.gains.bin_im.Tie as tie
@@ -17,7 +18,7 @@ add-result c =
     sum-fits (c .before .imaginary .ensures .1) (c .beside-real .ensures .1) tt tt
 
 returns : tie.Need-returns
-unfolding tileIm
+unfolding tileImOf side16
 returns c =
     let r = c .before in
     let a = r .before .args in

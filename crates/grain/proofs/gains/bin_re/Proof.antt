@@ -3,7 +3,8 @@ use Rattle.algebra.specs.Prelude.{_≡_, sym, ap, ap₂, _∙_, subst, arith, _
 use Rattle.algebra.specs.Bound.{AtMost, sub-most}
 use Rattle.sequences.specs.Grid.{cell}
 use Rattle.spectrum.specs.Magnitudes.{copyBinMost}
-use Rattle.spectrum.specs.Spectrum.{realOf, tileRe}
+use Rattle.recipe.specs.Tables.{side16}
+use Rattle.spectrum.specs.Spectrum.{realOf, tileReOf}
 use Rattle.grain.proofs.Sums64.{difference-fits, difference-is}
 use Rattle.grain.proofs.gains.bin_re.Statement.{statement}
 use Rattle.grain.proofs.gains.bin_re.Tie as tie
@@ -17,7 +18,7 @@ sub-result c =
     difference-fits (c .before .real .ensures .1) (c .beside-imaginary .ensures .1) tt tt
 
 returns : tie.Need-returns
-unfolding tileRe
+unfolding tileReOf side16
 returns c =
     let r = c .before in
     let a = r .before .args in

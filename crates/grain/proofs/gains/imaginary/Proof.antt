@@ -5,7 +5,8 @@ use borrow.Author.Tests.{lt-ltb, le-ltb}
 use Rattle.sequences.specs.Grid.{cell}
 use Rattle.lines.specs.Held.{held-is, held-most, line-at}
 use Rattle.spectrum.specs.Apart.{is-own, is-paired}
-use Rattle.spectrum.specs.Spectrum.{imaginaryOf}
+use Rattle.recipe.specs.Tables.{side16}
+use Rattle.spectrum.specs.Spectrum.{imaginaryPart}
 use Rattle.grain.proofs.Sums64.{minus-fits, minus-is, minus-most}
 use Rattle.grain.proofs.gains.imaginary.Statement.{statement}
 use Rattle.grain.proofs.gains.imaginary.Tie as tie
@@ -13,13 +14,13 @@ use Rattle.grain.proofs.gains.imaginary.Tie as tie
 -- The definition's own tests.
 
 returns : tie.Need-returns
-unfolding imaginaryOf
+unfolding imaginaryPart side16
 returns c =
     let u = c .before .args .u in
     (sym (is-own u (pos 0) _ (omega arith)), record { most = zero-le })
 
 returns-2 : tie.Need-returns-2
-unfolding imaginaryOf cell
+unfolding imaginaryPart cell side16
 returns-2 c =
     let s = c .before .before .before in
     let u = s .args .u in
@@ -32,7 +33,7 @@ sub-result-2 c =
     minus-fits (line-at (s .pre .places-most .line (24 - s .args .u)) (s .args .l)) tt
 
 returns-3 : tie.Need-returns-3
-unfolding imaginaryOf cell
+unfolding imaginaryPart cell side16
 returns-3 c =
     let s = c .before .before .before in
     let u = s .args .u in

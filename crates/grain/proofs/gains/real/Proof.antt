@@ -3,14 +3,15 @@ use Rattle.algebra.specs.Prelude.{arith, needs, w64, _-_}
 use borrow.Author.Tests.{lt-ltb, le-ltb}
 use Rattle.sequences.specs.Grid.{cell}
 use Rattle.lines.specs.Held.{held-is, held-most}
-use Rattle.spectrum.specs.Spectrum.{realOf}
+use Rattle.recipe.specs.Tables.{side16}
+use Rattle.spectrum.specs.Spectrum.{realPart}
 use Rattle.grain.proofs.gains.real.Statement.{statement}
 use Rattle.grain.proofs.gains.real.Tie as tie
 
 -- The definition's own test.
 
 returns : tie.Need-returns
-unfolding realOf cell
+unfolding realPart cell side16
 returns c =
     let s = c .before .before in
     let u = s .args .u in
@@ -18,7 +19,7 @@ returns c =
     rw (lt-ltb u 9 (omega arith)) (held-is w64 m (s .args .l) tt, held-most w64 m (s .args .l) tt)
 
 returns-2 : tie.Need-returns-2
-unfolding realOf cell
+unfolding realPart cell side16
 returns-2 c =
     let s = c .before .before in
     let u = s .args .u in

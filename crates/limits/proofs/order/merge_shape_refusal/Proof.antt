@@ -1,21 +1,21 @@
--- The tests of the frames refuse, or let the lengths decide.
+-- The tests of the burst refuse, or let the lengths decide.
 use Rattle.algebra.specs.Prelude.{sym, _∙_, needs}
 use Rattle.refusals.specs.TestLaws.{stops, goes}
 use Rattle.limits.specs.Order.{mergeShapeTests}
-use Rattle.limits.specs.OrderLaws.{frames-allowed}
+use Rattle.limits.specs.OrderLaws.{burst-allowed}
 use Rattle.limits.proofs.order.merge_shape_refusal.Statement.{statement}
 use Rattle.limits.proofs.order.merge_shape_refusal.Tie as tie
 
 returns : tie.Need-returns
 unfolding mergeShapeTests
-returns c = stops _ _ (c .before .frame-refusal .ensures) (c .if1 .taken)
+returns c = stops _ _ (c .before .burst-refusal .ensures) (c .if1 .taken)
 
 merge-lengths-requires : tie.Need-merge-lengths-requires
-merge-lengths-requires c κs = frames-allowed _ (c .before .before .args .reference) (sym (c .before .frame-refusal .ensures) ∙ c .if1 .left)
+merge-lengths-requires c κs = burst-allowed _ (c .before .before .args .reference) (sym (c .before .burst-refusal .ensures) ∙ c .if1 .left)
 
 returns-2 : tie.Need-returns-2
 unfolding mergeShapeTests
-returns-2 c = goes _ _ (c .before .before .frame-refusal .ensures) (c .before .if1 .left) (c .merge-lengths .ensures)
+returns-2 c = goes _ _ (c .before .before .burst-refusal .ensures) (c .before .if1 .left) (c .merge-lengths .ensures)
 
 pub merge-shape-refusal-spec : {M : Type 1} → statement M
 merge-shape-refusal-spec = tie.close (tie.spec (λ c κs. search needs) returns merge-lengths-requires returns-2)

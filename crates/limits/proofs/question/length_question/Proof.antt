@@ -11,7 +11,7 @@ unfolding lengthQuestion
 returns c = rw (← c .before .before .shaped .ensures, ← c .before .question-refusal .ensures, ne-eqb _ 0 (c .if1 .taken))
 
 length-tested-requires : tie.Need-length-tested-requires
-length-tested-requires c κs = question-allowed _ (c .before .before .before .args .side) (sym (c .before .question-refusal .ensures) ∙ c .if1 .left)
+length-tested-requires c κs = question-allowed _ (sym (c .before .question-refusal .ensures) ∙ c .if1 .left)
 
 returns-2 : tie.Need-returns-2
 unfolding lengthQuestion

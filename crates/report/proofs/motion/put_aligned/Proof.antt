@@ -12,7 +12,7 @@ use Rattle.report.proofs.motion.put_aligned.Statement.{statement}
 use Rattle.report.proofs.motion.put_aligned.Tie as tie
 
 frame-parts : {header : Header} {samples : List ℕ} → Taken header samples → frameParts (header .shape) ≡ vectorRoom 1
-frame-parts t = rw (t .wide, t .high)
+frame-parts t = rw (t .sixteen, t .wide, t .high)
 
 lines-of : {header : Header} {samples : List ℕ} {vectors : List ℤ} {sums : List ℕ} → Taken header samples →
     vectors ≡ alignedVectors (header .shape) (header .reference) samples → sums ≡ residualSums (header .shape) (header .reference) samples →

@@ -1,5 +1,5 @@
 -- `report::stack::run_burst`: what the file check has tested is what a run from the levels asks for.
-use Rattle.algebra.specs.Prelude.{sym, arith, needs, lit≤}
+use Rattle.algebra.specs.Prelude.{refl, sym, arith, needs, lit≤}
 use lib.Seq.{length-take-le}
 use Rattle.values.specs.BoundLaws.{values-samples}
 use Rattle.report.specs.Stack.{frameOf}
@@ -18,6 +18,7 @@ run-levels-requires c κs =
       read-most = taken .read-most;
       strength-most = taken .strength-most;
       spatial-most = lit≤ tt;
+      unfiltered = λ _. refl;
     }
 
 returns : tie.Need-returns

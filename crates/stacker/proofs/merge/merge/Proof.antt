@@ -1,5 +1,5 @@
 -- `stacker::merge::merge`: run's tests and 12, each returning before the first store; then the merge, and the clearing.
-use Rattle.algebra.specs.Prelude.{sym, ap₂, subst, _∙_, _≤_, needs}
+use Rattle.algebra.specs.Prelude.{refl, sym, ap₂, subst, _∙_, _≤_, needs}
 use Rattle.sequences.specs.ClearLaws.{zeros-length}
 use Rattle.refusals.specs.TestLaws.{stops, goes, lone}
 use Rattle.values.specs.BoundLaws.{vectors-fit}
@@ -39,12 +39,14 @@ merge-frames-requires c κs =
     record {
       accepted = record {
         burst = ready .fits .burst;
+        side-is = refl;
         samples-fit = ready .samples-fit;
         vectors-fit = vectors-fit _ (sym (lent .before .vector-refusal .ensures) ∙ lent .if2 .left);
         shot-most = subst (λ n. n ≤ 65536) (sym (tested-levels _ _ tested z .0)) (ready .shot-most);
         read-most = subst (λ n. n ≤ 4194304) (sym (tested-levels _ _ tested z .1)) (ready .read-most);
         strength-most = ready .strength-most;
         spatial-most = ready .spatial-most;
+        unfiltered = ready .unfiltered;
       };
       output-long = ready .fits .output-long;
       work-long = ready .fits .work-long;
@@ -66,7 +68,7 @@ returns-3 c =
       answer = sym (lent .if2 .left) ∙ e;
       result = made _ _ _ e (lent .if2 .left) is;
       clean = made _ _ _ e (lent .if2 .left) (c .before .clear .ensures ∙ zeros-length _ _ (search needs));
-      near = λ _. output-close _ _ _ _ (ready .fits .burst .allowed .few) is;
+      near = λ _. output-close _ _ _ _ (ready .fits .burst .sided) (ready .unfiltered) (ready .fits .burst .allowed .few) is;
       ceiling = λ _. output-capped _ _ (ready .fits .burst) (ready .samples-fit) _ _ is;
     }
 

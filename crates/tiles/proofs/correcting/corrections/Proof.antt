@@ -1,24 +1,25 @@
 -- The sum goes on by one frame a turn.
-use Rattle.algebra.specs.Prelude.{_≡_, refl, sym, subst, _-_, _≤_, arith, needs, eqb, length}
-use Rattle.recipe.specs.Scene.{sceneOf}
+use Rattle.algebra.specs.Prelude.{_≡_, refl, sym, subst, _-_, _≤_, arith, needs, lit≤, eqb, length}
+use Rattle.recipe.specs.Tables.{side16}
+use Rattle.recipe.specs.Scene.{sceneAt}
 use Rattle.lines.specs.Lines.{TileMost}
 use Rattle.lines.specs.Magnitudes.{differenceMost}
-use Rattle.spectrum.specs.Magnitudes.{noiseMost}
+use Rattle.spectrum.specs.Magnitudes.{noiseMost, smallMost}
 use Rattle.spectrum.specs.SizeLaws.{correction-small}
 use Rattle.spectrum.specs.Apart.{cond-cases}
-use Rattle.tiles.proofs.Differences.{pair-rows, tile-most}
-use Rattle.tiles.proofs.Summing.{Summing, sum-start, sum-turn, sum-paired, sum-small, sum-done}
+use Rattle.tiles.specs.DifferenceLaws.{pair-rows, tile-most}
+use Rattle.tiles.specs.SumLaws.{Summing, sum-start, sum-turn, sum-paired, sum-small, sum-done}
 use Rattle.tiles.proofs.correcting.corrections.Statement.{statement}
 use Rattle.tiles.proofs.correcting.corrections.Tie as tie
 
 abbrev Inv-loop : tie.InvT-loop
-Inv-loop m samples vectors site t0 first second sum₀ others tz₀ d₀ k₀ sum tz d k = record { sums : Summing (sceneOf m samples vectors) site k sum; tz-rows : length tz ≡ 16; d-rows : length d ≡ 16 }
+Inv-loop m samples vectors site t0 first second sum₀ others tz₀ d₀ k₀ sum tz d k = record { sums : Summing 16 smallMost (sceneAt side16 m samples vectors) site k sum; tz-rows : length tz ≡ 16; d-rows : length d ≡ 16 }
 
 abbrev μ-loop : tie.MeasureT-loop
 μ-loop m samples vectors site t0 first second sum₀ others tz₀ d₀ k₀ sum tz d k = others - k
 
 loop-holds : tie.Need-loop-holds Inv-loop μ-loop
-unfolding sceneOf
+unfolding sceneAt side16
 loop-holds c = record { sums = sum-start refl (omega arith) (c .before .before .pre .cleared); tz-rows = refl; d-rows = refl }
 
 differences-requires : tie.Need-differences-requires Inv-loop μ-loop
@@ -33,28 +34,28 @@ add-corrections-requires c κs =
     let l = d .before .before .before .before in
     let s = l .before .before .before in
     record {
-      differences = subst (TileMost differenceMost) (sym (d .differences .ensures .0)) (tile-most (s .pre .accepted) (s .pre .sited) (l .loop .k) (omega arith));
+      differences = subst (TileMost differenceMost) (sym (d .differences .ensures .0)) (tile-most side16 (s .pre .accepted) (s .pre .sited) (l .loop .k) (omega arith));
       first-most = s .pre .tile .first-most;
       second-most = s .pre .tile .second-most;
-      sums-most = sum-small (l .loop .inv .sums);
-      paired = sum-paired (l .loop .inv .sums);
+      sums-most = sum-small (lit≤ tt) (l .loop .inv .sums);
+      paired = record { is = sum-paired (l .loop .inv .sums) };
     }
 
 loop-again : tie.Need-loop-again Inv-loop μ-loop
-unfolding sceneOf
+unfolding sceneAt
 loop-again c =
     let d = c .before .before .before in
     let l = d .before .before .before .before in
     let s = l .before .before .before in
     record {
-      sums = sum-turn (l .loop .inv .sums) (omega arith) (s .args .first) (s .args .second) (s .pre .tile .number) (d .differences .ensures .0) (c .add-corrections .ensures)
+      sums = sum-turn (l .loop .inv .sums) (omega arith) side16 refl (s .args .first) (s .args .second) (s .pre .tile .number) (d .differences .ensures .0) (c .add-corrections .ensures)
           (λ p h. correction-small _ (subst (λ n. n ≤ noiseMost) (s .pre .tile .number p h) (cond-cases (λ n. n ≤ noiseMost) (eqb p 0) (s .pre .tile .first-most) (s .pre .tile .second-most))) _);
       tz-rows = d .differences .ensures .1;
-      d-rows = pair-rows _ (d .differences .ensures .0);
+      d-rows = pair-rows 16 _ (d .differences .ensures .0);
     }
 
 returns : tie.Need-returns Inv-loop μ-loop
-unfolding sceneOf
+unfolding sceneAt
 returns c = sum-done (c .before .loop .inv .sums) (omega arith)
 
 pub corrections-spec : {M : Type 1} → statement M

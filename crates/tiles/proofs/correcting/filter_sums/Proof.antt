@@ -14,7 +14,7 @@ use Rattle.spectrum.specs.Pairs.{planeIn, either}
 use Rattle.grain.specs.Filtering.{copyIn, NoiseLine, NoisesMost}
 use Rattle.grain.specs.FilteringLaws.{step-noise}
 use Rattle.tiles.specs.Accepted.{Tuned}
-use Rattle.tiles.proofs.Noises.{both}
+use Rattle.tiles.specs.NoiseLaws.{both}
 use Rattle.tiles.proofs.correcting.filter_sums.Statement.{statement}
 use Rattle.tiles.proofs.correcting.filter_sums.Tie as tie
 

@@ -1,12 +1,13 @@
 -- Where both noise numbers are 0, so is every correction.
 use Rattle.algebra.specs.Prelude.{needs}
-use Rattle.tiles.proofs.Summing.{zero-summed}
-use Rattle.tiles.proofs.Noises.{no-noise-of}
+use Rattle.spectrum.specs.Magnitudes.{smallMost}
+use Rattle.tiles.specs.SumLaws.{zero-summed}
+use Rattle.tiles.specs.NoiseLaws.{no-noise-of}
 use Rattle.tiles.proofs.correcting.summed.Statement.{statement}
 use Rattle.tiles.proofs.correcting.summed.Tie as tie
 
 returns : tie.Need-returns
-returns c = let s = c .before .before in zero-summed (no-noise-of (s .pre .tile) (c .if1 .taken)) (s .pre .cleared)
+returns c = let s = c .before .before in zero-summed 16 smallMost (no-noise-of (s .pre .tile) (c .if1 .taken)) (s .pre .cleared)
 
 corrections-requires : tie.Need-corrections-requires
 corrections-requires c κs = let s = c .before .before .before in record { accepted = s .pre .accepted; sited = s .pre .sited; tile = s .pre .tile; cleared = s .pre .cleared }

@@ -1,52 +1,30 @@
 -- T0 has its roots and its noise numbers, and what is taken from it is its sums, or these with the spatial filter's.
-use Rattle.algebra.specs.Prelude.{_≡_, ap, _∙_, List, ℕ, suc, _+_, _*_, _/_, _%_, _≤_, _<_, arith, needs, lit<, ℤ, now}
-use Rattle.sequences.specs.Grid.{grid, cell, cell-grid}
+use Rattle.algebra.specs.Prelude.{_≡_, refl, List, ℕ, suc, _+_, _*_, _≤_, _<_, arith, needs, lit≤, lit<, ℤ, now}
+use Rattle.sequences.specs.Grid.{grid, cell}
 use Rattle.recipe.specs.Tables.{side16}
-use Rattle.recipe.specs.NoiseNumber.{tileRoot, noiseNumber}
-use Rattle.roots.specs.TileRootLaws.{tile-root-cong}
-use Rattle.spectrum.specs.Magnitudes.{noiseMost}
+use Rattle.spectrum.specs.Magnitudes.{noiseMost, smallMost}
 use Rattle.spectrum.specs.Pairs.{sideBySide, either}
 use Rattle.recipe.specs.declared.Merge.{Merge}
 use Rattle.tiles.specs.declared.Site.{Site}
-use Rattle.recipe.specs.Scene.{sceneOf, blackOf, referenceTile, referenceRoot, tileNoise}
+use Rattle.recipe.specs.Scene.{referenceTile, referenceRoot, sceneAt}
 use Rattle.noise.specs.SpatialRange.{SpatialRange}
 use Rattle.tiles.specs.Accepted.{Accepted, Tuned}
 use Rattle.tiles.specs.Sum.{TileOf}
-use Rattle.tiles.proofs.Differences.{tile-fits, reference-most}
-use Rattle.tiles.proofs.Noises.{both}
-use Rattle.tiles.proofs.Filtering.{sums-fit, sums-paired, taken-off, taken-on}
+use Rattle.tiles.specs.DifferenceLaws.{tile-fits, reference-most}
+use Rattle.tiles.specs.NoiseLaws.{both}
+use Rattle.tiles.specs.TileLaws.{root-of, number, tile-of, taken-off}
+use Rattle.tiles.proofs.Filtering.{sums-fit, sums-paired, taken-on}
 use Rattle.tiles.proofs.correcting.tile_correction.Statement.{statement}
 use Rattle.tiles.proofs.correcting.tile_correction.Tie as tie
 
-module _ (m : Merge) (samples : List ℕ) (vectors : List ℤ) (t : Site) {t0 : List (List ℕ)} (e : t0 ≡ grid 16 32 (sideBySide (λ p. referenceTile (sceneOf m samples vectors) (t .«row_parity») p (t .row) (t .column)))) where
-  -- r of the tile of column parity p, by its cells
-  root-of : (p : ℕ) → p < 2 → (at : ℕ → ℕ) → ((j : ℕ) → at j ≡ 2 * j + p) → {black root : ℕ} → black ≡ blackOf (m .tuning) (t .«row_parity») p → root ≡ tileRoot 16 black (λ i j. cell 0 t0 i (at j))
-      → root ≡ referenceRoot (sceneOf m samples vectors) (t .«row_parity») p (t .row) (t .column)
-  unfolding sceneOf side16
-  root-of p h at place b r = r ∙ ap (λ l. tileRoot 16 l (λ i j. cell 0 t0 i (at j))) b ∙ tile-root-cong 16 _ _ _ plane
-    where
-      plane : (i j : ℕ) → i < 16 → j < 16 → cell 0 t0 i (at j) ≡ referenceTile (sceneOf m samples vectors) (t .«row_parity») p (t .row) (t .column) i j
-      plane i j k l =
-          let parity : at j % 2 ≡ p = omega (arith, place j) in
-          let column : at j / 2 ≡ j = omega (arith, place j) in
-          ap (λ x. cell 0 x i (at j)) e ∙ cell-grid 0 16 32 _ i (at j) k (omega (arith, place j)) ∙ rw (parity, column)
-
-  -- and its V
-  number : (p : ℕ) {root noise : ℕ} → root ≡ referenceRoot (sceneOf m samples vectors) (t .«row_parity») p (t .row) (t .column)
-      → noise ≡ noiseNumber side16 (m .tuning .strength) (m .shot) (m .read) root → noise ≡ tileNoise (sceneOf m samples vectors) (t .«row_parity») p (t .row) (t .column)
-  unfolding tileNoise sceneOf side16
-  number p r v = v ∙ ap (noiseNumber side16 (m .tuning .strength) (m .shot) (m .read)) r
-
-  -- both of them
-  tile-of : {first second : ℕ} → first ≡ tileNoise (sceneOf m samples vectors) (t .«row_parity») 0 (t .row) (t .column) → second ≡ tileNoise (sceneOf m samples vectors) (t .«row_parity») 1 (t .row) (t .column)
-      → first ≤ noiseMost → second ≤ noiseMost → TileOf (sceneOf m samples vectors) t t0 first second
-  tile-of {first} {second} v w f g =
-      record { is = e; number = both (λ p. either first second p ≡ tileNoise (sceneOf m samples vectors) (t .«row_parity») p (t .row) (t .column)) v w; first-most = f; second-most = g }
+sided : side16 .side ≡ 16
+unfolding side16
+sided = refl
 
 -- T0
 tile-is : (c : tie.After-pair) → let a = c .before .before .before .before .args in
-    c .pair .last .1 .1 .1 .1 .1 .1 .0 ≡ grid 16 32 (sideBySide (λ p. referenceTile (sceneOf (a .m) (now (a .samples)) (now (a .vectors))) (a .site .«row_parity») p (a .site .row) (a .site .column)))
-unfolding referenceTile sceneOf
+    c .pair .last .1 .1 .1 .1 .1 .1 .0 ≡ grid 16 32 (sideBySide (λ p. referenceTile (sceneAt side16 (a .m) (now (a .samples)) (now (a .vectors))) (a .site .«row_parity») p (a .site .row) (a .site .column)))
+unfolding referenceTile sceneAt
 tile-is c = c .pair .ensures
 
 pair-roots-requires : tie.Need-pair-roots-requires
@@ -54,7 +32,7 @@ unfolding cell
 pair-roots-requires c κs =
     let t = c .before .before .before in
     let s = t .before .before .before .before in
-    let fits = tile-fits _ (reference-most (s .pre .accepted) (s .pre .sited)) (tile-is t) in
+    let fits = tile-fits 16 _ (reference-most side16 (s .pre .accepted) (s .pre .sited)) (tile-is t) in
     record { most = λ i l. fits .row i .most l }
 
 abbrev rootsOf : tie.After-tile-noise2 → ℕ → ℕ
@@ -62,25 +40,25 @@ rootsOf c = either (c .before .before .pair-roots .result .first) (c .before .be
 
 -- r of either plane
 roots-known : (c : tie.After-tile-noise2) → let a = c .before .before .before .before .before .before .before .before .before .before .args in
-    (p : ℕ) → p < 2 → rootsOf c p ≡ referenceRoot (sceneOf (a .m) (now (a .samples)) (now (a .vectors))) (a .site .«row_parity») p (a .site .row) (a .site .column)
+    (p : ℕ) → p < 2 → rootsOf c p ≡ referenceRoot (sceneAt side16 (a .m) (now (a .samples)) (now (a .vectors))) (a .site .«row_parity») p (a .site .row) (a .site .column)
 roots-known c =
     let r = c .before .before in
     let b = r .before .before in
     let t = b .before .before in
     let a = t .before .before .before .before .args in
-    both (λ p. rootsOf c p ≡ referenceRoot (sceneOf (a .m) (now (a .samples)) (now (a .vectors))) (a .site .«row_parity») p (a .site .row) (a .site .column))
-    (root-of (a .m) (now (a .samples)) (now (a .vectors)) (a .site) (tile-is t) 0 (lit< tt) (λ j. 2 * j) (λ j. omega arith) (b .before .plane-black .ensures) (r .pair-roots .ensures .first))
-    (root-of (a .m) (now (a .samples)) (now (a .vectors)) (a .site) (tile-is t) 1 (lit< tt) (λ j. 2 * j + 1) (λ j. omega arith) (b .plane-black2 .ensures) (r .pair-roots .ensures .second))
+    both (λ p. rootsOf c p ≡ referenceRoot (sceneAt side16 (a .m) (now (a .samples)) (now (a .vectors))) (a .site .«row_parity») p (a .site .row) (a .site .column))
+    (root-of 16 side16 sided (a .m) (now (a .samples)) (now (a .vectors)) (a .site) (tile-is t) 0 (lit< tt) (λ j. 2 * j) (λ j. omega arith) (b .before .plane-black .ensures) (r .pair-roots .ensures .first))
+    (root-of 16 side16 sided (a .m) (now (a .samples)) (now (a .vectors)) (a .site) (tile-is t) 1 (lit< tt) (λ j. 2 * j + 1) (λ j. omega arith) (b .plane-black2 .ensures) (r .pair-roots .ensures .second))
 
 known : (c : tie.After-tile-noise2) → let t = c .before .before .before .before .before .before in let a = t .before .before .before .before .args in
-    TileOf (sceneOf (a .m) (now (a .samples)) (now (a .vectors))) (a .site) (t .pair .last .1 .1 .1 .1 .1 .1 .0) (c .before .tile-noise .result) (c .tile-noise2 .result)
+    TileOf 16 noiseMost (sceneAt side16 (a .m) (now (a .samples)) (now (a .vectors))) (a .site) (t .pair .last .1 .1 .1 .1 .1 .1 .0) (c .before .tile-noise .result) (c .tile-noise2 .result)
 known c =
     let v = c .before in
     let t = v .before .before .before .before .before in
     let a = t .before .before .before .before .args in
-    tile-of (a .m) (now (a .samples)) (now (a .vectors)) (a .site) (tile-is t)
-    (number (a .m) (now (a .samples)) (now (a .vectors)) (a .site) (tile-is t) 0 (roots-known c 0 (lit< tt)) (v .tile-noise .ensures .0))
-    (number (a .m) (now (a .samples)) (now (a .vectors)) (a .site) (tile-is t) 1 (roots-known c 1 (lit< tt)) (c .tile-noise2 .ensures .0))
+    tile-of 16 side16 sided (a .m) (now (a .samples)) (now (a .vectors)) (a .site) (tile-is t)
+    (number 16 side16 sided (a .m) (now (a .samples)) (now (a .vectors)) (a .site) (tile-is t) 0 (roots-known c 0 (lit< tt)) (v .tile-noise .ensures .0))
+    (number 16 side16 sided (a .m) (now (a .samples)) (now (a .vectors)) (a .site) (tile-is t) 1 (roots-known c 1 (lit< tt)) (c .tile-noise2 .ensures .0))
     (v .tile-noise .ensures .1) (c .tile-noise2 .ensures .1)
 
 summed-requires : tie.Need-summed-requires
@@ -90,19 +68,19 @@ summed-requires c κs =
     record { accepted = s .pre .accepted; sited = s .pre .sited; tile = known n; cleared = s .pre .cleared }
 
 returns : tie.Need-returns
-unfolding sceneOf
+unfolding sceneAt
 returns c =
     let u = c .before .before in
     let s = u .before .before .before .before .before .before .before .before .before .before .before .before .before in
     let few = s .pre .accepted .burst .allowed .few in
-    taken-off _ _ (c .if1 .taken) (omega arith) (u .summed .ensures)
+    taken-off _ _ (c .if1 .taken) 16 smallMost (omega arith) (lit≤ tt) (u .summed .ensures)
 
 -- N frames
-frames-are : {m : Merge} {samples : List ℕ} {vectors : List ℤ} → Accepted m samples vectors → m .shape .count ≡ suc (sceneOf m samples vectors .others)
-unfolding sceneOf
+frames-are : {m : Merge} {samples : List ℕ} {vectors : List ℤ} → Accepted 16 m samples vectors → m .shape .count ≡ suc (sceneAt side16 m samples vectors .others)
+unfolding sceneAt
 frames-are ok = let h = ok .burst .allowed .some in omega arith
 
-tuned : {m : Merge} {samples : List ℕ} {vectors : List ℤ} → Accepted m samples vectors → Tuned m
+tuned : {m : Merge} {samples : List ℕ} {vectors : List ℤ} → Accepted 16 m samples vectors → Tuned m
 tuned ok = record { some = ok .burst .allowed .some; few = ok .burst .allowed .few; shot-most = ok .shot-most; read-most = ok .read-most; spatial-most = ok .spatial-most }
 
 filter-sums-requires : tie.Need-filter-sums-requires
@@ -112,7 +90,7 @@ filter-sums-requires c κs =
     let r = n .before .before in
     let t = r .before .before .before .before in
     let s = t .before .before .before .before in
-    let fits = tile-fits _ (reference-most (s .pre .accepted) (s .pre .sited)) (tile-is t) in
+    let fits = tile-fits 16 _ (reference-most side16 (s .pre .accepted) (s .pre .sited)) (tile-is t) in
     record {
       tuned = tuned (s .pre .accepted);
       first-most = r .pair-roots .ensures .first-most;

@@ -1,5 +1,5 @@
 -- The pair of the frame that the index names, moved by the vector that stands at its place.
-use Rattle.algebra.specs.Prelude.{_≡_, _∙_, List, ℕ, _+_, arith, needs, getD, ℤ, pos, w32, toZ, ofZ, toZ-ofZ, now}
+use Rattle.algebra.specs.Prelude.{_≡_, sym, subst, _∙_, List, ℕ, _+_, _/_, _<_, arith, needs, getD, ℤ, pos, w32, toZ, ofZ, toZ-ofZ, now}
 use Rattle.algebra.specs.Bound.{AtMost, most-fits}
 use Rattle.geometry.specs.Fits.{VectorsFit}
 use Rattle.geometry.specs.Read.{sampleAt}
@@ -8,8 +8,8 @@ use Rattle.sequences.specs.Grid.{grid}
 use Rattle.spectrum.specs.Pairs.{sideBySide}
 use Rattle.recipe.specs.Tables.{side16}
 use Rattle.recipe.specs.declared.Merge.{Merge}
-use Rattle.recipe.specs.Scene.{sceneOf, tileAt, otherTile}
-use Rattle.tiles.proofs.Differences.{pair-rows, difference-grid, tile-fits, reference-most, other-most}
+use Rattle.recipe.specs.Scene.{tileAt, otherTile, sceneAt}
+use Rattle.tiles.specs.DifferenceLaws.{pair-rows, difference-grid, tile-fits, reference-most, other-most}
 use Rattle.tiles.proofs.reading.differences.Statement.{statement}
 use Rattle.tiles.proofs.reading.differences.Tie as tie
 
@@ -23,9 +23,22 @@ module _ {vectors : List ℤ} (v : VectorsFit vectors) (k : ℕ) where
 other-pair-is : (m : Merge) (samples : List ℕ) (vectors : List ℤ) (rowParity a b k : ℕ) {frame place : ℕ} {down right : ℤ}
     → frame ≡ otherFrame (m .reference) k → place ≡ vectorPlace (m .shape) k a b → down ≡ getD vectors place (pos 0) → right ≡ getD vectors (place + 1) (pos 0)
     → grid 16 32 (sideBySide (λ p. tileAt side16 (m .shape .height) (m .shape .width) rowParity p (sampleAt (m .shape) samples frame) down right a b))
-    ≡ grid 16 32 (sideBySide (λ p. otherTile (sceneOf m samples vectors) rowParity p a b k))
-unfolding otherTile sceneOf downAt rightAt
+    ≡ grid 16 32 (sideBySide (λ p. otherTile (sceneAt side16 m samples vectors) rowParity p a b k))
+unfolding otherTile sceneAt downAt rightAt
 other-pair-is m samples vectors rowParity a b k f p d r = rw (d, r, f, p)
+
+vector-place-requires : tie.Need-vector-place-requires
+vector-place-requires c κs =
+    let s = c .before .before in
+    let a = s .args in
+    let ok = s .pre .accepted in
+    record {
+      allowed = ok .burst .allowed;
+      sided = ok .burst .sided;
+      other = s .pre .frame;
+      row-in = subst (λ n. a .site .row < a .m .shape .height / n + 1) (sym (ok .side-is)) (omega (arith, s .pre .sited .row));
+      column-in = subst (λ n. a .site .column < a .m .shape .width / n + 1) (sym (ok .side-is)) (omega (arith, s .pre .sited .column));
+    }
 
 pair-requires : tie.Need-pair-requires
 pair-requires c κs =
@@ -35,7 +48,7 @@ pair-requires c κs =
 
 -- Tz
 other-is : (c : tie.After-pair) → let a = c .before .before .before .before .before .before .before .before .args in
-    c .pair .last .1 .1 .1 .1 .1 .1 .0 ≡ grid 16 32 (sideBySide (λ p. otherTile (sceneOf (a .m) (now (a .samples)) (now (a .vectors))) (a .site .«row_parity») p (a .site .row) (a .site .column) (a .k)))
+    c .pair .last .1 .1 .1 .1 .1 .1 .0 ≡ grid 16 32 (sideBySide (λ p. otherTile (sceneAt side16 (a .m) (now (a .samples)) (now (a .vectors))) (a .site .«row_parity») p (a .site .row) (a .site .column) (a .k)))
 other-is c =
     let place = c .before .before .before .before .before in
     let s = place .before .before .before in
@@ -50,8 +63,8 @@ difference-requires c κs =
     let s = tz .before .before .before .before .before .before .before .before in
     let ok = s .pre .accepted in
     record {
-      reference = tile-fits _ (reference-most ok (s .pre .sited)) (s .pre .tile);
-      other = tile-fits _ (other-most ok (s .pre .sited) (s .args .k) (omega arith)) (other-is tz);
+      reference = tile-fits 16 _ (reference-most side16 ok (s .pre .sited)) (s .pre .tile);
+      other = tile-fits 16 _ (other-most side16 ok (s .pre .sited) (s .args .k) (omega arith)) (other-is tz);
       rows = s .pre .d-rows;
     }
 
@@ -59,10 +72,10 @@ returns : tie.Need-returns
 returns c =
     let tz = c .before .before .before in
     let s = tz .before .before .before .before .before .before .before .before in
-    (c .difference .ensures ∙ difference-grid (sceneOf (s .args .m) (now (s .args .samples)) (now (s .args .vectors))) _ _ _ _ (s .pre .tile) (other-is tz), pair-rows _ (other-is tz))
+    (c .difference .ensures ∙ difference-grid 16 (sceneAt side16 (s .args .m) (now (s .args .samples)) (now (s .args .vectors))) _ _ _ _ (s .pre .tile) (other-is tz), pair-rows 16 _ (other-is tz))
 
 pub differences-spec : {M : Type 1} → statement M
 differences-spec = tie.close (tie.spec
-    (λ c κs. search needs) (λ c. search needs) (λ c. search needs) (λ c. search needs)
+    vector-place-requires (λ c. search needs) (λ c. search needs) (λ c. search needs)
     (λ c. search needs) (λ c. search needs) (λ c κs. search needs) pair-requires difference-requires
     returns)

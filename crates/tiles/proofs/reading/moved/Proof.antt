@@ -1,5 +1,6 @@
 -- An origin and a vector's part are small.
-use Rattle.algebra.specs.Prelude.{_≡_, ap, _∙_, arith, needs, _+ℤ_, w32, w64, toZ, ofZ, toZ-ofZ}
+use Rattle.algebra.specs.Prelude.{_≡_, ap, _∙_, arith, needs, pos, _+ℤ_, w32, w64, toZ, ofZ, toZ-ofZ}
+use Rattle.algebra.specs.Order.{abs-add}
 use Rattle.algebra.specs.Bound.{add-most, most-fits}
 use Rattle.tiles.specs.SignedLaws.{sum-is, sum-most, wide-fits, wide-most}
 use Rattle.tiles.proofs.reading.moved.Statement.{statement}
@@ -13,7 +14,12 @@ returns c =
     let part = c .before .fits .part in
     let back : toZ w64 (ofZ w64 (toZ w64 (ofZ w64 (c .origin .result)) +ℤ toZ w64 (ofZ w64 (toZ w32 (ofZ w32 (c .before .args .part)))))) ≡ c .origin .result +ℤ c .before .args .part =
     toZ-ofZ (add-result c) ∙ sum-is (c .origin .ensures .1) (wide-most part) tt tt ∙ ap (λ z. c .origin .result +ℤ z) (toZ-ofZ part) in
-    (back ∙ ap (λ z. z +ℤ c .before .args .part) (c .origin .ensures .0), rw back (record { near = omega (arith, add-most (c .origin .ensures .1) (c .before .pre .1) .most) }))
+    let far = add-most (c .origin .ensures .1) (c .before .pre .part-most) .most in
+    record {
+      is = back ∙ ap (λ z. z +ℤ c .before .args .part) (c .origin .ensures .0);
+      near = rw back (record { near = omega (arith, far) });
+      beside = rw back (record { near = omega (arith, far, abs-add (c .origin .result +ℤ c .before .args .part) (pos 16)) });
+    }
 
 pub moved-spec : {M : Type 1} → statement M
 moved-spec = tie.close (tie.spec

@@ -1,0 +1,2 @@
+pub mod LongFolding
+pub mod FourParts

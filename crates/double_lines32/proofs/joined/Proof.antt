@@ -1,0 +1,16 @@
+-- `double_lines32::joined`: the places from the four parts.
+use Rattle.algebra.specs.Prelude.{needs}
+use Rattle.double_lines32.proofs.FourParts.{joined-are}
+use Rattle.double_lines32.proofs.joined.Statement.{statement}
+use Rattle.double_lines32.proofs.joined.Tie as tie
+
+returns : tie.Need-returns
+returns c z most p q r s = joined-are z most p q r s
+
+pub joined-spec : {M : Type 1} → statement M
+joined-spec = tie.close (tie.spec
+    (λ c. search needs) (λ c. search needs) (λ c. search needs) (λ c. search needs) (λ c. search needs) (λ c. search needs) (λ c. search needs) (λ c. search needs)
+    (λ c. search needs) (λ c. search needs) (λ c. search needs) (λ c. search needs) (λ c. search needs) (λ c. search needs) (λ c. search needs) (λ c. search needs)
+    (λ c. search needs) (λ c. search needs) (λ c. search needs) (λ c. search needs) (λ c. search needs) (λ c. search needs) (λ c. search needs) (λ c. search needs)
+    (λ c. search needs) (λ c. search needs) (λ c. search needs) (λ c. search needs) (λ c. search needs) (λ c. search needs) (λ c. search needs) (λ c. search needs)
+    returns)

@@ -1,0 +1,3 @@
+pub mod BothHalves
+pub mod PartSums
+pub mod WholeParts

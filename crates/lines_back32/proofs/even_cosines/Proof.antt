@@ -1,0 +1,51 @@
+-- `lines_back32::even_cosines`: the real parts at even numbers, by computed tests.
+use Rattle.algebra.specs.Prelude.{refl, ap, _∙_, List, [], _∷_, _*_, needs, T, getD}
+use lib.Ieee.{Float, nan, ofBits, ofInt}
+use Rattle.algebra.specs.Ring.{Expr}
+use Rattle.algebra.specs.Sums.{sumZ}
+use Rattle.algebra.specs.Forms.{same}
+use Rattle.sequences.specs.Tab.{tab}
+use Rattle.floats.specs.Kernels.{Form, var, plus, minus, times}
+use Rattle.recipe.specs.Side.{cosAt}
+use Rattle.recipe.specs.Tables32.{cosines32, cosine32, side32}
+use Rattle.lines.specs.Halfcomplex.{halfZ, frequencyOf, phaseOf, basisOf}
+use Rattle.lines.specs.DoubleForms.{floats, exprs, forms-are}
+use Rattle.lines_back32.specs.Parts.{partBasis, cosinePart}
+use Rattle.lines_back32.proofs.PartSums.{cosinesE}
+use Rattle.lines_back32.proofs.even_cosines.Statement.{statement}
+use Rattle.lines_back32.proofs.even_cosines.Tie as tie
+
+-- var k is place 2k + 1
+abbrev results : List Form
+results =
+    let a1 = plus (var 0) (var 7) in
+    let a3 = plus (var 1) (var 6) in
+    let a5 = plus (var 2) (var 5) in
+    let a7 = plus (var 3) (var 4) in
+    let p = minus a1 a7 in
+    let q = minus a3 a5 in
+    let r = plus a1 a7 in
+    let s = plus a3 a5 in
+    times 8192 (plus r s) ∷ plus (times 15137 p) (times 6270 q) ∷ times 11585 (minus r s) ∷ minus (times 6270 p) (times 15137 q) ∷ []
+
+-- as the code reads them
+abbrev read : List Float → List Float
+read t = floats results (λ k. getD t k nan)
+
+-- they are the sums
+abbrev sums : List Expr
+sums = tab 4 (λ n. cosinesE (2 * n))
+
+sums-same : T (same (exprs 16 results) sums)
+unfolding tab partBasis halfZ basisOf frequencyOf phaseOf cosAt side32 cosine32 cosines32
+sums-same = tt
+
+returns : tie.Need-returns
+unfolding tab sumZ cosinePart partBasis halfZ basisOf frequencyOf phaseOf cosAt side32 cosine32 cosines32 ofBits ofInt
+returns c z most e = ap read e ∙ forms-are 16 z most refl results sums tt sums-same
+
+pub even-cosines-spec : {M : Type 1} → statement M
+even-cosines-spec = tie.close (tie.spec
+    (λ c. search needs) (λ c. search needs) (λ c. search needs) (λ c. search needs) (λ c. search needs) (λ c. search needs)
+    (λ c. search needs) (λ c. search needs)
+    returns)

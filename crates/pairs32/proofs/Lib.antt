@@ -1,0 +1,5 @@
+pub mod ColumnLaws
+pub mod RowLaws
+pub mod Rounding
+pub mod Passes
+pub mod Corrections

@@ -1,0 +1,4 @@
+pub mod Lanes
+pub mod LaneLaws
+pub mod QuadGains
+pub mod FilterLaws

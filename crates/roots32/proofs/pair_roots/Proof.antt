@@ -1,0 +1,28 @@
+-- Each plane's root is that of its places' squares.
+use Rattle.algebra.specs.Prelude.{ap, _∙_, arith, needs, now, lit<}
+use Rattle.sequences.specs.Grid.{cell}
+use Rattle.roots32.specs.Lanes.{laneBlack}
+use Rattle.roots.specs.TileRootLaws.{tile-root-cong}
+use Rattle.roots32.proofs.Lanes.{root-of-plane}
+use Rattle.roots32.proofs.pair_roots.Statement.{statement}
+use Rattle.roots32.proofs.pair_roots.Tie as tie
+
+returns : tie.Need-returns
+unfolding laneBlack
+returns c =
+    let r = c .before .before in
+    let l = r .before .before in
+    let b = l .before .before in
+    let a = b .before .args in
+    record {
+      first = r .plane-root .ensures .0 ∙ root-of-plane (a .first-black) (a .second-black) (now (a .tile)) 0 (lit< tt) (b .lane-blacks .ensures) (l .lane-squares .ensures .0)
+          ∙ tile-root-cong 32 _ _ _ (λ i j _ _. ap (cell 0 (now (a .tile)) i) (omega arith));
+      second = c .plane-root2 .ensures .0 ∙ root-of-plane (a .first-black) (a .second-black) (now (a .tile)) 1 (lit< tt) (b .lane-blacks .ensures) (l .lane-squares .ensures .0);
+      first-most = r .plane-root .ensures .1;
+      second-most = c .plane-root2 .ensures .1;
+    }
+
+pub pair-roots-spec : {M : Type 1} → statement M
+pair-roots-spec = tie.close (tie.spec
+    (λ c κs. search needs) (λ c κs. search needs) (λ c κs. search needs) (λ c κs. search needs)
+    returns)

@@ -1,0 +1,14 @@
+-- Inside this crate: the squares of a pair of tiles by their places in a row. Place 2·j + p is column j of plane p.
+use Rattle.algebra.specs.Prelude.{cond, List, ℕ, _%_, eqb, getD}
+use Rattle.algebra.specs.Sums.{sumN}
+use Rattle.sequences.specs.Tab.{tab}
+use Rattle.sequences.specs.Grid.{cell}
+use Rattle.recipe.specs.NoiseNumber.{squared}
+
+-- the black level at place l
+unfoldable pub laneBlack : (first second l : ℕ) → ℕ
+laneBlack first second l = cond (eqb (l % 2) 0) first second
+
+-- the squares of the first n rows, added up at each place
+unfoldable pub lanes : (n : ℕ) → List ℕ → List (List ℕ) → List ℕ
+lanes n black tile = tab 64 (λ l. sumN n (λ i. squared (getD black l 0) (cell 0 tile i l)))

@@ -1,0 +1,37 @@
+// r, the whole root of the sum of the squares of a tile's samples above their black level, for a pair of planes.
+mod squares;
+
+ghost use mathlib.Core.Path.{_≡_};
+ghost use Prim.Native.Nat.{_+_, _*_, _<_, _≤_};
+ghost use lib.ListN.{getD};
+ghost use Rattle.algebra.specs.Sums.{sumN};
+ghost use Rattle.sequences.specs.Grid.{cell};
+ghost use Rattle.recipe.specs.Root.{wholeRoot};
+ghost use Rattle.recipe.specs.NoiseNumber.{tileRoot};
+ghost use Rattle.roots32.specs.Range.{SamplesFit, LanesFit};
+
+// r of the two planes of a pair of tiles.
+pub struct Roots {
+    pub first: u64,
+    pub second: u64,
+}
+
+// r of plane p of a pair, of the squares at each place of its rows.
+fn plane_root(sum: &[u32; 64], p: usize) -> u64
+    requires { ⌜ (p < 2) × (LanesFit 32 (now sum)) ⌝ }
+    ensures { λ r. ⌜ (r ≡ wholeRoot (sumN 32 (λ j. getD (now (sum .entry)) (2 * j + p) 0))) × (r ≤ 131040) ⌝ }
+{
+    squares::whole_root(squares::plane_squares(sum, p))
+}
+
+// r of both planes of a pair of tiles, of their black levels.
+pub fn pair_roots(first_black: u16, second_black: u16, tile: &[[u16; 64]; 32]) -> Roots
+    requires { ⌜ SamplesFit (now tile) ⌝ }
+    ensures { λ r. ⌜ record { first : r .first ≡ tileRoot 32 «first_black» (λ i j. cell 0 (now (tile .entry)) i (2 * j)); second : r .second ≡ tileRoot 32 «second_black» (λ i j. cell 0 (now (tile .entry)) i (2 * j + 1)); first-most : r .first ≤ 131040; second-most : r .second ≤ 131040 } ⌝ }
+{
+    let black = squares::lane_blacks(first_black, second_black);
+    let sum = squares::lane_squares(&black, tile);
+    let first = plane_root(&sum, 0);
+    let second = plane_root(&sum, 1);
+    Roots { first, second }
+}

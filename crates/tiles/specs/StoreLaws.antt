@@ -1,0 +1,167 @@
+-- Inside the crates of the merge: lines stored one after the other, and a row of pairs stored pair by pair: its record, and how it starts, goes on and ends.
+use Rattle.algebra.specs.Prelude.{_≡_, refl, sym, ap, subst, _∙_, Bool, true, false, List, ℕ, zero, suc, _+_, _-_, _*_, _/_, _%_, _≤_, _<_, arith, ltb, length, getD, ℤ, pos, natAbs}
+use borrow.Author.Count.{below-none, below-more}
+use borrow.Author.Tests.{ltb-true, ltb-false}
+use Rattle.sequences.specs.Grid.{cell, cell-grid}
+use Rattle.sequences.specs.Write.{written, written-in, written-length}
+use Rattle.geometry.specs.Fits.{TileSide}
+use Rattle.recipe.specs.Scene.{Scene}
+use Rattle.spectrum.specs.Pairs.{sideBySide}
+use Rattle.tiles.specs.Sum.{takenIn, takenMost, Taken}
+use Rattle.tiles.specs.Toward.{Toward, toward-same, toward-on, written-right, written-toward, goal, toward-written}
+use Rattle.tiles.specs.Rows.{rowWords, slotOf, halfWord, rowWord, Stored, Fits, Spread}
+use Rattle.tiles.specs.Places.{half-of, row-of, word-of, whole-word, row-in, word-in, half-in, place-in, half-parity, half-column, half-below}
+
+module _ {P : Type 0} {f : ℕ → ℕ → ℤ} {at step n : ℕ} {d : List ℤ} where
+  pub spread-start : Spread P f at step n 0 d d
+  spread-start = record { same = refl; toward = λ g e. toward-same; right = λ p g e i j h k. absurd (omega arith) }
+
+  -- one more line
+  pub spread-turn : {count : ℕ} {l r : List ℤ} → P → Spread P f at step n count d l → at + step * count + n ≤ length l → r ≡ written l (at + step * count) (f count) n → Spread P f at step n (count + 1) d r
+  spread-turn {count} {l} {r} p w room is =
+      record {
+        same = ap length is ∙ written-length l (at + step * count) (f count) n (pos 0) room ∙ w .same;
+        toward = λ g e. toward-on (w .toward g (λ q i j h k. e q i j (omega arith) k)) (line g (e p));
+        right = λ q g e i j h k. stands g e i j h k (ltb i count) refl;
+      }
+    where
+      line : (g : ℕ → ℤ) → Fits f at step n (count + 1) g → Toward (pos 0) g l r
+      line g e = subst (Toward (pos 0) g l) (sym is) (written-toward (pos 0) g l (at + step * count) (f count) n room (λ j k. e count j (omega arith) k))
+
+      stands : (g : ℕ → ℤ) → Fits f at step n (count + 1) g → (i j : ℕ) → i < count + 1 → j < n → (t : Bool) → ltb i count ≡ t → getD r (at + step * i + j) (pos 0) ≡ g (at + step * i + j)
+      stands g e i j h k true t = line g e .keeps (at + step * i + j) (w .right p g (λ a b x y. e a b (omega arith) y) i j (ltb-true i count t) k)
+      stands g e i j h k false t =
+          let this : i ≡ count = omega (arith, ltb-false i count t) in
+          subst (λ i. getD r (at + step * i + j) (pos 0) ≡ g (at + step * i + j)) (sym this)
+          (ap (λ x. getD x (at + step * count + j) (pos 0)) is ∙ written-right (pos 0) g l (at + step * count) (f count) n room (λ j k. e count j (omega arith) k) j k)
+
+-- lines that are stored are so if P holds; where it does not, nothing is
+module _ {P : Type 0} {f : ℕ → ℕ → ℤ} {at step n count : ℕ} {d l : List ℤ} where
+  pub spread-when : P → Spread (Unit {0}) f at step n count d l → Spread P f at step n count d l
+  spread-when p w = record { same = w .same; toward = λ g e. w .toward g (λ q. e p); right = λ q g e. w .right tt g e }
+
+  pub spread-unless : (P → ⊥) → l ≡ d → Spread P f at step n count d l
+  spread-unless out is = record { same = ap length is; toward = λ g e. subst (Toward (pos 0) g d) (sym is) toward-same; right = λ p. absurd (out p) }
+
+-- what is taken from a pair
+abbrev pairAt : Scene → (rowParity row column i l : ℕ) → ℤ
+pairAt s rowParity row column = sideBySide (λ p. takenIn s rowParity p row column)
+
+-- l is d after the first n pairs of the row
+pub record Storing (side : ℕ) (s : Scene) (rowParity row : ℕ) (d : List ℤ) (n : ℕ) (l : List ℤ) : Type 0 where
+  pub count : n ≤ s .width / side + 1
+  pub room : slotOf side (s .width) row + rowWords side (s .width) ≤ length d
+  pub toward : Toward (pos 0) (goal (pos 0) d (slotOf side (s .width) row) (rowWord side s rowParity row) (rowWords side (s .width))) d l
+  pub right : (h i j : ℕ) → h < 2 * (s .width / side) → i < side → j < side → h / 2 + 1 - h % 2 < n →
+      getD l (slotOf side (s .width) row + (side * side * h + (side * i + j))) (pos 0) ≡ halfWord side s rowParity row h i j
+  pub most : (b : ℕ) → b < n → (i l : ℕ) → i < side → l < 2 * side → natAbs (pairAt s rowParity row b i l) ≤ takenMost
+
+module _ (side : ℕ) (s : Scene) (rowParity row : ℕ) (d : List ℤ) where
+  abbrev slot : ℕ
+  slot = slotOf side (s .width) row
+
+  abbrev g : ℕ → ℤ
+  g = goal (pos 0) d slot (rowWord side s rowParity row) (rowWords side (s .width))
+
+  pub store-start : slotOf side (s .width) row + rowWords side (s .width) ≤ length d → Storing side s rowParity row d 0 d
+  store-start room =
+      record {
+        count = omega arith;
+        room = room;
+        toward = toward-same;
+        right = λ h i j a b c k. absurd (omega arith);
+        most = below-none (λ b. (i l : ℕ) → i < side → l < 2 * side → natAbs (pairAt s rowParity row b i l) ≤ takenMost);
+      }
+
+  module _ (sided : TileSide side) (wide : s .width % 64 ≡ 0) where
+    -- a word of a pair, by its half
+    pair-word : (b i u block j : ℕ) → u < 2 → b + u ≡ block + 1 → pairAt s rowParity row b i (side * u + j) ≡ halfWord side s rowParity row (2 * block + u) i j
+    unfolding halfWord
+    pair-word b i u block j hu hb =
+        let sideOf : (2 * block + u) % 2 ≡ u = omega arith in
+        let blockOf : (2 * block + u) / 2 ≡ block = omega arith in
+        let pairOf : block + 1 - u ≡ b = omega arith in
+        rw (half-parity sided u j, half-column sided u j, sideOf, blockOf, pairOf)
+
+    -- the goal, at a word of a half
+    goal-is : slot + rowWords side (s .width) ≤ length d → (h i j : ℕ) → h < 2 * (s .width / side) → i < side → j < side → g (slot + (side * side * h + (side * i + j))) ≡ halfWord side s rowParity row h i j
+    unfolding rowWords rowWord
+    goal-is room h i j a b c =
+        written-in d slot (rowWord side s rowParity row) (rowWords side (s .width)) (pos 0) room (side * side * h + (side * i + j)) (place-in sided (s .width) wide h i j a b c)
+        ∙ rw (half-of sided h i j b c, row-of sided h i j b c, word-of sided h i j b c)
+
+    module _ {n : ℕ} {l mid r : List ℤ} {tile : List (List ℤ)} (w : Storing side s rowParity row d n l) (h : n < s .width / side + 1)
+        (sum : Taken side s (record { «row_parity» = rowParity; row = row; column = n }) tile)
+        (left : Spread (0 < n) (λ i j. cell (pos 0) tile i (0 + j)) (slot + 2 * (side * side) * (n - 1)) side side side l mid)
+        (right : Spread (n < s .width / side) (λ i j. cell (pos 0) tile i (side + j)) (slot + (2 * (side * side) * n + side * side)) side side side mid r) where
+      cell-word : (i k : ℕ) → i < side → k < 2 * side → cell (pos 0) tile i k ≡ pairAt s rowParity row n i k
+      cell-word i k a b = ap (λ x. cell (pos 0) x i k) (sum .is) ∙ cell-grid (pos 0) side (2 * side) _ i k a b
+
+      left-place : (i j : ℕ) → slot + (side * side * (2 * (n - 1) + 0) + (side * i + j)) ≡ slot + 2 * (side * side) * (n - 1) + side * i + j
+      left-place i j = omega arith
+
+      right-place : (i j : ℕ) → slot + (side * side * (2 * n + 1) + (side * i + j)) ≡ slot + (2 * (side * side) * n + side * side) + side * i + j
+      right-place i j = omega arith
+
+      left-fits : 0 < n → Fits (λ i j. cell (pos 0) tile i (0 + j)) (slot + 2 * (side * side) * (n - 1)) side side side g
+      left-fits some i j hi hj =
+          let place : 0 + j ≡ side * 0 + j = omega arith in
+          cell-word i (0 + j) hi (omega arith) ∙ ap (pairAt s rowParity row n i) place ∙ pair-word n i 0 (n - 1) j (omega arith) (omega arith) ∙ sym (goal-is (w .room) (2 * (n - 1) + 0) i j (omega arith) hi hj) ∙ ap g (left-place i j)
+
+      right-fits : n < s .width / side → Fits (λ i j. cell (pos 0) tile i (side + j)) (slot + (2 * (side * side) * n + side * side)) side side side g
+      right-fits more i j hi hj =
+          let place : side + j ≡ side * 1 + j = omega arith in
+          cell-word i (side + j) hi (omega arith) ∙ ap (pairAt s rowParity row n i) place ∙ pair-word n i 1 n j (omega arith) (omega arith) ∙ sym (goal-is (w .room) (2 * n + 1) i j (omega arith) hi hj) ∙ ap g (right-place i j)
+
+      nearer : Toward (pos 0) g l r
+      nearer = toward-on (left .toward g left-fits) (right .toward g right-fits)
+
+      -- the words of this pair
+      stands : (block u i j : ℕ) → u < 2 → block < s .width / side → i < side → j < side → block + 1 - u ≡ n
+          → getD r (slot + (side * side * (2 * block + u) + (side * i + j))) (pos 0) ≡ g (slot + (side * side * (2 * block + u) + (side * i + j)))
+      stands block zero i j hu hb hi hj e =
+          let some : 0 < n = omega arith in
+          let this : n - 1 ≡ block = omega arith in
+          subst (λ b. getD r (slot + (side * side * (2 * b + 0) + (side * i + j))) (pos 0) ≡ g (slot + (side * side * (2 * b + 0) + (side * i + j)))) this
+          (right .toward g right-fits .keeps _ (subst (λ k. getD mid k (pos 0) ≡ g k) (sym (left-place i j)) (left .right some g (left-fits some) i j hi hj)))
+      stands block (suc zero) i j hu hb hi hj e =
+          let more : n < s .width / side = omega arith in
+          let this : n ≡ block = omega arith in
+          subst (λ b. getD r (slot + (side * side * (2 * b + 1) + (side * i + j))) (pos 0) ≡ g (slot + (side * side * (2 * b + 1) + (side * i + j)))) this
+          (subst (λ k. getD r k (pos 0) ≡ g k) (sym (right-place i j)) (right .right more g (right-fits more) i j hi hj))
+      stands block (suc (suc u)) i j hu hb hi hj e = absurd (omega arith)
+
+      pub store-turn : Storing side s rowParity row d (n + 1) r
+      store-turn =
+          record {
+            count = omega arith;
+            room = w .room;
+            toward = toward-on (w .toward) nearer;
+            right = λ h i j a b c k. by h i j a b c k (ltb (h / 2 + 1 - h % 2) n) refl;
+            most = below-more (λ b. (i l : ℕ) → i < side → l < 2 * side → natAbs (pairAt s rowParity row b i l) ≤ takenMost) n (w .most) (sum .most);
+          }
+        where
+          by : (h i j : ℕ) → h < 2 * (s .width / side) → i < side → j < side → h / 2 + 1 - h % 2 < n + 1 → (t : Bool) → ltb (h / 2 + 1 - h % 2) n ≡ t
+              → getD r (slot + (side * side * h + (side * i + j))) (pos 0) ≡ halfWord side s rowParity row h i j
+          by h i j a b c k true t = nearer .keeps _ (w .right h i j a b c (ltb-true (h / 2 + 1 - h % 2) n t) ∙ sym (goal-is (w .room) h i j a b c)) ∙ goal-is (w .room) h i j a b c
+          by h i j a b c k false t =
+              let half : 2 * (h / 2) + h % 2 ≡ h = omega arith in
+              subst (λ x. getD r (slot + (side * side * x + (side * i + j))) (pos 0) ≡ g (slot + (side * side * x + (side * i + j)))) half
+              (stands (h / 2) (h % 2) i j (omega arith) (omega arith) b c (omega (arith, ltb-false (h / 2 + 1 - h % 2) n t))) ∙ goal-is (w .room) h i j a b c
+
+    pub store-done : {n : ℕ} {l : List ℤ} → Storing side s rowParity row d n l → s .width / side + 1 ≤ n → Stored side s rowParity row d l
+    unfolding rowWords rowWord halfWord
+    store-done {n} {l} w h = record { is = toward-written (pos 0) d slot (rowWord side s rowParity row) (rowWords side (s .width)) (w .room) (w .toward) right; most = most }
+      where
+        right : (k : ℕ) → k < rowWords side (s .width) → getD l (slot + k) (pos 0) ≡ rowWord side s rowParity row k
+        right k b =
+            let in-row = half-in sided (s .width) wide k b in
+            subst (λ x. getD l (slot + x) (pos 0) ≡ rowWord side s rowParity row k) (whole-word sided k)
+            (w .right (k / (side * side)) (k % (side * side) / side) (k % side) in-row (row-in sided k) (word-in sided k) (omega (arith, in-row)))
+
+        most : (k : ℕ) → k < rowWords side (s .width) → natAbs (rowWord side s rowParity row k) ≤ takenMost
+        most k b =
+            let half = k / (side * side) in
+            let in-row : half < 2 * (s .width / side) = half-in sided (s .width) wide k b in
+            rw (half-parity sided (half % 2) (k % side), half-column sided (half % 2) (k % side)) at
+            (w .most (half / 2 + 1 - half % 2) (omega (arith, in-row)) (k % (side * side) / side) (side * (half % 2) + k % side) (row-in sided k) (half-below sided (half % 2) (k % side) (omega arith) (word-in sided k)))

@@ -1,0 +1,29 @@
+-- The view's pair at the moved origins, cell by cell.
+use Rattle.algebra.specs.Prelude.{_≡_, refl, ap, ap₂, _∙_, _/_, needs, _+ℤ_, w64, toZ, ofZ, toZ-ofZ, now}
+use Rattle.sequences.specs.Grid.{grid-ext}
+use Rattle.geometry.specs.Read.{sampleAt}
+use Rattle.geometry.specs.Tiles.{origin}
+use Rattle.plane_view.specs.View.{pairOf}
+use Rattle.recipe.specs.Tables32.{side32}
+use Rattle.recipe.specs.Scene.{tileAt}
+use Rattle.tiles32.proofs.reading.pair.Statement.{statement}
+use Rattle.tiles32.proofs.reading.pair.Tie as tie
+
+returns : tie.Need-returns
+unfolding pairOf tileAt side32
+returns c =
+    let s = c .before .before .before .before .before in
+    let a = s .args in
+    let y = c .before .before .before .moved in
+    let x = c .before .before .moved2 in
+    let ey : toZ w64 (ofZ w64 (y .result)) ≡ y .result = search needs in
+    let ex : toZ w64 (ofZ w64 (x .result)) ≡ x .result = search needs in
+    c .wide-frame-pair .ensures
+    ∙ ap₂ (pairOf 32 (a .shape .height / 2) (a .shape .width / 2) (sampleAt (a .shape) (now (a .samples)) (a .frame)) (a .site .«row_parity»))
+    (ey ∙ y .ensures .is ∙ ap (λ z. origin 16 (a .site .row) +ℤ z) (toZ-ofZ (s .fits .down)))
+    (ex ∙ x .ensures .is ∙ ap (λ z. origin 16 (a .site .column) +ℤ z) (toZ-ofZ (s .fits .right)))
+    ∙ grid-ext 32 64 _ _ (λ i l _ _. refl)
+
+pub pair-spec : {M : Type 1} → statement M
+pair-spec = tie.close (tie.spec
+    (λ c κs. search needs) (λ c κs. search needs) (λ c κs. search needs) returns)

@@ -1,0 +1,87 @@
+// Pairs of tiles of side 32, read from a frame: T0, and its differences to Tz.
+ghost use mathlib.Core.Path.{_≡_};
+ghost use Prim.Native.Nat.{_+_, _<_};
+ghost use lib.IntN.{pos, _-ℤ_};
+ghost use lib.ListN.{length, getD};
+ghost use Rattle.algebra.specs.Bound.{AtMost};
+ghost use Rattle.sequences.specs.Tab.{tab};
+ghost use Rattle.sequences.specs.Grid.{grid, cell};
+ghost use Rattle.geometry.specs.Fits.{Sampled, ValuesFit};
+ghost use Rattle.geometry.specs.Read.{sampleAt};
+ghost use Rattle.spectrum.specs.Pairs.{sideBySide};
+ghost use Rattle.recipe.specs.Tables32.{side32};
+ghost use Rattle.recipe.specs.Scene.{tileAt, referenceTile, tileDifference, sceneAt};
+ghost use Rattle.tiles.specs.Accepted.{Accepted, Sited};
+ghost use Rattle.tiles.specs.Sum.{TileFits};
+use crate::HALF_SIDE;
+use geometry::Shape;
+use geometry::vectors::other_frame;
+use geometry::vectors::vector_place;
+use plane_view::thirty_two::wide_frame_pair;
+use recipe::Merge;
+use tiles::Site;
+use tiles::reading::minus;
+use tiles::reading::moved;
+
+// One row of T0 - Tz.
+fn difference_row(a: &[u16; 64], b: &[u16; 64]) -> [i16; 64]
+    requires { ⌜ (ValuesFit (now a)) × (ValuesFit (now b)) ⌝ }
+    ensures { λ r. ⌜ r ≡ tab 64 (λ j. pos (getD (now (a .entry)) j 0) -ℤ pos (getD (now (b .entry)) j 0)) ⌝ }
+{
+    let mut row = [0i16; 64];
+    for j in 0..64 {
+        row[j] = minus(a[j], b[j]);
+    }
+    row
+}
+
+// d: T0 - Tz.
+fn difference(t0: &[[u16; 64]; 32], tz: &[[u16; 64]; 32], d: &mut [[i16; 64]; 32])
+    requires { ⌜ record { reference : TileFits (now t0); other : TileFits (now tz); rows : length (now d) ≡ 32 } ⌝ }
+    ensures { λ _. ⌜ now (d .exit) ≡ grid 32 64 (λ i l. pos (cell 0 (now (t0 .entry)) i l) -ℤ pos (cell 0 (now (tz .entry)) i l)) ⌝ }
+{
+    for i in 0..32 {
+        d[i] = difference_row(&t0[i], &tz[i]);
+    }
+}
+
+// tile: the pair of tiles of a frame, moved by a vector.
+pub fn pair(
+    shape: Shape,
+    samples: &[u16],
+    frame: usize,
+    site: Site,
+    down: i32,
+    right: i32,
+    tile: &mut [[u16; 64]; 32],
+)
+    requires { ⌜ record { sampled : Sampled shape (now samples); frame-below : frame < shape .count; sited : Sited 32 shape site; down-most : AtMost 172 down; right-most : AtMost 172 right; rows : length (now tile) ≡ 32 } ⌝ }
+    ensures { λ _. ⌜ now (tile .exit) ≡ grid 32 64 (sideBySide (λ p. tileAt side32 (shape .height) (shape .width) (site .«row_parity») p (sampleAt shape (now (samples .entry)) frame) down right (site .row) (site .column))) ⌝ }
+{
+    let y = moved(HALF_SIDE, site.row, down);
+    let x = moved(HALF_SIDE, site.column, right);
+    wide_frame_pair(shape, samples, frame, site.row_parity, y, x, &mut *tile);
+}
+
+// d: T0 - Tz of the k-th other frame, by way of tz.
+pub fn differences(
+    m: Merge,
+    samples: &[u16],
+    vectors: &[i32],
+    site: Site,
+    k: usize,
+    t0: &[[u16; 64]; 32],
+    tz: &mut [[u16; 64]; 32],
+    d: &mut [[i16; 64]; 32],
+)
+    requires { ⌜ record { accepted : Accepted 32 m (now samples) (now vectors); sited : Sited 32 (m .shape) site; frame : k + 1 < m .shape .count; tile : now t0 ≡ grid 32 64 (sideBySide (λ p. referenceTile (sceneAt side32 m (now samples) (now vectors)) (site .«row_parity») p (site .row) (site .column))); tz-rows : length (now tz) ≡ 32; d-rows : length (now d) ≡ 32 } ⌝ }
+    ensures { λ _. ⌜ (now (d .exit) ≡ grid 32 64 (sideBySide (λ p. tileDifference (sceneAt side32 m (now (samples .entry)) (now (vectors .entry))) (site .«row_parity») p (site .row) (site .column) k))) × (length (now (tz .exit)) ≡ 32) ⌝ }
+{
+    let shape = m.shape;
+    let place = vector_place(shape, k, site.row, site.column);
+    let down = vectors[place];
+    let right = vectors[place + 1];
+    let frame = other_frame(m.reference, k);
+    pair(shape, samples, frame, site, down, right, &mut *tz);
+    difference(t0, &*tz, &mut *d);
+}

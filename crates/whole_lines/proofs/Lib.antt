@@ -1,3 +1,0 @@
-pub mod Eight
-pub mod Steps
-pub mod Folding

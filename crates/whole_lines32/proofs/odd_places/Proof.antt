@@ -1,0 +1,29 @@
+-- `whole_lines32::odd_places`: the places of the folded line are those of the line.
+use Rattle.algebra.specs.Prelude.{_∙_, _+_, _*_, lit<, w16, now}
+use Rattle.recipe.specs.Tables32.{side32}
+use Rattle.recipe.specs.TableLaws32.{rules32}
+use Rattle.lines.specs.Fold.{differenceOf}
+use Rattle.lines.specs.SideFolds.{odd-folded}
+use Rattle.lines.specs.Held.{of}
+use Rattle.lines.specs.Picked.{sixteen, sixteen-picked, all-most}
+use Rattle.lines.specs.WholeFolds.{differences-most, places-held}
+use Rattle.whole_lines32.proofs.odd_places.Statement.{statement}
+use Rattle.whole_lines32.proofs.odd_places.Tie as tie
+
+odd-requires : tie.Need-odd-requires
+odd-requires c κs =
+    let f = c .before .before .before .before .before .before .before .before .before .before .before .before .before .before .before .before in
+    all-most w16 (differences-most side32 16 (f .before .pre) (f .differences .ensures)) tt sixteen
+
+returns : tie.Need-returns
+unfolding side32
+returns c =
+    let f = c .before .before .before .before .before .before .before .before .before .before .before .before .before .before .before .before .before in
+    let x = now (f .before .args .x) in
+    c .odd .ensures ∙ places-held side32 w16 16 sixteen (differenceOf side32 (of x)) (sixteen-picked (differenceOf side32 (of x))) (differences-most side32 16 (f .before .pre) (f .differences .ensures)) tt (f .differences .ensures) (λ i. 2 * i + 1) _ (λ i. odd-folded rules32 (of x) i)
+
+pub odd-places-spec : {M : Type 1} → statement M
+odd-places-spec = tie.close (tie.spec
+    (λ c κs. c .pre)
+    (λ c. lit< tt) (λ c. lit< tt) (λ c. lit< tt) (λ c. lit< tt) (λ c. lit< tt) (λ c. lit< tt) (λ c. lit< tt) (λ c. lit< tt) (λ c. lit< tt) (λ c. lit< tt) (λ c. lit< tt) (λ c. lit< tt) (λ c. lit< tt) (λ c. lit< tt) (λ c. lit< tt) (λ c. lit< tt)
+    odd-requires returns)
