@@ -139,7 +139,8 @@ def noise_number(shot: float, read: float, strength: int, root: int) -> int:
 def words(number: int) -> str:
     """What a refusal's number says."""
     text = ctypes.create_string_buffer(128)
-    return text.raw[:library.stacker_refusal_words(number, text, len(text))].decode()
+    length = library.stacker_refusal_words(number, text, len(text))
+    return text.raw[:length].decode()
 
 
 def version() -> str:
