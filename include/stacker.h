@@ -330,7 +330,7 @@ static inline const char *stacker_refusal_text(uint64_t number)
    - What a buffer holds before a call that writes or clears it does not matter.
 
    AFTER A CALL that answers 0 the written buffers hold the result, every word of it, and the work area is zero. After a refusal every lent buffer is
-   as it was, and every other field of the answer is 0, the index chosen too.
+   as it was, and every other field of the answer is 0, the index chosen too; but a DNG file's tag at fault is named.
 
    REFUSALS. A call makes its tests in the order of the numbers, but 23 before 4, and 18 and 24 after 10, and answers the first that fails: align 1 to 5, 7, 11
    and 23; merge 1 to 12, 18, 23 and 24; run 1 to 11, 18, 23 and 24; run_sharpest run's but for 3, whichever frame it chooses.
