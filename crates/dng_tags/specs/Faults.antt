@@ -30,7 +30,8 @@ structureFault file es =
 unfoldable pub countFault : List Entry → ℕ
 countFault es = firstOf (listed es) (λ row. refuse (tagAt row .tag) (notOnce es row))
 
--- 21: types and counts in the table's order, then the strip's length, 279, by the size; then the values that are asked for
+-- 21, for a burst of the file's own size: types and counts in the table's order; then the strip's length, 279, which alone of the sizes can differ; then the
+-- values that are asked for
 unfoldable pub valueFault : List ℕ → List Entry → Shape → ℕ
 valueFault file es s =
     first
@@ -39,6 +40,7 @@ valueFault file es s =
     ∷ firstOf (demanded es) (λ row. refuse (demandTag row) (demandMissed file es row))
     ∷ [])
 
+-- the tag at fault beside a number
 unfoldable pub faultTag : (number : ℕ) → List ℕ → List Entry → Shape → ℕ
 faultTag number file es s =
     cond (eqb number no.dngStructure) (structureFault file es)
