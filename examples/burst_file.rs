@@ -85,6 +85,7 @@ impl BurstFile {
 #[link(name = "stacker", kind = "static")]
 #[rustfmt::skip]
 extern "C" {
+    fn stacker_file_size(file: *const u8, file_length: usize) -> BurstFile;
     fn stacker_read_file(file: *const u8, file_length: usize, samples: *mut u16, samples_length: usize) -> BurstFile;
     fn stacker_align(burst: Burst, tuning: Tuning, samples: *const u16, samples_length: usize, vectors: *mut i32, vectors_length: usize,
         work: *mut i64, work_length: usize) -> Alignment;
@@ -120,18 +121,8 @@ fn merge(file: &BurstFile, samples: &[u16], vectors: &[i32], output: &mut [u16],
     }
 }
 
-/// The count of samples that the second line of a file asks for; 0 where it is no line of a burst file, which reading will refuse.
-fn samples_of(bytes: &[u8]) -> usize {
-    let line = bytes
-        .split(|&byte| byte == b'\n')
-        .nth(1)
-        .unwrap_or_default();
-    let text = String::from_utf8_lossy(line);
-    let values: Vec<usize> = text.split(' ').flat_map(str::parse).take(3).collect();
-    match values[..] {
-        [width @ 0..=4096, height @ 0..=4096, count @ 0..=8] => width * height * count,
-        _ => 0,
-    }
+fn file_size(file: &[u8]) -> BurstFile {
+    unsafe { stacker_file_size(file.as_ptr(), file.len()) }
 }
 
 fn accepted(refusal: u64) {
@@ -165,7 +156,9 @@ fn main() {
     std::io::stdin()
         .read_to_end(&mut bytes)
         .expect("standard input");
-    let mut samples = vec![0; samples_of(&bytes)];
+    let size = file_size(&bytes);
+    accepted(size.refusal);
+    let mut samples = vec![0; (size.width * size.height * size.count) as usize];
     let file = read_file(&bytes, &mut samples);
     accepted(file.refusal);
 

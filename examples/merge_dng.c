@@ -1,5 +1,5 @@
-/* DNG files are read, merged on the first with its noise and black levels, and written as a PGM file:
-     merge_dng WIDTH HEIGHT OUTPUT.pgm FILE.dng...
+/* DNG files of one size are read, merged on the first with its noise and black levels, and written as a PGM file:
+     merge_dng OUTPUT.pgm FILE.dng...
    It ends with 1 where a file or the merge is refused, and prints why. */
 #include "stacker.h"
 
@@ -60,6 +60,19 @@ static stacker_dng read_files(stacker_frames frames, char **paths, uint16_t *sam
     return first;
 }
 
+/* the size of a file's frame, so that buffers can be made */
+static stacker_dng_frame size_of(const char *path)
+{
+    size_t length;
+    uint8_t *file = contents(path, &length);
+    stacker_dng_frame size = stacker_dng_size(file, length);
+    if (size.tag != 0)
+        fprintf(stderr, "%s: tag %d is at fault\n", path, (int)size.tag);
+    accepted(path, size.refusal);
+    free(file);
+    return size;
+}
+
 static void write_frame(const char *path, uint64_t width, uint64_t height, const uint16_t *frame)
 {
     size_t length = stacker_pgm_length(width, height);
@@ -75,13 +88,12 @@ static void write_frame(const char *path, uint64_t width, uint64_t height, const
 
 int main(int argc, char **argv)
 {
-    if (argc < 5) {
-        fprintf(stderr, "usage: merge_dng WIDTH HEIGHT OUTPUT.pgm FILE.dng...\n");
+    if (argc < 3 || argc > 10) {
+        fprintf(stderr, "usage: merge_dng OUTPUT.pgm FILE.dng..., of one to eight files\n");
         return 2;
     }
-    uint64_t width = strtoull(argv[1], NULL, 10), height = strtoull(argv[2], NULL, 10), count = (uint64_t)argc - 4;
-    if (width > 4096 || height > 4096 || count > 8)
-        return 2;
+    stacker_dng_frame size = size_of(argv[2]);
+    uint64_t width = size.width, height = size.height, count = (uint64_t)argc - 2;
     size_t area = width * height, samples_length = count * area;
     size_t vectors_length = (count - 1) * 2 * (width / 16 + 1) * (height / 16 + 1);
     uint16_t *samples = room(samples_length, 2), *merged = room(area, 2);
@@ -89,7 +101,7 @@ int main(int argc, char **argv)
     int64_t *work = room(2 * area, 8);
 
     stacker_frames frames = { .width = width, .height = height, .count = count, .row_length = width };
-    stacker_dng first = read_files(frames, argv + 4, samples, samples_length);
+    stacker_dng first = read_files(frames, argv + 2, samples, samples_length);
     stacker_burst burst = { .width = width, .height = height, .count = count, .row_length = width };
     for (int plane = 0; plane < 4; plane++)
         burst.black[plane] = first.black[plane];
@@ -98,7 +110,7 @@ int main(int argc, char **argv)
     stacker_alignment answer =
         stacker_run(burst, noise, tuning, samples, samples_length, vectors, vectors_length, merged, area, work, 2 * area);
     accepted("merge", answer.refusal);
-    write_frame(argv[3], width, height, merged);
+    write_frame(argv[1], width, height, merged);
     free(samples);
     free(merged);
     free(vectors);

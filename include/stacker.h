@@ -12,6 +12,7 @@
 #define STACKER_VERSION_MAJOR 1
 #define STACKER_VERSION_MINOR 0
 #define STACKER_VERSION_PATCH 0
+#define STACKER_VERSION_NUMBER (1000000 * STACKER_VERSION_MAJOR + 1000 * STACKER_VERSION_MINOR + STACKER_VERSION_PATCH)
 
 #ifdef __cplusplus
 extern "C" {
@@ -89,6 +90,12 @@ typedef struct {
 
 typedef struct {
     uint64_t refusal;
+    uint64_t tag; /* beside 19, 20 and 21 the tag at fault, or 0: docs/DNG.md has the tags */
+    uint64_t width, height;
+} stacker_dng_frame;
+
+typedef struct {
+    uint64_t refusal;
     double shot, read; /* of the file's noise profile, for stacker_noise; not tested */
     uint16_t black[4]; /* the file's levels, for stacker_burst; not tested */
 } stacker_dng;
@@ -150,6 +157,19 @@ stacker_choice stacker_run_sharpest_iso(stacker_frames frames, stacker_iso_noise
 /* Reads a burst file into the lent samples, whose length must be the one that the file's second line asks for. */
 stacker_file stacker_read_file(const uint8_t *file, size_t file_length, uint16_t *samples, size_t samples_length);
 
+/* The size questions: what buffers the reading of a file asks for. They read no sample, and make the tests that the readers make first. A file
+   that a reader accepts has the size answered here, and one that is refused here is refused by its reader. */
+
+/* What the first two lines of a burst file say: 15, 13, then 15, 14, 1, 2, 3, 9 and 10. */
+stacker_file stacker_file_size(const uint8_t *file, size_t file_length);
+
+/* The size of a PGM file's frame: 17. */
+stacker_pgm stacker_pgm_size(const uint8_t *bytes, size_t bytes_length);
+
+/* The size of a DNG file's frame, be it allowed or not, or the tag at fault: 19, 20 and 21, for a burst of that size. Its samples stand in the
+   file, so that 2 * width * height is at most the file's length. */
+stacker_dng_frame stacker_dng_size(const uint8_t *file, size_t file_length);
+
 /* How many bytes the PGM file of a frame has, or 0 where width or height is refused. */
 uint64_t stacker_pgm_length(uint64_t width, uint64_t height);
 
@@ -183,7 +203,14 @@ static inline stacker_tuning stacker_file_tuning(stacker_file file)
     return tuning;
 }
 
-/* What a refusal's number says. */
+/* Stores what a refusal's number says as ASCII text, and zeros behind it; answers the text's length, at most 127. A buffer that is shorter stays as it
+   was. For languages that do not take the next function. */
+uint64_t stacker_refusal_words(uint64_t number, uint8_t *text, size_t text_length);
+
+/* The version of the library: 1000000 * major + 1000 * minor + patch, as STACKER_VERSION_NUMBER has the header's. */
+uint64_t stacker_version(void);
+
+/* The same words, in C. */
 static inline const char *stacker_refusal_text(uint64_t number)
 {
     switch (number) {
@@ -251,7 +278,7 @@ static inline const char *stacker_refusal_text(uint64_t number)
            return 1;
        printf("merged on frame %d\n", (int)choice.reference);
 
-   A burst file of that size and count instead of frames, with its own noise and strength:
+   A burst file of that size and count instead of frames, with its own noise and strength; stacker_file_size(bytes, length) tells size and count first:
 
        stacker_file file = stacker_read_file(bytes, length, samples, N * W * H);
        if (file.refusal != STACKER_ACCEPTED)
@@ -310,7 +337,7 @@ static inline const char *stacker_refusal_text(uint64_t number)
    - What a buffer holds before a call that writes or clears it does not matter.
 
    AFTER A CALL that answers 0 the written buffers hold the result, every word of it, and the work area is zero. After a refusal every lent buffer is
-   as it was, and every other field of the answer is 0, the index chosen too.
+   as it was, and every other field of the answer is 0, the index chosen too; but a DNG file's tag at fault is named.
 
    REFUSALS. A call makes its tests in the order of the numbers, but 22 and 23 before 4, and 18, 24 and 25 after 10, and answers the first that fails: align 1 to
    5, 7, 11, 22 and 23; merge 1 to 12, 18 and 22 to 25; run 1 to 11, 18 and 22 to 25; run_sharpest run's but for 3, whichever frame it chooses.

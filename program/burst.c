@@ -16,9 +16,11 @@ void accepted(const char *what, uint64_t number, const char *hint)
 const char *hint_of(head found)
 {
     static char text[120];
-    if (found.kind == PGM && found.maxval != 0 && found.maxval != SAMPLE_MOST)
+    if (found.tag != 0)
+        snprintf(text, sizeof text, "it is tag %" PRIu64, found.tag);
+    else if (found.kind == PGM && found.maxval != 0 && found.maxval != SAMPLE_MOST)
         snprintf(text, sizeof text, "its maxval is %" PRIu64 ": see --scale", found.maxval);
-    else if (found.kind != BURST && (found.width % 64 != 0 || found.height % 64 != 0 || found.width > SIDE_MOST || found.height > SIDE_MOST))
+    else if (found.width != 0 && found.kind != BURST && (found.width % 64 != 0 || found.height % 64 != 0 || found.width > SIDE_MOST || found.height > SIDE_MOST))
         snprintf(text, sizeof text, "it has %" PRIu64 " by %" PRIu64 " samples: see --crop", found.width, found.height);
     else
         text[0] = 0;
@@ -61,6 +63,7 @@ static stacker_frames frames_of(const job *j)
 static void refuse_alone(const char *path, content file, head found)
 {
     stacker_frames frames = { .width = found.width, .height = found.height, .count = 1, .row_length = found.width };
+    accepted(path, found.refusal, hint_of(found));
     if (found.kind == DNG)
         accepted(path, stacker_read_dng(file.bytes, file.length, frames, 0, NULL, 0).refusal, hint_of(found));
     else

@@ -109,10 +109,10 @@ static int info(const char *path)
 {
     content file = read_whole(path);
     head found = head_of(file);
-    uint64_t number = 0;
+    uint64_t number = found.refusal;
     if (found.kind == OTHER)
         printf("%s: neither a DNG, a PGM nor a burst file\n", path);
-    else
+    else if (number == STACKER_ACCEPTED)
         number = (found.kind == DNG ? dng_told : found.kind == PGM ? pgm_told : burst_told)(path, file, found);
     if (number != STACKER_ACCEPTED) {
         const char *hint = hint_of(found);

@@ -121,8 +121,8 @@ content converted(const char *path, content file, head *found, const request *r)
         fail(WRONG, "%s: --scale is for PGM files", path);
     if (found->kind != DNG && found->kind != PGM)
         fail(WRONG, "%s: --crop is for DNG and PGM files", path);
-    if (found->kind == PGM && !r->has_scale && found->maxval != SAMPLE_MOST)
-        return file; /* refused by the proved reader: 17 */
+    if (found->kind == PGM ? !r->has_scale && found->maxval != SAMPLE_MOST : found->refusal != STACKER_ACCEPTED)
+        return file; /* refused by the proved reader: 17, or 19 to 21 */
     part p = taken(path, found, r);
     factor as_is = { 1, 1 };
     content made = found->kind == DNG ? cropped_dng(file, found, p) : converted_pgm(path, file, found, p, r->has_scale ? r->scale : as_is);

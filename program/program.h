@@ -43,9 +43,11 @@ typedef struct {
     size_t length;
 } content;
 
-/* What a file is, and what its first bytes say of its frames. */
+/* What a file is, and what the proved size question answers: its refusal, the tag at fault of a DNG file, or the size and count of its frames. A PGM
+   file in another spelling than the library's is refused by 17, and has the size that its head says. */
 typedef struct {
     enum { OTHER, DNG, PGM, BURST } kind;
+    uint64_t refusal, tag;
     uint64_t width, height, count;
     uint64_t maxval; /* of a PGM file, */
     size_t samples;  /* and where its samples begin */

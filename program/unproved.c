@@ -1,12 +1,13 @@
-/* Outside the proofs: what a file is and how large its frames are, told by its head, and the residual of a tile. The proved readers test each file
-   whole, so that a wrong guess of a size is refused there; the residuals of a frame add up to the sum that the proved align answers, or the program stops. */
+/* Outside the proofs: what a file is, by its first bytes; the head of a PGM file in another spelling than the library's, for --scale; an entry of a DNG file,
+   for --crop and for writing over its strip; and the residual of a tile. The proved readers test each file whole; the residuals of a frame add up to
+   the sum that the proved align answers, or the program stops. */
 #include "program.h"
 
 #include <inttypes.h>
 #include <stdlib.h>
 #include <string.h>
 
-/* SIZES */
+/* FILES */
 
 uint64_t little(const uint8_t *at, int bytes)
 {
@@ -66,35 +67,40 @@ static uint64_t pgm_number(content file, size_t *at)
 
 static head pgm_head(content file)
 {
+    stacker_pgm told = stacker_pgm_size(file.bytes, file.length);
+    head found = { .kind = PGM, .refusal = told.refusal, .count = 1 };
     size_t at = 2;
     uint64_t width = pgm_number(file, &at), height = pgm_number(file, &at), maxval = pgm_number(file, &at);
     if (width == UINT64_MAX || height == UINT64_MAX || maxval == UINT64_MAX)
-        return (head){ PGM, 0, 0, 1, 0, file.length };
-    return (head){ PGM, width, height, 1, maxval, at < file.length ? at + 1 : at };
+        return found;
+    found.width = told.refusal == STACKER_ACCEPTED ? told.width : width;
+    found.height = told.refusal == STACKER_ACCEPTED ? told.height : height;
+    found.maxval = maxval;
+    found.samples = at < file.length ? at + 1 : at;
+    return found;
 }
 
-/* the first three values of a burst file's second line */
+static head dng_head(content file)
+{
+    stacker_dng_frame told = stacker_dng_size(file.bytes, file.length);
+    return (head){ .kind = DNG, .refusal = told.refusal, .tag = told.tag, .width = told.width, .height = told.height, .count = 1 };
+}
+
 static head burst_head(content file)
 {
-    char line[128] = "";
-    head found = { BURST, 0, 0, 0, 0, 0 };
-    memcpy(line, file.bytes, file.length < sizeof line ? file.length : sizeof line - 1);
-    if (sscanf(line, "width %*[^\n] %9" SCNu64 " %9" SCNu64 " %9" SCNu64, &found.width, &found.height, &found.count) != 3)
-        return (head){ BURST, 0, 0, 0, 0, 0 };
-    return found;
+    stacker_file told = stacker_file_size(file.bytes, file.length);
+    return (head){ .kind = BURST, .refusal = told.refusal, .width = told.width, .height = told.height, .count = told.count };
 }
 
 head head_of(content file)
 {
-    if (file.length >= 2 && memcmp(file.bytes, "II", 2) == 0)
-        return (head){ DNG, dng_value(file, 256), dng_value(file, 257), 1, 0, 0 };
-    if (file.length >= 2 && memcmp(file.bytes, "MM", 2) == 0)
-        return (head){ DNG, 0, 0, 1, 0, 0 };
+    if (file.length >= 2 && (memcmp(file.bytes, "II", 2) == 0 || memcmp(file.bytes, "MM", 2) == 0))
+        return dng_head(file);
     if (file.length >= 2 && memcmp(file.bytes, "P5", 2) == 0)
         return pgm_head(file);
     if (file.length >= 5 && memcmp(file.bytes, "width", 5) == 0)
         return burst_head(file);
-    return (head){ OTHER, 0, 0, 0, 0, 0 };
+    return (head){ .kind = OTHER };
 }
 
 /* RESIDUALS, by document 01: level 0 has the sum of each square of four samples, places outside are mirrored, differences are absolute */

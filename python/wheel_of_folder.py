@@ -6,7 +6,7 @@ import re
 import zipfile
 
 HERE = os.path.dirname(os.path.abspath(__file__))
-FILES = ('__init__.py', '_calls.py', '_unproved.py', '_words.py', 'py.typed')
+FILES = ('__init__.py', '_calls.py', 'py.typed')
 
 
 def _project():

@@ -1,4 +1,5 @@
-/* DNG files. `dng read` takes the questions of the reference's `read-dng` and answers as that does, and prints each number on standard error.
+/* DNG files. `dng read` takes the questions of the reference's `read-dng` and answers as that does, and prints each number on standard error. It sees
+   itself that the file's size agrees with the reading. `dng size FILE` prints refusal, tag, width and height of a file.
    `dng frame WIDTH HEIGHT FILE` reads a file into a burst of one frame and prints black levels, shot, read and then the samples, a word to a line. */
 #include "stacker.h"
 
@@ -40,6 +41,19 @@ static uint64_t bits(double value)
     return isnan(value) ? 0x7ff8000000000000 : word;
 }
 
+/* A file that is read has the burst's size; one that has another, or none, is refused, by the same number but where it is 21 for the size alone. 20 and 21
+   name a tag. */
+static int size_agrees(stacker_dng_frame size, stacker_frames frames, uint64_t refusal)
+{
+    int same = size.refusal == 0 && size.width == frames.width && size.height == frames.height;
+    if (size.refusal != 0 && (size.width != 0 || size.height != 0 || (size.refusal != STACKER_REFUSED_DNG_STRUCTURE && size.tag == 0)))
+        return 0;
+    if (size.refusal == 0 && size.tag != 0)
+        return 0;
+    return refusal == 0 ? same : same ? refusal < STACKER_REFUSED_DNG_STRUCTURE || refusal > STACKER_REFUSED_DNG_VALUE
+        : refusal == (size.refusal == 0 ? STACKER_REFUSED_DNG_VALUE : size.refusal);
+}
+
 /* width, height, count, row length, frame, the samples' length, the file's length; samples; file */
 static int read_dng(void)
 {
@@ -55,6 +69,8 @@ static int read_dng(void)
     uint64_t answer[7] = { dng.refusal, bits(dng.shot), bits(dng.read), dng.black[0], dng.black[1], dng.black[2], dng.black[3] };
     put(answer, sizeof answer);
     put(samples, 2 * ask[5]);
+    if (!size_agrees(stacker_dng_size(file, ask[6]), frames, dng.refusal))
+        exit(1);
     free(samples);
     free(file);
     fprintf(stderr, "%" PRIu64 "\n", dng.refusal);
@@ -83,6 +99,21 @@ static int print_frame(uint64_t width, uint64_t height, const char *path)
     return 0;
 }
 
+static int print_size(const char *path)
+{
+    enum { MOST = 1 << 20 };
+    uint8_t *file = room(MOST);
+    FILE *stream = fopen(path, "rb");
+    if (stream == NULL)
+        return 2;
+    size_t length = fread(file, 1, MOST, stream);
+    fclose(stream);
+    stacker_dng_frame size = stacker_dng_size(file, length);
+    printf("%" PRIu64 " %" PRIu64 " %" PRIu64 " %" PRIu64 "\n", size.refusal, size.tag, size.width, size.height);
+    free(file);
+    return 0;
+}
+
 int main(int argc, char **argv)
 {
     if (argc == 2 && strcmp(argv[1], "read") == 0) {
@@ -90,6 +121,8 @@ int main(int argc, char **argv)
             ;
         return 0;
     }
+    if (argc == 3 && strcmp(argv[1], "size") == 0)
+        return print_size(argv[2]);
     if (argc == 5 && strcmp(argv[1], "frame") == 0)
         return print_frame(strtoull(argv[2], NULL, 10), strtoull(argv[3], NULL, 10), argv[4]);
     return 2;

@@ -1,4 +1,5 @@
-/* What stacker.h itself works out: its initialisers, what merge and run take of a file, each level there and back, and words for each refusal. */
+/* What stacker.h itself works out: its initialisers, what merge and run take of a file, each level there and back, and words for each refusal, which are
+   the library's as is the version. */
 #include "stacker.h"
 
 #include <string.h>
@@ -51,7 +52,35 @@ static int has_words(void)
     return 1;
 }
 
+/* a buffer of each length: too short it stays, else it holds the words and zeros */
+static int stores_words(uint64_t number)
+{
+    enum { ROOM = 128 };
+    const char *words = stacker_refusal_text(number);
+    size_t length = strlen(words);
+    for (size_t room = 0; room <= ROOM; room++) {
+        uint8_t text[ROOM + 1], expected[ROOM + 1];
+        memset(text, 7, sizeof text);
+        memset(expected, 7, sizeof expected);
+        if (length <= room) {
+            memset(expected, 0, room);
+            memcpy(expected, words, length);
+        }
+        if (stacker_refusal_words(number, text, room) != length || memcmp(text, expected, sizeof text) != 0)
+            return 0;
+    }
+    return length < ROOM;
+}
+
+static int says_the_same(void)
+{
+    for (uint64_t number = 0; number < 100; number++)
+        if (!stores_words(number))
+            return 0;
+    return stores_words(UINT64_MAX) && stacker_version() == STACKER_VERSION_NUMBER;
+}
+
 int main(void)
 {
-    return !(describes() && initialises() && keeps_levels() && has_words());
+    return !(describes() && initialises() && keeps_levels() && has_words() && says_the_same());
 }

@@ -1,6 +1,7 @@
 /* Lengths that are told wrongly: pages BURST DNG. Every buffer of every call ends at a page that can be neither read nor written, and is told one element too
    long, twice as long, and as long as can be told, alone and with all others, at both sides. A call must refuse it by its number, and leave every buffer as it
-   was, before it touches a word that is not there. A DNG file may go on after its last part, so there only the end of the call is asked. */
+   was, before it touches a word that is not there. A DNG file may go on after its last part, and of a burst file the size question reads two lines, so there only
+   the end of the call is asked. */
 #define _DEFAULT_SOURCE
 #include "stacker.h"
 #include "station.h"
@@ -64,6 +65,9 @@ static uint64_t read_dng(const size_t *told)
     return stacker_read_dng(lent[DNG_FILE], told[DNG_FILE], dng_frames, 0, (uint16_t *)lent[DNG_FRAME], told[DNG_FRAME]).refusal;
 }
 
+static uint64_t file_size(const size_t *told) { return stacker_file_size(lent[BURST_FILE], told[BURST_FILE]).refusal; }
+static uint64_t pgm_size(const size_t *told) { return stacker_pgm_size(lent[BYTES], told[BYTES]).refusal; }
+static uint64_t dng_size(const size_t *told) { return stacker_dng_size(lent[DNG_FILE], told[DNG_FILE]).refusal; }
 static uint64_t check(const size_t *told) { return station_check(lent[BURST_FILE], told[BURST_FILE]); }
 
 /* A call, and the number that refuses a wrong length of each buffer that it takes; NOT_TAKEN where it takes none, ANY where the length may be longer. */
@@ -84,6 +88,9 @@ static const struct {
     { "stacker_write_pgm", write_pgm, { [OUTPUT] = 6, [BYTES] = 16 } },
     { "stacker_read_pgm", read_pgm, { [OUTPUT] = 6, [BYTES] = 17 } },
     { "stacker_read_dng", read_dng, { [DNG_FILE] = ANY, [DNG_FRAME] = 4 } },
+    { "stacker_file_size", file_size, { [BURST_FILE] = ANY } },
+    { "stacker_pgm_size", pgm_size, { [BYTES] = 17 } },
+    { "stacker_dng_size", dng_size, { [DNG_FILE] = ANY } },
     { "station_check", check, { [BURST_FILE] = 15 } },
 };
 

@@ -1,5 +1,6 @@
 /* PGM files. `pgm write` and `pgm read` take the questions of the reference's `write-pgm` and `read-pgm` and answer as those do. They see
-   themselves that a refusal leaves the lent buffer as it was, and that each file written is read, and each file read is written, as the same.
+   themselves that a refusal leaves the lent buffer as it was, that a file's size agrees with its reading, and that each file written is read, and each
+   file read is written, as the same.
    `pgm made` writes a frame of 128 by 64 whose sample i is 1237 i modulo 4096, `pgm plain` prints a file as plain PGM, a word to a line. */
 #include "stacker.h"
 
@@ -78,8 +79,10 @@ static int read_file(void)
     uint8_t *bytes = room(ask[1]), *back = room(ask[1]);
     if (!get(bytes, ask[1]) && ask[1] != 0)
         exit(2);
-    stacker_pgm answer = stacker_read_pgm(bytes, ask[1], frame, ask[0]);
+    stacker_pgm answer = stacker_read_pgm(bytes, ask[1], frame, ask[0]), size = stacker_pgm_size(bytes, ask[1]);
     put(&answer, sizeof answer);
+    if (memcmp(&size, &answer, sizeof size) != 0 && (answer.refusal == 0 || size.refusal != 0))
+        exit(1);
     if (answer.refusal == 0) {
         put(frame, 2 * ask[0]);
         if (stacker_write_pgm(answer.width, answer.height, frame, ask[0], back, ask[1]) != 0 || memcmp(bytes, back, ask[1]) != 0)

@@ -1,6 +1,6 @@
 /* Reads each burst file of a stream with stacker_read_file, into samples of a right or a wrong length. It writes what the reference's `read` is
-   asked and what the library answered, and sees itself that a refusal leaves the samples as they were, and that the stack is enough:
-   read QUESTIONS ANSWERS */
+   asked and what the library answered, and sees itself that a refusal leaves the samples as they were, that the file's size agrees, and that the
+   stack is enough: read QUESTIONS ANSWERS */
 #include "files.h"
 #include "stack.h"
 #include "stacker.h"
@@ -22,6 +22,13 @@ static void read_file(void)
     answer = stacker_read_file(bytes, file_length, samples, lent);
 }
 
+/* the answer of the size question is the reader's where that accepts, and where it refuses itself */
+static int size_agrees(void)
+{
+    stacker_file size = stacker_file_size(bytes, file_length);
+    return memcmp(&size, &answer, sizeof size) == 0 || (answer.refusal != 0 && size.refusal == 0);
+}
+
 static void put(FILE *out, const void *data, size_t size)
 {
     if (size != 0 && fwrite(data, 1, size, out) != size)
@@ -41,7 +48,7 @@ int main(int argc, char **argv)
         file_length = (uint64_t)length;
         for (size_t i = 0; i <= ROOM; i++)
             samples[i] = MARK;
-        if (stack_of(read_file) > STACK_MOST)
+        if (stack_of(read_file) > STACK_MOST || !size_agrees())
             return 1;
         put(questions, &lent, 8);
         put(questions, &file_length, 8);

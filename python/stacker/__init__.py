@@ -11,7 +11,7 @@ takes as they are; numpy itself is not needed. A call that is refused raises `Re
 interpreter's lock: threads may call at once.
 
 The library is the file named by the environment's STACKER_LIBRARY, or libstacker.so.1 of the prefix that this package is installed under, or the system's.
-Proved are the calls of the library; this package, and its guess of a file's size, are not.
+Proved are the calls of the library; this package is not.
 """
 from __future__ import annotations
 
@@ -19,15 +19,16 @@ import ctypes
 import os
 from typing import Any, List, NamedTuple, Optional, Sequence, Tuple, Union
 
-from . import _calls, _unproved
+from . import _calls
 from ._calls import library
-from ._words import REFUSALS
 
 __all__ = ['Aligned', 'Burst', 'Frame', 'Merged', 'REFUSALS', 'Refused', 'SIDE', 'STRENGTH', 'align', 'merge', 'noise_number', 'read_burst', 'read_dng',
            'read_pgm', 'run', 'write_pgm']
 
 STRENGTH = 600  # document 002's tau = 75, in eighths
 SIDE = 16  # of tiles, in places of a plane; 32 is for very dark scenes
+NUMBERS = range(1, 64)  # that a refusal may have
+REFUSALS = {number: _calls.words(number) for number in NUMBERS if _calls.words(number) != _calls.words(0xffffffffffffffff)}
 
 Buffer = Any  # whatever memoryview takes
 Noise = Tuple[float, float]  # shot, read
@@ -35,11 +36,11 @@ Levels = Sequence[int]  # black levels of R, G, G and B
 
 
 class Refused(ValueError):
-    """A call was refused, and nothing has changed. `number` is stacker.h's."""
+    """A call was refused, and nothing has changed. `number` is stacker.h's; `tag` is the tag at fault of a DNG file, or 0."""
 
-    def __init__(self, number: int, what: str = '') -> None:
-        super().__init__('%srefused %d: %s' % (what + ': ' if what else '', number, REFUSALS.get(number, 'no refusal of this version')))
-        self.number = number
+    def __init__(self, number: int, what: str = '', tag: int = 0) -> None:
+        super().__init__('%srefused %d: %s%s' % (what + ': ' if what else '', number, _calls.words(number), '; it is tag %d' % tag if tag else ''))
+        self.number, self.tag = number, tag
 
 
 class Aligned(NamedTuple):
@@ -69,9 +70,9 @@ class Burst(NamedTuple):
     strength: int
 
 
-def _accepted(number: int, what: str) -> None:
+def _accepted(number: int, what: str, tag: int = 0) -> None:
     if number:
-        raise Refused(number, what)
+        raise Refused(number, what, tag)
 
 
 def _made(code: str, *shape: int) -> memoryview:
@@ -172,9 +173,10 @@ def _content(path: Union[str, os.PathLike]) -> memoryview:
 def read_dng(path: Union[str, os.PathLike]) -> Frame:
     """The frame of a DNG file, its noise and its black levels."""
     data = _content(path)
-    width, height = _unproved.dng_size(data)
-    samples = _made('H', height, width) if _unproved.is_allowed(width, height) else _made('H', 0)
-    answer = library.stacker_read_dng(*_lent(data), _calls.frames(width, height, 1, width, (0, 0, 0, 0)), 0, *_lent(samples))
+    told = library.stacker_dng_size(*_lent(data))
+    _accepted(told.refusal, os.fspath(path), told.tag)
+    samples = _made('H', told.height, told.width)
+    answer = library.stacker_read_dng(*_lent(data), _calls.frames(told.width, told.height, 1, told.width, (0, 0, 0, 0)), 0, *_lent(samples))
     _accepted(answer.refusal, os.fspath(path))
     return Frame(samples, (answer.shot, answer.read), tuple(answer.black))  # type: ignore[arg-type]
 
@@ -182,8 +184,9 @@ def read_dng(path: Union[str, os.PathLike]) -> Frame:
 def read_pgm(path: Union[str, os.PathLike]) -> memoryview:
     """The frame of a PGM file as `write_pgm` writes it."""
     data = _content(path)
-    width, height = _unproved.pgm_size(data)
-    samples = _made('H', height, width) if _unproved.is_allowed(width, height) else _made('H', 0)
+    told = library.stacker_pgm_size(*_lent(data))
+    _accepted(told.refusal, os.fspath(path))
+    samples = _made('H', told.height, told.width)
     _accepted(library.stacker_read_pgm(*_lent(data), *_lent(samples)).refusal, os.fspath(path))
     return samples
 
@@ -192,8 +195,8 @@ def read_burst(path: Union[str, os.PathLike]) -> Burst:
     """The frames of a burst file, and what it says of them."""
     data = _content(path)
     _accepted(library.station_check(*_lent(data)), os.fspath(path))
-    width, height, count = _unproved.burst_size(data)
-    frames = _made('H', count, height, width)
+    size = library.stacker_file_size(*_lent(data))
+    frames = _made('H', size.count, size.height, size.width)
     told = library.stacker_read_file(*_lent(data), *_lent(frames))
     _accepted(told.refusal, os.fspath(path))
     return Burst(frames, told.reference, (told.shot_level / 1024, told.read_level / 1024), told.strength)

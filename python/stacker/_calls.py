@@ -47,6 +47,10 @@ class Pgm(ctypes.Structure):
     _fields_ = [('refusal', u64), ('width', u64), ('height', u64)]
 
 
+class DngFrame(ctypes.Structure):
+    _fields_ = [('refusal', u64), ('tag', u64), ('width', u64), ('height', u64)]
+
+
 class Dng(ctypes.Structure):
     _fields_ = [('refusal', u64), ('shot', f64), ('read', f64), ('black', u16 * 4)]
 
@@ -65,6 +69,11 @@ _CALLS = {
     'stacker_write_pgm': (u64, [u64, u64] + 2 * _LENT),
     'stacker_read_pgm': (Pgm, 2 * _LENT),
     'stacker_read_dng': (Dng, _LENT + [Frames, u64] + _LENT),
+    'stacker_file_size': (File, _LENT),
+    'stacker_pgm_size': (Pgm, _LENT),
+    'stacker_dng_size': (DngFrame, _LENT),
+    'stacker_refusal_words': (u64, [u64] + _LENT),
+    'stacker_version': (u64, []),
     'station_noise': (u64, [f64, f64, u64, u64, u64]),
     'station_check': (u64, _LENT),
 }
@@ -125,3 +134,15 @@ def run_sharpest(told: Frames, curve: Any, *rest: Any) -> Choice:
 
 def noise_number(shot: float, read: float, strength: int, root: int, side: int) -> int:
     return library.station_noise(shot, read, strength, root, side)
+
+
+def words(number: int) -> str:
+    """What a refusal's number says."""
+    text = ctypes.create_string_buffer(128)
+    length = library.stacker_refusal_words(number, text, len(text))
+    return text.raw[:length].decode()
+
+
+def version() -> str:
+    number = library.stacker_version()
+    return '%d.%d.%d' % (number // 1000000, number // 1000 % 1000, number % 1000)

@@ -142,6 +142,13 @@ class Files(unittest.TestCase):
             with self.assertRaises(stacker.Refused) as caught:
                 reader(self.path)
             self.assertEqual(caught.exception.number, number)
+        self.assertEqual(stacker.REFUSALS[11], 'a sample above 4095')
+
+    def test_tag_at_fault(self):
+        self.write(b'II*\0\x08\0\0\0\0\0')  # a directory without entries
+        with self.assertRaises(stacker.Refused) as caught:
+            stacker.read_dng(self.path)
+        self.assertEqual((caught.exception.number, caught.exception.tag), (20, 256))
 
     def test_burst_file(self):
         rows = made(2, 64, 64).tolist()

@@ -5,3 +5,5 @@ pub mod Grammar
 pub mod Acceptance
 pub mod Passage
 pub mod RowLaws
+pub mod Size
+pub mod SizeLaws

@@ -5,6 +5,7 @@ ghost use lib.ListN.{length, drop};
 ghost use Rattle.file_lines.specs.Line.{above};
 ghost use Rattle.file_lines.specs.Scan.{nextValues};
 ghost use Rattle.burst_file.specs.Reading.{fileCheck, refusedFile, acceptedFile, FileRead};
+ghost use Rattle.burst_file.specs.Size.{fileSize};
 use crate::FileAnswer;
 use crate::rows::check_frames;
 use file_head::Head;
@@ -98,5 +99,15 @@ pub fn read_file(file: &[u8], samples: &mut [u16]) -> FileAnswer
             fill(file, next, samples);
             accepted(header)
         }
+    }
+}
+
+// What the first two lines say, so that samples can be made for the reading: the first refusal of theirs, or 0 with the seven values.
+pub fn file_size(file: &[u8]) -> FileAnswer
+    ensures { λ r. ⌜ r ≡ fileSize (now (file .entry)) ⌝ }
+{
+    match read_head(file) {
+        Head::Refused { number } => refused(number),
+        Head::Found { header, next: _ } => accepted(header),
     }
 }

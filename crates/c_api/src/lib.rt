@@ -6,3 +6,4 @@ pub mod file;
 pub mod merge;
 pub mod netpbm;
 pub mod run;
+pub mod text;

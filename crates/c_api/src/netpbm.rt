@@ -2,6 +2,7 @@
 ghost use mathlib.Core.Path.{_≡_};
 ghost use Rattle.pgm.specs.Form.{pgmLength};
 ghost use Rattle.pgm.specs.Reading.{ReadsPgm};
+ghost use Rattle.pgm.specs.Size.{pgmSize};
 ghost use Rattle.pgm.specs.Writing.{WritesPgm};
 use pgm::PgmRead;
 
@@ -27,4 +28,12 @@ pub extern "C" fn stacker_read_pgm(bytes: &[u8], frame: &mut [u16]) -> PgmRead
     ensures { λ r. ⌜ ReadsPgm (now (bytes .entry)) (now (frame .entry)) (now (frame .exit)) r ⌝ }
 {
     pgm::read_pgm(bytes, &mut *frame)
+}
+
+// The size of a file's frame.
+#[no_mangle]
+pub extern "C" fn stacker_pgm_size(bytes: &[u8]) -> PgmRead
+    ensures { λ r. ⌜ r ≡ pgmSize (now (bytes .entry)) ⌝ }
+{
+    pgm::pgm_size(bytes)
 }

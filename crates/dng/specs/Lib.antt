@@ -6,3 +6,4 @@ pub mod Acceptance
 pub mod ReadingLaws
 pub mod PlaceLaws
 pub mod PassingLaws
+pub mod SizeLaws

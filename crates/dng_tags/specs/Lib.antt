@@ -4,3 +4,6 @@ pub mod RowTests
 pub mod Fits
 pub mod TestLaws
 pub mod TagLaws
+pub mod Faults
+pub mod FaultLaws
+pub mod Size

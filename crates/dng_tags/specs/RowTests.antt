@@ -1,7 +1,9 @@
--- Inner vocabulary, which no public contract reaches: the tests of a row, by their names in the code.
+-- Inner vocabulary, which no public contract reaches: the tests of a row, by their names in the code, and the tags that they speak of.
 use Rattle.algebra.specs.Prelude.{Bool, List, ℕ}
 use Rattle.tiff.specs.declared.Entry.{Entry}
 use Rattle.dng_tags.specs.Refusals.{absent, valueOutside, notOnce, demandMissed}
+use Rattle.dng_tags.specs.Tags.{tagAt}
+use Rattle.dng_tags.specs.Faults.{demandTag}
 use Rattle.dng_tags.specs.declared.tests.RowTest.{RowTest}
 use Rattle.dng_tags.specs.declared.tests.RowTest.the-variants.{Outside, NotOnce, Absent, Missed}
 
@@ -10,3 +12,9 @@ rowHit Outside file es row = valueOutside file es row
 rowHit NotOnce file es row = notOnce es row
 rowHit Absent file es row = absent file es row
 rowHit Missed file es row = demandMissed file es row
+
+abbrev pub rowTag : RowTest → (row : ℕ) → ℕ
+rowTag Outside row = tagAt row .tag
+rowTag NotOnce row = tagAt row .tag
+rowTag Absent row = tagAt row .tag
+rowTag Missed row = demandTag row

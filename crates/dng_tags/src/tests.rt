@@ -28,7 +28,7 @@ use tiff::fields::field_outside;
 use tiff::fields::value;
 
 // A test of a row: of the table of tags, or of the second table (`Missed`).
-enum RowTest {
+pub enum RowTest {
     Outside,
     NotOnce,
     Absent,
@@ -44,7 +44,7 @@ fn absent(file: &[u8], row: usize) -> bool
 }
 
 // The first value of the tag at a row.
-fn value_of(file: &[u8], row: usize) -> usize
+pub fn value_of(file: &[u8], row: usize) -> usize
     ensures { λ r. ⌜ (r ≡ valueOf (now (file .entry)) (entries (now (file .entry))) row) × (r < 4294967296) ⌝ }
 {
     value(file, tag(row), 0)
@@ -88,7 +88,7 @@ fn demand_missed(file: &[u8], row: usize) -> bool
 }
 
 // What a test says of a row.
-fn hit(test: RowTest, file: &[u8], row: usize) -> bool
+pub fn hit(test: RowTest, file: &[u8], row: usize) -> bool
     ensures { λ r. ⌜ r ≡ rowHit test (now (file .entry)) (entries (now (file .entry))) row ⌝ }
 {
     match test {
@@ -114,7 +114,7 @@ fn some_hit(test: RowTest, file: &[u8], rows: usize) -> bool
 }
 
 // The strip reaches past the end of the file.
-fn strip_outside(file: &[u8]) -> bool
+pub fn strip_outside(file: &[u8]) -> bool
     ensures { λ r. ⌜ r ≡ stripOutside (now (file .entry)) (entries (now (file .entry))) ⌝ }
 {
     if absent(file, STRIP_OFFSETS) {
@@ -143,7 +143,7 @@ fn outside(file: &[u8]) -> bool
 }
 
 // The sizes, and the strip's length. The product is formed once both sizes are known to be LONGs.
-fn size_differs(file: &[u8], shape: Shape) -> bool
+pub fn size_differs(file: &[u8], shape: Shape) -> bool
     ensures { λ r. ⌜ r ≡ sizeDiffers (now (file .entry)) (entries (now (file .entry))) shape ⌝ }
 {
     if value_of(file, IMAGE_WIDTH) != shape.width {

@@ -6,3 +6,5 @@ pub mod Acceptance
 pub mod RoundTrip
 pub mod FormLaws
 pub mod HeaderLaws
+pub mod Size
+pub mod SizeLaws

@@ -1,13 +1,14 @@
-// A frame as a Netpbm PGM file: how long it is, the writing of it into a lent byte buffer, and the reading of it back.
+// A frame as a Netpbm PGM file: how long it is, the writing of it into a lent byte buffer, its size, and the reading of it back.
 mod lengths;
 mod reading;
 mod writing;
 
 pub use lengths::pgm_length;
+pub use reading::pgm_size;
 pub use reading::read_pgm;
 pub use writing::write_pgm;
 
-// What reading answers: the number of the refusal with every other field 0, or 0 with the frame's size.
+// What reading, or the question of the size, answers: the number of the refusal with every other field 0, or 0 with the frame's size.
 #[repr(C)]
 pub struct PgmRead {
     pub refusal: u64,

@@ -4,6 +4,7 @@ ghost use Prim.Native.Nat.{_≤_};
 ghost use lib.ListN.{length};
 ghost use Rattle.pgm_header.specs.Header.{pgmHeader};
 ghost use Rattle.pgm.specs.Reading.{differs, formed, refusalAs, refusedPgm, ReadsPgm};
+ghost use Rattle.pgm.specs.Size.{pgmSize};
 use crate::PgmRead;
 use crate::lengths::file_length;
 use crate::lengths::sizes_allowed;
@@ -91,6 +92,22 @@ pub fn read_pgm(bytes: &[u8], frame: &mut [u16]) -> PgmRead
         return refused(refusal);
     }
     fill(bytes, header_length(width, height), &mut *frame);
+    PgmRead {
+        refusal: 0,
+        width: width as u64,
+        height: height as u64,
+    }
+}
+
+// The size of a file's frame, so that one can be made for the reading. No sample is read.
+pub fn pgm_size(bytes: &[u8]) -> PgmRead
+    ensures { λ r. ⌜ r ≡ pgmSize (now (bytes .entry)) ⌝ }
+{
+    let width = leading(bytes, 3);
+    let height = leading(bytes, 4 + digits(width));
+    if !formed(width, height, bytes) {
+        return refused(PGM_FORM);
+    }
     PgmRead {
         refusal: 0,
         width: width as u64,

@@ -4,3 +4,4 @@ pub mod Bursts
 pub mod BurstFiles
 pub mod PgmFiles
 pub mod DngFiles
+pub mod Sizes

@@ -1,0 +1,16 @@
+-- Each arm is the case of its test.
+use Rattle.algebra.specs.Prelude.{ap, _∙_, needs}
+use Rattle.dng_tags.specs.declared.Demand.{Demand}
+use Rattle.dng_tags.specs.Tags.{tagAt}
+use Rattle.dng_tags.proofs.faults.row_tag.Statement.{statement}
+use Rattle.dng_tags.proofs.faults.row_tag.Tie as tie
+
+returns-4 : tie.Need-returns-4
+returns-4 c = rw (c .before .before .enum-told4 .given .1) (c .tag-at4 .ensures ∙ ap (λ (d : Demand). tagAt (d .row) .tag) (c .before .demand .ensures .0))
+
+pub row-tag-spec : {M : Type 1} → statement M
+row-tag-spec = tie.close (tie.spec
+    (λ c. search needs) (λ c κs. search needs) (λ c. search needs) (λ c κs. search needs)
+    (λ c. search needs) (λ c κs. search needs) (λ c. search needs) (λ c κs. search needs) (λ c κs. search needs)
+    (λ c. rw (c .before .enum-told .given .1) (c .tag-at .ensures)) (λ c. rw (c .before .enum-told2 .given .1) (c .tag-at2 .ensures))
+    (λ c. rw (c .before .enum-told3 .given .1) (c .tag-at3 .ensures)) returns-4)

@@ -1,0 +1,25 @@
+-- Each part is its definition, so the first of them is.
+use Rattle.algebra.specs.Prelude.{ap₂, _∙_, needs}
+use Rattle.refusals.specs.Tests.{refuse}
+use Rattle.dng_tags.specs.Faults.{valueFault}
+use Rattle.dng_tags.proofs.faults.value_fault.Statement.{statement}
+use Rattle.dng_tags.proofs.faults.value_fault.Tie as tie
+
+returns : tie.Need-returns
+unfolding valueFault
+returns c =
+    let missed = c .before .before in
+    let strip = missed .before .before in
+    let absent = strip .before .before .before in
+    c .first .ensures
+    ∙ rw (
+      rw (absent .before .listed .ensures) at (absent .first-hit .ensures),
+      strip .refuse .ensures ∙ ap₂ refuse (strip .before .before .tag-at .ensures) (strip .before .size-differs .ensures),
+      rw (missed .before .demanded .ensures) at (missed .first-hit2 .ensures),
+    )
+
+pub value-fault-spec : {M : Type 1} → statement M
+value-fault-spec = tie.close (tie.spec
+    (λ c κs. search needs) (λ c κs. search needs) (λ c κs. search needs) (λ c κs. search needs)
+    (λ c κs. search needs) (λ c κs. search needs) (λ c κs. search needs) (λ c. search needs)
+    (λ c κs. search needs) returns)

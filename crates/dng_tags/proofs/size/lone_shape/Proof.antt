@@ -1,0 +1,10 @@
+-- The two values.
+use Rattle.algebra.specs.Prelude.{_∙_, needs}
+use Rattle.dng_tags.proofs.size.lone_shape.Statement.{statement}
+use Rattle.dng_tags.proofs.size.lone_shape.Tie as tie
+
+returns : tie.Need-returns
+returns c = c .shaped .ensures ∙ rw (c .before .before .value-of .ensures .0, c .before .value-of2 .ensures .0)
+
+pub lone-shape-spec : {M : Type 1} → statement M
+lone-shape-spec = tie.close (tie.spec (λ c κs. search needs) (λ c κs. search needs) (λ c κs. search needs) returns)

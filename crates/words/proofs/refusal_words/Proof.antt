@@ -1,0 +1,45 @@
+-- The words in a buffer of their own, then in the lent one where that has room.
+use Rattle.algebra.specs.Prelude.{_≡_, ap, _∙_, arith, needs, length, take}
+use borrow.Author.Tests.{le-leb, lt-leb}
+use Rattle.words.specs.Words.{wordsOf, padded}
+use Rattle.words.specs.WordLaws.{starts}
+use Rattle.words.proofs.refusal_words.Statement.{statement}
+use Rattle.words.proofs.refusal_words.Tie as tie
+
+-- what the buffer starts with
+front : (c : tie.After-put-words) → take (c .put-words .result) (c .put-words .last .0) ≡ wordsOf (c .before .before .before .args .number)
+front c = starts (c .put-words .ensures .0)
+
+-- where they end
+end : (c : tie.After-put-words) → c .put-words .result ≡ length (wordsOf (c .before .before .before .args .number))
+end c = omega (arith, c .put-words .ensures .0 .place)
+
+returns : tie.Need-returns
+returns c =
+    let put = c .before .before in
+    let a = put .before .before .before .args in
+    record {
+      answered = end put;
+      stored = rw (lt-leb (length (wordsOf (a .number))) (length (a .text .now)) (omega (arith, end put, c .if1 .taken)));
+    }
+
+slice-aggregate-store : tie.Need-slice-aggregate-store
+slice-aggregate-store c = omega (arith, ap length (front (c .before .before .before)), end (c .before .before .before))
+
+returns-2 : tie.Need-returns-2
+returns-2 c =
+    let stored = c .before .before in
+    let left = stored .before .before .before in
+    let put = left .before .before in
+    let a = put .before .before .before .args in
+    record {
+      answered = end put;
+      stored =
+          rw (le-leb (length (wordsOf (a .number))) (length (a .text .now)) (omega (arith, end put, left .if1 .left)))
+          (stored .store .ensures ∙ ap (padded (length (a .text .now))) (front put));
+    }
+
+pub refusal-words-spec : {M : Type 1} → statement M
+refusal-words-spec = tie.close (tie.spec
+    (λ c. search needs) (λ c κs. search needs) returns (λ c. search needs) slice-aggregate-store
+    (λ c κs. search needs) (λ c. search needs) returns-2)
