@@ -105,28 +105,28 @@ typedef enum {
     STACKER_REFUSED_SIZE = 1,
     STACKER_REFUSED_COUNT = 2,
     STACKER_REFUSED_REFERENCE = 3,
-    STACKER_REFUSED_SAMPLES_LENGTH = 4,
-    STACKER_REFUSED_VECTORS_LENGTH = 5,
+    STACKER_REFUSED_SAMPLE_LENGTH = 4,
+    STACKER_REFUSED_VECTOR_LENGTH = 5,
     STACKER_REFUSED_OUTPUT_LENGTH = 6,
     STACKER_REFUSED_WORK_LENGTH = 7,
     STACKER_REFUSED_NOISE = 8,
     STACKER_REFUSED_NOISE_LIMIT = 9,
     STACKER_REFUSED_STRENGTH = 10,
-    STACKER_REFUSED_SAMPLE = 11,
-    STACKER_REFUSED_VECTOR = 12,
-    STACKER_REFUSED_FILE_NAMES = 13,
-    STACKER_REFUSED_FILE_LINE = 14,
-    STACKER_REFUSED_FILE_LENGTH = 15,
-    STACKER_REFUSED_BYTES_LENGTH = 16,
-    STACKER_REFUSED_PGM = 17,
-    STACKER_REFUSED_BLACK = 18,
+    STACKER_REFUSED_SAMPLE_VALUE = 11,
+    STACKER_REFUSED_VECTOR_PART = 12,
+    STACKER_REFUSED_FIRST_LINE = 13,
+    STACKER_REFUSED_VALUE_LINE = 14,
+    STACKER_REFUSED_FILE_END = 15,
+    STACKER_REFUSED_BYTE_LENGTH = 16,
+    STACKER_REFUSED_PGM_FORM = 17,
+    STACKER_REFUSED_BLACK_LEVEL = 18,
     STACKER_REFUSED_DNG_STRUCTURE = 19,
     STACKER_REFUSED_DNG_TAG = 20,
     STACKER_REFUSED_DNG_VALUE = 21,
     STACKER_REFUSED_SIDE = 22,
     STACKER_REFUSED_ROW_LENGTH = 23,
-    STACKER_REFUSED_SPATIAL = 24,
-    STACKER_REFUSED_SPATIAL_SIDE = 25
+    STACKER_REFUSED_SPATIAL_STRENGTH = 24,
+    STACKER_REFUSED_FILTERED_SIDE = 25
 } stacker_refusal;
 
 /* Aligns each other frame on the reference. Of the tuning it reads the side alone. */
@@ -218,28 +218,28 @@ static inline const char *stacker_refusal_text(uint64_t number)
     case STACKER_REFUSED_SIZE: return "width or height not a multiple of 64 from 64 to 4096";
     case STACKER_REFUSED_COUNT: return "count of frames 0 or above 8";
     case STACKER_REFUSED_REFERENCE: return "reference, or index of the frame to be read, not below the count of frames";
-    case STACKER_REFUSED_SAMPLES_LENGTH: return "samples not of length count * row_length * height";
-    case STACKER_REFUSED_VECTORS_LENGTH: return "vectors not of length (count - 1) * 2 * (width / side + 1) * (height / side + 1)";
+    case STACKER_REFUSED_SAMPLE_LENGTH: return "samples not of length count * row_length * height";
+    case STACKER_REFUSED_VECTOR_LENGTH: return "vectors not of length (count - 1) * 2 * (width / side + 1) * (height / side + 1)";
     case STACKER_REFUSED_OUTPUT_LENGTH: return "output or frame not of length width * height";
     case STACKER_REFUSED_WORK_LENGTH: return "work area not of length 2 * width * height";
     case STACKER_REFUSED_NOISE: return "shot or read negative or not finite, or ISO outside 25..409600";
     case STACKER_REFUSED_NOISE_LIMIT: return "shot above 64 or read above 4096 after ISO, or a file's levels above 65536 or 4194304";
     case STACKER_REFUSED_STRENGTH: return "strength above 1024";
-    case STACKER_REFUSED_SAMPLE: return "a sample above 4095";
-    case STACKER_REFUSED_VECTOR: return "a part of a vector outside -172..172";
-    case STACKER_REFUSED_FILE_NAMES: return "a file whose first line differs";
-    case STACKER_REFUSED_FILE_LINE: return "a file with a malformed line of values";
-    case STACKER_REFUSED_FILE_LENGTH: return "a file that is short, or goes on after its last row";
-    case STACKER_REFUSED_BYTES_LENGTH: return "bytes not of the length that stacker_pgm_length answers";
-    case STACKER_REFUSED_PGM: return "not a PGM file as stacker_write_pgm writes it";
-    case STACKER_REFUSED_BLACK: return "a black level above 255";
+    case STACKER_REFUSED_SAMPLE_VALUE: return "a sample above 4095";
+    case STACKER_REFUSED_VECTOR_PART: return "a part of a vector outside -172..172";
+    case STACKER_REFUSED_FIRST_LINE: return "a file whose first line differs";
+    case STACKER_REFUSED_VALUE_LINE: return "a file with a malformed line of values";
+    case STACKER_REFUSED_FILE_END: return "a file that is short, or goes on after its last row";
+    case STACKER_REFUSED_BYTE_LENGTH: return "bytes not of the length that stacker_pgm_length answers";
+    case STACKER_REFUSED_PGM_FORM: return "not a PGM file as stacker_write_pgm writes it";
+    case STACKER_REFUSED_BLACK_LEVEL: return "a black level above 255";
     case STACKER_REFUSED_DNG_STRUCTURE: return "not a little-endian TIFF file, or a part of it lies past its end";
     case STACKER_REFUSED_DNG_TAG: return "a DNG file in which a needed tag is absent or a listed one stands twice";
     case STACKER_REFUSED_DNG_VALUE: return "a DNG file with a type, count or value that is not read, or of another size than the burst";
     case STACKER_REFUSED_SIDE: return "side of the tiles neither 16 nor 32";
     case STACKER_REFUSED_ROW_LENGTH: return "row length not from width to width + 256";
-    case STACKER_REFUSED_SPATIAL: return "spatial strength above 256";
-    case STACKER_REFUSED_SPATIAL_SIDE: return "spatial strength not 0 with tiles of side 32";
+    case STACKER_REFUSED_SPATIAL_STRENGTH: return "spatial strength above 256";
+    case STACKER_REFUSED_FILTERED_SIDE: return "spatial strength not 0 with tiles of side 32";
     default: return "no refusal of this version";
     }
 }
@@ -282,7 +282,7 @@ static inline const char *stacker_refusal_text(uint64_t number)
 
        stacker_file file = stacker_read_file(bytes, length, samples, N * W * H);
        if (file.refusal != STACKER_ACCEPTED)
-           return 1;   // STACKER_REFUSED_SAMPLES_LENGTH where it has more or fewer samples
+           return 1;   // STACKER_REFUSED_SAMPLE_LENGTH where it has more or fewer samples
        answer = stacker_run(stacker_file_burst(file), stacker_file_noise(file), stacker_file_tuning(file),
            samples, N * W * H, vectors, VECTORS, output, W * H, work, 2 * W * H);
 

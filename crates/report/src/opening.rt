@@ -4,7 +4,7 @@ ghost use lib.ListN.{length};
 ghost use Rattle.report.specs.Program.{fileMost};
 ghost use Rattle.report.specs.Inner.{room, Opens};
 use crate::sizes::FRAME;
-use crate::sizes::SIDE;
+use crate::sizes::FRAME_SIDE;
 use burst_file::check_file;
 use burst_file::read_file;
 use file_head::Head;
@@ -31,10 +31,10 @@ pub fn open_file(file: &[u8], samples: &mut [u16]) -> Opened
                 return Opened::Refused { number };
             }
             let shape = header.shape;
-            if shape.width != SIDE {
+            if shape.width != FRAME_SIDE {
                 return Opened::TooLarge;
             }
-            if shape.height != SIDE {
+            if shape.height != FRAME_SIDE {
                 return Opened::TooLarge;
             }
             let end = shape.count * FRAME;

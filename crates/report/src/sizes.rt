@@ -6,7 +6,7 @@ pub const FILE_MOST: usize = 65536;
 pub const FILE_ROOM: usize = 65537;
 
 // Width and height of a frame, and its samples.
-pub const SIDE: usize = 64;
+pub const FRAME_SIDE: usize = 64;
 
 pub const FRAME: usize = 4096;
 

@@ -7,8 +7,8 @@ ghost use Rattle.report.specs.Program.{textRoom, programSide};
 ghost use Rattle.report.specs.Stack.{frameText, frameOf, stackOf};
 ghost use Rattle.report.specs.Inner.{room, vectorRoom, workRoom, burstOf, Taken};
 use crate::sizes::FRAME;
+use crate::sizes::FRAME_SIDE;
 use crate::sizes::PARTS;
-use crate::sizes::SIDE;
 use crate::sizes::VECTOR_ROOM;
 use crate::sizes::WORK_ROOM;
 use file_head::Header;
@@ -25,8 +25,8 @@ fn put_merged(text: &mut [u8], samples: &[u16]) -> usize
     ensures { λ r. ⌜ Printed (now (text .entry)) 0 (frameText programSide programSide (now (samples .entry))) (now (text .exit)) r ⌝ }
 {
     let sizes = put_stack_names(&mut *text, 0);
-    let rows = put_numbers(&mut *text, sizes, &[SIDE as u64, SIDE as u64]);
-    put_rows(text, rows, samples, SIDE, SIDE)
+    let rows = put_numbers(&mut *text, sizes, &[FRAME_SIDE as u64, FRAME_SIDE as u64]);
+    put_rows(text, rows, samples, FRAME_SIDE, FRAME_SIDE)
 }
 
 // A run from the levels of the file, whose frame it leaves in the output. The vectors are those of at most seven frames.
