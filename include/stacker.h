@@ -226,7 +226,7 @@ static inline const char *stacker_refusal_text(uint64_t number)
     case STACKER_REFUSED_REFERENCE: return "reference, or index of the frame to be read, not below the count of frames";
     case STACKER_REFUSED_SAMPLE_LENGTH: return "samples not of length count * row_length * height";
     case STACKER_REFUSED_VECTOR_LENGTH: return "vectors not of length (count - 1) * 2 * (width / side + 1) * (height / side + 1)";
-    case STACKER_REFUSED_OUTPUT_LENGTH: return "output or frame not of length width * height";
+    case STACKER_REFUSED_OUTPUT_LENGTH: return "output or frame not of length width * height, or residuals not half as many as the vectors' parts";
     case STACKER_REFUSED_WORK_LENGTH: return "work area not of length 2 * width * height";
     case STACKER_REFUSED_NOISE: return "shot or read negative or not finite, or ISO outside 25..409600";
     case STACKER_REFUSED_NOISE_LIMIT: return "shot above 64 or read above 4096 after ISO, or a file's levels above 65536 or 4194304";
