@@ -1,25 +1,25 @@
 -- One frame at a time: its residuals are those of the definition, and they stand where it says.
-use Rattle.algebra.specs.Prelude.{_≡_, sym, ap, ap₂, subst, _∙_, List, ℕ, _+_, _-_, _*_, _/_, _%_, _≤_, _<_, arith, length, getD, ℤ, pos}
+use Rattle.algebra.specs.Prelude.{_≡_, sym, ap, ap₂, subst, _∙_, List, ℕ, _+_, _-_, _*_, _/_, _%_, _≤_, _<_, arith, length, ℤ}
 use mathlib.Core.Path.{refl, subst₂}
 use native.Mathlib.Nat.{zero-add, zero-mul, suc-mul, div-add-mod'}
 use Rattle.sequences.specs.Place.{row-room, place-row, place-column}
 use Rattle.sequences.specs.Write.{written, Writing, write-start, write-part, write-done, written-all}
 use Rattle.geometry.specs.declared.Shape.{Shape}
 use Rattle.geometry.specs.Shape.{vectorLength}
-use Rattle.geometry.specs.Fits.{Allowed, TileSide}
+use Rattle.geometry.specs.Fits.{Allowed}
 use Rattle.geometry.specs.Read.{Image, sampleAt}
-use Rattle.geometry.specs.Tiles.{finestLevel, tileRows, tileColumns, frameParts}
+use Rattle.geometry.specs.Tiles.{finestLevel, tileColumns}
 use Rattle.geometry.specs.Vectors.{otherFrame, vectorPlace, downAt, rightAt}
 use Rattle.limits.specs.Residuals.{frameTiles, residualLength}
-use Rattle.bayer.specs.Frame.{Frame}
-use Rattle.bayer.specs.FrameLaws.{frame-fits}
-use Rattle.pyramid.specs.Layout.{pyramidLength, alignLength, Levels, Built}
-use Rattle.pyramid.specs.LayoutLaws.{align-fits, built-kept, levels-kept}
+use Rattle.pyramid.specs.Layout.{pyramidLength, Levels, Built}
+use Rattle.pyramid.specs.LayoutLaws.{levels-kept}
 use Rattle.residuals.specs.Residual.{residual}
 use Rattle.levels.specs.Fields.{levelTile}
 use Rattle.alignment.specs.Frames.{pairs}
-use Rattle.alignment.specs.FrameLaws.{frame-standing, frame-pairs}
-use Rattle.alignment.specs.Sites.{pairsIn, Standing}
+use Rattle.alignment.specs.FrameLaws.{frame-pairs}
+use Rattle.alignment.specs.Sites.{pairsIn}
+use Rattle.alignment.specs.Burst as alignment
+use Rattle.alignment.specs.BurstLaws.{place-room}
 use Rattle.tile_residuals.specs.Residuals.{tileResidual, residualWord, tileResiduals}
 use Rattle.tile_residuals.specs.Frames.{vectorIn, residualIn, Measured, Ready, MeasuredBurst}
 
@@ -49,11 +49,8 @@ module _ (s : Shape) (reference : ℕ) (samples : List ℕ) (vectors : List ℤ)
 -- ---- the two pyramids
 
 module _ {s : Shape} {reference other : Image} {d l : List ℤ} (ok : Allowed s) (r : Levels s reference 0 d) (b : Built s other (pyramidLength s) d l) where
-  pub reference-stands : Levels s reference 0 l
+  reference-stands : Levels s reference 0 l
   reference-stands = levels-kept r (record { same = b .same; kept = λ i h. b .before i (omega arith) })
-
-  pub pyramids-stand : Standing s l
-  pyramids-stand = frame-standing ok reference-stands (b .levels)
 
   pub frame-measured : {vectors : List ℤ} {to : ℕ} {e e′ : List ℕ} → e′ ≡ written e to (residualIn (s .side) (pairsIn s l 0) (tileColumns s) vectors to) (frameTiles s) → Measured s reference other vectors to e e′ d l
   frame-measured {vectors} {to} {e} is =
@@ -65,25 +62,17 @@ module _ {s : Shape} {reference other : Image} {d l : List ℤ} (ok : Allowed s)
 
 -- ---- the loop over the other frames
 
-module _ {s : Shape} {reference : ℕ} {samples : List ℕ} {vectors : List ℤ} {residuals : List ℕ} {work : List ℤ} (r : Ready s reference samples vectors residuals work) where
-  -- any frame can be built from, and two pyramids fit
-  pub frame-of : (f : ℕ) → f < s .count → Frame s f samples
-  frame-of f h = let b = r .fits .burst in frame-fits f (record { allowed = b .allowed; long = b .samples-long }) (r .samples-fit) h
-
-  pub work-room : alignLength s ≤ length work
-  work-room = let e = r .fits .work-long in omega (arith, align-fits (r .fits .burst .allowed))
+-- what alignment asks is among what is asked
+pub alignable : {s : Shape} {reference : ℕ} {samples : List ℕ} {vectors : List ℤ} {residuals : List ℕ} {work : List ℤ} → Ready s reference samples vectors residuals work → alignment.Ready s reference samples vectors work
+alignable r = record { fits = r .fits; samples-fit = r .samples-fit }
 
 -- the k-th frame's words and vectors lie within the lent ones
 pub word-room : (s : Shape) (k : ℕ) → k < s .count - 1 → k * frameTiles s + frameTiles s ≤ residualLength s
 unfolding residualLength
 word-room s k h = row-room k (s .count - 1) (frameTiles s) h
 
-half-of : (n t : ℕ) → 2 * (n * t) ≡ n * (2 * t)
-half-of n t = omega arith
-
 pub vector-room : (s : Shape) (k : ℕ) → k < s .count - 1 → 2 * (k * frameTiles s + frameTiles s) ≤ vectorLength s
-unfolding vectorLength residualLength
-vector-room s k h = omega (arith, word-room s k h, half-of (s .count - 1) (frameTiles s))
+vector-room s k h = omega (arith, place-room s k h, twice k (frameTiles s) (frameTiles s) (frameTiles s) refl)
 
 -- the reference's pyramid stands, and the words of the first k other frames are written
 pub record Measuring (s : Shape) (reference : ℕ) (samples : List ℕ) (vectors : List ℤ) (residuals₀ : List ℕ) (work₀ : List ℤ) (k : ℕ) (residuals : List ℕ) (work : List ℤ) : Type 0 where

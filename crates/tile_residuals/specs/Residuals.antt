@@ -24,5 +24,6 @@ module _ (s : Shape) (reference : ℕ) (samples : List ℕ) (vectors : List ℤ)
       let tile = i % frameTiles s in
       tileResidual (i / frameTiles s) (tile / tileColumns s) (tile % tileColumns s)
 
+  -- one word for each tile of each other frame, in the order of the vectors
   unfoldable pub tileResiduals : List ℕ
   tileResiduals = tab (residualLength s) residualWord

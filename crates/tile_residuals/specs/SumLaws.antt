@@ -1,5 +1,5 @@
 -- "the sum of finest residuals": where the vectors are those that align finds, the residuals of a frame's tiles add up to the sum that it answers.
-use Rattle.algebra.specs.Prelude.{_≡_, ap, ap₂, _∙_, List, ℕ, _+_, _-_, _*_, _/_, _%_, _<_, getD}
+use Rattle.algebra.specs.Prelude.{_≡_, ap₂, _∙_, List, ℕ, _+_, _-_, _*_, _/_, _%_, _<_, getD}
 use Rattle.algebra.specs.Sums.{sumN}
 use Rattle.algebra.specs.SumLaws.{sumN-cong}
 use Rattle.sequences.specs.Place.{row-below, column-below}

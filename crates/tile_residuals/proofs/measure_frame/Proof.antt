@@ -8,10 +8,10 @@ use Rattle.limits.specs.Residuals.{frameTiles}
 use Rattle.pyramid.specs.Layout.{pyramidLength, Built}
 use Rattle.matching.specs.declared.Area.{Area}
 use Rattle.matching.specs.Stored.{pairIn}
-use Rattle.alignment.specs.BurstLaws.{two-pyramids}
+use Rattle.alignment.specs.BurstLaws.{two-pyramids, both-standing}
 use Rattle.alignment.specs.Sites.{areaAt, pairsIn}
 use Rattle.tile_residuals.specs.Frames.{residualIn}
-use Rattle.tile_residuals.specs.FrameLaws.{pyramids-stand, frame-measured}
+use Rattle.tile_residuals.specs.FrameLaws.{frame-measured}
 use Rattle.tile_residuals.proofs.measure_frame.Statement.{statement}
 use Rattle.tile_residuals.proofs.measure_frame.Tie as tie
 
@@ -38,7 +38,7 @@ frame-residuals-requires c κs =
     let wide = columns .tile-columns .ensures in
     let high = rows .tile-rows .ensures in
     record {
-      stored = rw (area .area-at .ensures) (pyramids-stand (start .pre .readable .sampled .allowed) (start .pre .levels) (built laid) .stored 0);
+      stored = rw (area .area-at .ensures) (both-standing (start .pre .readable .sampled .allowed) (start .pre .sided) (start .pre .levels) (built laid) .stored 0);
       sided = start .pre .sided;
       few = record { some-columns = omega (arith, wide .0); few-rows = high .1; few-columns = wide .1 };
       vectors-fit = start .pre .vectors-fit;
