@@ -1,5 +1,5 @@
 //! The calls from Rust, without a crate: reads a burst file of any size on standard input, aligns and merges it, and prints what
-//! `motion` or `stack` would, as its argument says.
+//! `motion` or `stack` would, or with `tiles` each tile's vector and residual, as its argument says.
 //!
 //!     tools/install target/installed && rustc -O examples/burst_file.rs -L target/installed/lib -o target/burst_file
 
@@ -65,6 +65,19 @@ impl BurstFile {
         }
     }
 
+    fn columns(&self) -> usize {
+        self.width as usize / SIDE + 1
+    }
+
+    /// Of one frame.
+    fn tiles(&self) -> usize {
+        self.columns() * (self.height as usize / SIDE + 1)
+    }
+
+    fn others(&self) -> impl Iterator<Item = u64> + '_ {
+        (0..self.count).filter(move |&frame| frame != self.reference)
+    }
+
     /// The curve with exactly these levels, 1024 times shot and read: both quotients are exact.
     fn noise(&self) -> Noise {
         Noise {
@@ -91,6 +104,8 @@ extern "C" {
         work: *mut i64, work_length: usize) -> Alignment;
     fn stacker_merge(burst: Burst, noise: Noise, tuning: Tuning, samples: *const u16, samples_length: usize,
         vectors: *const i32, vectors_length: usize, output: *mut u16, output_length: usize, work: *mut i64, work_length: usize) -> u64;
+    fn stacker_residuals(burst: Burst, tuning: Tuning, samples: *const u16, samples_length: usize, vectors: *const i32, vectors_length: usize,
+        residuals: *mut u64, residuals_length: usize, work: *mut i64, work_length: usize) -> u64;
 }
 
 // What C callers must see to, slices bring along: they are aligned, and no two mutable ones overlap.
@@ -121,6 +136,14 @@ fn merge(file: &BurstFile, samples: &[u16], vectors: &[i32], output: &mut [u16],
     }
 }
 
+#[rustfmt::skip]
+fn residuals_at(file: &BurstFile, samples: &[u16], vectors: &[i32], residuals: &mut [u64], work: &mut [i64]) -> u64 {
+    unsafe {
+        stacker_residuals(file.burst(), file.tuning(), samples.as_ptr(), samples.len(), vectors.as_ptr(), vectors.len(),
+            residuals.as_mut_ptr(), residuals.len(), work.as_mut_ptr(), work.len())
+    }
+}
+
 fn file_size(file: &[u8]) -> BurstFile {
     unsafe { stacker_file_size(file.as_ptr(), file.len()) }
 }
@@ -134,12 +157,30 @@ fn accepted(refusal: u64) {
 
 fn print_motion(file: &BurstFile, vectors: &[i32], residuals: &[u64; 7]) {
     println!("frame tiles still far residual");
-    let others = (0..file.count).filter(|&frame| frame != file.reference);
-    let fields = vectors.chunks(vectors.len() / (file.count as usize - 1));
-    for ((frame, field), residual) in others.zip(fields).zip(residuals) {
+    let fields = vectors.chunks(2 * file.tiles());
+    for ((frame, field), residual) in file.others().zip(fields).zip(residuals) {
         let still = field.chunks(2).filter(|vector| vector == &[0, 0]).count();
         let far = field.iter().map(|part| part.abs()).max().unwrap_or(0);
         println!("{frame} {} {still} {far} {residual}", field.len() / 2);
+    }
+}
+
+/// A tile without texture matches anywhere: its vector tells something only beside its residual, there and elsewhere.
+fn print_tiles(file: &BurstFile, vectors: &[i32], residuals: &[u64]) {
+    println!("frame row column down right residual");
+    let fields = vectors.chunks(2 * file.tiles());
+    for ((frame, field), sums) in file
+        .others()
+        .zip(fields)
+        .zip(residuals.chunks(file.tiles()))
+    {
+        for (tile, (vector, residual)) in field.chunks(2).zip(sums).enumerate() {
+            let (row, column) = (tile / file.columns(), tile % file.columns());
+            println!(
+                "{frame} {row} {column} {} {} {residual}",
+                vector[0], vector[1]
+            );
+        }
     }
 }
 
@@ -167,15 +208,24 @@ fn main() {
         file.height as usize,
         file.count as usize,
     );
-    let mut vectors = vec![0; (count - 1) * 2 * (width / SIDE + 1) * (height / SIDE + 1)];
+    let mut vectors = vec![0; (count - 1) * 2 * file.tiles()];
+    let mut residuals = vec![0; (count - 1) * file.tiles()];
     let mut output = vec![0; width * height];
     let mut work = vec![0; 2 * width * height];
     let alignment = align(&file, &samples, &mut vectors, &mut work);
     accepted(alignment.refusal);
     accepted(merge(&file, &samples, &vectors, &mut output, &mut work));
+    accepted(residuals_at(
+        &file,
+        &samples,
+        &vectors,
+        &mut residuals,
+        &mut work,
+    ));
 
     match std::env::args().nth(1).as_deref() {
         Some("motion") => print_motion(&file, &vectors, &alignment.residuals),
+        Some("tiles") => print_tiles(&file, &vectors, &residuals),
         _ => print_frame(&file, &output),
     }
 }

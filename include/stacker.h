@@ -140,6 +140,12 @@ uint64_t stacker_merge(stacker_burst burst, stacker_noise noise, stacker_tuning 
 uint64_t stacker_merge_iso(stacker_burst burst, stacker_iso_noise noise, stacker_tuning tuning, const uint16_t *samples, size_t samples_length,
     const int32_t *vectors, size_t vectors_length, uint16_t *output, size_t output_length, int64_t *work, size_t work_length);
 
+/* The finest residual of every tile of every other frame at its lent vector: the sum of absolute differences at level 0 between the reference's tile and the
+   frame's, moved by the vector. One word for each tile, in the order of the vectors. At the vectors that align finds, a frame's words add up to its sum
+   there. Of the tuning it reads the side alone; answers the refusal's number, or 0. */
+uint64_t stacker_residuals(stacker_burst burst, stacker_tuning tuning, const uint16_t *samples, size_t samples_length, const int32_t *vectors,
+    size_t vectors_length, uint64_t *residuals, size_t residuals_length, int64_t *work, size_t work_length);
+
 /* Aligns, then merges. */
 stacker_alignment stacker_run(stacker_burst burst, stacker_noise noise, stacker_tuning tuning, const uint16_t *samples, size_t samples_length,
     int32_t *vectors, size_t vectors_length, uint16_t *output, size_t output_length, int64_t *work, size_t work_length);
@@ -220,7 +226,7 @@ static inline const char *stacker_refusal_text(uint64_t number)
     case STACKER_REFUSED_REFERENCE: return "reference, or index of the frame to be read, not below the count of frames";
     case STACKER_REFUSED_SAMPLE_LENGTH: return "samples not of length count * row_length * height";
     case STACKER_REFUSED_VECTOR_LENGTH: return "vectors not of length (count - 1) * 2 * (width / side + 1) * (height / side + 1)";
-    case STACKER_REFUSED_OUTPUT_LENGTH: return "output or frame not of length width * height";
+    case STACKER_REFUSED_OUTPUT_LENGTH: return "output or frame not of length width * height, or residuals not half as many as the vectors' parts";
     case STACKER_REFUSED_WORK_LENGTH: return "work area not of length 2 * width * height";
     case STACKER_REFUSED_NOISE: return "shot or read negative or not finite, or ISO outside 25..409600";
     case STACKER_REFUSED_NOISE_LIMIT: return "shot above 64 or read above 4096 after ISO, or a file's levels above 65536 or 4194304";
@@ -315,11 +321,12 @@ static inline const char *stacker_refusal_text(uint64_t number)
    LENT BUFFERS, for frames of width W, height H and row length L, N of them, and tiles of side S; a file means L = W and S = 16. A length counts elements,
    not bytes; station_length of station.h answers it too.
 
-       buffer     elements    length                          read_file   align     merge     run
-       samples    uint16_t    N*L*H                           written     read      read      read
-       vectors    int32_t     (N-1)*2*(W/S+1)*(H/S+1)                     written   read      written
+       buffer     elements    length                          read_file   align     merge     run       residuals
+       samples    uint16_t    N*L*H                           written     read      read      read      read
+       vectors    int32_t     (N-1)*2*(W/S+1)*(H/S+1)                     written   read      written   read
        output     uint16_t    W*H                                                   written   written
-       work       int64_t     2*W*H                                       cleared   cleared   cleared
+       work       int64_t     2*W*H                                       cleared   cleared   cleared   cleared
+       residuals  uint64_t    (N-1)*(W/S+1)*(H/S+1)                                                     written
 
    run_sharpest does with them as run.
 
@@ -340,7 +347,8 @@ static inline const char *stacker_refusal_text(uint64_t number)
    as it was, and every other field of the answer is 0, the index chosen too; but a DNG file's tag at fault is named.
 
    REFUSALS. A call makes its tests in the order of the numbers, but 22 and 23 before 4, and 18, 24 and 25 after 10, and answers the first that fails: align 1 to
-   5, 7, 11, 22 and 23; merge 1 to 12, 18 and 22 to 25; run 1 to 11, 18 and 22 to 25; run_sharpest run's but for 3, whichever frame it chooses.
+   5, 7, 11, 22 and 23; merge 1 to 12, 18 and 22 to 25; run 1 to 11, 18 and 22 to 25; run_sharpest run's but for 3, whichever frame it chooses;
+   residuals 1 to 7, 11, 12, 22 and 23, where 6 is of the residuals' length.
    A file is tested line by line: no first LF 15, 13; line two 15, 14, then 1, 2, 3, 9, 10, 4; each row 15, 14, 11; then what follows, 15.
    Writing a PGM file tests 1, 6, 16, 11 in that order, reading one 17, 6, 11.
    Reading a DNG file tests 19, 20, 21, then 1, 2, 3 of the frame's index, 23, 4 and 11 of the file's samples.

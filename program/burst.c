@@ -150,13 +150,12 @@ void release(job *j)
 {
     for (int i = 0; i < FRAMES_MOST; i++)
         free(j->dngs[i].bytes);
-    for (int k = 0; k < FRAMES_MOST - 1; k++) {
-        free(j->fields[k].own);
-        free(j->fields[k].at_common);
+    for (int k = 0; k < FRAMES_MOST - 1; k++)
         free(j->fields[k].is_lifted);
-    }
     free(j->samples);
     free(j->merged);
     free(j->vectors);
     free(j->work);
+    free(j->own);
+    free(j->at_common);
 }

@@ -54,6 +54,15 @@ void merge_burst(job *j, const request *r)
     j->is_merged = 1;
 }
 
+/* the residual of each tile at such vectors as align finds, in their order */
+void residuals_at(job *j, const int32_t *vectors, uint64_t *residuals)
+{
+    stacker_tuning tuning = { .side = j->side };
+    uint64_t refusal = stacker_residuals(j->burst, tuning, j->samples, j->samples_length, vectors, j->vectors_length, residuals, j->vectors_length / 2,
+        j->work, j->work_length);
+    accepted("residuals", refusal, "");
+}
+
 /* V of a tile with this root: its RMS times the side */
 uint64_t noise_number(const request *r, stacker_noise noise, uint64_t root)
 {

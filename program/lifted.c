@@ -49,27 +49,40 @@ static void judge(const job *j, field *f, const int32_t *vectors, uint64_t apart
 {
     for (size_t t = 0; t < j->tiles; t++) {
         int judged = is_judged(j, f, t), is_apart = (uint64_t)reach(vectors + 2 * t, f->common) > apart;
-        f->is_lifted[t] = judged && is_apart && 4 * (uint64_t)f->at_common[t] > 5 * (uint64_t)f->own[t];
+        f->is_lifted[t] = judged && is_apart && 4 * f->at_common[t] > 5 * f->own[t];
         f->unjudged += !judged;
         f->apart += (size_t)is_apart;
         f->lifted += f->is_lifted[t];
     }
 }
 
+/* every tile's residual at its own vector, and at its frame's common one */
+static void measure(job *j)
+{
+    int32_t *common = room(j->vectors_length, sizeof *common);
+    for (size_t i = 0; i < j->vectors_length / 2; i++)
+        memcpy(common + 2 * i, j->fields[i / j->tiles].common, 2 * sizeof *common);
+    residuals_at(j, j->vectors, j->own);
+    residuals_at(j, common, j->at_common);
+    free(common);
+}
+
 void find_lifted(job *j, const request *r)
 {
+    progress("looking for lifted tiles ");
+    j->own = room(j->vectors_length / 2, sizeof *j->own);
+    j->at_common = room(j->vectors_length / 2, sizeof *j->at_common);
     for (uint64_t k = 0; k + 1 < j->burst.count; k++) {
         field *f = &j->fields[k];
-        const int32_t *vectors = j->vectors + 2 * j->tiles * k;
-        progress("looking for lifted tiles, frame %d of %d ", (int)k + 1, (int)j->burst.count - 1);
         f->frame = k + (k >= j->burst.reference);
-        f->own = room(j->tiles, sizeof *f->own);
-        f->at_common = room(j->tiles, sizeof *f->at_common);
+        f->own = j->own + j->tiles * k;
+        f->at_common = j->at_common + j->tiles * k;
         f->is_lifted = room(j->tiles, 1);
-        find_common(j, f, vectors);
-        add_residuals(j, f);
-        judge(j, f, vectors, r->apart);
+        find_common(j, f, j->vectors + 2 * j->tiles * k);
     }
+    measure(j);
+    for (uint64_t k = 0; k + 1 < j->burst.count; k++)
+        judge(j, &j->fields[k], j->vectors + 2 * j->tiles * k, r->apart);
 }
 
 size_t lifted_tiles(const job *j)

@@ -32,10 +32,10 @@ static void put_tiles(FILE *to, const job *j, const field *f)
     for (size_t t = 0; t < j->tiles; t++) {
         put_word(to, (unsigned)(vectors[2 * t] + 2048));
         put_word(to, (unsigned)(vectors[2 * t + 1] + 2048));
-        put_word(to, f->own[t] >> 12);
-        put_word(to, f->own[t]);
-        put_word(to, f->at_common[t] >> 12);
-        put_word(to, f->at_common[t]);
+        put_word(to, (unsigned)(f->own[t] >> 12));
+        put_word(to, (unsigned)f->own[t]);
+        put_word(to, (unsigned)(f->at_common[t] >> 12));
+        put_word(to, (unsigned)f->at_common[t]);
     }
 }
 

@@ -59,8 +59,8 @@ typedef struct {
     int32_t common[2]; /* the most frequent vector */
     int32_t far;       /* the greatest part of a vector, without its sign */
     size_t still, apart, lifted, unjudged;
-    uint32_t *own, *at_common; /* by tile: its residual at its own vector, and at the common one */
-    uint8_t *is_lifted;        /* by tile */
+    const uint64_t *own, *at_common; /* by tile: its residual at its own vector, and at the common one */
+    uint8_t *is_lifted;              /* by tile */
 } field;
 
 /* A burst with all that is lent and answered. */
@@ -76,6 +76,7 @@ typedef struct {
     size_t area, tile_columns, tile_rows, tiles;
     size_t samples_length, vectors_length, work_length;
     stacker_alignment answer;
+    uint64_t *own, *at_common; /* the residuals of all other frames, in the order of the vectors */
     field fields[FRAMES_MOST - 1];
 } job;
 
@@ -103,7 +104,6 @@ uint64_t little(const uint8_t *at, int bytes);
 uint8_t *dng_entry(content file, unsigned tag);
 uint64_t dng_value(content file, unsigned tag);
 head head_of(content file);
-void add_residuals(const job *j, field *f);
 
 /* convert.c */
 content converted(const char *path, content file, head *found, const request *r);
@@ -118,6 +118,7 @@ void release(job *j);
 /* calls.c */
 void align_burst(job *j, const request *r);
 void merge_burst(job *j, const request *r);
+void residuals_at(job *j, const int32_t *vectors, uint64_t *residuals);
 uint64_t noise_number(const request *r, stacker_noise noise, uint64_t root);
 
 /* lifted.c */

@@ -81,11 +81,11 @@ static void put_field(FILE *to, const job *j, const field *f)
         f->lifted);
 }
 
-static void put_list(FILE *to, const char *name, const uint32_t *values, size_t count)
+static void put_list(FILE *to, const char *name, const uint64_t *values, size_t count)
 {
     fprintf(to, ",\n   \"%s\": [", name);
     for (size_t t = 0; t < count; t++)
-        fprintf(to, "%s%" PRIu32, t == 0 ? "" : ",", values[t]);
+        fprintf(to, "%s%" PRIu64, t == 0 ? "" : ",", values[t]);
     fputs("]", to);
 }
 
@@ -128,6 +128,6 @@ void write_csv(FILE *to, const job *j, const request *r)
         size_t t = i % j->tiles, row = t / j->tile_columns, column = t % j->tile_columns;
         fprintf(to, "%" PRIu64 ",%zu,%zu,%zu,%zu,%" PRId32 ",%" PRId32, f->frame, row, column, (size_t)j->side * row, (size_t)j->side * column,
             j->vectors[2 * i], j->vectors[2 * i + 1]);
-        fprintf(to, ",%" PRIu32 ",%" PRIu32 ",%d\n", f->own[t], f->at_common[t], f->is_lifted[t]);
+        fprintf(to, ",%" PRIu64 ",%" PRIu64 ",%d\n", f->own[t], f->at_common[t], f->is_lifted[t]);
     }
 }

@@ -1,13 +1,8 @@
-/* Outside the proofs: what a file is, by its first bytes; the head of a PGM file in another spelling than the library's, for --scale; an entry of a DNG file,
-   for --crop and for writing over its strip; and the residual of a tile. The proved readers test each file whole; the residuals of a frame add up to
-   the sum that the proved align answers, or the program stops. */
+/* Outside the proofs: what a file is, by its first bytes; the head of a PGM file in another spelling than the library's, for --scale; and an entry of a DNG
+   file, for --crop and for writing over its strip. The proved readers test each file whole. */
 #include "program.h"
 
-#include <inttypes.h>
-#include <stdlib.h>
 #include <string.h>
-
-/* FILES */
 
 uint64_t little(const uint8_t *at, int bytes)
 {
@@ -101,72 +96,4 @@ head head_of(content file)
     if (file.length >= 5 && memcmp(file.bytes, "width", 5) == 0)
         return burst_head(file);
     return (head){ .kind = OTHER };
-}
-
-/* RESIDUALS, by document 01: level 0 has the sum of each square of four samples, places outside are mirrored, differences are absolute */
-
-typedef struct {
-    uint16_t *sums;
-    int64_t width, height;
-} level;
-
-static level level_of(const job *j, uint64_t frame)
-{
-    size_t width = j->burst.width, half = width / 2;
-    level made = { room(j->area / 4, sizeof *made.sums), (int64_t)half, (int64_t)(j->burst.height / 2) };
-    for (size_t i = 0; i < j->area / 4; i++) {
-        const uint16_t *at = j->samples + frame * j->area + 2 * (i / half * width + i % half);
-        made.sums[i] = (uint16_t)(at[0] + at[1] + at[width] + at[width + 1]);
-    }
-    return made;
-}
-
-static int64_t mirrored(int64_t i, int64_t n)
-{
-    int64_t k = (i < 0 ? -1 - i : i) % (2 * n);
-    return k < n ? k : 2 * n - 1 - k;
-}
-
-/* `side` sums of a row from a place on, which may lie outside: where they stand, or copied to `beside` */
-static const uint16_t *row_at(const level *l, int64_t y, int64_t x, int64_t side, uint16_t *beside)
-{
-    const uint16_t *row = l->sums + mirrored(y, l->height) * l->width;
-    if (x >= 0 && x + side <= l->width)
-        return row + x;
-    for (int64_t i = 0; i < side; i++)
-        beside[i] = row[mirrored(x + i, l->width)];
-    return beside;
-}
-
-static uint32_t residual(const level *reference, const level *other, int64_t side, int64_t top, int64_t left, const int32_t *vector)
-{
-    enum { SIDE_ROOM = 32 };
-    uint16_t here[SIDE_ROOM], there[SIDE_ROOM];
-    uint32_t sum = 0;
-    for (int64_t y = top; y < top + side; y++) {
-        const uint16_t *a = row_at(reference, y, left, side, here);
-        const uint16_t *b = row_at(other, y + vector[0], left + vector[1], side, there);
-        for (int64_t i = 0; i < side; i++)
-            sum += (uint32_t)abs(a[i] - b[i]);
-    }
-    return sum;
-}
-
-/* each tile's residual at its own vector and at the field's common one; the former must add up to the frame's sum of the proved answer */
-void add_residuals(const job *j, field *f)
-{
-    size_t k = (size_t)(f - j->fields);
-    int64_t side = (int64_t)j->side, half = side / 2;
-    level reference = level_of(j, j->burst.reference), other = level_of(j, f->frame);
-    uint64_t sum = 0;
-    for (size_t t = 0; t < j->tiles; t++) {
-        int64_t top = half * (int64_t)(t / j->tile_columns) - half, left = half * (int64_t)(t % j->tile_columns) - half;
-        f->own[t] = residual(&reference, &other, side, top, left, j->vectors + 2 * (j->tiles * k + t));
-        f->at_common[t] = residual(&reference, &other, side, top, left, f->common);
-        sum += f->own[t];
-    }
-    free(reference.sums);
-    free(other.sums);
-    if (sum != j->answer.residuals[k])
-        fail(WRONG, "frame %" PRIu64 ": residuals of tiles add up to %" PRIu64 ", not to the proved %" PRIu64, f->frame, sum, j->answer.residuals[k]);
 }

@@ -17,9 +17,9 @@
 enum { W = 64, H = 64, N = 5, DNG_W = 128 };
 
 /* The buffers; a call names those that it takes. */
-enum { SAMPLES, VECTORS, OUTPUT, WORK, BYTES, BURST_FILE, DNG_FILE, DNG_FRAME, BUFFERS };
-static const size_t element[BUFFERS] = { 2, 4, 2, 8, 1, 1, 1, 2 };
-static size_t length[BUFFERS] = { N * W * H, VECTORS_OF(16), W * H, 2 * W * H, 0, 0, 0, DNG_W * H };
+enum { SAMPLES, VECTORS, OUTPUT, WORK, BYTES, BURST_FILE, DNG_FILE, DNG_FRAME, RESIDUALS, BUFFERS };
+static const size_t element[BUFFERS] = { 2, 4, 2, 8, 1, 1, 1, 2, 8 };
+static size_t length[BUFFERS] = { N * W * H, VECTORS_OF(16), W * H, 2 * W * H, 0, 0, 0, DNG_W * H, VECTORS_OF(16) / 2 };
 static uint8_t *lent[BUFFERS], *held[BUFFERS];
 
 static const stacker_burst burst = { W, H, N, 0, W, { 0, 0, 0, 0 } };
@@ -36,6 +36,11 @@ static stacker_tuning tuning = STACKER_TUNING(512);
 static uint64_t align(const size_t *told)
 {
     return stacker_align(burst, tuning, SAMPLES_READ, (int32_t *)lent[VECTORS], told[VECTORS], (int64_t *)lent[WORK], told[WORK]).refusal;
+}
+
+static uint64_t residuals(const size_t *told)
+{
+    return stacker_residuals(burst, tuning, SAMPLES_READ, VECTORS_READ, (uint64_t *)lent[RESIDUALS], told[RESIDUALS], (int64_t *)lent[WORK], told[WORK]);
 }
 
 static uint64_t merge(const size_t *told) { return stacker_merge(burst, noise, tuning, SAMPLES_READ, VECTORS_READ, WRITTEN); }
@@ -80,6 +85,7 @@ static const struct {
     { "stacker_align", align, { [SAMPLES] = 4, [VECTORS] = 5, [WORK] = 7 } },
     { "stacker_merge", merge, { [SAMPLES] = 4, [VECTORS] = 5, [OUTPUT] = 6, [WORK] = 7 } },
     { "stacker_merge_iso", merge_iso, { [SAMPLES] = 4, [VECTORS] = 5, [OUTPUT] = 6, [WORK] = 7 } },
+    { "stacker_residuals", residuals, { [SAMPLES] = 4, [VECTORS] = 5, [RESIDUALS] = 6, [WORK] = 7 } },
     { "stacker_run", run, { [SAMPLES] = 4, [VECTORS] = 5, [OUTPUT] = 6, [WORK] = 7 } },
     { "stacker_run_iso", run_iso, { [SAMPLES] = 4, [VECTORS] = 5, [OUTPUT] = 6, [WORK] = 7 } },
     { "stacker_run_sharpest", sharpest, { [SAMPLES] = 4, [VECTORS] = 5, [OUTPUT] = 6, [WORK] = 7 } },
@@ -185,13 +191,15 @@ static int each_call(void)
     return tried;
 }
 
-/* Tiles of side 32, whose fewer vectors end at the same page. */
+/* Tiles of side 32, whose fewer vectors and residuals end at the same page. */
 static void widen(void)
 {
     size_t fewer = VECTORS_OF(16) - VECTORS_OF(32);
     tuning.side = 32;
     length[VECTORS] -= fewer;
     lent[VECTORS] += fewer * element[VECTORS];
+    length[RESIDUALS] -= fewer / 2;
+    lent[RESIDUALS] += fewer / 2 * element[RESIDUALS];
 }
 
 int main(int count, char **names)

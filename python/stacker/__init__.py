@@ -80,7 +80,7 @@ def _made(code: str, *shape: int) -> memoryview:
     words = 1
     for length in shape:
         words *= length
-    flat = memoryview(bytearray(words * {'B': 1, 'H': 2, 'i': 4, 'q': 8}[code]))
+    flat = memoryview(bytearray(words * {'B': 1, 'H': 2, 'i': 4, 'q': 8, 'Q': 8}[code]))
     return flat.cast(code, shape) if words else flat.cast(code)  # type: ignore[call-overload]
 
 
@@ -118,6 +118,11 @@ class _Lent:
             return _made('i', 0)
         return _made('i', max(self.count - 1, 0), self.height // side + 1, self.width // side + 1, 2)
 
+    def residuals(self, side: int) -> memoryview:
+        if side not in _calls.SIDES:
+            return _made('Q', 0)
+        return _made('Q', max(self.count - 1, 0), self.height // side + 1, self.width // side + 1)
+
     def output(self) -> memoryview:
         return _made('H', self.height, self.width)
 
@@ -135,6 +140,15 @@ def align(frames: Buffer, reference: int = 0, *, side: int = SIDE, width: Option
     answer = _calls.align(lent.burst(reference), _calls.tuning(0, side, 0), *_lent(lent.view), *_lent(vectors), *_lent(lent.work()))
     _accepted(answer.refusal, 'align')
     return Aligned(vectors, lent.sums(answer), answer.rows)
+
+
+def residuals(frames: Buffer, vectors: Buffer, *, side: int = SIDE, reference: int = 0, width: Optional[int] = None) -> memoryview:
+    """The finest residual of each tile at these vectors, (N-1, H/side+1, W/side+1) of uint64; at align's vectors a frame's add up to its sum."""
+    lent, moves = _Lent(frames, width, (0, 0, 0, 0)), _words(vectors, 'i', memoryview(vectors).ndim, 'vectors')
+    found = lent.residuals(side)
+    number = _calls.residuals(lent.burst(reference), _calls.tuning(0, side, 0), *_lent(lent.view), *_lent(moves), *_lent(found), *_lent(lent.work()))
+    _accepted(number, 'residuals')
+    return found
 
 
 def merge(frames: Buffer, vectors: Buffer, *, noise: Noise, iso: Optional[int] = None, strength: int = STRENGTH, side: int = SIDE, spatial: int = 0,

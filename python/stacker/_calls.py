@@ -58,6 +58,7 @@ class Dng(ctypes.Structure):
 _LENT = [ctypes.c_void_p, size]
 _CALLS = {
     'stacker_align': (Alignment, [Burst, Tuning] + 3 * _LENT),
+    'stacker_residuals': (u64, [Burst, Tuning] + 4 * _LENT),
     'stacker_merge': (u64, [Burst, Noise, Tuning] + 4 * _LENT),
     'stacker_merge_iso': (u64, [Burst, IsoNoise, Tuning] + 4 * _LENT),
     'stacker_run': (Alignment, [Burst, Noise, Tuning] + 4 * _LENT),
@@ -118,6 +119,10 @@ def _by_noise(name: str, told: Any, curve: Any, *rest: Any) -> Any:
 
 def align(told: Burst, *rest: Any) -> Alignment:
     return library.stacker_align(told, *rest)
+
+
+def residuals(told: Burst, *rest: Any) -> int:
+    return library.stacker_residuals(told, *rest)
 
 
 def merge(told: Burst, curve: Any, *rest: Any) -> int:

@@ -36,6 +36,14 @@ class Calls(unittest.TestCase):
         self.assertEqual(done.merged.shape, (HEIGHT, WIDTH))
         self.assertEqual(done.vectors.shape, (COUNT - 1, HEIGHT // 16 + 1, WIDTH // 16 + 1, 2))
 
+    def test_residuals_add_up(self):
+        frames = made()
+        for side in 16, 32:
+            found = stacker.align(frames, side=side)
+            each = stacker.residuals(frames, found.vectors, side=side)
+            self.assertEqual(each.shape, (COUNT - 1, HEIGHT // side + 1, WIDTH // side + 1))
+            self.assertEqual([sum(sum(row) for row in frame) for frame in each.tolist()], found.residuals)
+
     def test_lone_frame_comes_back(self):
         frames = made(1)
         done = stacker.run(frames, noise=(3, 100))

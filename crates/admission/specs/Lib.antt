@@ -1,4 +1,5 @@
 pub mod Refusals
+pub mod Residuals
 pub mod FilterLaws
 pub mod Admission
 pub mod AdmissionLaws

@@ -1,8 +1,9 @@
-// The tests that the calls share, in the order in which they are made: align's, and those of merge and run.
+// The tests of the calls, in the order in which they are made: align's, the residuals', and those that merge and run share.
 ghost use mathlib.Core.Path.{_≡_};
 ghost use Rattle.refusals.specs.Tests.{first};
 ghost use Rattle.geometry.specs.Fits.{Sampled};
 ghost use Rattle.admission.specs.Refusals.{alignRefusal, filterSideRefusal, contentTests};
+ghost use Rattle.admission.specs.Residuals.{residualRefusal};
 ghost use Rattle.admission.specs.Admission.{RunTested};
 use geometry::Shape;
 use noise::Levels;
@@ -30,6 +31,33 @@ pub fn align_refusal(
         return lengths;
     }
     values::sample_refusal(shape, samples)
+}
+
+// Tests 1 to 7, 11 and 12: those of the residuals of tiles, where 6 is of the residuals.
+pub fn residual_refusal(
+    shape: Shape,
+    reference: usize,
+    samples: &[u16],
+    vectors: &[i32],
+    residuals: &[u64],
+    work: &[i64],
+) -> u64
+    ensures { λ r. ⌜ r ≡ residualRefusal shape reference (now (samples .entry)) (now (vectors .entry)) (now (residuals .entry)) (now (work .entry)) ⌝ }
+{
+    let lengths = limits::order::residual_shape_refusal(
+        shape,
+        reference,
+        samples.len(),
+        vectors.len(),
+        residuals.len(),
+        work.len(),
+    );
+    if lengths != 0 {
+        return lengths;
+    }
+    let sample = values::sample_refusal(shape, samples);
+    let part = values::vector_refusal(vectors);
+    refusals::first(&[sample, part])
 }
 
 // Refusal 25: the spatial filter is side 16's.

@@ -48,7 +48,7 @@ fn scale_of(side: usize, level: usize) -> usize
 }
 
 // Where a level's images stand.
-fn area_at(shape: Shape, level: usize) -> Area
+pub fn area_at(shape: Shape, level: usize) -> Area
     requires { ⌜ (Allowed shape) × (level ≤ 3) ⌝ }
     ensures { λ r. ⌜ r ≡ areaAt shape level ⌝ }
 {

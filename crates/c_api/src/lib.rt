@@ -5,5 +5,6 @@ pub mod dng_file;
 pub mod file;
 pub mod merge;
 pub mod netpbm;
+pub mod residuals;
 pub mod run;
 pub mod text;

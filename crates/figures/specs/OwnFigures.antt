@@ -1,6 +1,7 @@
--- Figures of our own beside document 01's: the definitions of the recipe, of sharpness, of the vectors' layout and of black levels, at numbers where each
--- factor, sign, order and rounded half of the papers changes what comes out.
+-- Figures of our own beside document 01's: the definitions of the recipe, of sharpness, of the vectors' layout, of residuals and of black levels, at numbers
+-- where each factor, sign, order and rounded half of the papers changes what comes out.
 use Rattle.algebra.specs.Prelude.{_≡_, refl, cond, List, [], _∷_, _++_, ℕ, _+_, _*_, _^_, lit<, eqb, getD, ℤ, pos, negℤ, _*ℤ_}
+use lib.ListN.{replicate}
 use Rattle.algebra.specs.Sums.{sumN, sumZ}
 use Rattle.algebra.specs.Clamp.{minZ, maxZ, clampZ}
 use Rattle.algebra.specs.Nearest.{away, upward}
@@ -10,7 +11,7 @@ use Rattle.sequences.specs.Least.{firstBy}
 use Rattle.geometry.specs.declared.Shape.{Shape}
 use Rattle.geometry.specs.Read.{sampleIndex, sampleAt, planeOf, mirrored, inside, read}
 use Rattle.geometry.specs.Shape.{shaped, vectorLength}
-use Rattle.geometry.specs.Tiles.{origin}
+use Rattle.geometry.specs.Tiles.{levelSize, origin}
 use Rattle.geometry.specs.Vectors.{otherFrame, vectorPlace, downAt, rightAt, VectorField, part, word, wordOf, vectorList}
 use Rattle.recipe.specs.declared.Merge.{Merge}
 use Rattle.recipe.specs.Root.{rootIn, wholeRoot}
@@ -26,6 +27,13 @@ use Rattle.recipe.specs.SpatialNoise.{frequency, distance, spatialNumber}
 use Rattle.recipe.specs.Scene.{Scene, sceneAt, sceneOf, blackOf, tileOver, tileAt, referenceTile, otherTile, tileNoise, tileSpatial, tileDifference}
 use Rattle.recipe.specs.Exact.{exactBin, exactNoise, exactWiener, exactInverseRe, exactInverseAt, unrounded}
 use Rattle.recipe.specs.ExactSpatial.{exactRowRe, exactRowIm, exactBinRe, exactBinIm}
+use Rattle.limits.specs.Residuals.{residualLength}
+use Rattle.bayer.specs.Bayer.{bayerSum}
+use Rattle.pyramid.specs.Pyramid.{image0}
+use Rattle.residuals.specs.Residual.{difference, rowResidual, residual}
+use Rattle.levels.specs.Fields.{levelTile}
+use Rattle.alignment.specs.Frames.{pairs}
+use Rattle.tile_residuals.specs.Residuals.{tileResidual, residualWord, tileResiduals}
 use Rattle.sharpness.specs.Sharpness.{rowSteps, steps, sharpness, sharpest}
 use Rattle.figures.specs.Figures.{only}
 
@@ -252,6 +260,29 @@ layout =
     ∷ (rightAt three (vectorList three numberedField) 1 2 3 is minus 123)
     ∷ []
 
+-- three frames of 4 by 4 samples in rows of five words: their squares add up to 100 200 300 500, the reference's to 10 25 47 80, and the last one's to 0 3 70 1
+abbrev pub squares : List ℕ
+squares =
+    (10 ∷ 20 ∷ 50 ∷ 50 ∷ 999 ∷ 30 ∷ 40 ∷ 50 ∷ 50 ∷ 999 ∷ 60 ∷ 70 ∷ 100 ∷ 100 ∷ 999 ∷ 80 ∷ 90 ∷ 150 ∷ 150 ∷ 999 ∷ [])
+    ++ (1 ∷ 2 ∷ 5 ∷ 6 ∷ 999 ∷ 3 ∷ 4 ∷ 7 ∷ 7 ∷ 999 ∷ 11 ∷ 12 ∷ 20 ∷ 20 ∷ 999 ∷ 12 ∷ 12 ∷ 20 ∷ 20 ∷ 999 ∷ [])
+    ++ (0 ∷ 0 ∷ 1 ∷ 1 ∷ 999 ∷ 0 ∷ 0 ∷ 1 ∷ 0 ∷ 999 ∷ 10 ∷ 20 ∷ 0 ∷ 0 ∷ 999 ∷ 20 ∷ 20 ∷ 0 ∷ 1 ∷ 999 ∷ [])
+
+-- tiles of side 2, nine to a frame, of which the last frame's at row 1 and column 2 is moved by one up and one to the right, and no other
+abbrev pub tileWord : ℕ → ℕ
+tileWord i = getD (tileResiduals (shaped 4 4 3 2 5) 1 squares (replicate 28 (pos 0) ++ minus 1 ∷ pos 1 ∷ replicate 6 (pos 0))) i 0
+
+-- 4·|10 − 100|; |10 − 100| + |25 − 200| + |47 − 300| + |80 − 500|; |25 − 3| + |25 − 0| + |80 − 3| + |80 − 0|, since the tile lies half outside and what it
+-- is held against lies above and beside the frame, mirrored; 4·|80 − 1|; and no more words
+abbrev pub residuals : List Figure
+residuals =
+    (tileWord 0 counts 360)
+    ∷ (tileWord 4 counts 938)
+    ∷ (tileWord 14 counts 204)
+    ∷ (tileWord 17 counts 316)
+    ∷ (tileWord 18 counts 0)
+    ∷ (residualLength (shaped 4 4 3 2 5) counts 18)
+    ∷ []
+
 -- a frame of 4 by 4 samples in rows of five words, whose green plane is 10, g, 4, 3
 abbrev pub greens : (g : ℕ) → List ℕ
 greens g = 7 ∷ 10 ∷ 7 ∷ g ∷ 999 ∷ 50 ∷ 60 ∷ 70 ∷ 80 ∷ 999 ∷ 7 ∷ 4 ∷ 7 ∷ 3 ∷ 999 ∷ 1 ∷ 2 ∷ 3 ∷ 4 ∷ 999 ∷ []
@@ -273,8 +304,8 @@ stated [] = []
 stated (f ∷ fs) = f .stated ∷ stated fs
 
 abbrev pub table : List Figure
-table = noises ++ bins ++ tiles ++ outputs ++ exacts ++ scenes ++ layout ++ sharp
+table = noises ++ bins ++ tiles ++ outputs ++ exacts ++ scenes ++ layout ++ residuals ++ sharp
 
 pub own-figures : computed table ≡ stated table
-unfolding tileRoot sumOfSquares sumN wholeRoot rootIn noiseNumber variance frequency distance spatialNumber side16 side32 binRe binIm rowRe rowIm quantized wiener filtered away inverseAt inverseRe twiddleRe twiddleIm cosAt sinAt cosine16 sine16 cosines cosine32 sine32 cosines32 sumZ correctionAt mergedSum copyAt copyQuantized copyFiltered spatialAt takenAt filteredSample windows window16 upward clampZ minZ maxZ exactBin exactNoise exactWiener exactRowRe exactRowIm exactBinRe exactBinIm exactInverseRe exactInverseAt frac whole _+F_ _-F_ _·F_ _×F_ divide _÷F_ over sumF held sceneAt sideOf sampleAt sampleIndex tab downAt rightAt vectorPlace otherFrame blackOf referenceTile otherTile tileAt read origin inside mirrored planeOf tileDifference tileNoise tileSpatial vectorLength vectorList wordOf word part sharpness steps rowSteps sharpest firstBy
+unfolding tileRoot sumOfSquares sumN wholeRoot rootIn noiseNumber variance frequency distance spatialNumber side16 side32 binRe binIm rowRe rowIm quantized wiener filtered away inverseAt inverseRe twiddleRe twiddleIm cosAt sinAt cosine16 sine16 cosines cosine32 sine32 cosines32 sumZ correctionAt mergedSum copyAt copyQuantized copyFiltered spatialAt takenAt filteredSample windows window16 upward clampZ minZ maxZ exactBin exactNoise exactWiener exactRowRe exactRowIm exactBinRe exactBinIm exactInverseRe exactInverseAt frac whole _+F_ _-F_ _·F_ _×F_ divide _÷F_ over sumF held sceneAt sideOf sampleAt sampleIndex tab downAt rightAt vectorPlace otherFrame blackOf referenceTile otherTile tileAt read origin inside mirrored planeOf tileDifference tileNoise tileSpatial vectorLength vectorList wordOf word part residualLength tileResiduals residualWord tileResidual residual rowResidual difference pairs image0 bayerSum levelSize levelTile sharpness steps rowSteps sharpest firstBy
 own-figures = refl

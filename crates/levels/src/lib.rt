@@ -67,7 +67,7 @@ pub fn half_of(side: usize, level: usize) -> usize
 }
 
 // The tile at a row and a column of tiles.
-fn tile_at(side: usize, level: usize, row: usize, column: usize) -> Tile
+pub fn tile_at(side: usize, level: usize, row: usize, column: usize) -> Tile
     requires { ⌜ record { sided : TileSide side; level-most : level ≤ 3; row-most : row ≤ 4096; column-most : column ≤ 4096 } ⌝ }
     ensures { λ r. ⌜ (r ≡ levelTile (levelAt side level) row column) × (Placed r) ⌝ }
 {

@@ -1,3 +1,5 @@
 pub mod Order
 pub mod OrderLaws
 pub mod Question
+pub mod Residuals
+pub mod ResidualLaws

@@ -1,10 +1,13 @@
-// The lengths of the four lent buffers, and the tests on them: refusals 4 to 7.
+// The lengths of the lent buffers, and the tests on them: refusals 4 to 7.
 ghost use mathlib.Core.Path.{_≡_};
 ghost use Prim.Native.Nat.{_≤_};
 ghost use Rattle.geometry.specs.Shape.{sampleLength, vectorLength, outputLength, workLength, lengthRefusal};
 ghost use Rattle.geometry.specs.Fits.{Allowed, TileSide};
+ghost use Rattle.limits.specs.Residuals.{residualLength};
 use geometry::Shape;
 use geometry::tiles::frame_parts;
+use geometry::tiles::tile_columns;
+use geometry::tiles::tile_rows;
 
 // Words of samples: count times a frame's, spare ones included.
 pub fn sample_length(shape: Shape) -> usize
@@ -20,6 +23,14 @@ pub fn vector_length(shape: Shape) -> usize
     ensures { λ r. ⌜ (r ≡ vectorLength shape) × (r ≤ 924686) ⌝ }
 {
     (shape.count - 1) * frame_parts(shape)
+}
+
+// Words of residuals: one to a tile, for each frame but the reference.
+pub fn residual_length(shape: Shape) -> usize
+    requires { ⌜ (Allowed shape) × (TileSide (shape .side)) ⌝ }
+    ensures { λ r. ⌜ (r ≡ residualLength shape) × (r ≤ 462343) ⌝ }
+{
+    (shape.count - 1) * (tile_rows(shape) * tile_columns(shape))
 }
 
 // Words of output: a frame's samples.

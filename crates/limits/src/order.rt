@@ -2,9 +2,11 @@
 ghost use mathlib.Core.Path.{_≡_};
 ghost use Rattle.refusals.specs.Tests.{first};
 ghost use Rattle.limits.specs.Order.{frameTests, burstTests, alignLengths, mergeLengths, alignShapeTests, mergeShapeTests};
+ghost use Rattle.limits.specs.Residuals.{residualLengths, residualShapeTests};
 ghost use Rattle.geometry.specs.Fits.{Allowed, TileSide};
 use crate::lengths::length_refusal;
 use crate::lengths::output_length;
+use crate::lengths::residual_length;
 use crate::lengths::sample_length;
 use crate::lengths::vector_length;
 use crate::lengths::work_length;
@@ -100,4 +102,43 @@ pub fn merge_shape_refusal(
         return burst;
     }
     merge_lengths(shape, samples, vectors, output, work)
+}
+
+// Tests 4 to 7, where 6 is of the residuals.
+fn residual_lengths(
+    shape: Shape,
+    samples: usize,
+    vectors: usize,
+    residuals: usize,
+    work: usize,
+) -> u64
+    requires { ⌜ (Allowed shape) × (TileSide (shape .side)) ⌝ }
+    ensures { λ r. ⌜ r ≡ first (residualLengths shape samples vectors residuals work) ⌝ }
+{
+    refusals::first(
+        &[
+            length_refusal(refusals::SAMPLE_LENGTH, sample_length(shape), samples),
+            length_refusal(refusals::VECTOR_LENGTH, vector_length(shape), vectors),
+            length_refusal(refusals::OUTPUT_LENGTH, residual_length(shape), residuals),
+            length_refusal(refusals::WORK_LENGTH, work_length(shape), work),
+        ],
+    )
+}
+
+// Tests 1 to 7, with 22 after 3 and 23 before 4, where 6 is of the residuals.
+pub fn residual_shape_refusal(
+    shape: Shape,
+    reference: usize,
+    samples: usize,
+    vectors: usize,
+    residuals: usize,
+    work: usize,
+) -> u64
+    ensures { λ r. ⌜ r ≡ first (residualShapeTests shape reference samples vectors residuals work) ⌝ }
+{
+    let burst = burst_refusal(shape, reference);
+    if burst != 0 {
+        return burst;
+    }
+    residual_lengths(shape, samples, vectors, residuals, work)
 }

@@ -70,7 +70,7 @@ fn square_sum(side: usize, samples: &[u16], other: &[u16]) -> u64
 }
 
 // The residual of a candidate: always by absolute differences. `other` is for its square of the other image.
-fn candidate_sum(
+pub fn candidate_sum(
     words: &[i64],
     area: Area,
     tile: Tile,

@@ -1,11 +1,11 @@
 -- Try flat frames: every tile fits everywhere as well, so by the tie rule no vector moves, and the residuals are the difference times the samples.
 use mathlib.Core.Path.{_≡_, sym, _∙_, ap, ap₂, fun-ext, subst}
-use Rattle.algebra.specs.Prelude.{Bool, List, ℕ, zero, suc, _-_, _*_, _/_, _<_, arith, ℤ, pos}
+use Rattle.algebra.specs.Prelude.{Bool, false, List, ℕ, zero, suc, _-_, _*_, _/_, _<_, arith, ℤ, pos}
 use lib.ListN.{replicate}
 use Rattle.geometry.specs.declared.Shape.{Shape}
 use Rattle.geometry.specs.Shape.{vectorLength}
 use Rattle.geometry.specs.Read.{Image, read, sampleAt}
-use Rattle.geometry.specs.Vectors.{otherFrame}
+use Rattle.geometry.specs.Vectors.{otherFrame, downAt, rightAt}
 use Rattle.geometry.specs.Tiles.{finestLevel, levelSize}
 use Rattle.geometry.specs.LevelTiles.{levelTiles}
 use Rattle.bayer.specs.Bayer.{bayerSum}
@@ -20,6 +20,7 @@ use Rattle.levels.specs.Fields.{levelAt, levelTile}
 use Rattle.alignment.specs.Fields.{levelRows, levelColumns, residualSum}
 use Rattle.alignment.specs.Frames.{levelImage, pairs, vectorsOf, residualOf}
 use Rattle.alignment.specs.Aligned.{fieldOf, sumOf, alignedVectors}
+use Rattle.tile_residuals.specs.Residuals.{tileResidual}
 use Rattle.sanity.specs.FrameLaws.{flat-same}
 use Rattle.sanity.specs.StillLaws.{sum-same, AtRest, StillField, field-still, sum-still, vectors-still}
 use Rattle.sanity.specs.PyramidLaws.{pairs-agree}
@@ -95,6 +96,13 @@ module _ {s : Shape} {reference : ℕ} {samples : List ℕ} {a : ℕ} {b : ℕ �
       ap (residualSum (s .side)) (pair-is k h)
       ∙ sum-still (s .side) _ (λ l. flat-rest (flat-pair s a (b k) l)) (s .side * (s .side * gap (4 * a) (4 * b k))) (λ row column. flat-residual (flat-pair s a (b k) 0) _ (levelTile (finestLevel (s .side)) row column) still)
 
-  -- and all of them
+  -- of each tile, whatever its vector is
+  pub residual-flat : (vectors : List ℤ) (k row column : ℕ) → k < s .count - 1 → tileResidual s reference samples vectors k row column ≡ s .side * (s .side * gap (4 * a) (4 * b k))
+  unfolding tileResidual levelTile difference
+  residual-flat vectors k row column h =
+      ap (λ p. residual false (p 0) (levelTile (finestLevel (s .side)) row column) (record { down = downAt s vectors k row column; right = rightAt s vectors k row column })) (pair-is k h)
+      ∙ flat-residual (flat-pair s a (b k) 0) false (levelTile (finestLevel (s .side)) row column) _
+
+  -- and all vectors
   pub vectors-flat : alignedVectors s reference samples ≡ replicate (vectorLength s) (pos 0)
   vectors-flat = vectors-still s reference samples (flat .sampled .allowed) field-flat

@@ -1,19 +1,23 @@
 -- Document 01's figure: "W = H = 64, N = 2, reference 0 all 0, frame 1 all 4, shot 0, read 4194304, t 1024: every merged sample is 2. With t 0 it is 0."
-use Rattle.algebra.specs.Prelude.{_≡_, refl, ap, _∙_, List, [], _∷_, _++_, ℕ, zero, suc, _*_, _<_, arith, lit≤, lit<, ℤ, pos}
+use Rattle.algebra.specs.Prelude.{_≡_, refl, ap, _∙_, List, [], _∷_, _++_, ℕ, zero, suc, _*_, _/_, _<_, arith, lit≤, lit<, ℤ, pos}
 use lib.ListN.{length, take, replicate, length-replicate, length-append}
 use lib.Seq.{take-at, drop-at, take-all}
 use Rattle.algebra.specs.Sums.{sumZ}
 use Rattle.algebra.specs.Clamp.{minZ, maxZ, clampZ}
 use Rattle.algebra.specs.Nearest.{away, upward}
 use Rattle.sequences.specs.Tab.{tab}
+use Rattle.sequences.specs.Grid.{tab-ext}
+use Rattle.sequences.specs.ClearLaws.{tab-const}
 use Rattle.geometry.specs.declared.Shape.{Shape}
 use Rattle.geometry.specs.Shape.{sampleLength, vectorLength, outputLength}
 use Rattle.geometry.specs.Fits.{AllowedSize, Sampled}
 use Rattle.geometry.specs.Vectors.{otherFrame}
 use Rattle.geometry.specs.Tiles.{level0, levelSize, tileCount}
 use Rattle.geometry.specs.LevelTiles.{levelTiles}
+use Rattle.limits.specs.Residuals.{residualLength}
 use Rattle.pyramid.specs.Layout.{tiles}
 use Rattle.alignment.specs.Aligned.{alignedVectors, residualSums}
+use Rattle.tile_residuals.specs.Residuals.{residualWord, tileResiduals}
 use Rattle.recipe.specs.Tables.{side16}
 use Rattle.recipe.specs.Sides.{sideOf}
 use Rattle.recipe.specs.NoiseNumber.{variance, noiseNumber}
@@ -26,7 +30,7 @@ use Rattle.sanity.specs.FrameLaws.{packed-words}
 use Rattle.sanity.specs.Flat.{FlatBurst, flatCorrection, flatOutput}
 use Rattle.sanity.specs.FlatMerge.{burst-flat}
 use Rattle.sanity.specs.Pedestal.{zeroBlack, zero-black}
-use Rattle.sanity.specs.FlatAlign.{vectors-flat, sum-flat}
+use Rattle.sanity.specs.FlatAlign.{vectors-flat, sum-flat, residual-flat}
 
 abbrev pub shape : Shape
 shape = record { width = 64; height = 64; count = 2; side = 16; «row_length» = 64 }
@@ -99,3 +103,8 @@ vectors-0 = vectors-flat flat
 pub residual-102400 : residualSums shape 0 burst ≡ 102400 ∷ 0 ∷ 0 ∷ 0 ∷ 0 ∷ 0 ∷ 0 ∷ []
 unfolding residualSums tab
 residual-102400 = ap (λ n. n ∷ replicate 6 0) (sum-flat flat 0 (lit< tt) ∙ ap (λ n. n * 4096) tiles-25)
+
+-- 256 sums of four samples to a tile, each 16 apart, whatever the lent vectors are
+pub residuals-4096 : (vectors : List ℤ) → tileResiduals shape 0 burst vectors ≡ replicate 25 4096
+unfolding tileResiduals residualLength residualWord
+residuals-4096 vectors = tab-ext 25 _ (λ i. 4096) (λ i h. residual-flat flat vectors (i / 25) _ _ (omega arith)) ∙ tab-const 4096 25

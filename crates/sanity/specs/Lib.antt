@@ -15,6 +15,7 @@ pub mod FlatFigure
 pub mod FileLevels
 pub mod Calls
 pub mod PedestalCalls
+pub mod ResidualCalls
 pub mod SpareWords
 pub mod FrameLaws
 pub mod OutputLaws

@@ -1,15 +1,18 @@
--- Try the frames of a burst in another order, the reference at another place among them: each other frame keeps its vectors and its sum of
--- residuals, and the merged frame stays the same.
-use Rattle.algebra.specs.Prelude.{_≡_, refl, sym, ap, subst, _∙_, List, ℕ, _+_, _-_, _/_, _≤_, _<_, arith, ℤ}
+-- Try the frames of a burst in another order, the reference at another place among them: each other frame keeps its vectors, its residuals and
+-- their sum, and the merged frame stays the same.
+use Rattle.algebra.specs.Prelude.{_≡_, refl, sym, ap, ap₂, subst, _∙_, List, ℕ, _+_, _-_, _/_, _≤_, _<_, arith, ℤ}
 use Rattle.geometry.specs.declared.Shape.{Shape}
 use Rattle.geometry.specs.Fits.{TileSide}
 use Rattle.geometry.specs.Read.{sampleAt}
-use Rattle.geometry.specs.Tiles.{tileRows, tileColumns}
+use Rattle.geometry.specs.Tiles.{finestLevel, tileRows, tileColumns}
 use Rattle.geometry.specs.Vectors.{otherFrame, downAt, rightAt}
 use Rattle.geometry.specs.VectorLaws.{list-down, list-right}
+use Rattle.residuals.specs.Residual.{Pair, residual}
+use Rattle.levels.specs.Fields.{levelTile}
 use Rattle.alignment.specs.Fields.{field0, residualSum}
-use Rattle.alignment.specs.Frames.{vectorsOf, residualOf}
+use Rattle.alignment.specs.Frames.{pairs, vectorsOf, residualOf}
 use Rattle.alignment.specs.Aligned.{fieldOf, sumOf, alignedVectors}
+use Rattle.tile_residuals.specs.Residuals.{tileResidual}
 use Rattle.recipe.specs.declared.Merge.{Merge}
 use Rattle.recipe.specs.Tables.{side16}
 use Rattle.recipe.specs.Tables32.{side32}
@@ -42,13 +45,26 @@ module _ {s : Shape} {to from : ℕ → ℕ} {reference reference′ : ℕ} {sam
   other-same k h = frames-same s samples′ samples _ _ (sh .other-words k h)
 
   -- alignment
+  pairs-carried : (k : ℕ) → k < s .count - 1 →
+      pairs s (sampleAt s samples′ reference′) (sampleAt s samples′ (otherFrame reference′ k)) ≡ pairs s (sampleAt s samples reference) (sampleAt s samples (otherFrame reference (to k)))
+  pairs-carried k h = pairs-agree s (burst .sampled .allowed) _ _ _ _ reference-same (other-same k h)
+
   pub field-carried : (k : ℕ) → k < s .count - 1 → fieldOf s reference′ samples′ k ≡ fieldOf s reference samples (to k)
   unfolding fieldOf vectorsOf
-  field-carried k h = ap (field0 (s .side)) (pairs-agree s (burst .sampled .allowed) _ _ _ _ reference-same (other-same k h))
+  field-carried k h = ap (field0 (s .side)) (pairs-carried k h)
 
   pub sum-carried : (k : ℕ) → k < s .count - 1 → sumOf s reference′ samples′ k ≡ sumOf s reference samples (to k)
   unfolding sumOf residualOf
-  sum-carried k h = ap (residualSum (s .side)) (pairs-agree s (burst .sampled .allowed) _ _ _ _ reference-same (other-same k h))
+  sum-carried k h = ap (residualSum (s .side)) (pairs-carried k h)
+
+  -- at vectors that go with their frames
+  pub residual-carried : {vectors vectors′ : List ℤ} → Carried s to vectors vectors′ → (k row column : ℕ) → k < s .count - 1 → row < tileRows s → column < tileColumns s →
+      tileResidual s reference′ samples′ vectors′ k row column ≡ tileResidual s reference samples vectors (to k) row column
+  unfolding tileResidual
+  residual-carried {vectors} {vectors′} c k row column h i j =
+      let at : (ℕ → Pair) → (down right : ℤ) → ℕ = λ p down right. residual (finestLevel (s .side) .squared) (p 0) (levelTile (finestLevel (s .side)) row column) (record { down = down; right = right }) in
+      ap (λ p. at p (downAt s vectors′ k row column) (rightAt s vectors′ k row column)) (pairs-carried k h)
+      ∙ ap₂ (at (pairs s (sampleAt s samples reference) (sampleAt s samples (otherFrame reference (to k))))) (c .down k row column h i j) (c .right k row column h i j)
 
   pub vectors-carried : Carried s to (alignedVectors s reference samples) (alignedVectors s reference′ samples′)
   unfolding alignedVectors

@@ -1,10 +1,11 @@
--- Try two bursts that differ only in spare words: align, merge, run and the run that chooses its reference give equal answers and leave equal buffers, whether they refuse
--- or not.
+-- Try two bursts that differ only in spare words: align, merge, run, the run that chooses its reference and the residuals of tiles give equal answers and leave equal buffers,
+-- whether they refuse or not.
 use Rattle.algebra.specs.Prelude.{_≡_, refl, sym, ap, ap₂, subst, _∙_, Bool, _||_, List, _++_, ℕ, zero, suc, _-_, _/_, _%_, _<_, arith, ltb, ℤ}
 use native.Mathlib.Nat.{mul-comm}
 use lib.ListN.{length, replicate}
 use Rattle.sequences.specs.Grid.{tab-ext}
 use Rattle.sequences.specs.Clear.{zeros}
+use Rattle.sequences.specs.Place.{row-below}
 use Rattle.refusals.specs.Numbers as no
 use Rattle.refusals.specs.Tests.{refuse, first}
 use Rattle.refusals.specs.Some.{some}
@@ -12,16 +13,20 @@ use Rattle.refusals.specs.After.{after}
 use Rattle.geometry.specs.declared.Shape.{Shape}
 use Rattle.geometry.specs.Shape.{vectorLength}
 use Rattle.geometry.specs.Read.{sampleAt}
-use Rattle.geometry.specs.Tiles.{tileColumns, frameParts}
-use Rattle.geometry.specs.Vectors.{otherFrame, word, wordOf, vectorList}
+use Rattle.geometry.specs.Tiles.{finestLevel, tileColumns, frameParts}
+use Rattle.geometry.specs.Vectors.{otherFrame, downAt, rightAt, word, wordOf, vectorList}
 use Rattle.geometry.specs.VectorLaws.{other-below}
+use Rattle.limits.specs.Residuals.{frameTiles, residualLength}
 use Rattle.values.specs.Bounds.{sampleRefusal}
 use Rattle.geometry.specs.Fits.{Allowed, BurstFits, TileSide}
 use Rattle.noise.specs.declared.Noise.{Noise}
+use Rattle.residuals.specs.Residual.{residual}
+use Rattle.levels.specs.Fields.{levelTile}
 use Rattle.alignment.specs.Fields.{field0, residualSum}
 use Rattle.alignment.specs.Frames.{pairs, vectorsOf, residualOf}
 use Rattle.alignment.specs.Aligned.{fieldOf, sumOf, alignedVectors, residualSums}
 use Rattle.alignment.specs.Rows.{frameRows, rowsOf, rowsSummed}
+use Rattle.tile_residuals.specs.Residuals.{tileResidual, residualWord, tileResiduals}
 use Rattle.algebra.specs.SumLaws.{sumN-cong}
 use Rattle.recipe.specs.declared.Merge.{Merge}
 use Rattle.recipe.specs.declared.Tuning.{Tuning}
@@ -32,8 +37,11 @@ use Rattle.sharpness.specs.SharpnessLaws.{sharpest-same}
 use Rattle.stacker.specs.declared.Alignment.{Alignment}
 use Rattle.stacker.specs.declared.Choice.{Choice}
 use Rattle.admission.specs.Refusals.{alignRefusal, contentTests, runTests, runRefusal, mergeRefusal, mergeOf}
+use Rattle.admission.specs.Residuals.{residualRefusal}
 use Rattle.stacker.specs.Calls.{noSums, answered, Aligned, Merged, Ran}
 use Rattle.stacker.specs.AdmissionLaws.{align-passed, run-passed, merge-passed}
+use Rattle.stacker.specs.Residuals.{ResidualsFound}
+use Rattle.stacker.specs.ResidualLaws.{residual-passed}
 use Rattle.stacker.specs.Choosing.{choosingTests, choosingRefusal, Chosen}
 use Rattle.stacker.specs.ChoosingLaws.{first-refusal}
 use Rattle.sanity.specs.Frames.{Same}
@@ -95,6 +103,18 @@ module _ {s : Shape} {samples samples₂ : List ℕ} (d : SpareOnly s samples sa
     unfolding rowsSummed rowsOf
     rows-same = sumN-cong (s .count - 1) _ _ (λ k h. ap (frameRows (s .side)) (pair-same k h))
 
+    residuals-same : (vectors : List ℤ) → tileResiduals s reference samples₂ vectors ≡ tileResiduals s reference samples vectors
+    unfolding tileResiduals residualWord tileResidual residualLength
+    residuals-same vectors =
+        tab-ext (residualLength s) _ _
+        (λ i h.
+        let tile = i % frameTiles s in
+        let row = tile / tileColumns s in
+        let column = tile % tileColumns s in
+        let k = i / frameTiles s in
+        ap (λ p. residual (finestLevel (s .side) .squared) (p 0) (levelTile (finestLevel (s .side)) row column) (record { down = downAt s vectors k row column; right = rightAt s vectors k row column }))
+        (pair-same k (row-below i (s .count - 1) (frameTiles s) h)))
+
 merge-same : (m : Merge) {samples samples₂ : List ℕ} → SpareOnly (m .shape) samples samples₂ → Allowed (m .shape) → TileSide (m .shape .side) → m .reference < m .shape .count → (vectors : List ℤ) →
     merged (sceneOf m samples₂ vectors) ≡ merged (sceneOf m samples vectors)
 unfolding sceneAt
@@ -132,6 +152,21 @@ module _ {s : Shape} {reference : ℕ} {samples samples₂ : List ℕ} {vectors 
             ∙ ap (λ n. after n vectors (alignedVectors s reference samples₂)) tests
             ∙ after-ext number vectors (λ z. vectors-same d reference (fits z .allowed) (fits z .reference-below))
             ∙ sym (call .found),
+        call₂ .clean ∙ ap (λ n. after n work (zeros work)) tests ∙ sym (call .clean),
+      )
+
+  pub residuals-spare : {residuals residuals′ residuals₂′ : List ℕ} {number number₂ : ℕ} → ResidualsFound s reference samples vectors residuals residuals′ work work′ number →
+      ResidualsFound s reference samples₂ vectors residuals residuals₂′ work work₂′ number₂ → (number₂ ≡ number) × (residuals₂′ ≡ residuals′) × (work₂′ ≡ work′)
+  unfolding residualRefusal
+  residuals-spare {residuals} call call₂ =
+      let number = residualRefusal s reference samples vectors residuals work in
+      let tests : residualRefusal s reference samples₂ vectors residuals work ≡ number = rw (d .long, test-same d) in
+      let fits : number ≡ 0 → BurstFits s reference (length samples) (length vectors) = λ z. residual-passed s reference samples vectors residuals work z .fits .burst in (
+        call₂ .answer ∙ tests ∙ sym (call .answer),
+        call₂ .result
+            ∙ ap (λ n. after n residuals (tileResiduals s reference samples₂ vectors)) tests
+            ∙ after-ext number residuals (λ z. residuals-same d reference (fits z .allowed) (fits z .reference-below) vectors)
+            ∙ sym (call .result),
         call₂ .clean ∙ ap (λ n. after n work (zeros work)) tests ∙ sym (call .clean),
       )
 

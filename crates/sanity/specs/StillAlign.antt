@@ -17,7 +17,7 @@ use Rattle.sanity.specs.StillLaws.{Equal, equal-rest, still-residual, St
 use Rattle.sanity.specs.PyramidLaws.{pairs-equal}
 
 module _ (s : Shape) (reference : ℕ) (samples : List ℕ) (burst : Burst s reference samples) (alike : Alike s reference samples) where
-  pair-equal : (k : ℕ) → k < s .count - 1 → (l : ℕ) → Equal (pairs s (sampleAt s samples reference) (sampleAt s samples (otherFrame reference k)) l)
+  pub pair-equal : (k : ℕ) → k < s .count - 1 → (l : ℕ) → Equal (pairs s (sampleAt s samples reference) (sampleAt s samples (otherFrame reference k)) l)
   pair-equal k h = pairs-equal s (burst .sampled .allowed) _ _ (alike-same alike (otherFrame reference k) (other-below reference k (s .count) h))
 
   -- of each other frame

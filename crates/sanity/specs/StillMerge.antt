@@ -42,7 +42,7 @@ module _ (s : Scene) (plain : s .tuning .spatial ≡ 0) (still : Still s) where
   pub frame-back : ((row column : ℕ) → row < s .height → column < s .width → s .reference row column ≤ 4095) → merged s ≡ imageWords (s .height) (s .width) (s .reference)
   frame-back most = merged-is s (λ row column h k. sample-back row column (most row column h k))
 
-zero-at : (n k : ℕ) → getD (replicate n (pos 0)) k (pos 0) ≡ pos 0
+pub zero-at : (n k : ℕ) → getD (replicate n (pos 0)) k (pos 0) ≡ pos 0
 zero-at zero k = refl
 zero-at (suc n) zero = refl
 zero-at (suc n) (suc k) = zero-at n k

@@ -6,3 +6,5 @@ pub mod CeilingLaws
 pub mod RanLaws
 pub mod Choosing
 pub mod ChoosingLaws
+pub mod Residuals
+pub mod ResidualLaws

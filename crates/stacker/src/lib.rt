@@ -2,6 +2,7 @@
 pub mod align;
 pub mod choose;
 pub mod merge;
+pub mod residuals;
 pub mod run;
 
 // What align and run answer: the refusal's number, or 0, per other frame, in rising index, its sum of finest residuals, unused places 0, and how many

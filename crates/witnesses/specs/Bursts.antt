@@ -10,6 +10,7 @@ use Rattle.refusals.specs.AfterLaws.{result-made}
 use Rattle.geometry.specs.Shape.{sizeAllowed, countAllowed, sizeRefusal, countRefusal, referenceRefusal, sideAllowed, sideRefusal, rowAllowed, rowRefusal, sampleLength, vectorLength, outputLength, workLength, lengthRefusal}
 use Rattle.geometry.specs.Read.{sampleIndex, sampleAt}
 use Rattle.limits.specs.Order.{shapeTests, frameTests, burstTests, alignLengths, mergeLengths, alignShapeTests, mergeShapeTests}
+use Rattle.limits.specs.Residuals.{residualLength, residualLengths, residualShapeTests}
 use Rattle.values.specs.Bounds.{sampleRefusal, vectorRefusal}
 use Rattle.values.specs.BoundLaws.{samples-pass, values-samples}
 use Rattle.noise.specs.Levels.{invalidCurve, invalidIso, invalidNoise, aboveLimits, noiseTests, levelsOf, strengthRefusal, blackRefusal, spatialRefusal}
@@ -18,14 +19,16 @@ use Rattle.recipe.specs.Merged.{merged}
 use Rattle.alignment.specs.Aligned.{residualSums}
 use Rattle.alignment.specs.Rows.{rowsSummed}
 use Rattle.admission.specs.Refusals.{alignRefusal, filterSideRefusal, contentTests, runTests, runRefusal, mergeRefusal, mergeOf}
+use Rattle.admission.specs.Residuals.{residualRefusal}
 use Rattle.stacker.specs.declared.Alignment.{Alignment}
 use Rattle.stacker.specs.declared.Choice.{Choice}
 use Rattle.stacker.specs.Calls.{answered, Aligned, Merged, Ran}
+use Rattle.stacker.specs.Residuals.{ResidualsFound}
 use Rattle.stacker.specs.Choosing.{choosingTests, choosingRefusal, Chosen}
 use Rattle.stacker.specs.ChoosingLaws.{first-refusal}
-use Rattle.sanity.specs.FlatFigure.{shape, plain, burst, merged-2, vectors-0, residual-102400}
+use Rattle.sanity.specs.FlatFigure.{shape, plain, burst, merged-2, vectors-0, residual-102400, residuals-4096}
 use Rattle.witnesses.specs.SmallLaws.{append-most, replicate-most}
-use Rattle.witnesses.specs.Inputs.{Input, dark, full, vectors, work, figure, width-96, nine-frames, reference-2, side-24, row-63, one-short, no-vectors, one-over, no-work, iso-24, shot-65, strength-1025, black-256, spatial-257, spatial-at-32, sample-4096, part-173}
+use Rattle.witnesses.specs.Inputs.{Input, dark, full, vectors, work, residuals, figure, width-96, nine-frames, reference-2, side-24, row-63, one-short, no-vectors, one-over, no-work, iso-24, shot-65, strength-1025, black-256, spatial-257, spatial-at-32, sample-4096, part-173}
 
 -- the number that each call answers
 abbrev pub alignNumber : Input → ℕ
@@ -40,6 +43,9 @@ runNumber i = runRefusal (i .shape) (i .reference) (i .noise) (i .tuning) (i .sa
 abbrev pub choosingNumber : Input → ℕ
 choosingNumber i = choosingRefusal (i .shape) (i .noise) (i .tuning) (i .samples) (i .vectors) (i .output) (i .work)
 
+abbrev pub residualNumber : (residuals : List ℕ) → Input → ℕ
+residualNumber residuals i = residualRefusal (i .shape) (i .reference) (i .samples) (i .vectors) residuals (i .work)
+
 -- the numbers of some inputs
 abbrev pub numbers : (Input → ℕ) → List Input → List ℕ
 numbers number [] = []
@@ -48,6 +54,11 @@ numbers number (i ∷ is) = number i ∷ numbers number is
 pub align-refuses : numbers alignNumber (width-96 ∷ nine-frames ∷ reference-2 ∷ side-24 ∷ row-63 ∷ one-short ∷ no-vectors ∷ no-work ∷ sample-4096 ∷ []) ≡ 1 ∷ 2 ∷ 3 ∷ 22 ∷ 23 ∷ 4 ∷ 5 ∷ 7 ∷ 11 ∷ []
 unfolding plain alignRefusal alignShapeTests frameTests burstTests shapeTests alignLengths first some sizeAllowed countAllowed sizeRefusal countRefusal referenceRefusal sideAllowed sideRefusal rowAllowed rowRefusal sampleLength vectorLength workLength lengthRefusal sampleRefusal sampleAt sampleIndex
 align-refuses = refl
+
+-- 6 of one residual too many
+pub residuals-refuses : numbers (residualNumber residuals) (width-96 ∷ nine-frames ∷ reference-2 ∷ side-24 ∷ row-63 ∷ one-short ∷ no-vectors ∷ []) ++ residualNumber (9 ∷ residuals) figure ∷ numbers (residualNumber residuals) (no-work ∷ sample-4096 ∷ []) ≡ 1 ∷ 2 ∷ 3 ∷ 22 ∷ 23 ∷ 4 ∷ 5 ∷ 6 ∷ 7 ∷ 11 ∷ []
+unfolding plain residualRefusal residualShapeTests burstTests shapeTests residualLengths residualLength first some sizeAllowed countAllowed sizeRefusal countRefusal referenceRefusal sideAllowed sideRefusal rowAllowed rowRefusal sampleLength vectorLength workLength lengthRefusal sampleRefusal sampleAt sampleIndex
+residuals-refuses = refl
 
 -- what merge, run and the run that chooses have in common, but for 3
 abbrev pub shared : List Input
@@ -95,6 +106,20 @@ pub merge-refuses-12 : mergeNumber part-173 ≡ 12
 unfolding mergeRefusal first some vectorRefusal
 merge-refuses-12 = sym (goes (runTests shape 0 dark full burst (part-173 .vectors) (plain 9) work) _ (sym (run-passes (part-173 .vectors) refl)) refl refl)
 
+residual-lengths : (vectors : List ℤ) → length vectors ≡ 50 → first (residualShapeTests shape 0 (length burst) (length vectors) (length residuals) (length work)) ≡ 0
+unfolding plain residualShapeTests burstTests shapeTests residualLengths residualLength first sizeAllowed countAllowed sizeRefusal countRefusal referenceRefusal sideAllowed sideRefusal rowAllowed rowRefusal sampleLength vectorLength workLength lengthRefusal
+residual-lengths vectors e = rw e
+
+-- so 12 alone is left
+residual-decided : (vectors : List ℤ) → length vectors ≡ 50 → vectorRefusal vectors ≡ residualRefusal shape 0 burst vectors residuals work
+unfolding residualRefusal first
+residual-decided vectors e =
+    goes (residualShapeTests shape 0 (length burst) (length vectors) (length residuals) (length work)) (sampleRefusal shape burst ∷ vectorRefusal vectors ∷ []) (sym (residual-lengths vectors e)) refl (rw samples-small (lone _))
+
+pub residuals-refuses-12 : residualNumber residuals part-173 ≡ 12
+unfolding vectorRefusal some
+residuals-refuses-12 = sym (residual-decided (part-173 .vectors) refl)
+
 -- and the figure passes
 align-lengths : first (alignShapeTests shape 0 (length burst) (length vectors) (length work)) ≡ 0
 unfolding plain alignShapeTests frameTests burstTests shapeTests alignLengths first sizeAllowed countAllowed sizeRefusal countRefusal referenceRefusal sideAllowed sideRefusal rowAllowed rowRefusal sampleLength vectorLength workLength lengthRefusal
@@ -113,6 +138,10 @@ choosing-number = sym (first-refusal shape dark full burst vectors (plain 9) wor
 pub merge-number : mergeNumber figure ≡ 0
 unfolding mergeRefusal first some vectorRefusal
 merge-number = sym (goes (runTests shape 0 dark full burst vectors (plain 9) work) _ (sym run-number) refl refl)
+
+pub residual-number : residualNumber residuals figure ≡ 0
+unfolding vectorRefusal some
+residual-number = sym (residual-decided vectors refl)
 
 -- what they leave, by their contracts
 cleared : {number : ℕ} {work′ : List ℤ} → number ≡ 0 → work′ ≡ after number work (zeros work) → work′ ≡ replicate 8192 (pos 0)
@@ -151,3 +180,8 @@ run-accepts c = (
 
 pub choosing-accepts : {vectors′ work′ : List ℤ} {output′ : List ℕ} {r : Choice} → Chosen shape dark full burst vectors vectors′ (plain 9) output′ work work′ r → r .alignment .refusal ≡ 0
 choosing-accepts c = c .number ∙ choosing-number
+
+-- at vectors of 7 down and 7 right
+pub residuals-accepts : {residuals′ : List ℕ} {work′ : List ℤ} {number : ℕ} → ResidualsFound shape 0 burst vectors residuals residuals′ work work′ number →
+    (number ≡ 0) × (residuals′ ≡ replicate 25 4096) × (work′ ≡ replicate 8192 (pos 0))
+residuals-accepts c = (c .answer ∙ residual-number, result-made (residualNumber residuals figure) residuals _ residual-number (c .result) ∙ residuals-4096 vectors, cleared residual-number (c .clean))

@@ -44,6 +44,10 @@ vectors = replicate 50 (pos 7)
 abbrev pub work : List ℤ
 work = replicate 8192 (pos 5)
 
+-- one word for each of 25 tiles
+abbrev pub residuals : List ℕ
+residuals = replicate 25 9
+
 abbrev pub input : Shape → (reference : ℕ) → Noise → Tuning → (samples : List ℕ) (vectors : List ℤ) (output : List ℕ) (work : List ℤ) → Input
 input s reference noise tuning samples vectors output work =
     record { shape = s; reference = reference; noise = noise; tuning = tuning; samples = samples; vectors = vectors; output = output; work = work }

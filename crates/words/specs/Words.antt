@@ -16,7 +16,7 @@ wordTable =
     ∷ ascii "reference, or index of the frame to be read, not below the count of frames"
     ∷ ascii "samples not of length count * row_length * height"
     ∷ ascii "vectors not of length (count - 1) * 2 * (width / side + 1) * (height / side + 1)"
-    ∷ ascii "output or frame not of length width * height"
+    ∷ ascii "output or frame not of length width * height, or residuals not half as many as the vectors' parts"
     ∷ ascii "work area not of length 2 * width * height"
     ∷ ascii "shot or read negative or not finite, or ISO outside 25..409600"
     ∷ ascii "shot above 64 or read above 4096 after ISO, or a file's levels above 65536 or 4194304"

@@ -33,7 +33,11 @@ fn put_burst_words(text: &mut [u8], number: u64) -> usize
             0,
             b"vectors not of length (count - 1) * 2 * (width / side + 1) * (height / side + 1)",
         ),
-        6 => put_bytes(text, 0, b"output or frame not of length width * height"),
+        6 => put_bytes(
+            text,
+            0,
+            b"output or frame not of length width * height, or residuals not half as many as the vectors' parts",
+        ),
         _ => put_bytes(text, 0, b"work area not of length 2 * width * height"),
     }
 }

@@ -1,0 +1,30 @@
+-- `admission::residual_refusal`: the tests of shape and lengths in one call, then 11 and 12.
+use Rattle.algebra.specs.Prelude.{sym, ap, ap₂, _∙_, [], _∷_, needs}
+use Rattle.refusals.specs.Tests.{first}
+use Rattle.refusals.specs.TestLaws.{stops, goes}
+use Rattle.limits.specs.ResidualLaws.{residual-fits}
+use Rattle.admission.specs.Residuals.{residualRefusal}
+use Rattle.admission.proofs.residual_refusal.Statement.{statement}
+use Rattle.admission.proofs.residual_refusal.Tie as tie
+
+returns : tie.Need-returns
+unfolding residualRefusal
+returns c = stops _ _ (c .before .residual-shape-refusal .ensures) (c .if1 .taken)
+
+sample-refusal-requires : tie.Need-sample-refusal-requires
+sample-refusal-requires c κs =
+    let burst = residual-fits _ _ _ _ _ _ (sym (c .before .residual-shape-refusal .ensures) ∙ c .if1 .left) .burst in
+    record { allowed = burst .allowed; long = burst .samples-long }
+
+returns-2 : tie.Need-returns-2
+unfolding residualRefusal
+returns-2 c =
+    let lent = c .before .before in
+    let sample = lent .before in
+    goes _ _ (sample .before .before .residual-shape-refusal .ensures) (sample .before .if1 .left)
+    (c .first .ensures ∙ ap first (ap₂ _∷_ (sample .sample-refusal .ensures) (ap (λ n. n ∷ []) (lent .vector-refusal .ensures))))
+
+pub residual-refusal-spec : {M : Type 1} → statement M
+residual-refusal-spec = tie.close (tie.spec
+    (λ c κs. search needs) returns sample-refusal-requires (λ c κs. search needs) (λ c. search needs)
+    (λ c κs. search needs) returns-2)

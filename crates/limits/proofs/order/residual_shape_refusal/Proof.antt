@@ -1,0 +1,21 @@
+-- The tests of the burst refuse, or let the lengths decide.
+use Rattle.algebra.specs.Prelude.{sym, _∙_, needs}
+use Rattle.refusals.specs.TestLaws.{stops, goes}
+use Rattle.limits.specs.Residuals.{residualShapeTests}
+use Rattle.limits.specs.OrderLaws.{burst-allowed}
+use Rattle.limits.proofs.order.residual_shape_refusal.Statement.{statement}
+use Rattle.limits.proofs.order.residual_shape_refusal.Tie as tie
+
+returns : tie.Need-returns
+unfolding residualShapeTests
+returns c = stops _ _ (c .before .burst-refusal .ensures) (c .if1 .taken)
+
+residual-lengths-requires : tie.Need-residual-lengths-requires
+residual-lengths-requires c κs = burst-allowed _ (c .before .before .args .reference) (sym (c .before .burst-refusal .ensures) ∙ c .if1 .left)
+
+returns-2 : tie.Need-returns-2
+unfolding residualShapeTests
+returns-2 c = goes _ _ (c .before .before .burst-refusal .ensures) (c .before .if1 .left) (c .residual-lengths .ensures)
+
+pub residual-shape-refusal-spec : {M : Type 1} → statement M
+residual-shape-refusal-spec = tie.close (tie.spec (λ c κs. search needs) returns residual-lengths-requires returns-2)

@@ -1,0 +1,20 @@
+-- What that call's tests let through.
+use Rattle.algebra.specs.Prelude.{_≡_, List, ℕ, length, ℤ}
+use Rattle.refusals.specs.TestLaws.{among, passed, both-passed}
+use Rattle.geometry.specs.declared.Shape.{Shape}
+use Rattle.limits.specs.Residuals.{residualShapeTests}
+use Rattle.limits.specs.ResidualLaws.{residual-fits, residuals-long}
+use Rattle.values.specs.BoundLaws.{samples-fit, vectors-fit}
+use Rattle.admission.specs.Residuals.{residualRefusal}
+use Rattle.tile_residuals.specs.Frames.{Ready}
+
+pub residual-passed : (s : Shape) (reference : ℕ) (samples : List ℕ) (vectors : List ℤ) (residuals : List ℕ) (work : List ℤ) → residualRefusal s reference samples vectors residuals work ≡ 0 → Ready s reference samples vectors residuals work
+unfolding residualRefusal
+residual-passed s reference samples vectors residuals work e =
+    let both = both-passed (residualShapeTests s reference (length samples) (length vectors) (length residuals) (length work)) _ e in
+    record {
+      fits = residual-fits s reference (length samples) (length vectors) (length residuals) (length work) (both .0);
+      samples-fit = samples-fit s samples (passed (both .1) (search among));
+      vectors-fit = vectors-fit vectors (passed (both .1) (search among));
+      residuals-long = residuals-long s reference (length samples) (length vectors) (length residuals) (length work) (both .0);
+    }

@@ -1,0 +1,12 @@
+-- What the call that answers each tile's residual leaves in every lent buffer. Samples and vectors are only read.
+use Rattle.algebra.specs.Prelude.{_≡_, List, ℕ, ℤ}
+use Rattle.sequences.specs.Clear.{zeros}
+use Rattle.geometry.specs.declared.Shape.{Shape}
+use Rattle.refusals.specs.After.{after}
+use Rattle.admission.specs.Residuals.{residualRefusal}
+use Rattle.tile_residuals.specs.Residuals.{tileResiduals}
+
+pub record ResidualsFound (s : Shape) (reference : ℕ) (samples : List ℕ) (vectors : List ℤ) (residuals residuals′ : List ℕ) (work work′ : List ℤ) (number : ℕ) : Type 0 where
+  pub answer : number ≡ residualRefusal s reference samples vectors residuals work
+  pub result : residuals′ ≡ after (residualRefusal s reference samples vectors residuals work) residuals (tileResiduals s reference samples vectors)
+  pub clean : work′ ≡ after (residualRefusal s reference samples vectors residuals work) work (zeros work)

@@ -1,0 +1,70 @@
+-- The frame's pyramid is laid behind the reference's, and the pair of images at level 0 is then that of the two frames.
+use Rattle.algebra.specs.Prelude.{_≡_, ap, ap₂, subst, _∙_, List, ℕ, _*_, arith, needs, ℤ}
+use Rattle.sequences.specs.Write.{written}
+use Rattle.geometry.specs.declared.Shape.{Shape}
+use Rattle.geometry.specs.Read.{sampleAt}
+use Rattle.geometry.specs.Tiles.{tileRows, tileColumns}
+use Rattle.limits.specs.Residuals.{frameTiles}
+use Rattle.pyramid.specs.Layout.{pyramidLength, Built}
+use Rattle.matching.specs.declared.Area.{Area}
+use Rattle.matching.specs.Stored.{pairIn}
+use Rattle.alignment.specs.BurstLaws.{two-pyramids, both-standing}
+use Rattle.alignment.specs.Sites.{areaAt, pairsIn}
+use Rattle.tile_residuals.specs.Frames.{residualIn}
+use Rattle.tile_residuals.specs.FrameLaws.{frame-measured}
+use Rattle.tile_residuals.proofs.measure_frame.Statement.{statement}
+use Rattle.tile_residuals.proofs.measure_frame.Tie as tie
+
+build-requires : tie.Need-build-requires
+build-requires c κs =
+    let start = c .before .before .before .before in
+    (start .pre .readable, omega (arith, two-pyramids (start .args .shape) (start .pre .room), c .before .offset .ensures .0))
+
+-- the frame's pyramid stands behind the reference's
+built : (c : tie.After-build) →
+    let a = c .before .before .before .before .before .args in
+    Built (a .shape) (sampleAt (a .shape) (a .samples .now) (a .frame)) (pyramidLength (a .shape)) (a .work .now) (c .build .last .1 .1 .1 .0)
+built c =
+    let a = c .before .before .before .before .before .args in
+    subst (λ n. Built (a .shape) (sampleAt (a .shape) (a .samples .now) (a .frame)) n (a .work .now) (c .build .last .1 .1 .1 .0)) (c .before .before .offset .ensures .0) (c .build .ensures)
+
+frame-residuals-requires : tie.Need-frame-residuals-requires
+frame-residuals-requires c κs =
+    let columns = c .before .before in
+    let rows = columns .before in
+    let area = rows .before in
+    let laid = area .before .before in
+    let start = laid .before .before .before .before .before in
+    let wide = columns .tile-columns .ensures in
+    let high = rows .tile-rows .ensures in
+    record {
+      stored = rw (area .area-at .ensures) (both-standing (start .pre .readable .sampled .allowed) (start .pre .sided) (start .pre .levels) (built laid) .stored 0);
+      sided = start .pre .sided;
+      few = record { some-columns = omega (arith, wide .0); few-rows = high .1; few-columns = wide .1 };
+      vectors-fit = start .pre .vectors-fit;
+      vectors-room = rw (high .0, wide .0) (start .pre .vectors-room);
+      room = rw (high .0, wide .0) (start .pre .residuals-room);
+    }
+
+told : (s : Shape) (l vectors : List ℤ) (to : ℕ) (e : List ℕ) {area : Area} {rows columns : ℕ} {e′ : List ℕ} → e′ ≡ written e to (residualIn (s .side) (pairIn l area) columns vectors to) (rows * columns) → area ≡ areaAt s 0 → rows ≡ tileRows s → columns ≡ tileColumns s → e′ ≡ written e to (residualIn (s .side) (pairsIn s l 0) (tileColumns s) vectors to) (frameTiles s)
+unfolding pairsIn
+told s l vectors to e {area} {rows} {columns} is a high wide =
+    is
+    ∙ ap (λ x. written e to (residualIn (s .side) (pairIn l x) columns vectors to) (rows * columns)) a
+    ∙ ap₂ (λ m n. written e to (residualIn (s .side) (pairIn l (areaAt s 0)) n vectors to) (m * n)) high wide
+
+returns : tie.Need-returns
+returns c =
+    let columns = c .before .before .before .before .before in
+    let rows = columns .before in
+    let area = rows .before in
+    let laid = area .before .before in
+    let start = laid .before .before .before .before .before in
+    let a = start .args in
+    frame-measured (start .pre .readable .sampled .allowed) (start .pre .levels) (built laid)
+    (told (a .shape) (laid .build .last .1 .1 .1 .0) (a .vectors .now) (a .to) (a .residuals .now) (c .before .before .frame-residuals .ensures) (area .area-at .ensures) (rows .tile-rows .ensures .0) (columns .tile-columns .ensures .0))
+
+pub measure-frame-spec : {M : Type 1} → statement M
+measure-frame-spec = tie.close (tie.spec
+    (λ c κs. search needs) build-requires (λ c κs. search needs) (λ c κs. search needs) (λ c κs. search needs)
+    frame-residuals-requires (λ c. search needs) (λ c. search needs) returns)

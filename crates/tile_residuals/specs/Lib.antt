@@ -1,0 +1,4 @@
+pub mod Residuals
+pub mod Frames
+pub mod FrameLaws
+pub mod SumLaws

@@ -1,0 +1,142 @@
+// The finest residual of each tile of a burst's other frames, at lent vectors.
+ghost use mathlib.Core.Path.{_≡_};
+ghost use mathlib.Core.Bool.{false};
+ghost use Prim.Native.Nat.{_+_, _*_, _≤_, _<_};
+ghost use lib.ListN.{length};
+ghost use Rattle.sequences.specs.Write.{written};
+ghost use Rattle.geometry.specs.Fits.{TileSide, VectorsFit};
+ghost use Rattle.geometry.specs.Read.{sampleAt};
+ghost use Rattle.limits.specs.Residuals.{frameTiles};
+ghost use Rattle.bayer.specs.Frame.{Frame};
+ghost use Rattle.pyramid.specs.Layout.{alignLength, Levels};
+ghost use Rattle.patches.specs.Bounds.{Within};
+ghost use Rattle.residuals.specs.Residual.{residual};
+ghost use Rattle.matching.specs.Magnitudes.{guessMost};
+ghost use Rattle.matching.specs.Stored.{pairIn, Stored, Placed};
+ghost use Rattle.fields.specs.Loops.{Few};
+ghost use Rattle.tile_residuals.specs.Frames.{vectorIn, residualIn, Measured, Ready, MeasuredBurst};
+use alignment::frame::area_at;
+use geometry::Shape;
+use geometry::tiles::tile_columns;
+use geometry::tiles::tile_rows;
+use geometry::vectors::Vector;
+use geometry::vectors::other_frame;
+use levels::tile_at;
+use matching::Area;
+use matching::candidate_sum;
+use patches::copy_square;
+use residuals::Tile;
+
+// The residual of a tile at a vector. The arrays are long enough for either side.
+fn residual_at(work: &[i64], area: Area, tile: Tile, v: Vector) -> u64
+    requires { ⌜ record { stored : Stored (now work) area; placed : Placed tile; sided : TileSide (tile .side); near : Within guessMost v } ⌝ }
+    ensures { λ r. ⌜ r ≡ residual false (pairIn (now (work .entry)) area) tile v ⌝ }
+{
+    let origin = tile.origin;
+    let mut samples = [0u16; 1024];
+    copy_square(
+        work,
+        area.reference,
+        area.height,
+        area.width,
+        origin,
+        tile.side,
+        &mut samples,
+    );
+    let mut other = [0u16; 1024];
+    candidate_sum(work, area, tile, &samples, &mut other, v)
+}
+
+// The lent vector at a place.
+fn vector_at(vectors: &[i32], place: usize) -> Vector
+    requires { ⌜ (place + 1 < length (now vectors)) × (VectorsFit (now vectors)) ⌝ }
+    ensures { λ r. ⌜ (r ≡ vectorIn (now (vectors .entry)) place) × (Within guessMost r) ⌝ }
+{
+    let down = vectors[place] as i64;
+    let right = vectors[place + 1] as i64;
+    Vector {
+        down: down,
+        right: right,
+    }
+}
+
+// The residuals of a frame's tiles, from `to` on; their vectors stand from twice that place on.
+fn frame_residuals(
+    work: &[i64],
+    area: Area,
+    side: usize,
+    vectors: &[i32],
+    residuals: &mut [u64],
+    to: usize,
+    rows: usize,
+    columns: usize,
+)
+    requires { ⌜ record { stored : Stored (now work) area; sided : TileSide side; few : Few rows columns; vectors-fit : VectorsFit (now vectors); vectors-room : 2 * (to + rows * columns) ≤ length (now vectors); room : to + rows * columns ≤ length (now residuals) } ⌝ }
+    ensures { λ _. ⌜ now (residuals .exit) ≡ written (now (residuals .entry)) to (residualIn side (pairIn (now (work .entry)) area) columns (now (vectors .entry)) to) (rows * columns) ⌝ }
+{
+    for k in 0..rows * columns {
+        let tile = tile_at(side, 0, k / columns, k % columns);
+        let v = vector_at(vectors, 2 * (to + k));
+        residuals[to + k] = residual_at(work, area, tile, v);
+    }
+}
+
+// The same of one frame of a burst: its pyramid is laid behind the reference's, which stands at the work area's start.
+fn measure_frame(
+    shape: Shape,
+    reference: usize,
+    frame: usize,
+    samples: &[u16],
+    vectors: &[i32],
+    residuals: &mut [u64],
+    to: usize,
+    work: &mut [i64],
+)
+    requires { ⌜ record { readable : Frame shape frame (now samples); sided : TileSide (shape .side); levels : Levels shape (sampleAt shape (now samples) reference) 0 (now work); room : alignLength shape ≤ length (now work); vectors-fit : VectorsFit (now vectors); vectors-room : 2 * (to + frameTiles shape) ≤ length (now vectors); residuals-room : to + frameTiles shape ≤ length (now residuals) } ⌝ }
+    ensures { λ _. ⌜ Measured shape (sampleAt shape (now (samples .entry)) reference) (sampleAt shape (now (samples .entry)) frame) (now (vectors .entry)) to (now (residuals .entry)) (now (residuals .exit)) (now (work .entry)) (now (work .exit)) ⌝ }
+{
+    let at = pyramid::offset(shape, 6);
+    pyramid::build(shape, frame, samples, &mut *work, at);
+    let area = area_at(shape, 0);
+    let rows = tile_rows(shape);
+    let columns = tile_columns(shape);
+    frame_residuals(
+        &*work,
+        area,
+        shape.side,
+        vectors,
+        &mut *residuals,
+        to,
+        rows,
+        columns,
+    );
+}
+
+// The residuals of every tile of every other frame, in the order of the vectors. It neither tests nor clears.
+pub fn measure_frames(
+    shape: Shape,
+    reference: usize,
+    samples: &[u16],
+    vectors: &[i32],
+    residuals: &mut [u64],
+    work: &mut [i64],
+)
+    requires { ⌜ Ready shape reference (now samples) (now vectors) (now residuals) (now work) ⌝ }
+    ensures { λ _. ⌜ MeasuredBurst shape reference (now (samples .entry)) (now (vectors .entry)) (now (residuals .exit)) (now (work .entry)) (now (work .exit)) ⌝ }
+{
+    pyramid::build(shape, reference, samples, &mut *work, 0);
+    let tiles = tile_rows(shape) * tile_columns(shape);
+    for k in 0..shape.count - 1 {
+        let frame = other_frame(reference, k);
+        measure_frame(
+            shape,
+            reference,
+            frame,
+            samples,
+            vectors,
+            &mut *residuals,
+            k * tiles,
+            &mut *work,
+        );
+    }
+}
