@@ -1,0 +1,6 @@
+pub mod Widths
+pub mod WidthLaws
+pub mod Factors
+pub mod FactorLaws
+pub mod UnfoldLaws
+pub mod HalfLaws
