@@ -4,3 +4,4 @@ pub mod Factors
 pub mod FactorLaws
 pub mod UnfoldLaws
 pub mod HalfLaws
+pub mod EndLaws

@@ -2,7 +2,7 @@
 -- plain merge."
 use Rattle.algebra.specs.Prelude.{_≡_, sym, ap, subst, _∙_, List, ℕ, _*_, _/_, _%_, _≤_, _<_, getD, ℤ, pos, natAbs}
 use mathlib.Core.Path.{subst₂, fun-ext}
-use native.Mathlib.Nat.{le-refl}
+use native.Mathlib.Nat.{add-le-add, mul-le-mul-left, mul-le-mul-right}
 use lib.Signed.{_≤ℤ_}
 use Rattle.algebra.specs.Order.{zarith, abs-pn, min-pn, 0≤pos}
 use Rattle.algebra.specs.ClampLaws.{clamp-low}
@@ -11,15 +11,22 @@ use Rattle.sequences.specs.TabLaws.{getD-tab}
 use Rattle.geometry.specs.declared.Shape.{Shape}
 use Rattle.geometry.specs.Read.{planeOf}
 use Rattle.recipe.specs.declared.Tuning.{Tuning}
+use Rattle.recipe.specs.Side.{Side}
+use Rattle.recipe.specs.NoiseNumber.{variance, noiseNumber}
 use Rattle.recipe.specs.PlainOutput.{outputSample}
 use Rattle.recipe.specs.Spatial.{filteredSample}
-use Rattle.recipe.specs.Scene.{Scene, sceneOf, referenceTile, otherTile, tileNoise, tileDifference, noiseOver, differenceOver}
+use Rattle.recipe.specs.Scene.{Scene, sceneAt, sceneOf, referenceTile, otherTile, tileNoise, tileDifference, noiseOver, differenceOver}
 use Rattle.recipe.specs.Merged.{planeOutput, outputAt, wordAt, merged}
 use Rattle.spatial.specs.PlainLaws.{plain-output}
-use Rattle.noise.specs.NoiseNumberLaws.{noise-number-mono}
+use Rattle.range.specs.Monotone.{quotient-rises}
 use Rattle.range.specs.Range.{lowSample, highSample}
 use Rattle.range.specs.RangeLaws.{sample-inside, low-same, high-same}
 use Rattle.range.specs.Frames.{planeEnd, frameEnd, lowFrame, highFrame}
+
+-- V grows with the levels, whatever the side
+noise-rises : (n : Side) (t r : ℕ) {ls lr ls' lr' : ℕ} → ls ≤ ls' → lr ≤ lr' → noiseNumber n t ls lr r ≤ noiseNumber n t ls' lr' r
+unfolding noiseNumber variance
+noise-rises n t r h k = quotient-rises _ _ (n .noiseDivisor) (mul-le-mul-left t (add-le-add (mul-le-mul-right r h) (mul-le-mul-left (n .side) k)))
 
 abs-mono : (a b : ℤ) → pos 0 ≤ℤ a → a ≤ℤ b → natAbs a ≤ natAbs b
 abs-mono a b h k = omega (zarith, abs-pn a, abs-pn b, min-pn a, min-pn b)
@@ -47,14 +54,14 @@ module _ (s : Shape) (reference : ℕ) (tuning : Tuning) (samples : List ℕ) (v
 
     plain-inside : (rowParity columnParity y x : ℕ) →
         (planeEnd lowSample low high rowParity columnParity y x ≤ℤ plain rowParity columnParity y x) × (plain rowParity columnParity y x ≤ℤ planeEnd highSample low high rowParity columnParity y x)
-    unfolding planeEnd sceneOf tileNoise referenceTile tileDifference otherTile
+    unfolding planeEnd sceneAt tileNoise referenceTile tileDifference otherTile
     plain-inside rowParity columnParity y x =
         sample-inside _ _ _ _ _ _ _
-        (λ t. noise-number-mono (le-refl (tuning .strength)) h l (le-refl _))
-        (λ t. noise-number-mono (le-refl (tuning .strength)) k m (le-refl _)) _ _
+        (λ t. noise-rises (mid .side) (tuning .strength) _ h l)
+        (λ t. noise-rises (mid .side) (tuning .strength) _ k m) _ _
 
     off-mid : tuning .spatial ≡ 0 → mid .tuning .spatial ≡ 0
-    unfolding sceneOf
+    unfolding sceneAt
     off-mid off = off
 
     plane-inside : tuning .spatial ≡ 0 → (rowParity columnParity y x : ℕ) →
@@ -72,7 +79,7 @@ module _ (s : Shape) (reference : ℕ) (tuning : Tuning) (samples : List ℕ) (v
     output-above rowParity columnParity y x = clamp-low (pos 0) (pos 4095) _ (0≤pos 4095)
 
     pub frame-inside : tuning .spatial ≡ 0 → (i : ℕ) → i < s .width * s .height → (getD (lowFrame low high) i 0 ≤ getD (merged mid) i 0) × (getD (merged mid) i 0 ≤ getD (highFrame low high) i 0)
-    unfolding frameEnd merged wordAt outputAt sceneOf
+    unfolding frameEnd merged wordAt outputAt sceneAt
     frame-inside off i j =
         let row = i / s .width in
         let column = i % s .width in

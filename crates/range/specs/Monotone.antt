@@ -1,6 +1,6 @@
 -- Rounding and holding keep the order.
-use Rattle.algebra.specs.Prelude.{[], _∷_, ℕ, suc, _+_, _*_, _/_, _≤_, _<_, arith, lit<, ℤ, pos, negsuc, negℤ, _+ℤ_, _*ℤ_}
-use native.Mathlib.Nat.{mul-pos, mul-le-mul-right, le-of-mul-le-mul-right, le-div-iff-mul-le, div-mul-le-self}
+use Rattle.algebra.specs.Prelude.{[], _∷_, ℕ, zero, suc, _+_, _*_, _/_, _≤_, _<_, arith, lit<, ℤ, pos, negsuc, negℤ, _+ℤ_, _*ℤ_}
+use native.Mathlib.Nat.{div-zero, mul-pos, mul-le-mul-right, le-of-mul-le-mul-right, le-div-iff-mul-le, div-mul-le-self}
 use lib.Signed.{_≤ℤ_, _<ℤ_, shrZ}
 use Rattle.algebra.specs.Order.{zarith, neg-p, neg-n}
 use Rattle.algebra.specs.Ring.{var, _⊞_, _⊠_, #_}
@@ -16,6 +16,10 @@ pub quotient-mono : (a b m n : ℕ) → 0 < m → 0 < n → a * n ≤ b * m → 
 quotient-mono a b m n h k l =
     le-div-iff-mul-le {k = n} {x = a / m} {y = b} k .1
     (le-of-mul-le-mul-right {k = m} (omega (arith, l, mul-le-mul-right n (div-mul-le-self a m))) h)
+
+pub quotient-rises : (a b m : ℕ) → a ≤ b → a / m ≤ b / m
+quotient-rises a b zero h = omega (arith, div-zero a, div-zero b)
+quotient-rises a b (suc m) h = quotient-mono a b (suc m) (suc m) (omega arith) (omega arith) (mul-le-mul-right (suc m) h)
 
 -- ---- z/m ≤ z'/n, to nearest, halves away from zero
 

@@ -1,21 +1,30 @@
--- The tests of the call of request L14, "merge's tests" with two outputs and two noises. 22 comes with the side.
-use Rattle.algebra.specs.Prelude.{List, [], _∷_, _++_, ℕ, length, ltb, ℤ}
+-- The tests of the call of request L14, "merge's tests" with two outputs and two noises, "for side 16 without the spatial filter".
+use Rattle.algebra.specs.Prelude.{not, List, [], _∷_, _++_, ℕ, eqb, length, ltb, ℤ}
 use Rattle.refusals.specs.Numbers as no
 use Rattle.refusals.specs.Tests.{refuse, first}
 use Rattle.geometry.specs.declared.Shape.{Shape}
-use Rattle.geometry.specs.Shape.{sampleLength, vectorLength, outputLength, workLength, lengthRefusal}
-use Rattle.limits.specs.Order.{frameTests}
+use Rattle.geometry.specs.Shape.{referenceRefusal, rowRefusal, sampleLength, vectorLength, outputLength, workLength, lengthRefusal}
+use Rattle.limits.specs.Order.{shapeTests}
 use Rattle.values.specs.Bounds.{sampleRefusal, vectorRefusal}
 use Rattle.noise.specs.declared.Noise.{Noise}
 use Rattle.noise.specs.Levels.{strengthRefusal, blackRefusal}
 use Rattle.recipe.specs.declared.Tuning.{Tuning}
 use Rattle.range.specs.Crossed.{rangeNoiseTests}
 
--- 1 to 7 and 23: "Both output buffers have length W·H, else 6"
+-- "Side 32 is here refusal 22", and so is any other than 16
+unfoldable pub narrowRefusal : Shape → ℕ
+narrowRefusal s = refuse no.side (not (eqb (s .side) 16))
+
+-- 1 to 3, and 22
+unfoldable pub rangeFrameTests : Shape → (reference : ℕ) → List ℕ
+rangeFrameTests s reference = shapeTests s ++ referenceRefusal s reference ∷ narrowRefusal s ∷ []
+
+-- 1 to 7, 22 and 23: "Both output buffers have length W·H, else 6"
 unfoldable pub rangeShapeTests : Shape → (reference samples vectors low high work : ℕ) → List ℕ
 rangeShapeTests s reference samples vectors low high work =
-    frameTests s reference
-    ++ (lengthRefusal no.wrongSampleLength (sampleLength s) samples
+    rangeFrameTests s reference
+    ++ (rowRefusal s
+    ∷ lengthRefusal no.wrongSampleLength (sampleLength s) samples
     ∷ lengthRefusal no.wrongVectorLength (vectorLength s) vectors
     ∷ lengthRefusal no.wrongOutputLength (outputLength s) low
     ∷ lengthRefusal no.wrongOutputLength (outputLength s) high

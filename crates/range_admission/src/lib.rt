@@ -2,14 +2,35 @@
 ghost use mathlib.Core.Path.{_≡_};
 ghost use Rattle.refusals.specs.Tests.{first};
 ghost use Rattle.geometry.specs.Fits.{Sampled};
-ghost use Rattle.range_admission.specs.Refusals.{rangeShapeTests, filterRefusal, rangeContentTests, rangeRefusal};
+ghost use Rattle.range_admission.specs.Refusals.{narrowRefusal, rangeFrameTests, rangeShapeTests, filterRefusal, rangeContentTests, rangeRefusal};
 use geometry::Shape;
 use limits::order::merge_shape_refusal;
 use noise::Noise;
 use range::range_noise_refusal;
 use recipe::Tuning;
+use sizes::count_refusal;
+use sizes::reference_refusal;
+use sizes::size_refusal;
 
-// Tests 1 to 7 and 23, with 6 on either output.
+// 22, for any side but 16.
+fn narrow_refusal(shape: Shape) -> u64
+    ensures { λ r. ⌜ r ≡ narrowRefusal shape ⌝ }
+{
+    refusals::refuse(refusals::SIDE, shape.side != 16)
+}
+
+// Tests 1 to 3, and 22.
+fn frame_refusal(shape: Shape, reference: usize) -> u64
+    ensures { λ r. ⌜ r ≡ first (rangeFrameTests shape reference) ⌝ }
+{
+    let size = size_refusal(shape);
+    let count = count_refusal(shape);
+    let third = reference_refusal(shape, reference);
+    let side = narrow_refusal(shape);
+    refusals::first(&[size, count, third, side])
+}
+
+// Tests 1 to 7, 22 and 23, with 6 on either output: merge's for one output and for the other, once the side is 16.
 fn shape_refusal(
     shape: Shape,
     reference: usize,
@@ -21,6 +42,10 @@ fn shape_refusal(
 ) -> u64
     ensures { λ r. ⌜ r ≡ first (rangeShapeTests shape reference samples vectors low high work) ⌝ }
 {
+    let frame = frame_refusal(shape, reference);
+    if frame != 0 {
+        return frame;
+    }
     let second = merge_shape_refusal(shape, reference, samples, vectors, high, work);
     if second == refusals::OUTPUT_LENGTH {
         return second;
