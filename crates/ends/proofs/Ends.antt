@@ -16,8 +16,9 @@ use Rattle.recipe.specs.Correction.{filtered, twiddleRe, twiddleIm, inverseRe}
 use Rattle.range.specs.Range.{endRe, leastAt, greatestAt}
 use Rattle.lines.specs.Halfcomplex.{backward, halfSum}
 use Rattle.lines.specs.HalfSumLaws.{half-sum}
-use Rattle.spectrum.specs.Spectrum.{Mirrored, twoWay, apart, tileRe, tileIm, foldRe, foldIm, spread, counted, backSum, gainRe, gainIm}
-use Rattle.spectrum.specs.SpectrumLaws.{bins-mirrored, bin-re, bin-im, filtered-odd, filtered-even}
+use Rattle.spectrum.specs.Spectrum.{Mirrored, twoWay, apart, tileRe, tileIm, foldRe, foldIm, spread, counted, backSum, gainRe, gainIm, apartOf, backSumOf, countedOf, foldImOf, foldReOf, gainImOf, gainReOf, spreadOf}
+use Rattle.spectrum.specs.SpectrumLaws.{bins-mirrored-of, bin-re, bin-im, filtered-odd-of, filtered-even-of}
+use Rattle.spectrum.specs.Turns.{turns16}
 use Rattle.spectrum.specs.FoldLaws.{inverse-folds}
 use Rattle.spectrum.specs.PlaceLaws.{spread-ext}
 use Rattle.grain.specs.Steps.{linesIn}
@@ -34,7 +35,7 @@ use Rattle.ends.proofs.Tables.{entry-re, entry-im}
 
 module _ (g h g' h' : ℕ → ℤ) (b : ℕ) where
   fold-re-sub : foldRe g h b -ℤ foldRe g' h' b ≡ foldRe (λ u. g u -ℤ g' u) (λ u. h u -ℤ h' u) b
-  unfolding foldRe apart
+  unfolding foldReOf apartOf side16
   fold-re-sub = go (eqb (b % 8) 0) (ltb b 9)
     where
       go : (c d : Bool) → cond c (g b) (cond d (g b +ℤ g (16 - b)) (h (b - 8) -ℤ h (24 - b))) -ℤ cond c (g' b) (cond d (g' b +ℤ g' (16 - b)) (h' (b - 8) -ℤ h' (24 - b)))
@@ -44,7 +45,7 @@ module _ (g h g' h' : ℕ → ℤ) (b : ℕ) where
       go false false = ring (h (b - 8) ∷ h (24 - b) ∷ h' (b - 8) ∷ h' (24 - b) ∷ []) ((var 0 ⊟ var 1) ⊟ (var 2 ⊟ var 3)) ((var 0 ⊟ var 2) ⊟ (var 1 ⊟ var 3)) tt
 
   fold-im-sub : foldIm g h b -ℤ foldIm g' h' b ≡ foldIm (λ u. g u -ℤ g' u) (λ u. h u -ℤ h' u) b
-  unfolding foldIm apart
+  unfolding foldImOf apartOf side16
   fold-im-sub = go (eqb (b % 8) 0) (ltb b 9)
     where
       go : (c d : Bool) → cond c (h b) (cond d (h b +ℤ h (16 - b)) (g (24 - b) -ℤ g (b - 8))) -ℤ cond c (h' b) (cond d (h' b +ℤ h' (16 - b)) (g' (24 - b) -ℤ g' (b - 8)))
@@ -54,7 +55,7 @@ module _ (g h g' h' : ℕ → ℤ) (b : ℕ) where
       go false false = ring (g (24 - b) ∷ g (b - 8) ∷ g' (24 - b) ∷ g' (b - 8) ∷ []) ((var 0 ⊟ var 1) ⊟ (var 2 ⊟ var 3)) ((var 0 ⊟ var 2) ⊟ (var 1 ⊟ var 3)) tt
 
 spread-sub : (g h g' h' : ℕ → ℕ → ℤ) (k b : ℕ) → spread g h k b -ℤ spread g' h' k b ≡ spread (λ u v. g u v -ℤ g' u v) (λ u v. h u v -ℤ h' u v) k b
-unfolding spread
+unfolding spreadOf side16
 spread-sub g h g' h' k b = go (ltb k 9)
   where
     go : (c : Bool) → cond c (foldRe (λ u. g u k) (λ u. h u k)) (foldIm (λ u. g u (k - 8)) (λ u. h u (k - 8))) b -ℤ cond c (foldRe (λ u. g' u k) (λ u. h' u k)) (foldIm (λ u. g' u (k - 8)) (λ u. h' u (k - 8))) b
@@ -72,7 +73,7 @@ apart-mirrored g h g' h' m n =
 -- ---- how often a bin counts
 
 counts : (u v : ℕ) (z : ℤ) → timesAt u v * natAbs (counted u z) ≡ 2 * (apart v 1 2 * natAbs z)
-unfolding timesAt counted apart
+unfolding timesAt countedOf apartOf side16
 counts u v z = go (eqb (u % 8) 0) (eqb (v % 8) 0)
   where
     go : (c d : Bool) → cond c 2 1 * cond d 1 2 * natAbs (cond c z (pos 2 *ℤ z)) ≡ 2 * (cond d 1 2 * natAbs z)
@@ -103,6 +104,7 @@ module _ (g h g' h' : ℕ → ℕ → ℤ) (y x : ℕ) where
         ∙ ring (cosAt side16 (u * y) ∷ cosAt side16 (v * x) ∷ sinAt side16 (u * y) ∷ sinAt side16 (v * x) ∷ []) (var 0 ⊠ ⊖ var 3 ⊞ ⊖ var 2 ⊠ var 1) (⊖ (var 0 ⊠ var 3 ⊞ var 2 ⊠ var 1)) tt
 
     bin-mirror : Mirrored g h → Mirrored g' h' → binWidth (opposite u) (opposite v) ≡ binWidth u v
+    unfolding side16
     bin-mirror m n =
         let d = apart-mirrored g h g' h' m n in
         ap₂ _+_
@@ -204,10 +206,10 @@ quarter-of (negsuc a) =
 module _ (d : ℕ → ℕ → ℤ) where
   part-mirrored : (noise : ℕ) → Mirrored (partRe side16 d noise) (partIm side16 d noise)
   part-mirrored noise =
-      let m = bins-mirrored d in
+      let m = bins-mirrored-of turns16 d in
       record {
-        re = λ u v i j. ap₂ (filtered side16 noise) (m .re u v i j) (m .im u v i j) ∙ filtered-even noise _ _;
-        im = λ u v i j. ap₂ (filtered side16 noise) (m .im u v i j) (m .re u v i j) ∙ filtered-odd noise _ _;
+        re = λ u v i j. ap₂ (filtered side16 noise) (m .re u v i j) (m .im u v i j) ∙ filtered-even-of side16 noise _ _;
+        im = λ u v i j. ap₂ (filtered side16 noise) (m .im u v i j) (m .re u v i j) ∙ filtered-odd-of side16 noise _ _;
       }
 
   -- G, folded, and half of its inverse sum
@@ -218,14 +220,14 @@ module _ (d : ℕ → ℕ → ℤ) where
   halfAt noise y x = halfSum (λ k. backward (foldAt noise k) y) x
 
   pub fold-is : (noise k b : ℕ) → k < 16 → b < 16 → spread (gainRe noise (twoWay d)) (gainIm noise (twoWay d)) k b ≡ foldAt noise k b
-  unfolding gainRe gainIm
+  unfolding gainReOf gainImOf side16
   fold-is noise =
-      spread-ext _ _ _ _ (λ u v i j. ap₂ (filtered side16 noise) (bin-re d u v i j) (bin-im d u v i j)) (λ u v i j. ap₂ (filtered side16 noise) (bin-im d u v i j) (bin-re d u v i j))
+      spread-ext turns16 _ _ _ _ (λ u v i j. ap₂ (filtered side16 noise) (bin-re d u v i j) (bin-im d u v i j)) (λ u v i j. ap₂ (filtered side16 noise) (bin-im d u v i j) (bin-re d u v i j))
 
   half-twice : (noise y x : ℕ) → y < 16 → x < 16 → inverseRe side16 (partRe side16 d noise) (partIm side16 d noise) y x ≡ pos 2 *ℤ halfAt noise y x
-  unfolding backSum counted apart
+  unfolding backSumOf countedOf apartOf side16
   half-twice noise y x i j =
-      inverse-folds (partRe side16 d noise) (partIm side16 d noise) y i (part-mirrored noise) x j ∙ sym (half-sum (λ k. backward (foldAt noise k) y) x)
+      inverse-folds turns16 (partRe side16 d noise) (partIm side16 d noise) y i (part-mirrored noise) x j ∙ sym (half-sum (λ k. backward (foldAt noise k) y) x)
 
   module _ (lower upper y x : ℕ) (i : y < 16) (j : x < 16) where
     abbrev width : ℕ

@@ -10,7 +10,8 @@ use Rattle.sequences.specs.Grid.{grid, cell, cell-grid}
 use Rattle.lines.specs.Lines.{TileMost}
 use Rattle.lines.specs.Tiles.{cells-most}
 use Rattle.spectrum.specs.Apart.{cond-cases, apart-cases}
-use Rattle.spectrum.specs.Spectrum.{apart, realOf, imaginaryOf, beside, tileRe, tileIm}
+use Rattle.recipe.specs.Tables.{side16}
+use Rattle.spectrum.specs.Spectrum.{apart, realOf, imaginaryOf, beside, tileRe, tileIm, besideOf, imaginaryPart, realPart, tileImOf, tileReOf}
 use Rattle.grain.specs.Steps.{linesIn}
 use Rattle.ends.specs.Factors.{factorRe, factorIm, factorMost, factorAt, Factored, FactoredTile, apartMost, timesAt, distanceRe, distanceIm, distanceMost, Distant, DistantTile, lineWidth, pairWidth, binWidthMost, lineWidthMost, widthMost, WidthLine, WidthTile}
 use Rattle.ends.specs.FactorLaws.{factor-most}
@@ -47,26 +48,26 @@ factored e =
 
 module _ {b : ℕ} (t : ℕ → ℕ → ℤ) (m : (k i : ℕ) → natAbs (t k i) ≤ b) where
   real-most : (z : ℕ → ℤ) → ((i : ℕ) → natAbs (z i) ≤ b) → (u : ℕ) → natAbs (realOf z u) ≤ b
-  unfolding realOf
+  unfolding realPart side16
   real-most z n u = cond-cases (λ z. natAbs z ≤ b) (ltb u 9) (n u) (n (16 - u))
 
   imaginary-most : (z : ℕ → ℤ) → ((i : ℕ) → natAbs (z i) ≤ b) → (u : ℕ) → natAbs (imaginaryOf z u) ≤ b
-  unfolding imaginaryOf
+  unfolding imaginaryPart side16
   imaginary-most z n u =
       apart-cases u (pos 0) (cond (ltb u 9) (z (8 + u)) (negℤ (z (24 - u)))) (λ z. natAbs z ≤ b) zero-le
       (cond-cases (λ z. natAbs z ≤ b) (ltb u 9) (n (8 + u)) (rw (abs-neg (z (24 - u))) (n (24 - u))))
 
   beside-most : (v i : ℕ) → natAbs (beside t v i) ≤ b
-  unfolding beside
+  unfolding besideOf side16
   beside-most v i = apart-cases v (λ b. pos 0) (t (8 + v)) (λ z. natAbs (z i) ≤ b) zero-le (m (8 + v) i)
 
   pub tile-re-most : (u v : ℕ) → natAbs (tileRe t u v) ≤ 2 * b
-  unfolding tileRe
+  unfolding tileReOf side16
   tile-re-most u v =
       omega (arith, abs-sub (realOf (t v) u) (imaginaryOf (beside t v) u), real-most (t v) (m v) u, imaginary-most (beside t v) (beside-most v) u)
 
   pub tile-im-most : (u v : ℕ) → natAbs (tileIm t u v) ≤ 2 * b
-  unfolding tileIm
+  unfolding tileImOf side16
   tile-im-most u v =
       omega (arith, abs-add (imaginaryOf (t v) u) (realOf (beside t v) u), imaginary-most (t v) (m v) u, real-most (beside t v) (beside-most v) u)
 

@@ -3,7 +3,8 @@ use Rattle.algebra.specs.Prelude.{_≡_, sym, ap, _∙_, ℕ, _+_, _*_, _<_, ar
 use Rattle.algebra.specs.Sums.{sumN}
 use Rattle.algebra.specs.SumLaws.{sumN-cong, sumN-exchange, sumN-scale}
 use Rattle.recipe.specs.TableLaws.{opposite}
-use Rattle.spectrum.specs.Spectrum.{apart}
+use Rattle.recipe.specs.Tables.{side16}
+use Rattle.spectrum.specs.Spectrum.{apart, apartOf}
 
 -- u and −u may change places in a sum
 reflected : (f : ℕ → ℕ) → sumN 16 (λ u. f (opposite u)) ≡ sumN 16 f
@@ -11,7 +12,7 @@ unfolding sumN
 reflected f = omega arith
 
 columns : (f : ℕ → ℕ) → ((v : ℕ) → v < 16 → f (opposite v) ≡ f v) → sumN 16 f ≡ sumN 9 (λ v. apart v 1 2 * f v)
-unfolding sumN apart
+unfolding sumN apartOf side16
 columns f m =
     omega (arith, m 1 (lit< tt), m 2 (lit< tt), m 3 (lit< tt), m 4 (lit< tt), m 5 (lit< tt), m 6 (lit< tt), m 7 (lit< tt))
 

@@ -4,7 +4,8 @@ use borrow.Author.Count.{below-more}
 use Rattle.algebra.specs.Order.{zarith, neg-p, neg-n}
 use Rattle.algebra.specs.Ring.{var, _⊞_, _⊟_, _⊠_, ⊖_, #_, ring}
 use Rattle.recipe.specs.TableLaws.{opposite}
-use Rattle.spectrum.specs.Spectrum.{Mirrored, apart, realOf, imaginaryOf, beside, tileRe, tileIm, foldRe, foldIm, spread, counted}
+use Rattle.recipe.specs.Tables.{side16}
+use Rattle.spectrum.specs.Spectrum.{Mirrored, apart, realOf, imaginaryOf, beside, tileRe, tileIm, foldRe, foldIm, spread, counted, apartOf, besideOf, countedOf, foldImOf, foldReOf, imaginaryPart, realPart, spreadOf, tileImOf, tileReOf}
 
 -- ---- by cases
 
@@ -58,7 +59,7 @@ nothing a e = omega (zarith, neg-p a, neg-n a)
 
 module _ (g h : ℕ → ℤ) where
   column-re : (u : ℕ) → u < 16 → realOf (foldRe g h) u -ℤ imaginaryOf (foldIm g h) u ≡ counted u (g u)
-  unfolding realOf imaginaryOf foldRe foldIm apart counted
+  unfolding realPart imaginaryPart foldReOf foldImOf apartOf countedOf side16
   column-re =
       each16 (λ u. realOf (foldRe g h) u -ℤ imaginaryOf (foldIm g h) u ≡ counted u (g u))
       (minus-nothing (g 0)) (low-re (g 1) (g 15)) (low-re (g 2) (g 14)) (low-re (g 3) (g 13))
@@ -67,7 +68,7 @@ module _ (g h : ℕ → ℤ) where
       (high-re (g 12) (g 4)) (high-re (g 13) (g 3)) (high-re (g 14) (g 2)) (high-re (g 15) (g 1))
 
   column-im : (u : ℕ) → u < 16 → imaginaryOf (foldRe g h) u +ℤ realOf (foldIm g h) u ≡ counted u (h u)
-  unfolding realOf imaginaryOf foldRe foldIm apart counted
+  unfolding realPart imaginaryPart foldReOf foldImOf apartOf countedOf side16
   column-im =
       each16 (λ u. imaginaryOf (foldRe g h) u +ℤ realOf (foldIm g h) u ≡ counted u (h u))
       (plus-nothing (h 0)) (low-im (h 1) (h 15)) (low-im (h 2) (h 14)) (low-im (h 3) (h 13))
@@ -77,7 +78,7 @@ module _ (g h : ℕ → ℤ) where
 
   -- one that is its own mirror image
   own-re : ((u : ℕ) → u < 16 → g (opposite u) ≡ g u) → (u : ℕ) → u < 16 → realOf (foldRe g h) u -ℤ imaginaryOf (λ b. pos 0) u ≡ counted u (g u)
-  unfolding realOf imaginaryOf foldRe apart counted
+  unfolding realPart imaginaryPart foldReOf apartOf countedOf side16
   own-re m =
       each16 (λ u. realOf (foldRe g h) u -ℤ imaginaryOf (λ b. pos 0) u ≡ counted u (g u))
       (minus-nothing (g 0)) (own-low-re (g 1) (g 15) (m 1 (lit< tt))) (own-low-re (g 2) (g 14) (m 2 (lit< tt))) (own-low-re (g 3) (g 13) (m 3 (lit< tt)))
@@ -86,7 +87,7 @@ module _ (g h : ℕ → ℤ) where
       (own-high-re (g 12) (g 4) (m 12 (lit< tt))) (own-high-re (g 13) (g 3) (m 13 (lit< tt))) (own-high-re (g 14) (g 2) (m 14 (lit< tt))) (own-high-re (g 15) (g 1) (m 15 (lit< tt)))
 
   own-im : ((u : ℕ) → u < 16 → h (opposite u) ≡ negℤ (h u)) → (u : ℕ) → u < 16 → imaginaryOf (foldRe g h) u +ℤ realOf (λ b. pos 0) u ≡ counted u (h u)
-  unfolding realOf imaginaryOf foldRe apart counted
+  unfolding realPart imaginaryPart foldReOf apartOf countedOf side16
   own-im m =
       each16 (λ u. imaginaryOf (foldRe g h) u +ℤ realOf (λ b. pos 0) u ≡ counted u (h u))
       (nothing (h 0) (m 0 (lit< tt))) (own-low-im (h 1) (h 15) (m 1 (lit< tt))) (own-low-im (h 2) (h 14) (m 2 (lit< tt))) (own-low-im (h 3) (h 13) (m 3 (lit< tt)))
@@ -98,7 +99,7 @@ module _ (g h : ℕ → ℤ) where
 
 module _ (g h : ℕ → ℕ → ℤ) (m : Mirrored g h) where
   pub part-re : (u v : ℕ) → u < 16 → v < 9 → tileRe (spread g h) u v ≡ counted u (g u v)
-  unfolding tileRe spread beside apart
+  unfolding tileReOf spreadOf besideOf apartOf side16
   part-re u v k l =
       each9 (λ v. tileRe (spread g h) u v ≡ counted u (g u v))
       (own-re (λ u. g u 0) (λ u. h u 0) (λ u j. m .re u 0 j (lit< tt)) u k) (column-re (λ u. g u 1) (λ u. h u 1) u k) (column-re (λ u. g u 2) (λ u. h u 2) u k)
@@ -107,7 +108,7 @@ module _ (g h : ℕ → ℕ → ℤ) (m : Mirrored g h) where
       v l
 
   pub part-im : (u v : ℕ) → u < 16 → v < 9 → tileIm (spread g h) u v ≡ counted u (h u v)
-  unfolding tileIm spread beside apart
+  unfolding tileImOf spreadOf besideOf apartOf side16
   part-im u v k l =
       each9 (λ v. tileIm (spread g h) u v ≡ counted u (h u v))
       (own-im (λ u. g u 0) (λ u. h u 0) (λ u j. m .im u 0 j (lit< tt)) u k) (column-im (λ u. g u 1) (λ u. h u 1) u k) (column-im (λ u. g u 2) (λ u. h u 2) u k)

@@ -4,7 +4,8 @@ use native.Mathlib.Nat.{le-trans}
 use lib.Ieee.{Float}
 use Rattle.lines.specs.Doubles.{WholeDouble}
 use Rattle.lines.specs.Magnitudes.{foldMost}
-use Rattle.lines_back.proofs.WholeHalves.{whole-fits, difference-fits, difference-is}
+use Rattle.lines.specs.DoubleCasts.{whole-fits}
+use Rattle.lines_back.proofs.WholeHalves.{difference-fits, difference-is}
 use Rattle.ends.proofs.distances.apart.Statement.{statement}
 use Rattle.ends.proofs.distances.apart.Tie as tie
 
