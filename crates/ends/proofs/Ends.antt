@@ -16,7 +16,7 @@ use Rattle.recipe.specs.Correction.{filtered, twiddleRe, twiddleIm, inverseRe}
 use Rattle.range.specs.Range.{endRe, leastAt, greatestAt}
 use Rattle.lines.specs.Halfcomplex.{backward, halfSum}
 use Rattle.lines.specs.HalfSumLaws.{half-sum}
-use Rattle.spectrum.specs.Spectrum.{Mirrored, twoWay, apart, tileRe, tileIm, foldRe, foldIm, spread, counted, backSum, gainRe, gainIm, apartOf, backSumOf, countedOf, foldImOf, foldReOf, gainImOf, gainReOf, spreadOf}
+use Rattle.spectrum.specs.Spectrum.{Mirrored, twoWay, apart, tileRe, tileIm, foldRe, foldIm, spread, counted, gainRe, gainIm, apartOf, backSumOf, countedOf, foldImOf, foldReOf, gainImOf, gainReOf, spreadOf}
 use Rattle.spectrum.specs.SpectrumLaws.{bins-mirrored-of, bin-re, bin-im, filtered-odd-of, filtered-even-of}
 use Rattle.spectrum.specs.Turns.{turns16}
 use Rattle.spectrum.specs.FoldLaws.{inverse-folds}
@@ -25,7 +25,7 @@ use Rattle.grain.specs.Steps.{linesIn}
 use Rattle.grain.proofs.LinePlaces.{tile-re-ext, tile-im-ext}
 use Rattle.ends.specs.Widths.{bothRe, widthAt}
 use Rattle.ends.specs.WidthLaws.{Picks, min-picks, max-picks, partRe, partIm, end-halves}
-use Rattle.ends.specs.Factors.{factorRe, factorIm, factorAt, timesAt, distanceRe, distanceIm, lineWidth, pairWidth, quarterOf, greatestOf, leastOf}
+use Rattle.ends.specs.Factors.{factorAt, timesAt, distanceRe, distanceIm, lineWidth, pairWidth, quarterOf, greatestOf, leastOf}
 use Rattle.ends.specs.FactorLaws.{factor-re, factor-im}
 use Rattle.ends.specs.UnfoldLaws.{part-re, part-im}
 use Rattle.ends.specs.HalfLaws.{half-columns}

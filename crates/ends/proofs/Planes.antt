@@ -1,5 +1,5 @@
 -- Both planes of a pair: what the code hands on are their folded G, half of their inverse sums and their widths.
-use Rattle.algebra.specs.Prelude.{_≡_, sym, ap, ap₂, subst, _∙_, Bool, true, false, List, [], ℕ, _+_, _*_, _/_, _%_, _^_, _≤_, _<_, arith, lit≤, T, getD, ℤ, pos, natAbs, _+ℤ_, _-ℤ_, _*ℤ_}
+use Rattle.algebra.specs.Prelude.{_≡_, sym, ap, ap₂, subst, _∙_, true, false, List, ℕ, _+_, _*_, _/_, _%_, _^_, _≤_, _<_, arith, lit≤, T, ℤ, pos, natAbs, _+ℤ_, _-ℤ_, _*ℤ_}
 use native.Mathlib.Nat.{le-trans}
 use lib.IntN.{+ℤ-idl}
 use lib.Ieee.{Float, nan, binary64, ofInt, toSigned}
@@ -14,9 +14,9 @@ use Rattle.range.specs.RangeLaws.{greatest-same, least-same}
 use Rattle.lines.specs.Halfcomplex.{halfSumOf, halfBasisOf, backward, halfSum}
 use Rattle.lines.specs.BackSizes.{backward-most}
 use Rattle.lines.specs.Lines.{TileMost}
-use Rattle.lines.specs.Magnitudes.{foldMost, columnMost}
-use Rattle.spectrum.specs.Magnitudes.{noiseMost, lowNoise}
-use Rattle.spectrum.specs.Spectrum.{twoWay, transposed, spread}
+use Rattle.lines.specs.Magnitudes.{foldMost}
+use Rattle.spectrum.specs.Magnitudes.{noiseMost}
+use Rattle.spectrum.specs.Spectrum.{twoWay, transposed}
 use Rattle.spectrum.specs.LineLaws.{backward-ext}
 use Rattle.spectrum.specs.Pairs.{InDouble, planeIn, sideBySide, either, doubles}
 use Rattle.pairs.proofs.Corrections.{folded, folded-most, folded-whole}

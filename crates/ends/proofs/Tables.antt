@@ -1,7 +1,7 @@
 -- The tables of the code: factors, distances and widths, their entries and their sizes.
-use Rattle.algebra.specs.Prelude.{_≡_, sym, ap, ap₂, subst, _∙_, cond, List, [], ℕ, _+_, _*_, _-_, _/_, _%_, _≤_, _<_, arith, lit<, eqb, ltb, getD, ℤ, pos, negℤ, natAbs, _-ℤ_}
+use Rattle.algebra.specs.Prelude.{_≡_, sym, ap₂, subst, _∙_, cond, List, [], ℕ, _+_, _*_, _-_, _/_, _%_, _≤_, _<_, arith, lit<, eqb, ltb, getD, ℤ, pos, negℤ, natAbs}
 use Prim.Native.Nat.{zero-le}
-use native.Mathlib.Nat.{le-trans, mod-lt, mul-le-mul, mul-le-mul-left, mul-le-mul-right}
+use native.Mathlib.Nat.{mod-lt, mul-le-mul, mul-le-mul-left, mul-le-mul-right}
 use Rattle.algebra.specs.Order.{abs-add, abs-sub, abs-neg}
 use Rattle.algebra.specs.SumLaws.{sumN-bound}
 use Rattle.sequences.specs.Tab.{tab}
@@ -11,9 +11,9 @@ use Rattle.lines.specs.Lines.{TileMost}
 use Rattle.lines.specs.Tiles.{cells-most}
 use Rattle.spectrum.specs.Apart.{cond-cases, apart-cases}
 use Rattle.recipe.specs.Tables.{side16}
-use Rattle.spectrum.specs.Spectrum.{apart, realOf, imaginaryOf, beside, tileRe, tileIm, besideOf, imaginaryPart, realPart, tileImOf, tileReOf}
+use Rattle.spectrum.specs.Spectrum.{realOf, imaginaryOf, beside, tileRe, tileIm, besideOf, imaginaryPart, realPart, tileImOf, tileReOf}
 use Rattle.grain.specs.Steps.{linesIn}
-use Rattle.ends.specs.Factors.{factorRe, factorIm, factorMost, factorAt, Factored, FactoredTile, apartMost, timesAt, distanceRe, distanceIm, distanceMost, Distant, DistantTile, lineWidth, pairWidth, binWidthMost, lineWidthMost, widthMost, WidthLine, WidthTile}
+use Rattle.ends.specs.Factors.{factorRe, factorIm, factorMost, factorAt, FactoredTile, apartMost, timesAt, distanceRe, distanceIm, distanceMost, Distant, DistantTile, lineWidth, pairWidth, binWidthMost, lineWidthMost, widthMost, WidthLine, WidthTile}
 use Rattle.ends.specs.FactorLaws.{factor-most}
 
 -- ---- factors

@@ -1,5 +1,5 @@
 -- A sum over bins that is the same at the mirror image: columns 0 to 8 are enough, of which 1 to 7 count twice.
-use Rattle.algebra.specs.Prelude.{_≡_, sym, ap, _∙_, ℕ, _+_, _*_, _<_, arith, lit<}
+use Rattle.algebra.specs.Prelude.{_≡_, sym, _∙_, ℕ, _*_, _<_, arith, lit<}
 use Rattle.algebra.specs.Sums.{sumN}
 use Rattle.algebra.specs.SumLaws.{sumN-cong, sumN-exchange, sumN-scale}
 use Rattle.recipe.specs.TableLaws.{opposite}

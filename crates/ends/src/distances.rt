@@ -5,7 +5,7 @@ use grain::gains::bin_re;
 use rounding::magnitude;
 ghost use mathlib.Core.Path.{_≡_};
 ghost use mathlib.Core.Bool.{false};
-ghost use Prim.Native.Nat.{_*_, _/_, _≤_, _<_};
+ghost use Prim.Native.Nat.{_*_, _/_, _<_};
 ghost use lib.Ieee.{nan};
 ghost use lib.IntN.{natAbs};
 ghost use lib.ListN.{length, getD};

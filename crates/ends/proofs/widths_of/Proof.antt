@@ -4,7 +4,7 @@ use Rattle.sequences.specs.Tab.{tab}
 use Rattle.sequences.specs.TabLaws.{Filled, fill-start, fill-turn, fill-rest, fill-done, getD-tab, length-tab}
 use Rattle.sequences.specs.Grid.{grid}
 use Rattle.lines.specs.Lines.{TileMost}
-use Rattle.ends.specs.Factors.{apartMost, distanceRe, distanceIm, pairWidth}
+use Rattle.ends.specs.Factors.{apartMost, distanceRe, distanceIm}
 use Rattle.ends.proofs.Tables.{factored, distant, distance-re-most, distance-im-most, pair-width-most, width-tile}
 use Rattle.ends.proofs.Planes.{apart-most, widths-are}
 use Rattle.ends.proofs.widths_of.Statement.{statement}

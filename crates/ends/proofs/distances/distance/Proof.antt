@@ -1,5 +1,5 @@
 -- At most four times a number of at most 2·apartMost.
-use Rattle.algebra.specs.Prelude.{_≡_, sym, ap, ap₂, subst, _∙_, _*_, _≤_, arith, needs, natAbs, w64}
+use Rattle.algebra.specs.Prelude.{sym, ap, ap₂, subst, _∙_, _*_, _≤_, arith, needs, natAbs, w64}
 use native.Mathlib.Nat.{mul-le-mul}
 use Rattle.lines.specs.Held.{number-is, number-most}
 use Rattle.ends.specs.Factors.{apartMost}

@@ -1,5 +1,5 @@
 -- Both distances are stored one after the other.
-use Rattle.algebra.specs.Prelude.{_≡_, sym, ap, subst, _∙_, List, _-_, _*_, _/_, _%_, arith, needs, lit≤, ℤ, natAbs, w64, toZ, ofZ, now}
+use Rattle.algebra.specs.Prelude.{sym, ap, subst, _∙_, List, _-_, _*_, _/_, _%_, arith, needs, lit≤, ℤ, natAbs, w64}
 use native.Mathlib.Nat.{le-trans}
 use Rattle.algebra.specs.Bound.{AtMost}
 use Rattle.sequences.specs.TabLaws.{Filled, fill-start, fill-turn, fill-done}

@@ -1,7 +1,7 @@
 -- The halves of both rows, and P of them.
-use Rattle.algebra.specs.Prelude.{_≡_, sym, ap, ap₂, subst, _∙_, false, List, ℕ, _+_, _*_, _/_, _%_, _≤_, _<_, arith, needs, lit≤, getD, ℤ, pos, natAbs, _+ℤ_, now}
+use Rattle.algebra.specs.Prelude.{_≡_, sym, ap, ap₂, _∙_, false, List, ℕ, _+_, _*_, _/_, _%_, _<_, arith, needs, lit≤, getD, ℤ, pos, _+ℤ_, now}
 use native.Mathlib.Nat.{le-trans}
-use lib.Ieee.{Float, nan, toSigned}
+use lib.Ieee.{Float, toSigned}
 use Rattle.sequences.specs.Tab.{tab}
 use Rattle.sequences.specs.TabLaws.{getD-tab}
 use Rattle.sequences.specs.Grid.{tab-ext}
