@@ -1,0 +1,2 @@
+pub mod EndSums
+pub mod EndSumLaws
