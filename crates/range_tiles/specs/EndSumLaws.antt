@@ -1,5 +1,5 @@
 -- The sum of one end's P, frame by frame: its record, and how it starts, goes on and ends.
-use Rattle.algebra.specs.Prelude.{_≡_, ap, ap₂, subst, _∙_, List, [], ℕ, _+_, _*_, _/_, _%_, _^_, _≤_, _<_, arith, lit≤, eqb, ℤ, pos, natAbs, _+ℤ_}
+use Rattle.algebra.specs.Prelude.{_≡_, sym, ap, ap₂, subst, _∙_, List, [], ℕ, _+_, _*_, _/_, _%_, _^_, _≤_, _<_, arith, lit≤, eqb, ℤ, pos, natAbs, _+ℤ_}
 use native.Mathlib.Numerals.{add-one}
 use native.Mathlib.Nat.{le-trans, mul-le-mul-right}
 use Rattle.algebra.specs.Order.{abs-add}
@@ -9,7 +9,7 @@ use Rattle.sequences.specs.Tab.{tab}
 use Rattle.sequences.specs.TabLaws.{tab-each}
 use Rattle.sequences.specs.Grid.{grid, cell, cell-grid, grid-ext, grid-of}
 use Rattle.recipe.specs.Tables.{side16}
-use Rattle.recipe.specs.Scene.{Scene, tileDifference}
+use Rattle.recipe.specs.Scene.{Scene, tileNoise, tileDifference}
 use Rattle.range.specs.Range.{greatestAt, leastAt}
 use Rattle.lines.specs.Lines.{LineMost, TileMost}
 use Rattle.spectrum.specs.Apart.{cond-cases}
@@ -17,7 +17,8 @@ use Rattle.spectrum.specs.Magnitudes.{noiseMost, smallMost}
 use Rattle.spectrum.specs.Pairs.{Paired, planeIn, sideBySide, either}
 use Rattle.tiles.specs.declared.Site.{Site}
 use Rattle.ends.specs.EndLaws.{greatest-cong, least-cong, greatest-most, least-most}
-use Rattle.range_tiles.specs.EndSums.{EndAt, endSum, EndSummed}
+use Rattle.tiles.specs.Sum.{takenMost, PairTaken}
+use Rattle.range_tiles.specs.EndSums.{EndAt, endSum, EndSummed, endTaken}
 
 -- what the sum needs of an end
 pub record Ending (end : EndAt) : Type 0 where
@@ -106,3 +107,17 @@ module _ {end : EndAt} {s : Scene} {t : Site} {l₀ l₁ u₀ u₁ : ℕ} where
         is = w .is ∙ ap (λ m. grid 16 32 (partAt end s t l₀ l₁ u₀ u₁ m)) e;
         most = λ i l g f. subst (λ m. natAbs (partAt end s t l₀ l₁ u₀ u₁ m i l) ≤ m * smallMost) e (w .most i l g f);
       }
+
+-- the sums at a tile's noise numbers are what its ends take
+pub end-taken : (end : EndAt) (lower upper : Scene) (t : Site) {l₀ l₁ u₀ u₁ : ℕ} {r : List (List ℤ)} → lower .others ≤ 7
+    → ((p : ℕ) → p < 2 → either l₀ l₁ p ≡ tileNoise lower (t .«row_parity») p (t .row) (t .column)) → ((p : ℕ) → p < 2 → either u₀ u₁ p ≡ tileNoise upper (t .«row_parity») p (t .row) (t .column))
+    → EndSummed end lower t l₀ l₁ u₀ u₁ r → PairTaken 16 (endTaken end lower upper) t r
+unfolding endTaken
+end-taken end lower upper t {l₀} {l₁} {u₀} {u₁} few l u w =
+    record {
+      is = w .is ∙ grid-ext 16 32 _ _ (λ i k h g. same (k % 2) (omega arith) i (k / 2));
+      most = λ i k h g. subst (λ z. natAbs z ≤ takenMost) (same (k % 2) (omega arith) i (k / 2)) (le-trans (w .most i k h g) (le-trans (mul-le-mul-right smallMost few) (lit≤ tt)));
+    }
+  where
+    same : (p : ℕ) → p < 2 → (i j : ℕ) → endSum end lower (either l₀ l₁ p) (either u₀ u₁ p) (t .«row_parity») p (t .row) (t .column) i j ≡ endTaken end lower upper (t .«row_parity») p (t .row) (t .column) i j
+    same p h i j = ap₂ (λ a b. endSum end lower a b (t .«row_parity») p (t .row) (t .column) i j) (l p h) (u p h)
