@@ -1,4 +1,6 @@
 // What is taken from a pair of tiles where the noise is known only as a range (request L14): P of the greatest and of the least sums, summed over the other frames.
+pub mod rows;
+
 ghost use mathlib.Core.Path.{_≡_};
 ghost use Prim.Native.Nat.{_≤_};
 ghost use lib.IntN.{pos};
@@ -85,5 +87,15 @@ pub fn tile_ends(
     let strength = m.tuning.strength;
     let low = noises(strength, m.shot, m.read, roots.first, roots.second);
     let high = noises(strength, upper.shot, upper.read, roots.first, roots.second);
-    sum_ends(m, samples, vectors, site, &t0, low, high, &mut *greatest, &mut *least);
+    sum_ends(
+        m,
+        samples,
+        vectors,
+        site,
+        &t0,
+        low,
+        high,
+        &mut *greatest,
+        &mut *least,
+    );
 }
