@@ -8,10 +8,7 @@ use Rattle.noise.specs.declared.Noise.{Noise}
 use Rattle.noise.specs.Curve.{curveOf}
 use Rattle.noise.specs.Levels.{invalidNoise, aboveLimits}
 
--- "26, a lower shot or read above its upper one after ISO"
-abbrev pub crossedCurves : ℕ
-crossedCurves = 26
-
+-- "a lower shot or read above its upper one after ISO"
 abbrev pub crossed : (lower upper : Curve) → Bool
 crossed lower upper = lt (upper .shot) (lower .shot) || lt (upper .read) (lower .read)
 
@@ -20,5 +17,5 @@ unfoldable pub rangeNoiseTests : (lower upper : Noise) → List ℕ
 rangeNoiseTests lower upper =
     refuse no.noise (invalidNoise lower || invalidNoise upper)
     ∷ refuse no.noiseLimit (aboveLimits (curveOf lower) || aboveLimits (curveOf upper))
-    ∷ refuse crossedCurves (crossed (curveOf lower) (curveOf upper))
+    ∷ refuse no.noiseRange (crossed (curveOf lower) (curveOf upper))
     ∷ []

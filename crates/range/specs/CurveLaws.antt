@@ -21,7 +21,7 @@ use Rattle.noise.specs.Within.{within}
 use Rattle.noise.specs.Levels.{invalidCurve, invalidNoise, aboveLimits, noiseTests, levelsOf, shotLevel, readLevel}
 use Rattle.noise.specs.LevelLaws.{accepted-within}
 use Rattle.noise.specs.ScalingLaws.{neither}
-use Rattle.range.specs.Crossed.{crossedCurves, crossed, rangeNoiseTests}
+use Rattle.range.specs.Crossed.{crossed, rangeNoiseTests}
 use Rattle.range.specs.OrderLaws.{floor-mono, within-between, not-above}
 use Rattle.range.specs.Frames.{lowFrame, highFrame}
 use Rattle.range.specs.FrameLaws.{levelled, frame-inside}
@@ -58,7 +58,7 @@ unfolding rangeNoiseTests
 range-passed lower upper e =
     let valid = neither (invalidNoise lower) (invalidNoise upper) (refuse-not no.noise (invalidNoise lower || invalidNoise upper) tt (passed e (search among depth 20))) in
     let below = neither (aboveLimits (curveOf lower)) (aboveLimits (curveOf upper)) (refuse-not no.noiseLimit (aboveLimits (curveOf lower) || aboveLimits (curveOf upper)) tt (passed e (search among depth 20))) in
-    let order = neither (lt (curveOf upper .shot) (curveOf lower .shot)) (lt (curveOf upper .read) (curveOf lower .read)) (refuse-not crossedCurves (crossed (curveOf lower) (curveOf upper)) tt (passed e (search among depth 20))) in
+    let order = neither (lt (curveOf upper .shot) (curveOf lower .shot)) (lt (curveOf upper .read) (curveOf lower .read)) (refuse-not no.noiseRange (crossed (curveOf lower) (curveOf upper)) tt (passed e (search among depth 20))) in
     let l : first (noiseTests lower) ≡ 0 = noise-passes lower (valid .0) (below .0) in
     let u : first (noiseTests upper) ≡ 0 = noise-passes upper (valid .1) (below .1) in
     let w = accepted-within lower l in

@@ -9,9 +9,6 @@ use noise::level::above_limits;
 use noise::level::curve_of;
 use noise::level::invalid_noise;
 
-// Refusal 26's number.
-const CROSSED_CURVES: u64 = 26;
-
 fn either(a: bool, b: bool) -> bool
     ensures { λ r. ⌜ r ≡ (a || b) ⌝ }
 {
@@ -44,7 +41,7 @@ pub fn range_noise_refusal(lower: Noise, upper: Noise) -> u64
         &[
             refusals::refuse(refusals::NOISE, invalid),
             refusals::refuse(refusals::NOISE_LIMIT, above),
-            refusals::refuse(CROSSED_CURVES, crossing),
+            refusals::refuse(refusals::NOISE_RANGE, crossing),
         ],
     )
 }
