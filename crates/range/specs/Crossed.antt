@@ -1,12 +1,17 @@
--- Refusal 26 and the tests of two noises, in their order.
-use Rattle.algebra.specs.Prelude.{Bool, _||_, List, [], _∷_, ℕ}
-use lib.Ieee.{lt}
+-- Curves in order, refusal 26, and the tests of two noises in their order.
+use Rattle.algebra.specs.Prelude.{Bool, _||_, List, [], _∷_, ℕ, T}
+use lib.Ieee.{lt, le}
 use Rattle.refusals.specs.Numbers as no
 use Rattle.refusals.specs.Tests.{refuse}
 use Rattle.noise.specs.declared.Curve.{Curve}
 use Rattle.noise.specs.declared.Noise.{Noise}
 use Rattle.noise.specs.Curve.{curveOf}
 use Rattle.noise.specs.Levels.{invalidNoise, aboveLimits}
+
+-- "between two curves": neither shot nor read of the first is above that of the second
+pub record NoneAbove (c c' : Curve) : Type 0 where
+  pub shot : T (le (c .shot) (c' .shot))
+  pub read : T (le (c .read) (c' .read))
 
 -- "a lower shot or read above its upper one after ISO"
 abbrev pub crossed : (lower upper : Curve) → Bool

@@ -2,7 +2,7 @@
 use Rattle.algebra.specs.Prelude.{_≡_, refl, Bool, true, false, not, _&&_, _||_, List, ℕ, _*_, _≤_, _<_, getD, ℤ}
 use lib.Dec.{T, ltb, eqb, leb→le, eqb→eq}
 use borrow.Author.Tests.{le-ltb}
-use lib.Ieee.{Float, nan, inf, fin, up, down, lt, le}
+use lib.Ieee.{Float, nan, inf, fin, up, down, lt}
 use lib.Ieee.Fits.{and-l, and-r}
 use Rattle.refusals.specs.Numbers as no
 use Rattle.refusals.specs.Tests.{first}
@@ -21,15 +21,10 @@ use Rattle.noise.specs.Within.{within}
 use Rattle.noise.specs.Levels.{invalidCurve, invalidNoise, aboveLimits, noiseTests, levelsOf, shotLevel, readLevel}
 use Rattle.noise.specs.LevelLaws.{accepted-within}
 use Rattle.noise.specs.ScalingLaws.{neither}
-use Rattle.range.specs.Crossed.{crossed, rangeNoiseTests}
+use Rattle.range.specs.Crossed.{NoneAbove, crossed, rangeNoiseTests}
 use Rattle.range.specs.OrderLaws.{floor-mono, within-between, not-above}
 use Rattle.range.specs.Frames.{lowFrame, highFrame}
 use Rattle.range.specs.FrameLaws.{levelled, frame-inside}
-
--- neither shot nor read is above the other's
-pub record NoneAbove (c c' : Curve) : Type 0 where
-  pub shot : T (le (c .shot) (c' .shot))
-  pub read : T (le (c .read) (c' .read))
 
 -- an accepted noise has its curve's levels
 levels-are : (noise : Noise) → first (noiseTests noise) ≡ 0 → (shotLevel (levelsOf noise) ≡ floor1024 (curveOf noise .shot)) × (readLevel (levelsOf noise) ≡ floor1024 (curveOf noise .read))

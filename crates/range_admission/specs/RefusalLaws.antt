@@ -6,6 +6,7 @@ use Rattle.refusals.specs.Tests.{refuse, first}
 use Rattle.geometry.specs.declared.Shape.{Shape}
 use Rattle.geometry.specs.Shape.{sizeRefusal, countRefusal, referenceRefusal, sideAllowed, sideRefusal, rowRefusal, sampleLength, vectorLength, outputLength, workLength, lengthRefusal}
 use Rattle.geometry.specs.Fits.{MergeFits}
+use Rattle.geometry.specs.ShapeLaws.{right-length}
 use Rattle.limits.specs.Order.{shapeTests, burstTests, mergeLengths, mergeShapeTests}
 use Rattle.limits.specs.OrderLaws.{merge-fits}
 use Rattle.refusals.specs.TestLaws.{among, passed, refuse-not}
@@ -88,6 +89,13 @@ module _ (s : Shape) (reference samples vectors low high work : ℕ) (all : firs
   range-fits =
       merge-fits s reference samples vectors low work
       (rw (narrow-allowed s (narrow s side-passed)) (both-one 5 (lengthRefusal no.wrongWorkLength (workLength s) work) (not (eqb low (outputLength s))) (not (eqb high (outputLength s))) (sizeRefusal s ∷ countRefusal s ∷ referenceRefusal s reference ∷ 0 ∷ rowRefusal s ∷ lengthRefusal no.wrongSampleLength (sampleLength s) samples ∷ lengthRefusal no.wrongVectorLength (vectorLength s) vectors ∷ []) (rw side-passed at all)))
+
+  pub range-side : s .side ≡ 16
+  range-side = narrow s side-passed
+
+  pub high-long : high ≡ outputLength s
+  unfolding shapeTests rangeFrameTests rangeShapeTests
+  high-long = right-length no.wrongOutputLength (outputLength s) high tt (passed all (search among depth 20))
 
 -- what 24 lets through
 pub unfiltered : (s : ℕ) → filterRefusal s ≡ 0 → s ≡ 0
