@@ -1,0 +1,84 @@
+// Range: a burst, lent vectors and a noise that is known only between two curves to a low and a high frame.
+ghost use mathlib.Core.Path.{_≡_};
+ghost use Rattle.admission.specs.Refusals.{mergeOf};
+ghost use Rattle.stacker.specs.Ranged.{Ranged};
+use geometry::Shape;
+use noise::Levels;
+use noise::Noise;
+use noise::levels_of;
+use pipeline::clear;
+use range_admission::range_refusal;
+use range_frame::range_frames;
+use range_tiles::Upper;
+use recipe::Merge;
+use recipe::Tuning;
+
+// A merge with the levels of a noise, which are 0 where its tests refuse it.
+fn merge_of(shape: Shape, reference: usize, noise: Noise, tuning: Tuning) -> Merge
+    ensures { λ r. ⌜ r ≡ mergeOf shape reference noise tuning ⌝ }
+{
+    match levels_of(noise) {
+        Levels::Found { shot, read } => Merge {
+            shape,
+            reference,
+            shot,
+            read,
+            tuning,
+        },
+        Levels::Refused(_) => Merge {
+            shape,
+            reference,
+            shot: 0,
+            read: 0,
+            tuning,
+        },
+    }
+}
+
+// The low and the high frame of a burst, by lent vectors.
+pub fn range(
+    shape: Shape,
+    reference: usize,
+    lower: Noise,
+    upper: Noise,
+    tuning: Tuning,
+    samples: &[u16],
+    vectors: &[i32],
+    low: &mut [u16],
+    high: &mut [u16],
+    work: &mut [i64],
+) -> u64
+    ensures { λ r. ⌜ Ranged shape reference lower upper tuning (now (samples .entry)) (now (vectors .entry)) (now (low .entry)) (now (low .exit)) (now (high .entry)) (now (high .exit)) (now (work .entry)) (now (work .exit)) r ⌝ }
+{
+    let refusal = range_refusal(
+        shape,
+        reference,
+        lower,
+        upper,
+        tuning,
+        samples,
+        vectors,
+        &*low,
+        &*high,
+        &*work,
+    );
+    if refusal != 0 {
+        return refusal;
+    }
+    let m = merge_of(shape, reference, lower, tuning);
+    let raised = merge_of(shape, reference, upper, tuning);
+    range_frames(
+        m,
+        Upper {
+            shot: raised.shot,
+            read: raised.read,
+        },
+        samples,
+        vectors,
+        &mut *low,
+        &mut *high,
+        &mut *work,
+    );
+    clear(&mut *work);
+    0
+}
