@@ -16,6 +16,7 @@ use Rattle.noise.specs.declared.Noise.the-variants.{Measured}
 use Rattle.noise.specs.Curve.{curveOf}
 use Rattle.noise.specs.Levels.{levelsOf, shotLevel, readLevel}
 use Rattle.noise.specs.LevelLaws.{shot-level-bound, read-level-bound, strength-most}
+use Rattle.recipe.specs.declared.Merge.{Merge}
 use Rattle.recipe.specs.declared.Tuning.{Tuning}
 use Rattle.recipe.specs.Scene.{Scene, sceneAt, sceneOf}
 use Rattle.recipe.specs.Merged.{merged}
@@ -28,6 +29,7 @@ use Rattle.range_admission.specs.Refusals.{rangeShapeTests, rangeContentTests, 
 use Rattle.range_admission.specs.RefusalLaws.{range-fits, range-side, high-long, unfiltered}
 use Rattle.tiles.specs.Rows.{rowWords}
 use Rattle.range_tiles.specs.declared.Upper.{Upper}
+use Rattle.range_tiles.specs.EndSums.{raised}
 use Rattle.range_frame.specs.Ready.{RangeLent}
 use Rattle.stacker.specs.Ranged.{Ranged}
 
@@ -39,6 +41,24 @@ upperOf noise = record { shot = shotLevel (levelsOf noise); read = readLevel (le
 rows-fit : {s : Shape} → Allowed s → 4 * rowWords 16 (s .width) ≤ workLength s
 unfolding rowWords workLength
 rows-fit {s} ok = omega (arith, mul-le-mul-left {m = 64} {n = s .height} (s .width) (ok .high .least))
+
+-- where both noises have the same levels, both frames are the merge
+module _ (m : Merge) (upper : Upper) (samples : List ℕ) (vectors : List ℤ) (off : m .tuning .spatial ≡ 0) (same : (m .shot ≡ upper .shot) × (m .read ≡ upper .read)) where
+  abbrev scene : Scene
+  scene = sceneOf m samples vectors
+
+  off-in : scene .tuning .spatial ≡ 0
+  unfolding sceneAt
+  off-in = off
+
+  one-scene : sceneOf (raised m upper) samples vectors ≡ scene
+  one-scene = ap₂ (λ shot read. sceneOf (record { shape = m .shape; reference = m .reference; shot = shot; read = read; tuning = m .tuning }) samples vectors) (sym (same .0)) (sym (same .1))
+
+  pub low-merged : lowFrame scene (sceneOf (raised m upper) samples vectors) ≡ merged scene
+  low-merged = ap (lowFrame scene) one-scene ∙ low-frame-same scene off-in
+
+  pub high-merged : highFrame scene (sceneOf (raised m upper) samples vectors) ≡ merged scene
+  high-merged = ap (highFrame scene) one-scene ∙ high-frame-same scene off-in
 
 pub ranged-refused : {s : Shape} {reference : ℕ} {lower upper : Noise} {tuning : Tuning} {samples : List ℕ} {vectors : List ℤ} {low high : List ℕ} {work : List ℤ} {number : ℕ} →
     number ≡ rangeRefusal s reference lower upper tuning samples vectors low high work → (number ≡ 0 → ⊥) → Ranged s reference lower upper tuning samples vectors low low high high work work number
@@ -63,9 +83,9 @@ module _ (s : Shape) (reference : ℕ) (lower upper : Noise) (tuning : Tuning) (
     content : first (rangeContentTests s tuning samples ++ vectorRefusal vectors ∷ []) ≡ 0
     content = both-passed (rangeNoiseTests lower upper) _ (parts .1) .1
 
-    off : tuning .spatial ≡ 0
+    pub range-off : tuning .spatial ≡ 0
     unfolding rangeContentTests
-    off = unfiltered (tuning .spatial) (passed content (search among depth 20))
+    range-off = unfiltered (tuning .spatial) (passed content (search among depth 20))
 
     pub range-lent : RangeLent (mergeOf s reference lower tuning) (upperOf upper) samples vectors (length low) (length high) (length work)
     unfolding rangeContentTests
@@ -80,8 +100,8 @@ module _ (s : Shape) (reference : ℕ) (lower upper : Noise) (tuning : Tuning) (
             shot-most = shot-level-bound lower;
             read-most = read-level-bound lower;
             strength-most = strength-most (tuning .strength) (passed content (search among depth 20));
-            spatial-most = omega (arith, off);
-            unfiltered = λ _. off;
+            spatial-most = omega (arith, range-off);
+            unfiltered = λ _. range-off;
           };
           upper-fits = record { shot-most = shot-level-bound upper; read-most = read-level-bound upper };
           low-long = fits .output-long;
@@ -89,17 +109,16 @@ module _ (s : Shape) (reference : ℕ) (lower upper : Noise) (tuning : Tuning) (
           room = omega (arith, rows-fit (fits .burst .allowed), fits .work-long);
         }
 
+    pub range-work : length work ≡ workLength s
+    range-work = range-fits s reference (length samples) (length vectors) (length low) (length high) (length work) (parts .0) .work-long
+
     -- equal curves have equal levels
-    same-scene : NoneAbove (curveOf lower) (curveOf upper) → NoneAbove (curveOf upper) (curveOf lower) → at upper ≡ at lower
-    same-scene h k =
+    same-levels : NoneAbove (curveOf lower) (curveOf upper) → NoneAbove (curveOf upper) (curveOf lower) → (shotLevel (levelsOf lower) ≡ shotLevel (levelsOf upper)) × (readLevel (levelsOf lower) ≡ readLevel (levelsOf upper))
+    same-levels h k =
         let accepted = range-passed lower upper noises in
         let rise = levels-rise lower upper (accepted .lower-accepted) (accepted .upper-accepted) h in
         let fall = levels-rise upper lower (accepted .upper-accepted) (accepted .lower-accepted) k in
-        ap₂ (λ shot read. sceneOf (record { shape = s; reference = reference; shot = shot; read = read; tuning = tuning }) samples vectors) (omega (arith, rise .0, fall .0)) (omega (arith, rise .1, fall .1))
-
-    off-at : at lower .tuning .spatial ≡ 0
-    unfolding sceneAt
-    off-at = off
+        (omega (arith, rise .0, fall .0), omega (arith, rise .1, fall .1))
 
     pub ranged-accepted : {low′ high′ : List ℕ} {work′ : List ℤ} → low′ ≡ lowFrame (at lower) (at upper) → high′ ≡ highFrame (at lower) (at upper) → work′ ≡ zeros work →
         Ranged s reference lower upper tuning samples vectors low low′ high high′ work work′ 0
@@ -111,12 +130,12 @@ module _ (s : Shape) (reference : ℕ) (lower upper : Noise) (tuning : Tuning) (
           clean = made _ _ _ (sym e) refl is-clear;
           inside = λ _ c h k i j.
               let accepted = range-passed lower upper noises in
-              let between = curve-inside lower upper c (accepted .lower-accepted) (accepted .upper-accepted) h k s reference tuning samples vectors off i j in (
+              let between = curve-inside lower upper c (accepted .lower-accepted) (accepted .upper-accepted) h k s reference tuning samples vectors range-off i j in (
                 subst (λ l. getD l i 0 ≤ getD (merged (at (Measured c))) i 0) (sym is-low) (between .0),
                 subst (λ l. getD (merged (at (Measured c))) i 0 ≤ getD l i 0) (sym is-high) (between .1),
               );
           same = λ _ h k. (
-            is-low ∙ ap (lowFrame (at lower)) (same-scene h k) ∙ low-frame-same (at lower) off-at,
-            is-high ∙ ap (highFrame (at lower)) (same-scene h k) ∙ high-frame-same (at lower) off-at,
+            is-low ∙ low-merged (mergeOf s reference lower tuning) (upperOf upper) samples vectors range-off (same-levels h k),
+            is-high ∙ high-merged (mergeOf s reference lower tuning) (upperOf upper) samples vectors range-off (same-levels h k),
           );
         }
