@@ -314,8 +314,8 @@ static inline const char *stacker_refusal_text(uint64_t number)
            return 1;
        fwrite(pgm, 1, pgm_length, stdout);
 
-   examples/merge.c, examples/sharpest.c and examples/merge_dng.c, which reads its frames from DNG files, are whole programs;
-   examples/cpp/merge.cpp calls from C++, examples/merge.py from Python, examples/burst_file.rs from Rust.
+   examples/merge.c, examples/sharpest.c, examples/range.c, whose noise is known only between two curves, and examples/merge_dng.c, which reads its frames from
+   DNG files, are whole programs; examples/cpp/merge.cpp calls from C++, examples/merge.py from Python, examples/burst_file.rs from Rust.
 
    FRAMES are Bayer RGGB, row by row, frame after frame: 16-bit words that hold 0..4095. Black is already subtracted, or the burst says what it is.
    A row takes row_length words: those after its W samples are spare. They may hold anything and are never read into a result. Output rows have none.
