@@ -7,10 +7,9 @@ use Rattle.refusals.specs.TestLaws.{among, passed, both-passed}
 use Rattle.refusals.specs.AfterLaws.{kept, made}
 use Rattle.geometry.specs.declared.Shape.{Shape}
 use Rattle.geometry.specs.Shape.{workLength}
-use Rattle.geometry.specs.Fits.{Allowed}
+use Rattle.geometry.specs.Fits.{Allowed, MergeFits}
 use Rattle.values.specs.Bounds.{vectorRefusal}
 use Rattle.values.specs.BoundLaws.{samples-fit, vectors-fit}
-use Rattle.noise.specs.declared.Curve.{Curve}
 use Rattle.noise.specs.declared.Noise.{Noise}
 use Rattle.noise.specs.declared.Noise.the-variants.{Measured}
 use Rattle.noise.specs.Curve.{curveOf}
@@ -87,10 +86,15 @@ module _ (s : Shape) (reference : ℕ) (lower upper : Noise) (tuning : Tuning) (
     unfolding rangeContentTests
     range-off = unfiltered (tuning .spatial) (passed content (search among depth 20))
 
+    fits : MergeFits s reference (length samples) (length vectors) (length low) (length work)
+    fits = range-fits s reference (length samples) (length vectors) (length low) (length high) (length work) (parts .0)
+
+    pub range-work : length work ≡ workLength s
+    range-work = fits .work-long
+
     pub range-lent : RangeLent (mergeOf s reference lower tuning) (upperOf upper) samples vectors (length low) (length high) (length work)
     unfolding rangeContentTests
     range-lent =
-        let fits = range-fits s reference (length samples) (length vectors) (length low) (length high) (length work) (parts .0) in
         record {
           accepted = record {
             burst = fits .burst;
@@ -106,11 +110,8 @@ module _ (s : Shape) (reference : ℕ) (lower upper : Noise) (tuning : Tuning) (
           upper-fits = record { shot-most = shot-level-bound upper; read-most = read-level-bound upper };
           low-long = fits .output-long;
           high-long = high-long s reference (length samples) (length vectors) (length low) (length high) (length work) (parts .0);
-          room = omega (arith, rows-fit (fits .burst .allowed), fits .work-long);
+          room = omega (arith, rows-fit (fits .burst .allowed), range-work);
         }
-
-    pub range-work : length work ≡ workLength s
-    range-work = range-fits s reference (length samples) (length vectors) (length low) (length high) (length work) (parts .0) .work-long
 
     -- equal curves have equal levels
     same-levels : NoneAbove (curveOf lower) (curveOf upper) → NoneAbove (curveOf upper) (curveOf lower) → (shotLevel (levelsOf lower) ≡ shotLevel (levelsOf upper)) × (readLevel (levelsOf lower) ≡ readLevel (levelsOf upper))

@@ -1,5 +1,5 @@
 -- The size questions on the files that are read, and on those that are refused; and the words of some numbers.
-use Rattle.algebra.specs.Prelude.{_≡_, refl, List, [], _∷_, _++_, ℕ, getD}
+use Rattle.algebra.specs.Prelude.{_≡_, refl, List, [], _∷_, _++_, ℕ}
 use lib.ListN.{replicate}
 use Rattle.refusals.specs.Tests.{first}
 use Rattle.refusals.specs.Some.{some}

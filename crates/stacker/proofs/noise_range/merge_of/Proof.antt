@@ -1,7 +1,7 @@
 -- `stacker::noise_range::merge_of`: the levels found are the noise's, and those of a refused one are 0.
-use Rattle.algebra.specs.Prelude.{_≡_, sym, ap, _∙_, needs}
+use Rattle.algebra.specs.Prelude.{sym, ap, _∙_, needs}
 use Rattle.noise.specs.declared.Levels.{Levels}
-use Rattle.noise.specs.Levels.{levelsOf, shotLevel, readLevel}
+use Rattle.noise.specs.Levels.{shotLevel, readLevel}
 use Rattle.recipe.specs.declared.Merge.{Merge}
 use Rattle.stacker.proofs.noise_range.merge_of.Statement.{statement}
 use Rattle.stacker.proofs.noise_range.merge_of.Tie as tie
