@@ -1,7 +1,7 @@
 /* The burst stacker: one to eight raw frames of one scene are aligned on one of them, the reference, and merged into one cleaner frame.
 
    First come the types, the calls and what goes with them; behind them EXAMPLES, FRAMES, SHARPNESS, LENT BUFFERS, AFTER A CALL, REFUSALS, NOISE,
-   STRENGTH, SIDE, SPATIAL FILTER, ZEROS and THE MACHINE. Link with libstacker.a. For x86-64 Linux; C99 and later, C++11 and later. */
+   RANGE OF NOISE, STRENGTH, SIDE, SPATIAL FILTER, ZEROS and THE MACHINE. Link with libstacker.a. For x86-64 Linux; C99 and later, C++11 and later. */
 #ifndef STACKER_H
 #define STACKER_H
 
@@ -126,7 +126,8 @@ typedef enum {
     STACKER_REFUSED_SIDE = 22,
     STACKER_REFUSED_ROW_LENGTH = 23,
     STACKER_REFUSED_SPATIAL_STRENGTH = 24,
-    STACKER_REFUSED_FILTERED_SIDE = 25
+    STACKER_REFUSED_FILTERED_SIDE = 25,
+    STACKER_REFUSED_NOISE_RANGE = 26
 } stacker_refusal;
 
 /* Aligns each other frame on the reference. Of the tuning it reads the side alone. */
@@ -139,6 +140,18 @@ uint64_t stacker_merge(stacker_burst burst, stacker_noise noise, stacker_tuning 
 
 uint64_t stacker_merge_iso(stacker_burst burst, stacker_iso_noise noise, stacker_tuning tuning, const uint16_t *samples, size_t samples_length,
     const int32_t *vectors, size_t vectors_length, uint16_t *output, size_t output_length, int64_t *work, size_t work_length);
+
+/* Merges by lent vectors where the noise is known only between a lower and an upper curve, into two frames: whatever curve lies between, the frame that
+   stacker_merge makes with it lies between low and high at each sample (RANGE OF NOISE, below). For tiles of side 16 without the spatial filter; answers the
+   refusal's number, or 0. */
+uint64_t stacker_range(stacker_burst burst, stacker_noise lower, stacker_noise upper, stacker_tuning tuning, const uint16_t *samples,
+    size_t samples_length, const int32_t *vectors, size_t vectors_length, uint16_t *low, size_t low_length, uint16_t *high, size_t high_length,
+    int64_t *work, size_t work_length);
+
+/* Each end with an ISO number of its own. */
+uint64_t stacker_range_iso(stacker_burst burst, stacker_iso_noise lower, stacker_iso_noise upper, stacker_tuning tuning, const uint16_t *samples,
+    size_t samples_length, const int32_t *vectors, size_t vectors_length, uint16_t *low, size_t low_length, uint16_t *high, size_t high_length,
+    int64_t *work, size_t work_length);
 
 /* The finest residual of every tile of every other frame at its lent vector: the sum of absolute differences at level 0 between the reference's tile and the
    frame's, moved by the vector. One word for each tile, in the order of the vectors. At the vectors that align finds, a frame's words add up to its sum
@@ -242,10 +255,11 @@ static inline const char *stacker_refusal_text(uint64_t number)
     case STACKER_REFUSED_DNG_STRUCTURE: return "not a little-endian TIFF file, or a part of it lies past its end";
     case STACKER_REFUSED_DNG_TAG: return "a DNG file in which a needed tag is absent or a listed one stands twice";
     case STACKER_REFUSED_DNG_VALUE: return "a DNG file with a type, count or value that is not read, or of another size than the burst";
-    case STACKER_REFUSED_SIDE: return "side of the tiles neither 16 nor 32";
+    case STACKER_REFUSED_SIDE: return "side of the tiles neither 16 nor 32, or not 16 where a range of noise is asked for";
     case STACKER_REFUSED_ROW_LENGTH: return "row length not from width to width + 256";
-    case STACKER_REFUSED_SPATIAL_STRENGTH: return "spatial strength above 256";
+    case STACKER_REFUSED_SPATIAL_STRENGTH: return "spatial strength above 256, or not 0 where a range of noise is asked for";
     case STACKER_REFUSED_FILTERED_SIDE: return "spatial strength not 0 with tiles of side 32";
+    case STACKER_REFUSED_NOISE_RANGE: return "lower shot or read above the upper one after ISO";
     default: return "no refusal of this version";
     }
 }
@@ -300,8 +314,8 @@ static inline const char *stacker_refusal_text(uint64_t number)
            return 1;
        fwrite(pgm, 1, pgm_length, stdout);
 
-   examples/merge.c, examples/sharpest.c and examples/merge_dng.c, which reads its frames from DNG files, are whole programs;
-   examples/cpp/merge.cpp calls from C++, examples/merge.py from Python, examples/burst_file.rs from Rust.
+   examples/merge.c, examples/sharpest.c, examples/range.c, whose noise is known only between two curves, and examples/merge_dng.c, which reads its frames from
+   DNG files, are whole programs; examples/cpp/merge.cpp calls from C++, examples/merge.py from Python, examples/burst_file.rs from Rust.
 
    FRAMES are Bayer RGGB, row by row, frame after frame: 16-bit words that hold 0..4095. Black is already subtracted, or the burst says what it is.
    A row takes row_length words: those after its W samples are spare. They may hold anything and are never read into a result. Output rows have none.
@@ -321,12 +335,13 @@ static inline const char *stacker_refusal_text(uint64_t number)
    LENT BUFFERS, for frames of width W, height H and row length L, N of them, and tiles of side S; a file means L = W and S = 16. A length counts elements,
    not bytes; station_length of station.h answers it too.
 
-       buffer     elements    length                          read_file   align     merge     run       residuals
-       samples    uint16_t    N*L*H                           written     read      read      read      read
-       vectors    int32_t     (N-1)*2*(W/S+1)*(H/S+1)                     written   read      written   read
+       buffer     elements    length                          read_file   align     merge     run       residuals   range
+       samples    uint16_t    N*L*H                           written     read      read      read      read        read
+       vectors    int32_t     (N-1)*2*(W/S+1)*(H/S+1)                     written   read      written   read        read
        output     uint16_t    W*H                                                   written   written
-       work       int64_t     2*W*H                                       cleared   cleared   cleared   cleared
+       work       int64_t     2*W*H                                       cleared   cleared   cleared   cleared     cleared
        residuals  uint64_t    (N-1)*(W/S+1)*(H/S+1)                                                     written
+       low, high  uint16_t    W*H each                                                                              written
 
    run_sharpest does with them as run.
 
@@ -346,17 +361,25 @@ static inline const char *stacker_refusal_text(uint64_t number)
    AFTER A CALL that answers 0 the written buffers hold the result, every word of it, and the work area is zero. After a refusal every lent buffer is
    as it was, and every other field of the answer is 0, the index chosen too; but a DNG file's tag at fault is named.
 
-   REFUSALS. A call makes its tests in the order of the numbers, but 22 and 23 before 4, and 18, 24 and 25 after 10, and answers the first that fails: align 1 to
-   5, 7, 11, 22 and 23; merge 1 to 12, 18 and 22 to 25; run 1 to 11, 18 and 22 to 25; run_sharpest run's but for 3, whichever frame it chooses;
-   residuals 1 to 7, 11, 12, 22 and 23, where 6 is of the residuals' length.
+   REFUSALS. A call makes its tests in the order of the numbers, but 22 and 23 before 4, 26 after 9, and 18, 24 and 25 after 10, and answers the first that
+   fails: align 1 to 5, 7, 11, 22 and 23; merge 1 to 12, 18 and 22 to 25; run 1 to 11, 18 and 22 to 25; run_sharpest run's but for 3, whichever frame it
+   chooses; residuals 1 to 7, 11, 12, 22 and 23, where 6 is of the residuals' length; range 1 to 12, 18, 22 to 24 and 26, where 22 is any side but 16, 24 any s
+   but 0, 6 of either frame, and 8 and 9 of either noise.
    A file is tested line by line: no first LF 15, 13; line two 15, 14, then 1, 2, 3, 9, 10, 4; each row 15, 14, 11; then what follows, 15.
    Writing a PGM file tests 1, 6, 16, 11 in that order, reading one 17, 6, 11.
    Reading a DNG file tests 19, 20, 21, then 1, 2, 3 of the frame's index, 23, 4 and 11 of the file's samples.
 
-   NOISE. stacker_merge_iso, stacker_run_iso and stacker_run_sharpest_iso scale the curve for ISO 100 by a = iso / 100: shot by a, read by a * a. A
-   file has the levels floor(1024 shot) and floor(1024 read) instead; stacker_file_noise turns them back. The curve speaks of light: in the noise of a
-   tile each sample of the reference counts as what it exceeds its plane's black level by, or 0. Nothing else looks at black levels: vectors,
+   NOISE. stacker_merge_iso, stacker_run_iso, stacker_run_sharpest_iso and stacker_range_iso scale the curve for ISO 100 by a = iso / 100: shot by a, read by
+   a * a. A file has the levels floor(1024 shot) and floor(1024 read) instead; stacker_file_noise turns them back. The curve speaks of light: in the noise of
+   a tile each sample of the reference counts as what it exceeds its plane's black level by, or 0. Nothing else looks at black levels: vectors,
    residuals and the merged frame keep the pedestal. A file means levels of 0.
+
+   RANGE OF NOISE. A head back from repair may have a noise that is known only between two curves. Lend stacker_range the vectors that align or run found, which
+   do not depend on noise, and take both curves, neither shot nor read of the lower one above the upper one's after ISO. For every curve between, shot with
+   shot and read with read, no sample of the frame that stacker_merge makes with it is below low's or above high's. So where low and high are equal the merged
+   sample is known in spite of the noise, and elsewhere their distance bounds what knowing the noise could change. That is a bound for each sample by itself:
+   low and high need not be the merge at any curve, and can lie further apart than such merges do. It takes some eight to ten times as long as a merge; equal
+   curves give the merged frame twice and take as long as one merge.
 
    STRENGTH. The greater, the more of the other frames is taken where they differ from the reference. Take 600, the tau of 75 that the published
    analysis of HDR+ settled on; 64 is the tau of 8 that the original names, which that analysis found too weak. A strength of 0 gives the reference back,

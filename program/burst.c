@@ -115,6 +115,16 @@ static void read_burst_file(job *j, request *r, content file, head found)
     j->has_curve = 1;
 }
 
+/* whether a merged frame is to be written over a DNG file */
+static int writes_dng(const request *r)
+{
+    const char *const frames[] = { r->output, r->low, r->high };
+    int writes = 0;
+    for (int i = 0; i < 3; i++)
+        writes |= frames[i] != NULL && ends_in(frames[i], ".dng");
+    return writes;
+}
+
 static void read_one(job *j, request *r, int i)
 {
     progress("reading file %d of %d ", i + 1, j->files);
@@ -130,7 +140,7 @@ static void read_one(job *j, request *r, int i)
         read_burst_file(j, r, file, found);
     else
         read_frame(j, r, (uint64_t)i, file, found);
-    if (found.kind == DNG && r->output != NULL && ends_in(r->output, ".dng"))
+    if (found.kind == DNG && writes_dng(r))
         j->dngs[i] = file;
     else
         free(file.bytes);
@@ -154,6 +164,8 @@ void release(job *j)
         free(j->fields[k].is_lifted);
     free(j->samples);
     free(j->merged);
+    free(j->low);
+    free(j->high);
     free(j->vectors);
     free(j->work);
     free(j->own);

@@ -10,9 +10,9 @@ static stacker_tuning tuning_of(const request *r)
     return tuning;
 }
 
-static stacker_iso_noise iso_noise_of(const request *r)
+static stacker_iso_noise at_iso(const request *r, stacker_noise curve)
 {
-    stacker_iso_noise noise = { .iso = r->iso, .shot = r->noise.shot, .read = r->noise.read };
+    stacker_iso_noise noise = { .iso = r->iso, .shot = curve.shot, .read = curve.read };
     return noise;
 }
 
@@ -29,7 +29,7 @@ static void run_sharpest(job *j, const request *r)
     stacker_frames frames = { .width = b->width, .height = b->height, .count = b->count, .row_length = b->row_length };
     memcpy(frames.black, b->black, sizeof frames.black);
     stacker_choice choice = r->iso != 0
-        ? stacker_run_sharpest_iso(frames, iso_noise_of(r), tuning_of(r), j->samples, j->samples_length, j->vectors, j->vectors_length, j->merged,
+        ? stacker_run_sharpest_iso(frames, at_iso(r, r->noise), tuning_of(r), j->samples, j->samples_length, j->vectors, j->vectors_length, j->merged,
             j->area, j->work, j->work_length)
         : stacker_run_sharpest(frames, r->noise, tuning_of(r), j->samples, j->samples_length, j->vectors, j->vectors_length, j->merged, j->area,
             j->work, j->work_length);
@@ -40,7 +40,7 @@ static void run_sharpest(job *j, const request *r)
 static void run(job *j, const request *r)
 {
     j->answer = r->iso != 0
-        ? stacker_run_iso(j->burst, iso_noise_of(r), tuning_of(r), j->samples, j->samples_length, j->vectors, j->vectors_length, j->merged, j->area,
+        ? stacker_run_iso(j->burst, at_iso(r, r->noise), tuning_of(r), j->samples, j->samples_length, j->vectors, j->vectors_length, j->merged, j->area,
             j->work, j->work_length)
         : stacker_run(j->burst, r->noise, tuning_of(r), j->samples, j->samples_length, j->vectors, j->vectors_length, j->merged, j->area, j->work,
             j->work_length);
@@ -52,6 +52,20 @@ void merge_burst(job *j, const request *r)
     (r->sharpest ? run_sharpest : run)(j, r);
     accepted("merge", j->answer.refusal, "");
     j->is_merged = 1;
+}
+
+/* low and high by the vectors that the merge has found */
+void merge_range(job *j, const request *r)
+{
+    progress("merging between two curves ");
+    j->low = room(j->area, sizeof *j->low);
+    j->high = room(j->area, sizeof *j->high);
+    uint64_t refusal = r->iso != 0
+        ? stacker_range_iso(j->burst, at_iso(r, r->noise), at_iso(r, r->upper), tuning_of(r), j->samples, j->samples_length, j->vectors, j->vectors_length,
+            j->low, j->area, j->high, j->area, j->work, j->work_length)
+        : stacker_range(j->burst, r->noise, r->upper, tuning_of(r), j->samples, j->samples_length, j->vectors, j->vectors_length, j->low, j->area,
+            j->high, j->area, j->work, j->work_length);
+    accepted("range", refusal, "");
 }
 
 /* the residual of each tile at such vectors as align finds, in their order */

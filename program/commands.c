@@ -5,11 +5,18 @@
 #include <stdlib.h>
 #include <string.h>
 
+static void write_merged(const char *path, const job *j, const uint16_t *frame)
+{
+    if (path != NULL)
+        (ends_in(path, ".dng") ? write_dng : write_frame)(path, j, frame);
+}
+
 static void write_all(const job *j, const request *r)
 {
     progress("writing ");
-    if (r->output != NULL)
-        (ends_in(r->output, ".dng") ? write_dng : write_frame)(r->output, j);
+    write_merged(r->output, j, j->merged);
+    write_merged(r->low, j, j->low);
+    write_merged(r->high, j, j->high);
     if (r->vectors != NULL) {
         FILE *to = output_begin(r->vectors);
         (ends_in(r->vectors, ".csv") ? write_csv : write_json)(to, j, r);
@@ -48,6 +55,8 @@ static int work_on(request *r, char **names, int count, int merging)
         fail(WRONG, "no noise curve: PGM files carry none; give --noise SHOT,READ");
     double start = seconds();
     (merging ? merge_burst : align_burst)(&j, r);
+    if (r->has_upper)
+        merge_range(&j, r);
     double took = seconds() - start;
     int wants_tiles = r->vectors != NULL || r->page != NULL || r->has_lifted || !quiet;
     if (wants_tiles)
@@ -61,15 +70,18 @@ static int work_on(request *r, char **names, int count, int merging)
 
 int merge_command(request *r, char **names, int count)
 {
-    if (r->output == NULL && r->vectors == NULL && r->page == NULL && !r->has_lifted)
-        fail(WRONG, "merge needs --output, --vectors, --page or --lifted");
+    int ends = r->low != NULL || r->high != NULL;
+    if (ends != r->has_upper)
+        fail(WRONG, "--upper SHOT,READ goes with --low and --high, one of them at least");
+    if (r->output == NULL && r->vectors == NULL && r->page == NULL && !r->has_lifted && !ends)
+        fail(WRONG, "merge needs --output, --vectors, --page, --lifted, or --upper with --low and --high");
     return work_on(r, names, count, 1);
 }
 
 int align_command(request *r, char **names, int count)
 {
-    if (r->output != NULL || r->sharpest)
-        fail(WRONG, "align merges nothing: it has no --output, and no sharpest frame");
+    if (r->output != NULL || r->low != NULL || r->high != NULL || r->has_upper || r->sharpest)
+        fail(WRONG, "align merges nothing: it has no --output, no --low and --high, and no sharpest frame");
     return work_on(r, names, count, 0);
 }
 

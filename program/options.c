@@ -26,6 +26,9 @@ static const char *const help[] = {
     "  -t, --side N            16 or 32, of the tiles: 32 is for very dark scenes [16]\n",
     "  -f, --spatial N         0..256, the spatial filter's s in 1/256, for side 16 [0: none]\n",
     "  -n, --noise SHOT,READ   a sample x has the variance SHOT x + READ [the first DNG's, or the burst file's]\n",
+    "  -u, --upper SHOT,READ   the noise is known only between --noise and this; for side 16 without the spatial filter\n",
+    "  -L, --low FILE          then the frame of the least samples,\n",
+    "  -H, --high FILE         and of the greatest: with any curve between, the merged frame lies between the two\n",
     "  -i, --iso N             the curve is for ISO 100, and the frames were taken at N\n",
     "  -b, --black R,G,G,B     black levels of the four planes, or one for all [the first DNG's, or 0]\n",
     "  -c, --crop WxH+X+Y      take this part of each frame, at even X and Y; max: the largest in the middle\n",
@@ -58,12 +61,13 @@ static void set_reference(request *r, const char *text)
     r->has_reference = 1;
 }
 
-static void set_noise(request *r, const char *text)
+static stacker_noise curve(const char *name, const char *text)
 {
     int end = 0;
-    if (sscanf(text, "%lf,%lf%n", &r->noise.shot, &r->noise.read, &end) != 2 || text[end] != 0)
-        fail(WRONG, "--noise: %s is not SHOT,READ", text);
-    r->has_noise = 1;
+    stacker_noise noise;
+    if (sscanf(text, "%lf,%lf%n", &noise.shot, &noise.read, &end) != 2 || text[end] != 0)
+        fail(WRONG, "--%s: %s is not SHOT,READ", name, text);
+    return noise;
 }
 
 static void set_black(request *r, const char *text)
@@ -125,7 +129,10 @@ static void set(request *r, int letter, const char *text)
     case 'v': r->vectors = text; break;
     case 'p': r->page = text; break;
     case 'r': set_reference(r, text); break;
-    case 'n': set_noise(r, text); break;
+    case 'n': r->noise = curve("noise", text); r->has_noise = 1; break;
+    case 'u': r->upper = curve("upper", text); r->has_upper = 1; break;
+    case 'L': r->low = text; break;
+    case 'H': r->high = text; break;
     case 'b': set_black(r, text); break;
     case 'c': set_crop(r, text); break;
     case 'm': set_scale(r, text); break;
@@ -138,10 +145,11 @@ static void set(request *r, int letter, const char *text)
 int options(request *r, int argc, char **argv)
 {
     static const struct option table[] = { { "output", 1, 0, 'o' }, { "vectors", 1, 0, 'v' }, { "page", 1, 0, 'p' }, { "reference", 1, 0, 'r' },
-        { "strength", 1, 0, 's' }, { "side", 1, 0, 't' }, { "spatial", 1, 0, 'f' }, { "noise", 1, 0, 'n' }, { "iso", 1, 0, 'i' }, { "black", 1, 0, 'b' },
+        { "strength", 1, 0, 's' }, { "side", 1, 0, 't' }, { "spatial", 1, 0, 'f' }, { "noise", 1, 0, 'n' }, { "upper", 1, 0, 'u' },
+        { "low", 1, 0, 'L' }, { "high", 1, 0, 'H' }, { "iso", 1, 0, 'i' }, { "black", 1, 0, 'b' },
         { "crop", 1, 0, 'c' }, { "scale", 1, 0, 'm' }, { "apart", 1, 0, 'a' }, { "lifted", 2, 0, 'l' }, { "quiet", 0, 0, 'q' }, { "help", 0, 0, 'h' },
         { "version", 0, 0, 'V' }, { 0, 0, 0, 0 } };
-    for (int letter; (letter = getopt_long(argc, argv, "o:v:p:r:s:t:f:n:i:b:c:m:a:l::qhV", table, NULL)) != -1;) {
+    for (int letter; (letter = getopt_long(argc, argv, "o:v:p:r:s:t:f:n:u:L:H:i:b:c:m:a:l::qhV", table, NULL)) != -1;) {
         if (letter == '?')
             exit(WRONG);
         if (letter == 'h')

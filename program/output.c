@@ -9,7 +9,7 @@
 #include <sys/stat.h>
 #include <unistd.h>
 
-enum { OUTPUTS_MOST = 3 };
+enum { OUTPUTS_MOST = 5 };
 
 typedef struct {
     const char *path;

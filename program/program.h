@@ -27,12 +27,12 @@ typedef struct {
 
 /* What the command line asks for. What is not asked for is taken from the first file: has_... tell. */
 typedef struct {
-    const char *output, *vectors, *page;
-    int sharpest, has_reference, has_noise, has_strength, has_black, has_crop, has_scale, has_lifted;
+    const char *output, *vectors, *page, *low, *high;
+    int sharpest, has_reference, has_noise, has_upper, has_strength, has_black, has_crop, has_scale, has_lifted;
     uint64_t reference, strength, spatial, side;
     uint64_t apart, lifted; /* steps from the common vector; count of tiles */
     uint32_t iso;           /* 0: the curve is for the frames as they are */
-    stacker_noise noise;
+    stacker_noise noise, upper; /* upper: where the noise is known only between the two */
     uint16_t black[4];
     part crop;
     factor scale;
@@ -70,6 +70,7 @@ typedef struct {
     int files, has_curve, is_merged; /* has_curve: a file has told noise and black levels */
     content dngs[FRAMES_MOST]; /* the files, where a DNG is to be written over one */
     uint16_t *samples, *merged;
+    uint16_t *low, *high; /* where the noise is known only between two curves */
     int32_t *vectors;
     int64_t *work;
     uint64_t side; /* of a tile, in places of a plane */
@@ -118,6 +119,7 @@ void release(job *j);
 /* calls.c */
 void align_burst(job *j, const request *r);
 void merge_burst(job *j, const request *r);
+void merge_range(job *j, const request *r);
 void residuals_at(job *j, const int32_t *vectors, uint64_t *residuals);
 uint64_t noise_number(const request *r, stacker_noise noise, uint64_t root);
 
@@ -126,8 +128,8 @@ void find_lifted(job *j, const request *r);
 size_t lifted_tiles(const job *j);
 
 /* write.c */
-void write_frame(const char *path, const job *j);
-void write_dng(const char *path, const job *j);
+void write_frame(const char *path, const job *j, const uint16_t *frame);
+void write_dng(const char *path, const job *j, const uint16_t *frame);
 
 /* table.c */
 void write_facts(FILE *to, const job *j, const request *r);

@@ -1,5 +1,5 @@
-/* Answers a stream of calls from standard input as the reference's `align`, `merge`, `run` or `choose` does, with the library:
-   calls align|merge|run|choose [SPARE]. With SPARE, samples of the right length are lent in rows with so many spare words, each 65535, in place of
+/* Answers a stream of calls from standard input as the reference's `align`, `merge`, `run`, `choose`, `range` or `residuals` does, with the library:
+   calls align|merge|run|choose|range|residuals [SPARE]. With SPARE, samples of the right length are lent in rows with so many spare words, each 65535, in place of
    the burst's own. It sees itself that the work area ends as promised, zero or after a refusal as it was, and that the stack is enough. At the end it
    writes to standard error how many calls there were, and the most stack that one took. */
 #include "stack.h"
@@ -11,12 +11,16 @@
 
 enum { WIDTH, HEIGHT, COUNT, REFERENCE, ROW_LENGTH, BLACK, NOISE_KIND = BLACK + 4, ISO, SHOT, READ, STRENGTH, SIDE, SPATIAL, SAMPLES, VECTORS, OUTPUT, WORK, WORDS };
 
+/* what a call of the range adds after its buffers, whose noise and output are the lower noise and the low frame; and one of the residuals, their length */
+enum { UPPER_KIND, UPPER_ISO, UPPER_SHOT, UPPER_READ, HIGH, RANGE_WORDS, RESIDUALS = 0, RESIDUAL_WORDS };
+
 /* what the work area holds before a call */
 static const int64_t MARK = -4915937;
 
-static uint64_t head[WORDS];
-static uint16_t *samples, *output;
+static uint64_t head[WORDS], more[RANGE_WORDS];
+static uint16_t *samples, *output, *high;
 static int32_t *vectors;
+static uint64_t *found;
 static int64_t *work;
 static stacker_alignment answer;
 static uint64_t chosen;
@@ -27,6 +31,12 @@ static void *lent(uint64_t length, size_t size, int filled)
     if (length != 0 && (buffer == NULL || (filled && fread(buffer, size, length, stdin) != length)))
         exit(2);
     return buffer;
+}
+
+static void take(uint64_t *words, size_t count)
+{
+    if (fread(words, 8, count, stdin) != count)
+        exit(2);
 }
 
 static double number(uint64_t bits)
@@ -50,9 +60,19 @@ static stacker_noise measured(void)
     return (stacker_noise){ .shot = number(head[SHOT]), .read = number(head[READ]) };
 }
 
+static stacker_noise measured_upper(void)
+{
+    return (stacker_noise){ .shot = number(more[UPPER_SHOT]), .read = number(more[UPPER_READ]) };
+}
+
 static stacker_iso_noise at_iso(void)
 {
     return (stacker_iso_noise){ .iso = (uint32_t)head[ISO], .shot = number(head[SHOT]), .read = number(head[READ]) };
+}
+
+static stacker_iso_noise at_iso_upper(void)
+{
+    return (stacker_iso_noise){ .iso = (uint32_t)more[UPPER_ISO], .shot = number(more[UPPER_SHOT]), .read = number(more[UPPER_READ]) };
 }
 
 static stacker_tuning tuning(void)
@@ -74,6 +94,23 @@ static void merge(void)
     else
         answer.refusal = stacker_merge_iso(burst(), at_iso(), tuning(), samples, head[SAMPLES], vectors, head[VECTORS], output, head[OUTPUT],
             work, head[WORK]);
+}
+
+static void range(void)
+{
+    memset(&answer, 0, sizeof answer);
+    if (head[NOISE_KIND] == 0)
+        answer.refusal = stacker_range(burst(), measured(), measured_upper(), tuning(), samples, head[SAMPLES], vectors, head[VECTORS],
+            output, head[OUTPUT], high, more[HIGH], work, head[WORK]);
+    else
+        answer.refusal = stacker_range_iso(burst(), at_iso(), at_iso_upper(), tuning(), samples, head[SAMPLES], vectors, head[VECTORS],
+            output, head[OUTPUT], high, more[HIGH], work, head[WORK]);
+}
+
+static void residuals(void)
+{
+    memset(&answer, 0, sizeof answer);
+    answer.refusal = stacker_residuals(burst(), tuning(), samples, head[SAMPLES], vectors, head[VECTORS], found, more[RESIDUALS], work, head[WORK]);
 }
 
 static void run(void)
@@ -125,13 +162,54 @@ static void choose(void)
 
 static void (*called(const char *name))(void)
 {
-    return strcmp(name, "align") == 0 ? align : strcmp(name, "merge") == 0 ? merge : strcmp(name, "choose") == 0 ? choose : run;
+    return strcmp(name, "align") == 0 ? align : strcmp(name, "merge") == 0 ? merge : strcmp(name, "choose") == 0 ? choose
+        : strcmp(name, "range") == 0 ? range : strcmp(name, "residuals") == 0 ? residuals : run;
 }
 
 static void write_all(const void *data, size_t size)
 {
     if (size != 0 && fwrite(data, 1, size, stdout) != size)
         exit(2);
+}
+
+static void lend(void (*call)(void))
+{
+    samples = lent(head[SAMPLES], 2, 1);
+    vectors = lent(head[VECTORS], 4, 1);
+    output = lent(head[OUTPUT], 2, 1);
+    if (call == range) {
+        take(more, RANGE_WORDS);
+        high = lent(more[HIGH], 2, 1);
+    } else if (call == residuals) {
+        take(more, RESIDUAL_WORDS);
+        found = lent(more[RESIDUALS], 8, 1);
+    }
+    work = lent(head[WORK], 8, 0);
+    for (uint64_t i = 0; i < head[WORK]; i++)
+        work[i] = MARK;
+}
+
+static void write_answer(void (*call)(void))
+{
+    write_all(&answer, sizeof answer);
+    if (call == choose)
+        write_all(&chosen, sizeof chosen);
+    write_all(vectors, 4 * head[VECTORS]);
+    write_all(output, 2 * head[OUTPUT]);
+    if (call == range)
+        write_all(high, 2 * more[HIGH]);
+    else if (call == residuals)
+        write_all(found, 8 * more[RESIDUALS]);
+}
+
+static void release(void)
+{
+    free(samples);
+    free(vectors);
+    free(output);
+    free(high);
+    free(found);
+    free(work);
 }
 
 int main(int argc, char **argv)
@@ -142,28 +220,16 @@ int main(int argc, char **argv)
     unsigned long count = 0;
     size_t deepest = 0;
     for (; fread(head, 8, WORDS, stdin) == WORDS; count++) {
-        samples = lent(head[SAMPLES], 2, 1);
-        vectors = lent(head[VECTORS], 4, 1);
-        output = lent(head[OUTPUT], 2, 1);
-        work = lent(head[WORK], 8, 0);
+        lend(call);
         if (argc == 3)
             pad(strtoul(argv[2], NULL, 10));
-        for (uint64_t i = 0; i < head[WORK]; i++)
-            work[i] = MARK;
         size_t stack = stack_of(call);
         deepest = stack > deepest ? stack : deepest;
         for (uint64_t i = 0; i < head[WORK]; i++)
             if (work[i] != (answer.refusal == 0 ? 0 : MARK))
                 return 1;
-        write_all(&answer, sizeof answer);
-        if (call == choose)
-            write_all(&chosen, sizeof chosen);
-        write_all(vectors, 4 * head[VECTORS]);
-        write_all(output, 2 * head[OUTPUT]);
-        free(samples);
-        free(vectors);
-        free(output);
-        free(work);
+        write_answer(call);
+        release();
     }
     fprintf(stderr, "%lu calls on at most %zu bytes of stack\n", count, deepest);
     return deepest > STACK_MOST;

@@ -17,20 +17,21 @@
 enum { W = 64, H = 64, N = 5, DNG_W = 128 };
 
 /* The buffers; a call names those that it takes. */
-enum { SAMPLES, VECTORS, OUTPUT, WORK, BYTES, BURST_FILE, DNG_FILE, DNG_FRAME, RESIDUALS, BUFFERS };
-static const size_t element[BUFFERS] = { 2, 4, 2, 8, 1, 1, 1, 2, 8 };
-static size_t length[BUFFERS] = { N * W * H, VECTORS_OF(16), W * H, 2 * W * H, 0, 0, 0, DNG_W * H, VECTORS_OF(16) / 2 };
+enum { SAMPLES, VECTORS, OUTPUT, WORK, BYTES, BURST_FILE, DNG_FILE, DNG_FRAME, RESIDUALS, HIGH, BUFFERS };
+static const size_t element[BUFFERS] = { 2, 4, 2, 8, 1, 1, 1, 2, 8, 2 };
+static size_t length[BUFFERS] = { N * W * H, VECTORS_OF(16), W * H, 2 * W * H, 0, 0, 0, DNG_W * H, VECTORS_OF(16) / 2, W * H };
 static uint8_t *lent[BUFFERS], *held[BUFFERS];
 
 static const stacker_burst burst = { W, H, N, 0, W, { 0, 0, 0, 0 } };
 static const stacker_frames frames = { W, H, N, W, { 0, 0, 0, 0 } }, dng_frames = { DNG_W, H, 1, DNG_W, { 0, 0, 0, 0 } };
-static const stacker_noise noise = { 3.0, 100.0 };
-static const stacker_iso_noise iso = { 400, 1.0, 10.0 };
+static const stacker_noise noise = { 3.0, 100.0 }, upper = { 4.0, 200.0 };
+static const stacker_iso_noise iso = { 400, 1.0, 10.0 }, upper_iso = { 800, 1.0, 10.0 };
 static stacker_tuning tuning = STACKER_TUNING(512);
 
 #define SAMPLES_READ (const uint16_t *)lent[SAMPLES], told[SAMPLES]
 #define VECTORS_READ (const int32_t *)lent[VECTORS], told[VECTORS]
 #define WRITTEN (uint16_t *)lent[OUTPUT], told[OUTPUT], (int64_t *)lent[WORK], told[WORK]
+#define BOTH_WRITTEN (uint16_t *)lent[OUTPUT], told[OUTPUT], (uint16_t *)lent[HIGH], told[HIGH], (int64_t *)lent[WORK], told[WORK]
 #define FOUND (int32_t *)lent[VECTORS], told[VECTORS], WRITTEN
 
 static uint64_t align(const size_t *told)
@@ -45,6 +46,8 @@ static uint64_t residuals(const size_t *told)
 
 static uint64_t merge(const size_t *told) { return stacker_merge(burst, noise, tuning, SAMPLES_READ, VECTORS_READ, WRITTEN); }
 static uint64_t merge_iso(const size_t *told) { return stacker_merge_iso(burst, iso, tuning, SAMPLES_READ, VECTORS_READ, WRITTEN); }
+static uint64_t range(const size_t *told) { return stacker_range(burst, noise, upper, tuning, SAMPLES_READ, VECTORS_READ, BOTH_WRITTEN); }
+static uint64_t range_iso(const size_t *told) { return stacker_range_iso(burst, iso, upper_iso, tuning, SAMPLES_READ, VECTORS_READ, BOTH_WRITTEN); }
 static uint64_t run(const size_t *told) { return stacker_run(burst, noise, tuning, SAMPLES_READ, FOUND).refusal; }
 static uint64_t run_iso(const size_t *told) { return stacker_run_iso(burst, iso, tuning, SAMPLES_READ, FOUND).refusal; }
 static uint64_t sharpest(const size_t *told) { return stacker_run_sharpest(frames, noise, tuning, SAMPLES_READ, FOUND).alignment.refusal; }
@@ -86,6 +89,8 @@ static const struct {
     { "stacker_merge", merge, { [SAMPLES] = 4, [VECTORS] = 5, [OUTPUT] = 6, [WORK] = 7 } },
     { "stacker_merge_iso", merge_iso, { [SAMPLES] = 4, [VECTORS] = 5, [OUTPUT] = 6, [WORK] = 7 } },
     { "stacker_residuals", residuals, { [SAMPLES] = 4, [VECTORS] = 5, [RESIDUALS] = 6, [WORK] = 7 } },
+    { "stacker_range", range, { [SAMPLES] = 4, [VECTORS] = 5, [OUTPUT] = 6, [HIGH] = 6, [WORK] = 7 } },
+    { "stacker_range_iso", range_iso, { [SAMPLES] = 4, [VECTORS] = 5, [OUTPUT] = 6, [HIGH] = 6, [WORK] = 7 } },
     { "stacker_run", run, { [SAMPLES] = 4, [VECTORS] = 5, [OUTPUT] = 6, [WORK] = 7 } },
     { "stacker_run_iso", run_iso, { [SAMPLES] = 4, [VECTORS] = 5, [OUTPUT] = 6, [WORK] = 7 } },
     { "stacker_run_sharpest", sharpest, { [SAMPLES] = 4, [VECTORS] = 5, [OUTPUT] = 6, [WORK] = 7 } },
@@ -180,6 +185,9 @@ static int each_call(void)
 {
     int tried = 0;
     for (size_t c = 0; c < sizeof calls / sizeof *calls; c++) {
+        /* low and high are for tiles of side 16 alone */
+        if (calls[c].number[HIGH] != NOT_TAKEN && tuning.side != 16)
+            continue;
         snprintf(trying, sizeof trying, "tests: pages: %s: right lengths: ", calls[c].name);
         if (calls[c].call(length) != 0) {
             fprintf(stderr, "%srefused\n", trying);

@@ -22,8 +22,8 @@ from typing import Any, List, NamedTuple, Optional, Sequence, Tuple, Union
 from . import _calls
 from ._calls import library
 
-__all__ = ['Aligned', 'Burst', 'Frame', 'Merged', 'REFUSALS', 'Refused', 'SIDE', 'STRENGTH', 'align', 'merge', 'noise_number', 'read_burst', 'read_dng',
-           'read_pgm', 'run', 'write_pgm']
+__all__ = ['Aligned', 'Burst', 'Frame', 'Merged', 'REFUSALS', 'Range', 'Refused', 'SIDE', 'STRENGTH', 'align', 'merge', 'merge_range', 'noise_number',
+           'read_burst', 'read_dng', 'read_pgm', 'residuals', 'run', 'write_pgm']
 
 STRENGTH = 600  # document 002's tau = 75, in eighths
 SIDE = 16  # of tiles, in places of a plane; 32 is for very dark scenes
@@ -55,6 +55,11 @@ class Merged(NamedTuple):
     residuals: List[int]
     rows: int
     reference: int  #: index of the frame that the others were merged on
+
+
+class Range(NamedTuple):
+    low: memoryview  #: (H, W) of uint16
+    high: memoryview
 
 
 class Frame(NamedTuple):
@@ -160,6 +165,19 @@ def merge(frames: Buffer, vectors: Buffer, *, noise: Noise, iso: Optional[int] =
                           *_lent(output), *_lent(lent.work()))
     _accepted(number, 'merge')
     return output
+
+
+def merge_range(frames: Buffer, vectors: Buffer, *, lower: Noise, upper: Noise, iso: Optional[Tuple[int, int]] = None, strength: int = STRENGTH,
+                reference: int = 0, width: Optional[int] = None, black: Levels = (0, 0, 0, 0)) -> Range:
+    """Where the noise is known only between two curves: `merge` with any curve between `lower` and `upper` gives a frame that lies between low and high at each
+    sample. With `iso` these are curves for ISO 100, each with its own number. Vectors are those of side 16."""
+    lent, moves = _Lent(frames, width, black), _words(vectors, 'i', memoryview(vectors).ndim, 'vectors')
+    low, high = lent.output(), lent.output()
+    ends = [_calls.noise(curve, number) for curve, number in zip((lower, upper), iso or (None, None))]
+    number = _calls.merge_range(lent.burst(reference), *ends, _calls.tuning(strength, SIDE, 0), *_lent(lent.view), *_lent(moves), *_lent(low),
+                                *_lent(high), *_lent(lent.work()))
+    _accepted(number, 'merge_range')
+    return Range(low, high)
 
 
 def run(frames: Buffer, *, noise: Noise, iso: Optional[int] = None, strength: int = STRENGTH, side: int = SIDE, spatial: int = 0,

@@ -61,6 +61,8 @@ _CALLS = {
     'stacker_residuals': (u64, [Burst, Tuning] + 4 * _LENT),
     'stacker_merge': (u64, [Burst, Noise, Tuning] + 4 * _LENT),
     'stacker_merge_iso': (u64, [Burst, IsoNoise, Tuning] + 4 * _LENT),
+    'stacker_range': (u64, [Burst, Noise, Noise, Tuning] + 5 * _LENT),
+    'stacker_range_iso': (u64, [Burst, IsoNoise, IsoNoise, Tuning] + 5 * _LENT),
     'stacker_run': (Alignment, [Burst, Noise, Tuning] + 4 * _LENT),
     'stacker_run_iso': (Alignment, [Burst, IsoNoise, Tuning] + 4 * _LENT),
     'stacker_run_sharpest': (Choice, [Frames, Noise, Tuning] + 4 * _LENT),
@@ -127,6 +129,10 @@ def residuals(told: Burst, *rest: Any) -> int:
 
 def merge(told: Burst, curve: Any, *rest: Any) -> int:
     return _by_noise('stacker_merge', told, curve, *rest)
+
+
+def merge_range(told: Burst, lower: Any, *rest: Any) -> int:
+    return _by_noise('stacker_range', told, lower, *rest)
 
 
 def run(told: Burst, curve: Any, *rest: Any) -> Alignment:

@@ -44,6 +44,18 @@ class Calls(unittest.TestCase):
             self.assertEqual(each.shape, (COUNT - 1, HEIGHT // side + 1, WIDTH // side + 1))
             self.assertEqual([sum(sum(row) for row in frame) for frame in each.tolist()], found.residuals)
 
+    def test_range(self):
+        frames = made()
+        vectors = stacker.align(frames).vectors
+        low, high = stacker.merge_range(frames, vectors, lower=(2, 50), upper=(4, 200))
+        self.assertNotEqual(low, high)
+        for noise in (2, 50), (4, 50), (3, 100), (2, 200), (4, 200):
+            rows = zip(low.tolist(), stacker.merge(frames, vectors, noise=noise).tolist(), high.tolist())
+            self.assertTrue(all(a <= b <= c for row in rows for a, b, c in zip(*row)))
+        merged = stacker.merge(frames, vectors, noise=(2, 16))
+        self.assertEqual(stacker.merge_range(frames, vectors, lower=(2, 16), upper=(2, 16)), (merged, merged))
+        self.assertEqual(stacker.merge_range(frames, vectors, lower=(1, 4), upper=(2, 16), iso=(200, 100)), (merged, merged))
+
     def test_lone_frame_comes_back(self):
         frames = made(1)
         done = stacker.run(frames, noise=(3, 100))
@@ -120,6 +132,8 @@ class Refusals(unittest.TestCase):
         far_vectors = memoryview(bytearray(stacker.align(frames).vectors)).cast('i')
         far_vectors[0] = 173
         self.refused(12, stacker.merge, frames, far_vectors, noise=(3, 100))
+        self.refused(26, stacker.merge_range, frames, stacker.align(frames).vectors, lower=(3, 100), upper=(4, 99))
+        self.refused(5, stacker.merge_range, frames, stacker.align(frames, side=32).vectors, lower=(3, 100), upper=(3, 100))
 
     def test_types(self):
         for wrong in (b'', array.array('H', [1, 2]), memoryview(bytearray(8)).cast('I', (1, 1, 2))):

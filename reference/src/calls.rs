@@ -95,7 +95,7 @@ impl Call {
         Ok(self.setting_with(side, noise))
     }
 
-    fn setting_with(&self, side: Side, noise: NoiseModel) -> Setting<'_> {
+    pub fn setting_with(&self, side: Side, noise: NoiseModel) -> Setting<'_> {
         Setting {
             burst: &self.burst,
             vectors: &self.vectors,
@@ -123,11 +123,7 @@ impl Call {
     /// 84 and 172, so run has no 12.
     fn check_run(&self) -> Result<(Side, NoiseModel), Refusal> {
         let side = self.check_burst()?;
-        let length = self.output.len() as u64;
-        require(
-            length == self.burst.shape.output_length(),
-            Refusal::OutputLength,
-        )?;
+        self.check_output_length(&self.output)?;
         self.check_work_length()?;
         let noise = self.noise.model(self.tuning)?;
         self.check_black()?;
@@ -137,11 +133,22 @@ impl Call {
     }
 
     /// Refusals 1, 2, 3, 22, 23, 4 and 5.
-    fn check_burst(&self) -> Result<Side, Refusal> {
-        let shape = self.burst.shape;
-        shape.check()?;
-        shape.check_reference(self.burst.reference)?;
+    pub fn check_burst(&self) -> Result<Side, Refusal> {
+        self.check_frames()?;
         let side = Side::of(self.tuning.side)?;
+        self.check_lengths(side)?;
+        Ok(side)
+    }
+
+    /// Refusals 1, 2 and 3.
+    pub fn check_frames(&self) -> Result<(), Refusal> {
+        self.burst.shape.check()?;
+        self.burst.shape.check_reference(self.burst.reference)
+    }
+
+    /// Refusals 23, 4 and 5.
+    pub fn check_lengths(&self, side: Side) -> Result<(), Refusal> {
+        let shape = self.burst.shape;
         shape.check_row_length()?;
         let samples = self.burst.samples.len() as u64;
         require(samples == shape.samples_length(), Refusal::SamplesLength)?;
@@ -149,12 +156,20 @@ impl Call {
         require(
             vectors == shape.vectors_length(side),
             Refusal::VectorsLength,
-        )?;
-        Ok(side)
+        )
+    }
+
+    /// Refusal 6 of a lent frame.
+    pub fn check_output_length(&self, output: &[u16]) -> Result<(), Refusal> {
+        let length = output.len() as u64;
+        require(
+            length == self.burst.shape.output_length(),
+            Refusal::OutputLength,
+        )
     }
 
     /// Refusal 7.
-    fn check_work_length(&self) -> Result<(), Refusal> {
+    pub fn check_work_length(&self) -> Result<(), Refusal> {
         require(
             self.work_length == self.burst.shape.work_length(),
             Refusal::WorkLength,
@@ -162,19 +177,19 @@ impl Call {
     }
 
     /// Refusal 18: "a black level above 255".
-    fn check_black(&self) -> Result<(), Refusal> {
+    pub fn check_black(&self) -> Result<(), Refusal> {
         let allowed = self.burst.black.iter().all(|&black| black <= 255);
         require(allowed, Refusal::BlackLevel)
     }
 
     /// Refusal 11: "sample > 4095". "Spare words may hold anything."
-    fn check_samples(&self) -> Result<(), Refusal> {
+    pub fn check_samples(&self) -> Result<(), Refusal> {
         let mut samples = self.burst.rows().flatten();
         require(samples.all(|&sample| sample <= 4095), Refusal::Sample)
     }
 
     /// Refusal 12: "vector part outside −172..172".
-    fn check_vectors(&self) -> Result<(), Refusal> {
+    pub fn check_vectors(&self) -> Result<(), Refusal> {
         let mut parts = self.vectors.iter();
         require(
             parts.all(|part| (-172..=172).contains(part)),

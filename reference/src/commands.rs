@@ -7,12 +7,14 @@ mod exact;
 mod files;
 mod lines;
 mod pgm;
+mod range;
+mod residuals;
 mod wire;
 
 use reference::calls::Call;
 use reference::cases::cases;
 use reference::programs::{motion, stack};
-use reference::{filtered_calls, fixed_calls, lone_sample, moving_files};
+use reference::{filtered_calls, fixed_calls, lone_sample, moving_files, range_calls, scenes};
 use std::error::Error;
 use std::iter::once;
 use std::num::ParseIntError;
@@ -34,6 +36,8 @@ pub fn dispatch(arguments: &[String]) -> Outcome {
         ["merge"] => calls::merge_each(Call::merge),
         ["run"] => calls::merge_each(Call::run),
         ["choose"] => calls::choose_each(),
+        ["range"] => range::answer_each(),
+        ["residuals"] => residuals::answer_each(),
         ["write-pgm"] => pgm::answer_writings(),
         ["read-pgm"] => pgm::answer_readings(),
         ["read-dng"] => dng::answer_readings(),
@@ -63,6 +67,20 @@ pub fn dispatch(arguments: &[String]) -> Outcome {
         ["filtered-calls", width, height, round] => {
             let calls = filtered_calls::of_size(width.parse()?, height.parse()?, round.parse()?);
             data::write_each(calls)
+        }
+        ["range-calls"] => range::put_each(range_calls::calls()),
+        ["range-calls", "aimed"] => range::put_each(range_calls::aimed()),
+        ["range-calls", width, height, round] => {
+            let calls = range_calls::of_size(width.parse()?, height.parse()?, round.parse()?);
+            range::put_each(calls)
+        }
+        ["random-ranges", side, count, seed] => {
+            let calls = range_calls::random(side.parse()?, count.parse()?, seed.parse()?);
+            range::put_each(calls)
+        }
+        ["residual-calls"] => residuals::put_each(fixed_calls::calls()),
+        ["residual-calls", side, count, seed] => {
+            residuals::put_each(scenes::calls(side.parse()?, count.parse()?, seed.parse()?))
         }
         ["fixed-places", side, width, height, round] => {
             data::write_with_places(fixed_of_size([side, width, height, round])?, 8)

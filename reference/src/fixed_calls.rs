@@ -171,6 +171,11 @@ pub fn pedestals() -> impl Iterator<Item = Call> {
     })
 }
 
+/// A good call of two frames of 64 by 64 without spare words.
+pub fn two_frames() -> Call {
+    call(0, Shape::packed(64, 64, 2), 1, &mut Random::new(5))
+}
+
 /// Row lengths at their limits and beyond, samples that are too great at the ends of rows, and lengths that leave out
 /// spare words.
 pub fn row_lengths() -> impl Iterator<Item = Call> {
@@ -219,7 +224,7 @@ pub fn faults_beside_black() -> impl Iterator<Item = Call> {
 
 /// Without shot noise V is t·Lr, or a quarter of it for side 32: powers of two from 2^22 to 2^30, and the number next below
 /// and next above each, where the strength leaves one; differences of every size.
-fn noise_numbers() -> impl Iterator<Item = Call> {
+pub fn noise_numbers() -> impl Iterator<Item = Call> {
     let shape = Shape::packed(128, 64, 2);
     let mut random = Random::new(6);
     let powers = [4, 16, 32, 64, 256, 512, 1024];
@@ -249,7 +254,7 @@ fn noise_numbers() -> impl Iterator<Item = Call> {
 
 /// A white reference at strength 1024, where V is 4095·Ls + Lr times 1024, or times 256 for side 32: 2^31 and 2^33, the next
 /// below and above each, and the greatest V; differences of every size.
-fn white_references(side: u64) -> impl Iterator<Item = Call> {
+pub fn white_references(side: u64) -> impl Iterator<Item = Call> {
     let shape = Shape::packed(128, 64, 2);
     let mut random = Random::new(8);
     let levels = [1 << 31, 1 << 33].into_iter().flat_map(move |number: u64| {
@@ -276,7 +281,7 @@ fn white_references(side: u64) -> impl Iterator<Item = Call> {
 }
 
 /// Frames of noise with one or two of the reference's planes black: without read noise V is 0 there, and not beside them.
-fn dark_planes() -> impl Iterator<Item = Call> {
+pub fn dark_planes() -> impl Iterator<Item = Call> {
     let shape = Shape::packed(64, 64, 3);
     let mut random = Random::new(7);
     (1..16).map(move |planes| {

@@ -4,6 +4,7 @@
 #![forbid(unsafe_code)]
 
 pub mod align;
+pub mod between;
 pub mod burst;
 pub mod calls;
 pub mod cases;
@@ -29,7 +30,12 @@ pub mod pictures;
 pub mod programs;
 pub mod pyramid;
 pub mod random;
+pub mod range;
+pub mod range_call;
+pub mod range_calls;
+pub mod range_faults;
 pub mod refusal;
+pub mod residuals;
 pub mod scenes;
 pub mod shape;
 pub mod sharpness;

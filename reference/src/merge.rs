@@ -3,6 +3,7 @@
 use crate::burst::Burst;
 use crate::image::Image;
 use crate::noise::{whole_root, NoiseModel};
+use crate::shape::Shape;
 use crate::side::{Side, SIXTEEN};
 use crate::square::Square;
 use crate::transform::{forward, inverse, rounded, Bins, Complex, Tile};
@@ -113,12 +114,9 @@ impl Plane<'_> {
     /// The sum over the other frames of P for the tile with these indices.
     fn corrections(&self, row: i64, column: i64) -> Tile {
         let noise = self.noise_number(row, column);
-        let mut sum = Square::filled(self.side().length, 0);
-        for difference in self.differences(row, column) {
-            let correction = correction(self.side(), &difference, noise);
-            sum = Square::from_fn(sum.side(), |y, x| sum[(y, x)] + correction[(y, x)]);
-        }
-        sum
+        let differences = self.differences(row, column).into_iter();
+        let corrections = differences.map(|tile| correction(self.side(), &tile, noise));
+        sum_of(self.side(), corrections)
     }
 
     /// The same with the spatial filter, whose correction counts N times: it is subtracted from the merged tile, to which
@@ -148,7 +146,12 @@ impl Plane<'_> {
 
     /// The merged plane.
     fn merged(&self) -> Image {
-        let tiles = self.for_tiles(|row, column| self.filtered_corrections(row, column));
+        self.merged_by(|row, column| self.filtered_corrections(row, column))
+    }
+
+    /// The plane from which the tiles' corrections, each a sum over the other frames, are taken.
+    pub fn merged_by(&self, corrections: impl Fn(i64, i64) -> Tile) -> Image {
+        let tiles = self.for_tiles(corrections);
         let count = self.count();
         let merged = |row, column| {
             let term = |cover: Cover| {
@@ -163,6 +166,13 @@ impl Plane<'_> {
         };
         Image::from_fn(self.reference.width, self.reference.height, merged)
     }
+}
+
+/// The sum of tiles, place by place.
+pub fn sum_of(side: Side, tiles: impl Iterator<Item = Tile>) -> Tile {
+    tiles.fold(Square::filled(side.length, 0), |sum, tile| {
+        Square::from_fn(side.length, |y, x| sum[(y, x)] + tile[(y, x)])
+    })
 }
 
 /// A tile's indices, and a sample's place inside it.
@@ -194,11 +204,16 @@ pub fn covering_tiles(side: Side, row: i64, column: i64) -> [Cover; 4] {
 /// The merged frame, row by row.
 pub fn merge(setting: &Setting) -> Vec<u16> {
     let planes = setting.planes().map(|plane| plane.merged());
-    let shape = setting.burst.shape;
-    let frame = Image::from_fn(shape.width as i64, shape.height as i64, |row, column| {
-        planes[(2 * (row % 2) + column % 2) as usize].at(row / 2, column / 2)
-    });
-    frame.into_samples()
+    frame(setting.burst.shape, |plane| &planes[plane])
+}
+
+/// The frame of four planes, row by row.
+pub fn frame<'a>(shape: Shape, plane: impl Fn(usize) -> &'a Image) -> Vec<u16> {
+    let sample = |row: i64, column: i64| {
+        let plane = plane((2 * (row % 2) + column % 2) as usize);
+        plane.at(row / 2, column / 2)
+    };
+    Image::from_fn(shape.width as i64, shape.height as i64, sample).into_samples()
 }
 
 /// "r = floor of the root of the sum of T0 squared: the RMS in sixteenths", or "in thirty-seconds", where "each reference sample counts as the
@@ -220,7 +235,7 @@ pub fn correction(side: Side, difference: &Tile, noise: u64) -> Tile {
 }
 
 /// "Q = B/2^24 (sixteenths), each part to nearest, halves away from zero", or "in quarters".
-fn rounded_bins(side: Side, difference: &Tile) -> Bins {
+pub fn rounded_bins(side: Side, difference: &Tile) -> Bins {
     let divisor = (1 << 28) / side.bin_parts;
     forward(side, difference).map(|bin| bin.map(|&part| rounded(part, divisor)))
 }

@@ -34,19 +34,23 @@ impl Noise {
 
     /// The levels, or refusal 8 or 9.
     pub fn levels(self) -> Result<Levels, Refusal> {
-        let curve = self.curve()?;
-        require(
-            curve.shot <= 64.0 && curve.read <= 4096.0,
-            Refusal::NoiseLimit,
-        )?;
-        Ok(Levels {
-            shot: floor_of_1024_times(curve.shot),
-            read: floor_of_1024_times(curve.read),
-        })
+        self.curve()?.levels()
+    }
+
+    /// Noise of the same kind, with shot and read as given taken so many times.
+    pub fn scaled_by(self, [shot, read]: [f64; 2]) -> Noise {
+        let scaled = |curve: Curve| Curve {
+            shot: shot * curve.shot,
+            read: read * curve.read,
+        };
+        match self {
+            Noise::Curve(curve) => Noise::Curve(scaled(curve)),
+            Noise::Iso(iso, curve) => Noise::Iso(iso, scaled(curve)),
+        }
     }
 
     /// The curve after ISO scaling, or refusal 8, which tests the values as given.
-    fn curve(self) -> Result<Curve, Refusal> {
+    pub fn curve(self) -> Result<Curve, Refusal> {
         match self {
             Noise::Curve(curve) => {
                 require(curve.valid(), Refusal::NoiseValue)?;
@@ -68,6 +72,18 @@ impl Curve {
             shot: levels.shot as f64 / 1024.0,
             read: levels.read as f64 / 1024.0,
         }
+    }
+
+    /// The levels of a curve after ISO, or refusal 9.
+    pub fn levels(self) -> Result<Levels, Refusal> {
+        require(
+            self.shot <= 64.0 && self.read <= 4096.0,
+            Refusal::NoiseLimit,
+        )?;
+        Ok(Levels {
+            shot: floor_of_1024_times(self.shot),
+            read: floor_of_1024_times(self.read),
+        })
     }
 
     /// Neither part is "negative or not finite"; "negative zero is zero".
@@ -109,7 +125,7 @@ impl Tuning {
     }
 
     /// Refusal 10.
-    fn check_strength(&self) -> Result<(), Refusal> {
+    pub fn check_strength(&self) -> Result<(), Refusal> {
         require(self.strength <= 1024, Refusal::Strength)
     }
 

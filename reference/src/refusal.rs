@@ -28,6 +28,7 @@ pub enum Refusal {
     RowLength = 23,
     Spatial = 24,
     SpatialSide = 25,
+    Range = 26,
 }
 
 impl Refusal {

@@ -2,7 +2,7 @@
 //! beside side 32.
 
 use crate::calls::Call;
-use crate::fixed_calls;
+use crate::fixed_calls::two_frames;
 
 pub fn calls() -> impl Iterator<Item = Call> {
     refused_sides()
@@ -11,16 +11,10 @@ pub fn calls() -> impl Iterator<Item = Call> {
         .chain(changed(filters_beside_side_32()))
 }
 
-/// Two frames of 64 by 64.
-fn good() -> Call {
-    let mut calls = fixed_calls::of_size(16, 64, 64, 0);
-    calls.nth(1).expect("a call of two frames")
-}
-
 fn refused_sides() -> impl Iterator<Item = Call> {
     let sides = [0, 1, 8, 15, 17, 31, 33, 64, 1 << 32 | 16, u64::MAX];
     sides.into_iter().map(|side| {
-        let mut call = good();
+        let mut call = two_frames();
         call.set_side(side);
         call
     })
@@ -29,7 +23,7 @@ fn refused_sides() -> impl Iterator<Item = Call> {
 /// Good calls, each with one of these changes.
 fn changed(changes: Vec<fn(&mut Call)>) -> impl Iterator<Item = Call> {
     changes.into_iter().map(|change| {
-        let mut call = good();
+        let mut call = two_frames();
         change(&mut call);
         call
     })

@@ -5,6 +5,7 @@ pub mod dng_file;
 pub mod file;
 pub mod merge;
 pub mod netpbm;
+pub mod range;
 pub mod residuals;
 pub mod run;
 pub mod text;

@@ -63,7 +63,7 @@ fn beside_imaginary(w: &[[i64; 32]; 16], u: usize, l: usize) -> i64
 }
 
 // The real part of bin u of lane l.
-fn bin_re(w: &[[i64; 32]; 16], u: usize, l: usize) -> i64
+pub fn bin_re(w: &[[i64; 32]; 16], u: usize, l: usize) -> i64
     requires { ⌜ record { places-most : TileMost copyPlaceMost (now w); u-below : u < 16; l-below : l < 18 } ⌝ }
     ensures { λ r. ⌜ (r ≡ tileRe (linesIn (now (w .entry)) (l % 2)) u (l / 2)) × (AtMost copyBinMost r) ⌝ }
 {
@@ -71,7 +71,7 @@ fn bin_re(w: &[[i64; 32]; 16], u: usize, l: usize) -> i64
 }
 
 // Its imaginary part.
-fn bin_im(w: &[[i64; 32]; 16], u: usize, l: usize) -> i64
+pub fn bin_im(w: &[[i64; 32]; 16], u: usize, l: usize) -> i64
     requires { ⌜ record { places-most : TileMost copyPlaceMost (now w); u-below : u < 16; l-below : l < 18 } ⌝ }
     ensures { λ r. ⌜ (r ≡ tileIm (linesIn (now (w .entry)) (l % 2)) u (l / 2)) × (AtMost copyBinMost r) ⌝ }
 {

@@ -3,7 +3,7 @@
 mod adding;
 mod copying;
 mod folds;
-mod gains;
+pub mod gains;
 mod lanes;
 mod parts;
 mod places;

@@ -10,8 +10,10 @@ use Rattle.tiles.specs.Rows.{rowWords, Stored}
 use Rattle.tiles.specs.Places.{by-side}
 use Rattle.gather.specs.Work.{Inside, Over, rowSpan, wordFrom}
 use Rattle.merging.specs.Progress.{Held, RowsMerged, BandMerged}
-use Rattle.merging.proofs.Holding.{slot-room, stored-held, held-kept, next-room, output-word}
-use Rattle.merging.proofs.Advance.{rows-start, rows-on, row-merged}
+use Rattle.gather.specs.HoldLaws.{slot-room}
+use Rattle.gather.specs.RowLaws.{rows-start, rows-on}
+use Rattle.merging.proofs.Holding.{stored-held, held-kept, next-room, output-word}
+use Rattle.merging.proofs.Advance.{row-merged}
 
 -- rows of a band
 module _ {n : ℕ} (t : TileSide n) where
@@ -97,7 +99,7 @@ module _ {m : Merge} {samples : List ℕ} {vectors : List ℤ} {rowParity first 
           rows =
               subst (λ b. RowsMerged (sceneOf m samples vectors) (m .shape .side * first) rowParity (m .shape .side / 2 * band) b l o) (omega arith)
               (rows-on (w .rows)
-              (row-merged parity (band-under (ok .burst .sided) first band i rowParity from-first) (band-room long)
+              (row-merged (sceneOf m samples vectors) parity (band-under (ok .burst .sided) first band i rowParity from-first) (band-room long)
               (λ c k. output-word m samples vectors rowParity work y (m .shape .side * first) c (ok .burst .sided) (a .wide) k upper-held lower-held) is));
           upper = w .upper;
           lower = w .lower;

@@ -64,7 +64,7 @@ fn invalid_iso(iso: u32) -> bool
 }
 
 // The condition of refusal 8.
-fn invalid_noise(noise: Noise) -> bool
+pub fn invalid_noise(noise: Noise) -> bool
     ensures { λ r. ⌜ r ≡ invalidNoise noise ⌝ }
 {
     match noise {
@@ -83,7 +83,7 @@ const SHOT_MOST: f64 = 64.0;
 const READ_MOST: f64 = 4096.0;
 
 // The condition of refusal 9.
-fn above_limits(curve: Curve) -> bool
+pub fn above_limits(curve: Curve) -> bool
     ensures { λ r. ⌜ r ≡ aboveLimits curve ⌝ }
 {
     if curve.shot > SHOT_MOST {

@@ -1,5 +1,5 @@
 // The noise of a burst: its levels Ls and Lr, a tile's noise number V, and V' of its bins.
-mod level;
+pub mod level;
 pub mod spatial;
 
 ghost use mathlib.Core.Path.{_≡_};

@@ -100,3 +100,7 @@ spatialStrength = 24
 -- "25, s not 0 with side 32" (request L13)
 abbrev pub filteredSide : ℕ
 filteredSide = 25
+
+-- "26, a lower shot or read above its upper one after ISO" (request L14)
+abbrev pub noiseRange : ℕ
+noiseRange = 26

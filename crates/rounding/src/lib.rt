@@ -5,7 +5,7 @@ ghost use lib.IntN.{pos, natAbs, negℤ};
 ghost use Rattle.algebra.specs.Nearest.{away, upward};
 
 // |z|
-fn magnitude(z: i64) -> u64
+pub fn magnitude(z: i64) -> u64
     requires { ⌜ natAbs z < 2 ^ 63 ⌝ }
     ensures { λ r. ⌜ r ≡ natAbs z ⌝ }
 {

@@ -8,3 +8,5 @@ pub mod Choosing
 pub mod ChoosingLaws
 pub mod Residuals
 pub mod ResidualLaws
+pub mod Ranged
+pub mod RangedLaws

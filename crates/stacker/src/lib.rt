@@ -2,6 +2,7 @@
 pub mod align;
 pub mod choose;
 pub mod merge;
+pub mod noise_range;
 pub mod residuals;
 pub mod run;
 

@@ -2,7 +2,7 @@
 use Rattle.algebra.specs.Prelude.{_≡_, List, ℕ, _+_, _-_, _*_, _/_, _%_, _≤_, _<_, length, getD, ℤ, pos, natAbs}
 use Rattle.sequences.specs.Write.{written}
 use Rattle.recipe.specs.Scene.{Scene}
-use Rattle.tiles.specs.Sum.{takenIn, takenMost}
+use Rattle.tiles.specs.Sum.{takenIn, takenMost, Taking}
 use Rattle.tiles.specs.Toward.{Toward}
 
 -- A block is as many words of a frame's row as from one pair of tiles to the next; it lies in two pairs of a row, the left half of the later one and the right
@@ -15,17 +15,17 @@ slotOf side width row = row % 2 * rowWords side width
 
 -- Word c of row i of half h: half 2·b + u is over block b, for u = 0 the left half of pair b + 1, for u = 1 the right half of pair b. Column x of the tile of
 -- column parity p is place 2·x + p of a pair.
-unfoldable pub halfWord : (side : ℕ) → Scene → (rowParity row h i c : ℕ) → ℤ
-halfWord side s rowParity row h i c = takenIn s rowParity (c % 2) row (h / 2 + 1 - h % 2) i (c / 2 + h % 2 * (side / 2))
+unfoldable pub halfWord : (side : ℕ) → Taking → (rowParity row h i c : ℕ) → ℤ
+halfWord side taken rowParity row h i c = taken rowParity (c % 2) row (h / 2 + 1 - h % 2) i (c / 2 + h % 2 * (side / 2))
 
 -- word k of the row, half after half, each row by row
-unfoldable pub rowWord : (side : ℕ) → Scene → (rowParity row k : ℕ) → ℤ
-rowWord side s rowParity row k = halfWord side s rowParity row (k / (side * side)) (k % (side * side) / side) (k % side)
+unfoldable pub rowWord : (side : ℕ) → Taking → (rowParity row k : ℕ) → ℤ
+rowWord side taken rowParity row k = halfWord side taken rowParity row (k / (side * side)) (k % (side * side) / side) (k % side)
 
--- l is d with a row of pairs stored
+-- l is d with a row of pairs of a merge stored
 pub record Stored (side : ℕ) (s : Scene) (rowParity row : ℕ) (d l : List ℤ) : Type 0 where
-  pub is : l ≡ written d (slotOf side (s .width) row) (rowWord side s rowParity row) (rowWords side (s .width))
-  pub most : (k : ℕ) → k < rowWords side (s .width) → natAbs (rowWord side s rowParity row k) ≤ takenMost
+  pub is : l ≡ written d (slotOf side (s .width) row) (rowWord side (takenIn s) rowParity row) (rowWords side (s .width))
+  pub most : (k : ℕ) → k < rowWords side (s .width) → natAbs (rowWord side (takenIn s) rowParity row k) ≤ takenMost
 
 -- the words f i j, j below n, of the first `count` lines, each `step` words after the one before, are the words g there
 abbrev pub Fits : (f : ℕ → ℕ → ℤ) (at step n count : ℕ) (g : ℕ → ℤ) → Type 0

@@ -38,7 +38,15 @@ takenIn s rowParity columnParity a b = takenAt (s .side) (s .others) (tileHere s
 abbrev pub takenMost : ℕ
 takenMost = 2 ^ 33
 
+-- numbers of this kind, those of a merge or others: at row i and column j of the tile of row a and column b
+abbrev pub Taking : Type 0
+Taking = (rowParity columnParity a b i j : ℕ) → ℤ
+
 -- r is what is taken from a pair
-pub record Taken (side : ℕ) (s : Scene) (t : Site) (r : List (List ℤ)) : Type 0 where
-  pub is : r ≡ grid side (2 * side) (sideBySide (λ p. takenIn s (t .«row_parity») p (t .row) (t .column)))
-  pub most : (i l : ℕ) → i < side → l < 2 * side → natAbs (sideBySide (λ p. takenIn s (t .«row_parity») p (t .row) (t .column)) i l) ≤ takenMost
+pub record PairTaken (side : ℕ) (taken : Taking) (t : Site) (r : List (List ℤ)) : Type 0 where
+  pub is : r ≡ grid side (2 * side) (sideBySide (λ p. taken (t .«row_parity») p (t .row) (t .column)))
+  pub most : (i l : ℕ) → i < side → l < 2 * side → natAbs (sideBySide (λ p. taken (t .«row_parity») p (t .row) (t .column)) i l) ≤ takenMost
+
+-- by a merge
+abbrev pub Taken : (side : ℕ) → Scene → Site → List (List ℤ) → Type 0
+Taken side s = PairTaken side (takenIn s)

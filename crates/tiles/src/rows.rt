@@ -39,7 +39,7 @@ fn store_half(work: &mut [i64], at: usize, tile: &[[i64; PAIR_WIDTH]; SIDE], fro
 }
 
 // The left half of pair `column` of a row whose words start at `start`, unless it lies outside the frame.
-fn store_left(work: &mut [i64], start: usize, column: usize, tile: &[[i64; PAIR_WIDTH]; SIDE])
+pub fn store_left(work: &mut [i64], start: usize, column: usize, tile: &[[i64; PAIR_WIDTH]; SIDE])
     requires { ⌜ start + 512 * column ≤ length (now work) ⌝ }
     ensures { λ _. ⌜ Spread (0 < column) (λ i j. cell (pos 0) (now (tile .entry)) i (0 + j)) (start + 512 * (column - 1)) 16 16 16 (now (work .entry)) (now (work .exit)) ⌝ }
 {
@@ -50,7 +50,7 @@ fn store_left(work: &mut [i64], start: usize, column: usize, tile: &[[i64; PAIR_
 }
 
 // The right half likewise, of a row of `blocks` blocks.
-fn store_right(
+pub fn store_right(
     work: &mut [i64],
     start: usize,
     blocks: usize,

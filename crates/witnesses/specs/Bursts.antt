@@ -80,7 +80,7 @@ unfolding plain mergeRefusal runTests contentTests mergeShapeTests frameTests bu
 merge-refuses = refl
 
 -- the figure's samples pass 11
-samples-small : sampleRefusal shape burst ≡ 0
+pub samples-small : sampleRefusal shape burst ≡ 0
 unfolding plain
 samples-small =
     samples-pass shape burst (values-samples shape (record { most = append-most 4095 (plain 0) (plain 4) (replicate-most 4095 4096 0 (lit≤ tt)) (replicate-most 4095 4096 4 (lit≤ tt)) }))
@@ -144,7 +144,7 @@ unfolding vectorRefusal some
 residual-number = sym (residual-decided vectors refl)
 
 -- what they leave, by their contracts
-cleared : {number : ℕ} {work′ : List ℤ} → number ≡ 0 → work′ ≡ after number work (zeros work) → work′ ≡ replicate 8192 (pos 0)
+pub cleared : {number : ℕ} {work′ : List ℤ} → number ≡ 0 → work′ ≡ after number work (zeros work) → work′ ≡ replicate 8192 (pos 0)
 unfolding zeros
 cleared {number} z e = result-made number work (zeros work) z e ∙ ap (λ n. replicate n (pos 0)) (length-replicate 8192 (pos 5))
 
@@ -160,7 +160,7 @@ pub align-accepts : {vectors′ work′ : List ℤ} {r : Alignment} → Aligned 
     (r ≡ answer) × (vectors′ ≡ replicate 50 (pos 0)) × (work′ ≡ replicate 8192 (pos 0))
 align-accepts c = (answer-is align-number (c .answer), result-made (alignNumber figure) vectors _ align-number (c .found) ∙ vectors-0, cleared align-number (c .clean))
 
-frame-2 : (vectors : List ℤ) → merged (sceneOf (mergeOf shape 0 dark full) burst vectors) ≡ plain 2
+pub frame-2 : (vectors : List ℤ) → merged (sceneOf (mergeOf shape 0 dark full) burst vectors) ≡ plain 2
 unfolding levelsOf noiseTests first after invalidNoise invalidCurve aboveLimits
 frame-2 vectors = merged-2 vectors
 

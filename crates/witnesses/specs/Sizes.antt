@@ -1,5 +1,5 @@
 -- The size questions on the files that are read, and on those that are refused; and the words of some numbers.
-use Rattle.algebra.specs.Prelude.{_≡_, refl, List, [], _∷_, _++_, ℕ, getD}
+use Rattle.algebra.specs.Prelude.{_≡_, refl, List, [], _∷_, _++_, ℕ}
 use lib.ListN.{replicate}
 use Rattle.refusals.specs.Tests.{first}
 use Rattle.refusals.specs.Some.{some}
@@ -65,6 +65,6 @@ pub dng-size-refuses :
 unfolding dngSize loneRefusal after faultTag structureFault countFault valueFault firstOf tagTests outside headerWrong directoryOutside valueOutside fieldOutside stripOutside notOnce otherwise sizeDiffers demandMissed absent valueOf first some entries entriesFrom timesOf right sizeOf fieldAt firstField valueAt number short long tags tagAt demands demandAt hasBlack listed demanded
 dng-size-refuses = (refl, refl, refl)
 
-pub words-said : (wordsOf 0 ≡ ascii "accepted") × (wordsOf 11 ≡ ascii "a sample above 4095") × (wordsOf 25 ≡ ascii "spatial strength not 0 with tiles of side 32") × (wordsOf 26 ≡ unknown)
+pub words-said : (wordsOf 0 ≡ ascii "accepted") × (wordsOf 11 ≡ ascii "a sample above 4095") × (wordsOf 25 ≡ ascii "spatial strength not 0 with tiles of side 32") × (wordsOf 26 ≡ ascii "lower shot or read above the upper one after ISO") × (wordsOf 27 ≡ unknown)
 unfolding wordsOf wordTable
-words-said = (refl, refl, refl, refl)
+words-said = (refl, refl, refl, refl, refl)

@@ -32,10 +32,11 @@ wordTable =
     ∷ ascii "not a little-endian TIFF file, or a part of it lies past its end"
     ∷ ascii "a DNG file in which a needed tag is absent or a listed one stands twice"
     ∷ ascii "a DNG file with a type, count or value that is not read, or of another size than the burst"
-    ∷ ascii "side of the tiles neither 16 nor 32"
+    ∷ ascii "side of the tiles neither 16 nor 32, or not 16 where a range of noise is asked for"
     ∷ ascii "row length not from width to width + 256"
-    ∷ ascii "spatial strength above 256"
+    ∷ ascii "spatial strength above 256, or not 0 where a range of noise is asked for"
     ∷ ascii "spatial strength not 0 with tiles of side 32"
+    ∷ ascii "lower shot or read above the upper one after ISO"
     ∷ []
 
 unfoldable pub wordsOf : (number : ℕ) → List ℕ

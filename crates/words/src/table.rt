@@ -71,9 +71,9 @@ fn put_value_words(text: &mut [u8], number: u64) -> usize
     }
 }
 
-// Of 16 to 25: other files, and what came later.
+// Of 16 to 26: other files, and what came later.
 fn put_file_words(text: &mut [u8], number: u64) -> usize
-    requires { ⌜ (128 ≤ length (now text)) × ((16 ≤ number) × (number < 26)) ⌝ }
+    requires { ⌜ (128 ≤ length (now text)) × ((16 ≤ number) × (number < 27)) ⌝ }
     ensures { λ r. ⌜ (Printed (now (text .entry)) 0 (wordsOf number) (now (text .exit)) r) × (r ≤ 128) ⌝ }
 {
     match number {
@@ -99,10 +99,19 @@ fn put_file_words(text: &mut [u8], number: u64) -> usize
             0,
             b"a DNG file with a type, count or value that is not read, or of another size than the burst",
         ),
-        22 => put_bytes(text, 0, b"side of the tiles neither 16 nor 32"),
+        22 => put_bytes(
+            text,
+            0,
+            b"side of the tiles neither 16 nor 32, or not 16 where a range of noise is asked for",
+        ),
         23 => put_bytes(text, 0, b"row length not from width to width + 256"),
-        24 => put_bytes(text, 0, b"spatial strength above 256"),
-        _ => put_bytes(text, 0, b"spatial strength not 0 with tiles of side 32"),
+        24 => put_bytes(
+            text,
+            0,
+            b"spatial strength above 256, or not 0 where a range of noise is asked for",
+        ),
+        25 => put_bytes(text, 0, b"spatial strength not 0 with tiles of side 32"),
+        _ => put_bytes(text, 0, b"lower shot or read above the upper one after ISO"),
     }
 }
 
@@ -117,7 +126,7 @@ pub fn put_words(text: &mut [u8], number: u64) -> usize
     if number < 16 {
         return put_value_words(text, number);
     }
-    if number < 26 {
+    if number < 27 {
         return put_file_words(text, number);
     }
     put_bytes(text, 0, b"no refusal of this version")

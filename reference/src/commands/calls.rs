@@ -64,13 +64,13 @@ fn tell(leaks: &Leaks) -> Outcome {
     }
 }
 
-fn put_answer(out: &mut impl Write, answer: &Answer) -> Outcome {
+pub fn put_answer(out: &mut impl Write, answer: &Answer) -> Outcome {
     answer.number.put(out)?;
     put_many(out, &answer.residuals)?;
     Ok(answer.rows.put(out)?)
 }
 
-fn put_buffers(out: &mut impl Write, call: &Call) -> Outcome {
+pub fn put_buffers(out: &mut impl Write, call: &Call) -> Outcome {
     put_many(out, &call.vectors)?;
     Ok(put_many(out, &call.output)?)
 }
@@ -106,7 +106,7 @@ pub fn take_call(input: &mut impl Read) -> Result<Call, Box<dyn Error>> {
     })
 }
 
-fn take_noise(input: &mut impl Read) -> Result<Noise, Box<dyn Error>> {
+pub fn take_noise(input: &mut impl Read) -> Result<Noise, Box<dyn Error>> {
     let [kind, iso, shot, read] = take_array(input)?;
     let curve = Curve {
         shot: f64::from_bits(shot),
@@ -145,7 +145,7 @@ pub fn put_call(out: &mut impl Write, call: &Call) -> std::io::Result<()> {
     put_many(out, &call.output)
 }
 
-fn put_noise(out: &mut impl Write, noise: Noise) -> std::io::Result<()> {
+pub fn put_noise(out: &mut impl Write, noise: Noise) -> std::io::Result<()> {
     let (kind, iso, curve) = match noise {
         Noise::Curve(curve) => (0, 0, curve),
         Noise::Iso(iso, curve) => (1, iso.into(), curve),

@@ -7,7 +7,8 @@ use Rattle.geometry.specs.Fits.{Allowed, TileSide}
 use Rattle.recipe.specs.Scene.{sceneAt, sceneOf}
 use Rattle.tiles.specs.Rows.{rowWords}
 use Rattle.tiles.specs.Places.{by-side}
-use Rattle.merging.proofs.Advance.{rows-whole, whole-merged}
+use Rattle.gather.specs.RowLaws.{rows-whole}
+use Rattle.merging.proofs.Advance.{whole-merged}
 use Rattle.merging.proofs.Bands.{side-above}
 use Rattle.merging.proofs.merge_frames.Statement.{statement}
 use Rattle.merging.proofs.merge_frames.Tie as tie

@@ -1,6 +1,6 @@
 -- The two row parities, one after the other.
-use Rattle.algebra.specs.Prelude.{arith, needs, lit<}
-use Rattle.recipe.specs.Scene.{sceneAt}
+use Rattle.algebra.specs.Prelude.{arith, needs, lit<, now}
+use Rattle.recipe.specs.Scene.{sceneAt, sceneOf}
 use Rattle.merging.proofs.Advance.{all-merged}
 use Rattle.merging.proofs.merge_rows.Statement.{statement}
 use Rattle.merging.proofs.merge_rows.Tie as tie
@@ -32,7 +32,7 @@ returns c =
     let q = c .before .before .before in
     let p = q .before .before .before .before .before .before in
     let s = p .before .before .before .before .before in
-    all-merged (s .pre .accepted .burst .sided) (s .args .first) (s .args .last) (s .pre .output-long) (p .merge-parity .ensures) (q .merge-parity2 .ensures)
+    all-merged (s .pre .accepted .burst .sided) (sceneOf (s .args .m) (now (s .args .samples)) (now (s .args .vectors))) (s .args .first) (s .args .last) (s .pre .output-long) (p .merge-parity .ensures) (q .merge-parity2 .ensures)
 
 pub merge-rows-spec : {M : Type 1} → statement M
 merge-rows-spec = tie.close (tie.spec

@@ -1,0 +1,4 @@
+pub mod Tables
+pub mod Sums
+pub mod Ends
+pub mod Planes

@@ -1,0 +1,42 @@
+-- The rows are added to one after the other.
+use Rattle.algebra.specs.Prelude.{sym, ap, subst, _∙_, [], _-_, _^_, arith, needs, getD, pos, _+ℤ_, now}
+use Rattle.sequences.specs.Tab.{tab}
+use Rattle.sequences.specs.TabLaws.{Filled, fill-start, fill-turn, fill-rest, fill-done}
+use Rattle.sequences.specs.Grid.{grid, cell}
+use Rattle.lines.specs.Lines.{LineMost}
+use Rattle.pairs.proofs.ColumnLaws.{paired-lines}
+use Rattle.pairs.proofs.RowLaws.{paired-length}
+use Rattle.ends.proofs.adding.add_pair.Statement.{statement}
+use Rattle.ends.proofs.adding.add_pair.Tie as tie
+
+abbrev Inv-loop : tie.InvT-loop
+Inv-loop p sum₀ y₀ sum y = Filled (λ y. tab 32 (λ l. cell (pos 0) sum₀ y l +ℤ cell (pos 0) p y l)) 16 y sum₀ sum
+
+abbrev μ-loop : tie.MeasureT-loop
+μ-loop p sum₀ y₀ sum y = 16 - y
+
+add-row-requires : tie.Need-add-row-requires Inv-loop μ-loop
+add-row-requires c κs =
+    let l = c .before .before .before in
+    let s = l .before in
+    let y = l .loop .y in
+    let e = fill-rest (l .loop .inv) (omega arith) [] in
+    record { part = s .pre .part .line y; sums-most = subst (LineMost (2 ^ 40)) (sym e) (s .pre .sums-most .line y); long = paired-length (s .pre .paired) y (omega arith) e }
+
+loop-again : tie.Need-loop-again Inv-loop μ-loop
+unfolding cell
+loop-again c =
+    let l = c .before .before .before .before in
+    let a = l .before .args in
+    fill-turn (l .loop .inv) (omega arith)
+    (c .add-row .ensures
+    ∙ ap (λ r. tab 32 (λ k. getD r k (pos 0) +ℤ getD (getD (now (a .p)) (l .loop .y) []) k (pos 0))) (fill-rest (l .loop .inv) (omega arith) []))
+
+returns : tie.Need-returns Inv-loop μ-loop
+unfolding grid
+returns c = fill-done (c .before .loop .inv) (omega arith)
+
+pub add-pair-spec : {M : Type 1} → statement M
+add-pair-spec = tie.close (tie.spec
+    Inv-loop μ-loop (λ c. fill-start (paired-lines (c .pre .paired))) (λ c. search needs) (λ c. search needs) (λ c. search needs)
+    (λ c. search needs) add-row-requires (λ c. search needs) (λ c. search needs) loop-again returns)

@@ -1,0 +1,63 @@
+-- The halves of both rows, and P of them.
+use Rattle.algebra.specs.Prelude.{_≡_, sym, ap, ap₂, _∙_, false, List, ℕ, _+_, _*_, _/_, _%_, _<_, arith, needs, lit≤, getD, ℤ, pos, _+ℤ_, now}
+use native.Mathlib.Nat.{le-trans}
+use lib.Ieee.{Float, toSigned}
+use Rattle.sequences.specs.Tab.{tab}
+use Rattle.sequences.specs.TabLaws.{getD-tab}
+use Rattle.sequences.specs.Grid.{tab-ext}
+use Rattle.floats.specs.Casts.{whole-back}
+use Rattle.lines.specs.Halfcomplex.{halfSum}
+use Rattle.lines.specs.Doubles.{WholeRow}
+use Rattle.lines.specs.Magnitudes.{columnMost}
+use Rattle.pairs.proofs.Rounding.{whole-at, whole-halves-most}
+use Rattle.ends.specs.Factors.{greatestOf, leastOf, halfIn}
+use Rattle.ends.proofs.Planes.{half-ext}
+use Rattle.ends.proofs.rounds.add_line.Statement.{statement}
+use Rattle.ends.proofs.rounds.add_line.Tie as tie
+
+-- the halves x of a row h are its own
+halves-are : {h : List Float} {x : List ℤ} (w : WholeRow (columnMost false) h) → x ≡ tab 32 (λ l. halfSum (λ k. w .number (2 * k + l % 2)) (l / 2)) → (l : ℕ) → l < 32 → getD x l (pos 0) ≡ halfIn h l
+unfolding halfIn
+halves-are w e l i =
+    ap (λ x. getD x l (pos 0)) e ∙ getD-tab (λ l. halfSum (λ k. w .number (2 * k + l % 2)) (l / 2)) (pos 0) 32 l i
+    ∙ half-ext _ _ (λ k j. sym (ap (toSigned 63) (whole-at w (2 * k + l % 2) (omega arith) .is) ∙ whole-back (w .number (2 * k + l % 2)) (le-trans (w .most (2 * k + l % 2)) (lit≤ tt)) .1)) (l / 2)
+
+ends-are : (f : (a b : ℤ) (width : ℕ) → ℤ) (s : List ℤ) (v : List ℕ) {h h' : List Float} {x x' : List ℤ} (w : WholeRow (columnMost false) h) (w' : WholeRow (columnMost false) h') →
+    x ≡ tab 32 (λ l. halfSum (λ k. w .number (2 * k + l % 2)) (l / 2)) → x' ≡ tab 32 (λ l. halfSum (λ k. w' .number (2 * k + l % 2)) (l / 2)) →
+    tab 32 (λ l. getD s l (pos 0) +ℤ f (getD x l (pos 0)) (getD x' l (pos 0)) (getD v (l % 16) 0)) ≡ tab 32 (λ l. getD s l (pos 0) +ℤ f (halfIn h l) (halfIn h' l) (getD v (l % 16) 0))
+ends-are f s v w w' e e' = tab-ext 32 _ _ (λ l i. ap₂ (λ a b. getD s l (pos 0) +ℤ f a b (getD v (l % 16) 0)) (halves-are w e l i) (halves-are w' e' l i))
+
+whole-halves-requires : tie.Need-whole-halves-requires
+whole-halves-requires c κs = (c .before .pre .first, search needs)
+
+whole-halves-requires-2 : tie.Need-whole-halves-requires-2
+whole-halves-requires-2 c κs = (c .before .before .before .pre .second, search needs)
+
+add-row-requires : tie.Need-add-row-requires
+add-row-requires c κs =
+    let b = c .before .before .before .before in
+    let a = b .before .before in
+    let s = a .before .before in
+    record {
+      first = whole-halves-most (s .pre .first) (a .whole-halves .ensures (s .pre .first));
+      second = whole-halves-most (s .pre .second) (b .whole-halves2 .ensures (s .pre .second));
+      widths-most = s .pre .widths-most;
+      greatest-most = s .pre .greatest-most;
+      least-most = s .pre .least-most;
+      greatest-long = s .pre .greatest-long;
+      least-long = s .pre .least-long;
+    }
+
+returns : tie.Need-returns
+returns c =
+    let b = c .before .before .before .before .before in
+    let a = b .before .before in
+    let s = a .before .before in
+    let p = a .whole-halves .ensures (s .pre .first) in
+    let q = b .whole-halves2 .ensures (s .pre .second) in (
+      c .add-row .ensures .0 ∙ ends-are greatestOf (now (s .args .greatest)) (now (s .args .widths)) (s .pre .first) (s .pre .second) p q,
+      c .add-row .ensures .1 ∙ ends-are leastOf (now (s .args .least)) (now (s .args .widths)) (s .pre .first) (s .pre .second) p q,
+    )
+
+pub add-line-spec : {M : Type 1} → statement M
+add-line-spec = tie.close (tie.spec whole-halves-requires whole-halves-requires-2 add-row-requires returns)

@@ -1,0 +1,75 @@
+-- Both sums are stored one after the other.
+use Rattle.algebra.specs.Prelude.{sym, ap₂, subst, _∙_, _-_, _%_, _^_, arith, needs, getD, pos, _+ℤ_, w64, now}
+use Rattle.algebra.specs.Bound.{AtMost}
+use Rattle.sequences.specs.TabLaws.{Filled, fill-start, fill-turn, fill-rest, fill-done}
+use Rattle.lines.specs.Held.{line-at, held-is, held-most}
+use Rattle.pairs.proofs.Rounding.{more-fits, more-is}
+use Rattle.ends.specs.Factors.{greatestOf, leastOf}
+use Rattle.ends.proofs.rounds.add_row.Statement.{statement}
+use Rattle.ends.proofs.rounds.add_row.Tie as tie
+
+abbrev Inv-loop : tie.InvT-loop
+Inv-loop a b widths greatest₀ least₀ l₀ greatest least l =
+    (Filled (λ l. getD greatest₀ l (pos 0) +ℤ greatestOf (getD a l (pos 0)) (getD b l (pos 0)) (getD widths (l % 16) 0)) 32 l greatest₀ greatest)
+    × (Filled (λ l. getD least₀ l (pos 0) +ℤ leastOf (getD a l (pos 0)) (getD b l (pos 0)) (getD widths (l % 16) 0)) 32 l least₀ least)
+
+abbrev μ-loop : tie.MeasureT-loop
+μ-loop a b widths greatest₀ least₀ l₀ greatest least l = 32 - l
+
+greatest-of-requires : tie.Need-greatest-of-requires Inv-loop μ-loop
+greatest-of-requires c κs =
+    let l = c .before .before .before .before in
+    let p = l .before .pre in
+    record { first = held-most w64 (p .first) (l .loop .l) tt; second = held-most w64 (p .second) (l .loop .l) tt; width-most = p .widths-most .at (l .loop .l % 16) }
+
+least-of-requires : tie.Need-least-of-requires Inv-loop μ-loop
+least-of-requires c κs =
+    let l = c .before .before .before .before .before .before .before .before in
+    let p = l .before .pre in
+    record { first = held-most w64 (p .first) (l .loop .l) tt; second = held-most w64 (p .second) (l .loop .l) tt; width-most = p .widths-most .at (l .loop .l % 16) }
+
+add-greatest : tie.Need-add-greatest Inv-loop μ-loop
+add-greatest c =
+    let k = c .before in
+    let g = k .before .before .before .before in
+    let l = g .before .before .before .before .before in
+    let m = subst (AtMost (2 ^ 40)) (sym (fill-rest (l .loop .inv .0) (omega arith) (pos 0))) (line-at (l .before .pre .greatest-most) (l .loop .l)) in
+    more-fits m (g .greatest-of .ensures .1) tt tt
+
+add-least : tie.Need-add-least Inv-loop μ-loop
+add-least c =
+    let k = c .before .before in
+    let g = k .before .before .before .before in
+    let l = g .before .before .before .before .before in
+    let m = subst (AtMost (2 ^ 40)) (sym (fill-rest (l .loop .inv .1) (omega arith) (pos 0))) (line-at (l .before .pre .least-most) (l .loop .l)) in
+    more-fits m (k .least-of .ensures .1) tt tt
+
+loop-again : tie.Need-loop-again Inv-loop μ-loop
+loop-again c =
+    let k = c .before .before in
+    let g = k .before .before .before .before in
+    let l = g .before .before .before .before .before in
+    let s = l .before in
+    let i = l .loop .l in
+    let d = fill-rest (l .loop .inv .0) (omega arith) (pos 0) in
+    let e = fill-rest (l .loop .inv .1) (omega arith) (pos 0) in
+    let m = subst (AtMost (2 ^ 40)) (sym d) (line-at (s .pre .greatest-most) i) in
+    let n = subst (AtMost (2 ^ 40)) (sym e) (line-at (s .pre .least-most) i) in
+    let w = getD (now (s .args .widths)) (i % 16) 0 in (
+      fill-turn (l .loop .inv .0) (omega arith)
+          (more-is m (g .greatest-of .ensures .1) tt tt ∙ ap₂ _+ℤ_ d (g .greatest-of .ensures .0 ∙ ap₂ (λ a b. greatestOf a b w) (held-is w64 (s .pre .first) i tt) (held-is w64 (s .pre .second) i tt))),
+      fill-turn (l .loop .inv .1) (omega arith)
+          (more-is n (k .least-of .ensures .1) tt tt ∙ ap₂ _+ℤ_ e (k .least-of .ensures .0 ∙ ap₂ (λ a b. leastOf a b w) (held-is w64 (s .pre .first) i tt) (held-is w64 (s .pre .second) i tt))),
+    )
+
+pub add-row-spec : {M : Type 1} → statement M
+add-row-spec = tie.close (tie.spec
+    Inv-loop μ-loop (λ c. (fill-start (c .pre .greatest-long), fill-start (c .pre .least-long)))
+    (λ c. search needs) (λ c. search needs) (λ c. search needs) (λ c. search needs) (λ c. search needs) (λ c. search needs)
+    greatest-of-requires
+    (λ c. search needs) (λ c. search needs) (λ c. search needs) (λ c. search needs) (λ c. search needs) (λ c. search needs)
+    least-of-requires
+    (λ c. search needs) (λ c. search needs) add-greatest (λ c. search needs) (λ c. search needs)
+    (λ c. search needs) (λ c. search needs) add-least (λ c. search needs) (λ c. search needs)
+    (λ c. search needs) (λ c. search needs) loop-again
+    (λ c. (fill-done (c .before .loop .inv .0) (omega arith), fill-done (c .before .loop .inv .1) (omega arith))))

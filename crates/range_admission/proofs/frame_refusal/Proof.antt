@@ -1,0 +1,20 @@
+-- Each test is its definition, so the first of them is.
+use Rattle.algebra.specs.Prelude.{ap, ap₂, _∙_, [], _∷_, needs}
+use Rattle.refusals.specs.Tests.{first}
+use Rattle.limits.specs.Order.{shapeTests}
+use Rattle.range_admission.specs.Refusals.{rangeFrameTests}
+use Rattle.range_admission.proofs.frame_refusal.Statement.{statement}
+use Rattle.range_admission.proofs.frame_refusal.Tie as tie
+
+returns : tie.Need-returns
+unfolding shapeTests rangeFrameTests
+returns c =
+    let side = c .before .before in
+    let third = side .before in
+    let count = third .before in
+    c .first .ensures
+    ∙ ap first (ap₂ _∷_ (count .before .size-refusal .ensures) (ap₂ _∷_ (count .count-refusal .ensures) (ap₂ _∷_ (third .reference-refusal .ensures) (ap (λ n. n ∷ []) (side .narrow-refusal .ensures)))))
+
+pub frame-refusal-spec : {M : Type 1} → statement M
+frame-refusal-spec = tie.close (tie.spec
+    (λ c κs. search needs) (λ c κs. search needs) (λ c κs. search needs) (λ c κs. search needs) (λ c. search needs) (λ c κs. search needs) returns)

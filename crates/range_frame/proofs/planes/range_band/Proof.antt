@@ -1,0 +1,96 @@
+-- A row of both frames a turn, from the two rows of pairs of tiles that are held.
+use Rattle.algebra.specs.Prelude.{_≡_, subst, _∙_, _-_, _+_, _*_, _/_, _≤_, _<_, arith, needs, now}
+use Rattle.recipe.specs.Tables.{side16}
+use Rattle.recipe.specs.Scene.{sceneAt}
+use Rattle.range.specs.Range.{greatestAt, leastAt}
+use Rattle.range_tiles.specs.EndSums.{raised}
+use Rattle.range_frame.specs.Held.{RowsRanged}
+use Rattle.range_frame.specs.HeldLaws.{ends-held, ends-kept}
+use Rattle.range_frame.specs.BandLaws.{row-ready, InBand, band-start, band-turn}
+use Rattle.range_frame.proofs.planes.range_band.Statement.{statement}
+use Rattle.range_frame.proofs.planes.range_band.Tie as tie
+
+abbrev Inv-loop : tie.InvT-loop
+Inv-loop m samples vectors row-parity band low₀ high₀ work shape i₀ low high i = InBand m samples vectors row-parity band work low₀ high₀ i low high
+
+abbrev μ-loop : tie.MeasureT-loop
+μ-loop m samples vectors row-parity band low₀ high₀ work shape i₀ low high i = 8 - i
+
+-- the band's number
+band-most : (s : tie.Start Inv-loop μ-loop) → s .args .band < 256
+band-most s = omega (arith, s .pre .band-below, s .pre .lent .accepted .burst .allowed .high .most)
+
+end-row-requires : tie.Need-end-row-requires Inv-loop μ-loop
+end-row-requires c κs =
+    let s = c .before .before .before .before in
+    let l = s .pre .lent in
+    record { accepted = l .accepted; upper-fits = l .upper-fits; parity = s .pre .parity; row-most = omega (arith, s .pre .band-below); room = l .room }
+
+loop-holds : tie.Need-loop-holds Inv-loop μ-loop
+loop-holds c = band-start
+
+output-rows-requires : tie.Need-output-rows-requires Inv-loop μ-loop
+unfolding sceneAt
+output-rows-requires c κs =
+    let i = c .before .before .before in
+    let l = i .before in
+    let r = l .before .before .before in
+    let s = r .before .before .before .before .before in
+    let a = s .args in
+    let t = s .pre .lent in
+    let above = ends-kept (r .end-row .ensures) (s .pre .held) in
+    let under = ends-held (r .end-row .ensures) (t .room) in
+    let rows = l .loop .inv .rows (a .upper) above under in
+    record {
+      wide = t .accepted .burst .allowed .wide .most;
+      room = omega (arith, t .room, r .end-row .ensures .same);
+      low-ready = row-ready (a .m) (a .upper) (now (a .samples)) (now (a .vectors)) (t .accepted) (s .pre .parity) (s .pre .band-below) (i .loop-test .taken) greatestAt (above .greatest) (under .greatest) (rows .lows .toward .same ∙ t .low-long);
+      high-ready = row-ready (a .m) (a .upper) (now (a .samples)) (now (a .vectors)) (t .accepted) (s .pre .parity) (s .pre .band-below) (i .loop-test .taken) leastAt (above .least) (under .least) (rows .highs .toward .same ∙ t .high-long);
+    }
+
+loop-again : tie.Need-loop-again Inv-loop μ-loop
+loop-again c =
+    let o = c .before .before .before .before in
+    let i = o .before .before .before .before in
+    let l = i .before in
+    let s = l .before .before .before .before .before .before .before .before in
+    let t = s .pre .lent in
+    band-turn (t .accepted) (s .pre .parity) (s .pre .band-below) (i .loop-test .taken) (t .low-long) (t .high-long) (l .loop .inv) (o .output-rows .ensures .0) (o .output-rows .ensures .1)
+
+same-length : tie.Need-same-length Inv-loop μ-loop
+unfolding sceneAt
+same-length c =
+    let l = c .before in
+    let r = l .before .before .before in
+    let s = r .before .before .before .before .before in
+    l .loop .inv .rows (s .args .upper) (ends-kept (r .end-row .ensures) (s .pre .held)) (ends-held (r .end-row .ensures) (s .pre .lent .room)) .lows .toward .same
+
+same-length-2 : tie.Need-same-length-2 Inv-loop μ-loop
+unfolding sceneAt
+same-length-2 c =
+    let l = c .before in
+    let r = l .before .before .before in
+    let s = r .before .before .before .before .before in
+    l .loop .inv .rows (s .args .upper) (ends-kept (r .end-row .ensures) (s .pre .held)) (ends-held (r .end-row .ensures) (s .pre .lent .room)) .highs .toward .same
+
+returns : tie.Need-returns Inv-loop μ-loop
+unfolding sceneAt
+returns c =
+    let l = c .before in
+    let r = l .before .before .before in
+    let s = r .before .before .before .before .before in
+    let a = s .args in
+    let under = ends-held (r .end-row .ensures) (s .pre .lent .room) in
+    let all : 8 * a .band + l .loop .i ≡ 8 * a .band + 8 = omega (arith, l .loop .inv .count) in
+    record {
+      rows = subst (λ n. RowsRanged (sceneAt side16 (a .m) (now (a .samples)) (now (a .vectors))) (sceneAt side16 (raised (a .m) (a .upper)) (now (a .samples)) (now (a .vectors))) (a .row-parity) (8 * a .band) n (now (a .low)) (l .loop .low) (now (a .high)) (l .loop .high)) all
+          (l .loop .inv .rows (a .upper) (ends-kept (r .end-row .ensures) (s .pre .held)) under);
+      held = under;
+    }
+
+pub range-band-spec : {M : Type 1} → statement M
+range-band-spec = tie.close (tie.spec
+    Inv-loop μ-loop (λ c. omega (arith, band-most (c .before .before .before))) end-row-requires loop-holds
+    (λ c. omega (arith, band-most (c .before .before .before .before .before .before .before .before .before)))
+    (λ c. omega (arith, band-most (c .before .before .before .before .before .before .before .before .before), c .loop-test .taken))
+    output-rows-requires (λ c. search needs) (λ c. omega arith) loop-again same-length same-length-2 (λ c. search needs) returns)

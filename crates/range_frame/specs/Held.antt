@@ -1,0 +1,34 @@
+-- Inside this crate: both ends of a row of pairs of tiles that the work area holds, and rows of the low and the high frame.
+use Rattle.algebra.specs.Prelude.{List, ℕ, _*_, _/_, _%_, _+_, ℤ, natAbs, drop}
+use Rattle.recipe.specs.Scene.{Scene}
+use Rattle.range.specs.Range.{greatestAt, leastAt, lowSample, highSample}
+use Rattle.range.specs.Frames.{End, planeEnd}
+use Rattle.tiles.specs.Rows.{rowWords}
+use Rattle.range_tiles.specs.EndSums.{EndAt, endTaken}
+use Rattle.gather.specs.RowsHeld.{RowHeld, RowsWritten}
+
+-- word k of the frame of an end, as `frameEnd` (range/Frames) has it
+abbrev pub endWord : End → (lower upper : Scene) (k : ℕ) → ℕ
+endWord end lower upper k =
+    let row = k / lower .width in
+    let column = k % lower .width in
+    natAbs (planeEnd end lower upper (row % 2) (column % 2) (row / 2) (column / 2))
+
+-- the part of the work area that has the least sums
+abbrev pub leastPart : (width : ℕ) → List ℤ → List ℤ
+leastPart width work = drop (2 * rowWords 16 width) work
+
+-- a row that is held
+pub record EndsHeld (lower upper : Scene) (rowParity row : ℕ) (work : List ℤ) : Type 0 where
+  pub greatest : RowHeld 16 (lower .width) (endTaken greatestAt lower upper) rowParity row work
+  pub least : RowHeld 16 (lower .width) (endTaken leastAt lower upper) rowParity row (leastPart (lower .width) work)
+
+-- both frames with the parity's rows from a to before b written: the greatest sums give the low frame
+pub record RowsRanged (lower upper : Scene) (rowParity a b : ℕ) (low low' high high' : List ℕ) : Type 0 where
+  pub lows : RowsWritten (lower .width) (endWord lowSample lower upper) 0 rowParity a b low low'
+  pub highs : RowsWritten (lower .width) (endWord highSample lower upper) 0 rowParity a b high high'
+
+-- the same of the rows between the tile rows `band` and `band` + 1, of which the work area then holds the second
+pub record BandRanged (lower upper : Scene) (rowParity band : ℕ) (low low' high high' : List ℕ) (work : List ℤ) : Type 0 where
+  pub rows : RowsRanged lower upper rowParity (8 * band) (8 * band + 8) low low' high high'
+  pub held : EndsHeld lower upper rowParity (band + 1) work

@@ -1,0 +1,5 @@
+pub mod Held
+pub mod Ready
+pub mod SampleLaws
+pub mod HeldLaws
+pub mod BandLaws

@@ -1,0 +1,20 @@
+-- V of an r that is at most 65520.
+use Rattle.algebra.specs.Prelude.{needs}
+use Rattle.noise.specs.NoiseNumberLaws.{noise-number-bound}
+use Rattle.range_tiles.proofs.noises.Statement.{statement}
+use Rattle.range_tiles.proofs.noises.Tie as tie
+
+returns : tie.Need-returns
+returns c =
+    let p = c .before .before .pre in
+    let e = c .before .noise-number .ensures .0 in
+    let f = c .noise-number2 .ensures .0 in
+    record {
+      first-is = e;
+      second-is = f;
+      first-most = rw e (noise-number-bound (p .strength-most) (p .shot-most) (p .read-most) (p .first-most));
+      second-most = rw f (noise-number-bound (p .strength-most) (p .shot-most) (p .read-most) (p .second-most));
+    }
+
+pub noises-spec : {M : Type 1} → statement M
+noises-spec = tie.close (tie.spec (λ c κs. search needs) (λ c κs. search needs) returns)

@@ -1,0 +1,4 @@
+pub mod EndSums
+pub mod EndSumLaws
+pub mod EndRows
+pub mod EndRowLaws

@@ -1,0 +1,62 @@
+// Both ends of a row of pairs of tiles, in the work area.
+ghost use Prim.Native.Nat.{_+_, _*_, _/_, _≤_, _<_};
+ghost use mathlib.Core.Path.{_≡_};
+ghost use lib.ListN.{length};
+ghost use Rattle.recipe.specs.Tables.{side16};
+ghost use Rattle.recipe.specs.Scene.{sceneAt};
+ghost use Rattle.tiles.specs.Accepted.{Accepted};
+ghost use Rattle.tiles.specs.Rows.{rowWords};
+ghost use Rattle.range_tiles.specs.EndSums.{raised, UpperFits};
+ghost use Rattle.range_tiles.specs.EndRows.{leastSlot, EndsStored};
+use crate::Upper;
+use crate::tile_ends;
+use geometry::tiles::tile_columns;
+use recipe::Merge;
+use tiles::BLOCK;
+use tiles::PAIR_WIDTH;
+use tiles::SIDE;
+use tiles::Site;
+use tiles::rows::slot;
+use tiles::rows::store_left;
+use tiles::rows::store_right;
+
+// Where a row of the least sums starts: behind two rows of the greatest.
+fn least_slot(width: usize, row: usize) -> usize
+    requires { ⌜ width ≤ 4096 ⌝ }
+    ensures { λ r. ⌜ r ≡ leastSlot width row ⌝ }
+{
+    4 * SIDE * width + slot(SIDE, width, row)
+}
+
+// What both ends take from each pair of a row.
+pub fn end_row(
+    m: Merge,
+    upper: Upper,
+    samples: &[u16],
+    vectors: &[i32],
+    row_parity: usize,
+    row: usize,
+    work: &mut [i64],
+)
+    requires { ⌜ record { accepted : Accepted 16 m (now samples) (now vectors); upper-fits : UpperFits upper; parity : «row_parity» < 2; row-most : row ≤ m .shape .height / 16; room : 4 * rowWords 16 (m .shape .width) ≤ length (now work) } ⌝ }
+    ensures { λ _. ⌜ EndsStored (sceneAt side16 m (now (samples .entry)) (now (vectors .entry))) (sceneAt side16 (raised m upper) (now (samples .entry)) (now (vectors .entry))) «row_parity» row (now (work .entry)) (now (work .exit)) ⌝ }
+{
+    let start = slot(SIDE, m.shape.width, row);
+    let second = least_slot(m.shape.width, row);
+    let blocks = m.shape.width / BLOCK;
+    let columns = tile_columns(m.shape);
+    for column in 0..columns {
+        let site = Site {
+            row_parity,
+            row,
+            column,
+        };
+        let mut greatest = [[0i64; PAIR_WIDTH]; SIDE];
+        let mut least = [[0i64; PAIR_WIDTH]; SIDE];
+        tile_ends(m, upper, samples, vectors, site, &mut greatest, &mut least);
+        store_left(&mut *work, start, column, &greatest);
+        store_right(&mut *work, start, blocks, column, &greatest);
+        store_left(&mut *work, second, column, &least);
+        store_right(&mut *work, second, blocks, column, &least);
+    }
+}

@@ -1,0 +1,32 @@
+-- `stacker::noise_range::range`: a refusal returns before the first store; acceptance makes both frames and clears.
+use Rattle.algebra.specs.Prelude.{sym, _∙_, needs}
+use Rattle.sequences.specs.ClearLaws.{zeros-length}
+use Rattle.stacker.specs.RangedLaws.{ranged-refused, range-off, range-lent, range-work, ranged-accepted}
+use Rattle.stacker.proofs.noise_range.range.Statement.{statement}
+use Rattle.stacker.proofs.noise_range.range.Tie as tie
+
+returns : tie.Need-returns
+returns c = ranged-refused (c .before .range-refusal .ensures) (c .if1 .taken)
+
+frames-requires : tie.Need-frames-requires
+frames-requires c κs =
+    let u = c .before .before .before in
+    let m = u .before in
+    let tested = m .before in
+    let e = sym (tested .before .range-refusal .ensures) ∙ tested .if1 .left in
+    rw (m .merge-of .ensures, u .merge-of2 .ensures) (record { lent = range-lent _ _ _ _ _ _ _ _ _ _ e; work-long = range-work _ _ _ _ _ _ _ _ _ _ e; off = range-off _ _ _ _ _ _ _ _ _ _ e })
+
+returns-2 : tie.Need-returns-2
+returns-2 c =
+    let f = c .before .before .before .before .before .before .before .before in
+    let u = f .before .before .before .before in
+    let m = u .before in
+    let tested = m .before in
+    let made = rw (m .merge-of .ensures, u .merge-of2 .ensures) at (f .frames .ensures) in
+    ranged-accepted _ _ _ _ _ _ _ _ _ _ (sym (tested .before .range-refusal .ensures) ∙ tested .if1 .left) (made .0) (made .1) (c .before .clear .ensures ∙ zeros-length _ _ (search needs))
+
+pub range-spec : {M : Type 1} → statement M
+range-spec = tie.close (tie.spec
+    (λ c κs. search needs) (λ c. search needs) (λ c. search needs) (λ c. search needs) returns
+    (λ c κs. search needs) (λ c κs. search needs) frames-requires (λ c κs. search needs)
+    (λ c. search needs) (λ c. search needs) (λ c. search needs) returns-2)
