@@ -4,6 +4,7 @@ use borrow.Author.Tests.{ne-eqb}
 use lib.Ieee.{Float, fin, mul, div, ofInt}
 use Rattle.algebra.specs.Sums.{sumN}
 use Rattle.algebra.specs.Nearest.{away}
+use Rattle.geometry.specs.declared.tiles.Quotient.the-variants.{Four}
 use Rattle.geometry.specs.Tiles.{own2, own4, own, neighbour2, neighbour4, neighbour}
 use Rattle.noise.specs.declared.Noise.{Noise}
 use Rattle.noise.specs.declared.Noise.the-variants.{Measured, Iso}
@@ -40,8 +41,8 @@ computed y x =
     ∷ pos (noiseNumber side16 0 1024 0 1600)
     ∷ pos (shotLevel (levelsOf iso400)) ∷ pos (readLevel (levelsOf iso400))
     ∷ pos (shotLevel (levelsOf shot64))
-    ∷ pos (own 4 5) ∷ pos (neighbour 4 5)
-    ∷ pos (own 4 6) ∷ pos (neighbour 4 6)
+    ∷ pos (own Four 5) ∷ pos (neighbour Four 5)
+    ∷ pos (own Four 6) ∷ pos (neighbour Four 6)
     ∷ wiener (2 ^ 32) (negℤ (pos 16384)) (pos 0)
     ∷ inverseAt side16 (only 0 0 (negℤ (pos 15420)) (pos 0)) (λ u v. pos 0) y x
     ∷ []

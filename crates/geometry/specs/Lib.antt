@@ -5,7 +5,6 @@ pub mod Vectors
 pub mod Fits
 pub mod ReadLaws
 pub mod LevelTiles
-pub mod Quotient
 pub mod TileLaws
 pub mod ShapeLaws
 pub mod NeighbourLaws

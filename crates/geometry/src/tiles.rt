@@ -1,11 +1,17 @@
 // Tiles of a level, and the coarse tiles that a tile's candidates come from.
 ghost use mathlib.Core.Path.{_≡_};
-ghost use Prim.Native.Nat.{_+_, _/_, _%_, _<_, _≤_};
+ghost use Prim.Native.Nat.{_+_, _/_, _<_, _≤_};
 ghost use Rattle.algebra.specs.Bound.{AtMost};
 ghost use Rattle.geometry.specs.Fits.{Allowed, TileSide};
 ghost use Rattle.geometry.specs.Tiles.{tileCount, tileRows, tileColumns, frameParts, origin, own2, own4, own, neighbour2, neighbour4, neighbour, capped};
-ghost use Rattle.geometry.specs.Quotient.{Quotient};
 use crate::Shape;
+
+// q of a step: how many fine tiles there are to a coarse one, each way.
+pub enum Quotient {
+    One,
+    Two,
+    Four,
+}
 
 // How many tiles there are, one way.
 pub fn tile_count(half: usize, size: usize) -> usize
@@ -61,7 +67,7 @@ pub fn origin(half: usize, index: usize) -> i64
 // The own coarse index of tile `a`, for q = 2, by its remainder.
 fn own_2(a: usize) -> usize
     requires { ⌜ a ≤ 4096 ⌝ }
-    ensures { λ r. ⌜ r ≡ own2 (a % 2) (a / 2) ⌝ }
+    ensures { λ r. ⌜ r ≡ own2 a 0 ⌝ }
 {
     match a % 2 {
         0 => a / 2,
@@ -72,7 +78,7 @@ fn own_2(a: usize) -> usize
 // The same for q = 4.
 fn own_4(a: usize) -> usize
     requires { ⌜ a ≤ 4096 ⌝ }
-    ensures { λ r. ⌜ r ≡ own4 (a % 4) (a / 4) ⌝ }
+    ensures { λ r. ⌜ r ≡ own4 a 0 ⌝ }
 {
     match a % 4 {
         0 => a / 4,
@@ -83,20 +89,21 @@ fn own_4(a: usize) -> usize
 }
 
 // The own coarse index of tile `a`, one way.
-pub fn own(q: usize, a: usize) -> usize
-    requires { ⌜ (Quotient q) × (a ≤ 4096) ⌝ }
+pub fn own(q: Quotient, a: usize) -> usize
+    requires { ⌜ a ≤ 4096 ⌝ }
     ensures { λ r. ⌜ r ≡ own q a ⌝ }
 {
-    if q == 1 {
-        return a;
+    match q {
+        Quotient::One => a,
+        Quotient::Two => own_2(a),
+        Quotient::Four => own_4(a),
     }
-    if q == 2 { own_2(a) } else { own_4(a) }
 }
 
 // The neighbour of tile `a`, for q = 2, by its remainder.
 fn neighbour_2(a: usize) -> usize
     requires { ⌜ a ≤ 4096 ⌝ }
-    ensures { λ r. ⌜ r ≡ neighbour2 (a % 2) (a / 2) ⌝ }
+    ensures { λ r. ⌜ r ≡ neighbour2 a 0 ⌝ }
 {
     match a % 2 {
         0 => a / 2 + 1,
@@ -107,7 +114,7 @@ fn neighbour_2(a: usize) -> usize
 // The same for q = 4.
 fn neighbour_4(a: usize) -> usize
     requires { ⌜ a ≤ 4096 ⌝ }
-    ensures { λ r. ⌜ r ≡ neighbour4 (a % 4) (a / 4) ⌝ }
+    ensures { λ r. ⌜ r ≡ neighbour4 a 0 ⌝ }
 {
     match a % 4 {
         0 => a / 4 + 1,
@@ -118,17 +125,14 @@ fn neighbour_4(a: usize) -> usize
 }
 
 // The neighbour of tile `a`, one way.
-pub fn neighbour(q: usize, a: usize) -> usize
-    requires { ⌜ (Quotient q) × (a ≤ 4096) ⌝ }
+pub fn neighbour(q: Quotient, a: usize) -> usize
+    requires { ⌜ a ≤ 4096 ⌝ }
     ensures { λ r. ⌜ r ≡ neighbour q a ⌝ }
 {
-    if q == 1 {
-        return a + 1;
-    }
-    if q == 2 {
-        neighbour_2(a)
-    } else {
-        neighbour_4(a)
+    match q {
+        Quotient::One => a + 1,
+        Quotient::Two => neighbour_2(a),
+        Quotient::Four => neighbour_4(a),
     }
 }
 

@@ -4,7 +4,6 @@ ghost use Prim.Native.Nat.{_*_, _%_, _≤_, _<_};
 ghost use lib.ListN.{length, getD};
 ghost use lib.IntN.{pos, natAbs, _*ℤ_};
 ghost use Rattle.geometry.specs.Fits.{TileSide};
-ghost use Rattle.geometry.specs.Quotient.{Quotient};
 ghost use Rattle.search.specs.Vectors.{_times_};
 ghost use Rattle.patches.specs.Bounds.{Within};
 ghost use Rattle.levels.specs.Fields.{levelAt, levelTile};
@@ -14,6 +13,7 @@ ghost use Rattle.residuals.specs.Magnitudes.{residualMost};
 ghost use Rattle.levels.specs.Magnitudes.{coarseMost, foundMost, tileRowsMost};
 ghost use Rattle.matching.specs.Magnitudes.{guessMost};
 ghost use Rattle.levels.specs.Grids.{fieldAt, Vectors, coarsestAnswer, finerAnswer, Finer, FinerFound};
+use geometry::tiles::Quotient;
 use geometry::tiles::capped;
 use geometry::tiles::neighbour;
 use geometry::tiles::origin;
@@ -42,17 +42,21 @@ fn factor(side: usize, level: usize) -> usize
 }
 
 // q of the step to a level.
-fn quotient(side: usize, level: usize) -> usize
-    requires { ⌜ (TileSide side) × (level ≤ 2) ⌝ }
-    ensures { λ r. ⌜ (r ≡ stepTo side level .quotient) × (Quotient r) ⌝ }
+fn quotient(side: usize, level: usize) -> Quotient
+    requires { ⌜ level ≤ 2 ⌝ }
+    ensures { λ r. ⌜ r ≡ stepTo side level .quotient ⌝ }
 {
     if level == 1 {
-        return 4;
+        return Quotient::Four;
     }
     if level == 2 {
-        return 2;
+        return Quotient::Two;
     }
-    if side == 32 { 1 } else { 2 }
+    if side == 32 {
+        Quotient::One
+    } else {
+        Quotient::Two
+    }
 }
 
 // The half step of a level's tiles.

@@ -2,6 +2,7 @@
 use Rattle.geometry.specs.Tiles.{Step, own, neighbour, capped}
 use Rattle.residuals.specs.declared.Tile.{Tile}
 use Rattle.geometry.specs.declared.vectors.Vector.{Vector}
+use Rattle.geometry.specs.declared.tiles.Quotient.{Quotient}
 use Rattle.search.specs.Vectors.{_times_}
 use Rattle.residuals.specs.Residual.{Pair}
 use Rattle.search.specs.Search.{bestVector, guessed}
@@ -40,7 +41,7 @@ refine-candidates-requires c κs = let s = c .before .before .before .before .be
       vertically-near = c .before .before .coarse-vector3 .ensures .1;
     }
 
-made : (s : Step) (rows columns : ℕ) (p : Pair) (t : Tile) (field : VectorField) (row column q f r r′ k k′ : ℕ) (x y z : Vector) → q ≡ s .quotient → f ≡ s .factor → r ≡ capped rows (own q row) → r′ ≡ capped rows (neighbour q row) → k ≡ capped columns (own q column) → k′ ≡ capped columns (neighbour q column) → x ≡ field r k times f → y ≡ field r k′ times f → z ≡ field r′ k times f → guessed p t x y z ≡ fromCoarse s rows columns p t field row column
+made : (s : Step) (rows columns : ℕ) (p : Pair) (t : Tile) (field : VectorField) (row column : ℕ) (q : Quotient) (f r r′ k k′ : ℕ) (x y z : Vector) → q ≡ s .quotient → f ≡ s .factor → r ≡ capped rows (own q row) → r′ ≡ capped rows (neighbour q row) → k ≡ capped columns (own q column) → k′ ≡ capped columns (neighbour q column) → x ≡ field r k times f → y ≡ field r k′ times f → z ≡ field r′ k times f → guessed p t x y z ≡ fromCoarse s rows columns p t field row column
 unfolding fromCoarse
 made s rows columns p t field row column q f r r′ k k′ x y z eq ef er er′ ek ek′ ex ey ez = rw (ex, ey, ez, er, er′, ek, ek′, eq, ef)
 
@@ -63,7 +64,7 @@ returns c = let v = c .before .before .before .before .before .before .before .b
       is = m .ensures .0
           ∙ ap₂ (λ q v. answer q p (a .tile) (bestVector q p (a .tile) v) (3 * a .tile .side + searchRows q p (a .tile) v)) (q .is-squared .ensures)
           (made (stepTo (a .side) (a .level)) (a .coarse .rows) (a .coarse .columns) p (a .tile) (fieldAt (a .words .now) (a .coarse .at) (a .coarse .columns)) (a .row) (a .column) _ _ _ _ _ _ _ _ _
-          (f .before .quotient .ensures .0) (f .factor .ensures .0)
+          (f .before .quotient .ensures) (f .factor .ensures .0)
           (r .capped .ensures .0 ∙ ap (capped (a .coarse .rows)) (r .before .own .ensures))
           (r′ .capped2 .ensures .0 ∙ ap (capped (a .coarse .rows)) (r′ .before .neighbour .ensures))
           (k .capped3 .ensures .0 ∙ ap (capped (a .coarse .columns)) (k .before .own2 .ensures))

@@ -1,23 +1,21 @@
--- The cases of the q at hand.
-use Rattle.algebra.specs.Prelude.{refl, _∙_, needs}
-use mathlib.Core.Logic.{⊎-elim}
-use Rattle.geometry.specs.Tiles.{neighbour1, neighbour}
+-- The case of the q at hand.
+use Rattle.algebra.specs.Prelude.{needs}
+use Rattle.geometry.specs.Tiles.{neighbour}
 use Rattle.geometry.proofs.tiles.neighbour.Statement.{statement}
 use Rattle.geometry.proofs.tiles.neighbour.Tie as tie
 
 returns : tie.Need-returns
-unfolding neighbour neighbour1
-returns c = rw (c .if1 .taken) refl
+unfolding neighbour
+returns c = rw (c .enum-told .given .1)
 
 returns-2 : tie.Need-returns-2
 unfolding neighbour
-returns-2 c = rw (c .before .if2 .taken) (c .neighbour-2 .ensures)
+returns-2 c = rw (c .before .enum-told2 .given .1) (c .neighbour-2 .ensures)
 
 returns-3 : tie.Need-returns-3
 unfolding neighbour
-returns-3 c =
-    let start = c .before .before .before in
-    ⊎-elim (λ one. absurd (c .before .before .if1 .left one)) (⊎-elim (λ two. absurd (c .before .if2 .left two)) (λ four. rw four (c .neighbour-4 .ensures))) (start .pre .0 .is)
+returns-3 c = rw (c .before .enum-told3 .given .1) (c .neighbour-4 .ensures)
 
 pub neighbour-spec : {M : Type 1} → statement M
-neighbour-spec = tie.close (tie.spec (λ c. search needs) returns (λ c κs. search needs) (λ c κs. search needs) returns-2 returns-3)
+neighbour-spec = tie.close (tie.spec
+    (λ c. search needs) (λ c. search needs) (λ c. search needs) (λ c κs. search needs) (λ c. search needs) (λ c κs. search needs) returns returns-2 returns-3)
