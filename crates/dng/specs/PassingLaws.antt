@@ -1,4 +1,5 @@
--- "other tags, 50713 without 50714 too, are passed over": an entry of such a tag changes nothing, wherever it stands.
+-- "other tags, 50713 without 50714 too, are passed over": an entry of such a tag changes nothing, wherever it stands in the directory's list. The file's bytes
+-- are the same throughout: no two files are compared.
 use Rattle.algebra.specs.Prelude.{_≡_, refl, _∙_, Bool, true, false, cond, List, _∷_, _++_, ℕ, _<_, arith, leb, length}
 use borrow.Author.Tests.{leb-false}
 use Rattle.geometry.specs.declared.Shape.{Shape}
