@@ -39,7 +39,7 @@ static const char *const help[] = {
     "  -h, --help\n",
     "  -V, --version\n",
     "\n",
-    "--crop and --scale are outside the proofs, and so are reading these options, a tile's residual, and the page's drawing.\n",
+    "--crop and --scale are outside the proofs, and so are reading these options, calibrate, and the page's drawing.\n",
     "Exit status: 0 done; 1 refused, with number and words on standard error; 2 wrong usage, or a file that cannot be read or\n",
     "written; 3 tiles are lifted, where --lifted asks. Nothing is written unless all is accepted.\n",
 };

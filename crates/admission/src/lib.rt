@@ -10,7 +10,7 @@ use noise::Levels;
 use noise::Noise;
 use recipe::Tuning;
 
-// Tests 1 to 5, 7 and 11: those of align.
+// Tests 1 to 3, 22, 23, 4, 5, 7 and 11: those of align.
 pub fn align_refusal(
     shape: Shape,
     reference: usize,
@@ -33,7 +33,7 @@ pub fn align_refusal(
     values::sample_refusal(shape, samples)
 }
 
-// Tests 1 to 7, 11 and 12: those of the residuals of tiles, where 6 is of the residuals.
+// Tests 1 to 3, 22, 23, 4 to 7, 11 and 12: those of the residuals of tiles, where 6 is of the residuals.
 pub fn residual_refusal(
     shape: Shape,
     reference: usize,
