@@ -156,6 +156,24 @@ pub fn halves(h: &[f64; 32], x: &mut [f64; 32])
     }
 }
 
+// The same by value, for other callers than the merge of side 16: `halves` has that one alone, so that it is compiled into it.
+pub fn halves_of(h: &[f64; 32]) -> [f64; 32]
+    ensures { λ r. ⌜ ((g : ℕ → ℕ → ℤ) → ((p k : ℕ) → natAbs (g p k) ≤ columnMost true) → now (h .entry) ≡ doubleLine 32 (λ l. g (l % 2) (l / 2)) → r ≡ doubleLine 32 (λ l. halfSum (g (l % 2)) (l / 2))) ⌝ }
+{
+    let s0 = even_of(h, 0);
+    let s1 = even_of(h, 1);
+    let t0 = odd_of(h, 0);
+    let t1 = odd_of(h, 1);
+    let mut x = [0.0f64; 32];
+    for n in 0..8 {
+        x[2 * n] = s0[n] + t0[n];
+        x[2 * n + 1] = s1[n] + t1[n];
+        x[2 * n + 16] = s0[n] - t0[n];
+        x[2 * n + 17] = s1[n] - t1[n];
+    }
+    x
+}
+
 // a + b and a − b in 64 bits.
 pub fn whole_sum(a: f64, b: f64) -> i64
     requires { ⌜ (WholeDouble (2 ^ 53) a) × (WholeDouble (2 ^ 53) b) ⌝ }
@@ -186,4 +204,23 @@ pub fn whole_halves(h: &[f64; 32], x: &mut [i64; 32])
         x[2 * n + 16] = whole_difference(s0[n], t0[n]);
         x[2 * n + 17] = whole_difference(s1[n], t1[n]);
     }
+}
+
+// The same by value, as `halves_of`.
+pub fn whole_halves_of(h: &[f64; 32]) -> [i64; 32]
+    requires { ⌜ WholeRow (columnMost false) (now h) ⌝ }
+    ensures { λ r. ⌜ ((w : WholeRow (columnMost false) (now (h .entry))) → r ≡ tab 32 (λ l. halfSum (λ k. w .number (2 * k + l % 2)) (l / 2))) ⌝ }
+{
+    let s0 = even_of(h, 0);
+    let s1 = even_of(h, 1);
+    let t0 = odd_of(h, 0);
+    let t1 = odd_of(h, 1);
+    let mut x = [0i64; 32];
+    for n in 0..8 {
+        x[2 * n] = whole_sum(s0[n], t0[n]);
+        x[2 * n + 1] = whole_sum(s1[n], t1[n]);
+        x[2 * n + 16] = whole_difference(s0[n], t0[n]);
+        x[2 * n + 17] = whole_difference(s1[n], t1[n]);
+    }
+    x
 }

@@ -2,7 +2,9 @@
 // number n to number n + 16 the even places' sum stays and the odd places' sum changes its sign. The even places are summed as a line of sixteen, by `lines_back`.
 // No number on the way is above 2^53, so each is exact; where noise is not low, half of a row's sum is added up in 64 bits from four such sums. Number n of row p
 // stands at 2n + p.
+use lines_back::halves_of;
 use lines_back::whole_difference;
+use lines_back::whole_halves_of;
 use lines_back::whole_sum;
 ghost use mathlib.Core.Path.{_≡_};
 ghost use mathlib.Core.Bool.{true, false};
@@ -212,8 +214,7 @@ pub fn halves(h: &[f64; 64], x: &mut [f64; 64])
     ensures { λ _. ⌜ record { long : length (now (x .exit)) ≡ 64; is : (g : ℕ → ℕ → ℤ) → ((p k : ℕ) → natAbs (g p k) ≤ longColumnMost true) → now (h .entry) ≡ doubleLine 64 (λ l. g (l % 2) (l / 2)) → now (x .exit) ≡ doubleLine 64 (λ l. halfSumOf side32 (g (l % 2)) (l / 2)) } ⌝ }
 {
     let e = evens(h);
-    let mut s = [0.0f64; 32];
-    lines_back::halves(&e, &mut s);
+    let s = halves_of(&e);
     let t = odds(h);
     for l in 0..32 {
         x[l] = s[l] + t[l];
@@ -277,8 +278,7 @@ pub fn whole_halves(h: &[f64; 64], x: &mut [i64; 64])
     ensures { λ _. ⌜ ((w : WholeLine 64 (longColumnMost false) (now (h .entry))) → now (x .exit) ≡ tab 64 (λ l. halfSumOf side32 (λ k. w .number (2 * k + l % 2)) (l / 2))) ⌝ }
 {
     let e = evens(h);
-    let mut a = [0i64; 32];
-    lines_back::whole_halves(&e, &mut a);
+    let a = whole_halves_of(&e);
     let b = whole_odds(h);
     for l in 0..32 {
         x[l] = a[l] + b[l];

@@ -20,11 +20,11 @@ returns : tie.Need-returns Inv-loop μ-loop
 returns c =
     let t = c .before .before in
     let s = t .before in
-    let e = s .before .before .before in
+    let e = s .before .before in
     record {
       long = c .before .loop .inv .same;
       is = λ g most k.
-          let p = s .halves .ensures .is (λ p k. g p (2 * k)) (λ p k. omega (arith, most p (2 * k))) (e .evens .ensures (rows g) (λ l. omega (arith, most (l % 2) (l / 2))) k ∙ row-evens g) in
+          let p = s .halves-of .ensures (λ p k. g p (2 * k)) (λ p k. omega (arith, most p (2 * k))) (e .evens .ensures (rows g) (λ l. omega (arith, most (l % 2) (l / 2))) k ∙ row-evens g) in
           let q = t .odds .ensures (rows g) (λ l. most (l % 2) (l / 2)) k ∙ row-odds g in
           both-done (c .before .loop .inv) (omega arith) (λ l. ofInt binary64 (halfSumOf side32 (g (l % 2)) (l / 2))) (row-low g most p q) (row-high g most p q);
     }

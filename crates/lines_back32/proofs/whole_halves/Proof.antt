@@ -15,23 +15,20 @@ Inv-loop h x₀ s t l₀ x l = Both (pos 0) (λ l. getD s l (pos 0) +ℤ getD t 
 abbrev μ-loop : tie.MeasureT-loop
 μ-loop h x₀ s t l₀ x l = 32 - l
 
-whole-halves-requires : tie.Need-whole-halves-requires Inv-loop μ-loop
-whole-halves-requires c κs =
-    let e = c .before .before in
-    let w = e .before .pre .0 in
-    (evens-row (w .number) (w .most) (e .evens .ensures (w .number) (w .most) (w .is)), search needs)
+whole-halves-of-requires : tie.Need-whole-halves-of-requires Inv-loop μ-loop
+whole-halves-of-requires c κs = let e = c .before in let w = e .before .pre .0 in evens-row (w .number) (w .most) (e .evens .ensures (w .number) (w .most) (w .is))
 
 whole-odds-requires : tie.Need-whole-odds-requires Inv-loop μ-loop
-whole-odds-requires c κs = c .before .before .before .before .pre .0
+whole-odds-requires c κs = c .before .before .before .pre .0
 
 add-x : tie.Need-add-x Inv-loop μ-loop
 add-x c =
     let k = c .before .before in
     let t = k .before .before in
     let s = t .before in
-    let e = s .before .before .before in
+    let e = s .before .before in
     let w = e .before .pre .0 in
-    let p = s .whole-halves .ensures (evens-row (w .number) (w .most) (e .evens .ensures (w .number) (w .most) (w .is))) in
+    let p = s .whole-halves-of .ensures (evens-row (w .number) (w .most) (e .evens .ensures (w .number) (w .most) (w .is))) in
     let q = t .whole-odds .ensures w in
     add-fits w64 _ _ _ _ (held-most w64 (even-sums-most (w .number) (w .most) p q) (k .before .loop .l) tt) (held-most w64 (odd-sums-most (w .number) (w .most) p q) (k .before .loop .l) tt) tt
 
@@ -40,9 +37,9 @@ sub-x c =
     let k = c .before .before .before .before in
     let t = k .before .before in
     let s = t .before in
-    let e = s .before .before .before in
+    let e = s .before .before in
     let w = e .before .pre .0 in
-    let p = s .whole-halves .ensures (evens-row (w .number) (w .most) (e .evens .ensures (w .number) (w .most) (w .is))) in
+    let p = s .whole-halves-of .ensures (evens-row (w .number) (w .most) (e .evens .ensures (w .number) (w .most) (w .is))) in
     let q = t .whole-odds .ensures w in
     sub-fits w64 _ _ _ _ (held-most w64 (even-sums-most (w .number) (w .most) p q) (k .before .loop .l) tt) (held-most w64 (odd-sums-most (w .number) (w .most) p q) (k .before .loop .l) tt) tt
 
@@ -51,9 +48,9 @@ loop-again c =
     let k = c .before .before .before .before in
     let t = k .before .before in
     let s = t .before in
-    let e = s .before .before .before in
+    let e = s .before .before in
     let w = e .before .pre .0 in
-    let p = s .whole-halves .ensures (evens-row (w .number) (w .most) (e .evens .ensures (w .number) (w .most) (w .is))) in
+    let p = s .whole-halves-of .ensures (evens-row (w .number) (w .most) (e .evens .ensures (w .number) (w .most) (w .is))) in
     let q = t .whole-odds .ensures w in
     let m = even-sums-most (w .number) (w .most) p q in
     let n = odd-sums-most (w .number) (w .most) p q in
@@ -66,14 +63,14 @@ returns : tie.Need-returns Inv-loop μ-loop
 returns c w =
     let t = c .before .before in
     let s = t .before in
-    let e = s .before .before .before in
-    let p = s .whole-halves .ensures (evens-row (w .number) (w .most) (e .evens .ensures (w .number) (w .most) (w .is))) in
+    let e = s .before .before in
+    let p = s .whole-halves-of .ensures (evens-row (w .number) (w .most) (e .evens .ensures (w .number) (w .most) (w .is))) in
     let q = t .whole-odds .ensures w in
     both-done (c .before .loop .inv) (omega arith) (λ l. halfSumOf side32 (λ k. w .number (2 * k + l % 2)) (l / 2)) (whole-low (w .number) (w .most) p q) (whole-high (w .number) (w .most) p q)
 
 pub whole-halves-spec : {M : Type 1} → statement M
 whole-halves-spec = tie.close (tie.spec
-    Inv-loop μ-loop (λ c κs. search needs) whole-halves-requires whole-odds-requires (λ c. both-start (omega arith))
+    Inv-loop μ-loop (λ c κs. search needs) whole-halves-of-requires whole-odds-requires (λ c. both-start (omega arith))
     (λ c. search needs) (λ c. search needs) (λ c. search needs) (λ c. search needs) add-x (λ c. search needs) (λ c. search needs)
     (λ c. search needs) (λ c. search needs) (λ c. search needs) (λ c. search needs) sub-x (λ c. search needs) (λ c. search needs)
     (λ c. search needs) (λ c. search needs) (λ c. search needs) loop-again returns)
