@@ -16,7 +16,7 @@ use crate::widths::widths;
 use pairs::add_corrections;
 use pairs::columns_back::back;
 use pairs::forward_into;
-use pairs::wiener;
+use pairs::wiener_of;
 ghost use mathlib.Core.Path.{_≡_};
 ghost use mathlib.Core.Bool.{true, false};
 ghost use Prim.Native.Nat.{_/_, _%_, _^_, _≤_};
@@ -74,8 +74,8 @@ fn add_apart(
 {
     let mut b = [[0.0f64; 32]; 16];
     forward_into(d, &mut b);
-    let mut low = wiener(b, lower.first, lower.second);
-    let mut high = wiener(b, upper.first, upper.second);
+    let mut low = wiener_of(&b, lower.first, lower.second);
+    let mut high = wiener_of(&b, upper.first, upper.second);
     let w = widths_of(&low, &high);
     back(&mut low);
     back(&mut high);

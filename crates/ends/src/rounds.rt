@@ -1,5 +1,5 @@
 // P of both ends, from half of each inverse sum and from how far the ends are apart.
-use lines_back::whole_halves;
+use lines_back::whole_halves_of;
 use rounding::round_away_32;
 ghost use mathlib.Core.Path.{_≡_};
 ghost use mathlib.Core.Bool.{false};
@@ -69,10 +69,8 @@ fn add_line(
     requires { ⌜ record { first : WholeRow (columnMost false) (now low); second : WholeRow (columnMost false) (now high); widths-most : WidthLine (now widths); greatest-most : LineMost (2 ^ 40) (now greatest); least-most : LineMost (2 ^ 40) (now least); greatest-long : length (now greatest) ≡ 32; least-long : length (now least) ≡ 32 } ⌝ }
     ensures { λ _. ⌜ (now (greatest .exit) ≡ tab 32 (λ l. getD (now (greatest .entry)) l (pos 0) +ℤ greatestOf (halfIn (now (low .entry)) l) (halfIn (now (high .entry)) l) (getD (now (widths .entry)) (l % 16) 0))) × (now (least .exit) ≡ tab 32 (λ l. getD (now (least .entry)) l (pos 0) +ℤ leastOf (halfIn (now (low .entry)) l) (halfIn (now (high .entry)) l) (getD (now (widths .entry)) (l % 16) 0))) ⌝ }
 {
-    let mut a = [0i64; 32];
-    whole_halves(low, &mut a);
-    let mut b = [0i64; 32];
-    whole_halves(high, &mut b);
+    let a = whole_halves_of(low);
+    let b = whole_halves_of(high);
     add_row(&a, &b, widths, &mut *greatest, &mut *least);
 }
 

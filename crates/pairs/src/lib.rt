@@ -44,7 +44,21 @@ fn forward(d: [[i16; 32]; 16]) -> [[f64; 32]; 16]
 }
 
 // Q and G of both planes at their noise numbers, with quotients in double where none is in doubt, and else in whole numbers.
-pub fn wiener(b: [[f64; 32]; 16], first: u64, second: u64) -> [[f64; 32]; 16]
+pub fn wiener_of(b: &[[f64; 32]; 16], first: u64, second: u64) -> [[f64; 32]; 16]
+    requires { ⌜ record { binned : BinnedPair (now b); first-most : first ≤ noiseMost; second-most : second ≤ noiseMost } ⌝ }
+    ensures { λ r. ⌜ ((w : BinnedPair (now (b .entry))) → r ≡ doubles (sideBySide (λ p. transposed (spread (gainRe (either first second p) (w .plane p)) (gainIm (either first second p) (w .plane p)))))) ⌝ }
+{
+    let mut g = *b;
+    if filter(&mut g, first, second) {
+        return g;
+    }
+    g = *b;
+    filter_exactly(&mut g, first, second);
+    g
+}
+
+// The same from B by value, for the merge as `forward`.
+fn wiener(b: [[f64; 32]; 16], first: u64, second: u64) -> [[f64; 32]; 16]
     requires { ⌜ record { binned : BinnedPair b; first-most : first ≤ noiseMost; second-most : second ≤ noiseMost } ⌝ }
     ensures { λ r. ⌜ ((w : BinnedPair b) → r ≡ doubles (sideBySide (λ p. transposed (spread (gainRe (either first second p) (w .plane p)) (gainIm (either first second p) (w .plane p)))))) ⌝ }
 {

@@ -16,43 +16,44 @@ abbrev differences : tie.Start → ℕ → ℕ → ℤ
 differences s = cell (pos 0) (now (s .args .d))
 
 -- both G, folded
-low-is : (c : tie.After-wiener) → let s = c .before .before .before in c .wiener .result ≡ doubles (gains (s .args .lower .first) (s .args .lower .second) (s .pre .lower-first) (s .pre .lower-second) (differences s))
+low-is : (c : tie.After-wiener-of) → let s = c .before .before .before .before in c .wiener-of .result ≡ doubles (gains (s .args .lower .first) (s .args .lower .second) (s .pre .lower-first) (s .pre .lower-second) (differences s))
 low-is c =
-    let f = c .before in
-    let s = f .before .before in
-    c .wiener .ensures (binned-pair (s .pre .differences) (f .forward-into .ensures))
-
-high-is : (c : tie.After-wiener2) → let s = c .before .before .before .before in c .wiener2 .result ≡ doubles (gains (s .args .upper .first) (s .args .upper .second) (s .pre .upper-first) (s .pre .upper-second) (differences s))
-high-is c =
     let f = c .before .before in
     let s = f .before .before in
-    c .wiener2 .ensures (binned-pair (s .pre .differences) (f .forward-into .ensures))
+    c .wiener-of .ensures (binned-pair (s .pre .differences) (f .forward-into .ensures))
+
+high-is : (c : tie.After-wiener-of2) → let s = c .before .before .before .before .before .before in c .wiener-of2 .result ≡ doubles (gains (s .args .upper .first) (s .args .upper .second) (s .pre .upper-first) (s .pre .upper-second) (differences s))
+high-is c =
+    let f = c .before .before .before .before in
+    let s = f .before .before in
+    c .wiener-of2 .ensures (binned-pair (s .pre .differences) (f .forward-into .ensures))
 
 forward-into-requires : tie.Need-forward-into-requires
 unfolding grid tab
 forward-into-requires c κs = (c .before .pre .differences, paired-grid (λ k l. ofBits binary64 0) refl)
 
-wiener-requires : tie.Need-wiener-requires
-wiener-requires c κs =
-    let s = c .before .before in
-    record { binned = binned-pair (s .pre .differences) (c .forward-into .ensures); first-most = s .pre .lower-first; second-most = s .pre .lower-second }
-
-wiener-requires-2 : tie.Need-wiener-requires-2
-wiener-requires-2 c κs =
+wiener-of-requires : tie.Need-wiener-of-requires
+wiener-of-requires c κs =
     let f = c .before in
+    let s = f .before .before in
+    record { binned = binned-pair (s .pre .differences) (f .forward-into .ensures); first-most = s .pre .lower-first; second-most = s .pre .lower-second }
+
+wiener-of-requires-2 : tie.Need-wiener-of-requires-2
+wiener-of-requires-2 c κs =
+    let f = c .before .before .before in
     let s = f .before .before in
     record { binned = binned-pair (s .pre .differences) (f .forward-into .ensures); first-most = s .pre .upper-first; second-most = s .pre .upper-second }
 
 widths-of-requires : tie.Need-widths-of-requires
 widths-of-requires c κs =
     let h = c .before .before in
-    let s = h .before .before .before .before in
+    let s = h .before .before .before .before .before .before in
     let p = s .pre in
-    (gains-whole _ _ (p .lower-first) (p .lower-second) (differences s) (low-is (h .before)), gains-whole _ _ (p .upper-first) (p .upper-second) (differences s) (high-is h))
+    (gains-whole _ _ (p .lower-first) (p .lower-second) (differences s) (low-is (h .before .before)), gains-whole _ _ (p .upper-first) (p .upper-second) (differences s) (high-is h))
 
 back-requires : tie.Need-back-requires
 unfolding doubles
-back-requires c κs = paired-grid _ (low-is (c .before .before .before .before .before))
+back-requires c κs = paired-grid _ (low-is (c .before .before .before .before .before .before))
 
 back-requires-2 : tie.Need-back-requires-2
 unfolding doubles
@@ -64,10 +65,10 @@ add-lines-requires c κs =
     let o = r .before .before in
     let w = o .before .before in
     let h = w .before .before .before in
-    let s = h .before .before .before .before in
+    let s = h .before .before .before .before .before .before in
     let p = s .pre in
     record {
-      first = columns-whole false (o .back .ensures) (gains-whole _ _ (p .lower-first) (p .lower-second) (differences s) (low-is (h .before)));
+      first = columns-whole false (o .back .ensures) (gains-whole _ _ (p .lower-first) (p .lower-second) (differences s) (low-is (h .before .before)));
       second = columns-whole false (r .back2 .ensures) (gains-whole _ _ (p .upper-first) (p .upper-second) (differences s) (high-is h));
       widths-most = w .widths-of .ensures .1;
       greatest-most = p .greatest-most;
@@ -82,11 +83,11 @@ returns c =
     let o = r .before .before in
     let w = o .before .before in
     let h = w .before .before .before in
-    let s = h .before .before .before .before in
+    let s = h .before .before .before .before .before .before in
     let p = s .pre in
     let a = s .args in
     let d = differences s in
-    let low = low-is (h .before) in
+    let low = low-is (h .before .before) in
     let high = high-is h in
     let low-back = o .back .ensures (gains-whole _ _ (p .lower-first) (p .lower-second) d low) in
     let high-back = r .back2 .ensures (gains-whole _ _ (p .upper-first) (p .upper-second) d high) in (
@@ -100,4 +101,4 @@ returns c =
 
 pub add-apart-spec : {M : Type 1} → statement M
 add-apart-spec = tie.close (tie.spec
-    forward-into-requires wiener-requires wiener-requires-2 widths-of-requires back-requires back-requires-2 add-lines-requires returns)
+    forward-into-requires wiener-of-requires wiener-of-requires-2 widths-of-requires back-requires back-requires-2 add-lines-requires returns)

@@ -27,20 +27,20 @@ ends-are : (f : (a b : ℤ) (width : ℕ) → ℤ) (s : List ℤ) (v : List ℕ)
     tab 32 (λ l. getD s l (pos 0) +ℤ f (getD x l (pos 0)) (getD x' l (pos 0)) (getD v (l % 16) 0)) ≡ tab 32 (λ l. getD s l (pos 0) +ℤ f (halfIn h l) (halfIn h' l) (getD v (l % 16) 0))
 ends-are f s v w w' e e' = tab-ext 32 _ _ (λ l i. ap₂ (λ a b. getD s l (pos 0) +ℤ f a b (getD v (l % 16) 0)) (halves-are w e l i) (halves-are w' e' l i))
 
-whole-halves-requires : tie.Need-whole-halves-requires
-whole-halves-requires c κs = (c .before .pre .first, search needs)
+whole-halves-of-requires : tie.Need-whole-halves-of-requires
+whole-halves-of-requires c κs = c .pre .first
 
-whole-halves-requires-2 : tie.Need-whole-halves-requires-2
-whole-halves-requires-2 c κs = (c .before .before .before .pre .second, search needs)
+whole-halves-of-requires-2 : tie.Need-whole-halves-of-requires-2
+whole-halves-of-requires-2 c κs = c .before .pre .second
 
 add-row-requires : tie.Need-add-row-requires
 add-row-requires c κs =
     let b = c .before .before .before .before in
-    let a = b .before .before in
-    let s = a .before .before in
+    let a = b .before in
+    let s = a .before in
     record {
-      first = whole-halves-most (s .pre .first) (a .whole-halves .ensures (s .pre .first));
-      second = whole-halves-most (s .pre .second) (b .whole-halves2 .ensures (s .pre .second));
+      first = whole-halves-most (s .pre .first) (a .whole-halves-of .ensures (s .pre .first));
+      second = whole-halves-most (s .pre .second) (b .whole-halves-of2 .ensures (s .pre .second));
       widths-most = s .pre .widths-most;
       greatest-most = s .pre .greatest-most;
       least-most = s .pre .least-most;
@@ -51,13 +51,13 @@ add-row-requires c κs =
 returns : tie.Need-returns
 returns c =
     let b = c .before .before .before .before .before in
-    let a = b .before .before in
-    let s = a .before .before in
-    let p = a .whole-halves .ensures (s .pre .first) in
-    let q = b .whole-halves2 .ensures (s .pre .second) in (
+    let a = b .before in
+    let s = a .before in
+    let p = a .whole-halves-of .ensures (s .pre .first) in
+    let q = b .whole-halves-of2 .ensures (s .pre .second) in (
       c .add-row .ensures .0 ∙ ends-are greatestOf (now (s .args .greatest)) (now (s .args .widths)) (s .pre .first) (s .pre .second) p q,
       c .add-row .ensures .1 ∙ ends-are leastOf (now (s .args .least)) (now (s .args .widths)) (s .pre .first) (s .pre .second) p q,
     )
 
 pub add-line-spec : {M : Type 1} → statement M
-add-line-spec = tie.close (tie.spec whole-halves-requires whole-halves-requires-2 add-row-requires returns)
+add-line-spec = tie.close (tie.spec whole-halves-of-requires whole-halves-of-requires-2 add-row-requires returns)
