@@ -226,6 +226,21 @@ fn output_part(
     }
 }
 
+// The span with its side written down, so that the compiler knows it in the loop over the words.
+fn sided(span: Span, side: usize) -> Span
+    requires { ⌜ side ≡ span .side ⌝ }
+    ensures { λ r. ⌜ r ≡ span ⌝ }
+{
+    Span {
+        from: span.from,
+        start: span.start,
+        above: span.above,
+        below: span.below,
+        side,
+        i: span.i,
+    }
+}
+
 // A block: the words of a row over the same four pairs.
 fn output_block(
     samples: &[u16],
@@ -239,19 +254,14 @@ fn output_block(
     requires { ⌜ BlockReady span by (length (now samples)) (length (now output)) (now work) (now lower) (now upper) ⌝ }
     ensures { λ _. ⌜ now (output .exit) ≡ written (now (output .entry)) (span .start) (wordFrom (now (samples .entry)) (now (work .entry)) span (by .count)) (span .side) ⌝ }
 {
-    let parts = span.side / PART;
-    for q in 0..parts {
-        output_part(
-            samples,
-            work,
-            lower,
-            upper,
-            span,
-            PART * q,
-            by,
-            &mut *output,
-        );
+    if span.side == 32 {
+        let wide = sided(span, 32);
+        output_part(samples, work, lower, upper, wide, 0, by, &mut *output);
+        output_part(samples, work, lower, upper, wide, PART, by, &mut *output);
+        return;
     }
+    let narrow = sided(span, 16);
+    output_part(samples, work, lower, upper, narrow, 0, by, &mut *output);
 }
 
 // Row y of a row parity, from its first word on, for an output that begins with row `top` of the frame.
