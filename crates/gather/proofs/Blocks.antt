@@ -52,10 +52,10 @@ unfolding rowSpan rowWords
 block-weighed {work} s reference rowParity y top column sided over lower upper h =
     record {
       sided = sided;
-      lower-later = words (over .below) (n * (y % (n / 2)) + 2 * n * (n * column)) (omega (arith, room)) (omega arith);
-      lower-earlier = words (over .below) (n * (y % (n / 2)) + 2 * n * (n * column) + n * n) (omega (arith, room)) (omega arith);
-      upper-later = words (over .above) (n * (y % (n / 2) + n / 2) + 2 * n * (n * column)) (omega (arith, room)) (omega arith);
-      upper-earlier = words (over .above) (n * (y % (n / 2) + n / 2) + 2 * n * (n * column) + n * n) (omega (arith, room)) (omega arith);
+      lower-later = words (over .below) (2 * n * (y % (n / 2)) + 2 * n * (n * column)) (omega (arith, room)) (omega arith);
+      lower-earlier = words (over .below) (2 * n * (y % (n / 2)) + 2 * n * (n * column) + n) (omega (arith, room)) (omega arith);
+      upper-later = words (over .above) (2 * n * (y % (n / 2) + n / 2) + 2 * n * (n * column)) (omega (arith, room)) (omega arith);
+      upper-earlier = words (over .above) (2 * n * (y % (n / 2) + n / 2) + 2 * n * (n * column) + n) (omega (arith, room)) (omega arith);
       lower-weights = lower;
       upper-weights = upper;
       row = row-in-half sided y;
@@ -64,7 +64,7 @@ block-weighed {work} s reference rowParity y top column sided over lower upper h
     n : ℕ
     n = s .side
 
-    room : n * (y % (n / 2) + n / 2) + 2 * n * (n * column) + n * n + n ≤ 2 * n * s .width
+    room : 2 * n * (y % (n / 2) + n / 2) + 2 * n * (n * column) + n + n ≤ 2 * n * s .width
     room = later-room sided (s .width) y column h
 
     words : {at there : ℕ} → Words work at (rowWords n (s .width)) → (k : ℕ) → k + n ≤ 2 * n * s .width → at + k ≡ there → Words work there n

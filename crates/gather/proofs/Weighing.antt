@@ -77,9 +77,6 @@ module _ {n : ℕ} (t : TileSide n) where
   pub side-most : n ≤ 32
   side-most = by-side t (λ n. n ≤ 32) (omega arith) (omega arith)
 
-  pub square-most : n * n ≤ 1024
-  square-most = by-side t (λ n. n * n ≤ 1024) (omega arith) (omega arith)
-
   pub half-above : 0 < n / 2
   half-above = by-side t (λ n. 0 < n / 2) (omega arith) (omega arith)
 
@@ -101,8 +98,8 @@ module _ {n : ℕ} (t : TileSide n) where
   pub narrow-is : (n ≡ 32 → ⊥) → 16 ≡ n
   narrow-is = by-side t (λ n. (n ≡ 32 → ⊥) → 16 ≡ n) (λ h. refl) (λ h. absurd (h refl))
 
-  pub place-most : (y : ℕ) → n * (y % (n / 2) + n / 2) ≤ 1024
-  place-most = by-side t (λ n. (y : ℕ) → n * (y % (n / 2) + n / 2) ≤ 1024) (λ y. omega arith) (λ y. omega arith)
+  pub place-most : (y : ℕ) → 2 * n * (y % (n / 2) + n / 2) ≤ 2048
+  place-most = by-side t (λ n. (y : ℕ) → 2 * n * (y % (n / 2) + n / 2) ≤ 2048) (λ y. omega arith) (λ y. omega arith)
 
   pub quotient-most : (y : ℕ) → y / (n / 2) ≤ y
   quotient-most = by-side t (λ n. (y : ℕ) → y / (n / 2) ≤ y) (λ y. omega arith) (λ y. omega arith)
@@ -126,8 +123,8 @@ module _ {n : ℕ} (t : TileSide n) where
   block-room = by-side t (λ n. (width column : ℕ) → column < width / n → n * column + n ≤ width) (λ w c h. omega arith) (λ w c h. omega arith)
 
   -- what a block reads lies in its row of pairs
-  pub later-room : (width y column : ℕ) → column < width / n → n * (y % (n / 2) + n / 2) + 2 * n * (n * column) + n * n + n ≤ 2 * n * width
-  later-room = by-side t (λ n. (width y column : ℕ) → column < width / n → n * (y % (n / 2) + n / 2) + 2 * n * (n * column) + n * n + n ≤ 2 * n * width) (λ w y c h. omega arith) (λ w y c h. omega arith)
+  pub later-room : (width y column : ℕ) → column < width / n → 2 * n * (y % (n / 2) + n / 2) + 2 * n * (n * column) + n + n ≤ 2 * n * width
+  later-room = by-side t (λ n. (width y column : ℕ) → column < width / n → 2 * n * (y % (n / 2) + n / 2) + 2 * n * (n * column) + n + n ≤ 2 * n * width) (λ w y c h. omega arith) (λ w y c h. omega arith)
 
   -- the block of a word, and the word in it
   pub block-of : (column l : ℕ) → l < n → (n * column + l) / n ≡ column
@@ -147,8 +144,8 @@ module _ {n : ℕ} (t : TileSide n) where
     block-word = in-block l h
 
 module _ {work lower upper : List ℤ} {p : Span} (w : Weighed work p lower upper) (l : ℕ) (h : l < p .side) where
-  pub windowed-four : {a b c d : ℤ} → a ≡ getD lower l (pos 0) *ℤ getD work (p .below + l) (pos 0) → b ≡ getD lower (l + p .side) (pos 0) *ℤ getD work (p .below + p .side * p .side + l) (pos 0)
-      → c ≡ getD upper l (pos 0) *ℤ getD work (p .above + l) (pos 0) → d ≡ getD upper (l + p .side) (pos 0) *ℤ getD work (p .above + p .side * p .side + l) (pos 0)
+  pub windowed-four : {a b c d : ℤ} → a ≡ getD lower l (pos 0) *ℤ getD work (p .below + l) (pos 0) → b ≡ getD lower (l + p .side) (pos 0) *ℤ getD work (p .below + p .side + l) (pos 0)
+      → c ≡ getD upper l (pos 0) *ℤ getD work (p .above + l) (pos 0) → d ≡ getD upper (l + p .side) (pos 0) *ℤ getD work (p .above + p .side + l) (pos 0)
       → a +ℤ b +ℤ c +ℤ d ≡ windowed (sideOf (p .side)) (p .i) (l / 2) (wordOver work p l)
   unfolding windowed wordOver sumZ
   windowed-four a b c d =
@@ -187,8 +184,8 @@ module _ {work lower upper : List ℤ} {p : Span} (w : Weighed work p lower uppe
       one : p .i + 1 * (p .side / 2) ≡ p .i + p .side / 2
       one = omega arith
 
-      later : (a : ℕ) → a + (p .side * p .side * (2 * 0 + 0) + l) ≡ a + l
+      later : (a : ℕ) → a + (2 * (p .side * p .side) * 0 + (p .side * 0 + l)) ≡ a + l
       later a = omega arith
 
-      earlier : (a : ℕ) → a + (p .side * p .side * (2 * 0 + 1) + l) ≡ a + p .side * p .side + l
+      earlier : (a : ℕ) → a + (2 * (p .side * p .side) * 0 + (p .side * 1 + l)) ≡ a + p .side + l
       earlier a = omega arith

@@ -40,4 +40,4 @@ startOf p (suc u) = p .above
 
 -- what tile t over the word c places further on has at it, in the work area
 unfoldable pub wordOver : List ℤ → Span → (c t : ℕ) → ℤ
-wordOver work p c t = getD work (startOf p (t / 2) + (p .side * p .side * (2 * (c / p .side) + t % 2) + c % p .side)) (pos 0)
+wordOver work p c t = getD work (startOf p (t / 2) + (2 * (p .side * p .side) * (c / p .side) + (p .side * (t % 2) + c % p .side))) (pos 0)

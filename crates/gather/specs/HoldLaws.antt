@@ -74,7 +74,7 @@ module _ (shape : Shape) (reference : ℕ) (taken : Taking) (rowParity : ℕ) (w
     held-over (suc zero) h = let e : y / (n / 2) + 1 - 1 ≡ y / (n / 2) = omega arith in rw e upper
     held-over (suc (suc u)) h = absurd (omega arith)
 
-    start-over : (u : ℕ) → u < 2 → startOf span u ≡ slotOf n (shape .width) (y / (n / 2) + 1 - u) + n * (y % (n / 2) + u * (n / 2))
+    start-over : (u : ℕ) → u < 2 → startOf span u ≡ slotOf n (shape .width) (y / (n / 2) + 1 - u) + 2 * n * (y % (n / 2) + u * (n / 2))
     unfolding rowSpan
     start-over zero h =
         let e : y / (n / 2) + 1 - 0 ≡ y / (n / 2) + 1 = omega arith in
@@ -88,15 +88,15 @@ module _ (shape : Shape) (reference : ℕ) (taken : Taking) (rowParity : ℕ) (w
 
     -- a word of a row that is held: of half u of the two over its block
     half-held : {row : ℕ} → RowHeld n (shape .width) taken rowParity row work → (i u : ℕ) → i < n → u < 2
-        → getD work (slotOf n (shape .width) row + (n * n * (2 * (c / n) + u) + (n * i + c % n))) (pos 0) ≡ taken rowParity (c % 2) row (c / n + 1 - u) i (c % n / 2 + u * (n / 2))
+        → getD work (slotOf n (shape .width) row + (2 * (n * n) * (c / n) + (2 * n * i + (n * u + c % n)))) (pos 0) ≡ taken rowParity (c % 2) row (c / n + 1 - u) i (c % n / 2 + u * (n / 2))
     unfolding rowWords rowWord halfWord
     half-held {row} held i u hi hu =
-        let h = 2 * (c / n) + u in
-        let layer : h % 2 ≡ u = omega arith in
-        let block : h / 2 ≡ c / n = omega arith in
-        let below : h < 2 * (shape .width / n) = omega (arith, block-below sided (shape .width) c (ok .whole) inside) in
-        held .is (n * n * h + (n * i + c % n)) (place-in sided (shape .width) (ok .whole) h i (c % n) below hi (word-below sided c))
-        ∙ rw (half-of sided h i (c % n) hi (word-below sided c), row-of sided h i (c % n) hi (word-below sided c), word-of sided h i (c % n) hi (word-below sided c), word-parity sided c, layer, block)
+        let b = c / n in
+        let layer : (2 * b + u) % 2 ≡ u = omega arith in
+        let block : (2 * b + u) / 2 ≡ b = omega arith in
+        let word = word-below sided c in
+        held .is (2 * (n * n) * b + (2 * n * i + (n * u + c % n))) (place-in sided (shape .width) (ok .whole) b u i (c % n) (block-below sided (shape .width) c (ok .whole) inside) hu hi word)
+        ∙ rw (half-of sided b u i (c % n) hu hi word, row-of sided b u i (c % n) hu hi word, word-of sided b u i (c % n) hu hi word, word-parity sided c, layer, block)
 
     pub word-is : (t : ℕ) → t < 4 → wordOver work span c t ≡ takenOver taken (n / 2) rowParity (c % 2) y (c / 2) t
     unfolding wordOver rowSpan

@@ -35,9 +35,9 @@ pub record Words (work : List ℤ) (at n : ℕ) : Type 0 where
 pub record Weighed (work : List ℤ) (p : Span) (lower upper : List ℤ) : Type 0 where
   pub sided : TileSide (p .side)
   pub lower-later : Words work (p .below) (p .side)
-  pub lower-earlier : Words work (p .below + p .side * p .side) (p .side)
+  pub lower-earlier : Words work (p .below + p .side) (p .side)
   pub upper-later : Words work (p .above) (p .side)
-  pub upper-earlier : Words work (p .above + p .side * p .side) (p .side)
+  pub upper-earlier : Words work (p .above + p .side) (p .side)
   pub lower-weights : Weights (p .side) (p .i) lower
   pub upper-weights : Weights (p .side) (p .i + p .side / 2) upper
   pub row : p .i < p .side / 2
@@ -58,8 +58,8 @@ rowSpan s reference rowParity y top =
     record {
       from = reference * frameStride s + (2 * y + rowParity) * rowStride s;
       start = (2 * y + rowParity - top) * s .width;
-      above = slotOf (s .side) (s .width) (y / half) + s .side * (y % half + half);
-      below = slotOf (s .side) (s .width) (y / half + 1) + s .side * (y % half);
+      above = slotOf (s .side) (s .width) (y / half) + 2 * s .side * (y % half + half);
+      below = slotOf (s .side) (s .width) (y / half + 1) + 2 * s .side * (y % half);
       side = s .side;
       i = y % half;
     }

@@ -196,11 +196,10 @@ fn windowed(work: &[i64], lower: &[i64; 64], upper: &[i64; 64], span: Span, l: u
     let above = span.above;
     let below = span.below;
     let side = span.side;
-    let half = side * side;
     part(work, lower, below + l, l)
-        + part(work, lower, below + half + l, l + side)
+        + part(work, lower, below + side + l, l + side)
         + part(work, upper, above + l, l)
-        + part(work, upper, above + half + l, l + side)
+        + part(work, upper, above + side + l, l + side)
 }
 
 // Words of a block, sixteen of them from `place` on.
@@ -275,8 +274,8 @@ fn row_span(shape: Shape, reference: usize, row_parity: usize, y: usize, top: us
     let side = shape.side;
     let half = side / 2;
     let i = y % half;
-    let above = slot(side, shape.width, y / half) + side * (i + half);
-    let below = slot(side, shape.width, y / half + 1) + side * i;
+    let above = slot(side, shape.width, y / half) + 2 * side * (i + half);
+    let below = slot(side, shape.width, y / half + 1) + 2 * side * i;
     Span {
         from,
         start,

@@ -96,10 +96,10 @@ module _ (lower upper : Scene) (rowParity row : ℕ) (d : List ℤ) where
     pub ends-turn : {l a b c r : List ℤ} {g t : List (List ℤ)} → EndStoring lower upper rowParity row d n l → n < lower .width / 16 + 1
         → PairTaken 16 (endTaken greatestAt lower upper) (record { «row_parity» = rowParity; row = row; column = n }) g
         → PairTaken 16 (endTaken leastAt lower upper) (record { «row_parity» = rowParity; row = row; column = n }) t
-        → Spread (0 < n) (λ i j. cell (pos 0) g i (0 + j)) (slotOf 16 (lower .width) row + 512 * (n - 1)) 16 16 16 l a
-        → Spread (n < lower .width / 16) (λ i j. cell (pos 0) g i (16 + j)) (slotOf 16 (lower .width) row + (512 * n + 256)) 16 16 16 a b
-        → Spread (0 < n) (λ i j. cell (pos 0) t i (0 + j)) (leastSlot (lower .width) row + 512 * (n - 1)) 16 16 16 b c
-        → Spread (n < lower .width / 16) (λ i j. cell (pos 0) t i (16 + j)) (leastSlot (lower .width) row + (512 * n + 256)) 16 16 16 c r
+        → Spread (0 < n) (λ i j. cell (pos 0) g i (0 + j)) (slotOf 16 (lower .width) row + 512 * (n - 1)) 32 16 16 l a
+        → Spread (n < lower .width / 16) (λ i j. cell (pos 0) g i (16 + j)) (slotOf 16 (lower .width) row + (512 * n + 16)) 32 16 16 a b
+        → Spread (0 < n) (λ i j. cell (pos 0) t i (0 + j)) (leastSlot (lower .width) row + 512 * (n - 1)) 32 16 16 b c
+        → Spread (n < lower .width / 16) (λ i j. cell (pos 0) t i (16 + j)) (leastSlot (lower .width) row + (512 * n + 16)) 32 16 16 c r
         → EndStoring lower upper rowParity row d (n + 1) r
     ends-turn w h greatest least a b c e =
         let first = slotOf 16 (lower .width) row in

@@ -18,9 +18,9 @@ slotOf side width row = row % 2 * rowWords side width
 unfoldable pub halfWord : (side : ℕ) → Taking → (rowParity row h i c : ℕ) → ℤ
 halfWord side taken rowParity row h i c = taken rowParity (c % 2) row (h / 2 + 1 - h % 2) i (c / 2 + h % 2 * (side / 2))
 
--- word k of the row, half after half, each row by row
+-- word k of the row: block after block, each row by row, its two halves side by side
 unfoldable pub rowWord : (side : ℕ) → Taking → (rowParity row k : ℕ) → ℤ
-rowWord side taken rowParity row k = halfWord side taken rowParity row (k / (side * side)) (k % (side * side) / side) (k % side)
+rowWord side taken rowParity row k = halfWord side taken rowParity row (2 * (k / (2 * (side * side))) + k % (2 * side) / side) (k % (2 * (side * side)) / (2 * side)) (k % side)
 
 -- l is d with a row of pairs of a merge stored
 pub record Stored (side : ℕ) (s : Scene) (rowParity row : ℕ) (d l : List ℤ) : Type 0 where

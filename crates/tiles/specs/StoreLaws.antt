@@ -10,7 +10,7 @@ use Rattle.spectrum.specs.Pairs.{sideBySide}
 use Rattle.tiles.specs.Sum.{takenIn, takenMost, Taking, PairTaken, Taken}
 use Rattle.tiles.specs.Toward.{Toward, toward-same, toward-on, written-right, written-toward, goal, toward-written}
 use Rattle.tiles.specs.Rows.{rowWords, slotOf, halfWord, rowWord, Stored, Fits, Spread}
-use Rattle.tiles.specs.Places.{half-of, row-of, word-of, whole-word, row-in, word-in, half-in, place-in, half-parity, half-column, half-below}
+use Rattle.tiles.specs.Places.{half-of, row-of, word-of, whole-word, half-in, row-in, word-in, block-in, place-in, half-parity, half-column, half-below}
 
 module _ {P : Type 0} {f : ℕ → ℕ → ℤ} {at step n : ℕ} {d : List ℤ} where
   pub spread-start : Spread P f at step n 0 d d
@@ -54,8 +54,8 @@ pub record Aimed (side width : ℕ) (taken : Taking) (rowParity row start : ℕ)
 -- l has the first n pairs of the row there
 pub record Placed (side width : ℕ) (taken : Taking) (rowParity row start n : ℕ) (l : List ℤ) : Type 0 where
   pub count : n ≤ width / side + 1
-  pub right : (h i j : ℕ) → h < 2 * (width / side) → i < side → j < side → h / 2 + 1 - h % 2 < n →
-      getD l (start + (side * side * h + (side * i + j))) (pos 0) ≡ halfWord side taken rowParity row h i j
+  pub right : (b u i j : ℕ) → b < width / side → u < 2 → i < side → j < side → b + 1 - u < n →
+      getD l (start + (2 * (side * side) * b + (2 * side * i + (side * u + j)))) (pos 0) ≡ halfWord side taken rowParity row (2 * b + u) i j
   pub most : (b : ℕ) → b < n → (i l : ℕ) → i < side → l < 2 * side → natAbs (pairAt taken rowParity row b i l) ≤ takenMost
 
 module _ (side width : ℕ) (taken : Taking) (rowParity row start : ℕ) where
@@ -63,7 +63,7 @@ module _ (side width : ℕ) (taken : Taking) (rowParity row start : ℕ) where
   placed-start =
       record {
         count = omega arith;
-        right = λ h i j a b c k. absurd (omega arith);
+        right = λ b u i j w x y z k. absurd (omega arith);
         most = below-none (λ b. (i l : ℕ) → i < side → l < 2 * side → natAbs (pairAt taken rowParity row b i l) ≤ takenMost);
       }
 
@@ -79,54 +79,54 @@ module _ (side width : ℕ) (taken : Taking) (rowParity row start : ℕ) where
 
     module _ {g : ℕ → ℤ} (aim : Aimed side width taken rowParity row start g) where
       -- the words aimed at, at a word of a half
-      goal-is : (h i j : ℕ) → h < 2 * (width / side) → i < side → j < side → g (start + (side * side * h + (side * i + j))) ≡ halfWord side taken rowParity row h i j
+      goal-is : (b u i j : ℕ) → b < width / side → u < 2 → i < side → j < side → g (start + (2 * (side * side) * b + (2 * side * i + (side * u + j)))) ≡ halfWord side taken rowParity row (2 * b + u) i j
       unfolding rowWords rowWord
-      goal-is h i j a b c =
-          aim .at (side * side * h + (side * i + j)) (place-in sided width wide h i j a b c)
-          ∙ rw (half-of sided h i j b c, row-of sided h i j b c, word-of sided h i j b c)
+      goal-is b u i j w x y z =
+          aim .at (2 * (side * side) * b + (2 * side * i + (side * u + j))) (place-in sided width wide b u i j w x y z)
+          ∙ rw (half-of sided b u i j x y z, row-of sided b u i j x y z, word-of sided b u i j x y z)
 
       -- they stay where the list comes nearer to its words
       pub placed-keep : {n : ℕ} {l r : List ℤ} → Toward (pos 0) g l r → Placed side width taken rowParity row start n l → Placed side width taken rowParity row start n r
-      placed-keep t w = record { count = w .count; right = λ h i j a b c k. t .keeps _ (w .right h i j a b c k ∙ sym (goal-is h i j a b c)) ∙ goal-is h i j a b c; most = w .most }
+      placed-keep t w = record { count = w .count; right = λ b u i j p x y z k. t .keeps _ (w .right b u i j p x y z k ∙ sym (goal-is b u i j p x y z)) ∙ goal-is b u i j p x y z; most = w .most }
 
       module _ {n : ℕ} {l mid r : List ℤ} {tile : List (List ℤ)} (w : Placed side width taken rowParity row start n l) (h : n < width / side + 1)
           (sum : PairTaken side taken (record { «row_parity» = rowParity; row = row; column = n }) tile)
-          (left : Spread (0 < n) (λ i j. cell (pos 0) tile i (0 + j)) (start + 2 * (side * side) * (n - 1)) side side side l mid)
-          (right : Spread (n < width / side) (λ i j. cell (pos 0) tile i (side + j)) (start + (2 * (side * side) * n + side * side)) side side side mid r) where
+          (left : Spread (0 < n) (λ i j. cell (pos 0) tile i (0 + j)) (start + 2 * (side * side) * (n - 1)) (2 * side) side side l mid)
+          (right : Spread (n < width / side) (λ i j. cell (pos 0) tile i (side + j)) (start + (2 * (side * side) * n + side)) (2 * side) side side mid r) where
         cell-word : (i k : ℕ) → i < side → k < 2 * side → cell (pos 0) tile i k ≡ pairAt taken rowParity row n i k
         cell-word i k a b = ap (λ x. cell (pos 0) x i k) (sum .is) ∙ cell-grid (pos 0) side (2 * side) _ i k a b
 
-        left-place : (i j : ℕ) → start + (side * side * (2 * (n - 1) + 0) + (side * i + j)) ≡ start + 2 * (side * side) * (n - 1) + side * i + j
+        left-place : (i j : ℕ) → start + (2 * (side * side) * (n - 1) + (2 * side * i + (side * 0 + j))) ≡ start + 2 * (side * side) * (n - 1) + 2 * side * i + j
         left-place i j = omega arith
 
-        right-place : (i j : ℕ) → start + (side * side * (2 * n + 1) + (side * i + j)) ≡ start + (2 * (side * side) * n + side * side) + side * i + j
+        right-place : (i j : ℕ) → start + (2 * (side * side) * n + (2 * side * i + (side * 1 + j))) ≡ start + (2 * (side * side) * n + side) + 2 * side * i + j
         right-place i j = omega arith
 
-        left-fits : 0 < n → Fits (λ i j. cell (pos 0) tile i (0 + j)) (start + 2 * (side * side) * (n - 1)) side side side g
+        left-fits : 0 < n → Fits (λ i j. cell (pos 0) tile i (0 + j)) (start + 2 * (side * side) * (n - 1)) (2 * side) side side g
         left-fits some i j hi hj =
             let place : 0 + j ≡ side * 0 + j = omega arith in
-            cell-word i (0 + j) hi (omega arith) ∙ ap (pairAt taken rowParity row n i) place ∙ pair-word n i 0 (n - 1) j (omega arith) (omega arith) ∙ sym (goal-is (2 * (n - 1) + 0) i j (omega arith) hi hj) ∙ ap g (left-place i j)
+            cell-word i (0 + j) hi (omega arith) ∙ ap (pairAt taken rowParity row n i) place ∙ pair-word n i 0 (n - 1) j (omega arith) (omega arith) ∙ sym (goal-is (n - 1) 0 i j (omega arith) (omega arith) hi hj) ∙ ap g (left-place i j)
 
-        right-fits : n < width / side → Fits (λ i j. cell (pos 0) tile i (side + j)) (start + (2 * (side * side) * n + side * side)) side side side g
+        right-fits : n < width / side → Fits (λ i j. cell (pos 0) tile i (side + j)) (start + (2 * (side * side) * n + side)) (2 * side) side side g
         right-fits more i j hi hj =
             let place : side + j ≡ side * 1 + j = omega arith in
-            cell-word i (side + j) hi (omega arith) ∙ ap (pairAt taken rowParity row n i) place ∙ pair-word n i 1 n j (omega arith) (omega arith) ∙ sym (goal-is (2 * n + 1) i j (omega arith) hi hj) ∙ ap g (right-place i j)
+            cell-word i (side + j) hi (omega arith) ∙ ap (pairAt taken rowParity row n i) place ∙ pair-word n i 1 n j (omega arith) (omega arith) ∙ sym (goal-is n 1 i j more (omega arith) hi hj) ∙ ap g (right-place i j)
 
         pub placed-nearer : Toward (pos 0) g l r
         placed-nearer = toward-on (left .toward g left-fits) (right .toward g right-fits)
 
         -- the words of this pair
         stands : (block u i j : ℕ) → u < 2 → block < width / side → i < side → j < side → block + 1 - u ≡ n
-            → getD r (start + (side * side * (2 * block + u) + (side * i + j))) (pos 0) ≡ g (start + (side * side * (2 * block + u) + (side * i + j)))
+            → getD r (start + (2 * (side * side) * block + (2 * side * i + (side * u + j)))) (pos 0) ≡ g (start + (2 * (side * side) * block + (2 * side * i + (side * u + j))))
         stands block zero i j hu hb hi hj e =
             let some : 0 < n = omega arith in
             let this : n - 1 ≡ block = omega arith in
-            subst (λ b. getD r (start + (side * side * (2 * b + 0) + (side * i + j))) (pos 0) ≡ g (start + (side * side * (2 * b + 0) + (side * i + j)))) this
+            subst (λ b. getD r (start + (2 * (side * side) * b + (2 * side * i + (side * 0 + j)))) (pos 0) ≡ g (start + (2 * (side * side) * b + (2 * side * i + (side * 0 + j))))) this
             (right .toward g right-fits .keeps _ (subst (λ k. getD mid k (pos 0) ≡ g k) (sym (left-place i j)) (left .right some g (left-fits some) i j hi hj)))
         stands block (suc zero) i j hu hb hi hj e =
             let more : n < width / side = omega arith in
             let this : n ≡ block = omega arith in
-            subst (λ b. getD r (start + (side * side * (2 * b + 1) + (side * i + j))) (pos 0) ≡ g (start + (side * side * (2 * b + 1) + (side * i + j)))) this
+            subst (λ b. getD r (start + (2 * (side * side) * b + (2 * side * i + (side * 1 + j)))) (pos 0) ≡ g (start + (2 * (side * side) * b + (2 * side * i + (side * 1 + j))))) this
             (subst (λ k. getD r k (pos 0) ≡ g k) (sym (right-place i j)) (right .right more g (right-fits more) i j hi hj))
         stands block (suc (suc u)) i j hu hb hi hj e = absurd (omega arith)
 
@@ -134,34 +134,31 @@ module _ (side width : ℕ) (taken : Taking) (rowParity row start : ℕ) where
         placed-turn =
             record {
               count = omega arith;
-              right = λ h i j a b c k. by h i j a b c k (ltb (h / 2 + 1 - h % 2) n) refl;
+              right = λ b u i j p x y z k. by b u i j p x y z k (ltb (b + 1 - u) n) refl;
               most = below-more (λ b. (i l : ℕ) → i < side → l < 2 * side → natAbs (pairAt taken rowParity row b i l) ≤ takenMost) n (w .most) (sum .most);
             }
           where
-            by : (h i j : ℕ) → h < 2 * (width / side) → i < side → j < side → h / 2 + 1 - h % 2 < n + 1 → (t : Bool) → ltb (h / 2 + 1 - h % 2) n ≡ t
-                → getD r (start + (side * side * h + (side * i + j))) (pos 0) ≡ halfWord side taken rowParity row h i j
-            by h i j a b c k true t = placed-nearer .keeps _ (w .right h i j a b c (ltb-true (h / 2 + 1 - h % 2) n t) ∙ sym (goal-is h i j a b c)) ∙ goal-is h i j a b c
-            by h i j a b c k false t =
-                let half : 2 * (h / 2) + h % 2 ≡ h = omega arith in
-                subst (λ x. getD r (start + (side * side * x + (side * i + j))) (pos 0) ≡ g (start + (side * side * x + (side * i + j)))) half
-                (stands (h / 2) (h % 2) i j (omega arith) (omega arith) b c (omega (arith, ltb-false (h / 2 + 1 - h % 2) n t))) ∙ goal-is h i j a b c
+            by : (b u i j : ℕ) → b < width / side → u < 2 → i < side → j < side → b + 1 - u < n + 1 → (t : Bool) → ltb (b + 1 - u) n ≡ t
+                → getD r (start + (2 * (side * side) * b + (2 * side * i + (side * u + j)))) (pos 0) ≡ halfWord side taken rowParity row (2 * b + u) i j
+            by b u i j p x y z k true t = placed-nearer .keeps _ (w .right b u i j p x y z (ltb-true (b + 1 - u) n t) ∙ sym (goal-is b u i j p x y z)) ∙ goal-is b u i j p x y z
+            by b u i j p x y z k false t = stands b u i j x p y z (omega (arith, ltb-false (b + 1 - u) n t)) ∙ goal-is b u i j p x y z
 
     -- the whole row
     module _ {n : ℕ} {l : List ℤ} (w : Placed side width taken rowParity row start n l) (h : width / side + 1 ≤ n) where
       pub placed-word : (k : ℕ) → k < rowWords side width → getD l (start + k) (pos 0) ≡ rowWord side taken rowParity row k
       unfolding rowWords rowWord
       placed-word k b =
-          let in-row = half-in sided width wide k b in
+          let in-row = block-in sided width wide k b in
           subst (λ x. getD l (start + x) (pos 0) ≡ rowWord side taken rowParity row k) (whole-word sided k)
-          (w .right (k / (side * side)) (k % (side * side) / side) (k % side) in-row (row-in sided k) (word-in sided k) (omega (arith, in-row)))
+          (w .right (k / (2 * (side * side))) (k % (2 * side) / side) (k % (2 * (side * side)) / (2 * side)) (k % side) in-row (half-in sided k) (row-in sided k) (word-in sided k) (omega (arith, in-row)))
 
       pub placed-most : (k : ℕ) → k < rowWords side width → natAbs (rowWord side taken rowParity row k) ≤ takenMost
       unfolding rowWords rowWord halfWord
       placed-most k b =
-          let half = k / (side * side) in
-          let in-row : half < 2 * (width / side) = half-in sided width wide k b in
+          let half = 2 * (k / (2 * (side * side))) + k % (2 * side) / side in
+          let in-row : half < 2 * (width / side) = omega (arith, block-in sided width wide k b, half-in sided k) in
           rw (half-parity sided (half % 2) (k % side), half-column sided (half % 2) (k % side)) at
-          (w .most (half / 2 + 1 - half % 2) (omega (arith, in-row)) (k % (side * side) / side) (side * (half % 2) + k % side) (row-in sided k) (half-below sided (half % 2) (k % side) (omega arith) (word-in sided k)))
+          (w .most (half / 2 + 1 - half % 2) (omega (arith, in-row)) (k % (2 * (side * side)) / (2 * side)) (side * (half % 2) + k % side) (row-in sided k) (half-below sided (half % 2) (k % side) (omega arith) (word-in sided k)))
 
 -- l is d after the first n pairs of a merge's row
 pub record Storing (side : ℕ) (s : Scene) (rowParity row : ℕ) (d : List ℤ) (n : ℕ) (l : List ℤ) : Type 0 where
@@ -185,8 +182,8 @@ module _ (side : ℕ) (s : Scene) (rowParity row : ℕ) (d : List ℤ) where
   module _ (sided : TileSide side) (wide : s .width % 64 ≡ 0) where
     pub store-turn : {n : ℕ} {l mid r : List ℤ} {tile : List (List ℤ)} → Storing side s rowParity row d n l → n < s .width / side + 1
         → Taken side s (record { «row_parity» = rowParity; row = row; column = n }) tile
-        → Spread (0 < n) (λ i j. cell (pos 0) tile i (0 + j)) (slot + 2 * (side * side) * (n - 1)) side side side l mid
-        → Spread (n < s .width / side) (λ i j. cell (pos 0) tile i (side + j)) (slot + (2 * (side * side) * n + side * side)) side side side mid r
+        → Spread (0 < n) (λ i j. cell (pos 0) tile i (0 + j)) (slot + 2 * (side * side) * (n - 1)) (2 * side) side side l mid
+        → Spread (n < s .width / side) (λ i j. cell (pos 0) tile i (side + j)) (slot + (2 * (side * side) * n + side)) (2 * side) side side mid r
         → Storing side s rowParity row d (n + 1) r
     store-turn w h sum left right =
         let aim = aimed (w .room) in

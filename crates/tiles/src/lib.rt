@@ -14,8 +14,8 @@ pub const PAIR_WIDTH: usize = 32;
 
 pub const BLOCK: usize = 16;
 
-// Half a pair in the work area.
-pub const HALF_WORDS: usize = 256;
+// The two halves of pairs over a block, in the work area.
+pub const BLOCK_WORDS: usize = 512;
 
 // A pair of tiles: the parity of its rows, and its row and column among its planes' tiles. Its rows are thirty-two samples, and place 2·x + p of one is column x
 // of the tile of column parity p.

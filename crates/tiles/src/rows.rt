@@ -10,7 +10,7 @@ ghost use Rattle.recipe.specs.Scene.{sceneAt};
 ghost use Rattle.tiles.specs.Accepted.{Accepted};
 ghost use Rattle.tiles.specs.Rows.{rowWords, slotOf, Stored, Spread};
 use crate::BLOCK;
-use crate::HALF_WORDS;
+use crate::BLOCK_WORDS;
 use crate::PAIR_WIDTH;
 use crate::SIDE;
 use crate::Site;
@@ -28,25 +28,25 @@ fn store_block(work: &mut [i64], at: usize, row: &[i64; PAIR_WIDTH], from: usize
     }
 }
 
-// Half of each row of a pair is stored, one after the other.
+// Half of each row of a pair is stored, one row of both halves over a block, which is as wide as a pair, after the other.
 fn store_half(work: &mut [i64], at: usize, tile: &[[i64; PAIR_WIDTH]; SIDE], from: usize)
-    requires { ⌜ (at + 256 ≤ length (now work)) × (from ≤ 16) ⌝ }
-    ensures { λ _. ⌜ Spread (Unit {0}) (λ i j. cell (pos 0) (now (tile .entry)) i (from + j)) at 16 16 16 (now (work .entry)) (now (work .exit)) ⌝ }
+    requires { ⌜ (at + 496 ≤ length (now work)) × (from ≤ 16) ⌝ }
+    ensures { λ _. ⌜ Spread (Unit {0}) (λ i j. cell (pos 0) (now (tile .entry)) i (from + j)) at 32 16 16 (now (work .entry)) (now (work .exit)) ⌝ }
 {
     for i in 0..SIDE {
-        store_block(&mut *work, at + BLOCK * i, &tile[i], from);
+        store_block(&mut *work, at + PAIR_WIDTH * i, &tile[i], from);
     }
 }
 
 // The left half of pair `column` of a row whose words start at `start`, unless it lies outside the frame.
 pub fn store_left(work: &mut [i64], start: usize, column: usize, tile: &[[i64; PAIR_WIDTH]; SIDE])
     requires { ⌜ start + 512 * column ≤ length (now work) ⌝ }
-    ensures { λ _. ⌜ Spread (0 < column) (λ i j. cell (pos 0) (now (tile .entry)) i (0 + j)) (start + 512 * (column - 1)) 16 16 16 (now (work .entry)) (now (work .exit)) ⌝ }
+    ensures { λ _. ⌜ Spread (0 < column) (λ i j. cell (pos 0) (now (tile .entry)) i (0 + j)) (start + 512 * (column - 1)) 32 16 16 (now (work .entry)) (now (work .exit)) ⌝ }
 {
     if column == 0 {
         return;
     }
-    store_half(&mut *work, start + 2 * HALF_WORDS * (column - 1), tile, 0);
+    store_half(&mut *work, start + BLOCK_WORDS * (column - 1), tile, 0);
 }
 
 // The right half likewise, of a row of `blocks` blocks.
@@ -58,14 +58,14 @@ pub fn store_right(
     tile: &[[i64; PAIR_WIDTH]; SIDE],
 )
     requires { ⌜ (start + 512 * blocks ≤ length (now work)) × (column ≤ blocks) ⌝ }
-    ensures { λ _. ⌜ Spread (column < blocks) (λ i j. cell (pos 0) (now (tile .entry)) i (16 + j)) (start + (512 * column + 256)) 16 16 16 (now (work .entry)) (now (work .exit)) ⌝ }
+    ensures { λ _. ⌜ Spread (column < blocks) (λ i j. cell (pos 0) (now (tile .entry)) i (16 + j)) (start + (512 * column + 16)) 32 16 16 (now (work .entry)) (now (work .exit)) ⌝ }
 {
     if column == blocks {
         return;
     }
     store_half(
         &mut *work,
-        start + (2 * HALF_WORDS * column + HALF_WORDS),
+        start + (BLOCK_WORDS * column + BLOCK),
         tile,
         BLOCK,
     );

@@ -14,5 +14,5 @@ const PAIR_WIDTH: usize = 64;
 
 const BLOCK: usize = 32;
 
-// Half a pair in the work area.
-const HALF_WORDS: usize = 1024;
+// The two halves of pairs over a block, in the work area.
+const BLOCK_WORDS: usize = 2048;

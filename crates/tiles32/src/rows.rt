@@ -10,7 +10,7 @@ ghost use Rattle.recipe.specs.Scene.{sceneAt};
 ghost use Rattle.tiles.specs.Accepted.{Accepted};
 ghost use Rattle.tiles.specs.Rows.{rowWords, Stored, Spread};
 use crate::BLOCK;
-use crate::HALF_WORDS;
+use crate::BLOCK_WORDS;
 use crate::PAIR_WIDTH;
 use crate::SIDE;
 use crate::correcting::tile_correction;
@@ -29,25 +29,25 @@ fn store_block(work: &mut [i64], at: usize, row: &[i64; PAIR_WIDTH], from: usize
     }
 }
 
-// Half of each row of a pair is stored, one after the other.
+// Half of each row of a pair is stored, one row of both halves over a block, which is as wide as a pair, after the other.
 fn store_half(work: &mut [i64], at: usize, tile: &[[i64; PAIR_WIDTH]; SIDE], from: usize)
-    requires { ⌜ (at + 1024 ≤ length (now work)) × (from ≤ 32) ⌝ }
-    ensures { λ _. ⌜ Spread (Unit {0}) (λ i j. cell (pos 0) (now (tile .entry)) i (from + j)) at 32 32 32 (now (work .entry)) (now (work .exit)) ⌝ }
+    requires { ⌜ (at + 2016 ≤ length (now work)) × (from ≤ 32) ⌝ }
+    ensures { λ _. ⌜ Spread (Unit {0}) (λ i j. cell (pos 0) (now (tile .entry)) i (from + j)) at 64 32 32 (now (work .entry)) (now (work .exit)) ⌝ }
 {
     for i in 0..SIDE {
-        store_block(&mut *work, at + BLOCK * i, &tile[i], from);
+        store_block(&mut *work, at + PAIR_WIDTH * i, &tile[i], from);
     }
 }
 
 // The left half of pair `column` of a row whose words start at `start`, unless it lies outside the frame.
 fn store_left(work: &mut [i64], start: usize, column: usize, tile: &[[i64; PAIR_WIDTH]; SIDE])
     requires { ⌜ start + 2048 * column ≤ length (now work) ⌝ }
-    ensures { λ _. ⌜ Spread (0 < column) (λ i j. cell (pos 0) (now (tile .entry)) i (0 + j)) (start + 2048 * (column - 1)) 32 32 32 (now (work .entry)) (now (work .exit)) ⌝ }
+    ensures { λ _. ⌜ Spread (0 < column) (λ i j. cell (pos 0) (now (tile .entry)) i (0 + j)) (start + 2048 * (column - 1)) 64 32 32 (now (work .entry)) (now (work .exit)) ⌝ }
 {
     if column == 0 {
         return;
     }
-    store_half(&mut *work, start + 2 * HALF_WORDS * (column - 1), tile, 0);
+    store_half(&mut *work, start + BLOCK_WORDS * (column - 1), tile, 0);
 }
 
 // The right half likewise, of a row of `blocks` blocks.
@@ -59,14 +59,14 @@ fn store_right(
     tile: &[[i64; PAIR_WIDTH]; SIDE],
 )
     requires { ⌜ (start + 2048 * blocks ≤ length (now work)) × (column ≤ blocks) ⌝ }
-    ensures { λ _. ⌜ Spread (column < blocks) (λ i j. cell (pos 0) (now (tile .entry)) i (32 + j)) (start + (2048 * column + 1024)) 32 32 32 (now (work .entry)) (now (work .exit)) ⌝ }
+    ensures { λ _. ⌜ Spread (column < blocks) (λ i j. cell (pos 0) (now (tile .entry)) i (32 + j)) (start + (2048 * column + 32)) 64 32 32 (now (work .entry)) (now (work .exit)) ⌝ }
 {
     if column == blocks {
         return;
     }
     store_half(
         &mut *work,
-        start + (2 * HALF_WORDS * column + HALF_WORDS),
+        start + (BLOCK_WORDS * column + BLOCK),
         tile,
         BLOCK,
     );

@@ -36,10 +36,10 @@ room c =
     }
 
 -- where rows of pairs lie in the work area
-above-most : (c : tie.Start) → let n = c .args .shape .side in n * (c .args .y % (n / 2) + n / 2) ≤ 1024
+above-most : (c : tie.Start) → let n = c .args .shape .side in 2 * n * (c .args .y % (n / 2) + n / 2) ≤ 2048
 above-most c = place-most (c .pre .sided) (c .args .y)
 
-below-most : (c : tie.Start) → let n = c .args .shape .side in n * (c .args .y % (n / 2)) ≤ 1024
+below-most : (c : tie.Start) → let n = c .args .shape .side in 2 * n * (c .args .y % (n / 2)) ≤ 2048
 below-most c = omega (arith, above-most c)
 
 add-above : tie.Need-add-above
@@ -79,7 +79,7 @@ row-span-spec = tie.close (tie.spec
     (λ c. omega (arith, room (c .before .before))) (λ c. c .before .before .pre .under) (λ c. omega (arith, room (c .before .before .before)))
     (λ c. half-above (c .before .before .before .pre .sided)) (λ c. half-above (c .before .before .before .pre .sided))
     (λ c κs. (side-most (c .before .before .before .pre .sided), c .before .before .before .pre .allowed .wide .most))
-    add-above (λ c. omega (arith, above-most (c .before .before .before .before))) add-above-2
+    (λ c. omega (arith, side-most (c .before .before .before .before .pre .sided))) add-above (λ c. omega (arith, above-most (c .before .before .before .before))) add-above-2
     (λ c. half-above (c .before .before .before .before .pre .sided)) add-slot
     (λ c κs. (side-most (c .before .before .before .before .pre .sided), c .before .before .before .before .pre .allowed .wide .most))
-    (λ c. omega (arith, below-most (c .before .before .before .before .before))) add-below returns)
+    (λ c. omega (arith, side-most (c .before .before .before .before .before .pre .sided))) (λ c. omega (arith, below-most (c .before .before .before .before .before))) add-below returns)

@@ -3,7 +3,7 @@ use Rattle.algebra.specs.Prelude.{ap, _∙_, _+_, _*_, _/_, arith, needs, _+ℤ
 use Rattle.algebra.specs.Bound.{AtMost, most-fits}
 use Rattle.tiles.specs.SignedLaws.{plus64, sum-is, sum-most}
 use Rattle.gather.specs.Work.{partMost, sumMost}
-use Rattle.gather.proofs.Weighing.{side-most, square-most, upper-below, weight-small, windowed-four}
+use Rattle.gather.proofs.Weighing.{side-most, upper-below, weight-small, windowed-four}
 use Rattle.gather.proofs.windowed.Statement.{statement}
 use Rattle.gather.proofs.windowed.Tie as tie
 
@@ -82,7 +82,7 @@ returns c =
 
 pub windowed-spec : {M : Type 1} → statement M
 windowed-spec = tie.close (tie.spec
-    (λ c. omega (arith, square-most (c .pre .0 .sided))) (λ c. search needs) part-requires (λ c. search needs) (λ c. search needs)
+    (λ c. search needs) part-requires (λ c. search needs) (λ c. search needs)
     (λ c. omega (arith, c .before .pre .1, side-most (c .before .pre .0 .sided))) part-requires-2
     (λ c. most-fits w64 _ _ (most-2 c) tt) (λ c. search needs) part-requires-3
     (λ c. most-fits w64 _ _ (most-3 c) tt) (λ c. search needs) (λ c. search needs)

@@ -7,7 +7,7 @@ use Rattle.tiles.proofs.rows.store_half.Statement.{statement}
 use Rattle.tiles.proofs.rows.store_half.Tie as tie
 
 abbrev Inv-loop : tie.InvT-loop
-Inv-loop work₀ at tile from i₀ work i = (Spread (Unit {0}) (λ i j. cell (pos 0) tile i (from + j)) at 16 16 i work₀ work) × (i ≤ 16)
+Inv-loop work₀ at tile from i₀ work i = (Spread (Unit {0}) (λ i j. cell (pos 0) tile i (from + j)) at 32 16 i work₀ work) × (i ≤ 16)
 
 abbrev μ-loop : tie.MeasureT-loop
 μ-loop work₀ at tile from i₀ work i = 16 - i
@@ -27,7 +27,7 @@ returns : tie.Need-returns Inv-loop μ-loop
 returns c =
     let l = c .before in
     let all : l .loop .i ≡ 16 = omega (arith, l .loop .inv .1) in
-    subst (λ n. Spread (Unit {0}) (λ i j. cell (pos 0) (now (l .before .args .tile)) i (l .before .args .from + j)) (l .before .args .at) 16 16 n (now (l .before .args .work)) (l .loop .work)) all
+    subst (λ n. Spread (Unit {0}) (λ i j. cell (pos 0) (now (l .before .args .tile)) i (l .before .args .from + j)) (l .before .args .at) 32 16 n (now (l .before .args .work)) (l .loop .work)) all
     (l .loop .inv .0)
 
 pub store-half-spec : {M : Type 1} → statement M
