@@ -378,7 +378,7 @@ static inline const char *stacker_refusal_text(uint64_t number)
    do not depend on noise, and take both curves, neither shot nor read of the lower one above the upper one's after ISO. For every curve between, shot with
    shot and read with read, no sample of the frame that stacker_merge makes with it is below low's or above high's. So where low and high are equal the merged
    sample is known in spite of the noise, and elsewhere their distance bounds what knowing the noise could change. That is a bound for each sample by itself:
-   low and high need not be the merge at any curve, and can lie further apart than such merges do. It takes some eight to ten times as long as a merge; equal
+   low and high need not be the merge at any curve, and can lie further apart than such merges do. It takes some ten times as long as a merge; equal
    curves give the merged frame twice and take as long as one merge.
 
    STRENGTH. The greater, the more of the other frames is taken where they differ from the reference. Take 600, the tau of 75 that the published
