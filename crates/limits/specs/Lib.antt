@@ -3,3 +3,5 @@ pub mod OrderLaws
 pub mod Question
 pub mod Residuals
 pub mod ResidualLaws
+pub mod Bands
+pub mod BandLaws
