@@ -1,5 +1,6 @@
 pub mod Refusals
 pub mod Residuals
+pub mod Bands
 pub mod FilterLaws
 pub mod Admission
 pub mod AdmissionLaws
