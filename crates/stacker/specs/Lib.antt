@@ -1,9 +1,15 @@
 pub mod Calls
+pub mod Bands
+pub mod BandsJoined
+pub mod BandLaws
+pub mod BandReady
+pub mod BandRowLaws
 pub mod AdmissionLaws
 pub mod CallLaws
 pub mod CloseLaws
 pub mod CeilingLaws
 pub mod RanLaws
+pub mod BandedLaws
 pub mod Choosing
 pub mod ChoosingLaws
 pub mod Residuals
