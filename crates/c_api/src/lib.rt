@@ -1,5 +1,6 @@
 // The calls for C and Rust: descriptions by value, a buffer as a pointer and its length. Each has the statement of the call behind it.
 pub mod align;
+pub mod band;
 pub mod choose;
 pub mod dng_file;
 pub mod file;
