@@ -128,7 +128,8 @@ typedef enum {
     STACKER_REFUSED_ROW_LENGTH = 23,
     STACKER_REFUSED_SPATIAL_STRENGTH = 24,
     STACKER_REFUSED_FILTERED_SIDE = 25,
-    STACKER_REFUSED_NOISE_RANGE = 26
+    STACKER_REFUSED_NOISE_RANGE = 26,
+    STACKER_REFUSED_PART = 27
 } stacker_refusal;
 
 /* Aligns each other frame on the reference. Of the tuning it reads the side alone. */
@@ -272,6 +273,7 @@ static inline const char *stacker_refusal_text(uint64_t number)
     case STACKER_REFUSED_SPATIAL_STRENGTH: return "spatial strength above 256, or not 0 where a range of noise is asked for";
     case STACKER_REFUSED_FILTERED_SIDE: return "spatial strength not 0 with tiles of side 32";
     case STACKER_REFUSED_NOISE_RANGE: return "lower shot or read above the upper one after ISO";
+    case STACKER_REFUSED_PART: return "a band of rows off the grid of tiles or outside the frame, or a frame that is none of the others";
     default: return "no refusal of this version";
     }
 }

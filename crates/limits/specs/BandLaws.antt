@@ -10,7 +10,7 @@ use Rattle.geometry.specs.Shape.{sampleLength, vectorLength}
 use Rattle.geometry.specs.Fits.{TileSide, BurstFits}
 use Rattle.geometry.specs.ShapeLaws.{both, allowed, allowed-side, below-count, right-length}
 use Rattle.limits.specs.Order.{shapeTests, burstTests}
-use Rattle.limits.specs.Bands.{part, bandAllowed, bandPartRefusal, bandLength, bandWorkLength, bandLengths, bandShapeTests}
+use Rattle.limits.specs.Bands.{bandAllowed, bandPartRefusal, bandLength, bandWorkLength, bandLengths, bandShapeTests}
 
 -- a side
 pub side-least : {n : ℕ} → TileSide n → 1 ≤ n
@@ -29,7 +29,7 @@ pub record BandIn (s : Shape) (top rows : ℕ) : Type 0 where
 pub band-in : (s : Shape) (top rows : ℕ) → bandPartRefusal s top rows ≡ 0 → BandIn s top rows
 unfolding bandPartRefusal bandAllowed
 band-in s top rows e =
-    let within = both (not-false _ (refuse-not part (not (bandAllowed s top rows)) tt e)) in
+    let within = both (not-false _ (refuse-not no.absentPart (not (bandAllowed s top rows)) tt e)) in
     let some = both (within .0) in
     let on = both (some .0) in
     record { top-on = eqb-true _ _ (on .0); rows-on = eqb-true _ _ (on .1); some = leb-true _ _ (some .1); inside = leb-true _ _ (within .1) }

@@ -7,10 +7,6 @@ use Rattle.geometry.specs.Shape.{sampleLength, vectorLength, lengthRefusal}
 use Rattle.limits.specs.Order.{burstTests}
 use Rattle.limits.specs.Question.{questionTests}
 
--- refusal 27's number: a part that the burst does not have
-abbrev pub part : ℕ
-part = 27
-
 -- A band is rows `top` to top + rows − 1 of the frame. Tiles of a plane begin every half side, so every `side` rows of the frame: a band begins and ends
 -- there, and has at least so many rows
 unfoldable pub bandAllowed : Shape → (top rows : ℕ) → Bool
@@ -18,7 +14,7 @@ bandAllowed s top rows = eqb (top % s .side) 0 && eqb (rows % s .side) 0 && leb 
 
 -- refusal 27: a band off the grid of tiles or outside the frame
 unfoldable pub bandPartRefusal : Shape → (top rows : ℕ) → ℕ
-bandPartRefusal s top rows = refuse part (not (bandAllowed s top rows))
+bandPartRefusal s top rows = refuse no.absentPart (not (bandAllowed s top rows))
 
 -- "Output rows stay W long" (request L9)
 unfoldable pub bandLength : Shape → (rows : ℕ) → ℕ

@@ -11,9 +11,6 @@ use crate::order::burst_refusal;
 use crate::question::question_refusal;
 use geometry::Shape;
 
-// Refusal 27's number.
-const PART: u64 = 27;
-
 // Rows `top` to `top + rows` - 1, where they begin and end between tiles and lie in the frame.
 fn band_allowed(shape: Shape, top: usize, rows: usize) -> bool
     requires { ⌜ TileSide (shape .side) ⌝ }
@@ -39,7 +36,7 @@ fn band_part_refusal(shape: Shape, top: usize, rows: usize) -> u64
     requires { ⌜ TileSide (shape .side) ⌝ }
     ensures { λ r. ⌜ r ≡ bandPartRefusal shape top rows ⌝ }
 {
-    refusals::refuse(PART, !band_allowed(shape, top, rows))
+    refusals::refuse(refusals::PART, !band_allowed(shape, top, rows))
 }
 
 // Words of a band's output.
