@@ -5,3 +5,5 @@ pub mod Residuals
 pub mod ResidualLaws
 pub mod Bands
 pub mod BandLaws
+pub mod OneFrame
+pub mod OneFrameLaws
