@@ -1,4 +1,6 @@
 // The tests of the calls, in the order in which they are made: align's, the residuals', those that merge and run share, and a band's.
+pub mod one_frame;
+
 ghost use mathlib.Core.Path.{_≡_};
 ghost use Rattle.refusals.specs.Tests.{first};
 ghost use Rattle.geometry.specs.Fits.{Sampled};
