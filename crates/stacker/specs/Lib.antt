@@ -16,3 +16,7 @@ pub mod Residuals
 pub mod ResidualLaws
 pub mod Ranged
 pub mod RangedLaws
+pub mod OneFrame
+pub mod OneFrameLaws
+pub mod Joined
+pub mod FramesWhole

@@ -4,6 +4,7 @@ pub mod band;
 pub mod choose;
 pub mod merge;
 pub mod noise_range;
+pub mod one_frame;
 pub mod residuals;
 pub mod run;
 
