@@ -17,9 +17,11 @@
 enum { W = 64, H = 64, N = 5, DNG_W = 128 };
 
 /* The buffers; a call names those that it takes. */
-enum { SAMPLES, VECTORS, OUTPUT, WORK, BYTES, BURST_FILE, DNG_FILE, DNG_FRAME, RESIDUALS, HIGH, BUFFERS };
-static const size_t element[BUFFERS] = { 2, 4, 2, 8, 1, 1, 1, 2, 8, 2 };
-static size_t length[BUFFERS] = { N * W * H, VECTORS_OF(16), W * H, 2 * W * H, 0, 0, 0, DNG_W * H, VECTORS_OF(16) / 2, W * H };
+enum { SAMPLES, VECTORS, OUTPUT, WORK, BYTES, BURST_FILE, DNG_FILE, DNG_FRAME, RESIDUALS, HIGH, FRAME_VECTORS, BUFFERS };
+static const size_t element[BUFFERS] = { 2, 4, 2, 8, 1, 1, 1, 2, 8, 2, 4 };
+static size_t length[BUFFERS] = {
+    N * W * H, VECTORS_OF(16), W * H, 2 * W * H, 0, 0, 0, DNG_W * H, VECTORS_OF(16) / 2, W * H, VECTORS_OF(16) / (N - 1)
+};
 static uint8_t *lent[BUFFERS], *held[BUFFERS];
 
 static const stacker_burst burst = { W, H, N, 0, W, { 0, 0, 0, 0 } };
@@ -37,6 +39,11 @@ static stacker_tuning tuning = STACKER_TUNING(512);
 static uint64_t align(const size_t *told)
 {
     return stacker_align(burst, tuning, SAMPLES_READ, (int32_t *)lent[VECTORS], told[VECTORS], (int64_t *)lent[WORK], told[WORK]).refusal;
+}
+
+static uint64_t align_frame(const size_t *told)
+{
+    return stacker_align_frame(burst, tuning, N - 2, SAMPLES_READ, (int32_t *)lent[FRAME_VECTORS], told[FRAME_VECTORS], (int64_t *)lent[WORK], told[WORK]).refusal;
 }
 
 static uint64_t residuals(const size_t *told)
@@ -86,6 +93,7 @@ static const struct {
     uint64_t number[BUFFERS];
 } calls[] = {
     { "stacker_align", align, { [SAMPLES] = 4, [VECTORS] = 5, [WORK] = 7 } },
+    { "stacker_align_frame", align_frame, { [SAMPLES] = 4, [FRAME_VECTORS] = 5, [WORK] = 7 } },
     { "stacker_merge", merge, { [SAMPLES] = 4, [VECTORS] = 5, [OUTPUT] = 6, [WORK] = 7 } },
     { "stacker_merge_iso", merge_iso, { [SAMPLES] = 4, [VECTORS] = 5, [OUTPUT] = 6, [WORK] = 7 } },
     { "stacker_residuals", residuals, { [SAMPLES] = 4, [VECTORS] = 5, [RESIDUALS] = 6, [WORK] = 7 } },
@@ -208,6 +216,8 @@ static void widen(void)
     lent[VECTORS] += fewer * element[VECTORS];
     length[RESIDUALS] -= fewer / 2;
     lent[RESIDUALS] += fewer / 2 * element[RESIDUALS];
+    length[FRAME_VECTORS] -= fewer / (N - 1);
+    lent[FRAME_VECTORS] += fewer / (N - 1) * element[FRAME_VECTORS];
 }
 
 int main(int count, char **names)

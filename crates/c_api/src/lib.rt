@@ -6,6 +6,7 @@ pub mod dng_file;
 pub mod file;
 pub mod merge;
 pub mod netpbm;
+pub mod one_frame;
 pub mod range;
 pub mod residuals;
 pub mod run;
