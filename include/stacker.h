@@ -263,7 +263,7 @@ static inline const char *stacker_refusal_text(uint64_t number)
     case STACKER_REFUSED_COUNT: return "count of frames 0 or above 8";
     case STACKER_REFUSED_REFERENCE: return "reference, or index of the frame to be read, not below the count of frames";
     case STACKER_REFUSED_SAMPLE_LENGTH: return "samples not of length count * row_length * height";
-    case STACKER_REFUSED_VECTOR_LENGTH: return "vectors not of length (count - 1) * 2 * (width / side + 1) * (height / side + 1)";
+    case STACKER_REFUSED_VECTOR_LENGTH: return "vectors not of length (count - 1) * 2 * (width / side + 1) * (height / side + 1), or for one frame without (count - 1)";
     case STACKER_REFUSED_OUTPUT_LENGTH: return "output or frame not of length width * height, band not of rows * width, or residuals not half as many as the vectors' parts";
     case STACKER_REFUSED_WORK_LENGTH: return "work area not of length 2 * width * height, or for a band 4 * side * width";
     case STACKER_REFUSED_NOISE: return "shot or read negative or not finite, or ISO outside 25..409600";

@@ -15,7 +15,7 @@ wordTable =
     ∷ ascii "count of frames 0 or above 8"
     ∷ ascii "reference, or index of the frame to be read, not below the count of frames"
     ∷ ascii "samples not of length count * row_length * height"
-    ∷ ascii "vectors not of length (count - 1) * 2 * (width / side + 1) * (height / side + 1)"
+    ∷ ascii "vectors not of length (count - 1) * 2 * (width / side + 1) * (height / side + 1), or for one frame without (count - 1)"
     ∷ ascii "output or frame not of length width * height, band not of rows * width, or residuals not half as many as the vectors' parts"
     ∷ ascii "work area not of length 2 * width * height, or for a band 4 * side * width"
     ∷ ascii "shot or read negative or not finite, or ISO outside 25..409600"

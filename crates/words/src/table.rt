@@ -31,7 +31,7 @@ fn put_burst_words(text: &mut [u8], number: u64) -> usize
         5 => put_bytes(
             text,
             0,
-            b"vectors not of length (count - 1) * 2 * (width / side + 1) * (height / side + 1)",
+            b"vectors not of length (count - 1) * 2 * (width / side + 1) * (height / side + 1), or for one frame without (count - 1)",
         ),
         6 => put_bytes(
             text,
