@@ -176,6 +176,7 @@ static void measure(int size, int rounds)
 /* sizes, or 1024 and 4096 */
 int main(int argc, char **argv)
 {
+    setvbuf(stdout, NULL, _IOLBF, 0);
     for (int i = 1; i < argc; i++)
         measure(atoi(argv[i]), 5);
     if (argc == 1) {

@@ -4,7 +4,7 @@
    threads parts          bands of every height and place and every other frame by itself, at both sides, and what is no part
    threads faults         each refusal, and any two of their causes at once
    threads short          where memory or threads are short: fewer work, or it is said and nothing has changed
-   threads large W H N S T   one burst of this size, count and side in T threads
+   threads large W H N S T   one burst of this size, count and side in T threads, 0 for one on each processor
 
    Link with --wrap for malloc and pthread_create, which are refused here where that is asked. */
 #include "call.h"
@@ -352,7 +352,7 @@ static int large(char **told)
     size_t threads = strtoul(told[4], NULL, 10);
     must(compared(RUN, &before, threads) == 0, "a burst is refused", head[WIDTH], head[HEIGHT]);
     unmade(&before);
-    printf("tests: threads: %s frames of %s by %s, side %s, word for word in %s threads\n", told[2], told[0], told[1], told[3], told[4]);
+    printf("tests: threads: %s frames of %s by %s, side %s, word for word, threads = %s\n", told[2], told[0], told[1], told[3], told[4]);
     return 0;
 }
 
