@@ -91,11 +91,11 @@ static cost measured(void (*made)(int part, int parts), int parts, int rounds)
 
 /* ---- the tables ---- */
 
-/* when the last of `threads` is done, each taking the next part where it is done with one */
+/* when the last of `threads` is done, each taking the next frame, the farthest from the first one before others, where it is done with one */
 static double queued(const cost *c, int parts, int threads)
 {
     double busy[BANDS_MOST] = { 0 }, end = 0;
-    for (int part = 0; part < parts; part++) {
+    for (int part = parts - 1; part >= 0; part--) {
         int first = 0;
         for (int i = 1; i < threads; i++)
             first = busy[i] < busy[first] ? i : first;

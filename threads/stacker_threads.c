@@ -36,10 +36,11 @@ struct phase {
     const told *told;
     uint64_t (*make)(phase *p, size_t part, int64_t *work); /* one proved call; answers its refusal */
     size_t parts, work_length;
-    stacker_alignment answer;    /* of align, but for the rows, */
-    uint64_t rows[OTHERS_MOST];  /* which are added up at the end */
-    atomic_size_t next;          /* the queue: the first part that nobody has taken */
-    _Atomic uint64_t refusal;    /* of any part: all are refused alike */
+    size_t order[OTHERS_MOST];  /* of the frames in align */
+    stacker_alignment answer;   /* of align, but for the rows, */
+    uint64_t rows[OTHERS_MOST]; /* which are added up at the end */
+    atomic_size_t next;         /* the queue: the first part that nobody has taken */
+    _Atomic uint64_t refusal;   /* of any part: all are refused alike */
 };
 
 typedef struct {
@@ -110,10 +111,18 @@ static size_t align_work(const told *t)
     return 2 * t->burst.width * t->burst.height;
 }
 
-static uint64_t align_frame(phase *p, size_t other, int64_t *work)
+/* The farthest from the reference first: they have moved most, as a rule, and take longest, and a queue should end in what is short. */
+static void set_order(phase *p, const stacker_burst *burst)
+{
+    size_t low = 0, high = burst->count - 1; /* the others from low to below high are left */
+    for (size_t part = 0; part < p->parts; part++)
+        p->order[part] = burst->reference - low > high - burst->reference ? low++ : --high;
+}
+
+static uint64_t align_frame(phase *p, size_t part, int64_t *work)
 {
     const told *t = p->told;
-    size_t length = t->vectors_length / (t->burst.count - 1);
+    size_t other = p->order[part], length = t->vectors_length / (t->burst.count - 1);
     stacker_frame_alignment answer = stacker_align_frame(t->burst, t->tuning, other, t->samples, t->samples_length, t->found + other * length, length,
         work, p->work_length);
     p->answer.residuals[other] = answer.residual;
@@ -134,6 +143,8 @@ static stacker_alignment align(const told *t, size_t threads, int64_t *memory)
 {
     int whole = threads == 1 || t->burst.count <= 2;
     phase p = { .told = t, .make = whole ? align_whole : align_frame, .parts = whole ? 1 : t->burst.count - 1, .work_length = align_work(t) };
+    if (!whole)
+        set_order(&p, &t->burst);
     uint64_t refusal = make_parts(&p, threads, memory);
     if (refusal != STACKER_ACCEPTED)
         return (stacker_alignment){ .refusal = refusal };
