@@ -15,11 +15,11 @@ extern "C" {
 #define STACKER_THREADS_NO_MEMORY UINT64_MAX
 
 /* Each does with the same arguments what the call of its name does, word for word: vectors, output and answer are those of stacker_align, stacker_merge and
-   stacker_run. What stacker.h says of lent buffers and refusals holds here too: after a refusal every buffer is as it was. A lent buffer must not be
-   stored to by anyone else until the function answers; functions at the same time, each with vectors and output of its own, are fine.
+   stacker_run. What stacker.h says of lent buffers and refusals holds here too: after a refusal every buffer is as it was. Until the
+   function answers nobody else may store to a lent buffer. Several may run at the same time, each with vectors and output of its own.
 
    `threads` is how many may work at once, the caller's among them; 0 stands for as many as the process has processors, and more than 256 for 256. Fewer work
-   where there are fewer parts (frames but the reference in align, rows of tiles in merge), where there is no memory for more, or where the system starts no more.
+   where there are fewer parts (other frames in align, rows of tiles in merge), where there is no memory for more, or where the system starts no more.
    All have ended when the function answers. Signals are left to the caller's own threads.
 
    Work areas are made and freed inside, so that 7 is never answered: for frames of W by H and tiles of side S, 16 W H bytes for each thread in
