@@ -1,8 +1,8 @@
 /* The calls of stacker.h in threads: stacker_threads.h has what is promised.
 
-   A refusal leaves every buffer as it was because of three things. Sizes, lengths, noise and tuning are settled before a thread is started, by proved calls that
-   are refused in any case and so store nothing. All parts of a phase make the same tests of the same words before they store, so that all are refused or none.
-   The memory of all phases is there before the first. */
+   A refusal leaves every buffer as it was because of three things. All parts of a phase make the same tests of the same words before they store, so that all are
+   refused or none. What they do not test, or a later phase would refuse, is settled before the first thread is started, by proved calls that are refused in
+   any case and so store nothing. The memory of all phases is there before the first. */
 #define _GNU_SOURCE
 #include "stacker_threads.h"
 
@@ -80,6 +80,12 @@ static size_t start(pthread_t *threads, worker *workers, size_t count)
     return started;
 }
 
+static void await(const pthread_t *threads, size_t started)
+{
+    while (started > 0)
+        pthread_join(threads[--started], NULL);
+}
+
 /* makes all parts of a phase, the caller's thread at work too; what a thread that cannot be started would do, the others do */
 static uint64_t make_parts(phase *p, size_t count, int64_t *memory)
 {
@@ -90,8 +96,7 @@ static uint64_t make_parts(phase *p, size_t count, int64_t *memory)
         workers[i] = (worker){ p, memory + i * p->work_length };
     size_t started = start(threads, workers, count);
     take_parts(&workers[count - 1]);
-    while (started > 0)
-        pthread_join(threads[--started], NULL);
+    await(threads, started);
     return p->refusal;
 }
 
