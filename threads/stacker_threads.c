@@ -162,7 +162,7 @@ static stacker_alignment align(const told *t, size_t threads, int64_t *memory)
 
 static size_t band_work(const told *t)
 {
-    return 4 * t->tuning.side * t->burst.width;
+    return stacker_band_work(t->burst, t->tuning);
 }
 
 /* rows of tiles that a band may begin at */
