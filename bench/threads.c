@@ -53,9 +53,9 @@ static void whole_merge(int part, int parts)
 
 static void band(int part, int parts)
 {
-    size_t rows = all.height / SIDE, first = (size_t)part * rows / (size_t)parts * SIDE, count = (size_t)(part + 1) * rows / (size_t)parts * SIDE - first;
-    accepted(stacker_merge_band(all, noise, tuning, first, count, samples, samples_length, vectors, vectors_length, output + first * all.width,
-        count * all.width, work, 4 * SIDE * all.width));
+    size_t tile_rows = all.height / SIDE, top = (size_t)part * tile_rows / (size_t)parts * SIDE, rows = (size_t)(part + 1) * tile_rows / (size_t)parts * SIDE - top;
+    accepted(stacker_merge_band(all, noise, tuning, top, rows, samples, samples_length, vectors, vectors_length, output + top * all.width,
+        rows * all.width, work, 4 * SIDE * all.width));
 }
 
 /* the memory of a thread's work area for align: made, touched and given back */

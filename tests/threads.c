@@ -189,20 +189,20 @@ static void must(int holds, const char *what, uint64_t first, uint64_t count)
 }
 
 /* one band beside its stretch of the whole, or refused by 27 where it is none; what is lent ends zero, or is as it was */
-static void try_band(const state *whole, uint64_t first, uint64_t count)
+static void try_band(const state *whole, uint64_t top, uint64_t rows)
 {
     uint64_t side = head[SIDE], width = head[WIDTH], height = head[HEIGHT];
-    int is_band = first % side == 0 && count % side == 0 && count >= side && count <= height && first <= height - count;
-    size_t length = (is_band ? count : side) * width, work_length = 4 * side * width;
+    int is_band = top % side == 0 && rows % side == 0 && rows >= side && rows <= height && top <= height - rows;
+    size_t length = (is_band ? rows : side) * width, work_length = 4 * side * width;
     uint16_t *output = calloc(length, sizeof *output);
     int64_t *area = calloc(work_length, sizeof *area);
     if (output == NULL || area == NULL)
         exit(2);
     area[0] = 1;
-    uint64_t refusal = stacker_merge_band(burst(), measured(), tuning(), first, count, samples, head[SAMPLES], whole->vectors, head[VECTORS], output, length, area, work_length);
-    must(refusal == (is_band ? 0 : 27) && area[0] == !is_band, "a band's answer", first, count);
+    uint64_t refusal = stacker_merge_band(burst(), measured(), tuning(), top, rows, samples, head[SAMPLES], whole->vectors, head[VECTORS], output, length, area, work_length);
+    must(refusal == (is_band ? STACKER_ACCEPTED : STACKER_REFUSED_PART) && area[0] == !is_band, "a band's answer", top, rows);
     for (size_t i = 0; i < length; i++)
-        must(output[i] == (is_band ? whole->output[first * width + i] : 0), "a band's words", first, count);
+        must(output[i] == (is_band ? whole->output[top * width + i] : 0), "a band's words", top, rows);
     free(output);
     free(area);
 }
@@ -236,7 +236,7 @@ static int try_frames(const state *whole)
     must(rows == whole->answer.rows, "the frames' rows", rows, whole->answer.rows);
     for (uint64_t other = head[COUNT] - 1; other != 1; other = other == UINT64_MAX ? 1 : UINT64_MAX) {
         stacker_frame_alignment a = stacker_align_frame(burst(), tuning(), other, samples, head[SAMPLES], vectors, length, work, head[WORK]);
-        must(a.refusal == 27 && a.residual == 0 && a.rows == 0, "no frame", other, a.refusal);
+        must(a.refusal == STACKER_REFUSED_PART && a.residual == 0 && a.rows == 0, "no frame", other, a.refusal);
     }
     free(vectors);
     return (int)head[COUNT] - 1;

@@ -175,13 +175,13 @@ static size_t tile_rows(const told *t)
 static uint64_t merge_band(phase *p, size_t part, int64_t *work)
 {
     const told *t = p->told;
-    size_t side = t->tuning.side, first = part * tile_rows(t) / p->parts * side, count = (part + 1) * tile_rows(t) / p->parts * side - first;
-    uint16_t *output = t->output + first * t->burst.width;
-    size_t length = count * t->burst.width;
+    size_t side = t->tuning.side, top = part * tile_rows(t) / p->parts * side, rows = (part + 1) * tile_rows(t) / p->parts * side - top;
+    uint16_t *output = t->output + top * t->burst.width;
+    size_t length = rows * t->burst.width;
     return t->iso != NULL
-        ? stacker_merge_band_iso(t->burst, *t->iso, t->tuning, first, count, t->samples, t->samples_length, t->vectors, t->vectors_length, output,
+        ? stacker_merge_band_iso(t->burst, *t->iso, t->tuning, top, rows, t->samples, t->samples_length, t->vectors, t->vectors_length, output,
             length, work, p->work_length)
-        : stacker_merge_band(t->burst, *t->noise, t->tuning, first, count, t->samples, t->samples_length, t->vectors, t->vectors_length, output, length,
+        : stacker_merge_band(t->burst, *t->noise, t->tuning, top, rows, t->samples, t->samples_length, t->vectors, t->vectors_length, output, length,
             work, p->work_length);
 }
 
