@@ -14,13 +14,13 @@
 #include <unistd.h>
 
 #define VECTORS_OF(side) ((N - 1) * 2 * (W / (side) + 1) * (H / (side) + 1))
-enum { W = 64, H = 64, N = 5, DNG_W = 128 };
+enum { W = 64, H = 64, N = 5, ROWS = 32, DNG_W = 128 };
 
 /* The buffers; a call names those that it takes. */
-enum { SAMPLES, VECTORS, OUTPUT, WORK, BYTES, BURST_FILE, DNG_FILE, DNG_FRAME, RESIDUALS, HIGH, FRAME_VECTORS, BUFFERS };
-static const size_t element[BUFFERS] = { 2, 4, 2, 8, 1, 1, 1, 2, 8, 2, 4 };
+enum { SAMPLES, VECTORS, OUTPUT, WORK, BYTES, BURST_FILE, DNG_FILE, DNG_FRAME, RESIDUALS, HIGH, FRAME_VECTORS, BAND, BAND_WORK, BUFFERS };
+static const size_t element[BUFFERS] = { 2, 4, 2, 8, 1, 1, 1, 2, 8, 2, 4, 2, 8 };
 static size_t length[BUFFERS] = {
-    N * W * H, VECTORS_OF(16), W * H, 2 * W * H, 0, 0, 0, DNG_W * H, VECTORS_OF(16) / 2, W * H, VECTORS_OF(16) / (N - 1)
+    N * W * H, VECTORS_OF(16), W * H, 2 * W * H, 0, 0, 0, DNG_W * H, VECTORS_OF(16) / 2, W * H, VECTORS_OF(16) / (N - 1), ROWS * W, 0
 };
 static uint8_t *lent[BUFFERS], *held[BUFFERS];
 
@@ -34,6 +34,7 @@ static stacker_tuning tuning = STACKER_TUNING(512);
 #define VECTORS_READ (const int32_t *)lent[VECTORS], told[VECTORS]
 #define WRITTEN (uint16_t *)lent[OUTPUT], told[OUTPUT], (int64_t *)lent[WORK], told[WORK]
 #define BOTH_WRITTEN (uint16_t *)lent[OUTPUT], told[OUTPUT], (uint16_t *)lent[HIGH], told[HIGH], (int64_t *)lent[WORK], told[WORK]
+#define BAND_WRITTEN (uint16_t *)lent[BAND], told[BAND], (int64_t *)lent[BAND_WORK], told[BAND_WORK]
 #define FOUND (int32_t *)lent[VECTORS], told[VECTORS], WRITTEN
 
 static uint64_t align(const size_t *told)
@@ -53,6 +54,8 @@ static uint64_t residuals(const size_t *told)
 
 static uint64_t merge(const size_t *told) { return stacker_merge(burst, noise, tuning, SAMPLES_READ, VECTORS_READ, WRITTEN); }
 static uint64_t merge_iso(const size_t *told) { return stacker_merge_iso(burst, iso, tuning, SAMPLES_READ, VECTORS_READ, WRITTEN); }
+static uint64_t band(const size_t *told) { return stacker_merge_band(burst, noise, tuning, H - ROWS, ROWS, SAMPLES_READ, VECTORS_READ, BAND_WRITTEN); }
+static uint64_t band_iso(const size_t *told) { return stacker_merge_band_iso(burst, iso, tuning, H - ROWS, ROWS, SAMPLES_READ, VECTORS_READ, BAND_WRITTEN); }
 static uint64_t range(const size_t *told) { return stacker_range(burst, noise, upper, tuning, SAMPLES_READ, VECTORS_READ, BOTH_WRITTEN); }
 static uint64_t range_iso(const size_t *told) { return stacker_range_iso(burst, iso, upper_iso, tuning, SAMPLES_READ, VECTORS_READ, BOTH_WRITTEN); }
 static uint64_t run(const size_t *told) { return stacker_run(burst, noise, tuning, SAMPLES_READ, FOUND).refusal; }
@@ -96,6 +99,8 @@ static const struct {
     { "stacker_align_frame", align_frame, { [SAMPLES] = 4, [FRAME_VECTORS] = 5, [WORK] = 7 } },
     { "stacker_merge", merge, { [SAMPLES] = 4, [VECTORS] = 5, [OUTPUT] = 6, [WORK] = 7 } },
     { "stacker_merge_iso", merge_iso, { [SAMPLES] = 4, [VECTORS] = 5, [OUTPUT] = 6, [WORK] = 7 } },
+    { "stacker_merge_band", band, { [SAMPLES] = 4, [VECTORS] = 5, [BAND] = 6, [BAND_WORK] = 7 } },
+    { "stacker_merge_band_iso", band_iso, { [SAMPLES] = 4, [VECTORS] = 5, [BAND] = 6, [BAND_WORK] = 7 } },
     { "stacker_residuals", residuals, { [SAMPLES] = 4, [VECTORS] = 5, [RESIDUALS] = 6, [WORK] = 7 } },
     { "stacker_range", range, { [SAMPLES] = 4, [VECTORS] = 5, [OUTPUT] = 6, [HIGH] = 6, [WORK] = 7 } },
     { "stacker_range_iso", range_iso, { [SAMPLES] = 4, [VECTORS] = 5, [OUTPUT] = 6, [HIGH] = 6, [WORK] = 7 } },
@@ -207,7 +212,7 @@ static int each_call(void)
     return tried;
 }
 
-/* Tiles of side 32, whose fewer vectors and residuals end at the same page. */
+/* Tiles of side 32, whose fewer vectors and residuals end at the same page; a band's work area is longer. */
 static void widen(void)
 {
     size_t fewer = VECTORS_OF(16) - VECTORS_OF(32);
@@ -218,6 +223,12 @@ static void widen(void)
     lent[RESIDUALS] += fewer / 2 * element[RESIDUALS];
     length[FRAME_VECTORS] -= fewer / (N - 1);
     lent[FRAME_VECTORS] += fewer / (N - 1) * element[FRAME_VECTORS];
+    length[BAND_WORK] = stacker_band_work(burst, tuning);
+    lent[BAND_WORK] = at_the_edge(element[BAND_WORK] * length[BAND_WORK]);
+    free(held[BAND_WORK]);
+    held[BAND_WORK] = calloc(length[BAND_WORK], element[BAND_WORK]);
+    if (held[BAND_WORK] == NULL)
+        exit(2);
 }
 
 int main(int count, char **names)
@@ -229,6 +240,7 @@ int main(int count, char **names)
     fill(BURST_FILE, names[1]);
     fill(DNG_FILE, names[2]);
     length[BYTES] = stacker_pgm_length(W, H);
+    length[BAND_WORK] = stacker_band_work(burst, tuning);
     for (int i = 0; i < BUFFERS; i++) {
         if (lent[i] == NULL)
             lent[i] = at_the_edge(element[i] * length[i]);
