@@ -1,5 +1,5 @@
 -- Bands of a frame: their words, and that bands which cover the frame are the frame.
-use Rattle.algebra.specs.Prelude.{_≡_, refl, sym, ap, _∙_, List, [], _∷_, _++_, ℕ, _+_, _*_, _/_, _%_, _≤_, _<_, arith, length, getD, take, drop}
+use Rattle.algebra.specs.Prelude.{_≡_, sym, ap, _∙_, List, [], _∷_, _++_, ℕ, _+_, _*_, _/_, _%_, _≤_, _<_, arith, length, getD, take, drop}
 use native.Mathlib.Nat.{zero-mul, add-mul, mul-comm, mul-le-mul-right, mul-add-div-right, mul-add-mod-self-right}
 use lib.ListN.{length-take, length-drop}
 use lib.Seq.{ext-getD, getD-take, getD-drop, take-all, take-add, drop-drop}

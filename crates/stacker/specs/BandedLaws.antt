@@ -10,7 +10,6 @@ use Rattle.values.specs.BoundLaws.{samples-fit, vectors-fit}
 use Rattle.noise.specs.declared.Noise.{Noise}
 use Rattle.noise.specs.Levels.{noiseTests}
 use Rattle.noise.specs.LevelLaws.{shot-level-bound, read-level-bound, strength-most, spatial-most}
-use Rattle.recipe.specs.declared.Merge.{Merge}
 use Rattle.recipe.specs.declared.Tuning.{Tuning}
 use Rattle.recipe.specs.Scene.{sceneOf}
 use Rattle.recipe.specs.Merged.{merged}

@@ -1,5 +1,5 @@
 -- The frames aligned one by one, in whatever order, are the burst aligned.
-use Rattle.algebra.specs.Prelude.{_≡_, refl, sym, ap, ap₂, _∙_, List, _++_, ℕ, zero, suc, _+_, _-_, _*_, _<_, arith, length, take, drop, ℤ}
+use Rattle.algebra.specs.Prelude.{_≡_, refl, sym, ap, ap₂, _∙_, List, _++_, ℕ, zero, suc, _-_, _*_, _<_, arith, length, take, drop, ℤ}
 use native.Mathlib.Nat.{zero-mul, suc-mul}
 use borrow.Author.Tests.{lt-leb, eq-eqb}
 use lib.ListN.{replicate}

@@ -1,5 +1,5 @@
 -- The call for a band of the merged frame accepts a band of document 01's figure, and has an input for each of its refusals.
-use Rattle.algebra.specs.Prelude.{_≡_, refl, sym, ap, _∙_, List, [], _∷_, _++_, ℕ, length, ℤ, pos}
+use Rattle.algebra.specs.Prelude.{_≡_, refl, sym, ap, _∙_, List, [], _∷_, ℕ, length, ℤ, pos}
 use lib.ListN.{replicate, length-replicate}
 use Rattle.sequences.specs.Clear.{zeros}
 use Rattle.refusals.specs.Tests.{first}
@@ -12,9 +12,7 @@ use Rattle.limits.specs.Order.{shapeTests, burstTests}
 use Rattle.limits.specs.Bands.{bandAllowed, bandPartRefusal, bandLength, bandWorkLength, bandLengths, bandShapeTests}
 use Rattle.values.specs.Bounds.{sampleRefusal, vectorRefusal}
 use Rattle.noise.specs.Levels.{invalidCurve, invalidIso, invalidNoise, aboveLimits, noiseTests, strengthRefusal, blackRefusal, spatialRefusal}
-use Rattle.recipe.specs.Scene.{sceneOf}
-use Rattle.recipe.specs.Merged.{merged}
-use Rattle.admission.specs.Refusals.{filterSideRefusal, contentTests, valueTests, mergeOf}
+use Rattle.admission.specs.Refusals.{filterSideRefusal, contentTests, valueTests}
 use Rattle.admission.specs.Bands.{bandRefusal}
 use Rattle.stacker.specs.Bands.{band, Banded}
 use Rattle.sanity.specs.FlatFigure.{shape, plain, burst}

@@ -1,5 +1,5 @@
 -- A side of 16 or 32 times the width is small.
-use Rattle.algebra.specs.Prelude.{refl, _*_, _≤_, arith}
+use Rattle.algebra.specs.Prelude.{refl, _*_, arith}
 use native.Mathlib.Nat.{mul-le-mul}
 use Rattle.limits.specs.Bands.{bandWorkLength}
 use Rattle.limits.specs.BandLaws.{side-most}
