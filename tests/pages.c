@@ -1,8 +1,9 @@
 /* Lengths that are told wrongly: pages BURST DNG. Every buffer of every call ends at a page that can be neither read nor written, and is told one element too
    long, twice as long, and as long as can be told, alone and with all others, at both sides. A call must refuse it by its number, and leave every buffer as it
    was, before it touches a word that is not there. A DNG file may go on after its last part, and of a burst file the size question reads two lines, so there only
-   the end of the call is asked. */
+   the end of the call is asked. With the right lengths each call must end on the stack that stacker.h tells. */
 #define _DEFAULT_SOURCE
+#include "stack.h"
 #include "stacker.h"
 #include "station.h"
 
@@ -193,6 +194,11 @@ static int wrong_lengths(size_t c)
     return tried;
 }
 
+/* a call with the right lengths, on a stack of its own */
+static size_t called;
+static uint64_t answered;
+static void call(void) { answered = calls[called].call(length); }
+
 /* Each call with the right lengths, and with wrong ones; how many of those were refused by their number. */
 static int each_call(void)
 {
@@ -202,8 +208,10 @@ static int each_call(void)
         if (calls[c].number[HIGH] != NOT_TAKEN && tuning.side != 16)
             continue;
         snprintf(trying, sizeof trying, "tests: pages: %s: right lengths: ", calls[c].name);
-        if (calls[c].call(length) != 0) {
-            fprintf(stderr, "%srefused\n", trying);
+        called = c;
+        size_t stack = stack_of(call);
+        if (answered != 0 || stack > STACK_MOST) {
+            fprintf(stderr, "%sanswered %d, on %zu bytes of stack\n", trying, (int)answered, stack);
             exit(1);
         }
         restore();
