@@ -3,6 +3,7 @@ pub mod Inputs
 pub mod Bursts
 pub mod Ranges
 pub mod Bands
+pub mod OneFrames
 pub mod BurstFiles
 pub mod PgmFiles
 pub mod DngFiles
