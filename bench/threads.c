@@ -36,13 +36,13 @@ static void accepted(uint64_t refusal)
 static void whole_align(int part, int parts)
 {
     (void)part, (void)parts;
-    accepted(stacker_align(all, tuning, samples, samples_length, vectors, vectors_length, work, work_length).refusal);
+    accepted(stacker_align(all, tuning, samples, samples_length, vectors, vectors_length, work, work_length / 2).refusal);
 }
 
 static void frame(int part, int parts)
 {
     size_t length = vectors_length / (size_t)parts;
-    accepted(stacker_align_frame(all, tuning, (uint64_t)part, samples, samples_length, vectors + (size_t)part * length, length, work, work_length).refusal);
+    accepted(stacker_align_frame(all, tuning, (uint64_t)part, samples, samples_length, vectors + (size_t)part * length, length, work, work_length / 2).refusal);
 }
 
 static void whole_merge(int part, int parts)
@@ -58,12 +58,12 @@ static void band(int part, int parts)
         rows * all.width, work, 4 * SIDE * all.width));
 }
 
-/* the memory of a thread's work area for align: made, touched and given back */
+/* the memory of a thread's work area for a frame: made, touched and given back */
 static void area(int part, int parts)
 {
     (void)part, (void)parts;
-    volatile char *memory = allocated(work_length * sizeof *work);
-    for (size_t i = 0; i < work_length * sizeof *work; i += 4096)
+    volatile char *memory = allocated(work_length / 2 * sizeof *work);
+    for (size_t i = 0; i < work_length / 2 * sizeof *work; i += 4096)
         memory[i] = 1;
     free((void *)memory);
 }
@@ -132,7 +132,7 @@ static void tell_parts(int rounds)
     }
     printf("run, reckoned from these as if no core waited for memory:\n");
     for (int cores = 2; cores <= BANDS_MOST; cores *= 2)
-        reckon(&memory, &frames, &bands[cores], memory.sum + align.sum + merge.sum, cores);
+        reckon(&memory, &frames, &bands[cores], 2 * memory.sum + align.sum + merge.sum, cores);
 }
 
 /* run in one thread and in two, taken in turn: by the clock, and the processor's time of all threads */

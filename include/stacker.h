@@ -369,8 +369,8 @@ static inline const char *stacker_refusal_text(uint64_t number)
        residuals  uint64_t    (N-1)*(W/S+1)*(H/S+1)                                                     written
        low, high  uint16_t    W*H each                                                                              written
 
-   run_sharpest does with them as run; align_frame as align, but that its vectors are one frame's, 2*(W/S+1)*(H/S+1); merge_band as merge, but that its
-   output has rows*W words and its work area 4*S*W.
+   run_sharpest does with them as run; align_frame as align, but that its vectors are one frame's, 2*(W/S+1)*(H/S+1), and its work area
+   W*H; merge_band as merge, but that its output has rows*W words and its work area 4*S*W.
 
    A PGM file is P5, LF, width, a space, height, LF, 4095, LF, then each sample as two bytes, the high one first: no comment, no leading zero, nothing
    behind it. Its frame has W*H uint16_t, its bytes are as many as stacker_pgm_length answers. Writing reads the frame and writes the bytes, reading the
@@ -391,8 +391,8 @@ static inline const char *stacker_refusal_text(uint64_t number)
    REFUSALS. A call makes its tests in the order of the numbers, but 22, 23 and 27 before 4, 26 after 9, and 18, 24 and 25 after 10, and answers the first
    that fails: align 1 to 5, 7, 11, 22 and 23; merge 1 to 12, 18 and 22 to 25; run 1 to 11, 18 and 22 to 25; run_sharpest run's but for 3, whichever frame
    it chooses; residuals 1 to 7, 11, 12, 22 and 23, where 6 is of the residuals' length; range 1 to 12, 18, 22 to 24 and 26, where 22 is any side but 16, 24
-   any s but 0, 6 of either frame, and 8 and 9 of either noise; align_frame align's, with 27 after 23, where 5 is of one frame's vectors; merge_band merge's,
-   with 27 after 23, where 6 and 7 are of the band's lengths.
+   any s but 0, 6 of either frame, and 8 and 9 of either noise; align_frame align's, with 27 after 23, where 5 and 7 are of one frame's lengths; merge_band
+   merge's, with 27 after 23, where 6 and 7 are of the band's.
    A file is tested line by line: no first LF 15, 13; line two 15, 14, then 1, 2, 3, 9, 10, 4; each row 15, 14, 11; then what follows, 15.
    Writing a PGM file tests 1, 6, 16, 11 in that order, reading one 17, 6, 11.
    Reading a DNG file tests 19, 20, 21, then 1, 2, 3 of the frame's index, 23, 4 and 11 of the file's samples.

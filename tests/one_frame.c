@@ -30,7 +30,7 @@ static stacker_frame_alignment call(stacker_burst b, uint64_t side, uint64_t k, 
 {
     stacker_tuning tuning = { .side = side };
     size_t parts = 2 * (b.width / side + 1) * (b.height / side + 1);
-    return stacker_align_frame(b, tuning, k, samples, b.count * b.row_length * b.height + off[0], to, parts + off[1], work, 2 * b.width * b.height + off[2]);
+    return stacker_align_frame(b, tuning, k, samples, b.count * b.row_length * b.height + off[0], to, parts + off[1], work, b.width * b.height + off[2]);
 }
 
 static const size_t right[3];
@@ -90,13 +90,13 @@ static void round_of(stacker_burst b, uint64_t side)
     stacker_alignment whole = stacker_align(b, tuning, samples, b.count * b.row_length * b.height, vectors, (b.count - 1) * parts, work, area);
     uint64_t rows = 0;
     for (uint64_t k = b.count - 1; k-- > 0;) {
-        for (size_t i = 0; i < area; i++)
+        for (size_t i = 0; i < area / 2; i++)
             work[i] = (int64_t)(below(1u << 31) << 33);
         stacker_frame_alignment answer = call(b, side, k, joined + k * parts, right);
         if (answer.refusal != 0 || answer.residual != whole.residuals[k])
             failed("another sum than align's");
         rows += answer.rows;
-        for (size_t i = 0; i < area; i++)
+        for (size_t i = 0; i < area / 2; i++)
             if (work[i] != 0)
                 failed("the work area is not zero");
     }

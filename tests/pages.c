@@ -18,10 +18,10 @@
 enum { W = 64, H = 64, N = 5, ROWS = 32, DNG_W = 128 };
 
 /* The buffers; a call names those that it takes. */
-enum { SAMPLES, VECTORS, OUTPUT, WORK, BYTES, BURST_FILE, DNG_FILE, DNG_FRAME, RESIDUALS, HIGH, FRAME_VECTORS, BAND, BAND_WORK, BUFFERS };
-static const size_t element[BUFFERS] = { 2, 4, 2, 8, 1, 1, 1, 2, 8, 2, 4, 2, 8 };
+enum { SAMPLES, VECTORS, OUTPUT, WORK, BYTES, BURST_FILE, DNG_FILE, DNG_FRAME, RESIDUALS, HIGH, FRAME_VECTORS, FRAME_WORK, BAND, BAND_WORK, BUFFERS };
+static const size_t element[BUFFERS] = { 2, 4, 2, 8, 1, 1, 1, 2, 8, 2, 4, 8, 2, 8 };
 static size_t length[BUFFERS] = {
-    N * W * H, VECTORS_OF(16), W * H, 2 * W * H, 0, 0, 0, DNG_W * H, VECTORS_OF(16) / 2, W * H, VECTORS_OF(16) / (N - 1), ROWS * W, 0
+    N * W * H, VECTORS_OF(16), W * H, 2 * W * H, 0, 0, 0, DNG_W * H, VECTORS_OF(16) / 2, W * H, VECTORS_OF(16) / (N - 1), W * H, ROWS * W, 0
 };
 static uint8_t *lent[BUFFERS], *held[BUFFERS];
 
@@ -35,6 +35,7 @@ static stacker_tuning tuning = STACKER_TUNING(512);
 #define VECTORS_READ (const int32_t *)lent[VECTORS], told[VECTORS]
 #define WRITTEN (uint16_t *)lent[OUTPUT], told[OUTPUT], (int64_t *)lent[WORK], told[WORK]
 #define BOTH_WRITTEN (uint16_t *)lent[OUTPUT], told[OUTPUT], (uint16_t *)lent[HIGH], told[HIGH], (int64_t *)lent[WORK], told[WORK]
+#define FRAME_WRITTEN (int32_t *)lent[FRAME_VECTORS], told[FRAME_VECTORS], (int64_t *)lent[FRAME_WORK], told[FRAME_WORK]
 #define BAND_WRITTEN (uint16_t *)lent[BAND], told[BAND], (int64_t *)lent[BAND_WORK], told[BAND_WORK]
 #define FOUND (int32_t *)lent[VECTORS], told[VECTORS], WRITTEN
 
@@ -45,7 +46,7 @@ static uint64_t align(const size_t *told)
 
 static uint64_t align_frame(const size_t *told)
 {
-    return stacker_align_frame(burst, tuning, N - 2, SAMPLES_READ, (int32_t *)lent[FRAME_VECTORS], told[FRAME_VECTORS], (int64_t *)lent[WORK], told[WORK]).refusal;
+    return stacker_align_frame(burst, tuning, N - 2, SAMPLES_READ, FRAME_WRITTEN).refusal;
 }
 
 static uint64_t residuals(const size_t *told)
@@ -97,7 +98,7 @@ static const struct {
     uint64_t number[BUFFERS];
 } calls[] = {
     { "stacker_align", align, { [SAMPLES] = 4, [VECTORS] = 5, [WORK] = 7 } },
-    { "stacker_align_frame", align_frame, { [SAMPLES] = 4, [FRAME_VECTORS] = 5, [WORK] = 7 } },
+    { "stacker_align_frame", align_frame, { [SAMPLES] = 4, [FRAME_VECTORS] = 5, [FRAME_WORK] = 7 } },
     { "stacker_merge", merge, { [SAMPLES] = 4, [VECTORS] = 5, [OUTPUT] = 6, [WORK] = 7 } },
     { "stacker_merge_iso", merge_iso, { [SAMPLES] = 4, [VECTORS] = 5, [OUTPUT] = 6, [WORK] = 7 } },
     { "stacker_merge_band", band, { [SAMPLES] = 4, [VECTORS] = 5, [BAND] = 6, [BAND_WORK] = 7 } },

@@ -228,14 +228,14 @@ static int try_frames(const state *whole)
     if (vectors == NULL)
         exit(2);
     for (uint64_t other = 0; other + 1 < head[COUNT]; other++) {
-        stacker_frame_alignment a = stacker_align_frame(burst(), tuning(), other, samples, head[SAMPLES], vectors, length, work, head[WORK]);
+        stacker_frame_alignment a = stacker_align_frame(burst(), tuning(), other, samples, head[SAMPLES], vectors, length, work, head[WORK] / 2);
         must(a.refusal == 0 && a.residual == whole->answer.residuals[other], "a frame's answer", other, a.refusal);
         must(memcmp(vectors, whole->vectors + other * length, length * sizeof *vectors) == 0, "a frame's vectors", other, 0);
         rows += a.rows;
     }
     must(rows == whole->answer.rows, "the frames' rows", rows, whole->answer.rows);
     for (uint64_t other = head[COUNT] - 1; other != 1; other = other == UINT64_MAX ? 1 : UINT64_MAX) {
-        stacker_frame_alignment a = stacker_align_frame(burst(), tuning(), other, samples, head[SAMPLES], vectors, length, work, head[WORK]);
+        stacker_frame_alignment a = stacker_align_frame(burst(), tuning(), other, samples, head[SAMPLES], vectors, length, work, head[WORK] / 2);
         must(a.refusal == STACKER_REFUSED_PART && a.residual == 0 && a.rows == 0, "no frame", other, a.refusal);
     }
     free(vectors);

@@ -111,9 +111,16 @@ static size_t processors(void)
 
 /* ---- align, frame by frame ---- */
 
-static size_t align_work(const told *t)
+/* where nothing is to be shared out: a lone frame, which has no other; one other; or one thread, which then tests the samples once */
+static int aligns_whole(const told *t, size_t threads)
 {
-    return 2 * t->burst.width * t->burst.height;
+    return threads == 1 || t->burst.count <= 2;
+}
+
+/* words of one work area: of the burst's alignment, or of a frame's, which is half of it */
+static size_t align_work(const told *t, int whole)
+{
+    return (whole ? 2 : 1) * t->burst.width * t->burst.height;
 }
 
 /* The farthest from the reference first: they have moved most, as a rule, and take longest, and a queue should end in what is short. */
@@ -135,7 +142,6 @@ static uint64_t align_frame(phase *p, size_t part, int64_t *work)
     return answer.refusal;
 }
 
-/* where nothing is to be shared out: a lone frame, which has no other; one other; or one thread, which then tests the samples once */
 static uint64_t align_whole(phase *p, size_t part, int64_t *work)
 {
     const told *t = p->told;
@@ -146,8 +152,8 @@ static uint64_t align_whole(phase *p, size_t part, int64_t *work)
 
 static stacker_alignment align(const told *t, size_t threads, int64_t *memory)
 {
-    int whole = threads == 1 || t->burst.count <= 2;
-    phase p = { .told = t, .make = whole ? align_whole : align_frame, .parts = whole ? 1 : t->burst.count - 1, .work_length = align_work(t) };
+    int whole = aligns_whole(t, threads);
+    phase p = { .told = t, .make = whole ? align_whole : align_frame, .parts = whole ? 1 : t->burst.count - 1, .work_length = align_work(t, whole) };
     if (!whole)
         set_order(&p, &t->burst);
     uint64_t refusal = make_parts(&p, threads, memory);
@@ -228,7 +234,8 @@ static uint64_t level_refusal(const told *t)
 /* words of all work areas: those of bands lie where those of frames were */
 static size_t work_words(const told *t, size_t threads, int aligning, int merging)
 {
-    size_t frames = aligning ? least(threads, t->burst.count <= 2 ? 1 : t->burst.count - 1) * align_work(t) : 0;
+    int whole = aligns_whole(t, threads);
+    size_t frames = aligning ? (whole ? 1 : least(threads, t->burst.count - 1)) * align_work(t, whole) : 0;
     size_t bands = merging ? least(threads, tile_rows(t)) * band_work(t) : 0;
     return frames > bands ? frames : bands;
 }

@@ -1,12 +1,12 @@
 -- Inner vocabulary: what the loop over the frames asks, and what it leaves; the same of one frame.
-use Rattle.algebra.specs.Prelude.{_≡_, List, ℕ, _-_, _≤_, _<_, length, ℤ}
+use Rattle.algebra.specs.Prelude.{_≡_, List, ℕ, _-_, _*_, _≤_, _<_, length, ℤ}
 use Rattle.sequences.specs.Write.{written}
 use Rattle.geometry.specs.declared.Shape.{Shape}
 use Rattle.geometry.specs.Shape.{vectorLength}
 use Rattle.geometry.specs.Read.{Image}
 use Rattle.geometry.specs.Tiles.{tileColumns, frameParts}
 use Rattle.geometry.specs.Vectors.{word, partsOf}
-use Rattle.geometry.specs.Fits.{AlignFits, SamplesFit}
+use Rattle.geometry.specs.Fits.{BurstFits, AlignFits, SamplesFit}
 use Rattle.pyramid.specs.Layout.{Levels}
 use Rattle.alignment.specs.Frames.{vectorsOf, residualOf}
 use Rattle.alignment.specs.Rows.{rowsOf, countOf, rowsSummed}
@@ -38,7 +38,8 @@ pub record OneAligned (s : Shape) (reference other : Image) (d : List ℤ) (to :
 
 -- what one frame's alignment needs: a burst that its tests have let through, and vectors of that frame alone
 pub record ReadyFrame (s : Shape) (reference other : ℕ) (samples : List ℕ) (vectors work : List ℤ) : Type 0 where
-  pub fits : AlignFits s reference (length samples) (vectorLength s) (length work)
+  pub burst : BurstFits s reference (length samples) (vectorLength s)
+  pub room : s .width * s .height ≤ length work
   pub samples-fit : SamplesFit s samples
   pub other-in : other < s .count - 1
   pub vectors-long : length vectors ≡ frameParts s

@@ -4,8 +4,8 @@ use Rattle.algebra.specs.Prelude.{List, _++_, ℕ, zero, suc, _+_, _-_, _*_, _�
 use native.Mathlib.Nat.{zero-add, zero-mul, suc-mul}
 use lib.ListN.{length, set, drop, replicate}
 use Rattle.geometry.specs.declared.Shape.{Shape}
-use Rattle.geometry.specs.Shape.{vectorLength}
-use Rattle.geometry.specs.Fits.{Allowed, TileSide, AlignFits, SamplesFit}
+use Rattle.geometry.specs.Shape.{vectorLength, workLength}
+use Rattle.geometry.specs.Fits.{Allowed, TileSide, BurstFits, AlignFits, SamplesFit}
 use Rattle.geometry.specs.Read.{Image, sampleAt}
 use Rattle.geometry.specs.Tiles.{tileColumns, frameParts}
 use Rattle.geometry.specs.Vectors.{otherFrame, word, wordOf, vectorList}
@@ -65,11 +65,15 @@ module _ {s : Shape} {reference other : Image} {d l : List ℤ} (ok : Allowed s)
 -- ---- the loop over the other frames
 
 -- any frame can be built from, and what is laid fits
-pub frame-of : {s : Shape} {reference vectors work : ℕ} {samples : List ℕ} → AlignFits s reference (length samples) vectors work → SamplesFit s samples → (f : ℕ) → f < s .count → Frame s f samples
-frame-of fits fit f h = let b = fits .burst in frame-fits f (record { allowed = b .allowed; long = b .samples-long }) fit h
+pub frame-of : {s : Shape} {reference vectors : ℕ} {samples : List ℕ} → BurstFits s reference (length samples) vectors → SamplesFit s samples → (f : ℕ) → f < s .count → Frame s f samples
+frame-of b fit f h = frame-fits f (record { allowed = b .allowed; long = b .samples-long }) fit h
+
+pub frame-room : {s : Shape} {reference samples vectors work : ℕ} → BurstFits s reference samples vectors → s .width * s .height ≤ work → alignLength s ≤ work
+frame-room b h = omega (arith, align-fits (b .allowed))
 
 pub work-room : {s : Shape} {reference samples vectors work : ℕ} → AlignFits s reference samples vectors work → alignLength s ≤ work
-work-room fits = let e = fits .work-long in omega (arith, align-fits (fits .burst .allowed))
+unfolding workLength
+work-room fits = let e = fits .work-long in frame-room (fits .burst) (omega arith)
 
 -- the k-th frame's vectors lie within the lent ones
 pub place-room : (s : Shape) (k : ℕ) → k < s .count - 1 → k * frameParts s + frameParts s ≤ vectorLength s

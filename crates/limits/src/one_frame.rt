@@ -1,11 +1,10 @@
-// The tests of the call that aligns one other frame: align's, with 27 before 4, and 5 of that frame's vectors alone.
+// The tests of the call that aligns one other frame: align's, with 27 before 4, 5 of that frame's vectors alone, and 7 of half the work area.
 ghost use mathlib.Core.Path.{_≡_};
 ghost use Rattle.refusals.specs.Tests.{first};
 ghost use Rattle.geometry.specs.Fits.{Allowed, TileSide};
-ghost use Rattle.limits.specs.OneFrame.{otherRefusal, alignFrameLengths, alignFrameShapeTests};
+ghost use Rattle.limits.specs.OneFrame.{otherRefusal, frameWorkLength, alignFrameLengths, alignFrameShapeTests};
 use crate::lengths::length_refusal;
 use crate::lengths::sample_length;
-use crate::lengths::work_length;
 use crate::order::burst_refusal;
 use geometry::Shape;
 use geometry::tiles::frame_parts;
@@ -18,6 +17,14 @@ fn other_refusal(shape: Shape, other: usize) -> u64
     refusals::refuse(refusals::PART, other >= shape.count - 1)
 }
 
+// Words of work: one to a sample of a frame.
+fn frame_work_length(shape: Shape) -> usize
+    requires { ⌜ Allowed shape ⌝ }
+    ensures { λ r. ⌜ r ≡ frameWorkLength shape ⌝ }
+{
+    shape.width * shape.height
+}
+
 // Tests 4, 5 and 7.
 fn align_frame_lengths(shape: Shape, samples: usize, vectors: usize, work: usize) -> u64
     requires { ⌜ (Allowed shape) × (TileSide (shape .side)) ⌝ }
@@ -27,7 +34,7 @@ fn align_frame_lengths(shape: Shape, samples: usize, vectors: usize, work: usize
         &[
             length_refusal(refusals::SAMPLE_LENGTH, sample_length(shape), samples),
             length_refusal(refusals::VECTOR_LENGTH, frame_parts(shape), vectors),
-            length_refusal(refusals::WORK_LENGTH, work_length(shape), work),
+            length_refusal(refusals::WORK_LENGTH, frame_work_length(shape), work),
         ],
     )
 }

@@ -13,11 +13,11 @@ use Rattle.refusals.specs.Numbers as no
 use Rattle.refusals.specs.Tests.{first}
 use Rattle.refusals.specs.AfterLaws.{result-made}
 use Rattle.geometry.specs.declared.Shape.{Shape}
-use Rattle.geometry.specs.Shape.{vectorLength, lengthRefusal}
+use Rattle.geometry.specs.Shape.{vectorLength, workLength, lengthRefusal}
 use Rattle.geometry.specs.Tiles.{frameParts}
 use Rattle.geometry.specs.Vectors.{wordOf, vectorList, partsOf}
 use Rattle.limits.specs.Order.{shapeTests, burstTests, alignLengths, alignShapeTests}
-use Rattle.limits.specs.OneFrame.{otherRefusal, alignFrameLengths, alignFrameShapeTests}
+use Rattle.limits.specs.OneFrame.{otherRefusal, frameWorkLength, alignFrameLengths, alignFrameShapeTests}
 use Rattle.alignment.specs.Aligned.{fieldOf, sumOf, alignedVectors, residualSums}
 use Rattle.alignment.specs.Rows.{countOf, rowsSummed}
 use Rattle.admission.specs.Refusals.{alignRefusal}
@@ -97,8 +97,14 @@ unfolding lengthRefusal
 long-passes number right long e = rw (eq-eqb long right e)
 
 -- with vectors and work areas of the right lengths each frame is refused as the burst is
-pub refused-alike : (s : Shape) (reference other : ℕ) (samples : List ℕ) (lent vectors area work : List ℤ) → other < s .count - 1 → length lent ≡ frameParts s → length vectors ≡ vectorLength s → length area ≡ length work →
+pub refused-alike : (s : Shape) (reference other : ℕ) (samples : List ℕ) (lent vectors area work : List ℤ) → other < s .count - 1 → length lent ≡ frameParts s → length area ≡ frameWorkLength s → length vectors ≡ vectorLength s → length work ≡ workLength s →
     alignFrameRefusal s reference other samples lent area ≡ alignRefusal s reference samples vectors work
 unfolding alignFrameRefusal alignRefusal alignFrameShapeTests alignShapeTests alignFrameLengths alignLengths burstTests shapeTests first
-refused-alike s reference other samples lent vectors area work below right whole same =
-    rw (other-passes s other below, long-passes no.wrongVectorLength (frameParts s) (length lent) right, long-passes no.wrongVectorLength (vectorLength s) (length vectors) whole, same)
+refused-alike s reference other samples lent vectors area work below right room whole rooms =
+    rw (
+      other-passes s other below,
+      long-passes no.wrongVectorLength (frameParts s) (length lent) right,
+      long-passes no.wrongWorkLength (frameWorkLength s) (length area) room,
+      long-passes no.wrongVectorLength (vectorLength s) (length vectors) whole,
+      long-passes no.wrongWorkLength (workLength s) (length work) rooms,
+    )

@@ -1,10 +1,10 @@
 -- What that call's tests let through, and its answer beside a refusal with the number k and beside acceptance.
-use Rattle.algebra.specs.Prelude.{_≡_, sym, _∙_, List, ℕ, length, ℤ}
+use Rattle.algebra.specs.Prelude.{_≡_, sym, _∙_, List, ℕ, arith, length, ℤ}
 use Rattle.refusals.specs.TestLaws.{among, passed, both-passed}
 use Rattle.refusals.specs.AfterLaws.{kept, made}
 use Rattle.geometry.specs.declared.Shape.{Shape}
-use Rattle.limits.specs.OneFrame.{alignFrameShapeTests}
-use Rattle.limits.specs.OneFrameLaws.{align-frame-fits, other-in, frame-vectors-long}
+use Rattle.limits.specs.OneFrame.{frameWorkLength, alignFrameShapeTests}
+use Rattle.limits.specs.OneFrameLaws.{align-frame-fits, other-in, frame-vectors-long, frame-work-long}
 use Rattle.values.specs.BoundLaws.{samples-fit}
 use Rattle.alignment.specs.Burst.{ReadyFrame}
 use Rattle.admission.specs.OneFrame.{alignFrameRefusal}
@@ -12,11 +12,12 @@ use Rattle.stacker.specs.declared.one_frame.FrameAlignment.{FrameAlignme
 use Rattle.stacker.specs.OneFrame.{frameAnswered}
 
 pub align-frame-passed : (s : Shape) (reference other : ℕ) (samples : List ℕ) (vectors work : List ℤ) → alignFrameRefusal s reference other samples vectors work ≡ 0 → ReadyFrame s reference other samples vectors work
-unfolding alignFrameRefusal
+unfolding alignFrameRefusal frameWorkLength
 align-frame-passed s reference other samples vectors work e =
     let both = both-passed (alignFrameShapeTests s reference other (length samples) (length vectors) (length work)) _ e in
     record {
-      fits = align-frame-fits s reference other (length samples) (length vectors) (length work) (both .0);
+      burst = align-frame-fits s reference other (length samples) (length vectors) (length work) (both .0);
+      room = omega (arith, frame-work-long s reference other (length samples) (length vectors) (length work) (both .0));
       samples-fit = samples-fit s samples (passed (both .1) (search among));
       other-in = other-in s reference other (length samples) (length vectors) (length work) (both .0);
       vectors-long = frame-vectors-long s reference other (length samples) (length vectors) (length work) (both .0);

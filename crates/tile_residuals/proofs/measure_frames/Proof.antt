@@ -24,7 +24,7 @@ rooms s k e vectors words h =
 build-requires : tie.Need-build-requires Inv-loop μ-loop
 build-requires c κs =
     let start = c .before .before .before in
-    (frame-of (start .pre .fits) (start .pre .samples-fit) _ (start .pre .fits .burst .reference-below), omega (arith, two-pyramids (start .args .shape) (work-room (start .pre .fits))))
+    (frame-of (start .pre .fits .burst) (start .pre .samples-fit) _ (start .pre .fits .burst .reference-below), omega (arith, two-pyramids (start .args .shape) (work-room (start .pre .fits))))
 
 tile-rows-requires : tie.Need-tile-rows-requires Inv-loop μ-loop
 tile-rows-requires c κs = let b = c .before .before .before .before .before .pre .fits .burst in (b .allowed, b .sided)
@@ -59,7 +59,7 @@ measure-frame-requires c κs =
     let place = ap₂ (λ m n. loop .loop .k * (m * n)) (columns .before .tile-rows .ensures .0) (columns .tile-columns .ensures .0) in
     let room = rooms (start .args .shape) (loop .loop .k) place (burst .vectors-long) (inv .writing .same ∙ start .pre .residuals-long) (omega arith) in
     record {
-      readable = frame-of (start .pre .fits) (start .pre .samples-fit) _ (omega (arith, c .before .before .other-frame .ensures .1));
+      readable = frame-of (start .pre .fits .burst) (start .pre .samples-fit) _ (omega (arith, c .before .before .other-frame .ensures .1));
       sided = burst .sided;
       levels = inv .levels;
       room = omega (arith, work-room (start .pre .fits), columns .before .before .before .build .ensures .same);

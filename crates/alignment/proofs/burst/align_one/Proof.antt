@@ -1,6 +1,6 @@
 -- The reference's pyramid is laid at the start of the work area, and the frame is aligned into vectors that are its own.
 use Rattle.algebra.specs.Prelude.{_∙_, arith, needs}
-use Rattle.alignment.specs.BurstLaws.{two-pyramids, frame-of, work-room}
+use Rattle.alignment.specs.BurstLaws.{two-pyramids, frame-of, frame-room}
 use Rattle.alignment.specs.OneFrameLaws.{frame-aligned}
 use Rattle.alignment.proofs.burst.align_one.Statement.{statement}
 use Rattle.alignment.proofs.burst.align_one.Tie as tie
@@ -8,18 +8,18 @@ use Rattle.alignment.proofs.burst.align_one.Tie as tie
 build-requires : tie.Need-build-requires
 build-requires c κs =
     let start = c .before .before in
-    (frame-of (start .pre .fits) (start .pre .samples-fit) _ (start .pre .fits .burst .reference-below), omega (arith, two-pyramids (start .args .shape) (work-room (start .pre .fits))))
+    (frame-of (start .pre .burst) (start .pre .samples-fit) _ (start .pre .burst .reference-below), omega (arith, two-pyramids (start .args .shape) (frame-room (start .pre .burst) (start .pre .room))))
 
 align-frame-requires : tie.Need-align-frame-requires
 align-frame-requires c κs =
     let built = c .before .before .before .before in
     let start = built .before .before .before in
-    let burst = start .pre .fits .burst in
+    let burst = start .pre .burst in
     record {
-      readable = frame-of (start .pre .fits) (start .pre .samples-fit) _ (omega (arith, burst .allowed .few, start .pre .other-in, c .before .before .other-frame .ensures .1));
+      readable = frame-of burst (start .pre .samples-fit) _ (omega (arith, burst .allowed .few, start .pre .other-in, c .before .before .other-frame .ensures .1));
       sided = burst .sided;
       levels = built .build .ensures .levels;
-      room = omega (arith, work-room (start .pre .fits), built .build .ensures .same);
+      room = omega (arith, frame-room burst (start .pre .room), built .build .ensures .same);
       vectors-room = omega (arith, start .pre .vectors-long);
     }
 
