@@ -12,7 +12,7 @@ returns c = stops _ _ (c .before .align-frame-shape-refusal .ensures) (c .if1 .t
 
 sample-refusal-requires : tie.Need-sample-refusal-requires
 sample-refusal-requires c κs =
-    let burst = align-frame-fits _ _ _ _ _ _ (sym (c .before .align-frame-shape-refusal .ensures) ∙ c .if1 .left) .burst in
+    let burst = align-frame-fits _ _ _ _ _ _ (sym (c .before .align-frame-shape-refusal .ensures) ∙ c .if1 .left) in
     record { allowed = burst .allowed; long = burst .samples-long }
 
 returns-2 : tie.Need-returns-2
