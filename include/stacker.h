@@ -1,7 +1,8 @@
 /* The burst stacker: one to eight raw frames of one scene are aligned on one of them, the reference, and merged into one cleaner frame.
 
    First come the types, the calls and what goes with them; behind them EXAMPLES, FRAMES, SHARPNESS, LENT BUFFERS, AFTER A CALL, REFUSALS, NOISE,
-   RANGE OF NOISE, STRENGTH, SIDE, SPATIAL FILTER, ZEROS and THE MACHINE. Link with libstacker.a. For x86-64 Linux; C99 and later, C++11 and later. */
+   RANGE OF NOISE, STRENGTH, SIDE, BANDS, SPATIAL FILTER, ZEROS and THE MACHINE. Link with libstacker.a. For x86-64 Linux; C99 and later, C++11 and
+   later. */
 #ifndef STACKER_H
 #define STACKER_H
 
@@ -72,6 +73,12 @@ typedef struct {
 } stacker_alignment;
 
 typedef struct {
+    uint64_t refusal;
+    uint64_t residual; /* the frame's sum of finest residuals */
+    uint64_t rows;     /* how many tile rows were summed for it */
+} stacker_frame_alignment;
+
+typedef struct {
     stacker_alignment alignment;
     uint64_t reference; /* index of the frame chosen */
 } stacker_choice;
@@ -127,12 +134,19 @@ typedef enum {
     STACKER_REFUSED_ROW_LENGTH = 23,
     STACKER_REFUSED_SPATIAL_STRENGTH = 24,
     STACKER_REFUSED_FILTERED_SIDE = 25,
-    STACKER_REFUSED_NOISE_RANGE = 26
+    STACKER_REFUSED_NOISE_RANGE = 26,
+    STACKER_REFUSED_PART = 27
 } stacker_refusal;
 
 /* Aligns each other frame on the reference. Of the tuning it reads the side alone. */
 stacker_alignment stacker_align(stacker_burst burst, stacker_tuning tuning, const uint16_t *samples, size_t samples_length, int32_t *vectors,
     size_t vectors_length, int64_t *work, size_t work_length);
+
+/* Aligns one other frame, at place other among them: 0 is the first in rising index, count - 2 the last. For threads that share a burst, each with a
+   work area of its own: vectors of its own too, or align's vectors from other * 2 * (width / side + 1) * (height / side + 1) on. The calls for all other
+   frames, in any order, give what align does: its vectors, its residuals, and rows that add up to its. */
+stacker_frame_alignment stacker_align_frame(stacker_burst burst, stacker_tuning tuning, uint64_t other, const uint16_t *samples, size_t samples_length,
+    int32_t *vectors, size_t vectors_length, int64_t *work, size_t work_length);
 
 /* Merges the frames by lent vectors, which are only read; answers the refusal's number, or 0. */
 uint64_t stacker_merge(stacker_burst burst, stacker_noise noise, stacker_tuning tuning, const uint16_t *samples, size_t samples_length,
@@ -152,6 +166,17 @@ uint64_t stacker_range(stacker_burst burst, stacker_noise lower, stacker_noise u
 uint64_t stacker_range_iso(stacker_burst burst, stacker_iso_noise lower, stacker_iso_noise upper, stacker_tuning tuning, const uint16_t *samples,
     size_t samples_length, const int32_t *vectors, size_t vectors_length, uint16_t *low, size_t low_length, uint16_t *high, size_t high_length,
     int64_t *work, size_t work_length);
+
+/* Merges a band of the frame, rows top to top + rows - 1, into an output of just these rows: the same words that merge puts there. Bands that follow one
+   another make up the frame, each by any thread, with its own rows of the output and a work area of its own: BANDS, below. */
+uint64_t stacker_merge_band(stacker_burst burst, stacker_noise noise, stacker_tuning tuning, uint64_t top, uint64_t rows, const uint16_t *samples,
+    size_t samples_length, const int32_t *vectors, size_t vectors_length, uint16_t *output, size_t output_length, int64_t *work, size_t work_length);
+
+uint64_t stacker_merge_band_iso(stacker_burst burst, stacker_iso_noise noise, stacker_tuning tuning, uint64_t top, uint64_t rows, const uint16_t *samples,
+    size_t samples_length, const int32_t *vectors, size_t vectors_length, uint16_t *output, size_t output_length, int64_t *work, size_t work_length);
+
+/* The length of a band's work area, 4 * side * width words whatever its rows, or 0 where width, height, count, row length or side is refused. */
+uint64_t stacker_band_work(stacker_burst burst, stacker_tuning tuning);
 
 /* The finest residual of every tile of every other frame at its lent vector: the sum of absolute differences at level 0 between the reference's tile and the
    frame's, moved by the vector. One word for each tile, in the order of the vectors. At the vectors that align finds, a frame's words add up to its sum
@@ -238,9 +263,9 @@ static inline const char *stacker_refusal_text(uint64_t number)
     case STACKER_REFUSED_COUNT: return "count of frames 0 or above 8";
     case STACKER_REFUSED_REFERENCE: return "reference, or index of the frame to be read, not below the count of frames";
     case STACKER_REFUSED_SAMPLE_LENGTH: return "samples not of length count * row_length * height";
-    case STACKER_REFUSED_VECTOR_LENGTH: return "vectors not of length (count - 1) * 2 * (width / side + 1) * (height / side + 1)";
-    case STACKER_REFUSED_OUTPUT_LENGTH: return "output or frame not of length width * height, or residuals not half as many as the vectors' parts";
-    case STACKER_REFUSED_WORK_LENGTH: return "work area not of length 2 * width * height";
+    case STACKER_REFUSED_VECTOR_LENGTH: return "vectors not of length (count - 1) * 2 * (width / side + 1) * (height / side + 1), or for one frame without (count - 1)";
+    case STACKER_REFUSED_OUTPUT_LENGTH: return "output or frame not of length width * height, band not of rows * width, or residuals not half as many as the vectors' parts";
+    case STACKER_REFUSED_WORK_LENGTH: return "work area not of length 2 * width * height, or for a band 4 * side * width";
     case STACKER_REFUSED_NOISE: return "shot or read negative or not finite, or ISO outside 25..409600";
     case STACKER_REFUSED_NOISE_LIMIT: return "shot above 64 or read above 4096 after ISO, or a file's levels above 65536 or 4194304";
     case STACKER_REFUSED_STRENGTH: return "strength above 1024";
@@ -260,6 +285,7 @@ static inline const char *stacker_refusal_text(uint64_t number)
     case STACKER_REFUSED_SPATIAL_STRENGTH: return "spatial strength above 256, or not 0 where a range of noise is asked for";
     case STACKER_REFUSED_FILTERED_SIDE: return "spatial strength not 0 with tiles of side 32";
     case STACKER_REFUSED_NOISE_RANGE: return "lower shot or read above the upper one after ISO";
+    case STACKER_REFUSED_PART: return "a band of rows off the grid of tiles or outside the frame, or a frame that is none of the others";
     default: return "no refusal of this version";
     }
 }
@@ -343,7 +369,8 @@ static inline const char *stacker_refusal_text(uint64_t number)
        residuals  uint64_t    (N-1)*(W/S+1)*(H/S+1)                                                     written
        low, high  uint16_t    W*H each                                                                              written
 
-   run_sharpest does with them as run.
+   run_sharpest does with them as run; align_frame as align, but that its vectors are one frame's, 2*(W/S+1)*(H/S+1), and its work area
+   W*H; merge_band as merge, but that its output has rows*W words and its work area 4*S*W.
 
    A PGM file is P5, LF, width, a space, height, LF, 4095, LF, then each sample as two bytes, the high one first: no comment, no leading zero, nothing
    behind it. Its frame has W*H uint16_t, its bytes are as many as stacker_pgm_length answers. Writing reads the frame and writes the bytes, reading the
@@ -361,10 +388,11 @@ static inline const char *stacker_refusal_text(uint64_t number)
    AFTER A CALL that answers 0 the written buffers hold the result, every word of it, and the work area is zero. After a refusal every lent buffer is
    as it was, and every other field of the answer is 0, the index chosen too; but a DNG file's tag at fault is named.
 
-   REFUSALS. A call makes its tests in the order of the numbers, but 22 and 23 before 4, 26 after 9, and 18, 24 and 25 after 10, and answers the first that
-   fails: align 1 to 5, 7, 11, 22 and 23; merge 1 to 12, 18 and 22 to 25; run 1 to 11, 18 and 22 to 25; run_sharpest run's but for 3, whichever frame it
-   chooses; residuals 1 to 7, 11, 12, 22 and 23, where 6 is of the residuals' length; range 1 to 12, 18, 22 to 24 and 26, where 22 is any side but 16, 24 any s
-   but 0, 6 of either frame, and 8 and 9 of either noise.
+   REFUSALS. A call makes its tests in the order of the numbers, but 22, 23 and 27 before 4, 26 after 9, and 18, 24 and 25 after 10, and answers the first
+   that fails: align 1 to 5, 7, 11, 22 and 23; merge 1 to 12, 18 and 22 to 25; run 1 to 11, 18 and 22 to 25; run_sharpest run's but for 3, whichever frame
+   it chooses; residuals 1 to 7, 11, 12, 22 and 23, where 6 is of the residuals' length; range 1 to 12, 18, 22 to 24 and 26, where 22 is any side but 16, 24
+   any s but 0, 6 of either frame, and 8 and 9 of either noise; align_frame align's, with 27 after 23, where 5 and 7 are of one frame's lengths; merge_band
+   merge's, with 27 after 23, where 6 and 7 are of the band's.
    A file is tested line by line: no first LF 15, 13; line two 15, 14, then 1, 2, 3, 9, 10, 4; each row 15, 14, 11; then what follows, 15.
    Writing a PGM file tests 1, 6, 16, 11 in that order, reading one 17, 6, 11.
    Reading a DNG file tests 19, 20, 21, then 1, 2, 3 of the frame's index, 23, 4 and 11 of the file's samples.
@@ -388,6 +416,11 @@ static inline const char *stacker_refusal_text(uint64_t number)
    SIDE of the tiles, at align's finest level and in merge. Take 16; 32 is the original's for very dark scenes, where 16 by 16 places tell too little of how a
    tile moved. The levels above keep their tiles. Side 32 has about a quarter of the vectors, so those of one side are refused at the other, by their length.
    README has what either does to a dark scene.
+
+   BANDS begin and end at multiples of the side: rows 0, 16, 32 and so on of the frame with side 16. A band has at least that many rows; else, or where it goes
+   beyond the frame, it is refused (27). Every band of a burst reads all of the samples and vectors in its tests, so that all bands are accepted or all are
+   refused alike, their own rows and lengths apart. A band works out one row of tiles more than the whole frame does in its place: few tall bands take less
+   time together than many low ones.
 
    SPATIAL FILTER, for tiles of side 16 alone. Where frames agree, grain that all of them share or that few of them can average stays. A spatial s above 0 takes
    some of it out of the merged tile by a second Wiener step, whose noise grows with the frequency, with s and with the noise curve, and falls with the count

@@ -16,13 +16,22 @@ static stacker_iso_noise at_iso(const request *r, stacker_noise curve)
     return noise;
 }
 
+/* ends the program where a call has refused, or its threads had no memory */
+static void answered(const char *what, uint64_t refusal)
+{
+    if (refusal == STACKER_THREADS_NO_MEMORY)
+        fail(WRONG, "%s: out of memory", what);
+    accepted(what, refusal, "");
+}
+
 void align_burst(job *j, const request *r)
 {
     progress("aligning %" PRIu64 " frames of %" PRIu64 " by %" PRIu64 " ", j->burst.count, j->burst.width, j->burst.height);
-    j->answer = stacker_align(j->burst, tuning_of(r), j->samples, j->samples_length, j->vectors, j->vectors_length, j->work, j->work_length);
-    accepted("align", j->answer.refusal, "");
+    j->answer = stacker_threads_align(j->burst, tuning_of(r), j->samples, j->samples_length, j->vectors, j->vectors_length, r->threads);
+    answered("align", j->answer.refusal);
 }
 
+/* in one thread: the proved call that chooses the frame is the one that merges */
 static void run_sharpest(job *j, const request *r)
 {
     const stacker_burst *b = &j->burst;
@@ -40,17 +49,17 @@ static void run_sharpest(job *j, const request *r)
 static void run(job *j, const request *r)
 {
     j->answer = r->iso != 0
-        ? stacker_run_iso(j->burst, at_iso(r, r->noise), tuning_of(r), j->samples, j->samples_length, j->vectors, j->vectors_length, j->merged, j->area,
-            j->work, j->work_length)
-        : stacker_run(j->burst, r->noise, tuning_of(r), j->samples, j->samples_length, j->vectors, j->vectors_length, j->merged, j->area, j->work,
-            j->work_length);
+        ? stacker_threads_run_iso(j->burst, at_iso(r, r->noise), tuning_of(r), j->samples, j->samples_length, j->vectors, j->vectors_length, j->merged,
+            j->area, r->threads)
+        : stacker_threads_run(j->burst, r->noise, tuning_of(r), j->samples, j->samples_length, j->vectors, j->vectors_length, j->merged, j->area,
+            r->threads);
 }
 
 void merge_burst(job *j, const request *r)
 {
     progress("merging %" PRIu64 " frames of %" PRIu64 " by %" PRIu64 " ", j->burst.count, j->burst.width, j->burst.height);
     (r->sharpest ? run_sharpest : run)(j, r);
-    accepted("merge", j->answer.refusal, "");
+    answered("merge", j->answer.refusal);
     j->is_merged = 1;
 }
 

@@ -35,6 +35,7 @@ static const char *const help[] = {
     "  -m, --scale A/B         multiply the samples of PGM files by A/B: 1 keeps them under any maxval; max is 4095/maxval\n",
     "  -a, --apart N           steps from the common vector from which on a tile may be lifted [1: two and more]\n",
     "  -l, --lifted[=N]        end with 3 where N tiles or more are lifted [1]\n",
+    "  -j, --threads N         at most so many threads at once, or 0 for one on each processor [0]\n",
     "  -q, --quiet             say nothing but errors\n",
     "  -h, --help\n",
     "  -V, --version\n",
@@ -117,6 +118,7 @@ static void set_number(request *r, int letter, const char *text)
     case 't': r->side = number("side", text, UINT32_MAX); break;
     case 'f': r->spatial = number("spatial", text, UINT32_MAX); break;
     case 'i': r->iso = (uint32_t)number("iso", text, UINT32_MAX); break;
+    case 'j': r->threads = number("threads", text, UINT32_MAX); break;
     case 'a': r->apart = number("apart", text, 2 * VECTOR_MOST); break;
     default: r->lifted = text != NULL ? number("lifted", text, UINT32_MAX) : 1; r->has_lifted = 1; break;
     }
@@ -147,9 +149,9 @@ int options(request *r, int argc, char **argv)
     static const struct option table[] = { { "output", 1, 0, 'o' }, { "vectors", 1, 0, 'v' }, { "page", 1, 0, 'p' }, { "reference", 1, 0, 'r' },
         { "strength", 1, 0, 's' }, { "side", 1, 0, 't' }, { "spatial", 1, 0, 'f' }, { "noise", 1, 0, 'n' }, { "upper", 1, 0, 'u' },
         { "low", 1, 0, 'L' }, { "high", 1, 0, 'H' }, { "iso", 1, 0, 'i' }, { "black", 1, 0, 'b' },
-        { "crop", 1, 0, 'c' }, { "scale", 1, 0, 'm' }, { "apart", 1, 0, 'a' }, { "lifted", 2, 0, 'l' }, { "quiet", 0, 0, 'q' }, { "help", 0, 0, 'h' },
-        { "version", 0, 0, 'V' }, { 0, 0, 0, 0 } };
-    for (int letter; (letter = getopt_long(argc, argv, "o:v:p:r:s:t:f:n:u:L:H:i:b:c:m:a:l::qhV", table, NULL)) != -1;) {
+        { "crop", 1, 0, 'c' }, { "scale", 1, 0, 'm' }, { "apart", 1, 0, 'a' }, { "lifted", 2, 0, 'l' }, { "threads", 1, 0, 'j' }, { "quiet", 0, 0, 'q' },
+        { "help", 0, 0, 'h' }, { "version", 0, 0, 'V' }, { 0, 0, 0, 0 } };
+    for (int letter; (letter = getopt_long(argc, argv, "o:v:p:r:s:t:f:n:u:L:H:i:b:c:m:a:l::j:qhV", table, NULL)) != -1;) {
         if (letter == '?')
             exit(WRONG);
         if (letter == 'h')

@@ -3,6 +3,7 @@
 #define PROGRAM_H
 
 #include "stacker.h"
+#include "stacker_threads.h"
 #include "station.h"
 
 #include <stddef.h>
@@ -30,6 +31,7 @@ typedef struct {
     const char *output, *vectors, *page, *low, *high;
     int sharpest, has_reference, has_noise, has_upper, has_strength, has_black, has_crop, has_scale, has_lifted;
     uint64_t reference, strength, spatial, side;
+    uint64_t threads;       /* 0: one on each processor */
     uint64_t apart, lifted; /* steps from the common vector; count of tiles */
     uint32_t iso;           /* 0: the curve is for the frames as they are */
     stacker_noise noise, upper; /* upper: where the noise is known only between the two */

@@ -2,14 +2,8 @@
    calls align|merge|run|choose|range|residuals [SPARE]. With SPARE, samples of the right length are lent in rows with so many spare words, each 65535, in place of
    the burst's own. It sees itself that the work area ends as promised, zero or after a refusal as it was, and that the stack is enough. At the end it
    writes to standard error how many calls there were, and the most stack that one took. */
+#include "call.h"
 #include "stack.h"
-#include "stacker.h"
-
-#include <stdio.h>
-#include <stdlib.h>
-#include <string.h>
-
-enum { WIDTH, HEIGHT, COUNT, REFERENCE, ROW_LENGTH, BLACK, NOISE_KIND = BLACK + 4, ISO, SHOT, READ, STRENGTH, SIDE, SPATIAL, SAMPLES, VECTORS, OUTPUT, WORK, WORDS };
 
 /* what a call of the range adds after its buffers, whose noise and output are the lower noise and the low frame; and one of the residuals, their length */
 enum { UPPER_KIND, UPPER_ISO, UPPER_SHOT, UPPER_READ, HIGH, RANGE_WORDS, RESIDUALS = 0, RESIDUAL_WORDS };
@@ -17,7 +11,7 @@ enum { UPPER_KIND, UPPER_ISO, UPPER_SHOT, UPPER_READ, HIGH, RANGE_WORDS, RESIDUA
 /* what the work area holds before a call */
 static const int64_t MARK = -4915937;
 
-static uint64_t head[WORDS], more[RANGE_WORDS];
+static uint64_t more[RANGE_WORDS];
 static uint16_t *samples, *output, *high;
 static int32_t *vectors;
 static uint64_t *found;
@@ -25,39 +19,10 @@ static int64_t *work;
 static stacker_alignment answer;
 static uint64_t chosen;
 
-static void *lent(uint64_t length, size_t size, int filled)
-{
-    void *buffer = length == 0 ? NULL : malloc(length * size);
-    if (length != 0 && (buffer == NULL || (filled && fread(buffer, size, length, stdin) != length)))
-        exit(2);
-    return buffer;
-}
-
 static void take(uint64_t *words, size_t count)
 {
     if (fread(words, 8, count, stdin) != count)
         exit(2);
-}
-
-static double number(uint64_t bits)
-{
-    double x;
-    memcpy(&x, &bits, sizeof x);
-    return x;
-}
-
-static stacker_burst burst(void)
-{
-    stacker_burst burst = { .width = head[WIDTH], .height = head[HEIGHT], .count = head[COUNT], .reference = head[REFERENCE],
-        .row_length = head[ROW_LENGTH] };
-    for (int plane = 0; plane < 4; plane++)
-        burst.black[plane] = (uint16_t)head[BLACK + plane];
-    return burst;
-}
-
-static stacker_noise measured(void)
-{
-    return (stacker_noise){ .shot = number(head[SHOT]), .read = number(head[READ]) };
 }
 
 static stacker_noise measured_upper(void)
@@ -65,19 +30,9 @@ static stacker_noise measured_upper(void)
     return (stacker_noise){ .shot = number(more[UPPER_SHOT]), .read = number(more[UPPER_READ]) };
 }
 
-static stacker_iso_noise at_iso(void)
-{
-    return (stacker_iso_noise){ .iso = (uint32_t)head[ISO], .shot = number(head[SHOT]), .read = number(head[READ]) };
-}
-
 static stacker_iso_noise at_iso_upper(void)
 {
     return (stacker_iso_noise){ .iso = (uint32_t)more[UPPER_ISO], .shot = number(more[UPPER_SHOT]), .read = number(more[UPPER_READ]) };
-}
-
-static stacker_tuning tuning(void)
-{
-    return (stacker_tuning){ .strength = head[STRENGTH], .side = head[SIDE], .spatial = head[SPATIAL] };
 }
 
 static void align(void)

@@ -4,7 +4,7 @@
 
 #include <string.h>
 
-enum { GREATEST_LEVEL = 4194304, LAST = STACKER_REFUSED_NOISE_RANGE, REFUSALS = LAST + 1 };
+enum { GREATEST_LEVEL = 4194304, LAST = STACKER_REFUSED_PART, REFUSALS = LAST + 1 };
 
 static int describes(void)
 {

@@ -1,8 +1,9 @@
 /* Lengths that are told wrongly: pages BURST DNG. Every buffer of every call ends at a page that can be neither read nor written, and is told one element too
    long, twice as long, and as long as can be told, alone and with all others, at both sides. A call must refuse it by its number, and leave every buffer as it
    was, before it touches a word that is not there. A DNG file may go on after its last part, and of a burst file the size question reads two lines, so there only
-   the end of the call is asked. */
+   the end of the call is asked. With the right lengths each call must end on the stack that stacker.h tells. */
 #define _DEFAULT_SOURCE
+#include "stack.h"
 #include "stacker.h"
 #include "station.h"
 
@@ -14,12 +15,14 @@
 #include <unistd.h>
 
 #define VECTORS_OF(side) ((N - 1) * 2 * (W / (side) + 1) * (H / (side) + 1))
-enum { W = 64, H = 64, N = 5, DNG_W = 128 };
+enum { W = 64, H = 64, N = 5, ROWS = 32, DNG_W = 128 };
 
 /* The buffers; a call names those that it takes. */
-enum { SAMPLES, VECTORS, OUTPUT, WORK, BYTES, BURST_FILE, DNG_FILE, DNG_FRAME, RESIDUALS, HIGH, BUFFERS };
-static const size_t element[BUFFERS] = { 2, 4, 2, 8, 1, 1, 1, 2, 8, 2 };
-static size_t length[BUFFERS] = { N * W * H, VECTORS_OF(16), W * H, 2 * W * H, 0, 0, 0, DNG_W * H, VECTORS_OF(16) / 2, W * H };
+enum { SAMPLES, VECTORS, OUTPUT, WORK, BYTES, BURST_FILE, DNG_FILE, DNG_FRAME, RESIDUALS, HIGH, FRAME_VECTORS, FRAME_WORK, BAND, BAND_WORK, BUFFERS };
+static const size_t element[BUFFERS] = { 2, 4, 2, 8, 1, 1, 1, 2, 8, 2, 4, 8, 2, 8 };
+static size_t length[BUFFERS] = {
+    N * W * H, VECTORS_OF(16), W * H, 2 * W * H, 0, 0, 0, DNG_W * H, VECTORS_OF(16) / 2, W * H, VECTORS_OF(16) / (N - 1), W * H, ROWS * W, 0
+};
 static uint8_t *lent[BUFFERS], *held[BUFFERS];
 
 static const stacker_burst burst = { W, H, N, 0, W, { 0, 0, 0, 0 } };
@@ -32,11 +35,18 @@ static stacker_tuning tuning = STACKER_TUNING(512);
 #define VECTORS_READ (const int32_t *)lent[VECTORS], told[VECTORS]
 #define WRITTEN (uint16_t *)lent[OUTPUT], told[OUTPUT], (int64_t *)lent[WORK], told[WORK]
 #define BOTH_WRITTEN (uint16_t *)lent[OUTPUT], told[OUTPUT], (uint16_t *)lent[HIGH], told[HIGH], (int64_t *)lent[WORK], told[WORK]
+#define FRAME_WRITTEN (int32_t *)lent[FRAME_VECTORS], told[FRAME_VECTORS], (int64_t *)lent[FRAME_WORK], told[FRAME_WORK]
+#define BAND_WRITTEN (uint16_t *)lent[BAND], told[BAND], (int64_t *)lent[BAND_WORK], told[BAND_WORK]
 #define FOUND (int32_t *)lent[VECTORS], told[VECTORS], WRITTEN
 
 static uint64_t align(const size_t *told)
 {
     return stacker_align(burst, tuning, SAMPLES_READ, (int32_t *)lent[VECTORS], told[VECTORS], (int64_t *)lent[WORK], told[WORK]).refusal;
+}
+
+static uint64_t align_frame(const size_t *told)
+{
+    return stacker_align_frame(burst, tuning, N - 2, SAMPLES_READ, FRAME_WRITTEN).refusal;
 }
 
 static uint64_t residuals(const size_t *told)
@@ -46,6 +56,8 @@ static uint64_t residuals(const size_t *told)
 
 static uint64_t merge(const size_t *told) { return stacker_merge(burst, noise, tuning, SAMPLES_READ, VECTORS_READ, WRITTEN); }
 static uint64_t merge_iso(const size_t *told) { return stacker_merge_iso(burst, iso, tuning, SAMPLES_READ, VECTORS_READ, WRITTEN); }
+static uint64_t band(const size_t *told) { return stacker_merge_band(burst, noise, tuning, H - ROWS, ROWS, SAMPLES_READ, VECTORS_READ, BAND_WRITTEN); }
+static uint64_t band_iso(const size_t *told) { return stacker_merge_band_iso(burst, iso, tuning, H - ROWS, ROWS, SAMPLES_READ, VECTORS_READ, BAND_WRITTEN); }
 static uint64_t range(const size_t *told) { return stacker_range(burst, noise, upper, tuning, SAMPLES_READ, VECTORS_READ, BOTH_WRITTEN); }
 static uint64_t range_iso(const size_t *told) { return stacker_range_iso(burst, iso, upper_iso, tuning, SAMPLES_READ, VECTORS_READ, BOTH_WRITTEN); }
 static uint64_t run(const size_t *told) { return stacker_run(burst, noise, tuning, SAMPLES_READ, FOUND).refusal; }
@@ -86,8 +98,11 @@ static const struct {
     uint64_t number[BUFFERS];
 } calls[] = {
     { "stacker_align", align, { [SAMPLES] = 4, [VECTORS] = 5, [WORK] = 7 } },
+    { "stacker_align_frame", align_frame, { [SAMPLES] = 4, [FRAME_VECTORS] = 5, [FRAME_WORK] = 7 } },
     { "stacker_merge", merge, { [SAMPLES] = 4, [VECTORS] = 5, [OUTPUT] = 6, [WORK] = 7 } },
     { "stacker_merge_iso", merge_iso, { [SAMPLES] = 4, [VECTORS] = 5, [OUTPUT] = 6, [WORK] = 7 } },
+    { "stacker_merge_band", band, { [SAMPLES] = 4, [VECTORS] = 5, [BAND] = 6, [BAND_WORK] = 7 } },
+    { "stacker_merge_band_iso", band_iso, { [SAMPLES] = 4, [VECTORS] = 5, [BAND] = 6, [BAND_WORK] = 7 } },
     { "stacker_residuals", residuals, { [SAMPLES] = 4, [VECTORS] = 5, [RESIDUALS] = 6, [WORK] = 7 } },
     { "stacker_range", range, { [SAMPLES] = 4, [VECTORS] = 5, [OUTPUT] = 6, [HIGH] = 6, [WORK] = 7 } },
     { "stacker_range_iso", range_iso, { [SAMPLES] = 4, [VECTORS] = 5, [OUTPUT] = 6, [HIGH] = 6, [WORK] = 7 } },
@@ -180,6 +195,11 @@ static int wrong_lengths(size_t c)
     return tried;
 }
 
+/* a call with the right lengths, on a stack of its own */
+static size_t called;
+static uint64_t answered;
+static void call(void) { answered = calls[called].call(length); }
+
 /* Each call with the right lengths, and with wrong ones; how many of those were refused by their number. */
 static int each_call(void)
 {
@@ -189,8 +209,10 @@ static int each_call(void)
         if (calls[c].number[HIGH] != NOT_TAKEN && tuning.side != 16)
             continue;
         snprintf(trying, sizeof trying, "tests: pages: %s: right lengths: ", calls[c].name);
-        if (calls[c].call(length) != 0) {
-            fprintf(stderr, "%srefused\n", trying);
+        called = c;
+        size_t stack = stack_of(call);
+        if (answered != 0 || stack > STACK_MOST) {
+            fprintf(stderr, "%sanswered %d, on %zu bytes of stack\n", trying, (int)answered, stack);
             exit(1);
         }
         restore();
@@ -199,7 +221,7 @@ static int each_call(void)
     return tried;
 }
 
-/* Tiles of side 32, whose fewer vectors and residuals end at the same page. */
+/* Tiles of side 32, whose fewer vectors and residuals end at the same page; a band's work area is longer. */
 static void widen(void)
 {
     size_t fewer = VECTORS_OF(16) - VECTORS_OF(32);
@@ -208,6 +230,14 @@ static void widen(void)
     lent[VECTORS] += fewer * element[VECTORS];
     length[RESIDUALS] -= fewer / 2;
     lent[RESIDUALS] += fewer / 2 * element[RESIDUALS];
+    length[FRAME_VECTORS] -= fewer / (N - 1);
+    lent[FRAME_VECTORS] += fewer / (N - 1) * element[FRAME_VECTORS];
+    length[BAND_WORK] = stacker_band_work(burst, tuning);
+    lent[BAND_WORK] = at_the_edge(element[BAND_WORK] * length[BAND_WORK]);
+    free(held[BAND_WORK]);
+    held[BAND_WORK] = calloc(length[BAND_WORK], element[BAND_WORK]);
+    if (held[BAND_WORK] == NULL)
+        exit(2);
 }
 
 int main(int count, char **names)
@@ -219,6 +249,7 @@ int main(int count, char **names)
     fill(BURST_FILE, names[1]);
     fill(DNG_FILE, names[2]);
     length[BYTES] = stacker_pgm_length(W, H);
+    length[BAND_WORK] = stacker_band_work(burst, tuning);
     for (int i = 0; i < BUFFERS; i++) {
         if (lent[i] == NULL)
             lent[i] = at_the_edge(element[i] * length[i]);

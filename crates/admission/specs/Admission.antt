@@ -1,4 +1,4 @@
--- The answer of tests 1 to 11, 18, 23 and 24. Inner vocabulary.
+-- The answer of tests that find the noise's levels. Inner vocabulary.
 use Rattle.algebra.specs.Prelude.{_≡_, List, ℕ, ℤ}
 use Rattle.refusals.specs.After.{after}
 use Rattle.geometry.specs.declared.Shape.{Shape}
@@ -8,6 +8,7 @@ use Rattle.noise.specs.Levels.{levelsOf, shotLevel, readLevel}
 use Rattle.recipe.specs.declared.Tuning.{Tuning}
 use Rattle.admission.specs.declared.Tested.{Tested}
 use Rattle.admission.specs.Refusals.{runRefusal}
+use Rattle.admission.specs.Bands.{bandRefusal}
 
 -- "beside a refusal every other returned field is 0": the levels
 unfoldable pub testedAs : (number : ℕ) → Levels → Tested
@@ -15,3 +16,6 @@ testedAs number levels = record { refusal = number; shot = after number 0 (shotL
 
 pub record RunTested (s : Shape) (reference : ℕ) (noise : Noise) (tuning : Tuning) (samples : List ℕ) (vectors : List ℤ) (output : List ℕ) (work : List ℤ) (r : Tested) : Type 0 where
   pub answer : r ≡ testedAs (runRefusal s reference noise tuning samples vectors output work) (levelsOf noise)
+
+pub record BandTested (s : Shape) (reference : ℕ) (noise : Noise) (tuning : Tuning) (top rows : ℕ) (samples : List ℕ) (vectors : List ℤ) (output : List ℕ) (work : List ℤ) (r : Tested) : Type 0 where
+  pub answer : r ≡ testedAs (bandRefusal s reference noise tuning top rows samples vectors output work) (levelsOf noise)

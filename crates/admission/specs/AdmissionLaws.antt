@@ -1,5 +1,7 @@
 -- What the answer of the tests says where it refuses, and where it accepts.
-use Rattle.algebra.specs.Prelude.{_≡_, sym, ap, _∙_, ℕ, zero, suc, arith}
+use Rattle.algebra.specs.Prelude.{_≡_, refl, sym, ap, _∙_, List, _++_, ℕ, zero, suc, arith}
+use Rattle.refusals.specs.Tests.{first}
+use Rattle.refusals.specs.TestLaws.{stops, goes}
 use Rattle.refusals.specs.After.{after}
 use Rattle.refusals.specs.AfterLaws.{result-made}
 use Rattle.noise.specs.declared.Levels.{Levels}
@@ -17,6 +19,18 @@ pub tested-accepted : (number : ℕ) (levels : Levels) {k shot read : ℕ} → k
 unfolding testedAs after
 tested-accepted zero levels e z p q = rw (e, p, q)
 tested-accepted (suc n) levels e z p q = absurd (omega arith)
+
+-- tests before it that have passed, and tests behind it where it refuses
+module _ {r : Tested} (tests others : List ℕ) (levels : Levels) where
+  pub tested-goes : first tests ≡ 0 → r ≡ testedAs (first others) levels → r ≡ testedAs (first (tests ++ others)) levels
+  tested-goes z e = e ∙ ap (λ n. testedAs n levels) (goes tests others (sym z) refl refl)
+
+  pub tested-stops : (first tests ≡ 0 → ⊥) → r ≡ testedAs (first tests) levels → r ≡ testedAs (first (tests ++ others)) levels
+  tested-stops h e = e ∙ ap (λ n. testedAs n levels) (stops tests others refl h)
+
+  -- tests behind it that pass as it does
+  pub tested-passes : first tests ≡ 0 → first others ≡ 0 → r ≡ testedAs (first tests) levels → r ≡ testedAs (first (tests ++ others)) levels
+  tested-passes z p e = e ∙ ap (λ n. testedAs n levels) (z ∙ goes tests others (sym z) refl (sym p))
 
 -- the fields of the answer
 module _ {r : Tested} (number : ℕ) (levels : Levels) (e : r ≡ testedAs number levels) where

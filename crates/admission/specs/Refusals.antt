@@ -23,10 +23,14 @@ filterSideRefusal side s = refuse no.filteredSide (eqb side 32 && ltb 0 s)
 unfoldable pub contentTests : Shape → Tuning → (samples : List ℕ) → List ℕ
 contentTests s tuning samples = strengthRefusal (tuning .strength) ∷ blackRefusal (tuning .black) ∷ spatialRefusal (tuning .spatial) ∷ filterSideRefusal (s .side) (tuning .spatial) ∷ sampleRefusal s samples ∷ []
 
+-- 8 and 9 with them: the tests behind those of shape and lengths
+abbrev pub valueTests : Shape → Noise → Tuning → (samples : List ℕ) → List ℕ
+valueTests s noise tuning samples = noiseTests noise ++ contentTests s tuning samples
+
 -- "run 1 to 11", and 18 and 22 to 25 among them
 unfoldable pub runTests : Shape → (reference : ℕ) → Noise → Tuning → (samples : List ℕ) (vectors : List ℤ) (output : List ℕ) (work : List ℤ) → List ℕ
 runTests s reference noise tuning samples vectors output work =
-    mergeShapeTests s reference (length samples) (length vectors) (length output) (length work) ++ (noiseTests noise ++ contentTests s tuning samples)
+    mergeShapeTests s reference (length samples) (length vectors) (length output) (length work) ++ valueTests s noise tuning samples
 
 abbrev pub runRefusal : Shape → (reference : ℕ) → Noise → Tuning → (samples : List ℕ) (vectors : List ℤ) (output : List ℕ) (work : List ℤ) → ℕ
 runRefusal s reference noise tuning samples vectors output work = first (runTests s reference noise tuning samples vectors output work)

@@ -1,10 +1,13 @@
-// The tests of the calls, in the order in which they are made: align's, the residuals', and those that merge and run share.
+// The tests of the calls, in the order in which they are made: align's, the residuals', those that merge and run share, and a band's.
+pub mod one_frame;
+
 ghost use mathlib.Core.Path.{_≡_};
 ghost use Rattle.refusals.specs.Tests.{first};
 ghost use Rattle.geometry.specs.Fits.{Sampled};
-ghost use Rattle.admission.specs.Refusals.{alignRefusal, filterSideRefusal, contentTests};
+ghost use Rattle.noise.specs.Levels.{levelsOf};
+ghost use Rattle.admission.specs.Refusals.{alignRefusal, filterSideRefusal, contentTests, valueTests};
 ghost use Rattle.admission.specs.Residuals.{residualRefusal};
-ghost use Rattle.admission.specs.Admission.{RunTested};
+ghost use Rattle.admission.specs.Admission.{testedAs, RunTested, BandTested};
 use geometry::Shape;
 use noise::Levels;
 use noise::Noise;
@@ -101,6 +104,27 @@ fn refused(number: u64) -> Tested
     }
 }
 
+// Tests 8 to 10, 18, 24, 25 and 11.
+fn value_refusal(shape: Shape, noise: Noise, tuning: Tuning, samples: &[u16]) -> Tested
+    requires { ⌜ Sampled shape (now samples) ⌝ }
+    ensures { λ r. ⌜ r ≡ testedAs (first (valueTests shape noise tuning (now (samples .entry)))) (levelsOf noise) ⌝ }
+{
+    match noise::levels_of(noise) {
+        Levels::Refused(number) => refused(number),
+        Levels::Found { shot, read } => {
+            let refusal = content_refusal(shape, tuning, samples);
+            if refusal != 0 {
+                return refused(refusal);
+            }
+            Tested {
+                refusal,
+                shot,
+                read,
+            }
+        }
+    }
+}
+
 // Tests 1 to 10, 18, 22 to 25 and 11: those that merge and run share.
 pub fn run_refusal(
     shape: Shape,
@@ -125,18 +149,45 @@ pub fn run_refusal(
     if lengths != 0 {
         return refused(lengths);
     }
-    match noise::levels_of(noise) {
-        Levels::Refused(number) => refused(number),
-        Levels::Found { shot, read } => {
-            let refusal = content_refusal(shape, tuning, samples);
-            if refusal != 0 {
-                return refused(refusal);
-            }
-            Tested {
-                refusal,
-                shot,
-                read,
-            }
-        }
+    value_refusal(shape, noise, tuning, samples)
+}
+
+// Merge's tests with 27 before 4, where 6 and 7 are of a band's lengths. All samples and all vectors are tested, so that the bands of a burst are
+// accepted or refused alike.
+pub fn band_refusal(
+    shape: Shape,
+    reference: usize,
+    noise: Noise,
+    tuning: Tuning,
+    top: usize,
+    rows: usize,
+    samples: &[u16],
+    vectors: &[i32],
+    output: &[u16],
+    work: &[i64],
+) -> Tested
+    ensures { λ r. ⌜ BandTested shape reference noise tuning top rows (now (samples .entry)) (now (vectors .entry)) (now (output .entry)) (now (work .entry)) r ⌝ }
+{
+    let lengths = limits::bands::band_shape_refusal(
+        shape,
+        reference,
+        top,
+        rows,
+        samples.len(),
+        vectors.len(),
+        output.len(),
+        work.len(),
+    );
+    if lengths != 0 {
+        return refused(lengths);
     }
+    let tested = value_refusal(shape, noise, tuning, samples);
+    if tested.refusal != 0 {
+        return tested;
+    }
+    let part = values::vector_refusal(vectors);
+    if part != 0 {
+        return refused(part);
+    }
+    tested
 }

@@ -1,18 +1,19 @@
--- Inner vocabulary: what the loop over the frames asks, and what it leaves.
-use Rattle.algebra.specs.Prelude.{_≡_, List, ℕ, _≤_, length, ℤ}
+-- Inner vocabulary: what the loop over the frames asks, and what it leaves; the same of one frame.
+use Rattle.algebra.specs.Prelude.{_≡_, List, ℕ, _-_, _*_, _≤_, _<_, length, ℤ}
 use Rattle.sequences.specs.Write.{written}
 use Rattle.geometry.specs.declared.Shape.{Shape}
+use Rattle.geometry.specs.Shape.{vectorLength}
 use Rattle.geometry.specs.Read.{Image}
 use Rattle.geometry.specs.Tiles.{tileColumns, frameParts}
-use Rattle.geometry.specs.Vectors.{word}
-use Rattle.geometry.specs.Fits.{AlignFits, SamplesFit}
+use Rattle.geometry.specs.Vectors.{word, partsOf}
+use Rattle.geometry.specs.Fits.{BurstFits, AlignFits, SamplesFit}
 use Rattle.pyramid.specs.Layout.{Levels}
 use Rattle.alignment.specs.Frames.{vectorsOf, residualOf}
-use Rattle.alignment.specs.Rows.{rowsOf, rowsSummed}
+use Rattle.alignment.specs.Rows.{rowsOf, countOf, rowsSummed}
 use Rattle.alignment.specs.Magnitudes.{frameRowsMost}
 use Rattle.fields.specs.declared.Sums.{Sums}
 use Rattle.alignment.specs.declared.burst.Totals.{Totals}
-use Rattle.alignment.specs.Aligned.{alignedVectors, residualSums}
+use Rattle.alignment.specs.Aligned.{sumOf, alignedVectors, residualSums}
 
 -- what alignment needs: a burst that its tests have let through
 pub record Ready (s : Shape) (reference : ℕ) (samples : List ℕ) (vectors work : List ℤ) : Type 0 where
@@ -33,4 +34,19 @@ pub record OneAligned (s : Shape) (reference other : Image) (d : List ℤ) (to :
   pub rows-are : r .rows ≡ rowsOf s reference other
   pub few : r .rows ≤ frameRowsMost
   pub levels : Levels s reference 0 work′
+  pub same : length work′ ≡ length work
+
+-- what one frame's alignment needs: a burst that its tests have let through, and vectors of that frame alone
+pub record ReadyFrame (s : Shape) (reference other : ℕ) (samples : List ℕ) (vectors work : List ℤ) : Type 0 where
+  pub burst : BurstFits s reference (length samples) (vectorLength s)
+  pub room : s .width * s .height ≤ length work
+  pub samples-fit : SamplesFit s samples
+  pub other-in : other < s .count - 1
+  pub vectors-long : length vectors ≡ frameParts s
+
+-- what it leaves: that frame's vectors, their sum and the rows summed for it; the work area keeps its length
+pub record AlignedFrame (s : Shape) (reference other : ℕ) (samples : List ℕ) (vectors : List ℤ) (work work′ : List ℤ) (r : Sums) : Type 0 where
+  pub found : vectors ≡ partsOf (frameParts s) (alignedVectors s reference samples) other
+  pub sum-is : r .residual ≡ sumOf s reference samples other
+  pub rows-are : r .rows ≡ countOf s reference samples other
   pub same : length work′ ≡ length work

@@ -4,8 +4,8 @@ use Rattle.algebra.specs.Prelude.{List, _++_, ℕ, zero, suc, _+_, _-_, _*_, _�
 use native.Mathlib.Nat.{zero-add, zero-mul, suc-mul}
 use lib.ListN.{length, set, drop, replicate}
 use Rattle.geometry.specs.declared.Shape.{Shape}
-use Rattle.geometry.specs.Shape.{vectorLength}
-use Rattle.geometry.specs.Fits.{Allowed, TileSide}
+use Rattle.geometry.specs.Shape.{vectorLength, workLength}
+use Rattle.geometry.specs.Fits.{Allowed, TileSide, BurstFits, AlignFits, SamplesFit}
 use Rattle.geometry.specs.Read.{Image, sampleAt}
 use Rattle.geometry.specs.Tiles.{tileColumns, frameParts}
 use Rattle.geometry.specs.Vectors.{otherFrame, word, wordOf, vectorList}
@@ -22,14 +22,14 @@ use Rattle.bayer.specs.FrameLaws.{frame-fits}
 use Rattle.alignment.specs.Fields.{field0, residualSum}
 use Rattle.alignment.specs.Frames.{pairs, vectorsOf, residualOf}
 use Rattle.alignment.specs.Magnitudes.{frameRowsMost}
-use Rattle.alignment.specs.Rows.{frameRows, rowsOf, rowsSummed}
+use Rattle.alignment.specs.Rows.{frameRows, rowsOf, countOf, rowsSummed}
 use Rattle.alignment.specs.RowLaws.{frame-rows-most}
 use Rattle.fields.specs.declared.Sums.{Sums}
 use Rattle.sequences.specs.Sum.{Summed, sum-start, sum-turn, sum-done}
 use Rattle.alignment.specs.FrameLaws.{frame-standing, frame-pairs}
 use Rattle.alignment.specs.Sites.{pairsIn, Standing, Aligned}
 use Rattle.alignment.specs.Aligned.{fieldOf, sumOf, alignedVectors, residualSums}
-use Rattle.alignment.specs.Burst.{Ready, AlignedBurst, OneAligned}
+use Rattle.alignment.specs.Burst.{AlignedBurst, OneAligned}
 
 -- two pyramids lie within what alignment lays
 pub two-pyramids : (s : Shape) {n : ℕ} → alignLength s ≤ n → 2 * pyramidLength s ≤ n
@@ -64,17 +64,16 @@ module _ {s : Shape} {reference other : Image} {d l : List ℤ} (ok : Allowed s)
 
 -- ---- the loop over the other frames
 
-module _ {s : Shape} {reference : ℕ} {samples : List ℕ} {vectors work : List ℤ} (r : Ready s reference samples vectors work) where
-  -- any frame can be built from, and what is laid fits
-  pub frame-of : (f : ℕ) → f < s .count → Frame s f samples
-  frame-of f h = let b = r .fits .burst in frame-fits f (record { allowed = b .allowed; long = b .samples-long }) (r .samples-fit) h
+-- any frame can be built from, and what is laid fits
+pub frame-of : {s : Shape} {reference vectors : ℕ} {samples : List ℕ} → BurstFits s reference (length samples) vectors → SamplesFit s samples → (f : ℕ) → f < s .count → Frame s f samples
+frame-of b fit f h = frame-fits f (record { allowed = b .allowed; long = b .samples-long }) fit h
 
-  pub work-room : alignLength s ≤ length work
-  work-room = let e = r .fits .work-long in omega (arith, align-fits (r .fits .burst .allowed))
+pub frame-room : {s : Shape} {reference samples vectors work : ℕ} → BurstFits s reference samples vectors → s .width * s .height ≤ work → alignLength s ≤ work
+frame-room b h = omega (arith, align-fits (b .allowed))
 
--- the rows summed for the k-th other frame
-abbrev countOf : (s : Shape) → (reference : ℕ) → (samples : List ℕ) → ℕ → ℕ
-countOf s reference samples k = rowsOf s (sampleAt s samples reference) (sampleAt s samples (otherFrame reference k))
+pub work-room : {s : Shape} {reference samples vectors work : ℕ} → AlignFits s reference samples vectors work → alignLength s ≤ work
+unfolding workLength
+work-room fits = let e = fits .work-long in frame-room (fits .burst) (omega arith)
 
 -- the k-th frame's vectors lie within the lent ones
 pub place-room : (s : Shape) (k : ℕ) → k < s .count - 1 → k * frameParts s + frameParts s ≤ vectorLength s

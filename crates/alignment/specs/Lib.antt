@@ -11,3 +11,4 @@ pub mod GridLaws
 pub mod LevelLaws
 pub mod FrameLaws
 pub mod BurstLaws
+pub mod OneFrameLaws

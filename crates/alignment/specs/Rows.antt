@@ -33,6 +33,10 @@ frameRows side p = coarseRows p + rows0 side p
 unfoldable pub rowsOf : Shape → (reference other : Image) → ℕ
 rowsOf shape reference other = frameRows (shape .side) (pairs shape reference other)
 
--- all other frames of a burst
+-- the k-th other frame of a burst
+abbrev pub countOf : (s : Shape) → (reference : ℕ) → (samples : List ℕ) → (k : ℕ) → ℕ
+countOf s reference samples k = rowsOf s (sampleAt s samples reference) (sampleAt s samples (otherFrame reference k))
+
+-- all of them
 unfoldable pub rowsSummed : (s : Shape) → (reference : ℕ) → (samples : List ℕ) → ℕ
-rowsSummed s reference samples = sumN (s .count - 1) (λ k. rowsOf s (sampleAt s samples reference) (sampleAt s samples (otherFrame reference k)))
+rowsSummed s reference samples = sumN (s .count - 1) (countOf s reference samples)

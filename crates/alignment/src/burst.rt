@@ -6,7 +6,7 @@ ghost use Rattle.geometry.specs.Read.{sampleAt};
 ghost use Rattle.geometry.specs.Tiles.{frameParts};
 ghost use Rattle.pyramid.specs.Layout.{alignLength, Levels};
 ghost use Rattle.bayer.specs.Frame.{Frame};
-ghost use Rattle.alignment.specs.Burst.{Ready, AlignedBurst, OneAligned};
+ghost use Rattle.alignment.specs.Burst.{Ready, AlignedBurst, OneAligned, ReadyFrame, AlignedFrame};
 use crate::frame::align_levels;
 use fields::Sums;
 use geometry::Shape;
@@ -71,4 +71,29 @@ pub fn align_frames(
         residuals: sums,
         rows: rows,
     }
+}
+
+// The same of one of the other frames alone, the one at place `other` among them, whose vectors are all that are lent.
+pub fn align_one(
+    shape: Shape,
+    reference: usize,
+    other: usize,
+    samples: &[u16],
+    vectors: &mut [i32],
+    work: &mut [i64],
+) -> Sums
+    requires { ⌜ ReadyFrame shape reference other (now samples) (now vectors) (now work) ⌝ }
+    ensures { λ r. ⌜ AlignedFrame shape reference other (now (samples .entry)) (now (vectors .exit)) (now (work .entry)) (now (work .exit)) r ⌝ }
+{
+    pyramid::build(shape, reference, samples, &mut *work, 0);
+    let frame = other_frame(reference, other);
+    align_frame(
+        shape,
+        reference,
+        frame,
+        samples,
+        &mut *vectors,
+        0,
+        &mut *work,
+    )
 }

@@ -3,3 +3,7 @@ pub mod OrderLaws
 pub mod Question
 pub mod Residuals
 pub mod ResidualLaws
+pub mod Bands
+pub mod BandLaws
+pub mod OneFrame
+pub mod OneFrameLaws

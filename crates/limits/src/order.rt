@@ -29,7 +29,7 @@ pub fn frame_refusal(shape: Shape, reference: usize) -> u64
 }
 
 // Tests 1 to 3, 22 and 23.
-fn burst_refusal(shape: Shape, reference: usize) -> u64
+pub fn burst_refusal(shape: Shape, reference: usize) -> u64
     ensures { λ r. ⌜ r ≡ first (burstTests shape reference) ⌝ }
 {
     let size = size_refusal(shape);

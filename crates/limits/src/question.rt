@@ -29,7 +29,7 @@ fn length_tested(shape: Shape, number: u64) -> u64
 }
 
 // Tests 1, 2, 22 and 23, which let the lengths be worked out.
-fn question_refusal(shape: Shape) -> u64
+pub fn question_refusal(shape: Shape) -> u64
     ensures { λ r. ⌜ r ≡ first (questionTests shape) ⌝ }
 {
     refusals::first(

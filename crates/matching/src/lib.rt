@@ -1,7 +1,7 @@
 // The vector of one tile: the residuals of candidates, the guess, and the search around it.
 ghost use mathlib.Core.Path.{_≡_};
 ghost use mathlib.Core.Bool.{true, false};
-ghost use Prim.Native.Nat.{_+_, _*_, _≤_, _<_, _^_};
+ghost use Prim.Native.Nat.{_+_, _-_, _*_, _≤_, _<_, _^_};
 ghost use lib.ListN.{length};
 ghost use Rattle.search.specs.Vectors.{_plus_};
 ghost use Rattle.patches.specs.Bounds.{Within};
@@ -58,15 +58,15 @@ fn same(a: Vector, b: Vector) -> bool
     a.right == b.right
 }
 
-// The sum of a tile against a square.
-fn square_sum(side: usize, samples: &[u16], other: &[u16]) -> u64
-    requires { ⌜ (TileSide side) × (Compared (now samples) (now other) (side * side) (side * side)) ⌝ }
-    ensures { λ r. ⌜ r ≡ squareSum false (now (samples .entry)) (now (other .entry)) 0 side side ⌝ }
+// The sum of a tile against the square of `other` from `start` on, whose rows stand `stride` apart.
+fn square_sum(side: usize, samples: &[u16], other: &[u16], start: usize, stride: usize) -> u64
+    requires { ⌜ record { sided : TileSide side; compared : Compared (now samples) (now other) (side * side) (start + (side - 1) * stride + side); close : stride ≤ 64 } ⌝ }
+    ensures { λ r. ⌜ r ≡ squareSum false (now (samples .entry)) (now (other .entry)) start stride side ⌝ }
 {
     if side == 32 {
-        return thirty_two::absolute_sum(samples, other, 0, 32) as u64;
+        return thirty_two::absolute_sum(samples, other, start, stride) as u64;
     }
-    sixteen::absolute_sum(samples, other, 0, 16) as u64
+    sixteen::absolute_sum(samples, other, start, stride) as u64
 }
 
 // The residual of a candidate: always by absolute differences. `other` is for its square of the other image.
@@ -91,7 +91,7 @@ pub fn candidate_sum(
         tile.side,
         &mut *other,
     );
-    square_sum(tile.side, samples, &*other)
+    square_sum(tile.side, samples, &*other, 0, tile.side)
 }
 
 // The candidate of the least residual, the earlier on a tie.
@@ -146,10 +146,7 @@ fn middle_sum(side: usize, samples: &[u16], window: &[u16]) -> u64
     requires { ⌜ (TileSide side) × (Window (now samples) (now window) side) ⌝ }
     ensures { λ r. ⌜ r ≡ squareSum false (now (samples .entry)) (now (window .entry)) (4 * (side + 8) + 4) (side + 8) side ⌝ }
 {
-    if side == 32 {
-        return thirty_two::absolute_sum(samples, window, 4 * 40 + 4, 40) as u64;
-    }
-    sixteen::absolute_sum(samples, window, 4 * 24 + 4, 24) as u64
+    square_sum(side, samples, window, 4 * (side + 8) + 4, side + 8)
 }
 
 // The residual of another candidate than the own one, whose window is there: a candidate equal to it is summed again, but not copied again.

@@ -2,7 +2,6 @@
 use Rattle.algebra.specs.Prelude.{_≡_, refl, _∙_, List, ℕ, suc, _+_, _*_, _/_, _≤_, arith, ℤ}
 use native.Mathlib.Nat.{mul-le-mul}
 use Rattle.geometry.specs.declared.Shape.{Shape}
-use Rattle.geometry.specs.Shape.{workLength}
 use Rattle.geometry.specs.Fits.{Allowed}
 use Rattle.geometry.specs.Read.{Image}
 use Rattle.geometry.specs.Tiles.{level0, level1, level2, level3, levelSize, tileCount}
@@ -64,9 +63,9 @@ module _ {shape : Shape} (ok : Allowed shape) where
   tiles-most {a} {b} h w =
       omega (arith, mul-le-mul {n₁ = 16 * a} {m₁ = 16 * b} {n₂ = shape .height} {m₂ = shape .width} (omega arith) (omega arith))
 
-  -- what alignment lays fits the work area
-  pub align-fits : alignLength shape ≤ workLength shape
-  unfolding alignLength tiles levelTiles tileCount offset workLength levelSize
+  -- what alignment lays has fewer words than a frame has samples
+  pub align-fits : alignLength shape ≤ shape .width * shape .height
+  unfolding alignLength tiles levelTiles tileCount offset levelSize
   align-fits =
       let high = shape .height in
       let wide = shape .width in

@@ -104,3 +104,7 @@ filteredSide = 25
 -- "26, a lower shot or read above its upper one after ISO" (request L14)
 abbrev pub noiseRange : ℕ
 noiseRange = 26
+
+-- behind the papers' numbers: "a new number for a band outside the frame or not on its grid", and for a frame that is none of the others
+abbrev pub absentPart : ℕ
+absentPart = 27

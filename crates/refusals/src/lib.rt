@@ -54,6 +54,8 @@ pub const FILTERED_SIDE: u64 = 25;
 
 pub const NOISE_RANGE: u64 = 26;
 
+pub const PART: u64 = 27;
+
 // One test: its number where its condition holds, else 0.
 pub fn refuse(number: u64, condition: bool) -> u64
     ensures { λ r. ⌜ r ≡ refuse number condition ⌝ }

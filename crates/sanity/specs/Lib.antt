@@ -17,6 +17,7 @@ pub mod Calls
 pub mod PedestalCalls
 pub mod ResidualCalls
 pub mod SpareWords
+pub mod Bands
 pub mod FrameLaws
 pub mod OutputLaws
 pub mod MergeLaws

@@ -310,7 +310,7 @@ fn wide_search(tile: &[u16], window: &[u16]) -> Best
     }
 }
 
-// The first of the least residuals, and the rows summed. Called from two places, the narrow search is compiled by itself, not together with the wide one.
+// The first of the least residuals, and the rows summed.
 pub fn search(squared: bool, side: usize, tile: &[u16], window: &[u16]) -> Best
     requires { ⌜ record { around : Window (now tile) (now window) side; kind : Kind squared side; room : 256 ≤ length (now tile) } ⌝ }
     ensures { λ r. ⌜ Searched (windowRow squared (now (tile .entry)) (now (window .entry)) side) side r ⌝ }
@@ -318,8 +318,5 @@ pub fn search(squared: bool, side: usize, tile: &[u16], window: &[u16]) -> Best
     if side == 32 {
         return wide_search(tile, window);
     }
-    if side == 8 {
-        return narrow_search(squared, 8, tile, window);
-    }
-    narrow_search(squared, 16, tile, window)
+    narrow_search(squared, side, tile, window)
 }

@@ -1,5 +1,5 @@
 -- What each call answers, and what it leaves in every lent buffer. Samples, and merge's vectors, are only read.
-use Rattle.algebra.specs.Prelude.{_≡_, List, [], _∷_, ℕ, _*_, _/_, _%_, _<_, getD, ℤ, pos}
+use Rattle.algebra.specs.Prelude.{_≡_, List, [], _∷_, ℕ, _+_, _*_, _/_, _%_, _<_, getD, ℤ, pos}
 use Rattle.algebra.specs.Fraction.{whole, Within}
 use Rattle.sequences.specs.Clear.{zeros}
 use Rattle.geometry.specs.declared.Shape.{Shape}
@@ -26,17 +26,17 @@ answered number sums rows = record { refusal = number; residuals = after number 
 
 -- Demand 3: "every sample of the merged frame differs by at most five eighths of one sample step from the sample at the same place in the exact HDR+ merge", where
 -- s is 0, and by at most one step at side 32 (request L8), which takes no other s; and "users of the filter are owed a sample within two steps of the exact
--- filtered merge with the same V'" (request L13), at any s
-pub record Close (scene : Scene) (output : List ℕ) : Type 0 where
-  pub filtered : scene .side .side ≡ 16 → (k : ℕ) → k < scene .width * scene .height → Within 2 1 (whole (pos (getD output k 0))) (exactFilteredAt scene (k / scene .width) (k % scene .width))
-  pub close : scene .side .side ≡ 16 → scene .tuning .spatial ≡ 0 → (k : ℕ) → k < scene .width * scene .height → Within 5 8 (whole (pos (getD output k 0))) (exactAt scene (k / scene .width) (k % scene .width))
-  pub wide : scene .side .side ≡ 32 → (k : ℕ) → k < scene .width * scene .height → Within 1 1 (whole (pos (getD output k 0))) (exactAt scene (k / scene .width) (k % scene .width))
+-- filtered merge with the same V'" (request L13), at any s. The output has the frame's rows from `top` on, so many of them
+pub record Close (scene : Scene) (top rows : ℕ) (output : List ℕ) : Type 0 where
+  pub filtered : scene .side .side ≡ 16 → (k : ℕ) → k < rows * scene .width → Within 2 1 (whole (pos (getD output k 0))) (exactFilteredAt scene (top + k / scene .width) (k % scene .width))
+  pub close : scene .side .side ≡ 16 → scene .tuning .spatial ≡ 0 → (k : ℕ) → k < rows * scene .width → Within 5 8 (whole (pos (getD output k 0))) (exactAt scene (top + k / scene .width) (k % scene .width))
+  pub wide : scene .side .side ≡ 32 → (k : ℕ) → k < rows * scene .width → Within 1 1 (whole (pos (getD output k 0))) (exactAt scene (top + k / scene .width) (k % scene .width))
 
 -- Request L11: "a merged sample differs from the reference sample by at most one step plus half the square root of the largest noise number (in squared
 -- samples) of the four tiles over it", which request L13 keeps where s is 0
-pub record Capped (scene : Scene) (output : List ℕ) : Type 0 where
-  pub capped : scene .tuning .spatial ≡ 0 → (k : ℕ) → k < scene .width * scene .height →
-      let row = k / scene .width in
+pub record Capped (scene : Scene) (top rows : ℕ) (output : List ℕ) : Type 0 where
+  pub capped : scene .tuning .spatial ≡ 0 → (k : ℕ) → k < rows * scene .width →
+      let row = top + k / scene .width in
       let column = k % scene .width in
       UnderCeiling (scene .side) (leak (pos (getD output k 0)) (pos (scene .reference row column))) (largestOver scene row column)
 
@@ -51,8 +51,8 @@ pub record Merged (s : Shape) (reference : ℕ) (noise : Noise) (tuning : Tuning
   pub answer : number ≡ mergeRefusal s reference noise tuning samples vectors output work
   pub result : output′ ≡ after (mergeRefusal s reference noise tuning samples vectors output work) output (merged (sceneOf (mergeOf s reference noise tuning) samples vectors))
   pub clean : work′ ≡ after (mergeRefusal s reference noise tuning samples vectors output work) work (zeros work)
-  pub near : number ≡ 0 → Close (sceneOf (mergeOf s reference noise tuning) samples vectors) output′
-  pub ceiling : number ≡ 0 → Capped (sceneOf (mergeOf s reference noise tuning) samples vectors) output′
+  pub near : number ≡ 0 → Close (sceneOf (mergeOf s reference noise tuning) samples vectors) 0 (s .height) output′
+  pub ceiling : number ≡ 0 → Capped (sceneOf (mergeOf s reference noise tuning) samples vectors) 0 (s .height) output′
 
 -- run: "align, then merge"
 pub record Ran (s : Shape) (reference : ℕ) (noise : Noise) (tuning : Tuning) (samples : List ℕ) (vectors vectors′ : List ℤ) (output output′ : List ℕ) (work work′ : List ℤ) (r : Alignment) : Type 0 where
@@ -60,5 +60,5 @@ pub record Ran (s : Shape) (reference : ℕ) (noise : Noise) (tuning : Tuning) (
   pub found : vectors′ ≡ after (runRefusal s reference noise tuning samples vectors output work) vectors (alignedVectors s reference samples)
   pub result : output′ ≡ after (runRefusal s reference noise tuning samples vectors output work) output (merged (sceneOf (mergeOf s reference noise tuning) samples (alignedVectors s reference samples)))
   pub clean : work′ ≡ after (runRefusal s reference noise tuning samples vectors output work) work (zeros work)
-  pub near : r .refusal ≡ 0 → Close (sceneOf (mergeOf s reference noise tuning) samples vectors′) output′
-  pub ceiling : r .refusal ≡ 0 → Capped (sceneOf (mergeOf s reference noise tuning) samples vectors′) output′
+  pub near : r .refusal ≡ 0 → Close (sceneOf (mergeOf s reference noise tuning) samples vectors′) 0 (s .height) output′
+  pub ceiling : r .refusal ≡ 0 → Capped (sceneOf (mergeOf s reference noise tuning) samples vectors′) 0 (s .height) output′

@@ -70,6 +70,6 @@ module _ {s : Shape} {reference : ℕ} {noise : Noise} {tuning : Tuning} {sample
           found = made _ _ _ e z (is .found);
           result = made _ _ _ e z result;
           clean = made _ _ _ e z (is .clean);
-          near = λ _. found-close _ _ _ _ _ (runnable .fits .burst .sided) (runnable .unfiltered) (runnable .fits .burst .allowed .few) (is .found) result;
+          near = λ _. found-close _ _ (runnable .fits .burst .allowed) (runnable .fits .burst .sided) (runnable .unfiltered) _ _ _ (is .found) result;
           ceiling = λ _. found-capped _ _ (runnable .fits .burst) (runnable .samples-fit) _ _ _ (is .found) result;
         }

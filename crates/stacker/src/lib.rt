@@ -1,8 +1,10 @@
 // The calls: each tests what it is lent in the order of the refusals' numbers, works, and clears the work area. None has a `requires`.
 pub mod align;
+pub mod band;
 pub mod choose;
 pub mod merge;
 pub mod noise_range;
+pub mod one_frame;
 pub mod residuals;
 pub mod run;
 

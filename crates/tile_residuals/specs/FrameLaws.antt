@@ -18,10 +18,9 @@ use Rattle.levels.specs.Fields.{levelTile}
 use Rattle.alignment.specs.Frames.{pairs}
 use Rattle.alignment.specs.FrameLaws.{frame-pairs}
 use Rattle.alignment.specs.Sites.{pairsIn}
-use Rattle.alignment.specs.Burst as alignment
 use Rattle.alignment.specs.BurstLaws.{place-room}
 use Rattle.tile_residuals.specs.Residuals.{tileResidual, residualWord, tileResiduals}
-use Rattle.tile_residuals.specs.Frames.{vectorIn, residualIn, Measured, Ready, MeasuredBurst}
+use Rattle.tile_residuals.specs.Frames.{vectorIn, residualIn, Measured, MeasuredBurst}
 
 -- ---- where the words and the vectors stand
 
@@ -61,10 +60,6 @@ module _ {s : Shape} {reference other : Image} {d l : List ℤ} (ok : Allowed s)
       }
 
 -- ---- the loop over the other frames
-
--- what alignment asks is among what is asked
-pub alignable : {s : Shape} {reference : ℕ} {samples : List ℕ} {vectors : List ℤ} {residuals : List ℕ} {work : List ℤ} → Ready s reference samples vectors residuals work → alignment.Ready s reference samples vectors work
-alignable r = record { fits = r .fits; samples-fit = r .samples-fit }
 
 -- the k-th frame's words and vectors lie within the lent ones
 pub word-room : (s : Shape) (k : ℕ) → k < s .count - 1 → k * frameTiles s + frameTiles s ≤ residualLength s

@@ -89,11 +89,11 @@ lengths-right : (vectors : List ℤ) → length vectors ≡ 50 → first (mergeS
 unfolding plain mergeShapeTests frameTests burstTests shapeTests mergeLengths first sizeAllowed countAllowed sizeRefusal countRefusal referenceRefusal sideAllowed sideRefusal rowAllowed rowRefusal sampleLength vectorLength outputLength workLength lengthRefusal
 lengths-right vectors e = rw e
 
-noise-passes : first (noiseTests dark) ≡ 0
+pub noise-passes : first (noiseTests dark) ≡ 0
 unfolding noiseTests first invalidNoise invalidCurve aboveLimits
 noise-passes = refl
 
-content-passes : first (contentTests shape full burst) ≡ 0
+pub content-passes : first (contentTests shape full burst) ≡ 0
 unfolding contentTests first some strengthRefusal blackRefusal spatialRefusal filterSideRefusal
 content-passes = rw samples-small
 

@@ -2,6 +2,8 @@ pub mod SmallLaws
 pub mod Inputs
 pub mod Bursts
 pub mod Ranges
+pub mod Bands
+pub mod OneFrames
 pub mod BurstFiles
 pub mod PgmFiles
 pub mod DngFiles

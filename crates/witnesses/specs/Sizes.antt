@@ -65,6 +65,6 @@ pub dng-size-refuses :
 unfolding dngSize loneRefusal after faultTag structureFault countFault valueFault firstOf tagTests outside headerWrong directoryOutside valueOutside fieldOutside stripOutside notOnce otherwise sizeDiffers demandMissed absent valueOf first some entries entriesFrom timesOf right sizeOf fieldAt firstField valueAt number short long tags tagAt demands demandAt hasBlack listed demanded
 dng-size-refuses = (refl, refl, refl)
 
-pub words-said : (wordsOf 0 ≡ ascii "accepted") × (wordsOf 11 ≡ ascii "a sample above 4095") × (wordsOf 25 ≡ ascii "spatial strength not 0 with tiles of side 32") × (wordsOf 26 ≡ ascii "lower shot or read above the upper one after ISO") × (wordsOf 27 ≡ unknown)
+pub words-said : (wordsOf 0 ≡ ascii "accepted") × (wordsOf 11 ≡ ascii "a sample above 4095") × (wordsOf 25 ≡ ascii "spatial strength not 0 with tiles of side 32") × (wordsOf 26 ≡ ascii "lower shot or read above the upper one after ISO") × (wordsOf 27 ≡ ascii "a band of rows off the grid of tiles or outside the frame, or a frame that is none of the others") × (wordsOf 28 ≡ unknown)
 unfolding wordsOf wordTable
-words-said = (refl, refl, refl, refl, refl)
+words-said = (refl, refl, refl, refl, refl, refl)

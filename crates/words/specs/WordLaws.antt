@@ -14,7 +14,7 @@ past h e = omega arith
 pub said : (k : ℕ) {number next : ℕ} {l m : List ℕ} → number ≡ k → leb (length (wordsOf k)) 128 ≡ true → Printed l 0 (wordsOf k) m next → (Printed l 0 (wordsOf number) m next) × (next ≤ 128)
 said k {number} {next} {l} {m} e small p = (rw e p, omega (arith, p .place, leb-true (length (wordsOf k)) 128 small))
 
-pub beyond : (number : ℕ) → 27 ≤ number → wordsOf number ≡ unknown
+pub beyond : (number : ℕ) → 28 ≤ number → wordsOf number ≡ unknown
 unfolding wordsOf wordTable
 beyond number h = List·getD-eq-default wordTable unknown {n = number} h
 

@@ -15,9 +15,9 @@ wordTable =
     ∷ ascii "count of frames 0 or above 8"
     ∷ ascii "reference, or index of the frame to be read, not below the count of frames"
     ∷ ascii "samples not of length count * row_length * height"
-    ∷ ascii "vectors not of length (count - 1) * 2 * (width / side + 1) * (height / side + 1)"
-    ∷ ascii "output or frame not of length width * height, or residuals not half as many as the vectors' parts"
-    ∷ ascii "work area not of length 2 * width * height"
+    ∷ ascii "vectors not of length (count - 1) * 2 * (width / side + 1) * (height / side + 1), or for one frame without (count - 1)"
+    ∷ ascii "output or frame not of length width * height, band not of rows * width, or residuals not half as many as the vectors' parts"
+    ∷ ascii "work area not of length 2 * width * height, or for a band 4 * side * width"
     ∷ ascii "shot or read negative or not finite, or ISO outside 25..409600"
     ∷ ascii "shot above 64 or read above 4096 after ISO, or a file's levels above 65536 or 4194304"
     ∷ ascii "strength above 1024"
@@ -37,6 +37,7 @@ wordTable =
     ∷ ascii "spatial strength above 256, or not 0 where a range of noise is asked for"
     ∷ ascii "spatial strength not 0 with tiles of side 32"
     ∷ ascii "lower shot or read above the upper one after ISO"
+    ∷ ascii "a band of rows off the grid of tiles or outside the frame, or a frame that is none of the others"
     ∷ []
 
 unfoldable pub wordsOf : (number : ℕ) → List ℕ

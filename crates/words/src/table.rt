@@ -31,14 +31,18 @@ fn put_burst_words(text: &mut [u8], number: u64) -> usize
         5 => put_bytes(
             text,
             0,
-            b"vectors not of length (count - 1) * 2 * (width / side + 1) * (height / side + 1)",
+            b"vectors not of length (count - 1) * 2 * (width / side + 1) * (height / side + 1), or for one frame without (count - 1)",
         ),
         6 => put_bytes(
             text,
             0,
-            b"output or frame not of length width * height, or residuals not half as many as the vectors' parts",
+            b"output or frame not of length width * height, band not of rows * width, or residuals not half as many as the vectors' parts",
         ),
-        _ => put_bytes(text, 0, b"work area not of length 2 * width * height"),
+        _ => put_bytes(
+            text,
+            0,
+            b"work area not of length 2 * width * height, or for a band 4 * side * width",
+        ),
     }
 }
 
@@ -71,9 +75,9 @@ fn put_value_words(text: &mut [u8], number: u64) -> usize
     }
 }
 
-// Of 16 to 26: other files, and what came later.
+// Of 16 to 27: other files, and what came later.
 fn put_file_words(text: &mut [u8], number: u64) -> usize
-    requires { ⌜ (128 ≤ length (now text)) × ((16 ≤ number) × (number < 27)) ⌝ }
+    requires { ⌜ (128 ≤ length (now text)) × ((16 ≤ number) × (number < 28)) ⌝ }
     ensures { λ r. ⌜ (Printed (now (text .entry)) 0 (wordsOf number) (now (text .exit)) r) × (r ≤ 128) ⌝ }
 {
     match number {
@@ -111,7 +115,12 @@ fn put_file_words(text: &mut [u8], number: u64) -> usize
             b"spatial strength above 256, or not 0 where a range of noise is asked for",
         ),
         25 => put_bytes(text, 0, b"spatial strength not 0 with tiles of side 32"),
-        _ => put_bytes(text, 0, b"lower shot or read above the upper one after ISO"),
+        26 => put_bytes(text, 0, b"lower shot or read above the upper one after ISO"),
+        _ => put_bytes(
+            text,
+            0,
+            b"a band of rows off the grid of tiles or outside the frame, or a frame that is none of the others",
+        ),
     }
 }
 
@@ -126,7 +135,7 @@ pub fn put_words(text: &mut [u8], number: u64) -> usize
     if number < 16 {
         return put_value_words(text, number);
     }
-    if number < 27 {
+    if number < 28 {
         return put_file_words(text, number);
     }
     put_bytes(text, 0, b"no refusal of this version")

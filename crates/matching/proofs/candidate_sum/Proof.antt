@@ -1,11 +1,17 @@
 -- The other image's square at the moved tile is copied, and the sum of the two arrays is the residual.
-use Rattle.algebra.specs.Prelude.{refl, ap, _∙_, false, _^_, arith, needs, lit≤}
+use Rattle.algebra.specs.Prelude.{refl, ap, _∙_, false, ℕ, _+_, _-_, _*_, _^_, _≤_, arith, needs, lit≤}
+use mathlib.Core.Logic.{⊎-elim}
+use Rattle.geometry.specs.Fits.{TileSide}
+use Rattle.residuals.specs.SixteenLaws.{low-less}
 use Rattle.search.specs.VectorLaws.{within-more, plus-within}
 use Rattle.matching.specs.Stored.{pairIn}
 use Rattle.search.specs.LocalLaws.{moved-residual}
 use Rattle.matching.specs.StoredLaws.{copied-low}
 use Rattle.matching.proofs.candidate_sum.Statement.{statement}
 use Rattle.matching.proofs.candidate_sum.Tie as tie
+
+whole : {side : ℕ} → TileSide side → 0 + (side - 1) * side + side ≤ side * side
+whole sided = ⊎-elim (λ e. rw e (lit≤ tt)) (λ e. rw e (lit≤ tt)) (sided .is)
 
 sum-requires : tie.Need-sum-requires
 sum-requires c κs = let s = c .before .before .before in (within-more (2 ^ 20) (s .pre .ready .placed .near) (lit≤ tt), within-more (2 ^ 20) (s .pre .near) (lit≤ tt))
@@ -19,7 +25,11 @@ square-sum-requires : tie.Need-square-sum-requires
 unfolding pairIn
 square-sum-requires c κs = let s = c .before .before .before .before .before .before .before .before .before in
     let h = s .pre .ready in
-    (s .pre .sided, record { tile-low = copied-low (h .stored .reference) (h .room) (h .copied); window-low = copied-low (h .stored .other) (omega (arith, s .pre .room)) (c .before .before .before .copy-square .ensures) })
+    record {
+      sided = s .pre .sided;
+      compared = record { tile-low = copied-low (h .stored .reference) (h .room) (h .copied); window-low = low-less (copied-low (h .stored .other) (omega (arith, s .pre .room)) (c .before .before .before .copy-square .ensures)) _ (whole (s .pre .sided)) };
+      close = omega (arith, h .placed .small);
+    }
 
 returns : tie.Need-returns
 unfolding pairIn

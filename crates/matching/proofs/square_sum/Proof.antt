@@ -1,22 +1,25 @@
 -- The side is one of two.
-use Rattle.algebra.specs.Prelude.{_≡_, subst, needs, lit≤}
+use Rattle.algebra.specs.Prelude.{_≡_, subst, needs, _+_, _-_, _*_}
 use mathlib.Core.Logic.{⊎-elim}
-use Prim.Native.Nat.{_*_}
 use Rattle.residuals.specs.Local.{Compared}
 use Rattle.matching.proofs.square_sum.Statement.{statement}
 use Rattle.matching.proofs.square_sum.Tie as tie
 
 side-is : (c : tie.Else1) → c .before .before .before .args .side ≡ 16
-side-is c = ⊎-elim (λ e. e) (λ e. absurd (c .if1 .left e)) (c .before .before .before .pre .0 .is)
+side-is c = ⊎-elim (λ e. e) (λ e. absurd (c .if1 .left e)) (c .before .before .before .pre .sided .is)
 
 absolute-sum-requires : tie.Need-absolute-sum-requires
-absolute-sum-requires c κs = let s = c .before .before .before in (subst (λ n. Compared (s .args .samples .now) (s .args .other .now) (n * n) (n * n)) (c .if1 .taken) (s .pre .1), lit≤ tt)
+absolute-sum-requires c κs = let s = c .before .before .before in
+    let a = s .args in
+    (subst (λ n. Compared (a .samples .now) (a .other .now) (n * n) (a .start + (n - 1) * a .stride + n)) (c .if1 .taken) (s .pre .compared), s .pre .close)
 
 returns : tie.Need-returns
 returns c = rw (c .before .if1 .taken) (c .absolute-sum .ensures .0)
 
 absolute-sum-requires-2 : tie.Need-absolute-sum-requires-2
-absolute-sum-requires-2 c κs = let s = c .before .before .before in (subst (λ n. Compared (s .args .samples .now) (s .args .other .now) (n * n) (n * n)) (side-is c) (s .pre .1), lit≤ tt)
+absolute-sum-requires-2 c κs = let s = c .before .before .before in
+    let a = s .args in
+    (subst (λ n. Compared (a .samples .now) (a .other .now) (n * n) (a .start + (n - 1) * a .stride + n)) (side-is c) (s .pre .compared), s .pre .close)
 
 returns-2 : tie.Need-returns-2
 returns-2 c = rw (side-is (c .before)) (c .absolute-sum2 .ensures .0)

@@ -6,7 +6,7 @@ use Rattle.geometry.specs.declared.Shape.{Shape}
 use Rattle.geometry.specs.Shape.{vectorLength}
 use Rattle.limits.specs.Residuals.{frameTiles, residualLength}
 use Rattle.alignment.specs.BurstLaws.{two-pyramids, frame-of, work-room}
-use Rattle.tile_residuals.specs.FrameLaws.{alignable, word-room, vector-room, Measuring, measuring-start, measuring-turn, measuring-done}
+use Rattle.tile_residuals.specs.FrameLaws.{word-room, vector-room, Measuring, measuring-start, measuring-turn, measuring-done}
 use Rattle.tile_residuals.proofs.measure_frames.Statement.{statement}
 use Rattle.tile_residuals.proofs.measure_frames.Tie as tie
 
@@ -24,7 +24,7 @@ rooms s k e vectors words h =
 build-requires : tie.Need-build-requires Inv-loop μ-loop
 build-requires c κs =
     let start = c .before .before .before in
-    (frame-of (alignable (start .pre)) _ (start .pre .fits .burst .reference-below), omega (arith, two-pyramids (start .args .shape) (work-room (alignable (start .pre)))))
+    (frame-of (start .pre .fits .burst) (start .pre .samples-fit) _ (start .pre .fits .burst .reference-below), omega (arith, two-pyramids (start .args .shape) (work-room (start .pre .fits))))
 
 tile-rows-requires : tie.Need-tile-rows-requires Inv-loop μ-loop
 tile-rows-requires c κs = let b = c .before .before .before .before .before .pre .fits .burst in (b .allowed, b .sided)
@@ -59,10 +59,10 @@ measure-frame-requires c κs =
     let place = ap₂ (λ m n. loop .loop .k * (m * n)) (columns .before .tile-rows .ensures .0) (columns .tile-columns .ensures .0) in
     let room = rooms (start .args .shape) (loop .loop .k) place (burst .vectors-long) (inv .writing .same ∙ start .pre .residuals-long) (omega arith) in
     record {
-      readable = frame-of (alignable (start .pre)) _ (omega (arith, c .before .before .other-frame .ensures .1));
+      readable = frame-of (start .pre .fits .burst) (start .pre .samples-fit) _ (omega (arith, c .before .before .other-frame .ensures .1));
       sided = burst .sided;
       levels = inv .levels;
-      room = omega (arith, work-room (alignable (start .pre)), columns .before .before .before .build .ensures .same);
+      room = omega (arith, work-room (start .pre .fits), columns .before .before .before .build .ensures .same);
       vectors-fit = start .pre .vectors-fit;
       vectors-room = room .0;
       residuals-room = room .1;

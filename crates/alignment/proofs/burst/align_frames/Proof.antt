@@ -14,7 +14,7 @@ abbrev μ-loop : tie.MeasureT-loop
 build-requires : tie.Need-build-requires Inv-loop μ-loop
 build-requires c κs =
     let start = c .before .before in
-    (frame-of (start .pre) _ (start .pre .fits .burst .reference-below), omega (arith, two-pyramids (start .args .shape) (work-room (start .pre))))
+    (frame-of (start .pre .fits .burst) (start .pre .samples-fit) _ (start .pre .fits .burst .reference-below), omega (arith, two-pyramids (start .args .shape) (work-room (start .pre .fits))))
 
 frame-parts-requires : tie.Need-frame-parts-requires Inv-loop μ-loop
 frame-parts-requires c κs = let b = c .before .before .before .before .pre .fits .burst in (b .allowed, b .sided)
@@ -41,10 +41,10 @@ align-frame-requires c κs =
     let long = inv .writing .same in
     let place = ap (λ n. loop .loop .k * n) (loop .before .before .frame-parts .ensures .0) in
     record {
-      readable = frame-of (start .pre) _ (omega (arith, c .before .before .other-frame .ensures .1));
+      readable = frame-of (start .pre .fits .burst) (start .pre .samples-fit) _ (omega (arith, c .before .before .other-frame .ensures .1));
       sided = burst .sided;
       levels = inv .levels;
-      room = omega (arith, work-room (start .pre), loop .before .before .before .before .build .ensures .same);
+      room = omega (arith, work-room (start .pre .fits), loop .before .before .before .before .build .ensures .same);
       vectors-room = omega (arith, place, burst .vectors-long, place-room (start .args .shape) (loop .loop .k) (omega arith));
     }
 

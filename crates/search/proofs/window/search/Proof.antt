@@ -23,33 +23,7 @@ narrow : (c : tie.Else1) → let a = c .before .before .before .args in Narrow (
 narrow c = ⊎-elim (λ k. k) (λ k. absurd (c .if1 .left (k .0))) (c .before .before .before .pre .kind .is)
 
 narrow-search-requires : tie.Need-narrow-search-requires
-narrow-search-requires c κs =
-    let s = c .before .before .before .before in
-    let a = s .args in
-    record {
-      around = subst (Window (a .tile .now) (a .window .now)) (c .if2 .taken) (s .pre .around);
-      kind = subst (Narrow (a .squared)) (c .if2 .taken) (narrow (c .before));
-      room = s .pre .room;
-    }
-
-returns-2 : tie.Need-returns-2
-returns-2 c = rw (c .before .if2 .taken) (c .narrow-search .ensures)
-
-sixteen : (c : tie.Else2) → c .before .before .before .before .args .side ≡ 16
-sixteen c = ⊎-elim (λ k. absurd (c .if2 .left (k .0))) (λ k. k) (narrow (c .before) .is)
-
-narrow-search-requires-2 : tie.Need-narrow-search-requires-2
-narrow-search-requires-2 c κs =
-    let s = c .before .before .before .before in
-    let a = s .args in
-    record {
-      around = subst (Window (a .tile .now) (a .window .now)) (sixteen c) (s .pre .around);
-      kind = subst (Narrow (a .squared)) (sixteen c) (narrow (c .before));
-      room = s .pre .room;
-    }
-
-returns-3 : tie.Need-returns-3
-returns-3 c = rw (sixteen (c .before)) (c .narrow-search2 .ensures)
+narrow-search-requires c κs = let s = c .before .before .before in record { around = s .pre .around; kind = narrow c; room = s .pre .room }
 
 pub search-spec : {M : Type 1} → statement M
-search-spec = tie.close (tie.spec wide-search-requires returns narrow-search-requires returns-2 narrow-search-requires-2 returns-3)
+search-spec = tie.close (tie.spec wide-search-requires returns narrow-search-requires (λ c. c .narrow-search .ensures))

@@ -9,8 +9,8 @@ use Rattle.admission.specs.Refusals.{mergeRefusal}
 use Rattle.admission.specs.AdmissionLaws.{tested-number, tested-levels}
 use Rattle.refusals.specs.AfterLaws.{kept, made}
 use Rattle.stacker.specs.AdmissionLaws.{run-passed}
-use Rattle.stacker.specs.CloseLaws.{output-close}
-use Rattle.stacker.specs.CeilingLaws.{output-capped}
+use Rattle.stacker.specs.CloseLaws.{found-close}
+use Rattle.stacker.specs.CeilingLaws.{found-capped}
 use Rattle.stacker.proofs.merge.merge.Statement.{statement}
 use Rattle.stacker.proofs.merge.merge.Tie as tie
 
@@ -68,8 +68,8 @@ returns-3 c =
       answer = sym (lent .if2 .left) ∙ e;
       result = made _ _ _ e (lent .if2 .left) is;
       clean = made _ _ _ e (lent .if2 .left) (c .before .clear .ensures ∙ zeros-length _ _ (search needs));
-      near = λ _. output-close _ _ _ _ (ready .fits .burst .sided) (ready .unfiltered) (ready .fits .burst .allowed .few) is;
-      ceiling = λ _. output-capped _ _ (ready .fits .burst) (ready .samples-fit) _ _ is;
+      near = λ _. found-close _ _ (ready .fits .burst .allowed) (ready .fits .burst .sided) (ready .unfiltered) _ _ _ refl is;
+      ceiling = λ _. found-capped _ _ (ready .fits .burst) (ready .samples-fit) _ _ _ refl is;
     }
 
 pub merge-spec : {M : Type 1} → statement M

@@ -6,16 +6,17 @@ use Rattle.words.proofs.table.put_file_words.Statement.{statement}
 use Rattle.words.proofs.table.put_file_words.Tie as tie
 
 -- the last number is the one that is left
-last : (c : tie.After-put-bytes11) → c .before .before .before .before .before .args .number ≡ 26
+last : (c : tie.After-put-bytes12) → c .before .before .before .before .before .args .number ≡ 27
 last c =
     let none = c .before .before .before .match .rest in
     let start = c .before .before .before .before .before in
-    let least : 26 ≤ start .args .number = past (past (past (past (past (past (past (past (past (past (start .pre .1 .0) (none .0 .0 .0 .0 .0 .0 .0 .0 .0 .1)) (none .0 .0 .0 .0 .0 .0 .0 .0 .1)) (none .0 .0 .0 .0 .0 .0 .0 .1)) (none .0 .0 .0 .0 .0 .0 .1)) (none .0 .0 .0 .0 .0 .1)) (none .0 .0 .0 .0 .1)) (none .0 .0 .0 .1)) (none .0 .0 .1)) (none .0 .1)) (none .1) in
+    let least : 27 ≤ start .args .number = past (past (past (past (past (past (past (past (past (past (past (start .pre .1 .0) (none .0 .0 .0 .0 .0 .0 .0 .0 .0 .0 .1)) (none .0 .0 .0 .0 .0 .0 .0 .0 .0 .1)) (none .0 .0 .0 .0 .0 .0 .0 .0 .1)) (none .0 .0 .0 .0 .0 .0 .0 .1)) (none .0 .0 .0 .0 .0 .0 .1)) (none .0 .0 .0 .0 .0 .1)) (none .0 .0 .0 .0 .1)) (none .0 .0 .0 .1)) (none .0 .0 .1)) (none .0 .1)) (none .1) in
     omega arith
 
 pub put-file-words-spec : {M : Type 1} → statement M
 unfolding wordsOf wordTable
 put-file-words-spec = tie.close (tie.spec
+    (λ c. search needs) (λ c κs. search needs)
     (λ c. search needs) (λ c κs. search needs)
     (λ c. search needs) (λ c κs. search needs)
     (λ c. search needs) (λ c κs. search needs)
@@ -37,4 +38,5 @@ put-file-words-spec = tie.close (tie.spec
     (λ c. search needs) (λ c. said 23 (c .before .before .before .before .before .match .keys8) refl (c .before .before .put-bytes8 .ensures))
     (λ c. search needs) (λ c. said 24 (c .before .before .before .before .before .match .keys9) refl (c .before .before .put-bytes9 .ensures))
     (λ c. search needs) (λ c. said 25 (c .before .before .before .before .before .match .keys10) refl (c .before .before .put-bytes10 .ensures))
-    (λ c. search needs) (λ c. said 26 (last (c .before .before)) refl (c .before .before .put-bytes11 .ensures)))
+    (λ c. search needs) (λ c. said 26 (c .before .before .before .before .before .match .keys11) refl (c .before .before .put-bytes11 .ensures))
+    (λ c. search needs) (λ c. said 27 (last (c .before .before)) refl (c .before .before .put-bytes12 .ensures)))

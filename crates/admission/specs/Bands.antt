@@ -1,0 +1,15 @@
+-- The tests of the call for a band of the merged frame: merge's, "in the order of the numbers", with 27 before 4.
+use Rattle.algebra.specs.Prelude.{List, [], _∷_, _++_, ℕ, length, ℤ}
+use Rattle.refusals.specs.Tests.{first}
+use Rattle.geometry.specs.declared.Shape.{Shape}
+use Rattle.limits.specs.Bands.{bandShapeTests}
+use Rattle.values.specs.Bounds.{vectorRefusal}
+use Rattle.noise.specs.declared.Noise.{Noise}
+use Rattle.recipe.specs.declared.Tuning.{Tuning}
+use Rattle.admission.specs.Refusals.{valueTests}
+
+unfoldable pub bandRefusal : Shape → (reference : ℕ) → Noise → Tuning → (top rows : ℕ) (samples : List ℕ) (vectors : List ℤ) (output : List ℕ) (work : List ℤ) → ℕ
+bandRefusal s reference noise tuning top rows samples vectors output work =
+    first
+    (bandShapeTests s reference top rows (length samples) (length vectors) (length output) (length work)
+    ++ (valueTests s noise tuning samples ++ vectorRefusal vectors ∷ []))

@@ -1,0 +1,13 @@
+-- `c_api::one_frame::stacker_align_frame`: the shape is the one that the description stands for.
+use Rattle.algebra.specs.Prelude.{needs}
+use Rattle.c_api.proofs.one_frame.stacker_align_frame.Statement.{statement}
+use Rattle.c_api.proofs.one_frame.stacker_align_frame.Tie as tie
+
+returns : tie.Need-returns
+returns c =
+    let a = c .before .before in
+    rw (a .before .before .before .shape-of .ensures) at (a .align-frame .ensures)
+
+pub stacker-align-frame-spec : {M : Type 1} → statement M
+stacker-align-frame-spec = tie.close (tie.spec
+    (λ c κs. search needs) (λ c κs. search needs) (λ c. search needs) (λ c. search needs) returns)

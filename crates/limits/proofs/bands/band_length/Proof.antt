@@ -1,0 +1,18 @@
+-- Rows of the frame times its width are few.
+use Rattle.algebra.specs.Prelude.{refl, arith}
+use native.Mathlib.Nat.{mul-le-mul}
+use Rattle.limits.specs.Bands.{bandLength}
+use Rattle.limits.proofs.bands.band_length.Statement.{statement}
+use Rattle.limits.proofs.bands.band_length.Tie as tie
+
+mul-result : tie.Need-mul-result
+mul-result c =
+    let s = c .before in
+    omega (arith, mul-le-mul {n₁ = s .args .rows} {m₁ = s .args .shape .width} {n₂ = 4096} {m₂ = 4096} (omega (arith, s .pre .1, s .pre .0 .high .most)) (s .pre .0 .wide .most))
+
+returns : tie.Need-returns
+unfolding bandLength
+returns c = refl
+
+pub band-length-spec : {M : Type 1} → statement M
+band-length-spec = tie.close (tie.spec mul-result returns)
