@@ -6,6 +6,7 @@
 #include "strengths.h"
 #include "subject.h"
 #include "tables.h"
+#include "timer.h"
 
 #include <malloc.h>
 #include <stdio.h>

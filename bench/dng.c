@@ -1,20 +1,13 @@
 /* Reading a frame from a DNG file, beside plain C with the same loops and beside memcpy: nanoseconds a byte of the file, the best of some rounds
    taken in turn. The last line is a small frame behind a directory of 65,535 entries, which plain C walks once. */
-#define _POSIX_C_SOURCE 199309L
 #include "stacker.h"
+#include "timer.h"
 
 #include <stdio.h>
 #include <stdlib.h>
 #include <string.h>
-#include <time.h>
 
 enum { BYTE = 1, SHORT = 3, LONG = 4, DOUBLE = 12, NEEDED = 12, HEADER = 8 };
-
-static double seconds(void) {
-    struct timespec now;
-    clock_gettime(CLOCK_MONOTONIC, &now);
-    return (double)now.tv_sec + 1e-9 * (double)now.tv_nsec;
-}
 
 static void put(uint8_t *bytes, uint64_t value, int size) {
     for (int i = 0; i < size; i++)
@@ -106,15 +99,13 @@ int main(void) {
         uint16_t *frame = malloc(2 * side * side);
         if (frame == NULL)
             return 1;
-        double best[KINDS];
+        double best[KINDS] = { 0 };
         for (int round = 0; round < 30; round++)
             for (int kind = 0; kind < KINDS; kind++) {
-                double start = seconds();
+                double start = clock_time();
                 if (work(kind, file, length, side, frame) != 0)
                     return 1;
-                double taken = (seconds() - start) / (double)length * 1e9;
-                if (round == 0 || taken < best[kind])
-                    best[kind] = taken;
+                keep_least(&best[kind], (clock_time() - start) / (double)length, round == 0);
             }
         printf("%4zu by %4zu, %5u entries       %5.3f    %5.3f   %5.3f\n", side, side, sizes[size][1] + NEEDED, best[READ], best[PLAIN], best[COPY]);
         free(file);

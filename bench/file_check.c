@@ -1,12 +1,11 @@
 /* The time per byte of station_check on a large accepted burst file in memory, beside a plain C parser of the same grammar and order of
    refusals. Their answers are compared in each run, and first on many small files, most of them damaged. */
-#define _POSIX_C_SOURCE 200809L
+#include "peers/burst.h"
 #include "station.h"
+#include "timer.h"
 
 #include <stdio.h>
-#include <stdlib.h>
 #include <string.h>
-#include <time.h>
 
 enum { REPEATS = 11, DAMAGED = 500 };
 
@@ -137,14 +136,6 @@ static uint64_t below(uint64_t n)
     return (seed * 2685821657736338717u >> 11) % n;
 }
 
-static void *allocated(size_t size)
-{
-    void *memory = malloc(size);
-    if (!memory)
-        exit(2);
-    return memory;
-}
-
 /* A burst of random samples of the full range, at most five bytes each, in these many rows; the second line may say otherwise. */
 static uint8_t *make_file(const char *values, size_t width, size_t rows, size_t *length)
 {
@@ -208,26 +199,6 @@ static void compare(void)
     printf("\n\n");
 }
 
-/* CPU time, which other programs on the machine disturb less than the clock. */
-static double now(void)
-{
-    struct timespec time;
-    clock_gettime(CLOCK_PROCESS_CPUTIME_ID, &time);
-    return (double)time.tv_sec * 1e9 + (double)time.tv_nsec;
-}
-
-static int rising(const void *a, const void *b)
-{
-    double x = *(const double *)a, y = *(const double *)b;
-    return (x > y) - (x < y);
-}
-
-static double median(double times[REPEATS])
-{
-    qsort(times, REPEATS, sizeof *times, rising);
-    return times[REPEATS / 2];
-}
-
 int main(void)
 {
     compare();
@@ -235,11 +206,11 @@ int main(void)
     uint8_t *file = make_file("4096 1664 2 0 1024 4096 8", 4096, 2 * 1664, &length);
     double library[REPEATS], plain[REPEATS];
     for (int i = 0; i < REPEATS; i++) {
-        double start = now();
+        double start = cpu_time();
         uint64_t library_number = station_check(file, length);
-        double between = now();
+        double between = cpu_time();
         unsigned plain_number = plain_check(file, length);
-        double end = now();
+        double end = cpu_time();
         if (library_number != 0 || plain_number != 0) {
             printf("file_check: the library answers %u and plain C %u to a good file\n", (unsigned)library_number, plain_number);
             return 1;
@@ -247,7 +218,7 @@ int main(void)
         library[i] = (between - start) / (double)length;
         plain[i] = (end - between) / (double)length;
     }
-    double l = median(library), p = median(plain);
+    double l = median(library, REPEATS), p = median(plain, REPEATS);
     printf("accepted file of %.1f MB, CPU time in ns per byte, %d interleaved runs\n", (double)length / 1e6, REPEATS);
     printf("%-16s %8s %8s %8s\n", "", "median", "least", "most");
     printf("%-16s %8.3f %8.3f %8.3f\n", "station_check", l, library[0], library[REPEATS - 1]);

@@ -1,5 +1,5 @@
 /* This library, through its header. */
-#include "peers.h"
+#include "peers/peers.h"
 #include "stacker.h"
 
 #include <stdio.h>

@@ -1,17 +1,10 @@
 /* Writing and reading a frame as PGM, beside plain C with the same loops: nanoseconds a sample, the best of some rounds taken in turn. */
-#define _POSIX_C_SOURCE 199309L
 #include "stacker.h"
+#include "timer.h"
 
 #include <stdio.h>
 #include <stdlib.h>
 #include <string.h>
-#include <time.h>
-
-static double seconds(void) {
-    struct timespec now;
-    clock_gettime(CLOCK_MONOTONIC, &now);
-    return (double)now.tv_sec + 1e-9 * (double)now.tv_nsec;
-}
 
 /* the same work with no test of lengths: the samples are tested, then stored */
 static int plain_write(size_t side, const uint16_t *frame, uint8_t *bytes) {
@@ -72,17 +65,16 @@ int main(void) {
             return 1;
         for (size_t i = 0; i < side * side; i++)
             frame[i] = (uint16_t)(i * 40503 % 4096);
-        double best[KINDS];
+        double best[KINDS] = { 0 };
         for (int round = 0; round < 30; round++)
             for (int kind = 0; kind < KINDS; kind++) {
-                double start = seconds();
+                double start = clock_time();
                 if (work(kind, side, frame, bytes, length) != 0)
                     return 1;
-                double taken = (seconds() - start) / (double)(side * side) * 1e9;
+                double taken = (clock_time() - start) / (double)(side * side);
                 if (kind == COPY)
                     work(WRITE, side, frame, bytes, length);
-                if (round == 0 || taken < best[kind])
-                    best[kind] = taken;
+                keep_least(&best[kind], taken, round == 0);
             }
         printf("%4zu by %4zu       %5.2f    %5.2f  %5.2f    %5.2f   %5.2f\n", side, side, best[WRITE], best[PLAIN_WRITE], best[READ],
             best[PLAIN_READ], best[COPY]);

@@ -1,6 +1,6 @@
 #include "scene.h"
 
-#include "burst.h"
+#include "peers/burst.h"
 
 #include <math.h>
 

@@ -2,6 +2,7 @@
 
 #include "scene.h"
 #include "tables.h"
+#include "timer.h"
 
 #include <stdio.h>
 

@@ -1,9 +1,9 @@
-#define _POSIX_C_SOURCE 200809L
 #include "subject.h"
+
+#include "timer.h"
 
 #include <stdio.h>
 #include <string.h>
-#include <time.h>
 
 line LINES[CALLS][MOST_LINES] = { { { &library_align, "" } }, { { &library_merge, "" } } };
 const int LENGTH[CALLS] = { 1 + 2 * ALIGN_PEERS, 1 + 2 * MERGE_PEERS };
@@ -101,21 +101,13 @@ static void spoil(result *r, int call, const burst *b)
     memset(r->residuals, 0x7f, sizeof r->residuals);
 }
 
-/* CPU time, which other programs on the machine disturb less than the clock. */
-static double now(void)
-{
-    struct timespec time;
-    clock_gettime(CLOCK_PROCESS_CPUTIME_ID, &time);
-    return (double)time.tv_sec * 1e9 + (double)time.tv_nsec;
-}
-
 double run_line(subject *s, int call, int i, distance *d)
 {
     result *r = i == 0 ? &s->library : &s->found;
     spoil(r, call, &s->burst);
-    double start = now();
+    double start = cpu_time();
     LINES[call][i].peer->call(s->scratch[call][i], &s->burst, &s->noise, r);
-    double time = now() - start;
+    double time = cpu_time() - start;
     if (i > 0)
         compare(s, call, &LINES[call][i], d);
     return time;
@@ -128,16 +120,4 @@ void run_lines(subject *s, int call, double *times, distance *d)
         if (times)
             times[i] = time;
     }
-}
-
-static int rising(const void *a, const void *b)
-{
-    double x = *(const double *)a, y = *(const double *)b;
-    return (x > y) - (x < y);
-}
-
-double median(double *values, int length)
-{
-    qsort(values, (size_t)length, sizeof *values, rising);
-    return values[length / 2];
 }

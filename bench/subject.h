@@ -2,7 +2,7 @@
 #ifndef SUBJECT_H
 #define SUBJECT_H
 
-#include "peers.h"
+#include "peers/peers.h"
 
 enum { ALIGN, MERGE, CALLS, MOST_LINES = 1 + 2 * MERGE_PEERS };
 
@@ -42,7 +42,5 @@ double run_line(subject *s, int call, int i, distance *d);
 
 /* Each line once, their times unless `times` is NULL. */
 void run_lines(subject *s, int call, double *times, distance *d);
-
-double median(double *values, int length);
 
 #endif

@@ -1,69 +1,53 @@
 /* What parts cost beside the whole, and what threads gain: align frame by frame and merge by bands, each part alone in one thread; then run in one thread and in
    two, by the clock; then what more cores would take, reckoned from the parts. Milliseconds, the best of some rounds. */
-#define _POSIX_C_SOURCE 200809L
-#include "burst.h"
-#include "scene.h"
+#include "lent.h"
 #include "stacker_threads.h"
+#include "timer.h"
 
 #include <stdio.h>
-#include <time.h>
 
 enum { FRAMES = 8, OTHERS = FRAMES - 1, BANDS_MOST = 16 };
 
 static const stacker_noise noise = { .shot = 1.5, .read = 20 };
 static const stacker_tuning tuning = { .strength = 600, .side = SIDE };
-static stacker_burst all;
-static uint16_t *samples, *output;
-static int32_t *vectors;
-static int64_t *work;
-static size_t samples_length, vectors_length, output_length, work_length;
-
-static double milliseconds(clockid_t clock)
-{
-    struct timespec now;
-    clock_gettime(clock, &now);
-    return 1e3 * (double)now.tv_sec + 1e-6 * (double)now.tv_nsec;
-}
-
-static void accepted(uint64_t refusal)
-{
-    if (refusal != STACKER_ACCEPTED)
-        exit(1);
-}
+static lent all;
 
 /* ---- the whole and its parts, of which each takes its best time ---- */
 
 static void whole_align(int part, int parts)
 {
     (void)part, (void)parts;
-    accepted(stacker_align(all, tuning, samples, samples_length, vectors, vectors_length, work, work_length / 2).refusal);
+    must_accept(stacker_align(all.burst, tuning, all.samples, all.sample_count, all.vectors, all.vector_count, all.work, all.work_count).refusal);
 }
 
 static void frame(int part, int parts)
 {
-    size_t length = vectors_length / (size_t)parts;
-    accepted(stacker_align_frame(all, tuning, (uint64_t)part, samples, samples_length, vectors + (size_t)part * length, length, work, work_length / 2).refusal);
+    size_t length = all.vector_count / (size_t)parts;
+    must_accept(stacker_align_frame(all.burst, tuning, (uint64_t)part, all.samples, all.sample_count, all.vectors + (size_t)part * length, length,
+        all.work, all.work_count / 2).refusal);
 }
 
 static void whole_merge(int part, int parts)
 {
     (void)part, (void)parts;
-    accepted(stacker_merge(all, noise, tuning, samples, samples_length, vectors, vectors_length, output, output_length, work, work_length));
+    must_accept(stacker_merge(all.burst, noise, tuning, all.samples, all.sample_count, all.vectors, all.vector_count, all.output, all.frame, all.work,
+        all.work_count));
 }
 
 static void band(int part, int parts)
 {
-    size_t tile_rows = all.height / SIDE, top = (size_t)part * tile_rows / (size_t)parts * SIDE, rows = (size_t)(part + 1) * tile_rows / (size_t)parts * SIDE - top;
-    accepted(stacker_merge_band(all, noise, tuning, top, rows, samples, samples_length, vectors, vectors_length, output + top * all.width,
-        rows * all.width, work, 4 * SIDE * all.width));
+    size_t tile_rows = all.burst.height / SIDE, top = (size_t)part * tile_rows / (size_t)parts * SIDE, rows = (size_t)(part + 1) * tile_rows / (size_t)parts * SIDE - top;
+    size_t width = all.burst.width;
+    must_accept(stacker_merge_band(all.burst, noise, tuning, top, rows, all.samples, all.sample_count, all.vectors, all.vector_count,
+        all.output + top * width, rows * width, all.work, 4 * SIDE * width));
 }
 
 /* the memory of a thread's work area for a frame: made, touched and given back */
 static void area(int part, int parts)
 {
     (void)part, (void)parts;
-    volatile char *memory = allocated(work_length / 2 * sizeof *work);
-    for (size_t i = 0; i < work_length / 2 * sizeof *work; i += 4096)
+    volatile char *memory = allocated(all.work_count / 2 * sizeof *all.work);
+    for (size_t i = 0; i < all.work_count / 2 * sizeof *all.work; i += 4096)
         memory[i] = 1;
     free((void *)memory);
 }
@@ -76,11 +60,9 @@ static cost measured(void (*made)(int part, int parts), int parts, int rounds)
 {
     cost c = { 0, 0, { 0 } };
     for (int i = 0; i < rounds * parts; i++) {
-        double start = milliseconds(CLOCK_PROCESS_CPUTIME_ID);
+        double start = cpu_time();
         made(i % parts, parts);
-        double taken = milliseconds(CLOCK_PROCESS_CPUTIME_ID) - start;
-        if (i < parts || taken < c.each[i % parts])
-            c.each[i % parts] = taken;
+        keep_least(&c.each[i % parts], (cpu_time() - start) * 1e-6, i < parts);
     }
     for (int i = 0; i < parts; i++) {
         c.sum += c.each[i];
@@ -140,12 +122,11 @@ static void tell_threads(int rounds)
 {
     double best[2][2] = { { 0, 0 }, { 0, 0 } };
     for (int round = 0; round < 2 * rounds; round++) {
-        double wall = milliseconds(CLOCK_MONOTONIC), cpu = milliseconds(CLOCK_PROCESS_CPUTIME_ID), *b = best[round % 2];
-        accepted(stacker_threads_run(all, noise, tuning, samples, samples_length, vectors, vectors_length, output, output_length, (size_t)round % 2 + 1).refusal);
-        wall = milliseconds(CLOCK_MONOTONIC) - wall;
-        cpu = milliseconds(CLOCK_PROCESS_CPUTIME_ID) - cpu;
-        b[0] = round < 2 || wall < b[0] ? wall : b[0];
-        b[1] = round < 2 || cpu < b[1] ? cpu : b[1];
+        double wall = clock_time(), cpu = cpu_time(), *b = best[round % 2];
+        must_accept(stacker_threads_run(all.burst, noise, tuning, all.samples, all.sample_count, all.vectors, all.vector_count, all.output, all.frame,
+            (size_t)round % 2 + 1).refusal);
+        keep_least(&b[0], (clock_time() - wall) * 1e-6, round < 2);
+        keep_least(&b[1], (cpu_time() - cpu) * 1e-6, round < 2);
     }
     printf("run, by the clock: one thread %.1f, two threads %.1f, %.2f of it; CPU %.1f and %.1f, %.3f of it\n", best[0][0], best[1][0], best[1][0] / best[0][0],
         best[0][1], best[1][1], best[1][1] / best[0][1]);
@@ -153,24 +134,12 @@ static void tell_threads(int rounds)
 
 static void measure(int size, int rounds)
 {
-    output_length = (size_t)size * (size_t)size;
-    samples_length = FRAMES * output_length;
-    vectors_length = OTHERS * 2 * (size_t)(size / SIDE + 1) * (size_t)(size / SIDE + 1);
-    work_length = 2 * output_length;
-    samples = allocated(samples_length * sizeof *samples);
-    output = allocated(output_length * sizeof *output);
-    vectors = allocated(vectors_length * sizeof *vectors);
-    work = allocated(work_length * sizeof *work);
-    all = (stacker_burst)STACKER_BURST(size, size, FRAMES, 0);
-    fill_scene(samples, size, size, FRAMES);
+    all = lend(&LIGHTING[USUAL], size, FRAMES);
     printf("%d by %d, N = %d, strength %d\n", size, size, FRAMES, (int)tuning.strength);
     whole_align(0, 1);
     tell_parts(rounds);
     tell_threads(rounds);
-    free(samples);
-    free(output);
-    free(vectors);
-    free(work);
+    release(&all);
 }
 
 /* sizes, or 1024 and 4096 */

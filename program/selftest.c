@@ -1,5 +1,5 @@
 /* selftest: a burst of three frames of 64 by 64, from a few lines of arithmetic, whose merged frame and vectors are known at both sides of tiles. The numbers
-   are those of the independent program's answers to the same burst (tests/people): FNV-1a over words. */
+   are those of the independent program's answers to the same burst (tests/run program): FNV-1a over words. */
 #include "program.h"
 
 #include <inttypes.h>

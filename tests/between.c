@@ -1,13 +1,13 @@
 /* Low and high of a range of noise beside frames that the library itself merges: between SIDE ROUNDS. In each round a burst of every count, of random width and
    height up to SIDE, gets a random range; frames merged with twenty curves between its ends, both ends and their corners among them, have every word between
    low and high. With both curves at one of them low and high are the merged frame, word for word, and so they are by ISO numbers. */
-#include "stacker.h"
+#include "random.h"
 
 #include <stdio.h>
 #include <stdlib.h>
 #include <string.h>
 
-enum { CURVES = 20, MOST = 8 };
+enum { CURVES = 20, COUNTS = 8 };
 
 static stacker_burst burst;
 static stacker_tuning tuning;
@@ -15,14 +15,6 @@ static size_t sample_count, vector_count, size;
 static uint16_t *samples, *low, *high, *merged;
 static int32_t *vectors;
 static int64_t *work;
-
-static uint64_t state = 1;
-
-static uint64_t below(uint64_t n)
-{
-    state = state * 6364136223846793005u + 1442695040888963407u;
-    return (state >> 33) % n;
-}
 
 static void failed(const char *what)
 {
@@ -45,7 +37,7 @@ static uint16_t light(uint64_t kind, uint64_t column)
     return kind == 3 ? (uint16_t)(4095 * below(2)) : (uint16_t)(most / 2 + below(most / 2 + 1));
 }
 
-static void fill(void)
+static void filled(void)
 {
     uint64_t kind = below(4), reach = below(3);
     for (size_t i = 0; i < sample_count; i++)
@@ -129,12 +121,12 @@ static uint16_t round_of(uint64_t count, uint64_t side)
     static const uint64_t strengths[] = { 1, 8, 64, 600, 1024 };
     stacker_noise lower, upper;
     burst = (stacker_burst){ .width = 64 * (1 + below(side / 64)), .height = 64 * (1 + below(side / 64)), .count = count, .reference = below(count) };
-    burst.row_length = burst.width + below(4);
+    burst.row_length = burst.width + below(SPARE + 1);
     tuning = (stacker_tuning){ .strength = strengths[below(5)], .side = 16 };
     size = burst.width * burst.height;
     sample_count = count * burst.row_length * burst.height;
     vector_count = (count - 1) * 2 * (burst.width / 16 + 1) * (burst.height / 16 + 1);
-    fill();
+    filled();
     ends(&lower, &upper);
     uint16_t widest = inside(lower, upper);
     same(upper);
@@ -149,17 +141,17 @@ int main(int argc, char **argv)
     uint16_t widest = 0;
     if (side < 64 || side > 4096)
         return 2;
-    samples = room(MOST * (side + 3) * side, sizeof *samples);
-    vectors = room((MOST - 1) * 2 * (side / 16 + 1) * (side / 16 + 1), sizeof *vectors);
+    samples = room(COUNTS * (side + SPARE) * side, sizeof *samples);
+    vectors = room((COUNTS - 1) * 2 * (side / 16 + 1) * (side / 16 + 1), sizeof *vectors);
     low = room(side * side, sizeof *low);
     high = room(side * side, sizeof *high);
     merged = room(side * side, sizeof *merged);
     work = room(2 * side * side, sizeof *work);
-    for (uint64_t i = 0; i < rounds * MOST; i++) {
-        uint16_t width = round_of(1 + i % MOST, side);
+    for (uint64_t i = 0; i < rounds * COUNTS; i++) {
+        uint16_t width = round_of(1 + i % COUNTS, side);
         widest = width > widest ? width : widest;
     }
     printf("tests: between: %d bursts, each merged at %d curves between: every word between low and high, which lie up to %d apart; equal curves give the "
-           "merged frame twice\n", (int)(rounds * MOST), CURVES, widest);
+           "merged frame twice\n", (int)(rounds * COUNTS), CURVES, widest);
     return 0;
 }

@@ -2,36 +2,10 @@
    itself that the file's size agrees with the reading. `dng size FILE` prints refusal, tag, width and height of a file.
    `dng frame WIDTH HEIGHT FILE` reads a file into a burst of one frame and prints black levels, shot, read and then the samples, a word to a line. */
 #include "stacker.h"
+#include "stream.h"
 
 #include <inttypes.h>
 #include <math.h>
-#include <stdio.h>
-#include <stdlib.h>
-#include <string.h>
-
-/* the next `size` bytes of standard input; 0 at its end */
-static int get(void *data, size_t size)
-{
-    size_t read = fread(data, 1, size, stdin);
-    if (read != size && read != 0)
-        exit(2);
-    return read == size;
-}
-
-static void put(const void *data, size_t size)
-{
-    if (fwrite(data, 1, size, stdout) != size)
-        exit(2);
-}
-
-/* never NULL */
-static void *room(size_t size)
-{
-    void *data = malloc(size + 1);
-    if (data == NULL)
-        exit(2);
-    return data;
-}
 
 /* the bits of a number; those of a NaN are always the same */
 static uint64_t bits(double value)
@@ -77,16 +51,23 @@ static int read_dng(void)
     return 1;
 }
 
-static int print_frame(uint64_t width, uint64_t height, const char *path)
+/* the bytes of a file, and how many, at most as many as these */
+static uint8_t *content(const char *path, size_t most, size_t *length)
 {
-    size_t most = 2 * width * height + 65536;
-    uint16_t *samples = room(2 * width * height);
     uint8_t *file = room(most);
     FILE *stream = fopen(path, "rb");
     if (stream == NULL)
-        return 2;
-    size_t length = fread(file, 1, most, stream);
+        exit(2);
+    *length = fread(file, 1, most, stream);
     fclose(stream);
+    return file;
+}
+
+static int print_frame(uint64_t width, uint64_t height, const char *path)
+{
+    size_t length;
+    uint16_t *samples = room(2 * width * height);
+    uint8_t *file = content(path, 2 * width * height + 65536, &length);
     stacker_frames frames = { .width = width, .height = height, .count = 1, .row_length = width };
     stacker_dng dng = stacker_read_dng(file, length, frames, 0, samples, width * height);
     if (dng.refusal != STACKER_ACCEPTED)
@@ -101,13 +82,8 @@ static int print_frame(uint64_t width, uint64_t height, const char *path)
 
 static int print_size(const char *path)
 {
-    enum { MOST = 1 << 20 };
-    uint8_t *file = room(MOST);
-    FILE *stream = fopen(path, "rb");
-    if (stream == NULL)
-        return 2;
-    size_t length = fread(file, 1, MOST, stream);
-    fclose(stream);
+    size_t length;
+    uint8_t *file = content(path, 1 << 20, &length);
     stacker_dng_frame size = stacker_dng_size(file, length);
     printf("%" PRIu64 " %" PRIu64 " %" PRIu64 " %" PRIu64 "\n", size.refusal, size.tag, size.width, size.height);
     free(file);

@@ -1,23 +1,15 @@
 /* Frames aligned one by one, from the last to the first and each in a work area that holds anything: every word and every number as align answers them; each
    fault is refused by its number, and leaves every buffer as it was. */
-#include "stacker.h"
+#include "random.h"
 
 #include <stdio.h>
 #include <stdlib.h>
 #include <string.h>
 
-enum { MOST = 192, SPARE = 3, COUNT_MOST = 8, PARTS_MOST = 2 * 13 * 13 };
+enum { COUNT_MOST = 8, PARTS_MOST = 2 * 13 * 13 };
 static uint16_t samples[COUNT_MOST * (MOST + SPARE) * MOST + 1];
 static int32_t vectors[(COUNT_MOST - 1) * PARTS_MOST], joined[(COUNT_MOST - 1) * PARTS_MOST + 1];
 static int64_t work[2 * MOST * MOST + 1];
-
-static uint64_t state = 1;
-
-static uint64_t below(uint64_t n)
-{
-    state = state * 6364136223846793005u + 1442695040888963407u;
-    return (state >> 33) % n;
-}
 
 static void failed(const char *what)
 {
@@ -84,8 +76,7 @@ static void round_of(stacker_burst b, uint64_t side)
 {
     size_t parts = 2 * (b.width / side + 1) * (b.height / side + 1), area = 2 * b.width * b.height;
     stacker_tuning tuning = { .side = side };
-    for (size_t i = 0; i < b.count * b.row_length * b.height; i++)
-        samples[i] = (uint16_t)(i % b.row_length < b.width ? below(4096) : 65535);
+    fill(b, samples);
     faults(b, side);
     stacker_alignment whole = stacker_align(b, tuning, samples, b.count * b.row_length * b.height, vectors, (b.count - 1) * parts, work, area);
     uint64_t rows = 0;
@@ -106,13 +97,6 @@ static void round_of(stacker_burst b, uint64_t side)
 
 int main(void)
 {
-    int rounds = 0;
-    for (uint64_t count = 1; count <= COUNT_MOST; count++)
-        for (uint64_t side = 16; side <= 32; side += 16, rounds++) {
-            uint64_t width = 64 * (1 + below(3)), height = 64 * (1 + below(3));
-            stacker_burst b = { .width = width, .height = height, .count = count, .reference = below(count), .row_length = width + below(SPARE + 1) };
-            round_of(b, side);
-        }
-    printf("tests: one frame: %d bursts at both sides, aligned frame by frame as at once\n", rounds);
+    printf("tests: one frame: %d bursts at both sides, aligned frame by frame as at once\n", each_burst(COUNT_MOST, round_of));
     return 0;
 }

@@ -3,36 +3,7 @@
    file read is written, as the same.
    `pgm made` writes a frame of 128 by 64 whose sample i is 1237 i modulo 4096, `pgm plain` prints a file as plain PGM, a word to a line. */
 #include "stacker.h"
-
-#include <stdio.h>
-#include <stdlib.h>
-#include <string.h>
-
-enum { MARK = 0xa5 };
-
-/* the next `size` bytes of standard input; 0 at its end */
-static int get(void *data, size_t size)
-{
-    size_t read = fread(data, 1, size, stdin);
-    if (read != size && read != 0)
-        exit(2);
-    return read == size;
-}
-
-static void put(const void *data, size_t size)
-{
-    if (fwrite(data, 1, size, stdout) != size)
-        exit(2);
-}
-
-/* never NULL, and full of marks */
-static void *room(size_t size)
-{
-    void *data = malloc(size + 1);
-    if (data == NULL)
-        exit(2);
-    return memset(data, MARK, size + 1);
-}
+#include "stream.h"
 
 static int marked(const uint8_t *data, size_t size)
 {

@@ -1,24 +1,16 @@
 /* Residuals of tiles: every word beside a plain sum by document 01, at random vectors and both sides; at align's vectors a frame's add up to its answer; each
    fault is refused by its number, and leaves every buffer as it was. */
-#include "stacker.h"
+#include "random.h"
 
 #include <stdio.h>
 #include <stdlib.h>
 #include <string.h>
 
-enum { MOST = 192, SPARE = 3, COUNT_MOST = 5, SAMPLES_MOST = COUNT_MOST * (MOST + SPARE) * MOST, TILES_MOST = (COUNT_MOST - 1) * 13 * 13 };
+enum { COUNT_MOST = 5, SAMPLES_MOST = COUNT_MOST * (MOST + SPARE) * MOST, TILES_MOST = (COUNT_MOST - 1) * 13 * 13 };
 static uint16_t samples[SAMPLES_MOST];
 static int32_t vectors[2 * TILES_MOST + 2];
 static uint64_t residuals[TILES_MOST + 1];
 static int64_t work[2 * MOST * MOST + 1];
-
-static uint64_t state = 1;
-
-static uint64_t below(uint64_t n)
-{
-    state = state * 6364136223846793005u + 1442695040888963407u;
-    return (state >> 33) % n;
-}
 
 static void failed(const char *what)
 {
@@ -124,8 +116,7 @@ static void round_of(stacker_burst b, uint64_t side)
 {
     size_t tiles = (b.width / side + 1) * (b.height / side + 1), words = (b.count - 1) * tiles;
     stacker_tuning tuning = { .side = side };
-    for (size_t i = 0; i < b.count * b.row_length * b.height; i++)
-        samples[i] = (uint16_t)(i % b.row_length < b.width ? below(4096) : 65535);
+    fill(b, samples);
     for (size_t i = 0; i < 2 * words; i++)
         vectors[i] = (int32_t)below(345) - 172;
     faults(b, side, words);
@@ -148,13 +139,7 @@ static void round_of(stacker_burst b, uint64_t side)
 
 int main(void)
 {
-    int rounds = 0;
-    for (uint64_t count = 1; count <= COUNT_MOST; count++)
-        for (uint64_t side = 16; side <= 32; side += 16, rounds++) {
-            uint64_t width = 64 * (1 + below(3)), height = 64 * (1 + below(3));
-            stacker_burst b = { .width = width, .height = height, .count = count, .reference = below(count), .row_length = width + below(SPARE + 1) };
-            round_of(b, side);
-        }
+    int rounds = each_burst(COUNT_MOST, round_of);
     printf("tests: residuals: %d bursts at both sides, every word as by a plain sum, at align's vectors adding up to its answer\n", rounds);
     return 0;
 }

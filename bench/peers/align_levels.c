@@ -38,7 +38,7 @@ static int tiles_along(int size, int step)
     return (size + step - 1) / step + 1;
 }
 
-alignment *make_alignment(const burst *b)
+void *make_alignment(const burst *b)
 {
     alignment *a = allocated(sizeof *a);
     a->reference = make_pyramid(b->width, b->height);
@@ -55,8 +55,9 @@ alignment *make_alignment(const burst *b)
     return a;
 }
 
-void free_alignment(alignment *a)
+void free_alignment(void *scratch)
 {
+    alignment *a = scratch;
     free_pyramid(&a->reference);
     free_pyramid(&a->other);
     for (int i = 0; i < LEVELS; i++)

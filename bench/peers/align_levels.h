@@ -23,8 +23,9 @@ typedef struct {
 
 typedef struct alignment alignment;
 
-alignment *make_alignment(const burst *b);
-void free_alignment(alignment *a);
+/* An alignment, as a peer makes and discards it. */
+void *make_alignment(const burst *b);
+void free_alignment(void *scratch);
 void align_levels(const burst *b, alignment *a, const tile_search *search, vector *vectors, uint64_t residuals[7]);
 
 #endif

@@ -97,16 +97,6 @@ static int squared_small(const block tile, const block window, uint64_t *sum)
 static const tile_search WHOLE = { candidate, whole_absolute, whole_squared, squared_small };
 static const tile_search EARLY = { candidate, early_absolute, early_squared, squared_small };
 
-static void *make(const burst *b)
-{
-    return make_alignment(b);
-}
-
-static void discard(void *scratch)
-{
-    free_alignment(scratch);
-}
-
 static void align_whole(void *scratch, const burst *b, const noise_levels *n, result *r)
 {
     (void)n;
@@ -119,5 +109,5 @@ static void align_early(void *scratch, const burst *b, const noise_levels *n, re
     align_levels(b, scratch, &EARLY, r->vectors, r->residuals);
 }
 
-const peer expert_align_whole = { "expert C, no early exit", 1, make, discard, align_whole };
-const peer expert_align_early = { "expert C, early exit", 1, make, discard, align_early };
+const peer expert_align_whole = { "expert C, no early exit", 1, make_alignment, free_alignment, align_whole };
+const peer expert_align_early = { "expert C, early exit", 1, make_alignment, free_alignment, align_early };

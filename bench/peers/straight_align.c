@@ -69,20 +69,10 @@ static int squared_small(const block tile, const block window, uint64_t *sum)
 
 static const tile_search SEARCH = { candidate, absolute, squared, squared_small };
 
-static void *make(const burst *b)
-{
-    return make_alignment(b);
-}
-
-static void discard(void *scratch)
-{
-    free_alignment(scratch);
-}
-
 static void align(void *scratch, const burst *b, const noise_levels *n, result *r)
 {
     (void)n;
     align_levels(b, scratch, &SEARCH, r->vectors, r->residuals);
 }
 
-const peer straight_align = { "straightforward C", 1, make, discard, align };
+const peer straight_align = { "straightforward C", 1, make_alignment, free_alignment, align };
