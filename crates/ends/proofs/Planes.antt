@@ -15,14 +15,15 @@ use Rattle.lines.specs.Halfcomplex.{halfSumOf, halfBasisOf, backward, halfSum}
 use Rattle.lines.specs.BackSizes.{backward-most}
 use Rattle.lines.specs.Lines.{TileMost}
 use Rattle.lines.specs.Magnitudes.{foldMost}
-use Rattle.spectrum.specs.Magnitudes.{noiseMost}
 use Rattle.spectrum.specs.Spectrum.{twoWay, transposed}
 use Rattle.spectrum.specs.LineLaws.{backward-ext}
-use Rattle.spectrum.specs.Pairs.{InDouble, planeIn, sideBySide, either, doubles}
+use Rattle.spectrum.specs.Pairs.{InDouble, planeIn, sideBySide, doubles}
 use Rattle.pairs.proofs.Corrections.{folded, folded-most, folded-whole}
 use Rattle.grain.specs.Steps.{linesIn}
 use Rattle.grain.proofs.PairLaws.{table-most}
 use Rattle.ends.specs.Factors.{factorAt, apartMost, placeApart, placesApart, distanceRe, distanceIm, pairWidth, widthIn, greatestOf, leastOf, halfIn, halfOf}
+use Rattle.ends.specs.declared.Noises.{Noises}
+use Rattle.ends.specs.Added.{NoisesFit, noiseOf, pairPlus, tileEnd, pairEnd, EndsAdded}
 use Rattle.ends.proofs.Ends.{foldAt, halfAt, fold-is, coded, greatest-is, least-is}
 
 -- noise is any
@@ -41,27 +42,27 @@ number-at f e y l h k m =
 
 -- ---- G of both planes at one end
 
-module _ (first second : ℕ) (h : first ≤ noiseMost) (k : second ≤ noiseMost) (d : ℕ → ℕ → ℤ) where
+module _ (v : Noises) (fits : NoisesFit v) (d : ℕ → ℕ → ℤ) where
   abbrev pub gains : ℕ → ℕ → ℤ
-  gains = sideBySide (λ p. transposed (folded first second (λ p. twoWay (planeIn d p)) p))
+  gains = sideBySide (λ p. transposed (folded (v .first) (v .second) (λ p. twoWay (planeIn d p)) p))
 
   gains-most : (b l : ℕ) → natAbs (gains b l) ≤ foldMost false
-  gains-most b l = folded-most first second (λ p. twoWay (planeIn d p)) false few h k (l % 2) (l / 2) b
+  gains-most b l = folded-most (v .first) (v .second) (λ p. twoWay (planeIn d p)) false few (fits .first-most) (fits .second-most) (l % 2) (l / 2) b
 
   abbrev pub gains-whole : {g : List (List Float)} → g ≡ doubles gains → InDouble (foldMost false) g
-  gains-whole e = folded-whole first second (λ p. twoWay (planeIn d p)) false few h k e
+  gains-whole e = folded-whole (v .first) (v .second) (λ p. twoWay (planeIn d p)) false few (fits .first-most) (fits .second-most) e
 
-  gain-is : (p x b : ℕ) → p < 2 → x < 16 → b < 16 → gains b (2 * x + p) ≡ foldAt (planeIn d p) (either first second p) x b
+  gain-is : (p x b : ℕ) → p < 2 → x < 16 → b < 16 → gains b (2 * x + p) ≡ foldAt (planeIn d p) (noiseOf v p) x b
   gain-is p x b i j l =
       let parity : (2 * x + p) % 2 ≡ p = omega arith in
       let column : (2 * x + p) / 2 ≡ x = omega arith in
-      ap₂ (λ p x. folded first second (λ p. twoWay (planeIn d p)) p x b) parity column ∙ fold-is (planeIn d p) (either first second p) x b j l
+      ap₂ (λ p x. folded (v .first) (v .second) (λ p. twoWay (planeIn d p)) p x b) parity column ∙ fold-is (planeIn d p) (noiseOf v p) x b j l
 
   module _ {g : List (List Float)} (e : g ≡ doubles gains) where
-    pub place-is : (p x b : ℕ) → p < 2 → x < 16 → b < 16 → toSigned 63 (cell nan g b (2 * x + p)) ≡ foldAt (planeIn d p) (either first second p) x b
+    pub place-is : (p x b : ℕ) → p < 2 → x < 16 → b < 16 → toSigned 63 (cell nan g b (2 * x + p)) ≡ foldAt (planeIn d p) (noiseOf v p) x b
     place-is p x b i j l = number-at gains e b (2 * x + p) l (omega arith) (le-trans (gains-most b (2 * x + p)) (lit≤ tt)) ∙ gain-is p x b i j l
 
-  pub half-is : {t : List (List Float)} → t ≡ doubles (λ y l. backward (λ b. gains b l) y) → (y l : ℕ) → y < 16 → l < 32 → halfOf t y l ≡ halfAt (planeIn d (l % 2)) (either first second (l % 2)) y (l / 2)
+  pub half-is : {t : List (List Float)} → t ≡ doubles (λ y l. backward (λ b. gains b l) y) → (y l : ℕ) → y < 16 → l < 32 → halfOf t y l ≡ halfAt (planeIn d (l % 2)) (noiseOf v (l % 2)) y (l / 2)
   unfolding halfIn cell
   half-is {t} e y l i j =
       half-ext _ _
@@ -70,37 +71,38 @@ module _ (first second : ℕ) (h : first ≤ noiseMost) (k : second ≤ noiseMos
 
 -- ---- both ends
 
-module _ (l₀ l₁ u₀ u₁ : ℕ) (a : l₀ ≤ noiseMost) (b : l₁ ≤ noiseMost) (c : u₀ ≤ noiseMost) (f : u₁ ≤ noiseMost) (d : ℕ → ℕ → ℤ) {low high : List (List Float)} (p : low ≡ doubles (gains l₀ l₁ a b d)) (q : high ≡ doubles (gains u₀ u₁ c f d)) where
-  apart-is : (k x i : ℕ) → k < 2 → x < 16 → i < 16 → linesIn (placesApart low high) k x i ≡ foldAt (planeIn d k) (either l₀ l₁ k) x i -ℤ foldAt (planeIn d k) (either u₀ u₁ k) x i
+module _ (v w : Noises) (f : NoisesFit v) (g : NoisesFit w) (d : List (List ℤ)) {low high : List (List Float)} (p : low ≡ doubles (gains v f (cell (pos 0) d))) (q : high ≡ doubles (gains w g (cell (pos 0) d))) where
+  apart-is : (k x i : ℕ) → k < 2 → x < 16 → i < 16 → linesIn (placesApart low high) k x i ≡ foldAt (planeIn (cell (pos 0) d) k) (noiseOf v k) x i -ℤ foldAt (planeIn (cell (pos 0) d) k) (noiseOf w k) x i
   apart-is k x i h j m =
       cell-grid (pos 0) 16 32 (λ b l. placeApart (cell nan low b l) (cell nan high b l)) i (2 * x + k) m (omega arith)
-      ∙ ap₂ _-ℤ_ (place-is l₀ l₁ a b d p k x i h j m) (place-is u₀ u₁ c f d q k x i h j m)
+      ∙ ap₂ _-ℤ_ (place-is v f (cell (pos 0) d) p k x i h j m) (place-is w g (cell (pos 0) d) q k x i h j m)
 
-  module _ {w : List (List ℕ)} (e : w ≡ grid 8 16 (widthIn low high)) {s t : List (List Float)} (o : s ≡ doubles (λ y l. backward (λ b'. gains l₀ l₁ a b d b' l) y)) (r : t ≡ doubles (λ y l. backward (λ b'. gains u₀ u₁ c f d b' l) y)) (y l : ℕ) (i : y < 16) (j : l < 32) where
+  module _ {widths : List (List ℕ)} (e : widths ≡ grid 8 16 (widthIn low high)) {s t : List (List Float)}
+      (o : s ≡ doubles (λ y l. backward (λ b. gains v f (cell (pos 0) d) b l) y)) (r : t ≡ doubles (λ y l. backward (λ b. gains w g (cell (pos 0) d) b l) y)) (y l : ℕ) (i : y < 16) (j : l < 32) where
     abbrev plane : ℕ → ℕ → ℤ
-    plane = planeIn d (l % 2)
+    plane = planeIn (cell (pos 0) d) (l % 2)
 
     abbrev lower : ℕ
-    lower = either l₀ l₁ (l % 2)
+    lower = noiseOf v (l % 2)
 
     abbrev upper : ℕ
-    upper = either u₀ u₁ (l % 2)
+    upper = noiseOf w (l % 2)
 
-    width-is : cell 0 w (y % 8) (l % 16) ≡ coded plane lower upper y (l / 2) i (omega arith) (placesApart low high) (l % 2) (omega arith) (λ x b m n. apart-is (l % 2) x b (omega arith) m n)
+    width-is : cell 0 widths (y % 8) (l % 16) ≡ coded plane lower upper y (l / 2) i (omega arith) (placesApart low high) (l % 2) (omega arith) (λ x b m n. apart-is (l % 2) x b (omega arith) m n)
     unfolding widthIn
     width-is =
         let lane : l % 16 ≡ 2 * (l / 2 % 8) + l % 2 = omega arith in
         ap (λ t. cell 0 t (y % 8) (l % 16)) e ∙ cell-grid 0 8 16 (widthIn low high) (y % 8) (l % 16) (omega arith) (omega arith) ∙ ap (widthIn low high (y % 8)) lane
 
-    pub greatest-here : greatestOf (halfOf s y l) (halfOf t y l) (cell 0 w (y % 8) (l % 16)) ≡ greatestAt side16 lower upper plane y (l / 2)
+    pub greatest-here : tileEnd s t widths greatestOf y l ≡ pairEnd d v w greatestAt y l
     greatest-here =
-        ap₂ (λ m n. greatestOf m n (cell 0 w (y % 8) (l % 16))) (half-is l₀ l₁ a b d o y l i j) (half-is u₀ u₁ c f d r y l i j)
+        ap₂ (λ m n. greatestOf m n (cell 0 widths (y % 8) (l % 16))) (half-is v f (cell (pos 0) d) o y l i j) (half-is w g (cell (pos 0) d) r y l i j)
         ∙ ap (greatestOf (halfAt plane lower y (l / 2)) (halfAt plane upper y (l / 2))) width-is
         ∙ greatest-is plane lower upper y (l / 2) i (omega arith) (placesApart low high) (l % 2) (omega arith) (λ x b m n. apart-is (l % 2) x b (omega arith) m n)
 
-    pub least-here : leastOf (halfOf s y l) (halfOf t y l) (cell 0 w (y % 8) (l % 16)) ≡ leastAt side16 lower upper plane y (l / 2)
+    pub least-here : tileEnd s t widths leastOf y l ≡ pairEnd d v w leastAt y l
     least-here =
-        ap₂ (λ m n. leastOf m n (cell 0 w (y % 8) (l % 16))) (half-is l₀ l₁ a b d o y l i j) (half-is u₀ u₁ c f d r y l i j)
+        ap₂ (λ m n. leastOf m n (cell 0 widths (y % 8) (l % 16))) (half-is v f (cell (pos 0) d) o y l i j) (half-is w g (cell (pos 0) d) r y l i j)
         ∙ ap (leastOf (halfAt plane lower y (l / 2)) (halfAt plane upper y (l / 2))) width-is
         ∙ least-is plane lower upper y (l / 2) i (omega arith) (placesApart low high) (l % 2) (omega arith) (λ x b m n. apart-is (l % 2) x b (omega arith) m n)
 
@@ -119,22 +121,30 @@ widths-are low high o e p q = rw (e, p, q, o)
 
 -- ---- equal ends
 
-pub greatest-equal : (l₀ l₁ u₀ u₁ : ℕ) → l₀ ≡ u₀ → l₁ ≡ u₁ → (d : ℕ → ℕ → ℤ) (y x k : ℕ) → correctionAt side16 (either l₀ l₁ k) d y x ≡ greatestAt side16 (either l₀ l₁ k) (either u₀ u₁ k) d y x
-greatest-equal l₀ l₁ u₀ u₁ e f d y x k =
-    sym (ap₂ (λ m n. greatestAt side16 (either l₀ l₁ k) (either m n k) d y x) (sym e) (sym f) ∙ greatest-same side16 (either l₀ l₁ k) d y x)
+module _ (d : List (List ℤ)) (v : Noises) (y l : ℕ) where
+  abbrev pub pairP : ℤ
+  pairP = correctionAt side16 (noiseOf v (l % 2)) (planeIn (cell (pos 0) d) (l % 2)) y (l / 2)
 
-pub least-equal : (l₀ l₁ u₀ u₁ : ℕ) → l₀ ≡ u₀ → l₁ ≡ u₁ → (d : ℕ → ℕ → ℤ) (y x k : ℕ) → correctionAt side16 (either l₀ l₁ k) d y x ≡ leastAt side16 (either l₀ l₁ k) (either u₀ u₁ k) d y x
-least-equal l₀ l₁ u₀ u₁ e f d y x k =
-    sym (ap₂ (λ m n. leastAt side16 (either l₀ l₁ k) (either m n k) d y x) (sym e) (sym f) ∙ least-same side16 (either l₀ l₁ k) d y x)
+  pub greatest-equal : pairP ≡ pairEnd d v v greatestAt y l
+  greatest-equal = sym (greatest-same side16 (noiseOf v (l % 2)) (planeIn (cell (pos 0) d) (l % 2)) y (l / 2))
 
--- ---- P of both planes, added to zeros
+  pub least-equal : pairP ≡ pairEnd d v v leastAt y l
+  least-equal = sym (least-same side16 (noiseOf v (l % 2)) (planeIn (cell (pos 0) d) (l % 2)) y (l / 2))
 
-module _ (f : ℕ → ℕ → ℤ) {p : List (List ℤ)} (e : p ≡ grid 16 32 (λ y l. cell (pos 0) (grid 16 32 (λ y l. pos 0)) y l +ℤ f y l)) where
+pub ends-equal : {d greatest greatest' least least' : List (List ℤ)} {v w : Noises} → v ≡ w → EndsAdded d v v greatest greatest' least least' → EndsAdded d v w greatest greatest' least least'
+ends-equal {d} {greatest} {greatest'} {least} {least'} {v} e = subst (λ w. EndsAdded d v w greatest greatest' least least') e
+
+-- ---- P of both planes, added to sums and to zeros
+
+pub plus-ext : (s : List (List ℤ)) (p q : ℕ → ℕ → ℤ) → ((y l : ℕ) → y < 16 → l < 32 → p y l ≡ q y l) → pairPlus s p ≡ pairPlus s q
+plus-ext s p q h = grid-ext 16 32 _ _ (λ y l i j. ap (λ z. cell (pos 0) s y l +ℤ z) (h y l i j))
+
+module _ (f : ℕ → ℕ → ℤ) {p : List (List ℤ)} (e : p ≡ pairPlus (grid 16 32 (λ y l. pos 0)) f) where
   pub from-zeros : p ≡ grid 16 32 f
   from-zeros = e ∙ grid-ext 16 32 _ f (λ y l h k. ap (λ z. z +ℤ f y l) (cell-grid (pos 0) 16 32 (λ y l. pos 0) y l h k) ∙ +ℤ-idl (f y l))
 
   pub added-most : (b : ℕ) → ((y l : ℕ) → natAbs (f y l) ≤ b) → TileMost b p
   added-most b m = subst (TileMost b) (sym from-zeros) (table-most b f m 16 32)
 
-  pub added-is : (s : List (List ℤ)) → grid 16 32 (λ y l. cell (pos 0) s y l +ℤ cell (pos 0) p y l) ≡ grid 16 32 (λ y l. cell (pos 0) s y l +ℤ f y l)
-  added-is s = grid-ext 16 32 _ _ (λ y l h k. ap (λ z. cell (pos 0) s y l +ℤ z) (ap (λ t. cell (pos 0) t y l) from-zeros ∙ cell-grid (pos 0) 16 32 f y l h k))
+  pub added-is : (s : List (List ℤ)) → pairPlus s (cell (pos 0) p) ≡ pairPlus s f
+  added-is s = plus-ext s _ _ (λ y l h k. ap (λ t. cell (pos 0) t y l) from-zeros ∙ cell-grid (pos 0) 16 32 f y l h k)

@@ -5,3 +5,4 @@ pub mod FactorLaws
 pub mod UnfoldLaws
 pub mod HalfLaws
 pub mod EndLaws
+pub mod Added

@@ -19,17 +19,11 @@ use pairs::forward_into;
 use pairs::wiener_of;
 ghost use mathlib.Core.Path.{_≡_};
 ghost use mathlib.Core.Bool.{true, false};
-ghost use Prim.Native.Nat.{_/_, _%_, _^_, _≤_};
-ghost use lib.IntN.{pos, _+ℤ_};
-ghost use Rattle.sequences.specs.Grid.{grid, cell};
-ghost use Rattle.recipe.specs.Tables.{side16};
-ghost use Rattle.recipe.specs.Correction.{correctionAt};
-ghost use Rattle.lines.specs.Lines.{TileMost};
-ghost use Rattle.lines.specs.Magnitudes.{differenceMost, foldMost};
-ghost use Rattle.spectrum.specs.Magnitudes.{noiseMost};
-ghost use Rattle.spectrum.specs.Pairs.{Paired, InDouble, planeIn, either};
-ghost use Rattle.range.specs.Range.{greatestAt, leastAt};
+ghost use Rattle.sequences.specs.Grid.{grid};
+ghost use Rattle.lines.specs.Magnitudes.{foldMost};
+ghost use Rattle.spectrum.specs.Pairs.{InDouble};
 ghost use Rattle.ends.specs.Factors.{WidthTile, widthIn};
+ghost use Rattle.ends.specs.Added.{EndsLent, EndsAdded};
 
 // The noise numbers of two planes.
 pub struct Noises {
@@ -38,7 +32,7 @@ pub struct Noises {
 }
 
 fn same(a: Noises, b: Noises) -> bool
-    ensures { λ r. ⌜ (r ≡ true → (a .first ≡ b .first) × (a .second ≡ b .second)) ⌝ }
+    ensures { λ r. ⌜ (r ≡ true → a ≡ b) ⌝ }
 {
     if a.first != b.first {
         return false;
@@ -69,8 +63,8 @@ fn add_apart(
     greatest: &mut [[i64; 32]; 16],
     least: &mut [[i64; 32]; 16],
 )
-    requires { ⌜ record { differences : TileMost differenceMost (now d); lower-first : lower .first ≤ noiseMost; lower-second : lower .second ≤ noiseMost; upper-first : upper .first ≤ noiseMost; upper-second : upper .second ≤ noiseMost; greatest-most : TileMost (2 ^ 40) (now greatest); least-most : TileMost (2 ^ 40) (now least); greatest-paired : Paired (pos 0) (now greatest); least-paired : Paired (pos 0) (now least) } ⌝ }
-    ensures { λ _. ⌜ (now (greatest .exit) ≡ grid 16 32 (λ y l. cell (pos 0) (now (greatest .entry)) y l +ℤ greatestAt side16 (either (lower .first) (lower .second) (l % 2)) (either (upper .first) (upper .second) (l % 2)) (planeIn (cell (pos 0) (now (d .entry))) (l % 2)) y (l / 2))) × (now (least .exit) ≡ grid 16 32 (λ y l. cell (pos 0) (now (least .entry)) y l +ℤ leastAt side16 (either (lower .first) (lower .second) (l % 2)) (either (upper .first) (upper .second) (l % 2)) (planeIn (cell (pos 0) (now (d .entry))) (l % 2)) y (l / 2))) ⌝ }
+    requires { ⌜ EndsLent (now d) lower upper (now greatest) (now least) ⌝ }
+    ensures { λ _. ⌜ EndsAdded (now (d .entry)) lower upper (now (greatest .entry)) (now (greatest .exit)) (now (least .entry)) (now (least .exit)) ⌝ }
 {
     let mut b = [[0.0f64; 32]; 16];
     forward_into(d, &mut b);
@@ -89,8 +83,8 @@ fn add_same(
     greatest: &mut [[i64; 32]; 16],
     least: &mut [[i64; 32]; 16],
 )
-    requires { ⌜ record { differences : TileMost differenceMost (now d); first-most : noises .first ≤ noiseMost; second-most : noises .second ≤ noiseMost; greatest-most : TileMost (2 ^ 40) (now greatest); least-most : TileMost (2 ^ 40) (now least); greatest-paired : Paired (pos 0) (now greatest); least-paired : Paired (pos 0) (now least) } ⌝ }
-    ensures { λ _. ⌜ (now (greatest .exit) ≡ grid 16 32 (λ y l. cell (pos 0) (now (greatest .entry)) y l +ℤ correctionAt side16 (either (noises .first) (noises .second) (l % 2)) (planeIn (cell (pos 0) (now (d .entry))) (l % 2)) y (l / 2))) × (now (least .exit) ≡ grid 16 32 (λ y l. cell (pos 0) (now (least .entry)) y l +ℤ correctionAt side16 (either (noises .first) (noises .second) (l % 2)) (planeIn (cell (pos 0) (now (d .entry))) (l % 2)) y (l / 2))) ⌝ }
+    requires { ⌜ EndsLent (now d) noises noises (now greatest) (now least) ⌝ }
+    ensures { λ _. ⌜ EndsAdded (now (d .entry)) noises noises (now (greatest .entry)) (now (greatest .exit)) (now (least .entry)) (now (least .exit)) ⌝ }
 {
     let mut p = [[0i64; 32]; 16];
     add_corrections(d, noises.first, noises.second, &mut p);
@@ -107,8 +101,8 @@ pub fn add_ends(
     greatest: &mut [[i64; 32]; 16],
     least: &mut [[i64; 32]; 16],
 )
-    requires { ⌜ record { differences : TileMost differenceMost (now d); lower-first : lower .first ≤ noiseMost; lower-second : lower .second ≤ noiseMost; upper-first : upper .first ≤ noiseMost; upper-second : upper .second ≤ noiseMost; greatest-most : TileMost (2 ^ 40) (now greatest); least-most : TileMost (2 ^ 40) (now least); greatest-paired : Paired (pos 0) (now greatest); least-paired : Paired (pos 0) (now least) } ⌝ }
-    ensures { λ _. ⌜ (now (greatest .exit) ≡ grid 16 32 (λ y l. cell (pos 0) (now (greatest .entry)) y l +ℤ greatestAt side16 (either (lower .first) (lower .second) (l % 2)) (either (upper .first) (upper .second) (l % 2)) (planeIn (cell (pos 0) (now (d .entry))) (l % 2)) y (l / 2))) × (now (least .exit) ≡ grid 16 32 (λ y l. cell (pos 0) (now (least .entry)) y l +ℤ leastAt side16 (either (lower .first) (lower .second) (l % 2)) (either (upper .first) (upper .second) (l % 2)) (planeIn (cell (pos 0) (now (d .entry))) (l % 2)) y (l / 2))) ⌝ }
+    requires { ⌜ EndsLent (now d) lower upper (now greatest) (now least) ⌝ }
+    ensures { λ _. ⌜ EndsAdded (now (d .entry)) lower upper (now (greatest .entry)) (now (greatest .exit)) (now (least .entry)) (now (least .exit)) ⌝ }
 {
     if same(lower, upper) {
         add_same(d, lower, &mut *greatest, &mut *least);

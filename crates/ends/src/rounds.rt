@@ -3,17 +3,13 @@ use lines_back::whole_halves_of;
 use rounding::round_away_32;
 ghost use mathlib.Core.Path.{_≡_};
 ghost use mathlib.Core.Bool.{false};
-ghost use Prim.Native.Nat.{_%_, _^_, _≤_};
-ghost use lib.IntN.{pos, _+ℤ_};
-ghost use lib.ListN.{length, getD};
+ghost use Prim.Native.Nat.{_^_, _≤_};
 ghost use Rattle.algebra.specs.Bound.{AtMost};
-ghost use Rattle.sequences.specs.Tab.{tab};
-ghost use Rattle.sequences.specs.Grid.{grid, cell};
-ghost use Rattle.lines.specs.Lines.{LineMost, TileMost};
+ghost use Rattle.lines.specs.Lines.{LineMost};
 ghost use Rattle.lines.specs.Doubles.{WholeRow};
 ghost use Rattle.lines.specs.Magnitudes.{columnMost, halfMost};
-ghost use Rattle.spectrum.specs.Pairs.{Paired, InDouble};
-ghost use Rattle.ends.specs.Factors.{widthMost, WidthLine, WidthTile, quarterOf, greatestOf, leastOf, halfIn, halfOf};
+ghost use Rattle.ends.specs.Factors.{widthMost, quarterOf, greatestOf, leastOf};
+ghost use Rattle.ends.specs.Added.{RowsLent, RowsAdded, halfEnd, lineEnd, TilesLent, TilesAdded, tileEnd};
 
 // A quarter of z over 2^32, to nearest, halves away from zero.
 fn quartered(z: i64) -> i64
@@ -47,8 +43,8 @@ fn add_row(
     greatest: &mut [i64; 32],
     least: &mut [i64; 32],
 )
-    requires { ⌜ record { first : LineMost (halfMost false) (now a); second : LineMost (halfMost false) (now b); widths-most : WidthLine (now widths); greatest-most : LineMost (2 ^ 40) (now greatest); least-most : LineMost (2 ^ 40) (now least); greatest-long : length (now greatest) ≡ 32; least-long : length (now least) ≡ 32 } ⌝ }
-    ensures { λ _. ⌜ (now (greatest .exit) ≡ tab 32 (λ l. getD (now (greatest .entry)) l (pos 0) +ℤ greatestOf (getD (now (a .entry)) l (pos 0)) (getD (now (b .entry)) l (pos 0)) (getD (now (widths .entry)) (l % 16) 0))) × (now (least .exit) ≡ tab 32 (λ l. getD (now (least .entry)) l (pos 0) +ℤ leastOf (getD (now (a .entry)) l (pos 0)) (getD (now (b .entry)) l (pos 0)) (getD (now (widths .entry)) (l % 16) 0))) ⌝ }
+    requires { ⌜ RowsLent (LineMost (halfMost false)) (now a) (now b) (now widths) (now greatest) (now least) ⌝ }
+    ensures { λ _. ⌜ RowsAdded (halfEnd (now (a .entry)) (now (b .entry)) (now (widths .entry))) (now (greatest .entry)) (now (greatest .exit)) (now (least .entry)) (now (least .exit)) ⌝ }
 {
     for l in 0..32 {
         let g = greatest_of(a[l], b[l], widths[l % 16]);
@@ -66,8 +62,8 @@ fn add_line(
     greatest: &mut [i64; 32],
     least: &mut [i64; 32],
 )
-    requires { ⌜ record { first : WholeRow (columnMost false) (now low); second : WholeRow (columnMost false) (now high); widths-most : WidthLine (now widths); greatest-most : LineMost (2 ^ 40) (now greatest); least-most : LineMost (2 ^ 40) (now least); greatest-long : length (now greatest) ≡ 32; least-long : length (now least) ≡ 32 } ⌝ }
-    ensures { λ _. ⌜ (now (greatest .exit) ≡ tab 32 (λ l. getD (now (greatest .entry)) l (pos 0) +ℤ greatestOf (halfIn (now (low .entry)) l) (halfIn (now (high .entry)) l) (getD (now (widths .entry)) (l % 16) 0))) × (now (least .exit) ≡ tab 32 (λ l. getD (now (least .entry)) l (pos 0) +ℤ leastOf (halfIn (now (low .entry)) l) (halfIn (now (high .entry)) l) (getD (now (widths .entry)) (l % 16) 0))) ⌝ }
+    requires { ⌜ RowsLent (WholeRow (columnMost false)) (now low) (now high) (now widths) (now greatest) (now least) ⌝ }
+    ensures { λ _. ⌜ RowsAdded (lineEnd (now (low .entry)) (now (high .entry)) (now (widths .entry))) (now (greatest .entry)) (now (greatest .exit)) (now (least .entry)) (now (least .exit)) ⌝ }
 {
     let a = whole_halves_of(low);
     let b = whole_halves_of(high);
@@ -82,8 +78,8 @@ pub fn add_lines(
     greatest: &mut [[i64; 32]; 16],
     least: &mut [[i64; 32]; 16],
 )
-    requires { ⌜ record { first : InDouble (columnMost false) (now low); second : InDouble (columnMost false) (now high); widths-most : WidthTile (now widths); greatest-most : TileMost (2 ^ 40) (now greatest); least-most : TileMost (2 ^ 40) (now least); greatest-paired : Paired (pos 0) (now greatest); least-paired : Paired (pos 0) (now least) } ⌝ }
-    ensures { λ _. ⌜ (now (greatest .exit) ≡ grid 16 32 (λ y l. cell (pos 0) (now (greatest .entry)) y l +ℤ greatestOf (halfOf (now (low .entry)) y l) (halfOf (now (high .entry)) y l) (cell 0 (now (widths .entry)) (y % 8) (l % 16)))) × (now (least .exit) ≡ grid 16 32 (λ y l. cell (pos 0) (now (least .entry)) y l +ℤ leastOf (halfOf (now (low .entry)) y l) (halfOf (now (high .entry)) y l) (cell 0 (now (widths .entry)) (y % 8) (l % 16)))) ⌝ }
+    requires { ⌜ TilesLent (now low) (now high) (now widths) (now greatest) (now least) ⌝ }
+    ensures { λ _. ⌜ TilesAdded (tileEnd (now (low .entry)) (now (high .entry)) (now (widths .entry))) (now (greatest .entry)) (now (greatest .exit)) (now (least .entry)) (now (least .exit)) ⌝ }
 {
     for y in 0..16 {
         add_line(

@@ -16,7 +16,7 @@ use Rattle.gather.specs.Work.{Inside, Over, rowWritten}
 use Rattle.gather.specs.Ready.{RowReady}
 use Rattle.gather.specs.Places.{output-room}
 use Rattle.range_tiles.specs.declared.Upper.{Upper}
-use Rattle.range_tiles.specs.EndSums.{EndAt, endTaken, raised}
+use Rattle.range_tiles.specs.EndSums.{EndAt, endTaken, raised, atNoises}
 use Rattle.range_tiles.specs.EndRowLaws.{sixteen}
 use Rattle.gather.specs.RowsHeld.{RowHeld, RowsWritten}
 use Rattle.gather.specs.RowLaws.{rows-start, rows-on, row-written, rows-whole, all-written}
@@ -86,16 +86,16 @@ module _ {lower upper : Scene} {rowParity : ℕ} where
 -- both frames with the first i rows of a band, for whatever upper noise the work area holds the band's two rows
 pub record InBand (m : Merge) (samples : List ℕ) (vectors : List ℤ) (rowParity band : ℕ) (work : List ℤ) (low high : List ℕ) (i : ℕ) (low' high' : List ℕ) : Type 0 where
   pub count : i ≤ 8
-  pub rows : (upper : Upper) → EndsHeld (sceneAt side16 m samples vectors) (sceneAt side16 (raised m upper) samples vectors) rowParity band work
-      → EndsHeld (sceneAt side16 m samples vectors) (sceneAt side16 (raised m upper) samples vectors) rowParity (band + 1) work
-      → RowsRanged (sceneAt side16 m samples vectors) (sceneAt side16 (raised m upper) samples vectors) rowParity (8 * band) (8 * band + i) low low' high high'
+  pub rows : (upper : Upper) → atNoises EndsHeld m upper samples vectors rowParity band work
+      → atNoises EndsHeld m upper samples vectors rowParity (band + 1) work
+      → atNoises RowsRanged m upper samples vectors rowParity (8 * band) (8 * band + i) low low' high high'
 
 module _ {m : Merge} {samples : List ℕ} {vectors : List ℤ} {rowParity band : ℕ} {work : List ℤ} {low high : List ℕ} where
   pub band-start : InBand m samples vectors rowParity band work low high 0 low high
   band-start =
       record {
         count = omega arith;
-        rows = λ upper a b. subst (λ n. RowsRanged (sceneAt side16 m samples vectors) (sceneAt side16 (raised m upper) samples vectors) rowParity (8 * band) n low low high high) (omega arith) ranged-start;
+        rows = λ upper a b. subst (λ n. atNoises RowsRanged m upper samples vectors rowParity (8 * band) n low low high high) (omega arith) ranged-start;
       }
 
   -- one more row of both
@@ -111,7 +111,7 @@ module _ {m : Merge} {samples : List ℕ} {vectors : List ℤ} {rowParity band :
         count = omega arith;
         rows = λ upper a b.
             let before = w .rows upper a b in
-            subst (λ n. RowsRanged (sceneAt side16 m samples vectors) (sceneAt side16 (raised m upper) samples vectors) rowParity (8 * band) n low o high o') (omega arith)
+            subst (λ n. atNoises RowsRanged m upper samples vectors rowParity (8 * band) n low o high o') (omega arith)
             (ranged-on before
             (record {
               lows = row-ranged m upper samples vectors ok parity below h greatestAt (a .greatest) (b .greatest) low-picks (before .lows .toward .same ∙ low-long) e;

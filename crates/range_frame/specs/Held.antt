@@ -1,10 +1,12 @@
 -- Inside this crate: both ends of a row of pairs of tiles that the work area holds, and rows of the low and the high frame.
-use Rattle.algebra.specs.Prelude.{List, ℕ, _*_, _/_, _%_, _+_, ℤ, natAbs, drop}
+use Rattle.algebra.specs.Prelude.{_≡_, List, ℕ, _*_, _/_, _%_, _+_, ℤ, natAbs, drop}
+use Rattle.geometry.specs.declared.Shape.{Shape}
 use Rattle.recipe.specs.Scene.{Scene}
 use Rattle.range.specs.Range.{greatestAt, leastAt, lowSample, highSample}
 use Rattle.range.specs.Frames.{End, planeEnd}
 use Rattle.tiles.specs.Rows.{rowWords}
 use Rattle.range_tiles.specs.EndSums.{EndAt, endTaken}
+use Rattle.gather.specs.Work.{rowWritten}
 use Rattle.gather.specs.RowsHeld.{RowHeld, RowsWritten}
 
 -- word k of the frame of an end, as `frameEnd` (range/Frames) has it
@@ -22,6 +24,11 @@ leastPart width work = drop (2 * rowWords 16 width) work
 pub record EndsHeld (lower upper : Scene) (rowParity row : ℕ) (work : List ℤ) : Type 0 where
   pub greatest : RowHeld 16 (lower .width) (endTaken greatestAt lower upper) rowParity row work
   pub least : RowHeld 16 (lower .width) (endTaken leastAt lower upper) rowParity row (leastPart (lower .width) work)
+
+-- both frames with row y of a row parity written, the low one's from the greatest sums and the high one's from the least
+pub record RowsOut (s : Shape) (reference rowParity y : ℕ) (samples : List ℕ) (work : List ℤ) (low low' high high' : List ℕ) : Type 0 where
+  pub low-is : low' ≡ rowWritten low samples work s reference rowParity y 0
+  pub high-is : high' ≡ rowWritten high samples (leastPart (s .width) work) s reference rowParity y 0
 
 -- both frames with the parity's rows from a to before b written: the greatest sums give the low frame
 pub record RowsRanged (lower upper : Scene) (rowParity a b : ℕ) (low low' high high' : List ℕ) : Type 0 where

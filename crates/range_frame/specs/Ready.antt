@@ -1,14 +1,16 @@
--- Inside this crate: what the frames of a range and each part of them require. A buffer that is only measured stands here as its length.
+-- Inside this crate: what the frames of a range are, and what they and each part of them require. A buffer that is only measured stands here as its length.
 use Rattle.algebra.specs.Prelude.{_≡_, List, ℕ, _*_, _/_, _≤_, _<_, length, ℤ}
 use Rattle.geometry.specs.Shape.{outputLength, workLength}
+use Rattle.geometry.specs.declared.Shape.{Shape}
 use Rattle.recipe.specs.declared.Merge.{Merge}
-use Rattle.recipe.specs.Tables.{side16}
-use Rattle.recipe.specs.Scene.{sceneAt}
+use Rattle.recipe.specs.Scene.{sceneOf}
+use Rattle.range.specs.Frames.{lowFrame, highFrame}
 use Rattle.tiles.specs.Accepted.{Accepted}
 use Rattle.tiles.specs.Rows.{rowWords}
 use Rattle.range_tiles.specs.declared.Upper.{Upper}
-use Rattle.range_tiles.specs.EndSums.{raised, UpperFits}
-use Rattle.range_frame.specs.Held.{EndsHeld}
+use Rattle.gather.specs.Ready.{RowReady}
+use Rattle.range_tiles.specs.EndSums.{raised, UpperFits, atNoises}
+use Rattle.range_frame.specs.Held.{leastPart, EndsHeld}
 
 -- accepted input, two outputs of the right length, and room for two rows of both ends
 pub record RangeLent (m : Merge) (upper : Upper) (samples : List ℕ) (vectors : List ℤ) (low high work : ℕ) : Type 0 where
@@ -17,6 +19,11 @@ pub record RangeLent (m : Merge) (upper : Upper) (samples : List ℕ) (vectors :
   pub low-long : low ≡ outputLength (m .shape)
   pub high-long : high ≡ outputLength (m .shape)
   pub room : 4 * rowWords 16 (m .shape .width) ≤ work
+
+-- the low and the high frame of a burst
+pub record FramesRanged (m : Merge) (upper : Upper) (samples : List ℕ) (vectors : List ℤ) (low high : List ℕ) : Type 0 where
+  pub low-is : low ≡ lowFrame (sceneOf m samples vectors) (sceneOf (raised m upper) samples vectors)
+  pub high-is : high ≡ highFrame (sceneOf m samples vectors) (sceneOf (raised m upper) samples vectors)
 
 -- the planes of a row parity
 pub record ParityReady (m : Merge) (upper : Upper) (samples : List ℕ) (vectors : List ℤ) (rowParity low high work : ℕ) : Type 0 where
@@ -28,4 +35,11 @@ pub record BandReady (m : Merge) (upper : Upper) (samples : List ℕ) (vectors :
   pub lent : RangeLent m upper samples vectors low high (length work)
   pub parity : rowParity < 2
   pub band-below : band < m .shape .height / 16
-  pub held : EndsHeld (sceneAt side16 m samples vectors) (sceneAt side16 (raised m upper) samples vectors) rowParity band work
+  pub held : atNoises EndsHeld m upper samples vectors rowParity band work
+
+-- row y of a row parity of both frames, from the two rows of pairs of tiles that the work area holds
+pub record RowsReady (s : Shape) (reference rowParity y samples low high : ℕ) (work : List ℤ) : Type 0 where
+  pub wide : s .width ≤ 4096
+  pub room : 4 * rowWords 16 (s .width) ≤ length work
+  pub low-ready : RowReady s reference rowParity y 0 samples low work
+  pub high-ready : RowReady s reference rowParity y 0 samples high (leastPart (s .width) work)

@@ -2,12 +2,8 @@
 // above it, one row parity after the other.
 mod planes;
 
-ghost use mathlib.Core.Path.{_≡_};
 ghost use lib.ListN.{length};
-ghost use Rattle.recipe.specs.Scene.{sceneOf};
-ghost use Rattle.range.specs.Frames.{lowFrame, highFrame};
-ghost use Rattle.range_tiles.specs.EndSums.{raised};
-ghost use Rattle.range_frame.specs.Ready.{RangeLent};
+ghost use Rattle.range_frame.specs.Ready.{RangeLent, FramesRanged};
 use range_tiles::Upper;
 use recipe::Merge;
 
@@ -22,7 +18,7 @@ pub fn range_frames(
     work: &mut [i64],
 )
     requires { ⌜ RangeLent m upper (now samples) (now vectors) (length (now low)) (length (now high)) (length (now work)) ⌝ }
-    ensures { λ _. ⌜ (now (low .exit) ≡ lowFrame (sceneOf m (now (samples .entry)) (now (vectors .entry))) (sceneOf (raised m upper) (now (samples .entry)) (now (vectors .entry)))) × (now (high .exit) ≡ highFrame (sceneOf m (now (samples .entry)) (now (vectors .entry))) (sceneOf (raised m upper) (now (samples .entry)) (now (vectors .entry)))) ⌝ }
+    ensures { λ _. ⌜ FramesRanged m upper (now (samples .entry)) (now (vectors .entry)) (now (low .exit)) (now (high .exit)) ⌝ }
 {
     planes::range_parity(
         m,

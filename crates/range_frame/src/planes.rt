@@ -1,15 +1,9 @@
 // The two planes of a row parity of both frames: sixteen rows of the frame at a time, half of them of the parity, between two rows of pairs of tiles.
-ghost use mathlib.Core.Path.{_≡_};
-ghost use Prim.Native.Nat.{_*_, _/_, _≤_};
+ghost use Prim.Native.Nat.{_*_, _/_};
 ghost use lib.ListN.{length};
-ghost use Rattle.recipe.specs.Tables.{side16};
-ghost use Rattle.recipe.specs.Scene.{sceneAt};
-ghost use Rattle.tiles.specs.Rows.{rowWords};
-ghost use Rattle.gather.specs.Work.{rowWritten};
-ghost use Rattle.gather.specs.Ready.{RowReady};
-ghost use Rattle.range_tiles.specs.EndSums.{raised};
-ghost use Rattle.range_frame.specs.Held.{leastPart, RowsRanged, BandRanged};
-ghost use Rattle.range_frame.specs.Ready.{ParityReady, BandReady};
+ghost use Rattle.range_tiles.specs.EndSums.{atNoises};
+ghost use Rattle.range_frame.specs.Held.{RowsOut, RowsRanged, BandRanged};
+ghost use Rattle.range_frame.specs.Ready.{RowsReady, ParityReady, BandReady};
 use gather::output_row;
 use geometry::Shape;
 use range_tiles::Upper;
@@ -29,8 +23,8 @@ fn output_rows(
     low: &mut [u16],
     high: &mut [u16],
 )
-    requires { ⌜ record { wide : shape .width ≤ 4096; room : 4 * rowWords 16 (shape .width) ≤ length (now work); low-ready : RowReady shape reference «row_parity» y 0 (length (now samples)) (length (now low)) (now work); high-ready : RowReady shape reference «row_parity» y 0 (length (now samples)) (length (now high)) (leastPart (shape .width) (now work)) } ⌝ }
-    ensures { λ _. ⌜ (now (low .exit) ≡ rowWritten (now (low .entry)) (now (samples .entry)) (now (work .entry)) shape reference «row_parity» y 0) × (now (high .exit) ≡ rowWritten (now (high .entry)) (now (samples .entry)) (leastPart (shape .width) (now (work .entry))) shape reference «row_parity» y 0) ⌝ }
+    requires { ⌜ RowsReady shape reference «row_parity» y (length (now samples)) (length (now low)) (length (now high)) (now work) ⌝ }
+    ensures { λ _. ⌜ RowsOut shape reference «row_parity» y (now (samples .entry)) (now (work .entry)) (now (low .entry)) (now (low .exit)) (now (high .entry)) (now (high .exit)) ⌝ }
 {
     let second = 4 * SIDE * shape.width;
     output_row(shape, reference, samples, row_parity, y, 0, work, &mut *low);
@@ -59,7 +53,7 @@ fn range_band(
     work: &mut [i64],
 )
     requires { ⌜ BandReady m upper (now samples) (now vectors) «row_parity» band (length (now low)) (length (now high)) (now work) ⌝ }
-    ensures { λ _. ⌜ BandRanged (sceneAt side16 m (now (samples .entry)) (now (vectors .entry))) (sceneAt side16 (raised m upper) (now (samples .entry)) (now (vectors .entry))) «row_parity» band (now (low .entry)) (now (low .exit)) (now (high .entry)) (now (high .exit)) (now (work .exit)) ⌝ }
+    ensures { λ _. ⌜ atNoises BandRanged m upper (now (samples .entry)) (now (vectors .entry)) «row_parity» band (now (low .entry)) (now (low .exit)) (now (high .entry)) (now (high .exit)) (now (work .exit)) ⌝ }
 {
     end_row(m, upper, samples, vectors, row_parity, band + 1, &mut *work);
     let shape = m.shape;
@@ -89,7 +83,7 @@ pub fn range_parity(
     work: &mut [i64],
 )
     requires { ⌜ ParityReady m upper (now samples) (now vectors) «row_parity» (length (now low)) (length (now high)) (length (now work)) ⌝ }
-    ensures { λ _. ⌜ RowsRanged (sceneAt side16 m (now (samples .entry)) (now (vectors .entry))) (sceneAt side16 (raised m upper) (now (samples .entry)) (now (vectors .entry))) «row_parity» 0 (8 * (m .shape .height / 16)) (now (low .entry)) (now (low .exit)) (now (high .entry)) (now (high .exit)) ⌝ }
+    ensures { λ _. ⌜ atNoises RowsRanged m upper (now (samples .entry)) (now (vectors .entry)) «row_parity» 0 (8 * (m .shape .height / 16)) (now (low .entry)) (now (low .exit)) (now (high .entry)) (now (high .exit)) ⌝ }
 {
     end_row(m, upper, samples, vectors, row_parity, 0, &mut *work);
     let bands = m.shape.height / SIDE;

@@ -1,15 +1,26 @@
 -- Inside the crates of the range: both ends of rows of pairs in the work area. The greatest sums lie as a merge's rows do, and the least ones likewise behind them.
-use Rattle.algebra.specs.Prelude.{_≡_, List, ℕ, _+_, _*_, _≤_, _<_, length, getD, ℤ, pos, natAbs}
+use Rattle.algebra.specs.Prelude.{_≡_, List, ℕ, _+_, _*_, _/_, _≤_, _<_, length, getD, ℤ, pos, natAbs}
 use mathlib.Core.Logic.{_⊎_}
+use Rattle.recipe.specs.declared.Merge.{Merge}
 use Rattle.recipe.specs.Scene.{Scene}
 use Rattle.range.specs.Range.{greatestAt, leastAt}
+use Rattle.tiles.specs.Accepted.{Accepted}
 use Rattle.tiles.specs.Sum.{Taking, takenMost}
 use Rattle.tiles.specs.Rows.{rowWords, slotOf, rowWord}
-use Rattle.range_tiles.specs.EndSums.{endTaken}
+use Rattle.range_tiles.specs.declared.Upper.{Upper}
+use Rattle.range_tiles.specs.EndSums.{endTaken, UpperFits}
 
 -- where a row of the least sums starts
 abbrev pub leastSlot : (width row : ℕ) → ℕ
 leastSlot width row = 2 * rowWords 16 width + slotOf 16 width row
+
+-- accepted input, the upper noise in range, a row of pairs of a row parity, and room for two rows of both ends
+pub record EndRowLent (m : Merge) (upper : Upper) (samples : List ℕ) (vectors : List ℤ) (rowParity row work : ℕ) : Type 0 where
+  pub accepted : Accepted 16 m samples vectors
+  pub upper-fits : UpperFits upper
+  pub parity : rowParity < 2
+  pub row-most : row ≤ m .shape .height / 16
+  pub room : 4 * rowWords 16 (m .shape .width) ≤ work
 
 -- l has a row's words from `start` on
 pub record RowAt (width : ℕ) (taken : Taking) (rowParity row start : ℕ) (l : List ℤ) : Type 0 where

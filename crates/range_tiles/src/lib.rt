@@ -1,19 +1,10 @@
 // What is taken from a pair of tiles where the noise is known only as a range (request L14): P of the greatest and of the least sums, summed over the other frames.
 pub mod rows;
 
-ghost use mathlib.Core.Path.{_≡_};
 ghost use Prim.Native.Nat.{_≤_};
-ghost use lib.IntN.{pos};
-ghost use Rattle.sequences.specs.Grid.{grid};
 ghost use Rattle.recipe.specs.Tables.{side16};
-ghost use Rattle.recipe.specs.NoiseNumber.{noiseNumber};
-ghost use Rattle.recipe.specs.Scene.{referenceTile, sceneAt};
-ghost use Rattle.range.specs.Range.{greatestAt, leastAt};
-ghost use Rattle.spectrum.specs.Magnitudes.{noiseMost};
-ghost use Rattle.tiles.specs.Accepted.{Accepted, Sited};
-ghost use Rattle.spectrum.specs.Pairs.{sideBySide};
-ghost use Rattle.tiles.specs.Sum.{PairTaken};
-ghost use Rattle.range_tiles.specs.EndSums.{EndSummed, endTaken, raised, UpperFits};
+ghost use Rattle.recipe.specs.Scene.{sceneAt};
+ghost use Rattle.range_tiles.specs.EndSums.{NoisesAre, SumsLent, EndsSummed, PairLent, EndsTaken, atNoises};
 use ends::Noises;
 use ends::add_ends;
 use recipe::Merge;
@@ -31,7 +22,7 @@ pub struct Upper {
 // V of a pair of tiles by their r.
 fn noises(strength: u64, shot: u64, read: u64, first: u64, second: u64) -> Noises
     requires { ⌜ record { strength-most : strength ≤ 1024; shot-most : shot ≤ 65536; read-most : read ≤ 4194304; first-most : first ≤ 65520; second-most : second ≤ 65520 } ⌝ }
-    ensures { λ r. ⌜ record { first-is : r .first ≡ noiseNumber side16 strength shot read first; second-is : r .second ≡ noiseNumber side16 strength shot read second; first-most : r .first ≤ noiseMost; second-most : r .second ≤ noiseMost } ⌝ }
+    ensures { λ r. ⌜ NoisesAre strength shot read first second r ⌝ }
 {
     let a = noise::noise_number(strength, shot, read, first);
     let b = noise::noise_number(strength, shot, read, second);
@@ -42,7 +33,7 @@ fn noises(strength: u64, shot: u64, read: u64, first: u64, second: u64) -> Noise
 }
 
 // P of both ends of a pair of tiles between their noise numbers, summed over the other frames from 0.
-pub fn sum_ends(
+fn sum_ends(
     m: Merge,
     samples: &[u16],
     vectors: &[i32],
@@ -53,8 +44,8 @@ pub fn sum_ends(
     greatest: &mut [[i64; 32]; 16],
     least: &mut [[i64; 32]; 16],
 )
-    requires { ⌜ record { accepted : Accepted 16 m (now samples) (now vectors); sited : Sited 16 (m .shape) site; tile : now t0 ≡ grid 16 32 (sideBySide (λ p. referenceTile (sceneAt side16 m (now samples) (now vectors)) (site .«row_parity») p (site .row) (site .column))); lower-first : lower .first ≤ noiseMost; lower-second : lower .second ≤ noiseMost; upper-first : upper .first ≤ noiseMost; upper-second : upper .second ≤ noiseMost; greatest-cleared : now greatest ≡ grid 16 32 (λ i l. pos 0); least-cleared : now least ≡ grid 16 32 (λ i l. pos 0) } ⌝ }
-    ensures { λ _. ⌜ (EndSummed greatestAt (sceneAt side16 m (now (samples .entry)) (now (vectors .entry))) site (lower .first) (lower .second) (upper .first) (upper .second) (now (greatest .exit))) × (EndSummed leastAt (sceneAt side16 m (now (samples .entry)) (now (vectors .entry))) site (lower .first) (lower .second) (upper .first) (upper .second) (now (least .exit))) ⌝ }
+    requires { ⌜ SumsLent m (now samples) (now vectors) site (now t0) lower upper (now greatest) (now least) ⌝ }
+    ensures { λ _. ⌜ EndsSummed (sceneAt side16 m (now (samples .entry)) (now (vectors .entry))) site lower upper (now (greatest .exit)) (now (least .exit)) ⌝ }
 {
     let others = m.shape.count - 1;
     let mut tz = [[0u16; 32]; 16];
@@ -63,6 +54,37 @@ pub fn sum_ends(
         differences(m, samples, vectors, site, k, t0, &mut tz, &mut d);
         add_ends(&d, lower, upper, &mut *greatest, &mut *least);
     }
+}
+
+// The same; all 0 where all four V are.
+fn summed(
+    m: Merge,
+    samples: &[u16],
+    vectors: &[i32],
+    site: Site,
+    t0: &[[u16; 32]; 16],
+    lower: Noises,
+    upper: Noises,
+    greatest: &mut [[i64; 32]; 16],
+    least: &mut [[i64; 32]; 16],
+)
+    requires { ⌜ SumsLent m (now samples) (now vectors) site (now t0) lower upper (now greatest) (now least) ⌝ }
+    ensures { λ _. ⌜ EndsSummed (sceneAt side16 m (now (samples .entry)) (now (vectors .entry))) site lower upper (now (greatest .exit)) (now (least .exit)) ⌝ }
+{
+    if lower.first + lower.second + upper.first + upper.second == 0 {
+        return;
+    }
+    sum_ends(
+        m,
+        samples,
+        vectors,
+        site,
+        t0,
+        lower,
+        upper,
+        &mut *greatest,
+        &mut *least,
+    );
 }
 
 // T0, r and V of a pair of tiles at both noises, and what both ends take from it, from 0.
@@ -75,8 +97,8 @@ pub fn tile_ends(
     greatest: &mut [[i64; 32]; 16],
     least: &mut [[i64; 32]; 16],
 )
-    requires { ⌜ record { accepted : Accepted 16 m (now samples) (now vectors); upper-fits : UpperFits upper; sited : Sited 16 (m .shape) site; greatest-cleared : now greatest ≡ grid 16 32 (λ i l. pos 0); least-cleared : now least ≡ grid 16 32 (λ i l. pos 0) } ⌝ }
-    ensures { λ _. ⌜ (PairTaken 16 (endTaken greatestAt (sceneAt side16 m (now (samples .entry)) (now (vectors .entry))) (sceneAt side16 (raised m upper) (now (samples .entry)) (now (vectors .entry)))) site (now (greatest .exit))) × (PairTaken 16 (endTaken leastAt (sceneAt side16 m (now (samples .entry)) (now (vectors .entry))) (sceneAt side16 (raised m upper) (now (samples .entry)) (now (vectors .entry)))) site (now (least .exit))) ⌝ }
+    requires { ⌜ PairLent m upper (now samples) (now vectors) site (now greatest) (now least) ⌝ }
+    ensures { λ _. ⌜ atNoises EndsTaken m upper (now (samples .entry)) (now (vectors .entry)) site (now (greatest .exit)) (now (least .exit)) ⌝ }
 {
     let shape = m.shape;
     let mut t0 = [[0u16; 32]; 16];
@@ -87,7 +109,7 @@ pub fn tile_ends(
     let strength = m.tuning.strength;
     let low = noises(strength, m.shot, m.read, roots.first, roots.second);
     let high = noises(strength, upper.shot, upper.read, roots.first, roots.second);
-    sum_ends(
+    summed(
         m,
         samples,
         vectors,

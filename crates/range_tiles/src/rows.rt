@@ -1,13 +1,9 @@
 // Both ends of a row of pairs of tiles, in the work area.
-ghost use Prim.Native.Nat.{_+_, _*_, _/_, _≤_, _<_};
+ghost use Prim.Native.Nat.{_≤_};
 ghost use mathlib.Core.Path.{_≡_};
 ghost use lib.ListN.{length};
-ghost use Rattle.recipe.specs.Tables.{side16};
-ghost use Rattle.recipe.specs.Scene.{sceneAt};
-ghost use Rattle.tiles.specs.Accepted.{Accepted};
-ghost use Rattle.tiles.specs.Rows.{rowWords};
-ghost use Rattle.range_tiles.specs.EndSums.{raised, UpperFits};
-ghost use Rattle.range_tiles.specs.EndRows.{leastSlot, EndsStored};
+ghost use Rattle.range_tiles.specs.EndSums.{atNoises};
+ghost use Rattle.range_tiles.specs.EndRows.{leastSlot, EndRowLent, EndsStored};
 use crate::Upper;
 use crate::tile_ends;
 use geometry::tiles::tile_columns;
@@ -38,8 +34,8 @@ pub fn end_row(
     row: usize,
     work: &mut [i64],
 )
-    requires { ⌜ record { accepted : Accepted 16 m (now samples) (now vectors); upper-fits : UpperFits upper; parity : «row_parity» < 2; row-most : row ≤ m .shape .height / 16; room : 4 * rowWords 16 (m .shape .width) ≤ length (now work) } ⌝ }
-    ensures { λ _. ⌜ EndsStored (sceneAt side16 m (now (samples .entry)) (now (vectors .entry))) (sceneAt side16 (raised m upper) (now (samples .entry)) (now (vectors .entry))) «row_parity» row (now (work .entry)) (now (work .exit)) ⌝ }
+    requires { ⌜ EndRowLent m upper (now samples) (now vectors) «row_parity» row (length (now work)) ⌝ }
+    ensures { λ _. ⌜ atNoises EndsStored m upper (now (samples .entry)) (now (vectors .entry)) «row_parity» row (now (work .entry)) (now (work .exit)) ⌝ }
 {
     let start = slot(SIDE, m.shape.width, row);
     let second = least_slot(m.shape.width, row);

@@ -36,6 +36,12 @@ use Rattle.stacker.specs.Ranged.{Ranged}
 abbrev pub upperOf : Noise → Upper
 upperOf noise = record { shot = shotLevel (levelsOf noise); read = readLevel (levelsOf noise) }
 
+-- what both frames require, the merge among them where the levels are equal: its work area and no spatial filter
+pub record FramesLent (m : Merge) (upper : Upper) (samples : List ℕ) (vectors : List ℤ) (low high work : ℕ) : Type 0 where
+  pub lent : RangeLent m upper samples vectors low high work
+  pub work-long : work ≡ workLength (m .shape)
+  pub off : m .tuning .spatial ≡ 0
+
 -- two rows of pairs of both ends lie in the work area
 rows-fit : {s : Shape} → Allowed s → 4 * rowWords 16 (s .width) ≤ workLength s
 unfolding rowWords workLength
@@ -82,17 +88,17 @@ module _ (s : Shape) (reference : ℕ) (lower upper : Noise) (tuning : Tuning) (
     content : first (rangeContentTests s tuning samples ++ vectorRefusal vectors ∷ []) ≡ 0
     content = both-passed (rangeNoiseTests lower upper) _ (parts .1) .1
 
-    pub range-off : tuning .spatial ≡ 0
+    range-off : tuning .spatial ≡ 0
     unfolding rangeContentTests
     range-off = unfiltered (tuning .spatial) (passed content (search among depth 20))
 
     fits : MergeFits s reference (length samples) (length vectors) (length low) (length work)
     fits = range-fits s reference (length samples) (length vectors) (length low) (length high) (length work) (parts .0)
 
-    pub range-work : length work ≡ workLength s
+    range-work : length work ≡ workLength s
     range-work = fits .work-long
 
-    pub range-lent : RangeLent (mergeOf s reference lower tuning) (upperOf upper) samples vectors (length low) (length high) (length work)
+    range-lent : RangeLent (mergeOf s reference lower tuning) (upperOf upper) samples vectors (length low) (length high) (length work)
     unfolding rangeContentTests
     range-lent =
         record {
@@ -112,6 +118,9 @@ module _ (s : Shape) (reference : ℕ) (lower upper : Noise) (tuning : Tuning) (
           high-long = high-long s reference (length samples) (length vectors) (length low) (length high) (length work) (parts .0);
           room = omega (arith, rows-fit (fits .burst .allowed), range-work);
         }
+
+    pub frames-lent : FramesLent (mergeOf s reference lower tuning) (upperOf upper) samples vectors (length low) (length high) (length work)
+    frames-lent = record { lent = range-lent; work-long = range-work; off = range-off }
 
     -- equal curves have equal levels
     same-levels : NoneAbove (curveOf lower) (curveOf upper) → NoneAbove (curveOf upper) (curveOf lower) → (shotLevel (levelsOf lower) ≡ shotLevel (levelsOf upper)) × (readLevel (levelsOf lower) ≡ readLevel (levelsOf upper))

@@ -2,13 +2,10 @@
 ghost use mathlib.Core.Path.{_≡_};
 ghost use mathlib.Core.Bool.{true};
 ghost use lib.ListN.{length};
-ghost use Rattle.geometry.specs.Shape.{workLength};
-ghost use Rattle.recipe.specs.Scene.{sceneOf};
-ghost use Rattle.range.specs.Frames.{lowFrame, highFrame};
 ghost use Rattle.admission.specs.Refusals.{mergeOf};
-ghost use Rattle.range_tiles.specs.EndSums.{raised};
-ghost use Rattle.range_frame.specs.Ready.{RangeLent};
+ghost use Rattle.range_frame.specs.Ready.{FramesRanged};
 ghost use Rattle.stacker.specs.Ranged.{Ranged};
+ghost use Rattle.stacker.specs.RangedLaws.{FramesLent};
 use geometry::Shape;
 use merging::merge_frames;
 use noise::Levels;
@@ -73,8 +70,8 @@ fn frames(
     high: &mut [u16],
     work: &mut [i64],
 )
-    requires { ⌜ record { lent : RangeLent m upper (now samples) (now vectors) (length (now low)) (length (now high)) (length (now work)); work-long : length (now work) ≡ workLength (m .shape); off : m .tuning .spatial ≡ 0 } ⌝ }
-    ensures { λ _. ⌜ (now (low .exit) ≡ lowFrame (sceneOf m (now (samples .entry)) (now (vectors .entry))) (sceneOf (raised m upper) (now (samples .entry)) (now (vectors .entry)))) × (now (high .exit) ≡ highFrame (sceneOf m (now (samples .entry)) (now (vectors .entry))) (sceneOf (raised m upper) (now (samples .entry)) (now (vectors .entry)))) ⌝ }
+    requires { ⌜ FramesLent m upper (now samples) (now vectors) (length (now low)) (length (now high)) (length (now work)) ⌝ }
+    ensures { λ _. ⌜ FramesRanged m upper (now (samples .entry)) (now (vectors .entry)) (now (low .exit)) (now (high .exit)) ⌝ }
 {
     if same_levels(m, upper) {
         merge_frames(m, samples, vectors, &mut *low, &mut *work);

@@ -1,13 +1,13 @@
 -- B, both G, their widths, their inverse sums, and P of both ends.
-use Rattle.algebra.specs.Prelude.{_≡_, refl, ap, _∙_, false, ℕ, ℤ, pos, _+ℤ_, now}
+use Rattle.algebra.specs.Prelude.{_≡_, refl, _∙_, false, ℕ, ℤ, pos, now}
 use lib.Ieee.{binary64, ofBits}
 use Rattle.sequences.specs.Tab.{tab}
-use Rattle.sequences.specs.Grid.{grid, cell, grid-ext}
+use Rattle.sequences.specs.Grid.{grid, cell}
 use Rattle.spectrum.specs.Pairs.{doubles}
 use Rattle.pairs.proofs.ColumnLaws.{paired-grid}
 use Rattle.pairs.proofs.Passes.{columns-whole}
 use Rattle.pairs.proofs.Corrections.{binned-pair}
-use Rattle.ends.proofs.Planes.{gains, gains-whole, greatest-here, least-here}
+use Rattle.ends.proofs.Planes.{gains, gains-whole, greatest-here, least-here, plus-ext}
 use Rattle.ends.proofs.add_apart.Statement.{statement}
 use Rattle.ends.proofs.add_apart.Tie as tie
 
@@ -16,13 +16,13 @@ abbrev differences : tie.Start → ℕ → ℕ → ℤ
 differences s = cell (pos 0) (now (s .args .d))
 
 -- both G, folded
-low-is : (c : tie.After-wiener-of) → let s = c .before .before .before .before in c .wiener-of .result ≡ doubles (gains (s .args .lower .first) (s .args .lower .second) (s .pre .lower-first) (s .pre .lower-second) (differences s))
+low-is : (c : tie.After-wiener-of) → let s = c .before .before .before .before in c .wiener-of .result ≡ doubles (gains (s .args .lower) (s .pre .lower-fits) (differences s))
 low-is c =
     let f = c .before .before in
     let s = f .before .before in
     c .wiener-of .ensures (binned-pair (s .pre .differences) (f .forward-into .ensures))
 
-high-is : (c : tie.After-wiener-of2) → let s = c .before .before .before .before .before .before in c .wiener-of2 .result ≡ doubles (gains (s .args .upper .first) (s .args .upper .second) (s .pre .upper-first) (s .pre .upper-second) (differences s))
+high-is : (c : tie.After-wiener-of2) → let s = c .before .before .before .before .before .before in c .wiener-of2 .result ≡ doubles (gains (s .args .upper) (s .pre .upper-fits) (differences s))
 high-is c =
     let f = c .before .before .before .before in
     let s = f .before .before in
@@ -35,21 +35,20 @@ forward-into-requires c κs = (c .before .pre .differences, paired-grid (λ k l.
 wiener-of-requires : tie.Need-wiener-of-requires
 wiener-of-requires c κs =
     let f = c .before in
-    let s = f .before .before in
-    record { binned = binned-pair (s .pre .differences) (f .forward-into .ensures); first-most = s .pre .lower-first; second-most = s .pre .lower-second }
+    let p = f .before .before .pre in
+    record { binned = binned-pair (p .differences) (f .forward-into .ensures); first-most = p .lower-fits .first-most; second-most = p .lower-fits .second-most }
 
 wiener-of-requires-2 : tie.Need-wiener-of-requires-2
 wiener-of-requires-2 c κs =
     let f = c .before .before .before in
-    let s = f .before .before in
-    record { binned = binned-pair (s .pre .differences) (f .forward-into .ensures); first-most = s .pre .upper-first; second-most = s .pre .upper-second }
+    let p = f .before .before .pre in
+    record { binned = binned-pair (p .differences) (f .forward-into .ensures); first-most = p .upper-fits .first-most; second-most = p .upper-fits .second-most }
 
 widths-of-requires : tie.Need-widths-of-requires
 widths-of-requires c κs =
     let h = c .before .before in
     let s = h .before .before .before .before .before .before in
-    let p = s .pre in
-    (gains-whole _ _ (p .lower-first) (p .lower-second) (differences s) (low-is (h .before .before)), gains-whole _ _ (p .upper-first) (p .upper-second) (differences s) (high-is h))
+    (gains-whole _ (s .pre .lower-fits) (differences s) (low-is (h .before .before)), gains-whole _ (s .pre .upper-fits) (differences s) (high-is h))
 
 back-requires : tie.Need-back-requires
 unfolding doubles
@@ -68,13 +67,11 @@ add-lines-requires c κs =
     let s = h .before .before .before .before .before .before in
     let p = s .pre in
     record {
-      first = columns-whole false (o .back .ensures) (gains-whole _ _ (p .lower-first) (p .lower-second) (differences s) (low-is (h .before .before)));
-      second = columns-whole false (r .back2 .ensures) (gains-whole _ _ (p .upper-first) (p .upper-second) (differences s) (high-is h));
+      low-in = columns-whole false (o .back .ensures) (gains-whole _ (p .lower-fits) (differences s) (low-is (h .before .before)));
+      high-in = columns-whole false (r .back2 .ensures) (gains-whole _ (p .upper-fits) (differences s) (high-is h));
       widths-most = w .widths-of .ensures .1;
-      greatest-most = p .greatest-most;
-      least-most = p .least-most;
-      greatest-paired = p .greatest-paired;
-      least-paired = p .least-paired;
+      greatests = p .greatests;
+      leasts = p .leasts;
     }
 
 returns : tie.Need-returns
@@ -86,18 +83,15 @@ returns c =
     let s = h .before .before .before .before .before .before in
     let p = s .pre in
     let a = s .args in
-    let d = differences s in
     let low = low-is (h .before .before) in
     let high = high-is h in
-    let low-back = o .back .ensures (gains-whole _ _ (p .lower-first) (p .lower-second) d low) in
-    let high-back = r .back2 .ensures (gains-whole _ _ (p .upper-first) (p .upper-second) d high) in (
-      c .add-lines .ensures .0
-          ∙ grid-ext 16 32 _ _ (λ y l i j. ap (λ z. cell (pos 0) (now (a .greatest)) y l +ℤ z)
-          (greatest-here (a .lower .first) (a .lower .second) (a .upper .first) (a .upper .second) (p .lower-first) (p .lower-second) (p .upper-first) (p .upper-second) d low high (w .widths-of .ensures .0) low-back high-back y l i j)),
-      c .add-lines .ensures .1
-          ∙ grid-ext 16 32 _ _ (λ y l i j. ap (λ z. cell (pos 0) (now (a .least)) y l +ℤ z)
-          (least-here (a .lower .first) (a .lower .second) (a .upper .first) (a .upper .second) (p .lower-first) (p .lower-second) (p .upper-first) (p .upper-second) d low high (w .widths-of .ensures .0) low-back high-back y l i j)),
-    )
+    let widths = w .widths-of .ensures .0 in
+    let low-back = o .back .ensures (gains-whole _ (p .lower-fits) (differences s) low) in
+    let high-back = r .back2 .ensures (gains-whole _ (p .upper-fits) (differences s) high) in
+    record {
+      greatest-is = c .add-lines .ensures .greatest-is ∙ plus-ext _ _ _ (greatest-here (a .lower) (a .upper) (p .lower-fits) (p .upper-fits) (now (a .d)) low high widths low-back high-back);
+      least-is = c .add-lines .ensures .least-is ∙ plus-ext _ _ _ (least-here (a .lower) (a .upper) (p .lower-fits) (p .upper-fits) (now (a .d)) low high widths low-back high-back);
+    }
 
 pub add-apart-spec : {M : Type 1} → statement M
 add-apart-spec = tie.close (tie.spec

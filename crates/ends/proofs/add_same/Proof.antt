@@ -2,22 +2,19 @@
 use Rattle.algebra.specs.Prelude.{refl, _∙_, ℕ, _+_, _*_, _/_, _%_, _^_, _≤_, ℤ, pos, natAbs, now}
 use Prim.Native.Nat.{zero-le}
 use Rattle.sequences.specs.Tab.{tab}
-use Rattle.sequences.specs.Grid.{grid, cell}
-use Rattle.recipe.specs.Tables.{side16}
-use Rattle.recipe.specs.Correction.{correctionAt}
+use Rattle.sequences.specs.Grid.{grid}
 use Rattle.lines.specs.Tiles.{cells-most}
 use Rattle.spectrum.specs.Magnitudes.{correctionMost}
 use Rattle.spectrum.specs.SizeLaws.{correction-most}
-use Rattle.spectrum.specs.Pairs.{planeIn, either}
 use Rattle.pairs.proofs.ColumnLaws.{paired-grid}
 use Rattle.grain.proofs.PairLaws.{table-most}
-use Rattle.ends.proofs.Planes.{added-most, added-is}
+use Rattle.ends.proofs.Planes.{pairP, greatest-equal, least-equal, plus-ext, added-most, added-is}
 use Rattle.ends.proofs.add_same.Statement.{statement}
 use Rattle.ends.proofs.add_same.Tie as tie
 
 -- P
 abbrev part : tie.Start → ℕ → ℕ → ℤ
-part s y l = correctionAt side16 (either (s .args .noises .first) (s .args .noises .second) (l % 2)) (planeIn (cell (pos 0) (now (s .args .d))) (l % 2)) y (l / 2)
+part s = pairP (now (s .args .d)) (s .args .noises)
 
 part-most : (s : tie.Start) (y l : ℕ) → natAbs (part s y l) ≤ correctionMost
 part-most s y l = correction-most _ _ (λ y x. cells-most (s .pre .differences) y (2 * x + l % 2)) y (l / 2)
@@ -26,21 +23,27 @@ add-corrections-requires : tie.Need-add-corrections-requires
 unfolding grid tab
 add-corrections-requires c κs =
     let p = c .before .pre in
-    record { differences = p .differences; first-most = p .first-most; second-most = p .second-most; sums-most = table-most (2 ^ 40) (λ y l. pos 0) (λ y l. zero-le) 16 32; paired = paired-grid (λ y l. pos 0) refl }
+    record {
+      differences = p .differences;
+      first-most = p .lower-fits .first-most;
+      second-most = p .lower-fits .second-most;
+      sums-most = table-most (2 ^ 40) (λ y l. pos 0) (λ y l. zero-le) 16 32;
+      paired = paired-grid (λ y l. pos 0) refl;
+    }
 
 add-pair-requires : tie.Need-add-pair-requires
 unfolding grid tab
 add-pair-requires c κs =
     let a = c .before .before in
     let s = a .before .before in
-    record { part = added-most (part s) (a .add-corrections .ensures) correctionMost (part-most s); sums-most = s .pre .greatest-most; paired = s .pre .greatest-paired }
+    record { part = added-most (part s) (a .add-corrections .ensures) correctionMost (part-most s); sums = s .pre .greatests }
 
 add-pair-requires-2 : tie.Need-add-pair-requires-2
 unfolding grid tab
 add-pair-requires-2 c κs =
     let a = c .before .before .before .before .before in
     let s = a .before .before in
-    record { part = added-most (part s) (a .add-corrections .ensures) correctionMost (part-most s); sums-most = s .pre .least-most; paired = s .pre .least-paired }
+    record { part = added-most (part s) (a .add-corrections .ensures) correctionMost (part-most s); sums = s .pre .leasts }
 
 returns : tie.Need-returns
 unfolding grid tab
@@ -48,7 +51,13 @@ returns c =
     let g = c .before .before .before in
     let a = g .before .before .before in
     let s = a .before .before in
-    (g .add-pair .ensures ∙ added-is (part s) (a .add-corrections .ensures) (now (s .args .greatest)), c .add-pair2 .ensures ∙ added-is (part s) (a .add-corrections .ensures) (now (s .args .least)))
+    let d = now (s .args .d) in
+    let v = s .args .noises in
+    let is = added-is (part s) (a .add-corrections .ensures) in
+    record {
+      greatest-is = g .add-pair .ensures ∙ is _ ∙ plus-ext _ _ _ (λ y l h k. greatest-equal d v y l);
+      least-is = c .add-pair2 .ensures ∙ is _ ∙ plus-ext _ _ _ (λ y l h k. least-equal d v y l);
+    }
 
 pub add-same-spec : {M : Type 1} → statement M
 add-same-spec = tie.close (tie.spec add-corrections-requires add-pair-requires add-pair-requires-2 returns)

@@ -43,10 +43,11 @@ returns c =
     let q = c .before .before .before .before .before in
     let p = q .before .before .before .before .before .before .before .before .before in
     let s = p .before .before .before .before .before .before .before in
-    let high = s .pre .accepted .burst .allowed .high in (
-      by-side s lowSample (frame-whole lowSample _ _ high (s .pre .low-long) (p .range-parity .ensures .lows) (q .range-parity2 .ensures .lows)),
-      by-side s highSample (frame-whole highSample _ _ high (s .pre .high-long) (p .range-parity .ensures .highs) (q .range-parity2 .ensures .highs)),
-    )
+    let high = s .pre .accepted .burst .allowed .high in
+    record {
+      low-is = by-side s lowSample (frame-whole lowSample _ _ high (s .pre .low-long) (p .range-parity .ensures .lows) (q .range-parity2 .ensures .lows));
+      high-is = by-side s highSample (frame-whole highSample _ _ high (s .pre .high-long) (p .range-parity .ensures .highs) (q .range-parity2 .ensures .highs));
+    }
 
 pub range-frames-spec : {M : Type 1} → statement M
 range-frames-spec = tie.close (tie.spec range-parity-requires range-parity-requires-2 (λ c. search needs) (λ c. search needs) (λ c. search needs) returns)

@@ -12,8 +12,10 @@ returns c =
     record {
       first-is = e;
       second-is = f;
-      first-most = rw e (noise-number-bound (p .strength-most) (p .shot-most) (p .read-most) (p .first-most));
-      second-most = rw f (noise-number-bound (p .strength-most) (p .shot-most) (p .read-most) (p .second-most));
+      fits = record {
+        first-most = rw e (noise-number-bound (p .strength-most) (p .shot-most) (p .read-most) (p .first-most));
+        second-most = rw f (noise-number-bound (p .strength-most) (p .shot-most) (p .read-most) (p .second-most));
+      };
     }
 
 pub noises-spec : {M : Type 1} → statement M

@@ -6,15 +6,15 @@ use Rattle.range.specs.Range.{greatestAt, leastAt}
 use Rattle.lines.specs.Lines.{TileMost}
 use Rattle.lines.specs.Magnitudes.{differenceMost}
 use Rattle.tiles.specs.DifferenceLaws.{pair-rows, tile-most}
-use Rattle.range_tiles.specs.EndSumLaws.{greatest-ending, least-ending, Summing, sum-start, sum-turn, sum-paired, sum-small, sum-done}
+use Rattle.range_tiles.specs.EndSumLaws.{greatest-ending, least-ending, Summing, sum-start, sum-turn, sum-room, sum-done}
 use Rattle.range_tiles.proofs.sum_ends.Statement.{statement}
 use Rattle.range_tiles.proofs.sum_ends.Tie as tie
 
 abbrev Inv-loop : tie.InvT-loop
 Inv-loop m samples vectors site t0 lower upper greatest₀ least₀ others tz₀ d₀ k₀ greatest least tz d k =
     record {
-      greatests : Summing greatestAt (sceneAt side16 m samples vectors) site (lower .first) (lower .second) (upper .first) (upper .second) k greatest;
-      leasts : Summing leastAt (sceneAt side16 m samples vectors) site (lower .first) (lower .second) (upper .first) (upper .second) k least;
+      greatests : Summing greatestAt (sceneAt side16 m samples vectors) site lower upper k greatest;
+      leasts : Summing leastAt (sceneAt side16 m samples vectors) site lower upper k least;
       tz-rows : length tz ≡ 16;
       d-rows : length d ≡ 16;
     }
@@ -26,7 +26,7 @@ loop-holds : tie.Need-loop-holds Inv-loop μ-loop
 unfolding sceneAt
 loop-holds c =
     let p = c .before .before .pre in
-    record { greatests = sum-start (omega arith) (p .greatest-cleared); leasts = sum-start (omega arith) (p .least-cleared); tz-rows = refl; d-rows = refl }
+    record { greatests = sum-start (omega arith) (p .cleared .greatest-is); leasts = sum-start (omega arith) (p .cleared .least-is); tz-rows = refl; d-rows = refl }
 
 differences-requires : tie.Need-differences-requires Inv-loop μ-loop
 differences-requires c κs =
@@ -42,14 +42,10 @@ add-ends-requires c κs =
     let i = l .loop .inv in
     record {
       differences = subst (TileMost differenceMost) (sym (d .differences .ensures .0)) (tile-most side16 (s .pre .accepted) (s .pre .sited) (l .loop .k) (omega arith));
-      lower-first = s .pre .lower-first;
-      lower-second = s .pre .lower-second;
-      upper-first = s .pre .upper-first;
-      upper-second = s .pre .upper-second;
-      greatest-most = sum-small (i .greatests);
-      least-most = sum-small (i .leasts);
-      greatest-paired = sum-paired (i .greatests);
-      least-paired = sum-paired (i .leasts);
+      lower-fits = s .pre .lower-fits;
+      upper-fits = s .pre .upper-fits;
+      greatests = sum-room (i .greatests);
+      leasts = sum-room (i .leasts);
     }
 
 loop-again : tie.Need-loop-again Inv-loop μ-loop
@@ -61,15 +57,15 @@ loop-again c =
     let i = l .loop .inv in
     let q = s .pre in
     record {
-      greatests = sum-turn greatest-ending (i .greatests) (omega arith) (q .lower-first) (q .lower-second) (q .upper-first) (q .upper-second) (d .differences .ensures .0) (c .add-ends .ensures .0);
-      leasts = sum-turn least-ending (i .leasts) (omega arith) (q .lower-first) (q .lower-second) (q .upper-first) (q .upper-second) (d .differences .ensures .0) (c .add-ends .ensures .1);
+      greatests = sum-turn greatest-ending (i .greatests) (omega arith) (q .lower-fits) (q .upper-fits) (d .differences .ensures .0) (c .add-ends .ensures .greatest-is);
+      leasts = sum-turn least-ending (i .leasts) (omega arith) (q .lower-fits) (q .upper-fits) (d .differences .ensures .0) (c .add-ends .ensures .least-is);
       tz-rows = d .differences .ensures .1;
       d-rows = pair-rows 16 _ (d .differences .ensures .0);
     }
 
 returns : tie.Need-returns Inv-loop μ-loop
 unfolding sceneAt
-returns c = (sum-done (c .before .loop .inv .greatests) (omega arith), sum-done (c .before .loop .inv .leasts) (omega arith))
+returns c = record { greatests = sum-done (c .before .loop .inv .greatests) (omega arith); leasts = sum-done (c .before .loop .inv .leasts) (omega arith) }
 
 pub sum-ends-spec : {M : Type 1} → statement M
 sum-ends-spec = tie.close (tie.spec

@@ -1,16 +1,16 @@
 -- T0 has its roots, and at either noise its noise numbers.
 use Rattle.algebra.specs.Prelude.{_≡_, refl, List, ℕ, _-_, _+_, _*_, _≤_, _<_, arith, needs, lit<, now}
-use Rattle.sequences.specs.Grid.{grid, cell}
+use Rattle.sequences.specs.Grid.{cell}
 use Rattle.recipe.specs.Tables.{side16}
-use Rattle.recipe.specs.NoiseNumber.{noiseNumber}
 use Rattle.recipe.specs.declared.Merge.{Merge}
 use Rattle.recipe.specs.Scene.{referenceTile, tileNoise, sceneAt}
 use Rattle.range.specs.Range.{greatestAt, leastAt}
-use Rattle.spectrum.specs.Pairs.{sideBySide, either}
+use Rattle.ends.specs.declared.Noises.{Noises}
+use Rattle.ends.specs.Added.{noiseOf}
 use Rattle.tiles.specs.DifferenceLaws.{tile-fits, reference-most}
 use Rattle.tiles.specs.NoiseLaws.{both}
 use Rattle.tiles.specs.TileLaws.{root-of, number}
-use Rattle.range_tiles.specs.EndSums.{raised}
+use Rattle.range_tiles.specs.EndSums.{raised, tilePair, NoisesAre}
 use Rattle.range_tiles.specs.EndSumLaws.{end-taken}
 use Rattle.range_tiles.proofs.tile_ends.Statement.{statement}
 use Rattle.range_tiles.proofs.tile_ends.Tie as tie
@@ -21,12 +21,12 @@ sided = refl
 
 -- T0, which is that of either scene
 tile-is : (c : tie.After-pair) → let a = c .before .before .before .before .args in
-    c .pair .last .1 .1 .1 .1 .1 .1 .0 ≡ grid 16 32 (sideBySide (λ p. referenceTile (sceneAt side16 (a .m) (now (a .samples)) (now (a .vectors))) (a .site .«row_parity») p (a .site .row) (a .site .column)))
+    c .pair .last .1 .1 .1 .1 .1 .1 .0 ≡ tilePair (sceneAt side16 (a .m) (now (a .samples)) (now (a .vectors))) (a .site)
 unfolding referenceTile sceneAt
 tile-is c = c .pair .ensures
 
 upper-is : (c : tie.After-pair) → let a = c .before .before .before .before .args in
-    c .pair .last .1 .1 .1 .1 .1 .1 .0 ≡ grid 16 32 (sideBySide (λ p. referenceTile (sceneAt side16 (raised (a .m) (a .upper)) (now (a .samples)) (now (a .vectors))) (a .site .«row_parity») p (a .site .row) (a .site .column)))
+    c .pair .last .1 .1 .1 .1 .1 .1 .0 ≡ tilePair (sceneAt side16 (raised (a .m) (a .upper)) (now (a .samples)) (now (a .vectors))) (a .site)
 unfolding referenceTile sceneAt
 upper-is c = c .pair .ensures
 
@@ -40,38 +40,29 @@ pair-roots-requires c κs =
 
 -- the noise numbers of either plane, at a noise whose scene has this T0
 module _ (c : tie.After-pair-roots) (m : Merge) (e : let t = c .before .before .before .before in let a = t .before .before .before .before .args in
-    t .pair .last .1 .1 .1 .1 .1 .1 .0 ≡ grid 16 32 (sideBySide (λ p. referenceTile (sceneAt side16 m (now (a .samples)) (now (a .vectors))) (a .site .«row_parity») p (a .site .row) (a .site .column))))
+    t .pair .last .1 .1 .1 .1 .1 .1 .0 ≡ tilePair (sceneAt side16 m (now (a .samples)) (now (a .vectors))) (a .site))
     (tuned : m .tuning ≡ c .before .before .before .before .before .before .before .before .args .m .tuning) where
-  numbers-known : {first second : ℕ} → let a = c .before .before .before .before .before .before .before .before .args in
-      first ≡ noiseNumber side16 (m .tuning .strength) (m .shot) (m .read) (c .pair-roots .result .first) → second ≡ noiseNumber side16 (m .tuning .strength) (m .shot) (m .read) (c .pair-roots .result .second)
-      → (p : ℕ) → p < 2 → either first second p ≡ tileNoise (sceneAt side16 m (now (a .samples)) (now (a .vectors))) (a .site .«row_parity») p (a .site .row) (a .site .column)
-  numbers-known {first} {second} f g =
+  numbers-known : {v : Noises} → let a = c .before .before .before .before .before .before .before .before .args in
+      NoisesAre (m .tuning .strength) (m .shot) (m .read) (c .pair-roots .result .first) (c .pair-roots .result .second) v
+      → (p : ℕ) → p < 2 → noiseOf v p ≡ tileNoise (sceneAt side16 m (now (a .samples)) (now (a .vectors))) (a .site .«row_parity») p (a .site .row) (a .site .column)
+  numbers-known {v} known =
       let b = c .before .before in
       let t = b .before .before in
       let a = t .before .before .before .before .args in
-      both (λ p. either first second p ≡ tileNoise (sceneAt side16 m (now (a .samples)) (now (a .vectors))) (a .site .«row_parity») p (a .site .row) (a .site .column))
+      both (λ p. noiseOf v p ≡ tileNoise (sceneAt side16 m (now (a .samples)) (now (a .vectors))) (a .site .«row_parity») p (a .site .row) (a .site .column))
       (number 16 side16 sided m (now (a .samples)) (now (a .vectors)) (a .site) e 0
-      (root-of 16 side16 sided m (now (a .samples)) (now (a .vectors)) (a .site) e 0 (lit< tt) (λ j. 2 * j) (λ j. omega arith) (rw tuned (b .before .plane-black .ensures)) (c .pair-roots .ensures .first)) f)
+      (root-of 16 side16 sided m (now (a .samples)) (now (a .vectors)) (a .site) e 0 (lit< tt) (λ j. 2 * j) (λ j. omega arith) (rw tuned (b .before .plane-black .ensures)) (c .pair-roots .ensures .first)) (known .first-is))
       (number 16 side16 sided m (now (a .samples)) (now (a .vectors)) (a .site) e 1
-      (root-of 16 side16 sided m (now (a .samples)) (now (a .vectors)) (a .site) e 1 (lit< tt) (λ j. 2 * j + 1) (λ j. omega arith) (rw tuned (b .plane-black2 .ensures)) (c .pair-roots .ensures .second)) g)
+      (root-of 16 side16 sided m (now (a .samples)) (now (a .vectors)) (a .site) e 1 (lit< tt) (λ j. 2 * j + 1) (λ j. omega arith) (rw tuned (b .plane-black2 .ensures)) (c .pair-roots .ensures .second)) (known .second-is))
 
-sum-ends-requires : tie.Need-sum-ends-requires
-sum-ends-requires c κs =
+summed-requires : tie.Need-summed-requires
+summed-requires c κs =
     let n = c .before .before .before in
     let l = n .before in
     let t = l .before .before .before .before .before in
     let s = t .before .before .before .before in
-    record {
-      accepted = s .pre .accepted;
-      sited = s .pre .sited;
-      tile = tile-is t;
-      lower-first = l .noises .ensures .first-most;
-      lower-second = l .noises .ensures .second-most;
-      upper-first = n .noises2 .ensures .first-most;
-      upper-second = n .noises2 .ensures .second-most;
-      greatest-cleared = s .pre .greatest-cleared;
-      least-cleared = s .pre .least-cleared;
-    }
+    let p = s .pre in
+    record { accepted = p .accepted; sited = p .sited; tile = tile-is t; lower-fits = l .noises .ensures .fits; upper-fits = n .noises2 .ensures .fits; cleared = p .cleared }
 
 returns : tie.Need-returns
 unfolding sceneAt
@@ -83,13 +74,14 @@ returns c =
     let s = t .before .before .before .before in
     let a = s .args in
     let few = s .pre .accepted .burst .allowed .few in
-    let low = numbers-known r (a .m) (tile-is t) refl (l .noises .ensures .first-is) (l .noises .ensures .second-is) in
-    let high = numbers-known r (raised (a .m) (a .upper)) (upper-is t) refl (n .noises2 .ensures .first-is) (n .noises2 .ensures .second-is) in (
-      end-taken greatestAt _ _ (a .site) (omega arith) low high (c .sum-ends .ensures .0),
-      end-taken leastAt _ _ (a .site) (omega arith) low high (c .sum-ends .ensures .1),
-    )
+    let low = numbers-known r (a .m) (tile-is t) refl (l .noises .ensures) in
+    let high = numbers-known r (raised (a .m) (a .upper)) (upper-is t) refl (n .noises2 .ensures) in
+    record {
+      greatests = end-taken greatestAt _ _ (a .site) (omega arith) low high (c .summed .ensures .greatests);
+      leasts = end-taken leastAt _ _ (a .site) (omega arith) low high (c .summed .ensures .leasts);
+    }
 
 pub tile-ends-spec : {M : Type 1} → statement M
 tile-ends-spec = tie.close (tie.spec
     (λ c κs. search needs) (λ c κs. search needs) (λ c κs. search needs) pair-roots-requires
-    (λ c κs. search needs) (λ c κs. search needs) sum-ends-requires returns)
+    (λ c κs. search needs) (λ c κs. search needs) summed-requires returns)

@@ -6,6 +6,7 @@ use Rattle.sequences.specs.Grid.{grid, cell}
 use Rattle.lines.specs.Lines.{LineMost}
 use Rattle.pairs.proofs.ColumnLaws.{paired-lines}
 use Rattle.pairs.proofs.RowLaws.{paired-length}
+use Rattle.ends.specs.Added.{rowPlus}
 use Rattle.ends.proofs.adding.add_pair.Statement.{statement}
 use Rattle.ends.proofs.adding.add_pair.Tie as tie
 
@@ -21,7 +22,8 @@ add-row-requires c κs =
     let s = l .before in
     let y = l .loop .y in
     let e = fill-rest (l .loop .inv) (omega arith) [] in
-    record { part = s .pre .part .line y; sums-most = subst (LineMost (2 ^ 40)) (sym e) (s .pre .sums-most .line y); long = paired-length (s .pre .paired) y (omega arith) e }
+    let p = s .pre .sums in
+    record { part = s .pre .part .line y; sums = record { most = subst (LineMost (2 ^ 40)) (sym e) (p .most .line y); long = paired-length (p .paired) y (omega arith) e } }
 
 loop-again : tie.Need-loop-again Inv-loop μ-loop
 unfolding cell
@@ -29,8 +31,7 @@ loop-again c =
     let l = c .before .before .before .before in
     let a = l .before .args in
     fill-turn (l .loop .inv) (omega arith)
-    (c .add-row .ensures
-    ∙ ap (λ r. tab 32 (λ k. getD r k (pos 0) +ℤ getD (getD (now (a .p)) (l .loop .y) []) k (pos 0))) (fill-rest (l .loop .inv) (omega arith) []))
+    (c .add-row .ensures ∙ ap (λ r. rowPlus r (λ k. getD (getD (now (a .p)) (l .loop .y) []) k (pos 0))) (fill-rest (l .loop .inv) (omega arith) []))
 
 returns : tie.Need-returns Inv-loop μ-loop
 unfolding grid
@@ -38,5 +39,5 @@ returns c = fill-done (c .before .loop .inv) (omega arith)
 
 pub add-pair-spec : {M : Type 1} → statement M
 add-pair-spec = tie.close (tie.spec
-    Inv-loop μ-loop (λ c. fill-start (paired-lines (c .pre .paired))) (λ c. search needs) (λ c. search needs) (λ c. search needs)
+    Inv-loop μ-loop (λ c. fill-start (paired-lines (c .pre .sums .paired))) (λ c. search needs) (λ c. search needs) (λ c. search needs)
     (λ c. search needs) add-row-requires (λ c. search needs) (λ c. search needs) loop-again returns)

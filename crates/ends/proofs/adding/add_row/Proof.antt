@@ -17,7 +17,7 @@ add-sum : tie.Need-add-sum Inv-loop μ-loop
 add-sum c =
     let l = c .before .before .before in
     let s = l .before in
-    let m = subst (AtMost (2 ^ 40)) (sym (fill-rest (l .loop .inv) (omega arith) (pos 0))) (line-at (s .pre .sums-most) (l .loop .l)) in
+    let m = subst (AtMost (2 ^ 40)) (sym (fill-rest (l .loop .inv) (omega arith) (pos 0))) (line-at (s .pre .sums .most) (l .loop .l)) in
     more-fits m (line-at (s .pre .part) (l .loop .l)) tt tt
 
 loop-again : tie.Need-loop-again Inv-loop μ-loop
@@ -25,11 +25,11 @@ loop-again c =
     let l = c .before .before .before in
     let s = l .before in
     let e = fill-rest (l .loop .inv) (omega arith) (pos 0) in
-    let m = subst (AtMost (2 ^ 40)) (sym e) (line-at (s .pre .sums-most) (l .loop .l)) in
+    let m = subst (AtMost (2 ^ 40)) (sym e) (line-at (s .pre .sums .most) (l .loop .l)) in
     fill-turn (l .loop .inv) (omega arith) (more-is m (line-at (s .pre .part) (l .loop .l)) tt tt ∙ ap₂ _+ℤ_ e refl)
 
 pub add-row-spec : {M : Type 1} → statement M
 add-row-spec = tie.close (tie.spec
-    Inv-loop μ-loop (λ c. fill-start (c .pre .long)) (λ c. search needs) (λ c. search needs) (λ c. search needs)
+    Inv-loop μ-loop (λ c. fill-start (c .pre .sums .long)) (λ c. search needs) (λ c. search needs) (λ c. search needs)
     (λ c. search needs) add-sum (λ c. search needs) (λ c. search needs) (λ c. search needs) (λ c. search needs)
     loop-again (λ c. fill-done (c .before .loop .inv) (omega arith)))

@@ -11,6 +11,7 @@ use Rattle.lines.specs.Doubles.{WholeRow}
 use Rattle.lines.specs.Magnitudes.{columnMost}
 use Rattle.pairs.proofs.Rounding.{whole-at, whole-halves-most}
 use Rattle.ends.specs.Factors.{greatestOf, leastOf, halfIn}
+use Rattle.ends.specs.Added.{EndOf, rowPlus, halfEnd, lineEnd}
 use Rattle.ends.proofs.Planes.{half-ext}
 use Rattle.ends.proofs.rounds.add_line.Statement.{statement}
 use Rattle.ends.proofs.rounds.add_line.Tie as tie
@@ -22,30 +23,29 @@ halves-are w e l i =
     ap (λ x. getD x l (pos 0)) e ∙ getD-tab (λ l. halfSum (λ k. w .number (2 * k + l % 2)) (l / 2)) (pos 0) 32 l i
     ∙ half-ext _ _ (λ k j. sym (ap (toSigned 63) (whole-at w (2 * k + l % 2) (omega arith) .is) ∙ whole-back (w .number (2 * k + l % 2)) (le-trans (w .most (2 * k + l % 2)) (lit≤ tt)) .1)) (l / 2)
 
-ends-are : (f : (a b : ℤ) (width : ℕ) → ℤ) (s : List ℤ) (v : List ℕ) {h h' : List Float} {x x' : List ℤ} (w : WholeRow (columnMost false) h) (w' : WholeRow (columnMost false) h') →
+ends-are : (f : EndOf) (s : List ℤ) (v : List ℕ) {h h' : List Float} {x x' : List ℤ} (w : WholeRow (columnMost false) h) (w' : WholeRow (columnMost false) h') →
     x ≡ tab 32 (λ l. halfSum (λ k. w .number (2 * k + l % 2)) (l / 2)) → x' ≡ tab 32 (λ l. halfSum (λ k. w' .number (2 * k + l % 2)) (l / 2)) →
-    tab 32 (λ l. getD s l (pos 0) +ℤ f (getD x l (pos 0)) (getD x' l (pos 0)) (getD v (l % 16) 0)) ≡ tab 32 (λ l. getD s l (pos 0) +ℤ f (halfIn h l) (halfIn h' l) (getD v (l % 16) 0))
+    rowPlus s (halfEnd x x' v f) ≡ rowPlus s (lineEnd h h' v f)
 ends-are f s v w w' e e' = tab-ext 32 _ _ (λ l i. ap₂ (λ a b. getD s l (pos 0) +ℤ f a b (getD v (l % 16) 0)) (halves-are w e l i) (halves-are w' e' l i))
 
 whole-halves-of-requires : tie.Need-whole-halves-of-requires
-whole-halves-of-requires c κs = c .pre .first
+whole-halves-of-requires c κs = c .pre .low-in
 
 whole-halves-of-requires-2 : tie.Need-whole-halves-of-requires-2
-whole-halves-of-requires-2 c κs = c .before .pre .second
+whole-halves-of-requires-2 c κs = c .before .pre .high-in
 
 add-row-requires : tie.Need-add-row-requires
 add-row-requires c κs =
     let b = c .before .before .before .before in
     let a = b .before in
     let s = a .before in
+    let p = s .pre in
     record {
-      first = whole-halves-most (s .pre .first) (a .whole-halves-of .ensures (s .pre .first));
-      second = whole-halves-most (s .pre .second) (b .whole-halves-of2 .ensures (s .pre .second));
-      widths-most = s .pre .widths-most;
-      greatest-most = s .pre .greatest-most;
-      least-most = s .pre .least-most;
-      greatest-long = s .pre .greatest-long;
-      least-long = s .pre .least-long;
+      low-in = whole-halves-most (p .low-in) (a .whole-halves-of .ensures (p .low-in));
+      high-in = whole-halves-most (p .high-in) (b .whole-halves-of2 .ensures (p .high-in));
+      widths-most = p .widths-most;
+      greatests = p .greatests;
+      leasts = p .leasts;
     }
 
 returns : tie.Need-returns
@@ -53,11 +53,12 @@ returns c =
     let b = c .before .before .before .before .before in
     let a = b .before in
     let s = a .before in
-    let p = a .whole-halves-of .ensures (s .pre .first) in
-    let q = b .whole-halves-of2 .ensures (s .pre .second) in (
-      c .add-row .ensures .0 ∙ ends-are greatestOf (now (s .args .greatest)) (now (s .args .widths)) (s .pre .first) (s .pre .second) p q,
-      c .add-row .ensures .1 ∙ ends-are leastOf (now (s .args .least)) (now (s .args .widths)) (s .pre .first) (s .pre .second) p q,
-    )
+    let p = a .whole-halves-of .ensures (s .pre .low-in) in
+    let q = b .whole-halves-of2 .ensures (s .pre .high-in) in
+    record {
+      greatest-is = c .add-row .ensures .greatest-is ∙ ends-are greatestOf (now (s .args .greatest)) (now (s .args .widths)) (s .pre .low-in) (s .pre .high-in) p q;
+      least-is = c .add-row .ensures .least-is ∙ ends-are leastOf (now (s .args .least)) (now (s .args .widths)) (s .pre .low-in) (s .pre .high-in) p q;
+    }
 
 pub add-line-spec : {M : Type 1} → statement M
 add-line-spec = tie.close (tie.spec whole-halves-of-requires whole-halves-of-requires-2 add-row-requires returns)

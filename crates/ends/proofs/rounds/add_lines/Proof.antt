@@ -7,20 +7,21 @@ use Rattle.lines.specs.Lines.{LineMost}
 use Rattle.pairs.proofs.ColumnLaws.{paired-lines}
 use Rattle.pairs.proofs.RowLaws.{paired-length}
 use Rattle.pairs.proofs.Rounding.{whole-row}
-use Rattle.ends.specs.Factors.{greatestOf, leastOf, halfIn, halfOf}
+use Rattle.ends.specs.Factors.{greatestOf, leastOf}
+use Rattle.ends.specs.Added.{rowPlus, lineEnd, tileEnd}
 use Rattle.ends.proofs.rounds.add_lines.Statement.{statement}
 use Rattle.ends.proofs.rounds.add_lines.Tie as tie
 
 abbrev Inv-loop : tie.InvT-loop
 Inv-loop low high widths greatest₀ least₀ y₀ greatest least y =
-    (Filled (λ y. tab 32 (λ l. cell (pos 0) greatest₀ y l +ℤ greatestOf (halfOf low y l) (halfOf high y l) (cell 0 widths (y % 8) (l % 16)))) 16 y greatest₀ greatest)
-    × (Filled (λ y. tab 32 (λ l. cell (pos 0) least₀ y l +ℤ leastOf (halfOf low y l) (halfOf high y l) (cell 0 widths (y % 8) (l % 16)))) 16 y least₀ least)
+    (Filled (λ y. tab 32 (λ l. cell (pos 0) greatest₀ y l +ℤ tileEnd low high widths greatestOf y l)) 16 y greatest₀ greatest)
+    × (Filled (λ y. tab 32 (λ l. cell (pos 0) least₀ y l +ℤ tileEnd low high widths leastOf y l)) 16 y least₀ least)
 
 abbrev μ-loop : tie.MeasureT-loop
 μ-loop low high widths greatest₀ least₀ y₀ greatest least y = 16 - y
 
 loop-holds : tie.Need-loop-holds Inv-loop μ-loop
-loop-holds c = (fill-start (paired-lines (c .pre .greatest-paired)), fill-start (paired-lines (c .pre .least-paired)))
+loop-holds c = (fill-start (paired-lines (c .pre .greatests .paired)), fill-start (paired-lines (c .pre .leasts .paired)))
 
 add-line-requires : tie.Need-add-line-requires Inv-loop μ-loop
 add-line-requires c κs =
@@ -30,13 +31,11 @@ add-line-requires c κs =
     let d = fill-rest (l .loop .inv .0) (omega arith) [] in
     let e = fill-rest (l .loop .inv .1) (omega arith) [] in
     record {
-      first = whole-row (p .first) y (omega arith);
-      second = whole-row (p .second) y (omega arith);
+      low-in = whole-row (p .low-in) y (omega arith);
+      high-in = whole-row (p .high-in) y (omega arith);
       widths-most = p .widths-most .line (y % 8);
-      greatest-most = subst (LineMost (2 ^ 40)) (sym d) (p .greatest-most .line y);
-      least-most = subst (LineMost (2 ^ 40)) (sym e) (p .least-most .line y);
-      greatest-long = paired-length (p .greatest-paired) y (omega arith) d;
-      least-long = paired-length (p .least-paired) y (omega arith) e;
+      greatests = record { most = subst (LineMost (2 ^ 40)) (sym d) (p .greatests .most .line y); long = paired-length (p .greatests .paired) y (omega arith) d };
+      leasts = record { most = subst (LineMost (2 ^ 40)) (sym e) (p .leasts .most .line y); long = paired-length (p .leasts .paired) y (omega arith) e };
     }
 
 loop-again : tie.Need-loop-again Inv-loop μ-loop
@@ -45,18 +44,14 @@ loop-again c =
     let l = c .before .before .before .before .before .before .before in
     let a = l .before .args in
     let y = l .loop .y in
-    let low = getD (now (a .low)) y [] in
-    let high = getD (now (a .high)) y [] in
-    let v = getD (now (a .widths)) (y % 8) [] in (
-      fill-turn (l .loop .inv .0) (omega arith)
-          (c .add-line .ensures .0 ∙ ap (λ r. tab 32 (λ k. getD r k (pos 0) +ℤ greatestOf (halfIn low k) (halfIn high k) (getD v (k % 16) 0))) (fill-rest (l .loop .inv .0) (omega arith) [])),
-      fill-turn (l .loop .inv .1) (omega arith)
-          (c .add-line .ensures .1 ∙ ap (λ r. tab 32 (λ k. getD r k (pos 0) +ℤ leastOf (halfIn low k) (halfIn high k) (getD v (k % 16) 0))) (fill-rest (l .loop .inv .1) (omega arith) [])),
+    let p = lineEnd (getD (now (a .low)) y []) (getD (now (a .high)) y []) (getD (now (a .widths)) (y % 8) []) in (
+      fill-turn (l .loop .inv .0) (omega arith) (c .add-line .ensures .greatest-is ∙ ap (λ r. rowPlus r (p greatestOf)) (fill-rest (l .loop .inv .0) (omega arith) [])),
+      fill-turn (l .loop .inv .1) (omega arith) (c .add-line .ensures .least-is ∙ ap (λ r. rowPlus r (p leastOf)) (fill-rest (l .loop .inv .1) (omega arith) [])),
     )
 
 returns : tie.Need-returns Inv-loop μ-loop
 unfolding grid
-returns c = (fill-done (c .before .loop .inv .0) (omega arith), fill-done (c .before .loop .inv .1) (omega arith))
+returns c = record { greatest-is = fill-done (c .before .loop .inv .0) (omega arith); least-is = fill-done (c .before .loop .inv .1) (omega arith) }
 
 pub add-lines-spec : {M : Type 1} → statement M
 add-lines-spec = tie.close (tie.spec

@@ -5,13 +5,14 @@ use Rattle.sequences.specs.TabLaws.{Filled, fill-start, fill-turn, fill-rest, f
 use Rattle.lines.specs.Held.{line-at, held-is, held-most}
 use Rattle.pairs.proofs.Rounding.{more-fits, more-is}
 use Rattle.ends.specs.Factors.{greatestOf, leastOf}
+use Rattle.ends.specs.Added.{halfEnd}
 use Rattle.ends.proofs.rounds.add_row.Statement.{statement}
 use Rattle.ends.proofs.rounds.add_row.Tie as tie
 
 abbrev Inv-loop : tie.InvT-loop
 Inv-loop a b widths greatest₀ least₀ l₀ greatest least l =
-    (Filled (λ l. getD greatest₀ l (pos 0) +ℤ greatestOf (getD a l (pos 0)) (getD b l (pos 0)) (getD widths (l % 16) 0)) 32 l greatest₀ greatest)
-    × (Filled (λ l. getD least₀ l (pos 0) +ℤ leastOf (getD a l (pos 0)) (getD b l (pos 0)) (getD widths (l % 16) 0)) 32 l least₀ least)
+    (Filled (λ l. getD greatest₀ l (pos 0) +ℤ halfEnd a b widths greatestOf l) 32 l greatest₀ greatest)
+    × (Filled (λ l. getD least₀ l (pos 0) +ℤ halfEnd a b widths leastOf l) 32 l least₀ least)
 
 abbrev μ-loop : tie.MeasureT-loop
 μ-loop a b widths greatest₀ least₀ l₀ greatest least l = 32 - l
@@ -20,20 +21,20 @@ greatest-of-requires : tie.Need-greatest-of-requires Inv-loop μ-loop
 greatest-of-requires c κs =
     let l = c .before .before .before .before in
     let p = l .before .pre in
-    record { first = held-most w64 (p .first) (l .loop .l) tt; second = held-most w64 (p .second) (l .loop .l) tt; width-most = p .widths-most .at (l .loop .l % 16) }
+    record { first = held-most w64 (p .low-in) (l .loop .l) tt; second = held-most w64 (p .high-in) (l .loop .l) tt; width-most = p .widths-most .at (l .loop .l % 16) }
 
 least-of-requires : tie.Need-least-of-requires Inv-loop μ-loop
 least-of-requires c κs =
     let l = c .before .before .before .before .before .before .before .before in
     let p = l .before .pre in
-    record { first = held-most w64 (p .first) (l .loop .l) tt; second = held-most w64 (p .second) (l .loop .l) tt; width-most = p .widths-most .at (l .loop .l % 16) }
+    record { first = held-most w64 (p .low-in) (l .loop .l) tt; second = held-most w64 (p .high-in) (l .loop .l) tt; width-most = p .widths-most .at (l .loop .l % 16) }
 
 add-greatest : tie.Need-add-greatest Inv-loop μ-loop
 add-greatest c =
     let k = c .before in
     let g = k .before .before .before .before in
     let l = g .before .before .before .before .before in
-    let m = subst (AtMost (2 ^ 40)) (sym (fill-rest (l .loop .inv .0) (omega arith) (pos 0))) (line-at (l .before .pre .greatest-most) (l .loop .l)) in
+    let m = subst (AtMost (2 ^ 40)) (sym (fill-rest (l .loop .inv .0) (omega arith) (pos 0))) (line-at (l .before .pre .greatests .most) (l .loop .l)) in
     more-fits m (g .greatest-of .ensures .1) tt tt
 
 add-least : tie.Need-add-least Inv-loop μ-loop
@@ -41,7 +42,7 @@ add-least c =
     let k = c .before .before in
     let g = k .before .before .before .before in
     let l = g .before .before .before .before .before in
-    let m = subst (AtMost (2 ^ 40)) (sym (fill-rest (l .loop .inv .1) (omega arith) (pos 0))) (line-at (l .before .pre .least-most) (l .loop .l)) in
+    let m = subst (AtMost (2 ^ 40)) (sym (fill-rest (l .loop .inv .1) (omega arith) (pos 0))) (line-at (l .before .pre .leasts .most) (l .loop .l)) in
     more-fits m (k .least-of .ensures .1) tt tt
 
 loop-again : tie.Need-loop-again Inv-loop μ-loop
@@ -53,18 +54,18 @@ loop-again c =
     let i = l .loop .l in
     let d = fill-rest (l .loop .inv .0) (omega arith) (pos 0) in
     let e = fill-rest (l .loop .inv .1) (omega arith) (pos 0) in
-    let m = subst (AtMost (2 ^ 40)) (sym d) (line-at (s .pre .greatest-most) i) in
-    let n = subst (AtMost (2 ^ 40)) (sym e) (line-at (s .pre .least-most) i) in
+    let m = subst (AtMost (2 ^ 40)) (sym d) (line-at (s .pre .greatests .most) i) in
+    let n = subst (AtMost (2 ^ 40)) (sym e) (line-at (s .pre .leasts .most) i) in
     let w = getD (now (s .args .widths)) (i % 16) 0 in (
       fill-turn (l .loop .inv .0) (omega arith)
-          (more-is m (g .greatest-of .ensures .1) tt tt ∙ ap₂ _+ℤ_ d (g .greatest-of .ensures .0 ∙ ap₂ (λ a b. greatestOf a b w) (held-is w64 (s .pre .first) i tt) (held-is w64 (s .pre .second) i tt))),
+          (more-is m (g .greatest-of .ensures .1) tt tt ∙ ap₂ _+ℤ_ d (g .greatest-of .ensures .0 ∙ ap₂ (λ a b. greatestOf a b w) (held-is w64 (s .pre .low-in) i tt) (held-is w64 (s .pre .high-in) i tt))),
       fill-turn (l .loop .inv .1) (omega arith)
-          (more-is n (k .least-of .ensures .1) tt tt ∙ ap₂ _+ℤ_ e (k .least-of .ensures .0 ∙ ap₂ (λ a b. leastOf a b w) (held-is w64 (s .pre .first) i tt) (held-is w64 (s .pre .second) i tt))),
+          (more-is n (k .least-of .ensures .1) tt tt ∙ ap₂ _+ℤ_ e (k .least-of .ensures .0 ∙ ap₂ (λ a b. leastOf a b w) (held-is w64 (s .pre .low-in) i tt) (held-is w64 (s .pre .high-in) i tt))),
     )
 
 pub add-row-spec : {M : Type 1} → statement M
 add-row-spec = tie.close (tie.spec
-    Inv-loop μ-loop (λ c. (fill-start (c .pre .greatest-long), fill-start (c .pre .least-long)))
+    Inv-loop μ-loop (λ c. (fill-start (c .pre .greatests .long), fill-start (c .pre .leasts .long)))
     (λ c. search needs) (λ c. search needs) (λ c. search needs) (λ c. search needs) (λ c. search needs) (λ c. search needs)
     greatest-of-requires
     (λ c. search needs) (λ c. search needs) (λ c. search needs) (λ c. search needs) (λ c. search needs) (λ c. search needs)
@@ -72,4 +73,4 @@ add-row-spec = tie.close (tie.spec
     (λ c. search needs) (λ c. search needs) add-greatest (λ c. search needs) (λ c. search needs)
     (λ c. search needs) (λ c. search needs) add-least (λ c. search needs) (λ c. search needs)
     (λ c. search needs) (λ c. search needs) loop-again
-    (λ c. (fill-done (c .before .loop .inv .0) (omega arith), fill-done (c .before .loop .inv .1) (omega arith))))
+    (λ c. record { greatest-is = fill-done (c .before .loop .inv .0) (omega arith); least-is = fill-done (c .before .loop .inv .1) (omega arith) }))

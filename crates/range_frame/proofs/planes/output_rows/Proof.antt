@@ -33,7 +33,7 @@ returns c =
     let r = c .before .before in
     let q = r .before .before .before .before .before in
     let a = q .before .before .before .before .before .before .args in
-    (q .output-row .ensures, r .output-row2 .ensures ∙ ap (λ w. rowWritten (now (a .high)) (now (a .samples)) w (a .shape) (a .reference) (a .row-parity) (a .y) 0) (part-is (a .shape .width) (now (a .work))))
+    record { low-is = q .output-row .ensures; high-is = r .output-row2 .ensures ∙ ap (λ w. rowWritten (now (a .high)) (now (a .samples)) w (a .shape) (a .reference) (a .row-parity) (a .y) 0) (part-is (a .shape .width) (now (a .work))) }
 
 pub output-rows-spec : {M : Type 1} → statement M
 output-rows-spec = tie.close (tie.spec

@@ -1,9 +1,8 @@
 -- A row of both frames a turn, from the two rows of pairs of tiles that are held.
 use Rattle.algebra.specs.Prelude.{_≡_, subst, _∙_, _-_, _+_, _*_, _/_, _≤_, _<_, arith, needs, now}
-use Rattle.recipe.specs.Tables.{side16}
 use Rattle.recipe.specs.Scene.{sceneAt}
 use Rattle.range.specs.Range.{greatestAt, leastAt}
-use Rattle.range_tiles.specs.EndSums.{raised}
+use Rattle.range_tiles.specs.EndSums.{atNoises}
 use Rattle.range_frame.specs.Held.{RowsRanged}
 use Rattle.range_frame.specs.HeldLaws.{ends-held, ends-kept}
 use Rattle.range_frame.specs.BandLaws.{row-ready, InBand, band-start, band-turn}
@@ -55,7 +54,7 @@ loop-again c =
     let l = i .before in
     let s = l .before .before .before .before .before .before .before .before in
     let t = s .pre .lent in
-    band-turn (t .accepted) (s .pre .parity) (s .pre .band-below) (i .loop-test .taken) (t .low-long) (t .high-long) (l .loop .inv) (o .output-rows .ensures .0) (o .output-rows .ensures .1)
+    band-turn (t .accepted) (s .pre .parity) (s .pre .band-below) (i .loop-test .taken) (t .low-long) (t .high-long) (l .loop .inv) (o .output-rows .ensures .low-is) (o .output-rows .ensures .high-is)
 
 same-length : tie.Need-same-length Inv-loop μ-loop
 unfolding sceneAt
@@ -83,7 +82,7 @@ returns c =
     let under = ends-held (r .end-row .ensures) (s .pre .lent .room) in
     let all : 8 * a .band + l .loop .i ≡ 8 * a .band + 8 = omega (arith, l .loop .inv .count) in
     record {
-      rows = subst (λ n. RowsRanged (sceneAt side16 (a .m) (now (a .samples)) (now (a .vectors))) (sceneAt side16 (raised (a .m) (a .upper)) (now (a .samples)) (now (a .vectors))) (a .row-parity) (8 * a .band) n (now (a .low)) (l .loop .low) (now (a .high)) (l .loop .high)) all
+      rows = subst (λ n. atNoises RowsRanged (a .m) (a .upper) (now (a .samples)) (now (a .vectors)) (a .row-parity) (8 * a .band) n (now (a .low)) (l .loop .low) (now (a .high)) (l .loop .high)) all
           (l .loop .inv .rows (a .upper) (ends-kept (r .end-row .ensures) (s .pre .held)) under);
       held = under;
     }

@@ -1,8 +1,7 @@
 -- A band a turn, each under the row of pairs of tiles that the one before has left.
 use Rattle.algebra.specs.Prelude.{_≡_, refl, subst, _∙_, _+_, _-_, _*_, _/_, _≤_, _<_, arith, needs, length, now}
-use Rattle.recipe.specs.Tables.{side16}
 use Rattle.recipe.specs.Scene.{sceneAt}
-use Rattle.range_tiles.specs.EndSums.{raised}
+use Rattle.range_tiles.specs.EndSums.{atNoises}
 use Rattle.range_frame.specs.Held.{EndsHeld, RowsRanged}
 use Rattle.range_frame.specs.HeldLaws.{ends-held}
 use Rattle.range_frame.specs.BandLaws.{ranged-start, ranged-on}
@@ -12,8 +11,8 @@ use Rattle.range_frame.proofs.planes.range_parity.Tie as tie
 abbrev Inv-loop : tie.InvT-loop
 Inv-loop m upper samples vectors row-parity low₀ high₀ work₀ bands band₀ low high work band =
     record {
-      rows : RowsRanged (sceneAt side16 m samples vectors) (sceneAt side16 (raised m upper) samples vectors) row-parity 0 (8 * band) low₀ low high₀ high;
-      held : EndsHeld (sceneAt side16 m samples vectors) (sceneAt side16 (raised m upper) samples vectors) row-parity band work;
+      rows : atNoises RowsRanged m upper samples vectors row-parity 0 (8 * band) low₀ low high₀ high;
+      held : atNoises EndsHeld m upper samples vectors row-parity band work;
       long : length work ≡ length work₀;
       most : band ≤ bands;
     }
@@ -64,7 +63,7 @@ loop-again c =
     let a = s .args in
     let w = l .loop .inv in
     record {
-      rows = subst (λ n. RowsRanged (sceneAt side16 (a .m) (now (a .samples)) (now (a .vectors))) (sceneAt side16 (raised (a .m) (a .upper)) (now (a .samples)) (now (a .vectors))) (a .row-parity) 0 n (now (a .low)) (b .range-band .last .1 .1 .1 .1 .1 .1 .0) (now (a .high)) (b .range-band .last .1 .1 .1 .1 .1 .1 .1 .0)) (omega arith) (ranged-on (w .rows) (b .range-band .ensures .rows));
+      rows = subst (λ n. atNoises RowsRanged (a .m) (a .upper) (now (a .samples)) (now (a .vectors)) (a .row-parity) 0 n (now (a .low)) (b .range-band .last .1 .1 .1 .1 .1 .1 .0) (now (a .high)) (b .range-band .last .1 .1 .1 .1 .1 .1 .1 .0)) (omega arith) (ranged-on (w .rows) (b .range-band .ensures .rows));
       held = b .range-band .ensures .held;
       long = b .range-band .kept .1 .1 .1 .1 .1 .1 .1 .1 .0 ∙ w .long;
       most = omega (arith, i .loop-test .taken);
@@ -76,7 +75,7 @@ returns c =
     let s = l .before .before .before .before .before .before .before .before in
     let a = s .args in
     let all : l .loop .band ≡ a .m .shape .height / 16 = omega (arith, l .loop .inv .most) in
-    subst (λ n. RowsRanged (sceneAt side16 (a .m) (now (a .samples)) (now (a .vectors))) (sceneAt side16 (raised (a .m) (a .upper)) (now (a .samples)) (now (a .vectors))) (a .row-parity) 0 (8 * n) (now (a .low)) (l .loop .low) (now (a .high)) (l .loop .high)) all (l .loop .inv .rows)
+    subst (λ n. atNoises RowsRanged (a .m) (a .upper) (now (a .samples)) (now (a .vectors)) (a .row-parity) 0 (8 * n) (now (a .low)) (l .loop .low) (now (a .high)) (l .loop .high)) all (l .loop .inv .rows)
 
 pub range-parity-spec : {M : Type 1} → statement M
 range-parity-spec = tie.close (tie.spec

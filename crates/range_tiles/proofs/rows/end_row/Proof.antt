@@ -2,17 +2,16 @@
 use Rattle.algebra.specs.Prelude.{_≡_, refl, ap, _∙_, _+_, _-_, _*_, _/_, _≤_, arith, needs, length}
 use Rattle.sequences.specs.Tab.{tab}
 use Rattle.sequences.specs.Grid.{grid}
-use Rattle.recipe.specs.Tables.{side16}
 use Rattle.recipe.specs.Scene.{sceneAt}
 use Rattle.tiles.specs.Rows.{rowWords}
-use Rattle.range_tiles.specs.EndSums.{raised}
+use Rattle.range_tiles.specs.EndSums.{atNoises}
 use Rattle.range_tiles.specs.EndRowLaws.{slot-most, EndStoring, ends-start, ends-turn, ends-done}
 use Rattle.range_tiles.proofs.rows.end_row.Statement.{statement}
 use Rattle.range_tiles.proofs.rows.end_row.Tie as tie
 
 abbrev Inv-loop : tie.InvT-loop
 Inv-loop m upper samples vectors row-parity row work₀ start second blocks columns column₀ work column =
-    EndStoring (sceneAt side16 m samples vectors) (sceneAt side16 (raised m upper) samples vectors) row-parity row work₀ column work
+    atNoises EndStoring m upper samples vectors row-parity row work₀ column work
 
 abbrev μ-loop : tie.MeasureT-loop
 μ-loop m upper samples vectors row-parity row work₀ start second blocks columns column₀ work column = columns - column
@@ -34,8 +33,7 @@ tile-ends-requires c κs =
       accepted = s .pre .accepted;
       upper-fits = s .pre .upper-fits;
       sited = record { row-parity = s .pre .parity; row = s .pre .row-most; column = omega (arith, columns-are (l .before)) };
-      greatest-cleared = refl;
-      least-cleared = refl;
+      cleared = record { greatest-is = refl; least-is = refl };
     }
 
 -- the words of the blocks before a pair, from either start on, lie in the work area
@@ -102,7 +100,7 @@ loop-again c =
     let s = l .before .before .before .before .before .before in
     let first = l .before .before .before .before .slot .ensures .is in
     let second = l .before .before .before .least-slot .ensures in
-    ends-turn _ _ _ _ _ (s .pre .accepted .burst .allowed .wide .whole) (l .loop .inv) (omega (arith, i .loop-test .taken, columns-are (l .before))) (t .tile-ends .ensures .0) (t .tile-ends .ensures .1)
+    ends-turn _ _ _ _ _ (s .pre .accepted .burst .allowed .wide .whole) (l .loop .inv) (omega (arith, i .loop-test .taken, columns-are (l .before))) (t .tile-ends .ensures .greatests) (t .tile-ends .ensures .leasts)
     (rw first at (a .store-left .ensures)) (rw first at (b .store-right .ensures)) (rw second at (e .store-left2 .ensures)) (rw second at (f .store-right2 .ensures))
 
 returns : tie.Need-returns Inv-loop μ-loop

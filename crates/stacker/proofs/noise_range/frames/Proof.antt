@@ -11,10 +11,8 @@ returns c =
     let t = merge .before .before .before in
     let s = t .before .before .before .before .before in
     let same = t .before .same-levels .ensures (t .if1 .taken) in
-    let is = merge .merge-frames .ensures in (
-      is ∙ sym (low-merged _ _ _ _ (s .pre .off) same),
-      copied .copy .ensures ∙ is ∙ sym (high-merged _ _ _ _ (s .pre .off) same),
-    )
+    let is = merge .merge-frames .ensures in
+    record { low-is = is ∙ sym (low-merged _ _ _ _ (s .pre .off) same); high-is = copied .copy .ensures ∙ is ∙ sym (high-merged _ _ _ _ (s .pre .off) same) }
 
 pub frames-spec : {M : Type 1} → statement M
 frames-spec = tie.close (tie.spec

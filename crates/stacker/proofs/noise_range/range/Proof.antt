@@ -1,7 +1,7 @@
 -- `stacker::noise_range::range`: a refusal returns before the first store; acceptance makes both frames and clears.
 use Rattle.algebra.specs.Prelude.{sym, _∙_, needs}
 use Rattle.sequences.specs.ClearLaws.{zeros-length}
-use Rattle.stacker.specs.RangedLaws.{ranged-refused, range-off, range-lent, range-work, ranged-accepted}
+use Rattle.stacker.specs.RangedLaws.{ranged-refused, frames-lent, ranged-accepted}
 use Rattle.stacker.proofs.noise_range.range.Statement.{statement}
 use Rattle.stacker.proofs.noise_range.range.Tie as tie
 
@@ -14,7 +14,7 @@ frames-requires c κs =
     let m = u .before in
     let tested = m .before in
     let e = sym (tested .before .range-refusal .ensures) ∙ tested .if1 .left in
-    rw (m .merge-of .ensures, u .merge-of2 .ensures) (record { lent = range-lent _ _ _ _ _ _ _ _ _ _ e; work-long = range-work _ _ _ _ _ _ _ _ _ _ e; off = range-off _ _ _ _ _ _ _ _ _ _ e })
+    rw (m .merge-of .ensures, u .merge-of2 .ensures) (frames-lent _ _ _ _ _ _ _ _ _ _ e)
 
 returns-2 : tie.Need-returns-2
 returns-2 c =
@@ -23,7 +23,7 @@ returns-2 c =
     let m = u .before in
     let tested = m .before in
     let made = rw (m .merge-of .ensures, u .merge-of2 .ensures) at (f .frames .ensures) in
-    ranged-accepted _ _ _ _ _ _ _ _ _ _ (sym (tested .before .range-refusal .ensures) ∙ tested .if1 .left) (made .0) (made .1) (c .before .clear .ensures ∙ zeros-length _ _ (search needs))
+    ranged-accepted _ _ _ _ _ _ _ _ _ _ (sym (tested .before .range-refusal .ensures) ∙ tested .if1 .left) (made .low-is) (made .high-is) (c .before .clear .ensures ∙ zeros-length _ _ (search needs))
 
 pub range-spec : {M : Type 1} → statement M
 range-spec = tie.close (tie.spec
