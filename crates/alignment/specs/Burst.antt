@@ -3,11 +3,12 @@ use Rattle.algebra.specs.Prelude.{_≡_, List, ℕ, _-_, _*_, _≤_, _<_, lengt
 use Rattle.sequences.specs.Write.{written}
 use Rattle.geometry.specs.declared.Shape.{Shape}
 use Rattle.geometry.specs.Shape.{vectorLength}
-use Rattle.geometry.specs.Read.{Image}
+use Rattle.geometry.specs.Read.{Image, sampleAt}
 use Rattle.geometry.specs.Tiles.{tileColumns, frameParts}
 use Rattle.geometry.specs.Vectors.{word, partsOf}
-use Rattle.geometry.specs.Fits.{BurstFits, AlignFits, SamplesFit}
-use Rattle.pyramid.specs.Layout.{Levels}
+use Rattle.geometry.specs.Fits.{TileSide, BurstFits, AlignFits, SamplesFit}
+use Rattle.bayer.specs.Frame.{Frame}
+use Rattle.pyramid.specs.Layout.{alignLength, Levels}
 use Rattle.alignment.specs.Frames.{vectorsOf, residualOf}
 use Rattle.alignment.specs.Rows.{rowsOf, countOf, rowsSummed}
 use Rattle.alignment.specs.Magnitudes.{frameRowsMost}
@@ -26,6 +27,13 @@ pub record AlignedBurst (s : Shape) (reference : ℕ) (samples : List ℕ) (vect
   pub sums-are : r .residuals ≡ residualSums s reference samples
   pub rows-are : r .rows ≡ rowsSummed s reference samples
   pub same : length work′ ≡ length work
+
+-- a frame whose pyramid can be laid behind the reference's, which stands at the work area's start
+pub record BehindReference (s : Shape) (reference frame : ℕ) (samples : List ℕ) (work : List ℤ) : Type 0 where
+  pub readable : Frame s frame samples
+  pub sided : TileSide (s .side)
+  pub levels : Levels s (sampleAt s samples reference) 0 work
+  pub room : alignLength s ≤ length work
 
 -- one frame's vectors are written from `to` on, and the reference's pyramid stays
 pub record OneAligned (s : Shape) (reference other : Image) (d : List ℤ) (to : ℕ) (l : List ℤ) (work work′ : List ℤ) (r : Sums) : Type 0 where

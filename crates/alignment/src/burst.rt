@@ -1,12 +1,9 @@
 // The vectors of every other frame of a burst.
 ghost use Prim.Native.Nat.{_+_, _≤_};
 ghost use lib.ListN.{length};
-ghost use Rattle.geometry.specs.Fits.{TileSide};
 ghost use Rattle.geometry.specs.Read.{sampleAt};
 ghost use Rattle.geometry.specs.Tiles.{frameParts};
-ghost use Rattle.pyramid.specs.Layout.{alignLength, Levels};
-ghost use Rattle.bayer.specs.Frame.{Frame};
-ghost use Rattle.alignment.specs.Burst.{Ready, AlignedBurst, OneAligned, ReadyFrame, AlignedFrame};
+ghost use Rattle.alignment.specs.Burst.{Ready, AlignedBurst, BehindReference, OneAligned, ReadyFrame, AlignedFrame};
 use crate::frame::align_levels;
 use fields::Sums;
 use geometry::Shape;
@@ -30,7 +27,7 @@ fn align_frame(
     to: usize,
     work: &mut [i64],
 ) -> Sums
-    requires { ⌜ record { readable : Frame shape frame (now samples); sided : TileSide (shape .side); levels : Levels shape (sampleAt shape (now samples) reference) 0 (now work); room : alignLength shape ≤ length (now work); vectors-room : to + frameParts shape ≤ length (now vectors) } ⌝ }
+    requires { ⌜ (BehindReference shape reference frame (now samples) (now work)) × (to + frameParts shape ≤ length (now vectors)) ⌝ }
     ensures { λ r. ⌜ OneAligned shape (sampleAt shape (now (samples .entry)) reference) (sampleAt shape (now (samples .entry)) frame) (now (vectors .entry)) to (now (vectors .exit)) (now (work .entry)) (now (work .exit)) r ⌝ }
 {
     let at = pyramid::offset(shape, 6);

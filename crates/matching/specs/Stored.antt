@@ -1,12 +1,13 @@
 -- Inner vocabulary: a level's two images where they stand in the work area, and a tile of the reference in a local array.
 use Rattle.algebra.specs.Prelude.{_≡_, Bool, cond, List, ℕ, _+_, _*_, _%_, _≤_, ltb, length, ℤ, negsuc, _+ℤ_}
+use Rattle.geometry.specs.Fits.{TileSide}
 use Rattle.geometry.specs.Read.{read}
 use Rattle.pyramid.specs.Words.{imageAt, Source}
 use Rattle.residuals.specs.declared.Tile.{Tile}
 use Rattle.geometry.specs.declared.vectors.Vector.{Vector}
 use Rattle.matching.specs.declared.Area.{Area}
 use Rattle.matching.specs.declared.Found.{Found}
-use Rattle.matching.specs.Magnitudes.{originMost}
+use Rattle.matching.specs.Magnitudes.{guessMost, originMost}
 use Rattle.search.specs.declared.window.Best.{Best}
 use Rattle.search.specs.Vectors.{_plus_}
 use Rattle.patches.specs.Bounds.{Within}
@@ -14,6 +15,7 @@ use Rattle.search.specs.Offsets.{offset}
 use Rattle.residuals.specs.Residual.{Pair, residual}
 use Rattle.search.specs.Search.{bestVector, guessed}
 use Rattle.search.specs.Rows.{searchRows}
+use Rattle.search.specs.Local.{Kind}
 use Rattle.patches.specs.Copies.{Copied}
 
 -- the images that stand there, read inside and outside
@@ -55,6 +57,34 @@ pub record Roomy (t : Tile) (samples window other : ℕ) : Type 0 where
   pub samples-room : t .side * t .side ≤ samples
   pub window-room : (t .side + 8) * (t .side + 8) ≤ window
   pub other-room : t .side * t .side ≤ other
+
+-- what the sum of a candidate v asks where the window around the own one is there: room for another square
+pub record OtherReady (words : List ℤ) (a : Area) (t : Tile) (samples window other : List ℕ) (v own : Vector) : Type 0 where
+  pub ready : Ready words a t samples
+  pub sided : TileSide (t .side)
+  pub room : t .side * t .side ≤ length other
+  pub around : Around words a t own window
+  pub near : Within guessMost v
+  pub own-near : Within guessMost own
+
+-- what the search around a guess asks: room for the window, and few rows before
+pub record RefineReady (words : List ℤ) (a : Area) (t : Tile) (samples window : List ℕ) (squared : Bool) (guess : Vector) (before : ℕ) : Type 0 where
+  pub ready : Ready words a t samples
+  pub kind : Kind squared (t .side)
+  pub room : (t .side + 8) * (t .side + 8) ≤ length window
+  pub near : Within guessMost guess
+  pub few-before : before ≤ 96
+
+-- and around the best of three candidates
+pub record CandidatesReady (words : List ℤ) (a : Area) (t : Tile) (samples window other : List ℕ) (squared : Bool) (own sideways vertically : Vector) : Type 0 where
+  pub ready : Ready words a t samples
+  pub sided : TileSide (t .side)
+  pub kind : Kind squared (t .side)
+  pub window-room : (t .side + 8) * (t .side + 8) ≤ length window
+  pub other-room : t .side * t .side ≤ length other
+  pub own-near : Within guessMost own
+  pub sideways-near : Within guessMost sideways
+  pub vertically-near : Within guessMost vertically
 
 -- the answer for a tile: a vector, its residual, and the rows summed
 abbrev pub answer : (squared : Bool) → Pair → Tile → Vector → (rows : ℕ) → Found

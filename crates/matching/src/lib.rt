@@ -8,10 +8,10 @@ ghost use Rattle.patches.specs.Bounds.{Within};
 ghost use Rattle.residuals.specs.Residual.{residual};
 ghost use Rattle.geometry.specs.Fits.{TileSide};
 ghost use Rattle.residuals.specs.Local.{squareSum, Compared};
-ghost use Rattle.search.specs.Local.{Window, Kind};
+ghost use Rattle.search.specs.Local.{Window};
 ghost use Rattle.residuals.specs.Magnitudes.{residualMost};
 ghost use Rattle.matching.specs.Magnitudes.{guessMost};
-ghost use Rattle.matching.specs.Stored.{pairIn, Stored, Placed, Ready, Around, Moved, refined, guessedIn, leastOfThree};
+ghost use Rattle.matching.specs.Stored.{pairIn, Stored, Placed, Ready, Around, OtherReady, RefineReady, CandidatesReady, Moved, refined, guessedIn, leastOfThree};
 use geometry::vectors::Vector;
 use patches::copy_square;
 use residuals::Tile;
@@ -160,7 +160,7 @@ fn other_sum(
     v: Vector,
     own: Vector,
 ) -> u64
-    requires { ⌜ record { ready : Ready (now words) area tile (now samples); sided : TileSide (tile .side); room : tile .side * tile .side ≤ length (now other); around : Around (now words) area tile own (now window); near : Within guessMost v; own-near : Within guessMost own } ⌝ }
+    requires { ⌜ OtherReady (now words) area tile (now samples) (now window) (now other) v own ⌝ }
     ensures { λ r. ⌜ r ≡ residual false (pairIn (now (words .entry)) area) tile v ⌝ }
 {
     if same(v, own) {
@@ -193,7 +193,7 @@ pub fn refine(
     guess: Vector,
     before: u64,
 ) -> Found
-    requires { ⌜ record { ready : Ready (now words) area tile (now samples); kind : Kind squared (tile .side); room : (tile .side + 8) * (tile .side + 8) ≤ length (now window); near : Within guessMost guess; few-before : before ≤ 96 } ⌝ }
+    requires { ⌜ RefineReady (now words) area tile (now samples) (now window) squared guess before ⌝ }
     ensures { λ r. ⌜ (r ≡ refined squared (now (words .entry)) area tile guess before) × (r .residual ≤ residualMost) ⌝ }
 {
     copy_window(words, area, tile, guess, &mut *window);
@@ -214,7 +214,7 @@ pub fn refine_candidates(
     sideways: Vector,
     vertically: Vector,
 ) -> Found
-    requires { ⌜ record { ready : Ready (now words) area tile (now samples); sided : TileSide (tile .side); kind : Kind squared (tile .side); window-room : (tile .side + 8) * (tile .side + 8) ≤ length (now window); other-room : tile .side * tile .side ≤ length (now other); own-near : Within guessMost own; sideways-near : Within guessMost sideways; vertically-near : Within guessMost vertically } ⌝ }
+    requires { ⌜ CandidatesReady (now words) area tile (now samples) (now window) (now other) squared own sideways vertically ⌝ }
     ensures { λ r. ⌜ (r ≡ refined squared (now (words .entry)) area tile (guessedIn (now (words .entry)) area tile own sideways vertically) (3 * tile .side)) × (r .residual ≤ residualMost) ⌝ }
 {
     let side = tile.side;

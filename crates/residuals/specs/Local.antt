@@ -1,7 +1,8 @@
 -- Inner vocabulary: squares of samples in local arrays: a square's rows stand one after the other.
-use Rattle.algebra.specs.Prelude.{Bool, List, ℕ, _+_, _*_, _≤_, _<_, length, getD}
+use Rattle.algebra.specs.Prelude.{_≡_, Bool, true, List, ℕ, _+_, _*_, _≤_, _<_, length, getD}
 use Rattle.algebra.specs.Sums.{sumN}
 use Rattle.halving.specs.Magnitudes.{valueMost}
+use Rattle.residuals.specs.Magnitudes.{squaredRowMost}
 use Rattle.residuals.specs.Residual.{gap, difference}
 
 -- the sum of differences of `side` samples, those of the tile from `a` on and of the window from `b` on
@@ -38,3 +39,10 @@ pairSum f tile window start stride = sumN 16 (λ i. sumN 16 (λ j. f (getD tile 
 -- the distances of two pairs of samples, eight apart in their rows
 abbrev pub besideSum : (tile window : List ℕ) → (a b : ℕ) → ℕ
 besideSum tile window a b = gap (getD tile a 0) (getD window b 0) + gap (getD tile (a + 8) 0) (getD window (b + 8) 0)
+
+-- the sums of squares of two rows of a tile of side 16, the upper from `a` on, and the window's of side 24, the upper from `b` on
+pub record SquaredRows (tile window : List ℕ) (a b upper lower : ℕ) : Type 0 where
+  pub upper-is : upper ≡ rowSum true tile window a b 16
+  pub lower-is : lower ≡ rowSum true tile window (a + 16) (b + 24) 16
+  pub upper-most : upper ≤ squaredRowMost
+  pub lower-most : lower ≤ squaredRowMost

@@ -1,15 +1,15 @@
 // Sums of differences over tiles of side 16, in shapes that become vector instructions: samples are at most 16380, so that four of their
 // distances fit 16 bits, 16 of their squares 32 bits.
 ghost use mathlib.Core.Path.{_≡_};
-ghost use mathlib.Core.Bool.{true, false};
+ghost use mathlib.Core.Bool.{false};
 ghost use Prim.Native.Nat.{_+_, _*_, _<_, _≤_};
 ghost use lib.ListN.{getD};
 ghost use Rattle.algebra.specs.Sums.{sumN};
 ghost use Rattle.sequences.specs.Tab.{tab};
 ghost use Rattle.halving.specs.Magnitudes.{valueMost};
-ghost use Rattle.residuals.specs.Magnitudes.{squareMost, squaredRowMost, fourMost, pairMost, totalMost};
+ghost use Rattle.residuals.specs.Magnitudes.{squareMost, fourMost, pairMost, totalMost};
 ghost use Rattle.residuals.specs.Residual.{gap};
-ghost use Rattle.residuals.specs.Local.{rowSum, squareSum, columnSum, besideSum, Compared};
+ghost use Rattle.residuals.specs.Local.{rowSum, squareSum, columnSum, besideSum, Compared, SquaredRows};
 
 // Two samples, the tile's at `a` and the window's at `b`.
 fn apart(tile: &[u16], window: &[u16], a: usize, b: usize) -> u16
@@ -138,7 +138,7 @@ pub struct Two {
 // compiled into the loop over the rows.
 pub fn squared_rows(tile: &[u16], window: &[u16], a: usize, b: usize) -> Two
     requires { ⌜ Compared (now tile) (now window) (a + 32) (b + 40) ⌝ }
-    ensures { λ r. ⌜ record { upper-is : r .upper ≡ rowSum true (now (tile .entry)) (now (window .entry)) a b 16; lower-is : r .lower ≡ rowSum true (now (tile .entry)) (now (window .entry)) (a + 16) (b + 24) 16; upper-most : r .upper ≤ squaredRowMost; lower-most : r .lower ≤ squaredRowMost } ⌝ }
+    ensures { λ r. ⌜ SquaredRows (now (tile .entry)) (now (window .entry)) a b (r .upper) (r .lower) ⌝ }
 {
     let mut upper: u32 = 0;
     let mut lower: u32 = 0;

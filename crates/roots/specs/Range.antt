@@ -1,6 +1,7 @@
 -- What r is worked out for, inside this crate's contracts.
-use Rattle.algebra.specs.Prelude.{_≡_, List, ℕ, _*_, _≤_, length, getD}
+use Rattle.algebra.specs.Prelude.{_≡_, List, ℕ, _+_, _*_, _≤_, length, getD}
 use Rattle.sequences.specs.Grid.{cell}
+use Rattle.recipe.specs.NoiseNumber.{tileRoot}
 
 -- each sample of a row is at most 4095
 pub record RowFits (row : List ℕ) : Type 0 where
@@ -14,3 +15,10 @@ pub record SamplesFit (tile : List (List ℕ)) : Type 0 where
 pub record LanesFit (k : ℕ) (sum : List ℕ) : Type 0 where
   pub long : length sum ≡ 32
   pub most : (l : ℕ) → getD sum l 0 ≤ k * 16769025
+
+-- r of both planes of a pair of tiles of this side, of their black levels; samples up to 4095 have r up to 4095 times the side
+pub record PairRoots (side black black′ : ℕ) (tile : List (List ℕ)) (root root′ : ℕ) : Type 0 where
+  pub first : root ≡ tileRoot side black (λ i j. cell 0 tile i (2 * j))
+  pub second : root′ ≡ tileRoot side black′ (λ i j. cell 0 tile i (2 * j + 1))
+  pub first-most : root ≤ side * 4095
+  pub second-most : root′ ≤ side * 4095

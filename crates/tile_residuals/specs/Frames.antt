@@ -1,5 +1,5 @@
 -- Inner vocabulary: the residuals of a frame, where their vectors stand, and what the loop over the frames asks and leaves.
-use Rattle.algebra.specs.Prelude.{_≡_, false, List, ℕ, _+_, _*_, _/_, _%_, length, getD, ℤ, pos}
+use Rattle.algebra.specs.Prelude.{_≡_, false, List, ℕ, _+_, _*_, _/_, _%_, _≤_, length, getD, ℤ, pos}
 use Rattle.sequences.specs.Write.{written}
 use Rattle.geometry.specs.declared.Shape.{Shape}
 use Rattle.geometry.specs.declared.vectors.Vector.{Vector}
@@ -20,6 +20,12 @@ vectorIn vectors place = record { down = getD vectors place (pos 0); right = get
 -- the residual of a frame's tile number k, whose word is that many behind `to`
 unfoldable pub residualIn : (side : ℕ) → Pair → (columns : ℕ) → List ℤ → (to k : ℕ) → ℕ
 residualIn side p columns vectors to k = residual false p (levelTile (finestLevel side) (k / columns) (k % columns)) (vectorIn vectors (2 * (to + k)))
+
+-- n residuals from `to` on lie within the lent words, and their vectors, from twice that place on, within the lent parts
+pub record Lent (to n : ℕ) (vectors : List ℤ) (residuals : List ℕ) : Type 0 where
+  pub vectors-fit : VectorsFit vectors
+  pub vectors-room : 2 * (to + n) ≤ length vectors
+  pub room : to + n ≤ length residuals
 
 -- one frame's are written from `to` on, and the reference's pyramid stays
 pub record Measured (s : Shape) (reference other : Image) (vectors : List ℤ) (to : ℕ) (d l : List ℕ) (work work′ : List ℤ) : Type 0 where

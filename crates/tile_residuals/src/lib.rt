@@ -1,20 +1,19 @@
 // The finest residual of each tile of a burst's other frames, at lent vectors.
 ghost use mathlib.Core.Path.{_≡_};
 ghost use mathlib.Core.Bool.{false};
-ghost use Prim.Native.Nat.{_+_, _*_, _≤_, _<_};
+ghost use Prim.Native.Nat.{_+_, _*_, _<_};
 ghost use lib.ListN.{length};
 ghost use Rattle.sequences.specs.Write.{written};
 ghost use Rattle.geometry.specs.Fits.{TileSide, VectorsFit};
 ghost use Rattle.geometry.specs.Read.{sampleAt};
 ghost use Rattle.limits.specs.Residuals.{frameTiles};
-ghost use Rattle.bayer.specs.Frame.{Frame};
-ghost use Rattle.pyramid.specs.Layout.{alignLength, Levels};
 ghost use Rattle.patches.specs.Bounds.{Within};
 ghost use Rattle.residuals.specs.Residual.{residual};
 ghost use Rattle.matching.specs.Magnitudes.{guessMost};
 ghost use Rattle.matching.specs.Stored.{pairIn, Stored, Placed};
 ghost use Rattle.fields.specs.Loops.{Few};
-ghost use Rattle.tile_residuals.specs.Frames.{vectorIn, residualIn, Measured, Ready, MeasuredBurst};
+ghost use Rattle.alignment.specs.Burst.{BehindReference};
+ghost use Rattle.tile_residuals.specs.Frames.{vectorIn, residualIn, Lent, Measured, Ready, MeasuredBurst};
 use alignment::frame::area_at;
 use geometry::Shape;
 use geometry::tiles::tile_columns;
@@ -71,7 +70,7 @@ fn frame_residuals(
     rows: usize,
     columns: usize,
 )
-    requires { ⌜ record { stored : Stored (now work) area; sided : TileSide side; few : Few rows columns; vectors-fit : VectorsFit (now vectors); vectors-room : 2 * (to + rows * columns) ≤ length (now vectors); room : to + rows * columns ≤ length (now residuals) } ⌝ }
+    requires { ⌜ record { stored : Stored (now work) area; sided : TileSide side; few : Few rows columns; lent : Lent to (rows * columns) (now vectors) (now residuals) } ⌝ }
     ensures { λ _. ⌜ now (residuals .exit) ≡ written (now (residuals .entry)) to (residualIn side (pairIn (now (work .entry)) area) columns (now (vectors .entry)) to) (rows * columns) ⌝ }
 {
     for k in 0..rows * columns {
@@ -92,7 +91,7 @@ fn measure_frame(
     to: usize,
     work: &mut [i64],
 )
-    requires { ⌜ record { readable : Frame shape frame (now samples); sided : TileSide (shape .side); levels : Levels shape (sampleAt shape (now samples) reference) 0 (now work); room : alignLength shape ≤ length (now work); vectors-fit : VectorsFit (now vectors); vectors-room : 2 * (to + frameTiles shape) ≤ length (now vectors); residuals-room : to + frameTiles shape ≤ length (now residuals) } ⌝ }
+    requires { ⌜ (BehindReference shape reference frame (now samples) (now work)) × (Lent to (frameTiles shape) (now vectors) (now residuals)) ⌝ }
     ensures { λ _. ⌜ Measured shape (sampleAt shape (now (samples .entry)) reference) (sampleAt shape (now (samples .entry)) frame) (now (vectors .entry)) to (now (residuals .entry)) (now (residuals .exit)) (now (work .entry)) (now (work .exit)) ⌝ }
 {
     let at = pyramid::offset(shape, 6);

@@ -36,7 +36,7 @@ tile-at-requires c κs =
 vector-at-requires : tie.Need-vector-at-requires Inv-loop μ-loop
 vector-at-requires c κs =
     let s = c .before .before .before .before in
-    (omega arith, s .pre .vectors-fit)
+    (omega (arith, s .pre .lent .vectors-room), s .pre .lent .vectors-fit)
 
 residual-at-requires : tie.Need-residual-at-requires Inv-loop μ-loop
 residual-at-requires c κs =
@@ -52,7 +52,7 @@ loop-again c =
 
 pub frame-residuals-spec : {M : Type 1} → statement M
 frame-residuals-spec = tie.close (tie.spec
-    Inv-loop μ-loop (λ c. omega (arith, tiles-few (c .before .pre .few))) (λ c. write-start (c .before .pre .room)) (λ c. search needs) (λ c. search needs)
+    Inv-loop μ-loop (λ c. omega (arith, tiles-few (c .before .pre .few))) (λ c. write-start (c .before .pre .lent .room)) (λ c. search needs) (λ c. search needs)
     tile-at-requires (λ c. search needs) (λ c. search needs) vector-at-requires residual-at-requires
     (λ c. search needs) (λ c. search needs) (λ c. search needs) (λ c. search needs) (λ c. search needs)
     loop-again (λ c. search needs) (λ c. write-done (c .before .loop .inv) (omega arith)))

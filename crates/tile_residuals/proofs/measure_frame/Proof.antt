@@ -18,7 +18,7 @@ use Rattle.tile_residuals.proofs.measure_frame.Tie as tie
 build-requires : tie.Need-build-requires
 build-requires c κs =
     let start = c .before .before .before .before in
-    (start .pre .readable, omega (arith, two-pyramids (start .args .shape) (start .pre .room), c .before .offset .ensures .0))
+    (start .pre .0 .readable, omega (arith, two-pyramids (start .args .shape) (start .pre .0 .room), c .before .offset .ensures .0))
 
 -- the frame's pyramid stands behind the reference's
 built : (c : tie.After-build) →
@@ -38,12 +38,10 @@ frame-residuals-requires c κs =
     let wide = columns .tile-columns .ensures in
     let high = rows .tile-rows .ensures in
     record {
-      stored = rw (area .area-at .ensures) (both-standing (start .pre .readable .sampled .allowed) (start .pre .sided) (start .pre .levels) (built laid) .stored 0);
-      sided = start .pre .sided;
+      stored = rw (area .area-at .ensures) (both-standing (start .pre .0 .readable .sampled .allowed) (start .pre .0 .sided) (start .pre .0 .levels) (built laid) .stored 0);
+      sided = start .pre .0 .sided;
       few = record { some-columns = omega (arith, wide .0); few-rows = high .1; few-columns = wide .1 };
-      vectors-fit = start .pre .vectors-fit;
-      vectors-room = rw (high .0, wide .0) (start .pre .vectors-room);
-      room = rw (high .0, wide .0) (start .pre .residuals-room);
+      lent = rw (high .0, wide .0) (start .pre .1);
     }
 
 told : (s : Shape) (l vectors : List ℤ) (to : ℕ) (e : List ℕ) {area : Area} {rows columns : ℕ} {e′ : List ℕ} → e′ ≡ written e to (residualIn (s .side) (pairIn l area) columns vectors to) (rows * columns) → area ≡ areaAt s 0 → rows ≡ tileRows s → columns ≡ tileColumns s → e′ ≡ written e to (residualIn (s .side) (pairsIn s l 0) (tileColumns s) vectors to) (frameTiles s)
@@ -61,7 +59,7 @@ returns c =
     let laid = area .before .before in
     let start = laid .before .before .before .before .before in
     let a = start .args in
-    frame-measured (start .pre .readable .sampled .allowed) (start .pre .levels) (built laid)
+    frame-measured (start .pre .0 .readable .sampled .allowed) (start .pre .0 .levels) (built laid)
     (told (a .shape) (laid .build .last .1 .1 .1 .0) (a .vectors .now) (a .to) (a .residuals .now) (c .before .before .frame-residuals .ensures) (area .area-at .ensures) (rows .tile-rows .ensures .0) (columns .tile-columns .ensures .0))
 
 pub measure-frame-spec : {M : Type 1} → statement M

@@ -57,16 +57,15 @@ measure-frame-requires c κs =
     let few = burst .allowed .few in
     let same = inv .same in
     let place = ap₂ (λ m n. loop .loop .k * (m * n)) (columns .before .tile-rows .ensures .0) (columns .tile-columns .ensures .0) in
-    let room = rooms (start .args .shape) (loop .loop .k) place (burst .vectors-long) (inv .writing .same ∙ start .pre .residuals-long) (omega arith) in
-    record {
-      readable = frame-of (start .pre .fits .burst) (start .pre .samples-fit) _ (omega (arith, c .before .before .other-frame .ensures .1));
-      sided = burst .sided;
-      levels = inv .levels;
-      room = omega (arith, work-room (start .pre .fits), columns .before .before .before .build .ensures .same);
-      vectors-fit = start .pre .vectors-fit;
-      vectors-room = room .0;
-      residuals-room = room .1;
-    }
+    let room = rooms (start .args .shape) (loop .loop .k) place (burst .vectors-long) (inv .writing .same ∙ start .pre .residuals-long) (omega arith) in (
+      record {
+        readable = frame-of (start .pre .fits .burst) (start .pre .samples-fit) _ (omega (arith, c .before .before .other-frame .ensures .1));
+        sided = burst .sided;
+        levels = inv .levels;
+        room = omega (arith, work-room (start .pre .fits), columns .before .before .before .build .ensures .same);
+      },
+      record { vectors-fit = start .pre .vectors-fit; vectors-room = room .0; room = room .1 },
+    )
 
 loop-again : tie.Need-loop-again Inv-loop μ-loop
 loop-again c =

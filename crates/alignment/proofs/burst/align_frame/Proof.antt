@@ -9,7 +9,7 @@ use Rattle.alignment.proofs.burst.align_frame.Tie as tie
 build-requires : tie.Need-build-requires
 build-requires c κs =
     let start = c .before .before .before in
-    (start .pre .readable, omega (arith, two-pyramids (start .args .shape) (start .pre .room), c .before .offset .ensures .0))
+    (start .pre .0 .readable, omega (arith, two-pyramids (start .args .shape) (start .pre .0 .room), c .before .offset .ensures .0))
 
 -- the frame's pyramid stands behind the reference's
 built : (c : tie.After-build) →
@@ -24,13 +24,13 @@ align-levels-requires c κs =
     let start = c .before .before .before .before .before .before .before in
     let b = built (c .before .before .before) in
     let same = b .same in
-    let ok = start .pre .readable .sampled .allowed in
-    (record { allowed = ok; sided = start .pre .sided; standing = both-standing ok (start .pre .sided) (start .pre .levels) b; room = omega (arith, start .pre .room) }, start .pre .vectors-room)
+    let ok = start .pre .0 .readable .sampled .allowed in
+    (record { allowed = ok; sided = start .pre .0 .sided; standing = both-standing ok (start .pre .0 .sided) (start .pre .0 .levels) b; room = omega (arith, start .pre .0 .room) }, start .pre .1)
 
 returns : tie.Need-returns
 returns c =
     let start = c .before .before .before .before .before .before .before .before .before .before in
-    one-aligned (start .pre .readable .sampled .allowed) (start .pre .sided) (start .pre .levels) (built (c .before .before .before .before .before .before)) (c .before .before .align-levels .ensures)
+    one-aligned (start .pre .0 .readable .sampled .allowed) (start .pre .0 .sided) (start .pre .0 .levels) (built (c .before .before .before .before .before .before)) (c .before .before .align-levels .ensures)
 
 pub align-frame-spec : {M : Type 1} → statement M
 align-frame-spec = tie.close (tie.spec

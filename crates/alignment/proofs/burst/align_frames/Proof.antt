@@ -39,14 +39,15 @@ align-frame-requires c κs =
     let few = burst .allowed .few in
     let same = inv .same in
     let long = inv .writing .same in
-    let place = ap (λ n. loop .loop .k * n) (loop .before .before .frame-parts .ensures .0) in
-    record {
-      readable = frame-of (start .pre .fits .burst) (start .pre .samples-fit) _ (omega (arith, c .before .before .other-frame .ensures .1));
-      sided = burst .sided;
-      levels = inv .levels;
-      room = omega (arith, work-room (start .pre .fits), loop .before .before .before .before .build .ensures .same);
-      vectors-room = omega (arith, place, burst .vectors-long, place-room (start .args .shape) (loop .loop .k) (omega arith));
-    }
+    let place = ap (λ n. loop .loop .k * n) (loop .before .before .frame-parts .ensures .0) in (
+      record {
+        readable = frame-of (start .pre .fits .burst) (start .pre .samples-fit) _ (omega (arith, c .before .before .other-frame .ensures .1));
+        sided = burst .sided;
+        levels = inv .levels;
+        room = omega (arith, work-room (start .pre .fits), loop .before .before .before .before .build .ensures .same);
+      },
+      omega (arith, place, burst .vectors-long, place-room (start .args .shape) (loop .loop .k) (omega arith)),
+    )
 
 array-write-sums : tie.Need-array-write-sums Inv-loop μ-loop
 array-write-sums c =

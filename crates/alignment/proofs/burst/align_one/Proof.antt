@@ -14,14 +14,15 @@ align-frame-requires : tie.Need-align-frame-requires
 align-frame-requires c κs =
     let built = c .before .before .before .before in
     let start = built .before .before .before in
-    let burst = start .pre .burst in
-    record {
-      readable = frame-of burst (start .pre .samples-fit) _ (omega (arith, burst .allowed .few, start .pre .other-in, c .before .before .other-frame .ensures .1));
-      sided = burst .sided;
-      levels = built .build .ensures .levels;
-      room = omega (arith, frame-room burst (start .pre .room), built .build .ensures .same);
-      vectors-room = omega (arith, start .pre .vectors-long);
-    }
+    let burst = start .pre .burst in (
+      record {
+        readable = frame-of burst (start .pre .samples-fit) _ (omega (arith, burst .allowed .few, start .pre .other-in, c .before .before .other-frame .ensures .1));
+        sided = burst .sided;
+        levels = built .build .ensures .levels;
+        room = omega (arith, frame-room burst (start .pre .room), built .build .ensures .same);
+      },
+      omega (arith, start .pre .vectors-long),
+    )
 
 returns : tie.Need-returns
 returns c =
