@@ -57,16 +57,17 @@ pub fn wiener_of(b: &[[f64; 32]; 16], first: u64, second: u64) -> [[f64; 32]; 16
     g
 }
 
-// The same from B by value, for the merge as `forward`.
-fn wiener(b: [[f64; 32]; 16], first: u64, second: u64) -> [[f64; 32]; 16]
-    requires { ⌜ record { binned : BinnedPair b; first-most : first ≤ noiseMost; second-most : second ≤ noiseMost } ⌝ }
-    ensures { λ r. ⌜ ((w : BinnedPair b) → r ≡ doubles (sideBySide (λ p. transposed (spread (gainRe (either first second p) (w .plane p)) (gainIm (either first second p) (w .plane p)))))) ⌝ }
+// The folded G of both planes from their differences, for the merge as `forward`: where a quotient is in doubt B is made anew, so that no copy of it is kept.
+fn gains(d: &[[i16; 32]; 16], first: u64, second: u64) -> [[f64; 32]; 16]
+    requires { ⌜ record { differences : TileMost differenceMost (now d); first-most : first ≤ noiseMost; second-most : second ≤ noiseMost } ⌝ }
+    ensures { λ r. ⌜ r ≡ doubles (sideBySide (λ p. transposed (spread (gainRe (either first second p) (twoWay (planeIn (cell (pos 0) (now (d .entry))) p))) (gainIm (either first second p) (twoWay (planeIn (cell (pos 0) (now (d .entry))) p)))))) ⌝ }
 {
-    let mut g = b;
+    let mut g = forward(*d);
     if filter(&mut g, first, second) {
         return g;
     }
-    g = b;
+    g = [[0.0f64; 32]; 16];
+    forward_into(d, &mut g);
     filter_exactly(&mut g, first, second);
     g
 }
@@ -95,7 +96,6 @@ pub fn add_corrections(d: &[[i16; 32]; 16], first: u64, second: u64, sum: &mut [
     ensures { λ _. ⌜ now (sum .exit) ≡ grid 16 32 (λ y l. cell (pos 0) (now (sum .entry)) y l +ℤ correctionAt side16 (either first second (l % 2)) (planeIn (cell (pos 0) (now (d .entry))) (l % 2)) y (l / 2)) ⌝ }
 {
     let low = low_noise(first, second);
-    let b = forward(*d);
-    let g = wiener(b, first, second);
+    let g = gains(d, first, second);
     add_inverse(g, low, &mut *sum);
 }

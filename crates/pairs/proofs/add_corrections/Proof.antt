@@ -3,7 +3,7 @@ use Rattle.algebra.specs.Prelude.{_∙_, ℕ, ℤ, needs, pos, now}
 use Rattle.sequences.specs.Grid.{cell}
 use Rattle.spectrum.specs.Spectrum.{twoWay}
 use Rattle.spectrum.specs.Pairs.{planeIn}
-use Rattle.pairs.proofs.Corrections.{binned-pair, folded-whole, corrections-are}
+use Rattle.pairs.proofs.Corrections.{folded-whole, corrections-are}
 use Rattle.pairs.proofs.add_corrections.Statement.{statement}
 use Rattle.pairs.proofs.add_corrections.Tie as tie
 
@@ -11,20 +11,13 @@ use Rattle.pairs.proofs.add_corrections.Tie as tie
 abbrev bins : tie.Start → ℕ → ℕ → ℕ → ℤ
 bins s p = twoWay (planeIn (cell (pos 0) (now (s .args .d))) p)
 
-wiener-requires : tie.Need-wiener-requires
-wiener-requires c κs =
-    let s = c .before .before .before in
-    record { binned = binned-pair (s .pre .differences) (c .forward .ensures); first-most = s .pre .first-most; second-most = s .pre .second-most }
-
 add-inverse-requires : tie.Need-add-inverse-requires
 add-inverse-requires c κs =
     let g = c .before in
-    let b = g .before in
-    let low = b .before .before in
+    let low = g .before in
     let s = low .before in
-    let e = g .wiener .ensures (binned-pair (s .pre .differences) (b .forward .ensures)) in
     record {
-      whole = folded-whole (s .args .first) (s .args .second) (bins s) (low .low-noise .result) (low .low-noise .ensures) (s .pre .first-most) (s .pre .second-most) e;
+      whole = folded-whole (s .args .first) (s .args .second) (bins s) (low .low-noise .result) (low .low-noise .ensures) (s .pre .first-most) (s .pre .second-most) (g .gains .ensures);
       sums-most = s .pre .sums-most;
       paired = s .pre .paired;
     }
@@ -32,13 +25,11 @@ add-inverse-requires c κs =
 returns : tie.Need-returns
 returns c =
     let g = c .before .before in
-    let b = g .before in
-    let low = b .before .before in
+    let low = g .before in
     let s = low .before in
-    let e = g .wiener .ensures (binned-pair (s .pre .differences) (b .forward .ensures)) in
-    c .add-inverse .ensures (folded-whole (s .args .first) (s .args .second) (bins s) (low .low-noise .result) (low .low-noise .ensures) (s .pre .first-most) (s .pre .second-most) e)
+    c .add-inverse .ensures (folded-whole (s .args .first) (s .args .second) (bins s) (low .low-noise .result) (low .low-noise .ensures) (s .pre .first-most) (s .pre .second-most) (g .gains .ensures))
     ∙ corrections-are (s .args .first) (s .args .second) (cell (pos 0) (now (s .args .d))) (now (s .args .sum))
 
 pub add-corrections-spec : {M : Type 1} → statement M
 add-corrections-spec = tie.close (tie.spec
-    (λ c κs. search needs) (λ c κs. c .before .before .pre .differences) wiener-requires add-inverse-requires returns)
+    (λ c κs. search needs) (λ c κs. search needs) add-inverse-requires returns)

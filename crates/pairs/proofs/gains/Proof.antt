@@ -1,0 +1,48 @@
+-- `pairs::gains`: B, and one of the two filters in its place.
+use Rattle.algebra.specs.Prelude.{refl, ℕ, ℤ, arith, pos, now}
+use lib.Ieee.{binary64, ofBits}
+use Rattle.sequences.specs.Tab.{tab}
+use Rattle.sequences.specs.Grid.{grid, cell}
+use Rattle.spectrum.specs.Spectrum.{twoWay}
+use Rattle.spectrum.specs.Pairs.{planeIn, doubles}
+use Rattle.pairs.proofs.ColumnLaws.{paired-grid}
+use Rattle.pairs.proofs.Corrections.{plane-binned, binned-pair}
+use Rattle.pairs.proofs.gains.Statement.{statement}
+use Rattle.pairs.proofs.gains.Tie as tie
+
+-- the bins of plane p of the differences
+abbrev bins : tie.Start → ℕ → ℕ → ℕ → ℤ
+bins s p = twoWay (planeIn (cell (pos 0) (now (s .args .d))) p)
+
+filter-requires : tie.Need-filter-requires
+unfolding doubles
+filter-requires c κs =
+    let b = c .before in
+    let s = b .before .before in
+    record { paired = paired-grid _ (b .forward .ensures); first-most = s .pre .first-most; second-most = s .pre .second-most }
+
+returns : tie.Need-returns
+returns c =
+    let f = c .before in
+    let b = f .before .before in
+    let s = b .before .before in
+    f .filter .ensures (c .if1 .taken) (bins s) (plane-binned (s .pre .differences) 0) (plane-binned (s .pre .differences) 1) (b .forward .ensures)
+
+forward-into-requires : tie.Need-forward-into-requires
+unfolding grid tab
+forward-into-requires c κs = (c .before .before .before .before .before .before .pre .differences, paired-grid (λ k l. ofBits binary64 0) refl)
+
+filter-exactly-requires : tie.Need-filter-exactly-requires
+filter-exactly-requires c κs =
+    let b = c .before in
+    let s = b .before .before .before .before .before .before .before in
+    record { binned = binned-pair (s .pre .differences) (b .forward-into .ensures); first-most = s .pre .first-most; second-most = s .pre .second-most }
+
+returns-2 : tie.Need-returns-2
+returns-2 c =
+    let b = c .before .before in
+    let s = b .before .before .before .before .before .before .before in
+    c .filter-exactly .ensures (binned-pair (s .pre .differences) (b .forward-into .ensures))
+
+pub gains-spec : {M : Type 1} → statement M
+gains-spec = tie.close (tie.spec (λ c κs. c .before .pre .differences) filter-requires returns forward-into-requires filter-exactly-requires returns-2)
