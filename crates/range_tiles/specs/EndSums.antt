@@ -26,12 +26,12 @@ endSum end s lower upper rowParity columnParity a b i j =
 abbrev pub pairSum : EndAt → Scene → Site → (lower upper : Noises) → ℕ → ℕ → ℤ
 pairSum end s t lower upper = sideBySide (λ p. endSum end s (noiseOf lower p) (noiseOf upper p) (t .«row_parity») p (t .row) (t .column))
 
--- r is they
+-- r is these sums, each of at most `smallMost` for every other frame
 pub record EndSummed (end : EndAt) (s : Scene) (t : Site) (lower upper : Noises) (r : List (List ℤ)) : Type 0 where
   pub is : r ≡ grid 16 32 (pairSum end s t lower upper)
   pub most : (i l : ℕ) → i < 16 → l < 32 → natAbs (pairSum end s t lower upper i l) ≤ s .others * smallMost
 
--- of both ends
+-- the sums of both ends
 pub record EndsSummed (s : Scene) (t : Site) (lower upper : Noises) (greatest least : List (List ℤ)) : Type 0 where
   pub greatests : EndSummed greatestAt s t lower upper greatest
   pub leasts : EndSummed leastAt s t lower upper least
@@ -59,13 +59,13 @@ pub record UpperFits (upper : Upper) : Type 0 where
 abbrev pub atNoises : {A : Type 1} → (R : (lower upper : Scene) → A) → Merge → Upper → List ℕ → List ℤ → A
 atNoises R m upper samples vectors = R (sceneAt side16 m samples vectors) (sceneAt side16 (raised m upper) samples vectors)
 
--- ---- what is lent
-
 -- v is V of two tiles by their r
 pub record NoisesAre (strength shot read r₀ r₁ : ℕ) (v : Noises) : Type 0 where
   pub first-is : v .first ≡ noiseNumber side16 strength shot read r₀
   pub second-is : v .second ≡ noiseNumber side16 strength shot read r₁
   pub fits : NoisesFit v
+
+-- ---- what is lent
 
 -- both pairs of sums are 0
 pub record Cleared (greatest least : List (List ℤ)) : Type 0 where

@@ -56,7 +56,7 @@ fn sum_ends(
     }
 }
 
-// The same; all 0 where all four V are.
+// The same; all 0 where the four V are.
 fn summed(
     m: Merge,
     samples: &[u16],
