@@ -19,6 +19,7 @@ use Rattle.lines.specs.Fold.{foldedOf, everySecond}
 use Rattle.lines.specs.HalfSumLaws.{basis-most}
 use Rattle.lines.specs.Doubles.{doubleLine}
 use Rattle.lines.specs.Magnitudes.{longSumMost}
+use Rattle.double_lines32.specs.Parts.{InParts}
 use Rattle.lines.specs.DoubleForms.{floats, inDouble, allCount, exprs, at, forms-are, from, from-is, picked}
 
 -- what the numbers of parity q add to place k, as an expression
@@ -76,11 +77,11 @@ module _ (z : ℕ → ℤ) (most : (k : ℕ) → natAbs (z k) ≤ longSumMost) w
   places-are =
       rings (tab 16 z) (joins _⊞_ _⊟_ (λ j. partE (parity j) (place j))) (tab 16 (λ i. sumE 16 (λ n. ring.var n ⊠ con (basisOf side32 (2 * i + 1) n)))) tt
 
-  module _ {a b c d : List Float} (p : a ≡ doubleLine 4 (λ i. foldedOf side32 (everySecond 0 z) (2 * i + 1))) (q : b ≡ doubleLine 4 (λ i. foldedOf side32 (everySecond 1 z) (2 * i + 1))) (r : c ≡ doubleLine 4 (λ i. foldedOf side32 (everySecond 0 z) (2 * i + 17))) (s : d ≡ doubleLine 4 (λ i. foldedOf side32 (everySecond 1 z) (2 * i + 17))) where
+  module _ {a b c d : List Float} (w : InParts z a b c d) where
     -- the four parts, as the code reads them
     abbrev read : (a b c d : List Float) → List Float
     read a b c d = joins (add binary64) (sub binary64) (λ j. getD (getD (a ∷ b ∷ c ∷ d ∷ []) (j / 4) []) (j % 4) nan)
 
     pub joined-are : read a b c d ≡ doubleLine 16 (λ i. foldedOf side32 z (2 * i + 1))
     unfolding tab
-    joined-are = rw (p, q, r, s) (parts-are ∙ ap inDouble places-are)
+    joined-are = rw (w .even-cosines, w .odd-cosines, w .even-sines, w .odd-sines) (parts-are ∙ ap inDouble places-are)

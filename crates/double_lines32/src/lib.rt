@@ -2,8 +2,8 @@
 // places are those of the sums' lines of sixteen, with the kernels of `double_lines`; the odd places have a kernel of their own. Number n of line p stands at
 // 2n + p.
 ghost use mathlib.Core.Path.{_≡_};
-ghost use Prim.Native.Nat.{ℕ, _+_, _*_, _/_, _%_, _≤_, _<_};
-ghost use lib.IntN.{ℤ, pos, natAbs, _+ℤ_, _-ℤ_};
+ghost use Prim.Native.Nat.{ℕ, _+_, _*_, _/_, _%_, _<_};
+ghost use lib.IntN.{ℤ, pos, _+ℤ_, _-ℤ_};
 ghost use lib.ListN.{length, getD};
 ghost use Rattle.recipe.specs.Tables.{side16};
 ghost use Rattle.recipe.specs.Tables32.{side32};
@@ -12,6 +12,7 @@ ghost use Rattle.lines.specs.Halfcomplex.{halfcomplexOf};
 ghost use Rattle.lines.specs.Fold.{foldedOf, everySecond};
 ghost use Rattle.lines.specs.Magnitudes.{longLineMost, longSumMost};
 ghost use Rattle.lines.specs.Doubles.{doubleLine, From};
+ghost use Rattle.double_lines32.specs.Parts.{Halved, InParts};
 
 // C(0) to C(7)
 const C0: f64 = 16384.0;
@@ -79,7 +80,7 @@ fn differences_again(s: &[f64; 32]) -> [f64; 16]
 // The even places of line p, from the sums a and the differences b of its sums: the places of a line of sixteen.
 fn even_of(a: &[f64; 16], b: &[f64; 16], p: usize) -> [f64; 16]
     requires { ⌜ p < 2 ⌝ }
-    ensures { λ r. ⌜ ((z : ℕ → ℤ) → ((k : ℕ) → natAbs (z k) ≤ longSumMost) → now (a .entry) ≡ doubleLine 16 (λ i. z i +ℤ z (i + 16)) → now (b .entry) ≡ doubleLine 16 (λ i. z i -ℤ z (i + 16)) → r ≡ doubleLine 16 (halfcomplexOf side16 (λ n. z (2 * n + p)))) ⌝ }
+    ensures { λ r. ⌜ ((z : ℕ → ℤ) → Halved z (now (a .entry)) (now (b .entry)) → r ≡ doubleLine 16 (halfcomplexOf side16 (λ n. z (2 * n + p)))) ⌝ }
 {
     let e = double_lines::even_of(a, p);
     let o = double_lines::odd_of(b, p);
@@ -163,7 +164,7 @@ fn odd_sines(t: &[f64; 32], p: usize) -> [f64; 4]
 
 // The odd places from these parts: from number k to number 16 − k of the transform the odd numbers' cosines change their sign, and the even numbers' sines.
 fn joined(a: &[f64; 4], b: &[f64; 4], c: &[f64; 4], d: &[f64; 4]) -> [f64; 16]
-    ensures { λ r. ⌜ ((z : ℕ → ℤ) → ((k : ℕ) → natAbs (z k) ≤ longSumMost) → now (a .entry) ≡ doubleLine 4 (λ i. foldedOf side32 (everySecond 0 z) (2 * i + 1)) → now (b .entry) ≡ doubleLine 4 (λ i. foldedOf side32 (everySecond 1 z) (2 * i + 1)) → now (c .entry) ≡ doubleLine 4 (λ i. foldedOf side32 (everySecond 0 z) (2 * i + 17)) → now (d .entry) ≡ doubleLine 4 (λ i. foldedOf side32 (everySecond 1 z) (2 * i + 17)) → r ≡ doubleLine 16 (λ i. foldedOf side32 z (2 * i + 1))) ⌝ }
+    ensures { λ r. ⌜ ((z : ℕ → ℤ) → InParts z (now (a .entry)) (now (b .entry)) (now (c .entry)) (now (d .entry)) → r ≡ doubleLine 16 (λ i. foldedOf side32 z (2 * i + 1))) ⌝ }
 {
     [
         a[0] + b[0],

@@ -1,7 +1,9 @@
 -- Lines of whole numbers in double.
-use Rattle.algebra.specs.Prelude.{_≡_, cond, List, ℕ, _-_, _≤_, ltb, getD, ℤ, natAbs}
+use Rattle.algebra.specs.Prelude.{_≡_, cond, List, ℕ, _-_, _/_, _%_, _≤_, ltb, getD, ℤ, natAbs}
 use lib.Ieee.{Float, nan, binary64, ofInt, add, sub}
 use Rattle.sequences.specs.Tab.{tab}
+use Rattle.recipe.specs.Side.{Side}
+use Rattle.lines.specs.Halfcomplex.{halfSumOf}
 
 -- z 0, .., z (n − 1)
 abbrev pub doubleLine : ℕ → (ℕ → ℤ) → List Float
@@ -10,6 +12,10 @@ doubleLine n z = tab n (λ i. ofInt binary64 (z i))
 -- what holds where x holds n whole numbers of at most m
 abbrev pub From : (m n : ℕ) → List Float → ((ℕ → ℤ) → Type 0) → Type 0
 From m n x holds = (z : ℕ → ℤ) → ((k : ℕ) → natAbs (z k) ≤ m) → x ≡ doubleLine n z → holds z
+
+-- x holds half of the sums back of two rows side by side, where h holds rows of n numbers in all, each of at most m
+abbrev pub HalvesOf : Side → (m n : ℕ) → (h x : List Float) → Type 0
+HalvesOf s m n h x = (g : ℕ → ℕ → ℤ) → ((p k : ℕ) → natAbs (g p k) ≤ m) → h ≡ doubleLine n (λ l. g (l % 2) (l / 2)) → x ≡ doubleLine n (λ l. halfSumOf s (g (l % 2)) (l / 2))
 
 -- a whole number of at most m in double
 pub record WholeDouble (m : ℕ) (x : Float) : Type 0 where

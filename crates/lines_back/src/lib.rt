@@ -4,15 +4,16 @@
 ghost use mathlib.Core.Path.{_≡_};
 ghost use mathlib.Core.Bool.{true, false};
 ghost use mathlib.Core.List.{[], _∷_};
-ghost use Prim.Native.Nat.{ℕ, _+_, _*_, _/_, _%_, _^_, _≤_, _<_};
-ghost use lib.IntN.{ℤ, pos, natAbs, _+ℤ_, _-ℤ_};
+ghost use Prim.Native.Nat.{_+_, _*_, _/_, _%_, _^_, _<_};
+ghost use lib.IntN.{pos, _+ℤ_, _-ℤ_};
 ghost use lib.ListN.{length};
 ghost use Rattle.sequences.specs.Tab.{tab};
 ghost use lib.Ieee.{binary64, ofInt, toSigned};
+ghost use Rattle.recipe.specs.Tables.{side16};
 ghost use Rattle.lines.specs.Halfcomplex.{backward, halfSum};
 ghost use Rattle.lines.specs.Fold.{evenSum, oddSum, evenHalf};
 ghost use Rattle.lines.specs.Magnitudes.{foldMost, columnMost};
-ghost use Rattle.lines.specs.Doubles.{doubleLine, From, WholeDouble, WholeRow, joinedAt};
+ghost use Rattle.lines.specs.Doubles.{doubleLine, From, HalvesOf, WholeDouble, WholeRow, joinedAt};
 
 // C(0) to C(3)
 const C0: f64 = 16384.0;
@@ -142,7 +143,7 @@ fn odd_of(h: &[f64; 32], p: usize) -> [f64; 8]
 // Half of the transposed sums of two rows, in which places 0 and 8 count once and the others twice, where noise is low.
 pub fn halves(h: &[f64; 32], x: &mut [f64; 32])
     requires { ⌜ length (now x) ≡ 32 ⌝ }
-    ensures { λ _. ⌜ record { long : length (now (x .exit)) ≡ 32; is : (g : ℕ → ℕ → ℤ) → ((p k : ℕ) → natAbs (g p k) ≤ columnMost true) → now (h .entry) ≡ doubleLine 32 (λ l. g (l % 2) (l / 2)) → now (x .exit) ≡ doubleLine 32 (λ l. halfSum (g (l % 2)) (l / 2)) } ⌝ }
+    ensures { λ _. ⌜ record { long : length (now (x .exit)) ≡ 32; is : HalvesOf side16 (columnMost true) 32 (now (h .entry)) (now (x .exit)) } ⌝ }
 {
     let s0 = even_of(h, 0);
     let s1 = even_of(h, 1);
@@ -158,7 +159,7 @@ pub fn halves(h: &[f64; 32], x: &mut [f64; 32])
 
 // The same by value, for other callers than the merge of side 16: `halves` has that one alone, so that it is compiled into it.
 pub fn halves_of(h: &[f64; 32]) -> [f64; 32]
-    ensures { λ r. ⌜ ((g : ℕ → ℕ → ℤ) → ((p k : ℕ) → natAbs (g p k) ≤ columnMost true) → now (h .entry) ≡ doubleLine 32 (λ l. g (l % 2) (l / 2)) → r ≡ doubleLine 32 (λ l. halfSum (g (l % 2)) (l / 2))) ⌝ }
+    ensures { λ r. ⌜ HalvesOf side16 (columnMost true) 32 (now (h .entry)) r ⌝ }
 {
     let s0 = even_of(h, 0);
     let s1 = even_of(h, 1);

@@ -8,8 +8,7 @@ use lines_back::whole_halves_of;
 use lines_back::whole_sum;
 ghost use mathlib.Core.Path.{_≡_};
 ghost use mathlib.Core.Bool.{true, false};
-ghost use Prim.Native.Nat.{ℕ, _+_, _*_, _/_, _%_, _≤_, _<_};
-ghost use lib.IntN.{ℤ, natAbs};
+ghost use Prim.Native.Nat.{_+_, _*_, _/_, _%_, _<_};
 ghost use lib.ListN.{length, getD};
 ghost use lib.Ieee.{nan};
 ghost use Rattle.sequences.specs.Tab.{tab};
@@ -17,7 +16,7 @@ ghost use Rattle.recipe.specs.Tables32.{side32};
 ghost use Rattle.lines.specs.Halfcomplex.{backwardOf, halfSumOf};
 ghost use Rattle.lines.specs.Fold.{oddSumOf};
 ghost use Rattle.lines.specs.Magnitudes.{longFoldMost, longColumnMost};
-ghost use Rattle.lines.specs.Doubles.{doubleLine, From, WholeLine};
+ghost use Rattle.lines.specs.Doubles.{doubleLine, From, HalvesOf, WholeLine};
 ghost use Rattle.lines_back32.specs.Parts.{cosinePart, sinePart, InParts};
 
 // half of C(0), and C(1) to C(7)
@@ -211,7 +210,7 @@ fn odds(h: &[f64; 64]) -> [f64; 32]
 // Half of the transposed sums of two rows, in which places 0 and 16 count once and the others twice, where noise is low.
 pub fn halves(h: &[f64; 64], x: &mut [f64; 64])
     requires { ⌜ length (now x) ≡ 64 ⌝ }
-    ensures { λ _. ⌜ record { long : length (now (x .exit)) ≡ 64; is : (g : ℕ → ℕ → ℤ) → ((p k : ℕ) → natAbs (g p k) ≤ longColumnMost true) → now (h .entry) ≡ doubleLine 64 (λ l. g (l % 2) (l / 2)) → now (x .exit) ≡ doubleLine 64 (λ l. halfSumOf side32 (g (l % 2)) (l / 2)) } ⌝ }
+    ensures { λ _. ⌜ record { long : length (now (x .exit)) ≡ 64; is : HalvesOf side32 (longColumnMost true) 64 (now (h .entry)) (now (x .exit)) } ⌝ }
 {
     let e = evens(h);
     let s = halves_of(&e);

@@ -20,14 +20,14 @@ loop-again c =
     twos-turn (e .even-of .result) (o .odd-of .result) (c .before .loop .inv) (c .loop-test .taken)
 
 returns : tie.Need-returns Inv-loop μ-loop
-returns c z most p q =
+returns c z w =
     let o = c .before .before in
     let e = o .before in
     let line = e .before .args .p in
     fill-done (c .before .loop .inv) (omega arith)
     ∙ twos-are (halfcomplexOf side16 (λ n. z (2 * n + line)))
-    (e .even-of .ensures (λ i. z i +ℤ z (i + 16)) (again-most z most) p ∙ again-even z line)
-    (o .odd-of .ensures (λ i. z i -ℤ z (i + 16)) (less-most z most) q ∙ again-odd z line)
+    (e .even-of .ensures (λ i. z i +ℤ z (i + 16)) (again-most z (w .most)) (w .sums) ∙ again-even z line)
+    (o .odd-of .ensures (λ i. z i -ℤ z (i + 16)) (less-most z (w .most)) (w .differences) ∙ again-odd z line)
 
 pub even-of-spec : {M : Type 1} → statement M
 even-of-spec = tie.close (tie.spec

@@ -5,6 +5,7 @@ use Rattle.recipe.specs.Tables32.{side32}
 use Rattle.lines.specs.Halfcomplex.{halfcomplexOf}
 use Rattle.lines.specs.PairLines.{byFours, fours-turn, fours-are}
 use Rattle.double_lines32.proofs.LongFolding.{sumsOf, differencesOf, lineOf, sums-most, differences-most, even-line, odd-line}
+use Rattle.double_lines32.specs.Parts.{Halved}
 use Rattle.double_lines32.proofs.halfcomplex.Statement.{statement}
 use Rattle.double_lines32.proofs.halfcomplex.Tie as tie
 
@@ -58,14 +59,13 @@ returns c =
     let z = differencesOf x in
     let most = differences-most m in
     let is = t .differences .ensures in
-    let sums = a .sums-again .ensures (sumsOf x) (sums-most m) (s .sums .ensures) in
-    let differences = b .differences-again .ensures (sumsOf x) (sums-most m) (s .sums .ensures) in
+    let sums : Halved (sumsOf x) (a .sums-again .result) (b .differences-again .result) = record { most = sums-most m; sums = a .sums-again .ensures (sumsOf x) (sums-most m) (s .sums .ensures); differences = b .differences-again .ensures (sumsOf x) (sums-most m) (s .sums .ensures) } in
     fill-done (c .before .loop .inv) (omega arith)
     ∙ fours-are 16 (λ p. halfcomplexOf side32 (lineOf x p))
-    (e0 .even-of .ensures (sumsOf x) (sums-most m) sums differences ∙ even-line x 0)
-    (e1 .even-of2 .ensures (sumsOf x) (sums-most m) sums differences ∙ even-line x 1)
-    (o0 .joined .ensures (λ n. z (2 * n + 0)) (λ n. most (2 * n + 0)) (a0 .even-cosines .ensures z most is) (b0 .odd-cosines .ensures z most is) (c0 .even-sines .ensures z most is) (d0 .odd-sines .ensures z most is) ∙ odd-line x 0)
-    (o1 .joined2 .ensures (λ n. z (2 * n + 1)) (λ n. most (2 * n + 1)) (a1 .even-cosines2 .ensures z most is) (b1 .odd-cosines2 .ensures z most is) (c1 .even-sines2 .ensures z most is) (d1 .odd-sines2 .ensures z most is) ∙ odd-line x 1)
+    (e0 .even-of .ensures (sumsOf x) sums ∙ even-line x 0)
+    (e1 .even-of2 .ensures (sumsOf x) sums ∙ even-line x 1)
+    (o0 .joined .ensures (λ n. z (2 * n + 0)) (record { most = λ n. most (2 * n + 0); even-cosines = a0 .even-cosines .ensures z most is; odd-cosines = b0 .odd-cosines .ensures z most is; even-sines = c0 .even-sines .ensures z most is; odd-sines = d0 .odd-sines .ensures z most is }) ∙ odd-line x 0)
+    (o1 .joined2 .ensures (λ n. z (2 * n + 1)) (record { most = λ n. most (2 * n + 1); even-cosines = a1 .even-cosines2 .ensures z most is; odd-cosines = b1 .odd-cosines2 .ensures z most is; even-sines = c1 .even-sines2 .ensures z most is; odd-sines = d1 .odd-sines2 .ensures z most is }) ∙ odd-line x 1)
 
 pub halfcomplex-spec : {M : Type 1} → statement M
 halfcomplex-spec = tie.close (tie.spec

@@ -5,7 +5,7 @@ use Rattle.double_lines32.proofs.joined.Statement.{statement}
 use Rattle.double_lines32.proofs.joined.Tie as tie
 
 returns : tie.Need-returns
-returns c z most p q r s = joined-are z most p q r s
+returns c z w = joined-are z (w .most) w
 
 pub joined-spec : {M : Type 1} → statement M
 joined-spec = tie.close (tie.spec
