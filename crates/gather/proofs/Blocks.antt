@@ -37,12 +37,11 @@ module _ (samples : List ℕ) (work : List ℤ) (p : Span) (count column : ℕ) 
       subst (λ k. Writing d (p .start) (wordFrom samples work p count) n k o) (omega arith)
       (write-part w room block-word-is (is ∙ ap (λ q. written r (q .start) (wordFrom samples work q count) (q .side)) e))
 
--- one more part of a block, of the same span
-pub part-turn : (samples : List ℕ) (work : List ℤ) (p : Span) (count k : ℕ) {d r o : List ℕ} {n : ℕ} {q : Span} → Writing d (p .start) (wordFrom samples work p count) n (16 * k) r → 16 * k + 16 ≤ n
-    → q ≡ p → o ≡ written r (q .start + 16 * k) (λ l. wordFrom samples work q count (16 * k + l)) 16 → Writing d (p .start) (wordFrom samples work p count) n (16 * (k + 1)) o
-part-turn samples work p count k {d} {r} {o} {n} w room e is =
-    subst (λ j. Writing d (p .start) (wordFrom samples work p count) n j o) (omega arith)
-    (write-part w room (λ l h. refl) (is ∙ ap (λ q. written r (q .start + 16 * k) (λ l. wordFrom samples work q count (16 * k + l)) 16) e))
+-- one more part of a block
+pub part-turn : (samples : List ℕ) (work : List ℤ) (p : Span) (count k : ℕ) {d r o : List ℕ} {n : ℕ} → Writing d (p .start) (wordFrom samples work p count) n (16 * k) r → 16 * k + 16 ≤ n
+    → o ≡ written r (p .start + 16 * k) (λ l. wordFrom samples work p count (16 * k + l)) 16 → Writing d (p .start) (wordFrom samples work p count) n (16 * (k + 1)) o
+part-turn samples work p count k {d} {r} {o} {n} w room is =
+    subst (λ j. Writing d (p .start) (wordFrom samples work p count) n j o) (omega arith) (write-part w room (λ l h. refl) is)
 
 -- the words over a block of a row
 pub block-weighed : {work lower upper : List ℤ} (s : Shape) (reference rowParity y top column : ℕ) → TileSide (s .side) → Over work (s .side) (s .width) y

@@ -98,8 +98,11 @@ module _ {n : ℕ} (t : TileSide n) where
   pub block-column : (l : ℕ) → l < n → l / 2 % (n / 2) ≡ l / 2
   block-column = by-side t (λ n. (l : ℕ) → l < n → l / 2 % (n / 2) ≡ l / 2) (λ l h. omega arith) (λ l h. omega arith)
 
-  pub narrow-is : (n ≡ 32 → ⊥) → 16 ≡ n
-  narrow-is = by-side t (λ n. (n ≡ 32 → ⊥) → 16 ≡ n) (λ h. refl) (λ h. absurd (h refl))
+  pub part-room : 16 ≤ n
+  part-room = by-side t (λ n. 16 ≤ n) (omega arith) (omega arith)
+
+  pub wide-is : (n ≡ 16 → ⊥) → n ≡ 32
+  wide-is = by-side t (λ n. (n ≡ 16 → ⊥) → n ≡ 32) (λ h. absurd (h refl)) (λ h. refl)
 
   pub place-most : (y : ℕ) → n * (y % (n / 2) + n / 2) ≤ 1024
   place-most = by-side t (λ n. (y : ℕ) → n * (y % (n / 2) + n / 2) ≤ 1024) (λ y. omega arith) (λ y. omega arith)

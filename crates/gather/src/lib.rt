@@ -203,7 +203,7 @@ fn windowed(work: &[i64], lower: &[i64; 64], upper: &[i64; 64], span: Span, l: u
         + part(work, upper, above + half + l, l + side)
 }
 
-// Words of a block, sixteen of them from `place` on.
+// Words of a block, sixteen of them from `place` on, two a turn. Called from two places it is compiled by itself, which leaves it the registers that it needs.
 fn output_part(
     samples: &[u16],
     work: &[i64],
@@ -219,25 +219,15 @@ fn output_part(
 {
     let from = span.from + place;
     let start = span.start + place;
-    for l in 0..PART {
+    for x in 0..PART / 2 {
+        let l = 2 * x;
         let sum = windowed(work, lower, upper, span, place + l);
         let t0 = samples[from + l];
         output[start + l] = corrected(t0, sum, by.count, by.inverse);
-    }
-}
-
-// The span with its side written down, so that the compiler knows it in the loop over the words.
-fn sided(span: Span, side: usize) -> Span
-    requires { ⌜ side ≡ span .side ⌝ }
-    ensures { λ r. ⌜ r ≡ span ⌝ }
-{
-    Span {
-        from: span.from,
-        start: span.start,
-        above: span.above,
-        below: span.below,
-        side,
-        i: span.i,
+        let r = 2 * x + 1;
+        let beside = windowed(work, lower, upper, span, place + r);
+        let t1 = samples[from + r];
+        output[start + r] = corrected(t1, beside, by.count, by.inverse);
     }
 }
 
@@ -254,14 +244,11 @@ fn output_block(
     requires { ⌜ BlockReady span by (length (now samples)) (length (now output)) (now work) (now lower) (now upper) ⌝ }
     ensures { λ _. ⌜ now (output .exit) ≡ written (now (output .entry)) (span .start) (wordFrom (now (samples .entry)) (now (work .entry)) span (by .count)) (span .side) ⌝ }
 {
-    if span.side == 32 {
-        let wide = sided(span, 32);
-        output_part(samples, work, lower, upper, wide, 0, by, &mut *output);
-        output_part(samples, work, lower, upper, wide, PART, by, &mut *output);
+    output_part(samples, work, lower, upper, span, 0, by, &mut *output);
+    if span.side == PART {
         return;
     }
-    let narrow = sided(span, 16);
-    output_part(samples, work, lower, upper, narrow, 0, by, &mut *output);
+    output_part(samples, work, lower, upper, span, PART, by, &mut *output);
 }
 
 // Row y of a row parity, from its first word on, for an output that begins with row `top` of the frame.
