@@ -10,9 +10,8 @@ ghost use lib.Ieee.{binary64, ofInt};
 ghost use lib.IntN.{pos};
 ghost use Rattle.algebra.specs.Bound.{AtMost};
 ghost use Rattle.spectrum.specs.Magnitudes.{binMost, gainMost, noiseMost};
-ghost use Rattle.spectrum.specs.Spectrum.{transposed, spread, gainRe, gainIm};
 ghost use Rattle.lines.specs.Doubles.{WholeDouble};
-ghost use Rattle.spectrum.specs.Pairs.{sideBySide, either, doubles, BinnedPair};
+ghost use Rattle.spectrum.specs.Pairs.{either, BinnedPair, GainsOf};
 ghost use Rattle.bins.specs.Doubles.{wholeQuantized, exactGainsIn};
 ghost use Rattle.quads.specs.Lanes.{numberOf, binsIn, foldedIn, WholeBins};
 ghost use Rattle.exact_wiener.specs.ExactQuads.{exactQuad};
@@ -104,7 +103,7 @@ pub fn of_plane(first: u64, second: u64, p: usize) -> u64
 // G of two planes at their noise numbers, folded, in the place of B.
 pub fn filter_exactly(b: &mut [[f64; 32]; 16], first: u64, second: u64)
     requires { ⌜ record { binned : BinnedPair (now b); first-most : first ≤ noiseMost; second-most : second ≤ noiseMost } ⌝ }
-    ensures { λ _. ⌜ ((w : BinnedPair (now (b .entry))) → now (b .exit) ≡ doubles (sideBySide (λ p. transposed (spread (gainRe (either first second p) (w .plane p)) (gainIm (either first second p) (w .plane p)))))) ⌝ }
+    ensures { λ _. ⌜ GainsOf first second (now (b .entry)) (now (b .exit)) ⌝ }
 {
     for n in 0..128 {
         let u = n / 16;

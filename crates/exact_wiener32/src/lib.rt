@@ -12,11 +12,8 @@ ghost use lib.Ieee.{binary64, ofInt};
 ghost use lib.IntN.{pos};
 ghost use Rattle.algebra.specs.Bound.{AtMost};
 ghost use Rattle.spectrum.specs.Magnitudes.{longBinMost, gainMost, longNoiseMost};
-ghost use Rattle.recipe.specs.Tables32.{side32};
-ghost use Rattle.spectrum.specs.Spectrum.{transposed, spreadOf, gainReOf, gainImOf};
 ghost use Rattle.lines.specs.Doubles.{WholeDouble};
-ghost use Rattle.spectrum.specs.Pairs.{sideBySide, either};
-ghost use Rattle.spectrum.specs.LongPairs.{longDoubles, LongBinnedPair};
+ghost use Rattle.spectrum.specs.LongPairs.{LongBinnedPair, LongGainsOf};
 ghost use Rattle.bins.specs.Doubles.{wholeQuantizedBy, exactGainsBy};
 ghost use Rattle.quads.specs.Lanes.{numberOf, WholeBinsOf};
 ghost use Rattle.exact_wiener.specs.ExactQuads.{exactQuadBy};
@@ -72,7 +69,7 @@ fn quad(noise: u64, k: usize, u: usize, q: [f64; 4]) -> [f64; 4]
 // G of two planes at their noise numbers, folded, in the place of B.
 pub fn filter_exactly(b: &mut [[f64; 64]; 32], first: u64, second: u64)
     requires { ⌜ record { binned : LongBinnedPair (now b); first-most : first ≤ longNoiseMost; second-most : second ≤ longNoiseMost } ⌝ }
-    ensures { λ _. ⌜ ((w : LongBinnedPair (now (b .entry))) → now (b .exit) ≡ longDoubles (sideBySide (λ p. transposed (spreadOf side32 (gainReOf side32 (either first second p) (w .plane p)) (gainImOf side32 (either first second p) (w .plane p)))))) ⌝ }
+    ensures { λ _. ⌜ LongGainsOf first second (now (b .entry)) (now (b .exit)) ⌝ }
 {
     for n in 0..512 {
         let u = n / 32;

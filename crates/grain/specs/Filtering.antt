@@ -1,11 +1,13 @@
 -- Inside this crate and tiles: the spatial filter (request L13) on two tiles side by side, from T0 and the sums of P.
 use Rattle.algebra.specs.Prelude.{List, [], ℕ, _+_, _*_, _≤_, getD, ℤ, pos, natAbs, _-ℤ_, _*ℤ_}
+use Rattle.sequences.specs.Grid.{cell}
 use Rattle.algebra.specs.Nearest.{away}
 use Rattle.recipe.specs.Tables.{side16}
 use Rattle.recipe.specs.Correction.{binRe, binIm, inverseAt}
 use Rattle.recipe.specs.Spatial.{copyFiltered}
 use Rattle.recipe.specs.SpatialNoise.{frequency}
-use Rattle.spectrum.specs.Magnitudes.{smallMost}
+use Rattle.spectrum.specs.Magnitudes.{smallMost, spatialMost}
+use Rattle.spectrum.specs.Pairs.{Paired, planeIn, added}
 
 -- the copy of the merged tile of N = `frames` frames, in 1/256
 unfoldable pub copyIn : (frames : ℕ) (t0 : ℕ → ℕ → ℕ) (sum : ℕ → ℕ → ℤ) → ℕ → ℕ → ℤ
@@ -19,6 +21,11 @@ binNoise noise u v = noise (frequency u) (frequency v)
 unfoldable pub stepAt : (noise : ℕ → ℕ → ℕ) (c : ℕ → ℕ → ℤ) → ℕ → ℕ → ℤ
 stepAt noise c =
     inverseAt side16 (λ u v. copyFiltered side16 (noise u v) (binRe side16 c u v) (binIm side16 c u v)) (λ u v. copyFiltered side16 (noise u v) (binIm side16 c u v) (binRe side16 c u v))
+
+-- the sums of a pair, with N·P' of both planes added, at V' of the bins of plane p
+abbrev pub filteredSums : (frames : ℕ) (noise : (p u v : ℕ) → ℕ) (t0 : List (List ℕ)) (sum : List (List ℤ)) → List (List ℤ)
+filteredSums frames noise t0 sum =
+    added 16 sum (λ p y x. pos frames *ℤ stepAt (noise p) (copyIn frames (planeIn (cell 0 t0) p) (planeIn (cell (pos 0) sum) p)) y x)
 
 -- N is 1 to 8
 pub record Frames (frames : ℕ) : Type 0 where
@@ -48,3 +55,12 @@ pub record NoiseLine (b : ℕ) (x : List ℕ) : Type 0 where
 
 pub record NoisesMost (b : ℕ) (t : List (List ℕ)) : Type 0 where
   pub line : (u : ℕ) → NoiseLine b (getD t u [])
+
+-- what the filter asks of a pair, and of V' of both planes
+pub record Filterable (frames : ℕ) (first second t0 : List (List ℕ)) (sum : List (List ℤ)) : Type 0 where
+  pub frames-fit : Frames frames
+  pub first-most : NoisesMost spatialMost first
+  pub second-most : NoisesMost spatialMost second
+  pub samples : SamplePair t0
+  pub sums : SumPair frames sum
+  pub paired : Paired (pos 0) sum

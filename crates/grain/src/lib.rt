@@ -20,14 +20,13 @@ use crate::places::places;
 use pairs::add_inverse_of;
 use pairs::forward_into;
 ghost use mathlib.Core.Path.{_≡_};
-ghost use Prim.Native.Nat.{_*_, _/_, _%_};
-ghost use lib.IntN.{pos, _+ℤ_, _*ℤ_};
+ghost use lib.IntN.{pos};
 ghost use Rattle.sequences.specs.Grid.{grid, cell};
 ghost use Rattle.lines.specs.Lines.{TileMost};
 ghost use Rattle.spectrum.specs.Magnitudes.{copyMost, spatialMost};
 ghost use Rattle.spectrum.specs.Spectrum.{twoWay, transposed, spread};
-ghost use Rattle.spectrum.specs.Pairs.{Paired, planeIn, sideBySide, either, doubles};
-ghost use Rattle.grain.specs.Filtering.{copyIn, binNoise, stepAt, Frames, NoisesMost, SamplePair, SumPair};
+ghost use Rattle.spectrum.specs.Pairs.{planeIn, sideBySide, either, doubles};
+ghost use Rattle.grain.specs.Filtering.{binNoise, filteredSums, Filterable, NoisesMost};
 ghost use Rattle.grain.specs.Steps.{copyPlaceMost, pairRe, pairIm};
 
 // The bins of the copies of two planes, in halfcomplex form both ways, held by columns.
@@ -63,8 +62,8 @@ pub fn filter_pair(
     t0: &[[u16; 32]; 16],
     sum: &mut [[i64; 32]; 16],
 )
-    requires { ⌜ record { frames-fit : Frames frames; first-most : NoisesMost spatialMost (now first); second-most : NoisesMost spatialMost (now second); samples : SamplePair (now t0); sums : SumPair frames (now sum); paired : Paired (pos 0) (now sum) } ⌝ }
-    ensures { λ _. ⌜ now (sum .exit) ≡ grid 16 32 (λ y l. cell (pos 0) (now (sum .entry)) y l +ℤ pos frames *ℤ stepAt (binNoise (cell 0 (either (now (first .entry)) (now (second .entry)) (l % 2)))) (copyIn frames (planeIn (cell 0 (now (t0 .entry))) (l % 2)) (planeIn (cell (pos 0) (now (sum .entry))) (l % 2))) y (l / 2)) ⌝ }
+    requires { ⌜ Filterable frames (now first) (now second) (now t0) (now sum) ⌝ }
+    ensures { λ _. ⌜ now (sum .exit) ≡ filteredSums frames (λ p. binNoise (cell 0 (either (now (first .entry)) (now (second .entry)) p))) (now (t0 .entry)) (now (sum .entry)) ⌝ }
 {
     let c = copy_pair(frames, t0, &*sum);
     let w = bins(&c);

@@ -10,7 +10,8 @@ use Rattle.sequences.specs.Tab.{tab}
 use Rattle.sequences.specs.Grid.{grid, tab-ext}
 use Rattle.floats.specs.Middle.{middle, middleBits}
 use Rattle.floats.specs.ProductLaws.{fraction, product-bits, product-bits-below, product-number}
-use Rattle.lines.specs.Doubles.{doubleLine, WholeDouble, WholeRow}
+use Rattle.recipe.specs.Tables.{side16}
+use Rattle.lines.specs.Doubles.{doubleLine, HalvesOf, WholeDouble, WholeRow}
 use Rattle.lines.specs.Halfcomplex.{halfSum}
 use Rattle.lines.specs.BackSizes.{half-sum-most}
 use Rattle.lines.specs.Held.{number-is, number-most}
@@ -49,17 +50,13 @@ module _ {x : Float} (w : WholeDouble (halfMost true) x) where
 abbrev pub whole-at : {m : ℕ} {x : List Float} → WholeRow m x → (l : ℕ) → l < 32 → WholeDouble m (getD x l nan)
 whole-at w l h = record { number = w .number l; most = w .most l; is = ap (λ x. getD x l nan) (w .is) ∙ getD-tab (λ l. ofInt binary64 (w .number l)) nan 32 l h }
 
--- the row x of the halves of a row h
-abbrev pub HalvesOf : (h x : List Float) → Type 0
-HalvesOf h x = (g : ℕ → ℕ → ℤ) → ((p k : ℕ) → natAbs (g p k) ≤ columnMost true) → h ≡ doubleLine 32 (λ l. g (l % 2) (l / 2)) → x ≡ doubleLine 32 (λ l. halfSum (g (l % 2)) (l / 2))
-
 pub by-lanes : (f : ℕ → ℤ) → doubleLine 32 f ≡ doubleLine 32 (λ l. f (2 * (l / 2) + l % 2))
 by-lanes f = tab-ext 32 _ _ (λ l h. ap (λ n. ofInt binary64 (f n)) (lane l))
   where
     lane : (l : ℕ) → l ≡ 2 * (l / 2) + l % 2
     lane l = omega arith
 
-abbrev pub halves-row : {h x : List Float} → HalvesOf h x → WholeRow (columnMost true) h → WholeRow (halfMost true) x
+abbrev pub halves-row : {h x : List Float} → HalvesOf side16 (columnMost true) 32 h x → WholeRow (columnMost true) h → WholeRow (halfMost true) x
 halves-row f w = record {
   number = λ l. halfSum (λ k. w .number (2 * k + l % 2)) (l / 2);
   most = λ l. half-sum-most (λ k. w .number (2 * k + l % 2)) (λ k. w .most (2 * k + l % 2)) (l / 2);

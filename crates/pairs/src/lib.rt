@@ -8,23 +8,19 @@ use exact_wiener::filter_exactly;
 use quiet::low_noise;
 use wiener::filter;
 ghost use mathlib.Core.Path.{_≡_};
-ghost use Prim.Native.Nat.{_/_, _%_, _^_, _≤_};
+ghost use Prim.Native.Nat.{_^_, _≤_};
 ghost use lib.Ieee.{nan};
-ghost use lib.IntN.{pos, _+ℤ_};
-ghost use Rattle.algebra.specs.Nearest.{away};
-ghost use Rattle.sequences.specs.Grid.{grid, cell};
+ghost use lib.IntN.{pos};
 ghost use Rattle.recipe.specs.Tables.{side16};
-ghost use Rattle.recipe.specs.Correction.{correctionAt};
 ghost use Rattle.lines.specs.Magnitudes.{differenceMost, foldMost};
 ghost use Rattle.lines.specs.Lines.{TileMost};
 ghost use Rattle.spectrum.specs.Magnitudes.{noiseMost};
-ghost use Rattle.spectrum.specs.Spectrum.{twoWay, transposed, spread, gainRe, gainIm, backSum};
-ghost use Rattle.spectrum.specs.Pairs.{Paired, InDouble, BinnedPair, planeIn, sideBySide, either, doubles};
+ghost use Rattle.spectrum.specs.Pairs.{Paired, InDouble, BinnedPair, GainsOf, byColumns, planeBins, pairGains, InverseAdded, correctionIn, added, doubles};
 
 // b: B of both planes of a pair of tiles of differences, in exact whole numbers.
 pub fn forward_into(d: &[[i16; 32]; 16], b: &mut [[f64; 32]; 16])
     requires { ⌜ (TileMost differenceMost (now d)) × (Paired nan (now b)) ⌝ }
-    ensures { λ _. ⌜ now (b .exit) ≡ doubles (sideBySide (λ p. transposed (twoWay (planeIn (cell (pos 0) (now (d .entry))) p)))) ⌝ }
+    ensures { λ _. ⌜ now (b .exit) ≡ doubles (byColumns (planeBins side16 (now (d .entry)))) ⌝ }
 {
     let mut a = [[0i32; 32]; 16];
     columns::forward(d, &mut a);
@@ -34,7 +30,7 @@ pub fn forward_into(d: &[[i16; 32]; 16], b: &mut [[f64; 32]; 16])
 // The same by value, for the merge: with one caller it is compiled into it, and neither tile is zeroed or copied for the call.
 fn forward(d: [[i16; 32]; 16]) -> [[f64; 32]; 16]
     requires { ⌜ TileMost differenceMost d ⌝ }
-    ensures { λ r. ⌜ r ≡ doubles (sideBySide (λ p. transposed (twoWay (planeIn (cell (pos 0) d) p)))) ⌝ }
+    ensures { λ r. ⌜ r ≡ doubles (byColumns (planeBins side16 d)) ⌝ }
 {
     let mut a = [[0i32; 32]; 16];
     columns::forward(&d, &mut a);
@@ -46,7 +42,7 @@ fn forward(d: [[i16; 32]; 16]) -> [[f64; 32]; 16]
 // Q and G of both planes at their noise numbers, with quotients in double where none is in doubt, and else in whole numbers.
 pub fn wiener_of(b: &[[f64; 32]; 16], first: u64, second: u64) -> [[f64; 32]; 16]
     requires { ⌜ record { binned : BinnedPair (now b); first-most : first ≤ noiseMost; second-most : second ≤ noiseMost } ⌝ }
-    ensures { λ r. ⌜ ((w : BinnedPair (now (b .entry))) → r ≡ doubles (sideBySide (λ p. transposed (spread (gainRe (either first second p) (w .plane p)) (gainIm (either first second p) (w .plane p)))))) ⌝ }
+    ensures { λ r. ⌜ GainsOf first second (now (b .entry)) r ⌝ }
 {
     let mut g = *b;
     if filter(&mut g, first, second) {
@@ -60,7 +56,7 @@ pub fn wiener_of(b: &[[f64; 32]; 16], first: u64, second: u64) -> [[f64; 32]; 16
 // The folded G of both planes from their differences, for the merge as `forward`: where a quotient is in doubt B is made anew, so that no copy of it is kept.
 fn gains(d: &[[i16; 32]; 16], first: u64, second: u64) -> [[f64; 32]; 16]
     requires { ⌜ record { differences : TileMost differenceMost (now d); first-most : first ≤ noiseMost; second-most : second ≤ noiseMost } ⌝ }
-    ensures { λ r. ⌜ r ≡ doubles (sideBySide (λ p. transposed (spread (gainRe (either first second p) (twoWay (planeIn (cell (pos 0) (now (d .entry))) p))) (gainIm (either first second p) (twoWay (planeIn (cell (pos 0) (now (d .entry))) p)))))) ⌝ }
+    ensures { λ r. ⌜ r ≡ doubles (pairGains side16 first second (planeBins side16 (now (d .entry)))) ⌝ }
 {
     let mut g = forward(*d);
     if filter(&mut g, first, second) {
@@ -75,7 +71,7 @@ fn gains(d: &[[i16; 32]; 16], first: u64, second: u64) -> [[f64; 32]; 16]
 // P of both planes is added to their sums, from the folded G, in whose place the sums down its columns come; `low` where both noise numbers are.
 pub fn add_inverse_of(g: &mut [[f64; 32]; 16], low: bool, sum: &mut [[i64; 32]; 16])
     requires { ⌜ record { whole : InDouble (foldMost low) (now g); sums-most : TileMost (2 ^ 40) (now sum); paired : Paired (pos 0) (now sum) } ⌝ }
-    ensures { λ _. ⌜ ((w : InDouble (foldMost low) (now (g .entry))) → now (sum .exit) ≡ grid 16 32 (λ y l. cell (pos 0) (now (sum .entry)) y l +ℤ away (backSum (transposed (planeIn (w .number) (l % 2))) y (l / 2)) (2 ^ 32))) ⌝ }
+    ensures { λ _. ⌜ InverseAdded (foldMost low) (now (g .entry)) (now (sum .entry)) (now (sum .exit)) ⌝ }
 {
     columns_back::back(&mut *g);
     rows_back::add_back(&*g, low, &mut *sum);
@@ -84,7 +80,7 @@ pub fn add_inverse_of(g: &mut [[f64; 32]; 16], low: bool, sum: &mut [[i64; 32]; 
 // The same from G by value, for the merge as `forward`.
 fn add_inverse(mut g: [[f64; 32]; 16], low: bool, sum: &mut [[i64; 32]; 16])
     requires { ⌜ record { whole : InDouble (foldMost low) g; sums-most : TileMost (2 ^ 40) (now sum); paired : Paired (pos 0) (now sum) } ⌝ }
-    ensures { λ _. ⌜ ((w : InDouble (foldMost low) g) → now (sum .exit) ≡ grid 16 32 (λ y l. cell (pos 0) (now (sum .entry)) y l +ℤ away (backSum (transposed (planeIn (w .number) (l % 2))) y (l / 2)) (2 ^ 32))) ⌝ }
+    ensures { λ _. ⌜ InverseAdded (foldMost low) g (now (sum .entry)) (now (sum .exit)) ⌝ }
 {
     columns_back::back(&mut g);
     rows_back::add_back(&g, low, &mut *sum);
@@ -93,7 +89,7 @@ fn add_inverse(mut g: [[f64; 32]; 16], low: bool, sum: &mut [[i64; 32]; 16])
 // P of both planes of a pair of tiles of differences, at their noise numbers, is added to their sums.
 pub fn add_corrections(d: &[[i16; 32]; 16], first: u64, second: u64, sum: &mut [[i64; 32]; 16])
     requires { ⌜ record { differences : TileMost differenceMost (now d); first-most : first ≤ noiseMost; second-most : second ≤ noiseMost; sums-most : TileMost (2 ^ 40) (now sum); paired : Paired (pos 0) (now sum) } ⌝ }
-    ensures { λ _. ⌜ now (sum .exit) ≡ grid 16 32 (λ y l. cell (pos 0) (now (sum .entry)) y l +ℤ correctionAt side16 (either first second (l % 2)) (planeIn (cell (pos 0) (now (d .entry))) (l % 2)) y (l / 2)) ⌝ }
+    ensures { λ _. ⌜ now (sum .exit) ≡ added 16 (now (sum .entry)) (correctionIn side16 first second (now (d .entry))) ⌝ }
 {
     let low = low_noise(first, second);
     let g = gains(d, first, second);

@@ -10,12 +10,11 @@ ghost use lib.ListN.{length, getD};
 ghost use Rattle.algebra.specs.Bound.{AtMost};
 ghost use Rattle.algebra.specs.Nearest.{away};
 ghost use Rattle.sequences.specs.Tab.{tab};
-ghost use Rattle.sequences.specs.Grid.{grid, cell};
 ghost use Rattle.lines.specs.Halfcomplex.{halfSum};
 ghost use Rattle.lines.specs.Lines.{LineMost, TileMost};
 ghost use Rattle.lines.specs.Doubles.{WholeDouble, WholeRow};
 ghost use Rattle.lines.specs.Magnitudes.{columnMost, halfMost};
-ghost use Rattle.spectrum.specs.Pairs.{Paired, InDouble, planeIn};
+ghost use Rattle.spectrum.specs.Pairs.{Paired, InDouble, planeIn, added};
 ghost use Rattle.pairs.specs.Rounded.{roundedDouble};
 
 // 2^-31·(1 + 2^-52): a product with it lies above the quotient by 2^31, by too little for anything but a half to be rounded otherwise
@@ -74,7 +73,7 @@ fn add_line(h: &[f64; 32], low: bool, sum: &mut [i64; 32])
 // P of each row is added to its sums.
 pub fn add_back(h: &[[f64; 32]; 16], low: bool, sum: &mut [[i64; 32]; 16])
     requires { ⌜ record { whole : InDouble (columnMost low) (now h); sums-most : TileMost (2 ^ 40) (now sum); paired : Paired (pos 0) (now sum) } ⌝ }
-    ensures { λ _. ⌜ ((w : InDouble (columnMost low) (now (h .entry))) → now (sum .exit) ≡ grid 16 32 (λ y l. cell (pos 0) (now (sum .entry)) y l +ℤ away (halfSum (planeIn (w .number) (l % 2) y) (l / 2)) (2 ^ 31))) ⌝ }
+    ensures { λ _. ⌜ ((w : InDouble (columnMost low) (now (h .entry))) → now (sum .exit) ≡ added 16 (now (sum .entry)) (λ p y x. away (halfSum (planeIn (w .number) p y) x) (2 ^ 31))) ⌝ }
 {
     for y in 0..8 {
         add_line(&h[y], low, &mut sum[y]);

@@ -11,7 +11,7 @@ use Rattle.sequences.specs.Tab.{tab}
 use Rattle.sequences.specs.Grid.{grid, tab-ext}
 use Rattle.floats.specs.Middle.{middle, middleBits}
 use Rattle.floats.specs.ProductLaws.{fraction, product-bits, product-bits-below, product-number}
-use Rattle.lines.specs.Doubles.{doubleLine, WholeDouble, WholeLine}
+use Rattle.lines.specs.Doubles.{doubleLine, HalvesOf, WholeDouble, WholeLine}
 use Rattle.lines.specs.Halfcomplex.{halfSumOf}
 use Rattle.lines.specs.BackSizes.{long-half-sum-most}
 use Rattle.lines.specs.Lines.{LineMost}
@@ -46,17 +46,13 @@ module _ {x : Float} (w : WholeDouble (longHalfMost true) x) where
   unfolding roundedDouble
   rounded-held = ap (λ z. z -ℤ pos middleBits) (toZ-pos w64 (roundedBits x) rounded-below)
 
--- the row x of the halves of a row h
-abbrev pub HalvesOf : (h x : List Float) → Type 0
-HalvesOf h x = (g : ℕ → ℕ → ℤ) → ((p k : ℕ) → natAbs (g p k) ≤ longColumnMost true) → h ≡ doubleLine 64 (λ l. g (l % 2) (l / 2)) → x ≡ doubleLine 64 (λ l. halfSumOf side32 (g (l % 2)) (l / 2))
-
 pub by-lanes : (f : ℕ → ℤ) → doubleLine 64 f ≡ doubleLine 64 (λ l. f (2 * (l / 2) + l % 2))
 by-lanes f = tab-ext 64 _ _ (λ l h. ap (λ n. ofInt binary64 (f n)) (lane l))
   where
     lane : (l : ℕ) → l ≡ 2 * (l / 2) + l % 2
     lane l = omega arith
 
-abbrev pub halves-row : {h x : List Float} → HalvesOf h x → WholeLine 64 (longColumnMost true) h → WholeLine 64 (longHalfMost true) x
+abbrev pub halves-row : {h x : List Float} → HalvesOf side32 (longColumnMost true) 64 h x → WholeLine 64 (longColumnMost true) h → WholeLine 64 (longHalfMost true) x
 halves-row f w = record {
   number = λ l. halfSumOf side32 (λ k. w .number (2 * k + l % 2)) (l / 2);
   most = λ l. long-half-sum-most (λ k. w .number (2 * k + l % 2)) (λ k. w .most (2 * k + l % 2)) (l / 2);

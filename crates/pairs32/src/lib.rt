@@ -8,24 +8,20 @@ use exact_wiener32::filter_exactly;
 use quiet::long_low_noise;
 use wiener32::filter;
 ghost use mathlib.Core.Path.{_≡_};
-ghost use Prim.Native.Nat.{_/_, _%_, _^_, _≤_};
+ghost use Prim.Native.Nat.{_^_, _≤_};
 ghost use lib.Ieee.{nan};
-ghost use lib.IntN.{pos, _+ℤ_};
-ghost use Rattle.algebra.specs.Nearest.{away};
-ghost use Rattle.sequences.specs.Grid.{grid, cell};
+ghost use lib.IntN.{pos};
 ghost use Rattle.recipe.specs.Tables32.{side32};
-ghost use Rattle.recipe.specs.Correction.{correctionAt};
 ghost use Rattle.lines.specs.Magnitudes.{differenceMost, longFoldMost};
 ghost use Rattle.lines.specs.Lines.{TileMost};
 ghost use Rattle.spectrum.specs.Magnitudes.{longNoiseMost};
-ghost use Rattle.spectrum.specs.Spectrum.{twoWayOf, transposed, spreadOf, gainReOf, gainImOf, backSumOf};
-ghost use Rattle.spectrum.specs.Pairs.{planeIn, sideBySide, either};
-ghost use Rattle.spectrum.specs.LongPairs.{LongPaired, LongInDouble, longDoubles};
+ghost use Rattle.spectrum.specs.Pairs.{byColumns, planeBins, pairGains, correctionIn, added};
+ghost use Rattle.spectrum.specs.LongPairs.{LongPaired, LongInDouble, LongInverseAdded, longDoubles};
 
 // b: B of both planes, in exact whole numbers.
 fn forward(d: &[[i16; 64]; 32], b: &mut [[f64; 64]; 32])
     requires { ⌜ (TileMost differenceMost (now d)) × (LongPaired nan (now b)) ⌝ }
-    ensures { λ _. ⌜ now (b .exit) ≡ longDoubles (sideBySide (λ p. transposed (twoWayOf side32 (planeIn (cell (pos 0) (now (d .entry))) p)))) ⌝ }
+    ensures { λ _. ⌜ now (b .exit) ≡ longDoubles (byColumns (planeBins side32 (now (d .entry)))) ⌝ }
 {
     let mut a = [[0i32; 64]; 32];
     columns::forward(d, &mut a);
@@ -35,7 +31,7 @@ fn forward(d: &[[i16; 64]; 32], b: &mut [[f64; 64]; 32])
 // b: the folded G of both planes at their noise numbers, with quotients in double where none is in doubt; else B is made anew, and they are in whole numbers.
 fn gains(d: &[[i16; 64]; 32], first: u64, second: u64, b: &mut [[f64; 64]; 32])
     requires { ⌜ record { differences : TileMost differenceMost (now d); first-most : first ≤ longNoiseMost; second-most : second ≤ longNoiseMost; spare : LongPaired nan (now b) } ⌝ }
-    ensures { λ _. ⌜ now (b .exit) ≡ longDoubles (sideBySide (λ p. transposed (spreadOf side32 (gainReOf side32 (either first second p) (twoWayOf side32 (planeIn (cell (pos 0) (now (d .entry))) p))) (gainImOf side32 (either first second p) (twoWayOf side32 (planeIn (cell (pos 0) (now (d .entry))) p)))))) ⌝ }
+    ensures { λ _. ⌜ now (b .exit) ≡ longDoubles (pairGains side32 first second (planeBins side32 (now (d .entry)))) ⌝ }
 {
     forward(d, &mut *b);
     if filter(&mut *b, first, second) {
@@ -48,7 +44,7 @@ fn gains(d: &[[i16; 64]; 32], first: u64, second: u64, b: &mut [[f64; 64]; 32])
 // P of both planes is added to their sums, from the folded G, in whose place the sums down its columns come; `low` where both noise numbers are.
 fn add_inverse(g: &mut [[f64; 64]; 32], low: bool, sum: &mut [[i64; 64]; 32])
     requires { ⌜ record { whole : LongInDouble (longFoldMost low) (now g); sums-most : TileMost (2 ^ 40) (now sum); paired : LongPaired (pos 0) (now sum) } ⌝ }
-    ensures { λ _. ⌜ record { spare : LongPaired nan (now (g .exit)); is : (w : LongInDouble (longFoldMost low) (now (g .entry))) → now (sum .exit) ≡ grid 32 64 (λ y l. cell (pos 0) (now (sum .entry)) y l +ℤ away (backSumOf side32 (transposed (planeIn (w .number) (l % 2))) y (l / 2)) (2 ^ 32)) } ⌝ }
+    ensures { λ _. ⌜ record { spare : LongPaired nan (now (g .exit)); is : LongInverseAdded (longFoldMost low) (now (g .entry)) (now (sum .entry)) (now (sum .exit)) } ⌝ }
 {
     columns_back::back(&mut *g);
     rows_back::add_back(&*g, low, &mut *sum);
@@ -63,7 +59,7 @@ pub fn add_corrections(
     sum: &mut [[i64; 64]; 32],
 )
     requires { ⌜ record { differences : TileMost differenceMost (now d); first-most : first ≤ longNoiseMost; second-most : second ≤ longNoiseMost; spare : LongPaired nan (now b); sums-most : TileMost (2 ^ 40) (now sum); paired : LongPaired (pos 0) (now sum) } ⌝ }
-    ensures { λ _. ⌜ record { spare : LongPaired nan (now (b .exit)); is : now (sum .exit) ≡ grid 32 64 (λ y l. cell (pos 0) (now (sum .entry)) y l +ℤ correctionAt side32 (either first second (l % 2)) (planeIn (cell (pos 0) (now (d .entry))) (l % 2)) y (l / 2)) } ⌝ }
+    ensures { λ _. ⌜ record { spare : LongPaired nan (now (b .exit)); is : now (sum .exit) ≡ added 32 (now (sum .entry)) (correctionIn side32 first second (now (d .entry))) } ⌝ }
 {
     let low = long_low_noise(first, second);
     gains(d, first, second, &mut *b);

@@ -10,12 +10,11 @@ ghost use lib.ListN.{length, getD};
 ghost use Rattle.algebra.specs.Bound.{AtMost};
 ghost use Rattle.algebra.specs.Nearest.{away};
 ghost use Rattle.sequences.specs.Tab.{tab};
-ghost use Rattle.sequences.specs.Grid.{grid, cell};
 ghost use Rattle.lines.specs.Halfcomplex.{halfSumOf};
 ghost use Rattle.lines.specs.Lines.{LineMost, TileMost};
 ghost use Rattle.lines.specs.Magnitudes.{longColumnMost, longHalfMost};
 ghost use Rattle.lines.specs.Doubles.{WholeDouble, WholeLine};
-ghost use Rattle.spectrum.specs.Pairs.{planeIn};
+ghost use Rattle.spectrum.specs.Pairs.{planeIn, added};
 ghost use Rattle.spectrum.specs.LongPairs.{LongPaired, LongInDouble};
 ghost use Rattle.pairs32.specs.Rounded.{roundedDouble};
 
@@ -75,7 +74,7 @@ fn add_line(h: &[f64; 64], low: bool, sum: &mut [i64; 64])
 // P of each row is added to its sums.
 pub fn add_back(h: &[[f64; 64]; 32], low: bool, sum: &mut [[i64; 64]; 32])
     requires { ⌜ record { whole : LongInDouble (longColumnMost low) (now h); sums-most : TileMost (2 ^ 40) (now sum); paired : LongPaired (pos 0) (now sum) } ⌝ }
-    ensures { λ _. ⌜ ((w : LongInDouble (longColumnMost low) (now (h .entry))) → now (sum .exit) ≡ grid 32 64 (λ y l. cell (pos 0) (now (sum .entry)) y l +ℤ away (halfSumOf side32 (planeIn (w .number) (l % 2) y) (l / 2)) (2 ^ 31))) ⌝ }
+    ensures { λ _. ⌜ ((w : LongInDouble (longColumnMost low) (now (h .entry))) → now (sum .exit) ≡ added 32 (now (sum .entry)) (λ p y x. away (halfSumOf side32 (planeIn (w .number) p y) x) (2 ^ 31))) ⌝ }
 {
     for y in 0..16 {
         add_line(&h[y], low, &mut sum[y]);

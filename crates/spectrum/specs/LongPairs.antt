@@ -1,5 +1,5 @@
 -- Inside the crates of the merge: two tiles of side 32 side by side (request L8), as Pairs has those of side 16.
-use Rattle.algebra.specs.Prelude.{_≡_, List, ℕ, _+_, _*_, _≤_, _<_, lit≤, getD, ℤ, pos, natAbs}
+use Rattle.algebra.specs.Prelude.{_≡_, List, ℕ, _+_, _≤_, _<_, lit≤, getD, ℤ, pos, natAbs}
 use native.Mathlib.Nat.{le-trans}
 use lib.Ieee.{Float, binary64, ofInt}
 use Rattle.sequences.specs.Tab.{tab}
@@ -7,8 +7,8 @@ use Rattle.sequences.specs.Grid.{grid, cell}
 use Rattle.recipe.specs.Tables32.{side32}
 use Rattle.recipe.specs.Correction.{quantized, filtered}
 use Rattle.spectrum.specs.Magnitudes.{gainMost, longBinMost}
-use Rattle.spectrum.specs.Spectrum.{transposed, tileReOf, tileImOf, spreadOf, quadPlaces, twoBinsOf, gainReOf, gainImOf, foldedQuad}
-use Rattle.spectrum.specs.Pairs.{sideBySide}
+use Rattle.spectrum.specs.Spectrum.{tileReOf, tileImOf, spreadOf, quadPlaces, twoBinsOf, gainReOf, gainImOf, foldedQuad}
+use Rattle.spectrum.specs.Pairs.{byColumns, pairGains, inverseIn, added}
 use Rattle.spectrum.specs.Turns.{turns32}
 use Rattle.spectrum.specs.QuadLaws.{quad-is-of, corner-is-of, bins-each-of}
 use Rattle.spectrum.specs.WienerLaws.{wiener-most}
@@ -28,6 +28,10 @@ pub record LongInDouble (m : ℕ) (g : List (List Float)) : Type 0 where
   pub most : (y l : ℕ) → natAbs (number y l) ≤ m
   pub is : g ≡ longDoubles number
 
+-- r is the sums of a pair with P of both planes added, from the folded G that g holds, each number of at most m
+abbrev pub LongInverseAdded : (m : ℕ) (g : List (List Float)) (sum r : List (List ℤ)) → Type 0
+LongInverseAdded m g sum r = (w : LongInDouble m g) → r ≡ added 32 sum (inverseIn side32 (w .number))
+
 -- the bins of the plane t are those that differences can have
 pub record LongBinned (t : ℕ → ℕ → ℤ) : Type 0 where
   pub re-most : (u v : ℕ) → u < 32 → v < 17 → natAbs (tileReOf side32 t u v) ≤ longBinMost
@@ -38,7 +42,11 @@ pub record LongBinnedPair (b : List (List Float)) : Type 0 where
   pub plane : (p : ℕ) → ℕ → ℕ → ℤ
   pub first : LongBinned (plane 0)
   pub second : LongBinned (plane 1)
-  pub is : b ≡ longDoubles (sideBySide (λ p. transposed (plane p)))
+  pub is : b ≡ longDoubles (byColumns plane)
+
+-- g holds their folded G at their noise numbers
+abbrev pub LongGainsOf : (first second : ℕ) (b g : List (List Float)) → Type 0
+LongGainsOf first second b g = (w : LongBinnedPair b) → g ≡ longDoubles (pairGains side32 first second (w .plane))
 
 -- a part of G of a bin of such a plane
 pub long-gain-most : (noise : ℕ) (b c : ℤ) → natAbs b ≤ longBinMost → natAbs (filtered side32 noise b c) ≤ gainMost

@@ -98,6 +98,10 @@ module _ (s : Side) where
   unfoldable pub gainImOf : (noise : ℕ) (t : ℕ → ℕ → ℤ) (u v : ℕ) → ℤ
   gainImOf noise t u v = filtered s noise (tileImOf t u v) (tileReOf t u v)
 
+  -- and folded
+  abbrev pub foldedGain : (noise : ℕ) (t : ℕ → ℕ → ℤ) (k b : ℕ) → ℤ
+  foldedGain noise t = spreadOf (gainReOf noise t) (gainImOf noise t)
+
   -- t holds B of the differences d
   pub record BinsHeld (d t : ℕ → ℕ → ℤ) : Type 0 where
     pub re : (u v : ℕ) → u < s .side → v < s .half + 1 → tileReOf t u v ≡ binRe s d u v

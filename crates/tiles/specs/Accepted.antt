@@ -3,6 +3,8 @@ use Rattle.algebra.specs.Prelude.{_≡_, List, ℕ, _/_, _≤_, _<_, length, �
 use Rattle.geometry.specs.declared.Shape.{Shape}
 use Rattle.geometry.specs.Fits.{BurstFits, SamplesFit, VectorsFit}
 use Rattle.recipe.specs.declared.Merge.{Merge}
+use Rattle.recipe.specs.Tables.{side16}
+use Rattle.recipe.specs.SpatialNoise.{spatialNumber}
 use Rattle.tiles.specs.declared.Site.{Site}
 
 pub record Accepted (side : ℕ) (m : Merge) (samples : List ℕ) (vectors : List ℤ) : Type 0 where
@@ -23,6 +25,10 @@ pub record Tuned (m : Merge) : Type 0 where
   pub shot-most : m .shot ≤ 65536
   pub read-most : m .read ≤ 4194304
   pub spatial-most : m .tuning .spatial ≤ 256
+
+-- V' of the bins of plane p, whose r is given
+abbrev pub spatialIn : Merge → (root : ℕ → ℕ) → (p u v : ℕ) → ℕ
+spatialIn m root p = spatialNumber side16 (m .tuning .spatial) (m .shot) (m .read) (root p) (m .shape .count)
 
 -- a pair of tiles of the planes of one row parity
 pub record Sited (side : ℕ) (s : Shape) (t : Site) : Type 0 where

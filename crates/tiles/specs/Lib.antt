@@ -1,5 +1,6 @@
 pub mod Accepted
 pub mod Sum
+pub mod Asked
 pub mod Toward
 pub mod Rows
 pub mod Places

@@ -1,17 +1,17 @@
 // What is taken from a pair of tiles: its noise numbers, its differences to the other frames, P summed over them, and the spatial filter's P'.
 ghost use mathlib.Core.Path.{_≡_};
-ghost use Prim.Native.Nat.{_/_, _%_, _≤_, _<_};
-ghost use lib.IntN.{pos, _+ℤ_, _*ℤ_};
-ghost use Rattle.sequences.specs.Grid.{grid, cell};
+ghost use Prim.Native.Nat.{_≤_, _<_};
+ghost use lib.IntN.{pos};
+ghost use Rattle.sequences.specs.Grid.{grid};
 ghost use Rattle.recipe.specs.Tables.{side16};
 ghost use Rattle.recipe.specs.NoiseNumber.{noiseNumber};
-ghost use Rattle.recipe.specs.SpatialNoise.{spatialNumber};
 ghost use Rattle.recipe.specs.Scene.{blackOf, sceneAt};
 ghost use Rattle.spectrum.specs.Magnitudes.{noiseMost, smallMost};
-ghost use Rattle.spectrum.specs.Pairs.{Paired, planeIn, either};
-ghost use Rattle.grain.specs.Filtering.{copyIn, stepAt, SamplePair, SumPair};
-ghost use Rattle.tiles.specs.Accepted.{Accepted, Sited, Tuned};
-ghost use Rattle.tiles.specs.Sum.{TileOf, Summed, Taken};
+ghost use Rattle.spectrum.specs.Pairs.{Paired, either};
+ghost use Rattle.grain.specs.Filtering.{filteredSums, SamplePair, SumPair};
+ghost use Rattle.tiles.specs.Accepted.{Accepted, Sited, Tuned, spatialIn};
+ghost use Rattle.tiles.specs.Sum.{Summed, Taken};
+ghost use Rattle.tiles.specs.Asked.{Correctable};
 use crate::Site;
 use crate::reading::differences;
 use crate::reading::pair;
@@ -46,7 +46,7 @@ fn corrections(
     second: u64,
     sum: &mut [[i64; 32]; 16],
 )
-    requires { ⌜ record { accepted : Accepted 16 m (now samples) (now vectors); sited : Sited 16 (m .shape) site; tile : TileOf 16 noiseMost (sceneAt side16 m (now samples) (now vectors)) site (now t0) first second; cleared : now sum ≡ grid 16 32 (λ i l. pos 0) } ⌝ }
+    requires { ⌜ Correctable 16 side16 noiseMost m (now samples) (now vectors) site (now t0) first second (now sum) ⌝ }
     ensures { λ _. ⌜ Summed 16 smallMost (sceneAt side16 m (now (samples .entry)) (now (vectors .entry))) site (now (sum .exit)) ⌝ }
 {
     let others = m.shape.count - 1;
@@ -69,7 +69,7 @@ fn summed(
     second: u64,
     sum: &mut [[i64; 32]; 16],
 )
-    requires { ⌜ record { accepted : Accepted 16 m (now samples) (now vectors); sited : Sited 16 (m .shape) site; tile : TileOf 16 noiseMost (sceneAt side16 m (now samples) (now vectors)) site (now t0) first second; cleared : now sum ≡ grid 16 32 (λ i l. pos 0) } ⌝ }
+    requires { ⌜ Correctable 16 side16 noiseMost m (now samples) (now vectors) site (now t0) first second (now sum) ⌝ }
     ensures { λ _. ⌜ Summed 16 smallMost (sceneAt side16 m (now (samples .entry)) (now (vectors .entry))) site (now (sum .exit)) ⌝ }
 {
     if first + second == 0 {
@@ -81,7 +81,7 @@ fn summed(
 // N·P' of the spatial filter is added to the sums of a pair of tiles of these roots.
 fn filter_sums(m: Merge, t0: &[[u16; 32]; 16], first: u64, second: u64, sum: &mut [[i64; 32]; 16])
     requires { ⌜ record { tuned : Tuned m; first-most : first ≤ 65520; second-most : second ≤ 65520; samples : SamplePair (now t0); sums : SumPair (m .shape .count) (now sum); paired : Paired (pos 0) (now sum) } ⌝ }
-    ensures { λ _. ⌜ now (sum .exit) ≡ grid 16 32 (λ y l. cell (pos 0) (now (sum .entry)) y l +ℤ pos (m .shape .count) *ℤ stepAt (spatialNumber side16 (m .tuning .spatial) (m .shot) (m .read) (either first second (l % 2)) (m .shape .count)) (copyIn (m .shape .count) (planeIn (cell 0 (now (t0 .entry))) (l % 2)) (planeIn (cell (pos 0) (now (sum .entry))) (l % 2))) y (l / 2)) ⌝ }
+    ensures { λ _. ⌜ now (sum .exit) ≡ filteredSums (m .shape .count) (spatialIn m (either first second)) (now (t0 .entry)) (now (sum .entry)) ⌝ }
 {
     let frames = m.shape.count as u64;
     let a = spatial_numbers(m.tuning.spatial, m.shot, m.read, first, frames);

@@ -8,7 +8,8 @@ ghost use Rattle.recipe.specs.NoiseNumber.{noiseNumber};
 ghost use Rattle.recipe.specs.Scene.{sceneAt};
 ghost use Rattle.spectrum.specs.Magnitudes.{longNoiseMost};
 ghost use Rattle.tiles.specs.Accepted.{Accepted, Sited};
-ghost use Rattle.tiles.specs.Sum.{TileOf, Summed, Taken};
+ghost use Rattle.tiles.specs.Sum.{Summed, Taken};
+ghost use Rattle.tiles.specs.Asked.{Correctable};
 ghost use Rattle.tiles32.specs.Sizes.{longSmallMost};
 use crate::SIDE;
 use crate::reading::differences;
@@ -36,7 +37,7 @@ fn corrections(
     second: u64,
     sum: &mut [[i64; 64]; 32],
 )
-    requires { ⌜ record { accepted : Accepted 32 m (now samples) (now vectors); sited : Sited 32 (m .shape) site; tile : TileOf 32 longNoiseMost (sceneAt side32 m (now samples) (now vectors)) site (now t0) first second; cleared : now sum ≡ grid 32 64 (λ i l. pos 0) } ⌝ }
+    requires { ⌜ Correctable 32 side32 longNoiseMost m (now samples) (now vectors) site (now t0) first second (now sum) ⌝ }
     ensures { λ _. ⌜ Summed 32 longSmallMost (sceneAt side32 m (now (samples .entry)) (now (vectors .entry))) site (now (sum .exit)) ⌝ }
 {
     let others = m.shape.count - 1;
@@ -60,7 +61,7 @@ fn summed(
     second: u64,
     sum: &mut [[i64; 64]; 32],
 )
-    requires { ⌜ record { accepted : Accepted 32 m (now samples) (now vectors); sited : Sited 32 (m .shape) site; tile : TileOf 32 longNoiseMost (sceneAt side32 m (now samples) (now vectors)) site (now t0) first second; cleared : now sum ≡ grid 32 64 (λ i l. pos 0) } ⌝ }
+    requires { ⌜ Correctable 32 side32 longNoiseMost m (now samples) (now vectors) site (now t0) first second (now sum) ⌝ }
     ensures { λ _. ⌜ Summed 32 longSmallMost (sceneAt side32 m (now (samples .entry)) (now (vectors .entry))) site (now (sum .exit)) ⌝ }
 {
     if first + second == 0 {

@@ -1,18 +1,16 @@
 // Pairs of tiles of side 32, read from a frame: T0, and its differences to Tz.
 ghost use mathlib.Core.Path.{_≡_};
-ghost use Prim.Native.Nat.{_+_, _<_};
+ghost use Prim.Native.Nat.{_+_};
 ghost use lib.IntN.{pos, _-ℤ_};
 ghost use lib.ListN.{length, getD};
-ghost use Rattle.algebra.specs.Bound.{AtMost};
 ghost use Rattle.sequences.specs.Tab.{tab};
 ghost use Rattle.sequences.specs.Grid.{grid, cell};
-ghost use Rattle.geometry.specs.Fits.{Sampled, ValuesFit};
+ghost use Rattle.geometry.specs.Fits.{ValuesFit};
 ghost use Rattle.geometry.specs.Read.{sampleAt};
-ghost use Rattle.spectrum.specs.Pairs.{sideBySide};
 ghost use Rattle.recipe.specs.Tables32.{side32};
-ghost use Rattle.recipe.specs.Scene.{tileAt, referenceTile, tileDifference, sceneAt};
-ghost use Rattle.tiles.specs.Accepted.{Accepted, Sited};
-ghost use Rattle.tiles.specs.Sum.{TileFits};
+ghost use Rattle.recipe.specs.Scene.{tileAt, tileDifference, sceneAt};
+ghost use Rattle.tiles.specs.Sum.{TileFits, pairAt};
+ghost use Rattle.tiles.specs.Asked.{Readable, Comparable};
 use crate::HALF_SIDE;
 use geometry::Shape;
 use geometry::vectors::other_frame;
@@ -55,8 +53,8 @@ pub fn pair(
     right: i32,
     tile: &mut [[u16; 64]; 32],
 )
-    requires { ⌜ record { sampled : Sampled shape (now samples); frame-below : frame < shape .count; sited : Sited 32 shape site; down-most : AtMost 172 down; right-most : AtMost 172 right; rows : length (now tile) ≡ 32 } ⌝ }
-    ensures { λ _. ⌜ now (tile .exit) ≡ grid 32 64 (sideBySide (λ p. tileAt side32 (shape .height) (shape .width) (site .«row_parity») p (sampleAt shape (now (samples .entry)) frame) down right (site .row) (site .column))) ⌝ }
+    requires { ⌜ Readable 32 shape (now samples) frame site down right (now tile) ⌝ }
+    ensures { λ _. ⌜ now (tile .exit) ≡ pairAt 32 (λ r p. tileAt side32 (shape .height) (shape .width) r p (sampleAt shape (now (samples .entry)) frame) down right) site ⌝ }
 {
     let y = moved(HALF_SIDE, site.row, down);
     let x = moved(HALF_SIDE, site.column, right);
@@ -74,8 +72,8 @@ pub fn differences(
     tz: &mut [[u16; 64]; 32],
     d: &mut [[i16; 64]; 32],
 )
-    requires { ⌜ record { accepted : Accepted 32 m (now samples) (now vectors); sited : Sited 32 (m .shape) site; frame : k + 1 < m .shape .count; tile : now t0 ≡ grid 32 64 (sideBySide (λ p. referenceTile (sceneAt side32 m (now samples) (now vectors)) (site .«row_parity») p (site .row) (site .column))); tz-rows : length (now tz) ≡ 32; d-rows : length (now d) ≡ 32 } ⌝ }
-    ensures { λ _. ⌜ (now (d .exit) ≡ grid 32 64 (sideBySide (λ p. tileDifference (sceneAt side32 m (now (samples .entry)) (now (vectors .entry))) (site .«row_parity») p (site .row) (site .column) k))) × (length (now (tz .exit)) ≡ 32) ⌝ }
+    requires { ⌜ Comparable 32 side32 m (now samples) (now vectors) site k (now t0) (now tz) (now d) ⌝ }
+    ensures { λ _. ⌜ (now (d .exit) ≡ pairAt 32 (λ r p a b. tileDifference (sceneAt side32 m (now (samples .entry)) (now (vectors .entry))) r p a b k) site) × (length (now (tz .exit)) ≡ 32) ⌝ }
 {
     let shape = m.shape;
     let place = vector_place(shape, k, site.row, site.column);

@@ -9,13 +9,11 @@ use quads::quad_at;
 use quads::set_quad;
 ghost use mathlib.Core.Path.{_≡_};
 ghost use mathlib.Core.Bool.{true};
-ghost use Prim.Native.Nat.{ℕ, _+_, _*_, _%_, _≤_, _<_};
-ghost use lib.IntN.{ℤ};
+ghost use Prim.Native.Nat.{_+_, _*_, _%_, _≤_, _<_};
 ghost use lib.Ieee.{nan};
 ghost use Rattle.sequences.specs.Tab.{tab};
 ghost use Rattle.spectrum.specs.Magnitudes.{noiseMost};
-ghost use Rattle.spectrum.specs.Spectrum.{transposed, spread, gainRe, gainIm};
-ghost use Rattle.spectrum.specs.Pairs.{sideBySide, either, Paired, doubles, Binned};
+ghost use Rattle.spectrum.specs.Pairs.{either, Paired, GainsOf};
 ghost use Rattle.sequences.specs.Grid.{cell};
 ghost use Rattle.quads.specs.Lanes.{quadAt, Lanes};
 ghost use Rattle.wiener.specs.DoubleQuads.{newQuad, Shrunk};
@@ -139,7 +137,7 @@ fn alternating(a: f64, b: f64) -> [f64; 16]
 // is not to be used.
 pub fn filter(b: &mut [[f64; 32]; 16], first: u64, second: u64) -> bool
     requires { ⌜ record { paired : Paired nan (now b); first-most : first ≤ noiseMost; second-most : second ≤ noiseMost } ⌝ }
-    ensures { λ r. ⌜ (r ≡ true → (t : ℕ → ℕ → ℕ → ℤ) → Binned (t 0) → Binned (t 1) → now (b .entry) ≡ doubles (sideBySide (λ p. transposed (t p))) → now (b .exit) ≡ doubles (sideBySide (λ p. transposed (spread (gainRe (either first second p) (t p)) (gainIm (either first second p) (t p)))))) ⌝ }
+    ensures { λ r. ⌜ (r ≡ true → GainsOf first second (now (b .entry)) (now (b .exit))) ⌝ }
 {
     let v = alternating(first as f64, second as f64);
     let w = alternating(first as f64 * SLIGHTLY_MORE, second as f64 * SLIGHTLY_MORE);

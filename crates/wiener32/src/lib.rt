@@ -9,15 +9,12 @@ use quads32::quad_at;
 use quads32::set_quad;
 ghost use mathlib.Core.Path.{_≡_};
 ghost use mathlib.Core.Bool.{true};
-ghost use Prim.Native.Nat.{ℕ, _+_, _*_, _%_, _≤_, _<_};
-ghost use lib.IntN.{ℤ};
+ghost use Prim.Native.Nat.{_+_, _*_, _%_, _≤_, _<_};
 ghost use lib.Ieee.{nan};
 ghost use Rattle.sequences.specs.Tab.{tab};
 ghost use Rattle.spectrum.specs.Magnitudes.{longNoiseMost};
-ghost use Rattle.spectrum.specs.Spectrum.{transposed, spreadOf, gainReOf, gainImOf};
-ghost use Rattle.recipe.specs.Tables32.{side32};
-ghost use Rattle.spectrum.specs.Pairs.{sideBySide, either};
-ghost use Rattle.spectrum.specs.LongPairs.{LongPaired, longDoubles, LongBinned};
+ghost use Rattle.spectrum.specs.Pairs.{either};
+ghost use Rattle.spectrum.specs.LongPairs.{LongPaired, LongGainsOf};
 ghost use Rattle.sequences.specs.Grid.{cell};
 ghost use Rattle.quads32.specs.Lanes.{quadAt, Lanes};
 ghost use Rattle.wiener.specs.DoubleQuads.{newQuadBy};
@@ -142,7 +139,7 @@ fn alternating(a: f64, b: f64) -> [f64; 32]
 // is not to be used.
 pub fn filter(b: &mut [[f64; 64]; 32], first: u64, second: u64) -> bool
     requires { ⌜ record { paired : LongPaired nan (now b); first-most : first ≤ longNoiseMost; second-most : second ≤ longNoiseMost } ⌝ }
-    ensures { λ r. ⌜ record { paired : LongPaired nan (now (b .exit)); is : r ≡ true → (t : ℕ → ℕ → ℕ → ℤ) → LongBinned (t 0) → LongBinned (t 1) → now (b .entry) ≡ longDoubles (sideBySide (λ p. transposed (t p))) → now (b .exit) ≡ longDoubles (sideBySide (λ p. transposed (spreadOf side32 (gainReOf side32 (either first second p) (t p)) (gainImOf side32 (either first second p) (t p))))) } ⌝ }
+    ensures { λ r. ⌜ record { paired : LongPaired nan (now (b .exit)); is : r ≡ true → LongGainsOf first second (now (b .entry)) (now (b .exit)) } ⌝ }
 {
     let v = alternating(first as f64, second as f64);
     let w = alternating(first as f64 * SLIGHTLY_MORE, second as f64 * SLIGHTLY_MORE);

@@ -1,18 +1,13 @@
 -- `pairs::gains`: B, and one of the two filters in its place.
-use Rattle.algebra.specs.Prelude.{refl, ℕ, ℤ, arith, pos, now}
+use Rattle.algebra.specs.Prelude.{refl}
 use lib.Ieee.{binary64, ofBits}
 use Rattle.sequences.specs.Tab.{tab}
-use Rattle.sequences.specs.Grid.{grid, cell}
-use Rattle.spectrum.specs.Spectrum.{twoWay}
-use Rattle.spectrum.specs.Pairs.{planeIn, doubles}
+use Rattle.sequences.specs.Grid.{grid}
+use Rattle.spectrum.specs.Pairs.{doubles}
 use Rattle.pairs.proofs.ColumnLaws.{paired-grid}
-use Rattle.pairs.proofs.Corrections.{plane-binned, binned-pair}
+use Rattle.pairs.proofs.Corrections.{binned-pair}
 use Rattle.pairs.proofs.gains.Statement.{statement}
 use Rattle.pairs.proofs.gains.Tie as tie
-
--- the bins of plane p of the differences
-abbrev bins : tie.Start → ℕ → ℕ → ℕ → ℤ
-bins s p = twoWay (planeIn (cell (pos 0) (now (s .args .d))) p)
 
 filter-requires : tie.Need-filter-requires
 unfolding doubles
@@ -26,7 +21,7 @@ returns c =
     let f = c .before in
     let b = f .before .before in
     let s = b .before .before in
-    f .filter .ensures (c .if1 .taken) (bins s) (plane-binned (s .pre .differences) 0) (plane-binned (s .pre .differences) 1) (b .forward .ensures)
+    f .filter .ensures (c .if1 .taken) (binned-pair (s .pre .differences) (b .forward .ensures))
 
 forward-into-requires : tie.Need-forward-into-requires
 unfolding grid tab

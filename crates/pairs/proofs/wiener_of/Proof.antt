@@ -12,7 +12,7 @@ filter-requires c κs =
     record { paired = paired-grid _ (s .pre .binned .is); first-most = s .pre .first-most; second-most = s .pre .second-most }
 
 returns : tie.Need-returns
-returns c w = c .before .filter .ensures (c .if1 .taken) (w .plane) (w .first) (w .second) (w .is)
+returns c = c .before .filter .ensures (c .if1 .taken)
 
 filter-exactly-requires : tie.Need-filter-exactly-requires
 filter-exactly-requires c κs =
@@ -20,4 +20,4 @@ filter-exactly-requires c κs =
     record { binned = s .pre .binned; first-most = omega arith; second-most = omega arith }
 
 pub wiener-of-spec : {M : Type 1} → statement M
-wiener-of-spec = tie.close (tie.spec filter-requires returns filter-exactly-requires (λ c w. c .filter-exactly .ensures w))
+wiener-of-spec = tie.close (tie.spec filter-requires returns filter-exactly-requires (λ c. c .filter-exactly .ensures))

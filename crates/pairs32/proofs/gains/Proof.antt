@@ -22,7 +22,7 @@ returns c =
     let b = f .before .before in
     let s = b .before .before in
     let w = binned-pair (s .pre .differences) (b .forward .ensures) in
-    f .filter .ensures .is (c .if1 .taken) (w .plane) (w .first) (w .second) (w .is)
+    f .filter .ensures .is (c .if1 .taken) w
 
 forward-requires-2 : tie.Need-forward-requires-2
 forward-requires-2 c κs =

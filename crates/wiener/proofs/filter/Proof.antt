@@ -63,7 +63,7 @@ loop-again c =
 
 returns-7 : tie.Need-returns-7 Inv-loop μ-loop
 unfolding ofBits slightlyMore
-returns-7 c e t m m' q =
+returns-7 c e w =
     let p = c .before in
     let x = p .before in
     let l = x .before in
@@ -75,9 +75,9 @@ returns-7 c e t m m' q =
     let s = first .before .before .before in
     let start = shrunk-join {z = true} (lit≤ tt) (lit≤ tt) (o .corner .ensures) (l .left .ensures) (λ e. (sure-of (o .corner .result) (y .if3 .left), sure-of (l .left .result) (x .if4 .left))) in
     let all = shrunk-at {s = true} {o = 128} (shrunk-join (omega arith) (omega arith) start (p .loop .inv .2) (λ e. (refl, refl))) (omega arith) in
-    pair-filtered (s .args .first) (s .args .second) t
-    (double-quads (s .args .first) (s .args .second) t (record { above = omega arith; most = s .pre .first-most; binned = m }) (record { above = omega arith; most = s .pre .second-most; binned = m' }) (first .alternating .ensures) (second .alternating2 .ensures) q (all .sure refl))
-    (all .new) q
+    pair-filtered (s .args .first) (s .args .second) (w .plane)
+    (double-quads (s .args .first) (s .args .second) (w .plane) (record { above = omega arith; most = s .pre .first-most; binned = w .first }) (record { above = omega arith; most = s .pre .second-most; binned = w .second }) (first .alternating .ensures) (second .alternating2 .ensures) (w .is) (all .sure refl))
+    (all .new) (w .is)
 
 pub filter-spec : {M : Type 1} → statement M
 filter-spec = tie.close (tie.spec

@@ -96,10 +96,10 @@ returns-7 c =
     let all = shrunk-at {s = true} {o = 512} (shrunk-join (omega arith) (omega arith) start (p .loop .inv .2) (λ e. (refl, refl))) (omega arith) in
     record {
       paired = all .new .paired;
-      is = λ e t m m' q.
-          pair-filtered (s .args .first) (s .args .second) t
-          (double-quads (s .args .first) (s .args .second) t (record { above = omega arith; most = s .pre .first-most; binned = m }) (record { above = omega arith; most = s .pre .second-most; binned = m' }) (first .alternating .ensures) (second .alternating2 .ensures) q (all .sure refl))
-          (all .new) q;
+      is = λ e w.
+          pair-filtered (s .args .first) (s .args .second) (w .plane)
+          (double-quads (s .args .first) (s .args .second) (w .plane) (record { above = omega arith; most = s .pre .first-most; binned = w .first }) (record { above = omega arith; most = s .pre .second-most; binned = w .second }) (first .alternating .ensures) (second .alternating2 .ensures) (w .is) (all .sure refl))
+          (all .new) (w .is);
     }
 
 pub filter-spec : {M : Type 1} → statement M
