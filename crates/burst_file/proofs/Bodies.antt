@@ -31,11 +31,11 @@ head-allowed file header rest e =
     packed-allowed (header .shape) (read .packed) (passed (read .passed) (search among depth 20)) (passed (read .passed) (search among depth 20))
 
 -- and its rows have no spare words
-pub head-packed : (file : List ℕ) (header : Header) (rest : List ℕ) → found header rest ≡ headOf file → header .shape .«row_length» ≡ header .shape .width
+pub head-packed : (file : List ℕ) (header : Header) (rest : List ℕ) → found header rest ≡ headOf file → header .shape .pitch ≡ header .shape .width
 head-packed file header rest e = sound-at (HeadRead file) (sym e) (head-sound file) .packed
 
 -- frames that are not refused are the next values, to the end of the file
-module _ (shape : Shape) (packed : shape .«row_length» ≡ shape .width) (bytes : List ℕ) where
+module _ (shape : Shape) (packed : shape .pitch ≡ shape .width) (bytes : List ℕ) where
   pub frames-next : numberOf (framesOf shape bytes) ≡ 0
       → (framesOf shape bytes ≡ found (nextValues (sampleLength shape) bytes) []) × (above 4095 (nextValues (sampleLength shape) bytes) ≡ false)
   unfolding framesOf sampleLength
@@ -47,9 +47,9 @@ module _ (shape : Shape) (packed : shape .«row_length» ≡ shape .width) (byte
       sound-found (λ samples rest. P samples [] × (rest ≡ [])) (framesOf shape bytes) e
       (ended-sound P (rowLines count width bytes)
       (both-sound (Next (count * width) bytes) (SmallRows count width bytes) (rowLines count width bytes) (rows-next count width bytes) (rows-sound count width bytes))) in
-      let order : count * width ≡ shape .count * (shape .«row_length» * shape .height) =
+      let order : count * width ≡ shape .count * (shape .pitch * shape .height) =
       mul-assoc (shape .count) (shape .height) width ∙ ap (λ (k : ℕ). shape .count * k) (mul-comm (shape .height) width ∙ ap (λ (n : ℕ). n * shape .height) (sym packed)) in
-      let all : nextValues (shape .count * (shape .«row_length» * shape .height)) bytes ≡ samples = ap (λ (k : ℕ). nextValues k bytes) (sym order) ∙ next-all (count * width) bytes samples [] (all-rows .0 .0) in
+      let all : nextValues (shape .count * (shape .pitch * shape .height)) bytes ≡ samples = ap (λ (k : ℕ). nextValues k bytes) (sym order) ∙ next-all (count * width) bytes samples [] (all-rows .0 .0) in
       (rw all (is ∙ ap (found samples) (all-rows .1)), rw all (all-rows .0 .1 .1))
 
 -- without refusal 4

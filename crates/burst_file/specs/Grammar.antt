@@ -21,5 +21,5 @@ pub record BurstFile (file : List ℕ) (burst : FileBurst) : Type 0 where
   pub named : file ≡ names ++ afterNames
   pub valued : ValueLine 7 afterNames (sevenOf (burst .header)) afterValues
   pub sixteen : burst .header .shape .side ≡ 16
-  pub packed : burst .header .shape .«row_length» ≡ burst .header .shape .width
+  pub packed : burst .header .shape .pitch ≡ burst .header .shape .width
   pub sampled : Rows (burst .header .shape .count * burst .header .shape .height) (burst .header .shape .width) afterValues (burst .samples) []

@@ -40,8 +40,8 @@ acceptedFile header =
       height = header .shape .height;
       count = header .shape .count;
       reference = header .reference;
-      «shot_level» = header .«shot_level»;
-      «read_level» = header .«read_level»;
+      «shot_level» = header .shot;
+      «read_level» = header .read;
       strength = header .strength;
     }
 

@@ -55,8 +55,8 @@ fn accepted(header: Header) -> FileAnswer
         height: shape.height as u64,
         count: shape.count as u64,
         reference: header.reference as u64,
-        shot_level: header.shot_level,
-        read_level: header.read_level,
+        shot_level: header.shot,
+        read_level: header.read,
         strength: header.strength,
     }
 }

@@ -76,8 +76,8 @@ frames-pass s frame a h =
       le-leb 1 (s .count) (a .some),
       le-leb (s .count) 8 (a .few),
       lt-leb (s .count) frame h,
-      le-leb (s .width) (s .«row_length») (a .row-least),
-      le-leb (s .«row_length») (s .width + 256) (a .row-most),
+      le-leb (s .width) (s .pitch) (a .row-least),
+      le-leb (s .pitch) (s .width + 256) (a .row-most),
     )
 
 module _ (file : List ℕ) (es : List Entry) where

@@ -6,4 +6,4 @@ use Rattle.file_head.specs.declared.Header.{Header}
 -- "those seven values (shot and read are Ls and Lr)", in the order of the names
 abbrev pub sevenOf : Header → List ℕ
 sevenOf header =
-    header .shape .width ∷ header .shape .height ∷ header .shape .count ∷ header .reference ∷ header .«shot_level» ∷ header .«read_level» ∷ header .strength ∷ []
+    header .shape .width ∷ header .shape .height ∷ header .shape .count ∷ header .reference ∷ header .shot ∷ header .read ∷ header .strength ∷ []

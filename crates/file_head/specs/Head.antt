@@ -33,8 +33,8 @@ headerOf values =
     record {
       shape = shaped (getD values 0 0) (getD values 1 0) (getD values 2 0) 16 (getD values 0 0);
       reference = getD values 3 0;
-      «shot_level» = getD values 4 0;
-      «read_level» = getD values 5 0;
+      shot = getD values 4 0;
+      read = getD values 5 0;
       strength = getD values 6 0;
     }
 
@@ -44,7 +44,7 @@ headerRefusal header =
     first
     (shapeTests (header .shape)
     ++ referenceRefusal (header .shape) (header .reference)
-    ∷ levelRefusal (header .«shot_level») (header .«read_level»)
+    ∷ levelRefusal (header .shot) (header .read)
     ∷ strengthRefusal (header .strength)
     ∷ [])
 

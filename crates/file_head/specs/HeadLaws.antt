@@ -47,15 +47,15 @@ unfolding tab
 seven values e = sym (tab-of 0 values ∙ ap (λ (n : ℕ). tab n (λ i. getD values i 0)) e)
 
 -- and the header of seven values is theirs, with tiles of side 16 and rows that have no spare words
-seven-of : (header : Header) → header .shape .side ≡ 16 → header .shape .«row_length» ≡ header .shape .width → headerOf (sevenOf header) ≡ header
+seven-of : (header : Header) → header .shape .side ≡ 16 → header .shape .pitch ≡ header .shape .width → headerOf (sevenOf header) ≡ header
 seven-of header f e =
     let s = header .shape in
-    ap₂ (λ m n. record { shape = shaped (s .width) (s .height) (s .count) m n; reference = header .reference; «shot_level» = header .«shot_level»; «read_level» = header .«read_level»; strength = header .strength }) (sym f) (sym e)
+    ap₂ (λ m n. record { shape = shaped (s .width) (s .height) (s .count) m n; reference = header .reference; shot = header .shot; read = header .read; strength = header .strength }) (sym f) (sym e)
 
 -- such a shape passes 23, and so is allowed where it passes 1 and 2
-pub packed-allowed : (s : Shape) → s .«row_length» ≡ s .width → sizeRefusal s ≡ 0 → countRefusal s ≡ 0 → Allowed s
+pub packed-allowed : (s : Shape) → s .pitch ≡ s .width → sizeRefusal s ≡ 0 → countRefusal s ≡ 0 → Allowed s
 unfolding rowRefusal rowAllowed
-packed-allowed s e size count = allowed s size count (rw (le-leb (s .width) (s .«row_length») (omega arith), le-leb (s .«row_length») (s .width + 256) (omega arith)))
+packed-allowed s e size count = allowed s size count (rw (le-leb (s .width) (s .pitch) (omega arith), le-leb (s .pitch) (s .width + 256) (omega arith)))
 
 -- a file that begins with the names and a line of seven values, which are those of the header, with values that are not refused
 pub record HeadRead (file : List ℕ) (header : Header) (rest : List ℕ) : Type 0 where
@@ -63,7 +63,7 @@ pub record HeadRead (file : List ℕ) (header : Header) (rest : List ℕ) : Type
   pub named : file ≡ names ++ afterNames
   pub valued : ValueLine 7 afterNames (sevenOf header) rest
   pub sixteen : header .shape .side ≡ 16
-  pub packed : header .shape .«row_length» ≡ header .shape .width
+  pub packed : header .shape .pitch ≡ header .shape .width
   pub passed : headerRefusal header ≡ 0
 
 pub head-sound : (file : List ℕ) → Sound (HeadRead file) (headOf file)

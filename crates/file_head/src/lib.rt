@@ -18,8 +18,8 @@ use sizes::size_refusal;
 pub struct Header {
     pub shape: Shape,
     pub reference: usize,
-    pub shot_level: u64,
-    pub read_level: u64,
+    pub shot: u64,
+    pub read: u64,
     pub strength: u64,
 }
 
@@ -67,14 +67,14 @@ fn header_at(file: &[u8], at: usize) -> Header
     let height = value_at(file, width.next);
     let count = value_at(file, height.next);
     let reference = value_at(file, count.next);
-    let shot_level = value_at(file, reference.next);
-    let read_level = value_at(file, shot_level.next);
-    let strength = value_at(file, read_level.next);
+    let shot = value_at(file, reference.next);
+    let read = value_at(file, shot.next);
+    let strength = value_at(file, read.next);
     Header {
         shape: geometry::shaped(width.value, height.value, count.value, 16, width.value),
         reference: reference.value as usize,
-        shot_level: shot_level.value,
-        read_level: read_level.value,
+        shot: shot.value,
+        read: read.value,
         strength: strength.value,
     }
 }
@@ -89,7 +89,7 @@ fn header_refusal(header: Header) -> u64
             size_refusal(shape),
             count_refusal(shape),
             reference_refusal(shape, header.reference),
-            level_refusal(header.shot_level, header.read_level),
+            level_refusal(header.shot, header.read),
             strength_refusal(header.strength),
         ],
     )

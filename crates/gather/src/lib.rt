@@ -252,12 +252,12 @@ fn output_block(
 }
 
 // Row y of a row parity, from its first word on, for an output that begins with row `top` of the frame.
-fn row_span(shape: Shape, reference: usize, row_parity: usize, y: usize, top: usize) -> Span
-    requires { ⌜ Inside shape reference «row_parity» y top ⌝ }
-    ensures { λ r. ⌜ (r ≡ rowSpan shape reference «row_parity» y top) × (Roomy shape r) ⌝ }
+fn row_span(shape: Shape, reference: usize, parity: usize, y: usize, top: usize) -> Span
+    requires { ⌜ Inside shape reference parity y top ⌝ }
+    ensures { λ r. ⌜ (r ≡ rowSpan shape reference parity y top) × (Roomy shape r) ⌝ }
 {
-    let row = 2 * y + row_parity;
-    let from = reference * (shape.row_length * shape.height) + row * shape.row_length;
+    let row = 2 * y + parity;
+    let from = reference * (shape.pitch * shape.height) + row * shape.pitch;
     let start = (row - top) * shape.width;
     let side = shape.side;
     let half = side / 2;
@@ -297,14 +297,14 @@ pub fn output_row(
     shape: Shape,
     reference: usize,
     samples: &[u16],
-    row_parity: usize,
+    parity: usize,
     y: usize,
     top: usize,
     work: &[i64],
     output: &mut [u16],
 )
-    requires { ⌜ RowReady shape reference «row_parity» y top (length (now samples)) (length (now output)) (now work) ⌝ }
-    ensures { λ _. ⌜ now (output .exit) ≡ rowWritten (now (output .entry)) (now (samples .entry)) (now (work .entry)) shape reference «row_parity» y top ⌝ }
+    requires { ⌜ RowReady shape reference parity y top (length (now samples)) (length (now output)) (now work) ⌝ }
+    ensures { λ _. ⌜ now (output .exit) ≡ rowWritten (now (output .entry)) (now (samples .entry)) (now (work .entry)) shape reference parity y top ⌝ }
 {
     let side = shape.side;
     let half = side / 2;
@@ -316,7 +316,7 @@ pub fn output_row(
         count,
         inverse: (524287 + count as u64) / count as u64,
     };
-    let row = row_span(shape, reference, row_parity, y, top);
+    let row = row_span(shape, reference, parity, y, top);
     for column in 0..shape.width / side {
         let span = further(row, column);
         output_block(samples, work, &lower, &upper, span, by, &mut *output);

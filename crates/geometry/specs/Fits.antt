@@ -16,8 +16,8 @@ pub record Allowed (s : Shape) : Type 0 where
   pub high : AllowedSize (s .height)
   pub some : 1 ≤ s .count
   pub few : s .count ≤ 8
-  pub row-least : s .width ≤ s .«row_length»
-  pub row-most : s .«row_length» ≤ s .width + 256
+  pub row-least : s .width ≤ s .pitch
+  pub row-most : s .pitch ≤ s .width + 256
 
 -- refusal 22
 pub record TileSide (side : ℕ) : Type 0 where

@@ -7,7 +7,7 @@ use Rattle.geometry.specs.Tiles.{frameParts}
 
 -- a burst's shape, by W, H, N, the side of its tiles and L
 abbrev pub shaped : (width height count side rowLength : ℕ) → Shape
-shaped width height count side rowLength = record { width = width; height = height; count = count; side = side; «row_length» = rowLength }
+shaped width height count side rowLength = record { width = width; height = height; count = count; side = side; pitch = rowLength }
 
 -- "Width W and height H are multiples of 64 from 64 to 4096."
 unfoldable pub sizeAllowed : ℕ → Bool
@@ -43,11 +43,11 @@ rowAllowed width rowLength = leb width rowLength && leb rowLength (width + 256)
 
 -- refusal 23: "a row length outside that range" (request L9)
 unfoldable pub rowRefusal : Shape → ℕ
-rowRefusal s = refuse no.rowLength (not (rowAllowed (s .width) (s .«row_length»)))
+rowRefusal s = refuse no.rowLength (not (rowAllowed (s .width) (s .pitch)))
 
 -- "Frames are Bayer RGGB, row by row", with "spare words after each row" (request L9): from a sample to the one below it, and to the one in the next frame
 abbrev pub rowStride : Shape → ℕ
-rowStride s = s .«row_length»
+rowStride s = s .pitch
 
 abbrev pub frameStride : Shape → ℕ
 frameStride s = rowStride s * s .height

@@ -28,7 +28,7 @@ unfolding sizeRefusal countRefusal countAllowed rowRefusal rowAllowed
 allowed s size count row =
     let sizes = both (not-false _ (refuse-not no.size (not (sizeAllowed (s .width) && sizeAllowed (s .height))) tt size)) in
     let counts = both (not-false _ (refuse-not no.count (not (countAllowed (s .count))) tt count)) in
-    let rows = both (not-false _ (refuse-not no.rowLength (not (rowAllowed (s .width) (s .«row_length»))) tt row)) in
+    let rows = both (not-false _ (refuse-not no.rowLength (not (rowAllowed (s .width) (s .pitch))) tt row)) in
     record {
       wide = allowed-size _ (sizes .0);
       high = allowed-size _ (sizes .1);
@@ -60,7 +60,7 @@ module _ {s : Shape} (ok : Allowed s) where
   area-most = mul-le-mul {n₁ = s .width} {m₁ = s .height} {n₂ = 4096} {m₂ = 4096} (ok .wide .most) (ok .high .most)
 
   pub frame-most : frameStride s ≤ 17825792
-  frame-most = mul-le-mul {n₁ = s .«row_length»} {m₁ = s .height} {n₂ = 4352} {m₂ = 4096} (omega (arith, ok .row-most, ok .wide .most)) (ok .high .most)
+  frame-most = mul-le-mul {n₁ = s .pitch} {m₁ = s .height} {n₂ = 4352} {m₂ = 4096} (omega (arith, ok .row-most, ok .wide .most)) (ok .high .most)
 
   pub samples-most : s .count * frameStride s ≤ 142606336
   samples-most = mul-le-mul {n₁ = s .count} {m₁ = frameStride s} {n₂ = 8} {m₂ = 17825792} (ok .few) frame-most

@@ -6,25 +6,25 @@ pub mod vectors;
 ghost use mathlib.Core.Path.{_≡_};
 ghost use Rattle.geometry.specs.Shape.{shaped};
 
-// A burst's frames: `count` of them, each of `height` rows of `width` samples. A row takes `row_length` words: those after its samples are spare. `side` is
+// A burst's frames: `count` of them, each of `height` rows of `width` samples. A row takes `pitch` words: those after its samples are spare. `side` is
 // that of level 0's tiles, which are the merge's as well.
 pub struct Shape {
     pub width: usize,
     pub height: usize,
     pub count: usize,
     pub side: usize,
-    pub row_length: usize,
+    pub pitch: usize,
 }
 
 // The shape of a burst, by W, H, N, the side of its tiles and L.
-pub fn shaped(width: u64, height: u64, count: u64, side: u64, row_length: u64) -> Shape
-    ensures { λ r. ⌜ r ≡ shaped width height count side «row_length» ⌝ }
+pub fn shaped(width: u64, height: u64, count: u64, side: u64, pitch: u64) -> Shape
+    ensures { λ r. ⌜ r ≡ shaped width height count side pitch ⌝ }
 {
     Shape {
         width: width as usize,
         height: height as usize,
         count: count as usize,
         side: side as usize,
-        row_length: row_length as usize,
+        pitch: pitch as usize,
     }
 }

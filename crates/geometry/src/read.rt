@@ -12,7 +12,7 @@ pub fn sample_index(shape: Shape, frame: usize, row: usize, column: usize) -> us
     requires { ⌜ (Allowed shape) × (Placed shape frame row column) ⌝ }
     ensures { λ r. ⌜ (r ≡ sampleIndex shape frame row column) × (r < sampleLength shape) ⌝ }
 {
-    (frame * shape.height + row) * shape.row_length + column
+    (frame * shape.height + row) * shape.pitch + column
 }
 
 // The sample of a frame at a row and a column.

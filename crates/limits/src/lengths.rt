@@ -14,7 +14,7 @@ pub fn sample_length(shape: Shape) -> usize
     requires { ⌜ Allowed shape ⌝ }
     ensures { λ r. ⌜ (r ≡ sampleLength shape) × (r ≤ 142606336) ⌝ }
 {
-    shape.count * (shape.row_length * shape.height)
+    shape.count * (shape.pitch * shape.height)
 }
 
 // Words of vectors: two to a tile, for each frame but the reference.

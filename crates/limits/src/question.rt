@@ -48,12 +48,12 @@ pub fn length_question(
     height: u64,
     count: u64,
     side: u64,
-    row_length: u64,
+    pitch: u64,
     number: u64,
 ) -> u64
-    ensures { λ r. ⌜ r ≡ lengthQuestion width height count side «row_length» number ⌝ }
+    ensures { λ r. ⌜ r ≡ lengthQuestion width height count side pitch number ⌝ }
 {
-    let shape = shaped(width, height, count, side, row_length);
+    let shape = shaped(width, height, count, side, pitch);
     if question_refusal(shape) != 0 {
         return 0;
     }

@@ -15,22 +15,22 @@ fn correction_row(
     m: Merge,
     samples: &[u16],
     vectors: &[i32],
-    row_parity: usize,
+    parity: usize,
     row: usize,
     work: &mut [i64],
 )
-    requires { ⌜ record { accepted : Accepted (m .shape .side) m (now samples) (now vectors); parity : «row_parity» < 2; row-most : row ≤ m .shape .height / m .shape .side; room : 2 * rowWords (m .shape .side) (m .shape .width) ≤ length (now work) } ⌝ }
-    ensures { λ _. ⌜ Stored (m .shape .side) (sceneOf m (now (samples .entry)) (now (vectors .entry))) «row_parity» row (now (work .entry)) (now (work .exit)) ⌝ }
+    requires { ⌜ record { accepted : Accepted (m .shape .side) m (now samples) (now vectors); parity : parity < 2; row-most : row ≤ m .shape .height / m .shape .side; room : 2 * rowWords (m .shape .side) (m .shape .width) ≤ length (now work) } ⌝ }
+    ensures { λ _. ⌜ Stored (m .shape .side) (sceneOf m (now (samples .entry)) (now (vectors .entry))) parity row (now (work .entry)) (now (work .exit)) ⌝ }
 {
     if m.shape.side == 32 {
-        if row_parity == 0 {
+        if parity == 0 {
             tiles32::rows::correction_row(m, samples, vectors, 0, row, &mut *work);
             return;
         }
         tiles32::rows::correction_row(m, samples, vectors, 1, row, &mut *work);
         return;
     }
-    if row_parity == 0 {
+    if parity == 0 {
         tiles::rows::correction_row(m, samples, vectors, 0, row, &mut *work);
         return;
     }
@@ -42,16 +42,16 @@ fn merge_band(
     m: Merge,
     samples: &[u16],
     vectors: &[i32],
-    row_parity: usize,
+    parity: usize,
     first: usize,
     band: usize,
     output: &mut [u16],
     work: &mut [i64],
 )
-    requires { ⌜ BandReady m (now samples) (now vectors) «row_parity» first band (length (now output)) (now work) ⌝ }
-    ensures { λ _. ⌜ BandMerged (m .shape .side) (sceneOf m (now (samples .entry)) (now (vectors .entry))) (m .shape .side * first) «row_parity» band (now (output .entry)) (now (output .exit)) (now (work .exit)) ⌝ }
+    requires { ⌜ BandReady m (now samples) (now vectors) parity first band (length (now output)) (now work) ⌝ }
+    ensures { λ _. ⌜ BandMerged (m .shape .side) (sceneOf m (now (samples .entry)) (now (vectors .entry))) (m .shape .side * first) parity band (now (output .entry)) (now (output .exit)) (now (work .exit)) ⌝ }
 {
-    correction_row(m, samples, vectors, row_parity, band + 1, &mut *work);
+    correction_row(m, samples, vectors, parity, band + 1, &mut *work);
     let shape = m.shape;
     let half = shape.side / 2;
     let top = shape.side * first;
@@ -60,7 +60,7 @@ fn merge_band(
             shape,
             m.reference,
             samples,
-            row_parity,
+            parity,
             half * band + i,
             top,
             &*work,
@@ -74,22 +74,22 @@ pub fn merge_parity(
     m: Merge,
     samples: &[u16],
     vectors: &[i32],
-    row_parity: usize,
+    parity: usize,
     first: usize,
     last: usize,
     output: &mut [u16],
     work: &mut [i64],
 )
-    requires { ⌜ ParityReady m (now samples) (now vectors) «row_parity» first last (length (now output)) (length (now work)) ⌝ }
-    ensures { λ _. ⌜ RowsMerged (sceneOf m (now (samples .entry)) (now (vectors .entry))) (m .shape .side * first) «row_parity» (m .shape .side / 2 * first) (m .shape .side / 2 * last) (now (output .entry)) (now (output .exit)) ⌝ }
+    requires { ⌜ ParityReady m (now samples) (now vectors) parity first last (length (now output)) (length (now work)) ⌝ }
+    ensures { λ _. ⌜ RowsMerged (sceneOf m (now (samples .entry)) (now (vectors .entry))) (m .shape .side * first) parity (m .shape .side / 2 * first) (m .shape .side / 2 * last) (now (output .entry)) (now (output .exit)) ⌝ }
 {
-    correction_row(m, samples, vectors, row_parity, first, &mut *work);
+    correction_row(m, samples, vectors, parity, first, &mut *work);
     for band in first..last {
         merge_band(
             m,
             samples,
             vectors,
-            row_parity,
+            parity,
             first,
             band,
             &mut *output,

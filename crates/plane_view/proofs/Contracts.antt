@@ -45,7 +45,7 @@ module _ (R : RattleType) where
 
   -- the view of such fields
   abbrev pub view-of : (κs : Lfts 1) → Args (of-fields .signature) κs → PlaneView
-  view-of κs a = record { samples = a .1 .1 .0; width = a .1 .1 .1 .0; height = a .1 .1 .1 .1 .0; «row_parity» = a .1 .1 .1 .1 .1 .0; «column_parity» = a .1 .1 .1 .1 .1 .1 .0 }
+  view-of κs a = record { samples = a .1 .1 .0; width = a .1 .1 .1 .0; height = a .1 .1 .1 .1 .0; parity = a .1 .1 .1 .1 .1 .0; column = a .1 .1 .1 .1 .1 .1 .0 }
 
   -- what is asked of a view and a place, and what is found there
   module _ (Fine : PlaneView → ℤ → ℤ → Type 0) (found : PlaneView → ℤ → ℤ → R .Denot) {M : Type 1} (𝓤 : URA M) where
@@ -73,7 +73,7 @@ place-val z = vint w64 (ofZ w64 z)
 -- a view's fields, and what is passed of them and the place
 module _ (κs : Lfts 1) (d : PlaneView) where
   abbrev pub fields : Values (T.the-type (namedLft 1 0 tt κs) .parts)
-  fields = (d .samples, (d .width, (d .height, (d .«row_parity», (d .«column_parity», tt)))))
+  fields = (d .samples, (d .width, (d .height, (d .parity, (d .column, tt)))))
 
   abbrev pub slice-val : Val
   slice-val = sliceVal (d .samples .ptr) (length (d .samples .now))
@@ -83,4 +83,4 @@ module _ (κs : Lfts 1) (d : PlaneView) where
     view-vals = (T′.lowered d ∷ [], (place-val y ∷ [], (place-val x ∷ [], tt)))
 
     abbrev pub field-vals : Vals (of-fields R .signature) κs
-    field-vals = (place-val y ∷ [], (place-val x ∷ [], (slice-val ∷ [], (vint w64 (d .width) ∷ [], (vint w64 (d .height) ∷ [], (vint w64 (d .«row_parity») ∷ [], (vint w64 (d .«column_parity») ∷ [], tt)))))))
+    field-vals = (place-val y ∷ [], (place-val x ∷ [], (slice-val ∷ [], (vint w64 (d .width) ∷ [], (vint w64 (d .height) ∷ [], (vint w64 (d .parity) ∷ [], (vint w64 (d .column) ∷ [], tt)))))))

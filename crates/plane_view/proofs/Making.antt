@@ -116,24 +116,24 @@ module _ (R : RattleType) (Fine : PlaneView → ℤ → ℤ → Type 0) (found :
 
     -- what the walk knows of its parameters
     abbrev Known : Type 0
-    Known = Is i64 y (place-val y ∷ []) × Is i64 x (place-val x ∷ []) × Is (ShrSlice (named 0) κ u16) (d .samples) (sv ∷ []) × Is usize (d .width) (vint w64 (d .width) ∷ []) × Is usize (d .height) (vint w64 (d .height) ∷ []) × Is usize (d .«row_parity») (vint w64 (d .«row_parity») ∷ []) × Is usize (d .«column_parity») (vint w64 (d .«column_parity») ∷ [])
+    Known = Is i64 y (place-val y ∷ []) × Is i64 x (place-val x ∷ []) × Is (ShrSlice (named 0) κ u16) (d .samples) (sv ∷ []) × Is usize (d .width) (vint w64 (d .width) ∷ []) × Is usize (d .height) (vint w64 (d .height) ∷ []) × Is usize (d .parity) (vint w64 (d .parity) ∷ []) × Is usize (d .column) (vint w64 (d .column) ∷ [])
 
     exits : Known → (r : R .Denot) (u : Val) → r ≡ found d y x → ent 𝓤 (⋆ 𝓤 H A (‵ (R .own r (u ∷ [])) ∷ (‵ (flft κ q) ⊛ ‵ ftrue) ∷ ‵ Own ∷ [])) (Post u)
     exits k r u e =
         qed W (‵ (R .own r (u ∷ [])) ∷ (‵ (flft κ q) ⊛ ‵ ftrue) ∷ ‵ Own ∷ []) ∵
         suffices ! _ (ends-at 𝓤 H A (of-fields R) stayed (field-clauses R Fine found 𝓤) W (((κ, tt), (q, tt), tt, (y, (x, vd)), at), tt) u r (tt, (tt, (tt, (tt, (tt, (tt, (tt, tt))))))) (tt, (tt, (tt, (tt, (tt, (tt, (tt, tt)))))))) $ says ! e $
-        move ! (1 ∷ []) $ frame ! $ nothing ! $ owned ! usize (Is usize) (uint-makes 𝓤 H A W w64) (d .«column_parity») _ (k .6) $ fjoin ! $ owned ! usize (Is usize) (uint-makes 𝓤 H A W w64) (d .«row_parity») _ (k .5) $ fjoin ! $
+        move ! (1 ∷ []) $ frame ! $ nothing ! $ owned ! usize (Is usize) (uint-makes 𝓤 H A W w64) (d .column) _ (k .6) $ fjoin ! $ owned ! usize (Is usize) (uint-makes 𝓤 H A W w64) (d .parity) _ (k .5) $ fjoin ! $
         owned ! usize (Is usize) (uint-makes 𝓤 H A W w64) (d .height) _ (k .4) $ fjoin ! $ owned ! usize (Is usize) (uint-makes 𝓤 H A W w64) (d .width) _ (k .3) $ fjoin ! $ move ! (2 ∷ 0 ∷ []) $ fjoin ! $
         owned ! i64 (Is i64) (sint-makes 𝓤 H A W w64) x _ (k .1) $ fjoin ! $ owned ! i64 (Is i64) (sint-makes 𝓤 H A W w64) y _ (k .0) $ fjoin ! $ frame ! $ done !
 
     module _ (C : Calls 𝓤 H) (Λ : Loops 𝓤 H) (fm : FmC 𝓤 H (W .laws) C) (known : Triple 𝓤 (C callee) Callee) where
-      walk : Known → Fine d y x → ent 𝓤 (onEntry 𝓤 H A (of-fields R .signature) (κ, tt) (q, tt) (y, (x, vd)) at) (WpFn 𝓤 H C Λ (making τ callee) (place-val y ∷ place-val x ∷ sv ∷ vint w64 (d .width) ∷ vint w64 (d .height) ∷ vint w64 (d .«row_parity») ∷ vint w64 (d .«column_parity») ∷ []) Post)
+      walk : Known → Fine d y x → ent 𝓤 (onEntry 𝓤 H A (of-fields R .signature) (κ, tt) (q, tt) (y, (x, vd)) at) (WpFn 𝓤 H C Λ (making τ callee) (place-val y ∷ place-val x ∷ sv ∷ vint w64 (d .width) ∷ vint w64 (d .height) ∷ vint w64 (d .parity) ∷ vint w64 (d .column) ∷ []) Post)
       walk k fine =
-          qed W (raw (onEntry 𝓤 H A (of-fields R .signature) (κ, tt) (q, tt) (y, (x, vd)) at) ∷ []) ∵ enter ! C Λ (making τ callee) (place-val y ∷ place-val x ∷ sv ∷ vint w64 (d .width) ∷ vint w64 (d .height) ∷ vint w64 (d .«row_parity») ∷ vint w64 (d .«column_parity») ∷ []) _ $
+          qed W (raw (onEntry 𝓤 H A (of-fields R .signature) (κ, tt) (q, tt) (y, (x, vd)) at) ∷ []) ∵ enter ! C Λ (making τ callee) (place-val y ∷ place-val x ∷ sv ∷ vint w64 (d .width) ∷ vint w64 (d .height) ∷ vint w64 (d .parity) ∷ vint w64 (d .column) ∷ []) _ $
           alloc1 ! (λ l0. alloc1 ! (λ l1. alloc1 ! (λ l2. alloc1 ! (λ l3. alloc1 ! (λ l4. alloc1 ! (λ l5. alloc1 ! (λ l6. alloc1 ! (λ l7. alloc1 ! (λ l8. alloc0 ! $ params1 ! $
           pass1 ! (init ! 14 refl (sint-lawful 𝓤 H A W w64 .typed y _ (k .0) .0)) $ pass1 ! (init ! 12 refl (sint-lawful 𝓤 H A W w64 .typed x _ (k .1) .0)) $
           pass1 ! (init ! 10 refl (shr-slice-lawful 𝓤 H A W (named 0) κ u16 .typed (d .samples) (sv ∷ []) (k .2) .0)) $ pass1 ! (init ! 8 refl (uint-lawful 𝓤 H A W w64 .typed (d .width) _ (k .3) .0)) $
-          pass1 ! (init ! 6 refl (uint-lawful 𝓤 H A W w64 .typed (d .height) _ (k .4) .0)) $ pass1 ! (init ! 4 refl (uint-lawful 𝓤 H A W w64 .typed (d .«row_parity») _ (k .5) .0)) $ pass1 ! (init ! 2 refl (uint-lawful 𝓤 H A W w64 .typed (d .«column_parity») _ (k .6) .0)) $ pass0 ! $
+          pass1 ! (init ! 6 refl (uint-lawful 𝓤 H A W w64 .typed (d .height) _ (k .4) .0)) $ pass1 ! (init ! 4 refl (uint-lawful 𝓤 H A W w64 .typed (d .parity) _ (k .5) .0)) $ pass1 ! (init ! 2 refl (uint-lawful 𝓤 H A W w64 .typed (d .column) _ (k .6) .0)) $ pass0 ! $
           assigns ! (agg ! (and-then ! (load ! (from ! (stop !)) (look ! 10 refl)) (and-then ! (load ! (from ! (stop !)) (look ! 8 refl)) (and-then ! (load ! (from ! (stop !)) (look ! 6 refl)) (and-then ! (load ! (from ! (stop !)) (look ! 4 refl)) (and-then ! (load ! (from ! (stop !)) (look ! 2 refl)) (no-more !))))))) (from ! (stop !))
           (init ! 0 refl (tt, (shr-slice-lawful 𝓤 H A W (named 0) κ u16 .typed (d .samples) (sv ∷ []) (k .2) .0 .1, (record { fits = k .3 .1 }, (record { fits = k .4 .1 }, (record { fits = k .5 .1 }, (record { fits = k .6 .1 }, tt))))))) $
           move ! (18 ∷ []) $ use1 W (raw (Callee .pre to) ⊛ ‵ Own) (goes fine) $ split ! $

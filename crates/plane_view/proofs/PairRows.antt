@@ -25,7 +25,7 @@ pub line-typed : {M : Type 1} (𝓤 : URA M) (H : Heap 𝓤) (A : Atoms 𝓤) �
 line-typed 𝓤 H A W x u is = array-lawful 𝓤 H A W u16 (uint-lawful 𝓤 H A W w16) 32 .typed x _ is .0
 
 abbrev pub Fine : PlaneView → ℤ → ℤ → Type 0
-Fine d y x = RowPlace (length (now (d .samples))) (d .width) (d .height) (d .«row_parity») (d .«column_parity») x
+Fine d y x = RowPlace (length (now (d .samples))) (d .width) (d .height) (d .parity) (d .column) x
 
 abbrev pub found : PlaneView → ℤ → ℤ → List ℕ
-found d y x = pairRow 16 y x (now (d .samples)) (d .width) (d .height) (d .«row_parity»)
+found d y x = pairRow 16 y x (now (d .samples)) (d .width) (d .height) (d .parity)

@@ -12,7 +12,7 @@ rowLengthOf count height = count / (2 * height)
 
 -- the frame of four planes of `height` rows of `width` samples, as a burst of its own
 abbrev pub frameOf : (width height rowLength : ℕ) → Shape
-frameOf width height rowLength = record { width = 2 * width; height = 2 * height; count = 1; side = 16; «row_length» = rowLength }
+frameOf width height rowLength = record { width = 2 * width; height = 2 * height; count = 1; side = 16; pitch = rowLength }
 
 -- the frame whose samples are at hand
 abbrev pub frameImage : List ℕ → (width height : ℕ) → Image

@@ -21,17 +21,17 @@ pair-ext side height width f g h w rowParity p e y x =
 module _ (s : Shape) (samples : List ℕ) (frame : ℕ) (ok : Allowed s) (long : length samples ≡ sampleLength s) (below : frame < s .count) where
   module _ {width height rowParity columnParity : ℕ} (p : Planar width height rowParity columnParity) (wide : s .width ≡ 2 * width) (high : s .height ≡ 2 * height) where
     -- such a part is a frame, and its rows have the burst's length
-    part-long : length (framePart s samples frame) ≡ s .«row_length» * (2 * height)
+    part-long : length (framePart s samples frame) ≡ s .pitch * (2 * height)
     unfolding framePart
-    part-long = simp (length-take, length-drop) (omega (arith, frame-room s frame below, long, ap (λ n. s .«row_length» * n) high))
+    part-long = simp (length-take, length-drop) (omega (arith, frame-room s frame below, long, ap (λ n. s .pitch * n) high))
 
-    part-row : rowLengthOf (length (framePart s samples frame)) height ≡ s .«row_length»
-    part-row = ap (λ n. n / (2 * height)) part-long ∙ mul-div-cancel (s .«row_length») (omega (arith, p .high))
+    part-row : rowLengthOf (length (framePart s samples frame)) height ≡ s .pitch
+    part-row = ap (λ n. n / (2 * height)) part-long ∙ mul-div-cancel (s .pitch) (omega (arith, p .high))
 
     pub part-shaped : Shaped (length (framePart s samples frame)) width height rowParity columnParity
     part-shaped =
         record {
-          whole = part-long ∙ mul-comm (s .«row_length») (2 * height) ∙ ap (λ n. 2 * height * n) (sym part-row);
+          whole = part-long ∙ mul-comm (s .pitch) (2 * height) ∙ ap (λ n. 2 * height * n) (sym part-row);
           row-least = omega (arith, part-row, ok .row-least);
           row-most = omega (arith, part-row, ok .row-most, ok .wide .most);
           planar = p;
@@ -41,7 +41,7 @@ module _ (s : Shape) (samples : List ℕ) (frame : ℕ) (ok : Allowed s) (long :
         frameImage (framePart s samples frame) width height row column ≡ sampleAt s samples frame row column
     unfolding framePart sampleAt sampleIndex
     part-sample row column h k =
-        let below : (0 * (2 * height) + row) * s .«row_length» + column < frameStride s = omega (arith, cell-below row column (s .height) (s .«row_length») (omega arith) (omega (arith, ok .row-least)), mul-comm (s .«row_length») (s .height)) in
+        let below : (0 * (2 * height) + row) * s .pitch + column < frameStride s = omega (arith, cell-below row column (s .height) (s .pitch) (omega arith) (omega (arith, ok .row-least)), mul-comm (s .pitch) (s .height)) in
         rw (part-row, getD-take, getD-drop) (ap (λ n. getD samples n 0) (rw high (omega arith)))
 
     pub part-pair : (side : ℕ) (y x : ℤ) → planePair side y x (framePart s samples frame) width height rowParity ≡ pairOf side height width (sampleAt s samples frame) rowParity y x

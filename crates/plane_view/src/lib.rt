@@ -12,28 +12,22 @@ ghost use Rattle.plane_view.specs.View.{pairOf, pairRow, planePair, Near
 use geometry::Shape;
 use geometry::read::inside;
 
-// The plane of one row parity and one column parity, `height` rows of `width` samples, of a frame whose words are `samples`: a row of the frame has
+// The plane of one row parity, `parity`, and one column parity, `column`, `height` rows of `width` samples, of a frame whose words are `samples`: a row of the frame has
 // samples.len() / (2 * height) of them, the spare ones last.
 pub struct PlaneView<'a> {
     pub samples: &'a [u16],
     pub width: usize,
     pub height: usize,
-    pub row_parity: usize,
-    pub column_parity: usize,
+    pub parity: usize,
+    pub column: usize,
 }
 
 // Where the row that is read for y starts in the frame: its first sample of the plane.
-fn row_start(
-    y: i64,
-    row_length: usize,
-    height: usize,
-    row_parity: usize,
-    column_parity: usize,
-) -> usize
-    requires { ⌜ FrameRows «row_length» height «row_parity» «column_parity» ⌝ }
-    ensures { λ r. ⌜ RowStart y «row_length» height «row_parity» «column_parity» r ⌝ }
+fn row_start(y: i64, pitch: usize, height: usize, parity: usize, column: usize) -> usize
+    requires { ⌜ FrameRows pitch height parity column ⌝ }
+    ensures { λ r. ⌜ RowStart y pitch height parity column r ⌝ }
 {
-    (2 * inside(y, height) + row_parity) * row_length + column_parity
+    (2 * inside(y, height) + parity) * pitch + column
 }
 
 // Row or column k of a tile that starts at z.
@@ -77,14 +71,14 @@ pub fn row_at(
     samples: &[u16],
     width: usize,
     height: usize,
-    row_parity: usize,
-    column_parity: usize,
+    parity: usize,
+    column: usize,
 ) -> [u16; 32]
-    requires { ⌜ RowPlace (length (now samples)) width height «row_parity» «column_parity» x ⌝ }
-    ensures { λ r. ⌜ r ≡ pairRow 16 y x (now (samples .entry)) width height «row_parity» ⌝ }
+    requires { ⌜ RowPlace (length (now samples)) width height parity column x ⌝ }
+    ensures { λ r. ⌜ r ≡ pairRow 16 y x (now (samples .entry)) width height parity ⌝ }
 {
-    let row_length = samples.len() / (2 * height);
-    let start = row_start(y, row_length, height, row_parity, column_parity);
+    let pitch = samples.len() / (2 * height);
+    let start = row_start(y, pitch, height, parity, column);
     if 0 <= x {
         let first = x as usize;
         if first + 16 <= width {
@@ -97,8 +91,8 @@ pub fn row_at(
 // A row of the pair of tiles of the view's plane, which is of column parity 0, and of the plane beside it, whose samples stand one word further:
 // the samples are in the order of the frame's row. The row is y and the first column x.
 pub fn row<'a>(view: PlaneView<'a>, y: i64, x: i64) -> [u16; 32]
-    requires { ⌜ RowPlace (length (now (view .samples))) (view .width) (view .height) (view .«row_parity») (view .«column_parity») x ⌝ }
-    ensures { λ r. ⌜ r ≡ pairRow 16 y x (now (view .entry .samples)) (view .entry .width) (view .entry .height) (view .entry .«row_parity») ⌝ }
+    requires { ⌜ RowPlace (length (now (view .samples))) (view .width) (view .height) (view .parity) (view .column) x ⌝ }
+    ensures { λ r. ⌜ r ≡ pairRow 16 y x (now (view .entry .samples)) (view .entry .width) (view .entry .height) (view .entry .parity) ⌝ }
 {
     row_at(
         y,
@@ -106,8 +100,8 @@ pub fn row<'a>(view: PlaneView<'a>, y: i64, x: i64) -> [u16; 32]
         view.samples,
         view.width,
         view.height,
-        view.row_parity,
-        view.column_parity,
+        view.parity,
+        view.column,
     )
 }
 
@@ -118,19 +112,19 @@ pub fn row_of(
     samples: &[u16],
     width: usize,
     height: usize,
-    row_parity: usize,
-    column_parity: usize,
+    parity: usize,
+    column: usize,
 ) -> [u16; 32]
-    requires { ⌜ RowPlace (length (now samples)) width height «row_parity» «column_parity» x ⌝ }
-    ensures { λ r. ⌜ r ≡ pairRow 16 y x (now (samples .entry)) width height «row_parity» ⌝ }
+    requires { ⌜ RowPlace (length (now samples)) width height parity column x ⌝ }
+    ensures { λ r. ⌜ r ≡ pairRow 16 y x (now (samples .entry)) width height parity ⌝ }
 {
     row(
         PlaneView {
             samples,
             width,
             height,
-            row_parity,
-            column_parity,
+            parity,
+            column,
         },
         y,
         x,
@@ -144,14 +138,14 @@ fn fill_pair(
     samples: &[u16],
     width: usize,
     height: usize,
-    row_parity: usize,
+    parity: usize,
     tile: &mut [[u16; 32]; 16],
 )
-    requires { ⌜ record { place : RowPlace (length (now samples)) width height «row_parity» 0 x; near : Near y; rows : length (now tile) ≡ 16 } ⌝ }
-    ensures { λ _. ⌜ now (tile .exit) ≡ planePair 16 y x (now (samples .entry)) width height «row_parity» ⌝ }
+    requires { ⌜ record { place : RowPlace (length (now samples)) width height parity 0 x; near : Near y; rows : length (now tile) ≡ 16 } ⌝ }
+    ensures { λ _. ⌜ now (tile .exit) ≡ planePair 16 y x (now (samples .entry)) width height parity ⌝ }
 {
     for i in 0..16 {
-        tile[i] = row_of(along(y, i), x, samples, width, height, row_parity, 0);
+        tile[i] = row_of(along(y, i), x, samples, width, height, parity, 0);
     }
 }
 
@@ -160,15 +154,15 @@ pub fn frame_pair(
     shape: Shape,
     samples: &[u16],
     frame: usize,
-    row_parity: usize,
+    parity: usize,
     y: i64,
     x: i64,
     tile: &mut [[u16; 32]; 16],
 )
-    requires { ⌜ record { sampled : Sampled shape (now samples); frame-below : frame < shape .count; parity : «row_parity» < 2; near-y : Near y; near-x : Near x; rows : length (now tile) ≡ 16 } ⌝ }
-    ensures { λ _. ⌜ now (tile .exit) ≡ pairOf 16 (shape .height / 2) (shape .width / 2) (sampleAt shape (now (samples .entry)) frame) «row_parity» y x ⌝ }
+    requires { ⌜ record { sampled : Sampled shape (now samples); frame-below : frame < shape .count; parity : parity < 2; near-y : Near y; near-x : Near x; rows : length (now tile) ≡ 16 } ⌝ }
+    ensures { λ _. ⌜ now (tile .exit) ≡ pairOf 16 (shape .height / 2) (shape .width / 2) (sampleAt shape (now (samples .entry)) frame) parity y x ⌝ }
 {
-    let words = shape.row_length * shape.height;
+    let words = shape.pitch * shape.height;
     let start = frame * words;
     let end = start + words;
     fill_pair(
@@ -177,7 +171,7 @@ pub fn frame_pair(
         &samples[start..end],
         shape.width / 2,
         shape.height / 2,
-        row_parity,
+        parity,
         &mut *tile,
     );
 }

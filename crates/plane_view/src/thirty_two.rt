@@ -55,13 +55,13 @@ fn wide_row(
     samples: &[u16],
     width: usize,
     height: usize,
-    row_parity: usize,
+    parity: usize,
 ) -> [u16; 64]
-    requires { ⌜ (RowPlace (length (now samples)) width height «row_parity» 0 x) × (Near (x +ℤ pos 16)) ⌝ }
-    ensures { λ r. ⌜ r ≡ pairRow 32 y x (now (samples .entry)) width height «row_parity» ⌝ }
+    requires { ⌜ (RowPlace (length (now samples)) width height parity 0 x) × (Near (x +ℤ pos 16)) ⌝ }
+    ensures { λ r. ⌜ r ≡ pairRow 32 y x (now (samples .entry)) width height parity ⌝ }
 {
-    let row_length = samples.len() / (2 * height);
-    let start = row_start(y, row_length, height, row_parity, 0);
+    let pitch = samples.len() / (2 * height);
+    let start = row_start(y, pitch, height, parity, 0);
     if 0 <= x {
         let first = x as usize;
         if first + 32 <= width {
@@ -78,14 +78,14 @@ fn fill_wide_pair(
     samples: &[u16],
     width: usize,
     height: usize,
-    row_parity: usize,
+    parity: usize,
     tile: &mut [[u16; 64]; 32],
 )
-    requires { ⌜ record { place : RowPlace (length (now samples)) width height «row_parity» 0 x; right : Near (x +ℤ pos 16); near : Near y; rows : length (now tile) ≡ 32 } ⌝ }
-    ensures { λ _. ⌜ now (tile .exit) ≡ planePair 32 y x (now (samples .entry)) width height «row_parity» ⌝ }
+    requires { ⌜ record { place : RowPlace (length (now samples)) width height parity 0 x; right : Near (x +ℤ pos 16); near : Near y; rows : length (now tile) ≡ 32 } ⌝ }
+    ensures { λ _. ⌜ now (tile .exit) ≡ planePair 32 y x (now (samples .entry)) width height parity ⌝ }
 {
     for i in 0..32 {
-        tile[i] = wide_row(along(y, i), x, samples, width, height, row_parity);
+        tile[i] = wide_row(along(y, i), x, samples, width, height, parity);
     }
 }
 
@@ -94,15 +94,15 @@ pub fn wide_frame_pair(
     shape: Shape,
     samples: &[u16],
     frame: usize,
-    row_parity: usize,
+    parity: usize,
     y: i64,
     x: i64,
     tile: &mut [[u16; 64]; 32],
 )
-    requires { ⌜ record { sampled : Sampled shape (now samples); frame-below : frame < shape .count; parity : «row_parity» < 2; near-y : Near y; near-x : Near x; near-right : Near (x +ℤ pos 16); rows : length (now tile) ≡ 32 } ⌝ }
-    ensures { λ _. ⌜ now (tile .exit) ≡ pairOf 32 (shape .height / 2) (shape .width / 2) (sampleAt shape (now (samples .entry)) frame) «row_parity» y x ⌝ }
+    requires { ⌜ record { sampled : Sampled shape (now samples); frame-below : frame < shape .count; parity : parity < 2; near-y : Near y; near-x : Near x; near-right : Near (x +ℤ pos 16); rows : length (now tile) ≡ 32 } ⌝ }
+    ensures { λ _. ⌜ now (tile .exit) ≡ pairOf 32 (shape .height / 2) (shape .width / 2) (sampleAt shape (now (samples .entry)) frame) parity y x ⌝ }
 {
-    let words = shape.row_length * shape.height;
+    let words = shape.pitch * shape.height;
     let start = frame * words;
     let end = start + words;
     fill_wide_pair(
@@ -111,7 +111,7 @@ pub fn wide_frame_pair(
         &samples[start..end],
         shape.width / 2,
         shape.height / 2,
-        row_parity,
+        parity,
         &mut *tile,
     );
 }

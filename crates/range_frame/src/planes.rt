@@ -17,22 +17,22 @@ fn output_rows(
     shape: Shape,
     reference: usize,
     samples: &[u16],
-    row_parity: usize,
+    parity: usize,
     y: usize,
     work: &[i64],
     low: &mut [u16],
     high: &mut [u16],
 )
-    requires { ⌜ RowsReady shape reference «row_parity» y (length (now samples)) (length (now low)) (length (now high)) (now work) ⌝ }
-    ensures { λ _. ⌜ RowsOut shape reference «row_parity» y (now (samples .entry)) (now (work .entry)) (now (low .entry)) (now (low .exit)) (now (high .entry)) (now (high .exit)) ⌝ }
+    requires { ⌜ RowsReady shape reference parity y (length (now samples)) (length (now low)) (length (now high)) (now work) ⌝ }
+    ensures { λ _. ⌜ RowsOut shape reference parity y (now (samples .entry)) (now (work .entry)) (now (low .entry)) (now (low .exit)) (now (high .entry)) (now (high .exit)) ⌝ }
 {
     let second = 4 * SIDE * shape.width;
-    output_row(shape, reference, samples, row_parity, y, 0, work, &mut *low);
+    output_row(shape, reference, samples, parity, y, 0, work, &mut *low);
     output_row(
         shape,
         reference,
         samples,
-        row_parity,
+        parity,
         y,
         0,
         &work[second..],
@@ -46,23 +46,23 @@ fn range_band(
     upper: Upper,
     samples: &[u16],
     vectors: &[i32],
-    row_parity: usize,
+    parity: usize,
     band: usize,
     low: &mut [u16],
     high: &mut [u16],
     work: &mut [i64],
 )
-    requires { ⌜ BandReady m upper (now samples) (now vectors) «row_parity» band (length (now low)) (length (now high)) (now work) ⌝ }
-    ensures { λ _. ⌜ atNoises BandRanged m upper (now (samples .entry)) (now (vectors .entry)) «row_parity» band (now (low .entry)) (now (low .exit)) (now (high .entry)) (now (high .exit)) (now (work .exit)) ⌝ }
+    requires { ⌜ BandReady m upper (now samples) (now vectors) parity band (length (now low)) (length (now high)) (now work) ⌝ }
+    ensures { λ _. ⌜ atNoises BandRanged m upper (now (samples .entry)) (now (vectors .entry)) parity band (now (low .entry)) (now (low .exit)) (now (high .entry)) (now (high .exit)) (now (work .exit)) ⌝ }
 {
-    end_row(m, upper, samples, vectors, row_parity, band + 1, &mut *work);
+    end_row(m, upper, samples, vectors, parity, band + 1, &mut *work);
     let shape = m.shape;
     for i in 0..HALF_SIDE {
         output_rows(
             shape,
             m.reference,
             samples,
-            row_parity,
+            parity,
             HALF_SIDE * band + i,
             &*work,
             &mut *low,
@@ -77,15 +77,15 @@ pub fn range_parity(
     upper: Upper,
     samples: &[u16],
     vectors: &[i32],
-    row_parity: usize,
+    parity: usize,
     low: &mut [u16],
     high: &mut [u16],
     work: &mut [i64],
 )
-    requires { ⌜ ParityReady m upper (now samples) (now vectors) «row_parity» (length (now low)) (length (now high)) (length (now work)) ⌝ }
-    ensures { λ _. ⌜ atNoises RowsRanged m upper (now (samples .entry)) (now (vectors .entry)) «row_parity» 0 (8 * (m .shape .height / 16)) (now (low .entry)) (now (low .exit)) (now (high .entry)) (now (high .exit)) ⌝ }
+    requires { ⌜ ParityReady m upper (now samples) (now vectors) parity (length (now low)) (length (now high)) (length (now work)) ⌝ }
+    ensures { λ _. ⌜ atNoises RowsRanged m upper (now (samples .entry)) (now (vectors .entry)) parity 0 (8 * (m .shape .height / 16)) (now (low .entry)) (now (low .exit)) (now (high .entry)) (now (high .exit)) ⌝ }
 {
-    end_row(m, upper, samples, vectors, row_parity, 0, &mut *work);
+    end_row(m, upper, samples, vectors, parity, 0, &mut *work);
     let bands = m.shape.height / SIDE;
     for band in 0..bands {
         range_band(
@@ -93,7 +93,7 @@ pub fn range_parity(
             upper,
             samples,
             vectors,
-            row_parity,
+            parity,
             band,
             &mut *low,
             &mut *high,

@@ -94,8 +94,8 @@ module _ (lower upper : Scene) (rowParity row : ℕ) (d : List ℤ) where
 
   module _ (wide : lower .width % 64 ≡ 0) {n : ℕ} where
     pub ends-turn : {l a b c r : List ℤ} {g t : List (List ℤ)} → EndStoring lower upper rowParity row d n l → n < lower .width / 16 + 1
-        → PairTaken 16 (endTaken greatestAt lower upper) (record { «row_parity» = rowParity; row = row; column = n }) g
-        → PairTaken 16 (endTaken leastAt lower upper) (record { «row_parity» = rowParity; row = row; column = n }) t
+        → PairTaken 16 (endTaken greatestAt lower upper) (record { parity = rowParity; row = row; column = n }) g
+        → PairTaken 16 (endTaken leastAt lower upper) (record { parity = rowParity; row = row; column = n }) t
         → Spread (0 < n) (λ i j. cell (pos 0) g i (0 + j)) (slotOf 16 (lower .width) row + 512 * (n - 1)) 16 16 16 l a
         → Spread (n < lower .width / 16) (λ i j. cell (pos 0) g i (16 + j)) (slotOf 16 (lower .width) row + (512 * n + 256)) 16 16 16 a b
         → Spread (0 < n) (λ i j. cell (pos 0) t i (0 + j)) (leastSlot (lower .width) row + 512 * (n - 1)) 16 16 16 b c

@@ -24,7 +24,7 @@ endSum end s lower upper rowParity columnParity a b i j =
 
 -- those sums of a pair, at its planes' noise numbers
 abbrev pub pairSum : EndAt → Scene → Site → (lower upper : Noises) → ℕ → ℕ → ℤ
-pairSum end s t lower upper = sideBySide (λ p. endSum end s (noiseOf lower p) (noiseOf upper p) (t .«row_parity») p (t .row) (t .column))
+pairSum end s t lower upper = sideBySide (λ p. endSum end s (noiseOf lower p) (noiseOf upper p) (t .parity) p (t .row) (t .column))
 
 -- r is these sums, each of at most `smallMost` for every other frame
 pub record EndSummed (end : EndAt) (s : Scene) (t : Site) (lower upper : Noises) (r : List (List ℤ)) : Type 0 where
@@ -74,7 +74,7 @@ pub record Cleared (greatest least : List (List ℤ)) : Type 0 where
 
 -- T0 of a pair
 abbrev pub tilePair : Scene → Site → List (List ℕ)
-tilePair s t = grid 16 32 (sideBySide (λ p. referenceTile s (t .«row_parity») p (t .row) (t .column)))
+tilePair s t = grid 16 32 (sideBySide (λ p. referenceTile s (t .parity) p (t .row) (t .column)))
 
 -- a pair of accepted input, its T0, its planes' noise numbers at both ends, and cleared sums
 pub record SumsLent (m : Merge) (samples : List ℕ) (vectors : List ℤ) (t : Site) (t0 : List (List ℕ)) (lower upper : Noises) (greatest least : List (List ℤ)) : Type 0 where

@@ -103,8 +103,8 @@ pub fn tile_ends(
     let shape = m.shape;
     let mut t0 = [[0u16; 32]; 16];
     pair(shape, samples, m.reference, site, 0, 0, &mut t0);
-    let first_black = plane_black(m.tuning, site.row_parity, 0);
-    let second_black = plane_black(m.tuning, site.row_parity, 1);
+    let first_black = plane_black(m.tuning, site.parity, 0);
+    let second_black = plane_black(m.tuning, site.parity, 1);
     let roots = roots::pair_roots(first_black, second_black, &t0);
     let strength = m.tuning.strength;
     let low = noises(strength, m.shot, m.read, roots.first, roots.second);

@@ -30,12 +30,12 @@ pub fn end_row(
     upper: Upper,
     samples: &[u16],
     vectors: &[i32],
-    row_parity: usize,
+    parity: usize,
     row: usize,
     work: &mut [i64],
 )
-    requires { ⌜ EndRowLent m upper (now samples) (now vectors) «row_parity» row (length (now work)) ⌝ }
-    ensures { λ _. ⌜ atNoises EndsStored m upper (now (samples .entry)) (now (vectors .entry)) «row_parity» row (now (work .entry)) (now (work .exit)) ⌝ }
+    requires { ⌜ EndRowLent m upper (now samples) (now vectors) parity row (length (now work)) ⌝ }
+    ensures { λ _. ⌜ atNoises EndsStored m upper (now (samples .entry)) (now (vectors .entry)) parity row (now (work .entry)) (now (work .exit)) ⌝ }
 {
     let start = slot(SIDE, m.shape.width, row);
     let second = least_slot(m.shape.width, row);
@@ -43,7 +43,7 @@ pub fn end_row(
     let columns = tile_columns(m.shape);
     for column in 0..columns {
         let site = Site {
-            row_parity,
+            parity,
             row,
             column,
         };

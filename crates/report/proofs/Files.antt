@@ -48,7 +48,7 @@ module _ (shape : Shape) where
   unfolding taken
   high-other w h = rw (eq-eqb (shape .width) programSide w, ne-eqb (shape .height) programSide h)
 
-  frames-room : shape .«row_length» ≡ shape .width → shape .width ≡ programSide → shape .height ≡ programSide → sampleLength shape ≡ room (shape .count)
+  frames-room : shape .pitch ≡ shape .width → shape .width ≡ programSide → shape .height ≡ programSide → sampleLength shape ≡ room (shape .count)
   unfolding sampleLength
   frames-room p w h = rw (p, w, h)
 
@@ -60,14 +60,14 @@ same-length number {right} {length} e = rw (eq-eqb length right (sym e))
 record Passed (header : Header) : Type 0 where
   allowed : Allowed (header .shape)
   reference-below : header .reference < header .shape .count
-  shot-most : header .«shot_level» ≤ 65536
-  read-most : header .«read_level» ≤ 4194304
+  shot-most : header .shot ≤ 65536
+  read-most : header .read ≤ 4194304
   strength-most : header .strength ≤ 1024
 
-admitted : (header : Header) → header .shape .«row_length» ≡ header .shape .width → headerRefusal header ≡ 0 → Passed header
+admitted : (header : Header) → header .shape .pitch ≡ header .shape .width → headerRefusal header ≡ 0 → Passed header
 unfolding headerRefusal shapeTests
 admitted header packed e =
-    let most = levels-most (header .«shot_level») (header .«read_level») (passed e (search among depth 20)) in
+    let most = levels-most (header .shot) (header .read) (passed e (search among depth 20)) in
     record {
       allowed = packed-allowed (header .shape) packed (passed e (search among depth 20)) (passed e (search among depth 20));
       reference-below = below-count (header .shape) (header .reference) (passed e (search among depth 20));

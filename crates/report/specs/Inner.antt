@@ -31,11 +31,11 @@ pub record Taken (header : Header) (samples : List ℕ) : Type 0 where
   pub wide : header .shape .width ≡ programSide
   pub high : header .shape .height ≡ programSide
   pub sixteen : header .shape .side ≡ 16
-  pub packed : header .shape .«row_length» ≡ header .shape .width
+  pub packed : header .shape .pitch ≡ header .shape .width
   pub allowed : Allowed (header .shape)
   pub reference-below : header .reference < header .shape .count
-  pub shot-most : header .«shot_level» ≤ 65536
-  pub read-most : header .«read_level» ≤ 4194304
+  pub shot-most : header .shot ≤ 65536
+  pub read-most : header .read ≤ 4194304
   pub strength-most : header .strength ≤ 1024
   pub long : length samples ≡ room (header .shape .count)
   pub small : ValuesFit samples

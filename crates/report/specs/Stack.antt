@@ -19,8 +19,8 @@ fileMerge header =
     record {
       shape = header .shape;
       reference = header .reference;
-      shot = header .«shot_level»;
-      read = header .«read_level»;
+      shot = header .shot;
+      read = header .read;
       tuning = record { strength = header .strength; black = noBlack; spatial = 0 };
     }
 

@@ -51,8 +51,8 @@ fn run_burst(
     let m = Merge {
         shape,
         reference: header.reference,
-        shot: header.shot_level,
-        read: header.read_level,
+        shot: header.shot,
+        read: header.read,
         tuning,
     };
     run_levels(m, samples, &mut vectors[..end], output, work);

@@ -23,12 +23,12 @@ fn plane_root(sum: &[u32; 64], p: usize) -> u64
     squares::whole_root(squares::plane_squares(sum, p))
 }
 
-// r of both planes of a pair of tiles, of their black levels.
-pub fn pair_roots(first_black: u16, second_black: u16, tile: &[[u16; 64]; 32]) -> Roots
+// r of both planes of a pair of tiles, of the black levels of its even and its odd places.
+pub fn pair_roots(even: u16, odd: u16, tile: &[[u16; 64]; 32]) -> Roots
     requires { ⌜ SamplesFit (now tile) ⌝ }
-    ensures { λ r. ⌜ PairRoots 32 «first_black» «second_black» (now (tile .entry)) (r .first) (r .second) ⌝ }
+    ensures { λ r. ⌜ PairRoots 32 even odd (now (tile .entry)) (r .first) (r .second) ⌝ }
 {
-    let black = squares::lane_blacks(first_black, second_black);
+    let black = squares::lane_blacks(even, odd);
     let sum = squares::lane_squares(&black, tile);
     let first = plane_root(&sum, 0);
     let second = plane_root(&sum, 1);

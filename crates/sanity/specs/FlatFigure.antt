@@ -33,7 +33,7 @@ use Rattle.sanity.specs.Pedestal.{zeroBlack, zero-black}
 use Rattle.sanity.specs.FlatAlign.{vectors-flat, sum-flat, residual-flat}
 
 abbrev pub shape : Shape
-shape = record { width = 64; height = 64; count = 2; side = 16; «row_length» = 64 }
+shape = record { width = 64; height = 64; count = 2; side = 16; pitch = 64 }
 
 -- a frame of one value
 unfoldable pub plain : ℕ → List ℕ

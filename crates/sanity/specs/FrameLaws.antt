@@ -53,14 +53,14 @@ unfolding outputLength imageWords frameWords
 flat-same s samples frame v e = words-same (s .height) (s .width) _ _ (e ∙ sym (tab-const v (s .width * s .height)))
 
 -- where rows have no spare words, a frame's words stand in the list as they are
-module _ (s : Shape) (samples : List ℕ) (sampled : Sampled s samples) (packed : s .«row_length» ≡ s .width) (frame : ℕ) (below : frame < s .count) where
+module _ (s : Shape) (samples : List ℕ) (sampled : Sampled s samples) (packed : s .pitch ≡ s .width) (frame : ℕ) (below : frame < s .count) where
   abbrev part : List ℕ
   part = take (outputLength s) (drop (frame * outputLength s) samples)
 
   room : frame * outputLength s + outputLength s ≤ length samples
   unfolding outputLength sampleLength
   room =
-      let all : s .count * (s .«row_length» * s .height) ≡ s .count * (s .width * s .height) = ap (λ n. s .count * (n * s .height)) packed in
+      let all : s .count * (s .pitch * s .height) ≡ s .count * (s .width * s .height) = ap (λ n. s .count * (n * s .height)) packed in
       omega (arith, sampled .long, all, suc-mul frame (s .width * s .height), mul-le-mul-right (s .width * s .height) below)
 
   part-long : length part ≡ s .width * s .height
@@ -74,7 +74,7 @@ module _ (s : Shape) (samples : List ℕ) (sampled : Sampled s samples) (packed 
       ∙ getD-drop (frame * outputLength s) samples k 0
       ∙ ap (λ i. getD samples i 0) place
     where
-      place : frame * (s .width * s .height) + k ≡ (frame * s .height + k / s .width) * s .«row_length» + k % s .width
+      place : frame * (s .width * s .height) + k ≡ (frame * s .height + k / s .width) * s .pitch + k % s .width
       place = rw packed (omega (arith, div-add-mod' k (s .width)))
 
   pub packed-words : frameWords s samples frame ≡ part

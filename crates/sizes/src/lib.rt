@@ -87,10 +87,10 @@ const SPARE_MOST: usize = 256;
 pub fn row_refusal(shape: Shape) -> u64
     ensures { λ r. ⌜ r ≡ rowRefusal shape ⌝ }
 {
-    if shape.row_length < shape.width {
+    if shape.pitch < shape.width {
         return refusals::ROW_LENGTH;
     }
-    if SPARE_MOST < shape.row_length - shape.width {
+    if SPARE_MOST < shape.pitch - shape.width {
         return refusals::ROW_LENGTH;
     }
     0

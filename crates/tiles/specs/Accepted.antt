@@ -32,6 +32,6 @@ spatialIn m root p = spatialNumber side16 (m .tuning .spatial) (m .shot) (m .rea
 
 -- a pair of tiles of the planes of one row parity
 pub record Sited (side : ℕ) (s : Shape) (t : Site) : Type 0 where
-  pub row-parity : t .«row_parity» < 2
+  pub parity : t .parity < 2
   pub row : t .row ≤ s .height / side
   pub column : t .column ≤ s .width / side

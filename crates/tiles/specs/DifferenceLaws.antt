@@ -53,21 +53,21 @@ module _ {n : ℕ} {m : Merge} {samples : List ℕ} {vectors : List ℤ} (side :
   abbrev s : Scene
   s = sceneAt side m samples vectors
 
-  pub reference-most : (p : ℕ) → p < 2 → (i j : ℕ) → referenceTile s (site .«row_parity») p (site .row) (site .column) i j ≤ 4095
+  pub reference-most : (p : ℕ) → p < 2 → (i j : ℕ) → referenceTile s (site .parity) p (site .row) (site .column) i j ≤ 4095
   unfolding sceneAt referenceTile
-  reference-most p c = tile-sample side (ok .burst .allowed) (ok .samples-fit) (m .reference) (ok .burst .reference-below) (sited .row-parity) c (pos 0) (pos 0) (site .row) (site .column)
+  reference-most p c = tile-sample side (ok .burst .allowed) (ok .samples-fit) (m .reference) (ok .burst .reference-below) (sited .parity) c (pos 0) (pos 0) (site .row) (site .column)
 
   -- and the k-th other frame
   module _ (k : ℕ) (h : k < m .shape .count - 1) where
-    pub other-most : (p : ℕ) → p < 2 → (i j : ℕ) → otherTile s (site .«row_parity») p (site .row) (site .column) k i j ≤ 4095
+    pub other-most : (p : ℕ) → p < 2 → (i j : ℕ) → otherTile s (site .parity) p (site .row) (site .column) k i j ≤ 4095
     unfolding sceneAt otherTile
-    other-most p c = tile-sample side (ok .burst .allowed) (ok .samples-fit) (otherFrame (m .reference) k) (other-below (m .reference) k (m .shape .count) h) (sited .row-parity) c _ _ (site .row) (site .column)
+    other-most p c = tile-sample side (ok .burst .allowed) (ok .samples-fit) (otherFrame (m .reference) k) (other-below (m .reference) k (m .shape .count) h) (sited .parity) c _ _ (site .row) (site .column)
 
-    pub difference-most : (p : ℕ) → p < 2 → (i j : ℕ) → natAbs (tileDifference s (site .«row_parity») p (site .row) (site .column) k i j) ≤ 4095
+    pub difference-most : (p : ℕ) → p < 2 → (i j : ℕ) → natAbs (tileDifference s (site .parity) p (site .row) (site .column) k i j) ≤ 4095
     unfolding tileDifference
     difference-most p c i j = apart _ _ (reference-most p c i j) (other-most p c i j)
 
-    pub tile-most : TileMost differenceMost (grid n (2 * n) (sideBySide (λ p. tileDifference s (site .«row_parity») p (site .row) (site .column) k)))
+    pub tile-most : TileMost differenceMost (grid n (2 * n) (sideBySide (λ p. tileDifference s (site .parity) p (site .row) (site .column) k)))
     unfolding grid
     tile-most =
         record {

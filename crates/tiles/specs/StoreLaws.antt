@@ -90,7 +90,7 @@ module _ (side width : ℕ) (taken : Taking) (rowParity row start : ℕ) where
       placed-keep t w = record { count = w .count; right = λ h i j a b c k. t .keeps _ (w .right h i j a b c k ∙ sym (goal-is h i j a b c)) ∙ goal-is h i j a b c; most = w .most }
 
       module _ {n : ℕ} {l mid r : List ℤ} {tile : List (List ℤ)} (w : Placed side width taken rowParity row start n l) (h : n < width / side + 1)
-          (sum : PairTaken side taken (record { «row_parity» = rowParity; row = row; column = n }) tile)
+          (sum : PairTaken side taken (record { parity = rowParity; row = row; column = n }) tile)
           (left : Spread (0 < n) (λ i j. cell (pos 0) tile i (0 + j)) (start + 2 * (side * side) * (n - 1)) side side side l mid)
           (right : Spread (n < width / side) (λ i j. cell (pos 0) tile i (side + j)) (start + (2 * (side * side) * n + side * side)) side side side mid r) where
         cell-word : (i k : ℕ) → i < side → k < 2 * side → cell (pos 0) tile i k ≡ pairAt taken rowParity row n i k
@@ -184,7 +184,7 @@ module _ (side : ℕ) (s : Scene) (rowParity row : ℕ) (d : List ℤ) where
 
   module _ (sided : TileSide side) (wide : s .width % 64 ≡ 0) where
     pub store-turn : {n : ℕ} {l mid r : List ℤ} {tile : List (List ℤ)} → Storing side s rowParity row d n l → n < s .width / side + 1
-        → Taken side s (record { «row_parity» = rowParity; row = row; column = n }) tile
+        → Taken side s (record { parity = rowParity; row = row; column = n }) tile
         → Spread (0 < n) (λ i j. cell (pos 0) tile i (0 + j)) (slot + 2 * (side * side) * (n - 1)) side side side l mid
         → Spread (n < s .width / side) (λ i j. cell (pos 0) tile i (side + j)) (slot + (2 * (side * side) * n + side * side)) side side side mid r
         → Storing side s rowParity row d (n + 1) r

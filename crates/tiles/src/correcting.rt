@@ -20,11 +20,11 @@ use recipe::Merge;
 use recipe::Tuning;
 
 // The black level of a plane.
-pub fn plane_black(tuning: Tuning, row_parity: usize, column_parity: usize) -> u16
-    requires { ⌜ («row_parity» < 2) × («column_parity» < 2) ⌝ }
-    ensures { λ r. ⌜ r ≡ blackOf tuning «row_parity» «column_parity» ⌝ }
+pub fn plane_black(tuning: Tuning, parity: usize, column: usize) -> u16
+    requires { ⌜ (parity < 2) × (column < 2) ⌝ }
+    ensures { λ r. ⌜ r ≡ blackOf tuning parity column ⌝ }
 {
-    tuning.black[2 * row_parity + column_parity]
+    tuning.black[2 * parity + column]
 }
 
 // V of a tile, by its r.
@@ -103,8 +103,8 @@ pub fn tile_correction(
     let shape = m.shape;
     let mut t0 = [[0u16; 32]; 16];
     pair(shape, samples, m.reference, site, 0, 0, &mut t0);
-    let first_black = plane_black(m.tuning, site.row_parity, 0);
-    let second_black = plane_black(m.tuning, site.row_parity, 1);
+    let first_black = plane_black(m.tuning, site.parity, 0);
+    let second_black = plane_black(m.tuning, site.parity, 1);
     let roots = roots::pair_roots(first_black, second_black, &t0);
     let first = tile_noise(m, roots.first);
     let second = tile_noise(m, roots.second);

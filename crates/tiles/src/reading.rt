@@ -74,7 +74,7 @@ pub fn pair(
 {
     let y = moved(HALF_SIDE, site.row, down);
     let x = moved(HALF_SIDE, site.column, right);
-    plane_view::frame_pair(shape, samples, frame, site.row_parity, y, x, &mut *tile);
+    plane_view::frame_pair(shape, samples, frame, site.parity, y, x, &mut *tile);
 }
 
 // d: T0 - Tz of the k-th other frame, by way of tz.

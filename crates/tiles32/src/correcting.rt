@@ -84,8 +84,8 @@ pub fn tile_correction(
     let shape = m.shape;
     let mut t0 = [[0u16; 64]; 32];
     pair(shape, samples, m.reference, site, 0, 0, &mut t0);
-    let first_black = plane_black(m.tuning, site.row_parity, 0);
-    let second_black = plane_black(m.tuning, site.row_parity, 1);
+    let first_black = plane_black(m.tuning, site.parity, 0);
+    let second_black = plane_black(m.tuning, site.parity, 1);
     let roots = roots32::pair_roots(first_black, second_black, &t0);
     let first = tile_noise(m, roots.first);
     let second = tile_noise(m, roots.second);

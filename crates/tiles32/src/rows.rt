@@ -77,19 +77,19 @@ pub fn correction_row(
     m: Merge,
     samples: &[u16],
     vectors: &[i32],
-    row_parity: usize,
+    parity: usize,
     row: usize,
     work: &mut [i64],
 )
-    requires { ⌜ record { accepted : Accepted 32 m (now samples) (now vectors); parity : «row_parity» < 2; row-most : row ≤ m .shape .height / 32; room : 2 * rowWords 32 (m .shape .width) ≤ length (now work) } ⌝ }
-    ensures { λ _. ⌜ Stored 32 (sceneAt side32 m (now (samples .entry)) (now (vectors .entry))) «row_parity» row (now (work .entry)) (now (work .exit)) ⌝ }
+    requires { ⌜ record { accepted : Accepted 32 m (now samples) (now vectors); parity : parity < 2; row-most : row ≤ m .shape .height / 32; room : 2 * rowWords 32 (m .shape .width) ≤ length (now work) } ⌝ }
+    ensures { λ _. ⌜ Stored 32 (sceneAt side32 m (now (samples .entry)) (now (vectors .entry))) parity row (now (work .entry)) (now (work .exit)) ⌝ }
 {
     let start = slot(SIDE, m.shape.width, row);
     let blocks = m.shape.width / BLOCK;
     let columns = tile_columns(m.shape);
     for column in 0..columns {
         let site = Site {
-            row_parity,
+            parity,
             row,
             column,
         };

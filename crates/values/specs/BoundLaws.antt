@@ -19,9 +19,9 @@ use Rattle.refusals.specs.Some.{some}
 use Rattle.refusals.specs.SomeLaws.{or-false, or-true, some-rows, one, one-of, none, not-one, Passed, pass-turns, pass-done, every}
 
 -- the test over frame, row and column is one over all rows
-flat : (s : Shape) (samples : List ℕ) → sampleRefusal s samples ≡ refuse no.sampleValue (some (s .count * s .height) (λ row. rowAbove samples (row * s .«row_length») (s .width)))
+flat : (s : Shape) (samples : List ℕ) → sampleRefusal s samples ≡ refuse no.sampleValue (some (s .count * s .height) (λ row. rowAbove samples (row * s .pitch) (s .width)))
 unfolding above rowAbove sampleRefusal sampleAt sampleIndex
-flat s samples = ap (refuse no.sampleValue) (some-rows (s .count) (s .height) (λ row. rowAbove samples (row * s .«row_length») (s .width)))
+flat s samples = ap (refuse no.sampleValue) (some-rows (s .count) (s .height) (λ row. rowAbove samples (row * s .pitch) (s .width)))
 
 -- the test of n samples, as a sum that is 0 where each passes
 above-sum : (n : ℕ) (f : ℕ → ℕ) → some n (λ k. ltb 4095 (f k)) ≡ ltb 0 (sumN n (λ k. f k / 4096))
@@ -57,7 +57,7 @@ row-passed samples start width p l = pass-done p l
 module _ (s : Shape) (samples : List ℕ) where
   -- the test of a row, by its number among those of all frames
   abbrev pub rowTest : ℕ → Bool
-  rowTest row = rowAbove samples (row * s .«row_length») (s .width)
+  rowTest row = rowAbove samples (row * s .pitch) (s .width)
 
   pub samples-refused : (row : ℕ) → row < s .count * s .height → rowTest row ≡ true → no.sampleValue ≡ sampleRefusal s samples
   samples-refused row h e = rw (flat s samples, one (s .count * s .height) rowTest row h e)
@@ -74,10 +74,10 @@ module _ {s : Shape} {samples : List ℕ} (h : Sampled s samples) where
   pub rows-most : s .count * s .height ≤ 32768
   rows-most = mul-le-mul {n₁ = s .count} {m₁ = s .height} {n₂ = 8} {m₂ = 4096} (h .allowed .few) (h .allowed .high .most)
 
-  pub row-inside : (row : ℕ) → row < s .count * s .height → row * s .«row_length» + s .width ≤ length samples
+  pub row-inside : (row : ℕ) → row < s .count * s .height → row * s .pitch + s .width ≤ length samples
   unfolding sampleLength
   row-inside row l =
-      omega (arith, h .long, h .allowed .row-least, suc-mul row (s .«row_length»), mul-le-mul-right {m = row + 1} {n = s .count * s .height} (s .«row_length») (omega arith), mul-assoc (s .count) (s .height) (s .«row_length»), mul-comm (s .height) (s .«row_length»))
+      omega (arith, h .long, h .allowed .row-least, suc-mul row (s .pitch), mul-le-mul-right {m = row + 1} {n = s .count * s .height} (s .pitch) (omega arith), mul-assoc (s .count) (s .height) (s .pitch), mul-comm (s .height) (s .pitch))
 
 -- what it lets through
 module _ (s : Shape) (samples : List ℕ) where

@@ -43,7 +43,7 @@ pub fn sample_refusal(shape: Shape, samples: &[u16]) -> u64
     ensures { λ r. ⌜ r ≡ sampleRefusal shape (now (samples .entry)) ⌝ }
 {
     for row in 0..shape.count * shape.height {
-        if row_above(samples, row * shape.row_length, shape.width) {
+        if row_above(samples, row * shape.pitch, shape.width) {
             return refusals::SAMPLE_VALUE;
         }
     }

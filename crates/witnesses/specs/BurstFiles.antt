@@ -29,7 +29,7 @@ abbrev pub file : List ℕ
 file = names ++ ascii "64 64 2 0 0 4194304 1024\n" ++ rowsOf 48 64 (rowsOf 52 64 [])
 
 abbrev pub header : Header
-header = record { shape = shape; reference = 0; «shot_level» = 0; «read_level» = 4194304; strength = 1024 }
+header = record { shape = shape; reference = 0; shot = 0; read = 4194304; strength = 1024 }
 
 pub file-read : readingInto 8192 file ≡ found (record { header = header; samples = burst }) []
 unfolding reading bodyOf headOf firstLineRefusal startsWith hasLF valuesOf digitsFrom afterDigits pastSpaces above rowLines row framesOf headerRefusal shapeTests first sizeAllowed countAllowed sizeRefusal countRefusal referenceRefusal levelRefusal strengthRefusal sampleLength lengthRefusal plain

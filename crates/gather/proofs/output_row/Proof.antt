@@ -12,11 +12,11 @@ use Rattle.gather.proofs.output_row.Statement.{statement}
 use Rattle.gather.proofs.output_row.Tie as tie
 
 abbrev Inv-loop : tie.InvT-loop
-Inv-loop reference samples row-parity y top work output₀ side half lower upper count by row column₀ column-end output column =
+Inv-loop reference samples parity y top work output₀ side half lower upper count by row column₀ column-end output column =
     Writing output₀ (row .start) (wordFrom samples work row count) (row .side * column-end) (row .side * column) output
 
 abbrev μ-loop : tie.MeasureT-loop
-μ-loop reference samples row-parity y top work output₀ side half lower upper count by row column₀ column-end output column = column-end - column
+μ-loop reference samples parity y top work output₀ side half lower upper count by row column₀ column-end output column = column-end - column
 
 weights-requires : tie.Need-weights-requires Inv-loop μ-loop
 weights-requires c κs =
@@ -57,7 +57,7 @@ loop-holds c =
     let s = c .before .before .before .before .before .before .before .before .before in
     let a = s .args in
     let n = a .shape .side in
-    let p = rowSpan (a .shape) (a .reference) (a .«row-parity») (a .y) (a .top) in
+    let p = rowSpan (a .shape) (a .reference) (a .parity) (a .y) (a .top) in
     let whole : n * (a .shape .width / n) ≡ a .shape .width = blocks-whole (s .pre .inside .sided) (a .shape .width) (s .pre .inside .allowed .wide .whole) in
     let none : 0 ≡ n * 0 = omega arith in
     subst (λ p. Writing (now (a .output)) (p .start) (wordFrom (now (a .samples)) (now (a .work)) p (a .shape .count)) (p .side * (a .shape .width / n)) (p .side * 0) (now (a .output))) (sym (c .before .row-span .ensures .0))
@@ -85,7 +85,7 @@ output-block-requires c κs =
     record {
       weighed =
           subst (λ p. Weighed (now (a .work)) p (w .before .before .weights .result) (w .weights2 .result)) (sym e)
-          (block-weighed (a .shape) (a .reference) (a .«row-parity») (a .y) (a .top) column (s .pre .inside .sided) (s .pre .over) (w .before .before .weights .ensures) (w .weights2 .ensures) taken);
+          (block-weighed (a .shape) (a .reference) (a .parity) (a .y) (a .top) column (s .pre .inside .sided) (s .pre .over) (w .before .before .weights .ensures) (w .weights2 .ensures) taken);
       divided = record { some = s .pre .inside .allowed .some; few = s .pre .inside .allowed .few; inverse-is = refl };
       samples-room = rw e (omega (arith, subst (λ p. p .from + a .shape .width ≤ sampleLength (a .shape)) (r .ensures .0) (roomy l .samples), s .pre .samples-long, inside));
       output-room = rw e (omega (arith, s .pre .output-room, inside, l .loop .inv .same));

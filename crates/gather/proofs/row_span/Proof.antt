@@ -10,7 +10,7 @@ use Rattle.gather.proofs.Weighing.{side-most, half-above, quotient-most
 use Rattle.gather.proofs.row_span.Statement.{statement}
 use Rattle.gather.proofs.row_span.Tie as tie
 
-room : (c : tie.Start) → let s = c .args .shape in let row = 2 * c .args .y + c .args .«row-parity» in
+room : (c : tie.Start) → let s = c .args .shape in let row = 2 * c .args .y + c .args .parity in
     record {
       output-row : row * s .width + s .width ≤ s .width * s .height;
       output-small : s .width * s .height ≤ 16777216;
@@ -24,7 +24,7 @@ unfolding outputLength sampleLength
 room c =
     let w = c .pre in
     let s = c .args .shape in
-    let below : 2 * c .args .y + c .args .«row-parity» < s .height = omega (arith, w .row, w .parity, w .allowed) in
+    let below : 2 * c .args .y + c .args .parity < s .height = omega (arith, w .row, w .parity, w .allowed) in
     record {
       output-row = output-room s _ below;
       output-small = area-most (w .allowed);

@@ -7,11 +7,11 @@ use Rattle.plane_view.proofs.fill_pair.Statement.{statement}
 use Rattle.plane_view.proofs.fill_pair.Tie as tie
 
 abbrev Inv-loop : tie.InvT-loop
-Inv-loop y x samples width height row-parity tile₀ i₀ tile i =
-    Filled (λ k. pairRow 16 (toZ w64 y +ℤ pos k) (toZ w64 x) samples width height row-parity) 16 i tile₀ tile
+Inv-loop y x samples width height parity tile₀ i₀ tile i =
+    Filled (λ k. pairRow 16 (toZ w64 y +ℤ pos k) (toZ w64 x) samples width height parity) 16 i tile₀ tile
 
 abbrev μ-loop : tie.MeasureT-loop
-μ-loop y x samples width height row-parity tile₀ i₀ tile i = 16 - i
+μ-loop y x samples width height parity tile₀ i₀ tile i = 16 - i
 
 loop-again : tie.Need-loop-again Inv-loop μ-loop
 loop-again c =

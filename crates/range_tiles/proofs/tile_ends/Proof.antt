@@ -44,12 +44,12 @@ module _ (c : tie.After-pair-roots) (m : Merge) (e : let t = c .before .before .
     (tuned : m .tuning ≡ c .before .before .before .before .before .before .before .before .args .m .tuning) where
   numbers-known : {v : Noises} → let a = c .before .before .before .before .before .before .before .before .args in
       NoisesAre (m .tuning .strength) (m .shot) (m .read) (c .pair-roots .result .first) (c .pair-roots .result .second) v
-      → (p : ℕ) → p < 2 → noiseOf v p ≡ tileNoise (sceneAt side16 m (now (a .samples)) (now (a .vectors))) (a .site .«row_parity») p (a .site .row) (a .site .column)
+      → (p : ℕ) → p < 2 → noiseOf v p ≡ tileNoise (sceneAt side16 m (now (a .samples)) (now (a .vectors))) (a .site .parity) p (a .site .row) (a .site .column)
   numbers-known {v} known =
       let b = c .before .before in
       let t = b .before .before in
       let a = t .before .before .before .before .args in
-      both (λ p. noiseOf v p ≡ tileNoise (sceneAt side16 m (now (a .samples)) (now (a .vectors))) (a .site .«row_parity») p (a .site .row) (a .site .column))
+      both (λ p. noiseOf v p ≡ tileNoise (sceneAt side16 m (now (a .samples)) (now (a .vectors))) (a .site .parity) p (a .site .row) (a .site .column))
       (number 16 side16 sided m (now (a .samples)) (now (a .vectors)) (a .site) e 0
       (root-of 16 side16 sided m (now (a .samples)) (now (a .vectors)) (a .site) e 0 (lit< tt) (λ j. 2 * j) (λ j. omega arith) (rw tuned (b .before .plane-black .ensures)) (c .pair-roots .ensures .first)) (known .first-is))
       (number 16 side16 sided m (now (a .samples)) (now (a .vectors)) (a .site) e 1

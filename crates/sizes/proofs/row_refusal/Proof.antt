@@ -13,13 +13,13 @@ returns-2 : tie.Need-returns-2
 unfolding rowRefusal rowAllowed
 returns-2 c =
     let s = c .before .before .before .before .args .shape in
-    rw (le-leb (s .width) (s .«row_length») (omega arith), lt-leb (s .«row_length») (s .width + 256) (omega arith))
+    rw (le-leb (s .width) (s .pitch) (omega arith), lt-leb (s .pitch) (s .width + 256) (omega arith))
 
 returns-3 : tie.Need-returns-3
 unfolding rowRefusal rowAllowed
 returns-3 c =
     let s = c .before .before .before .before .args .shape in
-    rw (le-leb (s .width) (s .«row_length») (omega arith), le-leb (s .«row_length») (s .width + 256) (omega arith))
+    rw (le-leb (s .width) (s .pitch) (omega arith), le-leb (s .pitch) (s .width + 256) (omega arith))
 
 pub row-refusal-spec : {M : Type 1} → statement M
 row-refusal-spec = tie.close (tie.spec returns returns-2 returns-3)

@@ -15,7 +15,7 @@ mul-row-end : tie.Need-mul-row-end Inv-loop μ-loop
 mul-row-end c = omega (arith, rows-most (c .before .before .pre))
 
 -- the row of a turn lies among the samples
-inside : (c : tie.After-struct-known2 Inv-loop μ-loop) → let a = c .before .before .before .before .before .args in c .before .before .loop .row * a .shape .«row_length» + a .shape .width ≤ length (a .samples .now)
+inside : (c : tie.After-struct-known2 Inv-loop μ-loop) → let a = c .before .before .before .before .before .args in c .before .before .loop .row * a .shape .pitch + a .shape .width ≤ length (a .samples .now)
 inside c = row-inside (c .before .before .before .before .before .pre) (c .before .before .loop .row) (c .before .loop-test .taken)
 
 mul-row-above : tie.Need-mul-row-above Inv-loop μ-loop

@@ -20,7 +20,7 @@ module _ {s : Shape} {frame row column : ℕ} (a : (Allowed s) × (Placed s fram
   below : sampleIndex s frame row column < sampleLength s
   below = index-below _ _ _ _ (a .1 .frame-in) (a .1 .row-in) (le-trans (a .1 .column-in) (a .0 .row-least))
 
-  index : (frame * s .height + row) * s .«row_length» + column < 142606336
+  index : (frame * s .height + row) * s .pitch + column < 142606336
   unfolding sampleIndex sampleLength
   index = le-trans below (samples-most (a .0))
 

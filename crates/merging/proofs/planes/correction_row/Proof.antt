@@ -72,7 +72,7 @@ returns c =
 returns-2 : tie.Need-returns-2
 returns-2 c =
     let s = c .before .before .before .before .before .before .before in
-    let one : s .args .row-parity ≡ 1 = omega (arith, s .pre .parity, c .before .before .before .if2 .left) in
+    let one : s .args .parity ≡ 1 = omega (arith, s .pre .parity, c .before .before .before .if2 .left) in
     wide-row (s .args .m) (now (s .args .samples)) (now (s .args .vectors)) (c .before .before .before .before .if1 .taken) one (c .before .correction-row2 .ensures)
 
 returns-3 : tie.Need-returns-3
@@ -83,7 +83,7 @@ returns-3 c =
 returns-4 : tie.Need-returns-4
 returns-4 c =
     let s = c .before .before .before .before .before .before .before in
-    let one : s .args .row-parity ≡ 1 = omega (arith, s .pre .parity, c .before .before .before .if3 .left) in
+    let one : s .args .parity ≡ 1 = omega (arith, s .pre .parity, c .before .before .before .if3 .left) in
     narrow-row (s .args .m) (now (s .args .samples)) (now (s .args .vectors)) (sixteen (s .pre .accepted .burst .sided) (c .before .before .before .before .if1 .left)) one (c .before .correction-row4 .ensures)
 
 pub correction-row-spec : {M : Type 1} → statement M

@@ -5,10 +5,10 @@ use Rattle.merging.proofs.planes.merge_band.Statement.{statement}
 use Rattle.merging.proofs.planes.merge_band.Tie as tie
 
 abbrev Inv-loop : tie.InvT-loop
-Inv-loop m samples vectors row-parity first band output₀ work shape half top i₀ output i = InBand m samples vectors row-parity first band work output₀ i output
+Inv-loop m samples vectors parity first band output₀ work shape half top i₀ output i = InBand m samples vectors parity first band work output₀ i output
 
 abbrev μ-loop : tie.MeasureT-loop
-μ-loop m samples vectors row-parity first band output₀ work shape half top i₀ output i = half - i
+μ-loop m samples vectors parity first band output₀ work shape half top i₀ output i = half - i
 
 add-first : tie.Need-add-correction-row Inv-loop μ-loop
 add-first c =

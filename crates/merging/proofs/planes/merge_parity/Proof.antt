@@ -10,10 +10,10 @@ use Rattle.merging.proofs.planes.merge_parity.Statement.{statement}
 use Rattle.merging.proofs.planes.merge_parity.Tie as tie
 
 abbrev Inv-loop : tie.InvT-loop
-Inv-loop m samples vectors row-parity first last output₀ work₀ band₀ output work band = (InParity m samples vectors row-parity first output₀ band output work) × (length work ≡ length work₀) × (band ≤ last)
+Inv-loop m samples vectors parity first last output₀ work₀ band₀ output work band = (InParity m samples vectors parity first output₀ band output work) × (length work ≡ length work₀) × (band ≤ last)
 
 abbrev μ-loop : tie.MeasureT-loop
-μ-loop m samples vectors row-parity first last output₀ work₀ band₀ output work band = last - band
+μ-loop m samples vectors parity first last output₀ work₀ band₀ output work band = last - band
 
 bands : {n : ℕ} → TileSide n → (first band last : ℕ) → band < last → n * band + n - n * first ≤ n * last - n * first
 bands t = by-side t (λ n. (first band last : ℕ) → band < last → n * band + n - n * first ≤ n * last - n * first) (λ f b l h. omega arith) (λ f b l h. omega arith)
@@ -54,7 +54,7 @@ returns c =
     let l = c .before in
     let s = l .before .before .before .before .before .before in
     let all : l .loop .band ≡ s .args .last = omega (arith, l .loop .inv .2) in
-    subst (λ n. RowsMerged (sceneOf (s .args .m) (now (s .args .samples)) (now (s .args .vectors))) (s .args .m .shape .side * s .args .first) (s .args .«row-parity») (s .args .m .shape .side / 2 * s .args .first) (s .args .m .shape .side / 2 * n) (now (s .args .output)) (l .loop .output)) all
+    subst (λ n. RowsMerged (sceneOf (s .args .m) (now (s .args .samples)) (now (s .args .vectors))) (s .args .m .shape .side * s .args .first) (s .args .parity) (s .args .m .shape .side / 2 * s .args .first) (s .args .m .shape .side / 2 * n) (now (s .args .output)) (l .loop .output)) all
     (l .loop .inv .0 .rows)
 
 pub merge-parity-spec : {M : Type 1} → statement M

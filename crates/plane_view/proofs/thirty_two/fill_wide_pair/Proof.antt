@@ -7,11 +7,11 @@ use Rattle.plane_view.proofs.thirty_two.fill_wide_pair.Statement.{state
 use Rattle.plane_view.proofs.thirty_two.fill_wide_pair.Tie as tie
 
 abbrev Inv-loop : tie.InvT-loop
-Inv-loop y x samples width height row-parity tile₀ i₀ tile i =
-    Filled (λ k. pairRow 32 (toZ w64 y +ℤ pos k) (toZ w64 x) samples width height row-parity) 32 i tile₀ tile
+Inv-loop y x samples width height parity tile₀ i₀ tile i =
+    Filled (λ k. pairRow 32 (toZ w64 y +ℤ pos k) (toZ w64 x) samples width height parity) 32 i tile₀ tile
 
 abbrev μ-loop : tie.MeasureT-loop
-μ-loop y x samples width height row-parity tile₀ i₀ tile i = 32 - i
+μ-loop y x samples width height parity tile₀ i₀ tile i = 32 - i
 
 loop-again : tie.Need-loop-again Inv-loop μ-loop
 loop-again c =

@@ -12,7 +12,7 @@ inner c = leZ-yes (subst T (sym (c .if1 .taken)) tt)
 
 -- where the row starts, by the frame's row length, in the plane of column parity 0
 started : (c : tie.After-row-start) → let s = c .before .before in
-    RowStart (toZ w64 (ofZ w64 (s .args .y))) (rowLengthOf (length (s .args .samples .now)) (s .args .height)) (s .args .height) (s .args .row-parity) 0 (c .row-start .result)
+    RowStart (toZ w64 (ofZ w64 (s .args .y))) (rowLengthOf (length (s .args .samples .now)) (s .args .height)) (s .args .height) (s .args .parity) 0 (c .row-start .result)
 started c = c .row-start .ensures
 
 -- its samples end in the frame, which is small

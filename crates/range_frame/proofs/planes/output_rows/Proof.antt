@@ -26,14 +26,14 @@ output-row-requires-2 : tie.Need-output-row-requires-2
 output-row-requires-2 c κs =
     let s = c .before .before .before .before .before .before .before .before .before .before in
     let a = s .args in
-    subst (RowReady (a .shape) (a .reference) (a .row-parity) (a .y) 0 (length (now (a .samples))) (length (now (a .high)))) (sym (part-is (a .shape .width) (now (a .work)))) (s .pre .high-ready)
+    subst (RowReady (a .shape) (a .reference) (a .parity) (a .y) 0 (length (now (a .samples))) (length (now (a .high)))) (sym (part-is (a .shape .width) (now (a .work)))) (s .pre .high-ready)
 
 returns : tie.Need-returns
 returns c =
     let r = c .before .before in
     let q = r .before .before .before .before .before in
     let a = q .before .before .before .before .before .before .args in
-    record { low-is = q .output-row .ensures; high-is = r .output-row2 .ensures ∙ ap (λ w. rowWritten (now (a .high)) (now (a .samples)) w (a .shape) (a .reference) (a .row-parity) (a .y) 0) (part-is (a .shape .width) (now (a .work))) }
+    record { low-is = q .output-row .ensures; high-is = r .output-row2 .ensures ∙ ap (λ w. rowWritten (now (a .high)) (now (a .samples)) w (a .shape) (a .reference) (a .parity) (a .y) 0) (part-is (a .shape .width) (now (a .work))) }
 
 pub output-rows-spec : {M : Type 1} → statement M
 output-rows-spec = tie.close (tie.spec

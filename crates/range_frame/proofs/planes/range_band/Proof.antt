@@ -10,10 +10,10 @@ use Rattle.range_frame.proofs.planes.range_band.Statement.{statement}
 use Rattle.range_frame.proofs.planes.range_band.Tie as tie
 
 abbrev Inv-loop : tie.InvT-loop
-Inv-loop m samples vectors row-parity band low₀ high₀ work shape i₀ low high i = InBand m samples vectors row-parity band work low₀ high₀ i low high
+Inv-loop m samples vectors parity band low₀ high₀ work shape i₀ low high i = InBand m samples vectors parity band work low₀ high₀ i low high
 
 abbrev μ-loop : tie.MeasureT-loop
-μ-loop m samples vectors row-parity band low₀ high₀ work shape i₀ low high i = 8 - i
+μ-loop m samples vectors parity band low₀ high₀ work shape i₀ low high i = 8 - i
 
 -- the band's number
 band-most : (s : tie.Start Inv-loop μ-loop) → s .args .band < 256
@@ -82,7 +82,7 @@ returns c =
     let under = ends-held (r .end-row .ensures) (s .pre .lent .room) in
     let all : 8 * a .band + l .loop .i ≡ 8 * a .band + 8 = omega (arith, l .loop .inv .count) in
     record {
-      rows = subst (λ n. atNoises RowsRanged (a .m) (a .upper) (now (a .samples)) (now (a .vectors)) (a .row-parity) (8 * a .band) n (now (a .low)) (l .loop .low) (now (a .high)) (l .loop .high)) all
+      rows = subst (λ n. atNoises RowsRanged (a .m) (a .upper) (now (a .samples)) (now (a .vectors)) (a .parity) (8 * a .band) n (now (a .low)) (l .loop .low) (now (a .high)) (l .loop .high)) all
           (l .loop .inv .rows (a .upper) (ends-kept (r .end-row .ensures) (s .pre .held)) under);
       held = under;
     }

@@ -9,16 +9,16 @@ use Rattle.range_frame.proofs.planes.range_parity.Statement.{statement}
 use Rattle.range_frame.proofs.planes.range_parity.Tie as tie
 
 abbrev Inv-loop : tie.InvT-loop
-Inv-loop m upper samples vectors row-parity low₀ high₀ work₀ bands band₀ low high work band =
+Inv-loop m upper samples vectors parity low₀ high₀ work₀ bands band₀ low high work band =
     record {
-      rows : atNoises RowsRanged m upper samples vectors row-parity 0 (8 * band) low₀ low high₀ high;
-      held : atNoises EndsHeld m upper samples vectors row-parity band work;
+      rows : atNoises RowsRanged m upper samples vectors parity 0 (8 * band) low₀ low high₀ high;
+      held : atNoises EndsHeld m upper samples vectors parity band work;
       long : length work ≡ length work₀;
       most : band ≤ bands;
     }
 
 abbrev μ-loop : tie.MeasureT-loop
-μ-loop m upper samples vectors row-parity low₀ high₀ work₀ bands band₀ low high work band = bands - band
+μ-loop m upper samples vectors parity low₀ high₀ work₀ bands band₀ low high work band = bands - band
 
 end-row-requires : tie.Need-end-row-requires Inv-loop μ-loop
 end-row-requires c κs =
@@ -63,7 +63,7 @@ loop-again c =
     let a = s .args in
     let w = l .loop .inv in
     record {
-      rows = subst (λ n. atNoises RowsRanged (a .m) (a .upper) (now (a .samples)) (now (a .vectors)) (a .row-parity) 0 n (now (a .low)) (b .range-band .last .1 .1 .1 .1 .1 .1 .0) (now (a .high)) (b .range-band .last .1 .1 .1 .1 .1 .1 .1 .0)) (omega arith) (ranged-on (w .rows) (b .range-band .ensures .rows));
+      rows = subst (λ n. atNoises RowsRanged (a .m) (a .upper) (now (a .samples)) (now (a .vectors)) (a .parity) 0 n (now (a .low)) (b .range-band .last .1 .1 .1 .1 .1 .1 .0) (now (a .high)) (b .range-band .last .1 .1 .1 .1 .1 .1 .1 .0)) (omega arith) (ranged-on (w .rows) (b .range-band .ensures .rows));
       held = b .range-band .ensures .held;
       long = b .range-band .kept .1 .1 .1 .1 .1 .1 .1 .1 .0 ∙ w .long;
       most = omega (arith, i .loop-test .taken);
@@ -75,7 +75,7 @@ returns c =
     let s = l .before .before .before .before .before .before .before .before in
     let a = s .args in
     let all : l .loop .band ≡ a .m .shape .height / 16 = omega (arith, l .loop .inv .most) in
-    subst (λ n. atNoises RowsRanged (a .m) (a .upper) (now (a .samples)) (now (a .vectors)) (a .row-parity) 0 (8 * n) (now (a .low)) (l .loop .low) (now (a .high)) (l .loop .high)) all (l .loop .inv .rows)
+    subst (λ n. atNoises RowsRanged (a .m) (a .upper) (now (a .samples)) (now (a .vectors)) (a .parity) 0 (8 * n) (now (a .low)) (l .loop .low) (now (a .high)) (l .loop .high)) all (l .loop .inv .rows)
 
 pub range-parity-spec : {M : Type 1} → statement M
 range-parity-spec = tie.close (tie.spec

@@ -10,11 +10,11 @@ use Rattle.range_tiles.proofs.rows.end_row.Statement.{statement}
 use Rattle.range_tiles.proofs.rows.end_row.Tie as tie
 
 abbrev Inv-loop : tie.InvT-loop
-Inv-loop m upper samples vectors row-parity row work₀ start second blocks columns column₀ work column =
-    atNoises EndStoring m upper samples vectors row-parity row work₀ column work
+Inv-loop m upper samples vectors parity row work₀ start second blocks columns column₀ work column =
+    atNoises EndStoring m upper samples vectors parity row work₀ column work
 
 abbrev μ-loop : tie.MeasureT-loop
-μ-loop m upper samples vectors row-parity row work₀ start second blocks columns column₀ work column = columns - column
+μ-loop m upper samples vectors parity row work₀ start second blocks columns column₀ work column = columns - column
 
 -- the pairs of a row
 columns-are : (c : tie.After-tile-columns Inv-loop μ-loop) → c .tile-columns .result ≡ c .before .before .before .before .before .args .m .shape .width / 16 + 1
@@ -32,7 +32,7 @@ tile-ends-requires c κs =
     record {
       accepted = s .pre .accepted;
       upper-fits = s .pre .upper-fits;
-      sited = record { row-parity = s .pre .parity; row = s .pre .row-most; column = omega (arith, columns-are (l .before)) };
+      sited = record { parity = s .pre .parity; row = s .pre .row-most; column = omega (arith, columns-are (l .before)) };
       cleared = record { greatest-is = refl; least-is = refl };
     }
 

@@ -23,7 +23,7 @@ sided = refl
 
 -- T0
 tile-is : (c : tie.After-pair) → let a = c .before .before .before .before .args in
-    c .pair .last .1 .1 .1 .1 .1 .1 .0 ≡ grid 16 32 (sideBySide (λ p. referenceTile (sceneAt side16 (a .m) (now (a .samples)) (now (a .vectors))) (a .site .«row_parity») p (a .site .row) (a .site .column)))
+    c .pair .last .1 .1 .1 .1 .1 .1 .0 ≡ grid 16 32 (sideBySide (λ p. referenceTile (sceneAt side16 (a .m) (now (a .samples)) (now (a .vectors))) (a .site .parity) p (a .site .row) (a .site .column)))
 unfolding referenceTile sceneAt
 tile-is c = c .pair .ensures
 
@@ -40,13 +40,13 @@ rootsOf c = either (c .before .before .pair-roots .result .first) (c .before .be
 
 -- r of either plane
 roots-known : (c : tie.After-tile-noise2) → let a = c .before .before .before .before .before .before .before .before .before .before .args in
-    (p : ℕ) → p < 2 → rootsOf c p ≡ referenceRoot (sceneAt side16 (a .m) (now (a .samples)) (now (a .vectors))) (a .site .«row_parity») p (a .site .row) (a .site .column)
+    (p : ℕ) → p < 2 → rootsOf c p ≡ referenceRoot (sceneAt side16 (a .m) (now (a .samples)) (now (a .vectors))) (a .site .parity) p (a .site .row) (a .site .column)
 roots-known c =
     let r = c .before .before in
     let b = r .before .before in
     let t = b .before .before in
     let a = t .before .before .before .before .args in
-    both (λ p. rootsOf c p ≡ referenceRoot (sceneAt side16 (a .m) (now (a .samples)) (now (a .vectors))) (a .site .«row_parity») p (a .site .row) (a .site .column))
+    both (λ p. rootsOf c p ≡ referenceRoot (sceneAt side16 (a .m) (now (a .samples)) (now (a .vectors))) (a .site .parity) p (a .site .row) (a .site .column))
     (root-of 16 side16 sided (a .m) (now (a .samples)) (now (a .vectors)) (a .site) (tile-is t) 0 (lit< tt) (λ j. 2 * j) (λ j. omega arith) (b .before .plane-black .ensures) (r .pair-roots .ensures .first))
     (root-of 16 side16 sided (a .m) (now (a .samples)) (now (a .vectors)) (a .site) (tile-is t) 1 (lit< tt) (λ j. 2 * j + 1) (λ j. omega arith) (b .plane-black2 .ensures) (r .pair-roots .ensures .second))
 
