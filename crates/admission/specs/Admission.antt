@@ -1,11 +1,7 @@
 -- The answer of tests that find the noise's levels. Inner vocabulary.
-use Rattle.algebra.specs.Prelude.{_≡_, List, ℕ, ℤ}
+use Rattle.admission.specs.Prelude.{_≡_, List, ℕ, ℤ, Shape, Noise, levelsOf, shotLevel, readLevel, Tuning}
 use Rattle.refusals.specs.After.{after}
-use Rattle.geometry.specs.declared.Shape.{Shape}
-use Rattle.noise.specs.declared.Noise.{Noise}
 use Rattle.noise.specs.declared.Levels.{Levels}
-use Rattle.noise.specs.Levels.{levelsOf, shotLevel, readLevel}
-use Rattle.recipe.specs.declared.Tuning.{Tuning}
 use Rattle.admission.specs.declared.Tested.{Tested}
 use Rattle.admission.specs.Refusals.{runRefusal}
 use Rattle.admission.specs.Bands.{bandRefusal}

@@ -1,11 +1,9 @@
 -- What the answer of the tests says where it refuses, and where it accepts.
-use Rattle.algebra.specs.Prelude.{_≡_, refl, sym, ap, _∙_, List, _++_, ℕ, zero, suc, arith}
-use Rattle.refusals.specs.Tests.{first}
+use Rattle.admission.specs.Prelude.{_≡_, refl, sym, ap, _∙_, List, _++_, ℕ, zero, suc, arith, first, shotLevel, readLevel}
 use Rattle.refusals.specs.TestLaws.{stops, goes}
 use Rattle.refusals.specs.After.{after}
 use Rattle.refusals.specs.AfterLaws.{result-made}
 use Rattle.noise.specs.declared.Levels.{Levels}
-use Rattle.noise.specs.Levels.{shotLevel, readLevel}
 use Rattle.admission.specs.declared.Tested.{Tested}
 use Rattle.admission.specs.Admission.{testedAs}
 

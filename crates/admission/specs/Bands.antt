@@ -1,11 +1,6 @@
 -- The tests of the call for a band of the merged frame: merge's, "in the order of the numbers", with 27 before 4.
-use Rattle.algebra.specs.Prelude.{List, [], _∷_, _++_, ℕ, length, ℤ}
-use Rattle.refusals.specs.Tests.{first}
-use Rattle.geometry.specs.declared.Shape.{Shape}
+use Rattle.admission.specs.Prelude.{List, [], _∷_, _++_, ℕ, length, ℤ, first, Shape, vectorRefusal, Noise, Tuning}
 use Rattle.limits.specs.Bands.{bandShapeTests}
-use Rattle.values.specs.Bounds.{vectorRefusal}
-use Rattle.noise.specs.declared.Noise.{Noise}
-use Rattle.recipe.specs.declared.Tuning.{Tuning}
 use Rattle.admission.specs.Refusals.{valueTests}
 
 unfoldable pub bandRefusal : Shape → (reference : ℕ) → Noise → Tuning → (top rows : ℕ) (samples : List ℕ) (vectors : List ℤ) (output : List ℕ) (work : List ℤ) → ℕ

@@ -1,9 +1,6 @@
 -- The tests of the call that aligns one other frame: 1 to 3, 22, 23, 27, 4, 5, 7 and 11.
-use Rattle.algebra.specs.Prelude.{List, [], _∷_, _++_, ℕ, length, ℤ}
-use Rattle.refusals.specs.Tests.{first}
-use Rattle.geometry.specs.declared.Shape.{Shape}
+use Rattle.admission.specs.Prelude.{List, [], _∷_, _++_, ℕ, length, ℤ, first, Shape, sampleRefusal}
 use Rattle.limits.specs.OneFrame.{alignFrameShapeTests}
-use Rattle.values.specs.Bounds.{sampleRefusal}
 
 unfoldable pub alignFrameRefusal : Shape → (reference other : ℕ) → (samples : List ℕ) (vectors work : List ℤ) → ℕ
 alignFrameRefusal s reference other samples vectors work =

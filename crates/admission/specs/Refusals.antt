@@ -1,14 +1,8 @@
 -- The tests of each call, "in the order of the numbers".
-use Rattle.algebra.specs.Prelude.{_&&_, List, [], _∷_, _++_, ℕ, eqb, ltb, length, ℤ}
+use Rattle.admission.specs.Prelude.{_&&_, List, [], _∷_, _++_, ℕ, eqb, ltb, length, ℤ, refuse, first, Shape, sampleRefusal, vectorRefusal, Noise, levelsOf, noiseTests, shotLevel, readLevel, strengthRefusal, blackRefusal, spatialRefusal, Tuning}
 use Rattle.refusals.specs.Numbers as no
-use Rattle.refusals.specs.Tests.{refuse, first}
-use Rattle.geometry.specs.declared.Shape.{Shape}
 use Rattle.limits.specs.Order.{alignShapeTests, mergeShapeTests}
-use Rattle.values.specs.Bounds.{sampleRefusal, vectorRefusal}
-use Rattle.noise.specs.declared.Noise.{Noise}
-use Rattle.noise.specs.Levels.{levelsOf, noiseTests, shotLevel, readLevel, strengthRefusal, blackRefusal, spatialRefusal}
 use Rattle.recipe.specs.declared.Merge.{Merge}
-use Rattle.recipe.specs.declared.Tuning.{Tuning}
 
 -- "Align tests 1 to 5, 7, 11"
 unfoldable pub alignRefusal : Shape → (reference : ℕ) → (samples : List ℕ) (vectors work : List ℤ) → ℕ

@@ -1,9 +1,6 @@
 -- The tests of the call that answers each tile's residual, "in the order of the numbers": 1 to 7, 22, 23, 11 and 12.
-use Rattle.algebra.specs.Prelude.{List, [], _∷_, _++_, ℕ, length, ℤ}
-use Rattle.refusals.specs.Tests.{first}
-use Rattle.geometry.specs.declared.Shape.{Shape}
+use Rattle.admission.specs.Prelude.{List, [], _∷_, _++_, ℕ, length, ℤ, first, Shape, sampleRefusal, vectorRefusal}
 use Rattle.limits.specs.Residuals.{residualShapeTests}
-use Rattle.values.specs.Bounds.{sampleRefusal, vectorRefusal}
 
 unfoldable pub residualRefusal : Shape → (reference : ℕ) → (samples : List ℕ) (vectors : List ℤ) (residuals : List ℕ) (work : List ℤ) → ℕ
 residualRefusal s reference samples vectors residuals work =

@@ -2,9 +2,8 @@
 pub mod one_frame;
 
 ghost use mathlib.Core.Path.{_≡_};
-ghost use Rattle.refusals.specs.Tests.{first};
+ghost use Rattle.admission.specs.Prelude.{first, levelsOf};
 ghost use Rattle.geometry.specs.Fits.{Sampled};
-ghost use Rattle.noise.specs.Levels.{levelsOf};
 ghost use Rattle.admission.specs.Refusals.{alignRefusal, filterSideRefusal, contentTests, valueTests};
 ghost use Rattle.admission.specs.Residuals.{residualRefusal};
 ghost use Rattle.admission.specs.Admission.{testedAs, RunTested, BandTested};

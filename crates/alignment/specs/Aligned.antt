@@ -1,10 +1,5 @@
 -- The vectors of a burst, and the sums of their residuals.
-use Rattle.algebra.specs.Prelude.{List, _++_, ℕ, _-_, ℤ}
-use lib.ListN.{replicate}
-use Rattle.sequences.specs.Tab.{tab}
-use Rattle.geometry.specs.declared.Shape.{Shape}
-use Rattle.geometry.specs.Read.{sampleAt}
-use Rattle.geometry.specs.Vectors.{otherFrame, vectorList, VectorField}
+use Rattle.alignment.specs.Prelude.{List, _++_, ℕ, _-_, ℤ, replicate, tab, Shape, sampleAt, otherFrame, vectorList, VectorField}
 use Rattle.alignment.specs.Frames.{vectorsOf, residualOf}
 
 module _ (s : Shape) (reference : ℕ) (samples : List ℕ) where

@@ -1,18 +1,9 @@
 -- Inner vocabulary: what the loop over the frames asks, and what it leaves; the same of one frame.
-use Rattle.algebra.specs.Prelude.{_≡_, List, ℕ, _-_, _*_, _≤_, _<_, length, ℤ}
-use Rattle.sequences.specs.Write.{written}
-use Rattle.geometry.specs.declared.Shape.{Shape}
-use Rattle.geometry.specs.Shape.{vectorLength}
-use Rattle.geometry.specs.Read.{Image, sampleAt}
-use Rattle.geometry.specs.Tiles.{tileColumns, frameParts}
-use Rattle.geometry.specs.Vectors.{word, partsOf}
-use Rattle.geometry.specs.Fits.{TileSide, BurstFits, AlignFits, SamplesFit}
+use Rattle.alignment.specs.Prelude.{_≡_, List, ℕ, _-_, _*_, _≤_, _<_, length, ℤ, written, Shape, vectorLength, Image, sampleAt, tileColumns, frameParts, word, partsOf, TileSide, BurstFits, AlignFits, SamplesFit, alignLength, Levels, Sums}
 use Rattle.bayer.specs.Frame.{Frame}
-use Rattle.pyramid.specs.Layout.{alignLength, Levels}
 use Rattle.alignment.specs.Frames.{vectorsOf, residualOf}
 use Rattle.alignment.specs.Rows.{rowsOf, countOf, rowsSummed}
 use Rattle.alignment.specs.Magnitudes.{frameRowsMost}
-use Rattle.fields.specs.declared.Sums.{Sums}
 use Rattle.alignment.specs.declared.burst.Totals.{Totals}
 use Rattle.alignment.specs.Aligned.{sumOf, alignedVectors, residualSums}
 

@@ -1,21 +1,13 @@
 -- One frame at a time: the reference's pyramid stays, and the frame's own is laid behind it.
 use mathlib.Core.Path.{_≡_, refl, sym, ap, ap₂, subst, subst₂, _∙_}
-use Rattle.algebra.specs.Prelude.{List, _++_, ℕ, zero, suc, _+_, _-_, _*_, _≤_, _<_, arith, ℤ, pos}
+use Rattle.alignment.specs.Prelude.{List, _++_, ℕ, zero, suc, _+_, _-_, _*_, _≤_, _<_, arith, ℤ, pos, Shape, vectorLength, workLength, Allowed, TileSide, BurstFits, AlignFits, SamplesFit, Image, sampleAt, tileColumns, frameParts, otherFrame, word, wordOf, vectorList, tab, pyramidLength, alignLength, Levels, Built, Sums}
 use native.Mathlib.Nat.{zero-add, zero-mul, suc-mul}
 use lib.ListN.{length, set, drop, replicate}
-use Rattle.geometry.specs.declared.Shape.{Shape}
-use Rattle.geometry.specs.Shape.{vectorLength, workLength}
-use Rattle.geometry.specs.Fits.{Allowed, TileSide, BurstFits, AlignFits, SamplesFit}
-use Rattle.geometry.specs.Read.{Image, sampleAt}
-use Rattle.geometry.specs.Tiles.{tileColumns, frameParts}
-use Rattle.geometry.specs.Vectors.{otherFrame, word, wordOf, vectorList}
 use Rattle.geometry.specs.VectorLaws.{word-of}
-use Rattle.sequences.specs.Tab.{tab}
 use Rattle.sequences.specs.TabLaws.{Filled, fill-start, fill-turn}
 use Rattle.sequences.specs.Write.{written, Writing, write-start, write-part, write-done, written-all}
 use Rattle.sequences.specs.Place.{row-room}
 use Rattle.pyramid.specs.WordsLaws.{Kept}
-use Rattle.pyramid.specs.Layout.{pyramidLength, alignLength, Levels, Built}
 use Rattle.pyramid.specs.LayoutLaws.{align-fits, built-kept, levels-kept}
 use Rattle.bayer.specs.Frame.{Frame}
 use Rattle.bayer.specs.FrameLaws.{frame-fits}
@@ -24,7 +16,6 @@ use Rattle.alignment.specs.Frames.{pairs, vectorsOf, residualOf}
 use Rattle.alignment.specs.Magnitudes.{frameRowsMost}
 use Rattle.alignment.specs.Rows.{frameRows, rowsOf, countOf, rowsSummed}
 use Rattle.alignment.specs.RowLaws.{frame-rows-most}
-use Rattle.fields.specs.declared.Sums.{Sums}
 use Rattle.sequences.specs.Sum.{Summed, sum-start, sum-turn, sum-done}
 use Rattle.alignment.specs.FrameLaws.{frame-standing, frame-pairs}
 use Rattle.alignment.specs.Sites.{pairsIn, Standing, Aligned}

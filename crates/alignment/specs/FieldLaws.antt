@@ -1,14 +1,9 @@
 -- Laws of fields: what a field's words are, and the bounds 4, 20, 84 and 172.
-use Rattle.algebra.specs.Prelude.{ℕ, zero, suc, _+_, _*_, _/_, _%_, _≤_, arith, lit≤, pos, natAbs}
+use Rattle.alignment.specs.Prelude.{ℕ, zero, suc, _+_, _*_, _/_, _%_, _≤_, arith, lit≤, pos, natAbs, Level, finestLevel, level1, level2, level3, Step, finestStep, step2to1, step3to2, Within, Pair, VectorField, numbered, part, word, levelTile, coarsest, fromCoarse, finer}
 use Rattle.algebra.specs.Order.{abs-mul-le}
-use Rattle.geometry.specs.Tiles.{Level, finestLevel, level1, level2, level3, Step, finestStep, step2to1, step3to2}
 use Rattle.geometry.specs.declared.vectors.Vector.{Vector}
 use Rattle.search.specs.Vectors.{still, _times_}
-use Rattle.patches.specs.Bounds.{Within}
-use Rattle.residuals.specs.Residual.{Pair}
 use Rattle.search.specs.SearchLaws.{found-within, guess-within}
-use Rattle.geometry.specs.Vectors.{VectorField, numbered, part, word}
-use Rattle.levels.specs.Fields.{levelTile, coarsest, fromCoarse, finer}
 use Rattle.alignment.specs.Fields.{field0, field1, field2, field3}
 
 part-most : (v : Vector) (b k : ℕ) → Within b v → natAbs (part k v) ≤ b

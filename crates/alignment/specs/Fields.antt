@@ -1,10 +1,5 @@
 -- The fields of a frame's four levels, from the coarsest to the finest.
-use Rattle.algebra.specs.Prelude.{ℕ}
-use Rattle.geometry.specs.Tiles.{Level, finestLevel, level1, level2, level3, finestStep, step2to1, step3to2, tileCount}
-use Rattle.geometry.specs.Vectors.{VectorField}
-use Rattle.residuals.specs.Residual.{Pair}
-use Rattle.levels.specs.Fields.{coarsest, finer}
-use Rattle.fields.specs.LevelSums.{residuals}
+use Rattle.alignment.specs.Prelude.{ℕ, Level, finestLevel, level1, level2, level3, finestStep, step2to1, step3to2, tileCount, VectorField, Pair, coarsest, finer, residuals}
 
 -- how many rows and columns of tiles a level has
 unfoldable pub levelRows : Level → Pair → ℕ

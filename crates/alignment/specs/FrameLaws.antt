@@ -1,16 +1,9 @@
 -- Where the pyramids of the reference and of another frame stand, the levels' pairs of images are those of the two frames.
 use mathlib.Core.Path.{_≡_, ap₂, fun-ext}
-use Rattle.algebra.specs.Prelude.{List, ℕ, zero, suc, _+_, _≤_, _<_, arith, ℤ}
+use Rattle.alignment.specs.Prelude.{List, ℕ, zero, suc, _+_, _≤_, _<_, arith, ℤ, Shape, AllowedSize, Allowed, Image, levelSize, offset, pyramidLength, Levels, levelAt, pairIn}
 use native.Mathlib.Nat.{zero-add}
-use Rattle.geometry.specs.declared.Shape.{Shape}
-use Rattle.geometry.specs.Fits.{AllowedSize, Allowed}
-use Rattle.geometry.specs.Read.{Image}
-use Rattle.geometry.specs.Tiles.{levelSize}
 use Rattle.pyramid.specs.Words.{Holds}
 use Rattle.pyramid.specs.WordsLaws.{holds-source, own-read}
-use Rattle.pyramid.specs.Layout.{offset, pyramidLength, Levels}
-use Rattle.levels.specs.Fields.{levelAt}
-use Rattle.matching.specs.Stored.{pairIn}
 use Rattle.alignment.specs.Frames.{levelImage, pairs}
 use Rattle.alignment.specs.Sites.{imageNumber, areaAt, pairsIn, Standing}
 

@@ -1,12 +1,7 @@
 -- The vectors of a frame against the reference, from the two frames' pyramids.
 use Prim.Native.Nat.{ℕ, zero, suc}
-use Rattle.geometry.specs.declared.Shape.{Shape}
-use Rattle.geometry.specs.Read.{Image, read}
-use Rattle.geometry.specs.Tiles.{levelSize}
+use Rattle.alignment.specs.Prelude.{Shape, Image, read, levelSize, Pair, VectorField, levelAt}
 use Rattle.pyramid.specs.Pyramid.{image0, image1, image2, image3}
-use Rattle.residuals.specs.Residual.{Pair}
-use Rattle.geometry.specs.Vectors.{VectorField}
-use Rattle.levels.specs.Fields.{levelAt}
 use Rattle.alignment.specs.Fields.{field0, residualSum}
 
 -- the image of a level by its number

@@ -4,11 +4,9 @@ use native.Mathlib.Nat.{add-assoc}
 use Rattle.geometry.specs.ReadLaws.{cell-below}
 use Rattle.sequences.specs.Place.{place-row, place-column}
 use Rattle.sequences.specs.Write.{written, written-in, written-length}
-use Rattle.patches.specs.Bounds.{Within}
-use Rattle.geometry.specs.Vectors.{VectorField, numbered, word}
+use Rattle.alignment.specs.Prelude.{Within, VectorField, numbered, word, fieldAt, Vectors}
 use Rattle.geometry.specs.VectorLaws.{word-down, word-right}
 use Rattle.alignment.specs.FieldLaws.{word-most}
-use Rattle.levels.specs.Grids.{fieldAt, Vectors}
 
 -- a field that was written
 module _ (d : List ℤ) (to rows columns : ℕ) (f : VectorField) (room : to + 2 * (rows * columns) ≤ length d) where

@@ -1,35 +1,20 @@
 -- From level to level: the pyramids stay, and a level's vectors stand where the next level reads them.
 use mathlib.Core.Path.{_≡_, refl, sym, ap, ap₂, _∙_, subst, fun-ext}
-use Rattle.algebra.specs.Prelude.{List, ℕ, zero, suc, _+_, _*_, _≤_, _<_, arith, lit≤, length, getD, ℤ, pos, natAbs}
+use Rattle.alignment.specs.Prelude.{List, ℕ, zero, suc, _+_, _*_, _≤_, _<_, arith, lit≤, length, getD, ℤ, pos, natAbs, Shape, Allowed, TileSide, Level, Step, finestLevel, level0, level3, levelSize, tileCount, tileRows, tileColumns, frameParts, levelTiles, offset, pyramidLength, tiles, alignLength, Grid, Area, Within, VectorField, word, levelAt, coarsest, finer, residuals, coarsestRows, finerRows, Sums, pairIn, Stored, Before, Few, Room, finestIn, finerRowsIn, Finest, fieldAt}
 use native.Mathlib.Nat.{le-trans}
-use Rattle.geometry.specs.declared.Shape.{Shape}
 use mathlib.Core.Logic.{⊎-elim}
-use Rattle.geometry.specs.Fits.{Allowed, TileSide}
-use Rattle.geometry.specs.Tiles.{Level, Step, finestLevel, level0, level3, levelSize, tileCount, tileRows, tileColumns, frameParts}
-use Rattle.geometry.specs.LevelTiles.{levelTiles}
 use Rattle.geometry.specs.TileLaws.{finest-tiles}
 use Rattle.pyramid.specs.ChainLaws.{words-end}
-use Rattle.pyramid.specs.Layout.{offset, pyramidLength, tiles, alignLength}
 use Rattle.pyramid.specs.LayoutLaws.{size0, size1, size3, size5}
 use Rattle.pyramid.specs.WordsLaws.{Kept}
 use Rattle.sequences.specs.Write.{written, written-in, written-before, written-length}
-use Rattle.levels.specs.declared.Grid.{Grid}
-use Rattle.matching.specs.declared.Area.{Area}
-use Rattle.patches.specs.Bounds.{Within}
-use Rattle.geometry.specs.Vectors.{VectorField, word}
-use Rattle.levels.specs.Fields.{levelAt, coarsest, finer}
 use Rattle.alignment.specs.Fields.{levelRows, levelColumns, field0, field1, field2, field3, residualSum}
-use Rattle.fields.specs.LevelSums.{residuals, coarsestRows, finerRows}
 use Rattle.alignment.specs.Rows.{rows0, rows1, rows2, rows3, frameRows}
 use Rattle.alignment.specs.RowLaws.{finer-rows-agree}
-use Rattle.fields.specs.declared.Sums.{Sums}
 use Rattle.levels.specs.Steps.{stepTo}
 use Rattle.levels.specs.FieldLaws.{finer-agree}
 use Rattle.alignment.specs.FieldLaws.{word-most, field0-within, field1-within, field2-within, field3-within}
-use Rattle.matching.specs.Stored.{pairIn, Stored}
-use Rattle.fields.specs.Loops.{Before, Few, Room, finestIn, finerRowsIn, Finest}
 use Rattle.fields.specs.LoopLaws.{kept-stored, kept-pair}
-use Rattle.levels.specs.Grids.{fieldAt}
 use Rattle.alignment.specs.GridLaws.{written-field, written-vectors}
 use Rattle.alignment.specs.Sites.{areaAt, gridAt, after, pairsIn, nextIn, nextRowsIn, Standing, Site, Prepared, Reached, Coarse, Aligned}
 

@@ -1,3 +1,4 @@
+pub mod Prelude
 pub mod Fields
 pub mod Frames
 pub mod Rows

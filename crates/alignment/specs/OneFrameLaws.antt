@@ -1,18 +1,11 @@
 -- One frame aligned by itself: its vectors are its part of the burst's.
 use mathlib.Core.Path.{_≡_, sym, subst, _∙_}
-use Rattle.algebra.specs.Prelude.{List, ℕ, _+_, _-_, _*_, _<_, arith, ℤ, pos}
+use Rattle.alignment.specs.Prelude.{List, ℕ, _+_, _-_, _*_, _<_, arith, ℤ, pos, tab, Shape, vectorLength, sampleAt, tileColumns, frameParts, VectorField, otherFrame, word, wordOf, vectorList, partsOf, Sums}
 use lib.ListN.{length, take, drop, length-drop}
 use lib.Seq.{length-take-le, getD-take, getD-drop, ext-getD}
-use Rattle.sequences.specs.Tab.{tab}
 use Rattle.sequences.specs.TabLaws.{length-tab, getD-tab}
 use Rattle.sequences.specs.Write.{written-all}
-use Rattle.geometry.specs.declared.Shape.{Shape}
-use Rattle.geometry.specs.Shape.{vectorLength}
-use Rattle.geometry.specs.Read.{sampleAt}
-use Rattle.geometry.specs.Tiles.{tileColumns, frameParts}
-use Rattle.geometry.specs.Vectors.{VectorField, otherFrame, word, wordOf, vectorList, partsOf}
 use Rattle.geometry.specs.VectorLaws.{word-of}
-use Rattle.fields.specs.declared.Sums.{Sums}
 use Rattle.alignment.specs.Aligned.{fieldOf, sumOf, alignedVectors}
 use Rattle.alignment.specs.Burst.{OneAligned, AlignedFrame}
 use Rattle.alignment.specs.BurstLaws.{place-room}

@@ -1,24 +1,15 @@
 -- Laws of the rows summed: on what a level's depend, and the bounds 112,786,248 of a frame and 789,503,736 of a burst.
-use Rattle.algebra.specs.Prelude.{_≡_, ap, List, ℕ, _-_, _*_, _/_, _%_, _≤_, _<_, arith}
+use Rattle.alignment.specs.Prelude.{_≡_, ap, List, ℕ, _-_, _*_, _/_, _%_, _≤_, _<_, arith, Shape, Allowed, TileSide, Image, sampleAt, Level, finestLevel, level1, level2, level3, Step, finestStep, step2to1, step3to2, tileCount, levelSize, levelTiles, VectorField, otherFrame, Pair, levelAt, levelTile, fromCoarse, coarsestRows, finerRows}
 use native.Mathlib.Nat.{mul-le-mul}
 use Rattle.algebra.specs.SumLaws.{sumN-cong, sumN-bound}
-use Rattle.geometry.specs.declared.Shape.{Shape}
 use mathlib.Core.Logic.{⊎-elim}
-use Rattle.geometry.specs.Fits.{Allowed, TileSide}
-use Rattle.geometry.specs.Read.{Image, sampleAt}
-use Rattle.geometry.specs.Tiles.{Level, finestLevel, level1, level2, level3, Step, finestStep, step2to1, step3to2, tileCount, levelSize}
-use Rattle.geometry.specs.LevelTiles.{levelTiles}
-use Rattle.geometry.specs.Vectors.{VectorField, otherFrame}
 use Rattle.search.specs.Vectors.{still}
-use Rattle.residuals.specs.Residual.{Pair}
 use Rattle.search.specs.Rows.{candidateRows}
 use Rattle.search.specs.RowLaws.{search-rows-most, candidate-rows-most}
 use Rattle.alignment.specs.Magnitudes.{frameRowsMost, burstRowsMost}
-use Rattle.levels.specs.Fields.{levelAt, levelTile, fromCoarse}
 use Rattle.alignment.specs.Fields.{levelRows, levelColumns, field1, field2, field3}
 use Rattle.levels.specs.FieldLaws.{from-coarse-agree}
 use Rattle.alignment.specs.Frames.{pairs}
-use Rattle.fields.specs.LevelSums.{coarsestRows, finerRows}
 use Rattle.alignment.specs.Rows.{rows0, rows1, rows2, rows3, coarseRows, frameRows, rowsOf, rowsSummed}
 
 -- a finer level's depend on the coarse vectors that there are

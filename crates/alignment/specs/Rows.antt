@@ -1,12 +1,6 @@
 -- "how many tile rows it summed in all" (request L12): level by level as the vectors are found, over the frames and the burst.
-use Rattle.algebra.specs.Prelude.{List, ℕ, _+_, _-_}
+use Rattle.alignment.specs.Prelude.{List, ℕ, _+_, _-_, Shape, Image, sampleAt, finestLevel, level1, level2, level3, finestStep, step2to1, step3to2, otherFrame, Pair, coarsestRows, finerRows}
 use Rattle.algebra.specs.Sums.{sumN}
-use Rattle.geometry.specs.declared.Shape.{Shape}
-use Rattle.geometry.specs.Read.{Image, sampleAt}
-use Rattle.geometry.specs.Tiles.{finestLevel, level1, level2, level3, finestStep, step2to1, step3to2}
-use Rattle.geometry.specs.Vectors.{otherFrame}
-use Rattle.residuals.specs.Residual.{Pair}
-use Rattle.fields.specs.LevelSums.{coarsestRows, finerRows}
 use Rattle.alignment.specs.Fields.{levelRows, levelColumns, field1, field2, field3}
 use Rattle.alignment.specs.Frames.{pairs}
 

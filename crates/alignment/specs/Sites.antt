@@ -1,28 +1,12 @@
 -- Inner vocabulary: where the levels' images and vectors stand in the work area: the reference's pyramid, the other frame's, then the vectors of levels 3 to 1.
-use Rattle.algebra.specs.Prelude.{_≡_, List, ℕ, zero, suc, _+_, _*_, _≤_, _<_, length, getD, ℤ, pos, natAbs}
-use Rattle.geometry.specs.declared.Shape.{Shape}
-use Rattle.geometry.specs.Fits.{Allowed, TileSide}
-use Rattle.geometry.specs.Tiles.{finestLevel, levelSize, tileColumns, frameParts}
-use Rattle.geometry.specs.LevelTiles.{levelTiles}
-use Rattle.pyramid.specs.Layout.{offset, pyramidLength, alignLength}
+use Rattle.alignment.specs.Prelude.{_≡_, List, ℕ, zero, suc, _+_, _*_, _≤_, _<_, length, getD, ℤ, pos, natAbs, Shape, Allowed, TileSide, finestLevel, levelSize, tileColumns, frameParts, levelTiles, offset, pyramidLength, alignLength, written, Sums, Grid, Area, Pair, VectorField, word, levelAt, finer, finerRows, Laid, pairIn, Stored, fieldAt, Vectors}
 use Rattle.pyramid.specs.WordsLaws.{Kept}
-use Rattle.sequences.specs.Write.{written}
 use Rattle.residuals.specs.Magnitudes.{residualMost}
 use Rattle.fields.specs.Magnitudes.{tilesMost}
-use Rattle.fields.specs.declared.Sums.{Sums}
 use Rattle.alignment.specs.Rows.{coarseRows, frameRows}
-use Rattle.levels.specs.declared.Grid.{Grid}
-use Rattle.matching.specs.declared.Area.{Area}
-use Rattle.residuals.specs.Residual.{Pair}
-use Rattle.geometry.specs.Vectors.{VectorField, word}
 use Rattle.levels.specs.Magnitudes.{tileRowsMost}
 use Rattle.levels.specs.Steps.{stepTo}
-use Rattle.levels.specs.Fields.{levelAt, finer}
-use Rattle.fields.specs.LevelSums.{finerRows}
-use Rattle.fields.specs.Loops.{Laid}
 use Rattle.alignment.specs.Fields.{field0, field1, residualSum}
-use Rattle.matching.specs.Stored.{pairIn, Stored}
-use Rattle.levels.specs.Grids.{fieldAt, Vectors}
 
 -- a level's number among a pyramid's six images
 abbrev pub imageNumber : ℕ → ℕ

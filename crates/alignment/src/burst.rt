@@ -1,8 +1,5 @@
 // The vectors of every other frame of a burst.
-ghost use Prim.Native.Nat.{_+_, _≤_};
-ghost use lib.ListN.{length};
-ghost use Rattle.geometry.specs.Read.{sampleAt};
-ghost use Rattle.geometry.specs.Tiles.{frameParts};
+ghost use Rattle.alignment.specs.Prelude.{_+_, _≤_, length, sampleAt, frameParts};
 ghost use Rattle.alignment.specs.Burst.{Ready, AlignedBurst, BehindReference, OneAligned, ReadyFrame, AlignedFrame};
 use crate::frame::align_levels;
 use fields::Sums;

@@ -1,13 +1,5 @@
 // The four levels of one frame against the reference.
-ghost use mathlib.Core.Path.{_≡_};
-ghost use Prim.Native.Nat.{_+_, _*_, _≤_, _<_, _^_};
-ghost use lib.ListN.{length};
-ghost use Rattle.geometry.specs.Fits.{Allowed, TileSide};
-ghost use Rattle.geometry.specs.Tiles.{level3, frameParts};
-ghost use Rattle.levels.specs.Fields.{levelAt, coarsest};
-ghost use Rattle.levels.specs.Grids.{Vectors};
-ghost use Rattle.fields.specs.LevelSums.{coarsestRows};
-ghost use Rattle.fields.specs.Loops.{Few};
+ghost use Rattle.alignment.specs.Prelude.{_≡_, _+_, _*_, _≤_, _<_, _^_, length, Allowed, TileSide, level3, frameParts, levelAt, coarsest, Vectors, coarsestRows, Few};
 ghost use Rattle.alignment.specs.Sites.{imageNumber, areaAt, gridAt, after, pairsIn, nextIn, nextRowsIn, Site, LaidAt, Prepared, Coarse, Aligned};
 use fields::Sums;
 use fields::coarsest_field;

@@ -1,6 +1,5 @@
 // The sum of a 2 by 2 Bayer square of a frame: a value of level 0.
-ghost use mathlib.Core.Path.{_≡_};
-ghost use Prim.Native.Nat.{_/_, _<_, _≤_};
+ghost use Rattle.algebra.specs.Prelude.{_≡_, _/_, _<_, _≤_};
 ghost use Rattle.geometry.specs.Read.{sampleAt};
 ghost use Rattle.bayer.specs.Bayer.{bayerSum};
 ghost use Rattle.bayer.specs.Frame.{Frame};

@@ -1,17 +1,12 @@
 -- The Wiener step in double gives the recipe's whole numbers where its quotients are certain: B is below 5·2^49, and |Q|² + V at most 2^53.
-use Rattle.algebra.specs.Prelude.{_≡_, refl, sym, ap, ap₂, subst, _∙_, Bool, true, false, [], _∷_, ℕ, _+_, _*_, _/_, _^_, _≤_, _<_, arith, lit≤, lit<, getD, ℤ, pos, natAbs}
+use Rattle.bins.specs.Prelude.{_≡_, refl, sym, ap, ap₂, subst, _∙_, Bool, true, false, [], _∷_, ℕ, _+_, _*_, _/_, _^_, _≤_, _<_, arith, lit≤, lit<, getD, ℤ, pos, natAbs, Float, nan, binary64, ofInt, mul, div, unlike, away, side16, power, quantized, wiener, filtered, binMost, longBinMost, gainMost, noiseMost}
 use native.Mathlib.Nat.{le-trans, lt-of-le-of-lt, mul-le-mul, add-le-add}
 use Prim.Native.Nat.{zero-le}
-use lib.Ieee.{Float, nan, binary64, ofInt, mul, div, unlike}
-use Rattle.algebra.specs.Nearest.{away}
 use Rattle.floats.specs.Wholes.{Whole, negative, whole-of, whole-product, whole-sum}
 use Rattle.floats.specs.QuotientLaws.{slightlyMore, certain, quotient-again}
 use Rattle.floats.specs.ProductLaws.{product-away}
 use Rattle.recipe.specs.Side.{Side}
-use Rattle.recipe.specs.Tables.{side16}
 use Rattle.recipe.specs.Tables32.{side32}
-use Rattle.recipe.specs.Correction.{power, quantized, wiener, filtered}
-use Rattle.spectrum.specs.Magnitudes.{binMost, longBinMost, gainMost, noiseMost}
 use Rattle.spectrum.specs.RoundingLaws.{away-most}
 use Rattle.spectrum.specs.WienerLaws.{wiener-is}
 use Rattle.bins.specs.Doubles.{nearestWhole, powerIn, quantizedBy, quotientsBy, gainsBy, SureBy, realGainBy}

@@ -1,10 +1,7 @@
 -- Inside the crates of the merge: the Wiener step in double, as the code works it out. Each operation is rounded once.
-use Rattle.algebra.specs.Prelude.{_≡_, true, List, [], _∷_, ℕ, getD, ℤ, pos}
-use lib.Ieee.{Float, nan, binary64, add, sub, mul, div, ofInt, toSigned}
-use Rattle.floats.specs.Middle.{middle}
+use Rattle.bins.specs.Prelude.{_≡_, true, List, [], _∷_, ℕ, getD, ℤ, pos, Float, nan, binary64, add, sub, mul, div, ofInt, toSigned, middle, wiener}
 use Rattle.floats.specs.ProductLaws.{fraction}
 use Rattle.floats.specs.QuotientLaws.{certain}
-use Rattle.recipe.specs.Correction.{wiener}
 
 -- the whole number nearest to x
 unfoldable pub nearestWhole : Float → Float

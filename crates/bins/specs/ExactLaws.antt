@@ -1,13 +1,9 @@
 -- The Wiener step at one bin with quotients in whole numbers: a whole number in double is itself as an i64, and so Q and G are the recipe's.
-use Rattle.algebra.specs.Prelude.{_≡_, refl, sym, ap, subst, _∙_, [], _∷_, ℕ, _≤_, arith, T, ℤ, natAbs, w64, toZ, ofZ}
-use lib.Ieee.{Float, binary64, ofInt, toSigned, inSigned, inFloat}
-use Rattle.algebra.specs.Bound.{AtMost}
+use Rattle.bins.specs.Prelude.{_≡_, refl, sym, ap, subst, _∙_, [], _∷_, ℕ, _≤_, arith, T, ℤ, natAbs, w64, toZ, ofZ, Float, binary64, ofInt, toSigned, inSigned, inFloat, AtMost, quantized, filtered, gainMost}
 use Rattle.floats.specs.Casts.{whole-counted, whole-back}
 use Rattle.lines.specs.Doubles.{WholeDouble}
 use Rattle.lines.specs.Held.{number-is}
 use Rattle.recipe.specs.Side.{Side}
-use Rattle.recipe.specs.Correction.{quantized, filtered}
-use Rattle.spectrum.specs.Magnitudes.{gainMost}
 use Rattle.bins.specs.Doubles.{quantizedBy, wholeQuantizedBy, exactGainsBy}
 use Rattle.bins.specs.DoubleLaws.{Quanta, quantized-is, quantized-most}
 

@@ -1,3 +1,4 @@
+pub mod Prelude
 pub mod Doubles
 pub mod DoubleLaws
 pub mod ExactLaws

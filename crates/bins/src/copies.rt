@@ -1,11 +1,5 @@
 // The Wiener step on the spatial filter's copy (request L13), one part of a bin at a time.
-ghost use mathlib.Core.Path.{_≡_};
-ghost use Prim.Native.Nat.{_≤_};
-ghost use Rattle.algebra.specs.Bound.{AtMost};
-ghost use Rattle.recipe.specs.Tables.{side16};
-ghost use Rattle.recipe.specs.Correction.{wiener};
-ghost use Rattle.recipe.specs.Spatial.{copyQuantized, copyFiltered};
-ghost use Rattle.spectrum.specs.Magnitudes.{copyBinMost, copyPartMost, spatialMost, spatialGainMost};
+ghost use Rattle.bins.specs.Prelude.{_≡_, _≤_, AtMost, side16, wiener, copyQuantized, copyFiltered, copyBinMost, copyPartMost, spatialMost, spatialGainMost};
 
 // One part of the copy's bin in sixteenths: that part divided by 2^32.
 fn quantized_part(b: i64) -> i64

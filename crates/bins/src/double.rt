@@ -1,10 +1,7 @@
 // The Wiener step at one bin in double: Q from B, the quotients V/(|Q|² + V) and G, and whether the quotients leave a doubt. V and W = V·(1 + 2^-51) are given
 // as doubles, and so are the parts of B. Each number but the quotients is a whole one, and each rounding to one is a sum with 1.5·2^52, from which that is taken
 // off again.
-ghost use mathlib.Core.Path.{_≡_};
-ghost use mathlib.Core.Bool.{true};
-ghost use lib.Ieee.{nan};
-ghost use lib.ListN.{getD};
+ghost use Rattle.bins.specs.Prelude.{_≡_, true, getD, nan};
 ghost use Rattle.floats.specs.QuotientLaws.{certain};
 ghost use Rattle.bins.specs.Doubles.{nearestWhole, quantizedIn, quotientsIn, gainsIn, Sure, realGainIn};
 

@@ -2,10 +2,7 @@
 use crate::double::both;
 use crate::double::nearest_whole;
 use crate::double::no_doubt;
-ghost use mathlib.Core.Path.{_≡_};
-ghost use mathlib.Core.Bool.{true};
-ghost use lib.Ieee.{nan};
-ghost use lib.ListN.{getD};
+ghost use Rattle.bins.specs.Prelude.{_≡_, true, getD, nan};
 ghost use Rattle.bins.specs.Doubles.{quantizedBy, quotientsBy, gainsBy, SureBy, realGainBy};
 
 // 2^-26·(1 + 2^-52): the last bits make a half more than a half, so that it is rounded away from zero

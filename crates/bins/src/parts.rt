@@ -1,9 +1,5 @@
 // G from Q in whole numbers, one part of a bin at a time.
-ghost use mathlib.Core.Path.{_≡_};
-ghost use Prim.Native.Nat.{_≤_};
-ghost use Rattle.algebra.specs.Bound.{AtMost};
-ghost use Rattle.recipe.specs.Correction.{wiener};
-ghost use Rattle.spectrum.specs.Magnitudes.{gainMost, noiseMost};
+ghost use Rattle.bins.specs.Prelude.{_≡_, _≤_, AtMost, wiener, gainMost, noiseMost};
 
 // One part of G, from that part q of Q and the other part r.
 pub fn wiener_part(noise: u64, q: i64, r: i64) -> i64

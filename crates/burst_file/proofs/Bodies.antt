@@ -1,21 +1,10 @@
 -- The reading of a file by the numbers that the code found for its parts.
-use mathlib.Core.Path.{_≡_, sym, ap, _∙_}
-use mathlib.Core.Bool.{false}
-use mathlib.Core.List.{List, []}
-use Prim.Native.Nat.{ℕ, _*_}
+use Rattle.burst_file.specs.Prelude.{_≡_, sym, ap, _∙_, false, List, [], ℕ, _*_, Shape, sampleLength, Allowed, Part, refused, found, numberOf, _then_, mapped, above, nextValues, Header, headerRefusal, headOf}
 use native.Mathlib.Nat.{mul-assoc, mul-comm}
-use Rattle.geometry.specs.declared.Shape.{Shape}
 use Rattle.refusals.specs.TestLaws.{among, passed}
-use Rattle.geometry.specs.Shape.{sampleLength}
-use Rattle.geometry.specs.Fits.{Allowed}
 use Rattle.limits.specs.Order.{shapeTests}
-use Rattle.file_lines.specs.Part.{Part, refused, found, numberOf, _then_, mapped}
 use Rattle.file_lines.specs.PartLaws.{both-sound, sound-at, sound-found, unless-stops, unless-goes, number-mapped, number-stops}
-use Rattle.file_lines.specs.Line.{above}
-use Rattle.file_lines.specs.Scan.{nextValues}
 use Rattle.file_lines.specs.ScanLaws.{Next, next-all}
-use Rattle.file_head.specs.declared.Header.{Header}
-use Rattle.file_head.specs.Head.{headerRefusal, headOf}
 use Rattle.file_head.specs.HeadLaws.{HeadRead, packed-allowed, head-sound}
 use Rattle.burst_file.specs.Burst.{FileBurst}
 use Rattle.burst_file.specs.Rows.{rowLines, framesOf}

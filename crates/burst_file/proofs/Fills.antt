@@ -1,15 +1,9 @@
 -- The loop that stores the next values one by one.
-use mathlib.Core.Path.{_≡_, refl, sym, ap, _∙_}
-use mathlib.Core.List.{List, _∷_}
-use Prim.Native.Nat.{ℕ, zero, suc, _+_, _-_, _<_}
+use Rattle.burst_file.specs.Prelude.{_≡_, refl, sym, ap, _∙_, List, _∷_, ℕ, zero, suc, _+_, _-_, _<_, arith, length, getD, drop, itemOf, valueIn, restIn, nextValues}
 use native.Mathlib.Numerals.{add-one}
-use native.Mathlib.Omega.{arith}
-use lib.ListN.{length, getD, drop}
 use lib.Seq.{drop-cons}
 use Rattle.sequences.specs.Tab.{tab}
 use Rattle.sequences.specs.Grid.{tab-of}
-use Rattle.file_lines.specs.Line.{itemOf}
-use Rattle.file_lines.specs.Scan.{valueIn, restIn, nextValues}
 
 -- t is what is left of s after j of its next n values
 pub record Taking (n : ℕ) (s : List ℕ) (j : ℕ) (t : List ℕ) : Type 0 where

@@ -1,15 +1,9 @@
 -- The values of rows that are found are the next values, across the lines.
-use mathlib.Core.Path.{sym, ap, _∙_}
+use Rattle.burst_file.specs.Prelude.{sym, ap, _∙_, ℕ, zero, suc, _+_, _*_, arith, refuse, found, valueLine, above, nextValues}
 use mathlib.Core.List.{List, _++_, append-assoc}
-use Prim.Native.Nat.{ℕ, zero, suc, _+_, _*_}
 use native.Mathlib.Nat.{suc-mul}
-use native.Mathlib.Omega.{arith}
 use Rattle.refusals.specs.Numbers as no
-use Rattle.refusals.specs.Tests.{refuse}
-use Rattle.file_lines.specs.Part.{found}
 use Rattle.file_lines.specs.PartLaws.{Sound, unless-sound, then-sound}
-use Rattle.file_lines.specs.Line.{valueLine, above}
-use Rattle.file_lines.specs.Scan.{nextValues}
 use Rattle.file_lines.specs.ScanLaws.{Next, line-next}
 use Rattle.burst_file.specs.Rows.{row, rowLines}
 

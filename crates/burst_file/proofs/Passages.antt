@@ -1,15 +1,8 @@
 -- Rows one by one, as far as a check sees them: where they end, or the first refusal.
-use mathlib.Core.Path.{_≡_, refl}
-use mathlib.Core.Bool.{Bool, true, false}
-use mathlib.Core.List.{List, [], _∷_, _++_}
-use Prim.Native.Nat.{ℕ, zero, suc, _-_, _<_, _≤_}
+use Rattle.burst_file.specs.Prelude.{_≡_, refl, Bool, true, false, List, [], _∷_, _++_, ℕ, zero, suc, _-_, _<_, _≤_, arith, Part, refused, found, numberOf, _then_, mapped, valueLine, above, judged}
 use native.Mathlib.Numerals.{sub-one}
-use native.Mathlib.Omega.{arith}
 use lib.ListN.{length, drop, drop-of-length-le}
 use Rattle.refusals.specs.Numbers as no
-use Rattle.file_lines.specs.Part.{Part, refused, found, numberOf, _then_, mapped}
-use Rattle.file_lines.specs.Line.{valueLine, above}
-use Rattle.file_lines.specs.Scan.{judged}
 use Rattle.file_lines.specs.ScanLaws.{step}
 use Rattle.burst_file.specs.Rows.{unlessAbove, row, rowLines, ended}
 use Rattle.burst_file.specs.Passage.{rowsIn, endedRow, briefly}

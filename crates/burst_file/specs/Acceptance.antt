@@ -1,12 +1,6 @@
 -- A file is accepted exactly when it is a file of the grammar whose values pass the tests.
-use mathlib.Core.Path.{_≡_}
-use mathlib.Core.List.{List, []}
-use Prim.Native.Nat.{ℕ, _*_}
-use Rattle.geometry.specs.declared.Shape.{Shape}
-use Rattle.geometry.specs.Fits.{ValuesFit}
-use Rattle.file_lines.specs.Part.{found, numberOf}
+use Rattle.burst_file.specs.Prelude.{_≡_, List, [], ℕ, _*_, Shape, ValuesFit, found, numberOf, headerRefusal, headOf}
 use Rattle.file_lines.specs.PartLaws.{Sound, unless-sound, sound-at, sound-found, then-sound}
-use Rattle.file_head.specs.Head.{headerRefusal, headOf}
 use Rattle.file_head.specs.HeadLaws.{HeadRead, head-sound, head-complete}
 use Rattle.burst_file.specs.Burst.{FileBurst}
 use Rattle.burst_file.specs.Grammar.{BurstFile}

@@ -1,7 +1,5 @@
 -- What a burst file holds.
-use mathlib.Core.List.{List}
-use Prim.Native.Nat.{ℕ}
-use Rattle.file_head.specs.declared.Header.{Header}
+use Rattle.burst_file.specs.Prelude.{List, ℕ, Header}
 
 pub record FileBurst : Type 0 where
   pub header : Header

@@ -1,8 +1,6 @@
 -- The grammar of a burst file: which bytes are a file with which values, whatever the order of reading. No contract needs it: `sound` and `complete`
 -- (Acceptance) say of what the contracts read that it is this.
-use mathlib.Core.Path.{_≡_}
-use mathlib.Core.List.{List, [], _++_}
-use Prim.Native.Nat.{ℕ, suc, _*_}
+use Rattle.burst_file.specs.Prelude.{_≡_, List, [], _++_, ℕ, suc, _*_}
 use Rattle.file_lines.specs.Grammar.{ValueLine}
 use Rattle.file_head.specs.Names.{names}
 use Rattle.file_head.specs.Grammar.{sevenOf}

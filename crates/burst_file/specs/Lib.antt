@@ -1,3 +1,4 @@
+pub mod Prelude
 pub mod Burst
 pub mod Rows
 pub mod Reading

@@ -1,11 +1,7 @@
 -- Inner vocabulary, which no public contract reaches: the answers of the functions that check rows, which hold positions, as what stands at those
 -- positions.
-use mathlib.Core.Bool.{Bool, cond}
-use mathlib.Core.List.{List}
-use Prim.Native.Nat.{ℕ}
-use lib.ListN.{drop}
+use Rattle.burst_file.specs.Prelude.{Bool, cond, List, ℕ, drop, Part, refused, found, mapped}
 use Rattle.refusals.specs.Numbers as no
-use Rattle.file_lines.specs.Part.{Part, refused, found, mapped}
 use Rattle.burst_file.specs.declared.Passage.{Passage}
 use Rattle.burst_file.specs.declared.Passage.the-variants.{Found as FoundRows, Refused as RefusedRows}
 

@@ -1,14 +1,6 @@
 -- Reading a whole file.
-use mathlib.Core.Path.{_≡_}
-use mathlib.Core.List.{List}
-use Prim.Native.Nat.{ℕ}
-use lib.ListN.{length}
+use Rattle.burst_file.specs.Prelude.{_≡_, List, ℕ, length, Shape, sampleLength, lengthRefusal, Part, refused, found, unless, numberOf, _then_, mapped, headOf, Header}
 use Rattle.refusals.specs.Numbers as no
-use Rattle.geometry.specs.declared.Shape.{Shape}
-use Rattle.geometry.specs.Shape.{sampleLength, lengthRefusal}
-use Rattle.file_lines.specs.Part.{Part, refused, found, unless, numberOf, _then_, mapped}
-use Rattle.file_head.specs.Head.{headOf}
-use Rattle.file_head.specs.declared.Header.{Header}
 use Rattle.burst_file.specs.Burst.{FileBurst}
 use Rattle.burst_file.specs.Rows.{framesOf}
 use Rattle.burst_file.specs.declared.FileAnswer.{FileAnswer}

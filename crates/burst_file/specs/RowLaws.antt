@@ -1,18 +1,10 @@
 -- Rows are read exactly where the grammar has them with no value above 4095.
-use mathlib.Core.Path.{_≡_, refl, sym, ap, _∙_}
-use mathlib.Core.Bool.{Bool, true, false, false≢true, _||_}
-use mathlib.Core.List.{List, [], _∷_, _++_}
-use Prim.Native.Nat.{ℕ, zero, suc, _≤_}
-use native.Mathlib.Omega.{arith}
+use Rattle.burst_file.specs.Prelude.{_≡_, refl, sym, ap, _∙_, Bool, true, false, false≢true, _||_, List, [], _∷_, _++_, ℕ, zero, suc, _≤_, arith, getD, refuse, Part, refused, found, valueLine, above}
 use lib.Dec.{ltb}
-use lib.ListN.{getD}
 use borrow.Author.Tests.{ltb-false, le-ltb}
 use Rattle.refusals.specs.Numbers as no
-use Rattle.refusals.specs.Tests.{refuse}
 use Rattle.refusals.specs.TestLaws.{refuse-not}
-use Rattle.file_lines.specs.Part.{Part, refused, found}
 use Rattle.file_lines.specs.PartLaws.{Sound, unless-sound, then-sound}
-use Rattle.file_lines.specs.Line.{valueLine, above}
 use Rattle.file_lines.specs.Grammar.{ValueLine}
 use Rattle.file_lines.specs.LineLaws.{line-sound, line-complete}
 use Rattle.burst_file.specs.Rows.{row, rowLines, ended}

@@ -1,12 +1,6 @@
 -- The rows of samples, one line each.
-use mathlib.Core.Bool.{Bool}
-use mathlib.Core.List.{List, [], _∷_, _++_}
-use Prim.Native.Nat.{ℕ, zero, suc, _*_}
-use Rattle.geometry.specs.declared.Shape.{Shape}
+use Rattle.burst_file.specs.Prelude.{Bool, List, [], _∷_, _++_, ℕ, zero, suc, _*_, Shape, refuse, Part, refused, found, unless, _then_, mapped, valueLine, above}
 use Rattle.refusals.specs.Numbers as no
-use Rattle.refusals.specs.Tests.{refuse}
-use Rattle.file_lines.specs.Part.{Part, refused, found, unless, _then_, mapped}
-use Rattle.file_lines.specs.Line.{valueLine, above}
 
 -- refusal 11, "sample > 4095", of what was read
 abbrev pub unlessAbove : {A : Type 0} → Bool → A → List ℕ → Part A

@@ -1,9 +1,5 @@
 -- How large a burst file's frames are, and how many: what its first two lines say, whatever rows follow.
-use mathlib.Core.List.{List}
-use Prim.Native.Nat.{ℕ}
-use Rattle.file_lines.specs.Part.{Part, refused, found}
-use Rattle.file_head.specs.Head.{headOf}
-use Rattle.file_head.specs.declared.Header.{Header}
+use Rattle.burst_file.specs.Prelude.{List, ℕ, Part, refused, found, headOf, Header}
 use Rattle.burst_file.specs.Reading.{refusedFile, acceptedFile}
 use Rattle.burst_file.specs.declared.FileAnswer.{FileAnswer}
 

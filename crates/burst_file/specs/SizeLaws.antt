@@ -1,15 +1,7 @@
 -- The size of a file and the reading of it agree.
-use mathlib.Core.Path.{_≡_, refl, sym, ap, _∙_}
-use mathlib.Core.List.{List, []}
-use Prim.Native.Nat.{ℕ}
-use lib.ListN.{length}
+use Rattle.burst_file.specs.Prelude.{_≡_, refl, sym, ap, _∙_, List, [], ℕ, length, Shape, sampleLength, lengthRefusal, Part, refused, found, numberOf, _then_, headOf, Header}
 use Rattle.refusals.specs.Numbers as no
-use Rattle.geometry.specs.declared.Shape.{Shape}
-use Rattle.geometry.specs.Shape.{sampleLength, lengthRefusal}
-use Rattle.file_lines.specs.Part.{Part, refused, found, numberOf, _then_}
-use Rattle.file_head.specs.Head.{headOf}
 use Rattle.file_head.specs.HeadLaws.{HeadRead, head-complete}
-use Rattle.file_head.specs.declared.Header.{Header}
 use Rattle.burst_file.specs.Burst.{FileBurst}
 use Rattle.burst_file.specs.Reading.{bodyOf, reading, readingInto, acceptedFile, fileAnswer, FileRead}
 use Rattle.burst_file.specs.Acceptance.{Accepted, sound-number, complete}

@@ -1,9 +1,5 @@
 // The check of a whole file, and the reading of it.
-ghost use mathlib.Core.Path.{_≡_};
-ghost use mathlib.Core.Bool.{false};
-ghost use lib.ListN.{length, drop};
-ghost use Rattle.file_lines.specs.Line.{above};
-ghost use Rattle.file_lines.specs.Scan.{nextValues};
+ghost use Rattle.burst_file.specs.Prelude.{_≡_, false, length, drop, above, nextValues};
 ghost use Rattle.burst_file.specs.Reading.{fileCheck, refusedFile, acceptedFile, FileRead};
 ghost use Rattle.burst_file.specs.Size.{fileSize};
 use crate::FileAnswer;

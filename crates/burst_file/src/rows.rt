@@ -1,8 +1,5 @@
 // The rows of samples, checked without a store.
-ghost use mathlib.Core.Path.{_≡_};
-ghost use lib.ListN.{drop};
-ghost use Rattle.geometry.specs.Fits.{Allowed};
-ghost use Rattle.file_lines.specs.Part.{numberOf};
+ghost use Rattle.burst_file.specs.Prelude.{_≡_, drop, Allowed, numberOf};
 ghost use Rattle.burst_file.specs.Rows.{row, rowLines, framesOf};
 ghost use Rattle.burst_file.specs.Passage.{rowsIn, endedRow, briefly};
 use crate::Passage;

@@ -1,5 +1,5 @@
 -- One bin: each part of the recipe's G is within 3/2 of `parts` times the exact correction's. Rounding Q moves the bin by at most 1/√2, the Wiener map does not stretch, and rounding G adds 1/2.
-use Rattle.algebra.specs.Prelude.{_≡_, sym, _∙_, subst, [], _∷_, ℕ, zero, suc, _*_, _≤_, _<_, arith, lit<, ℤ, pos, negsuc, natAbs, _+ℤ_, _-ℤ_, _*ℤ_}
+use Rattle.closeness.specs.Prelude.{_≡_, sym, _∙_, subst, [], _∷_, ℕ, zero, suc, _*_, _≤_, _<_, arith, lit<, ℤ, pos, negsuc, natAbs, _+ℤ_, _-ℤ_, _*ℤ_, Frac, frac, _+F_, _·F_, _×F_, _÷F_, divide, Within, Side, power, wiener, quantized, filtered, exactBin, exactNoise, exactWiener, exactFiltered}
 use mathlib.Core.Path.{subst₂}
 use Prim.Native.Nat.{zero-le}
 use native.Mathlib.Nat.{mul-pos, mul-le-mul-left}
@@ -8,17 +8,13 @@ use lib.Signed.{_≤ℤ_, _<ℤ_, ltZ-yes}
 use Rattle.algebra.specs.Vars.{vars5, vars6, vars10}
 use Rattle.algebra.specs.Ring.{Expr, var, _⊞_, _⊟_, _⊠_, ⊖_, #_, ring}
 use Rattle.algebra.specs.Order.{zarith, ≤ℤ-antisym, abs-mul, 0≤pos, 0≤*, 0≤sq, abs-of-sq}
-use Rattle.algebra.specs.Fraction.{Frac, frac, _+F_, _·F_, _×F_, _÷F_, divide, Within}
 use Rattle.algebra.specs.Cert.{num, sqr, le, lt, eq, _⊕_, _⊗_, by-le, by-lt, by-le-times}
 use Rattle.algebra.specs.Lipschitz.{sq, lipschitz}
 use Rattle.algebra.specs.FractionLaws.{within-trans, within-same, within-near, near-mono, near-zero, Near, rounds-within}
 use Rattle.algebra.specs.Same.{near-same, near-cross}
 use Rattle.algebra.specs.Nearest.{away}
 use Rattle.algebra.specs.NearestLaws.{Rounds, away-rounds}
-use Rattle.recipe.specs.Side.{Side}
-use Rattle.recipe.specs.Correction.{power, wiener, quantized, filtered}
 use Rattle.recipe.specs.CorrectionLaws.{power-is}
-use Rattle.recipe.specs.Exact.{exactBin, exactNoise, exactWiener, exactFiltered}
 
 -- |B − k·Q|² ≤ k²
 spread : (k : ℕ) (x y q r : ℤ) → Rounds x k q → Rounds y k r → (sq (x -ℤ pos k *ℤ q) +ℤ sq (y -ℤ pos k *ℤ r)) ≤ℤ (pos k *ℤ pos k)

@@ -1,16 +1,11 @@
 -- The recipe is close to the exact merge, on one tile and at one sample, for any side whose tables and scales fit together.
-use Rattle.algebra.specs.Prelude.{_≡_, sym, _∙_, ap, subst, ℕ, suc, _+_, _*_, _%_, _≤_, _<_, arith, lit<, ℤ, pos, natAbs, _+ℤ_, _-ℤ_, _*ℤ_}
+use Rattle.closeness.specs.Prelude.{_≡_, sym, _∙_, ap, subst, ℕ, suc, _+_, _*_, _%_, _≤_, _<_, arith, lit<, ℤ, pos, natAbs, _+ℤ_, _-ℤ_, _*ℤ_, Frac, frac, whole, _-F_, over, sumF, Within, Side, cosAt, sinAt, binRe, binIm, twiddleRe, twiddleIm, inverseRe, inverseAt, correctionAt, outputSample, exactInverseRe, exactInverseAt, exactCorrectionAt, unrounded, exactSample}
 use native.Mathlib.Nat.{mul-pos, mul-le-mul-left, mod-lt, one-mul}
 use Rattle.algebra.specs.Sums.{sumZ}
 use Rattle.algebra.specs.SumLaws.{sumN-scale}
 use Rattle.algebra.specs.NearestLaws.{away-rounds, upward-rounds}
-use Rattle.algebra.specs.Fraction.{Frac, frac, whole, _-F_, over, sumF, Within}
 use Rattle.algebra.specs.FractionLaws.{Near, near-sub, near-scale, near-sum, near-sums, near-mono, near-over, near-rounds, near-whole, near-held, near-one, near-frac}
-use Rattle.recipe.specs.Side.{Side, cosAt, sinAt}
-use Rattle.recipe.specs.Correction.{binRe, binIm, twiddleRe, twiddleIm, inverseRe, inverseAt, correctionAt}
 use Rattle.recipe.specs.Output.{rowIn, columnIn, weightIn, rounded}
-use Rattle.recipe.specs.PlainOutput.{outputSample}
-use Rattle.recipe.specs.Exact.{exactInverseRe, exactInverseAt, exactCorrectionAt, unrounded, exactSample}
 use Rattle.closeness.specs.Bins.{bin-near}
 use Rattle.closeness.specs.Windows.{four-windows}
 

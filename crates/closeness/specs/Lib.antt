@@ -1,3 +1,4 @@
+pub mod Prelude
 pub mod Bins
 pub mod Windows
 pub mod Closeness

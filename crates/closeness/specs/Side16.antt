@@ -1,11 +1,7 @@
 -- Demand 3 for side 16: the output sample lies within five eighths of the exact merge's.
-use Rattle.algebra.specs.Prelude.{refl, ℕ, suc, _+_, _*_, _≤_, _<_, arith, lit<, ℤ}
-use Rattle.algebra.specs.Fraction.{frac, whole, Within}
+use Rattle.closeness.specs.Prelude.{refl, ℕ, suc, _+_, _*_, _≤_, _<_, arith, lit<, ℤ, frac, whole, Within, correctionAt, outputSample, exactCorrectionAt, exactSample}
 use Rattle.recipe.specs.Tables.{cosines, cosine16, sine16, side16}
 use Rattle.recipe.specs.TableLaws.{window-halves}
-use Rattle.recipe.specs.Correction.{correctionAt}
-use Rattle.recipe.specs.PlainOutput.{outputSample}
-use Rattle.recipe.specs.Exact.{exactCorrectionAt, exactSample}
 use Rattle.closeness.specs.Twiddles.{twiddles-small}
 use Rattle.closeness.specs.Closeness.{Fitting, tileError, tile-within, sample-within}
 

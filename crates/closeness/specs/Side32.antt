@@ -1,11 +1,7 @@
 -- Request L8: for side 32 the output sample lies within one step of the exact merge's.
-use Rattle.algebra.specs.Prelude.{refl, ℕ, suc, _+_, _*_, _≤_, _<_, arith, lit<, ℤ}
-use Rattle.algebra.specs.Fraction.{frac, whole, Within}
+use Rattle.closeness.specs.Prelude.{refl, ℕ, suc, _+_, _*_, _≤_, _<_, arith, lit<, ℤ, frac, whole, Within, correctionAt, outputSample, exactCorrectionAt, exactSample}
 use Rattle.recipe.specs.Tables32.{cosines32, cosine32, sine32, side32}
 use Rattle.recipe.specs.TableLaws32.{window-halves-32}
-use Rattle.recipe.specs.Correction.{correctionAt}
-use Rattle.recipe.specs.PlainOutput.{outputSample}
-use Rattle.recipe.specs.Exact.{exactCorrectionAt, exactSample}
 use Rattle.closeness.specs.Twiddles.{twiddles-small}
 use Rattle.closeness.specs.Closeness.{Fitting, tileError, tile-within, sample-within}
 

@@ -1,7 +1,6 @@
 -- The four tiles over a sample: where w(i) + w(i + half) is the windows' scale for each i, their products w·w' add up to its square.
-use Rattle.algebra.specs.Prelude.{_≡_, ap₂, ℕ, _+_, _*_, _<_, arith}
+use Rattle.closeness.specs.Prelude.{_≡_, ap₂, ℕ, _+_, _*_, _<_, arith, Side}
 use Rattle.algebra.specs.Sums.{sumN}
-use Rattle.recipe.specs.Side.{Side}
 use Rattle.recipe.specs.Output.{weightIn}
 
 pub four-windows : (s : Side) (w : ℕ) → ((i : ℕ) → i < s .half → s .window i + s .window (i + s .half) ≡ w) → (a b : ℕ) → a < s .half → b < s .half → sumN 4 (weightIn s a b) ≡ w * w

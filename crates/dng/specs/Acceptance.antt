@@ -1,27 +1,17 @@
 -- A file is accepted exactly when it has the structure, the tags and the values that are asked for, and the burst has room for its frame.
-use Rattle.algebra.specs.Prelude.{_≡_, refl, sym, _∙_, Bool, false, not, _||_, List, [], _∷_, _++_, ℕ, _+_, _*_, _%_, _≤_, _<_, arith, eqb, ltb, length}
+use Rattle.dng.specs.Prelude.{_≡_, refl, sym, _∙_, Bool, false, not, _||_, List, [], _∷_, _++_, ℕ, _+_, _*_, _%_, _≤_, _<_, arith, eqb, ltb, length, Shape, first, sizeAllowed, countAllowed, sizeRefusal, countRefusal, referenceRefusal, rowAllowed, rowRefusal, sampleLength, lengthRefusal, shapeTests, frameTests, Entry, headerWrong, directoryStart, entryCount, directoryOutside, timesOf, firstField, fieldOutside, valueAt, ImageWidth, ImageLength, StripOffsets, StripByteCounts, tagAt, demandAt, listed, demanded, absent, valueOf, stripStart, stripLength, valueOutside, stripOutside, outside, notOnce, sizeDiffers, demandMissed, otherwise, tagTests, stripSample, stripRefusal}
 use borrow.Author.Tests.{eq-eqb, ne-eqb, eqb-true, eqb-false, ltb-false, le-ltb, le-leb, lt-leb, not-false}
-use Rattle.geometry.specs.declared.Shape.{Shape}
 use Rattle.refusals.specs.Numbers as no
-use Rattle.refusals.specs.Tests.{first}
 use Rattle.refusals.specs.TestLaws.{here, there, passed, goes, both-passed, lone, refuse-not}
-use Rattle.geometry.specs.Shape.{sizeAllowed, countAllowed, sizeRefusal, countRefusal, referenceRefusal, rowAllowed, rowRefusal, sampleLength, lengthRefusal}
 use Rattle.geometry.specs.Fits.{Allowed}
-use Rattle.limits.specs.Order.{shapeTests, frameTests}
 use Rattle.limits.specs.OrderLaws.{frames-allowed}
 use Rattle.geometry.specs.ShapeLaws.{below-count, right-length}
 use Rattle.refusals.specs.Some.{some}
 use Rattle.refusals.specs.SomeLaws.{none, not-one}
-use Rattle.tiff.specs.declared.Entry.{Entry}
 use Rattle.tiff.specs.Bytes.{short}
-use Rattle.tiff.specs.Directory.{headerWrong, directoryStart, entryCount, directoryOutside, timesOf}
-use Rattle.tiff.specs.Fields.{firstField, fieldOutside, valueAt}
 use Rattle.tiff.specs.FieldLaws.{HasRight, has-size, size-has}
-use Rattle.dng_tags.specs.Tags.{ImageWidth, ImageLength, StripOffsets, StripByteCounts, tagAt, demandAt, listed, demanded}
-use Rattle.dng_tags.specs.Refusals.{absent, valueOf, stripStart, stripLength, valueOutside, stripOutside, outside, notOnce, sizeDiffers, demandMissed, otherwise, tagTests}
 use Rattle.dng_tags.specs.TestLaws.{neither}
 use Rattle.dng_tags.specs.TagLaws.{listed-least, listed-most, tag-sized}
-use Rattle.dng_strip.specs.Strip.{stripSample, stripRefusal}
 use Rattle.dng.specs.Refusals.{roomTests, dngRefusal}
 
 -- past 19: "header .. II 42", and directory, strip and the listed tags' values in the file

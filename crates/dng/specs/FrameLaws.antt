@@ -1,13 +1,8 @@
 -- What acceptance by 1, 2, 3, 23 and 4 says of the burst and the frame.
-use Rattle.algebra.specs.Prelude.{_≡_, ℕ}
+use Rattle.dng.specs.Prelude.{_≡_, ℕ, first, Shape, sampleLength, shapeTests, frameTests, FrameFits}
 use Rattle.refusals.specs.Numbers as no
-use Rattle.refusals.specs.Tests.{first}
 use Rattle.refusals.specs.TestLaws.{among, passed}
-use Rattle.geometry.specs.declared.Shape.{Shape}
-use Rattle.geometry.specs.Shape.{sampleLength}
-use Rattle.limits.specs.Order.{shapeTests, frameTests}
 use Rattle.geometry.specs.ShapeLaws.{allowed, below-count, right-length}
-use Rattle.dng_strip.specs.Fits.{FrameFits}
 use Rattle.dng.specs.Refusals.{roomTests}
 
 pub frame-fits : (s : Shape) (frame room : ℕ) → first (roomTests s frame room) ≡ 0 → FrameFits s frame room

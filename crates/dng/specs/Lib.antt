@@ -1,3 +1,4 @@
+pub mod Prelude
 pub mod Refusals
 pub mod Curve
 pub mod Reading

@@ -1,16 +1,10 @@
 -- "other tags, 50713 without 50714 too, are passed over": an entry of such a tag changes nothing, wherever it stands in the directory's list. The file's bytes
 -- are the same throughout: no two files are compared.
-use Rattle.algebra.specs.Prelude.{_≡_, refl, _∙_, Bool, true, false, cond, List, _∷_, _++_, ℕ, _<_, arith, leb, length}
+use Rattle.dng.specs.Prelude.{_≡_, refl, _∙_, Bool, true, false, cond, List, _∷_, _++_, ℕ, _<_, arith, leb, length, Shape, Entry, entries, firstField, fieldOutside, valueAt, ImageWidth, ImageLength, StripOffsets, StripByteCounts, NoiseProfile, BlackLevel, tags, tagAt, demands, demandAt, hasBlack, listed, demanded, absent, valueOf, stripStart, stripLength, valueOutside, stripOutside, outside, notOnce, sizeDiffers, demandMissed, otherwise, tagTests}
 use borrow.Author.Tests.{leb-false}
-use Rattle.geometry.specs.declared.Shape.{Shape}
 use Rattle.refusals.specs.Some.{some}
 use Rattle.refusals.specs.SomeLaws.{none}
-use Rattle.tiff.specs.declared.Entry.{Entry}
-use Rattle.tiff.specs.Directory.{entries}
-use Rattle.tiff.specs.Fields.{firstField, fieldOutside, valueAt}
 use Rattle.tiff.specs.ScanLaws.{times-past, field-past}
-use Rattle.dng_tags.specs.Tags.{ImageWidth, ImageLength, StripOffsets, StripByteCounts, NoiseProfile, BlackLevel, tags, tagAt, demands, demandAt, hasBlack, listed, demanded}
-use Rattle.dng_tags.specs.Refusals.{absent, valueOf, stripStart, stripLength, valueOutside, stripOutside, outside, notOnce, sizeDiffers, demandMissed, otherwise, tagTests}
 use Rattle.dng_tags.specs.TagLaws.{listed-least}
 use Rattle.dng_strip.specs.StripLaws.{same-test}
 use Rattle.dng.specs.declared.DngRead.{DngRead}

@@ -1,18 +1,11 @@
 -- "The reader fills one frame of the lent burst and touches no other", and "leaves spare words as they were" (requests L7 and L9).
-use Rattle.algebra.specs.Prelude.{_≡_, refl, sym, ap, _∙_, List, ℕ, zero, suc, _+_, _-_, _*_, _/_, _%_, _≤_, _<_, arith, length, getD}
+use Rattle.dng.specs.Prelude.{_≡_, refl, sym, ap, _∙_, List, ℕ, zero, suc, _+_, _-_, _*_, _/_, _%_, _≤_, _<_, arith, length, getD, after, Shape, rowStride, Entry, stripStart, tagTests, stripSample, filledRows, FrameFits}
 use native.Mathlib.Decide.{decLt, ℕ-discrete}
 use Rattle.sequences.specs.Place.{row-room, place-row, place-column}
 use Rattle.sequences.specs.Write.{written-in}
-use Rattle.refusals.specs.After.{after}
 use Rattle.refusals.specs.AfterLaws.{result-made}
 use Rattle.refusals.specs.TestLaws.{both-passed}
-use Rattle.geometry.specs.declared.Shape.{Shape}
-use Rattle.geometry.specs.Shape.{rowStride}
 use Rattle.geometry.specs.Read.{sampleIndex, sampleAt}
-use Rattle.tiff.specs.declared.Entry.{Entry}
-use Rattle.dng_tags.specs.Refusals.{stripStart, tagTests}
-use Rattle.dng_strip.specs.Strip.{stripSample, filledRows}
-use Rattle.dng_strip.specs.Fits.{FrameFits}
 use Rattle.dng_strip.specs.RowLaws.{row-fits, filled-length, elsewhere-before, elsewhere-behind}
 use Rattle.dng.specs.declared.DngRead.{DngRead}
 use Rattle.dng.specs.Refusals.{roomTests, dngRefusal}

@@ -1,15 +1,6 @@
 -- Reading one frame of a burst from a DNG file.
-use Rattle.algebra.specs.Prelude.{_≡_, cond, List, [], _∷_, ℕ, _+_, _*_, length, pos}
-use lib.Ieee.{Float, binary64, ofBits, ofInt}
-use Rattle.refusals.specs.After.{after}
-use Rattle.geometry.specs.declared.Shape.{Shape}
-use Rattle.tiff.specs.declared.Entry.{Entry}
+use Rattle.dng.specs.Prelude.{_≡_, cond, List, [], _∷_, ℕ, _+_, _*_, length, pos, Float, binary64, ofBits, ofInt, after, Shape, Entry, entries, firstField, NoiseProfile, BlackLevel, tagAt, hasBlack, stripStart, filledRows}
 use Rattle.tiff.specs.Bytes.{short, eight}
-use Rattle.tiff.specs.Directory.{entries}
-use Rattle.tiff.specs.Fields.{firstField}
-use Rattle.dng_tags.specs.Tags.{NoiseProfile, BlackLevel, tagAt, hasBlack}
-use Rattle.dng_tags.specs.Refusals.{stripStart}
-use Rattle.dng_strip.specs.Strip.{filledRows}
 use Rattle.dng.specs.declared.DngRead.{DngRead}
 use Rattle.dng.specs.Curve.{shotOf, readOf}
 use Rattle.dng.specs.Refusals.{dngRefusal}

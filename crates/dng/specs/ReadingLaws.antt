@@ -1,12 +1,6 @@
 -- What reading owes where it has refused with a number, and where it has accepted.
-use Rattle.algebra.specs.Prelude.{_≡_, refl, sym, ap, _∙_, List, ℕ, zero, suc, length, pos}
-use lib.Ieee.{binary64, mul, ofInt}
-use Rattle.refusals.specs.After.{after}
+use Rattle.dng.specs.Prelude.{_≡_, refl, sym, ap, _∙_, List, ℕ, zero, suc, length, pos, binary64, mul, ofInt, after, Shape, Entry, stripStart, filledRows}
 use Rattle.refusals.specs.AfterLaws.{kept, made, result-made}
-use Rattle.geometry.specs.declared.Shape.{Shape}
-use Rattle.tiff.specs.declared.Entry.{Entry}
-use Rattle.dng_tags.specs.Refusals.{stripStart}
-use Rattle.dng_strip.specs.Strip.{filledRows}
 use Rattle.dng.specs.declared.DngRead.{DngRead}
 use Rattle.dng.specs.Refusals.{dngRefusal}
 use Rattle.dng.specs.Reading.{noiseS, noiseO, refusedDng, acceptedDng, dngAnswer, filled, FrameReadBy}

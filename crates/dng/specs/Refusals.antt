@@ -1,14 +1,7 @@
 -- The tests of the reader, in their order: 19, 20, 21, "before 1, 2, 3 (frame index not below N), 4 and 11" (request L7), with 23 "tested before 4"
 -- (request L9).
-use Rattle.algebra.specs.Prelude.{List, [], _∷_, _++_, ℕ, _*_}
+use Rattle.dng.specs.Prelude.{List, [], _∷_, _++_, ℕ, _*_, first, Shape, sampleLength, lengthRefusal, frameTests, Entry, stripStart, tagTests, stripRefusal}
 use Rattle.refusals.specs.Numbers as no
-use Rattle.refusals.specs.Tests.{first}
-use Rattle.geometry.specs.declared.Shape.{Shape}
-use Rattle.geometry.specs.Shape.{sampleLength, lengthRefusal}
-use Rattle.limits.specs.Order.{frameTests}
-use Rattle.tiff.specs.declared.Entry.{Entry}
-use Rattle.dng_tags.specs.Refusals.{stripStart, tagTests}
-use Rattle.dng_strip.specs.Strip.{stripRefusal}
 
 -- "before 1, 2, 3 (frame index not below N), 4": of the burst, the frame's index and the length of the lent samples. 23 is the last of `frameTests`
 unfoldable pub roomTests : Shape → (frame room : ℕ) → List ℕ

@@ -1,13 +1,7 @@
 -- The size of a file and the reading of it agree.
-use Rattle.algebra.specs.Prelude.{_≡_, refl, sym, ap, _∙_, List, ℕ, zero, suc, length}
-use Rattle.refusals.specs.After.{after}
-use Rattle.refusals.specs.Tests.{first}
+use Rattle.dng.specs.Prelude.{_≡_, refl, sym, ap, _∙_, List, ℕ, zero, suc, length, after, first, Shape, Entry, ImageWidth, ImageLength, valueOf, sizeDiffers, otherwise, tagTests}
 use Rattle.refusals.specs.TestLaws.{both-passed}
-use Rattle.geometry.specs.declared.Shape.{Shape}
-use Rattle.tiff.specs.declared.Entry.{Entry}
 use Rattle.dng_tags.specs.declared.DngSize.{DngSize}
-use Rattle.dng_tags.specs.Tags.{ImageWidth, ImageLength}
-use Rattle.dng_tags.specs.Refusals.{valueOf, sizeDiffers, otherwise, tagTests}
 use Rattle.dng_tags.specs.Faults.{faultTag}
 use Rattle.dng_tags.specs.Size.{loneShape, loneRefusal, dngSize}
 use Rattle.dng.specs.declared.DngRead.{DngRead}

@@ -1,8 +1,5 @@
 // The reading of one frame.
-ghost use mathlib.Core.Path.{_≡_};
-ghost use Prim.Native.Nat.{_≤_};
-ghost use Rattle.refusals.specs.Tests.{first};
-ghost use Rattle.tiff.specs.Directory.{entries};
+ghost use Rattle.dng.specs.Prelude.{_≡_, _≤_, first, entries};
 ghost use Rattle.dng.specs.Refusals.{roomTests};
 ghost use Rattle.dng.specs.Reading.{refusedDng, acceptedDng, blackAt, FrameRead};
 use crate::DngRead;

@@ -1,8 +1,5 @@
 // The samples of a DNG file's strip: refusal 11, and their storing.
-ghost use mathlib.Core.Path.{_≡_};
-ghost use Prim.Native.Nat.{_+_, _*_, _%_, _≤_};
-ghost use lib.Dec.{ltb};
-ghost use lib.ListN.{length};
+ghost use Rattle.algebra.specs.Prelude.{_≡_, _+_, _*_, _%_, _≤_, ltb, length};
 ghost use Rattle.refusals.specs.Some.{some};
 ghost use Rattle.sequences.specs.Written.{written};
 ghost use Rattle.dng_strip.specs.Strip.{stripSample, stripRefusal, filledRows};

@@ -1,16 +1,12 @@
 -- The first of some numbers that is not 0, as a loop finds it; and that 20 and 21 always name a tag.
-use Rattle.algebra.specs.Prelude.{_≡_, refl, sym, ap, _∙_, Bool, true, false, cond, List, [], _∷_, ℕ, zero, suc, _+_, _≤_, _<_, arith, eqb}
+use Rattle.dng_tags.specs.Prelude.{_≡_, refl, sym, ap, _∙_, Bool, true, false, cond, List, [], _∷_, ℕ, zero, suc, _+_, _≤_, _<_, arith, eqb, refuse, _before_, first, some, Shape, Entry}
 use mathlib.Core.Bool.{false≢true}
 use native.Mathlib.Numerals.{add-one}
 use native.Mathlib.Decide.{ℕ-discrete}
 use borrow.Author.Tests.{eqb-false}
 use Rattle.refusals.specs.Numbers as no
-use Rattle.refusals.specs.Tests.{refuse, _before_, first}
 use Rattle.refusals.specs.TestLaws.{here, there, passed}
-use Rattle.refusals.specs.Some.{some}
 use Rattle.refusals.specs.SomeLaws.{none, not-one}
-use Rattle.geometry.specs.declared.Shape.{Shape}
-use Rattle.tiff.specs.declared.Entry.{Entry}
 use Rattle.dng_tags.specs.Tags.{StripByteCounts, tags, tagAt, demands, demandAt, hasBlack, listed, demanded}
 use Rattle.dng_tags.specs.Refusals.{absent, outside, notOnce, sizeDiffers, demandMissed, otherwise, tagTests}
 use Rattle.dng_tags.specs.TagLaws.{listed-most}

@@ -1,10 +1,6 @@
 -- Which tag is at fault beside 19, 20 and 21: that of the first demand, in the order of the tests, that the file does not meet. 0 stands for none.
-use Rattle.algebra.specs.Prelude.{cond, _||_, List, [], _∷_, ℕ, zero, suc, eqb}
+use Rattle.dng_tags.specs.Prelude.{cond, _||_, List, [], _∷_, ℕ, zero, suc, eqb, refuse, _before_, first, Shape, Entry, headerWrong, directoryOutside}
 use Rattle.refusals.specs.Numbers as no
-use Rattle.refusals.specs.Tests.{refuse, _before_, first}
-use Rattle.geometry.specs.declared.Shape.{Shape}
-use Rattle.tiff.specs.declared.Entry.{Entry}
-use Rattle.tiff.specs.Directory.{headerWrong, directoryOutside}
 use Rattle.dng_tags.specs.Tags.{StripOffsets, StripByteCounts, tagAt, demandAt, listed, demanded}
 use Rattle.dng_tags.specs.Refusals.{absent, valueOutside, stripOutside, notOnce, sizeDiffers, demandMissed}
 

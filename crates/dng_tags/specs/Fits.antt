@@ -1,7 +1,5 @@
 -- What is known of a strip once tests have let it through. Inner vocabulary: laws speak of it, no answer does.
-use Rattle.algebra.specs.Prelude.{List, ℕ, _+_, _*_, _≤_, length}
-use Rattle.geometry.specs.declared.Shape.{Shape}
-use Rattle.tiff.specs.declared.Entry.{Entry}
+use Rattle.dng_tags.specs.Prelude.{List, ℕ, _+_, _*_, _≤_, length, Shape, Entry}
 use Rattle.dng_tags.specs.Refusals.{stripStart}
 
 -- 19, 20 and 21: the samples of the strip stand in the file

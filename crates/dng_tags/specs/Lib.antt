@@ -1,3 +1,4 @@
+pub mod Prelude
 pub mod Tags
 pub mod Refusals
 pub mod RowTests

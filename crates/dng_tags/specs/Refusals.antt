@@ -1,11 +1,6 @@
 -- The tests of a file's structure, tags and values, in their order: 19, 20 and 21 (request L7), on its bytes and the entries of its directory.
-use Rattle.algebra.specs.Prelude.{Bool, not, cond, false, _||_, List, [], _∷_, ℕ, _+_, _*_, ltb, eqb, length}
+use Rattle.dng_tags.specs.Prelude.{Bool, not, cond, false, _||_, List, [], _∷_, ℕ, _+_, _*_, ltb, eqb, length, refuse, some, Shape, Entry, headerWrong, directoryOutside, timesOf}
 use Rattle.refusals.specs.Numbers as no
-use Rattle.refusals.specs.Tests.{refuse}
-use Rattle.refusals.specs.Some.{some}
-use Rattle.geometry.specs.declared.Shape.{Shape}
-use Rattle.tiff.specs.declared.Entry.{Entry}
-use Rattle.tiff.specs.Directory.{headerWrong, directoryOutside, timesOf}
 use Rattle.tiff.specs.Fields.{firstField, fieldOutside, valueAt}
 use Rattle.dng_tags.specs.Tags.{ImageWidth, ImageLength, StripOffsets, StripByteCounts, tagAt, demandAt, listed, demanded}
 

@@ -1,6 +1,5 @@
 -- Inner vocabulary, which no public contract reaches: the tests of a row, by their names in the code, and the tags that they speak of.
-use Rattle.algebra.specs.Prelude.{Bool, List, ℕ}
-use Rattle.tiff.specs.declared.Entry.{Entry}
+use Rattle.dng_tags.specs.Prelude.{Bool, List, ℕ, Entry}
 use Rattle.dng_tags.specs.Refusals.{absent, valueOutside, notOnce, demandMissed}
 use Rattle.dng_tags.specs.Tags.{tagAt}
 use Rattle.dng_tags.specs.Faults.{demandTag}

@@ -1,10 +1,7 @@
 -- The size of a DNG file's frame, and of a file that is refused the tag at fault.
-use Rattle.algebra.specs.Prelude.{List, ℕ}
-use Rattle.refusals.specs.Tests.{first}
+use Rattle.dng_tags.specs.Prelude.{List, ℕ, first, Shape, Entry}
 use Rattle.refusals.specs.After.{after}
-use Rattle.geometry.specs.declared.Shape.{Shape}
 use Rattle.geometry.specs.Shape.{shaped}
-use Rattle.tiff.specs.declared.Entry.{Entry}
 use Rattle.dng_tags.specs.declared.DngSize.{DngSize}
 use Rattle.dng_tags.specs.Tags.{ImageWidth, ImageLength}
 use Rattle.dng_tags.specs.Refusals.{valueOf, tagTests}

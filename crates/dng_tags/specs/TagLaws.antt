@@ -1,15 +1,10 @@
 -- What the tests of the tags say, one by one and together.
-use Rattle.algebra.specs.Prelude.{_≡_, refl, sym, _∙_, Bool, true, false, not, cond, _||_, List, ℕ, _+_, _*_, _/_, _%_, _≤_, _<_, arith, eqb, ltb, length}
+use Rattle.dng_tags.specs.Prelude.{_≡_, refl, sym, _∙_, Bool, true, false, not, cond, _||_, List, ℕ, _+_, _*_, _/_, _%_, _≤_, _<_, arith, eqb, ltb, length, Shape, first, some, Entry, headerWrong, directoryOutside}
 use native.Mathlib.Decide.{ℕ-discrete}
 use borrow.Author.Tests.{eq-eqb, ne-eqb, eqb-true, eqb-false, ltb-false, not-false}
-use Rattle.geometry.specs.declared.Shape.{Shape}
 use Rattle.refusals.specs.Numbers as no
-use Rattle.refusals.specs.Tests.{first}
 use Rattle.refusals.specs.TestLaws.{here, there, passed, refuse-not}
-use Rattle.refusals.specs.Some.{some}
 use Rattle.refusals.specs.SomeLaws.{none}
-use Rattle.tiff.specs.declared.Entry.{Entry}
-use Rattle.tiff.specs.Directory.{headerWrong, directoryOutside}
 use Rattle.tiff.specs.Fields.{sizeOf}
 use Rattle.tiff.specs.FieldLaws.{Sized}
 use Rattle.dng_tags.specs.TestLaws.{neither}

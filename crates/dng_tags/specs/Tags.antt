@@ -1,9 +1,7 @@
 -- "Needed: tags 256 to 259, 262, 273, 277, 279, 33421, 33422, 50717, 51041, and, where 50714 stands, that and 50713": the table of listed tags with
 -- their types and counts, and the values that are asked of them.
-use Rattle.algebra.specs.Prelude.{Bool, not, cond, List, [], _∷_, ℕ, eqb, getD}
-use Rattle.tiff.specs.declared.Entry.{Entry}
+use Rattle.dng_tags.specs.Prelude.{Bool, not, cond, List, [], _∷_, ℕ, eqb, getD, Entry, timesOf}
 use Rattle.tiff.specs.declared.Wanted.{Wanted}
-use Rattle.tiff.specs.Directory.{timesOf}
 use Rattle.dng_tags.specs.declared.Demand.{Demand}
 
 abbrev pub wanted : (tag kind other count : ℕ) → Wanted

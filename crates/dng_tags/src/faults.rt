@@ -1,7 +1,6 @@
 // Which tag is at fault beside 19, 20 and 21.
 ghost use mathlib.Core.Path.{_≡_};
-ghost use Rattle.tiff.specs.Directory.{entries};
-ghost use Rattle.refusals.specs.Tests.{refuse};
+ghost use Rattle.dng_tags.specs.Prelude.{entries, refuse};
 ghost use Rattle.dng_tags.specs.Tags.{tagAt};
 ghost use Rattle.dng_tags.specs.RowTests.{rowHit, rowTag};
 ghost use Rattle.dng_tags.specs.Faults.{firstOf, structureFault, countFault, valueFault, faultTag};

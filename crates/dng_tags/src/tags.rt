@@ -1,7 +1,5 @@
 // The listed tags, and the values that are asked of them.
-ghost use mathlib.Core.Path.{_≡_};
-ghost use Prim.Native.Nat.{_≤_};
-ghost use Rattle.tiff.specs.Directory.{entries};
+ghost use Rattle.dng_tags.specs.Prelude.{_≡_, _≤_, entries};
 ghost use Rattle.dng_tags.specs.Tags.{wanted, tagAt, asked, demandAt, hasBlack, listed, demanded};
 use crate::Demand;
 use tiff::Wanted;

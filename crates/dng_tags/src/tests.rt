@@ -1,9 +1,5 @@
 // The tests of the file's structure, tags and values: 19, 20 and 21.
-ghost use mathlib.Core.Path.{_≡_};
-ghost use Prim.Native.Nat.{_<_};
-ghost use Rattle.tiff.specs.Directory.{entries};
-ghost use Rattle.refusals.specs.Tests.{first};
-ghost use Rattle.refusals.specs.Some.{some};
+ghost use Rattle.dng_tags.specs.Prelude.{_≡_, _<_, entries, first, some};
 ghost use Rattle.dng_tags.specs.Refusals.{absent, valueOf, valueOutside, notOnce, demandMissed, stripStart, stripLength, stripOutside, outside, sizeDiffers, otherwise, tagTests};
 ghost use Rattle.dng_tags.specs.RowTests.{rowHit};
 use crate::tags::IMAGE_LENGTH;

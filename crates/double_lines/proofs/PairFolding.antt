@@ -1,12 +1,8 @@
 -- Two lines side by side, folded in double: the sums and differences that the code stores, and the places of each line.
-use Rattle.algebra.specs.Prelude.{_≡_, ap, ap₂, _∙_, List, ℕ, _+_, _*_, _≤_, arith, ℤ, natAbs, _+ℤ_, _-ℤ_, w32, toZ, ofZ}
-use lib.Ieee.{Float, binary64, ofInt, add, sub}
+use Rattle.double_lines.specs.Prelude.{_≡_, ap, ap₂, _∙_, List, ℕ, _+_, _*_, _≤_, arith, ℤ, natAbs, _+ℤ_, _-ℤ_, w32, toZ, ofZ, Float, binary64, ofInt, add, sub, side16, halfcomplex, folded}
 use Rattle.algebra.specs.Order.{abs-add, abs-sub}
 use Rattle.sequences.specs.Grid.{tab-ext}
-use Rattle.recipe.specs.Tables.{side16}
 use Rattle.recipe.specs.TableLaws.{rules16}
-use Rattle.lines.specs.Halfcomplex.{halfcomplex}
-use Rattle.lines.specs.Fold.{folded}
 use Rattle.lines.specs.Lines.{LineMost}
 use Rattle.lines.specs.Doubles.{doubleLine}
 use Rattle.lines.specs.Magnitudes.{pairLineMost, pairSumMost}

@@ -1,12 +1,6 @@
 // The transforms of two lines of sixteen numbers side by side, folded as in `whole_lines`, in double: no number on the way is above 2^53, so each is exact.
 // Number n of line p stands at 2n + p.
-ghost use mathlib.Core.Path.{_≡_};
-ghost use mathlib.Core.List.{[], _∷_};
-ghost use Prim.Native.Nat.{_+_, _*_, _/_, _%_, _<_};
-ghost use lib.IntN.{pos, _+ℤ_, _-ℤ_};
-ghost use lib.ListN.{length, getD};
-ghost use Rattle.lines.specs.Halfcomplex.{halfcomplex};
-ghost use Rattle.lines.specs.Fold.{folded};
+ghost use Rattle.double_lines.specs.Prelude.{_≡_, [], _∷_, _+_, _*_, _/_, _%_, _<_, pos, _+ℤ_, _-ℤ_, length, getD, halfcomplex, folded};
 ghost use Rattle.lines.specs.Magnitudes.{pairLineMost, pairSumMost};
 ghost use Rattle.lines.specs.Lines.{LineMost};
 ghost use Rattle.lines.specs.Doubles.{doubleLine, From};

@@ -1,24 +1,14 @@
 -- The odd places of a line of thirty-two in four parts: what its even and its odd numbers add to the real parts of numbers 1, 3, 5 and 7, and to the imaginary
 -- parts. Each part is worked out by forms of the line's sixteen differences; the places are the parts' sums and differences.
-use Rattle.algebra.specs.Prelude.{_≡_, refl, ap, _∙_, Bool, true, false, cond, List, [], _∷_, ℕ, _+_, _*_, _/_, _%_, _^_, _≤_, _<_, arith, T, eqb, getD, ℤ, pos, natAbs, _*ℤ_}
+use Rattle.double_lines32.specs.Prelude.{_≡_, refl, ap, _∙_, Bool, true, false, cond, List, [], _∷_, ℕ, _+_, _*_, _/_, _%_, _^_, _≤_, _<_, arith, T, eqb, getD, ℤ, pos, natAbs, _*ℤ_, Float, nan, binary64, add, sub, sumZ, tab, Form, var, plus, minus, cosAt, cosines32, cosine32, side32, frequencyOf, phaseOf, basisOf, foldedOf, everySecond, doubleLine, longSumMost}
 use Prim.Native.Nat.{zero-le}
-use lib.Ieee.{Float, nan, binary64, add, sub}
 use Rattle.algebra.specs.Order.{abs-mul-le}
 use Rattle.algebra.specs.Ring.{Expr, con, _⊞_, _⊟_, _⊠_, nth}
 use Rattle.algebra.specs.Ring as ring
-use Rattle.algebra.specs.Sums.{sumZ}
 use Rattle.algebra.specs.SumLaws.{abs-sum-bound}
 use Rattle.algebra.specs.Forms.{evals, same, rings, sumE}
-use Rattle.sequences.specs.Tab.{tab}
-use Rattle.floats.specs.Kernels.{Form, var, plus, minus}
-use Rattle.recipe.specs.Side.{cosAt}
-use Rattle.recipe.specs.Tables32.{cosines32, cosine32, side32}
 use Rattle.recipe.specs.TableLaws32.{rules32}
-use Rattle.lines.specs.Halfcomplex.{frequencyOf, phaseOf, basisOf}
-use Rattle.lines.specs.Fold.{foldedOf, everySecond}
 use Rattle.lines.specs.HalfSumLaws.{basis-most}
-use Rattle.lines.specs.Doubles.{doubleLine}
-use Rattle.lines.specs.Magnitudes.{longSumMost}
 use Rattle.double_lines32.specs.Parts.{InParts}
 use Rattle.lines.specs.DoubleForms.{floats, inDouble, allCount, exprs, at, forms-are, from, from-is, picked}
 

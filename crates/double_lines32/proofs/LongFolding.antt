@@ -1,20 +1,12 @@
 -- Two lines of thirty-two side by side, folded in double: the sums and differences that the code stores, and the places of each line.
-use Rattle.algebra.specs.Prelude.{_≡_, ap, ap₂, _∙_, cond, List, ℕ, _+_, _*_, _/_, _%_, _≤_, _<_, arith, eqb, getD, set, ℤ, natAbs, _+ℤ_, _-ℤ_, w32, toZ, ofZ}
+use Rattle.double_lines32.specs.Prelude.{_≡_, ap, ap₂, _∙_, cond, List, ℕ, _+_, _*_, _/_, _%_, _≤_, _<_, arith, eqb, getD, set, ℤ, natAbs, _+ℤ_, _-ℤ_, w32, toZ, ofZ, Float, nan, binary64, ofInt, add, sub, tab, side16, side32, halfcomplexOf, sumOf, foldedOf, folded, doubleLine, pairSumMost, longLineMost, longSumMost}
 use borrow.Author.Tests.{eq-eqb, ne-eqb}
-use lib.Ieee.{Float, nan, binary64, ofInt, add, sub}
 use Rattle.algebra.specs.Order.{abs-add, abs-sub}
-use Rattle.sequences.specs.Tab.{tab}
 use Rattle.sequences.specs.TabLaws.{Filled, fill-turn, getD-tab}
 use Rattle.sequences.specs.Grid.{tab-ext}
-use Rattle.recipe.specs.Tables.{side16}
-use Rattle.recipe.specs.Tables32.{side32}
 use Rattle.recipe.specs.TableLaws.{rules16}
 use Rattle.recipe.specs.TableLaws32.{rules32, doubled32}
-use Rattle.lines.specs.Halfcomplex.{halfcomplexOf}
-use Rattle.lines.specs.Fold.{sumOf, foldedOf, folded}
 use Rattle.lines.specs.Lines.{LineMost}
-use Rattle.lines.specs.Doubles.{doubleLine}
-use Rattle.lines.specs.Magnitudes.{pairSumMost, longLineMost, longSumMost}
 use Rattle.lines.specs.Held.{of, held-is}
 use Rattle.lines.specs.SideFolds.{line-ext, even-doubled}
 use Rattle.lines.specs.DoubleForms.{sum-exact, difference-exact}

@@ -1,10 +1,5 @@
 -- Inside this crate: a line of whole numbers of at most `longSumMost` in parts, each in double.
-use Rattle.algebra.specs.Prelude.{_≡_, List, ℕ, _+_, _*_, _≤_, ℤ, natAbs, _+ℤ_, _-ℤ_}
-use lib.Ieee.{Float}
-use Rattle.recipe.specs.Tables32.{side32}
-use Rattle.lines.specs.Fold.{foldedOf, everySecond}
-use Rattle.lines.specs.Magnitudes.{longSumMost}
-use Rattle.lines.specs.Doubles.{doubleLine}
+use Rattle.double_lines32.specs.Prelude.{_≡_, List, ℕ, _+_, _*_, _≤_, ℤ, natAbs, _+ℤ_, _-ℤ_, Float, side32, foldedOf, everySecond, longSumMost, doubleLine}
 
 -- the sums and the differences of numbers sixteen apart
 pub record Halved (z : ℕ → ℤ) (a b : List Float) : Type 0 where

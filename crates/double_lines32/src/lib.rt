@@ -1,17 +1,8 @@
 // The transforms of two lines of thirty-two numbers side by side, folded in halves, in double: no number on the way is above 2^53, so each is exact. The even
 // places are those of the sums' lines of sixteen, with the kernels of `double_lines`; the odd places have a kernel of their own. Number n of line p stands at
 // 2n + p.
-ghost use mathlib.Core.Path.{_≡_};
-ghost use Prim.Native.Nat.{ℕ, _+_, _*_, _/_, _%_, _<_};
-ghost use lib.IntN.{ℤ, pos, _+ℤ_, _-ℤ_};
-ghost use lib.ListN.{length, getD};
-ghost use Rattle.recipe.specs.Tables.{side16};
-ghost use Rattle.recipe.specs.Tables32.{side32};
+ghost use Rattle.double_lines32.specs.Prelude.{_≡_, ℕ, _+_, _*_, _/_, _%_, _<_, ℤ, pos, _+ℤ_, _-ℤ_, length, getD, side16, side32, halfcomplexOf, foldedOf, everySecond, longLineMost, longSumMost, doubleLine, From};
 ghost use Rattle.lines.specs.Lines.{LineMost};
-ghost use Rattle.lines.specs.Halfcomplex.{halfcomplexOf};
-ghost use Rattle.lines.specs.Fold.{foldedOf, everySecond};
-ghost use Rattle.lines.specs.Magnitudes.{longLineMost, longSumMost};
-ghost use Rattle.lines.specs.Doubles.{doubleLine, From};
 ghost use Rattle.double_lines32.specs.Parts.{Halved, InParts};
 
 // C(0) to C(7)

@@ -1,27 +1,15 @@
 -- The ends of one plane, from half of both inverse sums and the width that the code works out.
-use Rattle.algebra.specs.Prelude.{_≡_, refl, sym, ap, ap₂, _∙_, Bool, true, false, cond, List, [], _∷_, ℕ, suc, _+_, _-_, _*_, _/_, _%_, _^_, _<_, arith, lit<, eqb, ltb, getD, ℤ, pos, negsuc, natAbs, negℤ, _+ℤ_, _-ℤ_, _*ℤ_}
+use Rattle.ends.specs.Prelude.{_≡_, refl, sym, ap, ap₂, _∙_, Bool, true, false, cond, List, [], _∷_, ℕ, suc, _+_, _-_, _*_, _/_, _%_, _^_, _<_, arith, lit<, eqb, ltb, getD, ℤ, pos, negsuc, natAbs, negℤ, _+ℤ_, _-ℤ_, _*ℤ_, shrZ, var, _⊞_, _⊟_, _⊠_, ⊖_, #_, ring, sumZ, sumN, minZ, maxZ, away, cosAt, sinAt, side16, filtered, twiddleRe, twiddleIm, inverseRe, endRe, leastAt, greatestAt, backward, halfSum, Mirrored, twoWay, apart, tileRe, tileIm, foldRe, foldIm, spread, counted, gainRe, gainIm, apartOf, backSumOf, countedOf, foldImOf, foldReOf, gainImOf, gainReOf, spreadOf, linesIn}
 use native.Mathlib.Nat.{mod-lt}
-use lib.Signed.{shrZ}
 use Rattle.algebra.specs.Order.{abs-mul, abs-neg}
-use Rattle.algebra.specs.Ring.{var, _⊞_, _⊟_, _⊠_, ⊖_, #_, ring}
-use Rattle.algebra.specs.Sums.{sumZ, sumN}
 use Rattle.algebra.specs.SumLaws.{sumZ-cong, sumZ-add, sumN-cong, sumN-scale}
-use Rattle.algebra.specs.Clamp.{minZ, maxZ}
-use Rattle.algebra.specs.Nearest.{away}
 use Rattle.sequences.specs.Grid.{grid, cell, cell-grid}
-use Rattle.recipe.specs.Side.{cosAt, sinAt}
-use Rattle.recipe.specs.Tables.{side16}
 use Rattle.recipe.specs.TableLaws.{opposite, cosine-opposite, sine-opposite}
-use Rattle.recipe.specs.Correction.{filtered, twiddleRe, twiddleIm, inverseRe}
-use Rattle.range.specs.Range.{endRe, leastAt, greatestAt}
-use Rattle.lines.specs.Halfcomplex.{backward, halfSum}
 use Rattle.lines.specs.HalfSumLaws.{half-sum}
-use Rattle.spectrum.specs.Spectrum.{Mirrored, twoWay, apart, tileRe, tileIm, foldRe, foldIm, spread, counted, gainRe, gainIm, apartOf, backSumOf, countedOf, foldImOf, foldReOf, gainImOf, gainReOf, spreadOf}
 use Rattle.spectrum.specs.SpectrumLaws.{bins-mirrored-of, bin-re, bin-im, filtered-odd-of, filtered-even-of}
 use Rattle.spectrum.specs.Turns.{turns16}
 use Rattle.spectrum.specs.FoldLaws.{inverse-folds}
 use Rattle.spectrum.specs.PlaceLaws.{spread-ext}
-use Rattle.grain.specs.Steps.{linesIn}
 use Rattle.grain.proofs.LinePlaces.{tile-re-ext, tile-im-ext}
 use Rattle.ends.specs.Widths.{bothRe, widthAt}
 use Rattle.ends.specs.WidthLaws.{Picks, min-picks, max-picks, partRe, partIm, end-halves}

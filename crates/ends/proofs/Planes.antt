@@ -1,25 +1,15 @@
 -- Both planes of a pair: what the code hands on are their folded G, half of their inverse sums and their widths.
-use Rattle.algebra.specs.Prelude.{_≡_, sym, ap, ap₂, subst, _∙_, true, false, List, ℕ, _+_, _*_, _/_, _%_, _^_, _≤_, _<_, arith, lit≤, T, ℤ, pos, natAbs, _+ℤ_, _-ℤ_, _*ℤ_}
+use Rattle.ends.specs.Prelude.{_≡_, sym, ap, ap₂, subst, _∙_, true, false, List, ℕ, _+_, _*_, _/_, _%_, _^_, _≤_, _<_, arith, lit≤, T, ℤ, pos, natAbs, _+ℤ_, _-ℤ_, _*ℤ_, Float, nan, binary64, ofInt, toSigned, side16, correctionAt, leastAt, greatestAt, halfSumOf, halfBasisOf, backward, halfSum, TileMost, foldMost, twoWay, transposed, InDouble, planeIn, sideBySide, doubles, linesIn}
 use native.Mathlib.Nat.{le-trans}
 use lib.IntN.{+ℤ-idl}
-use lib.Ieee.{Float, nan, binary64, ofInt, toSigned}
 use Rattle.algebra.specs.Order.{abs-sub}
 use Rattle.algebra.specs.SumLaws.{sumZ-cong}
 use Rattle.sequences.specs.Grid.{grid, cell, cell-grid, grid-ext}
 use Rattle.floats.specs.Casts.{whole-back}
-use Rattle.recipe.specs.Tables.{side16}
-use Rattle.recipe.specs.Correction.{correctionAt}
-use Rattle.range.specs.Range.{leastAt, greatestAt}
 use Rattle.range.specs.RangeLaws.{greatest-same, least-same}
-use Rattle.lines.specs.Halfcomplex.{halfSumOf, halfBasisOf, backward, halfSum}
 use Rattle.lines.specs.BackSizes.{backward-most}
-use Rattle.lines.specs.Lines.{TileMost}
-use Rattle.lines.specs.Magnitudes.{foldMost}
-use Rattle.spectrum.specs.Spectrum.{twoWay, transposed}
 use Rattle.spectrum.specs.LineLaws.{backward-ext}
-use Rattle.spectrum.specs.Pairs.{InDouble, planeIn, sideBySide, doubles}
 use Rattle.pairs.proofs.Corrections.{folded, folded-most, folded-whole}
-use Rattle.grain.specs.Steps.{linesIn}
 use Rattle.grain.proofs.PairLaws.{table-most}
 use Rattle.ends.specs.Factors.{factorAt, apartMost, placeApart, placesApart, distanceRe, distanceIm, pairWidth, widthIn, greatestOf, leastOf, halfIn, halfOf}
 use Rattle.ends.specs.declared.Noises.{Noises}

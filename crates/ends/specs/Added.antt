@@ -1,15 +1,5 @@
 -- Inside the crates of the range: what the kernels of both ends are lent, and what they leave in the two pairs of sums.
-use Rattle.algebra.specs.Prelude.{_≡_, List, ℕ, _/_, _%_, _^_, _≤_, false, length, getD, ℤ, pos, _+ℤ_}
-use lib.Ieee.{Float}
-use Rattle.sequences.specs.Tab.{tab}
-use Rattle.sequences.specs.Grid.{grid, cell}
-use Rattle.recipe.specs.Side.{Side}
-use Rattle.recipe.specs.Tables.{side16}
-use Rattle.range.specs.Range.{greatestAt, leastAt}
-use Rattle.lines.specs.Lines.{LineMost, TileMost}
-use Rattle.lines.specs.Magnitudes.{differenceMost, columnMost}
-use Rattle.spectrum.specs.Magnitudes.{noiseMost}
-use Rattle.spectrum.specs.Pairs.{Paired, InDouble, planeIn, either}
+use Rattle.ends.specs.Prelude.{_≡_, List, ℕ, _/_, _%_, _^_, _≤_, false, length, getD, ℤ, pos, _+ℤ_, Float, tab, grid, cell, Side, side16, greatestAt, leastAt, LineMost, TileMost, differenceMost, columnMost, noiseMost, Paired, InDouble, planeIn, either}
 use Rattle.ends.specs.declared.Noises.{Noises}
 use Rattle.ends.specs.Factors.{WidthLine, WidthTile, greatestOf, leastOf, halfIn, halfOf}
 

@@ -1,18 +1,10 @@
 -- P of the greatest and of the least sums depends on the tile's differences alone, and is no larger than P at one noise number can be.
-use Rattle.algebra.specs.Prelude.{_≡_, ap, ap₂, ℕ, _+_, _*_, _%_, _^_, _≤_, _<_, arith, lit<, lit≤, ℤ, natAbs, _-ℤ_, _*ℤ_}
+use Rattle.ends.specs.Prelude.{_≡_, ap, ap₂, ℕ, _+_, _*_, _%_, _^_, _≤_, _<_, arith, lit<, lit≤, ℤ, natAbs, _-ℤ_, _*ℤ_, sumZ, minZ, maxZ, away, Side, cosAt, sinAt, side16, quantized, binRe, binIm, filtered, twiddleRe, twiddleIm, endRe, leastAt, greatestAt, noiseMost, rootMost, smallMost}
 use native.Mathlib.Nat.{le-refl, le-trans, mod-lt, mul-le-mul-right}
 use Rattle.algebra.specs.Order.{abs-sub, abs-mul-le}
-use Rattle.algebra.specs.Sums.{sumZ}
 use Rattle.algebra.specs.SumLaws.{abs-sum-bound}
-use Rattle.algebra.specs.Clamp.{minZ, maxZ}
 use Rattle.algebra.specs.ClampLaws.{min-cases, max-cases}
-use Rattle.algebra.specs.Nearest.{away}
-use Rattle.recipe.specs.Side.{Side, cosAt, sinAt}
-use Rattle.recipe.specs.Tables.{side16}
-use Rattle.recipe.specs.Correction.{quantized, binRe, binIm, filtered, twiddleRe, twiddleIm}
-use Rattle.range.specs.Range.{endRe, leastAt, greatestAt}
 use Rattle.spectrum.specs.DifferenceLaws.{bin-re, bin-im}
-use Rattle.spectrum.specs.Magnitudes.{noiseMost, rootMost, smallMost}
 use Rattle.spectrum.specs.RoundingLaws.{away-most}
 use Rattle.spectrum.specs.WienerLaws.{wiener-root}
 use Rattle.ends.specs.Factors.{factorRe, factorIm, factorMost}

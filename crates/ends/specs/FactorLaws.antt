@@ -1,11 +1,8 @@
 -- The factors of side 16, each law one computed test over the tables: their size, and that eight rows or columns on they have the same sizes.
-use Rattle.algebra.specs.Prelude.{_≡_, ap, ap₂, _∙_, ℕ, _+_, _*_, _/_, _%_, _≤_, _<_, arith, lit<, natAbs}
+use Rattle.ends.specs.Prelude.{_≡_, ap, ap₂, _∙_, ℕ, _+_, _*_, _/_, _%_, _≤_, _<_, arith, lit<, natAbs, cosAt, sinAt, cosines, cosine16, sine16, side16, twiddleRe, twiddleIm}
 use native.Mathlib.Nat.{mod-lt}
 use lib.Dec.{T, eqb, eqb→eq, leb, leb→le}
 use Rattle.algebra.specs.Test.{all, all-sound}
-use Rattle.recipe.specs.Side.{cosAt, sinAt}
-use Rattle.recipe.specs.Tables.{cosines, cosine16, sine16, side16}
-use Rattle.recipe.specs.Correction.{twiddleRe, twiddleIm}
 use Rattle.ends.specs.Factors.{factorRe, factorIm, factorMost}
 
 -- f and g agree below n and m

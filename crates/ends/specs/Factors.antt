@@ -1,14 +1,5 @@
 -- Inside the crate: the sizes of the inverse's factors at side 16, and widths by tables of them.
-use Rattle.algebra.specs.Prelude.{cond, List, [], ℕ, _+_, _*_, _/_, _%_, _^_, _≤_, _<_, eqb, getD, ℤ, pos, natAbs, _+ℤ_, _-ℤ_, _*ℤ_}
-use lib.Signed.{shrZ}
-use lib.Ieee.{Float, nan, toSigned}
-use Rattle.algebra.specs.Nearest.{away}
-use Rattle.algebra.specs.Sums.{sumN}
-use Rattle.sequences.specs.Grid.{grid, cell}
-use Rattle.recipe.specs.Tables.{cosine16, sine16}
-use Rattle.lines.specs.Halfcomplex.{halfSum}
-use Rattle.spectrum.specs.Spectrum.{apart, tileRe, tileIm}
-use Rattle.grain.specs.Steps.{linesIn}
+use Rattle.ends.specs.Prelude.{cond, List, [], ℕ, _+_, _*_, _/_, _%_, _^_, _≤_, _<_, eqb, getD, ℤ, pos, natAbs, _+ℤ_, _-ℤ_, _*ℤ_, shrZ, Float, nan, toSigned, away, sumN, grid, cell, cosine16, sine16, halfSum, apart, tileRe, tileIm, linesIn}
 
 -- ---- the factors
 

@@ -1,10 +1,7 @@
 -- A sum over bins that is the same at the mirror image: columns 0 to 8 are enough, of which 1 to 7 count twice.
-use Rattle.algebra.specs.Prelude.{_≡_, sym, _∙_, ℕ, _*_, _<_, arith, lit<}
-use Rattle.algebra.specs.Sums.{sumN}
+use Rattle.ends.specs.Prelude.{_≡_, sym, _∙_, ℕ, _*_, _<_, arith, lit<, sumN, side16, apart, apartOf}
 use Rattle.algebra.specs.SumLaws.{sumN-cong, sumN-exchange, sumN-scale}
 use Rattle.recipe.specs.TableLaws.{opposite}
-use Rattle.recipe.specs.Tables.{side16}
-use Rattle.spectrum.specs.Spectrum.{apart, apartOf}
 
 -- u and −u may change places in a sum
 reflected : (f : ℕ → ℕ) → sumN 16 (λ u. f (opposite u)) ≡ sumN 16 f

@@ -1,11 +1,8 @@
 -- A folded G taken apart again: each part of a bin comes out twice, and in rows 0 and 8 once.
-use Rattle.algebra.specs.Prelude.{_≡_, ap, _∙_, [], _∷_, ℕ, _<_, arith, ℤ, pos, negℤ, _+ℤ_, _-ℤ_, _*ℤ_, lit<}
+use Rattle.ends.specs.Prelude.{_≡_, ap, _∙_, [], _∷_, ℕ, _<_, arith, ℤ, pos, negℤ, _+ℤ_, _-ℤ_, _*ℤ_, lit<, var, _⊞_, _⊟_, _⊠_, ⊖_, #_, ring, side16, Mirrored, realOf, imaginaryOf, tileRe, tileIm, foldRe, foldIm, spread, counted, apartOf, besideOf, countedOf, foldImOf, foldReOf, imaginaryPart, realPart, spreadOf, tileImOf, tileReOf}
 use borrow.Author.Count.{below-more}
 use Rattle.algebra.specs.Order.{zarith, neg-p, neg-n}
-use Rattle.algebra.specs.Ring.{var, _⊞_, _⊟_, _⊠_, ⊖_, #_, ring}
 use Rattle.recipe.specs.TableLaws.{opposite}
-use Rattle.recipe.specs.Tables.{side16}
-use Rattle.spectrum.specs.Spectrum.{Mirrored, realOf, imaginaryOf, tileRe, tileIm, foldRe, foldIm, spread, counted, apartOf, besideOf, countedOf, foldImOf, foldReOf, imaginaryPart, realPart, spreadOf, tileImOf, tileReOf}
 
 -- ---- by cases
 

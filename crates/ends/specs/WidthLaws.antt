@@ -1,15 +1,8 @@
 -- Twice the least sum is the two ends' sum less the width, and twice the greatest is that and the width.
-use Rattle.algebra.specs.Prelude.{_≡_, sym, ap, ap₂, _∙_, [], _∷_, ℕ, zero, suc, _+_, _*_, _<_, arith, ℤ, pos, negsuc, natAbs, _+ℤ_, _-ℤ_, _*ℤ_}
+use Rattle.ends.specs.Prelude.{_≡_, sym, ap, ap₂, _∙_, [], _∷_, ℕ, zero, suc, _+_, _*_, _<_, arith, ℤ, pos, negsuc, natAbs, _+ℤ_, _-ℤ_, _*ℤ_, _≤ℤ_, _⊞_, _⊟_, _⊠_, ⊖_, #_, var, ring, sumZ, sumN, minZ, maxZ, Side, binRe, binIm, filtered, twiddleRe, twiddleIm, inverseRe, endRe}
 use native.Mathlib.Nat.{le-refl}
-use lib.Signed.{_≤ℤ_}
 use Rattle.algebra.specs.Order.{zarith, sub-pn, abs-pn, min-pn, abs-nonneg, abs-mul}
-use Rattle.algebra.specs.Ring.{_⊞_, _⊟_, _⊠_, ⊖_, #_, var, ring}
-use Rattle.algebra.specs.Sums.{sumZ, sumN}
-use Rattle.algebra.specs.Clamp.{minZ, maxZ}
 use Rattle.algebra.specs.ClampLaws.{min-cases, max-cases}
-use Rattle.recipe.specs.Side.{Side}
-use Rattle.recipe.specs.Correction.{binRe, binIm, filtered, twiddleRe, twiddleIm, inverseRe}
-use Rattle.range.specs.Range.{endRe}
 use Rattle.ends.specs.Widths.{bothRe, widthAt}
 
 -- ---- of two numbers; σ is 1 or −1

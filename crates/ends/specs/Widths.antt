@@ -1,9 +1,6 @@
 -- Inside the crates of the range: the two ends of an inverse sum by their sum and by how far they are apart. Over any side; G is g + i·h at one V and
 -- g' + i·h' at the other.
-use Rattle.algebra.specs.Prelude.{ℕ, _+_, _*_, ℤ, natAbs, _+ℤ_, _-ℤ_}
-use Rattle.algebra.specs.Sums.{sumN}
-use Rattle.recipe.specs.Side.{Side}
-use Rattle.recipe.specs.Correction.{twiddleRe, twiddleIm, inverseRe}
+use Rattle.ends.specs.Prelude.{ℕ, _+_, _*_, ℤ, natAbs, _+ℤ_, _-ℤ_, sumN, Side, twiddleRe, twiddleIm, inverseRe}
 
 module _ (s : Side) (g h g' h' : ℕ → ℕ → ℤ) where
   -- the inverse sums at both, added: the inverse sum of both G, added

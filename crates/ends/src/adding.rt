@@ -1,10 +1,5 @@
 // A pair added to a pair of sums.
-ghost use mathlib.Core.Path.{_≡_};
-ghost use lib.IntN.{pos};
-ghost use lib.ListN.{getD};
-ghost use Rattle.sequences.specs.Grid.{cell};
-ghost use Rattle.lines.specs.Lines.{LineMost, TileMost};
-ghost use Rattle.spectrum.specs.Magnitudes.{correctionMost};
+ghost use Rattle.ends.specs.Prelude.{_≡_, pos, getD, cell, LineMost, TileMost, correctionMost};
 ghost use Rattle.ends.specs.Added.{RowSums, PairSums, rowPlus, pairPlus};
 
 // A row of it.

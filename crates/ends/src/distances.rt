@@ -3,18 +3,7 @@
 use grain::gains::bin_im;
 use grain::gains::bin_re;
 use rounding::magnitude;
-ghost use mathlib.Core.Path.{_≡_};
-ghost use mathlib.Core.Bool.{false};
-ghost use Prim.Native.Nat.{_*_, _/_, _<_};
-ghost use lib.Ieee.{nan};
-ghost use lib.IntN.{natAbs};
-ghost use lib.ListN.{length, getD};
-ghost use Rattle.algebra.specs.Bound.{AtMost};
-ghost use Rattle.sequences.specs.Tab.{tab};
-ghost use Rattle.lines.specs.Lines.{TileMost};
-ghost use Rattle.lines.specs.Doubles.{WholeDouble, WholeRow};
-ghost use Rattle.lines.specs.Magnitudes.{foldMost};
-ghost use Rattle.spectrum.specs.Pairs.{InDouble};
+ghost use Rattle.ends.specs.Prelude.{_≡_, false, _*_, _/_, _<_, natAbs, length, getD, nan, AtMost, tab, TileMost, WholeDouble, WholeRow, foldMost, InDouble};
 ghost use Rattle.ends.specs.Factors.{apartMost, placeApart, placesApart, timesAt, distanceRe, distanceIm};
 
 // A place of one folded G less that of the other.

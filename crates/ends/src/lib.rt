@@ -17,11 +17,7 @@ use pairs::add_corrections;
 use pairs::columns_back::back;
 use pairs::forward_into;
 use pairs::wiener_of;
-ghost use mathlib.Core.Path.{_≡_};
-ghost use mathlib.Core.Bool.{true, false};
-ghost use Rattle.sequences.specs.Grid.{grid};
-ghost use Rattle.lines.specs.Magnitudes.{foldMost};
-ghost use Rattle.spectrum.specs.Pairs.{InDouble};
+ghost use Rattle.ends.specs.Prelude.{_≡_, true, false, grid, foldMost, InDouble};
 ghost use Rattle.ends.specs.Factors.{WidthTile, widthIn};
 ghost use Rattle.ends.specs.Added.{EndsLent, EndsAdded};
 

@@ -1,13 +1,7 @@
 // P of both ends, from half of each inverse sum and from how far the ends are apart.
 use lines_back::whole_halves_of;
 use rounding::round_away_32;
-ghost use mathlib.Core.Path.{_≡_};
-ghost use mathlib.Core.Bool.{false};
-ghost use Prim.Native.Nat.{_^_, _≤_};
-ghost use Rattle.algebra.specs.Bound.{AtMost};
-ghost use Rattle.lines.specs.Lines.{LineMost};
-ghost use Rattle.lines.specs.Doubles.{WholeRow};
-ghost use Rattle.lines.specs.Magnitudes.{columnMost, halfMost};
+ghost use Rattle.ends.specs.Prelude.{_≡_, false, _^_, _≤_, AtMost, LineMost, WholeRow, columnMost, halfMost};
 ghost use Rattle.ends.specs.Factors.{widthMost, quarterOf, greatestOf, leastOf};
 ghost use Rattle.ends.specs.Added.{RowsLent, RowsAdded, halfEnd, lineEnd, TilesLent, TilesAdded, tileEnd};
 

@@ -1,8 +1,5 @@
 // How far the ends of a pair's inverse sums are apart, twice. Lane l of a row is column l / 2 of plane l % 2.
-ghost use mathlib.Core.Path.{_≡_};
-ghost use Prim.Native.Nat.{_+_, _*_, _≤_, _<_};
-ghost use Rattle.sequences.specs.Tab.{tab};
-ghost use Rattle.sequences.specs.Grid.{grid};
+ghost use Rattle.ends.specs.Prelude.{_≡_, _+_, _*_, _≤_, _<_, tab, grid};
 ghost use Rattle.ends.specs.Factors.{factorMost, Factored, FactoredTile, distanceMost, Distant, DistantTile, lineWidth, pairWidth, binWidthMost, lineWidthMost, widthMost};
 
 // Two distances, each times its factor.

@@ -1,13 +1,10 @@
 -- Quads of G with quotients in whole numbers are those of the folded G.
-use Rattle.algebra.specs.Prelude.{_≡_, refl, sym, ap, subst, _∙_, List, [], _∷_, ℕ, zero, suc, _+_, _/_, _%_, _<_, arith, eqb, getD, ℤ, pos}
+use Rattle.exact_wiener.specs.Prelude.{_≡_, refl, sym, ap, subst, _∙_, List, [], _∷_, ℕ, zero, suc, _+_, _/_, _%_, _<_, arith, eqb, getD, ℤ, pos, Float, nan, sideBySide, either, doubles, Binned, numberOf, WholeBins, quadAt}
 use mathlib.Core.List.{map}
 use Prim.Native.Nat.{zero-le}
-use lib.Ieee.{Float, nan}
 use Rattle.sequences.specs.Grid.{cell}
 use Rattle.spectrum.specs.Spectrum.{transposed, spread, quadOf, byKind, twoBins, gainRe, gainIm}
 use Rattle.spectrum.specs.Apart.{cond-cases}
-use Rattle.spectrum.specs.Pairs.{sideBySide, either, doubles, Binned}
-use Rattle.quads.specs.Lanes.{numberOf, WholeBins, quadAt}
 use Rattle.quads.specs.QuadGains.{double, bins-small, whole-bins, quad-gains}
 use Rattle.quads.specs.FilterLaws.{by-plane, Gains, quad-of}
 use Rattle.bins.specs.DoubleLaws.{quanta16}

@@ -1,10 +1,7 @@
 -- Quads of G with quotients in whole numbers have four numbers.
-use Rattle.algebra.specs.Prelude.{_≡_, refl, ap, _∙_, List, [], _∷_, ℕ, zero, suc, _+_, _/_, _%_, eqb}
-use lib.Ieee.{Float}
+use Rattle.exact_wiener.specs.Prelude.{_≡_, refl, ap, _∙_, List, [], _∷_, ℕ, zero, suc, _+_, _/_, _%_, eqb, Float, either, numberOf, foldedIn, cornerIn, foldIn, quadIn}
 use Rattle.spectrum.specs.Spectrum.{byKind}
 use Rattle.spectrum.specs.Apart.{cond-cases}
-use Rattle.spectrum.specs.Pairs.{either}
-use Rattle.quads.specs.Lanes.{numberOf, foldedIn, cornerIn, foldIn, quadIn}
 use Rattle.exact_wiener.specs.ExactQuads.{exactQuadBy, newExactlyBy}
 
 abbrev Four : List Float → Type 0

@@ -1,9 +1,5 @@
 -- Inside the crates of the merge: a quad of G from that of B, with quotients in whole numbers. A side's quantum is 2^bits.
-use Rattle.algebra.specs.Prelude.{List, ℕ, _/_, _%_, pos}
-use lib.Ieee.{Float, binary64, ofInt}
-use Rattle.spectrum.specs.Pairs.{either}
-use Rattle.bins.specs.Doubles.{exactGainsBy}
-use Rattle.quads.specs.Lanes.{numberOf, quadIn}
+use Rattle.exact_wiener.specs.Prelude.{List, ℕ, _/_, _%_, pos, Float, binary64, ofInt, either, exactGainsBy, numberOf, quadIn}
 
 -- at one noise number: the other part of a real bin is 0
 unfoldable pub exactQuadBy : (bits noise k u : ℕ) (q : List Float) → List Float

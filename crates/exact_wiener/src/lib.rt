@@ -4,16 +4,9 @@ use bins::double::quantized;
 use bins::parts::wiener_part;
 use quads::quad_at;
 use quads::set_quad;
-ghost use mathlib.Core.Path.{_≡_};
-ghost use Prim.Native.Nat.{_≤_, _<_};
-ghost use lib.Ieee.{binary64, ofInt};
-ghost use lib.IntN.{pos};
+ghost use Rattle.exact_wiener.specs.Prelude.{_≡_, _≤_, _<_, pos, binary64, ofInt, binMost, gainMost, noiseMost, either, BinnedPair, GainsOf, wholeQuantized, exactGainsIn, numberOf, binsIn, foldedIn, WholeBins};
 ghost use Rattle.algebra.specs.Bound.{AtMost};
-ghost use Rattle.spectrum.specs.Magnitudes.{binMost, gainMost, noiseMost};
 ghost use Rattle.lines.specs.Doubles.{WholeDouble};
-ghost use Rattle.spectrum.specs.Pairs.{either, BinnedPair, GainsOf};
-ghost use Rattle.bins.specs.Doubles.{wholeQuantized, exactGainsIn};
-ghost use Rattle.quads.specs.Lanes.{numberOf, binsIn, foldedIn, WholeBins};
 ghost use Rattle.exact_wiener.specs.ExactQuads.{exactQuad};
 
 // One part of Q as a whole number, from that part of B.

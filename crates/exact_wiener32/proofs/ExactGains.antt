@@ -1,15 +1,12 @@
 -- Quads of G with quotients in whole numbers are those of the folded G.
-use Rattle.algebra.specs.Prelude.{_≡_, sym, ap, subst, List, ℕ, _/_, _%_, _<_, arith, getD, ℤ, pos}
+use Rattle.exact_wiener32.specs.Prelude.{_≡_, sym, ap, subst, List, ℕ, _/_, _%_, _<_, arith, getD, ℤ, pos, Float, nan, longBinMost, numberOf, WholeBinsOf, exactQuadBy, newExactlyBy}
 use mathlib.Core.List.{map}
 use Prim.Native.Nat.{zero-le}
-use lib.Ieee.{Float, nan}
 use Rattle.sequences.specs.Grid.{cell}
-use Rattle.spectrum.specs.Magnitudes.{longBinMost}
 use Rattle.recipe.specs.Tables32.{side32}
 use Rattle.spectrum.specs.Spectrum.{transposed, spreadOf, quadPlaces, twoBinsOf, gainReOf, gainImOf}
 use Rattle.spectrum.specs.Pairs.{sideBySide, either}
 use Rattle.spectrum.specs.LongPairs.{longDoubles, LongBinned}
-use Rattle.quads.specs.Lanes.{numberOf, WholeBinsOf}
 use Rattle.quads32.specs.Lanes.{quadAt}
 use Rattle.quads.specs.QuadGains.{double}
 use Rattle.quads32.specs.QuadGains.{bins-small, whole-bins, quad-gains}
@@ -17,7 +14,6 @@ use Rattle.quads.specs.FilterLaws.{by-plane}
 use Rattle.quads32.specs.FilterLaws.{Gains, quad-of}
 use Rattle.bins.specs.DoubleLaws.{quanta32}
 use Rattle.bins.specs.ExactLaws.{exact-gains-are}
-use Rattle.exact_wiener.specs.ExactQuads.{exactQuadBy, newExactlyBy}
 
 -- a quad of a tile
 pub exact-gains : (v : ℕ) (t : ℕ → ℕ → ℤ) → LongBinned t → (k u : ℕ) → k < 16 → u < 16 → exactQuadBy 26 v k u (map double (quadPlaces side32 t k u)) ≡ map double (quadPlaces side32 (spreadOf side32 (gainReOf side32 v t) (gainImOf side32 v t)) k u)

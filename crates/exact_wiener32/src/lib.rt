@@ -6,17 +6,10 @@ use exact_wiener::folded;
 use exact_wiener::of_plane;
 use quads32::quad_at;
 use quads32::set_quad;
-ghost use mathlib.Core.Path.{_≡_};
-ghost use Prim.Native.Nat.{_≤_, _<_};
-ghost use lib.Ieee.{binary64, ofInt};
-ghost use lib.IntN.{pos};
+ghost use Rattle.exact_wiener32.specs.Prelude.{_≡_, _≤_, _<_, pos, binary64, ofInt, longBinMost, gainMost, longNoiseMost, wholeQuantizedBy, exactGainsBy, numberOf, WholeBinsOf, exactQuadBy};
 ghost use Rattle.algebra.specs.Bound.{AtMost};
-ghost use Rattle.spectrum.specs.Magnitudes.{longBinMost, gainMost, longNoiseMost};
 ghost use Rattle.lines.specs.Doubles.{WholeDouble};
 ghost use Rattle.spectrum.specs.LongPairs.{LongBinnedPair, LongGainsOf};
-ghost use Rattle.bins.specs.Doubles.{wholeQuantizedBy, exactGainsBy};
-ghost use Rattle.quads.specs.Lanes.{numberOf, WholeBinsOf};
-ghost use Rattle.exact_wiener.specs.ExactQuads.{exactQuadBy};
 
 // One part of Q as a whole number, from that part of B.
 fn whole_quantized(b: f64) -> i64

@@ -1,7 +1,6 @@
 -- The vectors of a level's first tiles, as the loop writes them.
-use Rattle.algebra.specs.Prelude.{_≡_, refl, sym, _∙_, List, ℕ, _+_, _*_, _≤_, _<_, arith, length, set, ℤ}
+use Rattle.fields.specs.Prelude.{_≡_, refl, sym, _∙_, List, ℕ, _+_, _*_, _≤_, _<_, arith, length, set, ℤ, VectorField, numbered, word}
 use Rattle.sequences.specs.Write.{written, Writing, write-start, write-turn, write-done}
-use Rattle.geometry.specs.Vectors.{VectorField, numbered, word}
 use Rattle.geometry.specs.VectorLaws.{word-down, word-right}
 
 -- l is d with the vectors of the first k of n tiles from `to` on: a loop's invariant

@@ -1,12 +1,8 @@
 -- What a level's tiles add up to: their residuals, and "how many tile rows it summed in all" (request L12).
-use Rattle.algebra.specs.Prelude.{ℕ, _*_, _/_, _%_}
+use Rattle.fields.specs.Prelude.{ℕ, _*_, _/_, _%_, Level, Step, VectorField, numbered, searchRows, candidateRows, levelTile, fromCoarse}
 use Rattle.algebra.specs.Sums.{sumN}
-use Rattle.geometry.specs.Tiles.{Level, Step}
-use Rattle.geometry.specs.Vectors.{VectorField, numbered}
 use Rattle.search.specs.Vectors.{still}
 use Rattle.residuals.specs.Residual.{Pair, residual}
-use Rattle.search.specs.Rows.{searchRows, candidateRows}
-use Rattle.levels.specs.Fields.{levelTile, fromCoarse}
 
 -- a level's sum of residuals, over its tiles
 unfoldable pub residuals : Level → Pair → (rows columns : ℕ) → VectorField → ℕ

@@ -1,3 +1,4 @@
+pub mod Prelude
 pub mod LevelSums
 pub mod Magnitudes
 pub mod Loops

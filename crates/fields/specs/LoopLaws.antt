@@ -1,6 +1,6 @@
 -- Laws of the loop over a level's tiles: they are few, and what is written from a place on leaves the images and the coarse vectors before it.
 use mathlib.Core.Path.{fun-ext}
-use Rattle.algebra.specs.Prelude.{_≡_, sym, ap₂, subst, List, ℕ, _+_, _*_, _/_, _%_, _≤_, _<_, arith, ℤ, natAbs}
+use Rattle.fields.specs.Prelude.{_≡_, sym, ap₂, subst, List, ℕ, _+_, _*_, _/_, _%_, _≤_, _<_, arith, ℤ, natAbs, pairIn, Stored, fieldAt, Vectors}
 use native.Mathlib.Nat.{mul-le-mul}
 use Rattle.sequences.specs.Place.{row-below, column-below}
 use Rattle.geometry.specs.Read.{inside, read}
@@ -8,11 +8,9 @@ use Rattle.geometry.specs.ReadLaws.{inside-below, cell-below}
 use Rattle.pyramid.specs.Words.{imageAt}
 use Rattle.pyramid.specs.WordsLaws.{Kept, kept-image, kept-source}
 use Rattle.matching.specs.declared.Area.{Area}
-use Rattle.matching.specs.Stored.{pairIn, Stored}
 use Rattle.fields.specs.Magnitudes.{tilesMost}
 use Rattle.fields.specs.Loops.{Before, Few}
 use Rattle.levels.specs.declared.Grid.{Grid}
-use Rattle.levels.specs.Grids.{fieldAt, Vectors}
 
 -- a level's tiles, and the place of each
 pub tiles-few : {rows columns : ℕ} → Few rows columns → rows * columns ≤ tilesMost

@@ -1,19 +1,13 @@
 -- Inner vocabulary: what the loop over a level's tiles asks of the work area, and what it leaves.
-use Rattle.algebra.specs.Prelude.{_≡_, List, ℕ, _+_, _*_, _≤_, _<_, length, ℤ}
+use Rattle.fields.specs.Prelude.{_≡_, List, ℕ, _+_, _*_, _≤_, _<_, length, ℤ, finestLevel, finestStep, VectorField, word, tileRowsMost, levelAt, finer, fieldAt, pairIn, Stored}
 use Rattle.matching.specs.declared.Area.{Area}
 use Rattle.fields.specs.Magnitudes.{wayMost, tilesMost}
-use Rattle.geometry.specs.Tiles.{finestLevel, finestStep}
 use Rattle.sequences.specs.Write.{written}
 use Rattle.levels.specs.declared.Grid.{Grid}
-use Rattle.geometry.specs.Vectors.{VectorField, word}
 use Rattle.residuals.specs.Magnitudes.{residualMost}
 use Rattle.fields.specs.LevelSums.{finerRows, residuals}
 use Rattle.fields.specs.declared.Sums.{Sums}
-use Rattle.levels.specs.Magnitudes.{tileRowsMost}
-use Rattle.levels.specs.Fields.{levelAt, finer}
 use Rattle.levels.specs.Steps.{stepTo}
-use Rattle.levels.specs.Grids.{fieldAt}
-use Rattle.matching.specs.Stored.{pairIn, Stored}
 
 -- a level's images stand before place n
 pub record Before (a : Area) (n : ℕ) : Type 0 where

@@ -1,15 +1,8 @@
 // The vectors of a level's tiles, one after the other.
-ghost use mathlib.Core.Path.{_≡_};
-ghost use Prim.Native.Nat.{_+_, _*_, _≤_, _<_};
-ghost use lib.ListN.{length, set};
+ghost use Rattle.fields.specs.Prelude.{_≡_, _+_, _*_, _≤_, _<_, length, set, level3, foundMost, coarsest, pairIn, Stored, Vectors, finerIn};
 ghost use Rattle.geometry.specs.Fits.{TileSide};
-ghost use Rattle.geometry.specs.Tiles.{level3};
-ghost use Rattle.levels.specs.Magnitudes.{foundMost};
 ghost use Rattle.patches.specs.Bounds.{Within};
-ghost use Rattle.levels.specs.Fields.{coarsest};
-ghost use Rattle.matching.specs.Stored.{pairIn, Stored};
 ghost use Rattle.fields.specs.Loops.{Few, Ends, Room, Laid, finerRowsIn, Finest};
-ghost use Rattle.levels.specs.Grids.{Vectors, finerIn};
 ghost use Rattle.fields.specs.LevelSums.{coarsestRows};
 use geometry::vectors::Vector;
 use levels::Grid;

@@ -1,8 +1,5 @@
 -- How a file begins, byte by byte.
-use mathlib.Core.Path.{_≡_}
-use mathlib.Core.Bool.{true, false}
-use mathlib.Core.List.{List}
-use Prim.Native.Nat.{ℕ, _+_, _<_, _≤_}
+use Rattle.file_head.specs.Prelude.{_≡_, true, false, List, ℕ, _+_, _<_, _≤_}
 use lib.ListN.{length, getD, drop, drop-of-length-le}
 use borrow.Author.Tests.{eq-eqb, ne-eqb}
 use Rattle.file_lines.specs.ScanLaws.{step}

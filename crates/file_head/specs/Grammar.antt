@@ -1,6 +1,5 @@
 -- The second line in the grammar of a burst file. No contract needs it.
-use mathlib.Core.List.{List, [], _∷_}
-use Prim.Native.Nat.{ℕ}
+use Rattle.file_head.specs.Prelude.{List, [], _∷_, ℕ}
 use Rattle.file_head.specs.declared.Header.{Header}
 
 -- "those seven values (shot and read are Ls and Lr)", in the order of the names

@@ -1,16 +1,10 @@
 -- The first two lines: the names, and the seven values with their tests.
-use mathlib.Core.Bool.{Bool, true, false, cond, not}
-use mathlib.Core.List.{List, [], _∷_, _++_}
-use Prim.Native.Nat.{ℕ}
+use Rattle.file_head.specs.Prelude.{Bool, true, false, cond, not, List, [], _∷_, _++_, ℕ, length, getD, drop, refuse, first, Part, refused, found, unless, _then_, lineEnd, valueLine}
 use lib.Dec.{eqb}
-use lib.ListN.{length, getD, drop}
 use Rattle.refusals.specs.Numbers as no
-use Rattle.refusals.specs.Tests.{refuse, first}
 use Rattle.geometry.specs.Shape.{shaped, referenceRefusal}
 use Rattle.limits.specs.Order.{shapeTests}
 use Rattle.noise.specs.Levels.{levelRefusal, strengthRefusal}
-use Rattle.file_lines.specs.Part.{Part, refused, found, unless, _then_}
-use Rattle.file_lines.specs.Line.{lineEnd, valueLine}
 use Rattle.file_head.specs.Names.{names}
 use Rattle.file_head.specs.declared.Head.{Head}
 use Rattle.file_head.specs.declared.Head.the-variants.{Found, Refused}

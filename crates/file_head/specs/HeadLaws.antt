@@ -1,25 +1,18 @@
 -- The first two lines are read exactly where the grammar has them with values that pass their tests.
-use mathlib.Core.Path.{_≡_, refl, sym, ap, ap₂, _∙_}
-use mathlib.Core.Bool.{Bool, true, false, false≢true, cond, not}
-use mathlib.Core.List.{List, [], _∷_, _++_}
-use Prim.Native.Nat.{ℕ, _+_}
+use Rattle.file_head.specs.Prelude.{_≡_, refl, sym, ap, ap₂, _∙_, Bool, true, false, false≢true, cond, not, List, [], _∷_, _++_, ℕ, _+_, length, getD, drop, first, found, hasLF, valueLine}
 use native.Mathlib.Omega.{arith}
 use lib.Dec.{eqb}
-use lib.ListN.{length, getD, drop}
 use borrow.Author.Tests.{eq-eqb, eqb-true, not-false, le-leb}
 use Rattle.sequences.specs.Tab.{tab}
 use Rattle.sequences.specs.Grid.{tab-of}
 use Rattle.refusals.specs.Numbers as no
-use Rattle.refusals.specs.Tests.{first}
 use Rattle.refusals.specs.TestLaws.{among, passed, refuse-not}
 use Rattle.geometry.specs.declared.Shape.{Shape}
 use Rattle.geometry.specs.Shape.{shaped, sizeRefusal, countRefusal, rowRefusal, rowAllowed}
 use Rattle.geometry.specs.Fits.{Allowed}
 use Rattle.geometry.specs.ShapeLaws.{allowed}
 use Rattle.file_lines.specs.Grammar.{ValueLine}
-use Rattle.file_lines.specs.Part.{found}
 use Rattle.file_lines.specs.PartLaws.{Sound, unless-sound, then-sound}
-use Rattle.file_lines.specs.Line.{hasLF, valueLine}
 use Rattle.file_lines.specs.LineLaws.{line-sound, line-complete}
 use Rattle.file_head.specs.declared.Header.{Header}
 use Rattle.file_head.specs.Names.{names}

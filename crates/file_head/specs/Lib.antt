@@ -1,3 +1,4 @@
+pub mod Prelude
 pub mod Names
 pub mod Head
 pub mod Grammar

@@ -1,6 +1,5 @@
 -- How a burst file begins.
-use mathlib.Core.List.{List, [], _∷_}
-use Prim.Native.Nat.{ℕ}
+use Rattle.file_head.specs.Prelude.{List, [], _∷_, ℕ}
 
 -- "A line of names, `width height count reference shot read strength`", with its LF
 abbrev pub names : List ℕ

@@ -1,7 +1,5 @@
 // The first two lines of a burst file: the names, and the seven values with their tests.
-ghost use mathlib.Core.Path.{_≡_};
-ghost use lib.ListN.{drop};
-ghost use Rattle.file_lines.specs.Scan.{nextValues};
+ghost use Rattle.file_head.specs.Prelude.{_≡_, drop, nextValues};
 ghost use Rattle.file_head.specs.Head.{startsWith, firstLineRefusal, headerOf, headerRefusal, headOf, headIn};
 use file_lines::Line;
 use file_lines::check_line;

@@ -1,11 +1,7 @@
 -- The definitions on bytes at the bytes of a list from a position on: what the byte there decides.
-use mathlib.Core.Path.{_≡_}
-use mathlib.Core.Bool.{true, false}
-use mathlib.Core.List.{List}
-use Prim.Native.Nat.{ℕ, _+_, _*_, _^_, _<_, _≤_}
+use Rattle.file_lines.specs.Prelude.{_≡_, true, false, List, ℕ, _+_, _*_, _^_, _<_, _≤_, arith}
 use native.Mathlib.Numerals.{add-one}
 use native.Mathlib.Nat.{pow-succ'}
-use native.Mathlib.Omega.{arith}
 use lib.ListN.{length, getD, drop, drop-of-length-le}
 use borrow.Author.Tests.{eq-eqb, ne-eqb}
 use Rattle.file_lines.specs.Line.{last, more, bad, digitOf, pastSpaces, afterDigits, digitsFrom, hasLF}

@@ -1,12 +1,6 @@
 -- The values of a line one by one, and a line's LF.
-use mathlib.Core.Path.{_≡_, refl, ap, _∙_}
-use mathlib.Core.Bool.{Bool, true, false, cond, _||_}
-use mathlib.Core.List.{List, [], _∷_}
-use Prim.Native.Nat.{ℕ, zero, suc, _-_, _<_, _≤_}
+use Rattle.file_lines.specs.Prelude.{_≡_, refl, ap, _∙_, Bool, true, false, cond, _||_, List, [], _∷_, ℕ, zero, suc, _-_, _<_, _≤_, arith, ltb, eqb, drop}
 use native.Mathlib.Numerals.{sub-one}
-use native.Mathlib.Omega.{arith}
-use lib.Dec.{ltb, eqb}
-use lib.ListN.{drop}
 use Rattle.refusals.specs.Numbers as no
 use Rattle.file_lines.specs.Part.{Part, refused, found, unless, mapped}
 use Rattle.file_lines.specs.Line.{last, itemOf, afterItem, valuesOf, hasLF, lineEnd, valueLine, above}

@@ -1,9 +1,6 @@
 -- The grammar of a line of values: which bytes are a line with which values, whatever the order of reading. No contract needs it: `line-sound` and
 -- `line-complete` (LineLaws) say of what the contracts read that it is this.
-use mathlib.Core.Path.{_≡_}
-use mathlib.Core.List.{List, [], _∷_, _++_}
-use Prim.Native.Nat.{ℕ, _-_, _+_, _*_, _≤_}
-use lib.ListN.{length}
+use Rattle.file_lines.specs.Prelude.{_≡_, List, [], _∷_, _++_, ℕ, _-_, _+_, _*_, _≤_, length}
 
 -- decimal digits: the bytes `0` to `9`
 pub data Digits : List ℕ → Type 0 where

@@ -1,3 +1,4 @@
+pub mod Prelude
 pub mod Part
 pub mod Line
 pub mod Grammar

@@ -1,8 +1,5 @@
 -- A line of values, read off the front of the bytes.
-use mathlib.Core.Bool.{Bool, true, false, cond, not, _||_}
-use mathlib.Core.List.{List, [], _∷_}
-use Prim.Native.Nat.{ℕ, zero, suc, _+_, _-_, _*_}
-use lib.Dec.{ltb, eqb}
+use Rattle.file_lines.specs.Prelude.{Bool, true, false, cond, not, _||_, List, [], _∷_, ℕ, zero, suc, _+_, _-_, _*_, ltb, eqb}
 use Rattle.refusals.specs.Numbers as no
 use Rattle.refusals.specs.Tests.{refuse}
 use Rattle.file_lines.specs.Part.{Part, refused, found, unless, mapped}

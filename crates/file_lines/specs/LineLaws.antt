@@ -1,12 +1,7 @@
 -- A line of values is read exactly where the grammar has one.
-use mathlib.Core.Path.{_≡_, refl, sym, ap, _∙_, subst}
-use mathlib.Core.Bool.{Bool, true, false, cond}
+use Rattle.file_lines.specs.Prelude.{_≡_, refl, sym, ap, _∙_, subst, Bool, true, false, cond, ℕ, zero, suc, _+_, _-_, _*_, _≤_, arith, ltb, eqb, length}
 use mathlib.Core.List.{List, [], _∷_, _++_, append-assoc}
-use Prim.Native.Nat.{ℕ, zero, suc, _+_, _-_, _*_, _≤_}
-use native.Mathlib.Omega.{arith}
 use native.Mathlib.Nat.{add-zero}
-use lib.Dec.{ltb, eqb}
-use lib.ListN.{length}
 use borrow.Author.Tests.{eq-eqb, ne-eqb, eqb-true, eqb-false, lt-ltb, le-ltb, ltb-true, ltb-false}
 use Rattle.refusals.specs.Numbers as no
 use Rattle.file_lines.specs.Part.{Part, refused, found, mapped}

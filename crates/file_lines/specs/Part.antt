@@ -1,6 +1,5 @@
 -- What reading finds from some byte of the file on: the number of a refusal, or what was read and the bytes that follow it.
-use mathlib.Core.List.{List}
-use Prim.Native.Nat.{ℕ, zero, suc}
+use Rattle.file_lines.specs.Prelude.{List, ℕ, zero, suc}
 
 pub data Part (A : Type 0) : Type 0 where
   refused : (number : ℕ) → Part A

@@ -1,8 +1,5 @@
 -- What holds of a part wherever it is found. A refusal's number is never 0.
-use mathlib.Core.Path.{_≡_, refl, sym, ap, subst}
-use mathlib.Core.List.{List}
-use Prim.Native.Nat.{ℕ, zero, suc}
-use native.Mathlib.Omega.{arith}
+use Rattle.file_lines.specs.Prelude.{_≡_, refl, sym, ap, subst, List, ℕ, zero, suc, arith}
 use Rattle.file_lines.specs.Part.{Part, refused, found, unless, numberOf, _then_, mapped}
 
 abbrev pub Sound : {A : Type 0} → (A → List ℕ → Type 0) → Part A → Type 0

@@ -1,10 +1,6 @@
 -- Inner vocabulary, which no public contract reaches: the answers of the functions that scan the bytes of a file, which hold positions, as what stands at
 -- those positions.
-use mathlib.Core.Bool.{Bool, cond, _||_}
-use mathlib.Core.List.{List, [], _∷_}
-use Prim.Native.Nat.{ℕ, zero, suc}
-use lib.Dec.{eqb}
-use lib.ListN.{drop}
+use Rattle.file_lines.specs.Prelude.{Bool, cond, _||_, List, [], _∷_, ℕ, zero, suc, eqb, drop}
 use Rattle.refusals.specs.Numbers as no
 use Rattle.file_lines.specs.Line.{Item, last, more, bad, itemOf, above}
 use Rattle.file_lines.specs.Part.{Part, refused, found, mapped}

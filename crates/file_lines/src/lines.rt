@@ -1,8 +1,5 @@
 // A line of values at a position of the file.
-ghost use mathlib.Core.Path.{_≡_};
-ghost use mathlib.Core.Bool.{false, _||_};
-ghost use lib.Dec.{ltb};
-ghost use lib.ListN.{drop};
+ghost use Rattle.file_lines.specs.Prelude.{_≡_, false, _||_, ltb, drop};
 ghost use Rattle.file_lines.specs.Line.{valuesOf, valueLine};
 ghost use Rattle.file_lines.specs.Scan.{lineIn, malformedLine, endedLine, judged};
 use crate::Line;

@@ -1,7 +1,5 @@
 // One value, the spaces after it, and the end of a line, each at a position of the file.
-ghost use mathlib.Core.Path.{_≡_};
-ghost use Prim.Native.Nat.{_≤_};
-ghost use lib.ListN.{drop};
+ghost use Rattle.file_lines.specs.Prelude.{_≡_, _≤_, drop};
 ghost use Rattle.file_lines.specs.Line.{digitOf, pastSpaces, itemOf, hasLF};
 ghost use Rattle.file_lines.specs.Scan.{itemIn, valueIn, restIn};
 use crate::Scan;

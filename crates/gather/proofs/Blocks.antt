@@ -1,12 +1,8 @@
 -- A row of the output by blocks, and a block by parts: a word of either is one of the row.
 use mathlib.Core.Path.{_≡_, refl, sym, ap, ap₂, _∙_, subst, fun-ext}
-use Rattle.algebra.specs.Prelude.{List, ℕ, zero, suc, _+_, _-_, _*_, _/_, _%_, _≤_, _<_, arith, getD, ℤ, pos, natAbs}
+use Rattle.gather.specs.Prelude.{List, ℕ, zero, suc, _+_, _-_, _*_, _/_, _%_, _≤_, _<_, arith, getD, ℤ, pos, natAbs, TileSide, Shape, sideOf, rowWords}
 use Rattle.sequences.specs.Write.{written, Writing, write-part}
-use Rattle.geometry.specs.Fits.{TileSide}
-use Rattle.geometry.specs.declared.Shape.{Shape}
-use Rattle.recipe.specs.Sides.{sideOf}
 use Rattle.gather.specs.declared.Span.{Span}
-use Rattle.tiles.specs.Rows.{rowWords}
 use Rattle.gather.specs.Gather.{Weights, windowed, corrected, startOf, wordOver}
 use Rattle.gather.specs.Work.{Words, Weighed, rowSpan, further, Over, wordFrom}
 use Rattle.gather.proofs.Weighing.{words-later, later-room, block-of, word-of-block, column-of, block-first, block-word, row-in-half}

@@ -1,15 +1,12 @@
 -- The output's quotient without a division: by 2^32, rounding down, and then by the number of frames, as a product with its reciprocal.
-use Rattle.algebra.specs.Prelude.{_≡_, ap, [], _∷_, ℕ, zero, suc, _+_, _*_, _/_, _≤_, _<_, arith, lit<, ℤ, pos, negsuc, natAbs, _+ℤ_, _-ℤ_, _*ℤ_}
+use Rattle.gather.specs.Prelude.{_≡_, ap, [], _∷_, ℕ, zero, suc, _+_, _*_, _/_, _≤_, _<_, arith, lit<, ℤ, pos, negsuc, natAbs, _+ℤ_, _-ℤ_, _*ℤ_, _≤ℤ_, _<ℤ_, shrZ, clampZ, upward}
 use native.Mathlib.Nat.{mul-pos, le-div-iff-mul-le, div-lt-iff-lt-mul}
-use lib.Signed.{_≤ℤ_, _<ℤ_, shrZ}
 use Rattle.algebra.specs.Vars.{vars6}
 use Rattle.algebra.specs.Ring.{_⊞_, _⊟_, _⊠_, #_}
 use Rattle.algebra.specs.Order.{zarith, 0≤pos}
 use Rattle.algebra.specs.Cert.{num, nn, le, lt, _⊕_, _⊗_, by-le, by-lt}
-use Rattle.algebra.specs.Clamp.{clampZ}
 use Rattle.algebra.specs.ClampLaws.{clamp-below, clamp-same, clamp-above}
 use Rattle.algebra.specs.Floor.{floor-le, floor-lt, floor-unique}
-use Rattle.algebra.specs.Nearest.{upward}
 
 -- t − s/(2·h·n), to nearest, halves upward, in two steps that round down
 pub upward-twice : (t s : ℤ) (h n : ℕ) → 0 < h → 0 < n → upward (t *ℤ pos (2 * h * n) -ℤ s) (2 * h * n) ≡ shrZ (t *ℤ pos n +ℤ shrZ (pos n *ℤ pos h -ℤ s) (2 * h)) n

@@ -1,22 +1,16 @@
 -- Weights, words that are weighed, and the windowed sum of the four tiles over a sample, term by term.
-use Rattle.algebra.specs.Prelude.{_≡_, refl, sym, ap, subst, _∙_, List, _++_, ℕ, _+_, _-_, _*_, _/_, _%_, _≤_, _<_, arith, set, getD}
+use Rattle.gather.specs.Prelude.{_≡_, refl, sym, ap, subst, _∙_, List, _++_, ℕ, _+_, _-_, _*_, _/_, _%_, _≤_, _<_, arith, set, getD, tab, TileSide, windows, window16, side16, windows32, window32, side32, sideOf, takenMost}
 use native.Mathlib.Nat.{mul-le-mul}
 use lib.Dec.{leb, leb→le}
 use lib.IntN.{ℤ, pos, natAbs, _+ℤ_, _*ℤ_, +ℤ-idl}
 use lib.ListN.{length, drop, List·getD-append}
 use Rattle.algebra.specs.Test.{all-sound}
 use Rattle.algebra.specs.Sums.{sumZ}
-use Rattle.sequences.specs.Tab.{tab}
 use Rattle.sequences.specs.TabLaws.{length-tab, getD-tab, Filled, fill-turn}
-use Rattle.geometry.specs.Fits.{TileSide}
 use Rattle.recipe.specs.Side.{Side}
-use Rattle.recipe.specs.Tables.{windows, window16, side16}
-use Rattle.recipe.specs.Tables32.{windows32, window32, side32}
-use Rattle.recipe.specs.Sides.{sideOf}
 use Rattle.recipe.specs.SideLaws.{by-table}
 use Rattle.gather.specs.declared.Span.{Span}
 use Rattle.gather.specs.Gather.{windowTable, weightOf, Weights, windowed, corrected, wordOver}
-use Rattle.tiles.specs.Sum.{takenMost}
 use Rattle.tiles.specs.Places.{by-side}
 use Rattle.gather.specs.Work.{weightMost, Words, Weighed}
 

@@ -1,13 +1,7 @@
 -- Inside this crate and merging: the output as code gathers it, from corrections that are summed over the other frames first, and then windowed.
-use Rattle.algebra.specs.Prelude.{_≡_, cond, List, _++_, ℕ, zero, suc, _+_, _*_, _/_, _%_, _<_, eqb, getD, ℤ, pos, _-ℤ_, _*ℤ_}
+use Rattle.gather.specs.Prelude.{_≡_, cond, List, _++_, ℕ, zero, suc, _+_, _*_, _/_, _%_, _<_, eqb, getD, ℤ, pos, _-ℤ_, _*ℤ_, clampZ, upward, tab, windows, windows32, sideOf}
 use Rattle.algebra.specs.Sums.{sumZ}
-use Rattle.algebra.specs.Clamp.{clampZ}
-use Rattle.algebra.specs.Nearest.{upward}
-use Rattle.sequences.specs.Tab.{tab}
 use Rattle.recipe.specs.Side.{Side}
-use Rattle.recipe.specs.Tables.{windows}
-use Rattle.recipe.specs.Tables32.{windows32}
-use Rattle.recipe.specs.Sides.{sideOf}
 use Rattle.recipe.specs.Output.{weightIn}
 use Rattle.gather.specs.declared.Span.{Span}
 

@@ -1,17 +1,13 @@
 -- Inside the crates of the merge and of the range: where two rows of pairs of tiles that are held have what the four tiles over a word of the frame take from it.
 use mathlib.Core.Path.{_≡_, ap, _∙_}
-use Rattle.algebra.specs.Prelude.{List, ℕ, zero, suc, _+_, _-_, _*_, _/_, _%_, _≤_, _<_, arith, getD, ℤ, pos}
+use Rattle.gather.specs.Prelude.{List, ℕ, zero, suc, _+_, _-_, _*_, _/_, _%_, _≤_, _<_, arith, getD, ℤ, pos, Shape, AllowedSize, TileSide, Taking, rowWords, slotOf, halfWord, rowWord}
 use mathlib.Core.Logic.{_⊎_, inl, inr, ⊎-elim}
 use native.Mathlib.Decide.{ℕ-discrete}
-use Rattle.geometry.specs.declared.Shape.{Shape}
-use Rattle.geometry.specs.Fits.{AllowedSize, TileSide}
 use Rattle.geometry.specs.Read.{sampleAt, planeOf}
 use Rattle.geometry.specs.ReadLaws.{index-frame}
 use Rattle.gather.specs.declared.Span.{Span}
 use Rattle.gather.specs.Gather.{startOf, wordOver}
 use Rattle.gather.specs.Work.{rowSpan}
-use Rattle.tiles.specs.Sum.{Taking}
-use Rattle.tiles.specs.Rows.{rowWords, slotOf, halfWord, rowWord}
 use Rattle.tiles.specs.Places.{by-side, half-of, row-of, word-of, place-in}
 use Rattle.gather.specs.RowsHeld.{RowHeld}
 

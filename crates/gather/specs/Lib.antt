@@ -1,3 +1,4 @@
+pub mod Prelude
 pub mod Gather
 pub mod Work
 pub mod Ready

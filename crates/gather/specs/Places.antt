@@ -1,9 +1,7 @@
 -- Each row of the frame lies in it, in the output and in the samples.
-use Rattle.algebra.specs.Prelude.{ℕ, _+_, _*_, _≤_, _<_, arith}
+use Rattle.gather.specs.Prelude.{ℕ, _+_, _*_, _≤_, _<_, arith, Shape, rowStride, frameStride, outputLength}
 use native.Mathlib.Nat.{mul-comm}
 use Rattle.sequences.specs.Place.{row-room}
-use Rattle.geometry.specs.declared.Shape.{Shape}
-use Rattle.geometry.specs.Shape.{rowStride, frameStride, outputLength}
 
 pub output-room : (s : Shape) (row : ℕ) → row < s .height → row * s .width + s .width ≤ outputLength s
 unfolding outputLength

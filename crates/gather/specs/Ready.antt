@@ -1,7 +1,5 @@
 -- Inside this crate and merging: what a row of the output and a block of it require. A buffer that is only measured stands here as its length.
-use Rattle.algebra.specs.Prelude.{_≡_, List, ℕ, _+_, _-_, _*_, _≤_, ℤ}
-use Rattle.geometry.specs.declared.Shape.{Shape}
-use Rattle.geometry.specs.Shape.{sampleLength}
+use Rattle.gather.specs.Prelude.{_≡_, List, ℕ, _+_, _-_, _*_, _≤_, ℤ, Shape, sampleLength}
 use Rattle.gather.specs.declared.Span.{Span}
 use Rattle.gather.specs.declared.Divisor.{Divisor}
 use Rattle.gather.specs.Work.{Divided, Weighed, Inside, Over}

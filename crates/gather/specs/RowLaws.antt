@@ -1,13 +1,10 @@
 -- Inside the crates of the merge and of the range: an output gets written row by row, one row parity after the other; after both it has all of its words.
-use Rattle.algebra.specs.Prelude.{_≡_, refl, sym, ap, subst, _∙_, Bool, true, false, List, ℕ, zero, suc, _+_, _-_, _*_, _/_, _%_, _≤_, _<_, arith, ltb, length, getD}
+use Rattle.gather.specs.Prelude.{_≡_, refl, sym, ap, subst, _∙_, Bool, true, false, List, ℕ, zero, suc, _+_, _-_, _*_, _/_, _%_, _≤_, _<_, arith, ltb, length, getD, tab, written, TileSide}
 use native.Mathlib.Nat.{add-mul, div-add-mod'}
 use borrow.Author.Tests.{ltb-true, ltb-false}
 use lib.Seq.{ext-getD}
-use Rattle.sequences.specs.Tab.{tab}
 use Rattle.sequences.specs.TabLaws.{length-tab, getD-tab}
-use Rattle.sequences.specs.Write.{written}
 use Rattle.sequences.specs.Place.{row-below, column-below}
-use Rattle.geometry.specs.Fits.{TileSide}
 use Rattle.tiles.specs.Toward.{Toward, toward-same, toward-on, written-right, written-toward}
 use Rattle.tiles.specs.Places.{by-side}
 use Rattle.gather.specs.RowsHeld.{wordBelow, placeOf, RowsWritten}

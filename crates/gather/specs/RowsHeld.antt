@@ -1,7 +1,5 @@
 -- Inside the crates of the merge and of the range: a row of pairs of tiles that the work area holds, and rows of the output that are written.
-use Rattle.algebra.specs.Prelude.{_≡_, List, ℕ, _+_, _-_, _*_, _≤_, _<_, getD, ℤ, pos}
-use Rattle.tiles.specs.Sum.{Taking}
-use Rattle.tiles.specs.Rows.{rowWords, slotOf, rowWord}
+use Rattle.gather.specs.Prelude.{_≡_, List, ℕ, _+_, _-_, _*_, _≤_, _<_, getD, ℤ, pos, Taking, rowWords, slotOf, rowWord}
 use Rattle.tiles.specs.Toward.{Toward}
 use Rattle.gather.specs.Work.{Words}
 

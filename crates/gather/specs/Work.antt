@@ -1,12 +1,6 @@
 -- Inside this crate and merging: the two rows of pairs of correction tiles that the work area holds, and a word of the output worked out from them.
-use Rattle.algebra.specs.Prelude.{_≡_, List, ℕ, _+_, _-_, _*_, _/_, _%_, _^_, _≤_, _<_, length, getD, ℤ, pos, natAbs}
-use Rattle.geometry.specs.declared.Shape.{Shape}
-use Rattle.geometry.specs.Shape.{rowStride, frameStride, sampleLength}
-use Rattle.geometry.specs.Fits.{Allowed, TileSide}
+use Rattle.gather.specs.Prelude.{_≡_, List, ℕ, _+_, _-_, _*_, _/_, _%_, _^_, _≤_, _<_, length, getD, ℤ, pos, natAbs, Shape, rowStride, frameStride, sampleLength, Allowed, TileSide, sideOf, takenMost, rowWords, slotOf}
 use Rattle.sequences.specs.Written.{written}
-use Rattle.recipe.specs.Sides.{sideOf}
-use Rattle.tiles.specs.Sum.{takenMost}
-use Rattle.tiles.specs.Rows.{rowWords, slotOf}
 use Rattle.gather.specs.declared.Span.{Span}
 use Rattle.gather.specs.Gather.{Weights, windowed, corrected, wordOver}
 

@@ -1,16 +1,6 @@
 // A row of the output: at each sample the corrections of the four tiles over it, windowed, and the sample less their sum, rounded and held to 0..4095.
-ghost use mathlib.Core.Path.{_≡_};
-ghost use Prim.Native.Nat.{_+_, _-_, _*_, _/_, _%_, _≤_, _<_, _^_};
-ghost use lib.IntN.{pos, natAbs, _+ℤ_, _-ℤ_, _*ℤ_};
-ghost use lib.Signed.{shrZ};
-ghost use lib.ListN.{length, getD};
-ghost use Rattle.algebra.specs.Bound.{AtMost};
-ghost use Rattle.algebra.specs.Clamp.{clampZ};
+ghost use Rattle.gather.specs.Prelude.{_≡_, _+_, _-_, _*_, _/_, _%_, _≤_, _<_, _^_, pos, natAbs, _+ℤ_, _-ℤ_, _*ℤ_, length, getD, shrZ, AtMost, clampZ, TileSide, side16, sideOf, takenMost};
 ghost use Rattle.sequences.specs.Written.{written};
-ghost use Rattle.geometry.specs.Fits.{TileSide};
-ghost use Rattle.recipe.specs.Tables.{side16};
-ghost use Rattle.recipe.specs.Sides.{sideOf};
-ghost use Rattle.tiles.specs.Sum.{takenMost};
 ghost use Rattle.gather.specs.Gather.{windowTable, Weights, corrected, windowed, wordOver};
 ghost use Rattle.gather.specs.Work.{weightMost, partMost, sumMost, Divided, Weighed, rowSpan, further, Small, Inside, Roomy, wordFrom, rowWritten};
 ghost use Rattle.gather.specs.Ready.{BlockReady, RowReady};

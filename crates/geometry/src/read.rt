@@ -1,6 +1,5 @@
 // Where samples stand, and reading outside.
-ghost use mathlib.Core.Path.{_≡_};
-ghost use Prim.Native.Nat.{_*_, _%_, _^_, _≤_, _<_};
+ghost use Rattle.algebra.specs.Prelude.{_≡_, _*_, _%_, _^_, _≤_, _<_};
 ghost use lib.Signed.{mag};
 ghost use Rattle.geometry.specs.Shape.{sampleLength};
 ghost use Rattle.geometry.specs.Read.{sampleIndex, sampleAt, mirrored, inside};

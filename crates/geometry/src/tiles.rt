@@ -1,6 +1,5 @@
 // Tiles of a level, and the coarse tiles that a tile's candidates come from.
-ghost use mathlib.Core.Path.{_≡_};
-ghost use Prim.Native.Nat.{_+_, _/_, _<_, _≤_};
+ghost use Rattle.algebra.specs.Prelude.{_≡_, _+_, _/_, _<_, _≤_};
 ghost use Rattle.algebra.specs.Bound.{AtMost};
 ghost use Rattle.geometry.specs.Fits.{Allowed, TileSide};
 ghost use Rattle.geometry.specs.Tiles.{tileCount, tileRows, tileColumns, frameParts, origin, own2, own4, own, neighbour2, neighbour4, neighbour, capped};

@@ -1,6 +1,5 @@
 // Vectors, where they stand among the lent ones, and the frames that they are of.
-ghost use mathlib.Core.Path.{_≡_};
-ghost use Prim.Native.Nat.{_+_, _≤_, _<_};
+ghost use Rattle.algebra.specs.Prelude.{_≡_, _+_, _≤_, _<_};
 ghost use Rattle.geometry.specs.Shape.{vectorLength};
 ghost use Rattle.geometry.specs.Fits.{Allowed, TileSide};
 ghost use Rattle.geometry.specs.Tiles.{tileRows, tileColumns};

@@ -1,11 +1,8 @@
 -- A row of the copies: each number is at most copyMost.
-use Rattle.algebra.specs.Prelude.{_≡_, List, ℕ, _*_, _≤_, arith, getD, ℤ, pos, natAbs, _-ℤ_, _*ℤ_, w64, toZ, ofZ}
+use Rattle.grain.specs.Prelude.{_≡_, List, ℕ, _*_, _≤_, arith, getD, ℤ, pos, natAbs, _-ℤ_, _*ℤ_, w64, toZ, ofZ, AtMost, away, smallMost, copyMost}
 use native.Mathlib.Nat.{mul-le-mul-right}
 use Rattle.algebra.specs.Order.{abs-sub}
-use Rattle.algebra.specs.Bound.{AtMost}
-use Rattle.algebra.specs.Nearest.{away}
 use Rattle.lines.specs.Held.{number-is}
-use Rattle.spectrum.specs.Magnitudes.{smallMost, copyMost}
 use Rattle.spectrum.specs.RoundingLaws.{away-within}
 use Rattle.grain.specs.Filtering.{Frames, SumMost, SampleRow, SumRow}
 

@@ -1,8 +1,6 @@
 -- The bins of a tile look at its sixteen by sixteen places only; and columns 0 and 8 have no line of imaginary parts beside them.
-use Rattle.algebra.specs.Prelude.{_≡_, refl, ap, ap₂, _∙_, Bool, true, false, cond, ℕ, _+_, _-_, _%_, _<_, arith, eqb, ltb, ℤ, pos, negℤ, _+ℤ_, _-ℤ_}
+use Rattle.grain.specs.Prelude.{_≡_, refl, ap, ap₂, _∙_, Bool, true, false, cond, ℕ, _+_, _-_, _%_, _<_, arith, eqb, ltb, ℤ, pos, negℤ, _+ℤ_, _-ℤ_, side16, realOf, imaginaryOf, beside, tileRe, tileIm, apartOf, besideOf, imaginaryPart, realPart, tileImOf, tileReOf}
 use borrow.Author.Tests.{eqb-false}
-use Rattle.recipe.specs.Tables.{side16}
-use Rattle.spectrum.specs.Spectrum.{realOf, imaginaryOf, beside, tileRe, tileIm, apartOf, besideOf, imaginaryPart, realPart, tileImOf, tileReOf}
 use Rattle.spectrum.specs.Apart.{cond-cases, apart-cases, below-ext, side-ext, is-own, is-paired}
 
 -- ---- the line beside

@@ -1,31 +1,19 @@
 -- Two planes side by side: their places, the step on their bins, its size, and P' of both.
-use Rattle.algebra.specs.Prelude.{_≡_, sym, ap, ap₂, subst, _∙_, false, List, [], ℕ, _+_, _*_, _/_, _%_, _^_, _≤_, _<_, arith, lit≤, eqb, getD, ℤ, pos, natAbs, _+ℤ_, _*ℤ_}
+use Rattle.grain.specs.Prelude.{_≡_, sym, ap, ap₂, subst, _∙_, false, List, [], ℕ, _+_, _*_, _/_, _%_, _^_, _≤_, _<_, arith, lit≤, eqb, getD, ℤ, pos, natAbs, _+ℤ_, _*ℤ_, Float, nan, binary64, ofInt, away, tab, side16, binRe, binIm, copyFiltered, frequency, LineMost, TileMost, differenceMost, foldMost, spatialMost, spatialGainMost, spatialCorrectionMost, twoWay, transposed, spread, backSum, tileRe, tileIm, InDouble, planeIn, sideBySide, either, doubles}
 use Prim.Native.Nat.{zero-le}
 use native.Mathlib.Nat.{le-trans}
 use lib.IntN.{+ℤ-idl}
-use lib.Ieee.{Float, nan, binary64, ofInt}
-use Rattle.algebra.specs.Nearest.{away}
 use Rattle.algebra.specs.Order.{abs-add, abs-mul}
-use Rattle.sequences.specs.Tab.{tab}
 use Rattle.sequences.specs.TabLaws.{tab-every}
 use Rattle.sequences.specs.Grid.{grid, cell, cell-grid, grid-ext}
-use Rattle.recipe.specs.Tables.{side16}
-use Rattle.recipe.specs.Correction.{binRe, binIm}
-use Rattle.recipe.specs.Spatial.{copyFiltered}
-use Rattle.recipe.specs.SpatialNoise.{frequency}
 use Rattle.noise.specs.SpatialLaws.{frequency-most, frequency-low}
-use Rattle.lines.specs.Lines.{LineMost, TileMost}
 use Rattle.lines.specs.Tiles.{line-most, cells-most}
-use Rattle.lines.specs.Magnitudes.{differenceMost, foldMost}
 use Rattle.spectrum.specs.Apart.{cond-cases}
 use Rattle.spectrum.specs.FoldSizes.{spread-most}
-use Rattle.spectrum.specs.Magnitudes.{spatialMost, spatialGainMost, spatialCorrectionMost}
 use Rattle.spectrum.specs.PlaceLaws.{spread-ext, back-ext}
 use Rattle.spectrum.specs.SizeLaws.{copy-gain-most}
-use Rattle.spectrum.specs.Spectrum.{twoWay, transposed, spread, backSum, tileRe, tileIm}
 use Rattle.spectrum.specs.Turns.{turns16}
 use Rattle.spectrum.specs.SpectrumLaws.{bin-re, bin-im}
-use Rattle.spectrum.specs.Pairs.{InDouble, planeIn, sideBySide, either, doubles}
 use Rattle.grain.specs.Filtering.{binNoise, stepAt, NoiseLine, NoisesMost}
 use Rattle.grain.specs.FilteringLaws.{step-most}
 use Rattle.grain.specs.Steps.{highOf, lowOf, placeMost, copyPlaceMost, placeOf, linesIn, laneRe, laneIm, pairRe, pairIm}

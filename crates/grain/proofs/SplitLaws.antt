@@ -7,13 +7,10 @@ use Rattle.algebra.specs.Floor.{floor-le, floor-lt}
 use Rattle.algebra.specs.Order.{zarith, add-pn, sub-pn, abs-pn, min-pn}
 use Rattle.algebra.specs.Ring.{var, _⊞_, _⊟_, _⊠_, #_, ring}
 use Rattle.algebra.specs.SumLaws.{sumZ-cong, sumZ-add, sumZ-scale}
-use Rattle.recipe.specs.Tables.{side16}
+use Rattle.grain.specs.Prelude.{side16, differenceMost, copyMost, twoWay, twoWayOf}
 use Rattle.lines.specs.Halfcomplex.{halfcomplexOf, basis, halfcomplex}
 use Rattle.lines.specs.Held.{number-is, number-most, cast-fits, cast-is}
-use Rattle.lines.specs.Magnitudes.{differenceMost}
 use Rattle.spectrum.specs.LineLaws.{halfcomplex-ext, halfcomplex-most}
-use Rattle.spectrum.specs.Magnitudes.{copyMost}
-use Rattle.spectrum.specs.Spectrum.{twoWay, twoWayOf}
 use Rattle.grain.specs.Steps.{highOf, lowOf, placeMost}
 
 -- ---- one sample

@@ -1,15 +1,9 @@
 -- P' from the folded step on the copy's bins.
-use Rattle.algebra.specs.Prelude.{_≡_, ap, ap₂, _∙_, ℕ, _^_, _<_, lit<, ℤ, negℤ, eqb}
+use Rattle.grain.specs.Prelude.{_≡_, ap, ap₂, _∙_, ℕ, _^_, _<_, lit<, ℤ, negℤ, eqb, away, side16, wiener, binRe, binIm, copyQuantized, copyFiltered, frequency, spread, backSum}
 use lib.Dec.{eqb→eq}
-use Rattle.algebra.specs.Nearest.{away}
 use Rattle.algebra.specs.NearestLaws.{away-odd}
 use Rattle.algebra.specs.Test.{all-sound}
-use Rattle.recipe.specs.Tables.{side16}
 use Rattle.recipe.specs.TableLaws.{opposite}
-use Rattle.recipe.specs.Correction.{wiener, binRe, binIm}
-use Rattle.recipe.specs.Spatial.{copyQuantized, copyFiltered}
-use Rattle.recipe.specs.SpatialNoise.{frequency}
-use Rattle.spectrum.specs.Spectrum.{spread, backSum}
 use Rattle.spectrum.specs.Turns.{turns16}
 use Rattle.spectrum.specs.SpectrumLaws.{wiener-odd, wiener-even}
 use Rattle.spectrum.specs.BinFilters.{BinFilter, filteredBy, turned-back}

@@ -1,13 +1,12 @@
 -- Sums and differences of two numbers in 64 bits, and N times a number added to a sum.
 use Rattle.algebra.specs.Prelude.{_≡_, sym, ap, ap₂, subst, _∙_, List, ℕ, _+_, _*_, arith, T, ltb, getD, ℤ, pos, negℤ, _+ℤ_, _-ℤ_, _*ℤ_, w64, SFits, toZ, ofZ, toZ-ofZ}
 use Prim.Native.Nat.{_^_}
-use lib.Ieee.{binary64, inFloat}
+use Rattle.grain.specs.Prelude.{binary64, inFloat, smallMost, spatialGainMost, spatialCorrectionMost}
 use mir.ValLaws.{toZ-pos}
 use Rattle.algebra.specs.Order.{abs-neg, abs-sub}
 use Rattle.algebra.specs.Bound.{AtMost, most-fits, add-most, sub-most, mul-most, add-fits, sub-fits, zero-minus}
 use Rattle.floats.specs.Casts.{whole-counted}
 use Rattle.lines.specs.Held.{number-is, number-most}
-use Rattle.spectrum.specs.Magnitudes.{smallMost, spatialGainMost, spatialCorrectionMost}
 use Rattle.grain.specs.Filtering.{Frames, SumMost, SumRow}
 
 -- ---- two numbers of at most b

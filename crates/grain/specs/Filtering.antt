@@ -1,13 +1,5 @@
 -- Inside this crate and tiles: the spatial filter (request L13) on two tiles side by side, from T0 and the sums of P.
-use Rattle.algebra.specs.Prelude.{List, [], ℕ, _+_, _*_, _≤_, getD, ℤ, pos, natAbs, _-ℤ_, _*ℤ_}
-use Rattle.sequences.specs.Grid.{cell}
-use Rattle.algebra.specs.Nearest.{away}
-use Rattle.recipe.specs.Tables.{side16}
-use Rattle.recipe.specs.Correction.{binRe, binIm, inverseAt}
-use Rattle.recipe.specs.Spatial.{copyFiltered}
-use Rattle.recipe.specs.SpatialNoise.{frequency}
-use Rattle.spectrum.specs.Magnitudes.{smallMost, spatialMost}
-use Rattle.spectrum.specs.Pairs.{Paired, planeIn, added}
+use Rattle.grain.specs.Prelude.{List, [], ℕ, _+_, _*_, _≤_, getD, ℤ, pos, natAbs, _-ℤ_, _*ℤ_, cell, away, side16, binRe, binIm, inverseAt, copyFiltered, frequency, smallMost, spatialMost, Paired, planeIn, added}
 
 -- the copy of the merged tile of N = `frames` frames, in 1/256
 unfoldable pub copyIn : (frames : ℕ) (t0 : ℕ → ℕ → ℕ) (sum : ℕ → ℕ → ℤ) → ℕ → ℕ → ℤ

@@ -1,12 +1,7 @@
 -- P' depends on the copy's numbers and on V' of the tile's bins alone; and its size.
-use Rattle.algebra.specs.Prelude.{_≡_, ap, ap₂, ℕ, _^_, _≤_, _<_, ℤ, natAbs, _-ℤ_, _*ℤ_}
+use Rattle.grain.specs.Prelude.{_≡_, ap, ap₂, ℕ, _^_, _≤_, _<_, ℤ, natAbs, _-ℤ_, _*ℤ_, away, side16, binRe, binIm, twiddleRe, twiddleIm, inverseRe, inverseAt, copyFiltered, spatialMost, spatialCorrectionMost}
 use Rattle.algebra.specs.SumLaws.{sumZ-cong}
-use Rattle.algebra.specs.Nearest.{away}
-use Rattle.recipe.specs.Tables.{side16}
-use Rattle.recipe.specs.Correction.{binRe, binIm, twiddleRe, twiddleIm, inverseRe, inverseAt}
-use Rattle.recipe.specs.Spatial.{copyFiltered}
 use Rattle.spectrum.specs.DifferenceLaws.{bin-re, bin-im}
-use Rattle.spectrum.specs.Magnitudes.{spatialMost, spatialCorrectionMost}
 use Rattle.spectrum.specs.SizeLaws.{spatial-small}
 use Rattle.grain.specs.Filtering.{stepAt}
 

@@ -1,3 +1,4 @@
+pub mod Prelude
 pub mod Filtering
 pub mod FilteringLaws
 pub mod Steps

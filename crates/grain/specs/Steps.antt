@@ -1,13 +1,6 @@
 -- Inside this crate: the steps of the spatial filter on two tiles side by side, as the code takes them.
-use Rattle.algebra.specs.Prelude.{List, ℕ, _+_, _*_, _/_, _%_, _^_, getD, ℤ, pos, _+ℤ_, _-ℤ_, _*ℤ_}
+use Rattle.grain.specs.Prelude.{List, ℕ, _+_, _*_, _/_, _%_, _^_, getD, ℤ, pos, _+ℤ_, _-ℤ_, _*ℤ_, Float, toSigned, cell, side16, copyFiltered, frequency, transposed, tileRe, tileIm, planeIn}
 use lib.Signed.{shrZ}
-use lib.Ieee.{Float, toSigned}
-use Rattle.sequences.specs.Grid.{cell}
-use Rattle.recipe.specs.Tables.{side16}
-use Rattle.recipe.specs.Spatial.{copyFiltered}
-use Rattle.recipe.specs.SpatialNoise.{frequency}
-use Rattle.spectrum.specs.Spectrum.{transposed, tileRe, tileIm}
-use Rattle.spectrum.specs.Pairs.{planeIn}
 
 -- ---- the copy in two parts
 

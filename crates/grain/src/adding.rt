@@ -1,13 +1,5 @@
 // N times a pair, added to the sums.
-ghost use mathlib.Core.Path.{_≡_};
-ghost use lib.IntN.{pos, _+ℤ_, _*ℤ_};
-ghost use lib.ListN.{length, getD};
-ghost use Rattle.algebra.specs.Bound.{AtMost};
-ghost use Rattle.sequences.specs.Tab.{tab};
-ghost use Rattle.sequences.specs.Grid.{grid, cell};
-ghost use Rattle.lines.specs.Lines.{LineMost, TileMost};
-ghost use Rattle.spectrum.specs.Magnitudes.{spatialCorrectionMost};
-ghost use Rattle.spectrum.specs.Pairs.{Paired};
+ghost use Rattle.grain.specs.Prelude.{_≡_, pos, _+ℤ_, _*ℤ_, length, getD, AtMost, tab, grid, cell, LineMost, TileMost, spatialCorrectionMost, Paired};
 ghost use Rattle.grain.specs.Filtering.{Frames, SumMost, SumRow, SumPair};
 
 // N·p and the sum s.

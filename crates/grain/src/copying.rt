@@ -1,14 +1,5 @@
 // The copies of two planes side by side.
-ghost use mathlib.Core.Path.{_≡_};
-ghost use Prim.Native.Nat.{_*_, _≤_};
-ghost use lib.IntN.{pos, _-ℤ_, _*ℤ_};
-ghost use lib.ListN.{getD};
-ghost use Rattle.algebra.specs.Bound.{AtMost};
-ghost use Rattle.algebra.specs.Nearest.{away};
-ghost use Rattle.sequences.specs.Tab.{tab};
-ghost use Rattle.sequences.specs.Grid.{grid, cell};
-ghost use Rattle.lines.specs.Lines.{LineMost, TileMost};
-ghost use Rattle.spectrum.specs.Magnitudes.{copyMost};
+ghost use Rattle.grain.specs.Prelude.{_≡_, _*_, _≤_, pos, _-ℤ_, _*ℤ_, getD, AtMost, away, tab, grid, cell, LineMost, TileMost, copyMost};
 ghost use Rattle.grain.specs.Filtering.{copyIn, Frames, SumMost, SampleRow, SumRow, SamplePair, SumPair};
 
 // A sample of the copy: T0 less the sum of P over N, in 1/256, to nearest, halves away from zero.

@@ -1,15 +1,5 @@
 // Both parts g and h of the step, folded for the inverse: lane l of columns 0 to 8, and lanes 18 to 31 for the imaginary parts of columns 1 to 7.
-ghost use mathlib.Core.Path.{_≡_};
-ghost use Prim.Native.Nat.{_*_, _/_, _%_, _<_};
-ghost use lib.Ieee.{binary64, ofInt};
-ghost use lib.IntN.{pos};
-ghost use Rattle.algebra.specs.Bound.{AtMost};
-ghost use Rattle.sequences.specs.Tab.{tab};
-ghost use Rattle.sequences.specs.Grid.{cell};
-ghost use Rattle.lines.specs.Lines.{TileMost};
-ghost use Rattle.spectrum.specs.Magnitudes.{spatialGainMost};
-ghost use Rattle.spectrum.specs.Spectrum.{transposed, foldRe, foldIm, spread};
-ghost use Rattle.spectrum.specs.Pairs.{planeIn, sideBySide, doubles};
+ghost use Rattle.grain.specs.Prelude.{_≡_, _*_, _/_, _%_, _<_, pos, binary64, ofInt, AtMost, tab, cell, TileMost, spatialGainMost, transposed, foldRe, foldIm, spread, planeIn, sideBySide, doubles};
 
 // Place b of the real parts of lane l.
 fn re_place(g: &[[i64; 18]; 16], h: &[[i64; 18]; 16], b: usize, l: usize) -> i64

@@ -1,17 +1,7 @@
 // The Wiener step on the bins of two planes side by side, for columns 0 to 8: lane l is column l / 2 of plane l % 2. A bin is put together from the places of two
 // lines, of real and of imaginary parts, as the halfcomplex form has them.
 use bins::copies::filtered_part;
-ghost use mathlib.Core.Path.{_≡_};
-ghost use Prim.Native.Nat.{_/_, _%_, _<_};
-ghost use lib.IntN.{pos};
-ghost use lib.ListN.{length};
-ghost use Rattle.algebra.specs.Bound.{AtMost};
-ghost use Rattle.sequences.specs.Tab.{tab};
-ghost use Rattle.sequences.specs.Grid.{cell};
-ghost use Rattle.recipe.specs.SpatialNoise.{frequency};
-ghost use Rattle.lines.specs.Lines.{TileMost};
-ghost use Rattle.spectrum.specs.Magnitudes.{copyBinMost, spatialMost};
-ghost use Rattle.spectrum.specs.Spectrum.{realOf, imaginaryOf, beside, tileRe, tileIm};
+ghost use Rattle.grain.specs.Prelude.{_≡_, _/_, _%_, _<_, pos, length, AtMost, tab, cell, frequency, TileMost, copyBinMost, spatialMost, realOf, imaginaryOf, beside, tileRe, tileIm};
 ghost use Rattle.grain.specs.Filtering.{NoiseLine};
 ghost use Rattle.grain.specs.Steps.{copyPlaceMost, linesIn, laneRe, laneIm};
 

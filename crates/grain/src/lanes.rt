@@ -1,10 +1,5 @@
 // The noise numbers of two planes side by side.
-ghost use mathlib.Core.Path.{_≡_};
-ghost use Prim.Native.Nat.{_/_, _%_, _<_};
-ghost use lib.ListN.{getD};
-ghost use Rattle.sequences.specs.Tab.{tab};
-ghost use Rattle.sequences.specs.Grid.{grid, cell};
-ghost use Rattle.spectrum.specs.Pairs.{either};
+ghost use Rattle.grain.specs.Prelude.{_≡_, _/_, _%_, _<_, getD, tab, grid, cell, either};
 
 // That of lane l.
 fn lane(first: &[u64; 9], second: &[u64; 9], l: usize) -> u64

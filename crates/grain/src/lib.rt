@@ -19,13 +19,7 @@ use crate::parts::lows;
 use crate::places::places;
 use pairs::add_inverse_of;
 use pairs::forward_into;
-ghost use mathlib.Core.Path.{_≡_};
-ghost use lib.IntN.{pos};
-ghost use Rattle.sequences.specs.Grid.{grid, cell};
-ghost use Rattle.lines.specs.Lines.{TileMost};
-ghost use Rattle.spectrum.specs.Magnitudes.{copyMost, spatialMost};
-ghost use Rattle.spectrum.specs.Spectrum.{twoWay, transposed, spread};
-ghost use Rattle.spectrum.specs.Pairs.{planeIn, sideBySide, either, doubles};
+ghost use Rattle.grain.specs.Prelude.{_≡_, pos, grid, cell, TileMost, copyMost, spatialMost, twoWay, transposed, spread, planeIn, sideBySide, either, doubles};
 ghost use Rattle.grain.specs.Filtering.{binNoise, filteredSums, Filterable, NoisesMost};
 ghost use Rattle.grain.specs.Steps.{copyPlaceMost, pairRe, pairIm};
 

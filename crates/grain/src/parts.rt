@@ -1,13 +1,5 @@
 // The high and low parts of the copies: a sample is 4096 times its high part and its low part, and both are small enough for differences of samples.
-ghost use mathlib.Core.Path.{_≡_};
-ghost use lib.IntN.{pos};
-ghost use lib.ListN.{getD};
-ghost use Rattle.algebra.specs.Bound.{AtMost};
-ghost use Rattle.sequences.specs.Tab.{tab};
-ghost use Rattle.sequences.specs.Grid.{grid, cell};
-ghost use Rattle.lines.specs.Lines.{LineMost, TileMost};
-ghost use Rattle.lines.specs.Magnitudes.{differenceMost};
-ghost use Rattle.spectrum.specs.Magnitudes.{copyMost};
+ghost use Rattle.grain.specs.Prelude.{_≡_, pos, getD, AtMost, tab, grid, cell, LineMost, TileMost, differenceMost, copyMost};
 ghost use Rattle.grain.specs.Steps.{highOf, lowOf};
 
 // The high part, rounded down.

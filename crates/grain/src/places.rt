@@ -1,11 +1,6 @@
 // Places of the copies' transforms from those of their high and low parts in double.
-ghost use mathlib.Core.Path.{_≡_};
-ghost use lib.Ieee.{nan};
-ghost use lib.ListN.{getD};
-ghost use Rattle.sequences.specs.Tab.{tab};
-ghost use Rattle.sequences.specs.Grid.{grid, cell};
+ghost use Rattle.grain.specs.Prelude.{_≡_, getD, nan, tab, grid, cell, InDouble};
 ghost use Rattle.lines.specs.Doubles.{WholeDouble, WholeRow};
-ghost use Rattle.spectrum.specs.Pairs.{InDouble};
 ghost use Rattle.grain.specs.Steps.{placeMost, placeOf};
 
 // One place.

@@ -1,6 +1,5 @@
 // The arithmetic of a halving: its weights, the places that it reads, and a value of the halved image.
-ghost use mathlib.Core.Path.{_≡_};
-ghost use Prim.Native.Nat.{_+_, _*_, _/_, _<_, _≤_};
+ghost use Rattle.algebra.specs.Prelude.{_≡_, _+_, _*_, _/_, _<_, _≤_};
 ghost use Rattle.geometry.specs.Read.{inside};
 ghost use Rattle.halving.specs.Halving.{weights, tap};
 ghost use Rattle.halving.specs.Columns.{FourSums};

@@ -1,23 +1,11 @@
 -- From the answer for a tile to that for a level's tile.
 use mathlib.Core.Path.{_≡_, refl, _∙_}
-use Rattle.algebra.specs.Prelude.{Bool, ℕ, zero, suc, _+_, _*_, _≤_, arith}
+use Rattle.levels.specs.Prelude.{Bool, ℕ, zero, suc, _+_, _*_, _≤_, arith, TileSide, Kind, Vector, Level, level3, Step, Tile, Found, still, Pair, bestVector, searchRows, candidateRows, VectorField, answer}
 use mathlib.Core.Logic.{inl, inr, ⊎-elim}
 use native.Mathlib.Nat.{zero-add}
-use Rattle.geometry.specs.Fits.{TileSide}
-use Rattle.search.specs.Local.{Kind}
 use Rattle.search.specs.RowLaws.{candidate-rows-most}
-use Rattle.geometry.specs.declared.vectors.Vector.{Vector}
 use Rattle.levels.specs.Magnitudes.{tileRowsMost}
-use Rattle.geometry.specs.Tiles.{Level, level3, Step}
-use Rattle.residuals.specs.declared.Tile.{Tile}
-use Rattle.matching.specs.declared.Found.{Found}
-use Rattle.search.specs.Vectors.{still}
-use Rattle.residuals.specs.Residual.{Pair}
-use Rattle.search.specs.Search.{bestVector}
-use Rattle.search.specs.Rows.{searchRows, candidateRows}
-use Rattle.geometry.specs.Vectors.{VectorField}
 use Rattle.levels.specs.Fields.{levelAt, levelTile, coarsest, fromCoarse, finer}
-use Rattle.matching.specs.Stored.{answer}
 
 -- the answer for a level's tile
 module _ (l : Level) (p : Pair) (row column : ℕ) (t : Tile) (r : Found) (at : t ≡ levelTile l row column) where

@@ -1,10 +1,5 @@
 -- A finer field depends on the coarse vectors that there are.
-use Rattle.algebra.specs.Prelude.{_≡_, ap, ℕ, _<_, arith}
-use Rattle.geometry.specs.Tiles.{Level, Step, own, neighbour, capped}
-use Rattle.residuals.specs.Residual.{Pair}
-use Rattle.residuals.specs.declared.Tile.{Tile}
-use Rattle.search.specs.Search.{bestVector}
-use Rattle.geometry.specs.Vectors.{VectorField}
+use Rattle.levels.specs.Prelude.{_≡_, ap, ℕ, _<_, arith, Level, Step, own, neighbour, capped, Pair, Tile, bestVector, VectorField}
 use Rattle.levels.specs.Fields.{levelTile, fromCoarse, finer}
 
 capped-below : (count index : ℕ) → 0 < count → capped count index < count

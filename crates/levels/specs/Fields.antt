@@ -1,12 +1,5 @@
 -- The vector of a level's tile: at level 3 from no motion, at a finer level from the coarse vectors around it.
-use Rattle.algebra.specs.Prelude.{ℕ, zero, suc}
-use Rattle.geometry.specs.Tiles.{Level, finestLevel, level1, level2, level3, Step, origin, own, neighbour, capped}
-use Rattle.geometry.specs.Vectors.{VectorField}
-use Rattle.residuals.specs.declared.Tile.{Tile}
-use Rattle.geometry.specs.declared.vectors.Vector.{Vector}
-use Rattle.search.specs.Vectors.{still, _times_}
-use Rattle.residuals.specs.Residual.{Pair}
-use Rattle.search.specs.Search.{bestVector, guessed}
+use Rattle.levels.specs.Prelude.{ℕ, zero, suc, Level, finestLevel, level1, level2, level3, Step, origin, own, neighbour, capped, VectorField, Tile, Vector, still, _times_, Pair, bestVector, guessed}
 
 -- the levels by number, with level 0's tiles of a side
 abbrev pub levelAt : (side : ℕ) → ℕ → Level

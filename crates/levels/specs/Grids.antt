@@ -1,22 +1,12 @@
 -- Inner vocabulary: a coarse level's vectors where they stand in the work area, and the answers for a level's tiles.
-use Rattle.algebra.specs.Prelude.{_≡_, List, ℕ, _+_, _*_, _≤_, _<_, length, getD, ℤ, pos, natAbs}
+use Rattle.levels.specs.Prelude.{_≡_, List, ℕ, _+_, _*_, _≤_, _<_, length, getD, ℤ, pos, natAbs, level3, VectorField, still, searchRows, candidateRows, Tile, Vector, Found, TileSide, Kind, pairIn, Stored, Placed, answer, refined}
 use Rattle.levels.specs.declared.Grid.{Grid}
 use Rattle.matching.specs.declared.Area.{Area}
-use Rattle.geometry.specs.Tiles.{level3}
-use Rattle.geometry.specs.Vectors.{VectorField}
-use Rattle.search.specs.Vectors.{still}
-use Rattle.search.specs.Rows.{searchRows, candidateRows}
-use Rattle.residuals.specs.declared.Tile.{Tile}
-use Rattle.geometry.specs.declared.vectors.Vector.{Vector}
-use Rattle.matching.specs.declared.Found.{Found}
 use Rattle.levels.specs.Magnitudes.{coarseMost, foundMost}
 use Rattle.residuals.specs.Magnitudes.{residualMost}
 use Rattle.patches.specs.Bounds.{Within}
-use Rattle.geometry.specs.Fits.{TileSide}
-use Rattle.search.specs.Local.{Kind}
 use Rattle.levels.specs.Fields.{levelAt, levelTile, coarsest, fromCoarse, finer}
 use Rattle.levels.specs.Steps.{stepTo}
-use Rattle.matching.specs.Stored.{pairIn, Stored, Placed, answer, refined}
 
 -- the field whose vectors stand from `at` on, row by row of so many columns
 unfoldable pub fieldAt : List ℤ → (at columns : ℕ) → VectorField

@@ -1,6 +1,5 @@
 -- Inner vocabulary: the steps by the number of the level that they lead to.
-use Rattle.algebra.specs.Prelude.{ℕ, zero, suc}
-use Rattle.geometry.specs.Tiles.{Step, finestStep, step2to1, step3to2}
+use Rattle.levels.specs.Prelude.{ℕ, zero, suc, Step, finestStep, step2to1, step3to2}
 
 abbrev pub stepTo : (side : ℕ) → ℕ → Step
 stepTo side zero = finestStep side

@@ -1,14 +1,8 @@
 // The tiles of a level: each from a guess, and the guess from the coarse level's vectors.
-ghost use mathlib.Core.Path.{_≡_};
-ghost use Prim.Native.Nat.{_*_, _%_, _≤_, _<_};
-ghost use lib.ListN.{length, getD};
-ghost use lib.IntN.{pos, natAbs, _*ℤ_};
-ghost use Rattle.geometry.specs.Fits.{TileSide};
-ghost use Rattle.search.specs.Vectors.{_times_};
+ghost use Rattle.levels.specs.Prelude.{_≡_, _*_, _%_, _≤_, _<_, length, getD, pos, natAbs, _*ℤ_, TileSide, _times_, Stored, Placed, Ready, Roomy};
 ghost use Rattle.patches.specs.Bounds.{Within};
 ghost use Rattle.levels.specs.Fields.{levelAt, levelTile};
 ghost use Rattle.levels.specs.Steps.{stepTo};
-ghost use Rattle.matching.specs.Stored.{Stored, Placed, Ready, Roomy};
 ghost use Rattle.residuals.specs.Magnitudes.{residualMost};
 ghost use Rattle.levels.specs.Magnitudes.{coarseMost, foundMost, tileRowsMost};
 ghost use Rattle.matching.specs.Magnitudes.{guessMost};

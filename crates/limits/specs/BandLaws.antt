@@ -1,13 +1,9 @@
 -- What a band's tests let through.
-use Rattle.algebra.specs.Prelude.{_≡_, not, ℕ, _+_, _%_, _≤_, arith}
+use Rattle.limits.specs.Prelude.{_≡_, not, ℕ, _+_, _%_, _≤_, arith, first, Shape, sampleLength, vectorLength, TileSide, BurstFits}
 use mathlib.Core.Logic.{⊎-elim}
 use borrow.Author.Tests.{leb-true, eqb-true, not-false}
 use Rattle.refusals.specs.Numbers as no
-use Rattle.refusals.specs.Tests.{first}
 use Rattle.refusals.specs.TestLaws.{among, passed, refuse-not}
-use Rattle.geometry.specs.declared.Shape.{Shape}
-use Rattle.geometry.specs.Shape.{sampleLength, vectorLength}
-use Rattle.geometry.specs.Fits.{TileSide, BurstFits}
 use Rattle.geometry.specs.ShapeLaws.{both, allowed, allowed-side, below-count, right-length}
 use Rattle.limits.specs.Order.{shapeTests, burstTests}
 use Rattle.limits.specs.Bands.{bandAllowed, bandPartRefusal, bandLength, bandWorkLength, bandLengths, bandShapeTests}

@@ -1,9 +1,6 @@
 -- The tests 1 to 7 of the call for a band of the merged frame, as merge's, with 27 after 23, where 6 and 7 are of the band's lengths.
-use Rattle.algebra.specs.Prelude.{Bool, not, _&&_, cond, List, [], _∷_, _++_, ℕ, _+_, _*_, _%_, eqb, leb}
+use Rattle.limits.specs.Prelude.{Bool, not, _&&_, cond, List, [], _∷_, _++_, ℕ, _+_, _*_, _%_, eqb, leb, refuse, first, Shape, sampleLength, vectorLength, lengthRefusal}
 use Rattle.refusals.specs.Numbers as no
-use Rattle.refusals.specs.Tests.{refuse, first}
-use Rattle.geometry.specs.declared.Shape.{Shape}
-use Rattle.geometry.specs.Shape.{sampleLength, vectorLength, lengthRefusal}
 use Rattle.limits.specs.Order.{burstTests}
 use Rattle.limits.specs.Question.{questionTests}
 

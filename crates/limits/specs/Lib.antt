@@ -1,3 +1,4 @@
+pub mod Prelude
 pub mod Order
 pub mod OrderLaws
 pub mod Question

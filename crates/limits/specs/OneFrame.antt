@@ -1,10 +1,6 @@
 -- The tests 1 to 7 of the call that aligns one other frame: align's, with 27 before 4, 5 of that frame's vectors alone, and 7 of half the work area.
-use Rattle.algebra.specs.Prelude.{List, [], _∷_, _++_, ℕ, _-_, _*_, leb}
+use Rattle.limits.specs.Prelude.{List, [], _∷_, _++_, ℕ, _-_, _*_, leb, refuse, Shape, sampleLength, lengthRefusal, frameParts}
 use Rattle.refusals.specs.Numbers as no
-use Rattle.refusals.specs.Tests.{refuse}
-use Rattle.geometry.specs.declared.Shape.{Shape}
-use Rattle.geometry.specs.Shape.{sampleLength, lengthRefusal}
-use Rattle.geometry.specs.Tiles.{frameParts}
 use Rattle.limits.specs.Order.{burstTests}
 
 -- refusal 27: of N frames N − 1 are others, numbered from 0 "in rising index"

@@ -1,13 +1,8 @@
 -- What these tests let through.
-use Rattle.algebra.specs.Prelude.{_≡_, refl, ℕ, _-_, _<_}
+use Rattle.limits.specs.Prelude.{_≡_, refl, ℕ, _-_, _<_, first, Shape, sampleLength, vectorLength, frameParts, BurstFits}
 use borrow.Author.Tests.{leb-false}
 use Rattle.refusals.specs.Numbers as no
-use Rattle.refusals.specs.Tests.{first}
 use Rattle.refusals.specs.TestLaws.{among, passed, refuse-not}
-use Rattle.geometry.specs.declared.Shape.{Shape}
-use Rattle.geometry.specs.Shape.{sampleLength, vectorLength}
-use Rattle.geometry.specs.Tiles.{frameParts}
-use Rattle.geometry.specs.Fits.{BurstFits}
 use Rattle.geometry.specs.ShapeLaws.{allowed, allowed-side, below-count, right-length}
 use Rattle.limits.specs.Order.{shapeTests, burstTests}
 use Rattle.limits.specs.OneFrame.{otherRefusal, frameWorkLength, alignFrameLengths, alignFrameShapeTests}

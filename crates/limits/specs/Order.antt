@@ -1,8 +1,6 @@
 -- The tests 1 to 7 of each call, "in the order of the numbers" with 22 "tested after 3" (request L8) and 23 "tested before 4" (request L9), on the shape, the reference and the lengths of the lent buffers.
-use Rattle.algebra.specs.Prelude.{List, [], _∷_, _++_, ℕ}
+use Rattle.limits.specs.Prelude.{List, [], _∷_, _++_, ℕ, Shape, sizeRefusal, countRefusal, referenceRefusal, sideRefusal, rowRefusal, sampleLength, vectorLength, outputLength, workLength, lengthRefusal}
 use Rattle.refusals.specs.Numbers as no
-use Rattle.geometry.specs.declared.Shape.{Shape}
-use Rattle.geometry.specs.Shape.{sizeRefusal, countRefusal, referenceRefusal, sideRefusal, rowRefusal, sampleLength, vectorLength, outputLength, workLength, lengthRefusal}
 
 -- 1 and 2
 unfoldable pub shapeTests : Shape → List ℕ

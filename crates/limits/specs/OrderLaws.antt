@@ -1,13 +1,9 @@
 -- A call that its tests 1 to 7, 22 and 23 let through has an allowed shape and side, a reference and buffers of the right lengths.
-use Rattle.algebra.specs.Prelude.{_≡_, ℕ}
+use Rattle.limits.specs.Prelude.{_≡_, ℕ, first, Shape, sampleLength, vectorLength, outputLength, workLength, Allowed, TileSide, AlignFits, MergeFits}
 use Rattle.refusals.specs.Numbers as no
-use Rattle.refusals.specs.Tests.{first}
 use Rattle.refusals.specs.TestLaws.{among, passed}
-use Rattle.geometry.specs.declared.Shape.{Shape}
-use Rattle.geometry.specs.Shape.{sampleLength, vectorLength, outputLength, workLength}
 use Rattle.limits.specs.Order.{shapeTests, frameTests, burstTests, alignLengths, mergeLengths, alignShapeTests, mergeShapeTests}
 use Rattle.limits.specs.Question.{questionTests}
-use Rattle.geometry.specs.Fits.{Allowed, TileSide, AlignFits, MergeFits}
 use Rattle.geometry.specs.ShapeLaws.{allowed, allowed-side, below-count, right-length}
 
 pub question-allowed : (s : Shape) → first (questionTests s) ≡ 0 → (Allowed s) × (TileSide (s .side))

@@ -1,9 +1,6 @@
 -- The length question of the capture station.
-use Rattle.algebra.specs.Prelude.{cond, List, [], _∷_, _++_, ℕ, eqb}
+use Rattle.limits.specs.Prelude.{cond, List, [], _∷_, _++_, ℕ, eqb, first, Shape, shaped, sideRefusal, rowRefusal, sampleLength, vectorLength, outputLength, workLength}
 use Rattle.refusals.specs.Numbers as no
-use Rattle.refusals.specs.Tests.{first}
-use Rattle.geometry.specs.declared.Shape.{Shape}
-use Rattle.geometry.specs.Shape.{shaped, sideRefusal, rowRefusal, sampleLength, vectorLength, outputLength, workLength}
 use Rattle.limits.specs.Order.{shapeTests}
 
 -- the length that a refusal of the numbers 4 to 7 tests, "or 0 for any other number"

@@ -1,11 +1,7 @@
 -- What these tests let through.
-use Rattle.algebra.specs.Prelude.{_≡_, ℕ}
+use Rattle.limits.specs.Prelude.{_≡_, ℕ, first, Shape, sampleLength, vectorLength, workLength, AlignFits}
 use Rattle.refusals.specs.Numbers as no
-use Rattle.refusals.specs.Tests.{first}
 use Rattle.refusals.specs.TestLaws.{among, passed}
-use Rattle.geometry.specs.declared.Shape.{Shape}
-use Rattle.geometry.specs.Shape.{sampleLength, vectorLength, workLength}
-use Rattle.geometry.specs.Fits.{AlignFits}
 use Rattle.geometry.specs.ShapeLaws.{allowed, allowed-side, below-count, right-length}
 use Rattle.limits.specs.Order.{shapeTests, burstTests}
 use Rattle.limits.specs.Residuals.{residualLength, residualLengths, residualShapeTests}

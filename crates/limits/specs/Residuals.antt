@@ -1,9 +1,6 @@
 -- The tests 1 to 7 of the call that answers each tile's residual, as merge's, where 6 is of the residuals' length.
-use Rattle.algebra.specs.Prelude.{List, [], _∷_, _++_, ℕ, _-_, _*_}
+use Rattle.limits.specs.Prelude.{List, [], _∷_, _++_, ℕ, _-_, _*_, Shape, sampleLength, vectorLength, workLength, lengthRefusal, tileRows, tileColumns}
 use Rattle.refusals.specs.Numbers as no
-use Rattle.geometry.specs.declared.Shape.{Shape}
-use Rattle.geometry.specs.Shape.{sampleLength, vectorLength, workLength, lengthRefusal}
-use Rattle.geometry.specs.Tiles.{tileRows, tileColumns}
 use Rattle.limits.specs.Order.{burstTests}
 
 -- how many tiles level 0 has

@@ -1,8 +1,5 @@
 // The tests 1 to 7 of a band of the merged frame, with 22, 23 and 27 before 4, and its lengths.
-ghost use mathlib.Core.Path.{_≡_};
-ghost use Prim.Native.Nat.{_≤_};
-ghost use Rattle.refusals.specs.Tests.{first};
-ghost use Rattle.geometry.specs.Fits.{Allowed, TileSide};
+ghost use Rattle.limits.specs.Prelude.{_≡_, _≤_, first, Allowed, TileSide};
 ghost use Rattle.limits.specs.Bands.{bandAllowed, bandPartRefusal, bandLength, bandWorkLength, bandLengths, bandShapeTests, bandWorkQuestion};
 use crate::lengths::length_refusal;
 use crate::lengths::sample_length;

@@ -1,8 +1,5 @@
 // The lengths of the lent buffers, and the tests on them: refusals 4 to 7.
-ghost use mathlib.Core.Path.{_≡_};
-ghost use Prim.Native.Nat.{_≤_};
-ghost use Rattle.geometry.specs.Shape.{sampleLength, vectorLength, outputLength, workLength, lengthRefusal};
-ghost use Rattle.geometry.specs.Fits.{Allowed, TileSide};
+ghost use Rattle.limits.specs.Prelude.{_≡_, _≤_, sampleLength, vectorLength, outputLength, workLength, lengthRefusal, Allowed, TileSide};
 ghost use Rattle.limits.specs.Residuals.{residualLength};
 use geometry::Shape;
 use geometry::tiles::frame_parts;

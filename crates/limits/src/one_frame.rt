@@ -1,7 +1,6 @@
 // The tests of the call that aligns one other frame: align's, with 27 before 4, 5 of that frame's vectors alone, and 7 of half the work area.
 ghost use mathlib.Core.Path.{_≡_};
-ghost use Rattle.refusals.specs.Tests.{first};
-ghost use Rattle.geometry.specs.Fits.{Allowed, TileSide};
+ghost use Rattle.limits.specs.Prelude.{first, Allowed, TileSide};
 ghost use Rattle.limits.specs.OneFrame.{otherRefusal, frameWorkLength, alignFrameLengths, alignFrameShapeTests};
 use crate::lengths::length_refusal;
 use crate::lengths::sample_length;

@@ -1,9 +1,8 @@
 // The tests 1 to 7 of the calls, in the order of the numbers with 22 after 3 and 23 before 4, on the lengths of the lent buffers.
 ghost use mathlib.Core.Path.{_≡_};
-ghost use Rattle.refusals.specs.Tests.{first};
+ghost use Rattle.limits.specs.Prelude.{first, Allowed, TileSide};
 ghost use Rattle.limits.specs.Order.{frameTests, burstTests, alignLengths, mergeLengths, alignShapeTests, mergeShapeTests};
 ghost use Rattle.limits.specs.Residuals.{residualLengths, residualShapeTests};
-ghost use Rattle.geometry.specs.Fits.{Allowed, TileSide};
 use crate::lengths::length_refusal;
 use crate::lengths::output_length;
 use crate::lengths::residual_length;

@@ -1,7 +1,6 @@
 // The length question of the capture station.
 ghost use mathlib.Core.Path.{_≡_};
-ghost use Rattle.refusals.specs.Tests.{first};
-ghost use Rattle.geometry.specs.Fits.{Allowed, TileSide};
+ghost use Rattle.limits.specs.Prelude.{first, Allowed, TileSide};
 ghost use Rattle.limits.specs.Question.{lengthTested, questionTests, lengthQuestion};
 use crate::lengths::output_length;
 use crate::lengths::sample_length;

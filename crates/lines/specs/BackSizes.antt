@@ -1,13 +1,9 @@
 -- How large the sums back of a line are: the places' bound times what the magnitudes of the basis add up to.
-use Rattle.algebra.specs.Prelude.{_≡_, sym, ap, subst, _∙_, ℕ, _+_, _*_, _/_, _%_, _≤_, T, leb, ℤ, natAbs, _*ℤ_}
+use Rattle.lines.specs.Prelude.{_≡_, sym, ap, subst, _∙_, ℕ, _+_, _*_, _/_, _%_, _≤_, T, leb, ℤ, natAbs, _*ℤ_, leb→le, sumZ, sumN, Side, cosAt, cosines, cosine16, side16}
 use native.Mathlib.Nat.{le-refl, le-trans, mod-lt, mul-le-mul-left, add-assoc, mul-add, mul-assoc, mul-comm, div-add-mod, mul-add-mod-self-right}
-use lib.Dec.{leb→le}
 use Rattle.algebra.specs.Order.{abs-mul-le}
 use Rattle.algebra.specs.Test.{all, all-sound}
-use Rattle.algebra.specs.Sums.{sumZ, sumN}
 use Rattle.algebra.specs.SumLaws.{sumN-cong, sumN-mono, sumN-scale, abs-sum}
-use Rattle.recipe.specs.Side.{Side, cosAt}
-use Rattle.recipe.specs.Tables.{cosines, cosine16, side16}
 use Rattle.recipe.specs.Tables32.{cosines32, cosine32, side32}
 use Rattle.lines.specs.Halfcomplex.{halfZ, frequencyOf, phaseOf, basisOf, backwardOf, halfBasisOf, halfSumOf, backward, halfSum}
 use Rattle.lines.specs.Fold.{oddSumOf, evenHalfOf, oddSum, evenHalf}

@@ -1,7 +1,5 @@
 -- A whole number of at most 2^53 in double, as an i64.
-use Rattle.algebra.specs.Prelude.{_≡_, sym, ap, subst, _∙_, List, ℕ, _^_, _≤_, _<_, getD, natAbs, T}
-use lib.Ieee.{Float, nan, binary64, ofInt, toSigned, inSigned}
-use Rattle.algebra.specs.Bound.{AtMost}
+use Rattle.lines.specs.Prelude.{_≡_, sym, ap, subst, _∙_, List, ℕ, _^_, _≤_, _<_, getD, natAbs, T, Float, nan, binary64, ofInt, toSigned, inSigned, AtMost}
 use Rattle.sequences.specs.TabLaws.{getD-tab}
 use Rattle.floats.specs.Casts.{whole-back}
 use Rattle.lines.specs.Doubles.{WholeDouble, WholeLine}

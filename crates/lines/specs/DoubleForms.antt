@@ -1,13 +1,10 @@
 -- Forms of the numbers of a line, worked out in double: their results are the doubles of ring expressions, by two computed tests.
-use Rattle.algebra.specs.Prelude.{_≡_, refl, sym, ap, ap₂, subst, _∙_, Bool, true, false, cond, List, [], _∷_, ℕ, zero, suc, _+_, _*_, _^_, _≤_, _<_, arith, T, ltb, length, getD, ℤ, pos, natAbs, _+ℤ_, _-ℤ_, _*ℤ_}
+use Rattle.lines.specs.Prelude.{_≡_, refl, sym, ap, ap₂, subst, _∙_, Bool, true, false, cond, List, [], _∷_, ℕ, zero, suc, _+_, _*_, _^_, _≤_, _<_, arith, T, ltb, length, getD, ℤ, pos, natAbs, _+ℤ_, _-ℤ_, _*ℤ_, Float, nan, binary64, ofInt, add, sub, Expr, con, _⊞_, _⊟_, _⊠_, nth, eval, tab}
 use Prim.Native.Nat.{zero-le}
 use borrow.Author.Tests.{ltb-true, ltb-false}
-use lib.Ieee.{Float, nan, binary64, ofInt, add, sub}
 use Rattle.algebra.specs.Test.{both, both-l, both-r}
-use Rattle.algebra.specs.Ring.{Expr, con, _⊞_, _⊟_, _⊠_, nth, eval}
 use Rattle.algebra.specs.Ring as ring
 use Rattle.algebra.specs.Forms.{evals, same, rings}
-use Rattle.sequences.specs.Tab.{tab}
 use Rattle.sequences.specs.TabLaws.{length-tab, getD-tab}
 use Rattle.sequences.specs.Grid.{tab-ext}
 use Rattle.floats.specs.Kernels.{Form, var, plus, minus, times, whole, float, counts, float-whole}

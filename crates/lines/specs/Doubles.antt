@@ -1,8 +1,5 @@
 -- Lines of whole numbers in double.
-use Rattle.algebra.specs.Prelude.{_≡_, cond, List, ℕ, _-_, _/_, _%_, _≤_, ltb, getD, ℤ, natAbs}
-use lib.Ieee.{Float, nan, binary64, ofInt, add, sub}
-use Rattle.sequences.specs.Tab.{tab}
-use Rattle.recipe.specs.Side.{Side}
+use Rattle.lines.specs.Prelude.{_≡_, cond, List, ℕ, _-_, _/_, _%_, _≤_, ltb, getD, ℤ, natAbs, Float, nan, binary64, ofInt, add, sub, tab, Side}
 use Rattle.lines.specs.Halfcomplex.{halfSumOf}
 
 -- z 0, .., z (n − 1)

@@ -1,9 +1,6 @@
 -- A line folded in halves. C(j+n/2) = −C(j), so a transform's even places need only the sums of numbers half a line apart, and its odd places only their
 -- differences; on the way back, the numbers of the two halves are the even places' sum and the odd places' sum, added and subtracted.
-use Rattle.algebra.specs.Prelude.{cond, ℕ, _+_, _*_, _%_, eqb, ℤ, pos, _+ℤ_, _-ℤ_, _*ℤ_}
-use Rattle.algebra.specs.Sums.{sumZ}
-use Rattle.recipe.specs.Side.{Side}
-use Rattle.recipe.specs.Tables.{side16}
+use Rattle.lines.specs.Prelude.{cond, ℕ, _+_, _*_, _%_, eqb, ℤ, pos, _+ℤ_, _-ℤ_, _*ℤ_, sumZ, Side, side16}
 use Rattle.lines.specs.Halfcomplex.{basisOf, halfBasisOf}
 
 -- ---- a line of any side

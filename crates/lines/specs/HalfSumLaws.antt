@@ -1,14 +1,10 @@
 -- Half of the sum back: twice it is the sum in which all places but 0 and n/2 count twice; and the bounds of the basis.
-use Rattle.algebra.specs.Prelude.{_≡_, refl, sym, ap, subst, _∙_, Bool, true, false, cond, [], _∷_, ℕ, zero, suc, _+_, _-_, _*_, _/_, _%_, _≤_, _<_, arith, eqb, lit≤, ℤ, pos, negsuc, natAbs, negℤ, _*ℤ_}
+use Rattle.lines.specs.Prelude.{_≡_, refl, sym, ap, subst, _∙_, Bool, true, false, cond, [], _∷_, ℕ, zero, suc, _+_, _-_, _*_, _/_, _%_, _≤_, _<_, arith, eqb, lit≤, ℤ, pos, negsuc, natAbs, negℤ, _*ℤ_, var, #_, _⊠_, ⊖_, ring, Side, cosAt, cosines, cosine16, side16, Rules}
 use native.Mathlib.Nat.{le-trans, zero-mul, suc-mul, mul-zero, mul-suc, mul-assoc, mul-comm, div-add-mod}
 use borrow.Author.Tests.{eqb-true, lt-ltb}
 use lib.IntN.{negℤ-negℤ}
 use Rattle.algebra.specs.Order.{abs-neg}
-use Rattle.algebra.specs.Ring.{var, #_, _⊠_, ⊖_, ring}
 use Rattle.algebra.specs.SumLaws.{sumZ-cong, sumZ-scale}
-use Rattle.recipe.specs.Side.{Side, cosAt}
-use Rattle.recipe.specs.Tables.{cosines, cosine16, side16}
-use Rattle.recipe.specs.TableRules.{Rules}
 use Rattle.recipe.specs.TableLaws.{rules16}
 use Rattle.lines.specs.Halfcomplex.{halfZ, frequencyOf, phaseOf, basisOf, backwardOf, halfBasisOf, halfSumOf, backward, halfSum}
 

@@ -1,9 +1,6 @@
 -- The halfcomplex form of a line of real numbers' transform: the real parts of its numbers 0..n/2, then the imaginary parts of 1..n/2−1; for a line of
 -- sixteen, those of 0..8 and of 1..7. The other numbers are conjugates of these.
-use Rattle.algebra.specs.Prelude.{cond, ℕ, suc, _+_, _-_, _*_, _/_, _%_, eqb, ltb, ℤ, pos, negsuc, negℤ, _*ℤ_}
-use Rattle.algebra.specs.Sums.{sumZ}
-use Rattle.recipe.specs.Side.{Side, cosAt}
-use Rattle.recipe.specs.Tables.{side16}
+use Rattle.lines.specs.Prelude.{cond, ℕ, suc, _+_, _-_, _*_, _/_, _%_, eqb, ltb, ℤ, pos, negsuc, negℤ, _*ℤ_, sumZ, Side, cosAt, side16}
 
 -- half of a number, toward 0
 unfoldable pub halfZ : ℤ → ℤ

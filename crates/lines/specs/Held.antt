@@ -1,9 +1,7 @@
 -- Numbers as the code holds them.
 use Rattle.algebra.specs.Prelude.{_≡_, refl, sym, subst, _∙_, List, [], _∷_, ℕ, zero, suc, _^_, T, ltb, getD, ℤ, pos, toZ-ofZ}
-use mir.Syntax.{Width}
-use mir.Val.{SFits, toZ, ofZ, hbits}
+use Rattle.lines.specs.Prelude.{Width, SFits, toZ, ofZ, hbits, nth}
 use Rattle.algebra.specs.Bound.{AtMost, most-fits}
-use Rattle.algebra.specs.Ring.{nth}
 use Rattle.lines.specs.Lines.{LineMost}
 
 -- a number of at most b

@@ -1,3 +1,4 @@
+pub mod Prelude
 pub mod Lines
 pub mod Tiles
 pub mod Held

@@ -1,12 +1,8 @@
 -- Two lines of any side side by side, number n of line p at 2n + p, folded in halves: the sums and the differences of numbers half a line apart, and the places
 -- of each line. And a loop that stores them by fours: places 4k .. 4k + 3, from the even and the odd places of both.
-use Rattle.algebra.specs.Prelude.{_≡_, refl, ap, ap₂, _∙_, List, [], _∷_, ℕ, zero, suc, _+_, _*_, _/_, _%_, _<_, arith, getD, set, ℤ, _+ℤ_, _-ℤ_}
-use lib.Ieee.{Float, nan, binary64, ofInt}
-use Rattle.sequences.specs.Tab.{tab}
+use Rattle.lines.specs.Prelude.{_≡_, refl, ap, ap₂, _∙_, List, [], _∷_, ℕ, zero, suc, _+_, _*_, _/_, _%_, _<_, arith, getD, set, ℤ, _+ℤ_, _-ℤ_, Float, nan, binary64, ofInt, tab, Side, Rules}
 use Rattle.sequences.specs.TabLaws.{Filled, fill-turn, getD-tab}
 use Rattle.sequences.specs.Grid.{tab-ext}
-use Rattle.recipe.specs.Side.{Side}
-use Rattle.recipe.specs.TableRules.{Rules}
 use Rattle.lines.specs.Halfcomplex.{halfcomplexOf}
 use Rattle.lines.specs.Fold.{sumOf, differenceOf, foldedOf}
 use Rattle.lines.specs.SideFolds.{even-folded, odd-folded, folds-ext}

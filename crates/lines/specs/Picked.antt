@@ -1,10 +1,7 @@
 -- Numbers of a line as the code holds them: eight, or sixteen.
-use Rattle.algebra.specs.Prelude.{_≡_, refl, ap, ap₂, _∙_, List, [], _∷_, T, ltb, getD, ℤ, pos, natAbs}
+use Rattle.lines.specs.Prelude.{_≡_, refl, ap, ap₂, _∙_, List, [], _∷_, T, ltb, getD, ℤ, pos, natAbs, Width, toZ, ofZ, hbits, tab}
 use Prim.Native.Nat.{ℕ, zero, suc, _^_, _≤_, zero-le}
-use mir.Syntax.{Width}
-use mir.Val.{toZ, ofZ, hbits}
 use Rattle.algebra.specs.Code.{Bounded}
-use Rattle.sequences.specs.Tab.{tab}
 use Rattle.lines.specs.Lines.{LineMost}
 use Rattle.lines.specs.Held.{held-is}
 

@@ -1,16 +1,10 @@
 -- The folds of a line in halves, for any side whose cosines keep the rules: each even place of the transform is that of the line of sums, each odd place
 -- that of the line of differences.
-use Rattle.algebra.specs.Prelude.{_≡_, refl, sym, ap, _∙_, Bool, true, false, not, cond, [], _∷_, ℕ, zero, suc, _+_, _-_, _*_, _/_, _≤_, _<_, T, ltb, arith, ℤ, negℤ, _+ℤ_, _-ℤ_, _*ℤ_}
+use Rattle.lines.specs.Prelude.{_≡_, refl, sym, ap, _∙_, Bool, true, false, not, cond, [], _∷_, ℕ, zero, suc, _+_, _-_, _*_, _/_, _≤_, _<_, T, ltb, arith, ℤ, negℤ, _+ℤ_, _-ℤ_, _*ℤ_, ltb→lt, nltb→le, var, _⊞_, _⊟_, _⊠_, ⊖_, ring, sumZ, Side, cosAt, side16, Rules, Doubled}
 use native.Mathlib.Nat.{mul-add, add-mul, mul-assoc, zero-mul, suc-mul}
-use lib.Dec.{ltb→lt, nltb→le}
 use lib.IntN.{negℤ-negℤ}
 use Rattle.algebra.specs.Laws.{*ℤ-distr}
-use Rattle.algebra.specs.Ring.{var, _⊞_, _⊟_, _⊠_, ⊖_, ring}
-use Rattle.algebra.specs.Sums.{sumZ}
 use Rattle.algebra.specs.SumLaws.{sumZ-cong, sumZ-add, sumZ-parts}
-use Rattle.recipe.specs.Side.{Side, cosAt}
-use Rattle.recipe.specs.Tables.{side16}
-use Rattle.recipe.specs.TableRules.{Rules, Doubled}
 use Rattle.lines.specs.Halfcomplex.{frequencyOf, phaseOf, basisOf, halfcomplexOf}
 use Rattle.lines.specs.Fold.{sumOf, differenceOf, foldedOf, folded}
 

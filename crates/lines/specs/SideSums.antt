@@ -1,15 +1,11 @@
 -- The sum back from a halfcomplex line in halves, for any side whose cosines keep the rules: its two halves are the sums and the differences of the even
 -- places' sum and the odd places' sum, and the even places of a line of twice the side are summed as a line of that side. So is half of the sum.
-use Rattle.algebra.specs.Prelude.{_≡_, refl, sym, ap, ap₂, _∙_, cond, [], _∷_, ℕ, zero, suc, _+_, _*_, _/_, _%_, _<_, arith, eqb, lit<, ℤ, negℤ, _+ℤ_, _-ℤ_, _*ℤ_}
+use Rattle.lines.specs.Prelude.{_≡_, refl, sym, ap, ap₂, _∙_, cond, [], _∷_, ℕ, zero, suc, _+_, _*_, _/_, _%_, _<_, arith, eqb, lit<, ℤ, negℤ, _+ℤ_, _-ℤ_, _*ℤ_, var, _⊞_, _⊠_, ⊖_, ring, sumZ, Side, Rules, Doubled}
 use native.Mathlib.Nat.{mul-assoc, div-add-mod}
 use borrow.Author.Tests.{eq-eqb, ne-eqb}
 use lib.Dec.{eqb·suc-zero}
 use lib.Arith.{mod-mul}
-use Rattle.algebra.specs.Ring.{var, _⊞_, _⊠_, ⊖_, ring}
-use Rattle.algebra.specs.Sums.{sumZ}
 use Rattle.algebra.specs.SumLaws.{sumZ-cong, sumZ-neg}
-use Rattle.recipe.specs.Side.{Side}
-use Rattle.recipe.specs.TableRules.{Rules, Doubled}
 use Rattle.lines.specs.Halfcomplex.{halfZ, basisOf, backwardOf, halfBasisOf, halfSumOf}
 use Rattle.lines.specs.Fold.{evenSumOf, oddSumOf, evenHalfOf}
 use Rattle.lines.specs.SideFolds.{basis-even, basis-odd, basis-doubled}

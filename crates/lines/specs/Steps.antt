@@ -1,10 +1,7 @@
 -- All steps of straight-line code on the numbers of a line, each at its width: that each fits, by one computed test.
-use Rattle.algebra.specs.Prelude.{Bool, true, List, [], _∷_, T, ltb, ℤ, pos}
+use Rattle.lines.specs.Prelude.{Bool, true, List, [], _∷_, T, ltb, ℤ, pos, Width, w16, w32, SFits, hbits, nth}
 use Prim.Native.Nat.{ℕ, zero, suc, _^_, zero-le}
-use mir.Syntax.{Width, w16, w32}
-use mir.Val.{SFits, hbits}
 use Rattle.algebra.specs.Test.{both, both-l, both-r}
-use Rattle.algebra.specs.Ring.{nth}
 use Rattle.algebra.specs.Fit.{sfits-abs}
 use Rattle.algebra.specs.Code.{Code, par, lit, Bounded, bnd, ok, raw, nthN, fits}
 use Rattle.lines.specs.Lines.{LineMost}

@@ -1,7 +1,6 @@
 -- Bounds of lines and of tiles: those of what a table holds.
-use Rattle.algebra.specs.Prelude.{List, [], ℤ, pos, natAbs}
+use Rattle.lines.specs.Prelude.{List, [], ℤ, pos, natAbs, tab}
 use Prim.Native.Nat.{ℕ, _≤_, zero-le}
-use Rattle.sequences.specs.Tab.{tab}
 use Rattle.sequences.specs.TabLaws.{tab-every}
 use Rattle.sequences.specs.Grid.{grid, cell}
 use Rattle.lines.specs.Lines.{LineMost, TileMost}

@@ -3,14 +3,11 @@ use Rattle.algebra.specs.Prelude.{_≡_, ap, ap₂, _∙_, cond, List, ℕ, _+_
 use native.Mathlib.Nat.{le-trans, add-le-add}
 use borrow.Author.Tests.{eq-eqb, ne-eqb}
 use lib.Dec.{T, eqb, ltb, ltb→lt, lt→ltb}
-use mir.Syntax.{Width}
-use mir.Val.{SFits, toZ, ofZ, hbits}
+use Rattle.lines.specs.Prelude.{Width, SFits, toZ, ofZ, hbits, tab, Side}
 use Rattle.algebra.specs.Order.{abs-add, abs-sub}
 use Rattle.algebra.specs.Bound.{AtMost, add-fits, sub-fits}
-use Rattle.sequences.specs.Tab.{tab}
 use Rattle.sequences.specs.TabLaws.{Filled, fill-turn, getD-tab}
 use Rattle.sequences.specs.Grid.{tab-ext}
-use Rattle.recipe.specs.Side.{Side}
 use Rattle.lines.specs.Fold.{sumOf, differenceOf, foldedOf}
 use Rattle.lines.specs.SideFolds.{folds-ext}
 use Rattle.lines.specs.Lines.{LineMost}

@@ -1,18 +1,12 @@
 -- The transposed sum of a line in double: the line that its two halves make.
-use Rattle.algebra.specs.Prelude.{_≡_, refl, sym, ap, ap₂, _∙_, Bool, true, false, cond, List, ℕ, _+_, _-_, _*_, _^_, _≤_, _<_, arith, ltb, getD, ℤ, natAbs, _*ℤ_}
+use Rattle.lines_back.specs.Prelude.{_≡_, refl, sym, ap, ap₂, _∙_, Bool, true, false, cond, List, ℕ, _+_, _-_, _*_, _^_, _≤_, _<_, arith, ltb, getD, ℤ, natAbs, _*ℤ_, Float, nan, binary64, ofInt, add, sub, sumZ, side16, basis, halfBasisOf, backward, halfSum, evenSumOf, oddSumOf, evenHalfOf, evenSum, oddSum, evenHalf, doubleLine, joinedAt}
 use borrow.Author.Tests.{ltb-true, ltb-false}
-use lib.Ieee.{Float, nan, binary64, ofInt, add, sub}
 use Rattle.algebra.specs.Order.{abs-mul-le}
-use Rattle.algebra.specs.Sums.{sumZ}
 use Rattle.algebra.specs.SumLaws.{abs-sum-bound}
 use Rattle.sequences.specs.TabLaws.{getD-tab}
-use Rattle.recipe.specs.Tables.{side16}
 use Rattle.recipe.specs.TableLaws.{rules16}
-use Rattle.lines.specs.Halfcomplex.{basis, halfBasisOf, backward, halfSum}
-use Rattle.lines.specs.Fold.{evenSumOf, oddSumOf, evenHalfOf, evenSum, oddSum, evenHalf}
 use Rattle.lines.specs.SideSums.{Halves, back-halves, half-halves}
 use Rattle.lines.specs.HalfSumLaws.{basis-most, half-basis-most}
-use Rattle.lines.specs.Doubles.{doubleLine, joinedAt}
 use Rattle.lines.specs.DoubleForms.{sum-exact, difference-exact}
 
 -- number n of a line

@@ -1,13 +1,10 @@
 -- Two lines side by side that a loop stores by fours: places 2n and 2n + 1 of either half, from the sums over the even and the odd places of both.
-use Rattle.algebra.specs.Prelude.{_≡_, sym, ap, _∙_, List, [], _∷_, ℕ, zero, suc, _+_, _-_, _*_, _/_, _%_, _≤_, _<_, arith, length, getD, set}
+use Rattle.lines_back.specs.Prelude.{_≡_, sym, ap, _∙_, List, [], _∷_, ℕ, zero, suc, _+_, _-_, _*_, _/_, _%_, _≤_, _<_, arith, length, getD, set, Float, nan, tab, joinedBy}
 use native.Mathlib.Decide.{ℕ-discrete}
 use borrow.Author.Tests.{lt-ltb, le-ltb}
 use lib.ListN.{length-set}
 use lib.Seq.{getD-set-same, getD-set-other}
-use lib.Ieee.{Float, nan}
-use Rattle.sequences.specs.Tab.{tab}
 use Rattle.sequences.specs.Grid.{tab-ext, tab-of}
-use Rattle.lines.specs.Doubles.{joinedBy}
 
 -- place l of two lines, from the sums s, s' of their even places and t, t' of their odd places
 abbrev pub byHalves : {A : Type 0} → (plus minus : Float → Float → A) (s s' t t' : List Float) → ℕ → A

@@ -2,19 +2,14 @@
 use Rattle.algebra.specs.Prelude.{_≡_, refl, sym, ap, ap₂, _∙_, Bool, true, false, cond, List, ℕ, _+_, _-_, _*_, _^_, _≤_, _<_, arith, ltb, lit≤, getD, ℤ, natAbs, _+ℤ_, _-ℤ_, w64, SFits, toZ, ofZ, toZ-ofZ}
 use native.Mathlib.Nat.{le-trans}
 use borrow.Author.Tests.{ltb-true, ltb-false}
-use lib.Ieee.{Float, nan, binary64, ofInt, toSigned}
+use Rattle.lines_back.specs.Prelude.{Float, nan, binary64, ofInt, toSigned, side16, halfSum, oddSum, evenHalf, doubleLine, WholeDouble, joinedBy, columnMost}
 use Rattle.algebra.specs.Bound.{add-fits, sub-fits}
 use Rattle.sequences.specs.TabLaws.{getD-tab}
-use Rattle.recipe.specs.Tables.{side16}
 use Rattle.recipe.specs.TableLaws.{rules16}
-use Rattle.lines.specs.Halfcomplex.{halfSum}
-use Rattle.lines.specs.Fold.{oddSum, evenHalf}
 use Rattle.lines.specs.SideSums.{Halves, half-halves}
 use Rattle.lines.specs.BackSizes.{even-half-most, odd-sum-most}
-use Rattle.lines.specs.Doubles.{doubleLine, WholeDouble, joinedBy}
 use Rattle.lines.specs.DoubleCasts.{whole-is, whole-most}
 use Rattle.lines.specs.Held.{number-is, number-most}
-use Rattle.lines.specs.Magnitudes.{columnMost}
 
 -- ---- two of them in 64 bits
 

@@ -1,19 +1,7 @@
 // The transposed transform of a halfcomplex line in double, for columns, and half of it for two rows side by side, folded in halves as the transform is:
 // from number n to number n + 8 the even places' sum stays and the odd places' sum changes its sign. No number on the way is above 2^53, so each is exact.
 // Number n of row p stands at 2n + p.
-ghost use mathlib.Core.Path.{_≡_};
-ghost use mathlib.Core.Bool.{true, false};
-ghost use mathlib.Core.List.{[], _∷_};
-ghost use Prim.Native.Nat.{_+_, _*_, _/_, _%_, _^_, _<_};
-ghost use lib.IntN.{pos, _+ℤ_, _-ℤ_};
-ghost use lib.ListN.{length};
-ghost use Rattle.sequences.specs.Tab.{tab};
-ghost use lib.Ieee.{binary64, ofInt, toSigned};
-ghost use Rattle.recipe.specs.Tables.{side16};
-ghost use Rattle.lines.specs.Halfcomplex.{backward, halfSum};
-ghost use Rattle.lines.specs.Fold.{evenSum, oddSum, evenHalf};
-ghost use Rattle.lines.specs.Magnitudes.{foldMost, columnMost};
-ghost use Rattle.lines.specs.Doubles.{doubleLine, From, HalvesOf, WholeDouble, WholeRow, joinedAt};
+ghost use Rattle.lines_back.specs.Prelude.{_≡_, true, false, [], _∷_, _+_, _*_, _/_, _%_, _^_, _<_, pos, _+ℤ_, _-ℤ_, length, tab, binary64, ofInt, toSigned, side16, backward, halfSum, evenSum, oddSum, evenHalf, foldMost, columnMost, doubleLine, From, HalvesOf, WholeDouble, WholeRow, joinedAt};
 
 // C(0) to C(3)
 const C0: f64 = 16384.0;

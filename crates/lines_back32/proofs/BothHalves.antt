@@ -1,27 +1,19 @@
 -- A line that a loop stores in both halves at once: number n and number n + h, which are the sums and the differences of two shorter lines.
 use mathlib.Core.Path.{fun-ext}
-use Rattle.algebra.specs.Prelude.{_≡_, refl, sym, ap, ap₂, _∙_, Bool, true, false, cond, List, ℕ, zero, suc, _+_, _-_, _*_, _/_, _%_, _^_, _≤_, _<_, arith, eqb, ltb, length, getD, set, ℤ, natAbs, _+ℤ_, _-ℤ_, _*ℤ_}
+use Rattle.lines_back32.specs.Prelude.{_≡_, refl, sym, ap, ap₂, _∙_, Bool, true, false, cond, List, ℕ, zero, suc, _+_, _-_, _*_, _/_, _%_, _^_, _≤_, _<_, arith, eqb, ltb, length, getD, set, ℤ, natAbs, _+ℤ_, _-ℤ_, _*ℤ_, Float, nan, binary64, ofInt, add, sub, sumZ, tab, side32, basisOf, halfBasisOf, backwardOf, halfSumOf, oddSumOf, doubleLine, longColumnMost}
 use native.Mathlib.Decide.{ℕ-discrete}
 use borrow.Author.Tests.{eq-eqb, ne-eqb, ltb-true, ltb-false}
 use lib.ListN.{length-set}
 use lib.Seq.{getD-set-same, getD-set-other}
-use lib.Ieee.{Float, nan, binary64, ofInt, add, sub}
 use Rattle.algebra.specs.Order.{abs-mul-le}
-use Rattle.algebra.specs.Sums.{sumZ}
 use Rattle.algebra.specs.SumLaws.{abs-sum-bound}
-use Rattle.sequences.specs.Tab.{tab}
 use Rattle.sequences.specs.TabLaws.{Filled, fill-turn, getD-tab}
 use Rattle.sequences.specs.Grid.{tab-ext, tab-of}
 use Rattle.recipe.specs.Tables.{side16}
-use Rattle.recipe.specs.Tables32.{side32}
 use Rattle.recipe.specs.TableLaws.{rules16}
 use Rattle.recipe.specs.TableLaws32.{rules32, doubled32}
-use Rattle.lines.specs.Halfcomplex.{basisOf, halfBasisOf, backwardOf, halfSumOf}
-use Rattle.lines.specs.Fold.{oddSumOf}
 use Rattle.lines.specs.SideSums.{Halves, back-halves, half-halves, even-back, even-half}
 use Rattle.lines.specs.HalfSumLaws.{basis-most, half-basis-most}
-use Rattle.lines.specs.Doubles.{doubleLine}
-use Rattle.lines.specs.Magnitudes.{longColumnMost}
 use Rattle.lines.specs.DoubleForms.{sum-exact, difference-exact}
 
 -- ---- the loop

@@ -1,20 +1,8 @@
 -- The odd places' sum of a line of thirty-two from its two parts, in whole numbers and, where noise is low, in double; and how large a part is.
-use Rattle.algebra.specs.Prelude.{_≡_, refl, ap, ap₂, _∙_, Bool, true, false, cond, List, [], _∷_, ℕ, _+_, _-_, _*_, _%_, _^_, _≤_, arith, eqb, ltb, lit≤, getD, ℤ, natAbs, _+ℤ_, _-ℤ_}
+use Rattle.lines_back32.specs.Prelude.{_≡_, refl, ap, ap₂, _∙_, Bool, true, false, cond, List, [], _∷_, ℕ, _+_, _-_, _*_, _%_, _^_, _≤_, arith, eqb, ltb, lit≤, getD, ℤ, natAbs, _+ℤ_, _-ℤ_, Float, nan, Expr, con, _⊞_, _⊟_, _⊠_, sumZ, sumN, rings, sumE, tab, Form, var, plus, minus, cosAt, cosines32, cosine32, side32, halfZ, frequencyOf, phaseOf, basisOf, oddSumOf, longColumnMost, doubleLine, From}
 use native.Mathlib.Nat.{le-trans}
-use lib.Ieee.{Float, nan}
-use Rattle.algebra.specs.Ring.{Expr, con, _⊞_, _⊟_, _⊠_}
 use Rattle.algebra.specs.Ring as ring
-use Rattle.algebra.specs.Sums.{sumZ, sumN}
-use Rattle.algebra.specs.Forms.{rings, sumE}
-use Rattle.sequences.specs.Tab.{tab}
-use Rattle.floats.specs.Kernels.{Form, var, plus, minus}
-use Rattle.recipe.specs.Side.{cosAt}
-use Rattle.recipe.specs.Tables32.{cosines32, cosine32, side32}
-use Rattle.lines.specs.Halfcomplex.{halfZ, frequencyOf, phaseOf, basisOf}
-use Rattle.lines.specs.Fold.{oddSumOf}
 use Rattle.lines.specs.BackSizes.{basis-period, summed, weighed}
-use Rattle.lines.specs.Magnitudes.{longColumnMost}
-use Rattle.lines.specs.Doubles.{doubleLine, From}
 use Rattle.lines.specs.DoubleForms.{floats, inDouble, exprs, forms-are}
 use Rattle.lines_back32.specs.Parts.{partBasis, cosinePart, sinePart, InParts}
 

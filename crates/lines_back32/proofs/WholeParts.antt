@@ -1,22 +1,13 @@
 -- The sums of two rows of thirty-two places whatever the noise: four parts of a row's sum are whole numbers of at most 2^53 in double, and in 64 bits they make
 -- half of the sum back.
 use mathlib.Core.Path.{fun-ext}
-use Rattle.algebra.specs.Prelude.{_≡_, sym, ap, ap₂, subst, _∙_, false, List, ℕ, _+_, _*_, _/_, _%_, _^_, _≤_, _<_, arith, lit≤, getD, ℤ, pos, natAbs, _+ℤ_, _-ℤ_}
+use Rattle.lines_back32.specs.Prelude.{_≡_, sym, ap, ap₂, subst, _∙_, false, List, ℕ, _+_, _*_, _/_, _%_, _^_, _≤_, _<_, arith, lit≤, getD, ℤ, pos, natAbs, _+ℤ_, _-ℤ_, Float, nan, sumN, tab, cosAt, cosines32, cosine32, side32, frequencyOf, phaseOf, basisOf, halfSumOf, oddSumOf, columnMost, longColumnMost, doubleLine, WholeDouble, WholeRow}
 use native.Mathlib.Nat.{le-trans}
-use lib.Ieee.{Float, nan}
-use Rattle.algebra.specs.Sums.{sumN}
-use Rattle.sequences.specs.Tab.{tab}
 use Rattle.sequences.specs.TabLaws.{getD-tab}
-use Rattle.recipe.specs.Side.{cosAt}
 use Rattle.recipe.specs.Tables.{side16}
-use Rattle.recipe.specs.Tables32.{cosines32, cosine32, side32}
-use Rattle.lines.specs.Halfcomplex.{frequencyOf, phaseOf, basisOf, halfSumOf}
-use Rattle.lines.specs.Fold.{oddSumOf}
 use Rattle.lines.specs.BackSizes.{half-sum-most, basis-period, summed, weighed}
 use Rattle.lines.specs.Lines.{LineMost}
 use Rattle.lines.specs.Tiles.{line-most}
-use Rattle.lines.specs.Magnitudes.{columnMost, longColumnMost}
-use Rattle.lines.specs.Doubles.{doubleLine, WholeDouble, WholeRow}
 use Rattle.lines_back32.specs.Parts.{cosinePart, sinePart, InParts}
 use Rattle.lines_back32.proofs.BothHalves.{number, long-half}
 use Rattle.lines_back32.proofs.PartSums.{partSum, cosine-most, sine-most}

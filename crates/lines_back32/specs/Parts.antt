@@ -1,12 +1,7 @@
 -- The sum over the odd places of a line of thirty-two in two parts: what the real parts add, against cosines, and what the imaginary parts add, against sines.
 -- From number n to number 16 − n the first changes its sign, and the second stays. At number 0 there is only the first, at number 8 only the second, and half
 -- of it is taken, so that it is below 2^53.
-use Rattle.algebra.specs.Prelude.{_≡_, cond, List, ℕ, _+_, _*_, _%_, _≤_, eqb, ℤ, natAbs, _*ℤ_}
-use lib.Ieee.{Float}
-use Rattle.algebra.specs.Sums.{sumZ}
-use Rattle.recipe.specs.Tables32.{side32}
-use Rattle.lines.specs.Halfcomplex.{halfZ, basisOf}
-use Rattle.lines.specs.Doubles.{doubleLine}
+use Rattle.lines_back32.specs.Prelude.{_≡_, cond, List, ℕ, _+_, _*_, _%_, _≤_, eqb, ℤ, natAbs, _*ℤ_, Float, sumZ, side32, halfZ, basisOf, doubleLine}
 
 unfoldable pub partBasis : (k n : ℕ) → ℤ
 partBasis k n = cond (eqb (n % 8) 0) (halfZ (basisOf side32 k n)) (basisOf side32 k n)

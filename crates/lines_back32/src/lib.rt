@@ -6,17 +6,7 @@ use lines_back::halves_of;
 use lines_back::whole_difference;
 use lines_back::whole_halves_of;
 use lines_back::whole_sum;
-ghost use mathlib.Core.Path.{_≡_};
-ghost use mathlib.Core.Bool.{true, false};
-ghost use Prim.Native.Nat.{_+_, _*_, _/_, _%_, _<_};
-ghost use lib.ListN.{length, getD};
-ghost use lib.Ieee.{nan};
-ghost use Rattle.sequences.specs.Tab.{tab};
-ghost use Rattle.recipe.specs.Tables32.{side32};
-ghost use Rattle.lines.specs.Halfcomplex.{backwardOf, halfSumOf};
-ghost use Rattle.lines.specs.Fold.{oddSumOf};
-ghost use Rattle.lines.specs.Magnitudes.{longFoldMost, longColumnMost};
-ghost use Rattle.lines.specs.Doubles.{doubleLine, From, HalvesOf, WholeLine};
+ghost use Rattle.lines_back32.specs.Prelude.{_≡_, true, false, _+_, _*_, _/_, _%_, _<_, length, getD, nan, tab, side32, backwardOf, halfSumOf, oddSumOf, longFoldMost, longColumnMost, doubleLine, From, HalvesOf, WholeLine};
 ghost use Rattle.lines_back32.specs.Parts.{cosinePart, sinePart, InParts};
 
 // half of C(0), and C(1) to C(7)

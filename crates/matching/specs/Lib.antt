@@ -1,3 +1,4 @@
+pub mod Prelude
 pub mod Magnitudes
 pub mod Stored
 pub mod StoredLaws

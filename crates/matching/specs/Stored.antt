@@ -1,6 +1,5 @@
 -- Inner vocabulary: a level's two images where they stand in the work area, and a tile of the reference in a local array.
-use Rattle.algebra.specs.Prelude.{_≡_, Bool, cond, List, ℕ, _+_, _*_, _%_, _≤_, ltb, length, ℤ, negsuc, _+ℤ_}
-use Rattle.geometry.specs.Fits.{TileSide}
+use Rattle.matching.specs.Prelude.{_≡_, Bool, cond, List, ℕ, _+_, _*_, _%_, _≤_, ltb, length, ℤ, negsuc, _+ℤ_, TileSide, _plus_, Within, Pair, residual, Kind}
 use Rattle.geometry.specs.Read.{read}
 use Rattle.pyramid.specs.Words.{imageAt, Source}
 use Rattle.residuals.specs.declared.Tile.{Tile}
@@ -9,13 +8,9 @@ use Rattle.matching.specs.declared.Area.{Area}
 use Rattle.matching.specs.declared.Found.{Found}
 use Rattle.matching.specs.Magnitudes.{guessMost, originMost}
 use Rattle.search.specs.declared.window.Best.{Best}
-use Rattle.search.specs.Vectors.{_plus_}
-use Rattle.patches.specs.Bounds.{Within}
 use Rattle.search.specs.Offsets.{offset}
-use Rattle.residuals.specs.Residual.{Pair, residual}
 use Rattle.search.specs.Search.{bestVector, guessed}
 use Rattle.search.specs.Rows.{searchRows}
-use Rattle.search.specs.Local.{Kind}
 use Rattle.patches.specs.Copies.{Copied}
 
 -- the images that stand there, read inside and outside

@@ -1,6 +1,6 @@
 -- From what is copied and searched to the answer for a tile.
 use mathlib.Core.Path.{_≡_, refl, sym, ap, _∙_, subst}
-use Rattle.algebra.specs.Prelude.{Bool, true, false, cond, List, ℕ, zero, suc, _+_, _*_, _/_, _%_, _^_, _≤_, _<_, arith, lit≤, ltb, length, getD, ℤ, pos, _+ℤ_}
+use Rattle.matching.specs.Prelude.{Bool, true, false, cond, List, ℕ, zero, suc, _+_, _*_, _/_, _%_, _^_, _≤_, _<_, arith, lit≤, ltb, length, getD, ℤ, pos, _+ℤ_, _plus_, Within, Pair, residual, squareSum, Low, windowRow, Window, Searched}
 use borrow.Author.Tests.{ltb-true, ltb-false}
 use native.Mathlib.Nat.{mul-le-mul, zero-mul, div-add-mod'}
 use Rattle.geometry.specs.Read.{inside, read}
@@ -11,19 +11,14 @@ use Rattle.geometry.specs.declared.vectors.Vector.{Vector}
 use Rattle.matching.specs.declared.Area.{Area}
 use Rattle.matching.specs.declared.Found.{Found}
 use Rattle.search.specs.declared.window.Best.{Best}
-use Rattle.search.specs.Vectors.{_plus_}
-use Rattle.patches.specs.Bounds.{Within}
 use Rattle.search.specs.VectorLaws.{within-more}
 use Rattle.search.specs.Offsets.{offset}
-use Rattle.residuals.specs.Residual.{Pair, residual}
 use Rattle.search.specs.Search.{bestVector, guessed}
 use Rattle.search.specs.SearchLaws.{found-within, guess-own, guess-sideways, guess-third, guess-last}
 use Rattle.search.specs.Rows.{offsetRows}
 use Rattle.search.specs.RowLaws.{offset-rows-most}
 use Rattle.algebra.specs.SumLaws.{sumN-bound}
 use Rattle.sequences.specs.Place.{row-below, column-below}
-use Rattle.residuals.specs.Local.{squareSum, Low}
-use Rattle.search.specs.Local.{windowRow, Window, Searched}
 use Rattle.patches.specs.Copies.{Copied, SquareCopy}
 use Rattle.search.specs.LocalLaws.{middle-residual, searched-finds}
 use Rattle.matching.specs.Stored.{pairIn, Stored, Placed, Ready, Around, Moved, answer, refined, leastOfThree}

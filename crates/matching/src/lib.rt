@@ -1,14 +1,5 @@
 // The vector of one tile: the residuals of candidates, the guess, and the search around it.
-ghost use mathlib.Core.Path.{_≡_};
-ghost use mathlib.Core.Bool.{true, false};
-ghost use Prim.Native.Nat.{_+_, _-_, _*_, _≤_, _<_, _^_};
-ghost use lib.ListN.{length};
-ghost use Rattle.search.specs.Vectors.{_plus_};
-ghost use Rattle.patches.specs.Bounds.{Within};
-ghost use Rattle.residuals.specs.Residual.{residual};
-ghost use Rattle.geometry.specs.Fits.{TileSide};
-ghost use Rattle.residuals.specs.Local.{squareSum, Compared};
-ghost use Rattle.search.specs.Local.{Window};
+ghost use Rattle.matching.specs.Prelude.{_≡_, true, false, _+_, _-_, _*_, _≤_, _<_, _^_, length, _plus_, Within, residual, TileSide, squareSum, Compared, Window};
 ghost use Rattle.residuals.specs.Magnitudes.{residualMost};
 ghost use Rattle.matching.specs.Magnitudes.{guessMost};
 ghost use Rattle.matching.specs.Stored.{pairIn, Stored, Placed, Ready, Around, OtherReady, RefineReady, CandidatesReady, Moved, refined, guessedIn, leastOfThree};

@@ -1,13 +1,10 @@
 -- The merge's rows, one row parity after the other, are the merge.
-use Rattle.algebra.specs.Prelude.{_≡_, ap, _∙_, List, ℕ, _+_, _-_, _*_, _/_, _%_, _≤_, _<_, arith, length, natAbs}
+use Rattle.merging.specs.Prelude.{_≡_, ap, _∙_, List, ℕ, _+_, _-_, _*_, _/_, _%_, _≤_, _<_, arith, length, natAbs, AllowedSize, TileSide, Scene, planeOutput, outputAt, wordAt, merged}
 use native.Mathlib.Nat.{mul-comm}
 use Rattle.sequences.specs.Tab.{tab}
 use Rattle.sequences.specs.Grid.{tab-ext}
 use Rattle.sequences.specs.Write.{written}
 use Rattle.sequences.specs.Place.{place-row, place-column}
-use Rattle.geometry.specs.Fits.{AllowedSize, TileSide}
-use Rattle.recipe.specs.Scene.{Scene}
-use Rattle.recipe.specs.Merged.{planeOutput, outputAt, wordAt, merged}
 use Rattle.gather.specs.RowsHeld.{wordBelow}
 use Rattle.merging.specs.Progress.{RowsMerged, mergedRows}
 use Rattle.gather.specs.RowLaws.{row-written, rows-whole, all-written}

@@ -1,12 +1,7 @@
 -- The rows of a band, and the bands of a row parity: a record for each loop, and how it starts, goes on and ends.
-use Rattle.algebra.specs.Prelude.{_≡_, subst, List, ℕ, _+_, _-_, _*_, _/_, _≤_, _<_, arith, length, ℤ}
+use Rattle.merging.specs.Prelude.{_≡_, subst, List, ℕ, _+_, _-_, _*_, _/_, _≤_, _<_, arith, length, ℤ, TileSide, Merge, sceneAt, sceneOf, Accepted, rowWords, Stored}
 use Rattle.sequences.specs.Written.{written}
 use Rattle.sequences.specs.Place.{row-room}
-use Rattle.geometry.specs.Fits.{TileSide}
-use Rattle.recipe.specs.declared.Merge.{Merge}
-use Rattle.recipe.specs.Scene.{sceneAt, sceneOf}
-use Rattle.tiles.specs.Accepted.{Accepted}
-use Rattle.tiles.specs.Rows.{rowWords, Stored}
 use Rattle.tiles.specs.Places.{by-side}
 use Rattle.gather.specs.Work.{Inside, Over, rowSpan, wordFrom}
 use Rattle.merging.specs.Progress.{Held, RowsMerged, BandMerged}

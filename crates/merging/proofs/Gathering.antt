@@ -1,10 +1,7 @@
 -- The recipe's output sample from what is taken from each of the four tiles.
-use Rattle.algebra.specs.Prelude.{_≡_, refl, subst, ℕ, _%_}
+use Rattle.merging.specs.Prelude.{_≡_, refl, subst, ℕ, _%_, Scene, planeOutput, takenIn}
 use Rattle.geometry.specs.Read.{planeOf}
 use Rattle.recipe.specs.Spatial.{filteredSample}
-use Rattle.recipe.specs.Scene.{Scene}
-use Rattle.recipe.specs.Merged.{planeOutput}
-use Rattle.tiles.specs.Sum.{takenIn}
 use Rattle.gather.specs.Gather.{windowed, corrected}
 use Rattle.gather.specs.HoldLaws.{takenOver}
 

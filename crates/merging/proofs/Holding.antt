@@ -1,20 +1,14 @@
 -- A row of pairs of tiles that is stored is held, and the row before it still is; the output's word of the two rows is the recipe's.
 use mathlib.Core.Path.{_≡_, refl, sym, ap, ap₂, _∙_, subst}
-use Rattle.algebra.specs.Prelude.{List, ℕ, _+_, _*_, _/_, _%_, _≤_, _<_, arith, length, getD, ℤ, pos, natAbs, _*ℤ_}
+use Rattle.merging.specs.Prelude.{List, ℕ, _+_, _*_, _/_, _%_, _≤_, _<_, arith, length, getD, ℤ, pos, natAbs, _*ℤ_, AllowedSize, TileSide, Merge, Scene, sceneAt, sceneOf, planeOutput, takenIn, takenMost, rowWords, slotOf, rowWord, Stored}
 use mathlib.Core.Logic.{⊎-elim}
 use Rattle.algebra.specs.SumLaws.{sumZ-cong}
 use Rattle.sequences.specs.Write.{written, written-in, written-before, written-after, written-length}
-use Rattle.geometry.specs.Fits.{AllowedSize, TileSide}
 use Rattle.recipe.specs.Output.{weightIn}
-use Rattle.recipe.specs.declared.Merge.{Merge}
-use Rattle.recipe.specs.Scene.{Scene, sceneAt, sceneOf}
 use Rattle.recipe.specs.Tables.{side16}
 use Rattle.recipe.specs.Tables32.{side32}
 use Rattle.recipe.specs.Sides.{sideOf}
-use Rattle.recipe.specs.Merged.{planeOutput}
 use Rattle.recipe.specs.SideLaws.{by-table}
-use Rattle.tiles.specs.Sum.{takenIn, takenMost}
-use Rattle.tiles.specs.Rows.{rowWords, slotOf, rowWord, Stored}
 use Rattle.gather.specs.Gather.{windowed, corrected}
 use Rattle.gather.specs.Work.{rowSpan, wordFrom}
 use Rattle.merging.specs.Progress.{Held}

@@ -1,9 +1,6 @@
 -- Inside this crate: a row of pairs of tiles that the work area holds, and rows of the output that are merged.
-use Rattle.algebra.specs.Prelude.{List, ℕ, _+_, _-_, _*_, _/_, ℤ}
+use Rattle.merging.specs.Prelude.{List, ℕ, _+_, _-_, _*_, _/_, ℤ, Scene, wordAt, takenIn}
 use Rattle.sequences.specs.Tab.{tab}
-use Rattle.recipe.specs.Scene.{Scene}
-use Rattle.recipe.specs.Merged.{wordAt}
-use Rattle.tiles.specs.Sum.{takenIn}
 use Rattle.gather.specs.RowsHeld.{RowHeld, wordBelow, RowsWritten}
 
 -- the work area holds a row of pairs of tiles of a merge

@@ -1,10 +1,6 @@
 -- Inside this crate: what the merge and each part of it require. A buffer that is only measured stands here as its length.
-use Rattle.algebra.specs.Prelude.{_≡_, List, ℕ, _+_, _-_, _*_, _/_, _≤_, _<_, length, ℤ}
+use Rattle.merging.specs.Prelude.{_≡_, List, ℕ, _+_, _-_, _*_, _/_, _≤_, _<_, length, ℤ, Merge, sceneOf, Accepted, rowWords}
 use Rattle.geometry.specs.Shape.{outputLength, workLength}
-use Rattle.recipe.specs.declared.Merge.{Merge}
-use Rattle.recipe.specs.Scene.{sceneOf}
-use Rattle.tiles.specs.Accepted.{Accepted}
-use Rattle.tiles.specs.Rows.{rowWords}
 use Rattle.merging.specs.Progress.{Held}
 
 -- the merge: accepted input, and an output and a work area of the right lengths

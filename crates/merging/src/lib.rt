@@ -1,10 +1,7 @@
 // The merge of a burst: the corrections of a row of pairs of tiles, then the rows of the output above it, one row parity after the other.
 mod planes;
 
-ghost use mathlib.Core.Path.{_≡_};
-ghost use lib.ListN.{length};
-ghost use Rattle.recipe.specs.Scene.{sceneOf};
-ghost use Rattle.recipe.specs.Merged.{merged};
+ghost use Rattle.merging.specs.Prelude.{_≡_, length, sceneOf, merged};
 ghost use Rattle.merging.specs.Ready.{Lent, RowsLent};
 ghost use Rattle.merging.specs.Progress.{mergedRows};
 use recipe::Merge;

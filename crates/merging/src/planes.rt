@@ -1,9 +1,5 @@
 // The two planes of a row parity: as many rows of the frame at a time as a tile has, half of them of the parity, between two rows of pairs of tiles.
-ghost use Prim.Native.Nat.{_*_, _/_, _<_, _≤_};
-ghost use lib.ListN.{length};
-ghost use Rattle.recipe.specs.Scene.{sceneOf};
-ghost use Rattle.tiles.specs.Accepted.{Accepted};
-ghost use Rattle.tiles.specs.Rows.{rowWords, Stored};
+ghost use Rattle.merging.specs.Prelude.{_*_, _/_, _<_, _≤_, length, sceneOf, Accepted, rowWords, Stored};
 ghost use Rattle.merging.specs.Ready.{ParityReady, BandReady};
 ghost use Rattle.merging.specs.Progress.{RowsMerged, BandMerged};
 use gather::output_row;

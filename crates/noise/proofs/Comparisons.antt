@@ -1,7 +1,6 @@
 -- The code's float comparisons decide the tests of the definitions, by cases on the float.
-use Rattle.algebra.specs.Prelude.{_≡_, refl, sym, _∙_, true, false, not, ℕ, zero, suc, _+_, _*_, _^_, _<_, arith, ltb, ℤ, pos}
+use Rattle.noise.specs.Prelude.{_≡_, refl, sym, _∙_, true, false, not, ℕ, zero, suc, _+_, _*_, _^_, _<_, arith, ltb, ℤ, pos, Float, nan, inf, fin, up, down, lt}
 use native.Mathlib.Nat.{mul-one, one-mul, zero-mul, add-zero, mul-pos}
-use lib.Ieee.{Float, nan, inf, fin, up, down, lt}
 use lib.Ieee.Fits.{up-pos}
 use borrow.Author.Tests.{lt-ltb, ltb-true}
 use Rattle.noise.specs.Level.{invalid, exceeds}

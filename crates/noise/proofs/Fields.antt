@@ -1,11 +1,10 @@
 -- What a float's sign, exponent field and fraction say of its value times 1024, cut to a whole number: a shift of the digits.
-use Rattle.algebra.specs.Prelude.{_≡_, refl, sym, ap, subst, _∙_, Bool, true, false, not, cond, _||_, ℕ, zero, suc, _+_, _-_, _*_, _/_, _%_, _^_, _≤_, _<_, arith}
+use Rattle.noise.specs.Prelude.{_≡_, refl, sym, ap, subst, _∙_, Bool, true, false, not, cond, _||_, ℕ, zero, suc, _+_, _-_, _*_, _/_, _%_, _^_, _≤_, _<_, arith, Float, nan, inf, fin, binary64, up, down, odd, fits, ofBits, ofFields, toBits}
 use native.Mathlib.Nat.{zero-mul, mul-assoc, mul-left-comm, mul-right-comm, mul-le-mul-right, le-of-mul-le-mul-right, div-eq-of-lt, lt-of-lt-of-le, le-trans, mod-lt, lt-of-not-le, not-le-of-lt, mul-le-mul}
 use lib.Bits.{bitAnd, bitOr, and-mask, or-shifted-r}
 use lib.Pow.{pow-pos, pow-mono, pow-add, shl-shr, shr-shr, field}
 use lib.Dec.{T, leb, eqb, leb→le, eqb→eq, lit<, lit≤}
 use mathlib.Core.Bool.{false≢true}
-use lib.Ieee.{Float, nan, inf, fin, binary64, up, down, odd, fits, ofBits, ofFields, toBits}
 use lib.Ieee.Bits.{ofBits-toBits}
 use lib.Ieee.Exact.{HasValue, odd-sign}
 use lib.Ieee.Fits.{down-pos, and-l, and-r}

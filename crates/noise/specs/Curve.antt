@@ -1,6 +1,5 @@
 -- The curve that a noise stands for.
-use Rattle.algebra.specs.Prelude.{ℕ, pos}
-use lib.Ieee.{Float, binary64, mul, div, ofInt}
+use Rattle.noise.specs.Prelude.{ℕ, pos, Float, binary64, mul, div, ofInt}
 use Rattle.noise.specs.declared.Curve.{Curve}
 use Rattle.noise.specs.declared.Noise.{Noise}
 use Rattle.noise.specs.declared.Noise.the-variants.{Measured, Iso}

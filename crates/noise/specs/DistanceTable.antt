@@ -1,9 +1,6 @@
 -- Inside the crates of the merge: m of each bin (u, v), u and v up to 8, as a table.
-use Rattle.algebra.specs.Prelude.{_≡_, refl, List, [], _∷_, ℕ}
-use Rattle.sequences.specs.Tab.{tab}
-use Rattle.sequences.specs.Grid.{grid}
+use Rattle.noise.specs.Prelude.{_≡_, refl, List, [], _∷_, ℕ, tab, grid, frequency, distance}
 use Rattle.recipe.specs.Root.{rootIn, wholeRoot}
-use Rattle.recipe.specs.SpatialNoise.{frequency, distance}
 
 unfoldable pub distances : List (List ℕ)
 distances =

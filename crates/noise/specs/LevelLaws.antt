@@ -1,12 +1,10 @@
 -- The levels of any noise are at most 65536 and 4194304, since its curve's numbers lie between 0 and the limits of refusal 9; and what refusals 9 and 10 let through.
-use Rattle.algebra.specs.Prelude.{_≡_, refl, sym, ap, subst, true, false, not, _||_, ℕ, zero, suc, _*_, _≤_, arith}
+use Rattle.noise.specs.Prelude.{_≡_, refl, sym, ap, subst, true, false, not, _||_, ℕ, zero, suc, _*_, _≤_, arith, Float, nan, inf, fin, up, down, first}
 use native.Mathlib.Nat.{div-le-of-le-mul, le-trans, mul-le-mul-right, zero-mul}
 use lib.Dec.{T, ltb, eqb, leb→le, le→leb, eqb→eq}
 use borrow.Author.Tests.{ltb-false}
-use lib.Ieee.{Float, nan, inf, fin, up, down}
 use lib.Ieee.Fits.{and-l, and-r, and-i}
 use Rattle.refusals.specs.Numbers as no
-use Rattle.refusals.specs.Tests.{first}
 use Rattle.refusals.specs.TestLaws.{among, passed, refuse-not}
 use Rattle.refusals.specs.After.{after}
 use Rattle.noise.specs.declared.Noise.{Noise}

@@ -1,7 +1,6 @@
 -- The levels Ls and Lr of a noise, and refusals 8, 9, 10, 18 and 24.
-use Rattle.algebra.specs.Prelude.{Bool, _||_, List, [], _∷_, ℕ, ltb, getD}
+use Rattle.noise.specs.Prelude.{Bool, _||_, List, [], _∷_, ℕ, ltb, getD, refuse, first}
 use Rattle.refusals.specs.Numbers as no
-use Rattle.refusals.specs.Tests.{refuse, first}
 use Rattle.refusals.specs.After.{after}
 use Rattle.refusals.specs.Some.{some}
 use Rattle.noise.specs.declared.Curve.{Curve}

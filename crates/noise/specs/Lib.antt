@@ -1,3 +1,4 @@
+pub mod Prelude
 pub mod Curve
 pub mod Level
 pub mod Levels

@@ -1,10 +1,7 @@
 -- V's bounds and its monotony in each of its arguments.
-use Rattle.algebra.specs.Prelude.{_≡_, ℕ, _≤_, arith, lit≤}
+use Rattle.noise.specs.Prelude.{_≡_, ℕ, _≤_, arith, lit≤, side16, side32, variance, noiseNumber}
 use native.Mathlib.Nat.{le-trans, add-le-add, mul-le-mul, mul-le-mul-left, zero-mul, mul-zero, zero-div}
 use Rattle.recipe.specs.Side.{Side}
-use Rattle.recipe.specs.Tables.{side16}
-use Rattle.recipe.specs.Tables32.{side32}
-use Rattle.recipe.specs.NoiseNumber.{variance, noiseNumber}
 
 -- no strength, or no level: no noise
 module _ (n : Side) where

@@ -1,10 +1,9 @@
 -- A curve that passes refusal 8 stays free of NaN and of negative numbers by ISO scaling, since the factors are finite and not negative; it can overflow to infinity.
-use Rattle.algebra.specs.Prelude.{_≡_, refl, sym, ap, subst, _∙_, Bool, true, false, not, cond, _&&_, _||_, arith, pos}
+use Rattle.noise.specs.Prelude.{_≡_, refl, sym, ap, subst, _∙_, Bool, true, false, not, cond, _&&_, _||_, arith, pos, Float, nan, inf, fin, binary64, up, down, odd, units, round, size, nearest, mul, div, ofInt, le, lt, eq}
 use Prim.Native.Nat.{ℕ, zero, suc, _-_, _*_, _/_, _%_, _^_, _<_, _≤_, compare}
 use native.Mathlib.Nat.{mul-one, zero-mul, mul-zero, mul-right-comm, mul-le-mul, mul-le-mul-right, le-of-mul-le-mul-right, le-of-eq, le-of-lt, le-trans, mul-pos}
 use lib.Dec.{T, ltb, eqb, ltb→lt, eqb→eq, lit≤}
 use borrow.Author.Tests.{ltb-false}
-use lib.Ieee.{Float, nan, inf, fin, binary64, up, down, odd, units, round, size, nearest, mul, div, ofInt, le, lt, eq}
 use lib.Ieee.Exact.{HasValue, odd-sign}
 use lib.Ieee.Fits.{down-pos, and-l}
 use lib.Ieee.Order.{round-mono}

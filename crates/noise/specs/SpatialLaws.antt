@@ -1,13 +1,10 @@
 -- V' at its bounds, and as the code works it out.
 use Rattle.algebra.specs.Prelude.{_≡_, refl, sym, ap, ap₂, subst, _∙_, Bool, true, false, cond, ℕ, _+_, _-_, _*_, _/_, _≤_, _<_, arith, lit≤, lit<, leb, ltb}
 use borrow.Author.Tests.{le-ltb, ltb-true, ltb-false}
-use lib.Dec.{leb→le}
+use Rattle.noise.specs.Prelude.{leb→le, side16, variance, frequency, distance, spatialNumber}
 use native.Mathlib.Nat.{le-trans, add-le-add, mul-le-mul, mul-le-mul-left, mul-comm, mul-assoc, le-div-iff-mul-le, div-mul-le-self}
 use Rattle.algebra.specs.Test.{all, all-sound}
-use Rattle.recipe.specs.Tables.{side16}
 use Rattle.recipe.specs.Root.{rootIn, wholeRoot}
-use Rattle.recipe.specs.NoiseNumber.{variance}
-use Rattle.recipe.specs.SpatialNoise.{frequency, distance, spatialNumber}
 use Rattle.noise.specs.SpatialRange.{SpatialRange, scaleMost}
 
 -- an index counts as 8 at most

@@ -1,6 +1,5 @@
 // The curve after ISO, its tests, and the floor of 1024 times a float.
-ghost use mathlib.Core.Path.{_≡_};
-ghost use lib.Dec.{T};
+ghost use Rattle.algebra.specs.Prelude.{_≡_, T};
 ghost use Rattle.refusals.specs.Tests.{first};
 ghost use Rattle.noise.specs.Curve.{atIso, curveOf};
 ghost use Rattle.noise.specs.Level.{invalid, floor1024};

@@ -2,13 +2,9 @@
 pub mod level;
 pub mod spatial;
 
-ghost use mathlib.Core.Path.{_≡_};
-ghost use Prim.Native.Nat.{_≤_};
+ghost use Rattle.noise.specs.Prelude.{_≡_, _≤_, side16, side32, noiseNumber};
 ghost use Rattle.noise.specs.Levels.{levelsOf, levelRefusal, strengthRefusal, blackRefusal, spatialRefusal};
-ghost use Rattle.recipe.specs.Tables.{side16};
-ghost use Rattle.recipe.specs.Tables32.{side32};
 ghost use Rattle.recipe.specs.Sides.{sideOf};
-ghost use Rattle.recipe.specs.NoiseNumber.{noiseNumber};
 ghost use Rattle.noise.specs.Range.{InRange};
 
 // The variance of a sample of expected value x is shot * x + read.

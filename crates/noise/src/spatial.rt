@@ -1,12 +1,5 @@
 // V' of each bin of a tile, for the spatial filter (request L13).
-ghost use mathlib.Core.Path.{_≡_};
-ghost use Prim.Native.Nat.{ℕ, _≤_, _<_, _*_, _/_};
-ghost use lib.ListN.{getD};
-ghost use Rattle.sequences.specs.Tab.{tab};
-ghost use Rattle.sequences.specs.Grid.{grid};
-ghost use Rattle.recipe.specs.Tables.{side16};
-ghost use Rattle.recipe.specs.NoiseNumber.{variance};
-ghost use Rattle.recipe.specs.SpatialNoise.{spatialNumber};
+ghost use Rattle.noise.specs.Prelude.{_≡_, ℕ, _≤_, _<_, _*_, _/_, getD, tab, grid, side16, variance, spatialNumber};
 ghost use Rattle.noise.specs.SpatialRange.{SpatialRange, scaleMost};
 
 // m of each bin: the whole root of 256·(u² + v²). Indices above 8 count as 16 minus themselves, and have no lines of their own.

@@ -1,11 +1,9 @@
 -- A pair whose columns are set one after the other. What they are set to may depend on a supposition H, as that the pair holds whole numbers.
-use Rattle.algebra.specs.Prelude.{_≡_, refl, ap, _∙_, cond, List, [], ℕ, _+_, _≤_, _<_, arith, eqb, length, getD, set}
+use Rattle.pairs.specs.Prelude.{_≡_, refl, ap, _∙_, cond, List, [], ℕ, _+_, _≤_, _<_, arith, eqb, length, getD, set, tab, Paired}
 use borrow.Author.Count.{below-more}
 use borrow.Author.Tests.{eq-eqb, ne-eqb}
-use Rattle.sequences.specs.Tab.{tab}
 use Rattle.sequences.specs.TabLaws.{length-tab, getD-tab}
 use Rattle.sequences.specs.Grid.{grid, cell, cell-grid, grid-ext, grid-of, set-tab, tab-ext}
-use Rattle.spectrum.specs.Pairs.{Paired}
 
 module _ {A : Type 0} {z : A} {t : List (List A)} where
   pub paired-grid : (f : ℕ → ℕ → A) → t ≡ grid 16 32 f → Paired z t

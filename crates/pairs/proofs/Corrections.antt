@@ -1,20 +1,13 @@
 -- P of the two planes of a pair of differences d at the noise numbers first and second, added to the tile s: the steps as the code hands them on are the
 -- recipe's.
-use Rattle.algebra.specs.Prelude.{_≡_, refl, ap, ap₂, _∙_, Bool, true, false, List, ℕ, _+_, _*_, _/_, _%_, _^_, _≤_, _<_, arith, eqb, lit<, lit≤, ℤ, pos, natAbs, _+ℤ_}
+use Rattle.pairs.specs.Prelude.{_≡_, refl, ap, ap₂, _∙_, Bool, true, false, List, ℕ, _+_, _*_, _/_, _%_, _^_, _≤_, _<_, arith, eqb, lit<, lit≤, ℤ, pos, natAbs, _+ℤ_, Float, away, side16, TileMost, differenceMost, partMost, foldMost, BinsOf, twoWay, transposed, spread, gainRe, gainIm, backSum, gainImOf, gainReOf, InDouble, Binned, BinnedPair, planeIn, sideBySide, either, doubles}
 use native.Mathlib.Nat.{le-trans}
-use lib.Ieee.{Float}
-use Rattle.algebra.specs.Nearest.{away}
 use Rattle.sequences.specs.Grid.{grid, cell, grid-ext}
-use Rattle.recipe.specs.Tables.{side16}
 use Rattle.recipe.specs.Correction.{quantized, filtered, correctionAt}
-use Rattle.lines.specs.Lines.{TileMost}
 use Rattle.lines.specs.Tiles.{cells-most}
-use Rattle.lines.specs.Magnitudes.{differenceMost, partMost, foldMost}
 use Rattle.spectrum.specs.Magnitudes.{noiseMost, lowNoise}
-use Rattle.spectrum.specs.Spectrum.{BinsOf, twoWay, transposed, spread, gainRe, gainIm, backSum, gainImOf, gainReOf}
 use Rattle.spectrum.specs.SpectrumLaws.{bin-re, bin-im}
 use Rattle.spectrum.specs.WienerLaws.{wiener-root}
-use Rattle.spectrum.specs.Pairs.{InDouble, Binned, BinnedPair, planeIn, sideBySide, either, doubles}
 use Rattle.spectrum.specs.Apart.{cond-cases}
 use Rattle.spectrum.specs.PlaceLaws.{back-ext}
 use Rattle.spectrum.specs.CorrectionLaws.{corrected}

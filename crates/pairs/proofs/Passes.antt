@@ -1,23 +1,14 @@
 -- The two passes of the transform, and those of the inverse, on a pair.
-use Rattle.algebra.specs.Prelude.{_≡_, sym, ap, subst, _∙_, Bool, true, false, List, [], ℕ, suc, _+_, _*_, _/_, _%_, _^_, _≤_, arith, lit<, lit≤, ℤ, pos, negsuc, natAbs, negℤ, _+ℤ_, _*ℤ_}
+use Rattle.pairs.specs.Prelude.{_≡_, sym, ap, subst, _∙_, Bool, true, false, List, [], ℕ, suc, _+_, _*_, _/_, _%_, _^_, _≤_, arith, lit<, lit≤, ℤ, pos, negsuc, natAbs, negℤ, _+ℤ_, _*ℤ_, Float, binary64, ofInt, tab, away, halfcomplex, backward, halfSum, differenceMost, pairLineMost, foldMost, columnMost, LineMost, TileMost, side16, twoWay, transposed, backSum, apartOf, backSumOf, countedOf, InDouble, planeIn, sideBySide, doubles}
 use Prim.Native.Nat.{zero-le}
 use native.Mathlib.Nat.{le-trans}
-use lib.Ieee.{Float, binary64, ofInt}
-use Rattle.sequences.specs.Tab.{tab}
 use Rattle.sequences.specs.TabLaws.{tab-each}
 use Rattle.sequences.specs.Grid.{grid, cell, cell-grid, grid-ext}
-use Rattle.algebra.specs.Nearest.{away}
 use Rattle.algebra.specs.NearestLaws.{away-odd}
-use Rattle.lines.specs.Halfcomplex.{halfcomplex, backward, halfSum}
 use Rattle.lines.specs.HalfSumLaws.{half-sum}
 use Rattle.lines.specs.BackSizes.{backward-most}
-use Rattle.lines.specs.Magnitudes.{differenceMost, pairLineMost, foldMost, columnMost}
-use Rattle.lines.specs.Lines.{LineMost, TileMost}
 use Rattle.lines.specs.Tiles.{line-most}
-use Rattle.recipe.specs.Tables.{side16}
-use Rattle.spectrum.specs.Spectrum.{twoWay, transposed, backSum, apartOf, backSumOf, countedOf}
 use Rattle.spectrum.specs.SpectrumLaws.{columns-first}
-use Rattle.spectrum.specs.Pairs.{InDouble, planeIn, sideBySide, doubles}
 use Rattle.spectrum.specs.LineLaws.{halfcomplex-ext, halfcomplex-most}
 
 -- a pair of small numbers

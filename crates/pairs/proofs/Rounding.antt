@@ -2,23 +2,14 @@
 use Rattle.algebra.specs.Prelude.{_≡_, sym, ap, ap₂, subst, _∙_, Bool, true, false, not, List, [], ℕ, _+_, _*_, _/_, _%_, _^_, _≤_, _<_, arith, T, ltb, lit<, lit≤, getD, ℤ, pos, natAbs, _+ℤ_, _-ℤ_, w64, SFits, toZ, ofZ, toZ-ofZ}
 use native.Mathlib.Nat.{le-trans}
 use mir.ValLaws.{toZ-pos}
-use lib.Ieee.{Float, nan, isNan, binary64, ofInt, add, mul}
+use Rattle.pairs.specs.Prelude.{Float, nan, isNan, binary64, ofInt, add, mul, away, tab, middle, middleBits, side16, doubleLine, HalvesOf, WholeDouble, WholeRow, halfSum, LineMost, columnMost, halfMost, InDouble, doubles}
 use Rattle.algebra.specs.Bound.{AtMost, add-fits}
-use Rattle.algebra.specs.Nearest.{away}
 use Rattle.sequences.specs.TabLaws.{getD-tab}
-use Rattle.sequences.specs.Tab.{tab}
 use Rattle.sequences.specs.Grid.{grid, tab-ext}
-use Rattle.floats.specs.Middle.{middle, middleBits}
 use Rattle.floats.specs.ProductLaws.{fraction, product-bits, product-bits-below, product-number}
-use Rattle.recipe.specs.Tables.{side16}
-use Rattle.lines.specs.Doubles.{doubleLine, HalvesOf, WholeDouble, WholeRow}
-use Rattle.lines.specs.Halfcomplex.{halfSum}
 use Rattle.lines.specs.BackSizes.{half-sum-most}
 use Rattle.lines.specs.Held.{number-is, number-most}
-use Rattle.lines.specs.Lines.{LineMost}
 use Rattle.lines.specs.Tiles.{line-most}
-use Rattle.lines.specs.Magnitudes.{columnMost, halfMost}
-use Rattle.spectrum.specs.Pairs.{InDouble, doubles}
 use Rattle.spectrum.specs.RoundingLaws.{away-most}
 use Rattle.pairs.specs.Rounded.{roundedBits, roundedDouble}
 

@@ -1,16 +1,5 @@
 // The first pass of the two-way transform, down the columns of a pair of differences.
-ghost use mathlib.Core.Path.{_≡_};
-ghost use mathlib.Core.Bool.{cond};
-ghost use Prim.Native.Nat.{_<_};
-ghost use lib.Dec.{eqb};
-ghost use lib.IntN.{pos};
-ghost use lib.ListN.{getD};
-ghost use Rattle.sequences.specs.Tab.{tab};
-ghost use Rattle.sequences.specs.Grid.{grid, cell};
-ghost use Rattle.lines.specs.Halfcomplex.{halfcomplex};
-ghost use Rattle.lines.specs.Magnitudes.{differenceMost};
-ghost use Rattle.lines.specs.Lines.{TileMost};
-ghost use Rattle.spectrum.specs.Pairs.{Paired};
+ghost use Rattle.pairs.specs.Prelude.{_≡_, cond, _<_, eqb, pos, getD, tab, grid, cell, halfcomplex, differenceMost, TileMost, Paired};
 
 // Column l of a pair, as a line.
 fn column(d: &[[i16; 32]; 16], l: usize) -> [i16; 16]

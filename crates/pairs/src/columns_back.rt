@@ -1,15 +1,5 @@
 // The first pass of the inverse, down the columns of a pair of folded spectra, in place.
-ghost use mathlib.Core.Path.{_≡_};
-ghost use mathlib.Core.Bool.{false, cond};
-ghost use Prim.Native.Nat.{_<_};
-ghost use lib.Dec.{eqb};
-ghost use lib.ListN.{getD};
-ghost use Rattle.sequences.specs.Tab.{tab};
-ghost use Rattle.sequences.specs.Grid.{grid, cell};
-ghost use Rattle.lines.specs.Halfcomplex.{backward};
-ghost use Rattle.lines.specs.Magnitudes.{foldMost};
-ghost use Rattle.spectrum.specs.Pairs.{Paired, InDouble, doubles};
-ghost use lib.Ieee.{nan};
+ghost use Rattle.pairs.specs.Prelude.{_≡_, false, cond, _<_, eqb, getD, tab, grid, cell, backward, foldMost, Paired, InDouble, doubles, nan};
 
 // Column l of a pair, as a line.
 fn column(g: &[[f64; 32]; 16], l: usize) -> [f64; 16]

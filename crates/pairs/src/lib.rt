@@ -7,15 +7,8 @@ mod rows_back;
 use exact_wiener::filter_exactly;
 use quiet::low_noise;
 use wiener::filter;
-ghost use mathlib.Core.Path.{_≡_};
-ghost use Prim.Native.Nat.{_^_, _≤_};
-ghost use lib.Ieee.{nan};
-ghost use lib.IntN.{pos};
-ghost use Rattle.recipe.specs.Tables.{side16};
-ghost use Rattle.lines.specs.Magnitudes.{differenceMost, foldMost};
-ghost use Rattle.lines.specs.Lines.{TileMost};
+ghost use Rattle.pairs.specs.Prelude.{_≡_, _^_, _≤_, pos, nan, side16, differenceMost, foldMost, TileMost, Paired, InDouble, BinnedPair, GainsOf, byColumns, planeBins, pairGains, InverseAdded, correctionIn, added, doubles};
 ghost use Rattle.spectrum.specs.Magnitudes.{noiseMost};
-ghost use Rattle.spectrum.specs.Pairs.{Paired, InDouble, BinnedPair, GainsOf, byColumns, planeBins, pairGains, InverseAdded, correctionIn, added, doubles};
 
 // b: B of both planes of a pair of tiles of differences, in exact whole numbers.
 pub fn forward_into(d: &[[i16; 32]; 16], b: &mut [[f64; 32]; 16])

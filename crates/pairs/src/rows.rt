@@ -1,13 +1,6 @@
 // The second pass of the two-way transform, along the rows of a pair that the pass down the columns leaves. Its kernel is called from two places, so that it is
 // compiled by itself.
-ghost use mathlib.Core.Path.{_≡_};
-ghost use lib.IntN.{pos};
-ghost use Rattle.sequences.specs.Grid.{cell};
-ghost use Rattle.lines.specs.Halfcomplex.{halfcomplex};
-ghost use Rattle.lines.specs.Magnitudes.{pairLineMost};
-ghost use Rattle.lines.specs.Lines.{TileMost};
-ghost use Rattle.spectrum.specs.Pairs.{Paired, planeIn, sideBySide, doubles};
-ghost use lib.Ieee.{nan};
+ghost use Rattle.pairs.specs.Prelude.{_≡_, pos, cell, halfcomplex, pairLineMost, TileMost, Paired, planeIn, sideBySide, doubles, nan};
 
 // r: the transforms of each row's two lines.
 pub fn rows(t: &[[i32; 32]; 16], r: &mut [[f64; 32]; 16])

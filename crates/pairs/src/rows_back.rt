@@ -2,19 +2,7 @@
 // noise is low that is below 5·2^49, and all is in double; else it is made of its two parts in 64 bits. A row's step is called from two places, so that it is
 // compiled by itself.
 use rounding::round_away_31;
-ghost use mathlib.Core.Path.{_≡_};
-ghost use mathlib.Core.Bool.{true, false};
-ghost use Prim.Native.Nat.{_+_, _*_, _/_, _%_, _^_};
-ghost use lib.IntN.{pos, _+ℤ_};
-ghost use lib.ListN.{length, getD};
-ghost use Rattle.algebra.specs.Bound.{AtMost};
-ghost use Rattle.algebra.specs.Nearest.{away};
-ghost use Rattle.sequences.specs.Tab.{tab};
-ghost use Rattle.lines.specs.Halfcomplex.{halfSum};
-ghost use Rattle.lines.specs.Lines.{LineMost, TileMost};
-ghost use Rattle.lines.specs.Doubles.{WholeDouble, WholeRow};
-ghost use Rattle.lines.specs.Magnitudes.{columnMost, halfMost};
-ghost use Rattle.spectrum.specs.Pairs.{Paired, InDouble, planeIn, added};
+ghost use Rattle.pairs.specs.Prelude.{_≡_, true, false, _+_, _*_, _/_, _%_, _^_, pos, _+ℤ_, length, getD, AtMost, away, tab, halfSum, LineMost, TileMost, WholeDouble, WholeRow, columnMost, halfMost, Paired, InDouble, planeIn, added};
 ghost use Rattle.pairs.specs.Rounded.{roundedDouble};
 
 // 2^-31·(1 + 2^-52): a product with it lies above the quotient by 2^31, by too little for anything but a half to be rounded otherwise

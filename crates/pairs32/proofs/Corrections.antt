@@ -1,22 +1,14 @@
 -- P of the two planes of a pair of differences d at the noise numbers first and second, added to the tile s: the steps as the code hands them on are the
 -- recipe's.
-use Rattle.algebra.specs.Prelude.{_≡_, refl, ap, ap₂, _∙_, Bool, true, false, List, ℕ, _+_, _*_, _/_, _%_, _^_, _≤_, _<_, arith, eqb, lit≤, lit<, ℤ, pos, natAbs, _+ℤ_}
+use Rattle.pairs32.specs.Prelude.{_≡_, refl, ap, ap₂, _∙_, Bool, true, false, List, ℕ, _+_, _*_, _/_, _%_, _^_, _≤_, _<_, arith, eqb, lit≤, lit<, ℤ, pos, natAbs, _+ℤ_, Float, away, side32, TileMost, differenceMost, longPartMost, longFoldMost, BinsHeld, twoWayOf, transposed, spreadOf, gainReOf, gainImOf, backSumOf, planeIn, sideBySide, either, LongInDouble, LongBinned, LongBinnedPair, longDoubles}
 use native.Mathlib.Nat.{le-trans}
-use lib.Ieee.{Float}
-use Rattle.algebra.specs.Nearest.{away}
 use Rattle.sequences.specs.Grid.{grid, cell, grid-ext}
-use Rattle.recipe.specs.Tables32.{side32}
 use Rattle.recipe.specs.Correction.{quantized, filtered, correctionAt}
-use Rattle.lines.specs.Lines.{TileMost}
 use Rattle.lines.specs.Tiles.{cells-most}
-use Rattle.lines.specs.Magnitudes.{differenceMost, longPartMost, longFoldMost}
 use Rattle.spectrum.specs.Magnitudes.{longNoiseMost, longLowNoise}
-use Rattle.spectrum.specs.Spectrum.{BinsHeld, twoWayOf, transposed, spreadOf, gainReOf, gainImOf, backSumOf}
 use Rattle.spectrum.specs.Turns.{turns32}
 use Rattle.spectrum.specs.SpectrumLaws.{bin-re-of, bin-im-of}
 use Rattle.spectrum.specs.WienerLaws.{wiener-root}
-use Rattle.spectrum.specs.Pairs.{planeIn, sideBySide, either}
-use Rattle.spectrum.specs.LongPairs.{LongInDouble, LongBinned, LongBinnedPair, longDoubles}
 use Rattle.spectrum.specs.BinLaws.{long-binned}
 use Rattle.spectrum.specs.Apart.{cond-cases}
 use Rattle.spectrum.specs.PlaceLaws.{back-ext}

@@ -1,22 +1,12 @@
 -- The two passes of the transform, and those of the inverse, on a pair.
-use Rattle.algebra.specs.Prelude.{_≡_, sym, ap, subst, _∙_, Bool, true, false, List, [], ℕ, suc, _+_, _*_, _/_, _%_, _^_, _≤_, arith, lit<, lit≤, ℤ, pos, negsuc, natAbs, negℤ, _+ℤ_, _*ℤ_}
+use Rattle.pairs32.specs.Prelude.{_≡_, sym, ap, subst, _∙_, Bool, true, false, List, [], ℕ, suc, _+_, _*_, _/_, _%_, _^_, _≤_, arith, lit<, lit≤, ℤ, pos, negsuc, natAbs, negℤ, _+ℤ_, _*ℤ_, Float, binary64, ofInt, tab, away, halfcomplexOf, backwardOf, halfSumOf, differenceMost, longLineMost, longFoldMost, longColumnMost, LineMost, TileMost, side32, twoWayOf, transposed, backSumOf, apartOf, countedOf, planeIn, sideBySide, LongInDouble, longDoubles}
 use Prim.Native.Nat.{zero-le}
 use native.Mathlib.Nat.{le-trans}
-use lib.Ieee.{Float, binary64, ofInt}
-use Rattle.sequences.specs.Tab.{tab}
 use Rattle.sequences.specs.TabLaws.{tab-each}
 use Rattle.sequences.specs.Grid.{grid, cell, cell-grid, grid-ext}
-use Rattle.algebra.specs.Nearest.{away}
 use Rattle.algebra.specs.NearestLaws.{away-odd}
-use Rattle.lines.specs.Halfcomplex.{halfcomplexOf, backwardOf, halfSumOf}
 use Rattle.lines.specs.BackSizes.{long-backward-most}
-use Rattle.lines.specs.Magnitudes.{differenceMost, longLineMost, longFoldMost, longColumnMost}
-use Rattle.lines.specs.Lines.{LineMost, TileMost}
 use Rattle.lines.specs.Tiles.{line-most}
-use Rattle.recipe.specs.Tables32.{side32}
-use Rattle.spectrum.specs.Spectrum.{twoWayOf, transposed, backSumOf, apartOf, countedOf}
-use Rattle.spectrum.specs.Pairs.{planeIn, sideBySide}
-use Rattle.spectrum.specs.LongPairs.{LongInDouble, longDoubles}
 use Rattle.spectrum.specs.LongLines.{half-sum, columns-first, halfcomplex-ext, halfcomplex-most}
 
 -- a pair of small numbers

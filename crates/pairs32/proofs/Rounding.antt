@@ -1,24 +1,15 @@
 -- P of a whole number in double, and a sum that it is added to.
-use Rattle.recipe.specs.Tables32.{side32}
+use Rattle.pairs32.specs.Prelude.{side32, Float, isNan, binary64, ofInt, add, mul, away, tab, middle, middleBits, doubleLine, HalvesOf, WholeDouble, WholeLine, halfSumOf, LineMost, longColumnMost, longHalfMost, LongInDouble, longDoubles}
 use Rattle.algebra.specs.Prelude.{_≡_, sym, ap, ap₂, subst, _∙_, Bool, true, false, not, List, [], ℕ, _+_, _*_, _/_, _%_, _^_, _≤_, _<_, arith, T, ltb, lit<, lit≤, getD, ℤ, pos, natAbs, _+ℤ_, _-ℤ_, w64, SFits, toZ, ofZ, toZ-ofZ}
 use native.Mathlib.Nat.{le-trans}
 use mir.ValLaws.{toZ-pos}
-use lib.Ieee.{Float, isNan, binary64, ofInt, add, mul}
 use Rattle.algebra.specs.Bound.{AtMost, add-fits}
-use Rattle.algebra.specs.Nearest.{away}
 use Rattle.sequences.specs.TabLaws.{getD-tab}
-use Rattle.sequences.specs.Tab.{tab}
 use Rattle.sequences.specs.Grid.{grid, tab-ext}
-use Rattle.floats.specs.Middle.{middle, middleBits}
 use Rattle.floats.specs.ProductLaws.{fraction, product-bits, product-bits-below, product-number}
-use Rattle.lines.specs.Doubles.{doubleLine, HalvesOf, WholeDouble, WholeLine}
-use Rattle.lines.specs.Halfcomplex.{halfSumOf}
 use Rattle.lines.specs.BackSizes.{long-half-sum-most}
-use Rattle.lines.specs.Lines.{LineMost}
 use Rattle.lines.specs.Tiles.{line-most}
 use Rattle.lines.specs.Held.{number-is, number-most}
-use Rattle.lines.specs.Magnitudes.{longColumnMost, longHalfMost}
-use Rattle.spectrum.specs.LongPairs.{LongInDouble, longDoubles}
 use Rattle.spectrum.specs.RoundingLaws.{away-most}
 use Rattle.pairs32.specs.Rounded.{roundedBits, roundedDouble}
 

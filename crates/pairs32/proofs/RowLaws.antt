@@ -1,13 +1,10 @@
 -- A tile of sixteen rows that are set two at a time, y and 16 + y. What they are set to may depend on a supposition H.
-use Rattle.algebra.specs.Prelude.{_≡_, refl, sym, ap, _∙_, Bool, true, false, List, [], ℕ, _+_, _-_, _≤_, _<_, arith, ltb, length, getD, set}
+use Rattle.pairs32.specs.Prelude.{_≡_, refl, sym, ap, _∙_, Bool, true, false, List, [], ℕ, _+_, _-_, _≤_, _<_, arith, ltb, length, getD, set, tab, cell, LongPaired}
 use lib.ListN.{length-set}
 use lib.Seq.{ext-getD, getD-set-same, getD-set-other}
 use borrow.Author.Count.{below-more}
 use borrow.Author.Tests.{ltb-true, ltb-false}
-use Rattle.sequences.specs.Tab.{tab}
 use Rattle.sequences.specs.TabLaws.{length-tab, getD-tab}
-use Rattle.sequences.specs.Grid.{cell}
-use Rattle.spectrum.specs.LongPairs.{LongPaired}
 use Rattle.pairs32.proofs.ColumnLaws.{paired-line}
 
 -- rows k and 16 + k of t are a and b

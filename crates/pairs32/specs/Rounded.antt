@@ -1,7 +1,5 @@
 -- P of a whole number in double, as the code takes it.
-use Rattle.algebra.specs.Prelude.{ℕ, ℤ, pos, _-ℤ_}
-use lib.Ieee.{Float, binary64, add, mul, toBits}
-use Rattle.floats.specs.Middle.{middle, middleBits}
+use Rattle.pairs32.specs.Prelude.{ℕ, ℤ, pos, _-ℤ_, Float, binary64, add, mul, toBits, middle, middleBits}
 use Rattle.floats.specs.ProductLaws.{fraction}
 
 -- x over 2^31, from the bits of its sum with 1.5·2^52

@@ -1,17 +1,5 @@
 // The first pass of the two-way transform, down the columns of a pair of differences.
-ghost use mathlib.Core.Path.{_≡_};
-ghost use Rattle.recipe.specs.Tables32.{side32};
-ghost use mathlib.Core.Bool.{cond};
-ghost use Prim.Native.Nat.{_<_};
-ghost use lib.Dec.{eqb};
-ghost use lib.IntN.{pos};
-ghost use lib.ListN.{getD};
-ghost use Rattle.sequences.specs.Tab.{tab};
-ghost use Rattle.sequences.specs.Grid.{grid, cell};
-ghost use Rattle.lines.specs.Halfcomplex.{halfcomplexOf};
-ghost use Rattle.lines.specs.Magnitudes.{differenceMost};
-ghost use Rattle.lines.specs.Lines.{TileMost};
-ghost use Rattle.spectrum.specs.LongPairs.{LongPaired};
+ghost use Rattle.pairs32.specs.Prelude.{_≡_, cond, _<_, eqb, pos, getD, side32, tab, grid, cell, halfcomplexOf, differenceMost, TileMost, LongPaired};
 
 // Column l of a pair, as a line.
 fn column(d: &[[i16; 64]; 32], l: usize) -> [i16; 32]

@@ -1,16 +1,5 @@
 // The first pass of the inverse, down the columns of a pair of folded spectra, in place.
-ghost use mathlib.Core.Path.{_≡_};
-ghost use Rattle.recipe.specs.Tables32.{side32};
-ghost use mathlib.Core.Bool.{false, cond};
-ghost use Prim.Native.Nat.{_<_};
-ghost use lib.Dec.{eqb};
-ghost use lib.ListN.{getD};
-ghost use Rattle.sequences.specs.Tab.{tab};
-ghost use Rattle.sequences.specs.Grid.{grid, cell};
-ghost use Rattle.lines.specs.Halfcomplex.{backwardOf};
-ghost use Rattle.lines.specs.Magnitudes.{longFoldMost};
-ghost use Rattle.spectrum.specs.LongPairs.{LongPaired, LongInDouble, longDoubles};
-ghost use lib.Ieee.{nan};
+ghost use Rattle.pairs32.specs.Prelude.{_≡_, false, cond, _<_, eqb, getD, side32, tab, grid, cell, backwardOf, longFoldMost, LongPaired, LongInDouble, longDoubles, nan};
 
 // Column l of a pair, as a line.
 fn column(g: &[[f64; 64]; 32], l: usize) -> [f64; 32]

@@ -7,16 +7,8 @@ mod rows_back;
 use exact_wiener32::filter_exactly;
 use quiet::long_low_noise;
 use wiener32::filter;
-ghost use mathlib.Core.Path.{_≡_};
-ghost use Prim.Native.Nat.{_^_, _≤_};
-ghost use lib.Ieee.{nan};
-ghost use lib.IntN.{pos};
-ghost use Rattle.recipe.specs.Tables32.{side32};
-ghost use Rattle.lines.specs.Magnitudes.{differenceMost, longFoldMost};
-ghost use Rattle.lines.specs.Lines.{TileMost};
+ghost use Rattle.pairs32.specs.Prelude.{_≡_, _^_, _≤_, pos, nan, side32, differenceMost, longFoldMost, TileMost, byColumns, planeBins, pairGains, correctionIn, added, LongPaired, LongInDouble, LongInverseAdded, longDoubles};
 ghost use Rattle.spectrum.specs.Magnitudes.{longNoiseMost};
-ghost use Rattle.spectrum.specs.Pairs.{byColumns, planeBins, pairGains, correctionIn, added};
-ghost use Rattle.spectrum.specs.LongPairs.{LongPaired, LongInDouble, LongInverseAdded, longDoubles};
 
 // b: B of both planes, in exact whole numbers.
 fn forward(d: &[[i16; 64]; 32], b: &mut [[f64; 64]; 32])

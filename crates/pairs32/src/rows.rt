@@ -1,15 +1,6 @@
 // The second pass of the two-way transform, along the rows of a pair that the pass down the columns leaves. Its kernel is called from two places, so that it is
 // compiled by itself.
-ghost use mathlib.Core.Path.{_≡_};
-ghost use Rattle.recipe.specs.Tables32.{side32};
-ghost use lib.IntN.{pos};
-ghost use Rattle.sequences.specs.Grid.{cell};
-ghost use Rattle.lines.specs.Halfcomplex.{halfcomplexOf};
-ghost use Rattle.lines.specs.Magnitudes.{longLineMost};
-ghost use Rattle.lines.specs.Lines.{TileMost};
-ghost use Rattle.spectrum.specs.Pairs.{planeIn, sideBySide};
-ghost use Rattle.spectrum.specs.LongPairs.{LongPaired, longDoubles};
-ghost use lib.Ieee.{nan};
+ghost use Rattle.pairs32.specs.Prelude.{_≡_, pos, side32, cell, halfcomplexOf, longLineMost, TileMost, planeIn, sideBySide, LongPaired, longDoubles, nan};
 
 // r: the transforms of each row's two lines.
 pub fn rows(t: &[[i32; 64]; 32], r: &mut [[f64; 64]; 32])

@@ -1,21 +1,7 @@
 // The second pass of the inverse, along the rows of a pair that the pass down the columns leaves: half of each sum back, which over 2^31 is P. Its kernel is
 // called from two places, so that it is compiled by itself.
 use rounding::round_away_31;
-ghost use mathlib.Core.Path.{_≡_};
-ghost use Rattle.recipe.specs.Tables32.{side32};
-ghost use mathlib.Core.Bool.{true, false};
-ghost use Prim.Native.Nat.{_+_, _*_, _/_, _%_, _^_};
-ghost use lib.IntN.{pos, _+ℤ_};
-ghost use lib.ListN.{length, getD};
-ghost use Rattle.algebra.specs.Bound.{AtMost};
-ghost use Rattle.algebra.specs.Nearest.{away};
-ghost use Rattle.sequences.specs.Tab.{tab};
-ghost use Rattle.lines.specs.Halfcomplex.{halfSumOf};
-ghost use Rattle.lines.specs.Lines.{LineMost, TileMost};
-ghost use Rattle.lines.specs.Magnitudes.{longColumnMost, longHalfMost};
-ghost use Rattle.lines.specs.Doubles.{WholeDouble, WholeLine};
-ghost use Rattle.spectrum.specs.Pairs.{planeIn, added};
-ghost use Rattle.spectrum.specs.LongPairs.{LongPaired, LongInDouble};
+ghost use Rattle.pairs32.specs.Prelude.{_≡_, true, false, _+_, _*_, _/_, _%_, _^_, pos, _+ℤ_, length, getD, side32, AtMost, away, tab, halfSumOf, LineMost, TileMost, longColumnMost, longHalfMost, WholeDouble, WholeLine, planeIn, added, LongPaired, LongInDouble};
 ghost use Rattle.pairs32.specs.Rounded.{roundedDouble};
 
 // 2^-31·(1 + 2^-52): a product with it lies above the quotient by 2^31, by too little for anything but a half to be rounded otherwise

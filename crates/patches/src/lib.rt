@@ -1,8 +1,5 @@
 // Squares of an image of the work area, copied into local arrays: the rule for reading outside is paid once.
-ghost use mathlib.Core.Path.{_≡_};
-ghost use Prim.Native.Nat.{_+_, _*_, _%_, _≤_, _<_, _^_};
-ghost use lib.IntN.{pos, _+ℤ_};
-ghost use lib.ListN.{length};
+ghost use Rattle.algebra.specs.Prelude.{_≡_, _+_, _*_, _%_, _≤_, _<_, _^_, pos, _+ℤ_, length};
 ghost use Rattle.algebra.specs.Bound.{AtMost};
 ghost use Rattle.geometry.specs.Read.{read};
 ghost use Rattle.sequences.specs.Tab.{tab};

@@ -1,15 +1,11 @@
 -- Bytes are accepted exactly when they are the file of a frame that the lent one is as long as; and which number refuses any others.
-use Rattle.algebra.specs.Prelude.{_≡_, refl, sym, ap, ap₂, _∙_, Bool, true, false, List, [], _∷_, _++_, ℕ, _*_, _≤_, _<_, arith, ltb, length, getD, drop}
+use Rattle.pgm.specs.Prelude.{_≡_, refl, sym, ap, ap₂, _∙_, Bool, true, false, List, [], _∷_, _++_, ℕ, _*_, _≤_, _<_, arith, ltb, length, getD, drop, first, lengthRefusal, pgmHeader, bytesOf, someAbove, aboveRefusal, samplesOf}
 use lib.Seq.{drop-append-seam}
 use borrow.Author.Tests.{ltb-false, lt-ltb, le-ltb}
 use Rattle.refusals.specs.Numbers as no
-use Rattle.refusals.specs.Tests.{first}
 use Rattle.refusals.specs.TestLaws.{here, there, passed, refuse-not}
 use Rattle.refusals.specs.SomeLaws.{one, none, not-one, every}
-use Rattle.geometry.specs.Shape.{lengthRefusal}
 use Rattle.geometry.specs.ShapeLaws.{right-length}
-use Rattle.pgm_header.specs.Header.{pgmHeader}
-use Rattle.pgm_samples.specs.Samples.{bytesOf, someAbove, aboveRefusal, samplesOf}
 use Rattle.pgm.specs.Form.{fileOf, PgmFile, fileLength}
 use Rattle.pgm.specs.Writing.{writeRefusal}
 use Rattle.pgm.specs.Reading.{widthIn, heightIn, samplesAs, samplesIn, formed, refusalAs, readRefusal}

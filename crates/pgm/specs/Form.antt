@@ -1,8 +1,5 @@
 -- L2, the PGM file of a frame: "`P5`, LF, width, a space, height, LF, `4095`, LF, then each sample as two bytes, high byte first".
-use Rattle.algebra.specs.Prelude.{_≡_, Bool, true, cond, _&&_, List, _++_, ℕ, _+_, _*_, _≤_, length, getD}
-use Rattle.geometry.specs.Shape.{sizeAllowed}
-use Rattle.pgm_header.specs.Header.{pgmHeader}
-use Rattle.pgm_samples.specs.Samples.{bytesOf}
+use Rattle.pgm.specs.Prelude.{_≡_, Bool, true, cond, _&&_, List, _++_, ℕ, _+_, _*_, _≤_, length, getD, sizeAllowed, pgmHeader, bytesOf}
 
 -- the whole file
 unfoldable pub fileOf : (width height : ℕ) (frame : List ℕ) → List ℕ

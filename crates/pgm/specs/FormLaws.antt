@@ -1,17 +1,13 @@
 -- Sizes that are allowed, and the lengths that follow from them.
-use Rattle.algebra.specs.Prelude.{_≡_, refl, sym, ap, _∙_, Bool, true, not, ℕ, _+_, _*_, _/_, _%_, _≤_, arith, T, ltb}
+use Rattle.pgm.specs.Prelude.{_≡_, refl, sym, ap, _∙_, Bool, true, not, ℕ, _+_, _*_, _/_, _%_, _≤_, arith, T, ltb, refuse, lengthRefusal, pgmHeader, bytesOf}
 use mathlib.Core.List.{List, [], _∷_, _++_, append-nil}
 use native.Mathlib.Nat.{mul-assoc, mul-le-mul, mul-mod-left}
 use lib.ListN.{length, take, drop, length-append, drop-of-length-le}
 use lib.Seq.{take-at}
 use borrow.Author.Tests.{eq-eqb, ne-eqb, not-false}
-use Rattle.refusals.specs.Tests.{refuse}
 use Rattle.refusals.specs.TestLaws.{refuse-not}
-use Rattle.geometry.specs.Shape.{lengthRefusal}
 use Rattle.geometry.specs.ShapeLaws.{both, allowed-size}
 use Rattle.printing.specs.Put.{put, Printed}
-use Rattle.pgm_header.specs.Header.{pgmHeader}
-use Rattle.pgm_samples.specs.Samples.{bytesOf}
 use Rattle.pgm.specs.Form.{fileOf, fileLength, sizesAllowed}
 use Rattle.pgm.specs.Fits.{Sized}
 

@@ -1,13 +1,11 @@
 -- The header of bytes: its test, and the size that is read off it.
-use Rattle.algebra.specs.Prelude.{_≡_, sym, ap, _∙_, true, false, not, ℕ, _+_, _*_, _≤_, _<_, arith, eqb}
+use Rattle.pgm.specs.Prelude.{_≡_, sym, ap, _∙_, true, false, not, ℕ, _+_, _*_, _≤_, _<_, arith, eqb, decimal, pgmHeader, leading}
 use mathlib.Core.List.{List, [], _∷_, _++_, append-assoc}
 use lib.ListN.{length, getD, take, drop, length-append, length-drop, take-append-drop, List·getD-append}
 use lib.Seq.{length-take-le, getD-take, ext-getD, drop-drop, drop-append-add}
 use borrow.Author.Tests.{eq-eqb, eqb-true, not-true, not-false}
 use Rattle.geometry.specs.ShapeLaws.{both}
 use Rattle.refusals.specs.SomeLaws.{none, not-one}
-use Rattle.printing.specs.Decimal.{decimal}
-use Rattle.pgm_header.specs.Header.{pgmHeader, leading}
 use Rattle.pgm.specs.Form.{fileLength, sizesAllowed}
 use Rattle.pgm.specs.Fits.{Sized}
 use Rattle.pgm.specs.Reading.{widthIn, heightIn, differs, formed}

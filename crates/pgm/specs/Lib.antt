@@ -1,3 +1,4 @@
+pub mod Prelude
 pub mod Form
 pub mod Writing
 pub mod Reading

@@ -1,15 +1,9 @@
 -- Reading a PGM file into a lent frame, "only in that spelling, with width and height handed back": "reading 17, 6, 11".
-use Rattle.algebra.specs.Prelude.{_≡_, Bool, not, _&&_, List, [], _∷_, ℕ, _+_, _*_, eqb, length, getD, drop}
+use Rattle.pgm.specs.Prelude.{_≡_, Bool, not, _&&_, List, [], _∷_, ℕ, _+_, _*_, eqb, length, getD, drop, refuse, first, after, lengthRefusal, decimal, pgmHeader, leading, aboveRefusal, samplesOf}
 use Rattle.refusals.specs.Numbers as no
-use Rattle.refusals.specs.Tests.{refuse, first}
-use Rattle.refusals.specs.After.{after}
 use Rattle.refusals.specs.Some.{some}
-use Rattle.geometry.specs.Shape.{lengthRefusal}
-use Rattle.printing.specs.Decimal.{decimal}
 use Rattle.pgm.specs.declared.PgmRead.{PgmRead}
-use Rattle.pgm_header.specs.Header.{pgmHeader, leading}
 use Rattle.pgm.specs.Form.{PgmFile, fileLength, sizesAllowed}
-use Rattle.pgm_samples.specs.Samples.{aboveRefusal, samplesOf}
 
 -- the only width and the only height that the bytes can be a file of: an allowed size has at most four digits
 unfoldable pub widthIn : List ℕ → ℕ

@@ -1,7 +1,6 @@
 -- The size of a PGM file's frame: what reading tests before the frame's length and the samples.
-use Rattle.algebra.specs.Prelude.{not, List, ℕ}
+use Rattle.pgm.specs.Prelude.{not, List, ℕ, refuse}
 use Rattle.refusals.specs.Numbers as no
-use Rattle.refusals.specs.Tests.{refuse}
 use Rattle.pgm.specs.declared.PgmRead.{PgmRead}
 use Rattle.pgm.specs.Reading.{widthIn, heightIn, formed, pgmAnswer}
 

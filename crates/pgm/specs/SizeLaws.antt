@@ -1,11 +1,7 @@
 -- The size of a file and the reading of it agree.
-use Rattle.algebra.specs.Prelude.{_≡_, refl, sym, ap, _∙_, Bool, true, false, not, List, [], _∷_, ℕ, zero, suc, arith, length}
+use Rattle.pgm.specs.Prelude.{_≡_, refl, sym, ap, _∙_, Bool, true, false, not, List, [], _∷_, ℕ, zero, suc, arith, length, refuse, _before_, first, after, lengthRefusal, aboveRefusal}
 use Rattle.refusals.specs.Numbers as no
-use Rattle.refusals.specs.Tests.{refuse, _before_, first}
 use Rattle.refusals.specs.TestLaws.{here, passed}
-use Rattle.refusals.specs.After.{after}
-use Rattle.geometry.specs.Shape.{lengthRefusal}
-use Rattle.pgm_samples.specs.Samples.{aboveRefusal}
 use Rattle.pgm.specs.declared.PgmRead.{PgmRead}
 use Rattle.pgm.specs.Reading.{widthIn, heightIn, formed, samplesAs, refusalAs, readRefusal, pgmAnswer, ReadsPgm}
 use Rattle.pgm.specs.Size.{formRefusal, pgmSize}

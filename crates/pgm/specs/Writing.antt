@@ -1,10 +1,6 @@
 -- Writing a frame into a lent byte buffer: "Writing tests 1, 6, 16, 11".
-use Rattle.algebra.specs.Prelude.{_≡_, not, List, [], _∷_, ℕ, _*_, length}
+use Rattle.pgm.specs.Prelude.{_≡_, not, List, [], _∷_, ℕ, _*_, length, refuse, first, after, lengthRefusal, aboveRefusal}
 use Rattle.refusals.specs.Numbers as no
-use Rattle.refusals.specs.Tests.{refuse, first}
-use Rattle.refusals.specs.After.{after}
-use Rattle.geometry.specs.Shape.{lengthRefusal}
-use Rattle.pgm_samples.specs.Samples.{aboveRefusal}
 use Rattle.pgm.specs.Form.{fileOf, fileLength, sizesAllowed}
 
 -- 1: "W or H not allowed"; 6: "a frame buffer of wrong length"; 16: "a byte buffer of wrong length when writing"

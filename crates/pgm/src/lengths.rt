@@ -1,6 +1,5 @@
 // The test of a size, and the length of a file.
-ghost use mathlib.Core.Path.{_≡_};
-ghost use Prim.Native.Nat.{_≤_};
+ghost use Rattle.algebra.specs.Prelude.{_≡_, _≤_};
 ghost use Rattle.pgm.specs.Form.{fileLength, sizesAllowed, pgmLength};
 ghost use Rattle.pgm.specs.Fits.{Sized};
 use pgm_header::header_length;

@@ -1,8 +1,5 @@
 // Reading a frame.
-ghost use mathlib.Core.Path.{_≡_};
-ghost use Prim.Native.Nat.{_≤_};
-ghost use lib.ListN.{length};
-ghost use Rattle.pgm_header.specs.Header.{pgmHeader};
+ghost use Rattle.pgm.specs.Prelude.{_≡_, _≤_, length, pgmHeader};
 ghost use Rattle.pgm.specs.Reading.{differs, formed, refusalAs, refusedPgm, ReadsPgm};
 ghost use Rattle.pgm.specs.Size.{pgmSize};
 use crate::PgmRead;

@@ -1,7 +1,5 @@
 // Decimal numbers of at most four digits.
-ghost use mathlib.Core.Path.{_≡_};
-ghost use Prim.Native.Nat.{_≤_};
-ghost use lib.ListN.{length, drop};
+ghost use Rattle.algebra.specs.Prelude.{_≡_, _≤_, length, drop};
 ghost use Rattle.printing.specs.Decimal.{decimal};
 ghost use Rattle.pgm_header.specs.Header.{leading};
 

@@ -1,9 +1,7 @@
 // What stands before the samples of a PGM file: put at the start of a buffer, measured, and its numbers read.
 pub mod digits;
 
-ghost use mathlib.Core.Path.{_≡_};
-ghost use Prim.Native.Nat.{_≤_};
-ghost use lib.ListN.{length};
+ghost use Rattle.algebra.specs.Prelude.{_≡_, _≤_, length};
 ghost use Rattle.printing.specs.Put.{Printed};
 ghost use Rattle.pgm_header.specs.Header.{pgmHeader};
 use crate::digits::digits;

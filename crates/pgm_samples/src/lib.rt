@@ -1,8 +1,5 @@
 // The samples of a PGM file: the test of them, and the two bytes of each, put and read. The loops have no branches, so that they become vector instructions.
-ghost use mathlib.Core.Path.{_≡_};
-ghost use Prim.Native.Nat.{_+_, _*_, _%_, _≤_};
-ghost use lib.Dec.{ltb};
-ghost use lib.ListN.{length, getD, drop};
+ghost use Rattle.algebra.specs.Prelude.{_≡_, _+_, _*_, _%_, _≤_, ltb, length, getD, drop};
 ghost use Rattle.sequences.specs.Write.{written};
 ghost use Rattle.refusals.specs.Some.{some};
 ghost use Rattle.printing.specs.Put.{Printed};

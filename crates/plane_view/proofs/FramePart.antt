@@ -1,10 +1,7 @@
 -- A frame's part lies in the burst, and its planes are half as wide and high.
-use Rattle.algebra.specs.Prelude.{_≡_, ap, List, ℕ, _+_, _-_, _*_, _/_, _≤_, _<_, arith, length, take, drop}
-use Rattle.geometry.specs.declared.Shape.{Shape}
-use Rattle.geometry.specs.Shape.{frameStride, sampleLength}
+use Rattle.plane_view.specs.Prelude.{_≡_, ap, List, ℕ, _+_, _-_, _*_, _/_, _≤_, _<_, arith, length, take, drop, Shape, frameStride, sampleLength, Sampled}
 use Rattle.geometry.specs.ShapeLaws.{samples-most}
 use Rattle.geometry.specs.ReadLaws.{frame-room}
-use Rattle.geometry.specs.Fits.{Sampled}
 use Rattle.plane_view.specs.View.{framePart, Planar}
 
 -- the slice that is lent

@@ -1,10 +1,7 @@
 -- Places of a plane are places of its frame, and a frame is small.
-use Rattle.algebra.specs.Prelude.{_≡_, ap, _∙_, List, ℕ, _+_, _*_, _/_, _%_, _^_, _≤_, _<_, arith, lit≤, length, getD, ℤ, pos, negsuc, natAbs, _+ℤ_}
+use Rattle.plane_view.specs.Prelude.{_≡_, ap, _∙_, List, ℕ, _+_, _*_, _/_, _%_, _^_, _≤_, _<_, arith, lit≤, length, getD, ℤ, pos, negsuc, natAbs, _+ℤ_, _≤ℤ_, tab, sampleIndex, sampleAt, planeOf, inside, read}
 use native.Mathlib.Nat.{le-trans, mul-le-mul, mul-le-mul-right, add-mul}
-use lib.Signed.{_≤ℤ_}
-use Rattle.sequences.specs.Tab.{tab}
 use Rattle.sequences.specs.Grid.{tab-ext}
-use Rattle.geometry.specs.Read.{sampleIndex, sampleAt, planeOf, inside, read}
 use Rattle.geometry.specs.ReadLaws.{inside-same}
 use Rattle.plane_view.specs.View.{rowLengthOf, planeImage, planeSample, pairRow, Shaped, FrameRows, RowStart}
 

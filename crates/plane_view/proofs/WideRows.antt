@@ -1,10 +1,8 @@
 -- A row of a pair of side 32 that reaches over an edge is two rows of thirty-two, one after the other.
-use Rattle.algebra.specs.Prelude.{_≡_, ap, ap₂, _∙_, List, ℕ, _+_, _*_, _/_, _%_, _<_, arith, length, getD, ℤ, pos, _+ℤ_}
+use Rattle.plane_view.specs.Prelude.{_≡_, ap, ap₂, _∙_, List, ℕ, _+_, _*_, _/_, _%_, _<_, arith, length, getD, ℤ, pos, _+ℤ_, tab, inside}
 use lib.IntN.{+ℤ-assoc}
-use Rattle.sequences.specs.Tab.{tab}
 use Rattle.sequences.specs.TabLaws.{getD-tab}
 use Rattle.sequences.specs.Write.{written, write-start, write-part, write-done, written-all}
-use Rattle.geometry.specs.Read.{inside}
 
 module _ (start : ℕ) (x : ℤ) (samples : List ℕ) (width : ℕ) where
   abbrev place : (x : ℤ) (l : ℕ) → ℕ

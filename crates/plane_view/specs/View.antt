@@ -1,10 +1,5 @@
 -- What a view of one plane reads: samples of the plane, and tiles of it and of the plane beside it, by the list of its frame's samples.
-use Rattle.algebra.specs.Prelude.{_≡_, List, ℕ, _+_, _*_, _/_, _%_, _^_, _≤_, _<_, length, take, drop, ℤ, pos, natAbs, _+ℤ_}
-use Rattle.sequences.specs.Tab.{tab}
-use Rattle.sequences.specs.Grid.{grid}
-use Rattle.geometry.specs.declared.Shape.{Shape}
-use Rattle.geometry.specs.Shape.{frameStride}
-use Rattle.geometry.specs.Read.{Image, sampleAt, planeOf, inside, read}
+use Rattle.plane_view.specs.Prelude.{_≡_, List, ℕ, _+_, _*_, _/_, _%_, _^_, _≤_, _<_, length, take, drop, ℤ, pos, natAbs, _+ℤ_, tab, grid, Shape, frameStride, Image, sampleAt, planeOf, inside, read}
 
 -- the row length of a frame of `count` words, whose planes have `height` rows
 abbrev pub rowLengthOf : (count height : ℕ) → ℕ

@@ -1,13 +1,9 @@
 -- A view of a frame's part of the burst reads the burst's plane.
-use Rattle.algebra.specs.Prelude.{_≡_, sym, ap, _∙_, List, ℕ, _+_, _*_, _/_, _<_, arith, ℤ, pos, _+ℤ_}
+use Rattle.plane_view.specs.Prelude.{_≡_, sym, ap, _∙_, List, ℕ, _+_, _*_, _/_, _<_, arith, ℤ, pos, _+ℤ_, Shape, frameStride, sampleLength, Allowed, Image, sampleIndex, sampleAt, planeOf, read}
 use native.Mathlib.Nat.{mul-comm, mul-div-cancel}
 use lib.ListN.{length, getD, length-take, length-drop}
 use lib.Seq.{getD-take, getD-drop}
 use Rattle.sequences.specs.Grid.{grid-ext}
-use Rattle.geometry.specs.declared.Shape.{Shape}
-use Rattle.geometry.specs.Shape.{frameStride, sampleLength}
-use Rattle.geometry.specs.Fits.{Allowed}
-use Rattle.geometry.specs.Read.{Image, sampleIndex, sampleAt, planeOf, read}
 use Rattle.geometry.specs.ReadLaws.{cell-below, frame-room, inside-below}
 use Rattle.plane_view.specs.View.{rowLengthOf, frameImage, framePart, pairOf, planePair, Planar, Shaped}
 

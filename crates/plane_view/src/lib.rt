@@ -1,13 +1,7 @@
 // A view of one plane of one frame: it reads the caller's samples without copying them.
 pub mod thirty_two;
 
-ghost use mathlib.Core.Path.{_≡_};
-ghost use Prim.Native.Nat.{_+_, _*_, _/_, _%_, _≤_, _<_};
-ghost use lib.IntN.{pos, _+ℤ_};
-ghost use lib.ListN.{length, getD};
-ghost use Rattle.sequences.specs.Tab.{tab};
-ghost use Rattle.geometry.specs.Read.{sampleAt, inside};
-ghost use Rattle.geometry.specs.Fits.{Sampled};
+ghost use Rattle.plane_view.specs.Prelude.{_≡_, _+_, _*_, _/_, _%_, _≤_, _<_, pos, _+ℤ_, length, getD, tab, sampleAt, inside, Sampled};
 ghost use Rattle.plane_view.specs.View.{pairOf, pairRow, planePair, Near, RowPlace, FrameRows, RowStart};
 use geometry::Shape;
 use geometry::read::inside;

@@ -1,12 +1,6 @@
 // Pairs of tiles of side 32 (request L8), beside those of side 16; only a row that reaches over an edge is read as two rows of thirty-two.
-ghost use mathlib.Core.Path.{_≡_};
-ghost use Prim.Native.Nat.{_+_, _*_, _/_, _%_, _≤_, _<_};
-ghost use lib.IntN.{pos, _+ℤ_};
-ghost use lib.ListN.{length, getD};
-ghost use Rattle.sequences.specs.Tab.{tab};
+ghost use Rattle.plane_view.specs.Prelude.{_≡_, _+_, _*_, _/_, _%_, _≤_, _<_, pos, _+ℤ_, length, getD, tab, sampleAt, inside, Sampled};
 ghost use Rattle.sequences.specs.Written.{written};
-ghost use Rattle.geometry.specs.Read.{sampleAt, inside};
-ghost use Rattle.geometry.specs.Fits.{Sampled};
 ghost use Rattle.plane_view.specs.View.{pairOf, pairRow, planePair, Near, RowPlace};
 use crate::along;
 use crate::edge_pair;

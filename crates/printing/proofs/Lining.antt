@@ -1,10 +1,7 @@
 -- The invariant of a loop that prints one line, value by value, each of at most `most` bytes.
-use mathlib.Core.Path.{_≡_, ap}
-use mathlib.Core.List.{List}
-use Prim.Native.Nat.{ℕ, _+_, _-_, _*_, _≤_, _<_}
+use Rattle.printing.specs.Prelude.{_≡_, ap, List, ℕ, _+_, _-_, _*_, _≤_, _<_, arith}
 use native.Mathlib.Nat.{mul-suc}
 use native.Mathlib.Numerals.{add-one}
-use native.Mathlib.Omega.{arith}
 use lib.ListN.{length, getD, drop, drop-of-length-le}
 use Rattle.printing.specs.Lines.{value, numberLine}
 use Rattle.printing.specs.LineLaws.{line-next}

@@ -1,7 +1,5 @@
 -- A text as the list of its ASCII codes.
-use mathlib.Core.List.{List, [], _∷_}
-use Prim.Native.Nat.{ℕ}
-use Prim.Native.Char.{code}
+use Rattle.printing.specs.Prelude.{List, [], _∷_, ℕ, code}
 use Prim.Native.String.{String, [] as empty, _∷_ as _then_}
 
 abbrev pub ascii : String → List ℕ

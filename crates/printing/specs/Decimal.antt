@@ -1,7 +1,5 @@
 -- Document 01, "print values without leading zeros": a number as the list of its digits' ASCII codes.
-use mathlib.Core.List.{List, [], _∷_, _++_}
-use Prim.Native.Char.{code}
-use Prim.Native.Nat.{ℕ, zero, suc, _+_, _/_, _%_}
+use Rattle.printing.specs.Prelude.{List, [], _∷_, _++_, code, ℕ, zero, suc, _+_, _/_, _%_}
 
 -- the code of a digit
 abbrev pub digit : ℕ → ℕ

@@ -1,9 +1,6 @@
 -- The digits of n by cases of n, and how many there are at most.
-use mathlib.Core.Path.{_≡_, refl, ap}
-use mathlib.Core.List.{[], _∷_, _++_}
-use Prim.Native.Nat.{ℕ, zero, suc, _/_, _%_, _^_, _≤_, _<_}
+use Rattle.printing.specs.Prelude.{_≡_, refl, ap, [], _∷_, _++_, ℕ, zero, suc, _/_, _%_, _^_, _≤_, _<_, arith}
 use native.Mathlib.Nat.{pow-suc}
-use native.Mathlib.Omega.{arith}
 use lib.ListN.{length, length-append}
 use Rattle.printing.specs.Decimal.{digit, digits, decimal}
 

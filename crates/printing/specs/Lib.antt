@@ -1,3 +1,4 @@
+pub mod Prelude
 pub mod Ascii
 pub mod Decimal
 pub mod DecimalLaws

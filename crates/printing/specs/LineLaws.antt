@@ -1,10 +1,7 @@
 -- A line value by value and a frame row by row, and how long they are at most.
-use mathlib.Core.Path.{_≡_}
-use mathlib.Core.List.{List, _++_}
-use Prim.Native.Nat.{ℕ, suc, _+_, _-_, _*_, _^_, _≤_, _<_}
+use Rattle.printing.specs.Prelude.{_≡_, List, _++_, ℕ, suc, _+_, _-_, _*_, _^_, _≤_, _<_, arith}
 use native.Mathlib.Nat.{suc-mul}
 use native.Mathlib.Numerals.{add-one}
-use native.Mathlib.Omega.{arith}
 use lib.ListN.{length, getD, take, drop, length-append, length-drop}
 use lib.Seq.{drop-cons, drop-drop}
 use Rattle.printing.specs.DecimalLaws.{decimal-length}

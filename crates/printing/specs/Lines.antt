@@ -1,10 +1,7 @@
 -- Document 01, "Burst file and programs": the lines that the programs print, as lists of ASCII codes.
 use mathlib.Core.Bool.{cond}
-use mathlib.Core.List.{List, [], _∷_, _++_}
-use Prim.Native.Char.{code}
-use Prim.Native.Nat.{ℕ, zero, suc}
+use Rattle.printing.specs.Prelude.{List, [], _∷_, _++_, code, ℕ, zero, suc, length, take, drop}
 use lib.Dec.{eqb}
-use lib.ListN.{length, take, drop}
 use Rattle.printing.specs.Ascii.{ascii}
 use Rattle.printing.specs.Decimal.{decimal}
 

@@ -1,8 +1,6 @@
 -- The invariant of each loop that prints: what is put so far and what is left to put are the whole text.
-use mathlib.Core.Path.{_≡_, refl, sym, ap, _∙_}
+use Rattle.printing.specs.Prelude.{_≡_, refl, sym, ap, _∙_, ℕ, _≤_, length}
 use mathlib.Core.List.{List, [], _++_, append-assoc, append-nil}
-use Prim.Native.Nat.{ℕ, _≤_}
-use lib.ListN.{length}
 use Rattle.printing.specs.Put.{Printed}
 use Rattle.printing.specs.PutLaws.{printed-none, printed-then}
 

@@ -1,8 +1,5 @@
 -- A buffer with a text put into it.
-use mathlib.Core.Path.{_≡_}
-use mathlib.Core.List.{List, _++_}
-use Prim.Native.Nat.{ℕ, _+_}
-use lib.ListN.{length, take, drop}
+use Rattle.printing.specs.Prelude.{_≡_, List, _++_, ℕ, _+_, length, take, drop}
 
 -- the bytes in place of those that stood from `at` on
 unfoldable pub put : List ℕ → ℕ → List ℕ → List ℕ

@@ -1,10 +1,8 @@
 -- A text put after another is the two put as one: what is printed piece by piece is the sequence of the pieces.
-use mathlib.Core.Path.{_≡_, refl, sym, ap, ap₂, _∙_}
+use Rattle.printing.specs.Prelude.{_≡_, refl, sym, ap, ap₂, _∙_, ℕ, _+_, _≤_, _<_, arith}
 use mathlib.Core.List.{List, [], _∷_, _++_, append-assoc}
-use Prim.Native.Nat.{ℕ, _+_, _≤_, _<_}
 use native.Mathlib.Nat.{add-assoc}
 use native.Mathlib.Numerals.{add-one}
-use native.Mathlib.Omega.{arith}
 use lib.ListN.{length, take, drop, set, length-append, length-set}
 use lib.Seq.{length-take-le, take-at, drop-at, drop-drop, set-split, append-snoc, paste-zero}
 use Rattle.printing.specs.Put.{put, Printed}

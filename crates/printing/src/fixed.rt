@@ -1,6 +1,5 @@
 // The lines of fixed words, put into a lent buffer from a place on. Each function answers the place after what it put.
-ghost use Prim.Native.Nat.{_+_, _≤_};
-ghost use lib.ListN.{length};
+ghost use Rattle.printing.specs.Prelude.{_+_, _≤_, length};
 ghost use Rattle.printing.specs.Lines.{motionNames, stackNames, tooLarge, refusal};
 ghost use Rattle.printing.specs.Put.{Printed};
 use crate::lines::put_value;

@@ -1,6 +1,5 @@
 // Lines of values, put into a lent buffer from a place on. Each function answers the place after what it put.
-ghost use Prim.Native.Nat.{_+_, _*_, _≤_};
-ghost use lib.ListN.{length, take, drop};
+ghost use Rattle.printing.specs.Prelude.{_+_, _*_, _≤_, length, take, drop};
 ghost use Rattle.printing.specs.Lines.{value, numberLine, sampleRows};
 ghost use Rattle.printing.specs.Put.{Printed};
 use crate::pieces::put_byte;

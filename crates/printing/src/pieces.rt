@@ -1,7 +1,5 @@
 // Bytes and numbers, put into a lent buffer from a place on. Each function answers the place after what it put.
-ghost use mathlib.Core.List.{[], _∷_};
-ghost use Prim.Native.Nat.{_+_, _<_, _≤_};
-ghost use lib.ListN.{length};
+ghost use Rattle.printing.specs.Prelude.{[], _∷_, _+_, _<_, _≤_, length};
 ghost use Rattle.printing.specs.Decimal.{decimal};
 ghost use Rattle.printing.specs.Put.{Printed};
 

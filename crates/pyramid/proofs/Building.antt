@@ -1,12 +1,7 @@
 -- Level 0 laid, then halved down, is the pyramid.
-use Rattle.algebra.specs.Prelude.{_≡_, _∙_, List, ℕ, _+_, _*_, _/_, _≤_, _<_, arith, length, ℤ}
-use Rattle.geometry.specs.declared.Shape.{Shape}
-use Rattle.geometry.specs.Read.{Image, sampleAt}
-use Rattle.geometry.specs.Tiles.{level0, levelSize}
-use Rattle.bayer.specs.Bayer.{bayerSum}
+use Rattle.pyramid.specs.Prelude.{_≡_, _∙_, List, ℕ, _+_, _*_, _/_, _≤_, _<_, arith, length, ℤ, Shape, Image, sampleAt, level0, levelSize, bayerSum, Frame}
 use Rattle.pyramid.specs.Pyramid.{image0}
 use Rattle.bayer.specs.BayerLaws.{bayer-most}
-use Rattle.bayer.specs.Frame.{Frame}
 use Rattle.pyramid.specs.Words.{imageAt, laid, Holds}
 use Rattle.pyramid.specs.WordsLaws.{Kept, own-image, holds-source, holds-agree, laid-kept, laid-after, laid-holds}
 use Rattle.pyramid.specs.Chain.{wordsBefore, halves, Room, Halvings}

@@ -1,12 +1,8 @@
 -- The column sums of a row: how their list is stored, what stands in it, and the halved row that comes of it.
-use Rattle.algebra.specs.Prelude.{_≡_, ap, _∙_, List, ℕ, _+_, _-_, _*_, _/_, _≤_, _<_, arith, length, getD, set, ℤ, pos, _-ℤ_}
+use Rattle.pyramid.specs.Prelude.{_≡_, ap, _∙_, List, ℕ, _+_, _-_, _*_, _/_, _≤_, _<_, arith, length, getD, set, ℤ, pos, _-ℤ_, inside, columnMost, weights, tap, weighted, halved, columnSum, edgedSum}
 use native.Mathlib.Nat.{zero-add, add-zero}
-use Rattle.geometry.specs.Read.{inside}
 use Rattle.geometry.specs.ReadLaws.{inside-below}
 use Rattle.sequences.specs.Write.{written, Writing, written-in}
-use Rattle.halving.specs.Magnitudes.{columnMost}
-use Rattle.halving.specs.Halving.{weights, tap, weighted, halved}
-use Rattle.halving.specs.Columns.{columnSum, edgedSum}
 use Rattle.halving.specs.HalvingLaws.{column-most, halved-columns, inside-tap}
 use Rattle.pyramid.specs.Words.{imageAt, Source}
 use Rattle.pyramid.proofs.Ends.{ends-done}

@@ -1,10 +1,8 @@
 -- A loop that halves the image at hand five times, each into the words after it: its invariant, how it starts, goes on and ends.
-use Rattle.algebra.specs.Prelude.{_≡_, refl, ap, ap₂, _∙_, List, ℕ, suc, _+_, _*_, _/_, _≤_, _<_, arith, length, getD, ℤ, pos}
+use Rattle.pyramid.specs.Prelude.{_≡_, refl, ap, ap₂, _∙_, List, ℕ, suc, _+_, _*_, _/_, _≤_, _<_, arith, length, getD, ℤ, pos, Image, halved}
 use mathlib.Core.Logic.{⊎-elim}
 use native.Mathlib.Nat.{add-zero, eq-or-lt-of-le, le-refl}
 use native.Mathlib.Numerals.{add-one}
-use Rattle.geometry.specs.Read.{Image}
-use Rattle.halving.specs.Halving.{halved}
 use Rattle.halving.specs.HalvingLaws.{halved-agree, halved-most}
 use Rattle.pyramid.specs.Words.{imageAt, laid, Source}
 use Rattle.pyramid.specs.WordsLaws.{Kept, own-image, holds-source, holds-agree, kept-holds, laid-kept, laid-after, laid-holds}

@@ -1,7 +1,6 @@
 -- A loop that lays an image row by row: its invariant, how it starts, goes on and ends.
-use Rattle.algebra.specs.Prelude.{_≡_, sym, ap₂, subst, _∙_, List, ℕ, _+_, _*_, _≤_, _<_, arith, length, ℤ, pos}
+use Rattle.pyramid.specs.Prelude.{_≡_, sym, ap₂, subst, _∙_, List, ℕ, _+_, _*_, _≤_, _<_, arith, length, ℤ, pos, Image}
 use native.Mathlib.Nat.{zero-mul, mul-le-mul-right}
-use Rattle.geometry.specs.Read.{Image}
 use Rattle.sequences.specs.Write.{written, Writing, write-start, write-part, write-done}
 use Rattle.sequences.specs.Place.{row-room, place-row, place-column}
 use Rattle.pyramid.specs.Words.{wordOf, laid}

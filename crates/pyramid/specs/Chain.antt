@@ -1,7 +1,5 @@
 -- Inner vocabulary: an image and its halvings, one of the other, in the work area.
-use Rattle.algebra.specs.Prelude.{_≡_, List, ℕ, zero, suc, _+_, _*_, _/_, _≤_, _<_, length, getD, ℤ, pos}
-use Rattle.geometry.specs.Read.{Image}
-use Rattle.halving.specs.Halving.{halved}
+use Rattle.pyramid.specs.Prelude.{_≡_, List, ℕ, zero, suc, _+_, _*_, _/_, _≤_, _<_, length, getD, ℤ, pos, Image, halved}
 use Rattle.pyramid.specs.Words.{Holds, Source}
 
 -- a size halved k times: one of image number k, where image 0 has the size

@@ -1,8 +1,7 @@
 -- How the sizes of halvings shrink and their words add up.
-use Rattle.algebra.specs.Prelude.{_≡_, refl, ap, ℕ, zero, suc, _+_, _*_, _/_, _^_, _≤_, _<_, arith}
+use Rattle.pyramid.specs.Prelude.{_≡_, refl, ap, ℕ, zero, suc, _+_, _*_, _/_, _^_, _≤_, _<_, arith, Image}
 use mathlib.Core.Logic.{⊎-elim}
 use native.Mathlib.Nat.{mul-le-mul, pow-suc, pow-le-pow-right, eq-or-lt-of-le}
-use Rattle.geometry.specs.Read.{Image}
 use Rattle.halving.specs.HalvingLaws.{halved-agree}
 use Rattle.pyramid.specs.Chain.{halves, wordsBefore, chain}
 

@@ -1,8 +1,5 @@
 -- Inner vocabulary: where a pyramid's images stand in the work area, and what holds once they are laid.
-use Rattle.algebra.specs.Prelude.{_≡_, List, ℕ, _+_, _*_, _≤_, _<_, length, getD, ℤ, pos}
-use Rattle.geometry.specs.declared.Shape.{Shape}
-use Rattle.geometry.specs.Read.{Image}
-use Rattle.geometry.specs.Tiles.{Level, level0, level1, level2, level3, levelSize}
+use Rattle.pyramid.specs.Prelude.{_≡_, List, ℕ, _+_, _*_, _≤_, _<_, length, getD, ℤ, pos, Shape, Image, Level, level0, level1, level2, level3, levelSize}
 use Rattle.geometry.specs.LevelTiles.{levelTiles}
 use Rattle.pyramid.specs.Pyramid.{image0, image1, image2, image3}
 use Rattle.pyramid.specs.Words.{Holds}

@@ -1,10 +1,7 @@
 -- The six images as a chain of halvings: which of them are the levels, and that they fit.
-use Rattle.algebra.specs.Prelude.{_≡_, refl, _∙_, List, ℕ, suc, _+_, _*_, _/_, _≤_, arith, ℤ}
+use Rattle.pyramid.specs.Prelude.{_≡_, refl, _∙_, List, ℕ, suc, _+_, _*_, _/_, _≤_, arith, ℤ, Shape, Image, level0, level1, level2, level3, levelSize, tileCount}
 use native.Mathlib.Nat.{mul-le-mul}
-use Rattle.geometry.specs.declared.Shape.{Shape}
 use Rattle.geometry.specs.Fits.{Allowed}
-use Rattle.geometry.specs.Read.{Image}
-use Rattle.geometry.specs.Tiles.{level0, level1, level2, level3, levelSize, tileCount}
 use Rattle.geometry.specs.LevelTiles.{levelTiles}
 use Rattle.pyramid.specs.Pyramid.{quartered, image0, image1, image2, image3}
 use Rattle.pyramid.specs.WordsLaws.{Kept, kept-holds}

@@ -1,3 +1,4 @@
+pub mod Prelude
 pub mod Pyramid
 pub mod Words
 pub mod WordsLaws

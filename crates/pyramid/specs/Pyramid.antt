@@ -1,10 +1,5 @@
 -- The pyramid of a frame: document 01, "Pyramid and vectors".
-use Rattle.algebra.specs.Prelude.{ℕ, _/_}
-use Rattle.geometry.specs.declared.Shape.{Shape}
-use Rattle.geometry.specs.Read.{Image}
-use Rattle.geometry.specs.Tiles.{level0, level1, level2, levelSize}
-use Rattle.bayer.specs.Bayer.{bayerSum}
-use Rattle.halving.specs.Halving.{halved}
+use Rattle.pyramid.specs.Prelude.{ℕ, _/_, Shape, Image, level0, level1, level2, levelSize, bayerSum, halved}
 
 -- "each quarter two halvings"; "the image between two halvings" has half the size
 unfoldable pub quartered : (height width : ℕ) → Image → Image

@@ -1,8 +1,5 @@
 -- Inner vocabulary: images in the work area: row after row, a word for each value.
-use Rattle.algebra.specs.Prelude.{_≡_, List, ℕ, _+_, _*_, _/_, _%_, _≤_, _<_, length, getD, ℤ, pos, natAbs}
-use Rattle.geometry.specs.Read.{Image}
-use Rattle.halving.specs.Magnitudes.{valueMost}
-use Rattle.sequences.specs.Write.{written}
+use Rattle.pyramid.specs.Prelude.{_≡_, List, ℕ, _+_, _*_, _/_, _%_, _≤_, _<_, length, getD, ℤ, pos, natAbs, Image, valueMost, written}
 
 -- the number at a place of the work area
 unfoldable pub wordAt : List ℤ → ℕ → ℕ

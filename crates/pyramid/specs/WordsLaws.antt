@@ -1,15 +1,13 @@
 -- Laws of images in the work area.
-use Rattle.algebra.specs.Prelude.{_≡_, sym, ap, ap₂, subst, _∙_, List, _++_, ℕ, _+_, _-_, _*_, _≤_, _<_, arith, ℤ, pos, natAbs}
+use Rattle.pyramid.specs.Prelude.{_≡_, sym, ap, ap₂, subst, _∙_, List, _++_, ℕ, _+_, _-_, _*_, _≤_, _<_, arith, ℤ, pos, natAbs, Image, inside, read, halved}
 use native.Mathlib.Nat.{add-assoc}
 use lib.ListN.{length, getD, take, drop, List·getD-append}
 use lib.Seq.{length-paste-head, length-take-le, getD-take}
-use Rattle.geometry.specs.Read.{Image, inside, read}
 use Rattle.geometry.specs.ReadLaws.{cell-below, inside-below}
 use Rattle.sequences.specs.Tab.{tab}
 use Rattle.sequences.specs.TabLaws.{length-tab}
 use Rattle.sequences.specs.Place.{row-room, place-row, place-column}
 use Rattle.sequences.specs.Write.{written, Writing, written-in, written-before, written-after, written-length}
-use Rattle.halving.specs.Halving.{halved}
 use Rattle.halving.specs.HalvingLaws.{halved-agree}
 use Rattle.pyramid.specs.Words.{wordAt, imageAt, wordOf, laid, Holds, Row, Source}
 

@@ -1,11 +1,5 @@
 // Images inside the work area, halved one after the other.
-ghost use mathlib.Core.Path.{_≡_};
-ghost use Prim.Native.Nat.{_+_, _/_, _<_, _≤_};
-ghost use lib.ListN.{length};
-ghost use Rattle.geometry.specs.Read.{inside};
-ghost use Rattle.sequences.specs.Write.{written};
-ghost use Rattle.halving.specs.Halving.{tap, halved};
-ghost use Rattle.halving.specs.Columns.{columnSum, edgedSum};
+ghost use Rattle.pyramid.specs.Prelude.{_≡_, _+_, _/_, _<_, _≤_, length, inside, written, tap, halved, columnSum, edgedSum};
 ghost use Rattle.pyramid.specs.Words.{wordAt, imageAt, laid, laidRow, Held, FourRows};
 ghost use Rattle.pyramid.specs.Chain.{RoomAt, Room, Halvings};
 use halving::halved_value;

@@ -2,12 +2,8 @@
 pub mod images;
 pub mod squares;
 
-ghost use mathlib.Core.Path.{_≡_};
-ghost use Prim.Native.Nat.{_+_, _≤_};
-ghost use lib.ListN.{length};
+ghost use Rattle.pyramid.specs.Prelude.{_≡_, _+_, _≤_, length, sampleAt, Frame};
 ghost use Rattle.geometry.specs.Fits.{Allowed};
-ghost use Rattle.geometry.specs.Read.{sampleAt};
-ghost use Rattle.bayer.specs.Frame.{Frame};
 ghost use Rattle.pyramid.specs.Layout.{offset, pyramidLength, Built};
 use crate::images::halve_down;
 use crate::squares::lay_squares;

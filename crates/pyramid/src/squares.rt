@@ -1,10 +1,5 @@
 // Level 0, the sums of the 2 by 2 Bayer squares, laid into the work area.
-ghost use mathlib.Core.Path.{_≡_};
-ghost use Prim.Native.Nat.{_+_, _*_, _/_, _<_, _≤_};
-ghost use lib.ListN.{length};
-ghost use Rattle.geometry.specs.Read.{sampleAt};
-ghost use Rattle.bayer.specs.Bayer.{bayerSum};
-ghost use Rattle.bayer.specs.Frame.{Frame};
+ghost use Rattle.pyramid.specs.Prelude.{_≡_, _+_, _*_, _/_, _<_, _≤_, length, sampleAt, bayerSum, Frame};
 ghost use Rattle.pyramid.specs.Words.{laid, laidRow};
 use bayer::square_sum;
 use geometry::Shape;

@@ -1,9 +1,7 @@
 -- The store of a quad of two tiles side by side.
-use Rattle.algebra.specs.Prelude.{_≡_, refl, _∙_, List, [], _∷_, ℕ, _+_, _*_, _%_, _<_, arith, getD, set}
-use lib.Ieee.{Float, nan}
+use Rattle.quads.specs.Prelude.{_≡_, refl, _∙_, List, [], _∷_, ℕ, _+_, _*_, _%_, _<_, arith, getD, set, Float, nan, Paired}
 use Rattle.sequences.specs.Grid.{cell, grid-of, stored, stored-here, stored-apart, set-grid}
 use Rattle.spectrum.specs.QuadLaws.{four}
-use Rattle.spectrum.specs.Pairs.{Paired}
 use Rattle.quads.specs.Lanes.{numberOf, quadAt, WithQuad}
 use Rattle.quads.specs.LaneLaws.{quad-grid}
 

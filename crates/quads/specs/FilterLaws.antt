@@ -1,12 +1,8 @@
 -- Two planes side by side, all quads of which were replaced by those of G: both folded.
-use Rattle.algebra.specs.Prelude.{_≡_, refl, sym, ap, ap₂, _∙_, Bool, true, false, cond, List, ℕ, zero, suc, _+_, _/_, _%_, _<_, arith, eqb, ℤ}
+use Rattle.quads.specs.Prelude.{_≡_, refl, sym, ap, ap₂, _∙_, Bool, true, false, cond, List, ℕ, zero, suc, _+_, _/_, _%_, _<_, arith, eqb, ℤ, Float, nan, binary64, ofInt, cell, transposed, spread, quadOf, gainRe, gainIm, quadPlaces, sideBySide, either, doubles}
 use mathlib.Core.List.{map}
 use Prim.Native.Nat.{zero-le}
-use lib.Ieee.{Float, nan, binary64, ofInt}
-use Rattle.sequences.specs.Grid.{cell}
 use Rattle.recipe.specs.Tables.{side16}
-use Rattle.spectrum.specs.Spectrum.{transposed, spread, quadOf, gainRe, gainIm, quadPlaces}
-use Rattle.spectrum.specs.Pairs.{sideBySide, either, doubles}
 use Rattle.spectrum.specs.QuadLaws.{four}
 use Rattle.quads.specs.Lanes.{quadAt, Lanes}
 use Rattle.quads.specs.LaneLaws.{quads-ext, quad-grid}

@@ -1,12 +1,8 @@
 -- Inside the crates of the merge: the Wiener step on two tiles side by side in double, quad by quad. Quad (u, l) holds lanes l and 16 + l of rows u and 8 + u:
 -- of plane l % 2, quad (l / 2, u) of the tile, which is held by columns.
-use Rattle.algebra.specs.Prelude.{_≡_, cond, List, [], _∷_, ℕ, _+_, _*_, _≤_, _<_, eqb, getD}
-use lib.Ieee.{Float, nan, binary64, add, sub}
-use Rattle.sequences.specs.Grid.{cell}
-use Rattle.spectrum.specs.Spectrum.{byKind}
+use Rattle.quads.specs.Prelude.{_≡_, cond, List, [], _∷_, ℕ, _+_, _*_, _≤_, _<_, eqb, getD, Float, nan, binary64, add, sub, cell, byKind, Paired}
 use Rattle.spectrum.specs.Magnitudes.{binMost}
 use Rattle.lines.specs.Doubles.{WholeDouble}
-use Rattle.spectrum.specs.Pairs.{Paired}
 
 -- ---- a quad of G from that of B
 

@@ -1,18 +1,15 @@
 -- A quad of G worked out in double from one of B is, as doubles, that of the folded G: all sums and differences are exact.
-use Rattle.algebra.specs.Prelude.{_≡_, refl, sym, ap, subst, _∙_, List, [], _∷_, ℕ, zero, suc, _+_, _≤_, _<_, arith, lit<, getD, length, ℤ, pos, natAbs, _+ℤ_, _-ℤ_}
+use Rattle.quads.specs.Prelude.{_≡_, refl, sym, ap, subst, _∙_, List, [], _∷_, ℕ, zero, suc, _+_, _≤_, _<_, arith, lit<, getD, length, ℤ, pos, natAbs, _+ℤ_, _-ℤ_, Float, binary64, ofInt, spread, quadOf, byKind, twoBins, foldedQuad, gainRe, gainIm, quadPlaces, twoBinsOf, Binned}
 use mathlib.Core.List.{map}
 use Prim.Native.Nat.{zero-le}
 use borrow.Author.Tests.{eq-eqb, ne-eqb}
 use lib.IntN.{+ℤ-comm}
-use lib.Ieee.{Float, binary64, ofInt}
 use Rattle.algebra.specs.Order.{sub-pn, add-pn, abs-pn, min-pn}
 use Rattle.sequences.specs.Tab.{tab}
 use Rattle.recipe.specs.Tables.{side16}
 use Rattle.recipe.specs.Correction.{filtered}
 use Rattle.floats.specs.Kernels.{var, plus, minus, floats-wholes}
 use Rattle.spectrum.specs.Magnitudes.{binMost, gainMost}
-use Rattle.spectrum.specs.Spectrum.{spread, quadOf, byKind, twoBins, foldedQuad, gainRe, gainIm, quadPlaces, twoBinsOf}
-use Rattle.spectrum.specs.Pairs.{Binned}
 use Rattle.spectrum.specs.SizeLaws.{gain-most}
 use Rattle.spectrum.specs.QuadLaws.{four, four-each, quad-is, corner-is, bins-each}
 use Rattle.quads.specs.Lanes.{numberOf, binsIn, foldedIn, cornerIn, foldIn, quadIn, WholeBins}

@@ -1,10 +1,6 @@
 // Quads of two tiles side by side in double: what a quad of G is made of, and how one is read and stored. Quad (u, l) is rows u and 8 + u of lanes l and
 // 16 + l.
-ghost use mathlib.Core.Path.{_≡_};
-ghost use Prim.Native.Nat.{_<_};
-ghost use lib.Ieee.{nan};
-ghost use Rattle.sequences.specs.Grid.{cell};
-ghost use Rattle.spectrum.specs.Pairs.{Paired};
+ghost use Rattle.quads.specs.Prelude.{_≡_, _<_, nan, cell, Paired};
 ghost use Rattle.quads.specs.Lanes.{quadAt, WithQuad};
 
 // Quad (u, l).

@@ -1,13 +1,10 @@
 -- Two planes side by side, all quads of which were replaced by those of G: both folded.
-use Rattle.algebra.specs.Prelude.{_≡_, refl, sym, ap, ap₂, _∙_, Bool, true, false, cond, List, ℕ, zero, suc, _+_, _/_, _%_, _<_, arith, eqb, ℤ}
+use Rattle.quads32.specs.Prelude.{_≡_, refl, sym, ap, ap₂, _∙_, Bool, true, false, cond, List, ℕ, zero, suc, _+_, _/_, _%_, _<_, arith, eqb, ℤ, Float, nan, binary64, ofInt, cell, longDoubles}
 use mathlib.Core.List.{map}
 use Prim.Native.Nat.{zero-le}
-use lib.Ieee.{Float, nan, binary64, ofInt}
-use Rattle.sequences.specs.Grid.{cell}
 use Rattle.recipe.specs.Tables32.{side32}
 use Rattle.spectrum.specs.Spectrum.{transposed, spreadOf, quadPlaces, gainReOf, gainImOf}
 use Rattle.spectrum.specs.Pairs.{sideBySide, either}
-use Rattle.spectrum.specs.LongPairs.{longDoubles}
 use Rattle.spectrum.specs.QuadLaws.{four}
 use Rattle.quads32.specs.Lanes.{quadAt, Lanes}
 use Rattle.quads32.specs.LaneLaws.{quads-ext, quad-grid}

@@ -1,11 +1,8 @@
 -- Quads of two tiles side by side: a pair by its quads, and loops that replace them one after the other.
-use Rattle.algebra.specs.Prelude.{_≡_, refl, sym, ap, ap₂, subst, _∙_, List, [], _∷_, ℕ, zero, suc, _+_, _*_, _/_, _%_, _≤_, _<_, arith, ltb, getD, Bool, true, false, ℤ}
+use Rattle.quads32.specs.Prelude.{_≡_, refl, sym, ap, ap₂, subst, _∙_, List, [], _∷_, ℕ, zero, suc, _+_, _*_, _/_, _%_, _≤_, _<_, arith, ltb, getD, Bool, true, false, ℤ, Float, nan, binary64, ofInt, LongPaired, longDoubles, numberOf}
 use borrow.Author.Tests.{ltb-true, ltb-false}
-use lib.Ieee.{Float, nan, binary64, ofInt}
 use Rattle.sequences.specs.Grid.{grid, cell, cell-grid, grid-ext, grid-of}
 use Rattle.spectrum.specs.QuadLaws.{four}
-use Rattle.spectrum.specs.LongPairs.{LongPaired, longDoubles}
-use Rattle.quads.specs.Lanes.{numberOf}
 use Rattle.quads32.specs.Lanes.{quadAt, WithQuad, Lanes}
 
 -- ---- a pair by its quads

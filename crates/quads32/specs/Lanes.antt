@@ -1,10 +1,6 @@
 -- Inside the crates of the merge: the Wiener step on two tiles of side 32 side by side in double, quad by quad. Quad (u, l) holds lanes l and 32 + l of rows u and
 -- 16 + u: of plane l % 2, quad (l / 2, u) of the tile, which is held by columns. What a quad of G is made of, `quads` has for any side.
-use Rattle.algebra.specs.Prelude.{_≡_, List, [], _∷_, ℕ, _+_, _*_, _≤_, _<_}
-use lib.Ieee.{Float, nan}
-use Rattle.sequences.specs.Grid.{cell}
-use Rattle.spectrum.specs.LongPairs.{LongPaired}
-use Rattle.quads.specs.Lanes.{numberOf}
+use Rattle.quads32.specs.Prelude.{_≡_, List, [], _∷_, ℕ, _+_, _*_, _≤_, _<_, Float, nan, cell, LongPaired, numberOf}
 
 -- quad (u, l)
 unfoldable pub quadAt : {A : Type 0} → (f : ℕ → ℕ → A) (u l : ℕ) → List A

@@ -1,3 +1,4 @@
+pub mod Prelude
 pub mod Lanes
 pub mod LaneLaws
 pub mod QuadGains

@@ -1,10 +1,9 @@
 -- A quad of G worked out in double from one of B is, as doubles, that of the folded G: all sums and differences are exact.
-use Rattle.algebra.specs.Prelude.{_≡_, refl, sym, ap, subst, _∙_, List, [], _∷_, ℕ, zero, suc, _+_, _≤_, _<_, arith, lit<, getD, length, ℤ, pos, natAbs, _+ℤ_, _-ℤ_}
+use Rattle.quads32.specs.Prelude.{_≡_, refl, sym, ap, subst, _∙_, List, [], _∷_, ℕ, zero, suc, _+_, _≤_, _<_, arith, lit<, getD, length, ℤ, pos, natAbs, _+ℤ_, _-ℤ_, Float, binary64, ofInt, numberOf, binsIn, foldedIn, cornerIn, foldIn, quadIn, WholeBinsOf}
 use mathlib.Core.List.{map}
 use Prim.Native.Nat.{zero-le}
 use borrow.Author.Tests.{eq-eqb, ne-eqb}
 use lib.IntN.{+ℤ-comm}
-use lib.Ieee.{Float, binary64, ofInt}
 use Rattle.algebra.specs.Order.{sub-pn, add-pn, abs-pn, min-pn}
 use Rattle.sequences.specs.Tab.{tab}
 use Rattle.recipe.specs.Tables32.{side32}
@@ -14,7 +13,6 @@ use Rattle.spectrum.specs.Magnitudes.{longBinMost, gainMost}
 use Rattle.spectrum.specs.Spectrum.{spreadOf, quadPlaces, byKind, twoBinsOf, foldedQuad, gainReOf, gainImOf}
 use Rattle.spectrum.specs.LongPairs.{LongBinned, long-gain-most, long-quad-is, long-corner-is, long-bins-each}
 use Rattle.spectrum.specs.QuadLaws.{four, four-each}
-use Rattle.quads.specs.Lanes.{numberOf, binsIn, foldedIn, cornerIn, foldIn, quadIn, WholeBinsOf}
 use Rattle.quads.specs.QuadGains.{double, quad-corner, quad-others, folded-is, half, number-of}
 
 bins-four : (t : ℕ → ℕ → ℤ) (k u : ℕ) → length (twoBinsOf side32 t k u) ≡ 4

@@ -1,10 +1,6 @@
 // Quads of two tiles of side 32 side by side in double: how one is read and stored. Quad (u, l) is rows u and 16 + u of lanes l and
 // 32 + l.
-ghost use mathlib.Core.Path.{_≡_};
-ghost use Prim.Native.Nat.{_<_};
-ghost use lib.Ieee.{nan};
-ghost use Rattle.sequences.specs.Grid.{cell};
-ghost use Rattle.spectrum.specs.LongPairs.{LongPaired};
+ghost use Rattle.quads32.specs.Prelude.{_≡_, _<_, nan, cell, LongPaired};
 ghost use Rattle.quads32.specs.Lanes.{quadAt, WithQuad};
 
 // Quad (u, l).

@@ -1,7 +1,5 @@
 // Whether the noise of a pair is low, so that the inverse's last sums stay in double, for either side.
-ghost use mathlib.Core.Path.{_≡_};
-ghost use mathlib.Core.Bool.{true};
-ghost use Prim.Native.Nat.{_≤_};
+ghost use Rattle.algebra.specs.Prelude.{_≡_, true, _≤_};
 ghost use Rattle.spectrum.specs.Magnitudes.{lowNoise, longLowNoise};
 
 // 2^33, and 2^29 at side 32: V up to which the inverse's last sums stay below 5·2^49

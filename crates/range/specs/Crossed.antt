@@ -1,8 +1,6 @@
 -- Curves in order, refusal 26, and the tests of two noises in their order.
-use Rattle.algebra.specs.Prelude.{Bool, _||_, List, [], _∷_, ℕ, T}
-use lib.Ieee.{lt, le}
+use Rattle.range.specs.Prelude.{Bool, _||_, List, [], _∷_, ℕ, T, lt, le, refuse}
 use Rattle.refusals.specs.Numbers as no
-use Rattle.refusals.specs.Tests.{refuse}
 use Rattle.noise.specs.declared.Curve.{Curve}
 use Rattle.noise.specs.declared.Noise.{Noise}
 use Rattle.noise.specs.Curve.{curveOf}

@@ -1,16 +1,13 @@
 -- Levels of noises whose curves are in order, as refusal 26 compares them: after ISO, shot with shot and read with read.
-use Rattle.algebra.specs.Prelude.{_≡_, refl, Bool, true, false, not, _&&_, _||_, List, ℕ, _*_, _≤_, _<_, getD, ℤ}
+use Rattle.range.specs.Prelude.{_≡_, refl, Bool, true, false, not, _&&_, _||_, List, ℕ, _*_, _≤_, _<_, getD, ℤ, Float, nan, inf, fin, up, down, lt, first, Scene}
 use lib.Dec.{T, ltb, eqb, leb→le, eqb→eq}
 use borrow.Author.Tests.{le-ltb}
-use lib.Ieee.{Float, nan, inf, fin, up, down, lt}
 use lib.Ieee.Fits.{and-l, and-r}
 use Rattle.refusals.specs.Numbers as no
-use Rattle.refusals.specs.Tests.{first}
 use Rattle.refusals.specs.TestLaws.{among, passed, refuse-not}
 use Rattle.refusals.specs.After.{after}
 use Rattle.geometry.specs.declared.Shape.{Shape}
 use Rattle.recipe.specs.declared.Tuning.{Tuning}
-use Rattle.recipe.specs.Scene.{Scene}
 use Rattle.recipe.specs.Merged.{merged}
 use Rattle.noise.specs.declared.Curve.{Curve}
 use Rattle.noise.specs.declared.Noise.{Noise}

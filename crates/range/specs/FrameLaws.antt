@@ -1,9 +1,8 @@
 -- "For every curve between the two ends, the frame merged with it lies between low and high at each sample. Equal curves give low and high equal to the
 -- plain merge."
-use Rattle.algebra.specs.Prelude.{_≡_, sym, ap, subst, _∙_, List, ℕ, _*_, _/_, _%_, _≤_, _<_, getD, ℤ, pos, natAbs}
+use Rattle.range.specs.Prelude.{_≡_, sym, ap, subst, _∙_, List, ℕ, _*_, _/_, _%_, _≤_, _<_, getD, ℤ, pos, natAbs, _≤ℤ_, Side, Scene, sceneAt, sceneOf, referenceTile, otherTile, tileNoise, tileDifference, noiseOver, differenceOver}
 use mathlib.Core.Path.{subst₂, fun-ext}
 use native.Mathlib.Nat.{add-le-add, mul-le-mul-left, mul-le-mul-right}
-use lib.Signed.{_≤ℤ_}
 use Rattle.algebra.specs.Order.{zarith, abs-pn, min-pn, 0≤pos}
 use Rattle.algebra.specs.ClampLaws.{clamp-low}
 use Rattle.sequences.specs.Tab.{tab}
@@ -11,11 +10,9 @@ use Rattle.sequences.specs.TabLaws.{getD-tab}
 use Rattle.geometry.specs.declared.Shape.{Shape}
 use Rattle.geometry.specs.Read.{planeOf}
 use Rattle.recipe.specs.declared.Tuning.{Tuning}
-use Rattle.recipe.specs.Side.{Side}
 use Rattle.recipe.specs.NoiseNumber.{variance, noiseNumber}
 use Rattle.recipe.specs.PlainOutput.{outputSample}
 use Rattle.recipe.specs.Spatial.{filteredSample}
-use Rattle.recipe.specs.Scene.{Scene, sceneAt, sceneOf, referenceTile, otherTile, tileNoise, tileDifference, noiseOver, differenceOver}
 use Rattle.recipe.specs.Merged.{planeOutput, outputAt, wordAt, merged}
 use Rattle.spatial.specs.PlainLaws.{plain-output}
 use Rattle.range.specs.Monotone.{quotient-rises}

@@ -1,9 +1,7 @@
 -- Request L14 at frames: "two frames, low and high", of a burst whose noise is known only between two curves.
-use Rattle.algebra.specs.Prelude.{List, ℕ, _*_, _/_, _%_, ℤ, pos, natAbs}
+use Rattle.range.specs.Prelude.{List, ℕ, _*_, _/_, _%_, ℤ, pos, natAbs, Side, Scene, noiseOver, differenceOver}
 use Rattle.sequences.specs.Tab.{tab}
 use Rattle.geometry.specs.Read.{planeOf}
-use Rattle.recipe.specs.Side.{Side}
-use Rattle.recipe.specs.Scene.{Scene, noiseOver, differenceOver}
 use Rattle.range.specs.Range.{lowSample, highSample}
 
 -- low and high samples, over a side

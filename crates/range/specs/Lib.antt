@@ -1,3 +1,4 @@
+pub mod Prelude
 pub mod Range
 pub mod Frames
 pub mod Monotone

@@ -1,13 +1,10 @@
 -- Rounding and holding keep the order.
-use Rattle.algebra.specs.Prelude.{[], _∷_, ℕ, zero, suc, _+_, _*_, _/_, _≤_, _<_, arith, lit<, ℤ, pos, negsuc, negℤ, _+ℤ_, _*ℤ_}
+use Rattle.range.specs.Prelude.{[], _∷_, ℕ, zero, suc, _+_, _*_, _/_, _≤_, _<_, arith, lit<, ℤ, pos, negsuc, negℤ, _+ℤ_, _*ℤ_, _≤ℤ_, _<ℤ_, shrZ, away, upward, clampZ}
 use native.Mathlib.Nat.{div-zero, mul-pos, mul-le-mul-right, le-of-mul-le-mul-right, le-div-iff-mul-le, div-mul-le-self}
-use lib.Signed.{_≤ℤ_, _<ℤ_, shrZ}
 use Rattle.algebra.specs.Order.{zarith, neg-p, neg-n}
 use Rattle.algebra.specs.Ring.{var, _⊞_, _⊠_, #_}
 use Rattle.algebra.specs.Cert.{num, le, _⊗_, by-le, le-pos}
 use Rattle.algebra.specs.Floor.{floor-le, floor-lt, cancel-lt}
-use Rattle.algebra.specs.Nearest.{away, upward}
-use Rattle.algebra.specs.Clamp.{clampZ}
 use Rattle.algebra.specs.ClampLaws.{clamp-cases, clamp-low}
 
 -- ---- a/m ≤ b/n, rounded down

@@ -1,9 +1,8 @@
 -- The order of curves: what lies between two numbers that refusals 8 and 9 let through is let through, and its level lies between theirs.
-use Rattle.algebra.specs.Prelude.{_≡_, refl, Bool, true, false, not, _&&_, _||_, ℕ, zero, suc, _+_, _*_, _≤_, _<_, arith}
+use Rattle.range.specs.Prelude.{_≡_, refl, Bool, true, false, not, _&&_, _||_, ℕ, zero, suc, _+_, _*_, _≤_, _<_, arith, Float, nan, inf, fin, up, down, below, level, lt, eq, le}
 use native.Mathlib.Nat.{le-of-lt, le-of-eq, mul-le-mul-right, mul-pos, zero-mul, le-of-mul-le-mul-right}
 use lib.Dec.{T, ltb, eqb, ltb→lt, leb→le, le→leb, eqb→eq}
 use borrow.Author.Tests.{ltb-false, eq-eqb}
-use lib.Ieee.{Float, nan, inf, fin, up, down, below, level, lt, eq, le}
 use lib.Ieee.Fits.{up-pos, down-pos, and-l, and-r, and-i}
 use Rattle.noise.specs.Level.{floor1024}
 use Rattle.noise.specs.Within.{within}

@@ -1,9 +1,6 @@
 -- Request L14, "Noise known only as a range": the low and the high sample where each tile's noise number is known only between two ends.
-use Rattle.algebra.specs.Prelude.{ℕ, ℤ, pos, _-ℤ_, _*ℤ_}
+use Rattle.range.specs.Prelude.{ℕ, ℤ, pos, _-ℤ_, _*ℤ_, away, minZ, maxZ, Side}
 use Rattle.algebra.specs.Sums.{sumZ}
-use Rattle.algebra.specs.Nearest.{away}
-use Rattle.algebra.specs.Clamp.{minZ, maxZ}
-use Rattle.recipe.specs.Side.{Side}
 use Rattle.recipe.specs.Correction.{binRe, binIm, filtered, twiddleRe, twiddleIm}
 use Rattle.recipe.specs.Output.{rowIn, columnIn, weightIn, rounded}
 

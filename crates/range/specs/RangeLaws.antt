@@ -1,19 +1,15 @@
 -- Whatever the noise numbers between their ends, the merged sample lies between the low and the high one; where the ends are equal, so are all three.
-use Rattle.algebra.specs.Prelude.{_≡_, refl, ap, ap₂, [], _∷_, ℕ, zero, suc, _*_, _≤_, arith, lit<, ℤ, pos, negsuc, _-ℤ_, _*ℤ_}
+use Rattle.range.specs.Prelude.{_≡_, refl, ap, ap₂, [], _∷_, ℕ, zero, suc, _*_, _≤_, arith, lit<, ℤ, pos, negsuc, _-ℤ_, _*ℤ_, _≤ℤ_, _<ℤ_, minZ, maxZ, away, Side}
 use mathlib.Core.Path.{fun-ext}
 use mathlib.Core.Logic.{⊎-elim}
 use native.Mathlib.Nat.{mul-pos}
-use lib.Signed.{_≤ℤ_, _<ℤ_}
 use Rattle.algebra.specs.Order.{zarith, sub-pn, 0≤pos, ≤ℤ-total, ≤ℤ-of-eq, <ℤ-≤ℤ}
 use Rattle.algebra.specs.Vars.{vars3, vars4}
 use Rattle.algebra.specs.Ring.{_⊞_, _⊠_, ⊖_, #_}
 use Rattle.algebra.specs.Cert.{nn, le, sqr, _⊕_, _⊗_, by-le, le-pos}
 use Rattle.algebra.specs.SumLaws.{sumZ-cong}
 use Rattle.algebra.specs.SumOrder.{sumZ-mono}
-use Rattle.algebra.specs.Clamp.{minZ, maxZ}
 use Rattle.algebra.specs.ClampLaws.{min-cases, max-cases}
-use Rattle.algebra.specs.Nearest.{away}
-use Rattle.recipe.specs.Side.{Side}
 use Rattle.recipe.specs.Correction.{power, wiener, quantized, binRe, binIm, filtered, twiddleRe, twiddleIm, inverseRe, inverseAt, correctionAt}
 use Rattle.recipe.specs.CorrectionLaws.{power-is}
 use Rattle.recipe.specs.Output.{rowIn, columnIn, weightIn}

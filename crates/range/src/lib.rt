@@ -1,7 +1,5 @@
 // The low and high frames where the noise is known only as a range (request L14): definitions and laws, and the tests of the two noises.
-ghost use mathlib.Core.Path.{_≡_};
-ghost use mathlib.Core.Bool.{_||_};
-ghost use Rattle.refusals.specs.Tests.{first};
+ghost use Rattle.range.specs.Prelude.{_≡_, _||_, first};
 ghost use Rattle.range.specs.Crossed.{crossed, rangeNoiseTests};
 use noise::Curve;
 use noise::Noise;

@@ -1,24 +1,14 @@
 -- Inside this crate: the rows of a band of both frames: what a row requires, a record for the loop, and how it starts, goes on and ends.
-use Rattle.algebra.specs.Prelude.{_≡_, refl, sym, ap, subst, _∙_, List, ℕ, _+_, _-_, _*_, _/_, _%_, _≤_, _<_, arith, length, ℤ, natAbs}
+use Rattle.range_frame.specs.Prelude.{_≡_, refl, sym, ap, subst, _∙_, List, ℕ, _+_, _-_, _*_, _/_, _%_, _≤_, _<_, arith, length, ℤ, natAbs, outputLength, side16, Merge, Scene, sceneAt, greatestAt, leastAt, lowSample, highSample, End, planeEnd, frameEnd, Inside, Over, rowWritten, RowReady, EndAt, endTaken, raised, atNoises, RowHeld, RowsWritten}
 use native.Mathlib.Nat.{mul-comm}
 use Rattle.sequences.specs.Tab.{tab}
 use Rattle.sequences.specs.Grid.{tab-ext}
 use Rattle.sequences.specs.Place.{place-row, place-column}
-use Rattle.geometry.specs.Shape.{outputLength}
 use Rattle.geometry.specs.Fits.{AllowedSize}
-use Rattle.recipe.specs.Tables.{side16}
-use Rattle.recipe.specs.declared.Merge.{Merge}
-use Rattle.recipe.specs.Scene.{Scene, sceneAt}
-use Rattle.range.specs.Range.{greatestAt, leastAt, lowSample, highSample}
-use Rattle.range.specs.Frames.{End, planeEnd, frameEnd}
 use Rattle.tiles.specs.Accepted.{Accepted}
-use Rattle.gather.specs.Work.{Inside, Over, rowWritten}
-use Rattle.gather.specs.Ready.{RowReady}
 use Rattle.gather.specs.Places.{output-room}
 use Rattle.range_tiles.specs.declared.Upper.{Upper}
-use Rattle.range_tiles.specs.EndSums.{EndAt, endTaken, raised, atNoises}
 use Rattle.range_tiles.specs.EndRowLaws.{sixteen}
-use Rattle.gather.specs.RowsHeld.{RowHeld, RowsWritten}
 use Rattle.gather.specs.RowLaws.{rows-start, rows-on, row-written, rows-whole, all-written}
 use Rattle.range_frame.specs.Held.{endWord, leastPart, EndsHeld, RowsRanged}
 use Rattle.range_frame.specs.SampleLaws.{Picks, low-picks, high-picks, end-word}

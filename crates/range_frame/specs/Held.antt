@@ -1,13 +1,6 @@
 -- Inside this crate: both ends of a row of pairs of tiles that the work area holds, and rows of the low and the high frame.
-use Rattle.algebra.specs.Prelude.{_≡_, List, ℕ, _*_, _/_, _%_, _+_, ℤ, natAbs, drop}
+use Rattle.range_frame.specs.Prelude.{_≡_, List, ℕ, _*_, _/_, _%_, _+_, ℤ, natAbs, drop, Scene, greatestAt, leastAt, lowSample, highSample, End, planeEnd, rowWords, EndAt, endTaken, rowWritten, RowHeld, RowsWritten}
 use Rattle.geometry.specs.declared.Shape.{Shape}
-use Rattle.recipe.specs.Scene.{Scene}
-use Rattle.range.specs.Range.{greatestAt, leastAt, lowSample, highSample}
-use Rattle.range.specs.Frames.{End, planeEnd}
-use Rattle.tiles.specs.Rows.{rowWords}
-use Rattle.range_tiles.specs.EndSums.{EndAt, endTaken}
-use Rattle.gather.specs.Work.{rowWritten}
-use Rattle.gather.specs.RowsHeld.{RowHeld, RowsWritten}
 
 -- word k of the frame of an end, as `frameEnd` (range/Frames) has it
 abbrev pub endWord : End → (lower upper : Scene) (k : ℕ) → ℕ

@@ -1,14 +1,11 @@
 -- Inside this crate: both ends of a row that is stored are held, and those of the row before it still are.
-use Rattle.algebra.specs.Prelude.{_≡_, sym, ap, subst, _∙_, List, ℕ, _+_, _-_, _*_, _≤_, _<_, arith, length, getD, drop, ℤ, pos, natAbs}
+use Rattle.range_frame.specs.Prelude.{_≡_, sym, ap, subst, _∙_, List, ℕ, _+_, _-_, _*_, _≤_, _<_, arith, length, getD, drop, ℤ, pos, natAbs, Scene, rowWords, slotOf, rowWord, RowHeld}
 use mathlib.Core.Logic.{inl, inr, ⊎-elim}
 use lib.ListN.{length-drop}
 use lib.Seq.{getD-drop}
-use Rattle.recipe.specs.Scene.{Scene}
 use Rattle.tiles.specs.Sum.{Taking, takenMost}
-use Rattle.tiles.specs.Rows.{rowWords, slotOf, rowWord}
 use Rattle.range_tiles.specs.EndRows.{leastSlot, RowAt, Outside, EndsStored}
 use Rattle.range_tiles.specs.EndRowLaws.{slot-most}
-use Rattle.gather.specs.RowsHeld.{RowHeld}
 use Rattle.gather.specs.HoldLaws.{slots}
 use Rattle.range_frame.specs.Held.{leastPart, EndsHeld}
 

@@ -1,15 +1,8 @@
 -- Inside this crate: what the frames of a range are, and what they and each part of them require. A buffer that is only measured stands here as its length.
-use Rattle.algebra.specs.Prelude.{_≡_, List, ℕ, _*_, _/_, _≤_, _<_, length, ℤ}
-use Rattle.geometry.specs.Shape.{outputLength, workLength}
+use Rattle.range_frame.specs.Prelude.{_≡_, List, ℕ, _*_, _/_, _≤_, _<_, length, ℤ, outputLength, workLength, Merge, sceneOf, lowFrame, highFrame, rowWords, RowReady, raised, UpperFits, atNoises}
 use Rattle.geometry.specs.declared.Shape.{Shape}
-use Rattle.recipe.specs.declared.Merge.{Merge}
-use Rattle.recipe.specs.Scene.{sceneOf}
-use Rattle.range.specs.Frames.{lowFrame, highFrame}
 use Rattle.tiles.specs.Accepted.{Accepted}
-use Rattle.tiles.specs.Rows.{rowWords}
 use Rattle.range_tiles.specs.declared.Upper.{Upper}
-use Rattle.gather.specs.Ready.{RowReady}
-use Rattle.range_tiles.specs.EndSums.{raised, UpperFits, atNoises}
 use Rattle.range_frame.specs.Held.{leastPart, EndsHeld}
 
 -- accepted input, two outputs of the right length, and room for two rows of both ends

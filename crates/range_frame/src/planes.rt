@@ -1,7 +1,5 @@
 // The two planes of a row parity of both frames: sixteen rows of the frame at a time, half of them of the parity, between two rows of pairs of tiles.
-ghost use Prim.Native.Nat.{_*_, _/_};
-ghost use lib.ListN.{length};
-ghost use Rattle.range_tiles.specs.EndSums.{atNoises};
+ghost use Rattle.range_frame.specs.Prelude.{_*_, _/_, length, atNoises};
 ghost use Rattle.range_frame.specs.Held.{RowsOut, RowsRanged, BandRanged};
 ghost use Rattle.range_frame.specs.Ready.{RowsReady, ParityReady, BandReady};
 use gather::output_row;

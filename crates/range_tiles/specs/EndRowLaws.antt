@@ -1,15 +1,10 @@
 -- Inside the crates of the range: a row stored pair by pair, both ends of each: its record, and how it starts, goes on and ends.
-use Rattle.algebra.specs.Prelude.{_≡_, refl, sym, subst, _∙_, List, ℕ, _+_, _-_, _*_, _/_, _%_, _≤_, _<_, arith, length, getD, ℤ, pos}
+use Rattle.range_tiles.specs.Prelude.{_≡_, refl, sym, subst, _∙_, List, ℕ, _+_, _-_, _*_, _/_, _%_, _≤_, _<_, arith, length, getD, ℤ, pos, cell, Scene, greatestAt, leastAt, Taking, PairTaken, rowWords, slotOf, rowWord, Spread}
 use mathlib.Core.Logic.{inl, inr, ⊎-elim}
 use native.Mathlib.Decide.{ℕ-discrete}
-use Rattle.sequences.specs.Grid.{cell}
 use Rattle.sequences.specs.Write.{written, written-in, written-before, written-after, written-length}
 use Rattle.geometry.specs.Fits.{TileSide}
-use Rattle.recipe.specs.Scene.{Scene}
-use Rattle.range.specs.Range.{greatestAt, leastAt}
-use Rattle.tiles.specs.Sum.{Taking, PairTaken}
 use Rattle.tiles.specs.Toward.{Toward, toward-same, toward-on, goal}
-use Rattle.tiles.specs.Rows.{rowWords, slotOf, rowWord, Spread}
 use Rattle.tiles.specs.StoreLaws.{Aimed, Placed, placed-start, placed-keep, placed-nearer, placed-turn, placed-word, placed-most}
 use Rattle.range_tiles.specs.EndSums.{endTaken}
 use Rattle.range_tiles.specs.EndRows.{leastSlot, RowAt, Outside, EndsStored}

@@ -1,5 +1,5 @@
 -- The sum of one end's P, frame by frame: its record, and how it starts, goes on and ends.
-use Rattle.algebra.specs.Prelude.{_≡_, sym, ap, ap₂, subst, _∙_, List, [], ℕ, _+_, _*_, _/_, _%_, _^_, _≤_, _<_, arith, lit≤, eqb, ℤ, pos, natAbs, _+ℤ_}
+use Rattle.range_tiles.specs.Prelude.{_≡_, sym, ap, ap₂, subst, _∙_, List, [], ℕ, _+_, _*_, _/_, _%_, _^_, _≤_, _<_, arith, lit≤, eqb, ℤ, pos, natAbs, _+ℤ_, side16, Scene, tileNoise, tileDifference, greatestAt, leastAt, Noises, PairSums, NoisesFit, noiseOf, pairPlus, pairEnd, takenMost, PairTaken}
 use native.Mathlib.Numerals.{add-one}
 use native.Mathlib.Nat.{le-trans, mul-le-mul-right}
 use Rattle.algebra.specs.Order.{abs-add}
@@ -8,9 +8,6 @@ use Rattle.algebra.specs.SumLaws.{sumZ-suc, sumZ-cong, sumZ-0}
 use Rattle.sequences.specs.Tab.{tab}
 use Rattle.sequences.specs.TabLaws.{tab-each}
 use Rattle.sequences.specs.Grid.{grid, cell, cell-grid, grid-ext, grid-of}
-use Rattle.recipe.specs.Tables.{side16}
-use Rattle.recipe.specs.Scene.{Scene, tileNoise, tileDifference}
-use Rattle.range.specs.Range.{greatestAt, leastAt}
 use Rattle.range.specs.RangeLaws.{greatest-same, least-same}
 use Rattle.lines.specs.Lines.{LineMost, TileMost}
 use Rattle.spectrum.specs.Apart.{cond-cases}
@@ -18,10 +15,7 @@ use Rattle.spectrum.specs.Magnitudes.{noiseMost, smallMost}
 use Rattle.spectrum.specs.Pairs.{planeIn, sideBySide}
 use Rattle.spectrum.specs.ZeroLaws.{no-noise}
 use Rattle.tiles.specs.declared.Site.{Site}
-use Rattle.ends.specs.declared.Noises.{Noises}
-use Rattle.ends.specs.Added.{PairSums, NoisesFit, noiseOf, pairPlus, pairEnd}
 use Rattle.ends.specs.EndLaws.{greatest-cong, least-cong, greatest-most, least-most}
-use Rattle.tiles.specs.Sum.{takenMost, PairTaken}
 use Rattle.range_tiles.specs.EndSums.{EndAt, endSum, EndSummed, endTaken}
 
 -- what the sum needs of an end

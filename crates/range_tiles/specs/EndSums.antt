@@ -1,20 +1,12 @@
 -- Inside the crates of the range: P of one end of a pair's tiles, summed over the other frames. `end` is `greatestAt` or `leastAt` (range/Range).
-use Rattle.algebra.specs.Prelude.{_≡_, List, ℕ, _*_, _≤_, _<_, ℤ, pos, natAbs}
+use Rattle.range_tiles.specs.Prelude.{_≡_, List, ℕ, _*_, _≤_, _<_, ℤ, pos, natAbs, grid, side16, Merge, Scene, referenceTile, tileNoise, tileDifference, sceneAt, greatestAt, leastAt, Taking, PairTaken, NoisesFit, noiseOf, Noises}
 use Rattle.algebra.specs.Sums.{sumZ}
-use Rattle.sequences.specs.Grid.{grid}
 use Rattle.spectrum.specs.Magnitudes.{smallMost}
 use Rattle.spectrum.specs.Pairs.{sideBySide}
-use Rattle.recipe.specs.Tables.{side16}
-use Rattle.recipe.specs.declared.Merge.{Merge}
 use Rattle.recipe.specs.NoiseNumber.{noiseNumber}
-use Rattle.recipe.specs.Scene.{Scene, referenceTile, tileNoise, tileDifference, sceneAt}
-use Rattle.range.specs.Range.{greatestAt, leastAt}
 use Rattle.tiles.specs.declared.Site.{Site}
 use Rattle.tiles.specs.Accepted.{Accepted, Sited}
-use Rattle.tiles.specs.Sum.{Taking, PairTaken}
 pub use Rattle.ends.specs.Added.{EndAt}
-use Rattle.ends.specs.Added.{NoisesFit, noiseOf}
-use Rattle.ends.specs.declared.Noises.{Noises}
 use Rattle.range_tiles.specs.declared.Upper.{Upper}
 
 -- P of a tile between two noise numbers, summed over the other frames

@@ -1,3 +1,4 @@
+pub mod Prelude
 pub mod EndSums
 pub mod EndSumLaws
 pub mod EndRows

@@ -2,8 +2,7 @@
 pub mod rows;
 
 ghost use Prim.Native.Nat.{_≤_};
-ghost use Rattle.recipe.specs.Tables.{side16};
-ghost use Rattle.recipe.specs.Scene.{sceneAt};
+ghost use Rattle.range_tiles.specs.Prelude.{side16, sceneAt};
 ghost use Rattle.range_tiles.specs.EndSums.{NoisesAre, SumsLent, EndsSummed, PairLent, EndsTaken, atNoises};
 use ends::Noises;
 use ends::add_ends;

@@ -1,7 +1,5 @@
 // Both ends of a row of pairs of tiles, in the work area.
-ghost use Prim.Native.Nat.{_≤_};
-ghost use mathlib.Core.Path.{_≡_};
-ghost use lib.ListN.{length};
+ghost use Rattle.algebra.specs.Prelude.{_≤_, _≡_, length};
 ghost use Rattle.range_tiles.specs.EndSums.{atNoises};
 ghost use Rattle.range_tiles.specs.EndRows.{leastSlot, EndRowLent, EndsStored};
 use crate::Upper;

@@ -1,25 +1,21 @@
 -- What a program prints for a file, from what the file check answered and what reading found.
-use Rattle.algebra.specs.Prelude.{_≡_, sym, ap, subst, _∙_, true, false, List, _++_, ℕ, _≤_, _<_, arith}
+use Rattle.report.specs.Prelude.{_≡_, sym, ap, subst, _∙_, true, false, List, _++_, ℕ, _≤_, _<_, arith, Allowed, Header, FileBurst, tooLarge, refusal}
 use lib.ListN.{length, take, drop, length-append, length-drop}
 use lib.Seq.{length-take-le, take-at}
 use borrow.Author.Tests.{lt-ltb, le-ltb, eq-eqb, ne-eqb}
 use Rattle.geometry.specs.declared.Shape.{Shape}
 use Rattle.geometry.specs.Shape.{sampleLength, lengthRefusal}
 use Rattle.limits.specs.Order.{shapeTests}
-use Rattle.geometry.specs.Fits.{Allowed}
 use Rattle.geometry.specs.ShapeLaws.{below-count}
 use Rattle.refusals.specs.Numbers as no
 use Rattle.refusals.specs.TestLaws.{among, passed}
 use Rattle.noise.specs.LevelLaws.{levels-most, strength-most}
 use Rattle.burst_file.specs.declared.FileAnswer.{FileAnswer}
-use Rattle.file_head.specs.declared.Header.{Header}
-use Rattle.burst_file.specs.Burst.{FileBurst}
 use Rattle.file_lines.specs.Part.{Part, refused, found, numberOf}
 use Rattle.file_head.specs.Head.{headerRefusal, headOf}
 use Rattle.file_head.specs.HeadLaws.{HeadRead, packed-allowed, head-complete}
 use Rattle.burst_file.specs.Reading.{reading, fileCheck, samplesAfter, FileRead}
 use Rattle.burst_file.specs.Acceptance.{Accepted, sound-number, complete}
-use Rattle.printing.specs.Lines.{tooLarge, refusal}
 use Rattle.report.specs.Program.{fileMost, programSide, taken, checked, answerText, programText}
 use Rattle.report.specs.Inner.{room, burstOf, Holds}
 

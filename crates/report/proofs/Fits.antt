@@ -1,9 +1,7 @@
 -- A burst that the programs take has the shape and the lengths that the cores of the calls ask for.
-use Rattle.algebra.specs.Prelude.{_≡_, _∙_, List, ℕ, _-_, arith, length}
+use Rattle.report.specs.Prelude.{_≡_, _∙_, List, ℕ, _-_, arith, length, BurstFits, AlignFits, MergeFits, Header}
 use mathlib.Core.Logic.{inl}
 use Rattle.geometry.specs.Shape.{sampleLength, vectorLength, outputLength, workLength}
-use Rattle.geometry.specs.Fits.{BurstFits, AlignFits, MergeFits}
-use Rattle.file_head.specs.declared.Header.{Header}
 use Rattle.report.specs.Inner.{room, vectorRoom, workRoom, Taken}
 
 module _ {header : Header} {samples : List ℕ} (t : Taken header samples) where

@@ -1,10 +1,5 @@
 -- Inner vocabulary, which no public contract reaches: what the private functions ask of each other and leave to each other.
-use Rattle.algebra.specs.Prelude.{_≡_, List, ℕ, _-_, _*_, _≤_, _<_, length, take, ℤ}
-use Rattle.geometry.specs.Fits.{Allowed, ValuesFit}
-use Rattle.alignment.specs.Aligned.{alignedVectors, residualSums}
-use Rattle.file_head.specs.declared.Header.{Header}
-use Rattle.burst_file.specs.Burst.{FileBurst}
-use Rattle.printing.specs.Lines.{tooLarge, refusal}
+use Rattle.report.specs.Prelude.{_≡_, List, ℕ, _-_, _*_, _≤_, _<_, length, take, ℤ, Allowed, ValuesFit, alignedVectors, residualSums, Header, FileBurst, tooLarge, refusal}
 use Rattle.report.specs.declared.opening.Opened.{Opened}
 use Rattle.report.specs.declared.text.Program.{Program}
 use Rattle.report.specs.declared.text.Program.the-variants.{Motion, Stack}

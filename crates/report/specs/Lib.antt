@@ -1,3 +1,4 @@
+pub mod Prelude
 pub mod Program
 pub mod Motion
 pub mod Stack

@@ -1,10 +1,7 @@
 -- Document 01, "The program `motion` prints one line per other frame".
-use Rattle.algebra.specs.Prelude.{List, [], _∷_, _++_, ℕ, zero, suc, _-_, getD, ℤ}
+use Rattle.report.specs.Prelude.{List, [], _∷_, _++_, ℕ, zero, suc, _-_, getD, ℤ, alignedVectors, residualSums, FileBurst, motionNames, numberLine}
 use Rattle.geometry.specs.Tiles.{frameParts}
 use Rattle.geometry.specs.Vectors.{otherFrame, partsOf}
-use Rattle.alignment.specs.Aligned.{alignedVectors, residualSums}
-use Rattle.burst_file.specs.Burst.{FileBurst}
-use Rattle.printing.specs.Lines.{motionNames, numberLine}
 use Rattle.tallies.specs.Tallies.{tiles, stillTiles, farthest}
 use Rattle.report.specs.Program.{programText}
 

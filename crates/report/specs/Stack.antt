@@ -1,12 +1,8 @@
 -- Document 01, "`stack` the merged frame (names `width height`, their values, rows)".
-use Rattle.algebra.specs.Prelude.{List, [], _∷_, _++_, ℕ}
-use Rattle.alignment.specs.Aligned.{alignedVectors}
+use Rattle.report.specs.Prelude.{List, [], _∷_, _++_, ℕ, alignedVectors, Header, FileBurst, stackNames, numberLine, sampleRows}
 use Rattle.recipe.specs.declared.Merge.{Merge}
 use Rattle.recipe.specs.Scene.{sceneOf}
 use Rattle.recipe.specs.Merged.{merged}
-use Rattle.file_head.specs.declared.Header.{Header}
-use Rattle.burst_file.specs.Burst.{FileBurst}
-use Rattle.printing.specs.Lines.{stackNames, numberLine, sampleRows}
 use Rattle.report.specs.Program.{programText}
 
 -- "a burst file means zeros" (request L3)

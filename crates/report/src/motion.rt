@@ -1,8 +1,5 @@
 // What `motion` prints.
-ghost use mathlib.Core.Path.{_≡_};
-ghost use Prim.Native.Nat.{_+_, _*_, _<_, _≤_};
-ghost use lib.ListN.{length};
-ghost use Rattle.printing.specs.Put.{Printed};
+ghost use Rattle.report.specs.Prelude.{_≡_, _+_, _*_, _<_, _≤_, length, Printed};
 ghost use Rattle.report.specs.Program.{textRoom};
 ghost use Rattle.report.specs.Motion.{frameLine, frameLines, motionOf};
 ghost use Rattle.report.specs.Inner.{vectorRoom, workRoom, burstOf, Taken, AlignedAs};

@@ -1,6 +1,5 @@
 // What a program makes of a file before it prints.
-ghost use Prim.Native.Nat.{_≤_};
-ghost use lib.ListN.{length};
+ghost use Rattle.algebra.specs.Prelude.{_≤_, length};
 ghost use Rattle.report.specs.Program.{fileMost};
 ghost use Rattle.report.specs.Inner.{room, Opens};
 use crate::sizes::FRAME;

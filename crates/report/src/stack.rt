@@ -1,8 +1,5 @@
 // What `stack` prints.
-ghost use mathlib.Core.Path.{_≡_};
-ghost use Prim.Native.Nat.{_≤_};
-ghost use lib.ListN.{length};
-ghost use Rattle.printing.specs.Put.{Printed};
+ghost use Rattle.report.specs.Prelude.{_≡_, _≤_, length, Printed};
 ghost use Rattle.report.specs.Program.{textRoom, programSide};
 ghost use Rattle.report.specs.Stack.{frameText, frameOf, stackOf};
 ghost use Rattle.report.specs.Inner.{room, vectorRoom, workRoom, burstOf, Taken};

@@ -1,8 +1,5 @@
 // What each program prints for a file, from the front of a lent text on. Each function answers the number of its bytes.
-ghost use mathlib.Core.Path.{_≡_};
-ghost use Prim.Native.Nat.{_≤_, _<_};
-ghost use lib.ListN.{length, take};
-ghost use Rattle.printing.specs.Put.{Printed};
+ghost use Rattle.report.specs.Prelude.{_≡_, _≤_, _<_, length, take, Printed};
 ghost use Rattle.report.specs.Program.{textRoom, fileMost, programText};
 ghost use Rattle.report.specs.Motion.{motionText};
 ghost use Rattle.report.specs.Stack.{stackText};

@@ -1,7 +1,5 @@
 // Sums of squared differences over tiles of side 8, against windows of side 16.
-ghost use mathlib.Core.Path.{_≡_};
-ghost use mathlib.Core.Bool.{true};
-ghost use Prim.Native.Nat.{_+_, _≤_};
+ghost use Rattle.algebra.specs.Prelude.{_≡_, true, _+_, _≤_};
 ghost use Rattle.residuals.specs.Local.{rowSum, Compared};
 ghost use Rattle.residuals.specs.Magnitudes.{squaredRowMost};
 use crate::sixteen::square;

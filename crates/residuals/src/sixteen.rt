@@ -1,9 +1,6 @@
 // Sums of differences over tiles of side 16, in shapes that become vector instructions: samples are at most 16380, so that four of their
 // distances fit 16 bits, 16 of their squares 32 bits.
-ghost use mathlib.Core.Path.{_≡_};
-ghost use mathlib.Core.Bool.{false};
-ghost use Prim.Native.Nat.{_+_, _*_, _<_, _≤_};
-ghost use lib.ListN.{getD};
+ghost use Rattle.algebra.specs.Prelude.{_≡_, false, _+_, _*_, _<_, _≤_, getD};
 ghost use Rattle.algebra.specs.Sums.{sumN};
 ghost use Rattle.sequences.specs.Tab.{tab};
 ghost use Rattle.halving.specs.Magnitudes.{valueMost};

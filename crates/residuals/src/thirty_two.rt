@@ -1,7 +1,5 @@
 // Sums of absolute differences over tiles of side 32: a row's distances are added by fours in 16 bits, as side 16's of two rows.
-ghost use mathlib.Core.Path.{_≡_};
-ghost use mathlib.Core.Bool.{false};
-ghost use Prim.Native.Nat.{_+_, _*_, _≤_};
+ghost use Rattle.algebra.specs.Prelude.{_≡_, false, _+_, _*_, _≤_};
 ghost use Rattle.residuals.specs.Magnitudes.{fourMost, pairMost};
 ghost use Rattle.residuals.specs.Local.{rowSum, squareSum, besideSum, Compared};
 use crate::sixteen::beside;

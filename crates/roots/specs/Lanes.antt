@@ -1,9 +1,5 @@
 -- Inside this crate: the squares of a pair of tiles by their places in a row. Place 2·j + p is column j of plane p.
-use Rattle.algebra.specs.Prelude.{cond, List, ℕ, _%_, eqb, getD}
-use Rattle.algebra.specs.Sums.{sumN}
-use Rattle.sequences.specs.Tab.{tab}
-use Rattle.sequences.specs.Grid.{cell}
-use Rattle.recipe.specs.NoiseNumber.{squared}
+use Rattle.roots.specs.Prelude.{cond, List, ℕ, _%_, eqb, getD, sumN, tab, cell, squared}
 
 -- the black level at place l
 unfoldable pub laneBlack : (first second l : ℕ) → ℕ

@@ -1,3 +1,4 @@
+pub mod Prelude
 pub mod Range
 pub mod Lanes
 pub mod RootLaws

@@ -1,8 +1,7 @@
 -- The whole root r of n is the one number with r² ≤ n < (r + 1)²: by induction on the steps, and by comparing squares.
-use Rattle.algebra.specs.Prelude.{_≡_, refl, Bool, true, false, cond, ℕ, zero, suc, _+_, _*_, _/_, _≤_, _<_, arith, leb}
+use Rattle.roots.specs.Prelude.{_≡_, refl, Bool, true, false, cond, ℕ, zero, suc, _+_, _*_, _/_, _≤_, _<_, arith, leb, orNext, rootIn, wholeRoot}
 use native.Mathlib.Nat.{le-antisymm, le-trans, lt-of-not-le, mul-le-mul}
 use borrow.Author.Tests.{leb-true, leb-false}
-use Rattle.recipe.specs.Root.{orNext, rootIn, wholeRoot}
 
 pub record IsRoot (n r : ℕ) : Type 0 where
   pub low : r * r ≤ n

@@ -1,10 +1,7 @@
 -- r's bound, and its monotony in the black level.
-use Rattle.algebra.specs.Prelude.{_≡_, ap, ℕ, _+_, _*_, _≤_, _<_, arith}
+use Rattle.roots.specs.Prelude.{_≡_, ap, ℕ, _+_, _*_, _≤_, _<_, arith, sumN, wholeRoot, intensity, squared, sumOfSquares, tileRoot}
 use native.Mathlib.Nat.{mul-le-mul}
-use Rattle.algebra.specs.Sums.{sumN}
 use Rattle.algebra.specs.SumLaws.{sumN-cong, sumN-mono, sumN-bound}
-use Rattle.recipe.specs.Root.{wholeRoot}
-use Rattle.recipe.specs.NoiseNumber.{intensity, squared, sumOfSquares, tileRoot}
 use Rattle.roots.specs.RootLaws.{root-mono, root-most}
 
 -- r is that of the n by n samples alone

@@ -1,6 +1,5 @@
 -- What r is worked out for, inside this crate's contracts.
-use Rattle.algebra.specs.Prelude.{_≡_, List, ℕ, _*_, _≤_, length, getD}
-use Rattle.sequences.specs.Grid.{cell}
+use Rattle.roots32.specs.Prelude.{_≡_, List, ℕ, _*_, _≤_, length, getD, cell}
 
 -- each sample of a row is at most 4095
 pub record RowFits (row : List ℕ) : Type 0 where

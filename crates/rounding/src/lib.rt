@@ -1,7 +1,5 @@
 // Division to nearest, halves away from zero. Half of the divisor is added: nothing is doubled, so nothing overflows.
-ghost use mathlib.Core.Path.{_≡_};
-ghost use Prim.Native.Nat.{_-_, _≤_, _<_, _^_};
-ghost use lib.IntN.{pos, natAbs, negℤ};
+ghost use Rattle.algebra.specs.Prelude.{_≡_, _-_, _≤_, _<_, _^_, pos, natAbs, negℤ};
 ghost use Rattle.algebra.specs.Nearest.{away, upward};
 
 // |z|

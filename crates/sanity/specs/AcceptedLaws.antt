@@ -1,20 +1,8 @@
 -- What a call that has accepted leaves: its burst has passed the tests, and the buffers hold what the definitions say.
 use Rattle.algebra.specs.Prelude.{_≡_, sym, ap, _∙_, List, ℕ, length, ℤ}
-use Rattle.geometry.specs.declared.Shape.{Shape}
+use Rattle.sanity.specs.Prelude.{Shape, vectorLength, BurstFits, SamplesFit, TileSide, Noise, alignedVectors, residualSums, rowsSummed, Merge, sceneOf, merged, Alignment, Tuning, alignRefusal, runRefusal, mergeRefusal, mergeOf, noSums, answered, Aligned, Merged, Ran}
 use Rattle.refusals.specs.AfterLaws.{result-made}
-use Rattle.geometry.specs.Shape.{vectorLength}
-use Rattle.geometry.specs.Fits.{BurstFits, SamplesFit, TileSide}
-use Rattle.noise.specs.declared.Noise.{Noise}
-use Rattle.alignment.specs.Aligned.{alignedVectors, residualSums}
-use Rattle.alignment.specs.Rows.{rowsSummed}
 use Rattle.alignment.specs.Burst.{Ready}
-use Rattle.recipe.specs.declared.Merge.{Merge}
-use Rattle.recipe.specs.Scene.{sceneOf}
-use Rattle.recipe.specs.Merged.{merged}
-use Rattle.stacker.specs.declared.Alignment.{Alignment}
-use Rattle.recipe.specs.declared.Tuning.{Tuning}
-use Rattle.admission.specs.Refusals.{alignRefusal, runRefusal, mergeRefusal, mergeOf}
-use Rattle.stacker.specs.Calls.{noSums, answered, Aligned, Merged, Ran}
 use Rattle.pipeline.specs.Levels.{Runnable}
 use Rattle.stacker.specs.AdmissionLaws.{align-passed, run-passed, merge-passed}
 use Rattle.sanity.specs.Frames.{Burst}

@@ -5,19 +5,11 @@ use lib.ListN.{take-append-drop, drop-of-length-le}
 use lib.Seq.{drop-drop}
 use Rattle.sequences.specs.TabLaws.{length-tab}
 use Rattle.refusals.specs.Numbers as no
-use Rattle.refusals.specs.Tests.{first}
+use Rattle.sanity.specs.Prelude.{first, Shape, outputLength, workLength, lengthRefusal, Noise, Tuning, sceneAt, sceneOf, wordAt, merged, runTests, mergeRefusal, mergeOf, Merged}
 use Rattle.refusals.specs.AfterLaws.{result-made}
-use Rattle.geometry.specs.declared.Shape.{Shape}
-use Rattle.geometry.specs.Shape.{outputLength, workLength, lengthRefusal}
 use Rattle.limits.specs.Order.{shapeTests, burstTests, mergeLengths, mergeShapeTests}
 use Rattle.limits.specs.Bands.{bandLength, bandWorkLength, bandPartRefusal, bandLengths, bandShapeTests}
-use Rattle.noise.specs.declared.Noise.{Noise}
-use Rattle.recipe.specs.declared.Tuning.{Tuning}
-use Rattle.recipe.specs.Scene.{sceneAt, sceneOf}
-use Rattle.recipe.specs.Merged.{wordAt, merged}
-use Rattle.admission.specs.Refusals.{runTests, mergeRefusal, mergeOf}
 use Rattle.admission.specs.Bands.{bandRefusal}
-use Rattle.stacker.specs.Calls.{Merged}
 use Rattle.stacker.specs.Bands.{band, Banded}
 
 module _ (s : Shape) (reference : ℕ) (noise : Noise) (tuning : Tuning) (samples : List ℕ) (vectors : List ℤ) where

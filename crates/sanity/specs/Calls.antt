@@ -1,17 +1,6 @@
 -- The same at the calls, once they have accepted: what merge, align and run leave without the spatial filter at strength 0, of a lone frame, of frames that are all equal, and of frames
 -- in another order.
-use Rattle.algebra.specs.Prelude.{_≡_, sym, ap, _∙_, List, ℕ, ℤ, pos}
-use lib.ListN.{length, replicate}
-use Rattle.sequences.specs.Clear.{zeros}
-use Rattle.geometry.specs.declared.Shape.{Shape}
-use Rattle.noise.specs.declared.Noise.{Noise}
-use Rattle.alignment.specs.Aligned.{alignedVectors}
-use Rattle.recipe.specs.Scene.{sceneOf}
-use Rattle.recipe.specs.Merged.{merged}
-use Rattle.stacker.specs.declared.Alignment.{Alignment}
-use Rattle.recipe.specs.declared.Tuning.{Tuning}
-use Rattle.admission.specs.Refusals.{mergeOf}
-use Rattle.stacker.specs.Calls.{noSums, Aligned, Merged, Ran}
+use Rattle.sanity.specs.Prelude.{_≡_, sym, ap, _∙_, List, ℕ, ℤ, pos, length, replicate, zeros, Shape, Noise, alignedVectors, sceneOf, merged, Alignment, Tuning, mergeOf, noSums, Aligned, Merged, Ran}
 use Rattle.sanity.specs.Frames.{frameWords, Alike}
 use Rattle.sanity.specs.StrengthZero as StrengthZero
 use Rattle.sanity.specs.LoneFrame as LoneFrame

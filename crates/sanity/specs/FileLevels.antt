@@ -1,5 +1,5 @@
 -- A file's levels as a curve, in quotients by 1024, as `stacker_file_noise` of stacker.h has them: the quotients are exact, and merge and run find the file's own levels in them.
-use Rattle.algebra.specs.Prelude.{_≡_, refl, sym, ap, ap₂, subst, _∙_, true, false, not, _&&_, ℕ, _*_, _/_, _^_, _≤_, _<_, arith, T, ltb, lit<, lit≤, pos}
+use Rattle.sanity.specs.Prelude.{_≡_, refl, sym, ap, ap₂, subst, _∙_, true, false, not, _&&_, ℕ, _*_, _/_, _^_, _≤_, _<_, arith, T, ltb, lit<, lit≤, pos, first}
 use native.Mathlib.Nat.{mul-div-cancel, lt-of-lt-of-le, lt-of-le-of-lt, le-trans, eq-of-mul-eq-mul-right, mul-pos, mul-le-mul-right}
 use lib.Pow.{shl-lt}
 use lib.Ieee.{Float, nan, inf, fin, binary64, up, down, round, div, ofInt}
@@ -7,7 +7,6 @@ use lib.Ieee.Exact.{HasValue, round-exact}
 use lib.Ieee.Back.{round-whole}
 use lib.Ieee.Fits.{down-pos}
 use borrow.Author.Tests.{le-ltb}
-use Rattle.refusals.specs.Tests.{first}
 use Rattle.refusals.specs.After.{after}
 use Rattle.noise.specs.declared.Noise.the-variants.{Measured}
 use Rattle.noise.specs.declared.Levels.the-variants.{Found}

@@ -1,17 +1,6 @@
 -- Frames that are flat, each of one sample value, and the value of their merge in a line of arithmetic.
 use Rattle.algebra.specs.Prelude.{_≡_, List, ℕ, suc, _-_, _*_, _≤_, _<_, ℤ, pos, _-ℤ_, _*ℤ_}
-use lib.ListN.{replicate}
-use Rattle.algebra.specs.Sums.{sumZ}
-use Rattle.algebra.specs.Clamp.{clampZ}
-use Rattle.algebra.specs.Nearest.{away, upward}
-use Rattle.geometry.specs.declared.Shape.{Shape}
-use Rattle.geometry.specs.Shape.{outputLength}
-use Rattle.geometry.specs.Fits.{Sampled}
-use Rattle.geometry.specs.Vectors.{otherFrame}
-use Rattle.recipe.specs.Tables.{side16}
-use Rattle.recipe.specs.NoiseNumber.{noiseNumber}
-use Rattle.recipe.specs.Correction.{wiener}
-use Rattle.recipe.specs.Scene.{Scene}
+use Rattle.sanity.specs.Prelude.{replicate, sumZ, clampZ, away, upward, Shape, outputLength, Sampled, otherFrame, side16, noiseNumber, wiener, Scene}
 use Rattle.sanity.specs.Frames.{Same, frameWords}
 
 -- without the spatial filter, the reference has the sample a everywhere, and the k-th other frame b k

@@ -1,26 +1,11 @@
 -- Try flat frames: every tile fits everywhere as well, so by the tie rule no vector moves, and the residuals are the difference times the samples.
 use mathlib.Core.Path.{_≡_, sym, _∙_, ap, ap₂, fun-ext, subst}
-use Rattle.algebra.specs.Prelude.{Bool, false, List, ℕ, zero, suc, _-_, _*_, _/_, _<_, arith, ℤ, pos}
-use lib.ListN.{replicate}
-use Rattle.geometry.specs.declared.Shape.{Shape}
-use Rattle.geometry.specs.Shape.{vectorLength}
-use Rattle.geometry.specs.Read.{Image, read, sampleAt}
-use Rattle.geometry.specs.Vectors.{otherFrame, downAt, rightAt}
-use Rattle.geometry.specs.Tiles.{finestLevel, levelSize}
+use Rattle.sanity.specs.Prelude.{Bool, false, List, ℕ, zero, suc, _-_, _*_, _/_, _<_, arith, ℤ, pos, replicate, Shape, vectorLength, Image, read, sampleAt, otherFrame, downAt, rightAt, finestLevel, levelSize, Tile, Vector, still, gap, difference, Pair, rowResidual, residual, levelAt, levelTile, levelRows, levelColumns, residualSum, levelImage, pairs, vectorsOf, residualOf, fieldOf, sumOf, alignedVectors, tileResidual}
 use Rattle.geometry.specs.LevelTiles.{levelTiles}
 use Rattle.bayer.specs.Bayer.{bayerSum}
 use Rattle.halving.specs.Halving.{weighted, halved}
 use Rattle.pyramid.specs.Pyramid.{quartered, image0, image1, image2, image3}
 use Rattle.pyramid.specs.Layout.{tiles}
-use Rattle.residuals.specs.declared.Tile.{Tile}
-use Rattle.geometry.specs.declared.vectors.Vector.{Vector}
-use Rattle.search.specs.Vectors.{still}
-use Rattle.residuals.specs.Residual.{gap, difference, Pair, rowResidual, residual}
-use Rattle.levels.specs.Fields.{levelAt, levelTile}
-use Rattle.alignment.specs.Fields.{levelRows, levelColumns, residualSum}
-use Rattle.alignment.specs.Frames.{levelImage, pairs, vectorsOf, residualOf}
-use Rattle.alignment.specs.Aligned.{fieldOf, sumOf, alignedVectors}
-use Rattle.tile_residuals.specs.Residuals.{tileResidual}
 use Rattle.sanity.specs.FrameLaws.{flat-same}
 use Rattle.sanity.specs.StillLaws.{sum-same, AtRest, StillField, field-still, sum-still, vectors-still}
 use Rattle.sanity.specs.PyramidLaws.{pairs-agree}

@@ -1,30 +1,11 @@
 -- Document 01's figure: "W = H = 64, N = 2, reference 0 all 0, frame 1 all 4, shot 0, read 4194304, t 1024: every merged sample is 2. With t 0 it is 0."
-use Rattle.algebra.specs.Prelude.{_≡_, refl, ap, _∙_, List, [], _∷_, _++_, ℕ, zero, suc, _*_, _/_, _<_, arith, lit≤, lit<, ℤ, pos}
+use Rattle.sanity.specs.Prelude.{_≡_, refl, ap, _∙_, List, [], _∷_, _++_, ℕ, zero, suc, _*_, _/_, _<_, arith, lit≤, lit<, ℤ, pos, sumZ, minZ, maxZ, clampZ, away, upward, tab, Shape, sampleLength, vectorLength, outputLength, AllowedSize, Sampled, otherFrame, level0, levelSize, tileCount, residualLength, alignedVectors, residualSums, residualWord, tileResiduals, side16, sideOf, variance, noiseNumber, wiener, Merge, sceneOf, sceneAt, merged}
 use lib.ListN.{length, take, replicate, length-replicate, length-append}
 use lib.Seq.{take-at, drop-at, take-all}
-use Rattle.algebra.specs.Sums.{sumZ}
-use Rattle.algebra.specs.Clamp.{minZ, maxZ, clampZ}
-use Rattle.algebra.specs.Nearest.{away, upward}
-use Rattle.sequences.specs.Tab.{tab}
 use Rattle.sequences.specs.Grid.{tab-ext}
 use Rattle.sequences.specs.ClearLaws.{tab-const}
-use Rattle.geometry.specs.declared.Shape.{Shape}
-use Rattle.geometry.specs.Shape.{sampleLength, vectorLength, outputLength}
-use Rattle.geometry.specs.Fits.{AllowedSize, Sampled}
-use Rattle.geometry.specs.Vectors.{otherFrame}
-use Rattle.geometry.specs.Tiles.{level0, levelSize, tileCount}
 use Rattle.geometry.specs.LevelTiles.{levelTiles}
-use Rattle.limits.specs.Residuals.{residualLength}
 use Rattle.pyramid.specs.Layout.{tiles}
-use Rattle.alignment.specs.Aligned.{alignedVectors, residualSums}
-use Rattle.tile_residuals.specs.Residuals.{residualWord, tileResiduals}
-use Rattle.recipe.specs.Tables.{side16}
-use Rattle.recipe.specs.Sides.{sideOf}
-use Rattle.recipe.specs.NoiseNumber.{variance, noiseNumber}
-use Rattle.recipe.specs.Correction.{wiener}
-use Rattle.recipe.specs.declared.Merge.{Merge}
-use Rattle.recipe.specs.Scene.{sceneOf, sceneAt}
-use Rattle.recipe.specs.Merged.{merged}
 use Rattle.sanity.specs.Frames.{frameWords}
 use Rattle.sanity.specs.FrameLaws.{packed-words}
 use Rattle.sanity.specs.Flat.{FlatBurst, flatCorrection, flatOutput}

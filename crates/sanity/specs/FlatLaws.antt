@@ -1,21 +1,12 @@
 -- Flat frames: a tile of equal differences has one bin and one correction everywhere, and the windows add up to one.
-use Rattle.algebra.specs.Prelude.{_≡_, refl, sym, ap, ap₂, _∙_, [], _∷_, ℕ, zero, suc, _+_, _-_, _*_, _%_, _<_, arith}
+use Rattle.sanity.specs.Prelude.{_≡_, refl, sym, ap, ap₂, _∙_, [], _∷_, ℕ, zero, suc, _+_, _-_, _*_, _%_, _<_, arith, sumZ, sumN, away, upward, clampZ, sumOfSquares, tileRoot, Side, cosAt, sinAt, cosines, cosine16, sine16, side16, wiener, rowRe, rowIm, binRe, binIm, quantized, filtered, twiddleRe, twiddleIm, inverseAt, correctionAt, rowIn, columnIn, weightIn, outputSample}
 use lib.Dec.{T, eqb, eqb→eq, lit<}
 use lib.IntN.{ℤ, pos, negsuc, negℤ, natAbs, _+ℤ_, _-ℤ_, _*ℤ_, +ℤ-idr, *ℤ-zero, zero-*ℤ, *ℤ-comm}
 use Rattle.algebra.specs.Ring.{var, _⊠_, #_, ring, _⊟_}
-use Rattle.algebra.specs.Sums.{sumZ, sumN}
 use Rattle.algebra.specs.SumLaws.{sumZ-cong, sumZ-scale, sumZ-scaler, sumN-cong, sumN-const}
 use Rattle.algebra.specs.Test.{all, all-sound}
-use Rattle.algebra.specs.Nearest.{away, upward}
-use Rattle.algebra.specs.Clamp.{clampZ}
 use Rattle.roots.specs.RootLaws.{root-unique}
-use Rattle.recipe.specs.NoiseNumber.{sumOfSquares, tileRoot}
-use Rattle.recipe.specs.Side.{Side, cosAt, sinAt}
-use Rattle.recipe.specs.Tables.{cosines, cosine16, sine16, side16}
-use Rattle.recipe.specs.Correction.{wiener, rowRe, rowIm, binRe, binIm, quantized, filtered, twiddleRe, twiddleIm, inverseAt, correctionAt}
 use Rattle.recipe.specs.TableLaws.{window-halves}
-use Rattle.recipe.specs.Output.{rowIn, columnIn, weightIn}
-use Rattle.recipe.specs.PlainOutput.{outputSample}
 use Rattle.closeness.specs.Windows.{four-windows}
 use Rattle.spectrum.specs.ZeroLaws.{sumZ-zero, away-zero, wiener-zero, less-none, more-none}
 use Rattle.figures.specs.LoneBin.{lone-bin}

@@ -1,18 +1,9 @@
 -- Try flat frames: whatever the vectors, each plane of the merged frame is flat too, of the value `flatOutput`; and so is the frame where the planes have one black level.
 use mathlib.Core.Path.{_≡_, refl, _∙_, ap, ap₂, fun-ext}
-use Rattle.algebra.specs.Prelude.{List, ℕ, _+_, _-_, _*_, _/_, _%_, _<_, arith, ℤ, pos, natAbs, _-ℤ_}
-use lib.ListN.{replicate}
+use Rattle.sanity.specs.Prelude.{List, ℕ, _+_, _-_, _*_, _/_, _%_, _<_, arith, ℤ, pos, natAbs, _-ℤ_, replicate, outputLength, otherFrame, planeOf, read, side16, tileRoot, noiseNumber, Merge, Scene, sceneOf, blackOf, tileAt, referenceTile, otherTile, tileNoise, tileDifference, sceneAt, outputAt, wordAt, merged}
 use Rattle.sequences.specs.Grid.{tab-ext}
 use Rattle.sequences.specs.ClearLaws.{tab-const}
-use Rattle.geometry.specs.Shape.{outputLength}
-use Rattle.geometry.specs.Vectors.{otherFrame}
-use Rattle.geometry.specs.Read.{planeOf, read}
-use Rattle.recipe.specs.Tables.{side16}
 use Rattle.recipe.specs.SideLaws.{of-16}
-use Rattle.recipe.specs.NoiseNumber.{tileRoot, noiseNumber}
-use Rattle.recipe.specs.declared.Merge.{Merge}
-use Rattle.recipe.specs.Scene.{Scene, sceneOf, blackOf, tileAt, referenceTile, otherTile, tileNoise, tileDifference, sceneAt}
-use Rattle.recipe.specs.Merged.{outputAt, wordAt, merged}
 use Rattle.spatial.specs.PlainLaws.{plain-output}
 use Rattle.sanity.specs.FrameLaws.{flat-same, row-inside, column-inside}
 use Rattle.sanity.specs.MergeLaws.{tile-same}

@@ -1,14 +1,10 @@
 -- A frame's words are its samples row by row, and frames of equal words are equal images.
-use Rattle.algebra.specs.Prelude.{_≡_, refl, sym, ap, ap₂, _∙_, List, ℕ, zero, suc, _+_, _*_, _/_, _%_, _≤_, _<_, arith}
+use Rattle.sanity.specs.Prelude.{_≡_, refl, sym, ap, ap₂, _∙_, List, ℕ, zero, suc, _+_, _*_, _/_, _%_, _≤_, _<_, arith, Shape, sampleLength, outputLength, Image, sampleIndex, sampleAt, Sampled}
 use native.Mathlib.Nat.{mod-lt, div-lt-iff-lt-mul, div-add-mod', mul-comm, zero-mul, suc-mul, mul-le-mul-right}
 use lib.ListN.{length, getD, take, drop, replicate, length-drop}
 use lib.Seq.{ext-getD, length-take-le, getD-take, getD-drop}
 use Rattle.sequences.specs.TabLaws.{length-tab, getD-tab}
 use Rattle.sequences.specs.ClearLaws.{tab-const}
-use Rattle.geometry.specs.declared.Shape.{Shape}
-use Rattle.geometry.specs.Shape.{sampleLength, outputLength}
-use Rattle.geometry.specs.Read.{Image, sampleIndex, sampleAt}
-use Rattle.geometry.specs.Fits.{Sampled}
 use Rattle.geometry.specs.ReadLaws.{cell-below}
 use Rattle.sequences.specs.Place.{place-row, place-column}
 use Rattle.sanity.specs.Frames.{imageWords, frameWords, Same, Alike}

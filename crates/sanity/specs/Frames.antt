@@ -1,9 +1,5 @@
 -- What the theorems speak of: the words of one frame, and frames that are all alike.
-use Rattle.algebra.specs.Prelude.{_≡_, List, ℕ, _*_, _/_, _%_, _<_}
-use Rattle.sequences.specs.Tab.{tab}
-use Rattle.geometry.specs.declared.Shape.{Shape}
-use Rattle.geometry.specs.Read.{Image, sampleAt}
-use Rattle.geometry.specs.Fits.{Sampled, SamplesFit}
+use Rattle.sanity.specs.Prelude.{_≡_, List, ℕ, _*_, _/_, _%_, _<_, tab, Shape, Image, sampleAt, Sampled, SamplesFit}
 
 -- the words of an image of so many rows and columns, "row by row"
 unfoldable pub imageWords : (height width : ℕ) → Image → List ℕ

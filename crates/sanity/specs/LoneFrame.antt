@@ -1,19 +1,9 @@
 -- Try a burst of one frame, without the spatial filter ("only there is L4's lone frame promised unchanged"): it comes back unchanged, whatever the noise and the strength are.
-use Rattle.algebra.specs.Prelude.{_≡_, refl, sym, ap, _∙_, List, ℕ, _+_, _-_, _*_, _<_, _≤_, arith, ℤ, pos}
+use Rattle.sanity.specs.Prelude.{_≡_, refl, sym, ap, _∙_, List, ℕ, _+_, _-_, _*_, _<_, _≤_, arith, ℤ, pos, zarith, sumN, clampZ, Shape, vectorLength, rowsSummed, Merge, Scene, sceneOf, sceneAt, outputAt, merged, Side}
 use native.Mathlib.Nat.{zero-mul, mul-le-mul-right}
-use Rattle.algebra.specs.Order.{zarith}
-use Rattle.algebra.specs.Sums.{sumN}
-use Rattle.algebra.specs.Clamp.{clampZ}
 use Rattle.algebra.specs.Fraction.{whole, _+F_, _-F_, over, sumF, held, Within}
 use Rattle.algebra.specs.FractionLaws.{within-same}
 use Rattle.algebra.specs.ClampLaws.{clamp-same}
-use Rattle.geometry.specs.declared.Shape.{Shape}
-use Rattle.geometry.specs.Shape.{vectorLength}
-use Rattle.alignment.specs.Rows.{rowsSummed}
-use Rattle.recipe.specs.declared.Merge.{Merge}
-use Rattle.recipe.specs.Scene.{Scene, sceneOf, sceneAt}
-use Rattle.recipe.specs.Merged.{outputAt, merged}
-use Rattle.recipe.specs.Side.{Side}
 use Rattle.recipe.specs.Exact.{exactSample}
 use Rattle.recipe.specs.ExactMerge.{planeExact, exactAt}
 use Rattle.sanity.specs.Frames.{frameWords, Burst, Alike}

@@ -1,13 +1,8 @@
 -- Equal frames have equal tiles; and where no tile has a correction, the merged frame is the reference.
 use Rattle.algebra.specs.Prelude.{_≡_, ap, ap₂, _∙_, ℕ, _+_, _*_, _/_, _%_, _≤_, _<_, arith, ℤ, pos, natAbs, _+ℤ_}
 use Rattle.sequences.specs.Grid.{tab-ext}
-use Rattle.geometry.specs.Read.{Image, planeOf, inside, read}
+use Rattle.sanity.specs.Prelude.{Image, planeOf, inside, read, origin, Side, correctionAt, Scene, tileAt, noiseOver, differenceOver, outputAt, wordAt, merged}
 use Rattle.geometry.specs.ReadLaws.{inside-below}
-use Rattle.geometry.specs.Tiles.{origin}
-use Rattle.recipe.specs.Side.{Side}
-use Rattle.recipe.specs.Correction.{correctionAt}
-use Rattle.recipe.specs.Scene.{Scene, tileAt, noiseOver, differenceOver}
-use Rattle.recipe.specs.Merged.{outputAt, wordAt, merged}
 use Rattle.spatial.specs.PlainLaws.{plain-output}
 use Rattle.sanity.specs.Frames.{Same, imageWords}
 use Rattle.sanity.specs.FrameLaws.{row-inside, column-inside}

@@ -1,16 +1,8 @@
 -- Where no tile over a sample has a correction, the output is the reference sample.
-use Rattle.algebra.specs.Prelude.{_≡_, ap, _∙_, ℕ, suc, _+_, _*_, _≤_, _<_, arith, lit<}
+use Rattle.sanity.specs.Prelude.{_≡_, ap, _∙_, ℕ, suc, _+_, _*_, _≤_, _<_, arith, lit<, sumZ, zarith, clampZ, upward, Side, correctionAt, rowIn, columnIn, weightIn, outputSample}
 use native.Mathlib.Nat.{mul-pos, div-eq-of-lt-le}
 use lib.IntN.{ℤ, pos, _-ℤ_, _*ℤ_, *ℤ-zero}
-use Rattle.algebra.specs.Sums.{sumZ}
-use Rattle.algebra.specs.Order.{zarith}
-use Rattle.algebra.specs.Clamp.{clampZ}
 use Rattle.algebra.specs.ClampLaws.{clamp-same}
-use Rattle.algebra.specs.Nearest.{upward}
-use Rattle.recipe.specs.Side.{Side}
-use Rattle.recipe.specs.Correction.{correctionAt}
-use Rattle.recipe.specs.Output.{rowIn, columnIn, weightIn}
-use Rattle.recipe.specs.PlainOutput.{outputSample}
 use Rattle.spectrum.specs.ZeroLaws.{sumZ-zero}
 
 -- m·n/m to nearest is n

@@ -1,28 +1,17 @@
 -- Try black levels (request L3): with all four 0 the merge is document 01's; a plane's level moves that plane's samples alone; V falls as the level rises, and
 -- a level above every sample leaves r = 0.
-use Rattle.algebra.specs.Prelude.{_≡_, refl, sym, ap, ap₂, _∙_, List, [], _∷_, ℕ, zero, suc, _+_, _-_, _*_, _/_, _%_, _≤_, _<_, arith, eqb, getD, ℤ, pos, natAbs}
+use Rattle.sanity.specs.Prelude.{_≡_, refl, sym, ap, ap₂, _∙_, List, [], _∷_, ℕ, zero, suc, _+_, _-_, _*_, _/_, _%_, _≤_, _<_, arith, eqb, getD, ℤ, pos, natAbs, replicate, sumN, tab, planeOf, Tuning, Merge, squared, sumOfSquares, tileRoot, noiseNumber, sideOf, outputSample, Scene, sceneOf, blackOf, tileOver, referenceTile, otherTile, tileNoise, tileSpatial, tileDifference, differenceOver, tileHere, sceneAt, planeOutput, outputAt, wordAt, merged}
 use mathlib.Core.Path.{fun-ext}
-use lib.ListN.{replicate}
 use native.Mathlib.Nat.{le-refl}
-use Rattle.algebra.specs.Sums.{sumN}
 use Rattle.algebra.specs.SumLaws.{sumN-cong}
-use Rattle.sequences.specs.Tab.{tab}
 use Rattle.sequences.specs.TabLaws.{getD-tab}
-use Rattle.geometry.specs.Read.{planeOf}
 use Rattle.roots.specs.TileRootLaws.{tile-root-bound, tile-root-falls}
 use Rattle.noise.specs.NoiseNumberLaws.{noise-number-mono, long-noise-mono}
-use Rattle.recipe.specs.declared.Tuning.{Tuning}
-use Rattle.recipe.specs.declared.Merge.{Merge}
 use Rattle.recipe.specs.Root.{wholeRoot}
-use Rattle.recipe.specs.NoiseNumber.{squared, sumOfSquares, tileRoot, noiseNumber}
-use Rattle.recipe.specs.Sides.{sideOf}
 use Rattle.spectrum.specs.Apart.{cond-cases}
-use Rattle.recipe.specs.PlainOutput.{outputSample}
 use Rattle.recipe.specs.SpatialNoise.{spatialNumber}
 use Rattle.recipe.specs.Spatial.{filteredSample}
 use Rattle.spatial.specs.PlainLaws.{plain-output as base-output}
-use Rattle.recipe.specs.Scene.{Scene, sceneOf, blackOf, tileOver, referenceTile, otherTile, tileNoise, tileSpatial, tileDifference, differenceOver, tileHere, sceneAt}
-use Rattle.recipe.specs.Merged.{planeOutput, outputAt, wordAt, merged}
 
 -- every plane has the same black level
 pub record OneBlack (tuning : Tuning) (black : ℕ) : Type 0 where

@@ -1,19 +1,11 @@
 -- Black levels at the calls: with all four 0, numbers and outputs are those without black levels; and of two accepted calls that differ in black levels alone, the outputs
 -- agree on each plane that has kept its own.
 use Rattle.algebra.specs.Prelude.{_≡_, refl, sym, ap, _∙_, List, [], _∷_, _++_, ℕ, zero, suc, _*_, _/_, _%_, _<_, length, getD, ℤ}
-use Rattle.geometry.specs.declared.Shape.{Shape}
+use Rattle.sanity.specs.Prelude.{Shape, _before_, first, Noise, alignedVectors, Tuning, sceneOf, blackOf, sceneAt, Alignment, contentTests, runTests, runRefusal, mergeRefusal, mergeOf, filterSideRefusal, Merged, Ran}
 use Rattle.limits.specs.Order.{mergeShapeTests}
 use Rattle.values.specs.Bounds.{sampleRefusal, vectorRefusal}
-use Rattle.refusals.specs.Tests.{_before_, first}
 use Rattle.refusals.specs.Some.{some}
-use Rattle.noise.specs.declared.Noise.{Noise}
 use Rattle.noise.specs.Levels.{noiseTests, strengthRefusal, blackRefusal, spatialRefusal}
-use Rattle.alignment.specs.Aligned.{alignedVectors}
-use Rattle.recipe.specs.declared.Tuning.{Tuning}
-use Rattle.recipe.specs.Scene.{sceneOf, blackOf, sceneAt}
-use Rattle.stacker.specs.declared.Alignment.{Alignment}
-use Rattle.admission.specs.Refusals.{contentTests, runTests, runRefusal, mergeRefusal, mergeOf, filterSideRefusal}
-use Rattle.stacker.specs.Calls.{Merged, Ran}
 use Rattle.sanity.specs.Pedestal.{zeroBlack, zero-black, plainMerged, plain-merged, word-stays}
 use Rattle.sanity.specs.AcceptedLaws.{merge-accepted, run-accepted}
 

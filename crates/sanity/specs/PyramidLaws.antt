@@ -1,17 +1,11 @@
 -- Equal frames have equal pyramids, read anywhere.
 use mathlib.Core.Path.{_≡_, ap₂, fun-ext}
-use Rattle.algebra.specs.Prelude.{ℕ, zero, suc, _+_, _*_, _/_, _≤_, _<_, arith, ℤ}
-use Rattle.geometry.specs.declared.Shape.{Shape}
-use Rattle.geometry.specs.Fits.{Allowed}
-use Rattle.geometry.specs.Read.{Image, inside, read}
+use Rattle.sanity.specs.Prelude.{ℕ, zero, suc, _+_, _*_, _/_, _≤_, _<_, arith, ℤ, Shape, Allowed, Image, inside, read, level1, level2, levelSize, levelAt, levelImage, pairs}
 use Rattle.geometry.specs.ReadLaws.{inside-below}
-use Rattle.geometry.specs.Tiles.{level1, level2, levelSize}
 use Rattle.bayer.specs.Bayer.{bayerSum}
 use Rattle.halving.specs.Halving.{halved}
 use Rattle.halving.specs.HalvingLaws.{halved-agree}
 use Rattle.pyramid.specs.Pyramid.{quartered, image0, image1, image2, image3}
-use Rattle.levels.specs.Fields.{levelAt}
-use Rattle.alignment.specs.Frames.{levelImage, pairs}
 use Rattle.sanity.specs.Frames.{Same}
 use Rattle.sanity.specs.StillLaws.{Equal}
 

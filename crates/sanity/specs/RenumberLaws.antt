@@ -1,9 +1,8 @@
 -- A sum does not depend on the order of its terms.
-use Rattle.algebra.specs.Prelude.{_≡_, sym, ap, ap₂, _∙_, cond, ℕ, zero, suc, _<_, arith, eqb}
+use Rattle.sanity.specs.Prelude.{_≡_, sym, ap, ap₂, _∙_, cond, ℕ, zero, suc, _<_, arith, eqb, sumZ}
 use native.Mathlib.Decide.{ℕ-discrete}
 use lib.IntN.{ℤ, pos, _+ℤ_, +ℤ-idl, +ℤ-idr}
 use borrow.Author.Tests.{eq-eqb, ne-eqb}
-use Rattle.algebra.specs.Sums.{sumZ}
 use Rattle.algebra.specs.SumLaws.{sumZ-cong, sumZ-0, sumZ-add}
 use Rattle.spectrum.specs.ZeroLaws.{sumZ-zero}
 

@@ -2,25 +2,13 @@
 use mathlib.Core.Path.{_≡_, refl, sym, _∙_, ap, ap₂, fun-ext}
 use Rattle.algebra.specs.Prelude.{List, ℕ, suc, _*_, _/_, _%_, _≤_, _<_, arith, ℤ, pos, natAbs, _+ℤ_, _-ℤ_, _*ℤ_}
 use Rattle.algebra.specs.SumLaws.{sumZ-cong}
-use Rattle.algebra.specs.Clamp.{clampZ}
-use Rattle.algebra.specs.Nearest.{away, upward}
+use Rattle.sanity.specs.Prelude.{clampZ, away, upward, AllowedSize, TileSide, planeOf, noiseNumber, Merge, Side, side16, sideOf, binRe, binIm, inverseAt, correctionAt, rowIn, columnIn, weightIn, Scene, sceneOf, tileAt, tileOver, referenceTile, otherTile, tileNoise, tileSpatial, tileDifference, tileHere, sceneAt, planeOutput, outputAt, wordAt, merged}
 use Rattle.sequences.specs.Grid.{tab-ext}
-use Rattle.geometry.specs.Fits.{AllowedSize, TileSide}
-use Rattle.geometry.specs.Read.{planeOf}
-use Rattle.recipe.specs.NoiseNumber.{noiseNumber}
 use Rattle.roots.specs.TileRootLaws.{tile-root-cong}
-use Rattle.recipe.specs.declared.Merge.{Merge}
-use Rattle.recipe.specs.Side.{Side}
-use Rattle.recipe.specs.Tables.{side16}
 use Rattle.recipe.specs.Tables32.{side32}
-use Rattle.recipe.specs.Sides.{sideOf}
 use Rattle.recipe.specs.SideLaws.{by-table}
-use Rattle.recipe.specs.Correction.{binRe, binIm, inverseAt, correctionAt}
 use Rattle.recipe.specs.SpatialNoise.{spatialNumber}
 use Rattle.recipe.specs.Spatial.{FilteredTile, copyFiltered, mergedSum, copyAt, spatialAt, takenAt, filteredSample}
-use Rattle.recipe.specs.Output.{rowIn, columnIn, weightIn}
-use Rattle.recipe.specs.Scene.{Scene, sceneOf, tileAt, tileOver, referenceTile, otherTile, tileNoise, tileSpatial, tileDifference, tileHere, sceneAt}
-use Rattle.recipe.specs.Merged.{planeOutput, outputAt, wordAt, merged}
 use Rattle.sanity.specs.Frames.{Same}
 use Rattle.sanity.specs.FrameLaws.{row-inside, column-inside}
 use Rattle.sanity.specs.MergeLaws.{tile-same}

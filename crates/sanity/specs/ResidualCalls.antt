@@ -1,30 +1,15 @@
 -- The residuals of tiles, once the call has accepted: at the vectors that align has found a frame's add up to align's sum; and of frames that are all equal, at vectors of 0, every
 -- one is 0.
-use Rattle.algebra.specs.Prelude.{_≡_, sym, ap, ap₂, _∙_, List, ℕ, _+_, _-_, _*_, _/_, _<_, arith, getD, ℤ, pos}
+use Rattle.sanity.specs.Prelude.{_≡_, sym, ap, ap₂, _∙_, List, ℕ, _+_, _-_, _*_, _/_, _<_, arith, getD, ℤ, pos, sumN, tab, zeros, Shape, sampleAt, finestLevel, otherFrame, downAt, rightAt, frameTiles, residualLength, residual, levelTile, pairs, sumOf, residualSums, tileResidual, residualWord, tileResiduals, Alignment, Aligned}
 use lib.ListN.{length, replicate, List·getD-append}
-use Rattle.algebra.specs.Sums.{sumN}
-use Rattle.sequences.specs.Tab.{tab}
 use Rattle.sequences.specs.TabLaws.{length-tab, getD-tab}
 use Rattle.sequences.specs.Grid.{tab-ext}
-use Rattle.sequences.specs.Clear.{zeros}
 use Rattle.sequences.specs.ClearLaws.{tab-const}
 use Rattle.sequences.specs.Place.{row-below}
 use Rattle.refusals.specs.AfterLaws.{result-made}
-use Rattle.geometry.specs.declared.Shape.{Shape}
-use Rattle.geometry.specs.Read.{sampleAt}
-use Rattle.geometry.specs.Tiles.{finestLevel}
-use Rattle.geometry.specs.Vectors.{otherFrame, downAt, rightAt}
-use Rattle.limits.specs.Residuals.{frameTiles, residualLength}
-use Rattle.residuals.specs.Residual.{residual}
-use Rattle.levels.specs.Fields.{levelTile}
-use Rattle.alignment.specs.Frames.{pairs}
-use Rattle.alignment.specs.Aligned.{sumOf, residualSums}
-use Rattle.tile_residuals.specs.Residuals.{tileResidual, residualWord, tileResiduals}
 use Rattle.tile_residuals.specs.SumLaws.{residuals-sum}
 use Rattle.tile_residuals.specs.Frames.{Ready}
 use Rattle.admission.specs.Residuals.{residualRefusal}
-use Rattle.stacker.specs.declared.Alignment.{Alignment}
-use Rattle.stacker.specs.Calls.{Aligned}
 use Rattle.stacker.specs.Residuals.{ResidualsFound}
 use Rattle.stacker.specs.ResidualLaws.{residual-passed}
 use Rattle.sanity.specs.Frames.{Burst, Alike}

@@ -1,15 +1,13 @@
 -- Rounding to nearest: what is whole stays, a sign passes through, and a common factor goes.
-use Rattle.algebra.specs.Prelude.{_≡_, refl, sym, ap, ap₂, _∙_, [], _∷_, ℕ, zero, suc, _+_, _*_, _/_, _<_, arith}
+use Rattle.sanity.specs.Prelude.{_≡_, refl, sym, ap, ap₂, _∙_, [], _∷_, ℕ, zero, suc, _+_, _*_, _/_, _<_, arith, 0≤pos, away, upward}
 use native.Mathlib.Nat.{mul-pos, div-eq-of-lt-le, mul-div-mul-right}
 use lib.IntN.{ℤ, pos, negsuc, negℤ, _+ℤ_, _*ℤ_, negℤ-negℤ}
 use lib.Signed.{shrZ}
 use Rattle.algebra.specs.Laws.{neg-*ℤ}
 use Rattle.algebra.specs.Ring.{var, _⊞_, _⊠_, #_, ring}
 use Rattle.algebra.specs.Vars.{vars4}
-use Rattle.algebra.specs.Order.{0≤pos}
 use Rattle.algebra.specs.Cert.{nn, le, lt, _⊕_, _⊗_, by-le, by-lt, le-pos}
 use Rattle.algebra.specs.Floor.{floor-le, floor-lt, floor-unique}
-use Rattle.algebra.specs.Nearest.{away, upward}
 use Rattle.spectrum.specs.ZeroLaws.{away-zero}
 
 away-neg : (z : ℤ) (m : ℕ) → 0 < m → away (negℤ z) m ≡ negℤ (away z m)

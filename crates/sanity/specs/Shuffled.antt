@@ -1,25 +1,9 @@
 -- Try the frames of a burst in another order, the reference at another place among them: each other frame keeps its vectors, its residuals and
 -- their sum, and the merged frame stays the same.
-use Rattle.algebra.specs.Prelude.{_≡_, refl, sym, ap, ap₂, subst, _∙_, List, ℕ, _+_, _-_, _/_, _≤_, _<_, arith, ℤ}
-use Rattle.geometry.specs.declared.Shape.{Shape}
-use Rattle.geometry.specs.Fits.{TileSide}
-use Rattle.geometry.specs.Read.{sampleAt}
-use Rattle.geometry.specs.Tiles.{finestLevel, tileRows, tileColumns}
-use Rattle.geometry.specs.Vectors.{otherFrame, downAt, rightAt}
+use Rattle.sanity.specs.Prelude.{_≡_, refl, sym, ap, ap₂, subst, _∙_, List, ℕ, _+_, _-_, _/_, _≤_, _<_, arith, ℤ, Shape, TileSide, sampleAt, finestLevel, tileRows, tileColumns, otherFrame, downAt, rightAt, Pair, residual, levelTile, field0, residualSum, pairs, vectorsOf, residualOf, fieldOf, sumOf, alignedVectors, tileResidual, Merge, side16, sideOf, sceneOf, sceneAt, merged}
 use Rattle.geometry.specs.VectorLaws.{list-down, list-right}
-use Rattle.residuals.specs.Residual.{Pair, residual}
-use Rattle.levels.specs.Fields.{levelTile}
-use Rattle.alignment.specs.Fields.{field0, residualSum}
-use Rattle.alignment.specs.Frames.{pairs, vectorsOf, residualOf}
-use Rattle.alignment.specs.Aligned.{fieldOf, sumOf, alignedVectors}
-use Rattle.tile_residuals.specs.Residuals.{tileResidual}
-use Rattle.recipe.specs.declared.Merge.{Merge}
-use Rattle.recipe.specs.Tables.{side16}
 use Rattle.recipe.specs.Tables32.{side32}
-use Rattle.recipe.specs.Sides.{sideOf}
 use Rattle.recipe.specs.SideLaws.{by-table}
-use Rattle.recipe.specs.Scene.{sceneOf, sceneAt}
-use Rattle.recipe.specs.Merged.{merged}
 use Rattle.sanity.specs.Frames.{frameWords, Burst, Same}
 use Rattle.sanity.specs.FrameLaws.{frames-same}
 use Rattle.sanity.specs.PyramidLaws.{pairs-agree}

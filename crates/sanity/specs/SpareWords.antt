@@ -1,44 +1,19 @@
 -- Try two bursts that differ only in spare words: align, merge, run, the run that chooses its reference and the residuals of tiles give equal answers and leave equal buffers,
 -- whether they refuse or not.
-use Rattle.algebra.specs.Prelude.{_≡_, refl, sym, ap, ap₂, subst, _∙_, Bool, _||_, List, _++_, ℕ, zero, suc, _-_, _/_, _%_, _<_, arith, ltb, ℤ}
+use Rattle.sanity.specs.Prelude.{_≡_, refl, sym, ap, ap₂, subst, _∙_, Bool, _||_, List, _++_, ℕ, zero, suc, _-_, _/_, _%_, _<_, arith, ltb, ℤ, length, replicate, zeros, refuse, first, Shape, vectorLength, sampleAt, finestLevel, tileColumns, frameParts, otherFrame, downAt, rightAt, word, wordOf, vectorList, frameTiles, residualLength, Allowed, BurstFits, TileSide, Noise, residual, levelTile, field0, residualSum, pairs, vectorsOf, residualOf, fieldOf, sumOf, alignedVectors, residualSums, frameRows, rowsOf, rowsSummed, tileResidual, residualWord, tileResiduals, Merge, Tuning, sceneOf, sceneAt, merged, Alignment, alignRefusal, contentTests, runTests, runRefusal, mergeRefusal, mergeOf, noSums, answered, Aligned, Merged, Ran}
 use native.Mathlib.Nat.{mul-comm}
-use lib.ListN.{length, replicate}
 use Rattle.sequences.specs.Grid.{tab-ext}
-use Rattle.sequences.specs.Clear.{zeros}
 use Rattle.sequences.specs.Place.{row-below}
 use Rattle.refusals.specs.Numbers as no
-use Rattle.refusals.specs.Tests.{refuse, first}
 use Rattle.refusals.specs.Some.{some}
 use Rattle.refusals.specs.After.{after}
-use Rattle.geometry.specs.declared.Shape.{Shape}
-use Rattle.geometry.specs.Shape.{vectorLength}
-use Rattle.geometry.specs.Read.{sampleAt}
-use Rattle.geometry.specs.Tiles.{finestLevel, tileColumns, frameParts}
-use Rattle.geometry.specs.Vectors.{otherFrame, downAt, rightAt, word, wordOf, vectorList}
 use Rattle.geometry.specs.VectorLaws.{other-below}
-use Rattle.limits.specs.Residuals.{frameTiles, residualLength}
 use Rattle.values.specs.Bounds.{sampleRefusal}
-use Rattle.geometry.specs.Fits.{Allowed, BurstFits, TileSide}
-use Rattle.noise.specs.declared.Noise.{Noise}
-use Rattle.residuals.specs.Residual.{residual}
-use Rattle.levels.specs.Fields.{levelTile}
-use Rattle.alignment.specs.Fields.{field0, residualSum}
-use Rattle.alignment.specs.Frames.{pairs, vectorsOf, residualOf}
-use Rattle.alignment.specs.Aligned.{fieldOf, sumOf, alignedVectors, residualSums}
-use Rattle.alignment.specs.Rows.{frameRows, rowsOf, rowsSummed}
-use Rattle.tile_residuals.specs.Residuals.{tileResidual, residualWord, tileResiduals}
 use Rattle.algebra.specs.SumLaws.{sumN-cong}
-use Rattle.recipe.specs.declared.Merge.{Merge}
-use Rattle.recipe.specs.declared.Tuning.{Tuning}
-use Rattle.recipe.specs.Scene.{sceneOf, sceneAt}
-use Rattle.recipe.specs.Merged.{merged}
 use Rattle.sharpness.specs.Sharpness.{sharpest}
 use Rattle.sharpness.specs.SharpnessLaws.{sharpest-same}
-use Rattle.stacker.specs.declared.Alignment.{Alignment}
 use Rattle.stacker.specs.declared.Choice.{Choice}
-use Rattle.admission.specs.Refusals.{alignRefusal, contentTests, runTests, runRefusal, mergeRefusal, mergeOf}
 use Rattle.admission.specs.Residuals.{residualRefusal}
-use Rattle.stacker.specs.Calls.{noSums, answered, Aligned, Merged, Ran}
 use Rattle.stacker.specs.AdmissionLaws.{align-passed, run-passed, merge-passed}
 use Rattle.stacker.specs.Residuals.{ResidualsFound}
 use Rattle.stacker.specs.ResidualLaws.{residual-passed}

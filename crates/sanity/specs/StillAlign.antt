@@ -1,15 +1,9 @@
 -- Try a burst of one picture taken several times: every vector that alignment finds is 0, and so is every sum of residuals.
-use Rattle.algebra.specs.Prelude.{_≡_, ap, _∙_, List, _++_, ℕ, _+_, _-_, _<_, arith, pos}
+use Rattle.sanity.specs.Prelude.{_≡_, ap, _∙_, List, _++_, ℕ, _+_, _-_, _<_, arith, pos, Shape, vectorLength, sampleAt, otherFrame, pairs, vectorsOf, residualOf, fieldOf, sumOf, alignedVectors, residualSums}
 use native.Mathlib.Nat.{mul-zero}
 use lib.ListN.{replicate, replicate-append-replicate}
 use Rattle.sequences.specs.Grid.{tab-ext}
 use Rattle.sequences.specs.ClearLaws.{tab-const}
-use Rattle.geometry.specs.declared.Shape.{Shape}
-use Rattle.geometry.specs.Shape.{vectorLength}
-use Rattle.geometry.specs.Read.{sampleAt}
-use Rattle.geometry.specs.Vectors.{otherFrame}
-use Rattle.alignment.specs.Frames.{pairs, vectorsOf, residualOf}
-use Rattle.alignment.specs.Aligned.{fieldOf, sumOf, alignedVectors, residualSums}
 use Rattle.sanity.specs.Frames.{Burst, Alike}
 use Rattle.geometry.specs.VectorLaws.{other-below}
 use Rattle.sanity.specs.FrameLaws.{alike-same}

@@ -1,30 +1,16 @@
 -- Alignment of two images of which no tile gains by a move: no offset and no candidate takes the place of 0, at any level. Equal images are such.
-use Rattle.algebra.specs.Prelude.{_≡_, refl, ap, ap₂, _∙_, Bool, true, false, List, ℕ, zero, suc, _-_, _*_, _/_, _%_, _≤_, _<_, arith}
+use Rattle.sanity.specs.Prelude.{_≡_, refl, ap, ap₂, _∙_, Bool, true, false, List, ℕ, zero, suc, _-_, _*_, _/_, _%_, _≤_, _<_, arith, sumN, replicate, Shape, vectorLength, Allowed, Level, finestLevel, level1, level2, level3, Step, finestStep, step2to1, step3to2, frameParts, Tile, Vector, still, _plus_, _times_, gap, difference, Pair, rowResidual, residual, VectorField, part, word, wordOf, vectorList, levelTile, coarsest, fromCoarse, finer, field0, field1, field2, field3, levelRows, levelColumns, residualSum, fieldOf, alignedVectors}
 use native.Mathlib.Nat.{mul-comm}
 use lib.IntN.{ℤ, pos, _+ℤ_, +ℤ-idr, zero-*ℤ}
-use Rattle.algebra.specs.Sums.{sumN}
 use Rattle.algebra.specs.SumLaws.{sumN-cong, sumN-const}
-use lib.ListN.{replicate}
 use Rattle.sequences.specs.Grid.{tab-ext}
 use Rattle.sequences.specs.ClearLaws.{tab-const}
 use Rattle.sequences.specs.Least.{firstMin}
-use Rattle.geometry.specs.declared.Shape.{Shape}
-use Rattle.geometry.specs.Shape.{vectorLength}
-use Rattle.geometry.specs.Fits.{Allowed}
-use Rattle.geometry.specs.Tiles.{Level, finestLevel, level1, level2, level3, Step, finestStep, step2to1, step3to2, frameParts}
-use Rattle.residuals.specs.declared.Tile.{Tile}
-use Rattle.geometry.specs.declared.vectors.Vector.{Vector}
-use Rattle.search.specs.Vectors.{still, _plus_, _times_}
 use Rattle.search.specs.Offsets.{offset}
 use Rattle.search.specs.OffsetLaws.{offset-zero}
-use Rattle.residuals.specs.Residual.{gap, difference, Pair, rowResidual, residual}
 use Rattle.search.specs.Search.{tried, chosen, bestVector, three, guessed}
 use Rattle.sequences.specs.LeastLaws.{first}
-use Rattle.geometry.specs.Vectors.{VectorField, part, word, wordOf, vectorList}
-use Rattle.levels.specs.Fields.{levelTile, coarsest, fromCoarse, finer}
-use Rattle.alignment.specs.Fields.{field0, field1, field2, field3, levelRows, levelColumns, residualSum}
 use Rattle.fields.specs.LevelSums.{residuals}
-use Rattle.alignment.specs.Aligned.{fieldOf, alignedVectors}
 use Rattle.sanity.specs.FrameLaws.{row-inside}
 
 -- a sum of equal terms

@@ -1,11 +1,7 @@
 -- Try a burst of one picture taken several times, with vectors of 0: the merge hands back the reference, whatever the noise and the strength are.
-use Rattle.algebra.specs.Prelude.{_≡_, refl, sym, _∙_, List, ℕ, zero, suc, _+_, _%_, _≤_, _<_, arith}
+use Rattle.sanity.specs.Prelude.{_≡_, refl, sym, _∙_, List, ℕ, zero, suc, _+_, _%_, _≤_, _<_, arith, otherFrame, vectorPlace, downAt, rightAt, Merge, Scene, sceneOf, tileAt, referenceTile, otherTile, tileDifference, sceneAt, outputAt, merged}
 use lib.IntN.{pos, +ℤ-invr}
 use lib.ListN.{getD, replicate}
-use Rattle.geometry.specs.Vectors.{otherFrame, vectorPlace, downAt, rightAt}
-use Rattle.recipe.specs.declared.Merge.{Merge}
-use Rattle.recipe.specs.Scene.{Scene, sceneOf, tileAt, referenceTile, otherTile, tileDifference, sceneAt}
-use Rattle.recipe.specs.Merged.{outputAt, merged}
 use Rattle.sanity.specs.Frames.{Burst, Same, Alike, imageWords, frameWords}
 use Rattle.geometry.specs.VectorLaws.{other-below}
 use Rattle.sanity.specs.FrameLaws.{frame-words, alike-same}

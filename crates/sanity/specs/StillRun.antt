@@ -1,10 +1,5 @@
 -- Try a burst of one picture taken several times, aligned and then merged: the reference comes back, whatever the noise and the strength are.
-use Rattle.algebra.specs.Prelude.{_≡_, ap, _∙_, List, ℕ}
-use Rattle.geometry.specs.Shape.{vectorLength}
-use Rattle.alignment.specs.Aligned.{alignedVectors}
-use Rattle.recipe.specs.declared.Merge.{Merge}
-use Rattle.recipe.specs.Scene.{sceneOf}
-use Rattle.recipe.specs.Merged.{merged}
+use Rattle.sanity.specs.Prelude.{_≡_, ap, _∙_, List, ℕ, vectorLength, alignedVectors, Merge, sceneOf, merged}
 use Rattle.sanity.specs.Frames.{frameWords, Burst, Alike}
 use Rattle.sanity.specs.StillMerge.{burst-back}
 use Rattle.sanity.specs.StillAlign.{vectors-none}

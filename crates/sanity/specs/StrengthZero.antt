@@ -1,11 +1,6 @@
 -- Try strength 0, and no spatial filter: the merge hands back the reference, whatever the other frames, the vectors and the noise are.
-use Rattle.algebra.specs.Prelude.{_≡_, sym, ap, _∙_, List, ℕ, _/_, _%_, _≤_, ℤ, pos}
-use Rattle.recipe.specs.NoiseNumber.{tileRoot, noiseNumber}
+use Rattle.sanity.specs.Prelude.{_≡_, sym, ap, _∙_, List, ℕ, _/_, _%_, _≤_, ℤ, pos, tileRoot, noiseNumber, correctionAt, Merge, Scene, sceneOf, blackOf, referenceTile, tileNoise, differenceOver, sceneAt, outputAt, merged}
 use Rattle.noise.specs.NoiseNumberLaws.{noise-number-off}
-use Rattle.recipe.specs.Correction.{correctionAt}
-use Rattle.recipe.specs.declared.Merge.{Merge}
-use Rattle.recipe.specs.Scene.{Scene, sceneOf, blackOf, referenceTile, tileNoise, differenceOver, sceneAt}
-use Rattle.recipe.specs.Merged.{outputAt, merged}
 use Rattle.sanity.specs.Frames.{frameWords, Burst}
 use Rattle.sanity.specs.FrameLaws.{frame-words}
 use Rattle.spectrum.specs.ZeroLaws.{no-noise}

@@ -1,3 +1,4 @@
+pub mod Prelude
 pub mod Vectors
 pub mod Offsets
 pub mod Search

@@ -1,10 +1,6 @@
 -- Inner vocabulary: the search in local arrays: a tile's square, and its window's, which reaches 4 samples further each way.
-use Rattle.algebra.specs.Prelude.{_≡_, Bool, true, false, List, ℕ, _+_, _*_, _≤_, _<_, getD}
+use Rattle.search.specs.Prelude.{_≡_, Bool, true, false, List, ℕ, _+_, _*_, _≤_, _<_, getD, sumN, firstMin, residualMost, squareRow, Low}
 use mathlib.Core.Logic.{_⊎_}
-use Rattle.algebra.specs.Sums.{sumN}
-use Rattle.sequences.specs.Least.{firstMin}
-use Rattle.residuals.specs.Magnitudes.{residualMost}
-use Rattle.residuals.specs.Local.{squareRow, Low}
 use Rattle.search.specs.declared.window.Best.{Best}
 use Rattle.search.specs.Table.{downs, rights}
 use Rattle.search.specs.Rows.{offsetRows}

@@ -1,24 +1,18 @@
 -- What is found in local arrays is what the definitions say of the images that were copied there.
-use Rattle.algebra.specs.Prelude.{_≡_, refl, ap, ap₂, subst, _∙_, Bool, List, ℕ, _+_, _*_, _≤_, _<_, arith, getD}
+use Rattle.search.specs.Prelude.{_≡_, refl, ap, ap₂, subst, _∙_, Bool, List, ℕ, _+_, _*_, _≤_, _<_, arith, getD, sumN, Tile, Vector, residualMost, difference, Pair, rowResidual, residual, rowSum, squareRow, squareSum}
 use lib.IntN.{ℤ, pos, negsuc, _+ℤ_, _-ℤ_, +ℤ-idr}
-use Rattle.algebra.specs.Sums.{sumN}
 use Rattle.algebra.specs.SumLaws.{sumN-cong}
 use Rattle.algebra.specs.Order.{zarith, add-pn, sub-pn}
-use Rattle.residuals.specs.declared.Tile.{Tile}
-use Rattle.geometry.specs.declared.vectors.Vector.{Vector}
 use Rattle.search.specs.Vectors.{_plus_}
-use Rattle.residuals.specs.Magnitudes.{residualMost}
 use Rattle.search.specs.Offsets.{offset}
 use Rattle.search.specs.Table.{downs, rights, tabled}
 use Rattle.search.specs.OffsetLaws.{offset-tabled, parts-most}
-use Rattle.residuals.specs.Residual.{difference, Pair, rowResidual, residual}
 use Rattle.search.specs.Search.{tried, chosen, bestVector}
 use Rattle.search.specs.Rows.{offsetRows, searchRows}
 use Rattle.search.specs.RowLaws.{same-total, offset-rows-cong}
 use Rattle.sequences.specs.Sum.{Summed, sum-done}
 use Rattle.sequences.specs.LeastLaws.{firstMin-most, firstMin-cong, Lowest, lowest-done}
 use Rattle.search.specs.declared.window.Best.{Best}
-use Rattle.residuals.specs.Local.{rowSum, squareRow, squareSum}
 use Rattle.search.specs.Local.{windowRow, Searched}
 use Rattle.patches.specs.Copies.{Copied}
 

@@ -1,13 +1,10 @@
 -- The code's table is the square −4..4 sorted by the tie rule; and sorted it is each offset once, the earlier one first: a computed test of the order, and one of the square.
-use Rattle.algebra.specs.Prelude.{_≡_, refl, ap, _∙_, Bool, true, false, cond, ℕ, zero, suc, _≤_, _<_, lit<, getD, ℤ, pos, natAbs, _+ℤ_, _-ℤ_}
+use Rattle.search.specs.Prelude.{_≡_, refl, ap, _∙_, Bool, true, false, cond, ℕ, zero, suc, _≤_, _<_, lit<, getD, ℤ, pos, natAbs, _+ℤ_, _-ℤ_, Vector, tab, Within}
 use lib.Dec.{T, ltb, eqb, leb, ltb→lt, leb→le, eqb→eq}
 use Rattle.algebra.specs.Test.{both, both-l, both-r, all, all-sound}
 use Rattle.algebra.specs.Order.{zarith, abs-pn, min-pn, add-pn, sub-pn}
-use Rattle.geometry.specs.declared.vectors.Vector.{Vector}
-use Rattle.sequences.specs.Tab.{tab}
 use Rattle.sequences.specs.TabLaws.{getD-tab}
 use Rattle.search.specs.Vectors.{still}
-use Rattle.patches.specs.Bounds.{Within}
 use Rattle.search.specs.Ties.{earlier}
 use Rattle.search.specs.Offsets.{square, placed, sorted, offset}
 use Rattle.search.specs.Table.{downs, rights, tabled}

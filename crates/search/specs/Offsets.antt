@@ -1,7 +1,5 @@
 -- The offsets that are tried, in tie order.
-use Rattle.algebra.specs.Prelude.{cond, List, [], _∷_, ℕ, _/_, _%_, getD, pos, _-ℤ_}
-use Rattle.sequences.specs.Tab.{tab}
-use Rattle.geometry.specs.declared.vectors.Vector.{Vector}
+use Rattle.search.specs.Prelude.{cond, List, [], _∷_, ℕ, _/_, _%_, getD, pos, _-ℤ_, tab, Vector}
 use Rattle.search.specs.Vectors.{still}
 use Rattle.search.specs.Ties.{earlier}
 

@@ -1,12 +1,8 @@
 -- Laws of the rows that a search sums: of the next offset, and the bounds 648, 1,344 and 2,688.
-use Rattle.algebra.specs.Prelude.{_≡_, refl, ap, _∙_, Bool, ℕ, zero, suc, _-_, _*_, _≤_, _<_, arith}
+use Rattle.search.specs.Prelude.{_≡_, refl, ap, _∙_, Bool, ℕ, zero, suc, _-_, _*_, _≤_, _<_, arith, sumN, Vector, Tile, Pair, rowResidual}
 use mathlib.Core.Logic.{⊎-elim}
-use Rattle.algebra.specs.Sums.{sumN}
 use Rattle.algebra.specs.SumLaws.{sumN-cong, sumN-bound}
 use Rattle.sequences.specs.LeastLaws.{firstMin-most, firstMin-cong, Lowest}
-use Rattle.geometry.specs.declared.vectors.Vector.{Vector}
-use Rattle.residuals.specs.declared.Tile.{Tile}
-use Rattle.residuals.specs.Residual.{Pair, rowResidual}
 use Rattle.trials.specs.Rows.{rows}
 use Rattle.trials.specs.RowLaws.{rows-most, rows-all, rows-cong}
 use Rattle.search.specs.Vectors.{_plus_}

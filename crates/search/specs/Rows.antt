@@ -1,10 +1,5 @@
 -- How many tile rows a search sums (request L12).
-use Rattle.algebra.specs.Prelude.{Bool, ℕ, zero, suc, _+_, _*_}
-use Rattle.algebra.specs.Sums.{sumN}
-use Rattle.sequences.specs.Least.{firstMin}
-use Rattle.geometry.specs.declared.vectors.Vector.{Vector}
-use Rattle.residuals.specs.declared.Tile.{Tile}
-use Rattle.residuals.specs.Residual.{Pair, rowResidual}
+use Rattle.search.specs.Prelude.{Bool, ℕ, zero, suc, _+_, _*_, sumN, firstMin, Vector, Tile, Pair, rowResidual}
 use Rattle.trials.specs.Rows.{rows}
 use Rattle.search.specs.Vectors.{_plus_}
 use Rattle.search.specs.Offsets.{offset}

@@ -1,11 +1,7 @@
 -- The search around a guess, and the guess from three candidates.
-use Rattle.algebra.specs.Prelude.{Bool, false, ℕ, zero, suc}
-use Rattle.sequences.specs.Least.{firstMin}
-use Rattle.residuals.specs.declared.Tile.{Tile}
-use Rattle.geometry.specs.declared.vectors.Vector.{Vector}
+use Rattle.search.specs.Prelude.{Bool, false, ℕ, zero, suc, firstMin, Tile, Vector, Pair, residual}
 use Rattle.search.specs.Vectors.{_plus_}
 use Rattle.search.specs.Offsets.{offset}
-use Rattle.residuals.specs.Residual.{Pair, residual}
 
 -- "Then all offsets −4..4 in both directions are tried": the residual at the k-th of them
 unfoldable pub tried : (squared : Bool) → Pair → Tile → (guess : Vector) → ℕ → ℕ

@@ -1,16 +1,11 @@
 -- The offset that is chosen is the least by residual, then by the order of ties; and the bounds of what is found.
-use Rattle.algebra.specs.Prelude.{_≡_, refl, sym, subst, _∙_, Bool, true, false, ℕ, zero, suc, _+_, _≤_, _<_, arith, ltb}
+use Rattle.search.specs.Prelude.{_≡_, refl, sym, subst, _∙_, Bool, true, false, ℕ, zero, suc, _+_, _≤_, _<_, arith, ltb, firstBy, firstMin, Tile, Vector, Within, Pair, residual}
 use borrow.Author.Tests.{ltb-true, lt-ltb, le-ltb}
-use Rattle.sequences.specs.Least.{firstBy, firstMin}
-use Rattle.residuals.specs.declared.Tile.{Tile}
-use Rattle.geometry.specs.declared.vectors.Vector.{Vector}
 use Rattle.search.specs.Vectors.{_plus_}
-use Rattle.patches.specs.Bounds.{Within}
 use Rattle.search.specs.VectorLaws.{plus-within}
 use Rattle.search.specs.Offsets.{offset}
 use Rattle.search.specs.Ties.{earlier}
 use Rattle.search.specs.OffsetLaws.{offset-order, offset-at, offset-within}
-use Rattle.residuals.specs.Residual.{Pair, residual}
 use Rattle.search.specs.Search.{tried, chosen, bestVector, three, guessed}
 use Rattle.sequences.specs.LeastLaws.{firstMin-most, least, first}
 

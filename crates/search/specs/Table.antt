@@ -1,6 +1,5 @@
 -- Inner vocabulary: the offsets in tie order as the code has them, in two tables. `offset-tabled` (OffsetLaws): it is the order by the rule.
-use Rattle.algebra.specs.Prelude.{List, [], _∷_, ℕ, getD, pos, _-ℤ_}
-use Rattle.geometry.specs.declared.vectors.Vector.{Vector}
+use Rattle.search.specs.Prelude.{List, [], _∷_, ℕ, getD, pos, _-ℤ_, Vector}
 
 -- entry k is offset k's part plus 4
 unfoldable pub downs : List ℕ

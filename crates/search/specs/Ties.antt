@@ -1,7 +1,6 @@
 -- The tie rule.
-use Rattle.algebra.specs.Prelude.{Bool, _&&_, _||_, ℕ, _+_, leb, ltb, natAbs}
+use Rattle.search.specs.Prelude.{Bool, _&&_, _||_, ℕ, _+_, leb, ltb, natAbs, Vector}
 use lib.Signed.{ltZ, leZ}
-use Rattle.geometry.specs.declared.vectors.Vector.{Vector}
 
 -- |down|+|right|
 abbrev pub cityBlock : Vector → ℕ

@@ -1,9 +1,7 @@
 -- Bounds of vectors.
-use Rattle.algebra.specs.Prelude.{ℕ, _+_, _≤_, arith}
+use Rattle.search.specs.Prelude.{ℕ, _+_, _≤_, arith, Vector, Within}
 use Rattle.algebra.specs.Order.{abs-add}
-use Rattle.geometry.specs.declared.vectors.Vector.{Vector}
 use Rattle.search.specs.Vectors.{_plus_}
-use Rattle.patches.specs.Bounds.{Within}
 
 pub within-more : {a : ℕ} {v : Vector} (b : ℕ) → Within a v → a ≤ b → Within b v
 within-more b w h = record { vertical = omega (arith, w .vertical); sideways = omega (arith, w .sideways) }

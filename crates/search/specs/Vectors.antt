@@ -1,6 +1,5 @@
 -- Vectors of whole samples: sums and multiples.
-use Rattle.algebra.specs.Prelude.{ℕ, pos, _+ℤ_, _*ℤ_}
-use Rattle.geometry.specs.declared.vectors.Vector.{Vector}
+use Rattle.search.specs.Prelude.{ℕ, pos, _+ℤ_, _*ℤ_, Vector}
 
 abbrev pub still : Vector
 still = record { down = pos 0; right = pos 0 }

@@ -1,13 +1,9 @@
 -- A copy of a tile has its rows, and how large the totals in a window are.
-use Rattle.algebra.specs.Prelude.{_≡_, ap, _∙_, Bool, true, false, List, ℕ, _+_, _*_, _≤_, _<_, arith, length, getD}
+use Rattle.search.specs.Prelude.{_≡_, ap, _∙_, Bool, true, false, List, ℕ, _+_, _*_, _≤_, _<_, arith, length, getD, sumN, tab, gap, difference, rowSum, squareRow}
 use native.Mathlib.Nat.{mul-le-mul}
-use Rattle.algebra.specs.Sums.{sumN}
 use Rattle.algebra.specs.SumLaws.{sumN-cong, sumN-bound}
 use Rattle.sequences.specs.Place.{row-room}
-use Rattle.sequences.specs.Tab.{tab}
 use Rattle.sequences.specs.TabLaws.{length-tab, getD-tab}
-use Rattle.residuals.specs.Residual.{gap, difference}
-use Rattle.residuals.specs.Local.{rowSum, squareRow}
 use Rattle.search.specs.Table.{downs, rights}
 use Rattle.search.specs.OffsetLaws.{parts-most}
 use Rattle.search.specs.Local.{windowRow, Window}

@@ -1,14 +1,6 @@
 // The search in tie order around a guess, in local arrays.
-ghost use mathlib.Core.Path.{_≡_};
-ghost use mathlib.Core.Bool.{false};
-ghost use Prim.Native.Nat.{_+_, _*_, _<_, _≤_};
-ghost use lib.IntN.{pos, _-ℤ_};
-ghost use lib.ListN.{length, getD};
-ghost use Rattle.sequences.specs.Tab.{tab};
+ghost use Rattle.search.specs.Prelude.{_≡_, false, _+_, _*_, _<_, _≤_, pos, _-ℤ_, length, getD, tab, Within, squareRow, InWindow, Left};
 ghost use Rattle.search.specs.Offsets.{offset};
-ghost use Rattle.patches.specs.Bounds.{Within};
-ghost use Rattle.residuals.specs.Local.{squareRow};
-ghost use Rattle.trials.specs.Trial.{InWindow, Left};
 ghost use Rattle.search.specs.Local.{windowRow, Window, Narrow, Kind, Searched};
 use geometry::vectors::Vector;
 use trials::Tried;

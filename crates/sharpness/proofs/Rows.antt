@@ -1,12 +1,10 @@
 -- How the sums of words, blocks and rows that the code takes make up the definition's.
-use Rattle.algebra.specs.Prelude.{_≡_, refl, sym, ap, ap₂, _∙_, List, ℕ, _+_, _-_, _*_, _<_, arith, getD}
+use Rattle.sharpness.specs.Prelude.{_≡_, refl, sym, ap, ap₂, _∙_, List, ℕ, _+_, _-_, _*_, _<_, arith, getD, sumN, Image, planeOf}
 use native.Mathlib.Nat.{zero-add, add-comm, mul-zero}
 use native.Mathlib.Numerals.{add-one}
-use Rattle.algebra.specs.Sums.{sumN}
 use Rattle.algebra.specs.SumLaws.{sumN-add, sumN-cong, sumN-const, sumN-rows}
 use Rattle.sequences.specs.Tab.{tab}
 use Rattle.sequences.specs.TabLaws.{getD-tab}
-use Rattle.geometry.specs.Read.{Image, planeOf}
 use Rattle.sharpness.specs.Sharpness.{step, rowSteps, steps}
 use Rattle.sharpness.specs.Words.{wordSteps, placeSteps, laneOf, greenTotal, lastStep, bothSteps}
 

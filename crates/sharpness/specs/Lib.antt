@@ -1,3 +1,4 @@
+pub mod Prelude
 pub mod Sharpness
 pub mod Words
 pub mod SharpnessLaws

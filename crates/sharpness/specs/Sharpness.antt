@@ -1,10 +1,6 @@
 -- Sharpness, and the frame that is chosen by it: request L1.
-use Rattle.algebra.specs.Prelude.{List, ℕ, _+_, _-_, _/_, ltb}
-use Prim.Native.Nat.{min}
-use Rattle.algebra.specs.Sums.{sumN}
+use Rattle.sharpness.specs.Prelude.{List, ℕ, _+_, _-_, _/_, ltb, min, sumN, Shape, Image, sampleAt, planeOf}
 use Rattle.sequences.specs.Least.{firstBy}
-use Rattle.geometry.specs.declared.Shape.{Shape}
-use Rattle.geometry.specs.Read.{Image, sampleAt, planeOf}
 
 -- "absolute steps": |a − b|
 abbrev pub step : ℕ → ℕ → ℕ

@@ -1,14 +1,10 @@
 -- What is known of sharpness and of the frame chosen by it.
-use Rattle.algebra.specs.Prelude.{_≡_, ap₂, List, ℕ, _+_, _-_, _*_, _/_, _≤_, _<_, arith, ltb}
-use Prim.Native.Nat.{min}
+use Rattle.sharpness.specs.Prelude.{_≡_, ap₂, List, ℕ, _+_, _-_, _*_, _/_, _≤_, _<_, arith, ltb, min, Shape, Image, sampleAt, planeOf, Allowed, SamplesFit}
 use native.Mathlib.Nat.{mul-le-mul}
 use borrow.Author.Tests.{lt-ltb, le-ltb, ltb-true, ltb-false}
 use Rattle.algebra.specs.SumLaws.{sumN-cong, sumN-bound}
 use Rattle.sequences.specs.Least.{firstBy}
 use Rattle.sequences.specs.FirstLaws.{first-most, first-cong, Order, unbeaten, beats-before}
-use Rattle.geometry.specs.declared.Shape.{Shape}
-use Rattle.geometry.specs.Read.{Image, sampleAt, planeOf}
-use Rattle.geometry.specs.Fits.{Allowed, SamplesFit}
 use Rattle.sharpness.specs.Sharpness.{step, rowSteps, steps, green, firstMax, sharpness, sharpest}
 
 -- the steps of a plane of at most 2048 by 2048 samples, each at most 4095

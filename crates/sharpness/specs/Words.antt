@@ -1,9 +1,5 @@
 -- The steps as the code takes them: from word to word of a frame, the other plane's words between. Inner vocabulary.
-use Rattle.algebra.specs.Prelude.{List, ℕ, _+_, _-_, _*_, _/_, _<_, getD}
-use Rattle.algebra.specs.Sums.{sumN}
-use Rattle.geometry.specs.declared.Shape.{Shape}
-use Rattle.geometry.specs.Fits.{Sampled, SamplesFit}
-use Rattle.geometry.specs.Read.{Image}
+use Rattle.sharpness.specs.Prelude.{List, ℕ, _+_, _-_, _*_, _/_, _<_, getD, sumN, Shape, Sampled, SamplesFit, Image}
 use Rattle.sharpness.specs.Sharpness.{step, rowSteps}
 
 -- a row of the plane of a frame of a burst, and the row so many further down

@@ -1,9 +1,7 @@
 // The sharpest of a burst's first frames: the reference that is chosen for the caller.
 ghost use mathlib.Core.Path.{_≡_};
 ghost use Prim.Native.Nat.{_+_, _-_, _*_, _/_, _≤_, _<_, min};
-ghost use Rattle.geometry.specs.Fits.{Placed, Sampled, SamplesFit};
-ghost use Rattle.geometry.specs.Read.{sampleAt};
-ghost use Rattle.algebra.specs.Sums.{sumN};
+ghost use Rattle.sharpness.specs.Prelude.{Placed, Sampled, SamplesFit, sampleAt, sumN};
 ghost use Rattle.sequences.specs.Tab.{tab};
 ghost use Rattle.sharpness.specs.Sharpness.{green, step, sharpness, sharpest};
 ghost use Rattle.sharpness.specs.Words.{RowsIn, wordSteps, placeSteps, laneOf, greenTotal, lastStep, bothSteps, wordMost, rowMost};

@@ -1,17 +1,8 @@
 -- How much the transform can lengthen: Bessel's inequality for one line of complex numbers, and from it for a tile, forth and back.
-use Rattle.algebra.specs.Prelude.{_≡_, sym, ap, ap₂, subst, [], _∷_, ℕ, _*_, ℤ, pos, negℤ, _+ℤ_, _-ℤ_, _*ℤ_}
-use mathlib.Core.Path.{subst₂}
-use lib.Signed.{_≤ℤ_}
-use Rattle.algebra.specs.Vars.{vars4, vars5}
-use Rattle.algebra.specs.Ring.{var, _⊞_, _⊟_, _⊠_, #_, ring}
-use Rattle.algebra.specs.Order.{zarith, 0≤pos}
+use Rattle.spatial.specs.Prelude.{_≡_, sym, ap, ap₂, subst, [], _∷_, ℕ, _*_, ℤ, pos, negℤ, _+ℤ_, _-ℤ_, _*ℤ_, subst₂, _≤ℤ_, vars4, vars5, var, _⊞_, _⊟_, _⊠_, #_, ring, zarith, 0≤pos, sq, sumZ, Side, cosAt, sinAt, rowRe, rowIm, binRe, binIm, inverseRe}
 use Rattle.algebra.specs.Cert.{nn, le, sqr, _⊕_, _⊗_, by-le}
-use Rattle.algebra.specs.Lipschitz.{sq}
-use Rattle.algebra.specs.Sums.{sumZ}
 use Rattle.algebra.specs.SumLaws.{sumZ-cong, sumZ-scale, sumZ-exchange}
 use Rattle.algebra.specs.SumOrder.{sumZ-mono}
-use Rattle.recipe.specs.Side.{Side, cosAt, sinAt}
-use Rattle.recipe.specs.Correction.{rowRe, rowIm, binRe, binIm, inverseRe}
 use Rattle.recipe.specs.CorrectionLaws.{alongRe, alongIm, two-way}
 use Rattle.spatial.specs.Lengths.{tileSum, Length, squares, moduli}
 

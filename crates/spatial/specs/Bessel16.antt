@@ -1,11 +1,7 @@
 -- Bessel's inequality for side 16: 4295154752 times the squares of the numbers, less the squares of the sums, is a sum of squares, by one computed identity of polynomials.
-use Rattle.algebra.specs.Prelude.{List, [], _∷_, ℕ, _+_, _*_, ℤ, negℤ}
-use Rattle.algebra.specs.Sums.{sumZ}
-use Rattle.algebra.specs.Ring.{Expr, var, con, _⊞_, _⊟_, _⊠_, #_}
+use Rattle.spatial.specs.Prelude.{List, [], _∷_, ℕ, _+_, _*_, ℤ, negℤ, sumZ, Expr, var, con, _⊞_, _⊟_, _⊠_, #_, cosAt, sinAt, cosines, cosine16, sine16, side16}
 use Rattle.algebra.specs.Forms.{sumE}
 use Rattle.algebra.specs.Cert.{num, Cert, sqr, _⊕_, _⊗_, by-le}
-use Rattle.recipe.specs.Side.{cosAt, sinAt}
-use Rattle.recipe.specs.Tables.{cosines, cosine16, sine16, side16}
 use Rattle.spatial.specs.Bessel.{Bessel, Gain}
 
 -- the numbers a + i·b of the line, and the places that stand for them

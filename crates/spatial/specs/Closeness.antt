@@ -1,24 +1,12 @@
 -- The filtered sample is close to the exact filtered merge's, for any side whose tables and scales fit together.
-use Rattle.algebra.specs.Prelude.{_≡_, sym, _∙_, ap, ap₂, subst, [], _∷_, ℕ, suc, _+_, _*_, _/_, _%_, _≤_, _<_, arith, lit<, ℤ, pos, natAbs, _+ℤ_, _-ℤ_, _*ℤ_}
-use mathlib.Core.Path.{subst₂}
+use Rattle.spatial.specs.Prelude.{_≡_, sym, _∙_, ap, ap₂, subst, [], _∷_, ℕ, suc, _+_, _*_, _/_, _%_, _≤_, _<_, arith, lit<, ℤ, pos, natAbs, _+ℤ_, _-ℤ_, _*ℤ_, subst₂, _≤ℤ_, vars4, vars8, var, _⊞_, _⊟_, _⊠_, #_, ring, 0≤pos, Frac, whole, Within, sq, Side, binRe, binIm, inverseRe, inverseAt, exactWiener, exactInverseAt, FilteredTile, mergedSum, copyAt, copyQuantized, copyFiltered, spatialAt, takenAt, filteredSample, exactBinRe, exactBinIm, exactSum, exactMergedAt, exactSpatialAt, exactTakenAt, exactFilteredSample}
 use native.Mathlib.Nat.{mul-pos, mul-le-mul-left, mul-le-mul-right}
-use lib.Signed.{_≤ℤ_}
-use Rattle.algebra.specs.Vars.{vars4, vars8}
-use Rattle.algebra.specs.Ring.{var, _⊞_, _⊟_, _⊠_, #_, ring}
-use Rattle.algebra.specs.Order.{0≤pos}
-use Rattle.algebra.specs.Fraction.{Frac, whole, Within}
 use Rattle.algebra.specs.Cert.{num, nn, le, sqr, _⊕_, _⊗_, by-le, by-le-times, le-pos}
-use Rattle.algebra.specs.Lipschitz.{sq}
 use Rattle.algebra.specs.NearestLaws.{away-rounds}
 use Rattle.algebra.specs.FractionLaws.{Near, near-add, near-scale, near-sums, near-mono, near-over, near-rounds}
 use Rattle.algebra.specs.Same.{pos-above}
-use Rattle.recipe.specs.Side.{Side}
-use Rattle.recipe.specs.Correction.{binRe, binIm, inverseRe, inverseAt}
 use Rattle.recipe.specs.Output.{rowIn, columnIn, weightIn}
-use Rattle.recipe.specs.Exact.{exactWiener, exactInverseAt}
 use Rattle.closeness.specs.Closeness.{Fitting, tileError, tile-near, rounded-within}
-use Rattle.recipe.specs.Spatial.{FilteredTile, mergedSum, copyAt, copyQuantized, copyFiltered, spatialAt, takenAt, filteredSample}
-use Rattle.recipe.specs.ExactSpatial.{exactBinRe, exactBinIm, exactSum, exactMergedAt, exactSpatialAt, exactTakenAt, exactFilteredSample}
 use Rattle.algebra.specs.Numerators.{ClearsBoth, tile-common, tiles-common, numerator, numerator-is, restored}
 use Rattle.spatial.specs.Lengths.{tileSum, tile-mono, tile-add, tile-scale, tile-const, Length, moduli, length-at}
 use Rattle.spatial.specs.Linear.{mixed, inverse-linear, bin-re-linear, bin-im-linear}

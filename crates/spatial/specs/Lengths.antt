@@ -1,14 +1,8 @@
 -- The length of a tile of numbers, the root of the sum of their squares, as a bound e/d; lengths add up.
-use Rattle.algebra.specs.Prelude.{_≡_, _∙_, ap₂, subst, [], _∷_, ℕ, zero, suc, _+_, _*_, _≤_, _<_, arith, ℤ, pos, natAbs, _+ℤ_, _-ℤ_, _*ℤ_}
-use mathlib.Core.Path.{subst₂}
+use Rattle.spatial.specs.Prelude.{_≡_, _∙_, ap₂, subst, [], _∷_, ℕ, zero, suc, _+_, _*_, _≤_, _<_, arith, ℤ, pos, natAbs, _+ℤ_, _-ℤ_, _*ℤ_, subst₂, _≤ℤ_, vars3, vars4, vars5, vars6, var, _⊞_, _⊟_, _⊠_, #_, ring, sq, sumZ}
 use native.Mathlib.Nat.{le-refl, mul-pos}
-use lib.Signed.{_≤ℤ_}
-use Rattle.algebra.specs.Vars.{vars3, vars4, vars5, vars6}
-use Rattle.algebra.specs.Ring.{var, _⊞_, _⊟_, _⊠_, #_, ring}
 use Rattle.algebra.specs.Order.{abs-of-sq, 0≤pos, 0≤sq}
 use Rattle.algebra.specs.Cert.{nn, le, sqr, _⊕_, _⊗_, by-le, by-le-times}
-use Rattle.algebra.specs.Lipschitz.{sq}
-use Rattle.algebra.specs.Sums.{sumZ}
 use Rattle.algebra.specs.SumLaws.{sumZ-cong, sumZ-add, sumZ-scale}
 use Rattle.algebra.specs.SumOrder.{sumZ-const, sumZ-mono, sumZ-nonneg, sumZ-at}
 use Rattle.algebra.specs.Same.{pos-above}

@@ -1,3 +1,4 @@
+pub mod Prelude
 pub mod Lengths
 pub mod Linear
 pub mod Bessel

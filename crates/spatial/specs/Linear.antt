@@ -1,11 +1,6 @@
 -- The two-way transform and its inverse are linear.
-use Rattle.algebra.specs.Prelude.{_≡_, _∙_, ap₂, [], _∷_, ℕ, _*_, ℤ, negℤ, _+ℤ_, _-ℤ_, _*ℤ_}
-use Rattle.algebra.specs.Vars.{vars5, vars8}
-use Rattle.algebra.specs.Ring.{_⊞_, _⊟_, _⊠_, ring}
-use Rattle.algebra.specs.Sums.{sumZ}
+use Rattle.spatial.specs.Prelude.{_≡_, _∙_, ap₂, [], _∷_, ℕ, _*_, ℤ, negℤ, _+ℤ_, _-ℤ_, _*ℤ_, vars5, vars8, _⊞_, _⊟_, _⊠_, ring, sumZ, Side, cosAt, sinAt, rowRe, rowIm, binRe, binIm, twiddleRe, twiddleIm, inverseRe}
 use Rattle.algebra.specs.SumLaws.{sumZ-cong, sumZ-scale, sumZ-sub}
-use Rattle.recipe.specs.Side.{Side, cosAt, sinAt}
-use Rattle.recipe.specs.Correction.{rowRe, rowIm, binRe, binIm, twiddleRe, twiddleIm, inverseRe}
 
 pub sum-linear : (n : ℕ) (k l : ℤ) (e f g : ℕ → ℤ) → ((i : ℕ) → e i ≡ k *ℤ f i -ℤ l *ℤ g i) → sumZ n e ≡ k *ℤ sumZ n f -ℤ l *ℤ sumZ n g
 sum-linear n k l e f g h =

@@ -1,24 +1,12 @@
 -- The copy against the exact merged tile: how long the tile of their differences is.
 -- Each bin of each correction is off by at most 3/2 sixteenths in each part, P and the copy are off by a half each: lengths of these add up, and the inverse keeps the bins'.
-use Rattle.algebra.specs.Prelude.{_≡_, _∙_, ap, subst, [], _∷_, ℕ, suc, _+_, _*_, _≤_, _<_, arith, lit<, ℤ, pos, natAbs, _+ℤ_, _-ℤ_, _*ℤ_}
+use Rattle.spatial.specs.Prelude.{_≡_, _∙_, ap, subst, [], _∷_, ℕ, suc, _+_, _*_, _≤_, _<_, arith, lit<, ℤ, pos, natAbs, _+ℤ_, _-ℤ_, _*ℤ_, _≤ℤ_, vars4, vars6, vars7, _⊞_, _⊟_, _⊠_, ⊖_, #_, ring, Frac, sq, sumZ, Side, binRe, binIm, filtered, inverseRe, inverseAt, correctionAt, exactFiltered, exactInverseAt, exactCorrectionAt, Fitting, FilteredTile, mergedSum, copyAt, exactSum, exactMergedAt}
 use native.Mathlib.Nat.{mul-pos}
-use lib.Signed.{_≤ℤ_}
-use Rattle.algebra.specs.Vars.{vars4, vars6, vars7}
-use Rattle.algebra.specs.Ring.{_⊞_, _⊟_, _⊠_, ⊖_, #_, ring}
 use Rattle.algebra.specs.Order.{abs-upper, abs-lower}
-use Rattle.algebra.specs.Fraction.{Frac}
 use Rattle.algebra.specs.Cert.{num, le, sqr, _⊕_, _⊗_, by-le}
-use Rattle.algebra.specs.Lipschitz.{sq}
-use Rattle.algebra.specs.Sums.{sumZ}
 use Rattle.algebra.specs.NearestLaws.{Rounds, away-rounds}
 use Rattle.algebra.specs.FractionLaws.{Near, near-sub, near-over, near-whole}
-use Rattle.recipe.specs.Side.{Side}
-use Rattle.recipe.specs.Correction.{binRe, binIm, filtered, inverseRe, inverseAt, correctionAt}
-use Rattle.recipe.specs.Exact.{exactFiltered, exactInverseAt, exactCorrectionAt}
 use Rattle.closeness.specs.Bins.{bin-near}
-use Rattle.closeness.specs.Closeness.{Fitting}
-use Rattle.recipe.specs.Spatial.{FilteredTile, mergedSum, copyAt}
-use Rattle.recipe.specs.ExactSpatial.{exactSum, exactMergedAt}
 use Rattle.algebra.specs.Numerators.{ClearsBoth, numerator, numerator-is, same-times, same-sum, cleared}
 use Rattle.spatial.specs.Lengths.{Length, squares, minus, length-bounded, length-sub, length-sums, length-cong}
 use Rattle.spatial.specs.Linear.{mixed, sum-linear, inverse-linear}

@@ -1,18 +1,12 @@
 -- At s = 0 each word of the merged frame lies close to the exact merge's sample at its place: within five eighths for side 16 (demand 3), within one step for
 -- side 32 (request L8). For side 16 it lies at any s within two steps of the exact filtered merge's (request L13), in fact within nine tenths.
-use Rattle.algebra.specs.Prelude.{_≡_, sym, ap, subst, _∙_, ℕ, _*_, _/_, _%_, _≤_, _<_, arith, getD, ℤ, pos, natAbs}
+use Rattle.spatial.specs.Prelude.{_≡_, sym, ap, subst, _∙_, ℕ, _*_, _/_, _%_, _≤_, _<_, arith, getD, ℤ, pos, natAbs, whole, Within, Side, side16, FilteredTile, filteredSample, exactSample, exactFilteredSample}
 use Rattle.algebra.specs.Order.{abs-nonneg, zarith}
 use Rattle.algebra.specs.ClampLaws.{clamp-low}
-use Rattle.algebra.specs.Fraction.{whole, Within}
 use Rattle.sequences.specs.TabLaws.{getD-tab}
-use Rattle.recipe.specs.Side.{Side}
-use Rattle.recipe.specs.Tables.{side16}
 use Rattle.recipe.specs.Tables32.{side32}
 use Rattle.recipe.specs.Scene.{Scene}
 use Rattle.recipe.specs.PlainOutput.{outputSample}
-use Rattle.recipe.specs.Spatial.{FilteredTile, filteredSample}
-use Rattle.recipe.specs.Exact.{exactSample}
-use Rattle.recipe.specs.ExactSpatial.{exactFilteredSample}
 use Rattle.recipe.specs.Merged.{planeOutput, outputAt, wordAt, merged}
 use Rattle.recipe.specs.ExactMerge.{planeExact, exactAt, planeExactFiltered, exactFilteredAt}
 use Rattle.closeness.specs.Side16.{five-eighths}

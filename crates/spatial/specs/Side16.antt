@@ -1,11 +1,6 @@
 -- Request L13 for side 16: a filtered sample lies within two steps of the exact filtered merge's, in fact within nine tenths.
-use Rattle.algebra.specs.Prelude.{refl, ℕ, suc, _+_, _*_, _≤_, _<_, arith, lit<, lit≤, ℤ}
-use Rattle.algebra.specs.Fraction.{whole, Within}
-use Rattle.recipe.specs.Tables.{side16}
-use Rattle.closeness.specs.Closeness.{tileError}
+use Rattle.spatial.specs.Prelude.{refl, ℕ, suc, _+_, _*_, _≤_, _<_, arith, lit<, lit≤, ℤ, whole, Within, side16, tileError, FilteredTile, filteredSample, exactFilteredSample}
 use Rattle.closeness.specs.Side16.{fitting16}
-use Rattle.recipe.specs.Spatial.{FilteredTile, filteredSample}
-use Rattle.recipe.specs.ExactSpatial.{exactFilteredSample}
 use Rattle.spatial.specs.Bessel16.{gain16}
 use Rattle.spatial.specs.Closeness.{Figures, spatialError, filtered-within}
 

@@ -1,11 +1,6 @@
 -- The exact transform and its inverse, of fractions that are whole numbers over one denominator.
-use Rattle.algebra.specs.Prelude.{ℕ, _*_, _<_, ℤ, pos, negℤ}
-use Rattle.algebra.specs.Fraction.{Frac}
+use Rattle.spatial.specs.Prelude.{ℕ, _*_, _<_, ℤ, pos, negℤ, Frac, Side, cosAt, sinAt, rowRe, rowIm, binRe, binIm, twiddleRe, twiddleIm, inverseRe, exactInverseRe, exactRowRe, exactRowIm, exactBinRe, exactBinIm}
 use Rattle.algebra.specs.FractionLaws.{Near, near-add, near-sub, near-over}
-use Rattle.recipe.specs.Side.{Side, cosAt, sinAt}
-use Rattle.recipe.specs.Correction.{rowRe, rowIm, binRe, binIm, twiddleRe, twiddleIm, inverseRe}
-use Rattle.recipe.specs.Exact.{exactInverseRe}
-use Rattle.recipe.specs.ExactSpatial.{exactRowRe, exactRowIm, exactBinRe, exactBinIm}
 use Rattle.algebra.specs.Numerators.{same-scale, same-scaled, same-sum}
 
 pub inverse-same : (s : Side) {k : ℤ} (g h : ℕ → ℕ → ℤ) (g' h' : ℕ → ℕ → Frac) → ((u v : ℕ) → u < s .side → v < s .side → Near 0 1 (g u v) k (g' u v) × Near 0 1 (h u v) k (h' u v)) → (y x : ℕ) → Near 0 1 (inverseRe s g h y x) k (exactInverseRe s g' h' y x)

@@ -1,24 +1,16 @@
 -- One bin of the copy. With C a common denominator of the exact corrections: twice the square of the error of C·G is at most C²·(12 + 3·(the bin's error)²), the error counted in sixteenths.
 -- Rounding the bin and rounding G are each at most 1/√2, and |a + b + c|² ≤ 6·|a|² + 6·|b|² + 3/2·|c|².
-use Rattle.algebra.specs.Prelude.{_≡_, sym, _∙_, subst, [], _∷_, ℕ, zero, suc, _*_, _<_, arith, ℤ, pos, _+ℤ_, _-ℤ_, _*ℤ_}
-use mathlib.Core.Path.{subst₂}
+use Rattle.spatial.specs.Prelude.{_≡_, sym, _∙_, subst, [], _∷_, ℕ, zero, suc, _*_, _<_, arith, ℤ, pos, _+ℤ_, _-ℤ_, _*ℤ_, subst₂, vars3, vars7, vars8, vars10, Expr, var, _⊞_, _⊟_, _⊠_, ⊖_, #_, ring, Frac, whole, sq, Side, power, wiener, exactWiener}
 use native.Mathlib.Nat.{mul-pos}
 use lib.Signed.{_≤ℤ_, _<ℤ_, ltZ-yes}
-use Rattle.algebra.specs.Vars.{vars3, vars7, vars8, vars10}
-use Rattle.algebra.specs.Ring.{Expr, var, _⊞_, _⊟_, _⊠_, ⊖_, #_, ring}
 use Rattle.algebra.specs.Order.{0≤pos, ≤ℤ-antisym}
-use Rattle.algebra.specs.Fraction.{Frac, whole}
 use Rattle.algebra.specs.Cert.{num, le, eq, sqr, _⊕_, _⊗_, by-le, by-le-times}
-use Rattle.algebra.specs.Lipschitz.{sq}
 use Rattle.algebra.specs.Nearest.{away}
 use Rattle.algebra.specs.NearestLaws.{Rounds, away-rounds}
 use Rattle.algebra.specs.FractionLaws.{Near}
 use Rattle.algebra.specs.Same.{pos-above, near-cross}
 use Rattle.algebra.specs.Numerators.{same-fraction}
-use Rattle.recipe.specs.Side.{Side}
-use Rattle.recipe.specs.Correction.{power, wiener}
 use Rattle.recipe.specs.CorrectionLaws.{power-is}
-use Rattle.recipe.specs.Exact.{exactWiener}
 use Rattle.closeness.specs.Bins.{unstretched, exact-is}
 
 pub rounds-square : {z q : ℤ} {m : ℕ} → Rounds z m q → (pos 4 *ℤ sq (pos m *ℤ q -ℤ z)) ≤ℤ sq (pos m)

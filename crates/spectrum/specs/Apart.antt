@@ -1,8 +1,6 @@
 -- Numbers 0 and n/2 of a line apart from the others.
-use Rattle.algebra.specs.Prelude.{_≡_, refl, Bool, true, false, cond, ℕ, _%_, _≤_, _<_, eqb, ltb}
+use Rattle.spectrum.specs.Prelude.{_≡_, refl, Bool, true, false, cond, ℕ, _%_, _≤_, _<_, eqb, ltb, Side, side16}
 use borrow.Author.Tests.{eq-eqb, ne-eqb, eqb-false, ltb-true, ltb-false}
-use Rattle.recipe.specs.Side.{Side}
-use Rattle.recipe.specs.Tables.{side16}
 use Rattle.spectrum.specs.Spectrum.{apart, apartOf}
 
 -- what holds of either

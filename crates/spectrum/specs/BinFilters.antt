@@ -1,10 +1,6 @@
 -- A filter of the bins of real differences that may be another one at each bin: it keeps the mirror image, and the inverse of what it gives is the sum back from
 -- the folded columns 0 to n/2.
-use Rattle.algebra.specs.Prelude.{_≡_, sym, ap, ap₂, _∙_, ℕ, _+_, _<_, ℤ, negℤ}
-use Rattle.algebra.specs.Nearest.{away}
-use Rattle.recipe.specs.Side.{Side}
-use Rattle.recipe.specs.TableRules.{oppositeOf}
-use Rattle.recipe.specs.Correction.{binRe, binIm, inverseAt}
+use Rattle.spectrum.specs.Prelude.{_≡_, sym, ap, ap₂, _∙_, ℕ, _+_, _<_, ℤ, negℤ, away, Side, oppositeOf, binRe, binIm, inverseAt}
 use Rattle.spectrum.specs.Spectrum.{MirroredOf, spreadOf, backSumOf}
 use Rattle.spectrum.specs.Turns.{Turns}
 use Rattle.spectrum.specs.SpectrumLaws.{bins-mirrored-of}

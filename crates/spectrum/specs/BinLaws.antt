@@ -1,8 +1,6 @@
 -- The bins of a plane of differences are those that differences can have.
-use Rattle.algebra.specs.Prelude.{ℕ, _*_, _≤_, ℤ, natAbs, lit≤}
+use Rattle.spectrum.specs.Prelude.{ℕ, _*_, _≤_, ℤ, natAbs, lit≤, differenceMost, side32}
 use native.Mathlib.Nat.{le-trans, mul-le-mul-left}
-use Rattle.lines.specs.Magnitudes.{differenceMost}
-use Rattle.recipe.specs.Tables32.{side32}
 use Rattle.spectrum.specs.Magnitudes.{longBinMost}
 use Rattle.spectrum.specs.Spectrum.{twoWay, twoWayOf}
 use Rattle.spectrum.specs.Turns.{turns32}

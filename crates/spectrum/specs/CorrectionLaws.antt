@@ -1,9 +1,5 @@
 -- P of a tile of differences d from the folded G of its bins.
-use Rattle.algebra.specs.Prelude.{_≡_, refl, ap₂, ℕ, _+_, _^_, _<_, ℤ}
-use Rattle.algebra.specs.Nearest.{away}
-use Rattle.recipe.specs.Side.{Side}
-use Rattle.recipe.specs.Tables.{side16}
-use Rattle.recipe.specs.Correction.{binRe, binIm, filtered, correctionAt}
+use Rattle.spectrum.specs.Prelude.{_≡_, refl, ap₂, ℕ, _+_, _^_, _<_, ℤ, away, Side, side16, binRe, binIm, filtered, correctionAt}
 use Rattle.spectrum.specs.Spectrum.{BinsHeld, spreadOf, backSumOf, gainReOf, gainImOf, BinsOf, spread, backSum, gainRe, gainIm}
 use Rattle.spectrum.specs.Turns.{Turns, turns16}
 use Rattle.spectrum.specs.SpectrumLaws.{filtered-odd-of, filtered-even-of}

@@ -1,9 +1,7 @@
 -- A correction depends on the tile's differences alone.
 use mathlib.Core.Path.{_≡_, ap, ap₂, fun-ext}
-use Rattle.algebra.specs.Prelude.{ℕ, _*_, _<_, ℤ, negℤ, _+ℤ_, _-ℤ_, _*ℤ_}
+use Rattle.spectrum.specs.Prelude.{ℕ, _*_, _<_, ℤ, negℤ, _+ℤ_, _-ℤ_, _*ℤ_, Side, cosAt, sinAt, rowRe, rowIm, binRe, binIm, filtered, inverseAt, correctionAt}
 use Rattle.algebra.specs.SumLaws.{sumZ-cong}
-use Rattle.recipe.specs.Side.{Side, cosAt, sinAt}
-use Rattle.recipe.specs.Correction.{rowRe, rowIm, binRe, binIm, filtered, inverseAt, correctionAt}
 
 module _ (s : Side) (d e : ℕ → ℕ → ℤ) (same : (y x : ℕ) → y < s .side → x < s .side → d y x ≡ e y x) where
   re-same : (y v : ℕ) → y < s .side → rowRe s d y v ≡ rowRe s e y v

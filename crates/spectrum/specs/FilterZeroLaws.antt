@@ -1,12 +1,8 @@
 -- "With s = 0 the plain merge comes out": where every V' is 0 the spatial correction is 0.
-use Rattle.algebra.specs.Prelude.{_≡_, sym, _∙_, ap, [], _∷_, ℕ, suc, _*_, _<_, ℤ, pos, _+ℤ_, _-ℤ_, _*ℤ_}
+use Rattle.spectrum.specs.Prelude.{_≡_, sym, _∙_, ap, [], _∷_, ℕ, suc, _*_, _<_, ℤ, pos, _+ℤ_, _-ℤ_, _*ℤ_, var, _⊞_, _⊠_, #_, ring, upward, Side, wiener, binRe, binIm, correctionAt}
 use native.Mathlib.Nat.{zero-mul, zero-div}
-use Rattle.algebra.specs.Ring.{var, _⊞_, _⊠_, #_, ring}
 use Rattle.algebra.specs.SumLaws.{sumZ-cong, sumZ-scale}
 use Rattle.algebra.specs.Clamp.{clampZ}
-use Rattle.algebra.specs.Nearest.{upward}
-use Rattle.recipe.specs.Side.{Side}
-use Rattle.recipe.specs.Correction.{wiener, binRe, binIm, correctionAt}
 use Rattle.spectrum.specs.ZeroLaws.{inverse-zero}
 use Rattle.recipe.specs.Output.{rowIn, columnIn, weightIn}
 use Rattle.recipe.specs.PlainOutput.{outputSample}

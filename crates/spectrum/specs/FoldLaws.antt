@@ -1,16 +1,10 @@
 -- The inverse sums of complex lines are the sums back from their halfcomplex folds, for any side whose tables turn as `Turns` asks.
-use Rattle.algebra.specs.Prelude.{_≡_, refl, sym, ap, ap₂, _∙_, [], _∷_, ℕ, zero, suc, _+_, _-_, _*_, _%_, _≤_, _<_, arith, lit<}
+use Rattle.spectrum.specs.Prelude.{_≡_, refl, sym, ap, ap₂, _∙_, [], _∷_, ℕ, zero, suc, _+_, _-_, _*_, _%_, _≤_, _<_, arith, lit<, var, #_, _⊞_, _⊟_, _⊠_, ⊖_, ring, sumZ, Side, cosAt, sinAt, twiddleRe, twiddleIm, inverseRe, oppositeOf, basisOf, backwardOf}
 use native.Mathlib.Nat.{mod-eq-of-lt, mod-self, zero-mod, add-mod-left}
 use borrow.Author.Tests.{lt-ltb, le-ltb}
 use lib.IntN.{ℤ, pos, negℤ, _+ℤ_, _-ℤ_, _*ℤ_, +ℤ-comm}
-use Rattle.algebra.specs.Ring.{var, #_, _⊞_, _⊟_, _⊠_, ⊖_, ring}
-use Rattle.algebra.specs.Sums.{sumZ}
 use Rattle.algebra.specs.SumLaws.{sumZ-neg, sumZ-cong, sumZ-add, sumZ-parts, sumZ-exchange}
-use Rattle.recipe.specs.Side.{Side, cosAt, sinAt}
-use Rattle.recipe.specs.Correction.{twiddleRe, twiddleIm, inverseRe}
-use Rattle.recipe.specs.TableRules.{oppositeOf}
 use Rattle.recipe.specs.CorrectionLaws.{alongRe, alongIm, two-way}
-use Rattle.lines.specs.Halfcomplex.{basisOf, backwardOf}
 use Rattle.spectrum.specs.Spectrum.{foldReOf, foldImOf, spreadOf, countedOf, backSumOf, MirroredOf}
 use Rattle.spectrum.specs.Turns.{Turns, opposite-is}
 use Rattle.spectrum.specs.Apart.{side-own, side-paired}

@@ -1,7 +1,6 @@
 -- How large the numbers of the folded G are.
-use Rattle.algebra.specs.Prelude.{ℕ, _-_, _*_, _≤_, arith, ltb, ℤ, natAbs}
+use Rattle.spectrum.specs.Prelude.{ℕ, _-_, _*_, _≤_, arith, ltb, ℤ, natAbs, side16}
 use Rattle.algebra.specs.Order.{abs-add, abs-sub}
-use Rattle.recipe.specs.Tables.{side16}
 use Rattle.spectrum.specs.Spectrum.{foldRe, foldIm, spread, foldImOf, foldReOf, spreadOf}
 use Rattle.spectrum.specs.Apart.{cond-cases, apart-cases}
 

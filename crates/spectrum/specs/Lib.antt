@@ -1,3 +1,4 @@
+pub mod Prelude
 pub mod Magnitudes
 pub mod Spectrum
 pub mod Turns

@@ -1,14 +1,9 @@
 -- The sums of a line against its basis: what they depend on, and how large they are.
-use Rattle.algebra.specs.Prelude.{_≡_, ap, _∙_, List, ℕ, _*_, _≤_, _<_, getD, ℤ, pos, natAbs, _*ℤ_}
-use Rattle.algebra.specs.Sums.{sumZ}
+use Rattle.spectrum.specs.Prelude.{_≡_, ap, _∙_, List, ℕ, _*_, _≤_, _<_, getD, ℤ, pos, natAbs, _*ℤ_, sumZ, tab, Side, side16, basisOf, halfcomplexOf, backwardOf, basis, halfcomplex, backward}
 use Rattle.algebra.specs.SumLaws.{sumZ-cong}
-use Rattle.sequences.specs.Tab.{tab}
 use Rattle.sequences.specs.TabLaws.{getD-tab}
 use Rattle.sequences.specs.Grid.{tab-ext}
-use Rattle.recipe.specs.Side.{Side}
-use Rattle.recipe.specs.Tables.{side16}
 use Rattle.recipe.specs.TableLaws.{rules16}
-use Rattle.lines.specs.Halfcomplex.{basisOf, halfcomplexOf, backwardOf, basis, halfcomplex, backward}
 use Rattle.lines.specs.HalfSumLaws.{basis-most}
 use Rattle.spectrum.specs.SizeLaws.{sum-most}
 

@@ -1,17 +1,10 @@
 -- The laws of lines, folds and corrections that a pair of tiles of side 32 asks for (request L8), under the names that they have for side 16.
-use Rattle.algebra.specs.Prelude.{_≡_, refl, ap, _∙_, cond, List, ℕ, _+_, _-_, _*_, _%_, _^_, _≤_, _<_, arith, eqb, ltb, getD, ℤ, pos, natAbs, _*ℤ_}
+use Rattle.spectrum.specs.Prelude.{_≡_, refl, ap, _∙_, cond, List, ℕ, _+_, _-_, _*_, _%_, _^_, _≤_, _<_, arith, eqb, ltb, getD, ℤ, pos, natAbs, _*ℤ_, away, tab, Side, cosAt, cosines32, cosine32, side32, Rules, correctionAt, halfZ, basisOf, halfcomplexOf, backwardOf, halfSumOf}
 use Rattle.algebra.specs.Order.{abs-add, abs-sub, abs-mul-le}
-use Rattle.algebra.specs.Nearest.{away}
 use Rattle.algebra.specs.SumLaws.{abs-sum-bound}
-use Rattle.sequences.specs.Tab.{tab}
 use Rattle.sequences.specs.TabLaws.{getD-tab}
 use Rattle.sequences.specs.Grid.{tab-ext}
-use Rattle.recipe.specs.Side.{Side, cosAt}
-use Rattle.recipe.specs.Tables32.{cosines32, cosine32, side32}
-use Rattle.recipe.specs.TableRules.{Rules}
 use Rattle.recipe.specs.TableLaws32.{rules32}
-use Rattle.recipe.specs.Correction.{correctionAt}
-use Rattle.lines.specs.Halfcomplex.{halfZ, basisOf, halfcomplexOf, backwardOf, halfSumOf}
 use Rattle.lines.specs.HalfSumLaws.{basis-most, twice-half}
 use Rattle.lines.specs.SideFolds.{line-ext}
 use Rattle.spectrum.specs.Spectrum.{twoWayOf, foldReOf, foldImOf, spreadOf, backSumOf, gainReOf, gainImOf, BinsHeld}

@@ -1,11 +1,8 @@
 -- Inside the crates of the merge: two tiles of side 32 side by side (request L8), as Pairs has those of side 16.
-use Rattle.algebra.specs.Prelude.{_≡_, List, ℕ, _+_, _≤_, _<_, lit≤, getD, ℤ, pos, natAbs}
+use Rattle.spectrum.specs.Prelude.{_≡_, List, ℕ, _+_, _≤_, _<_, lit≤, getD, ℤ, pos, natAbs, tab, side32, quantized, filtered}
 use native.Mathlib.Nat.{le-trans}
 use lib.Ieee.{Float, binary64, ofInt}
-use Rattle.sequences.specs.Tab.{tab}
 use Rattle.sequences.specs.Grid.{grid, cell}
-use Rattle.recipe.specs.Tables32.{side32}
-use Rattle.recipe.specs.Correction.{quantized, filtered}
 use Rattle.spectrum.specs.Magnitudes.{gainMost, longBinMost}
 use Rattle.spectrum.specs.Spectrum.{tileReOf, tileImOf, spreadOf, quadPlaces, twoBinsOf, gainReOf, gainImOf, foldedQuad}
 use Rattle.spectrum.specs.Pairs.{byColumns, pairGains, inverseIn, added}

@@ -1,12 +1,8 @@
 -- Inside the crates of the merge: two tiles side by side, those of column parity 0 and 1 at one place of one row parity. Place 2·x + p of a row is column x of
 -- plane p, so that a row of the pair is thirty-two samples of the frame one after the other.
-use Rattle.algebra.specs.Prelude.{_≡_, cond, List, ℕ, _+_, _*_, _/_, _%_, _^_, _≤_, _<_, eqb, ℤ, pos, natAbs, _+ℤ_}
+use Rattle.spectrum.specs.Prelude.{_≡_, cond, List, ℕ, _+_, _*_, _/_, _%_, _^_, _≤_, _<_, eqb, ℤ, pos, natAbs, _+ℤ_, away, Side, side16, correctionAt}
 use lib.Ieee.{Float, binary64, ofInt}
-use Rattle.algebra.specs.Nearest.{away}
 use Rattle.sequences.specs.Grid.{grid, cell}
-use Rattle.recipe.specs.Side.{Side}
-use Rattle.recipe.specs.Tables.{side16}
-use Rattle.recipe.specs.Correction.{correctionAt}
 use Rattle.spectrum.specs.Magnitudes.{binMost}
 use Rattle.spectrum.specs.Spectrum.{tileRe, tileIm, transposed, twoWayOf, foldedGain, backSumOf}
 

@@ -1,8 +1,7 @@
 -- The way back from a spectrum in halfcomplex form looks at its n by n places only.
-use Rattle.algebra.specs.Prelude.{_≡_, refl, ap, ap₂, Bool, true, false, cond, ℕ, zero, suc, _+_, _-_, _*_, _%_, _≤_, _<_, arith, ltb, ℤ, _+ℤ_, _-ℤ_}
+use Rattle.spectrum.specs.Prelude.{_≡_, refl, ap, ap₂, Bool, true, false, cond, ℕ, zero, suc, _+_, _-_, _*_, _%_, _≤_, _<_, arith, ltb, ℤ, _+ℤ_, _-ℤ_, Side}
 use native.Mathlib.Nat.{zero-mod}
 use borrow.Author.Tests.{ltb-true, ltb-false}
-use Rattle.recipe.specs.Side.{Side}
 use Rattle.spectrum.specs.Spectrum.{foldReOf, foldImOf, spreadOf, countedOf, backSumOf}
 use Rattle.spectrum.specs.Turns.{Turns}
 use Rattle.spectrum.specs.Apart.{below-ext, side-ext}

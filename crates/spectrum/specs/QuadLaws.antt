@@ -1,13 +1,9 @@
 -- The quads of a folded G: what the four places at u and 8 + u of lines v and 8 + v come to.
-use Rattle.algebra.specs.Prelude.{_≡_, refl, sym, ap, ap₂, subst, _∙_, Bool, true, false, cond, List, [], _∷_, arith, ltb, getD}
+use Rattle.spectrum.specs.Prelude.{_≡_, refl, sym, ap, ap₂, subst, _∙_, Bool, true, false, cond, List, [], _∷_, arith, ltb, getD, tab, Side, side16, filtered}
 use Prim.Native.Nat.{ℕ, zero, suc, _+_, _-_, _%_, _<_}
 use native.Mathlib.Nat.{mod-eq-of-lt, zero-mod, add-mod-left}
 use borrow.Author.Tests.{lt-ltb, le-ltb}
 use lib.IntN.{ℤ, pos, negℤ, _+ℤ_, _-ℤ_, +ℤ-idr, +ℤ-idl, +ℤ-comm, negℤ-negℤ}
-use Rattle.sequences.specs.Tab.{tab}
-use Rattle.recipe.specs.Side.{Side}
-use Rattle.recipe.specs.Tables.{side16}
-use Rattle.recipe.specs.Correction.{filtered}
 use Rattle.spectrum.specs.Spectrum.{realPart, imaginaryPart, besideOf, tileReOf, tileImOf, foldReOf, foldImOf, spreadOf, quadPlaces, twoBinsOf, gainReOf, gainImOf, byKind, foldedQuad, tileRe, tileIm, spread, quadOf, twoBins, gainRe, gainIm}
 use Rattle.spectrum.specs.Turns.{Turns, turns16}
 use Rattle.spectrum.specs.SpectrumLaws.{filtered-odd-of, filtered-even-of}

@@ -1,7 +1,6 @@
 -- How large a rounded quotient is.
-use Rattle.algebra.specs.Prelude.{ℕ, _+_, _*_, _/_, _≤_, _<_, arith, lit<, ℤ, natAbs}
+use Rattle.spectrum.specs.Prelude.{ℕ, _+_, _*_, _/_, _≤_, _<_, arith, lit<, ℤ, natAbs, away}
 use native.Mathlib.Nat.{le-trans, le-div-iff-mul-le, div-lt-iff-lt-mul, div-mul-le-self, mul-pos}
-use Rattle.algebra.specs.Nearest.{away}
 use Rattle.algebra.specs.Most.{away-abs}
 
 div-mono : (a b m : ℕ) → 0 < m → a ≤ b → a / m ≤ b / m

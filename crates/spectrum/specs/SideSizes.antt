@@ -1,17 +1,10 @@
 -- How large B and Q are by the sum of the magnitudes of a tile's differences, for any side whose factors are as small as `Factors` asks.
-use Rattle.algebra.specs.Prelude.{_≡_, sym, ap₂, _∙_, [], _∷_, ℕ, _*_, _%_, _≤_, _<_, arith, T, leb, lit<, ℤ, natAbs, negℤ, _+ℤ_, _-ℤ_, _*ℤ_}
+use Rattle.spectrum.specs.Prelude.{_≡_, sym, ap₂, _∙_, [], _∷_, ℕ, _*_, _%_, _≤_, _<_, arith, T, leb, lit<, ℤ, natAbs, negℤ, _+ℤ_, _-ℤ_, _*ℤ_, vars5, _⊞_, _⊟_, _⊠_, ⊖_, ring, sumZ, sumN, Side, cosAt, sinAt, cosines32, cosine32, sine32, side32, rowRe, rowIm, binRe, binIm, quantized, differenceMost}
 use native.Mathlib.Nat.{le-refl, le-trans, mod-lt}
 use lib.Dec.{leb→le}
 use Rattle.algebra.specs.Order.{abs-mul-le}
-use Rattle.algebra.specs.Vars.{vars5}
-use Rattle.algebra.specs.Ring.{_⊞_, _⊟_, _⊠_, ⊖_, ring}
 use Rattle.algebra.specs.Test.{all, all-sound}
-use Rattle.algebra.specs.Sums.{sumZ, sumN}
 use Rattle.algebra.specs.SumLaws.{sumZ-cong, sumZ-scaler, sumZ-add, sumZ-sub, sumN-mono, sumN-scale, sumN-bound, abs-sum}
-use Rattle.recipe.specs.Side.{Side, cosAt, sinAt}
-use Rattle.recipe.specs.Tables32.{cosines32, cosine32, sine32, side32}
-use Rattle.recipe.specs.Correction.{rowRe, rowIm, binRe, binIm, quantized}
-use Rattle.lines.specs.Magnitudes.{differenceMost}
 use Rattle.spectrum.specs.RoundingLaws.{away-within}
 
 -- the sum of the magnitudes of n by n differences

@@ -1,18 +1,13 @@
 -- How large the numbers of the recipe are: B, Q, G and P.
-use Rattle.algebra.specs.Prelude.{sym, subst, ℕ, _+_, _*_, _/_, _^_, _≤_, lit≤, lit<, ℤ, natAbs, negℤ, _+ℤ_, _-ℤ_, _*ℤ_}
+use Rattle.spectrum.specs.Prelude.{sym, subst, ℕ, _+_, _*_, _/_, _^_, _≤_, lit≤, lit<, ℤ, natAbs, negℤ, _+ℤ_, _-ℤ_, _*ℤ_, sumZ, cosAt, sinAt, side16, wiener, rowRe, rowIm, binRe, binIm, quantized, filtered, inverseRe, inverseAt, correctionAt, differenceMost}
 use native.Mathlib.Nat.{le-refl, le-trans, add-comm, add-le-add, mul-add, mul-le-mul-left}
 use Rattle.algebra.specs.Order.{abs-add, abs-sub, abs-neg, abs-mul-le}
-use Rattle.algebra.specs.Sums.{sumZ}
 use Rattle.algebra.specs.SumLaws.{abs-sum-bound}
-use Rattle.recipe.specs.Side.{cosAt, sinAt}
-use Rattle.recipe.specs.Tables.{side16}
 use Rattle.recipe.specs.TableLaws.{cosine-most, minus-sine-is, pair-most}
-use Rattle.recipe.specs.Correction.{wiener, rowRe, rowIm, binRe, binIm, quantized, filtered, inverseRe, inverseAt, correctionAt}
 use Rattle.recipe.specs.Spatial.{copyFiltered}
 use Rattle.recipe.specs.CorrectionLaws.{alongRe, alongIm, two-way}
 use Rattle.spectrum.specs.Magnitudes.{binMost, gainMost, noiseMost, rootMost, smallMost, spatialMost, spatialGainMost, spatialCorrectionMost}
 use Rattle.spectrum.specs.Magnitudes.{rowMost, correctionMost}
-use Rattle.lines.specs.Magnitudes.{differenceMost}
 use Rattle.spectrum.specs.RoundingLaws.{away-most}
 use Rattle.spectrum.specs.WienerLaws.{wiener-most, wiener-root}
 

@@ -1,11 +1,6 @@
 -- The bins of a tile of real differences in halfcomplex form both ways: line k holds place k of the rows' transforms, and along it stand the places of
 -- the columns'. And the way back: G folded to the same form, and the sums over it.
-use Rattle.algebra.specs.Prelude.{_≡_, cond, List, [], _∷_, ℕ, zero, suc, _+_, _-_, _%_, _<_, eqb, ltb, ℤ, pos, negℤ, _+ℤ_, _-ℤ_, _*ℤ_}
-use Rattle.lines.specs.Halfcomplex.{halfcomplexOf, backwardOf}
-use Rattle.recipe.specs.Side.{Side}
-use Rattle.recipe.specs.Tables.{side16}
-use Rattle.recipe.specs.TableRules.{oppositeOf}
-use Rattle.recipe.specs.Correction.{binRe, binIm, filtered}
+use Rattle.spectrum.specs.Prelude.{_≡_, cond, List, [], _∷_, ℕ, zero, suc, _+_, _-_, _%_, _<_, eqb, ltb, ℤ, pos, negℤ, _+ℤ_, _-ℤ_, _*ℤ_, halfcomplexOf, backwardOf, Side, side16, oppositeOf, binRe, binIm, filtered}
 
 -- the code holds a tile by columns: place k of line b
 abbrev pub transposed : (t : ℕ → ℕ → ℤ) → (b k : ℕ) → ℤ

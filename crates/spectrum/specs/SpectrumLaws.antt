@@ -1,20 +1,11 @@
 -- Laws of the spectrum of real differences: its halfcomplex form holds the bins of document 01, the bins are mirror images, and the filter keeps signs.
 use mathlib.Core.Path.{_≡_, refl, sym, ap, ap₂, _∙_, fun-ext}
-use Rattle.algebra.specs.Prelude.{Bool, true, false, cond, List, [], _∷_, ℕ, zero, suc, _+_, _-_, _*_, _%_, _^_, _<_, arith, eqb, ltb, lit<}
+use Rattle.spectrum.specs.Prelude.{Bool, true, false, cond, List, [], _∷_, ℕ, zero, suc, _+_, _-_, _*_, _%_, _^_, _<_, arith, eqb, ltb, lit<, away, vars4, var, _⊞_, _⊟_, _⊠_, ⊖_, ring, sumZ, Side, cosAt, sinAt, side16, oppositeOf, power, wiener, rowRe, rowIm, binRe, binIm, quantized, filtered, basisOf, halfcomplexOf, halfcomplex}
 use borrow.Author.Tests.{lt-ltb}
 use lib.IntN.{ℤ, pos, negℤ, natAbs, _+ℤ_, _-ℤ_, _*ℤ_, *ℤ-zero, zero-*ℤ}
 use Rattle.algebra.specs.Order.{abs-neg}
-use Rattle.algebra.specs.Nearest.{away}
 use Rattle.algebra.specs.NearestLaws.{away-odd}
-use Rattle.algebra.specs.Vars.{vars4}
-use Rattle.algebra.specs.Ring.{var, _⊞_, _⊟_, _⊠_, ⊖_, ring}
-use Rattle.algebra.specs.Sums.{sumZ}
 use Rattle.algebra.specs.SumLaws.{sumZ-0, sumZ-cong, sumZ-scaler, sumZ-add, sumZ-sub, sumZ-neg, sumZ-exchange}
-use Rattle.recipe.specs.Side.{Side, cosAt, sinAt}
-use Rattle.recipe.specs.Tables.{side16}
-use Rattle.recipe.specs.TableRules.{oppositeOf}
-use Rattle.recipe.specs.Correction.{power, wiener, rowRe, rowIm, binRe, binIm, quantized, filtered}
-use Rattle.lines.specs.Halfcomplex.{basisOf, halfcomplexOf, halfcomplex}
 use Rattle.spectrum.specs.Spectrum.{MirroredOf, twoWayOf, apartOf, realPart, imaginaryPart, besideOf, tileReOf, tileImOf, twoWay, tileRe, tileIm}
 use Rattle.spectrum.specs.Turns.{Turns, turns16}
 

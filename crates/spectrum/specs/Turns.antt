@@ -1,12 +1,7 @@
 -- What the folds of a spectrum ask of a side's tables, at products of two indices: each rule one computed test over the whole table.
-use Rattle.algebra.specs.Prelude.{_≡_, refl, ℕ, suc, _+_, _-_, _*_, _≤_, _<_, arith, lit≤, lit<, ℤ, pos, negℤ}
+use Rattle.spectrum.specs.Prelude.{_≡_, refl, ℕ, suc, _+_, _-_, _*_, _≤_, _<_, arith, lit≤, lit<, ℤ, pos, negℤ, Side, cosAt, sinAt, cosines, cosine16, sine16, side16, cosines32, cosine32, sine32, side32, oppositeOf, frequencyOf, phaseOf, basisOf}
 use native.Mathlib.Nat.{mod-eq-of-lt}
-use Rattle.recipe.specs.Side.{Side, cosAt, sinAt}
-use Rattle.recipe.specs.Tables.{cosines, cosine16, sine16, side16}
-use Rattle.recipe.specs.Tables32.{cosines32, cosine32, sine32, side32}
-use Rattle.recipe.specs.TableRules.{oppositeOf}
 use Rattle.recipe.specs.TableLaws.{agree, agree-both}
-use Rattle.lines.specs.Halfcomplex.{frequencyOf, phaseOf, basisOf}
 use Rattle.spectrum.specs.Spectrum.{apartOf, realPart, imaginaryPart}
 
 pub record Turns (s : Side) : Type 0 where

@@ -1,14 +1,10 @@
 -- The Wiener step where V is not 0, and that a part of G is no larger than that part of Q, nor than half the root of V.
-use Rattle.algebra.specs.Prelude.{_≡_, refl, [], _∷_, arith, ℤ, pos, natAbs, _*ℤ_}
+use Rattle.spectrum.specs.Prelude.{_≡_, refl, [], _∷_, arith, ℤ, pos, natAbs, _*ℤ_, vars4, _⊞_, _⊟_, _⊠_, #_, away, power, wiener}
 use Prim.Native.Nat.{ℕ, zero, suc, _+_, _*_, _≤_, _<_, zero-le}
 use native.Mathlib.Nat.{mul-le-mul-right}
 use lib.Signed.{_≤ℤ_, _<ℤ_}
 use Rattle.algebra.specs.Order.{zarith, abs-mul, 0≤pos}
-use Rattle.algebra.specs.Vars.{vars4}
-use Rattle.algebra.specs.Ring.{_⊞_, _⊟_, _⊠_, #_}
 use Rattle.algebra.specs.Cert.{nn, le, sqr, _⊕_, _⊗_, by-le-times, le-pos}
-use Rattle.algebra.specs.Nearest.{away}
-use Rattle.recipe.specs.Correction.{power, wiener}
 use Rattle.spectrum.specs.RoundingLaws.{away-within}
 
 pub wiener-is : (v : ℕ) (q r : ℤ) → 0 < v → wiener v q r ≡ away (pos v *ℤ q) (power v q r)

@@ -1,12 +1,8 @@
 -- Where the recipe's numbers are 0: sums and roundings of 0, and the corrections at no noise or of no difference.
-use Rattle.algebra.specs.Prelude.{_≡_, refl, ap, ap₂, _∙_, ℕ, zero, suc, _+_, _*_, _<_, arith}
+use Rattle.spectrum.specs.Prelude.{_≡_, refl, ap, ap₂, _∙_, ℕ, zero, suc, _+_, _*_, _<_, arith, sumZ, away, Side, cosAt, sinAt, power, wiener, rowRe, rowIm, binRe, binIm, quantized, filtered, twiddleRe, twiddleIm, inverseRe, inverseAt, correctionAt}
 use native.Mathlib.Nat.{div-eq-of-lt}
 use lib.IntN.{ℤ, pos, negℤ, _+ℤ_, _-ℤ_, _*ℤ_, *ℤ-zero, zero-*ℤ}
-use Rattle.algebra.specs.Sums.{sumZ}
 use Rattle.algebra.specs.SumLaws.{sumZ-cong, sumZ-0}
-use Rattle.algebra.specs.Nearest.{away}
-use Rattle.recipe.specs.Side.{Side, cosAt, sinAt}
-use Rattle.recipe.specs.Correction.{power, wiener, rowRe, rowIm, binRe, binIm, quantized, filtered, twiddleRe, twiddleIm, inverseRe, inverseAt, correctionAt}
 
 pub sumZ-zero : (n : ℕ) (f : ℕ → ℤ) → ((i : ℕ) → i < n → f i ≡ pos 0) → sumZ n f ≡ pos 0
 sumZ-zero n f h = sumZ-cong n f (λ i. pos 0) h ∙ sumZ-0 n

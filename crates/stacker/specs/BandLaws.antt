@@ -1,12 +1,9 @@
 -- Bands of a frame: their words, and that bands which cover the frame are the frame.
-use Rattle.algebra.specs.Prelude.{_≡_, sym, ap, _∙_, List, [], _∷_, _++_, ℕ, _+_, _*_, _/_, _%_, _≤_, _<_, arith, length, getD, take, drop}
+use Rattle.stacker.specs.Prelude.{_≡_, sym, ap, _∙_, List, [], _∷_, _++_, ℕ, _+_, _*_, _/_, _%_, _≤_, _<_, arith, length, getD, take, drop, tab, Scene, wordAt, merged}
 use native.Mathlib.Nat.{zero-mul, add-mul, mul-comm, mul-le-mul-right, mul-add-div-right, mul-add-mod-self-right}
 use lib.ListN.{length-take, length-drop}
 use lib.Seq.{ext-getD, getD-take, getD-drop, take-all, take-add, drop-drop}
-use Rattle.sequences.specs.Tab.{tab}
 use Rattle.sequences.specs.TabLaws.{length-tab, getD-tab}
-use Rattle.recipe.specs.Scene.{Scene}
-use Rattle.recipe.specs.Merged.{wordAt, merged}
 use Rattle.stacker.specs.Bands.{band}
 use Rattle.stacker.specs.BandsJoined.{bandsFrom, rowsTogether}
 

@@ -1,8 +1,6 @@
 -- Inside this crate: what is known of a band that its tests have let through.
-use Rattle.algebra.specs.Prelude.{_≡_, List, ℕ, ℤ}
-use Rattle.limits.specs.Bands.{bandLength, bandWorkLength}
+use Rattle.stacker.specs.Prelude.{_≡_, List, ℕ, ℤ, bandLength, bandWorkLength, Merge}
 use Rattle.limits.specs.BandLaws.{BandIn}
-use Rattle.recipe.specs.declared.Merge.{Merge}
 use Rattle.tiles.specs.Accepted.{Accepted}
 
 pub record BandLent (m : Merge) (top rows : ℕ) (samples : List ℕ) (vectors : List ℤ) (output work : ℕ) : Type 0 where

@@ -1,11 +1,5 @@
 -- A band in rows of tiles, a side of the frame's rows each: what merging asks for, and what it gives.
-use Rattle.algebra.specs.Prelude.{_≡_, sym, ap, ap₂, _∙_, List, ℕ, _+_, _-_, _*_, _/_, _%_, _≤_, arith, ℤ}
-use Rattle.geometry.specs.Fits.{TileSide}
-use Rattle.limits.specs.Bands.{bandLength, bandWorkLength}
-use Rattle.sequences.specs.Tab.{tab}
-use Rattle.recipe.specs.declared.Merge.{Merge}
-use Rattle.recipe.specs.Scene.{Scene, sceneAt, sceneOf}
-use Rattle.recipe.specs.Merged.{wordAt, merged}
+use Rattle.stacker.specs.Prelude.{_≡_, sym, ap, ap₂, _∙_, List, ℕ, _+_, _-_, _*_, _/_, _%_, _≤_, arith, ℤ, TileSide, bandLength, bandWorkLength, tab, Merge, Scene, sceneAt, sceneOf, wordAt, merged}
 use Rattle.tiles.specs.Places.{by-side}
 use Rattle.tiles.specs.Rows.{rowWords}
 use Rattle.merging.specs.Progress.{mergedRows}

@@ -1,23 +1,12 @@
 -- What the call for a band owes where its tests refuse, and where they pass and its rows are merged by the levels that they found.
-use Rattle.algebra.specs.Prelude.{_≡_, refl, sym, ap, ap₂, subst, _∙_, List, ℕ, length, ℤ}
-use Rattle.sequences.specs.Clear.{zeros}
+use Rattle.stacker.specs.Prelude.{_≡_, refl, sym, ap, ap₂, subst, _∙_, List, ℕ, length, ℤ, zeros, Shape, bandShapeTests, Noise, noiseTests, Tuning, sceneOf, merged, Tested, contentTests, valueTests, mergeOf, BandTested}
 use Rattle.refusals.specs.TestLaws.{among, passed, both-passed}
 use Rattle.refusals.specs.AfterLaws.{kept, made}
-use Rattle.geometry.specs.declared.Shape.{Shape}
-use Rattle.limits.specs.Bands.{bandShapeTests}
 use Rattle.limits.specs.BandLaws.{band-fits}
 use Rattle.values.specs.BoundLaws.{samples-fit, vectors-fit}
-use Rattle.noise.specs.declared.Noise.{Noise}
-use Rattle.noise.specs.Levels.{noiseTests}
 use Rattle.noise.specs.LevelLaws.{shot-level-bound, read-level-bound, strength-most, spatial-most}
-use Rattle.recipe.specs.declared.Tuning.{Tuning}
-use Rattle.recipe.specs.Scene.{sceneOf}
-use Rattle.recipe.specs.Merged.{merged}
-use Rattle.admission.specs.declared.Tested.{Tested}
 use Rattle.admission.specs.FilterLaws.{unfiltered}
-use Rattle.admission.specs.Refusals.{contentTests, valueTests, mergeOf}
 use Rattle.admission.specs.Bands.{bandRefusal}
-use Rattle.admission.specs.Admission.{BandTested}
 use Rattle.admission.specs.AdmissionLaws.{tested-number, tested-levels}
 use Rattle.stacker.specs.Bands.{band, Banded}
 use Rattle.stacker.specs.BandReady.{BandLent}

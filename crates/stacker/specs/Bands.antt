@@ -1,13 +1,5 @@
 -- A band of the merged frame: what the call for it answers, and what it leaves in every lent buffer. Samples and vectors are only read.
-use Rattle.algebra.specs.Prelude.{_≡_, List, ℕ, _*_, take, drop, ℤ}
-use Rattle.sequences.specs.Clear.{zeros}
-use Rattle.geometry.specs.declared.Shape.{Shape}
-use Rattle.refusals.specs.After.{after}
-use Rattle.noise.specs.declared.Noise.{Noise}
-use Rattle.recipe.specs.declared.Tuning.{Tuning}
-use Rattle.recipe.specs.Scene.{sceneOf}
-use Rattle.recipe.specs.Merged.{merged}
-use Rattle.admission.specs.Refusals.{mergeOf}
+use Rattle.stacker.specs.Prelude.{_≡_, List, ℕ, _*_, take, drop, ℤ, zeros, Shape, after, Noise, Tuning, sceneOf, merged, mergeOf}
 use Rattle.admission.specs.Bands.{bandRefusal}
 use Rattle.stacker.specs.Calls.{Close, Capped}
 

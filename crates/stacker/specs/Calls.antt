@@ -1,19 +1,9 @@
 -- What each call answers, and what it leaves in every lent buffer. Samples, and merge's vectors, are only read.
-use Rattle.algebra.specs.Prelude.{_≡_, List, [], _∷_, ℕ, _+_, _*_, _/_, _%_, _<_, getD, ℤ, pos}
+use Rattle.stacker.specs.Prelude.{_≡_, List, [], _∷_, ℕ, _+_, _*_, _/_, _%_, _<_, getD, ℤ, pos, zeros, Shape, after, Noise, alignedVectors, residualSums, rowsSummed, Scene, sceneOf, merged, Tuning, alignRefusal, runRefusal, mergeRefusal, mergeOf}
 use Rattle.algebra.specs.Fraction.{whole, Within}
-use Rattle.sequences.specs.Clear.{zeros}
-use Rattle.geometry.specs.declared.Shape.{Shape}
-use Rattle.refusals.specs.After.{after}
-use Rattle.noise.specs.declared.Noise.{Noise}
-use Rattle.alignment.specs.Aligned.{alignedVectors, residualSums}
-use Rattle.alignment.specs.Rows.{rowsSummed}
-use Rattle.recipe.specs.Scene.{Scene, sceneOf}
-use Rattle.recipe.specs.Merged.{merged}
 use Rattle.recipe.specs.ExactMerge.{exactAt, exactFilteredAt}
 use Rattle.ceiling.specs.Leak.{largestOver, leak, UnderCeiling}
 use Rattle.stacker.specs.declared.Alignment.{Alignment}
-use Rattle.recipe.specs.declared.Tuning.{Tuning}
-use Rattle.admission.specs.Refusals.{alignRefusal, runRefusal, mergeRefusal, mergeOf}
 
 -- "beside a refusal every other returned field is 0": the seven residual sums
 abbrev pub noSums : List ℕ

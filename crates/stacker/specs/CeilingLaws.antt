@@ -1,10 +1,6 @@
 -- Request L11 at the calls: an output that is the merge keeps under the ceiling where s is 0, whatever the vectors are.
-use Rattle.algebra.specs.Prelude.{_≡_, sym, ap, subst, _∙_, List, ℕ, _+_, _≤_, arith, ℤ, pos}
-use Rattle.geometry.specs.Fits.{BurstFits, SamplesFit}
-use Rattle.recipe.specs.declared.Merge.{Merge}
-use Rattle.recipe.specs.Scene.{sceneAt, sceneOf}
+use Rattle.stacker.specs.Prelude.{_≡_, sym, ap, subst, _∙_, List, ℕ, _+_, _≤_, arith, ℤ, pos, BurstFits, SamplesFit, Merge, sceneAt, sceneOf, merged}
 use Rattle.recipe.specs.SideLaws.{by-table}
-use Rattle.recipe.specs.Merged.{merged}
 use Rattle.closeness.specs.Closeness.{Fitting}
 use Rattle.closeness.specs.Side16.{fitting16}
 use Rattle.closeness.specs.Side32.{fitting32}

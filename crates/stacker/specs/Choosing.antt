@@ -1,16 +1,7 @@
 -- The run that chooses its reference: request L1.
-use Rattle.algebra.specs.Prelude.{_≡_, List, _∷_, _++_, ℕ, length, ℤ}
-use Rattle.refusals.specs.Tests.{first}
-use Rattle.refusals.specs.After.{after}
-use Rattle.geometry.specs.declared.Shape.{Shape}
-use Rattle.geometry.specs.Shape.{sideRefusal, rowRefusal}
-use Rattle.limits.specs.Order.{shapeTests, mergeLengths}
-use Rattle.noise.specs.declared.Noise.{Noise}
-use Rattle.noise.specs.Levels.{noiseTests}
-use Rattle.recipe.specs.declared.Tuning.{Tuning}
+use Rattle.stacker.specs.Prelude.{_≡_, List, _∷_, _++_, ℕ, length, ℤ, first, after, Shape, sideRefusal, rowRefusal, shapeTests, mergeLengths, Noise, noiseTests, Tuning, contentTests}
 use Rattle.sharpness.specs.Sharpness.{sharpest}
 use Rattle.stacker.specs.declared.Choice.{Choice}
-use Rattle.admission.specs.Refusals.{contentTests}
 use Rattle.stacker.specs.Calls.{Ran}
 
 -- "Refusal 3 has no place in this call": the others of run, in its order, with 22 "where 3 would stand" (request L8)

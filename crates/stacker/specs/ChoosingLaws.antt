@@ -1,22 +1,11 @@
 -- The run that chooses its reference, beside run.
-use Rattle.algebra.specs.Prelude.{_≡_, refl, sym, ap, _∙_, List, ℕ, zero, suc, _≤_, _<_, arith, ℤ}
+use Rattle.stacker.specs.Prelude.{_≡_, refl, sym, ap, _∙_, List, ℕ, zero, suc, _≤_, _<_, arith, ℤ, first, after, Shape, countAllowed, countRefusal, referenceRefusal, shapeTests, burstTests, mergeShapeTests, Noise, levelsOf, Tuning, Tested, testedAs, RunTested, runTests, runRefusal}
 use native.Mathlib.Decide.{decLt}
 use borrow.Author.Tests.{lt-leb}
 use Rattle.refusals.specs.Numbers as no
-use Rattle.refusals.specs.Tests.{first}
-use Rattle.refusals.specs.After.{after}
-use Rattle.geometry.specs.declared.Shape.{Shape}
-use Rattle.geometry.specs.Shape.{countAllowed, countRefusal, referenceRefusal}
-use Rattle.limits.specs.Order.{shapeTests, burstTests, mergeShapeTests}
-use Rattle.noise.specs.declared.Noise.{Noise}
-use Rattle.noise.specs.Levels.{levelsOf}
-use Rattle.recipe.specs.declared.Tuning.{Tuning}
 use Rattle.sharpness.specs.SharpnessLaws.{lone-first}
 use Rattle.stacker.specs.declared.Alignment.{Alignment}
 use Rattle.stacker.specs.declared.Choice.{Choice}
-use Rattle.admission.specs.declared.Tested.{Tested}
-use Rattle.admission.specs.Admission.{testedAs, RunTested}
-use Rattle.admission.specs.Refusals.{runTests, runRefusal}
 use Rattle.stacker.specs.Calls.{Ran}
 use Rattle.stacker.specs.Choosing.{choosingTests, choosingRefusal, Chosen}
 

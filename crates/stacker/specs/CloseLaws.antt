@@ -1,14 +1,10 @@
 -- Demand 3 at the calls: an output that is the merge is close to the exact merge.
-use Rattle.algebra.specs.Prelude.{_≡_, refl, sym, ap, subst, _∙_, List, ℕ, _+_, _≤_, _<_, arith, ℤ, pos}
+use Rattle.stacker.specs.Prelude.{_≡_, refl, sym, ap, subst, _∙_, List, ℕ, _+_, _≤_, _<_, arith, ℤ, pos, Allowed, TileSide, Merge, merged, sceneAt, sceneOf}
 use Rattle.algebra.specs.Fraction.{whole, Within}
-use Rattle.geometry.specs.Fits.{Allowed, TileSide}
-use Rattle.recipe.specs.declared.Merge.{Merge}
 use Rattle.recipe.specs.Tables.{side16}
 use Rattle.recipe.specs.Tables32.{side32}
 use Rattle.recipe.specs.Sides.{sideOf}
-use Rattle.recipe.specs.Merged.{merged}
 use Rattle.recipe.specs.ExactMerge.{exactAt, exactFilteredAt}
-use Rattle.recipe.specs.Scene.{sceneAt, sceneOf}
 use Rattle.recipe.specs.SideLaws.{by-table}
 use Rattle.spatial.specs.MergedClose.{merged-close, merged-close-32, merged-two-steps}
 use Rattle.stacker.specs.Calls.{Close}

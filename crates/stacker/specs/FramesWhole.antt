@@ -1,27 +1,18 @@
 -- The frames aligned one by one, in whatever order, are the burst aligned.
-use Rattle.algebra.specs.Prelude.{_≡_, refl, sym, ap, ap₂, _∙_, List, _++_, ℕ, zero, suc, _-_, _*_, _<_, arith, length, take, drop, ℤ}
+use Rattle.stacker.specs.Prelude.{_≡_, refl, sym, ap, ap₂, _∙_, List, _++_, ℕ, zero, suc, _-_, _*_, _<_, arith, length, take, drop, ℤ, tab, first, Shape, vectorLength, workLength, lengthRefusal, shapeTests, burstTests, alignLengths, alignShapeTests, fieldOf, sumOf, alignedVectors, residualSums, countOf, rowsSummed, alignRefusal, alignFrameRefusal}
 use native.Mathlib.Nat.{zero-mul, suc-mul}
 use borrow.Author.Tests.{lt-leb, eq-eqb}
 use lib.ListN.{replicate}
 use lib.Seq.{take-add, take-length}
 use Rattle.algebra.specs.Sums.{sumN}
 use Rattle.algebra.specs.SumLaws.{sumN-cong}
-use Rattle.sequences.specs.Tab.{tab}
 use Rattle.sequences.specs.TabLaws.{length-tab}
 use Rattle.sequences.specs.Grid.{tab-ext}
 use Rattle.refusals.specs.Numbers as no
-use Rattle.refusals.specs.Tests.{first}
 use Rattle.refusals.specs.AfterLaws.{result-made}
-use Rattle.geometry.specs.declared.Shape.{Shape}
-use Rattle.geometry.specs.Shape.{vectorLength, workLength, lengthRefusal}
 use Rattle.geometry.specs.Tiles.{frameParts}
 use Rattle.geometry.specs.Vectors.{wordOf, vectorList, partsOf}
-use Rattle.limits.specs.Order.{shapeTests, burstTests, alignLengths, alignShapeTests}
 use Rattle.limits.specs.OneFrame.{otherRefusal, frameWorkLength, alignFrameLengths, alignFrameShapeTests}
-use Rattle.alignment.specs.Aligned.{fieldOf, sumOf, alignedVectors, residualSums}
-use Rattle.alignment.specs.Rows.{countOf, rowsSummed}
-use Rattle.admission.specs.Refusals.{alignRefusal}
-use Rattle.admission.specs.OneFrame.{alignFrameRefusal}
 use Rattle.stacker.specs.declared.Alignment.{Alignment}
 use Rattle.stacker.specs.declared.one_frame.FrameAlignment.{FrameAlignment}
 use Rattle.stacker.specs.Calls.{answered, Aligned}

@@ -1,13 +1,7 @@
 -- What the call that aligns one other frame answers, and what it leaves in every lent buffer. Samples are only read.
-use Rattle.algebra.specs.Prelude.{_≡_, List, ℕ, ℤ}
-use Rattle.sequences.specs.Clear.{zeros}
-use Rattle.geometry.specs.declared.Shape.{Shape}
+use Rattle.stacker.specs.Prelude.{_≡_, List, ℕ, ℤ, zeros, Shape, after, sumOf, alignedVectors, countOf, alignFrameRefusal}
 use Rattle.geometry.specs.Tiles.{frameParts}
 use Rattle.geometry.specs.Vectors.{partsOf}
-use Rattle.refusals.specs.After.{after}
-use Rattle.alignment.specs.Aligned.{sumOf, alignedVectors}
-use Rattle.alignment.specs.Rows.{countOf}
-use Rattle.admission.specs.OneFrame.{alignFrameRefusal}
 use Rattle.stacker.specs.declared.one_frame.FrameAlignment.{FrameAlignment}
 
 -- "beside a refusal every other returned field is 0": the answer beside a number

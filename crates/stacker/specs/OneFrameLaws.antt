@@ -1,13 +1,11 @@
 -- What that call's tests let through, and its answer beside a refusal with the number k and beside acceptance.
-use Rattle.algebra.specs.Prelude.{_≡_, sym, _∙_, List, ℕ, arith, length, ℤ}
+use Rattle.stacker.specs.Prelude.{_≡_, sym, _∙_, List, ℕ, arith, length, ℤ, Shape, alignFrameRefusal}
 use Rattle.refusals.specs.TestLaws.{among, passed, both-passed}
 use Rattle.refusals.specs.AfterLaws.{kept, made}
-use Rattle.geometry.specs.declared.Shape.{Shape}
 use Rattle.limits.specs.OneFrame.{frameWorkLength, alignFrameShapeTests}
 use Rattle.limits.specs.OneFrameLaws.{align-frame-fits, other-in, frame-vectors-long, frame-work-long}
 use Rattle.values.specs.BoundLaws.{samples-fit}
 use Rattle.alignment.specs.Burst.{ReadyFrame}
-use Rattle.admission.specs.OneFrame.{alignFrameRefusal}
 use Rattle.stacker.specs.declared.one_frame.FrameAlignment.{FrameAlignment}
 use Rattle.stacker.specs.OneFrame.{frameAnswered}
 

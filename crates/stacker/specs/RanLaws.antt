@@ -1,24 +1,13 @@
 -- What run owes where its tests refuse, and where they pass and the core has run on the levels that they found.
-use Rattle.algebra.specs.Prelude.{_≡_, sym, ap₂, subst, _∙_, List, ℕ, _≤_, ℤ}
+use Rattle.stacker.specs.Prelude.{_≡_, sym, ap₂, subst, _∙_, List, ℕ, _≤_, ℤ, Shape, Noise, levelsOf, shotLevel, readLevel, alignedVectors, Merge, Tuning, sceneOf, merged, Tested, RunTested, runRefusal}
 use Rattle.refusals.specs.AfterLaws.{kept, made}
-use Rattle.geometry.specs.declared.Shape.{Shape}
-use Rattle.noise.specs.declared.Noise.{Noise}
-use Rattle.noise.specs.Levels.{levelsOf, shotLevel, readLevel}
 use Rattle.alignment.specs.declared.burst.Totals.{Totals}
-use Rattle.alignment.specs.Aligned.{alignedVectors}
-use Rattle.recipe.specs.declared.Merge.{Merge}
-use Rattle.recipe.specs.declared.Tuning.{Tuning}
-use Rattle.recipe.specs.Scene.{sceneOf}
-use Rattle.recipe.specs.Merged.{merged}
 use Rattle.pipeline.specs.Levels.{Runnable, RanLevels}
-use Rattle.admission.specs.declared.Tested.{Tested}
-use Rattle.admission.specs.Admission.{RunTested}
 use Rattle.admission.specs.AdmissionLaws.{tested-number, tested-levels}
 use Rattle.stacker.specs.AdmissionLaws.{run-passed}
 use Rattle.stacker.specs.CallLaws.{answer-refused, answer-accepted}
 use Rattle.stacker.specs.CloseLaws.{found-close}
 use Rattle.stacker.specs.CeilingLaws.{found-capped}
-use Rattle.admission.specs.Refusals.{runRefusal}
 use Rattle.stacker.specs.Calls.{noSums, Ran}
 
 -- a merge with the levels that the tests found

@@ -1,18 +1,10 @@
 -- What the call of request L14 answers, and what it leaves in every lent buffer. Samples and vectors are only read.
-use Rattle.algebra.specs.Prelude.{_≡_, List, ℕ, _*_, _≤_, _<_, getD, ℤ}
-use Rattle.sequences.specs.Clear.{zeros}
-use Rattle.geometry.specs.declared.Shape.{Shape}
-use Rattle.refusals.specs.After.{after}
+use Rattle.stacker.specs.Prelude.{_≡_, List, ℕ, _*_, _≤_, _<_, getD, ℤ, zeros, Shape, after, Noise, Tuning, sceneOf, merged, mergeOf}
 use Rattle.noise.specs.declared.Curve.{Curve}
-use Rattle.noise.specs.declared.Noise.{Noise}
 use Rattle.noise.specs.declared.Noise.the-variants.{Measured}
 use Rattle.noise.specs.Curve.{curveOf}
-use Rattle.recipe.specs.declared.Tuning.{Tuning}
-use Rattle.recipe.specs.Scene.{sceneOf}
-use Rattle.recipe.specs.Merged.{merged}
 use Rattle.range.specs.Crossed.{NoneAbove}
 use Rattle.range.specs.Frames.{lowFrame, highFrame}
-use Rattle.admission.specs.Refusals.{mergeOf}
 use Rattle.range_admission.specs.Refusals.{rangeRefusal}
 
 pub record Ranged (s : Shape) (reference : ℕ) (lower upper : Noise) (tuning : Tuning) (samples : List ℕ) (vectors : List ℤ) (low low′ high high′ : List ℕ) (work work′ : List ℤ) (number : ℕ) : Type 0 where

@@ -1,29 +1,17 @@
 -- What the tests of request L14's call let through, and what it owes where it has refused and where it has accepted.
-use Rattle.algebra.specs.Prelude.{_≡_, refl, sym, ap, ap₂, subst, _∙_, List, [], _∷_, _++_, ℕ, _*_, _≤_, arith, length, getD, ℤ}
+use Rattle.stacker.specs.Prelude.{_≡_, refl, sym, ap, ap₂, subst, _∙_, List, [], _∷_, _++_, ℕ, _*_, _≤_, arith, length, getD, ℤ, zeros, first, Shape, workLength, Allowed, MergeFits, Noise, levelsOf, shotLevel, readLevel, Merge, Tuning, Scene, sceneAt, sceneOf, merged, mergeOf}
 use native.Mathlib.Nat.{mul-le-mul-left}
-use Rattle.sequences.specs.Clear.{zeros}
-use Rattle.refusals.specs.Tests.{first}
 use Rattle.refusals.specs.TestLaws.{among, passed, both-passed}
 use Rattle.refusals.specs.AfterLaws.{kept, made}
-use Rattle.geometry.specs.declared.Shape.{Shape}
-use Rattle.geometry.specs.Shape.{workLength}
-use Rattle.geometry.specs.Fits.{Allowed, MergeFits}
 use Rattle.values.specs.Bounds.{vectorRefusal}
 use Rattle.values.specs.BoundLaws.{samples-fit, vectors-fit}
-use Rattle.noise.specs.declared.Noise.{Noise}
 use Rattle.noise.specs.declared.Noise.the-variants.{Measured}
 use Rattle.noise.specs.Curve.{curveOf}
-use Rattle.noise.specs.Levels.{levelsOf, shotLevel, readLevel}
 use Rattle.noise.specs.LevelLaws.{shot-level-bound, read-level-bound, strength-most}
-use Rattle.recipe.specs.declared.Merge.{Merge}
-use Rattle.recipe.specs.declared.Tuning.{Tuning}
-use Rattle.recipe.specs.Scene.{Scene, sceneAt, sceneOf}
-use Rattle.recipe.specs.Merged.{merged}
 use Rattle.range.specs.Crossed.{NoneAbove, rangeNoiseTests}
 use Rattle.range.specs.Frames.{lowFrame, highFrame}
 use Rattle.range.specs.FrameLaws.{low-frame-same, high-frame-same}
 use Rattle.range.specs.CurveLaws.{range-passed, levels-rise, curve-inside}
-use Rattle.admission.specs.Refusals.{mergeOf}
 use Rattle.range_admission.specs.Refusals.{rangeShapeTests, rangeContentTests, rangeRefusal}
 use Rattle.range_admission.specs.RefusalLaws.{range-fits, range-side, high-long, unfiltered}
 use Rattle.tiles.specs.Rows.{rowWords}

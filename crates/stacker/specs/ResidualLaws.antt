@@ -1,7 +1,6 @@
 -- What that call's tests let through.
-use Rattle.algebra.specs.Prelude.{_≡_, List, ℕ, length, ℤ}
+use Rattle.stacker.specs.Prelude.{_≡_, List, ℕ, length, ℤ, Shape}
 use Rattle.refusals.specs.TestLaws.{among, passed, both-passed}
-use Rattle.geometry.specs.declared.Shape.{Shape}
 use Rattle.limits.specs.Residuals.{residualShapeTests}
 use Rattle.limits.specs.ResidualLaws.{residual-fits, residuals-long}
 use Rattle.values.specs.BoundLaws.{samples-fit, vectors-fit}

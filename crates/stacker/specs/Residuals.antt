@@ -1,8 +1,5 @@
 -- What the call that answers each tile's residual leaves in every lent buffer. Samples and vectors are only read.
-use Rattle.algebra.specs.Prelude.{_≡_, List, ℕ, ℤ}
-use Rattle.sequences.specs.Clear.{zeros}
-use Rattle.geometry.specs.declared.Shape.{Shape}
-use Rattle.refusals.specs.After.{after}
+use Rattle.stacker.specs.Prelude.{_≡_, List, ℕ, ℤ, zeros, Shape, after}
 use Rattle.admission.specs.Residuals.{residualRefusal}
 use Rattle.tile_residuals.specs.Residuals.{tileResiduals}
 

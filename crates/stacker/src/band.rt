@@ -1,8 +1,5 @@
 // A band of the merged frame: a burst and lent vectors to the output's rows between two rows of tiles.
-ghost use mathlib.Core.Path.{_≡_};
-ghost use lib.ListN.{length};
-ghost use Rattle.recipe.specs.Scene.{sceneOf};
-ghost use Rattle.recipe.specs.Merged.{merged};
+ghost use Rattle.stacker.specs.Prelude.{_≡_, length, sceneOf, merged};
 ghost use Rattle.stacker.specs.Bands.{band, Banded};
 ghost use Rattle.stacker.specs.BandReady.{BandLent};
 use admission::band_refusal;

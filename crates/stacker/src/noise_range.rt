@@ -1,8 +1,5 @@
 // Range: a burst, lent vectors and a noise that is known only between two curves to a low and a high frame.
-ghost use mathlib.Core.Path.{_≡_};
-ghost use mathlib.Core.Bool.{true};
-ghost use lib.ListN.{length};
-ghost use Rattle.admission.specs.Refusals.{mergeOf};
+ghost use Rattle.stacker.specs.Prelude.{_≡_, true, length, mergeOf};
 ghost use Rattle.range_frame.specs.Ready.{FramesRanged};
 ghost use Rattle.stacker.specs.Ranged.{Ranged};
 ghost use Rattle.stacker.specs.RangedLaws.{FramesLent};

@@ -1,8 +1,6 @@
 // What `motion` counts on the vectors of one frame.
-ghost use mathlib.Core.Path.{_≡_};
+ghost use Rattle.algebra.specs.Prelude.{_≡_, natAbs, length};
 ghost use Prim.Native.Nat.{_+_, _*_, _<_, _≤_, max};
-ghost use lib.IntN.{natAbs};
-ghost use lib.ListN.{length};
 ghost use Rattle.tallies.specs.Tallies.{reach, stillTile, stillTiles, farthest};
 
 // |part|

@@ -1,7 +1,5 @@
 // Numbers in the bytes of a file.
-ghost use mathlib.Core.Path.{_≡_};
-ghost use Prim.Native.Nat.{_<_};
-ghost use lib.ListN.{getD};
+ghost use Rattle.algebra.specs.Prelude.{_≡_, _<_, getD};
 ghost use Rattle.tiff.specs.Bytes.{short, long, eight, number};
 
 // A byte; 0 past the end.

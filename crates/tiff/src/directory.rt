@@ -1,7 +1,5 @@
 // The header and the first directory.
-ghost use mathlib.Core.Path.{_≡_};
-ghost use mathlib.Core.Bool.{cond};
-ghost use Prim.Native.Nat.{_<_, _≤_};
+ghost use Rattle.algebra.specs.Prelude.{_≡_, cond, _<_, _≤_};
 ghost use Rattle.tiff.specs.Directory.{headerWrong, directoryStart, entryCount, directoryOutside, timesOf, entries};
 ghost use Rattle.tiff.specs.Fits.{EntryRead};
 use crate::Entry;

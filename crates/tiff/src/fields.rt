@@ -1,6 +1,5 @@
 // The first entry of right type and count, and its values.
-ghost use mathlib.Core.Path.{_≡_};
-ghost use Prim.Native.Nat.{_<_, _≤_};
+ghost use Rattle.algebra.specs.Prelude.{_≡_, _<_, _≤_};
 ghost use Rattle.tiff.specs.Fields.{right, sizeOf, fieldAt, firstField, fieldOutside, valueAt};
 ghost use Rattle.tiff.specs.Directory.{entries};
 ghost use Rattle.tiff.specs.Fits.{EntryFits, FieldRead};

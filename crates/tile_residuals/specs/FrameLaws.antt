@@ -1,21 +1,11 @@
 -- One frame at a time: its residuals are those of the definition, and they stand where it says.
-use Rattle.algebra.specs.Prelude.{_≡_, sym, ap, ap₂, subst, _∙_, List, ℕ, _+_, _-_, _*_, _/_, _%_, _≤_, _<_, arith, length, ℤ}
+use Rattle.tile_residuals.specs.Prelude.{_≡_, sym, ap, ap₂, subst, _∙_, List, ℕ, _+_, _-_, _*_, _/_, _%_, _≤_, _<_, arith, length, ℤ, Shape, Allowed, Image, sampleAt, finestLevel, tileColumns, otherFrame, vectorPlace, downAt, rightAt, frameTiles, residualLength, pyramidLength, Levels, Built, residual, levelTile, pairs}
 use mathlib.Core.Path.{refl, subst₂}
 use native.Mathlib.Nat.{zero-add, zero-mul, suc-mul, div-add-mod'}
 use Rattle.sequences.specs.Place.{row-room, place-row, place-column}
 use Rattle.sequences.specs.Write.{written, Writing, write-start, write-part, write-done, written-all}
-use Rattle.geometry.specs.declared.Shape.{Shape}
 use Rattle.geometry.specs.Shape.{vectorLength}
-use Rattle.geometry.specs.Fits.{Allowed}
-use Rattle.geometry.specs.Read.{Image, sampleAt}
-use Rattle.geometry.specs.Tiles.{finestLevel, tileColumns}
-use Rattle.geometry.specs.Vectors.{otherFrame, vectorPlace, downAt, rightAt}
-use Rattle.limits.specs.Residuals.{frameTiles, residualLength}
-use Rattle.pyramid.specs.Layout.{pyramidLength, Levels, Built}
 use Rattle.pyramid.specs.LayoutLaws.{levels-kept}
-use Rattle.residuals.specs.Residual.{residual}
-use Rattle.levels.specs.Fields.{levelTile}
-use Rattle.alignment.specs.Frames.{pairs}
 use Rattle.alignment.specs.FrameLaws.{frame-pairs}
 use Rattle.alignment.specs.Sites.{pairsIn}
 use Rattle.alignment.specs.BurstLaws.{place-room}

@@ -1,16 +1,6 @@
 -- Inner vocabulary: the residuals of a frame, where their vectors stand, and what the loop over the frames asks and leaves.
-use Rattle.algebra.specs.Prelude.{_≡_, false, List, ℕ, _+_, _*_, _/_, _%_, _≤_, length, getD, ℤ, pos}
-use Rattle.sequences.specs.Write.{written}
-use Rattle.geometry.specs.declared.Shape.{Shape}
+use Rattle.tile_residuals.specs.Prelude.{_≡_, false, List, ℕ, _+_, _*_, _/_, _%_, _≤_, length, getD, ℤ, pos, written, Shape, Image, finestLevel, tileColumns, AlignFits, SamplesFit, VectorsFit, frameTiles, residualLength, Levels, Pair, residual, levelTile, pairs}
 use Rattle.geometry.specs.declared.vectors.Vector.{Vector}
-use Rattle.geometry.specs.Read.{Image}
-use Rattle.geometry.specs.Tiles.{finestLevel, tileColumns}
-use Rattle.geometry.specs.Fits.{AlignFits, SamplesFit, VectorsFit}
-use Rattle.limits.specs.Residuals.{frameTiles, residualLength}
-use Rattle.pyramid.specs.Layout.{Levels}
-use Rattle.residuals.specs.Residual.{Pair, residual}
-use Rattle.levels.specs.Fields.{levelTile}
-use Rattle.alignment.specs.Frames.{pairs}
 use Rattle.tile_residuals.specs.Residuals.{tileResiduals}
 
 -- the vector at a place of the list

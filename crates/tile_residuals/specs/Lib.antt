@@ -1,3 +1,4 @@
+pub mod Prelude
 pub mod Residuals
 pub mod Frames
 pub mod FrameLaws

@@ -1,14 +1,6 @@
 -- The finest residual of each tile of the other frames, at lent vectors.
-use Rattle.algebra.specs.Prelude.{List, ℕ, _/_, _%_, ℤ}
+use Rattle.tile_residuals.specs.Prelude.{List, ℕ, _/_, _%_, ℤ, Shape, sampleAt, finestLevel, tileColumns, otherFrame, downAt, rightAt, frameTiles, residualLength, residual, levelTile, pairs}
 use Rattle.sequences.specs.Tab.{tab}
-use Rattle.geometry.specs.declared.Shape.{Shape}
-use Rattle.geometry.specs.Read.{sampleAt}
-use Rattle.geometry.specs.Tiles.{finestLevel, tileColumns}
-use Rattle.geometry.specs.Vectors.{otherFrame, downAt, rightAt}
-use Rattle.limits.specs.Residuals.{frameTiles, residualLength}
-use Rattle.residuals.specs.Residual.{residual}
-use Rattle.levels.specs.Fields.{levelTile}
-use Rattle.alignment.specs.Frames.{pairs}
 
 module _ (s : Shape) (reference : ℕ) (samples : List ℕ) (vectors : List ℤ) where
   -- "absolute at level 0": the residual of the tile at a row and a column of tiles, at the vector lent for it, for the k-th other frame

@@ -1,24 +1,15 @@
 -- "the sum of finest residuals": where the vectors are those that align finds, the residuals of a frame's tiles add up to the sum that it answers.
-use Rattle.algebra.specs.Prelude.{_≡_, ap₂, _∙_, List, ℕ, _+_, _-_, _*_, _/_, _%_, _<_, getD}
+use Rattle.tile_residuals.specs.Prelude.{_≡_, ap₂, _∙_, List, ℕ, _+_, _-_, _*_, _/_, _%_, _<_, getD, Shape, Allowed, TileSide, sampleAt, finestLevel, tileRows, tileColumns, otherFrame, frameTiles, residualLength, residual, levelTile, pairs, vectorsOf, residualOf}
 use Rattle.algebra.specs.Sums.{sumN}
 use Rattle.algebra.specs.SumLaws.{sumN-cong}
 use Rattle.sequences.specs.Place.{row-below, column-below}
 use Rattle.sequences.specs.TabLaws.{getD-tab}
-use Rattle.geometry.specs.declared.Shape.{Shape}
-use Rattle.geometry.specs.Fits.{Allowed, TileSide}
-use Rattle.geometry.specs.Read.{sampleAt}
 use Rattle.geometry.specs.ReadLaws.{cell-below}
-use Rattle.geometry.specs.Tiles.{finestLevel, tileRows, tileColumns}
 use Rattle.geometry.specs.LevelTiles.{levelTiles}
 use Rattle.geometry.specs.TileLaws.{finest-tiles}
-use Rattle.geometry.specs.Vectors.{otherFrame}
 use Rattle.geometry.specs.VectorLaws.{list-down, list-right}
-use Rattle.limits.specs.Residuals.{frameTiles, residualLength}
-use Rattle.residuals.specs.Residual.{residual}
-use Rattle.levels.specs.Fields.{levelTile}
 use Rattle.fields.specs.LevelSums.{residuals}
 use Rattle.alignment.specs.Fields.{levelRows, levelColumns, residualSum}
-use Rattle.alignment.specs.Frames.{pairs, vectorsOf, residualOf}
 use Rattle.alignment.specs.Aligned.{fieldOf, sumOf, alignedVectors}
 use Rattle.tile_residuals.specs.Residuals.{tileResidual, residualWord, tileResiduals}
 use Rattle.tile_residuals.specs.FrameLaws.{word-tile}

@@ -1,16 +1,7 @@
 // The finest residual of each tile of a burst's other frames, at lent vectors.
-ghost use mathlib.Core.Path.{_≡_};
-ghost use mathlib.Core.Bool.{false};
-ghost use Prim.Native.Nat.{_+_, _*_, _<_};
-ghost use lib.ListN.{length};
-ghost use Rattle.sequences.specs.Write.{written};
-ghost use Rattle.geometry.specs.Fits.{TileSide, VectorsFit};
-ghost use Rattle.geometry.specs.Read.{sampleAt};
-ghost use Rattle.limits.specs.Residuals.{frameTiles};
+ghost use Rattle.tile_residuals.specs.Prelude.{_≡_, false, _+_, _*_, _<_, length, written, TileSide, VectorsFit, sampleAt, frameTiles, residual, pairIn, Stored, Placed};
 ghost use Rattle.patches.specs.Bounds.{Within};
-ghost use Rattle.residuals.specs.Residual.{residual};
 ghost use Rattle.matching.specs.Magnitudes.{guessMost};
-ghost use Rattle.matching.specs.Stored.{pairIn, Stored, Placed};
 ghost use Rattle.fields.specs.Loops.{Few};
 ghost use Rattle.alignment.specs.Burst.{BehindReference};
 ghost use Rattle.tile_residuals.specs.Frames.{vectorIn, residualIn, Lent, Measured, Ready, MeasuredBurst};

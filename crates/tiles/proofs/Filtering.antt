@@ -1,20 +1,10 @@
 -- What is taken from a pair of side 16 where s is not 0: its sums with N·P'.
-use Rattle.algebra.specs.Prelude.{_≡_, refl, sym, ap, ap₂, subst, _∙_, List, [], ℕ, suc, _+_, _*_, _/_, _%_, _≤_, _<_, arith, ℤ, pos, natAbs, _+ℤ_, _-ℤ_, _*ℤ_}
+use Rattle.tiles.specs.Prelude.{_≡_, refl, sym, ap, ap₂, subst, _∙_, List, [], ℕ, suc, _+_, _*_, _/_, _%_, _≤_, _<_, arith, ℤ, pos, natAbs, _+ℤ_, _-ℤ_, _*ℤ_, tab, side16, Merge, spatialNumber, mergedSum, copyAt, spatialAt, takenAt, Scene, referenceTile, referenceRoot, tileSpatial, tileHere, sceneAt, SpatialRange, smallMost, spatialCorrectionMost, planeIn, sideBySide, either, Paired, copyIn, stepAt, SumMost, SumRow, SumPair}
 use Rattle.algebra.specs.Order.{abs-add, abs-mul-le}
 use Rattle.algebra.specs.Nearest.{away}
-use Rattle.sequences.specs.Tab.{tab}
 use Rattle.sequences.specs.TabLaws.{tab-each}
 use Rattle.sequences.specs.Grid.{grid, cell, cell-grid, grid-ext, grid-of}
-use Rattle.recipe.specs.Tables.{side16}
-use Rattle.recipe.specs.declared.Merge.{Merge}
-use Rattle.recipe.specs.SpatialNoise.{spatialNumber}
-use Rattle.recipe.specs.Spatial.{mergedSum, copyAt, spatialAt, takenAt}
-use Rattle.recipe.specs.Scene.{Scene, referenceTile, referenceRoot, tileSpatial, tileHere, sceneAt}
-use Rattle.noise.specs.SpatialRange.{SpatialRange}
 use Rattle.noise.specs.SpatialLaws.{spatial-number-most}
-use Rattle.spectrum.specs.Magnitudes.{smallMost, spatialCorrectionMost}
-use Rattle.spectrum.specs.Pairs.{planeIn, sideBySide, either, Paired}
-use Rattle.grain.specs.Filtering.{copyIn, stepAt, SumMost, SumRow, SumPair}
 use Rattle.grain.specs.FilteringLaws.{step-cong, step-most}
 use Rattle.tiles.specs.declared.Site.{Site}
 use Rattle.tiles.specs.Sum.{summedAt, Summed, takenIn, takenMost, Taken}

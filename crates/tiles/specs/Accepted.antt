@@ -1,10 +1,5 @@
 -- Inside the crates of the merge: what is known of a merge with tiles of a side that its tests have let through, and of a pair of its tiles.
-use Rattle.algebra.specs.Prelude.{_≡_, List, ℕ, _/_, _≤_, _<_, length, ℤ}
-use Rattle.geometry.specs.declared.Shape.{Shape}
-use Rattle.geometry.specs.Fits.{BurstFits, SamplesFit, VectorsFit}
-use Rattle.recipe.specs.declared.Merge.{Merge}
-use Rattle.recipe.specs.Tables.{side16}
-use Rattle.recipe.specs.SpatialNoise.{spatialNumber}
+use Rattle.tiles.specs.Prelude.{_≡_, List, ℕ, _/_, _≤_, _<_, length, ℤ, Shape, BurstFits, SamplesFit, VectorsFit, Merge, side16, spatialNumber}
 use Rattle.tiles.specs.declared.Site.{Site}
 
 pub record Accepted (side : ℕ) (m : Merge) (samples : List ℕ) (vectors : List ℤ) : Type 0 where

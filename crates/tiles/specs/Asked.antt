@@ -1,12 +1,5 @@
 -- Inside the crates of the merge: what the steps of a pair of tiles of side n ask for.
-use Rattle.algebra.specs.Prelude.{_≡_, List, ℕ, _+_, _*_, _<_, length, ℤ, pos}
-use Rattle.algebra.specs.Bound.{AtMost}
-use Rattle.sequences.specs.Grid.{grid}
-use Rattle.geometry.specs.declared.Shape.{Shape}
-use Rattle.geometry.specs.Fits.{Sampled}
-use Rattle.recipe.specs.Side.{Side}
-use Rattle.recipe.specs.declared.Merge.{Merge}
-use Rattle.recipe.specs.Scene.{referenceTile, sceneAt}
+use Rattle.tiles.specs.Prelude.{_≡_, List, ℕ, _+_, _*_, _<_, length, ℤ, pos, AtMost, grid, Shape, Sampled, Side, Merge, referenceTile, sceneAt}
 use Rattle.tiles.specs.declared.Site.{Site}
 use Rattle.tiles.specs.Accepted.{Accepted, Sited}
 use Rattle.tiles.specs.Sum.{TileOf, pairAt}

@@ -1,24 +1,15 @@
 -- Inside the crates of the merge: pairs of tiles of an accepted burst: samples up to 4095, so differences up to 4095.
-use Rattle.algebra.specs.Prelude.{_≡_, ap, ap₂, _∙_, List, [], ℕ, _-_, _*_, _/_, _%_, _≤_, _<_, arith, length, ℤ, pos, natAbs, _-ℤ_}
+use Rattle.tiles.specs.Prelude.{_≡_, ap, ap₂, _∙_, List, [], ℕ, _-_, _*_, _/_, _%_, _≤_, _<_, arith, length, ℤ, pos, natAbs, _-ℤ_, tab, Shape, sampleAt, planeOf, read, Allowed, SamplesFit, ValuesFit, Side, Merge, Scene, tileAt, referenceTile, otherTile, tileDifference, sceneAt, LineMost, TileMost, sideBySide}
 use Rattle.algebra.specs.Order.{zarith, sub-pn, min-pn, abs-pn}
-use Rattle.sequences.specs.Tab.{tab}
 use Rattle.sequences.specs.TabLaws.{length-tab, tab-every}
 use Rattle.sequences.specs.Grid.{grid, cell, cell-grid, grid-ext}
-use Rattle.geometry.specs.declared.Shape.{Shape}
-use Rattle.geometry.specs.Read.{sampleAt, planeOf, read}
 use Rattle.geometry.specs.ReadLaws.{plane-inside}
-use Rattle.geometry.specs.Fits.{Allowed, SamplesFit, ValuesFit}
 use Rattle.geometry.specs.Vectors.{otherFrame}
 use Rattle.geometry.specs.VectorLaws.{other-below}
-use Rattle.recipe.specs.Side.{Side}
-use Rattle.recipe.specs.declared.Merge.{Merge}
-use Rattle.recipe.specs.Scene.{Scene, tileAt, referenceTile, otherTile, tileDifference, sceneAt}
 use Rattle.tiles.specs.declared.Site.{Site}
 use Rattle.tiles.specs.Accepted.{Accepted, Sited}
 use Rattle.tiles.specs.Sum.{TileFits}
-use Rattle.lines.specs.Lines.{LineMost, TileMost}
 use Rattle.lines.specs.Magnitudes.{differenceMost}
-use Rattle.spectrum.specs.Pairs.{sideBySide}
 
 -- the rows of a pair
 pub pair-rows : {A : Type 0} (n : ℕ) (f : ℕ → ℕ → A) {t : List (List A)} → t ≡ grid n (2 * n) f → length t ≡ n

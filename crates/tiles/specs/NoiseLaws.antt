@@ -1,7 +1,6 @@
 -- Inside the crates of the merge: the noise numbers of a pair of tiles, which may both be 0.
-use Rattle.algebra.specs.Prelude.{_≡_, sym, _∙_, List, ℕ, _+_, _<_, arith, lit<}
+use Rattle.tiles.specs.Prelude.{_≡_, sym, _∙_, List, ℕ, _+_, _<_, arith, lit<, Scene, tileNoise}
 use borrow.Author.Count.{below-none, below-more}
-use Rattle.recipe.specs.Scene.{Scene, tileNoise}
 use Rattle.tiles.specs.declared.Site.{Site}
 use Rattle.tiles.specs.Sum.{TileOf}
 

@@ -1,7 +1,6 @@
 -- Inside the crates of the merge: where the words of a half of a pair stand in a row of pairs, for either side. Word j of row i of half h is word n²·h + (n·i + j).
-use Rattle.algebra.specs.Prelude.{_≡_, sym, subst, ℕ, _+_, _*_, _/_, _%_, _≤_, _<_, arith}
+use Rattle.tiles.specs.Prelude.{_≡_, sym, subst, ℕ, _+_, _*_, _/_, _%_, _≤_, _<_, arith, TileSide}
 use mathlib.Core.Logic.{⊎-elim}
-use Rattle.geometry.specs.Fits.{TileSide}
 
 -- what holds of 16 and of 32
 pub by-side : {n : ℕ} → TileSide n → (P : ℕ → Type 0) → P 16 → P 32 → P n

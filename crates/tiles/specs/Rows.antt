@@ -1,7 +1,5 @@
 -- Inside this crate, gather and merging: rows of pairs of correction tiles in the work area, two of them, each by halves of its pairs.
-use Rattle.algebra.specs.Prelude.{_≡_, List, ℕ, _+_, _-_, _*_, _/_, _%_, _≤_, _<_, length, getD, ℤ, pos, natAbs}
-use Rattle.sequences.specs.Write.{written}
-use Rattle.recipe.specs.Scene.{Scene}
+use Rattle.tiles.specs.Prelude.{_≡_, List, ℕ, _+_, _-_, _*_, _/_, _%_, _≤_, _<_, length, getD, ℤ, pos, natAbs, written, Scene}
 use Rattle.tiles.specs.Sum.{takenIn, takenMost, Taking}
 use Rattle.tiles.specs.Toward.{Toward}
 

@@ -1,12 +1,9 @@
 -- Inside the crates of the merge: lines stored one after the other, and a row of pairs stored pair by pair: its record, and how it starts, goes on and ends.
-use Rattle.algebra.specs.Prelude.{_≡_, refl, sym, ap, subst, _∙_, Bool, true, false, List, ℕ, zero, suc, _+_, _-_, _*_, _/_, _%_, _≤_, _<_, arith, ltb, length, getD, ℤ, pos, natAbs}
+use Rattle.tiles.specs.Prelude.{_≡_, refl, sym, ap, subst, _∙_, Bool, true, false, List, ℕ, zero, suc, _+_, _-_, _*_, _/_, _%_, _≤_, _<_, arith, ltb, length, getD, ℤ, pos, natAbs, TileSide, Scene, sideBySide}
 use borrow.Author.Count.{below-none, below-more}
 use borrow.Author.Tests.{ltb-true, ltb-false}
 use Rattle.sequences.specs.Grid.{cell, cell-grid}
 use Rattle.sequences.specs.Write.{written, written-in, written-length}
-use Rattle.geometry.specs.Fits.{TileSide}
-use Rattle.recipe.specs.Scene.{Scene}
-use Rattle.spectrum.specs.Pairs.{sideBySide}
 use Rattle.tiles.specs.Sum.{takenIn, takenMost, Taking, PairTaken, Taken}
 use Rattle.tiles.specs.Toward.{Toward, toward-same, toward-on, written-right, written-toward, goal, toward-written}
 use Rattle.tiles.specs.Rows.{rowWords, slotOf, halfWord, rowWord, Stored, Fits, Spread}

@@ -1,13 +1,8 @@
 -- Inside this crate, gather and merging: the corrections of a pair of tiles, summed over the other frames and filtered, and the pair on the way there.
-use Rattle.algebra.specs.Prelude.{_≡_, List, [], ℕ, _*_, _^_, _≤_, _<_, getD, ℤ, natAbs}
+use Rattle.tiles.specs.Prelude.{_≡_, List, [], ℕ, _*_, _^_, _≤_, _<_, getD, ℤ, natAbs, grid, ValuesFit, sideBySide, either, takenAt, Scene, referenceTile, tileNoise, tileDifference, tileHere}
 use Rattle.algebra.specs.Sums.{sumZ}
-use Rattle.sequences.specs.Grid.{grid}
-use Rattle.geometry.specs.Fits.{ValuesFit}
-use Rattle.spectrum.specs.Pairs.{sideBySide, either}
 use Rattle.tiles.specs.declared.Site.{Site}
 use Rattle.recipe.specs.Correction.{correctionAt}
-use Rattle.recipe.specs.Spatial.{takenAt}
-use Rattle.recipe.specs.Scene.{Scene, referenceTile, tileNoise, tileDifference, tileHere}
 
 -- each sample of a pair is at most 4095
 pub record TileFits (t : List (List ℕ)) : Type 0 where

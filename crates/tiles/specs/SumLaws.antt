@@ -1,21 +1,16 @@
 -- Inside the crates of the merge: the sum of a pair's corrections, frame by frame: its record, and how it starts, goes on and ends.
-use Rattle.algebra.specs.Prelude.{_≡_, sym, ap, ap₂, subst, _∙_, List, [], ℕ, _+_, _*_, _/_, _%_, _^_, _≤_, _<_, arith, ℤ, pos, natAbs, _+ℤ_}
+use Rattle.tiles.specs.Prelude.{_≡_, sym, ap, ap₂, subst, _∙_, List, [], ℕ, _+_, _*_, _/_, _%_, _^_, _≤_, _<_, arith, ℤ, pos, natAbs, _+ℤ_, tab, Side, planeIn, sideBySide, either, LineMost, TileMost, Scene, tileNoise, tileDifference}
 use native.Mathlib.Numerals.{add-one}
 use native.Mathlib.Nat.{le-trans, mul-le-mul-right}
 use Rattle.algebra.specs.Order.{abs-add}
 use Rattle.algebra.specs.Sums.{sumZ}
 use Rattle.algebra.specs.SumLaws.{sumZ-suc, sumZ-cong, sumZ-0}
-use Rattle.sequences.specs.Tab.{tab}
 use Rattle.sequences.specs.TabLaws.{tab-each}
 use Rattle.sequences.specs.Grid.{grid, cell, cell-grid, grid-ext, grid-of}
-use Rattle.recipe.specs.Side.{Side}
 use Rattle.recipe.specs.Correction.{correctionAt}
 use Rattle.spectrum.specs.ZeroLaws.{no-noise}
 use Rattle.spectrum.specs.DifferenceLaws.{correction-cong}
-use Rattle.spectrum.specs.Pairs.{planeIn, sideBySide, either}
-use Rattle.lines.specs.Lines.{LineMost, TileMost}
 use Rattle.tiles.specs.declared.Site.{Site}
-use Rattle.recipe.specs.Scene.{Scene, tileNoise, tileDifference}
 use Rattle.tiles.specs.Sum.{summedAt, Summed}
 
 module _ (s : Scene) (t : Site) where

@@ -1,16 +1,10 @@
 -- Inside the crates of the merge: r and V of a pair of tiles by their cells, and what is taken from a pair where s is 0.
-use Rattle.algebra.specs.Prelude.{_≡_, sym, ap, subst, _∙_, List, ℕ, suc, _+_, _*_, _/_, _%_, _≤_, _<_, arith, ℤ, natAbs}
+use Rattle.tiles.specs.Prelude.{_≡_, sym, ap, subst, _∙_, List, ℕ, suc, _+_, _*_, _/_, _%_, _≤_, _<_, arith, ℤ, natAbs, Side, Merge, spatialNumber, mergedSum, Scene, blackOf, referenceTile, referenceRoot, tileNoise, tileSpatial, tileHere, sceneAt, sideBySide, either}
 use native.Mathlib.Nat.{le-trans, mul-le-mul-right}
 use Rattle.sequences.specs.Grid.{grid, cell, cell-grid, grid-ext}
-use Rattle.recipe.specs.Side.{Side}
-use Rattle.recipe.specs.declared.Merge.{Merge}
 use Rattle.recipe.specs.NoiseNumber.{tileRoot, noiseNumber}
-use Rattle.recipe.specs.SpatialNoise.{spatialNumber}
-use Rattle.recipe.specs.Spatial.{mergedSum}
-use Rattle.recipe.specs.Scene.{Scene, blackOf, referenceTile, referenceRoot, tileNoise, tileSpatial, tileHere, sceneAt}
 use Rattle.roots.specs.TileRootLaws.{tile-root-cong}
 use Rattle.spectrum.specs.FilterZeroLaws.{no-strength, taken-none}
-use Rattle.spectrum.specs.Pairs.{sideBySide, either}
 use Rattle.tiles.specs.declared.Site.{Site}
 use Rattle.tiles.specs.Sum.{TileOf, summedAt, Summed, takenIn, takenMost, Taken}
 use Rattle.tiles.specs.NoiseLaws.{both}

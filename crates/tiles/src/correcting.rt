@@ -1,14 +1,6 @@
 // What is taken from a pair of tiles: its noise numbers, its differences to the other frames, P summed over them, and the spatial filter's P'.
-ghost use mathlib.Core.Path.{_≡_};
-ghost use Prim.Native.Nat.{_≤_, _<_};
-ghost use lib.IntN.{pos};
-ghost use Rattle.sequences.specs.Grid.{grid};
-ghost use Rattle.recipe.specs.Tables.{side16};
+ghost use Rattle.tiles.specs.Prelude.{_≡_, _≤_, _<_, pos, grid, side16, blackOf, sceneAt, noiseMost, smallMost, Paired, either, filteredSums, SamplePair, SumPair};
 ghost use Rattle.recipe.specs.NoiseNumber.{noiseNumber};
-ghost use Rattle.recipe.specs.Scene.{blackOf, sceneAt};
-ghost use Rattle.spectrum.specs.Magnitudes.{noiseMost, smallMost};
-ghost use Rattle.spectrum.specs.Pairs.{Paired, either};
-ghost use Rattle.grain.specs.Filtering.{filteredSums, SamplePair, SumPair};
 ghost use Rattle.tiles.specs.Accepted.{Accepted, Sited, Tuned, spatialIn};
 ghost use Rattle.tiles.specs.Sum.{Summed, Taken};
 ghost use Rattle.tiles.specs.Asked.{Correctable};

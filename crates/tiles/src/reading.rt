@@ -1,17 +1,7 @@
 // Pairs of tiles, read from a frame: T0, and its differences to Tz.
-ghost use mathlib.Core.Path.{_≡_};
-ghost use Prim.Native.Nat.{_+_, _≤_};
-ghost use lib.IntN.{pos, _+ℤ_, _-ℤ_};
-ghost use lib.ListN.{length, getD};
-ghost use Rattle.algebra.specs.Bound.{AtMost};
-ghost use Rattle.sequences.specs.Tab.{tab};
-ghost use Rattle.sequences.specs.Grid.{grid, cell};
-ghost use Rattle.geometry.specs.Fits.{ValuesFit};
-ghost use Rattle.geometry.specs.Read.{sampleAt};
+ghost use Rattle.tiles.specs.Prelude.{_≡_, _+_, _≤_, pos, _+ℤ_, _-ℤ_, length, getD, AtMost, tab, grid, cell, ValuesFit, sampleAt, side16, tileAt, tileDifference, sceneAt};
 ghost use Rattle.geometry.specs.Tiles.{origin};
 ghost use Rattle.plane_view.specs.View.{Near};
-ghost use Rattle.recipe.specs.Tables.{side16};
-ghost use Rattle.recipe.specs.Scene.{tileAt, tileDifference, sceneAt};
 ghost use Rattle.tiles.specs.Sum.{TileFits, pairAt};
 ghost use Rattle.tiles.specs.Asked.{Readable, Comparable};
 use crate::HALF_SIDE;

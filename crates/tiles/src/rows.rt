@@ -1,12 +1,5 @@
 // Rows of pairs of correction tiles in the work area, by halves of the pairs, and a place for a row of either parity.
-ghost use mathlib.Core.Path.{_≡_};
-ghost use Prim.Native.Nat.{_+_, _-_, _*_, _/_, _≤_, _<_};
-ghost use lib.IntN.{pos};
-ghost use lib.ListN.{length, getD};
-ghost use Rattle.sequences.specs.Grid.{cell};
-ghost use Rattle.sequences.specs.Write.{written};
-ghost use Rattle.recipe.specs.Tables.{side16};
-ghost use Rattle.recipe.specs.Scene.{sceneAt};
+ghost use Rattle.tiles.specs.Prelude.{_≡_, _+_, _-_, _*_, _/_, _≤_, _<_, pos, length, getD, cell, written, side16, sceneAt};
 ghost use Rattle.tiles.specs.Accepted.{Accepted};
 ghost use Rattle.tiles.specs.Rows.{rowWords, slotOf, Stored, Spread};
 use crate::BLOCK;

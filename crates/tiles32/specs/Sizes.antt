@@ -1,12 +1,10 @@
 -- Inside this crate: how large P of a tile of side 32 is, whatever the differences.
-use Rattle.algebra.specs.Prelude.{ℕ, _+_, _*_, _/_, _^_, _≤_, arith, lit≤, lit<, ℤ, natAbs, _-ℤ_, _*ℤ_}
+use Rattle.tiles32.specs.Prelude.{ℕ, _+_, _*_, _/_, _^_, _≤_, arith, lit≤, lit<, ℤ, natAbs, _-ℤ_, _*ℤ_, side32, longNoiseMost}
 use native.Mathlib.Nat.{le-trans, mul-le-mul-right}
 use Rattle.algebra.specs.Order.{abs-sub, abs-mul-le}
 use native.Mathlib.Nat.{le-refl}
 use Rattle.algebra.specs.SumLaws.{abs-sum-bound}
-use Rattle.recipe.specs.Tables32.{side32}
 use Rattle.recipe.specs.Correction.{wiener, filtered, twiddleRe, twiddleIm, inverseRe, inverseAt, correctionAt}
-use Rattle.spectrum.specs.Magnitudes.{longNoiseMost}
 use Rattle.spectrum.specs.RoundingLaws.{away-most}
 use Rattle.spectrum.specs.WienerLaws.{wiener-root}
 use Rattle.closeness.specs.Closeness.{twiddle}

@@ -1,14 +1,7 @@
 // What is taken from a pair of tiles of side 32: its noise numbers, its differences to the other frames, and P summed over them.
-ghost use mathlib.Core.Path.{_≡_};
-ghost use Prim.Native.Nat.{_≤_};
-ghost use lib.IntN.{pos};
-ghost use Rattle.sequences.specs.Grid.{grid};
-ghost use Rattle.recipe.specs.Tables32.{side32};
+ghost use Rattle.tiles32.specs.Prelude.{_≡_, _≤_, pos, grid, side32, sceneAt, longNoiseMost, Summed, Taken};
 ghost use Rattle.recipe.specs.NoiseNumber.{noiseNumber};
-ghost use Rattle.recipe.specs.Scene.{sceneAt};
-ghost use Rattle.spectrum.specs.Magnitudes.{longNoiseMost};
 ghost use Rattle.tiles.specs.Accepted.{Accepted, Sited};
-ghost use Rattle.tiles.specs.Sum.{Summed, Taken};
 ghost use Rattle.tiles.specs.Asked.{Correctable};
 ghost use Rattle.tiles32.specs.Sizes.{longSmallMost};
 use crate::SIDE;

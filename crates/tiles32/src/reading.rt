@@ -1,15 +1,5 @@
 // Pairs of tiles of side 32, read from a frame: T0, and its differences to Tz.
-ghost use mathlib.Core.Path.{_≡_};
-ghost use Prim.Native.Nat.{_+_};
-ghost use lib.IntN.{pos, _-ℤ_};
-ghost use lib.ListN.{length, getD};
-ghost use Rattle.sequences.specs.Tab.{tab};
-ghost use Rattle.sequences.specs.Grid.{grid, cell};
-ghost use Rattle.geometry.specs.Fits.{ValuesFit};
-ghost use Rattle.geometry.specs.Read.{sampleAt};
-ghost use Rattle.recipe.specs.Tables32.{side32};
-ghost use Rattle.recipe.specs.Scene.{tileAt, tileDifference, sceneAt};
-ghost use Rattle.tiles.specs.Sum.{TileFits, pairAt};
+ghost use Rattle.tiles32.specs.Prelude.{_≡_, _+_, pos, _-ℤ_, length, getD, tab, grid, cell, ValuesFit, sampleAt, side32, tileAt, tileDifference, sceneAt, TileFits, pairAt};
 ghost use Rattle.tiles.specs.Asked.{Readable, Comparable};
 use crate::HALF_SIDE;
 use geometry::Shape;

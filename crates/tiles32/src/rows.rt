@@ -1,14 +1,7 @@
 // Rows of pairs of correction tiles of side 32 in the work area, by halves of the pairs.
-ghost use mathlib.Core.Path.{_≡_};
-ghost use Prim.Native.Nat.{_+_, _-_, _*_, _/_, _≤_, _<_};
-ghost use lib.IntN.{pos};
-ghost use lib.ListN.{length, getD};
-ghost use Rattle.sequences.specs.Grid.{cell};
+ghost use Rattle.tiles32.specs.Prelude.{_≡_, _+_, _-_, _*_, _/_, _≤_, _<_, pos, length, getD, cell, side32, sceneAt, rowWords, Stored, Spread};
 ghost use Rattle.sequences.specs.Write.{written};
-ghost use Rattle.recipe.specs.Tables32.{side32};
-ghost use Rattle.recipe.specs.Scene.{sceneAt};
 ghost use Rattle.tiles.specs.Accepted.{Accepted};
-ghost use Rattle.tiles.specs.Rows.{rowWords, Stored, Spread};
 use crate::BLOCK;
 use crate::HALF_WORDS;
 use crate::PAIR_WIDTH;

@@ -1,7 +1,6 @@
 -- What a loop by pairs of rows counts and answers.
-use Rattle.algebra.specs.Prelude.{_≡_, refl, sym, ap, subst, _∙_, Bool, true, false, cond, ℕ, suc, _+_, _*_, _≤_, _<_, arith, T, leb}
+use Rattle.trials.specs.Prelude.{_≡_, refl, sym, ap, subst, _∙_, Bool, true, false, cond, ℕ, suc, _+_, _*_, _≤_, _<_, arith, T, leb, sumN}
 use borrow.Author.Tests.{leb-true, leb-false}
-use Rattle.algebra.specs.Sums.{sumN}
 use Rattle.trials.specs.declared.Tried.{Tried}
 use Rattle.trials.specs.Rows.{rows}
 use Rattle.trials.specs.RowLaws.{sums-grow, rows-left, rows-all}

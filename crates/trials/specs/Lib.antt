@@ -1,3 +1,4 @@
+pub mod Prelude
 pub mod Rows
 pub mod Trial
 pub mod RowLaws

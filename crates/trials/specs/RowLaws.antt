@@ -1,7 +1,6 @@
 -- Laws of the rows that are summed: the rule in terms of the least row.
-use Rattle.algebra.specs.Prelude.{_≡_, refl, ap₂, Bool, true, false, cond, ℕ, zero, suc, _+_, _≤_, _<_, arith, leb}
+use Rattle.trials.specs.Prelude.{_≡_, refl, ap₂, Bool, true, false, cond, ℕ, zero, suc, _+_, _≤_, _<_, arith, leb, sumN}
 use borrow.Author.Tests.{leb-true, leb-false, le-leb, lt-leb}
-use Rattle.algebra.specs.Sums.{sumN}
 use Rattle.algebra.specs.SumLaws.{sumN-cong}
 use Rattle.trials.specs.Rows.{rows}
 

@@ -1,6 +1,5 @@
 -- How many rows of a tile are summed before an offset is left (request L12).
-use Rattle.algebra.specs.Prelude.{cond, ℕ, zero, suc, leb}
-use Rattle.algebra.specs.Sums.{sumN}
+use Rattle.trials.specs.Prelude.{cond, ℕ, zero, suc, leb, sumN}
 
 -- "leave one after the row at which its running total reaches the best so far": of n rows with the sums f, the least j from 1 on such that the first j
 -- rows' total reaches the best, else all n. One row more than suc n is summed unless the total of these has reached it.

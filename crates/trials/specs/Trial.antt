@@ -1,7 +1,5 @@
 -- Inner vocabulary: where an offset is tried, and what that gives.
-use Rattle.algebra.specs.Prelude.{_≡_, true, false, List, ℕ, _+_, _*_, _≤_, _<_}
-use Rattle.algebra.specs.Sums.{sumN}
-use Rattle.residuals.specs.Local.{Compared}
+use Rattle.trials.specs.Prelude.{_≡_, true, false, List, ℕ, _+_, _*_, _≤_, _<_, sumN, Compared}
 use Rattle.trials.specs.declared.Tried.{Tried}
 use Rattle.trials.specs.Rows.{rows}
 

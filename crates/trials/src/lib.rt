@@ -1,7 +1,5 @@
 // An offset tried in a window: its rows summed two at a time, and left where their total reaches the least so far.
-ghost use mathlib.Core.Path.{_≡_};
-ghost use mathlib.Core.Bool.{cond, false};
-ghost use Prim.Native.Nat.{_+_, _<_, _≤_};
+ghost use Rattle.algebra.specs.Prelude.{_≡_, cond, false, _+_, _<_, _≤_};
 
 pub mod eight;
 pub mod sixteen;

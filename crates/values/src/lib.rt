@@ -1,7 +1,5 @@
 // What the lent samples and vectors hold: refusals 11 and 12.
-ghost use mathlib.Core.Path.{_≡_};
-ghost use Prim.Native.Nat.{_+_, _%_, _≤_};
-ghost use lib.ListN.{length};
+ghost use Rattle.algebra.specs.Prelude.{_≡_, _+_, _%_, _≤_, length};
 ghost use Rattle.values.specs.Bounds.{sampleRefusal, vectorRefusal};
 ghost use Rattle.geometry.specs.Fits.{Sampled};
 ghost use Rattle.values.specs.Excess.{excess, rowAbove};

@@ -1,17 +1,7 @@
 // The transform of a line of sixteen differences in halfcomplex form, folded in halves, in numbers narrow enough that the compiler takes several lines at
 // once: the folds in 16 bits, the products in 32. The tables are exactly symmetric, so each fold is exact: C(k+8) = −C(k), C(8−k) = −C(k), S(k) = C(k+12)
 // and C(4) = 0.
-ghost use mathlib.Core.Path.{_≡_};
-ghost use mathlib.Core.Bool.{cond};
-ghost use mathlib.Core.List.{[], _∷_};
-ghost use Prim.Native.Nat.{_+_, _*_, _/_, _%_, _<_};
-ghost use lib.Dec.{eqb};
-ghost use lib.IntN.{pos};
-ghost use lib.ListN.{getD};
-ghost use Rattle.sequences.specs.Tab.{tab};
-ghost use Rattle.lines.specs.Halfcomplex.{halfcomplex};
-ghost use Rattle.lines.specs.Fold.{sumAt, differenceAt, folded};
-ghost use Rattle.lines.specs.Magnitudes.{differenceMost, differenceFoldMost, foldAgainMost};
+ghost use Rattle.whole_lines.specs.Prelude.{_≡_, cond, [], _∷_, _+_, _*_, _/_, _%_, _<_, eqb, pos, getD, tab, halfcomplex, sumAt, differenceAt, folded, differenceMost, differenceFoldMost, foldAgainMost};
 ghost use Rattle.lines.specs.Lines.{LineMost};
 
 // C(0) to C(3)

@@ -1,15 +1,9 @@
 -- The even places of a line of thirty-two are the places of its sums' line of sixteen.
-use Rattle.algebra.specs.Prelude.{_≡_, ap, _∙_, List, ℕ, _*_, _<_, ℤ, pos}
-use Rattle.sequences.specs.Tab.{tab}
+use Rattle.whole_lines32.specs.Prelude.{_≡_, ap, _∙_, List, ℕ, _*_, _<_, ℤ, pos, tab, side16, side32, halfcomplexOf, sumOf, of}
 use Rattle.sequences.specs.TabLaws.{getD-tab}
 use Rattle.sequences.specs.Grid.{tab-ext}
-use Rattle.recipe.specs.Tables.{side16}
-use Rattle.recipe.specs.Tables32.{side32}
 use Rattle.recipe.specs.TableLaws.{rules16}
 use Rattle.recipe.specs.TableLaws32.{rules32, doubled32}
-use Rattle.lines.specs.Halfcomplex.{halfcomplexOf}
-use Rattle.lines.specs.Fold.{sumOf}
-use Rattle.lines.specs.Held.{of}
 use Rattle.lines.specs.SideFolds.{line-ext, even-doubled}
 
 pub sums-places : (x : List ℤ) {s : List ℤ} → s ≡ tab 16 (sumOf side32 (of x)) → tab 16 (halfcomplexOf side16 (of s)) ≡ tab 16 (λ k. halfcomplexOf side32 (of x) (2 * k))

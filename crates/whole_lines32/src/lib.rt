@@ -1,16 +1,6 @@
 // The transform of a line of thirty-two differences in halfcomplex form, folded in halves, in numbers narrow enough that the compiler takes several lines at once:
 // the folds in 16 bits, the products in 32. The even places are those of the sums' line of sixteen, of which the odd ones have the kernel of `whole_lines`.
-ghost use mathlib.Core.Path.{_≡_};
-ghost use mathlib.Core.List.{[], _∷_};
-ghost use Prim.Native.Nat.{_+_, _*_};
-ghost use lib.IntN.{pos};
-ghost use lib.ListN.{getD};
-ghost use Rattle.sequences.specs.Tab.{tab};
-ghost use Rattle.recipe.specs.Tables.{side16};
-ghost use Rattle.recipe.specs.Tables32.{side32};
-ghost use Rattle.lines.specs.Halfcomplex.{halfcomplexOf};
-ghost use Rattle.lines.specs.Fold.{sumOf, differenceOf, foldedOf};
-ghost use Rattle.lines.specs.Magnitudes.{differenceMost, differenceFoldMost, foldAgainMost};
+ghost use Rattle.whole_lines32.specs.Prelude.{_≡_, [], _∷_, _+_, _*_, pos, getD, tab, side16, side32, halfcomplexOf, sumOf, differenceOf, foldedOf, differenceMost, differenceFoldMost, foldAgainMost};
 ghost use Rattle.lines.specs.Lines.{LineMost};
 
 // C(0) to C(7)

@@ -1,18 +1,13 @@
 -- Quads of G with quotients in double are those of the folded G where these are certain, and V and W of each lane are those of its plane.
-use Rattle.algebra.specs.Prelude.{_≡_, ap, subst, _∙_, List, ℕ, _+_, _*_, _/_, _%_, _≤_, _<_, arith, lit<, getD, set, ℤ, pos}
+use Rattle.wiener.specs.Prelude.{_≡_, ap, subst, _∙_, List, ℕ, _+_, _*_, _/_, _%_, _≤_, _<_, arith, lit<, getD, set, ℤ, pos, Float, nan, binary64, ofInt, cell, sideBySide, either, doubles, Binned, Sure, numberOf, binsIn, quadAt}
 use mathlib.Core.List.{map}
 use Prim.Native.Nat.{zero-le}
 use borrow.Author.Tests.{eq-eqb, ne-eqb}
-use lib.Ieee.{Float, nan, binary64, ofInt}
 use Rattle.sequences.specs.Tab.{tab}
 use Rattle.sequences.specs.TabLaws.{getD-tab, Filled, fill-turn}
-use Rattle.sequences.specs.Grid.{cell}
 use Rattle.spectrum.specs.Magnitudes.{noiseMost}
 use Rattle.spectrum.specs.Spectrum.{transposed, spread, quadOf, twoBins, gainRe, gainIm}
-use Rattle.spectrum.specs.Pairs.{sideBySide, either, doubles, Binned}
-use Rattle.bins.specs.Doubles.{Sure}
 use Rattle.bins.specs.DoubleLaws.{weight, quanta16, gains-are, real-gain-is}
-use Rattle.quads.specs.Lanes.{numberOf, binsIn, quadAt}
 use Rattle.quads.specs.QuadGains.{double, bins-small, bin-is, quad-gains}
 use Rattle.quads.specs.FilterLaws.{either-of, by-plane, Gains, quad-of}
 use Rattle.wiener.specs.DoubleQuads.{doubleQuad, newQuadBy, newQuad, SureQuad, SureQuads}

@@ -1,10 +1,6 @@
 -- Loops that replace quads one after the other, and whether their quotients are certain.
-use Rattle.algebra.specs.Prelude.{_≡_, refl, sym, subst, Bool, true, false, List, [], _∷_, ℕ, _+_, _*_, _/_, _≤_, _<_, arith, ltb, getD}
+use Rattle.wiener.specs.Prelude.{_≡_, refl, sym, subst, Bool, true, false, List, [], _∷_, ℕ, _+_, _*_, _/_, _≤_, _<_, arith, ltb, getD, Float, nan, cell, Paired, numberOf, quadAt, WithQuad, Lanes}
 use borrow.Author.Tests.{ltb-true, ltb-false}
-use lib.Ieee.{Float, nan}
-use Rattle.sequences.specs.Grid.{cell}
-use Rattle.spectrum.specs.Pairs.{Paired}
-use Rattle.quads.specs.Lanes.{numberOf, quadAt, WithQuad, Lanes}
 use Rattle.quads.specs.LaneLaws.{lanes-start, lanes-turn, lanes-join}
 use Rattle.wiener.specs.DoubleQuads.{newQuad, SureQuad, SureQuads, Shrunk}
 

@@ -1,9 +1,5 @@
 -- Inside the crates of the merge: a quad of G from that of B, with quotients in double, and where these leave no doubt of it. A side's quantum is 2^bits.
-use Rattle.algebra.specs.Prelude.{_≡_, Bool, true, List, ℕ, _+_, _*_, _/_, _≤_, _<_, getD, pos}
-use lib.Ieee.{Float, nan, binary64, ofInt}
-use Rattle.sequences.specs.Grid.{cell}
-use Rattle.bins.specs.Doubles.{gainsBy, SureBy, realGainBy}
-use Rattle.quads.specs.Lanes.{numberOf, binsIn, quadIn, quadAt, Lanes}
+use Rattle.wiener.specs.Prelude.{_≡_, Bool, true, List, ℕ, _+_, _*_, _/_, _≤_, _<_, getD, pos, Float, nan, binary64, ofInt, cell, gainsBy, SureBy, realGainBy, numberOf, binsIn, quadIn, quadAt, Lanes}
 
 -- at V and W
 unfoldable pub doubleQuad : (bits : ℕ) (v w : Float) (k u : ℕ) (q : List Float) → List Float

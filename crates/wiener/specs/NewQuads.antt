@@ -1,9 +1,6 @@
 -- A quad of G with quotients in double, by kind, from a quad of B, and where its quotients are certain.
-use Rattle.algebra.specs.Prelude.{_≡_, refl, sym, ap, subst, _∙_, List, [], _∷_, ℕ, zero, suc, _+_, _/_, _≤_, _<_, arith, getD, pos}
-use lib.Ieee.{Float, nan, binary64, ofInt, add, sub}
+use Rattle.wiener.specs.Prelude.{_≡_, refl, sym, ap, subst, _∙_, List, [], _∷_, ℕ, zero, suc, _+_, _/_, _≤_, _<_, arith, getD, pos, Float, nan, binary64, ofInt, add, sub, gainsBy, SureBy, realGainBy, numberOf, binsIn, foldedIn, cornerIn, foldIn}
 use Rattle.spectrum.specs.QuadLaws.{four, is-top, is-left, is-inner}
-use Rattle.bins.specs.Doubles.{gainsBy, SureBy, realGainBy}
-use Rattle.quads.specs.Lanes.{numberOf, binsIn, foldedIn, cornerIn, foldIn}
 use Rattle.quads.specs.QuadGains.{quad-corner, quad-others}
 use Rattle.wiener.specs.DoubleQuads.{doubleQuad, newQuadBy, SureQuadBy}
 

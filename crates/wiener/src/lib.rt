@@ -7,15 +7,9 @@ use bins::double::sure;
 use bins::double::sure_lanes;
 use quads::quad_at;
 use quads::set_quad;
-ghost use mathlib.Core.Path.{_≡_};
-ghost use mathlib.Core.Bool.{true};
-ghost use Prim.Native.Nat.{_+_, _*_, _%_, _≤_, _<_};
-ghost use lib.Ieee.{nan};
+ghost use Rattle.wiener.specs.Prelude.{_≡_, true, _+_, _*_, _%_, _≤_, _<_, nan, either, Paired, GainsOf, cell, quadAt, Lanes};
 ghost use Rattle.sequences.specs.Tab.{tab};
 ghost use Rattle.spectrum.specs.Magnitudes.{noiseMost};
-ghost use Rattle.spectrum.specs.Pairs.{either, Paired, GainsOf};
-ghost use Rattle.sequences.specs.Grid.{cell};
-ghost use Rattle.quads.specs.Lanes.{quadAt, Lanes};
 ghost use Rattle.wiener.specs.DoubleQuads.{newQuad, Shrunk};
 
 // 1 + 2^-51

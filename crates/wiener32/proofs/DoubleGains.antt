@@ -1,27 +1,21 @@
 -- Quads of G with quotients in double are those of the folded G where these are certain, and V and W of each lane are those of its plane.
-use Rattle.algebra.specs.Prelude.{_≡_, ap, subst, _∙_, List, ℕ, _+_, _*_, _/_, _%_, _≤_, _<_, arith, lit≤, lit<, getD, set, ℤ, pos}
+use Rattle.wiener32.specs.Prelude.{_≡_, ap, subst, _∙_, List, ℕ, _+_, _*_, _/_, _%_, _≤_, _<_, arith, lit≤, lit<, getD, set, ℤ, pos, Float, nan, binary64, ofInt, cell, sideBySide, either, longDoubles, LongBinned, quadAt, doubleQuad, newQuadBy, SureQuadBy}
 use mathlib.Core.List.{map}
 use native.Mathlib.Nat.{le-trans}
 use Prim.Native.Nat.{zero-le}
 use borrow.Author.Tests.{eq-eqb, ne-eqb}
-use lib.Ieee.{Float, nan, binary64, ofInt}
 use Rattle.sequences.specs.Tab.{tab}
 use Rattle.sequences.specs.TabLaws.{getD-tab, Filled, fill-turn}
-use Rattle.sequences.specs.Grid.{cell}
 use Rattle.recipe.specs.Tables32.{side32}
 use Rattle.spectrum.specs.Magnitudes.{longNoiseMost}
 use Rattle.spectrum.specs.Spectrum.{transposed, spreadOf, quadPlaces, twoBinsOf, gainReOf, gainImOf}
-use Rattle.spectrum.specs.Pairs.{sideBySide, either}
-use Rattle.spectrum.specs.LongPairs.{longDoubles, LongBinned}
 use Rattle.bins.specs.Doubles.{SureBy}
 use Rattle.bins.specs.DoubleLaws.{weight, quanta32, gains-are, real-gain-is}
 use Rattle.quads.specs.Lanes.{numberOf, binsIn}
-use Rattle.quads32.specs.Lanes.{quadAt}
 use Rattle.quads.specs.QuadGains.{double}
 use Rattle.quads32.specs.QuadGains.{bins-small, bin-is, quad-gains}
 use Rattle.quads.specs.FilterLaws.{either-of, by-plane}
 use Rattle.quads32.specs.FilterLaws.{Gains, quad-of}
-use Rattle.wiener.specs.DoubleQuads.{doubleQuad, newQuadBy, SureQuadBy}
 use Rattle.wiener32.specs.DoubleQuads.{SureQuads}
 
 -- what is known of a plane and its noise number

@@ -1,13 +1,8 @@
 -- Loops that replace quads one after the other, and whether their quotients are certain.
-use Rattle.algebra.specs.Prelude.{_≡_, refl, sym, subst, Bool, true, false, List, [], _∷_, ℕ, _+_, _*_, _/_, _≤_, _<_, arith, ltb, getD}
+use Rattle.wiener32.specs.Prelude.{_≡_, refl, sym, subst, Bool, true, false, List, [], _∷_, ℕ, _+_, _*_, _/_, _≤_, _<_, arith, ltb, getD, Float, nan, cell, LongPaired, quadAt, WithQuad, Lanes, newQuadBy, SureQuadBy}
 use borrow.Author.Tests.{ltb-true, ltb-false}
-use lib.Ieee.{Float, nan}
-use Rattle.sequences.specs.Grid.{cell}
-use Rattle.spectrum.specs.LongPairs.{LongPaired}
 use Rattle.quads.specs.Lanes.{numberOf}
-use Rattle.quads32.specs.Lanes.{quadAt, WithQuad, Lanes}
 use Rattle.quads32.specs.LaneLaws.{lanes-start, lanes-turn, lanes-join}
-use Rattle.wiener.specs.DoubleQuads.{newQuadBy, SureQuadBy}
 use Rattle.wiener32.specs.DoubleQuads.{SureQuads, Shrunk}
 
 -- quad (u, l) is certain, at V and W of its lane

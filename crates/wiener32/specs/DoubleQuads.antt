@@ -1,9 +1,5 @@
 -- Inside the crates of the merge: quads of two tiles of side 32 with quotients in double, as `wiener` has those of side 16.
-use Rattle.algebra.specs.Prelude.{_≡_, Bool, true, List, ℕ, _+_, _*_, _/_, _≤_, _<_, getD}
-use lib.Ieee.{Float, nan}
-use Rattle.sequences.specs.Grid.{cell}
-use Rattle.quads32.specs.Lanes.{quadAt, Lanes}
-use Rattle.wiener.specs.DoubleQuads.{newQuadBy, SureQuadBy}
+use Rattle.wiener32.specs.Prelude.{_≡_, Bool, true, List, ℕ, _+_, _*_, _/_, _≤_, _<_, getD, Float, nan, cell, quadAt, Lanes, newQuadBy, SureQuadBy}
 
 -- the quotients of the quads from m on and below n, in the order of 32·u + l, are certain
 pub record SureQuads (v w : List Float) (m n : ℕ) (b : List (List Float)) : Type 0 where

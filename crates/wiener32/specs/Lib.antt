@@ -1,1 +1,2 @@
+pub mod Prelude
 pub mod DoubleQuads

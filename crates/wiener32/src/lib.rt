@@ -7,17 +7,9 @@ use bins::long::sure;
 use bins::long::sure_lanes;
 use quads32::quad_at;
 use quads32::set_quad;
-ghost use mathlib.Core.Path.{_≡_};
-ghost use mathlib.Core.Bool.{true};
-ghost use Prim.Native.Nat.{_+_, _*_, _%_, _≤_, _<_};
-ghost use lib.Ieee.{nan};
+ghost use Rattle.wiener32.specs.Prelude.{_≡_, true, _+_, _*_, _%_, _≤_, _<_, nan, either, LongPaired, LongGainsOf, cell, quadAt, Lanes, newQuadBy};
 ghost use Rattle.sequences.specs.Tab.{tab};
 ghost use Rattle.spectrum.specs.Magnitudes.{longNoiseMost};
-ghost use Rattle.spectrum.specs.Pairs.{either};
-ghost use Rattle.spectrum.specs.LongPairs.{LongPaired, LongGainsOf};
-ghost use Rattle.sequences.specs.Grid.{cell};
-ghost use Rattle.quads32.specs.Lanes.{quadAt, Lanes};
-ghost use Rattle.wiener.specs.DoubleQuads.{newQuadBy};
 ghost use Rattle.wiener32.specs.DoubleQuads.{Shrunk};
 
 // 1 + 2^-51

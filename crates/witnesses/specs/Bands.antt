@@ -1,21 +1,12 @@
 -- The call for a band of the merged frame accepts a band of document 01's figure, and has an input for each of its refusals.
-use Rattle.algebra.specs.Prelude.{_≡_, refl, sym, ap, _∙_, List, [], _∷_, ℕ, length, ℤ, pos}
+use Rattle.witnesses.specs.Prelude.{_≡_, refl, sym, ap, _∙_, List, [], _∷_, ℕ, length, ℤ, pos, zeros, first, some, sizeAllowed, countAllowed, sizeRefusal, countRefusal, referenceRefusal, sideAllowed, sideRefusal, rowAllowed, rowRefusal, sampleLength, vectorLength, lengthRefusal, sampleIndex, sampleAt, shapeTests, burstTests, sampleRefusal, vectorRefusal, invalidCurve, invalidIso, invalidNoise, aboveLimits, noiseTests, strengthRefusal, blackRefusal, spatialRefusal, shape, plain, burst}
 use lib.ListN.{replicate, length-replicate}
-use Rattle.sequences.specs.Clear.{zeros}
-use Rattle.refusals.specs.Tests.{first}
 use Rattle.refusals.specs.TestLaws.{goes}
-use Rattle.refusals.specs.Some.{some}
 use Rattle.refusals.specs.AfterLaws.{result-made}
-use Rattle.geometry.specs.Shape.{sizeAllowed, countAllowed, sizeRefusal, countRefusal, referenceRefusal, sideAllowed, sideRefusal, rowAllowed, rowRefusal, sampleLength, vectorLength, lengthRefusal}
-use Rattle.geometry.specs.Read.{sampleIndex, sampleAt}
-use Rattle.limits.specs.Order.{shapeTests, burstTests}
 use Rattle.limits.specs.Bands.{bandAllowed, bandPartRefusal, bandLength, bandWorkLength, bandLengths, bandShapeTests}
-use Rattle.values.specs.Bounds.{sampleRefusal, vectorRefusal}
-use Rattle.noise.specs.Levels.{invalidCurve, invalidIso, invalidNoise, aboveLimits, noiseTests, strengthRefusal, blackRefusal, spatialRefusal}
 use Rattle.admission.specs.Refusals.{filterSideRefusal, contentTests, valueTests}
 use Rattle.admission.specs.Bands.{bandRefusal}
 use Rattle.stacker.specs.Bands.{band, Banded}
-use Rattle.sanity.specs.FlatFigure.{shape, plain, burst}
 use Rattle.witnesses.specs.Inputs.{Input, dark, full, vectors, work, width-96, nine-frames, reference-2, side-24, row-63, one-short, no-vectors, one-over, no-work, iso-24, shot-65, strength-1025, black-256, spatial-257, spatial-at-32, sample-4096, part-173}
 use Rattle.witnesses.specs.Bursts.{numbers, noise-passes, content-passes, frame-2}
 

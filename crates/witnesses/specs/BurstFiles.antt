@@ -1,10 +1,6 @@
 -- Document 01's figure as a burst file, which is read, and a file for each refusal of file reading and of the file check.
-use Rattle.algebra.specs.Prelude.{_≡_, refl, List, [], _∷_, _++_, ℕ, zero, suc}
+use Rattle.witnesses.specs.Prelude.{_≡_, refl, List, [], _∷_, _++_, ℕ, zero, suc, first, sizeAllowed, countAllowed, sizeRefusal, countRefusal, referenceRefusal, sampleLength, lengthRefusal, shapeTests, levelRefusal, strengthRefusal, shape, plain, burst}
 use Rattle.printing.specs.Ascii.{ascii}
-use Rattle.refusals.specs.Tests.{first}
-use Rattle.geometry.specs.Shape.{sizeAllowed, countAllowed, sizeRefusal, countRefusal, referenceRefusal, sampleLength, lengthRefusal}
-use Rattle.limits.specs.Order.{shapeTests}
-use Rattle.noise.specs.Levels.{levelRefusal, strengthRefusal}
 use Rattle.file_lines.specs.Part.{found, numberOf}
 use Rattle.file_lines.specs.Line.{pastSpaces, afterDigits, digitsFrom, valuesOf, hasLF, above}
 use Rattle.file_head.specs.Names.{names}
@@ -12,7 +8,6 @@ use Rattle.file_head.specs.Head.{startsWith, firstLineRefusal, headerRefusal, h
 use Rattle.file_head.specs.declared.Header.{Header}
 use Rattle.burst_file.specs.Rows.{row, rowLines, framesOf}
 use Rattle.burst_file.specs.Reading.{bodyOf, reading, readingInto, fileCheck}
-use Rattle.sanity.specs.FlatFigure.{shape, plain, burst}
 
 -- a space and a digit n times, and the LF
 abbrev pub spaced : (digit n : ℕ) (rest : List ℕ) → List ℕ

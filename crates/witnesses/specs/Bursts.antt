@@ -1,19 +1,11 @@
 -- Each call on a burst accepts document 01's figure, and has an input for each of its refusals. So no call refuses all bursts, and none of its numbers stands idle.
-use Rattle.algebra.specs.Prelude.{_≡_, refl, sym, ap, ap₂, _∙_, List, [], _∷_, _++_, ℕ, lit≤, length, ℤ, pos}
+use Rattle.witnesses.specs.Prelude.{_≡_, refl, sym, ap, ap₂, _∙_, List, [], _∷_, _++_, ℕ, lit≤, length, ℤ, pos, zeros, first, some, sizeAllowed, countAllowed, sizeRefusal, countRefusal, referenceRefusal, sideAllowed, sideRefusal, rowAllowed, rowRefusal, sampleLength, vectorLength, outputLength, workLength, lengthRefusal, sampleIndex, sampleAt, shapeTests, frameTests, burstTests, alignLengths, mergeLengths, alignShapeTests, mergeShapeTests, sampleRefusal, vectorRefusal, invalidCurve, invalidIso, invalidNoise, aboveLimits, noiseTests, levelsOf, strengthRefusal, blackRefusal, spatialRefusal}
 use lib.ListN.{replicate, length-replicate}
-use Rattle.sequences.specs.Clear.{zeros}
-use Rattle.refusals.specs.Tests.{first}
 use Rattle.refusals.specs.TestLaws.{goes, lone}
-use Rattle.refusals.specs.Some.{some}
 use Rattle.refusals.specs.After.{after}
 use Rattle.refusals.specs.AfterLaws.{result-made}
-use Rattle.geometry.specs.Shape.{sizeAllowed, countAllowed, sizeRefusal, countRefusal, referenceRefusal, sideAllowed, sideRefusal, rowAllowed, rowRefusal, sampleLength, vectorLength, outputLength, workLength, lengthRefusal}
-use Rattle.geometry.specs.Read.{sampleIndex, sampleAt}
-use Rattle.limits.specs.Order.{shapeTests, frameTests, burstTests, alignLengths, mergeLengths, alignShapeTests, mergeShapeTests}
 use Rattle.limits.specs.Residuals.{residualLength, residualLengths, residualShapeTests}
-use Rattle.values.specs.Bounds.{sampleRefusal, vectorRefusal}
 use Rattle.values.specs.BoundLaws.{samples-pass, values-samples}
-use Rattle.noise.specs.Levels.{invalidCurve, invalidIso, invalidNoise, aboveLimits, noiseTests, levelsOf, strengthRefusal, blackRefusal, spatialRefusal}
 use Rattle.recipe.specs.Scene.{sceneOf}
 use Rattle.recipe.specs.Merged.{merged}
 use Rattle.alignment.specs.Aligned.{residualSums}

@@ -1,15 +1,10 @@
 -- A DNG file of a black frame, which is read, and a file or a burst for each refusal of the reader.
-use Rattle.algebra.specs.Prelude.{_≡_, refl, sym, ap, _∙_, List, [], _∷_, _++_, ℕ, _+_, _*_, _/_, _%_, arith, ltb, getD}
-use lib.ListN.{replicate}
+use Rattle.witnesses.specs.Prelude.{_≡_, refl, sym, ap, _∙_, List, [], _∷_, _++_, ℕ, _+_, _*_, _/_, _%_, arith, ltb, getD, replicate, first, some, shaped, sizeAllowed, countAllowed, sizeRefusal, countRefusal, referenceRefusal, rowAllowed, rowRefusal, sampleLength, lengthRefusal, shapeTests, frameTests}
 use lib.Seq.{getD-append-add}
 use borrow.Author.Tests.{le-ltb}
-use Rattle.refusals.specs.Tests.{first}
 use Rattle.refusals.specs.TestLaws.{goes, lone}
-use Rattle.refusals.specs.Some.{some}
 use Rattle.refusals.specs.SomeLaws.{not-one}
 use Rattle.geometry.specs.declared.Shape.{Shape}
-use Rattle.geometry.specs.Shape.{shaped, sizeAllowed, countAllowed, sizeRefusal, countRefusal, referenceRefusal, rowAllowed, rowRefusal, sampleLength, lengthRefusal}
-use Rattle.limits.specs.Order.{shapeTests, frameTests}
 use Rattle.tiff.specs.Bytes.{short, long, number}
 use Rattle.tiff.specs.Directory.{headerWrong, directoryOutside, entriesFrom, entries, timesOf}
 use Rattle.tiff.specs.Fields.{right, sizeOf, fieldAt, firstField, fieldOutside, valueAt}

@@ -1,13 +1,10 @@
 -- What the calls on a burst take: document 01's figure, and that with one thing changed, as in the examples of document 01's table of refused inputs.
-use Rattle.algebra.specs.Prelude.{false, List, [], _∷_, ℕ, ℤ, pos}
+use Rattle.witnesses.specs.Prelude.{false, List, [], _∷_, ℕ, ℤ, pos, replicate, shaped, shape, plain, burst}
 use lib.Ieee.{Float, fin}
-use lib.ListN.{replicate}
 use Rattle.geometry.specs.declared.Shape.{Shape}
-use Rattle.geometry.specs.Shape.{shaped}
 use Rattle.noise.specs.declared.Noise.{Noise}
 use Rattle.noise.specs.declared.Noise.the-variants.{Measured, Iso}
 use Rattle.recipe.specs.declared.Tuning.{Tuning}
-use Rattle.sanity.specs.FlatFigure.{shape, plain, burst}
 use Rattle.sanity.specs.Pedestal.{zeroBlack}
 
 pub record Input : Type 0 where

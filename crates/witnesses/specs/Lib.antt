@@ -1,3 +1,4 @@
+pub mod Prelude
 pub mod SmallLaws
 pub mod Inputs
 pub mod Bursts

@@ -1,20 +1,11 @@
 -- The call that aligns one other frame accepts document 01's figure, whose only other frame is at place 0, and has an input for each of its refusals.
-use Rattle.algebra.specs.Prelude.{_≡_, refl, ap, _∙_, List, [], _∷_, ℕ, lit<, ℤ, pos}
-use lib.ListN.{replicate}
-use Rattle.sequences.specs.Clear.{zeros}
-use Rattle.refusals.specs.Tests.{first}
-use Rattle.refusals.specs.Some.{some}
+use Rattle.witnesses.specs.Prelude.{_≡_, refl, ap, _∙_, List, [], _∷_, ℕ, lit<, ℤ, pos, replicate, zeros, first, some, sizeAllowed, countAllowed, sizeRefusal, countRefusal, referenceRefusal, sideAllowed, sideRefusal, rowAllowed, rowRefusal, sampleLength, vectorLength, workLength, lengthRefusal, sampleIndex, sampleAt, shapeTests, burstTests, sampleRefusal, shape, plain, burst}
 use Rattle.refusals.specs.AfterLaws.{result-made}
-use Rattle.geometry.specs.Shape.{sizeAllowed, countAllowed, sizeRefusal, countRefusal, referenceRefusal, sideAllowed, sideRefusal, rowAllowed, rowRefusal, sampleLength, vectorLength, workLength, lengthRefusal}
-use Rattle.geometry.specs.Read.{sampleIndex, sampleAt}
-use Rattle.limits.specs.Order.{shapeTests, burstTests}
 use Rattle.limits.specs.OneFrame.{otherRefusal, frameWorkLength, alignFrameLengths, alignFrameShapeTests}
-use Rattle.values.specs.Bounds.{sampleRefusal}
 use Rattle.admission.specs.OneFrame.{alignFrameRefusal}
 use Rattle.stacker.specs.declared.one_frame.FrameAlignment.{FrameAlignment}
 use Rattle.stacker.specs.OneFrame.{frameAnswered, FrameAligned}
 use Rattle.stacker.specs.FramesWhole.{refused-alike}
-use Rattle.sanity.specs.FlatFigure.{shape, plain, burst}
 use Rattle.witnesses.specs.Inputs.{Input, vectors, work, figure, width-96, nine-frames, reference-2, side-24, row-63, one-short, no-vectors, sample-4096}
 use Rattle.witnesses.specs.Bursts.{numbers, align-number}
 

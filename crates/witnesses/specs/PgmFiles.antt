@@ -1,9 +1,6 @@
 -- A black frame of 64 by 64 is written and read as a PGM file; and a frame or a file for each refusal of writing and reading.
-use Rattle.algebra.specs.Prelude.{_≡_, refl, List, [], _∷_, _++_, ℕ, lit≤, length}
+use Rattle.witnesses.specs.Prelude.{_≡_, refl, List, [], _∷_, _++_, ℕ, lit≤, length, first, some, sizeAllowed, lengthRefusal}
 use lib.ListN.{replicate, length-replicate}
-use Rattle.refusals.specs.Tests.{first}
-use Rattle.refusals.specs.Some.{some}
-use Rattle.geometry.specs.Shape.{sizeAllowed, lengthRefusal}
 use Rattle.printing.specs.Decimal.{digits, decimal}
 use Rattle.pgm_header.specs.Header.{pgmHeader, leading}
 use Rattle.pgm_samples.specs.Samples.{bytesOf, someAbove, aboveRefusal, samplesOf}

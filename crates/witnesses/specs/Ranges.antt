@@ -1,21 +1,12 @@
 -- Request L14's call accepts document 01's figure, and has an input for each of its refusals.
-use Rattle.algebra.specs.Prelude.{_≡_, refl, sym, subst, _∙_, List, [], _∷_, ℕ, _≤_, _<_, length, getD, ℤ, pos}
+use Rattle.witnesses.specs.Prelude.{_≡_, refl, sym, subst, _∙_, List, [], _∷_, ℕ, _≤_, _<_, length, getD, ℤ, pos, replicate, first, some, shaped, sizeAllowed, countAllowed, sizeRefusal, countRefusal, referenceRefusal, rowAllowed, rowRefusal, sampleLength, vectorLength, outputLength, workLength, lengthRefusal, sampleIndex, sampleAt, shapeTests, sampleRefusal, vectorRefusal, invalidCurve, invalidIso, invalidNoise, aboveLimits, strengthRefusal, blackRefusal, shape, plain, burst}
 use lib.Ieee.{lt, le}
-use lib.ListN.{replicate}
-use Rattle.refusals.specs.Tests.{first}
 use Rattle.refusals.specs.TestLaws.{goes}
-use Rattle.refusals.specs.Some.{some}
-use Rattle.geometry.specs.Shape.{shaped, sizeAllowed, countAllowed, sizeRefusal, countRefusal, referenceRefusal, rowAllowed, rowRefusal, sampleLength, vectorLength, outputLength, workLength, lengthRefusal}
-use Rattle.geometry.specs.Read.{sampleIndex, sampleAt}
-use Rattle.limits.specs.Order.{shapeTests}
-use Rattle.values.specs.Bounds.{sampleRefusal, vectorRefusal}
 use Rattle.noise.specs.declared.Noise.{Noise}
 use Rattle.noise.specs.Curve.{curveOf}
-use Rattle.noise.specs.Levels.{invalidCurve, invalidIso, invalidNoise, aboveLimits, strengthRefusal, blackRefusal}
 use Rattle.range.specs.Crossed.{NoneAbove, rangeNoiseTests}
 use Rattle.range_admission.specs.Refusals.{narrowRefusal, rangeFrameTests, rangeShapeTests, filterRefusal, rangeContentTests, rangeRefusal}
 use Rattle.stacker.specs.Ranged.{Ranged}
-use Rattle.sanity.specs.FlatFigure.{shape, plain, burst}
 use Rattle.sanity.specs.Pedestal.{zeroBlack}
 use Rattle.witnesses.specs.Inputs.{Input, curve, dark, tuned, full, vectors, work, input, figure, width-96, nine-frames, reference-2, row-63, one-short, no-vectors, one-over, no-work, iso-24, shot-65, strength-1025, black-256, sample-4096, part-173}
 use Rattle.witnesses.specs.Bursts.{numbers, samples-small, cleared, frame-2}

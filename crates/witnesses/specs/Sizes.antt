@@ -1,12 +1,6 @@
 -- The size questions on the files that are read, and on those that are refused; and the words of some numbers.
-use Rattle.algebra.specs.Prelude.{_≡_, refl, List, [], _∷_, _++_, ℕ}
-use lib.ListN.{replicate}
-use Rattle.refusals.specs.Tests.{first}
-use Rattle.refusals.specs.Some.{some}
+use Rattle.witnesses.specs.Prelude.{_≡_, refl, List, [], _∷_, _++_, ℕ, replicate, first, some, sizeAllowed, countAllowed, sizeRefusal, countRefusal, referenceRefusal, shapeTests, levelRefusal, strengthRefusal}
 use Rattle.refusals.specs.After.{after}
-use Rattle.geometry.specs.Shape.{sizeAllowed, countAllowed, sizeRefusal, countRefusal, referenceRefusal}
-use Rattle.limits.specs.Order.{shapeTests}
-use Rattle.noise.specs.Levels.{levelRefusal, strengthRefusal}
 use Rattle.printing.specs.Ascii.{ascii}
 use Rattle.printing.specs.Decimal.{digits, decimal}
 use Rattle.words.specs.Words.{unknown, wordTable, wordsOf}

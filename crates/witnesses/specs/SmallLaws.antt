@@ -1,6 +1,5 @@
 -- Values of lists that are one value over and over, or two lists joined.
-use Rattle.algebra.specs.Prelude.{_≡_, refl, List, [], _∷_, _++_, ℕ, zero, suc, _≤_, arith, getD}
-use lib.ListN.{replicate}
+use Rattle.witnesses.specs.Prelude.{_≡_, refl, List, [], _∷_, _++_, ℕ, zero, suc, _≤_, arith, getD, replicate}
 
 -- every value of both lists is at most m
 pub append-most : (m : ℕ) (a b : List ℕ) → ((k : ℕ) → getD a k 0 ≤ m) → ((k : ℕ) → getD b k 0 ≤ m) → (k : ℕ) → getD (a ++ b) k 0 ≤ m

@@ -1,8 +1,7 @@
 // What a refusal's number says in words, and the version of the calls.
 mod table;
 
-ghost use mathlib.Core.Path.{_≡_};
-ghost use lib.ListN.{length, getD};
+ghost use Rattle.algebra.specs.Prelude.{_≡_, length, getD};
 ghost use Rattle.words.specs.Words.{wordsOf, padded, TextPut, versionNumber};
 use crate::table::put_words;
 

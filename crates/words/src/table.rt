@@ -1,6 +1,5 @@
 // The words of each number, put at the start of a buffer. Each function answers where they end.
-ghost use Prim.Native.Nat.{_≤_, _<_};
-ghost use lib.ListN.{length};
+ghost use Rattle.algebra.specs.Prelude.{_≤_, _<_, length};
 ghost use Rattle.printing.specs.Put.{Printed};
 ghost use Rattle.words.specs.Words.{wordsOf};
 use printing::pieces::put_bytes;

@@ -4,21 +4,20 @@ use Rattle.refusals.specs.TestLaws.{stops, goes, lone}
 use Rattle.limits.specs.BandLaws.{band-fits}
 use Rattle.admission.specs.Bands.{bandRefusal}
 use Rattle.admission.specs.AdmissionLaws.{tested-refused, tested-goes, tested-stops, tested-passes, tested-number}
-use Rattle.admission.proofs.band_refusal.Statement.{statement}
-use Rattle.admission.proofs.band_refusal.Tie as tie
+use Rattle.admission.proofs.band_refusal as of
 
-returns : tie.Need-returns
+returns : of.Tie.Need-returns
 unfolding bandRefusal
 returns c =
     let h = c .before .if1 .taken in
     record { answer = c .refused .ensures ∙ tested-refused _ _ (stops _ _ (c .before .before .band-shape-refusal .ensures) h) h }
 
-value-refusal-requires : tie.Need-value-refusal-requires
+value-refusal-requires : of.Tie.Need-value-refusal-requires
 value-refusal-requires c κs =
     let burst = band-fits _ _ _ _ _ _ _ _ (sym (c .before .band-shape-refusal .ensures) ∙ c .if1 .left) .burst in
     record { allowed = burst .allowed; long = burst .samples-long }
 
-returns-2 : tie.Need-returns-2
+returns-2 : of.Tie.Need-returns-2
 unfolding bandRefusal
 returns-2 c =
     let v = c .before .before in
@@ -26,7 +25,7 @@ returns-2 c =
     let e = v .value-refusal .ensures in
     record { answer = tested-goes _ _ _ (sym (l .before .band-shape-refusal .ensures) ∙ l .if1 .left) (tested-stops _ _ _ (λ z. c .if2 .taken (tested-number _ _ e ∙ z)) e) }
 
-returns-3 : tie.Need-returns-3
+returns-3 : of.Tie.Need-returns-3
 unfolding bandRefusal
 returns-3 c =
     let p = c .before .before in
@@ -40,7 +39,7 @@ returns-3 c =
           ∙ tested-refused _ _ (goes _ _ (l .before .band-shape-refusal .ensures) (l .if1 .left) (goes _ _ (tested-number _ _ (v .value-refusal .ensures)) (t .if2 .left) (p .vector-refusal .ensures ∙ lone _))) h;
     }
 
-returns-4 : tie.Need-returns-4
+returns-4 : of.Tie.Need-returns-4
 unfolding bandRefusal
 returns-4 c =
     let p = c .before in
@@ -54,6 +53,6 @@ returns-4 c =
           (tested-passes _ _ _ (sym (tested-number _ _ e) ∙ t .if2 .left) (sym (p .vector-refusal .ensures ∙ lone _) ∙ c .if3 .left) e);
     }
 
-pub band-refusal-spec : {M : Type 1} → statement M
-band-refusal-spec = tie.close (tie.spec
+pub band-refusal-spec : {M : Type 1} → of.Statement.statement M
+band-refusal-spec = of.Tie.close (of.Tie.spec
     (λ c κs. search needs) (λ c κs. search needs) returns value-refusal-requires returns-2 (λ c κs. search needs) (λ c κs. search needs) returns-3 returns-4)

@@ -1,11 +1,9 @@
 -- `admission::content_refusal`: each test is its definition, so the first of them is.
-use Rattle.algebra.specs.Prelude.{ap, ap₂, _∙_, [], _∷_, needs}
-use Rattle.refusals.specs.Tests.{first}
+use Rattle.admission.specs.Prelude.{ap, ap₂, _∙_, [], _∷_, needs, first}
 use Rattle.admission.specs.Refusals.{contentTests}
-use Rattle.admission.proofs.content_refusal.Statement.{statement}
-use Rattle.admission.proofs.content_refusal.Tie as tie
+use Rattle.admission.proofs.content_refusal as of
 
-returns : tie.Need-returns
+returns : of.Tie.Need-returns
 unfolding contentTests
 returns c =
     let sample = c .before .before in
@@ -15,7 +13,7 @@ returns c =
     c .first .ensures
     ∙ ap first (ap₂ _∷_ (black .before .before .strength-refusal .ensures) (ap₂ _∷_ (black .black-refusal .ensures) (ap₂ _∷_ (spatial .spatial-refusal .ensures) (ap₂ _∷_ (filtered .filter-side-refusal .ensures) (ap (λ n. n ∷ []) (sample .sample-refusal .ensures))))))
 
-pub content-refusal-spec : {M : Type 1} → statement M
-content-refusal-spec = tie.close (tie.spec
+pub content-refusal-spec : {M : Type 1} → of.Statement.statement M
+content-refusal-spec = of.Tie.close (of.Tie.spec
     (λ c κs. search needs) (λ c κs. search needs) (λ c κs. search needs) (λ c κs. search needs) (λ c κs. search needs) (λ c. search needs)
     (λ c κs. search needs) returns)

@@ -3,31 +3,30 @@ use Rattle.algebra.specs.Prelude.{_≡_, _∙_, _-_, _%_, arith, needs}
 use borrow.Author.Tests.{lt-ltb, le-ltb}
 use Rattle.refusals.specs.SomeLaws.{Passed, pass-start}
 use Rattle.dng_strip.specs.StripLaws.{above, block, strip-refused, strip-passed, strip-accepted}
-use Rattle.dng_strip.proofs.strip_refusal.Statement.{statement}
-use Rattle.dng_strip.proofs.strip_refusal.Tie as tie
+use Rattle.dng_strip.proofs.strip_refusal as of
 
-abbrev Inv-loop : tie.InvT-loop
+abbrev Inv-loop : of.Tie.InvT-loop
 Inv-loop file start count i₀ i = (Passed (above file start count) count i) × ((count - i) % 64 ≡ 0)
 
-abbrev μ-loop : tie.MeasureT-loop
+abbrev μ-loop : of.Tie.MeasureT-loop
 μ-loop file start count i₀ i = count - i
 
-returns : tie.Need-returns Inv-loop μ-loop
+returns : of.Tie.Need-returns Inv-loop μ-loop
 returns c =
     let turn = c .before .before .before .loop in
     let args = c .before .before .before .before .before .args in
     strip-refused _ _ (args .count) (turn .i) (omega arith) (block _ (args .start) (args .count) (turn .i) ∙ c .before .word-bits .ensures ∙ lt-ltb 4095 (c .before .word-bits .result) (c .if1 .taken))
 
-loop-again : tie.Need-loop-again Inv-loop μ-loop
+loop-again : of.Tie.Need-loop-again Inv-loop μ-loop
 loop-again c =
     let turn = c .before .before .before .loop in
     let args = c .before .before .before .before .before .args in
     (strip-passed _ _ (args .count) (turn .inv .0) (omega arith) (block _ (args .start) (args .count) (turn .i) ∙ c .before .word-bits .ensures ∙ le-ltb 4095 (c .before .word-bits .result) (c .if1 .left)), omega arith)
 
-returns-2 : tie.Need-returns-2 Inv-loop μ-loop
+returns-2 : of.Tie.Need-returns-2 Inv-loop μ-loop
 returns-2 c = strip-accepted _ _ _ (c .before .loop .inv .0) (c .loop-test .left)
 
-pub strip-refusal-spec : {M : Type 1} → statement M
-strip-refusal-spec = tie.close (tie.spec
+pub strip-refusal-spec : {M : Type 1} → of.Statement.statement M
+strip-refusal-spec = of.Tie.close (of.Tie.spec
     Inv-loop μ-loop (λ c. (pass-start, omega (arith, c .before .pre .1))) (λ c. search needs) (λ c. search needs) (λ c κs. search needs)
     returns (λ c. search needs) (λ c. search needs) loop-again returns-2)

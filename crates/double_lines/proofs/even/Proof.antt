@@ -1,19 +1,13 @@
 -- `double_lines::even`: eight places from the eight sums, by computed tests.
-use Rattle.algebra.specs.Prelude.{List, [], _∷_, _*_}
-use lib.Ieee.{ofBits, ofInt}
+use Rattle.double_lines.specs.Prelude.{List, [], _∷_, _*_, ofBits, ofInt, tab, cosines, cosine16, side16, frequencyOf, phaseOf, basisOf, basis, foldedOf}
 use Rattle.algebra.specs.Ring.{con, _⊠_}
 use Rattle.algebra.specs.Ring as ring
 use Rattle.algebra.specs.Sums.{sumZ}
 use Rattle.algebra.specs.Forms.{sumE}
-use Rattle.sequences.specs.Tab.{tab}
 use Rattle.floats.specs.Kernels.{Form, var, plus, minus, times}
 use Rattle.recipe.specs.Side.{cosAt}
-use Rattle.recipe.specs.Tables.{cosines, cosine16, side16}
-use Rattle.lines.specs.Halfcomplex.{frequencyOf, phaseOf, basisOf, basis}
-use Rattle.lines.specs.Fold.{foldedOf}
 use Rattle.lines.specs.DoubleForms.{forms-are}
-use Rattle.double_lines.proofs.even.Statement.{statement}
-use Rattle.double_lines.proofs.even.Tie as tie
+use Rattle.double_lines.proofs.even as of
 
 -- var 8 is 0
 abbrev results : List Form
@@ -30,9 +24,9 @@ results =
     let h = times 11585 (plus p q) in
     times 16384 (plus (plus a c) (plus b d)) ∷ plus m g ∷ times 16384 (minus a c) ∷ minus m g ∷ times 16384 (minus (plus a c) (plus b d)) ∷ minus (minus (var 8) n) h ∷ times 16384 (minus d b) ∷ minus n h ∷ []
 
-returns : tie.Need-returns
+returns : of.Tie.Need-returns
 unfolding tab sumZ foldedOf basisOf frequencyOf phaseOf cosAt side16 cosine16 cosines ofBits ofInt
 returns c s most e = forms-are 8 s most e results (tab 8 (λ i. sumE 8 (λ n. ring.var n ⊠ con (basis (2 * i) n)))) tt tt
 
-pub even-spec : {M : Type 1} → statement M
-even-spec = tie.close (tie.spec returns)
+pub even-spec : {M : Type 1} → of.Statement.statement M
+even-spec = of.Tie.close (of.Tie.spec returns)

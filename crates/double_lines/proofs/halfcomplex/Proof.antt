@@ -1,19 +1,17 @@
 -- `double_lines::halfcomplex`: the places of both lines are stored by fours.
-use Rattle.algebra.specs.Prelude.{_∙_, _-_, _*_, arith, needs, now}
+use Rattle.double_lines.specs.Prelude.{_∙_, _-_, _*_, arith, needs, now, halfcomplex}
 use Rattle.sequences.specs.TabLaws.{Filled, fill-start, fill-done}
-use Rattle.lines.specs.Halfcomplex.{halfcomplex}
 use Rattle.lines.specs.PairLines.{byFours, fours-turn, fours-are}
 use Rattle.double_lines.proofs.PairFolding.{sumsOf, differencesOf, lineOf, sums-most, differences-most, even-line, odd-line}
-use Rattle.double_lines.proofs.halfcomplex.Statement.{statement}
-use Rattle.double_lines.proofs.halfcomplex.Tie as tie
+use Rattle.double_lines.proofs.halfcomplex as of
 
-abbrev Inv-loop : tie.InvT-loop
+abbrev Inv-loop : of.Tie.InvT-loop
 Inv-loop x r₀ e0 e1 o0 o1 k₀ r k = Filled (byFours e0 e1 o0 o1) 32 (4 * k) r₀ r
 
-abbrev μ-loop : tie.MeasureT-loop
+abbrev μ-loop : of.Tie.MeasureT-loop
 μ-loop x r₀ e0 e1 o0 o1 k₀ r k = 8 - k
 
-loop-again : tie.Need-loop-again Inv-loop μ-loop
+loop-again : of.Tie.Need-loop-again Inv-loop μ-loop
 loop-again c =
     let o1 = c .before .before in
     let o0 = o1 .before .before in
@@ -21,7 +19,7 @@ loop-again c =
     let e0 = e1 .before .before in
     fours-turn (e0 .even-of .result) (e1 .even-of2 .result) (o0 .odd-of .result) (o1 .odd-of2 .result) 8 (c .before .loop .inv) (c .loop-test .taken)
 
-returns : tie.Need-returns Inv-loop μ-loop
+returns : of.Tie.Need-returns Inv-loop μ-loop
 returns c =
     let o1 = c .before .before in
     let o0 = o1 .before .before in
@@ -38,8 +36,8 @@ returns c =
     (o0 .odd-of .ensures (differencesOf x) (differences-most m) (t .differences .ensures) ∙ odd-line x 0)
     (o1 .odd-of2 .ensures (differencesOf x) (differences-most m) (t .differences .ensures) ∙ odd-line x 1)
 
-pub halfcomplex-spec : {M : Type 1} → statement M
-halfcomplex-spec = tie.close (tie.spec
+pub halfcomplex-spec : {M : Type 1} → of.Statement.statement M
+halfcomplex-spec = of.Tie.close (of.Tie.spec
     Inv-loop μ-loop (λ c κs. search needs) (λ c κs. search needs) (λ c κs. search needs) (λ c κs. search needs)
     (λ c κs. search needs) (λ c κs. search needs) (λ c. fill-start (omega arith))
     (λ c. search needs) (λ c. search needs) (λ c. search needs) (λ c. search needs) (λ c. search needs)

@@ -1,19 +1,13 @@
 -- `double_lines::odd`: eight places from the eight differences, by computed tests.
-use Rattle.algebra.specs.Prelude.{List, [], _∷_, _+_, _*_}
-use lib.Ieee.{ofBits, ofInt}
+use Rattle.double_lines.specs.Prelude.{List, [], _∷_, _+_, _*_, ofBits, ofInt, tab, cosines, cosine16, side16, frequencyOf, phaseOf, basisOf, basis, foldedOf}
 use Rattle.algebra.specs.Ring.{con, _⊠_}
 use Rattle.algebra.specs.Ring as ring
 use Rattle.algebra.specs.Sums.{sumZ}
 use Rattle.algebra.specs.Forms.{sumE}
-use Rattle.sequences.specs.Tab.{tab}
 use Rattle.floats.specs.Kernels.{Form, var, plus, minus, times}
 use Rattle.recipe.specs.Side.{cosAt}
-use Rattle.recipe.specs.Tables.{cosines, cosine16, side16}
-use Rattle.lines.specs.Halfcomplex.{frequencyOf, phaseOf, basisOf, basis}
-use Rattle.lines.specs.Fold.{foldedOf}
 use Rattle.lines.specs.DoubleForms.{forms-are}
-use Rattle.double_lines.proofs.odd.Statement.{statement}
-use Rattle.double_lines.proofs.odd.Tie as tie
+use Rattle.double_lines.proofs.odd as of
 
 -- var 8 is 0
 abbrev results : List Form
@@ -32,9 +26,9 @@ results =
     let w = minus (times 6270 f) (times 15137 h) in
     plus (plus a c) p ∷ plus (minus a c) q ∷ minus (minus a c) q ∷ minus (plus a c) p ∷ minus (minus (minus (var 8) e) g) u ∷ plus (minus e g) w ∷ plus (minus g e) w ∷ minus (plus e g) u ∷ []
 
-returns : tie.Need-returns
+returns : of.Tie.Need-returns
 unfolding tab sumZ foldedOf basisOf frequencyOf phaseOf cosAt side16 cosine16 cosines ofBits ofInt
 returns c t most e = forms-are 8 t most e results (tab 8 (λ i. sumE 8 (λ n. ring.var n ⊠ con (basis (2 * i + 1) n)))) tt tt
 
-pub odd-spec : {M : Type 1} → statement M
-odd-spec = tie.close (tie.spec returns)
+pub odd-spec : {M : Type 1} → of.Statement.statement M
+odd-spec = of.Tie.close (of.Tie.spec returns)

@@ -1,25 +1,23 @@
 -- `double_lines32::differences_again`: each number and the one half a line of sixteen further on.
-use Rattle.algebra.specs.Prelude.{refl, _∙_, _+_, _-_, arith, needs, getD}
-use lib.Ieee.{nan, binary64, sub}
+use Rattle.double_lines32.specs.Prelude.{refl, _∙_, _+_, _-_, arith, needs, getD, nan, binary64, sub}
 use Rattle.sequences.specs.TabLaws.{Filled, fill-start, fill-turn, fill-done}
 use Rattle.double_lines32.proofs.LongFolding.{less-are}
-use Rattle.double_lines32.proofs.differences_again.Statement.{statement}
-use Rattle.double_lines32.proofs.differences_again.Tie as tie
+use Rattle.double_lines32.proofs.differences_again as of
 
-abbrev Inv-loop : tie.InvT-loop
+abbrev Inv-loop : of.Tie.InvT-loop
 Inv-loop s r₀ i₀ r i = Filled (λ i. sub binary64 (getD s i nan) (getD s (i + 16) nan)) 16 i r₀ r
 
-abbrev μ-loop : tie.MeasureT-loop
+abbrev μ-loop : of.Tie.MeasureT-loop
 μ-loop s r₀ i₀ r i = 16 - i
 
-loop-again : tie.Need-loop-again Inv-loop μ-loop
+loop-again : of.Tie.Need-loop-again Inv-loop μ-loop
 loop-again c = fill-turn (c .before .before .before .loop .inv) (omega arith) refl
 
-returns : tie.Need-returns Inv-loop μ-loop
+returns : of.Tie.Need-returns Inv-loop μ-loop
 returns c z most e = fill-done (c .before .loop .inv) (omega arith) ∙ less-are z most e
 
-pub differences-again-spec : {M : Type 1} → statement M
-differences-again-spec = tie.close (tie.spec
+pub differences-again-spec : {M : Type 1} → of.Statement.statement M
+differences-again-spec = of.Tie.close (of.Tie.spec
     Inv-loop μ-loop (λ c. fill-start refl) (λ c. search needs) (λ c. search needs)
     (λ c. search needs) (λ c. search needs) (λ c. search needs) (λ c. search needs)
     (λ c. search needs) (λ c. search needs) (λ c. search needs) loop-again returns)

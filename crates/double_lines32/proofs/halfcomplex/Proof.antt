@@ -1,21 +1,18 @@
 -- `double_lines32::halfcomplex`: the places of both lines are stored by fours.
-use Rattle.algebra.specs.Prelude.{_∙_, _+_, _-_, _*_, arith, needs, now}
+use Rattle.double_lines32.specs.Prelude.{_∙_, _+_, _-_, _*_, arith, needs, now, side32, halfcomplexOf}
 use Rattle.sequences.specs.TabLaws.{Filled, fill-start, fill-done}
-use Rattle.recipe.specs.Tables32.{side32}
-use Rattle.lines.specs.Halfcomplex.{halfcomplexOf}
 use Rattle.lines.specs.PairLines.{byFours, fours-turn, fours-are}
 use Rattle.double_lines32.proofs.LongFolding.{sumsOf, differencesOf, lineOf, sums-most, differences-most, even-line, odd-line}
 use Rattle.double_lines32.specs.Parts.{Halved}
-use Rattle.double_lines32.proofs.halfcomplex.Statement.{statement}
-use Rattle.double_lines32.proofs.halfcomplex.Tie as tie
+use Rattle.double_lines32.proofs.halfcomplex as of
 
-abbrev Inv-loop : tie.InvT-loop
+abbrev Inv-loop : of.Tie.InvT-loop
 Inv-loop x r₀ e0 e1 o0 o1 k₀ r k = Filled (byFours e0 e1 o0 o1) 64 (4 * k) r₀ r
 
-abbrev μ-loop : tie.MeasureT-loop
+abbrev μ-loop : of.Tie.MeasureT-loop
 μ-loop x r₀ e0 e1 o0 o1 k₀ r k = 16 - k
 
-loop-holds : tie.Need-loop-holds Inv-loop μ-loop
+loop-holds : of.Tie.Need-loop-holds Inv-loop μ-loop
 loop-holds c =
     let o0 = c .before .before .before .before .before in
     let d1 = o0 .before .before .before .before .before in
@@ -25,7 +22,7 @@ loop-holds c =
     let a = e0 .before .before .before .before .before in
     fill-start (a .before .before .before .before .pre .1)
 
-loop-again : tie.Need-loop-again Inv-loop μ-loop
+loop-again : of.Tie.Need-loop-again Inv-loop μ-loop
 loop-again c =
     let o1 = c .before .before in
     let o0 = o1 .before .before .before .before .before in
@@ -36,7 +33,7 @@ loop-again c =
     let e0 = e1 .before .before .before in
     fours-turn (e0 .even-of .result) (e1 .even-of2 .result) (o0 .joined .result) (o1 .joined2 .result) 16 (c .before .loop .inv) (c .loop-test .taken)
 
-returns : tie.Need-returns Inv-loop μ-loop
+returns : of.Tie.Need-returns Inv-loop μ-loop
 returns c =
     let o1 = c .before .before in
     let o0 = o1 .before .before .before .before .before in
@@ -67,8 +64,8 @@ returns c =
     (o0 .joined .ensures (λ n. z (2 * n + 0)) (record { most = λ n. most (2 * n + 0); even-cosines = a0 .even-cosines .ensures z most is; odd-cosines = b0 .odd-cosines .ensures z most is; even-sines = c0 .even-sines .ensures z most is; odd-sines = d0 .odd-sines .ensures z most is }) ∙ odd-line x 0)
     (o1 .joined2 .ensures (λ n. z (2 * n + 1)) (record { most = λ n. most (2 * n + 1); even-cosines = a1 .even-cosines2 .ensures z most is; odd-cosines = b1 .odd-cosines2 .ensures z most is; even-sines = c1 .even-sines2 .ensures z most is; odd-sines = d1 .odd-sines2 .ensures z most is }) ∙ odd-line x 1)
 
-pub halfcomplex-spec : {M : Type 1} → statement M
-halfcomplex-spec = tie.close (tie.spec
+pub halfcomplex-spec : {M : Type 1} → of.Statement.statement M
+halfcomplex-spec = of.Tie.close (of.Tie.spec
     Inv-loop μ-loop
     (λ c κs. search needs) (λ c κs. search needs) (λ c κs. search needs) (λ c κs. search needs)
     (λ c κs. search needs) (λ c κs. search needs) (λ c κs. search needs) (λ c κs. search needs)

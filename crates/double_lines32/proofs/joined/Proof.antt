@@ -1,14 +1,13 @@
 -- `double_lines32::joined`: the places from the four parts.
 use Rattle.algebra.specs.Prelude.{needs}
 use Rattle.double_lines32.proofs.FourParts.{joined-are}
-use Rattle.double_lines32.proofs.joined.Statement.{statement}
-use Rattle.double_lines32.proofs.joined.Tie as tie
+use Rattle.double_lines32.proofs.joined as of
 
-returns : tie.Need-returns
+returns : of.Tie.Need-returns
 returns c z w = joined-are z (w .most) w
 
-pub joined-spec : {M : Type 1} → statement M
-joined-spec = tie.close (tie.spec
+pub joined-spec : {M : Type 1} → of.Statement.statement M
+joined-spec = of.Tie.close (of.Tie.spec
     (λ c. search needs) (λ c. search needs) (λ c. search needs) (λ c. search needs) (λ c. search needs) (λ c. search needs) (λ c. search needs) (λ c. search needs)
     (λ c. search needs) (λ c. search needs) (λ c. search needs) (λ c. search needs) (λ c. search needs) (λ c. search needs) (λ c. search needs) (λ c. search needs)
     (λ c. search needs) (λ c. search needs) (λ c. search needs) (λ c. search needs) (λ c. search needs) (λ c. search needs) (λ c. search needs) (λ c. search needs)

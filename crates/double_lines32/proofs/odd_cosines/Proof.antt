@@ -1,16 +1,7 @@
 -- `double_lines32::odd_cosines`: the odd numbers' part of the real parts, by computed tests.
-use Rattle.algebra.specs.Prelude.{List, [], _∷_, _+_, _*_, needs}
-use lib.Ieee.{ofBits, ofInt}
-use Rattle.algebra.specs.Sums.{sumZ}
-use Rattle.sequences.specs.Tab.{tab}
-use Rattle.floats.specs.Kernels.{Form, var, plus, minus, times}
-use Rattle.recipe.specs.Side.{cosAt}
-use Rattle.recipe.specs.Tables32.{cosines32, cosine32, side32}
-use Rattle.lines.specs.Halfcomplex.{frequencyOf, phaseOf, basisOf}
-use Rattle.lines.specs.Fold.{foldedOf, everySecond}
+use Rattle.double_lines32.specs.Prelude.{List, [], _∷_, _+_, _*_, needs, ofBits, ofInt, sumZ, tab, Form, var, plus, minus, times, cosAt, cosines32, cosine32, side32, frequencyOf, phaseOf, basisOf, foldedOf, everySecond}
 use Rattle.double_lines32.proofs.FourParts.{partE, line-are}
-use Rattle.double_lines32.proofs.odd_cosines.Statement.{statement}
-use Rattle.double_lines32.proofs.odd_cosines.Tie as tie
+use Rattle.double_lines32.proofs.odd_cosines as of
 
 abbrev results : List Form
 results =
@@ -20,14 +11,14 @@ results =
     let f = minus (var 9) (var 7) in
     minus (plus (minus (times 16069 b) (times 9102 e)) (times 13623 d)) (times 3196 f) ∷ plus (plus (minus (times 13623 b) (times 3196 d)) (times 16069 e)) (times 9102 f) ∷ minus (minus (minus (times 9102 b) (times 16069 d)) (times 3196 e)) (times 13623 f) ∷ plus (minus (minus (times 3196 b) (times 9102 d)) (times 13623 e)) (times 16069 f) ∷ []
 
-returns : tie.Need-returns
+returns : of.Tie.Need-returns
 unfolding tab sumZ foldedOf everySecond basisOf frequencyOf phaseOf cosAt side32 cosine32 cosines32 ofBits ofInt
 returns c z most e =
     let s = c .before .before .before .before .before .before .before .before in
     line-are (s .args .p) (s .pre) z most e results (tab 4 (λ i. partE 1 (2 * i + 1))) tt tt
 
-pub odd-cosines-spec : {M : Type 1} → statement M
-odd-cosines-spec = tie.close (tie.spec
+pub odd-cosines-spec : {M : Type 1} → of.Statement.statement M
+odd-cosines-spec = of.Tie.close (of.Tie.spec
     (λ c. search needs) (λ c. search needs) (λ c. search needs) (λ c. search needs) (λ c. search needs) (λ c. search needs)
     (λ c. search needs) (λ c. search needs) (λ c. search needs) (λ c. search needs) (λ c. search needs) (λ c. search needs)
     (λ c. search needs) (λ c. search needs) (λ c. search needs) (λ c. search needs) (λ c. search needs) (λ c. search needs)

@@ -1,27 +1,25 @@
 -- `double_lines32::sums`: each number and the one half a line further on.
-use Rattle.algebra.specs.Prelude.{refl, _-_, arith, needs}
-use lib.Ieee.{binary64, ofInt}
+use Rattle.double_lines32.specs.Prelude.{refl, _-_, arith, needs, binary64, ofInt}
 use Rattle.sequences.specs.TabLaws.{Filled, fill-start, fill-turn, fill-done}
 use Rattle.double_lines32.proofs.LongFolding.{sumsOf, pair-sum}
-use Rattle.double_lines32.proofs.sums.Statement.{statement}
-use Rattle.double_lines32.proofs.sums.Tie as tie
+use Rattle.double_lines32.proofs.sums as of
 
-abbrev Inv-loop : tie.InvT-loop
+abbrev Inv-loop : of.Tie.InvT-loop
 Inv-loop x r₀ i₀ r i = Filled (λ i. ofInt binary64 (sumsOf x i)) 32 i r₀ r
 
-abbrev μ-loop : tie.MeasureT-loop
+abbrev μ-loop : of.Tie.MeasureT-loop
 μ-loop x r₀ i₀ r i = 32 - i
 
-loop-again : tie.Need-loop-again Inv-loop μ-loop
+loop-again : of.Tie.Need-loop-again Inv-loop μ-loop
 loop-again c =
     let l = c .before .before .before .before .before in
     fill-turn (l .loop .inv) (omega arith) (pair-sum (l .before .pre) (l .loop .i))
 
-returns : tie.Need-returns Inv-loop μ-loop
+returns : of.Tie.Need-returns Inv-loop μ-loop
 returns c = fill-done (c .before .loop .inv) (omega arith)
 
-pub sums-spec : {M : Type 1} → statement M
-sums-spec = tie.close (tie.spec
+pub sums-spec : {M : Type 1} → of.Statement.statement M
+sums-spec = of.Tie.close (of.Tie.spec
     Inv-loop μ-loop (λ c. fill-start refl) (λ c. search needs) (λ c. search needs)
     (λ c. search needs) (λ c. search needs) (λ c. search needs) (λ c. search needs)
     (λ c. search needs) (λ c. search needs) (λ c. search needs) (λ c. search needs)

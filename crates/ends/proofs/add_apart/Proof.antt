@@ -1,64 +1,59 @@
 -- B, both G, their widths, their inverse sums, and P of both ends.
-use Rattle.algebra.specs.Prelude.{_≡_, refl, _∙_, false, ℕ, ℤ, pos, now}
-use lib.Ieee.{binary64, ofBits}
-use Rattle.sequences.specs.Tab.{tab}
-use Rattle.sequences.specs.Grid.{grid, cell}
-use Rattle.spectrum.specs.Pairs.{doubles}
+use Rattle.ends.specs.Prelude.{_≡_, refl, _∙_, false, ℕ, ℤ, pos, now, binary64, ofBits, tab, grid, cell, doubles}
 use Rattle.pairs.proofs.ColumnLaws.{paired-grid}
 use Rattle.pairs.proofs.Passes.{columns-whole}
 use Rattle.pairs.proofs.Corrections.{binned-pair}
 use Rattle.ends.proofs.Planes.{gains, gains-whole, greatest-here, least-here, plus-ext}
-use Rattle.ends.proofs.add_apart.Statement.{statement}
-use Rattle.ends.proofs.add_apart.Tie as tie
+use Rattle.ends.proofs.add_apart as of
 
 -- the differences
-abbrev differences : tie.Start → ℕ → ℕ → ℤ
+abbrev differences : of.Tie.Start → ℕ → ℕ → ℤ
 differences s = cell (pos 0) (now (s .args .d))
 
 -- both G, folded
-low-is : (c : tie.After-wiener-of) → let s = c .before .before .before .before in c .wiener-of .result ≡ doubles (gains (s .args .lower) (s .pre .lower-fits) (differences s))
+low-is : (c : of.Tie.After-wiener-of) → let s = c .before .before .before .before in c .wiener-of .result ≡ doubles (gains (s .args .lower) (s .pre .lower-fits) (differences s))
 low-is c =
     let f = c .before .before in
     let s = f .before .before in
     c .wiener-of .ensures (binned-pair (s .pre .differences) (f .forward-into .ensures))
 
-high-is : (c : tie.After-wiener-of2) → let s = c .before .before .before .before .before .before in c .wiener-of2 .result ≡ doubles (gains (s .args .upper) (s .pre .upper-fits) (differences s))
+high-is : (c : of.Tie.After-wiener-of2) → let s = c .before .before .before .before .before .before in c .wiener-of2 .result ≡ doubles (gains (s .args .upper) (s .pre .upper-fits) (differences s))
 high-is c =
     let f = c .before .before .before .before in
     let s = f .before .before in
     c .wiener-of2 .ensures (binned-pair (s .pre .differences) (f .forward-into .ensures))
 
-forward-into-requires : tie.Need-forward-into-requires
+forward-into-requires : of.Tie.Need-forward-into-requires
 unfolding grid tab
 forward-into-requires c κs = (c .before .pre .differences, paired-grid (λ k l. ofBits binary64 0) refl)
 
-wiener-of-requires : tie.Need-wiener-of-requires
+wiener-of-requires : of.Tie.Need-wiener-of-requires
 wiener-of-requires c κs =
     let f = c .before in
     let p = f .before .before .pre in
     record { binned = binned-pair (p .differences) (f .forward-into .ensures); first-most = p .lower-fits .first-most; second-most = p .lower-fits .second-most }
 
-wiener-of-requires-2 : tie.Need-wiener-of-requires-2
+wiener-of-requires-2 : of.Tie.Need-wiener-of-requires-2
 wiener-of-requires-2 c κs =
     let f = c .before .before .before in
     let p = f .before .before .pre in
     record { binned = binned-pair (p .differences) (f .forward-into .ensures); first-most = p .upper-fits .first-most; second-most = p .upper-fits .second-most }
 
-widths-of-requires : tie.Need-widths-of-requires
+widths-of-requires : of.Tie.Need-widths-of-requires
 widths-of-requires c κs =
     let h = c .before .before in
     let s = h .before .before .before .before .before .before in
     (gains-whole _ (s .pre .lower-fits) (differences s) (low-is (h .before .before)), gains-whole _ (s .pre .upper-fits) (differences s) (high-is h))
 
-back-requires : tie.Need-back-requires
+back-requires : of.Tie.Need-back-requires
 unfolding doubles
 back-requires c κs = paired-grid _ (low-is (c .before .before .before .before .before .before))
 
-back-requires-2 : tie.Need-back-requires-2
+back-requires-2 : of.Tie.Need-back-requires-2
 unfolding doubles
 back-requires-2 c κs = paired-grid _ (high-is (c .before .before .before .before .before .before))
 
-add-lines-requires : tie.Need-add-lines-requires
+add-lines-requires : of.Tie.Need-add-lines-requires
 add-lines-requires c κs =
     let r = c .before .before .before .before .before in
     let o = r .before .before in
@@ -74,7 +69,7 @@ add-lines-requires c κs =
       leasts = p .leasts;
     }
 
-returns : tie.Need-returns
+returns : of.Tie.Need-returns
 returns c =
     let r = c .before .before .before .before .before .before in
     let o = r .before .before in
@@ -93,6 +88,6 @@ returns c =
       least-is = c .add-lines .ensures .least-is ∙ plus-ext _ _ _ (least-here (a .lower) (a .upper) (p .lower-fits) (p .upper-fits) (now (a .d)) low high widths low-back high-back);
     }
 
-pub add-apart-spec : {M : Type 1} → statement M
-add-apart-spec = tie.close (tie.spec
+pub add-apart-spec : {M : Type 1} → of.Statement.statement M
+add-apart-spec = of.Tie.close (of.Tie.spec
     forward-into-requires wiener-of-requires wiener-of-requires-2 widths-of-requires back-requires back-requires-2 add-lines-requires returns)

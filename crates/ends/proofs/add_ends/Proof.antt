@@ -1,17 +1,16 @@
 -- Equal ends are the recipe's P.
 use Rattle.algebra.specs.Prelude.{needs}
 use Rattle.ends.proofs.Planes.{ends-equal}
-use Rattle.ends.proofs.add_ends.Statement.{statement}
-use Rattle.ends.proofs.add_ends.Tie as tie
+use Rattle.ends.proofs.add_ends as of
 
-add-same-requires : tie.Need-add-same-requires
+add-same-requires : of.Tie.Need-add-same-requires
 add-same-requires c κs =
     let p = c .before .before .before .before .pre in
     record { differences = p .differences; lower-fits = p .lower-fits; upper-fits = p .lower-fits; greatests = p .greatests; leasts = p .leasts }
 
-returns : tie.Need-returns
+returns : of.Tie.Need-returns
 returns c = let t = c .before .before .before in ends-equal (t .before .same .ensures (t .if1 .taken)) (c .add-same .ensures)
 
-pub add-ends-spec : {M : Type 1} → statement M
-add-ends-spec = tie.close (tie.spec
+pub add-ends-spec : {M : Type 1} → of.Statement.statement M
+add-ends-spec = of.Tie.close (of.Tie.spec
     (λ c κs. search needs) add-same-requires returns (λ c κs. c .before .before .before .before .pre) (λ c. c .add-apart .ensures))

@@ -1,25 +1,21 @@
 -- P, added to zeros, is added to both sums.
-use Rattle.algebra.specs.Prelude.{refl, _∙_, ℕ, _+_, _*_, _/_, _%_, _^_, _≤_, ℤ, pos, natAbs, now}
+use Rattle.ends.specs.Prelude.{refl, _∙_, ℕ, _+_, _*_, _/_, _%_, _^_, _≤_, ℤ, pos, natAbs, now, tab, grid, correctionMost}
 use Prim.Native.Nat.{zero-le}
-use Rattle.sequences.specs.Tab.{tab}
-use Rattle.sequences.specs.Grid.{grid}
 use Rattle.lines.specs.Tiles.{cells-most}
-use Rattle.spectrum.specs.Magnitudes.{correctionMost}
 use Rattle.spectrum.specs.SizeLaws.{correction-most}
 use Rattle.pairs.proofs.ColumnLaws.{paired-grid}
 use Rattle.grain.proofs.PairLaws.{table-most}
 use Rattle.ends.proofs.Planes.{pairP, greatest-equal, least-equal, plus-ext, added-most, added-is}
-use Rattle.ends.proofs.add_same.Statement.{statement}
-use Rattle.ends.proofs.add_same.Tie as tie
+use Rattle.ends.proofs.add_same as of
 
 -- P
-abbrev part : tie.Start → ℕ → ℕ → ℤ
+abbrev part : of.Tie.Start → ℕ → ℕ → ℤ
 part s = pairP (now (s .args .d)) (s .args .noises)
 
-part-most : (s : tie.Start) (y l : ℕ) → natAbs (part s y l) ≤ correctionMost
+part-most : (s : of.Tie.Start) (y l : ℕ) → natAbs (part s y l) ≤ correctionMost
 part-most s y l = correction-most _ _ (λ y x. cells-most (s .pre .differences) y (2 * x + l % 2)) y (l / 2)
 
-add-corrections-requires : tie.Need-add-corrections-requires
+add-corrections-requires : of.Tie.Need-add-corrections-requires
 unfolding grid tab
 add-corrections-requires c κs =
     let p = c .before .pre in
@@ -31,21 +27,21 @@ add-corrections-requires c κs =
       paired = paired-grid (λ y l. pos 0) refl;
     }
 
-add-pair-requires : tie.Need-add-pair-requires
+add-pair-requires : of.Tie.Need-add-pair-requires
 unfolding grid tab
 add-pair-requires c κs =
     let a = c .before .before in
     let s = a .before .before in
     record { part = added-most (part s) (a .add-corrections .ensures) correctionMost (part-most s); sums = s .pre .greatests }
 
-add-pair-requires-2 : tie.Need-add-pair-requires-2
+add-pair-requires-2 : of.Tie.Need-add-pair-requires-2
 unfolding grid tab
 add-pair-requires-2 c κs =
     let a = c .before .before .before .before .before in
     let s = a .before .before in
     record { part = added-most (part s) (a .add-corrections .ensures) correctionMost (part-most s); sums = s .pre .leasts }
 
-returns : tie.Need-returns
+returns : of.Tie.Need-returns
 unfolding grid tab
 returns c =
     let g = c .before .before .before in
@@ -59,5 +55,5 @@ returns c =
       least-is = c .add-pair2 .ensures ∙ is _ ∙ plus-ext _ _ _ (λ y l h k. least-equal d v y l);
     }
 
-pub add-same-spec : {M : Type 1} → statement M
-add-same-spec = tie.close (tie.spec add-corrections-requires add-pair-requires add-pair-requires-2 returns)
+pub add-same-spec : {M : Type 1} → of.Statement.statement M
+add-same-spec = of.Tie.close (of.Tie.spec add-corrections-requires add-pair-requires add-pair-requires-2 returns)

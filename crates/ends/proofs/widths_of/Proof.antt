@@ -1,14 +1,10 @@
 -- The distances are stored one row after the other, and weighed.
-use Rattle.algebra.specs.Prelude.{_≡_, refl, sym, ap, subst, _∙_, [], ℕ, _-_, _<_, arith, needs, getD, length, now}
-use Rattle.sequences.specs.Tab.{tab}
+use Rattle.ends.specs.Prelude.{_≡_, refl, sym, ap, subst, _∙_, [], ℕ, _-_, _<_, arith, needs, getD, length, now, tab, grid, TileMost}
 use Rattle.sequences.specs.TabLaws.{Filled, fill-start, fill-turn, fill-rest, fill-done, getD-tab, length-tab}
-use Rattle.sequences.specs.Grid.{grid}
-use Rattle.lines.specs.Lines.{TileMost}
 use Rattle.ends.specs.Factors.{apartMost, distanceRe, distanceIm}
 use Rattle.ends.proofs.Tables.{factored, distant, distance-re-most, distance-im-most, pair-width-most, width-tile}
 use Rattle.ends.proofs.Planes.{apart-most, widths-are}
-use Rattle.ends.proofs.widths_of.Statement.{statement}
-use Rattle.ends.proofs.widths_of.Tie as tie
+use Rattle.ends.proofs.widths_of as of
 
 -- a row of zeros
 abbrev none : ℕ → ℕ
@@ -18,13 +14,13 @@ zeros-long : (u : ℕ) → u < 16 → length (getD (grid 16 18 (λ u. none)) u [
 unfolding grid
 zeros-long u h = ap length (getD-tab (λ u. tab 18 none) [] 16 u h) ∙ length-tab none 18
 
-abbrev Inv-loop : tie.InvT-loop
+abbrev Inv-loop : of.Tie.InvT-loop
 Inv-loop low high w re₀ im₀ u₀ re im u = (Filled (λ u. tab 18 (distanceRe w u)) 16 u re₀ re) × (Filled (λ u. tab 18 (distanceIm w u)) 16 u im₀ im)
 
-abbrev μ-loop : tie.MeasureT-loop
+abbrev μ-loop : of.Tie.MeasureT-loop
 μ-loop low high w re₀ im₀ u₀ re im u = 16 - u
 
-distance-row-requires : tie.Need-distance-row-requires Inv-loop μ-loop
+distance-row-requires : of.Tie.Need-distance-row-requires Inv-loop μ-loop
 unfolding grid tab
 distance-row-requires c κs =
     let l = c .before .before .before .before in
@@ -37,12 +33,12 @@ distance-row-requires c κs =
       im-long = ap length (fill-rest (l .loop .inv .1) (omega arith) []) ∙ zeros-long (l .loop .u) (omega arith);
     }
 
-loop-again : tie.Need-loop-again Inv-loop μ-loop
+loop-again : of.Tie.Need-loop-again Inv-loop μ-loop
 loop-again c =
     let l = c .before .before .before .before .before in
     (fill-turn (l .loop .inv .0) (omega arith) (c .distance-row .ensures .0), fill-turn (l .loop .inv .1) (omega arith) (c .distance-row .ensures .1))
 
-widths-requires : tie.Need-widths-requires Inv-loop μ-loop
+widths-requires : of.Tie.Need-widths-requires Inv-loop μ-loop
 unfolding grid
 widths-requires c κs =
     let f = c .before .before .before in
@@ -55,7 +51,7 @@ widths-requires c κs =
       im-most = distant (distanceIm (a .apart-pair .result)) (distance-im-most m) (fill-done (l .loop .inv .1) (omega arith));
     }
 
-returns : tie.Need-returns Inv-loop μ-loop
+returns : of.Tie.Need-returns Inv-loop μ-loop
 unfolding grid
 returns c =
     let f = c .before .before .before .before in
@@ -71,8 +67,8 @@ returns c =
       width-tile _ (pair-width-most (factored (f .factors .ensures)) n o) (c .widths .ensures),
     )
 
-pub widths-of-spec : {M : Type 1} → statement M
-widths-of-spec = tie.close (tie.spec
+pub widths-of-spec : {M : Type 1} → of.Statement.statement M
+widths-of-spec = of.Tie.close (of.Tie.spec
     Inv-loop μ-loop (λ c κs. c .pre) (λ c. (fill-start refl, fill-start refl)) (λ c. search needs) (λ c. search needs)
     (λ c. search needs) (λ c. search needs) distance-row-requires (λ c. search needs) (λ c. search needs) loop-again
     (λ c κs. search needs) widths-requires returns)

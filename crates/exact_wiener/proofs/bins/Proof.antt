@@ -1,24 +1,22 @@
 -- `exact_wiener::bins`: the definition's own kinds.
-use Rattle.algebra.specs.Prelude.{sym, arith, needs}
+use Rattle.exact_wiener.specs.Prelude.{sym, arith, needs, binsIn}
 use Rattle.spectrum.specs.QuadLaws.{is-top, is-left, is-inner}
-use Rattle.quads.specs.Lanes.{binsIn}
-use Rattle.exact_wiener.proofs.bins.Statement.{statement}
-use Rattle.exact_wiener.proofs.bins.Tie as tie
+use Rattle.exact_wiener.proofs.bins as of
 
-returns : tie.Need-returns
+returns : of.Tie.Need-returns
 unfolding binsIn
 returns c = sym (is-top _ _ _ _ _ (omega arith))
 
-returns-2 : tie.Need-returns-2
+returns-2 : of.Tie.Need-returns-2
 unfolding binsIn
 returns-2 c = sym (is-left _ _ _ _ _ (omega arith) (omega arith))
 
-returns-3 : tie.Need-returns-3
+returns-3 : of.Tie.Need-returns-3
 unfolding binsIn
 returns-3 c = sym (is-inner _ _ _ _ _ (omega arith) (omega arith))
 
-pub bins-spec : {M : Type 1} → statement M
-bins-spec = tie.close (tie.spec
+pub bins-spec : {M : Type 1} → of.Statement.statement M
+bins-spec = of.Tie.close (of.Tie.spec
     (λ c. search needs) (λ c. search needs) (λ c. search needs) (λ c. search needs) returns
     (λ c. search needs) (λ c. search needs) (λ c. search needs) (λ c. search needs) returns-2
     (λ c. search needs) (λ c. search needs) (λ c. search needs) (λ c. search needs)

@@ -1,20 +1,17 @@
 -- `exact_wiener::gains`: the definition's own steps.
-use Rattle.algebra.specs.Prelude.{ap₂, _∙_, [], _∷_, needs, w64}
-use lib.Ieee.{binary64, ofInt}
+use Rattle.exact_wiener.specs.Prelude.{ap₂, _∙_, [], _∷_, needs, w64, binary64, ofInt, exactGainsBy}
 use Rattle.lines.specs.Held.{number-is}
 use Rattle.recipe.specs.Correction.{wiener}
-use Rattle.bins.specs.Doubles.{exactGainsBy}
 use Rattle.bins.specs.ExactLaws.{held-counted}
-use Rattle.exact_wiener.proofs.gains.Statement.{statement}
-use Rattle.exact_wiener.proofs.gains.Tie as tie
+use Rattle.exact_wiener.proofs.gains as of
 
-int-to-float-t8 : tie.Need-int-to-float-t8
+int-to-float-t8 : of.Tie.Need-int-to-float-t8
 int-to-float-t8 c = held-counted (c .before .before .wiener-part .ensures .1)
 
-int-to-float-t9 : tie.Need-int-to-float-t9
+int-to-float-t9 : of.Tie.Need-int-to-float-t9
 int-to-float-t9 c = held-counted (c .before .before .wiener-part2 .ensures .1)
 
-returns : tie.Need-returns
+returns : of.Tie.Need-returns
 unfolding exactGainsBy
 returns c =
     let h = c .before .before in
@@ -28,7 +25,7 @@ returns c =
     (number-is w64 (g .wiener-part .ensures .1) tt ∙ g .wiener-part .ensures .0 ∙ ap₂ (wiener (s .args .noise)) a b)
     (number-is w64 (h .wiener-part2 .ensures .1) tt ∙ h .wiener-part2 .ensures .0 ∙ ap₂ (wiener (s .args .noise)) b a)
 
-pub gains-spec : {M : Type 1} → statement M
-gains-spec = tie.close (tie.spec
+pub gains-spec : {M : Type 1} → of.Statement.statement M
+gains-spec = of.Tie.close (of.Tie.spec
     (λ c κs. search needs) (λ c κs. search needs) (λ c κs. search needs) (λ c κs. search needs)
     int-to-float-t8 int-to-float-t9 returns)

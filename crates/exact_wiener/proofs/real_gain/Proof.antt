@@ -1,18 +1,15 @@
 -- `exact_wiener::real_gain`: the other part is 0.
-use Rattle.algebra.specs.Prelude.{refl, ap, needs, pos}
+use Rattle.exact_wiener.specs.Prelude.{refl, ap, needs, pos, ofBits, ofInt, numberOf}
 use Prim.Native.Nat.{zero-le}
-use lib.Ieee.{ofBits, ofInt}
-use Rattle.quads.specs.Lanes.{numberOf}
-use Rattle.exact_wiener.proofs.real_gain.Statement.{statement}
-use Rattle.exact_wiener.proofs.real_gain.Tie as tie
+use Rattle.exact_wiener.proofs.real_gain as of
 
-gains-requires : tie.Need-gains-requires
+gains-requires : of.Tie.Need-gains-requires
 unfolding ofBits ofInt
 gains-requires c κs = record { noise-most = c .pre .0; first = c .pre .1; second = record { number = pos 0; most = zero-le; is = refl } }
 
-returns : tie.Need-returns
+returns : of.Tie.Need-returns
 unfolding ofBits ofInt
 returns c = ap (λ g. numberOf g 0) (c .gains .ensures)
 
-pub real-gain-spec : {M : Type 1} → statement M
-real-gain-spec = tie.close (tie.spec gains-requires (λ c. search needs) returns)
+pub real-gain-spec : {M : Type 1} → of.Statement.statement M
+real-gain-spec = of.Tie.close (of.Tie.spec gains-requires (λ c. search needs) returns)

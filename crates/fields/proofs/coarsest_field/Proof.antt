@@ -1,45 +1,39 @@
 -- Each turn writes a tile's vector behind the images, which stay as they were.
-use Rattle.geometry.specs.Tiles.{level3}
+use Rattle.fields.specs.Prelude.{level3, searchRows, tileRowsMost, levelTile, coarsest, pairIn, ap, _∙_, _-_, _*_, _/_, _%_, arith, needs, lit≤}
 use Rattle.pyramid.specs.WordsLaws.{Kept, writing-kept}
 use Rattle.search.specs.VectorLaws.{within-more}
 use Rattle.sequences.specs.Sum.{Summed, sum-start, sum-turn, sum-done, sum-most}
 use Rattle.search.specs.Vectors.{still}
-use Rattle.search.specs.Rows.{searchRows}
-use Rattle.levels.specs.Magnitudes.{tileRowsMost}
-use Rattle.levels.specs.Fields.{levelTile, coarsest}
 use Rattle.fields.specs.LevelSums.{coarsestRows}
 use Rattle.fields.proofs.Placing.{Placing, place-start, place-turn, place-done}
-use Rattle.matching.specs.Stored.{pairIn}
 use Rattle.fields.specs.LoopLaws.{tiles-few, place-few, kept-stored, kept-pair}
-use Rattle.algebra.specs.Prelude.{ap, _∙_, _-_, _*_, _/_, _%_, arith, needs, lit≤}
-use Rattle.fields.proofs.coarsest_field.Statement.{statement}
-use Rattle.fields.proofs.coarsest_field.Tie as tie
+use Rattle.fields.proofs.coarsest_field as of
 
-abbrev Inv-loop : tie.InvT-loop
+abbrev Inv-loop : of.Tie.InvT-loop
 Inv-loop work₀ area to rows columns summed₀ k₀ k-end work summed k = Placing work₀ to columns (rows * columns) (coarsest level3 (pairIn work₀ area)) k work × Summed (λ k. searchRows (level3 .squared) (pairIn work₀ area) (levelTile level3 (k / columns) (k % columns)) still) tileRowsMost (rows * columns) k summed
 
-abbrev μ-loop : tie.MeasureT-loop
+abbrev μ-loop : of.Tie.MeasureT-loop
 μ-loop work₀ area to rows columns summed₀ k₀ k-end work summed k = rows * columns - k
 
 -- what the turn finds in the work area as it is
-kept : (c : tie.In-loop Inv-loop μ-loop) → Kept (c .before .before .args .work .now) (c .before .before .args .to) (c .before .loop .work)
+kept : (c : of.Tie.In-loop Inv-loop μ-loop) → Kept (c .before .before .args .work .now) (c .before .before .args .to) (c .before .loop .work)
 kept c = writing-kept (c .before .loop .inv .0 .writing)
 
-add-summed : tie.Need-add-summed Inv-loop μ-loop
+add-summed : of.Tie.Need-add-summed Inv-loop μ-loop
 add-summed c =
     let l = c .before .before .before .before .before .before .before .before in
     let s = l .before in
     omega (arith, l .loop .inv .1 .most, c .before .before .before .before .before .coarsest-tile .ensures .few, tiles-few (s .pre .few))
 
-coarsest-tile-requires : tie.Need-coarsest-tile-requires Inv-loop μ-loop
+coarsest-tile-requires : of.Tie.Need-coarsest-tile-requires Inv-loop μ-loop
 coarsest-tile-requires c κs = let s = c .before .before .before in
     let at = place-few (s .pre .few) (c .before .before .loop .k) (c .before .loop-test .taken) in
     record { stored = kept-stored (kept (c .before)) (s .args .area) (s .pre .stored) (s .pre .before); row-most = at .0; column-most = at .1 }
 
-put-requires : tie.Need-put-requires Inv-loop μ-loop
+put-requires : of.Tie.Need-put-requires Inv-loop μ-loop
 put-requires c κs = (omega arith, within-more 340 (c .before .before .coarsest-tile .ensures .near) (lit≤ tt))
 
-loop-again : tie.Need-loop-again Inv-loop μ-loop
+loop-again : of.Tie.Need-loop-again Inv-loop μ-loop
 loop-again c = let t = c .before .before .before .before .before in
     let i = t .before .before in
     let a = i .before .before .args in
@@ -50,15 +44,15 @@ loop-again c = let t = c .before .before .before .before .before in
       sum-turn (i .before .loop .inv .1) (i .loop-test .taken) (ap (λ r. r .rows) (t .coarsest-tile .ensures .is) ∙ ap (λ p. searchRows (level3 .squared) p (levelTile level3 (k / a .columns) (k % a .columns)) still) same) (t .coarsest-tile .ensures .few),
     )
 
-returns : tie.Need-returns Inv-loop μ-loop
+returns : of.Tie.Need-returns Inv-loop μ-loop
 unfolding coarsestRows
 returns c =
     let s = c .before .before in
     let l = c .before .loop .inv in
     record { vectors = place-done (l .0) (c .loop-test .left); rows-are = sum-done (l .1) (c .loop-test .left); few = omega (arith, sum-most (l .1) (c .loop-test .left), tiles-few (s .pre .few)) }
 
-pub coarsest-field-spec : {M : Type 1} → statement M
-coarsest-field-spec = tie.close (tie.spec
+pub coarsest-field-spec : {M : Type 1} → of.Statement.statement M
+coarsest-field-spec = of.Tie.close (of.Tie.spec
     Inv-loop μ-loop (λ c. search needs) (λ c. (place-start (c .pre .room), sum-start)) (λ c. search needs)
     (λ c. search needs) coarsest-tile-requires (λ c. search needs) (λ c. search needs) put-requires
     add-summed (λ c. search needs) (λ c. search needs) loop-again (λ c. search needs) returns)

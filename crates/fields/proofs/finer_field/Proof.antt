@@ -1,37 +1,31 @@
 -- Each turn writes a tile's vector behind the images and the coarse vectors, which stay as they were.
 use Rattle.pyramid.specs.WordsLaws.{Kept, writing-kept}
 use Rattle.sequences.specs.Sum.{Summed, sum-start, sum-turn, sum-done, sum-most}
-use Rattle.search.specs.Rows.{candidateRows}
-use Rattle.levels.specs.Magnitudes.{tileRowsMost}
-use Rattle.levels.specs.Fields.{levelAt, levelTile, fromCoarse, finer}
+use Rattle.fields.specs.Prelude.{candidateRows, tileRowsMost, levelAt, levelTile, fromCoarse, finer, pairIn, fieldAt, guessFrom, ap, _∙_, _-_, _*_, _/_, _%_, arith, needs}
 use Rattle.fields.specs.LevelSums.{finerRows}
 use Rattle.levels.specs.Steps.{stepTo}
 use Rattle.fields.proofs.Placing.{Placing, place-start, place-turn, place-done}
 use Rattle.levels.specs.FieldLaws.{from-coarse-agree, finer-agree}
-use Rattle.matching.specs.Stored.{pairIn}
 use Rattle.fields.specs.LoopLaws.{tiles-few, place-few, kept-stored, kept-pair, kept-vectors, kept-field}
-use Rattle.levels.specs.Grids.{fieldAt, guessFrom}
-use Rattle.algebra.specs.Prelude.{ap, _∙_, _-_, _*_, _/_, _%_, arith, needs}
-use Rattle.fields.proofs.finer_field.Statement.{statement}
-use Rattle.fields.proofs.finer_field.Tie as tie
+use Rattle.fields.proofs.finer_field as of
 
-abbrev Inv-loop : tie.InvT-loop
+abbrev Inv-loop : of.Tie.InvT-loop
 Inv-loop work₀ area side level coarse to rows columns summed₀ k₀ k-end work summed k = Placing work₀ to columns (rows * columns) (finer (levelAt side level) (stepTo side level) (coarse .rows) (coarse .columns) (pairIn work₀ area) (fieldAt work₀ (coarse .at) (coarse .columns))) k work × Summed (λ k. candidateRows (levelAt side level .squared) (pairIn work₀ area) (levelTile (levelAt side level) (k / columns) (k % columns)) (guessFrom side level work₀ area coarse (levelTile (levelAt side level) (k / columns) (k % columns)) (k / columns) (k % columns))) tileRowsMost (rows * columns) k summed
 
-abbrev μ-loop : tie.MeasureT-loop
+abbrev μ-loop : of.Tie.MeasureT-loop
 μ-loop work₀ area side level coarse to rows columns summed₀ k₀ k-end work summed k = rows * columns - k
 
 -- what the turn finds in the work area as it is
-kept : (c : tie.In-loop Inv-loop μ-loop) → Kept (c .before .before .args .work .now) (c .before .before .args .to) (c .before .loop .work)
+kept : (c : of.Tie.In-loop Inv-loop μ-loop) → Kept (c .before .before .args .work .now) (c .before .before .args .to) (c .before .loop .work)
 kept c = writing-kept (c .before .loop .inv .0 .writing)
 
-add-summed : tie.Need-add-summed Inv-loop μ-loop
+add-summed : of.Tie.Need-add-summed Inv-loop μ-loop
 add-summed c =
     let l = c .before .before .before .before .before .before .before .before in
     let s = l .before in
     omega (arith, l .loop .inv .1 .most, c .before .before .before .before .before .finer-tile .ensures .few, tiles-few (s .pre .fits .few))
 
-finer-tile-requires : tie.Need-finer-tile-requires Inv-loop μ-loop
+finer-tile-requires : of.Tie.Need-finer-tile-requires Inv-loop μ-loop
 finer-tile-requires c κs = let s = c .before .before .before in
     let at = place-few (s .pre .fits .few) (c .before .before .loop .k) (c .before .loop-test .taken) in
     record {
@@ -43,10 +37,10 @@ finer-tile-requires c κs = let s = c .before .before .before in
       column-most = at .1;
     }
 
-put-requires : tie.Need-put-requires Inv-loop μ-loop
+put-requires : of.Tie.Need-put-requires Inv-loop μ-loop
 put-requires c κs = (omega arith, c .before .before .finer-tile .ensures .near)
 
-loop-again : tie.Need-loop-again Inv-loop μ-loop
+loop-again : of.Tie.Need-loop-again Inv-loop μ-loop
 loop-again c = let t = c .before .before .before .before .before in
     let i = t .before .before in
     let s = i .before .before in
@@ -69,15 +63,15 @@ loop-again c = let t = c .before .before .before .before .before in
       sum-turn (i .before .loop .inv .1) (i .loop-test .taken) n (t .finer-tile .ensures .few),
     )
 
-returns : tie.Need-returns Inv-loop μ-loop
+returns : of.Tie.Need-returns Inv-loop μ-loop
 unfolding finerRows
 returns c =
     let s = c .before .before in
     let l = c .before .loop .inv in
     record { vectors = place-done (l .0) (c .loop-test .left); rows-are = sum-done (l .1) (c .loop-test .left); few = omega (arith, sum-most (l .1) (c .loop-test .left), tiles-few (s .pre .fits .few)) }
 
-pub finer-field-spec : {M : Type 1} → statement M
-finer-field-spec = tie.close (tie.spec
+pub finer-field-spec : {M : Type 1} → of.Statement.statement M
+finer-field-spec = of.Tie.close (of.Tie.spec
     Inv-loop μ-loop (λ c. search needs) (λ c. (place-start (c .pre .fits .room), sum-start)) (λ c. search needs)
     (λ c. search needs) finer-tile-requires (λ c. search needs) (λ c. search needs) put-requires
     add-summed (λ c. search needs) (λ c. search needs) loop-again (λ c. search needs) returns)

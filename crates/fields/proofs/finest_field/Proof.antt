@@ -1,52 +1,44 @@
 -- Each turn writes a tile's vector and adds its residual.
-use Rattle.geometry.specs.Tiles.{finestLevel}
+use Rattle.fields.specs.Prelude.{finestLevel, candidateRows, tileRowsMost, numbered, levelTile, pairIn, guessFrom, ap, _-_, _*_, _/_, _%_, arith, needs}
 use Rattle.sequences.specs.Sum.{Summed, sum-start, sum-turn, sum-done, sum-most}
 use Rattle.residuals.specs.Magnitudes.{residualMost}
-use Rattle.search.specs.Rows.{candidateRows}
 use Rattle.fields.specs.LevelSums.{finerRows, residuals}
-use Rattle.levels.specs.Magnitudes.{tileRowsMost}
 use Rattle.residuals.specs.Residual.{residual}
-use Rattle.geometry.specs.Vectors.{numbered}
-use Rattle.levels.specs.Fields.{levelTile}
 use Rattle.fields.proofs.Placing.{Placing, place-start, place-turn, place-done}
-use Rattle.matching.specs.Stored.{pairIn}
 use Rattle.fields.specs.LoopLaws.{tiles-few, place-few}
 use Rattle.fields.specs.Loops.{finestIn}
-use Rattle.levels.specs.Grids.{guessFrom}
-use Rattle.algebra.specs.Prelude.{ap, _-_, _*_, _/_, _%_, arith, needs}
-use Rattle.fields.proofs.finest_field.Statement.{statement}
-use Rattle.fields.proofs.finest_field.Tie as tie
+use Rattle.fields.proofs.finest_field as of
 
-abbrev Inv-loop : tie.InvT-loop
+abbrev Inv-loop : of.Tie.InvT-loop
 Inv-loop work area side coarse vectors₀ to rows columns sum₀ summed₀ k₀ k-end vectors sum summed k = Placing vectors₀ to columns (rows * columns) (finestIn side work area coarse) k vectors × Summed (λ k. residual (finestLevel side .squared) (pairIn work area) (levelTile (finestLevel side) (k / columns) (k % columns)) (numbered columns (finestIn side work area coarse) k)) residualMost (rows * columns) k sum × Summed (λ k. candidateRows (finestLevel side .squared) (pairIn work area) (levelTile (finestLevel side) (k / columns) (k % columns)) (guessFrom side 0 work area coarse (levelTile (finestLevel side) (k / columns) (k % columns)) (k / columns) (k % columns))) tileRowsMost (rows * columns) k summed
 
-abbrev μ-loop : tie.MeasureT-loop
+abbrev μ-loop : of.Tie.MeasureT-loop
 μ-loop work area side coarse vectors₀ to rows columns sum₀ summed₀ k₀ k-end vectors sum summed k = rows * columns - k
 
-mul-k-end : tie.Need-mul-k-end Inv-loop μ-loop
+mul-k-end : of.Tie.Need-mul-k-end Inv-loop μ-loop
 mul-k-end c = omega (arith, tiles-few (c .pre .few))
 
-finer-tile-requires : tie.Need-finer-tile-requires Inv-loop μ-loop
+finer-tile-requires : of.Tie.Need-finer-tile-requires Inv-loop μ-loop
 finer-tile-requires c κs = let s = c .before .before in
     let at = place-few (s .pre .few) (c .before .loop .k) (c .loop-test .taken) in
     record { stored = s .pre .stored; vectors = s .pre .coarse-vectors; sided = s .pre .sided; level-most = omega arith; row-most = at .0; column-most = at .1 }
 
-hand-over-requires : tie.Need-hand-over-requires Inv-loop μ-loop
+hand-over-requires : of.Tie.Need-hand-over-requires Inv-loop μ-loop
 hand-over-requires c κs = (omega arith, c .before .before .finer-tile .ensures .near)
 
-add-sum : tie.Need-add-sum Inv-loop μ-loop
+add-sum : of.Tie.Need-add-sum Inv-loop μ-loop
 add-sum c =
     let l = c .before .before .before .before .before .before .before in
     let s = l .before in
     omega (arith, l .loop .inv .1 .most, c .before .before .before .before .before .finer-tile .ensures .most, tiles-few (s .pre .few))
 
-add-summed : tie.Need-add-summed Inv-loop μ-loop
+add-summed : of.Tie.Need-add-summed Inv-loop μ-loop
 add-summed c =
     let l = c .before .before .before .before .before .before .before .before in
     let s = l .before in
     omega (arith, l .loop .inv .2 .most, c .before .before .before .before .before .before .finer-tile .ensures .few, tiles-few (s .pre .few))
 
-loop-again : tie.Need-loop-again Inv-loop μ-loop
+loop-again : of.Tie.Need-loop-again Inv-loop μ-loop
 unfolding finestIn
 loop-again c = let t = c .before .before .before .before .before .before in
     let i = t .before in
@@ -57,7 +49,7 @@ loop-again c = let t = c .before .before .before .before .before .before in
       sum-turn (i .before .loop .inv .2) (i .loop-test .taken) (ap (λ r. r .rows) (e .is)) (e .few),
     )
 
-returns : tie.Need-returns Inv-loop μ-loop
+returns : of.Tie.Need-returns Inv-loop μ-loop
 unfolding residuals finerRows
 returns c = let s = c .before .before in
     let l = c .before .loop .inv in
@@ -69,8 +61,8 @@ returns c = let s = c .before .before in
       few = omega (arith, sum-most (l .2) (c .loop-test .left), tiles-few (s .pre .few));
     }
 
-pub finest-field-spec : {M : Type 1} → statement M
-finest-field-spec = tie.close (tie.spec
+pub finest-field-spec : {M : Type 1} → of.Statement.statement M
+finest-field-spec = of.Tie.close (of.Tie.spec
     Inv-loop μ-loop mul-k-end (λ c. (place-start (c .pre .room), sum-start, sum-start)) (λ c. search needs)
     (λ c. search needs) finer-tile-requires (λ c. search needs) (λ c. search needs)
     hand-over-requires add-sum add-summed (λ c. search needs) (λ c. search needs) loop-again

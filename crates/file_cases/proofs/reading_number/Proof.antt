@@ -8,8 +8,7 @@ use Rattle.file_lines.specs.Part.{Part, refused, found, numberOf}
 use Rattle.burst_file.specs.Burst.{FileBurst}
 use Rattle.burst_file.specs.Reading.{fileAnswer, readingInto, FileRead}
 use Rattle.burst_file.specs.declared.FileAnswer.{FileAnswer}
-use Rattle.file_cases.proofs.reading_number.Statement.{statement}
-use Rattle.file_cases.proofs.reading_number.Tie as tie
+use Rattle.file_cases.proofs.reading_number as of
 
 number-answered : (part : Part FileBurst) → fileAnswer part .refusal ≡ numberOf part
 number-answered (refused number) = refl
@@ -20,8 +19,8 @@ number-read : {file samples : List ℕ} {answer : FileAnswer} {after : List ℕ}
 number-read {file} {samples} done =
     ap (λ (answer : FileAnswer). answer .refusal) (done .answered) ∙ number-answered (readingInto (length samples) file)
 
-returns : tie.Need-returns
+returns : of.Tie.Need-returns
 returns c = number-read (c .before .read-file .ensures)
 
-pub reading-number-spec : {M : Type 1} → statement M
-reading-number-spec = tie.close (tie.spec (λ c. search needs) (λ c κs. search needs) returns)
+pub reading-number-spec : {M : Type 1} → of.Statement.statement M
+reading-number-spec = of.Tie.close (of.Tie.spec (λ c. search needs) (λ c κs. search needs) returns)

@@ -1,14 +1,12 @@
 -- `header_at`: seven calls, each from where the one before ended.
-use borrow.Author.Needs.{needs}
-use Rattle.file_lines.specs.Scan.{nextValues}
-use Rattle.file_head.proofs.header_at.Statement.{statement}
-use Rattle.file_head.proofs.header_at.Tie as tie
+use Rattle.file_head.specs.Prelude.{needs, nextValues}
+use Rattle.file_head.proofs.header_at as of
 
-returns : tie.Need-returns
+returns : of.Tie.Need-returns
 unfolding nextValues
 returns c = cc
 
-pub header-at-spec : {M : Type 1} → statement M
-header-at-spec = tie.close (tie.spec
+pub header-at-spec : {M : Type 1} → of.Statement.statement M
+header-at-spec = of.Tie.close (of.Tie.spec
     (λ c κs. search needs) (λ c κs. search needs) (λ c κs. search needs) (λ c κs. search needs)
     (λ c κs. search needs) (λ c κs. search needs) (λ c κs. search needs) (λ c κs. search needs) returns)

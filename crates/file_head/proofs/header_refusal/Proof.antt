@@ -2,13 +2,12 @@
 use borrow.Author.Needs.{needs}
 use Rattle.limits.specs.Order.{shapeTests}
 use Rattle.file_head.specs.Head.{headerRefusal}
-use Rattle.file_head.proofs.header_refusal.Statement.{statement}
-use Rattle.file_head.proofs.header_refusal.Tie as tie
+use Rattle.file_head.proofs.header_refusal as of
 
-returns : tie.Need-returns
+returns : of.Tie.Need-returns
 unfolding headerRefusal shapeTests
 returns c = cc
 
-pub header-refusal-spec : {M : Type 1} → statement M
-header-refusal-spec = tie.close (tie.spec
+pub header-refusal-spec : {M : Type 1} → of.Statement.statement M
+header-refusal-spec = of.Tie.close (of.Tie.spec
     (λ c κs. search needs) (λ c κs. search needs) (λ c κs. search needs) (λ c κs. search needs) (λ c κs. search needs) (λ c. search needs) (λ c κs. search needs) returns)

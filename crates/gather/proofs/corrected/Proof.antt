@@ -1,18 +1,14 @@
 -- By the definition: the quotient in two steps.
 use Rattle.algebra.specs.Prelude.{_≡_, sym, ap, _∙_, suc, _-_, _*_, _^_, arith, needs, lit<, pos, natAbs, _+ℤ_, _-ℤ_, _*ℤ_, w64, toZ, ofZ, toZ-ofZ}
-use lib.Signed.{shrZ}
-use Rattle.algebra.specs.Clamp.{clampZ}
-use Rattle.algebra.specs.Nearest.{upward}
-use Rattle.recipe.specs.Tables.{side16}
+use Rattle.gather.specs.Prelude.{shrZ, clampZ, upward, side16}
 use Rattle.gather.specs.Gather.{corrected}
 use Rattle.gather.proofs.Quotients.{upward-twice}
-use Rattle.gather.proofs.corrected.Statement.{statement}
-use Rattle.gather.proofs.corrected.Tie as tie
+use Rattle.gather.proofs.corrected as of
 
-held-requires : tie.Need-held-requires
+held-requires : of.Tie.Need-held-requires
 held-requires c κs = let d = c .before .pre .0 in record { some = d .some; few = d .few; inverse-is = d .inverse-is }
 
-returns : tie.Need-returns
+returns : of.Tie.Need-returns
 unfolding corrected side16
 returns c =
     let s = c .before .before in
@@ -26,5 +22,5 @@ returns c =
     ∙ ap (λ z. natAbs (clampZ (pos 0) (pos 4095) z)) (ap (λ z. shrZ z n) z ∙ sym (upward-twice (pos (s .args .t0)) (s .args .sum) 2147483648 n (lit< tt) (omega (arith, s .pre .0 .some))))
     ∙ ap (λ m. natAbs (clampZ (pos 0) (pos 4095) (upward (pos (s .args .t0) *ℤ pos m -ℤ s .args .sum) m))) whole
 
-pub corrected-spec : {M : Type 1} → statement M
-corrected-spec = tie.close (tie.spec (λ c κs. (c .pre .0 .few, search needs)) held-requires returns)
+pub corrected-spec : {M : Type 1} → of.Statement.statement M
+corrected-spec = of.Tie.close (of.Tie.spec (λ c κs. (c .pre .0 .few, search needs)) held-requires returns)

@@ -1,16 +1,14 @@
 -- The row lies in its frame, for the output and for the samples, and frames are small.
-use Rattle.algebra.specs.Prelude.{_+_, _-_, _*_, _/_, _%_, _≤_, _<_, arith, needs}
+use Rattle.gather.specs.Prelude.{_+_, _-_, _*_, _/_, _%_, _≤_, _<_, arith, needs, rowStride, frameStride, sampleLength, outputLength}
 use native.Mathlib.Nat.{mul-le-mul-right}
-use Rattle.geometry.specs.Shape.{rowStride, frameStride, sampleLength, outputLength}
 use Rattle.geometry.specs.ShapeLaws.{area-most, samples-most}
 use Rattle.geometry.specs.ReadLaws.{frame-room}
 use Rattle.gather.specs.Work.{rowSpan}
 use Rattle.gather.specs.Places.{output-room, frame-row-room}
 use Rattle.gather.proofs.Weighing.{side-most, half-above, quotient-most, row-in-half, place-most}
-use Rattle.gather.proofs.row_span.Statement.{statement}
-use Rattle.gather.proofs.row_span.Tie as tie
+use Rattle.gather.proofs.row_span as of
 
-room : (c : tie.Start) → let s = c .args .shape in let row = 2 * c .args .y + c .args .parity in
+room : (c : of.Tie.Start) → let s = c .args .shape in let row = 2 * c .args .y + c .args .parity in
     record {
       output-row : row * s .width + s .width ≤ s .width * s .height;
       output-small : s .width * s .height ≤ 16777216;
@@ -36,29 +34,29 @@ room c =
     }
 
 -- where rows of pairs lie in the work area
-above-most : (c : tie.Start) → let n = c .args .shape .side in n * (c .args .y % (n / 2) + n / 2) ≤ 1024
+above-most : (c : of.Tie.Start) → let n = c .args .shape .side in n * (c .args .y % (n / 2) + n / 2) ≤ 1024
 above-most c = place-most (c .pre .sided) (c .args .y)
 
-below-most : (c : tie.Start) → let n = c .args .shape .side in n * (c .args .y % (n / 2)) ≤ 1024
+below-most : (c : of.Tie.Start) → let n = c .args .shape .side in n * (c .args .y % (n / 2)) ≤ 1024
 below-most c = omega (arith, above-most c)
 
-add-above : tie.Need-add-above
+add-above : of.Tie.Need-add-above
 add-above c =
     let s = c .before .before .before .before in
     omega (arith, row-in-half (s .pre .sided) (s .args .y), side-most (s .pre .sided))
 
-add-above-2 : tie.Need-add-above-2
+add-above-2 : of.Tie.Need-add-above-2
 add-above-2 c = omega (arith, above-most (c .before .before .before .before), c .slot .ensures .most)
 
-add-slot : tie.Need-add-slot
+add-slot : of.Tie.Need-add-slot
 add-slot c =
     let s = c .before .before .before .before in
     omega (arith, quotient-most (s .pre .sided) (s .args .y), s .pre .row, s .pre .allowed .high .most)
 
-add-below : tie.Need-add-below
+add-below : of.Tie.Need-add-below
 add-below c = omega (arith, below-most (c .before .before .before .before .before), c .slot2 .ensures .most)
 
-returns : tie.Need-returns
+returns : of.Tie.Need-returns
 unfolding rowSpan sampleLength outputLength
 returns c =
     let s = c .before .before .before .before .before in
@@ -72,8 +70,8 @@ returns c =
       },
     )
 
-pub row-span-spec : {M : Type 1} → statement M
-row-span-spec = tie.close (tie.spec
+pub row-span-spec : {M : Type 1} → of.Statement.statement M
+row-span-spec = of.Tie.close (of.Tie.spec
     (λ c. search needs) (λ c. search needs) (λ c. omega (arith, room (c .before)))
     (λ c. omega (arith, room (c .before))) (λ c. omega (arith, room (c .before .before)))
     (λ c. omega (arith, room (c .before .before))) (λ c. c .before .before .pre .under) (λ c. omega (arith, room (c .before .before .before)))

@@ -4,25 +4,24 @@ use mir.Facts.{toZ-pos}
 use Rattle.algebra.specs.Ring.{nth}
 use Rattle.algebra.specs.Code.{Code, par, loc, lit, add, sub, mul, shr, Bounded, fits, val-den}
 use Rattle.gather.specs.Work.{sumMost}
-use Rattle.gather.proofs.scaled.Statement.{statement}
-use Rattle.gather.proofs.scaled.Tie as tie
+use Rattle.gather.proofs.scaled as of
 
-abbrev xs : tie.Start → List ℤ
+abbrev xs : of.Tie.Start → List ℤ
 xs c = toZ w64 (c .args .t0) ∷ toZ w64 (c .args .count) ∷ c .args .sum ∷ []
 
 abbrev bs : List ℕ
 bs = 65535 ∷ 8 ∷ sumMost ∷ []
 
-t0-is : (c : tie.Start) → toZ w64 (c .args .t0) ≡ pos (c .args .t0)
+t0-is : (c : of.Tie.Start) → toZ w64 (c .args .t0) ≡ pos (c .args .t0)
 t0-is c = toZ-pos w64 (omega (arith, c .fits .t0))
 
-count-is : (c : tie.Start) → toZ w64 (c .args .count) ≡ pos (c .args .count)
+count-is : (c : of.Tie.Start) → toZ w64 (c .args .count) ≡ pos (c .args .count)
 count-is c = toZ-pos w64 (omega (arith, c .pre .0))
 
-small : (c : tie.Start) → Bounded (xs c) bs
+small : (c : of.Tie.Start) → Bounded (xs c) bs
 small c = (rw (t0-is c) (omega (arith, c .fits .t0)), (rw (count-is c) (c .pre .0), (c .pre .1 .most, tt)))
 
-module _ (c : tie.Start) where
+module _ (c : of.Tie.Start) where
   abbrev First : Code (nth (xs c))
   First = mul w64 (loc 0) (loc 1)
 
@@ -35,17 +34,17 @@ module _ (c : tie.Start) where
   abbrev Result : Code (nth (xs c))
   Result = add w64 First (shr w64 Rest (2 ^ 32))
 
-mul-result : tie.Need-mul-result
+mul-result : of.Tie.Need-mul-result
 mul-result c = fits (xs c) bs (small c) w64 (First c) tt
 
-add-result : tie.Need-add-result
+add-result : of.Tie.Need-add-result
 add-result c = fits (xs c) bs (small c) w64 (Result c) tt
 
-returns : tie.Need-returns
+returns : of.Tie.Need-returns
 returns c = val-den (xs c) bs (small c) (Result c) tt ∙ rw (t0-is c, count-is c)
 
-pub scaled-spec : {M : Type 1} → statement M
-scaled-spec = tie.close (tie.spec
+pub scaled-spec : {M : Type 1} → of.Statement.statement M
+scaled-spec = of.Tie.close (of.Tie.spec
     (λ c. search needs) (λ c. search needs) mul-result (λ c. search needs)
     (λ c. fits (xs c) bs (small c) w64 (Half c) tt) (λ c. fits (xs c) bs (small c) w64 (Rest c) tt)
     add-result returns)

@@ -1,24 +1,19 @@
 -- The bins of the high and of the low parts, and what they make.
-use Rattle.algebra.specs.Prelude.{refl, subst, sym, _∙_, now}
-use lib.Ieee.{binary64, ofBits}
-use Rattle.sequences.specs.Tab.{tab}
-use Rattle.sequences.specs.Grid.{grid}
-use Rattle.lines.specs.Lines.{TileMost}
+use Rattle.grain.specs.Prelude.{refl, subst, sym, _∙_, now, binary64, ofBits, tab, grid, TileMost}
 use Rattle.pairs.proofs.ColumnLaws.{paired-grid}
 use Rattle.grain.specs.Steps.{copyPlaceMost}
 use Rattle.grain.proofs.PairLaws.{in-double, places-are, places-most}
-use Rattle.grain.proofs.bins.Statement.{statement}
-use Rattle.grain.proofs.bins.Tie as tie
+use Rattle.grain.proofs.bins as of
 
-forward-into-requires : tie.Need-forward-into-requires
+forward-into-requires : of.Tie.Need-forward-into-requires
 unfolding grid tab
 forward-into-requires c κs = (c .before .before .highs .ensures .1, paired-grid (λ k l. ofBits binary64 0) refl)
 
-forward-into-requires-2 : tie.Need-forward-into-requires-2
+forward-into-requires-2 : of.Tie.Need-forward-into-requires-2
 unfolding grid tab
 forward-into-requires-2 c κs = (c .before .before .lows .ensures .1, paired-grid (λ k l. ofBits binary64 0) refl)
 
-places-requires : tie.Need-places-requires
+places-requires : of.Tie.Need-places-requires
 places-requires c κs =
     let g = c .before .before in
     let l = g .before .before .before in
@@ -26,7 +21,7 @@ places-requires c κs =
     let h = f .before .before .before in
     (in-double (h .highs .ensures .1) (f .forward-into .ensures), in-double (l .lows .ensures .1) (g .forward-into2 .ensures))
 
-returns : tie.Need-returns
+returns : of.Tie.Need-returns
 returns c =
     let g = c .before .before .before in
     let l = g .before .before .before in
@@ -39,7 +34,7 @@ returns c =
       subst (TileMost copyPlaceMost) (sym (c .places .ensures)) (places-most t (p .0) (q .0) (p .1) (q .1) (f .forward-into .ensures) (g .forward-into2 .ensures)),
     )
 
-pub bins-spec : {M : Type 1} → statement M
-bins-spec = tie.close (tie.spec
+pub bins-spec : {M : Type 1} → of.Statement.statement M
+bins-spec = of.Tie.close (of.Tie.spec
     (λ c κs. c .pre) forward-into-requires (λ c κs. c .before .before .before .before .pre)
     forward-into-requires-2 places-requires returns)

@@ -1,26 +1,22 @@
 -- The reference's samples of the tile are copied, and the search starts from no motion.
-use Rattle.algebra.specs.Prelude.{_≡_, refl, ap, _∙_, true, _+_, _*_, arith, needs, lit≤}
+use Rattle.levels.specs.Prelude.{_≡_, refl, ap, _∙_, true, _+_, _*_, arith, needs, lit≤, level3, still, pairIn}
 use mathlib.Core.Logic.{inl}
 use Rattle.search.specs.RowLaws.{eight-rows-most}
 use Rattle.levels.specs.Fields.{levelTile}
-use Rattle.geometry.specs.Tiles.{level3}
-use Rattle.search.specs.Vectors.{still}
-use Rattle.matching.specs.Stored.{pairIn}
 use Rattle.matching.specs.StoredLaws.{copyable, ready, answer-within}
 use Rattle.levels.proofs.Answers.{coarsest-answer, eight-side}
-use Rattle.levels.proofs.coarsest_tile.Statement.{statement}
-use Rattle.levels.proofs.coarsest_tile.Tie as tie
+use Rattle.levels.proofs.coarsest_tile as of
 
-tile-at-requires : tie.Need-tile-at-requires
+tile-at-requires : of.Tie.Need-tile-at-requires
 tile-at-requires c κs = record { sided = record { is = inl refl }; level-most = lit≤ tt; row-most = c .pre .row-most; column-most = c .pre .column-most }
 
-eight : (c : tie.After-tile-at) → c .tile-at .result .side ≡ 8
+eight : (c : of.Tie.After-tile-at) → c .tile-at .result .side ≡ 8
 eight c = ap (λ t. t .side) (c .tile-at .ensures .0) ∙ eight-side (c .before .args .row) (c .before .args .column)
 
-copy-square-requires : tie.Need-copy-square-requires
+copy-square-requires : of.Tie.Need-copy-square-requires
 copy-square-requires c κs = let t = c .before .before in copyable (t .before .pre .stored) (t .tile-at .ensures .1) (omega (arith, ap (λ n. n * n) (eight t)))
 
-refine-requires : tie.Need-refine-requires
+refine-requires : of.Tie.Need-refine-requires
 refine-requires c κs = let t = c .before .before .before .before .before .before in
     let s = t .before in
     record {
@@ -31,7 +27,7 @@ refine-requires c κs = let t = c .before .before .before .before .before .befor
       few-before = lit≤ tt;
     }
 
-returns : tie.Need-returns
+returns : of.Tie.Need-returns
 returns c = let s = c .before .before .before .before .before .before .before .before .before in
     let a = s .args in
     let t = c .before .before .before .before .before .before .before .before .tile-at in
@@ -44,7 +40,7 @@ returns c = let s = c .before .before .before .before .before .before .before .b
       few = omega (arith, ap (λ r. r .rows) e, eight-rows-most true p (levelTile level3 (a .row) (a .column)) still (eight-side (a .row) (a .column)));
     }
 
-pub coarsest-tile-spec : {M : Type 1} → statement M
-coarsest-tile-spec = tie.close (tie.spec
+pub coarsest-tile-spec : {M : Type 1} → of.Statement.statement M
+coarsest-tile-spec = of.Tie.close (of.Tie.spec
     tile-at-requires (λ c. search needs) copy-square-requires (λ c. search needs)
     (λ c. search needs) refine-requires returns)

@@ -1,20 +1,14 @@
 -- The side decides how long the arrays are; either way the answer is the definition's.
-use Rattle.algebra.specs.Prelude.{_≡_, sym, ap, subst, _≤_, arith, needs}
+use Rattle.levels.specs.Prelude.{_≡_, sym, ap, subst, _≤_, arith, needs, TileSide, Tile, Found, pairIn, Kind}
 use mathlib.Core.Logic.{⊎-elim}
-use Rattle.geometry.specs.Fits.{TileSide}
-use Rattle.residuals.specs.declared.Tile.{Tile}
-use Rattle.matching.specs.declared.Found.{Found}
-use Rattle.matching.specs.Stored.{pairIn}
-use Rattle.search.specs.Local.{Kind}
 use Rattle.levels.specs.Fields.{levelAt, levelTile}
 use Rattle.levels.specs.Steps.{stepTo}
 use Rattle.levels.specs.Grids.{fieldAt, guessFrom, finerAnswer, Finer, FinerFound}
 use Rattle.levels.proofs.Answers.{finer-answer, finer-sided, finer-kind, finer-few}
-use Rattle.levels.proofs.finer_tile.Statement.{statement}
-use Rattle.levels.proofs.finer_tile.Tie as tie
+use Rattle.levels.proofs.finer_tile as of
 
 -- what the tile's vector needs
-finer : (c : tie.After-tile-at) → let a = c .before .args in Finer (a .words .now) (a .area) (c .tile-at .result) (a .side) (a .level) (a .coarse) (a .row) (a .column)
+finer : (c : of.Tie.After-tile-at) → let a = c .before .args in Finer (a .words .now) (a .area) (c .tile-at .result) (a .side) (a .level) (a .coarse) (a .row) (a .column)
 finer c =
     let s = c .before in
     let a = s .args in
@@ -32,35 +26,35 @@ finer c =
     }
 
 -- what is found is the definition's
-is : (c : tie.After-tile-at) (r : Found) → let a = c .before .args in FinerFound (a .words .now) (a .area) (c .tile-at .result) (a .side) (a .level) (a .coarse) (a .row) (a .column) r → r ≡ finerAnswer (a .side) (a .level) (a .words .now) (a .area) (a .coarse) (a .row) (a .column)
+is : (c : of.Tie.After-tile-at) (r : Found) → let a = c .before .args in FinerFound (a .words .now) (a .area) (c .tile-at .result) (a .side) (a .level) (a .coarse) (a .row) (a .column) r → r ≡ finerAnswer (a .side) (a .level) (a .words .now) (a .area) (a .coarse) (a .row) (a .column)
 is c r f =
     let a = c .before .args in
     finer-answer (levelAt (a .side) (a .level)) (pairIn (a .words .now) (a .area)) (a .row) (a .column) (c .tile-at .result) r (c .tile-at .ensures .0) (stepTo (a .side) (a .level)) (a .coarse .rows) (a .coarse .columns) (fieldAt (a .words .now) (a .coarse .at) (a .coarse .columns)) (f .is)
 
-few : (c : tie.After-tile-at) (r : Found) → let a = c .before .args in r ≡ finerAnswer (a .side) (a .level) (a .words .now) (a .area) (a .coarse) (a .row) (a .column) → r .rows ≤ 2688
+few : (c : of.Tie.After-tile-at) (r : Found) → let a = c .before .args in r ≡ finerAnswer (a .side) (a .level) (a .words .now) (a .area) (a .coarse) (a .row) (a .column) → r .rows ≤ 2688
 few c r e =
     let s = c .before in
     let a = s .args in
     let l = levelAt (a .side) (a .level) in
     omega (arith, ap (λ r. r .rows) e, finer-few (a .side) (a .level) (a .row) (a .column) (s .pre .sided) (s .pre .level-most) (l .squared) (pairIn (a .words .now) (a .area)) (guessFrom (a .side) (a .level) (a .words .now) (a .area) (a .coarse) (levelTile l (a .row) (a .column)) (a .row) (a .column)))
 
-narrow-tile-requires : tie.Need-narrow-tile-requires
+narrow-tile-requires : of.Tie.Need-narrow-tile-requires
 narrow-tile-requires c κs = let t = c .before .before in
     let f = finer t in
     (f, ⊎-elim (λ e. e) (λ e. absurd (c .if1 .left e)) (f .tile-sided .is))
 
-returns : tie.Need-returns
+returns : of.Tie.Need-returns
 returns c = let t = c .before .before .before in
     let m = c .wide-tile in
     let e = is t (m .result) (m .ensures) in
     record { is = e; near = m .ensures .near; most = m .ensures .most; few = few t (m .result) e }
 
-returns-2 : tie.Need-returns-2
+returns-2 : of.Tie.Need-returns-2
 returns-2 c = let t = c .before .before .before in
     let m = c .narrow-tile in
     let e = is t (m .result) (m .ensures) in
     record { is = e; near = m .ensures .near; most = m .ensures .most; few = few t (m .result) e }
 
-pub finer-tile-spec : {M : Type 1} → statement M
-finer-tile-spec = tie.close (tie.spec
+pub finer-tile-spec : {M : Type 1} → of.Statement.statement M
+finer-tile-spec = of.Tie.close (of.Tie.spec
     (λ c κs. search needs) (λ c κs. (finer (c .before .before), c .if1 .taken)) returns narrow-tile-requires returns-2)

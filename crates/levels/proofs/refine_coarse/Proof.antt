@@ -1,34 +1,23 @@
 -- The coarse indices and the three vectors are those of the definition.
-use Rattle.geometry.specs.Tiles.{Step, own, neighbour, capped}
-use Rattle.residuals.specs.declared.Tile.{Tile}
-use Rattle.geometry.specs.declared.vectors.Vector.{Vector}
+use Rattle.levels.specs.Prelude.{Step, own, neighbour, capped, Tile, Vector, _times_, Pair, bestVector, guessed, VectorField, pairIn, answer, searchRows, Kind, _≡_, sym, ap, ap₂, subst, _∙_, ℕ, _+_, _*_, needs}
 use Rattle.geometry.specs.declared.tiles.Quotient.{Quotient}
-use Rattle.search.specs.Vectors.{_times_}
-use Rattle.residuals.specs.Residual.{Pair}
-use Rattle.search.specs.Search.{bestVector, guessed}
 use Rattle.search.specs.SearchLaws.{guess-within}
-use Rattle.geometry.specs.Vectors.{VectorField}
 use Rattle.levels.specs.Fields.{fromCoarse}
 use Rattle.levels.specs.Steps.{stepTo}
-use Rattle.matching.specs.Stored.{pairIn, answer}
 use Rattle.matching.specs.StoredLaws.{answer-within}
 use Rattle.levels.specs.Grids.{fieldAt}
-use Rattle.search.specs.Rows.{searchRows}
-use Rattle.search.specs.Local.{Kind}
-use Rattle.algebra.specs.Prelude.{_≡_, sym, ap, ap₂, subst, _∙_, ℕ, _+_, _*_, needs}
-use Rattle.levels.proofs.refine_coarse.Statement.{statement}
-use Rattle.levels.proofs.refine_coarse.Tie as tie
+use Rattle.levels.proofs.refine_coarse as of
 
-coarse-vector-requires : tie.Need-coarse-vector-requires
+coarse-vector-requires : of.Tie.Need-coarse-vector-requires
 coarse-vector-requires c κs = record { vectors = c .before .before .before .before .before .before .before .before .before .before .before .before .before .before .pre .finer .vectors; row-below = c .before .before .before .before .before .before .capped .ensures .1; column-below = c .before .before .capped3 .ensures .1; factor-most = c .before .before .before .before .before .before .before .before .factor .ensures .1 }
 
-coarse-vector-requires-2 : tie.Need-coarse-vector-requires-2
+coarse-vector-requires-2 : of.Tie.Need-coarse-vector-requires-2
 coarse-vector-requires-2 c κs = record { vectors = c .before .before .before .before .before .before .before .before .before .before .before .before .before .before .before .pre .finer .vectors; row-below = c .before .before .before .before .before .before .before .capped .ensures .1; column-below = c .before .capped4 .ensures .1; factor-most = c .before .before .before .before .before .before .before .before .before .factor .ensures .1 }
 
-coarse-vector-requires-3 : tie.Need-coarse-vector-requires-3
+coarse-vector-requires-3 : of.Tie.Need-coarse-vector-requires-3
 coarse-vector-requires-3 c κs = record { vectors = c .before .before .before .before .before .before .before .before .before .before .before .before .before .before .before .before .pre .finer .vectors; row-below = c .before .before .before .before .before .before .capped2 .ensures .1; column-below = c .before .before .before .before .capped3 .ensures .1; factor-most = c .before .before .before .before .before .before .before .before .before .before .factor .ensures .1 }
 
-refine-candidates-requires : tie.Need-refine-candidates-requires
+refine-candidates-requires : of.Tie.Need-refine-candidates-requires
 refine-candidates-requires c κs = let s = c .before .before .before .before .before .before .before .before .before .before .before .before .before .before .before .before .before .before .before in
     record {
       ready = s .pre .ready;
@@ -45,7 +34,7 @@ made : (s : Step) (rows columns : ℕ) (p : Pair) (t : Tile) (field : VectorFiel
 unfolding fromCoarse
 made s rows columns p t field row column q f r r′ k k′ x y z eq ef er er′ ek ek′ ex ey ez = rw (ex, ey, ez, er, er′, ek, ek′, eq, ef)
 
-returns : tie.Need-returns
+returns : of.Tie.Need-returns
 returns c = let v = c .before .before .before .before .before .before .before .before .before in
     let k′ = v .before in
     let k = k′ .before .before in
@@ -74,8 +63,8 @@ returns c = let v = c .before .before .before .before .before .before .before .b
       most = m .ensures .1;
     }
 
-pub refine-coarse-spec : {M : Type 1} → statement M
-refine-coarse-spec = tie.close (tie.spec
+pub refine-coarse-spec : {M : Type 1} → of.Statement.statement M
+refine-coarse-spec = of.Tie.close (of.Tie.spec
     (λ c κs. search needs) (λ c κs. search needs) (λ c κs. search needs) (λ c κs. search needs)
     (λ c κs. search needs) (λ c κs. search needs) (λ c κs. search needs) (λ c κs. search needs)
     (λ c κs. search needs) (λ c κs. search needs) (λ c κs. search needs) coarse-vector-requires

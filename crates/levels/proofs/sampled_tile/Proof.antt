@@ -1,13 +1,12 @@
 -- The reference's samples of the tile are copied once, for the candidates and for the search.
 use Rattle.algebra.specs.Prelude.{arith, needs}
 use Rattle.matching.specs.StoredLaws.{copyable, ready}
-use Rattle.levels.proofs.sampled_tile.Statement.{statement}
-use Rattle.levels.proofs.sampled_tile.Tie as tie
+use Rattle.levels.proofs.sampled_tile as of
 
-copy-square-requires : tie.Need-copy-square-requires
+copy-square-requires : of.Tie.Need-copy-square-requires
 copy-square-requires c κs = let s = c .before .before .before .before .before in copyable (s .pre .0 .stored) (s .pre .0 .placed) (s .pre .1 .samples-room)
 
-refine-coarse-requires : tie.Need-refine-coarse-requires
+refine-coarse-requires : of.Tie.Need-refine-coarse-requires
 refine-coarse-requires c κs = let s = c .before .before .before .before .before .before .before .before .before .before .before in
     let r = s .pre .1 in
     record {
@@ -16,6 +15,6 @@ refine-coarse-requires c κs = let s = c .before .before .before .before .before
       roomy = record { enough = omega (arith, r .enough); samples-room = omega (arith, r .samples-room); window-room = r .window-room; other-room = r .other-room };
     }
 
-pub sampled-tile-spec : {M : Type 1} → statement M
-sampled-tile-spec = tie.close (tie.spec
+pub sampled-tile-spec : {M : Type 1} → of.Statement.statement M
+sampled-tile-spec = of.Tie.close (of.Tie.spec
     copy-square-requires refine-coarse-requires (λ c. search needs) (λ c. search needs) (λ c. search needs) (λ c. c .before .before .before .before .refine-coarse .ensures))

@@ -1,19 +1,12 @@
 -- `lines_back::even`: the even places' sums, by computed tests for either `own`.
-use Rattle.algebra.specs.Prelude.{refl, ap, _∙_, List, [], _∷_, ℕ, _*_, needs, getD}
-use lib.Ieee.{Float, nan, ofBits, ofInt}
+use Rattle.lines_back.specs.Prelude.{refl, ap, _∙_, List, [], _∷_, ℕ, _*_, needs, getD, Float, nan, ofBits, ofInt, sumZ, tab, cosines, cosine16, side16, halfZ, frequencyOf, phaseOf, basisOf, halfBasisOf, basis, evenSumOf, evenHalfOf}
 use Rattle.algebra.specs.Ring.{con, _⊠_}
 use Rattle.algebra.specs.Ring as ring
-use Rattle.algebra.specs.Sums.{sumZ}
 use Rattle.algebra.specs.Forms.{sumE}
-use Rattle.sequences.specs.Tab.{tab}
 use Rattle.floats.specs.Kernels.{Form, var, plus, minus, times}
 use Rattle.recipe.specs.Side.{cosAt}
-use Rattle.recipe.specs.Tables.{cosines, cosine16, side16}
-use Rattle.lines.specs.Halfcomplex.{halfZ, frequencyOf, phaseOf, basisOf, halfBasisOf, basis}
-use Rattle.lines.specs.Fold.{evenSumOf, evenHalfOf}
 use Rattle.lines.specs.DoubleForms.{floats, forms-are}
-use Rattle.lines_back.proofs.even.Statement.{statement}
-use Rattle.lines_back.proofs.even.Tie as tie
+use Rattle.lines_back.proofs.even as of
 
 -- var k is place 2k
 abbrev results : (own : ℕ) → List Form
@@ -38,7 +31,7 @@ results own =
 abbrev read : (own : ℕ) → List Float → List Float
 read own z = floats (results own) (λ k. getD z k nan)
 
-returns : tie.Need-returns
+returns : of.Tie.Need-returns
 unfolding tab sumZ evenSumOf evenHalfOf halfZ halfBasisOf basisOf frequencyOf phaseOf cosAt side16 cosine16 cosines ofBits ofInt
 returns c =
     record {
@@ -46,8 +39,8 @@ returns c =
       half = λ o g most e. rw o (ap (read 8192) e ∙ forms-are 8 g most refl (results 8192) (tab 8 (λ n. sumE 8 (λ k. ring.var k ⊠ con (halfBasisOf side16 (2 * k) n)))) tt tt);
     }
 
-pub even-spec : {M : Type 1} → statement M
-even-spec = tie.close (tie.spec
+pub even-spec : {M : Type 1} → of.Statement.statement M
+even-spec = of.Tie.close (of.Tie.spec
     (λ c. search needs) (λ c. search needs) (λ c. search needs) (λ c. search needs) (λ c. search needs)
     (λ c. search needs) (λ c. search needs) (λ c. search needs) (λ c. search needs) (λ c. search needs)
     (λ c. search needs) (λ c. search needs) (λ c. search needs) (λ c. search needs) returns)

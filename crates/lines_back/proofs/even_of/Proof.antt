@@ -1,19 +1,16 @@
 -- `lines_back::even_of`: the even places of row p.
-use Rattle.algebra.specs.Prelude.{refl, _+_, _*_, arith, needs}
-use lib.Ieee.{ofBits, ofInt}
-use Rattle.sequences.specs.Tab.{tab}
+use Rattle.lines_back.specs.Prelude.{refl, _+_, _*_, arith, needs, ofBits, ofInt, tab}
 use Rattle.lines.specs.DoubleForms.{from, from-is, picked-line}
-use Rattle.lines_back.proofs.even_of.Statement.{statement}
-use Rattle.lines_back.proofs.even_of.Tie as tie
+use Rattle.lines_back.proofs.even_of as of
 
-returns : tie.Need-returns
+returns : of.Tie.Need-returns
 unfolding tab ofBits ofInt
 returns c z most e =
     let p = c .before .before .before .before .before .before .before .before .before .args .p in
     c .even .ensures .half refl (λ k. z (4 * k + p)) (λ k. most (4 * k + p)) (picked-line 32 z e (from 4 p) (λ k. 4 * k + p) (λ k l. from-is 4 p k) (λ k l. omega arith))
 
-pub even-of-spec : {M : Type 1} → statement M
-even-of-spec = tie.close (tie.spec
+pub even-of-spec : {M : Type 1} → of.Statement.statement M
+even-of-spec = of.Tie.close (of.Tie.spec
     (λ c. search needs) (λ c. search needs) (λ c. search needs) (λ c. search needs)
     (λ c. search needs) (λ c. search needs) (λ c. search needs) (λ c. search needs)
     (λ c. search needs) (λ c. search needs) (λ c. search needs) (λ c. search needs)

@@ -1,24 +1,16 @@
 -- `lines_back::halves`: two numbers of either half are stored at a time.
-use Rattle.algebra.specs.Prelude.{refl, _∙_, false, ℕ, ℤ, _-_, _/_, _%_, _≤_, arith, needs, natAbs}
-use lib.Ieee.{nan, binary64, ofInt, add, sub}
-use Rattle.algebra.specs.Sums.{sumZ}
-use Rattle.sequences.specs.Tab.{tab}
-use Rattle.recipe.specs.Tables.{side16}
-use Rattle.lines.specs.Halfcomplex.{halfSum}
-use Rattle.lines.specs.Magnitudes.{columnMost}
-use Rattle.lines.specs.Fold.{oddSumOf, evenHalfOf}
+use Rattle.lines_back.specs.Prelude.{refl, _∙_, false, ℕ, ℤ, _-_, _/_, _%_, _≤_, arith, needs, natAbs, nan, binary64, ofInt, add, sub, sumZ, tab, side16, halfSum, columnMost, oddSumOf, evenHalfOf}
 use Rattle.lines_back.proofs.HalfStores.{byHalves, Halved, halved-start, halves-turn, halved-done, halves-are}
 use Rattle.lines_back.proofs.DoubleUnfolding.{half-at}
-use Rattle.lines_back.proofs.halves.Statement.{statement}
-use Rattle.lines_back.proofs.halves.Tie as tie
+use Rattle.lines_back.proofs.halves as of
 
-abbrev Inv-loop : tie.InvT-loop
+abbrev Inv-loop : of.Tie.InvT-loop
 Inv-loop h x₀ s0 s1 t0 t1 n₀ x n = Halved nan (byHalves (add binary64) (sub binary64) s0 s1 t0 t1) n x
 
-abbrev μ-loop : tie.MeasureT-loop
+abbrev μ-loop : of.Tie.MeasureT-loop
 μ-loop h x₀ s0 s1 t0 t1 n₀ x n = 8 - n
 
-loop-again : tie.Need-loop-again Inv-loop μ-loop
+loop-again : of.Tie.Need-loop-again Inv-loop μ-loop
 loop-again c =
     let t1 = c .before .before in
     let t0 = t1 .before in
@@ -26,7 +18,7 @@ loop-again c =
     let s0 = s1 .before in
     halves-turn nan (add binary64) (sub binary64) (s0 .even-of .result) (s1 .even-of2 .result) (t0 .odd-of .result) (t1 .odd-of2 .result) (c .before .loop .inv) (c .loop-test .taken) refl refl refl refl
 
-returns : tie.Need-returns Inv-loop μ-loop
+returns : of.Tie.Need-returns Inv-loop μ-loop
 unfolding tab sumZ oddSumOf evenHalfOf side16
 returns c =
     let t1 = c .before .before in
@@ -44,8 +36,8 @@ returns c =
           (half-at (g 1) (λ k. omega (arith, most 1 k)) (s1 .even-of2 .ensures z more e) (t1 .odd-of2 .ensures z more e));
     }
 
-pub halves-spec : {M : Type 1} → statement M
-halves-spec = tie.close (tie.spec
+pub halves-spec : {M : Type 1} → of.Statement.statement M
+halves-spec = of.Tie.close (of.Tie.spec
     Inv-loop μ-loop (λ c κs. search needs) (λ c κs. search needs) (λ c κs. search needs) (λ c κs. search needs)
     (λ c. halved-start (omega arith))
     (λ c. search needs) (λ c. search needs) (λ c. search needs) (λ c. search needs) (λ c. search needs) (λ c. search needs) (λ c. search needs)

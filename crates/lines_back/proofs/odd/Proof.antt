@@ -1,19 +1,12 @@
 -- `lines_back::odd`: the odd places' sums, by computed tests.
-use Rattle.algebra.specs.Prelude.{List, [], _∷_, _+_, _*_}
-use lib.Ieee.{ofBits, ofInt}
+use Rattle.lines_back.specs.Prelude.{List, [], _∷_, _+_, _*_, ofBits, ofInt, sumZ, tab, cosines, cosine16, side16, frequencyOf, phaseOf, basisOf, basis, oddSumOf}
 use Rattle.algebra.specs.Ring.{con, _⊠_}
 use Rattle.algebra.specs.Ring as ring
-use Rattle.algebra.specs.Sums.{sumZ}
 use Rattle.algebra.specs.Forms.{sumE}
-use Rattle.sequences.specs.Tab.{tab}
 use Rattle.floats.specs.Kernels.{Form, var, plus, minus, times}
 use Rattle.recipe.specs.Side.{cosAt}
-use Rattle.recipe.specs.Tables.{cosines, cosine16, side16}
-use Rattle.lines.specs.Halfcomplex.{frequencyOf, phaseOf, basisOf, basis}
-use Rattle.lines.specs.Fold.{oddSumOf}
 use Rattle.lines.specs.DoubleForms.{forms-are}
-use Rattle.lines_back.proofs.odd.Statement.{statement}
-use Rattle.lines_back.proofs.odd.Tie as tie
+use Rattle.lines_back.proofs.odd as of
 
 -- var k is place 2k + 1, and var 8 is 0
 abbrev results : List Form
@@ -34,9 +27,9 @@ results =
     let f = minus (times 6270 w) (times 15137 u) in
     times 16384 (plus r s) ∷ minus a d ∷ plus b e ∷ plus c f ∷ times 16384 (plus x y) ∷ minus f c ∷ minus e b ∷ minus (minus (var 8) a) d ∷ []
 
-returns : tie.Need-returns
+returns : of.Tie.Need-returns
 unfolding tab sumZ oddSumOf basisOf frequencyOf phaseOf cosAt side16 cosine16 cosines ofBits ofInt
 returns c z most e = forms-are 8 z most e results (tab 8 (λ n. sumE 8 (λ k. ring.var k ⊠ con (basis (2 * k + 1) n)))) tt tt
 
-pub odd-spec : {M : Type 1} → statement M
-odd-spec = tie.close (tie.spec returns)
+pub odd-spec : {M : Type 1} → of.Statement.statement M
+odd-spec = of.Tie.close (of.Tie.spec returns)

@@ -1,18 +1,16 @@
 -- `lines_back::odd_of`: the odd places of row p.
-use Rattle.algebra.specs.Prelude.{_+_, _*_, arith, needs}
-use Rattle.sequences.specs.Tab.{tab}
+use Rattle.lines_back.specs.Prelude.{_+_, _*_, arith, needs, tab}
 use Rattle.lines.specs.DoubleForms.{picked-line}
-use Rattle.lines_back.proofs.odd_of.Statement.{statement}
-use Rattle.lines_back.proofs.odd_of.Tie as tie
+use Rattle.lines_back.proofs.odd_of as of
 
-returns : tie.Need-returns
+returns : of.Tie.Need-returns
 unfolding tab
 returns c z most e =
     let p = c .before .before .before .before .before .before .before .before .before .args .p in
     c .odd .ensures (λ k. z (4 * k + 2 + p)) (λ k. most (4 * k + 2 + p)) (picked-line 32 z e (λ k. p + (4 * k + 2)) (λ k. 4 * k + 2 + p) (λ k l. omega arith) (λ k l. omega arith))
 
-pub odd-of-spec : {M : Type 1} → statement M
-odd-of-spec = tie.close (tie.spec
+pub odd-of-spec : {M : Type 1} → of.Statement.statement M
+odd-of-spec = of.Tie.close (of.Tie.spec
     (λ c. search needs) (λ c. search needs) (λ c. search needs) (λ c. search needs)
     (λ c. search needs) (λ c. search needs) (λ c. search needs) (λ c. search needs)
     (λ c. search needs) (λ c. search needs) (λ c. search needs) (λ c. search needs)

@@ -1,37 +1,31 @@
 -- `lines_back32::backward`: the even and the odd places apart, and both halves of the column from their sums.
-use Rattle.algebra.specs.Prelude.{refl, _∙_, true, false, ℕ, _+_, _-_, _*_, _≤_, arith, needs, lit≤, getD, natAbs}
-use lib.Ieee.{nan, binary64, ofInt, add, sub}
+use Rattle.lines_back32.specs.Prelude.{refl, _∙_, true, false, ℕ, _+_, _-_, _*_, _≤_, arith, needs, lit≤, getD, natAbs, nan, binary64, ofInt, add, sub, side32, backwardOf, foldMost, longColumnMost, picked}
 use Rattle.sequences.specs.TabLaws.{Filled, fill-start, fill-turn, fill-done}
-use Rattle.recipe.specs.Tables32.{side32}
-use Rattle.lines.specs.Halfcomplex.{backwardOf}
-use Rattle.lines.specs.Magnitudes.{foldMost, longColumnMost}
-use Rattle.lines.specs.DoubleForms.{picked}
 use Rattle.lines_back32.proofs.BothHalves.{Both, both-start, both-turn, both-done, column-low, column-high}
 use Rattle.lines_back32.proofs.PartSums.{parts-of}
-use Rattle.lines_back32.proofs.backward.Statement.{statement}
-use Rattle.lines_back32.proofs.backward.Tie as tie
+use Rattle.lines_back32.proofs.backward as of
 
-abbrev Inv-loop : tie.InvT-loop
+abbrev Inv-loop : of.Tie.InvT-loop
 Inv-loop z e₀ o₀ k₀ e o k = Filled (λ k. getD z (2 * k) nan) 16 k e₀ e × Filled (λ k. getD z (2 * k + 1) nan) 16 k o₀ o
 
-abbrev μ-loop : tie.MeasureT-loop
+abbrev μ-loop : of.Tie.MeasureT-loop
 μ-loop z e₀ o₀ k₀ e o k = 16 - k
 
-abbrev Inv-loop2 : tie.InvT-loop2
+abbrev Inv-loop2 : of.Tie.InvT-loop2
 Inv-loop2 z s t r₀ n₀ r n = Both nan (λ n. add binary64 (getD s n nan) (getD t n nan)) (λ n. sub binary64 (getD s n nan) (getD t n nan)) 16 n r
 
-abbrev μ-loop2 : tie.MeasureT-loop2
+abbrev μ-loop2 : of.Tie.MeasureT-loop2
 μ-loop2 z s t r₀ n₀ r n = 16 - n
 
-loop-again : tie.Need-loop-again Inv-loop μ-loop Inv-loop2 μ-loop2
+loop-again : of.Tie.Need-loop-again Inv-loop μ-loop Inv-loop2 μ-loop2
 loop-again c =
     let l = c .before .before .before in
     (fill-turn (l .loop .inv .0) (omega arith) refl, fill-turn (l .loop .inv .1) (omega arith) refl)
 
-loop2-again : tie.Need-loop2-again Inv-loop μ-loop Inv-loop2 μ-loop2
+loop2-again : of.Tie.Need-loop2-again Inv-loop μ-loop Inv-loop2 μ-loop2
 loop2-again c = both-turn (c .before .loop2 .inv) (c .loop2-test .taken) refl refl
 
-returns : tie.Need-returns Inv-loop μ-loop Inv-loop2 μ-loop2
+returns : of.Tie.Need-returns Inv-loop μ-loop Inv-loop2 μ-loop2
 returns c z most e =
     let t = c .before .before in
     let d = t .before in
@@ -48,8 +42,8 @@ returns c z most e =
     let q = t .joined .ensures w in
     both-done (c .before .loop2 .inv) (omega arith) (λ n. ofInt binary64 (backwardOf side32 z n)) (column-low z more p q) (column-high z more p q)
 
-pub backward-spec : {M : Type 1} → statement M
-backward-spec = tie.close (tie.spec
+pub backward-spec : {M : Type 1} → of.Statement.statement M
+backward-spec = of.Tie.close (of.Tie.spec
     Inv-loop μ-loop Inv-loop2 μ-loop2 (λ c. (fill-start refl, fill-start refl))
     (λ c. search needs) (λ c. search needs) (λ c. search needs) (λ c. search needs) (λ c. search needs) (λ c. search needs)
     (λ c. search needs) (λ c. search needs) (λ c. search needs) (λ c. search needs) (λ c. search needs) (λ c. search needs)

@@ -1,22 +1,18 @@
 -- `lines_back32::halves`: both halves of two rows from the sums of their even and of their odd places.
-use Rattle.algebra.specs.Prelude.{refl, _∙_, _-_, _*_, _/_, _%_, arith, needs, getD}
-use lib.Ieee.{nan, binary64, ofInt, add, sub}
-use Rattle.recipe.specs.Tables32.{side32}
-use Rattle.lines.specs.Halfcomplex.{halfSumOf}
+use Rattle.lines_back32.specs.Prelude.{refl, _∙_, _-_, _*_, _/_, _%_, arith, needs, getD, nan, binary64, ofInt, add, sub, side32, halfSumOf}
 use Rattle.lines_back32.proofs.BothHalves.{Both, both-start, both-turn, both-done, rows, row-evens, row-odds, row-low, row-high}
-use Rattle.lines_back32.proofs.halves.Statement.{statement}
-use Rattle.lines_back32.proofs.halves.Tie as tie
+use Rattle.lines_back32.proofs.halves as of
 
-abbrev Inv-loop : tie.InvT-loop
+abbrev Inv-loop : of.Tie.InvT-loop
 Inv-loop h x₀ s t l₀ x l = Both nan (λ l. add binary64 (getD s l nan) (getD t l nan)) (λ l. sub binary64 (getD s l nan) (getD t l nan)) 32 l x
 
-abbrev μ-loop : tie.MeasureT-loop
+abbrev μ-loop : of.Tie.MeasureT-loop
 μ-loop h x₀ s t l₀ x l = 32 - l
 
-loop-again : tie.Need-loop-again Inv-loop μ-loop
+loop-again : of.Tie.Need-loop-again Inv-loop μ-loop
 loop-again c = both-turn (c .before .loop .inv) (c .loop-test .taken) refl refl
 
-returns : tie.Need-returns Inv-loop μ-loop
+returns : of.Tie.Need-returns Inv-loop μ-loop
 returns c =
     let t = c .before .before in
     let s = t .before in
@@ -29,8 +25,8 @@ returns c =
           both-done (c .before .loop .inv) (omega arith) (λ l. ofInt binary64 (halfSumOf side32 (g (l % 2)) (l / 2))) (row-low g most p q) (row-high g most p q);
     }
 
-pub halves-spec : {M : Type 1} → statement M
-halves-spec = tie.close (tie.spec
+pub halves-spec : {M : Type 1} → of.Statement.statement M
+halves-spec = of.Tie.close (of.Tie.spec
     Inv-loop μ-loop (λ c κs. search needs) (λ c κs. search needs) (λ c κs. search needs) (λ c. both-start (omega arith))
     (λ c. search needs) (λ c. search needs) (λ c. search needs) (λ c. search needs) (λ c. search needs) (λ c. search needs)
     (λ c. search needs) (λ c. search needs) (λ c. search needs) (λ c. search needs) (λ c. search needs) (λ c. search needs)

@@ -1,14 +1,13 @@
 -- `lines_back32::joined`: what the four kernels give makes the odd places' sum.
 use Rattle.algebra.specs.Prelude.{needs}
 use Rattle.lines_back32.proofs.PartSums.{joined-doubles}
-use Rattle.lines_back32.proofs.joined.Statement.{statement}
-use Rattle.lines_back32.proofs.joined.Tie as tie
+use Rattle.lines_back32.proofs.joined as of
 
-returns : tie.Need-returns
+returns : of.Tie.Need-returns
 returns c w = joined-doubles w
 
-pub joined-spec : {M : Type 1} → statement M
-joined-spec = tie.close (tie.spec
+pub joined-spec : {M : Type 1} → of.Statement.statement M
+joined-spec = of.Tie.close (of.Tie.spec
     (λ c. search needs) (λ c. search needs) (λ c. search needs) (λ c. search needs) (λ c. search needs) (λ c. search needs)
     (λ c. search needs) (λ c. search needs) (λ c. search needs) (λ c. search needs) (λ c. search needs) (λ c. search needs)
     (λ c. search needs) (λ c. search needs) (λ c. search needs) (λ c. search needs) (λ c. search needs) (λ c. search needs)

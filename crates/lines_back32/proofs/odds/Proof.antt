@@ -1,22 +1,17 @@
 -- `lines_back32::odds`: the sums of both rows are stored by twos.
-use Rattle.algebra.specs.Prelude.{refl, _∙_, ℕ, _+_, _-_, _*_, arith, needs, lit≤, getD}
-use lib.Ieee.{Float, nan, binary64, ofInt}
+use Rattle.lines_back32.specs.Prelude.{refl, _∙_, ℕ, _+_, _-_, _*_, arith, needs, lit≤, getD, Float, nan, binary64, ofInt, side32, oddSumOf, picked}
 use Rattle.sequences.specs.TabLaws.{Filled, fill-start, fill-done}
-use Rattle.recipe.specs.Tables32.{side32}
-use Rattle.lines.specs.Fold.{oddSumOf}
-use Rattle.lines.specs.DoubleForms.{picked}
 use Rattle.lines_back32.proofs.BothHalves.{inTurn, twos-turn, even-at, odd-at, in-turn-are, number}
 use Rattle.lines_back32.proofs.PartSums.{parts-of}
-use Rattle.lines_back32.proofs.odds.Statement.{statement}
-use Rattle.lines_back32.proofs.odds.Tie as tie
+use Rattle.lines_back32.proofs.odds as of
 
-abbrev Inv-loop : tie.InvT-loop
+abbrev Inv-loop : of.Tie.InvT-loop
 Inv-loop h t0 t1 r₀ k₀ r k = Filled (inTurn (λ n. getD t0 n nan) (λ n. getD t1 n nan)) 32 (2 * k) r₀ r
 
-abbrev μ-loop : tie.MeasureT-loop
+abbrev μ-loop : of.Tie.MeasureT-loop
 μ-loop h t0 t1 r₀ k₀ r k = 16 - k
 
-loop-again : tie.Need-loop-again Inv-loop μ-loop
+loop-again : of.Tie.Need-loop-again Inv-loop μ-loop
 loop-again c =
     let t1 = c .before .before in
     let t0 = t1 .before in
@@ -24,7 +19,7 @@ loop-again c =
     let b : ℕ → Float = λ n. getD (t1 .joined2 .result) n nan in
     twos-turn (c .before .loop .inv) (c .loop-test .taken) (even-at a b (c .before .loop .k)) (odd-at a b (c .before .loop .k))
 
-returns : tie.Need-returns Inv-loop μ-loop
+returns : of.Tie.Need-returns Inv-loop μ-loop
 returns c z most e =
     let t1 = c .before .before in
     let t0 = t1 .before in
@@ -45,8 +40,8 @@ returns c z most e =
     fill-done (c .before .loop .inv) (omega arith)
     ∙ in-turn-are _ _ (λ p n. ofInt binary64 (oddSumOf side32 (λ k. z (4 * k + 2 + p)) n)) (number 16 _ (t0 .joined .ensures p0)) (number 16 _ (t1 .joined2 .ensures p1))
 
-pub odds-spec : {M : Type 1} → statement M
-odds-spec = tie.close (tie.spec
+pub odds-spec : {M : Type 1} → of.Statement.statement M
+odds-spec = of.Tie.close (of.Tie.spec
     Inv-loop μ-loop
     (λ c κs. search needs) (λ c κs. search needs) (λ c κs. search needs) (λ c κs. search needs) (λ c κs. search needs) (λ c κs. search needs)
     (λ c κs. search needs) (λ c κs. search needs) (λ c κs. search needs) (λ c κs. search needs) (λ c κs. search needs) (λ c κs. search needs)

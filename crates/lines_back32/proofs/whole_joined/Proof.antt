@@ -3,10 +3,9 @@ use Rattle.algebra.specs.Prelude.{_≡_, refl, ap₂, _∙_, _∷_, needs, lit<
 use Rattle.lines.specs.DoubleCasts.{whole-is}
 use Rattle.lines_back32.proofs.PartSums.{joined-are}
 use Rattle.lines_back32.proofs.WholeParts.{even-cosine, odd-cosine, even-sine, odd-sine}
-use Rattle.lines_back32.proofs.whole_joined.Statement.{statement}
-use Rattle.lines_back32.proofs.whole_joined.Tie as tie
+use Rattle.lines_back32.proofs.whole_joined as of
 
-returns : tie.Need-returns
+returns : of.Tie.Need-returns
 returns c w =
     let n15 = c in
     let n14 = n15 .before in
@@ -59,8 +58,8 @@ returns c w =
     ap₂ _∷_ e0 (ap₂ _∷_ e1 (ap₂ _∷_ e2 (ap₂ _∷_ e3 (ap₂ _∷_ e4 (ap₂ _∷_ e5 (ap₂ _∷_ e6 (ap₂ _∷_ e7 (ap₂ _∷_ e8 (ap₂ _∷_ e9 (ap₂ _∷_ e10 (ap₂ _∷_ e11 (ap₂ _∷_ e12 (ap₂ _∷_ e13 (ap₂ _∷_ e14 (ap₂ _∷_ e15 refl)))))))))))))))
     ∙ joined-are (w .number)
 
-pub whole-joined-spec : {M : Type 1} → statement M
-whole-joined-spec = tie.close (tie.spec
+pub whole-joined-spec : {M : Type 1} → of.Statement.statement M
+whole-joined-spec = of.Tie.close (of.Tie.spec
     (λ c. search needs) (λ c. search needs) (λ c κs. (even-cosine (c .pre) 0 (lit< tt), even-cosine (c .pre) 0 (lit< tt)))
     (λ c. search needs) (λ c. search needs) (λ c κs. (odd-cosine (c .before .pre) 0 (lit< tt), odd-sine (c .before .pre) 0 (lit< tt)))
     (λ c. search needs) (λ c. search needs) (λ c κs. (even-cosine (c .before .before .pre) 1 (lit< tt), even-sine (c .before .before .pre) 0 (lit< tt)))

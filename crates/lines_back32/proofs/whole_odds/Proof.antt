@@ -1,23 +1,19 @@
 -- `lines_back32::whole_odds`: the sums of both rows are stored by twos.
-use Rattle.algebra.specs.Prelude.{refl, _∙_, ℕ, _+_, _-_, _*_, arith, needs, lit≤, getD, ℤ, pos, w64}
+use Rattle.lines_back32.specs.Prelude.{refl, _∙_, ℕ, _+_, _-_, _*_, arith, needs, lit≤, getD, ℤ, pos, w64, side32, oddSumOf, picked}
 use Rattle.sequences.specs.TabLaws.{Filled, fill-start, fill-done}
-use Rattle.recipe.specs.Tables32.{side32}
-use Rattle.lines.specs.Fold.{oddSumOf}
 use Rattle.lines.specs.Held.{held-is}
-use Rattle.lines.specs.DoubleForms.{picked}
 use Rattle.lines_back32.proofs.BothHalves.{inTurn, twos-turn, even-at, odd-at, in-turn-are}
 use Rattle.lines_back32.proofs.PartSums.{parts-of}
 use Rattle.lines_back32.proofs.WholeParts.{whole-number, odd-line-most}
-use Rattle.lines_back32.proofs.whole_odds.Statement.{statement}
-use Rattle.lines_back32.proofs.whole_odds.Tie as tie
+use Rattle.lines_back32.proofs.whole_odds as of
 
-abbrev Inv-loop : tie.InvT-loop
+abbrev Inv-loop : of.Tie.InvT-loop
 Inv-loop h t0 t1 r₀ k₀ r k = Filled (inTurn (λ n. getD t0 n (pos 0)) (λ n. getD t1 n (pos 0))) 32 (2 * k) r₀ r
 
-abbrev μ-loop : tie.MeasureT-loop
+abbrev μ-loop : of.Tie.MeasureT-loop
 μ-loop h t0 t1 r₀ k₀ r k = 16 - k
 
-whole-joined-requires : tie.Need-whole-joined-requires Inv-loop μ-loop
+whole-joined-requires : of.Tie.Need-whole-joined-requires Inv-loop μ-loop
 whole-joined-requires c κs =
     let d1 = c in
     let d0 = d1 .before .before in
@@ -34,7 +30,7 @@ whole-joined-requires c κs =
     let p0 = parts-of (λ k. w .number (4 * k + 2 + 0)) (λ k. w .most (4 * k + 2 + 0)) (lit≤ tt) e0 (a0 .even-cosines .ensures) (b0 .odd-cosines .ensures) (c0 .even-sines .ensures) (d0 .odd-sines .ensures) in
     p0
 
-whole-joined-requires-2 : tie.Need-whole-joined-requires-2 Inv-loop μ-loop
+whole-joined-requires-2 : of.Tie.Need-whole-joined-requires-2 Inv-loop μ-loop
 whole-joined-requires-2 c κs =
     let t0 = c in
     let d1 = t0 .before in
@@ -52,7 +48,7 @@ whole-joined-requires-2 c κs =
     let p1 = parts-of (λ k. w .number (4 * k + 2 + 1)) (λ k. w .most (4 * k + 2 + 1)) (lit≤ tt) e1 (a1 .even-cosines2 .ensures) (b1 .odd-cosines2 .ensures) (c1 .even-sines2 .ensures) (d1 .odd-sines2 .ensures) in
     p1
 
-loop-again : tie.Need-loop-again Inv-loop μ-loop
+loop-again : of.Tie.Need-loop-again Inv-loop μ-loop
 loop-again c =
     let l = c .before .before in
     let t1 = l .before .before in
@@ -79,7 +75,7 @@ loop-again c =
     let b : ℕ → ℤ = λ n. getD (t1 .whole-joined2 .result) n (pos 0) in
     twos-turn (l .before .loop .inv) (l .loop-test .taken) (held-is w64 m0 k tt ∙ even-at a b k) (held-is w64 m1 k tt ∙ odd-at a b k)
 
-returns : tie.Need-returns Inv-loop μ-loop
+returns : of.Tie.Need-returns Inv-loop μ-loop
 returns c w =
     let t1 = c .before .before in
     let t0 = t1 .before in
@@ -100,8 +96,8 @@ returns c w =
     fill-done (c .before .loop .inv) (omega arith)
     ∙ in-turn-are _ _ (λ p n. oddSumOf side32 (λ k. w .number (4 * k + 2 + p)) n) (whole-number 16 _ (t0 .whole-joined .ensures p0)) (whole-number 16 _ (t1 .whole-joined2 .ensures p1))
 
-pub whole-odds-spec : {M : Type 1} → statement M
-whole-odds-spec = tie.close (tie.spec
+pub whole-odds-spec : {M : Type 1} → of.Statement.statement M
+whole-odds-spec = of.Tie.close (of.Tie.spec
     Inv-loop μ-loop
     (λ c κs. search needs) (λ c κs. search needs) (λ c κs. search needs) (λ c κs. search needs) (λ c κs. search needs) (λ c κs. search needs)
     (λ c κs. search needs) (λ c κs. search needs) (λ c κs. search needs) (λ c κs. search needs)

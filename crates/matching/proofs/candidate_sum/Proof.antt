@@ -1,27 +1,25 @@
 -- The other image's square at the moved tile is copied, and the sum of the two arrays is the residual.
-use Rattle.algebra.specs.Prelude.{refl, ap, _∙_, false, ℕ, _+_, _-_, _*_, _^_, _≤_, arith, needs, lit≤}
+use Rattle.matching.specs.Prelude.{refl, ap, _∙_, false, ℕ, _+_, _-_, _*_, _^_, _≤_, arith, needs, lit≤, TileSide}
 use mathlib.Core.Logic.{⊎-elim}
-use Rattle.geometry.specs.Fits.{TileSide}
 use Rattle.residuals.specs.SixteenLaws.{low-less}
 use Rattle.search.specs.VectorLaws.{within-more, plus-within}
 use Rattle.matching.specs.Stored.{pairIn}
 use Rattle.search.specs.LocalLaws.{moved-residual}
 use Rattle.matching.specs.StoredLaws.{copied-low}
-use Rattle.matching.proofs.candidate_sum.Statement.{statement}
-use Rattle.matching.proofs.candidate_sum.Tie as tie
+use Rattle.matching.proofs.candidate_sum as of
 
 whole : {side : ℕ} → TileSide side → 0 + (side - 1) * side + side ≤ side * side
 whole sided = ⊎-elim (λ e. rw e (lit≤ tt)) (λ e. rw e (lit≤ tt)) (sided .is)
 
-sum-requires : tie.Need-sum-requires
+sum-requires : of.Tie.Need-sum-requires
 sum-requires c κs = let s = c .before .before .before in (within-more (2 ^ 20) (s .pre .ready .placed .near) (lit≤ tt), within-more (2 ^ 20) (s .pre .near) (lit≤ tt))
 
-copy-square-requires : tie.Need-copy-square-requires
+copy-square-requires : of.Tie.Need-copy-square-requires
 copy-square-requires c κs = let s = c .before .before .before .before .before in
     let h = s .pre .ready in
     record { source = h .stored .other; near = rw (c .before .sum .ensures) (within-more (2 ^ 20) (plus-within (h .placed .near) (s .pre .near)) (lit≤ tt)); small = omega (arith, h .placed .small); eights = h .placed .eights; room = s .pre .room }
 
-square-sum-requires : tie.Need-square-sum-requires
+square-sum-requires : of.Tie.Need-square-sum-requires
 unfolding pairIn
 square-sum-requires c κs = let s = c .before .before .before .before .before .before .before .before .before in
     let h = s .pre .ready in
@@ -31,7 +29,7 @@ square-sum-requires c κs = let s = c .before .before .before .before .before .b
       close = omega (arith, h .placed .small);
     }
 
-returns : tie.Need-returns
+returns : of.Tie.Need-returns
 unfolding pairIn
 returns c = let s = c .before .before .before .before .before .before .before .before .before .before in
     let a = s .args in
@@ -39,5 +37,5 @@ returns c = let s = c .before .before .before .before .before .before .before .b
     c .square-sum .ensures
     ∙ moved-residual false (pairIn (a .words .now) (a .area)) (a .tile) (a .v) _ _ _ _ (a .tile .side) refl (s .pre .ready .copied) (c .before .before .before .before .copy-square .ensures) (ap (λ v. v .down) e) (ap (λ v. v .right) e)
 
-pub candidate-sum-spec : {M : Type 1} → statement M
-candidate-sum-spec = tie.close (tie.spec sum-requires copy-square-requires square-sum-requires (λ c. search needs) returns)
+pub candidate-sum-spec : {M : Type 1} → of.Statement.statement M
+candidate-sum-spec = of.Tie.close (of.Tie.spec sum-requires copy-square-requires square-sum-requires (λ c. search needs) returns)

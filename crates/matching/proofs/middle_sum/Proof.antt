@@ -1,10 +1,8 @@
 -- The square lies within the window.
-use Rattle.algebra.specs.Prelude.{ℕ, _+_, _-_, _*_, _≤_, arith, needs, lit≤}
+use Rattle.matching.specs.Prelude.{ℕ, _+_, _-_, _*_, _≤_, arith, needs, lit≤, TileSide}
 use mathlib.Core.Logic.{⊎-elim}
-use Rattle.geometry.specs.Fits.{TileSide}
 use Rattle.residuals.specs.SixteenLaws.{low-less}
-use Rattle.matching.proofs.middle_sum.Statement.{statement}
-use Rattle.matching.proofs.middle_sum.Tie as tie
+use Rattle.matching.proofs.middle_sum as of
 
 most : {side : ℕ} → TileSide side → side ≤ 32
 most sided = ⊎-elim (λ e. rw e (lit≤ tt)) (λ e. rw e (lit≤ tt)) (sided .is)
@@ -12,11 +10,11 @@ most sided = ⊎-elim (λ e. rw e (lit≤ tt)) (λ e. rw e (lit≤ tt)) (sided .
 within : {side : ℕ} → TileSide side → 4 * (side + 8) + 4 + (side - 1) * (side + 8) + side ≤ (side + 8) * (side + 8)
 within sided = ⊎-elim (λ e. rw e (lit≤ tt)) (λ e. rw e (lit≤ tt)) (sided .is)
 
-square-sum-requires : tie.Need-square-sum-requires
+square-sum-requires : of.Tie.Need-square-sum-requires
 square-sum-requires c κs = let s = c .before .before in
     record { sided = s .pre .0; compared = record { tile-low = s .pre .1 .tile-low; window-low = low-less (s .pre .1 .window-low) _ (within (s .pre .0)) }; close = omega (arith, most (s .pre .0)) }
 
-pub middle-sum-spec : {M : Type 1} → statement M
-middle-sum-spec = tie.close (tie.spec
+pub middle-sum-spec : {M : Type 1} → of.Statement.statement M
+middle-sum-spec = of.Tie.close (of.Tie.spec
     (λ c. omega (arith, most (c .before .before .pre .0))) (λ c. omega (arith, most (c .before .before .pre .0))) (λ c. omega (arith, most (c .before .before .pre .0))) (λ c. omega (arith, most (c .before .before .pre .0)))
     square-sum-requires (λ c. search needs))

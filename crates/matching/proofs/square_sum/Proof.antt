@@ -1,29 +1,27 @@
 -- The side is one of two.
-use Rattle.algebra.specs.Prelude.{_≡_, subst, needs, _+_, _-_, _*_}
+use Rattle.matching.specs.Prelude.{_≡_, subst, needs, _+_, _-_, _*_, Compared}
 use mathlib.Core.Logic.{⊎-elim}
-use Rattle.residuals.specs.Local.{Compared}
-use Rattle.matching.proofs.square_sum.Statement.{statement}
-use Rattle.matching.proofs.square_sum.Tie as tie
+use Rattle.matching.proofs.square_sum as of
 
-side-is : (c : tie.Else1) → c .before .before .before .args .side ≡ 16
+side-is : (c : of.Tie.Else1) → c .before .before .before .args .side ≡ 16
 side-is c = ⊎-elim (λ e. e) (λ e. absurd (c .if1 .left e)) (c .before .before .before .pre .sided .is)
 
-absolute-sum-requires : tie.Need-absolute-sum-requires
+absolute-sum-requires : of.Tie.Need-absolute-sum-requires
 absolute-sum-requires c κs = let s = c .before .before .before in
     let a = s .args in
     (subst (λ n. Compared (a .samples .now) (a .other .now) (n * n) (a .start + (n - 1) * a .stride + n)) (c .if1 .taken) (s .pre .compared), s .pre .close)
 
-returns : tie.Need-returns
+returns : of.Tie.Need-returns
 returns c = rw (c .before .if1 .taken) (c .absolute-sum .ensures .0)
 
-absolute-sum-requires-2 : tie.Need-absolute-sum-requires-2
+absolute-sum-requires-2 : of.Tie.Need-absolute-sum-requires-2
 absolute-sum-requires-2 c κs = let s = c .before .before .before in
     let a = s .args in
     (subst (λ n. Compared (a .samples .now) (a .other .now) (n * n) (a .start + (n - 1) * a .stride + n)) (side-is c) (s .pre .compared), s .pre .close)
 
-returns-2 : tie.Need-returns-2
+returns-2 : of.Tie.Need-returns-2
 returns-2 c = rw (side-is (c .before)) (c .absolute-sum2 .ensures .0)
 
-pub square-sum-spec : {M : Type 1} → statement M
-square-sum-spec = tie.close (tie.spec
+pub square-sum-spec : {M : Type 1} → of.Statement.statement M
+square-sum-spec = of.Tie.close (of.Tie.spec
     absolute-sum-requires (λ c. search needs) returns absolute-sum-requires-2 (λ c. search needs) returns-2)

@@ -1,17 +1,13 @@
 -- All rows: two rows of pairs of tiles lie in the work area.
-use Rattle.algebra.specs.Prelude.{_≡_, sym, ap, _∙_, _-_, _*_, _/_, _≤_, arith, needs, now}
+use Rattle.merging.specs.Prelude.{_≡_, sym, ap, _∙_, _-_, _*_, _/_, _≤_, arith, needs, now, Allowed, TileSide, sceneAt, sceneOf, rowWords}
 use native.Mathlib.Nat.{mul-le-mul-left, mul-comm}
 use Rattle.geometry.specs.declared.Shape.{Shape}
 use Rattle.geometry.specs.Shape.{outputLength, workLength}
-use Rattle.geometry.specs.Fits.{Allowed, TileSide}
-use Rattle.recipe.specs.Scene.{sceneAt, sceneOf}
-use Rattle.tiles.specs.Rows.{rowWords}
 use Rattle.tiles.specs.Places.{by-side}
 use Rattle.gather.specs.RowLaws.{rows-whole}
 use Rattle.merging.proofs.Advance.{whole-merged}
 use Rattle.merging.proofs.Bands.{side-above}
-use Rattle.merging.proofs.merge_frames.Statement.{statement}
-use Rattle.merging.proofs.merge_frames.Tie as tie
+use Rattle.merging.proofs.merge_frames as of
 
 rows-fit : {s : Shape} → Allowed s → TileSide (s .side) → 2 * rowWords (s .side) (s .width) ≤ workLength s
 unfolding rowWords workLength
@@ -23,7 +19,7 @@ all-rows : {s : Shape} → Allowed s → TileSide (s .side) → outputLength s �
 unfolding outputLength
 all-rows {s} ok sided = mul-comm (s .width) (s .height) ∙ ap (λ k. k * s .width) (sym (rows-whole sided (s .height) (ok .high .whole)))
 
-merge-rows-requires : tie.Need-merge-rows-requires
+merge-rows-requires : of.Tie.Need-merge-rows-requires
 merge-rows-requires c κs =
     let s = c .before .before .before .before .before in
     let ok = s .pre .accepted .burst .allowed in
@@ -36,13 +32,13 @@ merge-rows-requires c κs =
       room = omega (arith, rows-fit ok sided, s .pre .work-long);
     }
 
-returns : tie.Need-returns
+returns : of.Tie.Need-returns
 unfolding sceneAt
 returns c =
     let r = c .before .before .before in
     let s = r .before .before .before .before .before .before in
     r .merge-rows .ensures ∙ whole-merged (s .pre .accepted .burst .sided) (sceneOf (s .args .m) (now (s .args .samples)) (now (s .args .vectors))) (s .pre .accepted .burst .allowed .high)
 
-pub merge-frames-spec : {M : Type 1} → statement M
-merge-frames-spec = tie.close (tie.spec
+pub merge-frames-spec : {M : Type 1} → of.Statement.statement M
+merge-frames-spec = of.Tie.close (of.Tie.spec
     (λ c. side-above (c .before .before .before .pre .accepted .burst .sided)) merge-rows-requires (λ c. search needs) (λ c. search needs) returns)

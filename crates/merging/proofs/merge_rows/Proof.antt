@@ -1,16 +1,14 @@
 -- The two row parities, one after the other.
-use Rattle.algebra.specs.Prelude.{arith, needs, lit<, now}
-use Rattle.recipe.specs.Scene.{sceneAt, sceneOf}
+use Rattle.merging.specs.Prelude.{arith, needs, lit<, now, sceneAt, sceneOf}
 use Rattle.merging.proofs.Advance.{all-merged}
-use Rattle.merging.proofs.merge_rows.Statement.{statement}
-use Rattle.merging.proofs.merge_rows.Tie as tie
+use Rattle.merging.proofs.merge_rows as of
 
-merge-parity-requires : tie.Need-merge-parity-requires
+merge-parity-requires : of.Tie.Need-merge-parity-requires
 merge-parity-requires c κs =
     let s = c .before .before .before .before in
     record { lent = s .pre; parity = lit< tt }
 
-merge-parity-requires-2 : tie.Need-merge-parity-requires-2
+merge-parity-requires-2 : of.Tie.Need-merge-parity-requires-2
 merge-parity-requires-2 c κs =
     let p = c .before .before .before .before .before in
     let s = p .before .before .before .before .before in
@@ -26,7 +24,7 @@ merge-parity-requires-2 c κs =
       parity = lit< tt;
     }
 
-returns : tie.Need-returns
+returns : of.Tie.Need-returns
 unfolding sceneAt
 returns c =
     let q = c .before .before .before in
@@ -34,6 +32,6 @@ returns c =
     let s = p .before .before .before .before .before in
     all-merged (s .pre .accepted .burst .sided) (sceneOf (s .args .m) (now (s .args .samples)) (now (s .args .vectors))) (s .args .first) (s .args .last) (s .pre .output-long) (p .merge-parity .ensures) (q .merge-parity2 .ensures)
 
-pub merge-rows-spec : {M : Type 1} → statement M
-merge-rows-spec = tie.close (tie.spec
+pub merge-rows-spec : {M : Type 1} → of.Statement.statement M
+merge-rows-spec = of.Tie.close (of.Tie.spec
     merge-parity-requires merge-parity-requires-2 (λ c. search needs) (λ c. search needs) returns)

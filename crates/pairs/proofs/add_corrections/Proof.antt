@@ -1,17 +1,13 @@
 -- `pairs::add_corrections`: B, Q, G and P one after the other.
-use Rattle.algebra.specs.Prelude.{_∙_, ℕ, ℤ, needs, pos, now}
-use Rattle.sequences.specs.Grid.{cell}
-use Rattle.spectrum.specs.Spectrum.{twoWay}
-use Rattle.spectrum.specs.Pairs.{planeIn}
+use Rattle.pairs.specs.Prelude.{_∙_, ℕ, ℤ, needs, pos, now, cell, twoWay, planeIn}
 use Rattle.pairs.proofs.Corrections.{folded-whole, corrections-are}
-use Rattle.pairs.proofs.add_corrections.Statement.{statement}
-use Rattle.pairs.proofs.add_corrections.Tie as tie
+use Rattle.pairs.proofs.add_corrections as of
 
 -- the bins of plane p of the differences
-abbrev bins : tie.Start → ℕ → ℕ → ℕ → ℤ
+abbrev bins : of.Tie.Start → ℕ → ℕ → ℕ → ℤ
 bins s p = twoWay (planeIn (cell (pos 0) (now (s .args .d))) p)
 
-add-inverse-requires : tie.Need-add-inverse-requires
+add-inverse-requires : of.Tie.Need-add-inverse-requires
 add-inverse-requires c κs =
     let g = c .before in
     let low = g .before in
@@ -22,7 +18,7 @@ add-inverse-requires c κs =
       paired = s .pre .paired;
     }
 
-returns : tie.Need-returns
+returns : of.Tie.Need-returns
 returns c =
     let g = c .before .before in
     let low = g .before in
@@ -30,6 +26,6 @@ returns c =
     c .add-inverse .ensures (folded-whole (s .args .first) (s .args .second) (bins s) (low .low-noise .result) (low .low-noise .ensures) (s .pre .first-most) (s .pre .second-most) (g .gains .ensures))
     ∙ corrections-are (s .args .first) (s .args .second) (cell (pos 0) (now (s .args .d))) (now (s .args .sum))
 
-pub add-corrections-spec : {M : Type 1} → statement M
-add-corrections-spec = tie.close (tie.spec
+pub add-corrections-spec : {M : Type 1} → of.Statement.statement M
+add-corrections-spec = of.Tie.close (of.Tie.spec
     (λ c κs. search needs) (λ c κs. search needs) add-inverse-requires returns)

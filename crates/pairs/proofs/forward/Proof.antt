@@ -1,30 +1,26 @@
 -- `pairs::forward`: the columns, and then the rows along them, give B.
-use Rattle.algebra.specs.Prelude.{refl, _∙_, pos}
-use lib.Ieee.{binary64, ofBits}
-use Rattle.sequences.specs.Tab.{tab}
-use Rattle.sequences.specs.Grid.{grid, cell}
+use Rattle.pairs.specs.Prelude.{refl, _∙_, pos, binary64, ofBits, tab, grid, cell}
 use Rattle.lines.specs.Tiles.{cells-most}
 use Rattle.pairs.proofs.ColumnLaws.{paired-grid}
 use Rattle.pairs.proofs.Passes.{columns-small, both-ways}
-use Rattle.pairs.proofs.forward.Statement.{statement}
-use Rattle.pairs.proofs.forward.Tie as tie
+use Rattle.pairs.proofs.forward as of
 
-forward-requires : tie.Need-forward-requires
+forward-requires : of.Tie.Need-forward-requires
 unfolding grid tab
 forward-requires c κs = (c .before .before .pre, paired-grid (λ k l. pos 0) refl)
 
-rows-requires : tie.Need-rows-requires
+rows-requires : of.Tie.Need-rows-requires
 unfolding grid tab
 rows-requires c κs =
     let a = c .before .before in
     let s = a .before .before .before in
     (columns-small (cell (pos 0) (s .args .t1)) (a .forward .ensures) (cells-most (s .pre)), paired-grid (λ k l. ofBits binary64 0) refl)
 
-returns : tie.Need-returns
+returns : of.Tie.Need-returns
 returns c =
     let a = c .before .before .before in
     let s = a .before .before .before in
     c .rows .ensures ∙ both-ways (cell (pos 0) (s .args .t1)) (a .forward .ensures)
 
-pub forward-spec : {M : Type 1} → statement M
-forward-spec = tie.close (tie.spec forward-requires rows-requires returns)
+pub forward-spec : {M : Type 1} → of.Statement.statement M
+forward-spec = of.Tie.close (of.Tie.spec forward-requires rows-requires returns)

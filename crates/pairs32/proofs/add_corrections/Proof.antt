@@ -1,21 +1,16 @@
 -- `pairs32::add_corrections`: B, Q, G and P one after the other.
-use Rattle.algebra.specs.Prelude.{_∙_, ℕ, ℤ, needs, pos, now}
-use Rattle.sequences.specs.Grid.{cell}
-use Rattle.recipe.specs.Tables32.{side32}
-use Rattle.spectrum.specs.Spectrum.{twoWayOf}
-use Rattle.spectrum.specs.Pairs.{planeIn}
+use Rattle.pairs32.specs.Prelude.{_∙_, ℕ, ℤ, needs, pos, now, cell, side32, twoWayOf, planeIn}
 use Rattle.pairs32.proofs.Corrections.{folded-whole, corrections-are}
-use Rattle.pairs32.proofs.add_corrections.Statement.{statement}
-use Rattle.pairs32.proofs.add_corrections.Tie as tie
+use Rattle.pairs32.proofs.add_corrections as of
 
 -- the bins of plane p of the differences
-abbrev bins : tie.Start → ℕ → ℕ → ℕ → ℤ
+abbrev bins : of.Tie.Start → ℕ → ℕ → ℕ → ℤ
 bins s p = twoWayOf side32 (planeIn (cell (pos 0) (now (s .args .d))) p)
 
-gains-requires : tie.Need-gains-requires
+gains-requires : of.Tie.Need-gains-requires
 gains-requires c κs = let s = c .before .before in record { differences = s .pre .differences; first-most = s .pre .first-most; second-most = s .pre .second-most; spare = s .pre .spare }
 
-add-inverse-requires : tie.Need-add-inverse-requires
+add-inverse-requires : of.Tie.Need-add-inverse-requires
 add-inverse-requires c κs =
     let g = c .before .before in
     let low = g .before .before in
@@ -26,7 +21,7 @@ add-inverse-requires c κs =
       paired = s .pre .paired;
     }
 
-returns : tie.Need-returns
+returns : of.Tie.Need-returns
 returns c =
     let g = c .before .before .before in
     let low = g .before .before in
@@ -38,5 +33,5 @@ returns c =
           ∙ corrections-are (s .args .first) (s .args .second) (cell (pos 0) (now (s .args .d))) (now (s .args .sum));
     }
 
-pub add-corrections-spec : {M : Type 1} → statement M
-add-corrections-spec = tie.close (tie.spec (λ c κs. search needs) gains-requires add-inverse-requires returns)
+pub add-corrections-spec : {M : Type 1} → of.Statement.statement M
+add-corrections-spec = of.Tie.close (of.Tie.spec (λ c κs. search needs) gains-requires add-inverse-requires returns)

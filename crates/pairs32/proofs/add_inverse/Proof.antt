@@ -1,22 +1,20 @@
 -- `pairs32::add_inverse`: the sums back down the columns, and then along the rows, give P.
-use Rattle.algebra.specs.Prelude.{_∙_, now}
-use Rattle.spectrum.specs.LongPairs.{longDoubles}
+use Rattle.pairs32.specs.Prelude.{_∙_, now, longDoubles}
 use Rattle.pairs32.proofs.ColumnLaws.{paired-grid}
 use Rattle.pairs32.proofs.Passes.{columns-whole, back-is}
-use Rattle.pairs32.proofs.add_inverse.Statement.{statement}
-use Rattle.pairs32.proofs.add_inverse.Tie as tie
+use Rattle.pairs32.proofs.add_inverse as of
 
-back-requires : tie.Need-back-requires
+back-requires : of.Tie.Need-back-requires
 unfolding longDoubles
 back-requires c κs = paired-grid _ (c .before .pre .whole .is)
 
-add-back-requires : tie.Need-add-back-requires
+add-back-requires : of.Tie.Need-add-back-requires
 add-back-requires c κs =
     let a = c .before .before in
     let s = a .before .before in
     record { whole = columns-whole (s .args .low) (a .back .ensures) (s .pre .whole); sums-most = s .pre .sums-most; paired = s .pre .paired }
 
-returns : tie.Need-returns
+returns : of.Tie.Need-returns
 unfolding longDoubles
 returns c =
     let a = c .before .before .before in
@@ -26,5 +24,5 @@ returns c =
       is = λ w. c .add-back .ensures (columns-whole (s .args .low) (a .back .ensures) w) ∙ back-is (w .number) (now (s .args .sum));
     }
 
-pub add-inverse-spec : {M : Type 1} → statement M
-add-inverse-spec = tie.close (tie.spec back-requires add-back-requires returns)
+pub add-inverse-spec : {M : Type 1} → of.Statement.statement M
+add-inverse-spec = of.Tie.close (of.Tie.spec back-requires add-back-requires returns)

@@ -1,22 +1,20 @@
 -- `pairs32::gains`: B, and one of the two filters in its place.
-use Rattle.algebra.specs.Prelude.{arith}
-use Rattle.spectrum.specs.LongPairs.{longDoubles}
+use Rattle.pairs32.specs.Prelude.{arith, longDoubles}
 use Rattle.pairs32.proofs.ColumnLaws.{paired-grid}
 use Rattle.pairs32.proofs.Corrections.{binned-pair}
-use Rattle.pairs32.proofs.gains.Statement.{statement}
-use Rattle.pairs32.proofs.gains.Tie as tie
+use Rattle.pairs32.proofs.gains as of
 
-forward-requires : tie.Need-forward-requires
+forward-requires : of.Tie.Need-forward-requires
 forward-requires c κs = let s = c .before in (s .pre .differences, s .pre .spare)
 
-filter-requires : tie.Need-filter-requires
+filter-requires : of.Tie.Need-filter-requires
 unfolding longDoubles
 filter-requires c κs =
     let b = c .before in
     let s = b .before .before in
     record { paired = paired-grid _ (b .forward .ensures); first-most = s .pre .first-most; second-most = s .pre .second-most }
 
-returns : tie.Need-returns
+returns : of.Tie.Need-returns
 returns c =
     let f = c .before in
     let b = f .before .before in
@@ -24,23 +22,23 @@ returns c =
     let w = binned-pair (s .pre .differences) (b .forward .ensures) in
     f .filter .ensures .is (c .if1 .taken) w
 
-forward-requires-2 : tie.Need-forward-requires-2
+forward-requires-2 : of.Tie.Need-forward-requires-2
 forward-requires-2 c κs =
     let f = c .before .before in
     let s = f .before .before .before .before in
     (s .pre .differences, f .filter .ensures .paired)
 
-filter-exactly-requires : tie.Need-filter-exactly-requires
+filter-exactly-requires : of.Tie.Need-filter-exactly-requires
 filter-exactly-requires c κs =
     let b = c .before in
     let s = b .before .before .before .before .before .before .before in
     record { binned = binned-pair (s .pre .differences) (b .forward2 .ensures); first-most = omega arith; second-most = omega arith }
 
-returns-2 : tie.Need-returns-2
+returns-2 : of.Tie.Need-returns-2
 returns-2 c =
     let b = c .before .before in
     let s = b .before .before .before .before .before .before .before in
     c .filter-exactly .ensures (binned-pair (s .pre .differences) (b .forward2 .ensures))
 
-pub gains-spec : {M : Type 1} → statement M
-gains-spec = tie.close (tie.spec forward-requires filter-requires returns forward-requires-2 filter-exactly-requires returns-2)
+pub gains-spec : {M : Type 1} → of.Statement.statement M
+gains-spec = of.Tie.close (of.Tie.spec forward-requires filter-requires returns forward-requires-2 filter-exactly-requires returns-2)

@@ -7,13 +7,12 @@ use Rattle.geometry.specs.Read.{inside}
 use Rattle.sequences.specs.Write.{Writing, write-start, write-part, write-done}
 use Rattle.pyramid.specs.Words.{wordAt}
 use Rattle.patches.specs.Copies.{sampleOf}
-use Rattle.patches.proofs.copy_edge.Statement.{statement}
-use Rattle.patches.proofs.copy_edge.Tie as tie
+use Rattle.patches.proofs.copy_edge as of
 
-abbrev Inv-loop : tie.InvT-loop
+abbrev Inv-loop : of.Tie.InvT-loop
 Inv-loop words start width column n out₀ to k₀ k-end out k = Writing out₀ to (sampleOf words start width (toZ w64 column)) n (8 * k) out
 
-abbrev μ-loop : tie.MeasureT-loop
+abbrev μ-loop : of.Tie.MeasureT-loop
 μ-loop words start width column n out₀ to k₀ k-end out k = k-end - k
 
 -- eights further a column is still near, by as many samples as are left
@@ -24,11 +23,11 @@ further z column j n e h l = rw e (omega (arith, abs-add column (pos j)))
 eights : (column : ℤ) (k j : ℕ) → column +ℤ pos k +ℤ pos j ≡ column +ℤ pos (k + j)
 eights column k j = +ℤ-assoc column (pos k) (pos j)
 
-shifted-requires : tie.Need-shifted-requires Inv-loop μ-loop
+shifted-requires : of.Tie.Need-shifted-requires Inv-loop μ-loop
 shifted-requires c κs = let s = c .before .before .before in
     rw (toZ-ofZ (s .fits .column)) (record { most = omega (arith, s .pre .near) }, omega (arith, s .pre .small))
 
-copy-group-requires : tie.Need-copy-group-requires Inv-loop μ-loop
+copy-group-requires : of.Tie.Need-copy-group-requires Inv-loop μ-loop
 copy-group-requires c κs = let s = c .before .before .before .before .before in
     let m = c .before .shifted in
     record {
@@ -41,17 +40,17 @@ copy-group-requires c κs = let s = c .before .before .before .before .before in
       room = omega arith;
     }
 
-loop-again : tie.Need-loop-again Inv-loop μ-loop
+loop-again : of.Tie.Need-loop-again Inv-loop μ-loop
 loop-again c = let a = c .before .before .before .before .before .before .before .before .args in
     let l = c .before .before .before .before .before .before .loop in
     let m = c .before .before .before .before .shifted in
     let e : 8 * (l .k + 1) ≡ 8 * l .k + 8 = omega arith in
     rw e (write-part (l .inv) (omega arith) (λ j h. ap (λ x. wordAt (a .words .now) (a .start + inside (a .width) x)) (ap (λ z. z +ℤ pos j) (back (m .result) (m .ok) ∙ m .ensures) ∙ eights (toZ w64 (ofZ w64 (a .column))) (8 * l .k) j)) (c .before .before .copy-group .ensures))
 
-returns : tie.Need-returns Inv-loop μ-loop
+returns : of.Tie.Need-returns Inv-loop μ-loop
 returns c = simp (toZ-ofZ (c .before .before .before .fits .column)) at (write-done (c .before .loop .inv) (omega arith))
 
-pub copy-edge-spec : {M : Type 1} → statement M
-copy-edge-spec = tie.close (tie.spec
+pub copy-edge-spec : {M : Type 1} → of.Statement.statement M
+copy-edge-spec = of.Tie.close (of.Tie.spec
     Inv-loop μ-loop (λ c. write-start (search needs)) (λ c. search needs) shifted-requires (λ c. search needs) (λ c. search needs) copy-group-requires (λ c. search needs)
     (λ c. search needs) loop-again (λ c. search needs) returns)

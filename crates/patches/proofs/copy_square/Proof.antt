@@ -7,36 +7,35 @@ use Rattle.pyramid.specs.Words.{wordAt, imageAt}
 use Rattle.pyramid.specs.WordsLaws.{row-held}
 use Rattle.patches.specs.Copies.{Copied}
 use Rattle.patches.specs.CopyLaws.{copied-turn}
-use Rattle.patches.proofs.copy_square.Statement.{statement}
-use Rattle.patches.proofs.copy_square.Tie as tie
+use Rattle.patches.proofs.copy_square as of
 
-abbrev Inv-loop : tie.InvT-loop
+abbrev Inv-loop : of.Tie.InvT-loop
 Inv-loop words from height width corner n out₀ i₀ out i = (i ≤ n) × (length out ≡ length out₀) × Copied out i n (read height width (imageAt words from width)) (corner .down) (corner .right)
 
-abbrev μ-loop : tie.MeasureT-loop
+abbrev μ-loop : of.Tie.MeasureT-loop
 μ-loop words from height width corner n out₀ i₀ out i = n - i
 
-loop-holds : tie.Need-loop-holds Inv-loop μ-loop
+loop-holds : of.Tie.Need-loop-holds Inv-loop μ-loop
 loop-holds c = (omega arith, refl, record { cell = λ i j h k. absurd (omega arith) })
 
-shifted-requires : tie.Need-shifted-requires Inv-loop μ-loop
+shifted-requires : of.Tie.Need-shifted-requires Inv-loop μ-loop
 shifted-requires c κs = let s = c .before .before .before .before in
     let w = s .pre .near in
     rw (back-small (s .args .corner .down) (2 ^ 20) (w .vertical) tt) (record { most = omega (arith, w .vertical) }, omega arith)
 
-place : (c : tie.After-inside Inv-loop μ-loop) → let a = c .before .before .before .before .before .before .args in c .inside .result * a .width + a .width ≤ a .height * a .width
+place : (c : of.Tie.After-inside Inv-loop μ-loop) → let a = c .before .before .before .before .before .before .args in c .inside .result * a .width + a .width ≤ a .height * a .width
 place c = row-room _ _ (c .before .before .before .before .before .before .args .width) (c .inside .ensures .1)
 
-mul-copy-row : tie.Need-mul-copy-row Inv-loop μ-loop
+mul-copy-row : of.Tie.Need-mul-copy-row Inv-loop μ-loop
 mul-copy-row c = omega (arith, place c, c .before .before .before .before .before .before .pre .source .holds .room)
 
-add-copy-row : tie.Need-add-copy-row Inv-loop μ-loop
+add-copy-row : of.Tie.Need-add-copy-row Inv-loop μ-loop
 add-copy-row c = omega (arith, place c, c .before .before .before .before .before .before .pre .source .holds .room)
 
-mul-copy-row-2 : tie.Need-mul-copy-row-2 Inv-loop μ-loop
+mul-copy-row-2 : of.Tie.Need-mul-copy-row-2 Inv-loop μ-loop
 mul-copy-row-2 c = omega (arith, row-room _ _ (c .before .before .before .before .before .before .before .args .n) (c .before .before .before .before .loop-test .taken))
 
-copy-row-requires : tie.Need-copy-row-requires Inv-loop μ-loop
+copy-row-requires : of.Tie.Need-copy-row-requires Inv-loop μ-loop
 copy-row-requires c κs = let s = c .before .before .before .before .before .before .before .before in
     let w = s .pre .near in
     record {
@@ -49,7 +48,7 @@ copy-row-requires c κs = let s = c .before .before .before .before .before .bef
       room = omega (arith, row-room _ _ (s .args .n) (c .before .before .before .before .before .loop-test .taken));
     }
 
-loop-again : tie.Need-loop-again Inv-loop μ-loop
+loop-again : of.Tie.Need-loop-again Inv-loop μ-loop
 unfolding read imageAt
 loop-again c = let s = c .before .before .before .before .before .before .before .before .before .before .before in
     let a = s .args in
@@ -66,11 +65,11 @@ loop-again c = let s = c .before .before .before .before .before .before .before
           (back-small (a .corner .right) (2 ^ 20) (s .pre .near .sideways) tt))),
     )
 
-returns : tie.Need-returns Inv-loop μ-loop
+returns : of.Tie.Need-returns Inv-loop μ-loop
 returns c = let e : c .before .loop .i ≡ c .before .before .before .args .n = omega arith in rw e at (c .before .loop .inv .2)
 
-pub copy-square-spec : {M : Type 1} → statement M
-copy-square-spec = tie.close (tie.spec
+pub copy-square-spec : {M : Type 1} → of.Statement.statement M
+copy-square-spec = of.Tie.close (of.Tie.spec
     Inv-loop μ-loop loop-holds shifted-requires (λ c κs. search needs) mul-copy-row add-copy-row
     mul-copy-row-2 copy-row-requires (λ c. search needs) (λ c. search needs) loop-again
     (λ c. search needs) returns)

@@ -1,15 +1,14 @@
 -- Eight samples, each in its place.
 use Rattle.algebra.specs.Prelude.{needs}
 use Rattle.sequences.specs.Tab.{tab}
-use Rattle.patches.proofs.eight.Statement.{statement}
-use Rattle.patches.proofs.eight.Tie as tie
+use Rattle.patches.proofs.eight as of
 
-returns : tie.Need-returns
+returns : of.Tie.Need-returns
 unfolding tab
 returns c = cc
 
-pub eight-spec : {M : Type 1} → statement M
-eight-spec = tie.close (tie.spec
+pub eight-spec : {M : Type 1} → of.Statement.statement M
+eight-spec = of.Tie.close (of.Tie.spec
     (λ c κs. search needs) (λ c κs. search needs) (λ c κs. search needs) (λ c κs. search needs)
     (λ c κs. search needs) (λ c κs. search needs) (λ c κs. search needs) (λ c κs. search needs)
     returns)

@@ -4,8 +4,7 @@ use native.Mathlib.Nat.{mod-lt}
 use lib.Signed.{mag, ltZ}
 use borrow.Author.Tests.{ltb-true}
 use Rattle.patches.specs.Period.{placeIn}
-use Rattle.patches.proofs.first_place.Statement.{statement}
-use Rattle.patches.proofs.first_place.Tie as tie
+use Rattle.patches.proofs.first_place as of
 
 backward : (size : ℕ) (z : ℤ) → ltZ z (pos 0) ≡ true → 2 * size - 1 - mag z % (2 * size) ≡ placeIn size z
 unfolding placeIn
@@ -20,13 +19,13 @@ unfolding placeIn
 forward size (pos k) e = refl
 forward size (negsuc k) e = absurd (subst T e tt)
 
-returns : tie.Need-returns
+returns : of.Tie.Need-returns
 returns c =
     let value = toZ-ofZ (c .before .before .fits .column) in
     let a = c .before .before .args in
     ap (λ k. 2 * a .width - 1 - k % (2 * a .width)) (rw value at (c .before .distance .ensures)) ∙ backward (a .width) (a .column) (rw value at (c .if1 .taken))
 
-returns-2 : tie.Need-returns-2
+returns-2 : of.Tie.Need-returns-2
 returns-2 c =
     let value = toZ-ofZ (c .before .before .fits .column) in
     let a = c .before .before .args in
@@ -36,5 +35,5 @@ returns-2 c =
 rest : (k width : ℕ) → 0 < width → k % (2 * width) < 2 * width
 rest k width h = mod-lt k (omega arith)
 
-pub first-place-spec : {M : Type 1} → statement M
-first-place-spec = tie.close (tie.spec (λ c. search needs) (λ c. search needs) (λ c. search needs) (λ c. search needs) (λ c. search needs) (λ c. omega (arith, rest (c .before .distance .result) (c .before .before .args .width) (omega arith))) returns returns-2)
+pub first-place-spec : {M : Type 1} → of.Statement.statement M
+first-place-spec = of.Tie.close (of.Tie.spec (λ c. search needs) (λ c. search needs) (λ c. search needs) (λ c. search needs) (λ c. search needs) (λ c. omega (arith, rest (c .before .distance .result) (c .before .before .args .width) (omega arith))) returns returns-2)

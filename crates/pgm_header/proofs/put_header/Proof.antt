@@ -3,10 +3,9 @@ use Prim.Native.Nat.{zero-le}
 use Rattle.algebra.specs.Prelude.{arith, needs}
 use Rattle.printing.specs.PutLaws.{printed-then}
 use Rattle.pgm_header.specs.Header.{pgmHeader}
-use Rattle.pgm_header.proofs.put_header.Statement.{statement}
-use Rattle.pgm_header.proofs.put_header.Tie as tie
+use Rattle.pgm_header.proofs.put_header as of
 
-returns : tie.Need-returns
+returns : of.Tie.Need-returns
 unfolding pgmHeader
 returns c =
     let tail = c .before .before in
@@ -22,7 +21,7 @@ returns c =
       omega arith,
     )
 
-pub put-header-spec : {M : Type 1} → statement M
-put-header-spec = tie.close (tie.spec
+pub put-header-spec : {M : Type 1} → of.Statement.statement M
+put-header-spec = of.Tie.close (of.Tie.spec
     (λ c. search needs) (λ c κs. search needs) (λ c κs. search needs) (λ c κs. search needs)
     (λ c κs. search needs) (λ c. search needs) (λ c κs. search needs) (λ c. search needs) returns)

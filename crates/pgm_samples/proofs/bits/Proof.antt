@@ -2,23 +2,22 @@
 use Rattle.algebra.specs.Prelude.{refl, _-_, arith, needs, length, getD}
 use Rattle.pgm_samples.specs.Samples.{someAbove}
 use Rattle.refusals.specs.SeenLaws.{Seen, seen-start, seen-turn, seen-done}
-use Rattle.pgm_samples.proofs.bits.Statement.{statement}
-use Rattle.pgm_samples.proofs.bits.Tie as tie
+use Rattle.pgm_samples.proofs.bits as of
 
-abbrev Inv-loop : tie.InvT-loop
+abbrev Inv-loop : of.Tie.InvT-loop
 Inv-loop frame seen₀ i₀ i-end seen i = Seen (λ k. getD frame k 0) 4095 (length frame) i seen
 
-abbrev μ-loop : tie.MeasureT-loop
+abbrev μ-loop : of.Tie.MeasureT-loop
 μ-loop frame seen₀ i₀ i-end seen i = length frame - i
 
-loop-again : tie.Need-loop-again Inv-loop μ-loop
+loop-again : of.Tie.Need-loop-again Inv-loop μ-loop
 loop-again c = seen-turn 12 refl (c .before .before .loop .inv) (omega arith)
 
-returns : tie.Need-returns Inv-loop μ-loop
+returns : of.Tie.Need-returns Inv-loop μ-loop
 unfolding someAbove
 returns c = seen-done (c .before .loop .inv) (omega arith)
 
-pub bits-spec : {M : Type 1} → statement M
-bits-spec = tie.close (tie.spec
+pub bits-spec : {M : Type 1} → of.Statement.statement M
+bits-spec = of.Tie.close (of.Tie.spec
     Inv-loop μ-loop (λ c. seen-start) (λ c. search needs) (λ c. search needs) (λ c. search needs)
     (λ c. search needs) loop-again returns)

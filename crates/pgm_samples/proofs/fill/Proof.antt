@@ -8,16 +8,15 @@ use Rattle.sequences.specs.Write.{Writing, write-start, write-part, write-done,
 use Rattle.pgm_samples.specs.Samples.{samplesOf}
 use Rattle.pgm_samples.specs.Blocks.{exchanged}
 use Rattle.pgm_samples.specs.SampleLaws.{samples-long, words-samples}
-use Rattle.pgm_samples.proofs.fill.Statement.{statement}
-use Rattle.pgm_samples.proofs.fill.Tie as tie
+use Rattle.pgm_samples.proofs.fill as of
 
-abbrev Inv-loop : tie.InvT-loop
+abbrev Inv-loop : of.Tie.InvT-loop
 Inv-loop bytes start frame₀ at₀ frame at = (Writing frame₀ 0 (λ k. getD (samplesOf (drop start bytes)) k 0) (length frame₀) at frame) × ((length frame₀ - at) % 64 ≡ 0)
 
-abbrev μ-loop : tie.MeasureT-loop
+abbrev μ-loop : of.Tie.MeasureT-loop
 μ-loop bytes start frame₀ at₀ frame at = length frame₀ - at
 
-loop-again : tie.Need-loop-again Inv-loop μ-loop
+loop-again : of.Tie.Need-loop-again Inv-loop μ-loop
 loop-again c =
     let put = c .before .before in
     let made = put .before .before .before in
@@ -34,7 +33,7 @@ loop-again c =
       omega arith,
     )
 
-returns : tie.Need-returns Inv-loop μ-loop
+returns : of.Tie.Need-returns Inv-loop μ-loop
 returns c =
     let args = c .before .before .before .before .args in
     let samples = samplesOf (drop (args .start) (args .bytes .now)) in
@@ -44,8 +43,8 @@ returns c =
     ∙ ap (λ n. tab n (λ k. getD samples k 0)) (sym (samples-long _ _ long))
     ∙ sym (tab-of 0 samples)
 
-pub fill-spec : {M : Type 1} → statement M
-fill-spec = tie.close (tie.spec
+pub fill-spec : {M : Type 1} → of.Statement.statement M
+fill-spec = of.Tie.close (of.Tie.spec
     Inv-loop μ-loop (λ c. (write-start (omega arith), omega arith)) (λ c. search needs)
     (λ c. search needs) (λ c κs. search needs) (λ c κs. search needs) (λ c. search needs)
     (λ c. search needs) loop-again (λ c. search needs) returns)

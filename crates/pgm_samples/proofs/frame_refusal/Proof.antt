@@ -2,16 +2,15 @@
 use Rattle.algebra.specs.Prelude.{_∙_, needs}
 use borrow.Author.Tests.{lt-ltb, le-ltb}
 use Rattle.pgm_samples.specs.Samples.{aboveRefusal}
-use Rattle.pgm_samples.proofs.frame_refusal.Statement.{statement}
-use Rattle.pgm_samples.proofs.frame_refusal.Tie as tie
+use Rattle.pgm_samples.proofs.frame_refusal as of
 
-returns : tie.Need-returns
+returns : of.Tie.Need-returns
 unfolding aboveRefusal
 returns c = rw (c .before .bits .ensures ∙ lt-ltb 4095 (c .before .bits .result) (c .if1 .taken))
 
-returns-2 : tie.Need-returns-2
+returns-2 : of.Tie.Need-returns-2
 unfolding aboveRefusal
 returns-2 c = rw (c .before .bits .ensures ∙ le-ltb 4095 (c .before .bits .result) (c .if1 .left))
 
-pub frame-refusal-spec : {M : Type 1} → statement M
-frame-refusal-spec = tie.close (tie.spec (λ c κs. search needs) returns returns-2)
+pub frame-refusal-spec : {M : Type 1} → of.Statement.statement M
+frame-refusal-spec = of.Tie.close (of.Tie.spec (λ c κs. search needs) returns returns-2)

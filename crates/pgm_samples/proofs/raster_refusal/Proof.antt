@@ -6,10 +6,9 @@ use Rattle.refusals.specs.Some.{some}
 use Rattle.refusals.specs.SomeLaws.{one-of, Passed, pass-start, pass-turns, pass-done}
 use Rattle.pgm_samples.specs.Samples.{someAbove, aboveRefusal, samplesOf}
 use Rattle.pgm_samples.specs.SampleLaws.{samples-long, high-above}
-use Rattle.pgm_samples.proofs.raster_refusal.Statement.{statement}
-use Rattle.pgm_samples.proofs.raster_refusal.Tie as tie
+use Rattle.pgm_samples.proofs.raster_refusal as of
 
-abbrev Inv-loop : tie.InvT-loop
+abbrev Inv-loop : of.Tie.InvT-loop
 Inv-loop bytes start count i₀ i =
     record {
       passed : Passed (λ k. ltb 4095 (getD (samplesOf (drop start bytes)) k 0)) (length (samplesOf (drop start bytes))) i;
@@ -17,16 +16,16 @@ Inv-loop bytes start count i₀ i =
       whole : (count - i) % 64 ≡ 0;
     }
 
-abbrev μ-loop : tie.MeasureT-loop
+abbrev μ-loop : of.Tie.MeasureT-loop
 μ-loop bytes start count i₀ i = count - i
 
-loop-holds : tie.Need-loop-holds Inv-loop μ-loop
+loop-holds : of.Tie.Need-loop-holds Inv-loop μ-loop
 loop-holds c =
     let args = c .before .args in
     record { passed = pass-start; long = samples-long (args .count) _ (omega (arith, length-drop (args .start) (args .bytes .now))); whole = omega arith }
 
 -- the block's test
-block : (c : tie.After-high-bits Inv-loop μ-loop) →
+block : (c : of.Tie.After-high-bits Inv-loop μ-loop) →
     let args = c .before .before .before .before .args in
     some 64 (λ k. ltb 4095 (getD (samplesOf (drop (args .start) (args .bytes .now))) (c .before .before .loop .i + k) 0)) ≡ ltb 15 (c .high-bits .result)
 block c =
@@ -36,7 +35,7 @@ block c =
     (record { below = λ k. omega (arith, c .before .before .before .shared-slice-known .given k) }))
     ∙ c .high-bits .ensures
 
-returns : tie.Need-returns Inv-loop μ-loop
+returns : of.Tie.Need-returns Inv-loop μ-loop
 unfolding aboveRefusal someAbove
 returns c =
     let turn = c .before .before .before .loop in
@@ -44,7 +43,7 @@ returns c =
     let samples = samplesOf (drop (args .start) (args .bytes .now)) in
     rw (one-of (length samples) (λ k. ltb 4095 (getD samples k 0)) (turn .i) 64 (omega arith) (block (c .before) ∙ lt-ltb 15 (c .before .high-bits .result) (c .if1 .taken)))
 
-loop-again : tie.Need-loop-again Inv-loop μ-loop
+loop-again : of.Tie.Need-loop-again Inv-loop μ-loop
 loop-again c =
     let turn = c .before .before .before .loop in
     record {
@@ -53,11 +52,11 @@ loop-again c =
       whole = omega arith;
     }
 
-returns-2 : tie.Need-returns-2 Inv-loop μ-loop
+returns-2 : of.Tie.Need-returns-2 Inv-loop μ-loop
 unfolding aboveRefusal someAbove
 returns-2 c = rw (pass-done (c .before .loop .inv .passed) (omega arith))
 
-pub raster-refusal-spec : {M : Type 1} → statement M
-raster-refusal-spec = tie.close (tie.spec
+pub raster-refusal-spec : {M : Type 1} → of.Statement.statement M
+raster-refusal-spec = of.Tie.close (of.Tie.spec
     Inv-loop μ-loop loop-holds (λ c. search needs) (λ c. search needs) (λ c κs. search needs)
     returns (λ c. search needs) (λ c. search needs) loop-again returns-2)

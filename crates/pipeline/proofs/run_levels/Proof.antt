@@ -5,15 +5,14 @@ use Rattle.geometry.specs.Fits.{VectorsFit}
 use Rattle.recipe.specs.Scene.{sceneOf}
 use Rattle.recipe.specs.Merged.{merged}
 use Rattle.pipeline.specs.FoundLaws.{found-fit}
-use Rattle.pipeline.proofs.run_levels.Statement.{statement}
-use Rattle.pipeline.proofs.run_levels.Tie as tie
+use Rattle.pipeline.proofs.run_levels as of
 
-align-frames-requires : tie.Need-align-frames-requires
+align-frames-requires : of.Tie.Need-align-frames-requires
 align-frames-requires c κs =
     let ready = c .before .before .before .before .before .pre in
     record { fits = record { burst = ready .fits .burst; work-long = ready .fits .work-long }; samples-fit = ready .samples-fit }
 
-merge-frames-requires : tie.Need-merge-frames-requires
+merge-frames-requires : of.Tie.Need-merge-frames-requires
 merge-frames-requires c κs =
     let frames = c .before .before .before .before .before in
     let ready = frames .before .before .before .before .before .before .pre in
@@ -39,7 +38,7 @@ merge-frames-requires c κs =
       work-long = frames .align-frames .ensures .same ∙ ready .fits .work-long;
     }
 
-returns : tie.Need-returns
+returns : of.Tie.Need-returns
 returns c =
     let merge = c .before .before .before .before .before .before in
     let frames = merge .before .before .before .before .before .before in
@@ -53,7 +52,7 @@ returns c =
       clean = c .before .clear .ensures ∙ zeros-length _ _ (search needs);
     }
 
-pub run-levels-spec : {M : Type 1} → statement M
-run-levels-spec = tie.close (tie.spec
+pub run-levels-spec : {M : Type 1} → of.Statement.statement M
+run-levels-spec = of.Tie.close (of.Tie.spec
     align-frames-requires merge-frames-requires (λ c κs. search needs) (λ c. search needs)
     (λ c. search needs) (λ c. search needs) returns)

@@ -1,13 +1,11 @@
 -- The loop sums the words of the images before number k.
-use Rattle.algebra.specs.Prelude.{_≡_, refl, ap, ap₂, _∙_, ℕ, _+_, _-_, _*_, _/_, _≤_, _<_, arith, needs}
+use Rattle.pyramid.specs.Prelude.{_≡_, refl, ap, ap₂, _∙_, ℕ, _+_, _-_, _*_, _/_, _≤_, _<_, arith, needs, levelSize}
 use native.Mathlib.Nat.{mul-le-mul}
 use native.Mathlib.Numerals.{add-one}
 use Rattle.pyramid.specs.Chain.{halves, wordsBefore}
 use Rattle.pyramid.specs.ChainLaws.{words-rise, words-third}
 use Rattle.pyramid.specs.Layout.{offset}
-use Rattle.geometry.specs.Tiles.{levelSize}
-use Rattle.pyramid.proofs.offset.Statement.{statement}
-use Rattle.pyramid.proofs.offset.Tie as tie
+use Rattle.pyramid.proofs.offset as of
 
 -- the words of the images before number i are summed, of k
 record Summing (height width k i h w sum : ℕ) : Type 0 where
@@ -37,26 +35,26 @@ module _ {height width k : ℕ} where
   sum-most {i} s less a b =
       omega (arith, s .is, words-rise height width i 6 less, words-third height width, mul-le-mul {n₁ = height} {m₁ = width} {n₂ = 2048} {m₂ = 2048} a b)
 
-abbrev Inv-loop : tie.InvT-loop
+abbrev Inv-loop : of.Tie.InvT-loop
 Inv-loop k height₀ width₀ sum₀ counter₀ height width sum counter = Summing height₀ width₀ k counter height width sum
 
-abbrev μ-loop : tie.MeasureT-loop
+abbrev μ-loop : of.Tie.MeasureT-loop
 μ-loop k height₀ width₀ sum₀ counter₀ height width sum counter = k - counter
 
-bound : (c : tie.In-loop Inv-loop μ-loop) → let s = c .before .loop in s .sum + s .height * s .width ≤ 5592405
+bound : (c : of.Tie.In-loop Inv-loop μ-loop) → let s = c .before .loop in s .sum + s .height * s .width ≤ 5592405
 bound c = sum-most (sum-turn (c .before .loop .inv) (omega arith)) (omega arith) (omega arith) (omega arith)
 
-loop-again : tie.Need-loop-again Inv-loop μ-loop
+loop-again : of.Tie.Need-loop-again Inv-loop μ-loop
 loop-again c = sum-turn (c .before .loop .inv) (omega arith)
 
-returns : tie.Need-returns Inv-loop μ-loop
+returns : of.Tie.Need-returns Inv-loop μ-loop
 unfolding offset levelSize
 returns c =
     let s = c .before .loop in
     let all : s .counter ≡ c .before .before .before .before .args .k = omega arith in
     (s .inv .is ∙ ap (wordsBefore _ _) all, sum-most (s .inv) (omega arith) (omega arith) (omega arith))
 
-pub offset-spec : {M : Type 1} → statement M
-offset-spec = tie.close (tie.spec
+pub offset-spec : {M : Type 1} → of.Statement.statement M
+offset-spec = of.Tie.close (of.Tie.spec
     Inv-loop μ-loop (λ c. sum-start) (λ c. omega (arith, bound c)) (λ c. omega (arith, bound c))
     (λ c. search needs) (λ c. search needs) loop-again returns)

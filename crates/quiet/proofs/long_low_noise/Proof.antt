@@ -2,13 +2,12 @@
 use Rattle.algebra.specs.Prelude.{arith, needs}
 use borrow.Author.Tests.{leb-true}
 use Rattle.spectrum.specs.Magnitudes.{longLowNoise}
-use Rattle.quiet.proofs.long_low_noise.Statement.{statement}
-use Rattle.quiet.proofs.long_low_noise.Tie as tie
+use Rattle.quiet.proofs.long_low_noise as of
 
-returns : tie.Need-returns
+returns : of.Tie.Need-returns
 returns c e =
     let m = leb-true (c .larger .result) longLowNoise e in
     (omega arith, omega arith)
 
-pub long-low-noise-spec : {M : Type 1} → statement M
-long-low-noise-spec = tie.close (tie.spec (λ c κs. search needs) returns)
+pub long-low-noise-spec : {M : Type 1} → of.Statement.statement M
+long-low-noise-spec = of.Tie.close (of.Tie.spec (λ c κs. search needs) returns)

@@ -2,13 +2,12 @@
 use Rattle.algebra.specs.Prelude.{arith, needs}
 use borrow.Author.Tests.{leb-true}
 use Rattle.spectrum.specs.Magnitudes.{lowNoise}
-use Rattle.quiet.proofs.low_noise.Statement.{statement}
-use Rattle.quiet.proofs.low_noise.Tie as tie
+use Rattle.quiet.proofs.low_noise as of
 
-returns : tie.Need-returns
+returns : of.Tie.Need-returns
 returns c e =
     let m = leb-true (c .larger .result) lowNoise e in
     (omega arith, omega arith)
 
-pub low-noise-spec : {M : Type 1} → statement M
-low-noise-spec = tie.close (tie.spec (λ c κs. search needs) returns)
+pub low-noise-spec : {M : Type 1} → of.Statement.statement M
+low-noise-spec = of.Tie.close (of.Tie.spec (λ c κs. search needs) returns)

@@ -2,14 +2,13 @@
 use Rattle.algebra.specs.Prelude.{_≡_, ap, _∙_, [], _∷_, ℕ, needs}
 use Rattle.refusals.specs.Tests.{first}
 use Rattle.range_admission.specs.Refusals.{rangeContentTests}
-use Rattle.range_admission.proofs.content_refusal.Statement.{statement}
-use Rattle.range_admission.proofs.content_refusal.Tie as tie
+use Rattle.range_admission.proofs.content_refusal as of
 
 each : {a b c d a′ b′ c′ d′ : ℕ} → a ≡ a′ → b ≡ b′ → c ≡ c′ → d ≡ d′ → first (a ∷ b ∷ c ∷ d ∷ []) ≡ first (a′ ∷ b′ ∷ c′ ∷ d′ ∷ [])
 each {b = b} {c} {d} {a′} {b′} {c′} ea eb ec ed =
     ap (λ n. first (n ∷ b ∷ c ∷ d ∷ [])) ea ∙ ap (λ n. first (a′ ∷ n ∷ c ∷ d ∷ [])) eb ∙ ap (λ n. first (a′ ∷ b′ ∷ n ∷ d ∷ [])) ec ∙ ap (λ n. first (a′ ∷ b′ ∷ c′ ∷ n ∷ [])) ed
 
-returns : tie.Need-returns
+returns : of.Tie.Need-returns
 unfolding rangeContentTests
 returns c =
     let sample = c .before .before in
@@ -17,7 +16,7 @@ returns c =
     let black = filter .before in
     c .first .ensures ∙ each (black .before .before .strength-refusal .ensures) (black .black-refusal .ensures) (filter .filter-refusal .ensures) (sample .sample-refusal .ensures)
 
-pub content-refusal-spec : {M : Type 1} → statement M
-content-refusal-spec = tie.close (tie.spec
+pub content-refusal-spec : {M : Type 1} → of.Statement.statement M
+content-refusal-spec = of.Tie.close (of.Tie.spec
     (λ c κs. search needs) (λ c κs. search needs) (λ c κs. search needs) (λ c κs. search needs) (λ c. search needs)
     (λ c κs. search needs) returns)

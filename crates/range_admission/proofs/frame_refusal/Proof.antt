@@ -3,10 +3,9 @@ use Rattle.algebra.specs.Prelude.{ap, ap₂, _∙_, [], _∷_, needs}
 use Rattle.refusals.specs.Tests.{first}
 use Rattle.limits.specs.Order.{shapeTests}
 use Rattle.range_admission.specs.Refusals.{rangeFrameTests}
-use Rattle.range_admission.proofs.frame_refusal.Statement.{statement}
-use Rattle.range_admission.proofs.frame_refusal.Tie as tie
+use Rattle.range_admission.proofs.frame_refusal as of
 
-returns : tie.Need-returns
+returns : of.Tie.Need-returns
 unfolding shapeTests rangeFrameTests
 returns c =
     let side = c .before .before in
@@ -15,6 +14,6 @@ returns c =
     c .first .ensures
     ∙ ap first (ap₂ _∷_ (count .before .size-refusal .ensures) (ap₂ _∷_ (count .count-refusal .ensures) (ap₂ _∷_ (third .reference-refusal .ensures) (ap (λ n. n ∷ []) (side .narrow-refusal .ensures)))))
 
-pub frame-refusal-spec : {M : Type 1} → statement M
-frame-refusal-spec = tie.close (tie.spec
+pub frame-refusal-spec : {M : Type 1} → of.Statement.statement M
+frame-refusal-spec = of.Tie.close (of.Tie.spec
     (λ c κs. search needs) (λ c κs. search needs) (λ c κs. search needs) (λ c κs. search needs) (λ c. search needs) (λ c κs. search needs) returns)

@@ -1,12 +1,11 @@
 -- The one test.
 use borrow.Author.Needs.{needs}
 use Rattle.range_admission.specs.Refusals.{narrowRefusal}
-use Rattle.range_admission.proofs.narrow_refusal.Statement.{statement}
-use Rattle.range_admission.proofs.narrow_refusal.Tie as tie
+use Rattle.range_admission.proofs.narrow_refusal as of
 
-returns : tie.Need-returns
+returns : of.Tie.Need-returns
 unfolding narrowRefusal
 returns c = c .refuse .ensures
 
-pub narrow-refusal-spec : {M : Type 1} → statement M
-narrow-refusal-spec = tie.close (tie.spec (λ c κs. search needs) returns)
+pub narrow-refusal-spec : {M : Type 1} → of.Statement.statement M
+narrow-refusal-spec = of.Tie.close (of.Tie.spec (λ c κs. search needs) returns)

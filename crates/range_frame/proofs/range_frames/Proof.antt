@@ -1,20 +1,13 @@
 -- The two row parities, one after the other.
-use Rattle.algebra.specs.Prelude.{_≡_, sym, subst, _∙_, List, ℕ, ℤ, arith, needs, lit<, length, now}
-use Rattle.geometry.specs.Shape.{outputLength}
-use Rattle.recipe.specs.Tables.{side16}
+use Rattle.range_frame.specs.Prelude.{_≡_, sym, subst, _∙_, List, ℕ, ℤ, arith, needs, lit<, length, now, outputLength, side16, sceneAt, sceneOf, lowSample, highSample, End, frameEnd, raised}
 use Rattle.recipe.specs.SideLaws.{of-16}
-use Rattle.recipe.specs.Scene.{sceneAt, sceneOf}
-use Rattle.range.specs.Range.{lowSample, highSample}
-use Rattle.range.specs.Frames.{End, frameEnd}
-use Rattle.range_tiles.specs.EndSums.{raised}
 use Rattle.range_frame.specs.BandLaws.{frame-whole}
-use Rattle.range_frame.proofs.range_frames.Statement.{statement}
-use Rattle.range_frame.proofs.range_frames.Tie as tie
+use Rattle.range_frame.proofs.range_frames as of
 
-range-parity-requires : tie.Need-range-parity-requires
+range-parity-requires : of.Tie.Need-range-parity-requires
 range-parity-requires c κs = record { lent = c .before .before .before .before .before .before .pre; parity = lit< tt }
 
-range-parity-requires-2 : tie.Need-range-parity-requires-2
+range-parity-requires-2 : of.Tie.Need-range-parity-requires-2
 range-parity-requires-2 c κs =
     let p = c .before .before .before .before .before .before .before .before in
     let t = p .before .before .before .before .before .before .before .pre in
@@ -30,14 +23,14 @@ range-parity-requires-2 c κs =
     }
 
 -- the frames by the burst's side
-module _ (s : tie.Start) where
+module _ (s : of.Tie.Start) where
   by-side : (end : End) {o : List ℕ} → let a = s .args in o ≡ frameEnd end (sceneAt side16 (a .m) (now (a .samples)) (now (a .vectors))) (sceneAt side16 (raised (a .m) (a .upper)) (now (a .samples)) (now (a .vectors)))
       → o ≡ frameEnd end (sceneOf (a .m) (now (a .samples)) (now (a .vectors))) (sceneOf (raised (a .m) (a .upper)) (now (a .samples)) (now (a .vectors)))
   by-side end {o} e =
       let a = s .args in
       subst (λ n. o ≡ frameEnd end (sceneAt n (a .m) (now (a .samples)) (now (a .vectors))) (sceneAt n (raised (a .m) (a .upper)) (now (a .samples)) (now (a .vectors)))) (sym (of-16 (s .pre .accepted .side-is))) e
 
-returns : tie.Need-returns
+returns : of.Tie.Need-returns
 unfolding sceneAt outputLength
 returns c =
     let q = c .before .before .before .before .before in
@@ -49,5 +42,5 @@ returns c =
       high-is = by-side s highSample (frame-whole highSample _ _ high (s .pre .high-long) (p .range-parity .ensures .highs) (q .range-parity2 .ensures .highs));
     }
 
-pub range-frames-spec : {M : Type 1} → statement M
-range-frames-spec = tie.close (tie.spec range-parity-requires range-parity-requires-2 (λ c. search needs) (λ c. search needs) (λ c. search needs) returns)
+pub range-frames-spec : {M : Type 1} → of.Statement.statement M
+range-frames-spec = of.Tie.close (of.Tie.spec range-parity-requires range-parity-requires-2 (λ c. search needs) (λ c. search needs) (λ c. search needs) returns)

@@ -1,10 +1,9 @@
 -- V of an r that is at most 65520.
 use Rattle.algebra.specs.Prelude.{needs}
 use Rattle.noise.specs.NoiseNumberLaws.{noise-number-bound}
-use Rattle.range_tiles.proofs.noises.Statement.{statement}
-use Rattle.range_tiles.proofs.noises.Tie as tie
+use Rattle.range_tiles.proofs.noises as of
 
-returns : tie.Need-returns
+returns : of.Tie.Need-returns
 returns c =
     let p = c .before .before .pre in
     let e = c .before .noise-number .ensures .0 in
@@ -18,5 +17,5 @@ returns c =
       };
     }
 
-pub noises-spec : {M : Type 1} → statement M
-noises-spec = tie.close (tie.spec (λ c κs. search needs) (λ c κs. search needs) returns)
+pub noises-spec : {M : Type 1} → of.Statement.statement M
+noises-spec = of.Tie.close (of.Tie.spec (λ c κs. search needs) (λ c κs. search needs) returns)

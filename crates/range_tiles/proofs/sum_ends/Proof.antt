@@ -1,16 +1,12 @@
 -- Both sums go on by one frame a turn.
-use Rattle.algebra.specs.Prelude.{_≡_, refl, sym, subst, _-_, arith, needs, length}
-use Rattle.recipe.specs.Tables.{side16}
-use Rattle.recipe.specs.Scene.{sceneAt}
-use Rattle.range.specs.Range.{greatestAt, leastAt}
+use Rattle.range_tiles.specs.Prelude.{_≡_, refl, sym, subst, _-_, arith, needs, length, side16, sceneAt, greatestAt, leastAt}
 use Rattle.lines.specs.Lines.{TileMost}
 use Rattle.lines.specs.Magnitudes.{differenceMost}
 use Rattle.tiles.specs.DifferenceLaws.{pair-rows, tile-most}
 use Rattle.range_tiles.specs.EndSumLaws.{greatest-ending, least-ending, Summing, sum-start, sum-turn, sum-room, sum-done}
-use Rattle.range_tiles.proofs.sum_ends.Statement.{statement}
-use Rattle.range_tiles.proofs.sum_ends.Tie as tie
+use Rattle.range_tiles.proofs.sum_ends as of
 
-abbrev Inv-loop : tie.InvT-loop
+abbrev Inv-loop : of.Tie.InvT-loop
 Inv-loop m samples vectors site t0 lower upper greatest₀ least₀ others tz₀ d₀ k₀ greatest least tz d k =
     record {
       greatests : Summing greatestAt (sceneAt side16 m samples vectors) site lower upper k greatest;
@@ -19,22 +15,22 @@ Inv-loop m samples vectors site t0 lower upper greatest₀ least₀ others tz₀
       d-rows : length d ≡ 16;
     }
 
-abbrev μ-loop : tie.MeasureT-loop
+abbrev μ-loop : of.Tie.MeasureT-loop
 μ-loop m samples vectors site t0 lower upper greatest₀ least₀ others tz₀ d₀ k₀ greatest least tz d k = others - k
 
-loop-holds : tie.Need-loop-holds Inv-loop μ-loop
+loop-holds : of.Tie.Need-loop-holds Inv-loop μ-loop
 unfolding sceneAt
 loop-holds c =
     let p = c .before .before .pre in
     record { greatests = sum-start (omega arith) (p .cleared .greatest-is); leasts = sum-start (omega arith) (p .cleared .least-is); tz-rows = refl; d-rows = refl }
 
-differences-requires : tie.Need-differences-requires Inv-loop μ-loop
+differences-requires : of.Tie.Need-differences-requires Inv-loop μ-loop
 differences-requires c κs =
     let l = c .before .before .before in
     let s = l .before .before .before in
     record { accepted = s .pre .accepted; sited = s .pre .sited; frame = omega arith; tile = s .pre .tile; tz-rows = l .loop .inv .tz-rows; d-rows = l .loop .inv .d-rows }
 
-add-ends-requires : tie.Need-add-ends-requires Inv-loop μ-loop
+add-ends-requires : of.Tie.Need-add-ends-requires Inv-loop μ-loop
 add-ends-requires c κs =
     let d = c .before .before .before in
     let l = d .before .before .before .before in
@@ -48,7 +44,7 @@ add-ends-requires c κs =
       leasts = sum-room (i .leasts);
     }
 
-loop-again : tie.Need-loop-again Inv-loop μ-loop
+loop-again : of.Tie.Need-loop-again Inv-loop μ-loop
 unfolding sceneAt
 loop-again c =
     let d = c .before .before .before .before in
@@ -63,11 +59,11 @@ loop-again c =
       d-rows = pair-rows 16 _ (d .differences .ensures .0);
     }
 
-returns : tie.Need-returns Inv-loop μ-loop
+returns : of.Tie.Need-returns Inv-loop μ-loop
 unfolding sceneAt
 returns c = record { greatests = sum-done (c .before .loop .inv .greatests) (omega arith); leasts = sum-done (c .before .loop .inv .leasts) (omega arith) }
 
-pub sum-ends-spec : {M : Type 1} → statement M
-sum-ends-spec = tie.close (tie.spec
+pub sum-ends-spec : {M : Type 1} → of.Statement.statement M
+sum-ends-spec = of.Tie.close (of.Tie.spec
     Inv-loop μ-loop (λ c. search needs) loop-holds differences-requires add-ends-requires
     (λ c. search needs) (λ c. omega arith) loop-again returns)

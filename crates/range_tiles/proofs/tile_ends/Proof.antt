@@ -1,36 +1,28 @@
 -- T0 has its roots, and at either noise its noise numbers.
-use Rattle.algebra.specs.Prelude.{_≡_, refl, List, ℕ, _-_, _+_, _*_, _≤_, _<_, arith, needs, lit<, now}
-use Rattle.sequences.specs.Grid.{cell}
-use Rattle.recipe.specs.Tables.{side16}
-use Rattle.recipe.specs.declared.Merge.{Merge}
-use Rattle.recipe.specs.Scene.{referenceTile, tileNoise, sceneAt}
-use Rattle.range.specs.Range.{greatestAt, leastAt}
-use Rattle.ends.specs.declared.Noises.{Noises}
-use Rattle.ends.specs.Added.{noiseOf}
+use Rattle.range_tiles.specs.Prelude.{_≡_, refl, List, ℕ, _-_, _+_, _*_, _≤_, _<_, arith, needs, lit<, now, cell, side16, Merge, referenceTile, tileNoise, sceneAt, greatestAt, leastAt, Noises, noiseOf}
 use Rattle.tiles.specs.DifferenceLaws.{tile-fits, reference-most}
 use Rattle.tiles.specs.NoiseLaws.{both}
 use Rattle.tiles.specs.TileLaws.{root-of, number}
 use Rattle.range_tiles.specs.EndSums.{raised, tilePair, NoisesAre}
 use Rattle.range_tiles.specs.EndSumLaws.{end-taken}
-use Rattle.range_tiles.proofs.tile_ends.Statement.{statement}
-use Rattle.range_tiles.proofs.tile_ends.Tie as tie
+use Rattle.range_tiles.proofs.tile_ends as of
 
 sided : side16 .side ≡ 16
 unfolding side16
 sided = refl
 
 -- T0, which is that of either scene
-tile-is : (c : tie.After-pair) → let a = c .before .before .before .before .args in
+tile-is : (c : of.Tie.After-pair) → let a = c .before .before .before .before .args in
     c .pair .last .1 .1 .1 .1 .1 .1 .0 ≡ tilePair (sceneAt side16 (a .m) (now (a .samples)) (now (a .vectors))) (a .site)
 unfolding referenceTile sceneAt
 tile-is c = c .pair .ensures
 
-upper-is : (c : tie.After-pair) → let a = c .before .before .before .before .args in
+upper-is : (c : of.Tie.After-pair) → let a = c .before .before .before .before .args in
     c .pair .last .1 .1 .1 .1 .1 .1 .0 ≡ tilePair (sceneAt side16 (raised (a .m) (a .upper)) (now (a .samples)) (now (a .vectors))) (a .site)
 unfolding referenceTile sceneAt
 upper-is c = c .pair .ensures
 
-pair-roots-requires : tie.Need-pair-roots-requires
+pair-roots-requires : of.Tie.Need-pair-roots-requires
 unfolding cell
 pair-roots-requires c κs =
     let t = c .before .before .before in
@@ -39,7 +31,7 @@ pair-roots-requires c κs =
     record { most = λ i l. fits .row i .most l }
 
 -- the noise numbers of either plane, at a noise whose scene has this T0
-module _ (c : tie.After-pair-roots) (m : Merge) (e : let t = c .before .before .before .before in let a = t .before .before .before .before .args in
+module _ (c : of.Tie.After-pair-roots) (m : Merge) (e : let t = c .before .before .before .before in let a = t .before .before .before .before .args in
     t .pair .last .1 .1 .1 .1 .1 .1 .0 ≡ tilePair (sceneAt side16 m (now (a .samples)) (now (a .vectors))) (a .site))
     (tuned : m .tuning ≡ c .before .before .before .before .before .before .before .before .args .m .tuning) where
   numbers-known : {v : Noises} → let a = c .before .before .before .before .before .before .before .before .args in
@@ -55,7 +47,7 @@ module _ (c : tie.After-pair-roots) (m : Merge) (e : let t = c .before .before .
       (number 16 side16 sided m (now (a .samples)) (now (a .vectors)) (a .site) e 1
       (root-of 16 side16 sided m (now (a .samples)) (now (a .vectors)) (a .site) e 1 (lit< tt) (λ j. 2 * j + 1) (λ j. omega arith) (rw tuned (b .plane-black2 .ensures)) (c .pair-roots .ensures .second)) (known .second-is))
 
-summed-requires : tie.Need-summed-requires
+summed-requires : of.Tie.Need-summed-requires
 summed-requires c κs =
     let n = c .before .before .before in
     let l = n .before in
@@ -64,7 +56,7 @@ summed-requires c κs =
     let p = s .pre in
     record { accepted = p .accepted; sited = p .sited; tile = tile-is t; lower-fits = l .noises .ensures .fits; upper-fits = n .noises2 .ensures .fits; cleared = p .cleared }
 
-returns : tie.Need-returns
+returns : of.Tie.Need-returns
 unfolding sceneAt
 returns c =
     let n = c .before .before .before .before in
@@ -81,7 +73,7 @@ returns c =
       leasts = end-taken leastAt _ _ (a .site) (omega arith) low high (c .summed .ensures .leasts);
     }
 
-pub tile-ends-spec : {M : Type 1} → statement M
-tile-ends-spec = tie.close (tie.spec
+pub tile-ends-spec : {M : Type 1} → of.Statement.statement M
+tile-ends-spec = of.Tie.close (of.Tie.spec
     (λ c κs. search needs) (λ c κs. search needs) (λ c κs. search needs) pair-roots-requires
     (λ c κs. search needs) (λ c κs. search needs) summed-requires returns)

@@ -4,13 +4,12 @@ use native.Mathlib.Numerals.{add-one}
 use lib.ListN.{drop-of-length-le}
 use lib.Seq.{drop-cons}
 use Rattle.refusals.specs.Tests.{_before_, first}
-use Rattle.refusals.proofs.first.Statement.{statement}
-use Rattle.refusals.proofs.first.Tie as tie
+use Rattle.refusals.proofs.first as of
 
-abbrev Inv-loop : tie.InvT-loop
+abbrev Inv-loop : of.Tie.InvT-loop
 Inv-loop tests i₀ i = first (drop i tests) ≡ first tests
 
-abbrev μ-loop : tie.MeasureT-loop
+abbrev μ-loop : of.Tie.MeasureT-loop
 μ-loop tests i₀ i = length tests - i
 
 module _ (tests : List ℕ) (i : ℕ) where
@@ -33,15 +32,15 @@ module _ (tests : List ℕ) (i : ℕ) where
   unfolding first
   accepts l e = sym (rw (drop-of-length-le tests l)) ∙ e
 
-returns : tie.Need-returns Inv-loop μ-loop
+returns : of.Tie.Need-returns Inv-loop μ-loop
 returns c = let at = c .before .before .before .before in refuses (at .before .args .tests .now) (at .loop .i) (omega arith) (c .before .if1 .taken) (at .loop .inv)
 
-loop-again : tie.Need-loop-again Inv-loop μ-loop
+loop-again : of.Tie.Need-loop-again Inv-loop μ-loop
 loop-again c = let at = c .before .before .before in goes (at .before .args .tests .now) (at .loop .i) (omega arith) (c .if1 .left) (at .loop .inv)
 
-returns-2 : tie.Need-returns-2 Inv-loop μ-loop
+returns-2 : of.Tie.Need-returns-2 Inv-loop μ-loop
 returns-2 c = let at = c .before in accepts (at .before .args .tests .now) (at .loop .i) (omega arith) (at .loop .inv)
 
-pub first-spec : {M : Type 1} → statement M
-first-spec = tie.close (tie.spec
+pub first-spec : {M : Type 1} → of.Statement.statement M
+first-spec = of.Tie.close (of.Tie.spec
     Inv-loop μ-loop (λ c. refl) (λ c. search needs) (λ c. search needs) (λ c. search needs) (λ c. search needs) returns (λ c. search needs) (λ c. search needs) loop-again returns-2)

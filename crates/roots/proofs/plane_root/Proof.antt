@@ -1,14 +1,12 @@
 -- The root of the sum, which is at most 65520².
-use Rattle.algebra.specs.Prelude.{ap, _∙_, needs}
-use Rattle.recipe.specs.Root.{wholeRoot}
+use Rattle.roots.specs.Prelude.{ap, _∙_, needs, wholeRoot}
 use Rattle.roots.specs.RootLaws.{root-most}
-use Rattle.roots.proofs.plane_root.Statement.{statement}
-use Rattle.roots.proofs.plane_root.Tie as tie
+use Rattle.roots.proofs.plane_root as of
 
-returns : tie.Need-returns
+returns : of.Tie.Need-returns
 returns c =
     let sum = c .before .plane-squares in
     (c .whole-root .ensures ∙ ap wholeRoot (sum .ensures .0), rw (c .whole-root .ensures) (root-most (sum .ensures .1)))
 
-pub plane-root-spec : {M : Type 1} → statement M
-plane-root-spec = tie.close (tie.spec (λ c κs. search needs) (λ c κs. search needs) returns)
+pub plane-root-spec : {M : Type 1} → of.Statement.statement M
+plane-root-spec = of.Tie.close (of.Tie.spec (λ c κs. search needs) (λ c κs. search needs) returns)

@@ -1,13 +1,11 @@
 -- Each plane's root is that of its places' squares.
-use Rattle.algebra.specs.Prelude.{ap, _∙_, arith, needs, now, lit<}
-use Rattle.sequences.specs.Grid.{cell}
+use Rattle.roots32.specs.Prelude.{ap, _∙_, arith, needs, now, lit<, cell}
 use Rattle.roots32.specs.Lanes.{laneBlack}
 use Rattle.roots.specs.TileRootLaws.{tile-root-cong}
 use Rattle.roots32.proofs.Lanes.{root-of-plane}
-use Rattle.roots32.proofs.pair_roots.Statement.{statement}
-use Rattle.roots32.proofs.pair_roots.Tie as tie
+use Rattle.roots32.proofs.pair_roots as of
 
-returns : tie.Need-returns
+returns : of.Tie.Need-returns
 unfolding laneBlack
 returns c =
     let r = c .before .before in
@@ -22,7 +20,7 @@ returns c =
       second-most = c .plane-root2 .ensures .1;
     }
 
-pub pair-roots-spec : {M : Type 1} → statement M
-pair-roots-spec = tie.close (tie.spec
+pub pair-roots-spec : {M : Type 1} → of.Statement.statement M
+pair-roots-spec = of.Tie.close (of.Tie.spec
     (λ c κs. search needs) (λ c κs. search needs) (λ c κs. search needs) (λ c κs. search needs)
     returns)

@@ -1,13 +1,12 @@
 -- The lesser of the count and three.
 use native.Mathlib.Omega.{arith}
-use Rattle.sharpness.proofs.compared.Statement.{statement}
-use Rattle.sharpness.proofs.compared.Tie as tie
+use Rattle.sharpness.proofs.compared as of
 
-returns : tie.Need-returns
+returns : of.Tie.Need-returns
 returns c = omega arith
 
-returns-2 : tie.Need-returns-2
+returns-2 : of.Tie.Need-returns-2
 returns-2 c = omega arith
 
-pub compared-spec : {M : Type 1} → statement M
-compared-spec = tie.close (tie.spec returns returns-2)
+pub compared-spec : {M : Type 1} → of.Statement.statement M
+compared-spec = of.Tie.close (of.Tie.spec returns returns-2)

@@ -1,25 +1,23 @@
 -- The loop goes on where the blocks end; the last place comes after it.
-use Rattle.algebra.specs.Prelude.{_-_, _/_, arith, needs}
+use Rattle.sharpness.specs.Prelude.{_-_, _/_, arith, needs, sampleAt}
 use Rattle.sequences.specs.Sum.{Summed, sum-turn, sum-done}
-use Rattle.geometry.specs.Read.{sampleAt}
 use Rattle.sharpness.specs.Words.{placeSteps}
 use Rattle.sharpness.proofs.Rows.{row-sum}
-use Rattle.sharpness.proofs.row_steps.Statement.{statement}
-use Rattle.sharpness.proofs.row_steps.Tie as tie
+use Rattle.sharpness.proofs.row_steps as of
 
-abbrev Inv-loop : tie.InvT-loop
+abbrev Inv-loop : of.Tie.InvT-loop
 Inv-loop shape samples frame row down sum₀ place₀ place-end sum place = Summed (placeSteps (sampleAt shape samples frame) row down) 32768 (shape .width / 2 - 1) place sum
 
-abbrev μ-loop : tie.MeasureT-loop
+abbrev μ-loop : of.Tie.MeasureT-loop
 μ-loop shape samples frame row down sum₀ place₀ place-end sum place = shape .width / 2 - 1 - place
 
-loop-holds : tie.Need-loop-holds Inv-loop μ-loop
+loop-holds : of.Tie.Need-loop-holds Inv-loop μ-loop
 loop-holds c = let e = c .before .before .block-steps .ensures in record { count = omega arith; is = e .0; most = omega (arith, e .1) }
 
-loop-again : tie.Need-loop-again Inv-loop μ-loop
+loop-again : of.Tie.Need-loop-again Inv-loop μ-loop
 loop-again c = sum-turn (c .before .before .loop .inv) (omega arith) (c .word-steps .ensures .0) (omega (arith, c .word-steps .ensures .1))
 
-returns : tie.Need-returns Inv-loop μ-loop
+returns : of.Tie.Need-returns Inv-loop μ-loop
 returns c =
     let ended = c .before in
     let s = ended .before .before .before .before .before .before in
@@ -30,8 +28,8 @@ returns c =
       omega (arith, wide .most, l .count, l .most),
     )
 
-pub row-steps-spec : {M : Type 1} → statement M
-row-steps-spec = tie.close (tie.spec
+pub row-steps-spec : {M : Type 1} → of.Statement.statement M
+row-steps-spec = of.Tie.close (of.Tie.spec
     Inv-loop μ-loop (λ c κs. search needs) (λ c. search needs) (λ c. search needs) (λ c. search needs) loop-holds (λ c. search needs)
     (λ c. search needs) (λ c κs. search needs) (λ c. search needs) (λ c. search needs) (λ c. search needs) (λ c. search needs) loop-again
     (λ c κs. search needs) (λ c. search needs) (λ c. search needs) returns)

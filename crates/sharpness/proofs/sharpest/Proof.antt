@@ -1,27 +1,25 @@
 -- The loop keeps the first greatest of the frames seen so far.
-use Rattle.algebra.specs.Prelude.{sym, true, false, _-_, arith, needs, ltb}
-use Prim.Native.Nat.{min}
+use Rattle.sharpness.specs.Prelude.{sym, true, false, _-_, arith, needs, ltb, min}
 use mathlib.Core.Logic.{⊎-elim}
 use borrow.Author.Tests.{lt-ltb, le-ltb}
 use Rattle.sequences.specs.FirstLaws.{First, first-start, first-turn, first-done}
 use Rattle.sharpness.specs.Sharpness.{sharpness, sharpest}
 use Rattle.sharpness.specs.SharpnessLaws.{lone-first}
-use Rattle.sharpness.proofs.sharpest.Statement.{statement}
-use Rattle.sharpness.proofs.sharpest.Tie as tie
+use Rattle.sharpness.proofs.sharpest as of
 
-abbrev Inv-loop : tie.InvT-loop
+abbrev Inv-loop : of.Tie.InvT-loop
 Inv-loop shape samples best₀ most₀ frame₀ frame-end best most frame = First (λ a b. ltb b a) (sharpness shape samples) (min (shape .count) 3) frame best most
 
-abbrev μ-loop : tie.MeasureT-loop
+abbrev μ-loop : of.Tie.MeasureT-loop
 μ-loop shape samples best₀ most₀ frame₀ frame-end best most frame = min (shape .count) 3 - frame
 
-returns : tie.Need-returns Inv-loop μ-loop
+returns : of.Tie.Need-returns Inv-loop μ-loop
 returns c = let a = c .before .before .before .args in (sym (lone-first (a .shape) (a .samples .now) (omega arith)), omega arith)
 
-loop-holds : tie.Need-loop-holds Inv-loop μ-loop
+loop-holds : of.Tie.Need-loop-holds Inv-loop μ-loop
 loop-holds c = first-start (omega arith) (c .before .sharpness .ensures)
 
-loop-again : tie.Need-loop-again Inv-loop μ-loop
+loop-again : of.Tie.Need-loop-again Inv-loop μ-loop
 loop-again c =
     let seen = c .before in
     let l = seen .before .before .loop in
@@ -31,7 +29,7 @@ loop-again c =
     (λ w. rw (w .1, w .2) (first-turn false (l .inv) (omega arith) is (le-ltb _ _ (w .0 .left))))
     (c .if2 .came)
 
-returns-2 : tie.Need-returns-2 Inv-loop μ-loop
+returns-2 : of.Tie.Need-returns-2 Inv-loop μ-loop
 unfolding sharpest
 returns-2 c =
     let l = c .before .loop in (
@@ -39,7 +37,7 @@ returns-2 c =
       omega (arith, l .inv .within),
     )
 
-pub sharpest-spec : {M : Type 1} → statement M
-sharpest-spec = tie.close (tie.spec
+pub sharpest-spec : {M : Type 1} → of.Statement.statement M
+sharpest-spec = of.Tie.close (of.Tie.spec
     Inv-loop μ-loop returns (λ c κs. search needs) (λ c κs. search needs) loop-holds
     (λ c κs. search needs) (λ c. search needs) (λ c. search needs) loop-again returns-2)

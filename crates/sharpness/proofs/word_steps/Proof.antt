@@ -2,10 +2,9 @@
 use Rattle.algebra.specs.Prelude.{ap₂, _∙_, _+_, arith, needs}
 use Rattle.sharpness.specs.Sharpness.{step}
 use Rattle.sharpness.specs.Words.{wordSteps}
-use Rattle.sharpness.proofs.word_steps.Statement.{statement}
-use Rattle.sharpness.proofs.word_steps.Tie as tie
+use Rattle.sharpness.proofs.word_steps as of
 
-returns : tie.Need-returns
+returns : of.Tie.Need-returns
 unfolding wordSteps
 returns c =
     let to-right = c .before in
@@ -16,8 +15,8 @@ returns c =
       omega arith,
     )
 
-pub word-steps-spec : {M : Type 1} → statement M
-word-steps-spec = tie.close (tie.spec
+pub word-steps-spec : {M : Type 1} → of.Statement.statement M
+word-steps-spec = of.Tie.close (of.Tie.spec
     (λ c. search needs) (λ c κs. search needs) (λ c. search needs) (λ c. search needs) (λ c κs. search needs)
     (λ c. search needs) (λ c. search needs) (λ c κs. search needs) (λ c κs. search needs) (λ c κs. search needs)
     (λ c. search needs) returns)

@@ -2,23 +2,22 @@
 use Rattle.algebra.specs.Prelude.{_-_, _/_, arith, needs, length}
 use Rattle.sequences.specs.Sum.{Summed, sum-start, sum-turn, sum-done}
 use Rattle.tallies.specs.Tallies.{stillTile, stillTiles}
-use Rattle.tallies.proofs.still_tiles.Statement.{statement}
-use Rattle.tallies.proofs.still_tiles.Tie as tie
+use Rattle.tallies.proofs.still_tiles as of
 
-abbrev Inv-loop : tie.InvT-loop
+abbrev Inv-loop : of.Tie.InvT-loop
 Inv-loop vectors still₀ tile₀ tile-end still tile = Summed (stillTile vectors) 1 (length vectors / 2) tile still
 
-abbrev μ-loop : tie.MeasureT-loop
+abbrev μ-loop : of.Tie.MeasureT-loop
 μ-loop vectors still₀ tile₀ tile-end still tile = length vectors / 2 - tile
 
-loop-again : tie.Need-loop-again Inv-loop μ-loop
+loop-again : of.Tie.Need-loop-again Inv-loop μ-loop
 loop-again c = sum-turn (c .before .before .loop .inv) (omega arith) (c .still-tile .ensures .0) (c .still-tile .ensures .1)
 
-returns : tie.Need-returns Inv-loop μ-loop
+returns : of.Tie.Need-returns Inv-loop μ-loop
 unfolding stillTiles
 returns c = sum-done (c .before .loop .inv) (omega arith)
 
-pub still-tiles-spec : {M : Type 1} → statement M
-still-tiles-spec = tie.close (tie.spec
+pub still-tiles-spec : {M : Type 1} → of.Statement.statement M
+still-tiles-spec = of.Tie.close (of.Tie.spec
     Inv-loop μ-loop (λ c. sum-start) (λ c κs. search needs) (λ c. search needs) (λ c. search needs)
     (λ c. search needs) loop-again returns)

@@ -1,34 +1,26 @@
 -- The frame's pyramid is laid behind the reference's, and the pair of images at level 0 is then that of the two frames.
-use Rattle.algebra.specs.Prelude.{_≡_, ap, ap₂, subst, _∙_, List, ℕ, _*_, arith, needs, ℤ}
-use Rattle.sequences.specs.Write.{written}
-use Rattle.geometry.specs.declared.Shape.{Shape}
-use Rattle.geometry.specs.Read.{sampleAt}
-use Rattle.geometry.specs.Tiles.{tileRows, tileColumns}
-use Rattle.limits.specs.Residuals.{frameTiles}
-use Rattle.pyramid.specs.Layout.{pyramidLength, Built}
+use Rattle.tile_residuals.specs.Prelude.{_≡_, ap, ap₂, subst, _∙_, List, ℕ, _*_, arith, needs, ℤ, written, Shape, sampleAt, tileRows, tileColumns, frameTiles, pyramidLength, Built, pairIn}
 use Rattle.matching.specs.declared.Area.{Area}
-use Rattle.matching.specs.Stored.{pairIn}
 use Rattle.alignment.specs.BurstLaws.{two-pyramids, both-standing}
 use Rattle.alignment.specs.Sites.{areaAt, pairsIn}
 use Rattle.tile_residuals.specs.Frames.{residualIn}
 use Rattle.tile_residuals.specs.FrameLaws.{frame-measured}
-use Rattle.tile_residuals.proofs.measure_frame.Statement.{statement}
-use Rattle.tile_residuals.proofs.measure_frame.Tie as tie
+use Rattle.tile_residuals.proofs.measure_frame as of
 
-build-requires : tie.Need-build-requires
+build-requires : of.Tie.Need-build-requires
 build-requires c κs =
     let start = c .before .before .before .before in
     (start .pre .0 .readable, omega (arith, two-pyramids (start .args .shape) (start .pre .0 .room), c .before .offset .ensures .0))
 
 -- the frame's pyramid stands behind the reference's
-built : (c : tie.After-build) →
+built : (c : of.Tie.After-build) →
     let a = c .before .before .before .before .before .args in
     Built (a .shape) (sampleAt (a .shape) (a .samples .now) (a .frame)) (pyramidLength (a .shape)) (a .work .now) (c .build .last .1 .1 .1 .0)
 built c =
     let a = c .before .before .before .before .before .args in
     subst (λ n. Built (a .shape) (sampleAt (a .shape) (a .samples .now) (a .frame)) n (a .work .now) (c .build .last .1 .1 .1 .0)) (c .before .before .offset .ensures .0) (c .build .ensures)
 
-frame-residuals-requires : tie.Need-frame-residuals-requires
+frame-residuals-requires : of.Tie.Need-frame-residuals-requires
 frame-residuals-requires c κs =
     let columns = c .before .before in
     let rows = columns .before in
@@ -51,7 +43,7 @@ told s l vectors to e {area} {rows} {columns} is a high wide =
     ∙ ap (λ x. written e to (residualIn (s .side) (pairIn l x) columns vectors to) (rows * columns)) a
     ∙ ap₂ (λ m n. written e to (residualIn (s .side) (pairIn l (areaAt s 0)) n vectors to) (m * n)) high wide
 
-returns : tie.Need-returns
+returns : of.Tie.Need-returns
 returns c =
     let columns = c .before .before .before .before .before in
     let rows = columns .before in
@@ -62,7 +54,7 @@ returns c =
     frame-measured (start .pre .0 .readable .sampled .allowed) (start .pre .0 .levels) (built laid)
     (told (a .shape) (laid .build .last .1 .1 .1 .0) (a .vectors .now) (a .to) (a .residuals .now) (c .before .before .frame-residuals .ensures) (area .area-at .ensures) (rows .tile-rows .ensures .0) (columns .tile-columns .ensures .0))
 
-pub measure-frame-spec : {M : Type 1} → statement M
-measure-frame-spec = tie.close (tie.spec
+pub measure-frame-spec : {M : Type 1} → of.Statement.statement M
+measure-frame-spec = of.Tie.close (of.Tie.spec
     (λ c κs. search needs) build-requires (λ c κs. search needs) (λ c κs. search needs) (λ c κs. search needs)
     frame-residuals-requires (λ c. search needs) (λ c. search needs) returns)

@@ -4,8 +4,7 @@ use Rattle.algebra.specs.Bound.{AtMost, most-fits}
 use Rattle.geometry.specs.Fits.{VectorsFit}
 use Rattle.patches.specs.Bounds.{Within}
 use Rattle.tile_residuals.specs.Frames.{vectorIn}
-use Rattle.tile_residuals.proofs.vector_at.Statement.{statement}
-use Rattle.tile_residuals.proofs.vector_at.Tie as tie
+use Rattle.tile_residuals.proofs.vector_at as of
 
 module _ {vectors : List ℤ} (v : VectorsFit vectors) where
   part-most : (k : ℕ) → AtMost 172 (getD vectors k (pos 0))
@@ -24,15 +23,15 @@ module _ {vectors : List ℤ} (v : VectorsFit vectors) where
   made place d r =
       (ap₂ (λ x y. record { down = x; right = y }) d r, record { vertical = subst (λ z. natAbs z ≤ 336) (sym d) (omega (arith, v .most place)); sideways = subst (λ z. natAbs z ≤ 336) (sym r) (omega (arith, v .most (place + 1))) })
 
-cast-down : tie.Need-cast-down
+cast-down : of.Tie.Need-cast-down
 cast-down c = let s = c .before in fits (s .pre .1) (s .args .place)
 
-cast-right : tie.Need-cast-right
+cast-right : of.Tie.Need-cast-right
 cast-right c = let s = c .before .before in fits (s .pre .1) (s .args .place + 1)
 
-returns : tie.Need-returns
+returns : of.Tie.Need-returns
 returns c = let s = c .before .before in made (s .pre .1) (s .args .place) (widened (s .pre .1) (s .args .place)) (widened (s .pre .1) (s .args .place + 1))
 
-pub vector-at-spec : {M : Type 1} → statement M
-vector-at-spec = tie.close (tie.spec
+pub vector-at-spec : {M : Type 1} → of.Statement.statement M
+vector-at-spec = of.Tie.close (of.Tie.spec
     (λ c. search needs) (λ c. search needs) cast-down (λ c. search needs) (λ c. search needs) (λ c. search needs) cast-right returns)

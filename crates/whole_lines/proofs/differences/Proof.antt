@@ -1,9 +1,6 @@
 -- `whole_lines::differences`: each number and the one half a line further on.
-use Rattle.algebra.specs.Prelude.{refl, _-_, arith, needs, w16}
+use Rattle.whole_lines.specs.Prelude.{refl, _-_, arith, needs, w16, side16, differenceAt, of}
 use Rattle.sequences.specs.TabLaws.{Filled, fill-start, fill-turn, fill-done}
-use Rattle.recipe.specs.Tables.{side16}
-use Rattle.lines.specs.Fold.{differenceAt}
-use Rattle.lines.specs.Held.{of}
 use Rattle.lines.specs.WholeFolds.{difference-fits, difference-is}
 use Rattle.whole_lines.proofs.differences.Statement.{statement}
 use Rattle.whole_lines.proofs.differences.Tie as tie

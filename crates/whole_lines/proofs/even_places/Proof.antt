@@ -1,11 +1,7 @@
 -- `whole_lines::even_places`: the places of the folded line are those of the line.
-use Rattle.algebra.specs.Prelude.{_∙_, _*_, lit<, w16, now}
-use Rattle.sequences.specs.Tab.{tab}
-use Rattle.recipe.specs.Tables.{side16}
+use Rattle.whole_lines.specs.Prelude.{_∙_, _*_, lit<, w16, now, tab, side16, sumAt, of}
 use Rattle.recipe.specs.TableLaws.{rules16}
-use Rattle.lines.specs.Fold.{sumAt}
 use Rattle.lines.specs.SideFolds.{even-folded}
-use Rattle.lines.specs.Held.{of}
 use Rattle.lines.specs.Picked.{eight, eight-picked, all-most}
 use Rattle.lines.specs.WholeFolds.{sums-most, places-held}
 use Rattle.whole_lines.proofs.even_places.Statement.{statement}

@@ -1,11 +1,7 @@
 -- `whole_lines::odd_places`: the places of the folded line are those of the line.
-use Rattle.algebra.specs.Prelude.{_∙_, _+_, _*_, lit≤, lit<, w16, now}
-use Rattle.sequences.specs.Tab.{tab}
-use Rattle.recipe.specs.Tables.{side16}
+use Rattle.whole_lines.specs.Prelude.{_∙_, _+_, _*_, lit≤, lit<, w16, now, tab, side16, differenceAt, of}
 use Rattle.recipe.specs.TableLaws.{rules16}
-use Rattle.lines.specs.Fold.{differenceAt}
 use Rattle.lines.specs.SideFolds.{odd-folded}
-use Rattle.lines.specs.Held.{of}
 use Rattle.lines.specs.Picked.{eight, eight-picked, all-most}
 use Rattle.lines.specs.WholeFolds.{line-wider, differences-most, places-held}
 use Rattle.whole_lines.proofs.odd_places.Statement.{statement}

@@ -1,9 +1,6 @@
 -- `whole_lines::sums`: each number and the one half a line further on.
-use Rattle.algebra.specs.Prelude.{refl, _-_, arith, needs, w16}
+use Rattle.whole_lines.specs.Prelude.{refl, _-_, arith, needs, w16, side16, sumAt, of}
 use Rattle.sequences.specs.TabLaws.{Filled, fill-start, fill-turn, fill-done}
-use Rattle.recipe.specs.Tables.{side16}
-use Rattle.lines.specs.Fold.{sumAt}
-use Rattle.lines.specs.Held.{of}
 use Rattle.lines.specs.WholeFolds.{sum-fits, sum-is}
 use Rattle.whole_lines.proofs.sums.Statement.{statement}
 use Rattle.whole_lines.proofs.sums.Tie as tie

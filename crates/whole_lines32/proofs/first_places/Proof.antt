@@ -1,10 +1,7 @@
 -- `whole_lines32::first_places`: the places of the folded line are those of the line.
-use Rattle.algebra.specs.Prelude.{_∙_, _+_, _*_, lit<, w16, now}
-use Rattle.recipe.specs.Tables.{side16}
+use Rattle.whole_lines32.specs.Prelude.{_∙_, _+_, _*_, lit<, w16, now, side16, sumOf, of}
 use Rattle.recipe.specs.TableLaws.{rules16}
-use Rattle.lines.specs.Fold.{sumOf}
 use Rattle.lines.specs.SideFolds.{even-folded}
-use Rattle.lines.specs.Held.{of}
 use Rattle.lines.specs.Picked.{eight, eight-picked, all-most}
 use Rattle.lines.specs.WholeFolds.{sums-most, places-held}
 use Rattle.whole_lines32.proofs.first_places.Statement.{statement}

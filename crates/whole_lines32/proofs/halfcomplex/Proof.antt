@@ -1,9 +1,6 @@
 -- `whole_lines32::halfcomplex`: the places are stored by twos.
-use Rattle.algebra.specs.Prelude.{refl, _∙_, _-_, _*_, arith, needs, now}
+use Rattle.whole_lines32.specs.Prelude.{refl, _∙_, _-_, _*_, arith, needs, now, side32, halfcomplexOf, of}
 use Rattle.sequences.specs.TabLaws.{Filled, fill-start, fill-done}
-use Rattle.recipe.specs.Tables32.{side32}
-use Rattle.lines.specs.Halfcomplex.{halfcomplexOf}
-use Rattle.lines.specs.Held.{of}
 use Rattle.whole_lines32.proofs.EvenSums.{sums-places}
 use Rattle.lines.specs.WholeFolds.{sums-most, placed, placed-turn, placed-long}
 use Rattle.whole_lines32.proofs.halfcomplex.Statement.{statement}

@@ -1,19 +1,13 @@
 -- `whole_lines32::odd`: sixteen places from the sixteen differences: that each step fits, and that the results are the places, by computed tests.
-use Rattle.algebra.specs.Prelude.{List, [], _∷_, ℕ, _+_, _*_, ℤ, pos, w16, w32, SFits}
+use Rattle.whole_lines32.specs.Prelude.{List, [], _∷_, ℕ, _+_, _*_, ℤ, pos, w16, w32, SFits, tab, cosines32, cosine32, side32, frequencyOf, phaseOf, basisOf, foldedOf, differenceFoldMost}
 use Rattle.algebra.specs.Ring.{var, con, _⊠_, nth}
 use Rattle.algebra.specs.Sums.{sumZ}
 use Rattle.algebra.specs.Code.{Code, lit, add, sub, mul, to, raw}
 use Rattle.algebra.specs.Forms.{sumE, vals-are}
-use Rattle.sequences.specs.Tab.{tab}
 use Rattle.recipe.specs.Side.{cosAt}
-use Rattle.recipe.specs.Tables32.{cosines32, cosine32, side32}
-use Rattle.lines.specs.Halfcomplex.{frequencyOf, phaseOf, basisOf}
-use Rattle.lines.specs.Fold.{foldedOf}
-use Rattle.lines.specs.Magnitudes.{differenceFoldMost}
 use Rattle.lines.specs.Picked.{sixteenMost, sixteen-small}
 use Rattle.lines.specs.Steps.{Step, number, short, long, step, results, steps-fit}
-use Rattle.whole_lines32.proofs.odd.Statement.{statement}
-use Rattle.whole_lines32.proofs.odd.Tie as tie
+use Rattle.whole_lines32.proofs.odd as of
 use Rattle.whole_lines32.proofs.odd.Reads as reads
 use Rattle.whole_lines32.proofs.odd.Lts as lts
 
@@ -120,12 +114,12 @@ steps s =
 fit : (k : ℕ) (s : At) → SFits (step (steps s) k .0) (raw (step (steps s) k .1))
 fit k s = steps-fit (xs s) (sixteenMost differenceFoldMost) (sixteen-small (s .pre)) (steps s) tt k
 
-returns : tie.Need-returns
+returns : of.Tie.Need-returns
 unfolding tab sumZ foldedOf basisOf frequencyOf phaseOf cosAt side32 cosine32 cosines32
 returns s = vals-are (xs s) (sixteenMost differenceFoldMost) (sixteen-small (s .pre)) (results (steps s) (118 ∷ 119 ∷ 120 ∷ 121 ∷ 122 ∷ 123 ∷ 124 ∷ 125 ∷ 127 ∷ 128 ∷ 129 ∷ 130 ∷ 131 ∷ 132 ∷ 133 ∷ 134 ∷ [])) (tab 16 (λ i. sumE 16 (λ n. var n ⊠ con (basisOf side32 (2 * i + 1) n)))) tt tt
 
-pub odd-spec : {M : Type 1} → statement M
-odd-spec = tie.close (tie.spec
+pub odd-spec : {M : Type 1} → of.Statement.statement M
+odd-spec = of.Tie.close (of.Tie.spec
     (fit 0) (fit 1) (fit 2) (fit 3) (fit 4) (fit 5) (fit 6) (fit 7) (fit 8) (fit 9) (fit 10)
     (fit 11) (fit 12) (fit 13) (fit 14) (fit 15) (fit 16) (fit 17) (fit 18) (fit 19) (fit 20) (fit 21)
     (fit 22) (fit 23) (fit 24) (fit 25) (fit 26) (fit 27) (fit 28) (fit 29) (fit 30) (fit 31) (fit 32)

@@ -1,10 +1,7 @@
 -- `whole_lines32::odd_places`: the places of the folded line are those of the line.
-use Rattle.algebra.specs.Prelude.{_∙_, _+_, _*_, lit<, w16, now}
-use Rattle.recipe.specs.Tables32.{side32}
+use Rattle.whole_lines32.specs.Prelude.{_∙_, _+_, _*_, lit<, w16, now, side32, differenceOf, of}
 use Rattle.recipe.specs.TableLaws32.{rules32}
-use Rattle.lines.specs.Fold.{differenceOf}
 use Rattle.lines.specs.SideFolds.{odd-folded}
-use Rattle.lines.specs.Held.{of}
 use Rattle.lines.specs.Picked.{sixteen, sixteen-picked, all-most}
 use Rattle.lines.specs.WholeFolds.{differences-most, places-held}
 use Rattle.whole_lines32.proofs.odd_places.Statement.{statement}

@@ -1,20 +1,18 @@
 -- `wiener::filter`: the quads are replaced in the order of 16·u + l, and V and W of each lane are those of its plane.
-use Rattle.algebra.specs.Prelude.{_≡_, refl, sym, Bool, true, false, not, _-_, _*_, _^_, _≤_, arith, needs, lit≤}
+use Rattle.wiener.specs.Prelude.{_≡_, refl, sym, Bool, true, false, not, _-_, _*_, _^_, _≤_, arith, needs, lit≤, inFloat, ofBits}
 use mathlib.Core.Bool.{false≢true}
 use lib.Dec.{le→leb}
-use lib.Ieee.{inFloat, ofBits}
 use Rattle.floats.specs.QuotientLaws.{slightlyMore}
 use Rattle.quads.specs.FilterLaws.{pair-filtered}
 use Rattle.wiener.specs.DoubleQuads.{Shrunk}
 use Rattle.wiener.proofs.SureLaws.{shrunk-start, shrunk-at, shrunk-join}
 use Rattle.wiener.proofs.DoubleGains.{double-quads}
-use Rattle.wiener.proofs.filter.Statement.{statement}
-use Rattle.wiener.proofs.filter.Tie as tie
+use Rattle.wiener.proofs.filter as of
 
-abbrev Inv-loop : tie.InvT-loop
+abbrev Inv-loop : of.Tie.InvT-loop
 Inv-loop b₀ first second v w u₀ b u = (1 ≤ u) × (u ≤ 8) × (Shrunk true v w 16 (16 * u) b₀ b)
 
-abbrev μ-loop : tie.MeasureT-loop
+abbrev μ-loop : of.Tie.MeasureT-loop
 μ-loop b₀ first second v w u₀ b u = 8 - u
 
 -- what an `if` that is not taken says of a loop's answer
@@ -22,37 +20,37 @@ sure-of : (s : Bool) → not s ≡ false → s ≡ true
 sure-of true e = refl
 sure-of false e = sym e
 
-int-to-float-alternating : tie.Need-int-to-float-alternating Inv-loop μ-loop
+int-to-float-alternating : of.Tie.Need-int-to-float-alternating Inv-loop μ-loop
 unfolding inFloat
 int-to-float-alternating c = le→leb (c .before .args .first) (2 ^ 53) (omega arith)
 
-int-to-float-alternating-2 : tie.Need-int-to-float-alternating-2 Inv-loop μ-loop
+int-to-float-alternating-2 : of.Tie.Need-int-to-float-alternating-2 Inv-loop μ-loop
 unfolding inFloat
 int-to-float-alternating-2 c = le→leb (c .before .before .args .second) (2 ^ 53) (omega arith)
 
-int-to-float-alternating-3 : tie.Need-int-to-float-alternating-3 Inv-loop μ-loop
+int-to-float-alternating-3 : of.Tie.Need-int-to-float-alternating-3 Inv-loop μ-loop
 unfolding inFloat
 int-to-float-alternating-3 c = le→leb (c .before .before .before .before .args .first) (2 ^ 53) (omega arith)
 
-int-to-float-alternating-4 : tie.Need-int-to-float-alternating-4 Inv-loop μ-loop
+int-to-float-alternating-4 : of.Tie.Need-int-to-float-alternating-4 Inv-loop μ-loop
 unfolding inFloat
 int-to-float-alternating-4 c = le→leb (c .before .before .before .before .before .args .second) (2 ^ 53) (omega arith)
 
-left-requires : tie.Need-left-requires Inv-loop μ-loop
+left-requires : of.Tie.Need-left-requires Inv-loop μ-loop
 left-requires c κs = c .before .before .before .before .corner .ensures .new .paired
 
-loop-holds : tie.Need-loop-holds Inv-loop μ-loop
+loop-holds : of.Tie.Need-loop-holds Inv-loop μ-loop
 loop-holds c = (omega arith, omega arith, shrunk-start 16 (c .before .left .ensures .new .paired))
 
-top-requires : tie.Need-top-requires Inv-loop μ-loop
+top-requires : of.Tie.Need-top-requires Inv-loop μ-loop
 top-requires c κs =
     let p = c .before .before .before .before in
     record { u-some = omega arith; u-below = omega arith; paired = p .loop .inv .2 .new .paired }
 
-inner-requires : tie.Need-inner-requires Inv-loop μ-loop
+inner-requires : of.Tie.Need-inner-requires Inv-loop μ-loop
 inner-requires c κs = record { u-some = omega arith; u-below = omega arith; paired = c .before .before .before .before .top .ensures .new .paired }
 
-loop-again : tie.Need-loop-again Inv-loop μ-loop
+loop-again : of.Tie.Need-loop-again Inv-loop μ-loop
 loop-again c =
     let i = c .before in
     let x = i .before .before .before .before in
@@ -61,7 +59,7 @@ loop-again c =
     let half = shrunk-join {z = true} (omega arith) (omega arith) (p .loop .inv .2) (t .top .ensures) (λ e. (refl, sure-of (t .top .result) (x .if5 .left))) in
     (omega arith, omega arith, shrunk-at (shrunk-join (omega arith) (omega arith) half (i .inner .ensures) (λ e. (refl, sure-of (i .inner .result) (c .if6 .left)))) (omega arith))
 
-returns-7 : tie.Need-returns-7 Inv-loop μ-loop
+returns-7 : of.Tie.Need-returns-7 Inv-loop μ-loop
 unfolding ofBits slightlyMore
 returns-7 c e w =
     let p = c .before in
@@ -79,6 +77,6 @@ returns-7 c e w =
     (double-quads (s .args .first) (s .args .second) (w .plane) (record { above = omega arith; most = s .pre .first-most; binned = w .first }) (record { above = omega arith; most = s .pre .second-most; binned = w .second }) (first .alternating .ensures) (second .alternating2 .ensures) (w .is) (all .sure refl))
     (all .new) (w .is)
 
-pub filter-spec : {M : Type 1} → statement M
-filter-spec = tie.close (tie.spec
+pub filter-spec : {M : Type 1} → of.Statement.statement M
+filter-spec = of.Tie.close (of.Tie.spec
     Inv-loop μ-loop int-to-float-alternating int-to-float-alternating-2 (λ c κs. search needs) int-to-float-alternating-3 int-to-float-alternating-4 (λ c κs. search needs) (λ c e. absurd (false≢true e)) (λ c e. absurd (false≢true e)) (λ c κs. search needs) (λ c e. absurd (false≢true e)) left-requires (λ c e. absurd (false≢true e)) loop-holds top-requires (λ c e. absurd (false≢true e)) inner-requires (λ c e. absurd (false≢true e)) (λ c. search needs) (λ c. search needs) loop-again returns-7)

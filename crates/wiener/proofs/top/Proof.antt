@@ -1,20 +1,17 @@
 -- `wiener::top`: two lanes one after the other, asked together.
-use Rattle.algebra.specs.Prelude.{_≡_, refl, subst, List, ℕ, _+_, _*_, arith, needs, now, lit<}
-use lib.Ieee.{Float}
-use Rattle.quads.specs.Lanes.{Lanes}
+use Rattle.wiener.specs.Prelude.{_≡_, refl, subst, List, ℕ, _+_, _*_, arith, needs, now, lit<, Float, Lanes}
 use Rattle.quads.specs.LaneLaws.{lanes-at, lanes-join}
 use Rattle.wiener.specs.NewQuads.{sure-top}
 use Rattle.wiener.proofs.SureLaws.{sure-one, sure-join, shrunk-at}
-use Rattle.wiener.proofs.top.Statement.{statement}
-use Rattle.wiener.proofs.top.Tie as tie
+use Rattle.wiener.proofs.top as of
 
-top-lane-requires-2 : tie.Need-top-lane-requires-2
+top-lane-requires-2 : of.Tie.Need-top-lane-requires-2
 top-lane-requires-2 c κs = record { u-some = omega arith; u-below = omega arith; l-below = lit< tt; paired = c .before .top-lane .ensures .1 .paired }
 
 lanes-between : {f : (u l : ℕ) → List Float → List Float} {m n o p : ℕ} {b r : List (List Float)} → Lanes f m n b r → m ≡ o → n ≡ p → Lanes f o p b r
 lanes-between {f} {n = n} {b = b} {r} z d e = lanes-at (subst (λ m. Lanes f m n b r) d z) e
 
-returns : tie.Need-returns
+returns : of.Tie.Need-returns
 returns c =
     let one = c .before in
     let p = one .before .before .before .before .before in
@@ -34,5 +31,5 @@ returns c =
           (sure-one {u = u} {l = 1} (a .pre .u-below) (lit< tt) refl (sure-top 24 v w (p .top-lane2 .ensures .0) u 1 some (lit< tt) (x .2) (y .2)));
     }) (omega arith)
 
-pub top-spec : {M : Type 1} → statement M
-top-spec = tie.close (tie.spec (λ c κs. search needs) top-lane-requires-2 (λ c. search needs) (λ c. search needs) (λ c. search needs) (λ c. search needs) (λ c. search needs) (λ c. search needs) (λ c. search needs) (λ c. search needs) (λ c κs. search needs) (λ c. search needs) (λ c. search needs) (λ c. search needs) (λ c. search needs) (λ c κs. search needs) returns)
+pub top-spec : {M : Type 1} → of.Statement.statement M
+top-spec = of.Tie.close (of.Tie.spec (λ c κs. search needs) top-lane-requires-2 (λ c. search needs) (λ c. search needs) (λ c. search needs) (λ c. search needs) (λ c. search needs) (λ c. search needs) (λ c. search needs) (λ c. search needs) (λ c κs. search needs) (λ c. search needs) (λ c. search needs) (λ c. search needs) (λ c. search needs) (λ c κs. search needs) returns)

@@ -1,20 +1,18 @@
 -- `wiener32::filter`: the quads are replaced in the order of 32·u + l, and V and W of each lane are those of its plane.
-use Rattle.algebra.specs.Prelude.{_≡_, refl, sym, Bool, true, false, not, _-_, _*_, _^_, _≤_, arith, needs, lit≤}
+use Rattle.wiener32.specs.Prelude.{_≡_, refl, sym, Bool, true, false, not, _-_, _*_, _^_, _≤_, arith, needs, lit≤, inFloat, ofBits}
 use mathlib.Core.Bool.{false≢true}
 use lib.Dec.{le→leb}
-use lib.Ieee.{inFloat, ofBits}
 use Rattle.floats.specs.QuotientLaws.{slightlyMore}
 use Rattle.quads32.specs.FilterLaws.{pair-filtered}
 use Rattle.wiener32.specs.DoubleQuads.{Shrunk}
 use Rattle.wiener32.proofs.SureLaws.{shrunk-start, shrunk-at, shrunk-join}
 use Rattle.wiener32.proofs.DoubleGains.{double-quads}
-use Rattle.wiener32.proofs.filter.Statement.{statement}
-use Rattle.wiener32.proofs.filter.Tie as tie
+use Rattle.wiener32.proofs.filter as of
 
-abbrev Inv-loop : tie.InvT-loop
+abbrev Inv-loop : of.Tie.InvT-loop
 Inv-loop b₀ first second v w u₀ b u = (1 ≤ u) × (u ≤ 16) × (Shrunk true v w 32 (32 * u) b₀ b)
 
-abbrev μ-loop : tie.MeasureT-loop
+abbrev μ-loop : of.Tie.MeasureT-loop
 μ-loop b₀ first second v w u₀ b u = 16 - u
 
 -- what an `if` that is not taken says of a loop's answer
@@ -22,37 +20,37 @@ sure-of : (s : Bool) → not s ≡ false → s ≡ true
 sure-of true e = refl
 sure-of false e = sym e
 
-int-to-float-alternating : tie.Need-int-to-float-alternating Inv-loop μ-loop
+int-to-float-alternating : of.Tie.Need-int-to-float-alternating Inv-loop μ-loop
 unfolding inFloat
 int-to-float-alternating c = le→leb (c .before .args .first) (2 ^ 53) (omega arith)
 
-int-to-float-alternating-2 : tie.Need-int-to-float-alternating-2 Inv-loop μ-loop
+int-to-float-alternating-2 : of.Tie.Need-int-to-float-alternating-2 Inv-loop μ-loop
 unfolding inFloat
 int-to-float-alternating-2 c = le→leb (c .before .before .args .second) (2 ^ 53) (omega arith)
 
-int-to-float-alternating-3 : tie.Need-int-to-float-alternating-3 Inv-loop μ-loop
+int-to-float-alternating-3 : of.Tie.Need-int-to-float-alternating-3 Inv-loop μ-loop
 unfolding inFloat
 int-to-float-alternating-3 c = le→leb (c .before .before .before .before .args .first) (2 ^ 53) (omega arith)
 
-int-to-float-alternating-4 : tie.Need-int-to-float-alternating-4 Inv-loop μ-loop
+int-to-float-alternating-4 : of.Tie.Need-int-to-float-alternating-4 Inv-loop μ-loop
 unfolding inFloat
 int-to-float-alternating-4 c = le→leb (c .before .before .before .before .before .args .second) (2 ^ 53) (omega arith)
 
-left-requires : tie.Need-left-requires Inv-loop μ-loop
+left-requires : of.Tie.Need-left-requires Inv-loop μ-loop
 left-requires c κs = c .before .before .before .before .corner .ensures .new .paired
 
-loop-holds : tie.Need-loop-holds Inv-loop μ-loop
+loop-holds : of.Tie.Need-loop-holds Inv-loop μ-loop
 loop-holds c = (omega arith, omega arith, shrunk-start 32 (c .before .left .ensures .new .paired))
 
-top-requires : tie.Need-top-requires Inv-loop μ-loop
+top-requires : of.Tie.Need-top-requires Inv-loop μ-loop
 top-requires c κs =
     let p = c .before .before .before .before in
     record { u-some = omega arith; u-below = omega arith; paired = p .loop .inv .2 .new .paired }
 
-inner-requires : tie.Need-inner-requires Inv-loop μ-loop
+inner-requires : of.Tie.Need-inner-requires Inv-loop μ-loop
 inner-requires c κs = record { u-some = omega arith; u-below = omega arith; paired = c .before .before .before .before .top .ensures .new .paired }
 
-loop-again : tie.Need-loop-again Inv-loop μ-loop
+loop-again : of.Tie.Need-loop-again Inv-loop μ-loop
 loop-again c =
     let i = c .before in
     let x = i .before .before .before .before in
@@ -62,25 +60,25 @@ loop-again c =
     (omega arith, omega arith, shrunk-at (shrunk-join (omega arith) (omega arith) half (i .inner .ensures) (λ e. (refl, sure-of (i .inner .result) (c .if6 .left)))) (omega arith))
 
 -- where the answer is false, the pair is one still
-returns : tie.Need-returns Inv-loop μ-loop
+returns : of.Tie.Need-returns Inv-loop μ-loop
 returns c = record { paired = c .before .before .before .before .before .before .before .pre .paired; is = λ e. absurd (false≢true e) }
 
-returns-2 : tie.Need-returns-2 Inv-loop μ-loop
+returns-2 : of.Tie.Need-returns-2 Inv-loop μ-loop
 returns-2 c = record { paired = c .before .before .before .before .before .before .before .before .pre .paired; is = λ e. absurd (false≢true e) }
 
-returns-3 : tie.Need-returns-3 Inv-loop μ-loop
+returns-3 : of.Tie.Need-returns-3 Inv-loop μ-loop
 returns-3 c = record { paired = c .before .corner .ensures .new .paired; is = λ e. absurd (false≢true e) }
 
-returns-4 : tie.Need-returns-4 Inv-loop μ-loop
+returns-4 : of.Tie.Need-returns-4 Inv-loop μ-loop
 returns-4 c = record { paired = c .before .left .ensures .new .paired; is = λ e. absurd (false≢true e) }
 
-returns-5 : tie.Need-returns-5 Inv-loop μ-loop
+returns-5 : of.Tie.Need-returns-5 Inv-loop μ-loop
 returns-5 c = record { paired = c .before .top .ensures .new .paired; is = λ e. absurd (false≢true e) }
 
-returns-6 : tie.Need-returns-6 Inv-loop μ-loop
+returns-6 : of.Tie.Need-returns-6 Inv-loop μ-loop
 returns-6 c = record { paired = c .before .inner .ensures .new .paired; is = λ e. absurd (false≢true e) }
 
-returns-7 : tie.Need-returns-7 Inv-loop μ-loop
+returns-7 : of.Tie.Need-returns-7 Inv-loop μ-loop
 unfolding ofBits slightlyMore
 returns-7 c =
     let p = c .before in
@@ -102,6 +100,6 @@ returns-7 c =
           (all .new) (w .is);
     }
 
-pub filter-spec : {M : Type 1} → statement M
-filter-spec = tie.close (tie.spec
+pub filter-spec : {M : Type 1} → of.Statement.statement M
+filter-spec = of.Tie.close (of.Tie.spec
     Inv-loop μ-loop int-to-float-alternating int-to-float-alternating-2 (λ c κs. search needs) int-to-float-alternating-3 int-to-float-alternating-4 (λ c κs. search needs) returns returns-2 (λ c κs. search needs) returns-3 left-requires returns-4 loop-holds top-requires returns-5 inner-requires returns-6 (λ c. search needs) (λ c. search needs) loop-again returns-7)

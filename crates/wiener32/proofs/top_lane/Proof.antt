@@ -2,10 +2,9 @@
 use Rattle.algebra.specs.Prelude.{refl, _+_, _*_, arith, needs, now}
 use Rattle.quads32.specs.LaneLaws.{lanes-start, lanes-turn}
 use Rattle.wiener.specs.NewQuads.{new-top}
-use Rattle.wiener32.proofs.top_lane.Statement.{statement}
-use Rattle.wiener32.proofs.top_lane.Tie as tie
+use Rattle.wiener32.proofs.top_lane as of
 
-returns : tie.Need-returns
+returns : of.Tie.Need-returns
 returns c =
     let h = c .before .before in
     let g = h .before in
@@ -15,6 +14,6 @@ returns c =
     let l = s .args .l in
     (q .quad-at .ensures, lanes-turn (lanes-start (32 * u + l) (s .pre .paired)) (omega arith) (s .pre .u-below) (omega arith) refl (c .set-quad .ensures) (new-top 26 (now (s .args .v)) (now (s .args .w)) (q .quad-at .ensures) u l (s .pre .u-some) (s .pre .l-below) (g .gains .ensures) (h .gains2 .ensures)))
 
-pub top-lane-spec : {M : Type 1} → statement M
-top-lane-spec = tie.close (tie.spec
+pub top-lane-spec : {M : Type 1} → of.Statement.statement M
+top-lane-spec = of.Tie.close (of.Tie.spec
     (λ c κs. search needs) (λ c. search needs) (λ c. search needs) (λ c. search needs) (λ c. search needs) (λ c. search needs) (λ c. search needs) (λ c κs. search needs) (λ c. search needs) (λ c. search needs) (λ c κs. search needs) (λ c. search needs) (λ c. search needs) (λ c. search needs) (λ c. search needs) (λ c. search needs) (λ c. search needs) (λ c. search needs) (λ c. search needs) (λ c κs. search needs) returns)

@@ -3,18 +3,17 @@ use Rattle.algebra.specs.Prelude.{_≡_, ap, _∙_, arith, needs, length, take}
 use borrow.Author.Tests.{le-leb, lt-leb}
 use Rattle.words.specs.Words.{wordsOf, padded}
 use Rattle.words.specs.WordLaws.{starts}
-use Rattle.words.proofs.refusal_words.Statement.{statement}
-use Rattle.words.proofs.refusal_words.Tie as tie
+use Rattle.words.proofs.refusal_words as of
 
 -- what the buffer starts with
-front : (c : tie.After-put-words) → take (c .put-words .result) (c .put-words .last .0) ≡ wordsOf (c .before .before .before .args .number)
+front : (c : of.Tie.After-put-words) → take (c .put-words .result) (c .put-words .last .0) ≡ wordsOf (c .before .before .before .args .number)
 front c = starts (c .put-words .ensures .0)
 
 -- where they end
-end : (c : tie.After-put-words) → c .put-words .result ≡ length (wordsOf (c .before .before .before .args .number))
+end : (c : of.Tie.After-put-words) → c .put-words .result ≡ length (wordsOf (c .before .before .before .args .number))
 end c = omega (arith, c .put-words .ensures .0 .place)
 
-returns : tie.Need-returns
+returns : of.Tie.Need-returns
 returns c =
     let put = c .before .before in
     let a = put .before .before .before .args in
@@ -23,10 +22,10 @@ returns c =
       stored = rw (lt-leb (length (wordsOf (a .number))) (length (a .text .now)) (omega (arith, end put, c .if1 .taken)));
     }
 
-slice-aggregate-store : tie.Need-slice-aggregate-store
+slice-aggregate-store : of.Tie.Need-slice-aggregate-store
 slice-aggregate-store c = omega (arith, ap length (front (c .before .before .before)), end (c .before .before .before))
 
-returns-2 : tie.Need-returns-2
+returns-2 : of.Tie.Need-returns-2
 returns-2 c =
     let stored = c .before .before in
     let left = stored .before .before .before in
@@ -39,7 +38,7 @@ returns-2 c =
           (stored .store .ensures ∙ ap (padded (length (a .text .now))) (front put));
     }
 
-pub refusal-words-spec : {M : Type 1} → statement M
-refusal-words-spec = tie.close (tie.spec
+pub refusal-words-spec : {M : Type 1} → of.Statement.statement M
+refusal-words-spec = of.Tie.close (of.Tie.spec
     (λ c. search needs) (λ c κs. search needs) returns (λ c. search needs) slice-aggregate-store
     (λ c κs. search needs) (λ c. search needs) returns-2)

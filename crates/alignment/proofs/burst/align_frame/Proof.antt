@@ -1,25 +1,23 @@
 -- The frame's pyramid is laid behind the reference's, and the levels' pairs of images are then those of the two frames.
 use Rattle.algebra.specs.Prelude.{subst, arith, needs}
-use Rattle.geometry.specs.Read.{sampleAt}
-use Rattle.pyramid.specs.Layout.{pyramidLength, Built}
+use Rattle.alignment.specs.Prelude.{sampleAt, pyramidLength, Built}
 use Rattle.alignment.specs.BurstLaws.{two-pyramids, both-standing, one-aligned}
-use Rattle.alignment.proofs.burst.align_frame.Statement.{statement}
-use Rattle.alignment.proofs.burst.align_frame.Tie as tie
+use Rattle.alignment.proofs.burst.align_frame as of
 
-build-requires : tie.Need-build-requires
+build-requires : of.Tie.Need-build-requires
 build-requires c κs =
     let start = c .before .before .before in
     (start .pre .0 .readable, omega (arith, two-pyramids (start .args .shape) (start .pre .0 .room), c .before .offset .ensures .0))
 
 -- the frame's pyramid stands behind the reference's
-built : (c : tie.After-build) →
+built : (c : of.Tie.After-build) →
     let a = c .before .before .before .before .args in
     Built (a .shape) (sampleAt (a .shape) (a .samples .now) (a .frame)) (pyramidLength (a .shape)) (a .work .now) (c .build .last .1 .1 .1 .0)
 built c =
     let a = c .before .before .before .before .args in
     subst (λ n. Built (a .shape) (sampleAt (a .shape) (a .samples .now) (a .frame)) n (a .work .now) (c .build .last .1 .1 .1 .0)) (c .before .before .offset .ensures .0) (c .build .ensures)
 
-align-levels-requires : tie.Need-align-levels-requires
+align-levels-requires : of.Tie.Need-align-levels-requires
 align-levels-requires c κs =
     let start = c .before .before .before .before .before .before .before in
     let b = built (c .before .before .before) in
@@ -27,12 +25,12 @@ align-levels-requires c κs =
     let ok = start .pre .0 .readable .sampled .allowed in
     (record { allowed = ok; sided = start .pre .0 .sided; standing = both-standing ok (start .pre .0 .sided) (start .pre .0 .levels) b; room = omega (arith, start .pre .0 .room) }, start .pre .1)
 
-returns : tie.Need-returns
+returns : of.Tie.Need-returns
 returns c =
     let start = c .before .before .before .before .before .before .before .before .before .before in
     one-aligned (start .pre .0 .readable .sampled .allowed) (start .pre .0 .sided) (start .pre .0 .levels) (built (c .before .before .before .before .before .before)) (c .before .before .align-levels .ensures)
 
-pub align-frame-spec : {M : Type 1} → statement M
-align-frame-spec = tie.close (tie.spec
+pub align-frame-spec : {M : Type 1} → of.Statement.statement M
+align-frame-spec = of.Tie.close (of.Tie.spec
     (λ c κs. search needs) build-requires align-levels-requires (λ c. search needs)
     (λ c. search needs) returns)

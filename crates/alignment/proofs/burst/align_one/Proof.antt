@@ -2,15 +2,14 @@
 use Rattle.algebra.specs.Prelude.{_∙_, arith, needs}
 use Rattle.alignment.specs.BurstLaws.{two-pyramids, frame-of, frame-room}
 use Rattle.alignment.specs.OneFrameLaws.{frame-aligned}
-use Rattle.alignment.proofs.burst.align_one.Statement.{statement}
-use Rattle.alignment.proofs.burst.align_one.Tie as tie
+use Rattle.alignment.proofs.burst.align_one as of
 
-build-requires : tie.Need-build-requires
+build-requires : of.Tie.Need-build-requires
 build-requires c κs =
     let start = c .before .before in
     (frame-of (start .pre .burst) (start .pre .samples-fit) _ (start .pre .burst .reference-below), omega (arith, two-pyramids (start .args .shape) (frame-room (start .pre .burst) (start .pre .room))))
 
-align-frame-requires : tie.Need-align-frame-requires
+align-frame-requires : of.Tie.Need-align-frame-requires
 align-frame-requires c κs =
     let built = c .before .before .before .before in
     let start = built .before .before .before in
@@ -24,7 +23,7 @@ align-frame-requires c κs =
       omega (arith, start .pre .vectors-long),
     )
 
-returns : tie.Need-returns
+returns : of.Tie.Need-returns
 returns c =
     let aligned = c .before .before in
     let other = aligned .before .before .before in
@@ -33,6 +32,6 @@ returns c =
     let done = frame-aligned (start .pre .other-in) (start .pre .vectors-long) (other .other-frame .ensures .0) (aligned .align-frame .ensures) in
     record { found = done .found; sum-is = done .sum-is; rows-are = done .rows-are; same = done .same ∙ built .build .ensures .same }
 
-pub align-one-spec : {M : Type 1} → statement M
-align-one-spec = tie.close (tie.spec
+pub align-one-spec : {M : Type 1} → of.Statement.statement M
+align-one-spec = of.Tie.close (of.Tie.spec
     build-requires (λ c κs. search needs) align-frame-requires (λ c. search needs) (λ c. search needs) returns)

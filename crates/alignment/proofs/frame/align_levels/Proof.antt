@@ -3,16 +3,15 @@ use Rattle.geometry.specs.TileLaws.{finest-tiles}
 use Rattle.alignment.specs.Sites.{gridAt}
 use Rattle.alignment.specs.LevelLaws.{standing-kept, grid-few, aligned}
 use Rattle.algebra.specs.Prelude.{arith, needs}
-use Rattle.alignment.proofs.frame.align_levels.Statement.{statement}
-use Rattle.alignment.proofs.frame.align_levels.Tie as tie
+use Rattle.alignment.proofs.frame.align_levels as of
 
-area-at-requires : tie.Need-area-at-requires
+area-at-requires : of.Tie.Need-area-at-requires
 area-at-requires c κs = (c .before .before .before .before .pre .0 .allowed, omega arith)
 
-grid-at-requires : tie.Need-grid-at-requires
+grid-at-requires : of.Tie.Need-grid-at-requires
 grid-at-requires c κs = let p = c .before .before .before .before .before .pre .0 in record { allowed = p .allowed; sided = p .sided; level-most = omega arith }
 
-finest-field-requires : tie.Need-finest-field-requires
+finest-field-requires : of.Tie.Need-finest-field-requires
 unfolding gridAt
 finest-field-requires c κs = let r = c .before .before .before .before .before .before .coarse-levels .ensures .reached in
     let s = c .before .before .before .before .before .before .before .before in
@@ -25,16 +24,16 @@ finest-field-requires c κs = let r = c .before .before .before .before .before 
       room = rw (c .before .before .grid-at .ensures, finest-tiles (s .pre .0 .sided) (ok .high), finest-tiles (s .pre .0 .sided) (ok .wide)) (s .pre .1);
     }
 
-add-t16 : tie.Need-add-t16
+add-t16 : of.Tie.Need-add-t16
 add-t16 c = omega (arith, c .before .before .before .before .before .before .before .before .before .before .coarse-levels .ensures .few, c .before .before .before .finest-field .ensures .few)
 
-returns : tie.Need-returns
+returns : of.Tie.Need-returns
 returns c = let g = c .before .before .before .before .before .before in
     let l = c .before .before .before .before .before .before .before .before .before .before in
     let s = c .before .before .before .before .before .before .before .before .before .before .before .before in
     aligned (s .pre .0) (l .coarse-levels .ensures) (g .before .area-at .ensures) (g .grid-at .ensures) (s .pre .1) (c .before .before .before .finest-field .ensures)
 
-pub align-levels-spec : {M : Type 1} → statement M
-align-levels-spec = tie.close (tie.spec
+pub align-levels-spec : {M : Type 1} → of.Statement.statement M
+align-levels-spec = of.Tie.close (of.Tie.spec
     (λ c κs. c .before .pre .0) area-at-requires grid-at-requires finest-field-requires add-t16
     (λ c. search needs) (λ c. search needs) returns)

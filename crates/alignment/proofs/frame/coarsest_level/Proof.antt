@@ -2,20 +2,19 @@
 use Rattle.alignment.specs.Sites.{pairsIn}
 use Rattle.alignment.specs.LevelLaws.{level-ready}
 use borrow.Author.Needs.{needs}
-use Rattle.alignment.proofs.frame.coarsest_level.Statement.{statement}
-use Rattle.alignment.proofs.frame.coarsest_level.Tie as tie
+use Rattle.alignment.proofs.frame.coarsest_level as of
 
-coarsest-field-requires : tie.Need-coarsest-field-requires
+coarsest-field-requires : of.Tie.Need-coarsest-field-requires
 coarsest-field-requires c κs = let s = c .before .before .before in level-ready 3 (s .args .at) (s .pre) (c .before .before .area-at .ensures) (c .before .grid-at .ensures)
 
-returns : tie.Need-returns
+returns : of.Tie.Need-returns
 unfolding pairsIn
 returns c =
     let g = c .before .before .before in
     let e = c .before .coarsest-field .ensures in
     record { grid-is = g .grid-at .ensures; laid = rw (g .before .area-at .ensures) at e }
 
-pub coarsest-level-spec : {M : Type 1} → statement M
-coarsest-level-spec = tie.close (tie.spec
+pub coarsest-level-spec : {M : Type 1} → of.Statement.statement M
+coarsest-level-spec = of.Tie.close (of.Tie.spec
     (λ c κs. search needs) (λ c κs. search needs) coarsest-field-requires (λ c. search needs)
     returns)

@@ -1,8 +1,7 @@
 -- The level's place among the images of a pyramid, by its number.
 use Rattle.alignment.specs.Sites.{imageNumber}
 use Rattle.algebra.specs.Prelude.{_≡_, refl, ℕ, zero, suc, _-_, _*_, _≤_, _<_, arith, needs}
-use Rattle.alignment.proofs.frame.image_number.Statement.{statement}
-use Rattle.alignment.proofs.frame.image_number.Tie as tie
+use Rattle.alignment.proofs.frame.image_number as of
 
 low : (level : ℕ) → level < 2 → level ≡ imageNumber level
 low zero h = refl
@@ -15,11 +14,11 @@ high (suc zero) h l = absurd (omega arith)
 high (suc (suc zero)) h l = refl
 high (suc (suc (suc k))) h l = omega arith
 
-returns : tie.Need-returns
+returns : of.Tie.Need-returns
 returns c = (low (c .before .args .level) (c .if1 .taken), omega arith)
 
-returns-2 : tie.Need-returns-2
+returns-2 : of.Tie.Need-returns-2
 returns-2 c = (high (c .before .args .level) (c .if1 .left) (c .before .pre), omega arith)
 
-pub image-number-spec : {M : Type 1} → statement M
-image-number-spec = tie.close (tie.spec (λ c. search needs) (λ c. search needs) returns returns-2)
+pub image-number-spec : {M : Type 1} → of.Statement.statement M
+image-number-spec = of.Tie.close (of.Tie.spec (λ c. search needs) (λ c. search needs) returns returns-2)

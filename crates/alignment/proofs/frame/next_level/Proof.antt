@@ -2,10 +2,9 @@
 use Rattle.alignment.specs.Sites.{pairsIn}
 use Rattle.alignment.specs.LevelLaws.{level-ready}
 use borrow.Author.Needs.{needs}
-use Rattle.alignment.proofs.frame.next_level.Statement.{statement}
-use Rattle.alignment.proofs.frame.next_level.Tie as tie
+use Rattle.alignment.proofs.frame.next_level as of
 
-finer-field-requires : tie.Need-finer-field-requires
+finer-field-requires : of.Tie.Need-finer-field-requires
 finer-field-requires c κs = let s = c .before .before .before in
     record {
       fits = level-ready (s .args .level) (s .args .at) (s .pre .site) (c .before .before .area-at .ensures) (c .before .grid-at .ensures);
@@ -15,13 +14,13 @@ finer-field-requires c κs = let s = c .before .before .before in
       level-most = s .pre .level-most;
     }
 
-returns : tie.Need-returns
+returns : of.Tie.Need-returns
 unfolding pairsIn
 returns c =
     let g = c .before .before .before in
     let e = c .before .finer-field .ensures in
     record { grid-is = g .grid-at .ensures; laid = rw (g .before .area-at .ensures) at e }
 
-pub next-level-spec : {M : Type 1} → statement M
-next-level-spec = tie.close (tie.spec
+pub next-level-spec : {M : Type 1} → of.Statement.statement M
+next-level-spec = of.Tie.close (of.Tie.spec
     (λ c κs. search needs) (λ c κs. search needs) finer-field-requires (λ c. search needs) returns)

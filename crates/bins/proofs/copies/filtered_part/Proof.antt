@@ -1,13 +1,10 @@
 -- `bins::copies::filtered_part`: both parts are quantized, then shrunk.
 use Rattle.algebra.specs.Prelude.{_≡_, ap, ap₂, _∙_, needs, w64, toZ, ofZ, toZ-ofZ}
-use Rattle.recipe.specs.Tables.{side16}
-use Rattle.recipe.specs.Correction.{wiener}
-use Rattle.recipe.specs.Spatial.{copyQuantized, copyFiltered}
+use Rattle.bins.specs.Prelude.{side16, wiener, copyQuantized, copyFiltered}
 use Rattle.lines.specs.Held.{number-is}
-use Rattle.bins.proofs.copies.filtered_part.Statement.{statement}
-use Rattle.bins.proofs.copies.filtered_part.Tie as tie
+use Rattle.bins.proofs.copies.filtered_part as of
 
-returns : tie.Need-returns
+returns : of.Tie.Need-returns
 unfolding copyFiltered
 returns c =
     let q = c .before .before in
@@ -17,6 +14,6 @@ returns c =
     let d = number-is w64 (c .before .quantized-part2 .ensures .1) tt ∙ c .before .quantized-part2 .ensures .0 ∙ ap (copyQuantized side16) (toZ-ofZ (s .fits .c)) in
     rw e (c .wiener-part .ensures .0 ∙ ap₂ (wiener (s .args .noise)) b d, c .wiener-part .ensures .1)
 
-pub filtered-part-spec : {M : Type 1} → statement M
-filtered-part-spec = tie.close (tie.spec
+pub filtered-part-spec : {M : Type 1} → of.Statement.statement M
+filtered-part-spec = of.Tie.close (of.Tie.spec
     (λ c κs. search needs) (λ c κs. search needs) (λ c κs. search needs) returns)

@@ -1,5 +1,5 @@
 -- `bins::copies::wiener_part`: each step fits by the computed test of `Code`; V'·Q' is at most 6.7e18, and only its double would not fit.
-use Rattle.algebra.specs.Prelude.{_≡_, refl, sym, ap, ap₂, subst, _∙_, List, [], _∷_, arith, needs, lit<, ℤ, pos, natAbs, _+ℤ_, _*ℤ_, w64}
+use Rattle.bins.specs.Prelude.{_≡_, refl, sym, ap, ap₂, subst, _∙_, List, [], _∷_, arith, needs, lit<, ℤ, pos, natAbs, _+ℤ_, _*ℤ_, w64, away, power, wiener, copyPartMost, spatialMost}
 use Prim.Native.Nat.{ℕ, _<_, _^_, zero-le}
 use native.Mathlib.Nat.{lt-of-le-of-lt, add-le-add, mul-le-mul}
 use mir.Val.{Fits, toZ, ofZ}
@@ -8,15 +8,11 @@ use Rattle.algebra.specs.Ring.{nth}
 use Rattle.algebra.specs.Code.{Code, par, loc, add, mul, to, Bounded, fits, val, val-den}
 use Rattle.algebra.specs.Order.{abs-mul-le}
 use Rattle.algebra.specs.Bound.{abs-fits}
-use Rattle.algebra.specs.Nearest.{away}
 use Rattle.rounding.proofs.round_away.Reads as round-away-reads
-use Rattle.recipe.specs.Correction.{power, wiener}
 use Rattle.recipe.specs.CorrectionLaws.{power-is}
-use Rattle.spectrum.specs.Magnitudes.{copyPartMost, spatialMost}
 use Rattle.spectrum.specs.WienerLaws.{wiener-is}
 use Rattle.spectrum.specs.SizeLaws.{copy-gain-most}
-use Rattle.bins.proofs.copies.wiener_part.Statement.{statement}
-use Rattle.bins.proofs.copies.wiener_part.Tie as tie
+use Rattle.bins.proofs.copies.wiener_part as of
 use Rattle.bins.proofs.copies.wiener_part.Reads as reads
 use Rattle.bins.proofs.copies.wiener_part.Lts as lts
 
@@ -71,35 +67,35 @@ product-small : (s : At) → natAbs (pos (s .args .noise) *ℤ s .args .q) < 2 ^
 product-small s =
     lt-of-le-of-lt (abs-mul-le (pos (s .args .noise)) (s .args .q) (s .pre .noise-most) (s .pre .part .most)) (lit< tt)
 
-returns : tie.Need-returns
+returns : of.Tie.Need-returns
 unfolding wiener
 returns c = rw (c .if1 .taken) (refl, record { most = zero-le })
 
-mul-signal : tie.Need-mul-signal
+mul-signal : of.Tie.Need-mul-signal
 mul-signal c = fits (xs (c .before)) bs (small (c .before)) w64 (mul w64 (Q (c .before)) (Q (c .before))) tt
 
-mul-signal-2 : tie.Need-mul-signal-2
+mul-signal-2 : of.Tie.Need-mul-signal-2
 mul-signal-2 c = fits (xs (c .before)) bs (small (c .before)) w64 (mul w64 (R (c .before)) (R (c .before))) tt
 
-add-signal : tie.Need-add-signal
+add-signal : of.Tie.Need-add-signal
 add-signal c = fits (xs (c .before)) bs (small (c .before)) w64 (Squares (c .before)) tt
 
-add-power : tie.Need-add-power
+add-power : of.Tie.Need-add-power
 add-power c = fits (xs (c .before)) bs (small (c .before)) w64 (Power (c .before)) tt
 
-mul-round-away : tie.Need-mul-round-away
+mul-round-away : of.Tie.Need-mul-round-away
 mul-round-away c = fits (xs (c .before)) bs (small (c .before)) w64 (Product (c .before)) tt
 
-cast-round-away : tie.Need-cast-round-away
+cast-round-away : of.Tie.Need-cast-round-away
 cast-round-away c = rw (power-at (c .before)) (tt, power-fits (c .before))
 
-round-away-requires : tie.Need-round-away-requires
+round-away-requires : of.Tie.Need-round-away-requires
 round-away-requires c κs =
     let s = c .before in
     let n : 0 < s .args .noise = omega arith in
     rw (power-at s, product-at s) (record { divisor-some = omega arith; divisor-below = power-small s; dividend-below = product-small s })
 
-returns-2 : tie.Need-returns-2
+returns-2 : of.Tie.Need-returns-2
 returns-2 c =
     let s = c .before .before in
     let n : 0 < s .args .noise = omega arith in
@@ -108,7 +104,7 @@ returns-2 c =
     c .round-away .ensures ∙ ap₂ (λ z p. away z (natAbs p)) (product-at s) (power-at s) ∙ sym (wiener-is (s .args .noise) (s .args .q) (s .args .r) n) in
     rw (e, f) (refl, record { most = copy-gain-most (s .args .noise) (s .pre .noise-most) (s .args .q) (s .args .r) })
 
-pub wiener-part-spec : {M : Type 1} → statement M
-wiener-part-spec = tie.close (tie.spec
+pub wiener-part-spec : {M : Type 1} → of.Statement.statement M
+wiener-part-spec = of.Tie.close (of.Tie.spec
     returns (λ c. search needs) mul-signal mul-signal-2 add-signal add-power mul-round-away
     cast-round-away round-away-requires returns-2)

@@ -1,13 +1,12 @@
 -- `bins::double::both`: the second decides where the first is true.
 use mathlib.Core.Bool.{false≢true}
-use Rattle.bins.proofs.double.both.Statement.{statement}
-use Rattle.bins.proofs.double.both.Tie as tie
+use Rattle.bins.proofs.double.both as of
 
-returns : tie.Need-returns
+returns : of.Tie.Need-returns
 returns c e = (c .if1 .taken, e)
 
-returns-2 : tie.Need-returns-2
+returns-2 : of.Tie.Need-returns-2
 returns-2 c e = absurd (false≢true e)
 
-pub both-spec : {M : Type 1} → statement M
-both-spec = tie.close (tie.spec returns returns-2)
+pub both-spec : {M : Type 1} → of.Statement.statement M
+both-spec = of.Tie.close (of.Tie.spec returns returns-2)

@@ -1,13 +1,12 @@
 -- `bins::double::gains`: the definition's own operations.
 use Rattle.algebra.specs.Prelude.{needs}
 use Rattle.bins.specs.Doubles.{gainsBy}
-use Rattle.bins.proofs.double.gains.Statement.{statement}
-use Rattle.bins.proofs.double.gains.Tie as tie
+use Rattle.bins.proofs.double.gains as of
 
-returns : tie.Need-returns
+returns : of.Tie.Need-returns
 unfolding gainsBy
 returns c = cc
 
-pub gains-spec : {M : Type 1} → statement M
-gains-spec = tie.close (tie.spec
+pub gains-spec : {M : Type 1} → of.Statement.statement M
+gains-spec = of.Tie.close (of.Tie.spec
     (λ c κs. search needs) (λ c. search needs) (λ c κs. search needs) (λ c. search needs) (λ c κs. search needs) returns)

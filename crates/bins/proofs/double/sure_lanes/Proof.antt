@@ -1,11 +1,9 @@
 -- `bins::double::sure_lanes`: all four quotients are certain.
-use Rattle.algebra.specs.Prelude.{_≡_, true, sym, subst, _∙_, needs, getD}
-use lib.Ieee.{nan}
+use Rattle.bins.specs.Prelude.{_≡_, true, sym, subst, _∙_, needs, getD, nan}
 use Rattle.floats.specs.QuotientLaws.{certain}
-use Rattle.bins.proofs.double.sure_lanes.Statement.{statement}
-use Rattle.bins.proofs.double.sure_lanes.Tie as tie
+use Rattle.bins.proofs.double.sure_lanes as of
 
-returns : tie.Need-returns
+returns : of.Tie.Need-returns
 returns c e =
     let all = c .before in
     let second = all .before in
@@ -25,6 +23,6 @@ returns c e =
       record { first = subst (λ q. certain (getD q 0 nan) ≡ true) y (sym (g .no-doubt2 .ensures) ∙ parts .1); second = subst (λ q. certain (getD q 1 nan) ≡ true) y (sym (d .no-doubt4 .ensures) ∙ others .1) },
     )
 
-pub sure-lanes-spec : {M : Type 1} → statement M
-sure-lanes-spec = tie.close (tie.spec
+pub sure-lanes-spec : {M : Type 1} → of.Statement.statement M
+sure-lanes-spec = of.Tie.close (of.Tie.spec
     (λ c. search needs) (λ c. search needs) (λ c. search needs) (λ c. search needs) (λ c κs. search needs) (λ c. search needs) (λ c. search needs) (λ c. search needs) (λ c. search needs) (λ c κs. search needs) (λ c. search needs) (λ c κs. search needs) (λ c. search needs) (λ c κs. search needs) (λ c κs. search needs) (λ c. search needs) (λ c κs. search needs) (λ c. search needs) (λ c κs. search needs) (λ c κs. search needs) (λ c κs. search needs) (λ c κs. search needs) returns)

@@ -1,12 +1,11 @@
 -- `bins::long::quotients`: the definition's own operations.
 use Rattle.algebra.specs.Prelude.{needs}
 use Rattle.bins.specs.Doubles.{powerIn, quotientsBy}
-use Rattle.bins.proofs.long.quotients.Statement.{statement}
-use Rattle.bins.proofs.long.quotients.Tie as tie
+use Rattle.bins.proofs.long.quotients as of
 
-returns : tie.Need-returns
+returns : of.Tie.Need-returns
 unfolding powerIn quotientsBy
 returns c = cc
 
-pub quotients-spec : {M : Type 1} → statement M
-quotients-spec = tie.close (tie.spec (λ c κs. search needs) (λ c κs. search needs) returns)
+pub quotients-spec : {M : Type 1} → of.Statement.statement M
+quotients-spec = of.Tie.close (of.Tie.spec (λ c κs. search needs) (λ c κs. search needs) returns)

@@ -1,13 +1,11 @@
 -- `bins::long::real_gain`: the other part is 0.
-use Rattle.algebra.specs.Prelude.{ap, needs, getD}
-use lib.Ieee.{nan, ofBits, ofInt}
+use Rattle.bins.specs.Prelude.{ap, needs, getD, nan, ofBits, ofInt}
 use Rattle.bins.specs.Doubles.{realGainBy}
-use Rattle.bins.proofs.long.real_gain.Statement.{statement}
-use Rattle.bins.proofs.long.real_gain.Tie as tie
+use Rattle.bins.proofs.long.real_gain as of
 
-returns : tie.Need-returns
+returns : of.Tie.Need-returns
 unfolding ofBits ofInt realGainBy
 returns c = ap (λ g. getD g 0 nan) (c .gains .ensures)
 
-pub real-gain-spec : {M : Type 1} → statement M
-real-gain-spec = tie.close (tie.spec (λ c κs. search needs) (λ c. search needs) returns)
+pub real-gain-spec : {M : Type 1} → of.Statement.statement M
+real-gain-spec = of.Tie.close (of.Tie.spec (λ c κs. search needs) (λ c. search needs) returns)

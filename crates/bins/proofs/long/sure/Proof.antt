@@ -1,11 +1,9 @@
 -- `bins::long::sure`: both quotients are certain.
-use Rattle.algebra.specs.Prelude.{_≡_, true, sym, subst, _∙_, needs, getD}
-use lib.Ieee.{nan}
+use Rattle.bins.specs.Prelude.{_≡_, true, sym, subst, _∙_, needs, getD, nan}
 use Rattle.floats.specs.QuotientLaws.{certain}
-use Rattle.bins.proofs.long.sure.Statement.{statement}
-use Rattle.bins.proofs.long.sure.Tie as tie
+use Rattle.bins.proofs.long.sure as of
 
-returns : tie.Need-returns
+returns : of.Tie.Need-returns
 returns c e =
     let two = c .before in
     let y = two .before in
@@ -16,7 +14,7 @@ returns c e =
     let is = q .quotients .ensures in
     (all .0, record { first = subst (λ q. certain (getD q 0 nan) ≡ true) is (sym (x .no-doubt .ensures) ∙ each .0); second = subst (λ q. certain (getD q 1 nan) ≡ true) is (sym (y .no-doubt2 .ensures) ∙ each .1) })
 
-pub sure-spec : {M : Type 1} → statement M
-sure-spec = tie.close (tie.spec
+pub sure-spec : {M : Type 1} → of.Statement.statement M
+sure-spec = of.Tie.close (of.Tie.spec
     (λ c κs. search needs) (λ c. search needs) (λ c κs. search needs) (λ c. search needs) (λ c κs. search needs)
     (λ c κs. search needs) (λ c κs. search needs) returns)

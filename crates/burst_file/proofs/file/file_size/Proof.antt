@@ -1,29 +1,24 @@
 -- `file_size`: the head's refusal, or its values.
-use mathlib.Core.Path.{_≡_, sym, ap, _∙_}
-use borrow.Author.Needs.{needs}
-use Rattle.file_head.specs.Head.{headIn}
-use Rattle.file_head.specs.declared.Head.{Head}
-use Rattle.file_head.specs.declared.Head.the-variants.{Found, Refused}
+use Rattle.burst_file.specs.Prelude.{_≡_, sym, ap, _∙_, needs, headIn, Head, Found, Refused}
 use Rattle.burst_file.specs.Size.{headAnswer, fileSize}
-use Rattle.burst_file.proofs.file.file_size.Statement.{statement}
-use Rattle.burst_file.proofs.file.file_size.Tie as tie
+use Rattle.burst_file.proofs.file.file_size as of
 
 -- where the head is `head`
-decided : (c : tie.After-read-head) (head : Head) → c .read-head .result ≡ head → headAnswer (headIn (c .before .before .args .file .now) head) ≡ fileSize (c .before .before .args .file .now)
+decided : (c : of.Tie.After-read-head) (head : Head) → c .read-head .result ≡ head → headAnswer (headIn (c .before .before .args .file .now) head) ≡ fileSize (c .before .before .args .file .now)
 unfolding fileSize
 decided c head e = ap (λ (h : Head). headAnswer (headIn (c .before .before .args .file .now) h)) (sym e) ∙ ap headAnswer (c .read-head .ensures)
 
-returns : tie.Need-returns
+returns : of.Tie.Need-returns
 returns c =
     let g = c .before .before .number .given in
     c .refused .ensures ∙ decided (c .before .before .before .before) (Refused (g .0 .0)) (g .1)
 
-returns-2 : tie.Need-returns-2
+returns-2 : of.Tie.Need-returns-2
 returns-2 c =
     let g = c .before .before .header .given in
     c .accepted .ensures ∙ decided (c .before .before .before .before) (Found (g .0 .0) (g .0 .1 .0)) (g .1)
 
-pub file-size-spec : {M : Type 1} → statement M
-file-size-spec = tie.close (tie.spec
+pub file-size-spec : {M : Type 1} → of.Statement.statement M
+file-size-spec = of.Tie.close (of.Tie.spec
     (λ c κs. search needs) (λ c. search needs) (λ c κs. search needs) (λ c. search needs) (λ c κs. search needs) returns
     returns-2)

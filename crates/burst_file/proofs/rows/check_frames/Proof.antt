@@ -1,20 +1,14 @@
 -- `check_frames`: the rows' refusal, or 15 where bytes follow them.
-use mathlib.Core.Path.{_≡_, sym, ap, _∙_}
-use Prim.Native.Nat.{_*_, _≤_}
+use Rattle.burst_file.specs.Prelude.{_≡_, sym, ap, _∙_, _*_, _≤_, arith, needs, drop, Part, numberOf}
 use native.Mathlib.Nat.{mul-le-mul}
-use native.Mathlib.Omega.{arith}
-use borrow.Author.Needs.{needs}
-use lib.ListN.{drop}
-use Rattle.file_lines.specs.Part.{Part, numberOf}
 use Rattle.burst_file.specs.Rows.{rowLines, ended, framesOf}
 use Rattle.burst_file.specs.Passage.{rowsIn}
 use Rattle.burst_file.specs.declared.Passage.{Passage}
 use Rattle.burst_file.specs.declared.Passage.the-variants.{Found, Refused}
 use Rattle.burst_file.proofs.Passages.{ended-briefly, trailing, at-end}
-use Rattle.burst_file.proofs.rows.check_frames.Statement.{statement}
-use Rattle.burst_file.proofs.rows.check_frames.Tie as tie
+use Rattle.burst_file.proofs.rows.check_frames as of
 
-mul-check-rows : tie.Need-mul-check-rows
+mul-check-rows : of.Tie.Need-mul-check-rows
 mul-check-rows c =
     let start = c .before .before in
     let shape = start .args .shape in
@@ -22,7 +16,7 @@ mul-check-rows c =
     omega arith
 
 -- where the rows are `passed`
-told : (c : tie.After-check-rows) (passed : Passage) → c .check-rows .result ≡ passed →
+told : (c : of.Tie.After-check-rows) (passed : Passage) → c .check-rows .result ≡ passed →
     let a = c .before .before .before .args in
     numberOf (ended (rowsIn (a .file .now) passed)) ≡ numberOf (framesOf (a .shape) (drop (a .at) (a .file .now)))
 unfolding framesOf
@@ -31,22 +25,22 @@ told c passed e =
     ap (λ (p : Part Unit). numberOf (ended p)) (ap (rowsIn (a .file .now)) (sym e) ∙ c .check-rows .ensures)
     ∙ ended-briefly (rowLines (a .shape .count * a .shape .height) (a .shape .width) (drop (a .at) (a .file .now)))
 
-returns : tie.Need-returns
+returns : of.Tie.Need-returns
 returns c =
     let g = c .before .before .next .given in
     trailing tt _ _ (c .if1 .taken) ∙ told (c .before .before .before .before) (Found (g .0 .0)) (g .1)
 
-returns-2 : tie.Need-returns-2
+returns-2 : of.Tie.Need-returns-2
 returns-2 c =
     let g = c .before .number .given in
     told (c .before .before .before) (Refused (g .0 .0)) (g .1)
 
-returns-3 : tie.Need-returns-3
+returns-3 : of.Tie.Need-returns-3
 returns-3 c =
     let g = c .before .before .next .given in
     at-end tt _ _ (c .if1 .left) ∙ told (c .before .before .before .before) (Found (g .0 .0)) (g .1)
 
-pub check-frames-spec : {M : Type 1} → statement M
-check-frames-spec = tie.close (tie.spec
+pub check-frames-spec : {M : Type 1} → of.Statement.statement M
+check-frames-spec = of.Tie.close (of.Tie.spec
     mul-check-rows (λ c κs. search needs) (λ c. search needs) (λ c. search needs) returns returns-2
     returns-3)

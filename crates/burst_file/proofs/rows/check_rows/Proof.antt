@@ -1,26 +1,20 @@
 -- `check_rows`: what the rows left make of the file from the position on stays the same.
-use mathlib.Core.Path.{_≡_, refl, sym, ap, _∙_}
-use Prim.Native.Nat.{_-_}
-use native.Mathlib.Omega.{arith}
-use borrow.Author.Needs.{needs}
-use lib.ListN.{drop}
-use Rattle.file_lines.specs.Part.{Part, _then_}
+use Rattle.burst_file.specs.Prelude.{_≡_, refl, sym, ap, _∙_, _-_, arith, needs, drop, Part, _then_}
 use Rattle.burst_file.specs.Rows.{rowLines}
 use Rattle.burst_file.specs.Passage.{rowsIn, briefly}
 use Rattle.burst_file.specs.declared.Passage.{Passage}
 use Rattle.burst_file.specs.declared.Passage.the-variants.{Found, Refused}
 use Rattle.burst_file.proofs.Passages.{rows-step, rows-none}
-use Rattle.burst_file.proofs.rows.check_rows.Statement.{statement}
-use Rattle.burst_file.proofs.rows.check_rows.Tie as tie
+use Rattle.burst_file.proofs.rows.check_rows as of
 
-abbrev Inv-loop : tie.InvT-loop
+abbrev Inv-loop : of.Tie.InvT-loop
 Inv-loop file at count width left₀ i₀ left i = briefly (rowLines left width (drop i file)) ≡ briefly (rowLines count width (drop at file))
 
-abbrev μ-loop : tie.MeasureT-loop
+abbrev μ-loop : of.Tie.MeasureT-loop
 μ-loop file at count width left₀ i₀ left i = left
 
 -- where the row is `passed`
-stepped : (c : tie.After-check-row Inv-loop μ-loop) (passed : Passage) → c .check-row .result ≡ passed →
+stepped : (c : of.Tie.After-check-row Inv-loop μ-loop) (passed : Passage) → c .check-row .result ≡ passed →
     let l = c .before .before .loop in
     let a = c .before .before .before .before .args in
     (rowsIn (a .file .now) passed then (λ u rest. briefly (rowLines (l .left - 1) (a .width) rest))) ≡ briefly (rowLines (a .count) (a .width) (drop (a .at) (a .file .now)))
@@ -30,23 +24,23 @@ stepped c passed e =
     ap (λ (p : Part Unit). p then (λ u rest. briefly (rowLines (l .left - 1) (a .width) rest))) (ap (rowsIn (a .file .now)) (sym e) ∙ c .check-row .ensures)
     ∙ rows-step (l .left) (a .width) (drop (l .i) (a .file .now)) (c .before .loop-test .taken) ∙ l .inv
 
-returns : tie.Need-returns Inv-loop μ-loop
+returns : of.Tie.Need-returns Inv-loop μ-loop
 returns c =
     let g = c .before .number .given in
     stepped (c .before .before .before) (Refused (g .0 .0)) (g .1)
 
-loop-again : tie.Need-loop-again Inv-loop μ-loop
+loop-again : of.Tie.Need-loop-again Inv-loop μ-loop
 loop-again c =
     let g = c .before .next .given in
     stepped (c .before .before .before) (Found (g .0 .0)) (g .1)
 
-returns-2 : tie.Need-returns-2 Inv-loop μ-loop
+returns-2 : of.Tie.Need-returns-2 Inv-loop μ-loop
 returns-2 c =
     let l = c .before .loop in
     let a = c .before .before .before .args in
     rows-none (l .left) (a .width) (drop (l .i) (a .file .now)) (c .loop-test .left) ∙ l .inv
 
-pub check-rows-spec : {M : Type 1} → statement M
-check-rows-spec = tie.close (tie.spec
+pub check-rows-spec : {M : Type 1} → of.Statement.statement M
+check-rows-spec = of.Tie.close (of.Tie.spec
     Inv-loop μ-loop (λ c. refl) (λ c. search needs) (λ c κs. search needs) (λ c. search needs)
     returns (λ c. search needs) (λ c. omega arith) loop-again returns-2)

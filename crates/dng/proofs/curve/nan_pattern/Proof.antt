@@ -1,12 +1,11 @@
 -- The test is the definition's.
 use mathlib.Core.Path.{refl}
 use lib.Ieee.{nanBits}
-use Rattle.dng.proofs.curve.nan_pattern.Statement.{statement}
-use Rattle.dng.proofs.curve.nan_pattern.Tie as tie
+use Rattle.dng.proofs.curve.nan_pattern as of
 
-returns : tie.Need-returns
+returns : of.Tie.Need-returns
 unfolding nanBits
 returns c = refl
 
-pub nan-pattern-spec : {M : Type 1} → statement M
-nan-pattern-spec = tie.close (tie.spec returns)
+pub nan-pattern-spec : {M : Type 1} → of.Statement.statement M
+nan-pattern-spec = of.Tie.close (of.Tie.spec returns)

@@ -1,16 +1,14 @@
 -- The curve of the two DOUBLEs, and the black levels.
-use Rattle.algebra.specs.Prelude.{_≡_, _∙_, [], _∷_, ℕ, needs}
-use lib.Ieee.{Float}
+use Rattle.dng.specs.Prelude.{_≡_, _∙_, [], _∷_, ℕ, needs, Float}
 use Rattle.dng.specs.declared.DngRead.{DngRead}
-use Rattle.dng.proofs.reading.accepted.Statement.{statement}
-use Rattle.dng.proofs.reading.accepted.Tie as tie
+use Rattle.dng.proofs.reading.accepted as of
 
 -- the fields of an answer
 made : {s t r q : Float} {a b c d a′ b′ c′ d′ : ℕ} → s ≡ t → r ≡ q → a ≡ a′ → b ≡ b′ → c ≡ c′ → d ≡ d′
     → _≡_ {A = DngRead} (record { refusal = 0; shot = s; read = r; black = a ∷ b ∷ c ∷ d ∷ [] }) (record { refusal = 0; shot = t; read = q; black = a′ ∷ b′ ∷ c′ ∷ d′ ∷ [] })
 made es er ea eb ec ed = rw (es, er, ea, eb, ec, ed)
 
-returns : tie.Need-returns
+returns : of.Tie.Need-returns
 returns c =
     let third = c .before in
     let second = third .before in
@@ -25,8 +23,8 @@ returns c =
     (third .black-at3 .ensures)
     (c .black-at4 .ensures)
 
-pub accepted-spec : {M : Type 1} → statement M
-accepted-spec = tie.close (tie.spec
+pub accepted-spec : {M : Type 1} → of.Statement.statement M
+accepted-spec = of.Tie.close (of.Tie.spec
     (λ c κs. search needs) (λ c κs. search needs) (λ c κs. search needs) (λ c κs. search needs)
     (λ c. search needs) (λ c κs. search needs) (λ c κs. search needs) (λ c κs. search needs)
     (λ c κs. search needs) (λ c κs. search needs) (λ c κs. search needs) returns)

@@ -1,12 +1,10 @@
 -- The code's zero is that of the definition.
-use Rattle.algebra.specs.Prelude.{refl}
-use lib.Ieee.{ofBits, ofInt}
-use Rattle.dng.proofs.reading.refused.Statement.{statement}
-use Rattle.dng.proofs.reading.refused.Tie as tie
+use Rattle.dng.specs.Prelude.{refl, ofBits, ofInt}
+use Rattle.dng.proofs.reading.refused as of
 
-returns : tie.Need-returns
+returns : of.Tie.Need-returns
 unfolding ofBits ofInt
 returns c = refl
 
-pub refused-spec : {M : Type 1} → statement M
-refused-spec = tie.close (tie.spec returns)
+pub refused-spec : {M : Type 1} → of.Statement.statement M
+refused-spec = of.Tie.close (of.Tie.spec returns)

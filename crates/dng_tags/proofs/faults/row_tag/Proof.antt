@@ -2,14 +2,13 @@
 use Rattle.algebra.specs.Prelude.{ap, _∙_, needs}
 use Rattle.dng_tags.specs.declared.Demand.{Demand}
 use Rattle.dng_tags.specs.Tags.{tagAt}
-use Rattle.dng_tags.proofs.faults.row_tag.Statement.{statement}
-use Rattle.dng_tags.proofs.faults.row_tag.Tie as tie
+use Rattle.dng_tags.proofs.faults.row_tag as of
 
-returns-4 : tie.Need-returns-4
+returns-4 : of.Tie.Need-returns-4
 returns-4 c = rw (c .before .before .enum-told4 .given .1) (c .tag-at4 .ensures ∙ ap (λ (d : Demand). tagAt (d .row) .tag) (c .before .demand .ensures .0))
 
-pub row-tag-spec : {M : Type 1} → statement M
-row-tag-spec = tie.close (tie.spec
+pub row-tag-spec : {M : Type 1} → of.Statement.statement M
+row-tag-spec = of.Tie.close (of.Tie.spec
     (λ c. search needs) (λ c κs. search needs) (λ c. search needs) (λ c κs. search needs)
     (λ c. search needs) (λ c κs. search needs) (λ c. search needs) (λ c κs. search needs) (λ c κs. search needs)
     (λ c. rw (c .before .enum-told .given .1) (c .tag-at .ensures)) (λ c. rw (c .before .enum-told2 .given .1) (c .tag-at2 .ensures))

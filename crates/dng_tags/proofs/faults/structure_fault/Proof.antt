@@ -1,21 +1,19 @@
 -- Each return rewrites the definition by the tests that led there.
-use Rattle.algebra.specs.Prelude.{sym, ap₂, _∙_, needs}
-use Rattle.refusals.specs.Tests.{refuse}
+use Rattle.dng_tags.specs.Prelude.{sym, ap₂, _∙_, needs, refuse}
 use Rattle.dng_tags.specs.Faults.{structureFault}
-use Rattle.dng_tags.proofs.faults.structure_fault.Statement.{statement}
-use Rattle.dng_tags.proofs.faults.structure_fault.Tie as tie
+use Rattle.dng_tags.proofs.faults.structure_fault as of
 
-returns : tie.Need-returns
+returns : of.Tie.Need-returns
 unfolding structureFault
 returns c = rw (sym (c .before .header-wrong .ensures) ∙ c .if1 .taken)
 
-returns-2 : tie.Need-returns-2
+returns-2 : of.Tie.Need-returns-2
 unfolding structureFault
 returns-2 c =
     let header = c .before .before in
     rw (sym (header .before .header-wrong .ensures) ∙ header .if1 .left, sym (c .before .directory-outside .ensures) ∙ c .if2 .taken)
 
-returns-3 : tie.Need-returns-3
+returns-3 : of.Tie.Need-returns-3
 unfolding structureFault
 returns-3 c =
     let strip = c .before .before in
@@ -29,8 +27,8 @@ returns-3 c =
       strip .refuse .ensures ∙ ap₂ refuse (strip .before .before .tag-at .ensures) (strip .before .strip-outside .ensures),
     ))
 
-pub structure-fault-spec : {M : Type 1} → statement M
-structure-fault-spec = tie.close (tie.spec
+pub structure-fault-spec : {M : Type 1} → of.Statement.statement M
+structure-fault-spec = of.Tie.close (of.Tie.spec
     (λ c κs. search needs) returns (λ c κs. search needs) returns-2 (λ c κs. search needs)
     (λ c κs. search needs) (λ c κs. search needs) (λ c κs. search needs) (λ c κs. search needs)
     (λ c. search needs) (λ c κs. search needs) returns-3)

@@ -1,11 +1,10 @@
 -- The tag at the row.
 use Rattle.algebra.specs.Prelude.{ap, needs}
 use Rattle.tiff.specs.declared.Wanted.{Wanted}
-use Rattle.dng_tags.proofs.faults.tag_at.Statement.{statement}
-use Rattle.dng_tags.proofs.faults.tag_at.Tie as tie
+use Rattle.dng_tags.proofs.faults.tag_at as of
 
-returns : tie.Need-returns
+returns : of.Tie.Need-returns
 returns c = ap (λ (w : Wanted). w .tag) (c .tag .ensures .0)
 
-pub tag-at-spec : {M : Type 1} → statement M
-tag-at-spec = tie.close (tie.spec (λ c κs. search needs) returns)
+pub tag-at-spec : {M : Type 1} → of.Statement.statement M
+tag-at-spec = of.Tie.close (of.Tie.spec (λ c κs. search needs) returns)

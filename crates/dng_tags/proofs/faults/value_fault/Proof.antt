@@ -1,11 +1,9 @@
 -- Each part is its definition, so the first of them is.
-use Rattle.algebra.specs.Prelude.{ap₂, _∙_, needs}
-use Rattle.refusals.specs.Tests.{refuse}
+use Rattle.dng_tags.specs.Prelude.{ap₂, _∙_, needs, refuse}
 use Rattle.dng_tags.specs.Faults.{valueFault}
-use Rattle.dng_tags.proofs.faults.value_fault.Statement.{statement}
-use Rattle.dng_tags.proofs.faults.value_fault.Tie as tie
+use Rattle.dng_tags.proofs.faults.value_fault as of
 
-returns : tie.Need-returns
+returns : of.Tie.Need-returns
 unfolding valueFault
 returns c =
     let missed = c .before .before in
@@ -18,8 +16,8 @@ returns c =
       rw (missed .before .demanded .ensures) at (missed .first-hit2 .ensures),
     )
 
-pub value-fault-spec : {M : Type 1} → statement M
-value-fault-spec = tie.close (tie.spec
+pub value-fault-spec : {M : Type 1} → of.Statement.statement M
+value-fault-spec = of.Tie.close (of.Tie.spec
     (λ c κs. search needs) (λ c κs. search needs) (λ c κs. search needs) (λ c κs. search needs)
     (λ c κs. search needs) (λ c κs. search needs) (λ c κs. search needs) (λ c. search needs)
     (λ c κs. search needs) returns)

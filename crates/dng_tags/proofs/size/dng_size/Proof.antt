@@ -1,18 +1,14 @@
 -- The tests for the file's own size; beside a refusal the tag, else the two values.
-use Rattle.algebra.specs.Prelude.{_≡_, ap, ap₂, _∙_, List, ℕ, needs}
-use Rattle.refusals.specs.Tests.{first}
+use Rattle.dng_tags.specs.Prelude.{_≡_, ap, ap₂, _∙_, List, ℕ, needs, first, Shape, entries}
 use Rattle.refusals.specs.AfterLaws.{kept, made}
-use Rattle.geometry.specs.declared.Shape.{Shape}
-use Rattle.tiff.specs.Directory.{entries}
 use Rattle.dng_tags.specs.declared.DngSize.{DngSize}
 use Rattle.dng_tags.specs.Refusals.{tagTests}
 use Rattle.dng_tags.specs.Faults.{faultTag}
 use Rattle.dng_tags.specs.Size.{loneShape, loneRefusal, dngSize}
-use Rattle.dng_tags.proofs.size.dng_size.Statement.{statement}
-use Rattle.dng_tags.proofs.size.dng_size.Tie as tie
+use Rattle.dng_tags.proofs.size.dng_size as of
 
 -- the number of the tests
-number-is : (c : tie.After-tag-refusal) → let file = c .before .before .before .args .file .now in c .tag-refusal .result ≡ loneRefusal file (entries file)
+number-is : (c : of.Tie.After-tag-refusal) → let file = c .before .before .before .args .file .now in c .tag-refusal .result ≡ loneRefusal file (entries file)
 unfolding loneRefusal
 number-is c =
     let file = c .before .before .before .args .file .now in
@@ -21,7 +17,7 @@ number-is c =
 refusal : (number tag : ℕ) → DngSize
 refusal number tag = record { refusal = number; tag = tag; width = 0; height = 0 }
 
-returns : tie.Need-returns
+returns : of.Tie.Need-returns
 unfolding dngSize refusal
 returns c =
     let tested = c .before .before in
@@ -30,11 +26,11 @@ returns c =
     ap₂ refusal is (c .fault-tag .ensures ∙ ap₂ (λ (n : ℕ) (s : Shape). faultTag n file (entries file) s) is (tested .before .lone-shape .ensures))
     ∙ kept _ _ _ is (c .before .if1 .taken)
 
-returns-2 : tie.Need-returns-2
+returns-2 : of.Tie.Need-returns-2
 unfolding dngSize
 returns-2 c =
     let tested = c .before in
     made _ _ _ (number-is tested) (c .if1 .left) (ap (λ (s : Shape). record { refusal = 0; tag = 0; width = s .width; height = s .height }) (tested .before .lone-shape .ensures))
 
-pub dng-size-spec : {M : Type 1} → statement M
-dng-size-spec = tie.close (tie.spec (λ c κs. search needs) (λ c κs. search needs) (λ c κs. search needs) returns returns-2)
+pub dng-size-spec : {M : Type 1} → of.Statement.statement M
+dng-size-spec = of.Tie.close (of.Tie.spec (λ c κs. search needs) (λ c κs. search needs) (λ c κs. search needs) returns returns-2)

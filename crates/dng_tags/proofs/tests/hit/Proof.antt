@@ -1,10 +1,9 @@
 -- Each arm is the case of its test.
 use borrow.Author.Needs.{needs}
-use Rattle.dng_tags.proofs.tests.hit.Statement.{statement}
-use Rattle.dng_tags.proofs.tests.hit.Tie as tie
+use Rattle.dng_tags.proofs.tests.hit as of
 
-pub hit-spec : {M : Type 1} → statement M
-hit-spec = tie.close (tie.spec
+pub hit-spec : {M : Type 1} → of.Statement.statement M
+hit-spec = of.Tie.close (of.Tie.spec
     (λ c. search needs) (λ c κs. search needs) (λ c. search needs) (λ c κs. search needs)
     (λ c. search needs) (λ c κs. search needs) (λ c. search needs) (λ c κs. search needs)
     (λ c. rw (c .before .enum-told .given .1) (c .value-outside .ensures)) (λ c. rw (c .before .enum-told2 .given .1) (c .not-once .ensures))

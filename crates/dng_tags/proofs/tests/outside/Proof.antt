@@ -2,20 +2,19 @@
 use borrow.Author.Needs.{needs}
 use Rattle.dng_tags.specs.TestLaws.{hits, misses}
 use Rattle.dng_tags.specs.Refusals.{outside}
-use Rattle.dng_tags.proofs.tests.outside.Statement.{statement}
-use Rattle.dng_tags.proofs.tests.outside.Tie as tie
+use Rattle.dng_tags.proofs.tests.outside as of
 
-returns : tie.Need-returns
+returns : of.Tie.Need-returns
 unfolding outside
 returns c = hits _ (c .before .header-wrong .ensures) (c .if1 .taken)
 
-returns-2 : tie.Need-returns-2
+returns-2 : of.Tie.Need-returns-2
 unfolding outside
 returns-2 c =
     let first = c .before .before in
     misses (first .before .header-wrong .ensures) (first .if1 .left) (hits _ (c .before .directory-outside .ensures) (c .if2 .taken))
 
-returns-3 : tie.Need-returns-3
+returns-3 : of.Tie.Need-returns-3
 unfolding outside
 returns-3 c =
     let second = c .before .before .before in
@@ -23,7 +22,7 @@ returns-3 c =
     let value = rw (c .before .before .listed .ensures) at (c .before .some-hit .ensures) in
     misses (first .before .header-wrong .ensures) (first .if1 .left) (misses (second .before .directory-outside .ensures) (second .if2 .left) (hits _ value (c .if3 .taken)))
 
-returns-4 : tie.Need-returns-4
+returns-4 : of.Tie.Need-returns-4
 unfolding outside
 returns-4 c =
     let third = c .before in
@@ -32,7 +31,7 @@ returns-4 c =
     let value = rw (third .before .before .listed .ensures) at (third .before .some-hit .ensures) in
     misses (first .before .header-wrong .ensures) (first .if1 .left) (misses (second .before .directory-outside .ensures) (second .if2 .left) (misses value (third .if3 .left) (c .strip-outside .ensures)))
 
-pub outside-spec : {M : Type 1} → statement M
-outside-spec = tie.close (tie.spec
+pub outside-spec : {M : Type 1} → of.Statement.statement M
+outside-spec = of.Tie.close (of.Tie.spec
     (λ c κs. search needs) returns (λ c κs. search needs) returns-2 (λ c κs. search needs)
     (λ c κs. search needs) returns-3 (λ c κs. search needs) returns-4)

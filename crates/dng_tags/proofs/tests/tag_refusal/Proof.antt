@@ -1,12 +1,10 @@
 -- Each test is its definition, so the first of them is.
-use Rattle.algebra.specs.Prelude.{ap, _∙_, needs}
+use Rattle.dng_tags.specs.Prelude.{ap, _∙_, needs, refuse}
 use Rattle.refusals.specs.Numbers as no
-use Rattle.refusals.specs.Tests.{refuse}
 use Rattle.dng_tags.specs.Refusals.{tagTests}
-use Rattle.dng_tags.proofs.tests.tag_refusal.Statement.{statement}
-use Rattle.dng_tags.proofs.tests.tag_refusal.Tie as tie
+use Rattle.dng_tags.proofs.tests.tag_refusal as of
 
-returns : tie.Need-returns
+returns : of.Tie.Need-returns
 unfolding tagTests
 returns c =
     let values = c .before .before in
@@ -17,8 +15,8 @@ returns c =
     let otherwise = values .refuse3 .ensures ∙ ap (refuse no.dngValue) (values .before .otherwise .ensures) in
     c .first .ensures ∙ rw (outside, once, otherwise)
 
-pub tag-refusal-spec : {M : Type 1} → statement M
-tag-refusal-spec = tie.close (tie.spec
+pub tag-refusal-spec : {M : Type 1} → of.Statement.statement M
+tag-refusal-spec = of.Tie.close (of.Tie.spec
     (λ c κs. search needs) (λ c κs. search needs) (λ c κs. search needs) (λ c κs. search needs)
     (λ c κs. search needs) (λ c κs. search needs) (λ c κs. search needs) (λ c. search needs)
     (λ c κs. search needs) returns)

@@ -1,12 +1,11 @@
 -- The value at index 0.
 use Rattle.algebra.specs.Prelude.{_∙_, arith, needs}
 use Rattle.dng_tags.specs.Refusals.{valueOf}
-use Rattle.dng_tags.proofs.tests.value_of.Statement.{statement}
-use Rattle.dng_tags.proofs.tests.value_of.Tie as tie
+use Rattle.dng_tags.proofs.tests.value_of as of
 
-returns : tie.Need-returns
+returns : of.Tie.Need-returns
 unfolding valueOf
 returns c = (c .value .ensures .0 ∙ rw (c .before .tag .ensures .0), omega arith)
 
-pub value-of-spec : {M : Type 1} → statement M
-value-of-spec = tie.close (tie.spec (λ c κs. search needs) (λ c κs. search needs) returns)
+pub value-of-spec : {M : Type 1} → of.Statement.statement M
+value-of-spec = of.Tie.close (of.Tie.spec (λ c κs. search needs) (λ c κs. search needs) returns)

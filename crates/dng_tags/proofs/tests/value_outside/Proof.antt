@@ -1,12 +1,11 @@
 -- The test of the tag at the row.
 use Rattle.algebra.specs.Prelude.{_∙_, needs}
 use Rattle.dng_tags.specs.Refusals.{valueOutside}
-use Rattle.dng_tags.proofs.tests.value_outside.Statement.{statement}
-use Rattle.dng_tags.proofs.tests.value_outside.Tie as tie
+use Rattle.dng_tags.proofs.tests.value_outside as of
 
-returns : tie.Need-returns
+returns : of.Tie.Need-returns
 unfolding valueOutside
 returns c = c .field-outside .ensures ∙ rw (c .before .tag .ensures .0)
 
-pub value-outside-spec : {M : Type 1} → statement M
-value-outside-spec = tie.close (tie.spec (λ c κs. search needs) (λ c κs. search needs) returns)
+pub value-outside-spec : {M : Type 1} → of.Statement.statement M
+value-outside-spec = of.Tie.close (of.Tie.spec (λ c κs. search needs) (λ c κs. search needs) returns)

@@ -1,22 +1,18 @@
 -- The rows are added to one after the other.
-use Rattle.algebra.specs.Prelude.{sym, ap, subst, _∙_, [], _-_, _^_, arith, needs, getD, pos, _+ℤ_, now}
-use Rattle.sequences.specs.Tab.{tab}
+use Rattle.ends.specs.Prelude.{sym, ap, subst, _∙_, [], _-_, _^_, arith, needs, getD, pos, _+ℤ_, now, tab, grid, cell, LineMost}
 use Rattle.sequences.specs.TabLaws.{Filled, fill-start, fill-turn, fill-rest, fill-done}
-use Rattle.sequences.specs.Grid.{grid, cell}
-use Rattle.lines.specs.Lines.{LineMost}
 use Rattle.pairs.proofs.ColumnLaws.{paired-lines}
 use Rattle.pairs.proofs.RowLaws.{paired-length}
 use Rattle.ends.specs.Added.{rowPlus}
-use Rattle.ends.proofs.adding.add_pair.Statement.{statement}
-use Rattle.ends.proofs.adding.add_pair.Tie as tie
+use Rattle.ends.proofs.adding.add_pair as of
 
-abbrev Inv-loop : tie.InvT-loop
+abbrev Inv-loop : of.Tie.InvT-loop
 Inv-loop p sum₀ y₀ sum y = Filled (λ y. tab 32 (λ l. cell (pos 0) sum₀ y l +ℤ cell (pos 0) p y l)) 16 y sum₀ sum
 
-abbrev μ-loop : tie.MeasureT-loop
+abbrev μ-loop : of.Tie.MeasureT-loop
 μ-loop p sum₀ y₀ sum y = 16 - y
 
-add-row-requires : tie.Need-add-row-requires Inv-loop μ-loop
+add-row-requires : of.Tie.Need-add-row-requires Inv-loop μ-loop
 add-row-requires c κs =
     let l = c .before .before .before in
     let s = l .before in
@@ -25,7 +21,7 @@ add-row-requires c κs =
     let p = s .pre .sums in
     record { part = s .pre .part .line y; sums = record { most = subst (LineMost (2 ^ 40)) (sym e) (p .most .line y); long = paired-length (p .paired) y (omega arith) e } }
 
-loop-again : tie.Need-loop-again Inv-loop μ-loop
+loop-again : of.Tie.Need-loop-again Inv-loop μ-loop
 unfolding cell
 loop-again c =
     let l = c .before .before .before .before in
@@ -33,11 +29,11 @@ loop-again c =
     fill-turn (l .loop .inv) (omega arith)
     (c .add-row .ensures ∙ ap (λ r. rowPlus r (λ k. getD (getD (now (a .p)) (l .loop .y) []) k (pos 0))) (fill-rest (l .loop .inv) (omega arith) []))
 
-returns : tie.Need-returns Inv-loop μ-loop
+returns : of.Tie.Need-returns Inv-loop μ-loop
 unfolding grid
 returns c = fill-done (c .before .loop .inv) (omega arith)
 
-pub add-pair-spec : {M : Type 1} → statement M
-add-pair-spec = tie.close (tie.spec
+pub add-pair-spec : {M : Type 1} → of.Statement.statement M
+add-pair-spec = of.Tie.close (of.Tie.spec
     Inv-loop μ-loop (λ c. fill-start (paired-lines (c .pre .sums .paired))) (λ c. search needs) (λ c. search needs) (λ c. search needs)
     (λ c. search needs) add-row-requires (λ c. search needs) (λ c. search needs) loop-again returns)

@@ -1,26 +1,24 @@
 -- The sums are stored one after the other.
-use Rattle.algebra.specs.Prelude.{refl, sym, ap₂, subst, _∙_, _-_, _^_, arith, needs, getD, pos, _+ℤ_}
-use Rattle.algebra.specs.Bound.{AtMost}
+use Rattle.ends.specs.Prelude.{refl, sym, ap₂, subst, _∙_, _-_, _^_, arith, needs, getD, pos, _+ℤ_, AtMost}
 use Rattle.sequences.specs.TabLaws.{Filled, fill-start, fill-turn, fill-rest, fill-done}
 use Rattle.lines.specs.Held.{line-at}
 use Rattle.pairs.proofs.Rounding.{more-fits, more-is}
-use Rattle.ends.proofs.adding.add_row.Statement.{statement}
-use Rattle.ends.proofs.adding.add_row.Tie as tie
+use Rattle.ends.proofs.adding.add_row as of
 
-abbrev Inv-loop : tie.InvT-loop
+abbrev Inv-loop : of.Tie.InvT-loop
 Inv-loop p sum₀ l₀ sum l = Filled (λ l. getD sum₀ l (pos 0) +ℤ getD p l (pos 0)) 32 l sum₀ sum
 
-abbrev μ-loop : tie.MeasureT-loop
+abbrev μ-loop : of.Tie.MeasureT-loop
 μ-loop p sum₀ l₀ sum l = 32 - l
 
-add-sum : tie.Need-add-sum Inv-loop μ-loop
+add-sum : of.Tie.Need-add-sum Inv-loop μ-loop
 add-sum c =
     let l = c .before .before .before in
     let s = l .before in
     let m = subst (AtMost (2 ^ 40)) (sym (fill-rest (l .loop .inv) (omega arith) (pos 0))) (line-at (s .pre .sums .most) (l .loop .l)) in
     more-fits m (line-at (s .pre .part) (l .loop .l)) tt tt
 
-loop-again : tie.Need-loop-again Inv-loop μ-loop
+loop-again : of.Tie.Need-loop-again Inv-loop μ-loop
 loop-again c =
     let l = c .before .before .before in
     let s = l .before in
@@ -28,8 +26,8 @@ loop-again c =
     let m = subst (AtMost (2 ^ 40)) (sym e) (line-at (s .pre .sums .most) (l .loop .l)) in
     fill-turn (l .loop .inv) (omega arith) (more-is m (line-at (s .pre .part) (l .loop .l)) tt tt ∙ ap₂ _+ℤ_ e refl)
 
-pub add-row-spec : {M : Type 1} → statement M
-add-row-spec = tie.close (tie.spec
+pub add-row-spec : {M : Type 1} → of.Statement.statement M
+add-row-spec = of.Tie.close (of.Tie.spec
     Inv-loop μ-loop (λ c. fill-start (c .pre .sums .long)) (λ c. search needs) (λ c. search needs) (λ c. search needs)
     (λ c. search needs) add-sum (λ c. search needs) (λ c. search needs) (λ c. search needs) (λ c. search needs)
     loop-again (λ c. fill-done (c .before .loop .inv) (omega arith)))

@@ -1,37 +1,33 @@
 -- The rows are stored one after the other.
-use Rattle.algebra.specs.Prelude.{refl, _-_, arith, needs}
-use lib.Ieee.{nan}
-use Rattle.sequences.specs.Tab.{tab}
+use Rattle.ends.specs.Prelude.{refl, _-_, arith, needs, nan, tab, grid, cell}
 use Rattle.sequences.specs.TabLaws.{Filled, fill-start, fill-turn, fill-done}
-use Rattle.sequences.specs.Grid.{grid, cell}
 use Rattle.pairs.proofs.Rounding.{whole-row}
 use Rattle.ends.specs.Factors.{placeApart}
-use Rattle.ends.proofs.distances.apart_pair.Statement.{statement}
-use Rattle.ends.proofs.distances.apart_pair.Tie as tie
+use Rattle.ends.proofs.distances.apart_pair as of
 
-abbrev Inv-loop : tie.InvT-loop
+abbrev Inv-loop : of.Tie.InvT-loop
 Inv-loop a b r₀ k₀ r k = Filled (λ k. tab 32 (λ l. placeApart (cell nan a k l) (cell nan b k l))) 16 k r₀ r
 
-abbrev μ-loop : tie.MeasureT-loop
+abbrev μ-loop : of.Tie.MeasureT-loop
 μ-loop a b r₀ k₀ r k = 16 - k
 
-apart-row-requires : tie.Need-apart-row-requires Inv-loop μ-loop
+apart-row-requires : of.Tie.Need-apart-row-requires Inv-loop μ-loop
 apart-row-requires c κs =
     let l = c .before .before .before in
     (whole-row (l .before .pre .0) (l .loop .k) (omega arith), whole-row (l .before .pre .1) (l .loop .k) (omega arith))
 
-loop-again : tie.Need-loop-again Inv-loop μ-loop
+loop-again : of.Tie.Need-loop-again Inv-loop μ-loop
 unfolding cell
 loop-again c =
     fill-turn (c .before .before .before .before .loop .inv) (omega arith) (c .apart-row .ensures)
 
-returns : tie.Need-returns Inv-loop μ-loop
+returns : of.Tie.Need-returns Inv-loop μ-loop
 unfolding grid
 returns c =
     fill-done (c .before .loop .inv) (omega arith)
 
-pub apart-pair-spec : {M : Type 1} → statement M
-apart-pair-spec = tie.close (tie.spec
+pub apart-pair-spec : {M : Type 1} → of.Statement.statement M
+apart-pair-spec = of.Tie.close (of.Tie.spec
     Inv-loop μ-loop (λ c. fill-start refl) (λ c. search needs) (λ c. search needs)
     (λ c. search needs) (λ c. search needs) apart-row-requires (λ c. search needs)
     (λ c. search needs) (λ c. search needs) (λ c. search needs) loop-again returns)

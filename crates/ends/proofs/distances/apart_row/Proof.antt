@@ -1,35 +1,33 @@
 -- The places are stored one after the other.
-use Rattle.algebra.specs.Prelude.{_≡_, refl, _∙_, _-_, arith, needs, getD, w64, toZ, ofZ}
-use lib.Ieee.{nan}
+use Rattle.ends.specs.Prelude.{_≡_, refl, _∙_, _-_, arith, needs, getD, w64, toZ, ofZ, nan}
 use Rattle.sequences.specs.TabLaws.{Filled, fill-start, fill-turn, fill-done}
 use Rattle.pairs.proofs.Rounding.{whole-at}
 use Rattle.ends.specs.Factors.{placeApart}
-use Rattle.ends.proofs.distances.apart_row.Statement.{statement}
-use Rattle.ends.proofs.distances.apart_row.Tie as tie
+use Rattle.ends.proofs.distances.apart_row as of
 
-abbrev Inv-loop : tie.InvT-loop
+abbrev Inv-loop : of.Tie.InvT-loop
 Inv-loop a b r₀ l₀ r l = Filled (λ l. placeApart (getD a l nan) (getD b l nan)) 32 l r₀ r
 
-abbrev μ-loop : tie.MeasureT-loop
+abbrev μ-loop : of.Tie.MeasureT-loop
 μ-loop a b r₀ l₀ r l = 32 - l
 
-apart-requires : tie.Need-apart-requires Inv-loop μ-loop
+apart-requires : of.Tie.Need-apart-requires Inv-loop μ-loop
 apart-requires c κs =
     let l = c .before .before .before in
     (whole-at (l .before .pre .0) (l .loop .l) (omega arith), whole-at (l .before .pre .1) (l .loop .l) (omega arith))
 
-loop-again : tie.Need-loop-again Inv-loop μ-loop
+loop-again : of.Tie.Need-loop-again Inv-loop μ-loop
 loop-again c =
     let l = c .before .before .before .before in
     let e : toZ w64 (ofZ w64 (c .apart .result)) ≡ c .apart .result = search needs in
     fill-turn (l .loop .inv) (omega arith) (e ∙ c .apart .ensures)
 
-returns : tie.Need-returns Inv-loop μ-loop
+returns : of.Tie.Need-returns Inv-loop μ-loop
 returns c =
     fill-done (c .before .loop .inv) (omega arith)
 
-pub apart-row-spec : {M : Type 1} → statement M
-apart-row-spec = tie.close (tie.spec
+pub apart-row-spec : {M : Type 1} → of.Statement.statement M
+apart-row-spec = of.Tie.close (of.Tie.spec
     Inv-loop μ-loop (λ c. fill-start refl) (λ c. search needs) (λ c. search needs)
     (λ c. search needs) (λ c. search needs) apart-requires (λ c. search needs) (λ c. search needs)
     (λ c. search needs) (λ c. search needs) loop-again returns)

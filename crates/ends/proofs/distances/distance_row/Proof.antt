@@ -1,39 +1,35 @@
 -- Both distances are stored one after the other.
-use Rattle.algebra.specs.Prelude.{sym, ap, subst, _∙_, List, _-_, _*_, _/_, _%_, arith, needs, lit≤, ℤ, natAbs, w64}
+use Rattle.ends.specs.Prelude.{sym, ap, subst, _∙_, List, _-_, _*_, _/_, _%_, arith, needs, lit≤, ℤ, natAbs, w64, AtMost, TileMost, copyPlaceMost}
 use native.Mathlib.Nat.{le-trans}
-use Rattle.algebra.specs.Bound.{AtMost}
 use Rattle.sequences.specs.TabLaws.{Filled, fill-start, fill-turn, fill-done}
 use Rattle.lines.specs.Held.{number-is}
-use Rattle.lines.specs.Lines.{TileMost}
-use Rattle.grain.specs.Steps.{copyPlaceMost}
 use Rattle.ends.specs.Factors.{apartMost, timesAt, distanceRe, distanceIm}
 use Rattle.ends.proofs.Tables.{lines-re-most, lines-im-most}
-use Rattle.ends.proofs.distances.distance_row.Statement.{statement}
-use Rattle.ends.proofs.distances.distance_row.Tie as tie
+use Rattle.ends.proofs.distances.distance_row as of
 
-abbrev Inv-loop : tie.InvT-loop
+abbrev Inv-loop : of.Tie.InvT-loop
 Inv-loop w u re₀ im₀ l₀ re im l = (Filled (distanceRe w u) 18 l re₀ re) × (Filled (distanceIm w u) 18 l im₀ im)
 
-abbrev μ-loop : tie.MeasureT-loop
+abbrev μ-loop : of.Tie.MeasureT-loop
 μ-loop w u re₀ im₀ l₀ re im l = 18 - l
 
 wider : {w : List (List ℤ)} → TileMost apartMost w → TileMost copyPlaceMost w
 wider m = record { line = λ u. record { at = λ i. le-trans (m .line u .at i) (lit≤ tt) } }
 
-loop-holds : tie.Need-loop-holds Inv-loop μ-loop
+loop-holds : of.Tie.Need-loop-holds Inv-loop μ-loop
 loop-holds c = (fill-start (c .pre .re-long), fill-start (c .pre .im-long))
 
-bin-re-requires : tie.Need-bin-re-requires Inv-loop μ-loop
+bin-re-requires : of.Tie.Need-bin-re-requires Inv-loop μ-loop
 bin-re-requires c κs =
     let s = c .before .before in
     record { places-most = wider (s .pre .places-most); u-below = s .pre .u-below; l-below = omega arith }
 
-bin-im-requires : tie.Need-bin-im-requires Inv-loop μ-loop
+bin-im-requires : of.Tie.Need-bin-im-requires Inv-loop μ-loop
 bin-im-requires c κs =
     let s = c .before .before .before in
     record { places-most = wider (s .pre .places-most); u-below = s .pre .u-below; l-below = omega arith }
 
-distance-requires : tie.Need-distance-requires Inv-loop μ-loop
+distance-requires : of.Tie.Need-distance-requires Inv-loop μ-loop
 distance-requires c κs =
     let a = c .before in
     let l = a .before .before in
@@ -41,7 +37,7 @@ distance-requires c κs =
     subst (AtMost (2 * apartMost)) (sym (number-is w64 (a .bin-re .ensures .1) tt ∙ a .bin-re .ensures .0))
     (record { most = lines-re-most (s .pre .places-most) (l .loop .l % 2) (s .args .u) (l .loop .l / 2) })
 
-distance-requires-2 : tie.Need-distance-requires-2 Inv-loop μ-loop
+distance-requires-2 : of.Tie.Need-distance-requires-2 Inv-loop μ-loop
 distance-requires-2 c κs =
     let b = c .before in
     let l = b .before .before .before in
@@ -49,7 +45,7 @@ distance-requires-2 c κs =
     subst (AtMost (2 * apartMost)) (sym (number-is w64 (b .bin-im .ensures .1) tt ∙ b .bin-im .ensures .0))
     (record { most = lines-im-most (s .pre .places-most) (l .loop .l % 2) (s .args .u) (l .loop .l / 2) })
 
-loop-again : tie.Need-loop-again Inv-loop μ-loop
+loop-again : of.Tie.Need-loop-again Inv-loop μ-loop
 unfolding distanceRe distanceIm
 loop-again c =
     let g = c .before in
@@ -63,11 +59,11 @@ loop-again c =
       fill-turn (l .loop .inv .1) (omega arith) (c .distance2 .ensures ∙ ap (λ z. timesAt u (l .loop .l / 2) * natAbs z) im),
     )
 
-returns : tie.Need-returns Inv-loop μ-loop
+returns : of.Tie.Need-returns Inv-loop μ-loop
 returns c = (fill-done (c .before .loop .inv .0) (omega arith), fill-done (c .before .loop .inv .1) (omega arith))
 
-pub distance-row-spec : {M : Type 1} → statement M
-distance-row-spec = tie.close (tie.spec
+pub distance-row-spec : {M : Type 1} → of.Statement.statement M
+distance-row-spec = of.Tie.close (of.Tie.spec
     Inv-loop μ-loop loop-holds bin-re-requires bin-im-requires distance-requires
     (λ c. search needs) (λ c. search needs) distance-requires-2 (λ c. search needs)
     (λ c. search needs) (λ c. search needs) (λ c. search needs) loop-again returns)

@@ -1,20 +1,14 @@
 -- The halves of both rows, and P of them.
-use Rattle.algebra.specs.Prelude.{_≡_, sym, ap, ap₂, _∙_, false, List, ℕ, _+_, _*_, _/_, _%_, _<_, arith, needs, lit≤, getD, ℤ, pos, _+ℤ_, now}
+use Rattle.ends.specs.Prelude.{_≡_, sym, ap, ap₂, _∙_, false, List, ℕ, _+_, _*_, _/_, _%_, _<_, arith, needs, lit≤, getD, ℤ, pos, _+ℤ_, now, Float, toSigned, tab, halfSum, WholeRow, columnMost}
 use native.Mathlib.Nat.{le-trans}
-use lib.Ieee.{Float, toSigned}
-use Rattle.sequences.specs.Tab.{tab}
 use Rattle.sequences.specs.TabLaws.{getD-tab}
 use Rattle.sequences.specs.Grid.{tab-ext}
 use Rattle.floats.specs.Casts.{whole-back}
-use Rattle.lines.specs.Halfcomplex.{halfSum}
-use Rattle.lines.specs.Doubles.{WholeRow}
-use Rattle.lines.specs.Magnitudes.{columnMost}
 use Rattle.pairs.proofs.Rounding.{whole-at, whole-halves-most}
 use Rattle.ends.specs.Factors.{greatestOf, leastOf, halfIn}
 use Rattle.ends.specs.Added.{EndOf, rowPlus, halfEnd, lineEnd}
 use Rattle.ends.proofs.Planes.{half-ext}
-use Rattle.ends.proofs.rounds.add_line.Statement.{statement}
-use Rattle.ends.proofs.rounds.add_line.Tie as tie
+use Rattle.ends.proofs.rounds.add_line as of
 
 -- the halves x of a row h are its own
 halves-are : {h : List Float} {x : List ℤ} (w : WholeRow (columnMost false) h) → x ≡ tab 32 (λ l. halfSum (λ k. w .number (2 * k + l % 2)) (l / 2)) → (l : ℕ) → l < 32 → getD x l (pos 0) ≡ halfIn h l
@@ -28,13 +22,13 @@ ends-are : (f : EndOf) (s : List ℤ) (v : List ℕ) {h h' : List Float} {x x' :
     rowPlus s (halfEnd x x' v f) ≡ rowPlus s (lineEnd h h' v f)
 ends-are f s v w w' e e' = tab-ext 32 _ _ (λ l i. ap₂ (λ a b. getD s l (pos 0) +ℤ f a b (getD v (l % 16) 0)) (halves-are w e l i) (halves-are w' e' l i))
 
-whole-halves-of-requires : tie.Need-whole-halves-of-requires
+whole-halves-of-requires : of.Tie.Need-whole-halves-of-requires
 whole-halves-of-requires c κs = c .pre .low-in
 
-whole-halves-of-requires-2 : tie.Need-whole-halves-of-requires-2
+whole-halves-of-requires-2 : of.Tie.Need-whole-halves-of-requires-2
 whole-halves-of-requires-2 c κs = c .before .pre .high-in
 
-add-row-requires : tie.Need-add-row-requires
+add-row-requires : of.Tie.Need-add-row-requires
 add-row-requires c κs =
     let b = c .before .before .before .before in
     let a = b .before in
@@ -48,7 +42,7 @@ add-row-requires c κs =
       leasts = p .leasts;
     }
 
-returns : tie.Need-returns
+returns : of.Tie.Need-returns
 returns c =
     let b = c .before .before .before .before .before in
     let a = b .before in
@@ -60,5 +54,5 @@ returns c =
       least-is = c .add-row .ensures .least-is ∙ ends-are leastOf (now (s .args .least)) (now (s .args .widths)) (s .pre .low-in) (s .pre .high-in) p q;
     }
 
-pub add-line-spec : {M : Type 1} → statement M
-add-line-spec = tie.close (tie.spec whole-halves-of-requires whole-halves-of-requires-2 add-row-requires returns)
+pub add-line-spec : {M : Type 1} → of.Statement.statement M
+add-line-spec = of.Tie.close (of.Tie.spec whole-halves-of-requires whole-halves-of-requires-2 add-row-requires returns)

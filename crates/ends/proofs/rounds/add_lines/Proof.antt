@@ -1,29 +1,25 @@
 -- The rows are added to one after the other.
-use Rattle.algebra.specs.Prelude.{sym, ap, subst, _∙_, [], _-_, _%_, _^_, arith, needs, getD, pos, _+ℤ_, now}
-use Rattle.sequences.specs.Tab.{tab}
+use Rattle.ends.specs.Prelude.{sym, ap, subst, _∙_, [], _-_, _%_, _^_, arith, needs, getD, pos, _+ℤ_, now, tab, grid, cell, LineMost}
 use Rattle.sequences.specs.TabLaws.{Filled, fill-start, fill-turn, fill-rest, fill-done}
-use Rattle.sequences.specs.Grid.{grid, cell}
-use Rattle.lines.specs.Lines.{LineMost}
 use Rattle.pairs.proofs.ColumnLaws.{paired-lines}
 use Rattle.pairs.proofs.RowLaws.{paired-length}
 use Rattle.pairs.proofs.Rounding.{whole-row}
 use Rattle.ends.specs.Factors.{greatestOf, leastOf}
 use Rattle.ends.specs.Added.{rowPlus, lineEnd, tileEnd}
-use Rattle.ends.proofs.rounds.add_lines.Statement.{statement}
-use Rattle.ends.proofs.rounds.add_lines.Tie as tie
+use Rattle.ends.proofs.rounds.add_lines as of
 
-abbrev Inv-loop : tie.InvT-loop
+abbrev Inv-loop : of.Tie.InvT-loop
 Inv-loop low high widths greatest₀ least₀ y₀ greatest least y =
     (Filled (λ y. tab 32 (λ l. cell (pos 0) greatest₀ y l +ℤ tileEnd low high widths greatestOf y l)) 16 y greatest₀ greatest)
     × (Filled (λ y. tab 32 (λ l. cell (pos 0) least₀ y l +ℤ tileEnd low high widths leastOf y l)) 16 y least₀ least)
 
-abbrev μ-loop : tie.MeasureT-loop
+abbrev μ-loop : of.Tie.MeasureT-loop
 μ-loop low high widths greatest₀ least₀ y₀ greatest least y = 16 - y
 
-loop-holds : tie.Need-loop-holds Inv-loop μ-loop
+loop-holds : of.Tie.Need-loop-holds Inv-loop μ-loop
 loop-holds c = (fill-start (paired-lines (c .pre .greatests .paired)), fill-start (paired-lines (c .pre .leasts .paired)))
 
-add-line-requires : tie.Need-add-line-requires Inv-loop μ-loop
+add-line-requires : of.Tie.Need-add-line-requires Inv-loop μ-loop
 add-line-requires c κs =
     let l = c .before .before .before .before .before .before in
     let p = l .before .pre in
@@ -38,7 +34,7 @@ add-line-requires c κs =
       leasts = record { most = subst (LineMost (2 ^ 40)) (sym e) (p .leasts .most .line y); long = paired-length (p .leasts .paired) y (omega arith) e };
     }
 
-loop-again : tie.Need-loop-again Inv-loop μ-loop
+loop-again : of.Tie.Need-loop-again Inv-loop μ-loop
 unfolding cell
 loop-again c =
     let l = c .before .before .before .before .before .before .before in
@@ -49,12 +45,12 @@ loop-again c =
       fill-turn (l .loop .inv .1) (omega arith) (c .add-line .ensures .least-is ∙ ap (λ r. rowPlus r (p leastOf)) (fill-rest (l .loop .inv .1) (omega arith) [])),
     )
 
-returns : tie.Need-returns Inv-loop μ-loop
+returns : of.Tie.Need-returns Inv-loop μ-loop
 unfolding grid
 returns c = record { greatest-is = fill-done (c .before .loop .inv .0) (omega arith); least-is = fill-done (c .before .loop .inv .1) (omega arith) }
 
-pub add-lines-spec : {M : Type 1} → statement M
-add-lines-spec = tie.close (tie.spec
+pub add-lines-spec : {M : Type 1} → of.Statement.statement M
+add-lines-spec = of.Tie.close (of.Tie.spec
     Inv-loop μ-loop loop-holds (λ c. search needs) (λ c. search needs) (λ c. search needs) (λ c. search needs)
     (λ c. search needs) (λ c. search needs) (λ c. search needs) (λ c. search needs) (λ c. search needs) (λ c. search needs)
     add-line-requires (λ c. search needs) (λ c. search needs) loop-again returns)

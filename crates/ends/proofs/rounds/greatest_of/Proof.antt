@@ -4,13 +4,12 @@ use Rattle.algebra.specs.Bound.{AtMost}
 use Rattle.lines.specs.Held.{number-is}
 use Rattle.ends.specs.Factors.{quarterOf, greatestOf}
 use Rattle.ends.proofs.Sums.{both-fits, four-fits, width-fits, more-is, more-fits, more-held}
-use Rattle.ends.proofs.rounds.greatest_of.Statement.{statement}
-use Rattle.ends.proofs.rounds.greatest_of.Tie as tie
+use Rattle.ends.proofs.rounds.greatest_of as of
 
-held : (c : tie.After-quartered) → toZ w64 (ofZ w64 (c .quartered .result)) ≡ c .quartered .result
+held : (c : of.Tie.After-quartered) → toZ w64 (ofZ w64 (c .quartered .result)) ≡ c .quartered .result
 held c = number-is w64 (c .quartered .ensures .1) tt
 
-returns : tie.Need-returns
+returns : of.Tie.Need-returns
 unfolding greatestOf
 returns c =
     let p = c .before .pre in (
@@ -18,8 +17,8 @@ returns c =
       subst (AtMost (2 ^ 28)) (sym (held c)) (c .quartered .ensures .1),
     )
 
-pub greatest-of-spec : {M : Type 1} → statement M
-greatest-of-spec = tie.close (tie.spec
+pub greatest-of-spec : {M : Type 1} → of.Statement.statement M
+greatest-of-spec = of.Tie.close (of.Tie.spec
     (λ c. both-fits (c .pre .first) (c .pre .second)) (λ c. four-fits (c .pre .first) (c .pre .second))
     (λ c. width-fits (c .pre .first) (c .pre .second) (c .pre .width-most)) (λ c. more-fits (c .pre .first) (c .pre .second) (c .pre .width-most))
     (λ c κs. more-held (c .pre .first) (c .pre .second) (c .pre .width-most)) returns)

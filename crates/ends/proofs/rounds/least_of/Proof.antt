@@ -4,13 +4,12 @@ use Rattle.algebra.specs.Bound.{AtMost}
 use Rattle.lines.specs.Held.{number-is}
 use Rattle.ends.specs.Factors.{quarterOf, leastOf}
 use Rattle.ends.proofs.Sums.{both-fits, four-fits, width-fits, less-is, less-fits, less-held}
-use Rattle.ends.proofs.rounds.least_of.Statement.{statement}
-use Rattle.ends.proofs.rounds.least_of.Tie as tie
+use Rattle.ends.proofs.rounds.least_of as of
 
-held : (c : tie.After-quartered) → toZ w64 (ofZ w64 (c .quartered .result)) ≡ c .quartered .result
+held : (c : of.Tie.After-quartered) → toZ w64 (ofZ w64 (c .quartered .result)) ≡ c .quartered .result
 held c = number-is w64 (c .quartered .ensures .1) tt
 
-returns : tie.Need-returns
+returns : of.Tie.Need-returns
 unfolding leastOf
 returns c =
     let p = c .before .pre in (
@@ -18,8 +17,8 @@ returns c =
       subst (AtMost (2 ^ 28)) (sym (held c)) (c .quartered .ensures .1),
     )
 
-pub least-of-spec : {M : Type 1} → statement M
-least-of-spec = tie.close (tie.spec
+pub least-of-spec : {M : Type 1} → of.Statement.statement M
+least-of-spec = of.Tie.close (of.Tie.spec
     (λ c. both-fits (c .pre .first) (c .pre .second)) (λ c. four-fits (c .pre .first) (c .pre .second))
     (λ c. width-fits (c .pre .first) (c .pre .second) (c .pre .width-most)) (λ c. less-fits (c .pre .first) (c .pre .second) (c .pre .width-most))
     (λ c κs. less-held (c .pre .first) (c .pre .second) (c .pre .width-most)) returns)

@@ -5,8 +5,7 @@ use mir.Facts.{toZ-ofZ, fits-natAbs}
 use borrow.Author.Tests.{ltb-true}
 use Rattle.algebra.specs.Order.{zarith, sub-pn}
 use Rattle.algebra.specs.Bound.{from-zero}
-use Rattle.geometry.proofs.read.distance.Statement.{statement}
-use Rattle.geometry.proofs.read.distance.Tie as tie
+use Rattle.geometry.proofs.read.distance as of
 
 -- what is answered for a negative z: it fits, it is not negative, and it is the distance
 pub record Turned (z k : ℤ) : Type 0 where
@@ -29,25 +28,25 @@ straight (pos k) e = refl
 straight (negsuc k) e = absurd (subst T e tt)
 
 -- that of the function's z
-over : (c : tie.Then1) → Turned (c .before .args .z) (negsuc 0 -ℤ c .before .args .z)
+over : (c : of.Tie.Then1) → Turned (c .before .args .z) (negsuc 0 -ℤ c .before .args .z)
 over c = turned _ (c .before .fits .z) (rw (toZ-ofZ (c .before .fits .z)) at (c .if1 .taken))
 
-sub-result : tie.Need-sub-result
+sub-result : of.Tie.Need-sub-result
 sub-result c = rw (toZ-ofZ (c .before .fits .z)) (over c .fits)
 
-cast-result : tie.Need-cast-result
+cast-result : of.Tie.Need-cast-result
 cast-result c = rw (toZ-ofZ (c .before .fits .z), toZ-ofZ (over c .fits)) (over c .low, fits-natAbs tt (over c .fits))
 
-returns : tie.Need-returns
+returns : of.Tie.Need-returns
 returns c = rw (toZ-ofZ (c .before .fits .z), toZ-ofZ (over c .fits)) (over c .far)
 
-cast-result-2 : tie.Need-cast-result-2
+cast-result-2 : of.Tie.Need-cast-result-2
 cast-result-2 c =
     let value = toZ-ofZ (c .before .fits .z) in
     rw value (from-zero (c .before .args .z) (rw value at (c .if1 .left)), fits-natAbs tt (c .before .fits .z))
 
-returns-2 : tie.Need-returns-2
+returns-2 : of.Tie.Need-returns-2
 returns-2 c = let value = toZ-ofZ (c .before .fits .z) in rw value (straight (c .before .args .z) (rw value at (c .if1 .left)))
 
-pub distance-spec : {M : Type 1} → statement M
-distance-spec = tie.close (tie.spec sub-result cast-result returns cast-result-2 returns-2)
+pub distance-spec : {M : Type 1} → of.Statement.statement M
+distance-spec = of.Tie.close (of.Tie.spec sub-result cast-result returns cast-result-2 returns-2)

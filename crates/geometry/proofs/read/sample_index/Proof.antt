@@ -7,8 +7,7 @@ use Rattle.geometry.specs.Fits.{Allowed, Placed}
 use Rattle.geometry.specs.ShapeLaws.{samples-most}
 use Rattle.geometry.specs.Read.{sampleIndex}
 use Rattle.geometry.specs.ReadLaws.{cell-below, index-below}
-use Rattle.geometry.proofs.read.sample_index.Statement.{statement}
-use Rattle.geometry.proofs.read.sample_index.Tie as tie
+use Rattle.geometry.proofs.read.sample_index as of
 
 module _ {s : Shape} {frame row column : ℕ} (a : (Allowed s) × (Placed s frame row column)) where
   rows : frame * s .height + row < 32768
@@ -24,17 +23,17 @@ module _ {s : Shape} {frame row column : ℕ} (a : (Allowed s) × (Placed s fram
   unfolding sampleIndex sampleLength
   index = le-trans below (samples-most (a .0))
 
-mul-result-2 : tie.Need-mul-result-2
+mul-result-2 : of.Tie.Need-mul-result-2
 mul-result-2 c = omega (arith, index (c .before .before .pre))
 
-add-result-2 : tie.Need-add-result-2
+add-result-2 : of.Tie.Need-add-result-2
 add-result-2 c = omega (arith, index (c .before .before .pre))
 
-returns : tie.Need-returns
+returns : of.Tie.Need-returns
 unfolding sampleIndex
 returns c = (refl, below (c .before .before .pre))
 
-pub sample-index-spec : {M : Type 1} → statement M
-sample-index-spec = tie.close (tie.spec
+pub sample-index-spec : {M : Type 1} → of.Statement.statement M
+sample-index-spec = of.Tie.close (of.Tie.spec
     (λ c. omega (arith, rows (c .before .pre))) (λ c. omega (arith, rows (c .before .pre)))
     mul-result-2 add-result-2 returns)

@@ -4,8 +4,7 @@ use native.Mathlib.Nat.{mul-le-mul}
 use mir.Facts.{toZ-ofZ, toZ-pos}
 use Rattle.algebra.specs.Bound.{AtMost, most-fits, sub-most}
 use Rattle.geometry.specs.Tiles.{origin}
-use Rattle.geometry.proofs.tiles.origin.Statement.{statement}
-use Rattle.geometry.proofs.tiles.origin.Tie as tie
+use Rattle.geometry.proofs.tiles.origin as of
 
 -- what the call requires
 abbrev Asked : (half index : ℕ) → Type 0
@@ -27,15 +26,15 @@ small {half} {index} a =
 difference-fits : {half index : ℕ} → Asked half index → SFits w64 (toZ w64 (half * index) -ℤ toZ w64 half)
 difference-fits a = rw (difference a) (most-fits w64 _ 65552 (small a) tt)
 
-cast-result : tie.Need-cast-result
+cast-result : of.Tie.Need-cast-result
 cast-result c = most-fits w64 _ 65536 (record { most = product (c .pre) }) tt
 
-returns : tie.Need-returns
+returns : of.Tie.Need-returns
 returns c =
     let value = toZ-ofZ (difference-fits (c .pre)) ∙ difference (c .pre) in
     (value, subst (AtMost 65552) (sym value) (small (c .pre)))
 
-pub origin-spec : {M : Type 1} → statement M
-origin-spec = tie.close (tie.spec
+pub origin-spec : {M : Type 1} → of.Statement.statement M
+origin-spec = of.Tie.close (of.Tie.spec
     (λ c. omega (arith, product (c .pre))) cast-result (λ c. search needs)
     (λ c. difference-fits (c .pre)) returns)

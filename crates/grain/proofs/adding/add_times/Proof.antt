@@ -1,25 +1,22 @@
 -- The rows are added to one after the other.
-use Rattle.algebra.specs.Prelude.{sym, ap, subst, _∙_, [], _-_, arith, needs, getD, pos, _+ℤ_, _*ℤ_, now}
-use Rattle.sequences.specs.Tab.{tab}
+use Rattle.grain.specs.Prelude.{sym, ap, subst, _∙_, [], _-_, arith, needs, getD, pos, _+ℤ_, _*ℤ_, now, tab, grid, cell}
 use Rattle.sequences.specs.TabLaws.{Filled, fill-start, fill-turn, fill-rest, fill-done}
-use Rattle.sequences.specs.Grid.{grid, cell}
 use Rattle.pairs.proofs.ColumnLaws.{paired-lines}
 use Rattle.pairs.proofs.RowLaws.{paired-length}
 use Rattle.grain.specs.Filtering.{SumRow}
-use Rattle.grain.proofs.adding.add_times.Statement.{statement}
-use Rattle.grain.proofs.adding.add_times.Tie as tie
+use Rattle.grain.proofs.adding.add_times as of
 
-abbrev Inv-loop : tie.InvT-loop
+abbrev Inv-loop : of.Tie.InvT-loop
 Inv-loop frames p sum₀ y₀ sum y = Filled (λ y. tab 32 (λ l. cell (pos 0) sum₀ y l +ℤ pos frames *ℤ cell (pos 0) p y l)) 16 y sum₀ sum
 
-abbrev μ-loop : tie.MeasureT-loop
+abbrev μ-loop : of.Tie.MeasureT-loop
 μ-loop frames p sum₀ y₀ sum y = 16 - y
 
-loop-holds : tie.Need-loop-holds Inv-loop μ-loop
+loop-holds : of.Tie.Need-loop-holds Inv-loop μ-loop
 loop-holds c =
     fill-start (paired-lines (c .pre .paired))
 
-add-row-requires : tie.Need-add-row-requires Inv-loop μ-loop
+add-row-requires : of.Tie.Need-add-row-requires Inv-loop μ-loop
 add-row-requires c κs =
     let l = c .before .before .before in
     let s = l .before in
@@ -32,7 +29,7 @@ add-row-requires c κs =
       long = paired-length (s .pre .paired) y (omega arith) e;
     }
 
-loop-again : tie.Need-loop-again Inv-loop μ-loop
+loop-again : of.Tie.Need-loop-again Inv-loop μ-loop
 unfolding cell
 loop-again c =
     let l = c .before .before .before .before in
@@ -41,12 +38,12 @@ loop-again c =
     (c .add-row .ensures
     ∙ ap (λ r. tab 32 (λ k. getD r k (pos 0) +ℤ pos (a .frames) *ℤ getD (getD (now (a .p)) (l .loop .y) []) k (pos 0))) (fill-rest (l .loop .inv) (omega arith) []))
 
-returns : tie.Need-returns Inv-loop μ-loop
+returns : of.Tie.Need-returns Inv-loop μ-loop
 unfolding grid
 returns c =
     fill-done (c .before .loop .inv) (omega arith)
 
-pub add-times-spec : {M : Type 1} → statement M
-add-times-spec = tie.close (tie.spec
+pub add-times-spec : {M : Type 1} → of.Statement.statement M
+add-times-spec = of.Tie.close (of.Tie.spec
     Inv-loop μ-loop loop-holds (λ c. search needs) (λ c. search needs) (λ c. search needs)
     (λ c. search needs) add-row-requires (λ c. search needs) (λ c. search needs) loop-again returns)

@@ -1,14 +1,11 @@
 -- The dividend is at most N times copyMost, so that the quotient is at most copyMost.
-use Rattle.algebra.specs.Prelude.{_≡_, sym, ap, ap₂, subst, _∙_, ℕ, _*_, _^_, _≤_, _<_, arith, w32, w64, ℤ, pos, natAbs, _-ℤ_, SFits, toZ, ofZ}
+use Rattle.grain.specs.Prelude.{_≡_, sym, ap, ap₂, subst, _∙_, ℕ, _*_, _^_, _≤_, _<_, arith, w32, w64, ℤ, pos, natAbs, _-ℤ_, SFits, toZ, ofZ, away, copyMost}
 use mir.ValLaws.{toZ-pos}
 use Rattle.algebra.specs.Bound.{AtMost, most-fits}
-use Rattle.algebra.specs.Nearest.{away}
 use Rattle.lines.specs.Held.{number-is, cast-fits, cast-is}
-use Rattle.spectrum.specs.Magnitudes.{copyMost}
 use Rattle.grain.specs.Filtering.{Frames, SumMost}
 use Rattle.grain.proofs.CopyLaws.{whole-most, dividend-most, quotient-most, held-sum}
-use Rattle.grain.proofs.copying.copy_part.Statement.{statement}
-use Rattle.grain.proofs.copying.copy_part.Tie as tie
+use Rattle.grain.proofs.copying.copy_part as of
 
 module _ {frames t0 : ℕ} {sum : ℤ} (f : Frames frames) (l : t0 ≤ 4095) (m : SumMost frames sum) where
   abbrev z : ℤ
@@ -29,16 +26,16 @@ module _ {frames t0 : ℕ} {sum : ℤ} (f : Frames frames) (l : t0 ≤ 4095) (m 
   pub number : toZ w64 (ofZ w64 held) ≡ z
   number = subst (λ h. toZ w64 (ofZ w64 h) ≡ z) (sym held-is) (number-is w64 z-most tt)
 
-mul-whole-2 : tie.Need-mul-whole-2
+mul-whole-2 : of.Tie.Need-mul-whole-2
 mul-whole-2 c = omega (arith, whole-most (c .pre .frames-fit) (c .pre .sample) (c .pre .sum-most))
 
-cast-round-away : tie.Need-cast-round-away
+cast-round-away : of.Tie.Need-cast-round-away
 cast-round-away c = most-fits w64 _ 8386560 (record { most = whole-most (c .pre .frames-fit) (c .pre .sample) (c .pre .sum-most) }) tt
 
-sub-round-away : tie.Need-sub-round-away
+sub-round-away : of.Tie.Need-sub-round-away
 sub-round-away c = held-fits (c .pre .frames-fit) (c .pre .sample) (c .pre .sum-most)
 
-round-away-requires : tie.Need-round-away-requires
+round-away-requires : of.Tie.Need-round-away-requires
 round-away-requires c κs =
     let p = c .pre in
     let e = number (p .frames-fit) (p .sample) (p .sum-most) in
@@ -49,22 +46,22 @@ round-away-requires c κs =
     }
 
 -- what the code divides
-quotient-is : (c : tie.After-round-away) → let a = c .before .args in c .round-away .result ≡ away (pos (a .t0 * (256 * a .frames)) -ℤ a .sum) (a .frames)
+quotient-is : (c : of.Tie.After-round-away) → let a = c .before .args in c .round-away .result ≡ away (pos (a .t0 * (256 * a .frames)) -ℤ a .sum) (a .frames)
 quotient-is c =
     let p = c .before .pre in
     c .round-away .ensures ∙ ap (λ z. away z (c .before .args .frames)) (number (p .frames-fit) (p .sample) (p .sum-most))
 
-most : (c : tie.After-round-away) → AtMost copyMost (c .round-away .result)
+most : (c : of.Tie.After-round-away) → AtMost copyMost (c .round-away .result)
 most c =
     let p = c .before .pre in
     subst (AtMost copyMost) (sym (quotient-is c)) (quotient-most (p .frames-fit) (p .sample) (p .sum-most))
 
-returns : tie.Need-returns
+returns : of.Tie.Need-returns
 returns c =
     let e = cast-is w64 w32 (most c) tt tt in
     (e ∙ quotient-is c, subst (AtMost copyMost) (sym e) (most c))
 
-pub copy-part-spec : {M : Type 1} → statement M
-copy-part-spec = tie.close (tie.spec
+pub copy-part-spec : {M : Type 1} → of.Statement.statement M
+copy-part-spec = of.Tie.close (of.Tie.spec
     (λ c. omega (arith, c .pre .frames-fit .few)) mul-whole-2 cast-round-away sub-round-away
     round-away-requires (λ c. cast-fits w64 w32 (most c) tt tt) returns)

@@ -1,16 +1,12 @@
 -- The definition's own tests.
-use Rattle.algebra.specs.Prelude.{sym, _∙_, arith, needs, _-_, w64}
+use Rattle.grain.specs.Prelude.{sym, _∙_, arith, needs, _-_, w64, cell, side16, foldImOf}
 use borrow.Author.Tests.{lt-ltb, le-ltb}
-use Rattle.sequences.specs.Grid.{cell}
 use Rattle.lines.specs.Held.{held-is, held-most, line-at}
 use Rattle.spectrum.specs.Apart.{is-own, is-paired}
-use Rattle.recipe.specs.Tables.{side16}
-use Rattle.spectrum.specs.Spectrum.{foldImOf}
 use Rattle.grain.proofs.Sums64.{sum-fits, sum-is, sum-most, difference-fits, difference-is, difference-most}
-use Rattle.grain.proofs.folds.im_place.Statement.{statement}
-use Rattle.grain.proofs.folds.im_place.Tie as tie
+use Rattle.grain.proofs.folds.im_place as of
 
-returns : tie.Need-returns
+returns : of.Tie.Need-returns
 unfolding foldImOf cell side16
 returns c =
     let s = c .before .before in
@@ -18,13 +14,13 @@ returns c =
     let m = s .pre .im-most .line b in
     (held-is w64 m (s .args .l) tt ∙ sym (is-own b _ _ (omega arith)), record { most = omega (arith, held-most w64 m (s .args .l) tt .most) })
 
-add-result : tie.Need-add-result
+add-result : of.Tie.Need-add-result
 add-result c =
     let s = c .before .before .before .before in
     let b = s .args .b in
     sum-fits (line-at (s .pre .im-most .line b) (s .args .l)) (line-at (s .pre .im-most .line (16 - b)) (s .args .l)) tt tt
 
-returns-2 : tie.Need-returns-2
+returns-2 : of.Tie.Need-returns-2
 unfolding foldImOf cell side16
 returns-2 c =
     let s = c .before .before .before .before in
@@ -33,13 +29,13 @@ returns-2 c =
     let n = line-at (s .pre .im-most .line (16 - b)) (s .args .l) in
     (sum-is m n tt tt ∙ sym (is-paired b _ _ (λ e. omega arith) ∙ rw (lt-ltb b 9 (omega arith))), sum-most m n tt tt)
 
-sub-result-4 : tie.Need-sub-result-4
+sub-result-4 : of.Tie.Need-sub-result-4
 sub-result-4 c =
     let s = c .before .before .before .before in
     let b = s .args .b in
     difference-fits (line-at (s .pre .re-most .line (24 - b)) (s .args .l)) (line-at (s .pre .re-most .line (b - 8)) (s .args .l)) tt tt
 
-returns-3 : tie.Need-returns-3
+returns-3 : of.Tie.Need-returns-3
 unfolding foldImOf cell side16
 returns-3 c =
     let s = c .before .before .before .before in
@@ -48,8 +44,8 @@ returns-3 c =
     let n = line-at (s .pre .re-most .line (b - 8)) (s .args .l) in
     (difference-is m n tt tt ∙ sym (is-paired b _ _ (λ e. omega arith) ∙ rw (le-ltb b 9 (omega arith))), difference-most m n tt tt)
 
-pub im-place-spec : {M : Type 1} → statement M
-im-place-spec = tie.close (tie.spec
+pub im-place-spec : {M : Type 1} → of.Statement.statement M
+im-place-spec = of.Tie.close (of.Tie.spec
     (λ c. search needs) (λ c. search needs) (λ c. search needs) (λ c. search needs) returns
     (λ c. search needs) (λ c. search needs) (λ c. search needs) (λ c. search needs)
     (λ c. search needs) (λ c. search needs) (λ c. search needs) (λ c. search needs)

@@ -1,23 +1,18 @@
 -- Both parts are places, and a bin is at most twice as large.
-use Rattle.algebra.specs.Prelude.{_≡_, sym, ap, ap₂, _∙_, subst, arith, _+_, _*_, _/_, _%_, pos, _+ℤ_, now}
+use Rattle.grain.specs.Prelude.{_≡_, sym, ap, ap₂, _∙_, subst, arith, _+_, _*_, _/_, _%_, pos, _+ℤ_, now, cell, copyBinMost, side16, imaginaryOf, tileImOf}
 use Rattle.algebra.specs.Bound.{AtMost, add-most}
-use Rattle.sequences.specs.Grid.{cell}
-use Rattle.spectrum.specs.Magnitudes.{copyBinMost}
-use Rattle.recipe.specs.Tables.{side16}
-use Rattle.spectrum.specs.Spectrum.{imaginaryOf, tileImOf}
 use Rattle.grain.proofs.Sums64.{sum-fits, sum-is}
-use Rattle.grain.proofs.gains.bin_im.Statement.{statement}
-use Rattle.grain.proofs.gains.bin_im.Tie as tie
+use Rattle.grain.proofs.gains.bin_im as of
 
-imaginary-requires : tie.Need-imaginary-requires
+imaginary-requires : of.Tie.Need-imaginary-requires
 imaginary-requires c κs =
     record { places-most = c .pre .places-most; u-below = c .pre .u-below; l-below = omega (arith, c .pre .l-below) }
 
-add-result : tie.Need-add-result
+add-result : of.Tie.Need-add-result
 add-result c =
     sum-fits (c .before .imaginary .ensures .1) (c .beside-real .ensures .1) tt tt
 
-returns : tie.Need-returns
+returns : of.Tie.Need-returns
 unfolding tileImOf side16
 returns c =
     let r = c .before in
@@ -28,5 +23,5 @@ returns c =
       subst (AtMost copyBinMost) (sym e) (record { most = omega (arith, add-most (r .imaginary .ensures .1) (c .beside-real .ensures .1) .most) }),
     )
 
-pub bin-im-spec : {M : Type 1} → statement M
-bin-im-spec = tie.close (tie.spec imaginary-requires (λ c κs. c .before .pre) add-result returns)
+pub bin-im-spec : {M : Type 1} → of.Statement.statement M
+bin-im-spec = of.Tie.close (of.Tie.spec imaginary-requires (λ c κs. c .before .pre) add-result returns)

@@ -1,23 +1,18 @@
 -- Both parts are places, and a bin is at most twice as large.
-use Rattle.algebra.specs.Prelude.{_≡_, sym, ap, ap₂, _∙_, subst, arith, _+_, _*_, _/_, _%_, pos, _-ℤ_, now}
+use Rattle.grain.specs.Prelude.{_≡_, sym, ap, ap₂, _∙_, subst, arith, _+_, _*_, _/_, _%_, pos, _-ℤ_, now, cell, copyBinMost, side16, realOf, tileReOf}
 use Rattle.algebra.specs.Bound.{AtMost, sub-most}
-use Rattle.sequences.specs.Grid.{cell}
-use Rattle.spectrum.specs.Magnitudes.{copyBinMost}
-use Rattle.recipe.specs.Tables.{side16}
-use Rattle.spectrum.specs.Spectrum.{realOf, tileReOf}
 use Rattle.grain.proofs.Sums64.{difference-fits, difference-is}
-use Rattle.grain.proofs.gains.bin_re.Statement.{statement}
-use Rattle.grain.proofs.gains.bin_re.Tie as tie
+use Rattle.grain.proofs.gains.bin_re as of
 
-real-requires : tie.Need-real-requires
+real-requires : of.Tie.Need-real-requires
 real-requires c κs =
     record { places-most = c .pre .places-most; u-below = c .pre .u-below; l-below = omega (arith, c .pre .l-below) }
 
-sub-result : tie.Need-sub-result
+sub-result : of.Tie.Need-sub-result
 sub-result c =
     difference-fits (c .before .real .ensures .1) (c .beside-imaginary .ensures .1) tt tt
 
-returns : tie.Need-returns
+returns : of.Tie.Need-returns
 unfolding tileReOf side16
 returns c =
     let r = c .before in
@@ -28,5 +23,5 @@ returns c =
       subst (AtMost copyBinMost) (sym e) (record { most = omega (arith, sub-most (r .real .ensures .1) (c .beside-imaginary .ensures .1) .most) }),
     )
 
-pub bin-re-spec : {M : Type 1} → statement M
-bin-re-spec = tie.close (tie.spec real-requires (λ c κs. c .before .pre) sub-result returns)
+pub bin-re-spec : {M : Type 1} → of.Statement.statement M
+bin-re-spec = of.Tie.close (of.Tie.spec real-requires (λ c κs. c .before .pre) sub-result returns)

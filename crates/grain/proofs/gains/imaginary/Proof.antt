@@ -1,25 +1,21 @@
 -- The definition's own tests.
-use Rattle.algebra.specs.Prelude.{sym, _∙_, arith, needs, w64, _+_, _-_, pos}
+use Rattle.grain.specs.Prelude.{sym, _∙_, arith, needs, w64, _+_, _-_, pos, cell, side16, imaginaryPart}
 use Prim.Native.Nat.{zero-le}
 use borrow.Author.Tests.{lt-ltb, le-ltb}
-use Rattle.sequences.specs.Grid.{cell}
 use Rattle.lines.specs.Held.{held-is, held-most, line-at}
 use Rattle.spectrum.specs.Apart.{is-own, is-paired}
-use Rattle.recipe.specs.Tables.{side16}
-use Rattle.spectrum.specs.Spectrum.{imaginaryPart}
 use Rattle.grain.proofs.Sums64.{minus-fits, minus-is, minus-most}
-use Rattle.grain.proofs.gains.imaginary.Statement.{statement}
-use Rattle.grain.proofs.gains.imaginary.Tie as tie
+use Rattle.grain.proofs.gains.imaginary as of
 
 -- The definition's own tests.
 
-returns : tie.Need-returns
+returns : of.Tie.Need-returns
 unfolding imaginaryPart side16
 returns c =
     let u = c .before .args .u in
     (sym (is-own u (pos 0) _ (omega arith)), record { most = zero-le })
 
-returns-2 : tie.Need-returns-2
+returns-2 : of.Tie.Need-returns-2
 unfolding imaginaryPart cell side16
 returns-2 c =
     let s = c .before .before .before in
@@ -27,12 +23,12 @@ returns-2 c =
     let m = s .pre .places-most .line (8 + u) in
     (held-is w64 m (s .args .l) tt ∙ sym (is-paired u (pos 0) _ (λ e. omega arith) ∙ rw (lt-ltb u 9 (omega arith))), held-most w64 m (s .args .l) tt)
 
-sub-result-2 : tie.Need-sub-result-2
+sub-result-2 : of.Tie.Need-sub-result-2
 sub-result-2 c =
     let s = c .before .before .before in
     minus-fits (line-at (s .pre .places-most .line (24 - s .args .u)) (s .args .l)) tt
 
-returns-3 : tie.Need-returns-3
+returns-3 : of.Tie.Need-returns-3
 unfolding imaginaryPart cell side16
 returns-3 c =
     let s = c .before .before .before in
@@ -40,8 +36,8 @@ returns-3 c =
     let m = line-at (s .pre .places-most .line (24 - u)) (s .args .l) in
     (minus-is m tt ∙ sym (is-paired u (pos 0) _ (λ e. omega arith) ∙ rw (le-ltb u 9 (omega arith))), minus-most m tt)
 
-pub imaginary-spec : {M : Type 1} → statement M
-imaginary-spec = tie.close (tie.spec
+pub imaginary-spec : {M : Type 1} → of.Statement.statement M
+imaginary-spec = of.Tie.close (of.Tie.spec
     returns (λ c. search needs) (λ c. search needs) (λ c. search needs) (λ c. search needs)
     (λ c. search needs) returns-2 (λ c. search needs) (λ c. search needs) (λ c. search needs)
     (λ c. search needs) (λ c. search needs) sub-result-2 returns-3)

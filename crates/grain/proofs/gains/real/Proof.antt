@@ -1,16 +1,12 @@
 -- The definition's own test.
-use Rattle.algebra.specs.Prelude.{arith, needs, w64, _-_}
+use Rattle.grain.specs.Prelude.{arith, needs, w64, _-_, cell, side16, realPart}
 use borrow.Author.Tests.{lt-ltb, le-ltb}
-use Rattle.sequences.specs.Grid.{cell}
 use Rattle.lines.specs.Held.{held-is, held-most}
-use Rattle.recipe.specs.Tables.{side16}
-use Rattle.spectrum.specs.Spectrum.{realPart}
-use Rattle.grain.proofs.gains.real.Statement.{statement}
-use Rattle.grain.proofs.gains.real.Tie as tie
+use Rattle.grain.proofs.gains.real as of
 
 -- The definition's own test.
 
-returns : tie.Need-returns
+returns : of.Tie.Need-returns
 unfolding realPart cell side16
 returns c =
     let s = c .before .before in
@@ -18,7 +14,7 @@ returns c =
     let m = s .pre .places-most .line u in
     rw (lt-ltb u 9 (omega arith)) (held-is w64 m (s .args .l) tt, held-most w64 m (s .args .l) tt)
 
-returns-2 : tie.Need-returns-2
+returns-2 : of.Tie.Need-returns-2
 unfolding realPart cell side16
 returns-2 c =
     let s = c .before .before in
@@ -26,8 +22,8 @@ returns-2 c =
     let m = s .pre .places-most .line (16 - u) in
     rw (le-ltb u 9 (omega arith)) (held-is w64 m (s .args .l) tt, held-most w64 m (s .args .l) tt)
 
-pub real-spec : {M : Type 1} → statement M
-real-spec = tie.close (tie.spec
+pub real-spec : {M : Type 1} → of.Statement.statement M
+real-spec = of.Tie.close (of.Tie.spec
     (λ c. search needs) (λ c. search needs) (λ c. search needs) (λ c. search needs) returns
     (λ c. search needs) (λ c. search needs) (λ c. search needs) (λ c. search needs)
     (λ c. search needs) returns-2)

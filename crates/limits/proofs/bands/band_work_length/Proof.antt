@@ -3,20 +3,19 @@ use Rattle.algebra.specs.Prelude.{refl, _*_, arith}
 use native.Mathlib.Nat.{mul-le-mul}
 use Rattle.limits.specs.Bands.{bandWorkLength}
 use Rattle.limits.specs.BandLaws.{side-most}
-use Rattle.limits.proofs.bands.band_work_length.Statement.{statement}
-use Rattle.limits.proofs.bands.band_work_length.Tie as tie
+use Rattle.limits.proofs.bands.band_work_length as of
 
-mul-result : tie.Need-mul-result
+mul-result : of.Tie.Need-mul-result
 mul-result c = omega (arith, side-most (c .before .pre .1))
 
-mul-result-2 : tie.Need-mul-result-2
+mul-result-2 : of.Tie.Need-mul-result-2
 mul-result-2 c =
     let s = c .before .before in
     omega (arith, mul-le-mul {n₁ = 4 * s .args .shape .side} {m₁ = s .args .shape .width} {n₂ = 128} {m₂ = 4096} (omega (arith, side-most (s .pre .1))) (s .pre .0 .wide .most))
 
-returns : tie.Need-returns
+returns : of.Tie.Need-returns
 unfolding bandWorkLength
 returns c = refl
 
-pub band-work-length-spec : {M : Type 1} → statement M
-band-work-length-spec = tie.close (tie.spec mul-result mul-result-2 returns)
+pub band-work-length-spec : {M : Type 1} → of.Statement.statement M
+band-work-length-spec = of.Tie.close (of.Tie.spec mul-result mul-result-2 returns)

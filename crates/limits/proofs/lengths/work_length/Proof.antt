@@ -1,19 +1,17 @@
 -- Twice width times height is small.
-use Rattle.algebra.specs.Prelude.{refl, arith}
-use Rattle.geometry.specs.Shape.{workLength}
+use Rattle.limits.specs.Prelude.{refl, arith, workLength}
 use Rattle.geometry.specs.ShapeLaws.{area-most}
-use Rattle.limits.proofs.lengths.work_length.Statement.{statement}
-use Rattle.limits.proofs.lengths.work_length.Tie as tie
+use Rattle.limits.proofs.lengths.work_length as of
 
-mul-result : tie.Need-mul-result
+mul-result : of.Tie.Need-mul-result
 mul-result c = omega (arith, area-most (c .before .pre))
 
-mul-result-2 : tie.Need-mul-result-2
+mul-result-2 : of.Tie.Need-mul-result-2
 mul-result-2 c = omega (arith, area-most (c .before .pre))
 
-returns : tie.Need-returns
+returns : of.Tie.Need-returns
 unfolding workLength
 returns c = (refl, omega (arith, area-most (c .before .pre)))
 
-pub work-length-spec : {M : Type 1} → statement M
-work-length-spec = tie.close (tie.spec mul-result mul-result-2 returns)
+pub work-length-spec : {M : Type 1} → of.Statement.statement M
+work-length-spec = of.Tie.close (of.Tie.spec mul-result mul-result-2 returns)

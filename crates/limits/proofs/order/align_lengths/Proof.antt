@@ -1,12 +1,11 @@
 -- Each test is its definition, so the first of them is.
 use borrow.Author.Needs.{needs}
 use Rattle.limits.specs.Order.{alignLengths}
-use Rattle.limits.proofs.order.align_lengths.Statement.{statement}
-use Rattle.limits.proofs.order.align_lengths.Tie as tie
+use Rattle.limits.proofs.order.align_lengths as of
 
-returns : tie.Need-returns
+returns : of.Tie.Need-returns
 unfolding alignLengths
 returns c = cc
 
-pub align-lengths-spec : {M : Type 1} → statement M
-align-lengths-spec = tie.close (tie.spec (λ c κs. search needs) (λ c κs. search needs) (λ c κs. search needs) (λ c κs. search needs) (λ c κs. search needs) (λ c κs. search needs) (λ c. search needs) (λ c κs. search needs) returns)
+pub align-lengths-spec : {M : Type 1} → of.Statement.statement M
+align-lengths-spec = of.Tie.close (of.Tie.spec (λ c κs. search needs) (λ c κs. search needs) (λ c κs. search needs) (λ c κs. search needs) (λ c κs. search needs) (λ c κs. search needs) (λ c. search needs) (λ c κs. search needs) returns)

@@ -1,12 +1,11 @@
 -- Each test is its definition, so the first of them is.
 use borrow.Author.Needs.{needs}
 use Rattle.limits.specs.Residuals.{residualLengths}
-use Rattle.limits.proofs.order.residual_lengths.Statement.{statement}
-use Rattle.limits.proofs.order.residual_lengths.Tie as tie
+use Rattle.limits.proofs.order.residual_lengths as of
 
-returns : tie.Need-returns
+returns : of.Tie.Need-returns
 unfolding residualLengths
 returns c = cc
 
-pub residual-lengths-spec : {M : Type 1} → statement M
-residual-lengths-spec = tie.close (tie.spec (λ c κs. search needs) (λ c κs. search needs) (λ c κs. search needs) (λ c κs. search needs) (λ c κs. search needs) (λ c κs. search needs) (λ c κs. search needs) (λ c κs. search needs) (λ c. search needs) (λ c κs. search needs) returns)
+pub residual-lengths-spec : {M : Type 1} → of.Statement.statement M
+residual-lengths-spec = of.Tie.close (of.Tie.spec (λ c κs. search needs) (λ c κs. search needs) (λ c κs. search needs) (λ c κs. search needs) (λ c κs. search needs) (λ c κs. search needs) (λ c κs. search needs) (λ c κs. search needs) (λ c. search needs) (λ c κs. search needs) returns)

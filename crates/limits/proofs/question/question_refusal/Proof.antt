@@ -2,12 +2,11 @@
 use borrow.Author.Needs.{needs}
 use Rattle.limits.specs.Order.{shapeTests}
 use Rattle.limits.specs.Question.{questionTests}
-use Rattle.limits.proofs.question.question_refusal.Statement.{statement}
-use Rattle.limits.proofs.question.question_refusal.Tie as tie
+use Rattle.limits.proofs.question.question_refusal as of
 
-returns : tie.Need-returns
+returns : of.Tie.Need-returns
 unfolding questionTests shapeTests
 returns c = cc
 
-pub question-refusal-spec : {M : Type 1} → statement M
-question-refusal-spec = tie.close (tie.spec (λ c κs. search needs) (λ c κs. search needs) (λ c κs. search needs) (λ c κs. search needs) (λ c. search needs) (λ c κs. search needs) returns)
+pub question-refusal-spec : {M : Type 1} → of.Statement.statement M
+question-refusal-spec = of.Tie.close (of.Tie.spec (λ c κs. search needs) (λ c κs. search needs) (λ c κs. search needs) (λ c κs. search needs) (λ c. search needs) (λ c κs. search needs) returns)

@@ -2,22 +2,21 @@
 use Rattle.algebra.specs.Prelude.{arith, needs}
 use Rattle.pgm.specs.Form.{fileLength}
 use Rattle.pgm.specs.FormLaws.{area-most}
-use Rattle.pgm.proofs.lengths.file_length.Statement.{statement}
-use Rattle.pgm.proofs.lengths.file_length.Tie as tie
+use Rattle.pgm.proofs.lengths.file_length as of
 
-mul-result : tie.Need-mul-result
+mul-result : of.Tie.Need-mul-result
 mul-result c = omega (arith, area-most (c .before .pre))
 
-mul-result-2 : tie.Need-mul-result-2
+mul-result-2 : of.Tie.Need-mul-result-2
 mul-result-2 c = omega (arith, area-most (c .before .pre))
 
-add-result : tie.Need-add-result
+add-result : of.Tie.Need-add-result
 add-result c = omega (arith, area-most (c .before .pre))
 
-returns : tie.Need-returns
+returns : of.Tie.Need-returns
 unfolding fileLength
 returns c = (omega arith, omega (arith, area-most (c .before .pre)))
 
-pub file-length-spec : {M : Type 1} → statement M
-file-length-spec = tie.close (tie.spec
+pub file-length-spec : {M : Type 1} → of.Statement.statement M
+file-length-spec = of.Tie.close (of.Tie.spec
     (λ c κs. search needs) mul-result mul-result-2 add-result returns)

@@ -2,19 +2,18 @@
 use Rattle.algebra.specs.Prelude.{sym, _∙_, needs}
 use borrow.Author.Tests.{not-true, not-false}
 use Rattle.pgm.specs.Form.{sizesAllowed}
-use Rattle.pgm.proofs.lengths.sizes_allowed.Statement.{statement}
-use Rattle.pgm.proofs.lengths.sizes_allowed.Tie as tie
+use Rattle.pgm.proofs.lengths.sizes_allowed as of
 
-returns : tie.Need-returns
+returns : of.Tie.Need-returns
 unfolding sizesAllowed
 returns c = rw (sym (c .before .size-allowed .ensures) ∙ not-true _ (c .if1 .taken))
 
-returns-2 : tie.Need-returns-2
+returns-2 : of.Tie.Need-returns-2
 unfolding sizesAllowed
 returns-2 c =
     let wide = c .before in
     rw (sym (wide .before .size-allowed .ensures) ∙ not-false _ (wide .if1 .left)) (c .size-allowed2 .ensures)
 
-pub sizes-allowed-spec : {M : Type 1} → statement M
-sizes-allowed-spec = tie.close (tie.spec
+pub sizes-allowed-spec : {M : Type 1} → of.Statement.statement M
+sizes-allowed-spec = of.Tie.close (of.Tie.spec
     (λ c κs. search needs) returns (λ c κs. search needs) returns-2)

@@ -4,18 +4,17 @@ use borrow.Author.Tests.{eq-eqb, ne-eqb, not-true, not-false}
 use Rattle.pgm.specs.Form.{sizesAllowed, fileLength}
 use Rattle.pgm.specs.Reading.{formed}
 use Rattle.pgm.specs.FormLaws.{sized}
-use Rattle.pgm.proofs.reading.formed.Statement.{statement}
-use Rattle.pgm.proofs.reading.formed.Tie as tie
+use Rattle.pgm.proofs.reading.formed as of
 
-returns : tie.Need-returns
+returns : of.Tie.Need-returns
 unfolding formed
 returns c = rw (sym (c .before .sizes-allowed .ensures) ∙ not-true _ (c .if1 .taken))
 
 -- where the size has passed
-allowed : (c : tie.Else1) → let args = c .before .before .before .args in sizesAllowed (args .width) (args .height) ≡ true
+allowed : (c : of.Tie.Else1) → let args = c .before .before .before .args in sizesAllowed (args .width) (args .height) ≡ true
 allowed c = sym (c .before .sizes-allowed .ensures) ∙ not-false _ (c .if1 .left)
 
-returns-2 : tie.Need-returns-2
+returns-2 : of.Tie.Need-returns-2
 unfolding formed
 returns-2 c =
     let args = c .before .before .before .before .before .args in
@@ -25,14 +24,14 @@ returns-2 c =
     )
 
 -- where the length has passed too
-measured : (c : tie.Else2) → let args = c .before .before .before .before .before .args in length (args .bytes .now) ≡ fileLength (args .width) (args .height)
+measured : (c : of.Tie.Else2) → let args = c .before .before .before .before .before .args in length (args .bytes .now) ≡ fileLength (args .width) (args .height)
 measured c = c .if2 .left ∙ c .before .file-length .ensures .0
 
-header-differs-requires : tie.Need-header-differs-requires
+header-differs-requires : of.Tie.Need-header-differs-requires
 unfolding fileLength
 header-differs-requires c κs = omega (arith, measured c)
 
-returns-3 : tie.Need-returns-3
+returns-3 : of.Tie.Need-returns-3
 unfolding formed
 returns-3 c =
     let args = c .before .before .before .before .before .before .args in
@@ -42,7 +41,7 @@ returns-3 c =
       c .header-differs .ensures,
     )
 
-pub formed-spec : {M : Type 1} → statement M
-formed-spec = tie.close (tie.spec
+pub formed-spec : {M : Type 1} → of.Statement.statement M
+formed-spec = of.Tie.close (of.Tie.spec
     (λ c κs. search needs) returns (λ c κs. sized (allowed c)) returns-2 header-differs-requires
     returns-3)

@@ -1,24 +1,20 @@
 -- The size that the digits write, then the tests; the samples are stored once all of them have passed.
-use Rattle.algebra.specs.Prelude.{_≡_, true, sym, ap, ap₂, _∙_, _+_, _*_, _%_, arith, needs, length, drop}
+use Rattle.pgm.specs.Prelude.{_≡_, true, sym, ap, ap₂, _∙_, _+_, _*_, _%_, arith, needs, length, drop, decimal, pgmHeader, leading, samplesOf}
 use Rattle.refusals.specs.AfterLaws.{kept, made}
-use Rattle.printing.specs.Decimal.{decimal}
 use Rattle.pgm.specs.declared.PgmRead.{PgmRead}
-use Rattle.pgm_header.specs.Header.{pgmHeader, leading}
 use Rattle.pgm.specs.Form.{fileLength}
-use Rattle.pgm_samples.specs.Samples.{samplesOf}
 use Rattle.pgm.specs.Reading.{widthIn, heightIn, samplesAs, samplesIn, formed, refusalAs, readRefusal, refusedPgm, acceptedPgm, pgmAnswer}
 use Rattle.pgm.specs.FormLaws.{area-whole}
 use Rattle.pgm.specs.HeaderLaws.{form-sized, form-long}
 use Rattle.pgm.specs.Acceptance.{readable, sound}
-use Rattle.pgm.proofs.reading.read_pgm.Statement.{statement}
-use Rattle.pgm.proofs.reading.read_pgm.Tie as tie
+use Rattle.pgm.proofs.reading.read_pgm as of
 
 -- the size that the digits write
-width-is : (c : tie.After-leading2) → c .before .before .leading .result ≡ widthIn (c .before .before .before .before .before .args .bytes .now)
+width-is : (c : of.Tie.After-leading2) → c .before .before .leading .result ≡ widthIn (c .before .before .before .before .before .args .bytes .now)
 unfolding widthIn
 width-is c = c .before .before .leading .ensures .0
 
-height-is : (c : tie.After-leading2) → c .leading2 .result ≡ heightIn (c .before .before .before .before .before .args .bytes .now)
+height-is : (c : of.Tie.After-leading2) → c .leading2 .result ≡ heightIn (c .before .before .before .before .before .args .bytes .now)
 unfolding heightIn
 height-is c =
     let bytes = c .before .before .before .before .before .args .bytes .now in
@@ -26,13 +22,13 @@ height-is c =
     ∙ ap (λ n. leading 4 0 (drop (4 + n) bytes)) (c .before .digits .ensures .0 ∙ ap (λ n. length (decimal n)) (width-is c))
 
 -- the number of the tests
-number-is : (c : tie.After-read-refusal) → let args = c .before .before .before .before .before .before .args in c .read-refusal .result ≡ readRefusal (args .bytes .now) (length (args .frame .now))
+number-is : (c : of.Tie.After-read-refusal) → let args = c .before .before .before .before .before .before .args in c .read-refusal .result ≡ readRefusal (args .bytes .now) (length (args .frame .now))
 unfolding readRefusal
 number-is c =
     let args = c .before .before .before .before .before .before .args in
     c .read-refusal .ensures ∙ ap₂ (λ w h. refusalAs w h (args .bytes .now) (length (args .frame .now))) (width-is (c .before)) (height-is (c .before))
 
-returns : tie.Need-returns
+returns : of.Tie.Need-returns
 unfolding pgmAnswer
 returns c =
     let e = number-is (c .before .before) in
@@ -44,7 +40,7 @@ returns c =
     }
 
 -- what the tests that have passed say
-passed : (c : tie.Else1) →
+passed : (c : of.Tie.Else1) →
     let sized = c .before .before in
     let args = sized .before .before .before .before .before .args in
     let width = sized .before .before .leading .result in
@@ -52,13 +48,13 @@ passed : (c : tie.Else1) →
     (formed width height (args .bytes .now) ≡ true) × (length (args .frame .now) ≡ width * height)
 passed c = readable _ _ _ _ (sym (c .before .read-refusal .ensures) ∙ c .if1 .left)
 
-fill-requires : tie.Need-fill-requires
+fill-requires : of.Tie.Need-fill-requires
 unfolding fileLength
 fill-requires c κs =
     let fit = passed (c .before .before) in
     (omega (arith, form-long _ _ _ (fit .0), fit .1), ap (λ n. n % 64) (fit .1) ∙ area-whole (form-sized _ _ _ (fit .0)))
 
-returns-2 : tie.Need-returns-2
+returns-2 : of.Tie.Need-returns-2
 unfolding pgmAnswer samplesIn samplesAs
 returns-2 c =
     let filled = c .before .before in
@@ -81,8 +77,8 @@ returns-2 c =
           (sound bytes (record { below = λ k. omega (arith, known .shared-slice-known .given k) }) (length (args .frame .now)) (sym e ∙ z) .0);
     }
 
-pub read-pgm-spec : {M : Type 1} → statement M
-read-pgm-spec = tie.close (tie.spec
+pub read-pgm-spec : {M : Type 1} → of.Statement.statement M
+read-pgm-spec = of.Tie.close (of.Tie.spec
     (λ c κs. search needs) (λ c κs. search needs) (λ c. search needs) (λ c κs. search needs)
     (λ c κs. search needs) (λ c κs. search needs) returns (λ c κs. search needs) fill-requires
     (λ c. search needs) returns-2)

@@ -1,39 +1,36 @@
 -- The form, then the frame's length and the samples.
-use Rattle.algebra.specs.Prelude.{_≡_, true, sym, ap, ap₂, _∙_, [], _∷_, arith, needs, drop}
+use Rattle.pgm.specs.Prelude.{_≡_, true, sym, ap, ap₂, _∙_, [], _∷_, arith, needs, drop, first, aboveRefusal, samplesOf}
 use borrow.Author.Tests.{not-true, not-false}
-use Rattle.refusals.specs.Tests.{first}
 use Rattle.pgm.specs.Form.{fileLength}
-use Rattle.pgm_samples.specs.Samples.{aboveRefusal, samplesOf}
 use Rattle.pgm.specs.Reading.{formed, samplesAs, refusalAs}
 use Rattle.pgm.specs.FormLaws.{area-most, area-whole}
 use Rattle.pgm.specs.HeaderLaws.{form-sized, form-long}
-use Rattle.pgm.proofs.reading.read_refusal.Statement.{statement}
-use Rattle.pgm.proofs.reading.read_refusal.Tie as tie
+use Rattle.pgm.proofs.reading.read_refusal as of
 
-returns : tie.Need-returns
+returns : of.Tie.Need-returns
 unfolding refusalAs first
 returns c = rw (sym (c .before .formed .ensures) ∙ not-true _ (c .if1 .taken))
 
 -- where the form has passed
-passed : (c : tie.Else1) → let args = c .before .before .before .args in formed (args .width) (args .height) (args .bytes .now) ≡ true
+passed : (c : of.Tie.Else1) → let args = c .before .before .before .args in formed (args .width) (args .height) (args .bytes .now) ≡ true
 passed c = sym (c .before .formed .ensures) ∙ not-false _ (c .if1 .left)
 
-mul-length-refusal : tie.Need-mul-length-refusal
+mul-length-refusal : of.Tie.Need-mul-length-refusal
 mul-length-refusal c = omega (arith, area-most (form-sized _ _ _ (passed c)))
 
-header-length-requires : tie.Need-header-length-requires
+header-length-requires : of.Tie.Need-header-length-requires
 header-length-requires c κs = let ok = form-sized _ _ _ (passed (c .before)) in (omega arith, omega arith)
 
-mul-raster-refusal : tie.Need-mul-raster-refusal
+mul-raster-refusal : of.Tie.Need-mul-raster-refusal
 mul-raster-refusal c = omega (arith, area-most (form-sized _ _ _ (passed (c .before .before))))
 
-raster-refusal-requires : tie.Need-raster-refusal-requires
+raster-refusal-requires : of.Tie.Need-raster-refusal-requires
 unfolding fileLength
 raster-refusal-requires c κs =
     let e = passed (c .before .before) in
     (omega (arith, form-long _ _ _ e), area-whole (form-sized _ _ _ e))
 
-returns-2 : tie.Need-returns-2
+returns-2 : of.Tie.Need-returns-2
 unfolding refusalAs samplesAs first
 returns-2 c =
     let raster = c .before .before in
@@ -45,7 +42,7 @@ returns-2 c =
     ∙ ap₂ (λ a b. first (a ∷ b ∷ [])) (lent .length-refusal .ensures)
     (raster .raster-refusal .ensures ∙ ap (λ n. aboveRefusal (samplesOf (drop n bytes))) (start .header-length .ensures .0)))
 
-pub read-refusal-spec : {M : Type 1} → statement M
-read-refusal-spec = tie.close (tie.spec
+pub read-refusal-spec : {M : Type 1} → of.Statement.statement M
+read-refusal-spec = of.Tie.close (of.Tie.spec
     (λ c κs. search needs) returns mul-length-refusal (λ c κs. search needs) header-length-requires
     mul-raster-refusal raster-refusal-requires (λ c. search needs) (λ c κs. search needs) returns-2)

@@ -6,29 +6,28 @@ use Rattle.printing.specs.PutLaws.{printed-then}
 use Rattle.pgm.specs.Form.{fileOf, PgmFile, fileLength}
 use Rattle.pgm.specs.FormLaws.{sized, area-least, file-long, printed-whole}
 use Rattle.pgm.specs.Acceptance.{write-sound}
-use Rattle.pgm.proofs.writing.write_pgm.Statement.{statement}
-use Rattle.pgm.proofs.writing.write_pgm.Tie as tie
+use Rattle.pgm.proofs.writing.write_pgm as of
 
-returns : tie.Need-returns
+returns : of.Tie.Need-returns
 returns c =
     let e = c .before .write-refusal .ensures in
     record { answer = e; stored = kept _ _ _ e (c .if1 .taken) }
 
 -- what the tests that have passed say
-passed : (c : tie.Else1) →
+passed : (c : of.Tie.Else1) →
     let args = c .before .before .before .before .before .args in
     PgmFile (fileOf (args .width) (args .height) (args .frame .now)) (args .width) (args .height) (args .frame .now) × (length (args .bytes .now) ≡ fileLength (args .width) (args .height))
 passed c = write-sound _ _ _ _ (sym (c .before .write-refusal .ensures) ∙ c .if1 .left)
 
-put-header-requires : tie.Need-put-header-requires
+put-header-requires : of.Tie.Need-put-header-requires
 unfolding fileLength
 put-header-requires c κs = let fit = passed (c .before) in omega (arith, area-least (sized (fit .0 .allowed)), fit .1)
 
-put-frame-requires : tie.Need-put-frame-requires
+put-frame-requires : of.Tie.Need-put-frame-requires
 unfolding fileLength
 put-frame-requires c κs = let fit = passed (c .before .before .before .before .before) in omega (arith, fit .1, fit .0 .long)
 
-returns-2 : tie.Need-returns-2
+returns-2 : of.Tie.Need-returns-2
 unfolding fileOf
 returns-2 c =
     let framed = c .before .before in
@@ -43,7 +42,7 @@ returns-2 c =
           (printed-whole (printed-then zero-le (headed .put-header .ensures .0) (framed .put-frame .ensures)) (fit .1 ∙ sym (file-long _ _ _ (fit .0 .long))));
     }
 
-pub write-pgm-spec : {M : Type 1} → statement M
-write-pgm-spec = tie.close (tie.spec
+pub write-pgm-spec : {M : Type 1} → of.Statement.statement M
+write-pgm-spec = of.Tie.close (of.Tie.spec
     (λ c κs. search needs) (λ c. search needs) returns put-header-requires put-frame-requires
     (λ c. search needs) returns-2)

@@ -2,20 +2,19 @@
 use Rattle.algebra.specs.Prelude.{sym, ap, arith, length}
 use Rattle.printing.specs.DecimalLaws.{decimal-small}
 use Rattle.pgm_header.specs.DigitLaws.{two, three, four}
-use Rattle.pgm_header.proofs.digits.digits.Statement.{statement}
-use Rattle.pgm_header.proofs.digits.digits.Tie as tie
+use Rattle.pgm_header.proofs.digits.digits as of
 
-returns : tie.Need-returns
+returns : of.Tie.Need-returns
 returns c = (sym (ap length (decimal-small (c .if1 .taken))), omega arith)
 
-returns-2 : tie.Need-returns-2
+returns-2 : of.Tie.Need-returns-2
 returns-2 c = (sym (ap length (two _ (c .before .if1 .left) (c .if2 .taken))), omega arith)
 
-returns-3 : tie.Need-returns-3
+returns-3 : of.Tie.Need-returns-3
 returns-3 c = (sym (ap length (three _ (c .before .if2 .left) (c .if3 .taken))), omega arith)
 
-returns-4 : tie.Need-returns-4
+returns-4 : of.Tie.Need-returns-4
 returns-4 c = (sym (ap length (four _ (c .if3 .left) (omega arith))), omega arith)
 
-pub digits-spec : {M : Type 1} → statement M
-digits-spec = tie.close (tie.spec returns returns-2 returns-3 returns-4)
+pub digits-spec : {M : Type 1} → of.Statement.statement M
+digits-spec = of.Tie.close (of.Tie.spec returns returns-2 returns-3 returns-4)

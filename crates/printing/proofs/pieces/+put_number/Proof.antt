@@ -1,7 +1,5 @@
 -- The digits of n / 10, put by the call, and then n % 10 are those of n. The measure is n.
-use borrow.Author.Needs.{needs}
-use native.Mathlib.Omega.{arith}
-use Prim.Native.Nat.{ℕ, _/_, _<_}
+use Rattle.printing.specs.Prelude.{needs, arith, ℕ, _/_, _<_}
 use Rattle.printing.specs.DecimalLaws.{decimal-small, decimal-more, decimal-length}
 use Rattle.printing.specs.PutLaws.{printed-then}
 use borrow.Fn.Kinds.{In}

@@ -2,35 +2,33 @@
 use Rattle.sequences.specs.Write.{Writing, write-turn}
 use Rattle.pyramid.proofs.Ends.{ends-start, ends-length}
 use Rattle.pyramid.proofs.Columns.{columns-done}
-use Rattle.halving.specs.Columns.{columnSum}
+use Rattle.pyramid.specs.Prelude.{columnSum, _≡_, _-_, arith, needs, length}
 use Rattle.pyramid.specs.Words.{imageAt}
-use Rattle.algebra.specs.Prelude.{_≡_, _-_, arith, needs, length}
-use Rattle.pyramid.proofs.images.column_sums.Statement.{statement}
-use Rattle.pyramid.proofs.images.column_sums.Tie as tie
+use Rattle.pyramid.proofs.images.column_sums as of
 
-abbrev Inv-loop : tie.InvT-loop
+abbrev Inv-loop : of.Tie.InvT-loop
 Inv-loop work from height width row sums₀ column₀ sums column = Writing sums₀ 1 (columnSum height (imageAt work from width) row) width column sums
 
-abbrev μ-loop : tie.MeasureT-loop
+abbrev μ-loop : of.Tie.MeasureT-loop
 μ-loop work from height width row sums₀ column₀ sums column = width - column
 
-loop-holds : tie.Need-loop-holds Inv-loop μ-loop
+loop-holds : of.Tie.Need-loop-holds Inv-loop μ-loop
 loop-holds c = let a = c .before .before .args in ends-start (a .sums .now) (c .column-sum .result) (a .width) (omega arith)
 
-loop-again : tie.Need-loop-again Inv-loop μ-loop
+loop-again : of.Tie.Need-loop-again Inv-loop μ-loop
 loop-again c = write-turn (c .before .before .loop .inv) (omega arith) (c .column-sum2 .ensures)
 
-long : (c : tie.After-column-sum3 Inv-loop μ-loop) → length (c .before .before .loop .sums) ≡ length (c .before .before .before .before .before .args .sums .now)
+long : (c : of.Tie.After-column-sum3 Inv-loop μ-loop) → length (c .before .before .loop .sums) ≡ length (c .before .before .before .before .before .args .sums .now)
 long c = let s = c .before .before .before in let a = s .before .before .args in ends-length (a .sums .now) (s .column-sum .result) (a .width) (omega arith) (c .before .before .loop .inv)
 
-returns : tie.Need-returns Inv-loop μ-loop
+returns : of.Tie.Need-returns Inv-loop μ-loop
 returns c =
     let s = c .before .before .before in
     let a = s .before .before .args in
     columns-done _ (a .sums .now) (s .column-sum .result) (a .width) (omega arith) (omega arith) (c .before .before .loop .inv) (omega arith) (s .column-sum .ensures) (c .column-sum3 .ensures)
 
-pub column-sums-spec : {M : Type 1} → statement M
-column-sums-spec = tie.close (tie.spec
+pub column-sums-spec : {M : Type 1} → of.Statement.statement M
+column-sums-spec = of.Tie.close (of.Tie.spec
     Inv-loop μ-loop (λ c κs. search needs) (λ c. search needs) loop-holds (λ c κs. search needs)
     (λ c. search needs) (λ c. search needs) (λ c. search needs) (λ c. search needs)
     (λ c. search needs) loop-again (λ c. search needs) (λ c κs. search needs) (λ c. search needs)

@@ -5,16 +5,15 @@ use Rattle.report.specs.Inner.{vectorRoom}
 use Rattle.report.proofs.Files.{front-is, front-length}
 use Rattle.values.specs.BoundLaws.{values-samples}
 use Rattle.report.proofs.Fits.{align-fits}
-use Rattle.report.proofs.motion.align_burst.Statement.{statement}
-use Rattle.report.proofs.motion.align_burst.Tie as tie
+use Rattle.report.proofs.motion.align_burst as of
 
-align-frames-requires : tie.Need-align-frames-requires
+align-frames-requires : of.Tie.Need-align-frames-requires
 align-frames-requires c κs =
     let start = c .before .before .before .before .before in
     let taken = start .pre .taken in
     record { fits = align-fits taken (length-take-le _ (start .args .vectors .now) (omega (arith, taken .allowed .few))) (start .pre .work-room); samples-fit = values-samples _ (taken .small) }
 
-returns : tie.Need-returns
+returns : of.Tie.Need-returns
 returns c =
     let start = c .before .before .before .before .before .before .before .before .before in
     let aligned = c .before .before .before .align-frames .ensures in
@@ -26,8 +25,8 @@ returns c =
     let same : length part ≡ n = omega (arith, whole) in
     record { found = front-is n vectors part fits same ∙ aligned .found; residuals = aligned .sums-are; same = front-length n vectors part fits same ∙ start .pre .vectors-room }
 
-pub align-burst-spec : {M : Type 1} → statement M
-align-burst-spec = tie.close (tie.spec
+pub align-burst-spec : {M : Type 1} → of.Statement.statement M
+align-burst-spec = of.Tie.close (of.Tie.spec
     (λ c. search needs) (λ c. search needs) (λ c. search needs)
     (λ c. sym (length-take-le _ _ (omega arith))) align-frames-requires (λ c. search needs)
     (λ c. search needs) returns)

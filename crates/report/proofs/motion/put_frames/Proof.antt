@@ -1,13 +1,11 @@
 -- `report::motion::put_frames`: the lines so far are those of the frames passed.
-use Rattle.algebra.specs.Prelude.{_≡_, List, _++_, ℕ, _+_, _-_, _*_, _≤_, arith, needs, getD, take, drop, ℤ}
+use Rattle.report.specs.Prelude.{_≡_, List, _++_, ℕ, _+_, _-_, _*_, _≤_, arith, needs, getD, take, drop, ℤ, Printed}
 use native.Mathlib.Numerals.{add-one}
 use Rattle.geometry.specs.Vectors.{otherFrame, partsOf}
-use Rattle.printing.specs.Put.{Printed}
 use Rattle.printing.specs.PutLaws.{printed-none, printed-then}
 use Rattle.report.specs.Motion.{frameLine, frameLines}
 use Rattle.report.specs.Inner.{vectorRoom}
-use Rattle.report.proofs.motion.put_frames.Statement.{statement}
-use Rattle.report.proofs.motion.put_frames.Tie as tie
+use Rattle.report.proofs.motion.put_frames as of
 
 -- the lines of the first k frames are printed
 record Lined (before : List ℕ) (at reference : ℕ) (vectors : List ℤ) (sums : List ℕ) (others k : ℕ) (after : List ℕ) (next : ℕ) : Type 0 where
@@ -29,17 +27,17 @@ module _ (reference : ℕ) (vectors : List ℤ) (sums : List ℕ) where
   unfolding frameLines
   next-line k e = rw (add-one, parts vectors k, e)
 
-abbrev Inv-loop : tie.InvT-loop
+abbrev Inv-loop : of.Tie.InvT-loop
 Inv-loop text₀ at reference vectors others residuals next₀ k₀ text next k = Lined text₀ at reference vectors residuals others k text next
 
-abbrev μ-loop : tie.MeasureT-loop
+abbrev μ-loop : of.Tie.MeasureT-loop
 μ-loop text₀ at reference vectors others residuals next₀ k₀ text next k = others - k
 
-loop-holds : tie.Need-loop-holds Inv-loop μ-loop
+loop-holds : of.Tie.Need-loop-holds Inv-loop μ-loop
 unfolding frameLines
 loop-holds c = record { count = omega arith; bound = omega arith; printed = printed-none }
 
-loop-again : tie.Need-loop-again Inv-loop μ-loop
+loop-again : of.Tie.Need-loop-again Inv-loop μ-loop
 loop-again c =
     let printed = c .before .before .put-frame .ensures in
     let turn = c .before .before .before .before .before .before .before in
@@ -52,14 +50,14 @@ loop-again c =
       printed = rw (next-line (a .reference) (a .vectors .now) (a .t5) k (c .before .before .before .before .before .other-frame .ensures .0)) at (printed-then (omega arith) (lined .printed) (printed .0));
     }
 
-returns : tie.Need-returns Inv-loop μ-loop
+returns : of.Tie.Need-returns Inv-loop μ-loop
 returns c =
     let lined = c .before .loop .inv in
     let all : c .before .loop .k ≡ c .before .before .before .args .others = omega arith in
     rw all at (lined .printed)
 
-pub put-frames-spec : {M : Type 1} → statement M
-put-frames-spec = tie.close (tie.spec
+pub put-frames-spec : {M : Type 1} → of.Statement.statement M
+put-frames-spec = of.Tie.close (of.Tie.spec
     Inv-loop μ-loop loop-holds (λ c. search needs) (λ c. search needs) (λ c κs. search needs)
     (λ c. search needs) (λ c. search needs) (λ c. search needs) (λ c. search needs)
     (λ c. search needs) (λ c. search needs) (λ c κs. search needs) (λ c. search needs)

@@ -4,10 +4,9 @@ use lib.Seq.{length-take-le}
 use Rattle.values.specs.BoundLaws.{values-samples}
 use Rattle.report.specs.Stack.{frameOf}
 use Rattle.report.proofs.Fits.{merge-fits}
-use Rattle.report.proofs.stack.run_burst.Statement.{statement}
-use Rattle.report.proofs.stack.run_burst.Tie as tie
+use Rattle.report.proofs.stack.run_burst as of
 
-run-levels-requires : tie.Need-run-levels-requires
+run-levels-requires : of.Tie.Need-run-levels-requires
 run-levels-requires c κs =
     let start = c .before .before .before .before .before .before .before in
     let taken = start .pre .taken in
@@ -21,14 +20,14 @@ run-levels-requires c κs =
       unfiltered = λ _. refl;
     }
 
-returns : tie.Need-returns
+returns : of.Tie.Need-returns
 unfolding frameOf
 returns c =
     let ran = c .before .before .before .before in
     (ran .run-levels .ensures .result, search needs)
 
-pub run-burst-spec : {M : Type 1} → statement M
-run-burst-spec = tie.close (tie.spec
+pub run-burst-spec : {M : Type 1} → of.Statement.statement M
+run-burst-spec = of.Tie.close (of.Tie.spec
     (λ c. search needs) (λ c. search needs) (λ c. search needs)
     (λ c. sym (length-take-le _ _ (omega arith))) run-levels-requires (λ c. search needs)
     (λ c. search needs) (λ c. search needs) returns)

@@ -6,8 +6,7 @@ use mir.ValLaws.{toZ-pos}
 use Rattle.algebra.specs.Bound.{AtMost, most-fits, mul-fits}
 use Rattle.algebra.specs.Order.{zarith, abs-pn, min-pn, sub-pn, abs-mul}
 use Rattle.residuals.specs.Residual.{gap}
-use Rattle.residuals.proofs.sixteen.square.Statement.{statement}
-use Rattle.residuals.proofs.sixteen.square.Tie as tie
+use Rattle.residuals.proofs.sixteen.square as of
 
 square-positive : (z : ℤ) → T (nonNeg (z *ℤ z))
 square-positive (pos n) = tt
@@ -35,21 +34,21 @@ module _ (x y : ℕ) (hx : x ≤ 16380) (hy : y ≤ 16380) where
   square-most : natAbs ((pos x -ℤ pos y) *ℤ (pos x -ℤ pos y)) ≤ 268304400
   square-most = omega (arith, abs-mul (pos x -ℤ pos y) (pos x -ℤ pos y), mul-le-mul (low .most) (low .most))
 
-sub-d : tie.Need-sub-d
+sub-d : of.Tie.Need-sub-d
 sub-d c = let a = c .args in rw (toZ-pos w16 (a .x) (omega arith), toZ-pos w16 (a .y) (omega arith)) (fits-16 (a .x) (a .y) (c .pre .0) (c .pre .1))
 
-cast-d-3 : tie.Need-cast-d-3
+cast-d-3 : of.Tie.Need-cast-d-3
 cast-d-3 c = let a = c .args in rw (toZ-pos w16 (a .x) (omega arith), toZ-pos w16 (a .y) (omega arith), toZ-ofZ (fits-16 (a .x) (a .y) (c .pre .0) (c .pre .1))) (fits-32 (a .x) (a .y) (c .pre .0) (c .pre .1))
 
-mul-result : tie.Need-mul-result
+mul-result : of.Tie.Need-mul-result
 mul-result c = let a = c .args in rw (toZ-pos w16 (a .x) (omega arith), toZ-pos w16 (a .y) (omega arith), toZ-ofZ (fits-16 (a .x) (a .y) (c .pre .0) (c .pre .1)), toZ-ofZ (fits-32 (a .x) (a .y) (c .pre .0) (c .pre .1))) (square-fits (a .x) (a .y) (c .pre .0) (c .pre .1))
 
-cast-result : tie.Need-cast-result
+cast-result : of.Tie.Need-cast-result
 cast-result c = let a = c .args in rw (toZ-pos w16 (a .x) (omega arith), toZ-pos w16 (a .y) (omega arith), toZ-ofZ (fits-16 (a .x) (a .y) (c .pre .0) (c .pre .1)), toZ-ofZ (fits-32 (a .x) (a .y) (c .pre .0) (c .pre .1)), toZ-ofZ (square-fits (a .x) (a .y) (c .pre .0) (c .pre .1))) (square-positive (pos (a .x) -ℤ pos (a .y)), record { fits = omega (arith, square-most (a .x) (a .y) (c .pre .0) (c .pre .1)) })
 
-returns : tie.Need-returns
+returns : of.Tie.Need-returns
 returns c = let a = c .args in rw (toZ-pos w16 (a .x) (omega arith), toZ-pos w16 (a .y) (omega arith), toZ-ofZ (fits-16 (a .x) (a .y) (c .pre .0) (c .pre .1)), toZ-ofZ (fits-32 (a .x) (a .y) (c .pre .0) (c .pre .1)), toZ-ofZ (square-fits (a .x) (a .y) (c .pre .0) (c .pre .1))) (square-is (a .x) (a .y) (c .pre .0) (c .pre .1), square-most (a .x) (a .y) (c .pre .0) (c .pre .1))
 
-pub square-spec : {M : Type 1} → statement M
-square-spec = tie.close (tie.spec
+pub square-spec : {M : Type 1} → of.Statement.statement M
+square-spec = of.Tie.close (of.Tie.spec
     (λ c. search needs) (λ c. search needs) sub-d cast-d-3 mul-result cast-result returns)

@@ -1,42 +1,38 @@
 -- The sums so far are those of the rows passed.
-use Rattle.algebra.specs.Prelude.{_≡_, refl, _∙_, _-_, _≤_, arith, needs}
-use Rattle.algebra.specs.Sums.{sumN}
-use Rattle.sequences.specs.Tab.{tab}
-use Rattle.sequences.specs.Grid.{cell}
+use Rattle.roots32.specs.Prelude.{_≡_, refl, _∙_, _-_, _≤_, arith, needs, sumN, tab, cell}
 use Rattle.roots32.specs.Lanes.{lanes}
 use Rattle.roots32.proofs.Lanes.{lanes-fit, lanes-turn}
-use Rattle.roots32.proofs.squares.lane_squares.Statement.{statement}
-use Rattle.roots32.proofs.squares.lane_squares.Tie as tie
+use Rattle.roots32.proofs.squares.lane_squares as of
 
-abbrev Inv-loop : tie.InvT-loop
+abbrev Inv-loop : of.Tie.InvT-loop
 Inv-loop black tile sum₀ i₀ sum i = (i ≤ 32) × (sum ≡ lanes i black tile)
 
-abbrev μ-loop : tie.MeasureT-loop
+abbrev μ-loop : of.Tie.MeasureT-loop
 μ-loop black tile sum₀ i₀ sum i = 32 - i
 
-loop-holds : tie.Need-loop-holds Inv-loop μ-loop
+loop-holds : of.Tie.Need-loop-holds Inv-loop μ-loop
 unfolding lanes tab sumN
 loop-holds c = (omega arith, refl)
 
-add-squares-requires : tie.Need-add-squares-requires Inv-loop μ-loop
+add-squares-requires : of.Tie.Need-add-squares-requires Inv-loop μ-loop
 unfolding cell
 add-squares-requires c κs =
     let l = c .before .before .before in
     let s = l .before in
     (record { most = s .pre .most (l .loop .i) }, lanes-fit _ _ (s .pre) (l .loop .i) 31 (omega arith) (l .loop .inv .1))
 
-loop-again : tie.Need-loop-again Inv-loop μ-loop
+loop-again : of.Tie.Need-loop-again Inv-loop μ-loop
 loop-again c =
     let l = c .before .before .before .before in
     (omega arith, c .add-squares .ensures ∙ lanes-turn _ _ (l .loop .i) (l .loop .inv .1))
 
-returns : tie.Need-returns Inv-loop μ-loop
+returns : of.Tie.Need-returns Inv-loop μ-loop
 returns c =
     let l = c .before in
     let e : l .loop .i ≡ 32 = omega arith in
     (rw e at (l .loop .inv .1), lanes-fit _ _ (l .before .pre) (l .loop .i) 32 (omega arith) (l .loop .inv .1))
 
-pub lane-squares-spec : {M : Type 1} → statement M
-lane-squares-spec = tie.close (tie.spec
+pub lane-squares-spec : {M : Type 1} → of.Statement.statement M
+lane-squares-spec = of.Tie.close (of.Tie.spec
     Inv-loop μ-loop loop-holds (λ c. search needs) (λ c. search needs) add-squares-requires
     (λ c. search needs) (λ c. search needs) loop-again returns)

@@ -1,39 +1,34 @@
 -- The loop keeps the first least of the offsets tried so far and the rows that they took; the arrays are the table's.
-use Rattle.algebra.specs.Prelude.{_≡_, refl, subst, ap₂, _∙_, false, _+_, _-_, _*_, _≤_, arith, needs, lit≤, lit<, getD}
+use Rattle.search.specs.Prelude.{_≡_, refl, subst, ap₂, _∙_, false, _+_, _-_, _*_, _≤_, arith, needs, lit≤, lit<, getD, sumN, residualMost, squareRow, Left}
 use mathlib.Core.Logic.{⊎-elim}
-use Rattle.algebra.specs.Sums.{sumN}
 use Rattle.sequences.specs.Sum.{Summed, sum-start, sum-turn}
 use Rattle.sequences.specs.LeastLaws.{Lowest, lowest-start, lowest-take, lowest-keep}
-use Rattle.residuals.specs.Magnitudes.{residualMost}
 use Rattle.search.specs.Table.{downs, rights}
 use Rattle.search.specs.OffsetLaws.{parts-most}
 use Rattle.search.specs.Rows.{offsetRows}
 use Rattle.search.specs.RowLaws.{offset-rows-most}
-use Rattle.residuals.specs.Local.{squareRow}
-use Rattle.trials.specs.Trial.{Left}
 use Rattle.search.specs.Local.{windowRow}
 use Rattle.search.specs.LocalLaws.{lowest-searched}
 use Rattle.search.specs.RowLaws.{next-rows}
 use Rattle.search.specs.WindowLaws.{wide-most}
-use Rattle.search.proofs.window.wide_search.Statement.{statement}
-use Rattle.search.proofs.window.wide_search.Tie as tie
+use Rattle.search.proofs.window.wide_search as of
 
-abbrev Inv-loop : tie.InvT-loop
+abbrev Inv-loop : of.Tie.InvT-loop
 Inv-loop tile window down right best₀ low₀ rows₀ k₀ best low rows k = Lowest (λ k. sumN 32 (windowRow false tile window 32 k)) residualMost 18446744073709551615 81 k best low × Summed (offsetRows (windowRow false tile window 32) 32) 32 81 k rows
 
-abbrev μ-loop : tie.MeasureT-loop
+abbrev μ-loop : of.Tie.MeasureT-loop
 μ-loop tile window down right best₀ low₀ rows₀ k₀ best low rows k = 81 - k
 
 -- the offset's place
-down-is : (c : tie.After-wide Inv-loop μ-loop) → c .wide .result ≡ getD downs (c .before .before .loop .k) 0
+down-is : (c : of.Tie.After-wide Inv-loop μ-loop) → c .wide .result ≡ getD downs (c .before .before .loop .k) 0
 unfolding downs
 down-is c = c .wide .ensures
 
-right-is : (c : tie.After-wide2 Inv-loop μ-loop) → c .wide2 .result ≡ getD rights (c .before .before .before .loop .k) 0
+right-is : (c : of.Tie.After-wide2 Inv-loop μ-loop) → c .wide2 .result ≡ getD rights (c .before .before .before .loop .k) 0
 unfolding rights
 right-is c = c .wide2 .ensures
 
-absolute-offset-requires : tie.Need-absolute-offset-requires Inv-loop μ-loop
+absolute-offset-requires : of.Tie.Need-absolute-offset-requires Inv-loop μ-loop
 absolute-offset-requires c κs =
     let l = c .before .before .before in
     let m = parts-most (l .loop .k) (c .before .before .loop-test .taken) in
@@ -45,7 +40,7 @@ absolute-offset-requires c κs =
     }
 
 -- what trying the offset gave
-left : (c : tie.After-absolute-offset Inv-loop μ-loop) → let l = c .before .before .before .before in let a = l .before .before .before .args in Left (l .loop .low) (windowRow false (a .tile .now) (a .window .now) 32 (l .loop .k)) 32 (c .absolute-offset .result)
+left : (c : of.Tie.After-absolute-offset Inv-loop μ-loop) → let l = c .before .before .before .before in let a = l .before .before .before .args in Left (l .loop .low) (windowRow false (a .tile .now) (a .window .now) 32 (l .loop .k)) 32 (c .absolute-offset .result)
 unfolding windowRow
 left c =
     let w = c .before in
@@ -55,7 +50,7 @@ left c =
     (ap₂ (λ y x. y * 40 + x) (down-is (w .before)) (right-is w)) (c .absolute-offset .ensures)
 
 -- its rows are the rule's
-rows-are : (c : tie.After-absolute-offset Inv-loop μ-loop) → let l = c .before .before .before .before in let a = l .before .before .before .args in c .absolute-offset .result .rows ≡ offsetRows (windowRow false (a .tile .now) (a .window .now) 32) 32 (l .loop .k)
+rows-are : (c : of.Tie.After-absolute-offset Inv-loop μ-loop) → let l = c .before .before .before .before in let a = l .before .before .before .args in c .absolute-offset .result .rows ≡ offsetRows (windowRow false (a .tile .now) (a .window .now) 32) 32 (l .loop .k)
 rows-are c =
     let i = c .before .before .before in
     let l = i .before in
@@ -64,18 +59,18 @@ rows-are c =
     left c .rows-are
     ∙ next-rows (windowRow false (a .tile .now) (a .window .now) 32) 32 (l .loop .inv .0) (lit< tt) (wide-most (s .pre) (l .loop .k) (i .loop-test .taken))
 
-rows-few : (c : tie.After-absolute-offset Inv-loop μ-loop) → c .absolute-offset .result .rows ≤ 32
+rows-few : (c : of.Tie.After-absolute-offset Inv-loop μ-loop) → c .absolute-offset .result .rows ≤ 32
 rows-few c =
     let l = c .before .before .before .before in
     let a = l .before .before .before .args in
     omega (arith, rows-are c, offset-rows-most (windowRow false (a .tile .now) (a .window .now) 32) 32 (l .loop .k))
 
-add-rows : tie.Need-add-rows Inv-loop μ-loop
+add-rows : of.Tie.Need-add-rows Inv-loop μ-loop
 add-rows c =
     let l = c .before .before .before .before .before in
     omega (arith, rows-few (c .before), l .loop .inv .1 .most)
 
-loop-again : tie.Need-loop-again Inv-loop μ-loop
+loop-again : of.Tie.Need-loop-again Inv-loop μ-loop
 loop-again c =
     let t = c .before .before in
     let i = t .before .before .before in
@@ -90,11 +85,11 @@ loop-again c =
       sum-turn (l .loop .inv .1) (i .loop-test .taken) (rows-are t) (rows-few t),
     )
 
-returns : tie.Need-returns Inv-loop μ-loop
+returns : of.Tie.Need-returns Inv-loop μ-loop
 returns c = let l = c .before in lowest-searched (l .loop .inv .0) (l .loop .inv .1) (c .loop-test .left) (lit≤ tt)
 
-pub wide-search-spec : {M : Type 1} → statement M
-wide-search-spec = tie.close (tie.spec
+pub wide-search-spec : {M : Type 1} → of.Statement.statement M
+wide-search-spec = of.Tie.close (of.Tie.spec
     Inv-loop μ-loop (λ c. (lowest-start, sum-start))
     (λ c. search needs) (λ c κs. search needs) (λ c. search needs) (λ c κs. search needs)
     absolute-offset-requires add-rows (λ c. search needs) (λ c. search needs)

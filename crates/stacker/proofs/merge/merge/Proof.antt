@@ -1,27 +1,23 @@
 -- `stacker::merge::merge`: run's tests and 12, each returning before the first store; then the merge, and the clearing.
-use Rattle.algebra.specs.Prelude.{refl, sym, ap₂, subst, _∙_, _≤_, needs}
+use Rattle.stacker.specs.Prelude.{refl, sym, ap₂, subst, _∙_, _≤_, needs, sceneOf, merged, mergeRefusal}
 use Rattle.sequences.specs.ClearLaws.{zeros-length}
 use Rattle.refusals.specs.TestLaws.{stops, goes, lone}
 use Rattle.values.specs.BoundLaws.{vectors-fit}
-use Rattle.recipe.specs.Scene.{sceneOf}
-use Rattle.recipe.specs.Merged.{merged}
-use Rattle.admission.specs.Refusals.{mergeRefusal}
 use Rattle.admission.specs.AdmissionLaws.{tested-number, tested-levels}
 use Rattle.refusals.specs.AfterLaws.{kept, made}
 use Rattle.stacker.specs.AdmissionLaws.{run-passed}
 use Rattle.stacker.specs.CloseLaws.{found-close}
 use Rattle.stacker.specs.CeilingLaws.{found-capped}
-use Rattle.stacker.proofs.merge.merge.Statement.{statement}
-use Rattle.stacker.proofs.merge.merge.Tie as tie
+use Rattle.stacker.proofs.merge.merge as of
 
-returns : tie.Need-returns
+returns : of.Tie.Need-returns
 unfolding mergeRefusal
 returns c =
     let h = c .if1 .taken in
     let e = stops _ _ (tested-number _ _ (c .before .before .run-refusal .ensures .answer)) h in
     record { answer = e; result = kept _ _ _ e h; clean = kept _ _ _ e h; near = λ z. absurd (h z); ceiling = λ z. absurd (h z) }
 
-returns-2 : tie.Need-returns-2
+returns-2 : of.Tie.Need-returns-2
 unfolding mergeRefusal
 returns-2 c =
     let h = c .if2 .taken in
@@ -29,7 +25,7 @@ returns-2 c =
     let e = goes _ _ (tested-number _ _ (passed .before .before .run-refusal .ensures .answer)) (passed .if1 .left) (c .before .vector-refusal .ensures ∙ lone _) in
     record { answer = e; result = kept _ _ _ e h; clean = kept _ _ _ e h; near = λ z. absurd (h z); ceiling = λ z. absurd (h z) }
 
-merge-frames-requires : tie.Need-merge-frames-requires
+merge-frames-requires : of.Tie.Need-merge-frames-requires
 merge-frames-requires c κs =
     let lent = c .before .before in
     let passed = lent .before .before in
@@ -52,7 +48,7 @@ merge-frames-requires c κs =
       work-long = ready .fits .work-long;
     }
 
-returns-3 : tie.Need-returns-3
+returns-3 : of.Tie.Need-returns-3
 unfolding mergeRefusal
 returns-3 c =
     let merge = c .before .before .before .before .before .before in
@@ -72,8 +68,8 @@ returns-3 c =
       ceiling = λ _. found-capped _ _ (ready .fits .burst) (ready .samples-fit) _ _ _ refl is;
     }
 
-pub merge-spec : {M : Type 1} → statement M
-merge-spec = tie.close (tie.spec
+pub merge-spec : {M : Type 1} → of.Statement.statement M
+merge-spec = of.Tie.close (of.Tie.spec
     (λ c κs. search needs) (λ c. search needs) (λ c. search needs) returns (λ c κs. search needs)
     (λ c. search needs) (λ c. search needs) returns-2 merge-frames-requires (λ c κs. search needs)
     (λ c. search needs) (λ c. search needs) returns-3)

@@ -2,18 +2,17 @@
 use Rattle.algebra.specs.Prelude.{arith, needs}
 use Rattle.tiff.specs.FieldLaws.{bytes-most}
 use Rattle.tiff.specs.Fields.{fieldOutside}
-use Rattle.tiff.proofs.fields.field_outside.Statement.{statement}
-use Rattle.tiff.proofs.fields.field_outside.Tie as tie
+use Rattle.tiff.proofs.fields.field_outside as of
 
-mul-result : tie.Need-mul-result
+mul-result : of.Tie.Need-mul-result
 mul-result c = omega (arith, bytes-most (c .before .before .field .result .size) (c .before .before .before .before .args .wanted .count) 4 (omega arith) (omega arith))
 
-add-result : tie.Need-add-result
+add-result : of.Tie.Need-add-result
 add-result c = omega (arith, bytes-most (c .before .before .before .field .result .size) (c .before .before .before .before .before .args .wanted .count) 4 (omega arith) (omega arith))
 
-returns : tie.Need-returns
+returns : of.Tie.Need-returns
 unfolding fieldOutside
 returns c = rw (c .before .before .before .field .ensures .is)
 
-pub field-outside-spec : {M : Type 1} → statement M
-field-outside-spec = tie.close (tie.spec (λ c κs. search needs) mul-result add-result returns)
+pub field-outside-spec : {M : Type 1} → of.Statement.statement M
+field-outside-spec = of.Tie.close (of.Tie.spec (λ c κs. search needs) mul-result add-result returns)

@@ -1,12 +1,11 @@
 -- The three tests as they stand.
 use mathlib.Core.Path.{refl}
 use Rattle.tiff.specs.Fields.{right}
-use Rattle.tiff.proofs.fields.right.Statement.{statement}
-use Rattle.tiff.proofs.fields.right.Tie as tie
+use Rattle.tiff.proofs.fields.right as of
 
-returns : tie.Need-returns
+returns : of.Tie.Need-returns
 unfolding right
 returns c = refl
 
-pub right-spec : {M : Type 1} → statement M
-right-spec = tie.close (tie.spec returns)
+pub right-spec : {M : Type 1} → of.Statement.statement M
+right-spec = of.Tie.close (of.Tie.spec returns)

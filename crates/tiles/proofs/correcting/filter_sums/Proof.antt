@@ -1,22 +1,13 @@
 -- V' of both planes, and the filter.
-use Rattle.algebra.specs.Prelude.{_≡_, ap, subst, sym, _∙_, List, [], ℕ, _/_, _%_, _≤_, _<_, arith, pos, _+ℤ_, _*ℤ_, now}
+use Rattle.tiles.specs.Prelude.{_≡_, ap, subst, sym, _∙_, List, [], ℕ, _/_, _%_, _≤_, _<_, arith, pos, _+ℤ_, _*ℤ_, now, tab, side16, frequency, spatialNumber, Merge, SpatialRange, spatialMost, planeIn, either, copyIn, NoiseLine, NoisesMost}
 use Prim.Native.Nat.{zero-le}
-use Rattle.sequences.specs.Tab.{tab}
 use Rattle.sequences.specs.TabLaws.{tab-every}
 use Rattle.sequences.specs.Grid.{grid, cell, cell-grid, grid-ext}
-use Rattle.recipe.specs.Tables.{side16}
-use Rattle.recipe.specs.SpatialNoise.{frequency, spatialNumber}
-use Rattle.recipe.specs.declared.Merge.{Merge}
-use Rattle.noise.specs.SpatialRange.{SpatialRange}
 use Rattle.noise.specs.SpatialLaws.{frequency-most, spatial-number-most, number-folded}
-use Rattle.spectrum.specs.Magnitudes.{spatialMost}
-use Rattle.spectrum.specs.Pairs.{planeIn, either}
-use Rattle.grain.specs.Filtering.{copyIn, NoiseLine, NoisesMost}
 use Rattle.grain.specs.FilteringLaws.{step-noise}
 use Rattle.tiles.specs.Accepted.{Tuned}
 use Rattle.tiles.specs.NoiseLaws.{both}
-use Rattle.tiles.proofs.correcting.filter_sums.Statement.{statement}
-use Rattle.tiles.proofs.correcting.filter_sums.Tie as tie
+use Rattle.tiles.proofs.correcting.filter_sums as of
 
 range : {m : Merge} {root : ℕ} → Tuned m → root ≤ 65520 → SpatialRange (m .tuning .spatial) (m .shot) (m .read) root (m .shape .count)
 range t h = record { strength = t .spatial-most; shot = t .shot-most; read = t .read-most; root = h; some = t .some; few = t .few }
@@ -27,13 +18,13 @@ numbers-most f h e =
     subst (NoisesMost spatialMost) (sym e)
     (record { line = tab-every (NoiseLine spatialMost) [] (λ u. tab 9 (f u)) (record { at = λ v. zero-le }) (λ u. record { at = tab-every (λ n. n ≤ spatialMost) 0 (f u) zero-le (h u) 9 }) 9 })
 
-spatial-numbers-requires : tie.Need-spatial-numbers-requires
+spatial-numbers-requires : of.Tie.Need-spatial-numbers-requires
 spatial-numbers-requires c κs = range (c .pre .tuned) (c .pre .first-most)
 
-spatial-numbers-requires-2 : tie.Need-spatial-numbers-requires-2
+spatial-numbers-requires-2 : of.Tie.Need-spatial-numbers-requires-2
 spatial-numbers-requires-2 c κs = range (c .before .pre .tuned) (c .before .pre .second-most)
 
-filter-pair-requires : tie.Need-filter-pair-requires
+filter-pair-requires : of.Tie.Need-filter-pair-requires
 filter-pair-requires c κs =
     let b = c .before .before .before in
     let a = b .before in
@@ -54,7 +45,7 @@ either-number f first second {a} {b} d e =
     (λ u v h k. ap (λ t. cell 0 t u v) d ∙ cell-grid 0 9 9 (f first) u v h k)
     (λ u v h k. ap (λ t. cell 0 t u v) e ∙ cell-grid 0 9 9 (f second) u v h k)
 
-returns : tie.Need-returns
+returns : of.Tie.Need-returns
 returns c =
     let b = c .before .before .before .before in
     let a = b .before in
@@ -71,5 +62,5 @@ returns c =
     ∙ number-folded (m .tuning .spatial) (m .shot) (m .read) (either (g .first) (g .second) (l % 2)) n u v)
     (copyIn n (planeIn (cell 0 (now (g .t0))) (l % 2)) (planeIn (cell (pos 0) (now (g .sum))) (l % 2))) y (l / 2)))
 
-pub filter-sums-spec : {M : Type 1} → statement M
-filter-sums-spec = tie.close (tie.spec spatial-numbers-requires spatial-numbers-requires-2 filter-pair-requires returns)
+pub filter-sums-spec : {M : Type 1} → of.Statement.statement M
+filter-sums-spec = of.Tie.close (of.Tie.spec spatial-numbers-requires spatial-numbers-requires-2 filter-pair-requires returns)

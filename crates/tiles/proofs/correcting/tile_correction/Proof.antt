@@ -1,33 +1,25 @@
 -- T0 has its roots and its noise numbers, and what is taken from it is its sums, or these with the spatial filter's.
-use Rattle.algebra.specs.Prelude.{_≡_, refl, List, ℕ, suc, _+_, _*_, _≤_, _<_, arith, needs, lit≤, lit<, ℤ, now}
-use Rattle.sequences.specs.Grid.{grid, cell}
-use Rattle.recipe.specs.Tables.{side16}
-use Rattle.spectrum.specs.Magnitudes.{noiseMost, smallMost}
-use Rattle.spectrum.specs.Pairs.{sideBySide, either}
-use Rattle.recipe.specs.declared.Merge.{Merge}
+use Rattle.tiles.specs.Prelude.{_≡_, refl, List, ℕ, suc, _+_, _*_, _≤_, _<_, arith, needs, lit≤, lit<, ℤ, now, grid, cell, side16, noiseMost, smallMost, sideBySide, either, Merge, referenceTile, referenceRoot, sceneAt, SpatialRange}
 use Rattle.tiles.specs.declared.Site.{Site}
-use Rattle.recipe.specs.Scene.{referenceTile, referenceRoot, sceneAt}
-use Rattle.noise.specs.SpatialRange.{SpatialRange}
 use Rattle.tiles.specs.Accepted.{Accepted, Tuned}
 use Rattle.tiles.specs.Sum.{TileOf}
 use Rattle.tiles.specs.DifferenceLaws.{tile-fits, reference-most}
 use Rattle.tiles.specs.NoiseLaws.{both}
 use Rattle.tiles.specs.TileLaws.{root-of, number, tile-of, taken-off}
 use Rattle.tiles.proofs.Filtering.{sums-fit, sums-paired, taken-on}
-use Rattle.tiles.proofs.correcting.tile_correction.Statement.{statement}
-use Rattle.tiles.proofs.correcting.tile_correction.Tie as tie
+use Rattle.tiles.proofs.correcting.tile_correction as of
 
 sided : side16 .side ≡ 16
 unfolding side16
 sided = refl
 
 -- T0
-tile-is : (c : tie.After-pair) → let a = c .before .before .before .before .args in
+tile-is : (c : of.Tie.After-pair) → let a = c .before .before .before .before .args in
     c .pair .last .1 .1 .1 .1 .1 .1 .0 ≡ grid 16 32 (sideBySide (λ p. referenceTile (sceneAt side16 (a .m) (now (a .samples)) (now (a .vectors))) (a .site .parity) p (a .site .row) (a .site .column)))
 unfolding referenceTile sceneAt
 tile-is c = c .pair .ensures
 
-pair-roots-requires : tie.Need-pair-roots-requires
+pair-roots-requires : of.Tie.Need-pair-roots-requires
 unfolding cell
 pair-roots-requires c κs =
     let t = c .before .before .before in
@@ -35,11 +27,11 @@ pair-roots-requires c κs =
     let fits = tile-fits 16 _ (reference-most side16 (s .pre .accepted) (s .pre .sited)) (tile-is t) in
     record { most = λ i l. fits .row i .most l }
 
-abbrev rootsOf : tie.After-tile-noise2 → ℕ → ℕ
+abbrev rootsOf : of.Tie.After-tile-noise2 → ℕ → ℕ
 rootsOf c = either (c .before .before .pair-roots .result .first) (c .before .before .pair-roots .result .second)
 
 -- r of either plane
-roots-known : (c : tie.After-tile-noise2) → let a = c .before .before .before .before .before .before .before .before .before .before .args in
+roots-known : (c : of.Tie.After-tile-noise2) → let a = c .before .before .before .before .before .before .before .before .before .before .args in
     (p : ℕ) → p < 2 → rootsOf c p ≡ referenceRoot (sceneAt side16 (a .m) (now (a .samples)) (now (a .vectors))) (a .site .parity) p (a .site .row) (a .site .column)
 roots-known c =
     let r = c .before .before in
@@ -50,7 +42,7 @@ roots-known c =
     (root-of 16 side16 sided (a .m) (now (a .samples)) (now (a .vectors)) (a .site) (tile-is t) 0 (lit< tt) (λ j. 2 * j) (λ j. omega arith) (b .before .plane-black .ensures) (r .pair-roots .ensures .first))
     (root-of 16 side16 sided (a .m) (now (a .samples)) (now (a .vectors)) (a .site) (tile-is t) 1 (lit< tt) (λ j. 2 * j + 1) (λ j. omega arith) (b .plane-black2 .ensures) (r .pair-roots .ensures .second))
 
-known : (c : tie.After-tile-noise2) → let t = c .before .before .before .before .before .before in let a = t .before .before .before .before .args in
+known : (c : of.Tie.After-tile-noise2) → let t = c .before .before .before .before .before .before in let a = t .before .before .before .before .args in
     TileOf 16 noiseMost (sceneAt side16 (a .m) (now (a .samples)) (now (a .vectors))) (a .site) (t .pair .last .1 .1 .1 .1 .1 .1 .0) (c .before .tile-noise .result) (c .tile-noise2 .result)
 known c =
     let v = c .before in
@@ -61,13 +53,13 @@ known c =
     (number 16 side16 sided (a .m) (now (a .samples)) (now (a .vectors)) (a .site) (tile-is t) 1 (roots-known c 1 (lit< tt)) (c .tile-noise2 .ensures .0))
     (v .tile-noise .ensures .1) (c .tile-noise2 .ensures .1)
 
-summed-requires : tie.Need-summed-requires
+summed-requires : of.Tie.Need-summed-requires
 summed-requires c κs =
     let n = c .before .before in
     let s = n .before .before .before .before .before .before .before .before .before .before in
     record { accepted = s .pre .accepted; sited = s .pre .sited; tile = known n; cleared = s .pre .cleared }
 
-returns : tie.Need-returns
+returns : of.Tie.Need-returns
 unfolding sceneAt
 returns c =
     let u = c .before .before in
@@ -83,7 +75,7 @@ frames-are ok = let h = ok .burst .allowed .some in omega arith
 tuned : {m : Merge} {samples : List ℕ} {vectors : List ℤ} → Accepted 16 m samples vectors → Tuned m
 tuned ok = record { some = ok .burst .allowed .some; few = ok .burst .allowed .few; shot-most = ok .shot-most; read-most = ok .read-most; spatial-most = ok .spatial-most }
 
-filter-sums-requires : tie.Need-filter-sums-requires
+filter-sums-requires : of.Tie.Need-filter-sums-requires
 filter-sums-requires c κs =
     let u = c .before .before .before .before in
     let n = u .before .before .before in
@@ -100,7 +92,7 @@ filter-sums-requires c κs =
       paired = sums-paired (u .summed .ensures);
     }
 
-returns-2 : tie.Need-returns-2
+returns-2 : of.Tie.Need-returns-2
 returns-2 c =
     let u = c .before .before .before .before .before in
     let n = u .before .before .before in
@@ -115,8 +107,8 @@ returns-2 c =
     (both (λ p. SpatialRange (a .m .tuning .spatial) (a .m .shot) (a .m .read) (rootsOf n p) (a .m .shape .count)) (range _ (r .pair-roots .ensures .first-most)) (range _ (r .pair-roots .ensures .second-most)))
     (c .filter-sums .ensures)
 
-pub tile-correction-spec : {M : Type 1} → statement M
-tile-correction-spec = tie.close (tie.spec
+pub tile-correction-spec : {M : Type 1} → of.Statement.statement M
+tile-correction-spec = of.Tie.close (of.Tie.spec
     (λ c κs. search needs) (λ c κs. search needs) (λ c κs. search needs) pair-roots-requires
     (λ c κs. search needs) (λ c κs. search needs) summed-requires returns filter-sums-requires
     returns-2)

@@ -3,13 +3,12 @@ use Rattle.algebra.specs.Prelude.{_≡_, ap, _∙_, arith, needs, pos, _+ℤ_, 
 use Rattle.algebra.specs.Order.{abs-add}
 use Rattle.algebra.specs.Bound.{add-most, most-fits}
 use Rattle.tiles.specs.SignedLaws.{sum-is, sum-most, wide-fits, wide-most}
-use Rattle.tiles.proofs.reading.moved.Statement.{statement}
-use Rattle.tiles.proofs.reading.moved.Tie as tie
+use Rattle.tiles.proofs.reading.moved as of
 
-add-result : tie.Need-add-result
+add-result : of.Tie.Need-add-result
 add-result c = most-fits w64 _ _ (sum-most (c .origin .ensures .1) (wide-most (c .before .fits .part)) tt tt) tt
 
-returns : tie.Need-returns
+returns : of.Tie.Need-returns
 returns c =
     let part = c .before .fits .part in
     let back : toZ w64 (ofZ w64 (toZ w64 (ofZ w64 (c .origin .result)) +ℤ toZ w64 (ofZ w64 (toZ w32 (ofZ w32 (c .before .args .part)))))) ≡ c .origin .result +ℤ c .before .args .part =
@@ -21,6 +20,6 @@ returns c =
       beside = rw back (record { near = omega (arith, far, abs-add (c .origin .result +ℤ c .before .args .part) (pos 16)) });
     }
 
-pub moved-spec : {M : Type 1} → statement M
-moved-spec = tie.close (tie.spec
+pub moved-spec : {M : Type 1} → of.Statement.statement M
+moved-spec = of.Tie.close (of.Tie.spec
     (λ c κs. search needs) (λ c. wide-fits (c .before .fits .part)) add-result returns)

@@ -2,19 +2,18 @@
 use Rattle.algebra.specs.Prelude.{refl, _*_, _%_, _≤_, arith, needs}
 use native.Mathlib.Nat.{mul-le-mul, mul-le-mul-right}
 use Rattle.tiles.specs.Rows.{rowWords, slotOf}
-use Rattle.tiles.proofs.rows.slot.Statement.{statement}
-use Rattle.tiles.proofs.rows.slot.Tie as tie
+use Rattle.tiles.proofs.rows.slot as of
 
-words : (c : tie.Start) → 2 * c .args .side * c .args .width ≤ 262144
+words : (c : of.Tie.Start) → 2 * c .args .side * c .args .width ≤ 262144
 words c = mul-le-mul {n₁ = 2 * c .args .side} {m₁ = c .args .width} {n₂ = 64} {m₂ = 4096} (omega (arith, c .pre .0)) (c .pre .1)
 
-half : (c : tie.Start) → c .args .row % 2 * (2 * c .args .side * c .args .width) ≤ 1 * (2 * c .args .side * c .args .width)
+half : (c : of.Tie.Start) → c .args .row % 2 * (2 * c .args .side * c .args .width) ≤ 1 * (2 * c .args .side * c .args .width)
 half c = mul-le-mul-right _ (omega arith)
 
-returns : tie.Need-returns
+returns : of.Tie.Need-returns
 unfolding slotOf rowWords
 returns c = record { is = refl; in-area = omega (arith, half c); most = omega (arith, half c, words c) }
 
-pub slot-spec : {M : Type 1} → statement M
-slot-spec = tie.close (tie.spec
+pub slot-spec : {M : Type 1} → of.Statement.statement M
+slot-spec = of.Tie.close (of.Tie.spec
     (λ c. search needs) (λ c. omega (arith, words c)) (λ c. omega (arith, half c, words c)) returns)

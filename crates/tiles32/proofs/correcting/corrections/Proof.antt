@@ -1,38 +1,33 @@
 -- The sum goes on by one frame a turn.
-use Rattle.algebra.specs.Prelude.{_≡_, refl, sym, subst, _-_, _≤_, arith, needs, lit≤, eqb, length}
+use Rattle.tiles32.specs.Prelude.{_≡_, refl, sym, subst, _-_, _≤_, arith, needs, lit≤, eqb, length, tab, side32, sceneAt, longNoiseMost}
 use lib.Ieee.{nan, binary64, ofBits}
-use Rattle.sequences.specs.Tab.{tab}
 use Rattle.sequences.specs.Grid.{grid, grid-of}
-use Rattle.recipe.specs.Tables32.{side32}
-use Rattle.recipe.specs.Scene.{sceneAt}
 use Rattle.lines.specs.Lines.{TileMost}
 use Rattle.lines.specs.Magnitudes.{differenceMost}
 use Rattle.spectrum.specs.LongPairs.{LongPaired}
-use Rattle.spectrum.specs.Magnitudes.{longNoiseMost}
 use Rattle.tiles32.specs.Sizes.{longSmallMost, correction-small-32}
 use Rattle.spectrum.specs.Apart.{cond-cases}
 use Rattle.tiles.specs.DifferenceLaws.{pair-rows, tile-most}
 use Rattle.tiles.specs.SumLaws.{Summing, sum-start, sum-turn, sum-paired, sum-small, sum-done}
-use Rattle.tiles32.proofs.correcting.corrections.Statement.{statement}
-use Rattle.tiles32.proofs.correcting.corrections.Tie as tie
+use Rattle.tiles32.proofs.correcting.corrections as of
 
-abbrev Inv-loop : tie.InvT-loop
+abbrev Inv-loop : of.Tie.InvT-loop
 Inv-loop m samples vectors site t0 first second sum₀ others tz₀ d₀ b₀ k₀ sum tz d b k = record { sums : Summing 32 longSmallMost (sceneAt side32 m samples vectors) site k sum; tz-rows : length tz ≡ 32; d-rows : length d ≡ 32; spare : LongPaired nan b }
 
-abbrev μ-loop : tie.MeasureT-loop
+abbrev μ-loop : of.Tie.MeasureT-loop
 μ-loop m samples vectors site t0 first second sum₀ others tz₀ d₀ b₀ k₀ sum tz d b k = others - k
 
-loop-holds : tie.Need-loop-holds Inv-loop μ-loop
+loop-holds : of.Tie.Need-loop-holds Inv-loop μ-loop
 unfolding sceneAt side32 grid tab
 loop-holds c = record { sums = sum-start refl (omega arith) (c .before .before .pre .cleared); tz-rows = refl; d-rows = refl; spare = record { is = grid-of nan 32 64 (λ y l. ofBits binary64 0) refl } }
 
-differences-requires : tie.Need-differences-requires Inv-loop μ-loop
+differences-requires : of.Tie.Need-differences-requires Inv-loop μ-loop
 differences-requires c κs =
     let l = c .before .before .before in
     let s = l .before .before .before in
     record { accepted = s .pre .accepted; sited = s .pre .sited; frame = omega arith; tile = s .pre .tile .is; tz-rows = l .loop .inv .tz-rows; d-rows = l .loop .inv .d-rows }
 
-add-corrections-requires : tie.Need-add-corrections-requires Inv-loop μ-loop
+add-corrections-requires : of.Tie.Need-add-corrections-requires Inv-loop μ-loop
 add-corrections-requires c κs =
     let d = c .before .before .before in
     let l = d .before .before .before .before in
@@ -46,7 +41,7 @@ add-corrections-requires c κs =
       paired = record { is = sum-paired (l .loop .inv .sums) };
     }
 
-loop-again : tie.Need-loop-again Inv-loop μ-loop
+loop-again : of.Tie.Need-loop-again Inv-loop μ-loop
 unfolding sceneAt
 loop-again c =
     let d = c .before .before .before .before in
@@ -60,11 +55,11 @@ loop-again c =
       spare = c .add-corrections .ensures .spare;
     }
 
-returns : tie.Need-returns Inv-loop μ-loop
+returns : of.Tie.Need-returns Inv-loop μ-loop
 unfolding sceneAt
 returns c = sum-done (c .before .loop .inv .sums) (omega arith)
 
-pub corrections-spec : {M : Type 1} → statement M
-corrections-spec = tie.close (tie.spec
+pub corrections-spec : {M : Type 1} → of.Statement.statement M
+corrections-spec = of.Tie.close (of.Tie.spec
     Inv-loop μ-loop (λ c. search needs) loop-holds differences-requires add-corrections-requires
     (λ c. search needs) (λ c. omega arith) loop-again returns)

@@ -3,11 +3,10 @@ use Rattle.algebra.specs.Prelude.{needs}
 use Rattle.tiles32.specs.Sizes.{longSmallMost}
 use Rattle.tiles.specs.SumLaws.{zero-summed}
 use Rattle.tiles.specs.NoiseLaws.{no-noise-of}
-use Rattle.tiles32.proofs.correcting.summed.Statement.{statement}
-use Rattle.tiles32.proofs.correcting.summed.Tie as tie
+use Rattle.tiles32.proofs.correcting.summed as of
 
-returns : tie.Need-returns
+returns : of.Tie.Need-returns
 returns c = let s = c .before .before in zero-summed 32 longSmallMost (no-noise-of (s .pre .tile) (c .if1 .taken)) (s .pre .cleared)
 
-pub summed-spec : {M : Type 1} → statement M
-summed-spec = tie.close (tie.spec (λ c. search needs) returns (λ c κs. c .before .before .before .pre) (λ c. search needs))
+pub summed-spec : {M : Type 1} → of.Statement.statement M
+summed-spec = of.Tie.close (of.Tie.spec (λ c. search needs) returns (λ c κs. c .before .before .before .pre) (λ c. search needs))

@@ -1,15 +1,12 @@
 -- The view's pair at the moved origins, cell by cell.
 use Rattle.algebra.specs.Prelude.{_≡_, refl, ap, ap₂, _∙_, _/_, needs, _+ℤ_, w64, toZ, ofZ, toZ-ofZ, now}
 use Rattle.sequences.specs.Grid.{grid-ext}
-use Rattle.geometry.specs.Read.{sampleAt}
+use Rattle.tiles32.specs.Prelude.{sampleAt, side32, tileAt}
 use Rattle.geometry.specs.Tiles.{origin}
 use Rattle.plane_view.specs.View.{pairOf}
-use Rattle.recipe.specs.Tables32.{side32}
-use Rattle.recipe.specs.Scene.{tileAt}
-use Rattle.tiles32.proofs.reading.pair.Statement.{statement}
-use Rattle.tiles32.proofs.reading.pair.Tie as tie
+use Rattle.tiles32.proofs.reading.pair as of
 
-returns : tie.Need-returns
+returns : of.Tie.Need-returns
 unfolding pairOf tileAt side32
 returns c =
     let s = c .before .before .before .before .before in
@@ -24,6 +21,6 @@ returns c =
     (ex ∙ x .ensures .is ∙ ap (λ z. origin 16 (a .site .column) +ℤ z) (toZ-ofZ (s .fits .right)))
     ∙ grid-ext 32 64 _ _ (λ i l _ _. refl)
 
-pub pair-spec : {M : Type 1} → statement M
-pair-spec = tie.close (tie.spec
+pub pair-spec : {M : Type 1} → of.Statement.statement M
+pair-spec = of.Tie.close (of.Tie.spec
     (λ c κs. search needs) (λ c κs. search needs) (λ c κs. search needs) returns)

@@ -3,20 +3,19 @@ use Rattle.algebra.specs.Prelude.{_≡_, refl, ℕ, suc, _≤_, arith, needs}
 use Prim.Native.Nat.{zero-le}
 use Rattle.words.specs.Words.{wordTable, wordsOf}
 use Rattle.words.specs.WordLaws.{past, said}
-use Rattle.words.proofs.table.put_burst_words.Statement.{statement}
-use Rattle.words.proofs.table.put_burst_words.Tie as tie
+use Rattle.words.proofs.table.put_burst_words as of
 
 -- the last number is the one that is left
-last : (c : tie.After-put-bytes8) → c .before .before .before .before .before .args .number ≡ 7
+last : (c : of.Tie.After-put-bytes8) → c .before .before .before .before .before .args .number ≡ 7
 last c =
     let none = c .before .before .before .match .rest in
     let start = c .before .before .before .before .before in
     let least : 7 ≤ start .args .number = past (past (past (past (past (past (past (zero-le) (none .0 .0 .0 .0 .0 .0 .1)) (none .0 .0 .0 .0 .0 .1)) (none .0 .0 .0 .0 .1)) (none .0 .0 .0 .1)) (none .0 .0 .1)) (none .0 .1)) (none .1) in
     omega arith
 
-pub put-burst-words-spec : {M : Type 1} → statement M
+pub put-burst-words-spec : {M : Type 1} → of.Statement.statement M
 unfolding wordsOf wordTable
-put-burst-words-spec = tie.close (tie.spec
+put-burst-words-spec = of.Tie.close (of.Tie.spec
     (λ c. search needs) (λ c κs. search needs)
     (λ c. search needs) (λ c κs. search needs)
     (λ c. search needs) (λ c κs. search needs)

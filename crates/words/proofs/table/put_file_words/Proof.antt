@@ -2,20 +2,19 @@
 use Rattle.algebra.specs.Prelude.{_≡_, refl, ℕ, suc, _≤_, arith, needs}
 use Rattle.words.specs.Words.{wordTable, wordsOf}
 use Rattle.words.specs.WordLaws.{past, said}
-use Rattle.words.proofs.table.put_file_words.Statement.{statement}
-use Rattle.words.proofs.table.put_file_words.Tie as tie
+use Rattle.words.proofs.table.put_file_words as of
 
 -- the last number is the one that is left
-last : (c : tie.After-put-bytes12) → c .before .before .before .before .before .args .number ≡ 27
+last : (c : of.Tie.After-put-bytes12) → c .before .before .before .before .before .args .number ≡ 27
 last c =
     let none = c .before .before .before .match .rest in
     let start = c .before .before .before .before .before in
     let least : 27 ≤ start .args .number = past (past (past (past (past (past (past (past (past (past (past (start .pre .1 .0) (none .0 .0 .0 .0 .0 .0 .0 .0 .0 .0 .1)) (none .0 .0 .0 .0 .0 .0 .0 .0 .0 .1)) (none .0 .0 .0 .0 .0 .0 .0 .0 .1)) (none .0 .0 .0 .0 .0 .0 .0 .1)) (none .0 .0 .0 .0 .0 .0 .1)) (none .0 .0 .0 .0 .0 .1)) (none .0 .0 .0 .0 .1)) (none .0 .0 .0 .1)) (none .0 .0 .1)) (none .0 .1)) (none .1) in
     omega arith
 
-pub put-file-words-spec : {M : Type 1} → statement M
+pub put-file-words-spec : {M : Type 1} → of.Statement.statement M
 unfolding wordsOf wordTable
-put-file-words-spec = tie.close (tie.spec
+put-file-words-spec = of.Tie.close (of.Tie.spec
     (λ c. search needs) (λ c κs. search needs)
     (λ c. search needs) (λ c κs. search needs)
     (λ c. search needs) (λ c κs. search needs)
