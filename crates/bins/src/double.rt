@@ -1,12 +1,10 @@
 // The Wiener step at one bin in double: Q from B, the quotients V/(|Q|² + V) and G, and whether the quotients leave a doubt. V and W = V·(1 + 2^-51) are given
 // as doubles, and so are the parts of B. Each number but the quotients is a whole one, and each rounding to one is a sum with 1.5·2^52, from which that is taken
 // off again.
+use rounding::MIDDLE;
 ghost use Rattle.bins.specs.Prelude.{_≡_, true, getD, nan};
 ghost use Rattle.floats.specs.QuotientLaws.{certain};
 ghost use Rattle.bins.specs.Doubles.{nearestWhole, quantizedIn, quotientsIn, gainsIn, Sure, realGainIn};
-
-// 1.5·2^52: a sum with it has units of 1
-const MIDDLE: f64 = 6755399441055744.0;
 
 // 2^-24·(1 + 2^-52): the last bits make a half more than a half, so that it is rounded away from zero
 const BY_2_24: f64 = 0.000000059604644775390638234889800848443;

@@ -19,7 +19,7 @@ fn end_row(next: usize, over: bool) -> Passage
     Passage::Found { next }
 }
 
-const SAMPLE_MOST: u64 = 4095;
+pub const SAMPLE_MOST: u64 = 4095;
 
 // One row: 15, 14, 11.
 fn check_row(file: &[u8], at: usize, width: usize) -> Passage

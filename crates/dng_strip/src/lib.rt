@@ -1,4 +1,5 @@
 // The samples of a DNG file's strip: refusal 11, and their storing.
+use geometry::SAMPLE_MOST;
 ghost use Rattle.algebra.specs.Prelude.{_≡_, _+_, _*_, _%_, _≤_, ltb, length};
 ghost use Rattle.refusals.specs.Some.{some};
 ghost use Rattle.sequences.specs.Written.{written};
@@ -21,8 +22,6 @@ fn word_bits(file: &[u8], from: usize) -> u16
     }
     seen
 }
-
-const SAMPLE_MOST: u16 = 4095;
 
 // Refusal 11.
 pub fn strip_refusal(file: &[u8], start: usize, count: usize) -> u64

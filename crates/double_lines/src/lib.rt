@@ -1,18 +1,13 @@
 // The transforms of two lines of sixteen numbers side by side, folded as in `whole_lines`, in double: no number on the way is above 2^53, so each is exact.
 // Number n of line p stands at 2n + p.
+use lines::sixteen::C0;
+use lines::sixteen::C1;
+use lines::sixteen::C2;
+use lines::sixteen::C3;
 ghost use Rattle.double_lines.specs.Prelude.{_≡_, [], _∷_, _+_, _*_, _/_, _%_, _<_, pos, _+ℤ_, _-ℤ_, length, getD, halfcomplex, folded};
 ghost use Rattle.lines.specs.Magnitudes.{pairLineMost, pairSumMost};
 ghost use Rattle.lines.specs.Lines.{LineMost};
 ghost use Rattle.lines.specs.Doubles.{doubleLine, From};
-
-// C(0) to C(3)
-const C0: f64 = 16384.0;
-
-const C1: f64 = 15137.0;
-
-const C2: f64 = 11585.0;
-
-const C3: f64 = 6270.0;
 
 // The sums of numbers half a line apart, for the even places.
 fn sums(x: &[i32; 32]) -> [f64; 16]

@@ -1,26 +1,17 @@
 // The transforms of two lines of thirty-two numbers side by side, folded in halves, in double: no number on the way is above 2^53, so each is exact. The even
 // places are those of the sums' lines of sixteen, with the kernels of `double_lines`; the odd places have a kernel of their own. Number n of line p stands at
 // 2n + p.
+use lines::thirty_two::C0;
+use lines::thirty_two::C1;
+use lines::thirty_two::C2;
+use lines::thirty_two::C3;
+use lines::thirty_two::C4;
+use lines::thirty_two::C5;
+use lines::thirty_two::C6;
+use lines::thirty_two::C7;
 ghost use Rattle.double_lines32.specs.Prelude.{_≡_, ℕ, _+_, _*_, _/_, _%_, _<_, ℤ, pos, _+ℤ_, _-ℤ_, length, getD, side16, side32, halfcomplexOf, foldedOf, everySecond, longLineMost, longSumMost, doubleLine, From};
 ghost use Rattle.lines.specs.Lines.{LineMost};
 ghost use Rattle.double_lines32.specs.Parts.{Halved, InParts};
-
-// C(0) to C(7)
-const C0: f64 = 16384.0;
-
-const C1: f64 = 16069.0;
-
-const C2: f64 = 15137.0;
-
-const C3: f64 = 13623.0;
-
-const C4: f64 = 11585.0;
-
-const C5: f64 = 9102.0;
-
-const C6: f64 = 6270.0;
-
-const C7: f64 = 3196.0;
 
 // The sums of numbers half a line apart, for the even places.
 fn sums(x: &[i32; 64]) -> [f64; 32]

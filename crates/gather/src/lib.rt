@@ -1,4 +1,5 @@
 // A row of the output: at each sample the corrections of the four tiles over it, windowed, and the sample less their sum, rounded and held to 0..4095.
+use geometry::SAMPLE_MOST;
 ghost use Rattle.gather.specs.Prelude.{_≡_, _+_, _-_, _*_, _/_, _%_, _≤_, _<_, _^_, pos, natAbs, _+ℤ_, _-ℤ_, _*ℤ_, length, getD, shrZ, AtMost, clampZ, TileSide, side16, sideOf, takenMost};
 ghost use Rattle.sequences.specs.Written.{written};
 ghost use Rattle.gather.specs.Gather.{windowTable, Weights, corrected, windowed, wordOver};
@@ -110,9 +111,6 @@ fn scaled(t0: u16, sum: i64, count: usize) -> i64
 {
     t0 as i64 * count as i64 + ((count as i64 * HALF_2_32 - sum) >> 32)
 }
-
-// Samples are 0 to 4095.
-const SAMPLE_MOST: u16 = 4095;
 
 const SAMPLE_VALUES: i64 = 4096;
 

@@ -6,6 +6,9 @@ pub mod vectors;
 ghost use mathlib.Core.Path.{_≡_};
 ghost use Rattle.geometry.specs.Shape.{shaped};
 
+// Samples are 0 to 4095.
+pub const SAMPLE_MOST: u16 = 4095;
+
 // A burst's frames: `count` of them, each of `height` rows of `width` samples. A row takes `pitch` words: those after its samples are spare. `side` is
 // that of level 0's tiles, which are the merge's as well.
 pub struct Shape {

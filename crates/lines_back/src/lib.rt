@@ -1,19 +1,14 @@
 // The transposed transform of a halfcomplex line in double, for columns, and half of it for two rows side by side, folded in halves as the transform is:
 // from number n to number n + 8 the even places' sum stays and the odd places' sum changes its sign. No number on the way is above 2^53, so each is exact.
 // Number n of row p stands at 2n + p.
+use lines::sixteen::C0;
+use lines::sixteen::C1;
+use lines::sixteen::C2;
+use lines::sixteen::C3;
 ghost use Rattle.lines_back.specs.Prelude.{_≡_, true, false, [], _∷_, _+_, _*_, _/_, _%_, _^_, _<_, pos, _+ℤ_, _-ℤ_, length, tab, binary64, ofInt, toSigned, side16, backward, halfSum, evenSum, oddSum, evenHalf, foldMost, columnMost, doubleLine, From, HalvesOf, WholeDouble, WholeRow, joinedAt};
 
-// C(0) to C(3)
-const C0: f64 = 16384.0;
-
-const C1: f64 = 15137.0;
-
-const C2: f64 = 11585.0;
-
-const C3: f64 = 6270.0;
-
 // and half of C(0)
-const HALF_C0: f64 = 8192.0;
+pub const HALF_C0: f64 = 8192.0;
 
 // The even places' sum at the numbers 0 to 7, z[k] being place 2k; of places 0 and 8 with the cosine `own`: 16384, or half of it. From number n to number
 // n + 4 what places 2, 6, 10 and 14 add changes its sign.

@@ -2,29 +2,20 @@
 // number n to number n + 16 the even places' sum stays and the odd places' sum changes its sign. The even places are summed as a line of sixteen, by `lines_back`.
 // No number on the way is above 2^53, so each is exact; where noise is not low, half of a row's sum is added up in 64 bits from four such sums. Number n of row p
 // stands at 2n + p.
+use lines::thirty_two::C1;
+use lines::thirty_two::C2;
+use lines::thirty_two::C3;
+use lines::thirty_two::C4;
+use lines::thirty_two::C5;
+use lines::thirty_two::C6;
+use lines::thirty_two::C7;
+use lines_back::HALF_C0;
 use lines_back::halves_of;
 use lines_back::whole_difference;
 use lines_back::whole_halves_of;
 use lines_back::whole_sum;
 ghost use Rattle.lines_back32.specs.Prelude.{_≡_, true, false, _+_, _*_, _/_, _%_, _<_, length, getD, nan, tab, side32, backwardOf, halfSumOf, oddSumOf, longFoldMost, longColumnMost, doubleLine, From, HalvesOf, WholeLine};
 ghost use Rattle.lines_back32.specs.Parts.{cosinePart, sinePart, InParts};
-
-// half of C(0), and C(1) to C(7)
-const HALF_C0: f64 = 8192.0;
-
-const C1: f64 = 16069.0;
-
-const C2: f64 = 15137.0;
-
-const C3: f64 = 13623.0;
-
-const C4: f64 = 11585.0;
-
-const C5: f64 = 9102.0;
-
-const C6: f64 = 6270.0;
-
-const C7: f64 = 3196.0;
 
 // What the real parts of the odd places, z[k] being place 2k + 1, add to their sum at the numbers 0, 2, 4 and 6, half of it at 0: places 2k + 1 and 15 − 2k
 // share a cosine there.

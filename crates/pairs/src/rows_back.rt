@@ -1,18 +1,12 @@
 // The second pass of the inverse, along the rows of a pair that the pass down the columns leaves: half of each sum back, which over 2^31 is P. Where
 // noise is low that is below 5·2^49, and all is in double; else it is made of its two parts in 64 bits. A row's step is called from two places, so that it is
 // compiled by itself.
+use rounding::BY_2_31;
+use rounding::MIDDLE;
+use rounding::MIDDLE_BITS;
 use rounding::round_away_31;
 ghost use Rattle.pairs.specs.Prelude.{_≡_, true, false, _+_, _*_, _/_, _%_, _^_, pos, _+ℤ_, length, getD, AtMost, away, tab, halfSum, LineMost, TileMost, WholeDouble, WholeRow, columnMost, halfMost, Paired, InDouble, planeIn, added};
 ghost use Rattle.pairs.specs.Rounded.{roundedDouble};
-
-// 2^-31·(1 + 2^-52): a product with it lies above the quotient by 2^31, by too little for anything but a half to be rounded otherwise
-const BY_2_31: f64 = 0.00000000046566128730773936121007656912846;
-
-// 1.5·2^52: a sum with it has units of 1
-const MIDDLE: f64 = 6755399441055744.0;
-
-// and its bits
-const MIDDLE_BITS: i64 = 4843621399236968448;
 
 // x over 2^31, to nearest, halves away from zero.
 fn rounded(x: f64) -> i64

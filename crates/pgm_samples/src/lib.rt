@@ -1,4 +1,5 @@
 // The samples of a PGM file: the test of them, and the two bytes of each, put and read. The loops have no branches, so that they become vector instructions.
+use geometry::SAMPLE_MOST;
 ghost use Rattle.algebra.specs.Prelude.{_≡_, _+_, _*_, _%_, _≤_, ltb, length, getD, drop};
 ghost use Rattle.sequences.specs.Write.{written};
 ghost use Rattle.refusals.specs.Some.{some};
@@ -17,8 +18,6 @@ fn bits(frame: &[u16]) -> u16
     }
     seen
 }
-
-const SAMPLE_MOST: u16 = 4095;
 
 // Refusal 11 of a frame.
 pub fn frame_refusal(frame: &[u16]) -> u64

@@ -2,6 +2,15 @@
 ghost use Rattle.algebra.specs.Prelude.{_≡_, _-_, _≤_, _<_, _^_, pos, natAbs, negℤ};
 ghost use Rattle.algebra.specs.Nearest.{away, upward};
 
+// 1.5·2^52: a sum with it has units of 1
+pub const MIDDLE: f64 = 6755399441055744.0;
+
+// and its bits
+pub const MIDDLE_BITS: i64 = 4843621399236968448;
+
+// 2^-31·(1 + 2^-52): a product with it lies above the quotient by 2^31, by too little for anything but a half to be rounded otherwise
+pub const BY_2_31: f64 = 0.00000000046566128730773936121007656912846;
+
 // |z|
 pub fn magnitude(z: i64) -> u64
     requires { ⌜ natAbs z < 2 ^ 63 ⌝ }

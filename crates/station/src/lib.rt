@@ -1,4 +1,5 @@
 // The capture station's questions, for C. Each is total: it answers for every argument.
+use burst_file::SAMPLE_MOST;
 ghost use mathlib.Core.Path.{_≡_};
 ghost use Rattle.limits.specs.Question.{lengthQuestion};
 ghost use Rattle.burst_file.specs.Reading.{fileCheck};
@@ -22,9 +23,6 @@ pub extern "C" fn station_length(
     limits::question::length_question(width, height, count, side, row_length, number)
 }
 
-// The root of a tile whose samples are all 4095 is that times its side.
-const SAMPLE_MOST: u64 = 4095;
-
 // V of a curve, a strength, a root and a side; 0 where refusal 8, 9, 10 or 22 would stand, or the root exceeds that.
 #[no_mangle]
 pub extern "C" fn station_noise(shot: f64, read: f64, strength: u64, root: u64, side: u64) -> u64
@@ -39,6 +37,7 @@ pub extern "C" fn station_noise(shot: f64, read: f64, strength: u64, root: u64, 
             if !sizes::side_allowed(side as usize) {
                 return 0;
             }
+            // The root of a tile whose samples are all 4095 is that times its side.
             if SAMPLE_MOST * side < root {
                 return 0;
             }

@@ -13,7 +13,7 @@ ghost use Rattle.spectrum.specs.Magnitudes.{noiseMost};
 ghost use Rattle.wiener.specs.DoubleQuads.{newQuad, Shrunk};
 
 // 1 + 2^-51
-const SLIGHTLY_MORE: f64 = 1.0000000000000004440892098500626;
+pub const SLIGHTLY_MORE: f64 = 1.0000000000000004440892098500626;
 
 // The quads at u = 0 and v = 0: four real bins.
 fn corner(b: &mut [[f64; 32]; 16], v: &[f64; 16], w: &[f64; 16]) -> bool

@@ -7,13 +7,11 @@ use bins::long::sure;
 use bins::long::sure_lanes;
 use quads32::quad_at;
 use quads32::set_quad;
+use wiener::SLIGHTLY_MORE;
 ghost use Rattle.wiener32.specs.Prelude.{_≡_, true, _+_, _*_, _%_, _≤_, _<_, nan, either, LongPaired, LongGainsOf, cell, quadAt, Lanes, newQuadBy};
 ghost use Rattle.sequences.specs.Tab.{tab};
 ghost use Rattle.spectrum.specs.Magnitudes.{longNoiseMost};
 ghost use Rattle.wiener32.specs.DoubleQuads.{Shrunk};
-
-// 1 + 2^-51
-const SLIGHTLY_MORE: f64 = 1.0000000000000004440892098500626;
 
 // The quads at u = 0 and v = 0: four real bins.
 fn corner(b: &mut [[f64; 64]; 32], v: &[f64; 32], w: &[f64; 32]) -> bool
