@@ -12,16 +12,16 @@ abbrev μ-loop : of.Tie.MeasureT-loop
 μ-loop file start first samples₀ at width i₀ samples i = width - i
 
 cast-low : of.Tie.Need-cast-low Inv-loop μ-loop
-cast-low c = omega (arith, c .shared-slice-known .given (c .before .before .before .args .start + 2 * (c .before .before .before .args .first + c .before .before .loop .i)))
+cast-low c = let s = c .before .before .before in omega (arith, c .shared-slice-known .given (s .args .start + 2 * (s .args .first + c .before .before .loop .i)))
 
 cast-high : of.Tie.Need-cast-high Inv-loop μ-loop
-cast-high c = omega (arith, c .shared-slice-known2 .given (c .before .before .before .before .args .start + 2 * (c .before .before .before .before .args .first + c .before .before .before .loop .i) + 1))
+cast-high c = let s = c .before .before .before .before in omega (arith, c .shared-slice-known2 .given (s .args .start + 2 * (s .args .first + c .before .before .before .loop .i) + 1))
 
 mul-samples : of.Tie.Need-mul-samples Inv-loop μ-loop
-mul-samples c = omega (arith, c .shared-slice-known2 .given (c .before .before .before .before .args .start + 2 * (c .before .before .before .before .args .first + c .before .before .before .loop .i) + 1))
+mul-samples c = let s = c .before .before .before .before in omega (arith, c .shared-slice-known2 .given (s .args .start + 2 * (s .args .first + c .before .before .before .loop .i) + 1))
 
 add-samples : of.Tie.Need-add-samples Inv-loop μ-loop
-add-samples c = omega (arith, c .shared-slice-known2 .given (c .before .before .before .before .args .start + 2 * (c .before .before .before .before .args .first + c .before .before .before .loop .i) + 1), c .shared-slice-known2 .given (c .before .before .before .before .args .start + 2 * (c .before .before .before .before .args .first + c .before .before .before .loop .i)))
+add-samples c = let t = c .before .before .before in let s = c .before .before .before .before in omega (arith, c .shared-slice-known2 .given (s .args .start + 2 * (s .args .first + t .loop .i) + 1), c .shared-slice-known2 .given (s .args .start + 2 * (s .args .first + t .loop .i)))
 
 loop-again : of.Tie.Need-loop-again Inv-loop μ-loop
 loop-again c = write-turn (c .before .before .before .loop .inv) (c .before .before .loop-test .taken) (sample-bytes _ _ _)

@@ -14,7 +14,7 @@ cast-down : of.Tie.Need-cast-down
 cast-down c = fits (c .before .before .args .v .down) (c .before .before .pre .1 .vertical)
 
 cast-right : of.Tie.Need-cast-right
-cast-right c = fits (c .before .before .before .before .args .v .right) (c .before .before .before .before .pre .1 .sideways)
+cast-right c = let s = c .before .before .before .before in fits (s .args .v .right) (s .pre .1 .sideways)
 
 returns : of.Tie.Need-returns
 returns c = let s = c .before .before .before .before .before .before .before in

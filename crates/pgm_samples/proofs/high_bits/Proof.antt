@@ -13,9 +13,10 @@ abbrev μ-loop : of.Tie.MeasureT-loop
 
 mul-seen : of.Tie.Need-mul-seen Inv-loop μ-loop
 mul-seen c =
+    let s = c .before .before .before in
     let k = c .before .before .loop .k in
-    let byte = getD (c .before .before .before .args .bytes .now) (c .before .before .before .args .from + k) 0 in
-    omega (arith, mul-le-mul {n₁ = byte} {m₁ = 1 - k % 2} {n₂ = 255} {m₂ = 1} (omega (arith, c .shared-slice-known .given (c .before .before .before .args .from + k))) (omega arith))
+    let byte = getD (s .args .bytes .now) (s .args .from + k) 0 in
+    omega (arith, mul-le-mul {n₁ = byte} {m₁ = 1 - k % 2} {n₂ = 255} {m₂ = 1} (omega (arith, c .shared-slice-known .given (s .args .from + k))) (omega arith))
 
 loop-again : of.Tie.Need-loop-again Inv-loop μ-loop
 unfolding high

@@ -23,7 +23,7 @@ returns c =
     }
 
 slice-aggregate-store : of.Tie.Need-slice-aggregate-store
-slice-aggregate-store c = omega (arith, ap length (front (c .before .before .before)), end (c .before .before .before))
+slice-aggregate-store c = let s = c .before .before .before in omega (arith, ap length (front s), end s)
 
 returns-2 : of.Tie.Need-returns-2
 returns-2 c =

@@ -9,7 +9,7 @@ last side (suc (suc zero)) a b d = absurd (d refl)
 last side (suc (suc (suc k))) a b d = refl
 
 returns-4 : of.Tie.Need-returns-4
-returns-4 c = (last (c .before .before .before .args .side) (c .before .before .before .args .level) (c .before .before .if1 .left) (c .before .if2 .left) (c .if3 .left), omega arith)
+returns-4 c = let s = c .before .before .before in (last (s .args .side) (s .args .level) (c .before .before .if1 .left) (c .before .if2 .left) (c .if3 .left), omega arith)
 
 pub scale-of-spec : {M : Type 1} → of.Statement.statement M
 scale-of-spec = of.Tie.close (of.Tie.spec

@@ -12,16 +12,18 @@ mul-result c = omega (arith, mul-le-mul (c .before .tile-rows .ensures .1) (c .t
 
 mul-result-2 : of.Tie.Need-mul-result-2
 mul-result-2 c =
-    let n = c .before .before .before .args .shape .count - 1 in
-    omega (arith, most n _ _ (omega (arith, c .before .before .before .pre .0 .few)) (c .before .tile-rows .ensures .1) (c .tile-columns .ensures .1))
+    let s = c .before .before .before in
+    let n = s .args .shape .count - 1 in
+    omega (arith, most n _ _ (omega (arith, s .pre .0 .few)) (c .before .tile-rows .ensures .1) (c .tile-columns .ensures .1))
 
 returns : of.Tie.Need-returns
 unfolding residualLength
 returns c =
-    let n = c .before .before .before .args .shape .count - 1 in
+    let s = c .before .before .before in
+    let n = s .args .shape .count - 1 in
     let rows = c .before .tile-rows .ensures in
     let columns = c .tile-columns .ensures in
-    (ap₂ (λ a b. n * (a * b)) (rows .0) (columns .0), most n _ _ (omega (arith, c .before .before .before .pre .0 .few)) (rows .1) (columns .1))
+    (ap₂ (λ a b. n * (a * b)) (rows .0) (columns .0), most n _ _ (omega (arith, s .pre .0 .few)) (rows .1) (columns .1))
 
 pub residual-length-spec : {M : Type 1} → of.Statement.statement M
 residual-length-spec = of.Tie.close (of.Tie.spec

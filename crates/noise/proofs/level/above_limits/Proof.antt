@@ -11,7 +11,7 @@ returns c = rw (sym (above 6 (c .before .before .args .curve .shot)) ∙ c .if1 
 
 returns-2 : of.Tie.Need-returns-2
 unfolding aboveLimits ofBits
-returns-2 c = rw (sym (above 6 (c .before .before .before .args .curve .shot)) ∙ c .before .if1 .left) (above 12 (c .before .before .before .args .curve .read))
+returns-2 c = let s = c .before .before .before in rw (sym (above 6 (s .args .curve .shot)) ∙ c .before .if1 .left) (above 12 (s .args .curve .read))
 
 pub above-limits-spec : {M : Type 1} → of.Statement.statement M
 above-limits-spec = of.Tie.close (of.Tie.spec returns returns-2)

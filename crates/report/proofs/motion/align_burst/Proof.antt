@@ -15,13 +15,14 @@ align-frames-requires c κs =
 
 returns : of.Tie.Need-returns
 returns c =
+    let s = c .before .before .before in
     let start = c .before .before .before .before .before .before .before .before .before in
-    let aligned = c .before .before .before .align-frames .ensures in
+    let aligned = s .align-frames .ensures in
     let n = vectorRoom (start .args .header .shape .count - 1) in
     let fits : n ≤ length (start .args .vectors .now) = omega (arith, start .pre .taken .allowed .few) in
     let vectors = start .args .vectors .now in
     let whole = length-take-le n vectors fits in
-    let part = c .before .before .before .align-frames .last .1 .1 .1 .0 in
+    let part = s .align-frames .last .1 .1 .1 .0 in
     let same : length part ≡ n = omega (arith, whole) in
     record { found = front-is n vectors part fits same ∙ aligned .found; residuals = aligned .sums-are; same = front-length n vectors part fits same ∙ start .pre .vectors-room }
 
