@@ -1,9 +1,9 @@
 // Align, for C.
 ghost use Rattle.stacker.specs.Calls.{Aligned};
-ghost use Rattle.descriptions.specs.Parameters.{shapeOf};
-use descriptions::Burst;
-use descriptions::MergeTuning;
-use descriptions::shape_of;
+ghost use Rattle.c_types.specs.Parameters.{shapeOf};
+use c_types::Burst;
+use c_types::MergeTuning;
+use c_types::shape_of;
 use stacker::Alignment;
 
 // A burst to its vectors. Of the tuning only the side is read.

@@ -1,16 +1,16 @@
 // A band of the merged frame by lent vectors, for C: with the burst's own noise curve, or with that of ISO 100; and the length of its work area.
 ghost use mathlib.Core.Path.{_≡_};
-ghost use Rattle.limits.specs.Bands.{bandWorkQuestion};
+ghost use Rattle.admit_length.specs.Bands.{bandWorkQuestion};
 ghost use Rattle.stacker.specs.Bands.{Banded};
-ghost use Rattle.descriptions.specs.Parameters.{shapeOf, measured, isoNoise, tuned};
-use descriptions::Burst;
-use descriptions::BurstNoise;
-use descriptions::IsoNoise;
-use descriptions::MergeTuning;
-use descriptions::at_iso;
-use descriptions::measured;
-use descriptions::shape_of;
-use descriptions::tuned;
+ghost use Rattle.c_types.specs.Parameters.{shapeOf, measured, isoNoise, tuned};
+use c_types::Burst;
+use c_types::BurstNoise;
+use c_types::IsoNoise;
+use c_types::MergeTuning;
+use c_types::at_iso;
+use c_types::measured;
+use c_types::shape_of;
+use c_types::tuned;
 
 // Rows `top` to `top + rows` - 1 of the merged frame, with the burst's own curve.
 #[no_mangle]
@@ -75,5 +75,5 @@ pub extern "C" fn stacker_merge_band_iso(
 pub extern "C" fn stacker_band_work(burst: Burst, tuning: MergeTuning) -> u64
     ensures { λ r. ⌜ r ≡ bandWorkQuestion (shapeOf burst (tuning .side)) ⌝ }
 {
-    limits::bands::band_work_question(shape_of(burst, tuning.side))
+    admit_length::bands::band_work_question(shape_of(burst, tuning.side))
 }

@@ -1,15 +1,15 @@
 // Run on the sharpest frame, for C: with the burst's own noise curve, or with that of ISO 100.
 ghost use Rattle.stacker.specs.Choosing.{Chosen};
-ghost use Rattle.descriptions.specs.Parameters.{shapeOf, ofFrames, measured, isoNoise, tuned};
-use descriptions::BurstNoise;
-use descriptions::Frames;
-use descriptions::IsoNoise;
-use descriptions::MergeTuning;
-use descriptions::at_iso;
-use descriptions::measured;
-use descriptions::of_frames;
-use descriptions::shape_of;
-use descriptions::tuned;
+ghost use Rattle.c_types.specs.Parameters.{shapeOf, ofFrames, measured, isoNoise, tuned};
+use c_types::BurstNoise;
+use c_types::Frames;
+use c_types::IsoNoise;
+use c_types::MergeTuning;
+use c_types::at_iso;
+use c_types::measured;
+use c_types::of_frames;
+use c_types::shape_of;
+use c_types::tuned;
 use stacker::Choice;
 
 // Choose the reference, align, then merge, with the burst's own curve.

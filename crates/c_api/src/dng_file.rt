@@ -1,14 +1,14 @@
 // DNG files, for C.
 ghost use mathlib.Core.Path.{_≡_};
-ghost use Rattle.tiff.specs.Directory.{entries};
-ghost use Rattle.dng_tags.specs.Size.{dngSize};
-ghost use Rattle.dng.specs.Reading.{FrameRead};
-ghost use Rattle.descriptions.specs.Parameters.{shapeOf, ofFrames};
-use descriptions::Frames;
-use descriptions::of_frames;
-use descriptions::shape_of;
-use dng::DngRead;
-use dng_tags::DngSize;
+ghost use Rattle.file_dng.specs.Tiff.Directory.{entries};
+ghost use Rattle.file_dng.specs.Tags.Size.{dngSize};
+ghost use Rattle.file_dng.specs.Reading.{FrameRead};
+ghost use Rattle.c_types.specs.Parameters.{shapeOf, ofFrames};
+use c_types::Frames;
+use c_types::of_frames;
+use c_types::shape_of;
+use file_dng::DngRead;
+use file_dng::tags::DngSize;
 
 // Reads a DNG file into one frame of the lent samples. The black levels of the description are not read, and no tiles are laid.
 #[no_mangle]
@@ -21,7 +21,7 @@ pub extern "C" fn stacker_read_dng(
     ensures { λ r. ⌜ FrameRead (now (file .entry)) (shapeOf (ofFrames frames) 16) frame (now (samples .entry)) r (now (samples .exit)) ⌝ }
 {
     let shape = shape_of(of_frames(frames), 16);
-    dng::read_dng(file, shape, frame as usize, &mut *samples)
+    file_dng::read_dng(file, shape, frame as usize, &mut *samples)
 }
 
 // The size of a file's frame, or the tag at fault.
@@ -29,5 +29,5 @@ pub extern "C" fn stacker_read_dng(
 pub extern "C" fn stacker_dng_size(file: &[u8]) -> DngSize
     ensures { λ r. ⌜ r ≡ dngSize (now (file .entry)) (entries (now (file .entry))) ⌝ }
 {
-    dng_tags::dng_size(file)
+    file_dng::tags::dng_size(file)
 }

@@ -1,9 +1,9 @@
 // Align of one other frame, for C.
 ghost use Rattle.stacker.specs.OneFrame.{FrameAligned};
-ghost use Rattle.descriptions.specs.Parameters.{shapeOf};
-use descriptions::Burst;
-use descriptions::MergeTuning;
-use descriptions::shape_of;
+ghost use Rattle.c_types.specs.Parameters.{shapeOf};
+use c_types::Burst;
+use c_types::MergeTuning;
+use c_types::shape_of;
 use stacker::one_frame::FrameAlignment;
 
 // A burst to the vectors of the frame at place `other` among the other frames. Of the tuning only the side is read.

@@ -1,14 +1,14 @@
 // The low and the high frame by lent vectors, for C: between two noise curves, or between two ISO numbers with their curves.
 ghost use Rattle.stacker.specs.Ranged.{Ranged};
-ghost use Rattle.descriptions.specs.Parameters.{shapeOf, measured, isoNoise, tuned};
-use descriptions::Burst;
-use descriptions::BurstNoise;
-use descriptions::IsoNoise;
-use descriptions::MergeTuning;
-use descriptions::at_iso;
-use descriptions::measured;
-use descriptions::shape_of;
-use descriptions::tuned;
+ghost use Rattle.c_types.specs.Parameters.{shapeOf, measured, isoNoise, tuned};
+use c_types::Burst;
+use c_types::BurstNoise;
+use c_types::IsoNoise;
+use c_types::MergeTuning;
+use c_types::at_iso;
+use c_types::measured;
+use c_types::shape_of;
+use c_types::tuned;
 
 // A burst and lent vectors to both frames, between two curves of the burst's own.
 #[no_mangle]

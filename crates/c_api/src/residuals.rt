@@ -1,9 +1,9 @@
 // Each tile's residual at lent vectors, for C.
 ghost use Rattle.stacker.specs.Residuals.{ResidualsFound};
-ghost use Rattle.descriptions.specs.Parameters.{shapeOf};
-use descriptions::Burst;
-use descriptions::MergeTuning;
-use descriptions::shape_of;
+ghost use Rattle.c_types.specs.Parameters.{shapeOf};
+use c_types::Burst;
+use c_types::MergeTuning;
+use c_types::shape_of;
 
 // A burst and lent vectors to the residuals. Of the tuning only the side is read.
 #[no_mangle]

@@ -1,13 +1,13 @@
 // Refusals in words, and the version, for C.
 ghost use mathlib.Core.Path.{_≡_};
-ghost use Rattle.words.specs.Words.{wordsOf, TextPut, versionNumber};
+ghost use Rattle.c_words.specs.Words.{wordsOf, TextPut, versionNumber};
 
 // The words of a refusal's number into a lent buffer, and how many bytes they are.
 #[no_mangle]
 pub extern "C" fn stacker_refusal_words(number: u64, text: &mut [u8]) -> u64
     ensures { λ r. ⌜ TextPut (wordsOf number) (now (text .entry)) (now (text .exit)) r ⌝ }
 {
-    words::refusal_words(number, &mut *text)
+    c_words::refusal_words(number, &mut *text)
 }
 
 // The version of the calls.
@@ -15,5 +15,5 @@ pub extern "C" fn stacker_refusal_words(number: u64, text: &mut [u8]) -> u64
 pub extern "C" fn stacker_version() -> u64
     ensures { λ r. ⌜ r ≡ versionNumber ⌝ }
 {
-    words::version()
+    c_words::version()
 }

@@ -1,3 +1,5 @@
+pub mod Spatial
+pub mod Ceiling
 pub mod Prelude
 pub mod Bins
 pub mod Windows

@@ -5,7 +5,7 @@ use lib.IntN.{ℤ, pos, _+ℤ_, _-ℤ_, _*ℤ_, +ℤ-idl, +ℤ-idr}
 use Rattle.algebra.specs.Sums.{sumZ}
 use Rattle.recipe.specs.Side.{Side}
 use Rattle.recipe.specs.Correction.{twiddleRe, twiddleIm, inverseRe}
-use Rattle.spectrum.specs.ZeroLaws.{sumZ-zero, less-zero}
+use Rattle.tile_spectrum.specs.ZeroLaws.{sumZ-zero, less-zero}
 
 -- a sum of its first term alone
 pub first-only : (n : ℕ) (f : ℕ → ℤ) → 0 < n → ((i : ℕ) → 0 < i → i < n → f i ≡ pos 0) → sumZ n f ≡ f 0

@@ -27,13 +27,13 @@ use Rattle.recipe.specs.SpatialNoise.{frequency, distance, spatialNumber}
 use Rattle.recipe.specs.Scene.{Scene, sceneAt, sceneOf, blackOf, tileOver, tileAt, referenceTile, otherTile, tileNoise, tileSpatial, tileDifference}
 use Rattle.recipe.specs.Exact.{exactBin, exactNoise, exactWiener, exactInverseRe, exactInverseAt, unrounded}
 use Rattle.recipe.specs.ExactSpatial.{exactRowRe, exactRowIm, exactBinRe, exactBinIm}
-use Rattle.limits.specs.Residuals.{residualLength}
-use Rattle.bayer.specs.Bayer.{bayerSum}
-use Rattle.pyramid.specs.Pyramid.{image0}
-use Rattle.residuals.specs.Residual.{difference, rowResidual, residual}
-use Rattle.levels.specs.Fields.{levelTile}
-use Rattle.alignment.specs.Frames.{pairs}
-use Rattle.tile_residuals.specs.Residuals.{tileResidual, residualWord, tileResiduals}
+use Rattle.admit_length.specs.Residuals.{residualLength}
+use Rattle.align_pyramid.specs.Bayer.Bayer.{bayerSum}
+use Rattle.align_pyramid.specs.Pyramid.{image0}
+use Rattle.align_residual.specs.Residual.{difference, rowResidual, residual}
+use Rattle.align_level.specs.Fields.{levelTile}
+use Rattle.align_burst.specs.Frames.{pairs}
+use Rattle.align_measure.specs.Residuals.{tileResidual, residualWord, tileResiduals}
 use Rattle.sharpness.specs.Sharpness.{rowSteps, steps, sharpness, sharpest}
 use Rattle.figures.specs.Figures.{only}
 

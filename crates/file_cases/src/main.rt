@@ -1,7 +1,7 @@
 // Each argument names a burst file: its name, the file check's number and that of reading it into 8192 samples, a line for each.
 ghost use mathlib.Core.Path.{_≡_};
-ghost use Rattle.file_lines.specs.Part.{numberOf};
-ghost use Rattle.burst_file.specs.Reading.{readingInto};
+ghost use Rattle.file_burst.specs.Lines.Part.{numberOf};
+ghost use Rattle.file_burst.specs.Reading.{readingInto};
 use libc::STDOUT_FILENO;
 
 // The number with which reading the file into the samples of two 64 by 64 frames ends.
@@ -9,7 +9,7 @@ fn reading_number(file: &[u8]) -> u64
     ensures { λ r. ⌜ r ≡ numberOf (readingInto 8192 (now (file .entry))) ⌝ }
 {
     let mut samples = [0u16; 8192];
-    let answer = burst_file::read_file(file, &mut samples);
+    let answer = file_burst::read_file(file, &mut samples);
     answer.refusal
 }
 
@@ -17,7 +17,7 @@ fn reading_number(file: &[u8]) -> u64
 fn print_case(name: &[u8], file: &[u8]) {
     io::write_all(STDOUT_FILENO, name);
     io::write_all(STDOUT_FILENO, b" ");
-    io::print_decimal(STDOUT_FILENO, burst_file::check_file(file));
+    io::print_decimal(STDOUT_FILENO, file_burst::check_file(file));
     io::write_all(STDOUT_FILENO, b" ");
     io::print_decimal(STDOUT_FILENO, reading_number(file));
     io::write_all(STDOUT_FILENO, b"\n");

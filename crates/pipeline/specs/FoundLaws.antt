@@ -5,9 +5,9 @@ use Rattle.geometry.specs.declared.Shape.{Shape}
 use Rattle.geometry.specs.Shape.{vectorLength}
 use Rattle.geometry.specs.Fits.{VectorsFit}
 use Rattle.geometry.specs.Vectors.{wordOf, vectorList}
-use Rattle.alignment.specs.FieldLaws.{word-most}
-use Rattle.alignment.specs.Frames.{vectorsOf}
-use Rattle.alignment.specs.Aligned.{fieldOf, alignedVectors}
+use Rattle.align_burst.specs.FieldLaws.{word-most}
+use Rattle.align_burst.specs.Frames.{vectorsOf}
+use Rattle.align_burst.specs.Aligned.{fieldOf, alignedVectors}
 use Rattle.pipeline.specs.Reach.{reaches}
 
 module _ (s : Shape) (reference : ℕ) (samples : List ℕ) where

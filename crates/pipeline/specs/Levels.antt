@@ -2,9 +2,9 @@
 use Rattle.algebra.specs.Prelude.{_≡_, List, ℕ, _≤_, length, ℤ}
 use Rattle.sequences.specs.Clear.{zeros}
 use Rattle.geometry.specs.Fits.{MergeFits, SamplesFit}
-use Rattle.alignment.specs.declared.burst.Totals.{Totals}
-use Rattle.alignment.specs.Aligned.{alignedVectors, residualSums}
-use Rattle.alignment.specs.Rows.{rowsSummed}
+use Rattle.align_burst.specs.declared.burst.Totals.{Totals}
+use Rattle.align_burst.specs.Aligned.{alignedVectors, residualSums}
+use Rattle.align_burst.specs.Rows.{rowsSummed}
 use Rattle.recipe.specs.declared.Merge.{Merge}
 use Rattle.recipe.specs.Scene.{sceneOf}
 use Rattle.recipe.specs.Merged.{merged}

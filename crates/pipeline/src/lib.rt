@@ -2,7 +2,7 @@
 ghost use mathlib.Core.Path.{_≡_};
 ghost use Rattle.sequences.specs.Clear.{zeros};
 ghost use Rattle.pipeline.specs.Levels.{Runnable, RanLevels};
-use alignment::burst::Totals;
+use align_burst::burst::Totals;
 use recipe::Merge;
 
 // Sets the work area to zero.
@@ -30,14 +30,14 @@ pub fn run_levels(
 {
     let shape = m.shape;
     let reference = m.reference;
-    let totals = alignment::burst::align_frames(
+    let totals = align_burst::burst::align_frames(
         shape,
         reference,
         samples,
         &mut *vectors,
         &mut *work,
     );
-    merging::merge_frames(m, samples, &*vectors, &mut *output, &mut *work);
+    merge_frame::merge_frames(m, samples, &*vectors, &mut *output, &mut *work);
     clear(&mut *work);
     totals
 }

@@ -14,7 +14,7 @@ use Rattle.recipe.specs.NoiseNumber.{variance, noiseNumber}
 use Rattle.recipe.specs.PlainOutput.{outputSample}
 use Rattle.recipe.specs.Spatial.{filteredSample}
 use Rattle.recipe.specs.Merged.{planeOutput, outputAt, wordAt, merged}
-use Rattle.spatial.specs.PlainLaws.{plain-output}
+use Rattle.closeness.specs.Spatial.PlainLaws.{plain-output}
 use Rattle.range.specs.Monotone.{quotient-rises}
 use Rattle.range.specs.Range.{lowSample, highSample}
 use Rattle.range.specs.RangeLaws.{sample-inside, low-same, high-same}

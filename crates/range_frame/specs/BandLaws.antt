@@ -5,11 +5,11 @@ use Rattle.sequences.specs.Tab.{tab}
 use Rattle.sequences.specs.Grid.{tab-ext}
 use Rattle.sequences.specs.Place.{place-row, place-column}
 use Rattle.geometry.specs.Fits.{AllowedSize}
-use Rattle.tiles.specs.Accepted.{Accepted}
-use Rattle.gather.specs.Places.{output-room}
+use Rattle.merge_tiles.specs.Accepted.{Accepted}
+use Rattle.merge_gather.specs.Places.{output-room}
 use Rattle.range_tiles.specs.declared.Upper.{Upper}
 use Rattle.range_tiles.specs.EndRowLaws.{sixteen}
-use Rattle.gather.specs.RowLaws.{rows-start, rows-on, row-written, rows-whole, all-written}
+use Rattle.merge_gather.specs.RowLaws.{rows-start, rows-on, row-written, rows-whole, all-written}
 use Rattle.range_frame.specs.Held.{endWord, leastPart, EndsHeld, RowsRanged}
 use Rattle.range_frame.specs.SampleLaws.{Picks, low-picks, high-picks, end-word}
 

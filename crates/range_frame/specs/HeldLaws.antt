@@ -3,10 +3,10 @@ use Rattle.range_frame.specs.Prelude.{_≡_, sym, ap, subst, _∙_, List
 use mathlib.Core.Logic.{inl, inr, ⊎-elim}
 use lib.ListN.{length-drop}
 use lib.Seq.{getD-drop}
-use Rattle.tiles.specs.Sum.{Taking, takenMost}
+use Rattle.merge_tiles.specs.Sum.{Taking, takenMost}
 use Rattle.range_tiles.specs.EndRows.{leastSlot, RowAt, Outside, EndsStored}
 use Rattle.range_tiles.specs.EndRowLaws.{slot-most}
-use Rattle.gather.specs.HoldLaws.{slots}
+use Rattle.merge_gather.specs.HoldLaws.{slots}
 use Rattle.range_frame.specs.Held.{leastPart, EndsHeld}
 
 -- a row's words that stand in the work area, or in its part from `base` on

@@ -10,11 +10,11 @@ pub use Rattle.range.specs.Frames.{End, highFrame, lowFrame}
 unfoldable pub use Rattle.range.specs.Frames.{frameEnd, planeEnd}
 pub use Rattle.range.specs.Range.{greatestAt, leastAt, sampleFrom}
 unfoldable pub use Rattle.range.specs.Range.{highSample, lowSample}
-pub use Rattle.tiles.specs.Rows.{rowWord, slotOf}
-unfoldable pub use Rattle.tiles.specs.Rows.{rowWords}
-pub use Rattle.gather.specs.Ready.{RowReady}
-pub use Rattle.gather.specs.RowsHeld.{RowHeld, RowsWritten}
-pub use Rattle.gather.specs.Work.{Inside, Over, rowWritten}
-unfoldable pub use Rattle.gather.specs.Work.{rowSpan, wordFrom}
+pub use Rattle.merge_tiles.specs.Rows.{rowWord, slotOf}
+unfoldable pub use Rattle.merge_tiles.specs.Rows.{rowWords}
+pub use Rattle.merge_gather.specs.Ready.{RowReady}
+pub use Rattle.merge_gather.specs.RowsHeld.{RowHeld, RowsWritten}
+pub use Rattle.merge_gather.specs.Work.{Inside, Over, rowWritten}
+unfoldable pub use Rattle.merge_gather.specs.Work.{rowSpan, wordFrom}
 pub use Rattle.range_tiles.specs.EndSums.{EndAt, UpperFits, atNoises, raised}
 unfoldable pub use Rattle.range_tiles.specs.EndSums.{endSum, endTaken}

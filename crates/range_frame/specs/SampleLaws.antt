@@ -10,8 +10,8 @@ use Rattle.recipe.specs.Side.{Side}
 use Rattle.recipe.specs.Sides.{sideOf}
 use Rattle.recipe.specs.SideLaws.{of-16}
 use Rattle.recipe.specs.Output.{rowIn, columnIn, weightIn}
-use Rattle.gather.specs.Gather.{windowed, corrected, wordOver}
-use Rattle.gather.specs.HoldLaws.{takenOver, sample-is, word-is}
+use Rattle.merge_gather.specs.Gather.{windowed, corrected, wordOver}
+use Rattle.merge_gather.specs.HoldLaws.{takenOver, sample-is, word-is}
 
 -- an end's sample is made of its P
 pub record Picks (end : End) (at : EndAt) : Type 0 where

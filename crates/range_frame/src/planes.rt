@@ -2,13 +2,13 @@
 ghost use Rattle.range_frame.specs.Prelude.{_*_, _/_, length, atNoises};
 ghost use Rattle.range_frame.specs.Held.{RowsOut, RowsRanged, BandRanged};
 ghost use Rattle.range_frame.specs.Ready.{RowsReady, ParityReady, BandReady};
-use gather::output_row;
 use geometry::Shape;
+use merge_gather::output_row;
+use merge_tiles::HALF_SIDE;
+use merge_tiles::SIDE;
 use range_tiles::Upper;
 use range_tiles::rows::end_row;
 use recipe::Merge;
-use tiles::HALF_SIDE;
-use tiles::SIDE;
 
 // Row y of a row parity of both frames: the low one's from the greatest sums, the high one's from the least.
 fn output_rows(

@@ -4,8 +4,8 @@ use mathlib.Core.Logic.{inl, inr, ⊎-elim}
 use native.Mathlib.Decide.{ℕ-discrete}
 use Rattle.sequences.specs.Write.{written, written-in, written-before, written-after, written-length}
 use Rattle.geometry.specs.Fits.{TileSide}
-use Rattle.tiles.specs.Toward.{Toward, toward-same, toward-on, goal}
-use Rattle.tiles.specs.StoreLaws.{Aimed, Placed, placed-start, placed-keep, placed-nearer, placed-turn, placed-word, placed-most}
+use Rattle.merge_tiles.specs.Toward.{Toward, toward-same, toward-on, goal}
+use Rattle.merge_tiles.specs.StoreLaws.{Aimed, Placed, placed-start, placed-keep, placed-nearer, placed-turn, placed-word, placed-most}
 use Rattle.range_tiles.specs.EndSums.{endTaken}
 use Rattle.range_tiles.specs.EndRows.{leastSlot, RowAt, Outside, EndsStored}
 

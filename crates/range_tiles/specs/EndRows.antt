@@ -1,7 +1,7 @@
 -- Inside the crates of the range: both ends of rows of pairs in the work area. The greatest sums lie as a merge's rows do, and the least ones likewise behind them.
 use Rattle.range_tiles.specs.Prelude.{_≡_, List, ℕ, _+_, _*_, _/_, _≤_, _<_, length, getD, ℤ, pos, natAbs, Merge, Scene, greatestAt, leastAt, Taking, takenMost, rowWords, slotOf, rowWord}
 use mathlib.Core.Logic.{_⊎_}
-use Rattle.tiles.specs.Accepted.{Accepted}
+use Rattle.merge_tiles.specs.Accepted.{Accepted}
 use Rattle.range_tiles.specs.declared.Upper.{Upper}
 use Rattle.range_tiles.specs.EndSums.{endTaken, UpperFits}
 

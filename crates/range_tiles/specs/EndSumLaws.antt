@@ -9,13 +9,13 @@ use Rattle.sequences.specs.Tab.{tab}
 use Rattle.sequences.specs.TabLaws.{tab-each}
 use Rattle.sequences.specs.Grid.{grid, cell, cell-grid, grid-ext, grid-of}
 use Rattle.range.specs.RangeLaws.{greatest-same, least-same}
-use Rattle.lines.specs.Lines.{LineMost, TileMost}
-use Rattle.spectrum.specs.Apart.{cond-cases}
-use Rattle.spectrum.specs.Magnitudes.{noiseMost, smallMost}
-use Rattle.spectrum.specs.Pairs.{planeIn, sideBySide}
-use Rattle.spectrum.specs.ZeroLaws.{no-noise}
-use Rattle.tiles.specs.declared.Site.{Site}
-use Rattle.ends.specs.EndLaws.{greatest-cong, least-cong, greatest-most, least-most}
+use Rattle.tile_spectrum.specs.Lines.Lines.{LineMost, TileMost}
+use Rattle.tile_spectrum.specs.Apart.{cond-cases}
+use Rattle.tile_spectrum.specs.Magnitudes.{noiseMost, smallMost}
+use Rattle.tile_spectrum.specs.Pairs.{planeIn, sideBySide}
+use Rattle.tile_spectrum.specs.ZeroLaws.{no-noise}
+use Rattle.merge_tiles.specs.declared.Site.{Site}
+use Rattle.range_pair.specs.EndLaws.{greatest-cong, least-cong, greatest-most, least-most}
 use Rattle.range_tiles.specs.EndSums.{EndAt, endSum, EndSummed, endTaken}
 
 -- what the sum needs of an end

@@ -1,12 +1,12 @@
 -- Inside the crates of the range: P of one end of a pair's tiles, summed over the other frames. `end` is `greatestAt` or `leastAt` (range/Range).
 use Rattle.range_tiles.specs.Prelude.{_≡_, List, ℕ, _*_, _≤_, _<_, ℤ, pos, natAbs, grid, side16, Merge, Scene, referenceTile, tileNoise, tileDifference, sceneAt, greatestAt, leastAt, Taking, PairTaken, NoisesFit, noiseOf, Noises}
 use Rattle.algebra.specs.Sums.{sumZ}
-use Rattle.spectrum.specs.Magnitudes.{smallMost}
-use Rattle.spectrum.specs.Pairs.{sideBySide}
+use Rattle.tile_spectrum.specs.Magnitudes.{smallMost}
+use Rattle.tile_spectrum.specs.Pairs.{sideBySide}
 use Rattle.recipe.specs.NoiseNumber.{noiseNumber}
-use Rattle.tiles.specs.declared.Site.{Site}
-use Rattle.tiles.specs.Accepted.{Accepted, Sited}
-pub use Rattle.ends.specs.Added.{EndAt}
+use Rattle.merge_tiles.specs.declared.Site.{Site}
+use Rattle.merge_tiles.specs.Accepted.{Accepted, Sited}
+pub use Rattle.range_pair.specs.Added.{EndAt}
 use Rattle.range_tiles.specs.declared.Upper.{Upper}
 
 -- P of a tile between two noise numbers, summed over the other frames

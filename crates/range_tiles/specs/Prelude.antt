@@ -6,8 +6,8 @@ unfoldable pub use Rattle.recipe.specs.Scene.{referenceTile, sceneAt}
 unfoldable pub use Rattle.recipe.specs.Tables.{side16}
 pub use Rattle.recipe.specs.declared.Merge.{Merge}
 pub use Rattle.range.specs.Range.{greatestAt, leastAt}
-pub use Rattle.ends.specs.Added.{NoisesFit, PairSums, noiseOf, pairEnd, pairPlus}
-pub use Rattle.ends.specs.declared.Noises.{Noises}
-pub use Rattle.tiles.specs.Rows.{Spread, rowWord}
-unfoldable pub use Rattle.tiles.specs.Rows.{rowWords, slotOf}
-pub use Rattle.tiles.specs.Sum.{PairTaken, Taking, takenMost}
+pub use Rattle.range_pair.specs.Added.{NoisesFit, PairSums, noiseOf, pairEnd, pairPlus}
+pub use Rattle.range_pair.specs.declared.Noises.{Noises}
+pub use Rattle.merge_tiles.specs.Rows.{Spread, rowWord}
+unfoldable pub use Rattle.merge_tiles.specs.Rows.{rowWords, slotOf}
+pub use Rattle.merge_tiles.specs.Sum.{PairTaken, Taking, takenMost}

@@ -4,13 +4,13 @@ pub mod rows;
 ghost use Prim.Native.Nat.{_≤_};
 ghost use Rattle.range_tiles.specs.Prelude.{side16, sceneAt};
 ghost use Rattle.range_tiles.specs.EndSums.{NoisesAre, SumsLent, EndsSummed, PairLent, EndsTaken, atNoises};
-use ends::Noises;
-use ends::add_ends;
+use merge_tiles::Site;
+use merge_tiles::correcting::plane_black;
+use merge_tiles::reading::differences;
+use merge_tiles::reading::pair;
+use range_pair::Noises;
+use range_pair::add_ends;
 use recipe::Merge;
-use tiles::Site;
-use tiles::correcting::plane_black;
-use tiles::reading::differences;
-use tiles::reading::pair;
 
 // Ls and Lr of the upper noise; those of the lower one are the merge's own.
 pub struct Upper {
@@ -104,7 +104,7 @@ pub fn tile_ends(
     pair(shape, samples, m.reference, site, 0, 0, &mut t0);
     let first_black = plane_black(m.tuning, site.parity, 0);
     let second_black = plane_black(m.tuning, site.parity, 1);
-    let roots = roots::pair_roots(first_black, second_black, &t0);
+    let roots = tile_root::pair_roots(first_black, second_black, &t0);
     let strength = m.tuning.strength;
     let low = noises(strength, m.shot, m.read, roots.first, roots.second);
     let high = noises(strength, upper.shot, upper.read, roots.first, roots.second);

@@ -5,14 +5,14 @@ ghost use Rattle.range_tiles.specs.EndRows.{leastSlot, EndRowLent, EndsS
 use crate::Upper;
 use crate::tile_ends;
 use geometry::tiles::tile_columns;
+use merge_tiles::BLOCK;
+use merge_tiles::PAIR_WIDTH;
+use merge_tiles::SIDE;
+use merge_tiles::Site;
+use merge_tiles::rows::slot;
+use merge_tiles::rows::store_left;
+use merge_tiles::rows::store_right;
 use recipe::Merge;
-use tiles::BLOCK;
-use tiles::PAIR_WIDTH;
-use tiles::SIDE;
-use tiles::Site;
-use tiles::rows::slot;
-use tiles::rows::store_left;
-use tiles::rows::store_right;
 
 // Where a row of the least sums starts: behind two rows of the greatest.
 fn least_slot(width: usize, row: usize) -> usize

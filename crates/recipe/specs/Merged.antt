@@ -6,7 +6,7 @@ use Rattle.recipe.specs.Scene.{Scene, tilesOver}
 use Rattle.recipe.specs.Spatial.{filteredSample}
 
 -- "Output = T0 − (sum over four tiles and the other frames of w·w'·P)/(2^32·N), to nearest, halves upward, held to 0..4095", with the spatial filter of request L13,
--- at row y and column x of a plane. At s = 0 that is document 01's own sample (`plain-output`, spatial/PlainLaws)
+-- at row y and column x of a plane. At s = 0 that is document 01's own sample (`plain-output`, closeness/Spatial/PlainLaws)
 unfoldable pub planeOutput : Scene → (rowParity columnParity y x : ℕ) → ℤ
 planeOutput s rowParity columnParity y x =
     filteredSample (s .side) (y % s .side .half) (x % s .side .half) (s .others) (tilesOver s rowParity columnParity y x)

@@ -1,4 +1,4 @@
--- The output sample of document 01 without a spatial filter. No contract cites it: the merged sample is this one at s = 0 (`plain-output`, spatial/PlainLaws).
+-- The output sample of document 01 without a spatial filter. No contract cites it: the merged sample is this one at s = 0 (`plain-output`, closeness/Spatial/PlainLaws).
 use Rattle.algebra.specs.Prelude.{ℕ, ℤ, pos, _*ℤ_}
 use Rattle.algebra.specs.Sums.{sumZ}
 use Rattle.recipe.specs.Side.{Side}

@@ -5,17 +5,17 @@ use lib.Seq.{length-take-le, take-at}
 use borrow.Author.Tests.{lt-ltb, le-ltb, eq-eqb, ne-eqb}
 use Rattle.geometry.specs.declared.Shape.{Shape}
 use Rattle.geometry.specs.Shape.{sampleLength, lengthRefusal}
-use Rattle.limits.specs.Order.{shapeTests}
+use Rattle.admit_length.specs.Order.{shapeTests}
 use Rattle.geometry.specs.ShapeLaws.{below-count}
 use Rattle.refusals.specs.Numbers as no
 use Rattle.refusals.specs.TestLaws.{among, passed}
 use Rattle.noise.specs.LevelLaws.{levels-most, strength-most}
-use Rattle.burst_file.specs.declared.FileAnswer.{FileAnswer}
-use Rattle.file_lines.specs.Part.{Part, refused, found, numberOf}
-use Rattle.file_head.specs.Head.{headerRefusal, headOf}
-use Rattle.file_head.specs.HeadLaws.{HeadRead, packed-allowed, head-complete}
-use Rattle.burst_file.specs.Reading.{reading, fileCheck, samplesAfter, FileRead}
-use Rattle.burst_file.specs.Acceptance.{Accepted, sound-number, complete}
+use Rattle.file_burst.specs.declared.FileAnswer.{FileAnswer}
+use Rattle.file_burst.specs.Lines.Part.{Part, refused, found, numberOf}
+use Rattle.file_burst.specs.Head.Head.{headerRefusal, headOf}
+use Rattle.file_burst.specs.Head.HeadLaws.{HeadRead, packed-allowed, head-complete}
+use Rattle.file_burst.specs.Reading.{reading, fileCheck, samplesAfter, FileRead}
+use Rattle.file_burst.specs.Acceptance.{Accepted, sound-number, complete}
 use Rattle.report.specs.Program.{fileMost, programSide, taken, checked, answerText, programText}
 use Rattle.report.specs.Inner.{room, burstOf, Holds}
 

@@ -2,7 +2,7 @@
 use Rattle.report.specs.Prelude.{List, [], _∷_, _++_, ℕ, zero, suc, _-_, getD, ℤ, alignedVectors, residualSums, FileBurst, motionNames, numberLine}
 use Rattle.geometry.specs.Tiles.{frameParts}
 use Rattle.geometry.specs.Vectors.{otherFrame, partsOf}
-use Rattle.tallies.specs.Tallies.{tiles, stillTiles, farthest}
+use Rattle.report_tally.specs.Tallies.{tiles, stillTiles, farthest}
 use Rattle.report.specs.Program.{programText}
 
 -- "frame index; its tiles; tiles with vector 0,0; greatest absolute part; sum of finest residuals"

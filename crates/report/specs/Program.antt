@@ -1,8 +1,8 @@
 -- Document 01, "Both programs [..] take files up to 65536 bytes with W = H = 64": what a program prints for a file, by what it prints for the burst in it.
 use Rattle.report.specs.Prelude.{Bool, cond, _&&_, List, ℕ, eqb, ltb, length, FileBurst, tooLarge, refusal}
 use Rattle.geometry.specs.declared.Shape.{Shape}
-use Rattle.file_lines.specs.Part.{Part, refused, found}
-use Rattle.burst_file.specs.Reading.{reading}
+use Rattle.file_burst.specs.Lines.Part.{Part, refused, found}
+use Rattle.file_burst.specs.Reading.{reading}
 
 -- "files up to 65536 bytes"
 abbrev pub fileMost : ℕ

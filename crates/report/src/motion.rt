@@ -6,13 +6,13 @@ ghost use Rattle.report.specs.Inner.{vectorRoom, workRoom, burstOf, Take
 use crate::sizes::PARTS;
 use crate::sizes::VECTOR_ROOM;
 use crate::sizes::WORK_ROOM;
-use alignment::burst::align_frames;
-use file_head::Header;
+use align_burst::burst::align_frames;
+use file_burst::head::Header;
 use geometry::vectors::other_frame;
 use printing::fixed::put_motion_names;
 use printing::lines::put_numbers;
-use tallies::farthest;
-use tallies::still_tiles;
+use report_tally::farthest;
+use report_tally::still_tiles;
 
 // The line of one frame: five numbers of at most 21 bytes.
 fn put_frame(text: &mut [u8], at: usize, frame: usize, vectors: &[i32], residual: u64) -> usize

@@ -4,11 +4,11 @@ ghost use Rattle.report.specs.Program.{fileMost};
 ghost use Rattle.report.specs.Inner.{room, Opens};
 use crate::sizes::FRAME;
 use crate::sizes::FRAME_SIDE;
-use burst_file::check_file;
-use burst_file::read_file;
-use file_head::Head;
-use file_head::Header;
-use file_head::read_head;
+use file_burst::check_file;
+use file_burst::head::Head;
+use file_burst::head::Header;
+use file_burst::head::read_head;
+use file_burst::read_file;
 
 // A file that is not read, or the header of one whose frames have the size that the programs take.
 pub enum Opened {

@@ -8,7 +8,7 @@ use crate::sizes::FRAME_SIDE;
 use crate::sizes::PARTS;
 use crate::sizes::VECTOR_ROOM;
 use crate::sizes::WORK_ROOM;
-use file_head::Header;
+use file_burst::head::Header;
 use pipeline::run_levels;
 use printing::fixed::put_stack_names;
 use printing::lines::put_numbers;

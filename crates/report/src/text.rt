@@ -13,7 +13,7 @@ use crate::sizes::FRAME;
 use crate::sizes::SAMPLE_ROOM;
 use crate::sizes::TEXT_ROOM;
 use crate::stack::put_stack;
-use file_head::Header;
+use file_burst::head::Header;
 use printing::fixed::put_refusal;
 use printing::fixed::put_too_large;
 

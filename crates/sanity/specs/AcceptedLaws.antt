@@ -2,7 +2,7 @@
 use Rattle.algebra.specs.Prelude.{_≡_, sym, ap, _∙_, List, ℕ, length, ℤ}
 use Rattle.sanity.specs.Prelude.{Shape, vectorLength, BurstFits, SamplesFit, TileSide, Noise, alignedVectors, residualSums, rowsSummed, Merge, sceneOf, merged, Alignment, Tuning, alignRefusal, runRefusal, mergeRefusal, mergeOf, noSums, answered, Aligned, Merged, Ran}
 use Rattle.refusals.specs.AfterLaws.{result-made}
-use Rattle.alignment.specs.Burst.{Ready}
+use Rattle.align_burst.specs.Burst.{Ready}
 use Rattle.pipeline.specs.Levels.{Runnable}
 use Rattle.stacker.specs.AdmissionLaws.{align-passed, run-passed, merge-passed}
 use Rattle.sanity.specs.Frames.{Burst}

@@ -7,9 +7,9 @@ use Rattle.sequences.specs.TabLaws.{length-tab}
 use Rattle.refusals.specs.Numbers as no
 use Rattle.sanity.specs.Prelude.{first, Shape, outputLength, workLength, lengthRefusal, Noise, Tuning, sceneAt, sceneOf, wordAt, merged, runTests, mergeRefusal, mergeOf, Merged}
 use Rattle.refusals.specs.AfterLaws.{result-made}
-use Rattle.limits.specs.Order.{shapeTests, burstTests, mergeLengths, mergeShapeTests}
-use Rattle.limits.specs.Bands.{bandLength, bandWorkLength, bandPartRefusal, bandLengths, bandShapeTests}
-use Rattle.admission.specs.Bands.{bandRefusal}
+use Rattle.admit_length.specs.Order.{shapeTests, burstTests, mergeLengths, mergeShapeTests}
+use Rattle.admit_length.specs.Bands.{bandLength, bandWorkLength, bandPartRefusal, bandLengths, bandShapeTests}
+use Rattle.admit_call.specs.Bands.{bandRefusal}
 use Rattle.stacker.specs.Bands.{band, Banded}
 
 module _ (s : Shape) (reference : ℕ) (noise : Noise) (tuning : Tuning) (samples : List ℕ) (vectors : List ℤ) where

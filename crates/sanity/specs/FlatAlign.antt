@@ -2,10 +2,10 @@
 use mathlib.Core.Path.{_≡_, sym, _∙_, ap, ap₂, fun-ext, subst}
 use Rattle.sanity.specs.Prelude.{Bool, false, List, ℕ, zero, suc, _-_, _*_, _/_, _<_, arith, ℤ, pos, replicate, Shape, vectorLength, Image, read, sampleAt, otherFrame, downAt, rightAt, finestLevel, levelSize, Tile, Vector, still, gap, difference, Pair, rowResidual, residual, levelAt, levelTile, levelRows, levelColumns, residualSum, levelImage, pairs, vectorsOf, residualOf, fieldOf, sumOf, alignedVectors, tileResidual}
 use Rattle.geometry.specs.LevelTiles.{levelTiles}
-use Rattle.bayer.specs.Bayer.{bayerSum}
-use Rattle.halving.specs.Halving.{weighted, halved}
-use Rattle.pyramid.specs.Pyramid.{quartered, image0, image1, image2, image3}
-use Rattle.pyramid.specs.Layout.{tiles}
+use Rattle.align_pyramid.specs.Bayer.Bayer.{bayerSum}
+use Rattle.align_pyramid.specs.Halving.Halving.{weighted, halved}
+use Rattle.align_pyramid.specs.Pyramid.{quartered, image0, image1, image2, image3}
+use Rattle.align_pyramid.specs.Layout.{tiles}
 use Rattle.sanity.specs.FrameLaws.{flat-same}
 use Rattle.sanity.specs.StillLaws.{sum-same, AtRest, StillField, field-still, sum-still, vectors-still}
 use Rattle.sanity.specs.PyramidLaws.{pairs-agree}

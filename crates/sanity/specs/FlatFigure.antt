@@ -5,7 +5,7 @@ use lib.Seq.{take-at, drop-at, take-all}
 use Rattle.sequences.specs.Grid.{tab-ext}
 use Rattle.sequences.specs.ClearLaws.{tab-const}
 use Rattle.geometry.specs.LevelTiles.{levelTiles}
-use Rattle.pyramid.specs.Layout.{tiles}
+use Rattle.align_pyramid.specs.Layout.{tiles}
 use Rattle.sanity.specs.Frames.{frameWords}
 use Rattle.sanity.specs.FrameLaws.{packed-words}
 use Rattle.sanity.specs.Flat.{FlatBurst, flatCorrection, flatOutput}

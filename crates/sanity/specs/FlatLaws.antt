@@ -5,10 +5,10 @@ use lib.IntN.{ℤ, pos, negsuc, negℤ, natAbs, _+ℤ_, _-ℤ_, _*ℤ_, +ℤ-idr
 use Rattle.algebra.specs.Ring.{var, _⊠_, #_, ring, _⊟_}
 use Rattle.algebra.specs.SumLaws.{sumZ-cong, sumZ-scale, sumZ-scaler, sumN-cong, sumN-const}
 use Rattle.algebra.specs.Test.{all, all-sound}
-use Rattle.roots.specs.RootLaws.{root-unique}
+use Rattle.tile_root.specs.RootLaws.{root-unique}
 use Rattle.recipe.specs.TableLaws.{window-halves}
 use Rattle.closeness.specs.Windows.{four-windows}
-use Rattle.spectrum.specs.ZeroLaws.{sumZ-zero, away-zero, wiener-zero, less-none, more-none}
+use Rattle.tile_spectrum.specs.ZeroLaws.{sumZ-zero, away-zero, wiener-zero, less-none, more-none}
 use Rattle.figures.specs.LoneBin.{lone-bin}
 use Rattle.sanity.specs.RoundLaws.{away-whole, away-scale, upward-scale}
 use Rattle.sanity.specs.Flat.{flatCorrection}

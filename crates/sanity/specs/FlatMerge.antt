@@ -4,7 +4,7 @@ use Rattle.sanity.specs.Prelude.{List, ℕ, _+_, _-_, _*_, _/_, _%_, _<_
 use Rattle.sequences.specs.Grid.{tab-ext}
 use Rattle.sequences.specs.ClearLaws.{tab-const}
 use Rattle.recipe.specs.SideLaws.{of-16}
-use Rattle.spatial.specs.PlainLaws.{plain-output}
+use Rattle.closeness.specs.Spatial.PlainLaws.{plain-output}
 use Rattle.sanity.specs.FrameLaws.{flat-same, row-inside, column-inside}
 use Rattle.sanity.specs.MergeLaws.{tile-same}
 use Rattle.sanity.specs.FlatLaws.{flat-root, flat-sample}

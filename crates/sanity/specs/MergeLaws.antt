@@ -3,7 +3,7 @@ use Rattle.algebra.specs.Prelude.{_≡_, ap, ap₂, _∙_, ℕ, _+_, _*_, _/_, 
 use Rattle.sequences.specs.Grid.{tab-ext}
 use Rattle.sanity.specs.Prelude.{Image, planeOf, inside, read, origin, Side, correctionAt, Scene, tileAt, noiseOver, differenceOver, outputAt, wordAt, merged}
 use Rattle.geometry.specs.ReadLaws.{inside-below}
-use Rattle.spatial.specs.PlainLaws.{plain-output}
+use Rattle.closeness.specs.Spatial.PlainLaws.{plain-output}
 use Rattle.sanity.specs.Frames.{Same, imageWords}
 use Rattle.sanity.specs.FrameLaws.{row-inside, column-inside}
 use Rattle.sanity.specs.OutputLaws.{output-kept}

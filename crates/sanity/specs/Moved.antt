@@ -1,12 +1,12 @@
 -- Try a tile that has moved, to within 4 of the guess: the search finds a residual of 0, and the move itself where no other offset fits as well.
 use Rattle.algebra.specs.Prelude.{_≡_, ap, _∙_, Bool, ℕ, _<_, arith, pos, _+ℤ_}
 use Rattle.sanity.specs.Prelude.{Tile, Vector, _plus_, difference, Pair, rowResidual, residual}
-use Rattle.patches.specs.Bounds.{Within}
-use Rattle.search.specs.Offsets.{offset}
-use Rattle.search.specs.OffsetLaws.{offset-within}
+use Rattle.align_patch.specs.Bounds.{Within}
+use Rattle.align_search.specs.Offsets.{offset}
+use Rattle.align_search.specs.OffsetLaws.{offset-within}
 use Rattle.sequences.specs.LeastLaws.{firstMin-most}
-use Rattle.search.specs.Search.{tried, chosen, bestVector}
-use Rattle.search.specs.SearchLaws.{none-smaller}
+use Rattle.align_search.specs.Search.{tried, chosen, bestVector}
+use Rattle.align_search.specs.SearchLaws.{none-smaller}
 use Rattle.sanity.specs.StillLaws.{sumN-zero, difference-same}
 
 -- moved by v, the other frame has the reference's samples on the tile

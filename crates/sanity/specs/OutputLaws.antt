@@ -3,7 +3,7 @@ use Rattle.sanity.specs.Prelude.{_≡_, ap, _∙_, ℕ, suc, _+_, _*_, _
 use native.Mathlib.Nat.{mul-pos, div-eq-of-lt-le}
 use lib.IntN.{ℤ, pos, _-ℤ_, _*ℤ_, *ℤ-zero}
 use Rattle.algebra.specs.ClampLaws.{clamp-same}
-use Rattle.spectrum.specs.ZeroLaws.{sumZ-zero}
+use Rattle.tile_spectrum.specs.ZeroLaws.{sumZ-zero}
 
 -- m·n/m to nearest is n
 upward-whole : (n m : ℕ) → 0 < m → upward (pos n *ℤ pos m -ℤ pos 0) m ≡ pos n

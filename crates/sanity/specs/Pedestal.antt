@@ -5,13 +5,13 @@ use mathlib.Core.Path.{fun-ext}
 use native.Mathlib.Nat.{le-refl}
 use Rattle.algebra.specs.SumLaws.{sumN-cong}
 use Rattle.sequences.specs.TabLaws.{getD-tab}
-use Rattle.roots.specs.TileRootLaws.{tile-root-bound, tile-root-falls}
+use Rattle.tile_root.specs.TileRootLaws.{tile-root-bound, tile-root-falls}
 use Rattle.noise.specs.NoiseNumberLaws.{noise-number-mono, long-noise-mono}
 use Rattle.recipe.specs.Root.{wholeRoot}
-use Rattle.spectrum.specs.Apart.{cond-cases}
+use Rattle.tile_spectrum.specs.Apart.{cond-cases}
 use Rattle.recipe.specs.SpatialNoise.{spatialNumber}
 use Rattle.recipe.specs.Spatial.{filteredSample}
-use Rattle.spatial.specs.PlainLaws.{plain-output as base-output}
+use Rattle.closeness.specs.Spatial.PlainLaws.{plain-output as base-output}
 
 -- every plane has the same black level
 pub record OneBlack (tuning : Tuning) (black : ℕ) : Type 0 where

@@ -2,8 +2,8 @@
 -- agree on each plane that has kept its own.
 use Rattle.algebra.specs.Prelude.{_≡_, refl, sym, ap, _∙_, List, [], _∷_, _++_, ℕ, zero, suc, _*_, _/_, _%_, _<_, length, getD, ℤ}
 use Rattle.sanity.specs.Prelude.{Shape, _before_, first, Noise, alignedVectors, Tuning, sceneOf, blackOf, sceneAt, Alignment, contentTests, runTests, runRefusal, mergeRefusal, mergeOf, filterSideRefusal, Merged, Ran}
-use Rattle.limits.specs.Order.{mergeShapeTests}
-use Rattle.values.specs.Bounds.{sampleRefusal, vectorRefusal}
+use Rattle.admit_length.specs.Order.{mergeShapeTests}
+use Rattle.admit_value.specs.Bounds.{sampleRefusal, vectorRefusal}
 use Rattle.refusals.specs.Some.{some}
 use Rattle.noise.specs.Levels.{noiseTests, strengthRefusal, blackRefusal, spatialRefusal}
 use Rattle.sanity.specs.Pedestal.{zeroBlack, zero-black, plainMerged, plain-merged, word-stays}

@@ -20,8 +20,8 @@ pub use Rattle.geometry.specs.Vectors.{VectorField, vectorPlace}
 unfoldable pub use Rattle.geometry.specs.Vectors.{downAt, otherFrame, part, rightAt, vectorList, word, wordOf}
 pub use Rattle.geometry.specs.declared.Shape.{Shape}
 pub use Rattle.geometry.specs.declared.vectors.Vector.{Vector}
-pub use Rattle.limits.specs.Residuals.{frameTiles}
-unfoldable pub use Rattle.limits.specs.Residuals.{residualLength}
+pub use Rattle.admit_length.specs.Residuals.{frameTiles}
+unfoldable pub use Rattle.admit_length.specs.Residuals.{residualLength}
 pub use Rattle.recipe.specs.Correction.{twiddleIm}
 unfoldable pub use Rattle.recipe.specs.Correction.{binIm, binRe, correctionAt, filtered, inverseAt, quantized, rowIm, rowRe, twiddleRe, wiener}
 unfoldable pub use Rattle.recipe.specs.Merged.{merged, outputAt, planeOutput, wordAt}
@@ -38,21 +38,21 @@ unfoldable pub use Rattle.recipe.specs.Tables.{cosine16, cosines, side16, sine1
 pub use Rattle.recipe.specs.declared.Merge.{Merge}
 pub use Rattle.recipe.specs.declared.Tuning.{Tuning}
 pub use Rattle.noise.specs.declared.Noise.{Noise}
-pub use Rattle.admission.specs.Refusals.{filterSideRefusal, mergeOf, runRefusal}
-unfoldable pub use Rattle.admission.specs.Refusals.{alignRefusal, contentTests, mergeRefusal, runTests}
-pub use Rattle.residuals.specs.Residual.{Pair, gap}
-unfoldable pub use Rattle.residuals.specs.Residual.{difference, residual, rowResidual}
-pub use Rattle.residuals.specs.declared.Tile.{Tile}
-pub use Rattle.search.specs.Vectors.{still, _plus_, _times_}
-pub use Rattle.levels.specs.Fields.{levelAt}
-unfoldable pub use Rattle.levels.specs.Fields.{coarsest, finer, fromCoarse, levelTile}
-unfoldable pub use Rattle.alignment.specs.Aligned.{alignedVectors, fieldOf, residualSums, sumOf}
-unfoldable pub use Rattle.alignment.specs.Fields.{field0, field1, field2, field3, levelColumns, levelRows, residualSum}
-pub use Rattle.alignment.specs.Frames.{levelImage}
-unfoldable pub use Rattle.alignment.specs.Frames.{pairs, residualOf, vectorsOf}
-pub use Rattle.alignment.specs.Rows.{frameRows}
-unfoldable pub use Rattle.alignment.specs.Rows.{rowsOf, rowsSummed}
-unfoldable pub use Rattle.tile_residuals.specs.Residuals.{residualWord, tileResidual, tileResiduals}
+pub use Rattle.admit_call.specs.Refusals.{filterSideRefusal, mergeOf, runRefusal}
+unfoldable pub use Rattle.admit_call.specs.Refusals.{alignRefusal, contentTests, mergeRefusal, runTests}
+pub use Rattle.align_residual.specs.Residual.{Pair, gap}
+unfoldable pub use Rattle.align_residual.specs.Residual.{difference, residual, rowResidual}
+pub use Rattle.align_residual.specs.declared.Tile.{Tile}
+pub use Rattle.align_search.specs.Vectors.{still, _plus_, _times_}
+pub use Rattle.align_level.specs.Fields.{levelAt}
+unfoldable pub use Rattle.align_level.specs.Fields.{coarsest, finer, fromCoarse, levelTile}
+unfoldable pub use Rattle.align_burst.specs.Aligned.{alignedVectors, fieldOf, residualSums, sumOf}
+unfoldable pub use Rattle.align_burst.specs.Fields.{field0, field1, field2, field3, levelColumns, levelRows, residualSum}
+pub use Rattle.align_burst.specs.Frames.{levelImage}
+unfoldable pub use Rattle.align_burst.specs.Frames.{pairs, residualOf, vectorsOf}
+pub use Rattle.align_burst.specs.Rows.{frameRows}
+unfoldable pub use Rattle.align_burst.specs.Rows.{rowsOf, rowsSummed}
+unfoldable pub use Rattle.align_measure.specs.Residuals.{residualWord, tileResidual, tileResiduals}
 pub use Rattle.stacker.specs.Calls.{Aligned, Merged, Ran, noSums}
 unfoldable pub use Rattle.stacker.specs.Calls.{answered}
 pub use Rattle.stacker.specs.declared.Alignment.{Alignment}

@@ -2,10 +2,10 @@
 use mathlib.Core.Path.{_≡_, ap₂, fun-ext}
 use Rattle.sanity.specs.Prelude.{ℕ, zero, suc, _+_, _*_, _/_, _≤_, _<_, arith, ℤ, Shape, Allowed, Image, inside, read, level1, level2, levelSize, levelAt, levelImage, pairs}
 use Rattle.geometry.specs.ReadLaws.{inside-below}
-use Rattle.bayer.specs.Bayer.{bayerSum}
-use Rattle.halving.specs.Halving.{halved}
-use Rattle.halving.specs.HalvingLaws.{halved-agree}
-use Rattle.pyramid.specs.Pyramid.{quartered, image0, image1, image2, image3}
+use Rattle.align_pyramid.specs.Bayer.Bayer.{bayerSum}
+use Rattle.align_pyramid.specs.Halving.Halving.{halved}
+use Rattle.align_pyramid.specs.Halving.HalvingLaws.{halved-agree}
+use Rattle.align_pyramid.specs.Pyramid.{quartered, image0, image1, image2, image3}
 use Rattle.sanity.specs.Frames.{Same}
 use Rattle.sanity.specs.StillLaws.{Equal}
 

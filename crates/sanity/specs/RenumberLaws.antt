@@ -4,7 +4,7 @@ use native.Mathlib.Decide.{ℕ-discrete}
 use lib.IntN.{ℤ, pos, _+ℤ_, +ℤ-idl, +ℤ-idr}
 use borrow.Author.Tests.{eq-eqb, ne-eqb}
 use Rattle.algebra.specs.SumLaws.{sumZ-cong, sumZ-0, sumZ-add}
-use Rattle.spectrum.specs.ZeroLaws.{sumZ-zero}
+use Rattle.tile_spectrum.specs.ZeroLaws.{sumZ-zero}
 
 -- a renumbering of 0 .. n − 1, and the one that undoes it
 pub record Renumbering (n : ℕ) (to from : ℕ → ℕ) : Type 0 where

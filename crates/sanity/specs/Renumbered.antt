@@ -4,7 +4,7 @@ use Rattle.algebra.specs.Prelude.{List, ℕ, suc, _*_, _/_, _%_, _≤_, _<_, ar
 use Rattle.algebra.specs.SumLaws.{sumZ-cong}
 use Rattle.sanity.specs.Prelude.{clampZ, away, upward, AllowedSize, TileSide, planeOf, noiseNumber, Merge, Side, side16, sideOf, binRe, binIm, inverseAt, correctionAt, rowIn, columnIn, weightIn, Scene, sceneOf, tileAt, tileOver, referenceTile, otherTile, tileNoise, tileSpatial, tileDifference, tileHere, sceneAt, planeOutput, outputAt, wordAt, merged}
 use Rattle.sequences.specs.Grid.{tab-ext}
-use Rattle.roots.specs.TileRootLaws.{tile-root-cong}
+use Rattle.tile_root.specs.TileRootLaws.{tile-root-cong}
 use Rattle.recipe.specs.Tables32.{side32}
 use Rattle.recipe.specs.SideLaws.{by-table}
 use Rattle.recipe.specs.SpatialNoise.{spatialNumber}

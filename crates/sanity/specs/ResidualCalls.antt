@@ -7,9 +7,9 @@ use Rattle.sequences.specs.Grid.{tab-ext}
 use Rattle.sequences.specs.ClearLaws.{tab-const}
 use Rattle.sequences.specs.Place.{row-below}
 use Rattle.refusals.specs.AfterLaws.{result-made}
-use Rattle.tile_residuals.specs.SumLaws.{residuals-sum}
-use Rattle.tile_residuals.specs.Frames.{Ready}
-use Rattle.admission.specs.Residuals.{residualRefusal}
+use Rattle.align_measure.specs.SumLaws.{residuals-sum}
+use Rattle.align_measure.specs.Frames.{Ready}
+use Rattle.admit_call.specs.Residuals.{residualRefusal}
 use Rattle.stacker.specs.Residuals.{ResidualsFound}
 use Rattle.stacker.specs.ResidualLaws.{residual-passed}
 use Rattle.sanity.specs.Frames.{Burst, Alike}

@@ -8,7 +8,7 @@ use Rattle.algebra.specs.Ring.{var, _⊞_, _⊠_, #_, ring}
 use Rattle.algebra.specs.Vars.{vars4}
 use Rattle.algebra.specs.Cert.{nn, le, lt, _⊕_, _⊗_, by-le, by-lt, le-pos}
 use Rattle.algebra.specs.Floor.{floor-le, floor-lt, floor-unique}
-use Rattle.spectrum.specs.ZeroLaws.{away-zero}
+use Rattle.tile_spectrum.specs.ZeroLaws.{away-zero}
 
 away-neg : (z : ℤ) (m : ℕ) → 0 < m → away (negℤ z) m ≡ negℤ (away z m)
 unfolding away

@@ -8,12 +8,12 @@ use Rattle.refusals.specs.Numbers as no
 use Rattle.refusals.specs.Some.{some}
 use Rattle.refusals.specs.After.{after}
 use Rattle.geometry.specs.VectorLaws.{other-below}
-use Rattle.values.specs.Bounds.{sampleRefusal}
+use Rattle.admit_value.specs.Bounds.{sampleRefusal}
 use Rattle.algebra.specs.SumLaws.{sumN-cong}
 use Rattle.sharpness.specs.Sharpness.{sharpest}
 use Rattle.sharpness.specs.SharpnessLaws.{sharpest-same}
 use Rattle.stacker.specs.declared.Choice.{Choice}
-use Rattle.admission.specs.Residuals.{residualRefusal}
+use Rattle.admit_call.specs.Residuals.{residualRefusal}
 use Rattle.stacker.specs.AdmissionLaws.{align-passed, run-passed, merge-passed}
 use Rattle.stacker.specs.Residuals.{ResidualsFound}
 use Rattle.stacker.specs.ResidualLaws.{residual-passed}

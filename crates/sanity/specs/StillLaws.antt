@@ -6,11 +6,11 @@ use Rattle.algebra.specs.SumLaws.{sumN-cong, sumN-const}
 use Rattle.sequences.specs.Grid.{tab-ext}
 use Rattle.sequences.specs.ClearLaws.{tab-const}
 use Rattle.sequences.specs.Least.{firstMin}
-use Rattle.search.specs.Offsets.{offset}
-use Rattle.search.specs.OffsetLaws.{offset-zero}
-use Rattle.search.specs.Search.{tried, chosen, bestVector, three, guessed}
+use Rattle.align_search.specs.Offsets.{offset}
+use Rattle.align_search.specs.OffsetLaws.{offset-zero}
+use Rattle.align_search.specs.Search.{tried, chosen, bestVector, three, guessed}
 use Rattle.sequences.specs.LeastLaws.{first}
-use Rattle.fields.specs.LevelSums.{residuals}
+use Rattle.align_field.specs.LevelSums.{residuals}
 use Rattle.sanity.specs.FrameLaws.{row-inside}
 
 -- a sum of equal terms

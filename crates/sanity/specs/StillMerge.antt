@@ -5,7 +5,7 @@ use lib.ListN.{getD, replicate}
 use Rattle.sanity.specs.Frames.{Burst, Same, Alike, imageWords, frameWords}
 use Rattle.geometry.specs.VectorLaws.{other-below}
 use Rattle.sanity.specs.FrameLaws.{frame-words, alike-same}
-use Rattle.spectrum.specs.ZeroLaws.{no-difference}
+use Rattle.tile_spectrum.specs.ZeroLaws.{no-difference}
 use Rattle.sanity.specs.MergeLaws.{tile-same, Uncorrected, output-is, merged-is}
 
 -- every other frame is the reference, and no tile of it has moved

@@ -3,7 +3,7 @@ use Rattle.sanity.specs.Prelude.{_≡_, sym, ap, _∙_, List, ℕ, _/_, 
 use Rattle.noise.specs.NoiseNumberLaws.{noise-number-off}
 use Rattle.sanity.specs.Frames.{frameWords, Burst}
 use Rattle.sanity.specs.FrameLaws.{frame-words}
-use Rattle.spectrum.specs.ZeroLaws.{no-noise}
+use Rattle.tile_spectrum.specs.ZeroLaws.{no-noise}
 use Rattle.sanity.specs.MergeLaws.{Uncorrected, output-is, merged-is}
 
 module _ (s : Scene) (plain : s .tuning .spatial ≡ 0) (off : s .tuning .strength ≡ 0) where

@@ -1,5 +1,5 @@
 // The program `stack`: a burst file from standard input, its text to standard output. What cannot be read or written is said on standard error.
-use input::Input;
+use file_input::Input;
 use libc::STDIN_FILENO;
 use libc::STDOUT_FILENO;
 use report::sizes::FILE_ROOM;
@@ -8,7 +8,7 @@ use report::sizes::TEXT_ROOM;
 fn main() {
     let mut file = [0u8; FILE_ROOM];
     let mut text = [0u8; TEXT_ROOM];
-    match input::read_all(STDIN_FILENO, &mut file) {
+    match file_input::read_all(STDIN_FILENO, &mut file) {
         Input::Failed => os::fail(b"stack: standard input"),
         Input::Read { count } => {
             let length = report::stack_text(&file, count, &mut text);

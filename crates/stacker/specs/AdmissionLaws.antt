@@ -1,13 +1,13 @@
 -- What a call's tests let through: each fact is that of one test, found in the list wherever it stands.
 use Rattle.stacker.specs.Prelude.{_≡_, List, ℕ, length, ℤ, Shape, alignShapeTests, mergeShapeTests, Noise, noiseTests, Tuning, alignRefusal, contentTests, runTests, runRefusal, mergeRefusal, mergeOf}
 use Rattle.refusals.specs.TestLaws.{among, passed, both-passed}
-use Rattle.limits.specs.OrderLaws.{align-fits, merge-fits}
-use Rattle.values.specs.Bounds.{vectorRefusal}
-use Rattle.values.specs.BoundLaws.{samples-fit}
+use Rattle.admit_length.specs.OrderLaws.{align-fits, merge-fits}
+use Rattle.admit_value.specs.Bounds.{vectorRefusal}
+use Rattle.admit_value.specs.BoundLaws.{samples-fit}
 use Rattle.noise.specs.LevelLaws.{shot-level-bound, read-level-bound, strength-most, spatial-most}
-use Rattle.alignment.specs.Burst.{Ready}
+use Rattle.align_burst.specs.Burst.{Ready}
 use Rattle.pipeline.specs.Levels.{Runnable}
-use Rattle.admission.specs.FilterLaws.{unfiltered}
+use Rattle.admit_call.specs.FilterLaws.{unfiltered}
 
 module _ (s : Shape) (reference : ℕ) (samples : List ℕ) (vectors : List ℤ) where
   pub align-passed : (work : List ℤ) → alignRefusal s reference samples vectors work ≡ 0 → Ready s reference samples vectors work

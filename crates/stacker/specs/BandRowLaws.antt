@@ -1,9 +1,9 @@
 -- A band in rows of tiles, a side of the frame's rows each: what merging asks for, and what it gives.
 use Rattle.stacker.specs.Prelude.{_≡_, sym, ap, ap₂, _∙_, List, ℕ, _+_, _-_, _*_, _/_, _%_, _≤_, arith, ℤ, TileSide, bandLength, bandWorkLength, tab, Merge, Scene, sceneAt, sceneOf, wordAt, merged}
-use Rattle.tiles.specs.Places.{by-side}
-use Rattle.tiles.specs.Rows.{rowWords}
-use Rattle.merging.specs.Progress.{mergedRows}
-use Rattle.merging.specs.Ready.{RowsLent}
+use Rattle.merge_tiles.specs.Places.{by-side}
+use Rattle.merge_tiles.specs.Rows.{rowWords}
+use Rattle.merge_frame.specs.Progress.{mergedRows}
+use Rattle.merge_frame.specs.Ready.{RowsLent}
 use Rattle.stacker.specs.Bands.{band}
 use Rattle.stacker.specs.BandLaws.{band-room, tab-part}
 use Rattle.stacker.specs.BandReady.{BandLent}

@@ -2,12 +2,12 @@
 use Rattle.stacker.specs.Prelude.{_≡_, refl, sym, ap, ap₂, subst, _∙_, List, ℕ, length, ℤ, zeros, Shape, bandShapeTests, Noise, noiseTests, Tuning, sceneOf, merged, Tested, contentTests, valueTests, mergeOf, BandTested}
 use Rattle.refusals.specs.TestLaws.{among, passed, both-passed}
 use Rattle.refusals.specs.AfterLaws.{kept, made}
-use Rattle.limits.specs.BandLaws.{band-fits}
-use Rattle.values.specs.BoundLaws.{samples-fit, vectors-fit}
+use Rattle.admit_length.specs.BandLaws.{band-fits}
+use Rattle.admit_value.specs.BoundLaws.{samples-fit, vectors-fit}
 use Rattle.noise.specs.LevelLaws.{shot-level-bound, read-level-bound, strength-most, spatial-most}
-use Rattle.admission.specs.FilterLaws.{unfiltered}
-use Rattle.admission.specs.Bands.{bandRefusal}
-use Rattle.admission.specs.AdmissionLaws.{tested-number, tested-levels}
+use Rattle.admit_call.specs.FilterLaws.{unfiltered}
+use Rattle.admit_call.specs.Bands.{bandRefusal}
+use Rattle.admit_call.specs.AdmissionLaws.{tested-number, tested-levels}
 use Rattle.stacker.specs.Bands.{band, Banded}
 use Rattle.stacker.specs.BandReady.{BandLent}
 use Rattle.stacker.specs.CloseLaws.{output-close}

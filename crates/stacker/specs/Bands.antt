@@ -1,6 +1,6 @@
 -- A band of the merged frame: what the call for it answers, and what it leaves in every lent buffer. Samples and vectors are only read.
 use Rattle.stacker.specs.Prelude.{_≡_, List, ℕ, _*_, take, drop, ℤ, zeros, Shape, after, Noise, Tuning, sceneOf, merged, mergeOf}
-use Rattle.admission.specs.Bands.{bandRefusal}
+use Rattle.admit_call.specs.Bands.{bandRefusal}
 use Rattle.stacker.specs.Calls.{Close, Capped}
 
 -- rows `top` to top + rows − 1 of a frame of that width

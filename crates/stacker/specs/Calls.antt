@@ -2,7 +2,7 @@
 use Rattle.stacker.specs.Prelude.{_≡_, List, [], _∷_, ℕ, _+_, _*_, _/_, _%_, _<_, getD, ℤ, pos, zeros, Shape, after, Noise, alignedVectors, residualSums, rowsSummed, Scene, sceneOf, merged, Tuning, alignRefusal, runRefusal, mergeRefusal, mergeOf}
 use Rattle.algebra.specs.Fraction.{whole, Within}
 use Rattle.recipe.specs.ExactMerge.{exactAt, exactFilteredAt}
-use Rattle.ceiling.specs.Leak.{largestOver, leak, UnderCeiling}
+use Rattle.closeness.specs.Ceiling.Leak.{largestOver, leak, UnderCeiling}
 use Rattle.stacker.specs.declared.Alignment.{Alignment}
 
 -- "beside a refusal every other returned field is 0": the seven residual sums

@@ -4,10 +4,10 @@ use Rattle.recipe.specs.SideLaws.{by-table}
 use Rattle.closeness.specs.Closeness.{Fitting}
 use Rattle.closeness.specs.Side16.{fitting16}
 use Rattle.closeness.specs.Side32.{fitting32}
-use Rattle.ceiling.specs.Ceiling.{Circle}
-use Rattle.ceiling.specs.Sides.{circle16, circle32}
-use Rattle.ceiling.specs.Leak.{largestOver, leak, UnderCeiling}
-use Rattle.ceiling.specs.MergedCapped.{merged-capped}
+use Rattle.closeness.specs.Ceiling.Ceiling.{Circle}
+use Rattle.closeness.specs.Ceiling.Sides.{circle16, circle32}
+use Rattle.closeness.specs.Ceiling.Leak.{largestOver, leak, UnderCeiling}
+use Rattle.closeness.specs.Ceiling.MergedCapped.{merged-capped}
 use Rattle.stacker.specs.Calls.{Capped}
 use Rattle.stacker.specs.Bands.{band}
 use Rattle.stacker.specs.BandLaws.{band-every, band-all}

@@ -6,7 +6,7 @@ use Rattle.recipe.specs.Tables32.{side32}
 use Rattle.recipe.specs.Sides.{sideOf}
 use Rattle.recipe.specs.ExactMerge.{exactAt, exactFilteredAt}
 use Rattle.recipe.specs.SideLaws.{by-table}
-use Rattle.spatial.specs.MergedClose.{merged-close, merged-close-32, merged-two-steps}
+use Rattle.closeness.specs.Spatial.MergedClose.{merged-close, merged-close-32, merged-two-steps}
 use Rattle.stacker.specs.Calls.{Close}
 use Rattle.stacker.specs.Bands.{band}
 use Rattle.stacker.specs.BandLaws.{band-every, band-all}

@@ -12,7 +12,7 @@ use Rattle.refusals.specs.Numbers as no
 use Rattle.refusals.specs.AfterLaws.{result-made}
 use Rattle.geometry.specs.Tiles.{frameParts}
 use Rattle.geometry.specs.Vectors.{wordOf, vectorList, partsOf}
-use Rattle.limits.specs.OneFrame.{otherRefusal, frameWorkLength, alignFrameLengths, alignFrameShapeTests}
+use Rattle.admit_length.specs.OneFrame.{otherRefusal, frameWorkLength, alignFrameLengths, alignFrameShapeTests}
 use Rattle.stacker.specs.declared.Alignment.{Alignment}
 use Rattle.stacker.specs.declared.one_frame.FrameAlignment.{FrameAlignment}
 use Rattle.stacker.specs.Calls.{answered, Aligned}

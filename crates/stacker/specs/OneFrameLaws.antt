@@ -2,10 +2,10 @@
 use Rattle.stacker.specs.Prelude.{_≡_, sym, _∙_, List, ℕ, arith, length, ℤ, Shape, alignFrameRefusal}
 use Rattle.refusals.specs.TestLaws.{among, passed, both-passed}
 use Rattle.refusals.specs.AfterLaws.{kept, made}
-use Rattle.limits.specs.OneFrame.{frameWorkLength, alignFrameShapeTests}
-use Rattle.limits.specs.OneFrameLaws.{align-frame-fits, other-in, frame-vectors-long, frame-work-long}
-use Rattle.values.specs.BoundLaws.{samples-fit}
-use Rattle.alignment.specs.Burst.{ReadyFrame}
+use Rattle.admit_length.specs.OneFrame.{frameWorkLength, alignFrameShapeTests}
+use Rattle.admit_length.specs.OneFrameLaws.{align-frame-fits, other-in, frame-vectors-long, frame-work-long}
+use Rattle.admit_value.specs.BoundLaws.{samples-fit}
+use Rattle.align_burst.specs.Burst.{ReadyFrame}
 use Rattle.stacker.specs.declared.one_frame.FrameAlignment.{FrameAlignment}
 use Rattle.stacker.specs.OneFrame.{frameAnswered}
 

@@ -8,10 +8,10 @@ pub use Rattle.geometry.specs.Fits.{Allowed, BurstFits, MergeFits, SamplesFit, 
 pub use Rattle.geometry.specs.Shape.{rowRefusal, sideRefusal}
 unfoldable pub use Rattle.geometry.specs.Shape.{countAllowed, countRefusal, lengthRefusal, referenceRefusal, vectorLength, workLength}
 pub use Rattle.geometry.specs.declared.Shape.{Shape}
-pub use Rattle.limits.specs.Bands.{bandShapeTests}
-unfoldable pub use Rattle.limits.specs.Bands.{bandLength, bandWorkLength}
-pub use Rattle.limits.specs.Order.{mergeLengths}
-unfoldable pub use Rattle.limits.specs.Order.{alignLengths, alignShapeTests, burstTests, mergeShapeTests, shapeTests}
+pub use Rattle.admit_length.specs.Bands.{bandShapeTests}
+unfoldable pub use Rattle.admit_length.specs.Bands.{bandLength, bandWorkLength}
+pub use Rattle.admit_length.specs.Order.{mergeLengths}
+unfoldable pub use Rattle.admit_length.specs.Order.{alignLengths, alignShapeTests, burstTests, mergeShapeTests, shapeTests}
 pub use Rattle.recipe.specs.Merged.{wordAt}
 unfoldable pub use Rattle.recipe.specs.Merged.{merged}
 pub use Rattle.recipe.specs.Scene.{Scene, sceneOf}
@@ -20,12 +20,12 @@ pub use Rattle.recipe.specs.declared.Merge.{Merge}
 pub use Rattle.recipe.specs.declared.Tuning.{Tuning}
 pub use Rattle.noise.specs.Levels.{levelsOf, noiseTests, readLevel, shotLevel}
 pub use Rattle.noise.specs.declared.Noise.{Noise}
-pub use Rattle.admission.specs.Admission.{BandTested, RunTested, testedAs}
-unfoldable pub use Rattle.admission.specs.OneFrame.{alignFrameRefusal}
-pub use Rattle.admission.specs.Refusals.{mergeOf, runRefusal, valueTests}
-unfoldable pub use Rattle.admission.specs.Refusals.{alignRefusal, contentTests, mergeRefusal, runTests}
-pub use Rattle.admission.specs.declared.Tested.{Tested}
-pub use Rattle.alignment.specs.Aligned.{fieldOf, sumOf}
-unfoldable pub use Rattle.alignment.specs.Aligned.{alignedVectors, residualSums}
-pub use Rattle.alignment.specs.Rows.{countOf}
-unfoldable pub use Rattle.alignment.specs.Rows.{rowsSummed}
+pub use Rattle.admit_call.specs.Admission.{BandTested, RunTested, testedAs}
+unfoldable pub use Rattle.admit_call.specs.OneFrame.{alignFrameRefusal}
+pub use Rattle.admit_call.specs.Refusals.{mergeOf, runRefusal, valueTests}
+unfoldable pub use Rattle.admit_call.specs.Refusals.{alignRefusal, contentTests, mergeRefusal, runTests}
+pub use Rattle.admit_call.specs.declared.Tested.{Tested}
+pub use Rattle.align_burst.specs.Aligned.{fieldOf, sumOf}
+unfoldable pub use Rattle.align_burst.specs.Aligned.{alignedVectors, residualSums}
+pub use Rattle.align_burst.specs.Rows.{countOf}
+unfoldable pub use Rattle.align_burst.specs.Rows.{rowsSummed}

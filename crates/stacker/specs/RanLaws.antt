@@ -1,9 +1,9 @@
 -- What run owes where its tests refuse, and where they pass and the core has run on the levels that they found.
 use Rattle.stacker.specs.Prelude.{_≡_, sym, ap₂, subst, _∙_, List, ℕ, _≤_, ℤ, Shape, Noise, levelsOf, shotLevel, readLevel, alignedVectors, Merge, Tuning, sceneOf, merged, Tested, RunTested, runRefusal}
 use Rattle.refusals.specs.AfterLaws.{kept, made}
-use Rattle.alignment.specs.declared.burst.Totals.{Totals}
+use Rattle.align_burst.specs.declared.burst.Totals.{Totals}
 use Rattle.pipeline.specs.Levels.{Runnable, RanLevels}
-use Rattle.admission.specs.AdmissionLaws.{tested-number, tested-levels}
+use Rattle.admit_call.specs.AdmissionLaws.{tested-number, tested-levels}
 use Rattle.stacker.specs.AdmissionLaws.{run-passed}
 use Rattle.stacker.specs.CallLaws.{answer-refused, answer-accepted}
 use Rattle.stacker.specs.CloseLaws.{found-close}

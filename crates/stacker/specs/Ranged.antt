@@ -5,7 +5,7 @@ use Rattle.noise.specs.declared.Noise.the-variants.{Measured}
 use Rattle.noise.specs.Curve.{curveOf}
 use Rattle.range.specs.Crossed.{NoneAbove}
 use Rattle.range.specs.Frames.{lowFrame, highFrame}
-use Rattle.range_admission.specs.Refusals.{rangeRefusal}
+use Rattle.admit_range.specs.Refusals.{rangeRefusal}
 
 pub record Ranged (s : Shape) (reference : ℕ) (lower upper : Noise) (tuning : Tuning) (samples : List ℕ) (vectors : List ℤ) (low low′ high high′ : List ℕ) (work work′ : List ℤ) (number : ℕ) : Type 0 where
   pub answer : number ≡ rangeRefusal s reference lower upper tuning samples vectors low high work

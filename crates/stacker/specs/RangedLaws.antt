@@ -3,8 +3,8 @@ use Rattle.stacker.specs.Prelude.{_≡_, refl, sym, ap, ap₂, subst, _�
 use native.Mathlib.Nat.{mul-le-mul-left}
 use Rattle.refusals.specs.TestLaws.{among, passed, both-passed}
 use Rattle.refusals.specs.AfterLaws.{kept, made}
-use Rattle.values.specs.Bounds.{vectorRefusal}
-use Rattle.values.specs.BoundLaws.{samples-fit, vectors-fit}
+use Rattle.admit_value.specs.Bounds.{vectorRefusal}
+use Rattle.admit_value.specs.BoundLaws.{samples-fit, vectors-fit}
 use Rattle.noise.specs.declared.Noise.the-variants.{Measured}
 use Rattle.noise.specs.Curve.{curveOf}
 use Rattle.noise.specs.LevelLaws.{shot-level-bound, read-level-bound, strength-most}
@@ -12,9 +12,9 @@ use Rattle.range.specs.Crossed.{NoneAbove, rangeNoiseTests}
 use Rattle.range.specs.Frames.{lowFrame, highFrame}
 use Rattle.range.specs.FrameLaws.{low-frame-same, high-frame-same}
 use Rattle.range.specs.CurveLaws.{range-passed, levels-rise, curve-inside}
-use Rattle.range_admission.specs.Refusals.{rangeShapeTests, rangeContentTests, rangeRefusal}
-use Rattle.range_admission.specs.RefusalLaws.{range-fits, range-side, high-long, unfiltered}
-use Rattle.tiles.specs.Rows.{rowWords}
+use Rattle.admit_range.specs.Refusals.{rangeShapeTests, rangeContentTests, rangeRefusal}
+use Rattle.admit_range.specs.RefusalLaws.{range-fits, range-side, high-long, unfiltered}
+use Rattle.merge_tiles.specs.Rows.{rowWords}
 use Rattle.range_tiles.specs.declared.Upper.{Upper}
 use Rattle.range_tiles.specs.EndSums.{raised}
 use Rattle.range_frame.specs.Ready.{RangeLent}

@@ -1,11 +1,11 @@
 -- What that call's tests let through.
 use Rattle.stacker.specs.Prelude.{_≡_, List, ℕ, length, ℤ, Shape}
 use Rattle.refusals.specs.TestLaws.{among, passed, both-passed}
-use Rattle.limits.specs.Residuals.{residualShapeTests}
-use Rattle.limits.specs.ResidualLaws.{residual-fits, residuals-long}
-use Rattle.values.specs.BoundLaws.{samples-fit, vectors-fit}
-use Rattle.admission.specs.Residuals.{residualRefusal}
-use Rattle.tile_residuals.specs.Frames.{Ready}
+use Rattle.admit_length.specs.Residuals.{residualShapeTests}
+use Rattle.admit_length.specs.ResidualLaws.{residual-fits, residuals-long}
+use Rattle.admit_value.specs.BoundLaws.{samples-fit, vectors-fit}
+use Rattle.admit_call.specs.Residuals.{residualRefusal}
+use Rattle.align_measure.specs.Frames.{Ready}
 
 pub residual-passed : (s : Shape) (reference : ℕ) (samples : List ℕ) (vectors : List ℤ) (residuals : List ℕ) (work : List ℤ) → residualRefusal s reference samples vectors residuals work ≡ 0 → Ready s reference samples vectors residuals work
 unfolding residualRefusal

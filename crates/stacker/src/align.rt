@@ -1,7 +1,7 @@
 // Align: a burst to its vectors.
 ghost use Rattle.stacker.specs.Calls.{Aligned};
 use crate::Alignment;
-use admission::align_refusal;
+use admit_call::align_refusal;
 use geometry::Shape;
 use pipeline::clear;
 
@@ -23,7 +23,7 @@ pub fn align(
             rows: 0,
         };
     }
-    let totals = alignment::burst::align_frames(
+    let totals = align_burst::burst::align_frames(
         shape,
         reference,
         samples,

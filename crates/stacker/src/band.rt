@@ -2,7 +2,7 @@
 ghost use Rattle.stacker.specs.Prelude.{_≡_, length, sceneOf, merged};
 ghost use Rattle.stacker.specs.Bands.{band, Banded};
 ghost use Rattle.stacker.specs.BandReady.{BandLent};
-use admission::band_refusal;
+use admit_call::band_refusal;
 use geometry::Shape;
 use noise::Noise;
 use pipeline::clear;
@@ -25,7 +25,7 @@ fn band_rows(
     let side = m.shape.side;
     let first = top / side;
     let last = (top + rows) / side;
-    merging::merge_rows(m, samples, vectors, first, last, &mut *output, &mut *work);
+    merge_frame::merge_rows(m, samples, vectors, first, last, &mut *output, &mut *work);
 }
 
 // Rows `top` to `top + rows` - 1 of the merged frame of a burst, by lent vectors, into an output of just these rows.

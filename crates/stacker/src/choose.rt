@@ -2,7 +2,7 @@
 ghost use Rattle.stacker.specs.Choosing.{Chosen};
 use crate::Alignment;
 use crate::Choice;
-use admission::run_refusal;
+use admit_call::run_refusal;
 use geometry::Shape;
 use noise::Noise;
 use pipeline::run_levels;

@@ -1,6 +1,6 @@
 // Merge: a burst and lent vectors to the output.
 ghost use Rattle.stacker.specs.Calls.{Merged};
-use admission::run_refusal;
+use admit_call::run_refusal;
 use geometry::Shape;
 use noise::Noise;
 use pipeline::clear;
@@ -33,7 +33,7 @@ pub fn merge(
     if tested.refusal != 0 {
         return tested.refusal;
     }
-    let lent = values::vector_refusal(vectors);
+    let lent = admit_value::vector_refusal(vectors);
     if lent != 0 {
         return lent;
     }
@@ -44,7 +44,7 @@ pub fn merge(
         read: tested.read,
         tuning,
     };
-    merging::merge_frames(m, samples, vectors, &mut *output, &mut *work);
+    merge_frame::merge_frames(m, samples, vectors, &mut *output, &mut *work);
     clear(&mut *work);
     0
 }

@@ -1,7 +1,7 @@
 // Align, of one other frame: the vectors of a burst by calls that know nothing of each other.
 ghost use Rattle.stacker.specs.OneFrame.{FrameAligned};
-use admission::one_frame::align_frame_refusal;
-use alignment::burst::align_one;
+use admit_call::one_frame::align_frame_refusal;
+use align_burst::burst::align_one;
 use geometry::Shape;
 use pipeline::clear;
 

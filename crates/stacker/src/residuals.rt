@@ -1,9 +1,9 @@
 // Residuals: a burst and lent vectors to the finest residual of each tile.
 ghost use Rattle.stacker.specs.Residuals.{ResidualsFound};
-use admission::residual_refusal;
+use admit_call::residual_refusal;
+use align_measure::measure_frames;
 use geometry::Shape;
 use pipeline::clear;
-use tile_residuals::measure_frames;
 
 // The residual of every tile of every other frame at its lent vector, in the order of the vectors.
 pub fn residuals(

@@ -1,7 +1,7 @@
 // Run: align, then merge.
 ghost use Rattle.stacker.specs.Calls.{Ran};
 use crate::Alignment;
-use admission::run_refusal;
+use admit_call::run_refusal;
 use geometry::Shape;
 use noise::Noise;
 use pipeline::run_levels;

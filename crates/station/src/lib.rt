@@ -1,8 +1,8 @@
 // The capture station's questions, for C. Each is total: it answers for every argument.
-use burst_file::SAMPLE_MOST;
+use file_burst::SAMPLE_MOST;
 ghost use mathlib.Core.Path.{_≡_};
-ghost use Rattle.limits.specs.Question.{lengthQuestion};
-ghost use Rattle.burst_file.specs.Reading.{fileCheck};
+ghost use Rattle.admit_length.specs.Question.{lengthQuestion};
+ghost use Rattle.file_burst.specs.Reading.{fileCheck};
 ghost use Rattle.station.specs.Station.{noiseQuestion};
 use noise::Curve;
 use noise::Levels;
@@ -20,7 +20,7 @@ pub extern "C" fn station_length(
 ) -> u64
     ensures { λ r. ⌜ r ≡ lengthQuestion width height count side «row_length» number ⌝ }
 {
-    limits::question::length_question(width, height, count, side, row_length, number)
+    admit_length::question::length_question(width, height, count, side, row_length, number)
 }
 
 // V of a curve, a strength, a root and a side; 0 where refusal 8, 9, 10 or 22 would stand, or the root exceeds that.
@@ -34,7 +34,7 @@ pub extern "C" fn station_noise(shot: f64, read: f64, strength: u64, root: u64, 
             if noise::strength_refusal(strength) != 0 {
                 return 0;
             }
-            if !sizes::side_allowed(side as usize) {
+            if !admit_size::side_allowed(side as usize) {
                 return 0;
             }
             // The root of a tile whose samples are all 4095 is that times its side.
@@ -51,5 +51,5 @@ pub extern "C" fn station_noise(shot: f64, read: f64, strength: u64, root: u64, 
 pub extern "C" fn station_check(file: &[u8]) -> u64
     ensures { λ r. ⌜ r ≡ fileCheck (now (file .entry)) ⌝ }
 {
-    burst_file::check_file(file)
+    file_burst::check_file(file)
 }

@@ -3,9 +3,9 @@ use Rattle.witnesses.specs.Prelude.{_≡_, refl, sym, ap, _∙_, List, [
 use lib.ListN.{replicate, length-replicate}
 use Rattle.refusals.specs.TestLaws.{goes}
 use Rattle.refusals.specs.AfterLaws.{result-made}
-use Rattle.limits.specs.Bands.{bandAllowed, bandPartRefusal, bandLength, bandWorkLength, bandLengths, bandShapeTests}
-use Rattle.admission.specs.Refusals.{filterSideRefusal, contentTests, valueTests}
-use Rattle.admission.specs.Bands.{bandRefusal}
+use Rattle.admit_length.specs.Bands.{bandAllowed, bandPartRefusal, bandLength, bandWorkLength, bandLengths, bandShapeTests}
+use Rattle.admit_call.specs.Refusals.{filterSideRefusal, contentTests, valueTests}
+use Rattle.admit_call.specs.Bands.{bandRefusal}
 use Rattle.stacker.specs.Bands.{band, Banded}
 use Rattle.witnesses.specs.Inputs.{Input, dark, full, vectors, work, width-96, nine-frames, reference-2, side-24, row-63, one-short, no-vectors, one-over, no-work, iso-24, shot-65, strength-1025, black-256, spatial-257, spatial-at-32, sample-4096, part-173}
 use Rattle.witnesses.specs.Bursts.{numbers, noise-passes, content-passes, frame-2}

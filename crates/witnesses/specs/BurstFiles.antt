@@ -1,13 +1,13 @@
 -- Document 01's figure as a burst file, which is read, and a file for each refusal of file reading and of the file check.
 use Rattle.witnesses.specs.Prelude.{_≡_, refl, List, [], _∷_, _++_, ℕ, zero, suc, first, sizeAllowed, countAllowed, sizeRefusal, countRefusal, referenceRefusal, sampleLength, lengthRefusal, shapeTests, levelRefusal, strengthRefusal, shape, plain, burst}
 use Rattle.printing.specs.Ascii.{ascii}
-use Rattle.file_lines.specs.Part.{found, numberOf}
-use Rattle.file_lines.specs.Line.{pastSpaces, afterDigits, digitsFrom, valuesOf, hasLF, above}
-use Rattle.file_head.specs.Names.{names}
-use Rattle.file_head.specs.Head.{startsWith, firstLineRefusal, headerRefusal, headOf}
-use Rattle.file_head.specs.declared.Header.{Header}
-use Rattle.burst_file.specs.Rows.{row, rowLines, framesOf}
-use Rattle.burst_file.specs.Reading.{bodyOf, reading, readingInto, fileCheck}
+use Rattle.file_burst.specs.Lines.Part.{found, numberOf}
+use Rattle.file_burst.specs.Lines.Line.{pastSpaces, afterDigits, digitsFrom, valuesOf, hasLF, above}
+use Rattle.file_burst.specs.Head.Names.{names}
+use Rattle.file_burst.specs.Head.Head.{startsWith, firstLineRefusal, headerRefusal, headOf}
+use Rattle.file_burst.specs.declared.head.Header.{Header}
+use Rattle.file_burst.specs.Rows.{row, rowLines, framesOf}
+use Rattle.file_burst.specs.Reading.{bodyOf, reading, readingInto, fileCheck}
 
 -- a space and a digit n times, and the LF
 abbrev pub spaced : (digit n : ℕ) (rest : List ℕ) → List ℕ

@@ -4,14 +4,14 @@ use lib.ListN.{replicate, length-replicate}
 use Rattle.refusals.specs.TestLaws.{goes, lone}
 use Rattle.refusals.specs.After.{after}
 use Rattle.refusals.specs.AfterLaws.{result-made}
-use Rattle.limits.specs.Residuals.{residualLength, residualLengths, residualShapeTests}
-use Rattle.values.specs.BoundLaws.{samples-pass, values-samples}
+use Rattle.admit_length.specs.Residuals.{residualLength, residualLengths, residualShapeTests}
+use Rattle.admit_value.specs.BoundLaws.{samples-pass, values-samples}
 use Rattle.recipe.specs.Scene.{sceneOf}
 use Rattle.recipe.specs.Merged.{merged}
-use Rattle.alignment.specs.Aligned.{residualSums}
-use Rattle.alignment.specs.Rows.{rowsSummed}
-use Rattle.admission.specs.Refusals.{alignRefusal, filterSideRefusal, contentTests, runTests, runRefusal, mergeRefusal, mergeOf}
-use Rattle.admission.specs.Residuals.{residualRefusal}
+use Rattle.align_burst.specs.Aligned.{residualSums}
+use Rattle.align_burst.specs.Rows.{rowsSummed}
+use Rattle.admit_call.specs.Refusals.{alignRefusal, filterSideRefusal, contentTests, runTests, runRefusal, mergeRefusal, mergeOf}
+use Rattle.admit_call.specs.Residuals.{residualRefusal}
 use Rattle.stacker.specs.declared.Alignment.{Alignment}
 use Rattle.stacker.specs.declared.Choice.{Choice}
 use Rattle.stacker.specs.Calls.{answered, Aligned, Merged, Ran}

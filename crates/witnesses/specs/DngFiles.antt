@@ -5,13 +5,13 @@ use borrow.Author.Tests.{le-ltb}
 use Rattle.refusals.specs.TestLaws.{goes, lone}
 use Rattle.refusals.specs.SomeLaws.{not-one}
 use Rattle.geometry.specs.declared.Shape.{Shape}
-use Rattle.tiff.specs.Bytes.{short, long, number}
-use Rattle.tiff.specs.Directory.{headerWrong, directoryOutside, entriesFrom, entries, timesOf}
-use Rattle.tiff.specs.Fields.{right, sizeOf, fieldAt, firstField, fieldOutside, valueAt}
-use Rattle.dng_tags.specs.Tags.{tags, tagAt, demands, demandAt, hasBlack, listed, demanded}
-use Rattle.dng_tags.specs.Refusals.{absent, valueOf, stripStart, valueOutside, stripOutside, outside, notOnce, sizeDiffers, demandMissed, otherwise, tagTests}
-use Rattle.dng_strip.specs.Strip.{stripSample, stripRefusal}
-use Rattle.dng.specs.Refusals.{roomTests, dngRefusal}
+use Rattle.file_dng.specs.Tiff.Bytes.{short, long, number}
+use Rattle.file_dng.specs.Tiff.Directory.{headerWrong, directoryOutside, entriesFrom, entries, timesOf}
+use Rattle.file_dng.specs.Tiff.Fields.{right, sizeOf, fieldAt, firstField, fieldOutside, valueAt}
+use Rattle.file_dng.specs.Tags.Tags.{tags, tagAt, demands, demandAt, hasBlack, listed, demanded}
+use Rattle.file_dng.specs.Tags.Refusals.{absent, valueOf, stripStart, valueOutside, stripOutside, outside, notOnce, sizeDiffers, demandMissed, otherwise, tagTests}
+use Rattle.file_dng.specs.Strip.Strip.{stripSample, stripRefusal}
+use Rattle.file_dng.specs.Refusals.{roomTests, dngRefusal}
 use Rattle.witnesses.specs.SmallLaws.{replicate-none}
 
 -- a SHORT and a LONG, the low byte first

@@ -1,8 +1,8 @@
 -- The call that aligns one other frame accepts document 01's figure, whose only other frame is at place 0, and has an input for each of its refusals.
 use Rattle.witnesses.specs.Prelude.{_≡_, refl, ap, _∙_, List, [], _∷_, ℕ, lit<, ℤ, pos, replicate, zeros, first, some, sizeAllowed, countAllowed, sizeRefusal, countRefusal, referenceRefusal, sideAllowed, sideRefusal, rowAllowed, rowRefusal, sampleLength, vectorLength, workLength, lengthRefusal, sampleIndex, sampleAt, shapeTests, burstTests, sampleRefusal, shape, plain, burst}
 use Rattle.refusals.specs.AfterLaws.{result-made}
-use Rattle.limits.specs.OneFrame.{otherRefusal, frameWorkLength, alignFrameLengths, alignFrameShapeTests}
-use Rattle.admission.specs.OneFrame.{alignFrameRefusal}
+use Rattle.admit_length.specs.OneFrame.{otherRefusal, frameWorkLength, alignFrameLengths, alignFrameShapeTests}
+use Rattle.admit_call.specs.OneFrame.{alignFrameRefusal}
 use Rattle.stacker.specs.declared.one_frame.FrameAlignment.{FrameAlignment}
 use Rattle.stacker.specs.OneFrame.{frameAnswered, FrameAligned}
 use Rattle.stacker.specs.FramesWhole.{refused-alike}

@@ -2,12 +2,12 @@
 use Rattle.witnesses.specs.Prelude.{_≡_, refl, List, [], _∷_, _++_, ℕ, lit≤, length, first, some, sizeAllowed, lengthRefusal}
 use lib.ListN.{replicate, length-replicate}
 use Rattle.printing.specs.Decimal.{digits, decimal}
-use Rattle.pgm_header.specs.Header.{pgmHeader, leading}
-use Rattle.pgm_samples.specs.Samples.{bytesOf, someAbove, aboveRefusal, samplesOf}
-use Rattle.pgm.specs.Form.{fileOf, sizesAllowed, PgmFile, fileLength, pgmLength}
-use Rattle.pgm.specs.Writing.{writeRefusal}
-use Rattle.pgm.specs.Reading.{widthIn, heightIn, differs, formed, samplesAs, refusalAs, readRefusal, samplesIn}
-use Rattle.pgm.specs.Acceptance as Acceptance
+use Rattle.file_pgm.specs.Header.Header.{pgmHeader, leading}
+use Rattle.file_pgm.specs.Samples.Samples.{bytesOf, someAbove, aboveRefusal, samplesOf}
+use Rattle.file_pgm.specs.Form.{fileOf, sizesAllowed, PgmFile, fileLength, pgmLength}
+use Rattle.file_pgm.specs.Writing.{writeRefusal}
+use Rattle.file_pgm.specs.Reading.{widthIn, heightIn, differs, formed, samplesAs, refusalAs, readRefusal, samplesIn}
+use Rattle.file_pgm.specs.Acceptance as Acceptance
 use Rattle.witnesses.specs.SmallLaws.{replicate-most}
 
 abbrev pub black : List ℕ

@@ -7,8 +7,8 @@ unfoldable pub use Rattle.refusals.specs.Tests.{first}
 unfoldable pub use Rattle.geometry.specs.Read.{sampleAt, sampleIndex}
 pub use Rattle.geometry.specs.Shape.{shaped}
 unfoldable pub use Rattle.geometry.specs.Shape.{countAllowed, countRefusal, lengthRefusal, outputLength, referenceRefusal, rowAllowed, rowRefusal, sampleLength, sideAllowed, sideRefusal, sizeAllowed, sizeRefusal, vectorLength, workLength}
-unfoldable pub use Rattle.limits.specs.Order.{alignLengths, alignShapeTests, burstTests, frameTests, mergeLengths, mergeShapeTests, shapeTests}
-unfoldable pub use Rattle.values.specs.Bounds.{sampleRefusal, vectorRefusal}
+unfoldable pub use Rattle.admit_length.specs.Order.{alignLengths, alignShapeTests, burstTests, frameTests, mergeLengths, mergeShapeTests, shapeTests}
+unfoldable pub use Rattle.admit_value.specs.Bounds.{sampleRefusal, vectorRefusal}
 unfoldable pub use Rattle.noise.specs.Levels.{aboveLimits, blackRefusal, invalidCurve, invalidIso, invalidNoise, levelRefusal, levelsOf, noiseTests, spatialRefusal, strengthRefusal}
 pub use Rattle.sanity.specs.FlatFigure.{burst, shape}
 unfoldable pub use Rattle.sanity.specs.FlatFigure.{plain}

@@ -5,7 +5,7 @@ use Rattle.refusals.specs.TestLaws.{goes}
 use Rattle.noise.specs.declared.Noise.{Noise}
 use Rattle.noise.specs.Curve.{curveOf}
 use Rattle.range.specs.Crossed.{NoneAbove, rangeNoiseTests}
-use Rattle.range_admission.specs.Refusals.{narrowRefusal, rangeFrameTests, rangeShapeTests, filterRefusal, rangeContentTests, rangeRefusal}
+use Rattle.admit_range.specs.Refusals.{narrowRefusal, rangeFrameTests, rangeShapeTests, filterRefusal, rangeContentTests, rangeRefusal}
 use Rattle.stacker.specs.Ranged.{Ranged}
 use Rattle.sanity.specs.Pedestal.{zeroBlack}
 use Rattle.witnesses.specs.Inputs.{Input, curve, dark, tuned, full, vectors, work, input, figure, width-96, nine-frames, reference-2, row-63, one-short, no-vectors, one-over, no-work, iso-24, shot-65, strength-1025, black-256, sample-4096, part-173}

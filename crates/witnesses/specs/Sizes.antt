@@ -3,24 +3,24 @@ use Rattle.witnesses.specs.Prelude.{_≡_, refl, List, [], _∷_, _++_, 
 use Rattle.refusals.specs.After.{after}
 use Rattle.printing.specs.Ascii.{ascii}
 use Rattle.printing.specs.Decimal.{digits, decimal}
-use Rattle.words.specs.Words.{unknown, wordTable, wordsOf}
-use Rattle.pgm_header.specs.Header.{pgmHeader, leading}
-use Rattle.pgm_samples.specs.Samples.{bytesOf}
-use Rattle.pgm.specs.Form.{fileOf, sizesAllowed, fileLength}
-use Rattle.pgm.specs.Reading.{widthIn, heightIn, differs, formed, acceptedPgm, pgmAnswer}
-use Rattle.pgm.specs.Size.{formRefusal, pgmSize}
-use Rattle.file_lines.specs.Line.{pastSpaces, afterDigits, digitsFrom, valuesOf, hasLF, above}
-use Rattle.file_head.specs.Head.{startsWith, firstLineRefusal, headerRefusal, headOf}
-use Rattle.burst_file.specs.Reading.{acceptedFile}
-use Rattle.burst_file.specs.Size.{fileSize}
-use Rattle.tiff.specs.Bytes.{short, long, number}
-use Rattle.tiff.specs.Directory.{headerWrong, directoryOutside, entriesFrom, entries, timesOf}
-use Rattle.tiff.specs.Fields.{right, sizeOf, fieldAt, firstField, fieldOutside, valueAt}
-use Rattle.dng_tags.specs.declared.DngSize.{DngSize}
-use Rattle.dng_tags.specs.Tags.{tags, tagAt, demands, demandAt, hasBlack, listed, demanded}
-use Rattle.dng_tags.specs.Refusals.{absent, valueOf, valueOutside, stripOutside, outside, notOnce, sizeDiffers, demandMissed, otherwise, tagTests}
-use Rattle.dng_tags.specs.Faults.{firstOf, structureFault, countFault, valueFault, faultTag}
-use Rattle.dng_tags.specs.Size.{loneRefusal, dngSize}
+use Rattle.c_words.specs.Words.{unknown, wordTable, wordsOf}
+use Rattle.file_pgm.specs.Header.Header.{pgmHeader, leading}
+use Rattle.file_pgm.specs.Samples.Samples.{bytesOf}
+use Rattle.file_pgm.specs.Form.{fileOf, sizesAllowed, fileLength}
+use Rattle.file_pgm.specs.Reading.{widthIn, heightIn, differs, formed, acceptedPgm, pgmAnswer}
+use Rattle.file_pgm.specs.Size.{formRefusal, pgmSize}
+use Rattle.file_burst.specs.Lines.Line.{pastSpaces, afterDigits, digitsFrom, valuesOf, hasLF, above}
+use Rattle.file_burst.specs.Head.Head.{startsWith, firstLineRefusal, headerRefusal, headOf}
+use Rattle.file_burst.specs.Reading.{acceptedFile}
+use Rattle.file_burst.specs.Size.{fileSize}
+use Rattle.file_dng.specs.Tiff.Bytes.{short, long, number}
+use Rattle.file_dng.specs.Tiff.Directory.{headerWrong, directoryOutside, entriesFrom, entries, timesOf}
+use Rattle.file_dng.specs.Tiff.Fields.{right, sizeOf, fieldAt, firstField, fieldOutside, valueAt}
+use Rattle.file_dng.specs.declared.tags.DngSize.{DngSize}
+use Rattle.file_dng.specs.Tags.Tags.{tags, tagAt, demands, demandAt, hasBlack, listed, demanded}
+use Rattle.file_dng.specs.Tags.Refusals.{absent, valueOf, valueOutside, stripOutside, outside, notOnce, sizeDiffers, demandMissed, otherwise, tagTests}
+use Rattle.file_dng.specs.Tags.Faults.{firstOf, structureFault, countFault, valueFault, faultTag}
+use Rattle.file_dng.specs.Tags.Size.{loneRefusal, dngSize}
 use Rattle.witnesses.specs.BurstFiles as burst
 use Rattle.witnesses.specs.PgmFiles as pgm
 use Rattle.witnesses.specs.DngFiles as dng

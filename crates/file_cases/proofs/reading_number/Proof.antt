@@ -4,10 +4,10 @@ use mathlib.Core.List.{List}
 use Prim.Native.Nat.{ℕ}
 use lib.ListN.{length}
 use borrow.Author.Needs.{needs}
-use Rattle.file_lines.specs.Part.{Part, refused, found, numberOf}
-use Rattle.burst_file.specs.Burst.{FileBurst}
-use Rattle.burst_file.specs.Reading.{fileAnswer, readingInto, FileRead}
-use Rattle.burst_file.specs.declared.FileAnswer.{FileAnswer}
+use Rattle.file_burst.specs.Lines.Part.{Part, refused, found, numberOf}
+use Rattle.file_burst.specs.Burst.{FileBurst}
+use Rattle.file_burst.specs.Reading.{fileAnswer, readingInto, FileRead}
+use Rattle.file_burst.specs.declared.FileAnswer.{FileAnswer}
 use Rattle.file_cases.proofs.reading_number as of
 
 number-answered : (part : Part FileBurst) → fileAnswer part .refusal ≡ numberOf part

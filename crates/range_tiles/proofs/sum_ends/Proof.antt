@@ -1,8 +1,8 @@
 -- Both sums go on by one frame a turn.
 use Rattle.range_tiles.specs.Prelude.{_≡_, refl, sym, subst, _-_, arith, needs, length, side16, sceneAt, greatestAt, leastAt}
-use Rattle.lines.specs.Lines.{TileMost}
-use Rattle.lines.specs.Magnitudes.{differenceMost}
-use Rattle.tiles.specs.DifferenceLaws.{pair-rows, tile-most}
+use Rattle.tile_spectrum.specs.Lines.Lines.{TileMost}
+use Rattle.tile_spectrum.specs.Lines.Magnitudes.{differenceMost}
+use Rattle.merge_tiles.specs.DifferenceLaws.{pair-rows, tile-most}
 use Rattle.range_tiles.specs.EndSumLaws.{greatest-ending, least-ending, Summing, sum-start, sum-turn, sum-room, sum-done}
 use Rattle.range_tiles.proofs.sum_ends as of
 

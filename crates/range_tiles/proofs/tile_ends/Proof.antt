@@ -1,8 +1,8 @@
 -- T0 has its roots, and at either noise its noise numbers.
 use Rattle.range_tiles.specs.Prelude.{_≡_, refl, List, ℕ, _-_, _+_, _*_, _≤_, _<_, arith, needs, lit<, now, cell, side16, Merge, referenceTile, tileNoise, sceneAt, greatestAt, leastAt, Noises, noiseOf}
-use Rattle.tiles.specs.DifferenceLaws.{tile-fits, reference-most}
-use Rattle.tiles.specs.NoiseLaws.{both}
-use Rattle.tiles.specs.TileLaws.{root-of, number}
+use Rattle.merge_tiles.specs.DifferenceLaws.{tile-fits, reference-most}
+use Rattle.merge_tiles.specs.NoiseLaws.{both}
+use Rattle.merge_tiles.specs.TileLaws.{root-of, number}
 use Rattle.range_tiles.specs.EndSums.{raised, tilePair, NoisesAre}
 use Rattle.range_tiles.specs.EndSumLaws.{end-taken}
 use Rattle.range_tiles.proofs.tile_ends as of

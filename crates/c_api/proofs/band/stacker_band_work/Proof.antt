@@ -1,6 +1,6 @@
 -- `c_api::band::stacker_band_work`: the shape is the one that the descriptions stand for.
 use Rattle.algebra.specs.Prelude.{ap, _∙_, needs}
-use Rattle.limits.specs.Bands.{bandWorkQuestion}
+use Rattle.admit_length.specs.Bands.{bandWorkQuestion}
 use Rattle.c_api.proofs.band.stacker_band_work as of
 
 returns : of.Tie.Need-returns

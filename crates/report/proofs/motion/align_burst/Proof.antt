@@ -3,7 +3,7 @@ use Rattle.algebra.specs.Prelude.{_≡_, sym, _∙_, _-_, _≤_, arith, needs, 
 use lib.Seq.{length-take-le}
 use Rattle.report.specs.Inner.{vectorRoom}
 use Rattle.report.proofs.Files.{front-is, front-length}
-use Rattle.values.specs.BoundLaws.{values-samples}
+use Rattle.admit_value.specs.BoundLaws.{values-samples}
 use Rattle.report.proofs.Fits.{align-fits}
 use Rattle.report.proofs.motion.align_burst as of
 

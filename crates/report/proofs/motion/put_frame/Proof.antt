@@ -1,6 +1,6 @@
 -- `report::motion::put_frame`: the five numbers are those of the frame's line.
 use Rattle.report.specs.Prelude.{_≡_, List, [], _∷_, ℕ, _/_, needs, length, ℤ, numberLine}
-use Rattle.tallies.specs.Tallies.{stillTiles, farthest}
+use Rattle.report_tally.specs.Tallies.{stillTiles, farthest}
 use Rattle.report.specs.Motion.{frameLine}
 use Rattle.report.proofs.motion.put_frame as of
 

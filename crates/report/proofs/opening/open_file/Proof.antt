@@ -1,9 +1,9 @@
 -- `report::opening::open_file`: each end of the tests is one of the texts that both programs print.
 use Rattle.algebra.specs.Prelude.{_≡_, sym, ap, _∙_, _≤_, arith, needs, length}
 use lib.Seq.{length-take-le}
-use Rattle.file_head.specs.declared.Head.{Head}
-use Rattle.file_head.specs.declared.Head.the-variants.{Found, Refused}
-use Rattle.file_head.specs.Head.{headOf, headIn}
+use Rattle.file_burst.specs.declared.head.Head.{Head}
+use Rattle.file_burst.specs.declared.head.Head.the-variants.{Found, Refused}
+use Rattle.file_burst.specs.Head.Head.{headOf, headIn}
 use Rattle.report.specs.Program.{fileMost}
 use Rattle.report.specs.Inner.{room}
 use Rattle.report.proofs.Files.{Headed, headed, headed-few, refused-text, head-text, wide-text, high-text, opens}

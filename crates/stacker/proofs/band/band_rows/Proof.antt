@@ -1,6 +1,6 @@
 -- `stacker::band::band_rows`: a band on the grid of tiles is so many rows of tiles.
 use Rattle.algebra.specs.Prelude.{needs}
-use Rattle.limits.specs.BandLaws.{side-least}
+use Rattle.admit_length.specs.BandLaws.{side-least}
 use Rattle.stacker.specs.BandRowLaws.{rows-lent, rows-merged}
 use Rattle.stacker.proofs.band.band_rows as of
 

@@ -1,7 +1,7 @@
 -- `stacker::choose::run_sharpest`: run's tests with index 0, which are those of any frame's; then run's core with the frame chosen.
 use Rattle.algebra.specs.Prelude.{sym, _∙_, needs}
 use Rattle.refusals.specs.AfterLaws.{kept, made}
-use Rattle.admission.specs.AdmissionLaws.{tested-number}
+use Rattle.admit_call.specs.AdmissionLaws.{tested-number}
 use Rattle.stacker.specs.RanLaws.{ran-refused, runnable, ran-accepted}
 use Rattle.stacker.specs.ChoosingLaws.{first-refusal, tested-any}
 use Rattle.stacker.proofs.choose.run_sharpest as of

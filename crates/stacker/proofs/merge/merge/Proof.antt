@@ -2,8 +2,8 @@
 use Rattle.stacker.specs.Prelude.{refl, sym, ap₂, subst, _∙_, _≤_, needs, sceneOf, merged, mergeRefusal}
 use Rattle.sequences.specs.ClearLaws.{zeros-length}
 use Rattle.refusals.specs.TestLaws.{stops, goes, lone}
-use Rattle.values.specs.BoundLaws.{vectors-fit}
-use Rattle.admission.specs.AdmissionLaws.{tested-number, tested-levels}
+use Rattle.admit_value.specs.BoundLaws.{vectors-fit}
+use Rattle.admit_call.specs.AdmissionLaws.{tested-number, tested-levels}
 use Rattle.refusals.specs.AfterLaws.{kept, made}
 use Rattle.stacker.specs.AdmissionLaws.{run-passed}
 use Rattle.stacker.specs.CloseLaws.{found-close}

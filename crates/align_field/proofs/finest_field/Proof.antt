@@ -1,0 +1,69 @@
+-- Each turn writes a tile's vector and adds its residual.
+use Rattle.align_field.specs.Prelude.{finestLevel, candidateRows, tileRowsMost, numbered, levelTile, pairIn, guessFrom, ap, _-_, _*_, _/_, _%_, arith, needs}
+use Rattle.sequences.specs.Sum.{Summed, sum-start, sum-turn, sum-done, sum-most}
+use Rattle.align_residual.specs.Magnitudes.{residualMost}
+use Rattle.align_field.specs.LevelSums.{finerRows, residuals}
+use Rattle.align_residual.specs.Residual.{residual}
+use Rattle.align_field.proofs.Placing.{Placing, place-start, place-turn, place-done}
+use Rattle.align_field.specs.LoopLaws.{tiles-few, place-few}
+use Rattle.align_field.specs.Loops.{finestIn}
+use Rattle.align_field.proofs.finest_field as of
+
+abbrev Inv-loop : of.Tie.InvT-loop
+Inv-loop work area side coarse vectors₀ to rows columns sum₀ summed₀ k₀ k-end vectors sum summed k = Placing vectors₀ to columns (rows * columns) (finestIn side work area coarse) k vectors × Summed (λ k. residual (finestLevel side .squared) (pairIn work area) (levelTile (finestLevel side) (k / columns) (k % columns)) (numbered columns (finestIn side work area coarse) k)) residualMost (rows * columns) k sum × Summed (λ k. candidateRows (finestLevel side .squared) (pairIn work area) (levelTile (finestLevel side) (k / columns) (k % columns)) (guessFrom side 0 work area coarse (levelTile (finestLevel side) (k / columns) (k % columns)) (k / columns) (k % columns))) tileRowsMost (rows * columns) k summed
+
+abbrev μ-loop : of.Tie.MeasureT-loop
+μ-loop work area side coarse vectors₀ to rows columns sum₀ summed₀ k₀ k-end vectors sum summed k = rows * columns - k
+
+mul-k-end : of.Tie.Need-mul-k-end Inv-loop μ-loop
+mul-k-end c = omega (arith, tiles-few (c .pre .few))
+
+finer-tile-requires : of.Tie.Need-finer-tile-requires Inv-loop μ-loop
+finer-tile-requires c κs = let s = c .before .before in
+    let at = place-few (s .pre .few) (c .before .loop .k) (c .loop-test .taken) in
+    record { stored = s .pre .stored; vectors = s .pre .coarse-vectors; sided = s .pre .sided; level-most = omega arith; row-most = at .0; column-most = at .1 }
+
+hand-over-requires : of.Tie.Need-hand-over-requires Inv-loop μ-loop
+hand-over-requires c κs = (omega arith, c .before .before .finer-tile .ensures .near)
+
+add-sum : of.Tie.Need-add-sum Inv-loop μ-loop
+add-sum c =
+    let l = c .before .before .before .before .before .before .before in
+    let s = l .before in
+    omega (arith, l .loop .inv .1 .most, c .before .before .before .before .before .finer-tile .ensures .most, tiles-few (s .pre .few))
+
+add-summed : of.Tie.Need-add-summed Inv-loop μ-loop
+add-summed c =
+    let l = c .before .before .before .before .before .before .before .before in
+    let s = l .before in
+    omega (arith, l .loop .inv .2 .most, c .before .before .before .before .before .before .finer-tile .ensures .few, tiles-few (s .pre .few))
+
+loop-again : of.Tie.Need-loop-again Inv-loop μ-loop
+unfolding finestIn
+loop-again c = let t = c .before .before .before .before .before .before in
+    let i = t .before in
+    let e = t .finer-tile .ensures in
+    let v = ap (λ r. r .vector) (e .is) in (
+      rw (c .before .before .before .hand-over .ensures) (place-turn (i .before .loop .inv .0) (i .loop-test .taken) (ap (λ v. v .down) v) (ap (λ v. v .right) v)),
+      sum-turn (i .before .loop .inv .1) (i .loop-test .taken) (ap (λ r. r .residual) (e .is)) (e .most),
+      sum-turn (i .before .loop .inv .2) (i .loop-test .taken) (ap (λ r. r .rows) (e .is)) (e .few),
+    )
+
+returns : of.Tie.Need-returns Inv-loop μ-loop
+unfolding residuals finerRows
+returns c = let s = c .before .before in
+    let l = c .before .loop .inv in
+    record {
+      vectors = place-done (l .0) (c .loop-test .left);
+      residual-is = sum-done (l .1) (c .loop-test .left);
+      most = omega (arith, sum-most (l .1) (c .loop-test .left), tiles-few (s .pre .few));
+      rows-are = sum-done (l .2) (c .loop-test .left);
+      few = omega (arith, sum-most (l .2) (c .loop-test .left), tiles-few (s .pre .few));
+    }
+
+pub finest-field-spec : {M : Type 1} → of.Statement.statement M
+finest-field-spec = of.Tie.close (of.Tie.spec
+    Inv-loop μ-loop mul-k-end (λ c. (place-start (c .pre .room), sum-start, sum-start)) (λ c. search needs)
+    (λ c. search needs) finer-tile-requires (λ c. search needs) (λ c. search needs)
+    hand-over-requires add-sum add-summed (λ c. search needs) (λ c. search needs) loop-again
+    (λ c. search needs) returns)

@@ -1,0 +1,15 @@
+pub mod Trials
+pub mod Prelude
+pub mod Vectors
+pub mod Offsets
+pub mod Search
+pub mod Rows
+pub mod Ties
+pub mod Local
+pub mod VectorLaws
+pub mod Table
+pub mod OffsetLaws
+pub mod SearchLaws
+pub mod RowLaws
+pub mod WindowLaws
+pub mod LocalLaws

@@ -1,3 +1,0 @@
-pub mod Prelude
-pub mod ExactQuads
-pub mod ExactQuadLaws

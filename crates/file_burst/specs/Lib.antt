@@ -1,0 +1,12 @@
+pub mod Lines
+pub mod Head
+pub mod Prelude
+pub mod Burst
+pub mod Rows
+pub mod Reading
+pub mod Grammar
+pub mod Acceptance
+pub mod Passage
+pub mod RowLaws
+pub mod Size
+pub mod SizeLaws

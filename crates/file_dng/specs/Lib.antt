@@ -1,0 +1,13 @@
+pub mod Tiff
+pub mod Tags
+pub mod Strip
+pub mod Prelude
+pub mod Refusals
+pub mod Curve
+pub mod Reading
+pub mod FrameLaws
+pub mod Acceptance
+pub mod ReadingLaws
+pub mod PlaceLaws
+pub mod PassingLaws
+pub mod SizeLaws

@@ -1,0 +1,13 @@
+pub mod Header
+pub mod Samples
+pub mod Prelude
+pub mod Form
+pub mod Writing
+pub mod Reading
+pub mod Fits
+pub mod Acceptance
+pub mod RoundTrip
+pub mod FormLaws
+pub mod HeaderLaws
+pub mod Size
+pub mod SizeLaws

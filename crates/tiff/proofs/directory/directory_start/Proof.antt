@@ -1,5 +1,0 @@
-use borrow.Author.Needs.{needs}
-use Rattle.tiff.proofs.directory.directory_start as of
-
-pub directory-start-spec : {M : Type 1} → of.Statement.statement M
-directory-start-spec = of.Tie.close (of.Tie.spec (λ c κs. search needs) (λ c. search needs))

@@ -1,0 +1,16 @@
+-- `tile_quad::thirty_two::set_quad`: four stores.
+use borrow.Author.Needs.{needs}
+use Rattle.tile_quad.proofs.thirty_two.Stores.{with-quad}
+use Rattle.tile_quad.proofs.thirty_two.set_quad as of
+
+returns : of.Tie.Need-returns
+returns c = with-quad (c .args .u) (c .args .l) (c .pre .u-below) (c .pre .l-below) (c .args .t4) (c .pre .paired)
+
+pub set-quad-spec : {M : Type 1} → of.Statement.statement M
+set-quad-spec = of.Tie.close (of.Tie.spec
+    (λ c. search needs) (λ c. search needs) (λ c. search needs) (λ c. search needs)
+    (λ c. search needs) (λ c. search needs) (λ c. search needs) (λ c. search needs)
+    (λ c. search needs) (λ c. search needs) (λ c. search needs) (λ c. search needs)
+    (λ c. search needs) (λ c. search needs) (λ c. search needs) (λ c. search needs)
+    (λ c. search needs) (λ c. search needs) (λ c. search needs) (λ c. search needs)
+    (λ c. search needs) (λ c. search needs) (λ c. search needs) (λ c. search needs) returns)

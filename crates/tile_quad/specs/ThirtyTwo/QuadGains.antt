@@ -1,0 +1,83 @@
+-- A quad of G worked out in double from one of B is, as doubles, that of the folded G: all sums and differences are exact.
+use Rattle.tile_quad.specs.ThirtyTwo.Prelude.{_≡_, refl, sym, ap, subst, _∙_, List, [], _∷_, ℕ, zero, suc, _+_, _≤_, _<_, arith, lit<, getD, length, ℤ, pos, natAbs, _+ℤ_, _-ℤ_, Float, binary64, ofInt, numberOf, binsIn, foldedIn, cornerIn, foldIn, quadIn, WholeBinsOf}
+use mathlib.Core.List.{map}
+use Prim.Native.Nat.{zero-le}
+use borrow.Author.Tests.{eq-eqb, ne-eqb}
+use lib.IntN.{+ℤ-comm}
+use Rattle.algebra.specs.Order.{sub-pn, add-pn, abs-pn, min-pn}
+use Rattle.sequences.specs.Tab.{tab}
+use Rattle.recipe.specs.Tables32.{side32}
+use Rattle.recipe.specs.Correction.{filtered}
+use Rattle.floats.specs.Kernels.{var, plus, minus, floats-wholes}
+use Rattle.tile_spectrum.specs.Magnitudes.{longBinMost, gainMost}
+use Rattle.tile_spectrum.specs.Spectrum.{spreadOf, quadPlaces, byKind, twoBinsOf, foldedQuad, gainReOf, gainImOf}
+use Rattle.tile_spectrum.specs.LongPairs.{LongBinned, long-gain-most, long-quad-is, long-corner-is, long-bins-each}
+use Rattle.tile_spectrum.specs.QuadLaws.{four, four-each}
+use Rattle.tile_quad.specs.QuadGains.{double, quad-corner, quad-others, folded-is, half, number-of}
+
+bins-four : (t : ℕ → ℕ → ℤ) (k u : ℕ) → length (twoBinsOf side32 t k u) ≡ 4
+unfolding twoBinsOf byKind quadPlaces side32
+bins-four t zero u = refl
+bins-four t (suc k) zero = refl
+bins-four t (suc k) (suc u) = refl
+
+-- ---- the bins
+
+module _ (t : ℕ → ℕ → ℤ) (binned : LongBinned t) where
+  abbrev Bin : (k u i : ℕ) → ℤ
+  Bin k u i = getD (twoBinsOf side32 t k u) i (pos 0)
+
+  pub bins-small : (k u : ℕ) → k < 16 → u < 16 → (i : ℕ) → natAbs (Bin k u i) ≤ longBinMost
+  bins-small = long-bins-each t (λ z. natAbs z ≤ longBinMost) zero-le (binned .re-most) (binned .im-most)
+
+  bins-are : (k u : ℕ) → k < 16 → u < 16 → binsIn k u (map double (quadPlaces side32 t k u)) ≡ map double (twoBinsOf side32 t k u)
+  unfolding binsIn twoBinsOf byKind quadPlaces side32
+  bins-are zero u h l = refl
+  bins-are (suc k) zero h l = refl
+  bins-are (suc k) (suc u) h l =
+      let bin = bins-small (suc k) (suc u) h l in
+      let a = half (t (suc k) (suc u)) (t (16 + suc k) (16 + suc u)) (bin 0) (bin 2) in
+      let b = half (t (16 + suc k) (suc u)) (t (suc k) (16 + suc u)) (bin 3) (subst (λ z. natAbs z ≤ longBinMost) (+ℤ-comm (t (suc k) (16 + suc u)) (t (16 + suc k) (suc u))) (bin 1)) in
+      floats-wholes binary64 (quadPlaces side32 t (suc k) (suc u)) (four-each (λ z. natAbs z ≤ longBinMost) _ _ _ _ zero-le (a .0) (b .1) (b .0) (a .1))
+      (minus (var 0) (var 3) ∷ plus (var 1) (var 2) ∷ plus (var 0) (var 3) ∷ minus (var 2) (var 1) ∷ []) tt
+
+  pub bin-is : (k u : ℕ) → k < 16 → u < 16 → (i : ℕ) → i < 4 → numberOf (binsIn k u (map double (quadPlaces side32 t k u))) i ≡ double (Bin k u i)
+  bin-is k u h l i j = ap (λ q. numberOf q i) (bins-are k u h l) ∙ number-of (twoBinsOf side32 t k u) i (omega (arith, bins-four t k u))
+
+  pub whole-bins : (k u : ℕ) → k < 16 → u < 16 → WholeBinsOf longBinMost k u (map double (quadPlaces side32 t k u))
+  whole-bins k u h l = record { at = λ i j. record { number = Bin k u i; most = bins-small k u h l i; is = bin-is k u h l i j } }
+
+  -- ---- G, by any functions that give its doubles at the bins
+
+  module _ (v : ℕ) (real : Float → Float) (gains : (a b : Float) → List Float) where
+    abbrev Quad : (k u : ℕ) → List ℤ
+    Quad = quadPlaces side32 (spreadOf side32 (gainReOf side32 v t) (gainImOf side32 v t))
+
+    -- at a real bin, and at the two parts of a bin
+    abbrev RealAt : (k u i : ℕ) → Type 0
+    RealAt k u i = real (double (Bin k u i)) ≡ double (filtered side32 v (Bin k u i) (pos 0))
+
+    abbrev GainsAt : (k u i j : ℕ) → Type 0
+    GainsAt k u i j = gains (double (Bin k u i)) (double (Bin k u j)) ≡ double (filtered side32 v (Bin k u i) (Bin k u j)) ∷ double (filtered side32 v (Bin k u j) (Bin k u i)) ∷ []
+
+    others : (k u : ℕ) → k < 16 → u < 16 → 0 < k + u → GainsAt k u 0 1 → GainsAt k u 2 3 → foldIn gains k u (binsIn k u (map double (quadPlaces side32 t k u))) ≡ map double (Quad k u)
+    unfolding foldIn
+    others k u h l o g g' =
+        let b = twoBinsOf side32 t k u in
+        let bin = Bin k u in
+        let long = bins-four t k u in
+        let f = filtered side32 v in
+        let small : (i j : ℕ) → natAbs (f (bin i) (bin j)) ≤ gainMost = λ i j. long-gain-most v (bin i) (bin j) (bins-small k u h l i) in
+        ap (foldIn gains k u) (bins-are k u h l)
+        ∙ rw (number-of b 0 (omega arith), number-of b 1 (omega arith), number-of b 2 (omega arith), number-of b 3 (omega arith), g, g')
+        (folded-is k u (f (bin 0) (bin 1)) (f (bin 1) (bin 0)) (f (bin 2) (bin 3)) (f (bin 3) (bin 2)) (small 0 1) (small 1 0) (small 2 3) (small 3 2))
+        ∙ ap (map double) (sym (long-quad-is v t k u h l o))
+
+    corner : ((i : ℕ) → i < 4 → RealAt 0 0 i) → cornerIn real (map double (quadPlaces side32 t 0 0)) ≡ map double (Quad 0 0)
+    unfolding cornerIn quadPlaces twoBinsOf byKind tab side32
+    corner at = four (at 0 (lit< tt)) (at 1 (lit< tt)) (at 2 (lit< tt)) (at 3 (lit< tt)) ∙ ap (map double) (sym (long-corner-is v t))
+
+    pub quad-gains : (k u : ℕ) → k < 16 → u < 16 → (k + u ≡ 0 → (i : ℕ) → i < 4 → RealAt k u i) → (0 < k + u → GainsAt k u 0 1 × GainsAt k u 2 3) → quadIn real gains k u (map double (quadPlaces side32 t k u)) ≡ map double (Quad k u)
+    quad-gains zero zero h l at g = quad-corner _ _ 0 0 _ refl ∙ corner (at refl)
+    quad-gains zero (suc u) h l at g = let e = g (omega arith) in quad-others _ _ 0 (suc u) _ (omega arith) ∙ others 0 (suc u) h l (omega arith) (e .0) (e .1)
+    quad-gains (suc k) u h l at g = let e = g (omega arith) in quad-others _ _ (suc k) u _ (omega arith) ∙ others (suc k) u h l (omega arith) (e .0) (e .1)

@@ -1,9 +1,0 @@
--- `whole_lines::place`: one of two places of lines that are read.
-use borrow.Author.Needs.{needs}
-use borrow.Author.Tests.{eq-eqb, ne-eqb}
-use Rattle.whole_lines.proofs.place as of
-
-pub place-spec : {M : Type 1} → of.Statement.statement M
-place-spec = of.Tie.close (of.Tie.spec
-    (λ c. search needs) (λ c. search needs) (λ c. search (needs, eq-eqb)) (λ c. search needs)
-    (λ c. search needs) (λ c. search (needs, ne-eqb)))

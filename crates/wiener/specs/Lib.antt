@@ -1,3 +1,0 @@
-pub mod Prelude
-pub mod DoubleQuads
-pub mod NewQuads
