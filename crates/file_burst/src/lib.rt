@@ -7,7 +7,6 @@ mod rows;
 pub use file::check_file;
 pub use file::file_size;
 pub use file::read_file;
-pub use rows::SAMPLE_MOST;
 
 // What reading a file, or its first two lines, answers: the number of the refusal with every other field 0, or 0 with the file's seven values.
 // The levels are Ls and Lr, 1024 times a curve's shot and read.

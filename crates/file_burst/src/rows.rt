@@ -1,4 +1,5 @@
 // The rows of samples, checked without a store.
+use geometry::SAMPLE_MOST;
 ghost use Rattle.file_burst.specs.Prelude.{_≡_, drop, Allowed, numberOf};
 ghost use Rattle.file_burst.specs.Rows.{row, rowLines, framesOf};
 ghost use Rattle.file_burst.specs.Passage.{rowsIn, endedRow, briefly};
@@ -19,13 +20,11 @@ fn end_row(next: usize, over: bool) -> Passage
     Passage::Found { next }
 }
 
-pub const SAMPLE_MOST: u64 = 4095;
-
 // One row: 15, 14, 11.
 fn check_row(file: &[u8], at: usize, width: usize) -> Passage
     ensures { λ r. ⌜ rowsIn (now (file .entry)) r ≡ briefly (row width (drop at (now (file .entry)))) ⌝ }
 {
-    match check_line(file, at, width, SAMPLE_MOST) {
+    match check_line(file, at, width, SAMPLE_MOST as u64) {
         Line::Refused { number } => Passage::Refused { number },
         Line::Found { next, over } => end_row(next, over),
     }

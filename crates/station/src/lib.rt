@@ -1,5 +1,5 @@
 // The capture station's questions, for C. Each is total: it answers for every argument.
-use file_burst::SAMPLE_MOST;
+use geometry::SAMPLE_MOST;
 ghost use mathlib.Core.Path.{_≡_};
 ghost use Rattle.admit_length.specs.Question.{lengthQuestion};
 ghost use Rattle.file_burst.specs.Reading.{fileCheck};
@@ -38,7 +38,7 @@ pub extern "C" fn station_noise(shot: f64, read: f64, strength: u64, root: u64, 
                 return 0;
             }
             // The root of a tile whose samples are all 4095 is that times its side.
-            if SAMPLE_MOST * side < root {
+            if SAMPLE_MOST as u64 * side < root {
                 return 0;
             }
             noise::side_noise_number(side as usize, strength, ls, lr, root)

@@ -82,4 +82,4 @@ returns-5 c =
 pub station-noise-spec : {M : Type 1} → of.Statement.statement M
 station-noise-spec = of.Tie.close (of.Tie.spec
     (λ c κs. search needs) (λ c. search needs) (λ c. search needs) (λ c κs. search needs) returns
-    (λ c κs. search needs) returns-2 mul-if3 returns-3 side-noise-number-requires returns-4 returns-5)
+    (λ c κs. search needs) returns-2 (λ c. search needs) mul-if3 returns-3 side-noise-number-requires returns-4 returns-5)

@@ -29,4 +29,4 @@ returns-2 c =
 
 pub check-row-spec : {M : Type 1} → of.Statement.statement M
 check-row-spec = of.Tie.close (of.Tie.spec
-    (λ c κs. search needs) (λ c. search needs) (λ c. search needs) (λ c κs. search needs) returns returns-2)
+    (λ c. search needs) (λ c κs. search needs) (λ c. search needs) (λ c. search needs) (λ c κs. search needs) returns returns-2)
