@@ -1,6 +1,6 @@
 -- From level to level: the pyramids stay, and a level's vectors stand where the next level reads them.
 use mathlib.Core.Path.{_≡_, refl, sym, ap, ap₂, _∙_, subst, fun-ext}
-use Rattle.align_burst.specs.Prelude.{List, ℕ, zero, suc, _+_, _*_, _≤_, _<_, arith, lit≤, length, getD, ℤ, pos, natAbs, Shape, Allowed, TileSide, Level, Step, finestLevel, level0, level3, levelSize, tileCount, tileRows, tileColumns, frameParts, levelTiles, offset, pyramidLength, tiles, alignLength, Grid, Area, Within, VectorField, word, levelAt, coarsest, finer, residuals, coarsestRows, finerRows, Sums, pairIn, Stored, Before, Few, Room, finestIn, finerRowsIn, Finest, fieldAt}
+use Rattle.align_burst.specs.Prelude.{List, ℕ, zero, suc, _+_, _*_, _≤_, _<_, arith, lit≤, length, getD, ℤ, pos, natAbs, Shape, Allowed, TileSide, Level, Step, finestLevel, level0, level3, levelSize, tileCount, tileRows, tileColumns, frameParts, levelTiles, offset, pyramidLength, tiles, alignLength, Grid, Area, Within, VectorField, word, levelAt, coarsest, finer, residuals, coarsestRows, finerRows, Sums, pairIn, Stored, Before, Few, Room, finestIn, finerIn, finerRowsIn, Finest, fieldAt}
 use native.Mathlib.Nat.{le-trans}
 use mathlib.Core.Logic.{⊎-elim}
 use Rattle.geometry.specs.TileLaws.{finest-tiles}
@@ -16,7 +16,7 @@ use Rattle.align_level.specs.FieldLaws.{finer-agree}
 use Rattle.align_burst.specs.FieldLaws.{word-most, field0-within, field1-within, field2-within, field3-within}
 use Rattle.align_field.specs.LoopLaws.{kept-stored, kept-pair}
 use Rattle.align_burst.specs.GridLaws.{written-field, written-vectors}
-use Rattle.align_burst.specs.Sites.{areaAt, gridAt, after, pairsIn, nextIn, nextRowsIn, Standing, Site, Prepared, Reached, Coarse, Aligned}
+use Rattle.align_burst.specs.Sites.{areaAt, gridAt, after, pairsIn, levelIn, levelRowsIn, Standing, Site, Prepared, Reached, Coarse, Aligned}
 
 written-kept : (d : List ℤ) (at : ℕ) (f : ℕ → ℤ) (n : ℕ) → at + n ≤ length d → Kept d at (written d at f n)
 written-kept d at f n h = record { same = written-length d at f n (pos 0) h; kept = written-before d at f n (pos 0) h }
@@ -105,14 +105,14 @@ reached shape {d} {m} {l} k at g f b kept behind room eg el small w =
     rw (el, eg) (reach (gridAt shape k at) f b kept behind (some-tiles (shape .side) (shape .height) k) (some-tiles (shape .side) (shape .width) k) room small w)
 
 -- and the next one's field is the definition's
-next-field : (shape : Shape) {d l : List ℤ} {g : Grid} {f : VectorField} (k c at : ℕ) → Reached d (2 * pyramidLength shape) g f l → Standing shape d → g ≡ gridAt shape c at → nextIn shape l k g ≡ finer (levelAt (shape .side) k) (stepTo (shape .side) k) (levelRows (levelAt (shape .side) c) (pairsIn shape d c)) (levelColumns (levelAt (shape .side) c) (pairsIn shape d c)) (pairsIn shape d k) f
+next-field : (shape : Shape) {d l : List ℤ} {g : Grid} {f : VectorField} (k c at : ℕ) → Reached d (2 * pyramidLength shape) g f l → Standing shape d → g ≡ gridAt shape c at → finerIn (shape .side) k l (areaAt shape k) g ≡ finer (levelAt (shape .side) k) (stepTo (shape .side) k) (levelRows (levelAt (shape .side) c) (pairsIn shape d c)) (levelColumns (levelAt (shape .side) c) (pairsIn shape d c)) (pairsIn shape d k) f
 unfolding gridAt pairsIn levelRows levelColumns levelTiles areaAt pairIn
 next-field shape {d} {l} {g} {f} k c at r s e =
     next (levelAt (shape .side) k) (stepTo (shape .side) k) (areaAt shape k) r (s .stored k) (area-before shape k)
     ∙ ap (λ g. finer (levelAt (shape .side) k) (stepTo (shape .side) k) (g .rows) (g .columns) (pairsIn shape d k) f) e
 
 -- and so are the rows summed for a level: h is its grid
-counted : (shape : Shape) {d l : List ℤ} {g h : Grid} {f : VectorField} (k c at to : ℕ) → Reached d (2 * pyramidLength shape) g f l → Standing shape d → g ≡ gridAt shape c at → h ≡ gridAt shape k to → nextRowsIn shape l k g (h .rows) (h .columns) ≡ finerRows (levelAt (shape .side) k) (stepTo (shape .side) k) (levelRows (levelAt (shape .side) c) (pairsIn shape d c)) (levelColumns (levelAt (shape .side) c) (pairsIn shape d c)) (pairsIn shape d k) f (levelRows (levelAt (shape .side) k) (pairsIn shape d k)) (levelColumns (levelAt (shape .side) k) (pairsIn shape d k))
+counted : (shape : Shape) {d l : List ℤ} {g h : Grid} {f : VectorField} (k c at to : ℕ) → Reached d (2 * pyramidLength shape) g f l → Standing shape d → g ≡ gridAt shape c at → h ≡ gridAt shape k to → finerRowsIn (shape .side) k l (areaAt shape k) g (h .rows) (h .columns) ≡ finerRows (levelAt (shape .side) k) (stepTo (shape .side) k) (levelRows (levelAt (shape .side) c) (pairsIn shape d c)) (levelColumns (levelAt (shape .side) c) (pairsIn shape d c)) (pairsIn shape d k) f (levelRows (levelAt (shape .side) k) (pairsIn shape d k)) (levelColumns (levelAt (shape .side) k) (pairsIn shape d k))
 unfolding gridAt pairsIn levelRows levelColumns levelTiles areaAt pairIn
 counted shape {d} {l} {g} {h} {f} k c at to r s e i =
     next-counted (levelAt (shape .side) k) (stepTo (shape .side) k) (areaAt shape k) r (s .stored k) (area-before shape k) (h .rows) (h .columns)
@@ -135,14 +135,14 @@ sites-fit shape = (omega arith, omega arith, omega arith, omega arith)
 
 -- level by level, the fields are the definition's
 module _ {shape : Shape} {d : List ℤ} (p : Prepared shape d) where
-  pub reached3 : {l : List ℤ} (g : Grid) → g ≡ site3 shape → l ≡ written d (2 * pyramidLength shape) (word (g .columns) (coarsest level3 (pairsIn shape d 3))) (2 * (g .rows * g .columns)) → Reached d (2 * pyramidLength shape) g (field3 (pairsIn shape d)) l
-  unfolding field3
+  pub reached3 : {l : List ℤ} (g : Grid) → g ≡ site3 shape → l ≡ written d (2 * pyramidLength shape) (word (g .columns) (coarsest level3 (pairIn d (areaAt shape 3)))) (2 * (g .rows * g .columns)) → Reached d (2 * pyramidLength shape) g (field3 (pairsIn shape d)) l
+  unfolding field3 pairsIn
   reached3 g e el =
       let f = sites-fit shape in
       let room = p .room in
       reached shape 3 (2 * pyramidLength shape) g (field3 (pairsIn shape d)) 4 (record { same = refl; kept = λ i h. refl }) (omega arith) (omega arith) e el (lit≤ tt) (field3-within (pairsIn shape d))
 
-  pub reached2 : {m l : List ℤ} (c g : Grid) → Reached d (2 * pyramidLength shape) c (field3 (pairsIn shape d)) m → c ≡ site3 shape → g ≡ site2 shape → l ≡ written m (after (site3 shape)) (word (g .columns) (nextIn shape m 2 c)) (2 * (g .rows * g .columns)) → Reached d (2 * pyramidLength shape) g (field2 (pairsIn shape d)) l
+  pub reached2 : {m l : List ℤ} (c g : Grid) → Reached d (2 * pyramidLength shape) c (field3 (pairsIn shape d)) m → c ≡ site3 shape → g ≡ site2 shape → l ≡ written m (after (site3 shape)) (word (g .columns) (levelIn shape m 2 c)) (2 * (g .rows * g .columns)) → Reached d (2 * pyramidLength shape) g (field2 (pairsIn shape d)) l
   unfolding field2
   reached2 {m} {l} c g r ec e el =
       let f = sites-fit shape in
@@ -152,7 +152,7 @@ module _ {shape : Shape} {d : List ℤ} (p : Prepared shape d) where
       (el ∙ ap (λ f. written m (after (site3 shape)) (word (g .columns) f) (2 * (g .rows * g .columns))) (next-field shape 2 3 (2 * pyramidLength shape) r (p .standing) ec))
       (lit≤ tt) (field2-within (pairsIn shape d))
 
-  pub reached1 : {m l : List ℤ} (c g : Grid) → Reached d (2 * pyramidLength shape) c (field2 (pairsIn shape d)) m → c ≡ site2 shape → g ≡ site1 shape → l ≡ written m (after (site2 shape)) (word (g .columns) (nextIn shape m 1 c)) (2 * (g .rows * g .columns)) → Reached d (2 * pyramidLength shape) g (field1 (pairsIn shape d)) l
+  pub reached1 : {m l : List ℤ} (c g : Grid) → Reached d (2 * pyramidLength shape) c (field2 (pairsIn shape d)) m → c ≡ site2 shape → g ≡ site1 shape → l ≡ written m (after (site2 shape)) (word (g .columns) (levelIn shape m 1 c)) (2 * (g .rows * g .columns)) → Reached d (2 * pyramidLength shape) g (field1 (pairsIn shape d)) l
   unfolding field1
   reached1 {m} {l} c g r ec e el =
       let f = sites-fit shape in
@@ -163,16 +163,16 @@ module _ {shape : Shape} {d : List ℤ} (p : Prepared shape d) where
       (lit≤ tt) (field1-within (pairsIn shape d))
 
   -- the rows summed for the three
-  pub counted3 : (g : Grid) → g ≡ site3 shape → coarsestRows level3 (pairsIn shape d 3) (g .rows) (g .columns) ≡ rows3 (pairsIn shape d)
+  pub counted3 : (g : Grid) → g ≡ site3 shape → coarsestRows level3 (pairIn d (areaAt shape 3)) (g .rows) (g .columns) ≡ rows3 (pairsIn shape d)
   unfolding rows3 gridAt pairsIn levelRows levelColumns levelTiles areaAt pairIn
   counted3 g e = ap (λ g. coarsestRows level3 (pairsIn shape d 3) (g .rows) (g .columns)) e
 
-  pub counted2 : {m : List ℤ} (c g : Grid) → Reached d (2 * pyramidLength shape) c (field3 (pairsIn shape d)) m → c ≡ site3 shape → g ≡ site2 shape → nextRowsIn shape m 2 c (g .rows) (g .columns) ≡ rows2 (pairsIn shape d)
-  unfolding rows2
+  pub counted2 : {m : List ℤ} (c g : Grid) → Reached d (2 * pyramidLength shape) c (field3 (pairsIn shape d)) m → c ≡ site3 shape → g ≡ site2 shape → levelRowsIn shape m 2 c (g .rows) (g .columns) ≡ rows2 (pairsIn shape d)
+  unfolding rows2 finerRows
   counted2 c g r ec e = counted shape 2 3 (2 * pyramidLength shape) (after (site3 shape)) r (p .standing) ec e
 
-  pub counted1 : {m : List ℤ} (c g : Grid) → Reached d (2 * pyramidLength shape) c (field2 (pairsIn shape d)) m → c ≡ site2 shape → g ≡ site1 shape → nextRowsIn shape m 1 c (g .rows) (g .columns) ≡ rows1 (pairsIn shape d)
-  unfolding rows1
+  pub counted1 : {m : List ℤ} (c g : Grid) → Reached d (2 * pyramidLength shape) c (field2 (pairsIn shape d)) m → c ≡ site2 shape → g ≡ site1 shape → levelRowsIn shape m 1 c (g .rows) (g .columns) ≡ rows1 (pairsIn shape d)
+  unfolding rows1 finerRows
   counted1 c g r ec e = counted shape 1 2 (after (site3 shape)) (after (site2 shape)) r (p .standing) ec e
 
   counted0 : {l : List ℤ} {a : Area} (c g : Grid) → Reached d (2 * pyramidLength shape) c (field1 (pairsIn shape d)) l → c ≡ gridAt shape 1 (c .at) → a ≡ areaAt shape 0 → g ≡ gridAt shape 0 0 → finerRowsIn (shape .side) 0 l a c (g .rows) (g .columns) ≡ rows0 (shape .side) (pairsIn shape d)

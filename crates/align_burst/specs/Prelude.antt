@@ -21,11 +21,11 @@ unfoldable pub use Rattle.align_tile.specs.Stored.{pairIn}
 pub use Rattle.align_tile.specs.declared.Area.{Area}
 pub use Rattle.align_level.specs.Fields.{levelAt}
 unfoldable pub use Rattle.align_level.specs.Fields.{coarsest, finer, fromCoarse, levelTile}
-pub use Rattle.align_level.specs.Grids.{Vectors}
+pub use Rattle.align_level.specs.Grids.{Led, Vectors, finerIn}
 unfoldable pub use Rattle.align_level.specs.Grids.{fieldAt}
 pub use Rattle.align_level.specs.declared.Grid.{Grid}
 pub use Rattle.align_field.specs.LevelSums.{residuals}
 unfoldable pub use Rattle.align_field.specs.LevelSums.{coarsestRows, finerRows}
-pub use Rattle.align_field.specs.Loops.{Before, Few, Finest, Laid, Room, finerRowsIn}
+pub use Rattle.align_field.specs.Loops.{Before, Ends, Few, Finest, Laid, Room, fieldIn, finerRowsIn, rowsIn}
 unfoldable pub use Rattle.align_field.specs.Loops.{finestIn}
 pub use Rattle.align_field.specs.declared.Sums.{Sums}

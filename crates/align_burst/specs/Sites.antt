@@ -1,11 +1,10 @@
 -- Inner vocabulary: where the levels' images and vectors stand in the work area: the reference's pyramid, the other frame's, then the vectors of levels 3 to 1.
-use Rattle.align_burst.specs.Prelude.{_≡_, List, ℕ, zero, suc, _+_, _*_, _≤_, _<_, length, getD, ℤ, pos, natAbs, Shape, Allowed, TileSide, finestLevel, levelSize, tileColumns, frameParts, levelTiles, offset, pyramidLength, alignLength, written, Sums, Grid, Area, Pair, VectorField, word, levelAt, finer, finerRows, Laid, pairIn, Stored, fieldAt, Vectors}
+use Rattle.align_burst.specs.Prelude.{_≡_, List, ℕ, zero, suc, _+_, _*_, _≤_, _<_, length, getD, ℤ, pos, natAbs, Shape, Allowed, TileSide, finestLevel, levelSize, tileColumns, frameParts, levelTiles, offset, pyramidLength, alignLength, written, Sums, Grid, Area, Pair, VectorField, word, levelAt, Laid, fieldIn, rowsIn, pairIn, Stored, fieldAt, Vectors}
 use Rattle.align_pyramid.specs.WordsLaws.{Kept}
 use Rattle.align_residual.specs.Magnitudes.{residualMost}
 use Rattle.align_field.specs.Magnitudes.{tilesMost}
 use Rattle.align_burst.specs.Rows.{coarseRows, frameRows}
 use Rattle.align_level.specs.Magnitudes.{tileRowsMost}
-use Rattle.align_level.specs.Steps.{stepTo}
 use Rattle.align_burst.specs.Fields.{field0, field1, residualSum}
 
 -- a level's number among a pyramid's six images
@@ -38,13 +37,12 @@ pairsIn shape words k = pairIn words (areaAt shape k)
 pub record Standing (shape : Shape) (words : List ℤ) : Type 0 where
   pub stored : (k : ℕ) → Stored words (areaAt shape k)
 
--- the field of a level from 2 to 0, and the rows summed for it, from what stands there
-abbrev pub nextIn : Shape → List ℤ → (level : ℕ) → Grid → VectorField
-nextIn shape words level c = finer (levelAt (shape .side) level) (stepTo (shape .side) level) (c .rows) (c .columns) (pairsIn shape words level) (fieldAt words (c .at) (c .columns))
+-- a level's field, and the rows summed for it, from what stands there
+abbrev pub levelIn : Shape → List ℤ → (level : ℕ) → Grid → VectorField
+levelIn shape words level c = fieldIn (shape .side) level words (areaAt shape level) c
 
-abbrev pub nextRowsIn : Shape → List ℤ → (level : ℕ) → Grid → (rows columns : ℕ) → ℕ
-nextRowsIn shape words level c rows columns =
-    finerRows (levelAt (shape .side) level) (stepTo (shape .side) level) (c .rows) (c .columns) (pairsIn shape words level) (fieldAt words (c .at) (c .columns)) rows columns
+abbrev pub levelRowsIn : Shape → List ℤ → (level : ℕ) → Grid → (rows columns : ℕ) → ℕ
+levelRowsIn shape words level c rows columns = rowsIn (shape .side) level words (areaAt shape level) c rows columns
 
 -- behind the pyramids there is room for a level's vectors from `at` on
 pub record Site (shape : Shape) (words : List ℤ) (level at : ℕ) : Type 0 where

@@ -1,10 +1,9 @@
 // The four levels of one frame against the reference.
-ghost use Rattle.align_burst.specs.Prelude.{_≡_, _+_, _*_, _≤_, _<_, _^_, length, Allowed, TileSide, level3, frameParts, levelAt, coarsest, Vectors, coarsestRows, Few};
-ghost use Rattle.align_burst.specs.Sites.{imageNumber, areaAt, gridAt, after, pairsIn, nextIn, nextRowsIn, Site, LaidAt, Prepared, Coarse, Aligned};
+ghost use Rattle.align_burst.specs.Prelude.{_≡_, _+_, _*_, _≤_, _<_, _^_, length, Allowed, TileSide, frameParts, levelAt, Led, Few, Ends};
+ghost use Rattle.align_burst.specs.Sites.{imageNumber, areaAt, gridAt, after, levelIn, levelRowsIn, Site, LaidAt, Prepared, Coarse, Aligned};
 use align_field::Sums;
-use align_field::coarsest_field;
-use align_field::finer_field;
 use align_field::finest_field;
+use align_field::level_field;
 use align_level::Grid;
 use align_level::half_of;
 use align_tile::Area;
@@ -77,28 +76,14 @@ fn after(grid: Grid) -> usize
     grid.at + 2 * (grid.rows * grid.columns)
 }
 
-// Level 3, from `at` on.
-fn coarsest_level(shape: Shape, work: &mut [i64], at: usize) -> Reach
-    requires { ⌜ Site shape (now work) 3 at ⌝ }
-    ensures { λ r. ⌜ LaidAt shape 3 at (coarsest level3 (pairsIn shape (now (work .entry)) 3)) (coarsestRows level3 (pairsIn shape (now (work .entry)) 3)) (now (work .entry)) (now (work .exit)) (r .grid) (r .rows) ⌝ }
-{
-    let area = area_at(shape, 3);
-    let grid = grid_at(shape, 3, at);
-    let rows = coarsest_field(&mut *work, area, at, grid.rows, grid.columns);
-    Reach {
-        grid: grid,
-        rows: rows,
-    }
-}
-
-// A level from 2 to 0, from `at` on.
-fn next_level(shape: Shape, work: &mut [i64], level: usize, coarse: Grid, at: usize) -> Reach
-    requires { ⌜ record { site : Site shape (now work) level at; level-most : level ≤ 2; vectors : Vectors (now work) coarse; ends : after coarse ≤ at } ⌝ }
-    ensures { λ r. ⌜ LaidAt shape level at (nextIn shape (now (work .entry)) level coarse) (nextRowsIn shape (now (work .entry)) level coarse) (now (work .entry)) (now (work .exit)) (r .grid) (r .rows) ⌝ }
+// A level, from `at` on. Level 3 reads no coarse vectors.
+fn lay_level(shape: Shape, work: &mut [i64], level: usize, coarse: Grid, at: usize) -> Reach
+    requires { ⌜ record { site : Site shape (now work) level at; led : Led (now work) level coarse; ends : Ends level coarse at } ⌝ }
+    ensures { λ r. ⌜ LaidAt shape level at (levelIn shape (now (work .entry)) level coarse) (levelRowsIn shape (now (work .entry)) level coarse) (now (work .entry)) (now (work .exit)) (r .grid) (r .rows) ⌝ }
 {
     let area = area_at(shape, level);
     let grid = grid_at(shape, level, at);
-    let rows = finer_field(
+    let rows = level_field(
         &mut *work,
         area,
         shape.side,
@@ -120,11 +105,16 @@ fn coarse_levels(shape: Shape, work: &mut [i64]) -> Reach
     ensures { λ r. ⌜ Coarse shape (now (work .entry)) (now (work .exit)) (r .grid) (r .rows) ⌝ }
 {
     let base = 2 * align_pyramid::offset(shape, 6);
-    let third = coarsest_level(shape, &mut *work, base);
+    let none = Grid {
+        at: 0,
+        rows: 0,
+        columns: 0,
+    };
+    let third = lay_level(shape, &mut *work, 3, none, base);
     let coarsest = third.grid;
-    let second = next_level(shape, &mut *work, 2, coarsest, after(coarsest));
+    let second = lay_level(shape, &mut *work, 2, coarsest, after(coarsest));
     let middle = second.grid;
-    let first = next_level(shape, &mut *work, 1, middle, after(middle));
+    let first = lay_level(shape, &mut *work, 1, middle, after(middle));
     let grid = first.grid;
     Reach {
         grid: grid,

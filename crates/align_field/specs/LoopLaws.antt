@@ -1,6 +1,7 @@
--- Laws of the loop over a level's tiles: they are few, and what is written from a place on leaves the images and the coarse vectors before it.
+-- Laws of the loop over a level's tiles: they are few, and what is written from a place on leaves the images and the coarse vectors before it, and so
+-- what is answered for a tile.
 use mathlib.Core.Path.{fun-ext}
-use Rattle.align_field.specs.Prelude.{_≡_, sym, ap₂, subst, List, ℕ, _+_, _*_, _/_, _%_, _≤_, _<_, arith, ℤ, natAbs, pairIn, Stored, fieldAt, Vectors}
+use Rattle.align_field.specs.Prelude.{_≡_, _∙_, sym, ap, ap₂, subst, List, ℕ, zero, suc, _+_, _*_, _/_, _%_, _≤_, _<_, arith, lit≤, ℤ, natAbs, pairIn, Stored, fieldAt, Vectors, Led, answerAt, finerAnswer, level3, levelAt, levelTile, coarsest, finer, fromCoarse, candidateRows, searchRows}
 use native.Mathlib.Nat.{mul-le-mul}
 use Rattle.sequences.specs.Place.{row-below, column-below}
 use Rattle.geometry.specs.Read.{inside, read}
@@ -9,8 +10,13 @@ use Rattle.align_pyramid.specs.Words.{imageAt}
 use Rattle.align_pyramid.specs.WordsLaws.{Kept, kept-image, kept-source}
 use Rattle.align_tile.specs.declared.Area.{Area}
 use Rattle.align_field.specs.Magnitudes.{tilesMost}
-use Rattle.align_field.specs.Loops.{Before, Few}
+use Rattle.align_field.specs.Loops.{Before, Few, Ends}
 use Rattle.align_level.specs.declared.Grid.{Grid}
+use Rattle.align_level.specs.Steps.{stepTo}
+use Rattle.align_level.specs.FieldLaws.{from-coarse-agree}
+use Rattle.align_tile.specs.Stored.{answer}
+use Rattle.align_search.specs.Search.{bestVector}
+use Rattle.align_search.specs.Vectors.{still}
 
 -- a level's tiles, and the place of each
 pub tiles-few : {rows columns : ℕ} → Few rows columns → rows * columns ≤ tilesMost
@@ -55,3 +61,23 @@ module _ {d l : List ℤ} {n : ℕ} (k : Kept d n l) (c : Grid) (before : c .at 
       ap₂ (λ x y. record { down = x; right = y })
       (k .kept (c .at + 2 * (row * c .columns + column)) (omega arith))
       (k .kept (c .at + 2 * (row * c .columns + column) + 1) (omega arith))
+
+-- the answers
+module _ {d l : List ℤ} {n : ℕ} (k : Kept d n l) (a : Area) (s : Stored d a) (b : Before a n) (side : ℕ) (c : Grid) where
+  finer-same : (level : ℕ) → Vectors d c → c .at + 2 * (c .rows * c .columns) ≤ n → (row column : ℕ) → finerAnswer side level l a c row column ≡ finerAnswer side level d a c row column
+  unfolding finer
+  finer-same level v before row column =
+      let q = levelAt side level .squared in
+      let t = levelTile (levelAt side level) row column in
+      let g = fromCoarse (stepTo side level) (c .rows) (c .columns) in
+      let p = pairIn d a in
+      ap (λ p. let v = g p t (fieldAt l (c .at) (c .columns)) row column in answer q p t (bestVector q p t v) (candidateRows q p t v)) (kept-pair k a s b)
+      ∙ ap (λ v. answer q p t (bestVector q p t v) (candidateRows q p t v)) (from-coarse-agree (stepTo side level) (c .rows) (c .columns) p t (fieldAt l (c .at) (c .columns)) (fieldAt d (c .at) (c .columns)) (v .some-rows) (v .some-columns) (kept-field k c before) row column)
+
+  pub kept-answer : (level : ℕ) → Led d level c → Ends level c n → (row column : ℕ) → answerAt side level l a c row column ≡ answerAt side level d a c row column
+  kept-answer zero v e row column = finer-same 0 (v .vectors (lit≤ tt)) (e .end (lit≤ tt)) row column
+  kept-answer (suc zero) v e row column = finer-same 1 (v .vectors (lit≤ tt)) (e .end (lit≤ tt)) row column
+  kept-answer (suc (suc zero)) v e row column = finer-same 2 (v .vectors (lit≤ tt)) (e .end (lit≤ tt)) row column
+  kept-answer (suc (suc (suc j))) v e row column =
+      let t = levelTile level3 row column in
+      ap (λ p. answer (level3 .squared) p t (coarsest level3 p row column) (searchRows (level3 .squared) p t still)) (kept-pair k a s b)

@@ -1,5 +1,6 @@
 -- Inner vocabulary: what the loop over a level's tiles asks of the work area, and what it leaves.
-use Rattle.align_field.specs.Prelude.{_≡_, List, ℕ, _+_, _*_, _≤_, _<_, length, ℤ, finestLevel, finestStep, VectorField, word, tileRowsMost, levelAt, finer, fieldAt, pairIn, Stored}
+use Rattle.align_field.specs.Prelude.{_≡_, List, ℕ, _+_, _*_, _/_, _%_, _≤_, _<_, length, ℤ, finestLevel, finestStep, VectorField, word, tileRowsMost, levelAt, finer, fieldAt, answerAt, pairIn, Stored}
+use Rattle.algebra.specs.Sums.{sumN}
 use Rattle.align_tile.specs.declared.Area.{Area}
 use Rattle.align_field.specs.Magnitudes.{wayMost, tilesMost}
 use Rattle.sequences.specs.Write.{written}
@@ -20,9 +21,9 @@ pub record Few (rows columns : ℕ) : Type 0 where
   pub few-rows : rows ≤ wayMost
   pub few-columns : columns ≤ wayMost
 
--- coarse vectors end before place n
-pub record Ends (c : Grid) (n : ℕ) : Type 0 where
-  pub end : c .at + 2 * (c .rows * c .columns) ≤ n
+-- a level's coarse vectors end before place n; level 3 has none
+pub record Ends (level : ℕ) (c : Grid) (n : ℕ) : Type 0 where
+  pub end : level ≤ 2 → c .at + 2 * (c .rows * c .columns) ≤ n
 
 -- a level's images stand in the work area, and behind them there is room for its vectors from `to` on
 pub record Room (words : List ℤ) (a : Area) (to rows columns : ℕ) : Type 0 where
@@ -41,7 +42,14 @@ pub record Laid (d : List ℤ) (to rows columns : ℕ) (f : VectorField) (n : �
 unfoldable pub finestIn : (side : ℕ) → List ℤ → Area → Grid → VectorField
 finestIn side words a c = finer (finestLevel side) (finestStep side) (c .rows) (c .columns) (pairIn words a) (fieldAt words (c .at) (c .columns))
 
--- the rows summed for a level from 2 to 0 of so many rows and columns of tiles
+-- a level's field, from the images and the coarse vectors in the work area, and the rows summed for so many rows and columns of tiles
+abbrev pub fieldIn : (side level : ℕ) → List ℤ → Area → Grid → VectorField
+fieldIn side level words a c row column = answerAt side level words a c row column .vector
+
+abbrev pub rowsIn : (side level : ℕ) → List ℤ → Area → Grid → (rows columns : ℕ) → ℕ
+rowsIn side level words a c rows columns = sumN (rows * columns) (λ k. answerAt side level words a c (k / columns) (k % columns) .rows)
+
+-- the rows summed for a level from 2 to 0
 abbrev pub finerRowsIn : (side level : ℕ) → List ℤ → Area → Grid → (rows columns : ℕ) → ℕ
 finerRowsIn side level words a c rows columns = finerRows (levelAt side level) (stepTo side level) (c .rows) (c .columns) (pairIn words a) (fieldAt words (c .at) (c .columns)) rows columns
 

@@ -1,12 +1,10 @@
 // The vectors of a level's tiles, one after the other.
-ghost use Rattle.align_field.specs.Prelude.{_≡_, _+_, _*_, _≤_, _<_, length, set, level3, foundMost, coarsest, pairIn, Stored, Vectors, finerIn};
+ghost use Rattle.align_field.specs.Prelude.{_≡_, _+_, _*_, _≤_, _<_, length, set, foundMost, Stored, Vectors, Led};
 ghost use Rattle.geometry.specs.Fits.{TileSide};
 ghost use Rattle.align_patch.specs.Bounds.{Within};
-ghost use Rattle.align_field.specs.Loops.{Few, Ends, Room, Laid, finerRowsIn, Finest};
-ghost use Rattle.align_field.specs.LevelSums.{coarsestRows};
+ghost use Rattle.align_field.specs.Loops.{Few, Ends, Room, Laid, fieldIn, rowsIn, Finest};
 use align_level::Grid;
-use align_level::coarsest_tile;
-use align_level::finer_tile;
+use align_level::level_tile;
 use align_tile::Area;
 use geometry::vectors::Vector;
 
@@ -27,23 +25,8 @@ pub struct Sums {
     pub rows: u64,
 }
 
-// Level 3, into the work area from `to` on, and the tile rows that were summed.
-pub fn coarsest_field(work: &mut [i64], area: Area, to: usize, rows: usize, columns: usize) -> u64
-    requires { ⌜ Room (now work) area to rows columns ⌝ }
-    ensures { λ r. ⌜ Laid (now (work .entry)) to rows columns (coarsest level3 (pairIn (now (work .entry)) area)) (coarsestRows level3 (pairIn (now (work .entry)) area) rows columns) (now (work .exit)) r ⌝ }
-{
-    let mut summed: u64 = 0;
-    for k in 0..rows * columns {
-        let found = coarsest_tile(&*work, area, k / columns, k % columns);
-        let v = found.vector;
-        put(&mut *work, to + 2 * k, v);
-        summed += found.rows;
-    }
-    summed
-}
-
-// A level from 2 to 0, with level 0's tiles of a side, into the work area from `to` on, and the tile rows that were summed.
-pub fn finer_field(
+// A level, with level 0's tiles of a side, into the work area from `to` on, and the tile rows that were summed. Level 3 reads no coarse vectors.
+pub fn level_field(
     work: &mut [i64],
     area: Area,
     side: usize,
@@ -53,12 +36,12 @@ pub fn finer_field(
     rows: usize,
     columns: usize,
 ) -> u64
-    requires { ⌜ record { fits : Room (now work) area to rows columns; vectors : Vectors (now work) coarse; ends : Ends coarse to; sided : TileSide side; level-most : level ≤ 2 } ⌝ }
-    ensures { λ r. ⌜ Laid (now (work .entry)) to rows columns (finerIn side level (now (work .entry)) area coarse) (finerRowsIn side level (now (work .entry)) area coarse rows columns) (now (work .exit)) r ⌝ }
+    requires { ⌜ record { fits : Room (now work) area to rows columns; led : Led (now work) level coarse; ends : Ends level coarse to; sided : TileSide side } ⌝ }
+    ensures { λ r. ⌜ Laid (now (work .entry)) to rows columns (fieldIn side level (now (work .entry)) area coarse) (rowsIn side level (now (work .entry)) area coarse rows columns) (now (work .exit)) r ⌝ }
 {
     let mut summed: u64 = 0;
     for k in 0..rows * columns {
-        let found = finer_tile(&*work, area, side, level, coarse, k / columns, k % columns);
+        let found = level_tile(&*work, area, side, level, coarse, k / columns, k % columns);
         let v = found.vector;
         put(&mut *work, to + 2 * k, v);
         summed += found.rows;
@@ -85,7 +68,8 @@ fn hand_over(vectors: &mut [i32], at: usize, v: Vector)
     set_parts(&mut *vectors, at, down, right);
 }
 
-// Level 0 with tiles of a side, into the lent vectors from `to` on, the sum of its residuals, and the tile rows that were summed.
+// Level 0 with tiles of a side, into the lent vectors from `to` on, the sum of its residuals, and the tile rows that were summed. A loop of its
+// own, since the lent vectors are an array of another type than the work area.
 pub fn finest_field(
     work: &[i64],
     area: Area,
@@ -102,7 +86,7 @@ pub fn finest_field(
     let mut sum: u64 = 0;
     let mut summed: u64 = 0;
     for k in 0..rows * columns {
-        let found = finer_tile(work, area, side, 0, coarse, k / columns, k % columns);
+        let found = level_tile(work, area, side, 0, coarse, k / columns, k % columns);
         let v = found.vector;
         hand_over(&mut *vectors, to + 2 * k, v);
         sum += found.residual;

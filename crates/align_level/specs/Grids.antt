@@ -1,8 +1,8 @@
 -- Inner vocabulary: a coarse level's vectors where they stand in the work area, and the answers for a level's tiles.
-use Rattle.align_level.specs.Prelude.{_≡_, List, ℕ, _+_, _*_, _≤_, _<_, length, getD, ℤ, pos, natAbs, level3, VectorField, still, searchRows, candidateRows, Tile, Vector, Found, TileSide, Kind, pairIn, Stored, Placed, answer, refined}
+use Rattle.align_level.specs.Prelude.{_≡_, List, ℕ, zero, suc, _+_, _*_, _≤_, _<_, length, getD, ℤ, pos, natAbs, level3, VectorField, still, searchRows, candidateRows, Tile, Vector, Found, TileSide, Kind, pairIn, Stored, Placed, answer, refined}
 use Rattle.align_level.specs.declared.Grid.{Grid}
 use Rattle.align_tile.specs.declared.Area.{Area}
-use Rattle.align_level.specs.Magnitudes.{coarseMost, foundMost}
+use Rattle.align_level.specs.Magnitudes.{coarseMost, foundMost, tileRowsMost}
 use Rattle.align_residual.specs.Magnitudes.{residualMost}
 use Rattle.align_patch.specs.Bounds.{Within}
 use Rattle.align_level.specs.Fields.{levelAt, levelTile, coarsest, fromCoarse, finer}
@@ -38,6 +38,25 @@ finerAnswer side level words a c row column =
     let l = levelAt side level in
     answer (l .squared) (pairIn words a) (levelTile l row column) (finerIn side level words a c row column)
     (candidateRows (l .squared) (pairIn words a) (levelTile l row column) (guessFrom side level words a c (levelTile l row column) row column))
+
+-- the coarse vectors of a level stand there; level 3 has none
+pub record Led (words : List ℤ) (level : ℕ) (c : Grid) : Type 0 where
+  pub level-most : level ≤ 3
+  pub vectors : level ≤ 2 → Vectors words c
+
+-- the answer for a tile of any level
+abbrev pub answerAt : (side level : ℕ) → List ℤ → Area → Grid → (row column : ℕ) → Found
+answerAt side zero words a c row column = finerAnswer side 0 words a c row column
+answerAt side (suc zero) words a c row column = finerAnswer side 1 words a c row column
+answerAt side (suc (suc zero)) words a c row column = finerAnswer side 2 words a c row column
+answerAt side (suc (suc (suc k))) words a c row column = coarsestAnswer words a row column
+
+-- it is answered, and how large it is
+pub record Answered (f r : Found) : Type 0 where
+  pub is : r ≡ f
+  pub near : Within foundMost (r .vector)
+  pub most : r .residual ≤ residualMost
+  pub few : r .rows ≤ tileRowsMost
 
 -- what is asked where a tile of such a level is at hand, and what is found for it
 pub record Finer (words : List ℤ) (a : Area) (t : Tile) (side level : ℕ) (c : Grid) (row column : ℕ) : Type 0 where

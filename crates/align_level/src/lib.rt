@@ -3,10 +3,9 @@ ghost use Rattle.align_level.specs.Prelude.{_≡_, _*_, _%_, _≤_, _<_,
 ghost use Rattle.align_patch.specs.Bounds.{Within};
 ghost use Rattle.align_level.specs.Fields.{levelAt, levelTile};
 ghost use Rattle.align_level.specs.Steps.{stepTo};
-ghost use Rattle.align_residual.specs.Magnitudes.{residualMost};
-ghost use Rattle.align_level.specs.Magnitudes.{coarseMost, foundMost, tileRowsMost};
+ghost use Rattle.align_level.specs.Magnitudes.{coarseMost};
 ghost use Rattle.align_tile.specs.Magnitudes.{guessMost};
-ghost use Rattle.align_level.specs.Grids.{fieldAt, Vectors, coarsestAnswer, finerAnswer, Finer, FinerFound};
+ghost use Rattle.align_level.specs.Grids.{fieldAt, Vectors, Led, coarsestAnswer, finerAnswer, answerAt, Answered, Finer, FinerFound};
 use align_patch::copy_square;
 use align_residual::Tile;
 use align_tile::Area;
@@ -152,9 +151,9 @@ fn refine_coarse(
 }
 
 // The vector of a tile of level 3, whose guess is (0,0).
-pub fn coarsest_tile(words: &[i64], area: Area, row: usize, column: usize) -> Found
+fn coarsest_tile(words: &[i64], area: Area, row: usize, column: usize) -> Found
     requires { ⌜ record { stored : Stored (now words) area; row-most : row ≤ 4096; column-most : column ≤ 4096 } ⌝ }
-    ensures { λ r. ⌜ record { is : r ≡ coarsestAnswer (now (words .entry)) area row column; near : Within 4 (r .vector); few : r .rows ≤ tileRowsMost } ⌝ }
+    ensures { λ r. ⌜ Answered (coarsestAnswer (now (words .entry)) area row column) r ⌝ }
 {
     let tile = tile_at(16, 3, row, column);
     let origin = tile.origin;
@@ -288,7 +287,7 @@ fn wide_tile(
 }
 
 // The vector of a tile of a finer level, with level 0's tiles of a side.
-pub fn finer_tile(
+fn finer_tile(
     words: &[i64],
     area: Area,
     side: usize,
@@ -298,11 +297,30 @@ pub fn finer_tile(
     column: usize,
 ) -> Found
     requires { ⌜ record { stored : Stored (now words) area; vectors : Vectors (now words) coarse; sided : TileSide side; level-most : level ≤ 2; row-most : row ≤ 4096; column-most : column ≤ 4096 } ⌝ }
-    ensures { λ r. ⌜ record { is : r ≡ finerAnswer side level (now (words .entry)) area coarse row column; near : Within foundMost (r .vector); most : r .residual ≤ residualMost; few : r .rows ≤ tileRowsMost } ⌝ }
+    ensures { λ r. ⌜ Answered (finerAnswer side level (now (words .entry)) area coarse row column) r ⌝ }
 {
     let tile = tile_at(side, level, row, column);
     if tile.side == 32 {
         return wide_tile(words, area, tile, side, level, coarse, row, column);
     }
     narrow_tile(words, area, tile, side, level, coarse, row, column)
+}
+
+// The vector of a tile of any level.
+pub fn level_tile(
+    words: &[i64],
+    area: Area,
+    side: usize,
+    level: usize,
+    coarse: Grid,
+    row: usize,
+    column: usize,
+) -> Found
+    requires { ⌜ record { stored : Stored (now words) area; led : Led (now words) level coarse; sided : TileSide side; row-most : row ≤ 4096; column-most : column ≤ 4096 } ⌝ }
+    ensures { λ r. ⌜ Answered (answerAt side level (now (words .entry)) area coarse row column) r ⌝ }
+{
+    if level == 3 {
+        return coarsest_tile(words, area, row, column);
+    }
+    finer_tile(words, area, side, level, coarse, row, column)
 }

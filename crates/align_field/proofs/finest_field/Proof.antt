@@ -18,31 +18,31 @@ abbrev μ-loop : of.Tie.MeasureT-loop
 mul-k-end : of.Tie.Need-mul-k-end Inv-loop μ-loop
 mul-k-end c = omega (arith, tiles-few (c .pre .few))
 
-finer-tile-requires : of.Tie.Need-finer-tile-requires Inv-loop μ-loop
-finer-tile-requires c κs = let s = c .before .before in
+level-tile-requires : of.Tie.Need-level-tile-requires Inv-loop μ-loop
+level-tile-requires c κs = let s = c .before .before in
     let at = place-few (s .pre .few) (c .before .loop .k) (c .loop-test .taken) in
-    record { stored = s .pre .stored; vectors = s .pre .coarse-vectors; sided = s .pre .sided; level-most = omega arith; row-most = at .0; column-most = at .1 }
+    record { stored = s .pre .stored; led = record { level-most = omega arith; vectors = λ h. s .pre .coarse-vectors }; sided = s .pre .sided; row-most = at .0; column-most = at .1 }
 
 hand-over-requires : of.Tie.Need-hand-over-requires Inv-loop μ-loop
-hand-over-requires c κs = (omega arith, c .before .before .finer-tile .ensures .near)
+hand-over-requires c κs = (omega arith, c .before .before .level-tile .ensures .near)
 
 add-sum : of.Tie.Need-add-sum Inv-loop μ-loop
 add-sum c =
     let l = c .before .before .before .before .before .before .before in
     let s = l .before in
-    omega (arith, l .loop .inv .1 .most, c .before .before .before .before .before .finer-tile .ensures .most, tiles-few (s .pre .few))
+    omega (arith, l .loop .inv .1 .most, c .before .before .before .before .before .level-tile .ensures .most, tiles-few (s .pre .few))
 
 add-summed : of.Tie.Need-add-summed Inv-loop μ-loop
 add-summed c =
     let l = c .before .before .before .before .before .before .before .before in
     let s = l .before in
-    omega (arith, l .loop .inv .2 .most, c .before .before .before .before .before .before .finer-tile .ensures .few, tiles-few (s .pre .few))
+    omega (arith, l .loop .inv .2 .most, c .before .before .before .before .before .before .level-tile .ensures .few, tiles-few (s .pre .few))
 
 loop-again : of.Tie.Need-loop-again Inv-loop μ-loop
 unfolding finestIn
 loop-again c = let t = c .before .before .before .before .before .before in
     let i = t .before in
-    let e = t .finer-tile .ensures in
+    let e = t .level-tile .ensures in
     let v = ap (λ r. r .vector) (e .is) in (
       rw (c .before .before .before .hand-over .ensures) (place-turn (i .before .loop .inv .0) (i .loop-test .taken) (ap (λ v. v .down) v) (ap (λ v. v .right) v)),
       sum-turn (i .before .loop .inv .1) (i .loop-test .taken) (ap (λ r. r .residual) (e .is)) (e .most),
@@ -64,6 +64,6 @@ returns c = let s = c .before .before in
 pub finest-field-spec : {M : Type 1} → of.Statement.statement M
 finest-field-spec = of.Tie.close (of.Tie.spec
     Inv-loop μ-loop mul-k-end (λ c. (place-start (c .pre .room), sum-start, sum-start)) (λ c. search needs)
-    (λ c. search needs) finer-tile-requires (λ c. search needs) (λ c. search needs)
+    (λ c. search needs) level-tile-requires (λ c. search needs) (λ c. search needs)
     hand-over-requires add-sum add-summed (λ c. search needs) (λ c. search needs) loop-again
     (λ c. search needs) returns)

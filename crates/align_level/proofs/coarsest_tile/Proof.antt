@@ -2,6 +2,7 @@
 use Rattle.align_level.specs.Prelude.{_≡_, refl, ap, _∙_, true, _+_, _*_, arith, needs, lit≤, level3, still, pairIn}
 use mathlib.Core.Logic.{inl}
 use Rattle.align_search.specs.RowLaws.{eight-rows-most}
+use Rattle.align_search.specs.VectorLaws.{within-more}
 use Rattle.align_level.specs.Fields.{levelTile}
 use Rattle.align_tile.specs.StoredLaws.{copyable, ready, answer-within}
 use Rattle.align_level.proofs.Answers.{coarsest-answer, eight-side}
@@ -36,7 +37,8 @@ returns c = let s = c .before .before .before .before .before .before .before .b
     let e = coarsest-answer level3 p (a .row) (a .column) (t .result) (m .result) (t .ensures .0) (m .ensures .0) in
     record {
       is = e;
-      near = answer-within true p (t .result) still _ (m .result) (m .ensures .0) 0 (record { vertical = lit≤ tt; sideways = lit≤ tt });
+      near = within-more 340 (answer-within true p (t .result) still _ (m .result) (m .ensures .0) 0 (record { vertical = lit≤ tt; sideways = lit≤ tt })) (lit≤ tt);
+      most = m .ensures .1;
       few = omega (arith, ap (λ r. r .rows) e, eight-rows-most true p (levelTile level3 (a .row) (a .column)) still (eight-side (a .row) (a .column)));
     }
 

@@ -1,5 +1,5 @@
 -- The side decides how long the arrays are; either way the answer is the definition's.
-use Rattle.align_level.specs.Prelude.{_≡_, sym, ap, subst, _≤_, arith, needs, TileSide, Tile, Found, pairIn, Kind}
+use Rattle.align_level.specs.Prelude.{_≡_, sym, ap, subst, _≤_, arith, needs, TileSide, Found, pairIn, Kind}
 use mathlib.Core.Logic.{⊎-elim}
 use Rattle.align_level.specs.Fields.{levelAt, levelTile}
 use Rattle.align_level.specs.Steps.{stepTo}
