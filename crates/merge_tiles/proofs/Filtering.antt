@@ -7,7 +7,7 @@ use Rattle.sequences.specs.Grid.{grid, cell, cell-grid, grid-ext, grid-of}
 use Rattle.noise.specs.SpatialLaws.{spatial-number-most}
 use Rattle.tile_spatial.specs.FilteringLaws.{step-cong, step-most}
 use Rattle.merge_tiles.specs.declared.Site.{Site}
-use Rattle.merge_tiles.specs.Sum.{summedAt, Summed, takenIn, takenMost, Taken}
+use Rattle.merge_tiles.specs.Sum.{atSite, pairAt, summedAt, Summed, takenIn, takenMost, Taken}
 
 -- the sums of a pair, as the filter takes them
 pub sums-fit : (s : Scene) (t : Site) (frames : ℕ) → frames ≡ suc (s .others) → {r : List (List ℤ)} → Summed 16 smallMost s t r → SumPair frames r
@@ -20,17 +20,17 @@ sums-fit s t frames e {r} w =
     }
   where
     f : ℕ → ℕ → ℤ
-    f = sideBySide (λ p. summedAt s (t .parity) p (t .row) (t .column))
+    f = sideBySide (atSite (summedAt s) t)
 
 pub sums-paired : {s : Scene} {t : Site} {r : List (List ℤ)} → Summed 16 smallMost s t r → Paired (pos 0) r
-sums-paired {s} {t} w = record { is = grid-of (pos 0) 16 32 (sideBySide (λ p. summedAt s (t .parity) p (t .row) (t .column))) (w .is) }
+sums-paired {s} {t} w = record { is = grid-of (pos 0) 16 32 (sideBySide (atSite (summedAt s) t)) (w .is) }
 
 -- s above 0: t0 is T0 of both planes, and sum their sums
 module _ (m : Merge) (samples : List ℕ) (vectors : List ℤ) (t : Site) (t0 : List (List ℕ)) (sum : List (List ℤ)) (first second : ℕ)
     (some : 1 ≤ m .shape .count) (few : m .shape .count ≤ 8)
-    (tile : t0 ≡ grid 16 32 (sideBySide (λ p. referenceTile (sceneAt side16 m samples vectors) (t .parity) p (t .row) (t .column))))
+    (tile : t0 ≡ pairAt 16 (referenceTile (sceneAt side16 m samples vectors)) t)
     (w : Summed 16 smallMost (sceneAt side16 m samples vectors) t sum)
-    (roots : (p : ℕ) → p < 2 → either first second p ≡ referenceRoot (sceneAt side16 m samples vectors) (t .parity) p (t .row) (t .column))
+    (roots : (p : ℕ) → p < 2 → either first second p ≡ atSite (referenceRoot (sceneAt side16 m samples vectors)) t p)
     (ranges : (p : ℕ) → p < 2 → SpatialRange (m .tuning .spatial) (m .shot) (m .read) (either first second p) (m .shape .count)) where
   abbrev s : Scene
   s = sceneAt side16 m samples vectors
@@ -55,27 +55,27 @@ module _ (m : Merge) (samples : List ℕ) (vectors : List ℤ) (t : Site) (t0 : 
       let column : (2 * x + p) / 2 ≡ x = omega arith in
       ap (λ z. cell d z y (2 * x + p)) e ∙ cell-grid d 16 32 _ y (2 * x + p) g (omega arith) ∙ rw (parity, column)
 
-  sum-is : (p y x : ℕ) → summedAt s (t .parity) p (t .row) (t .column) y x ≡ mergedSum (s .side) (s .others) (tileHere s (t .parity) p (t .row) (t .column)) y x
+  sum-is : (p y x : ℕ) → atSite (summedAt s) t p y x ≡ mergedSum (s .side) (s .others) (atSite (tileHere s) t p) y x
   unfolding summedAt mergedSum tileHere
   sum-is p y x = refl
 
-  copy-is : (p : ℕ) → p < 2 → (y x : ℕ) → y < 16 → x < 16 → copy p y x ≡ copyAt (s .side) (s .others) (tileHere s (t .parity) p (t .row) (t .column)) y x
+  copy-is : (p : ℕ) → p < 2 → (y x : ℕ) → y < 16 → x < 16 → copy p y x ≡ copyAt (s .side) (s .others) (atSite (tileHere s) t p) y x
   unfolding copyIn copyAt tileHere
   copy-is p c y x g h =
-      ap₂ (λ a b. away (pos a *ℤ pos (256 * frames) -ℤ b) frames) (plane 0 (λ p. referenceTile s (t .parity) p (t .row) (t .column)) tile p c y x g h) (plane (pos 0) (λ p. summedAt s (t .parity) p (t .row) (t .column)) (w .is) p c y x g h ∙ sum-is p y x)
-      ∙ ap (λ n. away (pos (referenceTile s (t .parity) p (t .row) (t .column) y x) *ℤ pos (256 * n) -ℤ mergedSum (s .side) (s .others) (tileHere s (t .parity) p (t .row) (t .column)) y x) n) frames-is
+      ap₂ (λ a b. away (pos a *ℤ pos (256 * frames) -ℤ b) frames) (plane 0 (atSite (referenceTile s) t) tile p c y x g h) (plane (pos 0) (atSite (summedAt s) t) (w .is) p c y x g h ∙ sum-is p y x)
+      ∙ ap (λ n. away (pos (atSite (referenceTile s) t p y x) *ℤ pos (256 * n) -ℤ mergedSum (s .side) (s .others) (atSite (tileHere s) t p) y x) n) frames-is
 
-  noise-is : (p : ℕ) → p < 2 → noise p ≡ tileSpatial s (t .parity) p (t .row) (t .column)
+  noise-is : (p : ℕ) → p < 2 → noise p ≡ atSite (tileSpatial s) t p
   unfolding tileSpatial sceneAt
   noise-is p c = ap₂ (λ r n. spatialNumber side16 (m .tuning .spatial) (m .shot) (m .read) r n) (roots p c) frames-is
 
-  step-is : (p : ℕ) → p < 2 → (y x : ℕ) → stepAt (noise p) (copy p) y x ≡ spatialAt (s .side) (s .others) (tileHere s (t .parity) p (t .row) (t .column)) y x
+  step-is : (p : ℕ) → p < 2 → (y x : ℕ) → stepAt (noise p) (copy p) y x ≡ spatialAt (s .side) (s .others) (atSite (tileHere s) t p) y x
   unfolding stepAt spatialAt tileHere sceneAt
   step-is p c y x =
-      step-cong (noise p) (copy p) (copyAt side16 (s .others) (tileHere s (t .parity) p (t .row) (t .column))) (copy-is p c) y x
-      ∙ ap (λ n. stepAt n (copyAt side16 (s .others) (tileHere s (t .parity) p (t .row) (t .column))) y x) (noise-is p c)
+      step-cong (noise p) (copy p) (copyAt side16 (s .others) (atSite (tileHere s) t p)) (copy-is p c) y x
+      ∙ ap (λ n. stepAt n (copyAt side16 (s .others) (atSite (tileHere s) t p)) y x) (noise-is p c)
 
-  cell-is : (i l : ℕ) → i < 16 → l < 32 → cell (pos 0) sum i l +ℤ pos frames *ℤ stepAt (noise (l % 2)) (copy (l % 2)) i (l / 2) ≡ sideBySide (λ p. takenIn s (t .parity) p (t .row) (t .column)) i l
+  cell-is : (i l : ℕ) → i < 16 → l < 32 → cell (pos 0) sum i l +ℤ pos frames *ℤ stepAt (noise (l % 2)) (copy (l % 2)) i (l / 2) ≡ sideBySide (atSite (takenIn s) t) i l
   unfolding takenIn takenAt summedAt mergedSum tileHere
   cell-is i l h k =
       ap₂ _+ℤ_ (ap (λ z. cell (pos 0) z i l) (w .is) ∙ cell-grid (pos 0) 16 32 _ i l h k) (ap₂ (λ n z. pos n *ℤ z) frames-is (step-is (l % 2) (omega arith) i (l / 2)))

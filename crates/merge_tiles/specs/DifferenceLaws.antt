@@ -8,7 +8,7 @@ use Rattle.geometry.specs.Vectors.{otherFrame}
 use Rattle.geometry.specs.VectorLaws.{other-below}
 use Rattle.merge_tiles.specs.declared.Site.{Site}
 use Rattle.merge_tiles.specs.Accepted.{Accepted, Sited}
-use Rattle.merge_tiles.specs.Sum.{TileFits}
+use Rattle.merge_tiles.specs.Sum.{atSite, TileFits}
 use Rattle.tile_spectrum.specs.Lines.Magnitudes.{differenceMost}
 
 -- the rows of a pair
@@ -44,21 +44,21 @@ module _ {n : ℕ} {m : Merge} {samples : List ℕ} {vectors : List ℤ} (side :
   abbrev s : Scene
   s = sceneAt side m samples vectors
 
-  pub reference-most : (p : ℕ) → p < 2 → (i j : ℕ) → referenceTile s (site .parity) p (site .row) (site .column) i j ≤ 4095
+  pub reference-most : (p : ℕ) → p < 2 → (i j : ℕ) → atSite (referenceTile s) site p i j ≤ 4095
   unfolding sceneAt referenceTile
   reference-most p c = tile-sample side (ok .burst .allowed) (ok .samples-fit) (m .reference) (ok .burst .reference-below) (sited .parity) c (pos 0) (pos 0) (site .row) (site .column)
 
   -- and the k-th other frame
   module _ (k : ℕ) (h : k < m .shape .count - 1) where
-    pub other-most : (p : ℕ) → p < 2 → (i j : ℕ) → otherTile s (site .parity) p (site .row) (site .column) k i j ≤ 4095
+    pub other-most : (p : ℕ) → p < 2 → (i j : ℕ) → atSite (otherTile s) site p k i j ≤ 4095
     unfolding sceneAt otherTile
     other-most p c = tile-sample side (ok .burst .allowed) (ok .samples-fit) (otherFrame (m .reference) k) (other-below (m .reference) k (m .shape .count) h) (sited .parity) c _ _ (site .row) (site .column)
 
-    pub difference-most : (p : ℕ) → p < 2 → (i j : ℕ) → natAbs (tileDifference s (site .parity) p (site .row) (site .column) k i j) ≤ 4095
+    pub difference-most : (p : ℕ) → p < 2 → (i j : ℕ) → natAbs (atSite (tileDifference s) site p k i j) ≤ 4095
     unfolding tileDifference
     difference-most p c i j = apart _ _ (reference-most p c i j) (other-most p c i j)
 
-    pub tile-most : TileMost differenceMost (grid n (2 * n) (sideBySide (λ p. tileDifference s (site .parity) p (site .row) (site .column) k)))
+    pub tile-most : TileMost differenceMost (grid n (2 * n) (sideBySide (λ p. atSite (tileDifference s) site p k)))
     unfolding grid
     tile-most =
         record {

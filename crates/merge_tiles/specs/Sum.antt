@@ -8,14 +8,18 @@ use Rattle.recipe.specs.Correction.{correctionAt}
 pub record TileFits (t : List (List ℕ)) : Type 0 where
   pub row : (i : ℕ) → ValuesFit (getD t i [])
 
+-- f of a pair's tile of a column parity
+abbrev pub atSite : {A : Type 0} → (f : (rowParity columnParity a b : ℕ) → A) → Site → (columnParity : ℕ) → A
+atSite f t p = f (t .parity) p (t .row) (t .column)
+
 -- the numbers f of a pair of tiles of side n, side by side
 abbrev pub pairAt : {A : Type 0} → (n : ℕ) (f : (rowParity columnParity a b i j : ℕ) → A) → Site → List (List A)
-pairAt n f t = grid n (2 * n) (sideBySide (λ p. f (t .parity) p (t .row) (t .column)))
+pairAt n f t = grid n (2 * n) (sideBySide (atSite f t))
 
 -- t0 is the pair of reference tiles, of a side, and `first` and `second` are the noise numbers of those of column parity 0 and 1, each of at most `top`
 pub record TileOf (side top : ℕ) (s : Scene) (t : Site) (t0 : List (List ℕ)) (first second : ℕ) : Type 0 where
   pub is : t0 ≡ pairAt side (referenceTile s) t
-  pub number : (p : ℕ) → p < 2 → either first second p ≡ tileNoise s (t .parity) p (t .row) (t .column)
+  pub number : (p : ℕ) → p < 2 → either first second p ≡ atSite (tileNoise s) t p
   pub first-most : first ≤ top
   pub second-most : second ≤ top
 
@@ -27,7 +31,7 @@ summedAt s rowParity columnParity a b i j =
 -- r is the sums of a pair's corrections, each of at most `small`, over the other frames
 pub record Summed (side small : ℕ) (s : Scene) (t : Site) (r : List (List ℤ)) : Type 0 where
   pub is : r ≡ pairAt side (summedAt s) t
-  pub most : (i l : ℕ) → i < side → l < 2 * side → natAbs (sideBySide (λ p. summedAt s (t .parity) p (t .row) (t .column)) i l) ≤ s .others * small
+  pub most : (i l : ℕ) → i < side → l < 2 * side → natAbs (sideBySide (atSite (summedAt s) t) i l) ≤ s .others * small
 
 -- what is taken from T0 in all, in 1/(256·N): the sum of P, and N·P' of the spatial filter
 unfoldable pub takenIn : Scene → (rowParity columnParity a b i j : ℕ) → ℤ
@@ -44,7 +48,7 @@ Taking = (rowParity columnParity a b i j : ℕ) → ℤ
 -- r is what is taken from a pair
 pub record PairTaken (side : ℕ) (taken : Taking) (t : Site) (r : List (List ℤ)) : Type 0 where
   pub is : r ≡ pairAt side taken t
-  pub most : (i l : ℕ) → i < side → l < 2 * side → natAbs (sideBySide (λ p. taken (t .parity) p (t .row) (t .column)) i l) ≤ takenMost
+  pub most : (i l : ℕ) → i < side → l < 2 * side → natAbs (sideBySide (atSite taken t) i l) ≤ takenMost
 
 -- by a merge
 abbrev pub Taken : (side : ℕ) → Scene → Site → List (List ℤ) → Type 0

@@ -11,12 +11,12 @@ use Rattle.recipe.specs.Correction.{correctionAt}
 use Rattle.tile_spectrum.specs.ZeroLaws.{no-noise}
 use Rattle.tile_spectrum.specs.DifferenceLaws.{correction-cong}
 use Rattle.merge_tiles.specs.declared.Site.{Site}
-use Rattle.merge_tiles.specs.Sum.{summedAt, Summed}
+use Rattle.merge_tiles.specs.Sum.{atSite, summedAt, Summed}
 
 module _ (s : Scene) (t : Site) where
   -- P of the tile of column parity p for the k-th other frame, and the sums of the first n of these, side by side
   abbrev pub termAt : (k p i j : ℕ) → ℤ
-  termAt k p = correctionAt (s .side) (tileNoise s (t .parity) p (t .row) (t .column)) (tileDifference s (t .parity) p (t .row) (t .column) k)
+  termAt k p = correctionAt (s .side) (atSite (tileNoise s) t p) (atSite (tileDifference s) t p k)
 
   abbrev pub partAt : (n i l : ℕ) → ℤ
   partAt n i l = sumZ n (λ k. sideBySide (termAt k) i l)
@@ -30,11 +30,11 @@ pub record Summing (k small : ℕ) (s : Scene) (t : Site) (n : ℕ) (sum : List 
   pub most : (i l : ℕ) → i < k → l < 2 * k → natAbs (partAt s t n i l) ≤ n * small
 
 -- where both V are 0, so is the sum
-pub zero-summed : (k small : ℕ) {s : Scene} {t : Site} {sum : List (List ℤ)} → ((p : ℕ) → p < 2 → tileNoise s (t .parity) p (t .row) (t .column) ≡ 0) → sum ≡ grid k (2 * k) (λ i l. pos 0) → Summed k small s t sum
+pub zero-summed : (k small : ℕ) {s : Scene} {t : Site} {sum : List (List ℤ)} → ((p : ℕ) → p < 2 → atSite (tileNoise s) t p ≡ 0) → sum ≡ grid k (2 * k) (λ i l. pos 0) → Summed k small s t sum
 unfolding summedAt
 zero-summed k small {s} {t} {sum} v e = record { is = e ∙ sym (grid-ext k (2 * k) _ _ (λ i l h g. zero (l % 2) (omega arith) i (l / 2))); most = λ i l h g. rw (zero (l % 2) (omega arith) i (l / 2)) (omega arith) }
   where
-    zero : (p : ℕ) → p < 2 → (i j : ℕ) → summedAt s (t .parity) p (t .row) (t .column) i j ≡ pos 0
+    zero : (p : ℕ) → p < 2 → (i j : ℕ) → atSite (summedAt s) t p i j ≡ pos 0
     zero p c i j = rw (v p c) (sumZ-cong (s .others) _ (λ k. pos 0) (λ k h. no-noise (s .side) (s .side .divisor-above) _ i j) ∙ sumZ-0 (s .others))
 
 module _ {k small : ℕ} {s : Scene} {t : Site} where
@@ -47,8 +47,8 @@ module _ {k small : ℕ} {s : Scene} {t : Site} where
 
   -- one more frame: d its differences, and r the sum with their corrections
   module _ {n : ℕ} {sum : List (List ℤ)} (w : Summing k small s t n sum) (h : n < s .others) where
-    pub sum-turn : (side : Side) → s .side ≡ side → (first second : ℕ) {d r : List (List ℤ)} → ((p : ℕ) → p < 2 → either first second p ≡ tileNoise s (t .parity) p (t .row) (t .column))
-        → d ≡ grid k (2 * k) (sideBySide (λ p. tileDifference s (t .parity) p (t .row) (t .column) n))
+    pub sum-turn : (side : Side) → s .side ≡ side → (first second : ℕ) {d r : List (List ℤ)} → ((p : ℕ) → p < 2 → either first second p ≡ atSite (tileNoise s) t p)
+        → d ≡ grid k (2 * k) (sideBySide (λ p. atSite (tileDifference s) t p n))
         → r ≡ grid k (2 * k) (λ i l. cell (pos 0) sum i l +ℤ correctionAt side (either first second (l % 2)) (planeIn (cell (pos 0) d) (l % 2)) i (l / 2))
         → ((p : ℕ) → p < 2 → (i j : ℕ) → natAbs (termAt s t n p i j) ≤ small)
         → Summing k small s t (n + 1) r
@@ -65,7 +65,7 @@ module _ {k small : ℕ} {s : Scene} {t : Site} where
         inside : {i : ℕ} → i < s .side .side → i < k
         inside {i} h = subst (λ n. i < n) (w .sided) h
 
-        plane : (p : ℕ) → p < 2 → (y x : ℕ) → y < k → x < k → planeIn (cell (pos 0) d) p y x ≡ tileDifference s (t .parity) p (t .row) (t .column) n y x
+        plane : (p : ℕ) → p < 2 → (y x : ℕ) → y < k → x < k → planeIn (cell (pos 0) d) p y x ≡ atSite (tileDifference s) t p n y x
         plane p c y x g f =
             let parity : (2 * x + p) % 2 ≡ p = omega arith in
             let column : (2 * x + p) / 2 ≡ x = omega arith in

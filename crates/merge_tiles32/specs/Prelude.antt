@@ -10,4 +10,4 @@ unfoldable pub use Rattle.recipe.specs.Tables32.{side32}
 pub use Rattle.tile_spectrum.specs.Magnitudes.{longNoiseMost}
 pub use Rattle.merge_tiles.specs.Rows.{Spread, Stored}
 unfoldable pub use Rattle.merge_tiles.specs.Rows.{rowWords}
-pub use Rattle.merge_tiles.specs.Sum.{Summed, Taken, TileFits, TileOf, pairAt}
+pub use Rattle.merge_tiles.specs.Sum.{Summed, Taken, TileFits, TileOf, atSite, pairAt}

@@ -1,5 +1,5 @@
 -- The sum of one end's P, frame by frame: its record, and how it starts, goes on and ends.
-use Rattle.range_tiles.specs.Prelude.{_≡_, sym, ap, ap₂, subst, _∙_, List, [], ℕ, _+_, _*_, _/_, _%_, _^_, _≤_, _<_, arith, lit≤, eqb, ℤ, pos, natAbs, _+ℤ_, side16, Scene, tileNoise, tileDifference, greatestAt, leastAt, Noises, PairSums, NoisesFit, noiseOf, pairPlus, pairEnd, takenMost, PairTaken}
+use Rattle.range_tiles.specs.Prelude.{_≡_, sym, ap, ap₂, subst, _∙_, List, [], ℕ, _+_, _*_, _/_, _%_, _^_, _≤_, _<_, arith, lit≤, eqb, ℤ, pos, natAbs, _+ℤ_, side16, Scene, tileNoise, tileDifference, greatestAt, leastAt, Noises, PairSums, NoisesFit, noiseOf, pairPlus, pairEnd, takenMost, PairTaken, atSite}
 use native.Mathlib.Numerals.{add-one}
 use native.Mathlib.Nat.{le-trans, mul-le-mul-right}
 use Rattle.algebra.specs.Order.{abs-add}
@@ -36,7 +36,7 @@ noise-most f p = cond-cases (λ n. n ≤ noiseMost) (eqb p 0) (f .first-most) (f
 module _ (end : EndAt) (s : Scene) (t : Site) (lower upper : Noises) where
   -- P of the tile of column parity p for the k-th other frame, and the sums of the first n of these, side by side
   abbrev pub termAt : (k p i j : ℕ) → ℤ
-  termAt k p = end side16 (noiseOf lower p) (noiseOf upper p) (tileDifference s (t .parity) p (t .row) (t .column) k)
+  termAt k p = end side16 (noiseOf lower p) (noiseOf upper p) (atSite (tileDifference s) t p k)
 
   abbrev pub partAt : (n i l : ℕ) → ℤ
   partAt n i l = sumZ n (λ k. sideBySide (termAt k) i l)
@@ -59,7 +59,7 @@ module _ {end : EndAt} {s : Scene} {t : Site} {lower upper : Noises} where
   -- one more frame: d its differences, and r the sum with their P
   module _ (ending : Ending end) {n : ℕ} {sum : List (List ℤ)} (w : Summing end s t lower upper n sum) (h : n < s .others) where
     pub sum-turn : {d r : List (List ℤ)} → NoisesFit lower → NoisesFit upper
-        → d ≡ grid 16 32 (sideBySide (λ p. tileDifference s (t .parity) p (t .row) (t .column) n))
+        → d ≡ grid 16 32 (sideBySide (λ p. atSite (tileDifference s) t p n))
         → r ≡ pairPlus sum (pairEnd d lower upper end)
         → Summing end s t lower upper (n + 1) r
     sum-turn {d} {r} a b de re =
@@ -71,7 +71,7 @@ module _ {end : EndAt} {s : Scene} {t : Site} {lower upper : Noises} where
               (omega (arith, abs-add (partAt end s t lower upper n i l) (sideBySide (termAt end s t lower upper n) i l), low (l % 2) (omega arith) i (l / 2), w .most i l g f));
         }
       where
-        plane : (p : ℕ) → p < 2 → (y x : ℕ) → y < 16 → x < 16 → planeIn (cell (pos 0) d) p y x ≡ tileDifference s (t .parity) p (t .row) (t .column) n y x
+        plane : (p : ℕ) → p < 2 → (y x : ℕ) → y < 16 → x < 16 → planeIn (cell (pos 0) d) p y x ≡ atSite (tileDifference s) t p n y x
         plane p c y x g f =
             let parity : (2 * x + p) % 2 ≡ p = omega arith in
             let column : (2 * x + p) / 2 ≡ x = omega arith in
@@ -122,14 +122,14 @@ none-summed {end} ending {s} {t} {lower} {upper} e r-is =
     none : (v : Noises) → v .first ≡ 0 → v .second ≡ 0 → (p : ℕ) → noiseOf v p ≡ 0
     none v f g p = cond-cases (λ n. n ≡ 0) (eqb p 0) f g
 
-    zero : (p i j : ℕ) → endSum end s (noiseOf lower p) (noiseOf upper p) (t .parity) p (t .row) (t .column) i j ≡ pos 0
+    zero : (p i j : ℕ) → atSite (endSum end s (noiseOf lower p) (noiseOf upper p)) t p i j ≡ pos 0
     zero p i j =
         rw (none lower (omega arith) (omega arith) p, none upper (omega arith) (omega arith) p)
         (sumZ-cong (s .others) _ (λ k. pos 0) (λ k h. ending .none _ i j) ∙ sumZ-0 (s .others))
 
 -- the sums at a tile's noise numbers are what its ends take
 pub end-taken : (end : EndAt) (lower upper : Scene) (t : Site) {v w : Noises} {r : List (List ℤ)} → lower .others ≤ 7
-    → ((p : ℕ) → p < 2 → noiseOf v p ≡ tileNoise lower (t .parity) p (t .row) (t .column)) → ((p : ℕ) → p < 2 → noiseOf w p ≡ tileNoise upper (t .parity) p (t .row) (t .column))
+    → ((p : ℕ) → p < 2 → noiseOf v p ≡ atSite (tileNoise lower) t p) → ((p : ℕ) → p < 2 → noiseOf w p ≡ atSite (tileNoise upper) t p)
     → EndSummed end lower t v w r → PairTaken 16 (endTaken end lower upper) t r
 unfolding endTaken
 end-taken end lower upper t {v} {w} few a b summed =
@@ -138,5 +138,5 @@ end-taken end lower upper t {v} {w} few a b summed =
       most = λ i k h g. subst (λ z. natAbs z ≤ takenMost) (same (k % 2) (omega arith) i (k / 2)) (le-trans (summed .most i k h g) (le-trans (mul-le-mul-right smallMost few) (lit≤ tt)));
     }
   where
-    same : (p : ℕ) → p < 2 → (i j : ℕ) → endSum end lower (noiseOf v p) (noiseOf w p) (t .parity) p (t .row) (t .column) i j ≡ endTaken end lower upper (t .parity) p (t .row) (t .column) i j
-    same p h i j = ap₂ (λ m n. endSum end lower m n (t .parity) p (t .row) (t .column) i j) (a p h) (b p h)
+    same : (p : ℕ) → p < 2 → (i j : ℕ) → atSite (endSum end lower (noiseOf v p) (noiseOf w p)) t p i j ≡ atSite (endTaken end lower upper) t p i j
+    same p h i j = ap₂ (λ m n. atSite (endSum end lower m n) t p i j) (a p h) (b p h)

@@ -1,5 +1,5 @@
 -- Inside the crates of the range: P of one end of a pair's tiles, summed over the other frames. `end` is `greatestAt` or `leastAt` (range/Range).
-use Rattle.range_tiles.specs.Prelude.{_≡_, List, ℕ, _*_, _≤_, _<_, ℤ, pos, natAbs, grid, side16, Merge, Scene, referenceTile, tileNoise, tileDifference, sceneAt, greatestAt, leastAt, Taking, PairTaken, NoisesFit, noiseOf, Noises}
+use Rattle.range_tiles.specs.Prelude.{_≡_, List, ℕ, _*_, _≤_, _<_, ℤ, pos, natAbs, grid, side16, Merge, Scene, referenceTile, tileNoise, tileDifference, sceneAt, greatestAt, leastAt, Taking, PairTaken, NoisesFit, noiseOf, Noises, atSite, pairAt}
 use Rattle.algebra.specs.Sums.{sumZ}
 use Rattle.tile_spectrum.specs.Magnitudes.{smallMost}
 use Rattle.tile_spectrum.specs.Pairs.{sideBySide}
@@ -16,7 +16,7 @@ endSum end s lower upper rowParity columnParity a b i j =
 
 -- those sums of a pair, at its planes' noise numbers
 abbrev pub pairSum : EndAt → Scene → Site → (lower upper : Noises) → ℕ → ℕ → ℤ
-pairSum end s t lower upper = sideBySide (λ p. endSum end s (noiseOf lower p) (noiseOf upper p) (t .parity) p (t .row) (t .column))
+pairSum end s t lower upper = sideBySide (λ p. atSite (endSum end s (noiseOf lower p) (noiseOf upper p)) t p)
 
 -- r is these sums, each of at most `smallMost` for every other frame
 pub record EndSummed (end : EndAt) (s : Scene) (t : Site) (lower upper : Noises) (r : List (List ℤ)) : Type 0 where
@@ -66,7 +66,7 @@ pub record Cleared (greatest least : List (List ℤ)) : Type 0 where
 
 -- T0 of a pair
 abbrev pub tilePair : Scene → Site → List (List ℕ)
-tilePair s t = grid 16 32 (sideBySide (λ p. referenceTile s (t .parity) p (t .row) (t .column)))
+tilePair s t = pairAt 16 (referenceTile s) t
 
 -- a pair of accepted input, its T0, its planes' noise numbers at both ends, and cleared sums
 pub record SumsLent (m : Merge) (samples : List ℕ) (vectors : List ℤ) (t : Site) (t0 : List (List ℕ)) (lower upper : Noises) (greatest least : List (List ℤ)) : Type 0 where

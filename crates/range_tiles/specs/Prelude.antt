@@ -10,4 +10,4 @@ pub use Rattle.range_pair.specs.Added.{NoisesFit, PairSums, noiseOf, pairEnd, p
 pub use Rattle.range_pair.specs.declared.Noises.{Noises}
 pub use Rattle.merge_tiles.specs.Rows.{Spread, rowWord}
 unfoldable pub use Rattle.merge_tiles.specs.Rows.{rowWords, slotOf}
-pub use Rattle.merge_tiles.specs.Sum.{PairTaken, Taking, takenMost}
+pub use Rattle.merge_tiles.specs.Sum.{PairTaken, Taking, atSite, pairAt, takenMost}

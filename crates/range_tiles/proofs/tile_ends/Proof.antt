@@ -1,5 +1,5 @@
 -- T0 has its roots, and at either noise its noise numbers.
-use Rattle.range_tiles.specs.Prelude.{_≡_, refl, List, ℕ, _-_, _+_, _*_, _≤_, _<_, arith, needs, lit<, now, cell, side16, Merge, referenceTile, tileNoise, sceneAt, greatestAt, leastAt, Noises, noiseOf}
+use Rattle.range_tiles.specs.Prelude.{_≡_, refl, List, ℕ, _-_, _+_, _*_, _≤_, _<_, arith, needs, lit<, now, cell, side16, Merge, referenceTile, tileNoise, sceneAt, greatestAt, leastAt, Noises, noiseOf, atSite}
 use Rattle.merge_tiles.specs.DifferenceLaws.{tile-fits, reference-most}
 use Rattle.merge_tiles.specs.NoiseLaws.{both}
 use Rattle.merge_tiles.specs.TileLaws.{root-of, number}
@@ -36,12 +36,12 @@ module _ (c : of.Tie.After-pair-roots) (m : Merge) (e : let t = c .before .befor
     (tuned : m .tuning ≡ c .before .before .before .before .before .before .before .before .args .m .tuning) where
   numbers-known : {v : Noises} → let a = c .before .before .before .before .before .before .before .before .args in
       NoisesAre (m .tuning .strength) (m .shot) (m .read) (c .pair-roots .result .first) (c .pair-roots .result .second) v
-      → (p : ℕ) → p < 2 → noiseOf v p ≡ tileNoise (sceneAt side16 m (now (a .samples)) (now (a .vectors))) (a .site .parity) p (a .site .row) (a .site .column)
+      → (p : ℕ) → p < 2 → noiseOf v p ≡ atSite (tileNoise (sceneAt side16 m (now (a .samples)) (now (a .vectors)))) (a .site) p
   numbers-known {v} known =
       let b = c .before .before in
       let t = b .before .before in
       let a = t .before .before .before .before .args in
-      both (λ p. noiseOf v p ≡ tileNoise (sceneAt side16 m (now (a .samples)) (now (a .vectors))) (a .site .parity) p (a .site .row) (a .site .column))
+      both (λ p. noiseOf v p ≡ atSite (tileNoise (sceneAt side16 m (now (a .samples)) (now (a .vectors)))) (a .site) p)
       (number 16 side16 sided m (now (a .samples)) (now (a .vectors)) (a .site) e 0
       (root-of 16 side16 sided m (now (a .samples)) (now (a .vectors)) (a .site) e 0 (lit< tt) (λ j. 2 * j) (λ j. omega arith) (rw tuned (b .before .plane-black .ensures)) (c .pair-roots .ensures .first)) (known .first-is))
       (number 16 side16 sided m (now (a .samples)) (now (a .vectors)) (a .site) e 1

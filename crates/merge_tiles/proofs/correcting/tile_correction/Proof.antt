@@ -1,8 +1,8 @@
 -- T0 has its roots and its noise numbers, and what is taken from it is its sums, or these with the spatial filter's.
-use Rattle.merge_tiles.specs.Prelude.{_≡_, refl, List, ℕ, suc, _+_, _*_, _≤_, _<_, arith, needs, lit≤, lit<, ℤ, now, grid, cell, side16, noiseMost, smallMost, sideBySide, either, Merge, referenceTile, referenceRoot, sceneAt, SpatialRange}
+use Rattle.merge_tiles.specs.Prelude.{_≡_, refl, List, ℕ, suc, _+_, _*_, _≤_, _<_, arith, needs, lit≤, lit<, ℤ, now, cell, side16, noiseMost, smallMost, either, Merge, referenceTile, referenceRoot, sceneAt, SpatialRange}
 use Rattle.merge_tiles.specs.declared.Site.{Site}
 use Rattle.merge_tiles.specs.Accepted.{Accepted, Tuned}
-use Rattle.merge_tiles.specs.Sum.{TileOf}
+use Rattle.merge_tiles.specs.Sum.{atSite, pairAt, TileOf}
 use Rattle.merge_tiles.specs.DifferenceLaws.{tile-fits, reference-most}
 use Rattle.merge_tiles.specs.NoiseLaws.{both}
 use Rattle.merge_tiles.specs.TileLaws.{root-of, number, tile-of, taken-off}
@@ -15,7 +15,7 @@ sided = refl
 
 -- T0
 tile-is : (c : of.Tie.After-pair) → let a = c .before .before .before .before .args in
-    c .pair .last .1 .1 .1 .1 .1 .1 .0 ≡ grid 16 32 (sideBySide (λ p. referenceTile (sceneAt side16 (a .m) (now (a .samples)) (now (a .vectors))) (a .site .parity) p (a .site .row) (a .site .column)))
+    c .pair .last .1 .1 .1 .1 .1 .1 .0 ≡ pairAt 16 (referenceTile (sceneAt side16 (a .m) (now (a .samples)) (now (a .vectors)))) (a .site)
 unfolding referenceTile sceneAt
 tile-is c = c .pair .ensures
 
@@ -32,13 +32,13 @@ rootsOf c = either (c .before .before .pair-roots .result .first) (c .before .be
 
 -- r of either plane
 roots-known : (c : of.Tie.After-tile-noise2) → let a = c .before .before .before .before .before .before .before .before .before .before .args in
-    (p : ℕ) → p < 2 → rootsOf c p ≡ referenceRoot (sceneAt side16 (a .m) (now (a .samples)) (now (a .vectors))) (a .site .parity) p (a .site .row) (a .site .column)
+    (p : ℕ) → p < 2 → rootsOf c p ≡ atSite (referenceRoot (sceneAt side16 (a .m) (now (a .samples)) (now (a .vectors)))) (a .site) p
 roots-known c =
     let r = c .before .before in
     let b = r .before .before in
     let t = b .before .before in
     let a = t .before .before .before .before .args in
-    both (λ p. rootsOf c p ≡ referenceRoot (sceneAt side16 (a .m) (now (a .samples)) (now (a .vectors))) (a .site .parity) p (a .site .row) (a .site .column))
+    both (λ p. rootsOf c p ≡ atSite (referenceRoot (sceneAt side16 (a .m) (now (a .samples)) (now (a .vectors)))) (a .site) p)
     (root-of 16 side16 sided (a .m) (now (a .samples)) (now (a .vectors)) (a .site) (tile-is t) 0 (lit< tt) (λ j. 2 * j) (λ j. omega arith) (b .before .plane-black .ensures) (r .pair-roots .ensures .first))
     (root-of 16 side16 sided (a .m) (now (a .samples)) (now (a .vectors)) (a .site) (tile-is t) 1 (lit< tt) (λ j. 2 * j + 1) (λ j. omega arith) (b .plane-black2 .ensures) (r .pair-roots .ensures .second))
 

@@ -4,6 +4,7 @@ use Rattle.algebra.specs.Bound.{AtMost, most-fits}
 use Rattle.merge_tiles.specs.Prelude.{VectorsFit, sampleAt, grid, sideBySide, side16, Merge, tileAt, otherTile, sceneAt}
 use Rattle.geometry.specs.Vectors.{otherFrame, vectorPlace, downAt, rightAt}
 use Rattle.merge_tiles.specs.DifferenceLaws.{pair-rows, difference-grid, tile-fits, reference-most, other-most}
+use Rattle.merge_tiles.specs.Sum.{atSite}
 use Rattle.merge_tiles.proofs.reading.differences as of
 
 module _ {vectors : List ℤ} (v : VectorsFit vectors) (k : ℕ) where
@@ -41,7 +42,7 @@ pair-requires c κs =
 
 -- Tz
 other-is : (c : of.Tie.After-pair) → let a = c .before .before .before .before .before .before .before .before .args in
-    c .pair .last .1 .1 .1 .1 .1 .1 .0 ≡ grid 16 32 (sideBySide (λ p. otherTile (sceneAt side16 (a .m) (now (a .samples)) (now (a .vectors))) (a .site .parity) p (a .site .row) (a .site .column) (a .k)))
+    c .pair .last .1 .1 .1 .1 .1 .1 .0 ≡ grid 16 32 (sideBySide (λ p. atSite (otherTile (sceneAt side16 (a .m) (now (a .samples)) (now (a .vectors)))) (a .site) p (a .k)))
 other-is c =
     let place = c .before .before .before .before .before in
     let s = place .before .before .before in

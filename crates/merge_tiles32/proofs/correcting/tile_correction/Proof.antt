@@ -1,6 +1,6 @@
 -- T0 has its roots and its noise numbers, and what is taken from it is its sums.
-use Rattle.merge_tiles32.specs.Prelude.{_≡_, refl, ℕ, _+_, _*_, _<_, arith, needs, lit≤, lit<, now, grid, cell, side32, longNoiseMost, referenceTile, referenceRoot, sceneAt, TileOf}
-use Rattle.tile_spectrum.specs.Pairs.{sideBySide, either}
+use Rattle.merge_tiles32.specs.Prelude.{_≡_, refl, ℕ, _+_, _*_, _<_, arith, needs, lit≤, lit<, now, cell, side32, longNoiseMost, referenceTile, referenceRoot, sceneAt, TileOf, atSite, pairAt}
+use Rattle.tile_spectrum.specs.Pairs.{either}
 use Rattle.merge_tiles32.specs.Sizes.{longSmallMost}
 use Rattle.merge_tiles.specs.DifferenceLaws.{tile-fits, reference-most}
 use Rattle.merge_tiles.specs.NoiseLaws.{both}
@@ -13,7 +13,7 @@ sided = refl
 
 -- T0
 tile-is : (c : of.Tie.After-pair) → let a = c .before .before .before .before .args in
-    c .pair .last .1 .1 .1 .1 .1 .1 .0 ≡ grid 32 64 (sideBySide (λ p. referenceTile (sceneAt side32 (a .m) (now (a .samples)) (now (a .vectors))) (a .site .parity) p (a .site .row) (a .site .column)))
+    c .pair .last .1 .1 .1 .1 .1 .1 .0 ≡ pairAt 32 (referenceTile (sceneAt side32 (a .m) (now (a .samples)) (now (a .vectors)))) (a .site)
 unfolding referenceTile sceneAt
 tile-is c = c .pair .ensures
 
@@ -30,13 +30,13 @@ rootsOf c = either (c .before .before .pair-roots .result .first) (c .before .be
 
 -- r of either plane
 roots-known : (c : of.Tie.After-tile-noise2) → let a = c .before .before .before .before .before .before .before .before .before .before .args in
-    (p : ℕ) → p < 2 → rootsOf c p ≡ referenceRoot (sceneAt side32 (a .m) (now (a .samples)) (now (a .vectors))) (a .site .parity) p (a .site .row) (a .site .column)
+    (p : ℕ) → p < 2 → rootsOf c p ≡ atSite (referenceRoot (sceneAt side32 (a .m) (now (a .samples)) (now (a .vectors)))) (a .site) p
 roots-known c =
     let r = c .before .before in
     let b = r .before .before in
     let t = b .before .before in
     let a = t .before .before .before .before .args in
-    both (λ p. rootsOf c p ≡ referenceRoot (sceneAt side32 (a .m) (now (a .samples)) (now (a .vectors))) (a .site .parity) p (a .site .row) (a .site .column))
+    both (λ p. rootsOf c p ≡ atSite (referenceRoot (sceneAt side32 (a .m) (now (a .samples)) (now (a .vectors)))) (a .site) p)
     (root-of 32 side32 sided (a .m) (now (a .samples)) (now (a .vectors)) (a .site) (tile-is t) 0 (lit< tt) (λ j. 2 * j) (λ j. omega arith) (b .before .plane-black .ensures) (r .pair-roots .ensures .first))
     (root-of 32 side32 sided (a .m) (now (a .samples)) (now (a .vectors)) (a .site) (tile-is t) 1 (lit< tt) (λ j. 2 * j + 1) (λ j. omega arith) (b .plane-black2 .ensures) (r .pair-roots .ensures .second))
 

@@ -1,7 +1,7 @@
 -- The pair of the frame that the index names, moved by the vector that stands at its place.
 use Rattle.algebra.specs.Prelude.{_≡_, sym, subst, _∙_, List, ℕ, _+_, _/_, _<_, arith, needs, getD, ℤ, pos, w32, toZ, ofZ, toZ-ofZ, now}
 use Rattle.algebra.specs.Bound.{AtMost, most-fits}
-use Rattle.merge_tiles32.specs.Prelude.{VectorsFit, sampleAt, grid, side32, tileAt, otherTile, sceneAt}
+use Rattle.merge_tiles32.specs.Prelude.{VectorsFit, sampleAt, grid, side32, tileAt, otherTile, sceneAt, atSite}
 use Rattle.geometry.specs.Vectors.{otherFrame, vectorPlace, downAt, rightAt}
 use Rattle.tile_spectrum.specs.Pairs.{sideBySide}
 use Rattle.recipe.specs.declared.Merge.{Merge}
@@ -43,7 +43,7 @@ pair-requires c κs =
 
 -- Tz
 other-is : (c : of.Tie.After-pair) → let a = c .before .before .before .before .before .before .before .before .args in
-    c .pair .last .1 .1 .1 .1 .1 .1 .0 ≡ grid 32 64 (sideBySide (λ p. otherTile (sceneAt side32 (a .m) (now (a .samples)) (now (a .vectors))) (a .site .parity) p (a .site .row) (a .site .column) (a .k)))
+    c .pair .last .1 .1 .1 .1 .1 .1 .0 ≡ grid 32 64 (sideBySide (λ p. atSite (otherTile (sceneAt side32 (a .m) (now (a .samples)) (now (a .vectors)))) (a .site) p (a .k)))
 other-is c =
     let place = c .before .before .before .before .before in
     let s = place .before .before .before in
