@@ -1,3 +1,5 @@
+pub mod Program
+pub mod Kernels
 pub mod Whole
 pub mod Double
 pub mod Back
