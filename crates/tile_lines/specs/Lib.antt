@@ -1,4 +1,3 @@
-pub mod Program
 pub mod Kernels
 pub mod Whole
 pub mod Double

@@ -5,13 +5,13 @@ use Rattle.algebra.specs.Sums.{sumZ}
 use Rattle.algebra.specs.Forms.{sumE}
 use Rattle.recipe.specs.Side.{cosAt}
 use Rattle.tile_spectrum.specs.Lines.DoubleForms.{forms-are}
-use Rattle.tile_lines.specs.Program.{formsOf}
+use Rattle.tile_spectrum.specs.Lines.Program.{doubleForms}
 use Rattle.tile_lines.specs.Kernels.{odd}
 use Rattle.tile_lines.proofs.double.odd as of
 
 returns : of.Tie.Need-returns
 unfolding tab sumZ foldedOf basisOf frequencyOf phaseOf cosAt side16 cosine16 cosines ofBits ofInt
-returns c t most e = forms-are 8 t most e (formsOf 8 (odd .results)) (tab 8 (λ i. sumE 8 (λ n. var n ⊠ con (basis (2 * i + 1) n)))) tt tt
+returns c t most e = forms-are 8 t most e (doubleForms 8 odd) (tab 8 (λ i. sumE 8 (λ n. var n ⊠ con (basis (2 * i + 1) n)))) tt tt
 
 pub odd-spec : {M : Type 1} → of.Statement.statement M
 odd-spec = of.Tie.close (of.Tie.spec returns)

@@ -1,18 +1,14 @@
 -- Straight-line code on the numbers of a line, written once: values with names, one after the other, and the results. Computed from it are its steps, in the order
 -- in which the code takes them and each at its width, what the results are in whole numbers, and their forms in double.
-use Rattle.algebra.specs.Prelude.{_≡_, Bool, true, List, [], _∷_, ℕ, zero, suc, _^_, _≤_, T, ltb, ℤ, pos, w16, w32, SFits}
-use Prim.Native.Nat.{zero-le}
-use mir.Syntax.{Width}
-use mir.Val.{hbits}
+use Rattle.tile_spectrum.specs.Lines.Prelude.{_≡_, Bool, true, List, [], _∷_, ℕ, suc, _^_, T, ltb, ℤ, pos, Width, w16, w32, SFits, hbits, Expr, nth}
 use Rattle.algebra.specs.Test.{both, both-l, both-r}
-use Rattle.algebra.specs.Ring.{Expr, nth}
 use Rattle.algebra.specs.Fit.{sfits-abs}
 use Rattle.algebra.specs.Code.{Code, par, lit, add, sub, mul, to, Bounded, bnd, ok, raw, nthN, fits}
 use Rattle.algebra.specs.Forms.{vals, evals, forms, same, allPlain, vals-are}
 use Rattle.floats.specs.Kernels.{Form, var, plus, times}
 use Rattle.floats.specs.Kernels as kernels
 use Rattle.tile_spectrum.specs.Lines.Lines.{LineMost}
 use Rattle.tile_spectrum.specs.Lines.Held.{nth-is}
 
 -- ---- programs
 
@@ -118,16 +114,22 @@ module _ {S : Type 0} {b : ℕ} (x : S → List ℤ) (m : (s : S) → LineMost b
   allFit s [] = true
   allFit s (t ∷ ts) = both (fit s t) (allFit s ts)
 
-  -- each step fits, by one computed test
-  pub steps-fit {ℓ} : (ts : List Term) {R : Type ℓ} → ((s : S) → T (allFit s ts)) → Given Fit ts R → R
-  steps-fit [] t g = g
-  steps-fit (c ∷ cs) t g =
-      steps-fit cs (λ s. both-r (fit s c) (allFit s cs) (t s))
+  terms-fit {ℓ} : (ts : List Term) {R : Type ℓ} → ((s : S) → T (allFit s ts)) → Given Fit ts R → R
+  terms-fit [] t g = g
+  terms-fit (c ∷ cs) t g =
+      terms-fit cs (λ s. both-r (fit s c) (allFit s cs) (t s))
       (g (λ s. fits (x s) (bounds b (x s)) (line-bounded (x s) (m s)) (width c) (codeAt s c) (both-l (fit s c) (allFit s cs) (t s))))
 
+  -- each step fits, by one computed test
+  pub steps-fit {ℓ} : (p : Program) {R : Type ℓ} → ((s : S) → T (allFit s (steps p))) → Given Fit (steps p) R → R
+  steps-fit p = terms-fit (steps p)
+
   -- and the results are ring expressions, by two
-  pub results-are : (s : S) (p : Program) (es : List Expr) → T (allPlain (codes (number-fits s) (p .results)) (nthN (bounds b (x s)))) → T (same (forms (codes (number-fits s) (p .results))) es) → vals (codes (number-fits s) (p .results)) ≡ evals es (nth (x s))
-  results-are s p = vals-are (x s) (bounds b (x s)) (line-bounded (x s) (m s)) (codes (number-fits s) (p .results))
+  abbrev pub resultsAt : (s : S) → Program → List (Code (nth (x s)))
+  resultsAt s p = codes (number-fits s) (p .results)
+
+  pub results-are : (s : S) (p : Program) (es : List Expr) → T (allPlain (resultsAt s p) (nthN (bounds b (x s)))) → T (same (forms (resultsAt s p)) es) → vals (resultsAt s p) ≡ evals es (nth (x s))
+  results-are s p = vals-are (x s) (bounds b (x s)) (line-bounded (x s) (m s)) (resultsAt s p)
 
 -- ---- in double, where number n is 0
 
@@ -140,6 +142,9 @@ form n (minus a) = kernels.minus (var n) (form n a)
 form n (k ⊗ a) = times k (form n a)
 form n (wide a) = form n a
 
-abbrev pub formsOf : ℕ → List Term → List Form
+abbrev formsOf : ℕ → List Term → List Form
 formsOf n [] = []
 formsOf n (t ∷ ts) = form n t ∷ formsOf n ts
+
+abbrev pub doubleForms : ℕ → Program → List Form
+doubleForms n p = formsOf n (p .results)
