@@ -15,10 +15,10 @@ use Rattle.tile_spectrum.specs.Lines.Held.{nth-is}
 infixl 70 _⊕_ _⊖_
 infixl 80 _⊗_
 pub data Term : Type 0 where
-  -- number i of the line, in 16 bits, and a value that has a name
+  -- number i of the line, and a value that has a name
   arg : ℕ → Term
   named : Term → Term
-  -- sum, difference, 0 − a and a multiple, each at the width of its last part; and `a as i32`
+  -- sum, difference, 0 − a and a multiple; and `a as i32`, which double does without
   _⊕_ : Term → Term → Term
   _⊖_ : Term → Term → Term
   minus : Term → Term
@@ -55,12 +55,13 @@ abbrev owns : List Term → List Term → List Term
 owns [] rest = rest
 owns (t ∷ ts) rest = own t (owns ts rest)
 
-abbrev pub steps : Program → List Term
+abbrev steps : Program → List Term
 steps p = owns (p .values) (owns (p .results) [])
 
 -- ---- in whole numbers
 
-abbrev pub width : Term → Width
+-- the line's numbers are of 16 bits, and an operation has the width of its last part
+abbrev width : Term → Width
 width (arg i) = w16
 width (named a) = width a
 width (a ⊕ b) = width b
@@ -69,7 +70,7 @@ width (minus a) = width a
 width (n ⊗ a) = width a
 width (wide a) = w32
 
-abbrev pub code : {ρ : ℕ → ℤ} → ((i : ℕ) → SFits w16 (ρ i)) → Term → Code ρ
+abbrev code : {ρ : ℕ → ℤ} → ((i : ℕ) → SFits w16 (ρ i)) → Term → Code ρ
 code f (arg i) = par w16 i (f i)
 code f (named a) = code f a
 code f (a ⊕ b) = add (width b) (code f a) (code f b)
@@ -78,12 +79,12 @@ code f (minus a) = sub (width a) (lit (pos 0)) (code f a)
 code f (n ⊗ a) = mul (width a) (lit (pos n)) (code f a)
 code f (wide a) = to w32 (code f a)
 
-abbrev pub codes : {ρ : ℕ → ℤ} → ((i : ℕ) → SFits w16 (ρ i)) → List Term → List (Code ρ)
+abbrev codes : {ρ : ℕ → ℤ} → ((i : ℕ) → SFits w16 (ρ i)) → List Term → List (Code ρ)
 codes f [] = []
 codes f (t ∷ ts) = code f t ∷ codes f ts
 
 -- b for each number
-abbrev pub bounds : ℕ → List ℤ → List ℕ
+abbrev bounds : ℕ → List ℤ → List ℕ
 bounds b [] = []
 bounds b (z ∷ x) = b ∷ bounds b x
 
@@ -91,8 +92,8 @@ line-bounded : {b : ℕ} (x : List ℤ) → LineMost b x → Bounded x (bounds b
 line-bounded [] m = tt
 line-bounded (z ∷ x) m = (m .at 0, line-bounded x (record { at = λ i. m .at (suc i) }))
 
--- each step of a list, as what a function is to be given before it gives R
-abbrev pub Given {ℓ} : (Term → Type 0) → List Term → Type ℓ → Type ℓ
+-- R, once it is given P of each term in turn
+abbrev Given {ℓ} : (Term → Type 0) → List Term → Type ℓ → Type ℓ
 Given P [] R = R
 Given P (t ∷ ts) R = P t → Given P ts R
 
@@ -101,16 +102,16 @@ module _ {S : Type 0} {b : ℕ} (x : S → List ℤ) (m : (s : S) → LineMost b
   pub number-fits : (s : S) (i : ℕ) → SFits w16 (nth (x s) i)
   number-fits s i = sfits-abs (nth (x s) i) b (rw (nth-is (x s) i) (m s .at i)) l
 
-  abbrev pub codeAt : (s : S) → Term → Code (nth (x s))
+  abbrev codeAt : (s : S) → Term → Code (nth (x s))
   codeAt s = code (number-fits s)
 
-  abbrev pub Fit : Term → Type 0
+  abbrev Fit : Term → Type 0
   Fit t = (s : S) → SFits (width t) (raw (codeAt s t))
 
   abbrev fit : (s : S) → Term → Bool
   fit s t = both (ok (codeAt s t) (nthN (bounds b (x s)))) (ltb (bnd (codeAt s t) (nthN (bounds b (x s)))) (2 ^ hbits (width t)))
 
-  abbrev pub allFit : (s : S) → List Term → Bool
+  abbrev allFit : (s : S) → List Term → Bool
   allFit s [] = true
   allFit s (t ∷ ts) = both (fit s t) (allFit s ts)
 
@@ -125,13 +126,13 @@ module _ {S : Type 0} {b : ℕ} (x : S → List ℤ) (m : (s : S) → LineMost b
   steps-fit p = terms-fit (steps p)
 
   -- and the results are ring expressions, by two
-  abbrev pub resultsAt : (s : S) → Program → List (Code (nth (x s)))
+  abbrev resultsAt : (s : S) → Program → List (Code (nth (x s)))
   resultsAt s p = codes (number-fits s) (p .results)
 
   pub results-are : (s : S) (p : Program) (es : List Expr) → T (allPlain (resultsAt s p) (nthN (bounds b (x s)))) → T (same (forms (resultsAt s p)) es) → vals (resultsAt s p) ≡ evals es (nth (x s))
   results-are s p = vals-are (x s) (bounds b (x s)) (line-bounded (x s) (m s)) (resultsAt s p)
 
--- ---- in double, where number n is 0
+-- ---- in double, for n numbers: what stands past them is 0
 
 abbrev form : ℕ → Term → Form
 form n (arg i) = var i
