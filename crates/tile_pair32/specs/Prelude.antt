@@ -12,7 +12,7 @@ unfoldable pub use Rattle.recipe.specs.Tables32.{side32}
 pub use Rattle.tile_spectrum.specs.Lines.Doubles.{HalvesOf, WholeDouble, WholeLine, doubleLine}
 pub use Rattle.tile_spectrum.specs.Lines.Halfcomplex.{backwardOf, halfSumOf, halfcomplexOf}
 pub use Rattle.tile_spectrum.specs.Lines.Lines.{LineMost, TileMost}
-pub use Rattle.tile_spectrum.specs.Lines.Magnitudes.{differenceMost, longColumnMost, longFoldMost, longHalfMost, longLineMost, longPartMost}
+pub use Rattle.tile_spectrum.specs.Lines.Magnitudes.{differenceMost, longColumnMost, longFoldMost, longHalfBasisSum, longHalfMost, longLineMost, longPartMost}
 pub use Rattle.tile_spectrum.specs.LongPairs.{LongBinned, LongBinnedPair, LongInDouble, LongInverseAdded, LongPaired}
 unfoldable pub use Rattle.tile_spectrum.specs.LongPairs.{longDoubles}
 pub use Rattle.tile_spectrum.specs.Pairs.{added, byColumns, correctionIn, either, pairGains, planeBins, planeIn, sideBySide}

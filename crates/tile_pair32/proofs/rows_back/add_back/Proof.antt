@@ -6,11 +6,11 @@ use Rattle.tile_pair32.proofs.Rounding.{whole-row, added-to}
 use Rattle.tile_pair32.proofs.rows_back.add_back as of
 
 abbrev Inv-loop : of.Tie.InvT-loop
-Inv-loop h low sum₀ y₀ sum y =
-    RowsSet {H = LongInDouble (longColumnMost low) h} (λ w y. tab 64 (λ l. cell (pos 0) sum₀ y l +ℤ away (halfSumOf side32 (planeIn (w .number) (l % 2) y) (l / 2)) (2 ^ 31))) y sum₀ sum
+Inv-loop h low middle sum₀ y₀ sum y =
+    RowsSet {H = LongInDouble (longColumnMost low middle) h} (λ w y. tab 64 (λ l. cell (pos 0) sum₀ y l +ℤ away (halfSumOf side32 (planeIn (w .number) (l % 2) y) (l / 2)) (2 ^ 31))) y sum₀ sum
 
 abbrev μ-loop : of.Tie.MeasureT-loop
-μ-loop h low sum₀ y₀ sum y = 16 - y
+μ-loop h low middle sum₀ y₀ sum y = 16 - y
 
 add-line-requires : of.Tie.Need-add-line-requires Inv-loop μ-loop
 add-line-requires c κs =
