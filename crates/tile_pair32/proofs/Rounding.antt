@@ -87,8 +87,18 @@ module _ {x : Float} (w : WholeDouble (longHalfMost false true) x) where
   pub second-most : AtMost (2 ^ 51) (toZ w64 (secondBits x) -ℤ pos middleBits)
   second-most = record { most = subst (λ z. natAbs z ≤ 2 ^ 51) (sym second-held) (counts-most (both .second-counts)) }
 
-  pub twice-held : (toZ w64 (firstBits x) -ℤ pos middleBits) +ℤ (toZ w64 (secondBits x) -ℤ pos middleBits) ≡ twiceDouble x
-  twice-held = ap₂ _+ℤ_ first-held second-held ∙ both .is ∙ sym twice-is
+  abbrev first-held-at : ℤ
+  first-held-at = toZ w64 (firstBits x) -ℤ pos middleBits
+
+  abbrev second-held-at : ℤ
+  second-held-at = toZ w64 (secondBits x) -ℤ pos middleBits
+
+  pub twice-fits : SFits w64 (toZ w64 (ofZ w64 first-held-at) +ℤ toZ w64 (ofZ w64 second-held-at))
+  twice-fits = add-fits w64 _ _ _ _ (number-most w64 first-most tt) (number-most w64 second-most tt) tt
+
+  pub twice-held : toZ w64 (ofZ w64 (toZ w64 (ofZ w64 first-held-at) +ℤ toZ w64 (ofZ w64 second-held-at))) ≡ twiceDouble x
+  twice-held =
+      toZ-ofZ twice-fits ∙ ap₂ _+ℤ_ (number-is w64 first-most tt ∙ first-held) (number-is w64 second-most tt ∙ second-held) ∙ both .is ∙ sym twice-is
 
 pub by-lanes : (f : ℕ → ℤ) → doubleLine 64 f ≡ doubleLine 64 (λ l. f (2 * (l / 2) + l % 2))
 by-lanes f = tab-ext 64 _ _ (λ l h. ap (λ n. ofInt binary64 (f n)) (lane l))
