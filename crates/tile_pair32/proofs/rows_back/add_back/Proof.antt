@@ -28,7 +28,7 @@ add-line-requires-2 c κs =
     let a = c .before .before in
     let l = a .before .before .before .before in
     let y = l .loop .y in
-    let e = rows-second (l .loop .inv) (omega arith) (a .add-line .last .1 .1 .0) in
+    let e = rows-second (l .loop .inv) (omega arith) (a .add-line .last .1 .1 .1 .0) in
     record {
       whole = whole-row (l .before .pre .whole) (16 + y) (omega arith);
       sums-most = subst (LineMost (2 ^ 40)) (sym e) (l .before .pre .sums-most .line (16 + y));
@@ -43,7 +43,7 @@ loop-again c =
     let y = l .loop .y in
     rows-turn (l .loop .inv) (omega arith)
     (λ w. a .add-line .ensures (whole-row w y (omega arith)) ∙ added-to _ (rows-first (l .loop .inv) (omega arith)))
-    (λ w. c .add-line2 .ensures (whole-row w (16 + y) (omega arith)) ∙ added-to _ (rows-second (l .loop .inv) (omega arith) (a .add-line .last .1 .1 .0)))
+    (λ w. c .add-line2 .ensures (whole-row w (16 + y) (omega arith)) ∙ added-to _ (rows-second (l .loop .inv) (omega arith) (a .add-line .last .1 .1 .1 .0)))
 
 returns : of.Tie.Need-returns Inv-loop μ-loop
 unfolding grid
