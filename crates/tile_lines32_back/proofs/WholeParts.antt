@@ -1,11 +1,11 @@
 -- The sums of two rows of thirty-two places whatever the noise: four parts of a row's sum are whole numbers of at most 2^53 in double, and in 64 bits they make
 -- half of the sum back.
 use mathlib.Core.Path.{fun-ext}
-use Rattle.tile_lines32_back.specs.Prelude.{_≡_, sym, ap, ap₂, subst, _∙_, false, List, ℕ, _+_, _*_, _/_, _%_, _^_, _≤_, _<_, arith, lit≤, getD, ℤ, pos, natAbs, _+ℤ_, _-ℤ_, Float, nan, sumN, tab, cosAt, cosines32, cosine32, side32, frequencyOf, phaseOf, basisOf, halfSumOf, oddSumOf, columnMost, longColumnMost, doubleLine, WholeDouble, WholeRow}
+use Rattle.tile_lines32_back.specs.Prelude.{_≡_, sym, ap, ap₂, subst, _∙_, false, List, ℕ, _+_, _*_, _/_, _%_, _^_, _≤_, _<_, arith, lit≤, getD, ℤ, pos, natAbs, _+ℤ_, _-ℤ_, Float, nan, tab, side32, basisOf, halfSumOf, oddSumOf, columnMost, longColumnMost, doubleLine, WholeDouble, WholeRow}
 use native.Mathlib.Nat.{le-trans}
 use Rattle.sequences.specs.TabLaws.{getD-tab}
 use Rattle.recipe.specs.Tables.{side16}
-use Rattle.tile_spectrum.specs.Lines.BackSizes.{half-sum-most, basis-period, summed, weighed}
+use Rattle.tile_spectrum.specs.Lines.BackSizes.{half-sum-most, weighed}
 use Rattle.tile_spectrum.specs.Lines.Lines.{LineMost}
 use Rattle.tile_spectrum.specs.Lines.Tiles.{line-most}
 use Rattle.tile_lines32_back.specs.Parts.{cosinePart, sinePart, InParts}

@@ -90,8 +90,8 @@ fn odd_sines(z: &[f64; 16]) -> [f64; 4]
     ]
 }
 
-// The odd places' sum at the numbers 0 to 15 from what these four give, where noise is low or middle: from number n to number 16 − n what the real parts add changes its
-// sign, and what the imaginary parts add stays.
+// The odd places' sum at the numbers 0 to 15 from what these four give, where noise is low or middle: from number n to number 16 − n what the real parts add
+// changes its sign, and what the imaginary parts add stays.
 fn joined(a: [f64; 4], b: [f64; 4], c: [f64; 4], d: [f64; 4]) -> [f64; 16]
     ensures { λ r. ⌜ ((w : InParts (longColumnMost false true) a b c d) → r ≡ doubleLine 16 (oddSumOf side32 (w .number))) ⌝ }
 {
