@@ -1,3 +1,4 @@
+pub mod Kernels
 pub mod Whole
 pub mod Double
 pub mod Back

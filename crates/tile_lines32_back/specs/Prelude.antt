@@ -6,7 +6,7 @@ pub use Rattle.algebra.specs.Forms.{rings, same, sumE}
 pub use Rattle.algebra.specs.Ring.{Expr, con, _⊞_, _⊟_, _⊠_}
 unfoldable pub use Rattle.algebra.specs.Sums.{sumN, sumZ}
 unfoldable pub use Rattle.sequences.specs.Tab.{tab}
-pub use Rattle.floats.specs.Kernels.{Form, minus, plus, times, var}
+pub use Rattle.floats.specs.Kernels.{Form, minus, plus, var}
 unfoldable pub use Rattle.recipe.specs.Side.{cosAt}
 unfoldable pub use Rattle.recipe.specs.Tables32.{cosine32, cosines32, side32}
 pub use Rattle.tile_spectrum.specs.Lines.DoubleForms.{picked}

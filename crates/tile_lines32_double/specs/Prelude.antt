@@ -4,7 +4,7 @@ pub use lib.Ieee.{Float, add, binary64, nan, sub}
 unfoldable pub use lib.Ieee.{ofBits, ofInt}
 unfoldable pub use Rattle.algebra.specs.Sums.{sumZ}
 unfoldable pub use Rattle.sequences.specs.Tab.{tab}
-pub use Rattle.floats.specs.Kernels.{Form, minus, plus, times, var}
+pub use Rattle.floats.specs.Kernels.{Form, minus, plus, var}
 unfoldable pub use Rattle.recipe.specs.Side.{cosAt}
 unfoldable pub use Rattle.recipe.specs.Tables.{side16}
 unfoldable pub use Rattle.recipe.specs.Tables32.{cosine32, cosines32, side32}

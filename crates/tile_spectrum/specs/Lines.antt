@@ -14,5 +14,5 @@ pub mod DoubleCasts
 pub mod DoubleForms
 pub mod PairLines
 pub mod Picked
-pub mod Steps
+pub mod Program
 pub mod WholeFolds

@@ -1,22 +1,23 @@
 -- `tile_lines32_back::even_cosines`: the real parts at even numbers, by computed tests.
-use Rattle.tile_lines32_back.specs.Prelude.{refl, ap, _∙_, List, [], _∷_, _*_, needs, T, getD, Float, nan, ofBits, ofInt, Expr, sumZ, same, tab, Form, var, plus, minus, times, cosAt, cosines32, cosine32, side32, halfZ, frequencyOf, phaseOf, basisOf}
+use Rattle.tile_lines32_back.specs.Prelude.{refl, ap, _∙_, List, [], _∷_, _*_, needs, T, getD, Float, nan, ofBits, ofInt, Expr, sumZ, same, tab, Form, cosAt, cosines32, cosine32, side32, halfZ, frequencyOf, phaseOf, basisOf}
 use Rattle.tile_spectrum.specs.Lines.DoubleForms.{floats, exprs, forms-are}
+use Rattle.tile_spectrum.specs.Lines.Program.{arg, _⊕_, _⊖_, _⊗_, _>>=_, give, doubleForms}
 use Rattle.tile_lines32_back.specs.Parts.{partBasis, cosinePart}
 use Rattle.tile_lines32_back.proofs.PartSums.{cosinesE}
 use Rattle.tile_lines32_back.proofs.even_cosines as of
 
--- var k is place 2k + 1
+-- number k is place 2k + 1
 abbrev results : List Form
-results =
-    let a1 = plus (var 0) (var 7) in
-    let a3 = plus (var 1) (var 6) in
-    let a5 = plus (var 2) (var 5) in
-    let a7 = plus (var 3) (var 4) in
-    let p = minus a1 a7 in
-    let q = minus a3 a5 in
-    let r = plus a1 a7 in
-    let s = plus a3 a5 in
-    times 8192 (plus r s) ∷ plus (times 15137 p) (times 6270 q) ∷ times 11585 (minus r s) ∷ minus (times 6270 p) (times 15137 q) ∷ []
+results = doubleForms 16 do
+  a1 ← arg 0 ⊕ arg 7
+  a3 ← arg 1 ⊕ arg 6
+  a5 ← arg 2 ⊕ arg 5
+  a7 ← arg 3 ⊕ arg 4
+  p ← a1 ⊖ a7
+  q ← a3 ⊖ a5
+  r ← a1 ⊕ a7
+  s ← a3 ⊕ a5
+  give (8192 ⊗ (r ⊕ s) ∷ 15137 ⊗ p ⊕ 6270 ⊗ q ∷ 11585 ⊗ (r ⊖ s) ∷ 6270 ⊗ p ⊖ 15137 ⊗ q ∷ [])
 
 -- as the code reads them
 abbrev read : List Float → List Float

@@ -1,22 +1,23 @@
 -- `tile_lines32_back::even_sines`: the imaginary parts at even numbers, by computed tests.
-use Rattle.tile_lines32_back.specs.Prelude.{refl, ap, _∙_, List, [], _∷_, _+_, _*_, needs, T, getD, Float, nan, ofBits, ofInt, Expr, sumZ, same, tab, Form, var, plus, minus, times, cosAt, cosines32, cosine32, side32, halfZ, frequencyOf, phaseOf, basisOf}
+use Rattle.tile_lines32_back.specs.Prelude.{refl, ap, _∙_, List, [], _∷_, _+_, _*_, needs, T, getD, Float, nan, ofBits, ofInt, Expr, sumZ, same, tab, Form, cosAt, cosines32, cosine32, side32, halfZ, frequencyOf, phaseOf, basisOf}
 use Rattle.tile_spectrum.specs.Lines.DoubleForms.{floats, exprs, forms-are}
+use Rattle.tile_spectrum.specs.Lines.Program.{arg, _⊕_, _⊖_, _⊗_, _>>=_, give, doubleForms}
 use Rattle.tile_lines32_back.specs.Parts.{partBasis, sinePart}
 use Rattle.tile_lines32_back.proofs.PartSums.{sinesE}
 use Rattle.tile_lines32_back.proofs.even_sines as of
 
--- var k is place 2k + 1
+-- number k is place 2k + 1
 abbrev results : List Form
-results =
-    let u1 = minus (var 15) (var 8) in
-    let u3 = minus (var 14) (var 9) in
-    let u5 = minus (var 13) (var 10) in
-    let u7 = minus (var 12) (var 11) in
-    let u = plus u1 u7 in
-    let w = plus u3 u5 in
-    let x = minus u1 u7 in
-    let y = minus u5 u3 in
-    plus (times 15137 w) (times 6270 u) ∷ times 11585 (minus x y) ∷ minus (times 15137 u) (times 6270 w) ∷ times 8192 (plus x y) ∷ []
+results = doubleForms 16 do
+  u1 ← arg 15 ⊖ arg 8
+  u3 ← arg 14 ⊖ arg 9
+  u5 ← arg 13 ⊖ arg 10
+  u7 ← arg 12 ⊖ arg 11
+  u ← u1 ⊕ u7
+  w ← u3 ⊕ u5
+  x ← u1 ⊖ u7
+  y ← u5 ⊖ u3
+  give (15137 ⊗ w ⊕ 6270 ⊗ u ∷ 11585 ⊗ (x ⊖ y) ∷ 15137 ⊗ u ⊖ 6270 ⊗ w ∷ 8192 ⊗ (x ⊕ y) ∷ [])
 
 -- as the code reads them
 abbrev read : List Float → List Float

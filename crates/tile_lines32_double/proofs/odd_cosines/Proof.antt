@@ -1,15 +1,16 @@
 -- `tile_lines32_double::odd_cosines`: the odd numbers' part of the real parts, by computed tests.
-use Rattle.tile_lines32_double.specs.Prelude.{List, [], _∷_, _+_, _*_, needs, ofBits, ofInt, sumZ, tab, Form, var, plus, minus, times, cosAt, cosines32, cosine32, side32, frequencyOf, phaseOf, basisOf, foldedOf, everySecond}
+use Rattle.tile_lines32_double.specs.Prelude.{List, [], _∷_, _+_, _*_, needs, ofBits, ofInt, sumZ, tab, Form, cosAt, cosines32, cosine32, side32, frequencyOf, phaseOf, basisOf, foldedOf, everySecond}
+use Rattle.tile_spectrum.specs.Lines.Program.{arg, _⊕_, _⊖_, _⊗_, _>>=_, give, doubleForms}
 use Rattle.tile_lines32_double.proofs.FourParts.{partE, line-are}
 use Rattle.tile_lines32_double.proofs.odd_cosines as of
 
 abbrev results : List Form
-results =
-    let b = minus (var 1) (var 15) in
-    let d = minus (var 3) (var 13) in
-    let e = minus (var 11) (var 5) in
-    let f = minus (var 9) (var 7) in
-    minus (plus (minus (times 16069 b) (times 9102 e)) (times 13623 d)) (times 3196 f) ∷ plus (plus (minus (times 13623 b) (times 3196 d)) (times 16069 e)) (times 9102 f) ∷ minus (minus (minus (times 9102 b) (times 16069 d)) (times 3196 e)) (times 13623 f) ∷ plus (minus (minus (times 3196 b) (times 9102 d)) (times 13623 e)) (times 16069 f) ∷ []
+results = doubleForms 16 do
+  b ← arg 1 ⊖ arg 15
+  d ← arg 3 ⊖ arg 13
+  e ← arg 11 ⊖ arg 5
+  f ← arg 9 ⊖ arg 7
+  give (16069 ⊗ b ⊖ 9102 ⊗ e ⊕ 13623 ⊗ d ⊖ 3196 ⊗ f ∷ 13623 ⊗ b ⊖ 3196 ⊗ d ⊕ 16069 ⊗ e ⊕ 9102 ⊗ f ∷ 9102 ⊗ b ⊖ 16069 ⊗ d ⊖ 3196 ⊗ e ⊖ 13623 ⊗ f ∷ 3196 ⊗ b ⊖ 9102 ⊗ d ⊖ 13623 ⊗ e ⊕ 16069 ⊗ f ∷ [])
 
 returns : of.Tie.Need-returns
 unfolding tab sumZ foldedOf everySecond basisOf frequencyOf phaseOf cosAt side32 cosine32 cosines32 ofBits ofInt

@@ -3,29 +3,30 @@ use Rattle.tile_lines.specs.Back.Prelude.{refl, ap, _∙_, List, [], _�
 use Rattle.algebra.specs.Ring.{con, _⊠_}
 use Rattle.algebra.specs.Ring as ring
 use Rattle.algebra.specs.Forms.{sumE}
-use Rattle.floats.specs.Kernels.{Form, var, plus, minus, times}
+use Rattle.floats.specs.Kernels.{Form}
 use Rattle.recipe.specs.Side.{cosAt}
 use Rattle.tile_spectrum.specs.Lines.DoubleForms.{floats, forms-are}
+use Rattle.tile_spectrum.specs.Lines.Program.{arg, _⊕_, _⊖_, _⊗_, _>>=_, give, doubleForms}
 use Rattle.tile_lines.proofs.back.even as of
 
--- var k is place 2k
+-- number k is place 2k
 abbrev results : (own : ℕ) → List Form
-results own =
-    let p = times own (plus (var 0) (var 4)) in
-    let m = times own (minus (var 0) (var 4)) in
-    let k = times 16384 (var 2) in
-    let j = times 16384 (var 6) in
-    let a = plus p k in
-    let b = minus m j in
-    let c = minus p k in
-    let d = plus m j in
-    let e = times 16384 (plus (var 1) (var 3)) in
-    let f = times 16384 (minus (var 7) (var 5)) in
-    let g = times 11585 (minus (var 1) (var 3)) in
-    let h = times 11585 (plus (var 5) (var 7)) in
-    let q = minus g h in
-    let u = plus g h in
-    plus a e ∷ plus b q ∷ plus c f ∷ minus d u ∷ minus a e ∷ minus b q ∷ minus c f ∷ plus d u ∷ []
+results own = doubleForms 8 do
+  p ← own ⊗ (arg 0 ⊕ arg 4)
+  m ← own ⊗ (arg 0 ⊖ arg 4)
+  k ← 16384 ⊗ arg 2
+  j ← 16384 ⊗ arg 6
+  a ← p ⊕ k
+  b ← m ⊖ j
+  c ← p ⊖ k
+  d ← m ⊕ j
+  e ← 16384 ⊗ (arg 1 ⊕ arg 3)
+  f ← 16384 ⊗ (arg 7 ⊖ arg 5)
+  g ← 11585 ⊗ (arg 1 ⊖ arg 3)
+  h ← 11585 ⊗ (arg 5 ⊕ arg 7)
+  q ← g ⊖ h
+  u ← g ⊕ h
+  give (a ⊕ e ∷ b ⊕ q ∷ c ⊕ f ∷ d ⊖ u ∷ a ⊖ e ∷ b ⊖ q ∷ c ⊖ f ∷ d ⊕ u ∷ [])
 
 -- as the code reads them
 abbrev read : (own : ℕ) → List Float → List Float

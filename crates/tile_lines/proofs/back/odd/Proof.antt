@@ -3,29 +3,30 @@ use Rattle.tile_lines.specs.Back.Prelude.{List, [], _∷_, _+_, _*_, ofB
 use Rattle.algebra.specs.Ring.{con, _⊠_}
 use Rattle.algebra.specs.Ring as ring
 use Rattle.algebra.specs.Forms.{sumE}
-use Rattle.floats.specs.Kernels.{Form, var, plus, minus, times}
+use Rattle.floats.specs.Kernels.{Form}
 use Rattle.recipe.specs.Side.{cosAt}
 use Rattle.tile_spectrum.specs.Lines.DoubleForms.{forms-are}
+use Rattle.tile_spectrum.specs.Lines.Program.{arg, _⊕_, _⊖_, minus, _⊗_, _>>=_, give, doubleForms}
 use Rattle.tile_lines.proofs.back.odd as of
 
--- var k is place 2k + 1, and var 8 is 0
+-- number k is place 2k + 1
 abbrev results : List Form
-results =
-    let p = minus (var 0) (var 3) in
-    let q = minus (var 1) (var 2) in
-    let r = plus (var 0) (var 3) in
-    let s = plus (var 1) (var 2) in
-    let u = plus (var 4) (var 7) in
-    let w = plus (var 5) (var 6) in
-    let x = minus (var 7) (var 4) in
-    let y = minus (var 5) (var 6) in
-    let a = plus (times 15137 p) (times 6270 q) in
-    let b = times 11585 (minus r s) in
-    let c = minus (times 6270 p) (times 15137 q) in
-    let d = plus (times 15137 w) (times 6270 u) in
-    let e = times 11585 (minus x y) in
-    let f = minus (times 6270 w) (times 15137 u) in
-    times 16384 (plus r s) ∷ minus a d ∷ plus b e ∷ plus c f ∷ times 16384 (plus x y) ∷ minus f c ∷ minus e b ∷ minus (minus (var 8) a) d ∷ []
+results = doubleForms 8 do
+  p ← arg 0 ⊖ arg 3
+  q ← arg 1 ⊖ arg 2
+  r ← arg 0 ⊕ arg 3
+  s ← arg 1 ⊕ arg 2
+  u ← arg 4 ⊕ arg 7
+  w ← arg 5 ⊕ arg 6
+  x ← arg 7 ⊖ arg 4
+  y ← arg 5 ⊖ arg 6
+  a ← 15137 ⊗ p ⊕ 6270 ⊗ q
+  b ← 11585 ⊗ (r ⊖ s)
+  c ← 6270 ⊗ p ⊖ 15137 ⊗ q
+  d ← 15137 ⊗ w ⊕ 6270 ⊗ u
+  e ← 11585 ⊗ (x ⊖ y)
+  f ← 6270 ⊗ w ⊖ 15137 ⊗ u
+  give (16384 ⊗ (r ⊕ s) ∷ a ⊖ d ∷ b ⊕ e ∷ c ⊕ f ∷ 16384 ⊗ (x ⊕ y) ∷ f ⊖ c ∷ e ⊖ b ∷ minus a ⊖ d ∷ [])
 
 returns : of.Tie.Need-returns
 unfolding tab sumZ oddSumOf basisOf frequencyOf phaseOf cosAt side16 cosine16 cosines ofBits ofInt
