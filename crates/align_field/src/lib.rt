@@ -68,8 +68,8 @@ fn hand_over(vectors: &mut [i32], at: usize, v: Vector)
     set_parts(&mut *vectors, at, down, right);
 }
 
-// Level 0 with tiles of a side, into the lent vectors from `to` on, the sum of its residuals, and the tile rows that were summed. A loop of its
-// own, since the lent vectors are an array of another type than the work area.
+// Level 0 with tiles of a side, into the lent vectors from `to` on, the sum of its residuals, and the tile rows that were summed.
+// A loop of its own: the lent vectors are an array of another type than the work area.
 pub fn finest_field(
     work: &[i64],
     area: Area,

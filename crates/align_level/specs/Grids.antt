@@ -1,5 +1,5 @@
 -- Inner vocabulary: a coarse level's vectors where they stand in the work area, and the answers for a level's tiles.
-use Rattle.align_level.specs.Prelude.{_≡_, List, ℕ, zero, suc, _+_, _*_, _≤_, _<_, length, getD, ℤ, pos, natAbs, level3, VectorField, still, searchRows, candidateRows, Tile, Vector, Found, TileSide, Kind, pairIn, Stored, Placed, answer, refined}
+use Rattle.align_level.specs.Prelude.{_≡_, List, ℕ, zero, suc, _+_, _*_, _≤_, _<_, length, getD, ℤ, pos, natAbs, level3, VectorField, still, searchRows, candidateRows, Tile, Vector, Found, TileSide, pairIn, Stored, Placed, answer}
 use Rattle.align_level.specs.declared.Grid.{Grid}
 use Rattle.align_tile.specs.declared.Area.{Area}
 use Rattle.align_level.specs.Magnitudes.{coarseMost, foundMost, tileRowsMost}
@@ -58,19 +58,12 @@ pub record Answered (f r : Found) : Type 0 where
   pub most : r .residual ≤ residualMost
   pub few : r .rows ≤ tileRowsMost
 
--- what is asked where a tile of such a level is at hand, and what is found for it
-pub record Finer (words : List ℤ) (a : Area) (t : Tile) (side level : ℕ) (c : Grid) (row column : ℕ) : Type 0 where
+-- what is asked where a level's tile is at hand
+pub record LevelTile (words : List ℤ) (a : Area) (t : Tile) (side level : ℕ) (c : Grid) (row column : ℕ) : Type 0 where
+  pub tile-is : t ≡ levelTile (levelAt side level) row column
   pub stored : Stored words a
   pub placed : Placed t
-  pub tile-sided : TileSide (t .side)
-  pub kind : Kind (levelAt side level .squared) (t .side)
   pub sided : TileSide side
-  pub vectors : Vectors words c
-  pub level-most : level ≤ 2
+  pub led : Led words level c
   pub row-most : row ≤ 4096
   pub column-most : column ≤ 4096
-
-pub record FinerFound (words : List ℤ) (a : Area) (t : Tile) (side level : ℕ) (c : Grid) (row column : ℕ) (r : Found) : Type 0 where
-  pub is : r ≡ refined (levelAt side level .squared) words a t (guessFrom side level words a c t row column) (3 * t .side)
-  pub near : Within foundMost (r .vector)
-  pub most : r .residual ≤ residualMost

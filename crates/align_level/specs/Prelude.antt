@@ -12,5 +12,5 @@ pub use Rattle.align_search.specs.Rows.{searchRows}
 unfoldable pub use Rattle.align_search.specs.Rows.{candidateRows}
 pub use Rattle.align_search.specs.Search.{bestVector, guessed}
 pub use Rattle.align_search.specs.Vectors.{still, _times_}
-pub use Rattle.align_tile.specs.Stored.{Placed, Ready, Roomy, Stored, answer, pairIn, refined}
+pub use Rattle.align_tile.specs.Stored.{Placed, Ready, Roomy, Stored, answer, pairIn}
 pub use Rattle.align_tile.specs.declared.Found.{Found}

@@ -5,7 +5,7 @@ ghost use Rattle.align_level.specs.Fields.{levelAt, levelTile};
 ghost use Rattle.align_level.specs.Steps.{stepTo};
 ghost use Rattle.align_level.specs.Magnitudes.{coarseMost};
 ghost use Rattle.align_tile.specs.Magnitudes.{guessMost};
-ghost use Rattle.align_level.specs.Grids.{fieldAt, Vectors, Led, coarsestAnswer, finerAnswer, answerAt, Answered, Finer, FinerFound};
+ghost use Rattle.align_level.specs.Grids.{fieldAt, Vectors, Led, answerAt, Answered, LevelTile};
 use align_patch::copy_square;
 use align_residual::Tile;
 use align_tile::Area;
@@ -109,8 +109,8 @@ fn is_squared(side: usize, level: usize) -> bool
     level != 0
 }
 
-// The vector of a tile, from the coarse vectors around it. `window` and `other` are for samples of the other image.
-fn refine_coarse(
+// The vector of a tile, from the coarse vectors around it, at level 3 from (0,0). `window` and `other` are for samples of the other image.
+fn refine_level(
     words: &[i64],
     area: Area,
     tile: Tile,
@@ -123,9 +123,21 @@ fn refine_coarse(
     row: usize,
     column: usize,
 ) -> Found
-    requires { ⌜ record { finer : Finer (now words) area tile side level coarse row column; ready : Ready (now words) area tile (now samples); roomy : Roomy tile (length (now samples)) (length (now window)) (length (now other)) } ⌝ }
-    ensures { λ r. ⌜ FinerFound (now (words .entry)) area tile side level coarse row column r ⌝ }
+    requires { ⌜ record { at : LevelTile (now words) area tile side level coarse row column; ready : Ready (now words) area tile (now samples); roomy : Roomy tile (length (now samples)) (length (now window)) (length (now other)) } ⌝ }
+    ensures { λ r. ⌜ Answered (answerAt side level (now (words .entry)) area coarse row column) r ⌝ }
 {
+    if level == 3 {
+        return refine(
+            words,
+            area,
+            tile,
+            samples,
+            &mut *window,
+            true,
+            Vector { down: 0, right: 0 },
+            0,
+        );
+    }
     let squared = is_squared(side, level);
     let q = quotient(side, level);
     let f = factor(side, level);
@@ -150,37 +162,7 @@ fn refine_coarse(
     )
 }
 
-// The vector of a tile of level 3, whose guess is (0,0).
-fn coarsest_tile(words: &[i64], area: Area, row: usize, column: usize) -> Found
-    requires { ⌜ record { stored : Stored (now words) area; row-most : row ≤ 4096; column-most : column ≤ 4096 } ⌝ }
-    ensures { λ r. ⌜ Answered (coarsestAnswer (now (words .entry)) area row column) r ⌝ }
-{
-    let tile = tile_at(16, 3, row, column);
-    let origin = tile.origin;
-    let mut samples = [0u16; 256];
-    copy_square(
-        words,
-        area.reference,
-        area.height,
-        area.width,
-        origin,
-        tile.side,
-        &mut samples,
-    );
-    let mut window = [0u16; 576];
-    refine(
-        words,
-        area,
-        tile,
-        &samples,
-        &mut window,
-        true,
-        Vector { down: 0, right: 0 },
-        0,
-    )
-}
-
-// The vector of a tile of a finer level, whose samples are copied first. `samples`, `window` and `other` are for samples.
+// The vector of a tile, whose samples are copied first. `samples`, `window` and `other` are for samples.
 fn sampled_tile(
     words: &[i64],
     area: Area,
@@ -194,8 +176,8 @@ fn sampled_tile(
     row: usize,
     column: usize,
 ) -> Found
-    requires { ⌜ (Finer (now words) area tile side level coarse row column) × (Roomy tile (length (now samples)) (length (now window)) (length (now other))) ⌝ }
-    ensures { λ r. ⌜ FinerFound (now (words .entry)) area tile side level coarse row column r ⌝ }
+    requires { ⌜ (LevelTile (now words) area tile side level coarse row column) × (Roomy tile (length (now samples)) (length (now window)) (length (now other))) ⌝ }
+    ensures { λ r. ⌜ Answered (answerAt side level (now (words .entry)) area coarse row column) r ⌝ }
 {
     let origin = tile.origin;
     copy_square(
@@ -207,7 +189,7 @@ fn sampled_tile(
         tile.side,
         &mut *samples,
     );
-    refine_coarse(
+    refine_level(
         words,
         area,
         tile,
@@ -222,7 +204,7 @@ fn sampled_tile(
     )
 }
 
-// The same of side 16, in arrays for it.
+// The same of side 8 or 16, in arrays for it.
 fn narrow_tile(
     words: &[i64],
     area: Area,
@@ -233,8 +215,8 @@ fn narrow_tile(
     row: usize,
     column: usize,
 ) -> Found
-    requires { ⌜ (Finer (now words) area tile side level coarse row column) × (tile .side ≡ 16) ⌝ }
-    ensures { λ r. ⌜ FinerFound (now (words .entry)) area tile side level coarse row column r ⌝ }
+    requires { ⌜ (LevelTile (now words) area tile side level coarse row column) × (tile .side ≤ 16) ⌝ }
+    ensures { λ r. ⌜ Answered (answerAt side level (now (words .entry)) area coarse row column) r ⌝ }
 {
     let mut samples = [0u16; 256];
     let mut window = [0u16; 576];
@@ -265,8 +247,8 @@ fn wide_tile(
     row: usize,
     column: usize,
 ) -> Found
-    requires { ⌜ (Finer (now words) area tile side level coarse row column) × (tile .side ≡ 32) ⌝ }
-    ensures { λ r. ⌜ FinerFound (now (words .entry)) area tile side level coarse row column r ⌝ }
+    requires { ⌜ (LevelTile (now words) area tile side level coarse row column) × (tile .side ≡ 32) ⌝ }
+    ensures { λ r. ⌜ Answered (answerAt side level (now (words .entry)) area coarse row column) r ⌝ }
 {
     let mut samples = [0u16; 1024];
     let mut window = [0u16; 1600];
@@ -286,27 +268,7 @@ fn wide_tile(
     )
 }
 
-// The vector of a tile of a finer level, with level 0's tiles of a side.
-fn finer_tile(
-    words: &[i64],
-    area: Area,
-    side: usize,
-    level: usize,
-    coarse: Grid,
-    row: usize,
-    column: usize,
-) -> Found
-    requires { ⌜ record { stored : Stored (now words) area; vectors : Vectors (now words) coarse; sided : TileSide side; level-most : level ≤ 2; row-most : row ≤ 4096; column-most : column ≤ 4096 } ⌝ }
-    ensures { λ r. ⌜ Answered (finerAnswer side level (now (words .entry)) area coarse row column) r ⌝ }
-{
-    let tile = tile_at(side, level, row, column);
-    if tile.side == 32 {
-        return wide_tile(words, area, tile, side, level, coarse, row, column);
-    }
-    narrow_tile(words, area, tile, side, level, coarse, row, column)
-}
-
-// The vector of a tile of any level.
+// The vector of a tile of a level, with level 0's tiles of a side.
 pub fn level_tile(
     words: &[i64],
     area: Area,
@@ -319,8 +281,9 @@ pub fn level_tile(
     requires { ⌜ record { stored : Stored (now words) area; led : Led (now words) level coarse; sided : TileSide side; row-most : row ≤ 4096; column-most : column ≤ 4096 } ⌝ }
     ensures { λ r. ⌜ Answered (answerAt side level (now (words .entry)) area coarse row column) r ⌝ }
 {
-    if level == 3 {
-        return coarsest_tile(words, area, row, column);
+    let tile = tile_at(side, level, row, column);
+    if tile.side == 32 {
+        return wide_tile(words, area, tile, side, level, coarse, row, column);
     }
-    finer_tile(words, area, side, level, coarse, row, column)
+    narrow_tile(words, area, tile, side, level, coarse, row, column)
 }
