@@ -1,5 +1,6 @@
 -- Inner vocabulary: where the levels' images and vectors stand in the work area: the reference's pyramid, the other frame's, then the vectors of levels 3 to 1.
 use Rattle.align_burst.specs.Prelude.{_≡_, List, ℕ, zero, suc, _+_, _*_, _≤_, _<_, length, getD, ℤ, pos, natAbs, Shape, Allowed, TileSide, finestLevel, levelSize, tileColumns, frameParts, levelTiles, offset, pyramidLength, alignLength, written, Sums, Grid, Area, Pair, VectorField, word, levelAt, Laid, fieldIn, rowsIn, pairIn, Stored, fieldAt, Vectors}
+use Rattle.align_pyramid.specs.declared.images.Raster.{Raster}
 use Rattle.align_pyramid.specs.WordsLaws.{Kept}
 use Rattle.align_residual.specs.Magnitudes.{residualMost}
 use Rattle.align_field.specs.Magnitudes.{tilesMost}
@@ -14,14 +15,13 @@ imageNumber (suc zero) = 1
 imageNumber (suc (suc zero)) = 3
 imageNumber (suc (suc (suc k))) = 5
 
+-- a level's image, in the pyramid that stands from a place on
+abbrev pub rasterAt : Shape → (level at : ℕ) → Raster
+rasterAt shape k at =
+    record { from = at + offset shape (imageNumber k); height = levelSize (levelAt (shape .side) k) (shape .height); width = levelSize (levelAt (shape .side) k) (shape .width) }
+
 unfoldable pub areaAt : Shape → ℕ → Area
-areaAt shape k =
-    record {
-      reference = offset shape (imageNumber k);
-      other = pyramidLength shape + offset shape (imageNumber k);
-      height = levelSize (levelAt (shape .side) k) (shape .height);
-      width = levelSize (levelAt (shape .side) k) (shape .width);
-    }
+areaAt shape k = record { reference = rasterAt shape k 0; other = rasterAt shape k (pyramidLength shape) }
 
 unfoldable pub gridAt : Shape → ℕ → (at : ℕ) → Grid
 gridAt shape k at = record { at = at; rows = levelTiles (levelAt (shape .side) k) (shape .height); columns = levelTiles (levelAt (shape .side) k) (shape .width) }

@@ -6,6 +6,7 @@ use align_field::finest_field;
 use align_field::level_field;
 use align_level::Grid;
 use align_level::half_of;
+use align_pyramid::images::Raster;
 use align_tile::Area;
 use geometry::Shape;
 use geometry::tiles::tile_count;
@@ -46,11 +47,19 @@ pub fn area_at(shape: Shape, level: usize) -> Area
     let from = align_pyramid::offset(shape, image_number(level));
     let length = align_pyramid::offset(shape, 6);
     let scale = scale_of(shape.side, level);
+    let height = shape.height / scale;
+    let width = shape.width / scale;
     Area {
-        reference: from,
-        other: length + from,
-        height: shape.height / scale,
-        width: shape.width / scale,
+        reference: Raster {
+            from: from,
+            height: height,
+            width: width,
+        },
+        other: Raster {
+            from: length + from,
+            height: height,
+            width: width,
+        },
     }
 }
 

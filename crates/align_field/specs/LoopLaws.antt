@@ -4,10 +4,8 @@ use mathlib.Core.Path.{fun-ext}
 use Rattle.align_field.specs.Prelude.{_≡_, _∙_, sym, ap, ap₂, subst, List, ℕ, zero, suc, _+_, _*_, _/_, _%_, _≤_, _<_, arith, lit≤, ℤ, natAbs, pairIn, Stored, fieldAt, Vectors, Led, answerAt, finerAnswer, level3, levelAt, levelTile, coarsest, finer, fromCoarse, candidateRows, searchRows}
 use native.Mathlib.Nat.{mul-le-mul}
 use Rattle.sequences.specs.Place.{row-below, column-below}
-use Rattle.geometry.specs.Read.{inside, read}
-use Rattle.geometry.specs.ReadLaws.{inside-below, cell-below}
-use Rattle.align_pyramid.specs.Words.{imageAt}
-use Rattle.align_pyramid.specs.WordsLaws.{Kept, kept-image, kept-source}
+use Rattle.geometry.specs.ReadLaws.{cell-below}
+use Rattle.align_pyramid.specs.WordsLaws.{Kept, kept-source, kept-read}
 use Rattle.align_tile.specs.declared.Area.{Area}
 use Rattle.align_field.specs.Magnitudes.{tilesMost}
 use Rattle.align_field.specs.Loops.{Before, Few, Ends}
@@ -28,20 +26,14 @@ place-few {rows} {columns} g k h = (omega (arith, row-below k rows columns h), o
 -- the images
 module _ {d l : List ℤ} {n : ℕ} (k : Kept d n l) (a : Area) (s : Stored d a) (b : Before a n) where
   pub kept-stored : Stored l a
-  kept-stored =
-      record {
-        reference = kept-source k (a .reference) (a .height) (a .width) (b .reference) (s .reference);
-        other = kept-source k (a .other) (a .height) (a .width) (b .other) (s .other);
-      }
-
-  same-read : (from : ℕ) → from + a .height * a .width ≤ n → read (a .height) (a .width) (imageAt l from (a .width)) ≡ read (a .height) (a .width) (imageAt d from (a .width))
-  unfolding read
-  same-read from h =
-      fun-ext (λ row. fun-ext (λ column. kept-image k from (a .height) (a .width) h (inside (a .height) row) (inside (a .width) column) (inside-below (a .height) row (s .reference .high)) (inside-below (a .width) column (s .reference .wide))))
+  kept-stored = record { reference = kept-source k (a .reference) (b .reference) (s .reference); other = kept-source k (a .other) (b .other) (s .other) }
 
   pub kept-pair : pairIn l a ≡ pairIn d a
   unfolding pairIn
-  kept-pair = ap₂ (λ x y. record { height = a .height; width = a .width; reference = x; other = y }) (same-read (a .reference) (b .reference)) (same-read (a .other) (b .other))
+  kept-pair =
+      ap₂ (λ x y. record { height = a .reference .height; width = a .reference .width; reference = x; other = y })
+      (fun-ext (λ row. fun-ext (kept-read k (a .reference) (b .reference) (s .reference) row)))
+      (fun-ext (λ row. fun-ext (kept-read k (a .other) (b .other) (s .other) row)))
 
 -- the coarse vectors
 module _ {d l : List ℤ} {n : ℕ} (k : Kept d n l) (c : Grid) (before : c .at + 2 * (c .rows * c .columns) ≤ n) where

@@ -1,6 +1,7 @@
 -- Inner vocabulary: what the loop over a level's tiles asks of the work area, and what it leaves.
 use Rattle.align_field.specs.Prelude.{_≡_, List, ℕ, _+_, _*_, _/_, _%_, _≤_, _<_, length, ℤ, finestLevel, finestStep, VectorField, word, tileRowsMost, levelAt, finer, fieldAt, answerAt, pairIn, Stored}
 use Rattle.algebra.specs.Sums.{sumN}
+use Rattle.align_pyramid.specs.Words.{endOf}
 use Rattle.align_tile.specs.declared.Area.{Area}
 use Rattle.align_field.specs.Magnitudes.{wayMost, tilesMost}
 use Rattle.sequences.specs.Write.{written}
@@ -12,8 +13,8 @@ use Rattle.align_level.specs.Steps.{stepTo}
 
 -- a level's images stand before place n
 pub record Before (a : Area) (n : ℕ) : Type 0 where
-  pub reference : a .reference + a .height * a .width ≤ n
-  pub other : a .other + a .height * a .width ≤ n
+  pub reference : endOf (a .reference) ≤ n
+  pub other : endOf (a .other) ≤ n
 
 -- a grid of some columns, and of no more rows and columns than level 0 of a frame of 4096 by 4096 has
 pub record Few (rows columns : ℕ) : Type 0 where

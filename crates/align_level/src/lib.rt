@@ -179,16 +179,9 @@ fn sampled_tile(
     requires { ⌜ (LevelTile (now words) area tile side level coarse row column) × (Roomy tile (length (now samples)) (length (now window)) (length (now other))) ⌝ }
     ensures { λ r. ⌜ Answered (answerAt side level (now (words .entry)) area coarse row column) r ⌝ }
 {
+    let image = area.reference;
     let origin = tile.origin;
-    copy_square(
-        words,
-        area.reference,
-        area.height,
-        area.width,
-        origin,
-        tile.side,
-        &mut *samples,
-    );
+    copy_square(words, image, origin, tile.side, &mut *samples);
     refine_level(
         words,
         area,

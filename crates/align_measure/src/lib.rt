@@ -22,17 +22,10 @@ fn residual_at(work: &[i64], area: Area, tile: Tile, v: Vector) -> u64
     requires { ⌜ record { stored : Stored (now work) area; placed : Placed tile; sided : TileSide (tile .side); near : Within guessMost v } ⌝ }
     ensures { λ r. ⌜ r ≡ residual false (pairIn (now (work .entry)) area) tile v ⌝ }
 {
+    let image = area.reference;
     let origin = tile.origin;
     let mut samples = [0u16; 1024];
-    copy_square(
-        work,
-        area.reference,
-        area.height,
-        area.width,
-        origin,
-        tile.side,
-        &mut samples,
-    );
+    copy_square(work, image, origin, tile.side, &mut samples);
     let mut other = [0u16; 1024];
     candidate_sum(work, area, tile, &samples, &mut other, v)
 }

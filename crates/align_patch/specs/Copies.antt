@@ -2,6 +2,7 @@
 use Rattle.algebra.specs.Prelude.{_≡_, List, ℕ, _+_, _*_, _%_, _^_, _≤_, _<_, length, getD, ℤ, pos, natAbs, _+ℤ_}
 use Rattle.geometry.specs.Read.{inside}
 use Rattle.geometry.specs.declared.vectors.Vector.{Vector}
+use Rattle.align_pyramid.specs.declared.images.Raster.{Raster}
 use Rattle.align_pyramid.specs.Words.{wordAt, Row, Source}
 use Rattle.align_patch.specs.Bounds.{Within}
 
@@ -24,8 +25,8 @@ pub record RowCopy (words : List ℤ) (start width : ℕ) (column : ℤ) (n : �
   pub room : to + n ≤ length out
 
 -- a square of n by n samples of the image from a corner on can be copied, to an array of so many
-pub record SquareCopy (words : List ℤ) (from height width : ℕ) (corner : Vector) (n many : ℕ) : Type 0 where
-  pub source : Source words from height width
+pub record SquareCopy (words : List ℤ) (image : Raster) (corner : Vector) (n many : ℕ) : Type 0 where
+  pub source : Source words image
   pub near : Within (2 ^ 20) corner
   pub small : n ≤ 64
   pub eights : n % 8 ≡ 0

@@ -1,12 +1,12 @@
 // Squares of an image of the work area, copied into local arrays: the rule for reading outside is paid once.
 ghost use Rattle.algebra.specs.Prelude.{_≡_, _+_, _*_, _%_, _≤_, _<_, _^_, pos, _+ℤ_, length};
 ghost use Rattle.algebra.specs.Bound.{AtMost};
-ghost use Rattle.geometry.specs.Read.{read};
 ghost use Rattle.sequences.specs.Tab.{tab};
 ghost use Rattle.sequences.specs.Write.{written};
-ghost use Rattle.align_pyramid.specs.Words.{Held, Row, wordAt, imageAt};
+ghost use Rattle.align_pyramid.specs.Words.{Held, Row, wordAt, readIn};
 ghost use Rattle.align_patch.specs.Copies.{Copied, RowCopy, SquareCopy, sampleOf};
 ghost use Rattle.align_patch.specs.Period.{placeIn, nextIn};
+use align_pyramid::images::Raster;
 use geometry::vectors::Vector;
 
 // A row or a column, `j` further.
@@ -172,24 +172,16 @@ fn copy_row(
 }
 
 // The square of `n` by `n` samples of an image from a corner on.
-pub fn copy_square(
-    words: &[i64],
-    from: usize,
-    height: usize,
-    width: usize,
-    corner: Vector,
-    n: usize,
-    out: &mut [u16],
-)
-    requires { ⌜ SquareCopy (now words) from height width corner n (length (now out)) ⌝ }
-    ensures { λ _. ⌜ Copied (now (out .exit)) n n (read height width (imageAt (now (words .entry)) from width)) (corner .down) (corner .right) ⌝ }
+pub fn copy_square(words: &[i64], image: Raster, corner: Vector, n: usize, out: &mut [u16])
+    requires { ⌜ SquareCopy (now words) image corner n (length (now out)) ⌝ }
+    ensures { λ _. ⌜ Copied (now (out .exit)) n n (readIn (now (words .entry)) image) (corner .down) (corner .right) ⌝ }
 {
     for i in 0..n {
-        let y = geometry::read::inside(shifted(corner.down, i), height);
+        let y = geometry::read::inside(shifted(corner.down, i), image.height);
         copy_row(
             words,
-            from + y * width,
-            width,
+            image.from + y * image.width,
+            image.width,
             corner.right,
             n,
             &mut *out,

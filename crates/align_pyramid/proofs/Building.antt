@@ -2,34 +2,35 @@
 use Rattle.align_pyramid.specs.Prelude.{_≡_, _∙_, List, ℕ, _+_, _*_, _/_, _≤_, _<_, arith, length, ℤ, Shape, Image, sampleAt, level0, levelSize, bayerSum, Frame}
 use Rattle.align_pyramid.specs.Pyramid.{image0}
 use Rattle.align_pyramid.specs.Bayer.BayerLaws.{bayer-most}
-use Rattle.align_pyramid.specs.Words.{imageAt, laid, Holds}
+use Rattle.align_pyramid.specs.declared.images.Raster.{Raster}
+use Rattle.align_pyramid.specs.Words.{imageIn, laid, Holds}
 use Rattle.align_pyramid.specs.WordsLaws.{Kept, own-image, holds-source, holds-agree, laid-kept, laid-after, laid-holds}
 use Rattle.align_pyramid.specs.Chain.{wordsBefore, halves, Room, Halvings}
 use Rattle.align_pyramid.specs.ChainLaws.{chain-agree, words-first, words-rise}
 use Rattle.align_pyramid.specs.Layout.{offset, pyramidLength, Built}
 use Rattle.align_pyramid.specs.LayoutLaws.{size1, size3, size5, chain0, chain1, chain3, chain5}
 
--- m is d with an image laid from `at` on that can be halved five times
-pub record Begun (height width : ℕ) (image : Image) (at : ℕ) (d m : List ℤ) : Type 0 where
-  pub high : 32 ≤ height
-  pub wide : 32 ≤ width
-  pub high-small : height ≤ 4096
-  pub wide-small : width ≤ 4096
-  pub most : (row column : ℕ) → row < height → column < width → image row column ≤ 16380
-  pub room : at + wordsBefore height width 6 ≤ length d
-  pub laying : m ≡ laid d at height width image
+-- m is d with an image laid that can be halved five times
+pub record Begun (r : Raster) (image : Image) (d m : List ℤ) : Type 0 where
+  pub high : 32 ≤ r .height
+  pub wide : 32 ≤ r .width
+  pub high-small : r .height ≤ 4096
+  pub wide-small : r .width ≤ 4096
+  pub most : (row column : ℕ) → row < r .height → column < r .width → image row column ≤ 16380
+  pub room : r .from + wordsBefore (r .height) (r .width) 6 ≤ length d
+  pub laying : m ≡ laid d (r .from) (r .height) (r .width) image
 
-module _ {height width : ℕ} {image : Image} {at : ℕ} {d m : List ℤ} (is : Begun height width image at d m) where
-  place : at + height * width ≤ length d
-  place = omega (arith, is .room, words-first height width, words-rise height width 1 6 (omega arith))
+module _ {r : Raster} {image : Image} {d m : List ℤ} (is : Begun r image d m) where
+  place : r .from + r .height * r .width ≤ length d
+  place = omega (arith, is .room, words-first (r .height) (r .width), words-rise (r .height) (r .width) 1 6 (omega arith))
 
-  kept : Kept d at m
-  kept = rw (is .laying) (laid-kept d at height width image place)
+  kept : Kept d (r .from) m
+  kept = rw (is .laying) (laid-kept d (r .from) (r .height) (r .width) image place)
 
-  first : Holds m at height width image
-  first = rw (is .laying) (laid-holds d at height width image place (is .most))
+  first : Holds m (r .from) (r .height) (r .width) image
+  first = rw (is .laying) (laid-holds d (r .from) (r .height) (r .width) image place (is .most))
 
-  pub begun-room : Room m at height width
+  pub begun-room : Room m r
   begun-room =
       record {
         source = holds-source (omega (arith, is .high)) (omega (arith, is .wide)) (is .high-small) (is .wide-small) first;
@@ -38,18 +39,22 @@ module _ {height width : ℕ} {image : Image} {at : ℕ} {d m : List ℤ} (is : 
         room = omega (arith, kept .same, is .room);
       }
 
-  pub begun-halvings : {l : List ℤ} → Halvings height width (imageAt m at width) at m 5 l → Halvings height width image at d 5 l
+  pub begun-halvings : {l : List ℤ} → Halvings r (imageIn m r) m 5 l → Halvings r image d 5 l
   begun-halvings h =
       record {
         count = h .count;
         same = h .same ∙ kept .same;
-        holds = λ k b. holds-agree (chain-agree height width _ _ (is .high) (is .wide) (own-image first) k b) (h .holds k b);
+        holds = λ k b. holds-agree (chain-agree (r .height) (r .width) _ _ (is .high) (is .wide) (own-image first) k b) (h .holds k b);
         before = λ i b. h .before i b ∙ kept .kept i b;
         after = λ i b.
-            h .after i b ∙ rw (is .laying) (laid-after d at height width image place i (omega (arith, words-first height width, words-rise height width 1 6 (omega arith))));
+            h .after i b ∙ rw (is .laying) (laid-after d (r .from) (r .height) (r .width) image place i (omega (arith, words-first (r .height) (r .width), words-rise (r .height) (r .width) 1 6 (omega arith))));
       }
 
--- level 0 is part of the pyramid
+-- level 0 of the pyramid from a place on
+abbrev pub finest : Shape → (at : ℕ) → Raster
+finest shape at = record { from = at; height = levelSize level0 (shape .height); width = levelSize level0 (shape .width) }
+
+-- it is part of the pyramid
 pub squares-fit : (shape : Shape) → shape .height / 2 * (shape .width / 2) ≤ pyramidLength shape
 unfolding levelSize offset
 squares-fit shape =
@@ -60,7 +65,7 @@ squares-fit shape =
 -- level 0 of a frame is such an image
 pub begun : {shape : Shape} {frame at : ℕ} {samples : List ℕ} {d m : List ℤ} → Frame shape frame samples → at + pyramidLength shape ≤ length d
     → m ≡ laid d at (shape .height / 2) (shape .width / 2) (bayerSum (sampleAt shape samples frame))
-    → Begun (levelSize level0 (shape .height)) (levelSize level0 (shape .width)) (image0 shape (sampleAt shape samples frame)) at d m
+    → Begun (finest shape at) (image0 shape (sampleAt shape samples frame)) d m
 unfolding levelSize offset image0
 begun {shape} {frame} {at} {samples} f room laying =
     let ok = f .sampled .allowed in
@@ -75,7 +80,7 @@ begun {shape} {frame} {at} {samples} f room laying =
     }
 
 -- the images 0, 1, 3 and 5 are the levels
-pub built : {shape : Shape} {frame : Image} {at : ℕ} {d l : List ℤ} → Halvings (levelSize level0 (shape .height)) (levelSize level0 (shape .width)) (image0 shape frame) at d 5 l
+pub built : {shape : Shape} {frame : Image} {at : ℕ} {d l : List ℤ} → Halvings (finest shape at) (image0 shape frame) d 5 l
     → Built shape frame at d l
 unfolding offset halves
 built {shape} {frame} h =

@@ -1,5 +1,6 @@
 -- Inner vocabulary: images in the work area: row after row, a word for each value.
-use Rattle.align_pyramid.specs.Prelude.{_≡_, List, ℕ, _+_, _*_, _/_, _%_, _≤_, _<_, length, getD, ℤ, pos, natAbs, Image, valueMost, written}
+use Rattle.align_pyramid.specs.Prelude.{_≡_, List, ℕ, _+_, _*_, _/_, _%_, _≤_, _<_, length, getD, ℤ, pos, natAbs, Image, read, halved, valueMost, written}
+use Rattle.align_pyramid.specs.declared.images.Raster.{Raster}
 
 -- the number at a place of the work area
 unfoldable pub wordAt : List ℤ → ℕ → ℕ
@@ -8,6 +9,20 @@ wordAt words k = natAbs (getD words k (pos 0))
 -- the image whose rows of `width` words stand from `at` on
 unfoldable pub imageAt : List ℤ → (at width : ℕ) → Image
 imageAt words at width row column = wordAt words (at + row * width + column)
+
+-- the place behind a raster
+abbrev pub endOf : Raster → ℕ
+endOf r = r .from + r .height * r .width
+
+-- the image that stands in it; the same read inside and outside; and halved
+abbrev pub imageIn : List ℤ → Raster → Image
+imageIn words r = imageAt words (r .from) (r .width)
+
+abbrev pub readIn : List ℤ → Raster → ℤ → ℤ → ℕ
+readIn words r = read (r .height) (r .width) (imageIn words r)
+
+abbrev pub halvedIn : List ℤ → Raster → Image
+halvedIn words r = halved (r .height) (r .width) (imageIn words r)
 
 -- an image as a list of words: the word number k
 abbrev pub wordOf : Image → (width k : ℕ) → ℤ
@@ -38,15 +53,15 @@ pub record Row (words : List ℤ) (at n : ℕ) : Type 0 where
   pub room : at + n ≤ length words
   pub held : (k : ℕ) → k < n → Held words (at + k)
 
--- an image stands from `from` on
-pub record Source (words : List ℤ) (from height width : ℕ) : Type 0 where
-  pub high : 0 < height
-  pub wide : 0 < width
-  pub high-small : height ≤ 4096
-  pub wide-small : width ≤ 4096
-  pub holds : Holds words from height width (imageAt words from width)
+-- an image stands there
+pub record Source (words : List ℤ) (r : Raster) : Type 0 where
+  pub high : 0 < r .height
+  pub wide : 0 < r .width
+  pub high-small : r .height ≤ 4096
+  pub wide-small : r .width ≤ 4096
+  pub holds : Holds words (r .from) (r .height) (r .width) (imageIn words r)
 
 -- the same, and its halving has the row, which comes of four of the image's
-pub record FourRows (words : List ℤ) (from height width row : ℕ) : Type 0 where
-  pub source : Source words from height width
-  pub row-in : 2 * row + 2 ≤ height
+pub record FourRows (words : List ℤ) (r : Raster) (row : ℕ) : Type 0 where
+  pub source : Source words r
+  pub row-in : 2 * row + 2 ≤ r .height

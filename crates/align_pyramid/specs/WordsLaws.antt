@@ -1,5 +1,5 @@
 -- Laws of images in the work area.
-use Rattle.align_pyramid.specs.Prelude.{_≡_, sym, ap, ap₂, subst, _∙_, List, _++_, ℕ, _+_, _-_, _*_, _≤_, _<_, arith, ℤ, pos, natAbs, Image, inside, read, halved}
+use Rattle.align_pyramid.specs.Prelude.{_≡_, sym, ap, ap₂, subst, _∙_, List, _++_, ℕ, _+_, _-_, _*_, _≤_, _<_, arith, ℤ, pos, natAbs, Image, inside, read}
 use native.Mathlib.Nat.{add-assoc}
 use lib.ListN.{length, getD, take, drop, List·getD-append}
 use lib.Seq.{length-paste-head, length-take-le, getD-take}
@@ -9,7 +9,8 @@ use Rattle.sequences.specs.TabLaws.{length-tab}
 use Rattle.sequences.specs.Place.{row-room, place-row, place-column}
 use Rattle.sequences.specs.Write.{written, Writing, written-in, written-before, written-after, written-length}
 use Rattle.align_pyramid.specs.Halving.HalvingLaws.{halved-agree}
-use Rattle.align_pyramid.specs.Words.{wordAt, imageAt, wordOf, laid, Holds, Row, Source}
+use Rattle.align_pyramid.specs.declared.images.Raster.{Raster}
+use Rattle.align_pyramid.specs.Words.{wordAt, imageAt, endOf, imageIn, readIn, halvedIn, wordOf, laid, Holds, Row, Source}
 
 -- l has d's length and its first n words
 pub record Kept (d : List ℤ) (n : ℕ) (l : List ℤ) : Type 0 where
@@ -17,15 +18,15 @@ pub record Kept (d : List ℤ) (n : ℕ) (l : List ℤ) : Type 0 where
   pub kept : (k : ℕ) → k < n → getD l k (pos 0) ≡ getD d k (pos 0)
 
 -- a row of an image
-pub row-held : {words : List ℤ} {from height width : ℕ} (row : ℕ) → Holds words from height width (imageAt words from width) → row < height
-    → Row words (from + row * width) width
+pub row-held : {words : List ℤ} {r : Raster} (row : ℕ) → Source words r → row < r .height → Row words (r .from + row * r .width) (r .width)
 unfolding imageAt
-row-held {words} {from} {height} {width} row h k =
+row-held {r = r} row s k =
+    let h = s .holds in
     record {
-      room = omega (arith, row-room row height width k);
+      room = omega (arith, h .room, row-room row (r .height) (r .width) k);
       held = λ column l.
           record {
-            here = omega (arith, cell-below row column height width k l);
+            here = omega (arith, h .room, cell-below row column (r .height) (r .width) k l);
             is = h .is row column k l;
             most = h .most row column k l;
           };
@@ -51,7 +52,7 @@ holds-own h =
     }
 
 pub holds-source : {words : List ℤ} {at height width : ℕ} {image : Image} → 0 < height → 0 < width → height ≤ 4096 → width ≤ 4096
-    → Holds words at height width image → Source words at height width
+    → Holds words at height width image → Source words (record { from = at; height = height; width = width })
 holds-source a b c d h = record { high = a; wide = b; high-small = c; wide-small = d; holds = holds-own h }
 
 -- also where it is read outside
@@ -74,8 +75,8 @@ writing-kept {d} {l} {at} {n} {j} {f} w =
           ∙ getD-take at d k (pos 0) h;
     }
 
+-- what stands before stays the same image
 module _ {d l : List ℤ} {n : ℕ} (k : Kept d n l) (from height width : ℕ) (before : from + height * width ≤ n) where
-  -- what stands before stays the same image
   pub kept-image : (row column : ℕ) → row < height → column < width → imageAt l from width row column ≡ imageAt d from width row column
   unfolding imageAt wordAt
   kept-image row column h m = ap natAbs (k .kept (from + row * width + column) (omega (arith, cell-below row column height width h m)))
@@ -88,13 +89,20 @@ module _ {d l : List ℤ} {n : ℕ} (k : Kept d n l) (from height width : ℕ) (
         most = h .most;
       }
 
-  pub kept-source : Source d from height width → Source l from height width
-  kept-source s =
-      holds-source (s .high) (s .wide) (s .high-small) (s .wide-small) (kept-holds (s .holds))
+-- also where it is read outside, and halved
+module _ {d l : List ℤ} {n : ℕ} (k : Kept d n l) (r : Raster) (before : endOf r ≤ n) (s : Source d r) where
+  same : (row column : ℕ) → row < r .height → column < r .width → imageIn l r row column ≡ imageIn d r row column
+  same = kept-image k (r .from) (r .height) (r .width) before
 
-  -- and so does its halving
-  pub kept-halved : Source d from height width → (row column : ℕ) → halved height width (imageAt l from width) row column ≡ halved height width (imageAt d from width) row column
-  kept-halved s row column = halved-agree height width (s .high) (s .wide) (imageAt l from width) (imageAt d from width) kept-image row column
+  pub kept-source : Source l r
+  kept-source = holds-source (s .high) (s .wide) (s .high-small) (s .wide-small) (kept-holds k (r .from) (r .height) (r .width) before (s .holds))
+
+  pub kept-read : (row column : ℤ) → readIn l r row column ≡ readIn d r row column
+  unfolding read
+  kept-read row column = same (inside (r .height) row) (inside (r .width) column) (inside-below (r .height) row (s .high)) (inside-below (r .width) column (s .wide))
+
+  pub kept-halved : (row column : ℕ) → halvedIn l r row column ≡ halvedIn d r row column
+  kept-halved = halved-agree (r .height) (r .width) (s .high) (s .wide) (imageIn l r) (imageIn d r) same
 
 -- what an image that is laid leaves as it was, and what then stands there
 module _ (d : List ℤ) (at height width : ℕ) (image : Image) (room : at + height * width ≤ length d) where

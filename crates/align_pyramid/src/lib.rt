@@ -7,6 +7,7 @@ pub mod squares;
 ghost use Rattle.align_pyramid.specs.Prelude.{_≡_, _+_, _≤_, length, sampleAt, Frame};
 ghost use Rattle.geometry.specs.Fits.{Allowed};
 ghost use Rattle.align_pyramid.specs.Layout.{offset, pyramidLength, Built};
+use crate::images::Raster;
 use crate::images::halve_down;
 use crate::squares::lay_squares;
 use geometry::Shape;
@@ -17,7 +18,14 @@ pub fn build(shape: Shape, frame: usize, samples: &[u16], work: &mut [i64], at: 
     ensures { λ _. ⌜ Built shape (sampleAt shape (now (samples .entry)) frame) at (now (work .entry)) (now (work .exit)) ⌝ }
 {
     lay_squares(shape, frame, samples, &mut *work, at);
-    halve_down(&mut *work, at, shape.height / 2, shape.width / 2);
+    halve_down(
+        &mut *work,
+        Raster {
+            from: at,
+            height: shape.height / 2,
+            width: shape.width / 2,
+        },
+    );
 }
 
 // How many words of a pyramid stand before its image number `k`.

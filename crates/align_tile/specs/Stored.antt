@@ -1,7 +1,6 @@
 -- Inner vocabulary: a level's two images where they stand in the work area, and a tile of the reference in a local array.
 use Rattle.align_tile.specs.Prelude.{_≡_, Bool, cond, List, ℕ, _+_, _*_, _%_, _≤_, ltb, length, ℤ, negsuc, _+ℤ_, TileSide, _plus_, Within, Pair, residual, Kind}
-use Rattle.geometry.specs.Read.{read}
-use Rattle.align_pyramid.specs.Words.{imageAt, Source}
+use Rattle.align_pyramid.specs.Words.{readIn, Source}
 use Rattle.align_residual.specs.declared.Tile.{Tile}
 use Rattle.geometry.specs.declared.vectors.Vector.{Vector}
 use Rattle.align_tile.specs.declared.Area.{Area}
@@ -16,16 +15,11 @@ use Rattle.align_patch.specs.Copies.{Copied}
 -- the images that stand there, read inside and outside
 unfoldable pub pairIn : List ℤ → Area → Pair
 pairIn words a =
-    record {
-      height = a .height;
-      width = a .width;
-      reference = read (a .height) (a .width) (imageAt words (a .reference) (a .width));
-      other = read (a .height) (a .width) (imageAt words (a .other) (a .width));
-    }
+    record { height = a .reference .height; width = a .reference .width; reference = readIn words (a .reference); other = readIn words (a .other) }
 
 pub record Stored (words : List ℤ) (a : Area) : Type 0 where
-  pub reference : Source words (a .reference) (a .height) (a .width)
-  pub other : Source words (a .other) (a .height) (a .width)
+  pub reference : Source words (a .reference)
+  pub other : Source words (a .other)
 
 -- a tile of side 8, 16 or 32 that is near the images, so that its samples can be copied
 pub record Placed (t : Tile) : Type 0 where

@@ -5,7 +5,8 @@ use borrow.Author.Tests.{ltb-true, ltb-false}
 use native.Mathlib.Nat.{mul-le-mul, zero-mul, div-add-mod'}
 use Rattle.geometry.specs.Read.{inside, read}
 use Rattle.geometry.specs.ReadLaws.{inside-below}
-use Rattle.align_pyramid.specs.Words.{imageAt, Source}
+use Rattle.align_pyramid.specs.declared.images.Raster.{Raster}
+use Rattle.align_pyramid.specs.Words.{imageIn, readIn, Source}
 use Rattle.align_residual.specs.declared.Tile.{Tile}
 use Rattle.geometry.specs.declared.vectors.Vector.{Vector}
 use Rattle.align_tile.specs.declared.Area.{Area}
@@ -24,9 +25,9 @@ use Rattle.align_search.specs.LocalLaws.{middle-residual, searched-finds}
 use Rattle.align_tile.specs.Stored.{pairIn, Stored, Placed, Ready, Around, Moved, answer, refined, leastOfThree}
 
 -- what is copied from an image is low
-pub copied-low : {words : List ℤ} {from height width : ℕ} → Source words from height width → {l : List ℕ} {n : ℕ} {row column : ℤ} → n * n ≤ length l → Copied l n n (read height width (imageAt words from width)) row column → Low l (n * n)
+pub copied-low : {words : List ℤ} {r : Raster} → Source words r → {l : List ℕ} {n : ℕ} {row column : ℤ} → n * n ≤ length l → Copied l n n (readIn words r) row column → Low l (n * n)
 unfolding read
-copied-low {words} {from} {height} {width} s {l} {n} {row} {column} room c = record { room = room; most = λ k h. at k h (some k n h) }
+copied-low {words} {r} s {l} {n} {row} {column} room c = record { room = room; most = λ k h. at k h (some k n h) }
   where
     some : (k n : ℕ) → k < n * n → 0 < n
     some k zero h = absurd (omega (arith, zero-mul 0))
@@ -34,12 +35,13 @@ copied-low {words} {from} {height} {width} s {l} {n} {row} {column} room c = rec
 
     at : (k : ℕ) → k < n * n → 0 < n → getD l k 0 ≤ 16380
     at k h b =
-        let e : getD l k 0 ≡ imageAt words from width (inside height (row +ℤ pos (k / n))) (inside width (column +ℤ pos (k % n))) =
-        ap (λ k. getD l k 0) (sym (div-add-mod' k n)) ∙ c .cell (k / n) (k % n) (row-below k n n h) (column-below k n n h) in
-        omega (arith, e, s .holds .most (inside height (row +ℤ pos (k / n))) (inside width (column +ℤ pos (k % n))) (inside-below height (row +ℤ pos (k / n)) (s .high)) (inside-below width (column +ℤ pos (k % n)) (s .wide)))
+        let y = inside (r .height) (row +ℤ pos (k / n)) in
+        let x = inside (r .width) (column +ℤ pos (k % n)) in
+        let e : getD l k 0 ≡ imageIn words r y x = ap (λ k. getD l k 0) (sym (div-add-mod' k n)) ∙ c .cell (k / n) (k % n) (row-below k n n h) (column-below k n n h) in
+        omega (arith, e, s .holds .most y x (inside-below (r .height) (row +ℤ pos (k / n)) (s .high)) (inside-below (r .width) (column +ℤ pos (k % n)) (s .wide)))
 
 -- what copying a tile's samples asks
-pub copyable : {words : List ℤ} {a : Area} {t : Tile} {many : ℕ} → Stored words a → Placed t → t .side * t .side ≤ many → SquareCopy words (a .reference) (a .height) (a .width) (t .origin) (t .side) many
+pub copyable : {words : List ℤ} {a : Area} {t : Tile} {many : ℕ} → Stored words a → Placed t → t .side * t .side ≤ many → SquareCopy words (a .reference) (t .origin) (t .side) many
 copyable s h room =
     record {
       source = s .reference;
@@ -50,7 +52,7 @@ copyable s h room =
     }
 
 -- and what it makes ready
-pub ready : {words : List ℤ} {a : Area} {t : Tile} {l : List ℕ} → Stored words a → Placed t → t .side * t .side ≤ length l → 256 ≤ length l → Copied l (t .side) (t .side) (read (a .height) (a .width) (imageAt words (a .reference) (a .width))) (t .origin .down) (t .origin .right) → Ready words a t l
+pub ready : {words : List ℤ} {a : Area} {t : Tile} {l : List ℕ} → Stored words a → Placed t → t .side * t .side ≤ length l → 256 ≤ length l → Copied l (t .side) (t .side) (readIn words (a .reference)) (t .origin .down) (t .origin .right) → Ready words a t l
 unfolding pairIn
 ready s h room enough c = record { stored = s; placed = h; room = room; enough = enough; copied = c }
 

@@ -4,6 +4,7 @@ ghost use Rattle.align_residual.specs.Magnitudes.{residualMost};
 ghost use Rattle.align_tile.specs.Magnitudes.{guessMost};
 ghost use Rattle.align_tile.specs.Stored.{pairIn, Stored, Placed, Ready, Around, OtherReady, RefineReady, CandidatesReady, Moved, refined, guessedIn, leastOfThree};
 use align_patch::copy_square;
+use align_pyramid::images::Raster;
 use align_residual::Tile;
 use align_residual::sixteen;
 use align_residual::thirty_two;
@@ -12,12 +13,10 @@ use align_search::window::offset;
 use align_search::window::search;
 use geometry::vectors::Vector;
 
-// Where a level's two images stand in the work area, and their size.
+// A level's two images in the work area.
 pub struct Area {
-    pub reference: usize,
-    pub other: usize,
-    pub height: usize,
-    pub width: usize,
+    pub reference: Raster,
+    pub other: Raster,
 }
 
 // A tile's vector, its residual, and how many of the tile's rows were summed to find it.
@@ -72,16 +71,9 @@ pub fn candidate_sum(
     requires { ⌜ record { ready : Ready (now words) area tile (now samples); sided : TileSide (tile .side); room : tile .side * tile .side ≤ length (now other); near : Within guessMost v } ⌝ }
     ensures { λ r. ⌜ r ≡ residual false (pairIn (now (words .entry)) area) tile v ⌝ }
 {
+    let image = area.other;
     let origin = tile.origin;
-    copy_square(
-        words,
-        area.other,
-        area.height,
-        area.width,
-        sum(origin, v),
-        tile.side,
-        &mut *other,
-    );
+    copy_square(words, image, sum(origin, v), tile.side, &mut *other);
     square_sum(tile.side, samples, &*other, 0, tile.side)
 }
 
@@ -113,6 +105,7 @@ fn copy_window(words: &[i64], area: Area, tile: Tile, guess: Vector, window: &mu
     requires { ⌜ record { stored : Stored (now words) area; placed : Placed tile; near : Within guessMost guess; room : (tile .side + 8) * (tile .side + 8) ≤ length (now window) } ⌝ }
     ensures { λ _. ⌜ Around (now (words .entry)) area tile guess (now (window .exit)) ⌝ }
 {
+    let image = area.other;
     let origin = tile.origin;
     let corner = sum(
         sum(origin, guess),
@@ -121,15 +114,7 @@ fn copy_window(words: &[i64], area: Area, tile: Tile, guess: Vector, window: &mu
             right: -4,
         },
     );
-    copy_square(
-        words,
-        area.other,
-        area.height,
-        area.width,
-        corner,
-        tile.side + 8,
-        &mut *window,
-    );
+    copy_square(words, image, corner, tile.side + 8, &mut *window);
 }
 
 // The residual of the guess of such a window, in its middle.

@@ -8,10 +8,10 @@ square : {side : ℕ} → TileSide side → side * side ≤ 1024
 square sided = ⊎-elim (λ e. rw e (lit≤ tt)) (λ e. rw e (lit≤ tt)) (sided .is)
 
 copy-square-requires : of.Tie.Need-copy-square-requires
-copy-square-requires c κs = let s = c .before .before in copyable (s .pre .stored) (s .pre .placed) (omega (arith, square (s .pre .sided)))
+copy-square-requires c κs = let s = c .before .before .before in copyable (s .pre .stored) (s .pre .placed) (omega (arith, square (s .pre .sided)))
 
 candidate-sum-requires : of.Tie.Need-candidate-sum-requires
-candidate-sum-requires c κs = let s = c .before .before .before .before .before .before in
+candidate-sum-requires c κs = let s = c .before .before .before .before .before .before .before in
     record {
       ready = ready (s .pre .stored) (s .pre .placed) (omega (arith, square (s .pre .sided))) (omega arith) (c .before .before .before .copy-square .ensures);
       sided = s .pre .sided;

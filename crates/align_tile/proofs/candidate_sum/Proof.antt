@@ -12,16 +12,16 @@ whole : {side : ℕ} → TileSide side → 0 + (side - 1) * side + side ≤ side
 whole sided = ⊎-elim (λ e. rw e (lit≤ tt)) (λ e. rw e (lit≤ tt)) (sided .is)
 
 sum-requires : of.Tie.Need-sum-requires
-sum-requires c κs = let s = c .before .before .before in (within-more (2 ^ 20) (s .pre .ready .placed .near) (lit≤ tt), within-more (2 ^ 20) (s .pre .near) (lit≤ tt))
+sum-requires c κs = let s = c .before .before .before .before in (within-more (2 ^ 20) (s .pre .ready .placed .near) (lit≤ tt), within-more (2 ^ 20) (s .pre .near) (lit≤ tt))
 
 copy-square-requires : of.Tie.Need-copy-square-requires
-copy-square-requires c κs = let s = c .before .before .before .before .before in
+copy-square-requires c κs = let s = c .before .before .before .before .before .before in
     let h = s .pre .ready in
     record { source = h .stored .other; near = rw (c .before .sum .ensures) (within-more (2 ^ 20) (plus-within (h .placed .near) (s .pre .near)) (lit≤ tt)); small = omega (arith, h .placed .small); eights = h .placed .eights; room = s .pre .room }
 
 square-sum-requires : of.Tie.Need-square-sum-requires
 unfolding pairIn
-square-sum-requires c κs = let s = c .before .before .before .before .before .before .before .before .before in
+square-sum-requires c κs = let s = c .before .before .before .before .before .before .before .before .before .before in
     let h = s .pre .ready in
     record {
       sided = s .pre .sided;
@@ -31,7 +31,7 @@ square-sum-requires c κs = let s = c .before .before .before .before .before .b
 
 returns : of.Tie.Need-returns
 unfolding pairIn
-returns c = let s = c .before .before .before .before .before .before .before .before .before .before in
+returns c = let s = c .before .before .before .before .before .before .before .before .before .before .before in
     let a = s .args in
     let e = c .before .before .before .before .before .before .sum .ensures in
     c .square-sum .ensures

@@ -1,14 +1,17 @@
 -- Each turn halves the last image into the words after it.
-use Rattle.align_pyramid.specs.Words.{imageAt}
+use Rattle.align_pyramid.specs.declared.images.Raster.{Raster}
+use Rattle.align_pyramid.specs.Words.{imageIn}
 use Rattle.align_pyramid.proofs.Descent.{Halving, halving-start, halving-source, halving-room, halving-turn}
 use Rattle.algebra.specs.Prelude.{_≡_, refl, _+_, _-_, _*_, _/_, _≤_, arith, needs, length}
 use Rattle.align_pyramid.proofs.images.halve_down as of
 
 abbrev Inv-loop : of.Tie.InvT-loop
-Inv-loop work₀ at height width from₀ h₀ w₀ sums₀ counter₀ work from h w sums counter = (Halving height width (imageAt work₀ at width) at work₀ counter work from h w) × (length sums ≡ 4098)
+Inv-loop work₀ from₀ h₀ w₀ sums₀ counter₀ work from h w sums counter =
+    let image : Raster = record { from = from₀; height = h₀; width = w₀ } in
+    (Halving image (imageIn work₀ image) work₀ counter work from h w) × (length sums ≡ 4098)
 
 abbrev μ-loop : of.Tie.MeasureT-loop
-μ-loop work₀ at height width from₀ h₀ w₀ sums₀ counter₀ work from h w sums counter = 5 - counter
+μ-loop work₀ from₀ h₀ w₀ sums₀ counter₀ work from h w sums counter = 5 - counter
 
 room : (c : of.Tie.In-loop Inv-loop μ-loop) → let s = c .before .loop in s .from + s .h * s .w + s .h / 2 * (s .w / 2) ≤ length (s .work)
 room c = halving-room (c .before .before .pre) (c .before .loop .inv .0) (omega arith)
