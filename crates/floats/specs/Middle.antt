@@ -1,8 +1,9 @@
 -- The whole number nearest to a float of less than 2^51, from its sum with 1.5·2^52: as a float, by a difference, and as a whole number, by the sum's bits.
-use Rattle.algebra.specs.Prelude.{_≡_, refl, sym, ap, subst, _∙_, Bool, true, false, not, cond, ℕ, _+_, _-_, _*_, _/_, _^_, _≤_, _<_, arith, T, lit<, ℤ, pos, negℤ, _-ℤ_}
+use Rattle.algebra.specs.Prelude.{_≡_, refl, sym, ap, subst, _∙_, Bool, true, false, not, cond, ℕ, _+_, _-_, _*_, _/_, _^_, _≤_, _<_, arith, T, lit<, ℤ, pos, natAbs, negℤ, _-ℤ_}
 use native.Mathlib.Nat.{div-lt-iff-lt-mul, div-mul-le-self, mul-le-mul-right, lt-of-mul-lt-mul-right}
 use lib.Ieee.{Float, fin, binary64, add, sub, eq, ofInt, toBits, isNan}
 use lib.Ieee.Nearest.{closest}
+use Rattle.algebra.specs.Order.{abs-neg}
 use Rattle.algebra.specs.Diff.{pos-as, neg-as, sub-eq}
 use Rattle.floats.specs.Fractions.{Is}
 use Rattle.floats.specs.Wholes.{Whole, same-whole, whole-bits}
@@ -86,7 +87,14 @@ pub nearest-nothing : {x : Float} → Whole x false 0 → Counts x (pos 0)
 nearest-nothing w =
     nearest-counts (record { sign = false; num = 0; den = 1; count = 0; above = lit< tt; is = w; close = record { over = lit< tt; under = lit< tt }; small = lit< tt; value = refl })
 
+signed-most : (s : Bool) (k : ℕ) → k < 2 ^ 51 → natAbs (cond s (negℤ (pos k)) (pos k)) ≤ 2 ^ 51
+signed-most true k h = rw (abs-neg (pos k)) (omega (arith, h))
+signed-most false k h = omega (arith, h)
+
 module _ {x : Float} {z : ℤ} (n : Counts x z) where
+  pub counts-most : natAbs z ≤ 2 ^ 51
+  counts-most = subst (λ z. natAbs z ≤ 2 ^ 51) (n .value) (signed-most (n .sign) (n .count) (n .small))
+
   -- as a float
   pub nearest-again : sub binary64 (add binary64 x middle) middle ≡ ofInt binary64 z
   nearest-again = less-again x (n .sign) (n .count) (n .small) (n .sum) ∙ ap (ofInt binary64) (n .value)

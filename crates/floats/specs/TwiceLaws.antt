@@ -1,6 +1,6 @@
 -- A whole number of at most 2^53 over 2^31, to nearest, halves away from zero, by two sums with 1.5·2^52. The first is of a product that lies above the quotient: it
 -- is rounded to what is wanted, or to one more in magnitude. The second is of what is then left, times a little less than 2^−31: it takes that one off again.
-use Rattle.algebra.specs.Prelude.{_≡_, refl, sym, ap, ap₂, subst, _∙_, Bool, true, false, not, cond, ℕ, zero, suc, _+_, _-_, _*_, _/_, _^_, _≤_, _<_, arith, T, ltb, lit<, lit≤, ℤ, pos, negsuc, natAbs, negℤ, _+ℤ_, _-ℤ_, _*ℤ_}
+use Rattle.algebra.specs.Prelude.{_≡_, refl, sym, ap, ap₂, subst, _∙_, Bool, true, false, cond, ℕ, zero, suc, _+_, _-_, _*_, _/_, _^_, _≤_, _<_, arith, ltb, lit<, lit≤, ℤ, pos, negsuc, natAbs, negℤ, _+ℤ_, _-ℤ_, _*ℤ_}
 use native.Mathlib.Nat.{one-mul, mul-pos, mul-le-mul-left, mul-le-mul-right, lt-of-le-of-lt, mul-lt-mul-of-pos-right, lt-of-mul-lt-mul-left, lt-of-mul-lt-mul-right}
 use borrow.Author.Tests.{ltb-true, ltb-false}
 use lib.IntN.{subℕ}
