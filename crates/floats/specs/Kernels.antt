@@ -54,7 +54,7 @@ difference-of f a (pos zero) p q = unchanged f a p (negated q) ∙ ap (ofInt f) 
 difference-of f a (pos (suc b)) p q = sum-of f a (negsuc b) p (negated q)
 difference-of f a (negsuc b) p q = sum-of f a (pos (suc b)) p (negated q)
 
-product-of : (f : Format) {x y : Float} (n : ℕ) (a : ℤ) → 0 < n → Whole x false n → Whole y (negative a) (natAbs a) → mul f x y ≡ ofInt f (pos n *ℤ a)
+pub product-of : (f : Format) {x y : Float} (n : ℕ) (a : ℤ) → 0 < n → Whole x false n → Whole y (negative a) (natAbs a) → mul f x y ≡ ofInt f (pos n *ℤ a)
 unfolding ofInt
 product-of f n (pos a) h p q = product-rounded f p (lit< tt) q (lit< tt)
 product-of f zero (negsuc a) h p q = absurd (omega arith)

@@ -7,4 +7,5 @@ pub mod Kernels
 pub mod Middle
 pub mod QuotientLaws
 pub mod ProductLaws
+pub mod TwiceLaws
 pub mod Casts

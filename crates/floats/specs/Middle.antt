@@ -1,13 +1,14 @@
 -- The whole number nearest to a float of less than 2^51, from its sum with 1.5·2^52: as a float, by a difference, and as a whole number, by the sum's bits.
-use Rattle.algebra.specs.Prelude.{_≡_, refl, sym, ap, subst, _∙_, Bool, true, false, not, cond, ℕ, _+_, _-_, _*_, _/_, _^_, _≤_, _<_, arith, T, lit<, ℤ, pos, negℤ, _-ℤ_}
-use native.Mathlib.Nat.{div-lt-iff-lt-mul, div-mul-le-self, mul-le-mul-right}
+use Rattle.algebra.specs.Prelude.{_≡_, refl, sym, ap, subst, _∙_, Bool, true, false, not, cond, ℕ, _+_, _-_, _*_, _/_, _^_, _≤_, _<_, arith, T, lit<, ℤ, pos, natAbs, negℤ, _-ℤ_}
+use native.Mathlib.Nat.{div-lt-iff-lt-mul, div-mul-le-self, mul-le-mul-right, lt-of-mul-lt-mul-right}
 use lib.Ieee.{Float, fin, binary64, add, sub, eq, ofInt, toBits, isNan}
 use lib.Ieee.Nearest.{closest}
+use Rattle.algebra.specs.Order.{abs-neg}
 use Rattle.algebra.specs.Diff.{pos-as, neg-as, sub-eq}
 use Rattle.floats.specs.Fractions.{Is}
 use Rattle.floats.specs.Wholes.{Whole, same-whole, whole-bits}
 use Rattle.floats.specs.NearestWhole.{Closer, half-above, no-less, no-more, sum-closest, sum-nearest}
-use Rattle.floats.specs.RelativeError.{closest-within}
+use Rattle.floats.specs.RelativeError.{WithinHalf, closest-within}
 use Rattle.floats.specs.Kernels.{difference-of}
 
 -- 1.5·2^52, and its bits
@@ -20,6 +21,18 @@ middleBits = 4843621399236968448
 middle-is : Whole middle false (3 * 2 ^ 51)
 unfolding middle
 middle-is = record { digits = 3; exponent = pos 51; is = refl; value = refl }
+
+-- a sum's digits
+abbrev pub digits : Bool → ℕ → ℕ
+digits s k = cond s (3 * 2 ^ 51 - k) (3 * 2 ^ 51 + k)
+
+-- the sum with x counts z, of less than 2^51 in magnitude, from 1.5·2^52 on
+pub record Counts (x : Float) (z : ℤ) : Type 0 where
+  pub sign : Bool
+  pub count : ℕ
+  pub small : count < 2 ^ 51
+  pub sum : Whole (add binary64 x middle) false (digits sign count)
+  pub value : cond sign (negℤ (pos count)) (pos count) ≡ z
 
 -- z is closer to x than a half, and less than 2^51 in magnitude
 pub record NearestTo (x : Float) (z : ℤ) : Type 0 where
@@ -35,14 +48,6 @@ pub record NearestTo (x : Float) (z : ℤ) : Type 0 where
 
 pub quotient-small : (n D : ℕ) → n < 2 ^ 50 * D → (2 * n + D) / (2 * D) < 2 ^ 51
 quotient-small n D h = div-lt-iff-lt-mul {k = 2 * D} {x = 2 * n + D} {y = 2 ^ 51} (omega arith) .1 (omega arith)
-
-pub nearest-nothing : {x : Float} → Whole x false 0 → NearestTo x (pos 0)
-nearest-nothing w =
-    record { sign = false; num = 0; den = 1; count = 0; above = lit< tt; is = w; close = record { over = lit< tt; under = lit< tt }; small = lit< tt; value = refl }
-
--- the sum's digits
-abbrev digits : Bool → ℕ → ℕ
-digits s k = cond s (3 * 2 ^ 51 - k) (3 * 2 ^ 51 + k)
 
 digits-low : (s : Bool) (k : ℕ) → k < 2 ^ 51 → 2 ^ 52 ≤ digits s k
 digits-low true k h = omega arith
@@ -64,22 +69,39 @@ less-bits m = sub-eq (1074 * 2 ^ 52 + m) middleBits m (3 * 2 ^ 51) (omega arith)
 less-again : (x : Float) (s : Bool) (k : ℕ) → k < 2 ^ 51 → Whole (add binary64 x middle) false (digits s k) → sub binary64 (add binary64 x middle) middle ≡ ofInt binary64 (cond s (negℤ (pos k)) (pos k))
 less-again x s k h w = difference-of binary64 (pos (digits s k)) (pos (3 * 2 ^ 51)) w middle-is ∙ ap (ofInt binary64) (less-middle s k h)
 
-module _ {x : Float} {z : ℤ} (n : NearestTo x z) where
-  sum-is : Whole (add binary64 x middle) false (digits (n .sign) (n .count))
-  sum-is =
-      let c = n .den in
-      let k = n .count in
-      let l : k * c + c ≤ 2 ^ 51 * c = omega (arith, mul-le-mul-right {m = k + 1} {n = 2 ^ 51} c (omega (arith, n .small))) in
-      let h = n .close in
-      sum-nearest binary64 middle-is (n .above) (omega (arith, l, h .under)) (omega (arith, l, h .under)) h (n .sign) (n .is)
+pub nearest-counts : {x : Float} {z : ℤ} → NearestTo x z → Counts x z
+nearest-counts {x} {z} n =
+    let c = n .den in
+    let k = n .count in
+    let l : k * c + c ≤ 2 ^ 51 * c = omega (arith, mul-le-mul-right {m = k + 1} {n = 2 ^ 51} c (omega (arith, n .small))) in
+    let h = n .close in
+    record {
+      sign = n .sign;
+      count = k;
+      small = n .small;
+      sum = sum-nearest binary64 middle-is (n .above) (omega (arith, l, h .under)) (omega (arith, l, h .under)) h (n .sign) (n .is);
+      value = n .value;
+    }
+
+pub nearest-nothing : {x : Float} → Whole x false 0 → Counts x (pos 0)
+nearest-nothing w =
+    nearest-counts (record { sign = false; num = 0; den = 1; count = 0; above = lit< tt; is = w; close = record { over = lit< tt; under = lit< tt }; small = lit< tt; value = refl })
+
+signed-most : (s : Bool) (k : ℕ) → k < 2 ^ 51 → natAbs (cond s (negℤ (pos k)) (pos k)) ≤ 2 ^ 51
+signed-most true k h = rw (abs-neg (pos k)) (omega (arith, h))
+signed-most false k h = omega (arith, h)
+
+module _ {x : Float} {z : ℤ} (n : Counts x z) where
+  pub counts-most : natAbs z ≤ 2 ^ 51
+  counts-most = subst (λ z. natAbs z ≤ 2 ^ 51) (n .value) (signed-most (n .sign) (n .count) (n .small))
 
   -- as a float
   pub nearest-again : sub binary64 (add binary64 x middle) middle ≡ ofInt binary64 z
-  nearest-again = less-again x (n .sign) (n .count) (n .small) sum-is ∙ ap (ofInt binary64) (n .value)
+  nearest-again = less-again x (n .sign) (n .count) (n .small) (n .sum) ∙ ap (ofInt binary64) (n .value)
 
   -- by bits
   sum-bits : toBits binary64 (add binary64 x middle) ≡ 1074 * 2 ^ 52 + digits (n .sign) (n .count)
-  sum-bits = whole-bits binary64 sum-is (digits-low (n .sign) (n .count) (n .small)) (digits-high (n .sign) (n .count) (n .small))
+  sum-bits = whole-bits binary64 (n .sum) (digits-low (n .sign) (n .count) (n .small)) (digits-high (n .sign) (n .count) (n .small))
 
   pub nearest-bits : pos (toBits binary64 (add binary64 x middle)) -ℤ pos middleBits ≡ z
   nearest-bits = ap (λ b. pos b -ℤ pos middleBits) sum-bits ∙ less-bits (digits (n .sign) (n .count)) ∙ less-middle (n .sign) (n .count) (n .small) ∙ n .value
@@ -89,7 +111,56 @@ module _ {x : Float} {z : ℤ} (n : NearestTo x z) where
 
   pub sum-number : T (not (isNan (add binary64 x middle)))
   unfolding isNan
-  sum-number = subst (λ y. T (not (isNan y))) (sym (sum-is .is)) tt
+  sum-number = subst (λ y. T (not (isNan y))) (sym (n .sum .is)) tt
+
+-- ---- any float of less than 2^50: it is rounded to a whole number within a half
+
+pub record Within (x : Float) (s : Bool) (a c : ℕ) : Type 0 where
+  pub count : ℕ
+  pub counts : Counts x (cond s (negℤ (pos count)) (pos count))
+  pub near : WithinHalf count a c
+
+within-small : (k a c : ℕ) → a < 2 ^ 50 * c → WithinHalf k a c → k < 2 ^ 51
+within-small k a c h w = lt-of-mul-lt-mul-right c (omega (arith, w .over))
+
+pub within-counts : (s : Bool) {x : Float} {a c : ℕ} → Is x s a c → 0 < c → a < 2 ^ 50 * c → Within x s a c
+within-counts false {x} {a} {c} p C h =
+    let n = closest (3 * 2 ^ 51 * c + a) c in
+    let w = closest-within (3 * 2 ^ 51 * c + a) c C in
+    let l : 3 * 2 ^ 51 < n + 1 = lt-of-mul-lt-mul-right c (omega (arith, w .under)) in
+    let e : n ≡ 3 * 2 ^ 51 + (n - 3 * 2 ^ 51) = omega (arith, l) in
+    let f = ap (λ z. z * c) e in
+    let near : WithinHalf (n - 3 * 2 ^ 51) a c = record { over = omega (arith, w .over, f); under = omega (arith, w .under, f) } in
+    record {
+      count = n - 3 * 2 ^ 51;
+      counts = record {
+        sign = false;
+        count = n - 3 * 2 ^ 51;
+        small = within-small (n - 3 * 2 ^ 51) a c h near;
+        sum = subst (λ n. Whole (add binary64 x middle) false n) e (sum-closest binary64 middle-is C (omega arith) (omega arith) false p);
+        value = refl;
+      };
+      near = near;
+    }
+within-counts true {x} {a} {c} p C h =
+    let n = closest (3 * 2 ^ 51 * c - a) c in
+    let w = closest-within (3 * 2 ^ 51 * c - a) c C in
+    let l : n < 3 * 2 ^ 51 + 1 = lt-of-mul-lt-mul-right c (omega (arith, w .over)) in
+    let e : 3 * 2 ^ 51 ≡ n + (3 * 2 ^ 51 - n) = omega (arith, l) in
+    let m : n ≡ 3 * 2 ^ 51 - (3 * 2 ^ 51 - n) = omega (arith, l) in
+    let f = ap (λ z. z * c) e in
+    let near : WithinHalf (3 * 2 ^ 51 - n) a c = record { over = omega (arith, w .under, f); under = omega (arith, w .over, f) } in
+    record {
+      count = 3 * 2 ^ 51 - n;
+      counts = record {
+        sign = true;
+        count = 3 * 2 ^ 51 - n;
+        small = within-small (3 * 2 ^ 51 - n) a c h near;
+        sum = subst (λ n. Whole (add binary64 x middle) false n) m (sum-closest binary64 middle-is C (omega arith) (omega arith) true p);
+        value = refl;
+      };
+      near = near;
+    }
 
 -- ---- a fraction between two floats of one sign, whose sums with 1.5·2^52 are equal
 

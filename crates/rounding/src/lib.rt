@@ -11,6 +11,11 @@ pub const MIDDLE_BITS: i64 = 4843621399236968448;
 // 2^-31·(1 + 2^-52): a product with it lies above the quotient by 2^31, by too little for anything but a half to be rounded otherwise
 pub const BY_2_31: f64 = 0.00000000046566128730773936121007656912846;
 
+// 2^31, and 2^-31·(1 - 2^-53): a product with the last lies below the quotient by 2^31, so that a half is rounded down
+pub const TWO_31: f64 = 2147483648.0;
+
+pub const UNDER_2_31: f64 = 0.00000000046566128730773920611371171543577;
+
 // |z|
 pub fn magnitude(z: i64) -> u64
     requires { ⌜ natAbs z < 2 ^ 63 ⌝ }

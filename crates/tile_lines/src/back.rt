@@ -140,9 +140,9 @@ pub fn halves(h: &[f64; 32], x: &mut [f64; 32])
     }
 }
 
-// The same by value, for other callers than the merge of side 16: `halves` has that one alone, so that it is compiled into it.
+// The same by value, for numbers of up to 2^35 and other callers than the merge of side 16: `halves` has that one alone, so that it is compiled into it.
 pub fn halves_of(h: &[f64; 32]) -> [f64; 32]
-    ensures { λ r. ⌜ HalvesOf side16 (columnMost true) 32 (now (h .entry)) r ⌝ }
+    ensures { λ r. ⌜ HalvesOf side16 (2 ^ 35) 32 (now (h .entry)) r ⌝ }
 {
     let s0 = even_of(h, 0);
     let s1 = even_of(h, 1);

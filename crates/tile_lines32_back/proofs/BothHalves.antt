@@ -1,20 +1,20 @@
 -- A line that a loop stores in both halves at once: number n and number n + h, which are the sums and the differences of two shorter lines.
 use mathlib.Core.Path.{fun-ext}
-use Rattle.tile_lines32_back.specs.Prelude.{_≡_, refl, sym, ap, ap₂, _∙_, Bool, true, false, cond, List, ℕ, zero, suc, _+_, _-_, _*_, _/_, _%_, _^_, _≤_, _<_, arith, eqb, ltb, length, getD, set, ℤ, natAbs, _+ℤ_, _-ℤ_, _*ℤ_, Float, nan, binary64, ofInt, add, sub, sumZ, tab, side32, basisOf, halfBasisOf, backwardOf, halfSumOf, oddSumOf, doubleLine, longColumnMost}
+use Rattle.tile_lines32_back.specs.Prelude.{_≡_, refl, sym, ap, ap₂, _∙_, Bool, true, false, cond, List, ℕ, zero, suc, _+_, _-_, _*_, _/_, _%_, _^_, _≤_, _<_, arith, eqb, ltb, lit≤, length, getD, set, ℤ, natAbs, _+ℤ_, _-ℤ_, Float, nan, binary64, ofInt, add, sub, tab, side32, basisOf, backwardOf, halfSumOf, oddSumOf, doubleLine, longColumnMost}
+use native.Mathlib.Nat.{le-trans}
 use native.Mathlib.Decide.{ℕ-discrete}
 use borrow.Author.Tests.{eq-eqb, ne-eqb, ltb-true, ltb-false}
 use lib.ListN.{length-set}
 use lib.Seq.{getD-set-same, getD-set-other}
-use Rattle.algebra.specs.Order.{abs-mul-le}
-use Rattle.algebra.specs.SumLaws.{abs-sum-bound}
 use Rattle.sequences.specs.TabLaws.{Filled, fill-turn, getD-tab}
 use Rattle.sequences.specs.Grid.{tab-ext, tab-of}
 use Rattle.recipe.specs.Tables.{side16}
 use Rattle.recipe.specs.TableLaws.{rules16}
 use Rattle.recipe.specs.TableLaws32.{rules32, doubled32}
 use Rattle.tile_spectrum.specs.Lines.SideSums.{Halves, back-halves, half-halves, even-back, even-half}
-use Rattle.tile_spectrum.specs.Lines.HalfSumLaws.{basis-most, half-basis-most}
+use Rattle.tile_spectrum.specs.Lines.BackSizes.{backward-most, half-sum-most, weighed}
 use Rattle.tile_spectrum.specs.Lines.DoubleForms.{sum-exact, difference-exact}
+use Rattle.tile_lines32_back.proofs.PartSums.{partSum, odd-sum}
 
 -- ---- the loop
 
@@ -118,21 +118,16 @@ first-two z e = tab-ext 32 _ _ (λ l h. number 64 z e (4 * (l / 2) + l % 2) (ome
 -- ---- the sums of two lines
 
 -- the sums of sixteen places are small
-module _ (z : ℕ → ℤ) (most : (k : ℕ) → natAbs (z k) ≤ longColumnMost true) (n : ℕ) where
-  sixteen-most : (w : ℕ → ℤ) → ((k : ℕ) → natAbs (w k) ≤ 16384) → natAbs (sumZ 16 (λ k. z k *ℤ w k)) ≤ 2 ^ 52
-  sixteen-most w m = omega (arith, abs-sum-bound 16 (longColumnMost true * 16384) (λ k. z k *ℤ w k) (λ k h. abs-mul-le (z k) (w k) (most k) (m k)))
-
+module _ (z : ℕ → ℤ) (most : (k : ℕ) → natAbs (z k) ≤ longColumnMost false true) (n : ℕ) where
   pub odd-most : natAbs (oddSumOf side32 z n) ≤ 2 ^ 52
   unfolding oddSumOf side32
-  odd-most = sixteen-most (λ k. basisOf side32 (2 * k + 1) n) (λ k. basis-most rules32 (2 * k + 1) n)
+  odd-most = le-trans (weighed z most 16 (λ k. basisOf side32 (2 * k + 1) n) (2 * partSum) (odd-sum n)) (lit≤ tt)
 
   pub even-most : natAbs (backwardOf side16 z n) ≤ 2 ^ 52
-  unfolding backwardOf side16
-  even-most = sixteen-most (λ k. basisOf side16 k n) (λ k. basis-most rules16 k n)
+  even-most = le-trans (backward-most z most n) (lit≤ tt)
 
   pub half-most : natAbs (halfSumOf side16 z n) ≤ 2 ^ 52
-  unfolding halfSumOf side16
-  half-most = sixteen-most (λ k. halfBasisOf side16 k n) (λ k. half-basis-most rules16 k n)
+  half-most = le-trans (half-sum-most z most n) (lit≤ tt)
 
 -- number n of a line, from the doubles of its parts e and o
 module _ {s t : List Float} {m : ℕ} (e o : ℕ → ℤ) (p : s ≡ doubleLine m e) (q : t ≡ doubleLine m o) (n : ℕ) (h : n < m) (a : natAbs (e n) ≤ 2 ^ 52) (b : natAbs (o n) ≤ 2 ^ 52) where
@@ -164,7 +159,7 @@ module _ (z : ℕ → ℤ) where
 
 -- ---- the columns
 
-module _ (z : ℕ → ℤ) (most : (k : ℕ) → natAbs (z k) ≤ longColumnMost true) {s t : List Float} (p : s ≡ doubleLine 16 (backwardOf side16 (λ k. z (2 * k)))) (q : t ≡ doubleLine 16 (oddSumOf side32 (λ k. z (2 * k + 1)))) (n : ℕ) (h : n < 16) where
+module _ (z : ℕ → ℤ) (most : (k : ℕ) → natAbs (z k) ≤ longColumnMost false true) {s t : List Float} (p : s ≡ doubleLine 16 (backwardOf side16 (λ k. z (2 * k)))) (q : t ≡ doubleLine 16 (oddSumOf side32 (λ k. z (2 * k + 1)))) (n : ℕ) (h : n < 16) where
   pub column-low : add binary64 (getD s n nan) (getD t n nan) ≡ ofInt binary64 (backwardOf side32 z n)
   column-low =
       low-is _ _ p q n h (even-most (λ k. z (2 * k)) (λ k. most (2 * k)) n) (odd-most (λ k. z (2 * k + 1)) (λ k. most (2 * k + 1)) n) (long-halves z .low n)
@@ -194,7 +189,7 @@ module _ (g : ℕ → ℕ → ℤ) where
   pub row-odds : doubleLine 32 (λ l. oddSumOf side32 (λ k. rows (4 * k + 2 + l % 2)) (l / 2)) ≡ doubleLine 32 (λ l. oddSumOf side32 (λ k. g (l % 2) (2 * k + 1)) (l / 2))
   row-odds = tab-ext 32 _ _ (λ l h. ap (λ (f : ℕ → ℤ). ofInt binary64 (oddSumOf side32 f (l / 2))) (fun-ext (λ k. row-odd (l % 2) k (omega arith))))
 
-  module _ (most : (p k : ℕ) → natAbs (g p k) ≤ longColumnMost true) {s t : List Float} (p : s ≡ doubleLine 32 (λ l. halfSumOf side16 (λ k. g (l % 2) (2 * k)) (l / 2))) (q : t ≡ doubleLine 32 (λ l. oddSumOf side32 (λ k. g (l % 2) (2 * k + 1)) (l / 2))) (l : ℕ) (h : l < 32) where
+  module _ (most : (p k : ℕ) → natAbs (g p k) ≤ longColumnMost false true) {s t : List Float} (p : s ≡ doubleLine 32 (λ l. halfSumOf side16 (λ k. g (l % 2) (2 * k)) (l / 2))) (q : t ≡ doubleLine 32 (λ l. oddSumOf side32 (λ k. g (l % 2) (2 * k + 1)) (l / 2))) (l : ℕ) (h : l < 32) where
     abbrev line : ℕ → ℤ
     line = g (l % 2)
 

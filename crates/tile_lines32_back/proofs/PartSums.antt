@@ -1,4 +1,4 @@
--- The odd places' sum of a line of thirty-two from its two parts, in whole numbers and, where noise is low, in double; and how large a part is.
+-- The odd places' sum of a line of thirty-two from its two parts, in whole numbers and, where noise is low or middle, in double; and how large a part is.
 use Rattle.tile_lines32_back.specs.Prelude.{_≡_, refl, ap, ap₂, _∙_, Bool, true, false, cond, List, [], _∷_, ℕ, _+_, _-_, _*_, _%_, _^_, _≤_, arith, eqb, ltb, lit≤, getD, ℤ, natAbs, _+ℤ_, _-ℤ_, Float, nan, Expr, con, _⊞_, _⊟_, _⊠_, sumZ, sumN, rings, sumE, tab, Form, var, plus, minus, cosAt, cosines32, cosine32, side32, halfZ, frequencyOf, phaseOf, basisOf, oddSumOf, longColumnMost, doubleLine, From}
 use native.Mathlib.Nat.{le-trans}
 use Rattle.algebra.specs.Ring as ring
@@ -55,6 +55,11 @@ module _ {b : ℕ} (z : ℕ → ℤ) (most : (k : ℕ) → natAbs (z k) ≤ b) (
   unfolding sinePart
   sine-most = weighed (λ k. z (8 + k)) (λ k. most (8 + k)) 8 (λ k. partBasis (2 * k + 17) n) partSum (sine-sum n)
 
+-- and over all odd places
+pub odd-sum : (n : ℕ) → sumN 16 (λ k. natAbs (basisOf side32 (2 * k + 1) n)) ≤ 2 * partSum
+unfolding sumN basisOf frequencyOf phaseOf cosAt side32 cosine32 cosines32
+odd-sum = summed side32 (λ k. basisOf side32 (2 * k + 1)) (λ k. basis-period side32 (2 * k + 1)) 16 (2 * partSum) tt
+
 -- ---- in double
 
 -- var 0 to 3 are cosine parts at even numbers, 4 to 7 at odd ones; 8 to 11 are sine parts at even numbers, 12 to 15 at odd ones
@@ -68,7 +73,7 @@ fourths a b c d i = cond (ltb i 4) (a i) (cond (ltb i 8) (b (i - 4)) (cond (ltb 
 abbrev pub joinedD : (a b c d : List Float) → List Float
 joinedD a b c d = floats joins (fourths (λ i. getD a i nan) (λ i. getD b i nan) (λ i. getD c i nan) (λ i. getD d i nan))
 
-module _ (g : ℕ → ℤ) (most : (k : ℕ) → natAbs (g k) ≤ longColumnMost true) where
+module _ (g : ℕ → ℤ) (most : (k : ℕ) → natAbs (g k) ≤ longColumnMost false true) where
   abbrev parts : ℕ → ℤ
   parts = fourths (λ n. cosinePart g (2 * n)) (λ n. cosinePart g (2 * n + 1)) (λ n. sinePart g (2 * n + 2)) (λ n. sinePart g (2 * n + 1))
 
@@ -90,7 +95,7 @@ module _ (g : ℕ → ℤ) (most : (k : ℕ) → natAbs (g k) ≤ longColumnMost
   unfolding tab
   parts-join = forms-are 16 parts parts-most refl joins (exprs 16 joins) tt tt ∙ ap inDouble (joined-are g)
 
-pub joined-doubles : {a b c d : List Float} (w : InParts (longColumnMost true) a b c d) → joinedD a b c d ≡ doubleLine 16 (oddSumOf side32 (w .number))
+pub joined-doubles : {a b c d : List Float} (w : InParts (longColumnMost false true) a b c d) → joinedD a b c d ≡ doubleLine 16 (oddSumOf side32 (w .number))
 joined-doubles {a} {b} {c} {d} w =
     let g = w .number in
     ap₂ (λ a b. joinedD a b c d) (w .even-cosines) (w .odd-cosines)
@@ -99,10 +104,10 @@ joined-doubles {a} {b} {c} {d} w =
 
 -- ---- from the kernels
 
-abbrev pub parts-of : {m : ℕ} {o a b c d : List Float} (g : ℕ → ℤ) → ((k : ℕ) → natAbs (g k) ≤ m) → m ≤ longColumnMost false → o ≡ doubleLine 16 g
-    → From (longColumnMost false) 16 o (λ g. a ≡ doubleLine 4 (λ n. cosinePart g (2 * n))) → From (longColumnMost false) 16 o (λ g. b ≡ doubleLine 4 (λ n. cosinePart g (2 * n + 1)))
-    → From (longColumnMost false) 16 o (λ g. c ≡ doubleLine 4 (λ n. sinePart g (2 * n + 2))) → From (longColumnMost false) 16 o (λ g. d ≡ doubleLine 4 (λ n. sinePart g (2 * n + 1)))
+abbrev pub parts-of : {m : ℕ} {o a b c d : List Float} (g : ℕ → ℤ) → ((k : ℕ) → natAbs (g k) ≤ m) → m ≤ longColumnMost false false → o ≡ doubleLine 16 g
+    → From (longColumnMost false false) 16 o (λ g. a ≡ doubleLine 4 (λ n. cosinePart g (2 * n))) → From (longColumnMost false false) 16 o (λ g. b ≡ doubleLine 4 (λ n. cosinePart g (2 * n + 1)))
+    → From (longColumnMost false false) 16 o (λ g. c ≡ doubleLine 4 (λ n. sinePart g (2 * n + 2))) → From (longColumnMost false false) 16 o (λ g. d ≡ doubleLine 4 (λ n. sinePart g (2 * n + 1)))
     → InParts m a b c d
 parts-of g most l e p q r s =
-    let less : (k : ℕ) → natAbs (g k) ≤ longColumnMost false = λ k. le-trans (most k) l in
+    let less : (k : ℕ) → natAbs (g k) ≤ longColumnMost false false = λ k. le-trans (most k) l in
     record { number = g; most = most; even-cosines = p g less e; odd-cosines = q g less e; even-sines = r g less e; odd-sines = s g less e }

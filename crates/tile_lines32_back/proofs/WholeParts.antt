@@ -1,20 +1,20 @@
 -- The sums of two rows of thirty-two places whatever the noise: four parts of a row's sum are whole numbers of at most 2^53 in double, and in 64 bits they make
 -- half of the sum back.
 use mathlib.Core.Path.{fun-ext}
-use Rattle.tile_lines32_back.specs.Prelude.{_≡_, sym, ap, ap₂, subst, _∙_, false, List, ℕ, _+_, _*_, _/_, _%_, _^_, _≤_, _<_, arith, lit≤, getD, ℤ, pos, natAbs, _+ℤ_, _-ℤ_, Float, nan, sumN, tab, cosAt, cosines32, cosine32, side32, frequencyOf, phaseOf, basisOf, halfSumOf, oddSumOf, columnMost, longColumnMost, doubleLine, WholeDouble, WholeRow}
+use Rattle.tile_lines32_back.specs.Prelude.{_≡_, sym, ap, ap₂, subst, _∙_, false, List, ℕ, _+_, _*_, _/_, _%_, _^_, _≤_, _<_, arith, lit≤, getD, ℤ, pos, natAbs, _+ℤ_, _-ℤ_, Float, nan, tab, side32, basisOf, halfSumOf, oddSumOf, columnMost, longColumnMost, doubleLine, WholeDouble, WholeRow}
 use native.Mathlib.Nat.{le-trans}
 use Rattle.sequences.specs.TabLaws.{getD-tab}
 use Rattle.recipe.specs.Tables.{side16}
-use Rattle.tile_spectrum.specs.Lines.BackSizes.{half-sum-most, basis-period, summed, weighed}
+use Rattle.tile_spectrum.specs.Lines.BackSizes.{half-sum-most, weighed}
 use Rattle.tile_spectrum.specs.Lines.Lines.{LineMost}
 use Rattle.tile_spectrum.specs.Lines.Tiles.{line-most}
 use Rattle.tile_lines32_back.specs.Parts.{cosinePart, sinePart, InParts}
 use Rattle.tile_lines32_back.proofs.BothHalves.{number, long-half}
-use Rattle.tile_lines32_back.proofs.PartSums.{partSum, cosine-most, sine-most}
+use Rattle.tile_lines32_back.proofs.PartSums.{partSum, odd-sum, cosine-most, sine-most}
 
 -- ---- the parts of a row's odd places
 
-module _ {a b c d : List Float} (w : InParts (longColumnMost false) a b c d) (i : ℕ) (h : i < 4) where
+module _ {a b c d : List Float} (w : InParts (longColumnMost false false) a b c d) (i : ℕ) (h : i < 4) where
   abbrev pub even-cosine : WholeDouble (2 ^ 53) (getD a i nan)
   even-cosine = record { number = cosinePart (w .number) (2 * i); most = le-trans (cosine-most (w .number) (w .most) (2 * i)) (lit≤ tt); is = number 4 _ (w .even-cosines) i h }
 
@@ -32,20 +32,16 @@ module _ {a b c d : List Float} (w : InParts (longColumnMost false) a b c d) (i 
 pub whole-number : (n : ℕ) {x : List ℤ} (z : ℕ → ℤ) → x ≡ tab n z → (i : ℕ) → i < n → getD x i (pos 0) ≡ z i
 whole-number n z e i h = ap (λ x. getD x i (pos 0)) e ∙ getD-tab z (pos 0) n i h
 
-odd-sum : (n : ℕ) → sumN 16 (λ k. natAbs (basisOf side32 (2 * k + 1) n)) ≤ 2 * partSum
-unfolding sumN basisOf frequencyOf phaseOf cosAt side32 cosine32 cosines32
-odd-sum = summed side32 (λ k. basisOf side32 (2 * k + 1)) (λ k. basis-period side32 (2 * k + 1)) 16 (2 * partSum) tt
-
-odd-most : (z : ℕ → ℤ) → ((k : ℕ) → natAbs (z k) ≤ longColumnMost false) → (n : ℕ) → natAbs (oddSumOf side32 z n) ≤ 2 ^ 54
+odd-most : (z : ℕ → ℤ) → ((k : ℕ) → natAbs (z k) ≤ longColumnMost false false) → (n : ℕ) → natAbs (oddSumOf side32 z n) ≤ 2 ^ 54
 unfolding oddSumOf side32
 odd-most z most n = le-trans (weighed z most 16 (λ k. basisOf side32 (2 * k + 1) n) (2 * partSum) (odd-sum n)) (lit≤ tt)
 
-pub odd-line-most : (z : ℕ → ℤ) → ((k : ℕ) → natAbs (z k) ≤ longColumnMost false) → {t : List ℤ} → t ≡ tab 16 (oddSumOf side32 z) → LineMost (2 ^ 54) t
+pub odd-line-most : (z : ℕ → ℤ) → ((k : ℕ) → natAbs (z k) ≤ longColumnMost false false) → {t : List ℤ} → t ≡ tab 16 (oddSumOf side32 z) → LineMost (2 ^ 54) t
 odd-line-most z most e = subst (LineMost (2 ^ 54)) (sym e) (line-most (2 ^ 54) _ (odd-most z most) 16)
 
 -- ---- two rows: places of row p are those of f at 2k + p
 
-module _ (f : ℕ → ℤ) (most : (k : ℕ) → natAbs (f k) ≤ longColumnMost false) where
+module _ (f : ℕ → ℤ) (most : (k : ℕ) → natAbs (f k) ≤ longColumnMost false false) where
   -- the even places as a row of sixteen
   abbrev pub evens-row : {e : List Float} → e ≡ doubleLine 32 (λ l. f (4 * (l / 2) + l % 2)) → WholeRow (columnMost false) e
   evens-row e = record { number = λ l. f (4 * (l / 2) + l % 2); most = λ l. omega (arith, most (4 * (l / 2) + l % 2)); is = e }

@@ -5,7 +5,7 @@ use native.Mathlib.Nat.{le-trans}
 use Rattle.sequences.specs.Grid.{grid, cell, grid-ext}
 use Rattle.recipe.specs.Correction.{quantized, filtered, correctionAt}
 use Rattle.tile_spectrum.specs.Lines.Tiles.{cells-most}
-use Rattle.tile_spectrum.specs.Magnitudes.{longNoiseMost, longLowNoise}
+use Rattle.tile_spectrum.specs.Magnitudes.{longNoiseMost, longLowNoise, longMiddleNoise}
 use Rattle.tile_spectrum.specs.Turns.{turns32}
 use Rattle.tile_spectrum.specs.SpectrumLaws.{bin-re-of, bin-im-of}
 use Rattle.tile_spectrum.specs.WienerLaws.{wiener-root}
@@ -29,33 +29,35 @@ abbrev pub binned-pair : {d : List (List ℤ)} → TileMost differenceMost d →
 binned-pair {d} m e = record { plane = λ p. twoWayOf side32 (planeIn (cell (pos 0) d) p); first = plane-binned m 0; second = plane-binned m 1; is = e }
 
 -- V in terms of half its root
-root-most : (low : Bool) (n : ℕ) → (low ≡ true → n ≤ longLowNoise) → n ≤ longNoiseMost → n ≤ 4 * longPartMost low * longPartMost low
-root-most true n h k = le-trans (h refl) (lit≤ tt)
-root-most false n h k = le-trans k (lit≤ tt)
+root-most : (low middle : Bool) (n : ℕ) → (low ≡ true → n ≤ longLowNoise) → (middle ≡ true → n ≤ longMiddleNoise) → n ≤ longNoiseMost → n ≤ 4 * longPartMost low middle * longPartMost low middle
+root-most true middle n h m k = le-trans (h refl) (lit≤ tt)
+root-most false true n h m k = le-trans (m refl) (lit≤ tt)
+root-most false false n h m k = le-trans k (lit≤ tt)
 
-part-above : (low : Bool) → 0 < longPartMost low
-part-above true = lit< tt
-part-above false = lit< tt
+part-above : (low middle : Bool) → 0 < longPartMost low middle
+part-above true middle = lit< tt
+part-above false true = lit< tt
+part-above false false = lit< tt
 
-gain-most : (low : Bool) (noise : ℕ) (b c : ℤ) → noise ≤ 4 * longPartMost low * longPartMost low → natAbs (filtered side32 noise b c) ≤ longPartMost low
+gain-most : (low middle : Bool) (noise : ℕ) (b c : ℤ) → noise ≤ 4 * longPartMost low middle * longPartMost low middle → natAbs (filtered side32 noise b c) ≤ longPartMost low middle
 unfolding filtered
-gain-most low noise b c h = wiener-root noise (longPartMost low) (quantized side32 b) (quantized side32 c) (part-above low) h
+gain-most low middle noise b c h = wiener-root noise (longPartMost low middle) (quantized side32 b) (quantized side32 c) (part-above low middle) h
 
 module _ (first second : ℕ) (t : ℕ → ℕ → ℕ → ℤ) where
   abbrev pub folded : ℕ → ℕ → ℕ → ℤ
   folded p = spreadOf side32 (gainReOf side32 (either first second p) (t p)) (gainImOf side32 (either first second p) (t p))
 
-  module _ (low : Bool) (few : low ≡ true → (first ≤ longLowNoise) × (second ≤ longLowNoise)) (h : first ≤ longNoiseMost) (k : second ≤ longNoiseMost) where
-    noise-most : (p : ℕ) → either first second p ≤ 4 * longPartMost low * longPartMost low
-    noise-most p = cond-cases (λ n. n ≤ 4 * longPartMost low * longPartMost low) (eqb p 0) (root-most low first (λ e. few e .0) h) (root-most low second (λ e. few e .1) k)
+  module _ (low middle : Bool) (few : low ≡ true → (first ≤ longLowNoise) × (second ≤ longLowNoise)) (some : middle ≡ true → (first ≤ longMiddleNoise) × (second ≤ longMiddleNoise)) (h : first ≤ longNoiseMost) (k : second ≤ longNoiseMost) where
+    noise-most : (p : ℕ) → either first second p ≤ 4 * longPartMost low middle * longPartMost low middle
+    noise-most p = cond-cases (λ n. n ≤ 4 * longPartMost low middle * longPartMost low middle) (eqb p 0) (root-most low middle first (λ e. few e .0) (λ e. some e .0) h) (root-most low middle second (λ e. few e .1) (λ e. some e .1) k)
 
-    pub folded-most : (p x b : ℕ) → natAbs (folded p x b) ≤ longFoldMost low
+    pub folded-most : (p x b : ℕ) → natAbs (folded p x b) ≤ longFoldMost low middle
     unfolding gainReOf gainImOf side32
     folded-most p x b =
-        spread-most (longPartMost low) (gainReOf side32 (either first second p) (t p)) (gainImOf side32 (either first second p) (t p))
-        (λ u v. gain-most low (either first second p) _ _ (noise-most p)) (λ u v. gain-most low (either first second p) _ _ (noise-most p)) x b
+        spread-most (longPartMost low middle) (gainReOf side32 (either first second p) (t p)) (gainImOf side32 (either first second p) (t p))
+        (λ u v. gain-most low middle (either first second p) _ _ (noise-most p)) (λ u v. gain-most low middle (either first second p) _ _ (noise-most p)) x b
 
-    abbrev pub folded-whole : {g : List (List Float)} → g ≡ longDoubles (sideBySide (λ p. transposed (folded p))) → LongInDouble (longFoldMost low) g
+    abbrev pub folded-whole : {g : List (List Float)} → g ≡ longDoubles (sideBySide (λ p. transposed (folded p))) → LongInDouble (longFoldMost low middle) g
     folded-whole e = record { number = sideBySide (λ p. transposed (folded p)); most = λ y l. folded-most (l % 2) (l / 2) y; is = e }
 
 -- lane 2·k + p is place k of plane p

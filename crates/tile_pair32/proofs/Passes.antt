@@ -42,18 +42,19 @@ away-half (negsuc a) b e =
     ap (λ n. negℤ (pos n)) (halved (suc a)) ∙ sym (away-odd (pos (2 * suc a)) (2 ^ 32) (lit< tt)) ∙ ap (λ b. away b (2 ^ 32)) e
 
 -- the sums back down the columns
-pub fold-most : (low : Bool) (n : ℕ) → n ≤ longFoldMost low → n ≤ longFoldMost false
-fold-most true n h = omega (arith, h)
-fold-most false n h = h
+pub fold-most : (low middle : Bool) (n : ℕ) → n ≤ longFoldMost low middle → n ≤ longFoldMost false false
+fold-most true middle n h = omega (arith, h)
+fold-most false true n h = omega (arith, h)
+fold-most false false n h = h
 
-abbrev pub any-fold : (low : Bool) {g : List (List Float)} → LongInDouble (longFoldMost low) g → LongInDouble (longFoldMost false) g
-any-fold low w = record { number = w .number; most = λ y l. fold-most low (natAbs (w .number y l)) (w .most y l); is = w .is }
+abbrev pub any-fold : (low middle : Bool) {g : List (List Float)} → LongInDouble (longFoldMost low middle) g → LongInDouble (longFoldMost false false) g
+any-fold low middle w = record { number = w .number; most = λ y l. fold-most low middle (natAbs (w .number y l)) (w .most y l); is = w .is }
 
-abbrev pub columns-whole : (low : Bool) {g a : List (List Float)} → ((w : LongInDouble (longFoldMost false) g) → a ≡ longDoubles (λ y l. backwardOf side32 (λ b. w .number b l) y)) → LongInDouble (longFoldMost low) g → LongInDouble (longColumnMost low) a
-columns-whole low f w = record {
+abbrev pub columns-whole : (low middle : Bool) {g a : List (List Float)} → ((w : LongInDouble (longFoldMost false false) g) → a ≡ longDoubles (λ y l. backwardOf side32 (λ b. w .number b l) y)) → LongInDouble (longFoldMost low middle) g → LongInDouble (longColumnMost low middle) a
+columns-whole low middle f w = record {
   number = λ y l. backwardOf side32 (λ b. w .number b l) y;
   most = λ y l. long-backward-most (λ b. w .number b l) (λ b. w .most b l) y;
-  is = f (any-fold low w);
+  is = f (any-fold low middle w);
 }
 
 -- and P of their halves along the rows, added to the tile t

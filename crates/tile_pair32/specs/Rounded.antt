@@ -1,6 +1,7 @@
 -- P of a whole number in double, as the code takes it.
-use Rattle.tile_pair32.specs.Prelude.{ℕ, ℤ, pos, _-ℤ_, Float, binary64, add, mul, toBits, middle, middleBits}
+use Rattle.tile_pair32.specs.Prelude.{ℕ, ℤ, pos, _+ℤ_, _-ℤ_, Float, binary64, add, mul, toBits, middle, middleBits}
 use Rattle.floats.specs.ProductLaws.{fraction}
+use Rattle.floats.specs.TwiceLaws.{firstPart, secondPart}
 
 -- x over 2^31, from the bits of its sum with 1.5·2^52
 unfoldable pub roundedBits : Float → ℕ
@@ -8,3 +9,13 @@ roundedBits x = toBits binary64 (add binary64 (mul binary64 x (fraction 31)) mid
 
 unfoldable pub roundedDouble : Float → ℤ
 roundedDouble x = pos (roundedBits x) -ℤ pos middleBits
+
+-- the same by two such sums
+unfoldable pub firstBits : Float → ℕ
+firstBits x = toBits binary64 (add binary64 (firstPart x) middle)
+
+unfoldable pub secondBits : Float → ℕ
+secondBits x = toBits binary64 (add binary64 (secondPart x) middle)
+
+unfoldable pub twiceDouble : Float → ℤ
+twiceDouble x = (pos (firstBits x) -ℤ pos middleBits) +ℤ (pos (secondBits x) -ℤ pos middleBits)

@@ -26,7 +26,7 @@ fn set_column(t: &mut [[f64; 64]; 32], l: usize, z: &[f64; 32])
 // g: the sums back down each column.
 pub fn back(g: &mut [[f64; 64]; 32])
     requires { ⌜ LongPaired nan (now g) ⌝ }
-    ensures { λ _. ⌜ ((w : LongInDouble (longFoldMost false) (now (g .entry))) → now (g .exit) ≡ longDoubles (λ y l. backwardOf side32 (λ b. w .number b l) y)) ⌝ }
+    ensures { λ _. ⌜ ((w : LongInDouble (longFoldMost false false) (now (g .entry))) → now (g .exit) ≡ longDoubles (λ y l. backwardOf side32 (λ b. w .number b l) y)) ⌝ }
 {
     for l in 0..64 {
         let c = column(&*g, l);

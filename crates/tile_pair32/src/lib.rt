@@ -5,6 +5,7 @@ mod rows;
 mod rows_back;
 
 use tile_bin::quiet::long_low_noise;
+use tile_bin::quiet::long_middle_noise;
 use tile_wiener::thirty_two::filter;
 use tile_wiener_exact::thirty_two::filter_exactly;
 ghost use Rattle.tile_pair32.specs.Prelude.{_≡_, _^_, _≤_, pos, nan, side32, differenceMost, longFoldMost, TileMost, byColumns, planeBins, pairGains, correctionIn, added, LongPaired, LongInDouble, LongInverseAdded, longDoubles};
@@ -33,13 +34,13 @@ fn gains(d: &[[i16; 64]; 32], first: u64, second: u64, b: &mut [[f64; 64]; 32])
     filter_exactly(&mut *b, first, second);
 }
 
-// P of both planes is added to their sums, from the folded G, in whose place the sums down its columns come; `low` where both noise numbers are.
-fn add_inverse(g: &mut [[f64; 64]; 32], low: bool, sum: &mut [[i64; 64]; 32])
-    requires { ⌜ record { whole : LongInDouble (longFoldMost low) (now g); sums-most : TileMost (2 ^ 40) (now sum); paired : LongPaired (pos 0) (now sum) } ⌝ }
-    ensures { λ _. ⌜ record { spare : LongPaired nan (now (g .exit)); is : LongInverseAdded (longFoldMost low) (now (g .entry)) (now (sum .entry)) (now (sum .exit)) } ⌝ }
+// P of both planes is added to their sums, from the folded G, in whose place the sums down its columns come; `low` and `middle` where both noise numbers are.
+fn add_inverse(g: &mut [[f64; 64]; 32], low: bool, middle: bool, sum: &mut [[i64; 64]; 32])
+    requires { ⌜ record { whole : LongInDouble (longFoldMost low middle) (now g); sums-most : TileMost (2 ^ 40) (now sum); paired : LongPaired (pos 0) (now sum) } ⌝ }
+    ensures { λ _. ⌜ record { spare : LongPaired nan (now (g .exit)); is : LongInverseAdded (longFoldMost low middle) (now (g .entry)) (now (sum .entry)) (now (sum .exit)) } ⌝ }
 {
     columns_back::back(&mut *g);
-    rows_back::add_back(&*g, low, &mut *sum);
+    rows_back::add_back(&*g, low, middle, &mut *sum);
 }
 
 // P of both planes of a pair of tiles of differences, at their noise numbers, is added to their sums. A tile b is lent for B and G, since they are large.
@@ -54,6 +55,7 @@ pub fn add_corrections(
     ensures { λ _. ⌜ record { spare : LongPaired nan (now (b .exit)); is : now (sum .exit) ≡ added 32 (now (sum .entry)) (correctionIn side32 first second (now (d .entry))) } ⌝ }
 {
     let low = long_low_noise(first, second);
+    let middle = long_middle_noise(first, second);
     gains(d, first, second, &mut *b);
-    add_inverse(&mut *b, low, &mut *sum);
+    add_inverse(&mut *b, low, middle, &mut *sum);
 }

@@ -78,3 +78,7 @@ longBinMost = 1591841547878400
 -- V up to which the inverse's last sums stay below 5·2^49
 abbrev pub longLowNoise : ℕ
 longLowNoise = 2 ^ 29
+
+-- V up to which they stay below 2^53
+abbrev pub longMiddleNoise : ℕ
+longMiddleNoise = 2 ^ 32

@@ -12,7 +12,7 @@ add-back-requires : of.Tie.Need-add-back-requires
 add-back-requires c κs =
     let a = c .before .before in
     let s = a .before .before in
-    record { whole = columns-whole (s .args .low) (a .back .ensures) (s .pre .whole); sums-most = s .pre .sums-most; paired = s .pre .paired }
+    record { whole = columns-whole (s .args .low) (s .args .middle) (a .back .ensures) (s .pre .whole); sums-most = s .pre .sums-most; paired = s .pre .paired }
 
 returns : of.Tie.Need-returns
 unfolding longDoubles
@@ -20,8 +20,8 @@ returns c =
     let a = c .before .before .before in
     let s = a .before .before in
     record {
-      spare = paired-grid _ (columns-whole (s .args .low) (a .back .ensures) (s .pre .whole) .is);
-      is = λ w. c .add-back .ensures (columns-whole (s .args .low) (a .back .ensures) w) ∙ back-is (w .number) (now (s .args .sum));
+      spare = paired-grid _ (columns-whole (s .args .low) (s .args .middle) (a .back .ensures) (s .pre .whole) .is);
+      is = λ w. c .add-back .ensures (columns-whole (s .args .low) (s .args .middle) (a .back .ensures) w) ∙ back-is (w .number) (now (s .args .sum));
     }
 
 pub add-inverse-spec : {M : Type 1} → of.Statement.statement M

@@ -67,15 +67,15 @@ longLineMost = 2 ^ 31 - 1
 abbrev pub longSumMost : ℕ
 longSumMost = 2 ^ 32
 
--- back, in double, and the last sums in 64 bits where noise is not low: `low` where the noise numbers are at most 2^29
+-- back, in double, and the last sums in 64 bits where noise is neither low nor middle: `low` where the noise numbers are at most 2^29, `middle` up to 2^32
 
--- a part of G: half the root of V, which is up to 2^29, or up to 69776441344
-abbrev pub longPartMost : (low : Bool) → ℕ
-longPartMost low = cond low 11586 132077
+-- a part of G: half the root of V, which is up to 2^29, up to 2^32, or up to 69776441344
+abbrev pub longPartMost : (low middle : Bool) → ℕ
+longPartMost low middle = cond low 11586 (cond middle 32768 132077)
 
 -- a number of the folded G, two parts
-abbrev pub longFoldMost : (low : Bool) → ℕ
-longFoldMost low = 2 * longPartMost low
+abbrev pub longFoldMost : (low middle : Bool) → ℕ
+longFoldMost low middle = 2 * longPartMost low middle
 
 -- what the magnitudes of the basis at a number add up to, at most, over the places of a line; for half of the sum; and over every second odd place
 abbrev pub longBasisSum : ℕ
@@ -85,9 +85,9 @@ abbrev pub longHalfBasisSum : ℕ
 longHalfBasisSum = 332696
 
 -- a sum back down a column
-abbrev pub longColumnMost : (low : Bool) → ℕ
-longColumnMost low = longFoldMost low * longBasisSum
+abbrev pub longColumnMost : (low middle : Bool) → ℕ
+longColumnMost low middle = longFoldMost low middle * longBasisSum
 
--- half of a sum back along a row: below 5·2^49 where noise is low, and else below 2^55
-abbrev pub longHalfMost : (low : Bool) → ℕ
-longHalfMost low = longColumnMost low * longHalfBasisSum
+-- half of a sum back along a row: below 5·2^49 where noise is low, below 2^53 where it is middle, and else below 2^55
+abbrev pub longHalfMost : (low middle : Bool) → ℕ
+longHalfMost low middle = longColumnMost low middle * longHalfBasisSum

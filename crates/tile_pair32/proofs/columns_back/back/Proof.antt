@@ -4,7 +4,7 @@ use Rattle.tile_pair32.proofs.ColumnLaws.{ColumnsSet, columns-start, co
 use Rattle.tile_pair32.proofs.columns_back.back as of
 
 abbrev Inv-loop : of.Tie.InvT-loop
-Inv-loop g₀ l₀ g l = ColumnsSet nan {H = LongInDouble (longFoldMost false) g₀} (λ w y l. ofInt binary64 (backwardOf side32 (λ b. w .number b l) y)) l g₀ g
+Inv-loop g₀ l₀ g l = ColumnsSet nan {H = LongInDouble (longFoldMost false false) g₀} (λ w y l. ofInt binary64 (backwardOf side32 (λ b. w .number b l) y)) l g₀ g
 
 abbrev μ-loop : of.Tie.MeasureT-loop
 μ-loop g₀ l₀ g l = 64 - l

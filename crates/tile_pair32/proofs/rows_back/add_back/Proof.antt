@@ -6,11 +6,11 @@ use Rattle.tile_pair32.proofs.Rounding.{whole-row, added-to}
 use Rattle.tile_pair32.proofs.rows_back.add_back as of
 
 abbrev Inv-loop : of.Tie.InvT-loop
-Inv-loop h low sum₀ y₀ sum y =
-    RowsSet {H = LongInDouble (longColumnMost low) h} (λ w y. tab 64 (λ l. cell (pos 0) sum₀ y l +ℤ away (halfSumOf side32 (planeIn (w .number) (l % 2) y) (l / 2)) (2 ^ 31))) y sum₀ sum
+Inv-loop h low middle sum₀ y₀ sum y =
+    RowsSet {H = LongInDouble (longColumnMost low middle) h} (λ w y. tab 64 (λ l. cell (pos 0) sum₀ y l +ℤ away (halfSumOf side32 (planeIn (w .number) (l % 2) y) (l / 2)) (2 ^ 31))) y sum₀ sum
 
 abbrev μ-loop : of.Tie.MeasureT-loop
-μ-loop h low sum₀ y₀ sum y = 16 - y
+μ-loop h low middle sum₀ y₀ sum y = 16 - y
 
 add-line-requires : of.Tie.Need-add-line-requires Inv-loop μ-loop
 add-line-requires c κs =
@@ -28,7 +28,7 @@ add-line-requires-2 c κs =
     let a = c .before .before in
     let l = a .before .before .before .before in
     let y = l .loop .y in
-    let e = rows-second (l .loop .inv) (omega arith) (a .add-line .last .1 .1 .0) in
+    let e = rows-second (l .loop .inv) (omega arith) (a .add-line .last .1 .1 .1 .0) in
     record {
       whole = whole-row (l .before .pre .whole) (16 + y) (omega arith);
       sums-most = subst (LineMost (2 ^ 40)) (sym e) (l .before .pre .sums-most .line (16 + y));
@@ -43,7 +43,7 @@ loop-again c =
     let y = l .loop .y in
     rows-turn (l .loop .inv) (omega arith)
     (λ w. a .add-line .ensures (whole-row w y (omega arith)) ∙ added-to _ (rows-first (l .loop .inv) (omega arith)))
-    (λ w. c .add-line2 .ensures (whole-row w (16 + y) (omega arith)) ∙ added-to _ (rows-second (l .loop .inv) (omega arith) (a .add-line .last .1 .1 .0)))
+    (λ w. c .add-line2 .ensures (whole-row w (16 + y) (omega arith)) ∙ added-to _ (rows-second (l .loop .inv) (omega arith) (a .add-line .last .1 .1 .1 .0)))
 
 returns : of.Tie.Need-returns Inv-loop μ-loop
 unfolding grid

@@ -1,5 +1,5 @@
 -- `tile_pair32::rows_back::add_line`: the halves, and P of them.
-use Rattle.algebra.specs.Prelude.{_∙_, true, false, needs, now}
+use Rattle.algebra.specs.Prelude.{refl, _∙_, true, false, needs, lit≤, now}
 use Rattle.tile_pair32.proofs.Rounding.{halves-row, row-at, whole-halves-most, whole-added}
 use Rattle.tile_pair32.proofs.rows_back.add_line as of
 
@@ -8,34 +8,63 @@ add-row-requires c κs =
     let x = c .before .before in
     let t = x .before .before in
     let s = t .before in
-    record { whole = halves-row (x .halves .ensures .is) (row-at (s .args .low) true (t .if1 .taken) (s .pre .whole)); sums-most = s .pre .sums-most; long = s .pre .long }
+    record {
+      whole = halves-row (x .halves .ensures .is) (lit≤ tt) (row-at (s .args .low) (s .args .middle) true (s .args .middle) (t .if1 .taken) refl (s .pre .whole));
+      sums-most = s .pre .sums-most;
+      long = s .pre .long;
+    }
 
 returns : of.Tie.Need-returns
 returns c w =
     let x = c .before .before .before in
     let t = x .before .before in
-    c .add-row .ensures (halves-row (x .halves .ensures .is) (row-at (t .before .args .low) true (t .if1 .taken) w))
+    let s = t .before in
+    c .add-row .ensures (halves-row (x .halves .ensures .is) (lit≤ tt) (row-at (s .args .low) (s .args .middle) true (s .args .middle) (t .if1 .taken) refl w))
 
-whole-halves-requires : of.Tie.Need-whole-halves-requires
-whole-halves-requires c κs =
-    let e = c .before in
-    let s = e .before in
-    (row-at (s .args .low) false (e .if1 .left) (s .pre .whole), search needs)
-
-add-whole-row-requires : of.Tie.Need-add-whole-row-requires
-add-whole-row-requires c κs =
+add-middle-row-requires : of.Tie.Need-add-middle-row-requires
+add-middle-row-requires c κs =
     let x = c .before .before in
-    let e = x .before .before in
+    let t = x .before .before in
+    let e = t .before in
     let s = e .before in
-    let w = row-at (s .args .low) false (e .if1 .left) (s .pre .whole) in
-    record { halves-most = whole-halves-most w (x .whole-halves .ensures w); sums-most = s .pre .sums-most; long = s .pre .long }
+    record {
+      whole = halves-row (x .halves2 .ensures .is) (lit≤ tt) (row-at (s .args .low) (s .args .middle) false true (e .if1 .left) (t .if2 .taken) (s .pre .whole));
+      sums-most = s .pre .sums-most;
+      long = s .pre .long;
+    }
 
 returns-2 : of.Tie.Need-returns-2
 returns-2 c w =
     let x = c .before .before .before in
-    let e = x .before .before in
+    let t = x .before .before in
+    let e = t .before in
     let s = e .before in
-    c .add-whole-row .ensures ∙ whole-added (now (s .args .sum)) _ (x .whole-halves .ensures (row-at (s .args .low) false (e .if1 .left) w))
+    c .add-middle-row .ensures (halves-row (x .halves2 .ensures .is) (lit≤ tt) (row-at (s .args .low) (s .args .middle) false true (e .if1 .left) (t .if2 .taken) w))
+
+whole-halves-requires : of.Tie.Need-whole-halves-requires
+whole-halves-requires c κs =
+    let f = c .before in
+    let e = f .before in
+    let s = e .before in
+    (row-at (s .args .low) (s .args .middle) false false (e .if1 .left) (f .if2 .left) (s .pre .whole), search needs)
+
+add-whole-row-requires : of.Tie.Need-add-whole-row-requires
+add-whole-row-requires c κs =
+    let x = c .before .before in
+    let f = x .before .before in
+    let e = f .before in
+    let s = e .before in
+    let w = row-at (s .args .low) (s .args .middle) false false (e .if1 .left) (f .if2 .left) (s .pre .whole) in
+    record { halves-most = whole-halves-most w (x .whole-halves .ensures w); sums-most = s .pre .sums-most; long = s .pre .long }
+
+returns-3 : of.Tie.Need-returns-3
+returns-3 c w =
+    let x = c .before .before .before in
+    let f = x .before .before in
+    let e = f .before in
+    let s = e .before in
+    c .add-whole-row .ensures ∙ whole-added (now (s .args .sum)) _ (x .whole-halves .ensures (row-at (s .args .low) (s .args .middle) false false (e .if1 .left) (f .if2 .left) w))
 
 pub add-line-spec : {M : Type 1} → of.Statement.statement M
-add-line-spec = of.Tie.close (of.Tie.spec (λ c κs. search needs) add-row-requires returns whole-halves-requires add-whole-row-requires returns-2)
+add-line-spec = of.Tie.close (of.Tie.spec
+    (λ c κs. search needs) add-row-requires returns (λ c κs. search needs) add-middle-row-requires returns-2 whole-halves-requires add-whole-row-requires returns-3)

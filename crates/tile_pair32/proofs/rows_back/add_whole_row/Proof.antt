@@ -14,8 +14,8 @@ abbrev μ-loop : of.Tie.MeasureT-loop
 μ-loop x sum₀ l₀ sum l = 64 - l
 
 -- P of a half
-rounded-most : (z : ℤ) → AtMost (longHalfMost false) z → AtMost (2 ^ 24) (away z (2 ^ 31))
-rounded-most z m = record { most = le-trans (away-most z (2 ^ 31) (longHalfMost false) (lit< tt) (m .most)) (lit≤ tt) }
+rounded-most : (z : ℤ) → AtMost (longHalfMost false false) z → AtMost (2 ^ 24) (away z (2 ^ 31))
+rounded-most z m = record { most = le-trans (away-most z (2 ^ 31) (longHalfMost false false) (lit< tt) (m .most)) (lit≤ tt) }
 
 round-away-31-requires : of.Tie.Need-round-away-31-requires Inv-loop μ-loop
 round-away-31-requires c κs =
