@@ -45,20 +45,37 @@ pub record WholeBinsOf (m k u : ℕ) (q : List Float) : Type 0 where
 abbrev pub WholeBins : (k u : ℕ) (q : List Float) → Type 0
 WholeBins = WholeBinsOf binMost
 
--- ---- quads of a pair
+-- ---- quads of a pair of tiles of side 2·h
 
--- quad (u, l)
-unfoldable pub quadAt : {A : Type 0} → (f : ℕ → ℕ → A) (u l : ℕ) → List A
-quadAt f u l = f u l ∷ f (8 + u) l ∷ f u (16 + l) ∷ f (8 + u) (16 + l) ∷ []
+-- quad (u, l): rows u and h + u of lanes l and 2·h + l
+unfoldable pub quadAtOf : {A : Type 0} → (h : ℕ) (f : ℕ → ℕ → A) (u l : ℕ) → List A
+quadAtOf h f u l = f u l ∷ f (h + u) l ∷ f u (2 * h + l) ∷ f (h + u) (2 * h + l) ∷ []
 
--- r is b with q for its quad (u, l)
-pub record WithQuad (u l : ℕ) (q : List Float) (b r : List (List Float)) : Type 0 where
-  pub paired : Paired nan r
-  pub here : quadAt (cell nan r) u l ≡ numberOf q 0 ∷ numberOf q 1 ∷ numberOf q 2 ∷ numberOf q 3 ∷ []
-  pub apart : (x y : ℕ) → x < 8 → y < 16 → (16 * x + y ≡ 16 * u + l → ⊥) → quadAt (cell nan r) x y ≡ quadAt (cell nan b) x y
+-- its place in the order of the loops, row by row
+abbrev pub placeOf : (h u l : ℕ) → ℕ
+placeOf h u l = 2 * h * u + l
 
--- r is b with quads from m on and below n, in the order of 16·u + l, replaced by what f makes of them: a loop's invariant
-pub record Lanes (f : (u l : ℕ) → List Float → List Float) (m n : ℕ) (b r : List (List Float)) : Type 0 where
-  pub paired : Paired nan r
-  pub new : (u l : ℕ) → u < 8 → l < 16 → m ≤ 16 * u + l → 16 * u + l < n → quadAt (cell nan r) u l ≡ f u l (quadAt (cell nan b) u l)
-  pub rest : (u l : ℕ) → u < 8 → l < 16 → (m ≤ 16 * u + l → 16 * u + l < n → ⊥) → quadAt (cell nan r) u l ≡ quadAt (cell nan b) u l
+-- Pair says that a table is a pair of such tiles
+module _ (h : ℕ) (Pair : List (List Float) → Type 0) where
+  -- r is b with q for its quad (u, l)
+  pub record WithQuadOf (u l : ℕ) (q : List Float) (b r : List (List Float)) : Type 0 where
+    pub paired : Pair r
+    pub here : quadAtOf h (cell nan r) u l ≡ numberOf q 0 ∷ numberOf q 1 ∷ numberOf q 2 ∷ numberOf q 3 ∷ []
+    pub apart : (x y : ℕ) → x < h → y < 2 * h → (x ≡ u → y ≡ l → ⊥) → quadAtOf h (cell nan r) x y ≡ quadAtOf h (cell nan b) x y
+
+  -- r is b with quads from m on and below n, in the order of their places, replaced by what f makes of them: a loop's invariant
+  pub record LanesOf (f : (u l : ℕ) → List Float → List Float) (m n : ℕ) (b r : List (List Float)) : Type 0 where
+    pub paired : Pair r
+    pub new : (u l : ℕ) → u < h → l < 2 * h → m ≤ placeOf h u l → placeOf h u l < n → quadAtOf h (cell nan r) u l ≡ f u l (quadAtOf h (cell nan b) u l)
+    pub rest : (u l : ℕ) → u < h → l < 2 * h → (m ≤ placeOf h u l → placeOf h u l < n → ⊥) → quadAtOf h (cell nan r) u l ≡ quadAtOf h (cell nan b) u l
+
+-- ---- of a pair of side 16
+
+abbrev pub quadAt : {A : Type 0} → (f : ℕ → ℕ → A) (u l : ℕ) → List A
+quadAt = quadAtOf 8
+
+abbrev pub WithQuad : (u l : ℕ) (q : List Float) (b r : List (List Float)) → Type 0
+WithQuad = WithQuadOf 8 (Paired nan)
+
+abbrev pub Lanes : (f : (u l : ℕ) → List Float → List Float) (m n : ℕ) (b r : List (List Float)) → Type 0
+Lanes = LanesOf 8 (Paired nan)

@@ -34,7 +34,7 @@ loop-again c =
     let w = now (p .before .args .w) in
     let l = p .loop .l in (
       omega arith,
-      shrunk-turn (p .loop .inv .1) (omega arith) (lit< tt) (omega arith) (omega arith) (c .set-quad .ensures) (new-corner 24 v w (q .quad-at .ensures) l (omega arith) (g .real-gain .ensures) (f .real-gain2 .ensures) (e .real-gain3 .ensures) (d .real-gain4 .ensures))
+      shrunk-turn (p .loop .inv .1) (omega arith) (omega arith) (omega arith) (c .set-quad .ensures) (new-corner 24 v w (q .quad-at .ensures) l (omega arith) (g .real-gain .ensures) (f .real-gain2 .ensures) (e .real-gain3 .ensures) (d .real-gain4 .ensures))
           (λ i. let t = four .sure4 .ensures i in let z = three .sure3 .ensures (t .0) in let y = two .sure2 .ensures (z .0) in let x = one .sure .ensures (y .0) in (x .0, sure-corner 24 v w (q .quad-at .ensures) l (omega arith) (x .1) (y .1) (z .1) (t .1))),
     )
 

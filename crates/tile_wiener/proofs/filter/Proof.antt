@@ -1,8 +1,11 @@
 -- `tile_wiener::filter`: the quads are replaced in the order of 16·u + l, and V and W of each lane are those of its plane.
-use Rattle.tile_wiener.specs.Prelude.{_≡_, refl, sym, Bool, true, false, not, _-_, _*_, _^_, _≤_, arith, needs, lit≤, inFloat, ofBits}
+use Rattle.tile_wiener.specs.Prelude.{_≡_, refl, sym, Bool, true, false, not, _-_, _*_, _^_, _≤_, arith, needs, lit≤, inFloat, ofBits, doubles}
 use mathlib.Core.Bool.{false≢true}
 use lib.Dec.{le→leb}
 use Rattle.floats.specs.QuotientLaws.{slightlyMore}
+use Rattle.recipe.specs.Tables.{side16}
+use Rattle.tile_bin.specs.DoubleLaws.{quanta16}
+use Rattle.tile_quad.specs.QuadGains.{bins-fit, small-bins}
 use Rattle.tile_quad.specs.FilterLaws.{pair-filtered}
 use Rattle.tile_wiener.specs.DoubleQuads.{Shrunk}
 use Rattle.tile_wiener.proofs.SureLaws.{shrunk-start, shrunk-at, shrunk-join}
@@ -60,7 +63,7 @@ loop-again c =
     (omega arith, omega arith, shrunk-at (shrunk-join (omega arith) (omega arith) half (i .inner .ensures) (λ e. (refl, sure-of (i .inner .result) (c .if6 .left)))) (omega arith))
 
 returns-7 : of.Tie.Need-returns-7 Inv-loop μ-loop
-unfolding ofBits slightlyMore
+unfolding ofBits slightlyMore side16 doubles
 returns-7 c e w =
     let p = c .before in
     let x = p .before in
@@ -73,9 +76,9 @@ returns-7 c e w =
     let s = first .before .before .before in
     let start = shrunk-join {z = true} (lit≤ tt) (lit≤ tt) (o .corner .ensures) (l .left .ensures) (λ e. (sure-of (o .corner .result) (y .if3 .left), sure-of (l .left .result) (x .if4 .left))) in
     let all = shrunk-at {s = true} {o = 128} (shrunk-join (omega arith) (omega arith) start (p .loop .inv .2) (λ e. (refl, refl))) (omega arith) in
-    pair-filtered (s .args .first) (s .args .second) (w .plane)
-    (double-quads (s .args .first) (s .args .second) (w .plane) (record { above = omega arith; most = s .pre .first-most; binned = w .first }) (record { above = omega arith; most = s .pre .second-most; binned = w .second }) (first .alternating .ensures) (second .alternating2 .ensures) (w .is) (all .sure refl))
-    (all .new) (w .is)
+    pair-filtered side16 (s .args .first) (s .args .second) (w .plane)
+    (double-quads bins-fit quanta16 (s .args .first) (s .args .second) (w .plane) (record { above = omega arith; v-most = s .pre .first-most; small = small-bins (w .first) }) (record { above = omega arith; v-most = s .pre .second-most; small = small-bins (w .second) }) (first .alternating .ensures) (second .alternating2 .ensures) (w .is) (all .sure refl))
+    (all .new) (all .new .paired .is) (w .is)
 
 pub filter-spec : {M : Type 1} → of.Statement.statement M
 filter-spec = of.Tie.close (of.Tie.spec

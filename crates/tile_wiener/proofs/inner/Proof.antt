@@ -34,7 +34,7 @@ loop-again c =
     let l = p .loop .l in (
       omega arith,
       omega arith,
-      shrunk-at (shrunk-turn (p .loop .inv .2) (omega arith) (a .pre .u-below) (omega arith) refl (c .set-quad .ensures) (new-inner 24 v w (q .quad-at .ensures) (a .args .u) l (a .pre .u-some) (omega arith) (g .gains .ensures) (h .gains2 .ensures))
+      shrunk-at (shrunk-turn (p .loop .inv .2) (omega arith) (omega arith) refl (c .set-quad .ensures) (new-inner 24 v w (q .quad-at .ensures) (a .args .u) l (a .pre .u-some) (omega arith) (g .gains .ensures) (h .gains2 .ensures))
           (λ e. let y = two .sure2 .ensures e in let x = one .sure .ensures (y .0) in (x .0, sure-inner 24 v w (q .quad-at .ensures) (a .args .u) l (a .pre .u-some) (omega arith) (x .1) (y .1)))) (omega arith),
     )
 

@@ -33,7 +33,7 @@ loop-again c =
     let l = p .loop .l in (
       omega arith,
       omega arith,
-      shrunk-turn (p .loop .inv .2) (omega arith) (lit< tt) (omega arith) (omega arith) (c .set-quad .ensures) (new-left 24 v w (q .quad-at .ensures) l (omega arith) (g .gains .ensures) (h .gains2 .ensures))
+      shrunk-turn (p .loop .inv .2) (omega arith) (omega arith) (omega arith) (c .set-quad .ensures) (new-left 24 v w (q .quad-at .ensures) l (omega arith) (g .gains .ensures) (h .gains2 .ensures))
           (λ e. let y = two .sure2 .ensures e in let x = one .sure .ensures (y .0) in (x .0, sure-left 24 v w (q .quad-at .ensures) l (omega arith) (x .1) (y .1))),
     )
 

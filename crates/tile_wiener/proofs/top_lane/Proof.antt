@@ -12,7 +12,7 @@ returns c =
     let s = q .before .before in
     let u = s .args .u in
     let l = s .args .l in
-    (q .quad-at .ensures, lanes-turn (lanes-start (16 * u + l) (s .pre .paired)) (omega arith) (s .pre .u-below) (omega arith) refl (c .set-quad .ensures) (new-top 24 (now (s .args .v)) (now (s .args .w)) (q .quad-at .ensures) u l (s .pre .u-some) (s .pre .l-below) (g .gains .ensures) (h .gains2 .ensures)))
+    (q .quad-at .ensures, lanes-turn (lanes-start (16 * u + l) (s .pre .paired)) (omega arith) (omega arith) refl (c .set-quad .ensures) (new-top 24 (now (s .args .v)) (now (s .args .w)) (q .quad-at .ensures) u l (s .pre .u-some) (s .pre .l-below) (g .gains .ensures) (h .gains2 .ensures)))
 
 pub top-lane-spec : {M : Type 1} → of.Statement.statement M
 top-lane-spec = of.Tie.close (of.Tie.spec

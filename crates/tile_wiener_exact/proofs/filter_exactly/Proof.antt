@@ -1,8 +1,13 @@
 -- `tile_wiener_exact::filter_exactly`: a quad a turn, in the order of 16·u + l.
-use Rattle.tile_wiener_exact.specs.Prelude.{sym, ap, subst, _∙_, _-_, _/_, _%_, _≤_, arith, needs, eqb, noiseMost, WholeBins, Lanes}
+use Rattle.tile_wiener_exact.specs.Prelude.{sym, ap, subst, _∙_, _-_, _/_, _%_, _≤_, arith, needs, eqb, nan, noiseMost, WholeBins, Lanes}
+use Rattle.sequences.specs.Grid.{grid-of}
+use Rattle.recipe.specs.Tables.{side16}
+use Rattle.tile_spectrum.specs.Pairs.{doubles}
 use Rattle.tile_spectrum.specs.Apart.{cond-cases}
-use Rattle.tile_quad.specs.LaneLaws.{lanes-start, lanes-at, lanes-turn, paired-doubles}
+use Rattle.tile_quad.specs.LaneLaws.{lanes-start, lanes-at, lanes-turn}
+use Rattle.tile_quad.specs.QuadGains.{bins-fit, small-bins}
 use Rattle.tile_quad.specs.FilterLaws.{pair-filtered}
+use Rattle.tile_bin.specs.DoubleLaws.{quanta16}
 use Rattle.tile_wiener_exact.specs.ExactQuads.{newExactly}
 use Rattle.tile_wiener_exact.specs.ExactQuadLaws.{new-exactly}
 use Rattle.tile_wiener_exact.proofs.ExactGains.{exact-quads, whole-quad}
@@ -15,9 +20,11 @@ abbrev μ-loop : of.Tie.MeasureT-loop
 μ-loop b₀ first second n₀ b n = 128 - n
 
 loop-holds : of.Tie.Need-loop-holds Inv-loop μ-loop
-loop-holds c = (omega arith, lanes-start 0 (paired-doubles _ (c .pre .binned .is)))
+unfolding doubles
+loop-holds c = (omega arith, lanes-start 0 (record { is = grid-of nan 16 32 _ (c .pre .binned .is) }))
 
 quad-requires : of.Tie.Need-quad-requires Inv-loop μ-loop
+unfolding side16 doubles
 quad-requires c κs =
     let a = c .before in
     let p = a .before .before .before in
@@ -30,7 +37,7 @@ quad-requires c κs =
       u-below = omega arith;
       whole =
           subst (WholeBins (n % 16 / 2) (n / 16)) (sym (a .quad-at .ensures ∙ p .loop .inv .1 .rest (n / 16) (n % 16) (omega arith) (omega arith) (λ i j. omega arith)))
-          (whole-quad (s .args .first) (s .args .second) (w .plane) (w .first) (w .second) (w .is) (n / 16) (n % 16) (omega arith) (omega arith));
+          (whole-quad bins-fit (s .args .first) (s .args .second) (w .plane) (small-bins (w .first)) (small-bins (w .second)) (w .is) (n / 16) (n % 16) (omega arith) (omega arith));
     }
 
 set-quad-requires : of.Tie.Need-set-quad-requires Inv-loop μ-loop
@@ -50,15 +57,17 @@ loop-again c =
     let first = s .args .first in
     let second = s .args .second in
     let e = new-exactly 24 first second u l (a .quad-at .result) (o .of-plane .ensures) (q .quad .ensures) ∙ ap (newExactly first second u l) (a .quad-at .ensures) in
-    (omega arith, lanes-turn {u = u} {l = l} (p .loop .inv .1) (omega arith) (omega arith) (omega arith) (omega arith) (c .set-quad .ensures) e)
+    (omega arith, lanes-turn {u = u} {l = l} (p .loop .inv .1) (omega arith) (omega arith) (omega arith) (c .set-quad .ensures) e)
 
 returns : of.Tie.Need-returns Inv-loop μ-loop
+unfolding side16 doubles
 returns c w =
     let p = c .before in
     let s = p .before in
     let first = s .args .first in
     let second = s .args .second in
-    pair-filtered first second (w .plane) (exact-quads first second (w .plane) (w .first) (w .second)) (lanes-at (p .loop .inv .1) (omega arith)) (w .is)
+    let all = p .loop .inv .1 in
+    pair-filtered side16 first second (w .plane) (exact-quads bins-fit first second (w .plane) (small-bins (w .first)) (small-bins (w .second)) quanta16) (lanes-at all (omega arith)) (all .paired .is) (w .is)
 
 pub filter-exactly-spec : {M : Type 1} → of.Statement.statement M
 filter-exactly-spec = of.Tie.close (of.Tie.spec

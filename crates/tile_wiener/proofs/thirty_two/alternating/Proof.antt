@@ -1,7 +1,7 @@
 -- `tile_wiener::thirty_two::alternating`: two stores a turn.
 use Rattle.tile_wiener.specs.ThirtyTwo.Prelude.{refl, _-_, _*_, _%_, arith, needs, either}
 use Rattle.sequences.specs.TabLaws.{Filled, fill-start, fill-done}
-use Rattle.tile_wiener.proofs.thirty_two.DoubleGains.{planes-turn}
+use Rattle.tile_wiener.proofs.DoubleGains.{planes-turn}
 use Rattle.tile_wiener.proofs.thirty_two.alternating as of
 
 abbrev Inv-loop : of.Tie.InvT-loop

@@ -1,7 +1,7 @@
 -- `tile_wiener::thirty_two::corner`: four real bins a turn.
 use Rattle.tile_wiener.specs.ThirtyTwo.Prelude.{_-_, _≤_, arith, needs, now, lit<, ofBits, ofInt}
 use Rattle.tile_wiener.specs.NewQuads.{new-corner, sure-corner}
-use Rattle.tile_wiener.proofs.thirty_two.SureLaws.{shrunk-start, shrunk-at, shrunk-turn}
+use Rattle.tile_wiener.proofs.SureLaws.{shrunk-start, shrunk-at, shrunk-turn}
 use Rattle.tile_wiener.specs.ThirtyTwo.DoubleQuads.{Shrunk}
 use Rattle.tile_wiener.proofs.thirty_two.corner as of
 
@@ -34,7 +34,7 @@ loop-again c =
     let w = now (p .before .args .w) in
     let l = p .loop .l in (
       omega arith,
-      shrunk-turn (p .loop .inv .1) (omega arith) (lit< tt) (omega arith) (omega arith) (c .set-quad .ensures) (new-corner 26 v w (q .quad-at .ensures) l (omega arith) (g .real-gain .ensures) (f .real-gain2 .ensures) (e .real-gain3 .ensures) (d .real-gain4 .ensures))
+      shrunk-turn (p .loop .inv .1) (omega arith) (omega arith) (omega arith) (c .set-quad .ensures) (new-corner 26 v w (q .quad-at .ensures) l (omega arith) (g .real-gain .ensures) (f .real-gain2 .ensures) (e .real-gain3 .ensures) (d .real-gain4 .ensures))
           (λ i. let t = four .sure4 .ensures i in let z = three .sure3 .ensures (t .0) in let y = two .sure2 .ensures (z .0) in let x = one .sure .ensures (y .0) in (x .0, sure-corner 26 v w (q .quad-at .ensures) l (omega arith) (x .1) (y .1) (z .1) (t .1))),
     )
 

@@ -1,12 +1,16 @@
 -- `tile_wiener::thirty_two::filter`: the quads are replaced in the order of 32·u + l, and V and W of each lane are those of its plane.
-use Rattle.tile_wiener.specs.ThirtyTwo.Prelude.{_≡_, refl, sym, Bool, true, false, not, _-_, _*_, _^_, _≤_, arith, needs, lit≤, inFloat, ofBits}
+use Rattle.tile_wiener.specs.ThirtyTwo.Prelude.{_≡_, refl, sym, Bool, true, false, not, _-_, _*_, _^_, _≤_, arith, needs, lit≤, inFloat, ofBits, longDoubles}
 use mathlib.Core.Bool.{false≢true}
+use native.Mathlib.Nat.{le-trans}
 use lib.Dec.{le→leb}
 use Rattle.floats.specs.QuotientLaws.{slightlyMore}
-use Rattle.tile_quad.specs.ThirtyTwo.FilterLaws.{pair-filtered}
+use Rattle.recipe.specs.Tables32.{side32}
+use Rattle.tile_bin.specs.DoubleLaws.{quanta32}
+use Rattle.tile_quad.specs.QuadGains.{long-bins-fit, long-small-bins}
+use Rattle.tile_quad.specs.FilterLaws.{pair-filtered}
 use Rattle.tile_wiener.specs.ThirtyTwo.DoubleQuads.{Shrunk}
-use Rattle.tile_wiener.proofs.thirty_two.SureLaws.{shrunk-start, shrunk-at, shrunk-join}
-use Rattle.tile_wiener.proofs.thirty_two.DoubleGains.{double-quads}
+use Rattle.tile_wiener.proofs.SureLaws.{shrunk-start, shrunk-at, shrunk-join}
+use Rattle.tile_wiener.proofs.DoubleGains.{double-quads}
 use Rattle.tile_wiener.proofs.thirty_two.filter as of
 
 abbrev Inv-loop : of.Tie.InvT-loop
@@ -79,7 +83,7 @@ returns-6 : of.Tie.Need-returns-6 Inv-loop μ-loop
 returns-6 c = record { paired = c .before .inner .ensures .new .paired; is = λ e. absurd (false≢true e) }
 
 returns-7 : of.Tie.Need-returns-7 Inv-loop μ-loop
-unfolding ofBits slightlyMore
+unfolding ofBits slightlyMore side32 longDoubles
 returns-7 c =
     let p = c .before in
     let x = p .before in
@@ -95,9 +99,9 @@ returns-7 c =
     record {
       paired = all .new .paired;
       is = λ e w.
-          pair-filtered (s .args .first) (s .args .second) (w .plane)
-          (double-quads (s .args .first) (s .args .second) (w .plane) (record { above = omega arith; most = s .pre .first-most; binned = w .first }) (record { above = omega arith; most = s .pre .second-most; binned = w .second }) (first .alternating .ensures) (second .alternating2 .ensures) (w .is) (all .sure refl))
-          (all .new) (w .is);
+          pair-filtered side32 (s .args .first) (s .args .second) (w .plane)
+          (double-quads long-bins-fit quanta32 (s .args .first) (s .args .second) (w .plane) (record { above = omega arith; v-most = le-trans (s .pre .first-most) (lit≤ tt); small = long-small-bins (w .first) }) (record { above = omega arith; v-most = le-trans (s .pre .second-most) (lit≤ tt); small = long-small-bins (w .second) }) (first .alternating .ensures) (second .alternating2 .ensures) (w .is) (all .sure refl))
+          (all .new) (all .new .paired .is) (w .is);
     }
 
 pub filter-spec : {M : Type 1} → of.Statement.statement M

@@ -1,7 +1,7 @@
 -- `tile_wiener::thirty_two::left`: two bins a turn, as they are.
 use Rattle.algebra.specs.Prelude.{_-_, _≤_, arith, needs, now, lit<}
 use Rattle.tile_wiener.specs.NewQuads.{new-left, sure-left}
-use Rattle.tile_wiener.proofs.thirty_two.SureLaws.{shrunk-start, shrunk-at, shrunk-turn}
+use Rattle.tile_wiener.proofs.SureLaws.{shrunk-start, shrunk-at, shrunk-turn}
 use Rattle.tile_wiener.specs.ThirtyTwo.DoubleQuads.{Shrunk}
 use Rattle.tile_wiener.proofs.thirty_two.left as of
 
@@ -33,7 +33,7 @@ loop-again c =
     let l = p .loop .l in (
       omega arith,
       omega arith,
-      shrunk-turn (p .loop .inv .2) (omega arith) (lit< tt) (omega arith) (omega arith) (c .set-quad .ensures) (new-left 26 v w (q .quad-at .ensures) l (omega arith) (g .gains .ensures) (h .gains2 .ensures))
+      shrunk-turn (p .loop .inv .2) (omega arith) (omega arith) (omega arith) (c .set-quad .ensures) (new-left 26 v w (q .quad-at .ensures) l (omega arith) (g .gains .ensures) (h .gains2 .ensures))
           (λ e. let y = two .sure2 .ensures e in let x = one .sure .ensures (y .0) in (x .0, sure-left 26 v w (q .quad-at .ensures) l (omega arith) (x .1) (y .1))),
     )
 

@@ -1,8 +1,8 @@
 -- `tile_wiener::thirty_two::top`: two lanes one after the other, asked together.
 use Rattle.tile_wiener.specs.ThirtyTwo.Prelude.{_≡_, refl, subst, List, ℕ, _+_, _*_, arith, needs, now, lit<, Float, Lanes}
-use Rattle.tile_quad.specs.ThirtyTwo.LaneLaws.{lanes-at, lanes-join}
+use Rattle.tile_quad.specs.LaneLaws.{lanes-at, lanes-join}
 use Rattle.tile_wiener.specs.NewQuads.{sure-top}
-use Rattle.tile_wiener.proofs.thirty_two.SureLaws.{sure-one, sure-join, shrunk-at}
+use Rattle.tile_wiener.proofs.SureLaws.{sure-one, sure-join, shrunk-at}
 use Rattle.tile_wiener.proofs.thirty_two.top as of
 
 top-lane-requires-2 : of.Tie.Need-top-lane-requires-2
@@ -27,8 +27,8 @@ returns c =
       new = lanes-join (omega arith) (omega arith) first (p .top-lane2 .ensures .1);
       sure = λ e. let y = c .sure-lanes2 .ensures e in
           let x = one .sure-lanes .ensures (y .0) in
-          sure-join first (sure-one {u = u} {l = 0} (a .pre .u-below) (lit< tt) (omega arith) (sure-top 26 v w (q .top-lane .ensures .0) u 0 some (lit< tt) (x .1) (y .1)))
-          (sure-one {u = u} {l = 1} (a .pre .u-below) (lit< tt) refl (sure-top 26 v w (p .top-lane2 .ensures .0) u 1 some (lit< tt) (x .2) (y .2)));
+          sure-join first (sure-one {u = u} {l = 0} (lit< tt) (omega arith) (sure-top 26 v w (q .top-lane .ensures .0) u 0 some (lit< tt) (x .1) (y .1)))
+          (sure-one {u = u} {l = 1} (lit< tt) refl (sure-top 26 v w (p .top-lane2 .ensures .0) u 1 some (lit< tt) (x .2) (y .2)));
     }) (omega arith)
 
 pub top-spec : {M : Type 1} → of.Statement.statement M

@@ -1,2 +1,0 @@
-pub mod SureLaws
-pub mod DoubleGains
