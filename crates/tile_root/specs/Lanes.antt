@@ -5,6 +5,10 @@ use Rattle.tile_root.specs.Prelude.{cond, List, ℕ, _%_, eqb, getD, sum
 unfoldable pub laneBlack : (first second l : ℕ) → ℕ
 laneBlack first second l = cond (eqb (l % 2) 0) first second
 
--- the squares of the first n rows, added up at each place
-unfoldable pub lanes : (n : ℕ) → List ℕ → List (List ℕ) → List ℕ
-lanes n black tile = tab 32 (λ l. sumN n (λ i. squared (getD black l 0) (cell 0 tile i l)))
+-- the squares of the first n rows of w places, added up at each place
+unfoldable pub lanesOf : (w n : ℕ) → List ℕ → List (List ℕ) → List ℕ
+lanesOf w n black tile = tab w (λ l. sumN n (λ i. squared (getD black l 0) (cell 0 tile i l)))
+
+-- of a pair of side 16
+abbrev pub lanes : (n : ℕ) → List ℕ → List (List ℕ) → List ℕ
+lanes = lanesOf 32

@@ -1,3 +1,1 @@
-pub mod Prelude
-pub mod Range
 pub mod Lanes

@@ -28,8 +28,8 @@ fn intensity(black: u16, sample: u16) -> u16
     if black < sample { sample - black } else { 0 }
 }
 
-// Its square. Sixteen of them fit 32 bits.
-fn squared(black: u16, sample: u16) -> u32
+// Its square. Thirty-two of them fit 32 bits.
+pub fn squared(black: u16, sample: u16) -> u32
     requires { ⌜ sample ≤ 4095 ⌝ }
     ensures { λ r. ⌜ (r ≡ squared black sample) × (r ≤ 16769025) ⌝ }
 {
@@ -38,7 +38,7 @@ fn squared(black: u16, sample: u16) -> u32
 }
 
 // The black level at place l of a row.
-fn lane_black(first: u16, second: u16, l: usize) -> u16
+pub fn lane_black(first: u16, second: u16, l: usize) -> u16
     ensures { λ r. ⌜ r ≡ laneBlack first second l ⌝ }
 {
     if l % 2 == 0 {

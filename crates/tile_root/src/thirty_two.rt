@@ -1,15 +1,10 @@
 // r, the whole root of the sum of the squares of a tile's samples above their black level, for a pair of planes.
 mod squares;
 
-ghost use Rattle.tile_root.specs.ThirtyTwo.Prelude.{_≡_, _+_, _*_, _<_, _≤_, getD, sumN, wholeRoot};
-ghost use Rattle.tile_root.specs.Range.{PairRoots};
-ghost use Rattle.tile_root.specs.ThirtyTwo.Range.{SamplesFit, LanesFit};
-
-// r of the two planes of a pair of tiles.
-pub struct Roots {
-    pub first: u64,
-    pub second: u64,
-}
+use crate::Roots;
+ghost use Rattle.tile_root.specs.Prelude.{_≡_, _+_, _*_, _<_, _≤_, getD, sumN, wholeRoot};
+ghost use Rattle.tile_root.specs.Range.{SamplesFit, PairRoots};
+ghost use Rattle.tile_root.specs.ThirtyTwo.Lanes.{LanesFit};
 
 // r of plane p of a pair, of the squares at each place of its rows.
 fn plane_root(sum: &[u32; 64], p: usize) -> u64

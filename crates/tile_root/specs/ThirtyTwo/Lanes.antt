@@ -1,10 +1,10 @@
--- Inside this crate: the squares of a pair of tiles by their places in a row. Place 2·j + p is column j of plane p.
-use Rattle.tile_root.specs.ThirtyTwo.Prelude.{cond, List, ℕ, _%_, eqb, getD, sumN, tab, cell, squared}
+-- Inside this crate: the squares of a pair of tiles of side 32 by their places in a row, as Lanes and Range have those of any side.
+use Rattle.tile_root.specs.Prelude.{List, ℕ}
+use Rattle.tile_root.specs.Range.{LanesFitOf}
+use Rattle.tile_root.specs.Lanes.{lanesOf}
 
--- the black level at place l
-unfoldable pub laneBlack : (first second l : ℕ) → ℕ
-laneBlack first second l = cond (eqb (l % 2) 0) first second
+abbrev pub lanes : (n : ℕ) → List ℕ → List (List ℕ) → List ℕ
+lanes = lanesOf 64
 
--- the squares of the first n rows, added up at each place
-unfoldable pub lanes : (n : ℕ) → List ℕ → List (List ℕ) → List ℕ
-lanes n black tile = tab 64 (λ l. sumN n (λ i. squared (getD black l 0) (cell 0 tile i l)))
+abbrev pub LanesFit : (k : ℕ) (sum : List ℕ) → Type 0
+LanesFit = LanesFitOf 64

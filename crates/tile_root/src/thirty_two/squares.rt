@@ -1,7 +1,10 @@
 // The squares of a pair of tiles added up for each of its planes, and the whole root by bisection. Place 2·j + p of a row of the pair is column j of plane p.
-ghost use Rattle.tile_root.specs.ThirtyTwo.Prelude.{_≡_, _+_, _*_, _<_, _≤_, getD, sumN, tab, wholeRoot, intensity, squared};
-ghost use Rattle.tile_root.specs.ThirtyTwo.Range.{RowFits, SamplesFit, LanesFit};
-ghost use Rattle.tile_root.specs.ThirtyTwo.Lanes.{laneBlack, lanes};
+use crate::squares::lane_black;
+use crate::squares::squared;
+ghost use Rattle.tile_root.specs.Prelude.{_≡_, _+_, _*_, _<_, _≤_, getD, sumN, tab, wholeRoot, squared};
+ghost use Rattle.tile_root.specs.Range.{RowFits, SamplesFit};
+ghost use Rattle.tile_root.specs.Lanes.{laneBlack};
+ghost use Rattle.tile_root.specs.ThirtyTwo.Lanes.{lanes, LanesFit};
 
 // The greatest number whose square is at most n.
 pub fn whole_root(n: u64) -> u64
@@ -19,32 +22,6 @@ pub fn whole_root(n: u64) -> u64
         }
     }
     low
-}
-
-// What r squares of a sample: by how much it exceeds the black level, or 0.
-fn intensity(black: u16, sample: u16) -> u16
-    ensures { λ r. ⌜ r ≡ intensity black sample ⌝ }
-{
-    if black < sample { sample - black } else { 0 }
-}
-
-// Its square. Sixteen of them fit 64 bits.
-fn squared(black: u16, sample: u16) -> u32
-    requires { ⌜ sample ≤ 4095 ⌝ }
-    ensures { λ r. ⌜ (r ≡ squared black sample) × (r ≤ 16769025) ⌝ }
-{
-    let x = intensity(black, sample) as u32;
-    x * x
-}
-
-// The black level at place l of a row.
-fn lane_black(first: u16, second: u16, l: usize) -> u16
-    ensures { λ r. ⌜ r ≡ laneBlack first second l ⌝ }
-{
-    if l % 2 == 0 {
-        return first;
-    }
-    second
 }
 
 // The black levels along a row.

@@ -1,5 +1,5 @@
 -- The sums passed have their square added.
-use Rattle.tile_root.specs.ThirtyTwo.Prelude.{_≡_, ap₂, _+_, _-_, arith, needs, getD, now, squared}
+use Rattle.tile_root.specs.Prelude.{_≡_, ap₂, _+_, _-_, arith, needs, getD, now, squared}
 use Rattle.sequences.specs.TabLaws.{Filled, fill-start, fill-turn, fill-rest, fill-done}
 use Rattle.tile_root.proofs.thirty_two.squares.add_squares as of
 

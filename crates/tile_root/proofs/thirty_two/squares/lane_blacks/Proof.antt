@@ -1,7 +1,7 @@
 -- The black levels along a row, filled from the front.
 use Rattle.algebra.specs.Prelude.{refl, _-_, arith, needs}
 use Rattle.sequences.specs.TabLaws.{Filled, fill-start, fill-turn, fill-done}
-use Rattle.tile_root.specs.ThirtyTwo.Lanes.{laneBlack}
+use Rattle.tile_root.specs.Lanes.{laneBlack}
 use Rattle.tile_root.proofs.thirty_two.squares.lane_blacks as of
 
 abbrev Inv-loop : of.Tie.InvT-loop
