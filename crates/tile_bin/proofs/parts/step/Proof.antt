@@ -1,20 +1,20 @@
--- `tile_bin::copies::wiener_part`: each step fits by the computed test of `Code`; V'·Q' is at most 6.7e18, and only its double would not fit.
-use Rattle.tile_bin.specs.Prelude.{_≡_, refl, sym, ap, ap₂, subst, _∙_, List, [], _∷_, arith, needs, lit<, ℤ, pos, natAbs, _+ℤ_, _*ℤ_, w64, away, power, wiener, copyPartMost, spatialMost}
-use Prim.Native.Nat.{ℕ, _<_, _^_, zero-le}
+-- `tile_bin::parts::step`: |Q|² + V fits by the computed test of `Code`, and V·Q, of which the double need not fit, as asked.
+use Rattle.tile_bin.specs.Prelude.{_≡_, sym, ap, ap₂, subst, _∙_, List, [], _∷_, arith, needs, lit<, ℤ, pos, natAbs, _+ℤ_, _*ℤ_, w64, away, power, wiener, copyPartMost, noiseMost}
+use Prim.Native.Nat.{ℕ, _-_, _<_, _^_}
 use native.Mathlib.Nat.{lt-of-le-of-lt, add-le-add, mul-le-mul}
-use mir.Val.{Fits, toZ, ofZ}
+use mir.Val.{Fits, SFits, toZ, ofZ}
+use mir.Facts.{toZ-ofZ}
 use mir.ValLaws.{toZ-pos}
 use Rattle.algebra.specs.Ring.{nth}
 use Rattle.algebra.specs.Code.{Code, par, loc, add, mul, to, Bounded, fits, val, val-den}
-use Rattle.algebra.specs.Order.{abs-mul-le}
+use Rattle.algebra.specs.Fit.{sfits-abs}
 use Rattle.algebra.specs.Bound.{abs-fits}
 use Rattle.rounding.proofs.round_away.Reads as round-away-reads
 use Rattle.recipe.specs.CorrectionLaws.{power-is}
 use Rattle.tile_spectrum.specs.WienerLaws.{wiener-is}
-use Rattle.tile_spectrum.specs.SizeLaws.{copy-gain-most}
-use Rattle.tile_bin.proofs.copies.wiener_part as of
-use Rattle.tile_bin.proofs.copies.wiener_part.Reads as reads
-use Rattle.tile_bin.proofs.copies.wiener_part.Lts as lts
+use Rattle.tile_bin.proofs.parts.step as of
+use Rattle.tile_bin.proofs.parts.step.Reads as reads
+use Rattle.tile_bin.proofs.parts.step.Lts as lts
 
 abbrev At : Type 0
 At = lts.Start (round-away-reads.Asked, round-away-reads.Learnt) reads.Pre reads.Post
@@ -23,7 +23,7 @@ abbrev xs : At → List ℤ
 xs s = s .args .q ∷ s .args .r ∷ toZ w64 (s .args .noise) ∷ []
 
 abbrev bs : List ℕ
-bs = copyPartMost ∷ copyPartMost ∷ spatialMost ∷ []
+bs = copyPartMost ∷ copyPartMost ∷ noiseMost ∷ []
 
 noise-is : (s : At) → toZ w64 (s .args .noise) ≡ pos (s .args .noise)
 noise-is s = toZ-pos w64 (s .args .noise) (omega (arith, s .pre .noise-most))
@@ -52,8 +52,14 @@ power-at s =
     val-den (xs s) bs (small s) (Power s) tt ∙ ap (λ v. s .args .q *ℤ s .args .q +ℤ s .args .r *ℤ s .args .r +ℤ v) (noise-is s)
     ∙ power-is (s .args .noise) (s .args .q) (s .args .r)
 
+raw-product : (s : At) → toZ w64 (s .args .noise) *ℤ toZ w64 (ofZ w64 (s .args .q)) ≡ pos (s .args .noise) *ℤ s .args .q
+raw-product s = ap₂ _*ℤ_ (noise-is s) (toZ-ofZ (s .fits .q))
+
+product-fits : (s : At) → SFits w64 (toZ w64 (s .args .noise) *ℤ toZ w64 (ofZ w64 (s .args .q)))
+product-fits s = subst (SFits w64) (sym (raw-product s)) (sfits-abs _ (2 ^ 63 - 1) (omega (arith, s .pre .product-below)) tt)
+
 product-at : (s : At) → val (Product s) ≡ pos (s .args .noise) *ℤ s .args .q
-product-at s = val-den (xs s) bs (small s) (Product s) tt ∙ ap (λ v. v *ℤ s .args .q) (noise-is s)
+product-at s = toZ-ofZ (product-fits s) ∙ raw-product s
 
 power-fits : (s : At) → Fits w64 (power (s .args .noise) (s .args .q) (s .args .r))
 power-fits s =
@@ -63,13 +69,9 @@ power-small : (s : At) → power (s .args .noise) (s .args .q) (s .args .r) < 2 
 power-small s =
     lt-of-le-of-lt (add-le-add (add-le-add (mul-le-mul (s .pre .part .most) (s .pre .part .most)) (mul-le-mul (s .pre .other .most) (s .pre .other .most))) (s .pre .noise-most)) (lit< tt)
 
-product-small : (s : At) → natAbs (pos (s .args .noise) *ℤ s .args .q) < 2 ^ 63
-product-small s =
-    lt-of-le-of-lt (abs-mul-le (pos (s .args .noise)) (s .args .q) (s .pre .noise-most) (s .pre .part .most)) (lit< tt)
-
 returns : of.Tie.Need-returns
 unfolding wiener
-returns c = rw (c .if1 .taken) (refl, record { most = zero-le })
+returns c = rw (c .if1 .taken)
 
 mul-signal : of.Tie.Need-mul-signal
 mul-signal c = fits (xs (c .before)) bs (small (c .before)) w64 (mul w64 (Q (c .before)) (Q (c .before))) tt
@@ -84,7 +86,7 @@ add-power : of.Tie.Need-add-power
 add-power c = fits (xs (c .before)) bs (small (c .before)) w64 (Power (c .before)) tt
 
 mul-round-away : of.Tie.Need-mul-round-away
-mul-round-away c = fits (xs (c .before)) bs (small (c .before)) w64 (Product (c .before)) tt
+mul-round-away c = product-fits (c .before)
 
 cast-round-away : of.Tie.Need-cast-round-away
 cast-round-away c = rw (power-at (c .before)) (tt, power-fits (c .before))
@@ -93,18 +95,17 @@ round-away-requires : of.Tie.Need-round-away-requires
 round-away-requires c κs =
     let s = c .before in
     let n : 0 < s .args .noise = omega arith in
-    rw (power-at s, product-at s) (record { divisor-some = omega arith; divisor-below = power-small s; dividend-below = product-small s })
+    rw (power-at s, product-at s) (record { divisor-some = omega arith; divisor-below = power-small s; dividend-below = s .pre .product-below })
 
 returns-2 : of.Tie.Need-returns-2
 returns-2 c =
     let s = c .before .before in
     let n : 0 < s .args .noise = omega arith in
     let e : toZ w64 (ofZ w64 (c .round-away .result)) ≡ c .round-away .result = search needs in
-    let f : c .round-away .result ≡ wiener (s .args .noise) (s .args .q) (s .args .r) =
-    c .round-away .ensures ∙ ap₂ (λ z p. away z (natAbs p)) (product-at s) (power-at s) ∙ sym (wiener-is (s .args .noise) (s .args .q) (s .args .r) n) in
-    rw (e, f) (refl, record { most = copy-gain-most (s .args .noise) (s .pre .noise-most) (s .args .q) (s .args .r) })
+    e
+    ∙ c .round-away .ensures ∙ ap₂ (λ z p. away z (natAbs p)) (product-at s) (power-at s) ∙ sym (wiener-is (s .args .noise) (s .args .q) (s .args .r) n)
 
-pub wiener-part-spec : {M : Type 1} → of.Statement.statement M
-wiener-part-spec = of.Tie.close (of.Tie.spec
+pub step-spec : {M : Type 1} → of.Statement.statement M
+step-spec = of.Tie.close (of.Tie.spec
     returns (λ c. search needs) mul-signal mul-signal-2 add-signal add-power mul-round-away
     cast-round-away round-away-requires returns-2)
