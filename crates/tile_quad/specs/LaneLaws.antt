@@ -58,6 +58,9 @@ module _ {h : ℕ} {Pair : List (List Float) → Type 0} {f : (u l : ℕ) → Li
   pub lanes-at : {m n o : ℕ} {b r : List (List Float)} → LanesOf h Pair f m n b r → n ≡ o → LanesOf h Pair f m o b r
   lanes-at {m} {b = b} {r} p e = subst (λ n. LanesOf h Pair f m n b r) e p
 
+  pub lanes-between : {m n o p : ℕ} {b r : List (List Float)} → LanesOf h Pair f m n b r → m ≡ o → n ≡ p → LanesOf h Pair f o p b r
+  lanes-between {n = n} {b = b} {r} z d e = lanes-at (subst (λ m. LanesOf h Pair f m n b r) d z) e
+
   -- one quad
   lanes-one : {u l n : ℕ} → l < 2 * h → placeOf h u l ≡ n → {q : List Float} {b r : List (List Float)} → WithQuadOf h Pair u l q b r → numberOf q 0 ∷ numberOf q 1 ∷ numberOf q 2 ∷ numberOf q 3 ∷ [] ≡ f u l (quadAtOf h (cell nan b) u l) → LanesOf h Pair f n (n + 1) b r
   lanes-one {u} {l} {n} k o {q} {b} {r} p e =

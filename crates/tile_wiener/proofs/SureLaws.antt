@@ -1,9 +1,14 @@
 -- Loops that replace quads one after the other, and whether their quotients are certain.
-use Rattle.tile_wiener.specs.Prelude.{_≡_, refl, sym, subst, Bool, true, false, List, [], _∷_, ℕ, _+_, _*_, _/_, _≤_, _<_, arith, ltb, getD, Float, nan, cell, numberOf}
+use Rattle.tile_wiener.specs.Prelude.{_≡_, refl, sym, subst, Bool, true, false, not, List, [], _∷_, ℕ, _+_, _*_, _/_, _≤_, _<_, arith, ltb, getD, Float, nan, cell, numberOf}
 use borrow.Author.Tests.{ltb-true, ltb-false}
 use Rattle.tile_quad.specs.Lanes.{quadAtOf, placeOf, WithQuadOf, LanesOf}
 use Rattle.tile_quad.specs.LaneLaws.{same-row, same-lane, lanes-start, lanes-turn, lanes-join}
 use Rattle.tile_wiener.specs.DoubleQuads.{newQuadBy, SureQuadBy, SureQuadsOf, ShrunkOf}
+
+-- what an `if` that is not taken says of a loop's answer
+pub sure-of : (s : Bool) → not s ≡ false → s ≡ true
+sure-of true e = refl
+sure-of false e = sym e
 
 -- quad (u, l) is certain, at V and W of its lane
 abbrev SureAt : (h bits : ℕ) (v w : List Float) (u l : ℕ) → List (List Float) → Type 0

@@ -1,15 +1,15 @@
 -- `tile_wiener::thirty_two::filter`: the quads are replaced in the order of 32·u + l, and V and W of each lane are those of its plane.
-use Rattle.tile_wiener.specs.ThirtyTwo.Prelude.{_≡_, refl, sym, Bool, true, false, not, _-_, _*_, _^_, _≤_, arith, needs, lit≤, inFloat, ofBits, longDoubles}
+use Rattle.tile_wiener.specs.ThirtyTwo.Prelude.{refl, true, _-_, _*_, _≤_, arith, needs, lit≤, ofBits, longDoubles}
 use mathlib.Core.Bool.{false≢true}
 use native.Mathlib.Nat.{le-trans}
-use lib.Dec.{le→leb}
+use Rattle.floats.specs.Casts.{whole-counted}
 use Rattle.floats.specs.QuotientLaws.{slightlyMore}
 use Rattle.recipe.specs.Tables32.{side32}
 use Rattle.tile_bin.specs.DoubleLaws.{quanta32}
 use Rattle.tile_quad.specs.QuadGains.{long-bins-fit, long-small-bins}
 use Rattle.tile_quad.specs.FilterLaws.{pair-filtered}
 use Rattle.tile_wiener.specs.ThirtyTwo.DoubleQuads.{Shrunk}
-use Rattle.tile_wiener.proofs.SureLaws.{shrunk-start, shrunk-at, shrunk-join}
+use Rattle.tile_wiener.proofs.SureLaws.{sure-of, shrunk-start, shrunk-at, shrunk-join}
 use Rattle.tile_wiener.proofs.DoubleGains.{double-quads}
 use Rattle.tile_wiener.proofs.thirty_two.filter as of
 
@@ -18,27 +18,6 @@ Inv-loop b₀ first second v w u₀ b u = (1 ≤ u) × (u ≤ 16) × (Shrunk tru
 
 abbrev μ-loop : of.Tie.MeasureT-loop
 μ-loop b₀ first second v w u₀ b u = 16 - u
-
--- what an `if` that is not taken says of a loop's answer
-sure-of : (s : Bool) → not s ≡ false → s ≡ true
-sure-of true e = refl
-sure-of false e = sym e
-
-int-to-float-alternating : of.Tie.Need-int-to-float-alternating Inv-loop μ-loop
-unfolding inFloat
-int-to-float-alternating c = le→leb (c .before .args .first) (2 ^ 53) (omega arith)
-
-int-to-float-alternating-2 : of.Tie.Need-int-to-float-alternating-2 Inv-loop μ-loop
-unfolding inFloat
-int-to-float-alternating-2 c = le→leb (c .before .before .args .second) (2 ^ 53) (omega arith)
-
-int-to-float-alternating-3 : of.Tie.Need-int-to-float-alternating-3 Inv-loop μ-loop
-unfolding inFloat
-int-to-float-alternating-3 c = le→leb (c .before .before .before .before .args .first) (2 ^ 53) (omega arith)
-
-int-to-float-alternating-4 : of.Tie.Need-int-to-float-alternating-4 Inv-loop μ-loop
-unfolding inFloat
-int-to-float-alternating-4 c = le→leb (c .before .before .before .before .before .args .second) (2 ^ 53) (omega arith)
 
 left-requires : of.Tie.Need-left-requires Inv-loop μ-loop
 left-requires c κs = c .before .before .before .before .corner .ensures .new .paired
@@ -106,4 +85,4 @@ returns-7 c =
 
 pub filter-spec : {M : Type 1} → of.Statement.statement M
 filter-spec = of.Tie.close (of.Tie.spec
-    Inv-loop μ-loop int-to-float-alternating int-to-float-alternating-2 (λ c κs. search needs) int-to-float-alternating-3 int-to-float-alternating-4 (λ c κs. search needs) returns returns-2 (λ c κs. search needs) returns-3 left-requires returns-4 loop-holds top-requires returns-5 inner-requires returns-6 (λ c. search needs) (λ c. search needs) loop-again returns-7)
+    Inv-loop μ-loop (λ c. whole-counted _ (omega arith)) (λ c. whole-counted _ (omega arith)) (λ c κs. search needs) (λ c. whole-counted _ (omega arith)) (λ c. whole-counted _ (omega arith)) (λ c κs. search needs) returns returns-2 (λ c κs. search needs) returns-3 left-requires returns-4 loop-holds top-requires returns-5 inner-requires returns-6 (λ c. search needs) (λ c. search needs) loop-again returns-7)

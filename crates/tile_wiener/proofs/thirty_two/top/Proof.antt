@@ -1,15 +1,12 @@
 -- `tile_wiener::thirty_two::top`: two lanes one after the other, asked together.
-use Rattle.tile_wiener.specs.ThirtyTwo.Prelude.{_≡_, refl, subst, List, ℕ, _+_, _*_, arith, needs, now, lit<, Float, Lanes}
-use Rattle.tile_quad.specs.LaneLaws.{lanes-at, lanes-join}
+use Rattle.tile_wiener.specs.ThirtyTwo.Prelude.{refl, _+_, _*_, arith, needs, now, lit<}
+use Rattle.tile_quad.specs.LaneLaws.{lanes-between, lanes-join}
 use Rattle.tile_wiener.specs.NewQuads.{sure-top}
 use Rattle.tile_wiener.proofs.SureLaws.{sure-one, sure-join, shrunk-at}
 use Rattle.tile_wiener.proofs.thirty_two.top as of
 
 top-lane-requires-2 : of.Tie.Need-top-lane-requires-2
 top-lane-requires-2 c κs = record { u-some = omega arith; u-below = omega arith; l-below = lit< tt; paired = c .before .top-lane .ensures .1 .paired }
-
-lanes-between : {f : (u l : ℕ) → List Float → List Float} {m n o p : ℕ} {b r : List (List Float)} → Lanes f m n b r → m ≡ o → n ≡ p → Lanes f o p b r
-lanes-between {f} {n = n} {b = b} {r} z d e = lanes-at (subst (λ m. Lanes f m n b r) d z) e
 
 returns : of.Tie.Need-returns
 returns c =
