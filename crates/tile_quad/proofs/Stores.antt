@@ -9,7 +9,7 @@ use Rattle.tile_quad.specs.LaneLaws.{quad-grid}
 abbrev put : ℕ → ℕ → Float → List (List Float) → List (List Float)
 put i j x t = set t i (set (getD t i []) j x)
 
--- both halves of a line
+-- rows and lanes of both halves by their remainders
 high : {n i : ℕ} → i < n → (n + i) % n ≡ i
 high {n} {i} h = add-mod-left n i ∙ mod-eq-of-lt h
 

@@ -55,6 +55,7 @@ module _ {h : ℕ} {Pair : List (List Float) → Type 0} {f : (u l : ℕ) → Li
   pub lanes-start : (n : ℕ) {b : List (List Float)} → Pair b → LanesOf h Pair f n n b b
   lanes-start n p = record { paired = p; new = λ u l h k i j. absurd (omega arith); rest = λ u l h k o. refl }
 
+  -- a range by equal ends
   pub lanes-at : {m n o : ℕ} {b r : List (List Float)} → LanesOf h Pair f m n b r → n ≡ o → LanesOf h Pair f m o b r
   lanes-at {m} {b = b} {r} p e = subst (λ n. LanesOf h Pair f m n b r) e p
 

@@ -1,5 +1,5 @@
--- Inside the crates of the merge: the Wiener step on two tiles side by side in double, quad by quad. Quad (u, l) holds lanes l and 16 + l of rows u and 8 + u:
--- of plane l % 2, quad (l / 2, u) of the tile, which is held by columns.
+-- Inside the crates of the merge: the Wiener step on two tiles of side 2·h side by side in double, quad by quad. Quad (u, l) holds lanes l and 2·h + l of rows u and
+-- h + u: of plane l % 2, quad (l / 2, u) of the tile, which is held by columns.
 use Rattle.tile_quad.specs.Prelude.{_≡_, cond, List, [], _∷_, ℕ, _+_, _*_, _≤_, _<_, eqb, getD, Float, nan, binary64, add, sub, cell, byKind, Paired}
 use Rattle.tile_spectrum.specs.Magnitudes.{binMost}
 use Rattle.tile_spectrum.specs.Lines.Doubles.{WholeDouble}
@@ -38,10 +38,11 @@ foldIn gains k u b =
 unfoldable pub quadIn : (real : Float → Float) (gains : (a b : Float) → List Float) (k u : ℕ) (q : List Float) → List Float
 quadIn real gains k u q = cond (eqb (k + u) 0) (cornerIn real q) (foldIn gains k u (binsIn k u q))
 
--- the parts of the bins of a quad are whole numbers of at most m; of side 16
+-- the parts of the bins of a quad are whole numbers of at most m
 pub record WholeBinsOf (m k u : ℕ) (q : List Float) : Type 0 where
   pub at : (i : ℕ) → i < 4 → WholeDouble m (numberOf (binsIn k u q) i)
 
+-- for side 16
 abbrev pub WholeBins : (k u : ℕ) (q : List Float) → Type 0
 WholeBins = WholeBinsOf binMost
 
