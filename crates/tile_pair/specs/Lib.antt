@@ -1,2 +1,1 @@
 pub mod Prelude
-pub mod Rounded

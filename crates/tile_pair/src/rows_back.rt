@@ -6,7 +6,7 @@ use rounding::MIDDLE;
 use rounding::MIDDLE_BITS;
 use rounding::round_away_31;
 ghost use Rattle.tile_pair.specs.Prelude.{_≡_, true, false, _+_, _*_, _/_, _%_, _^_, pos, _+ℤ_, length, getD, AtMost, away, tab, halfSum, LineMost, TileMost, WholeDouble, WholeRow, columnMost, halfMost, Paired, InDouble, planeIn, added};
-ghost use Rattle.tile_pair.specs.Rounded.{roundedDouble};
+ghost use Rattle.tile_spectrum.specs.Rounded.{roundedDouble};
 
 // x over 2^31, to nearest, halves away from zero.
 fn rounded(x: f64) -> i64

@@ -1,16 +1,8 @@
--- P of a whole number in double, as the code takes it.
-use Rattle.tile_pair32.specs.Prelude.{ℕ, ℤ, pos, _+ℤ_, _-ℤ_, Float, binary64, add, mul, toBits, middle, middleBits}
-use Rattle.floats.specs.ProductLaws.{fraction}
+-- P of a whole number in double where noise is middle, as the code takes it.
+use Rattle.tile_pair32.specs.Prelude.{ℕ, ℤ, pos, _+ℤ_, _-ℤ_, Float, binary64, add, toBits, middle, middleBits}
 use Rattle.floats.specs.TwiceLaws.{firstPart, secondPart}
 
--- x over 2^31, from the bits of its sum with 1.5·2^52
-unfoldable pub roundedBits : Float → ℕ
-roundedBits x = toBits binary64 (add binary64 (mul binary64 x (fraction 31)) middle)
-
-unfoldable pub roundedDouble : Float → ℤ
-roundedDouble x = pos (roundedBits x) -ℤ pos middleBits
-
--- the same by two such sums
+-- x over 2^31, from the bits of two sums with 1.5·2^52
 unfoldable pub firstBits : Float → ℕ
 firstBits x = toBits binary64 (add binary64 (firstPart x) middle)
 

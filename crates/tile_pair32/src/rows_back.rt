@@ -7,7 +7,8 @@ use rounding::TWO_31;
 use rounding::UNDER_2_31;
 use rounding::round_away_31;
 ghost use Rattle.tile_pair32.specs.Prelude.{_≡_, true, false, _+_, _*_, _/_, _%_, _^_, pos, _+ℤ_, length, getD, side32, AtMost, away, tab, halfSumOf, LineMost, TileMost, longColumnMost, longHalfMost, WholeDouble, WholeLine, planeIn, added, LongPaired, LongInDouble};
-ghost use Rattle.tile_pair32.specs.Rounded.{roundedDouble, twiceDouble};
+ghost use Rattle.tile_spectrum.specs.Rounded.{roundedDouble};
+ghost use Rattle.tile_pair32.specs.Rounded.{twiceDouble};
 
 // x over 2^31, to nearest, halves away from zero.
 fn rounded(x: f64) -> i64

@@ -23,3 +23,8 @@ pub mod FoldSizes
 pub mod LongPairs
 pub mod BinLaws
 pub mod LongLines
+pub mod ColumnLaws
+pub mod RowLaws
+pub mod AddingLaws
+pub mod Rounded
+pub mod HalvesLaws

@@ -1,6 +1,6 @@
 -- B, both G, their widths, their inverse sums, and P of both ends.
 use Rattle.range_pair.specs.Prelude.{_≡_, refl, _∙_, false, ℕ, ℤ, pos, now, binary64, ofBits, tab, grid, cell, doubles}
-use Rattle.tile_pair.proofs.ColumnLaws.{paired-grid}
+use Rattle.tile_spectrum.specs.ColumnLaws.{paired-grid}
 use Rattle.tile_pair.proofs.Passes.{columns-whole}
 use Rattle.tile_pair.proofs.Corrections.{binned-pair}
 use Rattle.range_pair.proofs.Planes.{gains, gains-whole, greatest-here, least-here, plus-ext}

@@ -3,7 +3,7 @@ use Rattle.range_pair.specs.Prelude.{refl, _∙_, ℕ, _+_, _*_, _/_, _%
 use Prim.Native.Nat.{zero-le}
 use Rattle.tile_spectrum.specs.Lines.Tiles.{cells-most}
 use Rattle.tile_spectrum.specs.SizeLaws.{correction-most}
-use Rattle.tile_pair.proofs.ColumnLaws.{paired-grid}
+use Rattle.tile_spectrum.specs.ColumnLaws.{paired-grid}
 use Rattle.tile_spatial.proofs.PairLaws.{table-most}
 use Rattle.range_pair.proofs.Planes.{pairP, greatest-equal, least-equal, plus-ext, added-most, added-is}
 use Rattle.range_pair.proofs.add_same as of

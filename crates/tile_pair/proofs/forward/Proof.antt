@@ -1,7 +1,7 @@
 -- `tile_pair::forward`: the columns, and then the rows along them, give B.
 use Rattle.tile_pair.specs.Prelude.{refl, _∙_, pos, binary64, ofBits, tab, grid, cell}
 use Rattle.tile_spectrum.specs.Lines.Tiles.{cells-most}
-use Rattle.tile_pair.proofs.ColumnLaws.{paired-grid}
+use Rattle.tile_spectrum.specs.ColumnLaws.{paired-grid}
 use Rattle.tile_pair.proofs.Passes.{columns-small, both-ways}
 use Rattle.tile_pair.proofs.forward as of
 

@@ -1,6 +1,6 @@
 -- `tile_pair::gains`: B, and one of the two filters in its place.
 use Rattle.tile_pair.specs.Prelude.{refl, binary64, ofBits, tab, grid, doubles}
-use Rattle.tile_pair.proofs.ColumnLaws.{paired-grid}
+use Rattle.tile_spectrum.specs.ColumnLaws.{paired-grid}
 use Rattle.tile_pair.proofs.Corrections.{binned-pair}
 use Rattle.tile_pair.proofs.gains as of
 

@@ -1,6 +1,6 @@
 -- `tile_pair::wiener_of`: one of the two filters, in place.
 use Rattle.tile_pair.specs.Prelude.{arith, doubles}
-use Rattle.tile_pair.proofs.ColumnLaws.{paired-grid}
+use Rattle.tile_spectrum.specs.ColumnLaws.{paired-grid}
 use Rattle.tile_pair.proofs.wiener_of as of
 
 filter-requires : of.Tie.Need-filter-requires

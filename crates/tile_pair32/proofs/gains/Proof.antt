@@ -1,6 +1,6 @@
 -- `tile_pair32::gains`: B, and one of the two filters in its place.
 use Rattle.tile_pair32.specs.Prelude.{arith, longDoubles}
-use Rattle.tile_pair32.proofs.ColumnLaws.{paired-grid}
+use Rattle.tile_spectrum.specs.ColumnLaws.{long-paired-grid}
 use Rattle.tile_pair32.proofs.Corrections.{binned-pair}
 use Rattle.tile_pair32.proofs.gains as of
 
@@ -12,7 +12,7 @@ unfolding longDoubles
 filter-requires c κs =
     let b = c .before in
     let s = b .before .before in
-    record { paired = paired-grid _ (b .forward .ensures); first-most = s .pre .first-most; second-most = s .pre .second-most }
+    record { paired = long-paired-grid _ (b .forward .ensures); first-most = s .pre .first-most; second-most = s .pre .second-most }
 
 returns : of.Tie.Need-returns
 returns c =

@@ -1,6 +1,6 @@
 -- The bins of the high and of the low parts, and what they make.
 use Rattle.tile_spatial.specs.Prelude.{refl, subst, sym, _∙_, now, binary64, ofBits, tab, grid, TileMost}
-use Rattle.tile_pair.proofs.ColumnLaws.{paired-grid}
+use Rattle.tile_spectrum.specs.ColumnLaws.{paired-grid}
 use Rattle.tile_spatial.specs.Steps.{copyPlaceMost}
 use Rattle.tile_spatial.proofs.PairLaws.{in-double, places-are, places-most}
 use Rattle.tile_spatial.proofs.bins as of

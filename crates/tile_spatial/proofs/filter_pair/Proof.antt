@@ -2,7 +2,7 @@
 use Rattle.tile_spatial.specs.Prelude.{_≡_, refl, sym, ap, subst, _∙_, false, ℕ, _+_, _*_, _/_, _%_, _^_, arith, needs, ℤ, pos, _+ℤ_, _*ℤ_, now, tab, TileMost, foldMost, spatialMost, spatialCorrectionMost, InDouble, planeIn, either}
 use Prim.Native.Nat.{zero-le}
 use Rattle.sequences.specs.Grid.{grid, cell, cell-grid, grid-ext}
-use Rattle.tile_pair.proofs.ColumnLaws.{paired-grid}
+use Rattle.tile_spectrum.specs.ColumnLaws.{paired-grid}
 use Rattle.tile_spatial.specs.Filtering.{copyIn, binNoise, stepAt, NoisesMost}
 use Rattle.tile_spatial.specs.FilteringLaws.{step-cong}
 use Rattle.tile_spatial.proofs.PairLaws.{table-most, lanes-most, step-whole, steps-are, steps-most}

@@ -1,8 +1,7 @@
 -- The rows are added to one after the other.
 use Rattle.range_pair.specs.Prelude.{sym, ap, subst, _∙_, [], _-_, _^_, arith, needs, getD, pos, _+ℤ_, now, tab, grid, cell, LineMost}
 use Rattle.sequences.specs.TabLaws.{Filled, fill-start, fill-turn, fill-rest, fill-done}
-use Rattle.tile_pair.proofs.ColumnLaws.{paired-lines}
-use Rattle.tile_pair.proofs.RowLaws.{paired-length}
+use Rattle.tile_spectrum.specs.ColumnLaws.{grid-rows, row-length}
 use Rattle.range_pair.specs.Added.{rowPlus}
 use Rattle.range_pair.proofs.adding.add_pair as of
 
@@ -19,7 +18,7 @@ add-row-requires c κs =
     let y = l .loop .y in
     let e = fill-rest (l .loop .inv) (omega arith) [] in
     let p = s .pre .sums in
-    record { part = s .pre .part .line y; sums = record { most = subst (LineMost (2 ^ 40)) (sym e) (p .most .line y); long = paired-length (p .paired) y (omega arith) e } }
+    record { part = s .pre .part .line y; sums = record { most = subst (LineMost (2 ^ 40)) (sym e) (p .most .line y); long = row-length 16 32 _ (p .paired .is) y (omega arith) e } }
 
 loop-again : of.Tie.Need-loop-again Inv-loop μ-loop
 unfolding cell
@@ -35,5 +34,5 @@ returns c = fill-done (c .before .loop .inv) (omega arith)
 
 pub add-pair-spec : {M : Type 1} → of.Statement.statement M
 add-pair-spec = of.Tie.close (of.Tie.spec
-    Inv-loop μ-loop (λ c. fill-start (paired-lines (c .pre .sums .paired))) (λ c. search needs) (λ c. search needs) (λ c. search needs)
+    Inv-loop μ-loop (λ c. fill-start (grid-rows 16 32 _ (c .pre .sums .paired .is))) (λ c. search needs) (λ c. search needs) (λ c. search needs)
     (λ c. search needs) add-row-requires (λ c. search needs) (λ c. search needs) loop-again returns)

@@ -1,8 +1,8 @@
 -- The sums are stored one after the other.
-use Rattle.range_pair.specs.Prelude.{refl, sym, ap₂, subst, _∙_, _-_, _^_, arith, needs, getD, pos, _+ℤ_, AtMost}
-use Rattle.sequences.specs.TabLaws.{Filled, fill-start, fill-turn, fill-rest, fill-done}
+use Rattle.range_pair.specs.Prelude.{refl, _-_, arith, needs, getD, pos, _+ℤ_}
+use Rattle.sequences.specs.TabLaws.{Filled, fill-start, fill-done}
 use Rattle.tile_spectrum.specs.Lines.Held.{line-at}
-use Rattle.tile_pair.proofs.Rounding.{more-fits, more-is}
+use Rattle.tile_spectrum.specs.AddingLaws.{adding-fits, adding-turn}
 use Rattle.range_pair.proofs.adding.add_row as of
 
 abbrev Inv-loop : of.Tie.InvT-loop
@@ -15,16 +15,13 @@ add-sum : of.Tie.Need-add-sum Inv-loop μ-loop
 add-sum c =
     let l = c .before .before .before in
     let s = l .before in
-    let m = subst (AtMost (2 ^ 40)) (sym (fill-rest (l .loop .inv) (omega arith) (pos 0))) (line-at (s .pre .sums .most) (l .loop .l)) in
-    more-fits m (line-at (s .pre .part) (l .loop .l)) tt tt
+    adding-fits (l .loop .inv) (omega arith) (s .pre .sums .most) (line-at (s .pre .part) (l .loop .l)) tt tt
 
 loop-again : of.Tie.Need-loop-again Inv-loop μ-loop
 loop-again c =
     let l = c .before .before .before in
     let s = l .before in
-    let e = fill-rest (l .loop .inv) (omega arith) (pos 0) in
-    let m = subst (AtMost (2 ^ 40)) (sym e) (line-at (s .pre .sums .most) (l .loop .l)) in
-    fill-turn (l .loop .inv) (omega arith) (more-is m (line-at (s .pre .part) (l .loop .l)) tt tt ∙ ap₂ _+ℤ_ e refl)
+    adding-turn (l .loop .inv) (omega arith) (s .pre .sums .most) (line-at (s .pre .part) (l .loop .l)) tt tt refl
 
 pub add-row-spec : {M : Type 1} → of.Statement.statement M
 add-row-spec = of.Tie.close (of.Tie.spec

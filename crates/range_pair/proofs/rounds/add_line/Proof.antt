@@ -1,10 +1,12 @@
 -- The halves of both rows, and P of them.
-use Rattle.range_pair.specs.Prelude.{_≡_, sym, ap, ap₂, _∙_, false, List, ℕ, _+_, _*_, _/_, _%_, _<_, arith, needs, lit≤, getD, ℤ, pos, _+ℤ_, now, Float, toSigned, tab, halfSum, WholeRow, columnMost}
+use Rattle.range_pair.specs.Prelude.{_≡_, sym, ap, ap₂, _∙_, false, List, ℕ, _+_, _*_, _/_, _%_, _<_, arith, needs, lit≤, getD, ℤ, pos, _+ℤ_, now, Float, toSigned, tab, side16, halfSum, WholeRow, columnMost}
 use native.Mathlib.Nat.{le-trans}
 use Rattle.sequences.specs.TabLaws.{getD-tab}
 use Rattle.sequences.specs.Grid.{tab-ext}
 use Rattle.floats.specs.Casts.{whole-back}
-use Rattle.tile_pair.proofs.Rounding.{whole-at, whole-halves-most}
+use Rattle.tile_spectrum.specs.Lines.DoubleCasts.{whole-at}
+use Rattle.tile_spectrum.specs.Lines.BackSizes.{half-sum-most}
+use Rattle.tile_spectrum.specs.HalvesLaws.{halves-most}
 use Rattle.range_pair.specs.Factors.{greatestOf, leastOf, halfIn}
 use Rattle.range_pair.specs.Added.{EndOf, rowPlus, halfEnd, lineEnd}
 use Rattle.range_pair.proofs.Planes.{half-ext}
@@ -35,8 +37,8 @@ add-row-requires c κs =
     let s = a .before in
     let p = s .pre in
     record {
-      low-in = whole-halves-most (p .low-in) (a .whole-halves-of .ensures (p .low-in));
-      high-in = whole-halves-most (p .high-in) (b .whole-halves-of2 .ensures (p .high-in));
+      low-in = halves-most side16 half-sum-most (p .low-in) (a .whole-halves-of .ensures (p .low-in));
+      high-in = halves-most side16 half-sum-most (p .high-in) (b .whole-halves-of2 .ensures (p .high-in));
       widths-most = p .widths-most;
       greatests = p .greatests;
       leasts = p .leasts;

@@ -1,9 +1,8 @@
 -- The rows are added to one after the other.
 use Rattle.range_pair.specs.Prelude.{sym, ap, subst, _∙_, [], _-_, _%_, _^_, arith, needs, getD, pos, _+ℤ_, now, tab, grid, cell, LineMost}
 use Rattle.sequences.specs.TabLaws.{Filled, fill-start, fill-turn, fill-rest, fill-done}
-use Rattle.tile_pair.proofs.ColumnLaws.{paired-lines}
-use Rattle.tile_pair.proofs.RowLaws.{paired-length}
-use Rattle.tile_pair.proofs.Rounding.{whole-row}
+use Rattle.tile_spectrum.specs.ColumnLaws.{grid-rows, row-length}
+use Rattle.tile_pair.proofs.WholeRows.{whole-row}
 use Rattle.range_pair.specs.Factors.{greatestOf, leastOf}
 use Rattle.range_pair.specs.Added.{rowPlus, lineEnd, tileEnd}
 use Rattle.range_pair.proofs.rounds.add_lines as of
@@ -17,7 +16,7 @@ abbrev μ-loop : of.Tie.MeasureT-loop
 μ-loop low high widths greatest₀ least₀ y₀ greatest least y = 16 - y
 
 loop-holds : of.Tie.Need-loop-holds Inv-loop μ-loop
-loop-holds c = (fill-start (paired-lines (c .pre .greatests .paired)), fill-start (paired-lines (c .pre .leasts .paired)))
+loop-holds c = (fill-start (grid-rows 16 32 _ (c .pre .greatests .paired .is)), fill-start (grid-rows 16 32 _ (c .pre .leasts .paired .is)))
 
 add-line-requires : of.Tie.Need-add-line-requires Inv-loop μ-loop
 add-line-requires c κs =
@@ -30,8 +29,8 @@ add-line-requires c κs =
       low-in = whole-row (p .low-in) y (omega arith);
       high-in = whole-row (p .high-in) y (omega arith);
       widths-most = p .widths-most .line (y % 8);
-      greatests = record { most = subst (LineMost (2 ^ 40)) (sym d) (p .greatests .most .line y); long = paired-length (p .greatests .paired) y (omega arith) d };
-      leasts = record { most = subst (LineMost (2 ^ 40)) (sym e) (p .leasts .most .line y); long = paired-length (p .leasts .paired) y (omega arith) e };
+      greatests = record { most = subst (LineMost (2 ^ 40)) (sym d) (p .greatests .most .line y); long = row-length 16 32 _ (p .greatests .paired .is) y (omega arith) d };
+      leasts = record { most = subst (LineMost (2 ^ 40)) (sym e) (p .leasts .most .line y); long = row-length 16 32 _ (p .leasts .paired .is) y (omega arith) e };
     }
 
 loop-again : of.Tie.Need-loop-again Inv-loop μ-loop

@@ -1,8 +1,8 @@
 -- Both sums are stored one after the other.
-use Rattle.range_pair.specs.Prelude.{sym, ap₂, subst, _∙_, _-_, _%_, _^_, arith, needs, getD, pos, _+ℤ_, w64, now, AtMost}
-use Rattle.sequences.specs.TabLaws.{Filled, fill-start, fill-turn, fill-rest, fill-done}
-use Rattle.tile_spectrum.specs.Lines.Held.{line-at, held-is, held-most}
-use Rattle.tile_pair.proofs.Rounding.{more-fits, more-is}
+use Rattle.range_pair.specs.Prelude.{ap, ap₂, _∙_, _-_, _%_, arith, needs, getD, pos, _+ℤ_, w64, now}
+use Rattle.sequences.specs.TabLaws.{Filled, fill-start, fill-done}
+use Rattle.tile_spectrum.specs.Lines.Held.{held-is, held-most}
+use Rattle.tile_spectrum.specs.AddingLaws.{adding-fits, adding-turn}
 use Rattle.range_pair.specs.Factors.{greatestOf, leastOf}
 use Rattle.range_pair.specs.Added.{halfEnd}
 use Rattle.range_pair.proofs.rounds.add_row as of
@@ -29,19 +29,15 @@ least-of-requires c κs =
 
 add-greatest : of.Tie.Need-add-greatest Inv-loop μ-loop
 add-greatest c =
-    let k = c .before in
-    let g = k .before .before .before .before in
+    let g = c .before .before .before .before .before in
     let l = g .before .before .before .before .before in
-    let m = subst (AtMost (2 ^ 40)) (sym (fill-rest (l .loop .inv .0) (omega arith) (pos 0))) (line-at (l .before .pre .greatests .most) (l .loop .l)) in
-    more-fits m (g .greatest-of .ensures .1) tt tt
+    adding-fits (l .loop .inv .0) (omega arith) (l .before .pre .greatests .most) (g .greatest-of .ensures .1) tt tt
 
 add-least : of.Tie.Need-add-least Inv-loop μ-loop
 add-least c =
     let k = c .before .before in
-    let g = k .before .before .before .before in
-    let l = g .before .before .before .before .before in
-    let m = subst (AtMost (2 ^ 40)) (sym (fill-rest (l .loop .inv .1) (omega arith) (pos 0))) (line-at (l .before .pre .leasts .most) (l .loop .l)) in
-    more-fits m (k .least-of .ensures .1) tt tt
+    let l = k .before .before .before .before .before .before .before .before .before in
+    adding-fits (l .loop .inv .1) (omega arith) (l .before .pre .leasts .most) (k .least-of .ensures .1) tt tt
 
 loop-again : of.Tie.Need-loop-again Inv-loop μ-loop
 loop-again c =
@@ -50,15 +46,13 @@ loop-again c =
     let l = g .before .before .before .before .before in
     let s = l .before in
     let i = l .loop .l in
-    let d = fill-rest (l .loop .inv .0) (omega arith) (pos 0) in
-    let e = fill-rest (l .loop .inv .1) (omega arith) (pos 0) in
-    let m = subst (AtMost (2 ^ 40)) (sym d) (line-at (s .pre .greatests .most) i) in
-    let n = subst (AtMost (2 ^ 40)) (sym e) (line-at (s .pre .leasts .most) i) in
-    let w = getD (now (s .args .widths)) (i % 16) 0 in (
-      fill-turn (l .loop .inv .0) (omega arith)
-          (more-is m (g .greatest-of .ensures .1) tt tt ∙ ap₂ _+ℤ_ d (g .greatest-of .ensures .0 ∙ ap₂ (λ a b. greatestOf a b w) (held-is w64 (s .pre .low-in) i tt) (held-is w64 (s .pre .high-in) i tt))),
-      fill-turn (l .loop .inv .1) (omega arith)
-          (more-is n (k .least-of .ensures .1) tt tt ∙ ap₂ _+ℤ_ e (k .least-of .ensures .0 ∙ ap₂ (λ a b. leastOf a b w) (held-is w64 (s .pre .low-in) i tt) (held-is w64 (s .pre .high-in) i tt))),
+    let w = getD (now (s .args .widths)) (i % 16) 0 in
+    let low = held-is w64 (s .pre .low-in) i tt in
+    let high = held-is w64 (s .pre .high-in) i tt in (
+      adding-turn (l .loop .inv .0) (omega arith) (s .pre .greatests .most) (g .greatest-of .ensures .1) tt tt
+          (ap (λ z. getD (now (s .args .greatest)) i (pos 0) +ℤ z) (g .greatest-of .ensures .0 ∙ ap₂ (λ a b. greatestOf a b w) low high)),
+      adding-turn (l .loop .inv .1) (omega arith) (s .pre .leasts .most) (k .least-of .ensures .1) tt tt
+          (ap (λ z. getD (now (s .args .least)) i (pos 0) +ℤ z) (k .least-of .ensures .0 ∙ ap₂ (λ a b. leastOf a b w) low high)),
     )
 
 pub add-row-spec : {M : Type 1} → of.Statement.statement M

@@ -1,10 +1,10 @@
 -- `tile_pair32::rows_back::add_whole_row`: the sums are stored one after the other.
-use Rattle.tile_pair32.specs.Prelude.{sym, ap, ap₂, subst, _∙_, false, _-_, _^_, arith, needs, lit<, lit≤, getD, ℤ, pos, _+ℤ_, w64, AtMost, away, longHalfMost}
+use Rattle.tile_pair32.specs.Prelude.{sym, ap, subst, _∙_, false, _-_, _^_, arith, needs, lit<, lit≤, getD, ℤ, pos, _+ℤ_, w64, now, AtMost, away, longHalfMost}
 use native.Mathlib.Nat.{le-trans}
-use Rattle.sequences.specs.TabLaws.{Filled, fill-start, fill-turn, fill-rest, fill-done}
-use Rattle.tile_spectrum.specs.Lines.Held.{line-at, held-is, held-most}
+use Rattle.sequences.specs.TabLaws.{Filled, fill-start, fill-done}
+use Rattle.tile_spectrum.specs.Lines.Held.{held-is, held-most}
 use Rattle.tile_spectrum.specs.RoundingLaws.{away-most}
-use Rattle.tile_pair32.proofs.Rounding.{more-fits, more-is}
+use Rattle.tile_spectrum.specs.AddingLaws.{adding-fits, adding-turn}
 use Rattle.tile_pair32.proofs.rows_back.add_whole_row as of
 
 abbrev Inv-loop : of.Tie.InvT-loop
@@ -25,18 +25,15 @@ round-away-31-requires c κs =
 add-sum : of.Tie.Need-add-sum Inv-loop μ-loop
 add-sum c =
     let l = c .before .before .before .before in
-    let m = subst (AtMost (2 ^ 40)) (sym (fill-rest (l .loop .inv) (omega arith) (pos 0))) (line-at (l .before .pre .sums-most) (l .loop .l)) in
     let r = subst (AtMost (2 ^ 24)) (sym (c .round-away-31 .ensures)) (rounded-most _ (held-most w64 (l .before .pre .halves-most) (l .loop .l) tt)) in
-    more-fits m r tt tt
+    adding-fits (l .loop .inv) (omega arith) (l .before .pre .sums-most) r tt tt
 
 loop-again : of.Tie.Need-loop-again Inv-loop μ-loop
 loop-again c =
     let l = c .before .before .before .before in
-    let m = subst (AtMost (2 ^ 40)) (sym (fill-rest (l .loop .inv) (omega arith) (pos 0))) (line-at (l .before .pre .sums-most) (l .loop .l)) in
     let r = subst (AtMost (2 ^ 24)) (sym (c .round-away-31 .ensures)) (rounded-most _ (held-most w64 (l .before .pre .halves-most) (l .loop .l) tt)) in
-    fill-turn (l .loop .inv) (omega arith)
-    (more-is m r tt tt
-    ∙ ap₂ _+ℤ_ (fill-rest (l .loop .inv) (omega arith) (pos 0)) (c .round-away-31 .ensures ∙ ap (λ z. away z (2 ^ 31)) (held-is w64 (l .before .pre .halves-most) (l .loop .l) tt)))
+    adding-turn (l .loop .inv) (omega arith) (l .before .pre .sums-most) r tt tt
+    (ap (λ z. getD (now (l .before .args .sum)) (l .loop .l) (pos 0) +ℤ z) (c .round-away-31 .ensures ∙ ap (λ z. away z (2 ^ 31)) (held-is w64 (l .before .pre .halves-most) (l .loop .l) tt)))
 
 pub add-whole-row-spec : {M : Type 1} → of.Statement.statement M
 add-whole-row-spec = of.Tie.close (of.Tie.spec

@@ -1,8 +1,7 @@
 -- The rows are added to one after the other.
 use Rattle.tile_spatial.specs.Prelude.{sym, ap, subst, _∙_, [], _-_, arith, needs, getD, pos, _+ℤ_, _*ℤ_, now, tab, grid, cell}
 use Rattle.sequences.specs.TabLaws.{Filled, fill-start, fill-turn, fill-rest, fill-done}
-use Rattle.tile_pair.proofs.ColumnLaws.{paired-lines}
-use Rattle.tile_pair.proofs.RowLaws.{paired-length}
+use Rattle.tile_spectrum.specs.ColumnLaws.{grid-rows, row-length}
 use Rattle.tile_spatial.specs.Filtering.{SumRow}
 use Rattle.tile_spatial.proofs.adding.add_times as of
 
@@ -14,7 +13,7 @@ abbrev μ-loop : of.Tie.MeasureT-loop
 
 loop-holds : of.Tie.Need-loop-holds Inv-loop μ-loop
 loop-holds c =
-    fill-start (paired-lines (c .pre .paired))
+    fill-start (grid-rows 16 32 _ (c .pre .paired .is))
 
 add-row-requires : of.Tie.Need-add-row-requires Inv-loop μ-loop
 add-row-requires c κs =
@@ -26,7 +25,7 @@ add-row-requires c κs =
       frames-fit = s .pre .frames-fit;
       part = s .pre .part .line y;
       sums = subst (SumRow (s .args .frames)) (sym e) (s .pre .sums .row y);
-      long = paired-length (s .pre .paired) y (omega arith) e;
+      long = row-length 16 32 _ (s .pre .paired .is) y (omega arith) e;
     }
 
 loop-again : of.Tie.Need-loop-again Inv-loop μ-loop
