@@ -1,10 +1,12 @@
 -- Inside the crates of the merge: pairs of tiles of an accepted burst: samples up to 4095, so differences up to 4095.
-use Rattle.merge_tiles.specs.Prelude.{_≡_, ap, ap₂, _∙_, List, [], ℕ, _-_, _*_, _/_, _%_, _≤_, _<_, arith, length, ℤ, pos, natAbs, _-ℤ_, tab, Shape, sampleAt, planeOf, read, Allowed, SamplesFit, ValuesFit, Side, Merge, Scene, tileAt, referenceTile, otherTile, tileDifference, sceneAt, LineMost, TileMost, sideBySide}
+use Rattle.merge_tiles.specs.Prelude.{_≡_, sym, ap, ap₂, subst, _∙_, List, [], ℕ, _+_, _-_, _*_, _/_, _%_, _≤_, _<_, arith, length, getD, ℤ, pos, natAbs, _-ℤ_, tab, Shape, sampleAt, planeOf, read, Allowed, SamplesFit, ValuesFit, VectorsFit, Side, Merge, Scene, tileAt, referenceTile, otherTile, tileDifference, sceneAt, LineMost, TileMost, sideBySide}
+use Rattle.algebra.specs.Prelude.{w32, toZ, ofZ, toZ-ofZ}
+use Rattle.algebra.specs.Bound.{AtMost, most-fits}
 use Rattle.algebra.specs.Order.{zarith, sub-pn, min-pn, abs-pn}
 use Rattle.sequences.specs.TabLaws.{length-tab, tab-every}
 use Rattle.sequences.specs.Grid.{grid, cell, cell-grid, grid-ext}
 use Rattle.geometry.specs.ReadLaws.{plane-inside}
-use Rattle.geometry.specs.Vectors.{otherFrame}
+use Rattle.geometry.specs.Vectors.{otherFrame, vectorPlace, downAt, rightAt}
 use Rattle.geometry.specs.VectorLaws.{other-below}
 use Rattle.merge_tiles.specs.declared.Site.{Site}
 use Rattle.merge_tiles.specs.Accepted.{Accepted, Sited}
@@ -29,6 +31,30 @@ tile-fits n f h e =
     record {
       row = rw e (tab-every ValuesFit [] (λ i. tab (2 * n) (sideBySide f i)) (record { most = λ l. omega arith }) (λ i. record { most = tab-every (λ n. n ≤ 4095) 0 (sideBySide f i) (omega arith) (λ l. h (l % 2) (omega arith) i (l / 2)) (2 * n) }) n);
     }
+
+-- a part of a vector, as the code holds it
+module _ {vectors : List ℤ} (v : VectorsFit vectors) (k : ℕ) where
+  pub part-most : AtMost 172 (getD vectors k (pos 0))
+  part-most = record { most = v .most k }
+
+  pub part-is : toZ w32 (ofZ w32 (getD vectors k (pos 0))) ≡ getD vectors k (pos 0)
+  part-is = toZ-ofZ (most-fits w32 _ 172 part-most tt)
+
+-- Tz of a pair: that of the frame which k names, moved by the vector that stands at its place
+pub other-pair-is : (n : ℕ) (side : Side) (m : Merge) (samples : List ℕ) (vectors : List ℤ) (rowParity a b k : ℕ) {frame place : ℕ} {down right : ℤ}
+    → frame ≡ otherFrame (m .reference) k → place ≡ vectorPlace (m .shape) k a b → down ≡ getD vectors place (pos 0) → right ≡ getD vectors (place + 1) (pos 0)
+    → grid n (2 * n) (sideBySide (λ p. tileAt side (m .shape .height) (m .shape .width) rowParity p (sampleAt (m .shape) samples frame) down right a b))
+    ≡ grid n (2 * n) (sideBySide (λ p. otherTile (sceneAt side m samples vectors) rowParity p a b k))
+unfolding otherTile sceneAt downAt rightAt
+other-pair-is n side m samples vectors rowParity a b k f p d r = rw (d, r, f, p)
+
+-- a site of an accepted burst has a vector
+module _ {n : ℕ} {m : Merge} {samples : List ℕ} {vectors : List ℤ} (ok : Accepted n m samples vectors) {site : Site} (sited : Sited n (m .shape) site) where
+  pub site-row : site .row < m .shape .height / m .shape .side + 1
+  site-row = subst (λ n. site .row < m .shape .height / n + 1) (sym (ok .side-is)) (omega (arith, sited .row))
+
+  pub site-column : site .column < m .shape .width / m .shape .side + 1
+  site-column = subst (λ n. site .column < m .shape .width / n + 1) (sym (ok .side-is)) (omega (arith, sited .column))
 
 apart : (x y : ℕ) → x ≤ 4095 → y ≤ 4095 → natAbs (pos x -ℤ pos y) ≤ 4095
 apart x y h k = omega (zarith, sub-pn (pos x) (pos y), min-pn (pos x -ℤ pos y), abs-pn (pos x -ℤ pos y))

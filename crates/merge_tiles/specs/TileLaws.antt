@@ -1,5 +1,5 @@
 -- Inside the crates of the merge: r and V of a pair of tiles by their cells, and what is taken from a pair where s is 0.
-use Rattle.merge_tiles.specs.Prelude.{_≡_, sym, ap, subst, _∙_, List, ℕ, suc, _+_, _*_, _/_, _%_, _≤_, _<_, arith, ℤ, natAbs, Side, Merge, spatialNumber, mergedSum, Scene, blackOf, referenceTile, referenceRoot, tileNoise, tileSpatial, tileHere, sceneAt, either}
+use Rattle.merge_tiles.specs.Prelude.{_≡_, sym, ap, subst, _∙_, List, ℕ, suc, _+_, _*_, _/_, _%_, _≤_, _<_, arith, lit<, ℤ, natAbs, Side, Merge, spatialNumber, mergedSum, Scene, blackOf, referenceTile, referenceRoot, tileNoise, tileSpatial, tileHere, sceneAt, either}
 use native.Mathlib.Nat.{le-trans, mul-le-mul-right}
 use Rattle.sequences.specs.Grid.{cell, cell-grid, grid-ext}
 use Rattle.recipe.specs.NoiseNumber.{tileRoot, noiseNumber}
@@ -12,7 +12,7 @@ use Rattle.merge_tiles.specs.NoiseLaws.{both}
 module _ (n : ℕ) (side : Side) (sided : side .side ≡ n) (m : Merge) (samples : List ℕ) (vectors : List ℤ) (t : Site) {t0 : List (List ℕ)}
     (e : t0 ≡ pairAt n (referenceTile (sceneAt side m samples vectors)) t) where
   -- r of the tile of column parity p, by its cells
-  pub root-of : (p : ℕ) → p < 2 → (at : ℕ → ℕ) → ((j : ℕ) → at j ≡ 2 * j + p) → {black root : ℕ} → black ≡ blackOf (m .tuning) (t .parity) p → root ≡ tileRoot n black (λ i j. cell 0 t0 i (at j))
+  root-of : (p : ℕ) → p < 2 → (at : ℕ → ℕ) → ((j : ℕ) → at j ≡ 2 * j + p) → {black root : ℕ} → black ≡ blackOf (m .tuning) (t .parity) p → root ≡ tileRoot n black (λ i j. cell 0 t0 i (at j))
       → root ≡ atSite (referenceRoot (sceneAt side m samples vectors)) t p
   unfolding sceneAt
   root-of p h at place {black} b r =
@@ -25,17 +25,25 @@ module _ (n : ℕ) (side : Side) (sided : side .side ≡ n) (m : Merge) (samples
           let column : at j / 2 ≡ j = omega (arith, place j) in
           ap (λ x. cell 0 x i (at j)) e ∙ cell-grid 0 n (2 * n) _ i (at j) k (omega (arith, place j)) ∙ rw (parity, column)
 
-  -- and its V
-  pub number : (p : ℕ) {root noise : ℕ} → root ≡ atSite (referenceRoot (sceneAt side m samples vectors)) t p
-      → noise ≡ noiseNumber side (m .tuning .strength) (m .shot) (m .read) root → noise ≡ atSite (tileNoise (sceneAt side m samples vectors)) t p
-  unfolding tileNoise sceneAt
-  number p r v = v ∙ ap (noiseNumber side (m .tuning .strength) (m .shot) (m .read)) r
+  -- r of either tile, from the cells of its columns
+  module _ {b c r q : ℕ} (f : b ≡ blackOf (m .tuning) (t .parity) 0) (g : c ≡ blackOf (m .tuning) (t .parity) 1)
+      (h : r ≡ tileRoot n b (λ i j. cell 0 t0 i (2 * j))) (k : q ≡ tileRoot n c (λ i j. cell 0 t0 i (2 * j + 1))) where
+    pub roots-of : (p : ℕ) → p < 2 → either r q p ≡ atSite (referenceRoot (sceneAt side m samples vectors)) t p
+    roots-of =
+        both (λ p. either r q p ≡ atSite (referenceRoot (sceneAt side m samples vectors)) t p) (root-of 0 (lit< tt) (λ j. 2 * j) (λ j. omega arith) f h)
+        (root-of 1 (lit< tt) (λ j. 2 * j + 1) (λ j. omega arith) g k)
 
-  -- both of them
-  pub tile-of : {top first second : ℕ} → first ≡ atSite (tileNoise (sceneAt side m samples vectors)) t 0 → second ≡ atSite (tileNoise (sceneAt side m samples vectors)) t 1
-      → first ≤ top → second ≤ top → TileOf n top (sceneAt side m samples vectors) t t0 first second
-  tile-of {first = first} {second} v w f g =
-      record { is = e; number = both (λ p. either first second p ≡ atSite (tileNoise (sceneAt side m samples vectors)) t p) v w; first-most = f; second-most = g }
+    -- and its V
+    module _ {v w : ℕ} (x : v ≡ noiseNumber side (m .tuning .strength) (m .shot) (m .read) r) (y : w ≡ noiseNumber side (m .tuning .strength) (m .shot) (m .read) q) where
+      pub numbers-of : (p : ℕ) → p < 2 → either v w p ≡ atSite (tileNoise (sceneAt side m samples vectors)) t p
+      unfolding tileNoise sceneAt
+      numbers-of =
+          both (λ p. either v w p ≡ atSite (tileNoise (sceneAt side m samples vectors)) t p)
+          (x ∙ ap (noiseNumber side (m .tuning .strength) (m .shot) (m .read)) (roots-of 0 (lit< tt)))
+          (y ∙ ap (noiseNumber side (m .tuning .strength) (m .shot) (m .read)) (roots-of 1 (lit< tt)))
+
+      pub tile-of : {top : ℕ} → v ≤ top → w ≤ top → TileOf n top (sceneAt side m samples vectors) t t0 v w
+      tile-of low high = record { is = e; number = numbers-of; first-most = low; second-most = high }
 
 -- s = 0
 module _ (s : Scene) (t : Site) (off : s .tuning .spatial ≡ 0) where

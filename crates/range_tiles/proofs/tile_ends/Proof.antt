@@ -1,8 +1,7 @@
 -- T0 has its roots, and at either noise its noise numbers.
-use Rattle.range_tiles.specs.Prelude.{_≡_, refl, List, ℕ, _-_, _+_, _*_, _≤_, _<_, arith, needs, lit<, now, cell, side16, Merge, referenceTile, tileNoise, sceneAt, greatestAt, leastAt, Noises, noiseOf, atSite}
+use Rattle.range_tiles.specs.Prelude.{_≡_, refl, ℕ, _<_, arith, needs, now, cell, side16, Merge, referenceTile, tileNoise, sceneAt, greatestAt, leastAt, Noises, noiseOf, atSite}
 use Rattle.merge_tiles.specs.DifferenceLaws.{tile-fits, reference-most}
-use Rattle.merge_tiles.specs.NoiseLaws.{both}
-use Rattle.merge_tiles.specs.TileLaws.{root-of, number}
+use Rattle.merge_tiles.specs.TileLaws.{numbers-of}
 use Rattle.range_tiles.specs.EndSums.{raised, tilePair, NoisesAre}
 use Rattle.range_tiles.specs.EndSumLaws.{end-taken}
 use Rattle.range_tiles.proofs.tile_ends as of
@@ -41,11 +40,8 @@ module _ (c : of.Tie.After-pair-roots) (m : Merge) (e : let t = c .before .befor
       let b = c .before .before in
       let t = b .before .before in
       let a = t .before .before .before .before .args in
-      both (λ p. noiseOf v p ≡ atSite (tileNoise (sceneAt side16 m (now (a .samples)) (now (a .vectors)))) (a .site) p)
-      (number 16 side16 sided m (now (a .samples)) (now (a .vectors)) (a .site) e 0
-      (root-of 16 side16 sided m (now (a .samples)) (now (a .vectors)) (a .site) e 0 (lit< tt) (λ j. 2 * j) (λ j. omega arith) (rw tuned (b .before .plane-black .ensures)) (c .pair-roots .ensures .first)) (known .first-is))
-      (number 16 side16 sided m (now (a .samples)) (now (a .vectors)) (a .site) e 1
-      (root-of 16 side16 sided m (now (a .samples)) (now (a .vectors)) (a .site) e 1 (lit< tt) (λ j. 2 * j + 1) (λ j. omega arith) (rw tuned (b .plane-black2 .ensures)) (c .pair-roots .ensures .second)) (known .second-is))
+      numbers-of 16 side16 sided m (now (a .samples)) (now (a .vectors)) (a .site) e (rw tuned (b .before .plane-black .ensures)) (rw tuned (b .plane-black2 .ensures))
+      (c .pair-roots .ensures .first) (c .pair-roots .ensures .second) (known .first-is) (known .second-is)
 
 summed-requires : of.Tie.Need-summed-requires
 summed-requires c κs =

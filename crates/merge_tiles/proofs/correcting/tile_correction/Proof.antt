@@ -1,11 +1,10 @@
 -- T0 has its roots and its noise numbers, and what is taken from it is its sums, or these with the spatial filter's.
-use Rattle.merge_tiles.specs.Prelude.{_≡_, refl, List, ℕ, suc, _+_, _*_, _≤_, _<_, arith, needs, lit≤, lit<, ℤ, now, cell, side16, noiseMost, smallMost, either, Merge, referenceTile, referenceRoot, sceneAt, SpatialRange}
-use Rattle.merge_tiles.specs.declared.Site.{Site}
+use Rattle.merge_tiles.specs.Prelude.{_≡_, refl, List, ℕ, suc, _≤_, _<_, arith, needs, lit≤, ℤ, now, cell, side16, noiseMost, smallMost, either, Merge, referenceTile, referenceRoot, sceneAt, SpatialRange}
 use Rattle.merge_tiles.specs.Accepted.{Accepted, Tuned}
 use Rattle.merge_tiles.specs.Sum.{atSite, pairAt, TileOf}
 use Rattle.merge_tiles.specs.DifferenceLaws.{tile-fits, reference-most}
 use Rattle.merge_tiles.specs.NoiseLaws.{both}
-use Rattle.merge_tiles.specs.TileLaws.{root-of, number, tile-of, taken-off}
+use Rattle.merge_tiles.specs.TileLaws.{roots-of, tile-of, taken-off}
 use Rattle.merge_tiles.proofs.Filtering.{sums-fit, sums-paired, taken-on}
 use Rattle.merge_tiles.proofs.correcting.tile_correction as of
 
@@ -38,20 +37,17 @@ roots-known c =
     let b = r .before .before in
     let t = b .before .before in
     let a = t .before .before .before .before .args in
-    both (λ p. rootsOf c p ≡ atSite (referenceRoot (sceneAt side16 (a .m) (now (a .samples)) (now (a .vectors)))) (a .site) p)
-    (root-of 16 side16 sided (a .m) (now (a .samples)) (now (a .vectors)) (a .site) (tile-is t) 0 (lit< tt) (λ j. 2 * j) (λ j. omega arith) (b .before .plane-black .ensures) (r .pair-roots .ensures .first))
-    (root-of 16 side16 sided (a .m) (now (a .samples)) (now (a .vectors)) (a .site) (tile-is t) 1 (lit< tt) (λ j. 2 * j + 1) (λ j. omega arith) (b .plane-black2 .ensures) (r .pair-roots .ensures .second))
+    roots-of 16 side16 sided (a .m) (now (a .samples)) (now (a .vectors)) (a .site) (tile-is t) (b .before .plane-black .ensures) (b .plane-black2 .ensures) (r .pair-roots .ensures .first) (r .pair-roots .ensures .second)
 
 known : (c : of.Tie.After-tile-noise2) → let t = c .before .before .before .before .before .before in let a = t .before .before .before .before .args in
     TileOf 16 noiseMost (sceneAt side16 (a .m) (now (a .samples)) (now (a .vectors))) (a .site) (t .pair .last .1 .1 .1 .1 .1 .1 .0) (c .before .tile-noise .result) (c .tile-noise2 .result)
 known c =
-    let v = c .before in
-    let t = v .before .before .before .before .before in
+    let r = c .before .before in
+    let b = r .before .before in
+    let t = b .before .before in
     let a = t .before .before .before .before .args in
-    tile-of 16 side16 sided (a .m) (now (a .samples)) (now (a .vectors)) (a .site) (tile-is t)
-    (number 16 side16 sided (a .m) (now (a .samples)) (now (a .vectors)) (a .site) (tile-is t) 0 (roots-known c 0 (lit< tt)) (v .tile-noise .ensures .0))
-    (number 16 side16 sided (a .m) (now (a .samples)) (now (a .vectors)) (a .site) (tile-is t) 1 (roots-known c 1 (lit< tt)) (c .tile-noise2 .ensures .0))
-    (v .tile-noise .ensures .1) (c .tile-noise2 .ensures .1)
+    tile-of 16 side16 sided (a .m) (now (a .samples)) (now (a .vectors)) (a .site) (tile-is t) (b .before .plane-black .ensures) (b .plane-black2 .ensures) (r .pair-roots .ensures .first) (r .pair-roots .ensures .second)
+    (c .before .tile-noise .ensures .0) (c .tile-noise2 .ensures .0) (c .before .tile-noise .ensures .1) (c .tile-noise2 .ensures .1)
 
 summed-requires : of.Tie.Need-summed-requires
 summed-requires c κs =

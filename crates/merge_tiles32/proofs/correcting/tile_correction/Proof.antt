@@ -1,10 +1,8 @@
 -- T0 has its roots and its noise numbers, and what is taken from it is its sums.
-use Rattle.merge_tiles32.specs.Prelude.{_≡_, refl, ℕ, _+_, _*_, _<_, arith, needs, lit≤, lit<, now, cell, side32, longNoiseMost, referenceTile, referenceRoot, sceneAt, TileOf, atSite, pairAt}
-use Rattle.tile_spectrum.specs.Pairs.{either}
+use Rattle.merge_tiles32.specs.Prelude.{_≡_, refl, arith, needs, lit≤, now, cell, side32, longNoiseMost, referenceTile, sceneAt, TileOf, pairAt}
 use Rattle.merge_tiles32.specs.Sizes.{longSmallMost}
 use Rattle.merge_tiles.specs.DifferenceLaws.{tile-fits, reference-most}
-use Rattle.merge_tiles.specs.NoiseLaws.{both}
-use Rattle.merge_tiles.specs.TileLaws.{root-of, number, tile-of, taken-off}
+use Rattle.merge_tiles.specs.TileLaws.{tile-of, taken-off}
 use Rattle.merge_tiles32.proofs.correcting.tile_correction as of
 
 sided : side32 .side ≡ 32
@@ -25,31 +23,16 @@ pair-roots-requires c κs =
     let fits = tile-fits 32 _ (reference-most side32 (s .pre .accepted) (s .pre .sited)) (tile-is t) in
     record { most = λ i l. fits .row i .most l }
 
-abbrev rootsOf : of.Tie.After-tile-noise2 → ℕ → ℕ
-rootsOf c = either (c .before .before .pair-roots .result .first) (c .before .before .pair-roots .result .second)
-
--- r of either plane
-roots-known : (c : of.Tie.After-tile-noise2) → let a = c .before .before .before .before .before .before .before .before .before .before .args in
-    (p : ℕ) → p < 2 → rootsOf c p ≡ atSite (referenceRoot (sceneAt side32 (a .m) (now (a .samples)) (now (a .vectors)))) (a .site) p
-roots-known c =
+-- V of either plane
+known : (c : of.Tie.After-tile-noise2) → let t = c .before .before .before .before .before .before in let a = t .before .before .before .before .args in
+    TileOf 32 longNoiseMost (sceneAt side32 (a .m) (now (a .samples)) (now (a .vectors))) (a .site) (t .pair .last .1 .1 .1 .1 .1 .1 .0) (c .before .tile-noise .result) (c .tile-noise2 .result)
+known c =
     let r = c .before .before in
     let b = r .before .before in
     let t = b .before .before in
     let a = t .before .before .before .before .args in
-    both (λ p. rootsOf c p ≡ atSite (referenceRoot (sceneAt side32 (a .m) (now (a .samples)) (now (a .vectors)))) (a .site) p)
-    (root-of 32 side32 sided (a .m) (now (a .samples)) (now (a .vectors)) (a .site) (tile-is t) 0 (lit< tt) (λ j. 2 * j) (λ j. omega arith) (b .before .plane-black .ensures) (r .pair-roots .ensures .first))
-    (root-of 32 side32 sided (a .m) (now (a .samples)) (now (a .vectors)) (a .site) (tile-is t) 1 (lit< tt) (λ j. 2 * j + 1) (λ j. omega arith) (b .plane-black2 .ensures) (r .pair-roots .ensures .second))
-
-known : (c : of.Tie.After-tile-noise2) → let t = c .before .before .before .before .before .before in let a = t .before .before .before .before .args in
-    TileOf 32 longNoiseMost (sceneAt side32 (a .m) (now (a .samples)) (now (a .vectors))) (a .site) (t .pair .last .1 .1 .1 .1 .1 .1 .0) (c .before .tile-noise .result) (c .tile-noise2 .result)
-known c =
-    let v = c .before in
-    let t = v .before .before .before .before .before in
-    let a = t .before .before .before .before .args in
-    tile-of 32 side32 sided (a .m) (now (a .samples)) (now (a .vectors)) (a .site) (tile-is t)
-    (number 32 side32 sided (a .m) (now (a .samples)) (now (a .vectors)) (a .site) (tile-is t) 0 (roots-known c 0 (lit< tt)) (v .tile-noise .ensures .0))
-    (number 32 side32 sided (a .m) (now (a .samples)) (now (a .vectors)) (a .site) (tile-is t) 1 (roots-known c 1 (lit< tt)) (c .tile-noise2 .ensures .0))
-    (v .tile-noise .ensures .1) (c .tile-noise2 .ensures .1)
+    tile-of 32 side32 sided (a .m) (now (a .samples)) (now (a .vectors)) (a .site) (tile-is t) (b .before .plane-black .ensures) (b .plane-black2 .ensures) (r .pair-roots .ensures .first) (r .pair-roots .ensures .second)
+    (c .before .tile-noise .ensures .0) (c .tile-noise2 .ensures .0) (c .before .tile-noise .ensures .1) (c .tile-noise2 .ensures .1)
 
 summed-requires : of.Tie.Need-summed-requires
 summed-requires c κs =
