@@ -1,47 +1,26 @@
 -- The two passes of the transform, and those of the inverse, on a pair.
-use Rattle.tile_pair.specs.Prelude.{_≡_, sym, ap, subst, _∙_, Bool, true, false, List, [], ℕ, suc, _+_, _*_, _/_, _%_, _^_, _≤_, arith, lit<, lit≤, ℤ, pos, negsuc, natAbs, negℤ, _+ℤ_, _*ℤ_, Float, binary64, ofInt, tab, away, halfcomplex, backward, halfSum, differenceMost, pairLineMost, foldMost, columnMost, LineMost, TileMost, side16, twoWay, transposed, backSum, apartOf, backSumOf, countedOf, InDouble, planeIn, sideBySide, doubles}
-use Prim.Native.Nat.{zero-le}
+use Rattle.tile_pair.specs.Prelude.{_≡_, sym, subst, Bool, true, false, List, ℕ, _/_, _%_, _^_, _≤_, arith, lit≤, ℤ, pos, natAbs, _+ℤ_, Float, away, halfcomplex, backward, halfSum, differenceMost, pairLineMost, foldMost, columnMost, TileMost, side16, twoWay, transposed, backSum, InDouble, planeIn, sideBySide, doubles}
 use native.Mathlib.Nat.{le-trans}
-use Rattle.sequences.specs.TabLaws.{tab-each}
-use Rattle.sequences.specs.Grid.{grid, cell, cell-grid, grid-ext}
-use Rattle.algebra.specs.NearestLaws.{away-odd}
+use Rattle.sequences.specs.Grid.{grid, cell}
 use Rattle.tile_spectrum.specs.Lines.HalfSumLaws.{half-sum}
+use Rattle.tile_spectrum.specs.Turns.{turns16}
+use Rattle.tile_spectrum.specs.PassLaws.{grid-most, both-ways-of, back-is-of}
 use Rattle.tile_spectrum.specs.Lines.BackSizes.{backward-most}
-use Rattle.tile_spectrum.specs.Lines.Tiles.{line-most}
-use Rattle.tile_spectrum.specs.SpectrumLaws.{columns-first}
-use Rattle.tile_spectrum.specs.LineLaws.{halfcomplex-ext, halfcomplex-most}
-
--- a pair of small numbers
-pub pair-most : (b : ℕ) (f : ℕ → ℕ → ℤ) → ((k l : ℕ) → natAbs (f k l) ≤ b) → TileMost b (grid 16 32 f)
-unfolding grid
-pair-most b f h = record { line = tab-each (LineMost b) [] (λ k. tab 32 (f k)) (record { at = λ i. zero-le }) 16 (λ k l. line-most b (f k) (h k) 32) }
+use Rattle.tile_spectrum.specs.LineLaws.{halfcomplex-most}
 
 -- the columns' transforms a
 module _ (d : ℕ → ℕ → ℤ) {a : List (List ℤ)} (p : a ≡ grid 16 32 (λ b l. halfcomplex (λ y. d y l) b)) where
   pub columns-small : ((y l : ℕ) → natAbs (d y l) ≤ differenceMost) → TileMost pairLineMost a
   columns-small m =
       subst (TileMost pairLineMost) (sym p)
-      (pair-most pairLineMost _ (λ b l. le-trans (halfcomplex-most differenceMost (λ y. d y l) (λ y. m y l) b) (lit≤ tt)))
+      (grid-most 16 32 pairLineMost _ (λ b l. le-trans (halfcomplex-most differenceMost (λ y. d y l) (λ y. m y l) b) (lit≤ tt)))
 
   -- and theirs along the rows
   pub both-ways : doubles (sideBySide (λ p b. halfcomplex (planeIn (cell (pos 0) a) p b))) ≡ doubles (sideBySide (λ p. transposed (twoWay (planeIn d p))))
-  unfolding doubles
-  both-ways =
-      grid-ext 16 32 _ _ (λ b l i j. ap (ofInt binary64)
-      (halfcomplex-ext _ _ (λ x m. ap (λ t. cell (pos 0) t b (2 * x + l % 2)) p ∙ cell-grid (pos 0) 16 32 (λ b l. halfcomplex (λ y. d y l) b) b (2 * x + l % 2) i (omega arith)) (l / 2)
-      ∙ sym (columns-first (planeIn d (l % 2)) (l / 2) b)))
+  unfolding doubles side16
+  both-ways = both-ways-of turns16 d p
 
 -- ---- the inverse
-
-halved : (a : ℕ) → (2 * a + 2 ^ 31) / (2 * 2 ^ 31) ≡ (2 * (2 * a) + 2 ^ 32) / (2 * 2 ^ 32)
-halved a = omega arith
-
--- half of a sum over 2^31 is the sum over 2^32
-away-half : (z b : ℤ) → pos 2 *ℤ z ≡ b → away z (2 ^ 31) ≡ away b (2 ^ 32)
-unfolding away
-away-half (pos a) b e = ap pos (halved a) ∙ ap (λ b. away b (2 ^ 32)) e
-away-half (negsuc a) b e =
-    ap (λ n. negℤ (pos n)) (halved (suc a)) ∙ sym (away-odd (pos (2 * suc a)) (2 ^ 32) (lit< tt)) ∙ ap (λ b. away b (2 ^ 32)) e
 
 -- the sums back down the columns
 pub fold-most : (low : Bool) (n : ℕ) → n ≤ foldMost low → n ≤ foldMost false
@@ -60,7 +39,5 @@ columns-whole low f w = record {
 
 -- and P of their halves along the rows, added to the tile t
 pub back-is : (s : ℕ → ℕ → ℤ) (t : List (List ℤ)) → grid 16 32 (λ y l. cell (pos 0) t y l +ℤ away (halfSum (planeIn (λ y l. backward (λ b. s b l) y) (l % 2) y) (l / 2)) (2 ^ 31)) ≡ grid 16 32 (λ y l. cell (pos 0) t y l +ℤ away (backSum (transposed (planeIn s (l % 2))) y (l / 2)) (2 ^ 32))
-unfolding backSumOf countedOf apartOf side16
-back-is s t =
-    grid-ext 16 32 _ _ (λ y l h k. ap (λ z. cell (pos 0) t y l +ℤ z)
-    (away-half (halfSum (λ x. backward (λ b. s b (2 * x + l % 2)) y) (l / 2)) (backSum (transposed (planeIn s (l % 2))) y (l / 2)) (half-sum (λ x. backward (λ b. s b (2 * x + l % 2)) y) (l / 2))))
+unfolding side16
+back-is = back-is-of side16 half-sum 16 32

@@ -1,45 +1,25 @@
 -- The two passes of the transform, and those of the inverse, on a pair.
-use Rattle.tile_pair32.specs.Prelude.{_≡_, sym, ap, subst, _∙_, Bool, true, false, List, [], ℕ, suc, _+_, _*_, _/_, _%_, _^_, _≤_, arith, lit<, lit≤, ℤ, pos, negsuc, natAbs, negℤ, _+ℤ_, _*ℤ_, Float, binary64, ofInt, tab, away, halfcomplexOf, backwardOf, halfSumOf, differenceMost, longLineMost, longFoldMost, longColumnMost, LineMost, TileMost, side32, twoWayOf, transposed, backSumOf, apartOf, countedOf, planeIn, sideBySide, LongInDouble, longDoubles}
-use Prim.Native.Nat.{zero-le}
+use Rattle.tile_pair32.specs.Prelude.{_≡_, sym, subst, Bool, true, false, List, ℕ, _/_, _%_, _^_, _≤_, arith, lit≤, ℤ, pos, natAbs, _+ℤ_, Float, away, halfcomplexOf, backwardOf, halfSumOf, differenceMost, longLineMost, longFoldMost, longColumnMost, TileMost, side32, twoWayOf, transposed, backSumOf, planeIn, sideBySide, LongInDouble, longDoubles}
 use native.Mathlib.Nat.{le-trans}
-use Rattle.sequences.specs.TabLaws.{tab-each}
-use Rattle.sequences.specs.Grid.{grid, cell, cell-grid, grid-ext}
-use Rattle.algebra.specs.NearestLaws.{away-odd}
+use Rattle.sequences.specs.Grid.{grid, cell}
+use Rattle.tile_spectrum.specs.Turns.{turns32}
+use Rattle.tile_spectrum.specs.PassLaws.{grid-most, both-ways-of, back-is-of}
 use Rattle.tile_spectrum.specs.Lines.BackSizes.{long-backward-most}
-use Rattle.tile_spectrum.specs.Lines.Tiles.{line-most}
-use Rattle.tile_spectrum.specs.LongLines.{half-sum, columns-first, halfcomplex-ext, halfcomplex-most}
-
--- a pair of small numbers
-pub pair-most : (b : ℕ) (f : ℕ → ℕ → ℤ) → ((k l : ℕ) → natAbs (f k l) ≤ b) → TileMost b (grid 32 64 f)
-unfolding grid
-pair-most b f h = record { line = tab-each (LineMost b) [] (λ k. tab 64 (f k)) (record { at = λ i. zero-le }) 32 (λ k l. line-most b (f k) (h k) 64) }
+use Rattle.tile_spectrum.specs.LongLines.{half-sum, halfcomplex-most}
 
 -- the columns' transforms a
 module _ (d : ℕ → ℕ → ℤ) {a : List (List ℤ)} (p : a ≡ grid 32 64 (λ b l. halfcomplexOf side32 (λ y. d y l) b)) where
   pub columns-small : ((y l : ℕ) → natAbs (d y l) ≤ differenceMost) → TileMost longLineMost a
   columns-small m =
       subst (TileMost longLineMost) (sym p)
-      (pair-most longLineMost _ (λ b l. le-trans (halfcomplex-most differenceMost (λ y. d y l) (λ y. m y l) b) (lit≤ tt)))
+      (grid-most 32 64 longLineMost _ (λ b l. le-trans (halfcomplex-most differenceMost (λ y. d y l) (λ y. m y l) b) (lit≤ tt)))
 
   -- and theirs along the rows
   pub both-ways : longDoubles (sideBySide (λ p b. halfcomplexOf side32 (planeIn (cell (pos 0) a) p b))) ≡ longDoubles (sideBySide (λ p. transposed (twoWayOf side32 (planeIn d p))))
-  unfolding longDoubles
-  both-ways =
-      grid-ext 32 64 _ _ (λ b l i j. ap (ofInt binary64)
-      (halfcomplex-ext _ _ (λ x m. ap (λ t. cell (pos 0) t b (2 * x + l % 2)) p ∙ cell-grid (pos 0) 32 64 (λ b l. halfcomplexOf side32 (λ y. d y l) b) b (2 * x + l % 2) i (omega arith)) (l / 2)
-      ∙ sym (columns-first (planeIn d (l % 2)) (l / 2) b)))
+  unfolding longDoubles side32
+  both-ways = both-ways-of turns32 d p
 
 -- ---- the inverse
-
-halved : (a : ℕ) → (2 * a + 2 ^ 31) / (2 * 2 ^ 31) ≡ (2 * (2 * a) + 2 ^ 32) / (2 * 2 ^ 32)
-halved a = omega arith
-
--- half of a sum over 2^31 is the sum over 2^32
-away-half : (z b : ℤ) → pos 2 *ℤ z ≡ b → away z (2 ^ 31) ≡ away b (2 ^ 32)
-unfolding away
-away-half (pos a) b e = ap pos (halved a) ∙ ap (λ b. away b (2 ^ 32)) e
-away-half (negsuc a) b e =
-    ap (λ n. negℤ (pos n)) (halved (suc a)) ∙ sym (away-odd (pos (2 * suc a)) (2 ^ 32) (lit< tt)) ∙ ap (λ b. away b (2 ^ 32)) e
 
 -- the sums back down the columns
 pub fold-most : (low middle : Bool) (n : ℕ) → n ≤ longFoldMost low middle → n ≤ longFoldMost false false
@@ -59,7 +39,5 @@ columns-whole low middle f w = record {
 
 -- and P of their halves along the rows, added to the tile t
 pub back-is : (s : ℕ → ℕ → ℤ) (t : List (List ℤ)) → grid 32 64 (λ y l. cell (pos 0) t y l +ℤ away (halfSumOf side32 (planeIn (λ y l. backwardOf side32 (λ b. s b l) y) (l % 2) y) (l / 2)) (2 ^ 31)) ≡ grid 32 64 (λ y l. cell (pos 0) t y l +ℤ away (backSumOf side32 (transposed (planeIn s (l % 2))) y (l / 2)) (2 ^ 32))
-unfolding backSumOf countedOf apartOf side32
-back-is s t =
-    grid-ext 32 64 _ _ (λ y l h k. ap (λ z. cell (pos 0) t y l +ℤ z)
-    (away-half (halfSumOf side32 (λ x. backwardOf side32 (λ b. s b (2 * x + l % 2)) y) (l / 2)) (backSumOf side32 (transposed (planeIn s (l % 2))) y (l / 2)) (half-sum (λ x. backwardOf side32 (λ b. s b (2 * x + l % 2)) y) (l / 2))))
+unfolding side32
+back-is = back-is-of side32 half-sum 32 64

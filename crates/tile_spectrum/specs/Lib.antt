@@ -28,3 +28,4 @@ pub mod RowLaws
 pub mod AddingLaws
 pub mod Rounded
 pub mod HalvesLaws
+pub mod PassLaws
