@@ -1,1 +1,2 @@
 pub mod EvenSums
+pub mod OddParts

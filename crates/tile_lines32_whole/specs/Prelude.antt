@@ -1,5 +1,6 @@
 -- The words of other crates that this crate's files share. Lemmas are not passed on: of those the `use` line says where they are.
-pub use Rattle.algebra.specs.Prelude.{List, ℕ, ℤ, [], ap, arith, getD, lit<, needs, now, pos, refl, w16, _*_, _+_, _-_, _<_, _∙_, _∷_, _≡_}
+pub use Rattle.algebra.specs.Prelude.{List, ℕ, ℤ, [], ap, ap₂, arith, getD, lit<, lit≤, natAbs, needs, now, ofZ, pos, refl, SFits, toZ, toZ-ofZ, w16, w32, _%_, _*_, _*ℤ_, _+_, _+ℤ_, _-_, _-ℤ_, _/_, _<_, _≤_, _∙_, _∷_, _≡_}
+unfoldable pub use Rattle.algebra.specs.Sums.{sumZ}
 unfoldable pub use Rattle.sequences.specs.Tab.{tab}
 unfoldable pub use Rattle.recipe.specs.Tables.{cosine16, cosines, side16}
 unfoldable pub use Rattle.recipe.specs.Tables32.{cosine32, cosines32, side32}

@@ -1,22 +1,20 @@
 // The transform of a line of thirty-two differences in halfcomplex form, folded in halves, in numbers narrow enough that the compiler takes several lines at once:
-// the folds in 16 bits, the products in 32. The even places are those of the sums' line of sixteen, of which the odd ones have the kernel of `tile_lines::whole`.
-ghost use Rattle.tile_lines32_whole.specs.Prelude.{_≡_, [], _∷_, _+_, _*_, pos, getD, tab, side16, side32, halfcomplexOf, sumOf, differenceOf, foldedOf, differenceMost, differenceFoldMost, foldAgainMost};
+// the folds in 16 bits, the products in 32. The even places are those of the sums' line of sixteen. Its odd places, and what the even ones of the differences add to
+// the odd places of the whole line, have the kernel of `tile_lines::whole`.
+ghost use Rattle.tile_lines32_whole.specs.Prelude.{_≡_, [], _∷_, ℕ, _+_, _*_, ℤ, pos, getD, tab, side16, side32, halfcomplexOf, sumOf, differenceOf, foldedOf, differenceMost, differenceFoldMost, foldAgainMost};
 ghost use Rattle.tile_spectrum.specs.Lines.Lines.{LineMost};
+ghost use Rattle.tile_lines32_whole.specs.Parts.{oddPart, InParts, partMost};
 
-// C(0) to C(7)
+// C(0), C(1), C(3), C(4), C(5) and C(7)
 const C0: i32 = 16384;
 
 const C1: i32 = 16069;
-
-const C2: i32 = 15137;
 
 const C3: i32 = 13623;
 
 const C4: i32 = 11585;
 
 const C5: i32 = 9102;
-
-const C6: i32 = 6270;
 
 const C7: i32 = 3196;
 
@@ -95,82 +93,55 @@ fn even(s0: i16, s1: i16, s2: i16, s3: i16, s4: i16, s5: i16, s6: i16, s7: i16) 
     ]
 }
 
-// The odd places, from the differences: eight real parts, then eight imaginary parts. The numbers n and 16 − n share a cosine, with opposite signs, and a sine; and
-// from number k to number 16 − k of the transform the odd numbers' cosines change their sign, and the even numbers' sines.
-fn odd(
-    t0: i16,
-    t1: i16,
-    t2: i16,
-    t3: i16,
-    t4: i16,
-    t5: i16,
-    t6: i16,
-    t7: i16,
-    t8: i16,
-    t9: i16,
-    t10: i16,
-    t11: i16,
-    t12: i16,
-    t13: i16,
-    t14: i16,
-    t15: i16,
-) -> [i32; 16]
-    requires { ⌜ LineMost differenceFoldMost (t0 ∷ t1 ∷ t2 ∷ t3 ∷ t4 ∷ t5 ∷ t6 ∷ t7 ∷ t8 ∷ t9 ∷ t10 ∷ t11 ∷ t12 ∷ t13 ∷ t14 ∷ t15 ∷ []) ⌝ }
-    ensures { λ r. ⌜ r ≡ tab 16 (λ i. foldedOf side32 (λ n. getD (t0 ∷ t1 ∷ t2 ∷ t3 ∷ t4 ∷ t5 ∷ t6 ∷ t7 ∷ t8 ∷ t9 ∷ t10 ∷ t11 ∷ t12 ∷ t13 ∷ t14 ∷ t15 ∷ []) n (pos 0)) (2 * i + 1)) ⌝ }
+// What the odd ones of the differences add to the odd places: to the real parts of numbers 1, 3, 5 and 7 of the transform, then to the imaginary parts. The
+// numbers n and 16 − n share a cosine, with opposite signs, and a sine.
+fn odd_part(t1: i16, t3: i16, t5: i16, t7: i16, t9: i16, t11: i16, t13: i16, t15: i16) -> [i32; 8]
+    requires { ⌜ LineMost differenceFoldMost (t1 ∷ t3 ∷ t5 ∷ t7 ∷ t9 ∷ t11 ∷ t13 ∷ t15 ∷ []) ⌝ }
+    ensures { λ r. ⌜ r ≡ tab 8 (oddPart (λ n. getD (t1 ∷ t3 ∷ t5 ∷ t7 ∷ t9 ∷ t11 ∷ t13 ∷ t15 ∷ []) n (pos 0))) ⌝ }
 {
     let b1 = (t1 - t15) as i32;
-    let b2 = (t2 - t14) as i32;
     let b3 = (t3 - t13) as i32;
     let b5 = (t5 - t11) as i32;
-    let b6 = (t6 - t10) as i32;
     let b7 = (t7 - t9) as i32;
-    let a = C0 * (t0 as i32);
-    let c = C4 * ((t4 - t12) as i32);
-    let p = C2 * b2 + C6 * b6;
-    let q = C6 * b2 - C2 * b6;
-    let e1 = a + c + p;
-    let e3 = a - c + q;
-    let e5 = a - c - q;
-    let e7 = a + c - p;
-    let o1 = C1 * b1 + C3 * b3 + (C5 * b5 + C7 * b7);
-    let o3 = C3 * b1 - C7 * b3 - (C1 * b5 + C5 * b7);
-    let o5 = C5 * b1 - C1 * b3 + (C7 * b5 + C3 * b7);
-    let o7 = C7 * b1 - C5 * b3 + (C3 * b5 - C1 * b7);
     let h1 = (t1 + t15) as i32;
-    let h2 = (t2 + t14) as i32;
     let h3 = (t3 + t13) as i32;
     let h5 = (t5 + t11) as i32;
-    let h6 = (t6 + t10) as i32;
     let h7 = (t7 + t9) as i32;
-    let e = C0 * (t8 as i32);
-    let g = C4 * ((t4 + t12) as i32);
-    let u = C2 * h6 + C6 * h2;
-    let w = C6 * h6 - C2 * h2;
-    let f1 = e + g + u;
-    let f3 = e - g + w;
-    let f5 = g - e + w;
-    let f7 = e + g - u;
-    let s1 = C7 * h1 + C5 * h3 + (C3 * h5 + C1 * h7);
-    let s3 = C3 * h7 - C5 * h1 - (C1 * h3 + C7 * h5);
-    let s5 = C1 * h5 - C3 * h1 - (C7 * h3 + C5 * h7);
-    let s7 = C3 * h3 - C1 * h1 + (C7 * h7 - C5 * h5);
     [
-        e1 + o1,
-        e3 + o3,
-        e5 + o5,
-        e7 + o7,
-        e7 - o7,
-        e5 - o5,
-        e3 - o3,
-        e1 - o1,
-        0 - f1 - s1,
-        f3 + s3,
-        f5 + s5,
-        f7 + s7,
-        s7 - f7,
-        s5 - f5,
-        s3 - f3,
-        f1 - s1,
+        C1 * b1 + C3 * b3 + (C5 * b5 + C7 * b7),
+        C3 * b1 - C7 * b3 - (C1 * b5 + C5 * b7),
+        C5 * b1 - C1 * b3 + (C7 * b5 + C3 * b7),
+        C7 * b1 - C5 * b3 + (C3 * b5 - C1 * b7),
+        0 - (C7 * h1 + C5 * h3) - (C3 * h5 + C1 * h7),
+        C3 * h7 - C5 * h1 - (C1 * h3 + C7 * h5),
+        C1 * h5 - C3 * h1 - (C7 * h3 + C5 * h7),
+        C3 * h3 - C1 * h1 + (C7 * h7 - C5 * h5),
+    ]
+}
+
+// The odd places, from what the even and the odd ones of the differences add to them: from number k to number 16 − k of the transform the odd numbers' cosines
+// change their sign, and the even numbers' sines.
+fn joined(e: &[i32; 8], o: &[i32; 8]) -> [i32; 16]
+    requires { ⌜ (LineMost partMost (now e)) × (LineMost partMost (now o)) ⌝ }
+    ensures { λ r. ⌜ ((z : ℕ → ℤ) → InParts z (now (e .entry)) (now (o .entry)) → r ≡ tab 16 (λ i. foldedOf side32 z (2 * i + 1))) ⌝ }
+{
+    [
+        e[0] + o[0],
+        e[1] + o[1],
+        e[2] + o[2],
+        e[3] + o[3],
+        e[3] - o[3],
+        e[2] - o[2],
+        e[1] - o[1],
+        e[0] - o[0],
+        e[4] + o[4],
+        e[5] + o[5],
+        e[6] + o[6],
+        e[7] + o[7],
+        o[7] - e[7],
+        o[6] - e[6],
+        o[5] - e[5],
+        o[4] - e[4],
     ]
 }
 
@@ -213,24 +184,9 @@ fn odd_places(x: &[i16; 32]) -> [i32; 16]
     ensures { λ r. ⌜ r ≡ tab 16 (λ i. halfcomplexOf side32 (λ n. getD (now (x .entry)) n (pos 0)) (2 * i + 1)) ⌝ }
 {
     let t = differences(x);
-    odd(
-        t[0],
-        t[1],
-        t[2],
-        t[3],
-        t[4],
-        t[5],
-        t[6],
-        t[7],
-        t[8],
-        t[9],
-        t[10],
-        t[11],
-        t[12],
-        t[13],
-        t[14],
-        t[15],
-    )
+    let e = tile_lines::whole::odd(t[0], t[2], t[4], t[6], t[8], t[10], t[12], t[14]);
+    let o = odd_part(t[1], t[3], t[5], t[7], t[9], t[11], t[13], t[15]);
+    joined(&e, &o)
 }
 
 // The transform of the line x: the real parts of its numbers 0..16, then the imaginary parts of 1..15.
