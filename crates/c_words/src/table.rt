@@ -45,9 +45,9 @@ fn put_burst_words(text: &mut [u8], number: u64) -> usize
     }
 }
 
-// Of 8 to 15: values, and burst files.
+// Of 8 to 17: values, burst files and PGM files.
 fn put_value_words(text: &mut [u8], number: u64) -> usize
-    requires { ⌜ (128 ≤ length (now text)) × ((8 ≤ number) × (number < 16)) ⌝ }
+    requires { ⌜ (128 ≤ length (now text)) × ((8 ≤ number) × (number < 18)) ⌝ }
     ensures { λ r. ⌜ (Printed (now (text .entry)) 0 (wordsOf number) (now (text .exit)) r) × (r ≤ 128) ⌝ }
 {
     match number {
@@ -66,26 +66,26 @@ fn put_value_words(text: &mut [u8], number: u64) -> usize
         12 => put_bytes(text, 0, b"a part of a vector outside -172..172"),
         13 => put_bytes(text, 0, b"a file whose first line differs"),
         14 => put_bytes(text, 0, b"a file with a malformed line of values"),
-        _ => put_bytes(
+        15 => put_bytes(
             text,
             0,
             b"a file that is short, or goes on after its last row",
         ),
-    }
-}
-
-// Of 16 to 27: other files, and what came later.
-fn put_file_words(text: &mut [u8], number: u64) -> usize
-    requires { ⌜ (128 ≤ length (now text)) × ((16 ≤ number) × (number < 28)) ⌝ }
-    ensures { λ r. ⌜ (Printed (now (text .entry)) 0 (wordsOf number) (now (text .exit)) r) × (r ≤ 128) ⌝ }
-{
-    match number {
         16 => put_bytes(
             text,
             0,
             b"bytes not of the length that stacker_pgm_length answers",
         ),
-        17 => put_bytes(text, 0, b"not a PGM file as stacker_write_pgm writes it"),
+        _ => put_bytes(text, 0, b"not a PGM file as stacker_write_pgm writes it"),
+    }
+}
+
+// Of 18 to 27: DNG files, and what came later.
+fn put_file_words(text: &mut [u8], number: u64) -> usize
+    requires { ⌜ (128 ≤ length (now text)) × ((18 ≤ number) × (number < 28)) ⌝ }
+    ensures { λ r. ⌜ (Printed (now (text .entry)) 0 (wordsOf number) (now (text .exit)) r) × (r ≤ 128) ⌝ }
+{
+    match number {
         18 => put_bytes(text, 0, b"a black level above 255"),
         19 => put_bytes(
             text,
@@ -131,7 +131,7 @@ pub fn put_words(text: &mut [u8], number: u64) -> usize
     if number < 8 {
         return put_burst_words(text, number);
     }
-    if number < 16 {
+    if number < 18 {
         return put_value_words(text, number);
     }
     if number < 28 {
