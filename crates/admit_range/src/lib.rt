@@ -12,11 +12,14 @@ use noise::Noise;
 use range::range_noise_refusal;
 use recipe::Tuning;
 
-// 22, for any side but 16.
+// The only side of tiles that a range of noise may be asked for.
+const RANGE_SIDE: usize = 16;
+
+// 22, for any other side.
 fn narrow_refusal(shape: Shape) -> u64
     ensures { λ r. ⌜ r ≡ narrowRefusal shape ⌝ }
 {
-    refusals::refuse(refusals::SIDE, shape.side != 16)
+    refusals::refuse(refusals::SIDE, shape.side != RANGE_SIDE)
 }
 
 // Tests 1 to 3, and 22.
