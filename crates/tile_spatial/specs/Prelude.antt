@@ -1,5 +1,5 @@
 -- The words of other crates that this crate's files share. Lemmas are not passed on: of those the `use` line says where they are.
-pub use Rattle.algebra.specs.Prelude.{Bool, List, SFits, ℕ, ℤ, [], ap, ap₂, arith, cond, eqb, false, getD, length, lit<, lit≤, ltb, natAbs, needs, negℤ, now, ofZ, pos, refl, subst, sym, toZ, true, w32, w64, _%_, _*_, _*ℤ_, _+_, _+ℤ_, _-_, _-ℤ_, _/_, _<_, _^_, _∙_, _≡_, _≤_}
+pub use Rattle.algebra.specs.Prelude.{Bool, List, SFits, ℕ, ℤ, [], ap, ap₂, arith, cond, eqb, false, getD, length, lit<, lit≤, ltb, natAbs, needs, negℤ, now, ofZ, pos, refl, subst, sym, toZ, true, w32, w64, _%_, _*_, _*ℤ_, _+_, _+ℤ_, _-_, _-ℤ_, _/_, _<_, _^_, _∙_, _∷_, _≡_, _≤_}
 pub use lib.Ieee.{Float, binary64, inFloat, nan, ofBits, ofInt, toSigned}
 pub use Rattle.algebra.specs.Bound.{AtMost}
 pub use Rattle.algebra.specs.Nearest.{away}

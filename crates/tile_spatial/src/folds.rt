@@ -15,18 +15,16 @@ fn re_place(g: &[[i64; 18]; 16], h: &[[i64; 18]; 16], b: usize, l: usize) -> i64
     h[b - 8][l] - h[24 - b][l]
 }
 
-// Place b of its imaginary parts.
+// Place b of its imaginary parts: that of the real parts with g and h exchanged, and past place 8 with the other sign.
 fn im_place(g: &[[i64; 18]; 16], h: &[[i64; 18]; 16], b: usize, l: usize) -> i64
     requires { ⌜ record { re-most : TileMost spatialGainMost (now g); im-most : TileMost spatialGainMost (now h); b-below : b < 16; l-below : l < 18 } ⌝ }
     ensures { λ r. ⌜ (r ≡ foldIm (λ u. cell (pos 0) (now (g .entry)) u l) (λ u. cell (pos 0) (now (h .entry)) u l) b) × (AtMost (2 * spatialGainMost) r) ⌝ }
 {
-    if b % 8 == 0 {
-        return h[b][l];
-    }
+    let r = re_place(h, g, b, l);
     if b < 9 {
-        return h[b][l] + h[16 - b][l];
+        return r;
     }
-    g[24 - b][l] - g[b - 8][l]
+    0 - r
 }
 
 // Place b of lane l.

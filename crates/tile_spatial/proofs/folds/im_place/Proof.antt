@@ -1,55 +1,29 @@
--- The definition's own tests.
-use Rattle.tile_spatial.specs.Prelude.{sym, _∙_, arith, needs, _-_, w64, cell, side16, foldImOf}
-use borrow.Author.Tests.{lt-ltb, le-ltb}
-use Rattle.tile_spectrum.specs.Lines.Held.{held-is, held-most, line-at}
-use Rattle.tile_spectrum.specs.Apart.{is-own, is-paired}
-use Rattle.tile_spatial.proofs.Sums64.{sum-fits, sum-is, sum-most, difference-fits, difference-is, difference-most}
+-- `tile_spatial::folds::im_place`: the real parts' place with the parts exchanged, and past place 8 the other sign.
+use Rattle.tile_spatial.specs.Prelude.{_≡_, ap, _∙_, [], _∷_, ℕ, _-_, _%_, _≤_, _<_, arith, needs, ℤ, negℤ, w64, side16, apartOf, foldReOf, foldImOf}
+use borrow.Author.Tests.{ne-eqb, lt-ltb, le-ltb}
+use Rattle.algebra.specs.Ring.{var, _⊟_, ⊖_, ring}
+use Rattle.tile_spectrum.specs.Lines.Held.{number-is, number-most}
+use Rattle.tile_spatial.proofs.Sums64.{minus-fits, minus-is, minus-most}
 use Rattle.tile_spatial.proofs.folds.im_place as of
 
-returns : of.Tie.Need-returns
-unfolding foldImOf cell side16
-returns c =
-    let s = c .before .before in
-    let b = s .args .b in
-    let m = s .pre .im-most .line b in
-    (held-is w64 m (s .args .l) tt ∙ sym (is-own b _ _ (omega arith)), record { most = omega (arith, held-most w64 m (s .args .l) tt .most) })
+module _ (g h : ℕ → ℤ) {b : ℕ} where
+  low : b < 9 → foldReOf side16 h g b ≡ foldImOf side16 g h b
+  unfolding foldReOf foldImOf side16
+  low l = rw (lt-ltb b 9 l)
 
-add-result : of.Tie.Need-add-result
-add-result c =
-    let s = c .before .before .before .before in
-    let b = s .args .b in
-    sum-fits (line-at (s .pre .im-most .line b) (s .args .l)) (line-at (s .pre .im-most .line (16 - b)) (s .args .l)) tt tt
+  high : 9 ≤ b → b < 16 → negℤ (foldReOf side16 h g b) ≡ foldImOf side16 g h b
+  unfolding foldReOf foldImOf side16 apartOf
+  high l m = rw (ne-eqb (b % 8) 0 (λ e. omega arith), le-ltb b 9 l) (ring (g (b - 8) ∷ g (24 - b) ∷ []) (⊖ (var 0 ⊟ var 1)) (var 1 ⊟ var 0) tt)
+
+returns : of.Tie.Need-returns
+returns c =
+    let r = c .before .re-place .ensures in
+    (number-is w64 (r .1) tt ∙ r .0 ∙ low _ _ (omega arith), number-most w64 (r .1) tt)
 
 returns-2 : of.Tie.Need-returns-2
-unfolding foldImOf cell side16
 returns-2 c =
-    let s = c .before .before .before .before in
-    let b = s .args .b in
-    let m = line-at (s .pre .im-most .line b) (s .args .l) in
-    let n = line-at (s .pre .im-most .line (16 - b)) (s .args .l) in
-    (sum-is m n tt tt ∙ sym (is-paired b _ _ (λ e. omega arith) ∙ rw (lt-ltb b 9 (omega arith))), sum-most m n tt tt)
-
-sub-result-4 : of.Tie.Need-sub-result-4
-sub-result-4 c =
-    let s = c .before .before .before .before in
-    let b = s .args .b in
-    difference-fits (line-at (s .pre .re-most .line (24 - b)) (s .args .l)) (line-at (s .pre .re-most .line (b - 8)) (s .args .l)) tt tt
-
-returns-3 : of.Tie.Need-returns-3
-unfolding foldImOf cell side16
-returns-3 c =
-    let s = c .before .before .before .before in
-    let b = s .args .b in
-    let m = line-at (s .pre .re-most .line (24 - b)) (s .args .l) in
-    let n = line-at (s .pre .re-most .line (b - 8)) (s .args .l) in
-    (difference-is m n tt tt ∙ sym (is-paired b _ _ (λ e. omega arith) ∙ rw (le-ltb b 9 (omega arith))), difference-most m n tt tt)
+    let r = c .before .re-place .ensures in
+    (minus-is (r .1) tt ∙ ap negℤ (r .0) ∙ high _ _ (omega arith) (omega arith), minus-most (r .1) tt)
 
 pub im-place-spec : {M : Type 1} → of.Statement.statement M
-im-place-spec = of.Tie.close (of.Tie.spec
-    (λ c. search needs) (λ c. search needs) (λ c. search needs) (λ c. search needs) returns
-    (λ c. search needs) (λ c. search needs) (λ c. search needs) (λ c. search needs)
-    (λ c. search needs) (λ c. search needs) (λ c. search needs) (λ c. search needs)
-    (λ c. search needs) add-result returns-2 (λ c. search needs) (λ c. search needs)
-    (λ c. search needs) (λ c. search needs) (λ c. search needs) (λ c. search needs)
-    (λ c. search needs) (λ c. search needs) (λ c. search needs) (λ c. search needs) sub-result-4
-    returns-3)
+im-place-spec = of.Tie.close (of.Tie.spec (λ c κs. search needs) returns (λ c. minus-fits (c .before .re-place .ensures .1) tt) returns-2)
