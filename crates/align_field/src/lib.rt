@@ -39,9 +39,23 @@ pub fn level_field(
     requires { ⌜ record { fits : Room (now work) area to rows columns; led : Led (now work) level coarse; ends : Ends level coarse to; sided : TileSide side } ⌝ }
     ensures { λ r. ⌜ Laid (now (work .entry)) to rows columns (fieldIn side level (now (work .entry)) area coarse) (rowsIn side level (now (work .entry)) area coarse rows columns) (now (work .exit)) r ⌝ }
 {
+    let mut samples = [0u16; 1024];
+    let mut window = [0u16; 1600];
+    let mut other = [0u16; 1024];
     let mut summed: u64 = 0;
     for k in 0..rows * columns {
-        let found = level_tile(&*work, area, side, level, coarse, k / columns, k % columns);
+        let found = level_tile(
+            &*work,
+            area,
+            side,
+            level,
+            coarse,
+            k / columns,
+            k % columns,
+            &mut samples,
+            &mut window,
+            &mut other,
+        );
         let v = found.vector;
         put(&mut *work, to + 2 * k, v);
         summed += found.rows;
@@ -83,10 +97,24 @@ pub fn finest_field(
     requires { ⌜ record { stored : Stored (now work) area; coarse-vectors : Vectors (now work) coarse; sided : TileSide side; few : Few rows columns; room : to + 2 * (rows * columns) ≤ length (now vectors) } ⌝ }
     ensures { λ r. ⌜ Finest side (now (work .entry)) area coarse rows columns (now (vectors .entry)) to (now (vectors .exit)) r ⌝ }
 {
+    let mut samples = [0u16; 1024];
+    let mut window = [0u16; 1600];
+    let mut other = [0u16; 1024];
     let mut sum: u64 = 0;
     let mut summed: u64 = 0;
     for k in 0..rows * columns {
-        let found = level_tile(work, area, side, 0, coarse, k / columns, k % columns);
+        let found = level_tile(
+            work,
+            area,
+            side,
+            0,
+            coarse,
+            k / columns,
+            k % columns,
+            &mut samples,
+            &mut window,
+            &mut other,
+        );
         let v = found.vector;
         hand_over(&mut *vectors, to + 2 * k, v);
         sum += found.residual;

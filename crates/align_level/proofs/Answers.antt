@@ -47,13 +47,13 @@ level-kind side (suc zero) row column s = record { is = inl (record { is = inr r
 level-kind side (suc (suc zero)) row column s = record { is = inl (record { is = inr refl }) }
 level-kind side (suc (suc (suc k))) row column s = record { is = inl (record { is = inl (refl, refl) }) }
 
--- at most 16, if not 32
-pub narrow-side : (side level row column : ℕ) → TileSide side → (levelTile (levelAt side level) row column .side ≡ 32 → ⊥) → levelTile (levelAt side level) row column .side ≤ 16
+-- at most 32
+pub side-most : (side level row column : ℕ) → TileSide side → levelTile (levelAt side level) row column .side ≤ 32
 unfolding levelTile
-narrow-side side zero row column s h = ⊎-elim (λ e. omega (arith, e)) (λ e. absurd (h e)) (s .is)
-narrow-side side (suc zero) row column s h = lit≤ tt
-narrow-side side (suc (suc zero)) row column s h = lit≤ tt
-narrow-side side (suc (suc (suc k))) row column s h = lit≤ tt
+side-most side zero row column s = ⊎-elim (λ e. omega (arith, e)) (λ e. omega (arith, e)) (s .is)
+side-most side (suc zero) row column s = lit≤ tt
+side-most side (suc (suc zero)) row column s = lit≤ tt
+side-most side (suc (suc (suc k))) row column s = lit≤ tt
 
 -- so few rows are summed for one
 pub finer-few : (side level row column : ℕ) → TileSide side → level ≤ 2 → (squared : Bool) (p : Pair) (guess : Vector) → candidateRows squared p (levelTile (levelAt side level) row column) guess ≤ tileRowsMost

@@ -67,3 +67,9 @@ pub record LevelTile (words : List ℤ) (a : Area) (t : Tile) (side level : ℕ)
   pub led : Led words level c
   pub row-most : row ≤ 4096
   pub column-most : column ≤ 4096
+
+-- buffers for the samples of a tile of any level, of the window around it and of another square
+pub record Buffers (samples window other : ℕ) : Type 0 where
+  pub samples-room : 1024 ≤ samples
+  pub window-room : 1600 ≤ window
+  pub other-room : 1024 ≤ other

@@ -5,7 +5,7 @@ ghost use Rattle.align_level.specs.Fields.{levelAt, levelTile};
 ghost use Rattle.align_level.specs.Steps.{stepTo};
 ghost use Rattle.align_level.specs.Magnitudes.{coarseMost};
 ghost use Rattle.align_tile.specs.Magnitudes.{guessMost};
-ghost use Rattle.align_level.specs.Grids.{fieldAt, Vectors, Led, answerAt, Answered, LevelTile};
+ghost use Rattle.align_level.specs.Grids.{fieldAt, Vectors, Led, answerAt, Answered, LevelTile, Buffers};
 use align_patch::copy_square;
 use align_residual::Tile;
 use align_tile::Area;
@@ -197,71 +197,7 @@ fn sampled_tile(
     )
 }
 
-// The same of side 8 or 16, in arrays for it.
-fn narrow_tile(
-    words: &[i64],
-    area: Area,
-    tile: Tile,
-    side: usize,
-    level: usize,
-    coarse: Grid,
-    row: usize,
-    column: usize,
-) -> Found
-    requires { ⌜ (LevelTile (now words) area tile side level coarse row column) × (tile .side ≤ 16) ⌝ }
-    ensures { λ r. ⌜ Answered (answerAt side level (now (words .entry)) area coarse row column) r ⌝ }
-{
-    let mut samples = [0u16; 256];
-    let mut window = [0u16; 576];
-    let mut other = [0u16; 256];
-    sampled_tile(
-        words,
-        area,
-        tile,
-        &mut samples,
-        &mut window,
-        &mut other,
-        side,
-        level,
-        coarse,
-        row,
-        column,
-    )
-}
-
-// The same of side 32.
-fn wide_tile(
-    words: &[i64],
-    area: Area,
-    tile: Tile,
-    side: usize,
-    level: usize,
-    coarse: Grid,
-    row: usize,
-    column: usize,
-) -> Found
-    requires { ⌜ (LevelTile (now words) area tile side level coarse row column) × (tile .side ≡ 32) ⌝ }
-    ensures { λ r. ⌜ Answered (answerAt side level (now (words .entry)) area coarse row column) r ⌝ }
-{
-    let mut samples = [0u16; 1024];
-    let mut window = [0u16; 1600];
-    let mut other = [0u16; 1024];
-    sampled_tile(
-        words,
-        area,
-        tile,
-        &mut samples,
-        &mut window,
-        &mut other,
-        side,
-        level,
-        coarse,
-        row,
-        column,
-    )
-}
-
-// The vector of a tile of a level, with level 0's tiles of a side.
+// The vector of a tile of a level, with level 0's tiles of a side. `samples`, `window` and `other` are for samples, of either side.
 pub fn level_tile(
     words: &[i64],
     area: Area,
@@ -270,13 +206,25 @@ pub fn level_tile(
     coarse: Grid,
     row: usize,
     column: usize,
+    samples: &mut [u16],
+    window: &mut [u16],
+    other: &mut [u16],
 ) -> Found
-    requires { ⌜ record { stored : Stored (now words) area; led : Led (now words) level coarse; sided : TileSide side; row-most : row ≤ 4096; column-most : column ≤ 4096 } ⌝ }
+    requires { ⌜ record { stored : Stored (now words) area; led : Led (now words) level coarse; sided : TileSide side; row-most : row ≤ 4096; column-most : column ≤ 4096; room : Buffers (length (now samples)) (length (now window)) (length (now other)) } ⌝ }
     ensures { λ r. ⌜ Answered (answerAt side level (now (words .entry)) area coarse row column) r ⌝ }
 {
     let tile = tile_at(side, level, row, column);
-    if tile.side == 32 {
-        return wide_tile(words, area, tile, side, level, coarse, row, column);
-    }
-    narrow_tile(words, area, tile, side, level, coarse, row, column)
+    sampled_tile(
+        words,
+        area,
+        tile,
+        &mut *samples,
+        &mut *window,
+        &mut *other,
+        side,
+        level,
+        coarse,
+        row,
+        column,
+    )
 }
