@@ -1,5 +1,5 @@
 -- Inner vocabulary: a level's two images where they stand in the work area, and a tile of the reference in a local array.
-use Rattle.align_tile.specs.Prelude.{_≡_, Bool, cond, List, ℕ, _+_, _*_, _%_, _≤_, ltb, length, ℤ, negsuc, _+ℤ_, TileSide, _plus_, Within, Pair, residual, Kind}
+use Rattle.align_tile.specs.Prelude.{_≡_, Bool, false, cond, List, ℕ, _+_, _*_, _%_, _≤_, ltb, length, ℤ, negsuc, _+ℤ_, TileSide, _plus_, Within, Pair, residual, Kind}
 use Rattle.align_pyramid.specs.Words.{readIn, Source}
 use Rattle.align_residual.specs.declared.Tile.{Tile}
 use Rattle.geometry.specs.declared.vectors.Vector.{Vector}
@@ -47,14 +47,14 @@ pub record Roomy (t : Tile) (samples window other : ℕ) : Type 0 where
   pub window-room : (t .side + 8) * (t .side + 8) ≤ window
   pub other-room : t .side * t .side ≤ other
 
--- what the sum of a candidate v asks where the window around the own one is there: room for another square
-pub record OtherReady (words : List ℤ) (a : Area) (t : Tile) (samples window other : List ℕ) (v own : Vector) : Type 0 where
+-- what the sum of a candidate v asks, where the own one's residual is at hand: room for another square
+pub record OtherReady (words : List ℤ) (a : Area) (t : Tile) (samples other : List ℕ) (v own : Vector) (first : ℕ) : Type 0 where
   pub ready : Ready words a t samples
   pub sided : TileSide (t .side)
   pub room : t .side * t .side ≤ length other
-  pub around : Around words a t own window
   pub near : Within guessMost v
   pub own-near : Within guessMost own
+  pub first-is : first ≡ residual false (pairIn words a) t own
 
 -- what the search around a guess asks: room for the window, and few rows before
 pub record RefineReady (words : List ℤ) (a : Area) (t : Tile) (samples window : List ℕ) (squared : Bool) (guess : Vector) (before : ℕ) : Type 0 where

@@ -125,22 +125,22 @@ fn middle_sum(side: usize, samples: &[u16], window: &[u16]) -> u64
     square_sum(side, samples, window, 4 * (side + 8) + 4, side + 8)
 }
 
-// The residual of another candidate than the own one, whose window is there: a candidate equal to it is summed again, but not copied again.
+// The residual of another candidate than the own one, whose residual is `first`: one equal to it is not summed again.
 fn other_sum(
     words: &[i64],
     area: Area,
     tile: Tile,
     samples: &[u16],
-    window: &[u16],
     other: &mut [u16],
     v: Vector,
     own: Vector,
+    first: u64,
 ) -> u64
-    requires { ⌜ OtherReady (now words) area tile (now samples) (now window) (now other) v own ⌝ }
+    requires { ⌜ OtherReady (now words) area tile (now samples) (now other) v own first ⌝ }
     ensures { λ r. ⌜ r ≡ residual false (pairIn (now (words .entry)) area) tile v ⌝ }
 {
     if same(v, own) {
-        return middle_sum(tile.side, samples, window);
+        return first;
     }
     candidate_sum(words, area, tile, samples, &mut *other, v)
 }
@@ -201,20 +201,20 @@ pub fn refine_candidates(
         area,
         tile,
         samples,
-        &*window,
         &mut *other,
         sideways,
         own,
+        first,
     );
     let third = other_sum(
         words,
         area,
         tile,
         samples,
-        &*window,
         &mut *other,
         vertically,
         own,
+        first,
     );
     let best = guess(own, sideways, vertically, first, second, third);
     let rows = 3 * side as u64;
