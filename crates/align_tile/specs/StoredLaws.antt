@@ -2,7 +2,7 @@
 use mathlib.Core.Path.{_≡_, refl, sym, ap, _∙_, subst}
 use Rattle.align_tile.specs.Prelude.{Bool, true, false, cond, List, ℕ, zero, suc, _+_, _*_, _/_, _%_, _^_, _≤_, _<_, arith, lit≤, ltb, length, getD, ℤ, pos, _+ℤ_, _plus_, Within, Pair, residual, squareSum, Low, windowRow, Window, Searched}
 use borrow.Author.Tests.{ltb-true, ltb-false}
-use native.Mathlib.Nat.{mul-le-mul, zero-mul, div-add-mod'}
+use native.Mathlib.Nat.{zero-mul, div-add-mod'}
 use Rattle.geometry.specs.Read.{inside, read}
 use Rattle.geometry.specs.ReadLaws.{inside-below}
 use Rattle.align_pyramid.specs.declared.images.Raster.{Raster}

@@ -1,10 +1,10 @@
 -- The size of a file and the reading of it agree.
-use Rattle.file_burst.specs.Prelude.{_≡_, refl, sym, ap, _∙_, List, [], ℕ, length, Shape, sampleLength, lengthRefusal, Part, refused, found, numberOf, _then_, headOf, Header}
+use Rattle.file_burst.specs.Prelude.{_≡_, refl, sym, ap, _∙_, List, ℕ, length, Shape, sampleLength, lengthRefusal, Part, refused, found, numberOf, _then_, headOf, Header}
 use Rattle.refusals.specs.Numbers as no
 use Rattle.file_burst.specs.Head.HeadLaws.{HeadRead, head-complete}
 use Rattle.file_burst.specs.Burst.{FileBurst}
-use Rattle.file_burst.specs.Reading.{bodyOf, reading, readingInto, acceptedFile, fileAnswer, FileRead}
-use Rattle.file_burst.specs.Acceptance.{Accepted, sound-number, complete}
+use Rattle.file_burst.specs.Reading.{bodyOf, reading, readingInto, fileAnswer, FileRead}
+use Rattle.file_burst.specs.Acceptance.{sound-number, complete}
 use Rattle.file_burst.specs.Size.{headAnswer, fileSize}
 use Rattle.file_burst.specs.declared.FileAnswer.{FileAnswer}
 

@@ -1,9 +1,8 @@
 -- The size of a file and the reading of it agree.
-use Rattle.file_pgm.specs.Prelude.{_≡_, refl, sym, ap, _∙_, Bool, true, false, not, List, [], _∷_, ℕ, zero, suc, arith, length, refuse, _before_, first, after, lengthRefusal, aboveRefusal}
-use Rattle.refusals.specs.Numbers as no
+use Rattle.file_pgm.specs.Prelude.{_≡_, refl, sym, ap, _∙_, List, ℕ, zero, suc, length, _before_, first, after}
 use Rattle.refusals.specs.TestLaws.{here, passed}
 use Rattle.file_pgm.specs.declared.PgmRead.{PgmRead}
-use Rattle.file_pgm.specs.Reading.{widthIn, heightIn, formed, samplesAs, refusalAs, readRefusal, pgmAnswer, ReadsPgm}
+use Rattle.file_pgm.specs.Reading.{widthIn, heightIn, refusalAs, readRefusal, pgmAnswer, ReadsPgm}
 use Rattle.file_pgm.specs.Size.{formRefusal, pgmSize}
 
 -- the number is in the answer

@@ -1,5 +1,5 @@
 -- A row of the output by blocks, and a block by parts: a word of either is one of the row.
-use mathlib.Core.Path.{_≡_, refl, sym, ap, ap₂, _∙_, subst, fun-ext}
+use mathlib.Core.Path.{_≡_, refl, ap, ap₂, _∙_, subst, fun-ext}
 use Rattle.merge_gather.specs.Prelude.{List, ℕ, zero, suc, _+_, _-_, _*_, _/_, _%_, _≤_, _<_, arith, getD, ℤ, pos, natAbs, TileSide, Shape, sideOf, rowWords}
 use Rattle.sequences.specs.Write.{written, Writing, write-part}
 use Rattle.merge_gather.specs.declared.Span.{Span}

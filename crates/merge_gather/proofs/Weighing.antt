@@ -1,5 +1,5 @@
 -- Weights, words that are weighed, and the windowed sum of the four tiles over a sample, term by term.
-use Rattle.merge_gather.specs.Prelude.{_≡_, refl, sym, ap, subst, _∙_, List, _++_, ℕ, _+_, _-_, _*_, _/_, _%_, _≤_, _<_, arith, set, getD, tab, TileSide, windows, window16, side16, windows32, window32, side32, sideOf, takenMost}
+use Rattle.merge_gather.specs.Prelude.{_≡_, refl, sym, ap, subst, _∙_, List, ℕ, _+_, _*_, _/_, _%_, _≤_, _<_, arith, set, getD, tab, TileSide, windows, window16, side16, windows32, window32, side32, sideOf, takenMost}
 use native.Mathlib.Nat.{mul-le-mul}
 use lib.Dec.{leb, leb→le}
 use lib.IntN.{ℤ, pos, natAbs, _+ℤ_, _*ℤ_, +ℤ-idl}
@@ -7,7 +7,6 @@ use lib.ListN.{length, drop, List·getD-append}
 use Rattle.algebra.specs.Test.{all-sound}
 use Rattle.algebra.specs.Sums.{sumZ}
 use Rattle.sequences.specs.TabLaws.{length-tab, getD-tab, Filled, fill-turn}
-use Rattle.recipe.specs.Side.{Side}
 use Rattle.recipe.specs.SideLaws.{by-table}
 use Rattle.merge_gather.specs.declared.Span.{Span}
 use Rattle.merge_gather.specs.Gather.{windowTable, weightOf, Weights, windowed, corrected, wordOver}

@@ -1,5 +1,5 @@
 -- Inside the crates of the merge: where the words of a half of a pair stand in a row of pairs, for either side. Word j of row i of half h is word n²·h + (n·i + j).
-use Rattle.merge_tiles.specs.Prelude.{_≡_, sym, subst, ℕ, _+_, _*_, _/_, _%_, _≤_, _<_, arith, TileSide}
+use Rattle.merge_tiles.specs.Prelude.{_≡_, sym, subst, ℕ, _+_, _*_, _/_, _%_, _<_, arith, TileSide}
 use mathlib.Core.Logic.{⊎-elim}
 
 -- what holds of 16 and of 32

@@ -1,5 +1,5 @@
 -- A row of a pair of side 32 that reaches over an edge is two rows of thirty-two, one after the other.
-use Rattle.merge_view.specs.Prelude.{_≡_, ap, ap₂, _∙_, List, ℕ, _+_, _*_, _/_, _%_, _<_, arith, length, getD, ℤ, pos, _+ℤ_, tab, inside}
+use Rattle.merge_view.specs.Prelude.{_≡_, ap, ap₂, _∙_, List, ℕ, _+_, _*_, _/_, _%_, arith, length, getD, ℤ, pos, _+ℤ_, tab, inside}
 use lib.IntN.{+ℤ-assoc}
 use Rattle.sequences.specs.TabLaws.{getD-tab}
 use Rattle.sequences.specs.Write.{written, write-start, write-part, write-done, written-all}

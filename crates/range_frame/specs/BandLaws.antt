@@ -1,5 +1,5 @@
 -- Inside this crate: the rows of a band of both frames: what a row requires, a record for the loop, and how it starts, goes on and ends.
-use Rattle.range_frame.specs.Prelude.{_≡_, refl, sym, ap, subst, _∙_, List, ℕ, _+_, _-_, _*_, _/_, _%_, _≤_, _<_, arith, length, ℤ, natAbs, outputLength, side16, Merge, Scene, sceneAt, greatestAt, leastAt, lowSample, highSample, End, planeEnd, frameEnd, Inside, Over, rowWritten, RowReady, EndAt, endTaken, raised, atNoises, RowHeld, RowsWritten}
+use Rattle.range_frame.specs.Prelude.{_≡_, sym, ap, subst, _∙_, List, ℕ, _+_, _-_, _*_, _/_, _%_, _≤_, _<_, arith, length, ℤ, natAbs, outputLength, side16, Merge, Scene, sceneAt, greatestAt, leastAt, End, planeEnd, frameEnd, rowWritten, RowReady, EndAt, endTaken, raised, atNoises, RowHeld, RowsWritten}
 use native.Mathlib.Nat.{mul-comm}
 use Rattle.sequences.specs.Tab.{tab}
 use Rattle.sequences.specs.Grid.{tab-ext}

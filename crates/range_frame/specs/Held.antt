@@ -1,5 +1,5 @@
 -- Inside this crate: both ends of a row of pairs of tiles that the work area holds, and rows of the low and the high frame.
-use Rattle.range_frame.specs.Prelude.{_≡_, List, ℕ, _*_, _/_, _%_, _+_, ℤ, natAbs, drop, Scene, greatestAt, leastAt, lowSample, highSample, End, planeEnd, rowWords, EndAt, endTaken, rowWritten, RowHeld, RowsWritten}
+use Rattle.range_frame.specs.Prelude.{_≡_, List, ℕ, _*_, _/_, _%_, _+_, ℤ, natAbs, drop, Scene, greatestAt, leastAt, lowSample, highSample, End, planeEnd, rowWords, endTaken, rowWritten, RowHeld, RowsWritten}
 use Rattle.geometry.specs.declared.Shape.{Shape}
 
 -- word k of the frame of an end, as `frameEnd` (range/Frames) has it

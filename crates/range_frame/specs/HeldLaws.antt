@@ -1,5 +1,5 @@
 -- Inside this crate: both ends of a row that is stored are held, and those of the row before it still are.
-use Rattle.range_frame.specs.Prelude.{_≡_, sym, ap, subst, _∙_, List, ℕ, _+_, _-_, _*_, _≤_, _<_, arith, length, getD, drop, ℤ, pos, natAbs, Scene, rowWords, slotOf, rowWord, RowHeld}
+use Rattle.range_frame.specs.Prelude.{_≡_, sym, ap, subst, _∙_, List, ℕ, _+_, _-_, _*_, _≤_, _<_, arith, length, getD, drop, ℤ, pos, natAbs, Scene, rowWords, slotOf, RowHeld}
 use mathlib.Core.Logic.{inl, inr, ⊎-elim}
 use lib.ListN.{length-drop}
 use lib.Seq.{getD-drop}
@@ -7,7 +7,7 @@ use Rattle.merge_tiles.specs.Sum.{Taking, takenMost}
 use Rattle.range_tiles.specs.EndRows.{leastSlot, RowAt, Outside, EndsStored}
 use Rattle.range_tiles.specs.EndRowLaws.{slot-most}
 use Rattle.merge_gather.specs.HoldLaws.{slots}
-use Rattle.range_frame.specs.Held.{leastPart, EndsHeld}
+use Rattle.range_frame.specs.Held.{EndsHeld}
 
 -- a row's words that stand in the work area, or in its part from `base` on
 module _ {width : ℕ} {taken : Taking} {rowParity row : ℕ} where

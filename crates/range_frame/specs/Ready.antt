@@ -1,5 +1,5 @@
 -- Inside this crate: what the frames of a range are, and what they and each part of them require. A buffer that is only measured stands here as its length.
-use Rattle.range_frame.specs.Prelude.{_≡_, List, ℕ, _*_, _/_, _≤_, _<_, length, ℤ, outputLength, workLength, Merge, sceneOf, lowFrame, highFrame, rowWords, RowReady, raised, UpperFits, atNoises}
+use Rattle.range_frame.specs.Prelude.{_≡_, List, ℕ, _*_, _/_, _≤_, _<_, length, ℤ, outputLength, Merge, sceneOf, lowFrame, highFrame, rowWords, RowReady, raised, UpperFits, atNoises}
 use Rattle.geometry.specs.declared.Shape.{Shape}
 use Rattle.merge_tiles.specs.Accepted.{Accepted}
 use Rattle.range_tiles.specs.declared.Upper.{Upper}

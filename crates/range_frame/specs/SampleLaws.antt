@@ -1,5 +1,5 @@
 -- Inside this crate: a sample of the low or the high frame from what its end takes from each of the four tiles over it.
-use Rattle.range_frame.specs.Prelude.{_≡_, refl, sym, ap, ap₂, subst, _∙_, List, ℕ, suc, _+_, _-_, _*_, _/_, _%_, _<_, ℤ, pos, natAbs, _-ℤ_, _*ℤ_, side16, Merge, Scene, sceneAt, tileNoise, tileDifference, noiseOver, differenceOver, greatestAt, leastAt, sampleFrom, lowSample, highSample, End, planeEnd, rowSpan, wordFrom, EndAt, endSum, endTaken, RowHeld}
+use Rattle.range_frame.specs.Prelude.{_≡_, refl, sym, ap, ap₂, subst, _∙_, List, ℕ, suc, _+_, _-_, _*_, _/_, _%_, _<_, ℤ, pos, natAbs, _-ℤ_, _*ℤ_, side16, Merge, Scene, sceneAt, noiseOver, differenceOver, greatestAt, leastAt, sampleFrom, lowSample, highSample, End, planeEnd, rowSpan, wordFrom, EndAt, endSum, endTaken, RowHeld}
 use Rattle.algebra.specs.Sums.{sumZ}
 use Rattle.algebra.specs.SumLaws.{sumZ-cong, sumZ-scale}
 use Rattle.algebra.specs.Clamp.{clampZ}
@@ -10,7 +10,7 @@ use Rattle.recipe.specs.Side.{Side}
 use Rattle.recipe.specs.Sides.{sideOf}
 use Rattle.recipe.specs.SideLaws.{of-16}
 use Rattle.recipe.specs.Output.{rowIn, columnIn, weightIn}
-use Rattle.merge_gather.specs.Gather.{windowed, corrected, wordOver}
+use Rattle.merge_gather.specs.Gather.{windowed, corrected}
 use Rattle.merge_gather.specs.HoldLaws.{takenOver, sample-is, word-is}
 
 -- an end's sample is made of its P

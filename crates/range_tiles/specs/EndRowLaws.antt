@@ -1,13 +1,13 @@
 -- Inside the crates of the range: a row stored pair by pair, both ends of each: its record, and how it starts, goes on and ends.
 use Rattle.range_tiles.specs.Prelude.{_≡_, refl, sym, subst, _∙_, List, ℕ, _+_, _-_, _*_, _/_, _%_, _≤_, _<_, arith, length, getD, ℤ, pos, cell, Scene, greatestAt, leastAt, Taking, PairTaken, rowWords, slotOf, rowWord, Spread}
-use mathlib.Core.Logic.{inl, inr, ⊎-elim}
+use mathlib.Core.Logic.{inl, ⊎-elim}
 use native.Mathlib.Decide.{ℕ-discrete}
 use Rattle.sequences.specs.Write.{written, written-in, written-before, written-after, written-length}
 use Rattle.geometry.specs.Fits.{TileSide}
 use Rattle.merge_tiles.specs.Toward.{Toward, toward-same, toward-on, goal}
 use Rattle.merge_tiles.specs.StoreLaws.{Aimed, Placed, placed-start, placed-keep, placed-nearer, placed-turn, placed-word, placed-most}
 use Rattle.range_tiles.specs.EndSums.{endTaken}
-use Rattle.range_tiles.specs.EndRows.{leastSlot, RowAt, Outside, EndsStored}
+use Rattle.range_tiles.specs.EndRows.{leastSlot, Outside, EndsStored}
 
 pub slot-most : (side width row : ℕ) → slotOf side width row ≤ rowWords side width
 unfolding slotOf

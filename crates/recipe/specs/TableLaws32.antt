@@ -2,10 +2,10 @@
 use Rattle.algebra.specs.Prelude.{_≡_, refl, sym, ap, _∙_, ℕ, _+_, _-_, _*_, _%_, _≤_, _<_, arith, natAbs, negℤ}
 use native.Mathlib.Nat.{mod-lt, mod-add-mod}
 use lib.Dec.{leb, leb→le, lit<}
-use Rattle.algebra.specs.Test.{all, all-sound}
-use Rattle.recipe.specs.Side.{cosAt, sinAt}
+use Rattle.algebra.specs.Test.{all-sound}
+use Rattle.recipe.specs.Side.{cosAt}
 use Rattle.recipe.specs.Tables.{cosines, cosine16, side16}
-use Rattle.recipe.specs.Tables32.{cosines32, cosine32, sine32, windows32, window32, side32}
+use Rattle.recipe.specs.Tables32.{cosines32, cosine32, windows32, window32, side32}
 use Rattle.recipe.specs.TableRules.{Rules, Doubled}
 use Rattle.recipe.specs.TableLaws.{agree, agree-nat}
 

@@ -1,5 +1,5 @@
 -- Try bands of the merged frame, one below the other: joined they are merge's output. And try one: it is refused as merge is, its own tests apart.
-use Rattle.algebra.specs.Prelude.{_≡_, refl, sym, ap, ap₂, _∙_, List, [], _++_, ℕ, _+_, _*_, arith, drop, length, ℤ}
+use Rattle.algebra.specs.Prelude.{_≡_, sym, ap, ap₂, _∙_, List, [], _++_, ℕ, _+_, _*_, arith, drop, length, ℤ}
 use native.Mathlib.Nat.{add-mul, mul-comm, zero-mul}
 use lib.ListN.{take-append-drop, drop-of-length-le}
 use lib.Seq.{drop-drop}

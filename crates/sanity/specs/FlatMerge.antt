@@ -1,5 +1,5 @@
 -- Try flat frames: whatever the vectors, each plane of the merged frame is flat too, of the value `flatOutput`; and so is the frame where the planes have one black level.
-use mathlib.Core.Path.{_≡_, refl, _∙_, ap, ap₂, fun-ext}
+use mathlib.Core.Path.{_≡_, _∙_, ap, ap₂, fun-ext}
 use Rattle.sanity.specs.Prelude.{List, ℕ, _+_, _-_, _*_, _/_, _%_, _<_, arith, ℤ, pos, natAbs, _-ℤ_, replicate, outputLength, otherFrame, planeOf, read, side16, tileRoot, noiseNumber, Merge, Scene, sceneOf, blackOf, tileAt, referenceTile, otherTile, tileNoise, tileDifference, sceneAt, outputAt, wordAt, merged}
 use Rattle.sequences.specs.Grid.{tab-ext}
 use Rattle.sequences.specs.ClearLaws.{tab-const}

@@ -17,7 +17,7 @@ use Rattle.tile_spectrum.specs.Spectrum.{foldedGain}
 use Rattle.tile_spectrum.specs.Turns.{Turns, turns16, turns32}
 use Rattle.tile_spectrum.specs.LongPairs.{LongBinned, long-gain-most, long-bins-each}
 use Rattle.tile_spectrum.specs.SizeLaws.{gain-most}
-use Rattle.tile_spectrum.specs.QuadLaws.{four, four-each, quad-is-of, corner-is-of, bins-each}
+use Rattle.tile_spectrum.specs.QuadLaws.{four, four-each, quad-is, corner-is, bins-each}
 use Rattle.tile_quad.specs.Lanes.{numberOf, binsIn, foldedIn, cornerIn, foldIn, quadIn, WholeBinsOf}
 
 module _ (real : Float → Float) (gains : (a b : Float) → List Float) (k u : ℕ) (q : List Float) where
@@ -134,11 +134,11 @@ module _ {s : Side} {most : ℕ} (fit : BinsFit s most) (t : ℕ → ℕ → ℤ
         ap (foldIn gains k u) (bins-are k u h l)
         ∙ rw (number-of b 0 (omega arith), number-of b 1 (omega arith), number-of b 2 (omega arith), number-of b 3 (omega arith), g, g')
         (folded-is k u (f (bin 0) (bin 1)) (f (bin 1) (bin 0)) (f (bin 2) (bin 3)) (f (bin 3) (bin 2)) (gain 0 1) (gain 1 0) (gain 2 3) (gain 3 2))
-        ∙ ap (map double) (sym (quad-is-of (fit .turns) v t k u h l o))
+        ∙ ap (map double) (sym (quad-is (fit .turns) v t k u h l o))
 
     corner : ((i : ℕ) → i < 4 → RealAt 0 0 i) → cornerIn real (map double (quadPlaces s t 0 0)) ≡ map double (Quad 0 0)
     unfolding cornerIn quadPlaces twoBinsOf byKind tab
-    corner at = four (at 0 (lit< tt)) (at 1 (lit< tt)) (at 2 (lit< tt)) (at 3 (lit< tt)) ∙ ap (map double) (sym (corner-is-of (fit .turns) v t))
+    corner at = four (at 0 (lit< tt)) (at 1 (lit< tt)) (at 2 (lit< tt)) (at 3 (lit< tt)) ∙ ap (map double) (sym (corner-is (fit .turns) v t))
 
     pub quad-gains : (k u : ℕ) → k < s .half → u < s .half → (k + u ≡ 0 → (i : ℕ) → i < 4 → RealAt k u i) → (0 < k + u → GainsAt k u 0 1 × GainsAt k u 2 3) → quadIn real gains k u (map double (quadPlaces s t k u)) ≡ map double (Quad k u)
     quad-gains zero zero h l at g = quad-corner _ _ 0 0 _ refl ∙ corner (at refl)

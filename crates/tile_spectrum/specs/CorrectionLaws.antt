@@ -1,7 +1,7 @@
 -- P of a tile of differences d from the folded G of its bins.
-use Rattle.tile_spectrum.specs.Prelude.{_≡_, refl, ap₂, ℕ, _+_, _^_, _<_, ℤ, away, Side, side16, binRe, binIm, filtered, correctionAt}
-use Rattle.tile_spectrum.specs.Spectrum.{BinsHeld, spreadOf, backSumOf, gainReOf, gainImOf, BinsOf, spread, backSum, gainRe, gainIm}
-use Rattle.tile_spectrum.specs.Turns.{Turns, turns16}
+use Rattle.tile_spectrum.specs.Prelude.{_≡_, refl, ap₂, ℕ, _+_, _<_, ℤ, away, Side, binRe, binIm, filtered, correctionAt}
+use Rattle.tile_spectrum.specs.Spectrum.{BinsHeld, spreadOf, backSumOf, gainReOf, gainImOf}
+use Rattle.tile_spectrum.specs.Turns.{Turns}
 use Rattle.tile_spectrum.specs.SpectrumLaws.{filtered-odd-of, filtered-even-of}
 use Rattle.tile_spectrum.specs.BinFilters.{BinFilter, turned-back}
 
@@ -19,11 +19,6 @@ module _ {s : Side} (t : Turns s) (noise : ℕ) (d b : ℕ → ℕ → ℤ) (m :
   unfolding gainImOf
   gain-im u v h l = ap₂ (filtered s noise) (m .im u v h l) (m .re u v h l)
 
-  pub corrected-of : (y x : ℕ) → y < s .side → x < s .side → away (backSumOf s (spreadOf s (gainReOf s noise b) (gainImOf s noise b)) y x) (s .divisor) ≡ correctionAt s noise d y x
+  pub corrected : (y x : ℕ) → y < s .side → x < s .side → away (backSumOf s (spreadOf s (gainReOf s noise b) (gainImOf s noise b)) y x) (s .divisor) ≡ correctionAt s noise d y x
   unfolding correctionAt
-  corrected-of = turned-back t (one-noise s noise) d (gainReOf s noise b) (gainImOf s noise b) gain-re gain-im
-
--- side 16
-pub corrected : (noise : ℕ) (d b : ℕ → ℕ → ℤ) → BinsOf d b → (y x : ℕ) → y < 16 → x < 16 → away (backSum (spread (gainRe noise b) (gainIm noise b)) y x) (2 ^ 32) ≡ correctionAt side16 noise d y x
-unfolding side16
-corrected = corrected-of turns16
+  corrected = turned-back t (one-noise s noise) d (gainReOf s noise b) (gainImOf s noise b) gain-re gain-im

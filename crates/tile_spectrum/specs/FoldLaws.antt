@@ -1,5 +1,5 @@
 -- The inverse sums of complex lines are the sums back from their halfcomplex folds, for any side whose tables turn as `Turns` asks.
-use Rattle.tile_spectrum.specs.Prelude.{_≡_, refl, sym, ap, ap₂, _∙_, [], _∷_, ℕ, zero, suc, _+_, _-_, _*_, _%_, _≤_, _<_, arith, lit<, var, #_, _⊞_, _⊟_, _⊠_, ⊖_, ring, sumZ, Side, cosAt, sinAt, twiddleRe, twiddleIm, inverseRe, oppositeOf, basisOf, backwardOf}
+use Rattle.tile_spectrum.specs.Prelude.{_≡_, refl, sym, ap, ap₂, _∙_, [], _∷_, ℕ, zero, suc, _+_, _-_, _*_, _%_, _<_, arith, var, #_, _⊞_, _⊟_, _⊠_, ⊖_, ring, sumZ, Side, cosAt, sinAt, twiddleRe, twiddleIm, inverseRe, oppositeOf, basisOf, backwardOf}
 use native.Mathlib.Nat.{mod-eq-of-lt, mod-self, zero-mod, add-mod-left}
 use borrow.Author.Tests.{lt-ltb, le-ltb}
 use lib.IntN.{ℤ, pos, negℤ, _+ℤ_, _-ℤ_, _*ℤ_, +ℤ-comm}

@@ -1,5 +1,5 @@
 -- The laws of lines, folds and corrections that a pair of tiles of side 32 asks for (request L8), under the names that they have for side 16.
-use Rattle.tile_spectrum.specs.Prelude.{_≡_, refl, ap, _∙_, cond, List, ℕ, _+_, _-_, _*_, _%_, _^_, _≤_, _<_, arith, eqb, ltb, getD, ℤ, pos, natAbs, _*ℤ_, away, tab, Side, cosAt, cosines32, cosine32, side32, Rules, correctionAt, halfZ, basisOf, halfcomplexOf, backwardOf, halfSumOf}
+use Rattle.tile_spectrum.specs.Prelude.{_≡_, refl, ap, _∙_, cond, List, ℕ, _+_, _-_, _*_, _%_, _≤_, _<_, arith, eqb, ltb, getD, ℤ, pos, natAbs, _*ℤ_, tab, Side, cosAt, cosines32, cosine32, side32, Rules, halfZ, basisOf, halfcomplexOf, backwardOf, halfSumOf}
 use Rattle.algebra.specs.Order.{abs-add, abs-sub, abs-mul-le}
 use Rattle.algebra.specs.SumLaws.{abs-sum-bound}
 use Rattle.sequences.specs.TabLaws.{getD-tab}
@@ -7,11 +7,8 @@ use Rattle.sequences.specs.Grid.{tab-ext}
 use Rattle.recipe.specs.TableLaws32.{rules32}
 use Rattle.tile_spectrum.specs.Lines.HalfSumLaws.{basis-most, twice-half}
 use Rattle.tile_spectrum.specs.Lines.SideFolds.{line-ext}
-use Rattle.tile_spectrum.specs.Spectrum.{twoWayOf, foldReOf, foldImOf, spreadOf, backSumOf, gainReOf, gainImOf, BinsHeld}
-use Rattle.tile_spectrum.specs.Turns.{turns32}
+use Rattle.tile_spectrum.specs.Spectrum.{foldReOf, foldImOf, spreadOf}
 use Rattle.tile_spectrum.specs.Apart.{cond-cases, side-cases}
-use Rattle.tile_spectrum.specs.SpectrumLaws.{columns-first-of}
-use Rattle.tile_spectrum.specs.CorrectionLaws.{corrected-of}
 
 -- ---- lines of any side
 
@@ -37,15 +34,6 @@ halfcomplex-line f e = tab-ext 32 _ _ (λ k h. halfcomplex-ext _ f (λ i l. ap (
 pub half-sum : (z : ℕ → ℤ) (n : ℕ) → pos 2 *ℤ halfSumOf side32 z n ≡ backwardOf side32 (λ k. cond (eqb (k % 16) 0) (z k) (pos 2 *ℤ z k)) n
 unfolding halfZ cosAt side32 cosine32 cosines32
 half-sum = twice-half rules32 refl
-
--- ---- tiles
-
-pub columns-first : (d : ℕ → ℕ → ℤ) (k b : ℕ) → twoWayOf side32 d k b ≡ halfcomplexOf side32 (λ x. halfcomplexOf side32 (λ y. d y x) b) k
-columns-first = columns-first-of turns32
-
-pub corrected : (noise : ℕ) (d b : ℕ → ℕ → ℤ) → BinsHeld side32 d b → (y x : ℕ) → y < 32 → x < 32 → away (backSumOf side32 (spreadOf side32 (gainReOf side32 noise b) (gainImOf side32 noise b)) y x) (2 ^ 32) ≡ correctionAt side32 noise d y x
-unfolding side32
-corrected = corrected-of turns32
 
 -- how large the numbers of the folded G are, of any side
 module _ (s : Side) (b : ℕ) where

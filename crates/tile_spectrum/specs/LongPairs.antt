@@ -1,13 +1,13 @@
 -- Inside the crates of the merge: two tiles of side 32 side by side (request L8), as Pairs has those of side 16.
-use Rattle.tile_spectrum.specs.Prelude.{_≡_, List, ℕ, _+_, _≤_, _<_, lit≤, getD, ℤ, pos, natAbs, tab, side32, quantized, filtered}
+use Rattle.tile_spectrum.specs.Prelude.{_≡_, List, ℕ, _≤_, _<_, lit≤, getD, ℤ, pos, natAbs, side32, quantized, filtered}
 use native.Mathlib.Nat.{le-trans}
 use lib.Ieee.{Float, binary64, ofInt}
 use Rattle.sequences.specs.Grid.{grid, cell}
 use Rattle.tile_spectrum.specs.Magnitudes.{gainMost, longBinMost}
-use Rattle.tile_spectrum.specs.Spectrum.{tileReOf, tileImOf, spreadOf, quadPlaces, twoBinsOf, gainReOf, gainImOf, foldedQuad}
+use Rattle.tile_spectrum.specs.Spectrum.{tileReOf, tileImOf, twoBinsOf}
 use Rattle.tile_spectrum.specs.Pairs.{byColumns, pairGains, inverseIn, added}
 use Rattle.tile_spectrum.specs.Turns.{turns32}
-use Rattle.tile_spectrum.specs.QuadLaws.{quad-is-of, corner-is-of, bins-each-of}
+use Rattle.tile_spectrum.specs.QuadLaws.{bins-each-of}
 use Rattle.tile_spectrum.specs.WienerLaws.{wiener-most}
 use Rattle.tile_spectrum.specs.SideSizes.{part-within}
 
@@ -51,13 +51,6 @@ unfolding filtered side32
 long-gain-most noise b c h = le-trans (wiener-most noise (quantized side32 b) (quantized side32 c)) (part-within side32 gainMost b (le-trans h (lit≤ tt)))
 
 -- ---- the quads of a tile of side 32
-
-pub long-quad-is : (noise : ℕ) (t : ℕ → ℕ → ℤ) (v u : ℕ) → v < 16 → u < 16 → 0 < v + u → quadPlaces side32 (spreadOf side32 (gainReOf side32 noise t) (gainImOf side32 noise t)) v u ≡ foldedQuad v u (filtered side32 noise (getD (twoBinsOf side32 t v u) 0 (pos 0)) (getD (twoBinsOf side32 t v u) 1 (pos 0))) (filtered side32 noise (getD (twoBinsOf side32 t v u) 1 (pos 0)) (getD (twoBinsOf side32 t v u) 0 (pos 0))) (filtered side32 noise (getD (twoBinsOf side32 t v u) 2 (pos 0)) (getD (twoBinsOf side32 t v u) 3 (pos 0))) (filtered side32 noise (getD (twoBinsOf side32 t v u) 3 (pos 0)) (getD (twoBinsOf side32 t v u) 2 (pos 0)))
-unfolding side32
-long-quad-is = quad-is-of turns32
-
-pub long-corner-is : (noise : ℕ) (t : ℕ → ℕ → ℤ) → quadPlaces side32 (spreadOf side32 (gainReOf side32 noise t) (gainImOf side32 noise t)) 0 0 ≡ tab 4 (λ i. filtered side32 noise (getD (twoBinsOf side32 t 0 0) i (pos 0)) (pos 0))
-long-corner-is = corner-is-of turns32
 
 pub long-bins-each : (t : ℕ → ℕ → ℤ) (P : ℤ → Type 0) → P (pos 0) → ((u v : ℕ) → u < 32 → v < 17 → P (tileReOf side32 t u v)) → ((u v : ℕ) → u < 32 → v < 17 → P (tileImOf side32 t u v)) → (v u : ℕ) → v < 16 → u < 16 → (i : ℕ) → P (getD (twoBinsOf side32 t v u) i (pos 0))
 unfolding side32

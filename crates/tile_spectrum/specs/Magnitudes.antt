@@ -67,11 +67,7 @@ spatialCorrectionMost = 1776856
 abbrev pub longNoiseMost : ℕ
 longNoiseMost = 69776441344
 
--- a part of a row's transform, or of a column's: thirty-two differences times a cosine of at most 16384
-abbrev pub longRowMost : ℕ
-longRowMost = 2146959360
-
--- a part of B: thirty-two times that times |C(k)| + |S(k)|, which is at most 23170; over 2^26 it is gainMost again
+-- a part of B: thirty-two times that of a row, which is at most 2146959360, times |C(k)| + |S(k)|, which is at most 23170; over 2^26 it is gainMost again
 abbrev pub longBinMost : ℕ
 longBinMost = 1591841547878400
 

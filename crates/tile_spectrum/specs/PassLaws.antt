@@ -2,7 +2,7 @@
 use Rattle.tile_spectrum.specs.Prelude.{_≡_, sym, ap, ap₂, _∙_, List, [], ℕ, suc, _+_, _*_, _/_, _%_, _^_, _≤_, arith, lit<, eqb, cond, ℤ, pos, natAbs, negℤ, _+ℤ_, _*ℤ_, away, tab, Side, halfcomplexOf, backwardOf, halfSumOf, correctionAt}
 use Rattle.algebra.specs.Prelude.{negsuc}
 use Prim.Native.Nat.{zero-le}
-use lib.Ieee.{Float, binary64, ofInt}
+use lib.Ieee.{binary64, ofInt}
 use Rattle.algebra.specs.NearestLaws.{away-odd}
 use Rattle.sequences.specs.TabLaws.{tab-each}
 use Rattle.sequences.specs.Grid.{grid, cell, cell-grid, grid-ext}
@@ -12,9 +12,9 @@ use Rattle.tile_spectrum.specs.Lines.SideFolds.{line-ext}
 use Rattle.tile_spectrum.specs.Spectrum.{twoWayOf, transposed, apartOf, countedOf, backSumOf, BinsHeld, foldedGain}
 use Rattle.tile_spectrum.specs.Turns.{Turns}
 use Rattle.tile_spectrum.specs.Pairs.{planeIn, sideBySide, byColumns, either}
-use Rattle.tile_spectrum.specs.SpectrumLaws.{bin-re-of, bin-im-of, columns-first-of}
+use Rattle.tile_spectrum.specs.SpectrumLaws.{bin-re-of, bin-im-of, columns-first}
 use Rattle.tile_spectrum.specs.PlaceLaws.{back-ext}
-use Rattle.tile_spectrum.specs.CorrectionLaws.{corrected-of}
+use Rattle.tile_spectrum.specs.CorrectionLaws.{corrected}
 
 -- a table of small numbers
 pub grid-most : (n m b : ℕ) (f : ℕ → ℕ → ℤ) → ((k l : ℕ) → natAbs (f k l) ≤ b) → TileMost b (grid n m f)
@@ -28,7 +28,7 @@ pub both-ways-of : {s : Side} → Turns s → (d : ℕ → ℕ → ℤ) {a : Lis
 both-ways-of {s} t d {a} p =
     grid-ext (s .side) (2 * s .side) _ _ (λ b l i j. ap (ofInt binary64)
     (line-ext s _ _ (λ x m. ap (λ t. cell (pos 0) t b (2 * x + l % 2)) p ∙ cell-grid (pos 0) (s .side) (2 * s .side) (λ b l. halfcomplexOf s (λ y. d y l) b) b (2 * x + l % 2) i (omega arith)) (l / 2)
-    ∙ sym (columns-first-of t (planeIn d (l % 2)) (l / 2) b)))
+    ∙ sym (columns-first t (planeIn d (l % 2)) (l / 2) b)))
 
 -- ---- the inverse
 
@@ -73,4 +73,4 @@ module _ {s : Side} (t : Turns s) (first second : ℕ) (d : ℕ → ℕ → ℤ)
   corrections-of =
       grid-ext (s .side) (2 * s .side) _ _ (λ y l h k. ap (λ z. cell (pos 0) r y l +ℤ z)
       (ap (λ z. away z (s .divisor)) (back-ext s (transposed (planeIn (byColumns back) (l % 2))) (back (l % 2)) (λ x b i j. lane (λ p x. back p x b) x l) y (l / 2))
-      ∙ corrected-of t (either first second (l % 2)) (planeIn d (l % 2)) (twoWayOf s (planeIn d (l % 2))) (bins (l % 2)) y (l / 2) h (omega arith)))
+      ∙ corrected t (either first second (l % 2)) (planeIn d (l % 2)) (twoWayOf s (planeIn d (l % 2))) (bins (l % 2)) y (l / 2) h (omega arith)))

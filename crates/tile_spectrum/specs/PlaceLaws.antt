@@ -1,5 +1,5 @@
 -- The way back from a spectrum in halfcomplex form looks at its n by n places only.
-use Rattle.tile_spectrum.specs.Prelude.{_≡_, refl, ap, ap₂, Bool, true, false, cond, ℕ, zero, suc, _+_, _-_, _*_, _%_, _≤_, _<_, arith, ltb, ℤ, _+ℤ_, _-ℤ_, Side}
+use Rattle.tile_spectrum.specs.Prelude.{_≡_, refl, ap, ap₂, Bool, true, false, cond, ℕ, zero, suc, _+_, _-_, _%_, _≤_, _<_, arith, ltb, ℤ, _+ℤ_, _-ℤ_, Side}
 use native.Mathlib.Nat.{zero-mod}
 use borrow.Author.Tests.{ltb-true, ltb-false}
 use Rattle.tile_spectrum.specs.Spectrum.{foldReOf, foldImOf, spreadOf, countedOf, backSumOf}

@@ -4,7 +4,7 @@ use Prim.Native.Nat.{ℕ, zero, suc, _+_, _-_, _%_, _<_}
 use native.Mathlib.Nat.{mod-eq-of-lt, zero-mod, add-mod-left}
 use borrow.Author.Tests.{lt-ltb, le-ltb}
 use lib.IntN.{ℤ, pos, negℤ, _+ℤ_, _-ℤ_, +ℤ-idr, +ℤ-idl, +ℤ-comm, negℤ-negℤ}
-use Rattle.tile_spectrum.specs.Spectrum.{realPart, imaginaryPart, besideOf, tileReOf, tileImOf, foldReOf, foldImOf, spreadOf, quadPlaces, twoBinsOf, gainReOf, gainImOf, byKind, foldedQuad, tileRe, tileIm, spread, quadOf, twoBins, gainRe, gainIm}
+use Rattle.tile_spectrum.specs.Spectrum.{realPart, imaginaryPart, besideOf, tileReOf, tileImOf, foldReOf, foldImOf, spreadOf, quadPlaces, twoBinsOf, gainReOf, gainImOf, byKind, foldedQuad, tileRe, tileIm, twoBins}
 use Rattle.tile_spectrum.specs.Turns.{Turns, turns16}
 use Rattle.tile_spectrum.specs.SpectrumLaws.{filtered-odd-of, filtered-even-of}
 use Rattle.tile_spectrum.specs.Apart.{side-own, side-paired, side-cases}
@@ -275,16 +275,16 @@ module _ {s : Side} (turn : Turns s) where
     abbrev Bin : (v u i : ℕ) → ℤ
     Bin v u i = getD (twoBinsOf s t v u) i (pos 0)
 
-    pub quad-is-of : (v u : ℕ) → v < s .half → u < s .half → 0 < v + u → Quad v u ≡ foldedQuad v u (f (Bin v u 0) (Bin v u 1)) (f (Bin v u 1) (Bin v u 0)) (f (Bin v u 2) (Bin v u 3)) (f (Bin v u 3) (Bin v u 2))
+    pub quad-is : (v u : ℕ) → v < s .half → u < s .half → 0 < v + u → Quad v u ≡ foldedQuad v u (f (Bin v u 0) (Bin v u 1)) (f (Bin v u 1) (Bin v u 0)) (f (Bin v u 2) (Bin v u 3)) (f (Bin v u 3) (Bin v u 2))
     unfolding twoBinsOf foldedQuad byKind quadPlaces
-    quad-is-of zero zero h l o = absurd (omega arith)
-    quad-is-of zero (suc u) h l o = top-quad (suc u) (omega (arith, turn .whole, turn .above)) l
-    quad-is-of (suc v) zero h l o = left-quad (suc v) (omega (arith, turn .whole, turn .above)) h
-    quad-is-of (suc v) (suc u) h l o = inner-quad (suc v) (suc u) (omega (arith, turn .whole, turn .above)) h (omega (arith, turn .whole, turn .above)) l
+    quad-is zero zero h l o = absurd (omega arith)
+    quad-is zero (suc u) h l o = top-quad (suc u) (omega (arith, turn .whole, turn .above)) l
+    quad-is (suc v) zero h l o = left-quad (suc v) (omega (arith, turn .whole, turn .above)) h
+    quad-is (suc v) (suc u) h l o = inner-quad (suc v) (suc u) (omega (arith, turn .whole, turn .above)) h (omega (arith, turn .whole, turn .above)) l
 
-    pub corner-is-of : Quad 0 0 ≡ tab 4 (λ i. f (Bin 0 0 i) (pos 0))
+    pub corner-is : Quad 0 0 ≡ tab 4 (λ i. f (Bin 0 0 i) (pos 0))
     unfolding quadPlaces twoBinsOf byKind tab
-    corner-is-of =
+    corner-is =
         four
         (line-re _ _ 0 0 (omega (arith, turn .whole, turn .above)) ∙ column-own 0 own-zero 0 (omega (arith, turn .whole, turn .above)) own-zero)
         (line-re _ _ (s .half + 0) 0 (omega (arith, turn .whole, turn .above)) ∙ column-own 0 own-zero (s .half + 0) (omega (arith, turn .whole, turn .above)) own-half)
@@ -312,13 +312,6 @@ module _ {s : Side} (turn : Turns s) where
         (subst P (high-re 0 t (suc v) (omega (arith, turn .whole, turn .above)) m (suc u) (omega (arith, turn .whole, turn .above)) l) (re (s .side - suc u) (suc v) (omega (arith, turn .whole, turn .above)) (omega (arith, turn .whole, turn .above)))) (subst P (high-im 0 t (suc v) (omega (arith, turn .whole, turn .above)) m (suc u) (omega (arith, turn .whole, turn .above)) l) (im (s .side - suc u) (suc v) (omega (arith, turn .whole, turn .above)) (omega (arith, turn .whole, turn .above))))
 
 -- ---- side 16
-
-pub quad-is : (noise : ℕ) (t : ℕ → ℕ → ℤ) (v u : ℕ) → v < 8 → u < 8 → 0 < v + u → quadOf (spread (gainRe noise t) (gainIm noise t)) v u ≡ foldedQuad v u (filtered side16 noise (getD (twoBins t v u) 0 (pos 0)) (getD (twoBins t v u) 1 (pos 0))) (filtered side16 noise (getD (twoBins t v u) 1 (pos 0)) (getD (twoBins t v u) 0 (pos 0))) (filtered side16 noise (getD (twoBins t v u) 2 (pos 0)) (getD (twoBins t v u) 3 (pos 0))) (filtered side16 noise (getD (twoBins t v u) 3 (pos 0)) (getD (twoBins t v u) 2 (pos 0)))
-unfolding side16
-quad-is = quad-is-of turns16
-
-pub corner-is : (noise : ℕ) (t : ℕ → ℕ → ℤ) → quadOf (spread (gainRe noise t) (gainIm noise t)) 0 0 ≡ tab 4 (λ i. filtered side16 noise (getD (twoBins t 0 0) i (pos 0)) (pos 0))
-corner-is = corner-is-of turns16
 
 pub bins-each : (t : ℕ → ℕ → ℤ) (P : ℤ → Type 0) → P (pos 0) → ((u v : ℕ) → u < 16 → v < 9 → P (tileRe t u v)) → ((u v : ℕ) → u < 16 → v < 9 → P (tileIm t u v)) → (v u : ℕ) → v < 8 → u < 8 → (i : ℕ) → P (getD (twoBins t v u) i (pos 0))
 unfolding side16

@@ -1,6 +1,6 @@
 -- Laws of the spectrum of real differences: its halfcomplex form holds the bins of document 01, the bins are mirror images, and the filter keeps signs.
 use mathlib.Core.Path.{_≡_, refl, sym, ap, ap₂, _∙_, fun-ext}
-use Rattle.tile_spectrum.specs.Prelude.{Bool, true, false, cond, List, [], _∷_, ℕ, zero, suc, _+_, _-_, _*_, _%_, _^_, _<_, arith, eqb, ltb, lit<, away, vars4, var, _⊞_, _⊟_, _⊠_, ⊖_, ring, sumZ, Side, cosAt, sinAt, side16, oppositeOf, power, wiener, rowRe, rowIm, binRe, binIm, quantized, filtered, basisOf, halfcomplexOf, halfcomplex}
+use Rattle.tile_spectrum.specs.Prelude.{Bool, true, false, cond, List, [], _∷_, ℕ, zero, suc, _+_, _-_, _*_, _%_, _<_, arith, eqb, ltb, away, vars4, var, _⊞_, _⊟_, _⊠_, ⊖_, ring, sumZ, Side, cosAt, sinAt, side16, oppositeOf, power, wiener, rowRe, rowIm, binRe, binIm, quantized, filtered, basisOf, halfcomplexOf}
 use borrow.Author.Tests.{lt-ltb}
 use lib.IntN.{ℤ, pos, negℤ, natAbs, _+ℤ_, _-ℤ_, _*ℤ_, *ℤ-zero, zero-*ℤ}
 use Rattle.algebra.specs.Order.{abs-neg}
@@ -92,9 +92,9 @@ module _ {s : Side} (t : Turns s) where
   -- ---- the order of the passes
 
   -- the columns' transforms first, and then the rows' along them, come to the same
-  pub columns-first-of : (d : ℕ → ℕ → ℤ) (k b : ℕ) → twoWayOf s d k b ≡ halfcomplexOf s (λ x. halfcomplexOf s (λ y. d y x) b) k
+  pub columns-first : (d : ℕ → ℕ → ℤ) (k b : ℕ) → twoWayOf s d k b ≡ halfcomplexOf s (λ x. halfcomplexOf s (λ y. d y x) b) k
   unfolding twoWayOf halfcomplexOf
-  columns-first-of d k b =
+  columns-first d k b =
       sumZ-cong (s .side) _ (λ y. sumZ (s .side) (λ x. d y x *ℤ basisOf s k x *ℤ basisOf s b y)) (λ y i. sym (sumZ-scaler (s .side) (basisOf s b y) (λ x. d y x *ℤ basisOf s k x)))
       ∙ sumZ-exchange (s .side) (s .side) (λ y x. d y x *ℤ basisOf s k x *ℤ basisOf s b y)
       ∙ sumZ-cong (s .side) _ _
@@ -182,6 +182,3 @@ bin-re = bin-re-of turns16
 pub bin-im : (d : ℕ → ℕ → ℤ) (u v : ℕ) → u < 16 → v < 9 → tileIm (twoWay d) u v ≡ binIm side16 d u v
 unfolding side16
 bin-im = bin-im-of turns16
-
-pub columns-first : (d : ℕ → ℕ → ℤ) (k b : ℕ) → twoWay d k b ≡ halfcomplex (λ x. halfcomplex (λ y. d y x) b) k
-columns-first = columns-first-of turns16

@@ -1,5 +1,5 @@
 -- What the folds of a spectrum ask of a side's tables, at products of two indices: each rule one computed test over the whole table.
-use Rattle.tile_spectrum.specs.Prelude.{_≡_, refl, ℕ, suc, _+_, _-_, _*_, _≤_, _<_, arith, lit≤, lit<, ℤ, pos, negℤ, Side, cosAt, sinAt, cosines, cosine16, sine16, side16, cosines32, cosine32, sine32, side32, oppositeOf, frequencyOf, phaseOf, basisOf}
+use Rattle.tile_spectrum.specs.Prelude.{_≡_, refl, ℕ, suc, _+_, _-_, _*_, _≤_, _<_, arith, lit≤, pos, negℤ, Side, cosAt, sinAt, cosines, cosine16, sine16, side16, cosines32, cosine32, sine32, side32, oppositeOf, frequencyOf, phaseOf, basisOf}
 use native.Mathlib.Nat.{mod-eq-of-lt}
 use Rattle.recipe.specs.TableLaws.{agree, agree-both}
 use Rattle.tile_spectrum.specs.Spectrum.{apartOf, realPart, imaginaryPart}

@@ -1,5 +1,5 @@
 -- The buffers are long enough for the side.
-use Rattle.align_level.specs.Prelude.{_∙_, sym, ap, subst, _+_, _≤_, arith, needs}
+use Rattle.align_level.specs.Prelude.{sym, ap, subst, _+_, _≤_, arith, needs}
 use native.Mathlib.Nat.{mul-le-mul}
 use Rattle.align_level.proofs.Answers.{side-most}
 use Rattle.align_level.proofs.level_tile as of

@@ -1,5 +1,5 @@
 -- Two words a turn, each from the four tiles over it.
-use Rattle.algebra.specs.Prelude.{_≡_, sym, subst, ap, ap₂, _∙_, _+_, _-_, _*_, _/_, _%_, _<_, arith, needs, List, getD, ℕ, ℤ, natAbs, w64, toZ, ofZ, now}
+use Rattle.algebra.specs.Prelude.{_≡_, sym, subst, ap, ap₂, _∙_, _+_, _-_, _*_, _/_, _<_, arith, needs, List, getD, ℕ, ℤ, natAbs, w64, toZ, ofZ, now}
 use lib.ListN.{length-set}
 use Rattle.sequences.specs.Write.{Writing, write-start, write-turn, write-done}
 use Rattle.merge_gather.specs.Prelude.{side16, sideOf}

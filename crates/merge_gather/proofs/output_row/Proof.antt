@@ -1,6 +1,6 @@
 -- A block a turn, each from the four pairs of tiles over it.
 use mathlib.Core.Path.{_≡_, refl, sym, ap, ap₂, _∙_, subst}
-use Rattle.merge_gather.specs.Prelude.{_+_, _-_, _*_, _/_, _≤_, _<_, arith, needs, now, sampleLength, TileSide}
+use Rattle.merge_gather.specs.Prelude.{_+_, _-_, _*_, _/_, _≤_, arith, needs, now, sampleLength, TileSide}
 use native.Mathlib.Nat.{mul-le-mul-left}
 use Rattle.sequences.specs.Write.{written, Writing, write-start, write-done}
 use Rattle.merge_gather.specs.Work.{Weighed, rowSpan, further, Roomy, wordFrom}

@@ -1,5 +1,5 @@
 -- Windows are at most 4096.
-use Rattle.merge_gather.specs.Prelude.{_≡_, ap, _∙_, _*_, _≤_, arith, needs, getD, pos, w64, toZ, now, sideOf}
+use Rattle.merge_gather.specs.Prelude.{_≡_, ap, _∙_, _*_, _≤_, arith, getD, pos, w64, toZ, now, sideOf}
 use mir.Facts.{toZ-pos}
 use Rattle.merge_gather.proofs.Weighing.{window-at, weight-most, side-most}
 use Rattle.merge_gather.proofs.weight as of

@@ -1,5 +1,5 @@
 -- A row of weights, filled from the front, two a turn.
-use Rattle.algebra.specs.Prelude.{_≡_, refl, subst, _∙_, _-_, _*_, _≤_, _<_, arith, needs, w64, toZ, ofZ}
+use Rattle.algebra.specs.Prelude.{_≡_, refl, subst, _∙_, _-_, _*_, _≤_, arith, needs, w64, toZ, ofZ}
 use Rattle.sequences.specs.TabLaws.{Filled, fill-start}
 use Rattle.merge_gather.specs.Gather.{weightOf}
 use Rattle.merge_gather.proofs.Weighing.{weights-turn, weights-done, side-most}

@@ -1,5 +1,5 @@
 -- The table of either side.
-use Rattle.merge_gather.specs.Prelude.{refl, tab, windows, windows32}
+use Rattle.merge_gather.specs.Prelude.{tab, windows, windows32}
 use borrow.Author.Tests.{eq-eqb, ne-eqb}
 use Rattle.merge_gather.specs.Gather.{windowTable}
 use Rattle.merge_gather.proofs.window_of as of

@@ -1,5 +1,5 @@
 -- Four terms, each far below 2^63, in the definition's order.
-use Rattle.algebra.specs.Prelude.{ap, _∙_, _+_, _*_, _/_, arith, needs, _+ℤ_, w64, toZ-ofZ, now}
+use Rattle.algebra.specs.Prelude.{ap, _∙_, _+_, _*_, _/_, arith, needs, _+ℤ_, w64, toZ-ofZ}
 use Rattle.algebra.specs.Bound.{AtMost, most-fits}
 use Rattle.merge_tiles.specs.SignedLaws.{plus64, sum-is, sum-most}
 use Rattle.merge_gather.specs.Work.{partMost, sumMost}

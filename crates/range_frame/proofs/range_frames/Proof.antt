@@ -1,5 +1,5 @@
 -- The two row parities, one after the other.
-use Rattle.range_frame.specs.Prelude.{_≡_, sym, subst, _∙_, List, ℕ, ℤ, arith, needs, lit<, length, now, outputLength, side16, sceneAt, sceneOf, lowSample, highSample, End, frameEnd, raised}
+use Rattle.range_frame.specs.Prelude.{_≡_, sym, subst, _∙_, List, ℕ, arith, needs, lit<, now, outputLength, side16, sceneAt, sceneOf, lowSample, highSample, End, frameEnd, raised}
 use Rattle.recipe.specs.SideLaws.{of-16}
 use Rattle.range_frame.specs.BandLaws.{frame-whole}
 use Rattle.range_frame.proofs.range_frames as of

@@ -1,5 +1,5 @@
 -- `tile_lines32_whole::even_places`: the places are stored by twos.
-use Rattle.algebra.specs.Prelude.{refl, _∙_, _-_, _*_, arith, needs, now}
+use Rattle.algebra.specs.Prelude.{refl, _∙_, _-_, _*_, arith, needs}
 use Rattle.sequences.specs.TabLaws.{Filled, fill-start, fill-done}
 use Rattle.tile_spectrum.specs.Lines.WholeFolds.{placed, placed-turn, placed-is}
 use Rattle.tile_lines32_whole.proofs.even_places as of

@@ -1,6 +1,6 @@
 -- Two lines of any side side by side, number n of line p at 2n + p, folded in halves: the sums and the differences of numbers half a line apart, and the places
 -- of each line. And a loop that stores them by fours: places 4k .. 4k + 3, from the even and the odd places of both.
-use Rattle.tile_spectrum.specs.Lines.Prelude.{_≡_, refl, ap, ap₂, _∙_, List, [], _∷_, ℕ, zero, suc, _+_, _*_, _/_, _%_, _<_, arith, getD, set, ℤ, _+ℤ_, _-ℤ_, Float, nan, binary64, ofInt, tab, Side, Rules}
+use Rattle.tile_spectrum.specs.Lines.Prelude.{_≡_, refl, ap, _∙_, List, [], _∷_, ℕ, zero, suc, _+_, _*_, _/_, _%_, _<_, arith, getD, set, ℤ, _+ℤ_, _-ℤ_, Float, nan, binary64, ofInt, tab, Side, Rules}
 use Rattle.sequences.specs.TabLaws.{Filled, fill-turn, getD-tab}
 use Rattle.sequences.specs.Grid.{tab-ext}
 use Rattle.tile_spectrum.specs.Lines.Halfcomplex.{halfcomplexOf}

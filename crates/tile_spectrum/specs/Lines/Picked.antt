@@ -1,4 +1,4 @@
--- Numbers of a line as the code holds them: eight, or sixteen.
+-- Numbers of a line as the code holds them.
 use Rattle.tile_spectrum.specs.Lines.Prelude.{_≡_, refl, ap, ap₂, _∙_, List, [], _∷_, T, ltb, getD, ℤ, pos, natAbs, Width, toZ, ofZ, hbits, tab}
 use Prim.Native.Nat.{ℕ, zero, suc, _^_, _≤_, zero-le}
 use Rattle.tile_spectrum.specs.Lines.Lines.{LineMost}
@@ -33,14 +33,6 @@ eight = 0 ∷ 1 ∷ 2 ∷ 3 ∷ 4 ∷ 5 ∷ 6 ∷ 7 ∷ []
 pub eight-picked : (f : ℕ → ℤ) → picked (tab 8 f) eight ≡ tab 8 f
 unfolding tab
 eight-picked f = refl
-
--- sixteen
-abbrev pub sixteen : List ℕ
-sixteen = 0 ∷ 1 ∷ 2 ∷ 3 ∷ 4 ∷ 5 ∷ 6 ∷ 7 ∷ 8 ∷ 9 ∷ 10 ∷ 11 ∷ 12 ∷ 13 ∷ 14 ∷ 15 ∷ []
-
-pub sixteen-picked : (f : ℕ → ℤ) → picked (tab 16 f) sixteen ≡ tab 16 f
-unfolding tab
-sixteen-picked f = refl
 
 -- all n numbers of a line
 pub held-tab : (w : Width) {b : ℕ} (n : ℕ) {z : List ℤ} (f : ℕ → ℤ) (ks : List ℕ) → picked (tab n f) ks ≡ tab n f → LineMost b z → T (ltb b (2 ^ hbits w)) → z ≡ tab n f → held w z ks ≡ tab n f

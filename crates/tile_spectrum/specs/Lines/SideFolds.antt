@@ -1,12 +1,12 @@
 -- The folds of a line in halves, for any side whose cosines keep the rules: each even place of the transform is that of the line of sums, each odd place
 -- that of the line of differences.
-use Rattle.tile_spectrum.specs.Lines.Prelude.{_≡_, refl, sym, ap, _∙_, Bool, true, false, not, cond, [], _∷_, ℕ, zero, suc, _+_, _-_, _*_, _/_, _≤_, _<_, T, ltb, arith, ℤ, negℤ, _+ℤ_, _-ℤ_, _*ℤ_, ltb→lt, nltb→le, var, _⊞_, _⊟_, _⊠_, ⊖_, ring, sumZ, Side, cosAt, side16, Rules, Doubled}
+use Rattle.tile_spectrum.specs.Lines.Prelude.{_≡_, refl, sym, ap, _∙_, Bool, true, false, not, cond, [], _∷_, ℕ, zero, suc, _+_, _-_, _*_, _/_, _≤_, _<_, T, ltb, arith, ℤ, negℤ, _+ℤ_, _-ℤ_, _*ℤ_, ltb→lt, nltb→le, var, _⊞_, _⊟_, _⊠_, ⊖_, ring, sumZ, Side, cosAt, Rules, Doubled}
 use native.Mathlib.Nat.{mul-add, add-mul, mul-assoc, zero-mul, suc-mul}
 use lib.IntN.{negℤ-negℤ}
 use Rattle.algebra.specs.Laws.{*ℤ-distr}
 use Rattle.algebra.specs.SumLaws.{sumZ-cong, sumZ-add, sumZ-parts}
 use Rattle.tile_spectrum.specs.Lines.Halfcomplex.{frequencyOf, phaseOf, basisOf, halfcomplexOf}
-use Rattle.tile_spectrum.specs.Lines.Fold.{sumOf, differenceOf, foldedOf, folded}
+use Rattle.tile_spectrum.specs.Lines.Fold.{sumOf, differenceOf, foldedOf}
 
 -- twice q off twice i, and off the next number
 cut-even : (h q i : ℕ) → h ≡ 2 * q → 2 * i - h ≡ (i - q) + (i - q)
@@ -137,7 +137,3 @@ module _ (s : Side) (f g : ℕ → ℤ) where
   pub folds-ext : ((n : ℕ) → n < s .half → f n ≡ g n) → (k : ℕ) → foldedOf s f k ≡ foldedOf s g k
   unfolding foldedOf
   folds-ext h k = sumZ-cong (s .half) _ _ (λ n l. ap (λ z. z *ℤ basisOf s k n) (h n l))
-
-pub folded-ext : (f g : ℕ → ℤ) → ((n : ℕ) → n < 8 → f n ≡ g n) → (k : ℕ) → folded f k ≡ folded g k
-unfolding side16
-folded-ext f g h = folds-ext side16 f g h

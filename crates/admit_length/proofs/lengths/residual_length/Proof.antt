@@ -1,5 +1,5 @@
 -- The tiles of the other frames are few.
-use Rattle.algebra.specs.Prelude.{_≡_, ap₂, ℕ, _-_, _*_, _≤_, arith, needs}
+use Rattle.algebra.specs.Prelude.{ap₂, ℕ, _-_, _*_, _≤_, arith, needs}
 use native.Mathlib.Nat.{mul-le-mul}
 use Rattle.admit_length.specs.Residuals.{residualLength}
 use Rattle.admit_length.proofs.lengths.residual_length as of

@@ -4,7 +4,7 @@ use Rattle.align_residual.specs.SixteenLaws.{compared-less}
 use Rattle.align_residual.specs.Local.{squareRow, squareSum}
 use Rattle.align_residual.specs.Magnitudes.{pairMost}
 use Rattle.sequences.specs.Sum.{Summed, sum-start, sum-turn, sum-done}
-use Rattle.algebra.specs.Prelude.{false, _+_, _-_, _*_, _≤_, arith, needs}
+use Rattle.algebra.specs.Prelude.{false, _-_, _*_, _≤_, arith, needs}
 use Rattle.align_residual.proofs.thirty_two.absolute_sum as of
 
 abbrev Inv-loop : of.Tie.InvT-loop

@@ -1,5 +1,5 @@
 -- The side decides which search it is.
-use Rattle.algebra.specs.Prelude.{_≡_, subst, Bool, false, ℕ, arith, needs}
+use Rattle.algebra.specs.Prelude.{_≡_, subst, Bool, false, ℕ, arith}
 use mathlib.Core.Logic.{⊎-elim}
 use Rattle.align_search.specs.Local.{Window, Narrow}
 use Rattle.align_search.proofs.window.search as of

@@ -1,5 +1,5 @@
 -- Each arm puts the words of its number.
-use Rattle.algebra.specs.Prelude.{_≡_, refl, ℕ, suc, _≤_, arith, needs}
+use Rattle.algebra.specs.Prelude.{_≡_, refl, _≤_, arith, needs}
 use Prim.Native.Nat.{zero-le}
 use Rattle.c_words.specs.Words.{wordTable, wordsOf}
 use Rattle.c_words.specs.WordLaws.{past, said}

@@ -1,5 +1,5 @@
 -- The size that the digits write, then the form.
-use Rattle.file_pgm.specs.Prelude.{_≡_, true, false, sym, ap, ap₂, _∙_, _+_, needs, length, drop, after, decimal, leading}
+use Rattle.file_pgm.specs.Prelude.{_≡_, sym, ap, ap₂, _∙_, _+_, needs, length, drop, after, decimal, leading}
 use borrow.Author.Tests.{not-true, not-false}
 use Rattle.file_pgm.specs.Reading.{widthIn, heightIn, formed, acceptedPgm, pgmAnswer}
 use Rattle.file_pgm.specs.Size.{formRefusal, pgmSize}

@@ -1,5 +1,5 @@
 -- The rows of either side.
-use Rattle.merge_frame.specs.Prelude.{_≡_, sym, subst, List, ℕ, _*_, _/_, _≤_, _<_, arith, lit<, needs, length, ℤ, now, TileSide, Merge, sceneAt, Accepted, rowWords, Stored}
+use Rattle.merge_frame.specs.Prelude.{_≡_, sym, subst, List, ℕ, _*_, _/_, _≤_, arith, lit<, needs, length, ℤ, now, TileSide, Merge, sceneAt, Accepted, rowWords, Stored}
 use mathlib.Core.Logic.{⊎-elim}
 use Rattle.recipe.specs.Tables.{side16}
 use Rattle.recipe.specs.Tables32.{side32}

@@ -1,5 +1,5 @@
 -- A row of both frames a turn, from the two rows of pairs of tiles that are held.
-use Rattle.range_frame.specs.Prelude.{_≡_, subst, _∙_, _-_, _+_, _*_, _/_, _≤_, _<_, arith, needs, now, sceneAt, greatestAt, leastAt, atNoises}
+use Rattle.range_frame.specs.Prelude.{_≡_, subst, _∙_, _-_, _+_, _*_, _<_, arith, needs, now, sceneAt, greatestAt, leastAt, atNoises}
 use Rattle.range_frame.specs.Held.{RowsRanged}
 use Rattle.range_frame.specs.HeldLaws.{ends-held, ends-kept}
 use Rattle.range_frame.specs.BandLaws.{row-ready, InBand, band-start, band-turn}

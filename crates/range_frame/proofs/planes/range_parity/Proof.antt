@@ -1,5 +1,5 @@
 -- A band a turn, each under the row of pairs of tiles that the one before has left.
-use Rattle.range_frame.specs.Prelude.{_≡_, refl, subst, _∙_, _+_, _-_, _*_, _/_, _≤_, _<_, arith, needs, length, now, sceneAt, atNoises}
+use Rattle.range_frame.specs.Prelude.{_≡_, refl, subst, _∙_, _-_, _*_, _/_, _≤_, arith, needs, length, now, sceneAt, atNoises}
 use Rattle.range_frame.specs.Held.{EndsHeld, RowsRanged}
 use Rattle.range_frame.specs.HeldLaws.{ends-held}
 use Rattle.range_frame.specs.BandLaws.{ranged-start, ranged-on}

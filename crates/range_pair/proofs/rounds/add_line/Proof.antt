@@ -1,5 +1,5 @@
 -- The halves of both rows, and P of them.
-use Rattle.range_pair.specs.Prelude.{_≡_, sym, ap, ap₂, _∙_, false, List, ℕ, _+_, _*_, _/_, _%_, _<_, arith, needs, lit≤, getD, ℤ, pos, _+ℤ_, now, Float, toSigned, tab, side16, halfSum, WholeRow, columnMost}
+use Rattle.range_pair.specs.Prelude.{_≡_, sym, ap, ap₂, _∙_, false, List, ℕ, _+_, _*_, _/_, _%_, _<_, arith, lit≤, getD, ℤ, pos, _+ℤ_, now, Float, toSigned, tab, side16, halfSum, WholeRow, columnMost}
 use native.Mathlib.Nat.{le-trans}
 use Rattle.sequences.specs.TabLaws.{getD-tab}
 use Rattle.sequences.specs.Grid.{tab-ext}

@@ -1,5 +1,5 @@
 -- `tile_lines::whole::odd_places`: the places of the folded line are those of the line.
-use Rattle.tile_lines.specs.Whole.Prelude.{_∙_, _+_, _*_, lit≤, lit<, w16, now, tab, side16, differenceAt, of}
+use Rattle.tile_lines.specs.Whole.Prelude.{_∙_, _+_, _*_, lit≤, lit<, w16, now, side16, differenceAt, of}
 use Rattle.recipe.specs.TableLaws.{rules16}
 use Rattle.tile_spectrum.specs.Lines.SideFolds.{odd-folded}
 use Rattle.tile_spectrum.specs.Lines.Picked.{eight, eight-picked, all-most}

@@ -1,5 +1,5 @@
 -- The rows passed have answered 0. The first that does not is the answer, and else the end.
-use Rattle.file_dng.specs.Tags.Prelude.{_≡_, sym, ap₂, _∙_, ℕ, _-_, needs, refuse, entries}
+use Rattle.file_dng.specs.Tags.Prelude.{_≡_, sym, ap₂, _∙_, _-_, needs, refuse, entries}
 use Rattle.file_dng.specs.Tags.RowTests.{rowHit, rowTag}
 use Rattle.file_dng.specs.Tags.FaultLaws.{Zeros, zeros-start, zeros-turn, zeros-done, zeros-found}
 use Rattle.file_dng.proofs.tags.faults.first_hit as of

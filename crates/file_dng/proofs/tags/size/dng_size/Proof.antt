@@ -1,10 +1,10 @@
 -- The tests for the file's own size; beside a refusal the tag, else the two values.
-use Rattle.file_dng.specs.Tags.Prelude.{_≡_, ap, ap₂, _∙_, List, ℕ, needs, first, Shape, entries}
+use Rattle.file_dng.specs.Tags.Prelude.{_≡_, ap, ap₂, _∙_, ℕ, needs, first, Shape, entries}
 use Rattle.refusals.specs.AfterLaws.{kept, made}
 use Rattle.file_dng.specs.declared.tags.DngSize.{DngSize}
 use Rattle.file_dng.specs.Tags.Refusals.{tagTests}
 use Rattle.file_dng.specs.Tags.Faults.{faultTag}
-use Rattle.file_dng.specs.Tags.Size.{loneShape, loneRefusal, dngSize}
+use Rattle.file_dng.specs.Tags.Size.{loneRefusal, dngSize}
 use Rattle.file_dng.proofs.tags.size.dng_size as of
 
 -- the number of the tests
