@@ -1,7 +1,7 @@
 -- Sums by fours are the sums over the rows of a tile of side 32.
 use Rattle.algebra.specs.Prelude.{_≡_, ap, ap₂, _∙_, false, List, ℕ, _+_, arith, getD}
 use Rattle.algebra.specs.Sums.{sumN}
-use Rattle.algebra.specs.SumLaws.{sumN-cong, sumN-add}
+use Rattle.algebra.specs.SumLaws.{sumN-cong}
 use Rattle.align_residual.specs.Residual.{gap, difference}
 use Rattle.align_residual.specs.Local.{rowSum, besideSum}
 
@@ -23,9 +23,3 @@ four-row tile window a b =
     sumN-cong 8 _ _
     (λ j h. ap₂ _+_ (ap (λ n. f j + n) (ap₂ g (omega arith) (omega arith))) (ap₂ _+_ (ap₂ g (omega arith) (omega arith)) (ap₂ g (omega arith) (omega arith))))
     ∙ quarters f
-
--- and two of them
-pub two-rows : (tile window : List ℕ) (a b c d : ℕ) → sumN 8 (λ j. fourSum tile window (a + j) (b + j) + fourSum tile window (c + j) (d + j)) ≡ rowSum false tile window a b 32 + rowSum false tile window c d 32
-two-rows tile window a b c d =
-    sumN-add 8 (λ j. fourSum tile window (a + j) (b + j)) (λ j. fourSum tile window (c + j) (d + j))
-    ∙ ap₂ _+_ (four-row tile window a b) (four-row tile window c d)

@@ -1,4 +1,4 @@
-// Sums of absolute differences over tiles of side 32: a row's distances are added by fours in 16 bits, as side 16's of two rows.
+// Sums of absolute differences over tiles of side 32, row by row: its distances are added by fours in 16 bits, as those of two rows are at side 16.
 ghost use Rattle.algebra.specs.Prelude.{_≡_, false, _+_, _*_, _≤_};
 ghost use Rattle.align_residual.specs.Magnitudes.{fourMost, pairMost};
 ghost use Rattle.align_residual.specs.Local.{rowSum, squareSum, besideSum, Compared};
@@ -23,19 +23,6 @@ pub fn absolute_row(tile: &[u16], window: &[u16], a: usize, b: usize) -> u32
     let mut sum: u32 = 0;
     for j in 0..8 {
         sum += wide(four(tile, window, a + j, b + j));
-    }
-    sum
-}
-
-// That row and the one under it, in a window of side 40.
-pub fn two_rows(tile: &[u16], window: &[u16], a: usize, b: usize) -> u32
-    requires { ⌜ Compared (now tile) (now window) (a + 64) (b + 72) ⌝ }
-    ensures { λ r. ⌜ (r ≡ rowSum false (now (tile .entry)) (now (window .entry)) a b 32 + rowSum false (now (tile .entry)) (now (window .entry)) (a + 32) (b + 40) 32) × (r ≤ 2 * pairMost) ⌝ }
-{
-    let mut sum: u32 = 0;
-    for j in 0..8 {
-        sum += wide(four(tile, window, a + j, b + j))
-            + wide(four(tile, window, a + 32 + j, b + 40 + j));
     }
     sum
 }

@@ -1,4 +1,4 @@
-// An offset tried in a window: its rows summed two at a time, and left where their total reaches the least so far.
+// An offset tried in a window: its rows are summed, and it is left where their total reaches the least so far.
 ghost use Rattle.algebra.specs.Prelude.{_≡_, cond, false, _+_, _<_, _≤_};
 
 pub mod eight;

@@ -1,4 +1,4 @@
--- A loop by pairs of rows of absolute differences, of either side: the sums that it is given are those of rows 2i and 2i + 1 of a square.
+-- A loop by pairs of rows of absolute differences, over the side: the sums that it is given are those of rows 2i and 2i + 1 of a square.
 use Rattle.align_search.specs.Trials.Prelude.{_≡_, refl, ap, ap₂, subst, _∙_, false, cond, List, ℕ, _+_, _*_, _≤_, _<_, arith, leb, squareRow}
 use Rattle.align_residual.specs.Local.{rowSum}
 use Rattle.align_residual.specs.SixteenLaws.{row-at}

@@ -1,4 +1,4 @@
--- What a loop by pairs of rows counts and answers.
+-- What a loop by pairs of rows counts and answers, and one row by row.
 use Rattle.align_search.specs.Trials.Prelude.{_≡_, refl, sym, ap, subst, _∙_, Bool, true, false, cond, ℕ, suc, _+_, _*_, _≤_, _<_, arith, T, leb, sumN}
 use borrow.Author.Tests.{leb-true, leb-false}
 use Rattle.align_search.specs.declared.trials.Tried.{Tried}
@@ -63,6 +63,48 @@ module _ {best : ℕ} {f : ℕ → ℕ} {b m : ℕ} where
       let l = w .below (omega arith) in
       record {
         rows-are = n ∙ sym (rows-all best f (2 * m) (omega arith));
+        whole = λ h. (omega arith, t ∙ e);
+        left = λ h. absurd (subst T h (subst T (sym u) tt));
+      }
+
+-- ---- row by row
+
+-- the first i of n rows, each at most b, have not reached the best: a loop's invariant
+pub record Summing (best : ℕ) (f : ℕ → ℕ) (b n i sum : ℕ) : Type 0 where
+  pub count : i ≤ n
+  pub is : sum ≡ sumN i f
+  pub below : 0 < i → sum < best
+  pub most : sum ≤ i * b
+
+module _ {best : ℕ} {f : ℕ → ℕ} {b n : ℕ} where
+  pub row-start : Summing best f b n 0 0
+  unfolding sumN
+  row-start = record { count = omega arith; is = refl; below = λ h. absurd (omega arith); most = omega arith }
+
+  module _ {i sum v : ℕ} (w : Summing best f b n i sum) (h : i < n) (e : v ≡ f i) where
+    total-is : sum + v ≡ sumN (suc i) f
+    unfolding sumN
+    total-is = omega (arith, e, w .is)
+
+    pub row-turn : v ≤ b → sum + v < best → Summing best f b n (i + 1) (sum + v)
+    row-turn l k = record { count = omega arith; is = total-is ∙ ap (λ n. sumN n f) (omega arith); below = λ h. k; most = omega (arith, w .most) }
+
+    -- an offset that is left in this row
+    pub row-left : {r : Tried} → best ≤ sum + v → (r .best ≡ false) × (r .rows ≡ i + 1) → Left best f n r
+    row-left {r} k a =
+        record {
+          rows-are = a .1 ∙ omega (arith, rows-left best f n i h (λ p. omega (arith, w .is, w .below (omega arith))) (omega (arith, total-is)));
+          whole = λ l. absurd (subst T (a .0) (subst T (sym l) tt));
+          left = λ l. omega (arith, total-is, sums-grow f (suc i) n (omega arith));
+        }
+
+  -- and one that is summed whole
+  pub row-done : {i sum : ℕ} {r : Tried} → Summing best f b n i sum → n ≤ i → 0 < n → r .best ≡ true → r .total ≡ sum → r .rows ≡ n → Left best f n r
+  row-done {i} {sum} {r} w h s u t o =
+      let e : sum ≡ sumN n f = w .is ∙ ap (λ k. sumN k f) (omega (arith, w .count)) in
+      let l = w .below (omega arith) in
+      record {
+        rows-are = o ∙ sym (rows-all best f n (omega arith));
         whole = λ h. (omega arith, t ∙ e);
         left = λ h. absurd (subst T h (subst T (sym u) tt));
       }

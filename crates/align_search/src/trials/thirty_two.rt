@@ -5,9 +5,8 @@ use crate::trials::Tried;
 use crate::trials::clipped;
 use crate::trials::leave;
 use align_residual::thirty_two::absolute_row;
-use align_residual::thirty_two::two_rows;
 
-// An offset, as `sixteen::absolute_offset`.
+// An offset, as `sixteen::absolute_offset`, but one row at a time, which is as many samples as two of side 16.
 pub fn absolute_offset(tile: &[u16], window: &[u16], y: usize, x: usize, low: u64) -> Tried
     requires { ⌜ InWindow (now tile) (now window) 32 y x ⌝ }
     ensures { λ r. ⌜ Left low (squareRow false (now (tile .entry)) (now (window .entry)) (y * 40 + x) 40 32) 32 r ⌝ }
@@ -15,13 +14,12 @@ pub fn absolute_offset(tile: &[u16], window: &[u16], y: usize, x: usize, low: u6
     let start = y * 40 + x;
     let limit = clipped(low);
     let mut sum: u32 = 0;
-    for i in 0..16 {
-        let both = sum + two_rows(tile, window, 64 * i, start + 80 * i);
-        if both >= limit {
-            let first = sum + absolute_row(tile, window, 64 * i, start + 80 * i);
-            return leave(first >= limit, 2 * i);
+    for i in 0..32 {
+        let total = sum + absolute_row(tile, window, 32 * i, start + 40 * i);
+        if total >= limit {
+            return leave(true, i);
         }
-        sum = both;
+        sum = total;
     }
     Tried {
         best: true,
