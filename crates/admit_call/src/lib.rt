@@ -1,4 +1,6 @@
 // The tests of the calls, in the order in which they are made: align's, the residuals', those that merge and run share, and a band's.
+#![tactic(auto)]
+
 pub mod one_frame;
 
 ghost use Rattle.std.specs.Prelude.{◌≡◌};
@@ -87,7 +89,7 @@ fn content_refusal(shape: Shape, tuning: Tuning, samples: &[u16]) -> u64
 }
 
 // A refusal's number, or 0 with the levels Ls and Lr: beside a refusal they are 0.
-#[derive(Drop)]
+#[derive(Clone, Copy)]
 pub struct Tested {
     pub refusal: u64,
     pub shot: u64,

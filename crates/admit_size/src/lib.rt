@@ -1,4 +1,6 @@
 // Sizes, counts, the reference, the side and the row length: refusals 1 to 3, 22 and 23.
+#![tactic(auto)]
+
 ghost use Rattle.std.specs.Prelude.{◌≡◌};
 ghost use Rattle.geometry.specs.Shape.{size_allowed, size_refusal, count_refusal, reference_refusal, side_allowed, side_refusal, row_refusal};
 

@@ -1,1 +1,2 @@
 // Laws of whole numbers, and rounding to nearest.
+#![tactic(auto)]

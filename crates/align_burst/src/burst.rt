@@ -9,7 +9,7 @@ use geometry::tiles::frame_parts;
 use geometry::vectors::other_frame;
 
 // What aligning a burst adds up: the sums of residuals of the other frames in rising index, unused places 0, and the tile rows that were summed in all.
-#[derive(Drop)]
+#[derive(Clone, Copy)]
 pub struct Totals {
     pub residuals: [u64; 7],
     pub rows: u64,

@@ -10,7 +10,7 @@ use geometry::Shape;
 use geometry::tiles::tile_count;
 
 // A level's tiles, whose vectors stand in the work area, and the tile rows that were summed for them and the levels before.
-#[derive(Drop)]
+#[derive(Clone, Copy)]
 struct Reach {
     grid: Grid,
     rows: u64,

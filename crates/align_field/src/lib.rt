@@ -1,4 +1,6 @@
 // The vectors of a level's tiles, one after the other.
+#![tactic(auto)]
+
 ghost use Rattle.align_field.specs.Prelude.{◌≡◌, ◌+◌, ◌*◌, ◌≤◌, ◌<◌, length, set, found_most, Stored, Vectors, Led};
 ghost use Rattle.geometry.specs.Fits.{TileSide};
 ghost use Rattle.align_patch.specs.Bounds.{Within};
@@ -20,7 +22,7 @@ fn put(work: &mut [i64], at: usize, v: Vector)
 }
 
 // What a frame's finest level adds up: its residuals, and the tile rows that were summed.
-#[derive(Drop)]
+#[derive(Clone, Copy)]
 pub struct Sums {
     pub residual: u64,
     pub rows: u64,

@@ -1,4 +1,6 @@
 // The tiles of a level: each from a guess, and the guess from the coarse level's vectors.
+#![tactic(auto)]
+
 ghost use Rattle.align_level.specs.Prelude.{◌≡◌, ◌*◌, ◌%◌, ◌≤◌, ◌<◌, length, get_or, pos, nat_abs, ◌*ℤ◌, TileSide, ◌times◌, Stored, Placed, Ready, Roomy};
 ghost use Rattle.align_patch.specs.Bounds.{Within};
 ghost use Rattle.align_level.specs.Fields.{level_at, level_tile};
@@ -14,7 +16,7 @@ use geometry::tiles::{Quotient, capped, neighbour, origin, own};
 use geometry::vectors::Vector;
 
 // A level's rows and columns of tiles, and where their vectors stand in the work area, row by row.
-#[derive(Drop)]
+#[derive(Clone, Copy)]
 pub struct Grid {
     pub at: usize,
     pub rows: usize,

@@ -1,4 +1,6 @@
 // The finest residual of each tile of a burst's other frames, at lent vectors.
+#![tactic(auto)]
+
 ghost use Rattle.align_measure.specs.Prelude.{◌≡◌, false, ◌+◌, ◌*◌, ◌<◌, length, written, TileSide, VectorsFit, sample_at, frame_tiles, residual, pair_in, Stored, Placed};
 ghost use Rattle.align_patch.specs.Bounds.{Within};
 ghost use Rattle.align_tile.specs.Magnitudes.{guess_most};

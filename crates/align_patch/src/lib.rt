@@ -1,4 +1,6 @@
 // Squares of an image of the work area, copied into local arrays: the rule for reading outside is paid once.
+#![tactic(auto)]
+
 ghost use Rattle.algebra.specs.Prelude.{◌≡◌, ◌+◌, ◌*◌, ◌%◌, ◌≤◌, ◌<◌, ◌^◌, pos, ◌+ℤ◌, length};
 ghost use Rattle.algebra.specs.Bound.{AtMost};
 ghost use Rattle.sequences.specs.Tab.{tab};

@@ -6,7 +6,7 @@ ghost use Rattle.align_pyramid.specs.Chain.{RoomAt, Room, Halvings};
 use crate::halving::{halved_value, tap_index, weigh};
 
 // Where an image stands in the work area, row after row, and its size.
-#[derive(Drop)]
+#[derive(Clone, Copy)]
 pub struct Raster {
     pub from: usize,
     pub height: usize,

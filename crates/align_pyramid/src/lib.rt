@@ -1,4 +1,6 @@
 // The pyramid of a frame: level 0, halving, and the four levels in the work area.
+#![tactic(auto)]
+
 mod bayer;
 mod halving;
 pub mod images;

@@ -126,7 +126,7 @@ pub fn square(x: u16, y: u16) -> u32
 }
 
 // The sums of two rows, one under the other.
-#[derive(Drop)]
+#[derive(Clone, Copy)]
 pub struct Two {
     pub upper: u32,
     pub lower: u32,

@@ -6,7 +6,7 @@ pub mod sixteen;
 pub mod thirty_two;
 
 // What trying an offset has given: whether it is the best so far, then its total, else 0; and how many rows the rule counts.
-#[derive(Drop)]
+#[derive(Clone, Copy)]
 pub struct Tried {
     pub best: bool,
     pub total: u64,

@@ -20,7 +20,7 @@ const RIGHT: [u8; 81] = [
 ];
 
 // An offset by its number in tie order, its residual, and how many rows of all 81 were summed.
-#[derive(Drop)]
+#[derive(Clone, Copy)]
 pub struct Best {
     pub offset: usize,
     pub residual: u64,

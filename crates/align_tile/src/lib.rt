@@ -1,4 +1,6 @@
 // The vector of one tile: the residuals of candidates, the guess, and the search around it.
+#![tactic(auto)]
+
 ghost use Rattle.align_tile.specs.Prelude.{◌≡◌, true, false, ◌+◌, ◌-◌, ◌*◌, ◌≤◌, ◌<◌, ◌^◌, length, ◌plus◌, Within, residual, TileSide, square_sum, Compared, Window};
 ghost use Rattle.align_residual.specs.Magnitudes.{residual_most};
 ghost use Rattle.align_tile.specs.Magnitudes.{guess_most};
@@ -11,14 +13,14 @@ use align_search::window::{Best, offset, search};
 use geometry::vectors::Vector;
 
 // A level's two images in the work area.
-#[derive(Drop)]
+#[derive(Clone, Copy)]
 pub struct Area {
     pub reference: Raster,
     pub other: Raster,
 }
 
 // A tile's vector, its residual, and how many of the tile's rows were summed to find it.
-#[derive(Drop)]
+#[derive(Clone, Copy)]
 pub struct Found {
     pub vector: Vector,
     pub residual: u64,

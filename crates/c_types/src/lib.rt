@@ -1,4 +1,6 @@
 // What C passes by value, field by field as in include/stacker.h, and what it stands for.
+#![tactic(auto)]
+
 ghost use Rattle.std.specs.Prelude.{◌≡◌};
 ghost use Rattle.c_types.specs.Parameters.{shape_of, of_frames, measured, iso_noise, tuned};
 
@@ -9,7 +11,7 @@ use recipe::Tuning;
 // Frames of one size, the index of the one that the others are merged on, the words of a row, and the black levels of the planes, in the pattern's order
 // RGGB.
 #[repr(C)]
-#[derive(Drop)]
+#[derive(Clone, Copy)]
 pub struct Burst {
     pub width: u64,
     pub height: u64,
@@ -21,7 +23,7 @@ pub struct Burst {
 
 // The same without a reference, which is chosen.
 #[repr(C)]
-#[derive(Drop)]
+#[derive(Clone, Copy)]
 pub struct Frames {
     pub width: u64,
     pub height: u64,
@@ -32,7 +34,7 @@ pub struct Frames {
 
 // A burst's own curve.
 #[repr(C)]
-#[derive(Drop)]
+#[derive(Clone, Copy)]
 pub struct BurstNoise {
     pub shot: f64,
     pub read: f64,
@@ -40,7 +42,7 @@ pub struct BurstNoise {
 
 // The curve for ISO 100, and the burst's ISO number.
 #[repr(C)]
-#[derive(Drop)]
+#[derive(Clone, Copy)]
 pub struct IsoNoise {
     pub iso: u32,
     pub shot: f64,
@@ -49,7 +51,7 @@ pub struct IsoNoise {
 
 // The strength, and the side of the tiles, which align takes as well.
 #[repr(C)]
-#[derive(Drop)]
+#[derive(Clone, Copy)]
 pub struct MergeTuning {
     pub strength: u64,
     pub side: u64,

@@ -1,4 +1,6 @@
 // What a refusal's number says in words, and the version of the calls.
+#![tactic(auto)]
+
 mod table;
 
 ghost use Rattle.algebra.specs.Prelude.{◌≡◌, length, get_or};

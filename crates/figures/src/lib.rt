@@ -1,1 +1,2 @@
 // The checked figures of document 01, and figures of our own; no code.
+#![tactic(auto)]

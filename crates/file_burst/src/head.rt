@@ -8,7 +8,7 @@ use geometry::Shape;
 use noise::{level_refusal, strength_refusal};
 
 // The seven values of a file's second line.
-#[derive(Drop)]
+#[derive(Clone, Copy)]
 pub struct Header {
     pub shape: Shape,
     pub reference: usize,
@@ -18,7 +18,7 @@ pub struct Header {
 }
 
 // The first two lines: their values and the position past them, or the first refusal.
-#[derive(Drop)]
+#[derive(Clone, Copy)]
 pub enum Head {
     Found { header: Header, next: usize },
     Refused { number: u64 },

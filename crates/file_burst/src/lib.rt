@@ -1,4 +1,6 @@
 // The burst file: its rows, the check of a whole file, and the reading of it into the caller's samples.
+#![tactic(auto)]
+
 mod file;
 pub mod head;
 mod lines;
@@ -9,7 +11,7 @@ pub use file::{check_file, file_size, read_file};
 // What reading a file, or its first two lines, answers: the number of the refusal with every other field 0, or 0 with the file's seven values.
 // The levels are Ls and Lr, 1024 times a curve's shot and read.
 #[repr(C)]
-#[derive(Drop)]
+#[derive(Clone, Copy)]
 pub struct FileAnswer {
     pub refusal: u64,
     pub width: u64,
@@ -22,7 +24,7 @@ pub struct FileAnswer {
 }
 
 // Rows of samples: the position past them, or the first refusal.
-#[derive(Drop)]
+#[derive(Clone, Copy)]
 enum Passage {
     Found { next: usize },
     Refused { number: u64 },

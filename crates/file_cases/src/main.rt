@@ -1,4 +1,6 @@
 // Each argument names a burst file: its name, the file check's number and that of reading it into 8192 samples, a line for each.
+#![tactic(auto)]
+
 ghost use Rattle.std.specs.Prelude.{◌≡◌};
 ghost use Rattle.file_burst.specs.Lines.Part.{number_of};
 ghost use Rattle.file_burst.specs.Reading.{reading_into};

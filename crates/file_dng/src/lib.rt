@@ -1,4 +1,6 @@
 // One frame of a burst from an Adobe DNG file, with the noise curve and the black levels that the file gives.
+#![tactic(auto)]
+
 mod curve;
 mod reading;
 mod strip;
@@ -10,7 +12,7 @@ pub use reading::read_dng;
 // What reading a file answers: the number of the refusal with every other field 0, or 0 with the file's curve and its black levels, in the
 // pattern's order.
 #[repr(C)]
-#[derive(Drop)]
+#[derive(Clone, Copy)]
 pub struct DngRead {
     pub refusal: u64,
     pub shot: f64,

@@ -10,7 +10,7 @@ pub use crate::tags::tests::{strip_start, tag_refusal};
 
 // What the question of a file's size answers: the number of the refusal, with the tag at fault or 0; or 0 with the frame's size.
 #[repr(C)]
-#[derive(Drop)]
+#[derive(Clone, Copy)]
 pub struct DngSize {
     pub refusal: u64,
     pub tag: u64,
@@ -19,7 +19,7 @@ pub struct DngSize {
 }
 
 // A value that a file must have: of the tag at a row of the table, at an index.
-#[derive(Drop)]
+#[derive(Clone, Copy)]
 struct Demand {
     row: usize,
     index: usize,

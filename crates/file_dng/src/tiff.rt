@@ -5,7 +5,7 @@ pub mod directory;
 pub mod fields;
 
 // An entry of a directory: tag, type, count of values, and where its last four bytes stand.
-#[derive(Drop)]
+#[derive(Clone, Copy)]
 pub struct Entry {
     pub tag: usize,
     pub kind: usize,
@@ -14,7 +14,7 @@ pub struct Entry {
 }
 
 // What a reader takes for a tag: one of two types, and the count.
-#[derive(Drop)]
+#[derive(Clone, Copy)]
 pub struct Wanted {
     pub tag: usize,
     pub kind: usize,
@@ -23,7 +23,7 @@ pub struct Wanted {
 }
 
 // The values of an entry: the bytes of each, 0 where there is no entry, and where the first stands.
-#[derive(Drop)]
+#[derive(Clone, Copy)]
 pub struct Field {
     pub size: usize,
     pub at: usize,

@@ -1,10 +1,12 @@
 // A descriptor read to its end, where `io::read_full` does not tell the end of the input from a read that failed.
+#![tactic(auto)]
+
 ghost use Rattle.file_input.specs.Count.{Within};
 
 use libc::read;
 
 // What was read: its number of bytes, or that a read failed, with errno as that read left it.
-#[derive(Drop)]
+#[derive(Clone, Copy)]
 pub enum Input {
     Read { count: usize },
     Failed,

@@ -1,4 +1,6 @@
 // A frame as a Netpbm PGM file: how long it is, the writing of it into a lent byte buffer, its size, and the reading of it back.
+#![tactic(auto)]
+
 mod header;
 mod lengths;
 mod reading;
@@ -11,7 +13,7 @@ pub use writing::write_pgm;
 
 // What reading, or the question of the size, answers: the number of the refusal with every other field 0, or 0 with the frame's size.
 #[repr(C)]
-#[derive(Drop)]
+#[derive(Clone, Copy)]
 pub struct PgmRead {
     pub refusal: u64,
     pub width: u64,

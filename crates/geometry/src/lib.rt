@@ -1,4 +1,6 @@
 // The shape of a burst, and where its samples, tiles and vectors stand.
+#![tactic(auto)]
+
 pub mod read;
 pub mod tiles;
 pub mod vectors;
@@ -11,7 +13,7 @@ pub const SAMPLE_MOST: u16 = 4095;
 
 // A burst's frames: `count` of them, each of `height` rows of `width` samples. A row takes `pitch` words: those after its samples are spare. `side` is
 // that of level 0's tiles, which are the merge's as well.
-#[derive(Drop)]
+#[derive(Clone, Copy)]
 pub struct Shape {
     pub width: usize,
     pub height: usize,

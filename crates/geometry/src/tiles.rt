@@ -7,7 +7,7 @@ ghost use Rattle.geometry.specs.Tiles.{tile_count, tile_rows, tile_columns, fram
 use crate::Shape;
 
 // q of a step: how many fine tiles there are to a coarse one, each way.
-#[derive(Drop)]
+#[derive(Clone, Copy)]
 pub enum Quotient {
     One,
     Two,

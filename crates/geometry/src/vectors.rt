@@ -9,7 +9,7 @@ use crate::Shape;
 use crate::tiles::{frame_parts, tile_columns};
 
 // A displacement in whole samples.
-#[derive(Drop)]
+#[derive(Clone, Copy)]
 pub struct Vector {
     pub down: i64,
     pub right: i64,

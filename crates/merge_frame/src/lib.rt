@@ -1,4 +1,6 @@
 // The merge of a burst: the corrections of a row of pairs of tiles, then the rows of the output above it, one row parity after the other.
+#![tactic(auto)]
+
 mod planes;
 
 ghost use Rattle.merge_frame.specs.Prelude.{◌≡◌, length, scene_of, merged};

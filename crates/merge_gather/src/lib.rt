@@ -1,4 +1,6 @@
 // A row of the output: at each sample the corrections of the four tiles over it, windowed, and the sample less their sum, rounded and held to 0..4095.
+#![tactic(auto)]
+
 ghost use Rattle.merge_gather.specs.Prelude.{◌≡◌, ◌+◌, ◌-◌, ◌*◌, ◌/◌, ◌%◌, ◌≤◌, ◌<◌, ◌^◌, pos, nat_abs, ◌+ℤ◌, ◌-ℤ◌, ◌*ℤ◌, length, get_or, shr_z, AtMost, clamp_z, TileSide, side16, side_of, taken_most};
 ghost use Rattle.sequences.specs.Written.{written};
 ghost use Rattle.merge_gather.specs.Gather.{window_table, Weights, corrected, windowed, word_over};
@@ -14,7 +16,7 @@ const PART: usize = 16;
 // Where a block of an output row, or a row from its first block on, stands, and what it is made of: its samples are those from `from` on, its words those of the
 // output from `start` on. The work area has row `i` of the halves of pairs of tiles of `side` below it from `below` on, and row `i` + side/2 of those above it
 // from `above` on.
-#[derive(Drop)]
+#[derive(Clone, Copy)]
 pub struct Span {
     pub from: usize,
     pub start: usize,
@@ -25,7 +27,7 @@ pub struct Span {
 }
 
 // The number of frames N, and 2^19/N, rounding up.
-#[derive(Drop)]
+#[derive(Clone, Copy)]
 struct Divisor {
     count: usize,
     inverse: u64,

@@ -1,5 +1,7 @@
 // The tiles of a merge, those of the two column parities in pairs: T0 and Tz read from the planes, and the corrections of each pair, summed over the other
 // frames, in the work area.
+#![tactic(auto)]
+
 pub mod correcting;
 pub mod reading;
 pub mod rows;
@@ -19,7 +21,7 @@ pub const HALF_WORDS: usize = 256;
 
 // A pair of tiles: the parity of its rows, and its row and column among its planes' tiles. Its rows are thirty-two samples, and place 2·x + p of one is column x
 // of the tile of column parity p.
-#[derive(Drop)]
+#[derive(Clone, Copy)]
 pub struct Site {
     pub parity: usize,
     pub row: usize,

@@ -1,5 +1,7 @@
 // Pairs of tiles of side 32 (request L8), beside those of side 16 in the crate merge_tiles: the same steps on arrays of sixty-four words by thirty-two, without the
 // spatial filter, which is side 16's.
+#![tactic(auto)]
+
 mod correcting;
 mod reading;
 pub mod rows;

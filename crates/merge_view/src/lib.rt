@@ -1,4 +1,6 @@
 // A view of one plane of one frame: it reads the caller's samples without copying them.
+#![tactic(auto)]
+
 pub mod thirty_two;
 
 ghost use Rattle.merge_view.specs.Prelude.{◌≡◌, ◌+◌, ◌*◌, ◌/◌, ◌%◌, ◌≤◌, ◌<◌, pos, ◌+ℤ◌, length, get_or, tab, sample_at, inside, Sampled};
@@ -9,7 +11,7 @@ use geometry::read::inside;
 
 // The plane of one row parity, `parity`, and one column parity, `column`, `height` rows of `width` samples, of a frame whose words are `samples`: a row of the frame has
 // samples.len() / (2 * height) of them, the spare ones last.
-#[derive(Drop)]
+#[derive(Clone, Copy)]
 pub struct PlaneView<'a> {
     pub samples: &'a [u16],
     pub width: usize,

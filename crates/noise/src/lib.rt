@@ -1,4 +1,6 @@
 // The noise of a burst: its levels Ls and Lr, a tile's noise number V, and V' of its bins.
+#![tactic(auto)]
+
 pub mod level;
 pub mod spatial;
 
@@ -8,21 +10,21 @@ ghost use Rattle.recipe.specs.Sides.{side_of};
 ghost use Rattle.noise.specs.Range.{InRange};
 
 // The variance of a sample of expected value x is shot * x + read.
-#[derive(Drop)]
+#[derive(Clone, Copy)]
 pub struct Curve {
     pub shot: f64,
     pub read: f64,
 }
 
 // A curve, or an ISO number with the curve for ISO 100.
-#[derive(Drop)]
+#[derive(Clone, Copy)]
 pub enum Noise {
     Measured(Curve),
     Iso { iso: u32, base: Curve },
 }
 
 // Ls and Lr, or the number of the refusal.
-#[derive(Drop)]
+#[derive(Clone, Copy)]
 pub enum Levels {
     Found { shot: u64, read: u64 },
     Refused(u64),

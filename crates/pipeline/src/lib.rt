@@ -1,4 +1,6 @@
 // What run does once its tests have passed. A burst's levels Ls and Lr come from its noise or from a file: the calls and the programs share this core.
+#![tactic(auto)]
+
 ghost use Rattle.std.specs.Prelude.{◌≡◌};
 ghost use Rattle.sequences.specs.Clear.{zeros};
 ghost use Rattle.pipeline.specs.Levels.{Runnable, RanLevels};

@@ -1,5 +1,7 @@
 // The low and the high frame of a burst whose noise is known only as a range (request L14): both ends of a row of pairs of tiles, then the rows of both frames
 // above it, one row parity after the other.
+#![tactic(auto)]
+
 mod planes;
 
 ghost use Rattle.std.specs.Prelude.{length};

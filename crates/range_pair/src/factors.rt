@@ -3,7 +3,7 @@ ghost use Rattle.std.specs.Prelude.{◌≡◌};
 ghost use Rattle.sequences.specs.Grid.{grid};
 ghost use Rattle.range_pair.specs.Factors.{factor_at};
 
-// |Re| of (C(i) + typeof.i.S(i))·(C(j) + typeof.i.S(j)) at place 2·j of line i, and |Im| behind it, for i and j up to 7: eight further on they are the same.
+// |Re| of (C(i) + i·S(i))·(C(j) + i·S(j)) at place 2·j of line i, and |Im| behind it, for i and j up to 7: eight further on they are the same.
 const FACTORS: [[u64; 16]; 8] = [
     [
         268435456, 0, 248004608, 102727680, 189808640, 189808640, 102727680, 248004608, 0,

@@ -1,6 +1,8 @@
 // The least and the greatest corrections of two tiles side by side whose noise numbers are known only between two ends (request L14). Each part of G ranges
 // between its results at both ends, so that the greatest inverse sum is half of both ends' sum and of how far they are apart, and the least is half of their
 // sum less that. Both ends' sum separates into columns and rows, as the merge's does.
+#![tactic(auto)]
+
 mod adding;
 mod distances;
 mod factors;
@@ -20,7 +22,7 @@ use tile_pair::columns_back::back;
 use tile_pair::{add_corrections, forward_into, wiener_of};
 
 // The noise numbers of two planes.
-#[derive(Drop)]
+#[derive(Clone, Copy)]
 pub struct Noises {
     pub first: u64,
     pub second: u64,

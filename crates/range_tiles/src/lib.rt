@@ -1,4 +1,6 @@
 // What is taken from a pair of tiles where the noise is known only as a range (request L14): P of the greatest and of the least sums, summed over the other frames.
+#![tactic(auto)]
+
 pub mod rows;
 
 ghost use Rattle.std.specs.Prelude.{◌≤◌};
@@ -12,7 +14,7 @@ use range_pair::{Noises, add_ends};
 use recipe::Merge;
 
 // Ls and Lr of the upper noise; those of the lower one are the merge's own.
-#[derive(Drop)]
+#[derive(Clone, Copy)]
 pub struct Upper {
     pub shot: u64,
     pub read: u64,

@@ -1,4 +1,6 @@
 // Refused inputs: the numbers of document 01's table, and the first test that refuses.
+#![tactic(auto)]
+
 ghost use Rattle.std.specs.Prelude.{◌≡◌};
 ghost use Rattle.refusals.specs.Tests.{refuse, first};
 

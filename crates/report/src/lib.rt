@@ -1,4 +1,6 @@
 // What the programs print, as functions from the file's bytes to the printed bytes.
+#![tactic(auto)]
+
 mod motion;
 mod opening;
 pub mod sizes;

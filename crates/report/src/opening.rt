@@ -8,7 +8,7 @@ use file_burst::head::{Head, Header, read_head};
 use file_burst::{check_file, read_file};
 
 // A file that is not read, or the header of one whose frames have the size that the programs take.
-#[derive(Drop)]
+#[derive(Clone, Copy)]
 pub enum Opened {
     TooLarge,
     Refused { number: u64 },

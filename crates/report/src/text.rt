@@ -13,7 +13,7 @@ use file_burst::head::Header;
 use printing::fixed::{put_refusal, put_too_large};
 
 // The two programs.
-#[derive(Drop)]
+#[derive(Clone, Copy)]
 pub enum Program {
     Motion,
     Stack,

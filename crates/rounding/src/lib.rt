@@ -1,4 +1,6 @@
 // Division to nearest, halves away from zero. Half of the divisor is added: nothing is doubled, so nothing overflows.
+#![tactic(auto)]
+
 ghost use Rattle.algebra.specs.Prelude.{◌≡◌, ◌-◌, ◌≤◌, ◌<◌, ◌^◌, pos, nat_abs, neg_ℤ};
 ghost use Rattle.algebra.specs.Nearest.{away, upward};
 

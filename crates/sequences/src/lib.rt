@@ -1,1 +1,2 @@
 // Laws of tabulated lists and of the kinds of loops; no code.
+#![tactic(auto)]

@@ -1,4 +1,6 @@
 // The sharpest of a burst's first frames: the reference that is chosen for the caller.
+#![tactic(auto)]
+
 ghost use Rattle.std.specs.Prelude.{◌≡◌, ◌+◌, ◌-◌, ◌*◌, ◌/◌, ◌≤◌, ◌<◌, min};
 ghost use Rattle.sharpness.specs.Prelude.{Placed, Sampled, SamplesFit, sample_at, sum_n};
 ghost use Rattle.sequences.specs.Tab.{tab};

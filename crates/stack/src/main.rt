@@ -1,4 +1,6 @@
 // The program `stack`: a burst file from standard input, its text to standard output. What cannot be read or written is said on standard error.
+#![tactic(auto)]
+
 use file_input::Input;
 use libc::{STDIN_FILENO, STDOUT_FILENO};
 use report::sizes::{FILE_ROOM, TEXT_ROOM};

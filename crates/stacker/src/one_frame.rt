@@ -8,7 +8,7 @@ use pipeline::clear;
 
 // What it answers: the refusal's number, or 0, that frame's sum of finest residuals, and how many tile rows were summed for it.
 #[repr(C)]
-#[derive(Drop)]
+#[derive(Clone, Copy)]
 pub struct FrameAlignment {
     pub refusal: u64,
     pub residual: u64,

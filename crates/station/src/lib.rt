@@ -1,4 +1,6 @@
 // The capture station's questions, for C. Each is total: it answers for every argument.
+#![tactic(auto)]
+
 ghost use Rattle.std.specs.Prelude.{◌≡◌};
 ghost use Rattle.admit_length.specs.Question.{length_question};
 ghost use Rattle.file_burst.specs.Reading.{file_check};

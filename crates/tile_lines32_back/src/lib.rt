@@ -2,6 +2,8 @@
 // number n to number n + 16 the even places' sum stays and the odd places' sum changes its sign. The even places are summed as a line of sixteen, by `tile_lines::back`.
 // No number on the way is above 2^53, so each is exact; where noise is neither low nor middle, half of a row's sum is added up in 64 bits from four such sums. Number n of row p
 // stands at 2n + p.
+#![tactic(auto)]
+
 ghost use Rattle.tile_lines32_back.specs.Prelude.{◌≡◌, true, false, ◌+◌, ◌*◌, ◌/◌, ◌%◌, ◌<◌, length, get_or, nan, tab, side32, backward_of, half_sum_of, odd_sum_of, long_fold_most, long_column_most, double_line, From, HalvesOf, WholeLine};
 ghost use Rattle.tile_lines32_back.specs.Parts.{cosine_part, sine_part, InParts};
 

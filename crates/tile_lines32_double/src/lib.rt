@@ -1,6 +1,8 @@
 // The transforms of two lines of thirty-two numbers side by side, folded in halves, in double: no number on the way is above 2^53, so each is exact. The even
 // places are those of the sums' lines of sixteen, with the kernels of `tile_lines::double`; the odd places have a kernel of their own. Number n of line p stands at
 // 2n + p.
+#![tactic(auto)]
+
 ghost use Rattle.tile_lines32_double.specs.Prelude.{◌≡◌, ℕ, ◌+◌, ◌*◌, ◌/◌, ◌%◌, ◌<◌, ℤ, pos, ◌+ℤ◌, ◌-ℤ◌, length, get_or, side16, side32, halfcomplex_of, folded_of, every_second, long_line_most, long_sum_most, double_line, From};
 ghost use Rattle.tile_spectrum.specs.Lines.Lines.{LineMost};
 ghost use Rattle.tile_lines32_double.specs.Parts.{Halved, InParts};

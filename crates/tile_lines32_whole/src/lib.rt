@@ -1,6 +1,8 @@
 // The transform of a line of thirty-two differences in halfcomplex form, folded in halves, in numbers narrow enough that the compiler takes several lines at once:
 // the folds in 16 bits, the products in 32. The even places are those of the sums' line of sixteen. Its odd places, and what the even ones of the differences add to
 // the odd places of the whole line, have the kernel of `tile_lines::whole`.
+#![tactic(auto)]
+
 ghost use Rattle.tile_lines32_whole.specs.Prelude.{◌≡◌, [], ◌∷◌, ℕ, ◌+◌, ◌*◌, ℤ, pos, get_or, tab, side16, side32, halfcomplex_of, sum_of, difference_of, folded_of, difference_most, difference_fold_most, fold_again_most};
 ghost use Rattle.tile_spectrum.specs.Lines.Lines.{LineMost};
 ghost use Rattle.tile_lines32_whole.specs.Parts.{odd_part, InParts, part_most};

@@ -1,4 +1,6 @@
 // The two-way transform, the Wiener step and the inverse of document 01, on two tiles side by side, in double: place 2·x + p of a row is column x of plane p.
+#![tactic(auto)]
+
 mod columns;
 pub mod columns_back;
 mod rows;

@@ -1,5 +1,7 @@
 // Quads of two tiles side by side in double: what a quad of G is made of, and how one is read and stored. Quad (u, l) is rows u and 8 + u of lanes l and
 // 16 + l.
+#![tactic(auto)]
+
 pub mod thirty_two;
 
 ghost use Rattle.tile_quad.specs.Prelude.{◌≡◌, ◌<◌, nan, cell, Paired};

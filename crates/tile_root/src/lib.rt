@@ -1,4 +1,6 @@
 // r, the whole root of the sum of the squares of a tile's samples above their black level, for a pair of planes.
+#![tactic(auto)]
+
 mod squares;
 pub mod thirty_two;
 
@@ -6,7 +8,7 @@ ghost use Rattle.tile_root.specs.Prelude.{◌≡◌, ◌+◌, ◌*◌, ◌<◌, 
 ghost use Rattle.tile_root.specs.Range.{SamplesFit, LanesFit, PairRoots};
 
 // r of the two planes of a pair of tiles.
-#[derive(Drop)]
+#[derive(Clone, Copy)]
 pub struct Roots {
     pub first: u64,
     pub second: u64,

@@ -1,5 +1,7 @@
 // The spatial filter (request L13) on two tiles side by side: the copy of the merged tile, its bins, the Wiener step on them at V' of each bin, and N.P' from
 // that, added to the sums of P. The copy has 24 bits: its high and low twelve are transformed one by one, in double, and put together in 64 bits.
+#![tactic(auto)]
+
 mod adding;
 mod copying;
 mod folds;

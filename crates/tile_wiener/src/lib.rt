@@ -1,6 +1,8 @@
 // The Wiener step on two tiles side by side, in double, by quads: rows u and 8 + u of lanes l and 16 + l hold bins (u, v) and (16 − u, v) of a plane, with
 // v = l / 2, and what comes of them is folded for the inverse. A turn of a loop is a quad, and the compiler does two at a time. Each loop answers whether all of
 // its quotients are certain.
+#![tactic(auto)]
+
 pub mod thirty_two;
 
 ghost use Rattle.tile_wiener.specs.Prelude.{◌≡◌, true, ◌+◌, ◌*◌, ◌%◌, ◌≤◌, ◌<◌, nan, either, Paired, GainsOf, cell, quad_at, Lanes};

@@ -1,5 +1,7 @@
 // The Wiener step on two tiles side by side with quotients in whole numbers, for bins that are too large for quotients in double: the parts of Q go to 64 bits
 // and those of G come back. The rest is in double, by quads as in `tile_wiener::filter`.
+#![tactic(auto)]
+
 pub mod thirty_two;
 
 ghost use Rattle.tile_wiener_exact.specs.Prelude.{◌≡◌, ◌≤◌, ◌<◌, pos, binary64, of_int, bin_most, gain_most, noise_most, either, BinnedPair, GainsOf, whole_quantized, exact_gains_in, number_of, bins_in, folded_in, WholeBins};

@@ -1,1 +1,2 @@
 // Inputs that each call accepts, and one for each of its refusals; no code.
+#![tactic(auto)]

@@ -12,7 +12,7 @@ use geometry::Shape;
 use refusals::{DNG_STRUCTURE, DNG_TAG, DNG_VALUE, first, refuse};
 
 // A test of a row: of the table of tags, or of the second table (`Missed`).
-#[derive(Drop)]
+#[derive(Clone, Copy)]
 pub enum RowTest {
     Outside,
     NotOnce,

@@ -1,6 +1,6 @@
--- `c_api::range::stacker_range_iso`: shape, noises and tuning are those that the descriptions stand for.
+-- `c_api::noise_range::stacker_range_iso`: shape, noises and tuning are those that the descriptions stand for.
 use Rattle.algebra.specs.Prelude.{needs}
-use Rattle.c_api.proofs.range.stacker_range_iso as of
+use Rattle.c_api.proofs.noise_range.stacker_range_iso as of
 
 returns : of.Tie.Need-returns
 returns c =
