@@ -21,6 +21,8 @@ pub record Is (x : Float) (s : Bool) (a c : ℕ) : Type 0 where
   pub value : digits * up exponent * c ≡ a * down exponent
 
 pub of-value : (x : Float) (s : Bool) (a c : ℕ) → HasValue x s a c → Is x s a c
+of-value lib.Ieee.nan s a c v = elim v [ ]
+of-value (lib.Ieee.inf _) s a c v = elim v [ ]
 of-value (fin t m e) s a c v = record { digits = m; exponent = e; is = ap (λ s. fin s m e) v.0; value = v.1 }
 
 magnitude-above : {x : Float} {s : Bool} {a c : ℕ} (p : Is x s a c) → 0 < a → 0 < p.digits * up p.exponent

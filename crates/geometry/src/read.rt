@@ -26,7 +26,7 @@ pub fn sample_at(shape: Shape, samples: &[u16], frame: usize, row: usize, column
 
 // The index at a place of the first period: forward, then backward.
 pub fn folded(place: usize, size: usize) -> usize
-    requires { record { some : 0 < size; most : size ≤ 2 ^ 32; IsPlace-in : place < 2 * size } }
+    requires { record { some : 0 < size; most : size ≤ 2 ^ 32; place_in : place < 2 * size } }
     ensures { (result ≡ mirrored size place) × (result < size) }
 {
     if place < size {

@@ -19,7 +19,7 @@ use denote.Struct.Declared.{Declared}
 use denote.Struct.Laws as LL
 use denote.Struct.Rest.{own_shut}
 use denote.Triple.Call.{calls_at}
-use denote.Triple.Walked.{says, needs, Stays, stay_none, stay_none_slice, walk_of, Goes-none, Goes-none_slice, Walks, ends_at, walked, walk_Meets}
+use denote.Triple.Walked.{says, rules, Stays, stay_none, stay_none_slice, walk_of, Goes-none, Goes-none_slice, Walks, ends_at, walked, walk_Meets}
 use Rattle.merge_view.specs.declared.PlaneView.{PlaneView}
 use Rattle.merge_view.proofs.Contracts.{ViewType, of_view, of_fields, view_of, view_clauses, field_clauses, OfView, local_of, place_val, slice_val, fields, view_vals, field_vals}
 use Rattle.merge_view.specs.contracts.PlaneView as T

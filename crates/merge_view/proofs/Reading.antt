@@ -18,7 +18,7 @@ use denote.Struct.Declared.{Declared}
 use denote.Struct.Laws as LL
 use denote.Struct.Rest.{all_own, own_open}
 use denote.Triple.Call.{calls_at}
-use denote.Triple.Walked.{says, needs, Stays, stay_none, walk_of, Goes-none, Walks, ends_at, walked, walk_Meets}
+use denote.Triple.Walked.{says, rules, Stays, stay_none, walk_of, Goes-none, Walks, ends_at, walked, walk_Meets}
 use Rattle.merge_view.specs.declared.PlaneView.{PlaneView}
 use Rattle.merge_view.proofs.Contracts.{ViewType, of_view, of_fields, view_clauses, field_clauses, OfFields, local_of, place_val, fields, view_vals, field_vals}
 use Rattle.merge_view.specs.contracts.PlaneView as T

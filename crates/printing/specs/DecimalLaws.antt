@@ -8,6 +8,8 @@ use Rattle.printing.specs.Decimal.{digit, digits, decimal}
 digits-enough : (j k n : ℕ) → n ≤ j → n ≤ k → digits j n ≡ digits k n
 unfolding digits
 digits-enough zero zero n h g = refl
+digits-enough zero (suc k) (suc m) h g = elim h [ ]
+digits-enough (suc j) zero (suc m) h g = elim g [ ]
 digits-enough zero (suc k) zero h g = refl
 digits-enough (suc j) zero zero h g = refl
 digits-enough (suc j) (suc k) zero h g = refl
@@ -21,6 +23,7 @@ digits-none (suc k) = refl
 digits-some : (k m : ℕ) → 0 < m → m ≤ k → digits k m ≡ decimal m
 unfolding digits decimal
 digits-some zero m h g = absurd (omega arith)
+digits-some (suc k) zero h g = elim h [ ]
 digits-some (suc k) (suc m) h g = ap (λ l. l ++ (digit (suc m % 10) ∷ [])) (digits-enough k (suc m) (suc m / 10) (omega arith) (omega arith))
 
 pub decimal-small : {n : ℕ} → n < 10 → decimal n ≡ digit n ∷ []

@@ -22,6 +22,7 @@ accepts (test ∷ tests) h = rw (h test here) (accepts tests (λ t i. h t (there
 
 pub passed : {test : ℕ} {tests : List ℕ} → first tests ≡ 0 → In test tests → test ≡ 0
 unfolding first
+passed {test = test} {tests = []} e x5 = elim x5 [ ]
 passed {test} {tests = other ∷ tests} e here = (before-both test (first tests) e).0
 passed {test} {tests = other ∷ tests} e (there i) = passed (before-both other (first tests) e).1 i
 

@@ -1,5 +1,5 @@
 -- `admit_range::content_refusal`: each test is its definition, so the first of them is.
-use Rattle.algebra.specs.Prelude.{◌≡◌, ap, ◌∙◌, [], ◌∷◌, ℕ, needs}
+use Rattle.algebra.specs.Prelude.{◌≡◌, ap, ◌∙◌, [], ◌∷◌, ℕ, rules}
 use Rattle.refusals.specs.Tests.{first}
 use Rattle.admit_range.specs.Refusals.{range_content_tests}
 use Rattle.admit_range.proofs.content_refusal as of
@@ -14,9 +14,9 @@ returns c =
     let sample = c.before.before in
     let filter = sample.before in
     let black = filter.before in
-    c.first.ensures ∙ each black.before.before.strength-refusal.ensures black.black-refusal.ensures filter.filter-refusal.ensures sample.sample-refusal.ensures
+    c.first.ensures ∙ each black.before.before.strength_refusal-strength.ensures black.black_refusal-black.ensures filter.filter_refusal-filter.ensures sample.sample_refusal-sample.ensures
 
-pub content-refusal-spec : {M : Type 1} → of.Statement.statement M
-content-refusal-spec = of.Tie.close (of.Tie.spec
-    (λ c κs. search needs) (λ c κs. search needs) (λ c κs. search needs) (λ c κs. search needs) (λ c. search needs)
-    (λ c κs. search needs) returns)
+pub content_refusal_spec : {M : Type 1} → of.Statement.statement M
+content_refusal_spec = of.Tie.close (of.Tie.spec
+    (λ c κs. search rules) (λ c κs. search rules) (λ c κs. search rules) (λ c κs. search rules) (λ c. search rules)
+    (λ c κs. search rules) returns)

@@ -7,5 +7,5 @@ returns : of.Tie.Need-returns
 unfolding filter_refusal
 returns c = c.refuse.ensures
 
-pub filter-refusal-spec : {M : Type 1} → of.Statement.statement M
-filter-refusal-spec = of.Tie.close (of.Tie.spec (λ c κs. search rules) returns)
+pub filter_refusal_spec : {M : Type 1} → of.Statement.statement M
+filter_refusal_spec = of.Tie.close (of.Tie.spec (λ c κs. search rules) returns)

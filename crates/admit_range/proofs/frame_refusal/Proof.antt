@@ -1,5 +1,5 @@
 -- Each test is its definition, so the first of them is.
-use Rattle.algebra.specs.Prelude.{ap, ap₂, ◌∙◌, [], ◌∷◌, needs}
+use Rattle.algebra.specs.Prelude.{ap, ap₂, ◌∙◌, [], ◌∷◌, rules}
 use Rattle.refusals.specs.Tests.{first}
 use Rattle.admit_length.specs.Order.{shape_tests}
 use Rattle.admit_range.specs.Refusals.{range_frame_tests}
@@ -12,8 +12,8 @@ returns c =
     let third = side.before in
     let count = third.before in
     c.first.ensures
-    ∙ ap first (ap₂ ◌∷◌ count.before.size-refusal.ensures (ap₂ ◌∷◌ count.count-refusal.ensures (ap₂ ◌∷◌ third.reference-refusal.ensures (ap (λ n. n ∷ []) side.narrow-refusal.ensures))))
+    ∙ ap first (ap₂ ◌∷◌ count.before.size_refusal-size.ensures (ap₂ ◌∷◌ count.count_refusal-count.ensures (ap₂ ◌∷◌ third.reference_refusal-third.ensures (ap (λ n. n ∷ []) side.narrow_refusal-side.ensures))))
 
-pub frame-refusal-spec : {M : Type 1} → of.Statement.statement M
-frame-refusal-spec = of.Tie.close (of.Tie.spec
-    (λ c κs. search needs) (λ c κs. search needs) (λ c κs. search needs) (λ c κs. search needs) (λ c. search needs) (λ c κs. search needs) returns)
+pub frame_refusal_spec : {M : Type 1} → of.Statement.statement M
+frame_refusal_spec = of.Tie.close (of.Tie.spec
+    (λ c κs. search rules) (λ c κs. search rules) (λ c κs. search rules) (λ c κs. search rules) (λ c. search rules) (λ c κs. search rules) returns)

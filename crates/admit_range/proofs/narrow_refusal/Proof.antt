@@ -7,5 +7,5 @@ returns : of.Tie.Need-returns
 unfolding narrow_refusal
 returns c = c.refuse.ensures
 
-pub narrow-refusal-spec : {M : Type 1} → of.Statement.statement M
-narrow-refusal-spec = of.Tie.close (of.Tie.spec (λ c κs. search rules) returns)
+pub narrow_refusal_spec : {M : Type 1} → of.Statement.statement M
+narrow_refusal_spec = of.Tie.close (of.Tie.spec (λ c κs. search rules) returns)

@@ -4,13 +4,13 @@ use borrow.Author.Tests.{le-leb, lt-leb}
 use Rattle.geometry.specs.Shape.{reference_refusal}
 use Rattle.admit_size.proofs.reference_refusal as of
 
-returns : of.Tie.Need-returns
+returns : of.Tie.Need-returns-then-reference-shape
 unfolding reference_refusal
 returns c = let a = c.before.before.args in rw (le-leb a.shape.count a.reference (omega arith))
 
-returns-2 : of.Tie.Need-returns-2
+returns-2 : of.Tie.Need-returns-else-reference-shape
 unfolding reference_refusal
 returns-2 c = let a = c.before.before.args in rw (lt-leb a.shape.count a.reference (omega arith))
 
-pub reference-refusal-spec : {M : Type 1} → of.Statement.statement M
-reference-refusal-spec = of.Tie.close (of.Tie.spec returns returns-2)
+pub reference_refusal_spec : {M : Type 1} → of.Statement.statement M
+reference_refusal_spec = of.Tie.close (of.Tie.spec returns returns-2)

@@ -10,5 +10,5 @@ is side (suc zero) = refl
 is side (suc (suc zero)) = refl
 is side (suc (suc (suc k))) = rw (ne_eqb (suc (suc (suc k))) 0 (λ e. omega arith))
 
-pub is-squared-spec : {M : Type 1} → of.Statement.statement M
-is-squared-spec = of.Tie.close (of.Tie.spec (λ c. is c.args.side c.args.level))
+pub is_squared_spec : {M : Type 1} → of.Statement.statement M
+is_squared_spec = of.Tie.close (of.Tie.spec (λ c. is c.args.side c.args.level))

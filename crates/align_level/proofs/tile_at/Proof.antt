@@ -1,5 +1,5 @@
 -- The side is twice the half step, and the origins are those of the definition.
-use Rattle.align_level.specs.Prelude.{◌≡◌, ℕ, ◌*◌, arith, needs, ℤ, Level, origin, Tile}
+use Rattle.align_level.specs.Prelude.{◌≡◌, ℕ, ◌*◌, arith, rules, ℤ, Level, origin, Tile}
 use Rattle.algebra.specs.Back.{back}
 use Rattle.align_level.specs.Fields.{level_at, level_tile}
 use Rattle.align_level.proofs.tile_at as of
@@ -10,13 +10,13 @@ made l half row column d r h s e f = rw (s, e, f, h)
 
 returns : of.Tie.Need-returns
 returns c = let a = c.before.before.before.args in
-    let h = c.before.before.half_of in
+    let h = c.before.before.half_of-half in
     let d = c.before.origin in
-    let r = c.origin2 in
+    let r = c.origin-2 in
     rw (back d.result d.ok, back r.result r.ok)
     (made (level_at a.side a.level) h.result a.row a.column d.result r.result h.ensures.is h.ensures.twice d.ensures.0 r.ensures.0, record { small = omega arith; eights = omega arith; near = record { vertical = d.ensures.1.most; sideways = r.ensures.1.most } })
 
-pub tile-at-spec : {M : Type 1} → of.Statement.statement M
-tile-at-spec = of.Tie.close (of.Tie.spec
-    (λ c κs. search needs) (λ c κs. search needs) (λ c κs. search needs) (λ c. search needs)
+pub tile_at_spec : {M : Type 1} → of.Statement.statement M
+tile_at_spec = of.Tie.close (of.Tie.spec
+    (λ c κs. search rules) (λ c κs. search rules) (λ c κs. search rules) (λ c. search rules)
     returns)

@@ -1,5 +1,5 @@
 -- A small part is widened without loss.
-use Rattle.algebra.specs.Prelude.{◌≡◌, sym, ap₂, subst, ◌∙◌, List, ℕ, ◌+◌, ◌≤◌, arith, needs, get_or, ℤ, pos, nat_abs, w32, w64, SFits, to_z, of_z, to_z-of_z}
+use Rattle.algebra.specs.Prelude.{◌≡◌, sym, ap₂, subst, ◌∙◌, List, ℕ, ◌+◌, ◌≤◌, arith, rules, get_or, ℤ, pos, nat_abs, w32, w64, SFits, to_z, of_z, to_z-of_z}
 use Rattle.algebra.specs.Bound.{AtMost, most_fits}
 use Rattle.geometry.specs.Fits.{VectorsFit}
 use Rattle.align_patch.specs.Bounds.{Within}
@@ -23,15 +23,15 @@ module _ {vectors : List ℤ} (v : VectorsFit vectors) where
   made place d r =
       (ap₂ (λ x y. record { down = x; right = y }) d r, record { vertical = subst (λ z. nat_abs z ≤ 336) (sym d) (omega (arith, v.most place)); sideways = subst (λ z. nat_abs z ≤ 336) (sym r) (omega (arith, v.most (place + 1))) })
 
-cast-down : of.Tie.Need-cast-down
-cast-down c = let s = c.before in fits s.pre.1 s.args.place
+cast-down : of.Tie.Need-overflow_cast-down
+cast-down c = let s = c.before in fits s.requires.1 s.args.place
 
-cast-right : of.Tie.Need-cast-right
-cast-right c = let s = c.before.before in fits s.pre.1 (s.args.place + 1)
+cast-right : of.Tie.Need-overflow_cast-right
+cast-right c = let s = c.before.before in fits s.requires.1 (s.args.place + 1)
 
 returns : of.Tie.Need-returns
-returns c = let s = c.before.before in made s.pre.1 s.args.place (widened s.pre.1 s.args.place) (widened s.pre.1 (s.args.place + 1))
+returns c = let s = c.before.before in made s.requires.1 s.args.place (widened s.requires.1 s.args.place) (widened s.requires.1 (s.args.place + 1))
 
-pub vector-at-spec : {M : Type 1} → of.Statement.statement M
-vector-at-spec = of.Tie.close (of.Tie.spec
-    (λ c. search needs) (λ c. search needs) cast-down (λ c. search needs) (λ c. search needs) (λ c. search needs) cast-right returns)
+pub vector_at_spec : {M : Type 1} → of.Statement.statement M
+vector_at_spec = of.Tie.close (of.Tie.spec
+    (λ c. search rules) (λ c. search rules) cast-down (λ c. search rules) (λ c. search rules) (λ c. search rules) cast-right returns)

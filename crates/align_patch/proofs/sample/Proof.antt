@@ -1,16 +1,16 @@
 -- A word that holds a small number is cast without loss.
-use Rattle.algebra.specs.Prelude.{◌≡◌, ap, ◌∙◌, ℕ, ◌≤◌, arith, needs, ℤ, pos, nat_abs, w64, to_z, of_z, to_z-of_z}
+use Rattle.algebra.specs.Prelude.{◌≡◌, ap, ◌∙◌, ℕ, ◌≤◌, arith, rules, ℤ, pos, nat_abs, w64, to_z, of_z, to_z-of_z}
 use Rattle.algebra.specs.Bound.{most_fits}
 use Rattle.align_patch.proofs.sample as of
 
 small : (z : ℤ) (n : ℕ) → z ≡ pos n → n ≤ 16380 → to_z w64 (of_z w64 z) ≡ pos n
 small z n e h = ap (λ x. to_z w64 (of_z w64 x)) e ∙ to_z-of_z (most_fits w64 (pos n) 16380 (record { most = h }) tt)
 
-cast-result : of.Tie.Need-cast-result
-cast-result c = let h = c.before.pre in rw (small _ _ h.is h.most) (tt, record { fits = omega arith })
+cast-result : of.Tie.Need-overflow_cast-result
+cast-result c = let h = c.before.requires in rw (small _ _ h.is h.most) (tt, record { fits = omega arith })
 
 returns : of.Tie.Need-returns
-returns c = let h = c.before.pre in ap nat_abs (small _ _ h.is h.most)
+returns c = let h = c.before.requires in ap nat_abs (small _ _ h.is h.most)
 
-pub sample-spec : {M : Type 1} → of.Statement.statement M
-sample-spec = of.Tie.close (of.Tie.spec (λ c. search needs) (λ c. search needs) cast-result returns)
+pub sample_spec : {M : Type 1} → of.Statement.statement M
+sample_spec = of.Tie.close (of.Tie.spec (λ c. search rules) (λ c. search rules) cast-result returns)

@@ -1,5 +1,5 @@
 -- The loop sums the words of the images before number k.
-use Rattle.align_pyramid.specs.Prelude.{◌≡◌, refl, ap, ap₂, ◌∙◌, ℕ, ◌+◌, ◌-◌, ◌*◌, ◌/◌, ◌≤◌, ◌<◌, arith, needs, level_size}
+use Rattle.align_pyramid.specs.Prelude.{◌≡◌, refl, ap, ap₂, ◌∙◌, ℕ, ◌+◌, ◌-◌, ◌*◌, ◌/◌, ◌≤◌, ◌<◌, arith, rules, level_size}
 use native.Mathlib.Nat.{mul-le-mul}
 use native.Mathlib.Numerals.{add-one}
 use Rattle.align_pyramid.specs.Chain.{halves, words_before}
@@ -35,26 +35,26 @@ module _ {height width k : ℕ} where
   sum-most {i} s less a b =
       omega (arith, s.is, words-rise height width i 6 less, words-third height width, mul-le-mul {n₁ = height} {m₁ = width} {n₂ = 2048} {m₂ = 2048} a b)
 
-abbrev Inv-loop : of.Tie.InvT-loop
-Inv-loop k height₀ width₀ sum₀ counter₀ height width sum counter = Summing height₀ width₀ k counter height width sum
+abbrev invariant-loop : of.Tie.invariant-loop
+invariant-loop k height₀ width₀ sum₀ counter₀ height width sum counter = Summing height₀ width₀ k counter height width sum
 
-abbrev μ-loop : of.Tie.MeasureT-loop
-μ-loop k height₀ width₀ sum₀ counter₀ height width sum counter = k - counter
+abbrev decreases-loop : of.Tie.decreases-loop
+decreases-loop k height₀ width₀ sum₀ counter₀ height width sum counter = k - counter
 
-bound : (c : of.Tie.In-loop Inv-loop μ-loop) → let s = c.before.loop in s.sum + s.height * s.width ≤ 5592405
-bound c = sum-most (sum-turn c.before.loop.inv (omega arith)) (omega arith) (omega arith) (omega arith)
+bound : (c : of.Tie.In-loop invariant-loop decreases-loop) → let s = c.before.loop in s.sum + s.height * s.width ≤ 5592405
+bound c = sum-most (sum-turn c.before.loop.invariant (omega arith)) (omega arith) (omega arith) (omega arith)
 
-loop-again : of.Tie.Need-loop-again Inv-loop μ-loop
-loop-again c = sum-turn c.before.loop.inv (omega arith)
+loop-again : of.Tie.Need-loop-preserved invariant-loop decreases-loop
+loop-again c = sum-turn c.before.loop.invariant (omega arith)
 
-returns : of.Tie.Need-returns Inv-loop μ-loop
+returns : of.Tie.Need-returns invariant-loop decreases-loop
 unfolding offset level_size
 returns c =
     let s = c.before.loop in
     let all : s.counter ≡ c.before.before.before.before.args.k = omega arith in
     (s.inv.is ∙ ap (words_before _ _) all, sum-most s.inv (omega arith) (omega arith) (omega arith))
 
-pub offset-spec : {M : Type 1} → of.Statement.statement M
-offset-spec = of.Tie.close (of.Tie.spec
-    Inv-loop μ-loop (λ c. sum-start) (λ c. omega (arith, bound c)) (λ c. omega (arith, bound c))
-    (λ c. search needs) (λ c. search needs) loop-again returns)
+pub offset_spec : {M : Type 1} → of.Statement.statement M
+offset_spec = of.Tie.close (of.Tie.spec
+    invariant-loop decreases-loop (λ c. sum-start) (λ c. omega (arith, bound c)) (λ c. omega (arith, bound c))
+    (λ c. search rules) (λ c. search rules) loop-again returns)

@@ -7,13 +7,13 @@ use Rattle.align_tile.proofs.same as of
 part : (x y : ℤ) → nat_abs x ≤ 336 → nat_abs y ≤ 336 → of_z w64 x ≡ of_z w64 y → x ≡ y
 part x y hx hy e = sym (back-small x 336 hx tt) ∙ ap (to_z w64) e ∙ back-small y 336 hy tt
 
-returns-2 : of.Tie.Need-returns-2
+returns-2 : of.Tie.Need-returns
 returns-2 c e = let s = c.before.before.before.before.before.before.before.before.before in
     let a = s.args.a in
     let b = s.args.b in
     ap₂ (λ d r. record { down = d; right = r })
-    (part a.down b.down s.pre.0.vertical s.pre.1.vertical c.before.before.before.before.if1.left)
-    (part a.right b.right s.pre.0.sideways s.pre.1.sideways (eqb-true _ _ e))
+    (part a.down b.down s.requires.0.vertical s.requires.1.vertical c.before.before.before.before.if-a-b.false)
+    (part a.right b.right s.requires.0.sideways s.requires.1.sideways (eqb-true _ _ e))
 
 pub same_spec : {M : Type 1} → of.Statement.statement M
 same_spec = of.Tie.close (of.Tie.spec (λ c e. absurd (subst T (sym e) tt)) returns-2)

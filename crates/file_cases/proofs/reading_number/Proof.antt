@@ -22,5 +22,5 @@ number_read {file} {samples} done =
 returns : of.Tie.Need-returns
 returns c = number_read c.before.read-file.ensures
 
-pub reading-number-spec : {M : Type 1} → of.Statement.statement M
-reading-number-spec = of.Tie.close (of.Tie.spec (λ c. search rules) (λ c κs. search rules) returns)
+pub reading_number_spec : {M : Type 1} → of.Statement.statement M
+reading_number_spec = of.Tie.close (of.Tie.spec (λ c. search rules) (λ c κs. search rules) returns)

@@ -11,8 +11,8 @@ invariant_loop fd buffer₀ count₀ buffer count = (length buffer ≡ length bu
 abbrev decreases_loop : of.Tie.decreases_loop
 decreases_loop fd buffer₀ count₀ buffer count = length buffer - count
 
-pub read-all-spec : {M : Type 1} → of.Statement.statement M
-read-all-spec = of.Tie.close (of.Tie.spec
+pub read_all_spec : {M : Type 1} → of.Statement.statement M
+read_all_spec = of.Tie.close (of.Tie.spec
     invariant_loop decreases_loop (λ c. search rules) (λ c. search rules) (λ c. search rules) (λ c. search rules)
     (λ c κs. search rules) (λ c. search rules) (λ c. search rules) (λ c. search rules)
     (λ c. search rules) (λ c. search rules) (λ c κs. search rules) (λ c. search rules)

@@ -1,5 +1,5 @@
 -- All rows: two rows of pairs of tiles lie in the work area.
-use Rattle.merge_frame.specs.Prelude.{◌≡◌, sym, ap, ◌∙◌, ◌-◌, ◌*◌, ◌/◌, ◌≤◌, arith, needs, now, Allowed, TileSide, scene_at, scene_of, row_words}
+use Rattle.merge_frame.specs.Prelude.{◌≡◌, sym, ap, ◌∙◌, ◌-◌, ◌*◌, ◌/◌, ◌≤◌, arith, rules, now, Allowed, TileSide, scene_at, scene_of, row_words}
 use native.Mathlib.Nat.{mul-le-mul_left, mul_comm}
 use Rattle.geometry.specs.declared.Shape.{Shape}
 use Rattle.geometry.specs.Shape.{output_length, work_length}
@@ -19,17 +19,17 @@ all-rows : {s : Shape} → Allowed s → TileSide s.side → output_length s ≡
 unfolding output_length
 all-rows {s} ok sided = mul_comm s.width s.height ∙ ap (λ k. k * s.width) (sym (rows_whole sided s.height ok.high.whole))
 
-merge-rows-requires : of.Tie.Need-merge-rows-requires
+merge-rows-requires : of.Tie.Need-merge_rows-requires
 merge-rows-requires c κs =
     let s = c.before.before.before.before.before in
-    let ok = s.pre.accepted.burst.allowed in
-    let sided = s.pre.accepted.burst.sided in
+    let ok = s.requires.accepted.burst.allowed in
+    let sided = s.requires.accepted.burst.sided in
     record {
-      accepted = s.pre.accepted;
+      accepted = s.requires.accepted;
       ordered = omega arith;
       last_most = omega arith;
-      output_long = s.pre.output_long ∙ all-rows ok sided;
-      room = omega (arith, rows_fit ok sided, s.pre.work_long);
+      output_long = s.requires.output_long ∙ all-rows ok sided;
+      room = omega (arith, rows_fit ok sided, s.requires.work_long);
     }
 
 returns : of.Tie.Need-returns
@@ -37,8 +37,8 @@ unfolding scene_at
 returns c =
     let r = c.before.before.before in
     let s = r.before.before.before.before.before.before in
-    r.merge-rows.ensures ∙ whole-merged s.pre.accepted.burst.sided (scene_of s.args.m (now s.args.samples) (now s.args.vectors)) s.pre.accepted.burst.allowed.high
+    r.merge_rows.ensures ∙ whole-merged s.requires.accepted.burst.sided (scene_of s.args.m (now s.args.samples) (now s.args.vectors)) s.requires.accepted.burst.allowed.high
 
-pub merge-frames-spec : {M : Type 1} → of.Statement.statement M
-merge-frames-spec = of.Tie.close (of.Tie.spec
-    (λ c. side_above c.before.before.before.pre.accepted.burst.sided) merge-rows-requires (λ c. search needs) (λ c. search needs) returns)
+pub merge_frames_spec : {M : Type 1} → of.Statement.statement M
+merge_frames_spec = of.Tie.close (of.Tie.spec
+    (λ c. side_above c.before.before.before.requires.accepted.burst.sided) merge-rows-requires (λ c. search rules) (λ c. search rules) returns)

@@ -1,25 +1,25 @@
 -- The two row parities, one after the other.
-use Rattle.merge_frame.specs.Prelude.{arith, needs, lit<, now, scene_at, scene_of}
+use Rattle.merge_frame.specs.Prelude.{arith, rules, lit<, now, scene_at, scene_of}
 use Rattle.merge_frame.proofs.Advance.{all-merged}
 use Rattle.merge_frame.proofs.merge_rows as of
 
-merge-parity-requires : of.Tie.Need-merge-parity-requires
+merge-parity-requires : of.Tie.Need-merge_parity-requires
 merge-parity-requires c κs =
     let s = c.before.before.before.before in
-    record { lent = s.pre; parity = lit< tt }
+    record { lent = s.requires; parity = lit< tt }
 
-merge-parity-requires-2 : of.Tie.Need-merge-parity-requires-2
+merge-parity-requires-2 : of.Tie.Need-merge_parity-requires-2
 merge-parity-requires-2 c κs =
     let p = c.before.before.before.before.before in
     let s = p.before.before.before.before.before in
-    let r = s.pre in
+    let r = s.requires in
     record {
       lent = record {
         accepted = r.accepted;
         ordered = r.ordered;
         last_most = r.last_most;
-        output_long = omega (arith, p.merge-parity.kept, r.output_long);
-        room = omega (arith, p.merge-parity.kept, r.room);
+        output_long = omega (arith, p.merge_parity.auto, r.output_long);
+        room = omega (arith, p.merge_parity.auto, r.room);
       };
       parity = lit< tt;
     }
@@ -30,8 +30,8 @@ returns c =
     let q = c.before.before.before in
     let p = q.before.before.before.before.before.before in
     let s = p.before.before.before.before.before in
-    all-merged s.pre.accepted.burst.sided (scene_of s.args.m (now s.args.samples) (now s.args.vectors)) s.args.first s.args.last s.pre.output_long p.merge-parity.ensures q.merge-parity2.ensures
+    all-merged s.requires.accepted.burst.sided (scene_of s.args.m (now s.args.samples) (now s.args.vectors)) s.args.first s.args.last s.requires.output_long p.merge_parity.ensures q.merge_parity-2.ensures
 
-pub merge-rows-spec : {M : Type 1} → of.Statement.statement M
-merge-rows-spec = of.Tie.close (of.Tie.spec
-    merge-parity-requires merge-parity-requires-2 (λ c. search needs) (λ c. search needs) returns)
+pub merge_rows_spec : {M : Type 1} → of.Statement.statement M
+merge_rows_spec = of.Tie.close (of.Tie.spec
+    merge-parity-requires merge-parity-requires-2 (λ c. search rules) (λ c. search rules) returns)

@@ -1,37 +1,37 @@
 -- One part of side 16, two of side 32.
-use Rattle.algebra.specs.Prelude.{◌≡◌, refl, ℕ, arith, needs, length, now}
+use Rattle.algebra.specs.Prelude.{◌≡◌, refl, ℕ, arith, rules, length, now}
 use Rattle.sequences.specs.Write.{write-start, write_done}
 use Rattle.merge_gather.specs.Ready.{BlockReady}
 use Rattle.merge_gather.proofs.Weighing.{part_room, wide_is}
 use Rattle.merge_gather.proofs.Blocks.{part-turn}
 use Rattle.merge_gather.proofs.output_block as of
 
-ready : (s : of.Tie.Start) (n : ℕ) → n ≡ length (now s.args.output) → BlockReady s.args.span s.args.by (length (now s.args.samples)) n (now s.args.work) (now s.args.lower) (now s.args.upper)
-ready s n same = record { weighed = s.pre.weighed; divided = s.pre.divided; samples_room = s.pre.samples_room; output_room = omega (arith, s.pre.output_room, same) }
+ready : (s : of.Tie.Start) (n : ℕ) → n ≡ length (now s.args.output-1) → BlockReady s.args.span s.args.by (length (now s.args.samples)) n (now s.args.work) (now s.args.lower) (now s.args.upper)
+ready s n same = record { weighed = s.requires.weighed; divided = s.requires.divided; samples_room = s.requires.samples_room; output_room = omega (arith, s.requires.output_room, same) }
 
-output-part-requires : of.Tie.Need-output-part-requires
-output-part-requires c κs = let s = c.before.before.before in (ready s _ refl, part_room s.pre.weighed.sided)
+output-part-requires : of.Tie.Need-output_part-requires
+output-part-requires c κs = let s = c.before.before.before in (ready s _ refl, part_room s.requires.weighed.sided)
 
-returns : of.Tie.Need-returns
+returns : of.Tie.Need-returns-then-span-eq-PART
 returns c =
     let s = c.before.before.before.before.before.before.before.before in
     let a = s.args in
-    write_done (part-turn (now a.samples) (now a.work) a.span a.by.count 0 (write-start s.pre.output_room) (part_room s.pre.weighed.sided)
-    c.before.before.before.before.output-part.ensures) (omega (arith, c.if1.taken))
+    write_done (part-turn (now a.samples) (now a.work) a.span a.by.count 0 (write-start s.requires.output_room) (part_room s.requires.weighed.sided)
+    c.before.before.before.before.output_part.ensures) (omega (arith, c.if-span-eq-PART.true))
 
-output-part-requires-2 : of.Tie.Need-output-part-requires-2
+output-part-requires-2 : of.Tie.Need-output_part-requires-2
 output-part-requires-2 c κs =
     let s = c.before.before.before.before.before.before.before.before.before in
-    (ready s _ (search needs), omega (arith, wide_is s.pre.weighed.sided c.before.if1.left))
+    (ready s _ (search rules), omega (arith, wide_is s.requires.weighed.sided c.before.if-span-eq-PART.false))
 
-returns-2 : of.Tie.Need-returns-2
+returns-2 : of.Tie.Need-returns
 returns-2 c =
     let first = c.before.before.before.before.before.before.before.before in
     let s = first.before.before.before.before in
     let a = s.args in
-    let side = wide_is s.pre.weighed.sided c.before.before.before.before.if1.left in
-    let w = part-turn (now a.samples) (now a.work) a.span a.by.count 0 (write-start s.pre.output_room) (omega (arith, side)) first.output-part.ensures in
-    write_done (part-turn (now a.samples) (now a.work) a.span a.by.count 1 w (omega (arith, side)) c.before.before.output-part2.ensures) (omega (arith, side))
+    let side = wide_is s.requires.weighed.sided c.before.before.before.before.if-span-eq-PART.false in
+    let w = part-turn (now a.samples) (now a.work) a.span a.by.count 0 (write-start s.requires.output_room) (omega (arith, side)) first.output_part.ensures in
+    write_done (part-turn (now a.samples) (now a.work) a.span a.by.count 1 w (omega (arith, side)) c.before.before.output_part-2.ensures) (omega (arith, side))
 
-pub output-block-spec : {M : Type 1} → of.Statement.statement M
-output-block-spec = of.Tie.close (of.Tie.spec output-part-requires (λ c. search needs) returns output-part-requires-2 (λ c. search needs) returns-2)
+pub output_block_spec : {M : Type 1} → of.Statement.statement M
+output_block_spec = of.Tie.close (of.Tie.spec output-part-requires (λ c. search rules) returns output-part-requires-2 (λ c. search rules) returns-2)

@@ -1,5 +1,5 @@
 -- The row lies in its frame, for the output and for the samples, and frames are small.
-use Rattle.merge_gather.specs.Prelude.{◌+◌, ◌-◌, ◌*◌, ◌/◌, ◌%◌, ◌≤◌, ◌<◌, arith, needs, row_stride, frame_stride, sample_length, output_length}
+use Rattle.merge_gather.specs.Prelude.{◌+◌, ◌-◌, ◌*◌, ◌/◌, ◌%◌, ◌≤◌, ◌<◌, arith, rules, row_stride, frame_stride, sample_length, output_length}
 use native.Mathlib.Nat.{mul-le-mul_right}
 use Rattle.geometry.specs.ShapeLaws.{area-most, samples-most}
 use Rattle.geometry.specs.ReadLaws.{frame-room}
@@ -20,7 +20,7 @@ room : (c : of.Tie.Start) → let s = c.args.shape in let row = 2 * c.args.y + c
     }
 unfolding output_length sample_length
 room c =
-    let w = c.pre in
+    let w = c.requires in
     let s = c.args.shape in
     let below : 2 * c.args.y + c.args.parity < s.height = omega (arith, w.row, w.parity, w.allowed) in
     record {
@@ -35,26 +35,26 @@ room c =
 
 -- where rows of pairs lie in the work area
 above_most : (c : of.Tie.Start) → let n = c.args.shape.side in n * (c.args.y % (n / 2) + n / 2) ≤ 1024
-above_most c = place-most c.pre.sided c.args.y
+above_most c = place-most c.requires.sided c.args.y
 
 below-most : (c : of.Tie.Start) → let n = c.args.shape.side in n * (c.args.y % (n / 2)) ≤ 1024
 below-most c = omega (arith, above_most c)
 
-add-above : of.Tie.Need-add-above
+add-above : of.Tie.Need-overflow_add-above
 add-above c =
     let s = c.before.before.before.before in
-    omega (arith, row-in-half s.pre.sided s.args.y, side-most s.pre.sided)
+    omega (arith, row-in-half s.requires.sided s.args.y, side-most s.requires.sided)
 
-add-above-2 : of.Tie.Need-add-above-2
+add-above-2 : of.Tie.Need-overflow_add-above-2
 add-above-2 c = omega (arith, above_most c.before.before.before.before, c.slot.ensures.most)
 
-add-slot : of.Tie.Need-add-slot
+add-slot : of.Tie.Need-overflow_add-y
 add-slot c =
     let s = c.before.before.before.before in
-    omega (arith, quotient-most s.pre.sided s.args.y, s.pre.row, s.pre.allowed.high.most)
+    omega (arith, quotient-most s.requires.sided s.args.y, s.requires.row, s.requires.allowed.high.most)
 
-add-below : of.Tie.Need-add-below
-add-below c = omega (arith, below-most c.before.before.before.before.before, c.slot2.ensures.most)
+add-below : of.Tie.Need-overflow_add-below
+add-below c = omega (arith, below-most c.before.before.before.before.before, c.slot-2.ensures.most)
 
 returns : of.Tie.Need-returns
 unfolding row_span sample_length output_length
@@ -62,7 +62,7 @@ returns c =
     let s = c.before.before.before.before.before in
     let r = room s in
     let above = c.before.slot.ensures in
-    let below = c.slot2.ensures in (
+    let below = c.slot-2.ensures in (
       rw (above.is, below.is),
       record {
         small = record { from = omega (arith, r); start = omega (arith, r); above = omega (arith, above.most, above_most s); below = omega (arith, below.most, below-most s) };
@@ -70,14 +70,14 @@ returns c =
       },
     )
 
-pub row-span-spec : {M : Type 1} → of.Statement.statement M
-row-span-spec = of.Tie.close (of.Tie.spec
-    (λ c. search needs) (λ c. search needs) (λ c. omega (arith, room c.before))
+pub row_span_spec : {M : Type 1} → of.Statement.statement M
+row_span_spec = of.Tie.close (of.Tie.spec
+    (λ c. search rules) (λ c. search rules) (λ c. omega (arith, room c.before))
     (λ c. omega (arith, room c.before)) (λ c. omega (arith, room c.before.before))
-    (λ c. omega (arith, room c.before.before)) (λ c. c.before.before.pre.under) (λ c. omega (arith, room c.before.before.before))
-    (λ c. half_above c.before.before.before.pre.sided) (λ c. half_above c.before.before.before.pre.sided)
-    (λ c κs. (side-most c.before.before.before.pre.sided, c.before.before.before.pre.allowed.wide.most))
+    (λ c. omega (arith, room c.before.before)) (λ c. c.before.before.requires.under) (λ c. omega (arith, room c.before.before.before))
+    (λ c. half_above c.before.before.before.requires.sided) (λ c. half_above c.before.before.before.requires.sided)
+    (λ c κs. (side-most c.before.before.before.requires.sided, c.before.before.before.requires.allowed.wide.most))
     add-above (λ c. omega (arith, above_most c.before.before.before.before)) add-above-2
-    (λ c. half_above c.before.before.before.before.pre.sided) add-slot
-    (λ c κs. (side-most c.before.before.before.before.pre.sided, c.before.before.before.before.pre.allowed.wide.most))
+    (λ c. half_above c.before.before.before.before.requires.sided) add-slot
+    (λ c κs. (side-most c.before.before.before.before.requires.sided, c.before.before.before.before.requires.allowed.wide.most))
     (λ c. omega (arith, below-most c.before.before.before.before.before)) add-below returns)

@@ -4,13 +4,13 @@ use borrow.Author.Tests.{eq-eqb, ne_eqb}
 use Rattle.merge_gather.specs.Gather.{window_table}
 use Rattle.merge_gather.proofs.window_of as of
 
-returns : of.Tie.Need-returns
+returns : of.Tie.Need-returns-then-side-eq32
 unfolding window_table windows32
-returns c = rw (eq-eqb _ 32 c.if1.taken)
+returns c = rw (eq-eqb _ 32 c.if-side-eq32.true)
 
-returns-2 : of.Tie.Need-returns-2
+returns-2 : of.Tie.Need-returns
 unfolding window_table windows tab
-returns-2 c = rw (ne_eqb _ 32 c.if1.left)
+returns-2 c = rw (ne_eqb _ 32 c.if-side-eq32.false)
 
-pub window-of-spec : {M : Type 1} → of.Statement.statement M
-window-of-spec = of.Tie.close (of.Tie.spec returns returns-2)
+pub window_of_spec : {M : Type 1} → of.Statement.statement M
+window_of_spec = of.Tie.close (of.Tie.spec returns returns-2)

@@ -1,5 +1,5 @@
 -- A row of a pair: filled from the front by two samples at a time, each by where the row starts.
-use Rattle.algebra.specs.Prelude.{◌≡◌, refl, ap, List, ℕ, ◌+◌, ◌-◌, ◌*◌, ◌/◌, ◌%◌, ◌<◌, arith, needs, get_or, set, pos, ◌+ℤ◌, w64, to_z, of_z, to_z-of_z, now}
+use Rattle.algebra.specs.Prelude.{◌≡◌, refl, ap, List, ℕ, ◌+◌, ◌-◌, ◌*◌, ◌/◌, ◌%◌, ◌<◌, arith, rules, get_or, set, pos, ◌+ℤ◌, w64, to_z, of_z, to_z-of_z, now}
 use Rattle.sequences.specs.TabLaws.{Filled, fill_start, fill-turn, fill_done}
 use Rattle.geometry.specs.Read.{inside}
 use Rattle.merge_view.proofs.edge_pair as of
@@ -8,33 +8,33 @@ use Rattle.merge_view.proofs.edge_pair as of
 turn : {f : ℕ → ℕ} {n a b : ℕ} {l r : List ℕ} (j : ℕ) → Filled f n (2 * j) l r → 2 * j + 1 < n → a ≡ f (2 * j) → b ≡ f (2 * j + 1) → Filled f n (2 * (j + 1)) l (set (set r (2 * j) a) (2 * j + 1) b)
 turn j w h p q = let next : 2 * (j + 1) ≡ 2 * j + 1 + 1 = omega arith in rw next (fill-turn (fill-turn w (omega arith) p) h q)
 
-abbrev Inv-loop : of.Tie.InvT-loop
-Inv-loop start x samples width row₀ j₀ row j = Filled (λ l. get_or samples (start + 2 * inside width (to_z w64 x +ℤ pos (l / 2)) + l % 2) 0) 32 (2 * j) row₀ row
+abbrev invariant-loop-j : of.Tie.invariant-loop-j
+invariant-loop-j start x samples width row₀ j₀ row j = Filled (λ l. get_or samples (start + 2 * inside width (to_z w64 x +ℤ pos (l / 2)) + l % 2) 0) 32 (2 * j) row₀ row
 
-abbrev μ-loop : of.Tie.MeasureT-loop
-μ-loop start x samples width row₀ j₀ row j = 16 - j
+abbrev decreases-loop-j : of.Tie.decreases-loop-j
+decreases-loop-j start x samples width row₀ j₀ row j = 16 - j
 
-loop-again : of.Tie.Need-loop-again Inv-loop μ-loop
+loop-again : of.Tie.Need-loop-j-preserved invariant-loop-j decreases-loop-j
 loop-again c =
     let a = c.before.before.before in
-    let j = a.before.before.loop.j in
-    let read : to_z w64 (of_z w64 a.along.result) ≡ a.along.result = search needs in
+    let j = a.before.before.loop-j.j in
+    let read : to_z w64 (of_z w64 a.along.result) ≡ a.along.result = search rules in
     let even : 2 * j / 2 ≡ j = omega arith in
     let odd : (2 * j + 1) / 2 ≡ j = omega arith in
     let rest : (2 * j + 1) % 2 ≡ 1 = omega arith in
     let none : 2 * j % 2 ≡ 0 = omega arith in
-    turn j a.before.before.loop.inv (omega arith)
+    turn j a.before.before.loop-j.invariant (omega arith)
     (rw (c.before.before.inside.ensures.0, read, a.along.ensures, even, none) (ap (λ n. get_or (now a.before.before.before.before.args.samples) n 0) (omega arith)))
     (rw (c.before.before.inside.ensures.0, read, a.along.ensures, odd, rest))
 
-returns : of.Tie.Need-returns Inv-loop μ-loop
-returns c = rw (← to_z-of_z c.before.before.before.fits.x) (fill_done c.before.loop.inv (omega arith))
+returns : of.Tie.Need-returns invariant-loop-j decreases-loop-j
+returns c = rw (← to_z-of_z c.before.before.before.ranges.x) (fill_done c.before.loop-j.invariant (omega arith))
 
-pub edge-pair-spec : {M : Type 1} → of.Statement.statement M
-edge-pair-spec = of.Tie.close (of.Tie.spec
-    Inv-loop μ-loop (λ c. fill_start refl) (λ c κs. search needs) (λ c κs. search needs)
-    (λ c. search needs) (λ c. search needs) (λ c. search needs) (λ c. search needs)
-    (λ c. search needs) (λ c. search needs) (λ c. search needs) (λ c. search needs)
-    (λ c. search needs) (λ c. search needs) (λ c. search needs) (λ c. search needs)
-    (λ c. search needs) (λ c. search needs) (λ c. search needs) (λ c. search needs) loop-again
+pub edge_pair_spec : {M : Type 1} → of.Statement.statement M
+edge_pair_spec = of.Tie.close (of.Tie.spec
+    invariant-loop-j decreases-loop-j (λ c. fill_start refl) (λ c κs. search rules) (λ c κs. search rules)
+    (λ c. search rules) (λ c. search rules) (λ c. search rules) (λ c. search rules)
+    (λ c. search rules) (λ c. search rules) (λ c. search rules) (λ c. search rules)
+    (λ c. search rules) (λ c. search rules) (λ c. search rules) (λ c. search rules)
+    (λ c. search rules) (λ c. search rules) (λ c. search rules) (λ c. search rules) loop-again
     returns)

@@ -1,50 +1,50 @@
 -- The pair of a frame: the frame's part lies in the burst, and its view reads the burst's planes.
-use Rattle.algebra.specs.Prelude.{refl, arith, needs, to_z-of_z, now}
+use Rattle.algebra.specs.Prelude.{refl, arith, rules, to_z-of_z, now}
 use Rattle.geometry.specs.ShapeLaws.{frame-most}
 use Rattle.merge_view.specs.ViewLaws.{part-shaped, part_pair}
 use Rattle.merge_view.proofs.FramePart.{lent, room, small, wide, high, planar}
 use Rattle.merge_view.proofs.frame_pair as of
 
-mul_words : of.Tie.Need-mul-words
-mul_words c = omega (arith, frame-most c.before.before.pre.sampled.allowed)
+mul_words : of.Tie.Need-overflow_mul-words
+mul_words c = omega (arith, frame-most c.before.before.requires.sampled.allowed)
 
-mul-start : of.Tie.Need-mul-start
-mul-start c = let s = c.before.before.pre in omega (arith, room s.sampled _ s.frame_below, small s.sampled)
+mul-start : of.Tie.Need-overflow_mul-start
+mul-start c = let s = c.before.before.requires in omega (arith, room s.sampled _ s.frame_below, small s.sampled)
 
-add-end : of.Tie.Need-add-end
-add-end c = let s = c.before.before.pre in omega (arith, room s.sampled _ s.frame_below, small s.sampled)
+add-end : of.Tie.Need-overflow_add-end
+add-end c = let s = c.before.before.requires in omega (arith, room s.sampled _ s.frame_below, small s.sampled)
 
-mul-fill-pair : of.Tie.Need-mul-fill-pair
-mul-fill-pair c = let s = c.before.before.pre in omega (arith, room s.sampled _ s.frame_below, small s.sampled)
+mul-fill-pair : of.Tie.Need-offset_bounds-samples-start
+mul-fill-pair c = let s = c.before.before.requires in omega (arith, room s.sampled _ s.frame_below, small s.sampled)
 
-fill-pair-requires : of.Tie.Need-fill-pair-requires
+fill-pair-requires : of.Tie.Need-fill_pair-requires
 fill-pair-requires c κs =
     let b = c.before.before.before.before.before.before in
-    let k = b.pre.sampled in
+    let k = b.requires.sampled in
     let s = b.args.shape in
     let all = now b.args.samples in
     let frame = b.args.frame in
     record {
       place = record {
-        shaped = rw (lent s all frame) (part-shaped s all frame k.allowed k.long b.pre.frame_below (planar k b.pre.parity) (wide k) (high k));
+        shaped = rw (lent s all frame) (part-shaped s all frame k.allowed k.long b.requires.frame_below (planar k b.requires.parity) (wide k) (high k));
         first = refl;
-        near = rw (to_z-of_z b.fits.x) b.pre.near_x;
+        near = rw (to_z-of_z b.ranges.x) b.requires.near_x;
       };
-      near = rw (to_z-of_z b.fits.y) b.pre.near_y;
-      rows = b.pre.rows;
+      near = rw (to_z-of_z b.ranges.y) b.requires.near_y;
+      rows = b.requires.rows;
     }
 
 returns : of.Tie.Need-returns
 returns c =
     let b = c.before.before.before.before.before.before.before in
-    let k = b.pre.sampled in
+    let k = b.requires.sampled in
     let s = b.args.shape in
     let all = now b.args.samples in
     let frame = b.args.frame in
-    rw (c.fill-pair.ensures, lent s all frame, to_z-of_z b.fits.y, to_z-of_z b.fits.x)
-    (part_pair s all frame k.allowed k.long b.pre.frame_below (planar k b.pre.parity) (wide k) (high k) 16 b.args.y b.args.x)
+    rw (c.fill_pair.ensures, lent s all frame, to_z-of_z b.ranges.y, to_z-of_z b.ranges.x)
+    (part_pair s all frame k.allowed k.long b.requires.frame_below (planar k b.requires.parity) (wide k) (high k) 16 b.args.y b.args.x)
 
-pub frame-pair-spec : {M : Type 1} → of.Statement.statement M
-frame-pair-spec = of.Tie.close (of.Tie.spec
-    mul_words mul-start add-end mul-fill-pair (λ c. search needs) (λ c. search needs)
-    (λ c. let s = c.before.before.pre in room s.sampled _ s.frame_below) fill-pair-requires returns)
+pub frame_pair_spec : {M : Type 1} → of.Statement.statement M
+frame_pair_spec = of.Tie.close (of.Tie.spec
+    mul_words mul-start add-end mul-fill-pair (λ c. search rules) (λ c. search rules)
+    (λ c. let s = c.before.before.requires in room s.sampled _ s.frame_below) fill-pair-requires returns)

@@ -12,9 +12,9 @@ use Rattle.merge_view.specs.contracts.row as row
 use Rattle.merge_view.proofs.row.Statement as stated
 use Rattle.merge_view.proofs.row.Code as code
 
-pub row-spec : {M : Type 1} → stated.statement M
+pub row_spec : {M : Type 1} → stated.statement M
 unfolding code.routine tables_of
-row-spec 𝓤 𝓛 𝓜 𝓡 =
+row_spec 𝓤 𝓛 𝓜 𝓡 =
     entered 𝓤 𝓛.H (triple_of 𝓛 row.signature (row.spec 𝓛 𝓜.mem 𝓡.run))
     (tables 𝓤 𝓛.H 𝓜 𝓡 code.env).C (tables 𝓤 𝓛.H 𝓜 𝓡 code.env).Λ name code.function (code.unfolded 𝓤 𝓛.H 𝓜 𝓡)
     (reading-meets Line Fine found line (line-typed 𝓛) callee.name 𝓛 (tables_of 𝓤 𝓛.H 𝓜 (tables 𝓤 𝓛.H 𝓜 𝓡 code.env))

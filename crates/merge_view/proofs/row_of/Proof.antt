@@ -12,9 +12,9 @@ use Rattle.merge_view.specs.contracts.row_of as row_of
 use Rattle.merge_view.proofs.row_of.Statement as stated
 use Rattle.merge_view.proofs.row_of.Code as code
 
-pub row-of-spec : {M : Type 1} → stated.statement M
+pub row_of_spec : {M : Type 1} → stated.statement M
 unfolding code.routine tables_of
-row-of-spec 𝓤 𝓛 𝓜 𝓡 =
+row_of_spec 𝓤 𝓛 𝓜 𝓡 =
     entered 𝓤 𝓛.H (triple_of 𝓛 row_of.signature (row_of.spec 𝓛 𝓜.mem 𝓡.run))
     (tables 𝓤 𝓛.H 𝓜 𝓡 code.env).C (tables 𝓤 𝓛.H 𝓜 𝓡 code.env).Λ name code.function (code.unfolded 𝓤 𝓛.H 𝓜 𝓡)
     (making-meets Line Fine found line (line-typed 𝓛) callee.name 𝓛 (tables_of 𝓤 𝓛.H 𝓜 (tables 𝓤 𝓛.H 𝓜 𝓡 code.env))

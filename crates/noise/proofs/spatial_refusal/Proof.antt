@@ -7,5 +7,5 @@ returns : of.Tie.Need-returns
 unfolding spatial_refusal
 returns c = c.refuse.ensures
 
-pub spatial-refusal-spec : {M : Type 1} → of.Statement.statement M
-spatial-refusal-spec = of.Tie.close (of.Tie.spec (λ c κs. search rules) returns)
+pub spatial_refusal_spec : {M : Type 1} → of.Statement.statement M
+spatial_refusal_spec = of.Tie.close (of.Tie.spec (λ c κs. search rules) returns)

@@ -7,5 +7,5 @@ returns : of.Tie.Need-returns
 unfolding strength_refusal
 returns c = c.refuse.ensures
 
-pub strength-refusal-spec : {M : Type 1} → of.Statement.statement M
-strength-refusal-spec = of.Tie.close (of.Tie.spec (λ c κs. search rules) returns)
+pub strength_refusal_spec : {M : Type 1} → of.Statement.statement M
+strength_refusal_spec = of.Tie.close (of.Tie.spec (λ c κs. search rules) returns)

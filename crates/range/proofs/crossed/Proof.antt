@@ -2,11 +2,11 @@
 use Rattle.algebra.specs.Prelude.{refl}
 use Rattle.range.proofs.crossed as of
 
-returns : of.Tie.Need-returns
-returns c = rw c.if1.taken refl
+returns : of.Tie.Need-returns-then-upper-lower
+returns c = rw c.if-upper-lower.true refl
 
-returns-2 : of.Tie.Need-returns-2
-returns-2 c = rw c.before.before.if1.left refl
+returns-2 : of.Tie.Need-returns
+returns-2 c = rw c.before.before.if-upper-lower.false refl
 
-pub crossed-spec : {M : Type 1} → of.Statement.statement M
-crossed-spec = of.Tie.close (of.Tie.spec returns returns-2)
+pub crossed_spec : {M : Type 1} → of.Statement.statement M
+crossed_spec = of.Tie.close (of.Tie.spec returns returns-2)

@@ -7,7 +7,7 @@ returns : of.Tie.Need-returns
 unfolding range_noise_tests
 returns c = cc
 
-pub range-noise-refusal-spec : {M : Type 1} → of.Statement.statement M
-range-noise-refusal-spec = of.Tie.close (of.Tie.spec
+pub range_noise_refusal_spec : {M : Type 1} → of.Statement.statement M
+range_noise_refusal_spec = of.Tie.close (of.Tie.spec
     (λ c κs. search rules) (λ c κs. search rules) (λ c κs. search rules) (λ c κs. search rules) (λ c κs. search rules) (λ c κs. search rules) (λ c κs. search rules)
     (λ c κs. search rules) (λ c κs. search rules) (λ c κs. search rules) (λ c κs. search rules) (λ c κs. search rules) (λ c. search rules) (λ c κs. search rules) returns)

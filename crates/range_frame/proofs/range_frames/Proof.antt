@@ -1,23 +1,23 @@
 -- The two row parities, one after the other.
-use Rattle.range_frame.specs.Prelude.{◌≡◌, sym, subst, ◌∙◌, List, ℕ, arith, needs, lit<, now, output_length, side16, scene_at, scene_of, low_sample, high_sample, End, frame_end, raised}
+use Rattle.range_frame.specs.Prelude.{◌≡◌, sym, subst, ◌∙◌, List, ℕ, arith, rules, lit<, now, output_length, side16, scene_at, scene_of, low_sample, high_sample, End, frame_end, raised}
 use Rattle.recipe.specs.SideLaws.{of_16}
 use Rattle.range_frame.specs.BandLaws.{frame-whole}
 use Rattle.range_frame.proofs.range_frames as of
 
-range-parity-requires : of.Tie.Need-range-parity-requires
-range-parity-requires c κs = record { lent = c.before.before.before.before.before.before.pre; parity = lit< tt }
+range-parity-requires : of.Tie.Need-range_parity-requires
+range-parity-requires c κs = record { lent = c.before.before.before.before.before.before.requires; parity = lit< tt }
 
-range-parity-requires-2 : of.Tie.Need-range-parity-requires-2
+range-parity-requires-2 : of.Tie.Need-range_parity-requires-2
 range-parity-requires-2 c κs =
     let p = c.before.before.before.before.before.before.before.before in
-    let t = p.before.before.before.before.before.before.before.pre in
+    let t = p.before.before.before.before.before.before.before.requires in
     record {
       lent = record {
         accepted = t.accepted;
         upper_fits = t.upper_fits;
-        low_long = p.range-parity.ensures.lows.toward.same ∙ t.low_long;
-        high_long = p.range-parity.ensures.highs.toward.same ∙ t.high_long;
-        room = omega (arith, t.room, p.range-parity.kept);
+        low_long = p.range_parity.ensures.lows.toward.same ∙ t.low_long;
+        high_long = p.range_parity.ensures.highs.toward.same ∙ t.high_long;
+        room = omega (arith, t.room, p.range_parity.auto);
       };
       parity = lit< tt;
     }
@@ -28,7 +28,7 @@ module _ (s : of.Tie.Start) where
       → o ≡ frame_end end (scene_of a.m (now a.samples) (now a.vectors)) (scene_of (raised a.m a.upper) (now a.samples) (now a.vectors))
   by_side end {o} e =
       let a = s.args in
-      subst (λ n. o ≡ frame_end end (scene_at n a.m (now a.samples) (now a.vectors)) (scene_at n (raised a.m a.upper) (now a.samples) (now a.vectors))) (sym (of_16 s.pre.accepted.side_is)) e
+      subst (λ n. o ≡ frame_end end (scene_at n a.m (now a.samples) (now a.vectors)) (scene_at n (raised a.m a.upper) (now a.samples) (now a.vectors))) (sym (of_16 s.requires.accepted.side_is)) e
 
 returns : of.Tie.Need-returns
 unfolding scene_at output_length
@@ -36,11 +36,11 @@ returns c =
     let q = c.before.before.before.before.before in
     let p = q.before.before.before.before.before.before.before.before.before in
     let s = p.before.before.before.before.before.before.before in
-    let high = s.pre.accepted.burst.allowed.high in
+    let high = s.requires.accepted.burst.allowed.high-1 in
     record {
-      low_is = by_side s low_sample (frame-whole low_sample _ _ high s.pre.low_long p.range-parity.ensures.lows q.range-parity2.ensures.lows);
-      high_is = by_side s high_sample (frame-whole high_sample _ _ high s.pre.high_long p.range-parity.ensures.highs q.range-parity2.ensures.highs);
+      low_is = by_side s low_sample (frame-whole low_sample _ _ high s.requires.low_long p.range_parity.ensures.lows q.range_parity-2.ensures.lows);
+      high_is = by_side s high_sample (frame-whole high_sample _ _ high s.requires.high_long p.range_parity.ensures.highs q.range_parity-2.ensures.highs);
     }
 
-pub range-frames-spec : {M : Type 1} → of.Statement.statement M
-range-frames-spec = of.Tie.close (of.Tie.spec range-parity-requires range-parity-requires-2 (λ c. search needs) (λ c. search needs) (λ c. search needs) returns)
+pub range_frames_spec : {M : Type 1} → of.Statement.statement M
+range_frames_spec = of.Tie.close (of.Tie.spec range-parity-requires range-parity-requires-2 (λ c. search rules) (λ c. search rules) (λ c. search rules) returns)

@@ -13,12 +13,12 @@ abbrev part : of.Tie.Start → ℕ → ℕ → ℤ
 part s = pair_p (now s.args.d) s.args.noises
 
 part-most : (s : of.Tie.Start) (y l : ℕ) → nat_abs (part s y l) ≤ correction_most
-part-most s y l = correction-most _ _ (λ y x. cells-most s.pre.differences y (2 * x + l % 2)) y (l / 2)
+part-most s y l = correction-most _ _ (λ y x. cells-most s.requires.differences y (2 * x + l % 2)) y (l / 2)
 
-add-corrections-requires : of.Tie.Need-add-corrections-requires
+add-corrections-requires : of.Tie.Need-add_corrections-requires
 unfolding grid tab
 add-corrections-requires c κs =
-    let p = c.before.pre in
+    let p = c.before.requires in
     record {
       differences = p.differences;
       first_most = p.lower_fits.first_most;
@@ -27,19 +27,19 @@ add-corrections-requires c κs =
       paired = paired-grid (λ y l. pos 0) refl;
     }
 
-add-pair-requires : of.Tie.Need-add-pair-requires
+add-pair-requires : of.Tie.Need-add_pair-requires
 unfolding grid tab
 add-pair-requires c κs =
     let a = c.before.before in
     let s = a.before.before in
-    record { part = added-most (part s) a.add-corrections.ensures correction_most (part-most s); sums = s.pre.greatests }
+    record { part = added-most (part s) a.add_corrections.ensures correction_most (part-most s); sums = s.requires.greatests }
 
-add-pair-requires-2 : of.Tie.Need-add-pair-requires-2
+add-pair-requires-2 : of.Tie.Need-add_pair-requires-2
 unfolding grid tab
 add-pair-requires-2 c κs =
     let a = c.before.before.before.before.before in
     let s = a.before.before in
-    record { part = added-most (part s) a.add-corrections.ensures correction_most (part-most s); sums = s.pre.leasts }
+    record { part = added-most (part s) a.add_corrections.ensures correction_most (part-most s); sums = s.requires.leasts }
 
 returns : of.Tie.Need-returns
 unfolding grid tab
@@ -49,11 +49,11 @@ returns c =
     let s = a.before.before in
     let d = now s.args.d in
     let v = s.args.noises in
-    let is = added_is (part s) a.add-corrections.ensures in
+    let is = added_is (part s) a.add_corrections.ensures in
     record {
-      greatest_is = g.add-pair.ensures ∙ is _ ∙ plus-ext _ _ _ (λ y l h k. greatest-equal d v y l);
-      least_is = c.add-pair2.ensures ∙ is _ ∙ plus-ext _ _ _ (λ y l h k. least-equal d v y l);
+      greatest_is = g.add_pair.ensures ∙ is _ ∙ plus-ext _ _ _ (λ y l h k. greatest-equal d v y l);
+      least_is = c.add_pair-2.ensures ∙ is _ ∙ plus-ext _ _ _ (λ y l h k. least-equal d v y l);
     }
 
-pub add-same-spec : {M : Type 1} → of.Statement.statement M
-add-same-spec = of.Tie.close (of.Tie.spec add-corrections-requires add-pair-requires add-pair-requires-2 returns)
+pub add_same_spec : {M : Type 1} → of.Statement.statement M
+add_same_spec = of.Tie.close (of.Tie.spec add-corrections-requires add-pair-requires add-pair-requires-2 returns)

@@ -1,13 +1,13 @@
 -- V of an r that is at most 65520.
-use Rattle.algebra.specs.Prelude.{needs}
+use Rattle.algebra.specs.Prelude.{rules}
 use Rattle.noise.specs.NoiseNumberLaws.{noise-number-bound}
 use Rattle.range_tiles.proofs.noises as of
 
 returns : of.Tie.Need-returns
 returns c =
-    let p = c.before.before.pre in
-    let e = c.before.noise-number.ensures.0 in
-    let f = c.noise-number2.ensures.0 in
+    let p = c.before.before.requires in
+    let e = c.before.noise_number-a.ensures.0 in
+    let f = c.noise_number-b.ensures.0 in
     record {
       first_is = e;
       second_is = f;
@@ -17,5 +17,5 @@ returns c =
       };
     }
 
-pub noises-spec : {M : Type 1} → of.Statement.statement M
-noises-spec = of.Tie.close (of.Tie.spec (λ c κs. search needs) (λ c κs. search needs) returns)
+pub noises_spec : {M : Type 1} → of.Statement.statement M
+noises_spec = of.Tie.close (of.Tie.spec (λ c κs. search rules) (λ c κs. search rules) returns)

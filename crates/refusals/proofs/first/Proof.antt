@@ -1,16 +1,16 @@
 -- The tests from i on say what all of them say: those before i are 0.
-use Rattle.algebra.specs.Prelude.{◌≡◌, refl, sym, ◌∙◌, List, ℕ, zero, suc, ◌+◌, ◌-◌, ◌≤◌, ◌<◌, arith, needs, length, get_or, drop}
+use Rattle.algebra.specs.Prelude.{◌≡◌, refl, sym, ◌∙◌, List, ℕ, zero, suc, ◌+◌, ◌-◌, ◌≤◌, ◌<◌, arith, rules, length, get_or, drop}
 use native.Mathlib.Numerals.{add-one}
 use lib.ListN.{drop_of_length-le}
 use lib.Seq.{drop-cons}
 use Rattle.refusals.specs.Tests.{◌before◌, first}
 use Rattle.refusals.proofs.first as of
 
-abbrev Inv-loop : of.Tie.InvT-loop
-Inv-loop tests i₀ i = first (drop i tests) ≡ first tests
+abbrev invariant-loop-i : of.Tie.invariant-loop-i
+invariant-loop-i tests i₀ i = first (drop i tests) ≡ first tests
 
-abbrev μ-loop : of.Tie.MeasureT-loop
-μ-loop tests i₀ i = length tests - i
+abbrev decreases-loop-i : of.Tie.decreases-loop-i
+decreases-loop-i tests i₀ i = length tests - i
 
 module _ (tests : List ℕ) (i : ℕ) where
   next : i < length tests → first (drop i tests) ≡ get_or tests i 0 before first (drop (i + 1) tests)
@@ -32,15 +32,15 @@ module _ (tests : List ℕ) (i : ℕ) where
   unfolding first
   accepts l e = sym (rw (drop_of_length-le tests l)) ∙ e
 
-returns : of.Tie.Need-returns Inv-loop μ-loop
-returns c = let at = c.before.before.before.before in refuses at.before.args.tests.now at.loop.i (omega arith) c.before.if1.taken at.loop.inv
+returns : of.Tie.Need-returns-then-tests-i-ne0 invariant-loop-i decreases-loop-i
+returns c = let at = c.before.before.before.before in refuses at.before.args.tests.now at.loop-i.i (omega arith) c.before.if-tests-i-ne0.true at.loop-i.invariant
 
-loop-again : of.Tie.Need-loop-again Inv-loop μ-loop
-loop-again c = let at = c.before.before.before in goes at.before.args.tests.now at.loop.i (omega arith) c.if1.left at.loop.inv
+loop-again : of.Tie.Need-loop-i-preserved invariant-loop-i decreases-loop-i
+loop-again c = let at = c.before.before.before in goes at.before.args.tests.now at.loop-i.i (omega arith) c.if-tests-i-ne0.false at.loop-i.invariant
 
-returns-2 : of.Tie.Need-returns-2 Inv-loop μ-loop
-returns-2 c = let at = c.before in accepts at.before.args.tests.now at.loop.i (omega arith) at.loop.inv
+returns-2 : of.Tie.Need-returns invariant-loop-i decreases-loop-i
+returns-2 c = let at = c.before in accepts at.before.args.tests.now at.loop-i.i (omega arith) at.loop-i.invariant
 
 pub first_spec : {M : Type 1} → of.Statement.statement M
 first_spec = of.Tie.close (of.Tie.spec
-    Inv-loop μ-loop (λ c. refl) (λ c. search needs) (λ c. search needs) (λ c. search needs) (λ c. search needs) returns (λ c. search needs) (λ c. search needs) loop-again returns-2)
+    invariant-loop-i decreases-loop-i (λ c. refl) (λ c. search rules) (λ c. search rules) (λ c. search rules) (λ c. search rules) returns (λ c. search rules) (λ c. search rules) loop-again returns-2)

@@ -12,31 +12,31 @@ module _ {z : ℤ} (f : SFits w32 z) where
   minus-fits : SFits w64 (pos 0 -ℤ z)
   minus-fits = neg-fits w64 z 0 (2 ^ 31) (record { most = abs-sfits z f }) tt
 
-cast-wide : of.Tie.Need-cast-wide
-cast-wide c = rw (to_z-of_z c.fits.part) (widen-fits c.args.part c.fits.part)
+cast-wide : of.Tie.Need-overflow_cast-wide
+cast-wide c = rw (to_z-of_z c.ranges.part) (widen-fits c.args.part c.ranges.part)
 
-sub-result : of.Tie.Need-sub-result
-sub-result c = rw (wide c.before.fits.part) (minus-fits c.before.fits.part)
+sub-result : of.Tie.Need-overflow_sub-result
+sub-result c = rw (wide c.before.ranges.part) (minus-fits c.before.ranges.part)
 
-cast-result : of.Tie.Need-cast-result
+cast-result : of.Tie.Need-overflow_cast-result
 cast-result c =
     let z = c.before.args.part in
-    let f = c.before.fits.part in
+    let f = c.before.ranges.part in
     rw (wide f, to_z-of_z (minus-fits f), zero_minus)
-    (below-zero z (rw (wide f) at c.if1.taken), abs-fits w64 w64 (neg_ℤ z) tt (rw zero_minus at (minus-fits f)))
+    (below-zero z (rw (wide f) at c.if-wide-lt0.true), abs-fits w64 w64 (neg_ℤ z) tt (rw zero_minus at (minus-fits f)))
 
-returns : of.Tie.Need-returns
+returns : of.Tie.Need-returns-then-wide-lt0
 returns c =
-    let f = c.before.fits.part in
+    let f = c.before.ranges.part in
     rw (wide f, to_z-of_z (minus-fits f), zero_minus) (abs_neg c.before.args.part)
 
-cast-result-2 : of.Tie.Need-cast-result-2
+cast-result-2 : of.Tie.Need-overflow_cast-result-2
 cast-result-2 c =
     let z = c.before.args.part in
-    let f = c.before.fits.part in
-    rw (wide f) (from_zero z (rw (wide f) at c.if1.left), abs-fits w64 w64 z tt (widen-fits z f))
+    let f = c.before.ranges.part in
+    rw (wide f) (from_zero z (rw (wide f) at c.if-wide-lt0.false), abs-fits w64 w64 z tt (widen-fits z f))
 
-pub magnitude-spec : {M : Type 1} → of.Statement.statement M
-magnitude-spec = of.Tie.close (of.Tie.spec
+pub magnitude_spec : {M : Type 1} → of.Statement.statement M
+magnitude_spec = of.Tie.close (of.Tie.spec
     cast-wide sub-result cast-result returns cast-result-2
-    (λ c. ap nat_abs (wide c.before.fits.part)))
+    (λ c. ap nat_abs (wide c.before.ranges.part)))

@@ -9,7 +9,7 @@ unchanged a m h =
     ap (bit_xor a) e ∙ xor_zero_r a
 
 returns : of.Tie.Need-returns
-returns c = unchanged c.args.a c.args.m c.pre
+returns c = unchanged c.args.a c.args.m c.requires
 
-pub long-spec : {M : Type 1} → of.Statement.statement M
-long-spec = of.Tie.close (of.Tie.spec returns)
+pub long_spec : {M : Type 1} → of.Statement.statement M
+long_spec = of.Tie.close (of.Tie.spec returns)

@@ -3,8 +3,8 @@ use Rattle.algebra.specs.Prelude.{lit<}
 use Rattle.rounding.proofs.Shifts.{raised-fits, moved-fits, shifted}
 use Rattle.rounding.proofs.round_away_31 as of
 
-pub round-away-31-spec : {M : Type 1} → of.Statement.statement M
-round-away-31-spec = of.Tie.close (of.Tie.spec
-    (λ c. raised-fits c.args.z c.fits.z c.pre 1073741824 tt)
-    (λ c. moved-fits c.args.z c.fits.z c.pre 1073741824 tt)
-    (λ c. shifted c.args.z c.fits.z c.pre 1073741824 (lit< tt) tt))
+pub round_away_31_spec : {M : Type 1} → of.Statement.statement M
+round_away_31_spec = of.Tie.close (of.Tie.spec
+    (λ c. raised-fits c.args.z c.ranges.z c.requires 1073741824 tt)
+    (λ c. moved-fits c.args.z c.ranges.z c.requires 1073741824 tt)
+    (λ c. shifted c.args.z c.ranges.z c.requires 1073741824 (lit< tt) tt))

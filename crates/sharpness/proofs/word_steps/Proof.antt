@@ -1,5 +1,5 @@
 -- Three samples, and the two steps from the first, by definition.
-use Rattle.algebra.specs.Prelude.{ap₂, ◌∙◌, ◌+◌, arith, needs}
+use Rattle.algebra.specs.Prelude.{ap₂, ◌∙◌, ◌+◌, arith, rules}
 use Rattle.sharpness.specs.Sharpness.{step}
 use Rattle.sharpness.specs.Words.{word_steps}
 use Rattle.sharpness.proofs.word_steps as of
@@ -11,12 +11,12 @@ returns c =
     let below = to-right.before in
     let right = below.before in
     let here = right.before in (
-      ap₂ ◌+◌ (to-right.step.ensures ∙ ap₂ step here.sample.ensures.0 right.sample2.ensures.0) (c.step2.ensures ∙ ap₂ step here.sample.ensures.0 below.sample3.ensures.0),
+      ap₂ ◌+◌ (to-right.step.ensures ∙ ap₂ step here.sample-here.ensures.0 right.sample-right.ensures.0) (c.step-2.ensures ∙ ap₂ step here.sample-here.ensures.0 below.sample-below.ensures.0),
       omega arith,
     )
 
-pub word-steps-spec : {M : Type 1} → of.Statement.statement M
-word-steps-spec = of.Tie.close (of.Tie.spec
-    (λ c. search needs) (λ c κs. search needs) (λ c. search needs) (λ c. search needs) (λ c κs. search needs)
-    (λ c. search needs) (λ c. search needs) (λ c κs. search needs) (λ c κs. search needs) (λ c κs. search needs)
-    (λ c. search needs) returns)
+pub word_steps_spec : {M : Type 1} → of.Statement.statement M
+word_steps_spec = of.Tie.close (of.Tie.spec
+    (λ c. search rules) (λ c κs. search rules) (λ c. search rules) (λ c. search rules) (λ c κs. search rules)
+    (λ c. search rules) (λ c. search rules) (λ c κs. search rules) (λ c κs. search rules) (λ c κs. search rules)
+    (λ c. search rules) returns)

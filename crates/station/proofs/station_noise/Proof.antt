@@ -14,48 +14,48 @@ use Rattle.station.proofs.Answers.{refused, too-strong, other-side, too-bright, 
 use Rattle.station.proofs.station_noise as of
 
 -- the levels that the match bound are the curve's
-bound : (c : of.Tie.After-ls) → let a = c.before.before.before.args in
-    levels_of (Measured (record { shot = a.shot; read = a.read })) ≡ Found c.ls.given.0.0 c.ls.given.0.1.0
-bound c = sym c.before.before.levels-of.ensures ∙ c.ls.given.1
+bound : (c : of.Tie.In-Found-2) → let a = c.before.before.before.args in
+    levels_of (Measured (record { shot = a.shot; read = a.read })) ≡ Found c.ls-1.given.0.0 c.ls-1.given.0.1.0
+bound c = sym c.before.before.levels_of.ensures ∙ c.ls-1.given.1
 
-asked : (c : of.Tie.After-ls) → let a = c.before.before.before.args in
-    noise_answer (Found c.ls.given.0.0 c.ls.given.0.1.0) a.strength a.root a.side ≡ noise_question a.shot a.read a.strength a.root a.side
+asked : (c : of.Tie.In-Found-2) → let a = c.before.before.before.args in
+    noise_answer (Found c.ls-1.given.0.0 c.ls-1.given.0.1.0) a.strength a.root a.side ≡ noise_question a.shot a.read a.strength a.root a.side
 unfolding noise_question
 asked c = let a = c.before.before.before.args in ap (λ l. noise_answer l a.strength a.root a.side) (sym (bound c))
 
-passed : (c : of.Tie.Else1) → strength_refusal c.before.before.before.before.before.before.args.strength ≡ 0
-passed c = sym c.before.strength-refusal.ensures ∙ c.if1.false
+passed : (c : of.Tie.Else-strength_refusal-ne0) → strength_refusal c.before.before.before.before.before.before.args.strength ≡ 0
+passed c = sym c.before.strength_refusal.ensures ∙ c.if-strength_refusal-ne0.false
 
-returns : of.Tie.Need-returns
+returns : of.Tie.Need-returns-then-strength_refusal-ne0
 returns c =
     let told = c.before.before.before in
-    too-strong _ _ _ _ _ (λ e. c.if1.true (c.before.strength-refusal.ensures ∙ e)) ∙ asked told
+    too-strong _ _ _ _ _ (λ e. c.if-strength_refusal-ne0.true (c.before.strength_refusal.ensures ∙ e)) ∙ asked told
 
-sided : (c : of.Tie.Else2) → side_allowed c.before.before.before.before.before.before.before.before.args.side ≡ true
-sided c = taken-side _ _ c.before.side-allowed.ensures c.if2.false
+sided : (c : of.Tie.Else-not-side_allowed) → side_allowed c.before.before.before.before.before.before.before.before.args.side ≡ true
+sided c = taken-side _ _ c.before.side_allowed.ensures c.if-not-side_allowed.false
   where
     taken-side : (b : Bool) (side : ℕ) → b ≡ side_allowed side → not b ≡ false → side_allowed side ≡ true
     taken-side true side e h = sym e
     taken-side false side e h = absurd (true≢false h)
 
-returns-2 : of.Tie.Need-returns-2
+returns-2 : of.Tie.Need-returns-then-not-side_allowed
 returns-2 c =
     let told = c.before.before.before.before.before in
-    other-side _ _ _ _ _ (passed c.before.before) (refused-side _ _ c.before.side-allowed.ensures c.if2.true) ∙ asked told
+    other-side _ _ _ _ _ (passed c.before.before) (refused-side _ _ c.before.side_allowed.ensures c.if-not-side_allowed.true) ∙ asked told
   where
     refused-side : (b : Bool) (side : ℕ) → b ≡ side_allowed side → not b ≡ true → side_allowed side ≡ false
     refused-side true side e h = absurd (true≢false (sym h))
     refused-side false side e h = sym e
 
-mul-if3 : of.Tie.Need-mul-if3
+mul-if3 : of.Tie.Need-overflow_mul-side
 mul-if3 c = let m = side-most _ (sided c) in omega (arith, m)
 
-returns-3 : of.Tie.Need-returns-3
+returns-3 : of.Tie.Need-returns-then-side-root
 returns-3 c =
     let told = c.before.before.before.before.before.before in
-    too-bright _ _ _ _ _ (passed c.before.before.before) (sided c.before) c.if3.true ∙ asked told
+    too-bright _ _ _ _ _ (passed c.before.before.before) (sided c.before) c.if-side-root.true ∙ asked told
 
-side-noise-number-requires : of.Tie.Need-side-noise-number-requires
+side-noise-number-requires : of.Tie.Need-side_noise_number-requires
 side-noise-number-requires c κs =
     let told = c.before.before.before.before.before.before in
     let a = told.before.before.before.args in
@@ -65,21 +65,21 @@ side-noise-number-requires c κs =
       strength = strength_most _ (passed c.before.before.before);
       shot = subst (λ l. shot_level l ≤ 65536) (bound told) (shot-level-bound curve);
       read = subst (λ l. read_level l ≤ 4194304) (bound told) (read-level-bound curve);
-      root = omega (arith, c.if3.false, m);
+      root = omega (arith, c.if-side-root.false, m);
     }
 
-returns-4 : of.Tie.Need-returns-4
+returns-4 : of.Tie.Need-returns-in-Refused
 unfolding noise_question
 returns-4 c =
     let a = c.before.before.before.args in
-    refused _ _ _ _ ∙ ap (λ l. noise_answer l a.strength a.root a.side) (sym c.enum_told.given.1 ∙ c.before.before.levels-of.ensures)
+    refused _ _ _ _ ∙ ap (λ l. noise_answer l a.strength a.root a.side) (sym c.enum_told-1.given.1 ∙ c.before.before.levels_of.ensures)
 
-returns-5 : of.Tie.Need-returns-5
+returns-5 : of.Tie.Need-returns-else-side-root
 returns-5 c =
     let told = c.before.before.before.before.before.before.before in
-    c.side-noise-number.ensures.0 ∙ numbered _ _ _ _ _ (passed c.before.before.before.before) (sided c.before.before) c.before.if3.false ∙ asked told
+    c.side_noise_number.ensures.0 ∙ numbered _ _ _ _ _ (passed c.before.before.before.before) (sided c.before.before) c.before.if-side-root.false ∙ asked told
 
-pub station-noise-spec : {M : Type 1} → of.Statement.statement M
-station-noise-spec = of.Tie.close (of.Tie.spec
+pub station_noise_spec : {M : Type 1} → of.Statement.statement M
+station_noise_spec = of.Tie.close (of.Tie.spec
     (λ c κs. search rules) (λ c. search rules) (λ c. search rules) (λ c κs. search rules) returns
     (λ c κs. search rules) returns-2 (λ c. search rules) mul-if3 returns-3 side-noise-number-requires returns-4 returns-5)

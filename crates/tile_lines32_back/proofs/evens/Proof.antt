@@ -1,29 +1,29 @@
 -- `tile_lines32_back::evens`: the even places of both rows are stored by twos.
-use Rattle.algebra.specs.Prelude.{refl, ◌∙◌, ◌-◌, ◌*◌, arith, needs, now}
+use Rattle.algebra.specs.Prelude.{refl, ◌∙◌, ◌-◌, ◌*◌, arith, rules, now}
 use Rattle.sequences.specs.TabLaws.{Filled, fill_start, fill_done}
 use Rattle.tile_lines32_back.proofs.BothHalves.{first_two, twos-turn, first-at, second_at, first-two}
 use Rattle.tile_lines32_back.proofs.evens as of
 
-abbrev Inv-loop : of.Tie.InvT-loop
-Inv-loop h r₀ k₀ r k = Filled (first_two h) 32 (2 * k) r₀ r
+abbrev invariant-loop-k : of.Tie.invariant-loop-k
+invariant-loop-k h r₀ k₀ r k = Filled (first_two h) 32 (2 * k) r₀ r
 
-abbrev μ-loop : of.Tie.MeasureT-loop
-μ-loop h r₀ k₀ r k = 16 - k
+abbrev decreases-loop-k : of.Tie.decreases-loop-k
+decreases-loop-k h r₀ k₀ r k = 16 - k
 
-loop-again : of.Tie.Need-loop-again Inv-loop μ-loop
+loop-again : of.Tie.Need-loop-k-preserved invariant-loop-k decreases-loop-k
 loop-again c =
     let t = c.before.before in
     let l = t.before in
     let h = now l.before.args.h in
-    twos-turn l.loop.inv t.loop-test.taken (first-at h l.loop.k) (second_at h l.loop.k)
+    twos-turn l.loop-k.invariant t.loop-k-test.true (first-at h l.loop-k.k) (second_at h l.loop-k.k)
 
-returns : of.Tie.Need-returns Inv-loop μ-loop
-returns c z most e = fill_done c.before.loop.inv (omega arith) ∙ first-two z e
+returns : of.Tie.Need-returns invariant-loop-k decreases-loop-k
+returns c z most e = fill_done c.before.loop-k.invariant (omega arith) ∙ first-two z e
 
-pub evens-spec : {M : Type 1} → of.Statement.statement M
-evens-spec = of.Tie.close (of.Tie.spec
-    Inv-loop μ-loop (λ c. fill_start refl)
-    (λ c. search needs) (λ c. search needs) (λ c. search needs) (λ c. search needs) (λ c. search needs) (λ c. search needs)
-    (λ c. search needs) (λ c. search needs) (λ c. search needs) (λ c. search needs) (λ c. search needs) (λ c. search needs)
-    (λ c. search needs) (λ c. search needs) (λ c. search needs) (λ c. search needs)
+pub evens_spec : {M : Type 1} → of.Statement.statement M
+evens_spec = of.Tie.close (of.Tie.spec
+    invariant-loop-k decreases-loop-k (λ c. fill_start refl)
+    (λ c. search rules) (λ c. search rules) (λ c. search rules) (λ c. search rules) (λ c. search rules) (λ c. search rules)
+    (λ c. search rules) (λ c. search rules) (λ c. search rules) (λ c. search rules) (λ c. search rules) (λ c. search rules)
+    (λ c. search rules) (λ c. search rules) (λ c. search rules) (λ c. search rules)
     loop-again returns)

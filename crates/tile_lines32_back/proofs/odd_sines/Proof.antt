@@ -1,5 +1,5 @@
 -- `tile_lines32_back::odd_sines`: the imaginary parts at odd numbers, by computed tests.
-use Rattle.tile_lines32_back.specs.Prelude.{refl, ap, ◌∙◌, cond, List, [], ◌∷◌, ◌+◌, ◌*◌, needs, T, ltb, get_or, pos, Float, nan, binary64, of_bits, of_int, Expr, sum_z, same, tab, Form, cos_at, cosines32, cosine32, side32, half_z, frequency_of, phase_of, basis_of}
+use Rattle.tile_lines32_back.specs.Prelude.{refl, ap, ◌∙◌, cond, List, [], ◌∷◌, ◌+◌, ◌*◌, rules, T, ltb, get_or, pos, Float, nan, binary64, of_bits, of_int, Expr, sum_z, same, tab, Form, cos_at, cosines32, cosine32, side32, half_z, frequency_of, phase_of, basis_of}
 use Rattle.tile_spectrum.specs.Lines.DoubleForms.{floats, exprs, forms-are}
 use Rattle.tile_spectrum.specs.Lines.Program.{arg, ◌⊕◌, ◌⊖◌, minus, ◌⊗◌, ◌>>=◌, give, double_forms}
 use Rattle.tile_lines32_back.specs.Parts.{part_basis, sine_part}
@@ -31,8 +31,8 @@ returns : of.Tie.Need-returns
 unfolding tab sum_z sine_part part_basis half_z basis_of frequency_of phase_of cos_at side32 cosine32 cosines32 of_bits of_int
 returns c z most e = ap read e ∙ forms-are 16 z most refl results sums tt sums_same
 
-pub odd-sines-spec : {M : Type 1} → of.Statement.statement M
-odd-sines-spec = of.Tie.close (of.Tie.spec
-    (λ c. search needs) (λ c. search needs) (λ c. search needs) (λ c. search needs) (λ c. search needs) (λ c. search needs)
-    (λ c. search needs) (λ c. search needs)
+pub odd_sines_spec : {M : Type 1} → of.Statement.statement M
+odd_sines_spec = of.Tie.close (of.Tie.spec
+    (λ c. search rules) (λ c. search rules) (λ c. search rules) (λ c. search rules) (λ c. search rules) (λ c. search rules)
+    (λ c. search rules) (λ c. search rules)
     returns)

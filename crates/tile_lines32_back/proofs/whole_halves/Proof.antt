@@ -1,5 +1,5 @@
 -- `tile_lines32_back::whole_halves`: both halves of two rows from the sums of their even and of their odd places.
-use Rattle.algebra.specs.Prelude.{ap₂, ◌∙◌, ◌+◌, ◌-◌, ◌*◌, ◌/◌, ◌%◌, arith, needs, get_or, pos, ◌+ℤ◌, ◌-ℤ◌, w64, to_z-of_z}
+use Rattle.algebra.specs.Prelude.{ap₂, ◌∙◌, ◌+◌, ◌-◌, ◌*◌, ◌/◌, ◌%◌, arith, rules, get_or, pos, ◌+ℤ◌, ◌-ℤ◌, w64, to_z-of_z}
 use Rattle.algebra.specs.Bound.{add-fits, sub-fits}
 use Rattle.tile_lines32_back.specs.Prelude.{side32, half_sum_of}
 use Rattle.tile_spectrum.specs.Lines.Held.{held-is, held-most}
@@ -7,68 +7,68 @@ use Rattle.tile_lines32_back.proofs.BothHalves.{Both, both-start, both-turn, bot
 use Rattle.tile_lines32_back.proofs.WholeParts.{evens_row, even-sums-most, odd-sums-most, whole-low, whole-high}
 use Rattle.tile_lines32_back.proofs.whole_halves as of
 
-abbrev Inv-loop : of.Tie.InvT-loop
-Inv-loop h x₀ s t l₀ x l = Both (pos 0) (λ l. get_or s l (pos 0) +ℤ get_or t l (pos 0)) (λ l. get_or s l (pos 0) -ℤ get_or t l (pos 0)) 32 l x
+abbrev invariant-loop-l : of.Tie.invariant-loop-l
+invariant-loop-l h x₀ s t l₀ x l = Both (pos 0) (λ l. get_or s l (pos 0) +ℤ get_or t l (pos 0)) (λ l. get_or s l (pos 0) -ℤ get_or t l (pos 0)) 32 l x
 
-abbrev μ-loop : of.Tie.MeasureT-loop
-μ-loop h x₀ s t l₀ x l = 32 - l
+abbrev decreases-loop-l : of.Tie.decreases-loop-l
+decreases-loop-l h x₀ s t l₀ x l = 32 - l
 
-whole-halves-of-requires : of.Tie.Need-whole-halves-of-requires Inv-loop μ-loop
-whole-halves-of-requires c κs = let e = c.before in let w = e.before.pre.0 in evens_row w.number w.most (e.evens.ensures w.number w.most w.is)
+whole-halves-of-requires : of.Tie.Need-whole_halves_of-a-requires invariant-loop-l decreases-loop-l
+whole-halves-of-requires c κs = let e = c.before in let w = e.before.requires.0 in evens_row w.number w.most (e.evens-e.ensures w.number w.most w.is)
 
-whole-odds-requires : of.Tie.Need-whole-odds-requires Inv-loop μ-loop
-whole-odds-requires c κs = c.before.before.before.pre.0
+whole-odds-requires : of.Tie.Need-whole_odds-b-requires invariant-loop-l decreases-loop-l
+whole-odds-requires c κs = c.before.before.before.requires.0
 
-add-x : of.Tie.Need-add-x Inv-loop μ-loop
+add-x : of.Tie.Need-overflow_add-x invariant-loop-l decreases-loop-l
 add-x c =
     let k = c.before.before in
     let t = k.before.before in
     let s = t.before in
     let e = s.before.before in
-    let w = e.before.pre.0 in
-    let p = s.whole-halves-of.ensures (evens_row w.number w.most (e.evens.ensures w.number w.most w.is)) in
-    let q = t.whole-odds.ensures w in
-    add-fits w64 _ _ _ _ (held-most w64 (even-sums-most w.number w.most p q) k.before.loop.l tt) (held-most w64 (odd-sums-most w.number w.most p q) k.before.loop.l tt) tt
+    let w = e.before.requires.0 in
+    let p = s.whole_halves_of-a.ensures (evens_row w.number w.most (e.evens-e.ensures w.number w.most w.is)) in
+    let q = t.whole_odds-b.ensures w in
+    add-fits w64 _ _ _ _ (held-most w64 (even-sums-most w.number w.most p q) k.before.loop-l.l tt) (held-most w64 (odd-sums-most w.number w.most p q) k.before.loop-l.l tt) tt
 
-sub-x : of.Tie.Need-sub-x Inv-loop μ-loop
+sub-x : of.Tie.Need-overflow_sub-x invariant-loop-l decreases-loop-l
 sub-x c =
     let k = c.before.before.before.before in
     let t = k.before.before in
     let s = t.before in
     let e = s.before.before in
-    let w = e.before.pre.0 in
-    let p = s.whole-halves-of.ensures (evens_row w.number w.most (e.evens.ensures w.number w.most w.is)) in
-    let q = t.whole-odds.ensures w in
-    sub-fits w64 _ _ _ _ (held-most w64 (even-sums-most w.number w.most p q) k.before.loop.l tt) (held-most w64 (odd-sums-most w.number w.most p q) k.before.loop.l tt) tt
+    let w = e.before.requires.0 in
+    let p = s.whole_halves_of-a.ensures (evens_row w.number w.most (e.evens-e.ensures w.number w.most w.is)) in
+    let q = t.whole_odds-b.ensures w in
+    sub-fits w64 _ _ _ _ (held-most w64 (even-sums-most w.number w.most p q) k.before.loop-l.l tt) (held-most w64 (odd-sums-most w.number w.most p q) k.before.loop-l.l tt) tt
 
-loop-again : of.Tie.Need-loop-again Inv-loop μ-loop
+loop-again : of.Tie.Need-loop-l-preserved invariant-loop-l decreases-loop-l
 loop-again c =
     let k = c.before.before.before.before in
     let t = k.before.before in
     let s = t.before in
     let e = s.before.before in
-    let w = e.before.pre.0 in
-    let p = s.whole-halves-of.ensures (evens_row w.number w.most (e.evens.ensures w.number w.most w.is)) in
-    let q = t.whole-odds.ensures w in
+    let w = e.before.requires.0 in
+    let p = s.whole_halves_of-a.ensures (evens_row w.number w.most (e.evens-e.ensures w.number w.most w.is)) in
+    let q = t.whole_odds-b.ensures w in
     let m = even-sums-most w.number w.most p q in
     let n = odd-sums-most w.number w.most p q in
-    let l = k.before.loop.l in
-    both-turn k.before.loop.inv k.loop-test.taken
+    let l = k.before.loop-l.l in
+    both-turn k.before.loop-l.invariant k.loop-l-test.true
     (to_z-of_z (add-fits w64 _ _ _ _ (held-most w64 m l tt) (held-most w64 n l tt) tt) ∙ ap₂ ◌+ℤ◌ (held-is w64 m l tt) (held-is w64 n l tt))
     (to_z-of_z (sub-fits w64 _ _ _ _ (held-most w64 m l tt) (held-most w64 n l tt) tt) ∙ ap₂ ◌-ℤ◌ (held-is w64 m l tt) (held-is w64 n l tt))
 
-returns : of.Tie.Need-returns Inv-loop μ-loop
+returns : of.Tie.Need-returns invariant-loop-l decreases-loop-l
 returns c w =
     let t = c.before.before in
     let s = t.before in
     let e = s.before.before in
-    let p = s.whole-halves-of.ensures (evens_row w.number w.most (e.evens.ensures w.number w.most w.is)) in
-    let q = t.whole-odds.ensures w in
-    both-done c.before.loop.inv (omega arith) (λ l. half_sum_of side32 (λ k. w.number (2 * k + l % 2)) (l / 2)) (whole-low w.number w.most p q) (whole-high w.number w.most p q)
+    let p = s.whole_halves_of-a.ensures (evens_row w.number w.most (e.evens-e.ensures w.number w.most w.is)) in
+    let q = t.whole_odds-b.ensures w in
+    both-done c.before.loop-l.invariant (omega arith) (λ l. half_sum_of side32 (λ k. w.number (2 * k + l % 2)) (l / 2)) (whole-low w.number w.most p q) (whole-high w.number w.most p q)
 
-pub whole-halves-spec : {M : Type 1} → of.Statement.statement M
-whole-halves-spec = of.Tie.close (of.Tie.spec
-    Inv-loop μ-loop (λ c κs. search needs) whole-halves-of-requires whole-odds-requires (λ c. both-start (omega arith))
-    (λ c. search needs) (λ c. search needs) (λ c. search needs) (λ c. search needs) add-x (λ c. search needs) (λ c. search needs)
-    (λ c. search needs) (λ c. search needs) (λ c. search needs) (λ c. search needs) sub-x (λ c. search needs) (λ c. search needs)
-    (λ c. search needs) (λ c. search needs) (λ c. search needs) loop-again returns)
+pub whole_halves_spec : {M : Type 1} → of.Statement.statement M
+whole_halves_spec = of.Tie.close (of.Tie.spec
+    invariant-loop-l decreases-loop-l (λ c κs. search rules) whole-halves-of-requires whole-odds-requires (λ c. both-start (omega arith))
+    (λ c. search rules) (λ c. search rules) (λ c. search rules) (λ c. search rules) add-x (λ c. search rules) (λ c. search rules)
+    (λ c. search rules) (λ c. search rules) (λ c. search rules) (λ c. search rules) sub-x (λ c. search rules) (λ c. search rules)
+    (λ c. search rules) (λ c. search rules) (λ c. search rules) loop-again returns)

@@ -1,5 +1,5 @@
 -- `tile_lines32_double::even_sines`: the even numbers' part of the imaginary parts, by computed tests.
-use Rattle.tile_lines32_double.specs.Prelude.{List, [], ◌∷◌, ◌+◌, ◌*◌, needs, of_bits, of_int, sum_z, tab, Form, cos_at, cosines32, cosine32, side32, frequency_of, phase_of, basis_of, folded_of, every_second}
+use Rattle.tile_lines32_double.specs.Prelude.{List, [], ◌∷◌, ◌+◌, ◌*◌, rules, of_bits, of_int, sum_z, tab, Form, cos_at, cosines32, cosine32, side32, frequency_of, phase_of, basis_of, folded_of, every_second}
 use Rattle.tile_spectrum.specs.Lines.Program.{arg, ◌⊕◌, ◌⊖◌, minus, ◌⊗◌, ◌>>=◌, give, double_forms}
 use Rattle.tile_lines32_double.proofs.FourParts.{part_e, line-are}
 use Rattle.tile_lines32_double.proofs.even_sines as of
@@ -18,12 +18,12 @@ returns : of.Tie.Need-returns
 unfolding tab sum_z folded_of every_second basis_of frequency_of phase_of cos_at side32 cosine32 cosines32 of_bits of_int
 returns c z most e =
     let s = c.before.before.before.before.before.before.before in
-    line-are s.args.p s.pre z most e results (tab 4 (λ i. part_e 0 (2 * i + 17))) tt tt
+    line-are s.args.p s.requires z most e results (tab 4 (λ i. part_e 0 (2 * i + 17))) tt tt
 
-pub even-sines-spec : {M : Type 1} → of.Statement.statement M
-even-sines-spec = of.Tie.close (of.Tie.spec
-    (λ c. search needs) (λ c. search needs) (λ c. search needs) (λ c. search needs) (λ c. search needs) (λ c. search needs)
-    (λ c. search needs) (λ c. search needs) (λ c. search needs) (λ c. search needs) (λ c. search needs) (λ c. search needs)
-    (λ c. search needs) (λ c. search needs) (λ c. search needs) (λ c. search needs) (λ c. search needs) (λ c. search needs)
-    (λ c. search needs) (λ c. search needs) (λ c. search needs)
+pub even_sines_spec : {M : Type 1} → of.Statement.statement M
+even_sines_spec = of.Tie.close (of.Tie.spec
+    (λ c. search rules) (λ c. search rules) (λ c. search rules) (λ c. search rules) (λ c. search rules) (λ c. search rules)
+    (λ c. search rules) (λ c. search rules) (λ c. search rules) (λ c. search rules) (λ c. search rules) (λ c. search rules)
+    (λ c. search rules) (λ c. search rules) (λ c. search rules) (λ c. search rules) (λ c. search rules) (λ c. search rules)
+    (λ c. search rules) (λ c. search rules) (λ c. search rules)
     returns)

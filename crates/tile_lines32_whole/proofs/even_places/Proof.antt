@@ -1,30 +1,30 @@
 -- `tile_lines32_whole::even_places`: the places are stored by twos.
-use Rattle.algebra.specs.Prelude.{refl, ◌∙◌, ◌-◌, ◌*◌, arith, needs}
+use Rattle.algebra.specs.Prelude.{refl, ◌∙◌, ◌-◌, ◌*◌, arith, rules}
 use Rattle.sequences.specs.TabLaws.{Filled, fill_start, fill_done}
 use Rattle.tile_spectrum.specs.Lines.WholeFolds.{placed, placed-turn, placed-is}
 use Rattle.tile_lines32_whole.proofs.even_places as of
 
-abbrev Inv-loop : of.Tie.InvT-loop
-Inv-loop s e o r₀ k₀ r k = Filled (placed e o) 16 (2 * k) r₀ r
+abbrev invariant-loop-k : of.Tie.invariant-loop-k
+invariant-loop-k s e o r₀ k₀ r k = Filled (placed e o) 16 (2 * k) r₀ r
 
-abbrev μ-loop : of.Tie.MeasureT-loop
-μ-loop s e o r₀ k₀ r k = 8 - k
+abbrev decreases-loop-k : of.Tie.decreases-loop-k
+decreases-loop-k s e o r₀ k₀ r k = 8 - k
 
-loop-again : of.Tie.Need-loop-again Inv-loop μ-loop
+loop-again : of.Tie.Need-loop-k-preserved invariant-loop-k decreases-loop-k
 loop-again c =
     let t = c.before.before in
     let l = t.before in
     let o = l.before in
-    placed-turn o.before.first-places.result o.second-places.result 8 l.loop.inv t.loop-test.taken (search needs) (search needs)
+    placed-turn o.before.first_places-e.result o.second_places-o.result 8 l.loop-k.invariant t.loop-k-test.true (search rules) (search rules)
 
-returns : of.Tie.Need-returns Inv-loop μ-loop
+returns : of.Tie.Need-returns invariant-loop-k decreases-loop-k
 returns c =
     let o = c.before.before in
-    fill_done c.before.loop.inv (omega arith) ∙ placed-is _ o.before.first-places.ensures o.second-places.ensures
+    fill_done c.before.loop-k.invariant (omega arith) ∙ placed-is _ o.before.first_places-e.ensures o.second_places-o.ensures
 
-pub even-places-spec : {M : Type 1} → of.Statement.statement M
-even-places-spec = of.Tie.close (of.Tie.spec
-    Inv-loop μ-loop (λ c κs. c.pre) (λ c κs. c.before.pre) (λ c. fill_start refl)
-    (λ c. search needs) (λ c. search needs) (λ c. search needs) (λ c. search needs) (λ c. search needs) (λ c. search needs)
-    (λ c. search needs) (λ c. search needs) (λ c. search needs) (λ c. search needs) (λ c. search needs) (λ c. search needs)
-    (λ c. search needs) loop-again returns)
+pub even_places_spec : {M : Type 1} → of.Statement.statement M
+even_places_spec = of.Tie.close (of.Tie.spec
+    invariant-loop-k decreases-loop-k (λ c κs. c.requires) (λ c κs. c.before.requires) (λ c. fill_start refl)
+    (λ c. search rules) (λ c. search rules) (λ c. search rules) (λ c. search rules) (λ c. search rules) (λ c. search rules)
+    (λ c. search rules) (λ c. search rules) (λ c. search rules) (λ c. search rules) (λ c. search rules) (λ c. search rules)
+    (λ c. search rules) loop-again returns)

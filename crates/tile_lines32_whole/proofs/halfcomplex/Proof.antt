@@ -1,5 +1,5 @@
 -- `tile_lines32_whole::halfcomplex`: the places are stored by twos.
-use Rattle.tile_lines32_whole.specs.Prelude.{refl, ◌∙◌, ◌-◌, ◌*◌, arith, needs, now, side32, halfcomplex_of, of}
+use Rattle.tile_lines32_whole.specs.Prelude.{refl, ◌∙◌, ◌-◌, ◌*◌, arith, rules, now, side32, halfcomplex_of, of}
 use Rattle.sequences.specs.TabLaws.{Filled, fill_start, fill_done}
 use Rattle.tile_lines32_whole.proofs.EvenSums.{sums-places}
 use Rattle.tile_spectrum.specs.Lines.WholeFolds.{sums_most, placed, placed-turn, placed-long}
@@ -17,7 +17,7 @@ loop-again c =
     let t = c.before.before in
     let l = t.before in
     let o = l.before in
-    placed-turn o.before.even-places.result o.odd-places.result 16 l.loop.invariant t.loop-test.true (search needs) (search needs)
+    placed-turn o.before.even_places-e.result o.odd_places-o.result 16 l.loop-k.invariant t.loop-k-test.true (search rules) (search rules)
 
 returns : tie.Need-returns invariant_loop decreases_loop
 returns c =
@@ -25,12 +25,12 @@ returns c =
     let e = o.before in
     let s = e.before.before in
     let x = of (now s.before.args.x) in
-    fill_done c.before.loop.invariant (omega arith)
-    ∙ placed-long (halfcomplex_of side32 x) (e.even-places.ensures ∙ sums-places (now s.before.args.x) s.sums.ensures) o.odd-places.ensures
+    fill_done c.before.loop-k.invariant (omega arith)
+    ∙ placed-long (halfcomplex_of side32 x) (e.even_places-e.ensures ∙ sums-places (now s.before.args.x) s.sums-s.ensures) o.odd_places-o.ensures
 
-pub halfcomplex-spec : {M : Type 1} → statement M
-halfcomplex-spec = tie.close (tie.spec
-    invariant_loop decreases_loop (λ c κs. c.requires) (λ c κs. sums_most side32 16 c.before.before.requires c.before.sums.ensures) (λ c κs. c.before.before.before.requires) (λ c. fill_start refl)
-    (λ c. search needs) (λ c. search needs) (λ c. search needs) (λ c. search needs) (λ c. search needs) (λ c. search needs)
-    (λ c. search needs) (λ c. search needs) (λ c. search needs) (λ c. search needs) (λ c. search needs) (λ c. search needs)
-    (λ c. search needs) loop-again returns)
+pub halfcomplex_spec : {M : Type 1} → statement M
+halfcomplex_spec = tie.close (tie.spec
+    invariant_loop decreases_loop (λ c κs. c.requires) (λ c κs. sums_most side32 16 c.before.before.requires c.before.sums-s.ensures) (λ c κs. c.before.before.before.requires) (λ c. fill_start refl)
+    (λ c. search rules) (λ c. search rules) (λ c. search rules) (λ c. search rules) (λ c. search rules) (λ c. search rules)
+    (λ c. search rules) (λ c. search rules) (λ c. search rules) (λ c. search rules) (λ c. search rules) (λ c. search rules)
+    (λ c. search rules) loop-again returns)

@@ -6,10 +6,10 @@ use Rattle.tile_lines32_whole.proofs.joined as of
 returns : of.Tie.Need-returns
 returns c z w =
     let s = c.before.before.before.before.before.before.before.before.before.before.before.before.before.before.before.before.before.before.before.before.before.before.before.before.before.before.before.before.before.before.before.before in
-    joined_is s.pre.0 s.pre.1 z w
+    joined_is s.requires.0 s.requires.1 z w
 
-pub joined-spec : {M : Type 1} → of.Statement.statement M
-joined-spec = of.Tie.close (of.Tie.spec
+pub joined_spec : {M : Type 1} → of.Statement.statement M
+joined_spec = of.Tie.close (of.Tie.spec
     (λ c. lit< tt) (λ c. lit< tt) (λ c. search sum_fits) (λ c. lit< tt) (λ c. lit< tt) (λ c. search sum_fits)
     (λ c. lit< tt) (λ c. lit< tt) (λ c. search sum_fits) (λ c. lit< tt) (λ c. lit< tt) (λ c. search sum_fits)
     (λ c. lit< tt) (λ c. lit< tt) (λ c. search difference-fits) (λ c. lit< tt) (λ c. lit< tt) (λ c. search difference-fits)
@@ -17,7 +17,7 @@ joined-spec = of.Tie.close (of.Tie.spec
     (λ c. lit< tt) (λ c. lit< tt) (λ c. search sum_fits) (λ c. lit< tt) (λ c. lit< tt) (λ c. search sum_fits)
     (λ c. lit< tt) (λ c. lit< tt) (λ c. search sum_fits) (λ c. lit< tt) (λ c. lit< tt) (λ c. search sum_fits)
     (λ c. lit< tt) (λ c. lit< tt) (λ c. search difference-fits)
-    (λ c. lit< tt) (λ c. lit< tt) (λ c. let s = c.before.before.before.before.before.before.before.before.before.before.before.before.before.before.before.before.before.before.before.before.before.before.before.before.before.before.before.before in difference-fits s.pre.1 s.pre.0 6)
-    (λ c. lit< tt) (λ c. lit< tt) (λ c. let s = c.before.before.before.before.before.before.before.before.before.before.before.before.before.before.before.before.before.before.before.before.before.before.before.before.before.before.before.before.before.before in difference-fits s.pre.1 s.pre.0 5)
-    (λ c. lit< tt) (λ c. lit< tt) (λ c. let s = c.before.before.before.before.before.before.before.before.before.before.before.before.before.before.before.before.before.before.before.before.before.before.before.before.before.before.before.before.before.before.before.before in difference-fits s.pre.1 s.pre.0 4)
+    (λ c. lit< tt) (λ c. lit< tt) (λ c. let s = c.before.before.before.before.before.before.before.before.before.before.before.before.before.before.before.before.before.before.before.before.before.before.before.before.before.before.before.before in difference-fits s.requires.1 s.requires.0 6)
+    (λ c. lit< tt) (λ c. lit< tt) (λ c. let s = c.before.before.before.before.before.before.before.before.before.before.before.before.before.before.before.before.before.before.before.before.before.before.before.before.before.before.before.before.before.before in difference-fits s.requires.1 s.requires.0 5)
+    (λ c. lit< tt) (λ c. lit< tt) (λ c. let s = c.before.before.before.before.before.before.before.before.before.before.before.before.before.before.before.before.before.before.before.before.before.before.before.before.before.before.before.before.before.before.before.before in difference-fits s.requires.1 s.requires.0 4)
     returns)

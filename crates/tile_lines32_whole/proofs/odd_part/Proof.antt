@@ -24,7 +24,7 @@ odd_part = do
 
 returns : of.Tie.Need-returns
 unfolding tab sum_z basis_of frequency_of phase_of cos_at side32 cosine32 cosines32
-returns s = results-are xs (λ s. s.pre) tt s odd_part (tab 8 (λ i. sum_e 8 (λ n. var n ⊠ con (basis_of side32 (2 * (i % 4) + 1 + 16 * (i / 4)) (2 * n + 1))))) tt tt
+returns s = results-are xs (λ s. s.requires) tt s odd_part (tab 8 (λ i. sum_e 8 (λ n. var n ⊠ con (basis_of side32 (2 * (i % 4) + 1 + 16 * (i / 4)) (2 * n + 1))))) tt tt
 
-pub odd-part-spec : {M : Type 1} → of.Statement.statement M
-odd-part-spec = of.Tie.close (steps-fit xs (λ s. s.pre) tt odd_part (λ s. tt) of.Tie.spec returns)
+pub odd_part_spec : {M : Type 1} → of.Statement.statement M
+odd_part_spec = of.Tie.close (steps-fit xs (λ s. s.requires) tt odd_part (λ s. tt) of.Tie.spec returns)

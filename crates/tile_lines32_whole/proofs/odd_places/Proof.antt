@@ -5,23 +5,23 @@ use Rattle.tile_spectrum.specs.Lines.WholeFolds.{differences-most, line-wider}
 use Rattle.tile_lines32_whole.proofs.OddParts.{seconds, even-most, odd-most, in_parts, differences-places}
 use Rattle.tile_lines32_whole.proofs.odd_places as of
 
-odd-requires : of.Tie.Need-odd-requires
+odd-requires : of.Tie.Need-odd-e-requires
 odd-requires c κs =
     let f = c.before.before.before.before.before.before.before.before in
-    line-wider (lit≤ tt) (all-most w16 (differences-most side32 16 f.before.pre f.differences.ensures) tt (seconds 0))
+    line-wider (lit≤ tt) (all-most w16 (differences-most side32 16 f.before.requires f.differences-t.ensures) tt (seconds 0))
 
-odd-part-requires : of.Tie.Need-odd-part-requires
+odd-part-requires : of.Tie.Need-odd_part-o-requires
 odd-part-requires c κs =
     let f = c.before.before.before.before.before.before.before.before.before.before.before.before.before.before.before.before.before in
-    all-most w16 (differences-most side32 16 f.before.pre f.differences.ensures) tt (seconds 1)
+    all-most w16 (differences-most side32 16 f.before.requires f.differences-t.ensures) tt (seconds 1)
 
 joined-requires : of.Tie.Need-joined-requires
 joined-requires c κs =
     let o = c.before.before in
     let e = o.before.before.before.before.before.before.before.before.before in
     let f = e.before.before.before.before.before.before.before.before.before in
-    let m = differences-most side32 16 f.before.pre f.differences.ensures in
-    (even-most (all-most w16 m tt (seconds 0)) e.odd.ensures, odd-most (all-most w16 m tt (seconds 1)) o.odd_part.ensures)
+    let m = differences-most side32 16 f.before.requires f.differences-t.ensures in
+    (even-most (all-most w16 m tt (seconds 0)) e.odd-e.ensures, odd-most (all-most w16 m tt (seconds 1)) o.odd_part-o.ensures)
 
 returns : of.Tie.Need-returns
 returns c =
@@ -29,12 +29,12 @@ returns c =
     let e = o.before.before.before.before.before.before.before.before.before in
     let f = e.before.before.before.before.before.before.before.before.before in
     let x = of (now f.before.args.x) in
-    let m = differences-most side32 16 f.before.pre f.differences.ensures in
-    c.joined.ensures _ (in_parts m e.odd.ensures o.odd_part.ensures) ∙ differences-places x f.differences.ensures
+    let m = differences-most side32 16 f.before.requires f.differences-t.ensures in
+    c.joined.ensures _ (in_parts m e.odd-e.ensures o.odd_part-o.ensures) ∙ differences-places x f.differences-t.ensures
 
-pub odd-places-spec : {M : Type 1} → of.Statement.statement M
-odd-places-spec = of.Tie.close (of.Tie.spec
-    (λ c κs. c.pre)
+pub odd_places_spec : {M : Type 1} → of.Statement.statement M
+odd_places_spec = of.Tie.close (of.Tie.spec
+    (λ c κs. c.requires)
     (λ c. lit< tt) (λ c. lit< tt) (λ c. lit< tt) (λ c. lit< tt) (λ c. lit< tt) (λ c. lit< tt) (λ c. lit< tt) (λ c. lit< tt) odd-requires
     (λ c. lit< tt) (λ c. lit< tt) (λ c. lit< tt) (λ c. lit< tt) (λ c. lit< tt) (λ c. lit< tt) (λ c. lit< tt) (λ c. lit< tt) odd-part-requires
     joined-requires returns)

@@ -1,5 +1,5 @@
 -- `tile_pair::add_corrections`: B, Q, G and P one after the other.
-use Rattle.tile_pair.specs.Prelude.{◌∙◌, ℕ, ℤ, needs, pos, now, cell, two_way, plane_in}
+use Rattle.tile_pair.specs.Prelude.{◌∙◌, ℕ, ℤ, rules, pos, now, cell, two_way, plane_in}
 use Rattle.tile_pair.proofs.Corrections.{folded_whole, corrections-are}
 use Rattle.tile_pair.proofs.add_corrections as of
 
@@ -7,15 +7,15 @@ use Rattle.tile_pair.proofs.add_corrections as of
 abbrev bins : of.Tie.Start → ℕ → ℕ → ℕ → ℤ
 bins s p = two_way (plane_in (cell (pos 0) (now s.args.d)) p)
 
-add-inverse-requires : of.Tie.Need-add-inverse-requires
+add-inverse-requires : of.Tie.Need-add_inverse-requires
 add-inverse-requires c κs =
     let g = c.before in
     let low = g.before in
     let s = low.before in
     record {
-      whole = folded_whole s.args.first s.args.second (bins s) low.low-noise.result low.low-noise.ensures s.pre.first_most s.pre.second_most g.gains.ensures;
-      sums_most = s.pre.sums_most;
-      paired = s.pre.paired;
+      whole = folded_whole s.args.first s.args.second (bins s) low.low_noise-low.result low.low_noise-low.ensures s.requires.first_most s.requires.second_most g.gains-g.ensures;
+      sums_most = s.requires.sums_most;
+      paired = s.requires.paired;
     }
 
 returns : of.Tie.Need-returns
@@ -23,9 +23,9 @@ returns c =
     let g = c.before.before in
     let low = g.before in
     let s = low.before in
-    c.add-inverse.ensures (folded_whole s.args.first s.args.second (bins s) low.low-noise.result low.low-noise.ensures s.pre.first_most s.pre.second_most g.gains.ensures)
+    c.add_inverse.ensures (folded_whole s.args.first s.args.second (bins s) low.low_noise-low.result low.low_noise-low.ensures s.requires.first_most s.requires.second_most g.gains-g.ensures)
     ∙ corrections-are s.args.first s.args.second (cell (pos 0) (now s.args.d)) (now s.args.sum)
 
-pub add-corrections-spec : {M : Type 1} → of.Statement.statement M
-add-corrections-spec = of.Tie.close (of.Tie.spec
-    (λ c κs. search needs) (λ c κs. search needs) add-inverse-requires returns)
+pub add_corrections_spec : {M : Type 1} → of.Statement.statement M
+add_corrections_spec = of.Tie.close (of.Tie.spec
+    (λ c κs. search rules) (λ c κs. search rules) add-inverse-requires returns)

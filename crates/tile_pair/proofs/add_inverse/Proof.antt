@@ -6,13 +6,13 @@ use Rattle.tile_pair.proofs.add_inverse as of
 
 back-requires : of.Tie.Need-back-requires
 unfolding doubles
-back-requires c κs = paired-grid _ c.before.pre.whole.is
+back-requires c κs = paired-grid _ c.before.requires.whole.is
 
-add-back-requires : of.Tie.Need-add-back-requires
+add-back-requires : of.Tie.Need-add_back-requires
 add-back-requires c κs =
     let a = c.before.before in
     let s = a.before.before in
-    record { whole = columns_whole s.args.low a.back.ensures s.pre.whole; sums_most = s.pre.sums_most; paired = s.pre.paired }
+    record { whole = columns_whole s.args.low a.back.ensures s.requires.whole; sums_most = s.requires.sums_most; paired = s.requires.paired }
 
 returns : of.Tie.Need-returns
 returns c w =
@@ -20,5 +20,5 @@ returns c w =
     let s = a.before.before in
     c.add_back.ensures (columns_whole s.args.low a.back.ensures w) ∙ back_is w.number (now s.args.sum)
 
-pub add-inverse-spec : {M : Type 1} → of.Statement.statement M
-add-inverse-spec = of.Tie.close (of.Tie.spec back-requires add-back-requires returns)
+pub add_inverse_spec : {M : Type 1} → of.Statement.statement M
+add_inverse_spec = of.Tie.close (of.Tie.spec back-requires add-back-requires returns)

@@ -7,14 +7,14 @@ use Rattle.tile_pair.proofs.forward as of
 
 forward-requires : of.Tie.Need-forward-requires
 unfolding grid tab
-forward-requires c κs = (c.before.before.pre, paired-grid (λ k l. pos 0) refl)
+forward-requires c κs = (c.before.before.requires, paired-grid (λ k l. pos 0) refl)
 
 rows-requires : of.Tie.Need-rows-requires
 unfolding grid tab
 rows-requires c κs =
     let a = c.before.before in
     let s = a.before.before.before in
-    (columns-small (cell (pos 0) s.args.t1) a.forward.ensures (cells-most s.pre), paired-grid (λ k l. of_bits binary64 0) refl)
+    (columns-small (cell (pos 0) s.args.t1) a.forward.ensures (cells-most s.requires), paired-grid (λ k l. of_bits binary64 0) refl)
 
 returns : of.Tie.Need-returns
 returns c =
@@ -22,5 +22,5 @@ returns c =
     let s = a.before.before.before in
     c.rows.ensures ∙ both_ways (cell (pos 0) s.args.t1) a.forward.ensures
 
-pub forward-spec : {M : Type 1} → of.Statement.statement M
-forward-spec = of.Tie.close (of.Tie.spec forward-requires rows-requires returns)
+pub forward_spec : {M : Type 1} → of.Statement.statement M
+forward_spec = of.Tie.close (of.Tie.spec forward-requires rows-requires returns)

@@ -7,13 +7,13 @@ use Rattle.tile_pair.proofs.forward_into as of
 
 forward-requires : of.Tie.Need-forward-requires
 unfolding grid tab
-forward-requires c κs = (c.before.pre.0, paired-grid (λ k l. pos 0) refl)
+forward-requires c κs = (c.before.requires.0, paired-grid (λ k l. pos 0) refl)
 
 rows-requires : of.Tie.Need-rows-requires
 rows-requires c κs =
     let a = c.before.before in
     let s = a.before.before in
-    (columns-small (cell (pos 0) (now s.args.d)) a.forward.ensures (cells-most s.pre.0), s.pre.1)
+    (columns-small (cell (pos 0) (now s.args.d)) a.forward.ensures (cells-most s.requires.0), s.requires.1)
 
 returns : of.Tie.Need-returns
 returns c =
@@ -21,5 +21,5 @@ returns c =
     let s = a.before.before in
     c.rows.ensures ∙ both_ways (cell (pos 0) (now s.args.d)) a.forward.ensures
 
-pub forward-into-spec : {M : Type 1} → of.Statement.statement M
-forward-into-spec = of.Tie.close (of.Tie.spec forward-requires rows-requires returns)
+pub forward_into_spec : {M : Type 1} → of.Statement.statement M
+forward_into_spec = of.Tie.close (of.Tie.spec forward-requires rows-requires returns)

@@ -7,15 +7,15 @@ filter-requires : of.Tie.Need-filter-requires
 unfolding doubles
 filter-requires c κs =
     let s = c.before.before in
-    record { paired = paired-grid _ s.pre.binned.is; first_most = s.pre.first_most; second_most = s.pre.second_most }
+    record { paired = paired-grid _ s.requires.binned.is; first_most = s.requires.first_most; second_most = s.requires.second_most }
 
-returns : of.Tie.Need-returns
-returns c = c.before.filter.ensures c.if1.taken
+returns : of.Tie.Need-returns-then-filter
+returns c = c.before.filter.ensures c.if-filter.true
 
-filter-exactly-requires : of.Tie.Need-filter-exactly-requires
+filter-exactly-requires : of.Tie.Need-filter_exactly-requires
 filter-exactly-requires c κs =
     let s = c.before.before.before.before.before.before in
-    record { binned = s.pre.binned; first_most = omega arith; second_most = omega arith }
+    record { binned = s.requires.binned; first_most = omega arith; second_most = omega arith }
 
-pub wiener-of-spec : {M : Type 1} → of.Statement.statement M
-wiener-of-spec = of.Tie.close (of.Tie.spec filter-requires returns filter-exactly-requires (λ c. c.filter-exactly.ensures))
+pub wiener_of_spec : {M : Type 1} → of.Statement.statement M
+wiener_of_spec = of.Tie.close (of.Tie.spec filter-requires returns filter-exactly-requires (λ c. c.filter_exactly.ensures))

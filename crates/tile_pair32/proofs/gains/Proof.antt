@@ -5,40 +5,40 @@ use Rattle.tile_pair32.proofs.Corrections.{binned_pair}
 use Rattle.tile_pair32.proofs.gains as of
 
 forward-requires : of.Tie.Need-forward-requires
-forward-requires c κs = let s = c.before in (s.pre.differences, s.pre.spare)
+forward-requires c κs = let s = c.before in (s.requires.differences, s.requires.spare)
 
 filter-requires : of.Tie.Need-filter-requires
 unfolding long_doubles
 filter-requires c κs =
     let b = c.before in
     let s = b.before.before in
-    record { paired = long-paired-grid _ b.forward.ensures; first_most = s.pre.first_most; second_most = s.pre.second_most }
+    record { paired = long-paired-grid _ b.forward.ensures; first_most = s.requires.first_most; second_most = s.requires.second_most }
 
-returns : of.Tie.Need-returns
+returns : of.Tie.Need-returns-then-filter
 returns c =
     let f = c.before in
     let b = f.before.before in
     let s = b.before.before in
-    let w = binned_pair s.pre.differences b.forward.ensures in
-    f.filter.ensures.is c.if1.taken w
+    let w = binned_pair s.requires.differences b.forward.ensures in
+    f.filter.ensures.is c.if-filter.true w
 
 forward-requires-2 : of.Tie.Need-forward-requires-2
 forward-requires-2 c κs =
     let f = c.before.before in
     let s = f.before.before.before.before in
-    (s.pre.differences, f.filter.ensures.paired)
+    (s.requires.differences, f.filter.ensures.paired)
 
-filter-exactly-requires : of.Tie.Need-filter-exactly-requires
+filter-exactly-requires : of.Tie.Need-filter_exactly-requires
 filter-exactly-requires c κs =
     let b = c.before in
     let s = b.before.before.before.before.before.before.before in
-    record { binned = binned_pair s.pre.differences b.forward2.ensures; first_most = omega arith; second_most = omega arith }
+    record { binned = binned_pair s.requires.differences b.forward-2.ensures; first_most = omega arith; second_most = omega arith }
 
-returns-2 : of.Tie.Need-returns-2
+returns-2 : of.Tie.Need-returns
 returns-2 c =
     let b = c.before.before in
     let s = b.before.before.before.before.before.before.before in
-    c.filter-exactly.ensures (binned_pair s.pre.differences b.forward2.ensures)
+    c.filter_exactly.ensures (binned_pair s.requires.differences b.forward-2.ensures)
 
-pub gains-spec : {M : Type 1} → of.Statement.statement M
-gains-spec = of.Tie.close (of.Tie.spec forward-requires filter-requires returns forward-requires-2 filter-exactly-requires returns-2)
+pub gains_spec : {M : Type 1} → of.Statement.statement M
+gains_spec = of.Tie.close (of.Tie.spec forward-requires filter-requires returns forward-requires-2 filter-exactly-requires returns-2)

@@ -5,11 +5,11 @@ use Rattle.tile_spatial.specs.Steps.{copy_place_most}
 use Rattle.tile_spatial.proofs.PairLaws.{in-double, places-are, places_most}
 use Rattle.tile_spatial.proofs.bins as of
 
-forward-into-requires : of.Tie.Need-forward-into-requires
+forward-into-requires : of.Tie.Need-forward_into-requires
 unfolding grid tab
 forward-into-requires c κs = (c.before.before.highs.ensures.1, paired-grid (λ k l. of_bits binary64 0) refl)
 
-forward-into-requires-2 : of.Tie.Need-forward-into-requires-2
+forward-into-requires-2 : of.Tie.Need-forward_into-requires-2
 unfolding grid tab
 forward-into-requires-2 c κs = (c.before.before.lows.ensures.1, paired-grid (λ k l. of_bits binary64 0) refl)
 
@@ -19,7 +19,7 @@ places-requires c κs =
     let l = g.before.before.before in
     let f = l.before in
     let h = f.before.before.before in
-    (in-double h.highs.ensures.1 f.forward-into.ensures, in-double l.lows.ensures.1 g.forward-into2.ensures)
+    (in-double h.highs.ensures.1 f.forward_into.ensures, in-double l.lows.ensures.1 g.forward_into-2.ensures)
 
 returns : of.Tie.Need-returns
 returns c =
@@ -30,11 +30,11 @@ returns c =
     let t = now h.before.args.c in
     let p = h.highs.ensures in
     let q = l.lows.ensures in (
-      c.places.ensures ∙ places-are t p.0 q.0 p.1 q.1 f.forward-into.ensures g.forward-into2.ensures,
-      subst (TileMost copy_place_most) (sym c.places.ensures) (places_most t p.0 q.0 p.1 q.1 f.forward-into.ensures g.forward-into2.ensures),
+      c.places.ensures ∙ places-are t p.0 q.0 p.1 q.1 f.forward_into.ensures g.forward_into-2.ensures,
+      subst (TileMost copy_place_most) (sym c.places.ensures) (places_most t p.0 q.0 p.1 q.1 f.forward_into.ensures g.forward_into-2.ensures),
     )
 
-pub bins-spec : {M : Type 1} → of.Statement.statement M
-bins-spec = of.Tie.close (of.Tie.spec
-    (λ c κs. c.pre) forward-into-requires (λ c κs. c.before.before.before.before.pre)
+pub bins_spec : {M : Type 1} → of.Statement.statement M
+bins_spec = of.Tie.close (of.Tie.spec
+    (λ c κs. c.requires) forward-into-requires (λ c κs. c.before.before.before.before.requires)
     forward-into-requires-2 places-requires returns)

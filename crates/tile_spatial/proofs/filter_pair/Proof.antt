@@ -1,5 +1,5 @@
 -- The copies, their bins, the step, and N·P' of it.
-use Rattle.tile_spatial.specs.Prelude.{◌≡◌, refl, sym, ap, subst, ◌∙◌, false, ℕ, ◌+◌, ◌*◌, ◌/◌, ◌%◌, ◌^◌, arith, needs, ℤ, pos, ◌+ℤ◌, ◌*ℤ◌, now, tab, TileMost, fold_most, spatial_most, spatial_correction_most, InDouble, plane_in, either}
+use Rattle.tile_spatial.specs.Prelude.{◌≡◌, refl, sym, ap, subst, ◌∙◌, false, ℕ, ◌+◌, ◌*◌, ◌/◌, ◌%◌, ◌^◌, arith, rules, ℤ, pos, ◌+ℤ◌, ◌*ℤ◌, now, tab, TileMost, fold_most, spatial_most, spatial_correction_most, InDouble, plane_in, either}
 use Prim.Native.Nat.{zero-le}
 use Rattle.sequences.specs.Grid.{grid, cell, cell-grid, grid-ext}
 use Rattle.tile_spectrum.specs.ColumnLaws.{paired-grid}
@@ -9,39 +9,39 @@ use Rattle.tile_spatial.proofs.PairLaws.{table-most, lanes-most, step_whole, ste
 use Rattle.tile_spatial.proofs.filter_pair as of
 
 -- V' of both planes side by side
-noises_most : (n : of.Tie.After-lanes) → NoisesMost spatial_most n.lanes.result
+noises_most : (n : of.Tie.After-lanes-noises) → NoisesMost spatial_most n.lanes-noises.result
 noises_most n =
     let s = n.before.before.before.before.before in
-    lanes-most (now s.args.first) (now s.args.second) n.lanes.ensures s.pre.first_most s.pre.second_most
+    lanes-most (now s.args.first) (now s.args.second) n.lanes-noises.ensures s.requires.first_most s.requires.second_most
 
 -- the step on their bins
-abbrev step_is : (g : of.Tie.After-step) → InDouble (fold_most false) g.step.result
+abbrev step_is : (g : of.Tie.After-step-g) → InDouble (fold_most false) g.step-g.result
 step_is g =
     let n = g.before.before.before in
-    step_whole (noises_most n) n.before.bins.result g.step.ensures
+    step_whole (noises_most n) n.before.bins-w.result g.step-g.ensures
 
 -- P' of both
-steps : (i : of.Tie.After-add-inverse-of) → let n = i.before.before.before.before.before.before in let k = n.before.before.before in let a = k.before.before.args in
-    i.add-inverse-of.last.1.1.0 ≡ grid 16 32 (λ y l. step_at (bin_noise (cell 0 (either (now a.first) (now a.second) (l % 2)))) (plane_in (cell (pos 0) k.copy-pair.result) (l % 2)) y (l / 2))
+steps : (i : of.Tie.After-add_inverse_of) → let n = i.before.before.before.before.before.before in let k = n.before.before.before in let a = k.before.before.args in
+    i.add_inverse_of.new.1.1.0 ≡ grid 16 32 (λ y l. step_at (bin_noise (cell 0 (either (now a.first) (now a.second) (l % 2)))) (plane_in (cell (pos 0) k.copy_pair-c.result) (l % 2)) y (l / 2))
 unfolding grid tab
 steps i =
     let g = i.before.before.before in
     let n = g.before.before.before in
     let k = n.before.before.before in
     let a = k.before.before.args in
-    i.add-inverse-of.ensures (step_is g) ∙ steps-are (now a.first) (now a.second) n.lanes.ensures k.copy-pair.result n.before.bins.ensures.0 refl
+    i.add_inverse_of.ensures (step_is g) ∙ steps-are (now a.first) (now a.second) n.lanes-noises.ensures k.copy_pair-c.result n.before.bins-w.ensures.0 refl
 
-copy-pair-requires : of.Tie.Need-copy-pair-requires
+copy-pair-requires : of.Tie.Need-copy_pair-c-requires
 copy-pair-requires c κs =
-    let p = c.before.pre in
+    let p = c.before.requires in
     record { frames_fit = p.frames_fit; samples = p.samples; sums = p.sums }
 
-step-requires : of.Tie.Need-step-requires
+step-requires : of.Tie.Need-step-g-requires
 step-requires c κs =
     let n = c.before.before in
-    record { places_most = n.before.bins.ensures.1; noises_most = noises_most n }
+    record { places_most = n.before.bins-w.ensures.1; noises_most = noises_most n }
 
-add-inverse-of-requires : of.Tie.Need-add-inverse-of-requires
+add-inverse-of-requires : of.Tie.Need-add_inverse_of-requires
 unfolding grid tab
 add-inverse-of-requires c κs =
     record {
@@ -50,17 +50,17 @@ add-inverse-of-requires c κs =
       paired = paired-grid (λ y l. pos 0) refl;
     }
 
-add-times-requires : of.Tie.Need-add-times-requires
+add-times-requires : of.Tie.Need-add_times-requires
 add-times-requires c κs =
     let i = c.before.before in
     let n = i.before.before.before.before.before.before in
     let k = n.before.before.before in
     let s = k.before.before in
     record {
-      frames_fit = s.pre.frames_fit;
-      part = subst (TileMost spatial_correction_most) (sym (steps i)) (steps-most (now s.args.first) (now s.args.second) n.lanes.ensures k.copy-pair.result n.before.bins.ensures.0 s.pre.first_most s.pre.second_most);
-      sums = s.pre.sums;
-      paired = s.pre.paired;
+      frames_fit = s.requires.frames_fit;
+      part = subst (TileMost spatial_correction_most) (sym (steps i)) (steps-most (now s.args.first) (now s.args.second) n.lanes-noises.ensures k.copy_pair-c.result n.before.bins-w.ensures.0 s.requires.first_most s.requires.second_most);
+      sums = s.requires.sums;
+      paired = s.requires.paired;
     }
 
 returns : of.Tie.Need-returns
@@ -70,16 +70,16 @@ returns c =
     let k = i.before.before.before.before.before.before.before.before.before in
     let a = k.before.before.args in
     let noise : ℕ → ℕ → ℕ → ℕ = λ p. cell 0 (either (now a.first) (now a.second) p) in
-    let copied : ℕ → ℕ → ℕ → ℤ = λ p. plane_in (cell (pos 0) k.copy-pair.result) p in
+    let copied : ℕ → ℕ → ℕ → ℤ = λ p. plane_in (cell (pos 0) k.copy_pair-c.result) p in
     let copy : ℕ → ℕ → ℕ → ℤ = λ p. copy_in a.frames (plane_in (cell 0 (now a.t0)) p) (plane_in (cell (pos 0) (now a.sum)) p) in
     c.add_times.ensures
     ∙ grid-ext 16 32 _ _
     (λ y l h j. ap (λ z. cell (pos 0) (now a.sum) y l +ℤ pos a.frames *ℤ z)
     (ap (λ t. cell (pos 0) t y l) (steps i) ∙ cell-grid (pos 0) 16 32 (λ y l. step_at (bin_noise (noise (l % 2))) (copied (l % 2)) y (l / 2)) y l h j
     ∙ step-cong (bin_noise (noise (l % 2))) (copied (l % 2)) (copy (l % 2))
-    (λ y x g o. ap (λ t. cell (pos 0) t y (2 * x + l % 2)) k.copy-pair.ensures.0 ∙ cell-grid (pos 0) 16 32 (copy_in a.frames (cell 0 (now a.t0)) (cell (pos 0) (now a.sum))) y (2 * x + l % 2) g (omega arith)) y (l / 2)))
+    (λ y x g o. ap (λ t. cell (pos 0) t y (2 * x + l % 2)) k.copy_pair-c.ensures.0 ∙ cell-grid (pos 0) 16 32 (copy_in a.frames (cell 0 (now a.t0)) (cell (pos 0) (now a.sum))) y (2 * x + l % 2) g (omega arith)) y (l / 2)))
 
-pub filter-pair-spec : {M : Type 1} → of.Statement.statement M
-filter-pair-spec = of.Tie.close (of.Tie.spec
-    copy-pair-requires (λ c κs. c.before.copy-pair.ensures.1) (λ c κs. search needs)
+pub filter_pair_spec : {M : Type 1} → of.Statement.statement M
+filter_pair_spec = of.Tie.close (of.Tie.spec
+    copy-pair-requires (λ c κs. c.before.copy_pair-c.ensures.1) (λ c κs. search rules)
     step-requires add-inverse-of-requires add-times-requires returns)

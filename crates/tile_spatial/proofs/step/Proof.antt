@@ -1,5 +1,5 @@
 -- The rows of both parts are stored one after the other, and folded.
-use Rattle.tile_spatial.specs.Prelude.{◌≡◌, refl, sym, ap, subst, ◌∙◌, [], ℕ, ◌-◌, ◌<◌, arith, needs, get_or, length, pos, now, tab, grid, frequency, TileMost, spatial_gain_most}
+use Rattle.tile_spatial.specs.Prelude.{◌≡◌, refl, sym, ap, subst, ◌∙◌, [], ℕ, ◌-◌, ◌<◌, arith, rules, get_or, length, pos, now, tab, grid, frequency, TileMost, spatial_gain_most}
 use Rattle.sequences.specs.TabLaws.{Filled, fill_start, fill-turn, fill-rest, fill_done, get_d-tab, length-tab}
 use Rattle.tile_spatial.specs.Steps.{lane_re, lane_im}
 use Rattle.tile_spatial.proofs.PairLaws.{table-most, lane-re-most, lane-im-most, spreads-are}
@@ -10,58 +10,58 @@ zeros-long : (u : ℕ) → u < 16 → length (get_or (grid 16 18 (λ u l. pos 0)
 unfolding grid
 zeros-long u h = ap length (get_d-tab (λ u. tab 18 (λ l. pos 0)) [] 16 u h) ∙ length-tab (λ l. pos 0) 18
 
-abbrev Inv-loop : of.Tie.InvT-loop
-Inv-loop w noises g₀ h₀ u₀ g h u = (Filled (λ u. tab 18 (lane_re (get_or noises (frequency u) []) w u)) 16 u g₀ g) × (Filled (λ u. tab 18 (lane_im (get_or noises (frequency u) []) w u)) 16 u h₀ h)
+abbrev invariant-loop-u : of.Tie.invariant-loop-u
+invariant-loop-u w noises g₀ h₀ u₀ g h u = (Filled (λ u. tab 18 (lane_re (get_or noises (frequency u) []) w u)) 16 u g₀ g) × (Filled (λ u. tab 18 (lane_im (get_or noises (frequency u) []) w u)) 16 u h₀ h)
 
-abbrev μ-loop : of.Tie.MeasureT-loop
-μ-loop w noises g₀ h₀ u₀ g h u = 16 - u
+abbrev decreases-loop-u : of.Tie.decreases-loop-u
+decreases-loop-u w noises g₀ h₀ u₀ g h u = 16 - u
 
-gain-row-requires : of.Tie.Need-gain-row-requires Inv-loop μ-loop
+gain-row-requires : of.Tie.Need-gain_row-requires invariant-loop-u decreases-loop-u
 unfolding grid tab
 gain-row-requires c κs =
     let n = c.before.before.before in
     let l = n.before.before in
     let s = l.before in
     record {
-      places_most = s.pre.places_most;
-      noises_most = s.pre.noises_most.line n.counted.result;
+      places_most = s.requires.places_most;
+      noises_most = s.requires.noises_most.line n.counted.result;
       u_below = omega arith;
-      g_long = ap length (fill-rest l.loop.inv.0 (omega arith) []) ∙ zeros-long l.loop.u (omega arith);
-      h_long = ap length (fill-rest l.loop.inv.1 (omega arith) []) ∙ zeros-long l.loop.u (omega arith);
+      g_long = ap length (fill-rest l.loop-u.invariant.0 (omega arith) []) ∙ zeros-long l.loop-u.u (omega arith);
+      h_long = ap length (fill-rest l.loop-u.invariant.1 (omega arith) []) ∙ zeros-long l.loop-u.u (omega arith);
     }
 
-loop-again : of.Tie.Need-loop-again Inv-loop μ-loop
+loop-again : of.Tie.Need-loop-u-preserved invariant-loop-u decreases-loop-u
 loop-again c =
     let n = c.before.before.before.before in
     let l = n.before.before in
     let a = l.before.args in
     let row = ap (λ f. get_or (now a.noises) f []) n.counted.ensures.0 in (
-      fill-turn l.loop.inv.0 (omega arith) (c.gain-row.ensures.0 ∙ ap (λ r. tab 18 (lane_re r (now a.w) l.loop.u)) row),
-      fill-turn l.loop.inv.1 (omega arith) (c.gain-row.ensures.1 ∙ ap (λ r. tab 18 (lane_im r (now a.w) l.loop.u)) row),
+      fill-turn l.loop-u.invariant.0 (omega arith) (c.gain_row.ensures.0 ∙ ap (λ r. tab 18 (lane_re r (now a.w) l.loop-u.u)) row),
+      fill-turn l.loop-u.invariant.1 (omega arith) (c.gain_row.ensures.1 ∙ ap (λ r. tab 18 (lane_im r (now a.w) l.loop-u.u)) row),
     )
 
-folds-requires : of.Tie.Need-folds-requires Inv-loop μ-loop
+folds-requires : of.Tie.Need-folds-requires invariant-loop-u decreases-loop-u
 unfolding grid
 folds-requires c κs =
     let l = c.before.before.before in
     let s = l.before in
-    let m = s.pre.noises_most in
+    let m = s.requires.noises_most in
     let w = now s.args.w in
     record {
-      re_most = subst (TileMost spatial_gain_most) (sym (fill_done l.loop.inv.0 (omega arith))) (table-most spatial_gain_most _ (lane-re-most m w) 16 18);
-      im_most = subst (TileMost spatial_gain_most) (sym (fill_done l.loop.inv.1 (omega arith))) (table-most spatial_gain_most _ (lane-im-most m w) 16 18);
+      re_most = subst (TileMost spatial_gain_most) (sym (fill_done l.loop-u.invariant.0 (omega arith))) (table-most spatial_gain_most _ (lane-re-most m w) 16 18);
+      im_most = subst (TileMost spatial_gain_most) (sym (fill_done l.loop-u.invariant.1 (omega arith))) (table-most spatial_gain_most _ (lane-im-most m w) 16 18);
     }
 
-returns : of.Tie.Need-returns Inv-loop μ-loop
+returns : of.Tie.Need-returns invariant-loop-u decreases-loop-u
 unfolding grid
 returns c =
     let l = c.before.before.before.before in
     let a = l.before.args in
-    c.folds.ensures ∙ spreads-are (now a.noises) (now a.w) (fill_done l.loop.inv.0 (omega arith)) (fill_done l.loop.inv.1 (omega arith))
+    c.folds.ensures ∙ spreads-are (now a.noises) (now a.w) (fill_done l.loop-u.invariant.0 (omega arith)) (fill_done l.loop-u.invariant.1 (omega arith))
 
 pub step_spec : {M : Type 1} → of.Statement.statement M
 step_spec = of.Tie.close (of.Tie.spec
-    Inv-loop μ-loop (λ c. (fill_start refl, fill_start refl)) (λ c κs. omega arith)
-    (λ c. search needs) (λ c. search needs) (λ c. search needs) (λ c. search needs)
-    (λ c. search needs) (λ c. search needs) gain-row-requires (λ c. search needs)
-    (λ c. search needs) loop-again folds-requires returns)
+    invariant-loop-u decreases-loop-u (λ c. (fill_start refl, fill_start refl)) (λ c κs. omega arith)
+    (λ c. search rules) (λ c. search rules) (λ c. search rules) (λ c. search rules)
+    (λ c. search rules) (λ c. search rules) gain-row-requires (λ c. search rules)
+    (λ c. search rules) loop-again folds-requires returns)

@@ -1,23 +1,23 @@
 -- `tile_wiener::alternating`: two stores a turn.
-use Rattle.tile_wiener.specs.Prelude.{refl, ◌-◌, ◌*◌, ◌%◌, arith, needs, either}
+use Rattle.tile_wiener.specs.Prelude.{refl, ◌-◌, ◌*◌, ◌%◌, arith, rules, either}
 use Rattle.sequences.specs.TabLaws.{Filled, fill_start, fill_done}
 use Rattle.tile_wiener.proofs.DoubleGains.{planes-turn}
 use Rattle.tile_wiener.proofs.alternating as of
 
-abbrev Inv-loop : of.Tie.InvT-loop
-Inv-loop a b r₀ k₀ r k = Filled (λ l. either a b (l % 2)) 16 (2 * k) r₀ r
+abbrev invariant-loop-k : of.Tie.invariant-loop-k
+invariant-loop-k a b r₀ k₀ r k = Filled (λ l. either a b (l % 2)) 16 (2 * k) r₀ r
 
-abbrev μ-loop : of.Tie.MeasureT-loop
-μ-loop a b r₀ k₀ r k = 8 - k
+abbrev decreases-loop-k : of.Tie.decreases-loop-k
+decreases-loop-k a b r₀ k₀ r k = 8 - k
 
-loop-again : of.Tie.Need-loop-again Inv-loop μ-loop
-loop-again c = planes-turn _ _ c.before.loop.inv (omega arith)
+loop-again : of.Tie.Need-loop-k-preserved invariant-loop-k decreases-loop-k
+loop-again c = planes-turn _ _ c.before.loop-k.invariant (omega arith)
 
-returns : of.Tie.Need-returns Inv-loop μ-loop
-returns c = fill_done c.before.loop.inv (omega arith)
+returns : of.Tie.Need-returns invariant-loop-k decreases-loop-k
+returns c = fill_done c.before.loop-k.invariant (omega arith)
 
-pub alternating-spec : {M : Type 1} → of.Statement.statement M
-alternating-spec = of.Tie.close (of.Tie.spec
-    Inv-loop μ-loop (λ c. fill_start refl) (λ c. search needs) (λ c. search needs)
-    (λ c. search needs) (λ c. search needs) (λ c. search needs) (λ c. search needs)
-    (λ c. search needs) (λ c. search needs) (λ c. search needs) loop-again returns)
+pub alternating_spec : {M : Type 1} → of.Statement.statement M
+alternating_spec = of.Tie.close (of.Tie.spec
+    invariant-loop-k decreases-loop-k (λ c. fill_start refl) (λ c. search rules) (λ c. search rules)
+    (λ c. search rules) (λ c. search rules) (λ c. search rules) (λ c. search rules)
+    (λ c. search rules) (λ c. search rules) (λ c. search rules) loop-again returns)

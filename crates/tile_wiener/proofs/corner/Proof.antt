@@ -1,23 +1,23 @@
 -- `tile_wiener::corner`: four real bins a turn.
-use Rattle.tile_wiener.specs.Prelude.{◌-◌, ◌≤◌, arith, needs, now, lit<, of_bits, of_int}
+use Rattle.tile_wiener.specs.Prelude.{◌-◌, ◌≤◌, arith, rules, now, lit<, of_bits, of_int}
 use Rattle.tile_wiener.specs.NewQuads.{new-corner, sure-corner}
 use Rattle.tile_wiener.proofs.SureLaws.{shrunk-start, shrunk-at, shrunk-turn}
 use Rattle.tile_wiener.specs.DoubleQuads.{Shrunk}
 use Rattle.tile_wiener.proofs.corner as of
 
-abbrev Inv-loop : of.Tie.InvT-loop
-Inv-loop b₀ v w s₀ l₀ b s l = (l ≤ 2) × (Shrunk s v w 0 l b₀ b)
+abbrev invariant-loop-l : of.Tie.invariant-loop-l
+invariant-loop-l b₀ v w s₀ l₀ b s l = (l ≤ 2) × (Shrunk s v w 0 l b₀ b)
 
-abbrev μ-loop : of.Tie.MeasureT-loop
-μ-loop b₀ v w s₀ l₀ b s l = 2 - l
+abbrev decreases-loop-l : of.Tie.decreases-loop-l
+decreases-loop-l b₀ v w s₀ l₀ b s l = 2 - l
 
-set-quad-requires : of.Tie.Need-set-quad-requires Inv-loop μ-loop
+set-quad-requires : of.Tie.Need-set_quad-requires invariant-loop-l decreases-loop-l
 set-quad-requires c κs =
     let g = c.before.before.before.before.before.before.before.before in
     let p = g.before.before.before.before.before.before in
-    record { u_below = lit< tt; l_below = omega arith; paired = p.loop.inv.1.new.paired }
+    record { u_below = lit< tt; l_below = omega arith; paired = p.loop-l.invariant.1.new.paired }
 
-loop-again : of.Tie.Need-loop-again Inv-loop μ-loop
+loop-again : of.Tie.Need-loop-l-preserved invariant-loop-l decreases-loop-l
 unfolding of_bits of_int
 loop-again c =
     let four = c.before.before in
@@ -32,15 +32,15 @@ loop-again c =
     let p = q.before.before.before in
     let v = now p.before.args.v in
     let w = now p.before.args.w in
-    let l = p.loop.l in (
+    let l = p.loop-l.l in (
       omega arith,
-      shrunk-turn p.loop.inv.1 (omega arith) (omega arith) (omega arith) c.set-quad.ensures (new-corner 24 v w q.quad_at.ensures l (omega arith) g.real-gain.ensures f.real-gain2.ensures e.real-gain3.ensures d.real-gain4.ensures)
-          (λ i. let t = four.sure4.ensures i in let z = three.sure3.ensures t.0 in let y = two.sure2.ensures z.0 in let x = one.sure.ensures y.0 in (x.0, sure-corner 24 v w q.quad_at.ensures l (omega arith) x.1 y.1 z.1 t.1)),
+      shrunk-turn p.loop-l.invariant.1 (omega arith) (omega arith) (omega arith) c.set_quad.ensures (new-corner 24 v w q.quad_at-q.ensures l (omega arith) g.real_gain.ensures f.real_gain-in-loop-l.ensures e.real_gain-in-loop-l-2.ensures d.real_gain-in-loop-l-3.ensures)
+          (λ i. let t = four.sure-s-in-loop-l.ensures i in let z = three.sure-in-loop-l.ensures t.0 in let y = two.sure-s.ensures z.0 in let x = one.sure.ensures y.0 in (x.0, sure-corner 24 v w q.quad_at-q.ensures l (omega arith) x.1 y.1 z.1 t.1)),
     )
 
-returns : of.Tie.Need-returns Inv-loop μ-loop
-returns c = shrunk-at c.before.loop.inv.1 (omega arith)
+returns : of.Tie.Need-returns invariant-loop-l decreases-loop-l
+returns c = shrunk-at c.before.loop-l.invariant.1 (omega arith)
 
-pub corner-spec : {M : Type 1} → of.Statement.statement M
-corner-spec = of.Tie.close (of.Tie.spec
-    Inv-loop μ-loop (λ c. (omega arith, shrunk-start 0 c.pre)) (λ c κs. search needs) (λ c. search needs) (λ c. search needs) (λ c. search needs) (λ c. search needs) (λ c. search needs) (λ c κs. search needs) (λ c. search needs) (λ c κs. search needs) (λ c. search needs) (λ c κs. search needs) (λ c. search needs) (λ c κs. search needs) (λ c. search needs) (λ c κs. search needs) (λ c. search needs) (λ c κs. search needs) (λ c. search needs) (λ c κs. search needs) (λ c. search needs) (λ c κs. search needs) set-quad-requires (λ c. search needs) (λ c. search needs) loop-again returns)
+pub corner_spec : {M : Type 1} → of.Statement.statement M
+corner_spec = of.Tie.close (of.Tie.spec
+    invariant-loop-l decreases-loop-l (λ c. (omega arith, shrunk-start 0 c.requires)) (λ c κs. search rules) (λ c. search rules) (λ c. search rules) (λ c. search rules) (λ c. search rules) (λ c. search rules) (λ c κs. search rules) (λ c. search rules) (λ c κs. search rules) (λ c. search rules) (λ c κs. search rules) (λ c. search rules) (λ c κs. search rules) (λ c. search rules) (λ c κs. search rules) (λ c. search rules) (λ c κs. search rules) (λ c. search rules) (λ c κs. search rules) (λ c. search rules) (λ c κs. search rules) set-quad-requires (λ c. search rules) (λ c. search rules) loop-again returns)

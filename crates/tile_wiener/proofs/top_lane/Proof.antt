@@ -1,5 +1,5 @@
 -- `tile_wiener::top_lane`: two bins, each with its conjugate.
-use Rattle.algebra.specs.Prelude.{refl, ◌+◌, ◌*◌, arith, needs, now}
+use Rattle.algebra.specs.Prelude.{refl, ◌+◌, ◌*◌, arith, rules, now}
 use Rattle.tile_quad.specs.LaneLaws.{lanes_start, lanes-turn}
 use Rattle.tile_wiener.specs.NewQuads.{new-top}
 use Rattle.tile_wiener.proofs.top_lane as of
@@ -12,8 +12,8 @@ returns c =
     let s = q.before.before in
     let u = s.args.u in
     let l = s.args.l in
-    (q.quad_at.ensures, lanes-turn (lanes_start (16 * u + l) s.pre.paired) (omega arith) (omega arith) refl c.set-quad.ensures (new-top 24 (now s.args.v) (now s.args.w) q.quad_at.ensures u l s.pre.u_some s.pre.l_below g.gains.ensures h.gains2.ensures))
+    (q.quad_at-q.ensures, lanes-turn (lanes_start (16 * u + l) s.requires.paired) (omega arith) (omega arith) refl c.set_quad.ensures (new-top 24 (now s.args.v) (now s.args.w) q.quad_at-q.ensures u l s.requires.u_some s.requires.l_below g.gains-g.ensures h.gains-h.ensures))
 
-pub top-lane-spec : {M : Type 1} → of.Statement.statement M
-top-lane-spec = of.Tie.close (of.Tie.spec
-    (λ c κs. search needs) (λ c. search needs) (λ c. search needs) (λ c. search needs) (λ c. search needs) (λ c. search needs) (λ c. search needs) (λ c κs. search needs) (λ c. search needs) (λ c. search needs) (λ c κs. search needs) (λ c. search needs) (λ c. search needs) (λ c. search needs) (λ c. search needs) (λ c. search needs) (λ c. search needs) (λ c. search needs) (λ c. search needs) (λ c κs. search needs) returns)
+pub top_lane_spec : {M : Type 1} → of.Statement.statement M
+top_lane_spec = of.Tie.close (of.Tie.spec
+    (λ c κs. search rules) (λ c. search rules) (λ c. search rules) (λ c. search rules) (λ c. search rules) (λ c. search rules) (λ c. search rules) (λ c κs. search rules) (λ c. search rules) (λ c. search rules) (λ c κs. search rules) (λ c. search rules) (λ c. search rules) (λ c. search rules) (λ c. search rules) (λ c. search rules) (λ c. search rules) (λ c. search rules) (λ c. search rules) (λ c κs. search rules) returns)

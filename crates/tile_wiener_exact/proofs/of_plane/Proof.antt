@@ -3,11 +3,11 @@ use Rattle.algebra.specs.Prelude.{arith}
 use borrow.Author.Tests.{eq-eqb, ne_eqb}
 use Rattle.tile_wiener_exact.proofs.of_plane as of
 
-returns : of.Tie.Need-returns
+returns : of.Tie.Need-returns-then-p-eq0
 returns c = rw (eq-eqb c.before.args.p 0 (omega arith))
 
-returns-2 : of.Tie.Need-returns-2
+returns-2 : of.Tie.Need-returns
 returns-2 c = rw (ne_eqb c.before.args.p 0 (λ e. omega arith))
 
-pub of-plane-spec : {M : Type 1} → of.Statement.statement M
-of-plane-spec = of.Tie.close (of.Tie.spec returns returns-2)
+pub of_plane_spec : {M : Type 1} → of.Statement.statement M
+of_plane_spec = of.Tie.close (of.Tie.spec returns returns-2)

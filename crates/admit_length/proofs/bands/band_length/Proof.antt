@@ -4,14 +4,14 @@ use native.Mathlib.Nat.{mul-le-mul}
 use Rattle.admit_length.specs.Bands.{band_length}
 use Rattle.admit_length.proofs.bands.band_length as of
 
-mul-result : of.Tie.Need-mul-result
+mul-result : of.Tie.Need-overflow_mul-result
 mul-result c =
     let s = c.before in
-    omega (arith, mul-le-mul {n₁ = s.args.rows} {m₁ = s.args.shape.width} {n₂ = 4096} {m₂ = 4096} (omega (arith, s.pre.1, s.pre.0.high.most)) s.pre.0.wide.most)
+    omega (arith, mul-le-mul {n₁ = s.args.rows} {m₁ = s.args.shape.width} {n₂ = 4096} {m₂ = 4096} (omega (arith, s.requires.1, s.requires.0.high.most)) s.requires.0.wide.most)
 
 returns : of.Tie.Need-returns
 unfolding band_length
 returns c = refl
 
-pub band-length-spec : {M : Type 1} → of.Statement.statement M
-band-length-spec = of.Tie.close (of.Tie.spec mul-result returns)
+pub band_length_spec : {M : Type 1} → of.Statement.statement M
+band_length_spec = of.Tie.close (of.Tie.spec mul-result returns)

@@ -7,5 +7,5 @@ returns : of.Tie.Need-returns
 unfolding band_lengths
 returns c = cc
 
-pub band-lengths-spec : {M : Type 1} → of.Statement.statement M
-band-lengths-spec = of.Tie.close (of.Tie.spec (λ c κs. search rules) (λ c κs. search rules) (λ c κs. search rules) (λ c κs. search rules) (λ c κs. search rules) (λ c κs. search rules) (λ c κs. search rules) (λ c κs. search rules) (λ c. search rules) (λ c κs. search rules) returns)
+pub band_lengths_spec : {M : Type 1} → of.Statement.statement M
+band_lengths_spec = of.Tie.close (of.Tie.spec (λ c κs. search rules) (λ c κs. search rules) (λ c κs. search rules) (λ c κs. search rules) (λ c κs. search rules) (λ c κs. search rules) (λ c κs. search rules) (λ c κs. search rules) (λ c. search rules) (λ c κs. search rules) returns)

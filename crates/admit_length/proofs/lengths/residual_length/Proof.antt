@@ -1,5 +1,5 @@
 -- The tiles of the other frames are few.
-use Rattle.algebra.specs.Prelude.{ap₂, ℕ, ◌-◌, ◌*◌, ◌≤◌, arith, needs}
+use Rattle.algebra.specs.Prelude.{ap₂, ℕ, ◌-◌, ◌*◌, ◌≤◌, arith, rules}
 use native.Mathlib.Nat.{mul-le-mul}
 use Rattle.admit_length.specs.Residuals.{residual_length}
 use Rattle.admit_length.proofs.lengths.residual_length as of
@@ -7,24 +7,24 @@ use Rattle.admit_length.proofs.lengths.residual_length as of
 most : (n rows columns : ℕ) → n ≤ 7 → rows ≤ 257 → columns ≤ 257 → n * (rows * columns) ≤ 462343
 most n rows columns few high wide = mul-le-mul {n₁ = n} {m₁ = rows * columns} {n₂ = 7} {m₂ = 66049} few (mul-le-mul high wide)
 
-mul-result : of.Tie.Need-mul-result
-mul-result c = omega (arith, mul-le-mul c.before.tile-rows.ensures.1 c.tile-columns.ensures.1)
+mul-result : of.Tie.Need-overflow_mul-result
+mul-result c = omega (arith, mul-le-mul c.before.tile_rows.ensures.1 c.tile_columns.ensures.1)
 
-mul-result-2 : of.Tie.Need-mul-result-2
+mul-result-2 : of.Tie.Need-overflow_mul-result-2
 mul-result-2 c =
     let s = c.before.before.before in
     let n = s.args.shape.count - 1 in
-    omega (arith, most n _ _ (omega (arith, s.pre.0.few)) c.before.tile-rows.ensures.1 c.tile-columns.ensures.1)
+    omega (arith, most n _ _ (omega (arith, s.requires.0.few)) c.before.tile_rows.ensures.1 c.tile_columns.ensures.1)
 
 returns : of.Tie.Need-returns
 unfolding residual_length
 returns c =
     let s = c.before.before.before in
     let n = s.args.shape.count - 1 in
-    let rows = c.before.tile-rows.ensures in
-    let columns = c.tile-columns.ensures in
-    (ap₂ (λ a b. n * (a * b)) rows.0 columns.0, most n _ _ (omega (arith, s.pre.0.few)) rows.1 columns.1)
+    let rows = c.before.tile_rows.ensures in
+    let columns = c.tile_columns.ensures in
+    (ap₂ (λ a b. n * (a * b)) rows.0 columns.0, most n _ _ (omega (arith, s.requires.0.few)) rows.1 columns.1)
 
-pub residual-length-spec : {M : Type 1} → of.Statement.statement M
-residual-length-spec = of.Tie.close (of.Tie.spec
-    (λ c. search needs) (λ c κs. search needs) (λ c κs. search needs) mul-result mul-result-2 returns)
+pub residual_length_spec : {M : Type 1} → of.Statement.statement M
+residual_length_spec = of.Tie.close (of.Tie.spec
+    (λ c. search rules) (λ c κs. search rules) (λ c κs. search rules) mul-result mul-result-2 returns)

@@ -7,5 +7,5 @@ returns : of.Tie.Need-returns
 unfolding align_frame_lengths
 returns c = cc
 
-pub align-frame-lengths-spec : {M : Type 1} → of.Statement.statement M
-align-frame-lengths-spec = of.Tie.close (of.Tie.spec (λ c κs. search rules) (λ c κs. search rules) (λ c κs. search rules) (λ c κs. search rules) (λ c κs. search rules) (λ c κs. search rules) (λ c. search rules) (λ c κs. search rules) returns)
+pub align_frame_lengths_spec : {M : Type 1} → of.Statement.statement M
+align_frame_lengths_spec = of.Tie.close (of.Tie.spec (λ c κs. search rules) (λ c κs. search rules) (λ c κs. search rules) (λ c κs. search rules) (λ c κs. search rules) (λ c κs. search rules) (λ c. search rules) (λ c κs. search rules) returns)

@@ -8,5 +8,5 @@ returns : of.Tie.Need-returns
 unfolding frame_work_length
 returns c = refl
 
-pub frame-work-length-spec : {M : Type 1} → of.Statement.statement M
-frame-work-length-spec = of.Tie.close (of.Tie.spec (λ c. omega (arith, area-most c.before.pre)) returns)
+pub frame_work_length_spec : {M : Type 1} → of.Statement.statement M
+frame_work_length_spec = of.Tie.close (of.Tie.spec (λ c. omega (arith, area-most c.before.requires)) returns)

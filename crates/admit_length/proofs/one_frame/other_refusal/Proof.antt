@@ -7,5 +7,5 @@ returns : of.Tie.Need-returns
 unfolding other_refusal
 returns c = c.refuse.ensures
 
-pub other-refusal-spec : {M : Type 1} → of.Statement.statement M
-other-refusal-spec = of.Tie.close (of.Tie.spec (λ c. search rules) (λ c κs. search rules) returns)
+pub other_refusal_spec : {M : Type 1} → of.Statement.statement M
+other_refusal_spec = of.Tie.close (of.Tie.spec (λ c. search rules) (λ c κs. search rules) returns)

@@ -7,5 +7,5 @@ returns : of.Tie.Need-returns
 unfolding align_lengths
 returns c = cc
 
-pub align-lengths-spec : {M : Type 1} → of.Statement.statement M
-align-lengths-spec = of.Tie.close (of.Tie.spec (λ c κs. search rules) (λ c κs. search rules) (λ c κs. search rules) (λ c κs. search rules) (λ c κs. search rules) (λ c κs. search rules) (λ c. search rules) (λ c κs. search rules) returns)
+pub align_lengths_spec : {M : Type 1} → of.Statement.statement M
+align_lengths_spec = of.Tie.close (of.Tie.spec (λ c κs. search rules) (λ c κs. search rules) (λ c κs. search rules) (λ c κs. search rules) (λ c κs. search rules) (λ c κs. search rules) (λ c. search rules) (λ c κs. search rules) returns)

@@ -7,5 +7,5 @@ returns : of.Tie.Need-returns
 unfolding merge_lengths
 returns c = cc
 
-pub merge-lengths-spec : {M : Type 1} → of.Statement.statement M
-merge-lengths-spec = of.Tie.close (of.Tie.spec (λ c κs. search rules) (λ c κs. search rules) (λ c κs. search rules) (λ c κs. search rules) (λ c κs. search rules) (λ c κs. search rules) (λ c κs. search rules) (λ c κs. search rules) (λ c. search rules) (λ c κs. search rules) returns)
+pub merge_lengths_spec : {M : Type 1} → of.Statement.statement M
+merge_lengths_spec = of.Tie.close (of.Tie.spec (λ c κs. search rules) (λ c κs. search rules) (λ c κs. search rules) (λ c κs. search rules) (λ c κs. search rules) (λ c κs. search rules) (λ c κs. search rules) (λ c κs. search rules) (λ c. search rules) (λ c κs. search rules) returns)

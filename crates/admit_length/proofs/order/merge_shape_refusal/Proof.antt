@@ -1,20 +1,20 @@
 -- The tests of the burst refuse, or let the lengths decide.
-use Rattle.algebra.specs.Prelude.{sym, ◌∙◌, needs}
+use Rattle.algebra.specs.Prelude.{sym, ◌∙◌, rules}
 use Rattle.refusals.specs.TestLaws.{stops, goes}
 use Rattle.admit_length.specs.Order.{merge_shape_tests}
 use Rattle.admit_length.specs.OrderLaws.{burst-allowed}
 use Rattle.admit_length.proofs.order.merge_shape_refusal as of
 
-returns : of.Tie.Need-returns
+returns : of.Tie.Need-returns-then-burst-ne0
 unfolding merge_shape_tests
-returns c = stops _ _ c.before.burst-refusal.ensures c.if1.taken
+returns c = stops _ _ c.before.burst_refusal-burst.ensures c.if-burst-ne0.true
 
-merge-lengths-requires : of.Tie.Need-merge-lengths-requires
-merge-lengths-requires c κs = burst-allowed _ c.before.before.args.reference (sym c.before.burst-refusal.ensures ∙ c.if1.left)
+merge-lengths-requires : of.Tie.Need-merge_lengths-requires
+merge-lengths-requires c κs = burst-allowed _ c.before.before.args.reference (sym c.before.burst_refusal-burst.ensures ∙ c.if-burst-ne0.false)
 
-returns-2 : of.Tie.Need-returns-2
+returns-2 : of.Tie.Need-returns
 unfolding merge_shape_tests
-returns-2 c = goes _ _ c.before.before.burst-refusal.ensures c.before.if1.left c.merge-lengths.ensures
+returns-2 c = goes _ _ c.before.before.burst_refusal-burst.ensures c.before.if-burst-ne0.false c.merge_lengths.ensures
 
-pub merge-shape-refusal-spec : {M : Type 1} → of.Statement.statement M
-merge-shape-refusal-spec = of.Tie.close (of.Tie.spec (λ c κs. search needs) returns merge-lengths-requires returns-2)
+pub merge_shape_refusal_spec : {M : Type 1} → of.Statement.statement M
+merge_shape_refusal_spec = of.Tie.close (of.Tie.spec (λ c κs. search rules) returns merge-lengths-requires returns-2)

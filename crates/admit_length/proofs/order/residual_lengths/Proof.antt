@@ -7,5 +7,5 @@ returns : of.Tie.Need-returns
 unfolding residual_lengths
 returns c = cc
 
-pub residual-lengths-spec : {M : Type 1} → of.Statement.statement M
-residual-lengths-spec = of.Tie.close (of.Tie.spec (λ c κs. search rules) (λ c κs. search rules) (λ c κs. search rules) (λ c κs. search rules) (λ c κs. search rules) (λ c κs. search rules) (λ c κs. search rules) (λ c κs. search rules) (λ c. search rules) (λ c κs. search rules) returns)
+pub residual_lengths_spec : {M : Type 1} → of.Statement.statement M
+residual_lengths_spec = of.Tie.close (of.Tie.spec (λ c κs. search rules) (λ c κs. search rules) (λ c κs. search rules) (λ c κs. search rules) (λ c κs. search rules) (λ c κs. search rules) (λ c κs. search rules) (λ c κs. search rules) (λ c. search rules) (λ c κs. search rules) returns)

@@ -4,29 +4,29 @@ use borrow.Author.Tests.{ne_eqb}
 use Rattle.admit_length.specs.Question.{length_tested}
 use Rattle.admit_length.proofs.question.length_tested as of
 
-returns : of.Tie.Need-returns
+returns : of.Tie.Need-returns-in-4
 unfolding length_tested
-returns c = rw c.before.match.keys1 c.sample-length.ensures.0
+returns c = rw c.before.in-4.keys1 c.sample_length.ensures.0
 
-returns-2 : of.Tie.Need-returns-2
+returns-2 : of.Tie.Need-returns-in-5
 unfolding length_tested
-returns-2 c = rw c.before.match.keys2 c.vector-length.ensures.0
+returns-2 c = rw c.before.in-4.keys2 c.vector_length.ensures.0
 
-returns-3 : of.Tie.Need-returns-3
+returns-3 : of.Tie.Need-returns-in-6
 unfolding length_tested
-returns-3 c = rw c.before.match.keys3 c.output-length.ensures.0
+returns-3 c = rw c.before.in-4.keys3 c.output_length.ensures.0
 
-returns-4 : of.Tie.Need-returns-4
+returns-4 : of.Tie.Need-returns-in-7
 unfolding length_tested
-returns-4 c = rw c.before.match.keys4 c.work-length.ensures.0
+returns-4 c = rw c.before.in-4.keys4 c.work_length.ensures.0
 
-returns-5 : of.Tie.Need-returns-5
+returns-5 : of.Tie.Need-returns-in_default
 unfolding length_tested
 returns-5 c =
-    let none = c.match.rest in
+    let none = c.in-4.rest in
     rw (ne_eqb _ 4 none.0.0.0.1, ne_eqb _ 5 none.0.0.1, ne_eqb _ 6 none.0.1, ne_eqb _ 7 none.1)
 
-pub length-tested-spec : {M : Type 1} → of.Statement.statement M
-length-tested-spec = of.Tie.close (of.Tie.spec
+pub length_tested_spec : {M : Type 1} → of.Statement.statement M
+length_tested_spec = of.Tie.close (of.Tie.spec
     (λ c κs. search rules) (λ c κs. search rules) (λ c κs. search rules) (λ c κs. search rules)
     returns returns-2 returns-3 returns-4 returns-5)

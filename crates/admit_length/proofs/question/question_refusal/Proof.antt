@@ -8,5 +8,5 @@ returns : of.Tie.Need-returns
 unfolding question_tests shape_tests
 returns c = cc
 
-pub question-refusal-spec : {M : Type 1} → of.Statement.statement M
-question-refusal-spec = of.Tie.close (of.Tie.spec (λ c κs. search rules) (λ c κs. search rules) (λ c κs. search rules) (λ c κs. search rules) (λ c. search rules) (λ c κs. search rules) returns)
+pub question_refusal_spec : {M : Type 1} → of.Statement.statement M
+question_refusal_spec = of.Tie.close (of.Tie.spec (λ c κs. search rules) (λ c κs. search rules) (λ c κs. search rules) (λ c κs. search rules) (λ c. search rules) (λ c κs. search rules) returns)

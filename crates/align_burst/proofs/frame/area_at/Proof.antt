@@ -1,6 +1,6 @@
 -- Each number is that of the definition.
 use native.Mathlib.Nat.{zero-add}
-use Rattle.algebra.specs.Prelude.{◌≡◌, sym, ap, ap₂, ◌∙◌, ℕ, ◌+◌, ◌/◌, needs}
+use Rattle.algebra.specs.Prelude.{◌≡◌, sym, ap, ap₂, ◌∙◌, ℕ, ◌+◌, ◌/◌, rules}
 use Rattle.align_burst.specs.Prelude.{Shape, level_size, offset, pyramid_length, Area, level_at}
 use Rattle.align_burst.specs.Sites.{image_number, area_at}
 use Rattle.align_burst.proofs.frame.area_at as of
@@ -13,11 +13,11 @@ returns : of.Tie.Need-returns
 returns c = let n = c.before.before in
     let o = n.before.before in
     let a = o.before.before.args in
-    let from = o.offset.ensures.0 ∙ ap (offset a.shape) o.before.image-number.ensures.0 in
-    let scale = n.scale_of.ensures.0 in
-    made a.shape a.level _ _ _ _ (from ∙ sym (zero-add _)) (ap₂ ◌+◌ n.before.offset2.ensures.0 from) (ap (λ s. a.shape.height / s) scale) (ap (λ s. a.shape.width / s) scale)
+    let from = o.offset-from.ensures.0 ∙ ap (offset a.shape) o.before.image_number.ensures.0 in
+    let scale = n.scale_of-scale.ensures.0 in
+    made a.shape a.level _ _ _ _ (from ∙ sym (zero-add _)) (ap₂ ◌+◌ n.before.offset-length.ensures.0 from) (ap (λ s. a.shape.height / s) scale) (ap (λ s. a.shape.width / s) scale)
 
-pub area-at-spec : {M : Type 1} → of.Statement.statement M
-area-at-spec = of.Tie.close (of.Tie.spec
-    (λ c κs. search needs) (λ c κs. search needs) (λ c κs. search needs) (λ c κs. search needs)
-    (λ c. search needs) (λ c. search needs) (λ c. search needs) returns)
+pub area_at_spec : {M : Type 1} → of.Statement.statement M
+area_at_spec = of.Tie.close (of.Tie.spec
+    (λ c κs. search rules) (λ c κs. search rules) (λ c κs. search rules) (λ c κs. search rules)
+    (λ c. search rules) (λ c. search rules) (λ c. search rules) returns)

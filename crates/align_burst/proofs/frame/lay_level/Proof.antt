@@ -3,10 +3,10 @@ use Rattle.align_burst.specs.LevelLaws.{level-ready}
 use borrow.Author.Rules.{rules}
 use Rattle.align_burst.proofs.frame.lay_level as of
 
-level-field-requires : of.Tie.Need-level-field-requires
+level-field-requires : of.Tie.Need-level_field-rows-requires
 level-field-requires c κs = let s = c.before.before.before in
     record {
-      fits = level-ready s.args.level s.args.at s.requires.site c.before.before.area-at.ensures c.before.grid-at.ensures;
+      fits = level-ready s.args.level s.args.at s.requires.site c.before.before.area_at-area.ensures c.before.grid_at-grid.ensures;
       led = s.requires.led;
       ends = s.requires.ends;
       sided = s.requires.site.sided;
@@ -15,9 +15,9 @@ level-field-requires c κs = let s = c.before.before.before in
 returns : of.Tie.Need-returns
 returns c =
     let g = c.before.before.before in
-    let e = c.before.level-field.ensures in
-    record { grid_is = g.grid-at.ensures; laid = rw g.before.area-at.ensures at e }
+    let e = c.before.level_field-rows.ensures in
+    record { grid_is = g.grid_at-grid.ensures; laid = rw g.before.area_at-area.ensures at e }
 
-pub lay-level-spec : {M : Type 1} → of.Statement.statement M
-lay-level-spec = of.Tie.close (of.Tie.spec
+pub lay_level_spec : {M : Type 1} → of.Statement.statement M
+lay_level_spec = of.Tie.close (of.Tie.spec
     (λ c κs. search rules) (λ c κs. search rules) level-field-requires (λ c. search rules) returns)

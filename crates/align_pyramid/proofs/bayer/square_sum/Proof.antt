@@ -7,8 +7,8 @@ returns : of.Tie.Need-returns
 unfolding bayer_sum
 returns c = search rules
 
-pub square-sum-spec : {M : Type 1} → of.Statement.statement M
-square-sum-spec = of.Tie.close (of.Tie.spec
+pub square_sum_spec : {M : Type 1} → of.Statement.statement M
+square_sum_spec = of.Tie.close (of.Tie.spec
     (λ c. search rules) (λ c. search rules) (λ c κs. search rules) (λ c. search rules)
     (λ c. search rules) (λ c. search rules) (λ c κs. search rules) (λ c. search rules)
     (λ c. search rules) (λ c. search rules) (λ c κs. search rules) (λ c. search rules)

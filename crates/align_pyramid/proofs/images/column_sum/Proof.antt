@@ -7,7 +7,7 @@ returns : of.Tie.Need-returns
 unfolding column_sum weighted
 returns c = search rules
 
-pub column-sum-spec : {M : Type 1} → of.Statement.statement M
-column-sum-spec = of.Tie.close (of.Tie.spec
+pub column_sum_spec : {M : Type 1} → of.Statement.statement M
+column_sum_spec = of.Tie.close (of.Tie.spec
     (λ c κs. search rules) (λ c κs. search rules) (λ c κs. search rules) (λ c κs. search rules)
     (λ c κs. search rules) returns)

@@ -1,6 +1,6 @@
 -- The signed difference of low samples fits 16 bits; its square is that of their distance and fits 32.
 use native.Mathlib.Nat.{mul-le-mul}
-use Rattle.algebra.specs.Prelude.{◌≡◌, ap₂, ◌∙◌, ℕ, ◌*◌, ◌≤◌, arith, needs, T, ℤ, pos, negsuc, nat_abs, ◌-ℤ◌, ◌*ℤ◌, w16, w32, SFits, to_z-of_z}
+use Rattle.algebra.specs.Prelude.{◌≡◌, ap₂, ◌∙◌, ℕ, ◌*◌, ◌≤◌, arith, rules, T, ℤ, pos, negsuc, nat_abs, ◌-ℤ◌, ◌*ℤ◌, w16, w32, SFits, to_z-of_z}
 use lib.Signed.{non_neg}
 use mir.ValLaws.{to_z_pos}
 use Rattle.algebra.specs.Bound.{AtMost, most_fits, mul-fits}
@@ -34,21 +34,21 @@ module _ (x y : ℕ) (hx : x ≤ 16380) (hy : y ≤ 16380) where
   square-most : nat_abs ((pos x -ℤ pos y) *ℤ (pos x -ℤ pos y)) ≤ 268304400
   square-most = omega (arith, abs-mul (pos x -ℤ pos y) (pos x -ℤ pos y), mul-le-mul low.most low.most)
 
-sub-d : of.Tie.Need-sub-d
-sub-d c = let a = c.args in rw (to_z_pos w16 a.x (omega arith), to_z_pos w16 a.y (omega arith)) (fits_16 a.x a.y c.pre.0 c.pre.1)
+sub-d : of.Tie.Need-overflow_sub-d
+sub-d c = let a = c.args in rw (to_z_pos w16 a.x (omega arith), to_z_pos w16 a.y (omega arith)) (fits_16 a.x a.y c.requires.0 c.requires.1)
 
-cast-d-3 : of.Tie.Need-cast-d-3
-cast-d-3 c = let a = c.args in rw (to_z_pos w16 a.x (omega arith), to_z_pos w16 a.y (omega arith), to_z-of_z (fits_16 a.x a.y c.pre.0 c.pre.1)) (fits-32 a.x a.y c.pre.0 c.pre.1)
+cast-d-3 : of.Tie.Need-overflow_cast-d-3
+cast-d-3 c = let a = c.args in rw (to_z_pos w16 a.x (omega arith), to_z_pos w16 a.y (omega arith), to_z-of_z (fits_16 a.x a.y c.requires.0 c.requires.1)) (fits-32 a.x a.y c.requires.0 c.requires.1)
 
-mul-result : of.Tie.Need-mul-result
-mul-result c = let a = c.args in rw (to_z_pos w16 a.x (omega arith), to_z_pos w16 a.y (omega arith), to_z-of_z (fits_16 a.x a.y c.pre.0 c.pre.1), to_z-of_z (fits-32 a.x a.y c.pre.0 c.pre.1)) (square-fits a.x a.y c.pre.0 c.pre.1)
+mul-result : of.Tie.Need-overflow_mul-result
+mul-result c = let a = c.args in rw (to_z_pos w16 a.x (omega arith), to_z_pos w16 a.y (omega arith), to_z-of_z (fits_16 a.x a.y c.requires.0 c.requires.1), to_z-of_z (fits-32 a.x a.y c.requires.0 c.requires.1)) (square-fits a.x a.y c.requires.0 c.requires.1)
 
-cast-result : of.Tie.Need-cast-result
-cast-result c = let a = c.args in rw (to_z_pos w16 a.x (omega arith), to_z_pos w16 a.y (omega arith), to_z-of_z (fits_16 a.x a.y c.pre.0 c.pre.1), to_z-of_z (fits-32 a.x a.y c.pre.0 c.pre.1), to_z-of_z (square-fits a.x a.y c.pre.0 c.pre.1)) (square-positive (pos a.x -ℤ pos a.y), record { fits = omega (arith, square-most a.x a.y c.pre.0 c.pre.1) })
+cast-result : of.Tie.Need-overflow_cast-result
+cast-result c = let a = c.args in rw (to_z_pos w16 a.x (omega arith), to_z_pos w16 a.y (omega arith), to_z-of_z (fits_16 a.x a.y c.requires.0 c.requires.1), to_z-of_z (fits-32 a.x a.y c.requires.0 c.requires.1), to_z-of_z (square-fits a.x a.y c.requires.0 c.requires.1)) (square-positive (pos a.x -ℤ pos a.y), record { fits = omega (arith, square-most a.x a.y c.requires.0 c.requires.1) })
 
 returns : of.Tie.Need-returns
-returns c = let a = c.args in rw (to_z_pos w16 a.x (omega arith), to_z_pos w16 a.y (omega arith), to_z-of_z (fits_16 a.x a.y c.pre.0 c.pre.1), to_z-of_z (fits-32 a.x a.y c.pre.0 c.pre.1), to_z-of_z (square-fits a.x a.y c.pre.0 c.pre.1)) (square-is a.x a.y c.pre.0 c.pre.1, square-most a.x a.y c.pre.0 c.pre.1)
+returns c = let a = c.args in rw (to_z_pos w16 a.x (omega arith), to_z_pos w16 a.y (omega arith), to_z-of_z (fits_16 a.x a.y c.requires.0 c.requires.1), to_z-of_z (fits-32 a.x a.y c.requires.0 c.requires.1), to_z-of_z (square-fits a.x a.y c.requires.0 c.requires.1)) (square-is a.x a.y c.requires.0 c.requires.1, square-most a.x a.y c.requires.0 c.requires.1)
 
-pub square-spec : {M : Type 1} → of.Statement.statement M
-square-spec = of.Tie.close (of.Tie.spec
-    (λ c. search needs) (λ c. search needs) sub-d cast-d-3 mul-result cast-result returns)
+pub square_spec : {M : Type 1} → of.Statement.statement M
+square_spec = of.Tie.close (of.Tie.spec
+    (λ c. search rules) (λ c. search rules) sub-d cast-d-3 mul-result cast-result returns)

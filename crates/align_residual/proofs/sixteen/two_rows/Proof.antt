@@ -1,26 +1,26 @@
 -- One sum over eight times four samples.
 use Rattle.align_residual.specs.SixteenLaws.{compared-less, four-rows, eight-done}
 use Rattle.sequences.specs.Sum.{Summed, sum-start, sum-turn}
-use Rattle.algebra.specs.Prelude.{◌∙◌, ◌+◌, ◌-◌, arith, needs}
+use Rattle.algebra.specs.Prelude.{◌∙◌, ◌+◌, ◌-◌, arith, rules}
 use Rattle.align_residual.specs.Local.{beside_sum}
 use Rattle.align_residual.proofs.sixteen.two_rows as of
 
-abbrev Inv-loop : of.Tie.InvT-loop
-Inv-loop tile window a b sum₀ j₀ sum j = Summed (λ k. beside_sum tile window (a + k) (b + k) + beside_sum tile window (a + k + 16) (b + k + 24)) 65535 8 j sum
+abbrev invariant-loop-j : of.Tie.invariant-loop-j
+invariant-loop-j tile window a b sum₀ j₀ sum j = Summed (λ k. beside_sum tile window (a + k) (b + k) + beside_sum tile window (a + k + 16) (b + k + 24)) 65535 8 j sum
 
-abbrev μ-loop : of.Tie.MeasureT-loop
-μ-loop tile window a b sum₀ j₀ sum j = 8 - j
+abbrev decreases-loop-j : of.Tie.decreases-loop-j
+decreases-loop-j tile window a b sum₀ j₀ sum j = 8 - j
 
-four-requires : of.Tie.Need-four-requires Inv-loop μ-loop
-four-requires c κs = let s = c.before.before.before.before in compared-less s.pre _ _ (omega arith) (omega arith)
+four-requires : of.Tie.Need-four-requires invariant-loop-j decreases-loop-j
+four-requires c κs = let s = c.before.before.before.before in compared-less s.requires _ _ (omega arith) (omega arith)
 
-loop-again : of.Tie.Need-loop-again Inv-loop μ-loop
-loop-again c = let d = c.before in sum-turn d.before.before.loop.inv (omega arith) (c.wide.ensures.0 ∙ d.four.ensures.0) c.wide.ensures.1
+loop-again : of.Tie.Need-loop-j-preserved invariant-loop-j decreases-loop-j
+loop-again c = let d = c.before in sum-turn d.before.before.loop-j.invariant (omega arith) (c.wide-sum.ensures.0 ∙ d.four.ensures.0) c.wide-sum.ensures.1
 
-returns : of.Tie.Need-returns Inv-loop μ-loop
-returns c = let a = c.before.before.before.before.args in eight-done c.before.loop.inv (omega arith) (four-rows a.tile.now a.window.now a.a a.b)
+returns : of.Tie.Need-returns invariant-loop-j decreases-loop-j
+returns c = let a = c.before.before.before.before.args in eight-done c.before.loop-j.invariant (omega arith) (four-rows a.tile.now a.window.now a.a a.b)
 
-pub two-rows-spec : {M : Type 1} → of.Statement.statement M
-two-rows-spec = of.Tie.close (of.Tie.spec
-    Inv-loop μ-loop (λ c. sum-start) (λ c. search needs) (λ c. search needs) four-requires
-    (λ c κs. search needs) (λ c. search needs) (λ c. search needs) (λ c. search needs) loop-again returns)
+pub two_rows_spec : {M : Type 1} → of.Statement.statement M
+two_rows_spec = of.Tie.close (of.Tie.spec
+    invariant-loop-j decreases-loop-j (λ c. sum-start) (λ c. search rules) (λ c. search rules) four-requires
+    (λ c κs. search rules) (λ c. search rules) (λ c. search rules) (λ c. search rules) loop-again returns)

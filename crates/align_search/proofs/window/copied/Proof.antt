@@ -1,22 +1,22 @@
 -- Each turn copies one sample.
 use Rattle.sequences.specs.TabLaws.{Filled, fill_start, fill-turn, fill_done}
-use Rattle.algebra.specs.Prelude.{refl, ◌-◌, arith, needs, get_or}
+use Rattle.algebra.specs.Prelude.{refl, ◌-◌, arith, rules, get_or}
 use Rattle.align_search.proofs.window.copied as of
 
-abbrev Inv-loop : of.Tie.InvT-loop
-Inv-loop tile own₀ k₀ own k = Filled (λ k. get_or tile k 0) 256 k own₀ own
+abbrev invariant-loop-k : of.Tie.invariant-loop-k
+invariant-loop-k tile own₀ k₀ own k = Filled (λ k. get_or tile k 0) 256 k own₀ own
 
-abbrev μ-loop : of.Tie.MeasureT-loop
-μ-loop tile own₀ k₀ own k = 256 - k
+abbrev decreases-loop-k : of.Tie.decreases-loop-k
+decreases-loop-k tile own₀ k₀ own k = 256 - k
 
-loop-again : of.Tie.Need-loop-again Inv-loop μ-loop
-loop-again c = fill-turn c.before.before.loop.inv (omega arith) refl
+loop-again : of.Tie.Need-loop-k-preserved invariant-loop-k decreases-loop-k
+loop-again c = fill-turn c.before.before.loop-k.invariant (omega arith) refl
 
-returns : of.Tie.Need-returns Inv-loop μ-loop
-returns c = fill_done c.before.loop.inv (omega arith)
+returns : of.Tie.Need-returns invariant-loop-k decreases-loop-k
+returns c = fill_done c.before.loop-k.invariant (omega arith)
 
-pub copied-spec : {M : Type 1} → of.Statement.statement M
-copied-spec = of.Tie.close (of.Tie.spec
-    Inv-loop μ-loop (λ c. fill_start refl) (λ c. search needs) (λ c. search needs)
-    (λ c. search needs) (λ c. search needs) (λ c. search needs) (λ c. search needs) loop-again
+pub copied_spec : {M : Type 1} → of.Statement.statement M
+copied_spec = of.Tie.close (of.Tie.spec
+    invariant-loop-k decreases-loop-k (λ c. fill_start refl) (λ c. search rules) (λ c. search rules)
+    (λ c. search rules) (λ c. search rules) (λ c. search rules) (λ c. search rules) loop-again
     returns)

@@ -8,21 +8,21 @@ use Rattle.align_search.proofs.window.search as of
 other-side : (squared : Bool) (side : ℕ) → Narrow squared side → side ≡ 32 → ⊥
 other-side squared side k e = ⊎_elim (λ h. omega (arith, h.0)) (λ h. omega arith) k.is
 
-wide-search-requires : of.Tie.Need-wide-search-requires
-wide-search-requires c κs = let s = c.before.before.before in subst (Window s.args.tile.now s.args.window.now) c.if1.taken s.pre.around
+wide-search-requires : of.Tie.Need-wide_search-requires
+wide-search-requires c κs = let s = c.before.before.before in subst (Window s.args.tile.now s.args.window.now) c.if-side-eq32.true s.requires.around
 
-squared-is : (c : of.Tie.Then1) → c.before.before.before.args.squared ≡ false
-squared-is c = let s = c.before.before.before in ⊎_elim (λ k. absurd (other-side s.args.squared s.args.side k c.if1.taken)) (λ k. k.1) s.pre.kind.is
+squared-is : (c : of.Tie.Then-side-eq32) → c.before.before.before.args.squared ≡ false
+squared-is c = let s = c.before.before.before in ⊎_elim (λ k. absurd (other-side s.args.squared s.args.side k c.if-side-eq32.true)) (λ k. k.1) s.requires.kind.is
 
-returns : of.Tie.Need-returns
-returns c = rw (squared-is c.before, c.before.if1.taken) c.wide-search.ensures
+returns : of.Tie.Need-returns-then-side-eq32
+returns c = rw (squared-is c.before, c.before.if-side-eq32.true) c.wide_search.ensures
 
 -- and else it is narrow
-narrow : (c : of.Tie.Else1) → let a = c.before.before.before.args in Narrow a.squared a.side
-narrow c = ⊎_elim (λ k. k) (λ k. absurd (c.if1.left k.0)) c.before.before.before.pre.kind.is
+narrow : (c : of.Tie.Else-side-eq32) → let a = c.before.before.before.args in Narrow a.squared a.side
+narrow c = ⊎_elim (λ k. k) (λ k. absurd (c.if-side-eq32.false k.0)) c.before.before.before.requires.kind.is
 
-narrow-search-requires : of.Tie.Need-narrow-search-requires
-narrow-search-requires c κs = let s = c.before.before.before in record { around = s.pre.around; kind = narrow c; room = s.pre.room }
+narrow-search-requires : of.Tie.Need-narrow_search-requires
+narrow-search-requires c κs = let s = c.before.before.before in record { around = s.requires.around; kind = narrow c; room = s.requires.room }
 
-pub search-spec : {M : Type 1} → of.Statement.statement M
-search-spec = of.Tie.close (of.Tie.spec wide-search-requires returns narrow-search-requires (λ c. c.narrow-search.ensures))
+pub search_spec : {M : Type 1} → of.Statement.statement M
+search_spec = of.Tie.close (of.Tie.spec wide-search-requires returns narrow-search-requires (λ c. c.narrow_search.ensures))

@@ -1,13 +1,13 @@
 -- `c_api::band::stacker_merge_band_iso`: shape, noise and tuning are those that the descriptions stand for.
-use Rattle.algebra.specs.Prelude.{needs}
+use Rattle.algebra.specs.Prelude.{rules}
 use Rattle.c_api.proofs.band.stacker_merge_band_iso as of
 
 returns : of.Tie.Need-returns
 returns c =
     let m = c.before.before.before in
     let t = m.before.before.before in
-    rw (t.before.before.shape_of.ensures, t.before.at-iso.ensures, t.tuned.ensures) at m.merge-band.ensures
+    rw (t.before.before.shape_of.ensures, t.before.at_iso.ensures, t.tuned.ensures) at m.merge_band.ensures
 
-pub stacker-merge-band-iso-spec : {M : Type 1} → of.Statement.statement M
-stacker-merge-band-iso-spec = of.Tie.close (of.Tie.spec
-    (λ c κs. search needs) (λ c κs. search needs) (λ c κs. search needs) (λ c κs. search needs) (λ c. search needs) (λ c. search needs) returns)
+pub stacker_merge_band_iso_spec : {M : Type 1} → of.Statement.statement M
+stacker_merge_band_iso_spec = of.Tie.close (of.Tie.spec
+    (λ c κs. search rules) (λ c κs. search rules) (λ c κs. search rules) (λ c κs. search rules) (λ c. search rules) (λ c. search rules) returns)

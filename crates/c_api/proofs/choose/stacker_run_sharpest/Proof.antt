@@ -1,13 +1,13 @@
 -- `c_api::choose::stacker_run_sharpest`: shape, noise and tuning are those that the descriptions stand for.
-use Rattle.algebra.specs.Prelude.{needs}
+use Rattle.algebra.specs.Prelude.{rules}
 use Rattle.c_api.proofs.choose.stacker_run_sharpest as of
 
 returns : of.Tie.Need-returns
 returns c =
     let m = c.before.before.before.before in
     let t = m.before.before.before.before in
-    rw (t.before.before.shape_of.ensures, t.before.measured.ensures, t.tuned.ensures, t.before.before.before.of-frames.ensures) at m.run-sharpest.ensures
+    rw (t.before.before.shape_of.ensures, t.before.measured.ensures, t.tuned.ensures, t.before.before.before.of_frames-burst.ensures) at m.run_sharpest.ensures
 
-pub stacker-run-sharpest-spec : {M : Type 1} → of.Statement.statement M
-stacker-run-sharpest-spec = of.Tie.close (of.Tie.spec
-    (λ c κs. search needs) (λ c κs. search needs) (λ c κs. search needs) (λ c κs. search needs) (λ c κs. search needs) (λ c. search needs) (λ c. search needs) (λ c. search needs) returns)
+pub stacker_run_sharpest_spec : {M : Type 1} → of.Statement.statement M
+stacker_run_sharpest_spec = of.Tie.close (of.Tie.spec
+    (λ c κs. search rules) (λ c κs. search rules) (λ c κs. search rules) (λ c κs. search rules) (λ c κs. search rules) (λ c. search rules) (λ c. search rules) (λ c. search rules) returns)

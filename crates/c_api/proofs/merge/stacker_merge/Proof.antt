@@ -1,5 +1,5 @@
 -- `c_api::merge::stacker_merge`: shape, noise and tuning are those that the descriptions stand for.
-use Rattle.algebra.specs.Prelude.{needs}
+use Rattle.algebra.specs.Prelude.{rules}
 use Rattle.c_api.proofs.merge.stacker_merge as of
 
 returns : of.Tie.Need-returns
@@ -8,6 +8,6 @@ returns c =
     let t = m.before.before.before in
     rw (t.before.before.shape_of.ensures, t.before.measured.ensures, t.tuned.ensures) at m.merge.ensures
 
-pub stacker-merge-spec : {M : Type 1} → of.Statement.statement M
-stacker-merge-spec = of.Tie.close (of.Tie.spec
-    (λ c κs. search needs) (λ c κs. search needs) (λ c κs. search needs) (λ c κs. search needs) (λ c. search needs) (λ c. search needs) returns)
+pub stacker_merge_spec : {M : Type 1} → of.Statement.statement M
+stacker_merge_spec = of.Tie.close (of.Tie.spec
+    (λ c κs. search rules) (λ c κs. search rules) (λ c κs. search rules) (λ c κs. search rules) (λ c. search rules) (λ c. search rules) returns)

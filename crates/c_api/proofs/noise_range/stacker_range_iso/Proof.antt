@@ -1,5 +1,5 @@
 -- `c_api::noise_range::stacker_range_iso`: shape, noises and tuning are those that the descriptions stand for.
-use Rattle.algebra.specs.Prelude.{needs}
+use Rattle.algebra.specs.Prelude.{rules}
 use Rattle.c_api.proofs.noise_range.stacker_range_iso as of
 
 returns : of.Tie.Need-returns
@@ -7,8 +7,8 @@ returns c =
     let m = c.before.before.before.before.before in
     let t = m.before.before.before.before in
     let u = t.before in
-    rw (u.before.before.shape_of.ensures, u.before.at-iso.ensures, u.at-iso2.ensures, t.tuned.ensures) at m.range.ensures
+    rw (u.before.before.shape_of.ensures, u.before.at_iso.ensures, u.at_iso-2.ensures, t.tuned.ensures) at m.range.ensures
 
-pub stacker-range-iso-spec : {M : Type 1} → of.Statement.statement M
-stacker-range-iso-spec = of.Tie.close (of.Tie.spec
-    (λ c κs. search needs) (λ c κs. search needs) (λ c κs. search needs) (λ c κs. search needs) (λ c κs. search needs) (λ c. search needs) (λ c. search needs) (λ c. search needs) returns)
+pub stacker_range_iso_spec : {M : Type 1} → of.Statement.statement M
+stacker_range_iso_spec = of.Tie.close (of.Tie.spec
+    (λ c κs. search rules) (λ c κs. search rules) (λ c κs. search rules) (λ c κs. search rules) (λ c κs. search rules) (λ c. search rules) (λ c. search rules) (λ c. search rules) returns)

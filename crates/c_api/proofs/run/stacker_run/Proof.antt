@@ -1,5 +1,5 @@
 -- `c_api::run::stacker_run`: shape, noise and tuning are those that the descriptions stand for.
-use Rattle.algebra.specs.Prelude.{needs}
+use Rattle.algebra.specs.Prelude.{rules}
 use Rattle.c_api.proofs.run.stacker_run as of
 
 returns : of.Tie.Need-returns
@@ -8,6 +8,6 @@ returns c =
     let t = m.before.before.before.before in
     rw (t.before.before.shape_of.ensures, t.before.measured.ensures, t.tuned.ensures) at m.run.ensures
 
-pub stacker-run-spec : {M : Type 1} → of.Statement.statement M
-stacker-run-spec = of.Tie.close (of.Tie.spec
-    (λ c κs. search needs) (λ c κs. search needs) (λ c κs. search needs) (λ c κs. search needs) (λ c. search needs) (λ c. search needs) (λ c. search needs) returns)
+pub stacker_run_spec : {M : Type 1} → of.Statement.statement M
+stacker_run_spec = of.Tie.close (of.Tie.spec
+    (λ c κs. search rules) (λ c κs. search rules) (λ c κs. search rules) (λ c κs. search rules) (λ c. search rules) (λ c. search rules) (λ c. search rules) returns)

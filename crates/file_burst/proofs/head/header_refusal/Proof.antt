@@ -8,6 +8,6 @@ returns : of.Tie.Need-returns
 unfolding header_refusal shape_tests
 returns c = cc
 
-pub header-refusal-spec : {M : Type 1} → of.Statement.statement M
-header-refusal-spec = of.Tie.close (of.Tie.spec
+pub header_refusal_spec : {M : Type 1} → of.Statement.statement M
+header_refusal_spec = of.Tie.close (of.Tie.spec
     (λ c κs. search rules) (λ c κs. search rules) (λ c κs. search rules) (λ c κs. search rules) (λ c κs. search rules) (λ c. search rules) (λ c κs. search rules) returns)

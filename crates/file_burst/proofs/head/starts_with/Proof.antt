@@ -1,33 +1,33 @@
 -- `starts_with`: what the bytes from the position on say of the text from there on stays the same.
-use Rattle.file_burst.specs.Head.Prelude.{◌≡◌, refl, sym, ◌∙◌, ◌-◌, needs, length, drop}
+use Rattle.file_burst.specs.Head.Prelude.{◌≡◌, refl, sym, ◌∙◌, ◌-◌, rules, length, drop}
 use native.Mathlib.Omega.{arith}
 use Rattle.file_burst.specs.Head.Head.{starts_with}
 use Rattle.file_burst.proofs.head.Starts.{starts-all, starts-short, starts-off, starts-on}
 use Rattle.file_burst.proofs.head.starts_with as of
 
-abbrev Inv-loop : of.Tie.InvT-loop
-Inv-loop file text i₀ i = starts_with (drop i text) (drop i file) ≡ starts_with text file
+abbrev invariant-loop-i : of.Tie.invariant-loop-i
+invariant-loop-i file text i₀ i = starts_with (drop i text) (drop i file) ≡ starts_with text file
 
-abbrev μ-loop : of.Tie.MeasureT-loop
-μ-loop file text i₀ i = length text - i
+abbrev decreases-loop-i : of.Tie.decreases-loop-i
+decreases-loop-i file text i₀ i = length text - i
 
-returns : of.Tie.Need-returns Inv-loop μ-loop
-returns c = sym (starts-short _ _ _ c.before.loop-test.taken c.if1.taken) ∙ c.before.before.loop.inv
+returns : of.Tie.Need-returns-then-file-i invariant-loop-i decreases-loop-i
+returns c = sym (starts-short _ _ _ c.before.loop-i-test.true c.if-file-i.true) ∙ c.before.before.loop-i.invariant
 
-returns-2 : of.Tie.Need-returns-2 Inv-loop μ-loop
+returns-2 : of.Tie.Need-returns-then-file-i-2 invariant-loop-i decreases-loop-i
 returns-2 c =
     let at = c.before.before.before in
-    sym (starts-off _ _ _ at.before.loop-test.taken at.if1.left c.if2.taken) ∙ at.before.before.loop.inv
+    sym (starts-off _ _ _ at.before.loop-i-test.true at.if-file-i.false c.if-file-i-2.true) ∙ at.before.before.loop-i.invariant
 
-loop-again : of.Tie.Need-loop-again Inv-loop μ-loop
+loop-again : of.Tie.Need-loop-i-preserved invariant-loop-i decreases-loop-i
 loop-again c =
     let at = c.before.before.before in
-    starts-on _ _ _ at.before.loop-test.taken at.if1.left c.if2.left ∙ at.before.before.loop.inv
+    starts-on _ _ _ at.before.loop-i-test.true at.if-file-i.false c.if-file-i-2.false ∙ at.before.before.loop-i.invariant
 
-returns-3 : of.Tie.Need-returns-3 Inv-loop μ-loop
-returns-3 c = sym (starts-all _ _ _ c.loop-test.left) ∙ c.before.loop.inv
+returns-3 : of.Tie.Need-returns invariant-loop-i decreases-loop-i
+returns-3 c = sym (starts-all _ _ _ c.loop-i-test.false) ∙ c.before.loop-i.invariant
 
-pub starts-with-spec : {M : Type 1} → of.Statement.statement M
-starts-with-spec = of.Tie.close (of.Tie.spec
-    Inv-loop μ-loop (λ c. refl) returns (λ c. search needs) (λ c. search needs) returns-2
+pub starts_with_spec : {M : Type 1} → of.Statement.statement M
+starts_with_spec = of.Tie.close (of.Tie.spec
+    invariant-loop-i decreases-loop-i (λ c. refl) returns (λ c. search rules) (λ c. search rules) returns-2
     (λ c. omega arith) (λ c. omega arith) loop-again returns-3)

@@ -7,5 +7,5 @@ returns : of.Tie.Need-returns
 unfolding nan_bits
 returns c = refl
 
-pub nan-pattern-spec : {M : Type 1} → of.Statement.statement M
-nan-pattern-spec = of.Tie.close (of.Tie.spec returns)
+pub nan_pattern_spec : {M : Type 1} → of.Statement.statement M
+nan_pattern_spec = of.Tie.close (of.Tie.spec returns)

@@ -5,7 +5,7 @@ use Rattle.file_dng.proofs.curve.shot_of as of
 
 returns : of.Tie.Need-returns
 unfolding of_bits of_int
-returns c = rw c.double-of.ensures
+returns c = rw c.double_of.ensures
 
-pub shot-of-spec : {M : Type 1} → of.Statement.statement M
-shot-of-spec = of.Tie.close (of.Tie.spec (λ c κs. search rules) returns)
+pub shot_of_spec : {M : Type 1} → of.Statement.statement M
+shot_of_spec = of.Tie.close (of.Tie.spec (λ c κs. search rules) returns)

@@ -1,5 +1,5 @@
 -- The curve of the two DOUBLEs, and the black levels.
-use Rattle.file_dng.specs.Prelude.{◌≡◌, ◌∙◌, [], ◌∷◌, ℕ, needs, Float}
+use Rattle.file_dng.specs.Prelude.{◌≡◌, ◌∙◌, [], ◌∷◌, ℕ, rules, Float}
 use Rattle.file_dng.specs.declared.DngRead.{DngRead}
 use Rattle.file_dng.proofs.reading.accepted as of
 
@@ -16,15 +16,15 @@ returns c =
     let read = first.before in
     let shot = read.before.before.before in
     let profile = shot.before.before in
-    made (shot.shot-of.ensures ∙ rw (shot.before.eight-at.ensures, profile.field.ensures.is, profile.before.tag.ensures.0))
-    (read.Read-of.ensures ∙ rw (read.before.eight-at2.ensures, profile.field.ensures.is, profile.before.tag.ensures.0))
-    first.black-at.ensures
-    second.black-at2.ensures
-    third.black-at3.ensures
-    c.black-at4.ensures
+    made (shot.shot_of-shot.ensures ∙ rw (shot.before.eight_at.ensures, profile.field-profile.ensures.is, profile.before.tag.ensures.0))
+    (read.Read-of.ensures ∙ rw (read.before.eight_at-2.ensures, profile.field-profile.ensures.is, profile.before.tag.ensures.0))
+    first.black_at-black0.ensures
+    second.black_at-black1.ensures
+    third.black_at-black2.ensures
+    c.black_at-black3.ensures
 
-pub accepted-spec : {M : Type 1} → of.Statement.statement M
-accepted-spec = of.Tie.close (of.Tie.spec
-    (λ c κs. search needs) (λ c κs. search needs) (λ c κs. search needs) (λ c κs. search needs)
-    (λ c. search needs) (λ c κs. search needs) (λ c κs. search needs) (λ c κs. search needs)
-    (λ c κs. search needs) (λ c κs. search needs) (λ c κs. search needs) returns)
+pub accepted_spec : {M : Type 1} → of.Statement.statement M
+accepted_spec = of.Tie.close (of.Tie.spec
+    (λ c κs. search rules) (λ c κs. search rules) (λ c κs. search rules) (λ c κs. search rules)
+    (λ c. search rules) (λ c κs. search rules) (λ c κs. search rules) (λ c κs. search rules)
+    (λ c κs. search rules) (λ c κs. search rules) (λ c κs. search rules) returns)

@@ -6,5 +6,5 @@ returns : of.Tie.Need-returns
 unfolding of_bits of_int
 returns c = refl
 
-pub refused-spec : {M : Type 1} → of.Statement.statement M
-refused-spec = of.Tie.close (of.Tie.spec returns)
+pub refused_spec : {M : Type 1} → of.Statement.statement M
+refused_spec = of.Tie.close (of.Tie.spec returns)

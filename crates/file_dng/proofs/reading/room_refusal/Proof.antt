@@ -1,26 +1,26 @@
 -- The tests of the frames refuse, or let the length decide.
-use Rattle.file_dng.specs.Prelude.{sym, ap, ◌∙◌, needs, length_refusal}
+use Rattle.file_dng.specs.Prelude.{sym, ap, ◌∙◌, rules, length_refusal}
 use Rattle.refusals.specs.Numbers as no
 use Rattle.refusals.specs.TestLaws.{stops, goes, lone}
 use Rattle.admit_length.specs.OrderLaws.{frames-allowed}
 use Rattle.file_dng.specs.Refusals.{room_tests}
 use Rattle.file_dng.proofs.reading.room_refusal as of
 
-returns : of.Tie.Need-returns
+returns : of.Tie.Need-returns-then-framed-ne0
 unfolding room_tests
-returns c = stops _ _ c.before.frame-refusal.ensures c.if1.taken
+returns c = stops _ _ c.before.frame_refusal-framed.ensures c.if-framed-ne0.true
 
-sample-length-requires : of.Tie.Need-sample-length-requires
-sample-length-requires c κs = frames-allowed _ c.before.before.args.frame (sym c.before.frame-refusal.ensures ∙ c.if1.left)
+sample-length-requires : of.Tie.Need-sample_length-requires
+sample-length-requires c κs = frames-allowed _ c.before.before.args.frame (sym c.before.frame_refusal-framed.ensures ∙ c.if-framed-ne0.false)
 
-returns-2 : of.Tie.Need-returns-2
+returns-2 : of.Tie.Need-returns
 unfolding room_tests
 returns-2 c =
     let sized = c.before in
     let room = sized.before.before.before.args.room in
-    goes _ _ sized.before.before.frame-refusal.ensures sized.before.if1.left
-    (c.length-refusal.ensures ∙ ap (λ n. length_refusal no.wrong_sample_length n room) sized.sample-length.ensures.0 ∙ lone _)
+    goes _ _ sized.before.before.frame_refusal-framed.ensures sized.before.if-framed-ne0.false
+    (c.length_refusal.ensures ∙ ap (λ n. length_refusal no.wrong_sample_length n room) sized.sample_length.ensures.0 ∙ lone _)
 
-pub room-refusal-spec : {M : Type 1} → of.Statement.statement M
-room-refusal-spec = of.Tie.close (of.Tie.spec
-    (λ c κs. search needs) returns sample-length-requires (λ c κs. search needs) returns-2)
+pub room_refusal_spec : {M : Type 1} → of.Statement.statement M
+room_refusal_spec = of.Tie.close (of.Tie.spec
+    (λ c κs. search rules) returns sample-length-requires (λ c κs. search rules) returns-2)

@@ -1,39 +1,39 @@
 -- After k turns the bits of the first k samples are gathered.
-use Rattle.algebra.specs.Prelude.{refl, ◌+◌, ◌-◌, ◌*◌, arith, needs}
+use Rattle.algebra.specs.Prelude.{refl, ◌+◌, ◌-◌, ◌*◌, arith, rules}
 use Rattle.refusals.specs.SeenLaws.{Seen, seen_start, seen-turn, seen_done}
 use Rattle.file_dng.specs.Tiff.Bytes.{short}
 use Rattle.file_dng.specs.Strip.Strip.{strip_sample}
 use Rattle.file_dng.proofs.strip.word_bits as of
 
-abbrev Inv-loop : of.Tie.InvT-loop
-Inv-loop file from seen₀ k₀ seen k = Seen (strip_sample file from) 4095 64 k seen
+abbrev invariant-loop-k : of.Tie.invariant-loop-k
+invariant-loop-k file from seen₀ k₀ seen k = Seen (strip_sample file from) 4095 64 k seen
 
-abbrev μ-loop : of.Tie.MeasureT-loop
-μ-loop file from seen₀ k₀ seen k = 64 - k
+abbrev decreases-loop-k : of.Tie.decreases-loop-k
+decreases-loop-k file from seen₀ k₀ seen k = 64 - k
 
-cast-low : of.Tie.Need-cast-low Inv-loop μ-loop
-cast-low c = omega (arith, c.shared-slice-known.given (c.before.before.before.args.from + 2 * c.before.before.loop.k))
+cast-low : of.Tie.Need-overflow_cast-low invariant-loop-k decreases-loop-k
+cast-low c = omega (arith, c.shared_slice_known-1.given (c.before.before.before.args.from + 2 * c.before.before.loop-k.k))
 
-cast-high : of.Tie.Need-cast-high Inv-loop μ-loop
-cast-high c = omega (arith, c.shared-slice-known2.given (c.before.before.before.before.args.from + 2 * c.before.before.before.loop.k + 1))
+cast-high : of.Tie.Need-overflow_cast-high invariant-loop-k decreases-loop-k
+cast-high c = omega (arith, c.shared_slice_known-in-loop-k-1.given (c.before.before.before.before.args.from + 2 * c.before.before.before.loop-k.k + 1))
 
-mul-seen : of.Tie.Need-mul-seen Inv-loop μ-loop
-mul-seen c = omega (arith, c.shared-slice-known2.given (c.before.before.before.before.args.from + 2 * c.before.before.before.loop.k + 1))
+mul-seen : of.Tie.Need-overflow_mul-seen invariant-loop-k decreases-loop-k
+mul-seen c = omega (arith, c.shared_slice_known-in-loop-k-1.given (c.before.before.before.before.args.from + 2 * c.before.before.before.loop-k.k + 1))
 
-add-seen : of.Tie.Need-add-seen Inv-loop μ-loop
+add-seen : of.Tie.Need-overflow_add-seen invariant-loop-k decreases-loop-k
 add-seen c =
-    let at = c.before.before.before.before.args.from + 2 * c.before.before.before.loop.k in
-    omega (arith, c.shared-slice-known2.given (at + 1), c.shared-slice-known2.given at)
+    let at = c.before.before.before.before.args.from + 2 * c.before.before.before.loop-k.k in
+    omega (arith, c.shared_slice_known-in-loop-k-1.given (at + 1), c.shared_slice_known-in-loop-k-1.given at)
 
-loop-again : of.Tie.Need-loop-again Inv-loop μ-loop
+loop-again : of.Tie.Need-loop-k-preserved invariant-loop-k decreases-loop-k
 unfolding strip_sample short
-loop-again c = seen-turn 12 refl c.before.before.before.loop.inv (omega arith)
+loop-again c = seen-turn 12 refl c.before.before.before.loop-k.invariant (omega arith)
 
-returns : of.Tie.Need-returns Inv-loop μ-loop
-returns c = seen_done c.before.loop.inv (omega arith)
+returns : of.Tie.Need-returns invariant-loop-k decreases-loop-k
+returns c = seen_done c.before.loop-k.invariant (omega arith)
 
-pub word-bits-spec : {M : Type 1} → of.Statement.statement M
-word-bits-spec = of.Tie.close (of.Tie.spec
-    Inv-loop μ-loop (λ c. seen_start) (λ c. search needs) (λ c. search needs) (λ c. search needs)
-    cast-low (λ c. search needs) (λ c. search needs) (λ c. search needs) (λ c. search needs)
-    cast-high mul-seen add-seen (λ c. search needs) (λ c. search needs) loop-again returns)
+pub word_bits_spec : {M : Type 1} → of.Statement.statement M
+word_bits_spec = of.Tie.close (of.Tie.spec
+    invariant-loop-k decreases-loop-k (λ c. seen_start) (λ c. search rules) (λ c. search rules) (λ c. search rules)
+    cast-low (λ c. search rules) (λ c. search rules) (λ c. search rules) (λ c. search rules)
+    cast-high mul-seen add-seen (λ c. search rules) (λ c. search rules) loop-again returns)

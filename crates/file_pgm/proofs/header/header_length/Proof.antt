@@ -1,5 +1,5 @@
 -- The digits of width and height, and ten bytes more.
-use Rattle.algebra.specs.Prelude.{◌≡◌, ℕ, ◌+◌, arith, needs}
+use Rattle.algebra.specs.Prelude.{◌≡◌, ℕ, ◌+◌, arith, rules}
 use lib.ListN.{length, length-append}
 use Rattle.printing.specs.Decimal.{decimal}
 use Rattle.file_pgm.specs.Header.Header.{pgm_header}
@@ -12,6 +12,6 @@ header-long width height = simp length-append (omega arith)
 returns : of.Tie.Need-returns
 returns c = (omega (arith, header-long c.before.before.args.width c.before.before.args.height), omega arith)
 
-pub header-length-spec : {M : Type 1} → of.Statement.statement M
-header-length-spec = of.Tie.close (of.Tie.spec
-    (λ c κs. search needs) (λ c. search needs) (λ c κs. search needs) (λ c. search needs) returns)
+pub header_length_spec : {M : Type 1} → of.Statement.statement M
+header_length_spec = of.Tie.close (of.Tie.spec
+    (λ c κs. search rules) (λ c. search rules) (λ c κs. search rules) (λ c. search rules) returns)

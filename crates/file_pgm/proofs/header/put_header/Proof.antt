@@ -1,6 +1,6 @@
 -- The five pieces of the header, one after the other.
 use Prim.Native.Nat.{zero-le}
-use Rattle.algebra.specs.Prelude.{arith, needs}
+use Rattle.algebra.specs.Prelude.{arith, rules}
 use Rattle.printing.specs.PutLaws.{printed-then}
 use Rattle.file_pgm.specs.Header.Header.{pgm_header}
 use Rattle.file_pgm.proofs.header.put_header as of
@@ -15,13 +15,13 @@ returns c =
     let magic = wide.before.before.before.before in (
       printed-then zero-le
           (printed-then zero-le
-          (printed-then zero-le (printed-then zero-le magic.put-bytes.ensures wide.put-number.ensures.0) space.put_byte.ensures)
-          high.put-number2.ensures.0)
-          tail.put-bytes2.ensures,
+          (printed-then zero-le (printed-then zero-le magic.put_bytes-magic.ensures wide.put_number-wide.ensures.0) space.put_byte-space.ensures)
+          high.put_number-high.ensures.0)
+          tail.put_bytes.ensures,
       omega arith,
     )
 
-pub put-header-spec : {M : Type 1} → of.Statement.statement M
-put-header-spec = of.Tie.close (of.Tie.spec
-    (λ c. search needs) (λ c κs. search needs) (λ c κs. search needs) (λ c κs. search needs)
-    (λ c κs. search needs) (λ c. search needs) (λ c κs. search needs) (λ c. search needs) returns)
+pub put_header_spec : {M : Type 1} → of.Statement.statement M
+put_header_spec = of.Tie.close (of.Tie.spec
+    (λ c. search rules) (λ c κs. search rules) (λ c κs. search rules) (λ c κs. search rules)
+    (λ c κs. search rules) (λ c. search rules) (λ c κs. search rules) (λ c. search rules) returns)

@@ -1,20 +1,20 @@
 -- The size that the digits write, then the form.
-use Rattle.file_pgm.specs.Prelude.{◌≡◌, sym, ap, ap₂, ◌∙◌, ◌+◌, needs, length, drop, after, decimal, leading}
+use Rattle.file_pgm.specs.Prelude.{◌≡◌, sym, ap, ap₂, ◌∙◌, ◌+◌, rules, length, drop, after, decimal, leading}
 use borrow.Author.Tests.{not-true, not-false}
 use Rattle.file_pgm.specs.Reading.{width_in, height_in, formed, accepted_pgm, pgm_answer}
 use Rattle.file_pgm.specs.Size.{form_refusal, pgm_size}
 use Rattle.file_pgm.proofs.reading.pgm_size as of
 
 -- the size that the digits write
-width_is : (c : of.Tie.After-leading2) → c.before.before.leading.result ≡ width_in c.before.before.before.before.args.bytes.now
+width_is : (c : of.Tie.After-leading-height) → c.before.before.leading-width.result ≡ width_in c.before.before.before.before.args.bytes.now
 unfolding width_in
-width_is c = c.before.before.leading.ensures.0
+width_is c = c.before.before.leading-width.ensures.0
 
-height-is : (c : of.Tie.After-leading2) → c.leading2.result ≡ height_in c.before.before.before.before.args.bytes.now
+height-is : (c : of.Tie.After-leading-height) → c.leading-height.result ≡ height_in c.before.before.before.before.args.bytes.now
 unfolding height_in
 height-is c =
     let bytes = c.before.before.before.before.args.bytes.now in
-    c.leading2.ensures.0
+    c.leading-height.ensures.0
     ∙ ap (λ n. leading 4 0 (drop (4 + n) bytes)) (c.before.digits.ensures.0 ∙ ap (λ n. length (decimal n)) (width_is c))
 
 -- the form of a file of that size
@@ -23,17 +23,17 @@ form-is c =
     let bytes = c.before.before.before.before.before.args.bytes.now in
     c.formed.ensures ∙ ap₂ (λ w h. formed w h bytes) (width_is c.before) (height-is c.before)
 
-returns : of.Tie.Need-returns
+returns : of.Tie.Need-returns-then-not-formed
 unfolding pgm_size pgm_answer form_refusal after
-returns c = c.refused.ensures ∙ rw (sym (form-is c.before.before) ∙ not-true _ c.before.if1.taken)
+returns c = c.refused.ensures ∙ rw (sym (form-is c.before.before) ∙ not-true _ c.before.if-not-formed.true)
 
-returns-2 : of.Tie.Need-returns-2
+returns-2 : of.Tie.Need-returns
 unfolding pgm_size pgm_answer form_refusal after
 returns-2 c =
     let sized = c.before.before in
-    rw (sym (form-is c.before) ∙ not-false _ c.if1.left) (ap₂ accepted_pgm (width_is sized) (height-is sized))
+    rw (sym (form-is c.before) ∙ not-false _ c.if-not-formed.false) (ap₂ accepted_pgm (width_is sized) (height-is sized))
 
-pub pgm-size-spec : {M : Type 1} → of.Statement.statement M
-pgm-size-spec = of.Tie.close (of.Tie.spec
-    (λ c κs. search needs) (λ c κs. search needs) (λ c. search needs) (λ c κs. search needs)
-    (λ c κs. search needs) (λ c κs. search needs) returns returns-2)
+pub pgm_size_spec : {M : Type 1} → of.Statement.statement M
+pgm_size_spec = of.Tie.close (of.Tie.spec
+    (λ c κs. search rules) (λ c κs. search rules) (λ c. search rules) (λ c κs. search rules)
+    (λ c κs. search rules) (λ c κs. search rules) returns returns-2)

@@ -1,5 +1,5 @@
 -- The size that the digits write, then the tests; the samples are stored once all of them have passed.
-use Rattle.file_pgm.specs.Prelude.{◌≡◌, true, sym, ap, ap₂, ◌∙◌, ◌+◌, ◌*◌, ◌%◌, arith, needs, length, drop, decimal, pgm_header, leading, samples_of}
+use Rattle.file_pgm.specs.Prelude.{◌≡◌, true, sym, ap, ap₂, ◌∙◌, ◌+◌, ◌*◌, ◌%◌, arith, rules, length, drop, decimal, pgm_header, leading, samples_of}
 use Rattle.refusals.specs.AfterLaws.{kept, made}
 use Rattle.file_pgm.specs.declared.PgmRead.{PgmRead}
 use Rattle.file_pgm.specs.Form.{file_length}
@@ -10,29 +10,29 @@ use Rattle.file_pgm.specs.Acceptance.{readable, sound}
 use Rattle.file_pgm.proofs.reading.read_pgm as of
 
 -- the size that the digits write
-width_is : (c : of.Tie.After-leading2) → c.before.before.leading.result ≡ width_in c.before.before.before.before.before.args.bytes.now
+width_is : (c : of.Tie.After-leading-height) → c.before.before.leading-width.result ≡ width_in c.before.before.before.before.before.args.bytes.now
 unfolding width_in
-width_is c = c.before.before.leading.ensures.0
+width_is c = c.before.before.leading-width.ensures.0
 
-height-is : (c : of.Tie.After-leading2) → c.leading2.result ≡ height_in c.before.before.before.before.before.args.bytes.now
+height-is : (c : of.Tie.After-leading-height) → c.leading-height.result ≡ height_in c.before.before.before.before.before.args.bytes.now
 unfolding height_in
 height-is c =
     let bytes = c.before.before.before.before.before.args.bytes.now in
-    c.leading2.ensures.0
+    c.leading-height.ensures.0
     ∙ ap (λ n. leading 4 0 (drop (4 + n) bytes)) (c.before.digits.ensures.0 ∙ ap (λ n. length (decimal n)) (width_is c))
 
 -- the number of the tests
-number_is : (c : of.Tie.After-read-refusal) → let args = c.before.before.before.before.before.before.args in c.read-refusal.result ≡ read_refusal args.bytes.now (length args.frame.now)
+number_is : (c : of.Tie.After-read_refusal-refusal) → let args = c.before.before.before.before.before.before.args in c.read_refusal-refusal.result ≡ read_refusal args.bytes.now (length args.frame-1.now)
 unfolding read_refusal
 number_is c =
     let args = c.before.before.before.before.before.before.args in
-    c.read-refusal.ensures ∙ ap₂ (λ w h. refusal_as w h args.bytes.now (length args.frame.now)) (width_is c.before) (height-is c.before)
+    c.read_refusal-refusal.ensures ∙ ap₂ (λ w h. refusal_as w h args.bytes.now (length args.frame-1.now)) (width_is c.before) (height-is c.before)
 
-returns : of.Tie.Need-returns
+returns : of.Tie.Need-returns-then-refusal-ne0
 unfolding pgm_answer
 returns c =
     let e = number_is c.before.before in
-    let h = c.before.if1.taken in
+    let h = c.before.if-refusal-ne0.true in
     record {
       answer = c.refused.ensures ∙ ap refused_pgm e ∙ kept _ _ _ e h;
       stored = kept _ _ _ e h;
@@ -40,13 +40,13 @@ returns c =
     }
 
 -- what the tests that have passed say
-passed : (c : of.Tie.Else1) →
+passed : (c : of.Tie.Else-refusal-ne0) →
     let sized = c.before.before in
     let args = sized.before.before.before.before.before.args in
-    let width = sized.before.before.leading.result in
-    let height = sized.leading2.result in
-    (formed width height args.bytes.now ≡ true) × (length args.frame.now ≡ width * height)
-passed c = readable _ _ _ _ (sym c.before.read-refusal.ensures ∙ c.if1.left)
+    let width = sized.before.before.leading-width.result in
+    let height = sized.leading-height.result in
+    (formed width height args.bytes.now ≡ true) × (length args.frame-1.now ≡ width * height)
+passed c = readable _ _ _ _ (sym c.before.read_refusal-refusal.ensures ∙ c.if-refusal-ne0.false)
 
 fill-requires : of.Tie.Need-fill-requires
 unfolding file_length
@@ -54,7 +54,7 @@ fill-requires c κs =
     let fit = passed c.before.before in
     (omega (arith, form-long _ _ _ fit.0, fit.1), ap (λ n. n % 64) fit.1 ∙ area-whole (form-sized _ _ _ fit.0))
 
-returns-2 : of.Tie.Need-returns-2
+returns-2 : of.Tie.Need-returns
 unfolding pgm_answer samples_in samples_as
 returns-2 c =
     let filled = c.before.before in
@@ -65,20 +65,20 @@ returns-2 c =
     let args = known.before.args in
     let bytes = args.bytes.now in
     let e = number_is tested.before in
-    let z = tested.if1.left in
+    let z = tested.if-refusal-ne0.false in
     let stored =
     filled.fill.ensures
-    ∙ ap (λ n. samples_of (drop n bytes)) (started.header-length.ensures.0 ∙ ap₂ (λ w h. length (pgm_header w h)) (width_is sized) (height-is sized)) in
+    ∙ ap (λ n. samples_of (drop n bytes)) (started.header_length.ensures.0 ∙ ap₂ (λ w h. length (pgm_header w h)) (width_is sized) (height-is sized)) in
     record {
       answer = made _ _ _ e z (ap₂ accepted_pgm (width_is sized) (height-is sized));
       stored = made _ _ _ e z stored;
       file = λ _.
           rw (width_is sized, height-is sized, stored)
-          (sound bytes (record { below = λ k. omega (arith, known.shared-slice-known.given k) }) (length args.frame.now) (sym e ∙ z)).0;
+          (sound bytes (record { below = λ k. omega (arith, known.shared_slice_known-1.given k) }) (length args.frame-1.now) (sym e ∙ z)).0;
     }
 
-pub read-pgm-spec : {M : Type 1} → of.Statement.statement M
-read-pgm-spec = of.Tie.close (of.Tie.spec
-    (λ c κs. search needs) (λ c κs. search needs) (λ c. search needs) (λ c κs. search needs)
-    (λ c κs. search needs) (λ c κs. search needs) returns (λ c κs. search needs) fill-requires
-    (λ c. search needs) returns-2)
+pub read_pgm_spec : {M : Type 1} → of.Statement.statement M
+read_pgm_spec = of.Tie.close (of.Tie.spec
+    (λ c κs. search rules) (λ c κs. search rules) (λ c. search rules) (λ c κs. search rules)
+    (λ c κs. search rules) (λ c κs. search rules) returns (λ c κs. search rules) fill-requires
+    (λ c. search rules) returns-2)

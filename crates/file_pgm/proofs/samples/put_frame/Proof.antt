@@ -1,27 +1,27 @@
 -- After i turns the bytes of the first i samples are put.
-use Rattle.algebra.specs.Prelude.{◌-◌, arith, needs}
+use Rattle.algebra.specs.Prelude.{◌-◌, arith, rules}
 use lib.ListN.{length, length-set}
 use Rattle.file_pgm.proofs.samples.Framing.{Framing, frame-start, frame-turn, frame-done}
 use Rattle.file_pgm.proofs.samples.put_frame as of
 
-abbrev Inv-loop : of.Tie.InvT-loop
-Inv-loop bytes₀ at frame i₀ i-end bytes i = Framing bytes₀ at frame i bytes
+abbrev invariant-loop-i : of.Tie.invariant-loop-i
+invariant-loop-i bytes₀ at frame i₀ i-end bytes i = Framing bytes₀ at frame i bytes
 
-abbrev μ-loop : of.Tie.MeasureT-loop
-μ-loop bytes₀ at frame i₀ i-end bytes i = length frame - i
+abbrev decreases-loop-i : of.Tie.decreases-loop-i
+decreases-loop-i bytes₀ at frame i₀ i-end bytes i = length frame - i
 
-cast-high : of.Tie.Need-cast-high Inv-loop μ-loop
-cast-high c = omega (arith, c.shared-slice-known.given c.before.before.loop.i)
+cast-high : of.Tie.Need-overflow_cast-high invariant-loop-i decreases-loop-i
+cast-high c = omega (arith, c.shared_slice_known-1.given c.before.before.loop-i.i)
 
-loop-again : of.Tie.Need-loop-again Inv-loop μ-loop
-loop-again c = frame-turn c.before.before.loop.inv (omega arith)
+loop-again : of.Tie.Need-loop-i-preserved invariant-loop-i decreases-loop-i
+loop-again c = frame-turn c.before.before.loop-i.invariant (omega arith)
 
-returns : of.Tie.Need-returns Inv-loop μ-loop
-returns c = frame-done c.before.loop.inv (omega arith)
+returns : of.Tie.Need-returns invariant-loop-i decreases-loop-i
+returns c = frame-done c.before.loop-i.invariant (omega arith)
 
-pub put-frame-spec : {M : Type 1} → of.Statement.statement M
-put-frame-spec = of.Tie.close (of.Tie.spec
-    Inv-loop μ-loop (λ c. frame-start c.pre) (λ c. search needs) (λ c. search needs) cast-high
-    (λ c. search needs) (λ c. search needs) (λ c. search needs) (λ c. search needs)
-    (λ c. search needs) (λ c. search needs) (λ c. search needs) (λ c. simp length-set (omega arith))
-    (λ c. search needs) (λ c. search needs) loop-again (λ c. search needs) returns)
+pub put_frame_spec : {M : Type 1} → of.Statement.statement M
+put_frame_spec = of.Tie.close (of.Tie.spec
+    invariant-loop-i decreases-loop-i (λ c. frame-start c.requires) (λ c. search rules) (λ c. search rules) cast-high
+    (λ c. search rules) (λ c. search rules) (λ c. search rules) (λ c. search rules)
+    (λ c. search rules) (λ c. search rules) (λ c. search rules) (λ c. simp length-set (omega arith))
+    (λ c. search rules) (λ c. search rules) loop-again (λ c. search rules) returns)

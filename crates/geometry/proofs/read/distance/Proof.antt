@@ -28,25 +28,25 @@ straight (pos k) e = refl
 straight (negsuc k) e = absurd (subst T e tt)
 
 -- that of the function's z
-over : (c : of.Tie.Then1) → Turned c.before.args.z (negsuc 0 -ℤ c.before.args.z)
-over c = turned _ c.before.fits.z (rw (to_z-of_z c.before.fits.z) at c.if1.taken)
+over : (c : of.Tie.Then-z-lt0) → Turned c.before.args.z (negsuc 0 -ℤ c.before.args.z)
+over c = turned _ c.before.ranges.z (rw (to_z-of_z c.before.ranges.z) at c.if-z-lt0.true)
 
-sub-result : of.Tie.Need-sub-result
-sub-result c = rw (to_z-of_z c.before.fits.z) (over c).fits
+sub-result : of.Tie.Need-overflow_sub-result
+sub-result c = rw (to_z-of_z c.before.ranges.z) (over c).fits
 
-cast-result : of.Tie.Need-cast-result
-cast-result c = rw (to_z-of_z c.before.fits.z, to_z-of_z (over c).fits) ((over c).low, Fits-nat_abs tt (over c).fits)
+cast-result : of.Tie.Need-overflow_cast-result
+cast-result c = rw (to_z-of_z c.before.ranges.z, to_z-of_z (over c).fits) ((over c).low, Fits-nat_abs tt (over c).fits)
 
-returns : of.Tie.Need-returns
-returns c = rw (to_z-of_z c.before.fits.z, to_z-of_z (over c).fits) (over c).far
+returns : of.Tie.Need-returns-then-z-lt0
+returns c = rw (to_z-of_z c.before.ranges.z, to_z-of_z (over c).fits) (over c).far
 
-cast-result-2 : of.Tie.Need-cast-result-2
+cast-result-2 : of.Tie.Need-overflow_cast-result-2
 cast-result-2 c =
-    let value = to_z-of_z c.before.fits.z in
-    rw value (from_zero c.before.args.z (rw value at c.if1.left), Fits-nat_abs tt c.before.fits.z)
+    let value = to_z-of_z c.before.ranges.z in
+    rw value (from_zero c.before.args.z (rw value at c.if-z-lt0.false), Fits-nat_abs tt c.before.ranges.z)
 
-returns-2 : of.Tie.Need-returns-2
-returns-2 c = let value = to_z-of_z c.before.fits.z in rw value (straight c.before.args.z (rw value at c.if1.left))
+returns-2 : of.Tie.Need-returns
+returns-2 c = let value = to_z-of_z c.before.ranges.z in rw value (straight c.before.args.z (rw value at c.if-z-lt0.false))
 
-pub distance-spec : {M : Type 1} → of.Statement.statement M
-distance-spec = of.Tie.close (of.Tie.spec sub-result cast-result returns cast-result-2 returns-2)
+pub distance_spec : {M : Type 1} → of.Statement.statement M
+distance_spec = of.Tie.close (of.Tie.spec sub-result cast-result returns cast-result-2 returns-2)

@@ -23,17 +23,17 @@ module _ {s : Shape} {frame row column : ℕ} (a : (Allowed s) × (Placed s fram
   unfolding sample_index sample_length
   index = le_trans below (samples-most a.0)
 
-mul-result-2 : of.Tie.Need-mul-result-2
-mul-result-2 c = omega (arith, index c.before.before.pre)
+mul-result-2 : of.Tie.Need-overflow_mul-result-2
+mul-result-2 c = omega (arith, index c.before.before.requires)
 
-add-result-2 : of.Tie.Need-add-result-2
-add-result-2 c = omega (arith, index c.before.before.pre)
+add-result-2 : of.Tie.Need-overflow_add-result-2
+add-result-2 c = omega (arith, index c.before.before.requires)
 
 returns : of.Tie.Need-returns
 unfolding sample_index
-returns c = (refl, below c.before.before.pre)
+returns c = (refl, below c.before.before.requires)
 
-pub sample-index-spec : {M : Type 1} → of.Statement.statement M
-sample-index-spec = of.Tie.close (of.Tie.spec
-    (λ c. omega (arith, rows c.before.pre)) (λ c. omega (arith, rows c.before.pre))
+pub sample_index_spec : {M : Type 1} → of.Statement.statement M
+sample_index_spec = of.Tie.close (of.Tie.spec
+    (λ c. omega (arith, rows c.before.requires)) (λ c. omega (arith, rows c.before.requires))
     mul-result-2 add-result-2 returns)

@@ -1,5 +1,5 @@
 -- Half a side times the index, less half a side, is small.
-use Rattle.algebra.specs.Prelude.{◌≡◌, sym, subst, ◌∙◌, ℕ, ◌*◌, ◌≤◌, arith, needs, pos, ◌-ℤ◌, w64, SFits, to_z}
+use Rattle.algebra.specs.Prelude.{◌≡◌, sym, subst, ◌∙◌, ℕ, ◌*◌, ◌≤◌, arith, rules, pos, ◌-ℤ◌, w64, SFits, to_z}
 use native.Mathlib.Nat.{mul-le-mul}
 use mir.Facts.{to_z-of_z, to_z_pos}
 use Rattle.algebra.specs.Bound.{AtMost, most_fits, sub-most}
@@ -26,15 +26,15 @@ small {half} {index} a =
 difference-fits : {half index : ℕ} → Asked half index → SFits w64 (to_z w64 (half * index) -ℤ to_z w64 half)
 difference-fits a = rw (difference a) (most_fits w64 _ 65552 (small a) tt)
 
-cast-result : of.Tie.Need-cast-result
-cast-result c = most_fits w64 _ 65536 (record { most = product c.pre }) tt
+cast-result : of.Tie.Need-overflow_cast-result
+cast-result c = most_fits w64 _ 65536 (record { most = product c.requires }) tt
 
 returns : of.Tie.Need-returns
 returns c =
-    let value = to_z-of_z (difference-fits c.pre) ∙ difference c.pre in
-    (value, subst (AtMost 65552) (sym value) (small c.pre))
+    let value = to_z-of_z (difference-fits c.requires) ∙ difference c.requires in
+    (value, subst (AtMost 65552) (sym value) (small c.requires))
 
-pub origin-spec : {M : Type 1} → of.Statement.statement M
-origin-spec = of.Tie.close (of.Tie.spec
-    (λ c. omega (arith, product c.pre)) cast-result (λ c. search needs)
-    (λ c. difference-fits c.pre) returns)
+pub origin_spec : {M : Type 1} → of.Statement.statement M
+origin_spec = of.Tie.close (of.Tie.spec
+    (λ c. omega (arith, product c.requires)) cast-result (λ c. search rules)
+    (λ c. difference-fits c.requires) returns)

@@ -4,13 +4,13 @@ use borrow.Author.Tests.{lt-ltb, le-ltb}
 use Rattle.geometry.specs.Vectors.{other_frame}
 use Rattle.geometry.proofs.vectors.other_frame as of
 
-returns : of.Tie.Need-returns
+returns : of.Tie.Need-returns-then-k-reference
 unfolding other_frame
-returns c = (rw (lt-ltb _ _ c.if1.taken), omega arith)
+returns c = (rw (lt-ltb _ _ c.if-k-reference.true), omega arith)
 
-returns-2 : of.Tie.Need-returns-2
+returns-2 : of.Tie.Need-returns-else-k-reference
 unfolding other_frame
-returns-2 c = (rw (le-ltb _ _ c.if1.left), omega arith)
+returns-2 c = (rw (le-ltb _ _ c.if-k-reference.false), omega arith)
 
-pub other-frame-spec : {M : Type 1} → of.Statement.statement M
-other-frame-spec = of.Tie.close (of.Tie.spec (λ c. omega arith) returns returns-2)
+pub other_frame_spec : {M : Type 1} → of.Statement.statement M
+other_frame_spec = of.Tie.close (of.Tie.spec (λ c. omega arith) returns returns-2)

@@ -1,5 +1,5 @@
 -- The rows of either side.
-use Rattle.merge_frame.specs.Prelude.{◌≡◌, sym, subst, List, ℕ, ◌*◌, ◌/◌, ◌≤◌, arith, lit<, needs, length, ℤ, now, TileSide, Merge, scene_at, Accepted, row_words, Stored}
+use Rattle.merge_frame.specs.Prelude.{◌≡◌, sym, subst, List, ℕ, ◌*◌, ◌/◌, ◌≤◌, arith, lit<, rules, length, ℤ, now, TileSide, Merge, scene_at, Accepted, row_words, Stored}
 use mathlib.Core.Logic.{⊎_elim}
 use Rattle.recipe.specs.Tables.{side16}
 use Rattle.recipe.specs.Tables32.{side32}
@@ -14,36 +14,36 @@ sixteen t h = ⊎_elim (λ e. e) (λ e. absurd (h e)) t.is
 -- what the burst's side and size say of a row of that side
 module _ (c : of.Tie.Start) {n : ℕ} (e : c.args.m.shape.side ≡ n) where
   accepted-at : Accepted n c.args.m (now c.args.samples) (now c.args.vectors)
-  accepted-at = subst (λ n. Accepted n c.args.m (now c.args.samples) (now c.args.vectors)) e c.pre.accepted
+  accepted-at = subst (λ n. Accepted n c.args.m (now c.args.samples) (now c.args.vectors)) e c.requires.accepted
 
   row_at : c.args.row ≤ c.args.m.shape.height / n
-  row_at = subst (λ n. c.args.row ≤ c.args.m.shape.height / n) e c.pre.row-most
+  row_at = subst (λ n. c.args.row ≤ c.args.m.shape.height / n) e c.requires.row-most
 
-  room_at : 2 * row_words n c.args.m.shape.width ≤ length (now c.args.work)
-  room_at = subst (λ n. 2 * row_words n c.args.m.shape.width ≤ length (now c.args.work)) e c.pre.room
+  room_at : 2 * row_words n c.args.m.shape.width ≤ length (now c.args.work-1)
+  room_at = subst (λ n. 2 * row_words n c.args.m.shape.width ≤ length (now c.args.work-1)) e c.requires.room
 
-correction-row-requires : of.Tie.Need-correction-row-requires
+correction-row-requires : of.Tie.Need-correction_row-requires
 correction-row-requires c κs =
     let s = c.before.before.before.before.before in
-    let e = c.before.before.if1.taken in
+    let e = c.before.before.if-m-eq32.true in
     record { accepted = accepted-at s e; parity = lit< tt; row-most = row_at s e; room = room_at s e }
 
-correction-row-requires-2 : of.Tie.Need-correction-row-requires-2
+correction-row-requires-2 : of.Tie.Need-correction_row-requires-then-m-eq32
 correction-row-requires-2 c κs =
     let s = c.before.before.before.before.before in
-    let e = c.before.before.if1.taken in
+    let e = c.before.before.if-m-eq32.true in
     record { accepted = accepted-at s e; parity = lit< tt; row-most = row_at s e; room = room_at s e }
 
-correction-row-requires-3 : of.Tie.Need-correction-row-requires-3
+correction-row-requires-3 : of.Tie.Need-correction_row-requires-then-parity-eq0-2
 correction-row-requires-3 c κs =
     let s = c.before.before.before.before.before in
-    let e = sixteen s.pre.accepted.burst.sided c.before.before.if1.left in
+    let e = sixteen s.requires.accepted.burst.sided c.before.before.if-m-eq32.false in
     record { accepted = accepted-at s e; parity = lit< tt; row-most = row_at s e; room = room_at s e }
 
-correction-row-requires-4 : of.Tie.Need-correction-row-requires-4
+correction-row-requires-4 : of.Tie.Need-correction_row-requires-2
 correction-row-requires-4 c κs =
     let s = c.before.before.before.before.before in
-    let e = sixteen s.pre.accepted.burst.sided c.before.before.if1.left in
+    let e = sixteen s.requires.accepted.burst.sided c.before.before.if-m-eq32.false in
     record { accepted = accepted-at s e; parity = lit< tt; row-most = row_at s e; room = room_at s e }
 
 -- a row of the burst's side is one of that side
@@ -58,27 +58,27 @@ module _ (m : Merge) (samples : List ℕ) (vectors : List ℤ) {rowParity row : 
       subst (λ n. Stored n (scene_at (side_of m.shape.side) m samples vectors) rowParity row d l) (sym e)
       (subst (λ s. Stored 16 (scene_at s m samples vectors) rowParity row d l) (sym (of_16 e)) (subst (λ p. Stored 16 (scene_at side16 m samples vectors) p row d l) (sym q) w))
 
-returns : of.Tie.Need-returns
+returns : of.Tie.Need-returns-then-parity-eq0
 returns c =
     let s = c.before.before.before.before.before.before.before in
-    wide_row s.args.m (now s.args.samples) (now s.args.vectors) c.before.before.before.before.if1.taken c.before.before.before.if2.taken c.before.correction-row.ensures
+    wide_row s.args.m (now s.args.samples) (now s.args.vectors) c.before.before.before.before.if-m-eq32.true c.before.before.before.if-parity-eq0.true c.before.correction_row.ensures
 
-returns-2 : of.Tie.Need-returns-2
+returns-2 : of.Tie.Need-returns-then-m-eq32
 returns-2 c =
     let s = c.before.before.before.before.before.before.before in
-    let one : s.args.parity ≡ 1 = omega (arith, s.pre.parity, c.before.before.before.if2.left) in
-    wide_row s.args.m (now s.args.samples) (now s.args.vectors) c.before.before.before.before.if1.taken one c.before.correction-row2.ensures
+    let one : s.args.parity ≡ 1 = omega (arith, s.requires.parity, c.before.before.before.if-parity-eq0.false) in
+    wide_row s.args.m (now s.args.samples) (now s.args.vectors) c.before.before.before.before.if-m-eq32.true one c.before.correction_row-then-m-eq32.ensures
 
-returns-3 : of.Tie.Need-returns-3
+returns-3 : of.Tie.Need-returns-then-parity-eq0-2
 returns-3 c =
     let s = c.before.before.before.before.before.before.before in
-    narrow-row s.args.m (now s.args.samples) (now s.args.vectors) (sixteen s.pre.accepted.burst.sided c.before.before.before.before.if1.left) c.before.before.before.if3.taken c.before.correction-row3.ensures
+    narrow-row s.args.m (now s.args.samples) (now s.args.vectors) (sixteen s.requires.accepted.burst.sided c.before.before.before.before.if-m-eq32.false) c.before.before.before.if-parity-eq0-2.true c.before.correction_row-then-parity-eq0-2.ensures
 
-returns-4 : of.Tie.Need-returns-4
+returns-4 : of.Tie.Need-returns
 returns-4 c =
     let s = c.before.before.before.before.before.before.before in
-    let one : s.args.parity ≡ 1 = omega (arith, s.pre.parity, c.before.before.before.if3.left) in
-    narrow-row s.args.m (now s.args.samples) (now s.args.vectors) (sixteen s.pre.accepted.burst.sided c.before.before.before.before.if1.left) one c.before.correction-row4.ensures
+    let one : s.args.parity ≡ 1 = omega (arith, s.requires.parity, c.before.before.before.if-parity-eq0-2.false) in
+    narrow-row s.args.m (now s.args.samples) (now s.args.vectors) (sixteen s.requires.accepted.burst.sided c.before.before.before.before.if-m-eq32.false) one c.before.correction_row-2.ensures
 
-pub correction-row-spec : {M : Type 1} → of.Statement.statement M
-correction-row-spec = of.Tie.close (of.Tie.spec correction-row-requires (λ c. search needs) returns correction-row-requires-2 (λ c. search needs) returns-2 correction-row-requires-3 (λ c. search needs) returns-3 correction-row-requires-4 (λ c. search needs) returns-4)
+pub correction_row_spec : {M : Type 1} → of.Statement.statement M
+correction_row_spec = of.Tie.close (of.Tie.spec correction-row-requires (λ c. search rules) returns correction-row-requires-2 (λ c. search rules) returns-2 correction-row-requires-3 (λ c. search rules) returns-3 correction-row-requires-4 (λ c. search rules) returns-4)

@@ -1,60 +1,60 @@
 -- A band a turn, each under the row of pairs of tiles that the one before has left.
-use Rattle.merge_frame.specs.Prelude.{◌≡◌, refl, subst, ◌∙◌, ℕ, ◌+◌, ◌-◌, ◌*◌, ◌/◌, ◌≤◌, ◌<◌, arith, needs, length, now, TileSide, scene_of}
+use Rattle.merge_frame.specs.Prelude.{◌≡◌, refl, subst, ◌∙◌, ℕ, ◌+◌, ◌-◌, ◌*◌, ◌/◌, ◌≤◌, ◌<◌, arith, rules, length, now, TileSide, scene_of}
 use native.Mathlib.Nat.{mul-le-mul_right}
 use Rattle.merge_tiles.specs.Places.{by_side}
 use Rattle.merge_frame.specs.Progress.{RowsMerged}
 use Rattle.merge_frame.proofs.Bands.{InParity, parity-start, parity-turn}
 use Rattle.merge_frame.proofs.planes.merge_parity as of
 
-abbrev Inv-loop : of.Tie.InvT-loop
-Inv-loop m samples vectors parity first last output₀ work₀ band₀ output work band = (InParity m samples vectors parity first output₀ band output work) × (length work ≡ length work₀) × (band ≤ last)
+abbrev invariant-loop-band : of.Tie.invariant-loop-band
+invariant-loop-band m samples vectors parity first last output₀ work₀ band₀ output work band = (InParity m samples vectors parity first output₀ band output work) × (length work ≡ length work₀) × (band ≤ last)
 
-abbrev μ-loop : of.Tie.MeasureT-loop
-μ-loop m samples vectors parity first last output₀ work₀ band₀ output work band = last - band
+abbrev decreases-loop-band : of.Tie.decreases-loop-band
+decreases-loop-band m samples vectors parity first last output₀ work₀ band₀ output work band = last - band
 
 bands : {n : ℕ} → TileSide n → (first band last : ℕ) → band < last → n * band + n - n * first ≤ n * last - n * first
 bands t = by_side t (λ n. (first band last : ℕ) → band < last → n * band + n - n * first ≤ n * last - n * first) (λ f b l h. omega arith) (λ f b l h. omega arith)
 
-loop-holds : of.Tie.Need-loop-holds Inv-loop μ-loop
+loop-holds : of.Tie.Need-loop-band-init invariant-loop-band decreases-loop-band
 loop-holds c =
     let r = c.before in
     let s = r.before.before.before.before in
-    (parity-start r.correction-row.ensures s.pre.lent.room, refl, s.pre.lent.ordered)
+    (parity-start r.correction_row.ensures s.requires.lent.room, refl, s.requires.lent.ordered)
 
-merge-band-requires : of.Tie.Need-merge-band-requires Inv-loop μ-loop
+merge-band-requires : of.Tie.Need-merge_band-requires invariant-loop-band decreases-loop-band
 merge-band-requires c κs =
     let l = c.before.before.before in
     let r = l.before.before in
     let s = r.before.before.before.before in
-    let w = l.loop.inv in
-    let lent = s.pre.lent in
+    let w = l.loop-band.invariant in
+    let lent = s.requires.lent in
     let n = s.args.m.shape.side in
-    let below : l.loop.band < s.args.last = omega arith in
+    let below : l.loop-band.band < s.args.last = omega arith in
     record {
       accepted = lent.accepted;
-      parity = s.pre.parity;
+      parity = s.requires.parity;
       from_first = w.0.from_first;
       band_below = omega (arith, below, lent.last_most);
-      output_room = omega (arith, lent.output_long, w.0.rows.toward.same, mul-le-mul_right {m = n * l.loop.band + n - n * s.args.first} {n = n * s.args.last - n * s.args.first} s.args.m.shape.width (bands lent.accepted.burst.sided s.args.first l.loop.band s.args.last below));
-      room = omega (arith, lent.room, w.1, r.correction-row.kept);
+      output_room = omega (arith, lent.output_long, w.0.rows.toward.same, mul-le-mul_right {m = n * l.loop-band.band + n - n * s.args.first} {n = n * s.args.last - n * s.args.first} s.args.m.shape.width (bands lent.accepted.burst.sided s.args.first l.loop-band.band s.args.last below));
+      room = omega (arith, lent.room, w.1, r.correction_row.auto);
       held = w.0.held;
     }
 
-loop-again : of.Tie.Need-loop-again Inv-loop μ-loop
+loop-again : of.Tie.Need-loop-band-preserved invariant-loop-band decreases-loop-band
 loop-again c =
     let l = c.before.before.before.before.before.before.before in
-    let b = c.before.before.before.merge-band in
-    (parity-turn l.loop.inv.0 b.ensures, b.kept.1.1.1.1.1.1.1.0 ∙ l.loop.inv.1, omega arith)
+    let b = c.before.before.before.merge_band in
+    (parity-turn l.loop-band.invariant.0 b.ensures, b.kept.1.1.1.1.1.1.1.0 ∙ l.loop-band.invariant.1, omega arith)
 
-returns : of.Tie.Need-returns Inv-loop μ-loop
+returns : of.Tie.Need-returns invariant-loop-band decreases-loop-band
 returns c =
     let l = c.before in
     let s = l.before.before.before.before.before.before in
-    let all : l.loop.band ≡ s.args.last = omega (arith, l.loop.inv.2) in
-    subst (λ n. RowsMerged (scene_of s.args.m (now s.args.samples) (now s.args.vectors)) (s.args.m.shape.side * s.args.first) s.args.parity (s.args.m.shape.side / 2 * s.args.first) (s.args.m.shape.side / 2 * n) (now s.args.output) l.loop.output) all
-    l.loop.inv.0.rows
+    let all : l.loop-band.band ≡ s.args.last = omega (arith, l.loop-band.invariant.2) in
+    subst (λ n. RowsMerged (scene_of s.args.m (now s.args.samples) (now s.args.vectors)) (s.args.m.shape.side * s.args.first) s.args.parity (s.args.m.shape.side / 2 * s.args.first) (s.args.m.shape.side / 2 * n) (now s.args.output-1) l.loop-band.output-1) all
+    l.loop-band.invariant.0.rows
 
-pub merge-parity-spec : {M : Type 1} → of.Statement.statement M
-merge-parity-spec = of.Tie.close (of.Tie.spec
-    Inv-loop μ-loop (λ c κs. search needs) loop-holds merge-band-requires (λ c. search needs)
-    (λ c. search needs) loop-again (λ c. search needs) (λ c. search needs) returns)
+pub merge_parity_spec : {M : Type 1} → of.Statement.statement M
+merge_parity_spec = of.Tie.close (of.Tie.spec
+    invariant-loop-band decreases-loop-band (λ c κs. search rules) loop-holds merge-band-requires (λ c. search rules)
+    (λ c. search rules) loop-again (λ c. search rules) (λ c. search rules) returns)

@@ -18,21 +18,21 @@ numbers-most f h e =
     subst (NoisesMost spatial_most) (sym e)
     (record { line = tab-every (NoiseLine spatial_most) [] (λ u. tab 9 (f u)) (record { at = λ v. zero-le }) (λ u. record { at = tab-every (λ n. n ≤ spatial_most) 0 (f u) zero-le (h u) 9 }) 9 })
 
-spatial-numbers-requires : of.Tie.Need-spatial-numbers-requires
-spatial-numbers-requires c κs = range c.pre.tuned c.pre.first_most
+spatial-numbers-requires : of.Tie.Need-spatial_numbers-a-requires
+spatial-numbers-requires c κs = range c.requires.tuned c.requires.first_most
 
-spatial-numbers-requires-2 : of.Tie.Need-spatial-numbers-requires-2
-spatial-numbers-requires-2 c κs = range c.before.pre.tuned c.before.pre.second_most
+spatial-numbers-requires-2 : of.Tie.Need-spatial_numbers-b-requires
+spatial-numbers-requires-2 c κs = range c.before.requires.tuned c.before.requires.second_most
 
-filter-pair-requires : of.Tie.Need-filter-pair-requires
+filter-pair-requires : of.Tie.Need-filter_pair-requires
 filter-pair-requires c κs =
     let b = c.before.before.before in
     let a = b.before in
-    let p = a.before.pre in
+    let p = a.before.requires in
     record {
       frames_fit = record { some = p.tuned.some; few = p.tuned.few };
-      first_most = numbers-most _ (spatial-number-most (range p.tuned p.first_most)) a.spatial-numbers.ensures;
-      second_most = numbers-most _ (spatial-number-most (range p.tuned p.second_most)) b.spatial-numbers2.ensures;
+      first_most = numbers-most _ (spatial-number-most (range p.tuned p.first_most)) a.spatial_numbers-a.ensures;
+      second_most = numbers-most _ (spatial-number-most (range p.tuned p.second_most)) b.spatial_numbers-b.ensures;
       samples = p.samples;
       sums = p.sums;
       paired = p.paired;
@@ -54,13 +54,13 @@ returns c =
     let m = g.m in
     let n = m.shape.count in
     let f : ℕ → ℕ → ℕ → ℕ = λ r. spatial_number side16 m.tuning.spatial m.shot m.read r n in
-    c.filter-pair.ensures
+    c.filter_pair.ensures
     ∙ grid-ext 16 32 _ _
     (λ y l h k. ap (λ z. cell (pos 0) (now g.sum) y l +ℤ pos n *ℤ z)
     (step-noise _ (f (either g.first g.second (l % 2)))
-    (λ u v i j. either_number f g.first g.second a.spatial-numbers.ensures b.spatial-numbers2.ensures (l % 2) (omega arith) (frequency u) (frequency v) (frequency-most u) (frequency-most v)
+    (λ u v i j. either_number f g.first g.second a.spatial_numbers-a.ensures b.spatial_numbers-b.ensures (l % 2) (omega arith) (frequency u) (frequency v) (frequency-most u) (frequency-most v)
     ∙ number-folded m.tuning.spatial m.shot m.read (either g.first g.second (l % 2)) n u v)
     (copy_in n (plane_in (cell 0 (now g.t0)) (l % 2)) (plane_in (cell (pos 0) (now g.sum)) (l % 2))) y (l / 2)))
 
-pub filter-sums-spec : {M : Type 1} → of.Statement.statement M
-filter-sums-spec = of.Tie.close (of.Tie.spec spatial-numbers-requires spatial-numbers-requires-2 filter-pair-requires returns)
+pub filter_sums_spec : {M : Type 1} → of.Statement.statement M
+filter_sums_spec = of.Tie.close (of.Tie.spec spatial-numbers-requires spatial-numbers-requires-2 filter-pair-requires returns)

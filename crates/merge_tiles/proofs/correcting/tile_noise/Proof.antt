@@ -1,13 +1,13 @@
 -- V of r, which is at most 65520.
-use Rattle.algebra.specs.Prelude.{needs}
+use Rattle.algebra.specs.Prelude.{rules}
 use Rattle.noise.specs.NoiseNumberLaws.{noise-number-bound}
 use Rattle.merge_tiles.proofs.correcting.tile_noise as of
 
 returns : of.Tie.Need-returns
 returns c =
-    let s = c.before.pre in
-    let e = c.noise-number.ensures.0 in
+    let s = c.before.requires in
+    let e = c.noise_number.ensures.0 in
     (e, rw e (noise-number-bound s.strength_most s.shot_most s.read_most s.root-most))
 
-pub tile-noise-spec : {M : Type 1} → of.Statement.statement M
-tile-noise-spec = of.Tie.close (of.Tie.spec (λ c κs. search needs) returns)
+pub tile_noise_spec : {M : Type 1} → of.Statement.statement M
+tile_noise_spec = of.Tie.close (of.Tie.spec (λ c κs. search rules) returns)

@@ -1,29 +1,29 @@
 -- A row of differences: filled from the front.
-use Rattle.algebra.specs.Prelude.{◌≡◌, refl, ◌∙◌, ◌-◌, arith, needs, get_or, pos, ◌-ℤ◌, w16, to_z, of_z}
+use Rattle.algebra.specs.Prelude.{◌≡◌, refl, ◌∙◌, ◌-◌, arith, rules, get_or, pos, ◌-ℤ◌, w16, to_z, of_z}
 use Rattle.sequences.specs.TabLaws.{Filled, fill_start, fill-turn, fill_done}
 use Rattle.merge_tiles.proofs.reading.difference_row as of
 
-abbrev Inv-loop : of.Tie.InvT-loop
-Inv-loop a b row₀ j₀ row j = Filled (λ j. pos (get_or a j 0) -ℤ pos (get_or b j 0)) 32 j row₀ row
+abbrev invariant-loop-j : of.Tie.invariant-loop-j
+invariant-loop-j a b row₀ j₀ row j = Filled (λ j. pos (get_or a j 0) -ℤ pos (get_or b j 0)) 32 j row₀ row
 
-abbrev μ-loop : of.Tie.MeasureT-loop
-μ-loop a b row₀ j₀ row j = 32 - j
+abbrev decreases-loop-j : of.Tie.decreases-loop-j
+decreases-loop-j a b row₀ j₀ row j = 32 - j
 
-minus-requires : of.Tie.Need-minus-requires Inv-loop μ-loop
+minus-requires : of.Tie.Need-minus-requires invariant-loop-j decreases-loop-j
 minus-requires c κs =
     let l = c.before.before.before in
-    (l.before.pre.0.most l.loop.j, l.before.pre.1.most l.loop.j)
+    (l.before.requires.0.most l.loop-j.j, l.before.requires.1.most l.loop-j.j)
 
-loop-again : of.Tie.Need-loop-again Inv-loop μ-loop
+loop-again : of.Tie.Need-loop-j-preserved invariant-loop-j decreases-loop-j
 loop-again c =
-    let e : to_z w16 (of_z w16 c.minus.result) ≡ c.minus.result = search needs in
-    fill-turn c.before.before.before.before.loop.inv (omega arith) (e ∙ c.minus.ensures)
+    let e : to_z w16 (of_z w16 c.minus.result) ≡ c.minus.result = search rules in
+    fill-turn c.before.before.before.before.loop-j.invariant (omega arith) (e ∙ c.minus.ensures)
 
-returns : of.Tie.Need-returns Inv-loop μ-loop
-returns c = fill_done c.before.loop.inv (omega arith)
+returns : of.Tie.Need-returns invariant-loop-j decreases-loop-j
+returns c = fill_done c.before.loop-j.invariant (omega arith)
 
-pub difference-row-spec : {M : Type 1} → of.Statement.statement M
-difference-row-spec = of.Tie.close (of.Tie.spec
-    Inv-loop μ-loop (λ c. fill_start refl) (λ c. search needs) (λ c. search needs)
-    (λ c. search needs) (λ c. search needs) minus-requires (λ c. search needs) (λ c. search needs)
-    (λ c. search needs) (λ c. search needs) loop-again returns)
+pub difference_row_spec : {M : Type 1} → of.Statement.statement M
+difference_row_spec = of.Tie.close (of.Tie.spec
+    invariant-loop-j decreases-loop-j (λ c. fill_start refl) (λ c. search rules) (λ c. search rules)
+    (λ c. search rules) (λ c. search rules) minus-requires (λ c. search rules) (λ c. search rules)
+    (λ c. search rules) (λ c. search rules) loop-again returns)

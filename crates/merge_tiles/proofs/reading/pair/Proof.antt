@@ -1,5 +1,5 @@
 -- The view's pair at the moved origins, cell by cell.
-use Rattle.algebra.specs.Prelude.{◌≡◌, refl, ap, ap₂, ◌∙◌, ◌/◌, needs, ◌+ℤ◌, w64, to_z, of_z, to_z-of_z, now}
+use Rattle.algebra.specs.Prelude.{◌≡◌, refl, ap, ap₂, ◌∙◌, ◌/◌, rules, ◌+ℤ◌, w64, to_z, of_z, to_z-of_z, now}
 use Rattle.sequences.specs.Grid.{grid-ext}
 use Rattle.merge_tiles.specs.Prelude.{sample_at, side16, tile_at}
 use Rattle.geometry.specs.Tiles.{origin}
@@ -11,16 +11,16 @@ unfolding pair_of tile_at side16
 returns c =
     let s = c.before.before.before.before.before in
     let a = s.args in
-    let y = c.before.before.before.moved in
-    let x = c.before.before.moved2 in
-    let ey : to_z w64 (of_z w64 y.result) ≡ y.result = search needs in
-    let ex : to_z w64 (of_z w64 x.result) ≡ x.result = search needs in
-    c.frame-pair.ensures
+    let y = c.before.before.before.moved-y in
+    let x = c.before.before.moved-x in
+    let ey : to_z w64 (of_z w64 y.result) ≡ y.result = search rules in
+    let ex : to_z w64 (of_z w64 x.result) ≡ x.result = search rules in
+    c.frame_pair.ensures
     ∙ ap₂ (pair_of 16 (a.shape.height / 2) (a.shape.width / 2) (sample_at a.shape (now a.samples) a.frame) a.site.parity)
-    (ey ∙ y.ensures.is ∙ ap (λ z. origin 8 a.site.row +ℤ z) (to_z-of_z s.fits.down))
-    (ex ∙ x.ensures.is ∙ ap (λ z. origin 8 a.site.column +ℤ z) (to_z-of_z s.fits.right))
+    (ey ∙ y.ensures.is ∙ ap (λ z. origin 8 a.site.row +ℤ z) (to_z-of_z s.ranges.down))
+    (ex ∙ x.ensures.is ∙ ap (λ z. origin 8 a.site.column +ℤ z) (to_z-of_z s.ranges.right))
     ∙ grid-ext 16 32 _ _ (λ i l _ _. refl)
 
 pub pair_spec : {M : Type 1} → of.Statement.statement M
 pair_spec = of.Tie.close (of.Tie.spec
-    (λ c κs. search needs) (λ c κs. search needs) (λ c κs. search needs) returns)
+    (λ c κs. search rules) (λ c κs. search rules) (λ c κs. search rules) returns)

@@ -1,70 +1,70 @@
 -- A pair a turn, each at its places of the row.
-use Rattle.merge_tiles.specs.Prelude.{◌≡◌, refl, ap, ◌∙◌, ◌+◌, ◌-◌, ◌/◌, arith, needs, tab, grid, TileSide, side16, scene_at}
+use Rattle.merge_tiles.specs.Prelude.{◌≡◌, refl, ap, ◌∙◌, ◌+◌, ◌-◌, ◌/◌, arith, rules, tab, grid, TileSide, side16, scene_at}
 use mathlib.Core.Logic.{inl}
 use Rattle.merge_tiles.specs.Rows.{row_words}
 use Rattle.merge_tiles.specs.StoreLaws.{Storing, store-start, store-turn, store-done}
 use Rattle.merge_tiles.proofs.rows.correction_row as of
 
-abbrev Inv-loop : of.Tie.InvT-loop
-Inv-loop m samples vectors parity row work₀ start blocks columns column₀ work column = Storing 16 (scene_at side16 m samples vectors) parity row work₀ column work
+abbrev invariant-loop-column : of.Tie.invariant-loop-column
+invariant-loop-column m samples vectors parity row work₀ start blocks columns column₀ work column = Storing 16 (scene_at side16 m samples vectors) parity row work₀ column work
 
-abbrev μ-loop : of.Tie.MeasureT-loop
-μ-loop m samples vectors parity row work₀ start blocks columns column₀ work column = columns - column
+abbrev decreases-loop-column : of.Tie.decreases-loop-column
+decreases-loop-column m samples vectors parity row work₀ start blocks columns column₀ work column = columns - column
 
 sixteen : TileSide 16
 sixteen = record { is = inl refl }
 
 -- the pairs of a row
-columns-are : (c : of.Tie.After-tile-columns Inv-loop μ-loop) → c.tile-columns.result ≡ c.before.before.before.before.args.m.shape.width / 16 + 1
-columns-are c = let s = c.before.before.before.before in c.tile-columns.ensures.0 ∙ ap (λ n. s.args.m.shape.width / n + 1) s.pre.accepted.side_is
+columns-are : (c : of.Tie.After-tile_columns-columns invariant-loop-column decreases-loop-column) → c.tile_columns-columns.result ≡ c.before.before.before.before.args.m.shape.width / 16 + 1
+columns-are c = let s = c.before.before.before.before in c.tile_columns-columns.ensures.0 ∙ ap (λ n. s.args.m.shape.width / n + 1) s.requires.accepted.side_is
 
-loop-holds : of.Tie.Need-loop-holds Inv-loop μ-loop
+loop-holds : of.Tie.Need-loop-column-init invariant-loop-column decreases-loop-column
 unfolding scene_at
-loop-holds c = store-start 16 _ _ _ _ (omega (arith, c.before.before.slot.ensures))
+loop-holds c = store-start 16 _ _ _ _ (omega (arith, c.before.before.slot-start.ensures))
 
-tile-correction-requires : of.Tie.Need-tile-correction-requires Inv-loop μ-loop
+tile-correction-requires : of.Tie.Need-tile_correction-requires invariant-loop-column decreases-loop-column
 unfolding grid tab
 tile-correction-requires c κs =
     let s = c.before.before.before.before.before.before.before in
     record {
-      accepted = s.pre.accepted;
-      sited = record { parity = s.pre.parity; row = s.pre.row-most; column = omega (arith, columns-are c.before.before.before) };
+      accepted = s.requires.accepted;
+      sited = record { parity = s.requires.parity; row = s.requires.row-most; column = omega (arith, columns-are c.before.before.before) };
       cleared = refl;
     }
 
-store-left-requires : of.Tie.Need-store-left-requires Inv-loop μ-loop
+store-left-requires : of.Tie.Need-store_left-requires invariant-loop-column decreases-loop-column
 unfolding scene_at row_words
 store-left-requires c κs =
     let l = c.before.before.before.before.before in
-    omega (arith, l.before.before.before.slot.ensures.is, l.loop.inv.room, l.loop.inv.toward.same, columns-are l.before)
+    omega (arith, l.before.before.before.slot-start.ensures.is, l.loop-column.invariant.room, l.loop-column.invariant.toward.same, columns-are l.before)
 
-store-right-requires : of.Tie.Need-store-right-requires Inv-loop μ-loop
+store-right-requires : of.Tie.Need-store_right-requires invariant-loop-column decreases-loop-column
 unfolding scene_at row_words
 store-right-requires c κs =
     let t = c.before.before.before.before.before.before.before.before in
     let l = t.before in (
-      omega (arith, l.before.before.before.slot.ensures.is, l.loop.inv.room, l.loop.inv.toward.same, c.before.before.before.store-left.ensures.same),
-      omega (arith, t.loop-test.taken, columns-are l.before),
+      omega (arith, l.before.before.before.slot-start.ensures.is, l.loop-column.invariant.room, l.loop-column.invariant.toward.same, c.before.before.before.store_left.ensures.same),
+      omega (arith, t.loop-column-test.true, columns-are l.before),
     )
 
-loop-again : of.Tie.Need-loop-again Inv-loop μ-loop
+loop-again : of.Tie.Need-loop-column-preserved invariant-loop-column decreases-loop-column
 unfolding scene_at
 loop-again c =
     let left = c.before.before.before.before.before in
     let t = left.before.before.before in
     let l = t.before.before.before in
-    let start_is = l.before.before.before.slot.ensures.is in
-    store-turn 16 _ _ _ _ sixteen l.before.before.before.before.before.pre.accepted.burst.allowed.wide.whole l.loop.inv (omega (arith, columns-are l.before)) t.tile-correction.ensures
-    (rw start_is at left.store-left.ensures) (rw start_is at c.before.store-right.ensures)
+    let start_is = l.before.before.before.slot-start.ensures.is in
+    store-turn 16 _ _ _ _ sixteen l.before.before.before.before.before.requires.accepted.burst.allowed.wide.whole l.loop-column.invariant (omega (arith, columns-are l.before)) t.tile_correction.ensures
+    (rw start_is at left.store_left.ensures) (rw start_is at c.before.store_right.ensures)
 
-returns : of.Tie.Need-returns Inv-loop μ-loop
+returns : of.Tie.Need-returns invariant-loop-column decreases-loop-column
 unfolding scene_at
 returns c =
     let l = c.before in
-    store-done 16 _ _ _ _ sixteen l.before.before.before.before.before.pre.accepted.burst.allowed.wide.whole l.loop.inv (omega (arith, columns-are l.before))
+    store-done 16 _ _ _ _ sixteen l.before.before.before.before.before.requires.accepted.burst.allowed.wide.whole l.loop-column.invariant (omega (arith, columns-are l.before))
 
-pub correction-row-spec : {M : Type 1} → of.Statement.statement M
-correction-row-spec = of.Tie.close (of.Tie.spec
-    Inv-loop μ-loop (λ c κs. search needs) (λ c κs. search needs) loop-holds tile-correction-requires
-    store-left-requires store-right-requires (λ c. search needs) (λ c. omega arith)
-    loop-again (λ c. search needs) returns)
+pub correction_row_spec : {M : Type 1} → of.Statement.statement M
+correction_row_spec = of.Tie.close (of.Tie.spec
+    invariant-loop-column decreases-loop-column (λ c κs. search rules) (λ c κs. search rules) loop-holds tile-correction-requires
+    store-left-requires store-right-requires (λ c. search rules) (λ c. omega arith)
+    loop-again (λ c. search rules) returns)

@@ -1,22 +1,22 @@
 -- The words of half a row, one after the other.
-use Rattle.algebra.specs.Prelude.{◌+◌, ◌-◌, arith, needs, get_or, pos, to_z-of_z}
+use Rattle.algebra.specs.Prelude.{◌+◌, ◌-◌, arith, rules, get_or, pos, to_z-of_z}
 use Rattle.sequences.specs.Write.{Writing, write-start, write-turn, write_done}
 use Rattle.merge_tiles.proofs.rows.store_block as of
 
-abbrev Inv-loop : of.Tie.InvT-loop
-Inv-loop work₀ at row from j₀ work j = Writing work₀ at (λ j. get_or row (from + j) (pos 0)) 16 j work
+abbrev invariant-loop-j : of.Tie.invariant-loop-j
+invariant-loop-j work₀ at row from j₀ work j = Writing work₀ at (λ j. get_or row (from + j) (pos 0)) 16 j work
 
-abbrev μ-loop : of.Tie.MeasureT-loop
-μ-loop work₀ at row from j₀ work j = 16 - j
+abbrev decreases-loop-j : of.Tie.decreases-loop-j
+decreases-loop-j work₀ at row from j₀ work j = 16 - j
 
-loop-again : of.Tie.Need-loop-again Inv-loop μ-loop
-loop-again c = write-turn c.before.before.loop.inv (omega arith) (to_z-of_z (record { sfits = c.work.given }))
+loop-again : of.Tie.Need-loop-j-preserved invariant-loop-j decreases-loop-j
+loop-again c = write-turn c.before.before.loop-j.invariant (omega arith) (to_z-of_z (record { sfits = c.work-1.given }))
 
-returns : of.Tie.Need-returns Inv-loop μ-loop
-returns c = write_done c.before.loop.inv (omega arith)
+returns : of.Tie.Need-returns invariant-loop-j decreases-loop-j
+returns c = write_done c.before.loop-j.invariant (omega arith)
 
-pub store-block-spec : {M : Type 1} → of.Statement.statement M
-store-block-spec = of.Tie.close (of.Tie.spec
-    Inv-loop μ-loop (λ c. write-start (search needs)) (λ c. search needs) (λ c. search needs)
-    (λ c. search needs) (λ c. search needs) (λ c. search needs) (λ c. search needs)
-    (λ c. search needs) (λ c. search needs) loop-again (λ c. search needs) returns)
+pub store_block_spec : {M : Type 1} → of.Statement.statement M
+store_block_spec = of.Tie.close (of.Tie.spec
+    invariant-loop-j decreases-loop-j (λ c. write-start (search rules)) (λ c. search rules) (λ c. search rules)
+    (λ c. search rules) (λ c. search rules) (λ c. search rules) (λ c. search rules)
+    (λ c. search rules) (λ c. search rules) loop-again (λ c. search rules) returns)

@@ -1,5 +1,5 @@
 -- The sum goes on by one frame a turn.
-use Rattle.merge_tiles32.specs.Prelude.{◌≡◌, refl, sym, subst, ◌-◌, ◌≤◌, arith, needs, lit≤, eqb, length, tab, side32, scene_at, long_noise_most}
+use Rattle.merge_tiles32.specs.Prelude.{◌≡◌, refl, sym, subst, ◌-◌, ◌≤◌, arith, rules, lit≤, eqb, length, tab, side32, scene_at, long_noise_most}
 use lib.Ieee.{nan, binary64, of_bits}
 use Rattle.sequences.specs.Grid.{grid, grid-of}
 use Rattle.tile_spectrum.specs.Lines.Lines.{TileMost}
@@ -11,55 +11,55 @@ use Rattle.merge_tiles.specs.DifferenceLaws.{pair-rows, tile-most}
 use Rattle.merge_tiles.specs.SumLaws.{Summing, sum-start, sum-turn, sum-paired, sum-small, sum_done}
 use Rattle.merge_tiles32.proofs.correcting.corrections as of
 
-abbrev Inv-loop : of.Tie.InvT-loop
-Inv-loop m samples vectors site t0 first second sum₀ others tz₀ d₀ b₀ k₀ sum tz d b k = record { sums : Summing 32 long_small_most (scene_at side32 m samples vectors) site k sum; tz_rows : length tz ≡ 32; d_rows : length d ≡ 32; spare : LongPaired nan b }
+abbrev invariant-loop-k : of.Tie.invariant-loop-k
+invariant-loop-k m samples vectors site t0 first second sum₀ others tz₀ d₀ b₀ k₀ sum tz d b k = record { sums : Summing 32 long_small_most (scene_at side32 m samples vectors) site k sum; tz_rows : length tz ≡ 32; d_rows : length d ≡ 32; spare : LongPaired nan b }
 
-abbrev μ-loop : of.Tie.MeasureT-loop
-μ-loop m samples vectors site t0 first second sum₀ others tz₀ d₀ b₀ k₀ sum tz d b k = others - k
+abbrev decreases-loop-k : of.Tie.decreases-loop-k
+decreases-loop-k m samples vectors site t0 first second sum₀ others tz₀ d₀ b₀ k₀ sum tz d b k = others - k
 
-loop-holds : of.Tie.Need-loop-holds Inv-loop μ-loop
+loop-holds : of.Tie.Need-loop-k-init invariant-loop-k decreases-loop-k
 unfolding scene_at side32 grid tab
-loop-holds c = record { sums = sum-start refl (omega arith) c.before.before.pre.cleared; tz_rows = refl; d_rows = refl; spare = record { is = grid-of nan 32 64 (λ y l. of_bits binary64 0) refl } }
+loop-holds c = record { sums = sum-start refl (omega arith) c.before.before.requires.cleared; tz_rows = refl; d_rows = refl; spare = record { is = grid-of nan 32 64 (λ y l. of_bits binary64 0) refl } }
 
-differences-requires : of.Tie.Need-differences-requires Inv-loop μ-loop
+differences-requires : of.Tie.Need-differences-requires invariant-loop-k decreases-loop-k
 differences-requires c κs =
     let l = c.before.before.before in
     let s = l.before.before.before in
-    record { accepted = s.pre.accepted; sited = s.pre.sited; frame = omega arith; tile = s.pre.tile.is; tz_rows = l.loop.inv.tz_rows; d_rows = l.loop.inv.d_rows }
+    record { accepted = s.requires.accepted; sited = s.requires.sited; frame = omega arith; tile = s.requires.tile.is; tz_rows = l.loop-k.invariant.tz_rows; d_rows = l.loop-k.invariant.d_rows }
 
-add-corrections-requires : of.Tie.Need-add-corrections-requires Inv-loop μ-loop
+add-corrections-requires : of.Tie.Need-add_corrections-requires invariant-loop-k decreases-loop-k
 add-corrections-requires c κs =
     let d = c.before.before.before in
     let l = d.before.before.before.before in
     let s = l.before.before.before in
     record {
-      differences = subst (TileMost difference_most) (sym d.differences.ensures.0) (tile-most side32 s.pre.accepted s.pre.sited l.loop.k (omega arith));
-      first_most = s.pre.tile.first_most;
-      second_most = s.pre.tile.second_most;
-      sums_most = sum-small (lit≤ tt) l.loop.inv.sums;
-      spare = l.loop.inv.spare;
-      paired = record { is = sum-paired l.loop.inv.sums };
+      differences = subst (TileMost difference_most) (sym d.differences.ensures.0) (tile-most side32 s.requires.accepted s.requires.sited l.loop-k.k (omega arith));
+      first_most = s.requires.tile.first_most;
+      second_most = s.requires.tile.second_most;
+      sums_most = sum-small (lit≤ tt) l.loop-k.invariant.sums;
+      spare = l.loop-k.invariant.spare;
+      paired = record { is = sum-paired l.loop-k.invariant.sums };
     }
 
-loop-again : of.Tie.Need-loop-again Inv-loop μ-loop
+loop-again : of.Tie.Need-loop-k-preserved invariant-loop-k decreases-loop-k
 unfolding scene_at
 loop-again c =
     let d = c.before.before.before.before in
     let l = d.before.before.before.before in
     let s = l.before.before.before in
     record {
-      sums = sum-turn l.loop.inv.sums (omega arith) side32 refl s.args.first s.args.second s.pre.tile.number d.differences.ensures.0 c.add-corrections.ensures.is
-          (λ p h. correction-small-32 _ (subst (λ n. n ≤ long_noise_most) (s.pre.tile.number p h) (cond_cases (λ n. n ≤ long_noise_most) (eqb p 0) s.pre.tile.first_most s.pre.tile.second_most)) _);
+      sums = sum-turn l.loop-k.invariant.sums (omega arith) side32 refl s.args.first s.args.second s.requires.tile.number d.differences.ensures.0 c.add_corrections.ensures.is
+          (λ p h. correction-small-32 _ (subst (λ n. n ≤ long_noise_most) (s.requires.tile.number p h) (cond_cases (λ n. n ≤ long_noise_most) (eqb p 0) s.requires.tile.first_most s.requires.tile.second_most)) _);
       tz_rows = d.differences.ensures.1;
       d_rows = pair-rows 32 _ d.differences.ensures.0;
-      spare = c.add-corrections.ensures.spare;
+      spare = c.add_corrections.ensures.spare;
     }
 
-returns : of.Tie.Need-returns Inv-loop μ-loop
+returns : of.Tie.Need-returns invariant-loop-k decreases-loop-k
 unfolding scene_at
-returns c = sum_done c.before.loop.inv.sums (omega arith)
+returns c = sum_done c.before.loop-k.invariant.sums (omega arith)
 
-pub corrections-spec : {M : Type 1} → of.Statement.statement M
-corrections-spec = of.Tie.close (of.Tie.spec
-    Inv-loop μ-loop (λ c. search needs) loop-holds differences-requires add-corrections-requires
-    (λ c. search needs) (λ c. omega arith) loop-again returns)
+pub corrections_spec : {M : Type 1} → of.Statement.statement M
+corrections_spec = of.Tie.close (of.Tie.spec
+    invariant-loop-k decreases-loop-k (λ c. search rules) loop-holds differences-requires add-corrections-requires
+    (λ c. search rules) (λ c. omega arith) loop-again returns)

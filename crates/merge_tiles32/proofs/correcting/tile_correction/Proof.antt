@@ -1,5 +1,5 @@
 -- T0 has its roots and its noise numbers, and what is taken from it is its sums.
-use Rattle.merge_tiles32.specs.Prelude.{◌≡◌, refl, arith, needs, lit≤, now, cell, side32, long_noise_most, reference_tile, scene_at, TileOf, pair_at}
+use Rattle.merge_tiles32.specs.Prelude.{◌≡◌, refl, arith, rules, lit≤, now, cell, side32, long_noise_most, reference_tile, scene_at, TileOf, pair_at}
 use Rattle.merge_tiles32.specs.Sizes.{long_small_most}
 use Rattle.merge_tiles.specs.DifferenceLaws.{tile-fits, reference-most}
 use Rattle.merge_tiles.specs.TileLaws.{tile-of, taken-off}
@@ -11,44 +11,44 @@ sided = refl
 
 -- T0
 tile_is : (c : of.Tie.After-pair) → let a = c.before.before.before.before.args in
-    c.pair.last.1.1.1.1.1.1.0 ≡ pair_at 32 (reference_tile (scene_at side32 a.m (now a.samples) (now a.vectors))) a.site
+    c.pair.new.1.1.1.1.1.1.0 ≡ pair_at 32 (reference_tile (scene_at side32 a.m (now a.samples) (now a.vectors))) a.site
 unfolding reference_tile scene_at
 tile_is c = c.pair.ensures
 
-pair-roots-requires : of.Tie.Need-pair-roots-requires
+pair-roots-requires : of.Tie.Need-pair_roots-roots-requires
 unfolding cell
 pair-roots-requires c κs =
     let t = c.before.before.before in
     let s = t.before.before.before.before in
-    let fits = tile-fits 32 _ (reference-most side32 s.pre.accepted s.pre.sited) (tile_is t) in
+    let fits = tile-fits 32 _ (reference-most side32 s.requires.accepted s.requires.sited) (tile_is t) in
     record { most = λ i l. (fits.row i).most l }
 
 -- V of either plane
-known : (c : of.Tie.After-tile-noise2) → let t = c.before.before.before.before.before.before in let a = t.before.before.before.before.args in
-    TileOf 32 long_noise_most (scene_at side32 a.m (now a.samples) (now a.vectors)) a.site t.pair.last.1.1.1.1.1.1.0 c.before.tile-noise.result c.tile-noise2.result
+known : (c : of.Tie.After-tile_noise-second) → let t = c.before.before.before.before.before.before in let a = t.before.before.before.before.args in
+    TileOf 32 long_noise_most (scene_at side32 a.m (now a.samples) (now a.vectors)) a.site t.pair.new.1.1.1.1.1.1.0 c.before.tile_noise-first.result c.tile_noise-second.result
 known c =
     let r = c.before.before in
     let b = r.before.before in
     let t = b.before.before in
     let a = t.before.before.before.before.args in
-    tile-of 32 side32 sided a.m (now a.samples) (now a.vectors) a.site (tile_is t) b.before.plane-black.ensures b.plane-black2.ensures r.pair-roots.ensures.first r.pair-roots.ensures.second
-    c.before.tile-noise.ensures.0 c.tile-noise2.ensures.0 c.before.tile-noise.ensures.1 c.tile-noise2.ensures.1
+    tile-of 32 side32 sided a.m (now a.samples) (now a.vectors) a.site (tile_is t) b.before.plane_black-first_black.ensures b.plane_black-second_black.ensures r.pair_roots-roots.ensures.first r.pair_roots-roots.ensures.second
+    c.before.tile_noise-first.ensures.0 c.tile_noise-second.ensures.0 c.before.tile_noise-first.ensures.1 c.tile_noise-second.ensures.1
 
 summed-requires : of.Tie.Need-summed-requires
 summed-requires c κs =
     let n = c.before.before in
     let s = n.before.before.before.before.before.before.before.before.before.before in
-    record { accepted = s.pre.accepted; sited = s.pre.sited; tile = known n; cleared = s.pre.cleared }
+    record { accepted = s.requires.accepted; sited = s.requires.sited; tile = known n; cleared = s.requires.cleared }
 
 returns : of.Tie.Need-returns
 unfolding scene_at
 returns c =
     let s = c.before.before.before.before.before.before.before.before.before.before.before.before.before in
-    let ok = s.pre.accepted in
+    let ok = s.requires.accepted in
     let few = ok.burst.allowed.few in
     taken-off _ _ (ok.unfiltered ok.side_is) 32 long_small_most (omega (arith, few)) (lit≤ tt) c.summed.ensures
 
-pub tile-correction-spec : {M : Type 1} → of.Statement.statement M
-tile-correction-spec = of.Tie.close (of.Tie.spec
-    (λ c κs. search needs) (λ c κs. search needs) (λ c κs. search needs) pair-roots-requires
-    (λ c κs. search needs) (λ c κs. search needs) summed-requires returns)
+pub tile_correction_spec : {M : Type 1} → of.Statement.statement M
+tile_correction_spec = of.Tie.close (of.Tie.spec
+    (λ c κs. search rules) (λ c κs. search rules) (λ c κs. search rules) pair-roots-requires
+    (λ c κs. search rules) (λ c κs. search rules) summed-requires returns)

@@ -1,19 +1,19 @@
 -- V of r, which is at most 131040.
-use Rattle.algebra.specs.Prelude.{refl, ap, ◌∙◌, needs}
+use Rattle.algebra.specs.Prelude.{refl, ap, ◌∙◌, rules}
 use Rattle.recipe.specs.NoiseNumber.{noise_number}
 use Rattle.noise.specs.NoiseNumberLaws.{long-noise-bound}
 use Rattle.recipe.specs.SideLaws.{of-32}
 use Rattle.merge_tiles32.proofs.correcting.tile_noise as of
 
-side-noise-number-requires : of.Tie.Need-side-noise-number-requires
-side-noise-number-requires c κs = search needs
+side-noise-number-requires : of.Tie.Need-side_noise_number-requires
+side-noise-number-requires c κs = search rules
 
 returns : of.Tie.Need-returns
 returns c =
-    let s = c.before.pre in
+    let s = c.before.requires in
     let m = c.before.args.m in
-    let e = c.side-noise-number.ensures.0 ∙ ap (λ n. noise_number n m.tuning.strength m.shot m.read c.before.args.root) (of-32 refl) in
+    let e = c.side_noise_number.ensures.0 ∙ ap (λ n. noise_number n m.tuning.strength m.shot m.read c.before.args.root) (of-32 refl) in
     (e, rw e (long-noise-bound s.strength_most s.shot_most s.read_most s.root-most))
 
-pub tile-noise-spec : {M : Type 1} → of.Statement.statement M
-tile-noise-spec = of.Tie.close (of.Tie.spec side-noise-number-requires returns)
+pub tile_noise_spec : {M : Type 1} → of.Statement.statement M
+tile_noise_spec = of.Tie.close (of.Tie.spec side-noise-number-requires returns)

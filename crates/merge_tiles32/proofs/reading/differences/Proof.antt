@@ -1,52 +1,52 @@
 -- The pair of the frame that the index names, moved by the vector that stands at its place.
-use Rattle.algebra.specs.Prelude.{◌≡◌, ◌∙◌, arith, needs, now}
+use Rattle.algebra.specs.Prelude.{◌≡◌, ◌∙◌, arith, rules, now}
 use Rattle.merge_tiles32.specs.Prelude.{grid, side32, other_tile, scene_at, at_site}
 use Rattle.tile_spectrum.specs.Pairs.{side_by_side}
 use Rattle.merge_tiles.specs.DifferenceLaws.{pair-rows, difference-grid, tile-fits, part-most, part-is, other-pair-is, site-row, site-column, reference-most, other-most}
 use Rattle.merge_tiles32.proofs.reading.differences as of
 
-vector-place-requires : of.Tie.Need-vector-place-requires
+vector-place-requires : of.Tie.Need-vector_place-place-requires
 vector-place-requires c κs =
     let s = c.before.before in
-    let ok = s.pre.accepted in
-    record { allowed = ok.burst.allowed; sided = ok.burst.sided; other = s.pre.frame; row_in = site-row ok s.pre.sited; column-in = site-column ok s.pre.sited }
+    let ok = s.requires.accepted in
+    record { allowed = ok.burst.allowed; sided = ok.burst.sided; other = s.requires.frame; row_in = site-row ok s.requires.sited; column-in = site-column ok s.requires.sited }
 
 pair-requires : of.Tie.Need-pair-requires
 pair-requires c κs =
     let s = c.before.before.before.before.before.before.before in
-    let v = s.pre.accepted.vectors_fit in
-    record { sampled = search needs; frame_below = search needs; sited = s.pre.sited; down_most = rw (part-is v _) (part-most v _); right_most = rw (part-is v _) (part-most v _); rows = s.pre.tz_rows }
+    let v = s.requires.accepted.vectors_fit in
+    record { sampled = search rules; frame_below = search rules; sited = s.requires.sited; down_most = rw (part-is v _) (part-most v _); right_most = rw (part-is v _) (part-most v _); rows = s.requires.tz_rows }
 
 -- Tz
 other-is : (c : of.Tie.After-pair) → let a = c.before.before.before.before.before.before.before.before.args in
-    c.pair.last.1.1.1.1.1.1.0 ≡ grid 32 64 (side_by_side (λ p. at_site (other_tile (scene_at side32 a.m (now a.samples) (now a.vectors))) a.site p a.k))
+    c.pair.new.1.1.1.1.1.1.0 ≡ grid 32 64 (side_by_side (λ p. at_site (other_tile (scene_at side32 a.m (now a.samples) (now a.vectors))) a.site p a.k))
 other-is c =
     let place = c.before.before.before.before.before in
     let s = place.before.before.before in
-    let v = s.pre.accepted.vectors_fit in
+    let v = s.requires.accepted.vectors_fit in
     c.pair.ensures
     ∙ other-pair-is 32 side32 s.args.m (now s.args.samples) (now s.args.vectors) _ _ _ s.args.k
-    c.before.before.other-frame.ensures.0 place.vector-place.ensures.0 (part-is v _) (part-is v _)
+    c.before.before.other_frame-frame.ensures.0 place.vector_place-place.ensures.0 (part-is v _) (part-is v _)
 
 difference-requires : of.Tie.Need-difference-requires
 difference-requires c κs =
     let tz = c.before.before in
     let s = tz.before.before.before.before.before.before.before.before in
-    let ok = s.pre.accepted in
+    let ok = s.requires.accepted in
     record {
-      reference = tile-fits 32 _ (reference-most side32 ok s.pre.sited) s.pre.tile;
-      other = tile-fits 32 _ (other-most side32 ok s.pre.sited s.args.k (omega arith)) (other-is tz);
-      rows = s.pre.d_rows;
+      reference = tile-fits 32 _ (reference-most side32 ok s.requires.sited) s.requires.tile;
+      other = tile-fits 32 _ (other-most side32 ok s.requires.sited s.args.k (omega arith)) (other-is tz);
+      rows = s.requires.d_rows;
     }
 
 returns : of.Tie.Need-returns
 returns c =
     let tz = c.before.before.before in
     let s = tz.before.before.before.before.before.before.before.before in
-    (c.difference.ensures ∙ difference-grid 32 (scene_at side32 s.args.m (now s.args.samples) (now s.args.vectors)) _ _ _ _ s.pre.tile (other-is tz), pair-rows 32 _ (other-is tz))
+    (c.difference.ensures ∙ difference-grid 32 (scene_at side32 s.args.m (now s.args.samples) (now s.args.vectors)) _ _ _ _ s.requires.tile (other-is tz), pair-rows 32 _ (other-is tz))
 
-pub differences-spec : {M : Type 1} → of.Statement.statement M
-differences-spec = of.Tie.close (of.Tie.spec
-    vector-place-requires (λ c. search needs) (λ c. search needs) (λ c. search needs)
-    (λ c. search needs) (λ c. search needs) (λ c κs. search needs) pair-requires difference-requires
+pub differences_spec : {M : Type 1} → of.Statement.statement M
+differences_spec = of.Tie.close (of.Tie.spec
+    vector-place-requires (λ c. search rules) (λ c. search rules) (λ c. search rules)
+    (λ c. search rules) (λ c. search rules) (λ c κs. search rules) pair-requires difference-requires
     returns)

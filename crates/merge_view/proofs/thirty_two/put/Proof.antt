@@ -1,25 +1,25 @@
 -- The words of half a row, one after the other.
-use Rattle.algebra.specs.Prelude.{◌-◌, arith, needs, get_or, refl}
+use Rattle.algebra.specs.Prelude.{◌-◌, arith, rules, get_or, refl}
 use Rattle.sequences.specs.Write.{Writing, write-start, write-turn, write_done}
 use Rattle.merge_view.proofs.thirty_two.put as of
 
-abbrev Inv-loop : of.Tie.InvT-loop
-Inv-loop row₀ at half l₀ row l = Writing row₀ at (λ l. get_or half l 0) 32 l row
+abbrev invariant-loop-l : of.Tie.invariant-loop-l
+invariant-loop-l row₀ at half l₀ row l = Writing row₀ at (λ l. get_or half l 0) 32 l row
 
-abbrev μ-loop : of.Tie.MeasureT-loop
-μ-loop row₀ at half l₀ row l = 32 - l
+abbrev decreases-loop-l : of.Tie.decreases-loop-l
+decreases-loop-l row₀ at half l₀ row l = 32 - l
 
-loop-holds : of.Tie.Need-loop-holds Inv-loop μ-loop
-loop-holds c = write-start (omega (arith, c.pre.0, c.pre.1))
+loop-holds : of.Tie.Need-loop-l-init invariant-loop-l decreases-loop-l
+loop-holds c = write-start (omega (arith, c.requires.0, c.requires.1))
 
-loop-again : of.Tie.Need-loop-again Inv-loop μ-loop
-loop-again c = write-turn c.before.before.loop.inv (omega arith) refl
+loop-again : of.Tie.Need-loop-l-preserved invariant-loop-l decreases-loop-l
+loop-again c = write-turn c.before.before.loop-l.invariant (omega arith) refl
 
-returns : of.Tie.Need-returns Inv-loop μ-loop
-returns c = write_done c.before.loop.inv (omega arith)
+returns : of.Tie.Need-returns invariant-loop-l decreases-loop-l
+returns c = write_done c.before.loop-l.invariant (omega arith)
 
 pub put_spec : {M : Type 1} → of.Statement.statement M
 put_spec = of.Tie.close (of.Tie.spec
-    Inv-loop μ-loop loop-holds (λ c. search needs) (λ c. search needs)
-    (λ c. search needs) (λ c. search needs) (λ c. search needs) (λ c. search needs)
-    (λ c. search needs) loop-again returns)
+    invariant-loop-l decreases-loop-l loop-holds (λ c. search rules) (λ c. search rules)
+    (λ c. search rules) (λ c. search rules) (λ c. search rules) (λ c. search rules)
+    (λ c. search rules) loop-again returns)

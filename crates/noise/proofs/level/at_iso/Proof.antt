@@ -7,5 +7,5 @@ returns : of.Tie.Need-returns
 unfolding of_bits of_int
 returns c = search rules
 
-pub at-iso-spec : {M : Type 1} → of.Statement.statement M
-at-iso-spec = of.Tie.close (of.Tie.spec (λ c. search rules) returns)
+pub at_iso_spec : {M : Type 1} → of.Statement.statement M
+at_iso_spec = of.Tie.close (of.Tie.spec (λ c. search rules) returns)

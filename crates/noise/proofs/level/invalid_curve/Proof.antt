@@ -1,16 +1,16 @@
 -- Each answer, from what the tests of shot and read ensure.
-use Rattle.algebra.specs.Prelude.{sym, ◌∙◌, needs}
+use Rattle.algebra.specs.Prelude.{sym, ◌∙◌, rules}
 use Rattle.noise.specs.Levels.{invalid_curve}
 use Rattle.noise.proofs.level.invalid_curve as of
 
-returns : of.Tie.Need-returns
+returns : of.Tie.Need-returns-then-invalid_number
 unfolding invalid_curve
-returns c = rw (sym c.before.invalid-number.ensures ∙ c.if1.taken)
+returns c = rw (sym c.before.invalid_number.ensures ∙ c.if-invalid_number.true)
 
-returns-2 : of.Tie.Need-returns-2
+returns-2 : of.Tie.Need-returns
 unfolding invalid_curve
-returns-2 c = rw (sym c.before.before.invalid-number.ensures ∙ c.before.if1.left) c.invalid-number2.ensures
+returns-2 c = rw (sym c.before.before.invalid_number.ensures ∙ c.before.if-invalid_number.false) c.invalid_number-2.ensures
 
-pub invalid-curve-spec : {M : Type 1} → of.Statement.statement M
-invalid-curve-spec = of.Tie.close (of.Tie.spec
-    (λ c κs. search needs) returns (λ c κs. search needs) returns-2)
+pub invalid_curve_spec : {M : Type 1} → of.Statement.statement M
+invalid_curve_spec = of.Tie.close (of.Tie.spec
+    (λ c κs. search rules) returns (λ c κs. search rules) returns-2)

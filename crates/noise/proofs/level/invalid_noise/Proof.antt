@@ -1,21 +1,21 @@
 -- Each answer, from the variant and what its tests ensure.
-use Rattle.algebra.specs.Prelude.{sym, ◌∙◌, needs}
-use Rattle.noise.specs.Levels.{invalid_noise}
-use Rattle.noise.proofs.level.invalid_noise as of
+use Rattle.algebra.specs.Prelude.{sym, ◌∙◌, rules}
+use Rattle.noise-1.specs.Levels.{invalid_noise}
+use Rattle.noise-1.proofs.level.invalid_noise as of
 
-returns : of.Tie.Need-returns
+returns : of.Tie.Need-returns-then-invalid_iso
 unfolding invalid_noise
-returns c = rw (c.before.before.before.noise2.given.1, sym c.before.invalid-iso.ensures ∙ c.if1.taken)
+returns c = rw (c.before.before.before.noise-in-Iso-1.given.1, sym c.before.invalid_iso.ensures ∙ c.if-invalid_iso.true)
 
-returns-2 : of.Tie.Need-returns-2
+returns-2 : of.Tie.Need-returns-in-Measured
 unfolding invalid_noise
 returns-2 c = cc
 
-returns-3 : of.Tie.Need-returns-3
+returns-3 : of.Tie.Need-returns-else-invalid_iso
 unfolding invalid_noise
-returns-3 c = rw (c.before.before.before.before.noise2.given.1, sym c.before.before.invalid-iso.ensures ∙ c.before.if1.left) c.invalid-curve2.ensures
+returns-3 c = rw (c.before.before.before.before.noise-in-Iso-1.given.1, sym c.before.before.invalid_iso.ensures ∙ c.before.if-invalid_iso.false) c.invalid_curve-in-Iso.ensures
 
-pub invalid-noise-spec : {M : Type 1} → of.Statement.statement M
-invalid-noise-spec = of.Tie.close (of.Tie.spec
-    (λ c. search needs) (λ c κs. search needs) (λ c. search needs) (λ c κs. search needs) returns
-    (λ c κs. search needs) returns-2 returns-3)
+pub invalid_noise_spec : {M : Type 1} → of.Statement.statement M
+invalid_noise_spec = of.Tie.close (of.Tie.spec
+    (λ c. search rules) (λ c κs. search rules) (λ c. search rules) (λ c κs. search rules) returns
+    (λ c κs. search rules) returns-2 returns-3)

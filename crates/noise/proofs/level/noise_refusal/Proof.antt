@@ -7,6 +7,6 @@ returns : of.Tie.Need-returns
 unfolding noise_tests
 returns c = cc
 
-pub noise-refusal-spec : {M : Type 1} → of.Statement.statement M
-noise-refusal-spec = of.Tie.close (of.Tie.spec
+pub noise_refusal_spec : {M : Type 1} → of.Statement.statement M
+noise_refusal_spec = of.Tie.close (of.Tie.spec
     (λ c κs. search rules) (λ c κs. search rules) (λ c κs. search rules) (λ c κs. search rules) (λ c κs. search rules) (λ c. search rules) (λ c κs. search rules) returns)

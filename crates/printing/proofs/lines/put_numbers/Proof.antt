@@ -1,24 +1,24 @@
 -- Value k is put where what is left of the line starts with it.
-use Rattle.printing.specs.Prelude.{needs, arith, refl, ◌-◌, length}
+use Rattle.printing.specs.Prelude.{rules, arith, refl, ◌-◌, length}
 use Rattle.printing.proofs.Lining.{Lining, lining-start, lining-turn, lining-done}
 use Rattle.printing.proofs.lines.put_numbers as of
 
-abbrev Inv-loop : of.Tie.InvT-loop
-Inv-loop text₀ at numbers next₀ k₀ k-end text next k = Lining 21 text₀ at numbers k text next
+abbrev invariant-loop-k : of.Tie.invariant-loop-k
+invariant-loop-k text₀ at numbers next₀ k₀ k-end text next k = Lining 21 text₀ at numbers k text next
 
-abbrev μ-loop : of.Tie.MeasureT-loop
-μ-loop text₀ at numbers next₀ k₀ k-end text next k = length numbers - k
+abbrev decreases-loop-k : of.Tie.decreases-loop-k
+decreases-loop-k text₀ at numbers next₀ k₀ k-end text next k = length numbers - k
 
-loop-again : of.Tie.Need-loop-again Inv-loop μ-loop
+loop-again : of.Tie.Need-loop-k-preserved invariant-loop-k decreases-loop-k
 loop-again c =
     let at-loop = c.before.before.before.before.before.before in
-    lining-turn at-loop.loop.inv (omega arith) refl refl c.before.before.put-value.ensures.0 c.before.before.put-value.ensures.1
+    lining-turn at-loop.loop-k.invariant (omega arith) refl refl c.before.before.put_value-next.ensures.0 c.before.before.put_value-next.ensures.1
 
-returns : of.Tie.Need-returns Inv-loop μ-loop
-returns c = lining-done c.before.loop.inv (omega arith)
+returns : of.Tie.Need-returns invariant-loop-k decreases-loop-k
+returns c = lining-done c.before.loop-k.invariant (omega arith)
 
-pub put-numbers-spec : {M : Type 1} → of.Statement.statement M
-put-numbers-spec = of.Tie.close (of.Tie.spec
-    Inv-loop μ-loop (λ c. lining-start (omega arith)) (λ c. search needs) (λ c. search needs)
-    (λ c. search needs) (λ c. search needs) (λ c κs. search needs) (λ c. search needs)
-    (λ c. search needs) loop-again (λ c. search needs) returns)
+pub put_numbers_spec : {M : Type 1} → of.Statement.statement M
+put_numbers_spec = of.Tie.close (of.Tie.spec
+    invariant-loop-k decreases-loop-k (λ c. lining-start (omega arith)) (λ c. search rules) (λ c. search rules)
+    (λ c. search rules) (λ c. search rules) (λ c κs. search rules) (λ c. search rules)
+    (λ c. search rules) loop-again (λ c. search rules) returns)

@@ -1,12 +1,12 @@
 -- A band a turn, each under the row of pairs of tiles that the one before has left.
-use Rattle.range_frame.specs.Prelude.{◌≡◌, refl, subst, ◌∙◌, ◌-◌, ◌*◌, ◌/◌, ◌≤◌, arith, needs, length, now, scene_at, at_noises}
+use Rattle.range_frame.specs.Prelude.{◌≡◌, refl, subst, ◌∙◌, ◌-◌, ◌*◌, ◌/◌, ◌≤◌, arith, rules, length, now, scene_at, at_noises}
 use Rattle.range_frame.specs.Held.{EndsHeld, RowsRanged}
 use Rattle.range_frame.specs.HeldLaws.{ends_held}
 use Rattle.range_frame.specs.BandLaws.{ranged-start, ranged-on}
 use Rattle.range_frame.proofs.planes.range_parity as of
 
-abbrev Inv-loop : of.Tie.InvT-loop
-Inv-loop m upper samples vectors parity low₀ high₀ work₀ bands band₀ low high work band =
+abbrev invariant-loop-band : of.Tie.invariant-loop-band
+invariant-loop-band m upper samples vectors parity low₀ high₀ work₀ bands band₀ low high work band =
     record {
       rows : at_noises RowsRanged m upper samples vectors parity 0 (8 * band) low₀ low high₀ high;
       held : at_noises EndsHeld m upper samples vectors parity band work;
@@ -14,30 +14,30 @@ Inv-loop m upper samples vectors parity low₀ high₀ work₀ bands band₀ low
       most : band ≤ bands;
     }
 
-abbrev μ-loop : of.Tie.MeasureT-loop
-μ-loop m upper samples vectors parity low₀ high₀ work₀ bands band₀ low high work band = bands - band
+abbrev decreases-loop-band : of.Tie.decreases-loop-band
+decreases-loop-band m upper samples vectors parity low₀ high₀ work₀ bands band₀ low high work band = bands - band
 
-end-row-requires : of.Tie.Need-end-row-requires Inv-loop μ-loop
+end-row-requires : of.Tie.Need-end_row-requires invariant-loop-band decreases-loop-band
 end-row-requires c κs =
     let s = c.before.before.before.before in
-    let l = s.pre.lent in
-    record { accepted = l.accepted; upper_fits = l.upper_fits; parity = s.pre.parity; row-most = omega arith; room = l.room }
+    let l = s.requires.lent in
+    record { accepted = l.accepted; upper_fits = l.upper_fits; parity = s.requires.parity; row-most = omega arith; room = l.room }
 
-loop-holds : of.Tie.Need-loop-holds Inv-loop μ-loop
+loop-holds : of.Tie.Need-loop-band-init invariant-loop-band decreases-loop-band
 unfolding scene_at
 loop-holds c =
     let r = c.before.before in
     let s = r.before.before.before.before.before in
-    record { rows = ranged-start; held = ends_held r.End-row.ensures s.pre.lent.room; long = refl; most = omega arith }
+    record { rows = ranged-start; held = ends_held r.End-row.ensures s.requires.lent.room; long = refl; most = omega arith }
 
-range-band-requires : of.Tie.Need-range-band-requires Inv-loop μ-loop
+range-band-requires : of.Tie.Need-range_band-requires invariant-loop-band decreases-loop-band
 range-band-requires c κs =
     let i = c.before.before.before in
     let l = i.before in
     let r = l.before.before.before in
     let s = r.before.before.before.before.before in
-    let t = s.pre.lent in
-    let w = l.loop.inv in
+    let t = s.requires.lent in
+    let w = l.loop-band.invariant in
     record {
       lent = record {
         accepted = t.accepted;
@@ -46,35 +46,35 @@ range-band-requires c κs =
         high_long = w.rows.highs.toward.same ∙ t.high_long;
         room = omega (arith, t.room, w.long, r.End-row.ensures.same);
       };
-      parity = s.pre.parity;
-      band_below = omega (arith, i.loop-test.taken);
+      parity = s.requires.parity;
+      band_below = omega (arith, i.loop-band-test.true);
       held = w.held;
     }
 
-loop-again : of.Tie.Need-loop-again Inv-loop μ-loop
+loop-again : of.Tie.Need-loop-band-preserved invariant-loop-band decreases-loop-band
 loop-again c =
     let b = c.before.before.before.before.before in
     let i = b.before.before.before.before in
     let l = i.before in
     let s = l.before.before.before.before.before.before.before.before in
     let a = s.args in
-    let w = l.loop.inv in
+    let w = l.loop-band.invariant in
     record {
-      rows = subst (λ n. at_noises RowsRanged a.m a.upper (now a.samples) (now a.vectors) a.parity 0 n (now a.low) b.range-band.last.1.1.1.1.1.1.0 (now a.high) b.range-band.last.1.1.1.1.1.1.1.0) (omega arith) (ranged-on w.rows b.range-band.ensures.rows);
-      held = b.range-band.ensures.held;
-      long = b.range-band.kept.1.1.1.1.1.1.1.1.0 ∙ w.long;
-      most = omega (arith, i.loop-test.taken);
+      rows = subst (λ n. at_noises RowsRanged a.m a.upper (now a.samples) (now a.vectors) a.parity 0 n (now a.low-1) b.range_band.new.1.1.1.1.1.1.0 (now a.high-1) b.range_band.new.1.1.1.1.1.1.1.0) (omega arith) (ranged-on w.rows b.range_band.ensures.rows);
+      held = b.range_band.ensures.held;
+      long = b.range_band.auto.1.1.1.1.1.1.1.1.0 ∙ w.long;
+      most = omega (arith, i.loop-band-test.true);
     }
 
-returns : of.Tie.Need-returns Inv-loop μ-loop
+returns : of.Tie.Need-returns invariant-loop-band decreases-loop-band
 returns c =
     let l = c.before in
     let s = l.before.before.before.before.before.before.before.before in
     let a = s.args in
-    let all : l.loop.band ≡ a.m.shape.height / 16 = omega (arith, l.loop.inv.most) in
-    subst (λ n. at_noises RowsRanged a.m a.upper (now a.samples) (now a.vectors) a.parity 0 (8 * n) (now a.low) l.loop.low (now a.high) l.loop.high) all l.loop.inv.rows
+    let all : l.loop-band.band ≡ a.m.shape.height / 16 = omega (arith, l.loop-band.invariant.most) in
+    subst (λ n. at_noises RowsRanged a.m a.upper (now a.samples) (now a.vectors) a.parity 0 (8 * n) (now a.low-1) l.loop-band.low-1 (now a.high-1) l.loop-band.high-1) all l.loop-band.invariant.rows
 
-pub range-parity-spec : {M : Type 1} → of.Statement.statement M
-range-parity-spec = of.Tie.close (of.Tie.spec
-    Inv-loop μ-loop end-row-requires loop-holds range-band-requires (λ c. search needs) (λ c. omega arith) loop-again
-    (λ c. search needs) (λ c. search needs) (λ c. search needs) returns)
+pub range_parity_spec : {M : Type 1} → of.Statement.statement M
+range_parity_spec = of.Tie.close (of.Tie.spec
+    invariant-loop-band decreases-loop-band end-row-requires loop-holds range-band-requires (λ c. search rules) (λ c. omega arith) loop-again
+    (λ c. search rules) (λ c. search rules) (λ c. search rules) returns)

@@ -8,8 +8,8 @@ use Rattle.range_pair.proofs.distances.apart as of
 wide : {x : Float} → WholeDouble (fold_most false) x → WholeDouble (2 ^ 53) x
 wide w = record { number = w.number; most = le_trans w.most (lit≤ tt); is = w.is }
 
-pub apart-spec : {M : Type 1} → of.Statement.statement M
-apart-spec = of.Tie.close (of.Tie.spec
-    (λ c. whole-fits (wide c.before.pre.0)) (λ c. whole-fits (wide c.before.before.pre.1))
-    (λ c. difference-fits (wide c.before.before.pre.0) (wide c.before.before.pre.1))
-    (λ c. difference-is (wide c.before.before.pre.0) (wide c.before.before.pre.1)))
+pub apart_spec : {M : Type 1} → of.Statement.statement M
+apart_spec = of.Tie.close (of.Tie.spec
+    (λ c. whole-fits (wide c.before.requires.0)) (λ c. whole-fits (wide c.before.before.requires.1))
+    (λ c. difference-fits (wide c.before.before.requires.0) (wide c.before.before.requires.1))
+    (λ c. difference-is (wide c.before.before.requires.0) (wide c.before.before.requires.1)))

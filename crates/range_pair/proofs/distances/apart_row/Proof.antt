@@ -1,33 +1,33 @@
 -- The places are stored one after the other.
-use Rattle.range_pair.specs.Prelude.{◌≡◌, refl, ◌∙◌, ◌-◌, arith, needs, get_or, w64, to_z, of_z, nan}
+use Rattle.range_pair.specs.Prelude.{◌≡◌, refl, ◌∙◌, ◌-◌, arith, rules, get_or, w64, to_z, of_z, nan}
 use Rattle.sequences.specs.TabLaws.{Filled, fill_start, fill-turn, fill_done}
 use Rattle.tile_spectrum.specs.Lines.DoubleCasts.{whole_at}
 use Rattle.range_pair.specs.Factors.{place_apart}
 use Rattle.range_pair.proofs.distances.apart_row as of
 
-abbrev Inv-loop : of.Tie.InvT-loop
-Inv-loop a b r₀ l₀ r l = Filled (λ l. place_apart (get_or a l nan) (get_or b l nan)) 32 l r₀ r
+abbrev invariant-loop-l : of.Tie.invariant-loop-l
+invariant-loop-l a b r₀ l₀ r l = Filled (λ l. place_apart (get_or a l nan) (get_or b l nan)) 32 l r₀ r
 
-abbrev μ-loop : of.Tie.MeasureT-loop
-μ-loop a b r₀ l₀ r l = 32 - l
+abbrev decreases-loop-l : of.Tie.decreases-loop-l
+decreases-loop-l a b r₀ l₀ r l = 32 - l
 
-apart-requires : of.Tie.Need-apart-requires Inv-loop μ-loop
+apart-requires : of.Tie.Need-apart-requires invariant-loop-l decreases-loop-l
 apart-requires c κs =
     let l = c.before.before.before in
-    (whole_at l.before.pre.0 l.loop.l (omega arith), whole_at l.before.pre.1 l.loop.l (omega arith))
+    (whole_at l.before.requires.0 l.loop-l.l (omega arith), whole_at l.before.requires.1 l.loop-l.l (omega arith))
 
-loop-again : of.Tie.Need-loop-again Inv-loop μ-loop
+loop-again : of.Tie.Need-loop-l-preserved invariant-loop-l decreases-loop-l
 loop-again c =
     let l = c.before.before.before.before in
-    let e : to_z w64 (of_z w64 c.apart.result) ≡ c.apart.result = search needs in
-    fill-turn l.loop.inv (omega arith) (e ∙ c.apart.ensures)
+    let e : to_z w64 (of_z w64 c.apart.result) ≡ c.apart.result = search rules in
+    fill-turn l.loop-l.invariant (omega arith) (e ∙ c.apart.ensures)
 
-returns : of.Tie.Need-returns Inv-loop μ-loop
+returns : of.Tie.Need-returns invariant-loop-l decreases-loop-l
 returns c =
-    fill_done c.before.loop.inv (omega arith)
+    fill_done c.before.loop-l.invariant (omega arith)
 
-pub apart-row-spec : {M : Type 1} → of.Statement.statement M
-apart-row-spec = of.Tie.close (of.Tie.spec
-    Inv-loop μ-loop (λ c. fill_start refl) (λ c. search needs) (λ c. search needs)
-    (λ c. search needs) (λ c. search needs) apart-requires (λ c. search needs) (λ c. search needs)
-    (λ c. search needs) (λ c. search needs) loop-again returns)
+pub apart_row_spec : {M : Type 1} → of.Statement.statement M
+apart_row_spec = of.Tie.close (of.Tie.spec
+    invariant-loop-l decreases-loop-l (λ c. fill_start refl) (λ c. search rules) (λ c. search rules)
+    (λ c. search rules) (λ c. search rules) apart-requires (λ c. search rules) (λ c. search rules)
+    (λ c. search rules) (λ c. search rules) loop-again returns)

@@ -4,21 +4,21 @@ use Rattle.tile_spectrum.specs.Apart.{is-own, is-paired}
 use Rattle.range_pair.specs.Factors.{times_at}
 use Rattle.range_pair.proofs.distances.times as of
 
-returns : of.Tie.Need-returns
+returns : of.Tie.Need-returns-then-v-eq0
 unfolding times_at
-returns c = sym (ap₂ ◌*◌ (is-own _ 2 1 c.before.if1.taken) (is-own _ 1 2 c.if2.taken))
+returns c = sym (ap₂ ◌*◌ (is-own _ 2 1 c.before.if-u-eq0.true) (is-own _ 1 2 c.if-v-eq0.true))
 
-returns-2 : of.Tie.Need-returns-2
+returns-2 : of.Tie.Need-returns-then-u-eq0
 unfolding times_at
-returns-2 c = sym (ap₂ ◌*◌ (is-own _ 2 1 c.before.if1.taken) (is-paired _ 1 2 c.if2.left))
+returns-2 c = sym (ap₂ ◌*◌ (is-own _ 2 1 c.before.if-u-eq0.true) (is-paired _ 1 2 c.if-v-eq0.false))
 
-returns-3 : of.Tie.Need-returns-3
+returns-3 : of.Tie.Need-returns-then-v-eq0-2
 unfolding times_at
-returns-3 c = sym (ap₂ ◌*◌ (is-paired _ 2 1 c.before.if1.left) (is-own _ 1 2 c.if3.taken))
+returns-3 c = sym (ap₂ ◌*◌ (is-paired _ 2 1 c.before.if-u-eq0.false) (is-own _ 1 2 c.if-v-eq0-2.true))
 
-returns-4 : of.Tie.Need-returns-4
+returns-4 : of.Tie.Need-returns
 unfolding times_at
-returns-4 c = sym (ap₂ ◌*◌ (is-paired _ 2 1 c.before.if1.left) (is-paired _ 1 2 c.if3.left))
+returns-4 c = sym (ap₂ ◌*◌ (is-paired _ 2 1 c.before.if-u-eq0.false) (is-paired _ 1 2 c.if-v-eq0-2.false))
 
-pub times-spec : {M : Type 1} → of.Statement.statement M
-times-spec = of.Tie.close (of.Tie.spec returns returns-2 returns-3 returns-4)
+pub times_spec : {M : Type 1} → of.Statement.statement M
+times_spec = of.Tie.close (of.Tie.spec returns returns-2 returns-3 returns-4)

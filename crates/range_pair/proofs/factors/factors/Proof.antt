@@ -6,5 +6,5 @@ returns : of.Tie.Need-returns
 unfolding grid tab cosines cosine16 sine16
 returns c = refl
 
-pub factors-spec : {M : Type 1} → of.Statement.statement M
-factors-spec = of.Tie.close (of.Tie.spec returns)
+pub factors_spec : {M : Type 1} → of.Statement.statement M
+factors_spec = of.Tie.close (of.Tie.spec returns)

@@ -24,21 +24,21 @@ ends-are : (f : EndOf) (s : List ℤ) (v : List ℕ) {h h' : List Float} {x x' :
     row_plus s (half_end x x' v f) ≡ row_plus s (line_end h h' v f)
 ends-are f s v w w' e e' = tab-ext 32 _ _ (λ l i. ap₂ (λ a b. get_or s l (pos 0) +ℤ f a b (get_or v (l % 16) 0)) (halves_are w e l i) (halves_are w' e' l i))
 
-whole-halves-of-requires : of.Tie.Need-whole-halves-of-requires
-whole-halves-of-requires c κs = c.pre.low_in
+whole-halves-of-requires : of.Tie.Need-whole_halves_of-a-requires
+whole-halves-of-requires c κs = c.requires.low_in
 
-whole-halves-of-requires-2 : of.Tie.Need-whole-halves-of-requires-2
-whole-halves-of-requires-2 c κs = c.before.pre.high_in
+whole-halves-of-requires-2 : of.Tie.Need-whole_halves_of-b-requires
+whole-halves-of-requires-2 c κs = c.before.requires.high_in
 
-add-row-requires : of.Tie.Need-add-row-requires
+add-row-requires : of.Tie.Need-add_row-requires
 add-row-requires c κs =
     let b = c.before.before.before.before in
     let a = b.before in
     let s = a.before in
-    let p = s.pre in
+    let p = s.requires in
     record {
-      low_in = halves_most side16 half-sum-most p.low_in (a.whole-halves-of.ensures p.low_in);
-      high_in = halves_most side16 half-sum-most p.high_in (b.whole-halves-of2.ensures p.high_in);
+      low_in = halves_most side16 half-sum-most p.low_in (a.whole_halves_of-a.ensures p.low_in);
+      high_in = halves_most side16 half-sum-most p.high_in (b.whole_halves_of-b.ensures p.high_in);
       widths_most = p.widths_most;
       greatests = p.greatests;
       leasts = p.leasts;
@@ -49,12 +49,12 @@ returns c =
     let b = c.before.before.before.before.before in
     let a = b.before in
     let s = a.before in
-    let p = a.whole-halves-of.ensures s.pre.low_in in
-    let q = b.whole-halves-of2.ensures s.pre.high_in in
+    let p = a.whole_halves_of-a.ensures s.requires.low_in in
+    let q = b.whole_halves_of-b.ensures s.requires.high_in in
     record {
-      greatest_is = c.add_row.ensures.greatest_is ∙ ends-are greatest_of (now s.args.greatest) (now s.args.widths) s.pre.low_in s.pre.high_in p q;
-      least_is = c.add_row.ensures.least_is ∙ ends-are least_of (now s.args.least) (now s.args.widths) s.pre.low_in s.pre.high_in p q;
+      greatest_is = c.add_row.ensures.greatest_is ∙ ends-are greatest_of (now s.args.greatest) (now s.args.widths) s.requires.low_in s.requires.high_in p q;
+      least_is = c.add_row.ensures.least_is ∙ ends-are least_of (now s.args.least) (now s.args.widths) s.requires.low_in s.requires.high_in p q;
     }
 
-pub add-line-spec : {M : Type 1} → of.Statement.statement M
-add-line-spec = of.Tie.close (of.Tie.spec whole-halves-of-requires whole-halves-of-requires-2 add-row-requires returns)
+pub add_line_spec : {M : Type 1} → of.Statement.statement M
+add_line_spec = of.Tie.close (of.Tie.spec whole-halves-of-requires whole-halves-of-requires-2 add-row-requires returns)

@@ -12,13 +12,13 @@ held c = number_is w64 c.quartered.ensures.1 tt
 returns : of.Tie.Need-returns
 unfolding greatest_of
 returns c =
-    let p = c.before.pre in (
+    let p = c.before.requires in (
       held c ∙ c.quartered.ensures.0 ∙ ap quarter_of (to_z-of_z (more-fits p.first p.second p.width-most) ∙ more-is p.first p.second p.width-most),
       subst (AtMost (2 ^ 28)) (sym (held c)) c.quartered.ensures.1,
     )
 
-pub greatest-of-spec : {M : Type 1} → of.Statement.statement M
-greatest-of-spec = of.Tie.close (of.Tie.spec
-    (λ c. both-fits c.pre.first c.pre.second) (λ c. four-fits c.pre.first c.pre.second)
-    (λ c. width_fits c.pre.first c.pre.second c.pre.width-most) (λ c. more-fits c.pre.first c.pre.second c.pre.width-most)
-    (λ c κs. more-held c.pre.first c.pre.second c.pre.width-most) returns)
+pub greatest_of_spec : {M : Type 1} → of.Statement.statement M
+greatest_of_spec = of.Tie.close (of.Tie.spec
+    (λ c. both-fits c.requires.first c.requires.second) (λ c. four-fits c.requires.first c.requires.second)
+    (λ c. width_fits c.requires.first c.requires.second c.requires.width-most) (λ c. more-fits c.requires.first c.requires.second c.requires.width-most)
+    (λ c κs. more-held c.requires.first c.requires.second c.requires.width-most) returns)

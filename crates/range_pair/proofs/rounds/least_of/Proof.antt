@@ -12,13 +12,13 @@ held c = number_is w64 c.quartered.ensures.1 tt
 returns : of.Tie.Need-returns
 unfolding least_of
 returns c =
-    let p = c.before.pre in (
+    let p = c.before.requires in (
       held c ∙ c.quartered.ensures.0 ∙ ap quarter_of (to_z-of_z (less-fits p.first p.second p.width-most) ∙ less-is p.first p.second p.width-most),
       subst (AtMost (2 ^ 28)) (sym (held c)) c.quartered.ensures.1,
     )
 
-pub least-of-spec : {M : Type 1} → of.Statement.statement M
-least-of-spec = of.Tie.close (of.Tie.spec
-    (λ c. both-fits c.pre.first c.pre.second) (λ c. four-fits c.pre.first c.pre.second)
-    (λ c. width_fits c.pre.first c.pre.second c.pre.width-most) (λ c. less-fits c.pre.first c.pre.second c.pre.width-most)
-    (λ c κs. less-held c.pre.first c.pre.second c.pre.width-most) returns)
+pub least_of_spec : {M : Type 1} → of.Statement.statement M
+least_of_spec = of.Tie.close (of.Tie.spec
+    (λ c. both-fits c.requires.first c.requires.second) (λ c. four-fits c.requires.first c.requires.second)
+    (λ c. width_fits c.requires.first c.requires.second c.requires.width-most) (λ c. less-fits c.requires.first c.requires.second c.requires.width-most)
+    (λ c κs. less-held c.requires.first c.requires.second c.requires.width-most) returns)

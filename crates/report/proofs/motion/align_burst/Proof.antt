@@ -1,5 +1,5 @@
 -- `report::motion::align_burst`: what the file check has tested is what align asks for; the front of the vectors is lent on.
-use Rattle.algebra.specs.Prelude.{◌≡◌, sym, ◌∙◌, ◌-◌, ◌≤◌, arith, needs, length}
+use Rattle.algebra.specs.Prelude.{◌≡◌, sym, ◌∙◌, ◌-◌, ◌≤◌, arith, rules, length}
 use lib.Seq.{length-take-le}
 use Rattle.report.specs.Inner.{vector_room}
 use Rattle.report.proofs.Files.{front-is, front_length}
@@ -7,27 +7,27 @@ use Rattle.admit_value.specs.BoundLaws.{values-samples}
 use Rattle.report.proofs.Fits.{align_fits}
 use Rattle.report.proofs.motion.align_burst as of
 
-align-frames-requires : of.Tie.Need-align-frames-requires
+align-frames-requires : of.Tie.Need-align_frames-totals-requires
 align-frames-requires c κs =
     let start = c.before.before.before.before.before in
-    let taken = start.pre.taken in
-    record { fits = align_fits taken (length-take-le _ start.args.vectors.now (omega (arith, taken.allowed.few))) start.pre.work-room; samples_fit = values-samples _ taken.small }
+    let taken = start.requires.taken in
+    record { fits = align_fits taken (length-take-le _ start.args.vectors-1.now (omega (arith, taken.allowed.few))) start.requires.work-room; samples_fit = values-samples _ taken.small }
 
 returns : of.Tie.Need-returns
 returns c =
     let s = c.before.before.before in
     let start = c.before.before.before.before.before.before.before.before.before in
-    let aligned = s.align-frames.ensures in
-    let n = vector_room (start.args.header.shape.count - 1) in
-    let fits : n ≤ length start.args.vectors.now = omega (arith, start.pre.taken.allowed.few) in
-    let vectors = start.args.vectors.now in
+    let aligned = s.align_frames-totals.ensures in
+    let n = vector_room (start.args.header.shape-1.count - 1) in
+    let fits : n ≤ length start.args.vectors-1.now = omega (arith, start.requires.taken.allowed.few) in
+    let vectors = start.args.vectors-1.now in
     let whole = length-take-le n vectors fits in
-    let part = s.align-frames.last.1.1.1.0 in
+    let part = s.align_frames-totals.new.1.1.1.0 in
     let same : length part ≡ n = omega (arith, whole) in
-    record { found = front-is n vectors part fits same ∙ aligned.found; residuals = aligned.sums_are; same = front_length n vectors part fits same ∙ start.pre.vectors_room }
+    record { found = front-is n vectors part fits same ∙ aligned.found; residuals = aligned.sums_are; same = front_length n vectors part fits same ∙ start.requires.vectors_room }
 
-pub align-burst-spec : {M : Type 1} → of.Statement.statement M
-align-burst-spec = of.Tie.close (of.Tie.spec
-    (λ c. search needs) (λ c. search needs) (λ c. search needs)
-    (λ c. sym (length-take-le _ _ (omega arith))) align-frames-requires (λ c. search needs)
-    (λ c. search needs) returns)
+pub align_burst_spec : {M : Type 1} → of.Statement.statement M
+align_burst_spec = of.Tie.close (of.Tie.spec
+    (λ c. search rules) (λ c. search rules) (λ c. search rules)
+    (λ c. sym (length-take-le _ _ (omega arith))) align-frames-requires (λ c. search rules)
+    (λ c. search rules) returns)

@@ -1,5 +1,5 @@
 -- `report::motion::put_frame`: the five numbers are those of the frame's line.
-use Rattle.report.specs.Prelude.{◌≡◌, List, [], ◌∷◌, ℕ, ◌/◌, needs, length, ℤ, number_line}
+use Rattle.report.specs.Prelude.{◌≡◌, List, [], ◌∷◌, ℕ, ◌/◌, rules, length, ℤ, number_line}
 use Rattle.report_tally.specs.Tallies.{still_tiles, farthest}
 use Rattle.report.specs.Motion.{frame_line}
 use Rattle.report.proofs.motion.put_frame as of
@@ -13,10 +13,10 @@ returns : of.Tie.Need-returns
 returns c =
     let counted = c.before.before.before.before.before in
     let a = counted.before.before.before.args in
-    let printed = c.before.before.put-numbers.ensures in
-    (rw (line a.frame a.vectors.now a.residual counted.before.still-tiles.ensures counted.farthest.ensures) at printed.0, printed.1)
+    let printed = c.before.before.put_numbers.ensures in
+    (rw (line a.frame a.vectors.now a.residual counted.before.still_tiles.ensures counted.farthest.ensures) at printed.0, printed.1)
 
-pub put-frame-spec : {M : Type 1} → of.Statement.statement M
-put-frame-spec = of.Tie.close (of.Tie.spec
-    (λ c κs. search needs) (λ c κs. search needs) (λ c. search needs) (λ c κs. search needs)
-    (λ c. search needs) returns)
+pub put_frame_spec : {M : Type 1} → of.Statement.statement M
+put_frame_spec = of.Tie.close (of.Tie.spec
+    (λ c κs. search rules) (λ c κs. search rules) (λ c. search rules) (λ c κs. search rules)
+    (λ c. search rules) returns)

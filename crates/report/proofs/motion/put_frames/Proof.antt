@@ -1,5 +1,5 @@
 -- `report::motion::put_frames`: the lines so far are those of the frames passed.
-use Rattle.report.specs.Prelude.{◌≡◌, List, ◌++◌, ℕ, ◌+◌, ◌-◌, ◌*◌, ◌≤◌, arith, needs, get_or, take, drop, ℤ, Printed}
+use Rattle.report.specs.Prelude.{◌≡◌, List, ◌++◌, ℕ, ◌+◌, ◌-◌, ◌*◌, ◌≤◌, arith, rules, get_or, take, drop, ℤ, Printed}
 use native.Mathlib.Numerals.{add-one}
 use Rattle.geometry.specs.Vectors.{other_frame, parts_of}
 use Rattle.printing.specs.PutLaws.{printed-none, printed-then}
@@ -27,38 +27,38 @@ module _ (reference : ℕ) (vectors : List ℤ) (sums : List ℕ) where
   unfolding frame_lines
   next-line k e = rw (add-one, parts vectors k, e)
 
-abbrev Inv-loop : of.Tie.InvT-loop
-Inv-loop text₀ at reference vectors others residuals next₀ k₀ text next k = Lined text₀ at reference vectors residuals others k text next
+abbrev invariant-loop-k : of.Tie.invariant-loop-k
+invariant-loop-k text₀ at reference vectors others residuals next₀ k₀ text next k = Lined text₀ at reference vectors residuals others k text next
 
-abbrev μ-loop : of.Tie.MeasureT-loop
-μ-loop text₀ at reference vectors others residuals next₀ k₀ text next k = others - k
+abbrev decreases-loop-k : of.Tie.decreases-loop-k
+decreases-loop-k text₀ at reference vectors others residuals next₀ k₀ text next k = others - k
 
-loop-holds : of.Tie.Need-loop-holds Inv-loop μ-loop
+loop-holds : of.Tie.Need-loop-k-init invariant-loop-k decreases-loop-k
 unfolding frame_lines
 loop-holds c = record { count = omega arith; bound = omega arith; printed = printed-none }
 
-loop-again : of.Tie.Need-loop-again Inv-loop μ-loop
+loop-again : of.Tie.Need-loop-k-preserved invariant-loop-k decreases-loop-k
 loop-again c =
-    let printed = c.before.before.put-frame.ensures in
+    let printed = c.before.before.put_frame-next.ensures in
     let turn = c.before.before.before.before.before.before.before in
     let a = turn.before.before.args in
-    let lined = turn.loop.inv in
-    let k = turn.loop.k in
+    let lined = turn.loop-k.invariant in
+    let k = turn.loop-k.k in
     record {
       count = omega arith;
       bound = omega arith;
-      printed = rw (next-line a.reference a.vectors.now a.t5 k c.before.before.before.before.before.other-frame.ensures.0) at (printed-then (omega arith) lined.printed printed.0);
+      printed = rw (next-line a.reference a.vectors.now a.t5 k c.before.before.before.before.before.other_frame-frame.ensures.0) at (printed-then (omega arith) lined.printed printed.0);
     }
 
-returns : of.Tie.Need-returns Inv-loop μ-loop
+returns : of.Tie.Need-returns invariant-loop-k decreases-loop-k
 returns c =
-    let lined = c.before.loop.inv in
-    let all : c.before.loop.k ≡ c.before.before.before.args.others = omega arith in
+    let lined = c.before.loop-k.invariant in
+    let all : c.before.loop-k.k ≡ c.before.before.before.args.others = omega arith in
     rw all at lined.printed
 
-pub put-frames-spec : {M : Type 1} → of.Statement.statement M
-put-frames-spec = of.Tie.close (of.Tie.spec
-    Inv-loop μ-loop loop-holds (λ c. search needs) (λ c. search needs) (λ c κs. search needs)
-    (λ c. search needs) (λ c. search needs) (λ c. search needs) (λ c. search needs)
-    (λ c. search needs) (λ c. search needs) (λ c κs. search needs) (λ c. search needs)
-    (λ c. search needs) loop-again (λ c. search needs) returns)
+pub put_frames_spec : {M : Type 1} → of.Statement.statement M
+put_frames_spec = of.Tie.close (of.Tie.spec
+    invariant-loop-k decreases-loop-k loop-holds (λ c. search rules) (λ c. search rules) (λ c κs. search rules)
+    (λ c. search rules) (λ c. search rules) (λ c. search rules) (λ c. search rules)
+    (λ c. search rules) (λ c. search rules) (λ c κs. search rules) (λ c. search rules)
+    (λ c. search rules) loop-again (λ c. search rules) returns)

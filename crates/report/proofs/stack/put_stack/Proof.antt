@@ -1,5 +1,5 @@
 -- `report::stack::put_stack`: what is printed is the frame that the run left in the output.
-use Rattle.report.specs.Prelude.{◌≡◌, sym, ap, ap₂, ◌∙◌, List, ℕ, needs, Header}
+use Rattle.report.specs.Prelude.{◌≡◌, sym, ap, ap₂, ◌∙◌, List, ℕ, rules, Header}
 use Rattle.report.specs.Program.{program_side}
 use Rattle.report.specs.Stack.{frame_text, frame_of, stack_of}
 use Rattle.report.specs.Inner.{burst_of, Taken}
@@ -14,9 +14,9 @@ returns : of.Tie.Need-returns
 returns c =
     let put = c.before.before in
     let ran = put.before.before.before.before.before.before in
-    rw (merged-text ran.before.before.before.before.before.before.pre.0 ran.run-burst.ensures.0) at put.put-merged.ensures
+    rw (merged-text ran.before.before.before.before.before.before.requires.0 ran.run_burst.ensures.0) at put.put_merged.ensures
 
-pub put-stack-spec : {M : Type 1} → of.Statement.statement M
-put-stack-spec = of.Tie.close (of.Tie.spec
-    (λ c. search needs) (λ c. search needs) (λ c. search needs) (λ c κs. search needs)
-    (λ c. search needs) (λ c κs. search needs) (λ c. search needs) returns)
+pub put_stack_spec : {M : Type 1} → of.Statement.statement M
+put_stack_spec = of.Tie.close (of.Tie.spec
+    (λ c. search rules) (λ c. search rules) (λ c. search rules) (λ c κs. search rules)
+    (λ c. search rules) (λ c κs. search rules) (λ c. search rules) returns)

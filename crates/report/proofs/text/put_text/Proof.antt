@@ -1,36 +1,36 @@
 -- `report::text::put_text`: a count above the limit is a file that is too long; what is printed lies inside the text.
-use Rattle.report.specs.Prelude.{◌≡◌, sym, ap, ◌∙◌, List, ◌++◌, ℕ, ◌+◌, ◌≤◌, ◌<◌, arith, needs, put, Printed}
+use Rattle.report.specs.Prelude.{◌≡◌, sym, ap, ◌∙◌, List, ◌++◌, ℕ, ◌+◌, ◌≤◌, ◌<◌, arith, rules, put, Printed}
 use lib.ListN.{length, take, drop, length-append, length-take}
 use lib.Seq.{length-take-le}
 use Rattle.report.specs.Program.{file_most}
 use Rattle.report.specs.Inner.{printed_by}
 use Rattle.report.proofs.Files.{long-text}
-use Rattle.report.proofs.text.put_text as of
+use Rattle.report.proofs.text-1.put_text as of
 
 inside : {l a r : List ℕ} {i : ℕ} → Printed l 0 a r i → i ≤ length l
 unfolding put
 inside {l} {a} {r} {i} p =
-    let whole : length l ≡ length (take 0 l ++ a ++ drop (0 + length a) l) = sym p.same ∙ ap length p.text in
+    let whole : length l ≡ length (take 0 l ++ a ++ drop (0 + length a) l) = sym p.same ∙ ap length p.text-1 in
     omega (arith, whole, p.place, length-append (take 0 l) (a ++ drop (0 + length a) l), length-append a (drop (0 + length a) l))
 
-put-file-requires : of.Tie.Need-put-file-requires
+put-file-requires : of.Tie.Need-put_file-requires
 put-file-requires c κs =
     let split = c.before.before.before in
     let a = split.before.before.before.args in
-    record { file-most = omega (arith, length-take a.count a.file.now, split.if1.left); samples_room = search needs; text-room = search needs }
+    record { file-most = omega (arith, length-take a.count a.file.now, split.if-count-gt-FILE_MOST.false); samples_room = search rules; text-room = search rules }
 
-returns : of.Tie.Need-returns
+returns : of.Tie.Need-returns-then-count-gt-FILE_MOST
 returns c =
     let split = c.before.before.before.before in
     let a = split.before.before.before.args in
-    let long : file_most < length (take a.count a.file.now) = omega (arith, length-take a.count a.file.now, split.if1.taken, split.before.before.before.pre.0) in
-    let printed = rw (sym (long-text (take a.count a.file.now) long (printed_by a.program))) at c.before.before.put-too-large.ensures.0 in
+    let long : file_most < length (take a.count a.file.now) = omega (arith, length-take a.count a.file.now, split.if-count-gt-FILE_MOST.true, split.before.before.before.requires.0) in
+    let printed = rw (sym (long-text (take a.count a.file.now) long (printed_by a.program))) at c.before.before.put_too_large.ensures.0 in
     (printed, inside printed)
 
-returns-2 : of.Tie.Need-returns-2
-returns-2 c = let printed = c.before.before.before.put-file.ensures in (printed, inside printed)
+returns-2 : of.Tie.Need-returns
+returns-2 c = let printed = c.before.before.before.put_file.ensures in (printed, inside printed)
 
-pub put-text-spec : {M : Type 1} → of.Statement.statement M
-put-text-spec = of.Tie.close (of.Tie.spec
-    (λ c κs. search needs) (λ c. search needs) returns (λ c. sym (length-take-le _ _ (search needs)))
-    (λ c. search needs) put-file-requires (λ c. search needs) returns-2)
+pub put_text_spec : {M : Type 1} → of.Statement.statement M
+put_text_spec = of.Tie.close (of.Tie.spec
+    (λ c κs. search rules) (λ c. search rules) returns (λ c. sym (length-take-le _ _ (search rules)))
+    (λ c. search rules) put-file-requires (λ c. search rules) returns-2)

@@ -1,22 +1,22 @@
 -- `stacker::band::merge_band`: a refusal returns before the first store; acceptance merges the band's rows and clears.
-use Rattle.algebra.specs.Prelude.{◌∙◌, needs}
+use Rattle.algebra.specs.Prelude.{◌∙◌, rules}
 use Rattle.sequences.specs.ClearLaws.{zeros-length}
 use Rattle.stacker.specs.BandedLaws.{banded-refused, band-lent, banded-accepted}
 use Rattle.stacker.proofs.band.merge_band as of
 
-returns : of.Tie.Need-returns
-returns c = banded-refused c.before.before.band-refusal.ensures c.if1.taken
+returns : of.Tie.Need-returns-then-tested-ne0
+returns c = banded-refused c.before.before.band_refusal-tested.ensures c.if-tested-ne0.true
 
-band-rows-requires : of.Tie.Need-band-rows-requires
-band-rows-requires c κs = let passed = c.before.before in band-lent passed.before.before.band-refusal.ensures passed.if1.left
+band-rows-requires : of.Tie.Need-band_rows-requires
+band-rows-requires c κs = let passed = c.before.before in band-lent passed.before.before.band_refusal-tested.ensures passed.if-tested-ne0.false
 
-returns-2 : of.Tie.Need-returns-2
+returns-2 : of.Tie.Need-returns
 returns-2 c =
     let merged = c.before.before.before.before.before.before in
     let passed = merged.before.before.before in
-    banded-accepted passed.before.before.band-refusal.ensures passed.if1.left merged.band-rows.ensures (c.before.clear.ensures ∙ zeros-length _ _ (search needs))
+    banded-accepted passed.before.before.band_refusal-tested.ensures passed.if-tested-ne0.false merged.band_rows.ensures (c.before.clear.ensures ∙ zeros-length _ _ (search rules))
 
-pub merge-band-spec : {M : Type 1} → of.Statement.statement M
-merge-band-spec = of.Tie.close (of.Tie.spec
-    (λ c κs. search needs) (λ c. search needs) (λ c. search needs) returns band-rows-requires
-    (λ c κs. search needs) (λ c. search needs) (λ c. search needs) returns-2)
+pub merge_band_spec : {M : Type 1} → of.Statement.statement M
+merge_band_spec = of.Tie.close (of.Tie.spec
+    (λ c κs. search rules) (λ c. search rules) (λ c. search rules) returns band-rows-requires
+    (λ c κs. search rules) (λ c. search rules) (λ c. search rules) returns-2)

@@ -1,5 +1,5 @@
 -- `stacker::noise_range::merge_of`: the levels found are the noise's, and those of a refused one are 0.
-use Rattle.stacker.specs.Prelude.{sym, ap, ◌∙◌, needs, shot_level, read_level, Merge}
+use Rattle.stacker.specs.Prelude.{sym, ap, ◌∙◌, rules, shot_level, read_level, Merge}
 use Rattle.noise.specs.declared.Levels.{Levels}
 use Rattle.stacker.proofs.noise_range.merge_of as of
 
@@ -7,11 +7,11 @@ use Rattle.stacker.proofs.noise_range.merge_of as of
 abbrev levelled : of.Tie.Start → Levels → Merge
 levelled s levels = let a = s.args in record { shape = a.shape; reference = a.reference; shot = shot_level levels; read = read_level levels; tuning = a.tuning }
 
-returns : of.Tie.Need-returns
-returns c = let l = c.before.before.before in ap (levelled l.before) (sym c.before.shot.given.1 ∙ l.levels-of.ensures)
+returns : of.Tie.Need-returns-in-Found
+returns c = let l = c.before.before.before in ap (levelled l.before) (sym c.before.shot-1.given.1 ∙ l.levels_of.ensures)
 
-returns-2 : of.Tie.Need-returns-2
-returns-2 c = let l = c.before.before in ap (levelled l.before) (sym c.enum_told.given.1 ∙ l.levels-of.ensures)
+returns-2 : of.Tie.Need-returns-in-Refused
+returns-2 c = let l = c.before.before in ap (levelled l.before) (sym c.enum_told-1.given.1 ∙ l.levels_of.ensures)
 
-pub merge-of-spec : {M : Type 1} → of.Statement.statement M
-merge-of-spec = of.Tie.close (of.Tie.spec (λ c κs. search needs) (λ c. search needs) (λ c. search needs) returns returns-2)
+pub merge_of_spec : {M : Type 1} → of.Statement.statement M
+merge_of_spec = of.Tie.close (of.Tie.spec (λ c κs. search rules) (λ c. search rules) (λ c. search rules) returns returns-2)

@@ -2,11 +2,11 @@
 use mathlib.Core.Bool.{false≢true}
 use Rattle.tile_bin.proofs.double.both as of
 
-returns : of.Tie.Need-returns
-returns c e = (c.if1.taken, e)
+returns : of.Tie.Need-returns-then-a
+returns c e = (c.if-a.true, e)
 
-returns-2 : of.Tie.Need-returns-2
+returns-2 : of.Tie.Need-returns
 returns-2 c e = absurd (false≢true e)
 
-pub both-spec : {M : Type 1} → of.Statement.statement M
-both-spec = of.Tie.close (of.Tie.spec returns returns-2)
+pub both_spec : {M : Type 1} → of.Statement.statement M
+both_spec = of.Tie.close (of.Tie.spec returns returns-2)

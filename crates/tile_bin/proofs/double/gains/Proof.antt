@@ -1,5 +1,5 @@
 -- `tile_bin::double::gains`: the definition's own operations.
-use Rattle.algebra.specs.Prelude.{needs}
+use Rattle.algebra.specs.Prelude.{rules}
 use Rattle.tile_bin.specs.Doubles.{gains_by}
 use Rattle.tile_bin.proofs.double.gains as of
 
@@ -7,6 +7,6 @@ returns : of.Tie.Need-returns
 unfolding gains_by
 returns c = cc
 
-pub gains-spec : {M : Type 1} → of.Statement.statement M
-gains-spec = of.Tie.close (of.Tie.spec
-    (λ c κs. search needs) (λ c. search needs) (λ c κs. search needs) (λ c. search needs) (λ c κs. search needs) returns)
+pub gains_spec : {M : Type 1} → of.Statement.statement M
+gains_spec = of.Tie.close (of.Tie.spec
+    (λ c κs. search rules) (λ c. search rules) (λ c κs. search rules) (λ c. search rules) (λ c κs. search rules) returns)

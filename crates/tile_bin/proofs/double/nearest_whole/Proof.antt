@@ -7,5 +7,5 @@ returns : of.Tie.Need-returns
 unfolding of_bits middle nearest_whole
 returns c = refl
 
-pub nearest-whole-spec : {M : Type 1} → of.Statement.statement M
-nearest-whole-spec = of.Tie.close (of.Tie.spec returns)
+pub nearest_whole_spec : {M : Type 1} → of.Statement.statement M
+nearest_whole_spec = of.Tie.close (of.Tie.spec returns)

@@ -7,5 +7,5 @@ returns : of.Tie.Need-returns
 unfolding of_bits middle slightly_less certain
 returns c = refl
 
-pub no-doubt-spec : {M : Type 1} → of.Statement.statement M
-no-doubt-spec = of.Tie.close (of.Tie.spec returns)
+pub no_doubt_spec : {M : Type 1} → of.Statement.statement M
+no_doubt_spec = of.Tie.close (of.Tie.spec returns)

@@ -1,5 +1,5 @@
 -- `tile_bin::double::quotients`: the definition's own operations.
-use Rattle.algebra.specs.Prelude.{needs}
+use Rattle.algebra.specs.Prelude.{rules}
 use Rattle.tile_bin.specs.Doubles.{power_in, quotients_by}
 use Rattle.tile_bin.proofs.double.quotients as of
 
@@ -7,5 +7,5 @@ returns : of.Tie.Need-returns
 unfolding power_in quotients_by
 returns c = cc
 
-pub quotients-spec : {M : Type 1} → of.Statement.statement M
-quotients-spec = of.Tie.close (of.Tie.spec (λ c κs. search needs) (λ c κs. search needs) returns)
+pub quotients_spec : {M : Type 1} → of.Statement.statement M
+quotients_spec = of.Tie.close (of.Tie.spec (λ c κs. search rules) (λ c κs. search rules) returns)

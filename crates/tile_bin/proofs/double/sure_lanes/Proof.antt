@@ -1,5 +1,5 @@
 -- `tile_bin::double::sure_lanes`: all four quotients are certain.
-use Rattle.tile_bin.specs.Prelude.{◌≡◌, true, sym, subst, ◌∙◌, needs, get_or, nan}
+use Rattle.tile_bin.specs.Prelude.{◌≡◌, true, sym, subst, ◌∙◌, rules, get_or, nan}
 use Rattle.floats.specs.QuotientLaws.{certain}
 use Rattle.tile_bin.proofs.double.sure_lanes as of
 
@@ -12,17 +12,17 @@ returns c e =
     let first = f.before in
     let g = first.before in
     let h = g.before in
-    let y = h.before.quotients2.ensures in
-    let x = h.before.before.quotients.ensures in
-    let one = c.both4.ensures e in
-    let two = all.both3.ensures one.1 in
-    let parts = first.both.ensures two.0 in
-    let others = second.both2.ensures two.1 in (
+    let y = h.before.quotients-y.ensures in
+    let x = h.before.before.quotients-x.ensures in
+    let one = c.both-2.ensures e in
+    let two = all.both.ensures one.1 in
+    let parts = first.both-first.ensures two.0 in
+    let others = second.both-second.ensures two.1 in (
       one.0,
-      record { first = subst (λ q. certain (get_or q 0 nan) ≡ true) x (sym h.no-doubt.ensures ∙ parts.0); second = subst (λ q. certain (get_or q 1 nan) ≡ true) x (sym f.no-doubt3.ensures ∙ others.0) },
-      record { first = subst (λ q. certain (get_or q 0 nan) ≡ true) y (sym g.no-doubt2.ensures ∙ parts.1); second = subst (λ q. certain (get_or q 1 nan) ≡ true) y (sym d.no-doubt4.ensures ∙ others.1) },
+      record { first = subst (λ q. certain (get_or q 0 nan) ≡ true) x (sym h.no_doubt.ensures ∙ parts.0); second = subst (λ q. certain (get_or q 1 nan) ≡ true) x (sym f.no_doubt-3.ensures ∙ others.0) },
+      record { first = subst (λ q. certain (get_or q 0 nan) ≡ true) y (sym g.no_doubt-2.ensures ∙ parts.1); second = subst (λ q. certain (get_or q 1 nan) ≡ true) y (sym d.no_doubt-4.ensures ∙ others.1) },
     )
 
-pub sure-lanes-spec : {M : Type 1} → of.Statement.statement M
-sure-lanes-spec = of.Tie.close (of.Tie.spec
-    (λ c. search needs) (λ c. search needs) (λ c. search needs) (λ c. search needs) (λ c κs. search needs) (λ c. search needs) (λ c. search needs) (λ c. search needs) (λ c. search needs) (λ c κs. search needs) (λ c. search needs) (λ c κs. search needs) (λ c. search needs) (λ c κs. search needs) (λ c κs. search needs) (λ c. search needs) (λ c κs. search needs) (λ c. search needs) (λ c κs. search needs) (λ c κs. search needs) (λ c κs. search needs) (λ c κs. search needs) returns)
+pub sure_lanes_spec : {M : Type 1} → of.Statement.statement M
+sure_lanes_spec = of.Tie.close (of.Tie.spec
+    (λ c. search rules) (λ c. search rules) (λ c. search rules) (λ c. search rules) (λ c κs. search rules) (λ c. search rules) (λ c. search rules) (λ c. search rules) (λ c. search rules) (λ c κs. search rules) (λ c. search rules) (λ c κs. search rules) (λ c. search rules) (λ c κs. search rules) (λ c κs. search rules) (λ c. search rules) (λ c κs. search rules) (λ c. search rules) (λ c κs. search rules) (λ c κs. search rules) (λ c κs. search rules) (λ c κs. search rules) returns)

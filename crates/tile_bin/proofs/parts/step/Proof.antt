@@ -1,5 +1,5 @@
 -- `tile_bin::parts::step`: |Q|² + V fits by the computed test of `Code`, and V-as-Q, of which the double need not fit, as asked.
-use Rattle.tile_bin.specs.Prelude.{◌≡◌, sym, ap, ap₂, subst, ◌∙◌, List, [], ◌∷◌, arith, needs, lit<, ℤ, pos, nat_abs, ◌+ℤ◌, ◌*ℤ◌, w64, away, power, wiener, copy_part_most, noise_most}
+use Rattle.tile_bin.specs.Prelude.{◌≡◌, sym, ap, ap₂, subst, ◌∙◌, List, [], ◌∷◌, arith, rules, lit<, ℤ, pos, nat_abs, ◌+ℤ◌, ◌*ℤ◌, w64, away, power, wiener, copy_part_most, noise_most}
 use Prim.Native.Nat.{ℕ, ◌-◌, ◌<◌, ◌^◌}
 use native.Mathlib.Nat.{lt_of_le_of_lt, add-le-add, mul-le-mul}
 use mir.Val.{Fits, SFits, to_z, of_z}
@@ -69,43 +69,43 @@ power_small : (s : At) → power s.args.noise s.args.q s.args.r < 2 ^ 60
 power_small s =
     lt_of_le_of_lt (add-le-add (add-le-add (mul-le-mul s.requires.part.most s.requires.part.most) (mul-le-mul s.requires.other.most s.requires.other.most)) s.requires.noise-most) (lit< tt)
 
-returns : of.Tie.Need-returns
+returns : of.Tie.Need-returns-then-noise-eq0
 unfolding wiener
-returns c = rw c.if1.true
+returns c = rw c.if-noise-eq0.true
 
-mul-signal : of.Tie.Need-mul-signal
+mul-signal : of.Tie.Need-overflow_mul-signal
 mul-signal c = fits (xs c.before) bs (small c.before) w64 (mul w64 (Q c.before) (Q c.before)) tt
 
-mul-signal-2 : of.Tie.Need-mul-signal-2
+mul-signal-2 : of.Tie.Need-overflow_mul-signal-2
 mul-signal-2 c = fits (xs c.before) bs (small c.before) w64 (mul w64 (R c.before) (R c.before)) tt
 
-add-signal : of.Tie.Need-add-signal
+add-signal : of.Tie.Need-overflow_add-signal
 add-signal c = fits (xs c.before) bs (small c.before) w64 (Squares c.before) tt
 
-add-power : of.Tie.Need-add-power
+add-power : of.Tie.Need-overflow_add-power
 add-power c = fits (xs c.before) bs (small c.before) w64 (Power c.before) tt
 
-mul-round-away : of.Tie.Need-mul-round-away
+mul-round-away : of.Tie.Need-overflow_mul-v
 mul-round-away c = product-fits c.before
 
-cast-round-away : of.Tie.Need-cast-round-away
+cast-round-away : of.Tie.Need-overflow_cast-power
 cast-round-away c = rw (power_at c.before) (tt, power-fits c.before)
 
-round-away-requires : of.Tie.Need-round-away-requires
+round-away-requires : of.Tie.Need-round_away-requires
 round-away-requires c κs =
     let s = c.before in
     let n : 0 < s.args.noise = omega arith in
     rw (power_at s, product_at s) (record { divisor_some = omega arith; divisor_below = power_small s; dividend_below = s.requires.product_below })
 
-returns-2 : of.Tie.Need-returns-2
+returns-2 : of.Tie.Need-returns
 returns-2 c =
     let s = c.before.before in
     let n : 0 < s.args.noise = omega arith in
-    let e : to_z w64 (of_z w64 c.round-away.result) ≡ c.round-away.result = search needs in
+    let e : to_z w64 (of_z w64 c.round_away.result) ≡ c.round_away.result = search rules in
     e
-    ∙ c.round-away.ensures ∙ ap₂ (λ z p. away z (nat_abs p)) (product_at s) (power_at s) ∙ sym (wiener-is s.args.noise s.args.q s.args.r n)
+    ∙ c.round_away.ensures ∙ ap₂ (λ z p. away z (nat_abs p)) (product_at s) (power_at s) ∙ sym (wiener-is s.args.noise s.args.q s.args.r n)
 
 pub step_spec : {M : Type 1} → of.Statement.statement M
 step_spec = of.Tie.close (of.Tie.spec
-    returns (λ c. search needs) mul-signal mul-signal-2 add-signal add-power mul-round-away
+    returns (λ c. search rules) mul-signal mul-signal-2 add-signal add-power mul-round-away
     cast-round-away round-away-requires returns-2)

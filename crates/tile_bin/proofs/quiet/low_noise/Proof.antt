@@ -1,5 +1,5 @@
 -- `tile_bin::quiet::low_noise`: by the larger of the two.
-use Rattle.algebra.specs.Prelude.{arith, needs}
+use Rattle.algebra.specs.Prelude.{arith, rules}
 use borrow.Author.Tests.{leb-true}
 use Rattle.tile_spectrum.specs.Magnitudes.{low_noise}
 use Rattle.tile_bin.proofs.quiet.low_noise as of
@@ -9,5 +9,5 @@ returns c e =
     let m = leb-true c.larger.result low_noise e in
     (omega arith, omega arith)
 
-pub low-noise-spec : {M : Type 1} → of.Statement.statement M
-low-noise-spec = of.Tie.close (of.Tie.spec (λ c κs. search needs) returns)
+pub low_noise_spec : {M : Type 1} → of.Statement.statement M
+low_noise_spec = of.Tie.close (of.Tie.spec (λ c κs. search rules) returns)

@@ -1,5 +1,5 @@
 -- `tile_lines::back::even`: the even places' sums, by computed tests for either `own`.
-use Rattle.tile_lines.specs.Back.Prelude.{refl, ap, ◌∙◌, List, [], ◌∷◌, ℕ, ◌*◌, needs, get_or, Float, nan, of_bits, of_int, sum_z, tab, cosines, cosine16, side16, half_z, frequency_of, phase_of, basis_of, half_basis_of, basis, even_sum_of, even_half_of}
+use Rattle.tile_lines.specs.Back.Prelude.{refl, ap, ◌∙◌, List, [], ◌∷◌, ℕ, ◌*◌, rules, get_or, Float, nan, of_bits, of_int, sum_z, tab, cosines, cosine16, side16, half_z, frequency_of, phase_of, basis_of, half_basis_of, basis, even_sum_of, even_half_of}
 use Rattle.algebra.specs.Ring.{con, ◌⊠◌}
 use Rattle.algebra.specs.Ring as ring
 use Rattle.algebra.specs.Forms.{sum_e}
@@ -40,8 +40,8 @@ returns c =
       half = λ o g most e. rw o (ap (read 8192) e ∙ forms-are 8 g most refl (results 8192) (tab 8 (λ n. sum_e 8 (λ k. ring.var k ⊠ con (half_basis_of side16 (2 * k) n)))) tt tt);
     }
 
-pub even-spec : {M : Type 1} → of.Statement.statement M
-even-spec = of.Tie.close (of.Tie.spec
-    (λ c. search needs) (λ c. search needs) (λ c. search needs) (λ c. search needs) (λ c. search needs)
-    (λ c. search needs) (λ c. search needs) (λ c. search needs) (λ c. search needs) (λ c. search needs)
-    (λ c. search needs) (λ c. search needs) (λ c. search needs) (λ c. search needs) returns)
+pub even_spec : {M : Type 1} → of.Statement.statement M
+even_spec = of.Tie.close (of.Tie.spec
+    (λ c. search rules) (λ c. search rules) (λ c. search rules) (λ c. search rules) (λ c. search rules)
+    (λ c. search rules) (λ c. search rules) (λ c. search rules) (λ c. search rules) (λ c. search rules)
+    (λ c. search rules) (λ c. search rules) (λ c. search rules) (λ c. search rules) returns)

@@ -32,5 +32,5 @@ returns : of.Tie.Need-returns
 unfolding tab sum_z odd_sum_of basis_of frequency_of phase_of cos_at side16 cosine16 cosines of_bits of_int
 returns c z most e = forms-are 8 z most e results (tab 8 (λ n. sum_e 8 (λ k. ring.var k ⊠ con (basis (2 * k + 1) n)))) tt tt
 
-pub odd-spec : {M : Type 1} → of.Statement.statement M
-odd-spec = of.Tie.close (of.Tie.spec returns)
+pub odd_spec : {M : Type 1} → of.Statement.statement M
+odd_spec = of.Tie.close (of.Tie.spec returns)

@@ -3,7 +3,7 @@ use Rattle.tile_spectrum.specs.Lines.DoubleCasts.{whole-fits}
 use Rattle.tile_lines.proofs.back.WholeHalves.{sum_fits, sum_is}
 use Rattle.tile_lines.proofs.back.whole_sum as of
 
-pub whole-sum-spec : {M : Type 1} → of.Statement.statement M
-whole-sum-spec = of.Tie.close (of.Tie.spec
-    (λ c. whole-fits c.before.pre.0) (λ c. whole-fits c.before.before.pre.1)
-    (λ c. sum_fits c.before.before.pre.0 c.before.before.pre.1) (λ c. sum_is c.before.before.pre.0 c.before.before.pre.1))
+pub whole_sum_spec : {M : Type 1} → of.Statement.statement M
+whole_sum_spec = of.Tie.close (of.Tie.spec
+    (λ c. whole-fits c.before.requires.0) (λ c. whole-fits c.before.before.requires.1)
+    (λ c. sum_fits c.before.before.requires.0 c.before.before.requires.1) (λ c. sum_is c.before.before.requires.0 c.before.before.requires.1))

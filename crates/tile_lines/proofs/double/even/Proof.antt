@@ -13,5 +13,5 @@ returns : of.Tie.Need-returns
 unfolding tab sum_z folded_of basis_of frequency_of phase_of cos_at side16 cosine16 cosines of_bits of_int
 returns c s most e = forms-are 8 s most e (double_forms 8 even) (tab 8 (λ i. sum_e 8 (λ n. var n ⊠ con (basis (2 * i) n)))) tt tt
 
-pub even-spec : {M : Type 1} → of.Statement.statement M
-even-spec = of.Tie.close (of.Tie.spec returns)
+pub even_spec : {M : Type 1} → of.Statement.statement M
+even_spec = of.Tie.close (of.Tie.spec returns)

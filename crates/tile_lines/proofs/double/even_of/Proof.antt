@@ -1,5 +1,5 @@
 -- `tile_lines::double::even_of`: the sums of line p.
-use Rattle.tile_lines.specs.Double.Prelude.{◌+◌, ◌*◌, arith, needs, tab}
+use Rattle.tile_lines.specs.Double.Prelude.{◌+◌, ◌*◌, arith, rules, tab}
 use Rattle.tile_spectrum.specs.Lines.DoubleForms.{from, from_is, picked-line}
 use Rattle.tile_lines.proofs.double.even_of as of
 
@@ -9,11 +9,11 @@ returns c s most e =
     let p = c.before.before.before.before.before.before.before.before.before.args.p in
     c.even.ensures (λ n. s (2 * n + p)) (λ n. most (2 * n + p)) (picked-line 16 s e (from 2 p) (λ k. 2 * k + p) (λ k l. from_is 2 p k) (λ k l. omega arith))
 
-pub even-of-spec : {M : Type 1} → of.Statement.statement M
-even-of-spec = of.Tie.close (of.Tie.spec
-    (λ c. search needs) (λ c. search needs) (λ c. search needs) (λ c. search needs)
-    (λ c. search needs) (λ c. search needs) (λ c. search needs) (λ c. search needs)
-    (λ c. search needs) (λ c. search needs) (λ c. search needs) (λ c. search needs)
-    (λ c. search needs) (λ c. search needs) (λ c. search needs) (λ c. search needs)
-    (λ c. search needs) (λ c. search needs) (λ c. search needs) (λ c. search needs)
-    (λ c. search needs) (λ c. search needs) (λ c. search needs) (λ c κs. search needs) returns)
+pub even_of_spec : {M : Type 1} → of.Statement.statement M
+even_of_spec = of.Tie.close (of.Tie.spec
+    (λ c. search rules) (λ c. search rules) (λ c. search rules) (λ c. search rules)
+    (λ c. search rules) (λ c. search rules) (λ c. search rules) (λ c. search rules)
+    (λ c. search rules) (λ c. search rules) (λ c. search rules) (λ c. search rules)
+    (λ c. search rules) (λ c. search rules) (λ c. search rules) (λ c. search rules)
+    (λ c. search rules) (λ c. search rules) (λ c. search rules) (λ c. search rules)
+    (λ c. search rules) (λ c. search rules) (λ c. search rules) (λ c κs. search rules) returns)

@@ -13,5 +13,5 @@ returns : of.Tie.Need-returns
 unfolding tab sum_z folded_of basis_of frequency_of phase_of cos_at side16 cosine16 cosines of_bits of_int
 returns c t most e = forms-are 8 t most e (double_forms 8 odd) (tab 8 (λ i. sum_e 8 (λ n. var n ⊠ con (basis (2 * i + 1) n)))) tt tt
 
-pub odd-spec : {M : Type 1} → of.Statement.statement M
-odd-spec = of.Tie.close (of.Tie.spec returns)
+pub odd_spec : {M : Type 1} → of.Statement.statement M
+odd_spec = of.Tie.close (of.Tie.spec returns)

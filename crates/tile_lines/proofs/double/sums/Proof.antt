@@ -1,26 +1,26 @@
 -- `tile_lines::double::sums`: each number and the one half a line further on.
-use Rattle.tile_lines.specs.Double.Prelude.{refl, ◌-◌, arith, needs, binary64, of_int}
+use Rattle.tile_lines.specs.Double.Prelude.{refl, ◌-◌, arith, rules, binary64, of_int}
 use Rattle.sequences.specs.TabLaws.{Filled, fill_start, fill-turn, fill_done}
 use Rattle.tile_lines.proofs.double.PairFolding.{sums_of, pair-sum}
 use Rattle.tile_lines.proofs.double.sums as of
 
-abbrev Inv-loop : of.Tie.InvT-loop
-Inv-loop x r₀ i₀ r i = Filled (λ i. of_int binary64 (sums_of x i)) 16 i r₀ r
+abbrev invariant-loop-i : of.Tie.invariant-loop-i
+invariant-loop-i x r₀ i₀ r i = Filled (λ i. of_int binary64 (sums_of x i)) 16 i r₀ r
 
-abbrev μ-loop : of.Tie.MeasureT-loop
-μ-loop x r₀ i₀ r i = 16 - i
+abbrev decreases-loop-i : of.Tie.decreases-loop-i
+decreases-loop-i x r₀ i₀ r i = 16 - i
 
-loop-again : of.Tie.Need-loop-again Inv-loop μ-loop
+loop-again : of.Tie.Need-loop-i-preserved invariant-loop-i decreases-loop-i
 loop-again c =
     let l = c.before.before.before.before.before in
-    fill-turn l.loop.inv (omega arith) (pair-sum l.before.pre l.loop.i)
+    fill-turn l.loop-i.invariant (omega arith) (pair-sum l.before.requires l.loop-i.i)
 
-returns : of.Tie.Need-returns Inv-loop μ-loop
-returns c = fill_done c.before.loop.inv (omega arith)
+returns : of.Tie.Need-returns invariant-loop-i decreases-loop-i
+returns c = fill_done c.before.loop-i.invariant (omega arith)
 
-pub sums-spec : {M : Type 1} → of.Statement.statement M
-sums-spec = of.Tie.close (of.Tie.spec
-    Inv-loop μ-loop (λ c. fill_start refl) (λ c. search needs) (λ c. search needs)
-    (λ c. search needs) (λ c. search needs) (λ c. search needs) (λ c. search needs)
-    (λ c. search needs) (λ c. search needs) (λ c. search needs) (λ c. search needs)
-    (λ c. search needs) loop-again returns)
+pub sums_spec : {M : Type 1} → of.Statement.statement M
+sums_spec = of.Tie.close (of.Tie.spec
+    invariant-loop-i decreases-loop-i (λ c. fill_start refl) (λ c. search rules) (λ c. search rules)
+    (λ c. search rules) (λ c. search rules) (λ c. search rules) (λ c. search rules)
+    (λ c. search rules) (λ c. search rules) (λ c. search rules) (λ c. search rules)
+    (λ c. search rules) loop-again returns)

@@ -1,5 +1,5 @@
 -- `tile_lines::whole::differences`: each number and the one half a line further on.
-use Rattle.tile_lines.specs.Whole.Prelude.{refl, ◌-◌, arith, needs, w16, side16, difference_at, of}
+use Rattle.tile_lines.specs.Whole.Prelude.{refl, ◌-◌, arith, rules, w16, side16, difference_at, of}
 use Rattle.sequences.specs.TabLaws.{Filled, fill_start, fill-turn, fill_done}
 use Rattle.tile_spectrum.specs.Lines.WholeFolds.{difference-fits, difference-is}
 use Rattle.tile_lines.proofs.whole.differences.Statement.{statement}
@@ -15,19 +15,19 @@ sub-r : tie.Need-overflow-sub-r invariant_loop decreases_loop
 unfolding side16
 sub-r c =
     let l = c.before.before.before in
-    difference-fits side16 w16 l.before.requires tt l.loop.i
+    difference-fits side16 w16 l.before.requires tt l.loop-i.i
 
 loop-again : tie.Need-loop-preserved invariant_loop decreases_loop
 unfolding side16
 loop-again c =
     let l = c.before.before.before in
-    fill-turn l.loop.invariant (omega arith) (difference-is side16 w16 l.before.requires tt l.loop.i)
+    fill-turn l.loop-i.invariant (omega arith) (difference-is side16 w16 l.before.requires tt l.loop-i.i)
 
 returns : tie.Need-returns invariant_loop decreases_loop
-returns c = fill_done c.before.loop.invariant (omega arith)
+returns c = fill_done c.before.loop-i.invariant (omega arith)
 
-pub differences-spec : {M : Type 1} → statement M
-differences-spec = tie.close (tie.spec
-    invariant_loop decreases_loop (λ c. fill_start refl) (λ c. search needs) (λ c. search needs)
-    (λ c. search needs) (λ c. search needs) (λ c. search needs) sub-r (λ c. search needs)
-    (λ c. search needs) (λ c. search needs) (λ c. search needs) loop-again returns)
+pub differences_spec : {M : Type 1} → statement M
+differences_spec = tie.close (tie.spec
+    invariant_loop decreases_loop (λ c. fill_start refl) (λ c. search rules) (λ c. search rules)
+    (λ c. search rules) (λ c. search rules) (λ c. search rules) sub-r (λ c. search rules)
+    (λ c. search rules) (λ c. search rules) (λ c. search rules) loop-again returns)

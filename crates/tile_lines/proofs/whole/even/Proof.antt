@@ -13,7 +13,7 @@ xs s = s.args.s0 ∷ s.args.s1 ∷ s.args.s2 ∷ s.args.s3 ∷ s.args.s4 ∷ s.a
 
 returns : of.Tie.Need-returns
 unfolding tab sum_z folded_of basis_of frequency_of phase_of cos_at side16 cosine16 cosines
-returns s = results-are xs (λ s. s.pre) tt s even (tab 8 (λ i. sum_e 8 (λ n. var n ⊠ con (basis (2 * i) n)))) tt tt
+returns s = results-are xs (λ s. s.requires) tt s even (tab 8 (λ i. sum_e 8 (λ n. var n ⊠ con (basis (2 * i) n)))) tt tt
 
-pub even-spec : {M : Type 1} → of.Statement.statement M
-even-spec = of.Tie.close (steps-fit xs (λ s. s.pre) tt even (λ s. tt) of.Tie.spec returns)
+pub even_spec : {M : Type 1} → of.Statement.statement M
+even_spec = of.Tie.close (steps-fit xs (λ s. s.requires) tt even (λ s. tt) of.Tie.spec returns)

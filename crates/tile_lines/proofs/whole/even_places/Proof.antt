@@ -10,16 +10,16 @@ use Rattle.tile_lines.proofs.whole.even_places.Tie as tie
 even-requires : tie.Need-even-requires
 even-requires c κs =
     let s = c.before.before.before.before.before.before.before.before in
-    all-most w16 (sums_most side16 8 s.before.requires s.sums.ensures) tt eight
+    all-most w16 (sums_most side16 8 s.before.requires s.sums-s.ensures) tt eight
 
 returns : tie.Need-returns
 unfolding side16
 returns c =
     let s = c.before.before.before.before.before.before.before.before.before in
     let x = now s.before.args.x in
-    c.even.ensures ∙ places-held side16 w16 8 eight (sum_at (of x)) (eight-picked (sum_at (of x))) (sums_most side16 8 s.before.requires s.sums.ensures) tt s.sums.ensures (λ i. 2 * i) _ (λ i. even-folded rules16 (of x) i)
+    c.even.ensures ∙ places-held side16 w16 8 eight (sum_at (of x)) (eight-picked (sum_at (of x))) (sums_most side16 8 s.before.requires s.sums-s.ensures) tt s.sums-s.ensures (λ i. 2 * i) _ (λ i. even-folded rules16 (of x) i)
 
-pub even-places-spec : {M : Type 1} → statement M
-even-places-spec = tie.close (tie.spec
+pub even_places_spec : {M : Type 1} → statement M
+even_places_spec = tie.close (tie.spec
     (λ c κs. c.requires) (λ c. lit< tt) (λ c. lit< tt) (λ c. lit< tt) (λ c. lit< tt) (λ c. lit< tt)
     (λ c. lit< tt) (λ c. lit< tt) (λ c. lit< tt) even-requires returns)

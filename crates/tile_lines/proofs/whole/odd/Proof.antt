@@ -13,7 +13,7 @@ xs s = s.args.t0 ∷ s.args.t1 ∷ s.args.t2 ∷ s.args.t3 ∷ s.args.t4 ∷ s.a
 
 returns : of.Tie.Need-returns
 unfolding tab sum_z folded_of basis_of frequency_of phase_of cos_at side16 cosine16 cosines
-returns s = results-are xs (λ s. s.pre) tt s odd (tab 8 (λ i. sum_e 8 (λ n. var n ⊠ con (basis (2 * i + 1) n)))) tt tt
+returns s = results-are xs (λ s. s.requires) tt s odd (tab 8 (λ i. sum_e 8 (λ n. var n ⊠ con (basis (2 * i + 1) n)))) tt tt
 
-pub odd-spec : {M : Type 1} → of.Statement.statement M
-odd-spec = of.Tie.close (steps-fit xs (λ s. s.pre) tt odd (λ s. tt) of.Tie.spec returns)
+pub odd_spec : {M : Type 1} → of.Statement.statement M
+odd_spec = of.Tie.close (steps-fit xs (λ s. s.requires) tt odd (λ s. tt) of.Tie.spec returns)

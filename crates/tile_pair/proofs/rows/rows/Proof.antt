@@ -1,42 +1,42 @@
 -- `tile_pair::rows::rows`: the rows' transforms are stored two at a time.
-use Rattle.tile_pair.specs.Prelude.{◌+◌, ◌/◌, ◌%◌, ◌-◌, arith, needs, pos, grid, cell, halfcomplex, double_line, plane_in, doubles}
+use Rattle.tile_pair.specs.Prelude.{◌+◌, ◌/◌, ◌%◌, ◌-◌, arith, rules, pos, grid, cell, halfcomplex, double_line, plane_in, doubles}
 use Rattle.tile_spectrum.specs.ColumnLaws.{grid-rows, row-length}
 use Rattle.tile_spectrum.specs.RowLaws.{RowsSet, rows_start, rows-first, rows-second, rows-turn, rows-done}
 use Rattle.tile_pair.proofs.rows.rows as of
 
-abbrev Inv-loop : of.Tie.InvT-loop
-Inv-loop t r₀ b₀ r b = RowsSet 8 {H = Unit {0}} (λ _ b. double_line 32 (λ l. halfcomplex (plane_in (cell (pos 0) t) (l % 2) b) (l / 2))) b r₀ r
+abbrev invariant-loop-b : of.Tie.invariant-loop-b
+invariant-loop-b t r₀ b₀ r b = RowsSet 8 {H = Unit {0}} (λ _ b. double_line 32 (λ l. halfcomplex (plane_in (cell (pos 0) t) (l % 2) b) (l / 2))) b r₀ r
 
-abbrev μ-loop : of.Tie.MeasureT-loop
-μ-loop t r₀ b₀ r b = 8 - b
+abbrev decreases-loop-b : of.Tie.decreases-loop-b
+decreases-loop-b t r₀ b₀ r b = 8 - b
 
-halfcomplex-requires : of.Tie.Need-halfcomplex-requires Inv-loop μ-loop
+halfcomplex-requires : of.Tie.Need-halfcomplex-requires invariant-loop-b decreases-loop-b
 halfcomplex-requires c κs =
     let l = c.before.before.before in
-    (l.before.pre.0.line l.loop.b, row-length 16 32 _ l.before.pre.1.is l.loop.b (omega arith) (rows-first l.loop.inv (omega arith)))
+    (l.before.requires.0.line l.loop-b.b, row-length 16 32 _ l.before.requires.1.is l.loop-b.b (omega arith) (rows-first l.loop-b.invariant (omega arith)))
 
-halfcomplex-requires-2 : of.Tie.Need-halfcomplex-requires-2 Inv-loop μ-loop
+halfcomplex-requires-2 : of.Tie.Need-halfcomplex-requires-in-loop-b invariant-loop-b decreases-loop-b
 halfcomplex-requires-2 c κs =
     let h = c.before.before in
     let l = h.before.before.before.before in
-    let b = l.loop.b in
-    (l.before.pre.0.line (8 + b), row-length 16 32 _ l.before.pre.1.is (8 + b) (omega arith) (rows-second l.loop.inv (omega arith) h.halfcomplex.last.1.0))
+    let b = l.loop-b.b in
+    (l.before.requires.0.line (8 + b), row-length 16 32 _ l.before.requires.1.is (8 + b) (omega arith) (rows-second l.loop-b.invariant (omega arith) h.halfcomplex.new.1.0))
 
-loop-again : of.Tie.Need-loop-again Inv-loop μ-loop
+loop-again : of.Tie.Need-loop-b-preserved invariant-loop-b decreases-loop-b
 unfolding cell
 loop-again c =
     let h = c.before.before.before in
     let l = h.before.before.before.before in
-    rows-turn l.loop.inv (omega arith) (λ _. h.halfcomplex.ensures) (λ _. c.halfcomplex2.ensures)
+    rows-turn l.loop-b.invariant (omega arith) (λ _. h.halfcomplex.ensures) (λ _. c.halfcomplex-in-loop-b.ensures)
 
-returns : of.Tie.Need-returns Inv-loop μ-loop
+returns : of.Tie.Need-returns invariant-loop-b decreases-loop-b
 unfolding grid doubles
-returns c = rows-done c.before.loop.inv (omega arith) tt
+returns c = rows-done c.before.loop-b.invariant (omega arith) tt
 
-pub rows-spec : {M : Type 1} → of.Statement.statement M
-rows-spec = of.Tie.close (of.Tie.spec
-    Inv-loop μ-loop (λ c. rows_start (grid-rows 16 32 _ c.pre.1.is)) (λ c. search needs)
-    (λ c. search needs) (λ c. search needs) (λ c. search needs) halfcomplex-requires
-    (λ c. search needs) (λ c. search needs) (λ c. search needs) (λ c. search needs)
-    (λ c. search needs) (λ c. search needs) halfcomplex-requires-2 (λ c. search needs)
-    (λ c. search needs) loop-again returns)
+pub rows_spec : {M : Type 1} → of.Statement.statement M
+rows_spec = of.Tie.close (of.Tie.spec
+    invariant-loop-b decreases-loop-b (λ c. rows_start (grid-rows 16 32 _ c.requires.1.is)) (λ c. search rules)
+    (λ c. search rules) (λ c. search rules) (λ c. search rules) halfcomplex-requires
+    (λ c. search rules) (λ c. search rules) (λ c. search rules) (λ c. search rules)
+    (λ c. search rules) (λ c. search rules) halfcomplex-requires-2 (λ c. search rules)
+    (λ c. search rules) loop-again returns)

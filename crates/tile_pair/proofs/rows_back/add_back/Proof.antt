@@ -1,59 +1,59 @@
 -- `tile_pair::rows_back::add_back`: P of the rows is added two at a time.
-use Rattle.tile_pair.specs.Prelude.{sym, subst, ◌∙◌, ◌+◌, ◌/◌, ◌%◌, ◌-◌, ◌^◌, arith, needs, pos, ◌+ℤ◌, away, tab, grid, cell, half_sum, LineMost, column_most, InDouble, plane_in}
+use Rattle.tile_pair.specs.Prelude.{sym, subst, ◌∙◌, ◌+◌, ◌/◌, ◌%◌, ◌-◌, ◌^◌, arith, rules, pos, ◌+ℤ◌, away, tab, grid, cell, half_sum, LineMost, column_most, InDouble, plane_in}
 use Rattle.tile_spectrum.specs.ColumnLaws.{grid-rows, row-length}
 use Rattle.tile_spectrum.specs.AddingLaws.{added-to}
 use Rattle.tile_spectrum.specs.RowLaws.{RowsSet, rows_start, rows-first, rows-second, rows-turn, rows-done}
 use Rattle.tile_pair.proofs.WholeRows.{whole_row}
 use Rattle.tile_pair.proofs.rows_back.add_back as of
 
-abbrev Inv-loop : of.Tie.InvT-loop
-Inv-loop h low sum₀ y₀ sum y =
+abbrev invariant-loop-y : of.Tie.invariant-loop-y
+invariant-loop-y h low sum₀ y₀ sum y =
     RowsSet 8 {H = InDouble (column_most low) h} (λ w y. tab 32 (λ l. cell (pos 0) sum₀ y l +ℤ away (half_sum (plane_in w.number (l % 2) y) (l / 2)) (2 ^ 31))) y sum₀ sum
 
-abbrev μ-loop : of.Tie.MeasureT-loop
-μ-loop h low sum₀ y₀ sum y = 8 - y
+abbrev decreases-loop-y : of.Tie.decreases-loop-y
+decreases-loop-y h low sum₀ y₀ sum y = 8 - y
 
-add-line-requires : of.Tie.Need-add-line-requires Inv-loop μ-loop
+add-line-requires : of.Tie.Need-add_line-requires invariant-loop-y decreases-loop-y
 add-line-requires c κs =
     let l = c.before.before.before in
-    let y = l.loop.y in
-    let e = rows-first l.loop.inv (omega arith) in
+    let y = l.loop-y.y in
+    let e = rows-first l.loop-y.invariant (omega arith) in
     record {
-      whole = whole_row l.before.pre.whole y (omega arith);
-      sums_most = subst (LineMost (2 ^ 40)) (sym e) (l.before.pre.sums_most.line y);
-      long = row-length 16 32 _ l.before.pre.paired.is y (omega arith) e;
+      whole = whole_row l.before.requires.whole y (omega arith);
+      sums_most = subst (LineMost (2 ^ 40)) (sym e) (l.before.requires.sums_most.line y);
+      long = row-length 16 32 _ l.before.requires.paired.is y (omega arith) e;
     }
 
-add-line-requires-2 : of.Tie.Need-add-line-requires-2 Inv-loop μ-loop
+add-line-requires-2 : of.Tie.Need-add_line-requires-in-loop-y invariant-loop-y decreases-loop-y
 add-line-requires-2 c κs =
     let a = c.before.before in
     let l = a.before.before.before.before in
-    let y = l.loop.y in
-    let e = rows-second l.loop.inv (omega arith) a.add-line.last.1.1.0 in
+    let y = l.loop-y.y in
+    let e = rows-second l.loop-y.invariant (omega arith) a.add_line.new.1.1.0 in
     record {
-      whole = whole_row l.before.pre.whole (8 + y) (omega arith);
-      sums_most = subst (LineMost (2 ^ 40)) (sym e) (l.before.pre.sums_most.line (8 + y));
-      long = row-length 16 32 _ l.before.pre.paired.is (8 + y) (omega arith) e;
+      whole = whole_row l.before.requires.whole (8 + y) (omega arith);
+      sums_most = subst (LineMost (2 ^ 40)) (sym e) (l.before.requires.sums_most.line (8 + y));
+      long = row-length 16 32 _ l.before.requires.paired.is (8 + y) (omega arith) e;
     }
 
-loop-again : of.Tie.Need-loop-again Inv-loop μ-loop
+loop-again : of.Tie.Need-loop-y-preserved invariant-loop-y decreases-loop-y
 unfolding cell
 loop-again c =
     let a = c.before.before.before in
     let l = a.before.before.before.before in
-    let y = l.loop.y in
-    rows-turn l.loop.inv (omega arith)
-    (λ w. a.add-line.ensures (whole_row w y (omega arith)) ∙ added-to 32 _ (rows-first l.loop.inv (omega arith)))
-    (λ w. c.add-line2.ensures (whole_row w (8 + y) (omega arith)) ∙ added-to 32 _ (rows-second l.loop.inv (omega arith) a.add-line.last.1.1.0))
+    let y = l.loop-y.y in
+    rows-turn l.loop-y.invariant (omega arith)
+    (λ w. a.add_line.ensures (whole_row w y (omega arith)) ∙ added-to 32 _ (rows-first l.loop-y.invariant (omega arith)))
+    (λ w. c.add_line-in-loop-y.ensures (whole_row w (8 + y) (omega arith)) ∙ added-to 32 _ (rows-second l.loop-y.invariant (omega arith) a.add_line.new.1.1.0))
 
-returns : of.Tie.Need-returns Inv-loop μ-loop
+returns : of.Tie.Need-returns invariant-loop-y decreases-loop-y
 unfolding grid
-returns c = rows-done c.before.loop.inv (omega arith)
+returns c = rows-done c.before.loop-y.invariant (omega arith)
 
-pub add-back-spec : {M : Type 1} → of.Statement.statement M
-add-back-spec = of.Tie.close (of.Tie.spec
-    Inv-loop μ-loop (λ c. rows_start (grid-rows 16 32 _ c.pre.paired.is)) (λ c. search needs)
-    (λ c. search needs) (λ c. search needs) (λ c. search needs) add-line-requires
-    (λ c. search needs) (λ c. search needs) (λ c. search needs) (λ c. search needs)
-    (λ c. search needs) (λ c. search needs) add-line-requires-2 (λ c. search needs)
-    (λ c. search needs) loop-again returns)
+pub add_back_spec : {M : Type 1} → of.Statement.statement M
+add_back_spec = of.Tie.close (of.Tie.spec
+    invariant-loop-y decreases-loop-y (λ c. rows_start (grid-rows 16 32 _ c.requires.paired.is)) (λ c. search rules)
+    (λ c. search rules) (λ c. search rules) (λ c. search rules) add-line-requires
+    (λ c. search rules) (λ c. search rules) (λ c. search rules) (λ c. search rules)
+    (λ c. search rules) (λ c. search rules) add-line-requires-2 (λ c. search rules)
+    (λ c. search rules) loop-again returns)

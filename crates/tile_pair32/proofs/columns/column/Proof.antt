@@ -1,27 +1,27 @@
 -- `tile_pair32::columns::column`: the places are stored one after the other.
-use Rattle.tile_pair32.specs.Prelude.{◌≡◌, refl, [], ◌-◌, arith, needs, get_or, pos, w16, to_z, of_z, now, cell}
+use Rattle.tile_pair32.specs.Prelude.{◌≡◌, refl, [], ◌-◌, arith, rules, get_or, pos, w16, to_z, of_z, now, cell}
 use Rattle.sequences.specs.TabLaws.{Filled, fill_start, fill-turn, fill_done}
 use Rattle.tile_pair32.proofs.columns.column as of
 
-abbrev Inv-loop : of.Tie.InvT-loop
-Inv-loop d l r₀ y₀ r y = Filled (λ y. cell (pos 0) d y l) 32 y r₀ r
+abbrev invariant-loop-y : of.Tie.invariant-loop-y
+invariant-loop-y d l r₀ y₀ r y = Filled (λ y. cell (pos 0) d y l) 32 y r₀ r
 
-abbrev μ-loop : of.Tie.MeasureT-loop
-μ-loop d l r₀ y₀ r y = 32 - y
+abbrev decreases-loop-y : of.Tie.decreases-loop-y
+decreases-loop-y d l r₀ y₀ r y = 32 - y
 
-loop-again : of.Tie.Need-loop-again Inv-loop μ-loop
+loop-again : of.Tie.Need-loop-y-preserved invariant-loop-y decreases-loop-y
 unfolding cell
 loop-again c =
     let l = c.before.before in
-    let z = get_or (get_or (now l.before.args.d) l.loop.y []) l.before.args.l (pos 0) in
-    let e : to_z w16 (of_z w16 z) ≡ z = search needs in
-    fill-turn l.loop.inv (omega arith) e
+    let z = get_or (get_or (now l.before.args.d) l.loop-y.y []) l.before.args.l (pos 0) in
+    let e : to_z w16 (of_z w16 z) ≡ z = search rules in
+    fill-turn l.loop-y.invariant (omega arith) e
 
-returns : of.Tie.Need-returns Inv-loop μ-loop
-returns c = fill_done c.before.loop.inv (omega arith)
+returns : of.Tie.Need-returns invariant-loop-y decreases-loop-y
+returns c = fill_done c.before.loop-y.invariant (omega arith)
 
-pub column-spec : {M : Type 1} → of.Statement.statement M
-column-spec = of.Tie.close (of.Tie.spec
-    Inv-loop μ-loop (λ c. fill_start refl) (λ c. search needs) (λ c. search needs)
-    (λ c. search needs) (λ c. search needs) (λ c. search needs) (λ c. search needs)
-    (λ c. search needs) (λ c. search needs) loop-again returns)
+pub column_spec : {M : Type 1} → of.Statement.statement M
+column_spec = of.Tie.close (of.Tie.spec
+    invariant-loop-y decreases-loop-y (λ c. fill_start refl) (λ c. search rules) (λ c. search rules)
+    (λ c. search rules) (λ c. search rules) (λ c. search rules) (λ c. search rules)
+    (λ c. search rules) (λ c. search rules) loop-again returns)

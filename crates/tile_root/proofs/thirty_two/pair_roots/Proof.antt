@@ -1,5 +1,5 @@
 -- Each plane's root is that of its places' squares.
-use Rattle.tile_root.specs.Prelude.{ap, ◌∙◌, arith, needs, now, lit<, cell}
+use Rattle.tile_root.specs.Prelude.{ap, ◌∙◌, arith, rules, now, lit<, cell}
 use Rattle.tile_root.specs.Lanes.{lane_black}
 use Rattle.tile_root.specs.TileRootLaws.{tile-root-cong}
 use Rattle.tile_root.proofs.Lanes.{root-of-plane}
@@ -13,14 +13,14 @@ returns c =
     let b = l.before.before in
     let a = b.before.args in
     record {
-      first = r.plane-root.ensures.0 ∙ root-of-plane 32 a.even a.odd (now a.tile) 0 (lit< tt) b.lane-blacks.ensures l.lane-squares.ensures.0
+      first = r.plane_root-first.ensures.0 ∙ root-of-plane 32 a.even a.odd (now a.tile) 0 (lit< tt) b.lane_blacks-black.ensures l.lane_squares-sum.ensures.0
           ∙ tile-root-cong 32 _ _ _ (λ i j _ _. ap (cell 0 (now a.tile) i) (omega arith));
-      second = c.plane-root2.ensures.0 ∙ root-of-plane 32 a.even a.odd (now a.tile) 1 (lit< tt) b.lane-blacks.ensures l.lane-squares.ensures.0;
-      first_most = r.plane-root.ensures.1;
-      second_most = c.plane-root2.ensures.1;
+      second = c.plane_root-second.ensures.0 ∙ root-of-plane 32 a.even a.odd (now a.tile) 1 (lit< tt) b.lane_blacks-black.ensures l.lane_squares-sum.ensures.0;
+      first_most = r.plane_root-first.ensures.1;
+      second_most = c.plane_root-second.ensures.1;
     }
 
-pub pair-roots-spec : {M : Type 1} → of.Statement.statement M
-pair-roots-spec = of.Tie.close (of.Tie.spec
-    (λ c κs. search needs) (λ c κs. search needs) (λ c κs. search needs) (λ c κs. search needs)
+pub pair_roots_spec : {M : Type 1} → of.Statement.statement M
+pair_roots_spec = of.Tie.close (of.Tie.spec
+    (λ c κs. search rules) (λ c κs. search rules) (λ c κs. search rules) (λ c κs. search rules)
     returns)

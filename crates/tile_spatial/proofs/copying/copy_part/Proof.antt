@@ -26,18 +26,18 @@ module _ {frames t0 : ℕ} {sum : ℤ} (f : Frames frames) (l : t0 ≤ 4095) (m 
   pub number : to_z w64 (of_z w64 held) ≡ z
   number = subst (λ h. to_z w64 (of_z w64 h) ≡ z) (sym held-is) (number_is w64 z-most tt)
 
-mul-whole-2 : of.Tie.Need-mul-whole-2
-mul-whole-2 c = omega (arith, whole-most c.pre.frames_fit c.pre.sample c.pre.sum-most)
+mul-whole-2 : of.Tie.Need-overflow_mul-whole-2
+mul-whole-2 c = omega (arith, whole-most c.requires.frames_fit c.requires.sample c.requires.sum-most)
 
-cast-round-away : of.Tie.Need-cast-round-away
-cast-round-away c = most_fits w64 _ 8386560 (record { most = whole-most c.pre.frames_fit c.pre.sample c.pre.sum-most }) tt
+cast-round-away : of.Tie.Need-overflow_cast-whole-2
+cast-round-away c = most_fits w64 _ 8386560 (record { most = whole-most c.requires.frames_fit c.requires.sample c.requires.sum-most }) tt
 
-sub-round-away : of.Tie.Need-sub-round-away
-sub-round-away c = held_fits c.pre.frames_fit c.pre.sample c.pre.sum-most
+sub-round-away : of.Tie.Need-overflow_sub-whole
+sub-round-away c = held_fits c.requires.frames_fit c.requires.sample c.requires.sum-most
 
-round-away-requires : of.Tie.Need-round-away-requires
+round-away-requires : of.Tie.Need-round_away-requires
 round-away-requires c κs =
-    let p = c.pre in
+    let p = c.requires in
     let e = number p.frames_fit p.sample p.sum-most in
     record {
       divisor_some = omega (arith, p.frames_fit.some);
@@ -46,14 +46,14 @@ round-away-requires c κs =
     }
 
 -- what the code divides
-quotient_is : (c : of.Tie.After-round-away) → let a = c.before.args in c.round-away.result ≡ away (pos (a.t0 * (256 * a.frames)) -ℤ a.sum) a.frames
+quotient_is : (c : of.Tie.After-round_away) → let a = c.before.args in c.round_away.result ≡ away (pos (a.t0 * (256 * a.frames)) -ℤ a.sum) a.frames
 quotient_is c =
-    let p = c.before.pre in
-    c.round-away.ensures ∙ ap (λ z. away z c.before.args.frames) (number p.frames_fit p.sample p.sum-most)
+    let p = c.before.requires in
+    c.round_away.ensures ∙ ap (λ z. away z c.before.args.frames) (number p.frames_fit p.sample p.sum-most)
 
-most : (c : of.Tie.After-round-away) → AtMost copy_most c.round-away.result
+most : (c : of.Tie.After-round_away) → AtMost copy_most c.round_away.result
 most c =
-    let p = c.before.pre in
+    let p = c.before.requires in
     subst (AtMost copy_most) (sym (quotient_is c)) (quotient-most p.frames_fit p.sample p.sum-most)
 
 returns : of.Tie.Need-returns
@@ -61,7 +61,7 @@ returns c =
     let e = cast_is w64 w32 (most c) tt tt in
     (e ∙ quotient_is c, subst (AtMost copy_most) (sym e) (most c))
 
-pub copy-part-spec : {M : Type 1} → of.Statement.statement M
-copy-part-spec = of.Tie.close (of.Tie.spec
-    (λ c. omega (arith, c.pre.frames_fit.few)) mul-whole-2 cast-round-away sub-round-away
+pub copy_part_spec : {M : Type 1} → of.Statement.statement M
+copy_part_spec = of.Tie.close (of.Tie.spec
+    (λ c. omega (arith, c.requires.frames_fit.few)) mul-whole-2 cast-round-away sub-round-away
     round-away-requires (λ c. cast_fits w64 w32 (most c) tt tt) returns)

@@ -6,11 +6,11 @@ use Rattle.tile_spatial.proofs.gains.bin_im as of
 
 imaginary-requires : of.Tie.Need-imaginary-requires
 imaginary-requires c κs =
-    record { places_most = c.pre.places_most; u_below = c.pre.u_below; l_below = omega (arith, c.pre.l_below) }
+    record { places_most = c.requires.places_most; u_below = c.requires.u_below; l_below = omega (arith, c.requires.l_below) }
 
-add-result : of.Tie.Need-add-result
+add-result : of.Tie.Need-overflow_add-result
 add-result c =
-    sum_fits c.before.imaginary.ensures.1 c.beside-real.ensures.1 tt tt
+    sum_fits c.before.imaginary.ensures.1 c.beside_real.ensures.1 tt tt
 
 returns : of.Tie.Need-returns
 unfolding tile_im_of side16
@@ -18,10 +18,10 @@ returns c =
     let r = c.before in
     let a = r.before.args in
     let column : a.l ≡ 2 * (a.l / 2) + a.l % 2 = omega arith in
-    let e = sum_is r.imaginary.ensures.1 c.beside-real.ensures.1 tt tt in (
-      e ∙ ap₂ ◌+ℤ◌ (r.imaginary.ensures.0 ∙ ap (λ k. imaginary_of (λ b. cell (pos 0) (now a.w) b k) a.u) column) c.beside-real.ensures.0,
-      subst (AtMost copy_bin_most) (sym e) (record { most = omega (arith, (add_most r.imaginary.ensures.1 c.beside-real.ensures.1).most) }),
+    let e = sum_is r.imaginary.ensures.1 c.beside_real.ensures.1 tt tt in (
+      e ∙ ap₂ ◌+ℤ◌ (r.imaginary.ensures.0 ∙ ap (λ k. imaginary_of (λ b. cell (pos 0) (now a.w) b k) a.u) column) c.beside_real.ensures.0,
+      subst (AtMost copy_bin_most) (sym e) (record { most = omega (arith, (add_most r.imaginary.ensures.1 c.beside_real.ensures.1).most) }),
     )
 
-pub bin-im-spec : {M : Type 1} → of.Statement.statement M
-bin-im-spec = of.Tie.close (of.Tie.spec imaginary-requires (λ c κs. c.before.pre) add-result returns)
+pub bin_im_spec : {M : Type 1} → of.Statement.statement M
+bin_im_spec = of.Tie.close (of.Tie.spec imaginary-requires (λ c κs. c.before.requires) add-result returns)

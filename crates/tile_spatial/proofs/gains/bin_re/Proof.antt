@@ -6,11 +6,11 @@ use Rattle.tile_spatial.proofs.gains.bin_re as of
 
 real-requires : of.Tie.Need-real-requires
 real-requires c κs =
-    record { places_most = c.pre.places_most; u_below = c.pre.u_below; l_below = omega (arith, c.pre.l_below) }
+    record { places_most = c.requires.places_most; u_below = c.requires.u_below; l_below = omega (arith, c.requires.l_below) }
 
-sub-result : of.Tie.Need-sub-result
+sub-result : of.Tie.Need-overflow_sub-result
 sub-result c =
-    difference-fits c.before.real.ensures.1 c.beside-imaginary.ensures.1 tt tt
+    difference-fits c.before.real.ensures.1 c.beside_imaginary.ensures.1 tt tt
 
 returns : of.Tie.Need-returns
 unfolding tile_re_of side16
@@ -18,10 +18,10 @@ returns c =
     let r = c.before in
     let a = r.before.args in
     let column : a.l ≡ 2 * (a.l / 2) + a.l % 2 = omega arith in
-    let e = difference-is r.real.ensures.1 c.beside-imaginary.ensures.1 tt tt in (
-      e ∙ ap₂ ◌-ℤ◌ (r.real.ensures.0 ∙ ap (λ k. real_of (λ b. cell (pos 0) (now a.w) b k) a.u) column) c.beside-imaginary.ensures.0,
-      subst (AtMost copy_bin_most) (sym e) (record { most = omega (arith, (sub-most r.real.ensures.1 c.beside-imaginary.ensures.1).most) }),
+    let e = difference-is r.real.ensures.1 c.beside_imaginary.ensures.1 tt tt in (
+      e ∙ ap₂ ◌-ℤ◌ (r.real.ensures.0 ∙ ap (λ k. real_of (λ b. cell (pos 0) (now a.w) b k) a.u) column) c.beside_imaginary.ensures.0,
+      subst (AtMost copy_bin_most) (sym e) (record { most = omega (arith, (sub-most r.real.ensures.1 c.beside_imaginary.ensures.1).most) }),
     )
 
-pub bin-re-spec : {M : Type 1} → of.Statement.statement M
-bin-re-spec = of.Tie.close (of.Tie.spec real-requires (λ c κs. c.before.pre) sub-result returns)
+pub bin_re_spec : {M : Type 1} → of.Statement.statement M
+bin_re_spec = of.Tie.close (of.Tie.spec real-requires (λ c κs. c.before.requires) sub-result returns)

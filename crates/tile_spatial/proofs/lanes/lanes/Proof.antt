@@ -1,5 +1,5 @@
 -- The rows are stored one after the other.
-use Rattle.tile_spatial.specs.Prelude.{◌≡◌, refl, ap, ◌∙◌, Bool, true, false, cond, List, [], ℕ, ◌-◌, ◌/◌, ◌%◌, arith, needs, eqb, get_or, now, tab, either}
+use Rattle.tile_spatial.specs.Prelude.{◌≡◌, refl, ap, ◌∙◌, Bool, true, false, cond, List, [], ℕ, ◌-◌, ◌/◌, ◌%◌, arith, rules, eqb, get_or, now, tab, either}
 use Rattle.sequences.specs.TabLaws.{Filled, fill_start, fill-turn, fill_done}
 use Rattle.sequences.specs.Grid.{grid, cell, tab-ext}
 use Rattle.tile_spatial.proofs.lanes.lanes as of
@@ -9,27 +9,27 @@ row_of : (c : Bool) (a b : List (List ℕ)) (u : ℕ) → cond c (get_or a u [])
 row_of true a b u = refl
 row_of false a b u = refl
 
-abbrev Inv-loop : of.Tie.InvT-loop
-Inv-loop first second r₀ u₀ r u = Filled (λ u. tab 18 (λ l. cell 0 (either first second (l % 2)) u (l / 2))) 9 u r₀ r
+abbrev invariant-loop-u : of.Tie.invariant-loop-u
+invariant-loop-u first second r₀ u₀ r u = Filled (λ u. tab 18 (λ l. cell 0 (either first second (l % 2)) u (l / 2))) 9 u r₀ r
 
-abbrev μ-loop : of.Tie.MeasureT-loop
-μ-loop first second r₀ u₀ r u = 9 - u
+abbrev decreases-loop-u : of.Tie.decreases-loop-u
+decreases-loop-u first second r₀ u₀ r u = 9 - u
 
-loop-again : of.Tie.Need-loop-again Inv-loop μ-loop
+loop-again : of.Tie.Need-loop-u-preserved invariant-loop-u decreases-loop-u
 unfolding cell
 loop-again c =
     let l = c.before.before.before.before in
     let a = l.before.args in
-    fill-turn l.loop.inv (omega arith)
-    (c.lane_row.ensures ∙ tab-ext 18 _ _ (λ k h. ap (λ t. get_or t (k / 2) 0) (row_of (eqb (k % 2) 0) (now a.first) (now a.second) l.loop.u)))
+    fill-turn l.loop-u.invariant (omega arith)
+    (c.lane_row.ensures ∙ tab-ext 18 _ _ (λ k h. ap (λ t. get_or t (k / 2) 0) (row_of (eqb (k % 2) 0) (now a.first) (now a.second) l.loop-u.u)))
 
-returns : of.Tie.Need-returns Inv-loop μ-loop
+returns : of.Tie.Need-returns invariant-loop-u decreases-loop-u
 unfolding grid
 returns c =
-    fill_done c.before.loop.inv (omega arith)
+    fill_done c.before.loop-u.invariant (omega arith)
 
-pub lanes-spec : {M : Type 1} → of.Statement.statement M
-lanes-spec = of.Tie.close (of.Tie.spec
-    Inv-loop μ-loop (λ c. fill_start refl) (λ c. search needs) (λ c. search needs)
-    (λ c. search needs) (λ c. search needs) (λ c κs. search needs) (λ c. search needs)
-    (λ c. search needs) (λ c. search needs) (λ c. search needs) loop-again returns)
+pub lanes_spec : {M : Type 1} → of.Statement.statement M
+lanes_spec = of.Tie.close (of.Tie.spec
+    invariant-loop-u decreases-loop-u (λ c. fill_start refl) (λ c. search rules) (λ c. search rules)
+    (λ c. search rules) (λ c. search rules) (λ c κs. search rules) (λ c. search rules)
+    (λ c. search rules) (λ c. search rules) (λ c. search rules) loop-again returns)

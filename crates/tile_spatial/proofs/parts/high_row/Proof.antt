@@ -1,5 +1,5 @@
 -- The numbers are stored one after the other.
-use Rattle.algebra.specs.Prelude.{◌≡◌, refl, ap, ◌∙◌, ◌-◌, arith, needs, get_or, pos, w16, w32, to_z, of_z}
+use Rattle.algebra.specs.Prelude.{◌≡◌, refl, ap, ◌∙◌, ◌-◌, arith, rules, get_or, pos, w16, w32, to_z, of_z}
 use Rattle.sequences.specs.TabLaws.{Filled, fill_start, fill-turn, fill_done}
 use Rattle.tile_spectrum.specs.Lines.Held.{held-is, held-most}
 use Rattle.tile_spatial.specs.Steps.{high_of}
@@ -7,29 +7,29 @@ use Rattle.tile_spatial.proofs.parts.high_row as of
 
 -- The numbers are stored one after the other.
 
-abbrev Inv-loop : of.Tie.InvT-loop
-Inv-loop c r₀ l₀ r l = Filled (λ l. high_of (get_or c l (pos 0))) 32 l r₀ r
+abbrev invariant-loop-l : of.Tie.invariant-loop-l
+invariant-loop-l c r₀ l₀ r l = Filled (λ l. high_of (get_or c l (pos 0))) 32 l r₀ r
 
-abbrev μ-loop : of.Tie.MeasureT-loop
-μ-loop c r₀ l₀ r l = 32 - l
+abbrev decreases-loop-l : of.Tie.decreases-loop-l
+decreases-loop-l c r₀ l₀ r l = 32 - l
 
-high-requires : of.Tie.Need-high-requires Inv-loop μ-loop
+high-requires : of.Tie.Need-high-requires invariant-loop-l decreases-loop-l
 high-requires c κs =
     let l = c.before.before in
-    held-most w32 l.before.pre l.loop.l tt
+    held-most w32 l.before.requires l.loop-l.l tt
 
-loop-again : of.Tie.Need-loop-again Inv-loop μ-loop
+loop-again : of.Tie.Need-loop-l-preserved invariant-loop-l decreases-loop-l
 loop-again c =
     let l = c.before.before.before in
-    let e : to_z w16 (of_z w16 c.high.result) ≡ c.high.result = search needs in
-    fill-turn l.loop.inv (omega arith) (e ∙ c.high.ensures ∙ ap high_of (held-is w32 l.before.pre l.loop.l tt))
+    let e : to_z w16 (of_z w16 c.high.result) ≡ c.high.result = search rules in
+    fill-turn l.loop-l.invariant (omega arith) (e ∙ c.high.ensures ∙ ap high_of (held-is w32 l.before.requires l.loop-l.l tt))
 
-returns : of.Tie.Need-returns Inv-loop μ-loop
+returns : of.Tie.Need-returns invariant-loop-l decreases-loop-l
 returns c =
-    fill_done c.before.loop.inv (omega arith)
+    fill_done c.before.loop-l.invariant (omega arith)
 
-pub high-row-spec : {M : Type 1} → of.Statement.statement M
-high-row-spec = of.Tie.close (of.Tie.spec
-    Inv-loop μ-loop (λ c. fill_start refl) (λ c. search needs) (λ c. search needs) high-requires
-    (λ c. search needs) (λ c. search needs) (λ c. search needs) (λ c. search needs) loop-again
+pub high_row_spec : {M : Type 1} → of.Statement.statement M
+high_row_spec = of.Tie.close (of.Tie.spec
+    invariant-loop-l decreases-loop-l (λ c. fill_start refl) (λ c. search rules) (λ c. search rules) high-requires
+    (λ c. search rules) (λ c. search rules) (λ c. search rules) (λ c. search rules) loop-again
     returns)

@@ -1,5 +1,5 @@
 -- The rows are stored one after the other.
-use Rattle.tile_spatial.specs.Prelude.{refl, sym, subst, ◌-◌, arith, needs, pos, tab, grid, cell, TileMost, difference_most}
+use Rattle.tile_spatial.specs.Prelude.{refl, sym, subst, ◌-◌, arith, rules, pos, tab, grid, cell, TileMost, difference_most}
 use Rattle.sequences.specs.TabLaws.{Filled, fill_start, fill-turn, fill_done}
 use Rattle.tile_spectrum.specs.Lines.Tiles.{cells-most}
 use Rattle.tile_spatial.specs.Steps.{high_of}
@@ -7,30 +7,30 @@ use Rattle.tile_spatial.proofs.SplitLaws.{high-at}
 use Rattle.tile_spatial.proofs.PairLaws.{table-most}
 use Rattle.tile_spatial.proofs.parts.highs as of
 
-abbrev Inv-loop : of.Tie.InvT-loop
-Inv-loop c r₀ y₀ r y = Filled (λ y. tab 32 (λ l. high_of (cell (pos 0) c y l))) 16 y r₀ r
+abbrev invariant-loop-y : of.Tie.invariant-loop-y
+invariant-loop-y c r₀ y₀ r y = Filled (λ y. tab 32 (λ l. high_of (cell (pos 0) c y l))) 16 y r₀ r
 
-abbrev μ-loop : of.Tie.MeasureT-loop
-μ-loop c r₀ y₀ r y = 16 - y
+abbrev decreases-loop-y : of.Tie.decreases-loop-y
+decreases-loop-y c r₀ y₀ r y = 16 - y
 
-high-row-requires : of.Tie.Need-high-row-requires Inv-loop μ-loop
+high-row-requires : of.Tie.Need-high_row-requires invariant-loop-y decreases-loop-y
 high-row-requires c κs =
-    let l = c.before.before in l.before.pre.line l.loop.y
+    let l = c.before.before in l.before.requires.line l.loop-y.y
 
-loop-again : of.Tie.Need-loop-again Inv-loop μ-loop
+loop-again : of.Tie.Need-loop-y-preserved invariant-loop-y decreases-loop-y
 unfolding cell
 loop-again c =
-    fill-turn c.before.before.before.loop.inv (omega arith) c.high-row.ensures
+    fill-turn c.before.before.before.loop-y.invariant (omega arith) c.high_row.ensures
 
-returns : of.Tie.Need-returns Inv-loop μ-loop
+returns : of.Tie.Need-returns invariant-loop-y decreases-loop-y
 unfolding grid
 returns c =
     let s = c.before.before in
-    let e = fill_done c.before.loop.inv (omega arith) in
-    (e, subst (TileMost difference_most) (sym e) (table-most difference_most _ (λ y l. (high-at (record { most = cells-most s.pre y l })).most) 16 32))
+    let e = fill_done c.before.loop-y.invariant (omega arith) in
+    (e, subst (TileMost difference_most) (sym e) (table-most difference_most _ (λ y l. (high-at (record { most = cells-most s.requires y l })).most) 16 32))
 
-pub highs-spec : {M : Type 1} → of.Statement.statement M
-highs-spec = of.Tie.close (of.Tie.spec
-    Inv-loop μ-loop (λ c. fill_start refl) (λ c. search needs) (λ c. search needs) high-row-requires
-    (λ c. search needs) (λ c. search needs) (λ c. search needs) (λ c. search needs) loop-again
+pub highs_spec : {M : Type 1} → of.Statement.statement M
+highs_spec = of.Tie.close (of.Tie.spec
+    invariant-loop-y decreases-loop-y (λ c. fill_start refl) (λ c. search rules) (λ c. search rules) high-row-requires
+    (λ c. search rules) (λ c. search rules) (λ c. search rules) (λ c. search rules) loop-again
     returns)

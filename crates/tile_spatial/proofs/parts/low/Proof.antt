@@ -7,18 +7,18 @@ use Rattle.tile_spatial.proofs.parts.low as of
 
 -- Each step fits 32 bits, and the low part 16.
 
-mul-result : of.Tie.Need-mul-result
+mul-result : of.Tie.Need-overflow_mul-result
 mul-result c =
-    product-fits (number-most w32 c.pre tt)
+    product-fits (number-most w32 c.requires tt)
 
-sub-result : of.Tie.Need-sub-result
+sub-result : of.Tie.Need-overflow_sub-result
 sub-result c =
-    difference-fits (number-most w32 c.pre tt)
+    difference-fits (number-most w32 c.requires tt)
 
 returns : of.Tie.Need-returns
 returns c =
-    low_is (number-most w32 c.pre tt) ∙ ap low_of (number_is w32 c.pre tt)
+    low_is (number-most w32 c.requires tt) ∙ ap low_of (number_is w32 c.requires tt)
 
-pub low-spec : {M : Type 1} → of.Statement.statement M
-low-spec = of.Tie.close (of.Tie.spec
-    mul-result sub-result (λ c. low_fits (number-most w32 c.pre tt)) returns)
+pub low_spec : {M : Type 1} → of.Statement.statement M
+low_spec = of.Tie.close (of.Tie.spec
+    mul-result sub-result (λ c. low_fits (number-most w32 c.requires tt)) returns)

@@ -1,33 +1,33 @@
 -- The rows are stored one after the other.
-use Rattle.tile_spatial.specs.Prelude.{refl, ◌-◌, arith, needs, nan, tab, grid, cell}
+use Rattle.tile_spatial.specs.Prelude.{refl, ◌-◌, arith, rules, nan, tab, grid, cell}
 use Rattle.sequences.specs.TabLaws.{Filled, fill_start, fill-turn, fill_done}
 use Rattle.tile_pair.proofs.WholeRows.{whole_row}
 use Rattle.tile_spatial.specs.Steps.{place_of}
 use Rattle.tile_spatial.proofs.places.places as of
 
-abbrev Inv-loop : of.Tie.InvT-loop
-Inv-loop high low r₀ b₀ r b = Filled (λ b. tab 32 (λ l. place_of (cell nan high b l) (cell nan low b l))) 16 b r₀ r
+abbrev invariant-loop-b : of.Tie.invariant-loop-b
+invariant-loop-b high low r₀ b₀ r b = Filled (λ b. tab 32 (λ l. place_of (cell nan high b l) (cell nan low b l))) 16 b r₀ r
 
-abbrev μ-loop : of.Tie.MeasureT-loop
-μ-loop high low r₀ b₀ r b = 16 - b
+abbrev decreases-loop-b : of.Tie.decreases-loop-b
+decreases-loop-b high low r₀ b₀ r b = 16 - b
 
-place-row-requires : of.Tie.Need-place-row-requires Inv-loop μ-loop
+place-row-requires : of.Tie.Need-place_row-requires invariant-loop-b decreases-loop-b
 place-row-requires c κs =
     let l = c.before.before.before in
-    (whole_row l.before.pre.0 l.loop.b (omega arith), whole_row l.before.pre.1 l.loop.b (omega arith))
+    (whole_row l.before.requires.0 l.loop-b.b (omega arith), whole_row l.before.requires.1 l.loop-b.b (omega arith))
 
-loop-again : of.Tie.Need-loop-again Inv-loop μ-loop
+loop-again : of.Tie.Need-loop-b-preserved invariant-loop-b decreases-loop-b
 unfolding cell
 loop-again c =
-    fill-turn c.before.before.before.before.loop.inv (omega arith) c.place-row.ensures
+    fill-turn c.before.before.before.before.loop-b.invariant (omega arith) c.place_row.ensures
 
-returns : of.Tie.Need-returns Inv-loop μ-loop
+returns : of.Tie.Need-returns invariant-loop-b decreases-loop-b
 unfolding grid
 returns c =
-    fill_done c.before.loop.inv (omega arith)
+    fill_done c.before.loop-b.invariant (omega arith)
 
-pub places-spec : {M : Type 1} → of.Statement.statement M
-places-spec = of.Tie.close (of.Tie.spec
-    Inv-loop μ-loop (λ c. fill_start refl) (λ c. search needs) (λ c. search needs)
-    (λ c. search needs) (λ c. search needs) place-row-requires (λ c. search needs)
-    (λ c. search needs) (λ c. search needs) (λ c. search needs) loop-again returns)
+pub places_spec : {M : Type 1} → of.Statement.statement M
+places_spec = of.Tie.close (of.Tie.spec
+    invariant-loop-b decreases-loop-b (λ c. fill_start refl) (λ c. search rules) (λ c. search rules)
+    (λ c. search rules) (λ c. search rules) place-row-requires (λ c. search rules)
+    (λ c. search rules) (λ c. search rules) (λ c. search rules) loop-again returns)

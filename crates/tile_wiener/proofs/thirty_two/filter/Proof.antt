@@ -1,5 +1,5 @@
 -- `tile_wiener::thirty_two::filter`: the quads are replaced in the order of 32·u + l, and V and W of each lane are those of its plane.
-use Rattle.tile_wiener.specs.ThirtyTwo.Prelude.{refl, true, ◌-◌, ◌*◌, ◌≤◌, arith, needs, lit≤, of_bits, long_doubles}
+use Rattle.tile_wiener.specs.ThirtyTwo.Prelude.{refl, true, ◌-◌, ◌*◌, ◌≤◌, arith, rules, lit≤, of_bits, long_doubles}
 use mathlib.Core.Bool.{false≢true}
 use native.Mathlib.Nat.{le_trans}
 use Rattle.floats.specs.Casts.{whole-counted}
@@ -13,55 +13,55 @@ use Rattle.tile_wiener.proofs.SureLaws.{sure-of, shrunk-start, shrunk-at, shrunk
 use Rattle.tile_wiener.proofs.DoubleGains.{double-quads}
 use Rattle.tile_wiener.proofs.thirty_two.filter as of
 
-abbrev Inv-loop : of.Tie.InvT-loop
-Inv-loop b₀ first second v w u₀ b u = (1 ≤ u) × (u ≤ 16) × (Shrunk true v w 32 (32 * u) b₀ b)
+abbrev invariant-loop-u : of.Tie.invariant-loop-u
+invariant-loop-u b₀ first second v w u₀ b u = (1 ≤ u) × (u ≤ 16) × (Shrunk true v w 32 (32 * u) b₀ b)
 
-abbrev μ-loop : of.Tie.MeasureT-loop
-μ-loop b₀ first second v w u₀ b u = 16 - u
+abbrev decreases-loop-u : of.Tie.decreases-loop-u
+decreases-loop-u b₀ first second v w u₀ b u = 16 - u
 
-left-requires : of.Tie.Need-left-requires Inv-loop μ-loop
+left-requires : of.Tie.Need-left-requires invariant-loop-u decreases-loop-u
 left-requires c κs = c.before.before.before.before.corner.ensures.new.paired
 
-loop-holds : of.Tie.Need-loop-holds Inv-loop μ-loop
+loop-holds : of.Tie.Need-loop-u-init invariant-loop-u decreases-loop-u
 loop-holds c = (omega arith, omega arith, shrunk-start 32 c.before.left.ensures.new.paired)
 
-top-requires : of.Tie.Need-top-requires Inv-loop μ-loop
+top-requires : of.Tie.Need-top-requires invariant-loop-u decreases-loop-u
 top-requires c κs =
     let p = c.before.before.before.before in
-    record { u_some = omega arith; u_below = omega arith; paired = p.loop.inv.2.new.paired }
+    record { u_some = omega arith; u_below = omega arith; paired = p.loop-u.invariant.2.new.paired }
 
-inner-requires : of.Tie.Need-inner-requires Inv-loop μ-loop
+inner-requires : of.Tie.Need-inner-requires invariant-loop-u decreases-loop-u
 inner-requires c κs = record { u_some = omega arith; u_below = omega arith; paired = c.before.before.before.before.top.ensures.new.paired }
 
-loop-again : of.Tie.Need-loop-again Inv-loop μ-loop
+loop-again : of.Tie.Need-loop-u-preserved invariant-loop-u decreases-loop-u
 loop-again c =
     let i = c.before in
     let x = i.before.before.before.before in
     let t = x.before in
     let p = t.before.before.before.before.before in
-    let half = shrunk-join {z = true} (omega arith) (omega arith) p.loop.inv.2 t.top.ensures (λ e. (refl, sure-of t.top.result x.if5.left)) in
-    (omega arith, omega arith, shrunk-at (shrunk-join (omega arith) (omega arith) half i.inner.ensures (λ e. (refl, sure-of i.inner.result c.if6.left))) (omega arith))
+    let half = shrunk-join {z = true} (omega arith) (omega arith) p.loop-u.invariant.2 t.top.ensures (λ e. (refl, sure-of t.top.result x.if-not-top.false)) in
+    (omega arith, omega arith, shrunk-at (shrunk-join (omega arith) (omega arith) half i.inner.ensures (λ e. (refl, sure-of i.inner.result c.if-not-inner.false))) (omega arith))
 
 -- where the answer is false, the pair is one still
-returns : of.Tie.Need-returns Inv-loop μ-loop
-returns c = record { paired = c.before.before.before.before.before.before.before.pre.paired; is = λ e. absurd (false≢true e) }
+returns : of.Tie.Need-returns-then-first-eq0 invariant-loop-u decreases-loop-u
+returns c = record { paired = c.before.before.before.before.before.before.before.requires.paired; is = λ e. absurd (false≢true e) }
 
-returns-2 : of.Tie.Need-returns-2 Inv-loop μ-loop
-returns-2 c = record { paired = c.before.before.before.before.before.before.before.before.pre.paired; is = λ e. absurd (false≢true e) }
+returns-2 : of.Tie.Need-returns-then-second-eq0 invariant-loop-u decreases-loop-u
+returns-2 c = record { paired = c.before.before.before.before.before.before.before.before.requires.paired; is = λ e. absurd (false≢true e) }
 
-returns-3 : of.Tie.Need-returns-3 Inv-loop μ-loop
+returns-3 : of.Tie.Need-returns-then-not-corner invariant-loop-u decreases-loop-u
 returns-3 c = record { paired = c.before.corner.ensures.new.paired; is = λ e. absurd (false≢true e) }
 
-returns-4 : of.Tie.Need-returns-4 Inv-loop μ-loop
+returns-4 : of.Tie.Need-returns-then-not-left invariant-loop-u decreases-loop-u
 returns-4 c = record { paired = c.before.left.ensures.new.paired; is = λ e. absurd (false≢true e) }
 
-returns-5 : of.Tie.Need-returns-5 Inv-loop μ-loop
+returns-5 : of.Tie.Need-returns-then-not-top invariant-loop-u decreases-loop-u
 returns-5 c = record { paired = c.before.top.ensures.new.paired; is = λ e. absurd (false≢true e) }
 
-returns-6 : of.Tie.Need-returns-6 Inv-loop μ-loop
+returns-6 : of.Tie.Need-returns-then-not-inner invariant-loop-u decreases-loop-u
 returns-6 c = record { paired = c.before.inner.ensures.new.paired; is = λ e. absurd (false≢true e) }
 
-returns-7 : of.Tie.Need-returns-7 Inv-loop μ-loop
+returns-7 : of.Tie.Need-returns invariant-loop-u decreases-loop-u
 unfolding of_bits slightly_more side32 long_doubles
 returns-7 c =
     let p = c.before in
@@ -73,16 +73,16 @@ returns-7 c =
     let second = z.before.before in
     let first = second.before.before.before in
     let s = first.before.before.before in
-    let start = shrunk-join {z = true} (lit≤ tt) (lit≤ tt) o.corner.ensures l.left.ensures (λ e. (sure-of o.corner.result y.if3.left, sure-of l.left.result x.if4.left)) in
-    let all = shrunk-at {s = true} {o = 512} (shrunk-join (omega arith) (omega arith) start p.loop.inv.2 (λ e. (refl, refl))) (omega arith) in
+    let start = shrunk-join {z = true} (lit≤ tt) (lit≤ tt) o.corner.ensures l.left.ensures (λ e. (sure-of o.corner.result y.if-not-corner.false, sure-of l.left.result x.if-not-left.false)) in
+    let all = shrunk-at {s = true} {o = 512} (shrunk-join (omega arith) (omega arith) start p.loop-u.invariant.2 (λ e. (refl, refl))) (omega arith) in
     record {
       paired = all.new.paired;
       is = λ e w.
           pair-filtered side32 s.args.first s.args.second w.plane
-          (double-quads long-bins-fit quanta32 s.args.first s.args.second w.plane (record { above = omega arith; v_most = le_trans s.pre.first_most (lit≤ tt); small = long-small-bins w.first }) (record { above = omega arith; v_most = le_trans s.pre.second_most (lit≤ tt); small = long-small-bins w.second }) first.alternating.ensures second.alternating2.ensures w.is (all.sure refl))
+          (double-quads long-bins-fit quanta32 s.args.first s.args.second w.plane (record { above = omega arith; v_most = le_trans s.requires.first_most (lit≤ tt); small = long-small-bins w.first }) (record { above = omega arith; v_most = le_trans s.requires.second_most (lit≤ tt); small = long-small-bins w.second }) first.alternating-v.ensures second.alternating-w.ensures w.is (all.sure refl))
           all.new all.new.paired.is w.is;
     }
 
-pub filter-spec : {M : Type 1} → of.Statement.statement M
-filter-spec = of.Tie.close (of.Tie.spec
-    Inv-loop μ-loop (λ c. whole-counted _ (omega arith)) (λ c. whole-counted _ (omega arith)) (λ c κs. search needs) (λ c. whole-counted _ (omega arith)) (λ c. whole-counted _ (omega arith)) (λ c κs. search needs) returns returns-2 (λ c κs. search needs) returns-3 left-requires returns-4 loop-holds top-requires returns-5 inner-requires returns-6 (λ c. search needs) (λ c. search needs) loop-again returns-7)
+pub filter_spec : {M : Type 1} → of.Statement.statement M
+filter_spec = of.Tie.close (of.Tie.spec
+    invariant-loop-u decreases-loop-u (λ c. whole-counted _ (omega arith)) (λ c. whole-counted _ (omega arith)) (λ c κs. search rules) (λ c. whole-counted _ (omega arith)) (λ c. whole-counted _ (omega arith)) (λ c κs. search rules) returns returns-2 (λ c κs. search rules) returns-3 left-requires returns-4 loop-holds top-requires returns-5 inner-requires returns-6 (λ c. search rules) (λ c. search rules) loop-again returns-7)

@@ -1,5 +1,5 @@
 -- `scan_line`: the judgement of the whole line is that of the values left, with what is known of those passed.
-use Rattle.file_burst.specs.Lines.Prelude.{◌≡◌, refl, sym, ap, ◌∙◌, Bool, false, ◌-◌, arith, needs, drop}
+use Rattle.file_burst.specs.Lines.Prelude.{◌≡◌, refl, sym, ap, ◌∙◌, Bool, false, ◌-◌, arith, rules, drop}
 use Rattle.file_burst.specs.Lines.Line.{Item, after_item, values_of}
 use Rattle.file_burst.specs.Lines.Scan.{item_in, line_in, ended_line, judged}
 use Rattle.file_burst.specs.declared.lines.Scan.{Scan}
@@ -7,57 +7,57 @@ use Rattle.file_burst.specs.declared.lines.Scan.TheVariants.{Last, More, Bad}
 use Rattle.file_burst.proofs.lines.Values.{values-step, values-none, judged-end, judged-more}
 use Rattle.file_burst.proofs.lines.lines.scan_line as of
 
-abbrev Inv-loop : of.Tie.InvT-loop
-Inv-loop file at count bound left₀ i₀ over₀ left i over = judged over bound (values_of left (drop i file)) ≡ judged false bound (values_of count (drop at file))
+abbrev invariant-loop-left : of.Tie.invariant-loop-left
+invariant-loop-left file at count bound left₀ i₀ over₀ left i over = judged over bound (values_of left (drop i file)) ≡ judged false bound (values_of count (drop at file))
 
-abbrev μ-loop : of.Tie.MeasureT-loop
-μ-loop file at count bound left₀ i₀ over₀ left i over = left
+abbrev decreases-loop-left : of.Tie.decreases-loop-left
+decreases-loop-left file at count bound left₀ i₀ over₀ left i over = left
 
 -- where the scan is `scan`, the line is what `afterItem` makes of it
-stepped : (c : of.Tie.After-next-value Inv-loop μ-loop) (scan : Scan) → c.next-value.result ≡ scan →
-    let l = c.before.before.loop in
+stepped : (c : of.Tie.After-next_value invariant-loop-left decreases-loop-left) (scan : Scan) → c.next_value.result ≡ scan →
+    let l = c.before.before.loop-left in
     let a = c.before.before.before.before.args in
     judged l.over a.bound (after_item (l.left - 1) (λ t. values_of (l.left - 1) t) (item_in a.file.now scan)) ≡ judged false a.bound (values_of a.count (drop a.at a.file.now))
 stepped c scan e =
-    let l = c.before.before.loop in
+    let l = c.before.before.loop-left in
     let a = c.before.before.before.before.args in
-    ap (λ (item : Item). judged l.over a.bound (after_item (l.left - 1) (λ t. values_of (l.left - 1) t) item)) (ap (item_in a.file.now) (sym e) ∙ c.next-value.ensures)
-    ∙ ap (judged l.over a.bound) (sym (values-step l.left (drop l.i a.file.now) c.before.loop-test.taken)) ∙ l.inv
+    ap (λ (item : Item). judged l.over a.bound (after_item (l.left - 1) (λ t. values_of (l.left - 1) t) item)) (ap (item_in a.file.now) (sym e) ∙ c.next_value.ensures)
+    ∙ ap (judged l.over a.bound) (sym (values-step l.left (drop l.i a.file.now) c.before.loop-left-test.true)) ∙ l.inv
 
-returns : of.Tie.Need-returns Inv-loop μ-loop
+returns : of.Tie.Need-returns-in-Bad invariant-loop-left decreases-loop-left
 returns c =
     let at = c.before.before.before in
-    ap (line_in at.before.before.before.before.args.file.now) c.malformed.ensures ∙ stepped at Bad c.before.enum_told.given.1
+    ap (line_in at.before.before.before.before.args.file.now) c.malformed.ensures ∙ stepped at Bad c.before.enum_told-1.given.1
 
-returns-2 : of.Tie.Need-returns-2 Inv-loop μ-loop
+returns-2 : of.Tie.Need-returns-in-Last invariant-loop-left decreases-loop-left
 returns-2 c =
-    let f = c.before.before.before.value.given in
+    let f = c.before.before.before.value-1.given in
     let at = c.before.before.before.before.before in
-    let l = at.before.before.loop in
+    let l = at.before.before.loop-left in
     let a = at.before.before.before.before.args in
-    ap (line_in a.file.now) (c.end_line.ensures ∙ ap (ended_line (l.left - 1) f.0.1.0) c.before.or_above.ensures)
+    ap (line_in a.file.now) (c.end_line.ensures ∙ ap (ended_line (l.left - 1) f.0.1.0) c.before.or_above-any.ensures)
     ∙ judged-end (l.left - 1) f.0.1.0 l.over a.bound f.0.0 a.file.now (λ t. values_of (l.left - 1) t)
     ∙ stepped at (Last f.0.0 f.0.1.0) f.1
 
-loop-again : of.Tie.Need-loop-again Inv-loop μ-loop
+loop-again : of.Tie.Need-loop-left-preserved invariant-loop-left decreases-loop-left
 loop-again c =
-    let f = c.before.before.value2.given in
+    let f = c.before.before.value-in-More-1.given in
     let at = c.before.before.before.before in
-    let l = at.before.before.loop in
+    let l = at.before.before.loop-left in
     let a = at.before.before.before.before.args in
-    ap (λ (o : Bool). judged o a.bound (values_of (l.left - 1) (drop f.0.1.0 a.file.now))) c.or-above2.ensures
+    ap (λ (o : Bool). judged o a.bound (values_of (l.left - 1) (drop f.0.1.0 a.file.now))) c.or_above-over.ensures
     ∙ judged-more l.over a.bound f.0.0 (values_of (l.left - 1) (drop f.0.1.0 a.file.now))
     ∙ stepped at (More f.0.0 f.0.1.0) f.1
 
-returns-3 : of.Tie.Need-returns-3 Inv-loop μ-loop
+returns-3 : of.Tie.Need-returns invariant-loop-left decreases-loop-left
 returns-3 c =
-    let l = c.before.before.loop in
+    let l = c.before.before.loop-left in
     let a = c.before.before.before.before.args in
-    ap (line_in a.file.now) c.malformed2.ensures
-    ∙ ap (judged l.over a.bound) (sym (values-none l.left (drop l.i a.file.now) c.before.loop-test.left)) ∙ l.inv
+    ap (line_in a.file.now) c.malformed-2.ensures
+    ∙ ap (judged l.over a.bound) (sym (values-none l.left (drop l.i a.file.now) c.before.loop-left-test.false)) ∙ l.inv
 
-pub scan-line-spec : {M : Type 1} → of.Statement.statement M
-scan-line-spec = of.Tie.close (of.Tie.spec
-    Inv-loop μ-loop (λ c. refl) (λ c. search needs) (λ c κs. search needs) (λ c. search needs)
-    (λ c κs. search needs) returns (λ c. search needs) (λ c κs. search needs) (λ c κs. search needs) returns-2
-    (λ c. search needs) (λ c κs. search needs) (λ c. omega arith) loop-again (λ c κs. search needs) returns-3)
+pub scan_line_spec : {M : Type 1} → of.Statement.statement M
+scan_line_spec = of.Tie.close (of.Tie.spec
+    invariant-loop-left decreases-loop-left (λ c. refl) (λ c. search rules) (λ c κs. search rules) (λ c. search rules)
+    (λ c κs. search rules) returns (λ c. search rules) (λ c κs. search rules) (λ c κs. search rules) returns-2
+    (λ c. search rules) (λ c κs. search rules) (λ c. omega arith) loop-again (λ c κs. search rules) returns-3)

@@ -1,15 +1,15 @@
 -- Each arm is the case of its test.
-use Rattle.algebra.specs.Prelude.{ap, ◌∙◌, needs}
+use Rattle.algebra.specs.Prelude.{ap, ◌∙◌, rules}
 use Rattle.file_dng.specs.declared.tags.Demand.{Demand}
 use Rattle.file_dng.specs.Tags.Tags.{tag_at}
 use Rattle.file_dng.proofs.tags.faults.row_tag as of
 
-returns-4 : of.Tie.Need-returns-4
-returns-4 c = rw c.before.before.enum-told4.given.1 (c.tag-at4.ensures ∙ ap (λ (d : Demand). (tag_at d.row).tag) c.before.demand.ensures.0)
+returns-4 : of.Tie.Need-returns-in-Missed
+returns-4 c = rw c.before.before.enum_told-in-Missed-1.given.1 (c.tag_at-in-Missed.ensures ∙ ap (λ (d : Demand). (tag_at d.row).tag) c.before.demand-asked.ensures.0)
 
-pub row-tag-spec : {M : Type 1} → of.Statement.statement M
-row-tag-spec = of.Tie.close (of.Tie.spec
-    (λ c. search needs) (λ c κs. search needs) (λ c. search needs) (λ c κs. search needs)
-    (λ c. search needs) (λ c κs. search needs) (λ c. search needs) (λ c κs. search needs) (λ c κs. search needs)
-    (λ c. rw c.before.enum_told.given.1 c.tag_at.ensures) (λ c. rw c.before.enum-told2.given.1 c.tag-at2.ensures)
-    (λ c. rw c.before.enum-told3.given.1 c.tag-at3.ensures) returns-4)
+pub row_tag_spec : {M : Type 1} → of.Statement.statement M
+row_tag_spec = of.Tie.close (of.Tie.spec
+    (λ c. search rules) (λ c κs. search rules) (λ c. search rules) (λ c κs. search rules)
+    (λ c. search rules) (λ c κs. search rules) (λ c. search rules) (λ c κs. search rules) (λ c κs. search rules)
+    (λ c. rw c.before.enum_told-1.given.1 c.tag_at.ensures) (λ c. rw c.before.enum_told-in-NotOnce-1.given.1 c.tag_at-in-NotOnce.ensures)
+    (λ c. rw c.before.enum_told-in-Absent-1.given.1 c.tag_at-in-Absent.ensures) returns-4)

@@ -1,34 +1,34 @@
 -- Each return rewrites the definition by the tests that led there.
-use Rattle.file_dng.specs.Tags.Prelude.{sym, ap₂, ◌∙◌, needs, refuse}
+use Rattle.file_dng.specs.Tags.Prelude.{sym, ap₂, ◌∙◌, rules, refuse}
 use Rattle.file_dng.specs.Tags.Faults.{structure_fault}
 use Rattle.file_dng.proofs.tags.faults.structure_fault as of
 
-returns : of.Tie.Need-returns
+returns : of.Tie.Need-returns-then-header_wrong
 unfolding structure_fault
-returns c = rw (sym c.before.header-wrong.ensures ∙ c.if1.taken)
+returns c = rw (sym c.before.header_wrong.ensures ∙ c.if-header_wrong.true)
 
-returns-2 : of.Tie.Need-returns-2
+returns-2 : of.Tie.Need-returns-then-directory_outside
 unfolding structure_fault
 returns-2 c =
     let header = c.before.before in
-    rw (sym header.before.header-wrong.ensures ∙ header.if1.left, sym c.before.directory-outside.ensures ∙ c.if2.taken)
+    rw (sym header.before.header_wrong.ensures ∙ header.if-header_wrong.false, sym c.before.directory_outside.ensures ∙ c.if-directory_outside.true)
 
-returns-3 : of.Tie.Need-returns-3
+returns-3 : of.Tie.Need-returns
 unfolding structure_fault
 returns-3 c =
     let strip = c.before.before in
     let value = strip.before.before.before in
     let directory = value.before.before in
     let header = directory.before.before in
-    rw (sym header.before.header-wrong.ensures ∙ header.if1.left, sym directory.before.directory-outside.ensures ∙ directory.if2.left)
+    rw (sym header.before.header_wrong.ensures ∙ header.if-header_wrong.false, sym directory.before.directory_outside.ensures ∙ directory.if-directory_outside.false)
     (c.first.ensures
     ∙ rw (
-      rw value.before.listed.ensures at value.first-hit.ensures,
-      strip.refuse.ensures ∙ ap₂ refuse strip.before.before.tag_at.ensures strip.before.strip-outside.ensures,
+      rw value.before.listed.ensures at value.first_hit-value.ensures,
+      strip.refuse-strip.ensures ∙ ap₂ refuse strip.before.before.tag_at.ensures strip.before.strip_outside.ensures,
     ))
 
-pub structure-fault-spec : {M : Type 1} → of.Statement.statement M
-structure-fault-spec = of.Tie.close (of.Tie.spec
-    (λ c κs. search needs) returns (λ c κs. search needs) returns-2 (λ c κs. search needs)
-    (λ c κs. search needs) (λ c κs. search needs) (λ c κs. search needs) (λ c κs. search needs)
-    (λ c. search needs) (λ c κs. search needs) returns-3)
+pub structure_fault_spec : {M : Type 1} → of.Statement.statement M
+structure_fault_spec = of.Tie.close (of.Tie.spec
+    (λ c κs. search rules) returns (λ c κs. search rules) returns-2 (λ c κs. search rules)
+    (λ c κs. search rules) (λ c κs. search rules) (λ c κs. search rules) (λ c κs. search rules)
+    (λ c. search rules) (λ c κs. search rules) returns-3)

@@ -1,5 +1,5 @@
 -- Each part is its definition, so the first of them is.
-use Rattle.file_dng.specs.Tags.Prelude.{ap₂, ◌∙◌, needs, refuse}
+use Rattle.file_dng.specs.Tags.Prelude.{ap₂, ◌∙◌, rules, refuse}
 use Rattle.file_dng.specs.Tags.Faults.{value_fault}
 use Rattle.file_dng.proofs.tags.faults.value_fault as of
 
@@ -11,13 +11,13 @@ returns c =
     let absent = strip.before.before.before in
     c.first.ensures
     ∙ rw (
-      rw absent.before.listed.ensures at absent.first-hit.ensures,
-      strip.refuse.ensures ∙ ap₂ refuse strip.before.before.tag_at.ensures strip.before.size-differs.ensures,
-      rw missed.before.demanded.ensures at missed.first-hit2.ensures,
+      rw absent.before.listed.ensures at absent.first_hit-absent.ensures,
+      strip.refuse-strip.ensures ∙ ap₂ refuse strip.before.before.tag_at.ensures strip.before.size_differs.ensures,
+      rw missed.before.demanded.ensures at missed.first_hit-missed.ensures,
     )
 
-pub value-fault-spec : {M : Type 1} → of.Statement.statement M
-value-fault-spec = of.Tie.close (of.Tie.spec
-    (λ c κs. search needs) (λ c κs. search needs) (λ c κs. search needs) (λ c κs. search needs)
-    (λ c κs. search needs) (λ c κs. search needs) (λ c κs. search needs) (λ c. search needs)
-    (λ c κs. search needs) returns)
+pub value_fault_spec : {M : Type 1} → of.Statement.statement M
+value_fault_spec = of.Tie.close (of.Tie.spec
+    (λ c κs. search rules) (λ c κs. search rules) (λ c κs. search rules) (λ c κs. search rules)
+    (λ c κs. search rules) (λ c κs. search rules) (λ c κs. search rules) (λ c. search rules)
+    (λ c κs. search rules) returns)

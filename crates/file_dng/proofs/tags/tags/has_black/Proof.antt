@@ -7,5 +7,5 @@ returns : of.Tie.Need-returns
 unfolding has_black
 returns c = rw c.times.ensures
 
-pub has-black-spec : {M : Type 1} → of.Statement.statement M
-has-black-spec = of.Tie.close (of.Tie.spec (λ c κs. search rules) returns)
+pub has_black_spec : {M : Type 1} → of.Statement.statement M
+has_black_spec = of.Tie.close (of.Tie.spec (λ c κs. search rules) returns)

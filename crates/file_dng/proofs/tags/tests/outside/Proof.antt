@@ -4,34 +4,34 @@ use Rattle.file_dng.specs.Tags.TestLaws.{hits, misses}
 use Rattle.file_dng.specs.Tags.Refusals.{outside}
 use Rattle.file_dng.proofs.tags.tests.outside as of
 
-returns : of.Tie.Need-returns
+returns : of.Tie.Need-returns-then-header_wrong
 unfolding outside
-returns c = hits _ c.before.header-wrong.ensures c.if1.true
+returns c = hits _ c.before.header_wrong.ensures c.if-header_wrong.true
 
-returns-2 : of.Tie.Need-returns-2
+returns-2 : of.Tie.Need-returns-then-directory_outside
 unfolding outside
 returns-2 c =
     let first = c.before.before in
-    misses first.before.header-wrong.ensures first.if1.false (hits _ c.before.directory-outside.ensures c.if2.true)
+    misses first.before.header_wrong.ensures first.if-header_wrong.false (hits _ c.before.directory_outside.ensures c.if-directory_outside.true)
 
-returns-3 : of.Tie.Need-returns-3
+returns-3 : of.Tie.Need-returns-then-some_hit
 unfolding outside
 returns-3 c =
     let second = c.before.before.before in
     let first = second.before.before in
-    let value = rw c.before.before.listed.ensures at c.before.some-hit.ensures in
-    misses first.before.header-wrong.ensures first.if1.false (misses second.before.directory-outside.ensures second.if2.false (hits _ value c.if3.true))
+    let value = rw c.before.before.listed.ensures at c.before.some_hit.ensures in
+    misses first.before.header_wrong.ensures first.if-header_wrong.false (misses second.before.directory_outside.ensures second.if-directory_outside.false (hits _ value c.if-some_hit.true))
 
-returns-4 : of.Tie.Need-returns-4
+returns-4 : of.Tie.Need-returns
 unfolding outside
 returns-4 c =
     let third = c.before in
     let second = third.before.before.before in
     let first = second.before.before in
-    let value = rw third.before.before.listed.ensures at third.before.some-hit.ensures in
-    misses first.before.header-wrong.ensures first.if1.false (misses second.before.directory-outside.ensures second.if2.false (misses value third.if3.false c.strip-outside.ensures))
+    let value = rw third.before.before.listed.ensures at third.before.some_hit.ensures in
+    misses first.before.header_wrong.ensures first.if-header_wrong.false (misses second.before.directory_outside.ensures second.if-directory_outside.false (misses value third.if-some_hit.false c.strip_outside.ensures))
 
-pub outside-spec : {M : Type 1} → of.Statement.statement M
-outside-spec = of.Tie.close (of.Tie.spec
+pub outside_spec : {M : Type 1} → of.Statement.statement M
+outside_spec = of.Tie.close (of.Tie.spec
     (λ c κs. search rules) returns (λ c κs. search rules) returns-2 (λ c κs. search rules)
     (λ c κs. search rules) returns-3 (λ c κs. search rules) returns-4)

@@ -1,29 +1,29 @@
 -- No row passed is hit. A hit is the answer, and so is the end.
-use Rattle.file_dng.specs.Tags.Prelude.{sym, ◌∙◌, ◌-◌, needs, entries}
+use Rattle.file_dng.specs.Tags.Prelude.{sym, ◌∙◌, ◌-◌, rules, entries}
 use Rattle.refusals.specs.SomeLaws.{Passed, pass-start, pass-turn, pass-done, one}
 use Rattle.file_dng.specs.Tags.RowTests.{row_hit}
 use Rattle.file_dng.proofs.tags.tests.some_hit as of
 
-abbrev Inv-loop : of.Tie.InvT-loop
-Inv-loop test file rows row₀ row = Passed (λ row. row_hit test file (entries file) row) rows row
+abbrev invariant-loop-row : of.Tie.invariant-loop-row
+invariant-loop-row test file rows row₀ row = Passed (λ row. row_hit test file (entries file) row) rows row
 
-abbrev μ-loop : of.Tie.MeasureT-loop
-μ-loop test file rows row₀ row = rows - row
+abbrev decreases-loop-row : of.Tie.decreases-loop-row
+decreases-loop-row test file rows row₀ row = rows - row
 
-returns : of.Tie.Need-returns Inv-loop μ-loop
+returns : of.Tie.Need-returns-then-hit invariant-loop-row decreases-loop-row
 returns c =
     let turn = c.before.before in
-    sym (one _ _ turn.before.loop.row turn.loop-test.taken (sym c.before.hit.ensures ∙ c.if1.taken))
+    sym (one _ _ turn.before.loop-row.row turn.loop-row-test.true (sym c.before.hit.ensures ∙ c.if-hit.true))
 
-loop-again : of.Tie.Need-loop-again Inv-loop μ-loop
+loop-again : of.Tie.Need-loop-row-preserved invariant-loop-row decreases-loop-row
 loop-again c =
     let turn = c.before.before in
-    pass-turn turn.before.loop.inv turn.loop-test.taken (sym c.before.hit.ensures ∙ c.if1.left)
+    pass-turn turn.before.loop-row.invariant turn.loop-row-test.true (sym c.before.hit.ensures ∙ c.if-hit.false)
 
-returns-2 : of.Tie.Need-returns-2 Inv-loop μ-loop
-returns-2 c = sym (pass-done c.before.loop.inv c.loop-test.left)
+returns-2 : of.Tie.Need-returns invariant-loop-row decreases-loop-row
+returns-2 c = sym (pass-done c.before.loop-row.invariant c.loop-row-test.false)
 
-pub some-hit-spec : {M : Type 1} → of.Statement.statement M
-some-hit-spec = of.Tie.close (of.Tie.spec
-    Inv-loop μ-loop (λ c. pass-start) (λ c κs. search needs) returns (λ c. search needs)
-    (λ c. search needs) loop-again returns-2)
+pub some_hit_spec : {M : Type 1} → of.Statement.statement M
+some_hit_spec = of.Tie.close (of.Tie.spec
+    invariant-loop-row decreases-loop-row (λ c. pass-start) (λ c κs. search rules) returns (λ c. search rules)
+    (λ c. search rules) loop-again returns-2)

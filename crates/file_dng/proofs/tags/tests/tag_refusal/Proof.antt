@@ -1,5 +1,5 @@
 -- Each test is its definition, so the first of them is.
-use Rattle.file_dng.specs.Tags.Prelude.{ap, ◌∙◌, needs, refuse}
+use Rattle.file_dng.specs.Tags.Prelude.{ap, ◌∙◌, rules, refuse}
 use Rattle.refusals.specs.Numbers as no
 use Rattle.file_dng.specs.Tags.Refusals.{tag_tests}
 use Rattle.file_dng.proofs.tags.tests.tag_refusal as of
@@ -10,13 +10,13 @@ returns c =
     let values = c.before.before in
     let tags = values.before.before in
     let structure = tags.before.before.before in
-    let outside = structure.refuse.ensures ∙ ap (refuse no.dng_structure) structure.before.outside.ensures in
-    let once = tags.refuse2.ensures ∙ ap (refuse no.dng_tag) (rw tags.before.before.listed.ensures at tags.before.some-hit.ensures) in
-    let otherwise = values.refuse3.ensures ∙ ap (refuse no.dng_value) values.before.otherwise.ensures in
+    let outside = structure.refuse-structure.ensures ∙ ap (refuse no.dng_structure) structure.before.outside.ensures in
+    let once = tags.refuse-tags.ensures ∙ ap (refuse no.dng_tag) (rw tags.before.before.listed.ensures at tags.before.some_hit.ensures) in
+    let otherwise = values.refuse-values.ensures ∙ ap (refuse no.dng_value) values.before.otherwise.ensures in
     c.first.ensures ∙ rw (outside, once, otherwise)
 
-pub tag-refusal-spec : {M : Type 1} → of.Statement.statement M
-tag-refusal-spec = of.Tie.close (of.Tie.spec
-    (λ c κs. search needs) (λ c κs. search needs) (λ c κs. search needs) (λ c κs. search needs)
-    (λ c κs. search needs) (λ c κs. search needs) (λ c κs. search needs) (λ c. search needs)
-    (λ c κs. search needs) returns)
+pub tag_refusal_spec : {M : Type 1} → of.Statement.statement M
+tag_refusal_spec = of.Tie.close (of.Tie.spec
+    (λ c κs. search rules) (λ c κs. search rules) (λ c κs. search rules) (λ c κs. search rules)
+    (λ c κs. search rules) (λ c κs. search rules) (λ c κs. search rules) (λ c. search rules)
+    (λ c κs. search rules) returns)

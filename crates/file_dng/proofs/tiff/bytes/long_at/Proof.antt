@@ -1,5 +1,5 @@
 -- Two halves, the low one first.
-use Rattle.algebra.specs.Prelude.{arith, needs}
+use Rattle.algebra.specs.Prelude.{arith, rules}
 use Rattle.file_dng.specs.Tiff.Bytes.{long}
 use Rattle.file_dng.proofs.tiff.bytes.long_at as of
 
@@ -7,7 +7,7 @@ returns : of.Tie.Need-returns
 unfolding long
 returns c = (omega arith, omega arith)
 
-pub long-at-spec : {M : Type 1} → of.Statement.statement M
-long-at-spec = of.Tie.close (of.Tie.spec
-    (λ c κs. search needs) (λ c. search needs) (λ c κs. search needs) (λ c. search needs)
-    (λ c. search needs) returns)
+pub long_at_spec : {M : Type 1} → of.Statement.statement M
+long_at_spec = of.Tie.close (of.Tie.spec
+    (λ c κs. search rules) (λ c. search rules) (λ c κs. search rules) (λ c. search rules)
+    (λ c. search rules) returns)

@@ -1,5 +1,5 @@
 -- Two halves, the low one first.
-use Rattle.algebra.specs.Prelude.{arith, needs}
+use Rattle.algebra.specs.Prelude.{arith, rules}
 use Rattle.file_dng.specs.Tiff.Bytes.{short}
 use Rattle.file_dng.proofs.tiff.bytes.short_at as of
 
@@ -7,7 +7,7 @@ returns : of.Tie.Need-returns
 unfolding short
 returns c = (omega arith, omega arith)
 
-pub short-at-spec : {M : Type 1} → of.Statement.statement M
-short-at-spec = of.Tie.close (of.Tie.spec
-    (λ c κs. search needs) (λ c. search needs) (λ c κs. search needs) (λ c. search needs)
-    (λ c. search needs) returns)
+pub short_at_spec : {M : Type 1} → of.Statement.statement M
+short_at_spec = of.Tie.close (of.Tie.spec
+    (λ c κs. search rules) (λ c. search rules) (λ c κs. search rules) (λ c. search rules)
+    (λ c. search rules) returns)

@@ -5,9 +5,9 @@ use Rattle.file_dng.proofs.tiff.directory.directory_outside as of
 
 returns : of.Tie.Need-returns
 unfolding directory_outside
-returns c = rw (c.before.directory-start.ensures.0, c.entry-count.ensures.0)
+returns c = rw (c.before.directory_start.ensures.0, c.entry_count.ensures.0)
 
-pub directory-outside-spec : {M : Type 1} → of.Statement.statement M
-directory-outside-spec = of.Tie.close (of.Tie.spec
+pub directory_outside_spec : {M : Type 1} → of.Statement.statement M
+directory_outside_spec = of.Tie.close (of.Tie.spec
     (λ c κs. search rules) (λ c. search rules) (λ c κs. search rules) (λ c. search rules)
     (λ c. search rules) returns)

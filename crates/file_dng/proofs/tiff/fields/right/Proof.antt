@@ -7,5 +7,5 @@ returns : of.Tie.Need-returns
 unfolding right
 returns c = refl
 
-pub right-spec : {M : Type 1} → of.Statement.statement M
-right-spec = of.Tie.close (of.Tie.spec returns)
+pub right_spec : {M : Type 1} → of.Statement.statement M
+right_spec = of.Tie.close (of.Tie.spec returns)

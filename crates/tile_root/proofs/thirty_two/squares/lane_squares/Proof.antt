@@ -1,39 +1,39 @@
 -- The sums so far are those of the rows passed.
-use Rattle.tile_root.specs.Prelude.{◌≡◌, refl, ◌∙◌, ◌-◌, ◌≤◌, arith, needs, sum_n, tab, cell}
+use Rattle.tile_root.specs.Prelude.{◌≡◌, refl, ◌∙◌, ◌-◌, ◌≤◌, arith, rules, sum_n, tab, cell}
 use Rattle.tile_root.specs.Lanes.{lanes_of}
 use Rattle.tile_root.specs.ThirtyTwo.Lanes.{lanes}
 use Rattle.tile_root.proofs.Lanes.{lanes_fit, lanes-turn}
 use Rattle.tile_root.proofs.thirty_two.squares.lane_squares as of
 
-abbrev Inv-loop : of.Tie.InvT-loop
-Inv-loop black tile sum₀ i₀ sum i = (i ≤ 32) × (sum ≡ lanes i black tile)
+abbrev invariant-loop-i : of.Tie.invariant-loop-i
+invariant-loop-i black tile sum₀ i₀ sum i = (i ≤ 32) × (sum ≡ lanes i black tile)
 
-abbrev μ-loop : of.Tie.MeasureT-loop
-μ-loop black tile sum₀ i₀ sum i = 32 - i
+abbrev decreases-loop-i : of.Tie.decreases-loop-i
+decreases-loop-i black tile sum₀ i₀ sum i = 32 - i
 
-loop-holds : of.Tie.Need-loop-holds Inv-loop μ-loop
+loop-holds : of.Tie.Need-loop-i-init invariant-loop-i decreases-loop-i
 unfolding lanes_of tab sum_n
 loop-holds c = (omega arith, refl)
 
-add-squares-requires : of.Tie.Need-add-squares-requires Inv-loop μ-loop
+add-squares-requires : of.Tie.Need-add_squares-requires invariant-loop-i decreases-loop-i
 unfolding cell
 add-squares-requires c κs =
     let l = c.before.before.before in
     let s = l.before in
-    (record { most = s.pre.most l.loop.i }, lanes_fit 64 _ _ s.pre l.loop.i 31 (omega arith) l.loop.inv.1)
+    (record { most = s.requires.most l.loop-i.i }, lanes_fit 64 _ _ s.requires l.loop-i.i 31 (omega arith) l.loop-i.invariant.1)
 
-loop-again : of.Tie.Need-loop-again Inv-loop μ-loop
+loop-again : of.Tie.Need-loop-i-preserved invariant-loop-i decreases-loop-i
 loop-again c =
     let l = c.before.before.before.before in
-    (omega arith, c.add-squares.ensures ∙ lanes-turn 64 _ _ l.loop.i l.loop.inv.1)
+    (omega arith, c.add_squares.ensures ∙ lanes-turn 64 _ _ l.loop-i.i l.loop-i.invariant.1)
 
-returns : of.Tie.Need-returns Inv-loop μ-loop
+returns : of.Tie.Need-returns invariant-loop-i decreases-loop-i
 returns c =
     let l = c.before in
-    let e : l.loop.i ≡ 32 = omega arith in
-    (rw e at l.loop.inv.1, lanes_fit 64 _ _ l.before.pre l.loop.i 32 (omega arith) l.loop.inv.1)
+    let e : l.loop-i.i ≡ 32 = omega arith in
+    (rw e at l.loop-i.invariant.1, lanes_fit 64 _ _ l.before.requires l.loop-i.i 32 (omega arith) l.loop-i.invariant.1)
 
-pub lane-squares-spec : {M : Type 1} → of.Statement.statement M
-lane-squares-spec = of.Tie.close (of.Tie.spec
-    Inv-loop μ-loop loop-holds (λ c. search needs) (λ c. search needs) add-squares-requires
-    (λ c. search needs) (λ c. search needs) loop-again returns)
+pub lane_squares_spec : {M : Type 1} → of.Statement.statement M
+lane_squares_spec = of.Tie.close (of.Tie.spec
+    invariant-loop-i decreases-loop-i loop-holds (λ c. search rules) (λ c. search rules) add-squares-requires
+    (λ c. search rules) (λ c. search rules) loop-again returns)

@@ -1,26 +1,26 @@
 -- The sum so far is that of the places passed.
-use Rattle.algebra.specs.Prelude.{refl, ◌+◌, ◌-◌, ◌*◌, ◌≤◌, arith, needs, get_or, now}
+use Rattle.algebra.specs.Prelude.{refl, ◌+◌, ◌-◌, ◌*◌, ◌≤◌, arith, rules, get_or, now}
 use Rattle.sequences.specs.Sum.{Summed, sum-start, sum-turn, sum_done}
 use Rattle.tile_root.proofs.thirty_two.squares.plane_squares as of
 
-abbrev Inv-loop : of.Tie.InvT-loop
-Inv-loop sum p s₀ j₀ s j = Summed (λ j. get_or sum (2 * j + p) 0) 536608800 32 j s
+abbrev invariant-loop-j : of.Tie.invariant-loop-j
+invariant-loop-j sum p s₀ j₀ s j = Summed (λ j. get_or sum (2 * j + p) 0) 536608800 32 j s
 
-abbrev μ-loop : of.Tie.MeasureT-loop
-μ-loop sum p s₀ j₀ s j = 32 - j
+abbrev decreases-loop-j : of.Tie.decreases-loop-j
+decreases-loop-j sum p s₀ j₀ s j = 32 - j
 
 -- what is added
-most : (c : of.Tie.After-s Inv-loop μ-loop) → let b = c.before.before in get_or (now b.before.args.sum) (2 * b.loop.j + b.before.args.p) 0 ≤ 536608800
-most c = c.before.before.before.pre.1.most _
+most : (c : of.Tie.After-s-1 invariant-loop-j decreases-loop-j) → let b = c.before.before in get_or (now b.before.args.sum) (2 * b.loop-j.j + b.before.args.p) 0 ≤ 536608800
+most c = c.before.before.before.requires.1.most _
 
-loop-again : of.Tie.Need-loop-again Inv-loop μ-loop
-loop-again c = sum-turn c.before.before.loop.inv (omega arith) refl (most c)
+loop-again : of.Tie.Need-loop-j-preserved invariant-loop-j decreases-loop-j
+loop-again c = sum-turn c.before.before.loop-j.invariant (omega arith) refl (most c)
 
-returns : of.Tie.Need-returns Inv-loop μ-loop
-returns c = (sum_done c.before.loop.inv (omega arith), omega arith)
+returns : of.Tie.Need-returns invariant-loop-j decreases-loop-j
+returns c = (sum_done c.before.loop-j.invariant (omega arith), omega arith)
 
-pub plane-squares-spec : {M : Type 1} → of.Statement.statement M
-plane-squares-spec = of.Tie.close (of.Tie.spec
-    Inv-loop μ-loop (λ c. sum-start) (λ c. search needs) (λ c. search needs) (λ c. search needs)
-    (λ c. search needs) (λ c. omega (arith, most c)) (λ c. omega (arith, most c))
-    (λ c. search needs) (λ c. search needs) loop-again returns)
+pub plane_squares_spec : {M : Type 1} → of.Statement.statement M
+plane_squares_spec = of.Tie.close (of.Tie.spec
+    invariant-loop-j decreases-loop-j (λ c. sum-start) (λ c. search rules) (λ c. search rules) (λ c. search rules)
+    (λ c. search rules) (λ c. omega (arith, most c)) (λ c. omega (arith, most c))
+    (λ c. search rules) (λ c. search rules) loop-again returns)
