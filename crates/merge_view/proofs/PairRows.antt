@@ -1,5 +1,5 @@
 -- A row of a pair of tiles as the result of a read: its type, what is asked of a view and a place, and what is found there.
-use Rattle.merge_view.specs.Prelude.{List, [], ◌∷◌, ℕ, length, ℤ, now, Ura, Ty, ty_array, ty_int, w16, Val, WT, has_ty, RattleType, u16, Array}
+use Rattle.merge_view.specs.Prelude.{List, [], ◌∷◌, ℕ, length, ℤ, Ura, Ty, ty_array, ty_int, w16, Val, WT, has_ty, RattleType, u16, Array}
 use lib.Dec.{T as Holds}
 use types.Logic.{Logic}
 use denote.Laws.{Is}

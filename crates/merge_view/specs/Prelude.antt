@@ -1,5 +1,5 @@
 -- The words of other crates that this crate's files share. Lemmas are not passed on: of those the `use` line says where they are.
-pub use Rattle.algebra.specs.Prelude.{List, ℕ, ℤ, [], ap, ap₂, arith, drop, get_or, length, lit≤, nat_abs, negsuc, now, pos, refl, sym, take, ◌%◌, ◌*◌, ◌+◌, ◌+ℤ◌, ◌-◌, ◌/◌, ◌<◌, ◌^◌, ◌∙◌, ◌∷◌, ◌≡◌, ◌≤◌}
+pub use Rattle.algebra.specs.Prelude.{List, ℕ, ℤ, [], ap, ap₂, arith, drop, get_or, length, lit≤, nat_abs, negsuc, pos, refl, sym, take, ◌%◌, ◌*◌, ◌+◌, ◌+ℤ◌, ◌-◌, ◌/◌, ◌<◌, ◌^◌, ◌∙◌, ◌∷◌, ◌≡◌, ◌≤◌}
 pub use contract.Monad.{fact}
 pub use denote.Builtin.{Array, SliceRefOf, i64, u16, usize}
 pub use denote.Exit.{yes}

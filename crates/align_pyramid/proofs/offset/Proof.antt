@@ -52,7 +52,7 @@ unfolding offset level_size
 returns c =
     let s = c.before.loop in
     let all : s.counter ≡ c.before.before.before.before.args.k = omega arith in
-    (s.inv.is ∙ ap (words_before _ _) all, sum-most s.inv (omega arith) (omega arith) (omega arith))
+    (s.invariant.is ∙ ap (words_before _ _) all, sum-most s.invariant (omega arith) (omega arith) (omega arith))
 
 pub offset_spec : {M : Type 1} → of.Statement.statement M
 offset_spec = of.Tie.close (of.Tie.spec

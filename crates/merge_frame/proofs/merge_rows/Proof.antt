@@ -1,5 +1,5 @@
 -- The two row parities, one after the other.
-use Rattle.merge_frame.specs.Prelude.{arith, rules, lit<, now, scene_at, scene_of}
+use Rattle.merge_frame.specs.Prelude.{arith, rules, lit<, scene_at, scene_of}
 use Rattle.merge_frame.proofs.Advance.{all-merged}
 use Rattle.merge_frame.proofs.merge_rows as of
 

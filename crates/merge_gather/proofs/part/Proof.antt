@@ -1,5 +1,5 @@
 -- A word, which is small, times its weight.
-use Rattle.algebra.specs.Prelude.{◌∙◌, rules, get_or, pos, w64, to_z-of_z, now}
+use Rattle.algebra.specs.Prelude.{◌∙◌, rules, get_or, pos, w64, to_z-of_z}
 use Rattle.algebra.specs.Bound.{AtMost, most_fits}
 use Rattle.merge_tiles.specs.Sum.{taken_most}
 use Rattle.merge_gather.specs.Work.{weight_most}

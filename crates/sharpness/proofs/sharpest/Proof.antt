@@ -1,11 +1,11 @@
 -- The loop keeps the first greatest of the frames seen so far.
-use Rattle.sharpness-most.specs.Prelude.{sym, true, false, ◌-◌, arith, rules, ltb, min}
+use Rattle.sharpness.specs.Prelude.{sym, true, false, ◌-◌, arith, rules, ltb, min}
 use mathlib.Core.Logic.{⊎_elim}
 use borrow.Author.Tests.{lt-ltb, le-ltb}
 use Rattle.sequences.specs.FirstLaws.{First, first-start, first-turn, first_done}
-use Rattle.sharpness-most.specs.Sharpness.{sharpness, sharpest}
-use Rattle.sharpness-most.specs.SharpnessLaws.{lone-first}
-use Rattle.sharpness-most.proofs.sharpest as of
+use Rattle.sharpness.specs.Sharpness.{sharpness, sharpest}
+use Rattle.sharpness.specs.SharpnessLaws.{lone-first}
+use Rattle.sharpness.proofs.sharpest as of
 
 abbrev invariant-loop-frame : of.Tie.invariant-loop-frame
 invariant-loop-frame shape samples best₀ most₀ frame₀ frame-end best most frame = First (λ a b. ltb b a) (sharpness shape samples) (min shape.count 3) frame best most

@@ -72,7 +72,7 @@ returns-4 : of.Tie.Need-returns-in-Refused
 unfolding noise_question
 returns-4 c =
     let a = c.before.before.before.args in
-    refused _ _ _ _ ∙ ap (λ l. noise_answer l a.strength a.root a.side) (sym c.enum_told-1.given.1 ∙ c.before.before.levels_of.ensures)
+    refused _ _ _ _ ∙ ap (λ l. noise_answer l a.strength a.root a.side) (sym c.in-Refused.is ∙ c.before.before.levels_of.ensures)
 
 returns-5 : of.Tie.Need-returns-else-side-root
 returns-5 c =

@@ -3,7 +3,7 @@ use Rattle.tile_lines32_back.specs.Prelude.{refl, ◌∙◌, true, false, ℕ, �
 use Rattle.sequences.specs.TabLaws.{Filled, fill_start, fill-turn, fill_done}
 use Rattle.tile_lines32_back.proofs.BothHalves.{Both, both-start, both-turn, both-done, column-low, column-high}
 use Rattle.tile_lines32_back.proofs.PartSums.{parts-of}
-use Rattle.tile_lines32_back.proofs.backward-s as of
+use Rattle.tile_lines32_back.proofs.backward as of
 
 abbrev invariant-loop-k : of.Tie.invariant-loop-k
 invariant-loop-k z e₀ o₀ k₀ e o k = Filled (λ k. get_or z (2 * k) nan) 16 k e₀ e × Filled (λ k. get_or z (2 * k + 1) nan) 16 k o₀ o

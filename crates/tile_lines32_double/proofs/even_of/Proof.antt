@@ -2,7 +2,7 @@
 use Rattle.tile_lines32_double.specs.Prelude.{refl, ◌∙◌, ◌-◌, ◌*◌, ◌+◌, arith, rules, ◌+ℤ◌, ◌-ℤ◌, side16, halfcomplex_of}
 use Rattle.sequences.specs.TabLaws.{Filled, fill_start, fill_done}
 use Rattle.tile_lines32_double.proofs.LongFolding.{by_twos, twos-turn, twos-are, again-most, less-most, again-even, again-odd}
-use Rattle.tile_lines32_double.proofs.even_of-e as of
+use Rattle.tile_lines32_double.proofs.even_of as of
 
 abbrev invariant-loop-k : of.Tie.invariant-loop-k
 invariant-loop-k a b p e o r₀ k₀ r k = Filled (by_twos e o) 16 (2 * k) r₀ r

@@ -1,5 +1,5 @@
 -- `tile_lines32_whole::odd_places`: the places of the folded line are those of the line.
-use Rattle.tile_lines32_whole.specs.Prelude.{◌∙◌, lit≤, lit<, w16, now, side32, of}
+use Rattle.tile_lines32_whole.specs.Prelude.{◌∙◌, lit≤, lit<, w16, side32, of}
 use Rattle.tile_spectrum.specs.Lines.Picked.{all-most}
 use Rattle.tile_spectrum.specs.Lines.WholeFolds.{differences-most, line-wider}
 use Rattle.tile_lines32_whole.proofs.OddParts.{seconds, even-most, odd-most, in_parts, differences-places}

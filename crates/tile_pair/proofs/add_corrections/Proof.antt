@@ -1,5 +1,5 @@
 -- `tile_pair::add_corrections`: B, Q, G and P one after the other.
-use Rattle.tile_pair.specs.Prelude.{◌∙◌, ℕ, ℤ, rules, pos, now, cell, two_way, plane_in}
+use Rattle.tile_pair.specs.Prelude.{◌∙◌, ℕ, ℤ, rules, pos, cell, two_way, plane_in}
 use Rattle.tile_pair.proofs.Corrections.{folded_whole, corrections-are}
 use Rattle.tile_pair.proofs.add_corrections as of
 

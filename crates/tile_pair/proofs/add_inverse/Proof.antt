@@ -1,5 +1,5 @@
 -- `tile_pair::add_inverse`: the sums back down the columns, and then along the rows, give P.
-use Rattle.tile_pair.specs.Prelude.{◌∙◌, now, doubles}
+use Rattle.tile_pair.specs.Prelude.{◌∙◌, doubles}
 use Rattle.tile_spectrum.specs.ColumnLaws.{paired-grid}
 use Rattle.tile_pair.proofs.Passes.{columns_whole, back_is}
 use Rattle.tile_pair.proofs.add_inverse as of

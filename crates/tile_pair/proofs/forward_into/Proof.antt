@@ -1,5 +1,5 @@
 -- `tile_pair::forward_into`: the columns, and then the rows along them, give B.
-use Rattle.tile_pair.specs.Prelude.{refl, ◌∙◌, pos, now, tab, grid, cell}
+use Rattle.tile_pair.specs.Prelude.{refl, ◌∙◌, pos, tab, grid, cell}
 use Rattle.tile_spectrum.specs.Lines.Tiles.{cells-most}
 use Rattle.tile_spectrum.specs.ColumnLaws.{paired-grid}
 use Rattle.tile_pair.proofs.Passes.{columns-small, both_ways}

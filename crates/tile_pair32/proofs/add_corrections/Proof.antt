@@ -1,5 +1,5 @@
 -- `tile_pair32::add_corrections`: B, Q, G and P one after the other.
-use Rattle.tile_pair32.specs.Prelude.{◌∙◌, ℕ, ℤ, rules, pos, now, cell, side32, two_way_of, plane_in}
+use Rattle.tile_pair32.specs.Prelude.{◌∙◌, ℕ, ℤ, rules, pos, cell, side32, two_way_of, plane_in}
 use Rattle.tile_pair32.proofs.Corrections.{folded_whole, corrections-are}
 use Rattle.tile_pair32.proofs.add_corrections as of
 

@@ -1,5 +1,5 @@
 -- `tile_pair32::add_inverse`: the sums back down the columns, and then along the rows, give P.
-use Rattle.tile_pair32.specs.Prelude.{◌∙◌, now, long_doubles}
+use Rattle.tile_pair32.specs.Prelude.{◌∙◌, long_doubles}
 use Rattle.tile_spectrum.specs.ColumnLaws.{long-paired-grid}
 use Rattle.tile_pair32.proofs.Passes.{columns_whole, back_is}
 use Rattle.tile_pair32.proofs.add_inverse as of

@@ -1,5 +1,5 @@
 -- `tile_pair32::forward`: the columns, and then the rows along them, give B.
-use Rattle.tile_pair32.specs.Prelude.{refl, ◌∙◌, pos, now, tab, grid, cell}
+use Rattle.tile_pair32.specs.Prelude.{refl, ◌∙◌, pos, tab, grid, cell}
 use Rattle.tile_spectrum.specs.Lines.Tiles.{cells-most}
 use Rattle.tile_spectrum.specs.ColumnLaws.{long-paired-grid}
 use Rattle.tile_pair32.proofs.Passes.{columns-small, both_ways}

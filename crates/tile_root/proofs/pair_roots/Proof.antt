@@ -1,5 +1,5 @@
 -- Each plane's root is that of its places' squares.
-use Rattle.tile_root.specs.Prelude.{ap, ◌∙◌, arith, rules, now, lit<, cell}
+use Rattle.tile_root.specs.Prelude.{ap, ◌∙◌, arith, rules, lit<, cell}
 use Rattle.tile_root.specs.Lanes.{lane_black}
 use Rattle.tile_root.specs.TileRootLaws.{tile-root-cong}
 use Rattle.tile_root.proofs.Lanes.{root-of-plane}

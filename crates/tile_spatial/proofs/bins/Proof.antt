@@ -1,5 +1,5 @@
 -- The bins of the high and of the low parts, and what they make.
-use Rattle.tile_spatial.specs.Prelude.{refl, subst, sym, ◌∙◌, now, binary64, of_bits, tab, grid, TileMost}
+use Rattle.tile_spatial.specs.Prelude.{refl, subst, sym, ◌∙◌, binary64, of_bits, tab, grid, TileMost}
 use Rattle.tile_spectrum.specs.ColumnLaws.{paired-grid}
 use Rattle.tile_spatial.specs.Steps.{copy_place_most}
 use Rattle.tile_spatial.proofs.PairLaws.{in-double, places-are, places_most}

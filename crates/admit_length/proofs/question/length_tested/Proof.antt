@@ -6,19 +6,19 @@ use Rattle.admit_length.proofs.question.length_tested as of
 
 returns : of.Tie.Need-returns-in-4
 unfolding length_tested
-returns c = rw c.before.in-4.keys1 c.sample_length.ensures.0
+returns c = rw c.before.in-4.is c.sample_length.ensures.0
 
 returns-2 : of.Tie.Need-returns-in-5
 unfolding length_tested
-returns-2 c = rw c.before.in-4.keys2 c.vector_length.ensures.0
+returns-2 c = rw c.before.in-5.is c.vector_length.ensures.0
 
 returns-3 : of.Tie.Need-returns-in-6
 unfolding length_tested
-returns-3 c = rw c.before.in-4.keys3 c.output_length.ensures.0
+returns-3 c = rw c.before.in-6.is c.output_length.ensures.0
 
 returns-4 : of.Tie.Need-returns-in-7
 unfolding length_tested
-returns-4 c = rw c.before.in-4.keys4 c.work_length.ensures.0
+returns-4 c = rw c.before.in-7.is c.work_length.ensures.0
 
 returns-5 : of.Tie.Need-returns-in_default
 unfolding length_tested

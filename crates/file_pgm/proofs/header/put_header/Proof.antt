@@ -23,5 +23,5 @@ returns c =
 
 pub put_header_spec : {M : Type 1} → of.Statement.statement M
 put_header_spec = of.Tie.close (of.Tie.spec
-    (λ c. search rules) (λ c κs. search rules) (λ c κs. search rules) (λ c κs. search rules)
-    (λ c κs. search rules) (λ c. search rules) (λ c κs. search rules) (λ c. search rules) returns)
+    (λ c κs. search rules) (λ c κs. search rules) (λ c κs. search rules)
+    (λ c κs. search rules) (λ c κs. search rules) (λ c. search rules) returns)

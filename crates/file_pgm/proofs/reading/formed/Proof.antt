@@ -1,6 +1,6 @@
 -- Size, length and header, one after the other.
 use Rattle.algebra.specs.Prelude.{◌≡◌, true, sym, ◌∙◌, arith, rules, length}
-use borrow.Author.Tests.{eq-eqb, ne_eqb, not-true, not-false}
+use borrow.Author.Tests.{eq-eqb, ne_eqb}
 use Rattle.file_pgm.specs.Form.{sizes_allowed, file_length}
 use Rattle.file_pgm.specs.Reading.{formed}
 use Rattle.file_pgm.specs.FormLaws.{sized}
@@ -8,11 +8,11 @@ use Rattle.file_pgm.proofs.reading.formed as of
 
 returns : of.Tie.Need-returns-then-not-sizes_allowed
 unfolding formed
-returns c = rw (sym c.before.sizes_allowed.ensures ∙ not-true _ c.if-not-sizes_allowed.true)
+returns c = rw (sym c.before.sizes_allowed.ensures ∙ c.if-not-sizes_allowed.true)
 
 -- where the size has passed
 allowed : (c : of.Tie.Else-not-sizes_allowed) → let args = c.before.before.before.args in sizes_allowed args.width args.height ≡ true
-allowed c = sym c.before.sizes_allowed.ensures ∙ not-false _ c.if-not-sizes_allowed.false
+allowed c = sym c.before.sizes_allowed.ensures ∙ c.if-not-sizes_allowed.false
 
 returns-2 : of.Tie.Need-returns-then-bytes-file_length
 unfolding formed

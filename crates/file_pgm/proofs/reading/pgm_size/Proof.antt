@@ -1,6 +1,5 @@
 -- The size that the digits write, then the form.
 use Rattle.file_pgm.specs.Prelude.{◌≡◌, sym, ap, ap₂, ◌∙◌, ◌+◌, rules, length, drop, after, decimal, leading}
-use borrow.Author.Tests.{not-true, not-false}
 use Rattle.file_pgm.specs.Reading.{width_in, height_in, formed, accepted_pgm, pgm_answer}
 use Rattle.file_pgm.specs.Size.{form_refusal, pgm_size}
 use Rattle.file_pgm.proofs.reading.pgm_size as of
@@ -25,13 +24,13 @@ form-is c =
 
 returns : of.Tie.Need-returns-then-not-formed
 unfolding pgm_size pgm_answer form_refusal after
-returns c = c.refused.ensures ∙ rw (sym (form-is c.before.before) ∙ not-true _ c.before.if-not-formed.true)
+returns c = c.refused.ensures ∙ rw (sym (form-is c.before.before) ∙ c.before.if-not-formed.true)
 
 returns-2 : of.Tie.Need-returns
 unfolding pgm_size pgm_answer form_refusal after
 returns-2 c =
     let sized = c.before.before in
-    rw (sym (form-is c.before) ∙ not-false _ c.if-not-formed.false) (ap₂ accepted_pgm (width_is sized) (height-is sized))
+    rw (sym (form-is c.before) ∙ c.if-not-formed.false) (ap₂ accepted_pgm (width_is sized) (height-is sized))
 
 pub pgm_size_spec : {M : Type 1} → of.Statement.statement M
 pgm_size_spec = of.Tie.close (of.Tie.spec

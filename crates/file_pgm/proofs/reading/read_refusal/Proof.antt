@@ -1,6 +1,5 @@
 -- The form, then the frame's length and the samples.
 use Rattle.file_pgm.specs.Prelude.{◌≡◌, true, sym, ap, ap₂, ◌∙◌, [], ◌∷◌, arith, rules, drop, first, above_refusal, samples_of}
-use borrow.Author.Tests.{not-true, not-false}
 use Rattle.file_pgm.specs.Form.{file_length}
 use Rattle.file_pgm.specs.Reading.{formed, samples_as, refusal_as}
 use Rattle.file_pgm.specs.FormLaws.{area-most, area-whole}
@@ -9,11 +8,11 @@ use Rattle.file_pgm.proofs.reading.read_refusal as of
 
 returns : of.Tie.Need-returns-then-not-formed
 unfolding refusal_as first
-returns c = rw (sym c.before.formed.ensures ∙ not-true _ c.if-not-formed.true)
+returns c = rw (sym c.before.formed.ensures ∙ c.if-not-formed.true)
 
 -- where the form has passed
 passed : (c : of.Tie.Else-not-formed) → let args = c.before.before.before.args in formed args.width args.height args.bytes.now ≡ true
-passed c = sym c.before.formed.ensures ∙ not-false _ c.if-not-formed.false
+passed c = sym c.before.formed.ensures ∙ c.if-not-formed.false
 
 mul-length-refusal : of.Tie.Need-overflow_mul-width
 mul-length-refusal c = omega (arith, area-most (form-sized _ _ _ (passed c)))

@@ -1,6 +1,5 @@
 -- The size, then the two lengths, then the samples.
 use Rattle.file_pgm.specs.Prelude.{◌≡◌, true, not, sym, ap, ap₂, ◌∙◌, [], ◌∷◌, ◌*◌, arith, rules, length, refuse, first, length_refusal}
-use borrow.Author.Tests.{not-true, not-false}
 use Rattle.refusals.specs.Numbers.{size, wrong_output_length, byte_length}
 use Rattle.refusals.specs.TestLaws.{stops, goes, lone}
 use Rattle.file_pgm.specs.Form.{file_length, sizes_allowed}
@@ -10,11 +9,11 @@ use Rattle.file_pgm.proofs.writing.write_refusal as of
 
 returns : of.Tie.Need-returns-then-not-sizes_allowed
 unfolding write_refusal first
-returns c = rw (sym c.before.sizes_allowed.ensures ∙ not-true _ c.if-not-sizes_allowed.true)
+returns c = rw (sym c.before.sizes_allowed.ensures ∙ c.if-not-sizes_allowed.true)
 
 -- where the size has passed
 allowed : (c : of.Tie.Else-not-sizes_allowed) → let args = c.before.before.before.before.args in sizes_allowed args.width args.height ≡ true
-allowed c = sym c.before.sizes_allowed.ensures ∙ not-false _ c.if-not-sizes_allowed.false
+allowed c = sym c.before.sizes_allowed.ensures ∙ c.if-not-sizes_allowed.false
 
 mul-length-refusal : of.Tie.Need-overflow_mul-width
 mul-length-refusal c = omega (arith, area-most (sized (allowed c)))

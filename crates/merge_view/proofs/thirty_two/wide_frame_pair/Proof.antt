@@ -1,5 +1,5 @@
 -- The pair of a frame: the frame's part lies in the burst, and its view reads the burst's planes.
-use Rattle.algebra.specs.Prelude.{refl, arith, rules, to_z-of_z, now}
+use Rattle.algebra.specs.Prelude.{refl, arith, rules, to_z-of_z}
 use Rattle.geometry.specs.ShapeLaws.{frame-most}
 use Rattle.merge_view.specs.ViewLaws.{part-shaped, part_pair}
 use Rattle.merge_view.proofs.FramePart.{lent, room, small, wide, high, planar}

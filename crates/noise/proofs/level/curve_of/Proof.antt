@@ -1,6 +1,6 @@
 -- The curve of each variant.
 use borrow.Author.Rules.{rules}
-use Rattle.noise-1.proofs.level.curve_of as of
+use Rattle.noise.proofs.level.curve_of as of
 
 pub curve_of_spec : {M : Type 1} → of.Statement.statement M
 curve_of_spec = of.Tie.close (of.Tie.spec

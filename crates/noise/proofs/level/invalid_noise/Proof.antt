@@ -1,7 +1,7 @@
 -- Each answer, from the variant and what its tests ensure.
 use Rattle.algebra.specs.Prelude.{sym, ◌∙◌, rules}
-use Rattle.noise-1.specs.Levels.{invalid_noise}
-use Rattle.noise-1.proofs.level.invalid_noise as of
+use Rattle.noise.specs.Levels.{invalid_noise}
+use Rattle.noise.proofs.level.invalid_noise as of
 
 returns : of.Tie.Need-returns-then-invalid_iso
 unfolding invalid_noise

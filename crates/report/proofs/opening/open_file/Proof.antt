@@ -49,7 +49,7 @@ fits : (c : of.Tie.After-struct_known-in-Found-2-1) →
 fits c = omega (arith, headed-few (accepted c.before.before.before.before.before.before))
 
 mul-end : of.Tie.Need-overflow_mul-end
-mul-end c = search (needs, headed-few (accepted c.before.before.before.before.before.before))
+mul-end c = search (rules, headed-few (accepted c.before.before.before.before.before.before))
 
 slice-aggregate-read-file : of.Tie.Need-slice_bounds-read_file-end-in-Found
 slice-aggregate-read-file c = sym (length-take-le _ _ (fits c.before))

@@ -17,5 +17,5 @@ returns c =
 
 pub put_merged_spec : {M : Type 1} → of.Statement.statement M
 put_merged_spec = of.Tie.close (of.Tie.spec
-    (λ c κs. search rules) (λ c. search rules) (λ c κs. search rules) (λ c κs. search rules)
+    (λ c κs. search rules) (λ c κs. search rules) (λ c κs. search rules)
     (λ c. search rules) returns)

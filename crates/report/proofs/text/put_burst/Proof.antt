@@ -1,12 +1,12 @@
 -- `report::text::put_burst`: each program prints its own text.
 use borrow.Author.Rules.{rules}
-use Rattle.report.proofs.text-1.put_burst as of
+use Rattle.report.proofs.text.put_burst as of
 
 returns : of.Tie.Need-returns-in-Motion
-returns c = rw c.before.before.before.before.enum_told-1.given.1 c.before.before.put_motion.ensures
+returns c = rw c.before.before.before.before.in-Motion.is c.before.before.put_motion.ensures
 
 returns-2 : of.Tie.Need-returns-in-Stack
-returns-2 c = rw c.before.before.before.before.enum_told-in-Stack-1.given.1 c.before.before.put_stack.ensures
+returns-2 c = rw c.before.before.before.before.in-Stack.is c.before.before.put_stack.ensures
 
 pub put_burst_spec : {M : Type 1} → of.Statement.statement M
 put_burst_spec = of.Tie.close (of.Tie.spec

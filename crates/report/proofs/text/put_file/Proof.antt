@@ -4,7 +4,7 @@ use lib.Seq.{length-take-le}
 use Rattle.report.specs.declared.opening.Opened.{Opened}
 use Rattle.report.specs.declared.opening.Opened.TheVariants.{TooLarge, Refused, Taken}
 use Rattle.report.specs.Inner.{Opens, printed_by}
-use Rattle.report.proofs.text-1.put_file as of
+use Rattle.report.proofs.text.put_file as of
 
 -- what the program prints for a burst
 abbrev printer : of.Tie.After-open_file → FileBurst → List ℕ
@@ -33,7 +33,7 @@ put-burst-requires c κs = ((held c.before.before.before.before.before).taken, o
 returns : of.Tie.Need-returns-in-TooLarge
 returns c =
     let at = c.before.before.before.before in
-    rw (sym (told at.before.before.before.before TooLarge at.enum_told-1.given.1 (printer at.before.before.before.before))) at c.before.before.put_too_large.ensures.0
+    rw (sym (told at.before.before.before.before TooLarge at.in-TooLarge.is (printer at.before.before.before.before))) at c.before.before.put_too_large.ensures.0
 
 returns-2 : of.Tie.Need-returns-in-Refused
 returns-2 c =

@@ -5,7 +5,7 @@ use lib.Seq.{length-take-le}
 use Rattle.report.specs.Program.{file_most}
 use Rattle.report.specs.Inner.{printed_by}
 use Rattle.report.proofs.Files.{long-text}
-use Rattle.report.proofs.text-1.put_text as of
+use Rattle.report.proofs.text.put_text as of
 
 inside : {l a r : List ℕ} {i : ℕ} → Printed l 0 a r i → i ≤ length l
 unfolding put

@@ -11,7 +11,7 @@ returns : of.Tie.Need-returns-in-Found
 returns c = let l = c.before.before.before in ap (levelled l.before) (sym c.before.shot-1.given.1 ∙ l.levels_of.ensures)
 
 returns-2 : of.Tie.Need-returns-in-Refused
-returns-2 c = let l = c.before.before in ap (levelled l.before) (sym c.enum_told-1.given.1 ∙ l.levels_of.ensures)
+returns-2 c = let l = c.before.before in ap (levelled l.before) (sym c.in-Found.is ∙ l.levels_of.ensures)
 
 pub merge_of_spec : {M : Type 1} → of.Statement.statement M
 merge_of_spec = of.Tie.close (of.Tie.spec (λ c κs. search rules) (λ c. search rules) (λ c. search rules) returns returns-2)

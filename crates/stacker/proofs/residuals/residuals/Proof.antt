@@ -3,7 +3,7 @@ use Rattle.algebra.specs.Prelude.{sym, ◌∙◌, rules}
 use Rattle.sequences.specs.ClearLaws.{zeros-length}
 use Rattle.refusals.specs.AfterLaws.{kept, made}
 use Rattle.stacker.specs.ResidualLaws.{residual-passed}
-use Rattle.stacker.proofs.residuals-1.residuals-1 as of
+use Rattle.stacker.proofs.residuals.residuals as of
 
 returns : of.Tie.Need-returns-then-refusal-ne0
 returns c =

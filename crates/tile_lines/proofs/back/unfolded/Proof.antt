@@ -5,5 +5,5 @@ use Rattle.tile_lines.proofs.back.unfolded as of
 
 pub unfolded_spec : {M : Type 1} → of.Statement.statement M
 unfolded_spec = of.Tie.close (of.Tie.spec
-    (λ c. search rules) (λ c. search rules) (λ c. search rules) (λ c. search rules) (λ c. search (needs, lt-ltb))
-    (λ c. search rules) (λ c. search rules) (λ c. search rules) (λ c. search rules) (λ c. search (needs, le-ltb)))
+    (λ c. search rules) (λ c. search rules) (λ c. search rules) (λ c. search rules) (λ c. search (rules, lt-ltb))
+    (λ c. search rules) (λ c. search rules) (λ c. search rules) (λ c. search rules) (λ c. search (rules, le-ltb)))

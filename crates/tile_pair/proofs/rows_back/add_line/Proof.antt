@@ -1,5 +1,5 @@
 -- `tile_pair::rows_back::add_line`: the halves, and P of them.
-use Rattle.tile_pair.specs.Prelude.{◌∙◌, true, false, rules, lit≤, now, side16}
+use Rattle.tile_pair.specs.Prelude.{◌∙◌, true, false, rules, lit≤, side16}
 use Rattle.tile_spectrum.specs.Lines.BackSizes.{half-sum-most}
 use Rattle.tile_spectrum.specs.AddingLaws.{away-added}
 use Rattle.tile_spectrum.specs.HalvesLaws.{halves_row, halves_most}

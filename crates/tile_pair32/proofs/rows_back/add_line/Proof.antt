@@ -1,5 +1,5 @@
 -- `tile_pair32::rows_back::add_line`: the halves, and P of them.
-use Rattle.tile_pair32.specs.Prelude.{refl, ◌∙◌, true, false, rules, lit≤, now, side32}
+use Rattle.tile_pair32.specs.Prelude.{refl, ◌∙◌, true, false, rules, lit≤, side32}
 use Rattle.tile_spectrum.specs.Lines.BackSizes.{long-half-sum-most}
 use Rattle.tile_spectrum.specs.AddingLaws.{away-added}
 use Rattle.tile_spectrum.specs.HalvesLaws.{halves_row, halves_most}

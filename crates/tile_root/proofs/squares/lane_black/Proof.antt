@@ -6,11 +6,11 @@ use Rattle.tile_root.proofs.squares.lane_black as of
 
 returns : of.Tie.Need-returns-then-l-eq0
 unfolding lane_black
-returns c = search (needs, eq-eqb)
+returns c = search (rules, eq-eqb)
 
 returns-2 : of.Tie.Need-returns
 unfolding lane_black
-returns-2 c = search (needs, ne_eqb)
+returns-2 c = search (rules, ne_eqb)
 
 pub lane_black_spec : {M : Type 1} → of.Statement.statement M
 lane_black_spec = of.Tie.close (of.Tie.spec returns returns-2)

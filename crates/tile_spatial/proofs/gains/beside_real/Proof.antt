@@ -1,5 +1,5 @@
 -- Nothing beside columns 0 and 8, and else a line.
-use Rattle.tile_spatial.specs.Prelude.{◌≡◌, sym, ap, ◌∙◌, arith, rules, ◌+◌, ◌*◌, ◌/◌, ◌%◌, pos, w64, now, cell, real_of}
+use Rattle.tile_spatial.specs.Prelude.{◌≡◌, sym, ap, ◌∙◌, arith, rules, ◌+◌, ◌*◌, ◌/◌, ◌%◌, pos, w64, cell, real_of}
 use Prim.Native.Nat.{zero-le}
 use Rattle.tile_spectrum.specs.Lines.Held.{number_is, number-most}
 use Rattle.tile_spatial.specs.Steps.{lines_in}

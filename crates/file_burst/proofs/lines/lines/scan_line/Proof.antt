@@ -27,7 +27,7 @@ stepped c scan e =
 returns : of.Tie.Need-returns-in-Bad invariant-loop-left decreases-loop-left
 returns c =
     let at = c.before.before.before in
-    ap (line_in at.before.before.before.before.args.file.now) c.malformed.ensures ∙ stepped at Bad c.before.enum_told-1.given.1
+    ap (line_in at.before.before.before.before.args.file.now) c.malformed.ensures ∙ stepped at Bad c.before.in-Bad.is
 
 returns-2 : of.Tie.Need-returns-in-Last invariant-loop-left decreases-loop-left
 returns-2 c =

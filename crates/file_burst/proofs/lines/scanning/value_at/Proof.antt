@@ -27,7 +27,7 @@ returns-2 c =
 
 returns-3 : of.Tie.Need-returns-in-Bad
 returns-3 c =
-    let t = told c.before.before Bad c.enum_told-1.given.1 in
+    let t = told c.before.before Bad c.in-Last.is in
     (ap value_in t, drop-length c.before.before.before.before.args.file.now ∙ ap rest_in t)
 
 pub value_at_spec : {M : Type 1} → of.Statement.statement M

@@ -6,5 +6,5 @@ pub hit_spec : {M : Type 1} → of.Statement.statement M
 hit_spec = of.Tie.close (of.Tie.spec
     (λ c. search rules) (λ c κs. search rules) (λ c. search rules) (λ c κs. search rules)
     (λ c. search rules) (λ c κs. search rules) (λ c. search rules) (λ c κs. search rules)
-    (λ c. rw c.before.enum_told-1.given.1 c.value_outside.ensures) (λ c. rw c.before.enum_told-in-NotOnce-1.given.1 c.not_once.ensures)
-    (λ c. rw c.before.enum_told-in-Absent-1.given.1 c.absent.ensures) (λ c. rw c.before.enum_told-in-Missed-1.given.1 c.demand_missed.ensures))
+    (λ c. rw c.before.in-Outside.is c.value_outside.ensures) (λ c. rw c.before.in-NotOnce.is c.not_once.ensures)
+    (λ c. rw c.before.in-Absent.is c.absent.ensures) (λ c. rw c.before.in-Missed.is c.demand_missed.ensures))

@@ -6,19 +6,19 @@ use Rattle.file_dng.proofs.tiff.fields.size_of as of
 
 returns : of.Tie.Need-returns-in-1
 unfolding size_of
-returns c = (rw c.in-1.keys1, omega arith)
+returns c = (rw c.in-1.is, omega arith)
 
 returns-2 : of.Tie.Need-returns-in-3
 unfolding size_of
-returns-2 c = (rw c.in-1.keys2, omega arith)
+returns-2 c = (rw c.in-3.is, omega arith)
 
 returns-3 : of.Tie.Need-returns-in-4
 unfolding size_of
-returns-3 c = (rw c.in-1.keys3, omega arith)
+returns-3 c = (rw c.in-4.is, omega arith)
 
 returns-4 : of.Tie.Need-returns-in-12
 unfolding size_of
-returns-4 c = (rw c.in-1.keys4, omega arith)
+returns-4 c = (rw c.in-12.is, omega arith)
 
 returns-5 : of.Tie.Need-returns-in_default
 unfolding size_of
