@@ -20,7 +20,7 @@ returns c =
     sym (block-above start.samples.now start.start start.width c.before.before.before.loop-column.column (omega arith) (omega arith))
 
 loop-again : of.Tie.Need-loop-column-preserved invariant-loop-column decreases-loop-column
-loop-again c = let turn = c.before.before.before.loop-column in (block-passed _ _ _ turn.column (omega arith) (omega arith) turn.inv.0, omega arith)
+loop-again c = let turn = c.before.before.before.loop-column in (block-passed _ _ _ turn.column (omega arith) (omega arith) turn.invariant.0, omega arith)
 
 returns-2 : of.Tie.Need-returns invariant-loop-column decreases-loop-column
 returns-2 c = sym (row-passed _ _ _ c.before.loop-column.invariant.0 c.loop-column-test.false)

@@ -15,7 +15,7 @@ abbrev decreases-loop-k : of.Tie.decreases-loop-k
 decreases-loop-k work₀ area side level coarse to rows columns samples₀ window₀ other₀ summed₀ k₀ k-end work samples window other summed k = rows * columns - k
 
 -- what the turn finds in the work area as it is
-kept : (c : of.Tie.In-loop-k invariant-loop-k decreases-loop-k) → Kept c.before.before.args.work-1.now c.before.before.args.to c.before.loop-k.work-1
+kept : (c : of.Tie.In-loop-k invariant-loop-k decreases-loop-k) → Kept c.before.before.args.work.now c.before.before.args.to c.before.loop-k.work
 kept c = writing-kept c.before.loop-k.invariant.0.writing
 
 add-summed : of.Tie.Need-overflow_add-summed invariant-loop-k decreases-loop-k

@@ -17,7 +17,7 @@ sum-requires c κs = let s = c.before.before.before.before in (within_more (2 ^ 
 copy-square-requires : of.Tie.Need-copy_square-requires
 copy-square-requires c κs = let s = c.before.before.before.before.before.before in
     let h = s.requires.ready in
-    record { source = h.stored.other-1; near = rw c.before.sum.ensures (within_more (2 ^ 20) (plus-within h.placed.near s.requires.near) (lit≤ tt)); small = omega (arith, h.placed.small); eights = h.placed.eights; room = s.requires.room }
+    record { source = h.stored.other; near = rw c.before.sum.ensures (within_more (2 ^ 20) (plus-within h.placed.near s.requires.near) (lit≤ tt)); small = omega (arith, h.placed.small); eights = h.placed.eights; room = s.requires.room }
 
 square-sum-requires : of.Tie.Need-square_sum-requires
 unfolding pair_in
@@ -25,7 +25,7 @@ square-sum-requires c κs = let s = c.before.before.before.before.before.before.
     let h = s.requires.ready in
     record {
       sided = s.requires.sided;
-      compared = record { tile_low = copied-low h.stored.reference h.room h.copied; window_low = low-less (copied-low h.stored.other-1 (omega (arith, s.requires.room)) c.before.before.before.copy_square.ensures) _ (whole s.requires.sided) };
+      compared = record { tile_low = copied-low h.stored.reference h.room h.copied; window_low = low-less (copied-low h.stored.other (omega (arith, s.requires.room)) c.before.before.before.copy_square.ensures) _ (whole s.requires.sided) };
       close = omega (arith, h.placed.small);
     }
 

@@ -5,7 +5,7 @@ use Rattle.align_tile.specs.Stored.{pair_in}
 use Rattle.align_tile.proofs.copy_window as of
 
 -- the window's corner
-corner : (c : of.Tie.After-sum-corner) → let a = c.before.before.before.before.before.args in c.sum-corner.result ≡ a.tile.origin-1 plus a.guess plus record { down = negsuc 3; right = negsuc 3 }
+corner : (c : of.Tie.After-sum-corner) → let a = c.before.before.before.before.before.args in c.sum-corner.result ≡ a.tile.origin plus a.guess plus record { down = negsuc 3; right = negsuc 3 }
 corner c = c.sum-corner.ensures ∙ ap (λ v. v plus record { down = negsuc 3; right = negsuc 3 }) c.before.sum.ensures
 
 sum-requires-2 : of.Tie.Need-sum-corner-requires

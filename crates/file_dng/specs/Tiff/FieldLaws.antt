@@ -59,6 +59,7 @@ module _ (file : List ℕ) (wanted : Wanted) where
   -- a field has a size exactly where there is a right entry
   pub has-size : Sized wanted → (es : List Entry) → HasRight wanted es → (first_field file wanted es).size ≡ 0 → ⊥
   unfolding first_field
+  has-size sized [] x'' z = elim x'' [ ]
   has-size sized (entry ∷ others) (here e) z = right-sized sized entry e (rw e at z)
   has-size sized (entry ∷ others) (there h) z = from (has-size sized others h) (right wanted entry) refl z
     where

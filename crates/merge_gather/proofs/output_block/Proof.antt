@@ -6,7 +6,7 @@ use Rattle.merge_gather.proofs.Weighing.{part_room, wide_is}
 use Rattle.merge_gather.proofs.Blocks.{part-turn}
 use Rattle.merge_gather.proofs.output_block as of
 
-ready : (s : of.Tie.Start) (n : ℕ) → n ≡ length (now s.args.output-1) → BlockReady s.args.span s.args.by (length (now s.args.samples)) n (now s.args.work) (now s.args.lower) (now s.args.upper)
+ready : (s : of.Tie.Start) (n : ℕ) → n ≡ length (now s.args.output) → BlockReady s.args.span s.args.by (length (now s.args.samples)) n (now s.args.work) (now s.args.lower) (now s.args.upper)
 ready s n same = record { weighed = s.requires.weighed; divided = s.requires.divided; samples_room = s.requires.samples_room; output_room = omega (arith, s.requires.output_room, same) }
 
 output-part-requires : of.Tie.Need-output_part-requires

@@ -36,7 +36,7 @@ returns c =
     let q = c.before.before.before.before.before in
     let p = q.before.before.before.before.before.before.before.before.before in
     let s = p.before.before.before.before.before.before.before in
-    let high = s.requires.accepted.burst.allowed.high-1 in
+    let high = s.requires.accepted.burst.allowed.high in
     record {
       low_is = by_side s low_sample (frame-whole low_sample _ _ high s.requires.low_long p.range_parity.ensures.lows q.range_parity-2.ensures.lows);
       high_is = by_side s high_sample (frame-whole high_sample _ _ high s.requires.high_long p.range_parity.ensures.highs q.range_parity-2.ensures.highs);

@@ -13,26 +13,26 @@ use Rattle.align_burst.proofs.frame.coarse_levels as of
 base-is : (c : of.Tie.After-offset-base) → 2 * c.offset-base.result ≡ 2 * pyramid_length c.before.args.shape
 base-is c = ap (λ n. 2 * n) c.offset-base.ensures.0
 
-third-is : (c : of.Tie.After-lay_level-third) → c.lay_level-third.result.grid-1 ≡ site3 c.before.before.before.args.shape
+third-is : (c : of.Tie.After-lay_level-third) → c.lay_level-third.result.grid ≡ site3 c.before.before.before.args.shape
 third-is c = c.lay_level-third.ensures.grid_is ∙ ap (grid_at c.before.before.before.args.shape 3) (base-is c.before.before)
 
-third : (c : of.Tie.After-lay_level-third) → let a = c.before.before.before.args in Reached a.work-1.now (2 * pyramid_length a.shape) c.lay_level-third.result.grid-1 (field3 (pairs_in a.shape a.work-1.now)) c.lay_level-third.new.1.0
+third : (c : of.Tie.After-lay_level-third) → let a = c.before.before.before.args in Reached a.work-1.now (2 * pyramid_length a.shape) c.lay_level-third.result.grid (field3 (pairs_in a.shape a.work-1.now)) c.lay_level-third.new.1.0
 third c =
     let s = c.before.before.before.requires in
-    reached3 s c.lay_level-third.result.grid-1 (third-is c) (rw (base-is c.before.before) at c.lay_level-third.ensures.laid.vectors)
+    reached3 s c.lay_level-third.result.grid (third-is c) (rw (base-is c.before.before) at c.lay_level-third.ensures.laid.vectors)
 
 -- level 2
 behind-third : (c : of.Tie.After-after) → c.after.result ≡ after (site3 c.before.before.before.before.before.before.before.args.shape)
 behind-third c = c.after.ensures ∙ ap after (third-is c.before.before.before.before)
 
-second_is : (c : of.Tie.After-lay_level-second) → c.lay_level-second.result.grid-1 ≡ site2 c.before.before.before.before.before.before.before.before.args.shape
+second_is : (c : of.Tie.After-lay_level-second) → c.lay_level-second.result.grid ≡ site2 c.before.before.before.before.before.before.before.before.args.shape
 second_is c = c.lay_level-second.ensures.grid_is ∙ ap (grid_at c.before.before.before.before.before.before.before.before.args.shape 2) (behind-third c.before)
 
-second : (c : of.Tie.After-lay_level-second) → let a = c.before.before.before.before.before.before.before.before.args in Reached a.work-1.now (2 * pyramid_length a.shape) c.lay_level-second.result.grid-1 (field2 (pairs_in a.shape a.work-1.now)) c.lay_level-second.new.1.0
+second : (c : of.Tie.After-lay_level-second) → let a = c.before.before.before.before.before.before.before.before.args in Reached a.work-1.now (2 * pyramid_length a.shape) c.lay_level-second.result.grid (field2 (pairs_in a.shape a.work-1.now)) c.lay_level-second.new.1.0
 second c =
     let t = c.before.before.before.before.before in
     let s = t.before.before.before.requires in
-    reached2 s t.lay_level-third.result.grid-1 c.lay_level-second.result.grid-1 (third t) (third-is t) (second_is c) (rw (behind-third c.before) at c.lay_level-second.ensures.laid.vectors)
+    reached2 s t.lay_level-third.result.grid c.lay_level-second.result.grid (third t) (third-is t) (second_is c) (rw (behind-third c.before) at c.lay_level-second.ensures.laid.vectors)
 
 -- level 1
 behind-second : (c : of.Tie.After-after-2) → c.after-2.result ≡ after (site2 c.before.before.before.before.before.before.before.before.before.before.before.before.args.shape)
@@ -95,12 +95,12 @@ returns c = let n = c.before.before.before.before.before in
     let e = n.lay_level-first.ensures.grid_is in
     let first_is = e ∙ ap (grid_at shape 1) (behind-second n.before) in
     record {
-      reached = reached1 s.requires m.lay_level-second.result.grid-1 n.lay_level-first.result.grid-1 (second m) (second_is m) first_is (rw (behind-second n.before) at n.lay_level-first.ensures.laid.vectors);
+      reached = reached1 s.requires m.lay_level-second.result.grid n.lay_level-first.result.grid (second m) (second_is m) first_is (rw (behind-second n.before) at n.lay_level-first.ensures.laid.vectors);
       grid_is = e ∙ ap (grid_at shape 1) (sym (ap (λ g. g.at) e));
       rows_are = ap₂ ◌+◌
-          (ap₂ ◌+◌ (t.lay_level-third.ensures.laid.rows_are ∙ counted3 s.requires t.lay_level-third.result.grid-1 (third-is t))
-          (m.lay_level-second.ensures.laid.rows_are ∙ counted2 s.requires t.lay_level-third.result.grid-1 m.lay_level-second.result.grid-1 (third t) (third-is t) (second_is m)))
-          (n.lay_level-first.ensures.laid.rows_are ∙ counted1 s.requires m.lay_level-second.result.grid-1 n.lay_level-first.result.grid-1 (second m) (second_is m) first_is);
+          (ap₂ ◌+◌ (t.lay_level-third.ensures.laid.rows_are ∙ counted3 s.requires t.lay_level-third.result.grid (third-is t))
+          (m.lay_level-second.ensures.laid.rows_are ∙ counted2 s.requires t.lay_level-third.result.grid m.lay_level-second.result.grid (third t) (third-is t) (second_is m)))
+          (n.lay_level-first.ensures.laid.rows_are ∙ counted1 s.requires m.lay_level-second.result.grid n.lay_level-first.result.grid (second m) (second_is m) first_is);
       few = omega (arith, t.lay_level-third.ensures.laid.few, m.lay_level-second.ensures.laid.few, n.lay_level-first.ensures.laid.few);
     }
 

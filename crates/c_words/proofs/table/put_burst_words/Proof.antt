@@ -8,7 +8,7 @@ use Rattle.c_words.proofs.table.put_burst_words as of
 -- the last number is the one that is left
 last : (c : of.Tie.After-put_bytes-in_default) → c.before.before.before.before.before.args.number ≡ 7
 last c =
-    let none = c.before.before.before.in-0.rest in
+    let none = c.before.before.before.in_default.in_default-own.rest in
     let start = c.before.before.before.before.before in
     let least : 7 ≤ start.args.number = past (past (past (past (past (past (past (zero-le) none.0.0.0.0.0.0.1) none.0.0.0.0.0.1) none.0.0.0.0.1) none.0.0.0.1) none.0.0.1) none.0.1) none.1 in
     omega arith

@@ -7,7 +7,7 @@ use Rattle.c_words.proofs.table.put_value_words as of
 -- the last number is the one that is left
 last : (c : of.Tie.After-put_bytes-in_default) → c.before.before.before.before.before.args.number ≡ 17
 last c =
-    let none = c.before.before.before.in-8.rest in
+    let none = c.before.before.before.in_default.in_default-own.rest in
     let start = c.before.before.before.before.before in
     let least : 17 ≤ start.args.number = past (past (past (past (past (past (past (past (past start.requires.1.0 none.0.0.0.0.0.0.0.0.1) none.0.0.0.0.0.0.0.1) none.0.0.0.0.0.0.1) none.0.0.0.0.0.1) none.0.0.0.0.1) none.0.0.0.1) none.0.0.1) none.0.1) none.1 in
     omega arith

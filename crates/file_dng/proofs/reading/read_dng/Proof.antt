@@ -36,7 +36,7 @@ strip-fits c =
 
 framed : (c : of.Tie.After-output_length-area) →
     let start = c.before.before.before.before.before.before.before.before in
-    FrameFits start.args.shape start.args.frame (length start.args.samples-1.now)
+    FrameFits start.args.shape start.args.frame (length start.args.samples.now)
 framed c = let tested = c.before.before in frame-fits _ _ _ (sym tested.before.room_refusal-framed.ensures ∙ tested.if-framed-ne0.false)
 
 -- in blocks of 64
@@ -56,7 +56,7 @@ strip-number c = c.strip_refusal-filled.ensures ∙ rw (c.before.before.strip_st
 number : (c : of.Tie.After-strip_refusal-filled) →
     let start = c.before.before.before.before.before.before.before.before.before in
     let file = start.args.file.now in
-    c.strip_refusal-filled.result ≡ dng_refusal file (entries file) start.args.shape start.args.frame (length start.args.samples-1.now)
+    c.strip_refusal-filled.result ≡ dng_refusal file (entries file) start.args.shape start.args.frame (length start.args.samples.now)
 unfolding dng_refusal
 number c =
     let framed = c.before.before.before in

@@ -21,7 +21,7 @@ loop-again : of.Tie.Need-loop-i-preserved invariant-loop-i decreases-loop-i
 loop-again c =
     let turn = c.before.before.before.loop-i in
     let args = c.before.before.before.before.before.args in
-    (strip-passed _ _ args.count turn.inv.0 (omega arith) (block _ args.start args.count turn.i ∙ c.before.word_bits.ensures ∙ le-ltb 4095 c.before.word_bits.result c.if-word_bits-gt-SAMPLE_MOST.false), omega arith)
+    (strip-passed _ _ args.count turn.invariant.0 (omega arith) (block _ args.start args.count turn.i ∙ c.before.word_bits.ensures ∙ le-ltb 4095 c.before.word_bits.result c.if-word_bits-gt-SAMPLE_MOST.false), omega arith)
 
 returns-2 : of.Tie.Need-returns invariant-loop-i decreases-loop-i
 returns-2 c = strip-accepted _ _ _ c.before.loop-i.invariant.0 c.loop-i-test.false

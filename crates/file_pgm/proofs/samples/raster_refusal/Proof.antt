@@ -47,8 +47,8 @@ loop-again : of.Tie.Need-loop-i-preserved invariant-loop-i decreases-loop-i
 loop-again c =
     let turn = c.before.before.before.loop-i in
     record {
-      passed = pass-turns turn.inv.passed 64 (omega arith) (block c.before ∙ le-ltb 15 c.before.high_bits.result c.if-high_bits-gt15.false);
-      long = turn.inv.long;
+      passed = pass-turns turn.invariant.passed 64 (omega arith) (block c.before ∙ le-ltb 15 c.before.high_bits.result c.if-high_bits-gt15.false);
+      long = turn.invariant.long;
       whole = omega arith;
     }
 

@@ -19,8 +19,8 @@ module _ (c : of.Tie.Start) {n : ℕ} (e : c.args.m.shape.side ≡ n) where
   row_at : c.args.row ≤ c.args.m.shape.height / n
   row_at = subst (λ n. c.args.row ≤ c.args.m.shape.height / n) e c.requires.row-most
 
-  room_at : 2 * row_words n c.args.m.shape.width ≤ length (now c.args.work-1)
-  room_at = subst (λ n. 2 * row_words n c.args.m.shape.width ≤ length (now c.args.work-1)) e c.requires.room
+  room_at : 2 * row_words n c.args.m.shape.width ≤ length (now c.args.work)
+  room_at = subst (λ n. 2 * row_words n c.args.m.shape.width ≤ length (now c.args.work)) e c.requires.room
 
 correction-row-requires : of.Tie.Need-correction_row-requires
 correction-row-requires c κs =

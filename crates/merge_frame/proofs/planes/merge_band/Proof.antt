@@ -13,17 +13,17 @@ add-first : of.Tie.Need-overflow_add-band invariant-loop-i decreases-loop-i
 add-first c =
     let s = c.before.before in
     let ok = s.requires.accepted.burst in
-    omega (arith, band-most ok.sided s.args.m.shape-1.height s.args.band ok.allowed.high.most s.requires.band_below)
+    omega (arith, band-most ok.sided s.args.m.shape.height s.args.band ok.allowed.high.most s.requires.band_below)
 
 mul-top : of.Tie.Need-overflow_mul-top invariant-loop-i decreases-loop-i
 mul-top c =
     let s = c.before.before.before.before.before.before.before.before in
     let ok = s.requires.accepted.burst in
-    omega (arith, top-most ok.sided s.args.m.shape-1.height s.args.first s.args.band ok.allowed.high.most s.requires.from_first s.requires.band_below)
+    omega (arith, top-most ok.sided s.args.m.shape.height s.args.first s.args.band ok.allowed.high.most s.requires.from_first s.requires.band_below)
 
 -- half a side times the band
-halves : (s : of.Tie.Start invariant-loop-i decreases-loop-i) → s.args.m.shape-1.side / 2 * s.args.band ≤ 4096
-halves s = let ok = s.requires.accepted.burst in half-most ok.sided s.args.m.shape-1.height s.args.band ok.allowed.high.most s.requires.band_below
+halves : (s : of.Tie.Start invariant-loop-i decreases-loop-i) → s.args.m.shape.side / 2 * s.args.band ≤ 4096
+halves s = let ok = s.requires.accepted.burst in half-most ok.sided s.args.m.shape.height s.args.band ok.allowed.high.most s.requires.band_below
 
 loop-holds : of.Tie.Need-loop-i-init invariant-loop-i decreases-loop-i
 loop-holds c =

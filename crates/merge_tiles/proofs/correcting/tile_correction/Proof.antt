@@ -97,10 +97,10 @@ returns-2 c =
     let s = t.before.before.before.before in
     let a = s.args in
     let k = tuned s.requires.accepted in
-    let range : (root : ℕ) → root ≤ 65520 → SpatialRange a.m.tuning.spatial a.m.shot a.m.read root a.m.shape-1.count =
+    let range : (root : ℕ) → root ≤ 65520 → SpatialRange a.m.tuning.spatial a.m.shot a.m.read root a.m.shape.count =
     λ root h. record { strength = k.spatial-most; shot = k.shot_most; read = k.read_most; root = h; some = k.some; few = k.few } in
     taken-on a.m (now a.samples) (now a.vectors) a.site _ _ r.pair_roots-roots.result.first r.pair_roots-roots.result.second k.some k.few (tile_is t) u.summed.ensures (roots-known n)
-    (both (λ p. SpatialRange a.m.tuning.spatial a.m.shot a.m.read (roots_of n p) a.m.shape-1.count) (range _ r.pair_roots-roots.ensures.first_most) (range _ r.pair_roots-roots.ensures.second_most))
+    (both (λ p. SpatialRange a.m.tuning.spatial a.m.shot a.m.read (roots_of n p) a.m.shape.count) (range _ r.pair_roots-roots.ensures.first_most) (range _ r.pair_roots-roots.ensures.second_most))
     c.filter_sums.ensures
 
 pub tile_correction_spec : {M : Type 1} → of.Statement.statement M

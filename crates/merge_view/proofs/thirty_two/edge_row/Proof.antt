@@ -15,7 +15,7 @@ column c =
 edge-pair-requires-2 : of.Tie.Need-edge_pair-right-requires
 edge-pair-requires-2 c κs =
     let s = c.before.before.before in
-    record { wide = s.requires.wide; most = s.requires.most; room = s.requires.room; near = subst Near (sym (column c)) s.requires.right-1 }
+    record { wide = s.requires.wide; most = s.requires.most; room = s.requires.room; near = subst Near (sym (column c)) s.requires.right }
 
 put-requires-2 : of.Tie.Need-put-requires-2
 put-requires-2 c κs = (omega arith, ap length c.before.before.put.ensures ∙ written-length _ 0 _ 32 0 (omega arith))

@@ -13,7 +13,7 @@ decreases-loop-i m samples vectors parity band low₀ high₀ work shape i₀ lo
 
 -- the band's number
 band-most : (s : of.Tie.Start invariant-loop-i decreases-loop-i) → s.args.band < 256
-band-most s = omega (arith, s.requires.band_below, s.requires.lent.accepted.burst.allowed.high-1.most)
+band-most s = omega (arith, s.requires.band_below, s.requires.lent.accepted.burst.allowed.high.most)
 
 end-row-requires : of.Tie.Need-end_row-requires invariant-loop-i decreases-loop-i
 end-row-requires c κs =
@@ -78,7 +78,7 @@ returns c =
     let under = ends_held r.End-row.ensures s.requires.lent.room in
     let all : 8 * a.band + l.loop-i.i ≡ 8 * a.band + 8 = omega (arith, l.loop-i.invariant.count) in
     record {
-      rows = subst (λ n. at_noises RowsRanged a.m a.upper (now a.samples) (now a.vectors) a.parity (8 * a.band) n (now a.low-1) l.loop-i.low-1 (now a.high-1) l.loop-i.high-1) all
+      rows = subst (λ n. at_noises RowsRanged a.m a.upper (now a.samples) (now a.vectors) a.parity (8 * a.band) n (now a.low-1) l.loop-i.low (now a.high-1) l.loop-i.high) all
           (l.loop-i.invariant.rows a.upper (ends-kept r.End-row.ensures s.requires.held) under);
       held = under;
     }

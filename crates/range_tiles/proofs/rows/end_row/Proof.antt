@@ -38,13 +38,13 @@ module _ (l : of.Tie.At-loop-column invariant-loop-column decreases-loop-column)
   unfolding row_words
   width_of = omega arith
 
-  first-in : l.before.before.before.before.slot-start.result + 512 * (l.before.before.before.before.before.before.args.m.shape.width / 16) ≤ length l.loop-column.work-1
+  first-in : l.before.before.before.before.slot-start.result + 512 * (l.before.before.before.before.before.before.args.m.shape.width / 16) ≤ length l.loop-column.work
   unfolding scene_at
   first-in =
       let s = l.before.before.before.before.before.before in
       omega (arith, l.before.before.before.before.slot-start.ensures.in_area_lem, width_of, s.requires.room, l.loop-column.invariant.toward.same)
 
-  second-in : l.before.before.before.least_slot-second.result + 512 * (l.before.before.before.before.before.before.args.m.shape.width / 16) ≤ length l.loop-column.work-1
+  second-in : l.before.before.before.least_slot-second.result + 512 * (l.before.before.before.before.before.before.args.m.shape.width / 16) ≤ length l.loop-column.work
   unfolding scene_at
   second-in =
       let s = l.before.before.before.before.before.before in

@@ -11,16 +11,16 @@ align-frames-requires : of.Tie.Need-align_frames-totals-requires
 align-frames-requires c κs =
     let start = c.before.before.before.before.before in
     let taken = start.requires.taken in
-    record { fits = align_fits taken (length-take-le _ start.args.vectors-1.now (omega (arith, taken.allowed.few))) start.requires.work-room; samples_fit = values-samples _ taken.small }
+    record { fits = align_fits taken (length-take-le _ start.args.vectors.now (omega (arith, taken.allowed.few))) start.requires.work-room; samples_fit = values-samples _ taken.small }
 
 returns : of.Tie.Need-returns
 returns c =
     let s = c.before.before.before in
     let start = c.before.before.before.before.before.before.before.before.before in
     let aligned = s.align_frames-totals.ensures in
-    let n = vector_room (start.args.header.shape-1.count - 1) in
-    let fits : n ≤ length start.args.vectors-1.now = omega (arith, start.requires.taken.allowed.few) in
-    let vectors = start.args.vectors-1.now in
+    let n = vector_room (start.args.header.shape.count - 1) in
+    let fits : n ≤ length start.args.vectors.now = omega (arith, start.requires.taken.allowed.few) in
+    let vectors = start.args.vectors.now in
     let whole = length-take-le n vectors fits in
     let part = s.align_frames-totals.new.1.1.1.0 in
     let same : length part ≡ n = omega (arith, whole) in

@@ -31,7 +31,7 @@ put-frames-requires c κs =
     let aligned = named.before.before.before.before in
     let start = aligned.before.before.before.before.before in
     let few = start.requires.taken.allowed.few in
-    let whole = length-take-le (vector_room (start.args.header.shape-1.count - 1)) aligned.align_burst-residuals.new.1.1.0 (omega (arith, aligned.align_burst-residuals.ensures.same, few)) in
+    let whole = length-take-le (vector_room (start.args.header.shape.count - 1)) aligned.align_burst-residuals.new.1.1.0 (omega (arith, aligned.align_burst-residuals.ensures.same, few)) in
     record { few = omega (arith, few); vectors_room = omega (arith, whole); text-room = omega (arith, named.put_motion_names-next.ensures.1, named.put_motion_names-next.ensures.0.same, start.requires.text-room) }
 
 returns : of.Tie.Need-returns

@@ -45,7 +45,7 @@ returns-3 c =
 -- the samples of the frames fit in those lent
 fits : (c : of.Tie.After-struct_known-in-Found-2-1) →
     let at = c.before.before.before.before.before.before.before.before.before in
-    room at.header-1.given.0.0.shape-1.count ≤ length at.before.before.before.before.before.args.samples-1.now
+    room at.header-1.given.0.0.shape.count ≤ length at.before.before.before.before.before.args.samples.now
 fits c = omega (arith, headed-few (accepted c.before.before.before.before.before.before))
 
 mul-end : of.Tie.Need-overflow_mul-end
@@ -67,8 +67,8 @@ returns-5 c =
     let wide = high.before.before in
     let checked = wide.before.before.before in
     let at = checked.before.before.before in
-    let samples = at.before.before.before.before.before.args.samples-1.now in
-    let same = length-take-le (room at.header-1.given.0.0.shape-1.count) samples (fits known) in
+    let samples = at.before.before.before.before.before.args.samples.now in
+    let same = length-take-le (room at.header-1.given.0.0.shape.count) samples (fits known) in
     opens _ (still-short checked) (accepted checked) wide.if-shape-ne-FRAME_SIDE.false samples high.if-shape-ne-FRAME_SIDE-2.false (fits known) (omega (arith, same)) c.before.before.read_file.ensures
 
 pub open_file_spec : {M : Type 1} → of.Statement.statement M

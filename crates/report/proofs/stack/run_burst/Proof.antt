@@ -11,7 +11,7 @@ run-levels-requires c κs =
     let start = c.before.before.before.before.before.before.before in
     let taken = start.requires.taken in
     record {
-      fits = merge-fits taken (length-take-le _ start.args.vectors-1.now (omega (arith, taken.allowed.few))) start.requires.work-room start.requires.output_room;
+      fits = merge-fits taken (length-take-le _ start.args.vectors.now (omega (arith, taken.allowed.few))) start.requires.work-room start.requires.output_room;
       samples_fit = values-samples _ taken.small;
       shot_most = taken.shot_most;
       read_most = taken.read_most;

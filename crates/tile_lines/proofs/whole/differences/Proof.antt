@@ -11,7 +11,7 @@ invariant_loop x r₀ i₀ r i = Filled (difference_at (of x)) 8 i r₀ r
 abbrev decreases_loop : tie.decreases_loop
 decreases_loop x r₀ i₀ r i = 8 - i
 
-sub-r : tie.Need-overflow-sub-r invariant_loop decreases_loop
+sub-r : tie.Need-overflow_sub-r invariant_loop decreases_loop
 unfolding side16
 sub-r c =
     let l = c.before.before.before in

@@ -22,7 +22,7 @@ stepped c scan e =
     let l = c.before.before.loop-left in
     let a = c.before.before.before.before.args in
     ap (λ (item : Item). judged l.over a.bound (after_item (l.left - 1) (λ t. values_of (l.left - 1) t) item)) (ap (item_in a.file.now) (sym e) ∙ c.next_value.ensures)
-    ∙ ap (judged l.over a.bound) (sym (values-step l.left (drop l.i a.file.now) c.before.loop-left-test.true)) ∙ l.inv
+    ∙ ap (judged l.over a.bound) (sym (values-step l.left (drop l.i a.file.now) c.before.loop-left-test.true)) ∙ l.invariant
 
 returns : of.Tie.Need-returns-in-Bad invariant-loop-left decreases-loop-left
 returns c =
@@ -54,7 +54,7 @@ returns-3 c =
     let l = c.before.before.loop-left in
     let a = c.before.before.before.before.args in
     ap (line_in a.file.now) c.malformed-2.ensures
-    ∙ ap (judged l.over a.bound) (sym (values-none l.left (drop l.i a.file.now) c.before.loop-left-test.false)) ∙ l.inv
+    ∙ ap (judged l.over a.bound) (sym (values-none l.left (drop l.i a.file.now) c.before.loop-left-test.false)) ∙ l.invariant
 
 pub scan_line_spec : {M : Type 1} → of.Statement.statement M
 scan_line_spec = of.Tie.close (of.Tie.spec

@@ -61,7 +61,7 @@ returns-13 c = (rw c.before.in-12.is c.asked-in-12.ensures, rw c.asked-in-12.ens
 returns-14 : of.Tie.Need-returns-in_default
 unfolding demand_at demands
 returns-14 c =
-    let none = c.before.in-0.rest in
+    let none = c.before.in_default.in_default-own.rest in
     let beyond : 13 ≤ c.before.before.args.row = past (past (past (past (past (past (past (past (past (past (past (past (past zero-le none.0.0.0.0.0.0.0.0.0.0.0.0.1) none.0.0.0.0.0.0.0.0.0.0.0.1) none.0.0.0.0.0.0.0.0.0.0.1) none.0.0.0.0.0.0.0.0.0.1) none.0.0.0.0.0.0.0.0.1) none.0.0.0.0.0.0.0.1) none.0.0.0.0.0.0.1) none.0.0.0.0.0.1) none.0.0.0.0.1) none.0.0.0.1) none.0.0.1) none.0.1) none.1 in
     (c.asked-in_default.ensures ∙ sym (get_or-eq_default demands (asked 0 0 0) {n = c.before.before.args.row} beyond), rw c.asked-in_default.ensures (omega arith))
 

@@ -65,7 +65,7 @@ returns-14 c = (rw c.before.in-13.is c.wanted-in-13.ensures, rw c.wanted-in-13.e
 returns-15 : of.Tie.Need-returns-in_default
 unfolding tag_at tags
 returns-15 c =
-    let none = c.before.in-0.rest in
+    let none = c.before.in_default.in_default-own.rest in
     let beyond : 14 ≤ c.before.before.args.row = past (past (past (past (past (past (past (past (past (past (past (past (past (past zero-le none.0.0.0.0.0.0.0.0.0.0.0.0.0.1) none.0.0.0.0.0.0.0.0.0.0.0.0.1) none.0.0.0.0.0.0.0.0.0.0.0.1) none.0.0.0.0.0.0.0.0.0.0.1) none.0.0.0.0.0.0.0.0.0.1) none.0.0.0.0.0.0.0.0.1) none.0.0.0.0.0.0.0.1) none.0.0.0.0.0.0.1) none.0.0.0.0.0.1) none.0.0.0.0.1) none.0.0.0.1) none.0.0.1) none.0.1) none.1 in
     (c.wanted-in_default.ensures ∙ sym (get_or-eq_default tags (wanted 0 0 0 0) {n = c.before.before.args.row} beyond), rw c.wanted-in_default.ensures (omega arith))
 

@@ -19,7 +19,7 @@ returns-3 c = (rw c.before.in-4.is c.long_at.ensures.0, omega arith)
 returns-4 : of.Tie.Need-returns-in_default
 unfolding number
 returns-4 c =
-    let none = c.in-1.rest in
+    let none = c.in_default.in_default-own.rest in
     (rw (ne_eqb _ 1 none.0.0.1, ne_eqb _ 2 none.0.1, ne_eqb _ 4 none.1), omega arith)
 
 pub number_at_spec : {M : Type 1} → of.Statement.statement M

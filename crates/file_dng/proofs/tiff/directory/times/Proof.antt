@@ -13,7 +13,7 @@ decreases-loop-i file tag start count seen₀ i₀ seen i = count - i
 loop-again : of.Tie.Need-loop-i-preserved invariant-loop-i decreases-loop-i
 loop-again c =
     let turn = c.before.before.before.loop-i in
-    count_turn turn.inv c.before.before.loop-i-test.true c.one_if-seen.ensures.1 (cc)
+    count_turn turn.invariant c.before.before.loop-i-test.true c.one_if-seen.ensures.1 (cc)
 
 returns : of.Tie.Need-returns invariant-loop-i decreases-loop-i
 unfolding entries

@@ -23,7 +23,7 @@ returns-4 c = (rw c.in-12.is, omega arith)
 returns-5 : of.Tie.Need-returns-in_default
 unfolding size_of
 returns-5 c =
-    let none = c.in-1.rest in
+    let none = c.in_default.in_default-own.rest in
     (rw (ne_eqb _ 1 none.0.0.0.1, ne_eqb _ 3 none.0.0.1, ne_eqb _ 4 none.0.1, ne_eqb _ 12 none.1), omega arith)
 
 pub size_of_spec : {M : Type 1} → of.Statement.statement M
