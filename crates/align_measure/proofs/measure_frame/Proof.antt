@@ -15,10 +15,10 @@ build-requires c κs =
 -- the frame's pyramid stands behind the reference's
 built : (c : of.Tie.After-build) →
     let a = c.before.before.before.before.before.args in
-    Built a.shape (sample_at a.shape a.samples.now a.frame) (pyramid_length a.shape) a.work-1.now c.build.new.1.1.1.0
+    Built a.shape (sample_at a.shape a.samples.now a.frame) (pyramid_length a.shape) a.work.now c.build.new.1.1.1.0
 built c =
     let a = c.before.before.before.before.before.args in
-    subst (λ n. Built a.shape (sample_at a.shape a.samples.now a.frame) n a.work-1.now c.build.new.1.1.1.0) c.before.before.offset-at.ensures.0 c.build.ensures
+    subst (λ n. Built a.shape (sample_at a.shape a.samples.now a.frame) n a.work.now c.build.new.1.1.1.0) c.before.before.offset-at.ensures.0 c.build.ensures
 
 frame-residuals-requires : of.Tie.Need-frame_residuals-requires
 frame-residuals-requires c κs =
@@ -52,7 +52,7 @@ returns c =
     let start = laid.before.before.before.before.before in
     let a = start.args in
     frame-measured start.requires.0.readable.sampled.allowed start.requires.0.levels (built laid)
-    (told a.shape laid.build.new.1.1.1.0 a.vectors.now a.to a.residuals-1.now c.before.before.frame_residuals.ensures area.area_at-area.ensures rows.tile_rows-rows.ensures.0 columns.tile_columns-columns.ensures.0)
+    (told a.shape laid.build.new.1.1.1.0 a.vectors.now a.to a.residuals.now c.before.before.frame_residuals.ensures area.area_at-area.ensures rows.tile_rows-rows.ensures.0 columns.tile_columns-columns.ensures.0)
 
 pub measure_frame_spec : {M : Type 1} → of.Statement.statement M
 measure_frame_spec = of.Tie.close (of.Tie.spec

@@ -22,11 +22,11 @@ height-is c =
     ∙ ap (λ n. leading 4 0 (drop (4 + n) bytes)) (c.before.digits.ensures.0 ∙ ap (λ n. length (decimal n)) (width_is c))
 
 -- the number of the tests
-number_is : (c : of.Tie.After-read_refusal-refusal) → let args = c.before.before.before.before.before.before.args in c.read_refusal-refusal.result ≡ read_refusal args.bytes.now (length args.frame-1.now)
+number_is : (c : of.Tie.After-read_refusal-refusal) → let args = c.before.before.before.before.before.before.args in c.read_refusal-refusal.result ≡ read_refusal args.bytes.now (length args.frame.now)
 unfolding read_refusal
 number_is c =
     let args = c.before.before.before.before.before.before.args in
-    c.read_refusal-refusal.ensures ∙ ap₂ (λ w h. refusal_as w h args.bytes.now (length args.frame-1.now)) (width_is c.before) (height-is c.before)
+    c.read_refusal-refusal.ensures ∙ ap₂ (λ w h. refusal_as w h args.bytes.now (length args.frame.now)) (width_is c.before) (height-is c.before)
 
 returns : of.Tie.Need-returns-then-refusal-ne0
 unfolding pgm_answer
@@ -45,7 +45,7 @@ passed : (c : of.Tie.Else-refusal-ne0) →
     let args = sized.before.before.before.before.before.args in
     let width = sized.before.before.leading-width.result in
     let height = sized.leading-height.result in
-    (formed width height args.bytes.now ≡ true) × (length args.frame-1.now ≡ width * height)
+    (formed width height args.bytes.now ≡ true) × (length args.frame.now ≡ width * height)
 passed c = readable _ _ _ _ (sym c.before.read_refusal-refusal.ensures ∙ c.if-refusal-ne0.false)
 
 fill-requires : of.Tie.Need-fill-requires
@@ -74,7 +74,7 @@ returns-2 c =
       stored = made _ _ _ e z stored;
       file = λ _.
           rw (width_is sized, height-is sized, stored)
-          (sound bytes (record { below = λ k. omega (arith, known.shared_slice_known-1.given k) }) (length args.frame-1.now) (sym e ∙ z)).0;
+          (sound bytes (record { below = λ k. omega (arith, known.shared_slice_known-1.given k) }) (length args.frame.now) (sym e ∙ z)).0;
     }
 
 pub read_pgm_spec : {M : Type 1} → of.Statement.statement M

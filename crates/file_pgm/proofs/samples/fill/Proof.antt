@@ -37,9 +37,9 @@ returns : of.Tie.Need-returns invariant-loop-at decreases-loop-at
 returns c =
     let args = c.before.before.before.before.args in
     let samples = samples_of (drop args.start args.bytes.now) in
-    let long : length (drop args.start args.bytes.now) ≡ 2 * length args.frame-1.now = omega (arith, length-drop args.start args.bytes.now) in
+    let long : length (drop args.start args.bytes.now) ≡ 2 * length args.frame.now = omega (arith, length-drop args.start args.bytes.now) in
     write_done c.before.loop-at.invariant.0 (omega arith)
-    ∙ written_all 0 args.frame-1.now (λ k. get_or samples k 0) (length args.frame-1.now) refl
+    ∙ written_all 0 args.frame.now (λ k. get_or samples k 0) (length args.frame.now) refl
     ∙ ap (λ n. tab n (λ k. get_or samples k 0)) (sym (samples_long _ _ long))
     ∙ sym (tab-of 0 samples)
 

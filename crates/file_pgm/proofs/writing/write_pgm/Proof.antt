@@ -16,7 +16,7 @@ returns c =
 -- what the tests that have passed say
 passed : (c : of.Tie.Else-refusal-ne0) →
     let args = c.before.before.before.before.before.args in
-    PgmFile (file_of args.width args.height args.frame.now) args.width args.height args.frame.now × (length args.bytes-1.now ≡ file_length args.width args.height)
+    PgmFile (file_of args.width args.height args.frame.now) args.width args.height args.frame.now × (length args.bytes.now ≡ file_length args.width args.height)
 passed c = write-sound _ _ _ _ (sym c.before.write_refusal-refusal.ensures ∙ c.if-refusal-ne0.false)
 
 put-header-requires : of.Tie.Need-put_header-start-requires

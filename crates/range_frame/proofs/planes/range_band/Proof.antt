@@ -78,7 +78,7 @@ returns c =
     let under = ends_held r.End-row.ensures s.requires.lent.room in
     let all : 8 * a.band + l.loop-i.i ≡ 8 * a.band + 8 = omega (arith, l.loop-i.invariant.count) in
     record {
-      rows = subst (λ n. at_noises RowsRanged a.m a.upper (now a.samples) (now a.vectors) a.parity (8 * a.band) n (now a.low-1) l.loop-i.low (now a.high-1) l.loop-i.high) all
+      rows = subst (λ n. at_noises RowsRanged a.m a.upper (now a.samples) (now a.vectors) a.parity (8 * a.band) n (now a.low) l.loop-i.low (now a.high) l.loop-i.high) all
           (l.loop-i.invariant.rows a.upper (ends-kept r.End-row.ensures s.requires.held) under);
       held = under;
     }
