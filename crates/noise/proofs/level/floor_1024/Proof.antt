@@ -14,7 +14,7 @@ not-nan k (inf s) w = tt
 not-nan k (fin s m e) w = tt
 
 known : (c : of.Tie.Start) → Told c.args.x (leb (2 ^ 63) (to_bits binary64 c.args.x)) (bit_and (to_bits binary64 c.args.x / 2 ^ 52) 2047) (to_bits binary64 c.args.x % 2 ^ 52)
-known c = told c.args.x (subst T (sym c.good.0.1) tt) c.requires
+known c = told c.args.x (subst T (sym c.well_formed.0.1) tt) c.requires
 
 returns : of.Tie.Need-returns-then-sign-ne0
 returns c = let b = to_bits binary64 c.before.args.x in sym ((known c.before).negative (le-leb (2 ^ 63) b (omega (arith, c.if-sign-ne0.true))))
