@@ -22,7 +22,7 @@ stored : (c : of.Tie.After-value_at-found invariant-loop-j decreases-loop-j) →
     c.value_at-found.result.value ≡ get_or (next_values (length a.samples.now) (drop a.at a.file.now)) l.j 0
 stored c =
     let l = c.before.before.loop-j in
-    c.value_at-found.ensures.0 ∙ take-value l.inv.1 (inside c)
+    c.value_at-found.ensures.0 ∙ take-value l.invariant.1 (inside c)
 
 cast-samples : of.Tie.Need-overflow_cast-samples invariant-loop-j decreases-loop-j
 cast-samples c =
@@ -34,13 +34,13 @@ loop-again : of.Tie.Need-loop-j-preserved invariant-loop-j decreases-loop-j
 loop-again c =
     let at = c.before in
     let l = at.before.before.loop-j in
-    (fill-turn l.inv.0 (inside at) (stored at), take-turn l.inv.1 (inside at) at.value_at-found.ensures.1)
+    (fill-turn l.invariant.0 (inside at) (stored at), take-turn l.invariant.1 (inside at) at.value_at-found.ensures.1)
 
 returns : of.Tie.Need-returns invariant-loop-j decreases-loop-j
 returns c =
     let l = c.before.loop-j in
     let a = c.before.before.before.before.args in
-    fill_done l.inv.0 (omega (arith, l.inv.0.same, c.loop-j-test.false)) ∙ next-table (length a.samples.now) (drop a.at a.file.now)
+    fill_done l.invariant.0 (omega (arith, l.invariant.0.same, c.loop-j-test.false)) ∙ next-table (length a.samples.now) (drop a.at a.file.now)
 
 pub fill_spec : {M : Type 1} → of.Statement.statement M
 fill_spec = of.Tie.close (of.Tie.spec

@@ -22,23 +22,21 @@ stepped c passed e =
     let l = c.before.before.loop-left in
     let a = c.before.before.before.before.args in
     ap (λ (p : Part Unit). p then (λ u rest. briefly (row_lines (l.left - 1) a.width rest))) (ap (rows_in a.file.now) (sym e) ∙ c.check_row.ensures)
-    ∙ rows_step l.left a.width (drop l.i a.file.now) c.before.loop-left-test.true ∙ l.inv
+    ∙ rows_step l.left a.width (drop l.i a.file.now) c.before.loop-left-test.true ∙ l.invariant
 
 returns : of.Tie.Need-returns-in-Refused invariant-loop-left decreases-loop-left
 returns c =
-    let g = c.before.number-1.given in
-    stepped c.before.before.before (Refused g.0.0) g.1
+    stepped c.before (Refused c.in-Refused.number) c.in-Refused.is
 
 loop-again : of.Tie.Need-loop-left-preserved invariant-loop-left decreases-loop-left
 loop-again c =
-    let g = c.before.next-1.given in
-    stepped c.before.before.before (Found g.0.0) g.1
+    stepped c.before (Found c.in-Found.next) c.in-Found.is
 
 returns-2 : of.Tie.Need-returns invariant-loop-left decreases-loop-left
 returns-2 c =
     let l = c.before.loop-left in
     let a = c.before.before.before.args in
-    rows_none l.left a.width (drop l.i a.file.now) c.loop-left-test.false ∙ l.inv
+    rows_none l.left a.width (drop l.i a.file.now) c.loop-left-test.false ∙ l.invariant
 
 pub check_rows_spec : {M : Type 1} → of.Statement.statement M
 check_rows_spec = of.Tie.close (of.Tie.spec

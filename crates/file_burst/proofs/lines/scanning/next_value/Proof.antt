@@ -18,7 +18,7 @@ ended : (c : of.Tie.Then-d-eq10 invariant-loop-i decreases-loop-i) →
     after_digits l.count l.value (get_or a.file.now l.i 0) (drop (l.i + 1) a.file.now) ≡ item_of (drop a.at a.file.now)
 ended c =
     let l = c.before.before.before.before.loop-i in
-    sym (bytes.digits-off _ l.i c.before.before.before.loop-i-test.true l.count l.value (sym c.before.digit-d.ensures.0 ∙ c.if-d-eq10.true)) ∙ l.inv.2
+    sym (bytes.digits-off _ l.i c.before.before.before.loop-i-test.true l.count l.value (sym c.before.digit-d.ensures.0 ∙ c.if-d-eq10.true)) ∙ l.invariant.2
 
 returns : of.Tie.Need-returns-then-count-eq0 invariant-loop-i decreases-loop-i
 returns c = sym (bytes.after_none _ _ _ _ c.if-count-eq0.true) ∙ ended c.before
@@ -43,14 +43,14 @@ differs c e = c.if-d-eq10.false (c.before.digit-d.ensures.0 ∙ e)
 returns-5 : of.Tie.Need-returns-then-count-eq9 invariant-loop-i decreases-loop-i
 returns-5 c =
     let l = c.before.before.before.before.before.loop-i in
-    sym (bytes.digits-many _ l.i c.before.before.before.before.loop-i-test.true l.count l.value (differs c.before) c.if-count-eq9.true) ∙ l.inv.2
+    sym (bytes.digits-many _ l.i c.before.before.before.before.loop-i-test.true l.count l.value (differs c.before) c.if-count-eq9.true) ∙ l.invariant.2
 
 -- fewer than nine digits make a number below 10 ^ 8
 room : (c : of.Tie.Else-count-eq9 invariant-loop-i decreases-loop-i) → c.before.before.before.before.before.loop-i.value < 10 ^ 8
 room c =
     let l = c.before.before.before.before.before.loop-i in
     let k : l.count ≤ 8 = omega arith in
-    omega (arith, l.inv.1, pow-le-pow_right {n = 10} (omega arith) k)
+    omega (arith, l.invariant.1, pow-le-pow_right {n = 10} (omega arith) k)
 
 add-value : of.Tie.Need-overflow_add-value invariant-loop-i decreases-loop-i
 add-value c = omega (arith, room c, c.before.before.digit-d.ensures.1)
@@ -61,9 +61,9 @@ loop-again c =
     let d = c.before.before.digit-d in
     let small : d.result < 10 = omega arith in (
       omega arith,
-      bytes.digit-more l.value l.count d.result l.inv.1 small,
+      bytes.digit-more l.value l.count d.result l.invariant.1 small,
       ap (λ (x : ℕ). digits_from (l.count + 1) (l.value * 10 + x) (drop (l.i + 1) c.before.before.before.before.before.before.before.args.file.now)) d.ensures.0
-          ∙ bytes.digits-on _ l.i c.before.before.before.before.loop-i-test.true l.count l.value (differs c.before) c.if-count-eq9.false ∙ l.inv.2,
+          ∙ bytes.digits-on _ l.i c.before.before.before.before.loop-i-test.true l.count l.value (differs c.before) c.if-count-eq9.false ∙ l.invariant.2,
     )
 
 returns-6 : of.Tie.Need-returns invariant-loop-i decreases-loop-i
