@@ -6,4 +6,4 @@ use Rattle.file_input.specs.declared.Input.TheVariants.{Read, Failed}
 -- a count lies within the buffer
 abbrev pub Within : List ℕ → Input → Type 0
 Within buffer (Read count) = count ≤ length buffer
-Within buffer Failed = Unit
+Within buffer (Failed error) = Unit

@@ -2,18 +2,19 @@
 #![tactic(auto)]
 
 use file_input::Input;
-use libc::{STDIN_FILENO, STDOUT_FILENO};
 use report::sizes::{FILE_ROOM, TEXT_ROOM};
 
-fn main() {
+fn main(rt: HostRuntime) {
     let mut file = [0u8; FILE_ROOM];
     let mut text = [0u8; TEXT_ROOM];
-    match file_input::read_all(STDIN_FILENO, &mut file) {
-        Input::Failed => os::fail(b"motion: standard input"),
+    match file_input::read_all(&mut rt.stdin(), &mut file) {
+        Input::Failed { error } => {
+            let _ = eprintln!(rt; "motion: standard input: {error}");
+        }
         Input::Read { count } => {
             let length = report::motion_text(&file, count, &mut text);
-            if !io::write_all(STDOUT_FILENO, &text[..length]) {
-                os::fail(b"motion: standard output");
+            if let Err(error) = rt.write_all(&text[..length]) {
+                let _ = eprintln!(rt; "motion: standard output: {error}");
             }
         }
     }

@@ -1,6 +1,5 @@
 -- Each arm of the match at its number.
 use borrow.Author.Rules.{rules}
-use borrow.Author.Tests.{ne_eqb}
 use Rattle.admit_length.specs.Question.{length_tested}
 use Rattle.admit_length.proofs.question.length_tested as of
 

@@ -16,19 +16,17 @@ decided c head e = ap (λ (p : Part Header). number_of (p then body_of (λ shape
 
 check-frames-requires : of.Tie.Need-check_frames-requires
 check-frames-requires c κs =
-    let g = c.before.before.header-1.given in
-    head-allowed _ g.0.0 _ (told c.before.before.before.before (Found g.0.0 g.0.1.0) g.1)
+    let g = c.in-Found in
+    head-allowed _ g.header _ (told c.before.before (Found g.header g.next) g.is)
 
 returns : of.Tie.Need-returns-in-Refused
 returns c =
-    let g = c.before.number-1.given in
-    decided c.before.before.before (Refused g.0.0) g.1
+    decided c.before (Refused c.in-Refused.number) c.in-Refused.is
 
 returns-2 : of.Tie.Need-returns-in-Found
 returns-2 c =
-    let at = c.before.before.before in
-    let g = at.header-1.given in
-    c.check_frames.ensures ∙ sym (body-unmeasured g.0.0 _) ∙ decided at.before.before (Found g.0.0 g.0.1.0) g.1
+    let g = c.in-Found in
+    c.check_frames.ensures ∙ sym (body-unmeasured g.header _) ∙ decided c.before.before.before (Found g.header g.next) g.is
 
 pub check_file_spec : {M : Type 1} → of.Statement.statement M
 check_file_spec = of.Tie.close (of.Tie.spec

@@ -10,13 +10,12 @@ decided c head e = ap (λ (h : Head). head_answer (head_in c.before.before.args.
 
 returns : of.Tie.Need-returns-in-Refused
 returns c =
-    let g = c.before.before.number-1.given in
-    c.refused.ensures ∙ decided c.before.before.before.before (Refused g.0.0) g.1
+    c.refused.ensures ∙ decided c.before.before (Refused c.in-Refused.number) c.in-Refused.is
 
 returns-2 : of.Tie.Need-returns-in-Found
 returns-2 c =
-    let g = c.before.before.header-1.given in
-    c.accepted.ensures ∙ decided c.before.before.before.before (Found g.0.0 g.0.1.0) g.1
+    let g = c.in-Found in
+    c.accepted.ensures ∙ decided c.before.before (Found g.header g.next) g.is
 
 pub file_size_spec : {M : Type 1} → of.Statement.statement M
 file_size_spec = of.Tie.close (of.Tie.spec

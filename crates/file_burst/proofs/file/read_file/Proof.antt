@@ -15,13 +15,13 @@ told : (c : of.Tie.After-read_head) (head : Head) → c.read_head.result ≡ hea
     head_in file head ≡ head_of file
 told c head e = ap (head_in c.before.before.before.args.file.now) (sym e) ∙ c.read_head.ensures
 
-headed : (c : of.Tie.In-Found-2) →
-    let file = c.before.before.before.before.before.args.file.now in
-    head_in file (Found c.header-1.given.0.0 c.header-1.given.0.1.0) ≡ head_of file
-headed c = told c.before.before (Found c.header-1.given.0.0 c.header-1.given.0.1.0) c.header-1.given.1
+headed : (c : of.Tie.In-Found) →
+    let file = c.args.file.now in
+    head_in file (Found c.in-Found.header c.in-Found.next) ≡ head_of file
+headed c = told c.before (Found c.in-Found.header c.in-Found.next) c.in-Found.is
 
 sample-length-requires : of.Tie.Need-sample_length-requires
-sample-length-requires c κs = head-allowed _ _ _ (headed c.before.before)
+sample-length-requires c κs = head-allowed _ _ _ (headed c.before)
 
 module _ (file samples : List ℕ) {answer : FileAnswer} where
   -- a refusal, and the samples as they were
@@ -29,7 +29,7 @@ module _ (file samples : List ℕ) {answer : FileAnswer} where
   refusal e a = record { answered = a ∙ sym (ap file_answer e); stored = sym (ap (λ (p : Part FileBurst). samples_after p samples) e) }
 
   -- acceptance, and the file's samples
-  acceptance : {burst : FileBurst} {rest after : List ℕ} → reading_into (length samples) file ≡ found burst rest → answer ≡ accepted_file burst.header-1 → after ≡ burst.samples-1 → FileRead file samples answer after
+  acceptance : {burst : FileBurst} {rest after : List ℕ} → reading_into (length samples) file ≡ found burst rest → answer ≡ accepted_file burst.header → after ≡ burst.samples → FileRead file samples answer after
   acceptance e a s = record { answered = a ∙ sym (ap file_answer e); stored = s ∙ sym (ap (λ (p : Part FileBurst). samples_after p samples) e) }
 
 -- refusal 4's number
@@ -43,17 +43,17 @@ length-number c =
 returns : of.Tie.Need-returns-then-length-ne0
 returns c =
     let at = c.before.before in
-    let header = at.before.before.before.before in
+    let header = at.before.before.before in
     refusal _ _ (length-refuses _ _ (headed header) (length-number at) c.before.if-length-ne0.true) c.refused-then-length-ne0.ensures
 
 check-frames-requires : of.Tie.Need-check_frames-body-requires
-check-frames-requires c κs = head-allowed _ _ _ (headed c.before.before.before.before.before)
+check-frames-requires c κs = head-allowed _ _ _ (headed c.before.before.before.before)
 
 returns-2 : of.Tie.Need-returns-then-body-ne0
 returns-2 c =
     let checked = c.before.before in
     let at = checked.before.before in
-    refusal _ _ (frames-refuse _ _ (headed at.before.before.before.before) (length-number at) checked.before.if-length-ne0.false checked.check_frames-body.ensures c.before.if-body-ne0.true) c.refused-then-body-ne0.ensures
+    refusal _ _ (frames-refuse _ _ (headed at.before.before.before) (length-number at) checked.before.if-length-ne0.false checked.check_frames-body.ensures c.before.if-body-ne0.true) c.refused-then-body-ne0.ensures
 
 -- the lent samples are as many as the file's
 length-right : (c : of.Tie.Else-length-ne0) →
@@ -65,25 +65,23 @@ length-right c = eqb-true _ _ (not-false _ (refuse-not no.wrong_sample_length _ 
 fill-requires : of.Tie.Need-fill-requires
 fill-requires c κs =
     let checked = c.before.before in
-    let header = checked.before.before.before.before.before.before in
-    let file = header.before.before.before.before.before.args.file.now in
-    let rest = drop header.header-1.given.0.1.0 file in
+    let header = checked.before.before.before.before.before in
+    let rest = drop c.in-Found.next c.args.file.now in
     ap (λ (n : ℕ). above 4095 (next_values n rest)) (length-right checked.before)
     ∙ (frames-next header.header-1.given.0.0.shape (head-packed _ _ _ (headed header)) rest (sym checked.check_frames-body.ensures ∙ c.before.if-body-ne0.false)).1
 
 returns-3 : of.Tie.Need-returns-in-Refused
 returns-3 c =
-    let g = c.before.before.number-1.given in
-    refusal _ _ (head-refuses _ _ (told c.before.before.before.before (Refused g.0.0) g.1)) c.refused.ensures
+    let g = c.in-Refused in
+    refusal _ _ (head-refuses _ _ (told c.before.before (Refused g.number) g.is)) c.refused.ensures
 
 returns-4 : of.Tie.Need-returns-else-body-ne0
 returns-4 c =
     let filled = c.before.before.before in
     let checked = filled.before.before.before in
     let at = checked.before.before in
-    let header = at.before.before.before.before in
-    let start = header.before.before.before.before.before in
-    let rest = drop header.header-1.given.0.1.0 start.args.file.now in
+    let header = at.before.before.before in
+    let rest = drop c.in-Found.next c.args.file.now in
     acceptance _ _
     (frames-accept _ _ (headed header) (length-number at) checked.before.if-length-ne0.false checked.check_frames-body.ensures filled.before.before.if-body-ne0.false)
     c.accepted.ensures

@@ -28,38 +28,38 @@ told : (c : of.Tie.After-check_line) (line : Line) → c.check_line.result ≡ l
 told c line e = ap (line_in c.before.before.before.before.args.file.now) (sym e) ∙ c.check_line.ensures
 
 -- where line 2 is a line of seven values, they decide
-seven : (c : of.Tie.In-Found-2) →
-    let file = c.before.before.before.before.before.before.args.file.now in
-    tested (next_values 7 (drop 48 file)) (drop c.next-1.given.0.0 file) ≡ head_of file
+seven : (c : of.Tie.In-Found) →
+    let file = c.args.file.now in
+    tested (next_values 7 (drop 48 file)) (drop c.in-Found.next file) ≡ head_of file
 seven c =
-    let g = c.next-1.given in
-    let file = c.before.before.before.before.before.before.args.file.now in
-    named c.before.before.before (found (next_values 7 (drop 48 file)) (drop g.0.0 file))
-    (line-found-next 7 (drop 48 file) 0 g.0.1.0 (drop g.0.0 file) (told c.before.before (Found g.0.0 g.0.1.0) g.1))
+    let g = c.in-Found in
+    let file = c.args.file.now in
+    named c.before.before (found (next_values 7 (drop 48 file)) (drop g.next file))
+    (line-found-next 7 (drop 48 file) 0 g.over (drop g.next file) (told c.before (Found g.next g.over) g.is))
 
 returns-2 : of.Tie.Need-returns-then-refusal-ne0
 returns-2 c =
     let called = c.before.before in
-    let at = called.before.before in
-    let file = at.before.before.before.before.before.before.args.file.now in
+    let at = called.before in
+    let file = c.args.file.now in
     let header = header_of (next_values 7 (drop 48 file)) in
-    unless-stops (found header (drop at.next-1.given.0.0 file)) (c.before.header_refusal-refusal.ensures ∙ ap header_refusal called.header_at-header.ensures) c.if-refusal-ne0.true
+    unless-stops (found header (drop at.in-Found.next file)) (c.before.header_refusal-refusal.ensures ∙ ap header_refusal called.header_at-header.ensures) c.if-refusal-ne0.true
     ∙ seven at
 
 returns-3 : of.Tie.Need-returns-in-Refused
 returns-3 c =
-    let g = c.before.number-1.given in
-    let at = c.before.before.before in
-    named at.before (refused g.0.0) (line_refused 0 g.0.0 _ (told at (Refused g.0.0) g.1))
+    let g = c.in-Refused in
+    let at = c.before in
+    named at.before (refused g.number) (line_refused 0 g.number _ (told at (Refused g.number) g.is))
 
 returns-4 : of.Tie.Need-returns-else-refusal-ne0
 returns-4 c =
     let called = c.before.before in
-    let at = called.before.before in
-    let file = at.before.before.before.before.before.before.args.file.now in
+    let at = called.before in
+    let file = c.args.file.now in
     let header = header_of (next_values 7 (drop 48 file)) in
-    ap (λ (h : Header). found h (drop at.next-1.given.0.0 file)) called.header_at-header.ensures
-    ∙ unless-goes (found header (drop at.next-1.given.0.0 file)) (c.before.header_refusal-refusal.ensures ∙ ap header_refusal called.header_at-header.ensures) c.if-refusal-ne0.false
+    ap (λ (h : Header). found h (drop at.in-Found.next file)) called.header_at-header.ensures
+    ∙ unless-goes (found header (drop at.in-Found.next file)) (c.before.header_refusal-refusal.ensures ∙ ap header_refusal called.header_at-header.ensures) c.if-refusal-ne0.false
     ∙ seven at
 
 pub read_head_spec : {M : Type 1} → of.Statement.statement M

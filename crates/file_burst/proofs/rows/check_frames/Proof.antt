@@ -27,18 +27,15 @@ told c passed e =
 
 returns : of.Tie.Need-returns-then-next-file
 returns c =
-    let g = c.before.before.next-1.given in
-    trailing tt _ _ c.if-next-file.true ∙ told c.before.before.before.before (Found g.0.0) g.1
+    trailing tt _ _ c.if-next-file.true ∙ told c.before.before (Found c.in-Found.next) c.in-Found.is
 
 returns-2 : of.Tie.Need-returns-in-Refused
 returns-2 c =
-    let g = c.before.number-1.given in
-    told c.before.before.before (Refused g.0.0) g.1
+    told c.before (Refused c.in-Refused.number) c.in-Refused.is
 
 returns-3 : of.Tie.Need-returns-else-next-file
 returns-3 c =
-    let g = c.before.before.next-1.given in
-    at-end tt _ _ c.if-next-file.false ∙ told c.before.before.before.before (Found g.0.0) g.1
+    at-end tt _ _ c.if-next-file.false ∙ told c.before.before (Found c.in-Found.next) c.in-Found.is
 
 pub check_frames_spec : {M : Type 1} → of.Statement.statement M
 check_frames_spec = of.Tie.close (of.Tie.spec

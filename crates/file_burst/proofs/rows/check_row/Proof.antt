@@ -17,15 +17,13 @@ told c line e =
 
 returns : of.Tie.Need-returns-in-Refused
 returns c =
-    let g = c.before.number-1.given in
-    told c.before.before.before (Refused g.0.0) g.1
+    told c.before (Refused c.in-Refused.number) c.in-Refused.is
 
 returns-2 : of.Tie.Need-returns-in-Found
 returns-2 c =
-    let g = c.before.before.next-1.given in
-    let at = c.before.before.before.before in
-    let file = at.before.before.args.file.now in
-    ap (rows_in file) c.End-row.ensures ∙ row-end file g.0.0 g.0.1.0 ∙ told at (Found g.0.0 g.0.1.0) g.1
+    let g = c.in-Found in
+    let file = c.args.file.now in
+    ap (rows_in file) c.end_row.ensures ∙ row-end file g.next g.over ∙ told c.before.before (Found g.next g.over) g.is
 
 pub check_row_spec : {M : Type 1} → of.Statement.statement M
 check_row_spec = of.Tie.close (of.Tie.spec

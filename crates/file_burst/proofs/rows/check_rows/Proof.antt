@@ -26,13 +26,11 @@ stepped c passed e =
 
 returns : of.Tie.Need-returns-in-Refused invariant-loop-left decreases-loop-left
 returns c =
-    let g = c.before.number-1.given in
-    stepped c.before.before.before (Refused g.0.0) g.1
+    stepped c.before (Refused c.in-Refused.number) c.in-Refused.is
 
 loop-again : of.Tie.Need-loop-left-preserved invariant-loop-left decreases-loop-left
 loop-again c =
-    let g = c.before.next-1.given in
-    stepped c.before.before.before (Found g.0.0) g.1
+    stepped c.before (Found c.in-Found.next) c.in-Found.is
 
 returns-2 : of.Tie.Need-returns invariant-loop-left decreases-loop-left
 returns-2 c =

@@ -15,14 +15,14 @@ told c line e = ap (line_in c.before.before.args.file.now) (sym e) ∙ c.scan_li
 
 returns : of.Tie.Need-returns-then-has_lf
 returns c =
-    let g = c.before.before.before.number-1.given in
-    rw (sym c.before.has_lf.ensures ∙ c.if-has_lf.true) (told c.before.before.before.before.before (Refused g.0.0) g.1)
+    let g = c.before.before.in-Refused in
+    rw (sym c.before.has_lf.ensures ∙ c.if-has_lf.true) (told c.before.before.before (Refused g.number) g.is)
 
 returns-2 : of.Tie.Need-returns-in-Found
 returns-2 c =
-    let g = c.before.next-1.given in
-    let a = c.before.before.before.before.before.args in
-    line-found a.count (drop a.at a.file.now) a.bound _ _ (told c.before.before.before (Found g.0.0 g.0.1.0) g.1)
+    let g = c.in-Found in
+    let a = c.args in
+    line-found a.count (drop a.at a.file.now) a.bound _ _ (told c.before (Found g.next g.over) g.is)
 
 returns-3 : of.Tie.Need-returns-else-has_lf
 returns-3 c = rw (sym c.before.has_lf.ensures ∙ c.if-has_lf.false)

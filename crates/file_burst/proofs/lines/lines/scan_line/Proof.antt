@@ -26,28 +26,25 @@ stepped c scan e =
 
 returns : of.Tie.Need-returns-in-Bad invariant-loop-left decreases-loop-left
 returns c =
-    let at = c.before.before.before in
-    ap (line_in at.before.before.before.before.args.file.now) c.malformed.ensures ∙ stepped at Bad c.before.in-Bad.is
+    ap (line_in c.args.file.now) c.malformed.ensures ∙ stepped c.before.before Bad c.in-Bad.is
 
 returns-2 : of.Tie.Need-returns-in-Last invariant-loop-left decreases-loop-left
 returns-2 c =
-    let f = c.before.before.before.value-1.given in
-    let at = c.before.before.before.before.before in
-    let l = at.before.before.loop-left in
-    let a = at.before.before.before.before.args in
-    ap (line_in a.file.now) (c.end_line.ensures ∙ ap (ended_line (l.left - 1) f.0.1.0) c.before.or_above-any.ensures)
-    ∙ judged-end (l.left - 1) f.0.1.0 l.over a.bound f.0.0 a.file.now (λ t. values_of (l.left - 1) t)
-    ∙ stepped at (Last f.0.0 f.0.1.0) f.1
+    let f = c.in-Last in
+    let l = c.loop-left in
+    let a = c.args in
+    ap (line_in a.file.now) (c.end_line.ensures ∙ ap (ended_line (l.left - 1) f.next) c.before.or_above-any.ensures)
+    ∙ judged-end (l.left - 1) f.next l.over a.bound f.value a.file.now (λ t. values_of (l.left - 1) t)
+    ∙ stepped c.before.before.before (Last f.value f.next) f.is
 
 loop-again : of.Tie.Need-loop-left-preserved invariant-loop-left decreases-loop-left
 loop-again c =
-    let f = c.before.before.value-in-More-1.given in
-    let at = c.before.before.before.before in
-    let l = at.before.before.loop-left in
-    let a = at.before.before.before.before.args in
-    ap (λ (o : Bool). judged o a.bound (values_of (l.left - 1) (drop f.0.1.0 a.file.now))) c.or_above-over.ensures
-    ∙ judged-more l.over a.bound f.0.0 (values_of (l.left - 1) (drop f.0.1.0 a.file.now))
-    ∙ stepped at (More f.0.0 f.0.1.0) f.1
+    let f = c.in-More in
+    let l = c.loop-left in
+    let a = c.args in
+    ap (λ (o : Bool). judged o a.bound (values_of (l.left - 1) (drop f.next a.file.now))) c.or_above-over.ensures
+    ∙ judged-more l.over a.bound f.value (values_of (l.left - 1) (drop f.next a.file.now))
+    ∙ stepped c.before.before (More f.value f.next) f.is
 
 returns-3 : of.Tie.Need-returns invariant-loop-left decreases-loop-left
 returns-3 c =

@@ -15,20 +15,18 @@ told c scan e = ap (item_in c.before.before.args.file.now) (sym e) ∙ c.next_va
 
 returns : of.Tie.Need-returns-in-Last
 returns c =
-    let g = c.before.value-1.given in
-    let t = told c.before.before.before (Last g.0.0 g.0.1.0) g.1 in
+    let t = told c.before (Last c.in-Last.value c.in-Last.next) c.in-Last.is in
     (ap value_in t, ap rest_in t)
 
 returns-2 : of.Tie.Need-returns-in-More
 returns-2 c =
-    let g = c.before.value-in-More-1.given in
-    let t = told c.before.before.before (More g.0.0 g.0.1.0) g.1 in
+    let t = told c.before (More c.in-More.value c.in-More.next) c.in-More.is in
     (ap value_in t, ap rest_in t)
 
 returns-3 : of.Tie.Need-returns-in-Bad
 returns-3 c =
-    let t = told c.before.before Bad c.in-Last.is in
-    (ap value_in t, drop-length c.before.before.before.before.args.file.now ∙ ap rest_in t)
+    let t = told c.before Bad c.in-Bad.is in
+    (ap value_in t, drop-length c.args.file.now ∙ ap rest_in t)
 
 pub value_at_spec : {M : Type 1} → of.Statement.statement M
 value_at_spec = of.Tie.close (of.Tie.spec
