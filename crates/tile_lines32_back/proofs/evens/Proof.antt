@@ -14,7 +14,7 @@ loop-again : of.Tie.Need-loop-k-preserved invariant-loop-k decreases-loop-k
 loop-again c =
     let t = c.before.before in
     let l = t.before in
-    let h = now l.before.args.h in
+    let h = l.before.args.h.now in
     twos-turn l.loop-k.invariant t.loop-k-test.true (first-at h l.loop-k.k) (second_at h l.loop-k.k)
 
 returns : of.Tie.Need-returns invariant-loop-k decreases-loop-k

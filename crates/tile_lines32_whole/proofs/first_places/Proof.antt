@@ -16,7 +16,7 @@ returns : tie.Need-returns
 unfolding side16
 returns c =
     let f = c.before.before.before.before.before.before.before.before.before in
-    let x = now f.before.args.s in
+    let x = f.before.args.s.now in
     c.even.ensures ∙ places-held side16 w16 8 eight (sum_of side16 (of x)) (eight-picked (sum_of side16 (of x))) (sums_most side16 8 f.before.requires f.sums_again-a.ensures) tt f.sums_again-a.ensures (λ i. 2 * i) _ (λ i. even-folded rules16 (of x) i)
 
 pub first_places_spec : {M : Type 1} → statement M

@@ -28,7 +28,7 @@ returns c =
     let o = c.before.before.before in
     let e = o.before.before.before.before.before.before.before.before.before in
     let f = e.before.before.before.before.before.before.before.before.before in
-    let x = of (now f.before.args.x) in
+    let x = of f.before.args.x.now in
     let m = differences-most side32 16 f.before.requires f.differences-t.ensures in
     c.joined.ensures _ (in_parts m e.odd-e.ensures o.odd_part-o.ensures) ∙ differences-places x f.differences-t.ensures
 

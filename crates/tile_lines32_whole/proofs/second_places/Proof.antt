@@ -16,7 +16,7 @@ returns : tie.Need-returns
 unfolding side16
 returns c =
     let f = c.before.before.before.before.before.before.before.before.before in
-    let x = now f.before.args.s in
+    let x = f.before.args.s.now in
     c.odd.ensures ∙ places-held side16 w16 8 eight (difference_of side16 (of x)) (eight-picked (difference_of side16 (of x))) (differences-most side16 8 f.before.requires f.differences_again-b.ensures) tt f.differences_again-b.ensures (λ i. 2 * i + 1) _ (λ i. odd-folded rules16 (of x) i)
 
 pub second_places_spec : {M : Type 1} → statement M

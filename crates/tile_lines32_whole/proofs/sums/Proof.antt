@@ -5,29 +5,29 @@ use Rattle.tile_spectrum.specs.Lines.WholeFolds.{sum_fits, sum_is}
 use Rattle.tile_lines32_whole.proofs.sums.Statement.{statement}
 use Rattle.tile_lines32_whole.proofs.sums.Tie as tie
 
-abbrev invariant_loop : tie.invariant_loop
-invariant_loop x r₀ i₀ r i = Filled (sum_of side32 (of x)) 16 i r₀ r
+abbrev invariant-loop-i : tie.invariant-loop-i
+invariant-loop-i x r₀ i₀ r i = Filled (sum_of side32 (of x)) 16 i r₀ r
 
-abbrev decreases_loop : tie.decreases_loop
-decreases_loop x r₀ i₀ r i = 16 - i
+abbrev decreases-loop-i : tie.decreases-loop-i
+decreases-loop-i x r₀ i₀ r i = 16 - i
 
-add-r-2 : tie.Need-overflow-add-r-2 invariant_loop decreases_loop
+add-r-2 : tie.Need-overflow_add-r-in-loop-i invariant-loop-i decreases-loop-i
 unfolding side32
 add-r-2 c =
     let l = c.before.before.before in
     sum_fits side32 w16 l.before.requires tt l.loop-i.i
 
-loop-again : tie.Need-loop-preserved invariant_loop decreases_loop
+loop-again : tie.Need-loop-i-preserved invariant-loop-i decreases-loop-i
 unfolding side32
 loop-again c =
     let l = c.before.before.before in
     fill-turn l.loop-i.invariant (omega arith) (sum_is side32 w16 l.before.requires tt l.loop-i.i)
 
-returns : tie.Need-returns invariant_loop decreases_loop
+returns : tie.Need-returns invariant-loop-i decreases-loop-i
 returns c = fill_done c.before.loop-i.invariant (omega arith)
 
 pub sums_spec : {M : Type 1} → statement M
 sums_spec = tie.close (tie.spec
-    invariant_loop decreases_loop (λ c. fill_start refl) (λ c. search rules) (λ c. search rules)
+    invariant-loop-i decreases-loop-i (λ c. fill_start refl) (λ c. search rules) (λ c. search rules)
     (λ c. search rules) (λ c. search rules) (λ c. search rules) add-r-2 (λ c. search rules)
     (λ c. search rules) (λ c. search rules) (λ c. search rules) loop-again returns)

@@ -18,7 +18,7 @@ returns : of.Tie.Need-returns
 returns c w =
     let a = c.before.before.before in
     let s = a.before.before in
-    c.add_back.ensures (columns_whole s.args.low a.back.ensures w) ∙ back_is w.number (now s.args.sum)
+    c.add_back.ensures (columns_whole s.args.low a.back.ensures w) ∙ back_is w.number s.args.sum.now
 
 pub add_inverse_of_spec : {M : Type 1} → of.Statement.statement M
 add_inverse_of_spec = of.Tie.close (of.Tie.spec back-requires add-back-requires returns)

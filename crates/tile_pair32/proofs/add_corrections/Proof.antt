@@ -5,7 +5,7 @@ use Rattle.tile_pair32.proofs.add_corrections as of
 
 -- the bins of plane p of the differences
 abbrev bins : of.Tie.Start → ℕ → ℕ → ℕ → ℤ
-bins s p = two_way_of side32 (plane_in (cell (pos 0) (now s.args.d)) p)
+bins s p = two_way_of side32 (plane_in (cell (pos 0) s.args.d.now) p)
 
 gains-requires : of.Tie.Need-gains-requires
 gains-requires c κs = let s = c.before.before.before in record { differences = s.requires.differences; first_most = s.requires.first_most; second_most = s.requires.second_most; spare = s.requires.spare }
@@ -32,7 +32,7 @@ returns c =
       spare = c.add_inverse.ensures.spare;
       is =
           c.add_inverse.ensures.is (folded_whole s.args.first s.args.second (bins s) low.long_low_noise-low.result middle.long_middle_noise-middle.result low.long_low_noise-low.ensures middle.long_middle_noise-middle.ensures s.requires.first_most s.requires.second_most g.gains.ensures)
-          ∙ corrections-are s.args.first s.args.second (cell (pos 0) (now s.args.d)) (now s.args.sum);
+          ∙ corrections-are s.args.first s.args.second (cell (pos 0) s.args.d.now) s.args.sum.now;
     }
 
 pub add_corrections_spec : {M : Type 1} → of.Statement.statement M

@@ -21,7 +21,7 @@ returns c =
     let s = a.before.before in
     record {
       spare = long-paired-grid _ (columns_whole s.args.low s.args.middle a.back.ensures s.requires.whole).is;
-      is = λ w. c.add_back.ensures (columns_whole s.args.low s.args.middle a.back.ensures w) ∙ back_is w.number (now s.args.sum);
+      is = λ w. c.add_back.ensures (columns_whole s.args.low s.args.middle a.back.ensures w) ∙ back_is w.number s.args.sum.now;
     }
 
 pub add_inverse_spec : {M : Type 1} → of.Statement.statement M

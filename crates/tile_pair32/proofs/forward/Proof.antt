@@ -13,13 +13,13 @@ rows-requires : of.Tie.Need-rows-requires
 rows-requires c κs =
     let a = c.before.before in
     let s = a.before.before in
-    (columns-small (cell (pos 0) (now s.args.d)) a.forward.ensures (cells-most s.requires.0), s.requires.1)
+    (columns-small (cell (pos 0) s.args.d.now) a.forward.ensures (cells-most s.requires.0), s.requires.1)
 
 returns : of.Tie.Need-returns
 returns c =
     let a = c.before.before.before in
     let s = a.before.before in
-    c.rows.ensures ∙ both_ways (cell (pos 0) (now s.args.d)) a.forward.ensures
+    c.rows.ensures ∙ both_ways (cell (pos 0) s.args.d.now) a.forward.ensures
 
 pub forward_spec : {M : Type 1} → of.Statement.statement M
 forward_spec = of.Tie.close (of.Tie.spec forward-requires rows-requires returns)

@@ -13,9 +13,9 @@ returns c =
     let b = l.before.before in
     let a = b.before.args in
     record {
-      first = r.plane_root-first.ensures.0 ∙ root-of-plane 16 a.even a.odd (now a.tile) 0 (lit< tt) b.lane_blacks-black.ensures l.lane_squares-sum.ensures.0
-          ∙ tile-root-cong 16 _ _ _ (λ i j _ _. ap (cell 0 (now a.tile) i) (omega arith));
-      second = c.plane_root-second.ensures.0 ∙ root-of-plane 16 a.even a.odd (now a.tile) 1 (lit< tt) b.lane_blacks-black.ensures l.lane_squares-sum.ensures.0;
+      first = r.plane_root-first.ensures.0 ∙ root-of-plane 16 a.even a.odd a.tile.now 0 (lit< tt) b.lane_blacks-black.ensures l.lane_squares-sum.ensures.0
+          ∙ tile-root-cong 16 _ _ _ (λ i j _ _. ap (cell 0 a.tile.now i) (omega arith));
+      second = c.plane_root-second.ensures.0 ∙ root-of-plane 16 a.even a.odd a.tile.now 1 (lit< tt) b.lane_blacks-black.ensures l.lane_squares-sum.ensures.0;
       first_most = r.plane_root-first.ensures.1;
       second_most = c.plane_root-second.ensures.1;
     }

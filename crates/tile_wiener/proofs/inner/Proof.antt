@@ -29,8 +29,8 @@ loop-again c =
     let q = g.before.before.before in
     let p = q.before.before.before in
     let a = p.before in
-    let v = now a.args.v in
-    let w = now a.args.w in
+    let v = a.args.v.now in
+    let w = a.args.w.now in
     let l = p.loop-l.l in (
       omega arith,
       omega arith,

@@ -12,7 +12,7 @@ returns c =
     let s = q.before.before in
     let u = s.args.u in
     let l = s.args.l in
-    (q.quad_at-q.ensures, lanes-turn (lanes_start (16 * u + l) s.requires.paired) (omega arith) (omega arith) refl c.set_quad.ensures (new-top 24 (now s.args.v) (now s.args.w) q.quad_at-q.ensures u l s.requires.u_some s.requires.l_below g.gains-g.ensures h.gains-h.ensures))
+    (q.quad_at-q.ensures, lanes-turn (lanes_start (16 * u + l) s.requires.paired) (omega arith) (omega arith) refl c.set_quad.ensures (new-top 24 s.args.v.now s.args.w.now q.quad_at-q.ensures u l s.requires.u_some s.requires.l_below g.gains-g.ensures h.gains-h.ensures))
 
 pub top_lane_spec : {M : Type 1} → of.Statement.statement M
 top_lane_spec = of.Tie.close (of.Tie.spec

@@ -28,7 +28,7 @@ returns c =
     let t = e0.before.before in
     let s = t.before in
     let m = s.before.requires.0 in
-    let x = now s.before.args.x in
+    let x = s.before.args.x.now in
     fill_done c.before.loop-k.invariant (omega arith)
     ∙ fours-are 8 (λ p. halfcomplex (line_of x p))
     (e0.even_of-e0.ensures (sums_of x) (sums_most m) s.sums-s.ensures ∙ even-line x 0)

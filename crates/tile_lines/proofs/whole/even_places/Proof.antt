@@ -16,7 +16,7 @@ returns : tie.Need-returns
 unfolding side16
 returns c =
     let s = c.before.before.before.before.before.before.before.before.before in
-    let x = now s.before.args.x in
+    let x = s.before.args.x.now in
     c.even.ensures ∙ places-held side16 w16 8 eight (sum_at (of x)) (eight-picked (sum_at (of x))) (sums_most side16 8 s.before.requires s.sums-s.ensures) tt s.sums-s.ensures (λ i. 2 * i) _ (λ i. even-folded rules16 (of x) i)
 
 pub even_places_spec : {M : Type 1} → statement M

@@ -16,7 +16,7 @@ returns : tie.Need-returns
 unfolding side16
 returns c =
     let s = c.before.before.before.before.before.before.before.before.before in
-    let x = now s.before.args.x in
+    let x = s.before.args.x.now in
     c.odd.ensures ∙ places-held side16 w16 8 eight (difference_at (of x)) (eight-picked (difference_at (of x))) (differences-most side16 8 s.before.requires s.differences-t.ensures) tt s.differences-t.ensures (λ i. 2 * i + 1) _ (λ i. odd-folded rules16 (of x) i)
 
 pub odd_places_spec : {M : Type 1} → statement M

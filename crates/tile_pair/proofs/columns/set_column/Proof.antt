@@ -16,7 +16,7 @@ loop-again c =
     let l = c.before.before in
     let s = l.before in
     let k = l.loop-k.k in
-    let v = get_or (now s.args.z) k (pos 0) in
+    let v = get_or s.args.z.now k (pos 0) in
     let e : to_z w32 (of_z w32 v) ≡ v = search rules in
     fill-turn l.loop-k.invariant (omega arith)
     (ap₂ (λ line v. set line s.args.l v) (fill-rest l.loop-k.invariant (omega arith) []) e ∙ set-row 16 32 _ s.requires.1.is k (omega arith) s.args.l v)

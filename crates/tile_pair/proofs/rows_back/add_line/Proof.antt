@@ -38,7 +38,7 @@ returns-2 c w =
     let x = c.before.before.before in
     let e = x.before.before in
     let s = e.before in
-    c.add_whole_row.ensures ∙ away-added 32 (now s.args.sum) _ (x.whole_halves.ensures (row_at s.args.low false e.if-low.false w))
+    c.add_whole_row.ensures ∙ away-added 32 s.args.sum.now _ (x.whole_halves.ensures (row_at s.args.low false e.if-low.false w))
 
 pub add_line_spec : {M : Type 1} → of.Statement.statement M
 add_line_spec = of.Tie.close (of.Tie.spec (λ c κs. search rules) add-row-requires returns whole-halves-requires add-whole-row-requires returns-2)

@@ -13,7 +13,7 @@ loop-again : of.Tie.Need-loop-y-preserved invariant-loop-y decreases-loop-y
 unfolding cell
 loop-again c =
     let l = c.before.before in
-    let z = get_or (get_or (now l.before.args.d) l.loop-y.y []) l.before.args.l (pos 0) in
+    let z = get_or (get_or l.before.args.d.now l.loop-y.y []) l.before.args.l (pos 0) in
     let e : to_z w16 (of_z w16 z) ≡ z = search rules in
     fill-turn l.loop-y.invariant (omega arith) e
 

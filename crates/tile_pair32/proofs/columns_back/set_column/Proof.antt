@@ -16,7 +16,7 @@ loop-again c =
     let l = c.before.before in
     let s = l.before in
     let k = l.loop-k.k in
-    let v = get_or (now s.args.z) k nan in
+    let v = get_or s.args.z.now k nan in
     fill-turn l.loop-k.invariant (omega arith)
     (ap (λ line. set line s.args.l v) (fill-rest l.loop-k.invariant (omega arith) []) ∙ set-row 32 64 _ s.requires.1.is k (omega arith) s.args.l v)
 

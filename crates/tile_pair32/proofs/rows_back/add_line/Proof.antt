@@ -66,7 +66,7 @@ returns-3 c w =
     let f = x.before.before in
     let e = f.before in
     let s = e.before in
-    c.add_whole_row.ensures ∙ away-added 64 (now s.args.sum) _ (x.whole_halves.ensures (row_at s.args.low s.args.middle false false e.if-low.false f.if-middle.false w))
+    c.add_whole_row.ensures ∙ away-added 64 s.args.sum.now _ (x.whole_halves.ensures (row_at s.args.low s.args.middle false false e.if-low.false f.if-middle.false w))
 
 pub add_line_spec : {M : Type 1} → of.Statement.statement M
 add_line_spec = of.Tie.close (of.Tie.spec

@@ -4,7 +4,7 @@ use Rattle.tile_quad.proofs.Stores.{with-quad}
 use Rattle.tile_quad.proofs.thirty_two.set_quad as of
 
 returns : of.Tie.Need-returns
-returns c = with-quad 16 (λ r e. record { is = e }) c.args.u c.args.l c.requires.u_below c.requires.l_below c.args.t4 c.requires.paired.is
+returns c = with-quad 16 (λ r e. record { is = e }) c.args.u c.args.l c.requires.u_below c.requires.l_below c.args.q c.requires.paired.is
 
 pub set_quad_spec : {M : Type 1} → of.Statement.statement M
 set_quad_spec = of.Tie.close (of.Tie.spec

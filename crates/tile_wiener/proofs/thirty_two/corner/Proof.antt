@@ -30,8 +30,8 @@ loop-again c =
     let g = f.before in
     let q = g.before.before.before in
     let p = q.before.before.before in
-    let v = now p.before.args.v in
-    let w = now p.before.args.w in
+    let v = p.before.args.v.now in
+    let w = p.before.args.w.now in
     let l = p.loop-l.l in (
       omega arith,
       shrunk-turn p.loop-l.invariant.1 (omega arith) (omega arith) (omega arith) c.set_quad.ensures (new-corner 26 v w q.quad_at-q.ensures l (omega arith) g.real_gain.ensures f.real_gain-in-loop-l.ensures e.real_gain-in-loop-l-2.ensures d.real_gain-in-loop-l-3.ensures)

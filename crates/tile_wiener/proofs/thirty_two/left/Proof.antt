@@ -28,8 +28,8 @@ loop-again c =
     let g = h.before in
     let q = g.before.before.before in
     let p = q.before.before.before in
-    let v = now p.before.args.v in
-    let w = now p.before.args.w in
+    let v = p.before.args.v.now in
+    let w = p.before.args.w.now in
     let l = p.loop-l.l in (
       omega arith,
       omega arith,

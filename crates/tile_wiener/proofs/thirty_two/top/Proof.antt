@@ -14,8 +14,8 @@ returns c =
     let p = one.before.before.before.before.before in
     let q = p.before.before in
     let a = q.before.before in
-    let v = now a.args.v in
-    let w = now a.args.w in
+    let v = a.args.v.now in
+    let w = a.args.w.now in
     let u = a.args.u in
     let some = a.requires.u_some in
     let first = lanes-between {o = 32 * u} {p = 32 * u + 1} q.top_lane-q.ensures.1 (omega arith) (omega arith) in

@@ -18,13 +18,13 @@ loop-holds c = (omega arith, refl)
 add-squares-requires : of.Tie.Need-add_squares-requires invariant-loop-i decreases-loop-i
 unfolding cell
 add-squares-requires c κs =
-    let l = c.before.before.before in
+    let l = c.before.before in
     let s = l.before in
     (record { most = s.requires.most l.loop-i.i }, lanes_fit 64 _ _ s.requires l.loop-i.i 31 (omega arith) l.loop-i.invariant.1)
 
 loop-again : of.Tie.Need-loop-i-preserved invariant-loop-i decreases-loop-i
 loop-again c =
-    let l = c.before.before.before.before in
+    let l = c.before.before.before in
     (omega arith, c.add_squares.ensures ∙ lanes-turn 64 _ _ l.loop-i.i l.loop-i.invariant.1)
 
 returns : of.Tie.Need-returns invariant-loop-i decreases-loop-i

@@ -10,7 +10,7 @@ abbrev decreases-loop-j : of.Tie.decreases-loop-j
 decreases-loop-j sum p s₀ j₀ s j = 32 - j
 
 -- what is added
-most : (c : of.Tie.After-s-1 invariant-loop-j decreases-loop-j) → let b = c.before.before in get_or (now b.before.args.sum) (2 * b.loop-j.j + b.before.args.p) 0 ≤ 536608800
+most : (c : of.Tie.After-s-1 invariant-loop-j decreases-loop-j) → let b = c.before.before in get_or b.before.args.sum.now (2 * b.loop-j.j + b.before.args.p) 0 ≤ 536608800
 most c = c.before.before.before.requires.1.most _
 
 loop-again : of.Tie.Need-loop-j-preserved invariant-loop-j decreases-loop-j
