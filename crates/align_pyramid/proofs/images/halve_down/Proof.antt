@@ -13,7 +13,7 @@ invariant-loop work₀ from₀ h₀ w₀ sums₀ counter₀ work from h w sums c
 abbrev decreases-loop : of.Tie.decreases-loop
 decreases-loop work₀ from₀ h₀ w₀ sums₀ counter₀ work from h w sums counter = 5 - counter
 
-room : (c : of.Tie.In-loop invariant-loop decreases-loop) → let s = c.before.loop in s.from + s.h * s.w + s.h / 2 * (s.w / 2) ≤ length s.work-1
+room : (c : of.Tie.In-loop invariant-loop decreases-loop) → let s = c.before.loop in s.from + s.h * s.w + s.h / 2 * (s.w / 2) ≤ length s.work
 room c = halving-room c.before.before.requires c.before.loop.invariant.0 (omega arith)
 
 halve-requires : of.Tie.Need-halve-requires invariant-loop decreases-loop

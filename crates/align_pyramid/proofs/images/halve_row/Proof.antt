@@ -15,8 +15,8 @@ invariant-loop-column work₀ row to sums column₀ column-end work column = Wri
 abbrev decreases-loop-column : of.Tie.decreases-loop-column
 decreases-loop-column work₀ row to sums column₀ column-end work column = column-end - column
 
-low : (c : of.Tie.After-column_sums invariant-loop-column decreases-loop-column) (k : ℕ) → k < c.before.before.before.before.args.image.width + 2 → get_or c.column_sums.new.1.1.1.0 k 0 ≤ column_most
-low c = let s = c.before.before.before.before in sum-most s.requires.rows.source s.args.row s.args.sums-1.now (omega arith) c.column_sums.ensures
+low : (c : of.Tie.After-column_sums invariant-loop-column decreases-loop-column) (k : ℕ) → k < c.before.before.before.args.image.width + 2 → get_or c.column_sums.new.sums k 0 ≤ column_most
+low c = let s = c.before.before.before in sum-most s.requires.rows.source s.args.row s.args.sums.now (omega arith) c.column_sums.ensures
 
 halved-value-requires : of.Tie.Need-halved_value-value-requires invariant-loop-column decreases-loop-column
 halved-value-requires c κs =
@@ -29,10 +29,10 @@ loop-again c = write-turn c.before.before.before.before.before.before.loop-colum
 returns : of.Tie.Need-returns invariant-loop-column decreases-loop-column
 returns c =
     let summed = c.before.before.before.before.before in
-    let s = summed.before.before.before.before in
+    let s = summed.before.before.before in
     write_done c.before.loop-column.invariant (omega arith)
     ∙ written-ext s.args.work.now s.args.to (s.args.image.width / 2) _ _
-    (λ column h. ap pos (sums-halved s.requires.rows.source s.args.row s.args.sums-1.now (omega arith) summed.column_sums.ensures column h))
+    (λ column h. ap pos (sums-halved s.requires.rows.source s.args.row s.args.sums.now (omega arith) summed.column_sums.ensures column h))
 
 pub halve_row_spec : {M : Type 1} → of.Statement.statement M
 halve_row_spec = of.Tie.close (of.Tie.spec
