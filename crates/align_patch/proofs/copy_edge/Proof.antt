@@ -34,7 +34,7 @@ copy-group-requires c κs = let s = c.before.before.before.before.before in
       row = s.requires.row;
       wide = s.requires.wide;
       wide_small = s.requires.wide_small;
-      near = further _ (to_z w64 (of_z w64 s.args.column)) (8 * c.before.before.before.loop-k.k) s.args.n (back m.result m.ok ∙ m.ensures) (rw (to_z-of_z s.ranges.column) s.requires.near) (omega arith);
+      near = further _ (to_z w64 (of_z w64 s.args.column)) (8 * c.before.before.before.loop-k.k) s.args.n (back m.result m.type_inv ∙ m.ensures) (rw (to_z-of_z s.ranges.column) s.requires.near) (omega arith);
       eights = refl;
       small = lit≤ tt;
       room = omega arith;
@@ -45,7 +45,7 @@ loop-again c = let a = c.before.before.before.before.before.before.before.before
     let l = c.before.before.before.before.before.before.loop-k in
     let m = c.before.before.before.before.shifted-first in
     let e : 8 * (l.k + 1) ≡ 8 * l.k + 8 = omega arith in
-    rw e (write-part l.inv (omega arith) (λ j h. ap (λ x. word_at a.words.now (a.start + inside a.width x)) (ap (λ z. z +ℤ pos j) (back m.result m.ok ∙ m.ensures) ∙ eights (to_z w64 (of_z w64 a.column)) (8 * l.k) j)) c.before.before.copy_group.ensures)
+    rw e (write-part l.invariant (omega arith) (λ j h. ap (λ x. word_at a.words.now (a.start + inside a.width x)) (ap (λ z. z +ℤ pos j) (back m.result m.type_inv ∙ m.ensures) ∙ eights (to_z w64 (of_z w64 a.column)) (8 * l.k) j)) c.before.before.copy_group.ensures)
 
 returns : of.Tie.Need-returns invariant-loop-k decreases-loop-k
 returns c = simp (to_z-of_z c.before.before.before.ranges.column) at (write_done c.before.loop-k.invariant (omega arith))

@@ -19,7 +19,7 @@ loop-again : of.Tie.Need-loop-k-preserved invariant-loop-k decreases-loop-k
 loop-again c = let a = c.before.before.before.before.before.before.before.args in
     let l = c.before.before.before.before.before.loop-k in
     let e : 8 * (l.k + 1) ≡ 8 * l.k + 8 = omega arith in
-    rw e (write-part l.inv (omega arith) (λ j h. ap (word_at a.words.now) (add_assoc a.from (8 * l.k) j)) c.before.before.copy_eight.ensures)
+    rw e (write-part l.invariant (omega arith) (λ j h. ap (word_at a.words.now) (add_assoc a.from (8 * l.k) j)) c.before.before.copy_eight.ensures)
 
 returns : of.Tie.Need-returns invariant-loop-k decreases-loop-k
 returns c = write_done c.before.loop-k.invariant (omega arith)

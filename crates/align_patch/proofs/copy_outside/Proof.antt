@@ -37,9 +37,9 @@ loop-again c =
     let s = c.before.before.before.before.before.before.before in
     let l = c.before.before.before.before.loop-j in
     let z = to_z w64 (of_z w64 s.args.column) +ℤ pos l.j in (
-      write-turn l.inv.0 (omega arith)
-          (c.before.sample.ensures ∙ ap (λ x. word_at s.args.words.now (s.args.start + x)) (c.before.before.folded-x.ensures.0 ∙ ap (mirrored s.args.width) l.inv.1 ∙ place-reads s.args.width s.requires.wide z)),
-      c.next_place-place.ensures ∙ ap (next_in s.args.width) l.inv.1 ∙ sym (place-next s.args.width s.requires.wide z) ∙ ap (place_in s.args.width) (+ℤ_assoc (to_z w64 (of_z w64 s.args.column)) (pos l.j) (pos 1)),
+      write-turn l.invariant.0 (omega arith)
+          (c.before.sample.ensures ∙ ap (λ x. word_at s.args.words.now (s.args.start + x)) (c.before.before.folded-x.ensures.0 ∙ ap (mirrored s.args.width) l.invariant.1 ∙ place-reads s.args.width s.requires.wide z)),
+      c.next_place-place.ensures ∙ ap (next_in s.args.width) l.invariant.1 ∙ sym (place-next s.args.width s.requires.wide z) ∙ ap (place_in s.args.width) (+ℤ_assoc (to_z w64 (of_z w64 s.args.column)) (pos l.j) (pos 1)),
     )
 
 returns : of.Tie.Need-returns invariant-loop-j decreases-loop-j

@@ -63,10 +63,10 @@ loop-again c = let y = c.before.before.before.before.before.before.before in
       omega arith,
       omega arith,
       rw c.before.before.copy_row.ensures
-          (copied-turn l.inv.2 (omega arith) _
+          (copied-turn l.invariant.2 (omega arith) _
           (λ j. ap₂ (λ y x. word_at a.words.now (i.from + y * i.width + inside i.width (x +ℤ pos j)))
           (y.inside-y.ensures.0
-          ∙ ap (inside i.height) (back m.result m.ok ∙ m.ensures ∙ ap (λ z. z +ℤ pos l.i) (back-small a.corner.down (2 ^ 20) s.requires.near.vertical tt)))
+          ∙ ap (inside i.height) (back m.result m.type_inv ∙ m.ensures ∙ ap (λ z. z +ℤ pos l.i) (back-small a.corner.down (2 ^ 20) s.requires.near.vertical tt)))
           (back-small a.corner.right (2 ^ 20) s.requires.near.sideways tt))),
     )
 

@@ -29,8 +29,8 @@ loop-again c =
     let turn = called.before.before.before.before.before.loop-row in
     let s = called.before.before.before.before.before.before.before.before in
     let a = s.args in (
-      lay-turn turn.inv.0 (omega arith)
-          (λ column k. ap pos (kept_halved (laying-kept turn.inv.0) a.image (omega arith) s.requires.0.source _ column))
+      lay-turn turn.invariant.0 (omega arith)
+          (λ column k. ap pos (kept_halved (laying-kept turn.invariant.0) a.image (omega arith) s.requires.0.source _ column))
           called.halve_row.ensures,
       search rules,
     )

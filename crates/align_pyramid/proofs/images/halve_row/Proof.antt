@@ -29,7 +29,7 @@ loop-again c = write-turn c.before.before.before.before.before.before.loop-colum
 returns : of.Tie.Need-returns invariant-loop-column decreases-loop-column
 returns c =
     let summed = c.before.before.before.before.before in
-    let s = summed.before.before.before.before in
+    let s = summed.before.before.before in
     write_done c.before.loop-column.invariant (omega arith)
     ∙ written-ext s.args.work.now s.args.to (s.args.image.width / 2) _ _
     (λ column h. ap pos (sums-halved s.requires.rows.source s.args.row s.args.sums.now (omega arith) summed.column_sums.ensures column h))
