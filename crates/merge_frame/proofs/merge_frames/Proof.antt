@@ -37,7 +37,7 @@ unfolding scene_at
 returns c =
     let r = c.before.before.before in
     let s = r.before.before.before.before.before.before in
-    r.merge_rows.ensures ∙ whole-merged s.requires.accepted.burst.sided (scene_of s.args.m (now s.args.samples) (now s.args.vectors)) s.requires.accepted.burst.allowed.high
+    r.merge_rows.ensures ∙ whole-merged s.requires.accepted.burst.sided (scene_of s.args.m s.args.samples.now s.args.vectors.now) s.requires.accepted.burst.allowed.high
 
 pub merge_frames_spec : {M : Type 1} → of.Statement.statement M
 merge_frames_spec = of.Tie.close (of.Tie.spec

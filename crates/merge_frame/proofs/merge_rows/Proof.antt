@@ -30,7 +30,7 @@ returns c =
     let q = c.before.before.before in
     let p = q.before.before.before.before.before.before in
     let s = p.before.before.before.before.before in
-    all-merged s.requires.accepted.burst.sided (scene_of s.args.m (now s.args.samples) (now s.args.vectors)) s.args.first s.args.last s.requires.output_long p.merge_parity.ensures q.merge_parity-2.ensures
+    all-merged s.requires.accepted.burst.sided (scene_of s.args.m s.args.samples.now s.args.vectors.now) s.args.first s.args.last s.requires.output_long p.merge_parity.ensures q.merge_parity-2.ensures
 
 pub merge_rows_spec : {M : Type 1} → of.Statement.statement M
 merge_rows_spec = of.Tie.close (of.Tie.spec

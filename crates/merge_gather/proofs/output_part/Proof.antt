@@ -25,9 +25,9 @@ divided s = let d = s.requires.0.divided in record { some = d.some; few = d.few;
 
 -- the word at place l of the part, from its sample at n
 word : (s : of.Tie.Start invariant-loop-x decreases-loop-x) (l : ℕ) → l < 16 → {n : ℕ} → n ≡ s.args.span.from + (s.args.place + l) → {sum : ℤ} {r : ℕ}
-    → sum ≡ windowed (side_of s.args.span.side) s.args.span.i ((s.args.place + l) / 2) (word_over (now s.args.work) s.args.span (s.args.place + l))
-    → r ≡ nat_abs (corrected side16 (get_or (now s.args.samples) n 0) sum (s.args.by.count - 1))
-    → r ≡ word_from (now s.args.samples) (now s.args.work) s.args.span s.args.by.count (s.args.place + l)
+    → sum ≡ windowed (side_of s.args.span.side) s.args.span.i ((s.args.place + l) / 2) (word_over s.args.work.now s.args.span (s.args.place + l))
+    → r ≡ nat_abs (corrected side16 (get_or s.args.samples.now n 0) sum (s.args.by.count - 1))
+    → r ≡ word_from s.args.samples.now s.args.work.now s.args.span s.args.by.count (s.args.place + l)
 unfolding word_from
 word s l h there is e =
     let a = s.args in
@@ -36,8 +36,8 @@ word s l h there is e =
     let column = block-column sided k (omega (arith, s.requires.1)) in
     e
     ∙ ap nat_abs
-    (ap₂ (λ t0 z. corrected side16 t0 z (a.by.count - 1)) (ap (λ n. get_or (now a.samples) n 0) there)
-    (is ∙ ap (λ j. windowed (side_of a.span.side) a.span.i j (word_over (now a.work) a.span k)) (sym column))
+    (ap₂ (λ t0 z. corrected side16 t0 z (a.by.count - 1)) (ap (λ n. get_or a.samples.now n 0) there)
+    (is ∙ ap (λ j. windowed (side_of a.span.side) a.span.i j (word_over a.work.now a.span k)) (sym column))
     ∙ corrected-any sided _ _ _)
 
 windowed-requires : of.Tie.Need-windowed-sum-requires invariant-loop-x decreases-loop-x

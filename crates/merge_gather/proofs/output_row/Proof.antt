@@ -57,8 +57,8 @@ loop-holds c =
     let p = row_span a.shape a.reference a.parity a.y a.top in
     let whole : n * (a.shape.width / n) ≡ a.shape.width = blocks-whole s.requires.inside.sided a.shape.width s.requires.inside.allowed.wide.whole in
     let none : 0 ≡ n * 0 = omega arith in
-    subst (λ p. Writing (now a.output) p.start (word_from (now a.samples) (now a.work) p a.shape.count) (p.side * (a.shape.width / n)) (p.side * 0) (now a.output)) (sym c.before.row_span-row.ensures.0)
-    (subst (λ k. Writing (now a.output) p.start (word_from (now a.samples) (now a.work) p a.shape.count) (n * (a.shape.width / n)) k (now a.output)) none (write-start (omega (arith, whole, s.requires.output_room))))
+    subst (λ p. Writing a.output.now p.start (word_from a.samples.now a.work.now p a.shape.count) (p.side * (a.shape.width / n)) (p.side * 0) a.output.now) (sym c.before.row_span-row.ensures.0)
+    (subst (λ k. Writing a.output.now p.start (word_from a.samples.now a.work.now p a.shape.count) (n * (a.shape.width / n)) k a.output.now) none (write-start (omega (arith, whole, s.requires.output_room))))
 
 further-requires : of.Tie.Need-further-span-requires invariant-loop-column decreases-loop-column
 further-requires c κs =
@@ -81,7 +81,7 @@ output-block-requires c κs =
     let inside = block_room s.requires.inside.sided a.shape.width column taken in
     record {
       weighed =
-          subst (λ p. Weighed (now a.work) p w.before.before.weights-lower.result w.weights-upper.result) (sym e)
+          subst (λ p. Weighed a.work.now p w.before.before.weights-lower.result w.weights-upper.result) (sym e)
           (block-weighed a.shape a.reference a.parity a.y a.top column s.requires.inside.sided s.requires.over w.before.before.weights-lower.ensures w.weights-upper.ensures taken);
       divided = record { some = s.requires.inside.allowed.some; few = s.requires.inside.allowed.few; inverse_is = refl };
       samples_room = rw e (omega (arith, subst (λ p. p.from + a.shape.width ≤ sample_length a.shape) r.ensures.0 (roomy l).samples, s.requires.samples_long, inside));
@@ -110,7 +110,7 @@ returns c =
     let columns = a.shape.width / a.shape.side in
     let size : r.result.side * columns ≡ a.shape.width = ap (λ n. n * columns) (side_is l) ∙ blocks-whole s.requires.inside.sided a.shape.width s.requires.inside.allowed.wide.whole in
     write_done l.loop-column.invariant (mul-le-mul_left {m = columns} {n = l.loop-column.column} r.result.side c.loop-column-test.false)
-    ∙ ap₂ (λ p n. written (now a.output) p.start (word_from (now a.samples) (now a.work) p a.shape.count) n) r.ensures.0 size
+    ∙ ap₂ (λ p n. written a.output.now p.start (word_from a.samples.now a.work.now p a.shape.count) n) r.ensures.0 size
 
 pub output_row_spec : {M : Type 1} → of.Statement.statement M
 output_row_spec = of.Tie.close (of.Tie.spec

@@ -6,10 +6,10 @@ use Rattle.merge_gather.specs.Work.{weight_most}
 use Rattle.merge_tiles.specs.SignedLaws.{product_is, product-most}
 use Rattle.merge_gather.proofs.part as of
 
-word_small : (c : of.Tie.Start) → AtMost taken_most (get_or (now c.args.work) c.args.at (pos 0))
+word_small : (c : of.Tie.Start) → AtMost taken_most (get_or c.args.work.now c.args.at (pos 0))
 word_small c = record { most = c.requires.word-most }
 
-weight-small : (c : of.Tie.Start) → AtMost weight_most (get_or (now c.args.weights) c.args.l (pos 0))
+weight-small : (c : of.Tie.Start) → AtMost weight_most (get_or c.args.weights.now c.args.l (pos 0))
 weight-small c = record { most = c.requires.weight-most }
 
 mul-result-3 : of.Tie.Need-overflow_mul-result

@@ -24,7 +24,7 @@ loop-again c =
     let rest : (2 * j + 1) % 2 ≡ 1 = omega arith in
     let none : 2 * j % 2 ≡ 0 = omega arith in
     turn j a.before.before.loop-j.invariant (omega arith)
-    (rw (c.before.before.inside.ensures.0, read, a.along.ensures, even, none) (ap (λ n. get_or (now a.before.before.before.before.args.samples) n 0) (omega arith)))
+    (rw (c.before.before.inside.ensures.0, read, a.along.ensures, even, none) (ap (λ n. get_or a.before.before.before.before.args.samples.now n 0) (omega arith)))
     (rw (c.before.before.inside.ensures.0, read, a.along.ensures, odd, rest))
 
 returns : of.Tie.Need-returns invariant-loop-j decreases-loop-j

@@ -24,11 +24,11 @@ range-parity-requires-2 c κs =
 
 -- the frames by the burst's side
 module _ (s : of.Tie.Start) where
-  by_side : (end : End) {o : List ℕ} → let a = s.args in o ≡ frame_end end (scene_at side16 a.m (now a.samples) (now a.vectors)) (scene_at side16 (raised a.m a.upper) (now a.samples) (now a.vectors))
-      → o ≡ frame_end end (scene_of a.m (now a.samples) (now a.vectors)) (scene_of (raised a.m a.upper) (now a.samples) (now a.vectors))
+  by_side : (end : End) {o : List ℕ} → let a = s.args in o ≡ frame_end end (scene_at side16 a.m a.samples.now a.vectors.now) (scene_at side16 (raised a.m a.upper) a.samples.now a.vectors.now)
+      → o ≡ frame_end end (scene_of a.m a.samples.now a.vectors.now) (scene_of (raised a.m a.upper) a.samples.now a.vectors.now)
   by_side end {o} e =
       let a = s.args in
-      subst (λ n. o ≡ frame_end end (scene_at n a.m (now a.samples) (now a.vectors)) (scene_at n (raised a.m a.upper) (now a.samples) (now a.vectors))) (sym (of_16 s.requires.accepted.side_is)) e
+      subst (λ n. o ≡ frame_end end (scene_at n a.m a.samples.now a.vectors.now) (scene_at n (raised a.m a.upper) a.samples.now a.vectors.now)) (sym (of_16 s.requires.accepted.side_is)) e
 
 returns : of.Tie.Need-returns
 unfolding scene_at output_length

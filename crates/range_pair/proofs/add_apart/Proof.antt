@@ -8,7 +8,7 @@ use Rattle.range_pair.proofs.add_apart as of
 
 -- the differences
 abbrev differences : of.Tie.Start → ℕ → ℕ → ℤ
-differences s = cell (pos 0) (now s.args.d)
+differences s = cell (pos 0) s.args.d.now
 
 -- both G, folded
 low_is : (c : of.Tie.After-wiener_of-low) → let s = c.before.before.before.before in c.wiener_of-low.result ≡ doubles (gains s.args.lower s.requires.lower_fits (differences s))
@@ -84,8 +84,8 @@ returns c =
     let low-back = o.back.ensures (gains_whole _ p.lower_fits (differences s) low) in
     let high-back = r.back-2.ensures (gains_whole _ p.upper_fits (differences s) high) in
     record {
-      greatest_is = c.add_lines.ensures.greatest_is ∙ plus-ext _ _ _ (greatest-here a.lower a.upper p.lower_fits p.upper_fits (now a.d) low high widths low-back high-back);
-      least_is = c.add_lines.ensures.least_is ∙ plus-ext _ _ _ (least-here a.lower a.upper p.lower_fits p.upper_fits (now a.d) low high widths low-back high-back);
+      greatest_is = c.add_lines.ensures.greatest_is ∙ plus-ext _ _ _ (greatest-here a.lower a.upper p.lower_fits p.upper_fits a.d.now low high widths low-back high-back);
+      least_is = c.add_lines.ensures.least_is ∙ plus-ext _ _ _ (least-here a.lower a.upper p.lower_fits p.upper_fits a.d.now low high widths low-back high-back);
     }
 
 pub add_apart_spec : {M : Type 1} → of.Statement.statement M

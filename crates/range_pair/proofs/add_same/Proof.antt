@@ -10,7 +10,7 @@ use Rattle.range_pair.proofs.add_same as of
 
 -- P
 abbrev part : of.Tie.Start → ℕ → ℕ → ℤ
-part s = pair_p (now s.args.d) s.args.noises
+part s = pair_p s.args.d.now s.args.noises
 
 part-most : (s : of.Tie.Start) (y l : ℕ) → nat_abs (part s y l) ≤ correction_most
 part-most s y l = correction-most _ _ (λ y x. cells-most s.requires.differences y (2 * x + l % 2)) y (l / 2)
@@ -47,7 +47,7 @@ returns c =
     let g = c.before.before.before in
     let a = g.before.before.before in
     let s = a.before.before in
-    let d = now s.args.d in
+    let d = s.args.d.now in
     let v = s.args.noises in
     let is = added_is (part s) a.add_corrections.ensures in
     record {

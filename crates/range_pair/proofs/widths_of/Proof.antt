@@ -63,7 +63,7 @@ returns c =
     let q = fill_done l.loop-u.invariant.1 (omega arith) in
     let n = distant (distance_re a.apart_pair-w.result) (distance-re-most m) p in
     let o = distant (distance_im a.apart_pair-w.result) (distance-im-most m) q in (
-      c.widths.ensures ∙ widths-are (now s.args.low) (now s.args.high) a.apart_pair-w.ensures f.factors-f.ensures p q,
+      c.widths.ensures ∙ widths-are s.args.low.now s.args.high.now a.apart_pair-w.ensures f.factors-f.ensures p q,
       width-tile _ (pair-width-most (factored f.factors-f.ensures) n o) c.widths.ensures,
     )
 

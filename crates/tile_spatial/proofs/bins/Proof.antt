@@ -27,7 +27,7 @@ returns c =
     let l = g.before.before.before in
     let f = l.before in
     let h = f.before.before.before in
-    let t = now h.before.args.c in
+    let t = h.before.args.c.now in
     let p = h.highs.ensures in
     let q = l.lows.ensures in (
       c.places.ensures ∙ places-are t p.0 q.0 p.1 q.1 f.forward_into.ensures g.forward_into-2.ensures,

@@ -12,7 +12,7 @@ use Rattle.tile_spatial.proofs.filter_pair as of
 noises_most : (n : of.Tie.After-lanes-noises) → NoisesMost spatial_most n.lanes-noises.result
 noises_most n =
     let s = n.before.before.before.before.before in
-    lanes-most (now s.args.first) (now s.args.second) n.lanes-noises.ensures s.requires.first_most s.requires.second_most
+    lanes-most s.args.first.now s.args.second.now n.lanes-noises.ensures s.requires.first_most s.requires.second_most
 
 -- the step on their bins
 abbrev step_is : (g : of.Tie.After-step-g) → InDouble (fold_most false) g.step-g.result
@@ -22,14 +22,14 @@ step_is g =
 
 -- P' of both
 steps : (i : of.Tie.After-add_inverse_of) → let n = i.before.before.before.before.before.before in let k = n.before.before.before in let a = k.before.before.args in
-    i.add_inverse_of.new.1.1.0 ≡ grid 16 32 (λ y l. step_at (bin_noise (cell 0 (either (now a.first) (now a.second) (l % 2)))) (plane_in (cell (pos 0) k.copy_pair-c.result) (l % 2)) y (l / 2))
+    i.add_inverse_of.new.1.1.0 ≡ grid 16 32 (λ y l. step_at (bin_noise (cell 0 (either a.first.now a.second.now (l % 2)))) (plane_in (cell (pos 0) k.copy_pair-c.result) (l % 2)) y (l / 2))
 unfolding grid tab
 steps i =
     let g = i.before.before.before in
     let n = g.before.before.before in
     let k = n.before.before.before in
     let a = k.before.before.args in
-    i.add_inverse_of.ensures (step_is g) ∙ steps-are (now a.first) (now a.second) n.lanes-noises.ensures k.copy_pair-c.result n.before.bins-w.ensures.0 refl
+    i.add_inverse_of.ensures (step_is g) ∙ steps-are a.first.now a.second.now n.lanes-noises.ensures k.copy_pair-c.result n.before.bins-w.ensures.0 refl
 
 copy-pair-requires : of.Tie.Need-copy_pair-c-requires
 copy-pair-requires c κs =
@@ -58,7 +58,7 @@ add-times-requires c κs =
     let s = k.before.before in
     record {
       frames_fit = s.requires.frames_fit;
-      part = subst (TileMost spatial_correction_most) (sym (steps i)) (steps-most (now s.args.first) (now s.args.second) n.lanes-noises.ensures k.copy_pair-c.result n.before.bins-w.ensures.0 s.requires.first_most s.requires.second_most);
+      part = subst (TileMost spatial_correction_most) (sym (steps i)) (steps-most s.args.first.now s.args.second.now n.lanes-noises.ensures k.copy_pair-c.result n.before.bins-w.ensures.0 s.requires.first_most s.requires.second_most);
       sums = s.requires.sums;
       paired = s.requires.paired;
     }
@@ -69,15 +69,15 @@ returns c =
     let i = c.before.before.before in
     let k = i.before.before.before.before.before.before.before.before.before in
     let a = k.before.before.args in
-    let noise : ℕ → ℕ → ℕ → ℕ = λ p. cell 0 (either (now a.first) (now a.second) p) in
+    let noise : ℕ → ℕ → ℕ → ℕ = λ p. cell 0 (either a.first.now a.second.now p) in
     let copied : ℕ → ℕ → ℕ → ℤ = λ p. plane_in (cell (pos 0) k.copy_pair-c.result) p in
-    let copy : ℕ → ℕ → ℕ → ℤ = λ p. copy_in a.frames (plane_in (cell 0 (now a.t0)) p) (plane_in (cell (pos 0) (now a.sum)) p) in
+    let copy : ℕ → ℕ → ℕ → ℤ = λ p. copy_in a.frames (plane_in (cell 0 a.t0.now) p) (plane_in (cell (pos 0) a.sum.now) p) in
     c.add_times.ensures
     ∙ grid-ext 16 32 _ _
-    (λ y l h j. ap (λ z. cell (pos 0) (now a.sum) y l +ℤ pos a.frames *ℤ z)
+    (λ y l h j. ap (λ z. cell (pos 0) a.sum.now y l +ℤ pos a.frames *ℤ z)
     (ap (λ t. cell (pos 0) t y l) (steps i) ∙ cell-grid (pos 0) 16 32 (λ y l. step_at (bin_noise (noise (l % 2))) (copied (l % 2)) y (l / 2)) y l h j
     ∙ step-cong (bin_noise (noise (l % 2))) (copied (l % 2)) (copy (l % 2))
-    (λ y x g o. ap (λ t. cell (pos 0) t y (2 * x + l % 2)) k.copy_pair-c.ensures.0 ∙ cell-grid (pos 0) 16 32 (copy_in a.frames (cell 0 (now a.t0)) (cell (pos 0) (now a.sum))) y (2 * x + l % 2) g (omega arith)) y (l / 2)))
+    (λ y x g o. ap (λ t. cell (pos 0) t y (2 * x + l % 2)) k.copy_pair-c.ensures.0 ∙ cell-grid (pos 0) 16 32 (copy_in a.frames (cell 0 a.t0.now) (cell (pos 0) a.sum.now)) y (2 * x + l % 2) g (omega arith)) y (l / 2)))
 
 pub filter_pair_spec : {M : Type 1} → of.Statement.statement M
 filter_pair_spec = of.Tie.close (of.Tie.spec

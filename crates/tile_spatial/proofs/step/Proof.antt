@@ -35,9 +35,9 @@ loop-again c =
     let n = c.before.before.before.before in
     let l = n.before.before in
     let a = l.before.args in
-    let row = ap (λ f. get_or (now a.noises) f []) n.counted.ensures.0 in (
-      fill-turn l.loop-u.invariant.0 (omega arith) (c.gain_row.ensures.0 ∙ ap (λ r. tab 18 (lane_re r (now a.w) l.loop-u.u)) row),
-      fill-turn l.loop-u.invariant.1 (omega arith) (c.gain_row.ensures.1 ∙ ap (λ r. tab 18 (lane_im r (now a.w) l.loop-u.u)) row),
+    let row = ap (λ f. get_or a.noises.now f []) n.counted.ensures.0 in (
+      fill-turn l.loop-u.invariant.0 (omega arith) (c.gain_row.ensures.0 ∙ ap (λ r. tab 18 (lane_re r a.w.now l.loop-u.u)) row),
+      fill-turn l.loop-u.invariant.1 (omega arith) (c.gain_row.ensures.1 ∙ ap (λ r. tab 18 (lane_im r a.w.now l.loop-u.u)) row),
     )
 
 folds-requires : of.Tie.Need-folds-requires invariant-loop-u decreases-loop-u
@@ -46,7 +46,7 @@ folds-requires c κs =
     let l = c.before.before.before in
     let s = l.before in
     let m = s.requires.noises_most in
-    let w = now s.args.w in
+    let w = s.args.w.now in
     record {
       re_most = subst (TileMost spatial_gain_most) (sym (fill_done l.loop-u.invariant.0 (omega arith))) (table-most spatial_gain_most _ (lane-re-most m w) 16 18);
       im_most = subst (TileMost spatial_gain_most) (sym (fill_done l.loop-u.invariant.1 (omega arith))) (table-most spatial_gain_most _ (lane-im-most m w) 16 18);
@@ -57,7 +57,7 @@ unfolding grid
 returns c =
     let l = c.before.before.before.before in
     let a = l.before.args in
-    c.folds.ensures ∙ spreads-are (now a.noises) (now a.w) (fill_done l.loop-u.invariant.0 (omega arith)) (fill_done l.loop-u.invariant.1 (omega arith))
+    c.folds.ensures ∙ spreads-are a.noises.now a.w.now (fill_done l.loop-u.invariant.0 (omega arith)) (fill_done l.loop-u.invariant.1 (omega arith))
 
 pub step_spec : {M : Type 1} → of.Statement.statement M
 step_spec = of.Tie.close (of.Tie.spec

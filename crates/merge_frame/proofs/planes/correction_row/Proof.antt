@@ -13,14 +13,14 @@ sixteen t h = ⊎_elim (λ e. e) (λ e. absurd (h e)) t.is
 
 -- what the burst's side and size say of a row of that side
 module _ (c : of.Tie.Start) {n : ℕ} (e : c.args.m.shape.side ≡ n) where
-  accepted-at : Accepted n c.args.m (now c.args.samples) (now c.args.vectors)
-  accepted-at = subst (λ n. Accepted n c.args.m (now c.args.samples) (now c.args.vectors)) e c.requires.accepted
+  accepted-at : Accepted n c.args.m c.args.samples.now c.args.vectors.now
+  accepted-at = subst (λ n. Accepted n c.args.m c.args.samples.now c.args.vectors.now) e c.requires.accepted
 
   row_at : c.args.row ≤ c.args.m.shape.height / n
   row_at = subst (λ n. c.args.row ≤ c.args.m.shape.height / n) e c.requires.row-most
 
-  room_at : 2 * row_words n c.args.m.shape.width ≤ length (now c.args.work)
-  room_at = subst (λ n. 2 * row_words n c.args.m.shape.width ≤ length (now c.args.work)) e c.requires.room
+  room_at : 2 * row_words n c.args.m.shape.width ≤ length c.args.work.now
+  room_at = subst (λ n. 2 * row_words n c.args.m.shape.width ≤ length c.args.work.now) e c.requires.room
 
 correction-row-requires : of.Tie.Need-correction_row-requires
 correction-row-requires c κs =
@@ -61,24 +61,24 @@ module _ (m : Merge) (samples : List ℕ) (vectors : List ℤ) {rowParity row : 
 returns : of.Tie.Need-returns-then-parity-eq0
 returns c =
     let s = c.before.before.before.before.before.before.before in
-    wide_row s.args.m (now s.args.samples) (now s.args.vectors) c.before.before.before.before.if-m-eq32.true c.before.before.before.if-parity-eq0.true c.before.correction_row.ensures
+    wide_row s.args.m s.args.samples.now s.args.vectors.now c.before.before.before.before.if-m-eq32.true c.before.before.before.if-parity-eq0.true c.before.correction_row.ensures
 
 returns-2 : of.Tie.Need-returns-then-m-eq32
 returns-2 c =
     let s = c.before.before.before.before.before.before.before in
     let one : s.args.parity ≡ 1 = omega (arith, s.requires.parity, c.before.before.before.if-parity-eq0.false) in
-    wide_row s.args.m (now s.args.samples) (now s.args.vectors) c.before.before.before.before.if-m-eq32.true one c.before.correction_row-then-m-eq32.ensures
+    wide_row s.args.m s.args.samples.now s.args.vectors.now c.before.before.before.before.if-m-eq32.true one c.before.correction_row-then-m-eq32.ensures
 
 returns-3 : of.Tie.Need-returns-then-parity-eq0-2
 returns-3 c =
     let s = c.before.before.before.before.before.before.before in
-    narrow-row s.args.m (now s.args.samples) (now s.args.vectors) (sixteen s.requires.accepted.burst.sided c.before.before.before.before.if-m-eq32.false) c.before.before.before.if-parity-eq0-2.true c.before.correction_row-then-parity-eq0-2.ensures
+    narrow-row s.args.m s.args.samples.now s.args.vectors.now (sixteen s.requires.accepted.burst.sided c.before.before.before.before.if-m-eq32.false) c.before.before.before.if-parity-eq0-2.true c.before.correction_row-then-parity-eq0-2.ensures
 
 returns-4 : of.Tie.Need-returns
 returns-4 c =
     let s = c.before.before.before.before.before.before.before in
     let one : s.args.parity ≡ 1 = omega (arith, s.requires.parity, c.before.before.before.if-parity-eq0-2.false) in
-    narrow-row s.args.m (now s.args.samples) (now s.args.vectors) (sixteen s.requires.accepted.burst.sided c.before.before.before.before.if-m-eq32.false) one c.before.correction_row-2.ensures
+    narrow-row s.args.m s.args.samples.now s.args.vectors.now (sixteen s.requires.accepted.burst.sided c.before.before.before.before.if-m-eq32.false) one c.before.correction_row-2.ensures
 
 pub correction_row_spec : {M : Type 1} → of.Statement.statement M
 correction_row_spec = of.Tie.close (of.Tie.spec correction-row-requires (λ c. search rules) returns correction-row-requires-2 (λ c. search rules) returns-2 correction-row-requires-3 (λ c. search rules) returns-3 correction-row-requires-4 (λ c. search rules) returns-4)

@@ -51,7 +51,7 @@ returns c =
     let l = c.before in
     let s = l.before.before.before.before.before.before in
     let all : l.loop-band.band ≡ s.args.last = omega (arith, l.loop-band.invariant.2) in
-    subst (λ n. RowsMerged (scene_of s.args.m (now s.args.samples) (now s.args.vectors)) (s.args.m.shape.side * s.args.first) s.args.parity (s.args.m.shape.side / 2 * s.args.first) (s.args.m.shape.side / 2 * n) (now s.args.output) l.loop-band.output) all
+    subst (λ n. RowsMerged (scene_of s.args.m s.args.samples.now s.args.vectors.now) (s.args.m.shape.side * s.args.first) s.args.parity (s.args.m.shape.side / 2 * s.args.first) (s.args.m.shape.side / 2 * n) s.args.output.now l.loop-band.output) all
     l.loop-band.invariant.0.rows
 
 pub merge_parity_spec : {M : Type 1} → of.Statement.statement M

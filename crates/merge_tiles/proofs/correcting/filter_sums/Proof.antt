@@ -56,11 +56,11 @@ returns c =
     let f : ℕ → ℕ → ℕ → ℕ = λ r. spatial_number side16 m.tuning.spatial m.shot m.read r n in
     c.filter_pair.ensures
     ∙ grid-ext 16 32 _ _
-    (λ y l h k. ap (λ z. cell (pos 0) (now g.sum) y l +ℤ pos n *ℤ z)
+    (λ y l h k. ap (λ z. cell (pos 0) g.sum.now y l +ℤ pos n *ℤ z)
     (step-noise _ (f (either g.first g.second (l % 2)))
     (λ u v i j. either_number f g.first g.second a.spatial_numbers-a.ensures b.spatial_numbers-b.ensures (l % 2) (omega arith) (frequency u) (frequency v) (frequency-most u) (frequency-most v)
     ∙ number-folded m.tuning.spatial m.shot m.read (either g.first g.second (l % 2)) n u v)
-    (copy_in n (plane_in (cell 0 (now g.t0)) (l % 2)) (plane_in (cell (pos 0) (now g.sum)) (l % 2))) y (l / 2)))
+    (copy_in n (plane_in (cell 0 g.t0.now) (l % 2)) (plane_in (cell (pos 0) g.sum.now) (l % 2))) y (l / 2)))
 
 pub filter_sums_spec : {M : Type 1} → of.Statement.statement M
 filter_sums_spec = of.Tie.close (of.Tie.spec spatial-numbers-requires spatial-numbers-requires-2 filter-pair-requires returns)

@@ -14,7 +14,7 @@ sided = refl
 
 -- T0
 tile_is : (c : of.Tie.After-pair) → let a = c.before.before.before.before.args in
-    c.pair.new.1.1.1.1.1.1.0 ≡ pair_at 16 (reference_tile (scene_at side16 a.m (now a.samples) (now a.vectors))) a.site
+    c.pair.new.1.1.1.1.1.1.0 ≡ pair_at 16 (reference_tile (scene_at side16 a.m a.samples.now a.vectors.now)) a.site
 unfolding reference_tile scene_at
 tile_is c = c.pair.ensures
 
@@ -31,22 +31,22 @@ roots_of c = either c.before.before.pair_roots-roots.result.first c.before.befor
 
 -- r of either plane
 roots-known : (c : of.Tie.After-tile_noise-second) → let a = c.before.before.before.before.before.before.before.before.before.before.args in
-    (p : ℕ) → p < 2 → roots_of c p ≡ at_site (reference_root (scene_at side16 a.m (now a.samples) (now a.vectors))) a.site p
+    (p : ℕ) → p < 2 → roots_of c p ≡ at_site (reference_root (scene_at side16 a.m a.samples.now a.vectors.now)) a.site p
 roots-known c =
     let r = c.before.before in
     let b = r.before.before in
     let t = b.before.before in
     let a = t.before.before.before.before.args in
-    roots-of 16 side16 sided a.m (now a.samples) (now a.vectors) a.site (tile_is t) b.before.plane_black-first_black.ensures b.plane_black-second_black.ensures r.pair_roots-roots.ensures.first r.pair_roots-roots.ensures.second
+    roots-of 16 side16 sided a.m a.samples.now a.vectors.now a.site (tile_is t) b.before.plane_black-first_black.ensures b.plane_black-second_black.ensures r.pair_roots-roots.ensures.first r.pair_roots-roots.ensures.second
 
 known : (c : of.Tie.After-tile_noise-second) → let t = c.before.before.before.before.before.before in let a = t.before.before.before.before.args in
-    TileOf 16 noise_most (scene_at side16 a.m (now a.samples) (now a.vectors)) a.site t.pair.new.1.1.1.1.1.1.0 c.before.tile_noise-first.result c.tile_noise-second.result
+    TileOf 16 noise_most (scene_at side16 a.m a.samples.now a.vectors.now) a.site t.pair.new.1.1.1.1.1.1.0 c.before.tile_noise-first.result c.tile_noise-second.result
 known c =
     let r = c.before.before in
     let b = r.before.before in
     let t = b.before.before in
     let a = t.before.before.before.before.args in
-    tile-of 16 side16 sided a.m (now a.samples) (now a.vectors) a.site (tile_is t) b.before.plane_black-first_black.ensures b.plane_black-second_black.ensures r.pair_roots-roots.ensures.first r.pair_roots-roots.ensures.second
+    tile-of 16 side16 sided a.m a.samples.now a.vectors.now a.site (tile_is t) b.before.plane_black-first_black.ensures b.plane_black-second_black.ensures r.pair_roots-roots.ensures.first r.pair_roots-roots.ensures.second
     c.before.tile_noise-first.ensures.0 c.tile_noise-second.ensures.0 c.before.tile_noise-first.ensures.1 c.tile_noise-second.ensures.1
 
 summed-requires : of.Tie.Need-summed-requires
@@ -99,7 +99,7 @@ returns-2 c =
     let k = tuned s.requires.accepted in
     let range : (root : ℕ) → root ≤ 65520 → SpatialRange a.m.tuning.spatial a.m.shot a.m.read root a.m.shape.count =
     λ root h. record { strength = k.spatial-most; shot = k.shot_most; read = k.read_most; root = h; some = k.some; few = k.few } in
-    taken-on a.m (now a.samples) (now a.vectors) a.site _ _ r.pair_roots-roots.result.first r.pair_roots-roots.result.second k.some k.few (tile_is t) u.summed.ensures (roots-known n)
+    taken-on a.m a.samples.now a.vectors.now a.site _ _ r.pair_roots-roots.result.first r.pair_roots-roots.result.second k.some k.few (tile_is t) u.summed.ensures (roots-known n)
     (both (λ p. SpatialRange a.m.tuning.spatial a.m.shot a.m.read (roots_of n p) a.m.shape.count) (range _ r.pair_roots-roots.ensures.first_most) (range _ r.pair_roots-roots.ensures.second_most))
     c.filter_sums.ensures
 

@@ -19,13 +19,13 @@ pair-requires c κs =
 
 -- Tz
 other-is : (c : of.Tie.After-pair) → let a = c.before.before.before.before.before.before.before.before.args in
-    c.pair.new.1.1.1.1.1.1.0 ≡ grid 16 32 (side_by_side (λ p. at_site (other_tile (scene_at side16 a.m (now a.samples) (now a.vectors))) a.site p a.k))
+    c.pair.new.1.1.1.1.1.1.0 ≡ grid 16 32 (side_by_side (λ p. at_site (other_tile (scene_at side16 a.m a.samples.now a.vectors.now)) a.site p a.k))
 other-is c =
     let place = c.before.before.before.before.before in
     let s = place.before.before.before in
     let v = s.requires.accepted.vectors_fit in
     c.pair.ensures
-    ∙ other-pair-is 16 side16 s.args.m (now s.args.samples) (now s.args.vectors) _ _ _ s.args.k
+    ∙ other-pair-is 16 side16 s.args.m s.args.samples.now s.args.vectors.now _ _ _ s.args.k
     c.before.before.other_frame-frame.ensures.0 place.vector_place-place.ensures.0 (part-is v _) (part-is v _)
 
 difference-requires : of.Tie.Need-difference-requires
@@ -43,7 +43,7 @@ returns : of.Tie.Need-returns
 returns c =
     let tz = c.before.before.before in
     let s = tz.before.before.before.before.before.before.before.before in
-    (c.difference.ensures ∙ difference-grid 16 (scene_at side16 s.args.m (now s.args.samples) (now s.args.vectors)) _ _ _ _ s.requires.tile (other-is tz), pair-rows 16 _ (other-is tz))
+    (c.difference.ensures ∙ difference-grid 16 (scene_at side16 s.args.m s.args.samples.now s.args.vectors.now) _ _ _ _ s.requires.tile (other-is tz), pair-rows 16 _ (other-is tz))
 
 pub differences_spec : {M : Type 1} → of.Statement.statement M
 differences_spec = of.Tie.close (of.Tie.spec

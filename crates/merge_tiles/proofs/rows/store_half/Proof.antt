@@ -25,7 +25,7 @@ returns : of.Tie.Need-returns invariant-loop-i decreases-loop-i
 returns c =
     let l = c.before in
     let all : l.loop-i.i ≡ 16 = omega (arith, l.loop-i.invariant.1) in
-    subst (λ n. Spread (Unit {0}) (λ i j. cell (pos 0) (now l.before.args.tile) i (l.before.args.from + j)) l.before.args.at 16 16 n (now l.before.args.work) l.loop-i.work) all
+    subst (λ n. Spread (Unit {0}) (λ i j. cell (pos 0) l.before.args.tile.now i (l.before.args.from + j)) l.before.args.at 16 16 n l.before.args.work.now l.loop-i.work) all
     l.loop-i.invariant.0
 
 pub store_half_spec : {M : Type 1} → of.Statement.statement M

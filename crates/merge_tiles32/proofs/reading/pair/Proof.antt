@@ -16,7 +16,7 @@ returns c =
     let ey : to_z w64 (of_z w64 y.result) ≡ y.result = search rules in
     let ex : to_z w64 (of_z w64 x.result) ≡ x.result = search rules in
     c.wide_frame_pair.ensures
-    ∙ ap₂ (pair_of 32 (a.shape.height / 2) (a.shape.width / 2) (sample_at a.shape (now a.samples) a.frame) a.site.parity)
+    ∙ ap₂ (pair_of 32 (a.shape.height / 2) (a.shape.width / 2) (sample_at a.shape a.samples.now a.frame) a.site.parity)
     (ey ∙ y.ensures.is ∙ ap (λ z. origin 16 a.site.row +ℤ z) (to_z-of_z s.ranges.down))
     (ex ∙ x.ensures.is ∙ ap (λ z. origin 16 a.site.column +ℤ z) (to_z-of_z s.ranges.right))
     ∙ grid-ext 32 64 _ _ (λ i l _ _. refl)

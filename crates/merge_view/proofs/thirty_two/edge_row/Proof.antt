@@ -27,7 +27,7 @@ returns c =
     let a = r.before in
     let s = a.before.before.before in
     let g = s.args in
-    joined g.start g.x (now g.samples) g.width _ refl (a.before.edge_pair-left.ensures ∙ rw (to_z-of_z s.ranges.x))
+    joined g.start g.x g.samples.now g.width _ refl (a.before.edge_pair-left.ensures ∙ rw (to_z-of_z s.ranges.x))
     (r.edge_pair-right.ensures ∙ rw (column a)) p.put.ensures c.put-2.ensures
 
 pub edge_row_spec : {M : Type 1} → of.Statement.statement M

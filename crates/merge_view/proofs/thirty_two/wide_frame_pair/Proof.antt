@@ -22,7 +22,7 @@ fill-wide-pair-requires c κs =
     let b = c.before.before.before.before.before.before in
     let k = b.requires.sampled in
     let s = b.args.shape in
-    let all = now b.args.samples in
+    let all = b.args.samples.now in
     let frame = b.args.frame in
     record {
       place = record {
@@ -40,7 +40,7 @@ returns c =
     let b = c.before.before.before.before.before.before.before in
     let k = b.requires.sampled in
     let s = b.args.shape in
-    let all = now b.args.samples in
+    let all = b.args.samples.now in
     let frame = b.args.frame in
     rw (c.fill_wide_pair.ensures, lent s all frame, to_z-of_z b.ranges.y, to_z-of_z b.ranges.x)
     (part_pair s all frame k.allowed k.long b.requires.frame_below (planar k b.requires.parity) (wide k) (high k) 32 b.args.y b.args.x)

@@ -6,7 +6,7 @@ use Rattle.range_frame.specs.Held.{least_part}
 use Rattle.range_frame.proofs.planes.output_rows as of
 
 -- where they start lies in the work area
-second-in : (s : of.Tie.Start) → 64 * s.args.shape.width ≤ length (now s.args.work)
+second-in : (s : of.Tie.Start) → 64 * s.args.shape.width ≤ length s.args.work.now
 unfolding row_words
 second-in s = omega (arith, s.requires.room)
 
@@ -22,14 +22,14 @@ output-row-requires-2 : of.Tie.Need-output_row-requires-2
 output-row-requires-2 c κs =
     let s = c.before.before.before.before.before.before.before.before.before.before in
     let a = s.args in
-    subst (RowReady a.shape a.reference a.parity a.y 0 (length (now a.samples)) (length (now a.high))) (sym (part-is a.shape.width (now a.work))) s.requires.high_ready
+    subst (RowReady a.shape a.reference a.parity a.y 0 (length a.samples.now) (length a.high.now)) (sym (part-is a.shape.width a.work.now)) s.requires.high_ready
 
 returns : of.Tie.Need-returns
 returns c =
     let r = c.before.before in
     let q = r.before.before.before.before.before in
     let a = q.before.before.before.before.before.before.args in
-    record { low_is = q.output_row.ensures; high_is = r.output_row-2.ensures ∙ ap (λ w. row_written (now a.high) (now a.samples) w a.shape a.reference a.parity a.y 0) (part-is a.shape.width (now a.work)) }
+    record { low_is = q.output_row.ensures; high_is = r.output_row-2.ensures ∙ ap (λ w. row_written a.high.now a.samples.now w a.shape a.reference a.parity a.y 0) (part-is a.shape.width a.work.now) }
 
 pub output_rows_spec : {M : Type 1} → of.Statement.statement M
 output_rows_spec = of.Tie.close (of.Tie.spec

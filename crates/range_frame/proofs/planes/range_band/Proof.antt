@@ -39,8 +39,8 @@ output-rows-requires c κs =
     record {
       wide = t.accepted.burst.allowed.wide.most;
       room = omega (arith, t.room, r.End-row.ensures.same);
-      low_ready = row-ready a.m a.upper (now a.samples) (now a.vectors) t.accepted s.requires.parity s.requires.band_below i.loop-i-test.true greatest_at above.greatest under.greatest (rows.lows.toward.same ∙ t.low_long);
-      high_ready = row-ready a.m a.upper (now a.samples) (now a.vectors) t.accepted s.requires.parity s.requires.band_below i.loop-i-test.true least_at above.least under.least (rows.highs.toward.same ∙ t.high_long);
+      low_ready = row-ready a.m a.upper a.samples.now a.vectors.now t.accepted s.requires.parity s.requires.band_below i.loop-i-test.true greatest_at above.greatest under.greatest (rows.lows.toward.same ∙ t.low_long);
+      high_ready = row-ready a.m a.upper a.samples.now a.vectors.now t.accepted s.requires.parity s.requires.band_below i.loop-i-test.true least_at above.least under.least (rows.highs.toward.same ∙ t.high_long);
     }
 
 loop-again : of.Tie.Need-loop-i-preserved invariant-loop-i decreases-loop-i
@@ -78,7 +78,7 @@ returns c =
     let under = ends_held r.End-row.ensures s.requires.lent.room in
     let all : 8 * a.band + l.loop-i.i ≡ 8 * a.band + 8 = omega (arith, l.loop-i.invariant.count) in
     record {
-      rows = subst (λ n. at_noises RowsRanged a.m a.upper (now a.samples) (now a.vectors) a.parity (8 * a.band) n (now a.low) l.loop-i.low (now a.high) l.loop-i.high) all
+      rows = subst (λ n. at_noises RowsRanged a.m a.upper a.samples.now a.vectors.now a.parity (8 * a.band) n a.low.now l.loop-i.low a.high.now l.loop-i.high) all
           (l.loop-i.invariant.rows a.upper (ends-kept r.End-row.ensures s.requires.held) under);
       held = under;
     }

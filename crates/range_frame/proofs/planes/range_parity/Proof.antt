@@ -60,7 +60,7 @@ loop-again c =
     let a = s.args in
     let w = l.loop-band.invariant in
     record {
-      rows = subst (λ n. at_noises RowsRanged a.m a.upper (now a.samples) (now a.vectors) a.parity 0 n (now a.low) b.range_band.new.1.1.1.1.1.1.0 (now a.high) b.range_band.new.1.1.1.1.1.1.1.0) (omega arith) (ranged-on w.rows b.range_band.ensures.rows);
+      rows = subst (λ n. at_noises RowsRanged a.m a.upper a.samples.now a.vectors.now a.parity 0 n a.low.now b.range_band.new.1.1.1.1.1.1.0 a.high.now b.range_band.new.1.1.1.1.1.1.1.0) (omega arith) (ranged-on w.rows b.range_band.ensures.rows);
       held = b.range_band.ensures.held;
       long = b.range_band.auto.1.1.1.1.1.1.1.1.0 ∙ w.long;
       most = omega (arith, i.loop-band-test.true);
@@ -72,7 +72,7 @@ returns c =
     let s = l.before.before.before.before.before.before.before.before in
     let a = s.args in
     let all : l.loop-band.band ≡ a.m.shape.height / 16 = omega (arith, l.loop-band.invariant.most) in
-    subst (λ n. at_noises RowsRanged a.m a.upper (now a.samples) (now a.vectors) a.parity 0 (8 * n) (now a.low) l.loop-band.low (now a.high) l.loop-band.high) all l.loop-band.invariant.rows
+    subst (λ n. at_noises RowsRanged a.m a.upper a.samples.now a.vectors.now a.parity 0 (8 * n) a.low.now l.loop-band.low a.high.now l.loop-band.high) all l.loop-band.invariant.rows
 
 pub range_parity_spec : {M : Type 1} → of.Statement.statement M
 range_parity_spec = of.Tie.close (of.Tie.spec

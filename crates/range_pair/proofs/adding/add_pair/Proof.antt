@@ -26,7 +26,7 @@ loop-again c =
     let l = c.before.before.before.before in
     let a = l.before.args in
     fill-turn l.loop-y.invariant (omega arith)
-    (c.add_row.ensures ∙ ap (λ r. row_plus r (λ k. get_or (get_or (now a.p) l.loop-y.y []) k (pos 0))) (fill-rest l.loop-y.invariant (omega arith) []))
+    (c.add_row.ensures ∙ ap (λ r. row_plus r (λ k. get_or (get_or a.p.now l.loop-y.y []) k (pos 0))) (fill-rest l.loop-y.invariant (omega arith) []))
 
 returns : of.Tie.Need-returns invariant-loop-y decreases-loop-y
 unfolding grid

@@ -52,8 +52,8 @@ returns c =
     let p = a.whole_halves_of-a.ensures s.requires.low_in in
     let q = b.whole_halves_of-b.ensures s.requires.high_in in
     record {
-      greatest_is = c.add_row.ensures.greatest_is ∙ ends-are greatest_of (now s.args.greatest) (now s.args.widths) s.requires.low_in s.requires.high_in p q;
-      least_is = c.add_row.ensures.least_is ∙ ends-are least_of (now s.args.least) (now s.args.widths) s.requires.low_in s.requires.high_in p q;
+      greatest_is = c.add_row.ensures.greatest_is ∙ ends-are greatest_of s.args.greatest.now s.args.widths.now s.requires.low_in s.requires.high_in p q;
+      least_is = c.add_row.ensures.least_is ∙ ends-are least_of s.args.least.now s.args.widths.now s.requires.low_in s.requires.high_in p q;
     }
 
 pub add_line_spec : {M : Type 1} → of.Statement.statement M

@@ -39,7 +39,7 @@ loop-again c =
     let l = c.before.before.before.before.before.before.before in
     let a = l.before.args in
     let y = l.loop-y.y in
-    let p = line_end (get_or (now a.low) y []) (get_or (now a.high) y []) (get_or (now a.widths) (y % 8) []) in (
+    let p = line_end (get_or a.low.now y []) (get_or a.high.now y []) (get_or a.widths.now (y % 8) []) in (
       fill-turn l.loop-y.invariant.0 (omega arith) (c.add_line.ensures.greatest_is ∙ ap (λ r. row_plus r (p greatest_of)) (fill-rest l.loop-y.invariant.0 (omega arith) [])),
       fill-turn l.loop-y.invariant.1 (omega arith) (c.add_line.ensures.least_is ∙ ap (λ r. row_plus r (p least_of)) (fill-rest l.loop-y.invariant.1 (omega arith) [])),
     )

@@ -46,13 +46,13 @@ loop-again c =
     let l = g.before.before.before.before.before in
     let s = l.before in
     let i = l.loop-l.l in
-    let w = get_or (now s.args.widths) (i % 16) 0 in
+    let w = get_or s.args.widths.now (i % 16) 0 in
     let low = held-is w64 s.requires.low_in i tt in
     let high = held-is w64 s.requires.high_in i tt in (
       adding-turn l.loop-l.invariant.0 (omega arith) s.requires.greatests.most g.greatest_of-g.ensures.1 tt tt
-          (ap (λ z. get_or (now s.args.greatest) i (pos 0) +ℤ z) (g.greatest_of-g.ensures.0 ∙ ap₂ (λ a b. greatest_of a b w) low high)),
+          (ap (λ z. get_or s.args.greatest.now i (pos 0) +ℤ z) (g.greatest_of-g.ensures.0 ∙ ap₂ (λ a b. greatest_of a b w) low high)),
       adding-turn l.loop-l.invariant.1 (omega arith) s.requires.leasts.most k.least_of-k.ensures.1 tt tt
-          (ap (λ z. get_or (now s.args.least) i (pos 0) +ℤ z) (k.least_of-k.ensures.0 ∙ ap₂ (λ a b. least_of a b w) low high)),
+          (ap (λ z. get_or s.args.least.now i (pos 0) +ℤ z) (k.least_of-k.ensures.0 ∙ ap₂ (λ a b. least_of a b w) low high)),
     )
 
 pub add_row_spec : {M : Type 1} → of.Statement.statement M

@@ -17,7 +17,7 @@ returns : of.Tie.Need-returns invariant-loop-i decreases-loop-i
 returns c =
     let l = c.before in
     let s = l.before in
-    fill_done l.loop-i.invariant (omega arith) ∙ ap (λ n. tab n (λ k. get_or (now s.args.frame) k 0)) s.requires ∙ sym (tab-of 0 (now s.args.frame))
+    fill_done l.loop-i.invariant (omega arith) ∙ ap (λ n. tab n (λ k. get_or s.args.frame.now k 0)) s.requires ∙ sym (tab-of 0 s.args.frame.now)
 
 pub copy_spec : {M : Type 1} → of.Statement.statement M
 copy_spec = of.Tie.close (of.Tie.spec

@@ -33,7 +33,7 @@ loop-again c =
     let l = c.before.before.before.before in
     let r = subst (AtMost (2 ^ 24)) (sym c.round_away_31.ensures) (rounded-most _ (held-most w64 l.before.requires.halves_most l.loop-l.l tt)) in
     adding-turn l.loop-l.invariant (omega arith) l.before.requires.sums_most r tt tt
-    (ap (λ z. get_or (now l.before.args.sum) l.loop-l.l (pos 0) +ℤ z) (c.round_away_31.ensures ∙ ap (λ z. away z (2 ^ 31)) (held-is w64 l.before.requires.halves_most l.loop-l.l tt)))
+    (ap (λ z. get_or l.before.args.sum.now l.loop-l.l (pos 0) +ℤ z) (c.round_away_31.ensures ∙ ap (λ z. away z (2 ^ 31)) (held-is w64 l.before.requires.halves_most l.loop-l.l tt)))
 
 pub add_whole_row_spec : {M : Type 1} → of.Statement.statement M
 add_whole_row_spec = of.Tie.close (of.Tie.spec

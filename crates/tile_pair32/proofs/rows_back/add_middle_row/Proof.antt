@@ -26,10 +26,10 @@ add-sum c =
 loop-again : of.Tie.Need-loop-l-preserved invariant-loop-l decreases-loop-l
 loop-again c =
     let l = c.before.before.before.before in
-    adding-turn l.loop-l.invariant (omega arith) l.before.requires.sums_most c.rounded_twice.ensures.1 tt tt (ap (λ z. get_or (now l.before.args.sum) l.loop-l.l (pos 0) +ℤ z) c.rounded_twice.ensures.0)
+    adding-turn l.loop-l.invariant (omega arith) l.before.requires.sums_most c.rounded_twice.ensures.1 tt tt (ap (λ z. get_or l.before.args.sum.now l.loop-l.l (pos 0) +ℤ z) c.rounded_twice.ensures.0)
 
 returns : of.Tie.Need-returns invariant-loop-l decreases-loop-l
-returns c w = fill_done c.before.loop-l.invariant (omega arith) ∙ added-ext 64 (now c.before.before.args.sum) _ _ (λ l h. twice-is (whole_at w l h))
+returns c w = fill_done c.before.loop-l.invariant (omega arith) ∙ added-ext 64 c.before.before.args.sum.now _ _ (λ l h. twice-is (whole_at w l h))
 
 pub add_middle_row_spec : {M : Type 1} → of.Statement.statement M
 add_middle_row_spec = of.Tie.close (of.Tie.spec

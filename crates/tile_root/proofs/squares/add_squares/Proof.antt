@@ -10,7 +10,7 @@ abbrev decreases-loop-l : of.Tie.decreases-loop-l
 decreases-loop-l black row sum₀ l₀ sum l = 32 - l
 
 -- the sum that is read, not written yet
-still : (c : of.Tie.After-square_at invariant-loop-l decreases-loop-l) → let b = c.before.before.before in get_or b.loop-l.sum b.loop-l.l 0 ≡ get_or (now b.before.args.sum) b.loop-l.l 0
+still : (c : of.Tie.After-square_at invariant-loop-l decreases-loop-l) → let b = c.before.before.before in get_or b.loop-l.sum b.loop-l.l 0 ≡ get_or b.before.args.sum.now b.loop-l.l 0
 still c = fill-rest c.before.before.before.loop-l.invariant (omega arith) 0
 
 add-sum : of.Tie.Need-overflow_add-sum invariant-loop-l decreases-loop-l

@@ -35,7 +35,7 @@ loop-again c =
     let a = l.before.args in
     fill-turn l.loop-y.invariant (omega arith)
     (c.add_row.ensures
-    ∙ ap (λ r. tab 32 (λ k. get_or r k (pos 0) +ℤ pos a.frames *ℤ get_or (get_or (now a.p) l.loop-y.y []) k (pos 0))) (fill-rest l.loop-y.invariant (omega arith) []))
+    ∙ ap (λ r. tab 32 (λ k. get_or r k (pos 0) +ℤ pos a.frames *ℤ get_or (get_or a.p.now l.loop-y.y []) k (pos 0))) (fill-rest l.loop-y.invariant (omega arith) []))
 
 returns : of.Tie.Need-returns invariant-loop-y decreases-loop-y
 unfolding grid

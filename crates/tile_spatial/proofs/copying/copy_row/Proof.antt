@@ -28,7 +28,7 @@ loop-again c =
     let k = l.loop-l.l in
     let e : to_z w32 (of_z w32 c.copy_part.result) ≡ c.copy_part.result = search rules in
     fill-turn l.loop-l.invariant (omega arith)
-    (e ∙ c.copy_part.ensures.0 ∙ ap (λ z. away (pos (get_or (now a.t0) k 0) *ℤ pos (256 * a.frames) -ℤ z) a.frames) (held-sum s.requires.frames_fit (s.requires.samples.at k) (s.requires.sums.at k)))
+    (e ∙ c.copy_part.ensures.0 ∙ ap (λ z. away (pos (get_or a.t0.now k 0) *ℤ pos (256 * a.frames) -ℤ z) a.frames) (held-sum s.requires.frames_fit (s.requires.samples.at k) (s.requires.sums.at k)))
 
 returns : of.Tie.Need-returns invariant-loop-l decreases-loop-l
 returns c =

@@ -14,7 +14,7 @@ unfolding spread_of side16
 returns c =
     let a = c.before.before.args in
     let column : a.l ≡ 2 * (a.l / 2) + a.l % 2 = omega arith in
-    (number_is w64 c.re_place.ensures.1 tt ∙ c.re_place.ensures.0 ∙ ap (λ k. fold_re (λ u. cell (pos 0) (now a.g) u k) (λ u. cell (pos 0) (now a.h) u k) a.b) column ∙ rw (lt-ltb (a.l / 2) 9 (omega arith)), number-most w64 c.re_place.ensures.1 tt)
+    (number_is w64 c.re_place.ensures.1 tt ∙ c.re_place.ensures.0 ∙ ap (λ k. fold_re (λ u. cell (pos 0) a.g.now u k) (λ u. cell (pos 0) a.h.now u k) a.b) column ∙ rw (lt-ltb (a.l / 2) 9 (omega arith)), number-most w64 c.re_place.ensures.1 tt)
 
 im-place-requires : of.Tie.Need-im_place-requires
 im-place-requires c κs =
@@ -26,7 +26,7 @@ unfolding spread_of side16
 returns-2 c =
     let a = c.before.before.args in
     let column : a.l - 16 ≡ 2 * (a.l / 2 - 8) + a.l % 2 = omega arith in
-    (number_is w64 c.im_place.ensures.1 tt ∙ c.im_place.ensures.0 ∙ ap (λ k. fold_im (λ u. cell (pos 0) (now a.g) u k) (λ u. cell (pos 0) (now a.h) u k) a.b) column ∙ rw (le-ltb (a.l / 2) 9 (omega arith)), number-most w64 c.im_place.ensures.1 tt)
+    (number_is w64 c.im_place.ensures.1 tt ∙ c.im_place.ensures.0 ∙ ap (λ k. fold_im (λ u. cell (pos 0) a.g.now u k) (λ u. cell (pos 0) a.h.now u k) a.b) column ∙ rw (le-ltb (a.l / 2) 9 (omega arith)), number-most w64 c.im_place.ensures.1 tt)
 
 pub folded_spec : {M : Type 1} → of.Statement.statement M
 folded_spec = of.Tie.close (of.Tie.spec

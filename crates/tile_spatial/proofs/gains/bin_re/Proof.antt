@@ -19,7 +19,7 @@ returns c =
     let a = r.before.args in
     let column : a.l ≡ 2 * (a.l / 2) + a.l % 2 = omega arith in
     let e = difference-is r.real.ensures.1 c.beside_imaginary.ensures.1 tt tt in (
-      e ∙ ap₂ ◌-ℤ◌ (r.real.ensures.0 ∙ ap (λ k. real_of (λ b. cell (pos 0) (now a.w) b k) a.u) column) c.beside_imaginary.ensures.0,
+      e ∙ ap₂ ◌-ℤ◌ (r.real.ensures.0 ∙ ap (λ k. real_of (λ b. cell (pos 0) a.w.now b k) a.u) column) c.beside_imaginary.ensures.0,
       subst (AtMost copy_bin_most) (sym e) (record { most = omega (arith, (sub-most r.real.ensures.1 c.beside_imaginary.ensures.1).most) }),
     )
 

@@ -21,7 +21,7 @@ loop-again c =
     let l = c.before.before.before.before in
     let a = l.before.args in
     fill-turn l.loop-u.invariant (omega arith)
-    (c.lane_row.ensures ∙ tab-ext 18 _ _ (λ k h. ap (λ t. get_or t (k / 2) 0) (row_of (eqb (k % 2) 0) (now a.first) (now a.second) l.loop-u.u)))
+    (c.lane_row.ensures ∙ tab-ext 18 _ _ (λ k h. ap (λ t. get_or t (k / 2) 0) (row_of (eqb (k % 2) 0) a.first.now a.second.now l.loop-u.u)))
 
 returns : of.Tie.Need-returns invariant-loop-u decreases-loop-u
 unfolding grid

@@ -26,7 +26,7 @@ unfolding grid
 returns c =
     let s = c.before.before in
     let e = fill_done c.before.loop-y.invariant (omega arith) in
-    (e, subst (TileMost difference_most) (sym e) (table-most difference_most _ (λ y l. (low-at (cell (pos 0) (now s.args.c) y l)).most) 16 32))
+    (e, subst (TileMost difference_most) (sym e) (table-most difference_most _ (λ y l. (low-at (cell (pos 0) s.args.c.now y l)).most) 16 32))
 
 pub lows_spec : {M : Type 1} → of.Statement.statement M
 lows_spec = of.Tie.close (of.Tie.spec
