@@ -8,28 +8,28 @@ use Rattle.admit_call.specs.AdmissionLaws.{tested-refused, tested-accepted}
 use Rattle.admit_call.proofs.value_refusal as of
 
 -- the levels that the match bound are the noise's
-bound : (c : of.Tie.In-Found-2) → levels_of c.before.before.before.before.args.noise ≡ Found c.shot-1.given.0.0 c.shot-1.given.0.1.0
-bound c = sym c.before.before.levels_of.ensures ∙ c.shot-1.given.1
+bound : (c : of.Tie.In-Found) → levels_of c.args.noise ≡ Found c.in-Found.shot c.in-Found.read
+bound c = sym c.levels_of.ensures ∙ c.in-Found.is
 
-refused : (c : of.Tie.In-Refused-2) → levels_of c.before.before.before.before.args.noise ≡ Refused c.number-1.given.0.0
-refused c = sym c.before.before.levels_of.ensures ∙ c.number-1.given.1
+refused : (c : of.Tie.In-Refused) → levels_of c.args.noise ≡ Refused c.in-Refused.number
+refused c = sym c.levels_of.ensures ∙ c.in-Refused.is
 
 -- the number, where the levels were found
-content : (c : of.Tie.After-content_refusal-refusal) → let a = c.before.before.before.before.before.before.args in c.content_refusal-refusal.result ≡ first (value_tests a.shape a.noise a.tuning a.samples.now)
-content c = goes _ _ (sym (ap refusal_of (bound c.before.before)) ∙ levels-number _) refl c.content_refusal-refusal.ensures
+content : (c : of.Tie.After-content_refusal-refusal) → let a = c.args in c.content_refusal-refusal.result ≡ first (value_tests a.shape a.noise a.tuning a.samples.now)
+content c = goes _ _ (sym (ap refusal_of (bound c.before)) ∙ levels-number _) refl c.content_refusal-refusal.ensures
 
 returns : of.Tie.Need-returns-then-refusal-ne0
 returns c = c.refused-then-refusal-ne0.ensures ∙ tested-refused _ _ (content c.before.before) c.before.if-refusal-ne0.true
 
 returns-2 : of.Tie.Need-returns-in-Refused
 returns-2 c =
-    let told = refused c.before.before in
+    let told = refused c.before in
     let h = refused-above _ _ told in
     c.refused.ensures ∙ tested-refused _ _ (stops _ _ (sym (ap refusal_of told) ∙ levels-number _) h) h
 
 returns-3 : of.Tie.Need-returns-else-refusal-ne0
 returns-3 c =
-    let told = bound c.before.before.before in
+    let told = bound c.before.before in
     tested-accepted _ _ (content c.before) c.if-refusal-ne0.false (sym (ap shot_level told)) (sym (ap read_level told))
 
 pub value_refusal_spec : {M : Type 1} → of.Statement.statement M

@@ -21,9 +21,7 @@ returns-4 c = rw c.before.in-7.is c.work_length.ensures.0
 
 returns-5 : of.Tie.Need-returns-in_default
 unfolding length_tested
-returns-5 c =
-    let none = c.in_default.in_default-own.rest in
-    rw (ne_eqb _ 4 none.0.0.0.1, ne_eqb _ 5 none.0.0.1, ne_eqb _ 6 none.0.1, ne_eqb _ 7 none.1)
+returns-5 c = search rules
 
 pub length_tested_spec : {M : Type 1} → of.Statement.statement M
 length_tested_spec = of.Tie.close (of.Tie.spec
