@@ -41,7 +41,7 @@ add-summed c =
     omega (arith, l.loop-k.invariant.2.most, c.before.before.before.before.before.before.before.before.before.level_tile-found.ensures.few, tiles-few s.requires.few)
 
 -- the buffers keep their lengths
-kept-buffers : (c : of.Tie.After-level_tile-found invariant-loop-k decreases-loop-k) → (length c.level_tile-found.new.1.1.1.1.1.1.1.0 ≡ 1024) × (length c.level_tile-found.new.1.1.1.1.1.1.1.1.0 ≡ 1600) × (length c.level_tile-found.new.1.1.1.1.1.1.1.1.1.0 ≡ 1024)
+kept-buffers : (c : of.Tie.After-level_tile-found invariant-loop-k decreases-loop-k) → (length c.level_tile-found.new.samples ≡ 1024) × (length c.level_tile-found.new.window ≡ 1600) × (length c.level_tile-found.new.other ≡ 1024)
 kept-buffers c = (search rules, search rules, search rules)
 
 loop-again : of.Tie.Need-loop-k-preserved invariant-loop-k decreases-loop-k

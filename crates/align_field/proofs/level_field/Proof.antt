@@ -42,7 +42,7 @@ put-requires : of.Tie.Need-put-requires invariant-loop-k decreases-loop-k
 put-requires c κs = (omega arith, c.before.before.before.before.before.level_tile-found.ensures.near)
 
 -- the buffers keep their lengths
-kept-buffers : (c : of.Tie.After-level_tile-found invariant-loop-k decreases-loop-k) → (length c.level_tile-found.new.1.1.1.1.1.1.1.0 ≡ 1024) × (length c.level_tile-found.new.1.1.1.1.1.1.1.1.0 ≡ 1600) × (length c.level_tile-found.new.1.1.1.1.1.1.1.1.1.0 ≡ 1024)
+kept-buffers : (c : of.Tie.After-level_tile-found invariant-loop-k decreases-loop-k) → (length c.level_tile-found.new.samples ≡ 1024) × (length c.level_tile-found.new.window ≡ 1600) × (length c.level_tile-found.new.other ≡ 1024)
 kept-buffers c = (search rules, search rules, search rules)
 
 loop-again : of.Tie.Need-loop-k-preserved invariant-loop-k decreases-loop-k

@@ -24,7 +24,7 @@ word-is side p columns vectors to k e t v = e ∙ ap₂ (residual false p) t v
 tile-at-requires : of.Tie.Need-tile_at-tile-requires invariant-loop-k decreases-loop-k
 tile-at-requires c κs =
     let s = c.before.before.before in
-    let at = place-few s.requires.few c.before.loop-k.k c.loop-k-test.true in
+    let at = place-few s.requires.few c.loop-k.k c.loop-k-test.true in
     record { sided = s.requires.sided; level_most = omega arith; row-most = at.0; column-most = at.1 }
 
 vector-at-requires : of.Tie.Need-vector_at-v-requires invariant-loop-k decreases-loop-k
@@ -42,11 +42,11 @@ loop-again : of.Tie.Need-loop-k-preserved invariant-loop-k decreases-loop-k
 loop-again c =
     let t = c.before.before in
     let i = t.before in
-    write-turn i.before.loop-k.invariant i.loop-k-test.true (word-is _ _ _ _ _ _ c.residual_at.ensures t.tile_at-tile.ensures.0 c.before.vector_at-v.ensures.0)
+    write-turn i.loop-k.invariant i.loop-k-test.true (word-is _ _ _ _ _ _ c.residual_at.ensures t.tile_at-tile.ensures.0 c.vector_at-v.ensures.0)
 
 pub frame_residuals_spec : {M : Type 1} → of.Statement.statement M
 frame_residuals_spec = of.Tie.close (of.Tie.spec
-    invariant-loop-k decreases-loop-k (λ c. omega (arith, tiles-few c.before.requires.few)) (λ c. write-start c.before.requires.lent.room) (λ c. search rules) (λ c. search rules)
+    invariant-loop-k decreases-loop-k (λ c. omega (arith, tiles-few c.requires.few)) (λ c. write-start c.requires.lent.room) (λ c. search rules) (λ c. search rules)
     tile-at-requires (λ c. search rules) (λ c. search rules) vector-at-requires residual-at-requires
     (λ c. search rules) (λ c. search rules) (λ c. search rules) (λ c. search rules) (λ c. search rules)
-    loop-again (λ c. search rules) (λ c. write_done c.before.loop-k.invariant (omega arith)))
+    loop-again (λ c. search rules) (λ c. write_done c.loop-k.invariant (omega arith)))

@@ -24,25 +24,25 @@ build-requires c κs =
     (frame-of start.requires.ranges.burst start.requires.samples_fit _ start.requires.ranges.burst.reference_below, omega (arith, two-pyramids start.args.shape (work-room start.requires.fits)))
 
 tile-rows-requires : of.Tie.Need-tile_rows-requires invariant-loop-k decreases-loop-k
-tile-rows-requires c κs = let b = c.before.before.before.before.before.requires.ranges.burst in (b.allowed, b.sided)
+tile-rows-requires c κs = let b = c.requires.ranges.burst in (b.allowed, b.sided)
 
 tile-columns-requires : of.Tie.Need-tile_columns-requires invariant-loop-k decreases-loop-k
-tile-columns-requires c κs = let b = c.before.before.before.before.before.before.requires.ranges.burst in (b.allowed, b.sided)
+tile-columns-requires c κs = let b = c.requires.ranges.burst in (b.allowed, b.sided)
 
 mul-tiles : of.Tie.Need-overflow_mul-tiles invariant-loop-k decreases-loop-k
-mul-tiles c = omega (arith, mul-le-mul c.before.tile_rows.ensures.1 c.tile_columns.ensures.1)
+mul-tiles c = omega (arith, mul-le-mul c.tile_rows.ensures.1 c.tile_columns.ensures.1)
 
 loop-holds : of.Tie.Need-loop-k-init invariant-loop-k decreases-loop-k
 loop-holds c =
     let built = c.before.before.before.before in
-    (measuring-start built.before.before.before.before.requires.residuals_long built.build.ensures.levels, omega arith)
+    (measuring-start built.requires.residuals_long built.build.ensures.levels, omega arith)
 
 mul-measure-frame : of.Tie.Need-overflow_mul-k invariant-loop-k decreases-loop-k
 mul-measure-frame c =
     let loop = c.before.before.before in
     let columns = loop.before.before in
     let start = columns.before.before.before.before.before.before.before in
-    omega (arith, mul-le-mul {n₁ = loop.loop-k.k} {n₂ = 7} (omega (arith, start.requires.ranges.burst.allowed.few)) (mul-le-mul columns.before.tile_rows.ensures.1 columns.tile_columns.ensures.1))
+    omega (arith, mul-le-mul {n₁ = loop.loop-k.k} {n₂ = 7} (omega (arith, start.requires.ranges.burst.allowed.few)) (mul-le-mul columns.tile_rows.ensures.1 columns.tile_columns.ensures.1))
 
 measure-frame-requires : of.Tie.Need-measure_frame-requires invariant-loop-k decreases-loop-k
 measure-frame-requires c κs =
@@ -53,13 +53,13 @@ measure-frame-requires c κs =
     let inv = loop.loop-k.invariant.0 in
     let few = burst.allowed.few in
     let same = inv.same in
-    let place = ap₂ (λ m n. loop.loop-k.k * (m * n)) columns.before.tile_rows.ensures.0 columns.tile_columns.ensures.0 in
+    let place = ap₂ (λ m n. loop.loop-k.k * (m * n)) columns.tile_rows.ensures.0 columns.tile_columns.ensures.0 in
     let room = rooms start.args.shape loop.loop-k.k place burst.vectors_long (inv.writing.same ∙ start.requires.residuals_long) (omega arith) in (
       record {
-        readable = frame-of start.requires.ranges.burst start.requires.samples_fit _ (omega (arith, c.before.before.other_frame-frame.ensures.1));
+        readable = frame-of start.requires.ranges.burst start.requires.samples_fit _ (omega (arith, c.other_frame-frame.ensures.1));
         sided = burst.sided;
         levels = inv.levels;
-        room = omega (arith, work-room start.requires.fits, columns.before.before.before.build.ensures.same);
+        room = omega (arith, work-room start.requires.fits, columns.build.ensures.same);
       },
       record { vectors_fit = start.requires.vectors_fit; vectors_room = room.0; room = room.1 },
     )
@@ -68,14 +68,14 @@ loop-again : of.Tie.Need-loop-k-preserved invariant-loop-k decreases-loop-k
 loop-again c =
     let loop = c.before.before.before.before.before.before.before.before in
     let columns = loop.before.before in
-    let place = ap₂ (λ m n. loop.loop-k.k * (m * n)) columns.before.tile_rows.ensures.0 columns.tile_columns.ensures.0 in
-    (measuring-turn loop.loop-k.invariant.0 (omega arith) c.before.before.before.before.before.before.other_frame-frame.ensures.0 place c.before.before.before.measure_frame.ensures, omega arith)
+    let place = ap₂ (λ m n. loop.loop-k.k * (m * n)) columns.tile_rows.ensures.0 columns.tile_columns.ensures.0 in
+    (measuring-turn loop.loop-k.invariant.0 (omega arith) c.other_frame-frame.ensures.0 place c.measure_frame.ensures, omega arith)
 
 returns : of.Tie.Need-returns invariant-loop-k decreases-loop-k
 returns c =
     let loop = c.before in
     let built = loop.before.before.before.before.before in
-    let done = measuring-done built.before.before.before.before.requires.residuals_long (omega arith) loop.loop-k.invariant.0 in
+    let done = measuring-done built.requires.residuals_long (omega arith) loop.loop-k.invariant.0 in
     record { found = done.found; same = done.same ∙ built.build.ensures.same }
 
 pub measure_frames_spec : {M : Type 1} → of.Statement.statement M

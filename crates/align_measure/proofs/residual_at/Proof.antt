@@ -13,7 +13,7 @@ copy-square-requires c κs = let s = c.before.before.before in copyable s.requir
 candidate-sum-requires : of.Tie.Need-candidate_sum-requires
 candidate-sum-requires c κs = let s = c.before.before.before.before.before.before.before in
     record {
-      ready = ready s.requires.stored s.requires.placed (omega (arith, square s.requires.sided)) (omega arith) c.before.before.before.copy_square.ensures;
+      ready = ready s.requires.stored s.requires.placed (omega (arith, square s.requires.sided)) (omega arith) c.copy_square.ensures;
       sided = s.requires.sided;
       room = omega (arith, square s.requires.sided);
       near = s.requires.near;

@@ -60,10 +60,10 @@ returns-2 c = let s = c.before.before.before.before.before.before.before.before.
     (r.0 ∙ ap (λ g. refined a.squared a.words.now a.area a.tile g (3 * a.tile.side)) (best_is c.before.before.before.before.before.before), r.1)
 
 -- the arrays keep their lengths
-kept-window : (c : of.Tie.After-copy_window) → length c.copy_window.new.1.1.1.1.0 ≡ length c.before.before.before.before.before.args.window.now
+kept-window : (c : of.Tie.After-copy_window) → length c.copy_window.new.window ≡ length c.before.before.before.before.before.args.window.now
 kept-window c = search rules
 
-refined-window : (c : of.Tie.After-refine) → length c.refine.new.1.1.1.1.0 ≡ length c.before.before.before.before.before.before.before.before.before.before.before.before.before.before.before.before.before.copy_window.new.1.1.1.1.0
+refined-window : (c : of.Tie.After-refine) → length c.refine.new.window ≡ length c.before.before.before.before.before.before.before.before.before.before.before.before.before.before.before.before.before.copy_window.new.window
 refined-window c = search rules
 
 pub refine_candidates_spec : {M : Type 1} → of.Statement.statement M

@@ -6,7 +6,7 @@ use Rattle.c_words.specs.WordLaws.{starts}
 use Rattle.c_words.proofs.refusal_words as of
 
 -- what the buffer starts with
-front : (c : of.Tie.After-put_words-end) → take c.put_words-end.result c.put_words-end.new.0 ≡ words_of c.before.before.before.args.number
+front : (c : of.Tie.After-put_words-end) → take c.put_words-end.result c.put_words-end.new.text ≡ words_of c.before.before.before.args.number
 front c = starts c.put_words-end.ensures.0
 
 -- where they end

@@ -41,4 +41,4 @@ returns c =
 
 pub merge_frames_spec : {M : Type 1} → of.Statement.statement M
 merge_frames_spec = of.Tie.close (of.Tie.spec
-    (λ c. side_above c.before.before.before.requires.accepted.burst.sided) merge-rows-requires (λ c. search rules) (λ c. search rules) returns)
+    (λ c. side_above c.requires.accepted.burst.sided) merge-rows-requires (λ c. search rules) (λ c. search rules) returns)

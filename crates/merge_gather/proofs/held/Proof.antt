@@ -28,7 +28,7 @@ module _ (c : of.Tie.Then-z-count) where
   s = c.before.before
 
   low : pos 0 ≤ℤ s.args.z
-  low = test-ge s.args.z (pos 0) s.ranges.z zero-fits c.before.if-z-lt0.false
+  low = test-ge s.args.z (pos 0) s.ranges.z zero-fits c.if-z-lt0.false
 
   high : s.args.z <ℤ pos (4096 * s.args.count)
   high = rw (count-is s) at (test-lt s.args.z (pos 4096 *ℤ to_z w64 s.args.count) s.ranges.z (limit-fits s) c.if-z-count.true)
@@ -48,7 +48,7 @@ module _ (c : of.Tie.Then-z-count) where
 cast-result : of.Tie.Need-overflow_cast-result
 cast-result c =
     let a = s c in
-    rw (to_z-of_z a.ranges.z) (from_zero a.args.z (rw (to_z-of_z a.ranges.z) at c.before.if-z-lt0.false), record { fits = omega (arith, size c, a.requires.few) })
+    rw (to_z-of_z a.ranges.z) (from_zero a.args.z (rw (to_z-of_z a.ranges.z) at c.if-z-lt0.false), record { fits = omega (arith, size c, a.requires.few) })
 
 mul-result : of.Tie.Need-overflow_mul-result
 mul-result c = rw (to_z-of_z (s c).ranges.z) (record { fits = omega (arith, product c) })

@@ -17,21 +17,21 @@ returns c =
     let s = c.before.before.before.before.before.before.before.before in
     let a = s.args in
     write_done (part-turn a.samples.now a.work.now a.span a.by.count 0 (write-start s.requires.output_room) (part_room s.requires.weighed.sided)
-    c.before.before.before.before.output_part.ensures) (omega (arith, c.if-span-eq-PART.true))
+    c.output_part.ensures) (omega (arith, c.if-span-eq-PART.true))
 
 output-part-requires-2 : of.Tie.Need-output_part-requires-2
 output-part-requires-2 c κs =
     let s = c.before.before.before.before.before.before.before.before.before in
-    (ready s _ (search rules), omega (arith, wide_is s.requires.weighed.sided c.before.if-span-eq-PART.false))
+    (ready s _ (search rules), omega (arith, wide_is s.requires.weighed.sided c.if-span-eq-PART.false))
 
 returns-2 : of.Tie.Need-returns
 returns-2 c =
     let first = c.before.before.before.before.before.before.before.before in
     let s = first.before.before.before.before in
     let a = s.args in
-    let side = wide_is s.requires.weighed.sided c.before.before.before.before.if-span-eq-PART.false in
+    let side = wide_is s.requires.weighed.sided c.if-span-eq-PART.false in
     let w = part-turn a.samples.now a.work.now a.span a.by.count 0 (write-start s.requires.output_room) (omega (arith, side)) first.output_part.ensures in
-    write_done (part-turn a.samples.now a.work.now a.span a.by.count 1 w (omega (arith, side)) c.before.before.output_part-2.ensures) (omega (arith, side))
+    write_done (part-turn a.samples.now a.work.now a.span a.by.count 1 w (omega (arith, side)) c.output_part-2.ensures) (omega (arith, side))
 
 pub output_block_spec : {M : Type 1} → of.Statement.statement M
 output_block_spec = of.Tie.close (of.Tie.spec output-part-requires (λ c. search rules) returns output-part-requires-2 (λ c. search rules) returns-2)

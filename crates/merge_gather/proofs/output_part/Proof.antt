@@ -45,7 +45,7 @@ windowed-requires c κs = let s = c.before.before.before.before.before.before in
 
 corrected-requires : of.Tie.Need-corrected-requires invariant-loop-x decreases-loop-x
 corrected-requires c κs =
-    let w = c.before.windowed-sum in
+    let w = c.windowed-sum in
     let e : to_z w64 (of_z w64 w.result) ≡ w.result = search rules in
     (divided c.before.before.before.before.before.before.before.before, rw e w.ensures.1)
 
@@ -57,7 +57,7 @@ windowed-requires-2 c κs =
 
 corrected-requires-2 : of.Tie.Need-corrected-requires-in-loop-x invariant-loop-x decreases-loop-x
 corrected-requires-2 c κs =
-    let w = c.before.windowed-beside in
+    let w = c.windowed-beside in
     let e : to_z w64 (of_z w64 w.result) ≡ w.result = search rules in
     (divided c.before.before.before.before.before.before.before.before.before.before.before, rw e w.ensures.1)
 
@@ -79,15 +79,15 @@ slice-write-output-2 c =
     let b = c.before.before.before in
     let t = b.before.before.before in
     let s = t.before.before.before.before.before.before in
-    let l = t.before.loop-x in
+    let l = t.loop-x in
     omega (arith, l.inv.room, l.inv.same, length-set l.output (s.args.span.start + s.args.place + 2 * l.x) b.corrected.result, t.loop-x-test.true)
 
 loop-again : of.Tie.Need-loop-x-preserved invariant-loop-x decreases-loop-x
 loop-again c =
-    let v = c.before.before.windowed-beside in
+    let v = c.windowed-beside in
     let f : to_z w64 (of_z w64 v.result) ≡ v.result = search rules in
     let b = c.before.before.before in
-    let w = b.before.before.windowed-sum in
+    let w = b.windowed-sum in
     let e : to_z w64 (of_z w64 w.result) ≡ w.result = search rules in
     let t = b.before.before.before.before in
     let s = t.before.before.before.before.before in
@@ -97,7 +97,7 @@ loop-again c =
     (write-turn first (omega arith) (word s (2 * x + 1) (omega arith) (omega arith) (f ∙ v.ensures.0) c.corrected-in-loop-x.ensures))
 
 returns : of.Tie.Need-returns invariant-loop-x decreases-loop-x
-returns c = write_done c.before.loop-x.invariant (omega arith)
+returns c = write_done c.loop-x.invariant (omega arith)
 
 pub output_part_spec : {M : Type 1} → of.Statement.statement M
 output_part_spec = of.Tie.close (of.Tie.spec

@@ -61,7 +61,7 @@ unfolding row_span sample_length output_length
 returns c =
     let s = c.before.before.before.before.before in
     let r = room s in
-    let above = c.before.slot.ensures in
+    let above = c.slot.ensures in
     let below = c.slot-2.ensures in (
       rw (above.is, below.is),
       record {
@@ -74,10 +74,10 @@ pub row_span_spec : {M : Type 1} → of.Statement.statement M
 row_span_spec = of.Tie.close (of.Tie.spec
     (λ c. search rules) (λ c. search rules) (λ c. omega (arith, room c.before))
     (λ c. omega (arith, room c.before)) (λ c. omega (arith, room c.before.before))
-    (λ c. omega (arith, room c.before.before)) (λ c. c.before.before.requires.under) (λ c. omega (arith, room c.before.before.before))
-    (λ c. half_above c.before.before.before.requires.sided) (λ c. half_above c.before.before.before.requires.sided)
-    (λ c κs. (side-most c.before.before.before.requires.sided, c.before.before.before.requires.allowed.wide.most))
+    (λ c. omega (arith, room c.before.before)) (λ c. c.requires.under) (λ c. omega (arith, room c.before.before.before))
+    (λ c. half_above c.requires.sided) (λ c. half_above c.requires.sided)
+    (λ c κs. (side-most c.requires.sided, c.requires.allowed.wide.most))
     add-above (λ c. omega (arith, above_most c.before.before.before.before)) add-above-2
-    (λ c. half_above c.before.before.before.before.requires.sided) add-slot
-    (λ c κs. (side-most c.before.before.before.before.requires.sided, c.before.before.before.before.requires.allowed.wide.most))
+    (λ c. half_above c.requires.sided) add-slot
+    (λ c κs. (side-most c.requires.sided, c.requires.allowed.wide.most))
     (λ c. omega (arith, below-most c.before.before.before.before.before)) add-below returns)

@@ -22,5 +22,5 @@ returns c =
 pub weight_spec : {M : Type 1} → of.Statement.statement M
 weight_spec = of.Tie.close (of.Tie.spec
     (λ c. omega (arith, c.requires.row, side-most c.requires.sided)) (λ c. omega (arith, c.requires.row, side-most c.requires.sided))
-    (λ c. omega (arith, c.before.requires.column, side-most c.before.requires.sided)) (λ c. omega (arith, c.before.requires.column, side-most c.before.requires.sided))
+    (λ c. omega (arith, c.requires.column, side-most c.requires.sided)) (λ c. omega (arith, c.requires.column, side-most c.requires.sided))
     (λ c. omega (arith, small c.before.before)) cast-result returns)

@@ -29,6 +29,6 @@ returns c =
 pub weights_spec : {M : Type 1} → of.Statement.statement M
 weights_spec = of.Tie.close (of.Tie.spec
     invariant-loop-j decreases-loop-j (λ c. (fill_start refl, omega arith)) (λ c κs. search rules) (λ c. search rules)
-    (λ c. search rules) (λ c. omega (arith, side-most c.before.before.before.requires.sided)) (λ c. search rules) (λ c. search rules)
-    (λ c. omega (arith, side-most c.before.before.before.requires.sided)) (λ c. omega (arith, side-most c.before.before.before.requires.sided)) (λ c. search rules) (λ c. search rules) loop-again
+    (λ c. search rules) (λ c. omega (arith, side-most c.requires.sided)) (λ c. search rules) (λ c. search rules)
+    (λ c. omega (arith, side-most c.requires.sided)) (λ c. omega (arith, side-most c.requires.sided)) (λ c. search rules) (λ c. search rules) loop-again
     returns)

@@ -6,13 +6,13 @@ use Rattle.merge_gather.specs.Work.{part_most, sum_most}
 use Rattle.merge_gather.proofs.Weighing.{side-most, square-most, upper-below, weight-small, windowed-four}
 use Rattle.merge_gather.proofs.windowed as of
 
-most-2 : (c : of.Tie.After-part-2) → AtMost (2 * part_most) (plus64 c.before.part.result c.part-2.result)
-most-2 c = sum-most c.before.part.ensures.1 c.part-2.ensures.1 tt tt
+most-2 : (c : of.Tie.After-part-2) → AtMost (2 * part_most) (plus64 c.part.result c.part-2.result)
+most-2 c = sum-most c.part.ensures.1 c.part-2.ensures.1 tt tt
 
-most-3 : (c : of.Tie.After-part-3) → AtMost (3 * part_most) (plus64 (plus64 c.before.before.part.result c.before.part-2.result) c.part-3.result)
+most-3 : (c : of.Tie.After-part-3) → AtMost (3 * part_most) (plus64 (plus64 c.part.result c.part-2.result) c.part-3.result)
 most-3 c = sum-most (most-2 c.before) c.part-3.ensures.1 tt tt
 
-most-4 : (c : of.Tie.After-part-4) → AtMost sum_most (plus64 (plus64 (plus64 c.before.before.before.part.result c.before.before.part-2.result) c.before.part-3.result) c.part-4.result)
+most-4 : (c : of.Tie.After-part-4) → AtMost sum_most (plus64 (plus64 (plus64 c.part.result c.part-2.result) c.part-3.result) c.part-4.result)
 most-4 c = sum-most (most-3 c.before) c.part-4.ensures.1 tt tt
 
 part-requires : of.Tie.Need-part-requires
@@ -68,9 +68,9 @@ add-result-3 c = most_fits w64 _ _ (most-4 c) tt
 
 returns : of.Tie.Need-returns
 returns c =
-    let p = c.before.before.before.part in
-    let p2 = c.before.before.part-2 in
-    let p3 = c.before.part-3 in
+    let p = c.part in
+    let p2 = c.part-2 in
+    let p3 = c.part-3 in
     let s = c.before.before.before.before in
     let a = s.args in
     let back = to_z-of_z (add-result-3 c) in
@@ -82,8 +82,8 @@ returns c =
 pub windowed_spec : {M : Type 1} → of.Statement.statement M
 windowed_spec = of.Tie.close (of.Tie.spec
     (λ c. omega (arith, square-most c.requires.0.sided)) (λ c. search rules) part-requires (λ c. search rules) (λ c. search rules)
-    (λ c. omega (arith, c.before.requires.1, side-most c.before.requires.0.sided)) part-requires-2
+    (λ c. omega (arith, c.requires.1, side-most c.requires.0.sided)) part-requires-2
     (λ c. most_fits w64 _ _ (most-2 c) tt) (λ c. search rules) part-requires-3
     (λ c. most_fits w64 _ _ (most-3 c) tt) (λ c. search rules) (λ c. search rules)
-    (λ c. omega (arith, c.before.before.before.requires.1, side-most c.before.before.before.requires.0.sided)) part-requires-4
+    (λ c. omega (arith, c.requires.1, side-most c.requires.0.sided)) part-requires-4
     add-result-3 returns)

@@ -12,11 +12,11 @@ abbrev decreases-loop-i : of.Tie.decreases-loop-i
 decreases-loop-i work₀ i₀ work i = length work₀ - i
 
 loop-again : of.Tie.Need-loop-i-preserved invariant-loop-i decreases-loop-i
-loop-again c = fill-turn c.before.loop-i.invariant (omega arith) refl
+loop-again c = fill-turn c.loop-i.invariant (omega arith) refl
 
 returns : of.Tie.Need-returns invariant-loop-i decreases-loop-i
 unfolding zeros
-returns c = fill_done c.before.loop-i.invariant (omega arith) ∙ tab-const (pos 0) _
+returns c = fill_done c.loop-i.invariant (omega arith) ∙ tab-const (pos 0) _
 
 pub clear_spec : {M : Type 1} → of.Statement.statement M
 clear_spec = of.Tie.close (of.Tie.spec

@@ -9,13 +9,13 @@ use Rattle.pipeline.proofs.run_levels as of
 
 align-frames-requires : of.Tie.Need-align_frames-totals-requires
 align-frames-requires c κs =
-    let ready = c.before.before.before.before.before.requires in
+    let ready = c.requires in
     record { fits = record { burst = ready.ranges.burst; work_long = ready.ranges.work_long }; samples_fit = ready.samples_fit }
 
 merge-frames-requires : of.Tie.Need-merge_frames-requires
 merge-frames-requires c κs =
     let frames = c.before.before.before.before.before in
-    let ready = frames.before.before.before.before.before.before.requires in
+    let ready = frames.requires in
     record {
       accepted = record {
         burst = record {
@@ -43,13 +43,13 @@ returns c =
     let merge = c.before.before.before.before.before.before in
     let frames = merge.before.before.before.before.before.before in
     let aligned = frames.align_frames-totals.ensures in
-    let a = frames.before.before.before.before.before.before.args in
+    let a = frames.args in
     record {
       sums_are = aligned.sums_are;
       rows_are = aligned.rows_are;
       found = aligned.found;
       result = merge.merge_frames.ensures ∙ ap (λ v. merged (scene_of a.m a.samples.now v)) aligned.found;
-      clean = c.before.clear.ensures ∙ zeros-length _ _ (search rules);
+      clean = c.clear.ensures ∙ zeros-length _ _ (search rules);
     }
 
 pub run_levels_spec : {M : Type 1} → of.Statement.statement M

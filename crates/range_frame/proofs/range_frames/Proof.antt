@@ -5,12 +5,12 @@ use Rattle.range_frame.specs.BandLaws.{frame-whole}
 use Rattle.range_frame.proofs.range_frames as of
 
 range-parity-requires : of.Tie.Need-range_parity-requires
-range-parity-requires c κs = record { lent = c.before.before.before.before.before.before.requires; parity = lit< tt }
+range-parity-requires c κs = record { lent = c.requires; parity = lit< tt }
 
 range-parity-requires-2 : of.Tie.Need-range_parity-requires-2
 range-parity-requires-2 c κs =
     let p = c.before.before.before.before.before.before.before.before in
-    let t = p.before.before.before.before.before.before.before.requires in
+    let t = p.requires in
     record {
       lent = record {
         accepted = t.accepted;

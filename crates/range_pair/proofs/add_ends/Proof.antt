@@ -5,12 +5,12 @@ use Rattle.range_pair.proofs.add_ends as of
 
 add-same-requires : of.Tie.Need-add_same-requires
 add-same-requires c κs =
-    let p = c.before.before.before.before.requires in
+    let p = c.requires in
     record { differences = p.differences; lower_fits = p.lower_fits; upper_fits = p.lower_fits; greatests = p.greatests; leasts = p.leasts }
 
 returns : of.Tie.Need-returns-then-same
-returns c = let t = c.before.before.before in ends-equal (t.before.same.ensures t.if-same.true) c.add_same.ensures
+returns c = let t = c.before.before.before in ends-equal (t.same.ensures t.if-same.true) c.add_same.ensures
 
 pub add_ends_spec : {M : Type 1} → of.Statement.statement M
 add_ends_spec = of.Tie.close (of.Tie.spec
-    (λ c κs. search rules) add-same-requires returns (λ c κs. c.before.before.before.before.requires) (λ c. c.add_apart.ensures))
+    (λ c κs. search rules) add-same-requires returns (λ c κs. c.requires) (λ c. c.add_apart.ensures))

@@ -18,7 +18,7 @@ part-most s y l = correction-most _ _ (λ y x. cells-most s.requires.differences
 add-corrections-requires : of.Tie.Need-add_corrections-requires
 unfolding grid tab
 add-corrections-requires c κs =
-    let p = c.before.requires in
+    let p = c.requires in
     record {
       differences = p.differences;
       first_most = p.lower_fits.first_most;

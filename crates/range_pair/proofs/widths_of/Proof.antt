@@ -44,7 +44,7 @@ widths-requires c κs =
     let f = c.before.before.before in
     let l = f.before.before in
     let a = l.before in
-    let m = subst (TileMost apart_most) (sym a.apart_pair-w.ensures) (apart-most a.before.requires.0 a.before.requires.1) in
+    let m = subst (TileMost apart_most) (sym a.apart_pair-w.ensures) (apart-most a.requires.0 a.requires.1) in
     record {
       factored = factored f.factors-f.ensures;
       re_most = distant (distance_re a.apart_pair-w.result) (distance-re-most m) (fill_done l.loop-u.invariant.0 (omega arith));

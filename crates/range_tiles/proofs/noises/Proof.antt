@@ -5,8 +5,8 @@ use Rattle.range_tiles.proofs.noises as of
 
 returns : of.Tie.Need-returns
 returns c =
-    let p = c.before.before.requires in
-    let e = c.before.noise_number-a.ensures.0 in
+    let p = c.requires in
+    let e = c.noise_number-a.ensures.0 in
     let f = c.noise_number-b.ensures.0 in
     record {
       first_is = e;

@@ -21,7 +21,7 @@ decreases-loop-k m samples vectors site t0 lower upper greatest₀ least₀ othe
 loop-holds : of.Tie.Need-loop-k-init invariant-loop-k decreases-loop-k
 unfolding scene_at
 loop-holds c =
-    let p = c.before.before.requires in
+    let p = c.requires in
     record { greatests = sum-start (omega arith) p.cleared.greatest_is; leasts = sum-start (omega arith) p.cleared.least_is; tz_rows = refl; d_rows = refl }
 
 differences-requires : of.Tie.Need-differences-requires invariant-loop-k decreases-loop-k
@@ -61,7 +61,7 @@ loop-again c =
 
 returns : of.Tie.Need-returns invariant-loop-k decreases-loop-k
 unfolding scene_at
-returns c = record { greatests = sum_done c.before.loop-k.invariant.greatests (omega arith); leasts = sum_done c.before.loop-k.invariant.leasts (omega arith) }
+returns c = record { greatests = sum_done c.loop-k.invariant.greatests (omega arith); leasts = sum_done c.loop-k.invariant.leasts (omega arith) }
 
 pub sum_ends_spec : {M : Type 1} → of.Statement.statement M
 sum_ends_spec = of.Tie.close (of.Tie.spec

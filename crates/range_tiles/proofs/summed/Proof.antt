@@ -5,7 +5,7 @@ use Rattle.range_tiles.proofs.summed as of
 
 returns : of.Tie.Need-returns-then-lower-upper-eq0
 returns c =
-    let p = c.before.before.before.before.before.requires in
+    let p = c.requires in
     record { greatests = none-summed greatest-ending c.if-lower-upper-eq0.true p.cleared.greatest_is; leasts = none-summed least-ending c.if-lower-upper-eq0.true p.cleared.least_is }
 
 pub summed_spec : {M : Type 1} → of.Statement.statement M

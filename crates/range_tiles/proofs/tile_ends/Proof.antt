@@ -11,13 +11,13 @@ unfolding side16
 sided = refl
 
 -- T0, which is that of either scene
-tile_is : (c : of.Tie.After-pair) → let a = c.before.before.before.before.args in
-    c.pair.new.1.1.1.1.1.1.0 ≡ tile_pair (scene_at side16 a.m a.samples.now a.vectors.now) a.site
+tile_is : (c : of.Tie.After-pair) → let a = c.args in
+    c.pair.new.tile ≡ tile_pair (scene_at side16 a.m a.samples.now a.vectors.now) a.site
 unfolding reference_tile scene_at
 tile_is c = c.pair.ensures
 
-upper_is : (c : of.Tie.After-pair) → let a = c.before.before.before.before.args in
-    c.pair.new.1.1.1.1.1.1.0 ≡ tile_pair (scene_at side16 (raised a.m a.upper) a.samples.now a.vectors.now) a.site
+upper_is : (c : of.Tie.After-pair) → let a = c.args in
+    c.pair.new.tile ≡ tile_pair (scene_at side16 (raised a.m a.upper) a.samples.now a.vectors.now) a.site
 unfolding reference_tile scene_at
 upper_is c = c.pair.ensures
 
@@ -30,17 +30,17 @@ pair-roots-requires c κs =
     record { most = λ i l. (fits.row i).most l }
 
 -- the noise numbers of either plane, at a noise whose scene has this T0
-module _ (c : of.Tie.After-pair_roots-roots) (m : Merge) (e : let t = c.before.before.before.before in let a = t.before.before.before.before.args in
-    t.pair.new.1.1.1.1.1.1.0 ≡ tile_pair (scene_at side16 m a.samples.now a.vectors.now) a.site)
-    (tuned : m.tuning ≡ c.before.before.before.before.before.before.before.before.args.m.tuning) where
-  numbers-known : {v : Noises} → let a = c.before.before.before.before.before.before.before.before.args in
+module _ (c : of.Tie.After-pair_roots-roots) (m : Merge) (e : let t = c.before.before.before.before in let a = t.args in
+    t.pair.new.tile ≡ tile_pair (scene_at side16 m a.samples.now a.vectors.now) a.site)
+    (tuned : m.tuning ≡ c.args.m.tuning) where
+  numbers-known : {v : Noises} → let a = c.args in
       NoisesAre m.tuning.strength m.shot m.read c.pair_roots-roots.result.first c.pair_roots-roots.result.second v
       → (p : ℕ) → p < 2 → noise_of v p ≡ at_site (tile_noise (scene_at side16 m a.samples.now a.vectors.now)) a.site p
   numbers-known {v} known =
       let b = c.before.before in
       let t = b.before.before in
-      let a = t.before.before.before.before.args in
-      numbers_of 16 side16 sided m a.samples.now a.vectors.now a.site e (rw tuned b.before.plane_black-first_black.ensures) (rw tuned b.plane_black-second_black.ensures)
+      let a = t.args in
+      numbers_of 16 side16 sided m a.samples.now a.vectors.now a.site e (rw tuned b.plane_black-first_black.ensures) (rw tuned b.plane_black-second_black.ensures)
       c.pair_roots-roots.ensures.first c.pair_roots-roots.ensures.second known.first_is known.second_is
 
 summed-requires : of.Tie.Need-summed-requires

@@ -14,25 +14,25 @@ use Rattle.station.proofs.Answers.{refused, too-strong, other-side, too-bright, 
 use Rattle.station.proofs.station_noise as of
 
 -- the levels that the match bound are the curve's
-bound : (c : of.Tie.In-Found-2) → let a = c.before.before.before.args in
+bound : (c : of.Tie.In-Found-2) → let a = c.args in
     levels_of (Measured (record { shot = a.shot; read = a.read })) ≡ Found c.ls-1.given.0.0 c.ls-1.given.0.1.0
-bound c = sym c.before.before.levels_of.ensures ∙ c.ls-1.given.1
+bound c = sym c.levels_of.ensures ∙ c.ls-1.given.1
 
-asked : (c : of.Tie.In-Found-2) → let a = c.before.before.before.args in
+asked : (c : of.Tie.In-Found-2) → let a = c.args in
     noise_answer (Found c.ls-1.given.0.0 c.ls-1.given.0.1.0) a.strength a.root a.side ≡ noise_question a.shot a.read a.strength a.root a.side
 unfolding noise_question
-asked c = let a = c.before.before.before.args in ap (λ l. noise_answer l a.strength a.root a.side) (sym (bound c))
+asked c = let a = c.args in ap (λ l. noise_answer l a.strength a.root a.side) (sym (bound c))
 
-passed : (c : of.Tie.Else-strength_refusal-ne0) → strength_refusal c.before.before.before.before.before.before.args.strength ≡ 0
-passed c = sym c.before.strength_refusal.ensures ∙ c.if-strength_refusal-ne0.false
+passed : (c : of.Tie.Else-strength_refusal-ne0) → strength_refusal c.args.strength ≡ 0
+passed c = sym c.strength_refusal.ensures ∙ c.if-strength_refusal-ne0.false
 
 returns : of.Tie.Need-returns-then-strength_refusal-ne0
 returns c =
     let told = c.before.before.before in
-    too-strong _ _ _ _ _ (λ e. c.if-strength_refusal-ne0.true (c.before.strength_refusal.ensures ∙ e)) ∙ asked told
+    too-strong _ _ _ _ _ (λ e. c.if-strength_refusal-ne0.true (c.strength_refusal.ensures ∙ e)) ∙ asked told
 
-sided : (c : of.Tie.Else-not-side_allowed) → side_allowed c.before.before.before.before.before.before.before.before.args.side ≡ true
-sided c = taken-side _ _ c.before.side_allowed.ensures c.if-not-side_allowed.false
+sided : (c : of.Tie.Else-not-side_allowed) → side_allowed c.args.side ≡ true
+sided c = taken-side _ _ c.side_allowed.ensures c.if-not-side_allowed.false
   where
     taken-side : (b : Bool) (side : ℕ) → b ≡ side_allowed side → not b ≡ false → side_allowed side ≡ true
     taken-side true side e h = sym e
@@ -41,7 +41,7 @@ sided c = taken-side _ _ c.before.side_allowed.ensures c.if-not-side_allowed.fal
 returns-2 : of.Tie.Need-returns-then-not-side_allowed
 returns-2 c =
     let told = c.before.before.before.before.before in
-    other-side _ _ _ _ _ (passed c.before.before) (refused-side _ _ c.before.side_allowed.ensures c.if-not-side_allowed.true) ∙ asked told
+    other-side _ _ _ _ _ (passed c.before.before) (refused-side _ _ c.side_allowed.ensures c.if-not-side_allowed.true) ∙ asked told
   where
     refused-side : (b : Bool) (side : ℕ) → b ≡ side_allowed side → not b ≡ true → side_allowed side ≡ false
     refused-side true side e h = absurd (true≢false (sym h))
@@ -58,7 +58,7 @@ returns-3 c =
 side-noise-number-requires : of.Tie.Need-side_noise_number-requires
 side-noise-number-requires c κs =
     let told = c.before.before.before.before.before.before in
-    let a = told.before.before.before.args in
+    let a = told.args in
     let curve = Measured (record { shot = a.shot; read = a.read }) in
     let m = side-most _ (sided c.before) in
     record {
@@ -71,13 +71,13 @@ side-noise-number-requires c κs =
 returns-4 : of.Tie.Need-returns-in-Refused
 unfolding noise_question
 returns-4 c =
-    let a = c.before.before.before.args in
-    refused _ _ _ _ ∙ ap (λ l. noise_answer l a.strength a.root a.side) (sym c.in-Refused.is ∙ c.before.before.levels_of.ensures)
+    let a = c.args in
+    refused _ _ _ _ ∙ ap (λ l. noise_answer l a.strength a.root a.side) (sym c.in-Refused.is ∙ c.levels_of.ensures)
 
 returns-5 : of.Tie.Need-returns-else-side-root
 returns-5 c =
     let told = c.before.before.before.before.before.before.before in
-    c.side_noise_number.ensures.0 ∙ numbered _ _ _ _ _ (passed c.before.before.before.before) (sided c.before.before) c.before.if-side-root.false ∙ asked told
+    c.side_noise_number.ensures.0 ∙ numbered _ _ _ _ _ (passed c.before.before.before.before) (sided c.before.before) c.if-side-root.false ∙ asked told
 
 pub station_noise_spec : {M : Type 1} → of.Statement.statement M
 station_noise_spec = of.Tie.close (of.Tie.spec

@@ -7,11 +7,11 @@ use Rattle.tile_spatial.proofs.bins as of
 
 forward-into-requires : of.Tie.Need-forward_into-requires
 unfolding grid tab
-forward-into-requires c κs = (c.before.before.highs.ensures.1, paired-grid (λ k l. of_bits binary64 0) refl)
+forward-into-requires c κs = (c.highs.ensures.1, paired-grid (λ k l. of_bits binary64 0) refl)
 
 forward-into-requires-2 : of.Tie.Need-forward_into-requires-2
 unfolding grid tab
-forward-into-requires-2 c κs = (c.before.before.lows.ensures.1, paired-grid (λ k l. of_bits binary64 0) refl)
+forward-into-requires-2 c κs = (c.lows.ensures.1, paired-grid (λ k l. of_bits binary64 0) refl)
 
 places-requires : of.Tie.Need-places-requires
 places-requires c κs =
@@ -27,7 +27,7 @@ returns c =
     let l = g.before.before.before in
     let f = l.before in
     let h = f.before.before.before in
-    let t = h.before.args.c.now in
+    let t = h.args.c.now in
     let p = h.highs.ensures in
     let q = l.lows.ensures in (
       c.places.ensures ∙ places-are t p.0 q.0 p.1 q.1 f.forward_into.ensures g.forward_into-2.ensures,
@@ -36,5 +36,5 @@ returns c =
 
 pub bins_spec : {M : Type 1} → of.Statement.statement M
 bins_spec = of.Tie.close (of.Tie.spec
-    (λ c κs. c.requires) forward-into-requires (λ c κs. c.before.before.before.before.requires)
+    (λ c κs. c.requires) forward-into-requires (λ c κs. c.requires)
     forward-into-requires-2 places-requires returns)

@@ -18,28 +18,28 @@ noises_most n =
 abbrev step_is : (g : of.Tie.After-step-g) → InDouble (fold_most false) g.step-g.result
 step_is g =
     let n = g.before.before.before in
-    step_whole (noises_most n) n.before.bins-w.result g.step-g.ensures
+    step_whole (noises_most n) n.bins-w.result g.step-g.ensures
 
 -- P' of both
-steps : (i : of.Tie.After-add_inverse_of) → let n = i.before.before.before.before.before.before in let k = n.before.before.before in let a = k.before.before.args in
-    i.add_inverse_of.new.1.1.0 ≡ grid 16 32 (λ y l. step_at (bin_noise (cell 0 (either a.first.now a.second.now (l % 2)))) (plane_in (cell (pos 0) k.copy_pair-c.result) (l % 2)) y (l / 2))
+steps : (i : of.Tie.After-add_inverse_of) → let n = i.before.before.before.before.before.before in let k = n.before.before.before in let a = k.args in
+    i.add_inverse_of.new.sum ≡ grid 16 32 (λ y l. step_at (bin_noise (cell 0 (either a.first.now a.second.now (l % 2)))) (plane_in (cell (pos 0) k.copy_pair-c.result) (l % 2)) y (l / 2))
 unfolding grid tab
 steps i =
     let g = i.before.before.before in
     let n = g.before.before.before in
     let k = n.before.before.before in
-    let a = k.before.before.args in
-    i.add_inverse_of.ensures (step_is g) ∙ steps-are a.first.now a.second.now n.lanes-noises.ensures k.copy_pair-c.result n.before.bins-w.ensures.0 refl
+    let a = k.args in
+    i.add_inverse_of.ensures (step_is g) ∙ steps-are a.first.now a.second.now n.lanes-noises.ensures k.copy_pair-c.result n.bins-w.ensures.0 refl
 
 copy-pair-requires : of.Tie.Need-copy_pair-c-requires
 copy-pair-requires c κs =
-    let p = c.before.requires in
+    let p = c.requires in
     record { frames_fit = p.frames_fit; samples = p.samples; sums = p.sums }
 
 step-requires : of.Tie.Need-step-g-requires
 step-requires c κs =
     let n = c.before.before in
-    record { places_most = n.before.bins-w.ensures.1; noises_most = noises_most n }
+    record { places_most = n.bins-w.ensures.1; noises_most = noises_most n }
 
 add-inverse-of-requires : of.Tie.Need-add_inverse_of-requires
 unfolding grid tab
@@ -58,7 +58,7 @@ add-times-requires c κs =
     let s = k.before.before in
     record {
       frames_fit = s.requires.frames_fit;
-      part = subst (TileMost spatial_correction_most) (sym (steps i)) (steps-most s.args.first.now s.args.second.now n.lanes-noises.ensures k.copy_pair-c.result n.before.bins-w.ensures.0 s.requires.first_most s.requires.second_most);
+      part = subst (TileMost spatial_correction_most) (sym (steps i)) (steps-most s.args.first.now s.args.second.now n.lanes-noises.ensures k.copy_pair-c.result n.bins-w.ensures.0 s.requires.first_most s.requires.second_most);
       sums = s.requires.sums;
       paired = s.requires.paired;
     }
@@ -68,7 +68,7 @@ unfolding copy_in
 returns c =
     let i = c.before.before.before in
     let k = i.before.before.before.before.before.before.before.before.before in
-    let a = k.before.before.args in
+    let a = k.args in
     let noise : ℕ → ℕ → ℕ → ℕ = λ p. cell 0 (either a.first.now a.second.now p) in
     let copied : ℕ → ℕ → ℕ → ℤ = λ p. plane_in (cell (pos 0) k.copy_pair-c.result) p in
     let copy : ℕ → ℕ → ℕ → ℤ = λ p. copy_in a.frames (plane_in (cell 0 a.t0.now) p) (plane_in (cell (pos 0) a.sum.now) p) in
@@ -81,5 +81,5 @@ returns c =
 
 pub filter_pair_spec : {M : Type 1} → of.Statement.statement M
 filter_pair_spec = of.Tie.close (of.Tie.spec
-    copy-pair-requires (λ c κs. c.before.copy_pair-c.ensures.1) (λ c κs. search rules)
+    copy-pair-requires (λ c κs. c.copy_pair-c.ensures.1) (λ c κs. search rules)
     step-requires add-inverse-of-requires add-times-requires returns)

@@ -34,7 +34,7 @@ loop-again : of.Tie.Need-loop-u-preserved invariant-loop-u decreases-loop-u
 loop-again c =
     let n = c.before.before.before.before in
     let l = n.before.before in
-    let a = l.before.args in
+    let a = l.args in
     let row = ap (λ f. get_or a.noises.now f []) n.counted.ensures.0 in (
       fill-turn l.loop-u.invariant.0 (omega arith) (c.gain_row.ensures.0 ∙ ap (λ r. tab 18 (lane_re r a.w.now l.loop-u.u)) row),
       fill-turn l.loop-u.invariant.1 (omega arith) (c.gain_row.ensures.1 ∙ ap (λ r. tab 18 (lane_im r a.w.now l.loop-u.u)) row),
@@ -56,7 +56,7 @@ returns : of.Tie.Need-returns invariant-loop-u decreases-loop-u
 unfolding grid
 returns c =
     let l = c.before.before.before.before in
-    let a = l.before.args in
+    let a = l.args in
     c.folds.ensures ∙ spreads-are a.noises.now a.w.now (fill_done l.loop-u.invariant.0 (omega arith)) (fill_done l.loop-u.invariant.1 (omega arith))
 
 pub step_spec : {M : Type 1} → of.Statement.statement M

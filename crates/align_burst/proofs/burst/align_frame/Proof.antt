@@ -12,10 +12,10 @@ build-requires c κs =
 -- the frame's pyramid stands behind the reference's
 built : (c : of.Tie.After-build) →
     let a = c.before.before.before.before.args in
-    Built a.shape (sample_at a.shape a.samples.now a.frame) (pyramid_length a.shape) a.work.now c.build.new.1.1.1.0
+    Built a.shape (sample_at a.shape a.samples.now a.frame) (pyramid_length a.shape) a.work.now c.build.new.work
 built c =
     let a = c.before.before.before.before.args in
-    subst (λ n. Built a.shape (sample_at a.shape a.samples.now a.frame) n a.work.now c.build.new.1.1.1.0) c.before.before.offset-at.ensures.0 c.build.ensures
+    subst (λ n. Built a.shape (sample_at a.shape a.samples.now a.frame) n a.work.now c.build.new.work) c.before.before.offset-at.ensures.0 c.build.ensures
 
 align-levels-requires : of.Tie.Need-align_levels-requires
 align-levels-requires c κs =

@@ -16,7 +16,7 @@ base-is c = ap (λ n. 2 * n) c.offset-base.ensures.0
 third-is : (c : of.Tie.After-lay_level-third) → c.lay_level-third.result.grid ≡ site3 c.before.before.before.args.shape
 third-is c = c.lay_level-third.ensures.grid_is ∙ ap (grid_at c.before.before.before.args.shape 3) (base-is c.before.before)
 
-third : (c : of.Tie.After-lay_level-third) → let a = c.before.before.before.args in Reached a.work.now (2 * pyramid_length a.shape) c.lay_level-third.result.grid (field3 (pairs_in a.shape a.work.now)) c.lay_level-third.new.1.0
+third : (c : of.Tie.After-lay_level-third) → let a = c.before.before.before.args in Reached a.work.now (2 * pyramid_length a.shape) c.lay_level-third.result.grid (field3 (pairs_in a.shape a.work.now)) c.lay_level-third.new.work
 third c =
     let s = c.before.before.before.requires in
     reached3 s c.lay_level-third.result.grid (third-is c) (rw (base-is c.before.before) at c.lay_level-third.ensures.laid.vectors)
@@ -28,7 +28,7 @@ behind-third c = c.after.ensures ∙ ap after (third-is c.before.before.before.b
 second_is : (c : of.Tie.After-lay_level-second) → c.lay_level-second.result.grid ≡ site2 c.before.before.before.before.before.before.before.before.args.shape
 second_is c = c.lay_level-second.ensures.grid_is ∙ ap (grid_at c.before.before.before.before.before.before.before.before.args.shape 2) (behind-third c.before)
 
-second : (c : of.Tie.After-lay_level-second) → let a = c.before.before.before.before.before.before.before.before.args in Reached a.work.now (2 * pyramid_length a.shape) c.lay_level-second.result.grid (field2 (pairs_in a.shape a.work.now)) c.lay_level-second.new.1.0
+second : (c : of.Tie.After-lay_level-second) → let a = c.before.before.before.before.before.before.before.before.args in Reached a.work.now (2 * pyramid_length a.shape) c.lay_level-second.result.grid (field2 (pairs_in a.shape a.work.now)) c.lay_level-second.new.work
 second c =
     let t = c.before.before.before.before.before in
     let s = t.before.before.before.requires in

@@ -6,7 +6,7 @@ returns : of.Tie.Need-returns
 returns c =
     let m = c.before.before.before in
     let t = m.before.before.before in
-    rw (t.before.before.shape_of.ensures, t.before.at_iso.ensures, t.tuned.ensures) at m.merge_band.ensures
+    rw (t.shape_of.ensures, t.at_iso.ensures, t.tuned.ensures) at m.merge_band.ensures
 
 pub stacker_merge_band_iso_spec : {M : Type 1} → of.Statement.statement M
 stacker_merge_band_iso_spec = of.Tie.close (of.Tie.spec

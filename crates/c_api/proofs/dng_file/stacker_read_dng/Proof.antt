@@ -6,7 +6,7 @@ returns : of.Tie.Need-returns
 returns c =
     let r = c.before.before in
     let s = r.before.before in
-    rw (s.shape_of-shape.ensures, s.before.of_frames.ensures) at r.read_dng.ensures
+    rw (s.shape_of-shape.ensures, s.of_frames.ensures) at r.read_dng.ensures
 
 pub stacker_read_dng_spec : {M : Type 1} → of.Statement.statement M
 stacker_read_dng_spec = of.Tie.close (of.Tie.spec

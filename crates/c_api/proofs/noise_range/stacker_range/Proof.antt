@@ -7,7 +7,7 @@ returns c =
     let m = c.before.before.before.before.before in
     let t = m.before.before.before.before in
     let u = t.before in
-    rw (u.before.before.shape_of.ensures, u.before.measured.ensures, u.measured-2.ensures, t.tuned.ensures) at m.range.ensures
+    rw (u.shape_of.ensures, u.measured.ensures, u.measured-2.ensures, t.tuned.ensures) at m.range.ensures
 
 pub stacker_range_spec : {M : Type 1} → of.Statement.statement M
 stacker_range_spec = of.Tie.close (of.Tie.spec

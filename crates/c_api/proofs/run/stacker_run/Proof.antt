@@ -6,7 +6,7 @@ returns : of.Tie.Need-returns
 returns c =
     let m = c.before.before.before.before in
     let t = m.before.before.before.before in
-    rw (t.before.before.shape_of.ensures, t.before.measured.ensures, t.tuned.ensures) at m.run.ensures
+    rw (t.shape_of.ensures, t.measured.ensures, t.tuned.ensures) at m.run.ensures
 
 pub stacker_run_spec : {M : Type 1} → of.Statement.statement M
 stacker_run_spec = of.Tie.close (of.Tie.spec

@@ -17,10 +17,10 @@ no_nan : (b : Bool) → b ≡ false → T (not b)
 no_nan b h = subst (λ (a : Bool). T (not a)) (sym h) tt
 
 float-from-bits-result : of.Tie.Need-float_from_bits-result
-float-from-bits-result c = no_nan _ (sym c.before.nan_pattern.ensures ∙ c.if-nan_pattern.false)
+float-from-bits-result c = no_nan _ (sym c.nan_pattern.ensures ∙ c.if-nan_pattern.false)
 
 returns : of.Tie.Need-returns-then-nan_pattern
-returns c = zero_by_zero ∙ only_nan _ (sym (nan_bits_is binary64 c.before.before.args.bits) ∙ sym c.before.nan_pattern.ensures ∙ c.if-nan_pattern.true)
+returns c = zero_by_zero ∙ only_nan _ (sym (nan_bits_is binary64 c.args.bits) ∙ sym c.nan_pattern.ensures ∙ c.if-nan_pattern.true)
 
 pub double_of_spec : {M : Type 1} → of.Statement.statement M
 double_of_spec = of.Tie.close (of.Tie.spec

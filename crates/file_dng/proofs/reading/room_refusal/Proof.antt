@@ -8,17 +8,17 @@ use Rattle.file_dng.proofs.reading.room_refusal as of
 
 returns : of.Tie.Need-returns-then-framed-ne0
 unfolding room_tests
-returns c = stops _ _ c.before.frame_refusal-framed.ensures c.if-framed-ne0.true
+returns c = stops _ _ c.frame_refusal-framed.ensures c.if-framed-ne0.true
 
 sample-length-requires : of.Tie.Need-sample_length-requires
-sample-length-requires c κs = frames-allowed _ c.before.before.args.frame (sym c.before.frame_refusal-framed.ensures ∙ c.if-framed-ne0.false)
+sample-length-requires c κs = frames-allowed _ c.args.frame (sym c.frame_refusal-framed.ensures ∙ c.if-framed-ne0.false)
 
 returns-2 : of.Tie.Need-returns
 unfolding room_tests
 returns-2 c =
     let sized = c.before in
-    let room = sized.before.before.before.args.room in
-    goes _ _ sized.before.before.frame_refusal-framed.ensures sized.before.if-framed-ne0.false
+    let room = sized.args.room in
+    goes _ _ sized.frame_refusal-framed.ensures sized.if-framed-ne0.false
     (c.length_refusal.ensures ∙ ap (λ n. length_refusal no.wrong_sample_length n room) sized.sample_length.ensures.0 ∙ lone _)
 
 pub room_refusal_spec : {M : Type 1} → of.Statement.statement M

@@ -12,22 +12,22 @@ abbrev decreases-loop-i : of.Tie.decreases-loop-i
 decreases-loop-i file start first samples₀ at width i₀ samples i = width - i
 
 cast-low : of.Tie.Need-overflow_cast-low invariant-loop-i decreases-loop-i
-cast-low c = let s = c.before.before.before in omega (arith, c.shared_slice_known-1.given (s.args.start + 2 * (s.args.first + c.before.before.loop-i.i)))
+cast-low c = let s = c.before.before.before in omega (arith, c.shared_slice_known-1.given (s.args.start + 2 * (s.args.first + c.loop-i.i)))
 
 cast-high : of.Tie.Need-overflow_cast-high invariant-loop-i decreases-loop-i
-cast-high c = let s = c.before.before.before.before in omega (arith, c.shared_slice_known-in-loop-i-1.given (s.args.start + 2 * (s.args.first + c.before.before.before.loop-i.i) + 1))
+cast-high c = let s = c.before.before.before.before in omega (arith, c.shared_slice_known-in-loop-i-1.given (s.args.start + 2 * (s.args.first + c.loop-i.i) + 1))
 
 mul-samples : of.Tie.Need-overflow_mul-samples invariant-loop-i decreases-loop-i
-mul-samples c = let s = c.before.before.before.before in omega (arith, c.shared_slice_known-in-loop-i-1.given (s.args.start + 2 * (s.args.first + c.before.before.before.loop-i.i) + 1))
+mul-samples c = let s = c.before.before.before.before in omega (arith, c.shared_slice_known-in-loop-i-1.given (s.args.start + 2 * (s.args.first + c.loop-i.i) + 1))
 
 add-samples : of.Tie.Need-overflow_add-samples invariant-loop-i decreases-loop-i
 add-samples c = let t = c.before.before.before in let s = c.before.before.before.before in omega (arith, c.shared_slice_known-in-loop-i-1.given (s.args.start + 2 * (s.args.first + t.loop-i.i) + 1), c.shared_slice_known-in-loop-i-1.given (s.args.start + 2 * (s.args.first + t.loop-i.i)))
 
 loop-again : of.Tie.Need-loop-i-preserved invariant-loop-i decreases-loop-i
-loop-again c = write-turn c.before.before.before.loop-i.invariant c.before.before.loop-i-test.true (sample-bytes _ _ _)
+loop-again c = write-turn c.loop-i.invariant c.loop-i-test.true (sample-bytes _ _ _)
 
 returns : of.Tie.Need-returns invariant-loop-i decreases-loop-i
-returns c = write_done c.before.loop-i.invariant c.loop-i-test.false
+returns c = write_done c.loop-i.invariant c.loop-i-test.false
 
 pub fill_row_spec : {M : Type 1} → of.Statement.statement M
 fill_row_spec = of.Tie.close (of.Tie.spec

@@ -13,20 +13,20 @@ decreases-loop-i file start count i₀ i = count - i
 
 returns : of.Tie.Need-returns-then-word_bits-gt-SAMPLE_MOST invariant-loop-i decreases-loop-i
 returns c =
-    let turn = c.before.before.before.loop-i in
-    let args = c.before.before.before.before.before.args in
-    strip-refused _ _ args.count turn.i (omega arith) (block _ args.start args.count turn.i ∙ c.before.word_bits.ensures ∙ lt-ltb 4095 c.before.word_bits.result c.if-word_bits-gt-SAMPLE_MOST.true)
+    let turn = c.loop-i in
+    let args = c.args in
+    strip-refused _ _ args.count turn.i (omega arith) (block _ args.start args.count turn.i ∙ c.word_bits.ensures ∙ lt-ltb 4095 c.word_bits.result c.if-word_bits-gt-SAMPLE_MOST.true)
 
 loop-again : of.Tie.Need-loop-i-preserved invariant-loop-i decreases-loop-i
 loop-again c =
-    let turn = c.before.before.before.loop-i in
-    let args = c.before.before.before.before.before.args in
-    (strip-passed _ _ args.count turn.invariant.0 (omega arith) (block _ args.start args.count turn.i ∙ c.before.word_bits.ensures ∙ le-ltb 4095 c.before.word_bits.result c.if-word_bits-gt-SAMPLE_MOST.false), omega arith)
+    let turn = c.loop-i in
+    let args = c.args in
+    (strip-passed _ _ args.count turn.invariant.0 (omega arith) (block _ args.start args.count turn.i ∙ c.word_bits.ensures ∙ le-ltb 4095 c.word_bits.result c.if-word_bits-gt-SAMPLE_MOST.false), omega arith)
 
 returns-2 : of.Tie.Need-returns invariant-loop-i decreases-loop-i
-returns-2 c = strip-accepted _ _ _ c.before.loop-i.invariant.0 c.loop-i-test.false
+returns-2 c = strip-accepted _ _ _ c.loop-i.invariant.0 c.loop-i-test.false
 
 pub strip_refusal_spec : {M : Type 1} → of.Statement.statement M
 strip_refusal_spec = of.Tie.close (of.Tie.spec
-    invariant-loop-i decreases-loop-i (λ c. (pass-start, omega (arith, c.before.requires.1))) (λ c. search rules) (λ c. search rules) (λ c κs. search rules)
+    invariant-loop-i decreases-loop-i (λ c. (pass-start, omega (arith, c.requires.1))) (λ c. search rules) (λ c. search rules) (λ c κs. search rules)
     returns (λ c. search rules) (λ c. search rules) loop-again returns-2)

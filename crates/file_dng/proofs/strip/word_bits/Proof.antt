@@ -12,25 +12,25 @@ abbrev decreases-loop-k : of.Tie.decreases-loop-k
 decreases-loop-k file from seen₀ k₀ seen k = 64 - k
 
 cast-low : of.Tie.Need-overflow_cast-low invariant-loop-k decreases-loop-k
-cast-low c = omega (arith, c.shared_slice_known-1.given (c.before.before.before.args.from + 2 * c.before.before.loop-k.k))
+cast-low c = omega (arith, c.shared_slice_known-1.given (c.args.from + 2 * c.loop-k.k))
 
 cast-high : of.Tie.Need-overflow_cast-high invariant-loop-k decreases-loop-k
-cast-high c = omega (arith, c.shared_slice_known-in-loop-k-1.given (c.before.before.before.before.args.from + 2 * c.before.before.before.loop-k.k + 1))
+cast-high c = omega (arith, c.shared_slice_known-in-loop-k-1.given (c.args.from + 2 * c.loop-k.k + 1))
 
 mul-seen : of.Tie.Need-overflow_mul-seen invariant-loop-k decreases-loop-k
-mul-seen c = omega (arith, c.shared_slice_known-in-loop-k-1.given (c.before.before.before.before.args.from + 2 * c.before.before.before.loop-k.k + 1))
+mul-seen c = omega (arith, c.shared_slice_known-in-loop-k-1.given (c.args.from + 2 * c.loop-k.k + 1))
 
 add-seen : of.Tie.Need-overflow_add-seen invariant-loop-k decreases-loop-k
 add-seen c =
-    let at = c.before.before.before.before.args.from + 2 * c.before.before.before.loop-k.k in
+    let at = c.args.from + 2 * c.loop-k.k in
     omega (arith, c.shared_slice_known-in-loop-k-1.given (at + 1), c.shared_slice_known-in-loop-k-1.given at)
 
 loop-again : of.Tie.Need-loop-k-preserved invariant-loop-k decreases-loop-k
 unfolding strip_sample short
-loop-again c = seen-turn 12 refl c.before.before.before.loop-k.invariant (omega arith)
+loop-again c = seen-turn 12 refl c.loop-k.invariant (omega arith)
 
 returns : of.Tie.Need-returns invariant-loop-k decreases-loop-k
-returns c = seen_done c.before.loop-k.invariant (omega arith)
+returns c = seen_done c.loop-k.invariant (omega arith)
 
 pub word_bits_spec : {M : Type 1} → of.Statement.statement M
 word_bits_spec = of.Tie.close (of.Tie.spec

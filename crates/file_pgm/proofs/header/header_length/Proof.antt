@@ -10,7 +10,7 @@ unfolding pgm_header
 header-long width height = simp length-append (omega arith)
 
 returns : of.Tie.Need-returns
-returns c = (omega (arith, header-long c.before.before.args.width c.before.before.args.height), omega arith)
+returns c = (omega (arith, header-long c.args.width c.args.height), omega arith)
 
 pub header_length_spec : {M : Type 1} → of.Statement.statement M
 header_length_spec = of.Tie.close (of.Tie.spec

@@ -6,16 +6,16 @@ use Rattle.file_pgm.proofs.lengths.pgm_length as of
 
 returns : of.Tie.Need-returns-then-not-sizes_allowed
 unfolding pgm_length
-returns c = rw (sym c.before.sizes_allowed.ensures ∙ c.if-not-sizes_allowed.true)
+returns c = rw (sym c.sizes_allowed.ensures ∙ c.if-not-sizes_allowed.true)
 
 file-length-requires : of.Tie.Need-file_length-requires
-file-length-requires c κs = sized (sym c.before.sizes_allowed.ensures ∙ c.if-not-sizes_allowed.false)
+file-length-requires c κs = sized (sym c.sizes_allowed.ensures ∙ c.if-not-sizes_allowed.false)
 
 returns-2 : of.Tie.Need-returns
 unfolding pgm_length
 returns-2 c =
     let tested = c.before in
-    rw (sym tested.before.sizes_allowed.ensures ∙ tested.if-not-sizes_allowed.false) c.file_length.ensures.0
+    rw (sym tested.sizes_allowed.ensures ∙ tested.if-not-sizes_allowed.false) c.file_length.ensures.0
 
 pub pgm_length_spec : {M : Type 1} → of.Statement.statement M
 pgm_length_spec = of.Tie.close (of.Tie.spec (λ c κs. search rules) returns file-length-requires returns-2)

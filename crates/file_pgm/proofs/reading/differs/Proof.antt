@@ -13,14 +13,14 @@ decreases-loop-i text bytes i₀ i = length text - i
 
 returns : of.Tie.Need-returns-then-bytes-i invariant-loop-i decreases-loop-i
 unfolding differs
-returns c = sym (one _ _ _ c.before.before.before.loop-i-test.true (rw (ne_eqb _ _ c.if-bytes-i.true)))
+returns c = sym (one _ _ _ c.loop-i-test.true (rw (ne_eqb _ _ c.if-bytes-i.true)))
 
 loop-again : of.Tie.Need-loop-i-preserved invariant-loop-i decreases-loop-i
-loop-again c = pass-turn c.before.before.before.before.loop-i.invariant (omega arith) (rw (eq-eqb _ _ c.if-bytes-i.false))
+loop-again c = pass-turn c.loop-i.invariant (omega arith) (rw (eq-eqb _ _ c.if-bytes-i.false))
 
 returns-2 : of.Tie.Need-returns invariant-loop-i decreases-loop-i
 unfolding differs
-returns-2 c = sym (pass-done c.before.loop-i.invariant c.loop-i-test.false)
+returns-2 c = sym (pass-done c.loop-i.invariant c.loop-i-test.false)
 
 pub differs_spec : {M : Type 1} → of.Statement.statement M
 differs_spec = of.Tie.close (of.Tie.spec

@@ -5,7 +5,7 @@ use Rattle.file_pgm.specs.FormLaws.{printed-front}
 use Rattle.file_pgm.proofs.reading.header_differs as of
 
 -- what the buffer starts with
-front : (c : of.Tie.After-put_header-end) → let args = c.before.before.before.args in take c.put_header-end.result c.put_header-end.new.0 ≡ pgm_header args.width args.height
+front : (c : of.Tie.After-put_header-end) → let args = c.args in take c.put_header-end.result c.put_header-end.new.bytes ≡ pgm_header args.width args.height
 front c = printed-front c.put_header-end.ensures.0
 
 slice-aggregate-differs : of.Tie.Need-slice_bounds-differs-end
@@ -16,7 +16,7 @@ differs-requires c κs = omega (arith, ap length (front c.before.before))
 
 returns : of.Tie.Need-returns
 returns c =
-    let bytes = c.before.before.before.before.before.before.args.bytes.now in
+    let bytes = c.args.bytes.now in
     c.differs.ensures ∙ ap (λ text. differs text bytes) (front c.before.before.before)
 
 pub header_differs_spec : {M : Type 1} → of.Statement.statement M

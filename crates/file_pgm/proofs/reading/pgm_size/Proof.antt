@@ -5,26 +5,26 @@ use Rattle.file_pgm.specs.Size.{form_refusal, pgm_size}
 use Rattle.file_pgm.proofs.reading.pgm_size as of
 
 -- the size that the digits write
-width_is : (c : of.Tie.After-leading-height) → c.before.before.leading-width.result ≡ width_in c.before.before.before.before.args.bytes.now
+width_is : (c : of.Tie.After-leading-height) → c.leading-width.result ≡ width_in c.args.bytes.now
 unfolding width_in
-width_is c = c.before.before.leading-width.ensures.0
+width_is c = c.leading-width.ensures.0
 
-height-is : (c : of.Tie.After-leading-height) → c.leading-height.result ≡ height_in c.before.before.before.before.args.bytes.now
+height-is : (c : of.Tie.After-leading-height) → c.leading-height.result ≡ height_in c.args.bytes.now
 unfolding height_in
 height-is c =
-    let bytes = c.before.before.before.before.args.bytes.now in
+    let bytes = c.args.bytes.now in
     c.leading-height.ensures.0
-    ∙ ap (λ n. leading 4 0 (drop (4 + n) bytes)) (c.before.digits.ensures.0 ∙ ap (λ n. length (decimal n)) (width_is c))
+    ∙ ap (λ n. leading 4 0 (drop (4 + n) bytes)) (c.digits.ensures.0 ∙ ap (λ n. length (decimal n)) (width_is c))
 
 -- the form of a file of that size
-form-is : (c : of.Tie.After-formed) → let bytes = c.before.before.before.before.before.args.bytes.now in c.formed.result ≡ formed (width_in bytes) (height_in bytes) bytes
+form-is : (c : of.Tie.After-formed) → let bytes = c.args.bytes.now in c.formed.result ≡ formed (width_in bytes) (height_in bytes) bytes
 form-is c =
-    let bytes = c.before.before.before.before.before.args.bytes.now in
+    let bytes = c.args.bytes.now in
     c.formed.ensures ∙ ap₂ (λ w h. formed w h bytes) (width_is c.before) (height-is c.before)
 
 returns : of.Tie.Need-returns-then-not-formed
 unfolding pgm_size pgm_answer form_refusal after
-returns c = c.refused.ensures ∙ rw (sym (form-is c.before.before) ∙ c.before.if-not-formed.true)
+returns c = c.refused.ensures ∙ rw (sym (form-is c.before.before) ∙ c.if-not-formed.true)
 
 returns-2 : of.Tie.Need-returns
 unfolding pgm_size pgm_answer form_refusal after

@@ -10,29 +10,29 @@ use Rattle.file_pgm.specs.Acceptance.{readable, sound}
 use Rattle.file_pgm.proofs.reading.read_pgm as of
 
 -- the size that the digits write
-width_is : (c : of.Tie.After-leading-height) → c.before.before.leading-width.result ≡ width_in c.before.before.before.before.before.args.bytes.now
+width_is : (c : of.Tie.After-leading-height) → c.leading-width.result ≡ width_in c.args.bytes.now
 unfolding width_in
-width_is c = c.before.before.leading-width.ensures.0
+width_is c = c.leading-width.ensures.0
 
-height-is : (c : of.Tie.After-leading-height) → c.leading-height.result ≡ height_in c.before.before.before.before.before.args.bytes.now
+height-is : (c : of.Tie.After-leading-height) → c.leading-height.result ≡ height_in c.args.bytes.now
 unfolding height_in
 height-is c =
-    let bytes = c.before.before.before.before.before.args.bytes.now in
+    let bytes = c.args.bytes.now in
     c.leading-height.ensures.0
-    ∙ ap (λ n. leading 4 0 (drop (4 + n) bytes)) (c.before.digits.ensures.0 ∙ ap (λ n. length (decimal n)) (width_is c))
+    ∙ ap (λ n. leading 4 0 (drop (4 + n) bytes)) (c.digits.ensures.0 ∙ ap (λ n. length (decimal n)) (width_is c))
 
 -- the number of the tests
-number_is : (c : of.Tie.After-read_refusal-refusal) → let args = c.before.before.before.before.before.before.args in c.read_refusal-refusal.result ≡ read_refusal args.bytes.now (length args.frame.now)
+number_is : (c : of.Tie.After-read_refusal-refusal) → let args = c.args in c.read_refusal-refusal.result ≡ read_refusal args.bytes.now (length args.frame.now)
 unfolding read_refusal
 number_is c =
-    let args = c.before.before.before.before.before.before.args in
+    let args = c.args in
     c.read_refusal-refusal.ensures ∙ ap₂ (λ w h. refusal_as w h args.bytes.now (length args.frame.now)) (width_is c.before) (height-is c.before)
 
 returns : of.Tie.Need-returns-then-refusal-ne0
 unfolding pgm_answer
 returns c =
     let e = number_is c.before.before in
-    let h = c.before.if-refusal-ne0.true in
+    let h = c.if-refusal-ne0.true in
     record {
       answer = c.refused.ensures ∙ ap refused_pgm e ∙ kept _ _ _ e h;
       stored = kept _ _ _ e h;
@@ -42,11 +42,11 @@ returns c =
 -- what the tests that have passed say
 passed : (c : of.Tie.Else-refusal-ne0) →
     let sized = c.before.before in
-    let args = sized.before.before.before.before.before.args in
-    let width = sized.before.before.leading-width.result in
+    let args = sized.args in
+    let width = sized.leading-width.result in
     let height = sized.leading-height.result in
     (formed width height args.bytes.now ≡ true) × (length args.frame.now ≡ width * height)
-passed c = readable _ _ _ _ (sym c.before.read_refusal-refusal.ensures ∙ c.if-refusal-ne0.false)
+passed c = readable _ _ _ _ (sym c.read_refusal-refusal.ensures ∙ c.if-refusal-ne0.false)
 
 fill-requires : of.Tie.Need-fill-requires
 unfolding file_length
@@ -62,7 +62,7 @@ returns-2 c =
     let tested = started.before in
     let sized = tested.before.before in
     let known = sized.before.before.before.before in
-    let args = known.before.args in
+    let args = known.args in
     let bytes = args.bytes.now in
     let e = number_is tested.before in
     let z = tested.if-refusal-ne0.false in

@@ -8,11 +8,11 @@ use Rattle.file_pgm.proofs.reading.read_refusal as of
 
 returns : of.Tie.Need-returns-then-not-formed
 unfolding refusal_as first
-returns c = rw (sym c.before.formed.ensures ∙ c.if-not-formed.true)
+returns c = rw (sym c.formed.ensures ∙ c.if-not-formed.true)
 
 -- where the form has passed
-passed : (c : of.Tie.Else-not-formed) → let args = c.before.before.before.args in formed args.width args.height args.bytes.now ≡ true
-passed c = sym c.before.formed.ensures ∙ c.if-not-formed.false
+passed : (c : of.Tie.Else-not-formed) → let args = c.args in formed args.width args.height args.bytes.now ≡ true
+passed c = sym c.formed.ensures ∙ c.if-not-formed.false
 
 mul-length-refusal : of.Tie.Need-overflow_mul-width
 mul-length-refusal c = omega (arith, area-most (form-sized _ _ _ (passed c)))
@@ -35,7 +35,7 @@ returns-2 c =
     let raster = c.before.before in
     let start = raster.before in
     let lent = start.before in
-    let bytes = lent.before.before.before.before.args.bytes.now in
+    let bytes = lent.args.bytes.now in
     rw (passed lent.before)
     (c.first.ensures
     ∙ ap₂ (λ a b. first (a ∷ b ∷ [])) lent.length_refusal-lent.ensures

@@ -11,11 +11,11 @@ abbrev decreases-loop-i : of.Tie.decreases-loop-i
 decreases-loop-i frame seen₀ i₀ i-end seen i = length frame - i
 
 loop-again : of.Tie.Need-loop-i-preserved invariant-loop-i decreases-loop-i
-loop-again c = seen-turn 12 refl c.before.before.loop-i.invariant (omega arith)
+loop-again c = seen-turn 12 refl c.loop-i.invariant (omega arith)
 
 returns : of.Tie.Need-returns invariant-loop-i decreases-loop-i
 unfolding some_above
-returns c = seen_done c.before.loop-i.invariant (omega arith)
+returns c = seen_done c.loop-i.invariant (omega arith)
 
 pub bits_spec : {M : Type 1} → of.Statement.statement M
 bits_spec = of.Tie.close (of.Tie.spec

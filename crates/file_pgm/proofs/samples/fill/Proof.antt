@@ -22,7 +22,7 @@ loop-again c =
     let made = put.before.before.before in
     let turn = made.before.before in
     let known = turn.before.before in
-    let args = known.before.args in
+    let args = known.args in
     let at = turn.loop-at.at in
     let inside : args.start + 2 * (at + 64) ≤ length args.bytes.now = omega arith in (
       write-part turn.loop-at.invariant.0 (omega arith)
@@ -35,10 +35,10 @@ loop-again c =
 
 returns : of.Tie.Need-returns invariant-loop-at decreases-loop-at
 returns c =
-    let args = c.before.before.before.before.args in
+    let args = c.args in
     let samples = samples_of (drop args.start args.bytes.now) in
     let long : length (drop args.start args.bytes.now) ≡ 2 * length args.frame.now = omega (arith, length-drop args.start args.bytes.now) in
-    write_done c.before.loop-at.invariant.0 (omega arith)
+    write_done c.loop-at.invariant.0 (omega arith)
     ∙ written_all 0 args.frame.now (λ k. get_or samples k 0) (length args.frame.now) refl
     ∙ ap (λ n. tab n (λ k. get_or samples k 0)) (sym (samples_long _ _ long))
     ∙ sym (tab-of 0 samples)

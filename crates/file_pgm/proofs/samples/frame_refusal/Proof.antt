@@ -6,11 +6,11 @@ use Rattle.file_pgm.proofs.samples.frame_refusal as of
 
 returns : of.Tie.Need-returns-then-bits-gt-SAMPLE_MOST
 unfolding above_refusal
-returns c = rw (c.before.bits.ensures ∙ lt-ltb 4095 c.before.bits.result c.if-bits-gt-SAMPLE_MOST.true)
+returns c = rw (c.bits.ensures ∙ lt-ltb 4095 c.bits.result c.if-bits-gt-SAMPLE_MOST.true)
 
 returns-2 : of.Tie.Need-returns
 unfolding above_refusal
-returns-2 c = rw (c.before.bits.ensures ∙ le-ltb 4095 c.before.bits.result c.if-bits-gt-SAMPLE_MOST.false)
+returns-2 c = rw (c.bits.ensures ∙ le-ltb 4095 c.bits.result c.if-bits-gt-SAMPLE_MOST.false)
 
 pub frame_refusal_spec : {M : Type 1} → of.Statement.statement M
 frame_refusal_spec = of.Tie.close (of.Tie.spec (λ c κs. search rules) returns returns-2)

@@ -14,16 +14,16 @@ decreases-loop-k bytes from seen₀ k₀ seen k = 128 - k
 mul-seen : of.Tie.Need-overflow_mul-seen invariant-loop-k decreases-loop-k
 mul-seen c =
     let s = c.before.before.before in
-    let k = c.before.before.loop-k.k in
+    let k = c.loop-k.k in
     let byte = get_or s.args.bytes.now (s.args.from + k) 0 in
     omega (arith, mul-le-mul {n₁ = byte} {m₁ = 1 - k % 2} {n₂ = 255} {m₂ = 1} (omega (arith, c.shared_slice_known-1.given (s.args.from + k))) (omega arith))
 
 loop-again : of.Tie.Need-loop-k-preserved invariant-loop-k decreases-loop-k
 unfolding high
-loop-again c = seen-turn 4 refl c.before.before.loop-k.invariant (omega arith)
+loop-again c = seen-turn 4 refl c.loop-k.invariant (omega arith)
 
 returns : of.Tie.Need-returns invariant-loop-k decreases-loop-k
-returns c = seen_done c.before.loop-k.invariant (omega arith)
+returns c = seen_done c.loop-k.invariant (omega arith)
 
 pub high_bits_spec : {M : Type 1} → of.Statement.statement M
 high_bits_spec = of.Tie.close (of.Tie.spec

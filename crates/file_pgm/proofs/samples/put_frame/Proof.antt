@@ -11,13 +11,13 @@ abbrev decreases-loop-i : of.Tie.decreases-loop-i
 decreases-loop-i bytes₀ at frame i₀ i-end bytes i = length frame - i
 
 cast-high : of.Tie.Need-overflow_cast-high invariant-loop-i decreases-loop-i
-cast-high c = omega (arith, c.shared_slice_known-1.given c.before.before.loop-i.i)
+cast-high c = omega (arith, c.shared_slice_known-1.given c.loop-i.i)
 
 loop-again : of.Tie.Need-loop-i-preserved invariant-loop-i decreases-loop-i
-loop-again c = frame-turn c.before.before.loop-i.invariant (omega arith)
+loop-again c = frame-turn c.loop-i.invariant (omega arith)
 
 returns : of.Tie.Need-returns invariant-loop-i decreases-loop-i
-returns c = frame-done c.before.loop-i.invariant (omega arith)
+returns c = frame-done c.loop-i.invariant (omega arith)
 
 pub put_frame_spec : {M : Type 1} → of.Statement.statement M
 put_frame_spec = of.Tie.close (of.Tie.spec

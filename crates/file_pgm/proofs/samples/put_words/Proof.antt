@@ -12,10 +12,10 @@ decreases-loop-k block frame₀ at k₀ frame k = 64 - k
 
 loop-again : of.Tie.Need-loop-k-preserved invariant-loop-k decreases-loop-k
 unfolding exchanged
-loop-again c = write-turn c.before.before.loop-k.invariant (omega arith) refl
+loop-again c = write-turn c.loop-k.invariant (omega arith) refl
 
 returns : of.Tie.Need-returns invariant-loop-k decreases-loop-k
-returns c = write_done c.before.loop-k.invariant (omega arith)
+returns c = write_done c.loop-k.invariant (omega arith)
 
 pub put_words_spec : {M : Type 1} → of.Statement.statement M
 put_words_spec = of.Tie.close (of.Tie.spec

@@ -21,40 +21,40 @@ decreases-loop-i bytes start count i₀ i = count - i
 
 loop-holds : of.Tie.Need-loop-i-init invariant-loop-i decreases-loop-i
 loop-holds c =
-    let args = c.before.args in
+    let args = c.args in
     record { passed = pass-start; long = samples_long args.count _ (omega (arith, length-drop args.start args.bytes.now)); whole = omega arith }
 
 -- the block's test
 block : (c : of.Tie.After-high_bits invariant-loop-i decreases-loop-i) →
-    let args = c.before.before.before.before.args in
-    some 64 (λ k. ltb 4095 (get_or (samples_of (drop args.start args.bytes.now)) (c.before.before.loop-i.i + k) 0)) ≡ ltb 15 c.high_bits.result
+    let args = c.args in
+    some 64 (λ k. ltb 4095 (get_or (samples_of (drop args.start args.bytes.now)) (c.loop-i.i + k) 0)) ≡ ltb 15 c.high_bits.result
 block c =
-    let args = c.before.before.before.before.args in
+    let args = c.args in
     sym
-    (high-above args.bytes.now args.start c.before.before.loop-i.i (omega arith)
-    (record { below = λ k. omega (arith, c.before.before.before.shared_slice_known-1.given k) }))
+    (high-above args.bytes.now args.start c.loop-i.i (omega arith)
+    (record { below = λ k. omega (arith, c.shared_slice_known-1.given k) }))
     ∙ c.high_bits.ensures
 
 returns : of.Tie.Need-returns-then-high_bits-gt15 invariant-loop-i decreases-loop-i
 unfolding above_refusal some_above
 returns c =
-    let turn = c.before.before.before.loop-i in
-    let args = c.before.before.before.before.before.args in
+    let turn = c.loop-i in
+    let args = c.args in
     let samples = samples_of (drop args.start args.bytes.now) in
-    rw (one_of (length samples) (λ k. ltb 4095 (get_or samples k 0)) turn.i 64 (omega arith) (block c.before ∙ lt-ltb 15 c.before.high_bits.result c.if-high_bits-gt15.true))
+    rw (one_of (length samples) (λ k. ltb 4095 (get_or samples k 0)) turn.i 64 (omega arith) (block c.before ∙ lt-ltb 15 c.high_bits.result c.if-high_bits-gt15.true))
 
 loop-again : of.Tie.Need-loop-i-preserved invariant-loop-i decreases-loop-i
 loop-again c =
-    let turn = c.before.before.before.loop-i in
+    let turn = c.loop-i in
     record {
-      passed = pass-turns turn.invariant.passed 64 (omega arith) (block c.before ∙ le-ltb 15 c.before.high_bits.result c.if-high_bits-gt15.false);
+      passed = pass-turns turn.invariant.passed 64 (omega arith) (block c.before ∙ le-ltb 15 c.high_bits.result c.if-high_bits-gt15.false);
       long = turn.invariant.long;
       whole = omega arith;
     }
 
 returns-2 : of.Tie.Need-returns invariant-loop-i decreases-loop-i
 unfolding above_refusal some_above
-returns-2 c = rw (pass-done c.before.loop-i.invariant.passed (omega arith))
+returns-2 c = rw (pass-done c.loop-i.invariant.passed (omega arith))
 
 pub raster_refusal_spec : {M : Type 1} → of.Statement.statement M
 raster_refusal_spec = of.Tie.close (of.Tie.spec

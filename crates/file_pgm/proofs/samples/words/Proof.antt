@@ -11,25 +11,25 @@ abbrev decreases-loop-k : of.Tie.decreases-loop-k
 decreases-loop-k bytes from block₀ k₀ block k = 64 - k
 
 cast-first : of.Tie.Need-overflow_cast-first invariant-loop-k decreases-loop-k
-cast-first c = omega (arith, c.shared_slice_known-1.given (c.before.before.before.args.from + 2 * c.before.before.loop-k.k))
+cast-first c = omega (arith, c.shared_slice_known-1.given (c.args.from + 2 * c.loop-k.k))
 
 cast-second : of.Tie.Need-overflow_cast-second invariant-loop-k decreases-loop-k
-cast-second c = omega (arith, c.shared_slice_known-in-loop-k-1.given (c.before.before.before.before.args.from + 2 * c.before.before.before.loop-k.k + 1))
+cast-second c = omega (arith, c.shared_slice_known-in-loop-k-1.given (c.args.from + 2 * c.loop-k.k + 1))
 
 mul-block : of.Tie.Need-overflow_mul-block invariant-loop-k decreases-loop-k
-mul-block c = omega (arith, c.shared_slice_known-in-loop-k-1.given (c.before.before.before.before.args.from + 2 * c.before.before.before.loop-k.k + 1))
+mul-block c = omega (arith, c.shared_slice_known-in-loop-k-1.given (c.args.from + 2 * c.loop-k.k + 1))
 
 add-block : of.Tie.Need-overflow_add-block invariant-loop-k decreases-loop-k
 add-block c =
-    let at = c.before.before.before.before.args.from + 2 * c.before.before.before.loop-k.k in
+    let at = c.args.from + 2 * c.loop-k.k in
     omega (arith, c.shared_slice_known-in-loop-k-1.given at, c.shared_slice_known-in-loop-k-1.given (at + 1))
 
 loop-again : of.Tie.Need-loop-k-preserved invariant-loop-k decreases-loop-k
-loop-again c = fill-turn c.before.before.before.loop-k.invariant (omega arith) refl
+loop-again c = fill-turn c.loop-k.invariant (omega arith) refl
 
 returns : of.Tie.Need-returns invariant-loop-k decreases-loop-k
 unfolding words_from
-returns c = fill_done c.before.loop-k.invariant (omega arith)
+returns c = fill_done c.loop-k.invariant (omega arith)
 
 pub words_spec : {M : Type 1} → of.Statement.statement M
 words_spec = of.Tie.close (of.Tie.spec

@@ -10,14 +10,14 @@ use Rattle.file_pgm.proofs.writing.write_pgm as of
 
 returns : of.Tie.Need-returns-then-refusal-ne0
 returns c =
-    let e = c.before.write_refusal-refusal.ensures in
+    let e = c.write_refusal-refusal.ensures in
     record { answer = e; stored = kept _ _ _ e c.if-refusal-ne0.true }
 
 -- what the tests that have passed say
 passed : (c : of.Tie.Else-refusal-ne0) →
-    let args = c.before.before.before.before.before.args in
+    let args = c.args in
     PgmFile (file_of args.width args.height args.frame.now) args.width args.height args.frame.now × (length args.bytes.now ≡ file_length args.width args.height)
-passed c = write-sound _ _ _ _ (sym c.before.write_refusal-refusal.ensures ∙ c.if-refusal-ne0.false)
+passed c = write-sound _ _ _ _ (sym c.write_refusal-refusal.ensures ∙ c.if-refusal-ne0.false)
 
 put-header-requires : of.Tie.Need-put_header-start-requires
 unfolding file_length
@@ -33,7 +33,7 @@ returns-2 c =
     let framed = c.before.before in
     let headed = framed.before.before.before.before in
     let tested = headed.before.before in
-    let e = tested.before.write_refusal-refusal.ensures in
+    let e = tested.write_refusal-refusal.ensures in
     let z = tested.if-refusal-ne0.false in
     let fit = passed tested in
     record {

@@ -9,18 +9,18 @@ use Rattle.file_pgm.proofs.writing.write_refusal as of
 
 returns : of.Tie.Need-returns-then-not-sizes_allowed
 unfolding write_refusal first
-returns c = rw (sym c.before.sizes_allowed.ensures ∙ c.if-not-sizes_allowed.true)
+returns c = rw (sym c.sizes_allowed.ensures ∙ c.if-not-sizes_allowed.true)
 
 -- where the size has passed
-allowed : (c : of.Tie.Else-not-sizes_allowed) → let args = c.before.before.before.before.args in sizes_allowed args.width args.height ≡ true
-allowed c = sym c.before.sizes_allowed.ensures ∙ c.if-not-sizes_allowed.false
+allowed : (c : of.Tie.Else-not-sizes_allowed) → let args = c.args in sizes_allowed args.width args.height ≡ true
+allowed c = sym c.sizes_allowed.ensures ∙ c.if-not-sizes_allowed.false
 
 mul-length-refusal : of.Tie.Need-overflow_mul-width
 mul-length-refusal c = omega (arith, area-most (sized (allowed c)))
 
 -- the tests before that of the samples
 lengths : (c : of.Tie.After-first-lengths) →
-    let args = c.before.before.before.before.before.before.before.before.before.args in
+    let args = c.args in
     c.first-lengths.result ≡
     first
     (refuse size (not (sizes_allowed args.width args.height))
@@ -32,7 +32,7 @@ lengths c =
     let room = c.before.before in
     let long = room.before in
     let lent = long.before in
-    let bytes = lent.before.before.before.before.before.args.bytes.now in
+    let bytes = lent.args.bytes.now in
     rw (allowed lent.before)
     (c.first-lengths.ensures
     ∙ ap₂ (λ a b. first (a ∷ b ∷ [])) lent.length_refusal-lent.ensures
@@ -44,7 +44,7 @@ returns-2 c = stops _ _ (lengths c.before) c.if-lengths-ne0.true
 
 returns-3 : of.Tie.Need-returns
 unfolding write_refusal
-returns-3 c = goes _ _ (lengths c.before.before) c.before.if-lengths-ne0.false (c.frame_refusal.ensures ∙ lone _)
+returns-3 c = goes _ _ (lengths c.before.before) c.if-lengths-ne0.false (c.frame_refusal.ensures ∙ lone _)
 
 pub write_refusal_spec : {M : Type 1} → of.Statement.statement M
 write_refusal_spec = of.Tie.close (of.Tie.spec

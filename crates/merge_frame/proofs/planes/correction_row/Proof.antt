@@ -25,25 +25,25 @@ module _ (c : of.Tie.Start) {n : ℕ} (e : c.args.m.shape.side ≡ n) where
 correction-row-requires : of.Tie.Need-correction_row-requires
 correction-row-requires c κs =
     let s = c.before.before.before.before.before in
-    let e = c.before.before.if-m-eq32.true in
+    let e = c.if-m-eq32.true in
     record { accepted = accepted-at s e; parity = lit< tt; row-most = row_at s e; room = room_at s e }
 
 correction-row-requires-2 : of.Tie.Need-correction_row-requires-then-m-eq32
 correction-row-requires-2 c κs =
     let s = c.before.before.before.before.before in
-    let e = c.before.before.if-m-eq32.true in
+    let e = c.if-m-eq32.true in
     record { accepted = accepted-at s e; parity = lit< tt; row-most = row_at s e; room = room_at s e }
 
 correction-row-requires-3 : of.Tie.Need-correction_row-requires-then-parity-eq0-2
 correction-row-requires-3 c κs =
     let s = c.before.before.before.before.before in
-    let e = sixteen s.requires.accepted.burst.sided c.before.before.if-m-eq32.false in
+    let e = sixteen s.requires.accepted.burst.sided c.if-m-eq32.false in
     record { accepted = accepted-at s e; parity = lit< tt; row-most = row_at s e; room = room_at s e }
 
 correction-row-requires-4 : of.Tie.Need-correction_row-requires-2
 correction-row-requires-4 c κs =
     let s = c.before.before.before.before.before in
-    let e = sixteen s.requires.accepted.burst.sided c.before.before.if-m-eq32.false in
+    let e = sixteen s.requires.accepted.burst.sided c.if-m-eq32.false in
     record { accepted = accepted-at s e; parity = lit< tt; row-most = row_at s e; room = room_at s e }
 
 -- a row of the burst's side is one of that side
@@ -61,24 +61,24 @@ module _ (m : Merge) (samples : List ℕ) (vectors : List ℤ) {rowParity row : 
 returns : of.Tie.Need-returns-then-parity-eq0
 returns c =
     let s = c.before.before.before.before.before.before.before in
-    wide_row s.args.m s.args.samples.now s.args.vectors.now c.before.before.before.before.if-m-eq32.true c.before.before.before.if-parity-eq0.true c.before.correction_row.ensures
+    wide_row s.args.m s.args.samples.now s.args.vectors.now c.if-m-eq32.true c.if-parity-eq0.true c.correction_row.ensures
 
 returns-2 : of.Tie.Need-returns-then-m-eq32
 returns-2 c =
     let s = c.before.before.before.before.before.before.before in
-    let one : s.args.parity ≡ 1 = omega (arith, s.requires.parity, c.before.before.before.if-parity-eq0.false) in
-    wide_row s.args.m s.args.samples.now s.args.vectors.now c.before.before.before.before.if-m-eq32.true one c.before.correction_row-then-m-eq32.ensures
+    let one : s.args.parity ≡ 1 = omega (arith, s.requires.parity, c.if-parity-eq0.false) in
+    wide_row s.args.m s.args.samples.now s.args.vectors.now c.if-m-eq32.true one c.correction_row-then-m-eq32.ensures
 
 returns-3 : of.Tie.Need-returns-then-parity-eq0-2
 returns-3 c =
     let s = c.before.before.before.before.before.before.before in
-    narrow-row s.args.m s.args.samples.now s.args.vectors.now (sixteen s.requires.accepted.burst.sided c.before.before.before.before.if-m-eq32.false) c.before.before.before.if-parity-eq0-2.true c.before.correction_row-then-parity-eq0-2.ensures
+    narrow-row s.args.m s.args.samples.now s.args.vectors.now (sixteen s.requires.accepted.burst.sided c.if-m-eq32.false) c.if-parity-eq0-2.true c.correction_row-then-parity-eq0-2.ensures
 
 returns-4 : of.Tie.Need-returns
 returns-4 c =
     let s = c.before.before.before.before.before.before.before in
-    let one : s.args.parity ≡ 1 = omega (arith, s.requires.parity, c.before.before.before.if-parity-eq0-2.false) in
-    narrow-row s.args.m s.args.samples.now s.args.vectors.now (sixteen s.requires.accepted.burst.sided c.before.before.before.before.if-m-eq32.false) one c.before.correction_row-2.ensures
+    let one : s.args.parity ≡ 1 = omega (arith, s.requires.parity, c.if-parity-eq0-2.false) in
+    narrow-row s.args.m s.args.samples.now s.args.vectors.now (sixteen s.requires.accepted.burst.sided c.if-m-eq32.false) one c.correction_row-2.ensures
 
 pub correction_row_spec : {M : Type 1} → of.Statement.statement M
 correction_row_spec = of.Tie.close (of.Tie.spec correction-row-requires (λ c. search rules) returns correction-row-requires-2 (λ c. search rules) returns-2 correction-row-requires-3 (λ c. search rules) returns-3 correction-row-requires-4 (λ c. search rules) returns-4)

@@ -48,10 +48,10 @@ loop-again : of.Tie.Need-loop-i-preserved invariant-loop-i decreases-loop-i
 loop-again c =
     let l = c.before.before.before.before.before.before in
     let s = l.before.before.before.before.before.before.before.before.before in
-    band-turn s.requires.accepted s.requires.parity s.requires.from_first s.requires.band_below l.loop-i.invariant (omega arith) s.requires.output_room c.before.before.output_row.ensures
+    band-turn s.requires.accepted s.requires.parity s.requires.from_first s.requires.band_below l.loop-i.invariant (omega arith) s.requires.output_room c.output_row.ensures
 
 returns : of.Tie.Need-returns invariant-loop-i decreases-loop-i
-returns c = band-done c.before.loop-i.invariant (omega arith)
+returns c = band-done c.loop-i.invariant (omega arith)
 
 pub merge_band_spec : {M : Type 1} → of.Statement.statement M
 merge_band_spec = of.Tie.close (of.Tie.spec

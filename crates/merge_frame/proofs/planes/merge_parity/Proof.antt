@@ -43,7 +43,7 @@ merge-band-requires c κs =
 loop-again : of.Tie.Need-loop-band-preserved invariant-loop-band decreases-loop-band
 loop-again c =
     let l = c.before.before.before.before.before.before.before in
-    let b = c.before.before.before.merge_band in
+    let b = c.merge_band in
     (parity-turn l.loop-band.invariant.0 b.ensures, b.kept.1.1.1.1.1.1.1.0 ∙ l.loop-band.invariant.1, omega arith)
 
 returns : of.Tie.Need-returns invariant-loop-band decreases-loop-band

@@ -22,13 +22,13 @@ spatial-numbers-requires : of.Tie.Need-spatial_numbers-a-requires
 spatial-numbers-requires c κs = range c.requires.tuned c.requires.first_most
 
 spatial-numbers-requires-2 : of.Tie.Need-spatial_numbers-b-requires
-spatial-numbers-requires-2 c κs = range c.before.requires.tuned c.before.requires.second_most
+spatial-numbers-requires-2 c κs = range c.requires.tuned c.requires.second_most
 
 filter-pair-requires : of.Tie.Need-filter_pair-requires
 filter-pair-requires c κs =
     let b = c.before.before.before in
     let a = b.before in
-    let p = a.before.requires in
+    let p = a.requires in
     record {
       frames_fit = record { some = p.tuned.some; few = p.tuned.few };
       first_most = numbers-most _ (spatial-number-most (range p.tuned p.first_most)) a.spatial_numbers-a.ensures;

@@ -13,8 +13,8 @@ unfolding side16
 sided = refl
 
 -- T0
-tile_is : (c : of.Tie.After-pair) → let a = c.before.before.before.before.args in
-    c.pair.new.1.1.1.1.1.1.0 ≡ pair_at 16 (reference_tile (scene_at side16 a.m a.samples.now a.vectors.now)) a.site
+tile_is : (c : of.Tie.After-pair) → let a = c.args in
+    c.pair.new.tile ≡ pair_at 16 (reference_tile (scene_at side16 a.m a.samples.now a.vectors.now)) a.site
 unfolding reference_tile scene_at
 tile_is c = c.pair.ensures
 
@@ -27,27 +27,27 @@ pair-roots-requires c κs =
     record { most = λ i l. (fits.row i).most l }
 
 abbrev roots_of : of.Tie.After-tile_noise-second → ℕ → ℕ
-roots_of c = either c.before.before.pair_roots-roots.result.first c.before.before.pair_roots-roots.result.second
+roots_of c = either c.pair_roots-roots.result.first c.pair_roots-roots.result.second
 
 -- r of either plane
-roots-known : (c : of.Tie.After-tile_noise-second) → let a = c.before.before.before.before.before.before.before.before.before.before.args in
+roots-known : (c : of.Tie.After-tile_noise-second) → let a = c.args in
     (p : ℕ) → p < 2 → roots_of c p ≡ at_site (reference_root (scene_at side16 a.m a.samples.now a.vectors.now)) a.site p
 roots-known c =
     let r = c.before.before in
     let b = r.before.before in
     let t = b.before.before in
-    let a = t.before.before.before.before.args in
-    roots-of 16 side16 sided a.m a.samples.now a.vectors.now a.site (tile_is t) b.before.plane_black-first_black.ensures b.plane_black-second_black.ensures r.pair_roots-roots.ensures.first r.pair_roots-roots.ensures.second
+    let a = t.args in
+    roots-of 16 side16 sided a.m a.samples.now a.vectors.now a.site (tile_is t) b.plane_black-first_black.ensures b.plane_black-second_black.ensures r.pair_roots-roots.ensures.first r.pair_roots-roots.ensures.second
 
-known : (c : of.Tie.After-tile_noise-second) → let t = c.before.before.before.before.before.before in let a = t.before.before.before.before.args in
-    TileOf 16 noise_most (scene_at side16 a.m a.samples.now a.vectors.now) a.site t.pair.new.1.1.1.1.1.1.0 c.before.tile_noise-first.result c.tile_noise-second.result
+known : (c : of.Tie.After-tile_noise-second) → let t = c.before.before.before.before.before.before in let a = t.args in
+    TileOf 16 noise_most (scene_at side16 a.m a.samples.now a.vectors.now) a.site t.pair.new.tile c.tile_noise-first.result c.tile_noise-second.result
 known c =
     let r = c.before.before in
     let b = r.before.before in
     let t = b.before.before in
-    let a = t.before.before.before.before.args in
-    tile-of 16 side16 sided a.m a.samples.now a.vectors.now a.site (tile_is t) b.before.plane_black-first_black.ensures b.plane_black-second_black.ensures r.pair_roots-roots.ensures.first r.pair_roots-roots.ensures.second
-    c.before.tile_noise-first.ensures.0 c.tile_noise-second.ensures.0 c.before.tile_noise-first.ensures.1 c.tile_noise-second.ensures.1
+    let a = t.args in
+    tile-of 16 side16 sided a.m a.samples.now a.vectors.now a.site (tile_is t) b.plane_black-first_black.ensures b.plane_black-second_black.ensures r.pair_roots-roots.ensures.first r.pair_roots-roots.ensures.second
+    c.tile_noise-first.ensures.0 c.tile_noise-second.ensures.0 c.tile_noise-first.ensures.1 c.tile_noise-second.ensures.1
 
 summed-requires : of.Tie.Need-summed-requires
 summed-requires c κs =

@@ -5,7 +5,7 @@ use Rattle.merge_tiles.proofs.correcting.tile_noise as of
 
 returns : of.Tie.Need-returns
 returns c =
-    let s = c.before.requires in
+    let s = c.requires in
     let e = c.noise_number.ensures.0 in
     (e, rw e (noise-number-bound s.strength_most s.shot_most s.read_most s.root-most))
 

@@ -12,15 +12,15 @@ decreases-loop-i t0 tz d₀ i₀ d i = 16 - i
 difference-row-requires : of.Tie.Need-difference_row-requires invariant-loop-i decreases-loop-i
 difference-row-requires c κs =
     let l = c.before.before.before in
-    (l.before.requires.reference.row l.loop-i.i, l.before.requires.other.row l.loop-i.i)
+    (l.requires.reference.row l.loop-i.i, l.requires.other.row l.loop-i.i)
 
 loop-again : of.Tie.Need-loop-i-preserved invariant-loop-i decreases-loop-i
 unfolding cell
-loop-again c = fill-turn c.before.before.before.before.loop-i.invariant (omega arith) c.difference_row.ensures
+loop-again c = fill-turn c.loop-i.invariant (omega arith) c.difference_row.ensures
 
 returns : of.Tie.Need-returns invariant-loop-i decreases-loop-i
 unfolding grid
-returns c = fill_done c.before.loop-i.invariant (omega arith)
+returns c = fill_done c.loop-i.invariant (omega arith)
 
 pub difference_spec : {M : Type 1} → of.Statement.statement M
 difference_spec = of.Tie.close (of.Tie.spec

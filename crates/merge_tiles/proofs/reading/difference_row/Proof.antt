@@ -12,15 +12,15 @@ decreases-loop-j a b row₀ j₀ row j = 32 - j
 minus-requires : of.Tie.Need-minus-requires invariant-loop-j decreases-loop-j
 minus-requires c κs =
     let l = c.before.before.before in
-    (l.before.requires.0.most l.loop-j.j, l.before.requires.1.most l.loop-j.j)
+    (l.requires.0.most l.loop-j.j, l.requires.1.most l.loop-j.j)
 
 loop-again : of.Tie.Need-loop-j-preserved invariant-loop-j decreases-loop-j
 loop-again c =
     let e : to_z w16 (of_z w16 c.minus.result) ≡ c.minus.result = search rules in
-    fill-turn c.before.before.before.before.loop-j.invariant (omega arith) (e ∙ c.minus.ensures)
+    fill-turn c.loop-j.invariant (omega arith) (e ∙ c.minus.ensures)
 
 returns : of.Tie.Need-returns invariant-loop-j decreases-loop-j
-returns c = fill_done c.before.loop-j.invariant (omega arith)
+returns c = fill_done c.loop-j.invariant (omega arith)
 
 pub difference_row_spec : {M : Type 1} → of.Statement.statement M
 difference_row_spec = of.Tie.close (of.Tie.spec

@@ -18,15 +18,15 @@ pair-requires c κs =
     record { sampled = search rules; frame_below = search rules; sited = s.requires.sited; down_most = rw (part-is v _) (part-most v _); right_most = rw (part-is v _) (part-most v _); rows = s.requires.tz_rows }
 
 -- Tz
-other-is : (c : of.Tie.After-pair) → let a = c.before.before.before.before.before.before.before.before.args in
-    c.pair.new.1.1.1.1.1.1.0 ≡ grid 16 32 (side_by_side (λ p. at_site (other_tile (scene_at side16 a.m a.samples.now a.vectors.now)) a.site p a.k))
+other-is : (c : of.Tie.After-pair) → let a = c.args in
+    c.pair.new.tile ≡ grid 16 32 (side_by_side (λ p. at_site (other_tile (scene_at side16 a.m a.samples.now a.vectors.now)) a.site p a.k))
 other-is c =
     let place = c.before.before.before.before.before in
     let s = place.before.before.before in
     let v = s.requires.accepted.vectors_fit in
     c.pair.ensures
     ∙ other-pair-is 16 side16 s.args.m s.args.samples.now s.args.vectors.now _ _ _ s.args.k
-    c.before.before.other_frame-frame.ensures.0 place.vector_place-place.ensures.0 (part-is v _) (part-is v _)
+    c.other_frame-frame.ensures.0 place.vector_place-place.ensures.0 (part-is v _) (part-is v _)
 
 difference-requires : of.Tie.Need-difference-requires
 difference-requires c κs =

@@ -15,12 +15,12 @@ sixteen : TileSide 16
 sixteen = record { is = inl refl }
 
 -- the pairs of a row
-columns-are : (c : of.Tie.After-tile_columns-columns invariant-loop-column decreases-loop-column) → c.tile_columns-columns.result ≡ c.before.before.before.before.args.m.shape.width / 16 + 1
+columns-are : (c : of.Tie.After-tile_columns-columns invariant-loop-column decreases-loop-column) → c.tile_columns-columns.result ≡ c.args.m.shape.width / 16 + 1
 columns-are c = let s = c.before.before.before.before in c.tile_columns-columns.ensures.0 ∙ ap (λ n. s.args.m.shape.width / n + 1) s.requires.accepted.side_is
 
 loop-holds : of.Tie.Need-loop-column-init invariant-loop-column decreases-loop-column
 unfolding scene_at
-loop-holds c = store-start 16 _ _ _ _ (omega (arith, c.before.before.slot-start.ensures))
+loop-holds c = store-start 16 _ _ _ _ (omega (arith, c.slot-start.ensures))
 
 tile-correction-requires : of.Tie.Need-tile_correction-requires invariant-loop-column decreases-loop-column
 unfolding grid tab
@@ -36,14 +36,14 @@ store-left-requires : of.Tie.Need-store_left-requires invariant-loop-column decr
 unfolding scene_at row_words
 store-left-requires c κs =
     let l = c.before.before.before.before.before in
-    omega (arith, l.before.before.before.slot-start.ensures.is, l.loop-column.invariant.room, l.loop-column.invariant.toward.same, columns-are l.before)
+    omega (arith, l.slot-start.ensures.is, l.loop-column.invariant.room, l.loop-column.invariant.toward.same, columns-are l.before)
 
 store-right-requires : of.Tie.Need-store_right-requires invariant-loop-column decreases-loop-column
 unfolding scene_at row_words
 store-right-requires c κs =
     let t = c.before.before.before.before.before.before.before.before in
     let l = t.before in (
-      omega (arith, l.before.before.before.slot-start.ensures.is, l.loop-column.invariant.room, l.loop-column.invariant.toward.same, c.before.before.before.store_left.ensures.same),
+      omega (arith, l.slot-start.ensures.is, l.loop-column.invariant.room, l.loop-column.invariant.toward.same, c.store_left.ensures.same),
       omega (arith, t.loop-column-test.true, columns-are l.before),
     )
 
@@ -53,15 +53,15 @@ loop-again c =
     let left = c.before.before.before.before.before in
     let t = left.before.before.before in
     let l = t.before.before.before in
-    let start_is = l.before.before.before.slot-start.ensures.is in
-    store-turn 16 _ _ _ _ sixteen l.before.before.before.before.before.requires.accepted.burst.allowed.wide.whole l.loop-column.invariant (omega (arith, columns-are l.before)) t.tile_correction.ensures
-    (rw start_is at left.store_left.ensures) (rw start_is at c.before.store_right.ensures)
+    let start_is = l.slot-start.ensures.is in
+    store-turn 16 _ _ _ _ sixteen l.requires.accepted.burst.allowed.wide.whole l.loop-column.invariant (omega (arith, columns-are l.before)) t.tile_correction.ensures
+    (rw start_is at left.store_left.ensures) (rw start_is at c.store_right.ensures)
 
 returns : of.Tie.Need-returns invariant-loop-column decreases-loop-column
 unfolding scene_at
 returns c =
     let l = c.before in
-    store-done 16 _ _ _ _ sixteen l.before.before.before.before.before.requires.accepted.burst.allowed.wide.whole l.loop-column.invariant (omega (arith, columns-are l.before))
+    store-done 16 _ _ _ _ sixteen l.requires.accepted.burst.allowed.wide.whole l.loop-column.invariant (omega (arith, columns-are l.before))
 
 pub correction_row_spec : {M : Type 1} → of.Statement.statement M
 correction_row_spec = of.Tie.close (of.Tie.spec

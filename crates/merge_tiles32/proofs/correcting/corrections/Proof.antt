@@ -19,7 +19,7 @@ decreases-loop-k m samples vectors site t0 first second sum₀ others tz₀ d₀
 
 loop-holds : of.Tie.Need-loop-k-init invariant-loop-k decreases-loop-k
 unfolding scene_at side32 grid tab
-loop-holds c = record { sums = sum-start refl (omega arith) c.before.before.requires.cleared; tz_rows = refl; d_rows = refl; spare = record { is = grid-of nan 32 64 (λ y l. of_bits binary64 0) refl } }
+loop-holds c = record { sums = sum-start refl (omega arith) c.requires.cleared; tz_rows = refl; d_rows = refl; spare = record { is = grid-of nan 32 64 (λ y l. of_bits binary64 0) refl } }
 
 differences-requires : of.Tie.Need-differences-requires invariant-loop-k decreases-loop-k
 differences-requires c κs =
@@ -57,7 +57,7 @@ loop-again c =
 
 returns : of.Tie.Need-returns invariant-loop-k decreases-loop-k
 unfolding scene_at
-returns c = sum_done c.before.loop-k.invariant.sums (omega arith)
+returns c = sum_done c.loop-k.invariant.sums (omega arith)
 
 pub corrections_spec : {M : Type 1} → of.Statement.statement M
 corrections_spec = of.Tie.close (of.Tie.spec

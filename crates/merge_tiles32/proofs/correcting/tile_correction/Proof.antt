@@ -10,8 +10,8 @@ unfolding side32
 sided = refl
 
 -- T0
-tile_is : (c : of.Tie.After-pair) → let a = c.before.before.before.before.args in
-    c.pair.new.1.1.1.1.1.1.0 ≡ pair_at 32 (reference_tile (scene_at side32 a.m a.samples.now a.vectors.now)) a.site
+tile_is : (c : of.Tie.After-pair) → let a = c.args in
+    c.pair.new.tile ≡ pair_at 32 (reference_tile (scene_at side32 a.m a.samples.now a.vectors.now)) a.site
 unfolding reference_tile scene_at
 tile_is c = c.pair.ensures
 
@@ -24,15 +24,15 @@ pair-roots-requires c κs =
     record { most = λ i l. (fits.row i).most l }
 
 -- V of either plane
-known : (c : of.Tie.After-tile_noise-second) → let t = c.before.before.before.before.before.before in let a = t.before.before.before.before.args in
-    TileOf 32 long_noise_most (scene_at side32 a.m a.samples.now a.vectors.now) a.site t.pair.new.1.1.1.1.1.1.0 c.before.tile_noise-first.result c.tile_noise-second.result
+known : (c : of.Tie.After-tile_noise-second) → let t = c.before.before.before.before.before.before in let a = t.args in
+    TileOf 32 long_noise_most (scene_at side32 a.m a.samples.now a.vectors.now) a.site t.pair.new.tile c.tile_noise-first.result c.tile_noise-second.result
 known c =
     let r = c.before.before in
     let b = r.before.before in
     let t = b.before.before in
-    let a = t.before.before.before.before.args in
-    tile-of 32 side32 sided a.m a.samples.now a.vectors.now a.site (tile_is t) b.before.plane_black-first_black.ensures b.plane_black-second_black.ensures r.pair_roots-roots.ensures.first r.pair_roots-roots.ensures.second
-    c.before.tile_noise-first.ensures.0 c.tile_noise-second.ensures.0 c.before.tile_noise-first.ensures.1 c.tile_noise-second.ensures.1
+    let a = t.args in
+    tile-of 32 side32 sided a.m a.samples.now a.vectors.now a.site (tile_is t) b.plane_black-first_black.ensures b.plane_black-second_black.ensures r.pair_roots-roots.ensures.first r.pair_roots-roots.ensures.second
+    c.tile_noise-first.ensures.0 c.tile_noise-second.ensures.0 c.tile_noise-first.ensures.1 c.tile_noise-second.ensures.1
 
 summed-requires : of.Tie.Need-summed-requires
 summed-requires c κs =

@@ -10,9 +10,9 @@ side-noise-number-requires c κs = search rules
 
 returns : of.Tie.Need-returns
 returns c =
-    let s = c.before.requires in
-    let m = c.before.args.m in
-    let e = c.side_noise_number.ensures.0 ∙ ap (λ n. noise_number n m.tuning.strength m.shot m.read c.before.args.root) (of-32 refl) in
+    let s = c.requires in
+    let m = c.args.m in
+    let e = c.side_noise_number.ensures.0 ∙ ap (λ n. noise_number n m.tuning.strength m.shot m.read c.args.root) (of-32 refl) in
     (e, rw e (long-noise-bound s.strength_most s.shot_most s.read_most s.root-most))
 
 pub tile_noise_spec : {M : Type 1} → of.Statement.statement M

@@ -11,8 +11,8 @@ unfolding pair_of tile_at side32
 returns c =
     let s = c.before.before.before.before.before in
     let a = s.args in
-    let y = c.before.before.before.moved-y in
-    let x = c.before.before.moved-x in
+    let y = c.moved-y in
+    let x = c.moved-x in
     let ey : to_z w64 (of_z w64 y.result) ≡ y.result = search rules in
     let ex : to_z w64 (of_z w64 x.result) ≡ x.result = search rules in
     c.wide_frame_pair.ensures

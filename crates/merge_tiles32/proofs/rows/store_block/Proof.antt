@@ -10,10 +10,10 @@ abbrev decreases-loop-j : of.Tie.decreases-loop-j
 decreases-loop-j work₀ at row from j₀ work j = 32 - j
 
 loop-again : of.Tie.Need-loop-j-preserved invariant-loop-j decreases-loop-j
-loop-again c = write-turn c.before.before.loop-j.invariant (omega arith) (to_z-of_z (record { sfits = c.work-1.given }))
+loop-again c = write-turn c.loop-j.invariant (omega arith) (to_z-of_z (record { sfits = c.work-1.given }))
 
 returns : of.Tie.Need-returns invariant-loop-j decreases-loop-j
-returns c = write_done c.before.loop-j.invariant (omega arith)
+returns c = write_done c.loop-j.invariant (omega arith)
 
 pub store_block_spec : {M : Type 1} → of.Statement.statement M
 store_block_spec = of.Tie.close (of.Tie.spec

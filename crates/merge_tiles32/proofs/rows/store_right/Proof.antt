@@ -7,7 +7,7 @@ returns : of.Tie.Need-returns-then-column-blocks
 returns c = spread-unless (λ h. omega arith) refl
 
 returns-2 : of.Tie.Need-returns
-returns-2 c = spread-when (omega arith) c.before.store_half.ensures
+returns-2 c = spread-when (omega arith) c.store_half.ensures
 
 pub store_right_spec : {M : Type 1} → of.Statement.statement M
 store_right_spec = of.Tie.close (of.Tie.spec

@@ -28,7 +28,7 @@ returns : of.Tie.Need-returns
 returns c =
     let r = c.before.before in
     let q = r.before.before.before.before.before in
-    let a = q.before.before.before.before.before.before.args in
+    let a = q.args in
     record { low_is = q.output_row.ensures; high_is = r.output_row-2.ensures ∙ ap (λ w. row_written a.high.now a.samples.now w a.shape a.reference a.parity a.y 0) (part-is a.shape.width a.work.now) }
 
 pub output_rows_spec : {M : Type 1} → of.Statement.statement M

@@ -60,7 +60,7 @@ loop-again c =
     let a = s.args in
     let w = l.loop-band.invariant in
     record {
-      rows = subst (λ n. at_noises RowsRanged a.m a.upper a.samples.now a.vectors.now a.parity 0 n a.low.now b.range_band.new.1.1.1.1.1.1.0 a.high.now b.range_band.new.1.1.1.1.1.1.1.0) (omega arith) (ranged-on w.rows b.range_band.ensures.rows);
+      rows = subst (λ n. at_noises RowsRanged a.m a.upper a.samples.now a.vectors.now a.parity 0 n a.low.now b.range_band.new.low a.high.now b.range_band.new.high) (omega arith) (ranged-on w.rows b.range_band.ensures.rows);
       held = b.range_band.ensures.held;
       long = b.range_band.auto.1.1.1.1.1.1.1.1.0 ∙ w.long;
       most = omega (arith, i.loop-band-test.true);

@@ -24,13 +24,13 @@ loop-again : of.Tie.Need-loop-y-preserved invariant-loop-y decreases-loop-y
 unfolding cell
 loop-again c =
     let l = c.before.before.before.before in
-    let a = l.before.args in
+    let a = l.args in
     fill-turn l.loop-y.invariant (omega arith)
     (c.add_row.ensures ∙ ap (λ r. row_plus r (λ k. get_or (get_or a.p.now l.loop-y.y []) k (pos 0))) (fill-rest l.loop-y.invariant (omega arith) []))
 
 returns : of.Tie.Need-returns invariant-loop-y decreases-loop-y
 unfolding grid
-returns c = fill_done c.before.loop-y.invariant (omega arith)
+returns c = fill_done c.loop-y.invariant (omega arith)
 
 pub add_pair_spec : {M : Type 1} → of.Statement.statement M
 add_pair_spec = of.Tie.close (of.Tie.spec

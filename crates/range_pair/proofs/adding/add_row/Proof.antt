@@ -27,4 +27,4 @@ pub add_row_spec : {M : Type 1} → of.Statement.statement M
 add_row_spec = of.Tie.close (of.Tie.spec
     invariant-loop-l decreases-loop-l (λ c. fill_start c.requires.sums.long) (λ c. search rules) (λ c. search rules) (λ c. search rules)
     (λ c. search rules) add-sum (λ c. search rules) (λ c. search rules) (λ c. search rules) (λ c. search rules)
-    loop-again (λ c. fill_done c.before.loop-l.invariant (omega arith)))
+    loop-again (λ c. fill_done c.loop-l.invariant (omega arith)))

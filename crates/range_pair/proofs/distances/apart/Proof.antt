@@ -10,6 +10,6 @@ wide w = record { number = w.number; most = le_trans w.most (lit≤ tt); is = w.
 
 pub apart_spec : {M : Type 1} → of.Statement.statement M
 apart_spec = of.Tie.close (of.Tie.spec
-    (λ c. whole-fits (wide c.before.requires.0)) (λ c. whole-fits (wide c.before.before.requires.1))
-    (λ c. difference-fits (wide c.before.before.requires.0) (wide c.before.before.requires.1))
-    (λ c. difference-is (wide c.before.before.requires.0) (wide c.before.before.requires.1)))
+    (λ c. whole-fits (wide c.requires.0)) (λ c. whole-fits (wide c.requires.1))
+    (λ c. difference-fits (wide c.requires.0) (wide c.requires.1))
+    (λ c. difference-is (wide c.requires.0) (wide c.requires.1)))

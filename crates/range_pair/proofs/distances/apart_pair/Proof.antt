@@ -14,17 +14,17 @@ decreases-loop-k a b r₀ k₀ r k = 16 - k
 apart-row-requires : of.Tie.Need-apart_row-requires invariant-loop-k decreases-loop-k
 apart-row-requires c κs =
     let l = c.before.before.before in
-    (whole_row l.before.requires.0 l.loop-k.k (omega arith), whole_row l.before.requires.1 l.loop-k.k (omega arith))
+    (whole_row l.requires.0 l.loop-k.k (omega arith), whole_row l.requires.1 l.loop-k.k (omega arith))
 
 loop-again : of.Tie.Need-loop-k-preserved invariant-loop-k decreases-loop-k
 unfolding cell
 loop-again c =
-    fill-turn c.before.before.before.before.loop-k.invariant (omega arith) c.apart_row.ensures
+    fill-turn c.loop-k.invariant (omega arith) c.apart_row.ensures
 
 returns : of.Tie.Need-returns invariant-loop-k decreases-loop-k
 unfolding grid
 returns c =
-    fill_done c.before.loop-k.invariant (omega arith)
+    fill_done c.loop-k.invariant (omega arith)
 
 pub apart_pair_spec : {M : Type 1} → of.Statement.statement M
 apart_pair_spec = of.Tie.close (of.Tie.spec

@@ -14,7 +14,7 @@ decreases-loop-l a b r₀ l₀ r l = 32 - l
 apart-requires : of.Tie.Need-apart-requires invariant-loop-l decreases-loop-l
 apart-requires c κs =
     let l = c.before.before.before in
-    (whole_at l.before.requires.0 l.loop-l.l (omega arith), whole_at l.before.requires.1 l.loop-l.l (omega arith))
+    (whole_at l.requires.0 l.loop-l.l (omega arith), whole_at l.requires.1 l.loop-l.l (omega arith))
 
 loop-again : of.Tie.Need-loop-l-preserved invariant-loop-l decreases-loop-l
 loop-again c =
@@ -24,7 +24,7 @@ loop-again c =
 
 returns : of.Tie.Need-returns invariant-loop-l decreases-loop-l
 returns c =
-    fill_done c.before.loop-l.invariant (omega arith)
+    fill_done c.loop-l.invariant (omega arith)
 
 pub apart_row_spec : {M : Type 1} → of.Statement.statement M
 apart_row_spec = of.Tie.close (of.Tie.spec

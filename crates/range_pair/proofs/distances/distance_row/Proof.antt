@@ -52,7 +52,7 @@ loop-again c =
     let b = g.before in
     let a = b.before in
     let l = a.before.before in
-    let u = l.before.args.u in
+    let u = l.args.u in
     let re = number_is w64 a.bin_re-a.ensures.1 tt ∙ a.bin_re-a.ensures.0 in
     let im = number_is w64 b.bin_im-b.ensures.1 tt ∙ b.bin_im-b.ensures.0 in (
       fill-turn l.loop-l.invariant.0 (omega arith) (g.distance.ensures ∙ ap (λ z. times_at u (l.loop-l.l / 2) * nat_abs z) re),
@@ -60,7 +60,7 @@ loop-again c =
     )
 
 returns : of.Tie.Need-returns invariant-loop-l decreases-loop-l
-returns c = (fill_done c.before.loop-l.invariant.0 (omega arith), fill_done c.before.loop-l.invariant.1 (omega arith))
+returns c = (fill_done c.loop-l.invariant.0 (omega arith), fill_done c.loop-l.invariant.1 (omega arith))
 
 pub distance_row_spec : {M : Type 1} → of.Statement.statement M
 distance_row_spec = of.Tie.close (of.Tie.spec

@@ -28,7 +28,7 @@ whole-halves-of-requires : of.Tie.Need-whole_halves_of-a-requires
 whole-halves-of-requires c κs = c.requires.low_in
 
 whole-halves-of-requires-2 : of.Tie.Need-whole_halves_of-b-requires
-whole-halves-of-requires-2 c κs = c.before.requires.high_in
+whole-halves-of-requires-2 c κs = c.requires.high_in
 
 add-row-requires : of.Tie.Need-add_row-requires
 add-row-requires c κs =

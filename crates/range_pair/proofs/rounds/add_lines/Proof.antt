@@ -21,7 +21,7 @@ loop-holds c = (fill_start (grid-rows 16 32 _ c.requires.greatests.paired.is), f
 add-line-requires : of.Tie.Need-add_line-requires invariant-loop-y decreases-loop-y
 add-line-requires c κs =
     let l = c.before.before.before.before.before.before in
-    let p = l.before.requires in
+    let p = l.requires in
     let y = l.loop-y.y in
     let d = fill-rest l.loop-y.invariant.0 (omega arith) [] in
     let e = fill-rest l.loop-y.invariant.1 (omega arith) [] in
@@ -37,7 +37,7 @@ loop-again : of.Tie.Need-loop-y-preserved invariant-loop-y decreases-loop-y
 unfolding cell
 loop-again c =
     let l = c.before.before.before.before.before.before.before in
-    let a = l.before.args in
+    let a = l.args in
     let y = l.loop-y.y in
     let p = line_end (get_or a.low.now y []) (get_or a.high.now y []) (get_or a.widths.now (y % 8) []) in (
       fill-turn l.loop-y.invariant.0 (omega arith) (c.add_line.ensures.greatest_is ∙ ap (λ r. row_plus r (p greatest_of)) (fill-rest l.loop-y.invariant.0 (omega arith) [])),
@@ -46,7 +46,7 @@ loop-again c =
 
 returns : of.Tie.Need-returns invariant-loop-y decreases-loop-y
 unfolding grid
-returns c = record { greatest_is = fill_done c.before.loop-y.invariant.0 (omega arith); least_is = fill_done c.before.loop-y.invariant.1 (omega arith) }
+returns c = record { greatest_is = fill_done c.loop-y.invariant.0 (omega arith); least_is = fill_done c.loop-y.invariant.1 (omega arith) }
 
 pub add_lines_spec : {M : Type 1} → of.Statement.statement M
 add_lines_spec = of.Tie.close (of.Tie.spec

@@ -12,7 +12,7 @@ held c = number_is w64 c.quartered.ensures.1 tt
 returns : of.Tie.Need-returns
 unfolding greatest_of
 returns c =
-    let p = c.before.requires in (
+    let p = c.requires in (
       held c ∙ c.quartered.ensures.0 ∙ ap quarter_of (to_z-of_z (more-fits p.first p.second p.width-most) ∙ more-is p.first p.second p.width-most),
       subst (AtMost (2 ^ 28)) (sym (held c)) c.quartered.ensures.1,
     )

@@ -25,7 +25,7 @@ sum_fits {f} {i} w h l = omega (arith, w.most)
 mul-k : of.Tie.Need-overflow_mul-k invariant-loop-v decreases-loop-v
 mul-k c =
     let l = c.before in
-    omega (arith, product l.loop-v.v l.before.args.x (omega arith) l.before.requires.x_below)
+    omega (arith, product l.loop-v.v l.args.x (omega arith) l.requires.x_below)
 
 weighed-requires : of.Tie.Need-weighed-sum-requires invariant-loop-v decreases-loop-v
 weighed-requires c κs =
@@ -35,14 +35,14 @@ weighed-requires c κs =
     record { factors_most = s.requires.factored.at (v * s.args.x % 8) (mod-lt (v * s.args.x) (lit< tt)); first_most = s.requires.re_most.at (2 * v + s.args.p); second_most = s.requires.im_most.at (2 * v + s.args.p) }
 
 add-sum : of.Tie.Need-overflow_add-sum invariant-loop-v decreases-loop-v
-add-sum c = sum_fits c.before.before.before.before.before.before.loop-v.invariant (omega arith) c.weighed-sum.ensures.1
+add-sum c = sum_fits c.loop-v.invariant (omega arith) c.weighed-sum.ensures.1
 
 loop-again : of.Tie.Need-loop-v-preserved invariant-loop-v decreases-loop-v
-loop-again c = sum-turn c.before.before.before.before.before.before.loop-v.invariant (omega arith) c.weighed-sum.ensures.0 c.weighed-sum.ensures.1
+loop-again c = sum-turn c.loop-v.invariant (omega arith) c.weighed-sum.ensures.0 c.weighed-sum.ensures.1
 
 returns : of.Tie.Need-returns invariant-loop-v decreases-loop-v
 unfolding line_width
-returns c = (sum_done c.before.loop-v.invariant (omega arith), sum-most c.before.loop-v.invariant (omega arith))
+returns c = (sum_done c.loop-v.invariant (omega arith), sum-most c.loop-v.invariant (omega arith))
 
 pub line_width_spec : {M : Type 1} → of.Statement.statement M
 line_width_spec = of.Tie.close (of.Tie.spec

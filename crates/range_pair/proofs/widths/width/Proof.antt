@@ -24,7 +24,7 @@ sum_fits {f} {i} w h l = omega (arith, w.most)
 mul-k : of.Tie.Need-overflow_mul-k invariant-loop-u decreases-loop-u
 mul-k c =
     let l = c.before in
-    omega (arith, product l.loop-u.u l.before.args.y (omega arith) l.before.requires.y_below)
+    omega (arith, product l.loop-u.u l.args.y (omega arith) l.requires.y_below)
 
 line-width-requires : of.Tie.Need-line_width-sum-requires invariant-loop-u decreases-loop-u
 line-width-requires c κs =
@@ -39,14 +39,14 @@ line-width-requires c κs =
     }
 
 add-sum : of.Tie.Need-overflow_add-sum invariant-loop-u decreases-loop-u
-add-sum c = sum_fits c.before.before.before.before.before.loop-u.invariant (omega arith) c.line_width-sum.ensures.1
+add-sum c = sum_fits c.loop-u.invariant (omega arith) c.line_width-sum.ensures.1
 
 loop-again : of.Tie.Need-loop-u-preserved invariant-loop-u decreases-loop-u
-loop-again c = sum-turn c.before.before.before.before.before.loop-u.invariant (omega arith) c.line_width-sum.ensures.0 c.line_width-sum.ensures.1
+loop-again c = sum-turn c.loop-u.invariant (omega arith) c.line_width-sum.ensures.0 c.line_width-sum.ensures.1
 
 returns : of.Tie.Need-returns invariant-loop-u decreases-loop-u
 unfolding pair_width
-returns c = (sum_done c.before.loop-u.invariant (omega arith), sum-most c.before.loop-u.invariant (omega arith))
+returns c = (sum_done c.loop-u.invariant (omega arith), sum-most c.loop-u.invariant (omega arith))
 
 pub width_spec : {M : Type 1} → of.Statement.statement M
 width_spec = of.Tie.close (of.Tie.spec

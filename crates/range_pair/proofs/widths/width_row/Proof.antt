@@ -16,9 +16,9 @@ width-requires c κs =
     record { factored = s.requires.factored; re_most = s.requires.re_most; im_most = s.requires.im_most; y_below = s.requires.y_below; l_below = omega arith }
 
 loop-again : of.Tie.Need-loop-l-preserved invariant-loop-l decreases-loop-l
-loop-again c = fill-turn c.before.before.loop-l.invariant (omega arith) c.width-w.ensures.0
+loop-again c = fill-turn c.loop-l.invariant (omega arith) c.width-w.ensures.0
 
 pub width_row_spec : {M : Type 1} → of.Statement.statement M
 width_row_spec = of.Tie.close (of.Tie.spec
     invariant-loop-l decreases-loop-l (λ c. fill_start refl) width-requires (λ c. search rules) (λ c. search rules) (λ c. search rules) (λ c. search rules)
-    loop-again (λ c. fill_done c.before.loop-l.invariant (omega arith)))
+    loop-again (λ c. fill_done c.loop-l.invariant (omega arith)))

@@ -16,11 +16,11 @@ width-row-requires c κs =
     record { factored = s.requires.factored; re_most = s.requires.re_most; im_most = s.requires.im_most; y_below = omega arith }
 
 loop-again : of.Tie.Need-loop-y-preserved invariant-loop-y decreases-loop-y
-loop-again c = fill-turn c.before.before.loop-y.invariant (omega arith) c.width_row.ensures
+loop-again c = fill-turn c.loop-y.invariant (omega arith) c.width_row.ensures
 
 returns : of.Tie.Need-returns invariant-loop-y decreases-loop-y
 unfolding grid
-returns c = fill_done c.before.loop-y.invariant (omega arith)
+returns c = fill_done c.loop-y.invariant (omega arith)
 
 pub widths_spec : {M : Type 1} → of.Statement.statement M
 widths_spec = of.Tie.close (of.Tie.spec

@@ -13,12 +13,12 @@ abbrev decreases-loop-column : of.Tie.decreases-loop-column
 decreases-loop-column m upper samples vectors parity row work₀ start second blocks columns column₀ work column = columns - column
 
 -- the pairs of a row
-columns-are : (c : of.Tie.After-tile_columns-columns invariant-loop-column decreases-loop-column) → c.tile_columns-columns.result ≡ c.before.before.before.before.before.args.m.shape.width / 16 + 1
+columns-are : (c : of.Tie.After-tile_columns-columns invariant-loop-column decreases-loop-column) → c.tile_columns-columns.result ≡ c.args.m.shape.width / 16 + 1
 columns-are c = let s = c.before.before.before.before.before in c.tile_columns-columns.ensures.0 ∙ ap (λ n. s.args.m.shape.width / n + 1) s.requires.accepted.side_is
 
 loop-holds : of.Tie.Need-loop-column-init invariant-loop-column decreases-loop-column
 unfolding scene_at
-loop-holds c = ends-start _ _ _ _ _ c.before.before.before.before.before.requires.room
+loop-holds c = ends-start _ _ _ _ _ c.requires.room
 
 tile-ends-requires : of.Tie.Need-tile_ends-requires invariant-loop-column decreases-loop-column
 unfolding grid tab
@@ -34,21 +34,21 @@ tile-ends-requires c κs =
 
 -- the words of the blocks before a pair, from either start on, lie in the work area
 module _ (l : of.Tie.At-loop-column invariant-loop-column decreases-loop-column) where
-  width_of : 512 * (l.before.before.before.before.before.before.args.m.shape.width / 16) ≤ row_words 16 l.before.before.before.before.before.before.args.m.shape.width
+  width_of : 512 * (l.args.m.shape.width / 16) ≤ row_words 16 l.args.m.shape.width
   unfolding row_words
   width_of = omega arith
 
-  first-in : l.before.before.before.before.slot-start.result + 512 * (l.before.before.before.before.before.before.args.m.shape.width / 16) ≤ length l.loop-column.work
+  first-in : l.slot-start.result + 512 * (l.args.m.shape.width / 16) ≤ length l.loop-column.work
   unfolding scene_at
   first-in =
       let s = l.before.before.before.before.before.before in
-      omega (arith, l.before.before.before.before.slot-start.ensures.in_area_lem, width_of, s.requires.room, l.loop-column.invariant.toward.same)
+      omega (arith, l.slot-start.ensures.in_area_lem, width_of, s.requires.room, l.loop-column.invariant.toward.same)
 
-  second-in : l.before.before.before.least_slot-second.result + 512 * (l.before.before.before.before.before.before.args.m.shape.width / 16) ≤ length l.loop-column.work
+  second-in : l.least_slot-second.result + 512 * (l.args.m.shape.width / 16) ≤ length l.loop-column.work
   unfolding scene_at
   second-in =
       let s = l.before.before.before.before.before.before in
-      omega (arith, l.before.before.before.least_slot-second.ensures, slot-most 16 s.args.m.shape.width s.args.row, width_of, s.requires.room, l.loop-column.invariant.toward.same)
+      omega (arith, l.least_slot-second.ensures, slot-most 16 s.args.m.shape.width s.args.row, width_of, s.requires.room, l.loop-column.invariant.toward.same)
 
 store-left-requires : of.Tie.Need-store_left-requires invariant-loop-column decreases-loop-column
 store-left-requires c κs =
@@ -94,8 +94,8 @@ loop-again c =
     let i = t.before.before.before in
     let l = i.before in
     let s = l.before.before.before.before.before.before in
-    let first = l.before.before.before.before.slot-start.ensures.is in
-    let second = l.before.before.before.least_slot-second.ensures in
+    let first = l.slot-start.ensures.is in
+    let second = l.least_slot-second.ensures in
     ends-turn _ _ _ _ _ s.requires.accepted.burst.allowed.wide.whole l.loop-column.invariant (omega (arith, i.loop-column-test.true, columns-are l.before)) t.tile_ends.ensures.greatests t.tile_ends.ensures.leasts
     (rw first at a.store_left.ensures) (rw first at b.store_right.ensures) (rw second at e.store_left-in-loop-column.ensures) (rw second at f.store_right-in-loop-column.ensures)
 
@@ -103,7 +103,7 @@ returns : of.Tie.Need-returns invariant-loop-column decreases-loop-column
 unfolding scene_at
 returns c =
     let l = c.before in
-    ends-done _ _ _ _ _ l.before.before.before.before.before.before.requires.accepted.burst.allowed.wide.whole l.loop-column.invariant (omega (arith, columns-are l.before))
+    ends-done _ _ _ _ _ l.requires.accepted.burst.allowed.wide.whole l.loop-column.invariant (omega (arith, columns-are l.before))
 
 pub end_row_spec : {M : Type 1} → of.Statement.statement M
 end_row_spec = of.Tie.close (of.Tie.spec

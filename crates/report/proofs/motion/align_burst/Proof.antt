@@ -22,7 +22,7 @@ returns c =
     let fits : n ≤ length start.args.vectors.now = omega (arith, start.requires.taken.allowed.few) in
     let vectors = start.args.vectors.now in
     let whole = length-take-le n vectors fits in
-    let part = s.align_frames-totals.new.1.1.1.0 in
+    let part = s.align_frames-totals.new.vectors in
     let same : length part ≡ n = omega (arith, whole) in
     record { found = front-is n vectors part fits same ∙ aligned.found; residuals = aligned.sums_are; same = front_length n vectors part fits same ∙ start.requires.vectors_room }
 

@@ -23,7 +23,7 @@ lines_of {header} {samples} {vectors} {sums} t v s =
 slice-aggregate-put-frames : of.Tie.Need-slice_bounds-put_frames-end-2
 slice-aggregate-put-frames c =
     let aligned = c.before.before.before.before.before.before.before.before.before.before in
-    sym (length-take-le _ _ (omega (arith, aligned.align_burst-residuals.ensures.same, aligned.before.before.before.before.before.requires.taken.allowed.few)))
+    sym (length-take-le _ _ (omega (arith, aligned.align_burst-residuals.ensures.same, aligned.requires.taken.allowed.few)))
 
 put-frames-requires : of.Tie.Need-put_frames-requires
 put-frames-requires c κs =
@@ -31,7 +31,7 @@ put-frames-requires c κs =
     let aligned = named.before.before.before.before in
     let start = aligned.before.before.before.before.before in
     let few = start.requires.taken.allowed.few in
-    let whole = length-take-le (vector_room (start.args.header.shape.count - 1)) aligned.align_burst-residuals.new.1.1.0 (omega (arith, aligned.align_burst-residuals.ensures.same, few)) in
+    let whole = length-take-le (vector_room (start.args.header.shape.count - 1)) aligned.align_burst-residuals.new.vectors (omega (arith, aligned.align_burst-residuals.ensures.same, few)) in
     record { few = omega (arith, few); vectors_room = omega (arith, whole); text-room = omega (arith, named.put_motion_names-next.ensures.1, named.put_motion_names-next.ensures.0.same, start.requires.text-room) }
 
 returns : of.Tie.Need-returns
@@ -40,7 +40,7 @@ returns c =
     let named = put.before.before.before.before.before.before.before in
     let aligned_at = named.before.before.before.before in
     let aligned = aligned_at.align_burst-residuals.ensures in
-    rw (lines_of aligned_at.before.before.before.before.before.requires.taken aligned.found aligned.residuals) at (printed-then (omega arith) named.put_motion_names-next.ensures.0 put.put_frames.ensures)
+    rw (lines_of aligned_at.requires.taken aligned.found aligned.residuals) at (printed-then (omega arith) named.put_motion_names-next.ensures.0 put.put_frames.ensures)
 
 pub put_aligned_spec : {M : Type 1} → of.Statement.statement M
 put_aligned_spec = of.Tie.close (of.Tie.spec

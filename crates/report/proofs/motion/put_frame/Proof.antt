@@ -12,9 +12,9 @@ line frame parts residual s f = rw (s, f)
 returns : of.Tie.Need-returns
 returns c =
     let counted = c.before.before.before.before.before in
-    let a = counted.before.before.before.args in
-    let printed = c.before.before.put_numbers.ensures in
-    (rw (line a.frame a.vectors.now a.residual counted.before.still_tiles.ensures counted.farthest.ensures) at printed.0, printed.1)
+    let a = counted.args in
+    let printed = c.put_numbers.ensures in
+    (rw (line a.frame a.vectors.now a.residual counted.still_tiles.ensures counted.farthest.ensures) at printed.0, printed.1)
 
 pub put_frame_spec : {M : Type 1} → of.Statement.statement M
 put_frame_spec = of.Tie.close (of.Tie.spec

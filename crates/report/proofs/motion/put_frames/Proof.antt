@@ -39,21 +39,21 @@ loop-holds c = record { count = omega arith; bound = omega arith; printed = prin
 
 loop-again : of.Tie.Need-loop-k-preserved invariant-loop-k decreases-loop-k
 loop-again c =
-    let printed = c.before.before.put_frame-next.ensures in
+    let printed = c.put_frame-next.ensures in
     let turn = c.before.before.before.before.before.before.before in
-    let a = turn.before.before.args in
+    let a = turn.args in
     let lined = turn.loop-k.invariant in
     let k = turn.loop-k.k in
     record {
       count = omega arith;
       bound = omega arith;
-      printed = rw (next-line a.reference a.vectors.now a.t5 k c.before.before.before.before.before.other_frame-frame.ensures.0) at (printed-then (omega arith) lined.printed printed.0);
+      printed = rw (next-line a.reference a.vectors.now a.t5 k c.other_frame-frame.ensures.0) at (printed-then (omega arith) lined.printed printed.0);
     }
 
 returns : of.Tie.Need-returns invariant-loop-k decreases-loop-k
 returns c =
-    let lined = c.before.loop-k.invariant in
-    let all : c.before.loop-k.k ≡ c.before.before.before.args.others = omega arith in
+    let lined = c.loop-k.invariant in
+    let all : c.loop-k.k ≡ c.args.others = omega arith in
     rw all at lined.printed
 
 pub put_frames_spec : {M : Type 1} → of.Statement.statement M

@@ -11,24 +11,24 @@ use Rattle.report.proofs.opening.open_file as of
 
 -- where the head is `head`
 told : (c : of.Tie.After-read_head) (head : Head) → c.read_head.result ≡ head →
-    let file = c.before.before.before.args.file.now in
+    let file = c.args.file.now in
     head_in file head ≡ head_of file
-told c head e = ap (head_in c.before.before.before.args.file.now) (sym e) ∙ c.read_head.ensures
+told c head e = ap (head_in c.args.file.now) (sym e) ∙ c.read_head.ensures
 
-short : (c : of.Tie.After-read_head) → length c.before.before.before.args.file.now ≤ file_most
-short c = c.before.before.before.requires.0
+short : (c : of.Tie.After-read_head) → length c.args.file.now ≤ file_most
+short c = c.requires.0
 
 returns : of.Tie.Need-returns-then-number-ne0
-returns c = refused-text _ (short c.before.before.before.before.before) c.before.check_file-number.ensures c.if-number-ne0.true
+returns c = refused-text _ (short c.before.before.before.before.before) c.check_file-number.ensures c.if-number-ne0.true
 
 -- the file check has accepted the file of this header
-accepted : (c : of.Tie.Else-number-ne0) → Headed c.before.before.before.before.before.before.before.before.args.file.now c.before.before.before.header-1.given.0.0
+accepted : (c : of.Tie.Else-number-ne0) → Headed c.args.file.now c.header-1.given.0.0
 accepted c =
     let at = c.before.before.before in
     let g = at.header-1.given in
-    headed (sym c.before.check_file-number.ensures ∙ c.if-number-ne0.false) (told at.before.before (Found g.0.0 g.0.1.0) g.1)
+    headed (sym c.check_file-number.ensures ∙ c.if-number-ne0.false) (told at.before.before (Found g.0.0 g.0.1.0) g.1)
 
-still-short : (c : of.Tie.Else-number-ne0) → length c.before.before.before.before.before.before.before.before.args.file.now ≤ file_most
+still-short : (c : of.Tie.Else-number-ne0) → length c.args.file.now ≤ file_most
 still-short c = short c.before.before.before.before.before
 
 returns-2 : of.Tie.Need-returns-then-shape-ne-FRAME_SIDE
@@ -45,7 +45,7 @@ returns-3 c =
 -- the samples of the frames fit in those lent
 fits : (c : of.Tie.After-struct_known-in-Found-2-1) →
     let at = c.before.before.before.before.before.before.before.before.before in
-    room at.header-1.given.0.0.shape.count ≤ length at.before.before.before.before.before.args.samples.now
+    room at.header-1.given.0.0.shape.count ≤ length at.args.samples.now
 fits c = omega (arith, headed-few (accepted c.before.before.before.before.before.before))
 
 mul-end : of.Tie.Need-overflow_mul-end
@@ -56,7 +56,7 @@ slice-aggregate-read-file c = sym (length-take-le _ _ (fits c.before))
 
 returns-4 : of.Tie.Need-returns-in-Refused
 returns-4 c =
-    let g = c.before.number-1.given in
+    let g = c.number-1.given in
     let head = c.before.before.before in
     head-text _ (short head) (told head (Refused g.0.0) g.1)
 
@@ -67,9 +67,9 @@ returns-5 c =
     let wide = high.before.before in
     let checked = wide.before.before.before in
     let at = checked.before.before.before in
-    let samples = at.before.before.before.before.before.args.samples.now in
+    let samples = at.args.samples.now in
     let same = length-take-le (room at.header-1.given.0.0.shape.count) samples (fits known) in
-    opens _ (still-short checked) (accepted checked) wide.if-shape-ne-FRAME_SIDE.false samples high.if-shape-ne-FRAME_SIDE-2.false (fits known) (omega (arith, same)) c.before.before.read_file.ensures
+    opens _ (still-short checked) (accepted checked) wide.if-shape-ne-FRAME_SIDE.false samples high.if-shape-ne-FRAME_SIDE-2.false (fits known) (omega (arith, same)) c.read_file.ensures
 
 pub open_file_spec : {M : Type 1} → of.Statement.statement M
 open_file_spec = of.Tie.close (of.Tie.spec

@@ -14,7 +14,7 @@ returns : of.Tie.Need-returns
 returns c =
     let put = c.before.before in
     let ran = put.before.before.before.before.before.before in
-    rw (merged-text ran.before.before.before.before.before.before.requires.0 ran.run_burst.ensures.0) at put.put_merged.ensures
+    rw (merged-text ran.requires.0 ran.run_burst.ensures.0) at put.put_merged.ensures
 
 pub put_stack_spec : {M : Type 1} → of.Statement.statement M
 put_stack_spec = of.Tie.close (of.Tie.spec

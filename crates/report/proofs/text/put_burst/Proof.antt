@@ -3,10 +3,10 @@ use borrow.Author.Rules.{rules}
 use Rattle.report.proofs.text.put_burst as of
 
 returns : of.Tie.Need-returns-in-Motion
-returns c = rw c.before.before.before.before.in-Motion.is c.before.before.put_motion.ensures
+returns c = rw c.in-Motion.is c.put_motion.ensures
 
 returns-2 : of.Tie.Need-returns-in-Stack
-returns-2 c = rw c.before.before.before.before.in-Stack.is c.before.before.put_stack.ensures
+returns-2 c = rw c.in-Stack.is c.put_stack.ensures
 
 pub put_burst_spec : {M : Type 1} → of.Statement.statement M
 put_burst_spec = of.Tie.close (of.Tie.spec

@@ -8,14 +8,14 @@ use Rattle.report.proofs.text.put_file as of
 
 -- what the program prints for a burst
 abbrev printer : of.Tie.After-open_file → FileBurst → List ℕ
-printer c = printed_by c.before.before.before.before.before.args.program
+printer c = printed_by c.args.program
 
 -- where `opened` was found
-told : (c : of.Tie.After-open_file) (opened : Opened) → c.open_file.result ≡ opened → Opens c.before.before.before.before.before.args.file.now c.open_file.new.1.0 opened
-told c opened e = subst (Opens c.before.before.before.before.before.args.file.now c.open_file.new.1.0) e c.open_file.ensures
+told : (c : of.Tie.After-open_file) (opened : Opened) → c.open_file.result ≡ opened → Opens c.args.file.now c.open_file.new.samples opened
+told c opened e = subst (Opens c.args.file.now c.open_file.new.samples) e c.open_file.ensures
 
 -- the burst that was found
-held : (c : of.Tie.In-Taken-2) → Opens c.before.before.before.before.before.before.before.before.before.args.file.now c.before.before.before.before.open_file.new.1.0 (Taken c.header-1.given.0.0)
+held : (c : of.Tie.In-Taken-2) → Opens c.args.file.now c.open_file.new.samples (Taken c.header-1.given.0.0)
 held c = told c.before.before.before.before (Taken c.header-1.given.0.0) c.header-1.given.1
 
 mul-end : of.Tie.Need-overflow_mul-end
@@ -33,16 +33,16 @@ put-burst-requires c κs = ((held c.before.before.before.before.before).taken, o
 returns : of.Tie.Need-returns-in-TooLarge
 returns c =
     let at = c.before.before.before.before in
-    rw (sym (told at.before.before.before.before TooLarge at.in-TooLarge.is (printer at.before.before.before.before))) at c.before.before.put_too_large.ensures.0
+    rw (sym (told at.before.before.before.before TooLarge at.in-TooLarge.is (printer at.before.before.before.before))) at c.put_too_large.ensures.0
 
 returns-2 : of.Tie.Need-returns-in-Refused
 returns-2 c =
     let at = c.before.before.before.before.before in
-    rw (sym (told at.before.before.before.before (Refused at.number-1.given.0.0) at.number-1.given.1 (printer at.before.before.before.before))) at c.before.before.put_refusal.ensures.0
+    rw (sym (told at.before.before.before.before (Refused at.number-1.given.0.0) at.number-1.given.1 (printer at.before.before.before.before))) at c.put_refusal.ensures.0
 
 returns-3 : of.Tie.Need-returns-in-Taken
 returns-3 c =
-    rw (sym ((held c.before.before.before.before.before.before.before.before).text-1 (printer c.before.before.before.before.before.before.before.before.before.before.before.before))) at c.before.before.put_burst.ensures
+    rw (sym ((held c.before.before.before.before.before.before.before.before).text-1 (printer c.before.before.before.before.before.before.before.before.before.before.before.before))) at c.put_burst.ensures
 
 pub put_file_spec : {M : Type 1} → of.Statement.statement M
 put_file_spec = of.Tie.close (of.Tie.spec

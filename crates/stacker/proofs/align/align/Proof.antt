@@ -8,23 +8,23 @@ use Rattle.stacker.proofs.align.align as of
 
 returns : of.Tie.Need-returns-then-refusal-ne0
 returns c =
-    let e = c.before.align_refusal-refusal.ensures in
+    let e = c.align_refusal-refusal.ensures in
     let h = c.if-refusal-ne0.true in
     record { answer = answer-refused _ _ _ e h; found = kept _ _ _ e h; clean = kept _ _ _ e h }
 
 align-frames-requires : of.Tie.Need-align_frames-totals-requires
-align-frames-requires c κs = align-passed _ _ _ _ _ (sym c.before.before.before.align_refusal-refusal.ensures ∙ c.before.before.if-refusal-ne0.false)
+align-frames-requires c κs = align-passed _ _ _ _ _ (sym c.align_refusal-refusal.ensures ∙ c.if-refusal-ne0.false)
 
 returns-2 : of.Tie.Need-returns
 returns-2 c =
     let tested = c.before.before.before.before.before.before.before.before.before in
-    let e = tested.before.align_refusal-refusal.ensures in
+    let e = tested.align_refusal-refusal.ensures in
     let z = tested.if-refusal-ne0.false in
-    let aligned = c.before.before.before.before.before.before.align_frames-totals.ensures in
+    let aligned = c.align_frames-totals.ensures in
     record {
       answer = answer-accepted _ _ _ e z aligned.sums_are aligned.rows_are;
       found = made _ _ _ e z aligned.found;
-      clean = made _ _ _ e z (c.before.before.clear.ensures ∙ zeros-length _ _ aligned.same);
+      clean = made _ _ _ e z (c.clear.ensures ∙ zeros-length _ _ aligned.same);
     }
 
 pub align_spec : {M : Type 1} → of.Statement.statement M

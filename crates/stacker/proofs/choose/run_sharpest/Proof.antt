@@ -9,27 +9,27 @@ use Rattle.stacker.proofs.choose.run_sharpest as of
 returns : of.Tie.Need-returns-then-refusal-ne0
 returns c =
     let h = c.if-refusal-ne0.true in
-    let t = c.before.run_refusal-tested.ensures in
+    let t = c.run_refusal-tested.ensures in
     let e = tested-number _ _ t.answer ∙ first-refusal _ _ _ _ _ _ _ in
     record { number = e; chosen = kept _ _ _ e h; ran = ran-refused t h }
 
 sharpest-requires : of.Tie.Need-sharpest-reference-requires
 sharpest-requires c κs =
-    let ready = runnable c.before.run_refusal-tested.ensures c.if-refusal-ne0.false in
+    let ready = runnable c.run_refusal-tested.ensures c.if-refusal-ne0.false in
     (record { allowed = ready.ranges.burst.allowed; long = ready.ranges.burst.samples_long }, ready.samples_fit)
 
 run-levels-requires : of.Tie.Need-run_levels-totals-requires
 run-levels-requires c κs =
     let chosen = c.before.before.before in
     let passed = chosen.before in
-    runnable (tested-any _ chosen.sharpest-reference.ensures.1 passed.before.run_refusal-tested.ensures) passed.if-refusal-ne0.false
+    runnable (tested-any _ chosen.sharpest-reference.ensures.1 passed.run_refusal-tested.ensures) passed.if-refusal-ne0.false
 
 returns-2 : of.Tie.Need-returns
 returns-2 c =
     let ran = c.before.before.before.before.before in
     let chosen = ran.before.before.before.before in
     let passed = chosen.before in
-    let t = passed.before.run_refusal-tested.ensures in
+    let t = passed.run_refusal-tested.ensures in
     let z = passed.if-refusal-ne0.false in
     let e = tested-number _ _ t.answer ∙ first-refusal _ _ _ _ _ _ _ in
     record {

@@ -14,7 +14,7 @@ returns : of.Tie.Need-returns-then-tested-ne0
 unfolding merge_refusal
 returns c =
     let h = c.if-tested-ne0.true in
-    let e = stops _ _ (tested-number _ _ c.before.before.run_refusal-tested.ensures.answer) h in
+    let e = stops _ _ (tested-number _ _ c.run_refusal-tested.ensures.answer) h in
     record { answer = e; result = kept _ _ _ e h; clean = kept _ _ _ e h; near = λ z. absurd (h z); ceiling = λ z. absurd (h z) }
 
 returns-2 : of.Tie.Need-returns-then-lent-ne0
@@ -22,14 +22,14 @@ unfolding merge_refusal
 returns-2 c =
     let h = c.if-lent-ne0.true in
     let passed = c.before.before in
-    let e = goes _ _ (tested-number _ _ passed.before.before.run_refusal-tested.ensures.answer) passed.if-tested-ne0.false (c.before.vector_refusal-lent.ensures ∙ lone _) in
+    let e = goes _ _ (tested-number _ _ passed.run_refusal-tested.ensures.answer) passed.if-tested-ne0.false (c.vector_refusal-lent.ensures ∙ lone _) in
     record { answer = e; result = kept _ _ _ e h; clean = kept _ _ _ e h; near = λ z. absurd (h z); ceiling = λ z. absurd (h z) }
 
 merge-frames-requires : of.Tie.Need-merge_frames-requires
 merge-frames-requires c κs =
     let lent = c.before.before in
     let passed = lent.before.before in
-    let tested = passed.before.before.run_refusal-tested.ensures.answer in
+    let tested = passed.run_refusal-tested.ensures.answer in
     let z = passed.if-tested-ne0.false in
     let ready = run-passed _ _ _ _ _ _ _ _ (sym (tested-number _ _ tested) ∙ z) in
     record {
@@ -37,7 +37,7 @@ merge-frames-requires c κs =
         burst = ready.ranges.burst;
         side_is = refl;
         samples_fit = ready.samples_fit;
-        vectors_fit = vectors_fit _ (sym lent.before.vector_refusal-lent.ensures ∙ lent.if-lent-ne0.false);
+        vectors_fit = vectors_fit _ (sym lent.vector_refusal-lent.ensures ∙ lent.if-lent-ne0.false);
         shot_most = subst (λ n. n ≤ 65536) (sym (tested-levels _ _ tested z).0) ready.shot_most;
         read_most = subst (λ n. n ≤ 4194304) (sym (tested-levels _ _ tested z).1) ready.read_most;
         strength_most = ready.strength_most;
@@ -54,16 +54,16 @@ returns-3 c =
     let merge = c.before.before.before.before.before.before in
     let lent = merge.before.before.before in
     let passed = lent.before.before in
-    let tested = passed.before.before.run_refusal-tested.ensures.answer in
-    let a = passed.before.before.before.before.before.before.before.args in
+    let tested = passed.run_refusal-tested.ensures.answer in
+    let a = passed.args in
     let z = passed.if-tested-ne0.false in
-    let e = goes _ _ (tested-number _ _ tested) z (lent.before.vector_refusal-lent.ensures ∙ lone _) in
+    let e = goes _ _ (tested-number _ _ tested) z (lent.vector_refusal-lent.ensures ∙ lone _) in
     let is = merge.merge_frames.ensures ∙ ap₂ (λ shot read. merged (scene_of (record { shape = a.shape; reference = a.reference; shot = shot; read = read; tuning = a.tuning }) a.samples.now a.vectors.now)) (tested-levels _ _ tested z).0 (tested-levels _ _ tested z).1 in
     let ready = run-passed _ _ _ _ _ _ _ _ (sym (tested-number _ _ tested) ∙ z) in
     record {
       answer = sym lent.if-lent-ne0.false ∙ e;
       result = made _ _ _ e lent.if-lent-ne0.false is;
-      clean = made _ _ _ e lent.if-lent-ne0.false (c.before.clear.ensures ∙ zeros-length _ _ (search rules));
+      clean = made _ _ _ e lent.if-lent-ne0.false (c.clear.ensures ∙ zeros-length _ _ (search rules));
       near = λ _. found-close _ _ ready.ranges.burst.allowed ready.ranges.burst.sided ready.unfiltered _ _ _ refl is;
       ceiling = λ _. found-capped _ _ ready.ranges.burst ready.samples_fit _ _ _ refl is;
     }

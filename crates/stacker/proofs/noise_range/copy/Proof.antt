@@ -11,7 +11,7 @@ abbrev decreases-loop-i : of.Tie.decreases-loop-i
 decreases-loop-i frame over₀ i₀ over i = length over₀ - i
 
 loop-again : of.Tie.Need-loop-i-preserved invariant-loop-i decreases-loop-i
-loop-again c = fill-turn c.before.before.loop-i.invariant (omega arith) refl
+loop-again c = fill-turn c.loop-i.invariant (omega arith) refl
 
 returns : of.Tie.Need-returns invariant-loop-i decreases-loop-i
 returns c =

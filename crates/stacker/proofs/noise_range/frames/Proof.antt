@@ -9,7 +9,7 @@ returns c =
     let merge = copied.before.before.before.before.before.before in
     let t = merge.before.before.before in
     let s = t.before.before.before.before.before in
-    let same = t.before.same_levels.ensures t.if-same_levels.true in
+    let same = t.same_levels.ensures t.if-same_levels.true in
     let is = merge.merge_frames.ensures in
     record { low_is = is ∙ sym (low_merged _ _ _ _ s.requires.off same); high_is = copied.copy.ensures ∙ is ∙ sym (high-merged _ _ _ _ s.requires.off same) }
 

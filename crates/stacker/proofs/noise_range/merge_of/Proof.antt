@@ -8,7 +8,7 @@ abbrev levelled : of.Tie.Start → Levels → Merge
 levelled s levels = let a = s.args in record { shape = a.shape; reference = a.reference; shot = shot_level levels; read = read_level levels; tuning = a.tuning }
 
 returns : of.Tie.Need-returns-in-Found
-returns c = let l = c.before.before.before in ap (levelled l.before) (sym c.before.shot-1.given.1 ∙ l.levels_of.ensures)
+returns c = let l = c.before.before.before in ap (levelled l.before) (sym c.shot-1.given.1 ∙ l.levels_of.ensures)
 
 returns-2 : of.Tie.Need-returns-in-Refused
 returns-2 c = let l = c.before.before in ap (levelled l.before) (sym c.in-Found.is ∙ l.levels_of.ensures)

@@ -5,14 +5,14 @@ use Rattle.stacker.specs.RangedLaws.{ranged-refused, frames-lent, ranged-accepte
 use Rattle.stacker.proofs.noise_range.range as of
 
 returns : of.Tie.Need-returns-then-refusal-ne0
-returns c = ranged-refused c.before.range_refusal-refusal.ensures c.if-refusal-ne0.true
+returns c = ranged-refused c.range_refusal-refusal.ensures c.if-refusal-ne0.true
 
 frames-requires : of.Tie.Need-frames-requires
 frames-requires c κs =
     let u = c.before.before.before in
     let m = u.before in
     let tested = m.before in
-    let e = sym tested.before.range_refusal-refusal.ensures ∙ tested.if-refusal-ne0.false in
+    let e = sym tested.range_refusal-refusal.ensures ∙ tested.if-refusal-ne0.false in
     rw (m.merge_of-m.ensures, u.merge_of-raised.ensures) (frames-lent _ _ _ _ _ _ _ _ _ _ e)
 
 returns-2 : of.Tie.Need-returns
@@ -22,7 +22,7 @@ returns-2 c =
     let m = u.before in
     let tested = m.before in
     let made = rw (m.merge_of-m.ensures, u.merge_of-raised.ensures) at f.frames.ensures in
-    ranged-accepted _ _ _ _ _ _ _ _ _ _ (sym tested.before.range_refusal-refusal.ensures ∙ tested.if-refusal-ne0.false) made.low_is made.high_is (c.before.clear.ensures ∙ zeros-length _ _ (search rules))
+    ranged-accepted _ _ _ _ _ _ _ _ _ _ (sym tested.range_refusal-refusal.ensures ∙ tested.if-refusal-ne0.false) made.low_is made.high_is (c.clear.ensures ∙ zeros-length _ _ (search rules))
 
 pub range_spec : {M : Type 1} → of.Statement.statement M
 range_spec = of.Tie.close (of.Tie.spec

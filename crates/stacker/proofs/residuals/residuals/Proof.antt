@@ -7,24 +7,24 @@ use Rattle.stacker.proofs.residuals.residuals as of
 
 returns : of.Tie.Need-returns-then-refusal-ne0
 returns c =
-    let e = c.before.residual_refusal-refusal.ensures in
+    let e = c.residual_refusal-refusal.ensures in
     let h = c.if-refusal-ne0.true in
     record { answer = e; result = kept _ _ _ e h; clean = kept _ _ _ e h }
 
 measure-frames-requires : of.Tie.Need-measure_frames-requires
-measure-frames-requires c κs = residual-passed _ _ _ _ _ _ (sym c.before.before.before.residual_refusal-refusal.ensures ∙ c.before.before.if-refusal-ne0.false)
+measure-frames-requires c κs = residual-passed _ _ _ _ _ _ (sym c.residual_refusal-refusal.ensures ∙ c.if-refusal-ne0.false)
 
 returns-2 : of.Tie.Need-returns
 returns-2 c =
     let measured = c.before.before.before.before.before.before in
     let tested = measured.before.before.before in
-    let e = tested.before.residual_refusal-refusal.ensures in
+    let e = tested.residual_refusal-refusal.ensures in
     let z = tested.if-refusal-ne0.false in
     let done = measured.measure_frames.ensures in
     record {
       answer = sym z ∙ e;
       result = made _ _ _ e z done.found;
-      clean = made _ _ _ e z (c.before.clear.ensures ∙ zeros-length _ _ done.same);
+      clean = made _ _ _ e z (c.clear.ensures ∙ zeros-length _ _ done.same);
     }
 
 pub residuals_spec : {M : Type 1} → of.Statement.statement M

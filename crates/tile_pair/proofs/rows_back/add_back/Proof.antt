@@ -29,7 +29,7 @@ add-line-requires-2 c κs =
     let a = c.before.before in
     let l = a.before.before.before.before in
     let y = l.loop-y.y in
-    let e = rows-second l.loop-y.invariant (omega arith) a.add_line.new.1.1.0 in
+    let e = rows-second l.loop-y.invariant (omega arith) a.add_line.new.sum in
     record {
       whole = whole_row l.before.requires.whole (8 + y) (omega arith);
       sums_most = subst (LineMost (2 ^ 40)) (sym e) (l.before.requires.sums_most.line (8 + y));
@@ -44,7 +44,7 @@ loop-again c =
     let y = l.loop-y.y in
     rows-turn l.loop-y.invariant (omega arith)
     (λ w. a.add_line.ensures (whole_row w y (omega arith)) ∙ added-to 32 _ (rows-first l.loop-y.invariant (omega arith)))
-    (λ w. c.add_line-in-loop-y.ensures (whole_row w (8 + y) (omega arith)) ∙ added-to 32 _ (rows-second l.loop-y.invariant (omega arith) a.add_line.new.1.1.0))
+    (λ w. c.add_line-in-loop-y.ensures (whole_row w (8 + y) (omega arith)) ∙ added-to 32 _ (rows-second l.loop-y.invariant (omega arith) a.add_line.new.sum))
 
 returns : of.Tie.Need-returns invariant-loop-y decreases-loop-y
 unfolding grid

@@ -20,7 +20,7 @@ halfcomplex-requires-2 c κs =
     let h = c.before.before in
     let l = h.before.before.before.before in
     let b = l.loop-b.b in
-    (l.before.requires.0.line (16 + b), row-length 32 64 _ l.before.requires.1.is (16 + b) (omega arith) (rows-second l.loop-b.invariant (omega arith) h.halfcomplex.new.1.0))
+    (l.before.requires.0.line (16 + b), row-length 32 64 _ l.before.requires.1.is (16 + b) (omega arith) (rows-second l.loop-b.invariant (omega arith) h.halfcomplex.new.r))
 
 loop-again : of.Tie.Need-loop-b-preserved invariant-loop-b decreases-loop-b
 unfolding cell

@@ -30,7 +30,7 @@ loop-again c =
 
 returns : of.Tie.Need-returns invariant-loop-l decreases-loop-l
 returns c =
-    fill_done c.before.loop-l.invariant (omega arith)
+    fill_done c.loop-l.invariant (omega arith)
 
 pub add_row_spec : {M : Type 1} → of.Statement.statement M
 add_row_spec = of.Tie.close (of.Tie.spec

@@ -32,7 +32,7 @@ loop-again : of.Tie.Need-loop-y-preserved invariant-loop-y decreases-loop-y
 unfolding cell
 loop-again c =
     let l = c.before.before.before.before in
-    let a = l.before.args in
+    let a = l.args in
     fill-turn l.loop-y.invariant (omega arith)
     (c.add_row.ensures
     ∙ ap (λ r. tab 32 (λ k. get_or r k (pos 0) +ℤ pos a.frames *ℤ get_or (get_or a.p.now l.loop-y.y []) k (pos 0))) (fill-rest l.loop-y.invariant (omega arith) []))
@@ -40,7 +40,7 @@ loop-again c =
 returns : of.Tie.Need-returns invariant-loop-y decreases-loop-y
 unfolding grid
 returns c =
-    fill_done c.before.loop-y.invariant (omega arith)
+    fill_done c.loop-y.invariant (omega arith)
 
 pub add_times_spec : {M : Type 1} → of.Statement.statement M
 add_times_spec = of.Tie.close (of.Tie.spec

@@ -20,13 +20,13 @@ copy-row-requires c κs =
 
 loop-again : of.Tie.Need-loop-y-preserved invariant-loop-y decreases-loop-y
 unfolding cell copy_in
-loop-again c = fill-turn c.before.before.before.before.loop-y.invariant (omega arith) c.copy_row.ensures.0
+loop-again c = fill-turn c.loop-y.invariant (omega arith) c.copy_row.ensures.0
 
 returns : of.Tie.Need-returns invariant-loop-y decreases-loop-y
 unfolding grid cell copy_in
 returns c =
     let s = c.before.before in
-    let e = fill_done c.before.loop-y.invariant (omega arith) in
+    let e = fill_done c.loop-y.invariant (omega arith) in
     (e, subst (TileMost copy_most) (sym e) (table-most copy_most _ (λ y l. part-most s.requires.frames_fit (s.requires.samples.row y) (s.requires.sums.row y) l) 16 32))
 
 pub copy_pair_spec : {M : Type 1} → of.Statement.statement M

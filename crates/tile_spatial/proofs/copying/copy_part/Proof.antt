@@ -46,14 +46,14 @@ round-away-requires c κs =
     }
 
 -- what the code divides
-quotient_is : (c : of.Tie.After-round_away) → let a = c.before.args in c.round_away.result ≡ away (pos (a.t0 * (256 * a.frames)) -ℤ a.sum) a.frames
+quotient_is : (c : of.Tie.After-round_away) → let a = c.args in c.round_away.result ≡ away (pos (a.t0 * (256 * a.frames)) -ℤ a.sum) a.frames
 quotient_is c =
-    let p = c.before.requires in
-    c.round_away.ensures ∙ ap (λ z. away z c.before.args.frames) (number p.frames_fit p.sample p.sum-most)
+    let p = c.requires in
+    c.round_away.ensures ∙ ap (λ z. away z c.args.frames) (number p.frames_fit p.sample p.sum-most)
 
 most : (c : of.Tie.After-round_away) → AtMost copy_most c.round_away.result
 most c =
-    let p = c.before.requires in
+    let p = c.requires in
     subst (AtMost copy_most) (sym (quotient_is c)) (quotient-most p.frames_fit p.sample p.sum-most)
 
 returns : of.Tie.Need-returns

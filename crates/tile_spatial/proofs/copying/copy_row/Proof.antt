@@ -33,7 +33,7 @@ loop-again c =
 returns : of.Tie.Need-returns invariant-loop-l decreases-loop-l
 returns c =
     let s = c.before.before in
-    let e = fill_done c.before.loop-l.invariant (omega arith) in
+    let e = fill_done c.loop-l.invariant (omega arith) in
     (e, subst (LineMost copy_most) (sym e) (line-most copy_most _ (part-most s.requires.frames_fit s.requires.samples s.requires.sums) 32))
 
 pub copy_row_spec : {M : Type 1} → of.Statement.statement M

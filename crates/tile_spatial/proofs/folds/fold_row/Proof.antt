@@ -13,21 +13,21 @@ decreases-loop-l g h b r₀ l₀ r l = 32 - l
 
 folded-requires : of.Tie.Need-folded-requires invariant-loop-l decreases-loop-l
 folded-requires c κs =
-    let p = c.before.before.requires in
+    let p = c.requires in
     record { re_most = p.re_most; im_most = p.im_most; b_below = p.b_below; l_below = omega arith }
 
 int-to-float-r : of.Tie.Need-int_to_float-r invariant-loop-l decreases-loop-l
 int-to-float-r c =
-    fold-counted c.before.folded.ensures.1
+    fold-counted c.folded.ensures.1
 
 loop-again : of.Tie.Need-loop-l-preserved invariant-loop-l decreases-loop-l
 loop-again c =
     let f = c.before in
-    fill-turn f.before.before.loop-l.invariant (omega arith) (ap (of_int binary64) (number_is w64 f.folded.ensures.1 tt ∙ f.folded.ensures.0))
+    fill-turn f.loop-l.invariant (omega arith) (ap (of_int binary64) (number_is w64 f.folded.ensures.1 tt ∙ f.folded.ensures.0))
 
 returns : of.Tie.Need-returns invariant-loop-l decreases-loop-l
 returns c =
-    fill_done c.before.loop-l.invariant (omega arith)
+    fill_done c.loop-l.invariant (omega arith)
 
 pub fold_row_spec : {M : Type 1} → of.Statement.statement M
 fold_row_spec = of.Tie.close (of.Tie.spec

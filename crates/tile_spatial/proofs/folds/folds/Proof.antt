@@ -11,17 +11,17 @@ decreases-loop-b g h r₀ b₀ r b = 16 - b
 
 fold-row-requires : of.Tie.Need-fold_row-requires invariant-loop-b decreases-loop-b
 fold-row-requires c κs =
-    let p = c.before.before.requires in
+    let p = c.requires in
     record { re_most = p.re_most; im_most = p.im_most; b_below = omega arith }
 
 loop-again : of.Tie.Need-loop-b-preserved invariant-loop-b decreases-loop-b
 loop-again c =
-    fill-turn c.before.before.loop-b.invariant (omega arith) c.fold_row.ensures
+    fill-turn c.loop-b.invariant (omega arith) c.fold_row.ensures
 
 returns : of.Tie.Need-returns invariant-loop-b decreases-loop-b
 unfolding grid doubles
 returns c =
-    fill_done c.before.loop-b.invariant (omega arith)
+    fill_done c.loop-b.invariant (omega arith)
 
 pub folds_spec : {M : Type 1} → of.Statement.statement M
 folds_spec = of.Tie.close (of.Tie.spec

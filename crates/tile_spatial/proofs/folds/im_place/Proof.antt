@@ -17,13 +17,13 @@ module _ (g h : ℕ → ℤ) {b : ℕ} where
 
 returns : of.Tie.Need-returns-then-b-lt9
 returns c =
-    let r = c.before.re_place-r.ensures in
+    let r = c.re_place-r.ensures in
     (number_is w64 r.1 tt ∙ r.0 ∙ low _ _ (omega arith), number-most w64 r.1 tt)
 
 returns-2 : of.Tie.Need-returns
 returns-2 c =
-    let r = c.before.re_place-r.ensures in
+    let r = c.re_place-r.ensures in
     (minus_is r.1 tt ∙ ap neg_ℤ r.0 ∙ high _ _ (omega arith) (omega arith), minus-most r.1 tt)
 
 pub im_place_spec : {M : Type 1} → of.Statement.statement M
-im_place_spec = of.Tie.close (of.Tie.spec (λ c κs. search rules) returns (λ c. minus-fits c.before.re_place-r.ensures.1 tt) returns-2)
+im_place_spec = of.Tie.close (of.Tie.spec (λ c κs. search rules) returns (λ c. minus-fits c.re_place-r.ensures.1 tt) returns-2)

@@ -8,7 +8,7 @@ use Rattle.tile_spatial.proofs.gains.beside_imaginary as of
 
 returns : of.Tie.Need-returns-then-l-eq0
 returns c =
-    let a = c.before.args in
+    let a = c.args in
     (sym (own-imaginary (lines_in a.w.now (a.l % 2)) a.u (a.l / 2) (omega arith)), record { most = zero-le })
 
 imaginary-requires : of.Tie.Need-imaginary-requires
@@ -18,7 +18,7 @@ imaginary-requires c κs =
 
 returns-2 : of.Tie.Need-returns
 returns-2 c =
-    let a = c.before.before.args in
+    let a = c.args in
     let column : 16 + a.l ≡ 2 * (8 + a.l / 2) + a.l % 2 = omega arith in
     (number_is w64 c.imaginary.ensures.1 tt ∙ c.imaginary.ensures.0 ∙ ap (λ k. imaginary_of (λ b. cell (pos 0) a.w.now b k) a.u) column ∙ sym (paired-imaginary (lines_in a.w.now (a.l % 2)) a.u (a.l / 2) (λ e. omega arith)), number-most w64 c.imaginary.ensures.1 tt)
 

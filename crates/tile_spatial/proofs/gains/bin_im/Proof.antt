@@ -10,13 +10,13 @@ imaginary-requires c κs =
 
 add-result : of.Tie.Need-overflow_add-result
 add-result c =
-    sum_fits c.before.imaginary.ensures.1 c.beside_real.ensures.1 tt tt
+    sum_fits c.imaginary.ensures.1 c.beside_real.ensures.1 tt tt
 
 returns : of.Tie.Need-returns
 unfolding tile_im_of side16
 returns c =
     let r = c.before in
-    let a = r.before.args in
+    let a = r.args in
     let column : a.l ≡ 2 * (a.l / 2) + a.l % 2 = omega arith in
     let e = sum_is r.imaginary.ensures.1 c.beside_real.ensures.1 tt tt in (
       e ∙ ap₂ ◌+ℤ◌ (r.imaginary.ensures.0 ∙ ap (λ k. imaginary_of (λ b. cell (pos 0) a.w.now b k) a.u) column) c.beside_real.ensures.0,
@@ -24,4 +24,4 @@ returns c =
     )
 
 pub bin_im_spec : {M : Type 1} → of.Statement.statement M
-bin_im_spec = of.Tie.close (of.Tie.spec imaginary-requires (λ c κs. c.before.requires) add-result returns)
+bin_im_spec = of.Tie.close (of.Tie.spec imaginary-requires (λ c κs. c.requires) add-result returns)

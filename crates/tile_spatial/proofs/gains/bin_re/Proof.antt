@@ -10,13 +10,13 @@ real-requires c κs =
 
 sub-result : of.Tie.Need-overflow_sub-result
 sub-result c =
-    difference-fits c.before.real.ensures.1 c.beside_imaginary.ensures.1 tt tt
+    difference-fits c.real.ensures.1 c.beside_imaginary.ensures.1 tt tt
 
 returns : of.Tie.Need-returns
 unfolding tile_re_of side16
 returns c =
     let r = c.before in
-    let a = r.before.args in
+    let a = r.args in
     let column : a.l ≡ 2 * (a.l / 2) + a.l % 2 = omega arith in
     let e = difference-is r.real.ensures.1 c.beside_imaginary.ensures.1 tt tt in (
       e ∙ ap₂ ◌-ℤ◌ (r.real.ensures.0 ∙ ap (λ k. real_of (λ b. cell (pos 0) a.w.now b k) a.u) column) c.beside_imaginary.ensures.0,
@@ -24,4 +24,4 @@ returns c =
     )
 
 pub bin_re_spec : {M : Type 1} → of.Statement.statement M
-bin_re_spec = of.Tie.close (of.Tie.spec real-requires (λ c κs. c.before.requires) sub-result returns)
+bin_re_spec = of.Tie.close (of.Tie.spec real-requires (λ c κs. c.requires) sub-result returns)

@@ -30,14 +30,14 @@ filtered-part-requires c κs =
     let b = c.before in
     let a = b.before in
     let l = a.before.before in
-    record { noise-most = l.before.requires.noises_most.at l.loop-l.l; part = number-most w64 a.bin_re-a.ensures.1 tt; other = number-most w64 b.bin_im-b.ensures.1 tt }
+    record { noise-most = l.requires.noises_most.at l.loop-l.l; part = number-most w64 a.bin_re-a.ensures.1 tt; other = number-most w64 b.bin_im-b.ensures.1 tt }
 
 filtered-part-requires-2 : of.Tie.Need-filtered_part-requires-in-loop-l invariant-loop-l decreases-loop-l
 filtered-part-requires-2 c κs =
     let b = c.before.before.before in
     let a = b.before in
     let l = a.before.before in
-    record { noise-most = l.before.requires.noises_most.at l.loop-l.l; part = number-most w64 b.bin_im-b.ensures.1 tt; other = number-most w64 a.bin_re-a.ensures.1 tt }
+    record { noise-most = l.requires.noises_most.at l.loop-l.l; part = number-most w64 b.bin_im-b.ensures.1 tt; other = number-most w64 a.bin_re-a.ensures.1 tt }
 
 loop-again : of.Tie.Need-loop-l-preserved invariant-loop-l decreases-loop-l
 unfolding lane_re lane_im
@@ -46,7 +46,7 @@ loop-again c =
     let b = g.before.before in
     let a = b.before in
     let l = a.before.before in
-    let n = get_or l.before.args.noises.now l.loop-l.l 0 in
+    let n = get_or l.args.noises.now l.loop-l.l 0 in
     let re = number_is w64 a.bin_re-a.ensures.1 tt ∙ a.bin_re-a.ensures.0 in
     let im = number_is w64 b.bin_im-b.ensures.1 tt ∙ b.bin_im-b.ensures.0 in
     let d : to_z w64 (of_z w64 g.filtered_part.result) ≡ g.filtered_part.result = search rules in
@@ -57,7 +57,7 @@ loop-again c =
 
 returns : of.Tie.Need-returns invariant-loop-l decreases-loop-l
 returns c =
-    (fill_done c.before.loop-l.invariant.0 (omega arith), fill_done c.before.loop-l.invariant.1 (omega arith))
+    (fill_done c.loop-l.invariant.0 (omega arith), fill_done c.loop-l.invariant.1 (omega arith))
 
 pub gain_row_spec : {M : Type 1} → of.Statement.statement M
 gain_row_spec = of.Tie.close (of.Tie.spec

@@ -12,7 +12,7 @@ use Rattle.tile_spatial.proofs.gains.imaginary as of
 returns : of.Tie.Need-returns-then-u-eq0
 unfolding imaginary_part side16
 returns c =
-    let u = c.before.args.u in
+    let u = c.args.u in
     (sym (is-own u (pos 0) _ (omega arith)), record { most = zero-le })
 
 returns-2 : of.Tie.Need-returns-then-u-lt9

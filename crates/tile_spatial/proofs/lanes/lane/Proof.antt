@@ -5,11 +5,11 @@ use Rattle.tile_spatial.proofs.lanes.lane as of
 
 returns : of.Tie.Need-returns-then-l-eq0
 returns c =
-    rw (eq-eqb (c.before.before.args.l % 2) 0 c.before.if-l-eq0.true)
+    rw (eq-eqb (c.args.l % 2) 0 c.if-l-eq0.true)
 
 returns-2 : of.Tie.Need-returns
 returns-2 c =
-    rw (ne_eqb (c.before.before.args.l % 2) 0 c.before.if-l-eq0.false)
+    rw (ne_eqb (c.args.l % 2) 0 c.if-l-eq0.false)
 
 pub lane_spec : {M : Type 1} → of.Statement.statement M
 lane_spec = of.Tie.close (of.Tie.spec

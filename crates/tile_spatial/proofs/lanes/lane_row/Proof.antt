@@ -11,11 +11,11 @@ decreases-loop-l first second r₀ l₀ r l = 18 - l
 
 loop-again : of.Tie.Need-loop-l-preserved invariant-loop-l decreases-loop-l
 loop-again c =
-    fill-turn c.before.before.loop-l.invariant (omega arith) c.lane.ensures
+    fill-turn c.loop-l.invariant (omega arith) c.lane.ensures
 
 returns : of.Tie.Need-returns invariant-loop-l decreases-loop-l
 returns c =
-    fill_done c.before.loop-l.invariant (omega arith)
+    fill_done c.loop-l.invariant (omega arith)
 
 pub lane_row_spec : {M : Type 1} → of.Statement.statement M
 lane_row_spec = of.Tie.close (of.Tie.spec

@@ -19,14 +19,14 @@ loop-again : of.Tie.Need-loop-u-preserved invariant-loop-u decreases-loop-u
 unfolding cell
 loop-again c =
     let l = c.before.before.before.before in
-    let a = l.before.args in
+    let a = l.args in
     fill-turn l.loop-u.invariant (omega arith)
     (c.lane_row.ensures ∙ tab-ext 18 _ _ (λ k h. ap (λ t. get_or t (k / 2) 0) (row_of (eqb (k % 2) 0) a.first.now a.second.now l.loop-u.u)))
 
 returns : of.Tie.Need-returns invariant-loop-u decreases-loop-u
 unfolding grid
 returns c =
-    fill_done c.before.loop-u.invariant (omega arith)
+    fill_done c.loop-u.invariant (omega arith)
 
 pub lanes_spec : {M : Type 1} → of.Statement.statement M
 lanes_spec = of.Tie.close (of.Tie.spec

@@ -16,17 +16,17 @@ decreases-loop-l c r₀ l₀ r l = 32 - l
 high-requires : of.Tie.Need-high-requires invariant-loop-l decreases-loop-l
 high-requires c κs =
     let l = c.before.before in
-    held-most w32 l.before.requires l.loop-l.l tt
+    held-most w32 l.requires l.loop-l.l tt
 
 loop-again : of.Tie.Need-loop-l-preserved invariant-loop-l decreases-loop-l
 loop-again c =
     let l = c.before.before.before in
     let e : to_z w16 (of_z w16 c.high.result) ≡ c.high.result = search rules in
-    fill-turn l.loop-l.invariant (omega arith) (e ∙ c.high.ensures ∙ ap high_of (held-is w32 l.before.requires l.loop-l.l tt))
+    fill-turn l.loop-l.invariant (omega arith) (e ∙ c.high.ensures ∙ ap high_of (held-is w32 l.requires l.loop-l.l tt))
 
 returns : of.Tie.Need-returns invariant-loop-l decreases-loop-l
 returns c =
-    fill_done c.before.loop-l.invariant (omega arith)
+    fill_done c.loop-l.invariant (omega arith)
 
 pub high_row_spec : {M : Type 1} → of.Statement.statement M
 high_row_spec = of.Tie.close (of.Tie.spec

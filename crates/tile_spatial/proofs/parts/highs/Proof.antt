@@ -15,18 +15,18 @@ decreases-loop-y c r₀ y₀ r y = 16 - y
 
 high-row-requires : of.Tie.Need-high_row-requires invariant-loop-y decreases-loop-y
 high-row-requires c κs =
-    let l = c.before.before in l.before.requires.line l.loop-y.y
+    let l = c.before.before in l.requires.line l.loop-y.y
 
 loop-again : of.Tie.Need-loop-y-preserved invariant-loop-y decreases-loop-y
 unfolding cell
 loop-again c =
-    fill-turn c.before.before.before.loop-y.invariant (omega arith) c.high_row.ensures
+    fill-turn c.loop-y.invariant (omega arith) c.high_row.ensures
 
 returns : of.Tie.Need-returns invariant-loop-y decreases-loop-y
 unfolding grid
 returns c =
     let s = c.before.before in
-    let e = fill_done c.before.loop-y.invariant (omega arith) in
+    let e = fill_done c.loop-y.invariant (omega arith) in
     (e, subst (TileMost difference_most) (sym e) (table-most difference_most _ (λ y l. (high-at (record { most = cells-most s.requires y l })).most) 16 32))
 
 pub highs_spec : {M : Type 1} → of.Statement.statement M

@@ -6,17 +6,17 @@ use Rattle.tile_spatial.proofs.places.place as of
 
 mul-result : of.Tie.Need-overflow_mul-result
 mul-result c =
-    product-fits c.before.requires.0 c.before.requires.1
+    product-fits c.requires.0 c.requires.1
 
 add-result : of.Tie.Need-overflow_add-result
 add-result c =
-    let p = c.before.before.requires in sum_fits p.0 p.1
+    let p = c.requires in sum_fits p.0 p.1
 
 returns : of.Tie.Need-returns
 returns c =
-    let p = c.before.before.requires in sum_is p.0 p.1
+    let p = c.requires in sum_is p.0 p.1
 
 pub place_spec : {M : Type 1} → of.Statement.statement M
 place_spec = of.Tie.close (of.Tie.spec
-    (λ c. whole-fits c.before.requires.0) mul-result (λ c. whole-fits c.before.before.requires.1)
+    (λ c. whole-fits c.requires.0) mul-result (λ c. whole-fits c.requires.1)
     add-result returns)

@@ -14,17 +14,17 @@ decreases-loop-b high low r₀ b₀ r b = 16 - b
 place-row-requires : of.Tie.Need-place_row-requires invariant-loop-b decreases-loop-b
 place-row-requires c κs =
     let l = c.before.before.before in
-    (whole_row l.before.requires.0 l.loop-b.b (omega arith), whole_row l.before.requires.1 l.loop-b.b (omega arith))
+    (whole_row l.requires.0 l.loop-b.b (omega arith), whole_row l.requires.1 l.loop-b.b (omega arith))
 
 loop-again : of.Tie.Need-loop-b-preserved invariant-loop-b decreases-loop-b
 unfolding cell
 loop-again c =
-    fill-turn c.before.before.before.before.loop-b.invariant (omega arith) c.place_row.ensures
+    fill-turn c.loop-b.invariant (omega arith) c.place_row.ensures
 
 returns : of.Tie.Need-returns invariant-loop-b decreases-loop-b
 unfolding grid
 returns c =
-    fill_done c.before.loop-b.invariant (omega arith)
+    fill_done c.loop-b.invariant (omega arith)
 
 pub places_spec : {M : Type 1} → of.Statement.statement M
 places_spec = of.Tie.close (of.Tie.spec

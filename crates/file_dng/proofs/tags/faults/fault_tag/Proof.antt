@@ -7,29 +7,29 @@ use Rattle.file_dng.proofs.tags.faults.fault_tag as of
 
 returns : of.Tie.Need-returns-then-number-eq-DNG_STRUCTURE
 unfolding fault_tag
-returns c = let number = c.before.before.before.args.number in rw (eq-eqb number no.dng_structure c.before.if-number-eq-DNG_STRUCTURE.true) c.structure_fault.ensures
+returns c = let number = c.args.number in rw (eq-eqb number no.dng_structure c.if-number-eq-DNG_STRUCTURE.true) c.structure_fault.ensures
 
 returns-2 : of.Tie.Need-returns-then-number-eq-DNG_TAG
 unfolding fault_tag count_fault
 returns-2 c =
     let second = c.before.before in
-    let number = second.before.before.before.args.number in
-    rw (ne_eqb number no.dng_structure second.before.if-number-eq-DNG_STRUCTURE.false, eq-eqb number no.dng_tag second.if-number-eq-DNG_TAG.true)
-    (rw c.before.listed.ensures at c.first_hit.ensures)
+    let number = second.args.number in
+    rw (ne_eqb number no.dng_structure second.if-number-eq-DNG_STRUCTURE.false, eq-eqb number no.dng_tag second.if-number-eq-DNG_TAG.true)
+    (rw c.listed.ensures at c.first_hit.ensures)
 
 returns-3 : of.Tie.Need-returns-then-number-eq-DNG_VALUE
 unfolding fault_tag
 returns-3 c =
     let third = c.before in
-    let number = third.before.before.before.before.args.number in
-    rw (ne_eqb number no.dng_structure third.before.before.if-number-eq-DNG_STRUCTURE.false, ne_eqb number no.dng_tag third.before.if-number-eq-DNG_TAG.false, eq-eqb number no.dng_value third.if-number-eq-DNG_VALUE.true)
+    let number = third.args.number in
+    rw (ne_eqb number no.dng_structure third.if-number-eq-DNG_STRUCTURE.false, ne_eqb number no.dng_tag third.if-number-eq-DNG_TAG.false, eq-eqb number no.dng_value third.if-number-eq-DNG_VALUE.true)
     c.value_fault.ensures
 
 returns-4 : of.Tie.Need-returns
 unfolding fault_tag
 returns-4 c =
-    let number = c.before.before.before.before.args.number in
-    rw (ne_eqb number no.dng_structure c.before.before.if-number-eq-DNG_STRUCTURE.false, ne_eqb number no.dng_tag c.before.if-number-eq-DNG_TAG.false, ne_eqb number no.dng_value c.if-number-eq-DNG_VALUE.false)
+    let number = c.args.number in
+    rw (ne_eqb number no.dng_structure c.if-number-eq-DNG_STRUCTURE.false, ne_eqb number no.dng_tag c.if-number-eq-DNG_TAG.false, ne_eqb number no.dng_value c.if-number-eq-DNG_VALUE.false)
 
 pub fault_tag_spec : {M : Type 1} → of.Statement.statement M
 fault_tag_spec = of.Tie.close (of.Tie.spec

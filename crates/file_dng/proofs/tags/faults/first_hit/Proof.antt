@@ -13,25 +13,25 @@ decreases-loop-row test file rows row₀ row = rows - row
 -- what the row says
 says : (c : of.Tie.After-refuse-found invariant-loop-row decreases-loop-row) →
     let turn = c.before.before.before in
-    let a = turn.before.before.before.args in
-    let row = turn.before.loop-row.row in
+    let a = turn.args in
+    let row = turn.loop-row.row in
     c.refuse-found.result ≡ refuse (row_tag a.test row) (row_hit a.test a.file.now (entries a.file.now) row)
-says c = c.refuse-found.ensures ∙ ap₂ refuse c.before.before.row_tag.ensures c.before.hit.ensures
+says c = c.refuse-found.ensures ∙ ap₂ refuse c.row_tag.ensures c.hit.ensures
 
 returns : of.Tie.Need-returns-then-found-ne0 invariant-loop-row decreases-loop-row
 returns c =
     let turn = c.before.before.before.before in
-    let a = turn.before.before.before.args in
+    let a = turn.args in
     let is = says c.before in
-    is ∙ sym (zeros-found (λ row. refuse (row_tag a.test row) (row_hit a.test a.file.now (entries a.file.now) row)) _ turn.loop-row-test.true turn.before.loop-row.invariant.past (λ z. c.if-found-ne0.true (is ∙ z)))
+    is ∙ sym (zeros-found (λ row. refuse (row_tag a.test row) (row_hit a.test a.file.now (entries a.file.now) row)) _ turn.loop-row-test.true turn.loop-row.invariant.past (λ z. c.if-found-ne0.true (is ∙ z)))
 
 loop-again : of.Tie.Need-loop-row-preserved invariant-loop-row decreases-loop-row
 loop-again c =
     let turn = c.before.before.before.before in
-    zeros-turn turn.before.loop-row.invariant turn.loop-row-test.true (sym (says c.before) ∙ c.if-found-ne0.false)
+    zeros-turn turn.loop-row.invariant turn.loop-row-test.true (sym (says c.before) ∙ c.if-found-ne0.false)
 
 returns-2 : of.Tie.Need-returns invariant-loop-row decreases-loop-row
-returns-2 c = sym (zeros-done c.before.loop-row.invariant c.loop-row-test.false)
+returns-2 c = sym (zeros-done c.loop-row.invariant c.loop-row-test.false)
 
 pub first_hit_spec : {M : Type 1} → of.Statement.statement M
 first_hit_spec = of.Tie.close (of.Tie.spec

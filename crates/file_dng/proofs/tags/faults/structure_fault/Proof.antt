@@ -5,13 +5,13 @@ use Rattle.file_dng.proofs.tags.faults.structure_fault as of
 
 returns : of.Tie.Need-returns-then-header_wrong
 unfolding structure_fault
-returns c = rw (sym c.before.header_wrong.ensures ∙ c.if-header_wrong.true)
+returns c = rw (sym c.header_wrong.ensures ∙ c.if-header_wrong.true)
 
 returns-2 : of.Tie.Need-returns-then-directory_outside
 unfolding structure_fault
 returns-2 c =
     let header = c.before.before in
-    rw (sym header.before.header_wrong.ensures ∙ header.if-header_wrong.false, sym c.before.directory_outside.ensures ∙ c.if-directory_outside.true)
+    rw (sym header.header_wrong.ensures ∙ header.if-header_wrong.false, sym c.directory_outside.ensures ∙ c.if-directory_outside.true)
 
 returns-3 : of.Tie.Need-returns
 unfolding structure_fault
@@ -20,11 +20,11 @@ returns-3 c =
     let value = strip.before.before.before in
     let directory = value.before.before in
     let header = directory.before.before in
-    rw (sym header.before.header_wrong.ensures ∙ header.if-header_wrong.false, sym directory.before.directory_outside.ensures ∙ directory.if-directory_outside.false)
+    rw (sym header.header_wrong.ensures ∙ header.if-header_wrong.false, sym directory.directory_outside.ensures ∙ directory.if-directory_outside.false)
     (c.first.ensures
     ∙ rw (
-      rw value.before.listed.ensures at value.first_hit-value.ensures,
-      strip.refuse-strip.ensures ∙ ap₂ refuse strip.before.before.tag_at.ensures strip.before.strip_outside.ensures,
+      rw value.listed.ensures at value.first_hit-value.ensures,
+      strip.refuse-strip.ensures ∙ ap₂ refuse strip.tag_at.ensures strip.strip_outside.ensures,
     ))
 
 pub structure_fault_spec : {M : Type 1} → of.Statement.statement M

@@ -11,9 +11,9 @@ returns c =
     let absent = strip.before.before.before in
     c.first.ensures
     ∙ rw (
-      rw absent.before.listed.ensures at absent.first_hit-absent.ensures,
-      strip.refuse-strip.ensures ∙ ap₂ refuse strip.before.before.tag_at.ensures strip.before.size_differs.ensures,
-      rw missed.before.demanded.ensures at missed.first_hit-missed.ensures,
+      rw absent.listed.ensures at absent.first_hit-absent.ensures,
+      strip.refuse-strip.ensures ∙ ap₂ refuse strip.tag_at.ensures strip.size_differs.ensures,
+      rw missed.demanded.ensures at missed.first_hit-missed.ensures,
     )
 
 pub value_fault_spec : {M : Type 1} → of.Statement.statement M

@@ -8,62 +8,62 @@ use Rattle.file_dng.proofs.tags.tags.demand as of
 
 returns : of.Tie.Need-returns-in-0
 unfolding demand_at demands
-returns c = (rw c.before.in-0.is c.asked.ensures, rw c.asked.ensures (omega arith))
+returns c = (rw c.in-0.is c.asked.ensures, rw c.asked.ensures (omega arith))
 
 returns-2 : of.Tie.Need-returns-in-1
 unfolding demand_at demands
-returns-2 c = (rw c.before.in-1.is c.asked-in-1.ensures, rw c.asked-in-1.ensures (omega arith))
+returns-2 c = (rw c.in-1.is c.asked-in-1.ensures, rw c.asked-in-1.ensures (omega arith))
 
 returns-3 : of.Tie.Need-returns-in-2
 unfolding demand_at demands
-returns-3 c = (rw c.before.in-2.is c.asked-in-2.ensures, rw c.asked-in-2.ensures (omega arith))
+returns-3 c = (rw c.in-2.is c.asked-in-2.ensures, rw c.asked-in-2.ensures (omega arith))
 
 returns-4 : of.Tie.Need-returns-in-3
 unfolding demand_at demands
-returns-4 c = (rw c.before.in-3.is c.asked-in-3.ensures, rw c.asked-in-3.ensures (omega arith))
+returns-4 c = (rw c.in-3.is c.asked-in-3.ensures, rw c.asked-in-3.ensures (omega arith))
 
 returns-5 : of.Tie.Need-returns-in-4
 unfolding demand_at demands
-returns-5 c = (rw c.before.in-4.is c.asked-in-4.ensures, rw c.asked-in-4.ensures (omega arith))
+returns-5 c = (rw c.in-4.is c.asked-in-4.ensures, rw c.asked-in-4.ensures (omega arith))
 
 returns-6 : of.Tie.Need-returns-in-5
 unfolding demand_at demands
-returns-6 c = (rw c.before.in-5.is c.asked-in-5.ensures, rw c.asked-in-5.ensures (omega arith))
+returns-6 c = (rw c.in-5.is c.asked-in-5.ensures, rw c.asked-in-5.ensures (omega arith))
 
 returns-7 : of.Tie.Need-returns-in-6
 unfolding demand_at demands
-returns-7 c = (rw c.before.in-6.is c.asked-in-6.ensures, rw c.asked-in-6.ensures (omega arith))
+returns-7 c = (rw c.in-6.is c.asked-in-6.ensures, rw c.asked-in-6.ensures (omega arith))
 
 returns-8 : of.Tie.Need-returns-in-7
 unfolding demand_at demands
-returns-8 c = (rw c.before.in-7.is c.asked-in-7.ensures, rw c.asked-in-7.ensures (omega arith))
+returns-8 c = (rw c.in-7.is c.asked-in-7.ensures, rw c.asked-in-7.ensures (omega arith))
 
 returns-9 : of.Tie.Need-returns-in-8
 unfolding demand_at demands
-returns-9 c = (rw c.before.in-8.is c.asked-in-8.ensures, rw c.asked-in-8.ensures (omega arith))
+returns-9 c = (rw c.in-8.is c.asked-in-8.ensures, rw c.asked-in-8.ensures (omega arith))
 
 returns-10 : of.Tie.Need-returns-in-9
 unfolding demand_at demands
-returns-10 c = (rw c.before.in-9.is c.asked-in-9.ensures, rw c.asked-in-9.ensures (omega arith))
+returns-10 c = (rw c.in-9.is c.asked-in-9.ensures, rw c.asked-in-9.ensures (omega arith))
 
 returns-11 : of.Tie.Need-returns-in-10
 unfolding demand_at demands
-returns-11 c = (rw c.before.in-10.is c.asked-in-10.ensures, rw c.asked-in-10.ensures (omega arith))
+returns-11 c = (rw c.in-10.is c.asked-in-10.ensures, rw c.asked-in-10.ensures (omega arith))
 
 returns-12 : of.Tie.Need-returns-in-11
 unfolding demand_at demands
-returns-12 c = (rw c.before.in-11.is c.asked-in-11.ensures, rw c.asked-in-11.ensures (omega arith))
+returns-12 c = (rw c.in-11.is c.asked-in-11.ensures, rw c.asked-in-11.ensures (omega arith))
 
 returns-13 : of.Tie.Need-returns-in-12
 unfolding demand_at demands
-returns-13 c = (rw c.before.in-12.is c.asked-in-12.ensures, rw c.asked-in-12.ensures (omega arith))
+returns-13 c = (rw c.in-12.is c.asked-in-12.ensures, rw c.asked-in-12.ensures (omega arith))
 
 returns-14 : of.Tie.Need-returns-in_default
 unfolding demand_at demands
 returns-14 c =
-    let none = c.before.in_default.in_default-own.rest in
-    let beyond : 13 ≤ c.before.before.args.row = past (past (past (past (past (past (past (past (past (past (past (past (past zero-le none.0.0.0.0.0.0.0.0.0.0.0.0.1) none.0.0.0.0.0.0.0.0.0.0.0.1) none.0.0.0.0.0.0.0.0.0.0.1) none.0.0.0.0.0.0.0.0.0.1) none.0.0.0.0.0.0.0.0.1) none.0.0.0.0.0.0.0.1) none.0.0.0.0.0.0.1) none.0.0.0.0.0.1) none.0.0.0.0.1) none.0.0.0.1) none.0.0.1) none.0.1) none.1 in
-    (c.asked-in_default.ensures ∙ sym (get_or-eq_default demands (asked 0 0 0) {n = c.before.before.args.row} beyond), rw c.asked-in_default.ensures (omega arith))
+    let none = c.in_default.in_default-own.rest in
+    let beyond : 13 ≤ c.args.row = past (past (past (past (past (past (past (past (past (past (past (past (past zero-le none.0.0.0.0.0.0.0.0.0.0.0.0.1) none.0.0.0.0.0.0.0.0.0.0.0.1) none.0.0.0.0.0.0.0.0.0.0.1) none.0.0.0.0.0.0.0.0.0.1) none.0.0.0.0.0.0.0.0.1) none.0.0.0.0.0.0.0.1) none.0.0.0.0.0.0.1) none.0.0.0.0.0.1) none.0.0.0.0.1) none.0.0.0.1) none.0.0.1) none.0.1) none.1 in
+    (c.asked-in_default.ensures ∙ sym (get_or-eq_default demands (asked 0 0 0) {n = c.args.row} beyond), rw c.asked-in_default.ensures (omega arith))
 
 pub demand_spec : {M : Type 1} → of.Statement.statement M
 demand_spec = of.Tie.close (of.Tie.spec

@@ -5,11 +5,11 @@ use Rattle.file_dng.proofs.tags.tags.demanded as of
 
 returns : of.Tie.Need-returns-then-has_black
 unfolding demanded
-returns c = rw (sym c.before.has_black.ensures ∙ c.if-has_black.true)
+returns c = rw (sym c.has_black.ensures ∙ c.if-has_black.true)
 
 returns-2 : of.Tie.Need-returns-else-has_black
 unfolding demanded
-returns-2 c = rw (sym c.before.has_black.ensures ∙ c.if-has_black.false)
+returns-2 c = rw (sym c.has_black.ensures ∙ c.if-has_black.false)
 
 pub demanded_spec : {M : Type 1} → of.Statement.statement M
 demanded_spec = of.Tie.close (of.Tie.spec (λ c κs. search rules) returns returns-2)

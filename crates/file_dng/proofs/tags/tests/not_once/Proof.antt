@@ -5,7 +5,7 @@ use Rattle.file_dng.proofs.tags.tests.not_once as of
 
 returns : of.Tie.Need-returns
 unfolding not_once
-returns c = rw (c.times.ensures, c.before.tag-wanted.ensures.0)
+returns c = rw (c.times.ensures, c.tag-wanted.ensures.0)
 
 pub not_once_spec : {M : Type 1} → of.Statement.statement M
 not_once_spec = of.Tie.close (of.Tie.spec (λ c κs. search rules) (λ c κs. search rules) returns)

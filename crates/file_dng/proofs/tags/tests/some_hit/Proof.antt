@@ -13,15 +13,15 @@ decreases-loop-row test file rows row₀ row = rows - row
 returns : of.Tie.Need-returns-then-hit invariant-loop-row decreases-loop-row
 returns c =
     let turn = c.before.before in
-    sym (one _ _ turn.before.loop-row.row turn.loop-row-test.true (sym c.before.hit.ensures ∙ c.if-hit.true))
+    sym (one _ _ turn.loop-row.row turn.loop-row-test.true (sym c.hit.ensures ∙ c.if-hit.true))
 
 loop-again : of.Tie.Need-loop-row-preserved invariant-loop-row decreases-loop-row
 loop-again c =
     let turn = c.before.before in
-    pass-turn turn.before.loop-row.invariant turn.loop-row-test.true (sym c.before.hit.ensures ∙ c.if-hit.false)
+    pass-turn turn.loop-row.invariant turn.loop-row-test.true (sym c.hit.ensures ∙ c.if-hit.false)
 
 returns-2 : of.Tie.Need-returns invariant-loop-row decreases-loop-row
-returns-2 c = sym (pass-done c.before.loop-row.invariant c.loop-row-test.false)
+returns-2 c = sym (pass-done c.loop-row.invariant c.loop-row-test.false)
 
 pub some_hit_spec : {M : Type 1} → of.Statement.statement M
 some_hit_spec = of.Tie.close (of.Tie.spec

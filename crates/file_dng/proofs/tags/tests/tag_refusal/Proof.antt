@@ -10,9 +10,9 @@ returns c =
     let values = c.before.before in
     let tags = values.before.before in
     let structure = tags.before.before.before in
-    let outside = structure.refuse-structure.ensures ∙ ap (refuse no.dng_structure) structure.before.outside.ensures in
-    let once = tags.refuse-tags.ensures ∙ ap (refuse no.dng_tag) (rw tags.before.before.listed.ensures at tags.before.some_hit.ensures) in
-    let otherwise = values.refuse-values.ensures ∙ ap (refuse no.dng_value) values.before.otherwise.ensures in
+    let outside = structure.refuse-structure.ensures ∙ ap (refuse no.dng_structure) structure.outside.ensures in
+    let once = tags.refuse-tags.ensures ∙ ap (refuse no.dng_tag) (rw tags.listed.ensures at tags.some_hit.ensures) in
+    let otherwise = values.refuse-values.ensures ∙ ap (refuse no.dng_value) values.otherwise.ensures in
     c.first.ensures ∙ rw (outside, once, otherwise)
 
 pub tag_refusal_spec : {M : Type 1} → of.Statement.statement M

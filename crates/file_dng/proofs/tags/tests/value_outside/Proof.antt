@@ -5,7 +5,7 @@ use Rattle.file_dng.proofs.tags.tests.value_outside as of
 
 returns : of.Tie.Need-returns
 unfolding value_outside
-returns c = c.field_outside.ensures ∙ rw c.before.tag.ensures.0
+returns c = c.field_outside.ensures ∙ rw c.tag.ensures.0
 
 pub value_outside_spec : {M : Type 1} → of.Statement.statement M
 value_outside_spec = of.Tie.close (of.Tie.spec (λ c κs. search rules) (λ c κs. search rules) returns)

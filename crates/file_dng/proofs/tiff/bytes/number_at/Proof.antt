@@ -6,15 +6,15 @@ use Rattle.file_dng.proofs.tiff.bytes.number_at as of
 
 returns : of.Tie.Need-returns-in-1
 unfolding number
-returns c = (rw c.before.in-1.is c.byte_at.ensures.0, omega arith)
+returns c = (rw c.in-1.is c.byte_at.ensures.0, omega arith)
 
 returns-2 : of.Tie.Need-returns-in-2
 unfolding number
-returns-2 c = (rw c.before.in-2.is c.short_at.ensures.0, omega arith)
+returns-2 c = (rw c.in-2.is c.short_at.ensures.0, omega arith)
 
 returns-3 : of.Tie.Need-returns-in-4
 unfolding number
-returns-3 c = (rw c.before.in-4.is c.long_at.ensures.0, omega arith)
+returns-3 c = (rw c.in-4.is c.long_at.ensures.0, omega arith)
 
 returns-4 : of.Tie.Need-returns-in_default
 unfolding number

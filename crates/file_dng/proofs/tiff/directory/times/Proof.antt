@@ -12,12 +12,12 @@ decreases-loop-i file tag start count seen₀ i₀ seen i = count - i
 
 loop-again : of.Tie.Need-loop-i-preserved invariant-loop-i decreases-loop-i
 loop-again c =
-    let turn = c.before.before.before.loop-i in
-    count_turn turn.invariant c.before.before.loop-i-test.true c.one_if-seen.ensures.1 (cc)
+    let turn = c.loop-i in
+    count_turn turn.invariant c.loop-i-test.true c.one_if-seen.ensures.1 (cc)
 
 returns : of.Tie.Need-returns invariant-loop-i decreases-loop-i
 unfolding entries
-returns c = count-done c.before.loop-i.invariant (omega arith) ∙ (cc)
+returns c = count-done c.loop-i.invariant (omega arith) ∙ (cc)
 
 pub times_spec : {M : Type 1} → of.Statement.statement M
 times_spec = of.Tie.close (of.Tie.spec

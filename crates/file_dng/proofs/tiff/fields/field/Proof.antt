@@ -17,14 +17,14 @@ unfolding entries
 returns c =
     let turn = c.before.before.before.before.before in
     let read = c.before.before.before in
-    field_is (ap (field_at _) read.entry_at-entry.ensures.is ∙ seek_hit turn.loop-i.invariant c.before.before.before.before.loop-i-test.true (cc) ∙ (cc)) c.field_at.ensures
+    field_is (ap (field_at _) read.entry_at-entry.ensures.is ∙ seek_hit turn.loop-i.invariant c.loop-i-test.true (cc) ∙ (cc)) c.field_at.ensures
 
 loop-again : of.Tie.Need-loop-i-preserved invariant-loop-i decreases-loop-i
-loop-again c = seek-turn c.before.before.before.before.loop-i.invariant c.before.before.before.loop-i-test.true (cc)
+loop-again c = seek-turn c.loop-i.invariant c.loop-i-test.true (cc)
 
 returns-2 : of.Tie.Need-returns invariant-loop-i decreases-loop-i
 unfolding entries
-returns-2 c = record { is = seek-done c.before.loop-i.invariant (omega arith) ∙ (cc); size_small = omega arith; at_small = omega arith }
+returns-2 c = record { is = seek-done c.loop-i.invariant (omega arith) ∙ (cc); size_small = omega arith; at_small = omega arith }
 
 pub field_spec : {M : Type 1} → of.Statement.statement M
 field_spec = of.Tie.close (of.Tie.spec

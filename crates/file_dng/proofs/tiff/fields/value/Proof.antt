@@ -5,17 +5,17 @@ use Rattle.file_dng.specs.Tiff.Fields.{value_at}
 use Rattle.file_dng.proofs.tiff.fields.value as of
 
 mul-number-at : of.Tie.Need-overflow_mul-found
-mul-number-at c = omega (arith, bytes_most c.before.field-found.result.size c.before.before.before.args.index 4 (omega arith) (omega arith))
+mul-number-at c = omega (arith, bytes_most c.field-found.result.size c.args.index 4 (omega arith) (omega arith))
 
 add-number-at : of.Tie.Need-overflow_add-found
-add-number-at c = omega (arith, bytes_most c.before.before.field-found.result.size c.before.before.before.before.args.index 4 (omega arith) (omega arith))
+add-number-at c = omega (arith, bytes_most c.field-found.result.size c.args.index 4 (omega arith) (omega arith))
 
 number-at-requires : of.Tie.Need-number_at-requires
-number-at-requires c κs = omega (arith, bytes_most c.before.before.field-found.result.size c.before.before.before.before.args.index 4 (omega arith) (omega arith))
+number-at-requires c κs = omega (arith, bytes_most c.field-found.result.size c.args.index 4 (omega arith) (omega arith))
 
 returns : of.Tie.Need-returns
 unfolding value_at
-returns c = (c.number_at.ensures.0 ∙ rw c.before.before.before.field-found.ensures.is, omega arith)
+returns c = (c.number_at.ensures.0 ∙ rw c.field-found.ensures.is, omega arith)
 
 pub value_spec : {M : Type 1} → of.Statement.statement M
 value_spec = of.Tie.close (of.Tie.spec

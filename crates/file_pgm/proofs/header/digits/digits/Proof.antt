@@ -8,10 +8,10 @@ returns : of.Tie.Need-returns-then-n-lt10
 returns c = (sym (ap length (decimal-small c.if-n-lt10.true)), omega arith)
 
 returns-2 : of.Tie.Need-returns-then-n-lt100
-returns-2 c = (sym (ap length (two _ c.before.if-n-lt10.false c.if-n-lt100.true)), omega arith)
+returns-2 c = (sym (ap length (two _ c.if-n-lt10.false c.if-n-lt100.true)), omega arith)
 
 returns-3 : of.Tie.Need-returns-then-n-lt1000
-returns-3 c = (sym (ap length (three _ c.before.if-n-lt100.false c.if-n-lt1000.true)), omega arith)
+returns-3 c = (sym (ap length (three _ c.if-n-lt100.false c.if-n-lt1000.true)), omega arith)
 
 returns-4 : of.Tie.Need-returns
 returns-4 c = (sym (ap length (four _ c.if-n-lt1000.false (omega arith))), omega arith)
