@@ -64,7 +64,7 @@ pub fn store_right(
 // Where a row of pairs of tiles of a side starts: two halves are over each block.
 pub fn slot(side: usize, width: usize, row: usize) -> usize
     requires { (side ≤ 32) × (width ≤ 4096) }
-    ensures { record { is : result ≡ slot_of side width row; in_area_lem : result ≤ row_words side width; most : result ≤ 262144 } }
+    ensures { record { is : result ≡ slot_of side width row; in_area : result ≤ row_words side width; most : result ≤ 262144 } }
 {
     row % 2 * (2 * side * width)
 }

@@ -17,7 +17,7 @@ returns c =
     let shot = read.before.before.before in
     let profile = shot.before.before in
     made (shot.shot_of-shot.ensures ∙ rw (shot.eight_at.ensures, profile.field-profile.ensures.is, profile.tag.ensures.0))
-    (read.Read-of.ensures ∙ rw (read.eight_at-2.ensures, profile.field-profile.ensures.is, profile.tag.ensures.0))
+    (read.read_of-read.ensures ∙ rw (read.eight_at-2.ensures, profile.field-profile.ensures.is, profile.tag.ensures.0))
     first.black_at-black0.ensures
     second.black_at-black1.ensures
     third.black_at-black2.ensures

@@ -12,7 +12,7 @@ half c = mul-le-mul_right _ (omega arith)
 
 returns : of.Tie.Need-returns
 unfolding slot_of row_words
-returns c = record { is = refl; in_area_lem = omega (arith, half c); most = omega (arith, half c, words c) }
+returns c = record { is = refl; in_area = omega (arith, half c); most = omega (arith, half c, words c) }
 
 pub slot_spec : {M : Type 1} → of.Statement.statement M
 slot_spec = of.Tie.close (of.Tie.spec

@@ -42,7 +42,7 @@ module _ (l : of.Tie.At-loop-column invariant-loop-column decreases-loop-column)
   unfolding scene_at
   first-in =
       let s = l.before.before.before.before.before.before in
-      omega (arith, l.slot-start.ensures.in_area_lem, width_of, s.requires.room, l.loop-column.invariant.toward.same)
+      omega (arith, l.slot-start.ensures.in_area, width_of, s.requires.room, l.loop-column.invariant.toward.same)
 
   second-in : l.least_slot-second.result + 512 * (l.args.m.shape.width / 16) ≤ length l.loop-column.work
   unfolding scene_at
