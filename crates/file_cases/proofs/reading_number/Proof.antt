@@ -20,7 +20,7 @@ number_read {file} {samples} done =
     ap (λ (answer : FileAnswer). answer.refusal) done.answered ∙ number-answered (reading_into (length samples) file)
 
 returns : of.Tie.Need-returns
-returns c = number_read c.before.read-file.ensures
+returns c = number_read c.before.read_file-answer.ensures
 
 pub reading_number_spec : {M : Type 1} → of.Statement.statement M
 reading_number_spec = of.Tie.close (of.Tie.spec (λ c. search rules) (λ c κs. search rules) returns)
