@@ -34,11 +34,9 @@ module _ (file samples : List ℕ) {answer : FileAnswer} where
 
 -- refusal 4's number
 length-number : (c : of.Tie.After-length_refusal-length) →
-    let start = c.before.before.before.before.before.before.before.before.before in
-    c.length_refusal-length.result ≡ length_refusal no.wrong_sample_length (sample_length c.before.before.before.before.header-1.given.0.0.shape) (length start.args.samples.now)
+    c.length_refusal-length.result ≡ length_refusal no.wrong_sample_length (sample_length c.in-Found.header.shape) (length c.args.samples.now)
 length-number c =
-    let start = c.before.before.before.before.before.before.before.before.before in
-    c.length_refusal-length.ensures ∙ ap (λ (k : ℕ). length_refusal 4 k (length start.args.samples.now)) c.before.sample_length.ensures.0
+    c.length_refusal-length.ensures ∙ ap (λ (k : ℕ). length_refusal 4 k (length c.args.samples.now)) c.before.sample_length.ensures.0
 
 returns : of.Tie.Need-returns-then-length-ne0
 returns c =
@@ -57,8 +55,7 @@ returns-2 c =
 
 -- the lent samples are as many as the file's
 length-right : (c : of.Tie.Else-length-ne0) →
-    let start = c.before.before.before.before.before.before.before.before.before.before in
-    length start.args.samples.now ≡ sample_length c.before.before.before.before.before.header-1.given.0.0.shape
+    length c.args.samples.now ≡ sample_length c.in-Found.header.shape
 unfolding length_refusal
 length-right c = eqb-true _ _ (not-false _ (refuse-not no.wrong_sample_length _ tt (sym (length-number c.before) ∙ c.if-length-ne0.false)))
 
@@ -68,7 +65,7 @@ fill-requires c κs =
     let header = checked.before.before.before.before.before in
     let rest = drop c.in-Found.next c.args.file.now in
     ap (λ (n : ℕ). above 4095 (next_values n rest)) (length-right checked.before)
-    ∙ (frames-next header.header-1.given.0.0.shape (head-packed _ _ _ (headed header)) rest (sym checked.check_frames-body.ensures ∙ c.before.if-body-ne0.false)).1
+    ∙ (frames-next c.in-Found.header.shape (head-packed _ _ _ (headed header)) rest (sym checked.check_frames-body.ensures ∙ c.before.if-body-ne0.false)).1
 
 returns-3 : of.Tie.Need-returns-in-Refused
 returns-3 c =
