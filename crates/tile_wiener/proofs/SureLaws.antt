@@ -1,14 +1,9 @@
 -- Loops that replace quads one after the other, and whether their quotients are certain.
-use Rattle.tile_wiener.specs.Prelude.{◌≡◌, refl, sym, subst, Bool, true, false, not, List, [], ◌∷◌, ℕ, ◌+◌, ◌*◌, ◌/◌, ◌≤◌, ◌<◌, arith, ltb, get_or, Float, nan, cell, number_of}
+use Rattle.tile_wiener.specs.Prelude.{◌≡◌, refl, sym, subst, Bool, true, false, List, [], ◌∷◌, ℕ, ◌+◌, ◌*◌, ◌/◌, ◌≤◌, ◌<◌, arith, ltb, get_or, Float, nan, cell, number_of}
 use borrow.Author.Tests.{ltb-true, ltb-false}
 use Rattle.tile_quad.specs.Lanes.{quad_at_of, place_of, WithQuadOf, LanesOf}
 use Rattle.tile_quad.specs.LaneLaws.{same_row, same-lane, lanes_start, lanes-turn, lanes-join}
 use Rattle.tile_wiener.specs.DoubleQuads.{new_quad_by, SureQuadBy, SureQuadsOf, ShrunkOf}
-
--- what an `if` that is not taken says of a loop's answer
-pub sure-of : (s : Bool) → not s ≡ false → s ≡ true
-sure-of true e = refl
-sure-of false e = sym e
 
 -- quad (u, l) is certain, at V and W of its lane
 abbrev SureAt : (h bits : ℕ) (v w : List Float) (u l : ℕ) → List (List Float) → Type 0

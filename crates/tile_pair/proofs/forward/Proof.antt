@@ -14,13 +14,13 @@ unfolding grid tab
 rows-requires c κs =
     let a = c.before.before in
     let s = a.before.before.before in
-    (columns-small (cell (pos 0) s.args.t1) a.forward.ensures (cells-most s.requires), paired-grid (λ k l. of_bits binary64 0) refl)
+    (columns-small (cell (pos 0) s.args.d) a.forward.ensures (cells-most s.requires), paired-grid (λ k l. of_bits binary64 0) refl)
 
 returns : of.Tie.Need-returns
 returns c =
     let a = c.before.before.before in
     let s = a.before.before.before in
-    c.rows.ensures ∙ both_ways (cell (pos 0) s.args.t1) a.forward.ensures
+    c.rows.ensures ∙ both_ways (cell (pos 0) s.args.d) a.forward.ensures
 
 pub forward_spec : {M : Type 1} → of.Statement.statement M
 forward_spec = of.Tie.close (of.Tie.spec forward-requires rows-requires returns)

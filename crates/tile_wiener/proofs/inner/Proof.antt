@@ -17,7 +17,7 @@ loop-holds c = (omega arith, omega arith, shrunk-start (16 * c.args.u + 2) c.req
 set-quad-requires : of.Tie.Need-set_quad-requires invariant-loop-l decreases-loop-l
 set-quad-requires c κs =
     let g = c.before.before.before.before in
-    let p = g.before.before.before.before.before.before in
+    let p = g.before.before.before.before.before in
     record { u_below = p.before.requires.u_below; l_below = omega arith; paired = p.loop-l.invariant.2.new.paired }
 
 loop-again : of.Tie.Need-loop-l-preserved invariant-loop-l decreases-loop-l
@@ -27,7 +27,7 @@ loop-again c =
     let h = one.before in
     let g = h.before in
     let q = g.before.before.before in
-    let p = q.before.before.before in
+    let p = q.before.before in
     let a = p.before in
     let v = a.args.v.now in
     let w = a.args.w.now in

@@ -9,7 +9,7 @@ returns c =
     let h = c.before.before in
     let g = h.before in
     let q = g.before.before.before in
-    let s = q.before.before in
+    let s = q.before in
     let u = s.args.u in
     let l = s.args.l in
     (q.quad_at-q.ensures, lanes-turn (lanes_start (16 * u + l) s.requires.paired) (omega arith) (omega arith) refl c.set_quad.ensures (new-top 24 s.args.v.now s.args.w.now q.quad_at-q.ensures u l s.requires.u_some s.requires.l_below g.gains-g.ensures h.gains-h.ensures))

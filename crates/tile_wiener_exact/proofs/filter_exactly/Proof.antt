@@ -27,7 +27,7 @@ quad-requires : of.Tie.Need-quad-g-requires invariant-loop-n decreases-loop-n
 unfolding side16 doubles
 quad-requires c κs =
     let a = c.before in
-    let p = a.before.before.before in
+    let p = a.before.before in
     let s = p.before in
     let n = p.loop-n.n in
     let w = s.requires.binned in
@@ -42,7 +42,7 @@ quad-requires c κs =
 
 set-quad-requires : of.Tie.Need-set_quad-requires invariant-loop-n decreases-loop-n
 set-quad-requires c κs =
-    let p = c.before.before.before.before.before.before in
+    let p = c.before.before.before.before.before in
     record { u_below = omega arith; l_below = omega arith; paired = p.loop-n.invariant.1.paired }
 
 loop-again : of.Tie.Need-loop-n-preserved invariant-loop-n decreases-loop-n
@@ -50,7 +50,7 @@ loop-again c =
     let q = c.before.before in
     let o = q.before in
     let a = o.before in
-    let p = a.before.before.before in
+    let p = a.before.before in
     let s = p.before in
     let u = p.loop-n.n / 16 in
     let l = p.loop-n.n % 16 in

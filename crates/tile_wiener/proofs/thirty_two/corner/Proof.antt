@@ -14,7 +14,7 @@ decreases-loop-l b₀ v w s₀ l₀ b s l = 2 - l
 set-quad-requires : of.Tie.Need-set_quad-requires invariant-loop-l decreases-loop-l
 set-quad-requires c κs =
     let g = c.before.before.before.before.before.before.before.before in
-    let p = g.before.before.before.before.before.before in
+    let p = g.before.before.before.before.before in
     record { u_below = lit< tt; l_below = omega arith; paired = p.loop-l.invariant.1.new.paired }
 
 loop-again : of.Tie.Need-loop-l-preserved invariant-loop-l decreases-loop-l
@@ -29,7 +29,7 @@ loop-again c =
     let f = e.before in
     let g = f.before in
     let q = g.before.before.before in
-    let p = q.before.before.before in
+    let p = q.before.before in
     let v = p.before.args.v.now in
     let w = p.before.args.w.now in
     let l = p.loop-l.l in (

@@ -9,7 +9,7 @@ use Rattle.tile_bin.specs.DoubleLaws.{quanta32}
 use Rattle.tile_quad.specs.QuadGains.{long-bins-fit, long-small-bins}
 use Rattle.tile_quad.specs.FilterLaws.{pair-filtered}
 use Rattle.tile_wiener.specs.ThirtyTwo.DoubleQuads.{Shrunk}
-use Rattle.tile_wiener.proofs.SureLaws.{sure-of, shrunk-start, shrunk-at, shrunk-join}
+use Rattle.tile_wiener.proofs.SureLaws.{shrunk-start, shrunk-at, shrunk-join}
 use Rattle.tile_wiener.proofs.DoubleGains.{double-quads}
 use Rattle.tile_wiener.proofs.thirty_two.filter as of
 
@@ -39,8 +39,8 @@ loop-again c =
     let x = i.before.before.before.before in
     let t = x.before in
     let p = t.before.before.before.before.before in
-    let half = shrunk-join {z = true} (omega arith) (omega arith) p.loop-u.invariant.2 t.top.ensures (λ e. (refl, sure-of t.top.result x.if-not-top.false)) in
-    (omega arith, omega arith, shrunk-at (shrunk-join (omega arith) (omega arith) half i.inner.ensures (λ e. (refl, sure-of i.inner.result c.if-not-inner.false))) (omega arith))
+    let half = shrunk-join {z = true} (omega arith) (omega arith) p.loop-u.invariant.2 t.top.ensures (λ e. (refl, x.if-not-top.false)) in
+    (omega arith, omega arith, shrunk-at (shrunk-join (omega arith) (omega arith) half i.inner.ensures (λ e. (refl, c.if-not-inner.false))) (omega arith))
 
 -- where the answer is false, the pair is one still
 returns : of.Tie.Need-returns-then-first-eq0 invariant-loop-u decreases-loop-u
@@ -73,7 +73,7 @@ returns-7 c =
     let second = z.before.before in
     let first = second.before.before.before in
     let s = first.before.before.before in
-    let start = shrunk-join {z = true} (lit≤ tt) (lit≤ tt) o.corner.ensures l.left.ensures (λ e. (sure-of o.corner.result y.if-not-corner.false, sure-of l.left.result x.if-not-left.false)) in
+    let start = shrunk-join {z = true} (lit≤ tt) (lit≤ tt) o.corner.ensures l.left.ensures (λ e. (y.if-not-corner.false, x.if-not-left.false)) in
     let all = shrunk-at {s = true} {o = 512} (shrunk-join (omega arith) (omega arith) start p.loop-u.invariant.2 (λ e. (refl, refl))) (omega arith) in
     record {
       paired = all.new.paired;

@@ -17,7 +17,7 @@ loop-holds c = (omega arith, omega arith, shrunk-start 2 c.requires)
 set-quad-requires : of.Tie.Need-set_quad-requires invariant-loop-l decreases-loop-l
 set-quad-requires c κs =
     let g = c.before.before.before.before in
-    let p = g.before.before.before.before.before.before in
+    let p = g.before.before.before.before.before in
     record { u_below = lit< tt; l_below = omega arith; paired = p.loop-l.invariant.2.new.paired }
 
 loop-again : of.Tie.Need-loop-l-preserved invariant-loop-l decreases-loop-l
@@ -27,7 +27,7 @@ loop-again c =
     let h = one.before in
     let g = h.before in
     let q = g.before.before.before in
-    let p = q.before.before.before in
+    let p = q.before.before in
     let v = p.before.args.v.now in
     let w = p.before.args.w.now in
     let l = p.loop-l.l in (
