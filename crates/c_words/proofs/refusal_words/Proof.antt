@@ -6,7 +6,7 @@ use Rattle.c_words.specs.WordLaws.{starts}
 use Rattle.c_words.proofs.refusal_words as of
 
 -- what the buffer starts with
-front : (c : of.Tie.After-put_words-end) → take c.put_words-end.result c.put_words-end.new.0 ≡ words_of c.before.before.before.args.number
+front : (c : of.Tie.After-put_words-end) → take c.put_words-end.result c.put_words-end.new.text ≡ words_of c.before.before.before.args.number
 front c = starts c.put_words-end.ensures.0
 
 -- where they end
@@ -19,7 +19,7 @@ returns c =
     let a = put.before.before.before.args in
     record {
       answered = end put;
-      stored = rw (lt-leb (length (words_of a.number)) (length a.text-1.now) (omega (arith, end put, c.if-text-end.true)));
+      stored = rw (lt-leb (length (words_of a.number)) (length a.text.now) (omega (arith, end put, c.if-text-end.true)));
     }
 
 slice-aggregate-store : of.Tie.Need-slice_bounds-store-end
@@ -34,8 +34,8 @@ returns-2 c =
     record {
       answered = end put;
       stored =
-          rw (le-leb (length (words_of a.number)) (length a.text-1.now) (omega (arith, end put, left.if-text-end.false)))
-          (stored.store.ensures ∙ ap (padded (length a.text-1.now)) (front put));
+          rw (le-leb (length (words_of a.number)) (length a.text.now) (omega (arith, end put, left.if-text-end.false)))
+          (stored.store.ensures ∙ ap (padded (length a.text.now)) (front put));
     }
 
 pub refusal_words_spec : {M : Type 1} → of.Statement.statement M
