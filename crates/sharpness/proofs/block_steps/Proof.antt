@@ -19,7 +19,7 @@ loop-again c =
     let turn = made.before.before in
     let a = turn.before.before.before.args in
     let l = turn.loop-block in
-    sum-turn l.inv (omega arith) (c.green_total-sum.ensures.0 ∙ block-sum (word_steps (sample_at a.shape a.samples.now a.frame) a.row a.down) l.block made.lanes-sums.ensures) c.green_total-sum.ensures.1
+    sum-turn l.invariant (omega arith) (c.green_total-sum.ensures.0 ∙ block-sum (word_steps (sample_at a.shape a.samples.now a.frame) a.row a.down) l.block made.lanes-sums.ensures) c.green_total-sum.ensures.1
 
 returns : of.Tie.Need-returns invariant-loop-block decreases-loop-block
 returns c =

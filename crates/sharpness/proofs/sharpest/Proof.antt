@@ -1,10 +1,10 @@
 -- The loop keeps the first greatest of the frames seen so far.
 use Rattle.sharpness.specs.Prelude.{sym, true, false, ◌-◌, arith, rules, ltb, min}
-use mathlib.Core.Logic.{⊎_elim}
 use borrow.Author.Tests.{lt-ltb, le-ltb}
 use Rattle.sequences.specs.FirstLaws.{First, first-start, first-turn, first_done}
 use Rattle.sharpness.specs.Sharpness.{sharpness, sharpest}
 use Rattle.sharpness.specs.SharpnessLaws.{lone-first}
+use Rattle.sharpness.proofs.sharpest.Lts.{then-most-other, else-most-other}
 use Rattle.sharpness.proofs.sharpest as of
 
 abbrev invariant-loop-frame : of.Tie.invariant-loop-frame
@@ -24,17 +24,17 @@ loop-again c =
     let seen = c.before in
     let l = seen.before.before.loop-frame in
     let is = seen.sharpness-other.ensures in
-    ⊎_elim
-    (λ w. rw (w.1, w.2) (first-turn true l.inv (omega arith) is (lt-ltb _ _ w.0.taken)))
-    (λ w. rw (w.1, w.2) (first-turn false l.inv (omega arith) is (le-ltb _ _ w.0.left)))
-    c.if-most-other.branch
+    elim c.if-most-other.branch [
+      | then-most-other w ↦ rw (w.best-is, w.most-is) (first-turn true l.invariant (omega arith) is (lt-ltb _ _ w.if-most-other.true))
+      | else-most-other w ↦ rw (w.best-is, w.most-is) (first-turn false l.invariant (omega arith) is (le-ltb _ _ w.if-most-other.false))
+    ]
 
 returns-2 : of.Tie.Need-returns invariant-loop-frame decreases-loop-frame
 unfolding sharpest
 returns-2 c =
     let l = c.before.loop-frame in (
-      first_done l.inv (omega arith),
-      omega (arith, l.inv.within),
+      first_done l.invariant (omega arith),
+      omega (arith, l.invariant.within),
     )
 
 pub sharpest_spec : {M : Type 1} → of.Statement.statement M

@@ -27,7 +27,7 @@ unfolding difference
 loop-again c =
     let u = c.before.before.before in
     let l = u.before.before.before.before.loop-j in
-    (sum-turn l.inv.0 (omega arith) u.square-upper.ensures.0 u.square-upper.ensures.1, sum-turn l.inv.1 (omega arith) c.square-lower.ensures.0 c.square-lower.ensures.1)
+    (sum-turn l.invariant.0 (omega arith) u.square-upper.ensures.0 u.square-upper.ensures.1, sum-turn l.invariant.1 (omega arith) c.square-lower.ensures.0 c.square-lower.ensures.1)
 
 returns : of.Tie.Need-returns invariant-loop-j decreases-loop-j
 unfolding row_sum

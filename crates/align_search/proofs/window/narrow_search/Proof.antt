@@ -11,6 +11,7 @@ use Rattle.align_search.specs.Local.{window_row, Window}
 use Rattle.align_search.specs.LocalLaws.{lowest-searched, searched-same}
 use Rattle.align_search.specs.RowLaws.{next-rows}
 use Rattle.align_search.specs.WindowLaws.{own-window, own_row, window-most}
+use Rattle.align_search.proofs.window.narrow_search.Lts.{then-tried, else-tried}
 use Rattle.align_search.proofs.window.narrow_search as of
 
 abbrev invariant-loop-k : of.Tie.invariant-loop-k
@@ -89,10 +90,10 @@ loop-again c =
     let s = l.before.before.before.before in
     let q = left t in
     let b = window-most (seen l.before) (small s) s.args.squared l.loop-k.k i.loop-k-test.true in (
-      ⊎_elim
-          (λ w. rw (w.1, w.2) (lowest-take l.loop-k.invariant.0 i.loop-k-test.true (q.whole w.0.taken).1 (omega (arith, (q.whole w.0.taken).1, b)) (q.whole w.0.taken).0))
-          (λ w. rw (w.1, w.2) (lowest-keep l.loop-k.invariant.0 i.loop-k-test.true refl b (lit< tt) (q.left w.0.left)))
-          c.if-tried.branch,
+      elim c.if-tried.branch [
+        | then-tried w ↦ rw (w.best-is, w.low-is) (lowest-take l.loop-k.invariant.0 i.loop-k-test.true (q.whole w.if-tried.true).1 (omega (arith, (q.whole w.if-tried.true).1, b)) (q.whole w.if-tried.true).0)
+        | else-tried w ↦ rw (w.best-is, w.low-is) (lowest-keep l.loop-k.invariant.0 i.loop-k-test.true refl b (lit< tt) (q.left w.if-tried.false))
+      ],
       sum-turn l.loop-k.invariant.1 i.loop-k-test.true (rows_are t) (rows_few t),
     )
 

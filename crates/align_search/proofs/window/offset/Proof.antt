@@ -7,11 +7,11 @@ use Rattle.align_search.proofs.window.offset as of
 
 unbiased-requires : of.Tie.Need-unbiased-requires
 unfolding downs rights
-unbiased-requires c κs = (parts-most c.args.k c.requires).0
+unbiased-requires c κs = (parts-most c.before.before.args.k c.before.before.requires).0
 
 unbiased-requires-2 : of.Tie.Need-unbiased-requires-2
 unfolding downs rights
-unbiased-requires-2 c κs = (parts-most c.before.args.k c.before.requires).1
+unbiased-requires-2 c κs = (parts-most c.before.before.before.before.before.args.k c.before.before.before.before.before.requires).1
 
 is : (k : ℕ) (x y : ℤ) → x ≡ pos (get_or downs k 0) -ℤ pos 4 → y ≡ pos (get_or rights k 0) -ℤ pos 4 → ◌≡◌ {A = Vector} (record { down = x; right = y }) (tabled k)
 unfolding tabled
@@ -19,10 +19,10 @@ is k x y e f = rw (e, f)
 
 returns : of.Tie.Need-returns
 unfolding downs rights
-returns c = let s = c.before.before in
-    let d = c.before.unbiased in
+returns c = let s = c.before.before.before.before.before.before in
+    let d = c.before.before.before.unbiased in
     let r = c.unbiased-2 in
-    let e = is s.args.k _ _ (back d.result d.ok ∙ d.ensures) (back r.result r.ok ∙ r.ensures) ∙ sym (offset-tabled s.args.k s.requires) in
+    let e = is s.args.k _ _ (back d.result d.type_inv ∙ d.ensures) (back r.result r.type_inv ∙ r.ensures) ∙ sym (offset-tabled s.args.k s.requires) in
     (e, subst (Within 4) (sym e) (offset-within s.args.k s.requires))
 
 pub offset_spec : {M : Type 1} → of.Statement.statement M

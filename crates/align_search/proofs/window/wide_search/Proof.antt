@@ -1,6 +1,5 @@
 -- The loop keeps the first least of the offsets tried so far and the rows that they took; the arrays are the table's.
 use Rattle.align_search.specs.Prelude.{◌≡◌, refl, subst, ap₂, ◌∙◌, false, ◌+◌, ◌-◌, ◌*◌, ◌≤◌, arith, rules, lit≤, lit<, get_or, sum_n, residual_most, square_row, Left}
-use mathlib.Core.Logic.{⊎_elim}
 use Rattle.sequences.specs.Sum.{Summed, sum-start, sum-turn}
 use Rattle.sequences.specs.LeastLaws.{Lowest, lowest_start, lowest-take, lowest-keep}
 use Rattle.align_search.specs.Table.{downs, rights}
@@ -11,6 +10,7 @@ use Rattle.align_search.specs.Local.{window_row}
 use Rattle.align_search.specs.LocalLaws.{lowest-searched}
 use Rattle.align_search.specs.RowLaws.{next-rows}
 use Rattle.align_search.specs.WindowLaws.{wide-most}
+use Rattle.align_search.proofs.window.wide_search.Lts.{then-tried, else-tried}
 use Rattle.align_search.proofs.window.wide_search as of
 
 abbrev invariant-loop-k : of.Tie.invariant-loop-k
@@ -78,10 +78,10 @@ loop-again c =
     let s = l.before.before.before in
     let q = left t in
     let b = wide-most s.requires l.loop-k.k i.loop-k-test.true in (
-      ⊎_elim
-          (λ w. rw (w.1, w.2) (lowest-take l.loop-k.invariant.0 i.loop-k-test.true (q.whole w.0.taken).1 (omega (arith, (q.whole w.0.taken).1, b)) (q.whole w.0.taken).0))
-          (λ w. rw (w.1, w.2) (lowest-keep l.loop-k.invariant.0 i.loop-k-test.true refl b (lit< tt) (q.left w.0.left)))
-          c.if-tried.branch,
+      elim c.if-tried.branch [
+        | then-tried w ↦ rw (w.best-is, w.low-is) (lowest-take l.loop-k.invariant.0 i.loop-k-test.true (q.whole w.if-tried.true).1 (omega (arith, (q.whole w.if-tried.true).1, b)) (q.whole w.if-tried.true).0)
+        | else-tried w ↦ rw (w.best-is, w.low-is) (lowest-keep l.loop-k.invariant.0 i.loop-k-test.true refl b (lit< tt) (q.left w.if-tried.false))
+      ],
       sum-turn l.loop-k.invariant.1 i.loop-k-test.true (rows_are t) (rows_few t),
     )
 

@@ -5,26 +5,26 @@ use Rattle.c_words.specs.WordLaws.{past, said}
 use Rattle.c_words.proofs.table.put_value_words as of
 
 -- the last number is the one that is left
-last : (c : of.Tie.After-put_bytes-in_default) → c.before.before.before.before.before.args.number ≡ 17
+last : (c : of.Tie.After-put_bytes-in_default) → c.before.before.before.before.before.before.args.number ≡ 17
 last c =
-    let none = c.before.before.before.in_default.in_default-own.rest in
-    let start = c.before.before.before.before.before in
+    let none = c.in_default.in_default-own.rest in
+    let start = c.before.before.before.before.before.before in
     let least : 17 ≤ start.args.number = past (past (past (past (past (past (past (past (past start.requires.1.0 none.0.0.0.0.0.0.0.0.1) none.0.0.0.0.0.0.0.1) none.0.0.0.0.0.0.1) none.0.0.0.0.0.1) none.0.0.0.0.1) none.0.0.0.1) none.0.0.1) none.0.1) none.1 in
     omega arith
 
 pub put_value_words_spec : {M : Type 1} → of.Statement.statement M
 unfolding words_of word_table
 put_value_words_spec = of.Tie.close (of.Tie.spec
-    (λ c. search rules) (λ c κs. search rules)
-    (λ c. search rules) (λ c κs. search rules)
-    (λ c. search rules) (λ c κs. search rules)
-    (λ c. search rules) (λ c κs. search rules)
-    (λ c. search rules) (λ c κs. search rules)
-    (λ c. search rules) (λ c κs. search rules)
-    (λ c. search rules) (λ c κs. search rules)
-    (λ c. search rules) (λ c κs. search rules)
-    (λ c. search rules) (λ c κs. search rules)
-    (λ c. search rules) (λ c κs. search rules)
+    (λ c κs. search rules)
+    (λ c κs. search rules)
+    (λ c κs. search rules)
+    (λ c κs. search rules)
+    (λ c κs. search rules)
+    (λ c κs. search rules)
+    (λ c κs. search rules)
+    (λ c κs. search rules)
+    (λ c κs. search rules)
+    (λ c κs. search rules)
     (λ c. search rules) (λ c. said 8 c.before.before.before.before.before.in-8.is refl c.before.before.put_bytes.ensures)
     (λ c. search rules) (λ c. said 9 c.before.before.before.before.before.in-9.is refl c.before.before.put_bytes-in-9.ensures)
     (λ c. search rules) (λ c. said 10 c.before.before.before.before.before.in-10.is refl c.before.before.put_bytes-in-10.ensures)

@@ -22,14 +22,14 @@ returns c =
     let u = c.before in
     let w = u.before.before in
     let l = w.before.before.loop-i in
-    let e = w.before.before.before.clipped-limit.ensures.same (omega (arith, l.inv.most, w.two_rows.ensures.1, u.before.if-both-limit.true)) in
-    pair_left _ _ _ _ _ _ _ l.inv (omega arith) w.two_rows.ensures.0 (omega arith) (omega arith) e u.before.if-both-limit.true u.absolute_row.ensures.0 c.leave.ensures
+    let e = w.before.before.before.clipped-limit.ensures.same (omega (arith, l.invariant.most, w.two_rows.ensures.1, u.before.if-both-limit.true)) in
+    pair_left _ _ _ _ _ _ _ l.invariant (omega arith) w.two_rows.ensures.0 (omega arith) (omega arith) e u.before.if-both-limit.true u.absolute_row.ensures.0 c.leave.ensures
 
 loop-again : of.Tie.Need-loop-i-preserved invariant-loop-i decreases-loop-i
 loop-again c =
     let w = c.before in
     let l = w.before.before.loop-i in
-    pair_turn _ _ _ _ _ _ _ l.inv (omega arith) w.two_rows.ensures.0 (omega arith) (omega arith) w.two_rows.ensures.1 (omega (arith, w.before.before.before.clipped-limit.ensures.below, c.if-both-limit.false))
+    pair_turn _ _ _ _ _ _ _ l.invariant (omega arith) w.two_rows.ensures.0 (omega arith) (omega arith) w.two_rows.ensures.1 (omega (arith, w.before.before.before.clipped-limit.ensures.below, c.if-both-limit.false))
 
 returns-2 : of.Tie.Need-returns invariant-loop-i decreases-loop-i
 returns-2 c = run-done c.before.loop-i.invariant (omega arith) (lit< tt) refl refl refl

@@ -28,13 +28,13 @@ returns : of.Tie.Need-returns-then-both-low invariant-loop-i decreases-loop-i
 returns c =
     let w = c.before.before.before.before in
     let l = w.before.before.loop-i in
-    run-left l.inv (omega arith) (ap (λ n. l.sum + n) (upper w)) (ap (λ n. l.sum + w.squared_rows-rows.result.upper + n) (lower w)) (omega (arith, c.before.if-both-low.true)) c.leave.ensures
+    run-left l.invariant (omega arith) (ap (λ n. l.sum + n) (upper w)) (ap (λ n. l.sum + w.squared_rows-rows.result.upper + n) (lower w)) (omega (arith, c.before.if-both-low.true)) c.leave.ensures
 
 loop-again : of.Tie.Need-loop-i-preserved invariant-loop-i decreases-loop-i
 loop-again c =
     let w = c.before.before.before in
     let l = w.before.before.loop-i in
-    run-turn l.inv (omega arith) (ap (λ n. l.sum + n) (upper w)) (ap (λ n. l.sum + w.squared_rows-rows.result.upper + n) (lower w)) (omega arith) (omega (arith, c.if-both-low.false))
+    run-turn l.invariant (omega arith) (ap (λ n. l.sum + n) (upper w)) (ap (λ n. l.sum + w.squared_rows-rows.result.upper + n) (lower w)) (omega arith) (omega (arith, c.if-both-low.false))
 
 returns-2 : of.Tie.Need-returns invariant-loop-i decreases-loop-i
 returns-2 c = run-done c.before.loop-i.invariant (omega arith) (lit< tt) refl refl refl

@@ -23,8 +23,8 @@ returns c =
     let u = c.before in
     let w = u.before in
     let l = w.before.before.loop-i in
-    let e = w.before.before.before.clipped-limit.ensures.same (omega (arith, l.inv.most, w.absolute_row.ensures.1, u.if-total-limit.true)) in
-    row-left l.inv (omega arith) (row_is w) (omega (arith, e, u.if-total-limit.true)) c.leave.ensures
+    let e = w.before.before.before.clipped-limit.ensures.same (omega (arith, l.invariant.most, w.absolute_row.ensures.1, u.if-total-limit.true)) in
+    row-left l.invariant (omega arith) (row_is w) (omega (arith, e, u.if-total-limit.true)) c.leave.ensures
 
 loop-again : of.Tie.Need-loop-i-preserved invariant-loop-i decreases-loop-i
 loop-again c =
