@@ -15,8 +15,8 @@ invariant-loop-column work₀ row to sums column₀ column-end work column = Wri
 abbrev decreases-loop-column : of.Tie.decreases-loop-column
 decreases-loop-column work₀ row to sums column₀ column-end work column = column-end - column
 
-low : (c : of.Tie.After-column_sums invariant-loop-column decreases-loop-column) (k : ℕ) → k < c.before.before.before.before.args.image.width + 2 → get_or c.column_sums.new.sums k 0 ≤ column_most
-low c = let s = c.before.before.before.before in sum-most s.requires.rows.source s.args.row s.args.sums.now (omega arith) c.column_sums.ensures
+low : (c : of.Tie.After-column_sums invariant-loop-column decreases-loop-column) (k : ℕ) → k < c.before.before.before.args.image.width + 2 → get_or c.column_sums.new.sums k 0 ≤ column_most
+low c = let s = c.before.before.before in sum-most s.requires.rows.source s.args.row s.args.sums.now (omega arith) c.column_sums.ensures
 
 halved-value-requires : of.Tie.Need-halved_value-value-requires invariant-loop-column decreases-loop-column
 halved-value-requires c κs =
