@@ -1,6 +1,6 @@
 -- `station::station_noise` answers by the levels that `levels_of` found or refused, whose bounds are laws.
 use mathlib.Core.Path.{◌≡◌, sym, ap, subst, ◌∙◌}
-use mathlib.Core.Bool.{Bool, true, false, not, true≢false}
+use mathlib.Core.Bool.{true}
 use Prim.Native.Nat.{ℕ, ◌≤◌}
 use native.Mathlib.Omega.{arith}
 use borrow.Author.Rules.{rules}
@@ -14,12 +14,12 @@ use Rattle.station.proofs.Answers.{refused, too-strong, other-side, too-bright, 
 use Rattle.station.proofs.station_noise as of
 
 -- the levels that the match bound are the curve's
-bound : (c : of.Tie.In-Found-2) → let a = c.args in
-    levels_of (Measured (record { shot = a.shot; read = a.read })) ≡ Found c.ls-1.given.0.0 c.ls-1.given.0.1.0
-bound c = sym c.levels_of.ensures ∙ c.ls-1.given.1
+bound : (c : of.Tie.In-Found) → let a = c.args in
+    levels_of (Measured (record { shot = a.shot; read = a.read })) ≡ Found c.in-Found.ls c.in-Found.lr
+bound c = sym c.levels_of.ensures ∙ c.in-Found.is
 
-asked : (c : of.Tie.In-Found-2) → let a = c.args in
-    noise_answer (Found c.ls-1.given.0.0 c.ls-1.given.0.1.0) a.strength a.root a.side ≡ noise_question a.shot a.read a.strength a.root a.side
+asked : (c : of.Tie.In-Found) → let a = c.args in
+    noise_answer (Found c.in-Found.ls c.in-Found.lr) a.strength a.root a.side ≡ noise_question a.shot a.read a.strength a.root a.side
 unfolding noise_question
 asked c = let a = c.args in ap (λ l. noise_answer l a.strength a.root a.side) (sym (bound c))
 
@@ -28,36 +28,28 @@ passed c = sym c.strength_refusal.ensures ∙ c.if-strength_refusal-ne0.false
 
 returns : of.Tie.Need-returns-then-strength_refusal-ne0
 returns c =
-    let told = c.before.before.before in
+    let told = c.before.before in
     too-strong _ _ _ _ _ (λ e. c.if-strength_refusal-ne0.true (c.strength_refusal.ensures ∙ e)) ∙ asked told
 
 sided : (c : of.Tie.Else-not-side_allowed) → side_allowed c.args.side ≡ true
-sided c = taken-side _ _ c.side_allowed.ensures c.if-not-side_allowed.false
-  where
-    taken-side : (b : Bool) (side : ℕ) → b ≡ side_allowed side → not b ≡ false → side_allowed side ≡ true
-    taken-side true side e h = sym e
-    taken-side false side e h = absurd (true≢false h)
+sided c = sym c.side_allowed.ensures ∙ c.if-not-side_allowed.false
 
 returns-2 : of.Tie.Need-returns-then-not-side_allowed
 returns-2 c =
-    let told = c.before.before.before.before.before in
-    other-side _ _ _ _ _ (passed c.before.before) (refused-side _ _ c.side_allowed.ensures c.if-not-side_allowed.true) ∙ asked told
-  where
-    refused-side : (b : Bool) (side : ℕ) → b ≡ side_allowed side → not b ≡ true → side_allowed side ≡ false
-    refused-side true side e h = absurd (true≢false (sym h))
-    refused-side false side e h = sym e
+    let told = c.before.before.before.before in
+    other-side _ _ _ _ _ (passed c.before.before) (sym c.side_allowed.ensures ∙ c.if-not-side_allowed.true) ∙ asked told
 
 mul-if3 : of.Tie.Need-overflow_mul-side
 mul-if3 c = let m = side-most _ (sided c) in omega (arith, m)
 
 returns-3 : of.Tie.Need-returns-then-side-root
 returns-3 c =
-    let told = c.before.before.before.before.before.before in
+    let told = c.before.before.before.before.before in
     too-bright _ _ _ _ _ (passed c.before.before.before) (sided c.before) c.if-side-root.true ∙ asked told
 
 side-noise-number-requires : of.Tie.Need-side_noise_number-requires
 side-noise-number-requires c κs =
-    let told = c.before.before.before.before.before.before in
+    let told = c.before.before.before.before.before in
     let a = told.args in
     let curve = Measured (record { shot = a.shot; read = a.read }) in
     let m = side-most _ (sided c.before) in
@@ -76,7 +68,7 @@ returns-4 c =
 
 returns-5 : of.Tie.Need-returns-else-side-root
 returns-5 c =
-    let told = c.before.before.before.before.before.before.before in
+    let told = c.before.before.before.before.before.before in
     c.side_noise_number.ensures.0 ∙ numbered _ _ _ _ _ (passed c.before.before.before.before) (sided c.before.before) c.if-side-root.false ∙ asked told
 
 pub station_noise_spec : {M : Type 1} → of.Statement.statement M

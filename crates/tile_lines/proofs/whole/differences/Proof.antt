@@ -11,7 +11,7 @@ invariant-loop-i x r₀ i₀ r i = Filled (difference_at (of x)) 8 i r₀ r
 abbrev decreases-loop-i : tie.decreases-loop-i
 decreases-loop-i x r₀ i₀ r i = 8 - i
 
-sub-r : tie.Need-overflow_sub-r invariant_loop decreases_loop
+sub-r : tie.Need-overflow_sub-r invariant-loop-i decreases-loop-i
 unfolding side16
 sub-r c =
     let l = c.before.before.before in
