@@ -10,13 +10,13 @@ back-requires c κs = paired-grid _ c.before.requires.whole.is
 
 add-back-requires : of.Tie.Need-add_back-requires
 add-back-requires c κs =
-    let a = c.before.before in
+    let a = c.before in
     let s = a.before.before in
     record { whole = columns_whole s.args.low a.back.ensures s.requires.whole; sums_most = s.requires.sums_most; paired = s.requires.paired }
 
 returns : of.Tie.Need-returns
 returns c w =
-    let a = c.before.before.before in
+    let a = c.before.before in
     let s = a.before.before in
     c.add_back.ensures (columns_whole s.args.low a.back.ensures w) ∙ back_is w.number s.args.sum.now
 

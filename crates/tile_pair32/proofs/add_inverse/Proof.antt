@@ -10,14 +10,14 @@ back-requires c κs = long-paired-grid _ c.before.requires.whole.is
 
 add-back-requires : of.Tie.Need-add_back-requires
 add-back-requires c κs =
-    let a = c.before.before in
+    let a = c.before in
     let s = a.before.before in
     record { whole = columns_whole s.args.low s.args.middle a.back.ensures s.requires.whole; sums_most = s.requires.sums_most; paired = s.requires.paired }
 
 returns : of.Tie.Need-returns
 unfolding long_doubles
 returns c =
-    let a = c.before.before.before in
+    let a = c.before.before in
     let s = a.before.before in
     record {
       spare = long-paired-grid _ (columns_whole s.args.low s.args.middle a.back.ensures s.requires.whole).is;

@@ -10,14 +10,14 @@ abbrev decreases-loop-l : of.Tie.decreases-loop-l
 decreases-loop-l g₀ l₀ g l = 64 - l
 
 set-column-requires : of.Tie.Need-set_column-requires invariant-loop-l decreases-loop-l
-set-column-requires c κs = (omega arith, record { is = c.before.before.before.before.before.before.before.loop-l.invariant.table })
+set-column-requires c κs = (omega arith, record { is = c.before.before.before.before.before.before.loop-l.invariant.table })
 
 loop-again : of.Tie.Need-loop-l-preserved invariant-loop-l decreases-loop-l
 unfolding long_doubles
 loop-again c =
     let z = c.before.before.before in
     let x = z.before.before in
-    let l = x.before.before.before in
+    let l = x.before.before in
     columns-turn l.loop-l.invariant (omega arith)
     (λ w. z.backward-z.ensures (λ b. w.number b l.loop-l.l) (λ b. w.most b l.loop-l.l) (x.column-c.ensures ∙ column-rest l.loop-l.invariant (omega arith) _ w.is))
     c.set_column.ensures

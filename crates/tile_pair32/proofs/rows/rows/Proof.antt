@@ -12,21 +12,21 @@ decreases-loop-b t r₀ b₀ r b = 16 - b
 
 halfcomplex-requires : of.Tie.Need-halfcomplex-requires invariant-loop-b decreases-loop-b
 halfcomplex-requires c κs =
-    let l = c.before.before.before in
+    let l = c.before.before in
     (l.before.requires.0.line l.loop-b.b, row-length 32 64 _ l.before.requires.1.is l.loop-b.b (omega arith) (rows-first l.loop-b.invariant (omega arith)))
 
 halfcomplex-requires-2 : of.Tie.Need-halfcomplex-requires-in-loop-b invariant-loop-b decreases-loop-b
 halfcomplex-requires-2 c κs =
-    let h = c.before.before in
-    let l = h.before.before.before.before in
+    let h = c.before in
+    let l = h.before.before.before in
     let b = l.loop-b.b in
     (l.before.requires.0.line (16 + b), row-length 32 64 _ l.before.requires.1.is (16 + b) (omega arith) (rows-second l.loop-b.invariant (omega arith) h.halfcomplex.new.r))
 
 loop-again : of.Tie.Need-loop-b-preserved invariant-loop-b decreases-loop-b
 unfolding cell
 loop-again c =
-    let h = c.before.before.before in
-    let l = h.before.before.before.before in
+    let h = c.before.before in
+    let l = h.before.before.before in
     rows-turn l.loop-b.invariant (omega arith) (λ _. h.halfcomplex.ensures) (λ _. c.halfcomplex-in-loop-b.ensures)
 
 returns : of.Tie.Need-returns invariant-loop-b decreases-loop-b

@@ -15,7 +15,7 @@ decreases-loop-y h low middle sum₀ y₀ sum y = 16 - y
 
 add-line-requires : of.Tie.Need-add_line-requires invariant-loop-y decreases-loop-y
 add-line-requires c κs =
-    let l = c.before.before.before in
+    let l = c.before.before in
     let y = l.loop-y.y in
     let e = rows-first l.loop-y.invariant (omega arith) in
     record {
@@ -26,8 +26,8 @@ add-line-requires c κs =
 
 add-line-requires-2 : of.Tie.Need-add_line-requires-in-loop-y invariant-loop-y decreases-loop-y
 add-line-requires-2 c κs =
-    let a = c.before.before in
-    let l = a.before.before.before.before in
+    let a = c.before in
+    let l = a.before.before.before in
     let y = l.loop-y.y in
     let e = rows-second l.loop-y.invariant (omega arith) a.add_line.new.sum in
     record {
@@ -39,8 +39,8 @@ add-line-requires-2 c κs =
 loop-again : of.Tie.Need-loop-y-preserved invariant-loop-y decreases-loop-y
 unfolding cell
 loop-again c =
-    let a = c.before.before.before in
-    let l = a.before.before.before.before in
+    let a = c.before.before in
+    let l = a.before.before.before in
     let y = l.loop-y.y in
     rows-turn l.loop-y.invariant (omega arith)
     (λ w. a.add_line.ensures (whole_row w y (omega arith)) ∙ added-to 64 _ (rows-first l.loop-y.invariant (omega arith)))
