@@ -1,4 +1,4 @@
--- How large sums over tiles of side 8 and 16 are, whose values are at most `valueMost` (align_pyramid/Halving/Magnitudes).
+-- How large sums over tiles of side 8 and 16 are, whose values are at most `value_most` (align_pyramid/Halving/Magnitudes).
 use Rattle.std.specs.Prelude.{ℕ}
 
 -- a square of two values' difference: 16380²

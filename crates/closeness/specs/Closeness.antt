@@ -19,7 +19,7 @@ pub record Fitting (s : Side) (most w : ℕ) : Type 0 where
   pub twiddle_small : (a b : ℕ) → a < s.side → b < s.side →
       nat_abs (s.cosine a *ℤ s.cosine b -ℤ s.sine a *ℤ s.sine b) + nat_abs (s.cosine a *ℤ s.sine b +ℤ s.sine a *ℤ s.cosine b) ≤ most
 
--- P is within tileError/(2·divisor) of 256·p: 3/2 for each of side² bins, times its factor, over the divisor, and 1/2 for P's rounding
+-- P is within tile_error/(2·divisor) of 256·p: 3/2 for each of side² bins, times its factor, over the divisor, and 1/2 for P's rounding
 abbrev pub tile_error : Side → ℕ → ℕ
 tile_error s most = 3 * (s.side * s.side * most) + s.divisor
 
@@ -52,7 +52,7 @@ module _ {s : Side} {most w : ℕ} (t : Fitting s most w) where
         let bin : (b c : ℤ) → Near 3 2 _ (pos s.parts) _ = bin-near s s.quantum_above t.scale_is noise in
         inverse-near _ _ _ _ (λ u v. bin (bin_re s d u v) (bin_im s d u v)) (λ u v. bin (bin_im s d u v) (bin_re s d u v)) y x
 
-    -- one tile: P/256 is within tileError/(512·divisor) of p
+    -- one tile: P/256 is within tile_error/(512·divisor) of p
     pub tile-within : Within (tile_error s most) (2 * s.divisor * 256) (frac (correction_at s noise d y x) 256 (lit< tt)) (exact_correction_at s noise d y x)
     tile-within = near-frac (lit< tt) tile-near
 
@@ -77,7 +77,7 @@ module _ {s : Side} {most w : ℕ} (t : Fitting s most w) where
         above : 0 < 256 * (s.weight * suc others)
         above = mul-pos {m = 256} (lit< tt) (mul-pos s.weight_above (omega arith))
 
-  -- the base's sample, with `others` other frames: m/n is at least 1/2 + (N − 1)/N·tileError/(512·divisor)
+  -- the base's sample, with `others` other frames: m/n is at least 1/2 + (N − 1)/N·tile_error/(512·divisor)
   pub sample-within : (a b others : ℕ) (noise : ℕ → ℕ) (d : ℕ → ℕ → ℕ → ℕ → ℤ) (t0 : ℤ) → a < s.half → b < s.half → (m n : ℕ) →
       n * (others * tile_error s most + 128 * (2 * s.divisor * suc others)) ≤ m * (256 * (2 * s.divisor * suc others)) → Within m n (whole (output_sample s a b others noise d t0)) (exact_sample s a b others noise d t0)
   unfolding output_sample exact_sample

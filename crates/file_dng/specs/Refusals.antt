@@ -3,7 +3,7 @@
 use Rattle.file_dng.specs.Prelude.{List, [], ◌∷◌, ◌++◌, ℕ, ◌*◌, first, Shape, sample_length, length_refusal, frame_tests, Entry, strip_start, tag_tests, strip_refusal}
 use Rattle.refusals.specs.Numbers as no
 
--- "before 1, 2, 3 (frame index not below N), 4": of the burst, the frame's index and the length of the lent samples. 23 is the last of `frameTests`
+-- "before 1, 2, 3 (frame index not below N), 4": of the burst, the frame's index and the length of the lent samples. 23 is the last of `frame_tests`
 unfoldable pub room_tests : Shape → (frame room : ℕ) → List ℕ
 room_tests s frame room = frame_tests s frame ++ length_refusal no.wrong_sample_length (sample_length s) room ∷ []
 

@@ -9,7 +9,7 @@ use Rattle.tile_spectrum.specs.WienerLaws.{wiener-root}
 use Rattle.closeness.specs.Closeness.{twiddle}
 use Rattle.closeness.specs.Side32.{fitting32}
 
--- a part of G at V up to longNoiseMost: half the root of V. And P of such parts: 1024 of them, each times a factor whose parts add up to at most 379633849
+-- a part of G at V up to long_noise_most: half the root of V. And P of such parts: 1024 of them, each times a factor whose parts add up to at most 379633849
 abbrev root_most : ℕ
 root_most = 132077
 

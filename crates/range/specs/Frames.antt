@@ -10,7 +10,7 @@ End = Side → (a b others : ℕ) (lower upper : ℕ → ℕ) (d : ℕ → ℕ �
 
 -- two scenes that differ in Ls and Lr alone: those of the lower curve and of the upper one
 module _ (end : End) (lower upper : Scene) where
-  -- that sample at row y and column x of a plane, as `planeOutput` (recipe/Merged) has the merge's
+  -- that sample at row y and column x of a plane, as `plane_output` (recipe/Merged) has the merge's
   unfoldable pub plane_end : (rowParity columnParity y x : ℕ) → ℤ
   plane_end rowParity columnParity y x =
       end lower.side (y % lower.side.half) (x % lower.side.half) lower.others (noise_over lower rowParity columnParity y x) (noise_over upper rowParity columnParity y x)

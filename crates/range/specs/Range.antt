@@ -21,7 +21,7 @@ module _ (s : Side) where
   unfoldable pub greatest_at : (lower upper : ℕ) (d : ℕ → ℕ → ℤ) → ℕ → ℕ → ℤ
   greatest_at lower upper d y x = away (end_re max_z min_z lower upper d y x) s.divisor
 
-  -- `outputSample` (recipe/PlainOutput) from any corrections: `P t z` is tile t's for the z-th other frame at the sample
+  -- `output_sample` (recipe/PlainOutput) from any corrections: `P t z` is tile t's for the z-th other frame at the sample
   abbrev pub sample_from : (a b others : ℕ) (P : ℕ → ℕ → ℤ) (t0 : ℤ) → ℤ
   sample_from a b others P t0 = rounded s others (λ t. sum_z others (λ z. pos (weight_in s a b t) *ℤ P t z)) t0
 

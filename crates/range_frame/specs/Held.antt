@@ -2,7 +2,7 @@
 use Rattle.range_frame.specs.Prelude.{◌≡◌, List, ℕ, ◌*◌, ◌/◌, ◌%◌, ◌+◌, ℤ, nat_abs, drop, Scene, greatest_at, least_at, low_sample, high_sample, End, plane_end, row_words, end_taken, row_written, RowHeld, RowsWritten}
 use Rattle.geometry.specs.declared.Shape.{Shape}
 
--- word k of the frame of an end, as `frameEnd` (range/Frames) has it
+-- word k of the frame of an end, as `frame_end` (range/Frames) has it
 abbrev pub end_word : End → (lower upper : Scene) (k : ℕ) → ℕ
 end_word end lower upper k =
     let row = k / lower.width in

@@ -53,7 +53,7 @@ row_plus s p = tab 32 (λ l. get_or s l (pos 0) +ℤ p l)
 abbrev pub pair_plus : (s : List (List ℤ)) (p : ℕ → ℕ → ℤ) → List (List ℤ)
 pair_plus s p = grid 16 32 (λ y l. cell (pos 0) s y l +ℤ p y l)
 
--- P of one end from half of both inverse sums and the width: `greatestOf` or `leastOf`
+-- P of one end from half of both inverse sums and the width: `greatest_of` or `least_of`
 abbrev pub EndOf : Type 0
 EndOf = (a b : ℤ) (width : ℕ) → ℤ
 
@@ -81,7 +81,7 @@ pub record TilesAdded (p : EndOf → ℕ → ℕ → ℤ) (greatest greatest' le
 abbrev pub noise_of : Noises → (p : ℕ) → ℕ
 noise_of v p = either v.first v.second p
 
--- P of one end by the recipe, over a side: `greatestAt` or `leastAt` (range/Range)
+-- P of one end by the recipe, over a side: `greatest_at` or `least_at` (range/Range)
 abbrev pub EndAt : Type 0
 EndAt = Side → (lower upper : ℕ) (d : ℕ → ℕ → ℤ) → ℕ → ℕ → ℤ
 

@@ -1,4 +1,4 @@
--- Inside the crates of the range: P of one end of a pair's tiles, summed over the other frames. `end` is `greatestAt` or `leastAt` (range/Range).
+-- Inside the crates of the range: P of one end of a pair's tiles, summed over the other frames. `end` is `greatest_at` or `least_at` (range/Range).
 use Rattle.range_tiles.specs.Prelude.{◌≡◌, List, ℕ, ◌*◌, ◌≤◌, ◌<◌, ℤ, pos, nat_abs, grid, side16, Merge, Scene, reference_tile, tile_noise, tile_difference, scene_at, greatest_at, least_at, Taking, PairTaken, NoisesFit, noise_of, Noises, at_site, pair_at}
 use Rattle.algebra.specs.Sums.{sum_z}
 use Rattle.tile_spectrum.specs.Magnitudes.{small_most}
@@ -18,7 +18,7 @@ end_sum end s lower upper rowParity columnParity a b i j =
 abbrev pub pair_sum : EndAt → Scene → Site → (lower upper : Noises) → ℕ → ℕ → ℤ
 pair_sum end s t lower upper = side_by_side (λ p. at_site (end_sum end s (noise_of lower p) (noise_of upper p)) t p)
 
--- r is these sums, each of at most `smallMost` for every other frame
+-- r is these sums, each of at most `small_most` for every other frame
 pub record EndSummed (end : EndAt) (s : Scene) (t : Site) (lower upper : Noises) (r : List (List ℤ)) : Type 0 where
   pub is : r ≡ grid 16 32 (pair_sum end s t lower upper)
   pub most : (i l : ℕ) → i < 16 → l < 32 → nat_abs (pair_sum end s t lower upper i l) ≤ s.others * small_most

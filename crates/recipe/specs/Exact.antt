@@ -42,7 +42,7 @@ module _ (s : Side) where
   abbrev pub unrounded : (others : ℕ) (q : ℕ → Frac) (t0 : ℤ) → Frac
   unrounded others q t0 = held 4095 (whole t0 -F over (sum_f 4 q) (s.weight * suc others) (mul-pos s.weight_above (omega arith)))
 
-  -- tile t puts the sum over the other frames of w·w'·p; arguments as `outputSample` takes them
+  -- tile t puts the sum over the other frames of w·w'·p; arguments as `output_sample` takes them
   unfoldable pub exact_sample : (a b others : ℕ) (noise : ℕ → ℕ) (d : ℕ → ℕ → ℕ → ℕ → ℤ) (t0 : ℤ) → Frac
   exact_sample a b others noise d t0 =
       unrounded others (λ t. sum_f others (λ z. pos (weight_in s a b t) ·F exact_correction_at (noise t) (d t z) (row_in s a t) (column_in s b t))) t0

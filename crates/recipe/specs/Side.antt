@@ -13,7 +13,7 @@ pub record Side : Type 0 where
   pub scale : ℕ
   -- Q and G count 1/parts of a sample step, V counts 1/parts² of its square
   pub parts : ℕ
-  -- V = t·(Ls·r + side·Lr)/noiseDivisor
+  -- V = t·(Ls·r + side·Lr)/noise_divisor
   pub noise_divisor : ℕ
   -- Q = B/quantum
   pub quantum : ℕ

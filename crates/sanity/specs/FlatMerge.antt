@@ -1,4 +1,4 @@
--- Try flat frames: whatever the vectors, each plane of the merged frame is flat too, of the value `flatOutput`; and so is the frame where the planes have one black level.
+-- Try flat frames: whatever the vectors, each plane of the merged frame is flat too, of the value `flat_output`; and so is the frame where the planes have one black level.
 use Rattle.std.specs.Prelude.{◌≡◌}
 use Rattle.std.proofs.Common.{◌∙◌}
 use Rattle.std.proofs.Math.Path.{ap, ap₂, fun_ext}

@@ -1,4 +1,4 @@
--- Inside this crate: a line of whole numbers of at most `longSumMost` in parts, each in double.
+-- Inside this crate: a line of whole numbers of at most `long_sum_most` in parts, each in double.
 use Rattle.tile_lines32_double.specs.Prelude.{◌≡◌, List, ℕ, ◌+◌, ◌*◌, ◌≤◌, ℤ, nat_abs, ◌+ℤ◌, ◌-ℤ◌, Float, side32, folded_of, every_second, long_sum_most, double_line}
 
 -- the sums and the differences of numbers sixteen apart

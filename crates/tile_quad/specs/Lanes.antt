@@ -10,13 +10,13 @@ use Rattle.tile_spectrum.specs.Lines.Doubles.{WholeDouble}
 abbrev pub number_of : List Float → ℕ → Float
 number_of q i = get_or q i nan
 
--- the parts re, im, re', im' of the two bins of a quad, as `twoBins` has them
+-- the parts re, im, re', im' of the two bins of a quad, as `two_bins` has them
 unfoldable pub bins_in : (k u : ℕ) (q : List Float) → List Float
 bins_in k u q =
     by_kind k u (number_of q 0 ∷ number_of q 1 ∷ number_of q 2 ∷ number_of q 3 ∷ []) (number_of q 0 ∷ number_of q 2 ∷ number_of q 1 ∷ number_of q 3 ∷ [])
     (sub binary64 (number_of q 0) (number_of q 3) ∷ add binary64 (number_of q 1) (number_of q 2) ∷ add binary64 (number_of q 0) (number_of q 3) ∷ sub binary64 (number_of q 2) (number_of q 1) ∷ [])
 
--- G by the parts of two bins, folded, as `foldedQuad` has it
+-- G by the parts of two bins, folded, as `folded_quad` has it
 unfoldable pub folded_in : (k u : ℕ) (re im re' im' : Float) → List Float
 folded_in k u re im re' im' =
     by_kind k u

@@ -14,7 +14,7 @@ pub record BinFilter (s : Side) (f : (u v : ℕ) → ℤ → ℤ → ℤ) : Type
   pub even : (u v : ℕ) (b c : ℤ) → f u v b (neg_ℤ c) ≡ f u v b c
   pub mirror : (u v : ℕ) → u < s.side → v < s.side → (b c : ℤ) → f (opposite_of s u) (opposite_of s v) b c ≡ f u v b c
 
--- one part at each bin of g + i·h; the other is `filteredBy f h g`
+-- one part at each bin of g + i·h; the other is `filtered_by f h g`
 abbrev pub filtered_by : (f : (u v : ℕ) → ℤ → ℤ → ℤ) (g h : ℕ → ℕ → ℤ) → ℕ → ℕ → ℤ
 filtered_by f g h u v = f u v (g u v) (h u v)
 

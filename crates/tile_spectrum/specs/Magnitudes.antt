@@ -7,7 +7,7 @@ use Rattle.std.specs.Prelude.{ℕ, ◌*◌, ◌^◌}
 abbrev pub noise_most : ℕ
 noise_most = 279105765376
 
--- a part of B: sixteen times rowMost·(|C(k)| + |S(k)|), which is at most 23170
+-- a part of B: sixteen times row_most·(|C(k)| + |S(k)|), which is at most 23170
 abbrev pub bin_most : ℕ
 bin_most = 397960386969600
 
@@ -33,7 +33,7 @@ low_noise = 2 ^ 33
 
 -- ---- of the spatial filter (request L13)
 
--- a part of G at V up to noiseMost: half the root of V. And P of such parts
+-- a part of G at V up to noise_most: half the root of V. And P of such parts
 abbrev pub root_most : ℕ
 root_most = 264153
 

@@ -23,7 +23,7 @@ pub record Figures (s : Side) (gain spread far others : ℕ) : Type 0 where
   pub spread_enough : gain * (s.side * (4 * (s.divisor * suc others) + others * (4 * s.divisor + 17 * gain))) ≤ spread * (s.divisor * suc others * (256 * s.quantum))
   pub far_enough : 768 * (s.side * s.side) + 3 * (spread * spread) ≤ 128 * (far * far)
 
--- P' is within spatialError/(2·divisor) of 256·p'
+-- P' is within spatial_error/(2·divisor) of 256·p'
 abbrev pub spatial_error : Side → (gain far : ℕ) → ℕ
 spatial_error s gain far = 2 * (gain * far) + s.divisor
 
@@ -176,7 +176,7 @@ module _ {s : Side} {most w gain spread far others : ℕ} (f : Fitting s most w)
   taken-near y x i j =
       near_add (near-sums others _ _ (λ z l. tile-near f t.noise (t.differences z) y x)) (near-scale (pos (suc others)) (spatial-near y x i j))
 
--- ---- one sample: m/n is at least 1/2 + (N − 1)/N·tileError/(512·divisor) + spatialError/(512·divisor)
+-- ---- one sample: m/n is at least 1/2 + (N − 1)/N·tile_error/(512·divisor) + spatial_error/(512·divisor)
 
 module _ {s : Side} {most w gain spread far others : ℕ} (f : Fitting s most w) (g : Gain s gain) (fig : Figures s gain spread far others) where
   inside : (a i : ℕ) → a < s.half → i ≤ 1 → a + i * s.half < s.side

@@ -1,4 +1,4 @@
--- At most four times a number of at most 2·apartMost.
+-- At most four times a number of at most 2·apart_most.
 use Rattle.algebra.specs.Prelude.{sym, ap, ap₂, subst, ◌∙◌, ◌*◌, ◌≤◌, arith, rules, nat_abs, w64}
 use native.Mathlib.Nat.{mul-le-mul}
 use Rattle.tile_spectrum.specs.Lines.Held.{number_is, number-most}

@@ -13,7 +13,7 @@ invariant-loop-left file at count bound left₀ i₀ over₀ left i over = judge
 abbrev decreases-loop-left : of.Tie.decreases-loop-left
 decreases-loop-left file at count bound left₀ i₀ over₀ left i over = left
 
--- where the scan is `scan`, the line is what `afterItem` makes of it
+-- where the scan is `scan`, the line is what `after_item` makes of it
 stepped : (c : of.Tie.After-next_value invariant-loop-left decreases-loop-left) (scan : Scan) → c.next_value.result ≡ scan →
     let l = c.before.before.loop-left in
     let a = c.before.before.before.before.args in
