@@ -21,7 +21,7 @@ all-rows {s} ok sided = mul_comm s.width s.height ∙ ap (λ k. k * s.width) (sy
 
 merge-rows-requires : of.Tie.Need-merge_rows-requires
 merge-rows-requires c κs =
-    let s = c.before.before.before.before.before in
+    let s = c in
     let ok = s.requires.accepted.burst.allowed in
     let sided = s.requires.accepted.burst.sided in
     record {
@@ -35,8 +35,8 @@ merge-rows-requires c κs =
 returns : of.Tie.Need-returns
 unfolding scene_at
 returns c =
-    let r = c.before.before.before in
-    let s = r.before.before.before.before.before.before in
+    let r = c in
+    let s = r in
     r.merge_rows.ensures ∙ whole-merged s.requires.accepted.burst.sided (scene_of s.args.m s.args.samples.now s.args.vectors.now) s.requires.accepted.burst.allowed.high
 
 pub merge_frames_spec : {M : Type 1} → of.Statement.statement M

@@ -5,13 +5,13 @@ use Rattle.merge_frame.proofs.merge_rows as of
 
 merge-parity-requires : of.Tie.Need-merge_parity-requires
 merge-parity-requires c κs =
-    let s = c.before.before.before.before in
+    let s = c in
     record { lent = s.requires; parity = lit< tt }
 
 merge-parity-requires-2 : of.Tie.Need-merge_parity-requires-2
 merge-parity-requires-2 c κs =
-    let p = c.before.before.before.before.before in
-    let s = p.before.before.before.before.before in
+    let p = c in
+    let s = p in
     let r = s.requires in
     record {
       lent = record {
@@ -27,9 +27,9 @@ merge-parity-requires-2 c κs =
 returns : of.Tie.Need-returns
 unfolding scene_at
 returns c =
-    let q = c.before.before.before in
-    let p = q.before.before.before.before.before.before in
-    let s = p.before.before.before.before.before in
+    let q = c in
+    let p = q in
+    let s = p in
     all-merged s.requires.accepted.burst.sided (scene_of s.args.m s.args.samples.now s.args.vectors.now) s.args.first s.args.last s.requires.output_long p.merge_parity.ensures q.merge_parity-2.ensures
 
 pub merge_rows_spec : {M : Type 1} → of.Statement.statement M

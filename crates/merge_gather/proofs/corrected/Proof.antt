@@ -11,7 +11,7 @@ held-requires c κs = let d = c.requires.0 in record { some = d.some; few = d.fe
 returns : of.Tie.Need-returns
 unfolding corrected side16
 returns c =
-    let s = c.before.before in
+    let s = c in
     let n = s.args.count in
     let e : to_z w64 (of_z w64 c.scaled.result) ≡ c.scaled.result = search rules in
     let whole : 4294967296 * n ≡ 256 * (16777216 * suc (n - 1)) = omega (arith, s.requires.0.some) in

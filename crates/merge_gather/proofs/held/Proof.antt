@@ -20,7 +20,7 @@ module _ (s : of.Tie.Start) where
 
 returns : of.Tie.Need-returns-then-z-lt0
 returns c =
-    let s = c.before in
+    let s = c in
     sym (held_below s.args.count s.args.z (test-lt s.args.z (pos 0) s.ranges.z zero-fits c.if-z-lt0.true))
 
 module _ (c : of.Tie.Then-z-count) where

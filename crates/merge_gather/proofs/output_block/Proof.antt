@@ -14,7 +14,7 @@ output-part-requires c κs = let s = c.before.before.before in (ready s _ refl, 
 
 returns : of.Tie.Need-returns-then-span-eq-PART
 returns c =
-    let s = c.before.before.before.before.before.before.before.before in
+    let s = c in
     let a = s.args in
     write_done (part-turn a.samples.now a.work.now a.span a.by.count 0 (write-start s.requires.output_room) (part_room s.requires.weighed.sided)
     c.output_part.ensures) (omega (arith, c.if-span-eq-PART.true))
@@ -26,8 +26,8 @@ output-part-requires-2 c κs =
 
 returns-2 : of.Tie.Need-returns
 returns-2 c =
-    let first = c.before.before.before.before.before.before.before.before in
-    let s = first.before.before.before.before in
+    let first = c in
+    let s = first in
     let a = s.args in
     let side = wide_is s.requires.weighed.sided c.if-span-eq-PART.false in
     let w = part-turn a.samples.now a.work.now a.span a.by.count 0 (write-start s.requires.output_room) (omega (arith, side)) first.output_part.ensures in

@@ -15,7 +15,7 @@ abbrev decreases-loop-x : of.Tie.decreases-loop-x
 decreases-loop-x samples work lower upper span place by output₀ from start x₀ output x = 8 - x
 
 loop-holds : of.Tie.Need-loop-x-init invariant-loop-x decreases-loop-x
-loop-holds c = let s = c.before.before.before.before in write-start (omega (arith, s.requires.0.output_room, s.requires.1))
+loop-holds c = let s = c in write-start (omega (arith, s.requires.0.output_room, s.requires.1))
 
 two-more : {d : List ℕ} {at : ℕ} {f : ℕ → ℕ} {l : List ℕ} (x : ℕ) → Writing d at f 16 (2 * x + 1 + 1) l → Writing d at f 16 (2 * (x + 1)) l
 two-more {d} {at} {f} {l} x w = subst (λ j. Writing d at f 16 j l) (omega arith) w
@@ -41,7 +41,7 @@ word s l h there is e =
     ∙ corrected-any sided _ _ _)
 
 windowed-requires : of.Tie.Need-windowed-sum-requires invariant-loop-x decreases-loop-x
-windowed-requires c κs = let s = c.before.before.before.before.before.before in (s.requires.0.weighed, omega (arith, s.requires.1, c.loop-x-test.true))
+windowed-requires c κs = let s = c in (s.requires.0.weighed, omega (arith, s.requires.1, c.loop-x-test.true))
 
 corrected-requires : of.Tie.Need-corrected-requires invariant-loop-x decreases-loop-x
 corrected-requires c κs =
@@ -51,8 +51,8 @@ corrected-requires c κs =
 
 windowed-requires-2 : of.Tie.Need-windowed-beside-requires invariant-loop-x decreases-loop-x
 windowed-requires-2 c κs =
-    let t = c.before.before.before in
-    let s = t.before.before.before.before.before.before in
+    let t = c in
+    let s = t in
     (s.requires.0.weighed, omega (arith, s.requires.1, t.loop-x-test.true))
 
 corrected-requires-2 : of.Tie.Need-corrected-requires-in-loop-x invariant-loop-x decreases-loop-x
@@ -64,21 +64,21 @@ corrected-requires-2 c κs =
 -- the output's length in words and in bytes
 add-output-2 : of.Tie.Need-overflow_add-output-in-loop-x invariant-loop-x decreases-loop-x
 add-output-2 c =
-    let t = c.before.before.before.before.before.before in
-    let s = t.before.before.before.before.before.before in
+    let t = c in
+    let s = t in
     omega (arith, s.requires.0.output_room, s.requires.1, s.good.1.1.1.1.1.1.1.0.0, t.loop-x-test.true)
 
 mul-output-2 : of.Tie.Need-offset_bounds-output-start-in-loop-x invariant-loop-x decreases-loop-x
 mul-output-2 c =
-    let t = c.before.before.before.before.before.before in
-    let s = t.before.before.before.before.before.before in
+    let t = c in
+    let s = t in
     omega (arith, s.requires.0.output_room, s.requires.1, s.good.1.1.1.1.1.1.1.0.1, t.loop-x-test.true)
 
 slice-write-output-2 : of.Tie.Need-bounds-output-start-in-loop-x invariant-loop-x decreases-loop-x
 slice-write-output-2 c =
-    let b = c.before.before.before in
-    let t = b.before.before.before in
-    let s = t.before.before.before.before.before.before in
+    let b = c in
+    let t = b in
+    let s = t in
     let l = t.loop-x in
     omega (arith, l.inv.room, l.inv.same, length-set l.output (s.args.span.start + s.args.place + 2 * l.x) b.corrected.result, t.loop-x-test.true)
 

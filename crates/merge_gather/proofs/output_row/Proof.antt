@@ -17,19 +17,19 @@ decreases-loop-column reference samples parity y top work output₀ side half lo
 
 weights-requires : of.Tie.Need-weights-lower-requires invariant-loop-column decreases-loop-column
 weights-requires c κs =
-    let s = c.before.before.before.before in
+    let s = c in
     let sided = s.requires.inside.sided in
     record { sided = sided; table = c.window_of-window.ensures; row = omega (arith, row-in-half sided s.args.y, upper-below sided _ (row-in-half sided s.args.y)) }
 
 weights-requires-2 : of.Tie.Need-weights-upper-requires invariant-loop-column decreases-loop-column
 weights-requires-2 c κs =
-    let s = c.before.before.before.before.before.before in
+    let s = c in
     let sided = s.requires.inside.sided in
     record { sided = sided; table = c.window_of-window.ensures; row = upper-below sided _ (row-in-half sided s.args.y) }
 
 add-weights : of.Tie.Need-overflow_add-y invariant-loop-column decreases-loop-column
 add-weights c =
-    let s = c.before.before.before.before.before.before in
+    let s = c in
     let sided = s.requires.inside.sided in
     omega (arith, side-most sided, upper-below sided _ (row-in-half sided s.args.y))
 
@@ -51,7 +51,7 @@ sided l = subst TileSide (sym (side_is l)) (start l).requires.inside.sided
 loop-holds : of.Tie.Need-loop-column-init invariant-loop-column decreases-loop-column
 unfolding row_span
 loop-holds c =
-    let s = c.before.before.before.before.before.before.before.before.before in
+    let s = c in
     let a = s.args in
     let n = a.shape.side in
     let p = row_span a.shape a.reference a.parity a.y a.top in
@@ -77,7 +77,7 @@ output-block-requires c κs =
     let column = l.loop-column.column in
     let taken = f.loop-column-test.true in
     let e = f.further-span.ensures ∙ ap (λ p. further p column) r.ensures.0 in
-    let w = l.before.before.before in
+    let w = l in
     let inside = block_room s.requires.inside.sided a.shape.width column taken in
     record {
       weighed =

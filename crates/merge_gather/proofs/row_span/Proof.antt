@@ -42,7 +42,7 @@ below-most c = omega (arith, above_most c)
 
 add-above : of.Tie.Need-overflow_add-above
 add-above c =
-    let s = c.before.before.before.before in
+    let s = c in
     omega (arith, row-in-half s.requires.sided s.args.y, side-most s.requires.sided)
 
 add-above-2 : of.Tie.Need-overflow_add-above-2
@@ -50,7 +50,7 @@ add-above-2 c = omega (arith, above_most c.before.before.before.before, c.slot.e
 
 add-slot : of.Tie.Need-overflow_add-y
 add-slot c =
-    let s = c.before.before.before.before in
+    let s = c in
     omega (arith, quotient-most s.requires.sided s.args.y, s.requires.row, s.requires.allowed.high.most)
 
 add-below : of.Tie.Need-overflow_add-below

@@ -14,15 +14,15 @@ decreases-loop-j window side i row₀ j₀ row j = side - j
 loop-again : of.Tie.Need-loop-j-preserved invariant-loop-j decreases-loop-j
 loop-again c =
     let w = c.weight-w in
-    let l = c.before.before in
-    let s = l.before in
+    let l = c in
+    let s = l in
     let e : to_z w64 (of_z w64 w.result) ≡ w.result = search rules in
     (weights-turn s.args.side s.args.i l.loop-j.j l.loop-j.invariant.0 (omega (arith, side-most s.requires.sided)) (e ∙ w.ensures.0), omega arith)
 
 returns : of.Tie.Need-returns invariant-loop-j decreases-loop-j
 returns c =
-    let l = c.before in
-    let s = l.before in
+    let l = c in
+    let s = l in
     let all : l.loop-j.j ≡ s.args.side = omega (arith, l.loop-j.invariant.1) in
     weights-done s.args.side s.args.i (subst (λ n. Filled (weight_of s.args.side s.args.i) 64 (2 * n) _ l.loop-j.row) all l.loop-j.invariant.0)
 

@@ -29,7 +29,7 @@ part-requires c κs =
 
 part-requires-2 : of.Tie.Need-part-requires-2
 part-requires-2 c κs =
-    let s = c.before in
+    let s = c in
     let w = s.requires.0 in
     let l = s.args.l in
     record {
@@ -41,7 +41,7 @@ part-requires-2 c κs =
 
 part-requires-3 : of.Tie.Need-part-requires-3
 part-requires-3 c κs =
-    let s = c.before.before in
+    let s = c in
     let w = s.requires.0 in
     let l = s.args.l in
     record {
@@ -53,7 +53,7 @@ part-requires-3 c κs =
 
 part-requires-4 : of.Tie.Need-part-requires-4
 part-requires-4 c κs =
-    let s = c.before.before.before in
+    let s = c in
     let w = s.requires.0 in
     let l = s.args.l in
     record {
@@ -71,7 +71,7 @@ returns c =
     let p = c.part in
     let p2 = c.part-2 in
     let p3 = c.part-3 in
-    let s = c.before.before.before.before in
+    let s = c in
     let a = s.args in
     let back = to_z-of_z (add-result-3 c) in
     let sum =

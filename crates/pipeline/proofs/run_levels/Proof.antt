@@ -14,7 +14,7 @@ align-frames-requires c κs =
 
 merge-frames-requires : of.Tie.Need-merge_frames-requires
 merge-frames-requires c κs =
-    let frames = c.before.before.before.before.before in
+    let frames = c in
     let ready = frames.requires in
     record {
       accepted = record {
@@ -40,8 +40,8 @@ merge-frames-requires c κs =
 
 returns : of.Tie.Need-returns
 returns c =
-    let merge = c.before.before.before.before.before.before in
-    let frames = merge.before.before.before.before.before.before in
+    let merge = c in
+    let frames = merge in
     let aligned = frames.align_frames-totals.ensures in
     let a = frames.args in
     record {

@@ -9,7 +9,7 @@ range-parity-requires c κs = record { lent = c.requires; parity = lit< tt }
 
 range-parity-requires-2 : of.Tie.Need-range_parity-requires-2
 range-parity-requires-2 c κs =
-    let p = c.before.before.before.before.before.before.before.before in
+    let p = c in
     let t = p.requires in
     record {
       lent = record {

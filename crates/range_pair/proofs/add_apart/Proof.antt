@@ -29,13 +29,13 @@ forward-into-requires c κs = (c.requires.differences, paired-grid (λ k l. of_b
 
 wiener-of-requires : of.Tie.Need-wiener_of-low-requires
 wiener-of-requires c κs =
-    let f = c.before in
+    let f = c in
     let p = f.requires in
     record { binned = binned_pair p.differences f.forward_into.ensures; first_most = p.lower_fits.first_most; second_most = p.lower_fits.second_most }
 
 wiener-of-requires-2 : of.Tie.Need-wiener_of-high-requires
 wiener-of-requires-2 c κs =
-    let f = c.before.before.before in
+    let f = c in
     let p = f.requires in
     record { binned = binned_pair p.differences f.forward_into.ensures; first_most = p.upper_fits.first_most; second_most = p.upper_fits.second_most }
 

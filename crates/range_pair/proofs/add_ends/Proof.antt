@@ -9,7 +9,7 @@ add-same-requires c κs =
     record { differences = p.differences; lower_fits = p.lower_fits; upper_fits = p.lower_fits; greatests = p.greatests; leasts = p.leasts }
 
 returns : of.Tie.Need-returns-then-same
-returns c = let t = c.before.before.before in ends-equal (t.same.ensures t.if-same.true) c.add_same.ensures
+returns c = let t = c in ends-equal (t.same.ensures t.if-same.true) c.add_same.ensures
 
 pub add_ends_spec : {M : Type 1} → of.Statement.statement M
 add_ends_spec = of.Tie.close (of.Tie.spec

@@ -23,9 +23,9 @@ decreases-loop-u low high w re₀ im₀ u₀ re im u = 16 - u
 distance-row-requires : of.Tie.Need-distance_row-requires invariant-loop-u decreases-loop-u
 unfolding grid tab
 distance-row-requires c κs =
-    let l = c.before.before.before.before in
-    let a = l.before in
-    let s = a.before in
+    let l = c in
+    let a = l in
+    let s = a in
     record {
       places_most = subst (TileMost apart_most) (sym a.apart_pair-w.ensures) (apart-most s.requires.0 s.requires.1);
       u_below = omega arith;
@@ -35,15 +35,15 @@ distance-row-requires c κs =
 
 loop-again : of.Tie.Need-loop-u-preserved invariant-loop-u decreases-loop-u
 loop-again c =
-    let l = c.before.before.before.before.before in
+    let l = c in
     (fill-turn l.loop-u.invariant.0 (omega arith) c.distance_row.ensures.0, fill-turn l.loop-u.invariant.1 (omega arith) c.distance_row.ensures.1)
 
 widths-requires : of.Tie.Need-widths-requires invariant-loop-u decreases-loop-u
 unfolding grid
 widths-requires c κs =
-    let f = c.before.before.before in
-    let l = f.before.before in
-    let a = l.before in
+    let f = c in
+    let l = f in
+    let a = l in
     let m = subst (TileMost apart_most) (sym a.apart_pair-w.ensures) (apart-most a.requires.0 a.requires.1) in
     record {
       factored = factored f.factors-f.ensures;
@@ -55,9 +55,9 @@ returns : of.Tie.Need-returns invariant-loop-u decreases-loop-u
 unfolding grid
 returns c =
     let f = c.before.before.before.before in
-    let l = f.before.before in
-    let a = l.before in
-    let s = a.before in
+    let l = f in
+    let a = l in
+    let s = a in
     let m = subst (TileMost apart_most) (sym a.apart_pair-w.ensures) (apart-most s.requires.0 s.requires.1) in
     let p = fill_done l.loop-u.invariant.0 (omega arith) in
     let q = fill_done l.loop-u.invariant.1 (omega arith) in

@@ -26,15 +26,15 @@ loop-holds c =
 
 differences-requires : of.Tie.Need-differences-requires invariant-loop-k decreases-loop-k
 differences-requires c κs =
-    let l = c.before.before.before in
-    let s = l.before.before.before in
+    let l = c in
+    let s = l in
     record { accepted = s.requires.accepted; sited = s.requires.sited; frame = omega arith; tile = s.requires.tile; tz_rows = l.loop-k.invariant.tz_rows; d_rows = l.loop-k.invariant.d_rows }
 
 add-ends-requires : of.Tie.Need-add_ends-requires invariant-loop-k decreases-loop-k
 add-ends-requires c κs =
-    let d = c.before.before.before in
-    let l = d.before.before.before.before in
-    let s = l.before.before.before in
+    let d = c in
+    let l = d in
+    let s = l in
     let i = l.loop-k.invariant in
     record {
       differences = subst (TileMost difference_most) (sym d.differences.ensures.0) (tile-most side16 s.requires.accepted s.requires.sited l.loop-k.k (omega arith));
@@ -47,9 +47,9 @@ add-ends-requires c κs =
 loop-again : of.Tie.Need-loop-k-preserved invariant-loop-k decreases-loop-k
 unfolding scene_at
 loop-again c =
-    let d = c.before.before.before.before in
-    let l = d.before.before.before.before in
-    let s = l.before.before.before in
+    let d = c in
+    let l = d in
+    let s = l in
     let i = l.loop-k.invariant in
     let q = s.requires in
     record {

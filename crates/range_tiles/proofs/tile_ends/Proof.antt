@@ -25,7 +25,7 @@ pair-roots-requires : of.Tie.Need-pair_roots-roots-requires
 unfolding cell
 pair-roots-requires c κs =
     let t = c.before.before.before in
-    let s = t.before.before.before.before in
+    let s = t in
     let fits = tile-fits 16 _ (reference-most side16 s.requires.accepted s.requires.sited) (tile_is t) in
     record { most = λ i l. (fits.row i).most l }
 
@@ -48,7 +48,7 @@ summed-requires c κs =
     let n = c.before.before.before in
     let l = n.before in
     let t = l.before.before.before.before.before in
-    let s = t.before.before.before.before in
+    let s = t in
     let p = s.requires in
     record { accepted = p.accepted; sited = p.sited; tile = tile_is t; lower_fits = l.noises-low.ensures.fits; upper_fits = n.noises-high.ensures.fits; cleared = p.cleared }
 
@@ -59,7 +59,7 @@ returns c =
     let l = n.before in
     let r = l.before in
     let t = r.before.before.before.before in
-    let s = t.before.before.before.before in
+    let s = t in
     let a = s.args in
     let few = s.requires.accepted.burst.allowed.few in
     let low = numbers-known r a.m (tile_is t) refl l.noises-low.ensures in

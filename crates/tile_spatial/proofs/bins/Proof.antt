@@ -16,17 +16,17 @@ forward-into-requires-2 c κs = (c.lows.ensures.1, paired-grid (λ k l. of_bits 
 places-requires : of.Tie.Need-places-requires
 places-requires c κs =
     let g = c.before.before in
-    let l = g.before.before.before in
-    let f = l.before in
-    let h = f.before.before.before in
+    let l = g in
+    let f = l in
+    let h = f in
     (in-double h.highs.ensures.1 f.forward_into.ensures, in-double l.lows.ensures.1 g.forward_into-2.ensures)
 
 returns : of.Tie.Need-returns
 returns c =
     let g = c.before.before.before in
-    let l = g.before.before.before in
-    let f = l.before in
-    let h = f.before.before.before in
+    let l = g in
+    let f = l in
+    let h = f in
     let t = h.args.c.now in
     let p = h.highs.ensures in
     let q = l.lows.ensures in (

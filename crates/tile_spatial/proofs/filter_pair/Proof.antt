@@ -11,7 +11,7 @@ use Rattle.tile_spatial.proofs.filter_pair as of
 -- V' of both planes side by side
 noises_most : (n : of.Tie.After-lanes-noises) → NoisesMost spatial_most n.lanes-noises.result
 noises_most n =
-    let s = n.before.before.before.before.before in
+    let s = n in
     lanes-most s.args.first.now s.args.second.now n.lanes-noises.ensures s.requires.first_most s.requires.second_most
 
 -- the step on their bins
@@ -21,13 +21,13 @@ step_is g =
     step_whole (noises_most n) n.bins-w.result g.step-g.ensures
 
 -- P' of both
-steps : (i : of.Tie.After-add_inverse_of) → let n = i.before.before.before.before.before.before in let k = n.before.before.before in let a = k.args in
+steps : (i : of.Tie.After-add_inverse_of) → let n = i.before.before.before.before.before.before in let k = n in let a = k.args in
     i.add_inverse_of.new.sum ≡ grid 16 32 (λ y l. step_at (bin_noise (cell 0 (either a.first.now a.second.now (l % 2)))) (plane_in (cell (pos 0) k.copy_pair-c.result) (l % 2)) y (l / 2))
 unfolding grid tab
 steps i =
     let g = i.before.before.before in
     let n = g.before.before.before in
-    let k = n.before.before.before in
+    let k = n in
     let a = k.args in
     i.add_inverse_of.ensures (step_is g) ∙ steps-are a.first.now a.second.now n.lanes-noises.ensures k.copy_pair-c.result n.bins-w.ensures.0 refl
 
@@ -53,9 +53,9 @@ add-inverse-of-requires c κs =
 add-times-requires : of.Tie.Need-add_times-requires
 add-times-requires c κs =
     let i = c.before.before in
-    let n = i.before.before.before.before.before.before in
-    let k = n.before.before.before in
-    let s = k.before.before in
+    let n = i in
+    let k = n in
+    let s = k in
     record {
       frames_fit = s.requires.frames_fit;
       part = subst (TileMost spatial_correction_most) (sym (steps i)) (steps-most s.args.first.now s.args.second.now n.lanes-noises.ensures k.copy_pair-c.result n.bins-w.ensures.0 s.requires.first_most s.requires.second_most);
@@ -67,7 +67,7 @@ returns : of.Tie.Need-returns
 unfolding copy_in
 returns c =
     let i = c.before.before.before in
-    let k = i.before.before.before.before.before.before.before.before.before in
+    let k = i in
     let a = k.args in
     let noise : ℕ → ℕ → ℕ → ℕ = λ p. cell 0 (either a.first.now a.second.now p) in
     let copied : ℕ → ℕ → ℕ → ℤ = λ p. plane_in (cell (pos 0) k.copy_pair-c.result) p in

@@ -19,9 +19,9 @@ decreases-loop-u w noises g₀ h₀ u₀ g h u = 16 - u
 gain-row-requires : of.Tie.Need-gain_row-requires invariant-loop-u decreases-loop-u
 unfolding grid tab
 gain-row-requires c κs =
-    let n = c.before.before.before in
-    let l = n.before.before in
-    let s = l.before in
+    let n = c in
+    let l = n in
+    let s = l in
     record {
       places_most = s.requires.places_most;
       noises_most = s.requires.noises_most.line n.counted.result;
@@ -32,8 +32,8 @@ gain-row-requires c κs =
 
 loop-again : of.Tie.Need-loop-u-preserved invariant-loop-u decreases-loop-u
 loop-again c =
-    let n = c.before.before.before.before in
-    let l = n.before.before in
+    let n = c in
+    let l = n in
     let a = l.args in
     let row = ap (λ f. get_or a.noises.now f []) n.counted.ensures.0 in (
       fill-turn l.loop-u.invariant.0 (omega arith) (c.gain_row.ensures.0 ∙ ap (λ r. tab 18 (lane_re r a.w.now l.loop-u.u)) row),
@@ -43,8 +43,8 @@ loop-again c =
 folds-requires : of.Tie.Need-folds-requires invariant-loop-u decreases-loop-u
 unfolding grid
 folds-requires c κs =
-    let l = c.before.before.before in
-    let s = l.before in
+    let l = c in
+    let s = l in
     let m = s.requires.noises_most in
     let w = s.args.w.now in
     record {
@@ -55,7 +55,7 @@ folds-requires c κs =
 returns : of.Tie.Need-returns invariant-loop-u decreases-loop-u
 unfolding grid
 returns c =
-    let l = c.before.before.before.before in
+    let l = c in
     let a = l.args in
     c.folds.ensures ∙ spreads-are a.noises.now a.w.now (fill_done l.loop-u.invariant.0 (omega arith)) (fill_done l.loop-u.invariant.1 (omega arith))
 

@@ -4,7 +4,7 @@ use Rattle.c_api.proofs.align.stacker_align as of
 
 returns : of.Tie.Need-returns
 returns c =
-    let a = c.before.before in
+    let a = c in
     rw a.shape_of.ensures at a.align.ensures
 
 pub stacker_align_spec : {M : Type 1} → of.Statement.statement M

@@ -4,8 +4,8 @@ use Rattle.c_api.proofs.band.stacker_merge_band as of
 
 returns : of.Tie.Need-returns
 returns c =
-    let m = c.before.before.before in
-    let t = m.before.before.before in
+    let m = c in
+    let t = m in
     rw (t.shape_of.ensures, t.measured.ensures, t.tuned.ensures) at m.merge_band.ensures
 
 pub stacker_merge_band_spec : {M : Type 1} → of.Statement.statement M

@@ -4,8 +4,8 @@ use Rattle.c_api.proofs.choose.stacker_run_sharpest_iso as of
 
 returns : of.Tie.Need-returns
 returns c =
-    let m = c.before.before.before.before in
-    let t = m.before.before.before.before in
+    let m = c in
+    let t = m in
     rw (t.shape_of.ensures, t.at_iso.ensures, t.tuned.ensures, t.of_frames-burst.ensures) at m.run_sharpest.ensures
 
 pub stacker_run_sharpest_iso_spec : {M : Type 1} → of.Statement.statement M

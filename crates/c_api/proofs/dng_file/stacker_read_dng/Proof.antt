@@ -4,8 +4,8 @@ use Rattle.c_api.proofs.dng_file.stacker_read_dng as of
 
 returns : of.Tie.Need-returns
 returns c =
-    let r = c.before.before in
-    let s = r.before.before in
+    let r = c in
+    let s = r in
     rw (s.shape_of-shape.ensures, s.of_frames.ensures) at r.read_dng.ensures
 
 pub stacker_read_dng_spec : {M : Type 1} → of.Statement.statement M

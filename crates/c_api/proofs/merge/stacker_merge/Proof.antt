@@ -4,8 +4,8 @@ use Rattle.c_api.proofs.merge.stacker_merge as of
 
 returns : of.Tie.Need-returns
 returns c =
-    let m = c.before.before.before in
-    let t = m.before.before.before in
+    let m = c in
+    let t = m in
     rw (t.shape_of.ensures, t.measured.ensures, t.tuned.ensures) at m.merge.ensures
 
 pub stacker_merge_spec : {M : Type 1} → of.Statement.statement M

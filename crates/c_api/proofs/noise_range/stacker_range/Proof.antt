@@ -4,9 +4,9 @@ use Rattle.c_api.proofs.noise_range.stacker_range as of
 
 returns : of.Tie.Need-returns
 returns c =
-    let m = c.before.before.before.before.before in
-    let t = m.before.before.before.before in
-    let u = t.before in
+    let m = c in
+    let t = m in
+    let u = t in
     rw (u.shape_of.ensures, u.measured.ensures, u.measured-2.ensures, t.tuned.ensures) at m.range.ensures
 
 pub stacker_range_spec : {M : Type 1} → of.Statement.statement M

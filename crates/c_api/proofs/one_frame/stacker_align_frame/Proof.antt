@@ -4,7 +4,7 @@ use Rattle.c_api.proofs.one_frame.stacker_align_frame as of
 
 returns : of.Tie.Need-returns
 returns c =
-    let a = c.before.before in
+    let a = c in
     rw a.shape_of.ensures at a.align_frame.ensures
 
 pub stacker_align_frame_spec : {M : Type 1} → of.Statement.statement M

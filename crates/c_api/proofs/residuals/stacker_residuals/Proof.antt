@@ -4,7 +4,7 @@ use Rattle.c_api.proofs.residuals.stacker_residuals as of
 
 returns : of.Tie.Need-returns
 returns c =
-    let a = c.before.before.before in
+    let a = c in
     rw a.shape_of.ensures at a.residuals.ensures
 
 pub stacker_residuals_spec : {M : Type 1} → of.Statement.statement M

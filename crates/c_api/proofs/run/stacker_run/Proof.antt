@@ -4,8 +4,8 @@ use Rattle.c_api.proofs.run.stacker_run as of
 
 returns : of.Tie.Need-returns
 returns c =
-    let m = c.before.before.before.before in
-    let t = m.before.before.before.before in
+    let m = c in
+    let t = m in
     rw (t.shape_of.ensures, t.measured.ensures, t.tuned.ensures) at m.run.ensures
 
 pub stacker_run_spec : {M : Type 1} → of.Statement.statement M

@@ -60,23 +60,23 @@ module _ (m : Merge) (samples : List ℕ) (vectors : List ℤ) {rowParity row : 
 
 returns : of.Tie.Need-returns-then-parity-eq0
 returns c =
-    let s = c.before.before.before.before.before.before.before in
+    let s = c in
     wide_row s.args.m s.args.samples.now s.args.vectors.now c.if-m-eq32.true c.if-parity-eq0.true c.correction_row.ensures
 
 returns-2 : of.Tie.Need-returns-then-m-eq32
 returns-2 c =
-    let s = c.before.before.before.before.before.before.before in
+    let s = c in
     let one : s.args.parity ≡ 1 = omega (arith, s.requires.parity, c.if-parity-eq0.false) in
     wide_row s.args.m s.args.samples.now s.args.vectors.now c.if-m-eq32.true one c.correction_row-then-m-eq32.ensures
 
 returns-3 : of.Tie.Need-returns-then-parity-eq0-2
 returns-3 c =
-    let s = c.before.before.before.before.before.before.before in
+    let s = c in
     narrow-row s.args.m s.args.samples.now s.args.vectors.now (sixteen s.requires.accepted.burst.sided c.if-m-eq32.false) c.if-parity-eq0-2.true c.correction_row-then-parity-eq0-2.ensures
 
 returns-4 : of.Tie.Need-returns
 returns-4 c =
-    let s = c.before.before.before.before.before.before.before in
+    let s = c in
     let one : s.args.parity ≡ 1 = omega (arith, s.requires.parity, c.if-parity-eq0-2.false) in
     narrow-row s.args.m s.args.samples.now s.args.vectors.now (sixteen s.requires.accepted.burst.sided c.if-m-eq32.false) one c.correction_row-2.ensures
 

@@ -11,13 +11,13 @@ decreases-loop-i m samples vectors parity first band output₀ work shape half t
 
 add-first : of.Tie.Need-overflow_add-band invariant-loop-i decreases-loop-i
 add-first c =
-    let s = c.before.before in
+    let s = c in
     let ok = s.requires.accepted.burst in
     omega (arith, band-most ok.sided s.args.m.shape.height s.args.band ok.allowed.high.most s.requires.band_below)
 
 mul-top : of.Tie.Need-overflow_mul-top invariant-loop-i decreases-loop-i
 mul-top c =
-    let s = c.before.before.before.before.before.before.before.before in
+    let s = c in
     let ok = s.requires.accepted.burst in
     omega (arith, top-most ok.sided s.args.m.shape.height s.args.first s.args.band ok.allowed.high.most s.requires.from_first s.requires.band_below)
 
@@ -27,14 +27,14 @@ halves s = let ok = s.requires.accepted.burst in half-most ok.sided s.args.m.sha
 
 loop-holds : of.Tie.Need-loop-i-init invariant-loop-i decreases-loop-i
 loop-holds c =
-    let r = c.before.before.before.before in
-    let s = r.before.before.before.before in
+    let r = c in
+    let s = r in
     band-start r.correction_row.ensures s.requires.room s.requires.held
 
 output-row-requires : of.Tie.Need-output_row-requires invariant-loop-i decreases-loop-i
 output-row-requires c κs =
-    let l = c.before.before.before in
-    let s = l.before.before.before.before.before.before.before.before.before in
+    let l = c in
+    let s = l in
     let w = l.loop-i.invariant in
     let ok = s.requires.accepted in
     record {
@@ -46,8 +46,8 @@ output-row-requires c κs =
 
 loop-again : of.Tie.Need-loop-i-preserved invariant-loop-i decreases-loop-i
 loop-again c =
-    let l = c.before.before.before.before.before.before in
-    let s = l.before.before.before.before.before.before.before.before.before in
+    let l = c in
+    let s = l in
     band-turn s.requires.accepted s.requires.parity s.requires.from_first s.requires.band_below l.loop-i.invariant (omega arith) s.requires.output_room c.output_row.ensures
 
 returns : of.Tie.Need-returns invariant-loop-i decreases-loop-i

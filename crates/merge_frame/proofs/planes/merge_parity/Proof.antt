@@ -17,15 +17,15 @@ bands t = by_side t (λ n. (first band last : ℕ) → band < last → n * band 
 
 loop-holds : of.Tie.Need-loop-band-init invariant-loop-band decreases-loop-band
 loop-holds c =
-    let r = c.before in
-    let s = r.before.before.before.before in
+    let r = c in
+    let s = r in
     (parity-start r.correction_row.ensures s.requires.lent.room, refl, s.requires.lent.ordered)
 
 merge-band-requires : of.Tie.Need-merge_band-requires invariant-loop-band decreases-loop-band
 merge-band-requires c κs =
-    let l = c.before.before.before in
-    let r = l.before.before in
-    let s = r.before.before.before.before in
+    let l = c in
+    let r = l in
+    let s = r in
     let w = l.loop-band.invariant in
     let lent = s.requires.lent in
     let n = s.args.m.shape.side in
@@ -42,14 +42,14 @@ merge-band-requires c κs =
 
 loop-again : of.Tie.Need-loop-band-preserved invariant-loop-band decreases-loop-band
 loop-again c =
-    let l = c.before.before.before.before.before.before.before in
+    let l = c in
     let b = c.merge_band in
     (parity-turn l.loop-band.invariant.0 b.ensures, b.kept.1.1.1.1.1.1.1.0 ∙ l.loop-band.invariant.1, omega arith)
 
 returns : of.Tie.Need-returns invariant-loop-band decreases-loop-band
 returns c =
-    let l = c.before in
-    let s = l.before.before.before.before.before.before in
+    let l = c in
+    let s = l in
     let all : l.loop-band.band ≡ s.args.last = omega (arith, l.loop-band.invariant.2) in
     subst (λ n. RowsMerged (scene_of s.args.m s.args.samples.now s.args.vectors.now) (s.args.m.shape.side * s.args.first) s.args.parity (s.args.m.shape.side / 2 * s.args.first) (s.args.m.shape.side / 2 * n) s.args.output.now l.loop-band.output) all
     l.loop-band.invariant.0.rows

@@ -19,15 +19,15 @@ loop-holds c = record { sums = sum-start refl (omega arith) c.requires.cleared; 
 
 differences-requires : of.Tie.Need-differences-requires invariant-loop-k decreases-loop-k
 differences-requires c κs =
-    let l = c.before.before.before in
-    let s = l.before.before.before in
+    let l = c in
+    let s = l in
     record { accepted = s.requires.accepted; sited = s.requires.sited; frame = omega arith; tile = s.requires.tile.is; tz_rows = l.loop-k.invariant.tz_rows; d_rows = l.loop-k.invariant.d_rows }
 
 add-corrections-requires : of.Tie.Need-add_corrections-requires invariant-loop-k decreases-loop-k
 add-corrections-requires c κs =
-    let d = c.before.before in
-    let l = d.before.before.before.before in
-    let s = l.before.before.before in
+    let d = c in
+    let l = d in
+    let s = l in
     record {
       differences = subst (TileMost difference_most) (sym d.differences.ensures.0) (tile-most side16 s.requires.accepted s.requires.sited l.loop-k.k (omega arith));
       first_most = s.requires.tile.first_most;
@@ -39,9 +39,9 @@ add-corrections-requires c κs =
 loop-again : of.Tie.Need-loop-k-preserved invariant-loop-k decreases-loop-k
 unfolding scene_at
 loop-again c =
-    let d = c.before.before.before in
-    let l = d.before.before.before.before in
-    let s = l.before.before.before in
+    let d = c in
+    let l = d in
+    let s = l in
     record {
       sums = sum-turn l.loop-k.invariant.sums (omega arith) side16 refl s.args.first s.args.second s.requires.tile.number d.differences.ensures.0 c.add_corrections.ensures
           (λ p h. correction-small _ (subst (λ n. n ≤ noise_most) (s.requires.tile.number p h) (cond_cases (λ n. n ≤ noise_most) (eqb p 0) s.requires.tile.first_most s.requires.tile.second_most)) _);

@@ -26,8 +26,8 @@ spatial-numbers-requires-2 c κs = range c.requires.tuned c.requires.second_most
 
 filter-pair-requires : of.Tie.Need-filter_pair-requires
 filter-pair-requires c κs =
-    let b = c.before.before.before in
-    let a = b.before in
+    let b = c in
+    let a = b in
     let p = a.requires in
     record {
       frames_fit = record { some = p.tuned.some; few = p.tuned.few };
@@ -47,9 +47,9 @@ either_number f first second {a} {b} d e =
 
 returns : of.Tie.Need-returns
 returns c =
-    let b = c.before.before.before.before in
-    let a = b.before in
-    let s = a.before in
+    let b = c in
+    let a = b in
+    let s = a in
     let g = s.args in
     let m = g.m in
     let n = m.shape.count in

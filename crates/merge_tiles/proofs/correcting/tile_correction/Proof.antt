@@ -22,7 +22,7 @@ pair-roots-requires : of.Tie.Need-pair_roots-roots-requires
 unfolding cell
 pair-roots-requires c κs =
     let t = c.before.before.before in
-    let s = t.before.before.before.before in
+    let s = t in
     let fits = tile-fits 16 _ (reference-most side16 s.requires.accepted s.requires.sited) (tile_is t) in
     record { most = λ i l. (fits.row i).most l }
 
@@ -52,14 +52,14 @@ known c =
 summed-requires : of.Tie.Need-summed-requires
 summed-requires c κs =
     let n = c.before.before in
-    let s = n.before.before.before.before.before.before.before.before.before.before in
+    let s = n in
     record { accepted = s.requires.accepted; sited = s.requires.sited; tile = known n; cleared = s.requires.cleared }
 
 returns : of.Tie.Need-returns-then-m-eq0
 unfolding scene_at
 returns c =
-    let u = c.before.before in
-    let s = u.before.before.before.before.before.before.before.before.before.before.before.before.before in
+    let u = c in
+    let s = u in
     let few = s.requires.accepted.burst.allowed.few in
     taken-off _ _ c.if-m-eq0.true 16 small_most (omega arith) (lit≤ tt) u.summed.ensures
 
@@ -77,7 +77,7 @@ filter-sums-requires c κs =
     let n = u.before.before.before in
     let r = n.before.before in
     let t = r.before.before.before.before in
-    let s = t.before.before.before.before in
+    let s = t in
     let fits = tile-fits 16 _ (reference-most side16 s.requires.accepted s.requires.sited) (tile_is t) in
     record {
       tuned = tuned s.requires.accepted;
@@ -94,7 +94,7 @@ returns-2 c =
     let n = u.before.before.before in
     let r = n.before.before in
     let t = r.before.before.before.before in
-    let s = t.before.before.before.before in
+    let s = t in
     let a = s.args in
     let k = tuned s.requires.accepted in
     let range : (root : ℕ) → root ≤ 65520 → SpatialRange a.m.tuning.spatial a.m.shot a.m.read root a.m.shape.count =

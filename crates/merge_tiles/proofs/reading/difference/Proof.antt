@@ -11,7 +11,7 @@ decreases-loop-i t0 tz d₀ i₀ d i = 16 - i
 
 difference-row-requires : of.Tie.Need-difference_row-requires invariant-loop-i decreases-loop-i
 difference-row-requires c κs =
-    let l = c.before.before.before in
+    let l = c in
     (l.requires.reference.row l.loop-i.i, l.requires.other.row l.loop-i.i)
 
 loop-again : of.Tie.Need-loop-i-preserved invariant-loop-i decreases-loop-i

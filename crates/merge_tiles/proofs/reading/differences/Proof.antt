@@ -7,13 +7,13 @@ use Rattle.merge_tiles.proofs.reading.differences as of
 
 vector-place-requires : of.Tie.Need-vector_place-place-requires
 vector-place-requires c κs =
-    let s = c.before.before in
+    let s = c in
     let ok = s.requires.accepted in
     record { allowed = ok.burst.allowed; sided = ok.burst.sided; other = s.requires.frame; row_in = site-row ok s.requires.sited; column-in = site-column ok s.requires.sited }
 
 pair-requires : of.Tie.Need-pair-requires
 pair-requires c κs =
-    let s = c.before.before.before.before.before.before.before in
+    let s = c in
     let v = s.requires.accepted.vectors_fit in
     record { sampled = search rules; frame_below = search rules; sited = s.requires.sited; down_most = rw (part-is v _) (part-most v _); right_most = rw (part-is v _) (part-most v _); rows = s.requires.tz_rows }
 
@@ -21,8 +21,8 @@ pair-requires c κs =
 other-is : (c : of.Tie.After-pair) → let a = c.args in
     c.pair.new.tile ≡ grid 16 32 (side_by_side (λ p. at_site (other_tile (scene_at side16 a.m a.samples.now a.vectors.now)) a.site p a.k))
 other-is c =
-    let place = c.before.before.before.before.before in
-    let s = place.before.before.before in
+    let place = c in
+    let s = place in
     let v = s.requires.accepted.vectors_fit in
     c.pair.ensures
     ∙ other-pair-is 16 side16 s.args.m s.args.samples.now s.args.vectors.now _ _ _ s.args.k
@@ -31,7 +31,7 @@ other-is c =
 difference-requires : of.Tie.Need-difference-requires
 difference-requires c κs =
     let tz = c.before.before in
-    let s = tz.before.before.before.before.before.before.before.before in
+    let s = tz in
     let ok = s.requires.accepted in
     record {
       reference = tile-fits 16 _ (reference-most side16 ok s.requires.sited) s.requires.tile;
@@ -42,7 +42,7 @@ difference-requires c κs =
 returns : of.Tie.Need-returns
 returns c =
     let tz = c.before.before.before in
-    let s = tz.before.before.before.before.before.before.before.before in
+    let s = tz in
     (c.difference.ensures ∙ difference-grid 16 (scene_at side16 s.args.m s.args.samples.now s.args.vectors.now) _ _ _ _ s.requires.tile (other-is tz), pair-rows 16 _ (other-is tz))
 
 pub differences_spec : {M : Type 1} → of.Statement.statement M

@@ -13,17 +13,17 @@ decreases-loop-i work₀ at tile from i₀ work i = 16 - i
 loop-again : of.Tie.Need-loop-i-preserved invariant-loop-i decreases-loop-i
 unfolding cell
 loop-again c =
-    let l = c.before.before.before.before.before in
+    let l = c in
     (spread-turn tt l.loop-i.invariant.0 (omega (arith, l.requires.0, l.loop-i.invariant.0.same)) c.store_block.ensures, omega arith)
 
 store-block-requires : of.Tie.Need-store_block-requires invariant-loop-i decreases-loop-i
 store-block-requires c κs =
-    let l = c.before.before.before in
+    let l = c in
     (omega (arith, l.requires.0, l.loop-i.invariant.0.same), l.requires.1)
 
 returns : of.Tie.Need-returns invariant-loop-i decreases-loop-i
 returns c =
-    let l = c.before in
+    let l = c in
     let all : l.loop-i.i ≡ 16 = omega (arith, l.loop-i.invariant.1) in
     subst (λ n. Spread (Unit {0}) (λ i j. cell (pos 0) l.args.tile.now i (l.args.from + j)) l.args.at 16 16 n l.args.work.now l.loop-i.work) all
     l.loop-i.invariant.0

@@ -19,7 +19,7 @@ pair-roots-requires : of.Tie.Need-pair_roots-roots-requires
 unfolding cell
 pair-roots-requires c κs =
     let t = c.before.before.before in
-    let s = t.before.before.before.before in
+    let s = t in
     let fits = tile-fits 32 _ (reference-most side32 s.requires.accepted s.requires.sited) (tile_is t) in
     record { most = λ i l. (fits.row i).most l }
 
@@ -37,13 +37,13 @@ known c =
 summed-requires : of.Tie.Need-summed-requires
 summed-requires c κs =
     let n = c.before.before in
-    let s = n.before.before.before.before.before.before.before.before.before.before in
+    let s = n in
     record { accepted = s.requires.accepted; sited = s.requires.sited; tile = known n; cleared = s.requires.cleared }
 
 returns : of.Tie.Need-returns
 unfolding scene_at
 returns c =
-    let s = c.before.before.before.before.before.before.before.before.before.before.before.before.before in
+    let s = c in
     let ok = s.requires.accepted in
     let few = ok.burst.allowed.few in
     taken-off _ _ (ok.unfiltered ok.side_is) 32 long_small_most (omega (arith, few)) (lit≤ tt) c.summed.ensures

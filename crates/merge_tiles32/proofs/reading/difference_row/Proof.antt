@@ -11,7 +11,7 @@ decreases-loop-j a b row₀ j₀ row j = 64 - j
 
 minus-requires : of.Tie.Need-minus-requires invariant-loop-j decreases-loop-j
 minus-requires c κs =
-    let l = c.before.before.before in
+    let l = c in
     (l.requires.0.most l.loop-j.j, l.requires.1.most l.loop-j.j)
 
 loop-again : of.Tie.Need-loop-j-preserved invariant-loop-j decreases-loop-j

@@ -9,7 +9,7 @@ use Rattle.merge_tiles32.proofs.reading.pair as of
 returns : of.Tie.Need-returns
 unfolding pair_of tile_at side32
 returns c =
-    let s = c.before.before.before.before.before in
+    let s = c in
     let a = s.args in
     let y = c.moved-y in
     let x = c.moved-x in

@@ -15,7 +15,7 @@ thirty_two = record { is = inr refl }
 
 -- the pairs of a row
 columns-are : (c : of.Tie.After-tile_columns-columns invariant-loop-column decreases-loop-column) → c.tile_columns-columns.result ≡ c.args.m.shape.width / 32 + 1
-columns-are c = let s = c.before.before.before.before in c.tile_columns-columns.ensures.0 ∙ ap (λ n. s.args.m.shape.width / n + 1) s.requires.accepted.side_is
+columns-are c = let s = c in c.tile_columns-columns.ensures.0 ∙ ap (λ n. s.args.m.shape.width / n + 1) s.requires.accepted.side_is
 
 loop-holds : of.Tie.Need-loop-column-init invariant-loop-column decreases-loop-column
 unfolding scene_at
@@ -24,7 +24,7 @@ loop-holds c = store-start 32 _ _ _ _ (omega (arith, c.slot-start.ensures))
 tile-correction-requires : of.Tie.Need-tile_correction-requires invariant-loop-column decreases-loop-column
 unfolding grid tab
 tile-correction-requires c κs =
-    let s = c.before.before.before.before.before.before.before in
+    let s = c in
     record {
       accepted = s.requires.accepted;
       sited = record { parity = s.requires.parity; row = s.requires.row-most; column = omega (arith, columns-are c.before.before.before) };

@@ -20,14 +20,14 @@ part-is width work = take_all (length work - 64 * width) (drop (64 * width) work
 
 output-row-requires-2 : of.Tie.Need-output_row-requires-2
 output-row-requires-2 c κs =
-    let s = c.before.before.before.before.before.before.before.before.before.before in
+    let s = c in
     let a = s.args in
     subst (RowReady a.shape a.reference a.parity a.y 0 (length a.samples.now) (length a.high.now)) (sym (part-is a.shape.width a.work.now)) s.requires.high_ready
 
 returns : of.Tie.Need-returns
 returns c =
-    let r = c.before.before in
-    let q = r.before.before.before.before.before in
+    let r = c in
+    let q = r in
     let a = q.args in
     record { low_is = q.output_row.ensures; high_is = r.output_row-2.ensures ∙ ap (λ w. row_written a.high.now a.samples.now w a.shape a.reference a.parity a.y 0) (part-is a.shape.width a.work.now) }
 

@@ -17,7 +17,7 @@ band-most s = omega (arith, s.requires.band_below, s.requires.lent.accepted.burs
 
 end-row-requires : of.Tie.Need-end_row-requires invariant-loop-i decreases-loop-i
 end-row-requires c κs =
-    let s = c.before.before.before.before in
+    let s = c in
     let l = s.requires.lent in
     record { accepted = l.accepted; upper_fits = l.upper_fits; parity = s.requires.parity; row-most = omega (arith, s.requires.band_below); room = l.room }
 
@@ -28,9 +28,9 @@ output-rows-requires : of.Tie.Need-output_rows-requires invariant-loop-i decreas
 unfolding scene_at
 output-rows-requires c κs =
     let i = c.before.before.before in
-    let l = i.before in
-    let r = l.before.before.before in
-    let s = r.before.before.before.before.before in
+    let l = i in
+    let r = l in
+    let s = r in
     let a = s.args in
     let t = s.requires.lent in
     let above = ends-kept r.End-row.ensures s.requires.held in
@@ -46,34 +46,34 @@ output-rows-requires c κs =
 loop-again : of.Tie.Need-loop-i-preserved invariant-loop-i decreases-loop-i
 loop-again c =
     let o = c.before.before.before.before in
-    let i = o.before.before.before.before in
-    let l = i.before in
-    let s = l.before.before.before.before.before.before.before.before in
+    let i = o in
+    let l = i in
+    let s = l in
     let t = s.requires.lent in
     band-turn t.accepted s.requires.parity s.requires.band_below i.loop-i-test.true t.low_long t.high_long l.loop-i.invariant o.output_rows.ensures.low_is o.output_rows.ensures.high_is
 
 same_length : of.Tie.Need-shape_of-low invariant-loop-i decreases-loop-i
 unfolding scene_at
 same_length c =
-    let l = c.before in
-    let r = l.before.before.before in
-    let s = r.before.before.before.before.before in
+    let l = c in
+    let r = l in
+    let s = r in
     (l.loop-i.invariant.rows s.args.upper (ends-kept r.End-row.ensures s.requires.held) (ends_held r.End-row.ensures s.requires.lent.room)).lows.toward.same
 
 same-length-2 : of.Tie.Need-shape_of-high invariant-loop-i decreases-loop-i
 unfolding scene_at
 same-length-2 c =
-    let l = c.before in
-    let r = l.before.before.before in
-    let s = r.before.before.before.before.before in
+    let l = c in
+    let r = l in
+    let s = r in
     (l.loop-i.invariant.rows s.args.upper (ends-kept r.End-row.ensures s.requires.held) (ends_held r.End-row.ensures s.requires.lent.room)).highs.toward.same
 
 returns : of.Tie.Need-returns invariant-loop-i decreases-loop-i
 unfolding scene_at
 returns c =
-    let l = c.before in
-    let r = l.before.before.before in
-    let s = r.before.before.before.before.before in
+    let l = c in
+    let r = l in
+    let s = r in
     let a = s.args in
     let under = ends_held r.End-row.ensures s.requires.lent.room in
     let all : 8 * a.band + l.loop-i.i ≡ 8 * a.band + 8 = omega (arith, l.loop-i.invariant.count) in

@@ -19,23 +19,23 @@ decreases-loop-band m upper samples vectors parity low₀ high₀ work₀ bands 
 
 end-row-requires : of.Tie.Need-end_row-requires invariant-loop-band decreases-loop-band
 end-row-requires c κs =
-    let s = c.before.before.before.before in
+    let s = c in
     let l = s.requires.lent in
     record { accepted = l.accepted; upper_fits = l.upper_fits; parity = s.requires.parity; row-most = omega arith; room = l.room }
 
 loop-holds : of.Tie.Need-loop-band-init invariant-loop-band decreases-loop-band
 unfolding scene_at
 loop-holds c =
-    let r = c.before.before in
-    let s = r.before.before.before.before.before in
+    let r = c in
+    let s = r in
     record { rows = ranged-start; held = ends_held r.End-row.ensures s.requires.lent.room; long = refl; most = omega arith }
 
 range-band-requires : of.Tie.Need-range_band-requires invariant-loop-band decreases-loop-band
 range-band-requires c κs =
     let i = c.before.before.before in
-    let l = i.before in
-    let r = l.before.before.before in
-    let s = r.before.before.before.before.before in
+    let l = i in
+    let r = l in
+    let s = r in
     let t = s.requires.lent in
     let w = l.loop-band.invariant in
     record {
@@ -54,9 +54,9 @@ range-band-requires c κs =
 loop-again : of.Tie.Need-loop-band-preserved invariant-loop-band decreases-loop-band
 loop-again c =
     let b = c.before.before.before.before.before in
-    let i = b.before.before.before.before in
-    let l = i.before in
-    let s = l.before.before.before.before.before.before.before.before in
+    let i = b in
+    let l = i in
+    let s = l in
     let a = s.args in
     let w = l.loop-band.invariant in
     record {
@@ -68,8 +68,8 @@ loop-again c =
 
 returns : of.Tie.Need-returns invariant-loop-band decreases-loop-band
 returns c =
-    let l = c.before in
-    let s = l.before.before.before.before.before.before.before.before in
+    let l = c in
+    let s = l in
     let a = s.args in
     let all : l.loop-band.band ≡ a.m.shape.height / 16 = omega (arith, l.loop-band.invariant.most) in
     subst (λ n. at_noises RowsRanged a.m a.upper a.samples.now a.vectors.now a.parity 0 (8 * n) a.low.now l.loop-band.low a.high.now l.loop-band.high) all l.loop-band.invariant.rows

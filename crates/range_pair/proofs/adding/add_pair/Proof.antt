@@ -13,8 +13,8 @@ decreases-loop-y p sum₀ y₀ sum y = 16 - y
 
 add-row-requires : of.Tie.Need-add_row-requires invariant-loop-y decreases-loop-y
 add-row-requires c κs =
-    let l = c.before.before.before in
-    let s = l.before in
+    let l = c in
+    let s = l in
     let y = l.loop-y.y in
     let e = fill-rest l.loop-y.invariant (omega arith) [] in
     let p = s.requires.sums in
@@ -23,7 +23,7 @@ add-row-requires c κs =
 loop-again : of.Tie.Need-loop-y-preserved invariant-loop-y decreases-loop-y
 unfolding cell
 loop-again c =
-    let l = c.before.before.before.before in
+    let l = c in
     let a = l.args in
     fill-turn l.loop-y.invariant (omega arith)
     (c.add_row.ensures ∙ ap (λ r. row_plus r (λ k. get_or (get_or a.p.now l.loop-y.y []) k (pos 0))) (fill-rest l.loop-y.invariant (omega arith) []))

@@ -13,14 +13,14 @@ decreases-loop-l p sum₀ l₀ sum l = 32 - l
 
 add-sum : of.Tie.Need-overflow_add-sum invariant-loop-l decreases-loop-l
 add-sum c =
-    let l = c.before.before.before in
-    let s = l.before in
+    let l = c in
+    let s = l in
     adding-fits l.loop-l.invariant (omega arith) s.requires.sums.most (line_at s.requires.part l.loop-l.l) tt tt
 
 loop-again : of.Tie.Need-loop-l-preserved invariant-loop-l decreases-loop-l
 loop-again c =
-    let l = c.before.before.before in
-    let s = l.before in
+    let l = c in
+    let s = l in
     adding-turn l.loop-l.invariant (omega arith) s.requires.sums.most (line_at s.requires.part l.loop-l.l) tt tt refl
 
 pub add_row_spec : {M : Type 1} → of.Statement.statement M

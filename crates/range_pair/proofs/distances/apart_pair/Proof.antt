@@ -13,7 +13,7 @@ decreases-loop-k a b r₀ k₀ r k = 16 - k
 
 apart-row-requires : of.Tie.Need-apart_row-requires invariant-loop-k decreases-loop-k
 apart-row-requires c κs =
-    let l = c.before.before.before in
+    let l = c in
     (whole_row l.requires.0 l.loop-k.k (omega arith), whole_row l.requires.1 l.loop-k.k (omega arith))
 
 loop-again : of.Tie.Need-loop-k-preserved invariant-loop-k decreases-loop-k

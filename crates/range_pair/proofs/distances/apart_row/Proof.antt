@@ -13,12 +13,12 @@ decreases-loop-l a b r₀ l₀ r l = 32 - l
 
 apart-requires : of.Tie.Need-apart-requires invariant-loop-l decreases-loop-l
 apart-requires c κs =
-    let l = c.before.before.before in
+    let l = c in
     (whole_at l.requires.0 l.loop-l.l (omega arith), whole_at l.requires.1 l.loop-l.l (omega arith))
 
 loop-again : of.Tie.Need-loop-l-preserved invariant-loop-l decreases-loop-l
 loop-again c =
-    let l = c.before.before.before.before in
+    let l = c in
     let e : to_z w64 (of_z w64 c.apart.result) ≡ c.apart.result = search rules in
     fill-turn l.loop-l.invariant (omega arith) (e ∙ c.apart.ensures)
 

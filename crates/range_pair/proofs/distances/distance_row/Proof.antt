@@ -21,27 +21,27 @@ loop-holds c = (fill_start c.requires.re_long, fill_start c.requires.im_long)
 
 bin-re-requires : of.Tie.Need-bin_re-a-requires invariant-loop-l decreases-loop-l
 bin-re-requires c κs =
-    let s = c.before.before in
+    let s = c in
     record { places_most = wider s.requires.places_most; u_below = s.requires.u_below; l_below = omega arith }
 
 bin-im-requires : of.Tie.Need-bin_im-b-requires invariant-loop-l decreases-loop-l
 bin-im-requires c κs =
-    let s = c.before.before.before in
+    let s = c in
     record { places_most = wider s.requires.places_most; u_below = s.requires.u_below; l_below = omega arith }
 
 distance-requires : of.Tie.Need-distance-requires invariant-loop-l decreases-loop-l
 distance-requires c κs =
-    let a = c.before in
-    let l = a.before.before in
-    let s = l.before in
+    let a = c in
+    let l = a in
+    let s = l in
     subst (AtMost (2 * apart_most)) (sym (number_is w64 a.bin_re-a.ensures.1 tt ∙ a.bin_re-a.ensures.0))
     (record { most = lines-re-most s.requires.places_most (l.loop-l.l % 2) s.args.u (l.loop-l.l / 2) })
 
 distance-requires-2 : of.Tie.Need-distance-requires-in-loop-l invariant-loop-l decreases-loop-l
 distance-requires-2 c κs =
-    let b = c.before in
-    let l = b.before.before.before in
-    let s = l.before in
+    let b = c in
+    let l = b in
+    let s = l in
     subst (AtMost (2 * apart_most)) (sym (number_is w64 b.bin_im-b.ensures.1 tt ∙ b.bin_im-b.ensures.0))
     (record { most = lines-im-most s.requires.places_most (l.loop-l.l % 2) s.args.u (l.loop-l.l / 2) })
 
@@ -49,9 +49,9 @@ loop-again : of.Tie.Need-loop-l-preserved invariant-loop-l decreases-loop-l
 unfolding distance_re distance_im
 loop-again c =
     let g = c.before in
-    let b = g.before in
-    let a = b.before in
-    let l = a.before.before in
+    let b = g in
+    let a = b in
+    let l = a in
     let u = l.args.u in
     let re = number_is w64 a.bin_re-a.ensures.1 tt ∙ a.bin_re-a.ensures.0 in
     let im = number_is w64 b.bin_im-b.ensures.1 tt ∙ b.bin_im-b.ensures.0 in (

@@ -32,9 +32,9 @@ whole-halves-of-requires-2 c κs = c.requires.high_in
 
 add-row-requires : of.Tie.Need-add_row-requires
 add-row-requires c κs =
-    let b = c.before.before.before.before in
-    let a = b.before in
-    let s = a.before in
+    let b = c in
+    let a = b in
+    let s = a in
     let p = s.requires in
     record {
       low_in = halves_most side16 half-sum-most p.low_in (a.whole_halves_of-a.ensures p.low_in);
@@ -46,9 +46,9 @@ add-row-requires c κs =
 
 returns : of.Tie.Need-returns
 returns c =
-    let b = c.before.before.before.before.before in
-    let a = b.before in
-    let s = a.before in
+    let b = c in
+    let a = b in
+    let s = a in
     let p = a.whole_halves_of-a.ensures s.requires.low_in in
     let q = b.whole_halves_of-b.ensures s.requires.high_in in
     record {

@@ -20,7 +20,7 @@ loop-holds c = (fill_start (grid-rows 16 32 _ c.requires.greatests.paired.is), f
 
 add-line-requires : of.Tie.Need-add_line-requires invariant-loop-y decreases-loop-y
 add-line-requires c κs =
-    let l = c.before.before.before.before.before.before in
+    let l = c in
     let p = l.requires in
     let y = l.loop-y.y in
     let d = fill-rest l.loop-y.invariant.0 (omega arith) [] in
@@ -36,7 +36,7 @@ add-line-requires c κs =
 loop-again : of.Tie.Need-loop-y-preserved invariant-loop-y decreases-loop-y
 unfolding cell
 loop-again c =
-    let l = c.before.before.before.before.before.before.before in
+    let l = c in
     let a = l.args in
     let y = l.loop-y.y in
     let p = line_end (get_or a.low.now y []) (get_or a.high.now y []) (get_or a.widths.now (y % 8) []) in (

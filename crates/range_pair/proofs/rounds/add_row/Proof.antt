@@ -17,34 +17,34 @@ decreases-loop-l a b widths greatest₀ least₀ l₀ greatest least l = 32 - l
 
 greatest-of-requires : of.Tie.Need-greatest_of-g-requires invariant-loop-l decreases-loop-l
 greatest-of-requires c κs =
-    let l = c.before.before.before.before in
+    let l = c in
     let p = l.requires in
     record { first = held-most w64 p.low_in l.loop-l.l tt; second = held-most w64 p.high_in l.loop-l.l tt; width-most = p.widths_most.at (l.loop-l.l % 16) }
 
 least-of-requires : of.Tie.Need-least_of-k-requires invariant-loop-l decreases-loop-l
 least-of-requires c κs =
-    let l = c.before.before.before.before.before.before.before.before in
+    let l = c in
     let p = l.requires in
     record { first = held-most w64 p.low_in l.loop-l.l tt; second = held-most w64 p.high_in l.loop-l.l tt; width-most = p.widths_most.at (l.loop-l.l % 16) }
 
 add-greatest : of.Tie.Need-overflow_add-greatest invariant-loop-l decreases-loop-l
 add-greatest c =
-    let g = c.before.before.before.before.before in
-    let l = g.before.before.before.before.before in
+    let g = c in
+    let l = g in
     adding-fits l.loop-l.invariant.0 (omega arith) l.requires.greatests.most g.greatest_of-g.ensures.1 tt tt
 
 add-least : of.Tie.Need-overflow_add-least invariant-loop-l decreases-loop-l
 add-least c =
-    let k = c.before.before in
-    let l = k.before.before.before.before.before.before.before.before.before in
+    let k = c in
+    let l = k in
     adding-fits l.loop-l.invariant.1 (omega arith) l.requires.leasts.most k.least_of-k.ensures.1 tt tt
 
 loop-again : of.Tie.Need-loop-l-preserved invariant-loop-l decreases-loop-l
 loop-again c =
     let k = c.before.before in
-    let g = k.before.before.before.before in
-    let l = g.before.before.before.before.before in
-    let s = l.before in
+    let g = k in
+    let l = g in
+    let s = l in
     let i = l.loop-l.l in
     let w = get_or s.args.widths.now (i % 16) 0 in
     let low = held-is w64 s.requires.low_in i tt in

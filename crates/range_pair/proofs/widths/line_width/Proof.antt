@@ -24,13 +24,13 @@ sum_fits {f} {i} w h l = omega (arith, w.most)
 
 mul-k : of.Tie.Need-overflow_mul-k invariant-loop-v decreases-loop-v
 mul-k c =
-    let l = c.before in
+    let l = c in
     omega (arith, product l.loop-v.v l.args.x (omega arith) l.requires.x_below)
 
 weighed-requires : of.Tie.Need-weighed-sum-requires invariant-loop-v decreases-loop-v
 weighed-requires c κs =
-    let l = c.before.before.before.before.before in
-    let s = l.before in
+    let l = c in
+    let s = l in
     let v = l.loop-v.v in
     record { factors_most = s.requires.factored.at (v * s.args.x % 8) (mod-lt (v * s.args.x) (lit< tt)); first_most = s.requires.re_most.at (2 * v + s.args.p); second_most = s.requires.im_most.at (2 * v + s.args.p) }
 

@@ -23,13 +23,13 @@ sum_fits {f} {i} w h l = omega (arith, w.most)
 
 mul-k : of.Tie.Need-overflow_mul-k invariant-loop-u decreases-loop-u
 mul-k c =
-    let l = c.before in
+    let l = c in
     omega (arith, product l.loop-u.u l.args.y (omega arith) l.requires.y_below)
 
 line-width-requires : of.Tie.Need-line_width-sum-requires invariant-loop-u decreases-loop-u
 line-width-requires c κs =
-    let l = c.before.before.before.before in
-    let s = l.before in
+    let l = c in
+    let s = l in
     record {
       factored = s.requires.factored.line (l.loop-u.u * s.args.y % 8) (mod-lt (l.loop-u.u * s.args.y) (lit< tt));
       re_most = s.requires.re_most.line l.loop-u.u;

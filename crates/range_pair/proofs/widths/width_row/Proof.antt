@@ -12,7 +12,7 @@ decreases-loop-l f re im y r₀ l₀ r l = 16 - l
 
 width-requires : of.Tie.Need-width-w-requires invariant-loop-l decreases-loop-l
 width-requires c κs =
-    let s = c.before.before in
+    let s = c in
     record { factored = s.requires.factored; re_most = s.requires.re_most; im_most = s.requires.im_most; y_below = s.requires.y_below; l_below = omega arith }
 
 loop-again : of.Tie.Need-loop-l-preserved invariant-loop-l decreases-loop-l

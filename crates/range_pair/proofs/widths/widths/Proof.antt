@@ -12,7 +12,7 @@ decreases-loop-y f re im r₀ y₀ r y = 8 - y
 
 width-row-requires : of.Tie.Need-width_row-requires invariant-loop-y decreases-loop-y
 width-row-requires c κs =
-    let s = c.before.before in
+    let s = c in
     record { factored = s.requires.factored; re_most = s.requires.re_most; im_most = s.requires.im_most; y_below = omega arith }
 
 loop-again : of.Tie.Need-loop-y-preserved invariant-loop-y decreases-loop-y

@@ -14,7 +14,7 @@ decreases-loop-column m upper samples vectors parity row work₀ start second bl
 
 -- the pairs of a row
 columns-are : (c : of.Tie.After-tile_columns-columns invariant-loop-column decreases-loop-column) → c.tile_columns-columns.result ≡ c.args.m.shape.width / 16 + 1
-columns-are c = let s = c.before.before.before.before.before in c.tile_columns-columns.ensures.0 ∙ ap (λ n. s.args.m.shape.width / n + 1) s.requires.accepted.side_is
+columns-are c = let s = c in c.tile_columns-columns.ensures.0 ∙ ap (λ n. s.args.m.shape.width / n + 1) s.requires.accepted.side_is
 
 loop-holds : of.Tie.Need-loop-column-init invariant-loop-column decreases-loop-column
 unfolding scene_at
@@ -24,7 +24,7 @@ tile-ends-requires : of.Tie.Need-tile_ends-requires invariant-loop-column decrea
 unfolding grid tab
 tile-ends-requires c κs =
     let l = c.before.before.before in
-    let s = l.before.before.before.before.before.before in
+    let s = l in
     record {
       accepted = s.requires.accepted;
       upper_fits = s.requires.upper_fits;
@@ -41,13 +41,13 @@ module _ (l : of.Tie.At-loop-column invariant-loop-column decreases-loop-column)
   first-in : l.slot-start.result + 512 * (l.args.m.shape.width / 16) ≤ length l.loop-column.work
   unfolding scene_at
   first-in =
-      let s = l.before.before.before.before.before.before in
+      let s = l in
       omega (arith, l.slot-start.ensures.in_area, width_of, s.requires.room, l.loop-column.invariant.toward.same)
 
   second-in : l.least_slot-second.result + 512 * (l.args.m.shape.width / 16) ≤ length l.loop-column.work
   unfolding scene_at
   second-in =
-      let s = l.before.before.before.before.before.before in
+      let s = l in
       omega (arith, l.least_slot-second.ensures, slot-most 16 s.args.m.shape.width s.args.row, width_of, s.requires.room, l.loop-column.invariant.toward.same)
 
 store-left-requires : of.Tie.Need-store_left-requires invariant-loop-column decreases-loop-column
@@ -93,7 +93,7 @@ loop-again c =
     let t = a.before.before.before in
     let i = t.before.before.before in
     let l = i.before in
-    let s = l.before.before.before.before.before.before in
+    let s = l in
     let first = l.slot-start.ensures.is in
     let second = l.least_slot-second.ensures in
     ends-turn _ _ _ _ _ s.requires.accepted.burst.allowed.wide.whole l.loop-column.invariant (omega (arith, i.loop-column-test.true, columns-are l.before)) t.tile_ends.ensures.greatests t.tile_ends.ensures.leasts

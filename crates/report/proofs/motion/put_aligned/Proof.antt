@@ -22,23 +22,23 @@ lines_of {header} {samples} {vectors} {sums} t v s =
 
 slice-aggregate-put-frames : of.Tie.Need-slice_bounds-put_frames-end-2
 slice-aggregate-put-frames c =
-    let aligned = c.before.before.before.before.before.before.before.before.before.before in
+    let aligned = c in
     sym (length-take-le _ _ (omega (arith, aligned.align_burst-residuals.ensures.same, aligned.requires.taken.allowed.few)))
 
 put-frames-requires : of.Tie.Need-put_frames-requires
 put-frames-requires c κs =
-    let named = c.before.before.before.before.before.before in
-    let aligned = named.before.before.before.before in
-    let start = aligned.before.before.before.before.before in
+    let named = c in
+    let aligned = named in
+    let start = aligned in
     let few = start.requires.taken.allowed.few in
     let whole = length-take-le (vector_room (start.args.header.shape.count - 1)) aligned.align_burst-residuals.new.vectors (omega (arith, aligned.align_burst-residuals.ensures.same, few)) in
     record { few = omega (arith, few); vectors_room = omega (arith, whole); text-room = omega (arith, named.put_motion_names-next.ensures.1, named.put_motion_names-next.ensures.0.same, start.requires.text-room) }
 
 returns : of.Tie.Need-returns
 returns c =
-    let put = c.before.before in
-    let named = put.before.before.before.before.before.before.before in
-    let aligned_at = named.before.before.before.before in
+    let put = c in
+    let named = put in
+    let aligned_at = named in
     let aligned = aligned_at.align_burst-residuals.ensures in
     rw (lines_of aligned_at.requires.taken aligned.found aligned.residuals) at (printed-then (omega arith) named.put_motion_names-next.ensures.0 put.put_frames.ensures)
 

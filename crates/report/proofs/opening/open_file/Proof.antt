@@ -44,7 +44,7 @@ returns-3 c =
 
 -- the samples of the frames fit in those lent
 fits : (c : of.Tie.After-struct_known-in-Found-2-1) →
-    let at = c.before.before.before.before.before.before.before.before.before in
+    let at = c in
     room at.header-1.given.0.0.shape.count ≤ length at.args.samples.now
 fits c = omega (arith, headed-few (accepted c.before.before.before.before.before.before))
 
@@ -66,7 +66,7 @@ returns-5 c =
     let high = known.before in
     let wide = high.before.before in
     let checked = wide.before.before.before in
-    let at = checked.before.before.before in
+    let at = checked in
     let samples = at.args.samples.now in
     let same = length-take-le (room at.header-1.given.0.0.shape.count) samples (fits known) in
     opens _ (still-short checked) (accepted checked) wide.if-shape-ne-FRAME_SIDE.false samples high.if-shape-ne-FRAME_SIDE-2.false (fits known) (omega (arith, same)) c.read_file.ensures

@@ -17,7 +17,7 @@ align-frames-requires c κs = align-passed _ _ _ _ _ (sym c.align_refusal-refusa
 
 returns-2 : of.Tie.Need-returns
 returns-2 c =
-    let tested = c.before.before.before.before.before.before.before.before.before in
+    let tested = c in
     let e = tested.align_refusal-refusal.ensures in
     let z = tested.if-refusal-ne0.false in
     let aligned = c.align_frames-totals.ensures in

@@ -9,7 +9,7 @@ merge-rows-requires c κs = rows-lent c.requires
 
 returns : of.Tie.Need-returns
 returns c =
-    let r = c.before.before.before in
+    let r = c in
     rows-merged r.requires r.merge_rows.ensures
 
 pub band_rows_spec : {M : Type 1} → of.Statement.statement M

@@ -8,12 +8,12 @@ returns : of.Tie.Need-returns-then-tested-ne0
 returns c = banded-refused c.band_refusal-tested.ensures c.if-tested-ne0.true
 
 band-rows-requires : of.Tie.Need-band_rows-requires
-band-rows-requires c κs = let passed = c.before.before in band-lent passed.band_refusal-tested.ensures passed.if-tested-ne0.false
+band-rows-requires c κs = let passed = c in band-lent passed.band_refusal-tested.ensures passed.if-tested-ne0.false
 
 returns-2 : of.Tie.Need-returns
 returns-2 c =
-    let merged = c.before.before.before.before.before.before in
-    let passed = merged.before.before.before in
+    let merged = c in
+    let passed = merged in
     banded-accepted passed.band_refusal-tested.ensures passed.if-tested-ne0.false merged.band_rows.ensures (c.clear.ensures ∙ zeros-length _ _ (search rules))
 
 pub merge_band_spec : {M : Type 1} → of.Statement.statement M

@@ -20,15 +20,15 @@ sharpest-requires c κs =
 
 run-levels-requires : of.Tie.Need-run_levels-totals-requires
 run-levels-requires c κs =
-    let chosen = c.before.before.before in
-    let passed = chosen.before in
+    let chosen = c in
+    let passed = chosen in
     runnable (tested-any _ chosen.sharpest-reference.ensures.1 passed.run_refusal-tested.ensures) passed.if-refusal-ne0.false
 
 returns-2 : of.Tie.Need-returns
 returns-2 c =
     let ran = c.before.before.before.before.before in
     let chosen = ran.before.before.before.before in
-    let passed = chosen.before in
+    let passed = chosen in
     let t = passed.run_refusal-tested.ensures in
     let z = passed.if-refusal-ne0.false in
     let e = tested-number _ _ t.answer ∙ first-refusal _ _ _ _ _ _ _ in

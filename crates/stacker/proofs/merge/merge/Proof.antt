@@ -21,14 +21,14 @@ returns-2 : of.Tie.Need-returns-then-lent-ne0
 unfolding merge_refusal
 returns-2 c =
     let h = c.if-lent-ne0.true in
-    let passed = c.before.before in
+    let passed = c in
     let e = goes _ _ (tested-number _ _ passed.run_refusal-tested.ensures.answer) passed.if-tested-ne0.false (c.vector_refusal-lent.ensures ∙ lone _) in
     record { answer = e; result = kept _ _ _ e h; clean = kept _ _ _ e h; near = λ z. absurd (h z); ceiling = λ z. absurd (h z) }
 
 merge-frames-requires : of.Tie.Need-merge_frames-requires
 merge-frames-requires c κs =
-    let lent = c.before.before in
-    let passed = lent.before.before in
+    let lent = c in
+    let passed = lent in
     let tested = passed.run_refusal-tested.ensures.answer in
     let z = passed.if-tested-ne0.false in
     let ready = run-passed _ _ _ _ _ _ _ _ (sym (tested-number _ _ tested) ∙ z) in
@@ -51,9 +51,9 @@ merge-frames-requires c κs =
 returns-3 : of.Tie.Need-returns
 unfolding merge_refusal
 returns-3 c =
-    let merge = c.before.before.before.before.before.before in
-    let lent = merge.before.before.before in
-    let passed = lent.before.before in
+    let merge = c in
+    let lent = merge in
+    let passed = lent in
     let tested = passed.run_refusal-tested.ensures.answer in
     let a = passed.args in
     let z = passed.if-tested-ne0.false in

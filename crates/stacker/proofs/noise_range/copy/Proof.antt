@@ -15,8 +15,8 @@ loop-again c = fill-turn c.loop-i.invariant (omega arith) refl
 
 returns : of.Tie.Need-returns invariant-loop-i decreases-loop-i
 returns c =
-    let l = c.before in
-    let s = l.before in
+    let l = c in
+    let s = l in
     fill_done l.loop-i.invariant (omega arith) ∙ ap (λ n. tab n (λ k. get_or s.args.frame.now k 0)) s.requires ∙ sym (tab-of 0 s.args.frame.now)
 
 pub copy_spec : {M : Type 1} → of.Statement.statement M

@@ -6,9 +6,9 @@ use Rattle.stacker.proofs.noise_range.frames as of
 returns : of.Tie.Need-returns-then-same_levels
 returns c =
     let copied = c.before.before in
-    let merge = copied.before.before.before.before.before.before in
-    let t = merge.before.before.before in
-    let s = t.before.before.before.before.before in
+    let merge = copied in
+    let t = merge in
+    let s = t in
     let same = t.same_levels.ensures t.if-same_levels.true in
     let is = merge.merge_frames.ensures in
     record { low_is = is ∙ sym (low_merged _ _ _ _ s.requires.off same); high_is = copied.copy.ensures ∙ is ∙ sym (high-merged _ _ _ _ s.requires.off same) }

@@ -9,18 +9,18 @@ returns c = ranged-refused c.range_refusal-refusal.ensures c.if-refusal-ne0.true
 
 frames-requires : of.Tie.Need-frames-requires
 frames-requires c κs =
-    let u = c.before.before.before in
-    let m = u.before in
-    let tested = m.before in
+    let u = c in
+    let m = u in
+    let tested = m in
     let e = sym tested.range_refusal-refusal.ensures ∙ tested.if-refusal-ne0.false in
     rw (m.merge_of-m.ensures, u.merge_of-raised.ensures) (frames-lent _ _ _ _ _ _ _ _ _ _ e)
 
 returns-2 : of.Tie.Need-returns
 returns-2 c =
     let f = c.before.before.before.before.before.before.before.before in
-    let u = f.before.before.before.before in
-    let m = u.before in
-    let tested = m.before in
+    let u = f in
+    let m = u in
+    let tested = m in
     let made = rw (m.merge_of-m.ensures, u.merge_of-raised.ensures) at f.frames.ensures in
     ranged-accepted _ _ _ _ _ _ _ _ _ _ (sym tested.range_refusal-refusal.ensures ∙ tested.if-refusal-ne0.false) made.low_is made.high_is (c.clear.ensures ∙ zeros-length _ _ (search rules))
 

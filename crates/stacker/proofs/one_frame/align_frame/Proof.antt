@@ -16,8 +16,8 @@ align-one-requires c κs = align-frame-passed _ _ _ _ _ _ (sym c.align_frame_ref
 
 returns-2 : of.Tie.Need-returns
 returns-2 c =
-    let aligned = c.before.before.before.before.before in
-    let tested = aligned.before.before.before in
+    let aligned = c in
+    let tested = aligned in
     let e = tested.align_frame_refusal-refusal.ensures in
     let z = tested.if-refusal-ne0.false in
     let done = aligned.align_one-sums.ensures in

@@ -16,8 +16,8 @@ measure-frames-requires c κs = residual-passed _ _ _ _ _ _ (sym c.residual_refu
 
 returns-2 : of.Tie.Need-returns
 returns-2 c =
-    let measured = c.before.before.before.before.before.before in
-    let tested = measured.before.before.before in
+    let measured = c in
+    let tested = measured in
     let e = tested.residual_refusal-refusal.ensures in
     let z = tested.if-refusal-ne0.false in
     let done = measured.measure_frames.ensures in

@@ -7,12 +7,12 @@ returns : of.Tie.Need-returns-then-refusal-ne0
 returns c = ran-refused c.run_refusal-tested.ensures c.if-refusal-ne0.true
 
 run-levels-requires : of.Tie.Need-run_levels-totals-requires
-run-levels-requires c κs = let passed = c.before.before.before in runnable passed.run_refusal-tested.ensures passed.if-refusal-ne0.false
+run-levels-requires c κs = let passed = c in runnable passed.run_refusal-tested.ensures passed.if-refusal-ne0.false
 
 returns-2 : of.Tie.Need-returns
 returns-2 c =
-    let ran = c.before.before.before.before.before in
-    let passed = ran.before.before.before.before in
+    let ran = c in
+    let passed = ran in
     ran-accepted passed.run_refusal-tested.ensures passed.if-refusal-ne0.false ran.run_levels-totals.ensures
 
 pub run_spec : {M : Type 1} → of.Statement.statement M

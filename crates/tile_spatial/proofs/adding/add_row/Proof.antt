@@ -14,15 +14,15 @@ decreases-loop-l frames p sum₀ l₀ sum l = 32 - l
 
 add-part-requires : of.Tie.Need-add_part-requires invariant-loop-l decreases-loop-l
 add-part-requires c κs =
-    let l = c.before.before.before in
-    let s = l.before in
+    let l = c in
+    let s = l in
     let e = fill-rest l.loop-l.invariant (omega arith) (pos 0) in
     record { frames_fit = s.requires.frames_fit; part = held-most w64 s.requires.part l.loop-l.l tt; sum-most = subst (SumMost s.args.frames) (sym (sum-held l.loop-l.sum l.loop-l.l s.requires.frames_fit s.requires.sums e)) (s.requires.sums.at l.loop-l.l) }
 
 loop-again : of.Tie.Need-loop-l-preserved invariant-loop-l decreases-loop-l
 loop-again c =
-    let l = c.before.before.before.before in
-    let s = l.before in
+    let l = c in
+    let s = l in
     let e = fill-rest l.loop-l.invariant (omega arith) (pos 0) in
     let d : to_z w64 (of_z w64 c.add_part.result) ≡ c.add_part.result = search rules in
     fill-turn l.loop-l.invariant (omega arith)

@@ -17,8 +17,8 @@ loop-holds c =
 
 add-row-requires : of.Tie.Need-add_row-requires invariant-loop-y decreases-loop-y
 add-row-requires c κs =
-    let l = c.before.before.before in
-    let s = l.before in
+    let l = c in
+    let s = l in
     let y = l.loop-y.y in
     let e = fill-rest l.loop-y.invariant (omega arith) [] in
     record {
@@ -31,7 +31,7 @@ add-row-requires c κs =
 loop-again : of.Tie.Need-loop-y-preserved invariant-loop-y decreases-loop-y
 unfolding cell
 loop-again c =
-    let l = c.before.before.before.before in
+    let l = c in
     let a = l.args in
     fill-turn l.loop-y.invariant (omega arith)
     (c.add_row.ensures

@@ -14,8 +14,8 @@ decreases-loop-y frames t0 sum r₀ y₀ r y = 16 - y
 
 copy-row-requires : of.Tie.Need-copy_row-requires invariant-loop-y decreases-loop-y
 copy-row-requires c κs =
-    let l = c.before.before.before in
-    let s = l.before in
+    let l = c in
+    let s = l in
     record { frames_fit = s.requires.frames_fit; samples = s.requires.samples.row l.loop-y.y; sums = s.requires.sums.row l.loop-y.y }
 
 loop-again : of.Tie.Need-loop-y-preserved invariant-loop-y decreases-loop-y
@@ -25,7 +25,7 @@ loop-again c = fill-turn c.loop-y.invariant (omega arith) c.copy_row.ensures.0
 returns : of.Tie.Need-returns invariant-loop-y decreases-loop-y
 unfolding grid cell copy_in
 returns c =
-    let s = c.before.before in
+    let s = c in
     let e = fill_done c.loop-y.invariant (omega arith) in
     (e, subst (TileMost copy_most) (sym e) (table-most copy_most _ (λ y l. part-most s.requires.frames_fit (s.requires.samples.row y) (s.requires.sums.row y) l) 16 32))
 

@@ -14,16 +14,16 @@ decreases-loop-l frames t0 sum r₀ l₀ r l = 32 - l
 
 copy-part-requires : of.Tie.Need-copy_part-requires invariant-loop-l decreases-loop-l
 copy-part-requires c κs =
-    let l = c.before.before.before in
-    let s = l.before in
+    let l = c in
+    let s = l in
     let k = l.loop-l.l in
     let e = held-sum s.requires.frames_fit (s.requires.samples.at k) (s.requires.sums.at k) in
     record { frames_fit = s.requires.frames_fit; sample = s.requires.samples.at k; sum-most = subst (SumMost s.args.frames) (sym e) (s.requires.sums.at k) }
 
 loop-again : of.Tie.Need-loop-l-preserved invariant-loop-l decreases-loop-l
 loop-again c =
-    let l = c.before.before.before.before in
-    let s = l.before in
+    let l = c in
+    let s = l in
     let a = s.args in
     let k = l.loop-l.l in
     let e : to_z w32 (of_z w32 c.copy_part.result) ≡ c.copy_part.result = search rules in
@@ -32,7 +32,7 @@ loop-again c =
 
 returns : of.Tie.Need-returns invariant-loop-l decreases-loop-l
 returns c =
-    let s = c.before.before in
+    let s = c in
     let e = fill_done c.loop-l.invariant (omega arith) in
     (e, subst (LineMost copy_most) (sym e) (line-most copy_most _ (part-most s.requires.frames_fit s.requires.samples s.requires.sums) 32))
 

@@ -22,7 +22,7 @@ int-to-float-r c =
 
 loop-again : of.Tie.Need-loop-l-preserved invariant-loop-l decreases-loop-l
 loop-again c =
-    let f = c.before in
+    let f = c in
     fill-turn f.loop-l.invariant (omega arith) (ap (of_int binary64) (number_is w64 f.folded.ensures.1 tt ∙ f.folded.ensures.0))
 
 returns : of.Tie.Need-returns invariant-loop-l decreases-loop-l

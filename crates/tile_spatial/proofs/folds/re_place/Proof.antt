@@ -9,21 +9,21 @@ use Rattle.tile_spatial.proofs.folds.re_place as of
 returns : of.Tie.Need-returns-then-b-eq0
 unfolding fold_re_of cell side16
 returns c =
-    let s = c.before.before in
+    let s = c in
     let b = s.args.b in
     let m = s.requires.re_most.line b in
     (held-is w64 m s.args.l tt ∙ sym (is-own b _ _ (omega arith)), record { most = omega (arith, (held-most w64 m s.args.l tt).most) })
 
 add-result : of.Tie.Need-overflow_add-result
 add-result c =
-    let s = c.before.before.before.before in
+    let s = c in
     let b = s.args.b in
     sum_fits (line_at (s.requires.re_most.line b) s.args.l) (line_at (s.requires.re_most.line (16 - b)) s.args.l) tt tt
 
 returns-2 : of.Tie.Need-returns-then-b-lt9
 unfolding fold_re_of cell side16
 returns-2 c =
-    let s = c.before.before.before.before in
+    let s = c in
     let b = s.args.b in
     let m = line_at (s.requires.re_most.line b) s.args.l in
     let n = line_at (s.requires.re_most.line (16 - b)) s.args.l in
@@ -31,14 +31,14 @@ returns-2 c =
 
 sub-result-4 : of.Tie.Need-overflow_sub-result-4
 sub-result-4 c =
-    let s = c.before.before.before.before in
+    let s = c in
     let b = s.args.b in
     difference-fits (line_at (s.requires.im_most.line (b - 8)) s.args.l) (line_at (s.requires.im_most.line (24 - b)) s.args.l) tt tt
 
 returns-3 : of.Tie.Need-returns
 unfolding fold_re_of cell side16
 returns-3 c =
-    let s = c.before.before.before.before in
+    let s = c in
     let b = s.args.b in
     let m = line_at (s.requires.im_most.line (b - 8)) s.args.l in
     let n = line_at (s.requires.im_most.line (24 - b)) s.args.l in

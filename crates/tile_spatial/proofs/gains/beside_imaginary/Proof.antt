@@ -13,7 +13,7 @@ returns c =
 
 imaginary-requires : of.Tie.Need-imaginary-requires
 imaginary-requires c κs =
-    let s = c.before in
+    let s = c in
     record { places_most = s.requires.places_most; u_below = s.requires.u_below; l_below = omega (arith, s.requires.l_below) }
 
 returns-2 : of.Tie.Need-returns

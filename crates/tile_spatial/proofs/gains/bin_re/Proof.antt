@@ -15,7 +15,7 @@ sub-result c =
 returns : of.Tie.Need-returns
 unfolding tile_re_of side16
 returns c =
-    let r = c.before in
+    let r = c in
     let a = r.args in
     let column : a.l ≡ 2 * (a.l / 2) + a.l % 2 = omega arith in
     let e = difference-is r.real.ensures.1 c.beside_imaginary.ensures.1 tt tt in (

@@ -17,35 +17,35 @@ loop-holds c =
 
 bin-re-requires : of.Tie.Need-bin_re-a-requires invariant-loop-l decreases-loop-l
 bin-re-requires c κs =
-    let s = c.before.before in
+    let s = c in
     record { places_most = s.requires.places_most; u_below = s.requires.u_below; l_below = omega arith }
 
 bin-im-requires : of.Tie.Need-bin_im-b-requires invariant-loop-l decreases-loop-l
 bin-im-requires c κs =
-    let s = c.before.before.before in
+    let s = c in
     record { places_most = s.requires.places_most; u_below = s.requires.u_below; l_below = omega arith }
 
 filtered-part-requires : of.Tie.Need-filtered_part-requires invariant-loop-l decreases-loop-l
 filtered-part-requires c κs =
-    let b = c.before in
-    let a = b.before in
-    let l = a.before.before in
+    let b = c in
+    let a = b in
+    let l = a in
     record { noise-most = l.requires.noises_most.at l.loop-l.l; part = number-most w64 a.bin_re-a.ensures.1 tt; other = number-most w64 b.bin_im-b.ensures.1 tt }
 
 filtered-part-requires-2 : of.Tie.Need-filtered_part-requires-in-loop-l invariant-loop-l decreases-loop-l
 filtered-part-requires-2 c κs =
-    let b = c.before.before.before in
-    let a = b.before in
-    let l = a.before.before in
+    let b = c in
+    let a = b in
+    let l = a in
     record { noise-most = l.requires.noises_most.at l.loop-l.l; part = number-most w64 b.bin_im-b.ensures.1 tt; other = number-most w64 a.bin_re-a.ensures.1 tt }
 
 loop-again : of.Tie.Need-loop-l-preserved invariant-loop-l decreases-loop-l
 unfolding lane_re lane_im
 loop-again c =
     let g = c.before.before in
-    let b = g.before.before in
-    let a = b.before in
-    let l = a.before.before in
+    let b = g in
+    let a = b in
+    let l = a in
     let n = get_or l.args.noises.now l.loop-l.l 0 in
     let re = number_is w64 a.bin_re-a.ensures.1 tt ∙ a.bin_re-a.ensures.0 in
     let im = number_is w64 b.bin_im-b.ensures.1 tt ∙ b.bin_im-b.ensures.0 in

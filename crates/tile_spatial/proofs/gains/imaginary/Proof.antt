@@ -18,20 +18,20 @@ returns c =
 returns-2 : of.Tie.Need-returns-then-u-lt9
 unfolding imaginary_part cell side16
 returns-2 c =
-    let s = c.before.before.before in
+    let s = c in
     let u = s.args.u in
     let m = s.requires.places_most.line (8 + u) in
     (held-is w64 m s.args.l tt ∙ sym (is-paired u (pos 0) _ (λ e. omega arith) ∙ rw (lt-ltb u 9 (omega arith))), held-most w64 m s.args.l tt)
 
 sub-result-2 : of.Tie.Need-overflow_sub-result-2
 sub-result-2 c =
-    let s = c.before.before.before in
+    let s = c in
     minus-fits (line_at (s.requires.places_most.line (24 - s.args.u)) s.args.l) tt
 
 returns-3 : of.Tie.Need-returns
 unfolding imaginary_part cell side16
 returns-3 c =
-    let s = c.before.before.before in
+    let s = c in
     let u = s.args.u in
     let m = line_at (s.requires.places_most.line (24 - u)) s.args.l in
     (minus_is m tt ∙ sym (is-paired u (pos 0) _ (λ e. omega arith) ∙ rw (le-ltb u 9 (omega arith))), minus-most m tt)

@@ -9,7 +9,7 @@ use Rattle.tile_spatial.proofs.gains.real as of
 returns : of.Tie.Need-returns-then-u-lt9
 unfolding real_part cell side16
 returns c =
-    let s = c.before.before in
+    let s = c in
     let u = s.args.u in
     let m = s.requires.places_most.line u in
     rw (lt-ltb u 9 (omega arith)) (held-is w64 m s.args.l tt, held-most w64 m s.args.l tt)
@@ -17,7 +17,7 @@ returns c =
 returns-2 : of.Tie.Need-returns
 unfolding real_part cell side16
 returns-2 c =
-    let s = c.before.before in
+    let s = c in
     let u = s.args.u in
     let m = s.requires.places_most.line (16 - u) in
     rw (le-ltb u 9 (omega arith)) (held-is w64 m s.args.l tt, held-most w64 m s.args.l tt)

@@ -18,7 +18,7 @@ decreases-loop-u first second r₀ u₀ r u = 9 - u
 loop-again : of.Tie.Need-loop-u-preserved invariant-loop-u decreases-loop-u
 unfolding cell
 loop-again c =
-    let l = c.before.before.before.before in
+    let l = c in
     let a = l.args in
     fill-turn l.loop-u.invariant (omega arith)
     (c.lane_row.ensures ∙ tab-ext 18 _ _ (λ k h. ap (λ t. get_or t (k / 2) 0) (row_of (eqb (k % 2) 0) a.first.now a.second.now l.loop-u.u)))

@@ -15,7 +15,7 @@ decreases-loop-y c r₀ y₀ r y = 16 - y
 
 high-row-requires : of.Tie.Need-high_row-requires invariant-loop-y decreases-loop-y
 high-row-requires c κs =
-    let l = c.before.before in l.requires.line l.loop-y.y
+    let l = c in l.requires.line l.loop-y.y
 
 loop-again : of.Tie.Need-loop-y-preserved invariant-loop-y decreases-loop-y
 unfolding cell
@@ -25,7 +25,7 @@ loop-again c =
 returns : of.Tie.Need-returns invariant-loop-y decreases-loop-y
 unfolding grid
 returns c =
-    let s = c.before.before in
+    let s = c in
     let e = fill_done c.loop-y.invariant (omega arith) in
     (e, subst (TileMost difference_most) (sym e) (table-most difference_most _ (λ y l. (high-at (record { most = cells-most s.requires y l })).most) 16 32))
 

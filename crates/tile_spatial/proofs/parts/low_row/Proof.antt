@@ -15,12 +15,12 @@ decreases-loop-l c r₀ l₀ r l = 32 - l
 
 low-requires : of.Tie.Need-low-requires invariant-loop-l decreases-loop-l
 low-requires c κs =
-    let l = c.before.before in
+    let l = c in
     held-most w32 l.requires l.loop-l.l tt
 
 loop-again : of.Tie.Need-loop-l-preserved invariant-loop-l decreases-loop-l
 loop-again c =
-    let l = c.before.before.before in
+    let l = c in
     let e : to_z w16 (of_z w16 c.low.result) ≡ c.low.result = search rules in
     fill-turn l.loop-l.invariant (omega arith) (e ∙ c.low.ensures ∙ ap low_of (held-is w32 l.requires l.loop-l.l tt))
 

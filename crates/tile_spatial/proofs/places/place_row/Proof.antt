@@ -15,12 +15,12 @@ decreases-loop-l high low r₀ l₀ r l = 32 - l
 
 place-requires : of.Tie.Need-place-requires invariant-loop-l decreases-loop-l
 place-requires c κs =
-    let l = c.before.before.before in
+    let l = c in
     (whole_at l.requires.0 l.loop-l.l (omega arith), whole_at l.requires.1 l.loop-l.l (omega arith))
 
 loop-again : of.Tie.Need-loop-l-preserved invariant-loop-l decreases-loop-l
 loop-again c =
-    let l = c.before.before.before.before in
+    let l = c in
     let e : to_z w64 (of_z w64 c.place.result) ≡ c.place.result = search rules in
     fill-turn l.loop-l.invariant (omega arith) (e ∙ c.place.ensures)
 

@@ -13,7 +13,7 @@ decreases-loop-b high low r₀ b₀ r b = 16 - b
 
 place-row-requires : of.Tie.Need-place_row-requires invariant-loop-b decreases-loop-b
 place-row-requires c κs =
-    let l = c.before.before.before in
+    let l = c in
     (whole_row l.requires.0 l.loop-b.b (omega arith), whole_row l.requires.1 l.loop-b.b (omega arith))
 
 loop-again : of.Tie.Need-loop-b-preserved invariant-loop-b decreases-loop-b
