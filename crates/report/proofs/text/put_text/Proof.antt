@@ -10,20 +10,18 @@ use Rattle.report.proofs.text.put_text as of
 inside : {l a r : List ℕ} {i : ℕ} → Printed l 0 a r i → i ≤ length l
 unfolding put
 inside {l} {a} {r} {i} p =
-    let whole : length l ≡ length (take 0 l ++ a ++ drop (0 + length a) l) = sym p.same ∙ ap length p.text-1 in
+    let whole : length l ≡ length (take 0 l ++ a ++ drop (0 + length a) l) = sym p.same ∙ ap length p.text in
     omega (arith, whole, p.place, length-append (take 0 l) (a ++ drop (0 + length a) l), length-append a (drop (0 + length a) l))
 
 put-file-requires : of.Tie.Need-put_file-requires
 put-file-requires c κs =
-    let split = c.before.before.before in
-    let a = split.args in
-    record { file-most = omega (arith, length-take a.count a.file.now, split.if-count-gt-FILE_MOST.false); samples_room = search rules; text-room = search rules }
+    let a = c.args in
+    record { file-most = omega (arith, length-take a.count a.file.now, c.if-count-gt-FILE_MOST.false); samples_room = search rules; text-room = search rules }
 
 returns : of.Tie.Need-returns-then-count-gt-FILE_MOST
 returns c =
-    let split = c.before.before.before.before in
-    let a = split.args in
-    let long : file_most < length (take a.count a.file.now) = omega (arith, length-take a.count a.file.now, split.if-count-gt-FILE_MOST.true, split.requires.0) in
+    let a = c.args in
+    let long : file_most < length (take a.count a.file.now) = omega (arith, length-take a.count a.file.now, c.if-count-gt-FILE_MOST.true, c.requires.0) in
     let printed = rw (sym (long-text (take a.count a.file.now) long (printed_by a.program))) at c.put_too_large.ensures.0 in
     (printed, inside printed)
 
