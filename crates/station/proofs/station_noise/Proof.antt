@@ -1,7 +1,7 @@
 -- `station::station_noise` answers by the levels that `levels_of` found or refused, whose bounds are laws.
 use mathlib.Core.Path.{◌≡◌, sym, ap, subst, ◌∙◌}
 use mathlib.Core.Bool.{true}
-use Prim.Native.Nat.{ℕ, ◌≤◌}
+use Prim.Native.Nat.{◌≤◌}
 use native.Mathlib.Omega.{arith}
 use borrow.Author.Rules.{rules}
 use Rattle.geometry.specs.Shape.{side_allowed}

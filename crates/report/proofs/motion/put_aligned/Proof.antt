@@ -7,17 +7,17 @@ use Rattle.report.specs.Inner.{vector_room, burst_of, Taken}
 use Rattle.report.specs.Motion.{frame_lines, motion_of}
 use Rattle.report.proofs.motion.put_aligned as of
 
-frame-parts : {header : Header} {samples : List ℕ} → Taken header samples → frame_parts header.shape-1 ≡ vector_room 1
+frame-parts : {header : Header} {samples : List ℕ} → Taken header samples → frame_parts header.shape ≡ vector_room 1
 frame-parts t = rw (t.sixteen, t.wide, t.high)
 
 lines_of : {header : Header} {samples : List ℕ} {vectors : List ℤ} {sums : List ℕ} → Taken header samples →
-    vectors ≡ aligned_vectors header.shape-1 header.reference samples → sums ≡ residual_sums header.shape-1 header.reference samples →
-    motion_names ++ frame_lines header.reference (vector_room 1) vectors sums (header.shape-1.count - 1) ≡ motion_of (burst_of header samples)
+    vectors ≡ aligned_vectors header.shape header.reference samples → sums ≡ residual_sums header.shape header.reference samples →
+    motion_names ++ frame_lines header.reference (vector_room 1) vectors sums (header.shape.count - 1) ≡ motion_of (burst_of header samples)
 unfolding motion_of
 lines_of {header} {samples} {vectors} {sums} t v s =
     rw (v, s)
     (ap
-    (λ n. motion_names ++ frame_lines header.reference n (aligned_vectors header.shape-1 header.reference samples) (residual_sums header.shape-1 header.reference samples) (header.shape-1.count - 1))
+    (λ n. motion_names ++ frame_lines header.reference n (aligned_vectors header.shape header.reference samples) (residual_sums header.shape header.reference samples) (header.shape.count - 1))
     (sym (frame-parts t)))
 
 slice-aggregate-put-frames : of.Tie.Need-slice_bounds-put_frames-end-2

@@ -47,7 +47,7 @@ loop-again c =
     record {
       count = omega arith;
       bound = omega arith;
-      printed = rw (next-line a.reference a.vectors.now a.t5 k c.other_frame-frame.ensures.0) at (printed-then (omega arith) lined.printed printed.0);
+      printed = rw (next-line a.reference a.vectors.now a.residuals k c.other_frame-frame.ensures.0) at (printed-then (omega arith) lined.printed printed.0);
     }
 
 returns : of.Tie.Need-returns invariant-loop-k decreases-loop-k

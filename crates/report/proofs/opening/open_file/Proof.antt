@@ -1,40 +1,33 @@
 -- `report::opening::open_file`: each end of the tests is one of the texts that both programs print.
-use Rattle.algebra.specs.Prelude.{◌≡◌, sym, ap, ◌∙◌, ◌≤◌, arith, rules, length}
+use Rattle.algebra.specs.Prelude.{◌≡◌, sym, ap, ◌∙◌, List, ℕ, ◌≤◌, arith, rules, length}
 use lib.Seq.{length-take-le}
 use Rattle.file_burst.specs.declared.head.Head.{Head}
 use Rattle.file_burst.specs.declared.head.Head.TheVariants.{Found, Refused}
+use Rattle.file_burst.specs.declared.head.Header.{Header}
 use Rattle.file_burst.specs.Head.Head.{head_of, head_in}
-use Rattle.report.specs.Program.{file_most}
+use Rattle.file_burst.specs.Reading.{file_check}
 use Rattle.report.specs.Inner.{room}
 use Rattle.report.proofs.Files.{Headed, headed, headed-few, refused-text, head-text, wide-text, high-text, opens}
 use Rattle.report.proofs.opening.open_file as of
 
--- where the head is `head`
-told : (c : of.Tie.After-read_head) (head : Head) → c.read_head.result ≡ head →
-    let file = c.args.file.now in
-    head_in file head ≡ head_of file
-told c head e = ap (head_in c.args.file.now) (sym e) ∙ c.read_head.ensures
-
-short : (c : of.Tie.After-read_head) → length c.args.file.now ≤ file_most
-short c = c.requires.0
-
-returns : of.Tie.Need-returns-then-number-ne0
-returns c = refused-text _ (short c.before.before.before.before.before) c.check_file-number.ensures c.if-number-ne0.true
+-- where the head is a refusal, or these values and the position past them
+told : (file : List ℕ) {was : Head} → head_in file was ≡ head_of file → (head : Head) → was ≡ head → head_in file head ≡ head_of file
+told file h head e = ap (head_in file) (sym e) ∙ h
 
 -- the file check has accepted the file of this header
-accepted : (c : of.Tie.Else-number-ne0) → Headed c.args.file.now c.header-1.given.0.0
-accepted c =
-    let at = c.before.before.before in
-    let g = at.header-1.given in
-    headed (sym c.check_file-number.ensures ∙ c.if-number-ne0.false) (told at.before.before (Found g.0.0 g.0.1.0) g.1)
+accepted : (file : List ℕ) {number : ℕ} {was : Head} {header : Header} {next : ℕ} →
+    number ≡ file_check file → number ≡ 0 → head_in file was ≡ head_of file → was ≡ Found header next → Headed file header
+accepted file {header = header} {next = next} n zero h e = headed (sym n ∙ zero) (told file h (Found header next) e)
 
-still-short : (c : of.Tie.Else-number-ne0) → length c.args.file.now ≤ file_most
-still-short c = short c.before.before.before.before.before
+-- the samples of the frames fit in those lent
+fits : (file samples : List ℕ) {header : Header} → Headed file header → room 8 ≤ length samples → room header.shape.count ≤ length samples
+fits file samples h long = omega (arith, headed-few h, long)
+
+returns : of.Tie.Need-returns-then-number-ne0
+returns c = refused-text _ c.requires.0 c.check_file-number.ensures c.if-number-ne0.true
 
 returns-2 : of.Tie.Need-returns-then-shape-ne-FRAME_SIDE
-returns-2 c =
-    let checked = c.before.before.before in
-    wide-text _ (still-short checked) (accepted checked) c.if-shape-ne-FRAME_SIDE.true
+returns-2 c = wide-text _ c.requires.0 (accepted _ c.check_file-number.ensures c.if-number-ne0.false c.read_head.ensures c.in-Found.is) c.if-shape-ne-FRAME_SIDE.true
 
 returns-3 : of.Tie.Need-returns-then-shape-ne-FRAME_SIDE-2
 returns-3 c =
@@ -49,16 +42,17 @@ fits : (c : of.Tie.After-struct_known-in-Found-2-1) →
 fits c = omega (arith, headed-few (accepted c.before.before.before.before.before.before))
 
 mul-end : of.Tie.Need-overflow_mul-end
-mul-end c = search (rules, headed-few (accepted c.before.before.before.before.before.before))
+mul-end c = search (rules, headed-few (accepted _ c.check_file-number.ensures c.if-number-ne0.false c.read_head.ensures c.in-Found.is))
+
+inside : of.Tie.Need-slice_bounds-read_file-end
+inside c = fits _ _ (accepted _ c.check_file-number.ensures c.if-number-ne0.false c.read_head.ensures c.in-Found.is) c.requires.1
 
 slice-aggregate-read-file : of.Tie.Need-slice_bounds-read_file-end-in-Found
-slice-aggregate-read-file c = sym (length-take-le _ _ (fits c.before))
+slice-aggregate-read-file c =
+    sym (length-take-le _ _ (fits _ _ (accepted _ c.check_file-number.ensures c.if-number-ne0.false c.read_head.ensures c.in-Found.is) c.requires.1))
 
 returns-4 : of.Tie.Need-returns-in-Refused
-returns-4 c =
-    let g = c.number-1.given in
-    let head = c.before.before.before in
-    head-text _ (short head) (told head (Refused g.0.0) g.1)
+returns-4 c = head-text _ c.requires.0 (told _ c.read_head.ensures (Refused c.in-Refused.number) c.in-Refused.is)
 
 returns-5 : of.Tie.Need-returns-else-shape-ne-FRAME_SIDE-2
 returns-5 c =
@@ -74,5 +68,5 @@ returns-5 c =
 pub open_file_spec : {M : Type 1} → of.Statement.statement M
 open_file_spec = of.Tie.close (of.Tie.spec
     (λ c κs. search rules) (λ c. search rules)
-    (λ c. search rules) (λ c κs. search rules) returns returns-2 returns-3 mul-end (λ c. fits c)
+    (λ c. search rules) (λ c κs. search rules) returns returns-2 returns-3 mul-end inside
     slice-aggregate-read-file (λ c κs. search rules) returns-4 (λ c. search rules) returns-5)

@@ -10,7 +10,7 @@ use Rattle.report.proofs.text.put_text as of
 inside : {l a r : List ℕ} {i : ℕ} → Printed l 0 a r i → i ≤ length l
 unfolding put
 inside {l} {a} {r} {i} p =
-    let whole : length l ≡ length (take 0 l ++ a ++ drop (0 + length a) l) = sym p.same ∙ ap length p.text-1 in
+    let whole : length l ≡ length (take 0 l ++ a ++ drop (0 + length a) l) = sym p.same ∙ ap length p.text in
     omega (arith, whole, p.place, length-append (take 0 l) (a ++ drop (0 + length a) l), length-append a (drop (0 + length a) l))
 
 put-file-requires : of.Tie.Need-put_file-requires
