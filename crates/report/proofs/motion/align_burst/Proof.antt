@@ -9,14 +9,14 @@ use Rattle.report.proofs.motion.align_burst as of
 
 align-frames-requires : of.Tie.Need-align_frames-totals-requires
 align-frames-requires c κs =
-    let start = c in
+    let start = c.before.before.before.before.before in
     let taken = start.requires.taken in
     record { fits = align_fits taken (length-take-le _ start.args.vectors.now (omega (arith, taken.allowed.few))) start.requires.work-room; samples_fit = values-samples _ taken.small }
 
 returns : of.Tie.Need-returns
 returns c =
-    let s = c in
-    let start = c in
+    let s = c.before.before.before in
+    let start = c.before.before.before.before.before.before.before.before.before in
     let aligned = s.align_frames-totals.ensures in
     let n = vector_room (start.args.header.shape.count - 1) in
     let fits : n ≤ length start.args.vectors.now = omega (arith, start.requires.taken.allowed.few) in

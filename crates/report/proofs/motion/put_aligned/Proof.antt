@@ -21,26 +21,20 @@ lines_of {header} {samples} {vectors} {sums} t v s =
     (sym (frame-parts t)))
 
 slice-aggregate-put-frames : of.Tie.Need-slice_bounds-put_frames-end-2
-slice-aggregate-put-frames c =
-    let aligned = c in
-    sym (length-take-le _ _ (omega (arith, aligned.align_burst-residuals.ensures.same, aligned.requires.taken.allowed.few)))
+slice-aggregate-put-frames c = sym (length-take-le _ _ (omega (arith, c.align_burst-residuals.ensures.same, c.requires.taken.allowed.few)))
 
 put-frames-requires : of.Tie.Need-put_frames-requires
 put-frames-requires c κs =
-    let named = c in
-    let aligned = named in
-    let start = aligned in
-    let few = start.requires.taken.allowed.few in
-    let whole = length-take-le (vector_room (start.args.header.shape.count - 1)) aligned.align_burst-residuals.new.vectors (omega (arith, aligned.align_burst-residuals.ensures.same, few)) in
-    record { few = omega (arith, few); vectors_room = omega (arith, whole); text-room = omega (arith, named.put_motion_names-next.ensures.1, named.put_motion_names-next.ensures.0.same, start.requires.text-room) }
+    let few = c.requires.taken.allowed.few in
+    let aligned = c.align_burst-residuals in
+    let named = c.put_motion_names-next.ensures in
+    let whole = length-take-le (vector_room (c.args.header.shape.count - 1)) aligned.new.vectors (omega (arith, aligned.ensures.same, few)) in
+    record { few = omega (arith, few); vectors_room = omega (arith, whole); text-room = omega (arith, named.1, named.0.same, c.requires.text-room) }
 
 returns : of.Tie.Need-returns
 returns c =
-    let put = c in
-    let named = put in
-    let aligned_at = named in
-    let aligned = aligned_at.align_burst-residuals.ensures in
-    rw (lines_of aligned_at.requires.taken aligned.found aligned.residuals) at (printed-then (omega arith) named.put_motion_names-next.ensures.0 put.put_frames.ensures)
+    let aligned = c.align_burst-residuals.ensures in
+    rw (lines_of c.requires.taken aligned.found aligned.residuals) at (printed-then (omega arith) c.put_motion_names-next.ensures.0 c.put_frames.ensures)
 
 pub put_aligned_spec : {M : Type 1} → of.Statement.statement M
 put_aligned_spec = of.Tie.close (of.Tie.spec

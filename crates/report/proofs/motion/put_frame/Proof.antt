@@ -11,7 +11,7 @@ line frame parts residual s f = rw (s, f)
 
 returns : of.Tie.Need-returns
 returns c =
-    let counted = c in
+    let counted = c.before.before.before.before.before in
     let a = counted.args in
     let printed = c.put_numbers.ensures in
     (rw (line a.frame a.vectors.now a.residual counted.still_tiles.ensures counted.farthest.ensures) at printed.0, printed.1)

@@ -40,7 +40,7 @@ loop-holds c = record { count = omega arith; bound = omega arith; printed = prin
 loop-again : of.Tie.Need-loop-k-preserved invariant-loop-k decreases-loop-k
 loop-again c =
     let printed = c.put_frame-next.ensures in
-    let turn = c in
+    let turn = c.before.before.before.before.before.before.before in
     let a = turn.args in
     let lined = turn.loop-k.invariant in
     let k = turn.loop-k.k in

@@ -31,15 +31,8 @@ returns-2 c = wide-text _ c.requires.0 (accepted _ c.check_file-number.ensures c
 
 returns-3 : of.Tie.Need-returns-then-shape-ne-FRAME_SIDE-2
 returns-3 c =
-    let wide = c.before.before in
-    let checked = wide.before.before.before in
-    high-text _ (still-short checked) (accepted checked) wide.if-shape-ne-FRAME_SIDE.false c.if-shape-ne-FRAME_SIDE-2.true
-
--- the samples of the frames fit in those lent
-fits : (c : of.Tie.After-struct_known-in-Found-2-1) →
-    let at = c in
-    room at.header-1.given.0.0.shape.count ≤ length at.args.samples.now
-fits c = omega (arith, headed-few (accepted c.before.before.before.before.before.before))
+    high-text _ c.requires.0 (accepted _ c.check_file-number.ensures c.if-number-ne0.false c.read_head.ensures c.in-Found.is)
+    c.if-shape-ne-FRAME_SIDE.false c.if-shape-ne-FRAME_SIDE-2.true
 
 mul-end : of.Tie.Need-overflow_mul-end
 mul-end c = search (rules, headed-few (accepted _ c.check_file-number.ensures c.if-number-ne0.false c.read_head.ensures c.in-Found.is))
@@ -56,14 +49,10 @@ returns-4 c = head-text _ c.requires.0 (told _ c.read_head.ensures (Refused c.in
 
 returns-5 : of.Tie.Need-returns-else-shape-ne-FRAME_SIDE-2
 returns-5 c =
-    let known = c.before.before.before.before in
-    let high = known.before in
-    let wide = high.before.before in
-    let checked = wide.before.before.before in
-    let at = checked in
-    let samples = at.args.samples.now in
-    let same = length-take-le (room at.header-1.given.0.0.shape.count) samples (fits known) in
-    opens _ (still-short checked) (accepted checked) wide.if-shape-ne-FRAME_SIDE.false samples high.if-shape-ne-FRAME_SIDE-2.false (fits known) (omega (arith, same)) c.read_file.ensures
+    let file = accepted _ c.check_file-number.ensures c.if-number-ne0.false c.read_head.ensures c.in-Found.is in
+    let room_left = fits _ _ file c.requires.1 in
+    let same = length-take-le (room c.in-Found.header.shape.count) c.args.samples.now room_left in
+    opens _ c.requires.0 file c.if-shape-ne-FRAME_SIDE.false c.args.samples.now c.if-shape-ne-FRAME_SIDE-2.false room_left (omega (arith, same)) c.read_file.ensures
 
 pub open_file_spec : {M : Type 1} → of.Statement.statement M
 open_file_spec = of.Tie.close (of.Tie.spec

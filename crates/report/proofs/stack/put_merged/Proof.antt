@@ -8,9 +8,9 @@ returns : of.Tie.Need-returns
 unfolding frame_text
 returns c =
     let rows = c.before.before in
-    let sizes = rows in
-    let names = sizes in
-    let start = names in
+    let sizes = rows.before.before.before.before in
+    let names = sizes.before.before.before.before.before in
+    let start = names.before.before.before.before in
     let named = names.put_stack_names-sizes.ensures in
     printed-then (omega arith) named.0
     (printed-then (omega (arith, named.1, named.0.same, start.requires.1)) sizes.put_numbers-rows.ensures.0 rows.put_rows.ensures.0)

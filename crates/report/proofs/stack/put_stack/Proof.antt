@@ -12,8 +12,8 @@ merged-text {header} {samples} {output} t e =
 
 returns : of.Tie.Need-returns
 returns c =
-    let put = c in
-    let ran = put in
+    let put = c.before.before in
+    let ran = put.before.before.before.before.before.before in
     rw (merged-text ran.requires.0 ran.run_burst.ensures.0) at put.put_merged.ensures
 
 pub put_stack_spec : {M : Type 1} → of.Statement.statement M

@@ -8,7 +8,7 @@ use Rattle.report.proofs.stack.run_burst as of
 
 run-levels-requires : of.Tie.Need-run_levels-requires
 run-levels-requires c κs =
-    let start = c in
+    let start = c.before.before.before.before.before.before.before in
     let taken = start.requires.taken in
     record {
       fits = merge-fits taken (length-take-le _ start.args.vectors.now (omega (arith, taken.allowed.few))) start.requires.work-room start.requires.output_room;
@@ -23,7 +23,7 @@ run-levels-requires c κs =
 returns : of.Tie.Need-returns
 unfolding frame_of
 returns c =
-    let ran = c in
+    let ran = c.before.before.before.before in
     (ran.run_levels.ensures.result, search rules)
 
 pub run_burst_spec : {M : Type 1} → of.Statement.statement M

@@ -15,15 +15,13 @@ inside {l} {a} {r} {i} p =
 
 put-file-requires : of.Tie.Need-put_file-requires
 put-file-requires c κs =
-    let split = c in
-    let a = split.args in
-    record { file-most = omega (arith, length-take a.count a.file.now, split.if-count-gt-FILE_MOST.false); samples_room = search rules; text-room = search rules }
+    let a = c.args in
+    record { file-most = omega (arith, length-take a.count a.file.now, c.if-count-gt-FILE_MOST.false); samples_room = search rules; text-room = search rules }
 
 returns : of.Tie.Need-returns-then-count-gt-FILE_MOST
 returns c =
-    let split = c in
-    let a = split.args in
-    let long : file_most < length (take a.count a.file.now) = omega (arith, length-take a.count a.file.now, split.if-count-gt-FILE_MOST.true, split.requires.0) in
+    let a = c.args in
+    let long : file_most < length (take a.count a.file.now) = omega (arith, length-take a.count a.file.now, c.if-count-gt-FILE_MOST.true, c.requires.0) in
     let printed = rw (sym (long-text (take a.count a.file.now) long (printed_by a.program))) at c.put_too_large.ensures.0 in
     (printed, inside printed)
 
