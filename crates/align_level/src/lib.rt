@@ -86,7 +86,7 @@ fn coarse_part(words: &[i64], k: usize, f: usize) -> i64
 
 // A coarse vector, times f.
 fn coarse_vector(words: &[i64], coarse: Grid, row: usize, column: usize, f: usize) -> Vector
-    requires { record { vectors : Vectors words.now coarse; row-Below : row < coarse.rows; column_below : column < coarse.columns; factor-most : f ≤ 4 } }
+    requires { record { vectors : Vectors words.now coarse; row_below : row < coarse.rows; column_below : column < coarse.columns; factor-most : f ≤ 4 } }
     ensures { (result ≡ field_at words.now coarse.at coarse.columns row column times f) × (Within guess_most result) }
 {
     let k = coarse.at + 2 * (row * coarse.columns + column);

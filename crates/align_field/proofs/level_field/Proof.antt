@@ -20,17 +20,17 @@ kept c = writing-kept c.before.loop-k.invariant.0.writing
 
 add-summed : of.Tie.Need-overflow_add-summed invariant-loop-k decreases-loop-k
 add-summed c =
-    let l = c.before.before.before.before.before.before.before.before.before.before.before.before.before.before in
+    let l = c.before.before.before.before.before.before.before.before.before.before.before.before.before in
     let s = l.before in
-    omega (arith, l.loop-k.invariant.1.most, c.before.before.before.before.before.before.before.before.level_tile-found.ensures.few, tiles-few s.requires.ranges.few)
+    omega (arith, l.loop-k.invariant.1.most, c.before.before.before.before.before.before.before.before.level_tile-found.ensures.few, tiles-few s.requires.fits.few)
 
 level-tile-requires : of.Tie.Need-level_tile-found-requires invariant-loop-k decreases-loop-k
-level-tile-requires c κs = let i = c.before.before.before.before in
+level-tile-requires c κs = let i = c.before.before.before in
     let s = i.before.before in
-    let at = place-few s.requires.ranges.few i.before.loop-k.k i.loop-k-test.true in
+    let at = place-few s.requires.fits.few i.before.loop-k.k i.loop-k-test.true in
     let led = s.requires.led in
     record {
-      stored = kept-stored (kept i) s.args.area s.requires.ranges.stored s.requires.ranges.before;
+      stored = kept-stored (kept i) s.args.area s.requires.fits.stored s.requires.fits.before;
       led = record { level_most = led.level_most; vectors = λ h. kept-vectors (kept i) s.args.coarse (s.requires.ends.end h) (led.vectors h) };
       sided = s.requires.sided;
       row-most = at.0;
@@ -47,11 +47,11 @@ kept-buffers c = (search rules, search rules, search rules)
 
 loop-again : of.Tie.Need-loop-k-preserved invariant-loop-k decreases-loop-k
 loop-again c = let t = c.before.before.before.before.before.before.before.before in
-    let i = t.before.before.before.before.before in
+    let i = t.before.before.before.before in
     let s = i.before.before in
     let a = s.args in
     let k = i.before.loop-k.k in
-    let e = t.level_tile-found.ensures.is ∙ kept-answer (kept i) a.area s.requires.ranges.stored s.requires.ranges.before a.side a.coarse a.level s.requires.led s.requires.ends (k / a.columns) (k % a.columns) in (
+    let e = t.level_tile-found.ensures.is ∙ kept-answer (kept i) a.area s.requires.fits.stored s.requires.fits.before a.side a.coarse a.level s.requires.led s.requires.ends (k / a.columns) (k % a.columns) in (
       rw c.before.before.put.ensures (place-turn i.before.loop-k.invariant.0 i.loop-k-test.true (ap (λ r. r.vector.down) e) (ap (λ r. r.vector.right) e)),
       sum-turn i.before.loop-k.invariant.1 i.loop-k-test.true (ap (λ r. r.rows) e) t.level_tile-found.ensures.few,
       (kept-buffers t).0,
@@ -63,10 +63,10 @@ returns : of.Tie.Need-returns invariant-loop-k decreases-loop-k
 returns c =
     let s = c.before.before in
     let l = c.before.loop-k.invariant in
-    record { vectors = place-done l.0 c.loop-k-test.false; rows_are = sum_done l.1 c.loop-k-test.false; few = omega (arith, sum-most l.1 c.loop-k-test.false, tiles-few s.requires.ranges.few) }
+    record { vectors = place-done l.0 c.loop-k-test.false; rows_are = sum_done l.1 c.loop-k-test.false; few = omega (arith, sum-most l.1 c.loop-k-test.false, tiles-few s.requires.fits.few) }
 
 pub level_field_spec : {M : Type 1} → of.Statement.statement M
 level_field_spec = of.Tie.close (of.Tie.spec
-    invariant-loop-k decreases-loop-k (λ c. search rules) (λ c. (place-start c.requires.ranges.room, sum-start, refl, refl, refl)) (λ c. search rules)
+    invariant-loop-k decreases-loop-k (λ c. search rules) (λ c. (place-start c.requires.fits.room, sum-start, refl, refl, refl)) (λ c. search rules)
     (λ c. search rules) (λ c. search rules) (λ c. search rules) (λ c. search rules) level-tile-requires (λ c. search rules) (λ c. search rules) put-requires
     add-summed (λ c. search rules) (λ c. search rules) loop-again (λ c. search rules) returns)

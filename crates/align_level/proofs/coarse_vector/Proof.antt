@@ -41,7 +41,7 @@ returns c = let s = c.before.before.before.before in
     let a = s.args in
     let d = c.before.coarse_part-down in
     let r = c.coarse_part-right in
-    rw (back d.result d.ok, back r.result r.ok)
+    rw (back d.result d.type_inv, back r.result r.type_inv)
     (made a.words.now a.coarse.at a.coarse.columns a.row a.column a.f d.result r.result d.ensures.0 r.ensures.0, record { vertical = d.ensures.1; sideways = r.ensures.1 })
 
 pub coarse_vector_spec : {M : Type 1} → of.Statement.statement M

@@ -73,7 +73,7 @@ refine-candidates-requires c κs = let q = c.before.before.before.before.before.
       vertically_near = c.before.before.coarse_vector-vertically.ensures.1;
     }
 
-made : (s : Step) (rows columns : ℕ) (p : Pair) (t : Tile) (field : VectorField) (row column : ℕ) (q : Quotient) (f r r' k k' : ℕ) (x y z : Vector) → q ≡ s.quotient-q → f ≡ s.factor-f → r ≡ capped rows (own q row) → r' ≡ capped rows (neighbour q row) → k ≡ capped columns (own q column) → k' ≡ capped columns (neighbour q column) → x ≡ field r k times f → y ≡ field r k' times f → z ≡ field r' k times f → guessed p t x y z ≡ from_coarse s rows columns p t field row column
+made : (s : Step) (rows columns : ℕ) (p : Pair) (t : Tile) (field : VectorField) (row column : ℕ) (q : Quotient) (f r r' k k' : ℕ) (x y z : Vector) → q ≡ s.quotient → f ≡ s.factor → r ≡ capped rows (own q row) → r' ≡ capped rows (neighbour q row) → k ≡ capped columns (own q column) → k' ≡ capped columns (neighbour q column) → x ≡ field r k times f → y ≡ field r k' times f → z ≡ field r' k times f → guessed p t x y z ≡ from_coarse s rows columns p t field row column
 unfolding from_coarse
 made s rows columns p t field row column q f r r' k k' x y z eq ef er er' ek ek' ex ey ez = rw (ex, ey, ez, er, er', ek, ek', eq, ef)
 

@@ -7,11 +7,11 @@ copy-square-requires : of.Tie.Need-copy_square-requires
 copy-square-requires c κs = let s = c.before.before.before.before.before.before in copyable s.requires.0.stored s.requires.0.placed s.requires.1.samples_room
 
 refine-level-requires : of.Tie.Need-refine_level-requires
-refine-level-requires c κs = let s = c.before.before.before.before.before.before.before.before.before.before.before.before in
+refine-level-requires c κs = let s = c.before.before.before.before.before.before.before.before.before.before.before in
     let r = s.requires.1 in
     record {
       at = s.requires.0;
-      ready = ready s.requires.0.stored s.requires.0.placed (omega (arith, r.samples_room)) (omega (arith, r.enough)) c.before.before.before.before.before.copy_square.ensures;
+      ready = ready s.requires.0.stored s.requires.0.placed (omega (arith, r.samples_room)) (omega (arith, r.enough)) c.before.before.before.before.copy_square.ensures;
       roomy = record { enough = omega (arith, r.enough); samples_room = omega (arith, r.samples_room); window_room = r.window_room; other_room = r.other_room };
     }
 

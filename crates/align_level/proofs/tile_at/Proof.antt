@@ -13,7 +13,7 @@ returns c = let a = c.before.before.before.args in
     let h = c.before.before.half_of-half in
     let d = c.before.origin in
     let r = c.origin-2 in
-    rw (back d.result d.ok, back r.result r.ok)
+    rw (back d.result d.type_inv, back r.result r.type_inv)
     (made (level_at a.side a.level) h.result a.row a.column d.result r.result h.ensures.is h.ensures.twice d.ensures.0 r.ensures.0, record { small = omega arith; eights = omega arith; near = record { vertical = d.ensures.1.most; sideways = r.ensures.1.most } })
 
 pub tile_at_spec : {M : Type 1} → of.Statement.statement M

@@ -10,19 +10,19 @@ use Rattle.align_measure.proofs.measure_frame as of
 build-requires : of.Tie.Need-build-requires
 build-requires c κs =
     let start = c.before.before.before.before in
-    (start.requires.0.readable, omega (arith, two-pyramids start.args.shape start.requires.0.room, c.offset-at.ensures.0))
+    (start.requires.0.readable, omega (arith, two-pyramids start.args.shape start.requires.0.room, c.before.offset-at.ensures.0))
 
 -- the frame's pyramid stands behind the reference's
 built : (c : of.Tie.After-build) →
-    let a = c.args in
+    let a = c.before.before.before.before.before.args in
     Built a.shape (sample_at a.shape a.samples.now a.frame) (pyramid_length a.shape) a.work.now c.build.new.work
 built c =
-    let a = c.args in
-    subst (λ n. Built a.shape (sample_at a.shape a.samples.now a.frame) n a.work.now c.build.new.work) c.offset-at.ensures.0 c.build.ensures
+    let a = c.before.before.before.before.before.args in
+    subst (λ n. Built a.shape (sample_at a.shape a.samples.now a.frame) n a.work.now c.build.new.work) c.before.before.offset-at.ensures.0 c.build.ensures
 
 frame-residuals-requires : of.Tie.Need-frame_residuals-requires
 frame-residuals-requires c κs =
-    let columns = c.before.before in
+    let columns = c.before in
     let rows = columns.before in
     let area = rows.before in
     let laid = area.before.before in
@@ -45,14 +45,14 @@ told s l vectors to e {area} {rows} {columns} is a high wide =
 
 returns : of.Tie.Need-returns
 returns c =
-    let columns = c.before.before.before.before.before in
+    let columns = c.before.before.before.before in
     let rows = columns.before in
     let area = rows.before in
     let laid = area.before.before in
     let start = laid.before.before.before.before.before in
     let a = start.args in
     frame-measured start.requires.0.readable.sampled.allowed start.requires.0.levels (built laid)
-    (told a.shape laid.build.new.work a.vectors.now a.to a.residuals.now c.frame_residuals.ensures area.area_at-area.ensures rows.tile_rows-rows.ensures.0 columns.tile_columns-columns.ensures.0)
+    (told a.shape laid.build.new.work a.vectors.now a.to a.residuals.now c.before.before.frame_residuals.ensures area.area_at-area.ensures rows.tile_rows-rows.ensures.0 columns.tile_columns-columns.ensures.0)
 
 pub measure_frame_spec : {M : Type 1} → of.Statement.statement M
 measure_frame_spec = of.Tie.close (of.Tie.spec

@@ -21,13 +21,13 @@ rooms s k e vectors words h =
 build-requires : of.Tie.Need-build-requires invariant-loop-k decreases-loop-k
 build-requires c κs =
     let start = c.before.before.before in
-    (frame-of start.requires.ranges.burst start.requires.samples_fit _ start.requires.ranges.burst.reference_below, omega (arith, two-pyramids start.args.shape (work-room start.requires.fits)))
+    (frame-of start.requires.fits.burst start.requires.samples_fit _ start.requires.fits.burst.reference_below, omega (arith, two-pyramids start.args.shape (work-room start.requires.fits)))
 
 tile-rows-requires : of.Tie.Need-tile_rows-requires invariant-loop-k decreases-loop-k
-tile-rows-requires c κs = let b = c.requires.ranges.burst in (b.allowed, b.sided)
+tile-rows-requires c κs = let b = c.requires.fits.burst in (b.allowed, b.sided)
 
 tile-columns-requires : of.Tie.Need-tile_columns-requires invariant-loop-k decreases-loop-k
-tile-columns-requires c κs = let b = c.requires.ranges.burst in (b.allowed, b.sided)
+tile-columns-requires c κs = let b = c.requires.fits.burst in (b.allowed, b.sided)
 
 mul-tiles : of.Tie.Need-overflow_mul-tiles invariant-loop-k decreases-loop-k
 mul-tiles c = omega (arith, mul-le-mul c.tile_rows.ensures.1 c.tile_columns.ensures.1)
@@ -42,21 +42,21 @@ mul-measure-frame c =
     let loop = c.before.before.before in
     let columns = loop.before.before in
     let start = columns.before.before.before.before.before.before.before in
-    omega (arith, mul-le-mul {n₁ = loop.loop-k.k} {n₂ = 7} (omega (arith, start.requires.ranges.burst.allowed.few)) (mul-le-mul columns.tile_rows.ensures.1 columns.tile_columns.ensures.1))
+    omega (arith, mul-le-mul {n₁ = loop.loop-k.k} {n₂ = 7} (omega (arith, start.requires.fits.burst.allowed.few)) (mul-le-mul columns.tile_rows.ensures.1 columns.tile_columns.ensures.1))
 
 measure-frame-requires : of.Tie.Need-measure_frame-requires invariant-loop-k decreases-loop-k
 measure-frame-requires c κs =
     let loop = c.before.before.before.before in
     let columns = loop.before.before in
     let start = columns.before.before.before.before.before.before.before in
-    let burst = start.requires.ranges.burst in
+    let burst = start.requires.fits.burst in
     let inv = loop.loop-k.invariant.0 in
     let few = burst.allowed.few in
     let same = inv.same in
     let place = ap₂ (λ m n. loop.loop-k.k * (m * n)) columns.tile_rows.ensures.0 columns.tile_columns.ensures.0 in
     let room = rooms start.args.shape loop.loop-k.k place burst.vectors_long (inv.writing.same ∙ start.requires.residuals_long) (omega arith) in (
       record {
-        readable = frame-of start.requires.ranges.burst start.requires.samples_fit _ (omega (arith, c.other_frame-frame.ensures.1));
+        readable = frame-of start.requires.fits.burst start.requires.samples_fit _ (omega (arith, c.other_frame-frame.ensures.1));
         sided = burst.sided;
         levels = inv.levels;
         room = omega (arith, work-room start.requires.fits, columns.build.ensures.same);

@@ -21,21 +21,21 @@ copy-square-requires c κs = let s = c.before.before.before.before.before.before
 
 square-sum-requires : of.Tie.Need-square_sum-requires
 unfolding pair_in
-square-sum-requires c κs = let s = c.before.before.before.before.before.before.before.before.before.before in
+square-sum-requires c κs = let s = c.before.before.before.before.before.before.before.before.before in
     let h = s.requires.ready in
     record {
       sided = s.requires.sided;
-      compared = record { tile_low = copied-low h.stored.reference h.room h.copied; window_low = low-less (copied-low h.stored.other (omega (arith, s.requires.room)) c.before.before.before.copy_square.ensures) _ (whole s.requires.sided) };
+      compared = record { tile_low = copied-low h.stored.reference h.room h.copied; window_low = low-less (copied-low h.stored.other (omega (arith, s.requires.room)) c.before.before.copy_square.ensures) _ (whole s.requires.sided) };
       close = omega (arith, h.placed.small);
     }
 
 returns : of.Tie.Need-returns
 unfolding pair_in
-returns c = let s = c.before.before.before.before.before.before.before.before.before.before.before in
+returns c = let s = c.before.before.before.before.before.before.before.before.before.before in
     let a = s.args in
-    let e = c.before.before.before.before.before.before.sum.ensures in
+    let e = c.before.before.before.before.before.sum.ensures in
     c.square_sum.ensures
-    ∙ moved-residual false (pair_in a.words.now a.area) a.tile a.v _ _ _ _ a.tile.side refl s.requires.ready.copied c.before.before.before.before.copy_square.ensures (ap (λ v. v.down) e) (ap (λ v. v.right) e)
+    ∙ moved-residual false (pair_in a.words.now a.area) a.tile a.v _ _ _ _ a.tile.side refl s.requires.ready.copied c.before.before.before.copy_square.ensures (ap (λ v. v.down) e) (ap (λ v. v.right) e)
 
 pub candidate_sum_spec : {M : Type 1} → of.Statement.statement M
 candidate_sum_spec = of.Tie.close (of.Tie.spec sum-requires copy-square-requires square-sum-requires (λ c. search rules) returns)
