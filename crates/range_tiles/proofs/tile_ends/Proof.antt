@@ -26,7 +26,7 @@ unfolding cell
 pair-roots-requires c κs =
     let t = c.before.before.before in
     let s = t in
-    let fits = tile-fits 16 _ (reference-most side16 s.requires.accepted s.requires.sited) (tile_is t) in
+    let fits = tile-fits 16 _ (reference-most side16 s.requires.accepted s.requires.sited) (tile_is t.before.before) in
     record { most = λ i l. (fits.row i).most l }
 
 -- the noise numbers of either plane, at a noise whose scene has this T0
@@ -50,7 +50,7 @@ summed-requires c κs =
     let t = l.before.before.before.before.before in
     let s = t in
     let p = s.requires in
-    record { accepted = p.accepted; sited = p.sited; tile = tile_is t; lower_fits = l.noises-low.ensures.fits; upper_fits = n.noises-high.ensures.fits; cleared = p.cleared }
+    record { accepted = p.accepted; sited = p.sited; tile = tile_is t.before.before; lower_fits = l.noises-low.ensures.fits; upper_fits = n.noises-high.ensures.fits; cleared = p.cleared }
 
 returns : of.Tie.Need-returns
 unfolding scene_at
@@ -62,8 +62,8 @@ returns c =
     let s = t in
     let a = s.args in
     let few = s.requires.accepted.burst.allowed.few in
-    let low = numbers-known r a.m (tile_is t) refl l.noises-low.ensures in
-    let high = numbers-known r (raised a.m a.upper) (upper_is t) refl n.noises-high.ensures in
+    let low = numbers-known r a.m (tile_is t.before.before) refl l.noises-low.ensures in
+    let high = numbers-known r (raised a.m a.upper) (upper_is t.before.before) refl n.noises-high.ensures in
     record {
       greatests = end-taken greatest_at _ _ a.site (omega arith) low high c.summed.ensures.greatests;
       leasts = end-taken least_at _ _ a.site (omega arith) low high c.summed.ensures.leasts;

@@ -23,7 +23,7 @@ unfolding cell
 pair-roots-requires c κs =
     let t = c.before.before.before in
     let s = t in
-    let fits = tile-fits 16 _ (reference-most side16 s.requires.accepted s.requires.sited) (tile_is t) in
+    let fits = tile-fits 16 _ (reference-most side16 s.requires.accepted s.requires.sited) (tile_is t.before.before) in
     record { most = λ i l. (fits.row i).most l }
 
 abbrev roots_of : of.Tie.After-tile_noise-second → ℕ → ℕ
@@ -37,7 +37,7 @@ roots-known c =
     let b = r.before.before in
     let t = b.before.before in
     let a = t.args in
-    roots-of 16 side16 sided a.m a.samples.now a.vectors.now a.site (tile_is t) b.plane_black-first_black.ensures b.plane_black-second_black.ensures r.pair_roots-roots.ensures.first r.pair_roots-roots.ensures.second
+    roots-of 16 side16 sided a.m a.samples.now a.vectors.now a.site (tile_is t.before.before) b.plane_black-first_black.ensures b.plane_black-second_black.ensures r.pair_roots-roots.ensures.first r.pair_roots-roots.ensures.second
 
 known : (c : of.Tie.After-tile_noise-second) → let t = c.before.before.before.before.before.before in let a = t.args in
     TileOf 16 noise_most (scene_at side16 a.m a.samples.now a.vectors.now) a.site t.pair.new.tile c.tile_noise-first.result c.tile_noise-second.result
@@ -46,7 +46,7 @@ known c =
     let b = r.before.before in
     let t = b.before.before in
     let a = t.args in
-    tile-of 16 side16 sided a.m a.samples.now a.vectors.now a.site (tile_is t) b.plane_black-first_black.ensures b.plane_black-second_black.ensures r.pair_roots-roots.ensures.first r.pair_roots-roots.ensures.second
+    tile-of 16 side16 sided a.m a.samples.now a.vectors.now a.site (tile_is t.before.before) b.plane_black-first_black.ensures b.plane_black-second_black.ensures r.pair_roots-roots.ensures.first r.pair_roots-roots.ensures.second
     c.tile_noise-first.ensures.0 c.tile_noise-second.ensures.0 c.tile_noise-first.ensures.1 c.tile_noise-second.ensures.1
 
 summed-requires : of.Tie.Need-summed-requires
@@ -64,7 +64,7 @@ returns c =
     taken-off _ _ c.if-m-eq0.true 16 small_most (omega arith) (lit≤ tt) u.summed.ensures
 
 -- N frames
-frames-are : {m : Merge} {samples : List ℕ} {vectors : List ℤ} → Accepted 16 m samples vectors → m.shape-1.count ≡ suc (scene_at side16 m samples vectors).others
+frames-are : {m : Merge} {samples : List ℕ} {vectors : List ℤ} → Accepted 16 m samples vectors → m.shape.count ≡ suc (scene_at side16 m samples vectors).others
 unfolding scene_at
 frames-are ok = let h = ok.burst.allowed.some in omega arith
 
@@ -78,7 +78,7 @@ filter-sums-requires c κs =
     let r = n.before.before in
     let t = r.before.before.before.before in
     let s = t in
-    let fits = tile-fits 16 _ (reference-most side16 s.requires.accepted s.requires.sited) (tile_is t) in
+    let fits = tile-fits 16 _ (reference-most side16 s.requires.accepted s.requires.sited) (tile_is t.before.before) in
     record {
       tuned = tuned s.requires.accepted;
       first_most = r.pair_roots-roots.ensures.first_most;
@@ -99,7 +99,7 @@ returns-2 c =
     let k = tuned s.requires.accepted in
     let range : (root : ℕ) → root ≤ 65520 → SpatialRange a.m.tuning.spatial a.m.shot a.m.read root a.m.shape.count =
     λ root h. record { strength = k.spatial-most; shot = k.shot_most; read = k.read_most; root = h; some = k.some; few = k.few } in
-    taken-on a.m a.samples.now a.vectors.now a.site _ _ r.pair_roots-roots.result.first r.pair_roots-roots.result.second k.some k.few (tile_is t) u.summed.ensures (roots-known n)
+    taken-on a.m a.samples.now a.vectors.now a.site _ _ r.pair_roots-roots.result.first r.pair_roots-roots.result.second k.some k.few (tile_is t.before.before) u.summed.ensures (roots-known n)
     (both (λ p. SpatialRange a.m.tuning.spatial a.m.shot a.m.read (roots_of n p) a.m.shape.count) (range _ r.pair_roots-roots.ensures.first_most) (range _ r.pair_roots-roots.ensures.second_most))
     c.filter_sums.ensures
 

@@ -30,7 +30,7 @@ other-is c =
 
 difference-requires : of.Tie.Need-difference-requires
 difference-requires c κs =
-    let tz = c.before.before in
+    let tz = c.before in
     let s = tz in
     let ok = s.requires.accepted in
     record {
@@ -41,7 +41,7 @@ difference-requires c κs =
 
 returns : of.Tie.Need-returns
 returns c =
-    let tz = c.before.before.before in
+    let tz = c.before.before in
     let s = tz in
     (c.difference.ensures ∙ difference-grid 16 (scene_at side16 s.args.m s.args.samples.now s.args.vectors.now) _ _ _ _ s.requires.tile (other-is tz), pair-rows 16 _ (other-is tz))
 

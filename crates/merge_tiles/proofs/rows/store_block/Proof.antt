@@ -1,5 +1,5 @@
 -- The words of half a row, one after the other.
-use Rattle.algebra.specs.Prelude.{◌+◌, ◌-◌, arith, rules, get_or, pos, to_z-of_z}
+use Rattle.algebra.specs.Prelude.{◌+◌, ◌-◌, arith, rules, get_or, pos, to_z-of_z, w64}
 use Rattle.sequences.specs.Write.{Writing, write-start, write-turn, write_done}
 use Rattle.merge_tiles.proofs.rows.store_block as of
 
@@ -10,7 +10,7 @@ abbrev decreases-loop-j : of.Tie.decreases-loop-j
 decreases-loop-j work₀ at row from j₀ work j = 16 - j
 
 loop-again : of.Tie.Need-loop-j-preserved invariant-loop-j decreases-loop-j
-loop-again c = write-turn c.loop-j.invariant (omega arith) (to_z-of_z (record { sfits = c.work-1.given }))
+loop-again c = write-turn c.loop-j.invariant (omega arith) (to_z-of_z {w = w64} (record { sfits = c.work-1.given }))
 
 returns : of.Tie.Need-returns invariant-loop-j decreases-loop-j
 returns c = write_done c.loop-j.invariant (omega arith)

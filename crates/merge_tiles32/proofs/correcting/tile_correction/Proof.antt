@@ -20,7 +20,7 @@ unfolding cell
 pair-roots-requires c κs =
     let t = c.before.before.before in
     let s = t in
-    let fits = tile-fits 32 _ (reference-most side32 s.requires.accepted s.requires.sited) (tile_is t) in
+    let fits = tile-fits 32 _ (reference-most side32 s.requires.accepted s.requires.sited) (tile_is t.before.before) in
     record { most = λ i l. (fits.row i).most l }
 
 -- V of either plane
@@ -31,7 +31,7 @@ known c =
     let b = r.before.before in
     let t = b.before.before in
     let a = t.args in
-    tile-of 32 side32 sided a.m a.samples.now a.vectors.now a.site (tile_is t) b.plane_black-first_black.ensures b.plane_black-second_black.ensures r.pair_roots-roots.ensures.first r.pair_roots-roots.ensures.second
+    tile-of 32 side32 sided a.m a.samples.now a.vectors.now a.site (tile_is t.before.before) b.plane_black-first_black.ensures b.plane_black-second_black.ensures r.pair_roots-roots.ensures.first r.pair_roots-roots.ensures.second
     c.tile_noise-first.ensures.0 c.tile_noise-second.ensures.0 c.tile_noise-first.ensures.1 c.tile_noise-second.ensures.1
 
 summed-requires : of.Tie.Need-summed-requires

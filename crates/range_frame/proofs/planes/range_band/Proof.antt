@@ -27,7 +27,7 @@ loop-holds c = band-start
 output-rows-requires : of.Tie.Need-output_rows-requires invariant-loop-i decreases-loop-i
 unfolding scene_at
 output-rows-requires c κs =
-    let i = c.before.before.before in
+    let i = c.before.before in
     let l = i in
     let r = l in
     let s = r in
