@@ -66,13 +66,13 @@ add-output-2 : of.Tie.Need-overflow_add-output-in-loop-x invariant-loop-x decrea
 add-output-2 c =
     let t = c in
     let s = t in
-    omega (arith, s.requires.0.output_room, s.requires.1, s.good.1.1.1.1.1.1.1.0.0, t.loop-x-test.true)
+    omega (arith, s.requires.0.output_room, s.requires.1, s.well_formed.1.1.1.1.1.1.1.0.0, t.loop-x-test.true)
 
 mul-output-2 : of.Tie.Need-offset_bounds-output-start-in-loop-x invariant-loop-x decreases-loop-x
 mul-output-2 c =
     let t = c in
     let s = t in
-    omega (arith, s.requires.0.output_room, s.requires.1, s.good.1.1.1.1.1.1.1.0.1, t.loop-x-test.true)
+    omega (arith, s.requires.0.output_room, s.requires.1, s.well_formed.1.1.1.1.1.1.1.0.1, t.loop-x-test.true)
 
 slice-write-output-2 : of.Tie.Need-bounds-output-start-in-loop-x invariant-loop-x decreases-loop-x
 slice-write-output-2 c =
@@ -80,7 +80,7 @@ slice-write-output-2 c =
     let t = b in
     let s = t in
     let l = t.loop-x in
-    omega (arith, l.inv.room, l.inv.same, length-set l.output (s.args.span.start + s.args.place + 2 * l.x) b.corrected.result, t.loop-x-test.true)
+    omega (arith, l.invariant.room, l.invariant.same, length-set l.output (s.args.span.start + s.args.place + 2 * l.x) b.corrected.result, t.loop-x-test.true)
 
 loop-again : of.Tie.Need-loop-x-preserved invariant-loop-x decreases-loop-x
 loop-again c =
