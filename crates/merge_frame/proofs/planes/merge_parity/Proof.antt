@@ -44,7 +44,7 @@ loop-again : of.Tie.Need-loop-band-preserved invariant-loop-band decreases-loop-
 loop-again c =
     let l = c in
     let b = c.merge_band in
-    (parity-turn l.loop-band.invariant.0 b.ensures, b.kept.1.1.1.1.1.1.1.0 ∙ l.loop-band.invariant.1, omega arith)
+    (parity-turn l.loop-band.invariant.0 b.ensures, b.auto.work ∙ l.loop-band.invariant.1, omega arith)
 
 returns : of.Tie.Need-returns invariant-loop-band decreases-loop-band
 returns c =

@@ -33,12 +33,12 @@ output-rows-requires c κs =
     let s = r in
     let a = s.args in
     let t = s.requires.lent in
-    let above = ends-kept r.End-row.ensures s.requires.held in
-    let under = ends_held r.End-row.ensures t.room in
+    let above = ends-kept r.end_row.ensures s.requires.held in
+    let under = ends_held r.end_row.ensures t.room in
     let rows = l.loop-i.invariant.rows a.upper above under in
     record {
       wide = t.accepted.burst.allowed.wide.most;
-      room = omega (arith, t.room, r.End-row.ensures.same);
+      room = omega (arith, t.room, r.end_row.ensures.same);
       low_ready = row-ready a.m a.upper a.samples.now a.vectors.now t.accepted s.requires.parity s.requires.band_below i.loop-i-test.true greatest_at above.greatest under.greatest (rows.lows.toward.same ∙ t.low_long);
       high_ready = row-ready a.m a.upper a.samples.now a.vectors.now t.accepted s.requires.parity s.requires.band_below i.loop-i-test.true least_at above.least under.least (rows.highs.toward.same ∙ t.high_long);
     }
@@ -58,7 +58,7 @@ same_length c =
     let l = c in
     let r = l in
     let s = r in
-    (l.loop-i.invariant.rows s.args.upper (ends-kept r.End-row.ensures s.requires.held) (ends_held r.End-row.ensures s.requires.lent.room)).lows.toward.same
+    (l.loop-i.invariant.rows s.args.upper (ends-kept r.end_row.ensures s.requires.held) (ends_held r.end_row.ensures s.requires.lent.room)).lows.toward.same
 
 same-length-2 : of.Tie.Need-shape_of-high invariant-loop-i decreases-loop-i
 unfolding scene_at
@@ -66,7 +66,7 @@ same-length-2 c =
     let l = c in
     let r = l in
     let s = r in
-    (l.loop-i.invariant.rows s.args.upper (ends-kept r.End-row.ensures s.requires.held) (ends_held r.End-row.ensures s.requires.lent.room)).highs.toward.same
+    (l.loop-i.invariant.rows s.args.upper (ends-kept r.end_row.ensures s.requires.held) (ends_held r.end_row.ensures s.requires.lent.room)).highs.toward.same
 
 returns : of.Tie.Need-returns invariant-loop-i decreases-loop-i
 unfolding scene_at
@@ -75,11 +75,11 @@ returns c =
     let r = l in
     let s = r in
     let a = s.args in
-    let under = ends_held r.End-row.ensures s.requires.lent.room in
+    let under = ends_held r.end_row.ensures s.requires.lent.room in
     let all : 8 * a.band + l.loop-i.i ≡ 8 * a.band + 8 = omega (arith, l.loop-i.invariant.count) in
     record {
       rows = subst (λ n. at_noises RowsRanged a.m a.upper a.samples.now a.vectors.now a.parity (8 * a.band) n a.low.now l.loop-i.low a.high.now l.loop-i.high) all
-          (l.loop-i.invariant.rows a.upper (ends-kept r.End-row.ensures s.requires.held) under);
+          (l.loop-i.invariant.rows a.upper (ends-kept r.end_row.ensures s.requires.held) under);
       held = under;
     }
 

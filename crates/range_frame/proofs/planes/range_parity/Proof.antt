@@ -28,7 +28,7 @@ unfolding scene_at
 loop-holds c =
     let r = c in
     let s = r in
-    record { rows = ranged-start; held = ends_held r.End-row.ensures s.requires.lent.room; long = refl; most = omega arith }
+    record { rows = ranged-start; held = ends_held r.end_row.ensures s.requires.lent.room; long = refl; most = omega arith }
 
 range-band-requires : of.Tie.Need-range_band-requires invariant-loop-band decreases-loop-band
 range-band-requires c κs =
@@ -44,7 +44,7 @@ range-band-requires c κs =
         upper_fits = t.upper_fits;
         low_long = w.rows.lows.toward.same ∙ t.low_long;
         high_long = w.rows.highs.toward.same ∙ t.high_long;
-        room = omega (arith, t.room, w.long, r.End-row.ensures.same);
+        room = omega (arith, t.room, w.long, r.end_row.ensures.same);
       };
       parity = s.requires.parity;
       band_below = omega (arith, i.loop-band-test.true);
@@ -62,7 +62,7 @@ loop-again c =
     record {
       rows = subst (λ n. at_noises RowsRanged a.m a.upper a.samples.now a.vectors.now a.parity 0 n a.low.now b.range_band.new.low a.high.now b.range_band.new.high) (omega arith) (ranged-on w.rows b.range_band.ensures.rows);
       held = b.range_band.ensures.held;
-      long = b.range_band.auto.1.1.1.1.1.1.1.1.0 ∙ w.long;
+      long = b.range_band.auto.work ∙ w.long;
       most = omega (arith, i.loop-band-test.true);
     }
 
