@@ -10,7 +10,7 @@ use Rattle.pipeline.proofs.run_levels as of
 align-frames-requires : of.Tie.Need-align_frames-totals-requires
 align-frames-requires c κs =
     let ready = c.requires in
-    record { fits = record { burst = ready.ranges.burst; work_long = ready.ranges.work_long }; samples_fit = ready.samples_fit }
+    record { fits = record { burst = ready.fits.burst; work_long = ready.fits.work_long }; samples_fit = ready.samples_fit }
 
 merge-frames-requires : of.Tie.Need-merge_frames-requires
 merge-frames-requires c κs =
@@ -19,10 +19,10 @@ merge-frames-requires c κs =
     record {
       accepted = record {
         burst = record {
-          allowed = ready.ranges.burst.allowed;
-          sided = ready.ranges.burst.sided;
-          reference_below = ready.ranges.burst.reference_below;
-          samples_long = ready.ranges.burst.samples_long;
+          allowed = ready.fits.burst.allowed;
+          sided = ready.fits.burst.sided;
+          reference_below = ready.fits.burst.reference_below;
+          samples_long = ready.fits.burst.samples_long;
           vectors_long = search rules;
         };
         side_is = refl;
@@ -34,8 +34,8 @@ merge-frames-requires c κs =
         spatial-most = ready.spatial-most;
         unfiltered = ready.unfiltered;
       };
-      output_long = ready.ranges.output_long;
-      work_long = frames.align_frames-totals.ensures.same ∙ ready.ranges.work_long;
+      output_long = ready.fits.output_long;
+      work_long = frames.align_frames-totals.ensures.same ∙ ready.fits.work_long;
     }
 
 returns : of.Tie.Need-returns

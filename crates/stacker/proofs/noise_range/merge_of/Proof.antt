@@ -8,10 +8,10 @@ abbrev levelled : of.Tie.Start → Levels → Merge
 levelled s levels = let a = s.args in record { shape = a.shape; reference = a.reference; shot = shot_level levels; read = read_level levels; tuning = a.tuning }
 
 returns : of.Tie.Need-returns-in-Found
-returns c = let l = c.before.before.before in ap (levelled l.before) (sym c.shot-1.given.1 ∙ l.levels_of.ensures)
+returns c = ap (levelled c.before.before) (sym c.in-Found.is ∙ c.levels_of.ensures)
 
 returns-2 : of.Tie.Need-returns-in-Refused
-returns-2 c = let l = c.before.before in ap (levelled l.before) (sym c.in-Found.is ∙ l.levels_of.ensures)
+returns-2 c = ap (levelled c.before.before) (sym c.in-Refused.is ∙ c.levels_of.ensures)
 
 pub merge_of_spec : {M : Type 1} → of.Statement.statement M
 merge_of_spec = of.Tie.close (of.Tie.spec (λ c κs. search rules) (λ c. search rules) (λ c. search rules) returns returns-2)
