@@ -16,7 +16,7 @@ returns c =
 sharpest-requires : of.Tie.Need-sharpest-reference-requires
 sharpest-requires c κs =
     let ready = runnable c.run_refusal-tested.ensures c.if-refusal-ne0.false in
-    (record { allowed = ready.ranges.burst.allowed; long = ready.ranges.burst.samples_long }, ready.samples_fit)
+    (record { allowed = ready.fits.burst.allowed; long = ready.fits.burst.samples_long }, ready.samples_fit)
 
 run-levels-requires : of.Tie.Need-run_levels-totals-requires
 run-levels-requires c κs =

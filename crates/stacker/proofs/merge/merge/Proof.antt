@@ -34,7 +34,7 @@ merge-frames-requires c κs =
     let ready = run-passed _ _ _ _ _ _ _ _ (sym (tested-number _ _ tested) ∙ z) in
     record {
       accepted = record {
-        burst = ready.ranges.burst;
+        burst = ready.fits.burst;
         side_is = refl;
         samples_fit = ready.samples_fit;
         vectors_fit = vectors_fit _ (sym lent.vector_refusal-lent.ensures ∙ lent.if-lent-ne0.false);
@@ -44,8 +44,8 @@ merge-frames-requires c κs =
         spatial-most = ready.spatial-most;
         unfiltered = ready.unfiltered;
       };
-      output_long = ready.ranges.output_long;
-      work_long = ready.ranges.work_long;
+      output_long = ready.fits.output_long;
+      work_long = ready.fits.work_long;
     }
 
 returns-3 : of.Tie.Need-returns
@@ -64,8 +64,8 @@ returns-3 c =
       answer = sym lent.if-lent-ne0.false ∙ e;
       result = made _ _ _ e lent.if-lent-ne0.false is;
       clean = made _ _ _ e lent.if-lent-ne0.false (c.clear.ensures ∙ zeros-length _ _ (search rules));
-      near = λ _. found-close _ _ ready.ranges.burst.allowed ready.ranges.burst.sided ready.unfiltered _ _ _ refl is;
-      ceiling = λ _. found-capped _ _ ready.ranges.burst ready.samples_fit _ _ _ refl is;
+      near = λ _. found-close _ _ ready.fits.burst.allowed ready.fits.burst.sided ready.unfiltered _ _ _ refl is;
+      ceiling = λ _. found-capped _ _ ready.fits.burst ready.samples_fit _ _ _ refl is;
     }
 
 pub merge_spec : {M : Type 1} → of.Statement.statement M
