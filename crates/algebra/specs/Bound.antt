@@ -1,4 +1,4 @@
--- Bounds on integers as records, so that their arguments are found, and what search rules to show that a signed operation fits.
+-- Bounds on integers as records, so that their arguments are found, and what search needs to show that a signed operation fits.
 use Rattle.algebra.specs.Prelude.{◌≡◌, subst, true, false, ℕ, zero, suc, ◌+◌, ◌*◌, ◌/◌, ◌^◌, ◌≤◌, ◌<◌, arith, ℤ, pos, negsuc, nat_abs, neg_ℤ, ◌+ℤ◌, ◌-ℤ◌, ◌*ℤ◌, to_z-of_z}
 use Rattle.std.specs.Int.Signed.{mag, quot_z, shr_z, mag_shr, non_neg, lt_z}
 use Rattle.std.proofs.Math.IntN.{+ℤ_idl}

@@ -16,7 +16,7 @@ pub record PgmFile (bytes : List ℕ) (width height : ℕ) (frame : List ℕ) : 
   pub small : (k : ℕ) → get_or frame k 0 ≤ 4095
   pub is : bytes ≡ file_of width height frame
 
--- "exactly the right length": that of the file of a frame of W-as-H samples (`file-long`)
+-- "exactly the right length": that of the file of a frame of W·H samples (`file-long`)
 unfoldable pub file_length : (width height : ℕ) → ℕ
 file_length width height = length (pgm_header width height) + 2 * (width * height)
 

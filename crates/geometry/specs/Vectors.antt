@@ -35,7 +35,7 @@ part (suc k) v = v.right
 unfoldable pub word : (columns : ℕ) → VectorField → ℕ → ℤ
 word columns f i = part (i % 2) (numbered columns f (i / 2))
 
--- and of the fields of all other frames; `list-down` and `List-right` (VectorLaws): each stands at its place
+-- and of the fields of all other frames; `list-down` and `list_right` (VectorLaws): each stands at its place
 unfoldable pub word_of : Shape → (ℕ → VectorField) → ℕ → ℤ
 word_of s f i = word (tile_columns s) (f (i / frame_parts s)) (i % frame_parts s)
 

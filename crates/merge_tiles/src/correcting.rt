@@ -69,7 +69,7 @@ fn summed(
     corrections(m, samples, vectors, site, t0, first, second, &mut *sum);
 }
 
-// N.P' of the spatial filter is added to the sums of a pair of tiles of these roots.
+// N·P' of the spatial filter is added to the sums of a pair of tiles of these roots.
 fn filter_sums(m: Merge, t0: &[[u16; 32]; 16], first: u64, second: u64, sum: &mut [[i64; 32]; 16])
     requires { record { tuned : Tuned m; first_most : first ≤ 65520; second_most : second ≤ 65520; samples : SamplePair t0.now; sums : SumPair m.shape.count sum.old; paired : Paired (pos 0) sum.old } }
     ensures { sum.new ≡ filtered_sums m.shape.count (spatial_in m (either first second)) t0.now sum.old }

@@ -1,4 +1,4 @@
-// The spatial filter (request L13) on two tiles side by side: the copy of the merged tile, its bins, the Wiener step on them at V' of each bin, and N.P' from
+// The spatial filter (request L13) on two tiles side by side: the copy of the merged tile, its bins, the Wiener step on them at V' of each bin, and N·P' from
 // that, added to the sums of P. The copy has 24 bits: its high and low twelve are transformed one by one, in double, and put together in 64 bits.
 #![tactic(auto)]
 
@@ -48,7 +48,7 @@ fn step(w: &[[i64; 32]; 16], noises: &[[u64; 18]; 9]) -> [[f64; 32]; 16]
     folds(&g, &h)
 }
 
-// N.P' of both planes is added to their sums, at V' of their bins (u, v) for u and v up to 8.
+// N·P' of both planes is added to their sums, at V' of their bins (u, v) for u and v up to 8.
 pub fn filter_pair(
     frames: u64,
     first: &[[u64; 9]; 9],

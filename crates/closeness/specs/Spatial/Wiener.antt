@@ -1,4 +1,4 @@
--- One bin of the copy. With C a common denominator of the exact corrections: twice the square of the error of C-as-G is at most C²·(12 + 3·(the bin's error)²), the error counted in sixteenths.
+-- One bin of the copy. With C a common denominator of the exact corrections: twice the square of the error of C·G is at most C²·(12 + 3·(the bin's error)²), the error counted in sixteenths.
 -- Rounding the bin and rounding G are each at most 1/√2, and |a + b + c|² ≤ 6·|a|² + 6·|b|² + 3/2·|c|².
 use Rattle.closeness.specs.Spatial.Prelude.{◌≡◌, sym, ◌∙◌, subst, [], ◌∷◌, ℕ, zero, suc, ◌*◌, ◌<◌, arith, ℤ, pos, ◌+ℤ◌, ◌-ℤ◌, ◌*ℤ◌, subst₂, vars3, vars7, vars8, vars10, Expr, var, ◌⊞◌, ◌⊟◌, ◌⊠◌, ⊖◌, #◌, ring, Frac, whole, sq, Side, power, wiener, exact_wiener}
 use Rattle.std.proofs.Common.{mul-pos}
@@ -19,7 +19,7 @@ rounds-square {z} {q} {m} h =
     let (Z, Q, M) = vars3 in
     by_le (z ∷ q ∷ pos m ∷ []) (# 4 ⊠ ((M ⊠ Q ⊟ Z) ⊠ (M ⊠ Q ⊟ Z))) (M ⊠ M) (le (# 2 ⊠ (M ⊠ Q ⊟ Z)) M h.up ⊗ le (# 2 ⊠ (Z ⊟ M ⊠ Q)) M h.down) tt
 
--- rounding G: the errors e, f of C-as-G against the error t, u of the Wiener step, of which a and b are the denominators
+-- rounding G: the errors e, f of C·G against the error t, u of the Wiener step, of which a and b are the denominators
 rounded-step : (a b c k p q t u e f d : ℤ) → pos 0 <ℤ (a *ℤ b *ℤ (a *ℤ b)) → a *ℤ b *ℤ e ≡ c *ℤ (a *ℤ p +ℤ t) → a *ℤ b *ℤ f ≡ c *ℤ (a *ℤ q +ℤ u) →
     (pos 4 *ℤ sq p) ≤ℤ sq b → (pos 4 *ℤ sq q) ≤ℤ sq b → (k *ℤ k *ℤ (sq t +ℤ sq u)) ≤ℤ (d *ℤ sq (b *ℤ a)) →
     (pos 10 *ℤ (k *ℤ k) *ℤ (sq e +ℤ sq f)) ≤ℤ (c *ℤ c *ℤ (pos 30 *ℤ (k *ℤ k) +ℤ pos 12 *ℤ d))
@@ -75,7 +75,7 @@ none : {C : ℕ} {n : ℤ} → Near 0 1 n (pos C) (whole (pos 0)) → n ≡ pos 
 unfolding whole
 none {C} {n} h = ring (n ∷ []) (var 0) (var 0 ⊠ # 1) tt ∙ near-cross h ∙ ring (pos C ∷ []) (var 0 ⊠ # 0) (# 0) tt
 
--- a·b times the error of C-as-G
+-- a·b times the error of C·G
 error-is : (a b c s v k q x g n : ℤ) → n *ℤ (s *ℤ a) ≡ v *ℤ k *ℤ x *ℤ c → a *ℤ b *ℤ (c *ℤ g -ℤ s *ℤ n) ≡ c *ℤ (a *ℤ (b *ℤ g -ℤ v *ℤ q) +ℤ (v *ℤ q *ℤ a -ℤ v *ℤ k *ℤ x *ℤ b))
 error-is a b c s v k q x g n h =
     let (A, B, C, S, W, K, Q, X, G, N) = vars10 in

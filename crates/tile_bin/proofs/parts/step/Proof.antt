@@ -1,4 +1,4 @@
--- `tile_bin::parts::step`: |Q|² + V fits by the computed test of `Code`, and V-as-Q, of which the double need not fit, as asked.
+-- `tile_bin::parts::step`: |Q|² + V fits by the computed test of `Code`, and V·Q, of which the double need not fit, as asked.
 use Rattle.tile_bin.specs.Prelude.{◌≡◌, sym, ap, ap₂, subst, ◌∙◌, List, [], ◌∷◌, arith, rules, lit<, ℤ, pos, nat_abs, ◌+ℤ◌, ◌*ℤ◌, w64, away, power, wiener, copy_part_most, noise_most}
 use Prim.Native.Nat.{ℕ, ◌-◌, ◌<◌, ◌^◌}
 use native.Mathlib.Nat.{lt_of_le_of_lt, add-le-add, mul-le-mul}
@@ -46,7 +46,7 @@ Power s = add w64 (Squares s) (loc 2)
 abbrev Product : (s : At) → Code (nth (xs s))
 Product s = mul w64 (loc 2) (Q s)
 
--- what the code's |Q|² + V and V-as-Q are
+-- what the code's |Q|² + V and V·Q are
 power_at : (s : At) → val (Power s) ≡ pos (power s.args.noise s.args.q s.args.r)
 power_at s =
     val-den (xs s) bs (small s) (Power s) tt ∙ ap (λ v. s.args.q *ℤ s.args.q +ℤ s.args.r *ℤ s.args.r +ℤ v) (noise-is s)

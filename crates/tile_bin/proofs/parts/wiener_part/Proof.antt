@@ -1,4 +1,4 @@
--- `tile_bin::parts::wiener_part`: V-as-Q is at most 6.7e18, and G at most Q.
+-- `tile_bin::parts::wiener_part`: V·Q is at most 6.7e18, and G at most Q.
 use Rattle.tile_bin.specs.Prelude.{◌≡◌, refl, ap₂, ◌∙◌, lit<, lit≤, rules, pos, w64, to_z, of_z, wiener}
 use native.Mathlib.Nat.{le_trans, lt_of_le_of_lt}
 use mir.Facts.{to_z-of_z}
