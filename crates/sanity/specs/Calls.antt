@@ -1,9 +1,8 @@
--- The same at the calls, once they have accepted: what merge, align and run leave without the spatial filter at strength 0, of a lone frame, of frames that are all equal, and of frames
--- in another order.
+-- The same at the calls, once they have accepted: what merge, align and run leave without the spatial filter at strength 0, of frames that are all equal, and of frames in another
+-- order; of a lone frame in proofs/Calls.
 use Rattle.sanity.specs.Prelude.{◌≡◌, sym, ap, ◌∙◌, List, ℕ, ℤ, pos, length, replicate, zeros, Shape, Noise, aligned_vectors, scene_of, merged, Alignment, Tuning, merge_of, no_sums, Aligned, Merged, Ran}
 use Rattle.sanity.specs.Frames.{frame_words, Alike}
 use Rattle.sanity.specs.StrengthZero as StrengthZero
-use Rattle.sanity.specs.LoneFrame as LoneFrame
 use Rattle.sanity.specs.StillMerge as StillMerge
 use Rattle.sanity.specs.StillAlign.{vectors-none, sums_none}
 use Rattle.sanity.specs.StillRun.{run-back}
@@ -15,7 +14,7 @@ pub record Unmoved (vectors vectors' : List ℤ) (r : Alignment) : Type 0 where
   pub found : vectors' ≡ zeros vectors
   pub sums : r.residuals ≡ no_sums
 
-unmoved : {s : Shape} {reference : ℕ} {samples : List ℕ} {vectors vectors' : List ℤ} {r : Alignment} → Found s reference samples vectors vectors' r → Alike s reference samples → Unmoved vectors vectors' r
+pub unmoved : {s : Shape} {reference : ℕ} {samples : List ℕ} {vectors vectors' : List ℤ} {r : Alignment} → Found s reference samples vectors vectors' r → Alike s reference samples → Unmoved vectors vectors' r
 unfolding zeros
 unmoved {s} {reference} {samples} f alike =
     let burst = f.lent.burst in
@@ -49,23 +48,6 @@ module _ {s : Shape} {reference : ℕ} {samples : List ℕ} {vectors work work' 
     run-strength-zero call accepted plain off =
         let (f, is) = run-accepted call accepted in
         is ∙ StrengthZero.burst-back (merge_of s reference noise tuning) samples (aligned_vectors s reference samples) f.lent.burst plain off
-
-    -- "With N = 1 the answer is that frame unchanged, the vector buffer has length 0 and the seven residual sums are 0"; and no row is summed
-    pub merge-lone : {number : ℕ} → Merged s reference noise tuning samples vectors output output' work work' number → number ≡ 0 →
-        tuning.spatial ≡ 0 → s.count ≡ 1 → output' ≡ frame_words s samples reference
-    merge-lone call accepted plain lone =
-        let (lent, is) = merge-accepted call accepted in
-        is ∙ LoneFrame.burst-back (merge_of s reference noise tuning) samples vectors lent.burst plain lone
-
-    pub run-lone : {vectors' : List ℤ} {r : Alignment} → Ran s reference noise tuning samples vectors vectors' output output' work work' r → r.refusal ≡ 0 →
-        tuning.spatial ≡ 0 → s.count ≡ 1 → Unmoved vectors vectors' r × (r.rows ≡ 0) × (length vectors ≡ 0) × (output' ≡ frame_words s samples reference)
-    run-lone call accepted plain lone =
-        let (f, is) = run-accepted call accepted in (
-          unmoved f (LoneFrame.alone s reference samples lone f.lent.burst.below),
-          f.rows_are ∙ LoneFrame.no_rows s reference samples lone,
-          f.lent.long ∙ LoneFrame.no_vectors s lone,
-          is ∙ LoneFrame.burst-back (merge_of s reference noise tuning) samples (aligned_vectors s reference samples) f.lent.burst plain lone,
-        )
 
     pub run-still : {vectors' : List ℤ} {r : Alignment} → Ran s reference noise tuning samples vectors vectors' output output' work work' r → r.refusal ≡ 0 →
         tuning.spatial ≡ 0 → Alike s reference samples → Unmoved vectors vectors' r × (output' ≡ frame_words s samples reference)

@@ -1,15 +1,14 @@
--- Try a burst of one frame, without the spatial filter ("only there is L4's lone frame promised unchanged"): it comes back unchanged, whatever the noise and the strength are.
-use Rattle.sanity.specs.Prelude.{◌≡◌, refl, sym, ap, ◌∙◌, List, ℕ, ◌+◌, ◌-◌, ◌*◌, ◌<◌, ◌≤◌, arith, ℤ, pos, zarith, sum_n, clamp_z, Shape, vector_length, rows_summed, Merge, Scene, scene_of, scene_at, output_at, merged, Side}
+-- Try a burst of one frame, without the spatial filter ("only there is L4's lone frame promised unchanged"): it comes back unchanged, whatever the noise and the strength are:
+-- here sample for sample, in proofs/LoneFrame the whole frame.
+use Rattle.sanity.specs.Prelude.{◌≡◌, refl, ap, List, ℕ, ◌+◌, ◌-◌, ◌*◌, ◌<◌, ◌≤◌, arith, ℤ, pos, zarith, sum_n, clamp_z, Shape, vector_length, rows_summed, Scene, output_at, Side}
 use Rattle.std.proofs.Common.{zero-mul}
 use Rattle.std.proofs.Math.Nat.{mul-le-mul_right}
 use Rattle.algebra.specs.Fraction.{whole, ◌+F◌, ◌-F◌, over, sum_f, held, Within}
 use Rattle.algebra.specs.FractionLaws.{within_same}
 use Rattle.algebra.specs.ClampLaws.{clamp-same}
 use Rattle.recipe.specs.Exact.{exact_sample}
-use Rattle.recipe.specs.ExactMerge.{plane_exact, exact_at}
-use Rattle.sanity.specs.Frames.{frame_words, Burst, Alike}
-use Rattle.sanity.specs.FrameLaws.{frame-words}
-use Rattle.sanity.specs.MergeLaws.{Uncorrected, plane-place, output-is, merged-is}
+use Rattle.sanity.specs.Frames.{frame_words, Alike}
+use Rattle.sanity.specs.MergeLaws.{Uncorrected, output-is}
 
 module _ (s : Scene) (plain : s.tuning.spatial ≡ 0) (lone : s.others ≡ 0) where
   -- there is nothing to correct by
@@ -19,14 +18,6 @@ module _ (s : Scene) (plain : s.tuning.spatial ≡ 0) (lone : s.others ≡ 0) wh
   -- sample for sample
   pub sample-back : (row column : ℕ) → s.reference row column ≤ 4095 → output_at s row column ≡ pos (s.reference row column)
   sample-back row column most = output-is s plain row column most (uncorrected row column)
-
--- and the whole frame
-pub burst-back : (m : Merge) (samples : List ℕ) (vectors : List ℤ) → Burst m.shape m.reference samples → m.tuning.spatial ≡ 0 → m.shape.count ≡ 1 →
-    merged (scene_of m samples vectors) ≡ frame_words m.shape samples m.reference
-unfolding scene_at
-burst-back m samples vectors burst plain lone =
-    merged-is (scene_of m samples vectors) (λ row column h k. sample-back (scene_of m samples vectors) plain (omega arith) row column (burst.fit.most m.reference row column burst.below h k))
-    ∙ sym (frame-words m.shape samples m.reference)
 
 -- such a burst's frames are all the reference
 pub alone : (s : Shape) (reference : ℕ) (samples : List ℕ) → s.count ≡ 1 → reference < s.count → Alike s reference samples
@@ -47,17 +38,10 @@ no_rows s reference samples lone = let none : s.count - 1 ≡ 0 = omega arith in
 
 -- The exact merge of a lone frame is that frame too: the distance is 0
 module _ (n : Side) (a b t : ℕ) (noise : ℕ → ℕ) (d : ℕ → ℕ → ℕ → ℕ → ℤ) (most : t ≤ 4095) where
-  exact-lone : Within 0 1 (whole (pos t)) (exact_sample n a b 0 noise d (pos t))
+  pub exact-lone : Within 0 1 (whole (pos t)) (exact_sample n a b 0 noise d (pos t))
   unfolding exact_sample sum_f ◌+F◌ ◌-F◌ over whole held
   exact-lone =
       let m = n.weight in
       let le : t * m ≤ 4095 * m = mul-le-mul_right m most in
       let same : clamp_z (pos 0) (pos (4095 * (1 * (1 * (m * 1))))) (pos (t * (1 * (m * 1)) + 0)) ≡ pos (t * (1 * (m * 1)) + 0) = clamp-same _ _ _ (omega zarith) (omega (zarith, le)) in
       within_same 1 _ _ (rw same (ap pos (omega arith)))
-
--- so the merged sample is the exact one
-pub lone-near : (s : Scene) → s.tuning.spatial ≡ 0 → s.others ≡ 0 → (row column : ℕ) → s.reference row column ≤ 4095 → Within 0 1 (whole (output_at s row column)) (exact_at s row column)
-unfolding exact_at plane_exact
-lone-near s plain lone row column most =
-    let place = plane-place s row column in
-    rw (sample-back s plain lone row column most, lone, place) (exact-lone s.side _ _ (s.reference row column) _ _ most)

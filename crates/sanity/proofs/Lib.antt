@@ -1,0 +1,2 @@
+pub mod LoneFrame
+pub mod Calls
