@@ -1,5 +1,6 @@
 -- The answer of tests that find the noise's levels. Inner vocabulary.
-use Rattle.admit_call.specs.Prelude.{◌≡◌, List, ℕ, ℤ, Shape, Noise, levels_of, shot_level, read_level, Tuning}
+use Rattle.std.specs.Prelude.{◌≡◌}
+use Rattle.admit_call.specs.Prelude.{List, ℕ, ℤ, Shape, Noise, levels_of, shot_level, read_level, Tuning}
 use Rattle.refusals.specs.After.{after}
 use Rattle.noise.specs.declared.Levels.{Levels}
 use Rattle.admit_call.specs.declared.Tested.{Tested}

@@ -1,5 +1,6 @@
 -- What the answer of the tests says where it refuses, and where it accepts.
-use Rattle.admit_call.specs.Prelude.{◌≡◌, refl, sym, ap, ◌∙◌, List, ◌++◌, ℕ, zero, suc, arith, first, shot_level, read_level}
+use Rattle.std.specs.Prelude.{◌≡◌, ◌++◌}
+use Rattle.admit_call.specs.Prelude.{refl, sym, ap, ◌∙◌, List, ℕ, zero, suc, arith, first, shot_level, read_level}
 use Rattle.refusals.specs.TestLaws.{stops, goes}
 use Rattle.refusals.specs.After.{after}
 use Rattle.refusals.specs.AfterLaws.{result-made}

@@ -1,5 +1,6 @@
 -- The tests of the call for a band of the merged frame: merge's, "in the order of the numbers", with 27 before 4.
-use Rattle.admit_call.specs.Prelude.{List, [], ◌∷◌, ◌++◌, ℕ, length, ℤ, first, Shape, vector_refusal, Noise, Tuning}
+use Rattle.std.specs.Prelude.{◌∷◌, ◌++◌}
+use Rattle.admit_call.specs.Prelude.{List, [], ℕ, length, ℤ, first, Shape, vector_refusal, Noise, Tuning}
 use Rattle.admit_length.specs.Bands.{band_shape_tests}
 use Rattle.admit_call.specs.Refusals.{value_tests}
 

@@ -1,5 +1,6 @@
 -- What 25 lets through has no filter at side 32.
-use Rattle.algebra.specs.Prelude.{◌≡◌, false, ℕ, ◌≤◌, arith, ltb}
+use Rattle.std.specs.Prelude.{◌≡◌, ◌≤◌}
+use Rattle.algebra.specs.Prelude.{false, ℕ, arith, ltb}
 use Rattle.std.proofs.Common.{ltb-false, eq-eqb}
 use Rattle.refusals.specs.Numbers as no
 use Rattle.refusals.specs.TestLaws.{refuse-not}

@@ -1,5 +1,6 @@
 -- The tests of the call that aligns one other frame: 1 to 3, 22, 23, 27, 4, 5, 7 and 11.
-use Rattle.admit_call.specs.Prelude.{List, [], ◌∷◌, ◌++◌, ℕ, length, ℤ, first, Shape, sample_refusal}
+use Rattle.std.specs.Prelude.{◌∷◌, ◌++◌}
+use Rattle.admit_call.specs.Prelude.{List, [], ℕ, length, ℤ, first, Shape, sample_refusal}
 use Rattle.admit_length.specs.OneFrame.{align_frame_shape_tests}
 
 unfoldable pub align_frame_refusal : Shape → (reference other : ℕ) → (samples : List ℕ) (vectors work : List ℤ) → ℕ

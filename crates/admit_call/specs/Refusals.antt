@@ -1,5 +1,6 @@
 -- The tests of each call, "in the order of the numbers".
-use Rattle.admit_call.specs.Prelude.{◌&&◌, List, [], ◌∷◌, ◌++◌, ℕ, eqb, ltb, length, ℤ, refuse, first, Shape, sample_refusal, vector_refusal, Noise, levels_of, noise_tests, shot_level, read_level, strength_refusal, black_refusal, spatial_refusal, Tuning}
+use Rattle.std.specs.Prelude.{◌&&◌, ◌∷◌, ◌++◌}
+use Rattle.admit_call.specs.Prelude.{List, [], ℕ, eqb, ltb, length, ℤ, refuse, first, Shape, sample_refusal, vector_refusal, Noise, levels_of, noise_tests, shot_level, read_level, strength_refusal, black_refusal, spatial_refusal, Tuning}
 use Rattle.refusals.specs.Numbers as no
 use Rattle.admit_length.specs.Order.{align_shape_tests, merge_shape_tests}
 use Rattle.recipe.specs.declared.Merge.{Merge}

@@ -1,5 +1,6 @@
 -- What a band's tests let through.
-use Rattle.admit_length.specs.Prelude.{◌≡◌, not, ℕ, ◌+◌, ◌%◌, ◌≤◌, arith, first, Shape, sample_length, vector_length, TileSide, BurstFits}
+use Rattle.std.specs.Prelude.{◌≡◌, ◌+◌, ◌%◌, ◌≤◌}
+use Rattle.admit_length.specs.Prelude.{not, ℕ, arith, first, Shape, sample_length, vector_length, TileSide, BurstFits}
 use Rattle.std.proofs.Common.{⊎_elim, leb-true, eqb-true}
 use Rattle.std.proofs.lemmas.Bool.{not-false}
 use Rattle.refusals.specs.Numbers as no

@@ -1,5 +1,6 @@
 -- The tests 1 to 7 of the call for a band of the merged frame, as merge's, with 27 after 23, where 6 and 7 are of the band's lengths.
-use Rattle.admit_length.specs.Prelude.{Bool, not, ◌&&◌, cond, List, [], ◌∷◌, ◌++◌, ℕ, ◌+◌, ◌*◌, ◌%◌, eqb, leb, refuse, first, Shape, sample_length, vector_length, length_refusal}
+use Rattle.std.specs.Prelude.{◌&&◌, ◌∷◌, ◌++◌, ◌+◌, ◌*◌, ◌%◌}
+use Rattle.admit_length.specs.Prelude.{Bool, not, cond, List, [], ℕ, eqb, leb, refuse, first, Shape, sample_length, vector_length, length_refusal}
 use Rattle.refusals.specs.Numbers as no
 use Rattle.admit_length.specs.Order.{burst_tests}
 use Rattle.admit_length.specs.Question.{question_tests}

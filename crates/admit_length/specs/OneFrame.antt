@@ -1,5 +1,6 @@
 -- The tests 1 to 7 of the call that aligns one other frame: align's, with 27 before 4, 5 of that frame's vectors alone, and 7 of half the work area.
-use Rattle.admit_length.specs.Prelude.{List, [], ◌∷◌, ◌++◌, ℕ, ◌-◌, ◌*◌, leb, refuse, Shape, sample_length, length_refusal, frame_parts}
+use Rattle.std.specs.Prelude.{◌∷◌, ◌++◌, ◌-◌, ◌*◌}
+use Rattle.admit_length.specs.Prelude.{List, [], ℕ, leb, refuse, Shape, sample_length, length_refusal, frame_parts}
 use Rattle.refusals.specs.Numbers as no
 use Rattle.admit_length.specs.Order.{burst_tests}
 

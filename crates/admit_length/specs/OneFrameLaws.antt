@@ -1,5 +1,6 @@
 -- What these tests let through.
-use Rattle.admit_length.specs.Prelude.{◌≡◌, refl, ℕ, ◌-◌, ◌<◌, first, Shape, sample_length, vector_length, frame_parts, BurstFits}
+use Rattle.std.specs.Prelude.{◌≡◌, ◌-◌, ◌<◌}
+use Rattle.admit_length.specs.Prelude.{refl, ℕ, first, Shape, sample_length, vector_length, frame_parts, BurstFits}
 use Rattle.std.proofs.Common.{leb-false}
 use Rattle.refusals.specs.Numbers as no
 use Rattle.refusals.specs.TestLaws.{among, passed, refuse-not}

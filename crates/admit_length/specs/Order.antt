@@ -1,5 +1,6 @@
 -- The tests 1 to 7 of each call, "in the order of the numbers" with 22 "tested after 3" (request L8) and 23 "tested before 4" (request L9), on the shape, the reference and the lengths of the lent buffers.
-use Rattle.admit_length.specs.Prelude.{List, [], ◌∷◌, ◌++◌, ℕ, Shape, size_refusal, count_refusal, reference_refusal, side_refusal, row_refusal, sample_length, vector_length, output_length, work_length, length_refusal}
+use Rattle.std.specs.Prelude.{◌∷◌, ◌++◌}
+use Rattle.admit_length.specs.Prelude.{List, [], ℕ, Shape, size_refusal, count_refusal, reference_refusal, side_refusal, row_refusal, sample_length, vector_length, output_length, work_length, length_refusal}
 use Rattle.refusals.specs.Numbers as no
 
 -- 1 and 2

@@ -1,5 +1,6 @@
 -- A call that its tests 1 to 7, 22 and 23 let through has an allowed shape and side, a reference and buffers of the right lengths.
-use Rattle.admit_length.specs.Prelude.{◌≡◌, ℕ, first, Shape, sample_length, vector_length, output_length, work_length, Allowed, TileSide, AlignFits, MergeFits}
+use Rattle.std.specs.Prelude.{◌≡◌}
+use Rattle.admit_length.specs.Prelude.{ℕ, first, Shape, sample_length, vector_length, output_length, work_length, Allowed, TileSide, AlignFits, MergeFits}
 use Rattle.refusals.specs.Numbers as no
 use Rattle.refusals.specs.TestLaws.{among, passed}
 use Rattle.admit_length.specs.Order.{shape_tests, frame_tests, burst_tests, align_lengths, merge_lengths, align_shape_tests, merge_shape_tests}

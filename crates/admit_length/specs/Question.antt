@@ -1,5 +1,6 @@
 -- The length question of the capture station.
-use Rattle.admit_length.specs.Prelude.{cond, List, [], ◌∷◌, ◌++◌, ℕ, eqb, first, Shape, shaped, side_refusal, row_refusal, sample_length, vector_length, output_length, work_length}
+use Rattle.std.specs.Prelude.{◌∷◌, ◌++◌}
+use Rattle.admit_length.specs.Prelude.{cond, List, [], ℕ, eqb, first, Shape, shaped, side_refusal, row_refusal, sample_length, vector_length, output_length, work_length}
 use Rattle.refusals.specs.Numbers as no
 use Rattle.admit_length.specs.Order.{shape_tests}
 

@@ -1,5 +1,6 @@
 -- What these tests let through.
-use Rattle.admit_length.specs.Prelude.{◌≡◌, ℕ, first, Shape, sample_length, vector_length, work_length, AlignFits}
+use Rattle.std.specs.Prelude.{◌≡◌}
+use Rattle.admit_length.specs.Prelude.{ℕ, first, Shape, sample_length, vector_length, work_length, AlignFits}
 use Rattle.refusals.specs.Numbers as no
 use Rattle.refusals.specs.TestLaws.{among, passed}
 use Rattle.geometry.specs.ShapeLaws.{allowed, allowed-side, below-count, right-length}

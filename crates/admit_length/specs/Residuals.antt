@@ -1,5 +1,6 @@
 -- The tests 1 to 7 of the call that answers each tile's residual, as merge's, where 6 is of the residuals' length.
-use Rattle.admit_length.specs.Prelude.{List, [], ◌∷◌, ◌++◌, ℕ, ◌-◌, ◌*◌, Shape, sample_length, vector_length, work_length, length_refusal, tile_rows, tile_columns}
+use Rattle.std.specs.Prelude.{◌∷◌, ◌++◌, ◌-◌, ◌*◌}
+use Rattle.admit_length.specs.Prelude.{List, [], ℕ, Shape, sample_length, vector_length, work_length, length_refusal, tile_rows, tile_columns}
 use Rattle.refusals.specs.Numbers as no
 use Rattle.admit_length.specs.Order.{burst_tests}
 

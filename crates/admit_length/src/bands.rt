@@ -1,5 +1,6 @@
 // The tests 1 to 7 of a band of the merged frame, with 22, 23 and 27 before 4, and its lengths.
-ghost use Rattle.admit_length.specs.Prelude.{◌≡◌, ◌≤◌, first, Allowed, TileSide};
+ghost use Rattle.std.specs.Prelude.{◌≡◌, ◌≤◌};
+ghost use Rattle.admit_length.specs.Prelude.{first, Allowed, TileSide};
 ghost use Rattle.admit_length.specs.Bands.{band_allowed, band_part_refusal, band_length, band_work_length, band_lengths, band_shape_tests, band_work_question};
 
 use crate::lengths::{length_refusal, sample_length, vector_length};

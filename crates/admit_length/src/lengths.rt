@@ -1,5 +1,6 @@
 // The lengths of the lent buffers, and the tests on them: refusals 4 to 7.
-ghost use Rattle.admit_length.specs.Prelude.{◌≡◌, ◌≤◌, sample_length, vector_length, output_length, work_length, length_refusal, Allowed, TileSide};
+ghost use Rattle.std.specs.Prelude.{◌≡◌, ◌≤◌};
+ghost use Rattle.admit_length.specs.Prelude.{sample_length, vector_length, output_length, work_length, length_refusal, Allowed, TileSide};
 ghost use Rattle.admit_length.specs.Residuals.{residual_length};
 
 use geometry::Shape;

@@ -1,6 +1,7 @@
 -- Two tests with one number, of which merge's list has one: both lists of one decide.
 use Rattle.std.proofs.Common.{eqb-true, ltb-false}
-use Rattle.algebra.specs.Prelude.{◌≡◌, refl, sym, Bool, true, false, not, List, [], ◌∷◌, ◌++◌, ℕ, zero, suc, ◌≤◌, arith, eqb, ltb}
+use Rattle.std.specs.Prelude.{◌≡◌, ◌∷◌, ◌++◌, ◌≤◌}
+use Rattle.algebra.specs.Prelude.{refl, sym, Bool, true, false, not, List, [], ℕ, zero, suc, arith, eqb, ltb}
 use Rattle.refusals.specs.Numbers as no
 use Rattle.refusals.specs.Tests.{refuse, first}
 use Rattle.geometry.specs.declared.Shape.{Shape}

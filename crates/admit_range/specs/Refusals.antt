@@ -1,5 +1,6 @@
 -- The tests of the call of request L14, "merge's tests" with two outputs and two noises, "for side 16 without the spatial filter".
-use Rattle.algebra.specs.Prelude.{not, List, [], ◌∷◌, ◌++◌, ℕ, eqb, length, ltb, ℤ}
+use Rattle.std.specs.Prelude.{◌∷◌, ◌++◌}
+use Rattle.algebra.specs.Prelude.{not, List, [], ℕ, eqb, length, ltb, ℤ}
 use Rattle.refusals.specs.Numbers as no
 use Rattle.refusals.specs.Tests.{refuse, first}
 use Rattle.geometry.specs.declared.Shape.{Shape}

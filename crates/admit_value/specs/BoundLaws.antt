@@ -1,5 +1,6 @@
 -- How a loop over the rows of all frames, or over all vectors, decides refusal 11, or 12.
-use Rattle.algebra.specs.Prelude.{◌≡◌, refl, sym, ap, ◌∙◌, Bool, true, false, ◌||◌, List, ℕ, zero, suc, ◌+◌, ◌*◌, ◌/◌, ◌≤◌, ◌<◌, arith, ltb, length, get_or, ℤ, pos, nat_abs}
+use Rattle.std.specs.Prelude.{◌≡◌, ◌||◌, ◌+◌, ◌*◌, ◌/◌, ◌≤◌, ◌<◌}
+use Rattle.algebra.specs.Prelude.{refl, sym, ap, ◌∙◌, Bool, true, false, List, ℕ, zero, suc, arith, ltb, length, get_or, ℤ, pos, nat_abs}
 use Rattle.std.proofs.Math.Path.{fun_ext}
 use Rattle.std.proofs.Common.{add_assoc, mul-le-mul}
 use Rattle.std.proofs.Math.Nat.{mul_assoc, mul_comm, suc-mul, mul-le-mul_right}

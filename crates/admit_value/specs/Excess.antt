@@ -1,5 +1,6 @@
 -- The test of a row of samples, 64 at a time, as the code of refusal 11 makes it. Inner vocabulary.
-use Rattle.algebra.specs.Prelude.{Bool, List, ℕ, ◌+◌, ◌/◌, ltb, get_or}
+use Rattle.std.specs.Prelude.{◌+◌, ◌/◌}
+use Rattle.algebra.specs.Prelude.{Bool, List, ℕ, ltb, get_or}
 use Rattle.algebra.specs.Sums.{sum_n}
 use Rattle.refusals.specs.Some.{some}
 

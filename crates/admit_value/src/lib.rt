@@ -1,7 +1,8 @@
 // What the lent samples and vectors hold: refusals 11 and 12.
 #![tactic(auto)]
 
-ghost use Rattle.algebra.specs.Prelude.{◌≡◌, ◌+◌, ◌%◌, ◌≤◌, length};
+ghost use Rattle.std.specs.Prelude.{◌≡◌, ◌+◌, ◌%◌, ◌≤◌};
+ghost use Rattle.algebra.specs.Prelude.{length};
 ghost use Rattle.admit_value.specs.Bounds.{sample_refusal, vector_refusal};
 ghost use Rattle.geometry.specs.Fits.{Sampled};
 ghost use Rattle.admit_value.specs.Excess.{excess, row_above};

@@ -1,5 +1,6 @@
 -- A signed 64-bit value comes back from its bits.
-use Rattle.algebra.specs.Prelude.{◌≡◌, ap₂, ℕ, ◌+◌, ◌^◌, ◌≤◌, ◌<◌, T, ltb, ℤ, nat_abs, ◌+ℤ◌, w64, SFits, to_z, of_z, to_z-of_z}
+use Rattle.std.specs.Prelude.{◌≡◌, ◌+◌, ◌^◌, ◌≤◌, ◌<◌, ◌+ℤ◌}
+use Rattle.algebra.specs.Prelude.{ap₂, ℕ, T, ltb, ℤ, nat_abs, w64, SFits, to_z, of_z, to_z-of_z}
 use Rattle.std.specs.Int.Signed.{mag}
 use Rattle.algebra.specs.Bound.{most_fits, add-fits}
 use Rattle.algebra.specs.Test.{both, both_l, both_r}

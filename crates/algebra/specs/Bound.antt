@@ -1,10 +1,10 @@
 -- Bounds on integers as records, so that their arguments are found, and what search needs to show that a signed operation fits.
-use Rattle.algebra.specs.Prelude.{◌≡◌, subst, true, false, ℕ, zero, suc, ◌+◌, ◌*◌, ◌/◌, ◌^◌, ◌≤◌, ◌<◌, arith, ℤ, pos, negsuc, nat_abs, neg_ℤ, ◌+ℤ◌, ◌-ℤ◌, ◌*ℤ◌, to_z-of_z}
+use Rattle.algebra.specs.Prelude.{subst, true, false, ℕ, zero, suc, arith, ℤ, pos, negsuc, nat_abs, neg_ℤ, to_z-of_z}
 use Rattle.std.specs.Int.Signed.{mag, quot_z, shr_z, mag_shr, non_neg, lt_z}
 use Rattle.std.proofs.Math.IntN.{+ℤ_idl}
 use Rattle.std.proofs.Common.{zero-le, div-le_self, ltb-true, ltb→lt}
 use Rattle.std.proofs.Math.Facts.{sfits_widen, Fits-nat_abs}
-use Rattle.std.specs.Prelude.{T, ltb}
+use Rattle.std.specs.Prelude.{T, ltb, ◌≡◌, ◌+◌, ◌*◌, ◌/◌, ◌^◌, ◌≤◌, ◌<◌, ◌+ℤ◌, ◌-ℤ◌, ◌*ℤ◌}
 use Rattle.std.specs.Int.{Width, w32, w64}
 use mir.Val.{SFits, Fits, hbits, bits}
 use mir.ValLaws.{sfits_le}

@@ -1,6 +1,6 @@
 -- The least, the greatest and the clamp by cases; clamping does not stretch.
-use Rattle.algebra.specs.Prelude.{◌≡◌, refl, subst, Bool, true, false, not, cond, ◌≤◌, T, ℤ, nat_abs, ◌-ℤ◌}
-use Rattle.std.specs.Prelude.{◌≤ℤ◌}
+use Rattle.algebra.specs.Prelude.{refl, subst, Bool, true, false, not, cond, T, ℤ, nat_abs}
+use Rattle.std.specs.Prelude.{◌≤ℤ◌, ◌≡◌, ◌≤◌, ◌-ℤ◌}
 use Rattle.std.specs.Int.Signed.{lt_z, lt_z_yes, lt_z_no}
 use Rattle.algebra.specs.Order.{zarith, sub-pn, abs-pn, min-pn, <ℤ-≤ℤ}
 use Rattle.algebra.specs.Clamp.{min_z, max_z, clamp_z}

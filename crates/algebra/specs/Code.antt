@@ -2,8 +2,8 @@
 -- The borrow checker shows a signed value as the bits read back, `to_z w (of_z w z)`, at every step. `val c` is that term for the code `c`,
 -- `raw c` the same without the outermost `to_z w (of_z w ·)`, which is what a need asks to fit, and `den c` what it means.
 -- From bounds of the variables' absolute values, `bnd c` is a bound of `den c`, and the test `ok c` says that each step fits its width.
-use Rattle.algebra.specs.Prelude.{◌≡◌, refl, sym, ap, ap₂, subst, ◌∙◌, Bool, true, List, [], ◌∷◌, arith, T, ltb, ℤ, pos, negsuc, nat_abs, ◌+ℤ◌, ◌-ℤ◌, ◌*ℤ◌, to_z-of_z}
-use Rattle.std.specs.Prelude.{ℕ, zero, suc, ◌+◌, ◌*◌, ◌/◌, ◌^◌, ◌≤◌}
+use Rattle.algebra.specs.Prelude.{refl, sym, ap, ap₂, subst, ◌∙◌, Bool, true, List, [], arith, T, ltb, ℤ, pos, negsuc, nat_abs, to_z-of_z}
+use Rattle.std.specs.Prelude.{ℕ, zero, suc, ◌+◌, ◌*◌, ◌/◌, ◌^◌, ◌≤◌, ◌≡◌, ◌∷◌, ◌+ℤ◌, ◌-ℤ◌, ◌*ℤ◌}
 use Rattle.std.proofs.Common.{zero-le, le_refl, le_trans, add-le-add, le-div_iff_mul-le, div-mul-le_self, zero-lt-suc}
 use Rattle.std.proofs.Math.Nat.{div-zero}
 use Rattle.std.specs.Int.Signed.{shr_z}

@@ -1,7 +1,7 @@
 -- Division that rounds down, `shr_z z m` (the logic's `>>` at m ≡ 2 ^ s), and division toward zero, `quot_z`.
-use Rattle.algebra.specs.Prelude.{◌≡◌, [], ◌∷◌, ℕ, suc, ◌*◌, ◌/◌, ◌<◌, ℤ, pos, negsuc, neg_ℤ, ◌+ℤ◌, ◌*ℤ◌}
+use Rattle.algebra.specs.Prelude.{[], ℕ, suc, ℤ, pos, negsuc, neg_ℤ}
 use Rattle.std.proofs.Common.{div-add-mod', mod-lt, ⊎_elim}
-use Rattle.std.specs.Prelude.{◌≤ℤ◌, ◌<ℤ◌}
+use Rattle.std.specs.Prelude.{◌≤ℤ◌, ◌<ℤ◌, ◌≡◌, ◌∷◌, ◌*◌, ◌/◌, ◌<◌, ◌+ℤ◌, ◌*ℤ◌}
 use Rattle.std.specs.Int.Signed.{shr_z, clash_ℤ}
 use Rattle.algebra.specs.Ring.{var, ◌⊞◌, ◌⊠◌}
 use Rattle.algebra.specs.Order.{zarith, add-pn, neg-p, neg-n, ≤ℤ-antisym, ≤ℤ-total, 0≤pos}

@@ -1,6 +1,6 @@
 -- Several results of straight-line code at once: that they equal ring expressions, and a bound of them all, each by one computed test.
-use Rattle.algebra.specs.Prelude.{◌≡◌, refl, ap₂, ◌∙◌, Bool, true, false, List, [], ◌∷◌, get_or, ℤ, pos, nat_abs, ◌+ℤ◌, ◌-ℤ◌, ◌*ℤ◌}
-use Rattle.std.specs.Prelude.{ℕ, zero, suc, ◌≤◌, T, leb}
+use Rattle.algebra.specs.Prelude.{refl, ap₂, ◌∙◌, Bool, true, false, List, [], get_or, ℤ, pos, nat_abs}
+use Rattle.std.specs.Prelude.{ℕ, zero, suc, ◌≤◌, T, leb, ◌≡◌, ◌∷◌, ◌+ℤ◌, ◌-ℤ◌, ◌*ℤ◌}
 use Rattle.std.proofs.Common.{zero-le, le_trans, leb→le}
 use Rattle.algebra.specs.Test.{both, both_l, both_r}
 use Rattle.algebra.specs.Ring.{Expr, var, con, ◌⊞◌, ◌⊟◌, ◌⊠◌, nth, eval, norm, zero_p, ring}

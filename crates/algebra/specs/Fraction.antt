@@ -1,5 +1,6 @@
 -- Fractions as document 01 has them: a pair of whole numbers, the lower one above 0; added and compared by cross-multiplying.
-use Rattle.algebra.specs.Prelude.{ℕ, zero, suc, ◌*◌, ◌≤◌, ◌<◌, arith, lit<, ℤ, pos, negsuc, nat_abs, neg_ℤ, ◌+ℤ◌, ◌-ℤ◌, ◌*ℤ◌}
+use Rattle.std.specs.Prelude.{◌*◌, ◌≤◌, ◌<◌, ◌+ℤ◌, ◌-ℤ◌, ◌*ℤ◌}
+use Rattle.algebra.specs.Prelude.{ℕ, zero, suc, arith, lit<, ℤ, pos, negsuc, nat_abs, neg_ℤ}
 use Rattle.std.proofs.Common.{mul-pos}
 use Rattle.algebra.specs.Clamp.{clamp_z}
 

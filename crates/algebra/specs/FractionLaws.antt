@@ -1,7 +1,7 @@
 -- Laws of `Within`. Most have a whole number on one side and a multiple k·x of a fraction on the other: so the recipe meets the exact merge.
-use Rattle.std.specs.Prelude.{◌≡◌, ℤ, negsuc, nat_abs, ◌+ℤ◌, ◌-ℤ◌, ◌*ℤ◌, ◌≤ℤ◌, ◌<ℤ◌}
+use Rattle.std.specs.Prelude.{◌≡◌, ℤ, negsuc, nat_abs, ◌+ℤ◌, ◌-ℤ◌, ◌*ℤ◌, ◌≤ℤ◌, ◌<ℤ◌, ◌∷◌, ◌+◌, ◌*◌, ◌≤◌, ◌<◌}
 use Rattle.std.proofs.Common.{sym, ◌∙◌, subst, subst₂, mul-le-mul_left, le_refl, le_trans, add_comm}
-use Rattle.algebra.specs.Prelude.{[], ◌∷◌, ℕ, zero, suc, ◌+◌, ◌*◌, ◌≤◌, ◌<◌, arith}
+use Rattle.algebra.specs.Prelude.{[], ℕ, zero, suc, arith}
 use Rattle.std.proofs.Math.IntN.{pos, zero-*ℤ}
 use Rattle.algebra.specs.Vars.{vars3, vars4, vars5, vars6, vars7, vars8, vars9, vars10}
 use Rattle.algebra.specs.Ring.{var, ◌⊞◌, ◌⊟◌, ◌⊠◌, ⊖◌, #◌, nth}

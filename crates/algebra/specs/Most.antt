@@ -1,7 +1,7 @@
 -- Bounds of rounded quotients, of sums and of held numbers.
-use Rattle.algebra.specs.Prelude.{◌≡◌, refl, ap, subst, [], ◌∷◌, ℕ, ◌+◌, ◌*◌, ◌/◌, ◌≤◌, ◌<◌, arith, ℤ, pos, negsuc, nat_abs, ◌-ℤ◌, ◌*ℤ◌}
+use Rattle.algebra.specs.Prelude.{refl, ap, subst, [], ℕ, arith, ℤ, pos, negsuc, nat_abs}
 use Rattle.std.proofs.Common.{le_trans, mul-le-mul_left}
-use Rattle.std.specs.Prelude.{◌≤ℤ◌}
+use Rattle.std.specs.Prelude.{◌≤ℤ◌, ◌≡◌, ◌∷◌, ◌+◌, ◌*◌, ◌/◌, ◌≤◌, ◌<◌, ◌-ℤ◌, ◌*ℤ◌}
 use Rattle.algebra.specs.Vars.{vars3, vars4}
 use Rattle.algebra.specs.Ring.{◌⊟◌, ◌⊠◌, ⊖◌, #◌, ring}
 use Rattle.algebra.specs.Order.{zarith, abs_neg, abs-mul, abs-sub, abs-le}

@@ -1,6 +1,6 @@
 -- Rounding to nearest, the two ways of document 01.
-use Rattle.algebra.specs.Prelude.{ℕ, suc, ◌+◌, ◌*◌, ◌/◌}
-use Rattle.std.specs.Prelude.{ℤ, pos, negsuc, neg_ℤ, ◌+ℤ◌, ◌*ℤ◌}
+use Rattle.algebra.specs.Prelude.{ℕ, suc}
+use Rattle.std.specs.Prelude.{ℤ, pos, negsuc, neg_ℤ, ◌+ℤ◌, ◌*ℤ◌, ◌+◌, ◌*◌, ◌/◌}
 use Rattle.std.specs.Int.Signed.{shr_z}
 
 -- z/m to nearest, halves away from zero: the floor of |z|/m + 1/2, with z's sign

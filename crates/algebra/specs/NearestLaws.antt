@@ -1,8 +1,8 @@
 -- Rounding to nearest, either way, is within 1/2.
-use Rattle.algebra.specs.Prelude.{◌≡◌, refl, sym, ap, ◌∙◌, [], ◌∷◌, ℕ, zero, suc, ◌+◌, ◌*◌, ◌/◌, ◌≤◌, ◌<◌, arith, lit<}
+use Rattle.algebra.specs.Prelude.{refl, sym, ap, ◌∙◌, [], ℕ, zero, suc, arith, lit<}
 use Rattle.std.proofs.Common.{mul-pos, div-add-mod', mod-lt}
 use Rattle.std.proofs.Math.Nat.{div-eq_of_lt}
-use Rattle.std.specs.Prelude.{ℤ, pos, negsuc, neg_ℤ, ◌+ℤ◌, ◌-ℤ◌, ◌*ℤ◌, ◌≤ℤ◌}
+use Rattle.std.specs.Prelude.{ℤ, pos, negsuc, neg_ℤ, ◌+ℤ◌, ◌-ℤ◌, ◌*ℤ◌, ◌≤ℤ◌, ◌≡◌, ◌∷◌, ◌+◌, ◌*◌, ◌/◌, ◌≤◌, ◌<◌}
 use Rattle.std.proofs.Math.IntN.{neg_ℤ-neg_ℤ}
 use Rattle.std.specs.Int.Signed.{shr_z}
 use Rattle.algebra.specs.Vars.{vars3}

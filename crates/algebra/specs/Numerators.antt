@@ -1,5 +1,6 @@
 -- Fractions as numerators over one denominator. `Near 0 1 a (pos k) x` says that x is a/k.
-use Rattle.algebra.specs.Prelude.{◌≡◌, sym, ◌∙◌, ap, subst, [], ◌∷◌, ℕ, zero, suc, ◌*◌, ◌/◌, ◌≤◌, ◌<◌, arith, lit<, ℤ, pos, nat_abs, ◌-ℤ◌, ◌*ℤ◌}
+use Rattle.std.specs.Prelude.{◌≡◌, ◌∷◌, ◌*◌, ◌/◌, ◌≤◌, ◌<◌, ◌-ℤ◌, ◌*ℤ◌}
+use Rattle.algebra.specs.Prelude.{sym, ◌∙◌, ap, subst, [], ℕ, zero, suc, arith, lit<, ℤ, pos, nat_abs}
 use Rattle.std.proofs.Common.{le_refl, mul-pos, mul_comm, mul_assoc, mul-div_cancel}
 use Rattle.std.proofs.Math.Decide.{ℕ_discrete}
 use Rattle.std.proofs.Math.IntN.{*ℤ_comm}

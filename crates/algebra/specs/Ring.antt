@@ -1,7 +1,7 @@
 -- A normaliser for commutative-ring expressions over ℤ, with its soundness. `ring ρ l r tt` proves `⟦ l ⟧ ρ ≡ ⟦ r ⟧ ρ`.
 -- A polynomial is `cst c`, or `hor p q` for p·x₀ + q, where q is over the variables from x₁ on (x₁ is its x₀).
-use Rattle.algebra.specs.Prelude.{◌≡◌, refl, sym, ap, ap₂, ◌∙◌, Bool, true, false, List, [], ◌∷◌, ℕ, zero, suc, T}
-use Rattle.std.specs.Prelude.{ℤ, pos, negsuc, neg_ℤ, ◌+ℤ◌, ◌-ℤ◌, ◌*ℤ◌}
+use Rattle.algebra.specs.Prelude.{refl, sym, ap, ap₂, ◌∙◌, Bool, true, false, List, [], ℕ, zero, suc, T}
+use Rattle.std.specs.Prelude.{ℤ, pos, negsuc, neg_ℤ, ◌+ℤ◌, ◌-ℤ◌, ◌*ℤ◌, ◌≡◌, ◌∷◌}
 use Rattle.std.proofs.Math.IntN.{+ℤ_assoc, +ℤ_comm, *ℤ_comm, +ℤ_idl, +ℤ_idr, zero-*ℤ, *ℤ-one, one}
 use Rattle.algebra.specs.Test.{both, both_l, both_r}
 use Rattle.algebra.specs.Laws.{*ℤ-assoc, *ℤ-distl, *ℤ-distr, neg-*ℤ, +ℤ-swap, +ℤ-left, *ℤ-swapr, eq-of-sub-zero}

@@ -1,6 +1,6 @@
 -- A fraction that is a whole number over k: `Near 0 1 a k x` says that k·x is a.
-use Rattle.algebra.specs.Prelude.{◌≡◌, [], ◌∷◌, ℕ, ◌<◌, ℤ, pos, ◌*ℤ◌}
-use Rattle.std.specs.Prelude.{◌<ℤ◌}
+use Rattle.algebra.specs.Prelude.{[], ℕ, ℤ, pos}
+use Rattle.std.specs.Prelude.{◌<ℤ◌, ◌≡◌, ◌∷◌, ◌<◌, ◌*ℤ◌}
 use Rattle.algebra.specs.Vars.{vars4}
 use Rattle.algebra.specs.Ring.{◌⊟◌, ◌⊠◌, ⊖◌, #◌}
 use Rattle.algebra.specs.Order.{zarith, ≤ℤ-antisym}

@@ -1,6 +1,6 @@
 -- Laws of finite sums.
-use Rattle.algebra.specs.Prelude.{◌≡◌, refl, sym, ap, ap₂, ◌∙◌, arith}
-use Rattle.std.specs.Prelude.{ℕ, zero, suc, ◌+◌, ◌*◌, ◌≤◌, ◌<◌, ℤ, pos, neg_ℤ, nat_abs, ◌+ℤ◌, ◌-ℤ◌, ◌*ℤ◌}
+use Rattle.algebra.specs.Prelude.{refl, sym, ap, ap₂, ◌∙◌, arith}
+use Rattle.std.specs.Prelude.{ℕ, zero, suc, ◌+◌, ◌*◌, ◌≤◌, ◌<◌, ℤ, pos, neg_ℤ, nat_abs, ◌+ℤ◌, ◌-ℤ◌, ◌*ℤ◌, ◌≡◌}
 use Rattle.std.proofs.Common.{zero-le, le_refl, le_trans, add-le-add, zero-add, suc-add, zero-mul, mul-zero, add-zero, add-suc, suc-mul}
 use Rattle.std.proofs.Math.IntN.{+ℤ_assoc, +ℤ_idr, *ℤ-zero, zero-*ℤ, neg_ℤ-+ℤ}
 use Rattle.algebra.specs.Laws.{*ℤ-distl, *ℤ-distr, +ℤ-swap}

@@ -1,9 +1,9 @@
 -- Sums in order: of equal numbers, of smaller ones, and of numbers that are not negative.
-use Rattle.algebra.specs.Prelude.{◌≡◌, refl, sym, ap, subst, ◌∙◌, [], ◌∷◌, ℕ, zero, suc, ◌<◌, arith, ℤ, pos, ◌+ℤ◌, ◌*ℤ◌}
+use Rattle.algebra.specs.Prelude.{refl, sym, ap, subst, ◌∙◌, [], ℕ, zero, suc, arith, ℤ, pos}
 use Rattle.std.proofs.Common.{le_refl, add-one}
 use Rattle.std.proofs.Math.Decide.{ℕ_discrete}
 use Rattle.std.proofs.Math.IntN.{zero-*ℤ}
-use Rattle.std.specs.Prelude.{◌≤ℤ◌}
+use Rattle.std.specs.Prelude.{◌≤ℤ◌, ◌≡◌, ◌∷◌, ◌<◌, ◌+ℤ◌, ◌*ℤ◌}
 use Rattle.algebra.specs.Ring.{var, ◌⊞◌, ◌⊠◌, #◌, ring}
 use Rattle.algebra.specs.Order.{zarith, add-pn, ≤ℤ-of-eq}
 use Rattle.algebra.specs.Sums.{sum_z}

@@ -1,5 +1,6 @@
 -- Tests that antt computes: a conjunction, and one over all indices below a number. A table's rule is one such test.
-use Rattle.algebra.specs.Prelude.{◌≡◌, sym, subst, Bool, true, false, ℕ, zero, suc, ◌<◌, arith, T}
+use Rattle.std.specs.Prelude.{◌≡◌, ◌<◌}
+use Rattle.algebra.specs.Prelude.{sym, subst, Bool, true, false, ℕ, zero, suc, arith, T}
 use Rattle.std.proofs.Math.Decide.{ℕ_discrete}
 
 abbrev pub both : Bool → Bool → Bool

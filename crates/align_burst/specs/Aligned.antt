@@ -1,5 +1,6 @@
 -- The vectors of a burst, and the sums of their residuals.
-use Rattle.align_burst.specs.Prelude.{List, ◌++◌, ℕ, ◌-◌, ℤ, replicate, tab, Shape, sample_at, other_frame, vector_list, VectorField}
+use Rattle.std.specs.Prelude.{◌++◌, ◌-◌}
+use Rattle.align_burst.specs.Prelude.{List, ℕ, ℤ, replicate, tab, Shape, sample_at, other_frame, vector_list, VectorField}
 use Rattle.align_burst.specs.Frames.{vectors_of, residual_of}
 
 module _ (s : Shape) (reference : ℕ) (samples : List ℕ) where

@@ -1,5 +1,6 @@
 -- Inner vocabulary: what the loop over the frames asks, and what it leaves; the same of one frame.
-use Rattle.align_burst.specs.Prelude.{◌≡◌, List, ℕ, ◌-◌, ◌*◌, ◌≤◌, ◌<◌, length, ℤ, written, Shape, vector_length, Image, sample_at, tile_columns, frame_parts, word, parts_of, TileSide, BurstFits, AlignFits, SamplesFit, align_length, Levels, Sums}
+use Rattle.std.specs.Prelude.{◌≡◌, ◌-◌, ◌*◌, ◌≤◌, ◌<◌}
+use Rattle.align_burst.specs.Prelude.{List, ℕ, length, ℤ, written, Shape, vector_length, Image, sample_at, tile_columns, frame_parts, word, parts_of, TileSide, BurstFits, AlignFits, SamplesFit, align_length, Levels, Sums}
 use Rattle.align_pyramid.specs.Bayer.Frame.{Frame}
 use Rattle.align_burst.specs.Frames.{vectors_of, residual_of}
 use Rattle.align_burst.specs.Rows.{rows_of, count_of, rows_summed}

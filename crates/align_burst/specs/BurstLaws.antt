@@ -1,8 +1,8 @@
 -- One frame at a time: the reference's pyramid stays, and the frame's own is laid behind it.
-use Rattle.std.specs.Prelude.{◌≡◌, refl, length, set, replicate}
+use Rattle.std.specs.Prelude.{◌≡◌, refl, length, set, replicate, ◌++◌, ◌+◌, ◌-◌, ◌*◌, ◌≤◌, ◌<◌}
 use Rattle.std.proofs.Math.Path.{sym, ap, ap₂, subst, subst₂}
 use Rattle.std.proofs.Common.{◌∙◌, zero-mul}
-use Rattle.align_burst.specs.Prelude.{List, ◌++◌, ℕ, zero, suc, ◌+◌, ◌-◌, ◌*◌, ◌≤◌, ◌<◌, arith, ℤ, pos, Shape, vector_length, work_length, Allowed, TileSide, BurstFits, AlignFits, SamplesFit, Image, sample_at, tile_columns, frame_parts, other_frame, word, word_of, vector_list, tab, pyramid_length, align_length, Levels, Built, Sums}
+use Rattle.align_burst.specs.Prelude.{List, ℕ, zero, suc, arith, ℤ, pos, Shape, vector_length, work_length, Allowed, TileSide, BurstFits, AlignFits, SamplesFit, Image, sample_at, tile_columns, frame_parts, other_frame, word, word_of, vector_list, tab, pyramid_length, align_length, Levels, Built, Sums}
 use Rattle.std.proofs.Math.Nat.{zero-add, suc-mul}
 use Rattle.std.proofs.Math.ListN.{drop}
 use Rattle.geometry.specs.VectorLaws.{word-of}

@@ -1,5 +1,6 @@
 -- Laws of fields: what a field's words are, and the bounds 4, 20, 84 and 172.
-use Rattle.align_burst.specs.Prelude.{ℕ, zero, suc, ◌+◌, ◌*◌, ◌/◌, ◌%◌, ◌≤◌, arith, lit≤, pos, nat_abs, Level, finest_level, level1, level2, level3, Step, finest_step, step2to1, step3to2, Within, Pair, VectorField, numbered, part, word, level_tile, coarsest, from_coarse, finer}
+use Rattle.std.specs.Prelude.{◌+◌, ◌*◌, ◌/◌, ◌%◌, ◌≤◌}
+use Rattle.align_burst.specs.Prelude.{ℕ, zero, suc, arith, lit≤, pos, nat_abs, Level, finest_level, level1, level2, level3, Step, finest_step, step2to1, step3to2, Within, Pair, VectorField, numbered, part, word, level_tile, coarsest, from_coarse, finer}
 use Rattle.algebra.specs.Order.{abs-mul-le}
 use Rattle.geometry.specs.declared.vectors.Vector.{Vector}
 use Rattle.align_search.specs.Vectors.{still, ◌times◌}

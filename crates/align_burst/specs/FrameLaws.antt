@@ -1,7 +1,7 @@
 -- Where the pyramids of the reference and of another frame stand, the levels' pairs of images are those of the two frames.
-use Rattle.std.specs.Prelude.{◌≡◌}
+use Rattle.std.specs.Prelude.{◌≡◌, ◌≤◌, ◌<◌}
 use Rattle.std.proofs.Math.Path.{ap₂, fun_ext}
-use Rattle.align_burst.specs.Prelude.{List, ℕ, zero, suc, ◌≤◌, ◌<◌, arith, ℤ, Shape, AllowedSize, Allowed, Image, level_size, pyramid_length, Levels, level_at, pair_in}
+use Rattle.align_burst.specs.Prelude.{List, ℕ, zero, suc, arith, ℤ, Shape, AllowedSize, Allowed, Image, level_size, pyramid_length, Levels, level_at, pair_in}
 use Rattle.geometry.specs.Read.{read}
 use Rattle.align_pyramid.specs.Words.{read_in, Holds, Source}
 use Rattle.align_pyramid.specs.WordsLaws.{holds_source, own_read}

@@ -1,5 +1,6 @@
 -- A field that was written stands there.
-use Rattle.algebra.specs.Prelude.{◌≡◌, sym, ap, ap₂, subst, ◌∙◌, List, ℕ, ◌+◌, ◌*◌, ◌≤◌, ◌<◌, arith, length, get_or, ℤ, pos, nat_abs}
+use Rattle.std.specs.Prelude.{◌≡◌, ◌+◌, ◌*◌, ◌≤◌, ◌<◌}
+use Rattle.algebra.specs.Prelude.{sym, ap, ap₂, subst, ◌∙◌, List, ℕ, arith, length, get_or, ℤ, pos, nat_abs}
 use Rattle.std.proofs.Common.{add_assoc}
 use Rattle.geometry.specs.ReadLaws.{cell_below}
 use Rattle.sequences.specs.Place.{place-row, place-column}

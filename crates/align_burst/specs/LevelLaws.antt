@@ -1,8 +1,8 @@
 -- From level to level: the pyramids stay, and a level's vectors stand where the next level reads them.
-use Rattle.std.specs.Prelude.{◌≡◌}
+use Rattle.std.specs.Prelude.{◌≡◌, ◌+◌, ◌*◌, ◌≤◌, ◌<◌}
 use Rattle.std.proofs.Math.Path.{refl, ap, ap₂, subst, fun_ext}
 use Rattle.std.proofs.Common.{sym, ◌∙◌, le_trans, ⊎_elim}
-use Rattle.align_burst.specs.Prelude.{List, ℕ, zero, suc, ◌+◌, ◌*◌, ◌≤◌, ◌<◌, arith, lit≤, length, get_or, ℤ, pos, nat_abs, Shape, Allowed, TileSide, Level, Step, finest_level, level0, level3, level_size, tile_count, tile_rows, tile_columns, frame_parts, level_tiles, offset, pyramid_length, tiles, align_length, Grid, Area, Within, VectorField, word, level_at, coarsest, finer, residuals, coarsest_rows, finer_rows, Sums, pair_in, Stored, Before, Few, Room, finest_in, finer_in, finer_rows_in, Finest, field_at}
+use Rattle.align_burst.specs.Prelude.{List, ℕ, zero, suc, arith, lit≤, length, get_or, ℤ, pos, nat_abs, Shape, Allowed, TileSide, Level, Step, finest_level, level0, level3, level_size, tile_count, tile_rows, tile_columns, frame_parts, level_tiles, offset, pyramid_length, tiles, align_length, Grid, Area, Within, VectorField, word, level_at, coarsest, finer, residuals, coarsest_rows, finer_rows, Sums, pair_in, Stored, Before, Few, Room, finest_in, finer_in, finer_rows_in, Finest, field_at}
 use Rattle.geometry.specs.TileLaws.{finest-tiles}
 use Rattle.align_pyramid.specs.ChainLaws.{words-end}
 use Rattle.align_pyramid.specs.LayoutLaws.{size0, size1, size3, size5}

@@ -1,8 +1,8 @@
 -- One frame aligned by itself: its vectors are its part of the burst's.
-use Rattle.std.specs.Prelude.{◌≡◌, length, take, drop}
+use Rattle.std.specs.Prelude.{◌≡◌, length, take, drop, ◌+◌, ◌-◌, ◌*◌, ◌<◌}
 use Rattle.std.proofs.Math.Path.{sym, subst}
 use Rattle.std.proofs.Common.{◌∙◌, length-drop, length-take-le}
-use Rattle.align_burst.specs.Prelude.{List, ℕ, ◌+◌, ◌-◌, ◌*◌, ◌<◌, arith, ℤ, pos, tab, Shape, vector_length, sample_at, tile_columns, frame_parts, VectorField, other_frame, word, word_of, vector_list, parts_of, Sums}
+use Rattle.align_burst.specs.Prelude.{List, ℕ, arith, ℤ, pos, tab, Shape, vector_length, sample_at, tile_columns, frame_parts, VectorField, other_frame, word, word_of, vector_list, parts_of, Sums}
 use Rattle.std.proofs.Math.Seq.{get_or-take, get_or-drop, ext_get_or}
 use Rattle.sequences.specs.TabLaws.{length-tab, get_d-tab}
 use Rattle.sequences.specs.Write.{written_all}

@@ -1,6 +1,6 @@
 -- The words of other crates that this crate's files share. Lemmas are not passed on: of those the `use` line says where they are.
-pub use Rattle.algebra.specs.Prelude.{List, ℕ, ℤ, ap, arith, get_or, length, lit≤, nat_abs, rules, pos, refl, suc, zero, ◌%◌, ◌*◌, ◌++◌, ◌+◌, ◌-◌, ◌/◌, ◌<◌, ◌^◌, ◌≡◌, ◌≤◌}
-pub use Rattle.std.specs.Prelude.{replicate}
+pub use Rattle.algebra.specs.Prelude.{List, ℕ, ℤ, ap, arith, get_or, length, lit≤, nat_abs, rules, pos, refl, suc, zero}
+pub use Rattle.std.specs.Prelude.{replicate, ◌%◌, ◌*◌, ◌++◌, ◌+◌, ◌-◌, ◌/◌, ◌<◌, ◌^◌, ◌≡◌, ◌≤◌}
 pub use Rattle.sequences.specs.Tab.{tab}
 pub use Rattle.sequences.specs.Write.{written}
 pub use Rattle.geometry.specs.Fits.{AlignFits, Allowed, AllowedSize, BurstFits, SamplesFit, TileSide}

@@ -1,5 +1,6 @@
 -- Laws of the rows summed: on what a level's depend, and the bounds 112,786,248 of a frame and 789,503,736 of a burst.
-use Rattle.align_burst.specs.Prelude.{◌≡◌, ap, List, ℕ, ◌-◌, ◌*◌, ◌/◌, ◌%◌, ◌≤◌, ◌<◌, arith, Shape, Allowed, TileSide, Image, sample_at, Level, finest_level, level1, level2, level3, Step, finest_step, step2to1, step3to2, tile_count, level_size, level_tiles, VectorField, other_frame, Pair, level_at, level_tile, from_coarse, coarsest_rows, finer_rows}
+use Rattle.std.specs.Prelude.{◌≡◌, ◌-◌, ◌*◌, ◌/◌, ◌%◌, ◌≤◌, ◌<◌}
+use Rattle.align_burst.specs.Prelude.{ap, List, ℕ, arith, Shape, Allowed, TileSide, Image, sample_at, Level, finest_level, level1, level2, level3, Step, finest_step, step2to1, step3to2, tile_count, level_size, level_tiles, VectorField, other_frame, Pair, level_at, level_tile, from_coarse, coarsest_rows, finer_rows}
 use Rattle.std.proofs.Math.Nat.{mul-le-mul}
 use Rattle.algebra.specs.SumLaws.{sum_n-cong, sum_n-bound}
 use Rattle.std.proofs.Common.{⊎_elim}

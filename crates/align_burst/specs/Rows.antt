@@ -1,5 +1,6 @@
 -- "how many tile rows it summed in all" (request L12): level by level as the vectors are found, over the frames and the burst.
-use Rattle.align_burst.specs.Prelude.{List, ℕ, ◌+◌, ◌-◌, Shape, Image, sample_at, finest_level, level1, level2, level3, finest_step, step2to1, step3to2, other_frame, Pair, coarsest_rows, finer_rows}
+use Rattle.std.specs.Prelude.{◌+◌, ◌-◌}
+use Rattle.align_burst.specs.Prelude.{List, ℕ, Shape, Image, sample_at, finest_level, level1, level2, level3, finest_step, step2to1, step3to2, other_frame, Pair, coarsest_rows, finer_rows}
 use Rattle.algebra.specs.Sums.{sum_n}
 use Rattle.align_burst.specs.Fields.{level_rows, level_columns, field1, field2, field3}
 use Rattle.align_burst.specs.Frames.{pairs}

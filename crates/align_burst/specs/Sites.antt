@@ -1,5 +1,6 @@
 -- Inner vocabulary: where the levels' images and vectors stand in the work area: the reference's pyramid, the other frame's, then the vectors of levels 3 to 1.
-use Rattle.align_burst.specs.Prelude.{◌≡◌, List, ℕ, zero, suc, ◌+◌, ◌*◌, ◌≤◌, ◌<◌, length, get_or, ℤ, pos, nat_abs, Shape, Allowed, TileSide, finest_level, level_size, tile_columns, frame_parts, level_tiles, offset, pyramid_length, align_length, written, Sums, Grid, Area, Pair, VectorField, word, level_at, Laid, field_in, rows_in, pair_in, Stored, field_at, Vectors}
+use Rattle.std.specs.Prelude.{◌≡◌, ◌+◌, ◌*◌, ◌≤◌, ◌<◌}
+use Rattle.align_burst.specs.Prelude.{List, ℕ, zero, suc, length, get_or, ℤ, pos, nat_abs, Shape, Allowed, TileSide, finest_level, level_size, tile_columns, frame_parts, level_tiles, offset, pyramid_length, align_length, written, Sums, Grid, Area, Pair, VectorField, word, level_at, Laid, field_in, rows_in, pair_in, Stored, field_at, Vectors}
 use Rattle.align_pyramid.specs.declared.images.Raster.{Raster}
 use Rattle.align_pyramid.specs.WordsLaws.{Kept}
 use Rattle.align_residual.specs.Magnitudes.{residual_most}

@@ -1,5 +1,6 @@
 // The vectors of every other frame of a burst.
-ghost use Rattle.align_burst.specs.Prelude.{◌+◌, ◌≤◌, length, sample_at, frame_parts};
+ghost use Rattle.std.specs.Prelude.{◌+◌, ◌≤◌};
+ghost use Rattle.align_burst.specs.Prelude.{length, sample_at, frame_parts};
 ghost use Rattle.align_burst.specs.Burst.{Ready, AlignedBurst, BehindReference, OneAligned, ReadyFrame, AlignedFrame};
 
 use crate::frame::align_levels;

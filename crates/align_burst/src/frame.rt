@@ -1,5 +1,6 @@
 // The four levels of one frame against the reference.
-ghost use Rattle.align_burst.specs.Prelude.{◌≡◌, ◌+◌, ◌*◌, ◌≤◌, ◌<◌, ◌^◌, length, Allowed, TileSide, frame_parts, level_at, Led, Few, Ends};
+ghost use Rattle.std.specs.Prelude.{◌≡◌, ◌+◌, ◌*◌, ◌≤◌, ◌<◌, ◌^◌};
+ghost use Rattle.align_burst.specs.Prelude.{length, Allowed, TileSide, frame_parts, level_at, Led, Few, Ends};
 ghost use Rattle.align_burst.specs.Sites.{image_number, area_at, grid_at, after, level_in, level_rows_in, Site, LaidAt, Prepared, Coarse, Aligned};
 
 use align_field::{Sums, finest_field, level_field};

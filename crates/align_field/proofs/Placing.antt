@@ -1,5 +1,6 @@
 -- The vectors of a level's first tiles, as the loop writes them.
-use Rattle.align_field.specs.Prelude.{◌≡◌, refl, sym, ◌∙◌, List, ℕ, ◌+◌, ◌*◌, ◌≤◌, ◌<◌, arith, length, set, ℤ, VectorField, numbered, word}
+use Rattle.std.specs.Prelude.{◌≡◌, ◌+◌, ◌*◌, ◌≤◌, ◌<◌}
+use Rattle.align_field.specs.Prelude.{refl, sym, ◌∙◌, List, ℕ, arith, length, set, ℤ, VectorField, numbered, word}
 use Rattle.sequences.specs.Write.{written, Writing, write-start, write-turn, write_done}
 use Rattle.geometry.specs.VectorLaws.{word-down, word-right}
 

@@ -1,5 +1,6 @@
 -- What a level's tiles add up to: their residuals, and "how many tile rows it summed in all" (request L12).
-use Rattle.align_field.specs.Prelude.{ℕ, ◌*◌, ◌/◌, ◌%◌, Level, Step, VectorField, numbered, search_rows, candidate_rows, level_tile, from_coarse}
+use Rattle.std.specs.Prelude.{◌*◌, ◌/◌, ◌%◌}
+use Rattle.align_field.specs.Prelude.{ℕ, Level, Step, VectorField, numbered, search_rows, candidate_rows, level_tile, from_coarse}
 use Rattle.algebra.specs.Sums.{sum_n}
 use Rattle.align_search.specs.Vectors.{still}
 use Rattle.align_residual.specs.Residual.{Pair, residual}

@@ -1,7 +1,8 @@
 -- Laws of the loop over a level's tiles: they are few, and what is written from a place on leaves the images and the coarse vectors before it, and so
 -- what is answered for a tile.
 use Rattle.std.proofs.Math.Path.{fun_ext}
-use Rattle.align_field.specs.Prelude.{◌≡◌, ◌∙◌, sym, ap, ap₂, subst, List, ℕ, zero, suc, ◌+◌, ◌*◌, ◌/◌, ◌%◌, ◌≤◌, ◌<◌, arith, lit≤, ℤ, nat_abs, pair_in, Stored, field_at, Vectors, Led, answer_at, finer_answer, level3, level_at, level_tile, coarsest, finer, from_coarse, candidate_rows, search_rows}
+use Rattle.std.specs.Prelude.{◌≡◌, ◌+◌, ◌*◌, ◌/◌, ◌%◌, ◌≤◌, ◌<◌}
+use Rattle.align_field.specs.Prelude.{◌∙◌, sym, ap, ap₂, subst, List, ℕ, zero, suc, arith, lit≤, ℤ, nat_abs, pair_in, Stored, field_at, Vectors, Led, answer_at, finer_answer, level3, level_at, level_tile, coarsest, finer, from_coarse, candidate_rows, search_rows}
 use Rattle.std.proofs.Common.{mul-le-mul}
 use Rattle.sequences.specs.Place.{row_below, column_below}
 use Rattle.geometry.specs.ReadLaws.{cell_below}

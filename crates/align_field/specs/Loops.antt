@@ -1,5 +1,6 @@
 -- Inner vocabulary: what the loop over a level's tiles asks of the work area, and what it leaves.
-use Rattle.align_field.specs.Prelude.{◌≡◌, List, ℕ, ◌+◌, ◌*◌, ◌/◌, ◌%◌, ◌≤◌, ◌<◌, length, ℤ, finest_level, finest_step, VectorField, word, tile_rows_most, level_at, finer, field_at, answer_at, pair_in, Stored}
+use Rattle.std.specs.Prelude.{◌≡◌, ◌+◌, ◌*◌, ◌/◌, ◌%◌, ◌≤◌, ◌<◌}
+use Rattle.align_field.specs.Prelude.{List, ℕ, length, ℤ, finest_level, finest_step, VectorField, word, tile_rows_most, level_at, finer, field_at, answer_at, pair_in, Stored}
 use Rattle.algebra.specs.Sums.{sum_n}
 use Rattle.align_pyramid.specs.Words.{end_of}
 use Rattle.align_tile.specs.declared.Area.{Area}

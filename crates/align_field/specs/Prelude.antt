@@ -1,5 +1,6 @@
 -- The words of other crates that this crate's files share. Lemmas are not passed on: of those the `use` line says where they are.
-pub use Rattle.algebra.specs.Prelude.{List, ℕ, ℤ, ap, ap₂, arith, length, lit≤, nat_abs, rules, refl, set, subst, suc, sym, zero, ◌%◌, ◌*◌, ◌+◌, ◌-◌, ◌/◌, ◌<◌, ◌∙◌, ◌≡◌, ◌≤◌}
+pub use Rattle.std.specs.Prelude.{◌%◌, ◌*◌, ◌+◌, ◌-◌, ◌/◌, ◌<◌, ◌≡◌, ◌≤◌}
+pub use Rattle.algebra.specs.Prelude.{List, ℕ, ℤ, ap, ap₂, arith, length, lit≤, nat_abs, rules, refl, set, subst, suc, sym, zero, ◌∙◌}
 pub use Rattle.geometry.specs.Tiles.{Level, Step, finest_level, finest_step, level3}
 pub use Rattle.geometry.specs.Vectors.{VectorField, numbered, word}
 pub use Rattle.align_search.specs.Rows.{candidate_rows, search_rows}

@@ -1,7 +1,8 @@
 // The vectors of a level's tiles, one after the other.
 #![tactic(auto)]
 
-ghost use Rattle.align_field.specs.Prelude.{◌≡◌, ◌+◌, ◌*◌, ◌≤◌, ◌<◌, length, set, found_most, Stored, Vectors, Led};
+ghost use Rattle.std.specs.Prelude.{◌≡◌, ◌+◌, ◌*◌, ◌≤◌, ◌<◌};
+ghost use Rattle.align_field.specs.Prelude.{length, set, found_most, Stored, Vectors, Led};
 ghost use Rattle.geometry.specs.Fits.{TileSide};
 ghost use Rattle.align_patch.specs.Bounds.{Within};
 ghost use Rattle.align_field.specs.Loops.{Few, Ends, Room, Laid, field_in, rows_in, Finest};

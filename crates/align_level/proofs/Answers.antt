@@ -1,6 +1,7 @@
 -- From the answer for a tile to that for a level's tile.
 use mathlib.Core.Path.{◌≡◌, refl, ◌∙◌}
-use Rattle.align_level.specs.Prelude.{Bool, List, ℤ, ℕ, zero, suc, ◌+◌, ◌*◌, ◌≤◌, arith, lit≤, TileSide, Kind, Vector, Level, level3, Step, Tile, Found, still, Pair, best_vector, search_rows, candidate_rows, VectorField, answer}
+use Rattle.std.specs.Prelude.{◌+◌, ◌*◌, ◌≤◌}
+use Rattle.align_level.specs.Prelude.{Bool, List, ℤ, ℕ, zero, suc, arith, lit≤, TileSide, Kind, Vector, Level, level3, Step, Tile, Found, still, Pair, best_vector, search_rows, candidate_rows, VectorField, answer}
 use mathlib.Core.Logic.{inl, inr, ⊎_elim}
 use native.Mathlib.Nat.{zero-add}
 use Rattle.align_search.specs.RowLaws.{candidate-rows-most}

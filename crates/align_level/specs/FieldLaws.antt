@@ -1,5 +1,6 @@
 -- A finer field depends on the coarse vectors that there are.
-use Rattle.align_level.specs.Prelude.{◌≡◌, ap, ℕ, ◌<◌, arith, Level, Step, own, neighbour, capped, Pair, Tile, best_vector, VectorField}
+use Rattle.std.specs.Prelude.{◌≡◌, ◌<◌}
+use Rattle.align_level.specs.Prelude.{ap, ℕ, arith, Level, Step, own, neighbour, capped, Pair, Tile, best_vector, VectorField}
 use Rattle.align_level.specs.Fields.{level_tile, from_coarse, finer}
 
 capped-below : (count index : ℕ) → 0 < count → capped count index < count

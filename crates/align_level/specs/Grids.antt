@@ -1,5 +1,6 @@
 -- Inner vocabulary: a coarse level's vectors where they stand in the work area, and the answers for a level's tiles.
-use Rattle.align_level.specs.Prelude.{◌≡◌, List, ℕ, zero, suc, ◌+◌, ◌*◌, ◌≤◌, ◌<◌, length, get_or, ℤ, pos, nat_abs, level3, VectorField, still, search_rows, candidate_rows, Tile, Vector, Found, TileSide, pair_in, Stored, Placed, answer}
+use Rattle.std.specs.Prelude.{◌≡◌, ◌+◌, ◌*◌, ◌≤◌, ◌<◌}
+use Rattle.align_level.specs.Prelude.{List, ℕ, zero, suc, length, get_or, ℤ, pos, nat_abs, level3, VectorField, still, search_rows, candidate_rows, Tile, Vector, Found, TileSide, pair_in, Stored, Placed, answer}
 use Rattle.align_level.specs.declared.Grid.{Grid}
 use Rattle.align_tile.specs.declared.Area.{Area}
 use Rattle.align_level.specs.Magnitudes.{coarse_most, found_most, tile_rows_most}

@@ -1,5 +1,6 @@
 -- The words of other crates that this crate's files share. Lemmas are not passed on: of those the `use` line says where they are.
-pub use Rattle.algebra.specs.Prelude.{Bool, List, ℕ, ℤ, ap, ap₂, arith, get_or, length, lit≤, nat_abs, rules, pos, refl, subst, suc, sym, true, zero, ◌%◌, ◌*◌, ◌*ℤ◌, ◌+◌, ◌/◌, ◌<◌, ◌∙◌, ◌≡◌, ◌≤◌}
+pub use Rattle.std.specs.Prelude.{◌%◌, ◌*◌, ◌*ℤ◌, ◌+◌, ◌/◌, ◌<◌, ◌≡◌, ◌≤◌}
+pub use Rattle.algebra.specs.Prelude.{Bool, List, ℕ, ℤ, ap, ap₂, arith, get_or, length, lit≤, nat_abs, rules, pos, refl, subst, suc, sym, true, zero, ◌∙◌}
 pub use Rattle.geometry.specs.Fits.{TileSide}
 pub use Rattle.geometry.specs.Tiles.{Level, Step, finest_level, finest_step, level1, level2, level3, neighbour, origin, own, step2to1, step3to2}
 unfoldable pub use Rattle.geometry.specs.Tiles.{capped}

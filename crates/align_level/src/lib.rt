@@ -1,7 +1,8 @@
 // The tiles of a level: each from a guess, and the guess from the coarse level's vectors.
 #![tactic(auto)]
 
-ghost use Rattle.align_level.specs.Prelude.{◌≡◌, ◌*◌, ◌%◌, ◌≤◌, ◌<◌, length, get_or, pos, nat_abs, ◌*ℤ◌, TileSide, ◌times◌, Stored, Placed, Ready, Roomy};
+ghost use Rattle.std.specs.Prelude.{◌≡◌, ◌*◌, ◌%◌, ◌≤◌, ◌<◌, ◌*ℤ◌};
+ghost use Rattle.align_level.specs.Prelude.{length, get_or, pos, nat_abs, TileSide, ◌times◌, Stored, Placed, Ready, Roomy};
 ghost use Rattle.align_patch.specs.Bounds.{Within};
 ghost use Rattle.align_level.specs.Fields.{level_at, level_tile};
 ghost use Rattle.align_level.specs.Steps.{step_to};

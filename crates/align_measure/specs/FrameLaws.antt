@@ -1,6 +1,6 @@
 -- One frame at a time: its residuals are those of the definition, and they stand where it says.
-use Rattle.align_measure.specs.Prelude.{◌≡◌, sym, ap, ap₂, subst, ◌∙◌, List, ℕ, ◌+◌, ◌-◌, ◌*◌, ◌/◌, ◌%◌, ◌≤◌, ◌<◌, arith, length, ℤ, Shape, Allowed, Image, sample_at, finest_level, tile_columns, other_frame, vector_place, down_at, right_at, frame_tiles, residual_length, pyramid_length, Levels, Built, residual, level_tile, pairs}
-use Rattle.std.specs.Prelude.{refl}
+use Rattle.align_measure.specs.Prelude.{sym, ap, ap₂, subst, ◌∙◌, List, ℕ, arith, length, ℤ, Shape, Allowed, Image, sample_at, finest_level, tile_columns, other_frame, vector_place, down_at, right_at, frame_tiles, residual_length, pyramid_length, Levels, Built, residual, level_tile, pairs}
+use Rattle.std.specs.Prelude.{refl, ◌≡◌, ◌+◌, ◌-◌, ◌*◌, ◌/◌, ◌%◌, ◌≤◌, ◌<◌}
 use Rattle.std.proofs.Common.{subst₂, zero-add, zero-mul, suc-mul, div-add-mod'}
 use Rattle.sequences.specs.Place.{row_room, place-row, place-column}
 use Rattle.sequences.specs.Write.{written, Writing, write-start, write-part, write_done, written_all}

@@ -1,5 +1,6 @@
 -- Inner vocabulary: the residuals of a frame, where their vectors stand, and what the loop over the frames asks and leaves.
-use Rattle.align_measure.specs.Prelude.{◌≡◌, false, List, ℕ, ◌+◌, ◌*◌, ◌/◌, ◌%◌, ◌≤◌, length, get_or, ℤ, pos, written, Shape, Image, finest_level, tile_columns, AlignFits, SamplesFit, VectorsFit, frame_tiles, residual_length, Levels, Pair, residual, level_tile, pairs}
+use Rattle.std.specs.Prelude.{◌≡◌, ◌+◌, ◌*◌, ◌/◌, ◌%◌, ◌≤◌}
+use Rattle.align_measure.specs.Prelude.{false, List, ℕ, length, get_or, ℤ, pos, written, Shape, Image, finest_level, tile_columns, AlignFits, SamplesFit, VectorsFit, frame_tiles, residual_length, Levels, Pair, residual, level_tile, pairs}
 use Rattle.geometry.specs.declared.vectors.Vector.{Vector}
 use Rattle.align_measure.specs.Residuals.{tile_residuals}
 

@@ -1,5 +1,6 @@
 -- The words of other crates that this crate's files share. Lemmas are not passed on: of those the `use` line says where they are.
-pub use Rattle.algebra.specs.Prelude.{List, ℕ, ℤ, ap, ap₂, arith, false, get_or, length, lit≤, rules, pos, subst, sym, ◌%◌, ◌*◌, ◌+◌, ◌-◌, ◌/◌, ◌<◌, ◌∙◌, ◌≡◌, ◌≤◌}
+pub use Rattle.std.specs.Prelude.{◌%◌, ◌*◌, ◌+◌, ◌-◌, ◌/◌, ◌<◌, ◌≡◌, ◌≤◌}
+pub use Rattle.algebra.specs.Prelude.{List, ℕ, ℤ, ap, ap₂, arith, false, get_or, length, lit≤, rules, pos, subst, sym, ◌∙◌}
 pub use Rattle.sequences.specs.Write.{written}
 pub use Rattle.geometry.specs.Fits.{AlignFits, Allowed, SamplesFit, TileSide, VectorsFit}
 pub use Rattle.geometry.specs.Read.{Image, sample_at}

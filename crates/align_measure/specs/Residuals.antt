@@ -1,5 +1,6 @@
 -- The finest residual of each tile of the other frames, at lent vectors.
-use Rattle.align_measure.specs.Prelude.{List, ℕ, ◌/◌, ◌%◌, ℤ, Shape, sample_at, finest_level, tile_columns, other_frame, down_at, right_at, frame_tiles, residual_length, residual, level_tile, pairs}
+use Rattle.std.specs.Prelude.{◌/◌, ◌%◌}
+use Rattle.align_measure.specs.Prelude.{List, ℕ, ℤ, Shape, sample_at, finest_level, tile_columns, other_frame, down_at, right_at, frame_tiles, residual_length, residual, level_tile, pairs}
 use Rattle.sequences.specs.Tab.{tab}
 
 module _ (s : Shape) (reference : ℕ) (samples : List ℕ) (vectors : List ℤ) where

@@ -1,5 +1,6 @@
 -- "the sum of finest residuals": where the vectors are those that align finds, the residuals of a frame's tiles add up to the sum that it answers.
-use Rattle.align_measure.specs.Prelude.{◌≡◌, ap₂, ◌∙◌, List, ℕ, ◌+◌, ◌-◌, ◌*◌, ◌/◌, ◌%◌, ◌<◌, get_or, Shape, Allowed, TileSide, sample_at, finest_level, tile_rows, tile_columns, other_frame, frame_tiles, residual_length, residual, level_tile, pairs, vectors_of, residual_of}
+use Rattle.std.specs.Prelude.{◌≡◌, ◌+◌, ◌-◌, ◌*◌, ◌/◌, ◌%◌, ◌<◌}
+use Rattle.align_measure.specs.Prelude.{ap₂, ◌∙◌, List, ℕ, get_or, Shape, Allowed, TileSide, sample_at, finest_level, tile_rows, tile_columns, other_frame, frame_tiles, residual_length, residual, level_tile, pairs, vectors_of, residual_of}
 use Rattle.algebra.specs.Sums.{sum_n}
 use Rattle.algebra.specs.SumLaws.{sum_n-cong}
 use Rattle.sequences.specs.Place.{row_below, column_below}

@@ -1,7 +1,8 @@
 // The finest residual of each tile of a burst's other frames, at lent vectors.
 #![tactic(auto)]
 
-ghost use Rattle.align_measure.specs.Prelude.{◌≡◌, false, ◌+◌, ◌*◌, ◌<◌, length, written, TileSide, VectorsFit, sample_at, frame_tiles, residual, pair_in, Stored, Placed};
+ghost use Rattle.std.specs.Prelude.{◌≡◌, ◌+◌, ◌*◌, ◌<◌};
+ghost use Rattle.align_measure.specs.Prelude.{false, length, written, TileSide, VectorsFit, sample_at, frame_tiles, residual, pair_in, Stored, Placed};
 ghost use Rattle.align_patch.specs.Bounds.{Within};
 ghost use Rattle.align_tile.specs.Magnitudes.{guess_most};
 ghost use Rattle.align_field.specs.Loops.{Few};

@@ -1,5 +1,6 @@
 -- Inner vocabulary: bounds of vectors.
-use Rattle.algebra.specs.Prelude.{ℕ, ◌≤◌, nat_abs}
+use Rattle.std.specs.Prelude.{◌≤◌}
+use Rattle.algebra.specs.Prelude.{ℕ, nat_abs}
 use Rattle.geometry.specs.declared.vectors.Vector.{Vector}
 
 -- both parts are at most b

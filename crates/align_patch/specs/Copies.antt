@@ -1,5 +1,6 @@
 -- Inner vocabulary: squares of samples in local arrays: a square's rows stand one after the other.
-use Rattle.algebra.specs.Prelude.{◌≡◌, List, ℕ, ◌+◌, ◌*◌, ◌%◌, ◌^◌, ◌≤◌, ◌<◌, length, get_or, ℤ, pos, nat_abs, ◌+ℤ◌}
+use Rattle.std.specs.Prelude.{◌≡◌, ◌+◌, ◌*◌, ◌%◌, ◌^◌, ◌≤◌, ◌<◌, ◌+ℤ◌}
+use Rattle.algebra.specs.Prelude.{List, ℕ, length, get_or, ℤ, pos, nat_abs}
 use Rattle.geometry.specs.Read.{inside}
 use Rattle.geometry.specs.declared.vectors.Vector.{Vector}
 use Rattle.align_pyramid.specs.declared.images.Raster.{Raster}

@@ -1,5 +1,6 @@
 -- A square is copied row by row, and a row at once where it lies inside.
-use Rattle.algebra.specs.Prelude.{◌≡◌, ap, ◌∙◌, List, ℕ, ◌+◌, ◌*◌, ◌≤◌, arith, length, get_or, ℤ, pos, ◌+ℤ◌}
+use Rattle.std.specs.Prelude.{◌≡◌, ◌+◌, ◌*◌, ◌≤◌, ◌+ℤ◌}
+use Rattle.algebra.specs.Prelude.{ap, ◌∙◌, List, ℕ, arith, length, get_or, ℤ, pos}
 use Rattle.std.proofs.Common.{below_more}
 use Rattle.sequences.specs.Place.{row_room}
 use Rattle.sequences.specs.Write.{written, written_in, written-before, written-ext}

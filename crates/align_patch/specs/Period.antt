@@ -1,5 +1,6 @@
 -- Inner vocabulary: mirrored columns by their place in a period, which holds a row's columns forward and then backward.
-use Rattle.algebra.specs.Prelude.{cond, ℕ, ◌+◌, ◌-◌, ◌*◌, ◌%◌, eqb, ℤ, pos, negsuc}
+use Rattle.std.specs.Prelude.{◌+◌, ◌-◌, ◌*◌, ◌%◌}
+use Rattle.algebra.specs.Prelude.{cond, ℕ, eqb, ℤ, pos, negsuc}
 
 -- the place of a column, inside or outside
 unfoldable pub place_in : (size : ℕ) → ℤ → ℕ

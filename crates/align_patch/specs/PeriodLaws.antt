@@ -1,5 +1,6 @@
 -- A column is read by its place in the period, and the next column's place is the next.
-use Rattle.algebra.specs.Prelude.{◌≡◌, refl, sym, ap, ◌∙◌, ℕ, zero, suc, ◌+◌, ◌-◌, ◌*◌, ◌/◌, ◌%◌, ◌≤◌, ◌<◌, arith, ℤ, pos, negsuc, ◌+ℤ◌}
+use Rattle.std.specs.Prelude.{◌≡◌, ◌+◌, ◌-◌, ◌*◌, ◌/◌, ◌%◌, ◌≤◌, ◌<◌, ◌+ℤ◌}
+use Rattle.algebra.specs.Prelude.{refl, sym, ap, ◌∙◌, ℕ, zero, suc, arith, ℤ, pos, negsuc}
 use Rattle.std.proofs.Common.{mod-lt, div-add-mod', eq-eqb, ne_eqb}
 use Rattle.std.proofs.Math.Nat.{mod-eq_of_lt}
 use Rattle.std.proofs.Math.Decide.{dec_lt}

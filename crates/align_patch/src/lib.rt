@@ -1,7 +1,8 @@
 // Squares of an image of the work area, copied into local arrays: the rule for reading outside is paid once.
 #![tactic(auto)]
 
-ghost use Rattle.algebra.specs.Prelude.{◌≡◌, ◌+◌, ◌*◌, ◌%◌, ◌≤◌, ◌<◌, ◌^◌, pos, ◌+ℤ◌, length};
+ghost use Rattle.std.specs.Prelude.{◌≡◌, ◌+◌, ◌*◌, ◌%◌, ◌≤◌, ◌<◌, ◌^◌, ◌+ℤ◌};
+ghost use Rattle.algebra.specs.Prelude.{pos, length};
 ghost use Rattle.algebra.specs.Bound.{AtMost};
 ghost use Rattle.sequences.specs.Tab.{tab};
 ghost use Rattle.sequences.specs.Write.{written};

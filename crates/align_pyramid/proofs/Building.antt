@@ -1,5 +1,6 @@
 -- Level 0 laid, then halved down, is the pyramid.
-use Rattle.align_pyramid.specs.Prelude.{◌≡◌, ◌∙◌, List, ℕ, ◌+◌, ◌*◌, ◌/◌, ◌≤◌, ◌<◌, arith, length, ℤ, Shape, Image, sample_at, level0, level_size, bayer_sum, Frame}
+use Rattle.std.specs.Prelude.{◌≡◌, ◌+◌, ◌*◌, ◌/◌, ◌≤◌, ◌<◌}
+use Rattle.align_pyramid.specs.Prelude.{◌∙◌, List, ℕ, arith, length, ℤ, Shape, Image, sample_at, level0, level_size, bayer_sum, Frame}
 use Rattle.align_pyramid.specs.Pyramid.{image0}
 use Rattle.align_pyramid.specs.Bayer.BayerLaws.{bayer-most}
 use Rattle.align_pyramid.specs.declared.images.Raster.{Raster}

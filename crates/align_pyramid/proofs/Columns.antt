@@ -1,5 +1,6 @@
 -- The column sums of a row: how their list is stored, what stands in it, and the halved row that comes of it.
-use Rattle.align_pyramid.specs.Prelude.{◌≡◌, ap, ◌∙◌, List, ℕ, ◌+◌, ◌-◌, ◌*◌, ◌/◌, ◌≤◌, ◌<◌, arith, length, get_or, set, ℤ, pos, ◌-ℤ◌, inside, column_most, weights, tap, weighted, column_sum, edged_sum}
+use Rattle.std.specs.Prelude.{◌≡◌, ◌+◌, ◌-◌, ◌*◌, ◌/◌, ◌≤◌, ◌<◌, ◌-ℤ◌}
+use Rattle.align_pyramid.specs.Prelude.{ap, ◌∙◌, List, ℕ, arith, length, get_or, set, ℤ, pos, inside, column_most, weights, tap, weighted, column_sum, edged_sum}
 use native.Mathlib.Nat.{zero-add, add-zero}
 use Rattle.geometry.specs.ReadLaws.{inside-below}
 use Rattle.sequences.specs.Write.{written, Writing, written_in}

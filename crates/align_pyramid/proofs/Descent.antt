@@ -1,5 +1,6 @@
 -- A loop that halves the image at hand five times, each into the words after it: its invariant, how it starts, goes on and ends.
-use Rattle.align_pyramid.specs.Prelude.{◌≡◌, refl, ap, ap₂, ◌∙◌, List, ℕ, suc, ◌+◌, ◌*◌, ◌/◌, ◌≤◌, ◌<◌, arith, length, get_or, ℤ, pos, Image}
+use Rattle.std.specs.Prelude.{◌≡◌, ◌+◌, ◌*◌, ◌/◌, ◌≤◌, ◌<◌}
+use Rattle.align_pyramid.specs.Prelude.{refl, ap, ap₂, ◌∙◌, List, ℕ, suc, arith, length, get_or, ℤ, pos, Image}
 use mathlib.Core.Logic.{⊎_elim}
 use native.Mathlib.Nat.{add-zero, eq-or-lt_of_le, le_refl}
 use native.Mathlib.Numerals.{add-one}

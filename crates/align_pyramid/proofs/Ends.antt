@@ -1,5 +1,6 @@
 -- A list stored in three: its first element, n by a loop, and the last.
-use Rattle.algebra.specs.Prelude.{◌≡◌, subst, List, ℕ, ◌+◌, ◌≤◌, ◌<◌, arith}
+use Rattle.std.specs.Prelude.{◌≡◌, ◌+◌, ◌≤◌, ◌<◌}
+use Rattle.algebra.specs.Prelude.{subst, List, ℕ, arith}
 use lib.ListN.{length, set, length-set}
 use Rattle.sequences.specs.Write.{written, Writing, write-start, write-turn, write-part, write_done}
 

@@ -1,5 +1,6 @@
 -- A loop that lays an image row by row: its invariant, how it starts, goes on and ends.
-use Rattle.align_pyramid.specs.Prelude.{◌≡◌, sym, ap₂, subst, ◌∙◌, List, ℕ, ◌+◌, ◌*◌, ◌≤◌, ◌<◌, arith, length, ℤ, pos, Image}
+use Rattle.std.specs.Prelude.{◌≡◌, ◌+◌, ◌*◌, ◌≤◌, ◌<◌}
+use Rattle.align_pyramid.specs.Prelude.{sym, ap₂, subst, ◌∙◌, List, ℕ, arith, length, ℤ, pos, Image}
 use native.Mathlib.Nat.{zero-mul, mul-le-mul_right}
 use Rattle.sequences.specs.Write.{written, Writing, write-start, write-part, write_done}
 use Rattle.sequences.specs.Place.{row_room, place-row, place-column}

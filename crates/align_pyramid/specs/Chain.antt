@@ -1,5 +1,6 @@
 -- Inner vocabulary: an image and its halvings, one of the other, in the work area.
-use Rattle.align_pyramid.specs.Prelude.{◌≡◌, List, ℕ, zero, suc, ◌+◌, ◌*◌, ◌/◌, ◌≤◌, ◌<◌, length, get_or, ℤ, pos, Image, halved}
+use Rattle.std.specs.Prelude.{◌≡◌, ◌+◌, ◌*◌, ◌/◌, ◌≤◌, ◌<◌}
+use Rattle.align_pyramid.specs.Prelude.{List, ℕ, zero, suc, length, get_or, ℤ, pos, Image, halved}
 use Rattle.align_pyramid.specs.declared.images.Raster.{Raster}
 use Rattle.align_pyramid.specs.Words.{end_of, Holds, Source}
 

@@ -1,5 +1,6 @@
 -- How the sizes of halvings shrink and their words add up.
-use Rattle.align_pyramid.specs.Prelude.{◌≡◌, refl, ap, ℕ, zero, suc, ◌+◌, ◌*◌, ◌/◌, ◌^◌, ◌≤◌, ◌<◌, arith, Image}
+use Rattle.std.specs.Prelude.{◌≡◌, ◌+◌, ◌*◌, ◌/◌, ◌^◌, ◌≤◌, ◌<◌}
+use Rattle.align_pyramid.specs.Prelude.{refl, ap, ℕ, zero, suc, arith, Image}
 use Rattle.std.proofs.Math.Logic.{⊎_elim}
 use Rattle.std.proofs.Common.{mul-le-mul, pow-suc, eq-or-lt_of_le}
 use Rattle.std.proofs.Math.Nat.{pow-le-pow_right}

@@ -1,5 +1,6 @@
 -- Inner vocabulary: where a pyramid's images stand in the work area, and what holds once they are laid.
-use Rattle.align_pyramid.specs.Prelude.{◌≡◌, List, ℕ, ◌+◌, ◌*◌, ◌≤◌, ◌<◌, length, get_or, ℤ, pos, Shape, Image, Level, level0, level1, level2, level3, level_size}
+use Rattle.std.specs.Prelude.{◌≡◌, ◌+◌, ◌*◌, ◌≤◌, ◌<◌}
+use Rattle.align_pyramid.specs.Prelude.{List, ℕ, length, get_or, ℤ, pos, Shape, Image, Level, level0, level1, level2, level3, level_size}
 use Rattle.geometry.specs.LevelTiles.{level_tiles}
 use Rattle.align_pyramid.specs.Pyramid.{image0, image1, image2, image3}
 use Rattle.align_pyramid.specs.Words.{Holds}

@@ -1,5 +1,6 @@
 -- The six images as a chain of halvings: which of them are the levels, and that they fit.
-use Rattle.align_pyramid.specs.Prelude.{◌≡◌, refl, ◌∙◌, List, ℕ, suc, ◌+◌, ◌*◌, ◌/◌, ◌≤◌, arith, ℤ, Shape, Image, level0, level1, level2, level3, level_size, tile_count}
+use Rattle.std.specs.Prelude.{◌≡◌, ◌+◌, ◌*◌, ◌/◌, ◌≤◌}
+use Rattle.align_pyramid.specs.Prelude.{refl, ◌∙◌, List, ℕ, suc, arith, ℤ, Shape, Image, level0, level1, level2, level3, level_size, tile_count}
 use Rattle.std.proofs.Common.{mul-le-mul}
 use Rattle.geometry.specs.Fits.{Allowed}
 use Rattle.geometry.specs.LevelTiles.{level_tiles}

@@ -1,5 +1,6 @@
 -- The words of other crates that this crate's files share. Lemmas are not passed on: of those the `use` line says where they are.
-pub use Rattle.algebra.specs.Prelude.{List, ℕ, ℤ, ap, ap₂, arith, get_or, length, nat_abs, rules, pos, refl, set, subst, suc, sym, w64, zero, ◌%◌, ◌*◌, ◌++◌, ◌+◌, ◌-◌, ◌-ℤ◌, ◌/◌, ◌<◌, ◌^◌, ◌∙◌, ◌≡◌, ◌≤◌}
+pub use Rattle.std.specs.Prelude.{◌%◌, ◌*◌, ◌++◌, ◌+◌, ◌-◌, ◌-ℤ◌, ◌/◌, ◌<◌, ◌^◌, ◌≡◌, ◌≤◌}
+pub use Rattle.algebra.specs.Prelude.{List, ℕ, ℤ, ap, ap₂, arith, get_or, length, nat_abs, rules, pos, refl, set, subst, suc, sym, w64, zero, ◌∙◌}
 pub use Rattle.sequences.specs.Write.{written}
 pub use Rattle.geometry.specs.Read.{Image, inside, sample_at}
 unfoldable pub use Rattle.geometry.specs.Read.{read}

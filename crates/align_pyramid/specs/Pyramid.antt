@@ -1,5 +1,6 @@
 -- The pyramid of a frame: document 01, "Pyramid and vectors".
-use Rattle.align_pyramid.specs.Prelude.{ℕ, ◌/◌, Shape, Image, level0, level1, level2, level_size, bayer_sum, halved}
+use Rattle.std.specs.Prelude.{◌/◌}
+use Rattle.align_pyramid.specs.Prelude.{ℕ, Shape, Image, level0, level1, level2, level_size, bayer_sum, halved}
 
 -- "each quarter two halvings"; "the image between two halvings" has half the size
 unfoldable pub quartered : (height width : ℕ) → Image → Image

@@ -1,5 +1,6 @@
 -- Inner vocabulary: images in the work area: row after row, a word for each value.
-use Rattle.align_pyramid.specs.Prelude.{◌≡◌, List, ℕ, ◌+◌, ◌*◌, ◌/◌, ◌%◌, ◌≤◌, ◌<◌, length, get_or, ℤ, pos, nat_abs, Image, read, halved, value_most, written}
+use Rattle.std.specs.Prelude.{◌≡◌, ◌+◌, ◌*◌, ◌/◌, ◌%◌, ◌≤◌, ◌<◌}
+use Rattle.align_pyramid.specs.Prelude.{List, ℕ, length, get_or, ℤ, pos, nat_abs, Image, read, halved, value_most, written}
 use Rattle.align_pyramid.specs.declared.images.Raster.{Raster}
 
 -- the number at a place of the work area

@@ -1,7 +1,7 @@
 -- Laws of images in the work area.
-use Rattle.align_pyramid.specs.Prelude.{◌≡◌, sym, ap, ap₂, subst, ◌∙◌, List, ◌++◌, ℕ, ◌+◌, ◌-◌, ◌*◌, ◌≤◌, ◌<◌, arith, ℤ, pos, nat_abs, Image, inside, read}
+use Rattle.align_pyramid.specs.Prelude.{sym, ap, ap₂, subst, ◌∙◌, List, ℕ, arith, ℤ, pos, nat_abs, Image, inside, read}
 use Rattle.std.proofs.Common.{add_assoc, length-take-le, get_or-take}
-use Rattle.std.specs.Prelude.{length, take, drop}
+use Rattle.std.specs.Prelude.{length, take, drop, ◌≡◌, ◌++◌, ◌+◌, ◌-◌, ◌*◌, ◌≤◌, ◌<◌}
 use Rattle.std.proofs.Math.ListN.{get_or, get_or-append}
 use Rattle.std.proofs.Math.Seq.{length_paste_head}
 use Rattle.geometry.specs.ReadLaws.{cell_below, inside-below}

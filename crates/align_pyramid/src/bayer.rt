@@ -1,5 +1,5 @@
 // The sum of a 2 by 2 Bayer square of a frame: a value of level 0.
-ghost use Rattle.algebra.specs.Prelude.{◌≡◌, ◌/◌, ◌<◌, ◌≤◌};
+ghost use Rattle.std.specs.Prelude.{◌≡◌, ◌/◌, ◌<◌, ◌≤◌};
 ghost use Rattle.geometry.specs.Read.{sample_at};
 ghost use Rattle.align_pyramid.specs.Bayer.Bayer.{bayer_sum};
 ghost use Rattle.align_pyramid.specs.Bayer.Frame.{Frame};

@@ -1,5 +1,5 @@
 // The arithmetic of a halving: its weights, the places that it reads, and a value of the halved image.
-ghost use Rattle.algebra.specs.Prelude.{◌≡◌, ◌+◌, ◌*◌, ◌/◌, ◌<◌, ◌≤◌};
+ghost use Rattle.std.specs.Prelude.{◌≡◌, ◌+◌, ◌*◌, ◌/◌, ◌<◌, ◌≤◌};
 ghost use Rattle.geometry.specs.Read.{inside};
 ghost use Rattle.align_pyramid.specs.Halving.Halving.{weights, tap};
 ghost use Rattle.align_pyramid.specs.Halving.Columns.{FourSums};

@@ -1,5 +1,6 @@
 // Images inside the work area, halved one after the other.
-ghost use Rattle.align_pyramid.specs.Prelude.{◌≡◌, ◌+◌, ◌/◌, ◌<◌, ◌≤◌, length, inside, written, tap, column_sum, edged_sum};
+ghost use Rattle.std.specs.Prelude.{◌≡◌, ◌+◌, ◌/◌, ◌<◌, ◌≤◌};
+ghost use Rattle.align_pyramid.specs.Prelude.{length, inside, written, tap, column_sum, edged_sum};
 ghost use Rattle.align_pyramid.specs.Words.{word_at, image_in, halved_in, laid, laid_row, Held, FourRows};
 ghost use Rattle.align_pyramid.specs.Chain.{RoomAt, Room, Halvings};
 

@@ -6,7 +6,8 @@ mod halving;
 pub mod images;
 pub mod squares;
 
-ghost use Rattle.align_pyramid.specs.Prelude.{◌≡◌, ◌+◌, ◌≤◌, length, sample_at, Frame};
+ghost use Rattle.std.specs.Prelude.{◌≡◌, ◌+◌, ◌≤◌};
+ghost use Rattle.align_pyramid.specs.Prelude.{length, sample_at, Frame};
 ghost use Rattle.geometry.specs.Fits.{Allowed};
 ghost use Rattle.align_pyramid.specs.Layout.{offset, pyramid_length, Built};
 

@@ -1,5 +1,6 @@
 // Level 0, the sums of the 2 by 2 Bayer squares, laid into the work area.
-ghost use Rattle.align_pyramid.specs.Prelude.{◌≡◌, ◌+◌, ◌*◌, ◌/◌, ◌<◌, ◌≤◌, length, sample_at, bayer_sum, Frame};
+ghost use Rattle.std.specs.Prelude.{◌≡◌, ◌+◌, ◌*◌, ◌/◌, ◌<◌, ◌≤◌};
+ghost use Rattle.align_pyramid.specs.Prelude.{length, sample_at, bayer_sum, Frame};
 ghost use Rattle.align_pyramid.specs.Words.{laid, laid_row};
 
 use crate::bayer::square_sum;

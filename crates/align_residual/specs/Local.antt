@@ -1,5 +1,6 @@
 -- Inner vocabulary: squares of samples in local arrays: a square's rows stand one after the other.
-use Rattle.algebra.specs.Prelude.{◌≡◌, Bool, true, List, ℕ, ◌+◌, ◌*◌, ◌≤◌, ◌<◌, length, get_or}
+use Rattle.std.specs.Prelude.{◌≡◌, ◌+◌, ◌*◌, ◌≤◌, ◌<◌}
+use Rattle.algebra.specs.Prelude.{Bool, true, List, ℕ, length, get_or}
 use Rattle.algebra.specs.Sums.{sum_n}
 use Rattle.align_pyramid.specs.Halving.Magnitudes.{value_most}
 use Rattle.align_residual.specs.Magnitudes.{squared_row_most}

@@ -1,5 +1,6 @@
 -- The residual of a tile: how far the other frame, moved by a vector, is from the reference on it.
-use Rattle.algebra.specs.Prelude.{Bool, cond, ℕ, ◌+◌, ◌-◌, ◌*◌, ℤ, pos, ◌+ℤ◌}
+use Rattle.std.specs.Prelude.{◌+◌, ◌-◌, ◌*◌, ◌+ℤ◌}
+use Rattle.algebra.specs.Prelude.{Bool, cond, ℕ, ℤ, pos}
 use Rattle.algebra.specs.Sums.{sum_n}
 use Rattle.align_residual.specs.declared.Tile.{Tile}
 use Rattle.geometry.specs.declared.vectors.Vector.{Vector}

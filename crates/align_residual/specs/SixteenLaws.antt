@@ -1,5 +1,6 @@
 -- Sums in parts that become vectors are the sums over a tile's rows.
-use Rattle.algebra.specs.Prelude.{◌≡◌, refl, ap, ap₂, ◌∙◌, Bool, false, List, ℕ, zero, suc, ◌+◌, ◌*◌, ◌≤◌, arith, get_or}
+use Rattle.std.specs.Prelude.{◌≡◌, ◌+◌, ◌*◌, ◌≤◌}
+use Rattle.algebra.specs.Prelude.{refl, ap, ap₂, ◌∙◌, Bool, false, List, ℕ, zero, suc, arith, get_or}
 use Rattle.algebra.specs.Sums.{sum_n}
 use Rattle.algebra.specs.SumLaws.{sum_n-cong, sum_n-add}
 use Rattle.sequences.specs.Tab.{tab}

@@ -1,5 +1,6 @@
 -- Sums by fours are the sums over the rows of a tile of side 32.
-use Rattle.algebra.specs.Prelude.{◌≡◌, ap, ap₂, ◌∙◌, false, List, ℕ, ◌+◌, arith, get_or}
+use Rattle.std.specs.Prelude.{◌≡◌, ◌+◌}
+use Rattle.algebra.specs.Prelude.{ap, ap₂, ◌∙◌, false, List, ℕ, arith, get_or}
 use Rattle.algebra.specs.Sums.{sum_n}
 use Rattle.algebra.specs.SumLaws.{sum_n-cong}
 use Rattle.align_residual.specs.Residual.{gap, difference}

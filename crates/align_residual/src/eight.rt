@@ -1,5 +1,6 @@
 // Sums of squared differences over tiles of side 8, against windows of side 16.
-ghost use Rattle.algebra.specs.Prelude.{◌≡◌, true, ◌+◌, ◌≤◌};
+ghost use Rattle.std.specs.Prelude.{◌≡◌, ◌+◌, ◌≤◌};
+ghost use Rattle.algebra.specs.Prelude.{true};
 ghost use Rattle.align_residual.specs.Local.{row_sum, Compared};
 ghost use Rattle.align_residual.specs.Magnitudes.{squared_row_most};
 

@@ -1,6 +1,7 @@
 // Sums of differences over tiles of side 16, in shapes that become vector instructions: samples are at most 16380, so that four of their
 // distances fit 16 bits, 16 of their squares 32 bits.
-ghost use Rattle.algebra.specs.Prelude.{◌≡◌, false, ◌+◌, ◌*◌, ◌<◌, ◌≤◌, get_or};
+ghost use Rattle.std.specs.Prelude.{◌≡◌, ◌+◌, ◌*◌, ◌<◌, ◌≤◌};
+ghost use Rattle.algebra.specs.Prelude.{false, get_or};
 ghost use Rattle.algebra.specs.Sums.{sum_n};
 ghost use Rattle.sequences.specs.Tab.{tab};
 ghost use Rattle.align_pyramid.specs.Halving.Magnitudes.{value_most};

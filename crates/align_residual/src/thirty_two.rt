@@ -1,5 +1,6 @@
 // Sums of absolute differences over tiles of side 32, row by row: its distances are added by fours in 16 bits, as those of two rows are at side 16.
-ghost use Rattle.algebra.specs.Prelude.{◌≡◌, false, ◌+◌, ◌*◌, ◌≤◌};
+ghost use Rattle.std.specs.Prelude.{◌≡◌, ◌+◌, ◌*◌, ◌≤◌};
+ghost use Rattle.algebra.specs.Prelude.{false};
 ghost use Rattle.align_residual.specs.Magnitudes.{four_most, pair_most};
 ghost use Rattle.align_residual.specs.Local.{row_sum, square_sum, beside_sum, Compared};
 

@@ -1,6 +1,6 @@
 -- Inner vocabulary: the search in local arrays: a tile's square, and its window's, which reaches 4 samples further each way.
-use Rattle.align_search.specs.Prelude.{◌≡◌, Bool, true, false, List, ℕ, ◌+◌, ◌*◌, ◌≤◌, ◌<◌, get_or, sum_n, first_min, residual_most, square_row, Low}
-use Rattle.std.specs.Prelude.{◌⊎◌}
+use Rattle.align_search.specs.Prelude.{Bool, true, false, List, ℕ, get_or, sum_n, first_min, residual_most, square_row, Low}
+use Rattle.std.specs.Prelude.{◌⊎◌, ◌≡◌, ◌+◌, ◌*◌, ◌≤◌, ◌<◌}
 use Rattle.align_search.specs.declared.window.Best.{Best}
 use Rattle.align_search.specs.Table.{downs, rights}
 use Rattle.align_search.specs.Rows.{offset_rows}

@@ -1,6 +1,6 @@
 -- What is found in local arrays is what the definitions say of the images that were copied there.
-use Rattle.align_search.specs.Prelude.{◌≡◌, refl, ap, ap₂, subst, ◌∙◌, Bool, List, ℕ, ◌+◌, ◌*◌, ◌≤◌, ◌<◌, arith, get_or, sum_n, Tile, Vector, residual_most, difference, Pair, row_residual, residual, row_sum, square_row, square_sum}
-use Rattle.std.specs.Prelude.{ℤ, pos, negsuc, ◌+ℤ◌, ◌-ℤ◌}
+use Rattle.align_search.specs.Prelude.{refl, ap, ap₂, subst, ◌∙◌, Bool, List, ℕ, arith, get_or, sum_n, Tile, Vector, residual_most, difference, Pair, row_residual, residual, row_sum, square_row, square_sum}
+use Rattle.std.specs.Prelude.{ℤ, pos, negsuc, ◌+ℤ◌, ◌-ℤ◌, ◌≡◌, ◌+◌, ◌*◌, ◌≤◌, ◌<◌}
 use Rattle.std.proofs.Math.IntN.{+ℤ_idr}
 use Rattle.algebra.specs.SumLaws.{sum_n-cong}
 use Rattle.algebra.specs.Order.{zarith, add-pn, sub-pn}

@@ -1,6 +1,6 @@
 -- The code's table is the square −4..4 sorted by the tie rule; and sorted it is each offset once, the earlier one first: a computed test of the order, and one of the square.
-use Rattle.align_search.specs.Prelude.{◌≡◌, refl, ap, ◌∙◌, Bool, true, false, cond, ℕ, zero, suc, ◌≤◌, ◌<◌, lit<, get_or, ℤ, pos, nat_abs, ◌+ℤ◌, ◌-ℤ◌, Vector, tab, Within}
-use Rattle.std.specs.Prelude.{T, ltb, eqb, leb}
+use Rattle.align_search.specs.Prelude.{refl, ap, ◌∙◌, Bool, true, false, cond, ℕ, zero, suc, lit<, get_or, ℤ, pos, nat_abs, Vector, tab, Within}
+use Rattle.std.specs.Prelude.{T, ltb, eqb, leb, ◌≡◌, ◌≤◌, ◌<◌, ◌+ℤ◌, ◌-ℤ◌}
 use Rattle.std.proofs.Common.{ltb→lt, leb→le, eqb→eq}
 use Rattle.algebra.specs.Test.{both, both_l, both_r, all, all_sound}
 use Rattle.algebra.specs.Order.{zarith, abs-pn, min-pn, add-pn, sub-pn}

@@ -1,5 +1,6 @@
 -- The offsets that are tried, in tie order.
-use Rattle.align_search.specs.Prelude.{cond, List, [], ◌∷◌, ℕ, ◌/◌, ◌%◌, get_or, pos, ◌-ℤ◌, tab, Vector}
+use Rattle.std.specs.Prelude.{◌∷◌, ◌/◌, ◌%◌, ◌-ℤ◌}
+use Rattle.align_search.specs.Prelude.{cond, List, [], ℕ, get_or, pos, tab, Vector}
 use Rattle.align_search.specs.Vectors.{still}
 use Rattle.align_search.specs.Ties.{earlier}
 

@@ -1,5 +1,6 @@
 -- The words of other crates that this crate's files share. Lemmas are not passed on: of those the `use` line says where they are.
-pub use Rattle.algebra.specs.Prelude.{Bool, List, ℕ, ℤ, [], ap, ap₂, arith, cond, false, get_or, leb, length, lit<, lit≤, ltb, nat_abs, rules, pos, refl, subst, suc, sym, true, zero, ◌%◌, ◌&&◌, ◌*◌, ◌*ℤ◌, ◌+◌, ◌+ℤ◌, ◌-◌, ◌-ℤ◌, ◌/◌, ◌<◌, ◌||◌, ◌∙◌, ◌∷◌, ◌≡◌, ◌≤◌}
+pub use Rattle.std.specs.Prelude.{◌%◌, ◌&&◌, ◌*◌, ◌*ℤ◌, ◌+◌, ◌+ℤ◌, ◌-◌, ◌-ℤ◌, ◌/◌, ◌<◌, ◌||◌, ◌∷◌, ◌≡◌, ◌≤◌}
+pub use Rattle.algebra.specs.Prelude.{Bool, List, ℕ, ℤ, [], ap, ap₂, arith, cond, false, get_or, leb, length, lit<, lit≤, ltb, nat_abs, rules, pos, refl, subst, suc, sym, true, zero, ◌∙◌}
 pub use Rattle.algebra.specs.Sums.{sum_n}
 pub use Rattle.sequences.specs.Least.{first_min}
 unfoldable pub use Rattle.sequences.specs.Least.{first_by}

@@ -1,5 +1,6 @@
 -- Laws of the rows that a search sums: of the next offset, and the bounds 648, 1,344 and 2,688.
-use Rattle.align_search.specs.Prelude.{◌≡◌, refl, ap, ◌∙◌, Bool, ℕ, zero, suc, ◌-◌, ◌*◌, ◌≤◌, ◌<◌, arith, sum_n, Vector, Tile, Pair, row_residual}
+use Rattle.std.specs.Prelude.{◌≡◌, ◌-◌, ◌*◌, ◌≤◌, ◌<◌}
+use Rattle.align_search.specs.Prelude.{refl, ap, ◌∙◌, Bool, ℕ, zero, suc, arith, sum_n, Vector, Tile, Pair, row_residual}
 use Rattle.std.proofs.Common.{⊎_elim}
 use Rattle.algebra.specs.SumLaws.{sum_n-cong, sum_n-bound}
 use Rattle.sequences.specs.LeastLaws.{first_min-most, first_min-cong, Lowest}

@@ -1,5 +1,6 @@
 -- How many tile rows a search sums (request L12).
-use Rattle.align_search.specs.Prelude.{Bool, ℕ, zero, suc, ◌+◌, ◌*◌, sum_n, first_min, Vector, Tile, Pair, row_residual}
+use Rattle.std.specs.Prelude.{◌+◌, ◌*◌}
+use Rattle.align_search.specs.Prelude.{Bool, ℕ, zero, suc, sum_n, first_min, Vector, Tile, Pair, row_residual}
 use Rattle.align_search.specs.Trials.Rows.{rows}
 use Rattle.align_search.specs.Vectors.{◌plus◌}
 use Rattle.align_search.specs.Offsets.{offset}

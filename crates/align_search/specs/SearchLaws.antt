@@ -1,5 +1,6 @@
 -- The offset that is chosen is the least by residual, then by the order of ties; and the bounds of what is found.
-use Rattle.align_search.specs.Prelude.{◌≡◌, refl, sym, subst, ◌∙◌, Bool, true, false, ℕ, zero, suc, ◌+◌, ◌≤◌, ◌<◌, arith, ltb, first_by, first_min, Tile, Vector, Within, Pair, residual}
+use Rattle.std.specs.Prelude.{◌≡◌, ◌+◌, ◌≤◌, ◌<◌}
+use Rattle.align_search.specs.Prelude.{refl, sym, subst, ◌∙◌, Bool, true, false, ℕ, zero, suc, arith, ltb, first_by, first_min, Tile, Vector, Within, Pair, residual}
 use borrow.Author.Tests.{ltb-true, lt-ltb, le-ltb}
 use Rattle.align_search.specs.Vectors.{◌plus◌}
 use Rattle.align_search.specs.VectorLaws.{plus-within}

@@ -1,5 +1,6 @@
 -- Inner vocabulary: the offsets in tie order as the code has them, in two tables. `offset-tabled` (OffsetLaws): it is the order by the rule.
-use Rattle.align_search.specs.Prelude.{List, [], ◌∷◌, ℕ, get_or, pos, ◌-ℤ◌, Vector}
+use Rattle.std.specs.Prelude.{◌∷◌, ◌-ℤ◌}
+use Rattle.align_search.specs.Prelude.{List, [], ℕ, get_or, pos, Vector}
 
 -- entry k is offset k's part plus 4
 unfoldable pub downs : List ℕ

@@ -1,5 +1,6 @@
 -- The tie rule.
-use Rattle.align_search.specs.Prelude.{Bool, ◌&&◌, ◌||◌, ℕ, ◌+◌, leb, ltb, nat_abs, Vector}
+use Rattle.std.specs.Prelude.{◌&&◌, ◌||◌, ◌+◌}
+use Rattle.align_search.specs.Prelude.{Bool, ℕ, leb, ltb, nat_abs, Vector}
 use Rattle.std.specs.Int.Signed.{lt_z, le_z}
 
 -- |down|+|right|

@@ -1,5 +1,6 @@
 -- Bounds of vectors.
-use Rattle.align_search.specs.Prelude.{ℕ, ◌+◌, ◌≤◌, arith, Vector, Within}
+use Rattle.std.specs.Prelude.{◌+◌, ◌≤◌}
+use Rattle.align_search.specs.Prelude.{ℕ, arith, Vector, Within}
 use Rattle.algebra.specs.Order.{abs-add}
 use Rattle.align_search.specs.Vectors.{◌plus◌}
 

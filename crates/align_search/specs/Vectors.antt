@@ -1,5 +1,6 @@
 -- Vectors of whole samples: sums and multiples.
-use Rattle.align_search.specs.Prelude.{ℕ, pos, ◌+ℤ◌, ◌*ℤ◌, Vector}
+use Rattle.std.specs.Prelude.{◌+ℤ◌, ◌*ℤ◌}
+use Rattle.align_search.specs.Prelude.{ℕ, pos, Vector}
 
 abbrev pub still : Vector
 still = record { down = pos 0; right = pos 0 }

@@ -1,5 +1,6 @@
 -- A copy of a tile has its rows, and how large the totals in a window are.
-use Rattle.align_search.specs.Prelude.{◌≡◌, ap, ◌∙◌, Bool, true, false, List, ℕ, ◌+◌, ◌*◌, ◌≤◌, ◌<◌, arith, length, get_or, sum_n, tab, gap, difference, row_sum, square_row}
+use Rattle.std.specs.Prelude.{◌≡◌, ◌+◌, ◌*◌, ◌≤◌, ◌<◌}
+use Rattle.align_search.specs.Prelude.{ap, ◌∙◌, Bool, true, false, List, ℕ, arith, length, get_or, sum_n, tab, gap, difference, row_sum, square_row}
 use Rattle.std.proofs.Math.Nat.{mul-le-mul}
 use Rattle.algebra.specs.SumLaws.{sum_n-cong, sum_n-bound}
 use Rattle.sequences.specs.Place.{row_room}

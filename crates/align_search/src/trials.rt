@@ -1,5 +1,6 @@
 // An offset tried in a window: its rows are summed, and it is left where their total reaches the least so far.
-ghost use Rattle.algebra.specs.Prelude.{◌≡◌, cond, false, ◌+◌, ◌<◌, ◌≤◌};
+ghost use Rattle.std.specs.Prelude.{◌≡◌, ◌+◌, ◌<◌, ◌≤◌};
+ghost use Rattle.algebra.specs.Prelude.{cond, false};
 
 pub mod eight;
 pub mod sixteen;

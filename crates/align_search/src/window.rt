@@ -1,5 +1,6 @@
 // The search in tie order around a guess, in local arrays.
-ghost use Rattle.align_search.specs.Prelude.{◌≡◌, false, ◌+◌, ◌*◌, ◌<◌, ◌≤◌, pos, ◌-ℤ◌, length, get_or, tab, Within, square_row, InWindow, Left};
+ghost use Rattle.std.specs.Prelude.{◌≡◌, ◌+◌, ◌*◌, ◌<◌, ◌≤◌, ◌-ℤ◌};
+ghost use Rattle.align_search.specs.Prelude.{false, pos, length, get_or, tab, Within, square_row, InWindow, Left};
 ghost use Rattle.align_search.specs.Offsets.{offset};
 ghost use Rattle.align_search.specs.Local.{window_row, Window, Narrow, Kind, Searched};
 

@@ -1,5 +1,6 @@
 -- Inner vocabulary: a level's two images where they stand in the work area, and a tile of the reference in a local array.
-use Rattle.align_tile.specs.Prelude.{◌≡◌, Bool, false, cond, List, ℕ, ◌+◌, ◌*◌, ◌%◌, ◌≤◌, ltb, length, ℤ, negsuc, ◌+ℤ◌, TileSide, ◌plus◌, Within, Pair, residual, Kind}
+use Rattle.std.specs.Prelude.{◌≡◌, ◌+◌, ◌*◌, ◌%◌, ◌≤◌, ◌+ℤ◌}
+use Rattle.align_tile.specs.Prelude.{Bool, false, cond, List, ℕ, ltb, length, ℤ, negsuc, TileSide, ◌plus◌, Within, Pair, residual, Kind}
 use Rattle.align_pyramid.specs.Words.{read_in, Source}
 use Rattle.align_residual.specs.declared.Tile.{Tile}
 use Rattle.geometry.specs.declared.vectors.Vector.{Vector}

@@ -1,8 +1,8 @@
 -- From what is copied and searched to the answer for a tile.
 use Rattle.std.proofs.Math.Path.{◌≡◌, ap}
-use Rattle.std.specs.Prelude.{refl}
+use Rattle.std.specs.Prelude.{refl, ◌+◌, ◌*◌, ◌/◌, ◌%◌, ◌^◌, ◌≤◌, ◌<◌, ◌+ℤ◌}
 use Rattle.std.proofs.Common.{sym, ◌∙◌, subst, ltb-true, ltb-false, zero-mul, div-add-mod'}
-use Rattle.align_tile.specs.Prelude.{Bool, true, false, cond, List, ℕ, zero, suc, ◌+◌, ◌*◌, ◌/◌, ◌%◌, ◌^◌, ◌≤◌, ◌<◌, arith, lit≤, ltb, length, get_or, ℤ, pos, ◌+ℤ◌, ◌plus◌, Within, Pair, residual, square_sum, Low, window_row, Window, Searched}
+use Rattle.align_tile.specs.Prelude.{Bool, true, false, cond, List, ℕ, zero, suc, arith, lit≤, ltb, length, get_or, ℤ, pos, ◌plus◌, Within, Pair, residual, square_sum, Low, window_row, Window, Searched}
 use Rattle.geometry.specs.Read.{inside, read}
 use Rattle.geometry.specs.ReadLaws.{inside-below}
 use Rattle.align_pyramid.specs.declared.images.Raster.{Raster}

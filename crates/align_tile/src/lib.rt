@@ -1,7 +1,8 @@
 // The vector of one tile: the residuals of candidates, the guess, and the search around it.
 #![tactic(auto)]
 
-ghost use Rattle.align_tile.specs.Prelude.{◌≡◌, true, false, ◌+◌, ◌-◌, ◌*◌, ◌≤◌, ◌<◌, ◌^◌, length, ◌plus◌, Within, residual, TileSide, square_sum, Compared, Window};
+ghost use Rattle.std.specs.Prelude.{◌≡◌, ◌+◌, ◌-◌, ◌*◌, ◌≤◌, ◌<◌, ◌^◌};
+ghost use Rattle.align_tile.specs.Prelude.{true, false, length, ◌plus◌, Within, residual, TileSide, square_sum, Compared, Window};
 ghost use Rattle.align_residual.specs.Magnitudes.{residual_most};
 ghost use Rattle.align_tile.specs.Magnitudes.{guess_most};
 ghost use Rattle.align_tile.specs.Stored.{pair_in, Stored, Placed, Ready, Around, OtherReady, RefineReady, CandidatesReady, Moved, refined, guessed_in, least_of_three};

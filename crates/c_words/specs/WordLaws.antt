@@ -1,5 +1,6 @@
 -- A row of the table, and what stands behind the last.
-use Rattle.algebra.specs.Prelude.{◌≡◌, true, ap, ◌∙◌, List, ℕ, suc, ◌+◌, ◌≤◌, arith, leb, length, take, drop}
+use Rattle.std.specs.Prelude.{◌≡◌, ◌+◌, ◌≤◌}
+use Rattle.algebra.specs.Prelude.{true, ap, ◌∙◌, List, ℕ, suc, arith, leb, length, take, drop}
 use Rattle.std.proofs.Math.ListN.{get_or-eq_default}
 use Rattle.std.proofs.Common.{take_at, leb-true}
 use Rattle.printing.specs.Put.{put, Printed}

@@ -1,5 +1,6 @@
 -- What a refusal's number says in words, and the version of the calls.
-use Rattle.algebra.specs.Prelude.{◌≡◌, cond, List, [], ◌∷◌, ℕ, leb, length, get_or}
+use Rattle.std.specs.Prelude.{◌≡◌, ◌∷◌}
+use Rattle.algebra.specs.Prelude.{cond, List, [], ℕ, leb, length, get_or}
 use Rattle.sequences.specs.Tab.{tab}
 use Rattle.printing.specs.Ascii.{ascii}
 

@@ -3,7 +3,8 @@
 
 mod table;
 
-ghost use Rattle.algebra.specs.Prelude.{◌≡◌, length, get_or};
+ghost use Rattle.std.specs.Prelude.{◌≡◌};
+ghost use Rattle.algebra.specs.Prelude.{length, get_or};
 ghost use Rattle.c_words.specs.Words.{words_of, padded, TextPut, version_number};
 
 use crate::table::put_words;

@@ -1,5 +1,6 @@
 // The words of each number, put at the start of a buffer. Each function answers where they end.
-ghost use Rattle.algebra.specs.Prelude.{◌≤◌, ◌<◌, length};
+ghost use Rattle.std.specs.Prelude.{◌≤◌, ◌<◌};
+ghost use Rattle.algebra.specs.Prelude.{length};
 ghost use Rattle.printing.specs.Put.{Printed};
 ghost use Rattle.c_words.specs.Words.{words_of};
 

@@ -1,9 +1,9 @@
 -- One bin: each part of the recipe's G is within 3/2 of `parts` times the exact correction's. Rounding Q moves the bin by at most 1/√2, the Wiener map does not stretch, and rounding G adds 1/2.
-use Rattle.closeness.specs.Prelude.{◌≡◌, sym, ◌∙◌, subst, [], ◌∷◌, ℕ, zero, suc, ◌*◌, ◌≤◌, ◌<◌, arith, lit<, ℤ, pos, negsuc, nat_abs, ◌+ℤ◌, ◌-ℤ◌, ◌*ℤ◌, Frac, frac, ◌+F◌, ◌·F◌, ◌×F◌, ◌÷F◌, divide, Within, Side, power, wiener, quantized, filtered, exact_bin, exact_noise, exact_wiener, exact_filtered}
+use Rattle.closeness.specs.Prelude.{sym, ◌∙◌, subst, [], ℕ, zero, suc, arith, lit<, ℤ, pos, negsuc, nat_abs, Frac, frac, ◌+F◌, ◌·F◌, ◌×F◌, ◌÷F◌, divide, Within, Side, power, wiener, quantized, filtered, exact_bin, exact_noise, exact_wiener, exact_filtered}
 use Rattle.std.proofs.Common.{subst₂, mul-pos, mul-le-mul_left}
 use Prim.Native.Nat.{zero-le}
 use Rattle.std.proofs.Math.IntN.{*ℤ_comm}
-use Rattle.std.specs.Prelude.{◌≤ℤ◌, ◌<ℤ◌}
+use Rattle.std.specs.Prelude.{◌≤ℤ◌, ◌<ℤ◌, ◌≡◌, ◌∷◌, ◌*◌, ◌≤◌, ◌<◌, ◌+ℤ◌, ◌-ℤ◌, ◌*ℤ◌}
 use Rattle.std.specs.Int.Signed.{lt_z_yes}
 use Rattle.algebra.specs.Vars.{vars5, vars6, vars10}
 use Rattle.algebra.specs.Ring.{Expr, var, ◌⊞◌, ◌⊟◌, ◌⊠◌, ⊖◌, #◌, ring}

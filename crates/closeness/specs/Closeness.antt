@@ -1,5 +1,6 @@
 -- The recipe is close to the exact merge, on one tile and at one sample, for any side whose tables and scales fit together.
-use Rattle.closeness.specs.Prelude.{◌≡◌, sym, ◌∙◌, ap, subst, ℕ, suc, ◌+◌, ◌*◌, ◌%◌, ◌≤◌, ◌<◌, arith, lit<, ℤ, pos, nat_abs, ◌+ℤ◌, ◌-ℤ◌, ◌*ℤ◌, Frac, frac, whole, ◌-F◌, over, sum_f, Within, Side, cos_at, sin_at, bin_re, bin_im, twiddle_re, twiddle_im, inverse_re, inverse_at, correction_at, output_sample, exact_inverse_re, exact_inverse_at, exact_correction_at, unrounded, exact_sample}
+use Rattle.std.specs.Prelude.{◌≡◌, ◌+◌, ◌*◌, ◌%◌, ◌≤◌, ◌<◌, ◌+ℤ◌, ◌-ℤ◌, ◌*ℤ◌}
+use Rattle.closeness.specs.Prelude.{sym, ◌∙◌, ap, subst, ℕ, suc, arith, lit<, ℤ, pos, nat_abs, Frac, frac, whole, ◌-F◌, over, sum_f, Within, Side, cos_at, sin_at, bin_re, bin_im, twiddle_re, twiddle_im, inverse_re, inverse_at, correction_at, output_sample, exact_inverse_re, exact_inverse_at, exact_correction_at, unrounded, exact_sample}
 use Rattle.std.proofs.Math.Nat.{mul-pos}
 use Rattle.std.proofs.Common.{mul-le-mul_left, mod-lt, one-mul}
 use Rattle.algebra.specs.Sums.{sum_z}

@@ -1,5 +1,6 @@
 -- The words of other crates that this crate's files share. Lemmas are not passed on: of those the `use` line says where they are.
-pub use Rattle.algebra.specs.Prelude.{ℕ, ℤ, [], ap, ap₂, arith, lit<, nat_abs, negsuc, pos, refl, subst, suc, sym, zero, ◌%◌, ◌*◌, ◌*ℤ◌, ◌+◌, ◌+ℤ◌, ◌-ℤ◌, ◌<◌, ◌∙◌, ◌∷◌, ◌≡◌, ◌≤◌}
+pub use Rattle.std.specs.Prelude.{◌%◌, ◌*◌, ◌*ℤ◌, ◌+◌, ◌+ℤ◌, ◌-ℤ◌, ◌<◌, ◌∷◌, ◌≡◌, ◌≤◌}
+pub use Rattle.algebra.specs.Prelude.{ℕ, ℤ, [], ap, ap₂, arith, lit<, nat_abs, negsuc, pos, refl, subst, suc, sym, zero, ◌∙◌}
 pub use Rattle.algebra.specs.Fraction.{Frac, Within, over, sum_f, whole, ◌-F◌}
 unfoldable pub use Rattle.algebra.specs.Fraction.{divide, frac, ◌+F◌, ◌·F◌, ◌×F◌, ◌÷F◌}
 pub use Rattle.recipe.specs.Correction.{bin_im, bin_re, power}

@@ -1,5 +1,6 @@
 -- Demand 3 for side 16: the output sample lies within five eighths of the exact merge's.
-use Rattle.closeness.specs.Prelude.{refl, ℕ, suc, ◌+◌, ◌*◌, ◌≤◌, ◌<◌, arith, lit<, ℤ, frac, whole, Within, correction_at, output_sample, exact_correction_at, exact_sample}
+use Rattle.std.specs.Prelude.{◌+◌, ◌*◌, ◌≤◌, ◌<◌}
+use Rattle.closeness.specs.Prelude.{refl, ℕ, suc, arith, lit<, ℤ, frac, whole, Within, correction_at, output_sample, exact_correction_at, exact_sample}
 use Rattle.recipe.specs.Tables.{cosines, cosine16, sine16, side16}
 use Rattle.recipe.specs.TableLaws.{window_halves}
 use Rattle.closeness.specs.Twiddles.{twiddles-small}

@@ -1,5 +1,6 @@
 -- Request L8: for side 32 the output sample lies within one step of the exact merge's.
-use Rattle.closeness.specs.Prelude.{refl, ℕ, suc, ◌+◌, ◌*◌, ◌≤◌, ◌<◌, arith, lit<, ℤ, frac, whole, Within, correction_at, output_sample, exact_correction_at, exact_sample}
+use Rattle.std.specs.Prelude.{◌+◌, ◌*◌, ◌≤◌, ◌<◌}
+use Rattle.closeness.specs.Prelude.{refl, ℕ, suc, arith, lit<, ℤ, frac, whole, Within, correction_at, output_sample, exact_correction_at, exact_sample}
 use Rattle.recipe.specs.Tables32.{cosines32, cosine32, sine32, side32}
 use Rattle.recipe.specs.TableLaws32.{window-halves-32}
 use Rattle.closeness.specs.Twiddles.{twiddles-small}

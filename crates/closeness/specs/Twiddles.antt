@@ -1,5 +1,6 @@
 -- The size of the inverse's factors, by one computed test over the pairs of entries of a table.
-use Rattle.algebra.specs.Prelude.{ℕ, ◌+◌, ◌≤◌, ◌<◌, T, leb, ℤ, nat_abs, ◌+ℤ◌, ◌-ℤ◌, ◌*ℤ◌}
+use Rattle.std.specs.Prelude.{◌+◌, ◌≤◌, ◌<◌, ◌+ℤ◌, ◌-ℤ◌, ◌*ℤ◌}
+use Rattle.algebra.specs.Prelude.{ℕ, T, leb, ℤ, nat_abs}
 use Rattle.std.proofs.Common.{leb→le}
 use Rattle.algebra.specs.Test.{all, all_sound}
 

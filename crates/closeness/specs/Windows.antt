@@ -1,5 +1,6 @@
 -- The four tiles over a sample: where w(i) + w(i + half) is the windows' scale for each i, their products w·w' add up to its square.
-use Rattle.closeness.specs.Prelude.{◌≡◌, ap₂, ℕ, ◌+◌, ◌*◌, ◌<◌, arith, Side}
+use Rattle.std.specs.Prelude.{◌≡◌, ◌+◌, ◌*◌, ◌<◌}
+use Rattle.closeness.specs.Prelude.{ap₂, ℕ, arith, Side}
 use Rattle.algebra.specs.Sums.{sum_n}
 use Rattle.recipe.specs.Output.{weight_in}
 

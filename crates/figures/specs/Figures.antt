@@ -1,7 +1,7 @@
 -- Document 01, "Checked figures (marked M: proved as one table)": the definitions that the contracts cite, computed.
-use Rattle.algebra.specs.Prelude.{◌≡◌, refl, false, cond, ◌&&◌, List, [], ◌∷◌, ℕ, zero, suc, ◌+◌, ◌^◌, ◌<◌, arith, eqb, ℤ, pos, neg_ℤ}
+use Rattle.algebra.specs.Prelude.{refl, false, cond, List, [], ℕ, zero, suc, arith, eqb, ℤ, pos, neg_ℤ}
 use Rattle.std.proofs.Common.{ne_eqb}
-use Rattle.std.specs.Prelude.{Float}
+use Rattle.std.specs.Prelude.{Float, ◌≡◌, ◌&&◌, ◌∷◌, ◌+◌, ◌^◌, ◌<◌}
 use Rattle.std.specs.Float.{fin}
 use Rattle.std.specs.Float.Ieee.{mul, div, of_int}
 use Rattle.algebra.specs.Sums.{sum_n}

@@ -1,7 +1,7 @@
 -- Where only bin (0, 0) is set, the inverse sum is the same at every place of the tile.
-use Rattle.algebra.specs.Prelude.{◌≡◌, ap₂, ◌∙◌, ℕ, zero, suc, ◌+◌, ◌<◌, arith}
+use Rattle.algebra.specs.Prelude.{ap₂, ◌∙◌, ℕ, zero, suc, arith}
 use Rattle.std.proofs.Math.Nat.{zero-mul}
-use Rattle.std.specs.Prelude.{ℤ, ◌+ℤ◌, ◌-ℤ◌, ◌*ℤ◌}
+use Rattle.std.specs.Prelude.{ℤ, ◌+ℤ◌, ◌-ℤ◌, ◌*ℤ◌, ◌≡◌, ◌+◌, ◌<◌}
 use Rattle.std.proofs.Math.IntN.{pos, +ℤ_idl, +ℤ_idr}
 use Rattle.algebra.specs.Sums.{sum_z}
 use Rattle.recipe.specs.Side.{Side}

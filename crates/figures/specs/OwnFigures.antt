@@ -1,7 +1,7 @@
 -- Figures of our own beside document 01's: the definitions of the recipe, of sharpness, of the vectors' layout, of residuals and of black levels, at numbers
 -- where each factor, sign, order and rounded half of the papers changes what comes out.
-use Rattle.algebra.specs.Prelude.{◌≡◌, refl, cond, List, [], ◌∷◌, ◌++◌, ℕ, ◌+◌, ◌*◌, ◌^◌, lit<, eqb, get_or, ℤ, pos, neg_ℤ, ◌*ℤ◌}
-use Rattle.std.specs.Prelude.{replicate}
+use Rattle.algebra.specs.Prelude.{refl, cond, List, [], ℕ, lit<, eqb, get_or, ℤ, pos, neg_ℤ}
+use Rattle.std.specs.Prelude.{replicate, ◌≡◌, ◌∷◌, ◌++◌, ◌+◌, ◌*◌, ◌^◌, ◌*ℤ◌}
 use Rattle.algebra.specs.Sums.{sum_n, sum_z}
 use Rattle.algebra.specs.Clamp.{min_z, max_z, clamp_z}
 use Rattle.algebra.specs.Nearest.{away, upward}

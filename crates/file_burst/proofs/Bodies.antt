@@ -1,5 +1,6 @@
 -- The reading of a file by the numbers that the code found for its parts.
-use Rattle.file_burst.specs.Prelude.{◌≡◌, sym, ap, ◌∙◌, false, List, [], ℕ, ◌*◌, Shape, sample_length, Allowed, Part, refused, found, number_of, ◌then◌, mapped, above, next_values, Header, header_refusal, head_of}
+use Rattle.std.specs.Prelude.{◌≡◌, ◌*◌}
+use Rattle.file_burst.specs.Prelude.{sym, ap, ◌∙◌, false, List, [], ℕ, Shape, sample_length, Allowed, Part, refused, found, number_of, ◌then◌, mapped, above, next_values, Header, header_refusal, head_of}
 use native.Mathlib.Nat.{mul_assoc, mul_comm}
 use Rattle.refusals.specs.TestLaws.{among, passed}
 use Rattle.admit_length.specs.Order.{shape_tests}

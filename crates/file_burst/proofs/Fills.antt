@@ -1,5 +1,6 @@
 -- The loop that stores the next values one by one.
-use Rattle.file_burst.specs.Prelude.{◌≡◌, refl, sym, ap, ◌∙◌, List, ◌∷◌, ℕ, zero, suc, ◌+◌, ◌-◌, ◌<◌, arith, length, get_or, drop, item_of, value_in, rest_in, next_values}
+use Rattle.std.specs.Prelude.{◌≡◌, ◌∷◌, ◌+◌, ◌-◌, ◌<◌}
+use Rattle.file_burst.specs.Prelude.{refl, sym, ap, ◌∙◌, List, ℕ, zero, suc, arith, length, get_or, drop, item_of, value_in, rest_in, next_values}
 use native.Mathlib.Numerals.{add-one}
 use lib.Seq.{drop-cons}
 use Rattle.sequences.specs.Tab.{tab}

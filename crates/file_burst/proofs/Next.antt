@@ -1,5 +1,6 @@
 -- The values of rows that are found are the next values, across the lines.
-use Rattle.file_burst.specs.Prelude.{sym, ap, ◌∙◌, ℕ, zero, suc, ◌+◌, ◌*◌, arith, refuse, found, value_line, above, next_values}
+use Rattle.std.specs.Prelude.{◌+◌, ◌*◌}
+use Rattle.file_burst.specs.Prelude.{sym, ap, ◌∙◌, ℕ, zero, suc, arith, refuse, found, value_line, above, next_values}
 use mathlib.Core.List.{List, ◌++◌, append_assoc}
 use native.Mathlib.Nat.{suc-mul}
 use Rattle.refusals.specs.Numbers as no

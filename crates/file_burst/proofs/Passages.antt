@@ -1,5 +1,6 @@
 -- Rows one by one, as far as a check sees them: where they end, or the first refusal.
-use Rattle.file_burst.specs.Prelude.{◌≡◌, refl, Bool, true, false, List, [], ◌∷◌, ◌++◌, ℕ, zero, suc, ◌-◌, ◌<◌, ◌≤◌, arith, Part, refused, found, number_of, ◌then◌, mapped, value_line, above, judged}
+use Rattle.std.specs.Prelude.{◌≡◌, ◌∷◌, ◌++◌, ◌-◌, ◌<◌, ◌≤◌}
+use Rattle.file_burst.specs.Prelude.{refl, Bool, true, false, List, [], ℕ, zero, suc, arith, Part, refused, found, number_of, ◌then◌, mapped, value_line, above, judged}
 use native.Mathlib.Numerals.{sub-one}
 use lib.ListN.{length, drop, drop_of_length-le}
 use Rattle.refusals.specs.Numbers as no

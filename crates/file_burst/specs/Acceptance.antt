@@ -1,5 +1,6 @@
 -- A file is accepted exactly when it is a file of the grammar whose values pass the tests.
-use Rattle.file_burst.specs.Prelude.{◌≡◌, List, [], ℕ, ◌*◌, Shape, ValuesFit, found, number_of, header_refusal, head_of}
+use Rattle.std.specs.Prelude.{◌≡◌, ◌*◌}
+use Rattle.file_burst.specs.Prelude.{List, [], ℕ, Shape, ValuesFit, found, number_of, header_refusal, head_of}
 use Rattle.file_burst.specs.Lines.PartLaws.{Sound, unless-sound, sound-at, sound-found, then-sound}
 use Rattle.file_burst.specs.Head.HeadLaws.{HeadRead, head-sound, head-complete}
 use Rattle.file_burst.specs.Burst.{FileBurst}

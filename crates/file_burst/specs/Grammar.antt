@@ -1,6 +1,7 @@
 -- The grammar of a burst file: which bytes are a file with which values, whatever the order of reading. No contract needs it: `sound` and `complete`
 -- (Acceptance) say of what the contracts read that it is this.
-use Rattle.file_burst.specs.Prelude.{◌≡◌, List, [], ◌++◌, ℕ, suc, ◌*◌}
+use Rattle.std.specs.Prelude.{◌≡◌, ◌++◌, ◌*◌}
+use Rattle.file_burst.specs.Prelude.{List, [], ℕ, suc}
 use Rattle.file_burst.specs.Lines.Grammar.{ValueLine}
 use Rattle.file_burst.specs.Head.Names.{names}
 use Rattle.file_burst.specs.Head.Grammar.{seven_of}

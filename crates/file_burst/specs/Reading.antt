@@ -1,5 +1,6 @@
 -- Reading a whole file.
-use Rattle.file_burst.specs.Prelude.{◌≡◌, List, ℕ, length, Shape, sample_length, length_refusal, Part, refused, found, unless, number_of, ◌then◌, mapped, head_of, Header}
+use Rattle.std.specs.Prelude.{◌≡◌}
+use Rattle.file_burst.specs.Prelude.{List, ℕ, length, Shape, sample_length, length_refusal, Part, refused, found, unless, number_of, ◌then◌, mapped, head_of, Header}
 use Rattle.refusals.specs.Numbers as no
 use Rattle.file_burst.specs.Burst.{FileBurst}
 use Rattle.file_burst.specs.Rows.{frames_of}

@@ -1,6 +1,6 @@
 -- Rows are read exactly where the grammar has them with no value above 4095.
-use Rattle.file_burst.specs.Prelude.{◌≡◌, refl, sym, ap, ◌∙◌, Bool, true, false, false≢true, ◌||◌, List, [], ◌∷◌, ◌++◌, ℕ, zero, suc, ◌≤◌, arith, get_or, refuse, Part, refused, found, value_line, above}
-use Rattle.std.specs.Prelude.{ltb}
+use Rattle.file_burst.specs.Prelude.{refl, sym, ap, ◌∙◌, Bool, true, false, false≢true, List, [], ℕ, zero, suc, arith, get_or, refuse, Part, refused, found, value_line, above}
+use Rattle.std.specs.Prelude.{ltb, ◌≡◌, ◌||◌, ◌∷◌, ◌++◌, ◌≤◌}
 use Rattle.std.proofs.Common.{ltb-false, le-ltb}
 use Rattle.refusals.specs.Numbers as no
 use Rattle.refusals.specs.TestLaws.{refuse-not}

@@ -1,5 +1,6 @@
 -- The rows of samples, one line each.
-use Rattle.file_burst.specs.Prelude.{Bool, List, [], ◌∷◌, ◌++◌, ℕ, zero, suc, ◌*◌, Shape, refuse, Part, refused, found, unless, ◌then◌, mapped, value_line, above}
+use Rattle.std.specs.Prelude.{◌∷◌, ◌++◌, ◌*◌}
+use Rattle.file_burst.specs.Prelude.{Bool, List, [], ℕ, zero, suc, Shape, refuse, Part, refused, found, unless, ◌then◌, mapped, value_line, above}
 use Rattle.refusals.specs.Numbers as no
 
 -- refusal 11, "sample > 4095", of what was read

@@ -1,5 +1,6 @@
 -- The size of a file and the reading of it agree.
-use Rattle.file_burst.specs.Prelude.{◌≡◌, refl, sym, ap, ◌∙◌, List, ℕ, length, Shape, sample_length, length_refusal, Part, refused, found, number_of, ◌then◌, head_of, Header}
+use Rattle.std.specs.Prelude.{◌≡◌}
+use Rattle.file_burst.specs.Prelude.{refl, sym, ap, ◌∙◌, List, ℕ, length, Shape, sample_length, length_refusal, Part, refused, found, number_of, ◌then◌, head_of, Header}
 use Rattle.refusals.specs.Numbers as no
 use Rattle.file_burst.specs.Head.HeadLaws.{HeadRead, head-complete}
 use Rattle.file_burst.specs.Burst.{FileBurst}

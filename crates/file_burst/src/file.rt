@@ -1,5 +1,6 @@
 // The check of a whole file, and the reading of it.
-ghost use Rattle.file_burst.specs.Prelude.{◌≡◌, false, length, drop, above, next_values};
+ghost use Rattle.std.specs.Prelude.{◌≡◌};
+ghost use Rattle.file_burst.specs.Prelude.{false, length, drop, above, next_values};
 ghost use Rattle.file_burst.specs.Reading.{file_check, refused_file, accepted_file, FileRead};
 ghost use Rattle.file_burst.specs.Size.{file_size};
 

@@ -1,5 +1,6 @@
 // The first two lines of a burst file: the names, and the seven values with their tests.
-ghost use Rattle.file_burst.specs.Head.Prelude.{◌≡◌, drop, next_values};
+ghost use Rattle.std.specs.Prelude.{◌≡◌};
+ghost use Rattle.file_burst.specs.Head.Prelude.{drop, next_values};
 ghost use Rattle.file_burst.specs.Head.Head.{starts_with, first_line_refusal, header_of, header_refusal, head_of, head_in};
 
 use crate::lines::{Line, check_line, has_lf, value_at};

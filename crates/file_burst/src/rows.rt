@@ -1,5 +1,6 @@
 // The rows of samples, checked without a store.
-ghost use Rattle.file_burst.specs.Prelude.{◌≡◌, drop, Allowed, number_of};
+ghost use Rattle.std.specs.Prelude.{◌≡◌};
+ghost use Rattle.file_burst.specs.Prelude.{drop, Allowed, number_of};
 ghost use Rattle.file_burst.specs.Rows.{row, row_lines, frames_of};
 ghost use Rattle.file_burst.specs.Passage.{rows_in, ended_row, briefly};
 

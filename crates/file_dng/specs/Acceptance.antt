@@ -1,5 +1,6 @@
 -- A file is accepted exactly when it has the structure, the tags and the values that are asked for, and the burst has room for its frame.
-use Rattle.file_dng.specs.Prelude.{◌≡◌, refl, sym, ◌∙◌, Bool, false, not, ◌||◌, List, [], ◌∷◌, ◌++◌, ℕ, ◌+◌, ◌*◌, ◌%◌, ◌≤◌, ◌<◌, arith, eqb, ltb, length, Shape, first, size_allowed, count_allowed, size_refusal, count_refusal, reference_refusal, row_allowed, row_refusal, sample_length, length_refusal, shape_tests, frame_tests, Entry, header_wrong, directory_start, entry_count, directory_outside, times_of, first_field, field_outside, value_at, ImageWidth, ImageLength, StripOffsets, StripByteCounts, tag_at, demand_at, listed, demanded, absent, value_of, strip_start, strip_length, value_outside, strip_outside, outside, not_once, size_differs, demand_missed, otherwise, tag_tests, strip_sample, strip_refusal}
+use Rattle.std.specs.Prelude.{◌≡◌, ◌||◌, ◌∷◌, ◌++◌, ◌+◌, ◌*◌, ◌%◌, ◌≤◌, ◌<◌}
+use Rattle.file_dng.specs.Prelude.{refl, sym, ◌∙◌, Bool, false, not, List, [], ℕ, arith, eqb, ltb, length, Shape, first, size_allowed, count_allowed, size_refusal, count_refusal, reference_refusal, row_allowed, row_refusal, sample_length, length_refusal, shape_tests, frame_tests, Entry, header_wrong, directory_start, entry_count, directory_outside, times_of, first_field, field_outside, value_at, ImageWidth, ImageLength, StripOffsets, StripByteCounts, tag_at, demand_at, listed, demanded, absent, value_of, strip_start, strip_length, value_outside, strip_outside, outside, not_once, size_differs, demand_missed, otherwise, tag_tests, strip_sample, strip_refusal}
 use borrow.Author.Tests.{eq-eqb, ne_eqb, eqb-true, eqb-false, ltb-false, le-ltb, le-leb, lt-leb, not-false}
 use Rattle.refusals.specs.Numbers as no
 use Rattle.refusals.specs.TestLaws.{here, there, passed, goes, both-passed, lone, refuse-not}

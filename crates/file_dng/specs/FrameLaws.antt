@@ -1,5 +1,6 @@
 -- What acceptance by 1, 2, 3, 23 and 4 says of the burst and the frame.
-use Rattle.file_dng.specs.Prelude.{◌≡◌, ℕ, first, Shape, sample_length, shape_tests, frame_tests, FrameFits}
+use Rattle.std.specs.Prelude.{◌≡◌}
+use Rattle.file_dng.specs.Prelude.{ℕ, first, Shape, sample_length, shape_tests, frame_tests, FrameFits}
 use Rattle.refusals.specs.Numbers as no
 use Rattle.refusals.specs.TestLaws.{among, passed}
 use Rattle.geometry.specs.ShapeLaws.{allowed, below-count, right-length}

@@ -1,6 +1,7 @@
 -- "other tags, 50713 without 50714 too, are passed over": an entry of such a tag changes nothing, wherever it stands in the directory's list. The file's bytes
 -- are the same throughout: no two files are compared.
-use Rattle.file_dng.specs.Prelude.{◌≡◌, refl, ◌∙◌, Bool, true, false, cond, List, ◌∷◌, ◌++◌, ℕ, ◌<◌, arith, leb, length, Shape, Entry, entries, first_field, field_outside, value_at, ImageWidth, ImageLength, StripOffsets, StripByteCounts, NoiseProfile, BlackLevel, tags, tag_at, demands, demand_at, has_black, listed, demanded, absent, value_of, strip_start, strip_length, value_outside, strip_outside, outside, not_once, size_differs, demand_missed, otherwise, tag_tests}
+use Rattle.std.specs.Prelude.{◌≡◌, ◌∷◌, ◌++◌, ◌<◌}
+use Rattle.file_dng.specs.Prelude.{refl, ◌∙◌, Bool, true, false, cond, List, ℕ, arith, leb, length, Shape, Entry, entries, first_field, field_outside, value_at, ImageWidth, ImageLength, StripOffsets, StripByteCounts, NoiseProfile, BlackLevel, tags, tag_at, demands, demand_at, has_black, listed, demanded, absent, value_of, strip_start, strip_length, value_outside, strip_outside, outside, not_once, size_differs, demand_missed, otherwise, tag_tests}
 use Rattle.std.proofs.Common.{leb-false}
 use Rattle.refusals.specs.Some.{some}
 use Rattle.refusals.specs.SomeLaws.{none}

@@ -1,5 +1,6 @@
 -- "The reader fills one frame of the lent burst and touches no other", and "leaves spare words as they were" (requests L7 and L9).
-use Rattle.file_dng.specs.Prelude.{◌≡◌, refl, sym, ap, ◌∙◌, List, ℕ, zero, suc, ◌+◌, ◌-◌, ◌*◌, ◌/◌, ◌%◌, ◌≤◌, ◌<◌, arith, length, get_or, after, Shape, row_stride, Entry, strip_start, tag_tests, strip_sample, filled_rows, FrameFits}
+use Rattle.std.specs.Prelude.{◌≡◌, ◌+◌, ◌-◌, ◌*◌, ◌/◌, ◌%◌, ◌≤◌, ◌<◌}
+use Rattle.file_dng.specs.Prelude.{refl, sym, ap, ◌∙◌, List, ℕ, zero, suc, arith, length, get_or, after, Shape, row_stride, Entry, strip_start, tag_tests, strip_sample, filled_rows, FrameFits}
 use Rattle.std.proofs.Math.Decide.{dec_lt, ℕ_discrete}
 use Rattle.sequences.specs.Place.{row_room, place-row, place-column}
 use Rattle.sequences.specs.Write.{written_in}

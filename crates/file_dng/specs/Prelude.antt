@@ -1,6 +1,6 @@
 -- The words of other crates that this crate's files share. Lemmas are not passed on: of those the `use` line says where they are.
-pub use Rattle.algebra.specs.Prelude.{Bool, List, T, ℕ, [], ap, arith, cond, eqb, false, get_or, leb, length, ltb, rules, not, pos, refl, subst, suc, sym, true, zero, ◌%◌, ◌*◌, ◌++◌, ◌+◌, ◌-◌, ◌/◌, ◌<◌, ◌||◌, ◌∙◌, ◌∷◌, ◌≡◌, ◌≤◌}
-pub use Rattle.std.specs.Prelude.{Float}
+pub use Rattle.algebra.specs.Prelude.{Bool, List, T, ℕ, [], ap, arith, cond, eqb, false, get_or, leb, length, ltb, rules, not, pos, refl, subst, suc, sym, true, zero, ◌∙◌}
+pub use Rattle.std.specs.Prelude.{Float, ◌%◌, ◌*◌, ◌++◌, ◌+◌, ◌-◌, ◌/◌, ◌<◌, ◌||◌, ◌∷◌, ◌≡◌, ◌≤◌}
 pub use Rattle.std.specs.Float.{binary64, fin, inf, nan}
 pub use Rattle.std.specs.Float.Ieee.{mul}
 unfoldable pub use Rattle.std.specs.Float.Ieee.{div, is_nan, of_bits, of_int}

@@ -1,5 +1,6 @@
 -- Reading one frame of a burst from a DNG file.
-use Rattle.file_dng.specs.Prelude.{◌≡◌, cond, List, [], ◌∷◌, ℕ, ◌+◌, ◌*◌, length, pos, Float, binary64, of_bits, of_int, after, Shape, Entry, entries, first_field, NoiseProfile, BlackLevel, tag_at, has_black, strip_start, filled_rows}
+use Rattle.std.specs.Prelude.{◌≡◌, ◌∷◌, ◌+◌, ◌*◌}
+use Rattle.file_dng.specs.Prelude.{cond, List, [], ℕ, length, pos, Float, binary64, of_bits, of_int, after, Shape, Entry, entries, first_field, NoiseProfile, BlackLevel, tag_at, has_black, strip_start, filled_rows}
 use Rattle.file_dng.specs.Tiff.Bytes.{short, eight}
 use Rattle.file_dng.specs.declared.DngRead.{DngRead}
 use Rattle.file_dng.specs.Curve.{shot_of, read_of}

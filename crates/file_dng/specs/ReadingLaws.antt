@@ -1,5 +1,6 @@
 -- What reading owes where it has refused with a number, and where it has accepted.
-use Rattle.file_dng.specs.Prelude.{◌≡◌, refl, sym, ap, ◌∙◌, List, ℕ, zero, suc, length, pos, binary64, mul, of_int, after, Shape, Entry, strip_start, filled_rows}
+use Rattle.std.specs.Prelude.{◌≡◌}
+use Rattle.file_dng.specs.Prelude.{refl, sym, ap, ◌∙◌, List, ℕ, zero, suc, length, pos, binary64, mul, of_int, after, Shape, Entry, strip_start, filled_rows}
 use Rattle.refusals.specs.AfterLaws.{kept, made, result-made}
 use Rattle.file_dng.specs.declared.DngRead.{DngRead}
 use Rattle.file_dng.specs.Refusals.{dng_refusal}

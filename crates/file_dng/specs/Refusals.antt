@@ -1,6 +1,7 @@
 -- The tests of the reader, in their order: 19, 20, 21, "before 1, 2, 3 (frame index not below N), 4 and 11" (request L7), with 23 "tested before 4"
 -- (request L9).
-use Rattle.file_dng.specs.Prelude.{List, [], ◌∷◌, ◌++◌, ℕ, ◌*◌, first, Shape, sample_length, length_refusal, frame_tests, Entry, strip_start, tag_tests, strip_refusal}
+use Rattle.std.specs.Prelude.{◌∷◌, ◌++◌, ◌*◌}
+use Rattle.file_dng.specs.Prelude.{List, [], ℕ, first, Shape, sample_length, length_refusal, frame_tests, Entry, strip_start, tag_tests, strip_refusal}
 use Rattle.refusals.specs.Numbers as no
 
 -- "before 1, 2, 3 (frame index not below N), 4": of the burst, the frame's index and the length of the lent samples. 23 is the last of `frame_tests`

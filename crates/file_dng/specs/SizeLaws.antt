@@ -1,5 +1,6 @@
 -- The size of a file and the reading of it agree.
-use Rattle.file_dng.specs.Prelude.{◌≡◌, refl, sym, ap, ◌∙◌, List, ℕ, zero, suc, length, after, first, Shape, Entry, ImageWidth, ImageLength, value_of, size_differs, otherwise, tag_tests}
+use Rattle.std.specs.Prelude.{◌≡◌}
+use Rattle.file_dng.specs.Prelude.{refl, sym, ap, ◌∙◌, List, ℕ, zero, suc, length, after, first, Shape, Entry, ImageWidth, ImageLength, value_of, size_differs, otherwise, tag_tests}
 use Rattle.refusals.specs.TestLaws.{both-passed}
 use Rattle.file_dng.specs.declared.tags.DngSize.{DngSize}
 use Rattle.file_dng.specs.Tags.Faults.{fault_tag}

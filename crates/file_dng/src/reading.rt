@@ -1,5 +1,6 @@
 // The reading of one frame.
-ghost use Rattle.file_dng.specs.Prelude.{◌≡◌, ◌≤◌, first, entries};
+ghost use Rattle.std.specs.Prelude.{◌≡◌, ◌≤◌};
+ghost use Rattle.file_dng.specs.Prelude.{first, entries};
 ghost use Rattle.file_dng.specs.Refusals.{room_tests};
 ghost use Rattle.file_dng.specs.Reading.{refused_dng, accepted_dng, black_at, FrameRead};
 

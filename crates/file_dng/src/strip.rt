@@ -1,5 +1,6 @@
 // The samples of a DNG file's strip: refusal 11, and their storing.
-ghost use Rattle.algebra.specs.Prelude.{◌≡◌, ◌+◌, ◌*◌, ◌%◌, ◌≤◌, ltb, length};
+ghost use Rattle.std.specs.Prelude.{◌≡◌, ◌+◌, ◌*◌, ◌%◌, ◌≤◌};
+ghost use Rattle.algebra.specs.Prelude.{ltb, length};
 ghost use Rattle.refusals.specs.Some.{some};
 ghost use Rattle.sequences.specs.Written.{written};
 ghost use Rattle.file_dng.specs.Strip.Strip.{strip_sample, strip_refusal, filled_rows};

@@ -1,5 +1,6 @@
 -- Bytes are accepted exactly when they are the file of a frame that the lent one is as long as; and which number refuses any others.
-use Rattle.file_pgm.specs.Prelude.{◌≡◌, refl, sym, ap, ap₂, ◌∙◌, Bool, true, false, List, [], ◌∷◌, ◌++◌, ℕ, ◌*◌, ◌≤◌, ◌<◌, arith, ltb, length, get_or, drop, first, length_refusal, pgm_header, bytes_of, some_above, above_refusal, samples_of}
+use Rattle.std.specs.Prelude.{◌≡◌, ◌∷◌, ◌++◌, ◌*◌, ◌≤◌, ◌<◌}
+use Rattle.file_pgm.specs.Prelude.{refl, sym, ap, ap₂, ◌∙◌, Bool, true, false, List, [], ℕ, arith, ltb, length, get_or, drop, first, length_refusal, pgm_header, bytes_of, some_above, above_refusal, samples_of}
 use Rattle.std.proofs.Math.Seq.{drop-append_seam}
 use Rattle.std.proofs.Common.{ltb-false, lt-ltb, le-ltb}
 use Rattle.refusals.specs.Numbers as no

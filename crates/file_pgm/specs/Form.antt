@@ -1,5 +1,6 @@
 -- L2, the PGM file of a frame: "`P5`, LF, width, a space, height, LF, `4095`, LF, then each sample as two bytes, high byte first".
-use Rattle.file_pgm.specs.Prelude.{◌≡◌, Bool, true, cond, ◌&&◌, List, ◌++◌, ℕ, ◌+◌, ◌*◌, ◌≤◌, length, get_or, size_allowed, pgm_header, bytes_of}
+use Rattle.std.specs.Prelude.{◌≡◌, ◌&&◌, ◌++◌, ◌+◌, ◌*◌, ◌≤◌}
+use Rattle.file_pgm.specs.Prelude.{Bool, true, cond, List, ℕ, length, get_or, size_allowed, pgm_header, bytes_of}
 
 -- the whole file
 unfoldable pub file_of : (width height : ℕ) (frame : List ℕ) → List ℕ

@@ -1,6 +1,6 @@
 -- Sizes that are allowed, and the lengths that follow from them.
-use Rattle.file_pgm.specs.Prelude.{◌≡◌, refl, sym, ap, ◌∙◌, Bool, true, not, ℕ, ◌+◌, ◌*◌, ◌/◌, ◌%◌, ◌≤◌, arith, T, ltb, refuse, length_refusal, pgm_header, bytes_of}
-use Rattle.std.specs.Prelude.{List, [], ◌∷◌, ◌++◌, length, take, drop}
+use Rattle.file_pgm.specs.Prelude.{refl, sym, ap, ◌∙◌, Bool, true, not, ℕ, arith, T, ltb, refuse, length_refusal, pgm_header, bytes_of}
+use Rattle.std.specs.Prelude.{List, [], ◌∷◌, ◌++◌, length, take, drop, ◌≡◌, ◌+◌, ◌*◌, ◌/◌, ◌%◌, ◌≤◌}
 use Rattle.std.proofs.Common.{append-nil, mul_assoc, mul-le-mul, length-append, drop_of_length-le, take_at, eq-eqb, ne_eqb}
 use Rattle.std.proofs.Math.Nat.{mul-mod_left}
 use Rattle.std.proofs.lemmas.Bool.{not-false}

@@ -1,6 +1,6 @@
 -- The header of bytes: its test, and the size that is read off it.
-use Rattle.file_pgm.specs.Prelude.{◌≡◌, sym, ap, ◌∙◌, true, false, not, ℕ, ◌+◌, ◌*◌, ◌≤◌, ◌<◌, arith, eqb, decimal, pgm_header, leading}
-use Rattle.std.specs.Prelude.{List, [], ◌∷◌, ◌++◌, get_or, take}
+use Rattle.file_pgm.specs.Prelude.{sym, ap, ◌∙◌, true, false, not, ℕ, arith, eqb, decimal, pgm_header, leading}
+use Rattle.std.specs.Prelude.{List, [], ◌∷◌, ◌++◌, get_or, take, ◌≡◌, ◌+◌, ◌*◌, ◌≤◌, ◌<◌}
 use Rattle.std.proofs.Common.{append_assoc, take-append-drop, ext_get_or, drop-drop}
 use Rattle.std.proofs.Math.ListN.{length, drop, length-append, length-drop, get_or-append}
 use Rattle.std.proofs.Math.Seq.{length-take-le, get_or-take, drop-append-add}

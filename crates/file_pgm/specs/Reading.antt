@@ -1,5 +1,6 @@
 -- Reading a PGM file into a lent frame, "only in that spelling, with width and height handed back": "reading 17, 6, 11".
-use Rattle.file_pgm.specs.Prelude.{◌≡◌, Bool, not, ◌&&◌, List, [], ◌∷◌, ℕ, ◌+◌, ◌*◌, eqb, length, get_or, drop, refuse, first, after, length_refusal, decimal, pgm_header, leading, above_refusal, samples_of}
+use Rattle.std.specs.Prelude.{◌≡◌, ◌&&◌, ◌∷◌, ◌+◌, ◌*◌}
+use Rattle.file_pgm.specs.Prelude.{Bool, not, List, [], ℕ, eqb, length, get_or, drop, refuse, first, after, length_refusal, decimal, pgm_header, leading, above_refusal, samples_of}
 use Rattle.refusals.specs.Numbers as no
 use Rattle.refusals.specs.Some.{some}
 use Rattle.file_pgm.specs.declared.PgmRead.{PgmRead}

@@ -1,5 +1,6 @@
 -- "What is read after writing is the same frame, and what is accepted is written back to the same bytes."
-use Rattle.algebra.specs.Prelude.{◌≡◌, sym, ap, ap₂, ◌∙◌, List, ℕ, length}
+use Rattle.std.specs.Prelude.{◌≡◌}
+use Rattle.algebra.specs.Prelude.{sym, ap, ap₂, ◌∙◌, List, ℕ, length}
 use Rattle.refusals.specs.AfterLaws.{result-made}
 use Rattle.file_pgm.specs.declared.PgmRead.{PgmRead}
 use Rattle.file_pgm.specs.Form.{PgmFile}

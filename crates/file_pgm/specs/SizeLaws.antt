@@ -1,5 +1,6 @@
 -- The size of a file and the reading of it agree.
-use Rattle.file_pgm.specs.Prelude.{◌≡◌, refl, sym, ap, ◌∙◌, List, ℕ, zero, suc, length, ◌before◌, first, after}
+use Rattle.std.specs.Prelude.{◌≡◌}
+use Rattle.file_pgm.specs.Prelude.{refl, sym, ap, ◌∙◌, List, ℕ, zero, suc, length, ◌before◌, first, after}
 use Rattle.refusals.specs.TestLaws.{here, passed}
 use Rattle.file_pgm.specs.declared.PgmRead.{PgmRead}
 use Rattle.file_pgm.specs.Reading.{width_in, height_in, refusal_as, read_refusal, pgm_answer, ReadsPgm}

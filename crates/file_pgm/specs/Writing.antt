@@ -1,5 +1,6 @@
 -- Writing a frame into a lent byte buffer: "Writing tests 1, 6, 16, 11".
-use Rattle.file_pgm.specs.Prelude.{◌≡◌, not, List, [], ◌∷◌, ℕ, ◌*◌, length, refuse, first, after, length_refusal, above_refusal}
+use Rattle.std.specs.Prelude.{◌≡◌, ◌∷◌, ◌*◌}
+use Rattle.file_pgm.specs.Prelude.{not, List, [], ℕ, length, refuse, first, after, length_refusal, above_refusal}
 use Rattle.refusals.specs.Numbers as no
 use Rattle.file_pgm.specs.Form.{file_of, file_length, sizes_allowed}
 

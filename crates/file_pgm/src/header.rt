@@ -1,7 +1,8 @@
 // What stands before the samples of a PGM file: put at the start of a buffer, measured, and its numbers read.
 pub mod digits;
 
-ghost use Rattle.algebra.specs.Prelude.{◌≡◌, ◌≤◌, length};
+ghost use Rattle.std.specs.Prelude.{◌≡◌, ◌≤◌};
+ghost use Rattle.algebra.specs.Prelude.{length};
 ghost use Rattle.printing.specs.Put.{Printed};
 ghost use Rattle.file_pgm.specs.Header.Header.{pgm_header};
 

@@ -1,5 +1,5 @@
 // The test of a size, and the length of a file.
-ghost use Rattle.algebra.specs.Prelude.{◌≡◌, ◌≤◌};
+ghost use Rattle.std.specs.Prelude.{◌≡◌, ◌≤◌};
 ghost use Rattle.file_pgm.specs.Form.{file_length, sizes_allowed, pgm_length};
 ghost use Rattle.file_pgm.specs.Fits.{Sized};
 

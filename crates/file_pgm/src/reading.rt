@@ -1,5 +1,6 @@
 // Reading a frame.
-ghost use Rattle.file_pgm.specs.Prelude.{◌≡◌, ◌≤◌, length, pgm_header};
+ghost use Rattle.std.specs.Prelude.{◌≡◌, ◌≤◌};
+ghost use Rattle.file_pgm.specs.Prelude.{length, pgm_header};
 ghost use Rattle.file_pgm.specs.Reading.{differs, formed, refusal_as, refused_pgm, ReadsPgm};
 ghost use Rattle.file_pgm.specs.Size.{pgm_size};
 

@@ -1,5 +1,6 @@
 // The samples of a PGM file: the test of them, and the two bytes of each, put and read. The loops have no branches, so that they become vector instructions.
-ghost use Rattle.algebra.specs.Prelude.{◌≡◌, ◌+◌, ◌*◌, ◌%◌, ◌≤◌, ltb, length, get_or, drop};
+ghost use Rattle.std.specs.Prelude.{◌≡◌, ◌+◌, ◌*◌, ◌%◌, ◌≤◌};
+ghost use Rattle.algebra.specs.Prelude.{ltb, length, get_or, drop};
 ghost use Rattle.sequences.specs.Write.{written};
 ghost use Rattle.refusals.specs.Some.{some};
 ghost use Rattle.printing.specs.Put.{Printed};

@@ -1,5 +1,6 @@
 -- A whole number in double is itself as an i64.
-use Rattle.algebra.specs.Prelude.{◌≡◌, ◌^◌, ◌≤◌, arith, T, ℤ, pos, negsuc, nat_abs}
+use Rattle.std.specs.Prelude.{◌≡◌, ◌^◌, ◌≤◌}
+use Rattle.algebra.specs.Prelude.{arith, T, ℤ, pos, negsuc, nat_abs}
 use Rattle.std.proofs.Common.{le→leb, lt→ltb}
 use Rattle.std.specs.Float.{binary64}
 use Rattle.std.specs.Float.Ieee.{of_int, to_signed, in_signed, in_float}

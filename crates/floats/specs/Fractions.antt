@@ -1,11 +1,11 @@
 -- Floats as fractions: a product, a quotient and a sum of two is the fraction that it would be, rounded once.
-use Rattle.algebra.specs.Prelude.{◌≡◌, ◌&&◌, ◌≤◌, ltb, refl, sym, ap, ap₂, ◌∙◌, Bool, true, false, ℕ, zero, suc, ◌+◌, ◌-◌, ◌*◌, ◌<◌, arith, eqb, ℤ}
+use Rattle.algebra.specs.Prelude.{ltb, refl, sym, ap, ap₂, ◌∙◌, Bool, true, false, ℕ, zero, suc, arith, eqb, ℤ}
 use Rattle.std.proofs.lemmas.Bool.{false≢true}
 use Rattle.std.proofs.Math.Nat.{mul-pos, mul-sub, eq_of_mul-eq-mul_right, le_of_mul-le-mul_right, lt_of_mul-lt-mul_right}
 use Rattle.std.proofs.Common.{mul_comm, eqb→eq}
 use borrow.Author.Tests.{lt-ltb, le-ltb}
 use Rattle.std.proofs.Math.Dec.{not_T}
-use Rattle.std.specs.Prelude.{Float}
+use Rattle.std.specs.Prelude.{Float, ◌≡◌, ◌&&◌, ◌≤◌, ◌+◌, ◌-◌, ◌*◌, ◌<◌}
 use Rattle.std.specs.Float.Ieee.{fin, up, down, unlike, round, sum, add, mul, div}
 use Rattle.std.specs.Float.{Format}
 use Rattle.std.specs.Float.Ieee.Fits.{down_pos}

@@ -1,8 +1,8 @@
 -- Straight-line forms of sums, differences and products with positive constants: worked out in floats they give, as a float, what they give in whole numbers,
 -- if no intermediate is larger than what the format counts without a gap. No −0 arises.
-use Rattle.algebra.specs.Prelude.{◌≡◌, refl, sym, ap, ap₂, ◌∙◌, Bool, true, false, not, List, [], ◌∷◌, ℕ, zero, suc, ◌+◌, ◌*◌, ◌^◌, ◌≤◌, ◌<◌, arith, T, leb, ltb, lit<, get_or, ℤ, pos, negsuc, nat_abs, neg_ℤ, ◌+ℤ◌, ◌-ℤ◌, ◌*ℤ◌}
+use Rattle.algebra.specs.Prelude.{refl, sym, ap, ap₂, ◌∙◌, Bool, true, false, not, List, [], ℕ, zero, suc, arith, T, leb, ltb, lit<, get_or, ℤ, pos, negsuc, nat_abs, neg_ℤ}
 use Rattle.std.proofs.Common.{le_trans, add-le-add, mul-le-mul_left, lt-ltb, leb→le, ltb→lt}
-use Rattle.std.specs.Prelude.{map, Float}
+use Rattle.std.specs.Prelude.{map, Float, ◌≡◌, ◌∷◌, ◌+◌, ◌*◌, ◌^◌, ◌≤◌, ◌<◌, ◌+ℤ◌, ◌-ℤ◌, ◌*ℤ◌}
 use Rattle.std.proofs.Math.IntN.{+ℤ_idr}
 use Rattle.std.specs.Float.{Format}
 use Rattle.std.specs.Float.Ieee.{prec, round, neg, add, sub, mul, of_int}

@@ -1,7 +1,7 @@
 -- The whole number nearest to a float of less than 2^51, from its sum with 1.5·2^52: as a float, by a difference, and as a whole number, by the sum's bits.
-use Rattle.algebra.specs.Prelude.{◌≡◌, refl, sym, ap, subst, ◌∙◌, Bool, true, false, not, cond, ℕ, ◌+◌, ◌-◌, ◌*◌, ◌/◌, ◌^◌, ◌≤◌, ◌<◌, arith, T, lit<, ℤ, pos, nat_abs, neg_ℤ, ◌-ℤ◌}
+use Rattle.algebra.specs.Prelude.{refl, sym, ap, subst, ◌∙◌, Bool, true, false, not, cond, ℕ, arith, T, lit<, ℤ, pos, nat_abs, neg_ℤ}
 use Rattle.std.proofs.Common.{div-lt_iff_lt-mul, div-mul-le_self, mul-le-mul_right, lt_of_mul-lt-mul_right}
-use Rattle.std.specs.Prelude.{Float}
+use Rattle.std.specs.Prelude.{Float, ◌≡◌, ◌+◌, ◌-◌, ◌*◌, ◌/◌, ◌^◌, ◌≤◌, ◌<◌, ◌-ℤ◌}
 use Rattle.std.specs.Float.{fin, binary64}
 use Rattle.std.specs.Float.Ieee.{add, sub, eq, of_int, to_bits, is_nan}
 use Rattle.std.specs.Float.Ieee.Nearest.{closest}

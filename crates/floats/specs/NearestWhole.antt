@@ -1,9 +1,9 @@
 -- A whole number between 2^(prec − 1) and 2^prec, and a float of a smaller magnitude: their sum is rounded to a whole number, the one nearest to it.
-use Rattle.algebra.specs.Prelude.{◌≡◌, refl, ap, ap₂, subst, ◌∙◌, Bool, true, false, cond, ℕ, suc, ◌+◌, ◌-◌, ◌*◌, ◌/◌, ◌^◌, ◌≤◌, ◌<◌, arith, lit<}
+use Rattle.algebra.specs.Prelude.{refl, ap, ap₂, subst, ◌∙◌, Bool, true, false, cond, ℕ, suc, arith, lit<}
 use Rattle.std.proofs.Common.{div-mul-le_self, div-add-mod', mod-lt, mul-pos, mul-one, mul_comm, lt_of_le_of_lt, lt_of_mul-lt-mul_right, mul-lt-mul_of_pos_right, mul-le-mul_right, le-div_iff_mul-le, div-lt_iff_lt-mul, pow-add, pow_pos}
 use Rattle.std.proofs.Math.Nat.{mul-sub, eq_of_mul-eq-mul_right}
 use Rattle.std.proofs.Math.Pow.{pow-lt}
-use Rattle.std.specs.Prelude.{Float}
+use Rattle.std.specs.Prelude.{Float, ◌≡◌, ◌+◌, ◌-◌, ◌*◌, ◌/◌, ◌^◌, ◌≤◌, ◌<◌}
 use Rattle.std.specs.Float.{Format, binary32, binary64}
 use Rattle.std.specs.Float.Ieee.{prec, emax, low, size, units, round, add}
 use Rattle.std.specs.Float.Ieee.Digits.{size-le}

@@ -1,10 +1,10 @@
 -- A whole number B below 5·2^49 divided by 2^k, to nearest, halves away from zero, by one product: B·2^−k·(1 + 2^−52), rounded, lies above B/2^k by less than 2^−k,
 -- and what is below a half is so by 2^−k at least.
-use Rattle.algebra.specs.Prelude.{◌≡◌, refl, sym, ap, subst, ◌∙◌, Bool, false, not, cond, ℕ, zero, suc, ◌+◌, ◌-◌, ◌*◌, ◌/◌, ◌^◌, ◌≤◌, ◌<◌, arith, T, lit<, lit≤, ℤ, pos, negsuc, nat_abs, neg_ℤ, ◌-ℤ◌}
+use Rattle.algebra.specs.Prelude.{refl, sym, ap, subst, ◌∙◌, Bool, false, not, cond, ℕ, zero, suc, arith, T, lit<, lit≤, ℤ, pos, negsuc, nat_abs, neg_ℤ}
 use Rattle.std.proofs.Common.{le_trans, lt_of_le_of_lt, mul-pos, mul-le-mul, one-mul, mul-le-mul_right, mul-lt-mul_of_pos_right, pow-add, pow_mono}
 use Rattle.std.proofs.Math.Nat.{div-eq_of_lt, lt_of_mul-lt-mul_left}
 use Rattle.std.proofs.Math.Pow.{pow_pos}
-use Rattle.std.specs.Prelude.{Float}
+use Rattle.std.specs.Prelude.{Float, ◌≡◌, ◌+◌, ◌-◌, ◌*◌, ◌/◌, ◌^◌, ◌≤◌, ◌<◌, ◌-ℤ◌}
 use Rattle.std.specs.Float.{fin}
 use Rattle.std.specs.Float.Ieee.{binary64, round, add, sub, mul, of_int, to_bits, is_nan, unlike}
 use Rattle.algebra.specs.Nearest.{away}

@@ -1,9 +1,9 @@
 -- A quotient V·q/D to nearest, halves away from zero, by one division in double and one product, where they leave no doubt: with W = V·(1 + 2^−51), rounded,
 -- x = q·(W/D) lies above V·q/D, and x·(1 − 2^−49) below. Where both are rounded to one whole number, V·q/D is; a half never is.
-use Rattle.algebra.specs.Prelude.{◌≡◌, refl, sym, ap, ap₂, subst, ◌∙◌, Bool, true, false, cond, ℕ, zero, suc, ◌+◌, ◌-◌, ◌*◌, ◌/◌, ◌^◌, ◌≤◌, ◌<◌, arith, lit<, lit≤, ℤ, pos, negsuc, nat_abs, neg_ℤ, ◌*ℤ◌}
+use Rattle.algebra.specs.Prelude.{refl, sym, ap, ap₂, subst, ◌∙◌, Bool, true, false, cond, ℕ, zero, suc, arith, lit<, lit≤, ℤ, pos, negsuc, nat_abs, neg_ℤ}
 use Rattle.std.proofs.Common.{mul-pos, mul-one, one-mul, mul_comm, mul-le-mul_left, mul-le-mul_right, le_of_mul-le-mul_right, mul-lt-mul_of_pos_right, lt_of_lt_of_le, lt_of_le_of_lt, lt_of_mul-lt-mul_right}
 use Rattle.std.proofs.Math.Nat.{lt_of_mul-lt-mul_left, div-eq_of_lt}
-use Rattle.std.specs.Prelude.{Float}
+use Rattle.std.specs.Prelude.{Float, ◌≡◌, ◌+◌, ◌-◌, ◌*◌, ◌/◌, ◌^◌, ◌≤◌, ◌<◌, ◌*ℤ◌}
 use Rattle.std.specs.Float.{fin}
 use Rattle.std.specs.Float.Ieee.{binary64, round, add, sub, mul, div, eq, of_int, unlike}
 use Rattle.algebra.specs.Nearest.{away}

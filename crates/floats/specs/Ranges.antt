@@ -1,5 +1,6 @@
 -- Fractions between 2^−j and 2^j, and fractions that differ by a factor: how both carry over products, quotients and roundings.
-use Rattle.algebra.specs.Prelude.{ap, ℕ, zero, suc, ◌+◌, ◌-◌, ◌*◌, ◌^◌, ◌≤◌, ◌<◌, arith}
+use Rattle.std.specs.Prelude.{◌+◌, ◌-◌, ◌*◌, ◌^◌, ◌≤◌, ◌<◌}
+use Rattle.algebra.specs.Prelude.{ap, ℕ, zero, suc, arith}
 use Rattle.std.proofs.Common.{le_trans, mul-le-mul, mul-le-mul_left, mul-le-mul_right, le_of_mul-le-mul_right, pow-add, pow_pos, pow_mono}
 use Rattle.std.proofs.Math.Nat.{le_of_mul-le-mul_left}
 use Rattle.floats.specs.RelativeError.{OnePart}

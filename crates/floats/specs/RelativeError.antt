@@ -1,10 +1,10 @@
 -- Rounding errs by at most one part in 2^prec, where the fraction is neither too large nor too small for the format: one part in 2^53 in double.
-use Rattle.algebra.specs.Prelude.{◌≡◌, sym, ap, subst, ◌∙◌, Bool, not, ℕ, ◌+◌, ◌-◌, ◌*◌, ◌/◌, ◌%◌, ◌^◌, ◌≤◌, ◌<◌, arith, T}
+use Rattle.algebra.specs.Prelude.{sym, ap, subst, ◌∙◌, Bool, not, ℕ, arith, T}
 use Prim.Native.Nat.{compare, Ordering}
 use Rattle.std.proofs.Common.{mul-pos, lt_of_le_of_lt, div-add-mod', mod-lt, mul-le-mul_left, mul-le-mul_right, le_of_mul-le-mul_right, le-div_iff_mul-le, leb→le, eqb→eq, pow-add, pow_pos}
 use Rattle.std.proofs.Math.Nat.{le_of_mul-le-mul_left}
 use Rattle.std.proofs.Math.Dec.{is_le, compare_is_eq, nleb→lt, eqb_refl}
-use Rattle.std.specs.Prelude.{eqb, Float}
+use Rattle.std.specs.Prelude.{eqb, Float, ◌≡◌, ◌+◌, ◌-◌, ◌*◌, ◌/◌, ◌%◌, ◌^◌, ◌≤◌, ◌<◌}
 use Rattle.std.proofs.Math.Arith.{lt_of_le-ne}
 use Rattle.std.proofs.Math.Pow.{pow-lt}
 use Rattle.std.specs.Float.{Format}

@@ -1,10 +1,10 @@
 -- A whole number of at most 2^53 over 2^31, to nearest, halves away from zero, by two sums with 1.5·2^52. The first is of a product that lies above the quotient: it
 -- is rounded to what is wanted, or to one more in magnitude. The second is of what is then left, times a little less than 2^−31: it takes that one off again.
-use Rattle.algebra.specs.Prelude.{◌≡◌, refl, sym, ap, ap₂, subst, ◌∙◌, Bool, true, false, cond, ℕ, zero, suc, ◌+◌, ◌-◌, ◌*◌, ◌/◌, ◌^◌, ◌≤◌, ◌<◌, arith, ltb, lit<, lit≤, ℤ, pos, negsuc, nat_abs, neg_ℤ, ◌+ℤ◌, ◌-ℤ◌, ◌*ℤ◌}
+use Rattle.algebra.specs.Prelude.{refl, sym, ap, ap₂, subst, ◌∙◌, Bool, true, false, cond, ℕ, zero, suc, arith, ltb, lit<, lit≤, ℤ, pos, negsuc, nat_abs, neg_ℤ}
 use Rattle.std.proofs.Common.{one-mul, mul-pos, mul-le-mul_left, mul-le-mul_right, lt_of_le_of_lt, mul-lt-mul_of_pos_right, lt_of_mul-lt-mul_right, ltb-true, ltb-false}
 use Rattle.std.proofs.Math.Nat.{lt_of_mul-lt-mul_left}
 use Rattle.std.proofs.Math.IntN.{sub_ℕ}
-use Rattle.std.specs.Prelude.{Float}
+use Rattle.std.specs.Prelude.{Float, ◌≡◌, ◌+◌, ◌-◌, ◌*◌, ◌/◌, ◌^◌, ◌≤◌, ◌<◌, ◌+ℤ◌, ◌-ℤ◌, ◌*ℤ◌}
 use Rattle.std.specs.Float.{fin, binary64}
 use Rattle.std.specs.Float.Ieee.{round, add, sub, mul, of_int, unlike}
 use Rattle.algebra.specs.Nearest.{away}

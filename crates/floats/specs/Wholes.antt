@@ -1,9 +1,9 @@
 -- Floats that are whole numbers: a sum and a product are exact as far as the format counts without a gap, and from 2^(prec − 1) on the bits count them.
-use Rattle.algebra.specs.Prelude.{◌≡◌, sym, ap₂, T, ◌&&◌, eqb, ap, ◌∙◌, Bool, true, false, ℕ, suc, ◌+◌, ◌-◌, ◌*◌, ◌/◌, ◌^◌, ◌≤◌, ◌<◌, arith, lit<, ℤ, pos, negsuc, nat_abs}
+use Rattle.algebra.specs.Prelude.{sym, ap₂, T, eqb, ap, ◌∙◌, Bool, true, false, ℕ, suc, arith, lit<, ℤ, pos, negsuc, nat_abs}
 use Rattle.std.proofs.lemmas.Bool.{false≢true}
 use Rattle.std.proofs.Common.{mul-pos, mul-div_cancel, lt_of_not-le, lt_of_lt_of_le, not-le_of_lt, mul-lt-mul_of_pos_right, mul-le-mul_right, eqb→eq, pow-add, pow_pos, pow_mono}
 use Rattle.std.proofs.Math.Nat.{eq_of_mul-eq-mul_right}
-use Rattle.std.specs.Prelude.{Float}
+use Rattle.std.specs.Prelude.{Float, ◌≡◌, ◌&&◌, ◌+◌, ◌-◌, ◌*◌, ◌/◌, ◌^◌, ◌≤◌, ◌<◌}
 use Rattle.std.specs.Float.{Format}
 use Rattle.std.specs.Float.Ieee.{prec, low, up, down, size, hid, unlike, round, add, mul, eq, of_int, to_bits}
 use Rattle.std.specs.Float.Ieee.Digits.{size-lt, size-le}

@@ -1,6 +1,6 @@
 -- What is known of a burst and its lent buffers once the tests have let them through. Inner vocabulary: `requires` and laws speak of it, no answer does.
-use Rattle.algebra.specs.Prelude.{◌≡◌, List, ℕ, ◌+◌, ◌%◌, ◌≤◌, ◌<◌, length, get_or, ℤ, pos, nat_abs}
-use Rattle.std.specs.Prelude.{◌⊎◌}
+use Rattle.algebra.specs.Prelude.{List, ℕ, length, get_or, ℤ, pos, nat_abs}
+use Rattle.std.specs.Prelude.{◌⊎◌, ◌≡◌, ◌+◌, ◌%◌, ◌≤◌, ◌<◌}
 use Rattle.geometry.specs.declared.Shape.{Shape}
 use Rattle.geometry.specs.Shape.{sample_length, vector_length, output_length, work_length}
 use Rattle.geometry.specs.Read.{sample_at}

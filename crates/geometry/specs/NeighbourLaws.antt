@@ -1,5 +1,6 @@
 -- The coarse indices by cases are those of document 01's formulas, for every index and each q.
-use Rattle.algebra.specs.Prelude.{◌≡◌, refl, ap, ap₂, ◌∙◌, cond, ℕ, zero, suc, ◌+◌, ◌*◌, ◌/◌, ◌%◌, arith, ltb}
+use Rattle.std.specs.Prelude.{◌≡◌, ◌+◌, ◌*◌, ◌/◌, ◌%◌}
+use Rattle.algebra.specs.Prelude.{refl, ap, ap₂, ◌∙◌, cond, ℕ, zero, suc, arith, ltb}
 use Rattle.std.proofs.Common.{mul-suc, lt-ltb, le-ltb}
 use Rattle.geometry.specs.declared.tiles.Quotient.{Quotient}
 use Rattle.geometry.specs.declared.tiles.Quotient.TheVariants.{One, Two, Four}

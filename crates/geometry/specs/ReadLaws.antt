@@ -1,6 +1,6 @@
 -- What readers may lean on: a sample's place is among the samples, and an index read outside is one inside.
-use Rattle.algebra.specs.Prelude.{◌≡◌, ap, ◌∙◌, arith, ℤ, pos, negsuc}
-use Rattle.std.specs.Prelude.{ℕ, ◌+◌, ◌-◌, ◌*◌, ◌/◌, ◌%◌, ◌≤◌, ◌<◌, min}
+use Rattle.algebra.specs.Prelude.{ap, ◌∙◌, arith, ℤ, pos, negsuc}
+use Rattle.std.specs.Prelude.{ℕ, ◌+◌, ◌-◌, ◌*◌, ◌/◌, ◌%◌, ◌≤◌, ◌<◌, min, ◌≡◌}
 use Rattle.std.proofs.Common.{le_trans, suc-mul, mod-lt, mod-eq_of_lt}
 use Rattle.std.proofs.Math.Nat.{mul-le-mul_right, add-mul, mul_assoc, mul_comm}
 use Rattle.geometry.specs.declared.Shape.{Shape}

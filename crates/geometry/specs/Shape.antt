@@ -1,5 +1,6 @@
 -- Sizes, counts, sides and row lengths that are allowed, the lengths of the four lent buffers, and refusals 1 to 7, 22 and 23.
-use Rattle.algebra.specs.Prelude.{Bool, not, ◌&&◌, ◌||◌, ℕ, ◌+◌, ◌-◌, ◌*◌, ◌%◌, eqb, leb}
+use Rattle.std.specs.Prelude.{◌&&◌, ◌||◌, ◌+◌, ◌-◌, ◌*◌, ◌%◌}
+use Rattle.algebra.specs.Prelude.{Bool, not, ℕ, eqb, leb}
 use Rattle.refusals.specs.Numbers as no
 use Rattle.refusals.specs.Tests.{refuse}
 use Rattle.geometry.specs.declared.Shape.{Shape}

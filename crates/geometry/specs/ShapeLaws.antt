@@ -1,7 +1,7 @@
 -- What acceptance says of sizes, counts, row lengths and buffers, in a form that linear arithmetic reads.
-use Rattle.std.specs.Prelude.{◌⊎◌}
+use Rattle.std.specs.Prelude.{◌⊎◌, ◌≡◌, ◌&&◌, ◌||◌, ◌-◌, ◌*◌, ◌≤◌, ◌<◌}
 use Rattle.std.proofs.Common.{inl, inr, mul-le-mul, leb-true, leb-false, eqb-true}
-use Rattle.algebra.specs.Prelude.{◌≡◌, refl, subst, Bool, true, false, not, ◌&&◌, ◌||◌, ℕ, ◌-◌, ◌*◌, ◌≤◌, ◌<◌, arith, T, leb, eqb, ltb}
+use Rattle.algebra.specs.Prelude.{refl, subst, Bool, true, false, not, ℕ, arith, T, leb, eqb, ltb}
 use Rattle.std.proofs.lemmas.Bool.{not-false}
 use Rattle.refusals.specs.Numbers as no
 use Rattle.refusals.specs.TestLaws.{refuse-not}

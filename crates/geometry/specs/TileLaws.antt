@@ -1,5 +1,6 @@
 -- Tile counts: a bound that holds at any size, and the count at level 0 of an allowed one.
-use Rattle.algebra.specs.Prelude.{◌≡◌, ℕ, ◌+◌, ◌-◌, ◌/◌, ◌≤◌, ◌<◌, arith}
+use Rattle.std.specs.Prelude.{◌≡◌, ◌+◌, ◌-◌, ◌/◌, ◌≤◌, ◌<◌}
+use Rattle.algebra.specs.Prelude.{ℕ, arith}
 use Rattle.std.proofs.Common.{div-lt_iff_lt-mul, mul-le-mul_left, add-mul}
 use Rattle.std.proofs.Math.Logic.{⊎_elim}
 use Rattle.geometry.specs.Fits.{AllowedSize, TileSide}

@@ -1,6 +1,6 @@
 -- Tiles of a level: their sides, counts and origins, and the coarse tiles that a tile's candidates come from.
-use Rattle.algebra.specs.Prelude.{Bool, true, false, cond, eqb, ℤ, pos, ◌-ℤ◌}
-use Rattle.std.specs.Prelude.{ℕ, zero, suc, ◌+◌, ◌-◌, ◌*◌, ◌/◌, min}
+use Rattle.algebra.specs.Prelude.{Bool, true, false, cond, eqb, ℤ, pos}
+use Rattle.std.specs.Prelude.{ℕ, zero, suc, ◌+◌, ◌-◌, ◌*◌, ◌/◌, min, ◌-ℤ◌}
 use Rattle.geometry.specs.declared.Shape.{Shape}
 use Rattle.geometry.specs.declared.tiles.Quotient.{Quotient}
 use Rattle.geometry.specs.declared.tiles.Quotient.TheVariants.{One, Two, Four}

@@ -1,5 +1,6 @@
 -- The frames beside the reference are frames of the burst; what stands where in the list of vectors.
-use Rattle.algebra.specs.Prelude.{◌≡◌, ap, ap₂, ◌∙◌, Bool, true, false, cond, ℕ, ◌+◌, ◌-◌, ◌*◌, ◌/◌, ◌%◌, ◌<◌, arith, ltb, get_or, pos}
+use Rattle.std.specs.Prelude.{◌≡◌, ◌+◌, ◌-◌, ◌*◌, ◌/◌, ◌%◌, ◌<◌}
+use Rattle.algebra.specs.Prelude.{ap, ap₂, ◌∙◌, Bool, true, false, cond, ℕ, arith, ltb, get_or, pos}
 use Rattle.sequences.specs.TabLaws.{get_d-tab}
 use Rattle.sequences.specs.Place.{place-row, place-column}
 use Rattle.geometry.specs.declared.Shape.{Shape}

@@ -1,5 +1,6 @@
 -- How the lent vectors are laid out: one layout for align, which writes it, merge, which reads it, and the report, which cuts it.
-use Rattle.algebra.specs.Prelude.{cond, List, ℕ, zero, suc, ◌+◌, ◌*◌, ◌/◌, ◌%◌, ltb, get_or, take, drop, ℤ, pos}
+use Rattle.std.specs.Prelude.{◌+◌, ◌*◌, ◌/◌, ◌%◌}
+use Rattle.algebra.specs.Prelude.{cond, List, ℕ, zero, suc, ltb, get_or, take, drop, ℤ, pos}
 use Rattle.sequences.specs.Tab.{tab}
 use Rattle.geometry.specs.declared.Shape.{Shape}
 use Rattle.geometry.specs.declared.vectors.Vector.{Vector}

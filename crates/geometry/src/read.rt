@@ -1,5 +1,5 @@
 // Where samples stand, and reading outside.
-ghost use Rattle.algebra.specs.Prelude.{◌≡◌, ◌*◌, ◌%◌, ◌^◌, ◌≤◌, ◌<◌};
+ghost use Rattle.std.specs.Prelude.{◌≡◌, ◌*◌, ◌%◌, ◌^◌, ◌≤◌, ◌<◌};
 ghost use Rattle.std.specs.Int.Signed.{mag};
 ghost use Rattle.geometry.specs.Shape.{sample_length};
 ghost use Rattle.geometry.specs.Read.{sample_index, sample_at, mirrored, inside};

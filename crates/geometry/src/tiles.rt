@@ -1,5 +1,5 @@
 // Tiles of a level, and the coarse tiles that a tile's candidates come from.
-ghost use Rattle.algebra.specs.Prelude.{◌≡◌, ◌+◌, ◌/◌, ◌<◌, ◌≤◌};
+ghost use Rattle.std.specs.Prelude.{◌≡◌, ◌+◌, ◌/◌, ◌<◌, ◌≤◌};
 ghost use Rattle.algebra.specs.Bound.{AtMost};
 ghost use Rattle.geometry.specs.Fits.{Allowed, TileSide};
 ghost use Rattle.geometry.specs.Tiles.{tile_count, tile_rows, tile_columns, frame_parts, origin, own2, own4, own, neighbour2, neighbour4, neighbour, capped};

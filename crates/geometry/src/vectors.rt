@@ -1,5 +1,5 @@
 // Vectors, where they stand among the lent ones, and the frames that they are of.
-ghost use Rattle.algebra.specs.Prelude.{◌≡◌, ◌+◌, ◌≤◌, ◌<◌};
+ghost use Rattle.std.specs.Prelude.{◌≡◌, ◌+◌, ◌≤◌, ◌<◌};
 ghost use Rattle.geometry.specs.Shape.{vector_length};
 ghost use Rattle.geometry.specs.Fits.{Allowed, TileSide};
 ghost use Rattle.geometry.specs.Tiles.{tile_rows, tile_columns};

@@ -1,5 +1,6 @@
 -- The merge's rows, one row parity after the other, are the merge.
-use Rattle.merge_frame.specs.Prelude.{◌≡◌, ap, ◌∙◌, List, ℕ, ◌+◌, ◌-◌, ◌*◌, ◌/◌, ◌%◌, ◌≤◌, ◌<◌, arith, length, nat_abs, AllowedSize, TileSide, Scene, plane_output, output_at, word_at, merged}
+use Rattle.std.specs.Prelude.{◌≡◌, ◌+◌, ◌-◌, ◌*◌, ◌/◌, ◌%◌, ◌≤◌, ◌<◌}
+use Rattle.merge_frame.specs.Prelude.{ap, ◌∙◌, List, ℕ, arith, length, nat_abs, AllowedSize, TileSide, Scene, plane_output, output_at, word_at, merged}
 use native.Mathlib.Nat.{mul_comm}
 use Rattle.sequences.specs.Tab.{tab}
 use Rattle.sequences.specs.Grid.{tab-ext}

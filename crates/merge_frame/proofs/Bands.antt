@@ -1,5 +1,6 @@
 -- The rows of a band, and the bands of a row parity: a record for each loop, and how it starts, goes on and ends.
-use Rattle.merge_frame.specs.Prelude.{◌≡◌, subst, List, ℕ, ◌+◌, ◌-◌, ◌*◌, ◌/◌, ◌≤◌, ◌<◌, arith, length, ℤ, TileSide, Merge, scene_at, scene_of, Accepted, row_words, Stored}
+use Rattle.std.specs.Prelude.{◌≡◌, ◌+◌, ◌-◌, ◌*◌, ◌/◌, ◌≤◌, ◌<◌}
+use Rattle.merge_frame.specs.Prelude.{subst, List, ℕ, arith, length, ℤ, TileSide, Merge, scene_at, scene_of, Accepted, row_words, Stored}
 use Rattle.sequences.specs.Written.{written}
 use Rattle.sequences.specs.Place.{row_room}
 use Rattle.merge_tiles.specs.Places.{by_side}

@@ -1,5 +1,6 @@
 -- The recipe's output sample from what is taken from each of the four tiles.
-use Rattle.merge_frame.specs.Prelude.{◌≡◌, refl, subst, ℕ, ◌%◌, Scene, plane_output, taken_in}
+use Rattle.std.specs.Prelude.{◌≡◌, ◌%◌}
+use Rattle.merge_frame.specs.Prelude.{refl, subst, ℕ, Scene, plane_output, taken_in}
 use Rattle.geometry.specs.Read.{plane_of}
 use Rattle.recipe.specs.Spatial.{filtered_sample}
 use Rattle.merge_gather.specs.Gather.{windowed, corrected}

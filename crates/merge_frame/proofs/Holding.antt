@@ -1,6 +1,7 @@
 -- A row of pairs of tiles that is stored is held, and the row before it still is; the output's word of the two rows is the recipe's.
 use mathlib.Core.Path.{◌≡◌, refl, sym, ap, ap₂, ◌∙◌, subst}
-use Rattle.merge_frame.specs.Prelude.{List, ℕ, ◌+◌, ◌*◌, ◌/◌, ◌%◌, ◌≤◌, ◌<◌, arith, length, get_or, ℤ, pos, nat_abs, ◌*ℤ◌, AllowedSize, TileSide, Merge, Scene, scene_at, scene_of, plane_output, taken_in, taken_most, row_words, slot_of, row_word, Stored}
+use Rattle.std.specs.Prelude.{◌+◌, ◌*◌, ◌/◌, ◌%◌, ◌≤◌, ◌<◌, ◌*ℤ◌}
+use Rattle.merge_frame.specs.Prelude.{List, ℕ, arith, length, get_or, ℤ, pos, nat_abs, AllowedSize, TileSide, Merge, Scene, scene_at, scene_of, plane_output, taken_in, taken_most, row_words, slot_of, row_word, Stored}
 use mathlib.Core.Logic.{⊎_elim}
 use Rattle.algebra.specs.SumLaws.{sum_z-cong}
 use Rattle.sequences.specs.Write.{written, written_in, written-before, written_after, written-length}

@@ -1,5 +1,6 @@
 -- The words of other crates that this crate's files share. Lemmas are not passed on: of those the `use` line says where they are.
-pub use Rattle.algebra.specs.Prelude.{List, ℕ, ℤ, ap, arith, get_or, length, lit<, nat_abs, rules, pos, refl, subst, sym, ◌%◌, ◌*◌, ◌*ℤ◌, ◌+◌, ◌-◌, ◌/◌, ◌<◌, ◌∙◌, ◌≡◌, ◌≤◌}
+pub use Rattle.std.specs.Prelude.{◌%◌, ◌*◌, ◌*ℤ◌, ◌+◌, ◌-◌, ◌/◌, ◌<◌, ◌≡◌, ◌≤◌}
+pub use Rattle.algebra.specs.Prelude.{List, ℕ, ℤ, ap, arith, get_or, length, lit<, nat_abs, rules, pos, refl, subst, sym, ◌∙◌}
 pub use Rattle.geometry.specs.Fits.{Allowed, AllowedSize, TileSide}
 unfoldable pub use Rattle.recipe.specs.Merged.{merged, output_at, plane_output, word_at}
 pub use Rattle.recipe.specs.Scene.{Scene, scene_of}

@@ -1,5 +1,6 @@
 -- Inside this crate: a row of pairs of tiles that the work area holds, and rows of the output that are merged.
-use Rattle.merge_frame.specs.Prelude.{List, ℕ, ◌+◌, ◌-◌, ◌*◌, ◌/◌, ℤ, Scene, word_at, taken_in}
+use Rattle.std.specs.Prelude.{◌+◌, ◌-◌, ◌*◌, ◌/◌}
+use Rattle.merge_frame.specs.Prelude.{List, ℕ, ℤ, Scene, word_at, taken_in}
 use Rattle.sequences.specs.Tab.{tab}
 use Rattle.merge_gather.specs.RowsHeld.{RowHeld, word_below, RowsWritten}
 

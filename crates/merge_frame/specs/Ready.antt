@@ -1,5 +1,6 @@
 -- Inside this crate: what the merge and each part of it require. A buffer that is only measured stands here as its length.
-use Rattle.merge_frame.specs.Prelude.{◌≡◌, List, ℕ, ◌+◌, ◌-◌, ◌*◌, ◌/◌, ◌≤◌, ◌<◌, length, ℤ, Merge, scene_of, Accepted, row_words}
+use Rattle.std.specs.Prelude.{◌≡◌, ◌+◌, ◌-◌, ◌*◌, ◌/◌, ◌≤◌, ◌<◌}
+use Rattle.merge_frame.specs.Prelude.{List, ℕ, length, ℤ, Merge, scene_of, Accepted, row_words}
 use Rattle.geometry.specs.Shape.{output_length, work_length}
 use Rattle.merge_frame.specs.Progress.{Held}
 

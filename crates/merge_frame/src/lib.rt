@@ -3,7 +3,8 @@
 
 mod planes;
 
-ghost use Rattle.merge_frame.specs.Prelude.{◌≡◌, length, scene_of, merged};
+ghost use Rattle.std.specs.Prelude.{◌≡◌};
+ghost use Rattle.merge_frame.specs.Prelude.{length, scene_of, merged};
 ghost use Rattle.merge_frame.specs.Ready.{Lent, RowsLent};
 ghost use Rattle.merge_frame.specs.Progress.{merged_rows};
 

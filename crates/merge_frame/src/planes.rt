@@ -1,5 +1,6 @@
 // The two planes of a row parity: as many rows of the frame at a time as a tile has, half of them of the parity, between two rows of pairs of tiles.
-ghost use Rattle.merge_frame.specs.Prelude.{◌*◌, ◌/◌, ◌<◌, ◌≤◌, length, scene_of, Accepted, row_words, Stored};
+ghost use Rattle.std.specs.Prelude.{◌*◌, ◌/◌, ◌<◌, ◌≤◌};
+ghost use Rattle.merge_frame.specs.Prelude.{length, scene_of, Accepted, row_words, Stored};
 ghost use Rattle.merge_frame.specs.Ready.{ParityReady, BandReady};
 ghost use Rattle.merge_frame.specs.Progress.{RowsMerged, BandMerged};
 

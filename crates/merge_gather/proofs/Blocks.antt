@@ -1,6 +1,7 @@
 -- A row of the output by blocks, and a block by parts: a word of either is one of the row.
 use mathlib.Core.Path.{◌≡◌, refl, ap, ap₂, ◌∙◌, subst, fun_ext}
-use Rattle.merge_gather.specs.Prelude.{List, ℕ, zero, suc, ◌+◌, ◌-◌, ◌*◌, ◌/◌, ◌%◌, ◌≤◌, ◌<◌, arith, get_or, ℤ, pos, nat_abs, TileSide, Shape, side_of, row_words}
+use Rattle.std.specs.Prelude.{◌+◌, ◌-◌, ◌*◌, ◌/◌, ◌%◌, ◌≤◌, ◌<◌}
+use Rattle.merge_gather.specs.Prelude.{List, ℕ, zero, suc, arith, get_or, ℤ, pos, nat_abs, TileSide, Shape, side_of, row_words}
 use Rattle.sequences.specs.Write.{written, Writing, write-part}
 use Rattle.merge_gather.specs.declared.Span.{Span}
 use Rattle.merge_gather.specs.Gather.{Weights, windowed, corrected, start_of, word_over}

@@ -1,5 +1,6 @@
 -- The output's quotient without a division: by 2^32, rounding down, and then by the number of frames, as a product with its reciprocal.
-use Rattle.merge_gather.specs.Prelude.{◌≡◌, ap, [], ◌∷◌, ℕ, zero, suc, ◌+◌, ◌*◌, ◌/◌, ◌≤◌, ◌<◌, arith, lit<, ℤ, pos, negsuc, nat_abs, ◌+ℤ◌, ◌-ℤ◌, ◌*ℤ◌, ◌≤ℤ◌, ◌<ℤ◌, shr_z, clamp_z, upward}
+use Rattle.std.specs.Prelude.{◌≡◌, ◌∷◌, ◌+◌, ◌*◌, ◌/◌, ◌≤◌, ◌<◌, ◌+ℤ◌, ◌-ℤ◌, ◌*ℤ◌, ◌≤ℤ◌, ◌<ℤ◌}
+use Rattle.merge_gather.specs.Prelude.{ap, [], ℕ, zero, suc, arith, lit<, ℤ, pos, negsuc, nat_abs, shr_z, clamp_z, upward}
 use native.Mathlib.Nat.{mul-pos, le-div_iff_mul-le, div-lt_iff_lt-mul}
 use Rattle.algebra.specs.Vars.{vars6}
 use Rattle.algebra.specs.Ring.{◌⊞◌, ◌⊟◌, ◌⊠◌, #◌}

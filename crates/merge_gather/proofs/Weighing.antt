@@ -1,5 +1,6 @@
 -- Weights, words that are weighed, and the windowed sum of the four tiles over a sample, term by term.
-use Rattle.merge_gather.specs.Prelude.{◌≡◌, refl, sym, ap, subst, ◌∙◌, List, ℕ, ◌+◌, ◌*◌, ◌/◌, ◌%◌, ◌≤◌, ◌<◌, arith, set, get_or, tab, TileSide, windows, window16, side16, windows32, window32, side32, side_of, taken_most}
+use Rattle.std.specs.Prelude.{◌≡◌, ◌+◌, ◌*◌, ◌/◌, ◌%◌, ◌≤◌, ◌<◌}
+use Rattle.merge_gather.specs.Prelude.{refl, sym, ap, subst, ◌∙◌, List, ℕ, arith, set, get_or, tab, TileSide, windows, window16, side16, windows32, window32, side32, side_of, taken_most}
 use native.Mathlib.Nat.{mul-le-mul}
 use lib.Dec.{leb, leb→le}
 use lib.IntN.{ℤ, pos, nat_abs, ◌+ℤ◌, ◌*ℤ◌, +ℤ_idl}

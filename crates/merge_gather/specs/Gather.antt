@@ -1,5 +1,6 @@
 -- Inside this crate and merge_frame: the output as code gathers it, from corrections that are summed over the other frames first, and then windowed.
-use Rattle.merge_gather.specs.Prelude.{◌≡◌, cond, List, ◌++◌, ℕ, zero, suc, ◌+◌, ◌*◌, ◌/◌, ◌%◌, ◌<◌, eqb, get_or, ℤ, pos, ◌-ℤ◌, ◌*ℤ◌, clamp_z, upward, tab, windows, windows32, side_of}
+use Rattle.std.specs.Prelude.{◌≡◌, ◌++◌, ◌+◌, ◌*◌, ◌/◌, ◌%◌, ◌<◌, ◌-ℤ◌, ◌*ℤ◌}
+use Rattle.merge_gather.specs.Prelude.{cond, List, ℕ, zero, suc, eqb, get_or, ℤ, pos, clamp_z, upward, tab, windows, windows32, side_of}
 use Rattle.algebra.specs.Sums.{sum_z}
 use Rattle.recipe.specs.Side.{Side}
 use Rattle.recipe.specs.Output.{weight_in}

@@ -1,8 +1,8 @@
 -- Inside the crates of the merge and of the range: where two rows of pairs of tiles that are held have what the four tiles over a word of the frame take from it.
-use Rattle.std.specs.Prelude.{◌≡◌, ◌⊎◌}
+use Rattle.std.specs.Prelude.{◌≡◌, ◌⊎◌, ◌+◌, ◌-◌, ◌*◌, ◌/◌, ◌%◌, ◌≤◌, ◌<◌}
 use Rattle.std.proofs.Math.Path.{ap}
 use Rattle.std.proofs.Common.{◌∙◌, inl, inr, ⊎_elim}
-use Rattle.merge_gather.specs.Prelude.{List, ℕ, zero, suc, ◌+◌, ◌-◌, ◌*◌, ◌/◌, ◌%◌, ◌≤◌, ◌<◌, arith, get_or, ℤ, pos, Shape, AllowedSize, TileSide, Taking, row_words, slot_of, half_word, row_word}
+use Rattle.merge_gather.specs.Prelude.{List, ℕ, zero, suc, arith, get_or, ℤ, pos, Shape, AllowedSize, TileSide, Taking, row_words, slot_of, half_word, row_word}
 use Rattle.std.proofs.Math.Decide.{ℕ_discrete}
 use Rattle.geometry.specs.Read.{sample_at, plane_of}
 use Rattle.geometry.specs.ReadLaws.{index-frame}

@@ -1,5 +1,6 @@
 -- Each row of the frame lies in it, in the output and in the samples.
-use Rattle.merge_gather.specs.Prelude.{ℕ, ◌+◌, ◌*◌, ◌≤◌, ◌<◌, arith, Shape, row_stride, frame_stride, output_length}
+use Rattle.std.specs.Prelude.{◌+◌, ◌*◌, ◌≤◌, ◌<◌}
+use Rattle.merge_gather.specs.Prelude.{ℕ, arith, Shape, row_stride, frame_stride, output_length}
 use Rattle.std.proofs.Common.{mul_comm}
 use Rattle.sequences.specs.Place.{row_room}
 

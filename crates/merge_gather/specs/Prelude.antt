@@ -1,7 +1,7 @@
 -- The words of other crates that this crate's files share. Lemmas are not passed on: of those the `use` line says where they are.
-pub use Rattle.algebra.specs.Prelude.{Bool, List, SFits, ℕ, ℤ, [], ap, arith, cond, eqb, false, get_or, length, lit<, ltb, nat_abs, rules, negsuc, pos, refl, set, subst, suc, sym, to_z, true, w64, zero, ◌%◌, ◌*◌, ◌*ℤ◌, ◌++◌, ◌+◌, ◌+ℤ◌, ◌-◌, ◌-ℤ◌, ◌/◌, ◌<◌, ◌^◌, ◌∙◌, ◌∷◌, ◌≡◌, ◌≤◌}
+pub use Rattle.algebra.specs.Prelude.{Bool, List, SFits, ℕ, ℤ, [], ap, arith, cond, eqb, false, get_or, length, lit<, ltb, nat_abs, rules, negsuc, pos, refl, set, subst, suc, sym, to_z, true, w64, zero, ◌∙◌}
 pub use Rattle.std.specs.Int.Signed.{shr_z}
-pub use Rattle.std.specs.Prelude.{◌<ℤ◌, ◌≤ℤ◌}
+pub use Rattle.std.specs.Prelude.{◌<ℤ◌, ◌≤ℤ◌, ◌%◌, ◌*◌, ◌*ℤ◌, ◌++◌, ◌+◌, ◌+ℤ◌, ◌-◌, ◌-ℤ◌, ◌/◌, ◌<◌, ◌^◌, ◌∷◌, ◌≡◌, ◌≤◌}
 pub use Rattle.algebra.specs.Bound.{AtMost}
 pub use Rattle.algebra.specs.Clamp.{clamp_z}
 unfoldable pub use Rattle.algebra.specs.Nearest.{upward}

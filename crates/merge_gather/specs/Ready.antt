@@ -1,5 +1,6 @@
 -- Inside this crate and merge_frame: what a row of the output and a block of it require. A buffer that is only measured stands here as its length.
-use Rattle.merge_gather.specs.Prelude.{◌≡◌, List, ℕ, ◌+◌, ◌-◌, ◌*◌, ◌≤◌, ℤ, Shape, sample_length}
+use Rattle.std.specs.Prelude.{◌≡◌, ◌+◌, ◌-◌, ◌*◌, ◌≤◌}
+use Rattle.merge_gather.specs.Prelude.{List, ℕ, ℤ, Shape, sample_length}
 use Rattle.merge_gather.specs.declared.Span.{Span}
 use Rattle.merge_gather.specs.declared.Divisor.{Divisor}
 use Rattle.merge_gather.specs.Work.{Divided, Weighed, Inside, Over}

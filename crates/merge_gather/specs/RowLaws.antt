@@ -1,5 +1,6 @@
 -- Inside the crates of the merge and of the range: an output gets written row by row, one row parity after the other; after both it has all of its words.
-use Rattle.merge_gather.specs.Prelude.{◌≡◌, refl, sym, ap, subst, ◌∙◌, Bool, true, false, List, ℕ, zero, suc, ◌+◌, ◌-◌, ◌*◌, ◌/◌, ◌%◌, ◌≤◌, ◌<◌, arith, ltb, length, get_or, tab, written, TileSide}
+use Rattle.std.specs.Prelude.{◌≡◌, ◌+◌, ◌-◌, ◌*◌, ◌/◌, ◌%◌, ◌≤◌, ◌<◌}
+use Rattle.merge_gather.specs.Prelude.{refl, sym, ap, subst, ◌∙◌, Bool, true, false, List, ℕ, zero, suc, arith, ltb, length, get_or, tab, written, TileSide}
 use Rattle.std.proofs.Common.{add-mul, div-add-mod', ltb-true, ltb-false, ext_get_or}
 use Rattle.sequences.specs.TabLaws.{length-tab, get_d-tab}
 use Rattle.sequences.specs.Place.{row_below, column_below}

@@ -1,5 +1,6 @@
 -- Inside the crates of the merge and of the range: a row of pairs of tiles that the work area holds, and rows of the output that are written.
-use Rattle.merge_gather.specs.Prelude.{◌≡◌, List, ℕ, ◌+◌, ◌-◌, ◌*◌, ◌≤◌, ◌<◌, get_or, ℤ, pos, Taking, row_words, slot_of, row_word}
+use Rattle.std.specs.Prelude.{◌≡◌, ◌+◌, ◌-◌, ◌*◌, ◌≤◌, ◌<◌}
+use Rattle.merge_gather.specs.Prelude.{List, ℕ, get_or, ℤ, pos, Taking, row_words, slot_of, row_word}
 use Rattle.merge_tiles.specs.Toward.{Toward}
 use Rattle.merge_gather.specs.Work.{Words}
 

@@ -1,5 +1,6 @@
 -- Inside this crate and merge_frame: the two rows of pairs of correction tiles that the work area holds, and a word of the output worked out from them.
-use Rattle.merge_gather.specs.Prelude.{◌≡◌, List, ℕ, ◌+◌, ◌-◌, ◌*◌, ◌/◌, ◌%◌, ◌^◌, ◌≤◌, ◌<◌, length, get_or, ℤ, pos, nat_abs, Shape, row_stride, frame_stride, sample_length, Allowed, TileSide, side_of, taken_most, row_words, slot_of}
+use Rattle.std.specs.Prelude.{◌≡◌, ◌+◌, ◌-◌, ◌*◌, ◌/◌, ◌%◌, ◌^◌, ◌≤◌, ◌<◌}
+use Rattle.merge_gather.specs.Prelude.{List, ℕ, length, get_or, ℤ, pos, nat_abs, Shape, row_stride, frame_stride, sample_length, Allowed, TileSide, side_of, taken_most, row_words, slot_of}
 use Rattle.sequences.specs.Written.{written}
 use Rattle.merge_gather.specs.declared.Span.{Span}
 use Rattle.merge_gather.specs.Gather.{Weights, windowed, corrected, word_over}

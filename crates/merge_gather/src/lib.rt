@@ -1,7 +1,8 @@
 // A row of the output: at each sample the corrections of the four tiles over it, windowed, and the sample less their sum, rounded and held to 0..4095.
 #![tactic(auto)]
 
-ghost use Rattle.merge_gather.specs.Prelude.{◌≡◌, ◌+◌, ◌-◌, ◌*◌, ◌/◌, ◌%◌, ◌≤◌, ◌<◌, ◌^◌, pos, nat_abs, ◌+ℤ◌, ◌-ℤ◌, ◌*ℤ◌, length, get_or, shr_z, AtMost, clamp_z, TileSide, side16, side_of, taken_most};
+ghost use Rattle.std.specs.Prelude.{◌≡◌, ◌+◌, ◌-◌, ◌*◌, ◌/◌, ◌%◌, ◌≤◌, ◌<◌, ◌^◌, ◌+ℤ◌, ◌-ℤ◌, ◌*ℤ◌};
+ghost use Rattle.merge_gather.specs.Prelude.{pos, nat_abs, length, get_or, shr_z, AtMost, clamp_z, TileSide, side16, side_of, taken_most};
 ghost use Rattle.sequences.specs.Written.{written};
 ghost use Rattle.merge_gather.specs.Gather.{window_table, Weights, corrected, windowed, word_over};
 ghost use Rattle.merge_gather.specs.Work.{weight_most, part_most, sum_most, Divided, Weighed, row_span, further, Small, Inside, Roomy, word_from, row_written};

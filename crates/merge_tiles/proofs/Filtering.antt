@@ -1,5 +1,6 @@
 -- What is taken from a pair of side 16 where s is not 0: its sums with N·P'.
-use Rattle.merge_tiles.specs.Prelude.{◌≡◌, refl, sym, ap, ap₂, subst, ◌∙◌, List, [], ℕ, suc, ◌+◌, ◌*◌, ◌/◌, ◌%◌, ◌≤◌, ◌<◌, arith, ℤ, pos, nat_abs, ◌+ℤ◌, ◌-ℤ◌, ◌*ℤ◌, tab, side16, Merge, spatial_number, merged_sum, copy_at, spatial_at, taken_at, Scene, reference_tile, reference_root, tile_spatial, tile_here, scene_at, SpatialRange, small_most, spatial_correction_most, plane_in, side_by_side, either, Paired, copy_in, step_at, SumMost, SumRow, SumPair}
+use Rattle.std.specs.Prelude.{◌≡◌, ◌+◌, ◌*◌, ◌/◌, ◌%◌, ◌≤◌, ◌<◌, ◌+ℤ◌, ◌-ℤ◌, ◌*ℤ◌}
+use Rattle.merge_tiles.specs.Prelude.{refl, sym, ap, ap₂, subst, ◌∙◌, List, [], ℕ, suc, arith, ℤ, pos, nat_abs, tab, side16, Merge, spatial_number, merged_sum, copy_at, spatial_at, taken_at, Scene, reference_tile, reference_root, tile_spatial, tile_here, scene_at, SpatialRange, small_most, spatial_correction_most, plane_in, side_by_side, either, Paired, copy_in, step_at, SumMost, SumRow, SumPair}
 use Rattle.algebra.specs.Order.{abs-add, abs-mul-le}
 use Rattle.algebra.specs.Nearest.{away}
 use Rattle.sequences.specs.TabLaws.{tab-each}

@@ -1,5 +1,6 @@
 -- Inside the crates of the merge: what is known of a merge with tiles of a side that its tests have let through, and of a pair of its tiles.
-use Rattle.merge_tiles.specs.Prelude.{◌≡◌, List, ℕ, ◌/◌, ◌≤◌, ◌<◌, length, ℤ, Shape, BurstFits, SamplesFit, VectorsFit, Merge, side16, spatial_number}
+use Rattle.std.specs.Prelude.{◌≡◌, ◌/◌, ◌≤◌, ◌<◌}
+use Rattle.merge_tiles.specs.Prelude.{List, ℕ, length, ℤ, Shape, BurstFits, SamplesFit, VectorsFit, Merge, side16, spatial_number}
 use Rattle.merge_tiles.specs.declared.Site.{Site}
 
 pub record Accepted (side : ℕ) (m : Merge) (samples : List ℕ) (vectors : List ℤ) : Type 0 where

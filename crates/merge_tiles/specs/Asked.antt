@@ -1,5 +1,6 @@
 -- Inside the crates of the merge: what the steps of a pair of tiles of side n ask for.
-use Rattle.merge_tiles.specs.Prelude.{◌≡◌, List, ℕ, ◌+◌, ◌*◌, ◌<◌, length, ℤ, pos, AtMost, grid, Shape, Sampled, Side, Merge, reference_tile, scene_at}
+use Rattle.std.specs.Prelude.{◌≡◌, ◌+◌, ◌*◌, ◌<◌}
+use Rattle.merge_tiles.specs.Prelude.{List, ℕ, length, ℤ, pos, AtMost, grid, Shape, Sampled, Side, Merge, reference_tile, scene_at}
 use Rattle.merge_tiles.specs.declared.Site.{Site}
 use Rattle.merge_tiles.specs.Accepted.{Accepted, Sited}
 use Rattle.merge_tiles.specs.Sum.{TileOf, pair_at}

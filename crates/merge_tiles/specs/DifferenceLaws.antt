@@ -1,5 +1,6 @@
 -- Inside the crates of the merge: pairs of tiles of an accepted burst: samples up to 4095, so differences up to 4095.
-use Rattle.merge_tiles.specs.Prelude.{◌≡◌, sym, ap, ap₂, subst, ◌∙◌, List, [], ℕ, ◌+◌, ◌-◌, ◌*◌, ◌/◌, ◌%◌, ◌≤◌, ◌<◌, arith, length, get_or, ℤ, pos, nat_abs, ◌-ℤ◌, tab, Shape, sample_at, plane_of, read, Allowed, SamplesFit, ValuesFit, VectorsFit, Side, Merge, Scene, tile_at, reference_tile, other_tile, tile_difference, scene_at, LineMost, TileMost, side_by_side}
+use Rattle.std.specs.Prelude.{◌≡◌, ◌+◌, ◌-◌, ◌*◌, ◌/◌, ◌%◌, ◌≤◌, ◌<◌, ◌-ℤ◌}
+use Rattle.merge_tiles.specs.Prelude.{sym, ap, ap₂, subst, ◌∙◌, List, [], ℕ, arith, length, get_or, ℤ, pos, nat_abs, tab, Shape, sample_at, plane_of, read, Allowed, SamplesFit, ValuesFit, VectorsFit, Side, Merge, Scene, tile_at, reference_tile, other_tile, tile_difference, scene_at, LineMost, TileMost, side_by_side}
 use Rattle.algebra.specs.Prelude.{w32, to_z, of_z, to_z-of_z}
 use Rattle.algebra.specs.Bound.{AtMost, most_fits}
 use Rattle.algebra.specs.Order.{zarith, sub-pn, min-pn, abs-pn}

@@ -1,5 +1,6 @@
 -- Inside the crates of the merge: the noise numbers of a pair of tiles, which may both be 0.
-use Rattle.merge_tiles.specs.Prelude.{◌≡◌, sym, ◌∙◌, List, ℕ, ◌+◌, ◌<◌, arith, lit<, Scene, tile_noise}
+use Rattle.std.specs.Prelude.{◌≡◌, ◌+◌, ◌<◌}
+use Rattle.merge_tiles.specs.Prelude.{sym, ◌∙◌, List, ℕ, arith, lit<, Scene, tile_noise}
 use Rattle.std.proofs.Common.{below_none, below_more}
 use Rattle.merge_tiles.specs.declared.Site.{Site}
 use Rattle.merge_tiles.specs.Sum.{at_site, TileOf}

@@ -1,5 +1,6 @@
 -- Inside the crates of the merge: where the words of a half of a pair stand in a row of pairs, for either side. Word j of row i of half h is word n²·h + (n·i + j).
-use Rattle.merge_tiles.specs.Prelude.{◌≡◌, sym, subst, ℕ, ◌+◌, ◌*◌, ◌/◌, ◌%◌, ◌<◌, arith, TileSide}
+use Rattle.std.specs.Prelude.{◌≡◌, ◌+◌, ◌*◌, ◌/◌, ◌%◌, ◌<◌}
+use Rattle.merge_tiles.specs.Prelude.{sym, subst, ℕ, arith, TileSide}
 use Rattle.std.proofs.Common.{⊎_elim}
 
 -- what holds of 16 and of 32

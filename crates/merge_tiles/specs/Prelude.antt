@@ -1,5 +1,6 @@
 -- The words of other crates that this crate's files share. Lemmas are not passed on: of those the `use` line says where they are.
-pub use Rattle.algebra.specs.Prelude.{Bool, List, ℕ, ℤ, [], ap, ap₂, arith, eqb, false, get_or, length, lit<, lit≤, ltb, nat_abs, rules, pos, refl, subst, suc, sym, true, zero, ◌%◌, ◌*◌, ◌*ℤ◌, ◌+◌, ◌+ℤ◌, ◌-◌, ◌-ℤ◌, ◌/◌, ◌<◌, ◌^◌, ◌∙◌, ◌≡◌, ◌≤◌}
+pub use Rattle.std.specs.Prelude.{◌%◌, ◌*◌, ◌*ℤ◌, ◌+◌, ◌+ℤ◌, ◌-◌, ◌-ℤ◌, ◌/◌, ◌<◌, ◌^◌, ◌≡◌, ◌≤◌}
+pub use Rattle.algebra.specs.Prelude.{Bool, List, ℕ, ℤ, [], ap, ap₂, arith, eqb, false, get_or, length, lit<, lit≤, ltb, nat_abs, rules, pos, refl, subst, suc, sym, true, zero, ◌∙◌}
 pub use Rattle.algebra.specs.Bound.{AtMost}
 unfoldable pub use Rattle.sequences.specs.Grid.{cell, grid}
 unfoldable pub use Rattle.sequences.specs.Tab.{tab}

@@ -1,5 +1,6 @@
 -- Inside this crate, merge_gather and merge_frame: rows of pairs of correction tiles in the work area, two of them, each by halves of its pairs.
-use Rattle.merge_tiles.specs.Prelude.{◌≡◌, List, ℕ, ◌+◌, ◌-◌, ◌*◌, ◌/◌, ◌%◌, ◌≤◌, ◌<◌, length, get_or, ℤ, pos, nat_abs, written, Scene}
+use Rattle.std.specs.Prelude.{◌≡◌, ◌+◌, ◌-◌, ◌*◌, ◌/◌, ◌%◌, ◌≤◌, ◌<◌}
+use Rattle.merge_tiles.specs.Prelude.{List, ℕ, length, get_or, ℤ, pos, nat_abs, written, Scene}
 use Rattle.merge_tiles.specs.Sum.{taken_in, taken_most, Taking}
 use Rattle.merge_tiles.specs.Toward.{Toward}
 

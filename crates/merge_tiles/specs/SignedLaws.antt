@@ -1,5 +1,6 @@
 -- Sums and products of bounded numbers, as 64-bit code has them.
-use Rattle.algebra.specs.Prelude.{◌≡◌, ℕ, ◌+◌, ◌*◌, ◌^◌, T, ltb, ℤ, ◌+ℤ◌, ◌*ℤ◌, w32, w64, to_z-of_z}
+use Rattle.std.specs.Prelude.{◌≡◌, ◌+◌, ◌*◌, ◌^◌, ◌+ℤ◌, ◌*ℤ◌}
+use Rattle.algebra.specs.Prelude.{ℕ, T, ltb, ℤ, w32, w64, to_z-of_z}
 use mir.Val.{SFits, to_z, of_z, hbits}
 use Rattle.algebra.specs.Bound.{AtMost, add_most, mul_most, most_fits, widen-fits}
 use Rattle.algebra.specs.Fit.{abs-sfits}

@@ -1,5 +1,6 @@
 -- Inside the crates of the merge: lines stored one after the other, and a row of pairs stored pair by pair: its record, and how it starts, goes on and ends.
-use Rattle.merge_tiles.specs.Prelude.{◌≡◌, refl, sym, ap, subst, ◌∙◌, Bool, true, false, List, ℕ, zero, suc, ◌+◌, ◌-◌, ◌*◌, ◌/◌, ◌%◌, ◌≤◌, ◌<◌, arith, ltb, length, get_or, ℤ, pos, nat_abs, TileSide, Scene, side_by_side}
+use Rattle.std.specs.Prelude.{◌≡◌, ◌+◌, ◌-◌, ◌*◌, ◌/◌, ◌%◌, ◌≤◌, ◌<◌}
+use Rattle.merge_tiles.specs.Prelude.{refl, sym, ap, subst, ◌∙◌, Bool, true, false, List, ℕ, zero, suc, arith, ltb, length, get_or, ℤ, pos, nat_abs, TileSide, Scene, side_by_side}
 use Rattle.std.proofs.Common.{below_none, below_more, ltb-true, ltb-false}
 use Rattle.sequences.specs.Grid.{cell, cell-grid}
 use Rattle.sequences.specs.Write.{written, written_in, written-length}

@@ -1,5 +1,6 @@
 -- Inside this crate, merge_gather and merge_frame: the corrections of a pair of tiles, summed over the other frames and filtered, and the pair on the way there.
-use Rattle.merge_tiles.specs.Prelude.{◌≡◌, List, [], ℕ, ◌*◌, ◌^◌, ◌≤◌, ◌<◌, get_or, ℤ, nat_abs, grid, ValuesFit, side_by_side, either, taken_at, Scene, reference_tile, tile_noise, tile_difference, tile_here}
+use Rattle.std.specs.Prelude.{◌≡◌, ◌*◌, ◌^◌, ◌≤◌, ◌<◌}
+use Rattle.merge_tiles.specs.Prelude.{List, [], ℕ, get_or, ℤ, nat_abs, grid, ValuesFit, side_by_side, either, taken_at, Scene, reference_tile, tile_noise, tile_difference, tile_here}
 use Rattle.algebra.specs.Sums.{sum_z}
 use Rattle.merge_tiles.specs.declared.Site.{Site}
 use Rattle.recipe.specs.Correction.{correction_at}

@@ -1,5 +1,6 @@
 -- Inside the crates of the merge: the sum of a pair's corrections, frame by frame: its record, and how it starts, goes on and ends.
-use Rattle.merge_tiles.specs.Prelude.{◌≡◌, sym, ap, ap₂, subst, ◌∙◌, List, [], ℕ, ◌+◌, ◌*◌, ◌/◌, ◌%◌, ◌^◌, ◌≤◌, ◌<◌, arith, ℤ, pos, nat_abs, ◌+ℤ◌, tab, Side, plane_in, side_by_side, either, LineMost, TileMost, Scene, tile_noise, tile_difference}
+use Rattle.std.specs.Prelude.{◌≡◌, ◌+◌, ◌*◌, ◌/◌, ◌%◌, ◌^◌, ◌≤◌, ◌<◌, ◌+ℤ◌}
+use Rattle.merge_tiles.specs.Prelude.{sym, ap, ap₂, subst, ◌∙◌, List, [], ℕ, arith, ℤ, pos, nat_abs, tab, Side, plane_in, side_by_side, either, LineMost, TileMost, Scene, tile_noise, tile_difference}
 use Rattle.std.proofs.Common.{add-one, mul-le-mul_right}
 use Rattle.std.proofs.Math.Nat.{le_trans}
 use Rattle.algebra.specs.Order.{abs-add}

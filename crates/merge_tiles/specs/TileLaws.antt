@@ -1,5 +1,6 @@
 -- Inside the crates of the merge: r and V of a pair of tiles by their cells, and what is taken from a pair where s is 0.
-use Rattle.merge_tiles.specs.Prelude.{◌≡◌, sym, ap, subst, ◌∙◌, List, ℕ, suc, ◌+◌, ◌*◌, ◌/◌, ◌%◌, ◌≤◌, ◌<◌, arith, lit<, ℤ, nat_abs, Side, Merge, spatial_number, merged_sum, Scene, black_of, reference_tile, reference_root, tile_noise, tile_spatial, tile_here, scene_at, either}
+use Rattle.std.specs.Prelude.{◌≡◌, ◌+◌, ◌*◌, ◌/◌, ◌%◌, ◌≤◌, ◌<◌}
+use Rattle.merge_tiles.specs.Prelude.{sym, ap, subst, ◌∙◌, List, ℕ, suc, arith, lit<, ℤ, nat_abs, Side, Merge, spatial_number, merged_sum, Scene, black_of, reference_tile, reference_root, tile_noise, tile_spatial, tile_here, scene_at, either}
 use Rattle.std.proofs.Common.{le_trans, mul-le-mul_right}
 use Rattle.sequences.specs.Grid.{cell, cell-grid, grid-ext}
 use Rattle.recipe.specs.NoiseNumber.{tile_root, noise_number}

@@ -1,5 +1,6 @@
 -- Inside this crate and merge_frame: a list that comes nearer to the words that it shall have, part by part, whatever order the parts are written in.
-use Rattle.algebra.specs.Prelude.{◌≡◌, refl, sym, subst, ◌∙◌, Bool, true, false, List, ℕ, ◌+◌, ◌-◌, ◌<◌, ◌≤◌, arith, ltb, length, get_or}
+use Rattle.std.specs.Prelude.{◌≡◌, ◌+◌, ◌-◌, ◌<◌, ◌≤◌}
+use Rattle.algebra.specs.Prelude.{refl, sym, subst, ◌∙◌, Bool, true, false, List, ℕ, arith, ltb, length, get_or}
 use Rattle.std.proofs.Common.{ltb-true, ltb-false, ext_get_or}
 use Rattle.sequences.specs.Write.{written, written_in, written-before, written_after, written-length}
 

@@ -1,5 +1,6 @@
 // What is taken from a pair of tiles: its noise numbers, its differences to the other frames, P summed over them, and the spatial filter's P'.
-ghost use Rattle.merge_tiles.specs.Prelude.{◌≡◌, ◌≤◌, ◌<◌, pos, grid, side16, black_of, scene_at, noise_most, small_most, Paired, either, filtered_sums, SamplePair, SumPair};
+ghost use Rattle.std.specs.Prelude.{◌≡◌, ◌≤◌, ◌<◌};
+ghost use Rattle.merge_tiles.specs.Prelude.{pos, grid, side16, black_of, scene_at, noise_most, small_most, Paired, either, filtered_sums, SamplePair, SumPair};
 ghost use Rattle.recipe.specs.NoiseNumber.{noise_number};
 ghost use Rattle.merge_tiles.specs.Accepted.{Accepted, Sited, Tuned, spatial_in};
 ghost use Rattle.merge_tiles.specs.Sum.{Summed, Taken};

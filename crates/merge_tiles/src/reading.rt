@@ -1,5 +1,6 @@
 // Pairs of tiles, read from a frame: T0, and its differences to Tz.
-ghost use Rattle.merge_tiles.specs.Prelude.{◌≡◌, ◌+◌, ◌≤◌, pos, ◌+ℤ◌, ◌-ℤ◌, length, get_or, AtMost, tab, grid, cell, ValuesFit, sample_at, side16, tile_at, tile_difference, scene_at};
+ghost use Rattle.std.specs.Prelude.{◌≡◌, ◌+◌, ◌≤◌, ◌+ℤ◌, ◌-ℤ◌};
+ghost use Rattle.merge_tiles.specs.Prelude.{pos, length, get_or, AtMost, tab, grid, cell, ValuesFit, sample_at, side16, tile_at, tile_difference, scene_at};
 ghost use Rattle.geometry.specs.Tiles.{origin};
 ghost use Rattle.merge_view.specs.View.{Near};
 ghost use Rattle.merge_tiles.specs.Sum.{TileFits, pair_at};

@@ -1,5 +1,6 @@
 // Rows of pairs of correction tiles in the work area, by halves of the pairs, and a place for a row of either parity.
-ghost use Rattle.merge_tiles.specs.Prelude.{◌≡◌, ◌+◌, ◌-◌, ◌*◌, ◌/◌, ◌≤◌, ◌<◌, pos, length, get_or, cell, written, side16, scene_at};
+ghost use Rattle.std.specs.Prelude.{◌≡◌, ◌+◌, ◌-◌, ◌*◌, ◌/◌, ◌≤◌, ◌<◌};
+ghost use Rattle.merge_tiles.specs.Prelude.{pos, length, get_or, cell, written, side16, scene_at};
 ghost use Rattle.merge_tiles.specs.Accepted.{Accepted};
 ghost use Rattle.merge_tiles.specs.Rows.{row_words, slot_of, Stored, Spread};
 

@@ -1,5 +1,6 @@
 -- The words of other crates that this crate's files share. Lemmas are not passed on: of those the `use` line says where they are.
-pub use Rattle.algebra.specs.Prelude.{ℕ, ℤ, ap, arith, eqb, get_or, length, lit<, lit≤, nat_abs, rules, pos, refl, subst, sym, ◌*◌, ◌*ℤ◌, ◌+◌, ◌-◌, ◌-ℤ◌, ◌/◌, ◌<◌, ◌^◌, ◌∙◌, ◌≡◌, ◌≤◌}
+pub use Rattle.std.specs.Prelude.{◌*◌, ◌*ℤ◌, ◌+◌, ◌-◌, ◌-ℤ◌, ◌/◌, ◌<◌, ◌^◌, ◌≡◌, ◌≤◌}
+pub use Rattle.algebra.specs.Prelude.{ℕ, ℤ, ap, arith, eqb, get_or, length, lit<, lit≤, nat_abs, rules, pos, refl, subst, sym, ◌∙◌}
 unfoldable pub use Rattle.sequences.specs.Grid.{cell, grid}
 unfoldable pub use Rattle.sequences.specs.Tab.{tab}
 pub use Rattle.geometry.specs.Fits.{TileSide, ValuesFit}

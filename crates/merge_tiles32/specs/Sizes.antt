@@ -1,5 +1,6 @@
 -- Inside this crate: how large P of a tile of side 32 is, whatever the differences.
-use Rattle.merge_tiles32.specs.Prelude.{ℕ, ◌+◌, ◌*◌, ◌/◌, ◌^◌, ◌≤◌, arith, lit≤, lit<, ℤ, nat_abs, ◌-ℤ◌, ◌*ℤ◌, side32, long_noise_most}
+use Rattle.std.specs.Prelude.{◌+◌, ◌*◌, ◌/◌, ◌^◌, ◌≤◌, ◌-ℤ◌, ◌*ℤ◌}
+use Rattle.merge_tiles32.specs.Prelude.{ℕ, arith, lit≤, lit<, ℤ, nat_abs, side32, long_noise_most}
 use Rattle.std.proofs.Common.{le_trans, mul-le-mul_right, le_refl}
 use Rattle.algebra.specs.Order.{abs-sub, abs-mul-le}
 use Rattle.algebra.specs.SumLaws.{abs-sum-bound}

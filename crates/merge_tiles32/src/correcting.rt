@@ -1,5 +1,6 @@
 // What is taken from a pair of tiles of side 32: its noise numbers, its differences to the other frames, and P summed over them.
-ghost use Rattle.merge_tiles32.specs.Prelude.{◌≡◌, ◌≤◌, pos, grid, side32, scene_at, long_noise_most, Summed, Taken};
+ghost use Rattle.std.specs.Prelude.{◌≡◌, ◌≤◌};
+ghost use Rattle.merge_tiles32.specs.Prelude.{pos, grid, side32, scene_at, long_noise_most, Summed, Taken};
 ghost use Rattle.recipe.specs.NoiseNumber.{noise_number};
 ghost use Rattle.merge_tiles.specs.Accepted.{Accepted, Sited};
 ghost use Rattle.merge_tiles.specs.Asked.{Correctable};

@@ -1,5 +1,6 @@
 // Pairs of tiles of side 32, read from a frame: T0, and its differences to Tz.
-ghost use Rattle.merge_tiles32.specs.Prelude.{◌≡◌, ◌+◌, pos, ◌-ℤ◌, length, get_or, tab, grid, cell, ValuesFit, sample_at, side32, tile_at, tile_difference, scene_at, TileFits, pair_at};
+ghost use Rattle.std.specs.Prelude.{◌≡◌, ◌+◌, ◌-ℤ◌};
+ghost use Rattle.merge_tiles32.specs.Prelude.{pos, length, get_or, tab, grid, cell, ValuesFit, sample_at, side32, tile_at, tile_difference, scene_at, TileFits, pair_at};
 ghost use Rattle.merge_tiles.specs.Asked.{Readable, Comparable};
 
 use crate::HALF_SIDE;

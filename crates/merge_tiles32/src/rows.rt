@@ -1,5 +1,6 @@
 // Rows of pairs of correction tiles of side 32 in the work area, by halves of the pairs.
-ghost use Rattle.merge_tiles32.specs.Prelude.{◌≡◌, ◌+◌, ◌-◌, ◌*◌, ◌/◌, ◌≤◌, ◌<◌, pos, length, get_or, cell, side32, scene_at, row_words, Stored, Spread};
+ghost use Rattle.std.specs.Prelude.{◌≡◌, ◌+◌, ◌-◌, ◌*◌, ◌/◌, ◌≤◌, ◌<◌};
+ghost use Rattle.merge_tiles32.specs.Prelude.{pos, length, get_or, cell, side32, scene_at, row_words, Stored, Spread};
 ghost use Rattle.sequences.specs.Write.{written};
 ghost use Rattle.merge_tiles.specs.Accepted.{Accepted};
 

@@ -1,5 +1,6 @@
 -- A frame's part lies in the burst, and its planes are half as wide and high.
-use Rattle.merge_view.specs.Prelude.{◌≡◌, ap, List, ℕ, ◌+◌, ◌-◌, ◌*◌, ◌/◌, ◌≤◌, ◌<◌, arith, length, take, drop, Shape, frame_stride, sample_length, Sampled}
+use Rattle.std.specs.Prelude.{◌≡◌, ◌+◌, ◌-◌, ◌*◌, ◌/◌, ◌≤◌, ◌<◌}
+use Rattle.merge_view.specs.Prelude.{ap, List, ℕ, arith, length, take, drop, Shape, frame_stride, sample_length, Sampled}
 use Rattle.geometry.specs.ShapeLaws.{samples-most}
 use Rattle.geometry.specs.ReadLaws.{frame-room}
 use Rattle.merge_view.specs.View.{frame_part, Planar}

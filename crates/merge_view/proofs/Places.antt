@@ -1,5 +1,6 @@
 -- Places of a plane are places of its frame, and a frame is small.
-use Rattle.merge_view.specs.Prelude.{◌≡◌, ap, ◌∙◌, List, ℕ, ◌+◌, ◌*◌, ◌/◌, ◌%◌, ◌^◌, ◌≤◌, ◌<◌, arith, lit≤, length, get_or, ℤ, pos, negsuc, nat_abs, ◌+ℤ◌, ◌≤ℤ◌, tab, sample_index, sample_at, plane_of, inside, read}
+use Rattle.std.specs.Prelude.{◌≡◌, ◌+◌, ◌*◌, ◌/◌, ◌%◌, ◌^◌, ◌≤◌, ◌<◌, ◌+ℤ◌, ◌≤ℤ◌}
+use Rattle.merge_view.specs.Prelude.{ap, ◌∙◌, List, ℕ, arith, lit≤, length, get_or, ℤ, pos, negsuc, nat_abs, tab, sample_index, sample_at, plane_of, inside, read}
 use native.Mathlib.Nat.{le_trans, mul-le-mul, mul-le-mul_right, add-mul}
 use Rattle.sequences.specs.Grid.{tab-ext}
 use Rattle.geometry.specs.ReadLaws.{inside-same}

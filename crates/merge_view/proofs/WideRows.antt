@@ -1,5 +1,6 @@
 -- A row of a pair of side 32 that reaches over an edge is two rows of thirty-two, one after the other.
-use Rattle.merge_view.specs.Prelude.{◌≡◌, ap, ap₂, ◌∙◌, List, ℕ, ◌+◌, ◌*◌, ◌/◌, ◌%◌, arith, length, get_or, ℤ, pos, ◌+ℤ◌, tab, inside}
+use Rattle.std.specs.Prelude.{◌≡◌, ◌+◌, ◌*◌, ◌/◌, ◌%◌, ◌+ℤ◌}
+use Rattle.merge_view.specs.Prelude.{ap, ap₂, ◌∙◌, List, ℕ, arith, length, get_or, ℤ, pos, tab, inside}
 use lib.IntN.{+ℤ_assoc}
 use Rattle.sequences.specs.TabLaws.{get_d-tab}
 use Rattle.sequences.specs.Write.{written, write-start, write-part, write_done, written_all}

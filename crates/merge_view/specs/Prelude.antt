@@ -1,6 +1,6 @@
 -- The words of other crates that this crate's files share. Lemmas are not passed on: of those the `use` line says where they are.
-pub use Rattle.algebra.specs.Prelude.{List, ℕ, ℤ, [], ap, ap₂, arith, drop, get_or, length, lit≤, nat_abs, negsuc, pos, refl, sym, take, ◌%◌, ◌*◌, ◌+◌, ◌+ℤ◌, ◌-◌, ◌/◌, ◌<◌, ◌^◌, ◌∙◌, ◌∷◌, ◌≡◌, ◌≤◌}
-pub use Rattle.std.specs.Prelude.{◌≤ℤ◌}
+pub use Rattle.algebra.specs.Prelude.{List, ℕ, ℤ, [], ap, ap₂, arith, drop, get_or, length, lit≤, nat_abs, negsuc, pos, refl, sym, take, ◌∙◌}
+pub use Rattle.std.specs.Prelude.{◌≤ℤ◌, ◌%◌, ◌*◌, ◌+◌, ◌+ℤ◌, ◌-◌, ◌/◌, ◌<◌, ◌^◌, ◌∷◌, ◌≡◌, ◌≤◌}
 unfoldable pub use Rattle.sequences.specs.Grid.{grid}
 pub use Rattle.sequences.specs.Tab.{tab}
 pub use Rattle.geometry.specs.Fits.{Allowed, Sampled}

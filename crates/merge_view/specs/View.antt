@@ -1,5 +1,6 @@
 -- What a view of one plane reads: samples of the plane, and tiles of it and of the plane beside it, by the list of its frame's samples.
-use Rattle.merge_view.specs.Prelude.{◌≡◌, List, ℕ, ◌+◌, ◌*◌, ◌/◌, ◌%◌, ◌^◌, ◌≤◌, ◌<◌, length, take, drop, ℤ, pos, nat_abs, ◌+ℤ◌, tab, grid, Shape, frame_stride, Image, sample_at, plane_of, inside, read}
+use Rattle.std.specs.Prelude.{◌≡◌, ◌+◌, ◌*◌, ◌/◌, ◌%◌, ◌^◌, ◌≤◌, ◌<◌, ◌+ℤ◌}
+use Rattle.merge_view.specs.Prelude.{List, ℕ, length, take, drop, ℤ, pos, nat_abs, tab, grid, Shape, frame_stride, Image, sample_at, plane_of, inside, read}
 
 -- the row length of a frame of `count` words, whose planes have `height` rows
 abbrev pub row_length_of : (count height : ℕ) → ℕ

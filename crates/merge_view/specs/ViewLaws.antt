@@ -1,8 +1,8 @@
 -- A view of a frame's part of the burst reads the burst's plane.
-use Rattle.merge_view.specs.Prelude.{◌≡◌, sym, ap, ◌∙◌, List, ℕ, ◌+◌, ◌*◌, ◌/◌, ◌<◌, arith, ℤ, pos, ◌+ℤ◌, Shape, frame_stride, sample_length, Allowed, Image, sample_index, sample_at, plane_of, read}
+use Rattle.merge_view.specs.Prelude.{sym, ap, ◌∙◌, List, ℕ, arith, ℤ, pos, Shape, frame_stride, sample_length, Allowed, Image, sample_index, sample_at, plane_of, read}
 use Rattle.std.proofs.Math.Nat.{mul_comm}
 use Rattle.std.proofs.Common.{mul-div_cancel, length-take, length-drop, get_or-drop}
-use Rattle.std.specs.Prelude.{length}
+use Rattle.std.specs.Prelude.{length, ◌≡◌, ◌+◌, ◌*◌, ◌/◌, ◌<◌, ◌+ℤ◌}
 use Rattle.std.proofs.Math.ListN.{get_or}
 use Rattle.std.proofs.Math.Seq.{get_or-take}
 use Rattle.sequences.specs.Grid.{grid-ext}

@@ -3,7 +3,8 @@
 
 pub mod thirty_two;
 
-ghost use Rattle.merge_view.specs.Prelude.{◌≡◌, ◌+◌, ◌*◌, ◌/◌, ◌%◌, ◌≤◌, ◌<◌, pos, ◌+ℤ◌, length, get_or, tab, sample_at, inside, Sampled};
+ghost use Rattle.std.specs.Prelude.{◌≡◌, ◌+◌, ◌*◌, ◌/◌, ◌%◌, ◌≤◌, ◌<◌, ◌+ℤ◌};
+ghost use Rattle.merge_view.specs.Prelude.{pos, length, get_or, tab, sample_at, inside, Sampled};
 ghost use Rattle.merge_view.specs.View.{pair_of, pair_row, plane_pair, Near, RowPlace, FrameRows, RowStart};
 
 use geometry::Shape;

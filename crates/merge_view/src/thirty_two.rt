@@ -1,5 +1,6 @@
 // Pairs of tiles of side 32 (request L8), beside those of side 16; only a row that reaches over an edge is read as two rows of thirty-two.
-ghost use Rattle.merge_view.specs.Prelude.{◌≡◌, ◌+◌, ◌*◌, ◌/◌, ◌%◌, ◌≤◌, ◌<◌, pos, ◌+ℤ◌, length, get_or, tab, sample_at, inside, Sampled};
+ghost use Rattle.std.specs.Prelude.{◌≡◌, ◌+◌, ◌*◌, ◌/◌, ◌%◌, ◌≤◌, ◌<◌, ◌+ℤ◌};
+ghost use Rattle.merge_view.specs.Prelude.{pos, length, get_or, tab, sample_at, inside, Sampled};
 ghost use Rattle.sequences.specs.Written.{written};
 ghost use Rattle.merge_view.specs.View.{pair_of, pair_row, plane_pair, Near, RowPlace};
 

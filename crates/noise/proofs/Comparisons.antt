@@ -1,5 +1,6 @@
 -- The code's float comparisons decide the tests of the definitions, by cases on the float.
-use Rattle.noise.specs.Prelude.{◌≡◌, refl, sym, ◌∙◌, true, false, not, ℕ, zero, suc, ◌+◌, ◌*◌, ◌^◌, ◌<◌, arith, ltb, ℤ, pos, Float, nan, inf, fin, up, down, lt}
+use Rattle.std.specs.Prelude.{◌≡◌, ◌+◌, ◌*◌, ◌^◌, ◌<◌}
+use Rattle.noise.specs.Prelude.{refl, sym, ◌∙◌, true, false, not, ℕ, zero, suc, arith, ltb, ℤ, pos, Float, nan, inf, fin, up, down, lt}
 use native.Mathlib.Nat.{mul-one, one-mul, zero-mul, add-zero, mul-pos}
 use lib.Ieee.Fits.{up_pos}
 use borrow.Author.Tests.{lt-ltb, ltb-true}

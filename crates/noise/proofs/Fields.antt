@@ -1,5 +1,6 @@
 -- What a float's sign, exponent field and fraction say of its value times 1024, cut to a whole number: a shift of the digits.
-use Rattle.noise.specs.Prelude.{◌≡◌, refl, sym, ap, subst, ◌∙◌, Bool, true, false, not, cond, ◌||◌, ℕ, zero, suc, ◌+◌, ◌-◌, ◌*◌, ◌/◌, ◌%◌, ◌^◌, ◌≤◌, ◌<◌, arith, Float, nan, inf, fin, binary64, up, down, odd, fits, of_bits, of_fields, to_bits}
+use Rattle.std.specs.Prelude.{◌≡◌, ◌||◌, ◌+◌, ◌-◌, ◌*◌, ◌/◌, ◌%◌, ◌^◌, ◌≤◌, ◌<◌}
+use Rattle.noise.specs.Prelude.{refl, sym, ap, subst, ◌∙◌, Bool, true, false, not, cond, ℕ, zero, suc, arith, Float, nan, inf, fin, binary64, up, down, odd, fits, of_bits, of_fields, to_bits}
 use native.Mathlib.Nat.{zero-mul, mul_assoc, mul_left_comm, mul_right_comm, mul-le-mul_right, le_of_mul-le-mul_right, div-eq_of_lt, lt_of_lt_of_le, le_trans, mod-lt, lt_of_not-le, not-le_of_lt, mul-le-mul}
 use lib.Bits.{bit_and, bit_or, and_mask, or_shifted_r}
 use lib.Pow.{pow_pos, pow_mono, pow-add, shl-shr, shr-shr, field}

@@ -1,5 +1,6 @@
 -- Inside the crates of the merge: m of each bin (u, v), u and v up to 8, as a table.
-use Rattle.noise.specs.Prelude.{◌≡◌, refl, List, [], ◌∷◌, ℕ, tab, grid, frequency, distance}
+use Rattle.std.specs.Prelude.{◌≡◌, ◌∷◌}
+use Rattle.noise.specs.Prelude.{refl, List, [], ℕ, tab, grid, frequency, distance}
 use Rattle.recipe.specs.Root.{root_in, whole_root}
 
 unfoldable pub distances : List (List ℕ)

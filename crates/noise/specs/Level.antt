@@ -1,5 +1,6 @@
 -- Tests of a float's value, and its floor in units of 1/1024. The value of `fin s m e` is m · 2 ^ e, negative where s is true: the fraction (m * up e) / down e.
-use Rattle.noise.specs.Prelude.{Bool, true, false, not, ◌&&◌, ℕ, ◌*◌, ◌/◌, ltb, Float, nan, inf, fin, up, down}
+use Rattle.std.specs.Prelude.{◌&&◌, ◌*◌, ◌/◌}
+use Rattle.noise.specs.Prelude.{Bool, true, false, not, ℕ, ltb, Float, nan, inf, fin, up, down}
 
 -- "negative or not finite"; "Negative zero is zero"
 abbrev pub invalid : Float → Bool

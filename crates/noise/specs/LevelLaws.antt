@@ -1,8 +1,8 @@
 -- The levels of any noise are at most 65536 and 4194304, since its curve's numbers lie between 0 and the limits of refusal 9; and what refusals 9 and 10 let through.
-use Rattle.noise.specs.Prelude.{◌≡◌, refl, sym, ap, subst, true, false, not, ◌||◌, ℕ, zero, suc, ◌*◌, ◌≤◌, arith, Float, nan, inf, fin, up, down, first}
+use Rattle.noise.specs.Prelude.{refl, sym, ap, subst, true, false, not, ℕ, zero, suc, arith, Float, nan, inf, fin, up, down, first}
 use Rattle.std.proofs.Math.Nat.{div-le_of_le-mul}
 use Rattle.std.proofs.Common.{le_trans, mul-le-mul_right, zero-mul, leb→le, le→leb, eqb→eq, ltb-false}
-use Rattle.std.specs.Prelude.{T, ltb, eqb}
+use Rattle.std.specs.Prelude.{T, ltb, eqb, ◌≡◌, ◌||◌, ◌*◌, ◌≤◌}
 use Rattle.std.specs.Float.Ieee.Fits.{and_l, and_r, and_i}
 use Rattle.refusals.specs.Numbers as no
 use Rattle.refusals.specs.TestLaws.{among, passed, refuse-not}

@@ -1,5 +1,6 @@
 -- The levels Ls and Lr of a noise, and refusals 8, 9, 10, 18 and 24.
-use Rattle.noise.specs.Prelude.{Bool, ◌||◌, List, [], ◌∷◌, ℕ, ltb, get_or, refuse, first}
+use Rattle.std.specs.Prelude.{◌||◌, ◌∷◌}
+use Rattle.noise.specs.Prelude.{Bool, List, [], ℕ, ltb, get_or, refuse, first}
 use Rattle.refusals.specs.Numbers as no
 use Rattle.refusals.specs.After.{after}
 use Rattle.refusals.specs.Some.{some}

@@ -1,5 +1,6 @@
 -- V's bounds and its monotony in each of its arguments.
-use Rattle.noise.specs.Prelude.{◌≡◌, ℕ, ◌≤◌, arith, lit≤, side16, side32, variance, noise_number}
+use Rattle.std.specs.Prelude.{◌≡◌, ◌≤◌}
+use Rattle.noise.specs.Prelude.{ℕ, arith, lit≤, side16, side32, variance, noise_number}
 use Rattle.std.proofs.Common.{le_trans, mul-le-mul, mul-le-mul_left, zero-mul}
 use Rattle.std.proofs.Math.Nat.{add-le-add, mul-zero, zero-div}
 use Rattle.recipe.specs.Side.{Side}

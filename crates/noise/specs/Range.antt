@@ -1,5 +1,6 @@
 -- What V is worked out for, inside this crate's contracts.
-use Rattle.algebra.specs.Prelude.{ℕ, ◌≤◌}
+use Rattle.std.specs.Prelude.{◌≤◌}
+use Rattle.algebra.specs.Prelude.{ℕ}
 
 -- the bounds of refusals 9 and 10, and r's own for samples of 16 bits
 pub record InRange (t ls lr r : ℕ) : Type 0 where

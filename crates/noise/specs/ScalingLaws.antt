@@ -1,8 +1,8 @@
 -- A curve that passes refusal 8 stays free of NaN and of negative numbers by ISO scaling, since the factors are finite and not negative; it can overflow to infinity.
-use Rattle.noise.specs.Prelude.{◌≡◌, refl, sym, ap, subst, ◌∙◌, Bool, true, false, not, cond, ◌&&◌, ◌||◌, arith, pos, Float, nan, inf, fin, binary64, up, down, odd, units, round, size, nearest, mul, div, of_int, le, lt, eq}
+use Rattle.noise.specs.Prelude.{refl, sym, ap, subst, ◌∙◌, Bool, true, false, not, cond, arith, pos, Float, nan, inf, fin, binary64, up, down, odd, units, round, size, nearest, mul, div, of_int, le, lt, eq}
 use Prim.Native.Nat.{ℕ, zero, suc, ◌-◌, ◌*◌, ◌/◌, ◌%◌, ◌^◌, ◌<◌, ◌≤◌, compare}
 use Rattle.std.proofs.Common.{mul-one, zero-mul, mul-zero, mul_right_comm, mul-le-mul, mul-le-mul_right, le_of_mul-le-mul_right, le_of_eq, le_of_lt, le_trans, mul-pos, ltb→lt, eqb→eq, lit≤, ltb-false}
-use Rattle.std.specs.Prelude.{T, ltb, eqb}
+use Rattle.std.specs.Prelude.{T, ltb, eqb, ◌≡◌, ◌&&◌, ◌||◌}
 use Rattle.std.specs.Float.Ieee.Exact.{HasValue, odd_sign}
 use Rattle.std.specs.Float.Ieee.Fits.{down_pos, and_l}
 use Rattle.std.specs.Float.Ieee.Order.{round_mono}

@@ -1,5 +1,6 @@
 -- V' at its bounds, and as the code works it out.
-use Rattle.algebra.specs.Prelude.{◌≡◌, refl, sym, ap, ap₂, subst, ◌∙◌, Bool, true, false, cond, ℕ, ◌+◌, ◌-◌, ◌*◌, ◌/◌, ◌≤◌, ◌<◌, arith, lit≤, lit<, leb, ltb}
+use Rattle.std.specs.Prelude.{◌≡◌, ◌+◌, ◌-◌, ◌*◌, ◌/◌, ◌≤◌, ◌<◌}
+use Rattle.algebra.specs.Prelude.{refl, sym, ap, ap₂, subst, ◌∙◌, Bool, true, false, cond, ℕ, arith, lit≤, lit<, leb, ltb}
 use Rattle.std.proofs.Common.{le-ltb, ltb-true, ltb-false, le_trans, mul-le-mul, mul-le-mul_left, mul_comm, mul_assoc, le-div_iff_mul-le, div-mul-le_self}
 use Rattle.noise.specs.Prelude.{leb→le, side16, variance, frequency, distance, spatial_number}
 use Rattle.std.proofs.Math.Nat.{add-le-add}

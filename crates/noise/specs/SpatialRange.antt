@@ -1,5 +1,6 @@
 -- What V' is worked out for, inside the crates of the merge.
-use Rattle.algebra.specs.Prelude.{ℕ, ◌*◌, ◌+◌, ◌≤◌}
+use Rattle.std.specs.Prelude.{◌*◌, ◌+◌, ◌≤◌}
+use Rattle.algebra.specs.Prelude.{ℕ}
 
 -- the bounds of refusals 9 and 24, and r's own for samples up to 4095; N is 1 to 8
 pub record SpatialRange (s ls lr r frames : ℕ) : Type 0 where

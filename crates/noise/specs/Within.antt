@@ -1,6 +1,6 @@
 -- What the floor of a float asks of it. Inner vocabulary.
-use Rattle.algebra.specs.Prelude.{Bool, false, not, ◌&&◌, ◌||◌, ℕ, ◌*◌, eqb, leb}
-use Rattle.std.specs.Prelude.{Float}
+use Rattle.algebra.specs.Prelude.{Bool, false, not, ℕ, eqb, leb}
+use Rattle.std.specs.Prelude.{Float, ◌&&◌, ◌||◌, ◌*◌}
 use Rattle.std.specs.Float.{nan, inf, fin}
 use Rattle.std.specs.Float.Ieee.{up, down}
 

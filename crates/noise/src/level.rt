@@ -1,5 +1,6 @@
 // The curve after ISO, its tests, and the floor of 1024 times a float.
-ghost use Rattle.algebra.specs.Prelude.{◌≡◌, T};
+ghost use Rattle.std.specs.Prelude.{◌≡◌};
+ghost use Rattle.algebra.specs.Prelude.{T};
 ghost use Rattle.refusals.specs.Tests.{first};
 ghost use Rattle.noise.specs.Curve.{at_iso, curve_of};
 ghost use Rattle.noise.specs.Level.{invalid, floor1024};

@@ -4,7 +4,8 @@
 pub mod level;
 pub mod spatial;
 
-ghost use Rattle.noise.specs.Prelude.{◌≡◌, ◌≤◌, side16, side32, noise_number};
+ghost use Rattle.std.specs.Prelude.{◌≡◌, ◌≤◌};
+ghost use Rattle.noise.specs.Prelude.{side16, side32, noise_number};
 ghost use Rattle.noise.specs.Levels.{levels_of, level_refusal, strength_refusal, black_refusal, spatial_refusal};
 ghost use Rattle.recipe.specs.Sides.{side_of};
 ghost use Rattle.noise.specs.Range.{InRange};

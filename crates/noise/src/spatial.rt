@@ -1,5 +1,6 @@
 // V' of each bin of a tile, for the spatial filter (request L13).
-ghost use Rattle.noise.specs.Prelude.{◌≡◌, ℕ, ◌≤◌, ◌<◌, ◌*◌, ◌/◌, get_or, tab, grid, side16, variance, spatial_number};
+ghost use Rattle.std.specs.Prelude.{◌≡◌, ◌≤◌, ◌<◌, ◌*◌, ◌/◌};
+ghost use Rattle.noise.specs.Prelude.{ℕ, get_or, tab, grid, side16, variance, spatial_number};
 ghost use Rattle.noise.specs.SpatialRange.{SpatialRange, scale_most};
 
 // m of each bin: the whole root of 256·(u² + v²). Indices above 8 count as 16 minus themselves, and have no lines of their own.

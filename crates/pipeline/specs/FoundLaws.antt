@@ -1,5 +1,6 @@
 -- The vectors that alignment finds are such as merge accepts: no part is beyond the bound of level 0.
-use Rattle.algebra.specs.Prelude.{List, ℕ, ◌≤◌, arith, pos, nat_abs}
+use Rattle.std.specs.Prelude.{◌≤◌}
+use Rattle.algebra.specs.Prelude.{List, ℕ, arith, pos, nat_abs}
 use Rattle.sequences.specs.TabLaws.{tab-every}
 use Rattle.geometry.specs.declared.Shape.{Shape}
 use Rattle.geometry.specs.Shape.{vector_length}

@@ -1,5 +1,6 @@
 -- Inner vocabulary, which no public contract reaches: what the core of run asks for, and what it leaves.
-use Rattle.algebra.specs.Prelude.{◌≡◌, List, ℕ, ◌≤◌, length, ℤ}
+use Rattle.std.specs.Prelude.{◌≡◌, ◌≤◌}
+use Rattle.algebra.specs.Prelude.{List, ℕ, length, ℤ}
 use Rattle.sequences.specs.Clear.{zeros}
 use Rattle.geometry.specs.Fits.{MergeFits, SamplesFit}
 use Rattle.align_burst.specs.declared.burst.Totals.{Totals}

@@ -1,5 +1,6 @@
 -- The invariant of a loop that prints one line, value by value, each of at most `most` bytes.
-use Rattle.printing.specs.Prelude.{◌≡◌, ap, List, ℕ, ◌+◌, ◌-◌, ◌*◌, ◌≤◌, ◌<◌, arith}
+use Rattle.std.specs.Prelude.{◌≡◌, ◌+◌, ◌-◌, ◌*◌, ◌≤◌, ◌<◌}
+use Rattle.printing.specs.Prelude.{ap, List, ℕ, arith}
 use native.Mathlib.Nat.{mul-suc}
 use native.Mathlib.Numerals.{add-one}
 use lib.ListN.{length, get_or, drop, drop_of_length-le}

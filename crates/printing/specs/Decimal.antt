@@ -1,5 +1,6 @@
 -- Document 01, "print values without leading zeros": a number as the list of its digits' ASCII codes.
-use Rattle.printing.specs.Prelude.{List, [], ◌∷◌, ◌++◌, code, ℕ, zero, suc, ◌+◌, ◌/◌, ◌%◌}
+use Rattle.std.specs.Prelude.{◌∷◌, ◌++◌, ◌+◌, ◌/◌, ◌%◌}
+use Rattle.printing.specs.Prelude.{List, [], code, ℕ, zero, suc}
 
 -- the code of a digit
 abbrev pub digit : ℕ → ℕ

@@ -1,7 +1,7 @@
 -- The digits of n by cases of n, and how many there are at most.
-use Rattle.printing.specs.Prelude.{◌≡◌, refl, ap, [], ◌∷◌, ◌++◌, ℕ, zero, suc, ◌/◌, ◌%◌, ◌^◌, ◌≤◌, ◌<◌, arith}
+use Rattle.printing.specs.Prelude.{refl, ap, [], ℕ, zero, suc, arith}
 use Rattle.std.proofs.Common.{pow-suc, length-append}
-use Rattle.std.specs.Prelude.{length}
+use Rattle.std.specs.Prelude.{length, ◌≡◌, ◌∷◌, ◌++◌, ◌/◌, ◌%◌, ◌^◌, ◌≤◌, ◌<◌}
 use Rattle.printing.specs.Decimal.{digit, digits, decimal}
 
 -- a count of n is enough: a larger one changes nothing

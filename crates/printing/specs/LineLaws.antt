@@ -1,7 +1,7 @@
 -- A line value by value and a frame row by row, and how long they are at most.
-use Rattle.printing.specs.Prelude.{◌≡◌, List, ◌++◌, ℕ, suc, ◌+◌, ◌-◌, ◌*◌, ◌^◌, ◌≤◌, ◌<◌, arith}
+use Rattle.printing.specs.Prelude.{List, ℕ, suc, arith}
 use Rattle.std.proofs.Common.{suc-mul, add-one, length-append, length-drop, drop-cons, drop-drop}
-use Rattle.std.specs.Prelude.{length, get_or, take, drop}
+use Rattle.std.specs.Prelude.{length, get_or, take, drop, ◌≡◌, ◌++◌, ◌+◌, ◌-◌, ◌*◌, ◌^◌, ◌≤◌, ◌<◌}
 use Rattle.printing.specs.DecimalLaws.{decimal-length}
 use Rattle.printing.specs.Lines.{value, number_line, sample_rows}
 

@@ -1,6 +1,6 @@
 -- Document 01, "Burst file and programs": the lines that the programs print, as lists of ASCII codes.
-use Rattle.std.specs.Prelude.{cond, eqb}
-use Rattle.printing.specs.Prelude.{List, [], ◌∷◌, ◌++◌, code, ℕ, zero, suc, length, take, drop}
+use Rattle.std.specs.Prelude.{cond, eqb, ◌∷◌, ◌++◌}
+use Rattle.printing.specs.Prelude.{List, [], code, ℕ, zero, suc, length, take, drop}
 use Rattle.printing.specs.Ascii.{ascii}
 use Rattle.printing.specs.Decimal.{decimal}
 

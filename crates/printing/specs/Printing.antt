@@ -1,6 +1,6 @@
 -- The invariant of each loop that prints: what is put so far and what is left to put are the whole text.
-use Rattle.printing.specs.Prelude.{◌≡◌, refl, sym, ap, ◌∙◌, ℕ, ◌≤◌, length}
-use Rattle.std.specs.Prelude.{List, [], ◌++◌}
+use Rattle.printing.specs.Prelude.{refl, sym, ap, ◌∙◌, ℕ, length}
+use Rattle.std.specs.Prelude.{List, [], ◌++◌, ◌≡◌, ◌≤◌}
 use Rattle.std.proofs.Common.{append_assoc, append-nil}
 use Rattle.printing.specs.Put.{Printed}
 use Rattle.printing.specs.PutLaws.{printed-none, printed-then}

@@ -1,5 +1,6 @@
 -- A buffer with a text put into it.
-use Rattle.printing.specs.Prelude.{◌≡◌, List, ◌++◌, ℕ, ◌+◌, length, take, drop}
+use Rattle.std.specs.Prelude.{◌≡◌, ◌++◌, ◌+◌}
+use Rattle.printing.specs.Prelude.{List, ℕ, length, take, drop}
 
 -- the bytes in place of those that stood from `at` on
 unfoldable pub put : List ℕ → ℕ → List ℕ → List ℕ

@@ -1,10 +1,10 @@
 -- A text put after another is the two put as one: what is printed piece by piece is the sequence of the pieces.
-use Rattle.printing.specs.Prelude.{◌≡◌, refl, sym, ap, ap₂, ◌∙◌, ℕ, ◌+◌, ◌≤◌, ◌<◌, arith}
+use Rattle.printing.specs.Prelude.{refl, sym, ap, ap₂, ◌∙◌, ℕ, arith}
 use mathlib.Core.List.{List, [], ◌∷◌, ◌++◌, append_assoc}
 use Rattle.std.proofs.Common.{add_assoc, length-take-le, drop_at}
 use Rattle.std.proofs.Math.Numerals.{add-one}
 use Rattle.std.proofs.Math.ListN.{length, length-append, length-set}
-use Rattle.std.specs.Prelude.{take, drop, set}
+use Rattle.std.specs.Prelude.{take, drop, set, ◌≡◌, ◌+◌, ◌≤◌, ◌<◌}
 use Rattle.std.proofs.Math.Seq.{take_at, drop-drop, append_snoc, paste-zero}
 use Rattle.std.proofs.lemmas.List.{set_split}
 use Rattle.printing.specs.Put.{put, Printed}

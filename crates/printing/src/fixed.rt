@@ -1,5 +1,6 @@
 // The lines of fixed words, put into a lent buffer from a place on. Each function answers the place after what it put.
-ghost use Rattle.printing.specs.Prelude.{◌+◌, ◌≤◌, length};
+ghost use Rattle.std.specs.Prelude.{◌+◌, ◌≤◌};
+ghost use Rattle.printing.specs.Prelude.{length};
 ghost use Rattle.printing.specs.Lines.{motion_names, stack_names, too_large, refusal};
 ghost use Rattle.printing.specs.Put.{Printed};
 

@@ -1,5 +1,6 @@
 // Lines of values, put into a lent buffer from a place on. Each function answers the place after what it put.
-ghost use Rattle.printing.specs.Prelude.{◌+◌, ◌*◌, ◌≤◌, length, take, drop};
+ghost use Rattle.std.specs.Prelude.{◌+◌, ◌*◌, ◌≤◌};
+ghost use Rattle.printing.specs.Prelude.{length, take, drop};
 ghost use Rattle.printing.specs.Lines.{value, number_line, sample_rows};
 ghost use Rattle.printing.specs.Put.{Printed};
 

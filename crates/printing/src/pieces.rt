@@ -1,5 +1,6 @@
 // Bytes and numbers, put into a lent buffer from a place on. Each function answers the place after what it put.
-ghost use Rattle.printing.specs.Prelude.{[], ◌∷◌, ◌+◌, ◌<◌, ◌≤◌, length};
+ghost use Rattle.std.specs.Prelude.{◌∷◌, ◌+◌, ◌<◌, ◌≤◌};
+ghost use Rattle.printing.specs.Prelude.{[], length};
 ghost use Rattle.printing.specs.Decimal.{decimal};
 ghost use Rattle.printing.specs.Put.{Printed};
 

@@ -1,5 +1,6 @@
 -- Curves in order, refusal 26, and the tests of two noises in their order.
-use Rattle.range.specs.Prelude.{Bool, ◌||◌, List, [], ◌∷◌, ℕ, T, lt, le, refuse}
+use Rattle.std.specs.Prelude.{◌||◌, ◌∷◌}
+use Rattle.range.specs.Prelude.{Bool, List, [], ℕ, T, lt, le, refuse}
 use Rattle.refusals.specs.Numbers as no
 use Rattle.noise.specs.declared.Curve.{Curve}
 use Rattle.noise.specs.declared.Noise.{Noise}

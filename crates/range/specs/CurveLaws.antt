@@ -1,6 +1,6 @@
 -- Levels of noises whose curves are in order, as refusal 26 compares them: after ISO, shot with shot and read with read.
-use Rattle.range.specs.Prelude.{◌≡◌, refl, Bool, true, false, not, ◌&&◌, ◌||◌, List, ℕ, ◌*◌, ◌≤◌, ◌<◌, get_or, ℤ, Float, nan, inf, fin, up, down, lt, first, Scene}
-use Rattle.std.specs.Prelude.{T, ltb, eqb}
+use Rattle.range.specs.Prelude.{refl, Bool, true, false, not, List, ℕ, get_or, ℤ, Float, nan, inf, fin, up, down, lt, first, Scene}
+use Rattle.std.specs.Prelude.{T, ltb, eqb, ◌≡◌, ◌&&◌, ◌||◌, ◌*◌, ◌≤◌, ◌<◌}
 use Rattle.std.proofs.Common.{leb→le, eqb→eq, le-ltb}
 use Rattle.std.specs.Float.Ieee.Fits.{and_l, and_r}
 use Rattle.refusals.specs.Numbers as no

@@ -1,6 +1,7 @@
 -- "For every curve between the two ends, the frame merged with it lies between low and high at each sample. Equal curves give low and high equal to the
 -- plain merge."
-use Rattle.range.specs.Prelude.{◌≡◌, sym, ap, subst, ◌∙◌, List, ℕ, ◌*◌, ◌/◌, ◌%◌, ◌≤◌, ◌<◌, get_or, ℤ, pos, nat_abs, ◌≤ℤ◌, Side, Scene, scene_at, scene_of, reference_tile, other_tile, tile_noise, tile_difference, noise_over, difference_over}
+use Rattle.std.specs.Prelude.{◌≡◌, ◌*◌, ◌/◌, ◌%◌, ◌≤◌, ◌<◌, ◌≤ℤ◌}
+use Rattle.range.specs.Prelude.{sym, ap, subst, ◌∙◌, List, ℕ, get_or, ℤ, pos, nat_abs, Side, Scene, scene_at, scene_of, reference_tile, other_tile, tile_noise, tile_difference, noise_over, difference_over}
 use Rattle.std.proofs.Math.Path.{subst₂, fun_ext}
 use Rattle.std.proofs.Common.{add-le-add, mul-le-mul_left, mul-le-mul_right}
 use Rattle.algebra.specs.Order.{zarith, abs-pn, min-pn, 0≤pos}

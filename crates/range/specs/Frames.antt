@@ -1,5 +1,6 @@
 -- Request L14 at frames: "two frames, low and high", of a burst whose noise is known only between two curves.
-use Rattle.range.specs.Prelude.{List, ℕ, ◌*◌, ◌/◌, ◌%◌, ℤ, pos, nat_abs, Side, Scene, noise_over, difference_over}
+use Rattle.std.specs.Prelude.{◌*◌, ◌/◌, ◌%◌}
+use Rattle.range.specs.Prelude.{List, ℕ, ℤ, pos, nat_abs, Side, Scene, noise_over, difference_over}
 use Rattle.sequences.specs.Tab.{tab}
 use Rattle.geometry.specs.Read.{plane_of}
 use Rattle.range.specs.Range.{low_sample, high_sample}

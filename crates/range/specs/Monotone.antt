@@ -1,5 +1,6 @@
 -- Rounding and holding keep the order.
-use Rattle.range.specs.Prelude.{[], ◌∷◌, ℕ, zero, suc, ◌+◌, ◌*◌, ◌/◌, ◌≤◌, ◌<◌, arith, lit<, ℤ, pos, negsuc, neg_ℤ, ◌+ℤ◌, ◌*ℤ◌, ◌≤ℤ◌, ◌<ℤ◌, shr_z, away, upward, clamp_z}
+use Rattle.std.specs.Prelude.{◌∷◌, ◌+◌, ◌*◌, ◌/◌, ◌≤◌, ◌<◌, ◌+ℤ◌, ◌*ℤ◌, ◌≤ℤ◌, ◌<ℤ◌}
+use Rattle.range.specs.Prelude.{[], ℕ, zero, suc, arith, lit<, ℤ, pos, negsuc, neg_ℤ, shr_z, away, upward, clamp_z}
 use Rattle.std.proofs.Math.Nat.{div-zero}
 use Rattle.std.proofs.Common.{mul-pos, mul-le-mul_right, le_of_mul-le-mul_right, le-div_iff_mul-le, div-mul-le_self}
 use Rattle.algebra.specs.Order.{zarith, neg-p, neg-n}

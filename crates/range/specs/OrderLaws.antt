@@ -1,9 +1,9 @@
 -- The order of curves: what lies between two numbers that refusals 8 and 9 let through is let through, and its level lies between theirs.
-use Rattle.range.specs.Prelude.{◌≡◌, refl, Bool, true, false, not, ◌&&◌, ◌||◌, ℕ, zero, suc, ◌+◌, ◌*◌, ◌≤◌, ◌<◌, arith, Float, nan, inf, fin, up, down, below, level, lt, eq, le}
+use Rattle.range.specs.Prelude.{refl, Bool, true, false, not, ℕ, zero, suc, arith, Float, nan, inf, fin, up, down, below, level, lt, eq, le}
 use Rattle.std.proofs.Common.{le_of_lt, le_of_eq, mul-pos, zero-mul, ltb→lt, le→leb, eqb→eq, ltb-false, eq-eqb}
 use Rattle.std.proofs.Math.Nat.{mul-le-mul_right, le_of_mul-le-mul_right}
 use Rattle.std.proofs.Math.Dec.{T, eqb, leb→le}
-use Rattle.std.specs.Prelude.{ltb}
+use Rattle.std.specs.Prelude.{ltb, ◌≡◌, ◌&&◌, ◌||◌, ◌+◌, ◌*◌, ◌≤◌, ◌<◌}
 use Rattle.std.specs.Float.Ieee.Fits.{up_pos, down_pos, and_l, and_r, and_i}
 use Rattle.noise.specs.Level.{floor1024}
 use Rattle.noise.specs.Within.{within}

@@ -1,6 +1,6 @@
 -- The words of other crates that this crate's files share. Lemmas are not passed on: of those the `use` line says where they are.
-pub use Rattle.algebra.specs.Prelude.{Bool, List, T, ℕ, ℤ, [], ap, ap₂, arith, false, get_or, lit<, nat_abs, negsuc, neg_ℤ, not, pos, refl, subst, suc, sym, true, zero, ◌%◌, ◌&&◌, ◌*◌, ◌*ℤ◌, ◌+◌, ◌+ℤ◌, ◌-ℤ◌, ◌/◌, ◌<◌, ◌||◌, ◌∙◌, ◌∷◌, ◌≡◌, ◌≤◌}
-pub use Rattle.std.specs.Prelude.{Float, ◌<ℤ◌, ◌≤ℤ◌}
+pub use Rattle.algebra.specs.Prelude.{Bool, List, T, ℕ, ℤ, [], ap, ap₂, arith, false, get_or, lit<, nat_abs, negsuc, neg_ℤ, not, pos, refl, subst, suc, sym, true, zero, ◌∙◌}
+pub use Rattle.std.specs.Prelude.{Float, ◌<ℤ◌, ◌≤ℤ◌, ◌%◌, ◌&&◌, ◌*◌, ◌*ℤ◌, ◌+◌, ◌+ℤ◌, ◌-ℤ◌, ◌/◌, ◌<◌, ◌||◌, ◌∷◌, ◌≡◌, ◌≤◌}
 pub use Rattle.std.specs.Float.Ieee.{below, down, level, up}
 pub use Rattle.std.specs.Float.{fin, inf, nan}
 unfoldable pub use Rattle.std.specs.Float.Ieee.{eq, le, lt}

@@ -1,5 +1,6 @@
 -- Request L14, "Noise known only as a range": the low and the high sample where each tile's noise number is known only between two ends.
-use Rattle.range.specs.Prelude.{ℕ, ℤ, pos, ◌-ℤ◌, ◌*ℤ◌, away, min_z, max_z, Side}
+use Rattle.std.specs.Prelude.{◌-ℤ◌, ◌*ℤ◌}
+use Rattle.range.specs.Prelude.{ℕ, ℤ, pos, away, min_z, max_z, Side}
 use Rattle.algebra.specs.Sums.{sum_z}
 use Rattle.recipe.specs.Correction.{bin_re, bin_im, filtered, twiddle_re, twiddle_im}
 use Rattle.recipe.specs.Output.{row_in, column_in, weight_in, rounded}

@@ -1,5 +1,6 @@
 -- Whatever the noise numbers between their ends, the merged sample lies between the low and the high one; where the ends are equal, so are all three.
-use Rattle.range.specs.Prelude.{◌≡◌, refl, ap, ap₂, [], ◌∷◌, ℕ, zero, suc, ◌*◌, ◌≤◌, arith, lit<, ℤ, pos, negsuc, ◌-ℤ◌, ◌*ℤ◌, ◌≤ℤ◌, ◌<ℤ◌, min_z, max_z, away, Side}
+use Rattle.std.specs.Prelude.{◌≡◌, ◌∷◌, ◌*◌, ◌≤◌, ◌-ℤ◌, ◌*ℤ◌, ◌≤ℤ◌, ◌<ℤ◌}
+use Rattle.range.specs.Prelude.{refl, ap, ap₂, [], ℕ, zero, suc, arith, lit<, ℤ, pos, negsuc, min_z, max_z, away, Side}
 use Rattle.std.proofs.Math.Path.{fun_ext}
 use Rattle.std.proofs.Common.{⊎_elim, mul-pos}
 use Rattle.algebra.specs.Order.{zarith, sub-pn, 0≤pos, ≤ℤ-total, ≤ℤ-of-eq, <ℤ-≤ℤ}

@@ -1,7 +1,8 @@
 // The low and high frames where the noise is known only as a range (request L14): definitions and laws, and the tests of the two noises.
 #![tactic(auto)]
 
-ghost use Rattle.range.specs.Prelude.{◌≡◌, ◌||◌, first};
+ghost use Rattle.std.specs.Prelude.{◌≡◌, ◌||◌};
+ghost use Rattle.range.specs.Prelude.{first};
 ghost use Rattle.range.specs.Crossed.{crossed, range_noise_tests};
 
 use noise::level::{above_limits, curve_of, invalid_noise};

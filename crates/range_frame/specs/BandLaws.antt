@@ -1,5 +1,6 @@
 -- Inside this crate: the rows of a band of both frames: what a row requires, a record for the loop, and how it starts, goes on and ends.
-use Rattle.range_frame.specs.Prelude.{◌≡◌, sym, ap, subst, ◌∙◌, List, ℕ, ◌+◌, ◌-◌, ◌*◌, ◌/◌, ◌%◌, ◌≤◌, ◌<◌, arith, length, ℤ, nat_abs, output_length, side16, Merge, Scene, scene_at, greatest_at, least_at, End, plane_end, frame_end, row_written, RowReady, EndAt, end_taken, raised, at_noises, RowHeld, RowsWritten}
+use Rattle.std.specs.Prelude.{◌≡◌, ◌+◌, ◌-◌, ◌*◌, ◌/◌, ◌%◌, ◌≤◌, ◌<◌}
+use Rattle.range_frame.specs.Prelude.{sym, ap, subst, ◌∙◌, List, ℕ, arith, length, ℤ, nat_abs, output_length, side16, Merge, Scene, scene_at, greatest_at, least_at, End, plane_end, frame_end, row_written, RowReady, EndAt, end_taken, raised, at_noises, RowHeld, RowsWritten}
 use Rattle.std.proofs.Common.{mul_comm}
 use Rattle.sequences.specs.Tab.{tab}
 use Rattle.sequences.specs.Grid.{tab-ext}

@@ -1,5 +1,6 @@
 -- Inside this crate: both ends of a row of pairs of tiles that the work area holds, and rows of the low and the high frame.
-use Rattle.range_frame.specs.Prelude.{◌≡◌, List, ℕ, ◌*◌, ◌/◌, ◌%◌, ◌+◌, ℤ, nat_abs, drop, Scene, greatest_at, least_at, low_sample, high_sample, End, plane_end, row_words, end_taken, row_written, RowHeld, RowsWritten}
+use Rattle.std.specs.Prelude.{◌≡◌, ◌*◌, ◌/◌, ◌%◌, ◌+◌}
+use Rattle.range_frame.specs.Prelude.{List, ℕ, ℤ, nat_abs, drop, Scene, greatest_at, least_at, low_sample, high_sample, End, plane_end, row_words, end_taken, row_written, RowHeld, RowsWritten}
 use Rattle.geometry.specs.declared.Shape.{Shape}
 
 -- word k of the frame of an end, as `frame_end` (range/Frames) has it

@@ -1,5 +1,6 @@
 -- Inside this crate: both ends of a row that is stored are held, and those of the row before it still are.
-use Rattle.range_frame.specs.Prelude.{◌≡◌, sym, ap, subst, ◌∙◌, List, ℕ, ◌+◌, ◌-◌, ◌*◌, ◌≤◌, ◌<◌, arith, length, get_or, drop, ℤ, pos, nat_abs, Scene, row_words, slot_of, RowHeld}
+use Rattle.std.specs.Prelude.{◌≡◌, ◌+◌, ◌-◌, ◌*◌, ◌≤◌, ◌<◌}
+use Rattle.range_frame.specs.Prelude.{sym, ap, subst, ◌∙◌, List, ℕ, arith, length, get_or, drop, ℤ, pos, nat_abs, Scene, row_words, slot_of, RowHeld}
 use Rattle.std.proofs.Common.{inl, inr, ⊎_elim, length-drop, get_or-drop}
 use Rattle.merge_tiles.specs.Sum.{Taking, taken_most}
 use Rattle.range_tiles.specs.EndRows.{least_slot, RowAt, Outside, EndsStored}

@@ -1,5 +1,6 @@
 -- The words of other crates that this crate's files share. Lemmas are not passed on: of those the `use` line says where they are.
-pub use Rattle.algebra.specs.Prelude.{List, ℕ, ℤ, ap, ap₂, arith, drop, get_or, length, lit<, nat_abs, rules, pos, refl, subst, suc, sym, take, ◌%◌, ◌*◌, ◌*ℤ◌, ◌+◌, ◌-◌, ◌-ℤ◌, ◌/◌, ◌<◌, ◌∙◌, ◌≡◌, ◌≤◌}
+pub use Rattle.std.specs.Prelude.{◌%◌, ◌*◌, ◌*ℤ◌, ◌+◌, ◌-◌, ◌-ℤ◌, ◌/◌, ◌<◌, ◌≡◌, ◌≤◌}
+pub use Rattle.algebra.specs.Prelude.{List, ℕ, ℤ, ap, ap₂, arith, drop, get_or, length, lit<, nat_abs, rules, pos, refl, subst, suc, sym, take, ◌∙◌}
 pub use Rattle.geometry.specs.Shape.{work_length}
 unfoldable pub use Rattle.geometry.specs.Shape.{output_length}
 pub use Rattle.recipe.specs.Scene.{Scene, difference_over, noise_over, scene_of, tile_difference, tile_noise}

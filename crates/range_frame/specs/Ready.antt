@@ -1,5 +1,6 @@
 -- Inside this crate: what the frames of a range are, and what they and each part of them require. A buffer that is only measured stands here as its length.
-use Rattle.range_frame.specs.Prelude.{◌≡◌, List, ℕ, ◌*◌, ◌/◌, ◌≤◌, ◌<◌, length, ℤ, output_length, Merge, scene_of, low_frame, high_frame, row_words, RowReady, raised, UpperFits, at_noises}
+use Rattle.std.specs.Prelude.{◌≡◌, ◌*◌, ◌/◌, ◌≤◌, ◌<◌}
+use Rattle.range_frame.specs.Prelude.{List, ℕ, length, ℤ, output_length, Merge, scene_of, low_frame, high_frame, row_words, RowReady, raised, UpperFits, at_noises}
 use Rattle.geometry.specs.declared.Shape.{Shape}
 use Rattle.merge_tiles.specs.Accepted.{Accepted}
 use Rattle.range_tiles.specs.declared.Upper.{Upper}

@@ -1,5 +1,6 @@
 -- Inside this crate: a sample of the low or the high frame from what its end takes from each of the four tiles over it.
-use Rattle.range_frame.specs.Prelude.{◌≡◌, refl, sym, ap, ap₂, subst, ◌∙◌, List, ℕ, suc, ◌+◌, ◌-◌, ◌*◌, ◌/◌, ◌%◌, ◌<◌, ℤ, pos, nat_abs, ◌-ℤ◌, ◌*ℤ◌, side16, Merge, Scene, scene_at, noise_over, difference_over, greatest_at, least_at, sample_from, low_sample, high_sample, End, plane_end, row_span, word_from, EndAt, end_sum, end_taken, RowHeld}
+use Rattle.std.specs.Prelude.{◌≡◌, ◌+◌, ◌-◌, ◌*◌, ◌/◌, ◌%◌, ◌<◌, ◌-ℤ◌, ◌*ℤ◌}
+use Rattle.range_frame.specs.Prelude.{refl, sym, ap, ap₂, subst, ◌∙◌, List, ℕ, suc, ℤ, pos, nat_abs, side16, Merge, Scene, scene_at, noise_over, difference_over, greatest_at, least_at, sample_from, low_sample, high_sample, End, plane_end, row_span, word_from, EndAt, end_sum, end_taken, RowHeld}
 use Rattle.algebra.specs.Sums.{sum_z}
 use Rattle.algebra.specs.SumLaws.{sum_z-cong, sum_z-scale}
 use Rattle.algebra.specs.Clamp.{clamp_z}

@@ -1,5 +1,6 @@
 // The two planes of a row parity of both frames: sixteen rows of the frame at a time, half of them of the parity, between two rows of pairs of tiles.
-ghost use Rattle.range_frame.specs.Prelude.{◌*◌, ◌/◌, length, at_noises};
+ghost use Rattle.std.specs.Prelude.{◌*◌, ◌/◌};
+ghost use Rattle.range_frame.specs.Prelude.{length, at_noises};
 ghost use Rattle.range_frame.specs.Held.{RowsOut, RowsRanged, BandRanged};
 ghost use Rattle.range_frame.specs.Ready.{RowsReady, ParityReady, BandReady};
 

@@ -1,5 +1,6 @@
 -- The ends of one plane, from half of both inverse sums and the width that the code works out.
-use Rattle.range_pair.specs.Prelude.{◌≡◌, refl, sym, ap, ap₂, ◌∙◌, Bool, true, false, cond, List, [], ◌∷◌, ℕ, suc, ◌+◌, ◌-◌, ◌*◌, ◌/◌, ◌%◌, ◌^◌, ◌<◌, arith, lit<, eqb, ltb, get_or, ℤ, pos, negsuc, nat_abs, neg_ℤ, ◌+ℤ◌, ◌-ℤ◌, ◌*ℤ◌, shr_z, var, ◌⊞◌, ◌⊟◌, ◌⊠◌, ⊖◌, #◌, ring, sum_z, sum_n, min_z, max_z, away, cos_at, sin_at, side16, filtered, twiddle_re, twiddle_im, inverse_re, end_re, least_at, greatest_at, backward, half_sum, Mirrored, two_way, apart, tile_re, tile_im, fold_re, fold_im, spread, counted, gain_re, gain_im, apart_of, back_sum_of, counted_of, fold_im_of, fold_re_of, gain_im_of, gain_re_of, spread_of, lines_in}
+use Rattle.std.specs.Prelude.{◌≡◌, ◌∷◌, ◌+◌, ◌-◌, ◌*◌, ◌/◌, ◌%◌, ◌^◌, ◌<◌, ◌+ℤ◌, ◌-ℤ◌, ◌*ℤ◌}
+use Rattle.range_pair.specs.Prelude.{refl, sym, ap, ap₂, ◌∙◌, Bool, true, false, cond, List, [], ℕ, suc, arith, lit<, eqb, ltb, get_or, ℤ, pos, negsuc, nat_abs, neg_ℤ, shr_z, var, ◌⊞◌, ◌⊟◌, ◌⊠◌, ⊖◌, #◌, ring, sum_z, sum_n, min_z, max_z, away, cos_at, sin_at, side16, filtered, twiddle_re, twiddle_im, inverse_re, end_re, least_at, greatest_at, backward, half_sum, Mirrored, two_way, apart, tile_re, tile_im, fold_re, fold_im, spread, counted, gain_re, gain_im, apart_of, back_sum_of, counted_of, fold_im_of, fold_re_of, gain_im_of, gain_re_of, spread_of, lines_in}
 use native.Mathlib.Nat.{mod-lt}
 use Rattle.algebra.specs.Order.{abs-mul, abs_neg}
 use Rattle.algebra.specs.SumLaws.{sum_z-cong, sum_z-add, sum_n-cong, sum_n-scale}

@@ -1,5 +1,6 @@
 -- Both planes of a pair: what the code hands on are their folded G, half of their inverse sums and their widths.
-use Rattle.range_pair.specs.Prelude.{◌≡◌, sym, ap, ap₂, subst, ◌∙◌, true, false, List, ℕ, ◌+◌, ◌*◌, ◌/◌, ◌%◌, ◌^◌, ◌≤◌, ◌<◌, arith, lit≤, T, ℤ, pos, nat_abs, ◌+ℤ◌, ◌-ℤ◌, ◌*ℤ◌, Float, nan, binary64, of_int, to_signed, side16, correction_at, least_at, greatest_at, half_sum_of, half_basis_of, backward, half_sum, TileMost, fold_most, two_way, transposed, InDouble, plane_in, side_by_side, doubles, lines_in}
+use Rattle.std.specs.Prelude.{◌≡◌, ◌+◌, ◌*◌, ◌/◌, ◌%◌, ◌^◌, ◌≤◌, ◌<◌, ◌+ℤ◌, ◌-ℤ◌, ◌*ℤ◌}
+use Rattle.range_pair.specs.Prelude.{sym, ap, ap₂, subst, ◌∙◌, true, false, List, ℕ, arith, lit≤, T, ℤ, pos, nat_abs, Float, nan, binary64, of_int, to_signed, side16, correction_at, least_at, greatest_at, half_sum_of, half_basis_of, backward, half_sum, TileMost, fold_most, two_way, transposed, InDouble, plane_in, side_by_side, doubles, lines_in}
 use native.Mathlib.Nat.{le_trans}
 use lib.IntN.{+ℤ_idl}
 use Rattle.algebra.specs.Order.{abs-sub}

@@ -1,5 +1,6 @@
 -- Four times two half sums and a width, in 64 bits.
-use Rattle.algebra.specs.Prelude.{◌≡◌, sym, ap, ap₂, subst, ◌∙◌, false, ℕ, ◌+◌, ◌*◌, ◌^◌, ◌≤◌, lit≤, ℤ, pos, ◌+ℤ◌, ◌-ℤ◌, ◌*ℤ◌, w64, SFits, to_z, of_z, to_z-of_z}
+use Rattle.std.specs.Prelude.{◌≡◌, ◌+◌, ◌*◌, ◌^◌, ◌≤◌, ◌+ℤ◌, ◌-ℤ◌, ◌*ℤ◌}
+use Rattle.algebra.specs.Prelude.{sym, ap, ap₂, subst, ◌∙◌, false, ℕ, lit≤, ℤ, pos, w64, SFits, to_z, of_z, to_z-of_z}
 use native.Mathlib.Nat.{le_trans}
 use Rattle.algebra.specs.Bound.{AtMost, lit-most, most_fits, add_most, sub-most, mul_most, add-fits, mul-fits}
 use Rattle.tile_spectrum.specs.Lines.Held.{number_is, number-most}

@@ -1,5 +1,6 @@
 -- The tables of the code: factors, distances and widths, their entries and their sizes.
-use Rattle.range_pair.specs.Prelude.{◌≡◌, sym, ap₂, subst, ◌∙◌, cond, List, [], ℕ, ◌+◌, ◌*◌, ◌-◌, ◌/◌, ◌%◌, ◌≤◌, ◌<◌, arith, lit<, eqb, ltb, get_or, ℤ, pos, neg_ℤ, nat_abs, tab, TileMost, side16, real_of, imaginary_of, beside, tile_re, tile_im, beside_of, imaginary_part, real_part, tile_im_of, tile_re_of, lines_in}
+use Rattle.std.specs.Prelude.{◌≡◌, ◌+◌, ◌*◌, ◌-◌, ◌/◌, ◌%◌, ◌≤◌, ◌<◌}
+use Rattle.range_pair.specs.Prelude.{sym, ap₂, subst, ◌∙◌, cond, List, [], ℕ, arith, lit<, eqb, ltb, get_or, ℤ, pos, neg_ℤ, nat_abs, tab, TileMost, side16, real_of, imaginary_of, beside, tile_re, tile_im, beside_of, imaginary_part, real_part, tile_im_of, tile_re_of, lines_in}
 use Prim.Native.Nat.{zero-le}
 use native.Mathlib.Nat.{mod-lt, mul-le-mul, mul-le-mul_left, mul-le-mul_right}
 use Rattle.algebra.specs.Order.{abs-add, abs-sub, abs_neg}

@@ -1,5 +1,6 @@
 -- Inside the crates of the range: what the kernels of both ends are lent, and what they leave in the two pairs of sums.
-use Rattle.range_pair.specs.Prelude.{◌≡◌, List, ℕ, ◌/◌, ◌%◌, ◌^◌, ◌≤◌, false, length, get_or, ℤ, pos, ◌+ℤ◌, Float, tab, grid, cell, Side, side16, greatest_at, least_at, LineMost, TileMost, difference_most, column_most, noise_most, Paired, InDouble, plane_in, either}
+use Rattle.std.specs.Prelude.{◌≡◌, ◌/◌, ◌%◌, ◌^◌, ◌≤◌, ◌+ℤ◌}
+use Rattle.range_pair.specs.Prelude.{List, ℕ, false, length, get_or, ℤ, pos, Float, tab, grid, cell, Side, side16, greatest_at, least_at, LineMost, TileMost, difference_most, column_most, noise_most, Paired, InDouble, plane_in, either}
 use Rattle.range_pair.specs.declared.Noises.{Noises}
 use Rattle.range_pair.specs.Factors.{WidthLine, WidthTile, greatest_of, least_of, half_in, half_of}
 

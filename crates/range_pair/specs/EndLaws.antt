@@ -1,5 +1,6 @@
 -- P of the greatest and of the least sums depends on the tile's differences alone, and is no larger than P at one noise number can be.
-use Rattle.range_pair.specs.Prelude.{◌≡◌, ap, ap₂, ℕ, ◌+◌, ◌*◌, ◌%◌, ◌^◌, ◌≤◌, ◌<◌, arith, lit<, lit≤, ℤ, nat_abs, ◌-ℤ◌, ◌*ℤ◌, sum_z, min_z, max_z, away, Side, cos_at, sin_at, side16, quantized, bin_re, bin_im, filtered, twiddle_re, twiddle_im, end_re, least_at, greatest_at, noise_most, root_most, small_most}
+use Rattle.std.specs.Prelude.{◌≡◌, ◌+◌, ◌*◌, ◌%◌, ◌^◌, ◌≤◌, ◌<◌, ◌-ℤ◌, ◌*ℤ◌}
+use Rattle.range_pair.specs.Prelude.{ap, ap₂, ℕ, arith, lit<, lit≤, ℤ, nat_abs, sum_z, min_z, max_z, away, Side, cos_at, sin_at, side16, quantized, bin_re, bin_im, filtered, twiddle_re, twiddle_im, end_re, least_at, greatest_at, noise_most, root_most, small_most}
 use Rattle.std.proofs.Common.{le_refl, mul-le-mul_right}
 use Rattle.std.proofs.Math.Nat.{le_trans, mod-lt}
 use Rattle.algebra.specs.Order.{abs-sub, abs-mul-le}

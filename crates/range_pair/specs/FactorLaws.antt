@@ -1,7 +1,7 @@
 -- The factors of side 16, each law one computed test over the tables: their size, and that eight rows or columns on they have the same sizes.
-use Rattle.range_pair.specs.Prelude.{◌≡◌, ap, ap₂, ◌∙◌, ℕ, ◌+◌, ◌*◌, ◌/◌, ◌%◌, ◌≤◌, ◌<◌, arith, lit<, nat_abs, cos_at, sin_at, cosines, cosine16, sine16, side16, twiddle_re, twiddle_im}
+use Rattle.range_pair.specs.Prelude.{ap, ap₂, ◌∙◌, ℕ, arith, lit<, nat_abs, cos_at, sin_at, cosines, cosine16, sine16, side16, twiddle_re, twiddle_im}
 use Rattle.std.proofs.Common.{mod-lt, eqb→eq, leb→le}
-use Rattle.std.specs.Prelude.{T, eqb, leb}
+use Rattle.std.specs.Prelude.{T, eqb, leb, ◌≡◌, ◌+◌, ◌*◌, ◌/◌, ◌%◌, ◌≤◌, ◌<◌}
 use Rattle.algebra.specs.Test.{all, all_sound}
 use Rattle.range_pair.specs.Factors.{factor_re, factor_im, factor_most}
 

@@ -1,5 +1,6 @@
 -- Inside the crate: the sizes of the inverse's factors at side 16, and widths by tables of them.
-use Rattle.range_pair.specs.Prelude.{cond, List, [], ℕ, ◌+◌, ◌*◌, ◌/◌, ◌%◌, ◌^◌, ◌≤◌, ◌<◌, eqb, get_or, ℤ, pos, nat_abs, ◌+ℤ◌, ◌-ℤ◌, ◌*ℤ◌, shr_z, Float, nan, to_signed, away, sum_n, grid, cell, cosine16, sine16, half_sum, apart, tile_re, tile_im, lines_in}
+use Rattle.std.specs.Prelude.{◌+◌, ◌*◌, ◌/◌, ◌%◌, ◌^◌, ◌≤◌, ◌<◌, ◌+ℤ◌, ◌-ℤ◌, ◌*ℤ◌}
+use Rattle.range_pair.specs.Prelude.{cond, List, [], ℕ, eqb, get_or, ℤ, pos, nat_abs, shr_z, Float, nan, to_signed, away, sum_n, grid, cell, cosine16, sine16, half_sum, apart, tile_re, tile_im, lines_in}
 
 -- ---- the factors
 

@@ -1,5 +1,6 @@
 -- A sum over bins that is the same at the mirror image: columns 0 to 8 are enough, of which 1 to 7 count twice.
-use Rattle.range_pair.specs.Prelude.{◌≡◌, sym, ◌∙◌, ℕ, ◌*◌, ◌<◌, arith, lit<, sum_n, side16, apart, apart_of}
+use Rattle.std.specs.Prelude.{◌≡◌, ◌*◌, ◌<◌}
+use Rattle.range_pair.specs.Prelude.{sym, ◌∙◌, ℕ, arith, lit<, sum_n, side16, apart, apart_of}
 use Rattle.algebra.specs.SumLaws.{sum_n-cong, sum_n-exchange, sum_n-scale}
 use Rattle.recipe.specs.TableLaws.{opposite}
 

@@ -1,6 +1,6 @@
 -- The words of other crates that this crate's files share. Lemmas are not passed on: of those the `use` line says where they are.
-pub use Rattle.algebra.specs.Prelude.{Bool, List, T, ℕ, ℤ, [], ap, ap₂, arith, cond, eqb, false, get_or, length, lit<, lit≤, ltb, nat_abs, rules, negsuc, neg_ℤ, of_z, pos, refl, subst, suc, sym, to_z, true, w64, zero, ◌%◌, ◌*◌, ◌*ℤ◌, ◌+◌, ◌+ℤ◌, ◌-◌, ◌-ℤ◌, ◌/◌, ◌<◌, ◌^◌, ◌∙◌, ◌∷◌, ◌≡◌, ◌≤◌}
-pub use Rattle.std.specs.Prelude.{Float, ◌≤ℤ◌}
+pub use Rattle.algebra.specs.Prelude.{Bool, List, T, ℕ, ℤ, [], ap, ap₂, arith, cond, eqb, false, get_or, length, lit<, lit≤, ltb, nat_abs, rules, negsuc, neg_ℤ, of_z, pos, refl, subst, suc, sym, to_z, true, w64, zero, ◌∙◌}
+pub use Rattle.std.specs.Prelude.{Float, ◌≤ℤ◌, ◌%◌, ◌*◌, ◌*ℤ◌, ◌+◌, ◌+ℤ◌, ◌-◌, ◌-ℤ◌, ◌/◌, ◌<◌, ◌^◌, ◌∷◌, ◌≡◌, ◌≤◌}
 pub use Rattle.std.specs.Float.{binary64, nan}
 pub use Rattle.std.specs.Float.Ieee.{of_bits, of_int, to_signed}
 pub use Rattle.std.specs.Int.Signed.{shr_z}

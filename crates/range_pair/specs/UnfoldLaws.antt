@@ -1,5 +1,6 @@
 -- A folded G taken apart again: each part of a bin comes out twice, and in rows 0 and 8 once.
-use Rattle.range_pair.specs.Prelude.{◌≡◌, ap, ◌∙◌, [], ◌∷◌, ℕ, ◌<◌, arith, ℤ, pos, neg_ℤ, ◌+ℤ◌, ◌-ℤ◌, ◌*ℤ◌, lit<, var, ◌⊞◌, ◌⊟◌, ◌⊠◌, ⊖◌, #◌, ring, side16, Mirrored, real_of, imaginary_of, tile_re, tile_im, fold_re, fold_im, spread, counted, apart_of, beside_of, counted_of, fold_im_of, fold_re_of, imaginary_part, real_part, spread_of, tile_im_of, tile_re_of}
+use Rattle.std.specs.Prelude.{◌≡◌, ◌∷◌, ◌<◌, ◌+ℤ◌, ◌-ℤ◌, ◌*ℤ◌}
+use Rattle.range_pair.specs.Prelude.{ap, ◌∙◌, [], ℕ, arith, ℤ, pos, neg_ℤ, lit<, var, ◌⊞◌, ◌⊟◌, ◌⊠◌, ⊖◌, #◌, ring, side16, Mirrored, real_of, imaginary_of, tile_re, tile_im, fold_re, fold_im, spread, counted, apart_of, beside_of, counted_of, fold_im_of, fold_re_of, imaginary_part, real_part, spread_of, tile_im_of, tile_re_of}
 use Rattle.std.proofs.Common.{below_more}
 use Rattle.algebra.specs.Order.{zarith, neg-p, neg-n}
 use Rattle.recipe.specs.TableLaws.{opposite}

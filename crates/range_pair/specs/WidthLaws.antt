@@ -1,5 +1,6 @@
 -- Twice the least sum is the two ends' sum less the width, and twice the greatest is that and the width.
-use Rattle.range_pair.specs.Prelude.{◌≡◌, sym, ap, ap₂, ◌∙◌, [], ◌∷◌, ℕ, zero, suc, ◌+◌, ◌*◌, ◌<◌, arith, ℤ, pos, negsuc, nat_abs, ◌+ℤ◌, ◌-ℤ◌, ◌*ℤ◌, ◌≤ℤ◌, ◌⊞◌, ◌⊟◌, ◌⊠◌, ⊖◌, #◌, var, ring, sum_z, sum_n, min_z, max_z, Side, bin_re, bin_im, filtered, twiddle_re, twiddle_im, inverse_re, end_re}
+use Rattle.std.specs.Prelude.{◌≡◌, ◌∷◌, ◌+◌, ◌*◌, ◌<◌, ◌+ℤ◌, ◌-ℤ◌, ◌*ℤ◌, ◌≤ℤ◌}
+use Rattle.range_pair.specs.Prelude.{sym, ap, ap₂, ◌∙◌, [], ℕ, zero, suc, arith, ℤ, pos, negsuc, nat_abs, ◌⊞◌, ◌⊟◌, ◌⊠◌, ⊖◌, #◌, var, ring, sum_z, sum_n, min_z, max_z, Side, bin_re, bin_im, filtered, twiddle_re, twiddle_im, inverse_re, end_re}
 use Rattle.std.proofs.Common.{le_refl}
 use Rattle.algebra.specs.Order.{zarith, sub-pn, abs-pn, min-pn, abs-nonneg, abs-mul}
 use Rattle.algebra.specs.ClampLaws.{min_cases, max_cases}

@@ -1,6 +1,7 @@
 -- Inside the crates of the range: the two ends of an inverse sum by their sum and by how far they are apart. Over any side; G is g + i·h at one V and
 -- g' + i·h' at the other.
-use Rattle.range_pair.specs.Prelude.{ℕ, ◌+◌, ◌*◌, ℤ, nat_abs, ◌+ℤ◌, ◌-ℤ◌, sum_n, Side, twiddle_re, twiddle_im, inverse_re}
+use Rattle.std.specs.Prelude.{◌+◌, ◌*◌, ◌+ℤ◌, ◌-ℤ◌}
+use Rattle.range_pair.specs.Prelude.{ℕ, ℤ, nat_abs, sum_n, Side, twiddle_re, twiddle_im, inverse_re}
 
 module _ (s : Side) (g h g' h' : ℕ → ℕ → ℤ) where
   -- the inverse sums at both, added: the inverse sum of both G, added

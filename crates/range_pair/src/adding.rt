@@ -1,5 +1,6 @@
 // A pair added to a pair of sums.
-ghost use Rattle.range_pair.specs.Prelude.{◌≡◌, pos, get_or, cell, LineMost, TileMost, correction_most};
+ghost use Rattle.std.specs.Prelude.{◌≡◌};
+ghost use Rattle.range_pair.specs.Prelude.{pos, get_or, cell, LineMost, TileMost, correction_most};
 ghost use Rattle.range_pair.specs.Added.{RowSums, PairSums, row_plus, pair_plus};
 
 // A row of it.

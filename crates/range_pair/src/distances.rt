@@ -1,6 +1,7 @@
 // How far both parts of G at two noise numbers are apart, in columns 0 to 8 of two planes: lane l is column l / 2 of plane l % 2. G comes folded, and the
 // bins of what the folds are apart are the parts, twice or once.
-ghost use Rattle.range_pair.specs.Prelude.{◌≡◌, false, ◌*◌, ◌/◌, ◌<◌, nat_abs, length, get_or, nan, AtMost, tab, TileMost, WholeDouble, WholeRow, fold_most, InDouble};
+ghost use Rattle.std.specs.Prelude.{◌≡◌, ◌*◌, ◌/◌, ◌<◌};
+ghost use Rattle.range_pair.specs.Prelude.{false, nat_abs, length, get_or, nan, AtMost, tab, TileMost, WholeDouble, WholeRow, fold_most, InDouble};
 ghost use Rattle.range_pair.specs.Factors.{apart_most, place_apart, places_apart, times_at, distance_re, distance_im};
 
 use rounding::magnitude;

@@ -9,7 +9,8 @@ mod factors;
 mod rounds;
 mod widths;
 
-ghost use Rattle.range_pair.specs.Prelude.{◌≡◌, true, false, grid, fold_most, InDouble};
+ghost use Rattle.std.specs.Prelude.{◌≡◌};
+ghost use Rattle.range_pair.specs.Prelude.{true, false, grid, fold_most, InDouble};
 ghost use Rattle.range_pair.specs.Factors.{WidthTile, width_in};
 ghost use Rattle.range_pair.specs.Added.{EndsLent, EndsAdded};
 

@@ -1,5 +1,6 @@
 // P of both ends, from half of each inverse sum and from how far the ends are apart.
-ghost use Rattle.range_pair.specs.Prelude.{◌≡◌, false, ◌^◌, ◌≤◌, AtMost, LineMost, WholeRow, column_most, half_most};
+ghost use Rattle.std.specs.Prelude.{◌≡◌, ◌^◌, ◌≤◌};
+ghost use Rattle.range_pair.specs.Prelude.{false, AtMost, LineMost, WholeRow, column_most, half_most};
 ghost use Rattle.range_pair.specs.Factors.{width_most, quarter_of, greatest_of, least_of};
 ghost use Rattle.range_pair.specs.Added.{RowsLent, RowsAdded, half_end, line_end, TilesLent, TilesAdded, tile_end};
 

@@ -1,5 +1,6 @@
 // How far the ends of a pair's inverse sums are apart, twice. Lane l of a row is column l / 2 of plane l % 2.
-ghost use Rattle.range_pair.specs.Prelude.{◌≡◌, ◌+◌, ◌*◌, ◌≤◌, ◌<◌, tab, grid};
+ghost use Rattle.std.specs.Prelude.{◌≡◌, ◌+◌, ◌*◌, ◌≤◌, ◌<◌};
+ghost use Rattle.range_pair.specs.Prelude.{tab, grid};
 ghost use Rattle.range_pair.specs.Factors.{factor_most, Factored, FactoredTile, distance_most, Distant, DistantTile, line_width, pair_width, bin_width_most, line_width_most, width_most};
 
 // Two distances, each times its factor.

@@ -1,5 +1,6 @@
 -- Inside the crates of the range: a row stored pair by pair, both ends of each: its record, and how it starts, goes on and ends.
-use Rattle.range_tiles.specs.Prelude.{◌≡◌, refl, sym, subst, ◌∙◌, List, ℕ, ◌+◌, ◌-◌, ◌*◌, ◌/◌, ◌%◌, ◌≤◌, ◌<◌, arith, length, get_or, ℤ, pos, cell, Scene, greatest_at, least_at, Taking, PairTaken, row_words, slot_of, row_word, Spread}
+use Rattle.std.specs.Prelude.{◌≡◌, ◌+◌, ◌-◌, ◌*◌, ◌/◌, ◌%◌, ◌≤◌, ◌<◌}
+use Rattle.range_tiles.specs.Prelude.{refl, sym, subst, ◌∙◌, List, ℕ, arith, length, get_or, ℤ, pos, cell, Scene, greatest_at, least_at, Taking, PairTaken, row_words, slot_of, row_word, Spread}
 use Rattle.std.proofs.Common.{inl, ⊎_elim}
 use Rattle.std.proofs.Math.Decide.{ℕ_discrete}
 use Rattle.sequences.specs.Write.{written, written_in, written-before, written_after, written-length}

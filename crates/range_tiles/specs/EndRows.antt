@@ -1,6 +1,6 @@
 -- Inside the crates of the range: both ends of rows of pairs in the work area. The greatest sums lie as a merge's rows do, and the least ones likewise behind them.
-use Rattle.range_tiles.specs.Prelude.{◌≡◌, List, ℕ, ◌+◌, ◌*◌, ◌/◌, ◌≤◌, ◌<◌, length, get_or, ℤ, pos, nat_abs, Merge, Scene, greatest_at, least_at, Taking, taken_most, row_words, slot_of, row_word}
-use Rattle.std.specs.Prelude.{◌⊎◌}
+use Rattle.range_tiles.specs.Prelude.{List, ℕ, length, get_or, ℤ, pos, nat_abs, Merge, Scene, greatest_at, least_at, Taking, taken_most, row_words, slot_of, row_word}
+use Rattle.std.specs.Prelude.{◌⊎◌, ◌≡◌, ◌+◌, ◌*◌, ◌/◌, ◌≤◌, ◌<◌}
 use Rattle.merge_tiles.specs.Accepted.{Accepted}
 use Rattle.range_tiles.specs.declared.Upper.{Upper}
 use Rattle.range_tiles.specs.EndSums.{end_taken, UpperFits}

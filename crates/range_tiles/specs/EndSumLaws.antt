@@ -1,5 +1,6 @@
 -- The sum of one end's P, frame by frame: its record, and how it starts, goes on and ends.
-use Rattle.range_tiles.specs.Prelude.{◌≡◌, sym, ap, ap₂, subst, ◌∙◌, List, [], ℕ, ◌+◌, ◌*◌, ◌/◌, ◌%◌, ◌^◌, ◌≤◌, ◌<◌, arith, lit≤, eqb, ℤ, pos, nat_abs, ◌+ℤ◌, side16, Scene, tile_noise, tile_difference, greatest_at, least_at, Noises, PairSums, NoisesFit, noise_of, pair_plus, pair_end, taken_most, PairTaken, at_site}
+use Rattle.std.specs.Prelude.{◌≡◌, ◌+◌, ◌*◌, ◌/◌, ◌%◌, ◌^◌, ◌≤◌, ◌<◌, ◌+ℤ◌}
+use Rattle.range_tiles.specs.Prelude.{sym, ap, ap₂, subst, ◌∙◌, List, [], ℕ, arith, lit≤, eqb, ℤ, pos, nat_abs, side16, Scene, tile_noise, tile_difference, greatest_at, least_at, Noises, PairSums, NoisesFit, noise_of, pair_plus, pair_end, taken_most, PairTaken, at_site}
 use Rattle.std.proofs.Common.{add-one, mul-le-mul_right}
 use Rattle.std.proofs.Math.Nat.{le_trans}
 use Rattle.algebra.specs.Order.{abs-add}

@@ -1,5 +1,6 @@
 -- Inside the crates of the range: P of one end of a pair's tiles, summed over the other frames. `end` is `greatest_at` or `least_at` (range/Range).
-use Rattle.range_tiles.specs.Prelude.{◌≡◌, List, ℕ, ◌*◌, ◌≤◌, ◌<◌, ℤ, pos, nat_abs, grid, side16, Merge, Scene, reference_tile, tile_noise, tile_difference, scene_at, greatest_at, least_at, Taking, PairTaken, NoisesFit, noise_of, Noises, at_site, pair_at}
+use Rattle.std.specs.Prelude.{◌≡◌, ◌*◌, ◌≤◌, ◌<◌}
+use Rattle.range_tiles.specs.Prelude.{List, ℕ, ℤ, pos, nat_abs, grid, side16, Merge, Scene, reference_tile, tile_noise, tile_difference, scene_at, greatest_at, least_at, Taking, PairTaken, NoisesFit, noise_of, Noises, at_site, pair_at}
 use Rattle.algebra.specs.Sums.{sum_z}
 use Rattle.tile_spectrum.specs.Magnitudes.{small_most}
 use Rattle.tile_spectrum.specs.Pairs.{side_by_side}

@@ -1,5 +1,6 @@
 -- The words of other crates that this crate's files share. Lemmas are not passed on: of those the `use` line says where they are.
-pub use Rattle.algebra.specs.Prelude.{List, ℕ, ℤ, [], ap, ap₂, arith, eqb, get_or, length, lit<, lit≤, nat_abs, rules, pos, refl, subst, sym, ◌%◌, ◌*◌, ◌+◌, ◌+ℤ◌, ◌-◌, ◌/◌, ◌<◌, ◌^◌, ◌∙◌, ◌≡◌, ◌≤◌}
+pub use Rattle.std.specs.Prelude.{◌%◌, ◌*◌, ◌+◌, ◌+ℤ◌, ◌-◌, ◌/◌, ◌<◌, ◌^◌, ◌≡◌, ◌≤◌}
+pub use Rattle.algebra.specs.Prelude.{List, ℕ, ℤ, [], ap, ap₂, arith, eqb, get_or, length, lit<, lit≤, nat_abs, rules, pos, refl, subst, sym, ◌∙◌}
 unfoldable pub use Rattle.sequences.specs.Grid.{cell, grid}
 pub use Rattle.recipe.specs.Scene.{Scene, tile_difference, tile_noise}
 unfoldable pub use Rattle.recipe.specs.Scene.{reference_tile, scene_at}

@@ -1,5 +1,6 @@
 // Both ends of a row of pairs of tiles, in the work area.
-ghost use Rattle.algebra.specs.Prelude.{◌≤◌, ◌≡◌, length};
+ghost use Rattle.std.specs.Prelude.{◌≤◌, ◌≡◌};
+ghost use Rattle.algebra.specs.Prelude.{length};
 ghost use Rattle.range_tiles.specs.EndSums.{at_noises};
 ghost use Rattle.range_tiles.specs.EndRows.{least_slot, EndRowLent, EndsStored};
 

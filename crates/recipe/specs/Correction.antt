@@ -1,5 +1,6 @@
 -- The merge recipe of document 01 on one tile of differences, over the side's tables and scales: B, Q, G and P, in exact whole numbers.
-use Rattle.algebra.specs.Prelude.{ℕ, zero, suc, ◌+◌, ◌*◌, ℤ, pos, nat_abs, neg_ℤ, ◌+ℤ◌, ◌-ℤ◌, ◌*ℤ◌}
+use Rattle.std.specs.Prelude.{◌+◌, ◌*◌, ◌+ℤ◌, ◌-ℤ◌, ◌*ℤ◌}
+use Rattle.algebra.specs.Prelude.{ℕ, zero, suc, ℤ, pos, nat_abs, neg_ℤ}
 use Rattle.algebra.specs.Sums.{sum_z}
 use Rattle.algebra.specs.Nearest.{away}
 use Rattle.recipe.specs.Side.{Side, cos_at, sin_at}

@@ -1,5 +1,6 @@
 -- Laws of the recipe: |Q|² + V as a sum of squares, and the inverse sum by rows and then columns.
-use Rattle.algebra.specs.Prelude.{◌≡◌, ap₂, ◌∙◌, [], ◌∷◌, ℕ, ◌*◌, ℤ, pos, ◌+ℤ◌, ◌-ℤ◌, ◌*ℤ◌}
+use Rattle.std.specs.Prelude.{◌≡◌, ◌∷◌, ◌*◌, ◌+ℤ◌, ◌-ℤ◌, ◌*ℤ◌}
+use Rattle.algebra.specs.Prelude.{ap₂, ◌∙◌, [], ℕ, ℤ, pos}
 use Rattle.algebra.specs.Order.{sq-abs}
 use Rattle.algebra.specs.Ring.{var, ◌⊞◌, ◌⊟◌, ◌⊠◌, ring}
 use Rattle.algebra.specs.Sums.{sum_z}

@@ -1,5 +1,6 @@
 -- The exact merge of document 01: the same noise number and differences, and the other steps in fractions, without rounding.
-use Rattle.algebra.specs.Prelude.{ℕ, zero, suc, ◌*◌, arith, ℤ, pos}
+use Rattle.std.specs.Prelude.{◌*◌}
+use Rattle.algebra.specs.Prelude.{ℕ, zero, suc, arith, ℤ, pos}
 use Rattle.std.proofs.Common.{mul-pos}
 use Rattle.algebra.specs.Fraction.{Frac, frac, whole, ◌+F◌, ◌-F◌, ◌·F◌, ◌×F◌, ◌÷F◌, over, sum_f, held}
 use Rattle.recipe.specs.Side.{Side}

@@ -1,5 +1,6 @@
 -- The exact merge of document 01 on a burst: "takes the same r, V and vectors and does the other steps in fractions".
-use Rattle.algebra.specs.Prelude.{ℕ, ◌/◌, ◌%◌, pos}
+use Rattle.std.specs.Prelude.{◌/◌, ◌%◌}
+use Rattle.algebra.specs.Prelude.{ℕ, pos}
 use Rattle.algebra.specs.Fraction.{Frac}
 use Rattle.geometry.specs.Read.{plane_of}
 use Rattle.recipe.specs.Scene.{Scene, noise_over, difference_over, tiles_over}

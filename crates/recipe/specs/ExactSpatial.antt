@@ -1,5 +1,6 @@
 -- The exact filtered merge of request L13: "the same V', worked in the same fractions, the copy and its bins unrounded too".
-use Rattle.algebra.specs.Prelude.{ℕ, suc, ◌*◌, arith, ℤ, pos, neg_ℤ}
+use Rattle.std.specs.Prelude.{◌*◌}
+use Rattle.algebra.specs.Prelude.{ℕ, suc, arith, ℤ, pos, neg_ℤ}
 use Rattle.algebra.specs.Fraction.{Frac, whole, ◌+F◌, ◌-F◌, ◌·F◌, over, sum_f}
 use Rattle.recipe.specs.Side.{Side, cos_at, sin_at}
 use Rattle.recipe.specs.Output.{row_in, column_in, weight_in}

@@ -1,5 +1,6 @@
 -- The merged frame of document 01.
-use Rattle.algebra.specs.Prelude.{List, ℕ, ◌*◌, ◌/◌, ◌%◌, ℤ, pos, nat_abs}
+use Rattle.std.specs.Prelude.{◌*◌, ◌/◌, ◌%◌}
+use Rattle.algebra.specs.Prelude.{List, ℕ, ℤ, pos, nat_abs}
 use Rattle.sequences.specs.Tab.{tab}
 use Rattle.geometry.specs.Read.{plane_of}
 use Rattle.recipe.specs.Scene.{Scene, tiles_over}

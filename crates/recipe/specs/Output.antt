@@ -1,5 +1,6 @@
 -- The tiles over an output sample, and how what they put is summed and rounded.
-use Rattle.algebra.specs.Prelude.{ℕ, suc, ◌+◌, ◌*◌, ◌/◌, ◌%◌, ℤ, pos, ◌-ℤ◌, ◌*ℤ◌}
+use Rattle.std.specs.Prelude.{◌+◌, ◌*◌, ◌/◌, ◌%◌, ◌-ℤ◌, ◌*ℤ◌}
+use Rattle.algebra.specs.Prelude.{ℕ, suc, ℤ, pos}
 use Rattle.algebra.specs.Sums.{sum_z}
 use Rattle.algebra.specs.Clamp.{clamp_z}
 use Rattle.algebra.specs.Nearest.{upward}

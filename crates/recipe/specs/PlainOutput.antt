@@ -1,5 +1,6 @@
 -- The output sample of document 01 without a spatial filter. No contract cites it: the merged sample is this one at s = 0 (`plain-output`, closeness/Spatial/PlainLaws).
-use Rattle.algebra.specs.Prelude.{ℕ, ℤ, pos, ◌*ℤ◌}
+use Rattle.std.specs.Prelude.{◌*ℤ◌}
+use Rattle.algebra.specs.Prelude.{ℕ, ℤ, pos}
 use Rattle.algebra.specs.Sums.{sum_z}
 use Rattle.recipe.specs.Side.{Side}
 use Rattle.recipe.specs.Correction.{correction_at}

@@ -1,5 +1,6 @@
 -- The whole root of a number.
-use Rattle.algebra.specs.Prelude.{cond, ℕ, zero, suc, ◌+◌, ◌*◌, ◌/◌, leb}
+use Rattle.std.specs.Prelude.{◌+◌, ◌*◌, ◌/◌}
+use Rattle.algebra.specs.Prelude.{cond, ℕ, zero, suc, leb}
 
 -- r, or the next number where its square is at most n
 abbrev pub or_next : ℕ → ℕ → ℕ

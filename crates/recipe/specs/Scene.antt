@@ -1,5 +1,6 @@
 -- What a merge reads, and its tiles: T0, Tz, their differences, and the noise number.
-use Rattle.algebra.specs.Prelude.{List, ℕ, suc, ◌+◌, ◌-◌, ◌*◌, ◌/◌, ◌%◌, get_or, ℤ, pos, ◌+ℤ◌, ◌-ℤ◌}
+use Rattle.std.specs.Prelude.{◌+◌, ◌-◌, ◌*◌, ◌/◌, ◌%◌, ◌+ℤ◌, ◌-ℤ◌}
+use Rattle.algebra.specs.Prelude.{List, ℕ, suc, get_or, ℤ, pos}
 use Rattle.geometry.specs.Read.{Image, sample_at, plane_of, read}
 use Rattle.geometry.specs.Tiles.{origin}
 use Rattle.geometry.specs.Vectors.{other_frame, down_at, right_at}

@@ -1,5 +1,6 @@
 -- What document 01 fixes with the tile side: the tables of cosines, sines and windows, and the scales of the merge recipe.
-use Rattle.algebra.specs.Prelude.{ℕ, ◌*◌, ◌%◌, ◌<◌, ℤ}
+use Rattle.std.specs.Prelude.{◌*◌, ◌%◌, ◌<◌}
+use Rattle.algebra.specs.Prelude.{ℕ, ℤ}
 
 pub record Side : Type 0 where
   -- a tile is `side` rows of `side` differences, and the next tile lies `half` further on

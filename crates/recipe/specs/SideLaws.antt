@@ -1,5 +1,6 @@
 -- A burst's side, and what goes with it.
-use Rattle.algebra.specs.Prelude.{◌≡◌, sym, subst, ℕ, arith}
+use Rattle.std.specs.Prelude.{◌≡◌}
+use Rattle.algebra.specs.Prelude.{sym, subst, ℕ, arith}
 use Rattle.std.proofs.Common.{⊎_elim, eq-eqb, ne_eqb}
 use Rattle.geometry.specs.Fits.{TileSide}
 use Rattle.recipe.specs.Side.{Side}

@@ -1,5 +1,6 @@
 -- The spatial filter of request L13 in whole numbers, over the side's tables and scales.
-use Rattle.algebra.specs.Prelude.{ℕ, suc, ◌*◌, ℤ, pos, ◌+ℤ◌, ◌-ℤ◌, ◌*ℤ◌}
+use Rattle.std.specs.Prelude.{◌*◌, ◌+ℤ◌, ◌-ℤ◌, ◌*ℤ◌}
+use Rattle.algebra.specs.Prelude.{ℕ, suc, ℤ, pos}
 use Rattle.algebra.specs.Sums.{sum_z}
 use Rattle.algebra.specs.Nearest.{away}
 use Rattle.recipe.specs.Side.{Side}

@@ -1,5 +1,6 @@
 -- The noise number V' of a bin for the spatial filter of request L13.
-use Rattle.algebra.specs.Prelude.{cond, ℕ, ◌+◌, ◌-◌, ◌*◌, ◌/◌, ltb}
+use Rattle.std.specs.Prelude.{◌+◌, ◌-◌, ◌*◌, ◌/◌}
+use Rattle.algebra.specs.Prelude.{cond, ℕ, ltb}
 use Rattle.recipe.specs.Side.{Side}
 use Rattle.recipe.specs.Root.{whole_root}
 use Rattle.recipe.specs.NoiseNumber.{variance}

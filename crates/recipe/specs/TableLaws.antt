@@ -1,8 +1,8 @@
 -- The rules of document 01's tables, each one computed test over the whole table.
-use Rattle.algebra.specs.Prelude.{◌≡◌, refl, sym, ap, ◌∙◌, Bool, false, ℕ, ◌+◌, ◌-◌, ◌*◌, ◌%◌, ◌≤◌, ◌<◌, arith, ℤ, pos, negsuc, nat_abs, neg_ℤ}
+use Rattle.algebra.specs.Prelude.{refl, sym, ap, ◌∙◌, Bool, false, ℕ, arith, ℤ, pos, negsuc, nat_abs, neg_ℤ}
 use Rattle.std.proofs.Common.{mod-lt, eqb→eq, leb→le, lit<}
 use Rattle.std.proofs.Math.Nat.{mod-add-mod}
-use Rattle.std.specs.Prelude.{T, eqb, leb}
+use Rattle.std.specs.Prelude.{T, eqb, leb, ◌≡◌, ◌+◌, ◌-◌, ◌*◌, ◌%◌, ◌≤◌, ◌<◌}
 use Rattle.algebra.specs.Test.{all, all_sound}
 use Rattle.recipe.specs.Side.{cos_at, sin_at}
 use Rattle.recipe.specs.Tables.{cosines, cosine16, sine16, windows, window16, side16}

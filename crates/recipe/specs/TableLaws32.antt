@@ -1,8 +1,8 @@
 -- The rules of request L8's tables, each one computed test over the whole table.
-use Rattle.algebra.specs.Prelude.{◌≡◌, refl, sym, ap, ◌∙◌, ℕ, ◌+◌, ◌-◌, ◌*◌, ◌%◌, ◌≤◌, ◌<◌, arith, nat_abs, neg_ℤ}
+use Rattle.algebra.specs.Prelude.{refl, sym, ap, ◌∙◌, ℕ, arith, nat_abs, neg_ℤ}
 use Rattle.std.proofs.Common.{mod-lt, leb→le, lit<}
 use Rattle.std.proofs.Math.Nat.{mod-add-mod}
-use Rattle.std.specs.Prelude.{leb}
+use Rattle.std.specs.Prelude.{leb, ◌≡◌, ◌+◌, ◌-◌, ◌*◌, ◌%◌, ◌≤◌, ◌<◌}
 use Rattle.algebra.specs.Test.{all_sound}
 use Rattle.recipe.specs.Side.{cos_at}
 use Rattle.recipe.specs.Tables.{cosines, cosine16, side16}

@@ -1,5 +1,6 @@
 -- The rules of a side's cosines that folds of lines use, whatever the side.
-use Rattle.algebra.specs.Prelude.{◌≡◌, ℕ, ◌+◌, ◌-◌, ◌*◌, ◌/◌, ◌%◌, ◌≤◌, nat_abs, neg_ℤ}
+use Rattle.std.specs.Prelude.{◌≡◌, ◌+◌, ◌-◌, ◌*◌, ◌/◌, ◌%◌, ◌≤◌}
+use Rattle.algebra.specs.Prelude.{ℕ, nat_abs, neg_ℤ}
 use Rattle.recipe.specs.Side.{Side, cos_at}
 
 pub record Rules (s : Side) : Type 0 where

@@ -1,5 +1,6 @@
 -- Side 16, with document 01's tables.
-use Rattle.algebra.specs.Prelude.{List, [], ◌∷◌, ℕ, ◌+◌, ◌%◌, ◌^◌, lit<, get_or, ℤ, pos, neg_ℤ}
+use Rattle.std.specs.Prelude.{◌∷◌, ◌+◌, ◌%◌, ◌^◌}
+use Rattle.algebra.specs.Prelude.{List, [], ℕ, lit<, get_or, ℤ, pos, neg_ℤ}
 use Rattle.recipe.specs.Side.{Side}
 
 -- C(0..15)

@@ -1,5 +1,6 @@
 -- What a call owes where it has refused with the number k, and where it has accepted.
-use Rattle.algebra.specs.Prelude.{◌≡◌, refl, ℕ, zero, suc, arith}
+use Rattle.std.specs.Prelude.{◌≡◌}
+use Rattle.algebra.specs.Prelude.{refl, ℕ, zero, suc, arith}
 use Rattle.refusals.specs.After.{after}
 
 -- a refusal leaves what was held

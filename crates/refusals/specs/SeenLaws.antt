@@ -1,5 +1,6 @@
 -- The loop that gathers the bits of numbers: they are above 2^k − 1 where one of the numbers is.
-use Rattle.algebra.specs.Prelude.{◌≡◌, sym, ap, ◌∙◌, ◌||◌, ℕ, suc, ◌+◌, ◌^◌, ◌≤◌, ◌<◌, arith, ltb}
+use Rattle.std.specs.Prelude.{◌≡◌, ◌||◌, ◌+◌, ◌^◌, ◌≤◌, ◌<◌}
+use Rattle.algebra.specs.Prelude.{sym, ap, ◌∙◌, ℕ, suc, arith, ltb}
 use Rattle.std.proofs.Common.{add-one, lt-ltb, le-ltb}
 use Rattle.std.proofs.Math.Decide.{dec_lt}
 use Rattle.std.specs.Int.Bits.{bit_or, or_add_and}

@@ -1,5 +1,6 @@
 -- A test of many values.
-use Rattle.algebra.specs.Prelude.{Bool, false, ◌||◌, ℕ, zero, suc}
+use Rattle.std.specs.Prelude.{◌||◌}
+use Rattle.algebra.specs.Prelude.{Bool, false, ℕ, zero, suc}
 
 -- one of f 0, .., f (n − 1) holds
 unfoldable pub some : ℕ → (ℕ → Bool) → Bool

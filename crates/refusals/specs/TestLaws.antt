@@ -1,5 +1,6 @@
 -- A call's tests: which number they end with, and that it is 0 exactly where each of them is.
-use Rattle.algebra.specs.Prelude.{◌≡◌, refl, Bool, true, false, List, [], ◌∷◌, ◌++◌, ℕ, zero, suc, arith, T, ltb}
+use Rattle.std.specs.Prelude.{◌≡◌, ◌∷◌, ◌++◌}
+use Rattle.algebra.specs.Prelude.{refl, Bool, true, false, List, [], ℕ, zero, suc, arith, T, ltb}
 use Rattle.refusals.specs.Tests.{refuse, ◌before◌, first}
 
 -- a test is one of a list

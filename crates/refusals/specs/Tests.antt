@@ -1,5 +1,6 @@
 -- Refused inputs: "Tested in the order of the numbers, each exactly on its condition. Acceptance is number 0".
-use Rattle.algebra.specs.Prelude.{Bool, cond, List, [], ◌∷◌, ℕ, zero, suc}
+use Rattle.std.specs.Prelude.{◌∷◌}
+use Rattle.algebra.specs.Prelude.{Bool, cond, List, [], ℕ, zero, suc}
 
 -- one test: its number where its condition holds, else 0
 abbrev pub refuse : ℕ → Bool → ℕ

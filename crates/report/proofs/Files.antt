@@ -1,5 +1,6 @@
 -- What a program prints for a file, from what the file check answered and what reading found.
-use Rattle.report.specs.Prelude.{◌≡◌, sym, ap, subst, ◌∙◌, true, false, List, ◌++◌, ℕ, ◌≤◌, ◌<◌, arith, Allowed, Header, FileBurst, too_large, refusal}
+use Rattle.std.specs.Prelude.{◌≡◌, ◌++◌, ◌≤◌, ◌<◌}
+use Rattle.report.specs.Prelude.{sym, ap, subst, ◌∙◌, true, false, List, ℕ, arith, Allowed, Header, FileBurst, too_large, refusal}
 use lib.ListN.{length, take, drop, length-append, length-drop}
 use lib.Seq.{length-take-le, take_at}
 use borrow.Author.Tests.{lt-ltb, le-ltb, eq-eqb, ne_eqb}

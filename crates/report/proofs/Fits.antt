@@ -1,5 +1,6 @@
 -- A burst that the programs take has the shape and the lengths that the cores of the calls ask for.
-use Rattle.report.specs.Prelude.{◌≡◌, ◌∙◌, List, ℕ, ◌-◌, arith, length, BurstFits, AlignFits, MergeFits, Header}
+use Rattle.std.specs.Prelude.{◌≡◌, ◌-◌}
+use Rattle.report.specs.Prelude.{◌∙◌, List, ℕ, arith, length, BurstFits, AlignFits, MergeFits, Header}
 use mathlib.Core.Logic.{inl}
 use Rattle.geometry.specs.Shape.{sample_length, vector_length, output_length, work_length}
 use Rattle.report.specs.Inner.{room, vector_room, work_room, Taken}

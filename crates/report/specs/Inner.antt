@@ -1,5 +1,6 @@
 -- Inner vocabulary, which no public contract reaches: what the private functions ask of each other and leave to each other.
-use Rattle.report.specs.Prelude.{◌≡◌, List, ℕ, ◌-◌, ◌*◌, ◌≤◌, ◌<◌, length, take, ℤ, Allowed, ValuesFit, aligned_vectors, residual_sums, Header, FileBurst, too_large, refusal}
+use Rattle.std.specs.Prelude.{◌≡◌, ◌-◌, ◌*◌, ◌≤◌, ◌<◌}
+use Rattle.report.specs.Prelude.{List, ℕ, length, take, ℤ, Allowed, ValuesFit, aligned_vectors, residual_sums, Header, FileBurst, too_large, refusal}
 use Rattle.report.specs.declared.opening.Opened.{Opened}
 use Rattle.report.specs.declared.text.Program.{Program}
 use Rattle.report.specs.declared.text.Program.TheVariants.{Motion, Stack}

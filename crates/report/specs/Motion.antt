@@ -1,5 +1,6 @@
 -- Document 01, "The program `motion` prints one line per other frame".
-use Rattle.report.specs.Prelude.{List, [], ◌∷◌, ◌++◌, ℕ, zero, suc, ◌-◌, get_or, ℤ, aligned_vectors, residual_sums, FileBurst, motion_names, number_line}
+use Rattle.std.specs.Prelude.{◌∷◌, ◌++◌, ◌-◌}
+use Rattle.report.specs.Prelude.{List, [], ℕ, zero, suc, get_or, ℤ, aligned_vectors, residual_sums, FileBurst, motion_names, number_line}
 use Rattle.geometry.specs.Tiles.{frame_parts}
 use Rattle.geometry.specs.Vectors.{other_frame, parts_of}
 use Rattle.report_tally.specs.Tallies.{tiles, still_tiles, farthest}

@@ -1,5 +1,6 @@
 -- Document 01, "Both programs [..] take files up to 65536 bytes with W = H = 64": what a program prints for a file, by what it prints for the burst in it.
-use Rattle.report.specs.Prelude.{Bool, cond, ◌&&◌, List, ℕ, eqb, ltb, length, FileBurst, too_large, refusal}
+use Rattle.std.specs.Prelude.{◌&&◌}
+use Rattle.report.specs.Prelude.{Bool, cond, List, ℕ, eqb, ltb, length, FileBurst, too_large, refusal}
 use Rattle.geometry.specs.declared.Shape.{Shape}
 use Rattle.file_burst.specs.Lines.Part.{Part, refused, found}
 use Rattle.file_burst.specs.Reading.{reading}

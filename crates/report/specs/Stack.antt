@@ -1,5 +1,6 @@
 -- Document 01, "`stack` the merged frame (names `width height`, their values, rows)".
-use Rattle.report.specs.Prelude.{List, [], ◌∷◌, ◌++◌, ℕ, aligned_vectors, Header, FileBurst, stack_names, number_line, sample_rows}
+use Rattle.std.specs.Prelude.{◌∷◌, ◌++◌}
+use Rattle.report.specs.Prelude.{List, [], ℕ, aligned_vectors, Header, FileBurst, stack_names, number_line, sample_rows}
 use Rattle.recipe.specs.declared.Merge.{Merge}
 use Rattle.recipe.specs.Scene.{scene_of}
 use Rattle.recipe.specs.Merged.{merged}

@@ -1,5 +1,6 @@
 // What `motion` prints.
-ghost use Rattle.report.specs.Prelude.{◌≡◌, ◌+◌, ◌*◌, ◌<◌, ◌≤◌, length, Printed};
+ghost use Rattle.std.specs.Prelude.{◌≡◌, ◌+◌, ◌*◌, ◌<◌, ◌≤◌};
+ghost use Rattle.report.specs.Prelude.{length, Printed};
 ghost use Rattle.report.specs.Program.{text_room};
 ghost use Rattle.report.specs.Motion.{frame_line, frame_lines, motion_of};
 ghost use Rattle.report.specs.Inner.{vector_room, work_room, burst_of, Taken, AlignedAs};

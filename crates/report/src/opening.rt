@@ -1,5 +1,6 @@
 // What a program makes of a file before it prints.
-ghost use Rattle.algebra.specs.Prelude.{◌≤◌, length};
+ghost use Rattle.std.specs.Prelude.{◌≤◌};
+ghost use Rattle.algebra.specs.Prelude.{length};
 ghost use Rattle.report.specs.Program.{file_most};
 ghost use Rattle.report.specs.Inner.{room, Opens};
 

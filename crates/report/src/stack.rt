@@ -1,5 +1,6 @@
 // What `stack` prints.
-ghost use Rattle.report.specs.Prelude.{◌≡◌, ◌≤◌, length, Printed};
+ghost use Rattle.std.specs.Prelude.{◌≡◌, ◌≤◌};
+ghost use Rattle.report.specs.Prelude.{length, Printed};
 ghost use Rattle.report.specs.Program.{text_room, program_side};
 ghost use Rattle.report.specs.Stack.{frame_text, frame_of, stack_of};
 ghost use Rattle.report.specs.Inner.{room, vector_room, work_room, burst_of, Taken};

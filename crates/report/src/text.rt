@@ -1,5 +1,6 @@
 // What each program prints for a file, from the front of a lent text on. Each function answers the number of its bytes.
-ghost use Rattle.report.specs.Prelude.{◌≡◌, ◌≤◌, ◌<◌, length, take, Printed};
+ghost use Rattle.std.specs.Prelude.{◌≡◌, ◌≤◌, ◌<◌};
+ghost use Rattle.report.specs.Prelude.{length, take, Printed};
 ghost use Rattle.report.specs.Program.{text_room, file_most, program_text};
 ghost use Rattle.report.specs.Motion.{motion_text};
 ghost use Rattle.report.specs.Stack.{stack_text};

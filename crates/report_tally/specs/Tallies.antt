@@ -1,7 +1,7 @@
 -- Document 01, "(frame index; its tiles; tiles with vector 0,0; greatest absolute part; sum of finest residuals)": what `motion` counts on the vectors of
 -- one other frame, a list of their parts.
-use Rattle.algebra.specs.Prelude.{cond, ◌&&◌, List, eqb, length, get_or, ℤ, pos, nat_abs}
-use Rattle.std.specs.Prelude.{ℕ, zero, suc, ◌+◌, ◌*◌, ◌/◌, max}
+use Rattle.algebra.specs.Prelude.{cond, List, eqb, length, get_or, ℤ, pos, nat_abs}
+use Rattle.std.specs.Prelude.{ℕ, zero, suc, ◌+◌, ◌*◌, ◌/◌, max, ◌&&◌}
 use Rattle.algebra.specs.Sums.{sum_n}
 
 -- the absolute value of a part

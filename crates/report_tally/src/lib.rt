@@ -1,8 +1,8 @@
 // What `motion` counts on the vectors of one frame.
 #![tactic(auto)]
 
-ghost use Rattle.algebra.specs.Prelude.{◌≡◌, nat_abs, length};
-ghost use Rattle.std.specs.Prelude.{◌+◌, ◌*◌, ◌<◌, ◌≤◌, max};
+ghost use Rattle.algebra.specs.Prelude.{nat_abs, length};
+ghost use Rattle.std.specs.Prelude.{◌+◌, ◌*◌, ◌<◌, ◌≤◌, max, ◌≡◌};
 ghost use Rattle.report_tally.specs.Tallies.{reach, still_tile, still_tiles, farthest};
 
 // |part|

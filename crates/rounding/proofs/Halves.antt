@@ -1,5 +1,6 @@
 -- Rounding the absolute value. The floor is unique, so it is two inequalities.
-use Rattle.algebra.specs.Prelude.{◌≡◌, sym, [], ◌∷◌, ℕ, ◌+◌, ◌*◌, ◌/◌, ◌≤◌, ◌<◌, arith, lit<, pos}
+use Rattle.std.specs.Prelude.{◌≡◌, ◌∷◌, ◌+◌, ◌*◌, ◌/◌, ◌≤◌, ◌<◌}
+use Rattle.algebra.specs.Prelude.{sym, [], ℕ, arith, lit<, pos}
 use native.Mathlib.Nat.{mul-pos, mul-le-mul_left, div-add-mod', mod-lt, div-mul-le_self, div-lt_iff_lt-mul}
 use Rattle.algebra.specs.Vars.{vars3}
 use Rattle.algebra.specs.Ring.{◌⊞◌, ◌⊠◌, #◌}

@@ -1,5 +1,6 @@
 -- Division by 2·h to nearest, halves away from zero, as a floor: h is added, and 1 taken from what is below zero.
-use Rattle.algebra.specs.Prelude.{◌≡◌, ap, ◌∙◌, List, [], ◌∷◌, ℕ, suc, ◌+◌, ◌-◌, ◌*◌, ◌/◌, ◌^◌, ◌≤◌, ◌<◌, arith, T, ltb, lit<, ℤ, pos, negsuc, nat_abs, neg_ℤ, ◌+ℤ◌, w64, SFits}
+use Rattle.std.specs.Prelude.{◌≡◌, ◌∷◌, ◌+◌, ◌-◌, ◌*◌, ◌/◌, ◌^◌, ◌≤◌, ◌<◌, ◌+ℤ◌}
+use Rattle.algebra.specs.Prelude.{ap, ◌∙◌, List, [], ℕ, suc, arith, T, ltb, lit<, ℤ, pos, negsuc, nat_abs, neg_ℤ, w64, SFits}
 use native.Mathlib.Nat.{mul-pos, div-add-mod', mod-lt}
 use lib.Signed.{shr_z}
 use mir.Val.{hbits}

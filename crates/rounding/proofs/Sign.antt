@@ -1,5 +1,6 @@
 -- Rounding away from zero by a number's sign and its absolute value, with the number as the code holds it.
-use Rattle.algebra.specs.Prelude.{◌≡◌, ap, subst, ◌∙◌, true, false, ℕ, ◌-◌, ◌^◌, ◌≤◌, ◌<◌, arith, T, ℤ, pos, negsuc, nat_abs, neg_ℤ, ◌-ℤ◌, w64, SFits, to_z, of_z, to_z-of_z}
+use Rattle.std.specs.Prelude.{◌≡◌, ◌-◌, ◌^◌, ◌≤◌, ◌<◌, ◌-ℤ◌}
+use Rattle.algebra.specs.Prelude.{ap, subst, ◌∙◌, true, false, ℕ, arith, T, ℤ, pos, negsuc, nat_abs, neg_ℤ, w64, SFits, to_z, of_z, to_z-of_z}
 use lib.Signed.{lt_z}
 use borrow.Author.Tests.{ltb-true}
 use Rattle.algebra.specs.Bound.{neg-fits}

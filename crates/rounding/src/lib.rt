@@ -1,7 +1,8 @@
 // Division to nearest, halves away from zero. Half of the divisor is added: nothing is doubled, so nothing overflows.
 #![tactic(auto)]
 
-ghost use Rattle.algebra.specs.Prelude.{◌≡◌, ◌-◌, ◌≤◌, ◌<◌, ◌^◌, pos, nat_abs, neg_ℤ};
+ghost use Rattle.std.specs.Prelude.{◌≡◌, ◌-◌, ◌≤◌, ◌<◌, ◌^◌};
+ghost use Rattle.algebra.specs.Prelude.{pos, nat_abs, neg_ℤ};
 ghost use Rattle.algebra.specs.Nearest.{away, upward};
 
 // 1.5·2^52: a sum with it has units of 1

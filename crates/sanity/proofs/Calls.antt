@@ -1,5 +1,6 @@
 -- The same of a lone frame at the calls, once they have accepted.
-use Rattle.sanity.specs.Prelude.{◌≡◌, ◌∙◌, List, ℕ, ℤ, length, Shape, Noise, aligned_vectors, Alignment, Tuning, merge_of, Merged, Ran}
+use Rattle.std.specs.Prelude.{◌≡◌}
+use Rattle.sanity.specs.Prelude.{◌∙◌, List, ℕ, ℤ, length, Shape, Noise, aligned_vectors, Alignment, Tuning, merge_of, Merged, Ran}
 use Rattle.sanity.specs.Frames.{frame_words}
 use Rattle.sanity.specs.AcceptedLaws.{merge-accepted, run-accepted}
 use Rattle.sanity.specs.LoneFrame.{alone, no_rows, no_vectors}

@@ -1,5 +1,6 @@
 -- A burst of one frame, without the spatial filter, comes back unchanged: the whole frame, which is the exact merge too (sample for sample: specs/LoneFrame).
-use Rattle.sanity.specs.Prelude.{◌≡◌, sym, ◌∙◌, List, ℕ, ◌-◌, ◌≤◌, arith, ℤ, Merge, Scene, scene_of, scene_at, output_at, merged}
+use Rattle.std.specs.Prelude.{◌≡◌, ◌-◌, ◌≤◌}
+use Rattle.sanity.specs.Prelude.{sym, ◌∙◌, List, ℕ, arith, ℤ, Merge, Scene, scene_of, scene_at, output_at, merged}
 use Rattle.algebra.specs.Fraction.{whole, Within}
 use Rattle.recipe.specs.ExactMerge.{plane_exact, exact_at}
 use Rattle.sanity.specs.Frames.{frame_words, Burst}

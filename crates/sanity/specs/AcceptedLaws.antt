@@ -1,5 +1,6 @@
 -- What a call that has accepted leaves: its burst has passed the tests, and the buffers hold what the definitions say.
-use Rattle.algebra.specs.Prelude.{◌≡◌, sym, ap, ◌∙◌, List, ℕ, length, ℤ}
+use Rattle.std.specs.Prelude.{◌≡◌}
+use Rattle.algebra.specs.Prelude.{sym, ap, ◌∙◌, List, ℕ, length, ℤ}
 use Rattle.sanity.specs.Prelude.{Shape, vector_length, BurstFits, SamplesFit, TileSide, Noise, aligned_vectors, residual_sums, rows_summed, Merge, scene_of, merged, Alignment, Tuning, align_refusal, run_refusal, merge_refusal, merge_of, no_sums, answered, Aligned, Merged, Ran}
 use Rattle.refusals.specs.AfterLaws.{result-made}
 use Rattle.align_burst.specs.Burst.{Ready}

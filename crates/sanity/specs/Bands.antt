@@ -1,5 +1,6 @@
 -- Try bands of the merged frame, one below the other: joined they are merge's output. And try one: it is refused as merge is, its own tests apart.
-use Rattle.algebra.specs.Prelude.{◌≡◌, sym, ap, ap₂, ◌∙◌, List, [], ◌++◌, ℕ, ◌+◌, ◌*◌, arith, drop, length, ℤ}
+use Rattle.std.specs.Prelude.{◌≡◌, ◌++◌, ◌+◌, ◌*◌}
+use Rattle.algebra.specs.Prelude.{sym, ap, ap₂, ◌∙◌, List, [], ℕ, arith, drop, length, ℤ}
 use Rattle.std.proofs.Common.{add-mul, zero-mul, drop-drop}
 use Rattle.std.proofs.Math.Nat.{mul_comm}
 use Rattle.std.proofs.Math.ListN.{take-append-drop, drop_of_length-le}

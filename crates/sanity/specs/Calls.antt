@@ -1,6 +1,7 @@
 -- The same at the calls, once they have accepted: what merge, align and run leave without the spatial filter at strength 0, of frames that are all equal, and of frames in another
 -- order; of a lone frame in proofs/Calls.
-use Rattle.sanity.specs.Prelude.{◌≡◌, sym, ap, ◌∙◌, List, ℕ, ℤ, pos, length, replicate, zeros, Shape, Noise, aligned_vectors, scene_of, merged, Alignment, Tuning, merge_of, no_sums, Aligned, Merged, Ran}
+use Rattle.std.specs.Prelude.{◌≡◌}
+use Rattle.sanity.specs.Prelude.{sym, ap, ◌∙◌, List, ℕ, ℤ, pos, length, replicate, zeros, Shape, Noise, aligned_vectors, scene_of, merged, Alignment, Tuning, merge_of, no_sums, Aligned, Merged, Ran}
 use Rattle.sanity.specs.Frames.{frame_words, Alike}
 use Rattle.sanity.specs.StrengthZero as StrengthZero
 use Rattle.sanity.specs.StillMerge as StillMerge

@@ -1,8 +1,8 @@
 -- A file's levels as a curve, in quotients by 1024, as `stacker_file_noise` of stacker.h has them: the quotients are exact, and merge and run find the file's own levels in them.
-use Rattle.sanity.specs.Prelude.{◌≡◌, refl, sym, ap, ap₂, subst, ◌∙◌, true, false, not, ◌&&◌, ℕ, ◌*◌, ◌/◌, ◌^◌, ◌≤◌, ◌<◌, arith, T, ltb, lit<, lit≤, pos, first}
+use Rattle.sanity.specs.Prelude.{refl, sym, ap, ap₂, subst, ◌∙◌, true, false, not, ℕ, arith, T, ltb, lit<, lit≤, pos, first}
 use Rattle.std.proofs.Common.{mul-div_cancel, lt_of_lt_of_le, lt_of_le_of_lt, le_trans, mul-pos, mul-le-mul_right, shl_lt, le-ltb}
 use Rattle.std.proofs.Math.Nat.{eq_of_mul-eq-mul_right}
-use Rattle.std.specs.Prelude.{Float}
+use Rattle.std.specs.Prelude.{Float, ◌≡◌, ◌&&◌, ◌*◌, ◌/◌, ◌^◌, ◌≤◌, ◌<◌}
 use Rattle.std.specs.Float.{nan, inf, fin, binary64}
 use Rattle.std.specs.Float.Ieee.{up, down, round, div, of_int}
 use Rattle.std.specs.Float.Ieee.Exact.{HasValue, round_exact}

@@ -1,5 +1,6 @@
 -- Frames that are flat, each of one sample value, and the value of their merge in a line of arithmetic.
-use Rattle.algebra.specs.Prelude.{◌≡◌, List, ℕ, suc, ◌-◌, ◌*◌, ◌≤◌, ◌<◌, ℤ, pos, ◌-ℤ◌, ◌*ℤ◌}
+use Rattle.std.specs.Prelude.{◌≡◌, ◌-◌, ◌*◌, ◌≤◌, ◌<◌, ◌-ℤ◌, ◌*ℤ◌}
+use Rattle.algebra.specs.Prelude.{List, ℕ, suc, ℤ, pos}
 use Rattle.sanity.specs.Prelude.{replicate, sum_z, clamp_z, away, upward, Shape, output_length, Sampled, other_frame, side16, noise_number, wiener, Scene}
 use Rattle.sanity.specs.Frames.{Same, frame_words}
 

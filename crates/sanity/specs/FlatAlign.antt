@@ -1,8 +1,8 @@
 -- Try flat frames: every tile fits everywhere as well, so by the tie rule no vector moves, and the residuals are the difference times the samples.
-use Rattle.std.specs.Prelude.{◌≡◌}
+use Rattle.std.specs.Prelude.{◌≡◌, ◌-◌, ◌*◌, ◌/◌, ◌<◌}
 use Rattle.std.proofs.Common.{sym, ◌∙◌}
 use Rattle.std.proofs.Math.Path.{ap, ap₂, fun_ext, subst}
-use Rattle.sanity.specs.Prelude.{Bool, false, List, ℕ, zero, suc, ◌-◌, ◌*◌, ◌/◌, ◌<◌, arith, ℤ, pos, replicate, Shape, vector_length, Image, read, sample_at, other_frame, down_at, right_at, finest_level, level_size, Tile, Vector, still, gap, difference, Pair, row_residual, residual, level_at, level_tile, level_rows, level_columns, residual_sum, level_image, pairs, vectors_of, residual_of, field_of, sum_of, aligned_vectors, tile_residual}
+use Rattle.sanity.specs.Prelude.{Bool, false, List, ℕ, zero, suc, arith, ℤ, pos, replicate, Shape, vector_length, Image, read, sample_at, other_frame, down_at, right_at, finest_level, level_size, Tile, Vector, still, gap, difference, Pair, row_residual, residual, level_at, level_tile, level_rows, level_columns, residual_sum, level_image, pairs, vectors_of, residual_of, field_of, sum_of, aligned_vectors, tile_residual}
 use Rattle.geometry.specs.LevelTiles.{level_tiles}
 use Rattle.align_pyramid.specs.Bayer.Bayer.{bayer_sum}
 use Rattle.align_pyramid.specs.Halving.Halving.{weighted, halved}

@@ -1,6 +1,6 @@
 -- Document 01's figure: "W = H = 64, N = 2, reference 0 all 0, frame 1 all 4, shot 0, read 4194304, t 1024: every merged sample is 2. With t 0 it is 0."
-use Rattle.sanity.specs.Prelude.{◌≡◌, refl, ap, ◌∙◌, List, [], ◌∷◌, ◌++◌, ℕ, zero, suc, ◌*◌, ◌/◌, ◌<◌, arith, lit≤, lit<, ℤ, pos, sum_z, min_z, max_z, clamp_z, away, upward, tab, Shape, sample_length, vector_length, output_length, AllowedSize, Sampled, other_frame, level0, level_size, tile_count, residual_length, aligned_vectors, residual_sums, residual_word, tile_residuals, side16, side_of, variance, noise_number, wiener, Merge, scene_of, scene_at, merged}
-use Rattle.std.specs.Prelude.{length, take, replicate}
+use Rattle.sanity.specs.Prelude.{refl, ap, ◌∙◌, List, [], ℕ, zero, suc, arith, lit≤, lit<, ℤ, pos, sum_z, min_z, max_z, clamp_z, away, upward, tab, Shape, sample_length, vector_length, output_length, AllowedSize, Sampled, other_frame, level0, level_size, tile_count, residual_length, aligned_vectors, residual_sums, residual_word, tile_residuals, side16, side_of, variance, noise_number, wiener, Merge, scene_of, scene_at, merged}
+use Rattle.std.specs.Prelude.{length, take, replicate, ◌≡◌, ◌∷◌, ◌++◌, ◌*◌, ◌/◌, ◌<◌}
 use Rattle.std.proofs.lemmas.List.{length-replicate}
 use Rattle.std.proofs.Common.{length-append, take_at, drop_at, take_all}
 use Rattle.sequences.specs.Grid.{tab-ext}

@@ -1,6 +1,6 @@
 -- Flat frames: a tile of equal differences has one bin and one correction everywhere, and the windows add up to one.
-use Rattle.sanity.specs.Prelude.{◌≡◌, refl, sym, ap, ap₂, ◌∙◌, [], ◌∷◌, ℕ, zero, suc, ◌+◌, ◌-◌, ◌*◌, ◌%◌, ◌<◌, arith, sum_z, sum_n, away, upward, clamp_z, sum_of_squares, tile_root, Side, cos_at, sin_at, cosines, cosine16, sine16, side16, wiener, row_re, row_im, bin_re, bin_im, quantized, filtered, twiddle_re, twiddle_im, inverse_at, correction_at, row_in, column_in, weight_in, output_sample}
-use Rattle.std.specs.Prelude.{T, eqb, ℤ, negsuc, nat_abs, ◌+ℤ◌, ◌-ℤ◌, ◌*ℤ◌}
+use Rattle.sanity.specs.Prelude.{refl, sym, ap, ap₂, ◌∙◌, [], ℕ, zero, suc, arith, sum_z, sum_n, away, upward, clamp_z, sum_of_squares, tile_root, Side, cos_at, sin_at, cosines, cosine16, sine16, side16, wiener, row_re, row_im, bin_re, bin_im, quantized, filtered, twiddle_re, twiddle_im, inverse_at, correction_at, row_in, column_in, weight_in, output_sample}
+use Rattle.std.specs.Prelude.{T, eqb, ℤ, negsuc, nat_abs, ◌+ℤ◌, ◌-ℤ◌, ◌*ℤ◌, ◌≡◌, ◌∷◌, ◌+◌, ◌-◌, ◌*◌, ◌%◌, ◌<◌}
 use Rattle.std.proofs.Common.{eqb→eq, lit<}
 use Rattle.std.proofs.Math.IntN.{pos, neg_ℤ, +ℤ_idr, *ℤ-zero, zero-*ℤ, *ℤ_comm}
 use Rattle.algebra.specs.Ring.{var, ◌⊠◌, #◌, ring, ◌⊟◌}

@@ -1,8 +1,8 @@
 -- Try flat frames: whatever the vectors, each plane of the merged frame is flat too, of the value `flat_output`; and so is the frame where the planes have one black level.
-use Rattle.std.specs.Prelude.{◌≡◌}
+use Rattle.std.specs.Prelude.{◌≡◌, ◌+◌, ◌-◌, ◌*◌, ◌/◌, ◌%◌, ◌<◌, ◌-ℤ◌}
 use Rattle.std.proofs.Common.{◌∙◌}
 use Rattle.std.proofs.Math.Path.{ap, ap₂, fun_ext}
-use Rattle.sanity.specs.Prelude.{List, ℕ, ◌+◌, ◌-◌, ◌*◌, ◌/◌, ◌%◌, ◌<◌, arith, ℤ, pos, nat_abs, ◌-ℤ◌, replicate, output_length, other_frame, plane_of, read, side16, tile_root, noise_number, Merge, Scene, scene_of, black_of, tile_at, reference_tile, other_tile, tile_noise, tile_difference, scene_at, output_at, word_at, merged}
+use Rattle.sanity.specs.Prelude.{List, ℕ, arith, ℤ, pos, nat_abs, replicate, output_length, other_frame, plane_of, read, side16, tile_root, noise_number, Merge, Scene, scene_of, black_of, tile_at, reference_tile, other_tile, tile_noise, tile_difference, scene_at, output_at, word_at, merged}
 use Rattle.sequences.specs.Grid.{tab-ext}
 use Rattle.sequences.specs.ClearLaws.{tab-const}
 use Rattle.recipe.specs.SideLaws.{of_16}

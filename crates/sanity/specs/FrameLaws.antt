@@ -1,8 +1,8 @@
 -- A frame's words are its samples row by row, and frames of equal words are equal images.
-use Rattle.sanity.specs.Prelude.{◌≡◌, refl, sym, ap, ap₂, ◌∙◌, List, ℕ, zero, suc, ◌+◌, ◌*◌, ◌/◌, ◌%◌, ◌≤◌, ◌<◌, arith, Shape, sample_length, output_length, Image, sample_index, sample_at, Sampled}
+use Rattle.sanity.specs.Prelude.{refl, sym, ap, ap₂, ◌∙◌, List, ℕ, zero, suc, arith, Shape, sample_length, output_length, Image, sample_index, sample_at, Sampled}
 use Rattle.std.proofs.Common.{mod-lt, div-lt_iff_lt-mul, mul_comm, zero-mul}
 use Rattle.std.proofs.Math.Nat.{div-add-mod', suc-mul, mul-le-mul_right}
-use Rattle.std.specs.Prelude.{length, take, drop, replicate}
+use Rattle.std.specs.Prelude.{length, take, drop, replicate, ◌≡◌, ◌+◌, ◌*◌, ◌/◌, ◌%◌, ◌≤◌, ◌<◌}
 use Rattle.std.proofs.Math.ListN.{get_or, length-drop}
 use Rattle.std.proofs.Math.Seq.{ext_get_or, length-take-le, get_or-take, get_or-drop}
 use Rattle.sequences.specs.TabLaws.{length-tab, get_d-tab}

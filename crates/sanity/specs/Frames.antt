@@ -1,5 +1,6 @@
 -- What the theorems speak of: the words of one frame, and frames that are all alike.
-use Rattle.sanity.specs.Prelude.{◌≡◌, List, ℕ, ◌*◌, ◌/◌, ◌%◌, ◌<◌, tab, Shape, Image, sample_at, Sampled, SamplesFit}
+use Rattle.std.specs.Prelude.{◌≡◌, ◌*◌, ◌/◌, ◌%◌, ◌<◌}
+use Rattle.sanity.specs.Prelude.{List, ℕ, tab, Shape, Image, sample_at, Sampled, SamplesFit}
 
 -- the words of an image of so many rows and columns, "row by row"
 unfoldable pub image_words : (height width : ℕ) → Image → List ℕ

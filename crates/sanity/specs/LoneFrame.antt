@@ -1,6 +1,7 @@
 -- Try a burst of one frame, without the spatial filter ("only there is L4's lone frame promised unchanged"): it comes back unchanged, whatever the noise and the strength are:
 -- here sample for sample, in proofs/LoneFrame the whole frame.
-use Rattle.sanity.specs.Prelude.{◌≡◌, refl, ap, List, ℕ, ◌+◌, ◌-◌, ◌*◌, ◌<◌, ◌≤◌, arith, ℤ, pos, zarith, sum_n, clamp_z, Shape, vector_length, rows_summed, Scene, output_at, Side}
+use Rattle.std.specs.Prelude.{◌≡◌, ◌+◌, ◌-◌, ◌*◌, ◌<◌, ◌≤◌}
+use Rattle.sanity.specs.Prelude.{refl, ap, List, ℕ, arith, ℤ, pos, zarith, sum_n, clamp_z, Shape, vector_length, rows_summed, Scene, output_at, Side}
 use Rattle.std.proofs.Common.{zero-mul}
 use Rattle.std.proofs.Math.Nat.{mul-le-mul_right}
 use Rattle.algebra.specs.Fraction.{whole, ◌+F◌, ◌-F◌, over, sum_f, held, Within}

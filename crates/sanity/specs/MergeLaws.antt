@@ -1,5 +1,6 @@
 -- Equal frames have equal tiles; and where no tile has a correction, the merged frame is the reference.
-use Rattle.algebra.specs.Prelude.{◌≡◌, ap, ap₂, ◌∙◌, ℕ, ◌+◌, ◌*◌, ◌/◌, ◌%◌, ◌≤◌, ◌<◌, arith, ℤ, pos, nat_abs, ◌+ℤ◌}
+use Rattle.std.specs.Prelude.{◌≡◌, ◌+◌, ◌*◌, ◌/◌, ◌%◌, ◌≤◌, ◌<◌, ◌+ℤ◌}
+use Rattle.algebra.specs.Prelude.{ap, ap₂, ◌∙◌, ℕ, arith, ℤ, pos, nat_abs}
 use Rattle.sequences.specs.Grid.{tab-ext}
 use Rattle.sanity.specs.Prelude.{Image, plane_of, inside, read, origin, Side, correction_at, Scene, tile_at, noise_over, difference_over, output_at, word_at, merged}
 use Rattle.geometry.specs.ReadLaws.{inside-below}

@@ -1,5 +1,6 @@
 -- Try a tile that has moved, to within 4 of the guess: the search finds a residual of 0, and the move itself where no other offset fits as well.
-use Rattle.algebra.specs.Prelude.{◌≡◌, ap, ◌∙◌, Bool, ℕ, ◌<◌, arith, pos, ◌+ℤ◌}
+use Rattle.std.specs.Prelude.{◌≡◌, ◌<◌, ◌+ℤ◌}
+use Rattle.algebra.specs.Prelude.{ap, ◌∙◌, Bool, ℕ, arith, pos}
 use Rattle.sanity.specs.Prelude.{Tile, Vector, ◌plus◌, difference, Pair, row_residual, residual}
 use Rattle.align_patch.specs.Bounds.{Within}
 use Rattle.align_search.specs.Offsets.{offset}

@@ -1,8 +1,8 @@
 -- Where no tile over a sample has a correction, the output is the reference sample.
-use Rattle.sanity.specs.Prelude.{◌≡◌, ap, ◌∙◌, ℕ, suc, ◌+◌, ◌*◌, ◌≤◌, ◌<◌, arith, lit<, sum_z, zarith, clamp_z, upward, Side, correction_at, row_in, column_in, weight_in, output_sample}
+use Rattle.sanity.specs.Prelude.{ap, ◌∙◌, ℕ, suc, arith, lit<, sum_z, zarith, clamp_z, upward, Side, correction_at, row_in, column_in, weight_in, output_sample}
 use Rattle.std.proofs.Common.{mul-pos}
 use Rattle.std.proofs.Math.Nat.{div-eq_of_lt-le}
-use Rattle.std.specs.Prelude.{ℤ, ◌-ℤ◌, ◌*ℤ◌}
+use Rattle.std.specs.Prelude.{ℤ, ◌-ℤ◌, ◌*ℤ◌, ◌≡◌, ◌+◌, ◌*◌, ◌≤◌, ◌<◌}
 use Rattle.std.proofs.Math.IntN.{pos, *ℤ-zero}
 use Rattle.algebra.specs.ClampLaws.{clamp-same}
 use Rattle.tile_spectrum.specs.ZeroLaws.{sum_z-zero}

@@ -1,6 +1,7 @@
 -- Try black levels (request L3): with all four 0 the merge is document 01's; a plane's level moves that plane's samples alone; V falls as the level rises, and
 -- a level above every sample leaves r = 0.
-use Rattle.sanity.specs.Prelude.{◌≡◌, refl, sym, ap, ap₂, ◌∙◌, List, [], ◌∷◌, ℕ, zero, suc, ◌+◌, ◌-◌, ◌*◌, ◌/◌, ◌%◌, ◌≤◌, ◌<◌, arith, eqb, get_or, ℤ, pos, nat_abs, replicate, sum_n, tab, plane_of, Tuning, Merge, squared, sum_of_squares, tile_root, noise_number, side_of, output_sample, Scene, scene_of, black_of, tile_over, reference_tile, other_tile, tile_noise, tile_spatial, tile_difference, difference_over, tile_here, scene_at, plane_output, output_at, word_at, merged}
+use Rattle.std.specs.Prelude.{◌≡◌, ◌∷◌, ◌+◌, ◌-◌, ◌*◌, ◌/◌, ◌%◌, ◌≤◌, ◌<◌}
+use Rattle.sanity.specs.Prelude.{refl, sym, ap, ap₂, ◌∙◌, List, [], ℕ, zero, suc, arith, eqb, get_or, ℤ, pos, nat_abs, replicate, sum_n, tab, plane_of, Tuning, Merge, squared, sum_of_squares, tile_root, noise_number, side_of, output_sample, Scene, scene_of, black_of, tile_over, reference_tile, other_tile, tile_noise, tile_spatial, tile_difference, difference_over, tile_here, scene_at, plane_output, output_at, word_at, merged}
 use Rattle.std.proofs.Math.Path.{fun_ext}
 use Rattle.std.proofs.Common.{le_refl}
 use Rattle.algebra.specs.SumLaws.{sum_n-cong}

@@ -1,6 +1,7 @@
 -- Black levels at the calls: with all four 0, numbers and outputs are those without black levels; and of two accepted calls that differ in black levels alone, the outputs
 -- agree on each plane that has kept its own.
-use Rattle.algebra.specs.Prelude.{◌≡◌, refl, sym, ap, ◌∙◌, List, [], ◌∷◌, ◌++◌, ℕ, zero, suc, ◌*◌, ◌/◌, ◌%◌, ◌<◌, length, get_or, ℤ}
+use Rattle.std.specs.Prelude.{◌≡◌, ◌∷◌, ◌++◌, ◌*◌, ◌/◌, ◌%◌, ◌<◌}
+use Rattle.algebra.specs.Prelude.{refl, sym, ap, ◌∙◌, List, [], ℕ, zero, suc, length, get_or, ℤ}
 use Rattle.sanity.specs.Prelude.{Shape, ◌before◌, first, Noise, aligned_vectors, Tuning, scene_of, black_of, scene_at, Alignment, content_tests, run_tests, run_refusal, merge_refusal, merge_of, filter_side_refusal, Merged, Ran}
 use Rattle.admit_length.specs.Order.{merge_shape_tests}
 use Rattle.admit_value.specs.Bounds.{sample_refusal, vector_refusal}

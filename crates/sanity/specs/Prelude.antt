@@ -1,6 +1,6 @@
 -- The words of other crates that this crate's files share. Lemmas are not passed on: of those the `use` line says where they are.
-pub use Rattle.algebra.specs.Prelude.{Bool, List, T, ℕ, ℤ, [], ap, ap₂, arith, cond, eqb, false, get_or, lit<, lit≤, ltb, nat_abs, not, pos, refl, subst, suc, sym, true, zero, ◌%◌, ◌&&◌, ◌*◌, ◌++◌, ◌+◌, ◌-◌, ◌-ℤ◌, ◌/◌, ◌<◌, ◌^◌, ◌||◌, ◌∙◌, ◌∷◌, ◌≡◌, ◌≤◌}
-pub use Rattle.std.specs.Prelude.{length, replicate}
+pub use Rattle.algebra.specs.Prelude.{Bool, List, T, ℕ, ℤ, [], ap, ap₂, arith, cond, eqb, false, get_or, lit<, lit≤, ltb, nat_abs, not, pos, refl, subst, suc, sym, true, zero, ◌∙◌}
+pub use Rattle.std.specs.Prelude.{length, replicate, ◌%◌, ◌&&◌, ◌*◌, ◌++◌, ◌+◌, ◌-◌, ◌-ℤ◌, ◌/◌, ◌<◌, ◌^◌, ◌||◌, ◌∷◌, ◌≡◌, ◌≤◌}
 unfoldable pub use Rattle.algebra.specs.Clamp.{clamp_z, max_z, min_z}
 unfoldable pub use Rattle.algebra.specs.Nearest.{away, upward}
 pub use Rattle.algebra.specs.Order.{0≤pos, zarith}

@@ -1,8 +1,8 @@
 -- Equal frames have equal pyramids, read anywhere.
-use Rattle.std.specs.Prelude.{◌≡◌}
+use Rattle.std.specs.Prelude.{◌≡◌, ◌+◌, ◌*◌, ◌/◌, ◌≤◌, ◌<◌}
 use Rattle.std.proofs.Common.{ap₂}
 use Rattle.std.proofs.Math.Path.{fun_ext}
-use Rattle.sanity.specs.Prelude.{ℕ, zero, suc, ◌+◌, ◌*◌, ◌/◌, ◌≤◌, ◌<◌, arith, ℤ, Shape, Allowed, Image, inside, read, level1, level2, level_size, level_at, level_image, pairs}
+use Rattle.sanity.specs.Prelude.{ℕ, zero, suc, arith, ℤ, Shape, Allowed, Image, inside, read, level1, level2, level_size, level_at, level_image, pairs}
 use Rattle.geometry.specs.ReadLaws.{inside-below}
 use Rattle.align_pyramid.specs.Bayer.Bayer.{bayer_sum}
 use Rattle.align_pyramid.specs.Halving.Halving.{halved}

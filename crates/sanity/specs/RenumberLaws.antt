@@ -1,7 +1,7 @@
 -- A sum does not depend on the order of its terms.
-use Rattle.sanity.specs.Prelude.{◌≡◌, sym, ap, ap₂, ◌∙◌, cond, ℕ, zero, suc, ◌<◌, arith, eqb, sum_z}
+use Rattle.sanity.specs.Prelude.{sym, ap, ap₂, ◌∙◌, cond, ℕ, zero, suc, arith, eqb, sum_z}
 use Rattle.std.proofs.Math.Decide.{ℕ_discrete}
-use Rattle.std.specs.Prelude.{ℤ, pos, ◌+ℤ◌}
+use Rattle.std.specs.Prelude.{ℤ, pos, ◌+ℤ◌, ◌≡◌, ◌<◌}
 use Rattle.std.proofs.Math.IntN.{+ℤ_idl, +ℤ_idr}
 use Rattle.std.proofs.Common.{eq-eqb, ne_eqb}
 use Rattle.algebra.specs.SumLaws.{sum_z-cong, sum_z-0, sum_z-add}

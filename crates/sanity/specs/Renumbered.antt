@@ -1,8 +1,8 @@
 -- Try the other frames in another order, each with its vectors: the merged frame stays the same.
-use Rattle.std.specs.Prelude.{◌≡◌}
+use Rattle.std.specs.Prelude.{◌≡◌, ◌*◌, ◌/◌, ◌%◌, ◌≤◌, ◌<◌, ◌+ℤ◌, ◌-ℤ◌, ◌*ℤ◌}
 use Rattle.std.proofs.Math.Path.{refl, sym, ap, ap₂, fun_ext}
 use Rattle.std.proofs.Common.{◌∙◌}
-use Rattle.algebra.specs.Prelude.{List, ℕ, suc, ◌*◌, ◌/◌, ◌%◌, ◌≤◌, ◌<◌, arith, ℤ, pos, nat_abs, ◌+ℤ◌, ◌-ℤ◌, ◌*ℤ◌}
+use Rattle.algebra.specs.Prelude.{List, ℕ, suc, arith, ℤ, pos, nat_abs}
 use Rattle.algebra.specs.SumLaws.{sum_z-cong}
 use Rattle.sanity.specs.Prelude.{clamp_z, away, upward, AllowedSize, TileSide, plane_of, noise_number, Merge, Side, side16, side_of, bin_re, bin_im, inverse_at, correction_at, row_in, column_in, weight_in, Scene, scene_of, tile_at, tile_over, reference_tile, other_tile, tile_noise, tile_spatial, tile_difference, tile_here, scene_at, plane_output, output_at, word_at, merged}
 use Rattle.sequences.specs.Grid.{tab-ext}

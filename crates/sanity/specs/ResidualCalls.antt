@@ -1,7 +1,7 @@
 -- The residuals of tiles, once the call has accepted: at the vectors that align has found a frame's add up to align's sum; and of frames that are all equal, at vectors of 0, every
 -- one is 0.
-use Rattle.sanity.specs.Prelude.{◌≡◌, sym, ap, ap₂, ◌∙◌, List, ℕ, ◌+◌, ◌-◌, ◌*◌, ◌/◌, ◌<◌, arith, get_or, ℤ, pos, sum_n, tab, zeros, Shape, sample_at, finest_level, other_frame, down_at, right_at, frame_tiles, residual_length, residual, level_tile, pairs, sum_of, residual_sums, tile_residual, residual_word, tile_residuals, Alignment, Aligned}
-use Rattle.std.specs.Prelude.{length}
+use Rattle.sanity.specs.Prelude.{sym, ap, ap₂, ◌∙◌, List, ℕ, arith, get_or, ℤ, pos, sum_n, tab, zeros, Shape, sample_at, finest_level, other_frame, down_at, right_at, frame_tiles, residual_length, residual, level_tile, pairs, sum_of, residual_sums, tile_residual, residual_word, tile_residuals, Alignment, Aligned}
+use Rattle.std.specs.Prelude.{length, ◌≡◌, ◌+◌, ◌-◌, ◌*◌, ◌/◌, ◌<◌}
 use Rattle.std.proofs.Math.ListN.{replicate, get_or-append}
 use Rattle.sequences.specs.TabLaws.{length-tab, get_d-tab}
 use Rattle.sequences.specs.Grid.{tab-ext}

@@ -1,8 +1,8 @@
 -- Rounding to nearest: what is whole stays, a sign passes through, and a common factor goes.
-use Rattle.sanity.specs.Prelude.{◌≡◌, refl, sym, ap, ap₂, ◌∙◌, [], ◌∷◌, ℕ, zero, suc, ◌+◌, ◌*◌, ◌/◌, ◌<◌, arith, 0≤pos, away, upward}
+use Rattle.sanity.specs.Prelude.{refl, sym, ap, ap₂, ◌∙◌, [], ℕ, zero, suc, arith, 0≤pos, away, upward}
 use Rattle.std.proofs.Common.{mul-pos}
 use Rattle.std.proofs.Math.Nat.{div-eq_of_lt-le, mul-div-mul_right}
-use Rattle.std.specs.Prelude.{ℤ, pos, negsuc, neg_ℤ, ◌+ℤ◌, ◌*ℤ◌}
+use Rattle.std.specs.Prelude.{ℤ, pos, negsuc, neg_ℤ, ◌+ℤ◌, ◌*ℤ◌, ◌≡◌, ◌∷◌, ◌+◌, ◌*◌, ◌/◌, ◌<◌}
 use Rattle.std.proofs.Math.IntN.{neg_ℤ-neg_ℤ}
 use Rattle.std.specs.Int.Signed.{shr_z}
 use Rattle.algebra.specs.Laws.{neg-*ℤ}

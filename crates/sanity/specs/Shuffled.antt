@@ -1,6 +1,7 @@
 -- Try the frames of a burst in another order, the reference at another place among them: each other frame keeps its vectors, its residuals and
 -- their sum, and the merged frame stays the same.
-use Rattle.sanity.specs.Prelude.{◌≡◌, refl, sym, ap, ap₂, subst, ◌∙◌, List, ℕ, ◌+◌, ◌-◌, ◌/◌, ◌≤◌, ◌<◌, arith, ℤ, Shape, TileSide, sample_at, finest_level, tile_rows, tile_columns, other_frame, down_at, right_at, Pair, residual, level_tile, field0, residual_sum, pairs, vectors_of, residual_of, field_of, sum_of, aligned_vectors, tile_residual, Merge, side16, side_of, scene_of, scene_at, merged}
+use Rattle.std.specs.Prelude.{◌≡◌, ◌+◌, ◌-◌, ◌/◌, ◌≤◌, ◌<◌}
+use Rattle.sanity.specs.Prelude.{refl, sym, ap, ap₂, subst, ◌∙◌, List, ℕ, arith, ℤ, Shape, TileSide, sample_at, finest_level, tile_rows, tile_columns, other_frame, down_at, right_at, Pair, residual, level_tile, field0, residual_sum, pairs, vectors_of, residual_of, field_of, sum_of, aligned_vectors, tile_residual, Merge, side16, side_of, scene_of, scene_at, merged}
 use Rattle.geometry.specs.VectorLaws.{list-down, list_right}
 use Rattle.recipe.specs.Tables32.{side32}
 use Rattle.recipe.specs.SideLaws.{by-table}

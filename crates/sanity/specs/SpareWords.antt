@@ -1,6 +1,7 @@
 -- Try two bursts that differ only in spare words: align, merge, run, the run that chooses its reference and the residuals of tiles give equal answers and leave equal buffers,
 -- whether they refuse or not.
-use Rattle.sanity.specs.Prelude.{◌≡◌, refl, sym, ap, ap₂, subst, ◌∙◌, Bool, ◌||◌, List, ◌++◌, ℕ, zero, suc, ◌-◌, ◌/◌, ◌%◌, ◌<◌, arith, ltb, ℤ, length, replicate, zeros, refuse, first, Shape, vector_length, sample_at, finest_level, tile_columns, frame_parts, other_frame, down_at, right_at, word, word_of, vector_list, frame_tiles, residual_length, Allowed, BurstFits, TileSide, Noise, residual, level_tile, field0, residual_sum, pairs, vectors_of, residual_of, field_of, sum_of, aligned_vectors, residual_sums, frame_rows, rows_of, rows_summed, tile_residual, residual_word, tile_residuals, Merge, Tuning, scene_of, scene_at, merged, Alignment, align_refusal, content_tests, run_tests, run_refusal, merge_refusal, merge_of, no_sums, answered, Aligned, Merged, Ran}
+use Rattle.std.specs.Prelude.{◌≡◌, ◌||◌, ◌++◌, ◌-◌, ◌/◌, ◌%◌, ◌<◌}
+use Rattle.sanity.specs.Prelude.{refl, sym, ap, ap₂, subst, ◌∙◌, Bool, List, ℕ, zero, suc, arith, ltb, ℤ, length, replicate, zeros, refuse, first, Shape, vector_length, sample_at, finest_level, tile_columns, frame_parts, other_frame, down_at, right_at, word, word_of, vector_list, frame_tiles, residual_length, Allowed, BurstFits, TileSide, Noise, residual, level_tile, field0, residual_sum, pairs, vectors_of, residual_of, field_of, sum_of, aligned_vectors, residual_sums, frame_rows, rows_of, rows_summed, tile_residual, residual_word, tile_residuals, Merge, Tuning, scene_of, scene_at, merged, Alignment, align_refusal, content_tests, run_tests, run_refusal, merge_refusal, merge_of, no_sums, answered, Aligned, Merged, Ran}
 use Rattle.std.proofs.Math.Nat.{mul_comm}
 use Rattle.sequences.specs.Grid.{tab-ext}
 use Rattle.sequences.specs.Place.{row_below}

@@ -1,5 +1,6 @@
 -- Try a burst of one picture taken several times: every vector that alignment finds is 0, and so is every sum of residuals.
-use Rattle.sanity.specs.Prelude.{◌≡◌, ap, ◌∙◌, List, ◌++◌, ℕ, ◌+◌, ◌-◌, ◌<◌, arith, pos, Shape, vector_length, sample_at, other_frame, pairs, vectors_of, residual_of, field_of, sum_of, aligned_vectors, residual_sums}
+use Rattle.std.specs.Prelude.{◌≡◌, ◌++◌, ◌+◌, ◌-◌, ◌<◌}
+use Rattle.sanity.specs.Prelude.{ap, ◌∙◌, List, ℕ, arith, pos, Shape, vector_length, sample_at, other_frame, pairs, vectors_of, residual_of, field_of, sum_of, aligned_vectors, residual_sums}
 use Rattle.std.proofs.Math.Nat.{mul-zero}
 use Rattle.std.proofs.Math.ListN.{replicate, replicate-append-replicate}
 use Rattle.sequences.specs.Grid.{tab-ext}

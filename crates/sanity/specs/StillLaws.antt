@@ -1,7 +1,7 @@
 -- Alignment of two images of which no tile gains by a move: no offset and no candidate takes the place of 0, at any level. Equal images are such.
-use Rattle.sanity.specs.Prelude.{◌≡◌, refl, ap, ap₂, ◌∙◌, Bool, true, false, List, ℕ, zero, suc, ◌-◌, ◌*◌, ◌/◌, ◌%◌, ◌≤◌, ◌<◌, arith, sum_n, replicate, Shape, vector_length, Allowed, Level, finest_level, level1, level2, level3, Step, finest_step, step2to1, step3to2, frame_parts, Tile, Vector, still, ◌plus◌, ◌times◌, gap, difference, Pair, row_residual, residual, VectorField, part, word, word_of, vector_list, level_tile, coarsest, from_coarse, finer, field0, field1, field2, field3, level_rows, level_columns, residual_sum, field_of, aligned_vectors}
+use Rattle.sanity.specs.Prelude.{refl, ap, ap₂, ◌∙◌, Bool, true, false, List, ℕ, zero, suc, arith, sum_n, replicate, Shape, vector_length, Allowed, Level, finest_level, level1, level2, level3, Step, finest_step, step2to1, step3to2, frame_parts, Tile, Vector, still, ◌plus◌, ◌times◌, gap, difference, Pair, row_residual, residual, VectorField, part, word, word_of, vector_list, level_tile, coarsest, from_coarse, finer, field0, field1, field2, field3, level_rows, level_columns, residual_sum, field_of, aligned_vectors}
 use Rattle.std.proofs.Common.{mul_comm}
-use Rattle.std.specs.Prelude.{ℤ, ◌+ℤ◌}
+use Rattle.std.specs.Prelude.{ℤ, ◌+ℤ◌, ◌≡◌, ◌-◌, ◌*◌, ◌/◌, ◌%◌, ◌≤◌, ◌<◌}
 use Rattle.std.proofs.Math.IntN.{pos, +ℤ_idr, zero-*ℤ}
 use Rattle.algebra.specs.SumLaws.{sum_n-cong, sum_n-const}
 use Rattle.sequences.specs.Grid.{tab-ext}

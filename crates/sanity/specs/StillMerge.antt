@@ -1,6 +1,6 @@
 -- Try a burst of one picture taken several times, with vectors of 0: the merge hands back the reference, whatever the noise and the strength are.
-use Rattle.sanity.specs.Prelude.{◌≡◌, refl, sym, ◌∙◌, List, ℕ, zero, suc, ◌+◌, ◌%◌, ◌≤◌, ◌<◌, arith, other_frame, vector_place, down_at, right_at, Merge, Scene, scene_of, tile_at, reference_tile, other_tile, tile_difference, scene_at, output_at, merged}
-use Rattle.std.specs.Prelude.{pos, get_or, replicate}
+use Rattle.sanity.specs.Prelude.{refl, sym, ◌∙◌, List, ℕ, zero, suc, arith, other_frame, vector_place, down_at, right_at, Merge, Scene, scene_of, tile_at, reference_tile, other_tile, tile_difference, scene_at, output_at, merged}
+use Rattle.std.specs.Prelude.{pos, get_or, replicate, ◌≡◌, ◌+◌, ◌%◌, ◌≤◌, ◌<◌}
 use Rattle.std.proofs.Math.IntN.{+ℤ_invr}
 use Rattle.sanity.specs.Frames.{Burst, Same, Alike, image_words, frame_words}
 use Rattle.geometry.specs.VectorLaws.{other-below}

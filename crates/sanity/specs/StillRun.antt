@@ -1,5 +1,6 @@
 -- Try a burst of one picture taken several times, aligned and then merged: the reference comes back, whatever the noise and the strength are.
-use Rattle.sanity.specs.Prelude.{◌≡◌, ap, ◌∙◌, List, ℕ, vector_length, aligned_vectors, Merge, scene_of, merged}
+use Rattle.std.specs.Prelude.{◌≡◌}
+use Rattle.sanity.specs.Prelude.{ap, ◌∙◌, List, ℕ, vector_length, aligned_vectors, Merge, scene_of, merged}
 use Rattle.sanity.specs.Frames.{frame_words, Burst, Alike}
 use Rattle.sanity.specs.StillMerge.{burst-back}
 use Rattle.sanity.specs.StillAlign.{vectors-none}

@@ -1,5 +1,6 @@
 -- Try strength 0, and no spatial filter: the merge hands back the reference, whatever the other frames, the vectors and the noise are.
-use Rattle.sanity.specs.Prelude.{◌≡◌, sym, ap, ◌∙◌, List, ℕ, ◌/◌, ◌%◌, ◌≤◌, ℤ, pos, tile_root, noise_number, correction_at, Merge, Scene, scene_of, black_of, reference_tile, tile_noise, difference_over, scene_at, output_at, merged}
+use Rattle.std.specs.Prelude.{◌≡◌, ◌/◌, ◌%◌, ◌≤◌}
+use Rattle.sanity.specs.Prelude.{sym, ap, ◌∙◌, List, ℕ, ℤ, pos, tile_root, noise_number, correction_at, Merge, Scene, scene_of, black_of, reference_tile, tile_noise, difference_over, scene_at, output_at, merged}
 use Rattle.noise.specs.NoiseNumberLaws.{noise-number-off}
 use Rattle.sanity.specs.Frames.{frame_words, Burst}
 use Rattle.sanity.specs.FrameLaws.{frame-words}

@@ -1,6 +1,6 @@
 -- Zeros written from the front.
-use Rattle.algebra.specs.Prelude.{◌≡◌, refl, ap, ◌∙◌, List, [], ◌∷◌, ◌++◌, ℕ, zero, suc, ℤ, pos}
-use Rattle.std.specs.Prelude.{length, replicate}
+use Rattle.algebra.specs.Prelude.{refl, ap, ◌∙◌, List, [], ℕ, zero, suc, ℤ, pos}
+use Rattle.std.specs.Prelude.{length, replicate, ◌≡◌, ◌∷◌, ◌++◌}
 use Rattle.sequences.specs.Tab.{tab}
 use Rattle.sequences.specs.Clear.{zeros}
 

@@ -1,5 +1,6 @@
 -- The first place that none beats: the loop that finds it, and, where `beats` is an order, what it is.
-use Rattle.algebra.specs.Prelude.{◌≡◌, refl, ap, ◌∙◌, Bool, true, false, ℕ, zero, suc, ◌+◌, ◌-◌, ◌≤◌, ◌<◌, arith}
+use Rattle.std.specs.Prelude.{◌≡◌, ◌+◌, ◌-◌, ◌≤◌, ◌<◌}
+use Rattle.algebra.specs.Prelude.{refl, ap, ◌∙◌, Bool, true, false, ℕ, zero, suc, arith}
 use borrow.Author.Count.{below_more}
 use Rattle.sequences.specs.Least.{pick, first_by}
 

@@ -1,8 +1,8 @@
 -- Tables by their entries, and tables of two indices: rows of cells.
-use Rattle.algebra.specs.Prelude.{◌≡◌, refl, sym, ap, ap₂, ◌∙◌, Bool, true, false, cond, ◌&&◌, List, [], ◌∷◌, ◌++◌, ℕ, zero, suc, ◌<◌, arith, eqb}
+use Rattle.algebra.specs.Prelude.{refl, sym, ap, ap₂, ◌∙◌, Bool, true, false, cond, List, [], ℕ, zero, suc, arith, eqb}
 use Rattle.std.proofs.Common.{le_refl, length-set, ext_get_or, get_or-set_same, get_or-set_other}
 use borrow.Author.Tests.{eq-eqb, eqb-true, eqb-false}
-use Rattle.std.specs.Prelude.{length, get_or}
+use Rattle.std.specs.Prelude.{length, get_or, ◌≡◌, ◌&&◌, ◌∷◌, ◌++◌, ◌<◌}
 use Rattle.std.proofs.Math.ListN.{set}
 use Rattle.sequences.specs.Tab.{tab}
 use Rattle.sequences.specs.TabLaws.{length-tab, get_d-tab}

@@ -1,6 +1,6 @@
 -- The first least place comes before no smaller and no equal one; and a loop that finds it from a bound above every value.
-use Rattle.algebra.specs.Prelude.{◌≡◌, refl, ap, ◌∙◌, true, false, ℕ, suc, ◌+◌, ◌≤◌, ◌<◌, arith, ltb}
-use Rattle.std.specs.Prelude.{◌⊎◌}
+use Rattle.algebra.specs.Prelude.{refl, ap, ◌∙◌, true, false, ℕ, suc, arith, ltb}
+use Rattle.std.specs.Prelude.{◌⊎◌, ◌≡◌, ◌+◌, ◌≤◌, ◌<◌}
 use Rattle.std.proofs.Common.{inl, inr, ⊎_elim, lt-ltb, le-ltb, ltb-true, ltb-false}
 use Rattle.sequences.specs.Least.{first_min}
 use Rattle.sequences.specs.FirstLaws.{First, first-start, first-turn, first_done, first_most, first_cong, Order, unbeaten, beats-before}

@@ -1,5 +1,6 @@
 -- Places in tables whose rows stand one after the other.
-use Rattle.algebra.specs.Prelude.{◌≡◌, ◌∙◌, ℕ, zero, suc, ◌+◌, ◌*◌, ◌/◌, ◌%◌, ◌≤◌, ◌<◌, arith}
+use Rattle.std.specs.Prelude.{◌≡◌, ◌+◌, ◌*◌, ◌/◌, ◌%◌, ◌≤◌, ◌<◌}
+use Rattle.algebra.specs.Prelude.{◌∙◌, ℕ, zero, suc, arith}
 use Rattle.std.proofs.Common.{mul-le-mul_right, suc-mul, mul-zero, mod-eq_of_lt, div-lt_iff_lt-mul, mod-lt}
 use Rattle.std.proofs.Math.Nat.{mul-add-div_right, mul-add-mod_self_right, div-eq_of_lt}
 

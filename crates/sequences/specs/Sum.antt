@@ -1,5 +1,6 @@
 -- A loop that adds up natural numbers.
-use Rattle.algebra.specs.Prelude.{◌≡◌, refl, ap, ◌∙◌, arith}
+use Rattle.std.specs.Prelude.{◌≡◌}
+use Rattle.algebra.specs.Prelude.{refl, ap, ◌∙◌, arith}
 use Prim.Native.Nat.{ℕ, ◌+◌, ◌*◌, ◌≤◌, ◌<◌, zero-le}
 use Rattle.std.proofs.Common.{add-one}
 use Rattle.std.proofs.Math.Nat.{suc-mul}

@@ -1,8 +1,8 @@
 -- A list that a loop turns into f 0, .., f (n - 1) from the front, and what holds of every element.
-use Rattle.algebra.specs.Prelude.{◌≡◌, refl, sym, ap, ◌∙◌, ℕ, zero, suc, ◌+◌, ◌≤◌, ◌<◌, arith}
+use Rattle.algebra.specs.Prelude.{refl, sym, ap, ◌∙◌, ℕ, zero, suc, arith}
 use mathlib.Core.List.{List, [], ◌∷◌, ◌++◌, append-nil}
 use Rattle.std.proofs.Common.{add-one, below_more, length-set, drop-cons}
-use Rattle.std.specs.Prelude.{length, get_or}
+use Rattle.std.specs.Prelude.{length, get_or, ◌≡◌, ◌+◌, ◌≤◌, ◌<◌}
 use Rattle.std.proofs.Math.ListN.{drop, set, length-append, get_or-append}
 use Rattle.std.proofs.Math.Seq.{set_at, append_snoc, drop-length}
 use Rattle.std.proofs.lemmas.List.{get_or_at}

@@ -1,8 +1,8 @@
 -- A list with a part of it written over: the invariant of a loop that stores f 0 .. f (n − 1) from a place on, and what stands where afterwards.
-use Rattle.std.specs.Prelude.{◌≡◌, refl, length, set}
+use Rattle.std.specs.Prelude.{◌≡◌, refl, length, set, ◌++◌, ◌+◌, ◌≤◌, ◌<◌}
 use Rattle.std.proofs.Common.{sym, ◌∙◌, subst₂, add-one, zero-add, length-set, length-take-le, ext_get_or}
 use Rattle.std.proofs.Math.Path.{ap, subst}
-use Rattle.algebra.specs.Prelude.{List, ◌++◌, ℕ, zero, suc, ◌+◌, ◌≤◌, ◌<◌, arith}
+use Rattle.algebra.specs.Prelude.{List, ℕ, zero, suc, arith}
 use Rattle.std.proofs.Math.ListN.{get_or, take, drop, get_or-append}
 use Rattle.std.proofs.Math.Seq.{paste, paste-zero, paste-suc, length-paste, length_paste_head, get_or-append-add, get_or-take, get_or-drop}
 use Rattle.sequences.specs.Tab.{tab}

@@ -1,5 +1,6 @@
 -- How the sums of words, blocks and rows that the code takes make up the definition's.
-use Rattle.sharpness.specs.Prelude.{◌≡◌, refl, sym, ap, ap₂, ◌∙◌, List, ℕ, ◌+◌, ◌-◌, ◌*◌, ◌<◌, arith, get_or, sum_n, Image, plane_of}
+use Rattle.std.specs.Prelude.{◌≡◌, ◌+◌, ◌-◌, ◌*◌, ◌<◌}
+use Rattle.sharpness.specs.Prelude.{refl, sym, ap, ap₂, ◌∙◌, List, ℕ, arith, get_or, sum_n, Image, plane_of}
 use native.Mathlib.Nat.{zero-add, add_comm, mul-zero}
 use native.Mathlib.Numerals.{add-one}
 use Rattle.algebra.specs.SumLaws.{sum_n-add, sum_n-cong, sum_n-const, sum_n-rows}

@@ -1,5 +1,6 @@
 -- Sharpness, and the frame that is chosen by it: request L1.
-use Rattle.sharpness.specs.Prelude.{List, ℕ, ◌+◌, ◌-◌, ◌/◌, ltb, min, sum_n, Shape, Image, sample_at, plane_of}
+use Rattle.std.specs.Prelude.{◌+◌, ◌-◌, ◌/◌}
+use Rattle.sharpness.specs.Prelude.{List, ℕ, ltb, min, sum_n, Shape, Image, sample_at, plane_of}
 use Rattle.sequences.specs.Least.{first_by}
 
 -- "absolute steps": |a − b|

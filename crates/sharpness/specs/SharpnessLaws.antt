@@ -1,5 +1,6 @@
 -- What is known of sharpness and of the frame chosen by it.
-use Rattle.sharpness.specs.Prelude.{◌≡◌, ap₂, List, ℕ, ◌+◌, ◌-◌, ◌*◌, ◌/◌, ◌≤◌, ◌<◌, arith, ltb, min, Shape, Image, sample_at, plane_of, Allowed, SamplesFit}
+use Rattle.std.specs.Prelude.{◌≡◌, ◌+◌, ◌-◌, ◌*◌, ◌/◌, ◌≤◌, ◌<◌}
+use Rattle.sharpness.specs.Prelude.{ap₂, List, ℕ, arith, ltb, min, Shape, Image, sample_at, plane_of, Allowed, SamplesFit}
 use Rattle.std.proofs.Common.{mul-le-mul}
 use borrow.Author.Tests.{lt-ltb, le-ltb, ltb-true, ltb-false}
 use Rattle.algebra.specs.SumLaws.{sum_n-cong, sum_n-bound}

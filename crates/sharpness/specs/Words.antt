@@ -1,5 +1,6 @@
 -- The steps as the code takes them: from word to word of a frame, the other plane's words between. Inner vocabulary.
-use Rattle.sharpness.specs.Prelude.{List, ℕ, ◌+◌, ◌-◌, ◌*◌, ◌/◌, ◌<◌, get_or, sum_n, Shape, Sampled, SamplesFit, Image}
+use Rattle.std.specs.Prelude.{◌+◌, ◌-◌, ◌*◌, ◌/◌, ◌<◌}
+use Rattle.sharpness.specs.Prelude.{List, ℕ, get_or, sum_n, Shape, Sampled, SamplesFit, Image}
 use Rattle.sharpness.specs.Sharpness.{step, row_steps}
 
 -- a row of the plane of a frame of a burst, and the row so many further down

@@ -1,5 +1,6 @@
 -- What a call's tests let through: each fact is that of one test, found in the list wherever it stands.
-use Rattle.stacker.specs.Prelude.{◌≡◌, List, ℕ, length, ℤ, Shape, align_shape_tests, merge_shape_tests, Noise, noise_tests, Tuning, align_refusal, content_tests, run_tests, run_refusal, merge_refusal, merge_of}
+use Rattle.std.specs.Prelude.{◌≡◌}
+use Rattle.stacker.specs.Prelude.{List, ℕ, length, ℤ, Shape, align_shape_tests, merge_shape_tests, Noise, noise_tests, Tuning, align_refusal, content_tests, run_tests, run_refusal, merge_refusal, merge_of}
 use Rattle.refusals.specs.TestLaws.{among, passed, both-passed}
 use Rattle.admit_length.specs.OrderLaws.{align_fits, merge-fits}
 use Rattle.admit_value.specs.Bounds.{vector_refusal}

@@ -1,5 +1,6 @@
 -- Bands of a frame: their words, and that bands which cover the frame are the frame.
-use Rattle.stacker.specs.Prelude.{◌≡◌, sym, ap, ◌∙◌, List, [], ◌∷◌, ◌++◌, ℕ, ◌+◌, ◌*◌, ◌/◌, ◌%◌, ◌≤◌, ◌<◌, arith, length, get_or, take, drop, tab, Scene, word_at, merged}
+use Rattle.std.specs.Prelude.{◌≡◌, ◌∷◌, ◌++◌, ◌+◌, ◌*◌, ◌/◌, ◌%◌, ◌≤◌, ◌<◌}
+use Rattle.stacker.specs.Prelude.{sym, ap, ◌∙◌, List, [], ℕ, arith, length, get_or, take, drop, tab, Scene, word_at, merged}
 use Rattle.std.proofs.Common.{zero-mul, add-mul, mul_comm, mul-le-mul_right, length-take, length-drop, ext_get_or, take_all, take-add, drop-drop}
 use Rattle.std.proofs.Math.Nat.{mul-add-div_right, mul-add-mod_self_right}
 use Rattle.std.proofs.Math.Seq.{get_or-take, get_or-drop}

@@ -1,5 +1,6 @@
 -- Inside this crate: what is known of a band that its tests have let through.
-use Rattle.stacker.specs.Prelude.{◌≡◌, List, ℕ, ℤ, band_length, band_work_length, Merge}
+use Rattle.std.specs.Prelude.{◌≡◌}
+use Rattle.stacker.specs.Prelude.{List, ℕ, ℤ, band_length, band_work_length, Merge}
 use Rattle.admit_length.specs.BandLaws.{BandIn}
 use Rattle.merge_tiles.specs.Accepted.{Accepted}
 

@@ -1,5 +1,6 @@
 -- A band in rows of tiles, a side of the frame's rows each: what merging asks for, and what it gives.
-use Rattle.stacker.specs.Prelude.{◌≡◌, sym, ap, ap₂, ◌∙◌, List, ℕ, ◌+◌, ◌-◌, ◌*◌, ◌/◌, ◌%◌, ◌≤◌, arith, ℤ, TileSide, band_length, band_work_length, tab, Merge, Scene, scene_at, scene_of, word_at, merged}
+use Rattle.std.specs.Prelude.{◌≡◌, ◌+◌, ◌-◌, ◌*◌, ◌/◌, ◌%◌, ◌≤◌}
+use Rattle.stacker.specs.Prelude.{sym, ap, ap₂, ◌∙◌, List, ℕ, arith, ℤ, TileSide, band_length, band_work_length, tab, Merge, Scene, scene_at, scene_of, word_at, merged}
 use Rattle.merge_tiles.specs.Places.{by_side}
 use Rattle.merge_tiles.specs.Rows.{row_words}
 use Rattle.merge_frame.specs.Progress.{merged_rows}

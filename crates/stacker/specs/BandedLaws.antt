@@ -1,5 +1,6 @@
 -- What the call for a band owes where its tests refuse, and where they pass and its rows are merged by the levels that they found.
-use Rattle.stacker.specs.Prelude.{◌≡◌, refl, sym, ap, ap₂, subst, ◌∙◌, List, ℕ, length, ℤ, zeros, Shape, band_shape_tests, Noise, noise_tests, Tuning, scene_of, merged, Tested, content_tests, value_tests, merge_of, BandTested}
+use Rattle.std.specs.Prelude.{◌≡◌}
+use Rattle.stacker.specs.Prelude.{refl, sym, ap, ap₂, subst, ◌∙◌, List, ℕ, length, ℤ, zeros, Shape, band_shape_tests, Noise, noise_tests, Tuning, scene_of, merged, Tested, content_tests, value_tests, merge_of, BandTested}
 use Rattle.refusals.specs.TestLaws.{among, passed, both-passed}
 use Rattle.refusals.specs.AfterLaws.{kept, made}
 use Rattle.admit_length.specs.BandLaws.{band-fits}

@@ -1,5 +1,6 @@
 -- A band of the merged frame: what the call for it answers, and what it leaves in every lent buffer. Samples and vectors are only read.
-use Rattle.stacker.specs.Prelude.{◌≡◌, List, ℕ, ◌*◌, take, drop, ℤ, zeros, Shape, after, Noise, Tuning, scene_of, merged, merge_of}
+use Rattle.std.specs.Prelude.{◌≡◌, ◌*◌}
+use Rattle.stacker.specs.Prelude.{List, ℕ, take, drop, ℤ, zeros, Shape, after, Noise, Tuning, scene_of, merged, merge_of}
 use Rattle.admit_call.specs.Bands.{band_refusal}
 use Rattle.stacker.specs.Calls.{Close, Capped}
 

@@ -1,5 +1,6 @@
 -- Bands of a frame, joined.
-use Rattle.algebra.specs.Prelude.{List, [], ◌∷◌, ◌++◌, ℕ, ◌+◌}
+use Rattle.std.specs.Prelude.{◌∷◌, ◌++◌, ◌+◌}
+use Rattle.algebra.specs.Prelude.{List, [], ℕ}
 use Rattle.stacker.specs.Bands.{band}
 
 -- bands one below the other, from row `top` on, of so many rows each

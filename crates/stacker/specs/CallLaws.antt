@@ -1,5 +1,6 @@
 -- The answer beside a refusal with the number k, and beside acceptance.
-use Rattle.algebra.specs.Prelude.{◌≡◌, sym, ◌∙◌, List, ℕ}
+use Rattle.std.specs.Prelude.{◌≡◌}
+use Rattle.algebra.specs.Prelude.{sym, ◌∙◌, List, ℕ}
 use Rattle.refusals.specs.AfterLaws.{kept, made}
 use Rattle.stacker.specs.declared.Alignment.{Alignment}
 use Rattle.stacker.specs.Calls.{no_sums, answered}

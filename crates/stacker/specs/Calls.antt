@@ -1,5 +1,6 @@
 -- What each call answers, and what it leaves in every lent buffer. Samples, and merge's vectors, are only read.
-use Rattle.stacker.specs.Prelude.{◌≡◌, List, [], ◌∷◌, ℕ, ◌+◌, ◌*◌, ◌/◌, ◌%◌, ◌<◌, get_or, ℤ, pos, zeros, Shape, after, Noise, aligned_vectors, residual_sums, rows_summed, Scene, scene_of, merged, Tuning, align_refusal, run_refusal, merge_refusal, merge_of}
+use Rattle.std.specs.Prelude.{◌≡◌, ◌∷◌, ◌+◌, ◌*◌, ◌/◌, ◌%◌, ◌<◌}
+use Rattle.stacker.specs.Prelude.{List, [], ℕ, get_or, ℤ, pos, zeros, Shape, after, Noise, aligned_vectors, residual_sums, rows_summed, Scene, scene_of, merged, Tuning, align_refusal, run_refusal, merge_refusal, merge_of}
 use Rattle.algebra.specs.Fraction.{whole, Within}
 use Rattle.recipe.specs.ExactMerge.{exact_at, exact_filtered_at}
 use Rattle.closeness.specs.Ceiling.Leak.{largest_over, leak, UnderCeiling}

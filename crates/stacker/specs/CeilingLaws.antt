@@ -1,5 +1,6 @@
 -- Request L11 at the calls: an output that is the merge keeps under the ceiling where s is 0, whatever the vectors are.
-use Rattle.stacker.specs.Prelude.{◌≡◌, sym, ap, subst, ◌∙◌, List, ℕ, ◌+◌, ◌≤◌, arith, ℤ, pos, BurstFits, SamplesFit, Merge, scene_at, scene_of, merged}
+use Rattle.std.specs.Prelude.{◌≡◌, ◌+◌, ◌≤◌}
+use Rattle.stacker.specs.Prelude.{sym, ap, subst, ◌∙◌, List, ℕ, arith, ℤ, pos, BurstFits, SamplesFit, Merge, scene_at, scene_of, merged}
 use Rattle.recipe.specs.SideLaws.{by-table}
 use Rattle.closeness.specs.Closeness.{Fitting}
 use Rattle.closeness.specs.Side16.{fitting16}

@@ -1,5 +1,6 @@
 -- The run that chooses its reference: request L1.
-use Rattle.stacker.specs.Prelude.{◌≡◌, List, ◌∷◌, ◌++◌, ℕ, length, ℤ, first, after, Shape, side_refusal, row_refusal, shape_tests, merge_lengths, Noise, noise_tests, Tuning, content_tests}
+use Rattle.std.specs.Prelude.{◌≡◌, ◌∷◌, ◌++◌}
+use Rattle.stacker.specs.Prelude.{List, ℕ, length, ℤ, first, after, Shape, side_refusal, row_refusal, shape_tests, merge_lengths, Noise, noise_tests, Tuning, content_tests}
 use Rattle.sharpness.specs.Sharpness.{sharpest}
 use Rattle.stacker.specs.declared.Choice.{Choice}
 use Rattle.stacker.specs.Calls.{Ran}

@@ -1,5 +1,6 @@
 -- The run that chooses its reference, beside run.
-use Rattle.stacker.specs.Prelude.{◌≡◌, refl, sym, ap, ◌∙◌, List, ℕ, zero, suc, ◌≤◌, ◌<◌, arith, ℤ, first, after, Shape, count_allowed, count_refusal, reference_refusal, shape_tests, burst_tests, merge_shape_tests, Noise, levels_of, Tuning, Tested, tested_as, RunTested, run_tests, run_refusal}
+use Rattle.std.specs.Prelude.{◌≡◌, ◌≤◌, ◌<◌}
+use Rattle.stacker.specs.Prelude.{refl, sym, ap, ◌∙◌, List, ℕ, zero, suc, arith, ℤ, first, after, Shape, count_allowed, count_refusal, reference_refusal, shape_tests, burst_tests, merge_shape_tests, Noise, levels_of, Tuning, Tested, tested_as, RunTested, run_tests, run_refusal}
 use Rattle.std.proofs.Math.Decide.{dec_lt}
 use Rattle.std.proofs.lemmas.Bool.{lt-leb}
 use Rattle.refusals.specs.Numbers as no

@@ -1,5 +1,6 @@
 -- Demand 3 at the calls: an output that is the merge is close to the exact merge.
-use Rattle.stacker.specs.Prelude.{◌≡◌, refl, sym, ap, subst, ◌∙◌, List, ℕ, ◌+◌, ◌≤◌, ◌<◌, arith, ℤ, pos, Allowed, TileSide, Merge, merged, scene_at, scene_of}
+use Rattle.std.specs.Prelude.{◌≡◌, ◌+◌, ◌≤◌, ◌<◌}
+use Rattle.stacker.specs.Prelude.{refl, sym, ap, subst, ◌∙◌, List, ℕ, arith, ℤ, pos, Allowed, TileSide, Merge, merged, scene_at, scene_of}
 use Rattle.algebra.specs.Fraction.{whole, Within}
 use Rattle.recipe.specs.Tables.{side16}
 use Rattle.recipe.specs.Tables32.{side32}

@@ -1,5 +1,6 @@
 -- The frames aligned one by one, in whatever order, are the burst aligned.
-use Rattle.stacker.specs.Prelude.{◌≡◌, refl, sym, ap, ap₂, ◌∙◌, List, ◌++◌, ℕ, zero, suc, ◌-◌, ◌*◌, ◌<◌, arith, length, take, drop, ℤ, tab, first, Shape, vector_length, work_length, length_refusal, shape_tests, burst_tests, align_lengths, align_shape_tests, field_of, sum_of, aligned_vectors, residual_sums, count_of, rows_summed, align_refusal, align_frame_refusal}
+use Rattle.std.specs.Prelude.{◌≡◌, ◌++◌, ◌-◌, ◌*◌, ◌<◌}
+use Rattle.stacker.specs.Prelude.{refl, sym, ap, ap₂, ◌∙◌, List, ℕ, zero, suc, arith, length, take, drop, ℤ, tab, first, Shape, vector_length, work_length, length_refusal, shape_tests, burst_tests, align_lengths, align_shape_tests, field_of, sum_of, aligned_vectors, residual_sums, count_of, rows_summed, align_refusal, align_frame_refusal}
 use Rattle.std.proofs.Common.{zero-mul, suc-mul, eq-eqb, take-add}
 use Rattle.std.proofs.lemmas.Bool.{lt-leb}
 use Rattle.std.proofs.Math.ListN.{replicate}

@@ -1,5 +1,6 @@
 -- What the call that aligns one other frame answers, and what it leaves in every lent buffer. Samples are only read.
-use Rattle.stacker.specs.Prelude.{◌≡◌, List, ℕ, ℤ, zeros, Shape, after, sum_of, aligned_vectors, count_of, align_frame_refusal}
+use Rattle.std.specs.Prelude.{◌≡◌}
+use Rattle.stacker.specs.Prelude.{List, ℕ, ℤ, zeros, Shape, after, sum_of, aligned_vectors, count_of, align_frame_refusal}
 use Rattle.geometry.specs.Tiles.{frame_parts}
 use Rattle.geometry.specs.Vectors.{parts_of}
 use Rattle.stacker.specs.declared.one_frame.FrameAlignment.{FrameAlignment}

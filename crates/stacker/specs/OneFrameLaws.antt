@@ -1,5 +1,6 @@
 -- What that call's tests let through, and its answer beside a refusal with the number k and beside acceptance.
-use Rattle.stacker.specs.Prelude.{◌≡◌, sym, ◌∙◌, List, ℕ, arith, length, ℤ, Shape, align_frame_refusal}
+use Rattle.std.specs.Prelude.{◌≡◌}
+use Rattle.stacker.specs.Prelude.{sym, ◌∙◌, List, ℕ, arith, length, ℤ, Shape, align_frame_refusal}
 use Rattle.refusals.specs.TestLaws.{among, passed, both-passed}
 use Rattle.refusals.specs.AfterLaws.{kept, made}
 use Rattle.admit_length.specs.OneFrame.{frame_work_length, align_frame_shape_tests}

@@ -1,5 +1,6 @@
 -- The words of other crates that this crate's files share. Lemmas are not passed on: of those the `use` line says where they are.
-pub use Rattle.algebra.specs.Prelude.{List, ℕ, ℤ, [], ap, ap₂, arith, drop, get_or, length, rules, pos, refl, subst, suc, sym, take, true, zero, ◌%◌, ◌*◌, ◌++◌, ◌+◌, ◌-◌, ◌/◌, ◌<◌, ◌∙◌, ◌∷◌, ◌≡◌, ◌≤◌}
+pub use Rattle.std.specs.Prelude.{◌%◌, ◌*◌, ◌++◌, ◌+◌, ◌-◌, ◌/◌, ◌<◌, ◌∷◌, ◌≡◌, ◌≤◌}
+pub use Rattle.algebra.specs.Prelude.{List, ℕ, ℤ, [], ap, ap₂, arith, drop, get_or, length, rules, pos, refl, subst, suc, sym, take, true, zero, ◌∙◌}
 pub use Rattle.sequences.specs.Clear.{zeros}
 pub use Rattle.sequences.specs.Tab.{tab}
 unfoldable pub use Rattle.refusals.specs.After.{after}

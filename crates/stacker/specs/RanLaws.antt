@@ -1,5 +1,6 @@
 -- What run owes where its tests refuse, and where they pass and the core has run on the levels that they found.
-use Rattle.stacker.specs.Prelude.{◌≡◌, sym, ap₂, subst, ◌∙◌, List, ℕ, ◌≤◌, ℤ, Shape, Noise, levels_of, shot_level, read_level, aligned_vectors, Merge, Tuning, scene_of, merged, Tested, RunTested, run_refusal}
+use Rattle.std.specs.Prelude.{◌≡◌, ◌≤◌}
+use Rattle.stacker.specs.Prelude.{sym, ap₂, subst, ◌∙◌, List, ℕ, ℤ, Shape, Noise, levels_of, shot_level, read_level, aligned_vectors, Merge, Tuning, scene_of, merged, Tested, RunTested, run_refusal}
 use Rattle.refusals.specs.AfterLaws.{kept, made}
 use Rattle.align_burst.specs.declared.burst.Totals.{Totals}
 use Rattle.pipeline.specs.Levels.{Runnable, RanLevels}

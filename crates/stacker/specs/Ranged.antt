@@ -1,5 +1,6 @@
 -- What the call of request L14 answers, and what it leaves in every lent buffer. Samples and vectors are only read.
-use Rattle.stacker.specs.Prelude.{◌≡◌, List, ℕ, ◌*◌, ◌≤◌, ◌<◌, get_or, ℤ, zeros, Shape, after, Noise, Tuning, scene_of, merged, merge_of}
+use Rattle.std.specs.Prelude.{◌≡◌, ◌*◌, ◌≤◌, ◌<◌}
+use Rattle.stacker.specs.Prelude.{List, ℕ, get_or, ℤ, zeros, Shape, after, Noise, Tuning, scene_of, merged, merge_of}
 use Rattle.noise.specs.declared.Curve.{Curve}
 use Rattle.noise.specs.declared.Noise.TheVariants.{Measured}
 use Rattle.noise.specs.Curve.{curve_of}

@@ -1,5 +1,6 @@
 -- What the tests of request L14's call let through, and what it owes where it has refused and where it has accepted.
-use Rattle.stacker.specs.Prelude.{◌≡◌, refl, sym, ap, ap₂, subst, ◌∙◌, List, [], ◌∷◌, ◌++◌, ℕ, ◌*◌, ◌≤◌, arith, length, get_or, ℤ, zeros, first, Shape, work_length, Allowed, MergeFits, Noise, levels_of, shot_level, read_level, Merge, Tuning, Scene, scene_at, scene_of, merged, merge_of}
+use Rattle.std.specs.Prelude.{◌≡◌, ◌∷◌, ◌++◌, ◌*◌, ◌≤◌}
+use Rattle.stacker.specs.Prelude.{refl, sym, ap, ap₂, subst, ◌∙◌, List, [], ℕ, arith, length, get_or, ℤ, zeros, first, Shape, work_length, Allowed, MergeFits, Noise, levels_of, shot_level, read_level, Merge, Tuning, Scene, scene_at, scene_of, merged, merge_of}
 use Rattle.std.proofs.Common.{mul-le-mul_left}
 use Rattle.refusals.specs.TestLaws.{among, passed, both-passed}
 use Rattle.refusals.specs.AfterLaws.{kept, made}

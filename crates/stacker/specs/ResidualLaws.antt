@@ -1,5 +1,6 @@
 -- What that call's tests let through.
-use Rattle.stacker.specs.Prelude.{◌≡◌, List, ℕ, length, ℤ, Shape}
+use Rattle.std.specs.Prelude.{◌≡◌}
+use Rattle.stacker.specs.Prelude.{List, ℕ, length, ℤ, Shape}
 use Rattle.refusals.specs.TestLaws.{among, passed, both-passed}
 use Rattle.admit_length.specs.Residuals.{residual_shape_tests}
 use Rattle.admit_length.specs.ResidualLaws.{residual-fits, residuals_long}

@@ -1,5 +1,6 @@
 -- What the call that answers each tile's residual leaves in every lent buffer. Samples and vectors are only read.
-use Rattle.stacker.specs.Prelude.{◌≡◌, List, ℕ, ℤ, zeros, Shape, after}
+use Rattle.std.specs.Prelude.{◌≡◌}
+use Rattle.stacker.specs.Prelude.{List, ℕ, ℤ, zeros, Shape, after}
 use Rattle.admit_call.specs.Residuals.{residual_refusal}
 use Rattle.align_measure.specs.Residuals.{tile_residuals}
 

@@ -1,5 +1,6 @@
 // A band of the merged frame: a burst and lent vectors to the output's rows between two rows of tiles.
-ghost use Rattle.stacker.specs.Prelude.{◌≡◌, length, scene_of, merged};
+ghost use Rattle.std.specs.Prelude.{◌≡◌};
+ghost use Rattle.stacker.specs.Prelude.{length, scene_of, merged};
 ghost use Rattle.stacker.specs.Bands.{band, Banded};
 ghost use Rattle.stacker.specs.BandReady.{BandLent};
 

@@ -1,5 +1,6 @@
 // Range: a burst, lent vectors and a noise that is known only between two curves to a low and a high frame.
-ghost use Rattle.stacker.specs.Prelude.{◌≡◌, true, length, merge_of};
+ghost use Rattle.std.specs.Prelude.{◌≡◌};
+ghost use Rattle.stacker.specs.Prelude.{true, length, merge_of};
 ghost use Rattle.range_frame.specs.Ready.{FramesRanged};
 ghost use Rattle.stacker.specs.Ranged.{Ranged};
 ghost use Rattle.stacker.specs.RangedLaws.{FramesLent};

@@ -1,5 +1,6 @@
 -- The Wiener step in double gives the recipe's whole numbers where its quotients are certain: B is below 5·2^49, and |Q|² + V at most 2^53.
-use Rattle.tile_bin.specs.Prelude.{◌≡◌, refl, sym, ap, ap₂, subst, ◌∙◌, Bool, true, false, [], ◌∷◌, ℕ, ◌+◌, ◌*◌, ◌/◌, ◌^◌, ◌≤◌, ◌<◌, arith, lit≤, lit<, get_or, ℤ, pos, nat_abs, Float, nan, binary64, of_int, mul, div, unlike, away, side16, power, quantized, wiener, filtered, bin_most, long_bin_most, gain_most, noise_most}
+use Rattle.std.specs.Prelude.{◌≡◌, ◌∷◌, ◌+◌, ◌*◌, ◌/◌, ◌^◌, ◌≤◌, ◌<◌}
+use Rattle.tile_bin.specs.Prelude.{refl, sym, ap, ap₂, subst, ◌∙◌, Bool, true, false, [], ℕ, arith, lit≤, lit<, get_or, ℤ, pos, nat_abs, Float, nan, binary64, of_int, mul, div, unlike, away, side16, power, quantized, wiener, filtered, bin_most, long_bin_most, gain_most, noise_most}
 use Rattle.std.proofs.Math.Nat.{le_trans}
 use Rattle.std.proofs.Common.{lt_of_le_of_lt, mul-le-mul, add-le-add}
 use Prim.Native.Nat.{zero-le}

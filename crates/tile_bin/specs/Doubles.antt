@@ -1,5 +1,6 @@
 -- Inside the crates of the merge: the Wiener step in double, as the code works it out. Each operation is rounded once.
-use Rattle.tile_bin.specs.Prelude.{◌≡◌, true, List, [], ◌∷◌, ℕ, get_or, ℤ, pos, Float, nan, binary64, add, sub, mul, div, of_int, to_signed, middle, wiener}
+use Rattle.std.specs.Prelude.{◌≡◌, ◌∷◌}
+use Rattle.tile_bin.specs.Prelude.{true, List, [], ℕ, get_or, ℤ, pos, Float, nan, binary64, add, sub, mul, div, of_int, to_signed, middle, wiener}
 use Rattle.floats.specs.ProductLaws.{fraction}
 use Rattle.floats.specs.QuotientLaws.{certain}
 

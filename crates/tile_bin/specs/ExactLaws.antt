@@ -1,5 +1,6 @@
 -- The Wiener step at one bin with quotients in whole numbers: a whole number in double is itself as an i64, and so Q and G are the recipe's.
-use Rattle.tile_bin.specs.Prelude.{◌≡◌, refl, sym, ap, subst, ◌∙◌, [], ◌∷◌, ℕ, ◌≤◌, arith, T, ℤ, nat_abs, w64, to_z, of_z, Float, binary64, of_int, to_signed, in_signed, in_float, AtMost, quantized, filtered, gain_most}
+use Rattle.std.specs.Prelude.{◌≡◌, ◌∷◌, ◌≤◌}
+use Rattle.tile_bin.specs.Prelude.{refl, sym, ap, subst, ◌∙◌, [], ℕ, arith, T, ℤ, nat_abs, w64, to_z, of_z, Float, binary64, of_int, to_signed, in_signed, in_float, AtMost, quantized, filtered, gain_most}
 use Rattle.floats.specs.Casts.{whole-counted, whole_back}
 use Rattle.tile_spectrum.specs.Lines.Doubles.{WholeDouble}
 use Rattle.tile_spectrum.specs.Lines.Held.{number_is}

@@ -1,5 +1,6 @@
 // The Wiener step on the spatial filter's copy (request L13), one part of a bin at a time.
-ghost use Rattle.tile_bin.specs.Prelude.{◌≡◌, ◌≤◌, AtMost, side16, copy_quantized, copy_filtered, copy_bin_most, copy_part_most, spatial_most, spatial_gain_most};
+ghost use Rattle.std.specs.Prelude.{◌≡◌, ◌≤◌};
+ghost use Rattle.tile_bin.specs.Prelude.{AtMost, side16, copy_quantized, copy_filtered, copy_bin_most, copy_part_most, spatial_most, spatial_gain_most};
 
 use crate::parts::step;
 

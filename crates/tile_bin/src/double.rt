@@ -1,7 +1,8 @@
 // The Wiener step at one bin in double: Q from B, the quotients V/(|Q|² + V) and G, and whether the quotients leave a doubt. V and W = V·(1 + 2^-51) are given
 // as doubles, and so are the parts of B. Each number but the quotients is a whole one, and each rounding to one is a sum with 1.5·2^52, from which that is taken
 // off again.
-ghost use Rattle.tile_bin.specs.Prelude.{◌≡◌, true, get_or, nan};
+ghost use Rattle.std.specs.Prelude.{◌≡◌};
+ghost use Rattle.tile_bin.specs.Prelude.{true, get_or, nan};
 ghost use Rattle.floats.specs.QuotientLaws.{certain};
 ghost use Rattle.tile_bin.specs.Doubles.{nearest_whole, quantized_in, quotients_in, gains_in, Sure, real_gain_in};
 

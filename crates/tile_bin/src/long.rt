@@ -1,5 +1,6 @@
 // The Wiener step at one bin of a tile of side 32 in double, as `double` has it for side 16: Q is B over 2^26.
-ghost use Rattle.tile_bin.specs.Prelude.{◌≡◌, true, get_or, nan};
+ghost use Rattle.std.specs.Prelude.{◌≡◌};
+ghost use Rattle.tile_bin.specs.Prelude.{true, get_or, nan};
 ghost use Rattle.tile_bin.specs.Doubles.{quantized_by, quotients_by, gains_by, SureBy, real_gain_by};
 
 use crate::double::{both, nearest_whole, no_doubt};

@@ -1,5 +1,6 @@
 // G from Q in whole numbers, one part of a bin at a time.
-ghost use Rattle.tile_bin.specs.Prelude.{◌≡◌, ◌<◌, ◌≤◌, ◌^◌, nat_abs, pos, ◌*ℤ◌, AtMost, wiener, copy_part_most, gain_most, noise_most};
+ghost use Rattle.std.specs.Prelude.{◌≡◌, ◌<◌, ◌≤◌, ◌^◌, ◌*ℤ◌};
+ghost use Rattle.tile_bin.specs.Prelude.{nat_abs, pos, AtMost, wiener, copy_part_most, gain_most, noise_most};
 
 // One part of the Wiener step at V, from that part q and the other part r, where V·q fits.
 pub fn step(noise: u64, q: i64, r: i64) -> i64

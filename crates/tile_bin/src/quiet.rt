@@ -1,5 +1,6 @@
 // Whether the noise of a pair is low, so that the inverse's last sums stay in double, for either side.
-ghost use Rattle.algebra.specs.Prelude.{◌≡◌, true, ◌≤◌};
+ghost use Rattle.std.specs.Prelude.{◌≡◌, ◌≤◌};
+ghost use Rattle.algebra.specs.Prelude.{true};
 ghost use Rattle.tile_spectrum.specs.Magnitudes.{low_noise, long_low_noise, long_middle_noise};
 
 // 2^33, and 2^29 at side 32: V up to which the inverse's last sums stay below 5·2^49

@@ -1,5 +1,6 @@
 -- The folded transform of a line of sixteen, from its eight sums and from its eight differences: the same values, by the same names, in whole numbers and in double.
-use Rattle.tile_lines.specs.Whole.Prelude.{[], ◌∷◌}
+use Rattle.std.specs.Prelude.{◌∷◌}
+use Rattle.tile_lines.specs.Whole.Prelude.{[]}
 use Rattle.tile_spectrum.specs.Lines.Program.{Program, arg, ◌⊕◌, ◌⊖◌, minus, ◌⊗◌, wide, ◌>>=◌, give}
 
 abbrev pub even : Program

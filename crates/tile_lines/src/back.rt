@@ -1,7 +1,8 @@
 // The transposed transform of a halfcomplex line in double, for columns, and half of it for two rows side by side, folded in halves as the transform is:
 // from number n to number n + 8 the even places' sum stays and the odd places' sum changes its sign. No number on the way is above 2^53, so each is exact.
 // Number n of row p stands at 2n + p.
-ghost use Rattle.tile_lines.specs.Back.Prelude.{◌≡◌, true, false, [], ◌∷◌, ◌+◌, ◌*◌, ◌/◌, ◌%◌, ◌^◌, ◌<◌, pos, ◌+ℤ◌, ◌-ℤ◌, length, tab, binary64, of_int, to_signed, side16, backward, half_sum, even_sum, odd_sum, even_half, fold_most, column_most, double_line, From, HalvesOf, WholeDouble, WholeRow, joined_at};
+ghost use Rattle.std.specs.Prelude.{◌≡◌, ◌∷◌, ◌+◌, ◌*◌, ◌/◌, ◌%◌, ◌^◌, ◌<◌, ◌+ℤ◌, ◌-ℤ◌};
+ghost use Rattle.tile_lines.specs.Back.Prelude.{true, false, [], pos, length, tab, binary64, of_int, to_signed, side16, backward, half_sum, even_sum, odd_sum, even_half, fold_most, column_most, double_line, From, HalvesOf, WholeDouble, WholeRow, joined_at};
 
 use tile_spectrum::lines::sixteen::{C0, C1, C2, C3};
 

@@ -1,6 +1,7 @@
 // The transforms of two lines of sixteen numbers side by side, folded as in `tile_lines::whole`, in double: no number on the way is above 2^53, so each is exact.
 // Number n of line p stands at 2n + p.
-ghost use Rattle.tile_lines.specs.Double.Prelude.{◌≡◌, [], ◌∷◌, ◌+◌, ◌*◌, ◌/◌, ◌%◌, ◌<◌, pos, ◌+ℤ◌, ◌-ℤ◌, length, get_or, halfcomplex, folded};
+ghost use Rattle.std.specs.Prelude.{◌≡◌, ◌∷◌, ◌+◌, ◌*◌, ◌/◌, ◌%◌, ◌<◌, ◌+ℤ◌, ◌-ℤ◌};
+ghost use Rattle.tile_lines.specs.Double.Prelude.{[], pos, length, get_or, halfcomplex, folded};
 ghost use Rattle.tile_spectrum.specs.Lines.Magnitudes.{pair_line_most, pair_sum_most};
 ghost use Rattle.tile_spectrum.specs.Lines.Lines.{LineMost};
 ghost use Rattle.tile_spectrum.specs.Lines.Doubles.{double_line, From};

@@ -1,7 +1,8 @@
 // The transform of a line of sixteen differences in halfcomplex form, folded in halves, in numbers narrow enough that the compiler takes several lines at
 // once: the folds in 16 bits, the products in 32. The tables are exactly symmetric, so each fold is exact: C(k+8) = −C(k), C(8−k) = −C(k), S(k) = C(k+12)
 // and C(4) = 0.
-ghost use Rattle.tile_lines.specs.Whole.Prelude.{◌≡◌, cond, [], ◌∷◌, ◌+◌, ◌*◌, ◌/◌, ◌%◌, ◌<◌, eqb, pos, get_or, tab, halfcomplex, sum_at, difference_at, folded, difference_most, difference_fold_most, fold_again_most};
+ghost use Rattle.std.specs.Prelude.{◌≡◌, ◌∷◌, ◌+◌, ◌*◌, ◌/◌, ◌%◌, ◌<◌};
+ghost use Rattle.tile_lines.specs.Whole.Prelude.{cond, [], eqb, pos, get_or, tab, halfcomplex, sum_at, difference_at, folded, difference_most, difference_fold_most, fold_again_most};
 ghost use Rattle.tile_spectrum.specs.Lines.Lines.{LineMost};
 
 // C(0) to C(3)

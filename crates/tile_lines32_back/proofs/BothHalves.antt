@@ -1,6 +1,7 @@
 -- A line that a loop stores in both halves at once: number n and number n + h, which are the sums and the differences of two shorter lines.
 use mathlib.Core.Path.{fun_ext}
-use Rattle.tile_lines32_back.specs.Prelude.{◌≡◌, refl, sym, ap, ap₂, ◌∙◌, Bool, true, false, cond, List, ℕ, zero, suc, ◌+◌, ◌-◌, ◌*◌, ◌/◌, ◌%◌, ◌^◌, ◌≤◌, ◌<◌, arith, eqb, ltb, lit≤, length, get_or, set, ℤ, nat_abs, ◌+ℤ◌, ◌-ℤ◌, Float, nan, binary64, of_int, add, sub, tab, side32, basis_of, backward_of, half_sum_of, odd_sum_of, double_line, long_column_most}
+use Rattle.std.specs.Prelude.{◌≡◌, ◌+◌, ◌-◌, ◌*◌, ◌/◌, ◌%◌, ◌^◌, ◌≤◌, ◌<◌, ◌+ℤ◌, ◌-ℤ◌}
+use Rattle.tile_lines32_back.specs.Prelude.{refl, sym, ap, ap₂, ◌∙◌, Bool, true, false, cond, List, ℕ, zero, suc, arith, eqb, ltb, lit≤, length, get_or, set, ℤ, nat_abs, Float, nan, binary64, of_int, add, sub, tab, side32, basis_of, backward_of, half_sum_of, odd_sum_of, double_line, long_column_most}
 use native.Mathlib.Nat.{le_trans}
 use native.Mathlib.Decide.{ℕ_discrete}
 use borrow.Author.Tests.{eq-eqb, ne_eqb, ltb-true, ltb-false}

@@ -1,5 +1,6 @@
 -- The odd places' sum of a line of thirty-two from its two parts, in whole numbers and, where noise is low or middle, in double; and how large a part is.
-use Rattle.tile_lines32_back.specs.Prelude.{◌≡◌, refl, ap, ap₂, ◌∙◌, Bool, true, false, cond, List, [], ◌∷◌, ℕ, ◌+◌, ◌-◌, ◌*◌, ◌%◌, ◌^◌, ◌≤◌, arith, eqb, ltb, lit≤, get_or, ℤ, nat_abs, ◌+ℤ◌, ◌-ℤ◌, Float, nan, Expr, con, ◌⊞◌, ◌⊟◌, ◌⊠◌, sum_z, sum_n, rings, sum_e, tab, Form, var, plus, minus, cos_at, cosines32, cosine32, side32, half_z, frequency_of, phase_of, basis_of, odd_sum_of, long_column_most, double_line, From}
+use Rattle.std.specs.Prelude.{◌≡◌, ◌∷◌, ◌+◌, ◌-◌, ◌*◌, ◌%◌, ◌^◌, ◌≤◌, ◌+ℤ◌, ◌-ℤ◌}
+use Rattle.tile_lines32_back.specs.Prelude.{refl, ap, ap₂, ◌∙◌, Bool, true, false, cond, List, [], ℕ, arith, eqb, ltb, lit≤, get_or, ℤ, nat_abs, Float, nan, Expr, con, ◌⊞◌, ◌⊟◌, ◌⊠◌, sum_z, sum_n, rings, sum_e, tab, Form, var, plus, minus, cos_at, cosines32, cosine32, side32, half_z, frequency_of, phase_of, basis_of, odd_sum_of, long_column_most, double_line, From}
 use native.Mathlib.Nat.{le_trans}
 use Rattle.algebra.specs.Ring as ring
 use Rattle.tile_spectrum.specs.Lines.BackSizes.{basis-period, summed, weighed}

@@ -1,7 +1,8 @@
 -- The sums of two rows of thirty-two places whatever the noise: four parts of a row's sum are whole numbers of at most 2^53 in double, and in 64 bits they make
 -- half of the sum back.
 use mathlib.Core.Path.{fun_ext}
-use Rattle.tile_lines32_back.specs.Prelude.{◌≡◌, sym, ap, ap₂, subst, ◌∙◌, false, List, ℕ, ◌+◌, ◌*◌, ◌/◌, ◌%◌, ◌^◌, ◌≤◌, ◌<◌, arith, lit≤, get_or, ℤ, pos, nat_abs, ◌+ℤ◌, ◌-ℤ◌, Float, nan, tab, side32, basis_of, half_sum_of, odd_sum_of, column_most, long_column_most, double_line, WholeDouble, WholeRow}
+use Rattle.std.specs.Prelude.{◌≡◌, ◌+◌, ◌*◌, ◌/◌, ◌%◌, ◌^◌, ◌≤◌, ◌<◌, ◌+ℤ◌, ◌-ℤ◌}
+use Rattle.tile_lines32_back.specs.Prelude.{sym, ap, ap₂, subst, ◌∙◌, false, List, ℕ, arith, lit≤, get_or, ℤ, pos, nat_abs, Float, nan, tab, side32, basis_of, half_sum_of, odd_sum_of, column_most, long_column_most, double_line, WholeDouble, WholeRow}
 use native.Mathlib.Nat.{le_trans}
 use Rattle.sequences.specs.TabLaws.{get_d-tab}
 use Rattle.recipe.specs.Tables.{side16}

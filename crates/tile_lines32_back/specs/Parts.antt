@@ -1,7 +1,8 @@
 -- The sum over the odd places of a line of thirty-two in two parts: what the real parts add, against cosines, and what the imaginary parts add, against sines.
 -- From number n to number 16 − n the first changes its sign, and the second stays. At number 0 there is only the first, at number 8 only the second, and half
 -- of it is taken, so that it is below 2^53.
-use Rattle.tile_lines32_back.specs.Prelude.{◌≡◌, cond, List, ℕ, ◌+◌, ◌*◌, ◌%◌, ◌≤◌, eqb, ℤ, nat_abs, ◌*ℤ◌, Float, sum_z, side32, half_z, basis_of, double_line}
+use Rattle.std.specs.Prelude.{◌≡◌, ◌+◌, ◌*◌, ◌%◌, ◌≤◌, ◌*ℤ◌}
+use Rattle.tile_lines32_back.specs.Prelude.{cond, List, ℕ, eqb, ℤ, nat_abs, Float, sum_z, side32, half_z, basis_of, double_line}
 
 unfoldable pub part_basis : (k n : ℕ) → ℤ
 part_basis k n = cond (eqb (n % 8) 0) (half_z (basis_of side32 k n)) (basis_of side32 k n)

@@ -4,7 +4,8 @@
 // stands at 2n + p.
 #![tactic(auto)]
 
-ghost use Rattle.tile_lines32_back.specs.Prelude.{◌≡◌, true, false, ◌+◌, ◌*◌, ◌/◌, ◌%◌, ◌<◌, length, get_or, nan, tab, side32, backward_of, half_sum_of, odd_sum_of, long_fold_most, long_column_most, double_line, From, HalvesOf, WholeLine};
+ghost use Rattle.std.specs.Prelude.{◌≡◌, ◌+◌, ◌*◌, ◌/◌, ◌%◌, ◌<◌};
+ghost use Rattle.tile_lines32_back.specs.Prelude.{true, false, length, get_or, nan, tab, side32, backward_of, half_sum_of, odd_sum_of, long_fold_most, long_column_most, double_line, From, HalvesOf, WholeLine};
 ghost use Rattle.tile_lines32_back.specs.Parts.{cosine_part, sine_part, InParts};
 
 use tile_lines::back::{HALF_C0, halves_of, whole_difference, whole_halves_of, whole_sum};

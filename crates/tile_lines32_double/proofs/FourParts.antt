@@ -1,6 +1,7 @@
 -- The odd places of a line of thirty-two in four parts: what its even and its odd numbers add to the real parts of numbers 1, 3, 5 and 7, and to the imaginary
 -- parts. Each part is worked out by forms of the line's sixteen differences; the places are the parts' sums and differences.
-use Rattle.tile_lines32_double.specs.Prelude.{◌≡◌, refl, ap, ◌∙◌, Bool, true, false, cond, List, [], ◌∷◌, ℕ, ◌+◌, ◌*◌, ◌/◌, ◌%◌, ◌^◌, ◌≤◌, ◌<◌, arith, T, eqb, get_or, ℤ, pos, nat_abs, ◌*ℤ◌, Float, nan, binary64, add, sub, sum_z, tab, Form, var, plus, minus, cos_at, cosines32, cosine32, side32, frequency_of, phase_of, basis_of, folded_of, every_second, double_line, long_sum_most}
+use Rattle.std.specs.Prelude.{◌≡◌, ◌∷◌, ◌+◌, ◌*◌, ◌/◌, ◌%◌, ◌^◌, ◌≤◌, ◌<◌, ◌*ℤ◌}
+use Rattle.tile_lines32_double.specs.Prelude.{refl, ap, ◌∙◌, Bool, true, false, cond, List, [], ℕ, arith, T, eqb, get_or, ℤ, pos, nat_abs, Float, nan, binary64, add, sub, sum_z, tab, Form, var, plus, minus, cos_at, cosines32, cosine32, side32, frequency_of, phase_of, basis_of, folded_of, every_second, double_line, long_sum_most}
 use Prim.Native.Nat.{zero-le}
 use Rattle.algebra.specs.Order.{abs-mul-le}
 use Rattle.algebra.specs.Ring.{Expr, con, ◌⊞◌, ◌⊟◌, ◌⊠◌, nth}

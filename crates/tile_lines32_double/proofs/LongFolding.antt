@@ -1,5 +1,6 @@
 -- Two lines of thirty-two side by side, folded in double: the sums and differences that the code stores, and the places of each line.
-use Rattle.tile_lines32_double.specs.Prelude.{◌≡◌, ap, ap₂, ◌∙◌, cond, List, ℕ, ◌+◌, ◌*◌, ◌/◌, ◌%◌, ◌≤◌, ◌<◌, arith, eqb, get_or, set, ℤ, nat_abs, ◌+ℤ◌, ◌-ℤ◌, w32, to_z, of_z, Float, nan, binary64, of_int, add, sub, tab, side16, side32, halfcomplex_of, sum_of, folded_of, folded, double_line, pair_sum_most, long_line_most, long_sum_most}
+use Rattle.std.specs.Prelude.{◌≡◌, ◌+◌, ◌*◌, ◌/◌, ◌%◌, ◌≤◌, ◌<◌, ◌+ℤ◌, ◌-ℤ◌}
+use Rattle.tile_lines32_double.specs.Prelude.{ap, ap₂, ◌∙◌, cond, List, ℕ, arith, eqb, get_or, set, ℤ, nat_abs, w32, to_z, of_z, Float, nan, binary64, of_int, add, sub, tab, side16, side32, halfcomplex_of, sum_of, folded_of, folded, double_line, pair_sum_most, long_line_most, long_sum_most}
 use borrow.Author.Tests.{eq-eqb, ne_eqb}
 use Rattle.algebra.specs.Order.{abs-add, abs-sub}
 use Rattle.sequences.specs.TabLaws.{Filled, fill-turn, get_d-tab}

@@ -1,5 +1,6 @@
 -- Inside this crate: a line of whole numbers of at most `long_sum_most` in parts, each in double.
-use Rattle.tile_lines32_double.specs.Prelude.{◌≡◌, List, ℕ, ◌+◌, ◌*◌, ◌≤◌, ℤ, nat_abs, ◌+ℤ◌, ◌-ℤ◌, Float, side32, folded_of, every_second, long_sum_most, double_line}
+use Rattle.std.specs.Prelude.{◌≡◌, ◌+◌, ◌*◌, ◌≤◌, ◌+ℤ◌, ◌-ℤ◌}
+use Rattle.tile_lines32_double.specs.Prelude.{List, ℕ, ℤ, nat_abs, Float, side32, folded_of, every_second, long_sum_most, double_line}
 
 -- the sums and the differences of numbers sixteen apart
 pub record Halved (z : ℕ → ℤ) (a b : List Float) : Type 0 where

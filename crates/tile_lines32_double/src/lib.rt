@@ -3,7 +3,8 @@
 // 2n + p.
 #![tactic(auto)]
 
-ghost use Rattle.tile_lines32_double.specs.Prelude.{◌≡◌, ℕ, ◌+◌, ◌*◌, ◌/◌, ◌%◌, ◌<◌, ℤ, pos, ◌+ℤ◌, ◌-ℤ◌, length, get_or, side16, side32, halfcomplex_of, folded_of, every_second, long_line_most, long_sum_most, double_line, From};
+ghost use Rattle.std.specs.Prelude.{◌≡◌, ◌+◌, ◌*◌, ◌/◌, ◌%◌, ◌<◌, ◌+ℤ◌, ◌-ℤ◌};
+ghost use Rattle.tile_lines32_double.specs.Prelude.{ℕ, ℤ, pos, length, get_or, side16, side32, halfcomplex_of, folded_of, every_second, long_line_most, long_sum_most, double_line, From};
 ghost use Rattle.tile_spectrum.specs.Lines.Lines.{LineMost};
 ghost use Rattle.tile_lines32_double.specs.Parts.{Halved, InParts};
 

@@ -1,5 +1,6 @@
 -- The even places of a line of thirty-two are the places of its sums' line of sixteen.
-use Rattle.tile_lines32_whole.specs.Prelude.{◌≡◌, ap, ◌∙◌, List, ℕ, ◌*◌, ◌<◌, ℤ, pos, tab, side16, side32, halfcomplex_of, sum_of, of}
+use Rattle.std.specs.Prelude.{◌≡◌, ◌*◌, ◌<◌}
+use Rattle.tile_lines32_whole.specs.Prelude.{ap, ◌∙◌, List, ℕ, ℤ, pos, tab, side16, side32, halfcomplex_of, sum_of, of}
 use Rattle.sequences.specs.TabLaws.{get_d-tab}
 use Rattle.sequences.specs.Grid.{tab-ext}
 use Rattle.recipe.specs.TableLaws.{rules16}

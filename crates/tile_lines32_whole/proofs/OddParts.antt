@@ -1,6 +1,7 @@
 -- The odd places of a line of thirty-two in parts: how large the parts are, that they are those of the differences as the code holds them, and that joined they are
 -- the places.
-use Rattle.tile_lines32_whole.specs.Prelude.{◌≡◌, ap, ap₂, ◌∙◌, List, [], ◌∷◌, ℕ, ◌+◌, ◌*◌, ◌/◌, ◌%◌, ◌≤◌, ℤ, pos, nat_abs, ◌+ℤ◌, ◌-ℤ◌, ◌*ℤ◌, to_z-of_z, w16, w32, SFits, to_z, of_z, sum_z, tab, cosines, cosine16, side16, cosines32, cosine32, side32, basis_of, frequency_of, phase_of, folded_of, halfcomplex_of, difference_of, difference_fold_most, of}
+use Rattle.std.specs.Prelude.{◌≡◌, ◌∷◌, ◌+◌, ◌*◌, ◌/◌, ◌%◌, ◌≤◌, ◌+ℤ◌, ◌-ℤ◌, ◌*ℤ◌}
+use Rattle.tile_lines32_whole.specs.Prelude.{ap, ap₂, ◌∙◌, List, [], ℕ, ℤ, pos, nat_abs, to_z-of_z, w16, w32, SFits, to_z, of_z, sum_z, tab, cosines, cosine16, side16, cosines32, cosine32, side32, basis_of, frequency_of, phase_of, folded_of, halfcomplex_of, difference_of, difference_fold_most, of}
 use Rattle.algebra.specs.Order.{abs-mul-le}
 use Rattle.algebra.specs.Bound.{add-fits, sub-fits}
 use Rattle.algebra.specs.Ring.{var, con, ◌⊞◌, ◌⊟◌, ◌⊠◌}

@@ -1,5 +1,6 @@
 -- Inside this crate: the odd places of a line of thirty-two, from the even and the odd ones of its sixteen differences z.
-use Rattle.tile_lines32_whole.specs.Prelude.{◌≡◌, List, ℕ, ◌+◌, ◌*◌, ◌/◌, ◌%◌, ℤ, ◌*ℤ◌, sum_z, tab, side16, side32, basis_of, folded_of, difference_fold_most}
+use Rattle.std.specs.Prelude.{◌≡◌, ◌+◌, ◌*◌, ◌/◌, ◌%◌, ◌*ℤ◌}
+use Rattle.tile_lines32_whole.specs.Prelude.{List, ℕ, ℤ, sum_z, tab, side16, side32, basis_of, folded_of, difference_fold_most}
 
 -- what the odd ones, of which number n is z n, add to the real parts of numbers 1, 3, 5 and 7 of the transform, then to the imaginary parts
 abbrev pub odd_part : (ℕ → ℤ) → ℕ → ℤ

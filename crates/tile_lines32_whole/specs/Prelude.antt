@@ -1,5 +1,6 @@
 -- The words of other crates that this crate's files share. Lemmas are not passed on: of those the `use` line says where they are.
-pub use Rattle.algebra.specs.Prelude.{List, ℕ, ℤ, [], ap, ap₂, arith, get_or, lit<, lit≤, nat_abs, rules, of_z, pos, refl, SFits, to_z, to_z-of_z, w16, w32, ◌%◌, ◌*◌, ◌*ℤ◌, ◌+◌, ◌+ℤ◌, ◌-◌, ◌-ℤ◌, ◌/◌, ◌<◌, ◌≤◌, ◌∙◌, ◌∷◌, ◌≡◌}
+pub use Rattle.std.specs.Prelude.{◌%◌, ◌*◌, ◌*ℤ◌, ◌+◌, ◌+ℤ◌, ◌-◌, ◌-ℤ◌, ◌/◌, ◌<◌, ◌≤◌, ◌∷◌, ◌≡◌}
+pub use Rattle.algebra.specs.Prelude.{List, ℕ, ℤ, [], ap, ap₂, arith, get_or, lit<, lit≤, nat_abs, rules, of_z, pos, refl, SFits, to_z, to_z-of_z, w16, w32, ◌∙◌}
 unfoldable pub use Rattle.algebra.specs.Sums.{sum_z}
 unfoldable pub use Rattle.sequences.specs.Tab.{tab}
 unfoldable pub use Rattle.recipe.specs.Tables.{cosine16, cosines, side16}

@@ -3,7 +3,8 @@
 // the odd places of the whole line, have the kernel of `tile_lines::whole`.
 #![tactic(auto)]
 
-ghost use Rattle.tile_lines32_whole.specs.Prelude.{◌≡◌, [], ◌∷◌, ℕ, ◌+◌, ◌*◌, ℤ, pos, get_or, tab, side16, side32, halfcomplex_of, sum_of, difference_of, folded_of, difference_most, difference_fold_most, fold_again_most};
+ghost use Rattle.std.specs.Prelude.{◌≡◌, ◌∷◌, ◌+◌, ◌*◌};
+ghost use Rattle.tile_lines32_whole.specs.Prelude.{[], ℕ, ℤ, pos, get_or, tab, side16, side32, halfcomplex_of, sum_of, difference_of, folded_of, difference_most, difference_fold_most, fold_again_most};
 ghost use Rattle.tile_spectrum.specs.Lines.Lines.{LineMost};
 ghost use Rattle.tile_lines32_whole.specs.Parts.{odd_part, InParts, part_most};
 

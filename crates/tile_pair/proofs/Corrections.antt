@@ -1,6 +1,7 @@
 -- P of the two planes of a pair of differences d at the noise numbers first and second, added to the tile s: the steps as the code hands them on are the
 -- recipe's.
-use Rattle.tile_pair.specs.Prelude.{◌≡◌, refl, Bool, true, false, List, ℕ, ◌+◌, ◌*◌, ◌/◌, ◌%◌, ◌^◌, ◌≤◌, ◌<◌, eqb, lit<, lit≤, ℤ, pos, nat_abs, ◌+ℤ◌, Float, away, side16, TileMost, difference_most, part_most, fold_most, two_way, transposed, spread, gain_re, gain_im, back_sum, gain_im_of, gain_re_of, InDouble, Binned, BinnedPair, plane_in, side_by_side, either, doubles}
+use Rattle.std.specs.Prelude.{◌≡◌, ◌+◌, ◌*◌, ◌/◌, ◌%◌, ◌^◌, ◌≤◌, ◌<◌, ◌+ℤ◌}
+use Rattle.tile_pair.specs.Prelude.{refl, Bool, true, false, List, ℕ, eqb, lit<, lit≤, ℤ, pos, nat_abs, Float, away, side16, TileMost, difference_most, part_most, fold_most, two_way, transposed, spread, gain_re, gain_im, back_sum, gain_im_of, gain_re_of, InDouble, Binned, BinnedPair, plane_in, side_by_side, either, doubles}
 use native.Mathlib.Nat.{le_trans}
 use Rattle.sequences.specs.Grid.{grid, cell}
 use Rattle.recipe.specs.Correction.{quantized, filtered, correction_at}

@@ -1,5 +1,6 @@
 -- The two passes of the transform, and those of the inverse, on a pair.
-use Rattle.tile_pair.specs.Prelude.{◌≡◌, sym, subst, Bool, true, false, List, ℕ, ◌/◌, ◌%◌, ◌^◌, ◌≤◌, arith, lit≤, ℤ, pos, nat_abs, ◌+ℤ◌, Float, away, halfcomplex, backward, half_sum, difference_most, pair_line_most, fold_most, column_most, TileMost, side16, two_way, transposed, back_sum, InDouble, plane_in, side_by_side, doubles}
+use Rattle.std.specs.Prelude.{◌≡◌, ◌/◌, ◌%◌, ◌^◌, ◌≤◌, ◌+ℤ◌}
+use Rattle.tile_pair.specs.Prelude.{sym, subst, Bool, true, false, List, ℕ, arith, lit≤, ℤ, pos, nat_abs, Float, away, halfcomplex, backward, half_sum, difference_most, pair_line_most, fold_most, column_most, TileMost, side16, two_way, transposed, back_sum, InDouble, plane_in, side_by_side, doubles}
 use native.Mathlib.Nat.{le_trans}
 use Rattle.sequences.specs.Grid.{grid, cell}
 use Rattle.tile_spectrum.specs.Lines.HalfSumLaws.{half-sum}

@@ -1,5 +1,6 @@
 // The first pass of the two-way transform, down the columns of a pair of differences.
-ghost use Rattle.tile_pair.specs.Prelude.{◌≡◌, cond, ◌<◌, eqb, pos, get_or, tab, grid, cell, halfcomplex, difference_most, TileMost, Paired};
+ghost use Rattle.std.specs.Prelude.{◌≡◌, ◌<◌};
+ghost use Rattle.tile_pair.specs.Prelude.{cond, eqb, pos, get_or, tab, grid, cell, halfcomplex, difference_most, TileMost, Paired};
 
 // Column l of a pair, as a line.
 fn column(d: &[[i16; 32]; 16], l: usize) -> [i16; 16]

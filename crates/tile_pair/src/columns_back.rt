@@ -1,5 +1,6 @@
 // The first pass of the inverse, down the columns of a pair of folded spectra, in place.
-ghost use Rattle.tile_pair.specs.Prelude.{◌≡◌, false, cond, ◌<◌, eqb, get_or, tab, grid, cell, backward, fold_most, Paired, InDouble, doubles, nan};
+ghost use Rattle.std.specs.Prelude.{◌≡◌, ◌<◌};
+ghost use Rattle.tile_pair.specs.Prelude.{false, cond, eqb, get_or, tab, grid, cell, backward, fold_most, Paired, InDouble, doubles, nan};
 
 // Column l of a pair, as a line.
 fn column(g: &[[f64; 32]; 16], l: usize) -> [f64; 16]

@@ -6,7 +6,8 @@ pub mod columns_back;
 mod rows;
 mod rows_back;
 
-ghost use Rattle.tile_pair.specs.Prelude.{◌≡◌, ◌^◌, ◌≤◌, pos, nan, side16, difference_most, fold_most, TileMost, Paired, InDouble, BinnedPair, GainsOf, by_columns, plane_bins, pair_gains, InverseAdded, correction_in, added, doubles};
+ghost use Rattle.std.specs.Prelude.{◌≡◌, ◌^◌, ◌≤◌};
+ghost use Rattle.tile_pair.specs.Prelude.{pos, nan, side16, difference_most, fold_most, TileMost, Paired, InDouble, BinnedPair, GainsOf, by_columns, plane_bins, pair_gains, InverseAdded, correction_in, added, doubles};
 ghost use Rattle.tile_spectrum.specs.Magnitudes.{noise_most};
 
 use tile_bin::quiet::low_noise;

@@ -1,7 +1,8 @@
 // The second pass of the inverse, along the rows of a pair that the pass down the columns leaves: half of each sum back, which over 2^31 is P. Where
 // noise is low that is below 5·2^49, and all is in double; else it is made of its two parts in 64 bits. A row's step is called from two places, so that it is
 // compiled by itself.
-ghost use Rattle.tile_pair.specs.Prelude.{◌≡◌, true, false, ◌+◌, ◌*◌, ◌/◌, ◌%◌, ◌^◌, pos, ◌+ℤ◌, length, get_or, AtMost, away, tab, half_sum, LineMost, TileMost, WholeDouble, WholeRow, column_most, half_most, Paired, InDouble, plane_in, added};
+ghost use Rattle.std.specs.Prelude.{◌≡◌, ◌+◌, ◌*◌, ◌/◌, ◌%◌, ◌^◌, ◌+ℤ◌};
+ghost use Rattle.tile_pair.specs.Prelude.{true, false, pos, length, get_or, AtMost, away, tab, half_sum, LineMost, TileMost, WholeDouble, WholeRow, column_most, half_most, Paired, InDouble, plane_in, added};
 ghost use Rattle.tile_spectrum.specs.Rounded.{rounded_double};
 
 use rounding::{BY_2_31, MIDDLE, MIDDLE_BITS, round_away_31};

@@ -1,6 +1,7 @@
 -- P of the two planes of a pair of differences d at the noise numbers first and second, added to the tile s: the steps as the code hands them on are the
 -- recipe's.
-use Rattle.tile_pair32.specs.Prelude.{◌≡◌, refl, Bool, true, false, List, ℕ, ◌+◌, ◌*◌, ◌/◌, ◌%◌, ◌^◌, ◌≤◌, ◌<◌, eqb, lit≤, lit<, ℤ, pos, nat_abs, ◌+ℤ◌, Float, away, side32, TileMost, difference_most, long_part_most, long_fold_most, two_way_of, transposed, spread_of, gain_re_of, gain_im_of, back_sum_of, plane_in, side_by_side, either, LongInDouble, LongBinned, LongBinnedPair, long_doubles}
+use Rattle.std.specs.Prelude.{◌≡◌, ◌+◌, ◌*◌, ◌/◌, ◌%◌, ◌^◌, ◌≤◌, ◌<◌, ◌+ℤ◌}
+use Rattle.tile_pair32.specs.Prelude.{refl, Bool, true, false, List, ℕ, eqb, lit≤, lit<, ℤ, pos, nat_abs, Float, away, side32, TileMost, difference_most, long_part_most, long_fold_most, two_way_of, transposed, spread_of, gain_re_of, gain_im_of, back_sum_of, plane_in, side_by_side, either, LongInDouble, LongBinned, LongBinnedPair, long_doubles}
 use native.Mathlib.Nat.{le_trans}
 use Rattle.sequences.specs.Grid.{grid, cell}
 use Rattle.recipe.specs.Correction.{quantized, filtered, correction_at}

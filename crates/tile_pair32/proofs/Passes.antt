@@ -1,5 +1,6 @@
 -- The two passes of the transform, and those of the inverse, on a pair.
-use Rattle.tile_pair32.specs.Prelude.{◌≡◌, sym, subst, Bool, true, false, List, ℕ, ◌/◌, ◌%◌, ◌^◌, ◌≤◌, arith, lit≤, ℤ, pos, nat_abs, ◌+ℤ◌, Float, away, halfcomplex_of, backward_of, half_sum_of, difference_most, long_line_most, long_fold_most, long_column_most, TileMost, side32, two_way_of, transposed, back_sum_of, plane_in, side_by_side, LongInDouble, long_doubles}
+use Rattle.std.specs.Prelude.{◌≡◌, ◌/◌, ◌%◌, ◌^◌, ◌≤◌, ◌+ℤ◌}
+use Rattle.tile_pair32.specs.Prelude.{sym, subst, Bool, true, false, List, ℕ, arith, lit≤, ℤ, pos, nat_abs, Float, away, halfcomplex_of, backward_of, half_sum_of, difference_most, long_line_most, long_fold_most, long_column_most, TileMost, side32, two_way_of, transposed, back_sum_of, plane_in, side_by_side, LongInDouble, long_doubles}
 use native.Mathlib.Nat.{le_trans}
 use Rattle.sequences.specs.Grid.{grid, cell}
 use Rattle.tile_spectrum.specs.Turns.{turns32}

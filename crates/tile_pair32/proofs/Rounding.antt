@@ -1,6 +1,7 @@
 -- P of a whole number in double where noise is middle: two sums.
 use Rattle.tile_pair32.specs.Prelude.{Float, is_nan, binary64, add, away, middle, middle_bits, WholeDouble, long_half_most}
-use Rattle.algebra.specs.Prelude.{◌≡◌, sym, ap, ap₂, subst, ◌∙◌, true, false, not, ◌^◌, ◌≤◌, ◌<◌, T, lit<, lit≤, ℤ, pos, nat_abs, ◌+ℤ◌, ◌-ℤ◌, w64, SFits, to_z, of_z, to_z-of_z}
+use Rattle.std.specs.Prelude.{◌≡◌, ◌^◌, ◌≤◌, ◌<◌, ◌+ℤ◌, ◌-ℤ◌}
+use Rattle.algebra.specs.Prelude.{sym, ap, ap₂, subst, ◌∙◌, true, false, not, T, lit<, lit≤, ℤ, pos, nat_abs, w64, SFits, to_z, of_z, to_z-of_z}
 use native.Mathlib.Nat.{le_trans}
 use mir.ValLaws.{to_z_pos}
 use Rattle.algebra.specs.Bound.{AtMost, add-fits}

@@ -1,5 +1,6 @@
 -- Rows of a pair in double.
-use Rattle.tile_pair32.specs.Prelude.{◌≡◌, subst, Bool, List, [], ℕ, ◌≤◌, ◌<◌, get_or, ℤ, nat_abs, Float, binary64, of_int, double_line, WholeLine, long_column_most, LongInDouble, long_doubles}
+use Rattle.std.specs.Prelude.{◌≡◌, ◌≤◌, ◌<◌}
+use Rattle.tile_pair32.specs.Prelude.{subst, Bool, List, [], ℕ, get_or, ℤ, nat_abs, Float, binary64, of_int, double_line, WholeLine, long_column_most, LongInDouble, long_doubles}
 use Rattle.tile_spectrum.specs.ColumnLaws.{grid-row}
 
 -- where noise is known to be low or middle, or is any

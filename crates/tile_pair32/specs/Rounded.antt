@@ -1,5 +1,6 @@
 -- P of a whole number in double where noise is middle, as the code takes it.
-use Rattle.tile_pair32.specs.Prelude.{ℕ, ℤ, pos, ◌+ℤ◌, ◌-ℤ◌, Float, binary64, add, to_bits, middle, middle_bits}
+use Rattle.std.specs.Prelude.{◌+ℤ◌, ◌-ℤ◌}
+use Rattle.tile_pair32.specs.Prelude.{ℕ, ℤ, pos, Float, binary64, add, to_bits, middle, middle_bits}
 use Rattle.floats.specs.TwiceLaws.{first_part, second_part}
 
 -- x over 2^31, from the bits of two sums with 1.5·2^52

@@ -1,5 +1,6 @@
 // The first pass of the two-way transform, down the columns of a pair of differences.
-ghost use Rattle.tile_pair32.specs.Prelude.{◌≡◌, cond, ◌<◌, eqb, pos, get_or, side32, tab, grid, cell, halfcomplex_of, difference_most, TileMost, LongPaired};
+ghost use Rattle.std.specs.Prelude.{◌≡◌, ◌<◌};
+ghost use Rattle.tile_pair32.specs.Prelude.{cond, eqb, pos, get_or, side32, tab, grid, cell, halfcomplex_of, difference_most, TileMost, LongPaired};
 
 // Column l of a pair, as a line.
 fn column(d: &[[i16; 64]; 32], l: usize) -> [i16; 32]

@@ -1,5 +1,6 @@
 // The first pass of the inverse, down the columns of a pair of folded spectra, in place.
-ghost use Rattle.tile_pair32.specs.Prelude.{◌≡◌, false, cond, ◌<◌, eqb, get_or, side32, tab, grid, cell, backward_of, long_fold_most, LongPaired, LongInDouble, long_doubles, nan};
+ghost use Rattle.std.specs.Prelude.{◌≡◌, ◌<◌};
+ghost use Rattle.tile_pair32.specs.Prelude.{false, cond, eqb, get_or, side32, tab, grid, cell, backward_of, long_fold_most, LongPaired, LongInDouble, long_doubles, nan};
 
 // Column l of a pair, as a line.
 fn column(g: &[[f64; 64]; 32], l: usize) -> [f64; 32]

@@ -6,7 +6,8 @@ mod columns_back;
 mod rows;
 mod rows_back;
 
-ghost use Rattle.tile_pair32.specs.Prelude.{◌≡◌, ◌^◌, ◌≤◌, pos, nan, side32, difference_most, long_fold_most, TileMost, by_columns, plane_bins, pair_gains, correction_in, added, LongPaired, LongInDouble, LongInverseAdded, long_doubles};
+ghost use Rattle.std.specs.Prelude.{◌≡◌, ◌^◌, ◌≤◌};
+ghost use Rattle.tile_pair32.specs.Prelude.{pos, nan, side32, difference_most, long_fold_most, TileMost, by_columns, plane_bins, pair_gains, correction_in, added, LongPaired, LongInDouble, LongInverseAdded, long_doubles};
 ghost use Rattle.tile_spectrum.specs.Magnitudes.{long_noise_most};
 
 use tile_bin::quiet::{long_low_noise, long_middle_noise};

@@ -1,6 +1,7 @@
 // The second pass of the two-way transform, along the rows of a pair that the pass down the columns leaves. Its kernel is called from two places, so that it is
 // compiled by itself.
-ghost use Rattle.tile_pair32.specs.Prelude.{◌≡◌, pos, side32, cell, halfcomplex_of, long_line_most, TileMost, plane_in, side_by_side, LongPaired, long_doubles, nan};
+ghost use Rattle.std.specs.Prelude.{◌≡◌};
+ghost use Rattle.tile_pair32.specs.Prelude.{pos, side32, cell, halfcomplex_of, long_line_most, TileMost, plane_in, side_by_side, LongPaired, long_doubles, nan};
 
 // r: the transforms of each row's two lines.
 pub fn rows(t: &[[i32; 64]; 32], r: &mut [[f64; 64]; 32])

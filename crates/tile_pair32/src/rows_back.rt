@@ -1,6 +1,7 @@
 // The second pass of the inverse, along the rows of a pair that the pass down the columns leaves: half of each sum back, which over 2^31 is P. Its kernel is
 // called from two places, so that it is compiled by itself.
-ghost use Rattle.tile_pair32.specs.Prelude.{◌≡◌, true, false, ◌+◌, ◌*◌, ◌/◌, ◌%◌, ◌^◌, pos, ◌+ℤ◌, length, get_or, side32, AtMost, away, tab, half_sum_of, LineMost, TileMost, long_column_most, long_half_most, WholeDouble, WholeLine, plane_in, added, LongPaired, LongInDouble};
+ghost use Rattle.std.specs.Prelude.{◌≡◌, ◌+◌, ◌*◌, ◌/◌, ◌%◌, ◌^◌, ◌+ℤ◌};
+ghost use Rattle.tile_pair32.specs.Prelude.{true, false, pos, length, get_or, side32, AtMost, away, tab, half_sum_of, LineMost, TileMost, long_column_most, long_half_most, WholeDouble, WholeLine, plane_in, added, LongPaired, LongInDouble};
 ghost use Rattle.tile_spectrum.specs.Rounded.{rounded_double};
 ghost use Rattle.tile_pair32.specs.Rounded.{twice_double};
 

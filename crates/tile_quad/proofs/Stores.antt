@@ -1,5 +1,6 @@
 -- The store of a quad of two tiles of side 2·h side by side.
-use Rattle.tile_quad.specs.Prelude.{◌≡◌, refl, sym, ap, ◌∙◌, List, [], ◌∷◌, ℕ, ◌+◌, ◌*◌, ◌%◌, ◌<◌, arith, get_or, set, Float, nan}
+use Rattle.std.specs.Prelude.{◌≡◌, ◌∷◌, ◌+◌, ◌*◌, ◌%◌, ◌<◌}
+use Rattle.tile_quad.specs.Prelude.{refl, sym, ap, ◌∙◌, List, [], ℕ, arith, get_or, set, Float, nan}
 use native.Mathlib.Nat.{mod-eq_of_lt, add-mod_left}
 use Rattle.sequences.specs.Grid.{grid, cell, grid-of, stored, stored_here, stored-apart, set-grid}
 use Rattle.tile_spectrum.specs.QuadLaws.{four}

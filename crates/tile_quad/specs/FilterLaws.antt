@@ -1,6 +1,6 @@
 -- Two planes side by side, all quads of which were replaced by those of G: both folded.
-use Rattle.tile_quad.specs.Prelude.{◌≡◌, refl, sym, ap, ap₂, ◌∙◌, Bool, true, false, cond, List, ℕ, zero, suc, ◌+◌, ◌*◌, ◌/◌, ◌%◌, ◌≤◌, ◌<◌, arith, eqb, ℤ, Float, nan, cell, either, quad_places}
-use Rattle.std.specs.Prelude.{map}
+use Rattle.tile_quad.specs.Prelude.{refl, sym, ap, ap₂, ◌∙◌, Bool, true, false, cond, List, ℕ, zero, suc, arith, eqb, ℤ, Float, nan, cell, either, quad_places}
+use Rattle.std.specs.Prelude.{map, ◌≡◌, ◌+◌, ◌*◌, ◌/◌, ◌%◌, ◌≤◌, ◌<◌}
 use Rattle.std.proofs.Common.{zero-le, mul-le-mul_left}
 use Rattle.sequences.specs.Grid.{grid}
 use Rattle.recipe.specs.Side.{Side}

@@ -1,5 +1,6 @@
 -- Quads of two tiles of side 2·h side by side: a pair by its quads, and loops that replace them one after the other.
-use Rattle.tile_quad.specs.Prelude.{◌≡◌, refl, sym, ap, subst, ◌∙◌, List, [], ◌∷◌, ℕ, ◌+◌, ◌-◌, ◌*◌, ◌/◌, ◌≤◌, ◌<◌, arith, ltb, get_or, Bool, true, false, Float, nan, cell}
+use Rattle.std.specs.Prelude.{◌≡◌, ◌∷◌, ◌+◌, ◌-◌, ◌*◌, ◌/◌, ◌≤◌, ◌<◌}
+use Rattle.tile_quad.specs.Prelude.{refl, sym, ap, subst, ◌∙◌, List, [], ℕ, arith, ltb, get_or, Bool, true, false, Float, nan, cell}
 use Rattle.std.proofs.Common.{add-zero, ltb-true, ltb-false}
 use Rattle.std.proofs.Math.Nat.{div-eq_of_lt, mul-add-div}
 use Rattle.sequences.specs.Grid.{grid, cell-grid, grid-ext}

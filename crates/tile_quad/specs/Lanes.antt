@@ -1,6 +1,7 @@
 -- Inside the crates of the merge: the Wiener step on two tiles of side 2·h side by side in double, quad by quad. Quad (u, l) holds lanes l and 2·h + l of rows u and
 -- h + u: of plane l % 2, quad (l / 2, u) of the tile, which is held by columns.
-use Rattle.tile_quad.specs.Prelude.{◌≡◌, cond, List, [], ◌∷◌, ℕ, ◌+◌, ◌*◌, ◌≤◌, ◌<◌, eqb, get_or, Float, nan, binary64, add, sub, cell, by_kind, Paired}
+use Rattle.std.specs.Prelude.{◌≡◌, ◌∷◌, ◌+◌, ◌*◌, ◌≤◌, ◌<◌}
+use Rattle.tile_quad.specs.Prelude.{cond, List, [], ℕ, eqb, get_or, Float, nan, binary64, add, sub, cell, by_kind, Paired}
 use Rattle.tile_spectrum.specs.Magnitudes.{bin_most}
 use Rattle.tile_spectrum.specs.Lines.Doubles.{WholeDouble}
 

@@ -1,6 +1,6 @@
 -- A quad of G worked out in double from one of B is, as doubles, that of the folded G: all sums and differences are exact.
-use Rattle.tile_quad.specs.Prelude.{◌≡◌, refl, sym, ap, subst, ◌∙◌, List, [], ◌∷◌, ℕ, zero, suc, ◌+◌, ◌^◌, ◌≤◌, ◌<◌, arith, lit≤, lit<, get_or, length, ℤ, pos, nat_abs, ◌+ℤ◌, ◌-ℤ◌, Float, binary64, of_int, by_kind, folded_quad, quad_places, two_bins_of, Binned}
-use Rattle.std.specs.Prelude.{map}
+use Rattle.tile_quad.specs.Prelude.{refl, sym, ap, subst, ◌∙◌, List, [], ℕ, zero, suc, arith, lit≤, lit<, get_or, length, ℤ, pos, nat_abs, Float, binary64, of_int, by_kind, folded_quad, quad_places, two_bins_of, Binned}
+use Rattle.std.specs.Prelude.{map, ◌≡◌, ◌∷◌, ◌+◌, ◌^◌, ◌≤◌, ◌<◌, ◌+ℤ◌, ◌-ℤ◌}
 use Prim.Native.Nat.{zero-le}
 use Rattle.std.proofs.Math.Nat.{le_trans}
 use Rattle.std.proofs.Common.{eq-eqb, ne_eqb}

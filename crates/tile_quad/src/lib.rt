@@ -4,7 +4,8 @@
 
 pub mod thirty_two;
 
-ghost use Rattle.tile_quad.specs.Prelude.{◌≡◌, ◌<◌, nan, cell, Paired};
+ghost use Rattle.std.specs.Prelude.{◌≡◌, ◌<◌};
+ghost use Rattle.tile_quad.specs.Prelude.{nan, cell, Paired};
 ghost use Rattle.tile_quad.specs.Lanes.{quad_at, WithQuad};
 
 // Quad (u, l).

@@ -1,6 +1,7 @@
 // Quads of two tiles of side 32 side by side in double: how one is read and stored. Quad (u, l) is rows u and 16 + u of lanes l and
 // 32 + l.
-ghost use Rattle.tile_quad.specs.ThirtyTwo.Prelude.{◌≡◌, ◌<◌, nan, cell, LongPaired};
+ghost use Rattle.std.specs.Prelude.{◌≡◌, ◌<◌};
+ghost use Rattle.tile_quad.specs.ThirtyTwo.Prelude.{nan, cell, LongPaired};
 ghost use Rattle.tile_quad.specs.ThirtyTwo.Lanes.{quad_at, WithQuad};
 
 // Quad (u, l).

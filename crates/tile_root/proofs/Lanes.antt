@@ -1,5 +1,6 @@
 -- The squares of a pair's rows, added up place by place and then over the places of a plane, are those of the plane's tile: so are their roots.
-use Rattle.tile_root.specs.Prelude.{◌≡◌, ap, ◌∙◌, cond, List, [], ℕ, ◌+◌, ◌*◌, ◌%◌, ◌≤◌, ◌<◌, arith, lit≤, eqb, get_or, sum_n, tab, intensity, squared, sum_of_squares, tile_root, whole_root}
+use Rattle.std.specs.Prelude.{◌≡◌, ◌+◌, ◌*◌, ◌%◌, ◌≤◌, ◌<◌}
+use Rattle.tile_root.specs.Prelude.{ap, ◌∙◌, cond, List, [], ℕ, arith, lit≤, eqb, get_or, sum_n, tab, intensity, squared, sum_of_squares, tile_root, whole_root}
 use Prim.Native.Nat.{zero-le}
 use native.Mathlib.Nat.{le_trans, mul-le-mul, mul-le-mul_right}
 use native.Mathlib.Numerals.{add-one}

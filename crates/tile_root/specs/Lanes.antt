@@ -1,5 +1,6 @@
 -- Inside this crate: the squares of a pair of tiles by their places in a row. Place 2·j + p is column j of plane p.
-use Rattle.tile_root.specs.Prelude.{cond, List, ℕ, ◌%◌, eqb, get_or, sum_n, tab, cell, squared}
+use Rattle.std.specs.Prelude.{◌%◌}
+use Rattle.tile_root.specs.Prelude.{cond, List, ℕ, eqb, get_or, sum_n, tab, cell, squared}
 
 -- the black level at place l
 unfoldable pub lane_black : (first second l : ℕ) → ℕ

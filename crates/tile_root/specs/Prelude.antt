@@ -1,5 +1,6 @@
 -- The words of other crates that this crate's files share. Lemmas are not passed on: of those the `use` line says where they are.
-pub use Rattle.algebra.specs.Prelude.{Bool, List, ℕ, [], ap, ap₂, arith, cond, eqb, false, get_or, leb, length, lit<, lit≤, rules, refl, suc, true, zero, ◌%◌, ◌*◌, ◌+◌, ◌-◌, ◌/◌, ◌<◌, ◌∙◌, ◌≡◌, ◌≤◌}
+pub use Rattle.std.specs.Prelude.{◌%◌, ◌*◌, ◌+◌, ◌-◌, ◌/◌, ◌<◌, ◌≡◌, ◌≤◌}
+pub use Rattle.algebra.specs.Prelude.{Bool, List, ℕ, [], ap, ap₂, arith, cond, eqb, false, get_or, leb, length, lit<, lit≤, rules, refl, suc, true, zero, ◌∙◌}
 unfoldable pub use Rattle.algebra.specs.Sums.{sum_n}
 unfoldable pub use Rattle.sequences.specs.Grid.{cell}
 unfoldable pub use Rattle.sequences.specs.Tab.{tab}

@@ -1,5 +1,6 @@
 -- What r is worked out for, inside this crate's contracts.
-use Rattle.tile_root.specs.Prelude.{◌≡◌, List, ℕ, ◌+◌, ◌*◌, ◌≤◌, length, get_or, cell, tile_root}
+use Rattle.std.specs.Prelude.{◌≡◌, ◌+◌, ◌*◌, ◌≤◌}
+use Rattle.tile_root.specs.Prelude.{List, ℕ, length, get_or, cell, tile_root}
 
 -- each sample of a row is at most 4095
 pub record RowFits (row : List ℕ) : Type 0 where

@@ -1,5 +1,6 @@
 -- The whole root r of n is the one number with r² ≤ n < (r + 1)²: by induction on the steps, and by comparing squares.
-use Rattle.tile_root.specs.Prelude.{◌≡◌, refl, Bool, true, false, cond, ℕ, zero, suc, ◌+◌, ◌*◌, ◌/◌, ◌≤◌, ◌<◌, arith, leb, or_next, root_in, whole_root}
+use Rattle.std.specs.Prelude.{◌≡◌, ◌+◌, ◌*◌, ◌/◌, ◌≤◌, ◌<◌}
+use Rattle.tile_root.specs.Prelude.{refl, Bool, true, false, cond, ℕ, zero, suc, arith, leb, or_next, root_in, whole_root}
 use Rattle.std.proofs.Common.{le_antisymm, le_trans, lt_of_not-le, mul-le-mul, leb-true, leb-false}
 
 pub record IsRoot (n r : ℕ) : Type 0 where

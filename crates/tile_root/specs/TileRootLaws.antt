@@ -1,5 +1,6 @@
 -- r's bound, and its monotony in the black level.
-use Rattle.tile_root.specs.Prelude.{◌≡◌, ap, ℕ, ◌+◌, ◌*◌, ◌≤◌, ◌<◌, arith, sum_n, whole_root, intensity, squared, sum_of_squares, tile_root}
+use Rattle.std.specs.Prelude.{◌≡◌, ◌+◌, ◌*◌, ◌≤◌, ◌<◌}
+use Rattle.tile_root.specs.Prelude.{ap, ℕ, arith, sum_n, whole_root, intensity, squared, sum_of_squares, tile_root}
 use Rattle.std.proofs.Common.{mul-le-mul}
 use Rattle.algebra.specs.SumLaws.{sum_n-cong, sum_n-mono, sum_n-bound}
 use Rattle.tile_root.specs.RootLaws.{root-mono, root-most}

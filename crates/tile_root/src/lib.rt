@@ -4,7 +4,8 @@
 mod squares;
 pub mod thirty_two;
 
-ghost use Rattle.tile_root.specs.Prelude.{◌≡◌, ◌+◌, ◌*◌, ◌<◌, ◌≤◌, get_or, sum_n, whole_root};
+ghost use Rattle.std.specs.Prelude.{◌≡◌, ◌+◌, ◌*◌, ◌<◌, ◌≤◌};
+ghost use Rattle.tile_root.specs.Prelude.{get_or, sum_n, whole_root};
 ghost use Rattle.tile_root.specs.Range.{SamplesFit, LanesFit, PairRoots};
 
 // r of the two planes of a pair of tiles.

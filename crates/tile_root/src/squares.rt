@@ -1,5 +1,6 @@
 // The squares of a pair of tiles added up for each of its planes, and the whole root by bisection. Place 2·j + p of a row of the pair is column j of plane p.
-ghost use Rattle.tile_root.specs.Prelude.{◌≡◌, ◌+◌, ◌*◌, ◌<◌, ◌≤◌, get_or, sum_n, tab, whole_root, intensity, squared};
+ghost use Rattle.std.specs.Prelude.{◌≡◌, ◌+◌, ◌*◌, ◌<◌, ◌≤◌};
+ghost use Rattle.tile_root.specs.Prelude.{get_or, sum_n, tab, whole_root, intensity, squared};
 ghost use Rattle.tile_root.specs.Range.{RowFits, SamplesFit, LanesFit};
 ghost use Rattle.tile_root.specs.Lanes.{lane_black, lanes};
 

@@ -1,7 +1,8 @@
 // r, the whole root of the sum of the squares of a tile's samples above their black level, for a pair of planes.
 mod squares;
 
-ghost use Rattle.tile_root.specs.Prelude.{◌≡◌, ◌+◌, ◌*◌, ◌<◌, ◌≤◌, get_or, sum_n, whole_root};
+ghost use Rattle.std.specs.Prelude.{◌≡◌, ◌+◌, ◌*◌, ◌<◌, ◌≤◌};
+ghost use Rattle.tile_root.specs.Prelude.{get_or, sum_n, whole_root};
 ghost use Rattle.tile_root.specs.Range.{SamplesFit, PairRoots};
 ghost use Rattle.tile_root.specs.ThirtyTwo.Lanes.{LanesFit};
 

@@ -1,5 +1,6 @@
 -- A row of the copies: each number is at most copy_most.
-use Rattle.tile_spatial.specs.Prelude.{◌≡◌, List, ℕ, ◌*◌, ◌≤◌, arith, get_or, ℤ, pos, nat_abs, ◌-ℤ◌, ◌*ℤ◌, w64, to_z, of_z, AtMost, away, small_most, copy_most}
+use Rattle.std.specs.Prelude.{◌≡◌, ◌*◌, ◌≤◌, ◌-ℤ◌, ◌*ℤ◌}
+use Rattle.tile_spatial.specs.Prelude.{List, ℕ, arith, get_or, ℤ, pos, nat_abs, w64, to_z, of_z, AtMost, away, small_most, copy_most}
 use native.Mathlib.Nat.{mul-le-mul_right}
 use Rattle.algebra.specs.Order.{abs-sub}
 use Rattle.tile_spectrum.specs.Lines.Held.{number_is}

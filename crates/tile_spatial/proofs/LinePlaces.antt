@@ -1,5 +1,6 @@
 -- The bins of a tile look at its sixteen by sixteen places only; and columns 0 and 8 have no line of imaginary parts beside them.
-use Rattle.tile_spatial.specs.Prelude.{◌≡◌, refl, ap, ap₂, ◌∙◌, Bool, true, false, cond, ℕ, ◌+◌, ◌-◌, ◌%◌, ◌<◌, arith, eqb, ltb, ℤ, pos, neg_ℤ, ◌+ℤ◌, ◌-ℤ◌, side16, real_of, imaginary_of, beside, tile_re, tile_im, apart_of, beside_of, imaginary_part, real_part, tile_im_of, tile_re_of}
+use Rattle.std.specs.Prelude.{◌≡◌, ◌+◌, ◌-◌, ◌%◌, ◌<◌, ◌+ℤ◌, ◌-ℤ◌}
+use Rattle.tile_spatial.specs.Prelude.{refl, ap, ap₂, ◌∙◌, Bool, true, false, cond, ℕ, arith, eqb, ltb, ℤ, pos, neg_ℤ, side16, real_of, imaginary_of, beside, tile_re, tile_im, apart_of, beside_of, imaginary_part, real_part, tile_im_of, tile_re_of}
 use borrow.Author.Tests.{eqb-false}
 use Rattle.tile_spectrum.specs.Apart.{cond_cases, apart-cases, below-ext, side-ext, is-own, is-paired}
 

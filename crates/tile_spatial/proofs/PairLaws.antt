@@ -1,5 +1,6 @@
 -- Two planes side by side: their places, the step on their bins, its size, and P' of both.
-use Rattle.tile_spatial.specs.Prelude.{◌≡◌, sym, ap, ap₂, subst, ◌∙◌, false, List, [], ℕ, ◌+◌, ◌*◌, ◌/◌, ◌%◌, ◌^◌, ◌≤◌, ◌<◌, arith, lit≤, eqb, get_or, ℤ, pos, nat_abs, ◌+ℤ◌, ◌*ℤ◌, Float, nan, binary64, of_int, away, tab, side16, bin_re, bin_im, copy_filtered, frequency, LineMost, TileMost, difference_most, fold_most, spatial_most, spatial_gain_most, spatial_correction_most, two_way, transposed, spread, back_sum, tile_re, tile_im, InDouble, plane_in, side_by_side, either, doubles}
+use Rattle.std.specs.Prelude.{◌≡◌, ◌+◌, ◌*◌, ◌/◌, ◌%◌, ◌^◌, ◌≤◌, ◌<◌, ◌+ℤ◌, ◌*ℤ◌}
+use Rattle.tile_spatial.specs.Prelude.{sym, ap, ap₂, subst, ◌∙◌, false, List, [], ℕ, arith, lit≤, eqb, get_or, ℤ, pos, nat_abs, Float, nan, binary64, of_int, away, tab, side16, bin_re, bin_im, copy_filtered, frequency, LineMost, TileMost, difference_most, fold_most, spatial_most, spatial_gain_most, spatial_correction_most, two_way, transposed, spread, back_sum, tile_re, tile_im, InDouble, plane_in, side_by_side, either, doubles}
 use Prim.Native.Nat.{zero-le}
 use native.Mathlib.Nat.{le_trans}
 use lib.IntN.{+ℤ_idl}

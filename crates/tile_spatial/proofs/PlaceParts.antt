@@ -1,5 +1,6 @@
 -- A place of the copy's transform, from those of its parts in double.
-use Rattle.algebra.specs.Prelude.{◌≡◌, sym, ap, ap₂, subst, ◌∙◌, ◌*◌, ◌≤◌, arith, T, ℤ, pos, nat_abs, ◌+ℤ◌, ◌*ℤ◌, w64, SFits, to_z, of_z, to_z-of_z}
+use Rattle.std.specs.Prelude.{◌≡◌, ◌*◌, ◌≤◌, ◌+ℤ◌, ◌*ℤ◌}
+use Rattle.algebra.specs.Prelude.{sym, ap, ap₂, subst, ◌∙◌, arith, T, ℤ, pos, nat_abs, w64, SFits, to_z, of_z, to_z-of_z}
 use lib.Ieee.{Float, binary64, of_int, to_signed, in_signed}
 use Rattle.algebra.specs.Bound.{AtMost, lit-most, add-fits, mul_most, mul-fits}
 use Rattle.floats.specs.Casts.{whole_back}

@@ -1,5 +1,6 @@
 -- The copy as 4096 times its high part and its low part: both are small, and so are their transforms, which make up the copy's.
-use Rattle.algebra.specs.Prelude.{◌≡◌, ap, ◌∙◌, [], ◌∷◌, ℕ, ◌*◌, ◌≤◌, ◌<◌, arith, lit≤, lit<, ℤ, pos, negsuc, nat_abs, ◌+ℤ◌, ◌-ℤ◌, ◌*ℤ◌, w16, w32, SFits, to_z, of_z, to_z-of_z, sym, subst}
+use Rattle.std.specs.Prelude.{◌≡◌, ◌∷◌, ◌*◌, ◌≤◌, ◌<◌, ◌+ℤ◌, ◌-ℤ◌, ◌*ℤ◌}
+use Rattle.algebra.specs.Prelude.{ap, ◌∙◌, [], ℕ, arith, lit≤, lit<, ℤ, pos, negsuc, nat_abs, w16, w32, SFits, to_z, of_z, to_z-of_z, sym, subst}
 use native.Mathlib.Nat.{le_trans}
 use lib.Signed.{shr_z}
 use Rattle.algebra.specs.Bound.{AtMost, lit-most, most_fits, mul-fits}

@@ -1,5 +1,6 @@
 -- P' from the folded step on the copy's bins.
-use Rattle.tile_spatial.specs.Prelude.{◌≡◌, ap, ap₂, ◌∙◌, ℕ, ◌^◌, ◌<◌, lit<, ℤ, neg_ℤ, eqb, away, side16, wiener, bin_re, bin_im, copy_quantized, copy_filtered, frequency, spread, back_sum}
+use Rattle.std.specs.Prelude.{◌≡◌, ◌^◌, ◌<◌}
+use Rattle.tile_spatial.specs.Prelude.{ap, ap₂, ◌∙◌, ℕ, lit<, ℤ, neg_ℤ, eqb, away, side16, wiener, bin_re, bin_im, copy_quantized, copy_filtered, frequency, spread, back_sum}
 use lib.Dec.{eqb→eq}
 use Rattle.algebra.specs.NearestLaws.{away-odd}
 use Rattle.algebra.specs.Test.{all_sound}

@@ -1,5 +1,6 @@
 -- Sums and differences of two numbers in 64 bits, and N times a number added to a sum.
-use Rattle.algebra.specs.Prelude.{◌≡◌, sym, ap, ap₂, subst, ◌∙◌, List, ℕ, ◌+◌, ◌*◌, arith, T, ltb, get_or, ℤ, pos, neg_ℤ, ◌+ℤ◌, ◌-ℤ◌, ◌*ℤ◌, w64, SFits, to_z, of_z, to_z-of_z}
+use Rattle.std.specs.Prelude.{◌≡◌, ◌+◌, ◌*◌, ◌+ℤ◌, ◌-ℤ◌, ◌*ℤ◌}
+use Rattle.algebra.specs.Prelude.{sym, ap, ap₂, subst, ◌∙◌, List, ℕ, arith, T, ltb, get_or, ℤ, pos, neg_ℤ, w64, SFits, to_z, of_z, to_z-of_z}
 use Prim.Native.Nat.{◌^◌}
 use Rattle.tile_spatial.specs.Prelude.{binary64, in_float, small_most, spatial_gain_most, spatial_correction_most}
 use mir.ValLaws.{to_z_pos}

@@ -1,5 +1,6 @@
 -- Inside this crate and merge_tiles: the spatial filter (request L13) on two tiles side by side, from T0 and the sums of P.
-use Rattle.tile_spatial.specs.Prelude.{List, [], ℕ, ◌+◌, ◌*◌, ◌≤◌, get_or, ℤ, pos, nat_abs, ◌-ℤ◌, ◌*ℤ◌, cell, away, side16, bin_re, bin_im, inverse_at, copy_filtered, frequency, small_most, spatial_most, Paired, plane_in, added}
+use Rattle.std.specs.Prelude.{◌+◌, ◌*◌, ◌≤◌, ◌-ℤ◌, ◌*ℤ◌}
+use Rattle.tile_spatial.specs.Prelude.{List, [], ℕ, get_or, ℤ, pos, nat_abs, cell, away, side16, bin_re, bin_im, inverse_at, copy_filtered, frequency, small_most, spatial_most, Paired, plane_in, added}
 
 -- the copy of the merged tile of N = `frames` frames, in 1/256
 unfoldable pub copy_in : (frames : ℕ) (t0 : ℕ → ℕ → ℕ) (sum : ℕ → ℕ → ℤ) → ℕ → ℕ → ℤ

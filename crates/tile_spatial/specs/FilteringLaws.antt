@@ -1,5 +1,6 @@
 -- P' depends on the copy's numbers and on V' of the tile's bins alone; and its size.
-use Rattle.tile_spatial.specs.Prelude.{◌≡◌, ap, ap₂, ℕ, ◌^◌, ◌≤◌, ◌<◌, ℤ, nat_abs, ◌-ℤ◌, ◌*ℤ◌, away, side16, bin_re, bin_im, twiddle_re, twiddle_im, inverse_re, inverse_at, copy_filtered, spatial_most, spatial_correction_most}
+use Rattle.std.specs.Prelude.{◌≡◌, ◌^◌, ◌≤◌, ◌<◌, ◌-ℤ◌, ◌*ℤ◌}
+use Rattle.tile_spatial.specs.Prelude.{ap, ap₂, ℕ, ℤ, nat_abs, away, side16, bin_re, bin_im, twiddle_re, twiddle_im, inverse_re, inverse_at, copy_filtered, spatial_most, spatial_correction_most}
 use Rattle.algebra.specs.SumLaws.{sum_z-cong}
 use Rattle.tile_spectrum.specs.DifferenceLaws.{bin-re, bin-im}
 use Rattle.tile_spectrum.specs.SizeLaws.{spatial-small}

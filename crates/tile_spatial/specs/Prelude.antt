@@ -1,6 +1,6 @@
 -- The words of other crates that this crate's files share. Lemmas are not passed on: of those the `use` line says where they are.
-pub use Rattle.algebra.specs.Prelude.{Bool, List, SFits, ℕ, ℤ, [], ap, ap₂, arith, cond, eqb, false, get_or, length, lit<, lit≤, ltb, nat_abs, rules, neg_ℤ, of_z, pos, refl, subst, sym, to_z, true, w32, w64, ◌%◌, ◌*◌, ◌*ℤ◌, ◌+◌, ◌+ℤ◌, ◌-◌, ◌-ℤ◌, ◌/◌, ◌<◌, ◌^◌, ◌∙◌, ◌∷◌, ◌≡◌, ◌≤◌}
-pub use Rattle.std.specs.Prelude.{Float}
+pub use Rattle.algebra.specs.Prelude.{Bool, List, SFits, ℕ, ℤ, [], ap, ap₂, arith, cond, eqb, false, get_or, length, lit<, lit≤, ltb, nat_abs, rules, neg_ℤ, of_z, pos, refl, subst, sym, to_z, true, w32, w64, ◌∙◌}
+pub use Rattle.std.specs.Prelude.{Float, ◌%◌, ◌*◌, ◌*ℤ◌, ◌+◌, ◌+ℤ◌, ◌-◌, ◌-ℤ◌, ◌/◌, ◌<◌, ◌^◌, ◌∷◌, ◌≡◌, ◌≤◌}
 pub use Rattle.std.specs.Float.{binary64, nan}
 pub use Rattle.std.specs.Float.Ieee.{in_float, of_bits, of_int, to_signed}
 pub use Rattle.algebra.specs.Bound.{AtMost}

@@ -1,5 +1,6 @@
 -- Inside this crate: the steps of the spatial filter on two tiles side by side, as the code takes them.
-use Rattle.tile_spatial.specs.Prelude.{List, ℕ, ◌+◌, ◌*◌, ◌/◌, ◌%◌, ◌^◌, get_or, ℤ, pos, ◌+ℤ◌, ◌-ℤ◌, ◌*ℤ◌, Float, to_signed, cell, side16, copy_filtered, frequency, transposed, tile_re, tile_im, plane_in}
+use Rattle.std.specs.Prelude.{◌+◌, ◌*◌, ◌/◌, ◌%◌, ◌^◌, ◌+ℤ◌, ◌-ℤ◌, ◌*ℤ◌}
+use Rattle.tile_spatial.specs.Prelude.{List, ℕ, get_or, ℤ, pos, Float, to_signed, cell, side16, copy_filtered, frequency, transposed, tile_re, tile_im, plane_in}
 use Rattle.std.specs.Int.Signed.{shr_z}
 
 -- ---- the copy in two parts

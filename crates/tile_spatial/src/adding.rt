@@ -1,5 +1,6 @@
 // N times a pair, added to the sums.
-ghost use Rattle.tile_spatial.specs.Prelude.{◌≡◌, pos, ◌+ℤ◌, ◌*ℤ◌, length, get_or, AtMost, tab, grid, cell, LineMost, TileMost, spatial_correction_most, Paired};
+ghost use Rattle.std.specs.Prelude.{◌≡◌, ◌+ℤ◌, ◌*ℤ◌};
+ghost use Rattle.tile_spatial.specs.Prelude.{pos, length, get_or, AtMost, tab, grid, cell, LineMost, TileMost, spatial_correction_most, Paired};
 ghost use Rattle.tile_spatial.specs.Filtering.{Frames, SumMost, SumRow, SumPair};
 
 // N·p and the sum s.

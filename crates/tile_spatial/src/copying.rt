@@ -1,5 +1,6 @@
 // The copies of two planes side by side.
-ghost use Rattle.tile_spatial.specs.Prelude.{◌≡◌, ◌*◌, ◌≤◌, pos, ◌-ℤ◌, ◌*ℤ◌, get_or, AtMost, away, tab, grid, cell, LineMost, TileMost, copy_most};
+ghost use Rattle.std.specs.Prelude.{◌≡◌, ◌*◌, ◌≤◌, ◌-ℤ◌, ◌*ℤ◌};
+ghost use Rattle.tile_spatial.specs.Prelude.{pos, get_or, AtMost, away, tab, grid, cell, LineMost, TileMost, copy_most};
 ghost use Rattle.tile_spatial.specs.Filtering.{copy_in, Frames, SumMost, SampleRow, SumRow, SamplePair, SumPair};
 
 // A sample of the copy: T0 less the sum of P over N, in 1/256, to nearest, halves away from zero.

@@ -1,5 +1,6 @@
 // Both parts g and h of the step, folded for the inverse: lane l of columns 0 to 8, and lanes 18 to 31 for the imaginary parts of columns 1 to 7.
-ghost use Rattle.tile_spatial.specs.Prelude.{◌≡◌, ◌*◌, ◌/◌, ◌%◌, ◌<◌, pos, binary64, of_int, AtMost, tab, cell, TileMost, spatial_gain_most, transposed, fold_re, fold_im, spread, plane_in, side_by_side, doubles};
+ghost use Rattle.std.specs.Prelude.{◌≡◌, ◌*◌, ◌/◌, ◌%◌, ◌<◌};
+ghost use Rattle.tile_spatial.specs.Prelude.{pos, binary64, of_int, AtMost, tab, cell, TileMost, spatial_gain_most, transposed, fold_re, fold_im, spread, plane_in, side_by_side, doubles};
 
 // Place b of the real parts of lane l.
 fn re_place(g: &[[i64; 18]; 16], h: &[[i64; 18]; 16], b: usize, l: usize) -> i64

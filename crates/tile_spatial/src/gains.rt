@@ -1,6 +1,7 @@
 // The Wiener step on the bins of two planes side by side, for columns 0 to 8: lane l is column l / 2 of plane l % 2. A bin is put together from the places of two
 // lines, of real and of imaginary parts, as the halfcomplex form has them.
-ghost use Rattle.tile_spatial.specs.Prelude.{◌≡◌, ◌/◌, ◌%◌, ◌<◌, pos, length, AtMost, tab, cell, frequency, TileMost, copy_bin_most, spatial_most, real_of, imaginary_of, beside, tile_re, tile_im};
+ghost use Rattle.std.specs.Prelude.{◌≡◌, ◌/◌, ◌%◌, ◌<◌};
+ghost use Rattle.tile_spatial.specs.Prelude.{pos, length, AtMost, tab, cell, frequency, TileMost, copy_bin_most, spatial_most, real_of, imaginary_of, beside, tile_re, tile_im};
 ghost use Rattle.tile_spatial.specs.Filtering.{NoiseLine};
 ghost use Rattle.tile_spatial.specs.Steps.{copy_place_most, lines_in, lane_re, lane_im};
 

@@ -1,5 +1,6 @@
 // The noise numbers of two planes side by side.
-ghost use Rattle.tile_spatial.specs.Prelude.{◌≡◌, ◌/◌, ◌%◌, ◌<◌, get_or, tab, grid, cell, either};
+ghost use Rattle.std.specs.Prelude.{◌≡◌, ◌/◌, ◌%◌, ◌<◌};
+ghost use Rattle.tile_spatial.specs.Prelude.{get_or, tab, grid, cell, either};
 
 // That of lane l.
 fn lane(first: &[u64; 9], second: &[u64; 9], l: usize) -> u64

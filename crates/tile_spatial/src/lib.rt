@@ -10,7 +10,8 @@ mod lanes;
 mod parts;
 mod places;
 
-ghost use Rattle.tile_spatial.specs.Prelude.{◌≡◌, pos, grid, cell, TileMost, copy_most, spatial_most, two_way, transposed, spread, plane_in, side_by_side, either, doubles};
+ghost use Rattle.std.specs.Prelude.{◌≡◌};
+ghost use Rattle.tile_spatial.specs.Prelude.{pos, grid, cell, TileMost, copy_most, spatial_most, two_way, transposed, spread, plane_in, side_by_side, either, doubles};
 ghost use Rattle.tile_spatial.specs.Filtering.{bin_noise, filtered_sums, Filterable, NoisesMost};
 ghost use Rattle.tile_spatial.specs.Steps.{copy_place_most, pair_re, pair_im};
 

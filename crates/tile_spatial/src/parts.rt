@@ -1,5 +1,6 @@
 // The high and low parts of the copies: a sample is 4096 times its high part and its low part, and both are small enough for differences of samples.
-ghost use Rattle.tile_spatial.specs.Prelude.{◌≡◌, pos, get_or, AtMost, tab, grid, cell, LineMost, TileMost, difference_most, copy_most};
+ghost use Rattle.std.specs.Prelude.{◌≡◌};
+ghost use Rattle.tile_spatial.specs.Prelude.{pos, get_or, AtMost, tab, grid, cell, LineMost, TileMost, difference_most, copy_most};
 ghost use Rattle.tile_spatial.specs.Steps.{high_of, low_of};
 
 // The high part, rounded down.

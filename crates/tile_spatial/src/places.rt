@@ -1,5 +1,6 @@
 // Places of the copies' transforms from those of their high and low parts in double.
-ghost use Rattle.tile_spatial.specs.Prelude.{◌≡◌, get_or, nan, tab, grid, cell, InDouble};
+ghost use Rattle.std.specs.Prelude.{◌≡◌};
+ghost use Rattle.tile_spatial.specs.Prelude.{get_or, nan, tab, grid, cell, InDouble};
 ghost use Rattle.tile_spectrum.specs.Lines.Doubles.{WholeDouble, WholeRow};
 ghost use Rattle.tile_spatial.specs.Steps.{place_most, place_of};
 

@@ -1,5 +1,6 @@
 -- A row of sums to which numbers are added one after the other, over the row's length and the numbers' bound.
-use Rattle.algebra.specs.Prelude.{◌≡◌, sym, ap, ap₂, subst, ◌∙◌, List, ℕ, ◌+◌, ◌^◌, ◌<◌, T, ltb, get_or, set, ℤ, pos, ◌+ℤ◌, w64, SFits, to_z, of_z, to_z-of_z}
+use Rattle.std.specs.Prelude.{◌≡◌, ◌+◌, ◌^◌, ◌<◌, ◌+ℤ◌}
+use Rattle.algebra.specs.Prelude.{sym, ap, ap₂, subst, ◌∙◌, List, ℕ, T, ltb, get_or, set, ℤ, pos, w64, SFits, to_z, of_z, to_z-of_z}
 use Rattle.algebra.specs.Bound.{AtMost, add-fits}
 use Rattle.algebra.specs.Nearest.{away}
 use Rattle.sequences.specs.Tab.{tab}

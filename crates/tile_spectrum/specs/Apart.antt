@@ -1,5 +1,6 @@
 -- Numbers 0 and n/2 of a line apart from the others.
-use Rattle.tile_spectrum.specs.Prelude.{◌≡◌, refl, Bool, true, false, cond, ℕ, ◌%◌, ◌≤◌, ◌<◌, eqb, ltb, Side, side16}
+use Rattle.std.specs.Prelude.{◌≡◌, ◌%◌, ◌≤◌, ◌<◌}
+use Rattle.tile_spectrum.specs.Prelude.{refl, Bool, true, false, cond, ℕ, eqb, ltb, Side, side16}
 use Rattle.std.proofs.Common.{eq-eqb, ne_eqb, ltb-true, ltb-false}
 use Rattle.std.proofs.lemmas.Bool.{eqb-false}
 use Rattle.tile_spectrum.specs.Spectrum.{apart, apart_of}

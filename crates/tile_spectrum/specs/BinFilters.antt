@@ -1,6 +1,7 @@
 -- A filter of the bins of real differences that may be another one at each bin: it keeps the mirror image, and the inverse of what it gives is the sum back from
 -- the folded columns 0 to n/2.
-use Rattle.tile_spectrum.specs.Prelude.{◌≡◌, sym, ap, ap₂, ◌∙◌, ℕ, ◌+◌, ◌<◌, ℤ, neg_ℤ, away, Side, opposite_of, bin_re, bin_im, inverse_at}
+use Rattle.std.specs.Prelude.{◌≡◌, ◌+◌, ◌<◌}
+use Rattle.tile_spectrum.specs.Prelude.{sym, ap, ap₂, ◌∙◌, ℕ, ℤ, neg_ℤ, away, Side, opposite_of, bin_re, bin_im, inverse_at}
 use Rattle.tile_spectrum.specs.Spectrum.{MirroredOf, spread_of, back_sum_of}
 use Rattle.tile_spectrum.specs.Turns.{Turns}
 use Rattle.tile_spectrum.specs.SpectrumLaws.{bins-mirrored-of}

@@ -1,5 +1,6 @@
 -- The bins of a plane of differences are those that differences can have.
-use Rattle.tile_spectrum.specs.Prelude.{ℕ, ◌*◌, ◌≤◌, ℤ, nat_abs, lit≤, difference_most, side32}
+use Rattle.std.specs.Prelude.{◌*◌, ◌≤◌}
+use Rattle.tile_spectrum.specs.Prelude.{ℕ, ℤ, nat_abs, lit≤, difference_most, side32}
 use Rattle.std.proofs.Math.Nat.{le_trans}
 use Rattle.std.proofs.Common.{mul-le-mul_left}
 use Rattle.tile_spectrum.specs.Magnitudes.{long_bin_most}

@@ -1,8 +1,8 @@
 -- A table of n rows of m whose columns are set one after the other, over any n and m. What they are set to may depend on a supposition H, as that the table
 -- holds whole numbers.
-use Rattle.tile_spectrum.specs.Prelude.{◌≡◌, refl, ap, ◌∙◌, cond, List, [], ℕ, ◌+◌, ◌≤◌, ◌<◌, arith, eqb, get_or, tab}
+use Rattle.tile_spectrum.specs.Prelude.{refl, ap, ◌∙◌, cond, List, [], ℕ, arith, eqb, get_or, tab}
 use Rattle.std.proofs.Math.ListN.{length}
-use Rattle.std.specs.Prelude.{set}
+use Rattle.std.specs.Prelude.{set, ◌≡◌, ◌+◌, ◌≤◌, ◌<◌}
 use Rattle.std.proofs.Common.{below_more, eq-eqb, ne_eqb}
 use Rattle.sequences.specs.TabLaws.{length-tab, get_d-tab}
 use Rattle.sequences.specs.Grid.{grid, cell, cell-grid, grid-ext, grid-of, set-tab, tab-ext}

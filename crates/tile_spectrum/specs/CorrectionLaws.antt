@@ -1,5 +1,6 @@
 -- P of a tile of differences d from the folded G of its bins.
-use Rattle.tile_spectrum.specs.Prelude.{◌≡◌, refl, ap₂, ℕ, ◌+◌, ◌<◌, ℤ, away, Side, bin_re, bin_im, filtered, correction_at}
+use Rattle.std.specs.Prelude.{◌≡◌, ◌+◌, ◌<◌}
+use Rattle.tile_spectrum.specs.Prelude.{refl, ap₂, ℕ, ℤ, away, Side, bin_re, bin_im, filtered, correction_at}
 use Rattle.tile_spectrum.specs.Spectrum.{BinsHeld, spread_of, back_sum_of, gain_re_of, gain_im_of}
 use Rattle.tile_spectrum.specs.Turns.{Turns}
 use Rattle.tile_spectrum.specs.SpectrumLaws.{filtered-odd-of, filtered-even-of}

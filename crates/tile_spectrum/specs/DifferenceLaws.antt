@@ -1,7 +1,7 @@
 -- A correction depends on the tile's differences alone.
-use Rattle.std.specs.Prelude.{◌≡◌}
+use Rattle.std.specs.Prelude.{◌≡◌, ◌*◌, ◌<◌, ◌+ℤ◌, ◌-ℤ◌, ◌*ℤ◌}
 use Rattle.std.proofs.Math.Path.{ap, ap₂, fun_ext}
-use Rattle.tile_spectrum.specs.Prelude.{ℕ, ◌*◌, ◌<◌, ℤ, neg_ℤ, ◌+ℤ◌, ◌-ℤ◌, ◌*ℤ◌, Side, cos_at, sin_at, row_re, row_im, bin_re, bin_im, filtered, inverse_at, correction_at}
+use Rattle.tile_spectrum.specs.Prelude.{ℕ, ℤ, neg_ℤ, Side, cos_at, sin_at, row_re, row_im, bin_re, bin_im, filtered, inverse_at, correction_at}
 use Rattle.algebra.specs.SumLaws.{sum_z-cong}
 
 module _ (s : Side) (d e : ℕ → ℕ → ℤ) (same : (y x : ℕ) → y < s.side → x < s.side → d y x ≡ e y x) where

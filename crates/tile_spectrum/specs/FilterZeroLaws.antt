@@ -1,5 +1,6 @@
 -- "With s = 0 the plain merge comes out": where every V' is 0 the spatial correction is 0.
-use Rattle.tile_spectrum.specs.Prelude.{◌≡◌, sym, ◌∙◌, ap, [], ◌∷◌, ℕ, suc, ◌*◌, ◌<◌, ℤ, pos, ◌+ℤ◌, ◌-ℤ◌, ◌*ℤ◌, var, ◌⊞◌, ◌⊠◌, #◌, ring, upward, Side, wiener, bin_re, bin_im, correction_at}
+use Rattle.std.specs.Prelude.{◌≡◌, ◌∷◌, ◌*◌, ◌<◌, ◌+ℤ◌, ◌-ℤ◌, ◌*ℤ◌}
+use Rattle.tile_spectrum.specs.Prelude.{sym, ◌∙◌, ap, [], ℕ, suc, ℤ, pos, var, ◌⊞◌, ◌⊠◌, #◌, ring, upward, Side, wiener, bin_re, bin_im, correction_at}
 use Rattle.std.proofs.Common.{zero-mul}
 use Rattle.std.proofs.Math.Nat.{zero-div}
 use Rattle.algebra.specs.SumLaws.{sum_z-cong, sum_z-scale}

@@ -1,8 +1,8 @@
 -- The inverse sums of complex lines are the sums back from their halfcomplex folds, for any side whose tables turn as `Turns` asks.
-use Rattle.tile_spectrum.specs.Prelude.{◌≡◌, refl, sym, ap, ap₂, ◌∙◌, [], ◌∷◌, ℕ, zero, suc, ◌+◌, ◌-◌, ◌*◌, ◌%◌, ◌<◌, arith, var, #◌, ◌⊞◌, ◌⊟◌, ◌⊠◌, ⊖◌, ring, sum_z, Side, cos_at, sin_at, twiddle_re, twiddle_im, inverse_re, opposite_of, basis_of, backward_of}
+use Rattle.tile_spectrum.specs.Prelude.{refl, sym, ap, ap₂, ◌∙◌, [], ℕ, zero, suc, arith, var, #◌, ◌⊞◌, ◌⊟◌, ◌⊠◌, ⊖◌, ring, sum_z, Side, cos_at, sin_at, twiddle_re, twiddle_im, inverse_re, opposite_of, basis_of, backward_of}
 use Rattle.std.proofs.Common.{mod-eq_of_lt, lt-ltb, le-ltb}
 use Rattle.std.proofs.Math.Nat.{mod_self, zero-mod, add-mod_left}
-use Rattle.std.specs.Prelude.{ℤ, pos, ◌-ℤ◌, ◌*ℤ◌}
+use Rattle.std.specs.Prelude.{ℤ, pos, ◌-ℤ◌, ◌*ℤ◌, ◌≡◌, ◌∷◌, ◌+◌, ◌-◌, ◌*◌, ◌%◌, ◌<◌}
 use Rattle.std.proofs.Math.IntN.{neg_ℤ, ◌+ℤ◌, +ℤ_comm}
 use Rattle.algebra.specs.SumLaws.{sum_z-neg, sum_z-cong, sum_z-add, sum_z-parts, sum_z-exchange}
 use Rattle.recipe.specs.CorrectionLaws.{along_re, along_im, two-way}

@@ -1,5 +1,6 @@
 -- How large the numbers of the folded G are.
-use Rattle.tile_spectrum.specs.Prelude.{ℕ, ◌-◌, ◌*◌, ◌≤◌, arith, ltb, ℤ, nat_abs, side16}
+use Rattle.std.specs.Prelude.{◌-◌, ◌*◌, ◌≤◌}
+use Rattle.tile_spectrum.specs.Prelude.{ℕ, arith, ltb, ℤ, nat_abs, side16}
 use Rattle.algebra.specs.Order.{abs-add, abs-sub}
 use Rattle.tile_spectrum.specs.Spectrum.{fold_re, fold_im, spread, fold_im_of, fold_re_of, spread_of}
 use Rattle.tile_spectrum.specs.Apart.{cond_cases, apart-cases}

@@ -1,8 +1,8 @@
 -- Half of the sums back of two rows side by side, n numbers in all: z holds number k of row p at place 2·k + p. Over the side s, and over the greatest half c
 -- where a number is at most m.
-use Rattle.tile_spectrum.specs.Prelude.{◌≡◌, sym, ap, subst, ◌∙◌, List, ℕ, ◌+◌, ◌*◌, ◌/◌, ◌%◌, ◌≤◌, arith, ℤ, nat_abs, tab, Side, half_sum_of}
+use Rattle.tile_spectrum.specs.Prelude.{sym, ap, subst, ◌∙◌, List, ℕ, arith, ℤ, nat_abs, tab, Side, half_sum_of}
 use Rattle.std.proofs.Common.{le_trans}
-use Rattle.std.specs.Prelude.{Float}
+use Rattle.std.specs.Prelude.{Float, ◌≡◌, ◌+◌, ◌*◌, ◌/◌, ◌%◌, ◌≤◌}
 use Rattle.std.specs.Float.{binary64}
 use Rattle.std.specs.Float.Ieee.{of_int}
 use Rattle.sequences.specs.Grid.{tab-ext}

@@ -1,5 +1,6 @@
 -- The sums of a line against its basis: what they depend on, and how large they are.
-use Rattle.tile_spectrum.specs.Prelude.{◌≡◌, ap, ◌∙◌, List, ℕ, ◌*◌, ◌≤◌, ◌<◌, get_or, ℤ, pos, nat_abs, ◌*ℤ◌, sum_z, tab, Side, side16, basis_of, halfcomplex_of, backward_of, basis, halfcomplex, backward}
+use Rattle.std.specs.Prelude.{◌≡◌, ◌*◌, ◌≤◌, ◌<◌, ◌*ℤ◌}
+use Rattle.tile_spectrum.specs.Prelude.{ap, ◌∙◌, List, ℕ, get_or, ℤ, pos, nat_abs, sum_z, tab, Side, side16, basis_of, halfcomplex_of, backward_of, basis, halfcomplex, backward}
 use Rattle.algebra.specs.SumLaws.{sum_z-cong}
 use Rattle.sequences.specs.TabLaws.{get_d-tab}
 use Rattle.sequences.specs.Grid.{tab-ext}

@@ -1,5 +1,6 @@
 -- The laws of lines, folds and corrections that a pair of tiles of side 32 asks for (request L8), under the names that they have for side 16.
-use Rattle.tile_spectrum.specs.Prelude.{◌≡◌, refl, ap, ◌∙◌, cond, List, ℕ, ◌+◌, ◌-◌, ◌*◌, ◌%◌, ◌≤◌, ◌<◌, arith, eqb, ltb, get_or, ℤ, pos, nat_abs, ◌*ℤ◌, tab, Side, cos_at, cosines32, cosine32, side32, Rules, half_z, basis_of, halfcomplex_of, backward_of, half_sum_of}
+use Rattle.std.specs.Prelude.{◌≡◌, ◌+◌, ◌-◌, ◌*◌, ◌%◌, ◌≤◌, ◌<◌, ◌*ℤ◌}
+use Rattle.tile_spectrum.specs.Prelude.{refl, ap, ◌∙◌, cond, List, ℕ, arith, eqb, ltb, get_or, ℤ, pos, nat_abs, tab, Side, cos_at, cosines32, cosine32, side32, Rules, half_z, basis_of, halfcomplex_of, backward_of, half_sum_of}
 use Rattle.algebra.specs.Order.{abs-add, abs-sub, abs-mul-le}
 use Rattle.algebra.specs.SumLaws.{abs-sum-bound}
 use Rattle.sequences.specs.TabLaws.{get_d-tab}

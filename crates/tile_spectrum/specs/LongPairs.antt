@@ -1,7 +1,7 @@
 -- Inside the crates of the merge: two tiles of side 32 side by side (request L8), as Pairs has those of side 16.
-use Rattle.tile_spectrum.specs.Prelude.{◌≡◌, List, ℕ, ◌≤◌, ◌<◌, lit≤, get_or, ℤ, pos, nat_abs, side32, quantized, filtered}
+use Rattle.tile_spectrum.specs.Prelude.{List, ℕ, lit≤, get_or, ℤ, pos, nat_abs, side32, quantized, filtered}
 use Rattle.std.proofs.Common.{le_trans}
-use Rattle.std.specs.Prelude.{Float}
+use Rattle.std.specs.Prelude.{Float, ◌≡◌, ◌≤◌, ◌<◌}
 use Rattle.std.specs.Float.{binary64}
 use Rattle.std.specs.Float.Ieee.{of_int}
 use Rattle.sequences.specs.Grid.{grid, cell}

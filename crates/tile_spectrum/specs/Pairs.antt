@@ -1,7 +1,7 @@
 -- Inside the crates of the merge: two tiles side by side, those of column parity 0 and 1 at one place of one row parity. Place 2·x + p of a row is column x of
 -- plane p, so that a row of the pair is thirty-two samples of the frame one after the other.
-use Rattle.tile_spectrum.specs.Prelude.{◌≡◌, cond, List, ℕ, ◌+◌, ◌*◌, ◌/◌, ◌%◌, ◌^◌, ◌≤◌, ◌<◌, eqb, ℤ, pos, nat_abs, ◌+ℤ◌, away, Side, side16, correction_at}
-use Rattle.std.specs.Prelude.{Float}
+use Rattle.tile_spectrum.specs.Prelude.{cond, List, ℕ, eqb, ℤ, pos, nat_abs, away, Side, side16, correction_at}
+use Rattle.std.specs.Prelude.{Float, ◌≡◌, ◌+◌, ◌*◌, ◌/◌, ◌%◌, ◌^◌, ◌≤◌, ◌<◌, ◌+ℤ◌}
 use Rattle.std.specs.Float.{binary64}
 use Rattle.std.specs.Float.Ieee.{of_int}
 use Rattle.sequences.specs.Grid.{grid, cell}

@@ -1,5 +1,6 @@
 -- The two passes of the transform, and those of the inverse, on a pair of tiles of any side: 2·n numbers in each of n rows, where n is the side.
-use Rattle.tile_spectrum.specs.Prelude.{◌≡◌, sym, ap, ap₂, ◌∙◌, List, [], ℕ, suc, ◌+◌, ◌*◌, ◌/◌, ◌%◌, ◌^◌, ◌≤◌, arith, lit<, eqb, cond, ℤ, pos, nat_abs, neg_ℤ, ◌+ℤ◌, ◌*ℤ◌, away, tab, Side, halfcomplex_of, backward_of, half_sum_of, correction_at}
+use Rattle.std.specs.Prelude.{◌≡◌, ◌+◌, ◌*◌, ◌/◌, ◌%◌, ◌^◌, ◌≤◌, ◌+ℤ◌, ◌*ℤ◌}
+use Rattle.tile_spectrum.specs.Prelude.{sym, ap, ap₂, ◌∙◌, List, [], ℕ, suc, arith, lit<, eqb, cond, ℤ, pos, nat_abs, neg_ℤ, away, tab, Side, halfcomplex_of, backward_of, half_sum_of, correction_at}
 use Rattle.algebra.specs.Prelude.{negsuc}
 use Rattle.std.proofs.Common.{zero-le}
 use Rattle.std.specs.Float.{binary64}

@@ -1,5 +1,6 @@
 -- The way back from a spectrum in halfcomplex form looks at its n by n places only.
-use Rattle.tile_spectrum.specs.Prelude.{◌≡◌, refl, ap, ap₂, Bool, true, false, cond, ℕ, zero, suc, ◌+◌, ◌-◌, ◌%◌, ◌≤◌, ◌<◌, arith, ltb, ℤ, ◌+ℤ◌, ◌-ℤ◌, Side}
+use Rattle.std.specs.Prelude.{◌≡◌, ◌+◌, ◌-◌, ◌%◌, ◌≤◌, ◌<◌, ◌+ℤ◌, ◌-ℤ◌}
+use Rattle.tile_spectrum.specs.Prelude.{refl, ap, ap₂, Bool, true, false, cond, ℕ, zero, suc, arith, ltb, ℤ, Side}
 use Rattle.std.proofs.Math.Nat.{zero-mod}
 use Rattle.std.proofs.Common.{ltb-true, ltb-false}
 use Rattle.tile_spectrum.specs.Spectrum.{fold_re_of, fold_im_of, spread_of, counted_of, back_sum_of}

@@ -1,5 +1,6 @@
 -- The words of other crates that this crate's files share. Lemmas are not passed on: of those the `use` line says where they are.
-pub use Rattle.algebra.specs.Prelude.{Bool, List, T, ℕ, ℤ, [], ap, ap₂, arith, cond, eqb, false, get_or, leb, lit<, lit≤, ltb, nat_abs, neg_ℤ, pos, refl, subst, suc, sym, true, zero, ◌%◌, ◌*◌, ◌*ℤ◌, ◌+◌, ◌+ℤ◌, ◌-◌, ◌-ℤ◌, ◌/◌, ◌<◌, ◌^◌, ◌∙◌, ◌∷◌, ◌≡◌, ◌≤◌}
+pub use Rattle.std.specs.Prelude.{◌%◌, ◌*◌, ◌*ℤ◌, ◌+◌, ◌+ℤ◌, ◌-◌, ◌-ℤ◌, ◌/◌, ◌<◌, ◌^◌, ◌∷◌, ◌≡◌, ◌≤◌}
+pub use Rattle.algebra.specs.Prelude.{Bool, List, T, ℕ, ℤ, [], ap, ap₂, arith, cond, eqb, false, get_or, leb, lit<, lit≤, ltb, nat_abs, neg_ℤ, pos, refl, subst, suc, sym, true, zero, ◌∙◌}
 pub use Rattle.algebra.specs.Nearest.{upward}
 unfoldable pub use Rattle.algebra.specs.Nearest.{away}
 pub use Rattle.algebra.specs.Ring.{#◌, ring, var, ⊖◌, ◌⊞◌, ◌⊟◌, ◌⊠◌}

@@ -1,9 +1,9 @@
 -- The quads of a folded G: what the four places at u and 8 + u of lines v and 8 + v come to.
-use Rattle.tile_spectrum.specs.Prelude.{◌≡◌, refl, sym, ap, ap₂, subst, ◌∙◌, Bool, true, false, cond, List, [], ◌∷◌, arith, ltb, get_or, tab, Side, side16, filtered}
+use Rattle.tile_spectrum.specs.Prelude.{refl, sym, ap, ap₂, subst, ◌∙◌, Bool, true, false, cond, List, [], arith, ltb, get_or, tab, Side, side16, filtered}
 use Prim.Native.Nat.{ℕ, zero, suc, ◌+◌, ◌-◌, ◌%◌, ◌<◌}
 use Rattle.std.proofs.Common.{mod-eq_of_lt, lt-ltb, le-ltb}
 use Rattle.std.proofs.Math.Nat.{zero-mod, add-mod_left}
-use Rattle.std.specs.Prelude.{ℤ, neg_ℤ}
+use Rattle.std.specs.Prelude.{ℤ, neg_ℤ, ◌≡◌, ◌∷◌}
 use Rattle.std.proofs.Math.IntN.{pos, ◌+ℤ◌, ◌-ℤ◌, +ℤ_idr, +ℤ_idl, +ℤ_comm, neg_ℤ-neg_ℤ}
 use Rattle.tile_spectrum.specs.Spectrum.{real_part, imaginary_part, beside_of, tile_re_of, tile_im_of, fold_re_of, fold_im_of, spread_of, quad_places, two_bins_of, gain_re_of, gain_im_of, by_kind, folded_quad, tile_re, tile_im, two_bins}
 use Rattle.tile_spectrum.specs.Turns.{Turns, turns16}

@@ -1,7 +1,7 @@
 -- P of a whole number in double, as the code takes it.
-use Rattle.tile_spectrum.specs.Prelude.{◌≡◌, sym, ap, subst, ℕ, ◌*◌, ◌^◌, ◌≤◌, ◌<◌, arith, T, lit<, lit≤, ℤ, pos, nat_abs, ◌-ℤ◌, away}
+use Rattle.tile_spectrum.specs.Prelude.{sym, ap, subst, ℕ, arith, T, lit<, lit≤, ℤ, pos, nat_abs, away}
 use Rattle.algebra.specs.Prelude.{not, w64, to_z}
-use Rattle.std.specs.Prelude.{Float}
+use Rattle.std.specs.Prelude.{Float, ◌≡◌, ◌*◌, ◌^◌, ◌≤◌, ◌<◌, ◌-ℤ◌}
 use Rattle.std.specs.Float.{binary64}
 use Rattle.std.specs.Float.Ieee.{is_nan, add, mul, to_bits}
 use Rattle.std.proofs.lemmas.Int.{to_z_pos}

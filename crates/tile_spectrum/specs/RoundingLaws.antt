@@ -1,5 +1,6 @@
 -- How large a rounded quotient is.
-use Rattle.tile_spectrum.specs.Prelude.{ℕ, ◌+◌, ◌*◌, ◌/◌, ◌≤◌, ◌<◌, arith, lit<, ℤ, nat_abs, away}
+use Rattle.std.specs.Prelude.{◌+◌, ◌*◌, ◌/◌, ◌≤◌, ◌<◌}
+use Rattle.tile_spectrum.specs.Prelude.{ℕ, arith, lit<, ℤ, nat_abs, away}
 use Rattle.std.proofs.Common.{le_trans, le-div_iff_mul-le, div-lt_iff_lt-mul, div-mul-le_self, mul-pos}
 use Rattle.algebra.specs.Most.{away-abs}
 

@@ -1,6 +1,6 @@
 -- 2·h rows that are set two at a time, y and h + y, over any h. What they are set to may depend on a supposition H.
-use Rattle.tile_spectrum.specs.Prelude.{◌≡◌, refl, sym, ap, ◌∙◌, Bool, true, false, List, [], ℕ, ◌+◌, ◌-◌, ◌*◌, ◌≤◌, ◌<◌, arith, ltb, get_or, tab}
-use Rattle.std.specs.Prelude.{length, set}
+use Rattle.tile_spectrum.specs.Prelude.{refl, sym, ap, ◌∙◌, Bool, true, false, List, [], ℕ, arith, ltb, get_or, tab}
+use Rattle.std.specs.Prelude.{length, set, ◌≡◌, ◌+◌, ◌-◌, ◌*◌, ◌≤◌, ◌<◌}
 use Rattle.std.proofs.Common.{length-set, ext_get_or, get_or-set_same, get_or-set_other, below_more, ltb-true, ltb-false}
 use Rattle.sequences.specs.TabLaws.{length-tab, get_d-tab}
 

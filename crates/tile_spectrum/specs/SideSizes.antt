@@ -1,5 +1,6 @@
 -- How large B and Q are by the sum of the magnitudes of a tile's differences, for any side whose factors are as small as `Factors` asks.
-use Rattle.tile_spectrum.specs.Prelude.{◌≡◌, sym, ap₂, ◌∙◌, [], ◌∷◌, ℕ, ◌*◌, ◌%◌, ◌≤◌, ◌<◌, arith, T, leb, lit<, ℤ, nat_abs, neg_ℤ, ◌+ℤ◌, ◌-ℤ◌, ◌*ℤ◌, vars5, ◌⊞◌, ◌⊟◌, ◌⊠◌, ⊖◌, ring, sum_z, sum_n, Side, cos_at, sin_at, cosines32, cosine32, sine32, side32, row_re, row_im, bin_re, bin_im, quantized, difference_most}
+use Rattle.std.specs.Prelude.{◌≡◌, ◌∷◌, ◌*◌, ◌%◌, ◌≤◌, ◌<◌, ◌+ℤ◌, ◌-ℤ◌, ◌*ℤ◌}
+use Rattle.tile_spectrum.specs.Prelude.{sym, ap₂, ◌∙◌, [], ℕ, arith, T, leb, lit<, ℤ, nat_abs, neg_ℤ, vars5, ◌⊞◌, ◌⊟◌, ◌⊠◌, ⊖◌, ring, sum_z, sum_n, Side, cos_at, sin_at, cosines32, cosine32, sine32, side32, row_re, row_im, bin_re, bin_im, quantized, difference_most}
 use Rattle.std.proofs.Common.{le_refl, le_trans, mod-lt, leb→le}
 use Rattle.algebra.specs.Order.{abs-mul-le}
 use Rattle.algebra.specs.Test.{all, all_sound}

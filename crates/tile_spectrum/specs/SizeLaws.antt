@@ -1,5 +1,6 @@
 -- How large the numbers of the recipe are: B, Q, G and P.
-use Rattle.tile_spectrum.specs.Prelude.{sym, subst, ℕ, ◌+◌, ◌*◌, ◌/◌, ◌^◌, ◌≤◌, lit≤, lit<, ℤ, nat_abs, neg_ℤ, ◌+ℤ◌, ◌-ℤ◌, ◌*ℤ◌, sum_z, cos_at, sin_at, side16, wiener, row_re, row_im, bin_re, bin_im, quantized, filtered, inverse_re, inverse_at, correction_at, difference_most}
+use Rattle.std.specs.Prelude.{◌+◌, ◌*◌, ◌/◌, ◌^◌, ◌≤◌, ◌+ℤ◌, ◌-ℤ◌, ◌*ℤ◌}
+use Rattle.tile_spectrum.specs.Prelude.{sym, subst, ℕ, lit≤, lit<, ℤ, nat_abs, neg_ℤ, sum_z, cos_at, sin_at, side16, wiener, row_re, row_im, bin_re, bin_im, quantized, filtered, inverse_re, inverse_at, correction_at, difference_most}
 use Rattle.std.proofs.Common.{le_refl, le_trans, add_comm, add-le-add, mul-add, mul-le-mul_left}
 use Rattle.algebra.specs.Order.{abs-add, abs-sub, abs_neg, abs-mul-le}
 use Rattle.algebra.specs.SumLaws.{abs-sum-bound}

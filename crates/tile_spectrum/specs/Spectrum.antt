@@ -1,6 +1,7 @@
 -- The bins of a tile of real differences in halfcomplex form both ways: line k holds place k of the rows' transforms, and along it stand the places of
 -- the columns'. And the way back: G folded to the same form, and the sums over it.
-use Rattle.tile_spectrum.specs.Prelude.{◌≡◌, cond, List, [], ◌∷◌, ℕ, zero, suc, ◌+◌, ◌-◌, ◌%◌, ◌<◌, eqb, ltb, ℤ, pos, neg_ℤ, ◌+ℤ◌, ◌-ℤ◌, ◌*ℤ◌, halfcomplex_of, backward_of, Side, side16, opposite_of, bin_re, bin_im, filtered}
+use Rattle.std.specs.Prelude.{◌≡◌, ◌∷◌, ◌+◌, ◌-◌, ◌%◌, ◌<◌, ◌+ℤ◌, ◌-ℤ◌, ◌*ℤ◌}
+use Rattle.tile_spectrum.specs.Prelude.{cond, List, [], ℕ, zero, suc, eqb, ltb, ℤ, pos, neg_ℤ, halfcomplex_of, backward_of, Side, side16, opposite_of, bin_re, bin_im, filtered}
 
 -- the code holds a tile by columns: place k of line b
 abbrev pub transposed : (t : ℕ → ℕ → ℤ) → (b k : ℕ) → ℤ

@@ -1,8 +1,8 @@
 -- Laws of the spectrum of real differences: its halfcomplex form holds the bins of document 01, the bins are mirror images, and the filter keeps signs.
-use Rattle.std.specs.Prelude.{◌≡◌, ℤ, nat_abs, ◌*ℤ◌}
+use Rattle.std.specs.Prelude.{◌≡◌, ℤ, nat_abs, ◌*ℤ◌, ◌∷◌, ◌+◌, ◌-◌, ◌*◌, ◌%◌, ◌<◌}
 use Rattle.std.proofs.Math.Path.{refl, sym, ap, ap₂, fun_ext}
 use Rattle.std.proofs.Common.{◌∙◌, lt-ltb}
-use Rattle.tile_spectrum.specs.Prelude.{Bool, true, false, cond, List, [], ◌∷◌, ℕ, zero, suc, ◌+◌, ◌-◌, ◌*◌, ◌%◌, ◌<◌, arith, eqb, ltb, away, vars4, var, ◌⊞◌, ◌⊟◌, ◌⊠◌, ⊖◌, ring, sum_z, Side, cos_at, sin_at, side16, opposite_of, power, wiener, row_re, row_im, bin_re, bin_im, quantized, filtered, basis_of, halfcomplex_of}
+use Rattle.tile_spectrum.specs.Prelude.{Bool, true, false, cond, List, [], ℕ, zero, suc, arith, eqb, ltb, away, vars4, var, ◌⊞◌, ◌⊟◌, ◌⊠◌, ⊖◌, ring, sum_z, Side, cos_at, sin_at, side16, opposite_of, power, wiener, row_re, row_im, bin_re, bin_im, quantized, filtered, basis_of, halfcomplex_of}
 use Rattle.std.proofs.Math.IntN.{pos, neg_ℤ, ◌+ℤ◌, ◌-ℤ◌, *ℤ-zero, zero-*ℤ}
 use Rattle.algebra.specs.Order.{abs_neg}
 use Rattle.algebra.specs.NearestLaws.{away-odd}

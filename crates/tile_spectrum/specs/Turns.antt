@@ -1,5 +1,6 @@
 -- What the folds of a spectrum ask of a side's tables, at products of two indices: each rule one computed test over the whole table.
-use Rattle.tile_spectrum.specs.Prelude.{◌≡◌, refl, ℕ, suc, ◌+◌, ◌-◌, ◌*◌, ◌≤◌, ◌<◌, arith, lit≤, pos, neg_ℤ, Side, cos_at, sin_at, cosines, cosine16, sine16, side16, cosines32, cosine32, sine32, side32, opposite_of, frequency_of, phase_of, basis_of}
+use Rattle.std.specs.Prelude.{◌≡◌, ◌+◌, ◌-◌, ◌*◌, ◌≤◌, ◌<◌}
+use Rattle.tile_spectrum.specs.Prelude.{refl, ℕ, suc, arith, lit≤, pos, neg_ℤ, Side, cos_at, sin_at, cosines, cosine16, sine16, side16, cosines32, cosine32, sine32, side32, opposite_of, frequency_of, phase_of, basis_of}
 use Rattle.std.proofs.Common.{mod-eq_of_lt}
 use Rattle.recipe.specs.TableLaws.{agree, agree-both}
 use Rattle.tile_spectrum.specs.Spectrum.{apart_of, real_part, imaginary_part}

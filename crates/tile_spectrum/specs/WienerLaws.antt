@@ -1,6 +1,6 @@
 -- The Wiener step where V is not 0, and that a part of G is no larger than that part of Q, nor than half the root of V.
-use Rattle.tile_spectrum.specs.Prelude.{◌≡◌, refl, [], ◌∷◌, arith, ℤ, pos, nat_abs, ◌*ℤ◌, vars4, ◌⊞◌, ◌⊟◌, ◌⊠◌, #◌, away, power, wiener}
-use Rattle.std.specs.Prelude.{ℕ, zero, suc, ◌+◌, ◌*◌, ◌≤◌, ◌<◌, ◌≤ℤ◌, ◌<ℤ◌}
+use Rattle.tile_spectrum.specs.Prelude.{refl, [], arith, ℤ, pos, nat_abs, vars4, ◌⊞◌, ◌⊟◌, ◌⊠◌, #◌, away, power, wiener}
+use Rattle.std.specs.Prelude.{ℕ, zero, suc, ◌+◌, ◌*◌, ◌≤◌, ◌<◌, ◌≤ℤ◌, ◌<ℤ◌, ◌≡◌, ◌∷◌, ◌*ℤ◌}
 use Rattle.std.proofs.Common.{zero-le, mul-le-mul_right}
 use Rattle.algebra.specs.Order.{zarith, abs-mul, 0≤pos}
 use Rattle.algebra.specs.Cert.{nn, le, sqr, ◌⊕◌, ◌⊗◌, by-le-times, le-pos}

@@ -1,7 +1,7 @@
 -- Where the recipe's numbers are 0: sums and roundings of 0, and the corrections at no noise or of no difference.
-use Rattle.tile_spectrum.specs.Prelude.{◌≡◌, refl, ap, ap₂, ◌∙◌, ℕ, zero, suc, ◌+◌, ◌*◌, ◌<◌, arith, sum_z, away, Side, cos_at, sin_at, power, wiener, row_re, row_im, bin_re, bin_im, quantized, filtered, twiddle_re, twiddle_im, inverse_re, inverse_at, correction_at}
+use Rattle.tile_spectrum.specs.Prelude.{refl, ap, ap₂, ◌∙◌, ℕ, zero, suc, arith, sum_z, away, Side, cos_at, sin_at, power, wiener, row_re, row_im, bin_re, bin_im, quantized, filtered, twiddle_re, twiddle_im, inverse_re, inverse_at, correction_at}
 use Rattle.std.proofs.Math.Nat.{div-eq_of_lt}
-use Rattle.std.specs.Prelude.{ℤ, pos, ◌+ℤ◌, ◌-ℤ◌, ◌*ℤ◌}
+use Rattle.std.specs.Prelude.{ℤ, pos, ◌+ℤ◌, ◌-ℤ◌, ◌*ℤ◌, ◌≡◌, ◌+◌, ◌*◌, ◌<◌}
 use Rattle.std.proofs.Math.IntN.{neg_ℤ, *ℤ-zero, zero-*ℤ}
 use Rattle.algebra.specs.SumLaws.{sum_z-cong, sum_z-0}
 

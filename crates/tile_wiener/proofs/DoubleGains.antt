@@ -1,5 +1,6 @@
 -- Quads of G with quotients in double are those of the folded G where these are certain, and V and W of each lane are those of its plane.
-use Rattle.tile_wiener.specs.Prelude.{◌≡◌, ap, subst, ◌∙◌, List, ℕ, ◌+◌, ◌*◌, ◌/◌, ◌%◌, ◌≤◌, ◌<◌, arith, lit<, get_or, set, ℤ, pos, Float, nan, cell, either, SureBy, number_of, bins_in}
+use Rattle.std.specs.Prelude.{◌≡◌, ◌+◌, ◌*◌, ◌/◌, ◌%◌, ◌≤◌, ◌<◌}
+use Rattle.tile_wiener.specs.Prelude.{ap, subst, ◌∙◌, List, ℕ, arith, lit<, get_or, set, ℤ, pos, Float, nan, cell, either, SureBy, number_of, bins_in}
 use mathlib.Core.List.{map}
 use Prim.Native.Nat.{zero-le}
 use borrow.Author.Tests.{eq-eqb, ne_eqb}

@@ -1,5 +1,6 @@
 -- Loops that replace quads one after the other, and whether their quotients are certain.
-use Rattle.tile_wiener.specs.Prelude.{◌≡◌, refl, sym, subst, Bool, true, false, List, [], ◌∷◌, ℕ, ◌+◌, ◌*◌, ◌/◌, ◌≤◌, ◌<◌, arith, ltb, get_or, Float, nan, cell, number_of}
+use Rattle.std.specs.Prelude.{◌≡◌, ◌∷◌, ◌+◌, ◌*◌, ◌/◌, ◌≤◌, ◌<◌}
+use Rattle.tile_wiener.specs.Prelude.{refl, sym, subst, Bool, true, false, List, [], ℕ, arith, ltb, get_or, Float, nan, cell, number_of}
 use borrow.Author.Tests.{ltb-true, ltb-false}
 use Rattle.tile_quad.specs.Lanes.{quad_at_of, place_of, WithQuadOf, LanesOf}
 use Rattle.tile_quad.specs.LaneLaws.{same_row, same-lane, lanes_start, lanes-turn, lanes-join}

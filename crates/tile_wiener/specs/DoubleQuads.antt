@@ -1,5 +1,6 @@
 -- Inside the crates of the merge: a quad of G from that of B, with quotients in double, and where these leave no doubt of it. A side's quantum is 2^bits.
-use Rattle.tile_wiener.specs.Prelude.{◌≡◌, Bool, true, List, ℕ, ◌+◌, ◌*◌, ◌/◌, ◌≤◌, ◌<◌, get_or, pos, Float, nan, binary64, of_int, cell, gains_by, SureBy, real_gain_by, number_of, bins_in, quad_in, Paired}
+use Rattle.std.specs.Prelude.{◌≡◌, ◌+◌, ◌*◌, ◌/◌, ◌≤◌, ◌<◌}
+use Rattle.tile_wiener.specs.Prelude.{Bool, true, List, ℕ, get_or, pos, Float, nan, binary64, of_int, cell, gains_by, SureBy, real_gain_by, number_of, bins_in, quad_in, Paired}
 use Rattle.tile_quad.specs.Lanes.{quad_at_of, place_of, LanesOf}
 
 -- at V and W

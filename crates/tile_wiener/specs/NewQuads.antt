@@ -1,5 +1,6 @@
 -- A quad of G with quotients in double, by kind, from a quad of B, and where its quotients are certain.
-use Rattle.tile_wiener.specs.Prelude.{◌≡◌, refl, sym, ap, subst, ◌∙◌, List, [], ◌∷◌, ℕ, zero, suc, ◌+◌, ◌/◌, ◌≤◌, ◌<◌, arith, get_or, pos, Float, nan, binary64, of_int, add, sub, gains_by, SureBy, real_gain_by, number_of, bins_in, folded_in, corner_in, fold_in}
+use Rattle.std.specs.Prelude.{◌≡◌, ◌∷◌, ◌+◌, ◌/◌, ◌≤◌, ◌<◌}
+use Rattle.tile_wiener.specs.Prelude.{refl, sym, ap, subst, ◌∙◌, List, [], ℕ, zero, suc, arith, get_or, pos, Float, nan, binary64, of_int, add, sub, gains_by, SureBy, real_gain_by, number_of, bins_in, folded_in, corner_in, fold_in}
 use Rattle.tile_spectrum.specs.QuadLaws.{four, is-top, is-left, is-inner}
 use Rattle.tile_quad.specs.QuadGains.{quad-corner, quad-others}
 use Rattle.tile_wiener.specs.DoubleQuads.{double_quad, new_quad_by, SureQuadBy}

@@ -1,6 +1,6 @@
 -- The words of other crates that this crate's files share. Lemmas are not passed on: of those the `use` line says where they are.
-pub use Rattle.algebra.specs.Prelude.{Bool, List, ℕ, ℤ, [], ap, arith, false, get_or, lit<, lit≤, ltb, rules, not, pos, refl, set, subst, suc, sym, true, zero, ◌%◌, ◌*◌, ◌+◌, ◌-◌, ◌/◌, ◌<◌, ◌∙◌, ◌∷◌, ◌≡◌, ◌≤◌}
-pub use Rattle.std.specs.Prelude.{Float}
+pub use Rattle.algebra.specs.Prelude.{Bool, List, ℕ, ℤ, [], ap, arith, false, get_or, lit<, lit≤, ltb, rules, not, pos, refl, set, subst, suc, sym, true, zero, ◌∙◌}
+pub use Rattle.std.specs.Prelude.{Float, ◌%◌, ◌*◌, ◌+◌, ◌-◌, ◌/◌, ◌<◌, ◌∷◌, ◌≡◌, ◌≤◌}
 pub use Rattle.std.specs.Float.Ieee.{add, sub}
 pub use Rattle.std.specs.Float.{binary64, nan}
 unfoldable pub use Rattle.std.specs.Float.Ieee.{of_bits, of_int}

@@ -5,7 +5,8 @@
 
 pub mod thirty_two;
 
-ghost use Rattle.tile_wiener.specs.Prelude.{◌≡◌, true, ◌+◌, ◌*◌, ◌%◌, ◌≤◌, ◌<◌, nan, either, Paired, GainsOf, cell, quad_at, Lanes};
+ghost use Rattle.std.specs.Prelude.{◌≡◌, ◌+◌, ◌*◌, ◌%◌, ◌≤◌, ◌<◌};
+ghost use Rattle.tile_wiener.specs.Prelude.{true, nan, either, Paired, GainsOf, cell, quad_at, Lanes};
 ghost use Rattle.sequences.specs.Tab.{tab};
 ghost use Rattle.tile_spectrum.specs.Magnitudes.{noise_most};
 ghost use Rattle.tile_wiener.specs.DoubleQuads.{new_quad, Shrunk};

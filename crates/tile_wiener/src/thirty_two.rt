@@ -1,7 +1,8 @@
 // The Wiener step on two tiles side by side, in double, by quads: rows u and 16 + u of lanes l and 32 + l hold bins (u, v) and (32 − u, v) of a plane, with
 // v = l / 2, and what comes of them is folded for the inverse. A turn of a loop is a quad, and the compiler does two at a time. Each loop answers whether all of
 // its quotients are certain.
-ghost use Rattle.tile_wiener.specs.ThirtyTwo.Prelude.{◌≡◌, true, ◌+◌, ◌*◌, ◌%◌, ◌≤◌, ◌<◌, nan, either, LongPaired, LongGainsOf, cell, quad_at, Lanes, new_quad_by};
+ghost use Rattle.std.specs.Prelude.{◌≡◌, ◌+◌, ◌*◌, ◌%◌, ◌≤◌, ◌<◌};
+ghost use Rattle.tile_wiener.specs.ThirtyTwo.Prelude.{true, nan, either, LongPaired, LongGainsOf, cell, quad_at, Lanes, new_quad_by};
 ghost use Rattle.sequences.specs.Tab.{tab};
 ghost use Rattle.tile_spectrum.specs.Magnitudes.{long_noise_most};
 ghost use Rattle.tile_wiener.specs.ThirtyTwo.DoubleQuads.{Shrunk};

@@ -1,5 +1,6 @@
 -- Quads of G with quotients in whole numbers are those of the folded G.
-use Rattle.tile_wiener_exact.specs.Prelude.{◌≡◌, sym, ap, subst, List, ℕ, ◌*◌, ◌/◌, ◌%◌, ◌<◌, arith, get_or, ℤ, pos, Float, nan, either, number_of}
+use Rattle.std.specs.Prelude.{◌≡◌, ◌*◌, ◌/◌, ◌%◌, ◌<◌}
+use Rattle.tile_wiener_exact.specs.Prelude.{sym, ap, subst, List, ℕ, arith, get_or, ℤ, pos, Float, nan, either, number_of}
 use mathlib.Core.List.{map}
 use Prim.Native.Nat.{zero-le}
 use Rattle.sequences.specs.Grid.{cell}

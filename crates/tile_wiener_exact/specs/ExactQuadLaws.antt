@@ -1,5 +1,6 @@
 -- Quads of G with quotients in whole numbers, by kind, from the parts of the bins of a quad of B; they have four numbers.
-use Rattle.tile_wiener_exact.specs.Prelude.{◌≡◌, refl, sym, ap, ap₂, subst, ◌∙◌, List, [], ◌∷◌, ℕ, zero, suc, ◌+◌, ◌/◌, ◌%◌, ◌<◌, arith, eqb, pos, Float, binary64, of_int, either, exact_gains_by, number_of, bins_in, folded_in, corner_in, fold_in, quad_in}
+use Rattle.std.specs.Prelude.{◌≡◌, ◌∷◌, ◌+◌, ◌/◌, ◌%◌, ◌<◌}
+use Rattle.tile_wiener_exact.specs.Prelude.{refl, sym, ap, ap₂, subst, ◌∙◌, List, [], ℕ, zero, suc, arith, eqb, pos, Float, binary64, of_int, either, exact_gains_by, number_of, bins_in, folded_in, corner_in, fold_in, quad_in}
 use Rattle.tile_spectrum.specs.Spectrum.{by_kind}
 use Rattle.tile_spectrum.specs.Lines.Doubles.{WholeDouble}
 use Rattle.tile_spectrum.specs.QuadLaws.{four, is-top}

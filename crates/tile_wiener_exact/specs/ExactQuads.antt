@@ -1,5 +1,6 @@
 -- Inside the crates of the merge: a quad of G from that of B, with quotients in whole numbers. A side's quantum is 2^bits.
-use Rattle.tile_wiener_exact.specs.Prelude.{List, ℕ, ◌/◌, ◌%◌, pos, Float, binary64, of_int, either, exact_gains_by, number_of, quad_in}
+use Rattle.std.specs.Prelude.{◌/◌, ◌%◌}
+use Rattle.tile_wiener_exact.specs.Prelude.{List, ℕ, pos, Float, binary64, of_int, either, exact_gains_by, number_of, quad_in}
 
 -- at one noise number: the other part of a real bin is 0
 unfoldable pub exact_quad_by : (bits noise k u : ℕ) (q : List Float) → List Float

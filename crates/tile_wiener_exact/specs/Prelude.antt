@@ -1,6 +1,6 @@
 -- The words of other crates that this crate's files share. Lemmas are not passed on: of those the `use` line says where they are.
-pub use Rattle.algebra.specs.Prelude.{List, T, ℕ, ℤ, [], ap, ap₂, arith, eqb, get_or, rules, pos, refl, subst, suc, sym, w64, zero, ◌%◌, ◌*◌, ◌+◌, ◌-◌, ◌/◌, ◌<◌, ◌∙◌, ◌∷◌, ◌≡◌, ◌≤◌}
-pub use Rattle.std.specs.Prelude.{Float}
+pub use Rattle.algebra.specs.Prelude.{List, T, ℕ, ℤ, [], ap, ap₂, arith, eqb, get_or, rules, pos, refl, subst, suc, sym, w64, zero, ◌∙◌}
+pub use Rattle.std.specs.Prelude.{Float, ◌%◌, ◌*◌, ◌+◌, ◌-◌, ◌/◌, ◌<◌, ◌∷◌, ◌≡◌, ◌≤◌}
 pub use Rattle.std.specs.Float.{binary64, nan}
 pub use Rattle.std.specs.Float.Ieee.{in_signed, to_signed}
 unfoldable pub use Rattle.std.specs.Float.Ieee.{of_bits, of_int}

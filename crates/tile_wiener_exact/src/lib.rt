@@ -4,7 +4,8 @@
 
 pub mod thirty_two;
 
-ghost use Rattle.tile_wiener_exact.specs.Prelude.{◌≡◌, ◌≤◌, ◌<◌, pos, binary64, of_int, bin_most, gain_most, noise_most, either, BinnedPair, GainsOf, whole_quantized, exact_gains_in, number_of, bins_in, folded_in, WholeBins};
+ghost use Rattle.std.specs.Prelude.{◌≡◌, ◌≤◌, ◌<◌};
+ghost use Rattle.tile_wiener_exact.specs.Prelude.{pos, binary64, of_int, bin_most, gain_most, noise_most, either, BinnedPair, GainsOf, whole_quantized, exact_gains_in, number_of, bins_in, folded_in, WholeBins};
 ghost use Rattle.algebra.specs.Bound.{AtMost};
 ghost use Rattle.tile_spectrum.specs.Lines.Doubles.{WholeDouble};
 ghost use Rattle.tile_wiener_exact.specs.ExactQuads.{exact_quad};

@@ -1,6 +1,7 @@
 // The Wiener step on two tiles of side 32 side by side with quotients in whole numbers, for bins that are too large for quotients in double: the parts of Q go to
 // 64 bits and those of G come back, as `tile_wiener_exact` has it for side 16. The rest is in double, by quads as in `tile_wiener::thirty_two::filter`.
-ghost use Rattle.tile_wiener_exact.specs.ThirtyTwo.Prelude.{◌≡◌, ◌≤◌, ◌<◌, pos, binary64, of_int, long_bin_most, gain_most, long_noise_most, whole_quantized_by, exact_gains_by, number_of, WholeBinsOf, exact_quad_by};
+ghost use Rattle.std.specs.Prelude.{◌≡◌, ◌≤◌, ◌<◌};
+ghost use Rattle.tile_wiener_exact.specs.ThirtyTwo.Prelude.{pos, binary64, of_int, long_bin_most, gain_most, long_noise_most, whole_quantized_by, exact_gains_by, number_of, WholeBinsOf, exact_quad_by};
 ghost use Rattle.algebra.specs.Bound.{AtMost};
 ghost use Rattle.tile_spectrum.specs.Lines.Doubles.{WholeDouble};
 ghost use Rattle.tile_spectrum.specs.LongPairs.{LongBinnedPair, LongGainsOf};

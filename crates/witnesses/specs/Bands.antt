@@ -1,6 +1,6 @@
 -- The call for a band of the merged frame accepts a band of document 01's figure, and has an input for each of its refusals.
-use Rattle.witnesses.specs.Prelude.{◌≡◌, refl, sym, ap, ◌∙◌, List, [], ◌∷◌, ℕ, length, ℤ, pos, zeros, first, some, size_allowed, count_allowed, size_refusal, count_refusal, reference_refusal, side_allowed, side_refusal, row_allowed, row_refusal, sample_length, vector_length, length_refusal, sample_index, sample_at, shape_tests, burst_tests, sample_refusal, vector_refusal, invalid_curve, invalid_iso, invalid_noise, above_limits, noise_tests, strength_refusal, black_refusal, spatial_refusal, shape, plain, burst}
-use Rattle.std.specs.Prelude.{replicate}
+use Rattle.witnesses.specs.Prelude.{refl, sym, ap, ◌∙◌, List, [], ℕ, length, ℤ, pos, zeros, first, some, size_allowed, count_allowed, size_refusal, count_refusal, reference_refusal, side_allowed, side_refusal, row_allowed, row_refusal, sample_length, vector_length, length_refusal, sample_index, sample_at, shape_tests, burst_tests, sample_refusal, vector_refusal, invalid_curve, invalid_iso, invalid_noise, above_limits, noise_tests, strength_refusal, black_refusal, spatial_refusal, shape, plain, burst}
+use Rattle.std.specs.Prelude.{replicate, ◌≡◌, ◌∷◌}
 use Rattle.std.proofs.lemmas.List.{length-replicate}
 use Rattle.refusals.specs.TestLaws.{goes}
 use Rattle.refusals.specs.AfterLaws.{result-made}

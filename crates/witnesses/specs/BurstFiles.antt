@@ -1,5 +1,6 @@
 -- Document 01's figure as a burst file, which is read, and a file for each refusal of file reading and of the file check.
-use Rattle.witnesses.specs.Prelude.{◌≡◌, refl, List, [], ◌∷◌, ◌++◌, ℕ, zero, suc, first, size_allowed, count_allowed, size_refusal, count_refusal, reference_refusal, sample_length, length_refusal, shape_tests, level_refusal, strength_refusal, shape, plain, burst}
+use Rattle.std.specs.Prelude.{◌≡◌, ◌∷◌, ◌++◌}
+use Rattle.witnesses.specs.Prelude.{refl, List, [], ℕ, zero, suc, first, size_allowed, count_allowed, size_refusal, count_refusal, reference_refusal, sample_length, length_refusal, shape_tests, level_refusal, strength_refusal, shape, plain, burst}
 use Rattle.printing.specs.Ascii.{ascii}
 use Rattle.file_burst.specs.Lines.Part.{found, number_of}
 use Rattle.file_burst.specs.Lines.Line.{past_spaces, after_digits, digits_from, values_of, has_lf, above}

@@ -1,6 +1,6 @@
 -- Each call on a burst accepts document 01's figure, and has an input for each of its refusals. So no call refuses all bursts, and none of its numbers stands idle.
-use Rattle.witnesses.specs.Prelude.{◌≡◌, refl, sym, ap, ap₂, ◌∙◌, List, [], ◌∷◌, ◌++◌, ℕ, lit≤, length, ℤ, pos, zeros, first, some, size_allowed, count_allowed, size_refusal, count_refusal, reference_refusal, side_allowed, side_refusal, row_allowed, row_refusal, sample_length, vector_length, output_length, work_length, length_refusal, sample_index, sample_at, shape_tests, frame_tests, burst_tests, align_lengths, merge_lengths, align_shape_tests, merge_shape_tests, sample_refusal, vector_refusal, invalid_curve, invalid_iso, invalid_noise, above_limits, noise_tests, levels_of, strength_refusal, black_refusal, spatial_refusal}
-use Rattle.std.specs.Prelude.{replicate}
+use Rattle.witnesses.specs.Prelude.{refl, sym, ap, ap₂, ◌∙◌, List, [], ℕ, lit≤, length, ℤ, pos, zeros, first, some, size_allowed, count_allowed, size_refusal, count_refusal, reference_refusal, side_allowed, side_refusal, row_allowed, row_refusal, sample_length, vector_length, output_length, work_length, length_refusal, sample_index, sample_at, shape_tests, frame_tests, burst_tests, align_lengths, merge_lengths, align_shape_tests, merge_shape_tests, sample_refusal, vector_refusal, invalid_curve, invalid_iso, invalid_noise, above_limits, noise_tests, levels_of, strength_refusal, black_refusal, spatial_refusal}
+use Rattle.std.specs.Prelude.{replicate, ◌≡◌, ◌∷◌, ◌++◌}
 use Rattle.std.proofs.lemmas.List.{length-replicate}
 use Rattle.refusals.specs.TestLaws.{goes, lone}
 use Rattle.refusals.specs.After.{after}

@@ -1,5 +1,6 @@
 -- A DNG file of a black frame, which is read, and a file or a burst for each refusal of the reader.
-use Rattle.witnesses.specs.Prelude.{◌≡◌, refl, sym, ap, ◌∙◌, List, [], ◌∷◌, ◌++◌, ℕ, ◌+◌, ◌*◌, ◌/◌, ◌%◌, arith, ltb, get_or, replicate, first, some, shaped, size_allowed, count_allowed, size_refusal, count_refusal, reference_refusal, row_allowed, row_refusal, sample_length, length_refusal, shape_tests, frame_tests}
+use Rattle.std.specs.Prelude.{◌≡◌, ◌∷◌, ◌++◌, ◌+◌, ◌*◌, ◌/◌, ◌%◌}
+use Rattle.witnesses.specs.Prelude.{refl, sym, ap, ◌∙◌, List, [], ℕ, arith, ltb, get_or, replicate, first, some, shaped, size_allowed, count_allowed, size_refusal, count_refusal, reference_refusal, row_allowed, row_refusal, sample_length, length_refusal, shape_tests, frame_tests}
 use Rattle.std.proofs.Common.{get_or-append-add, le-ltb}
 use Rattle.refusals.specs.TestLaws.{goes, lone}
 use Rattle.refusals.specs.SomeLaws.{not-one}

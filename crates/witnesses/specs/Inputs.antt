@@ -1,6 +1,6 @@
 -- What the calls on a burst take: document 01's figure, and that with one thing changed, as in the examples of document 01's table of refused inputs.
-use Rattle.witnesses.specs.Prelude.{false, List, [], ◌∷◌, ℕ, ℤ, pos, replicate, shaped, shape, plain, burst}
-use Rattle.std.specs.Prelude.{Float}
+use Rattle.witnesses.specs.Prelude.{false, List, [], ℕ, ℤ, pos, replicate, shaped, shape, plain, burst}
+use Rattle.std.specs.Prelude.{Float, ◌∷◌}
 use Rattle.std.specs.Float.{fin}
 use Rattle.geometry.specs.declared.Shape.{Shape}
 use Rattle.noise.specs.declared.Noise.{Noise}

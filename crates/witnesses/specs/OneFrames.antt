@@ -1,5 +1,6 @@
 -- The call that aligns one other frame accepts document 01's figure, whose only other frame is at place 0, and has an input for each of its refusals.
-use Rattle.witnesses.specs.Prelude.{◌≡◌, refl, ap, ◌∙◌, List, [], ◌∷◌, ℕ, lit<, ℤ, pos, replicate, zeros, first, some, size_allowed, count_allowed, size_refusal, count_refusal, reference_refusal, side_allowed, side_refusal, row_allowed, row_refusal, sample_length, vector_length, work_length, length_refusal, sample_index, sample_at, shape_tests, burst_tests, sample_refusal, shape, plain, burst}
+use Rattle.std.specs.Prelude.{◌≡◌, ◌∷◌}
+use Rattle.witnesses.specs.Prelude.{refl, ap, ◌∙◌, List, [], ℕ, lit<, ℤ, pos, replicate, zeros, first, some, size_allowed, count_allowed, size_refusal, count_refusal, reference_refusal, side_allowed, side_refusal, row_allowed, row_refusal, sample_length, vector_length, work_length, length_refusal, sample_index, sample_at, shape_tests, burst_tests, sample_refusal, shape, plain, burst}
 use Rattle.refusals.specs.AfterLaws.{result-made}
 use Rattle.admit_length.specs.OneFrame.{other_refusal, frame_work_length, align_frame_lengths, align_frame_shape_tests}
 use Rattle.admit_call.specs.OneFrame.{align_frame_refusal}

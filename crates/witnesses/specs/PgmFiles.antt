@@ -1,6 +1,6 @@
 -- A black frame of 64 by 64 is written and read as a PGM file; and a frame or a file for each refusal of writing and reading.
-use Rattle.witnesses.specs.Prelude.{◌≡◌, refl, List, [], ◌∷◌, ◌++◌, ℕ, lit≤, length, first, some, size_allowed, length_refusal}
-use Rattle.std.specs.Prelude.{replicate}
+use Rattle.witnesses.specs.Prelude.{refl, List, [], ℕ, lit≤, length, first, some, size_allowed, length_refusal}
+use Rattle.std.specs.Prelude.{replicate, ◌≡◌, ◌∷◌, ◌++◌}
 use Rattle.std.proofs.lemmas.List.{length-replicate}
 use Rattle.printing.specs.Decimal.{digits, decimal}
 use Rattle.file_pgm.specs.Header.Header.{pgm_header, leading}

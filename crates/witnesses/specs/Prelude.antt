@@ -1,6 +1,6 @@
 -- The words of other crates that this crate's files share. Lemmas are not passed on: of those the `use` line says where they are.
-pub use Rattle.algebra.specs.Prelude.{List, ℕ, ℤ, [], ap, ap₂, arith, false, get_or, length, lit<, lit≤, ltb, pos, refl, subst, suc, sym, zero, ◌%◌, ◌*◌, ◌++◌, ◌+◌, ◌/◌, ◌<◌, ◌∙◌, ◌∷◌, ◌≡◌, ◌≤◌}
-pub use Rattle.std.specs.Prelude.{replicate}
+pub use Rattle.algebra.specs.Prelude.{List, ℕ, ℤ, [], ap, ap₂, arith, false, get_or, length, lit<, lit≤, ltb, pos, refl, subst, suc, sym, zero, ◌∙◌}
+pub use Rattle.std.specs.Prelude.{replicate, ◌%◌, ◌*◌, ◌++◌, ◌+◌, ◌/◌, ◌<◌, ◌∷◌, ◌≡◌, ◌≤◌}
 unfoldable pub use Rattle.sequences.specs.Clear.{zeros}
 unfoldable pub use Rattle.refusals.specs.Some.{some}
 unfoldable pub use Rattle.refusals.specs.Tests.{first}

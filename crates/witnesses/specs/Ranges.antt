@@ -1,5 +1,6 @@
 -- Request L14's call accepts document 01's figure, and has an input for each of its refusals.
-use Rattle.witnesses.specs.Prelude.{◌≡◌, refl, sym, subst, ◌∙◌, List, [], ◌∷◌, ℕ, ◌≤◌, ◌<◌, length, get_or, ℤ, pos, replicate, first, some, shaped, size_allowed, count_allowed, size_refusal, count_refusal, reference_refusal, row_allowed, row_refusal, sample_length, vector_length, output_length, work_length, length_refusal, sample_index, sample_at, shape_tests, sample_refusal, vector_refusal, invalid_curve, invalid_iso, invalid_noise, above_limits, strength_refusal, black_refusal, shape, plain, burst}
+use Rattle.std.specs.Prelude.{◌≡◌, ◌∷◌, ◌≤◌, ◌<◌}
+use Rattle.witnesses.specs.Prelude.{refl, sym, subst, ◌∙◌, List, [], ℕ, length, get_or, ℤ, pos, replicate, first, some, shaped, size_allowed, count_allowed, size_refusal, count_refusal, reference_refusal, row_allowed, row_refusal, sample_length, vector_length, output_length, work_length, length_refusal, sample_index, sample_at, shape_tests, sample_refusal, vector_refusal, invalid_curve, invalid_iso, invalid_noise, above_limits, strength_refusal, black_refusal, shape, plain, burst}
 use Rattle.std.specs.Float.Ieee.{lt, le}
 use Rattle.refusals.specs.TestLaws.{goes}
 use Rattle.noise.specs.declared.Noise.{Noise}

@@ -1,5 +1,6 @@
 -- The size questions on the files that are read, and on those that are refused; and the words of some numbers.
-use Rattle.witnesses.specs.Prelude.{◌≡◌, refl, List, [], ◌∷◌, ◌++◌, ℕ, replicate, first, some, size_allowed, count_allowed, size_refusal, count_refusal, reference_refusal, shape_tests, level_refusal, strength_refusal}
+use Rattle.std.specs.Prelude.{◌≡◌, ◌∷◌, ◌++◌}
+use Rattle.witnesses.specs.Prelude.{refl, List, [], ℕ, replicate, first, some, size_allowed, count_allowed, size_refusal, count_refusal, reference_refusal, shape_tests, level_refusal, strength_refusal}
 use Rattle.refusals.specs.After.{after}
 use Rattle.printing.specs.Ascii.{ascii}
 use Rattle.printing.specs.Decimal.{digits, decimal}

@@ -1,5 +1,6 @@
 -- Values of lists that are one value over and over, or two lists joined.
-use Rattle.witnesses.specs.Prelude.{◌≡◌, refl, List, [], ◌∷◌, ◌++◌, ℕ, zero, suc, ◌≤◌, arith, get_or, replicate}
+use Rattle.std.specs.Prelude.{◌≡◌, ◌∷◌, ◌++◌, ◌≤◌}
+use Rattle.witnesses.specs.Prelude.{refl, List, [], ℕ, zero, suc, arith, get_or, replicate}
 
 -- every value of both lists is at most m
 pub append-most : (m : ℕ) (a b : List ℕ) → ((k : ℕ) → get_or a k 0 ≤ m) → ((k : ℕ) → get_or b k 0 ≤ m) → (k : ℕ) → get_or (a ++ b) k 0 ≤ m

@@ -1,5 +1,6 @@
 -- `admit_call::content_refusal`: each test is its definition, so the first of them is.
-use Rattle.admit_call.specs.Prelude.{ap, ap₂, ◌∙◌, [], ◌∷◌, rules, first}
+use Rattle.std.specs.Prelude.{◌∷◌}
+use Rattle.admit_call.specs.Prelude.{ap, ap₂, ◌∙◌, [], rules, first}
 use Rattle.admit_call.specs.Refusals.{content_tests}
 use Rattle.admit_call.proofs.content_refusal as of
 

@@ -1,5 +1,6 @@
 -- `admit_call::residual_refusal`: the tests of shape and lengths in one call, then 11 and 12.
-use Rattle.admit_call.specs.Prelude.{sym, ap, ap₂, ◌∙◌, [], ◌∷◌, rules, first}
+use Rattle.std.specs.Prelude.{◌∷◌}
+use Rattle.admit_call.specs.Prelude.{sym, ap, ap₂, ◌∙◌, [], rules, first}
 use Rattle.refusals.specs.TestLaws.{stops, goes}
 use Rattle.admit_length.specs.ResidualLaws.{residual-fits}
 use Rattle.admit_call.specs.Residuals.{residual_refusal}

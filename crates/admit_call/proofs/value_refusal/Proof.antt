@@ -1,5 +1,6 @@
 -- `admit_call::value_refusal`: 8 and 9 by the levels found or refused, then 10, 18, 24, 25 and 11.
-use Rattle.admit_call.specs.Prelude.{◌≡◌, refl, sym, ap, ◌∙◌, rules, first, levels_of, refusal_of, shot_level, read_level}
+use Rattle.std.specs.Prelude.{◌≡◌}
+use Rattle.admit_call.specs.Prelude.{refl, sym, ap, ◌∙◌, rules, first, levels_of, refusal_of, shot_level, read_level}
 use Rattle.refusals.specs.TestLaws.{stops, goes}
 use Rattle.noise.specs.declared.Levels.TheVariants.{Found, Refused}
 use Rattle.noise.specs.LevelLaws.{levels-number, refused-above}

@@ -1,5 +1,6 @@
 -- `admit_range::content_refusal`: each test is its definition, so the first of them is.
-use Rattle.algebra.specs.Prelude.{◌≡◌, ap, ◌∙◌, [], ◌∷◌, ℕ, rules}
+use Rattle.std.specs.Prelude.{◌≡◌, ◌∷◌}
+use Rattle.algebra.specs.Prelude.{ap, ◌∙◌, [], ℕ, rules}
 use Rattle.refusals.specs.Tests.{first}
 use Rattle.admit_range.specs.Refusals.{range_content_tests}
 use Rattle.admit_range.proofs.content_refusal as of

@@ -1,5 +1,6 @@
 -- Each test is its definition, so the first of them is.
-use Rattle.algebra.specs.Prelude.{ap, ap₂, ◌∙◌, [], ◌∷◌, rules}
+use Rattle.std.specs.Prelude.{◌∷◌}
+use Rattle.algebra.specs.Prelude.{ap, ap₂, ◌∙◌, [], rules}
 use Rattle.refusals.specs.Tests.{first}
 use Rattle.admit_length.specs.Order.{shape_tests}
 use Rattle.admit_range.specs.Refusals.{range_frame_tests}

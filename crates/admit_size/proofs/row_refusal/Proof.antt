@@ -1,5 +1,6 @@
 -- The two tests on the row length.
-use Rattle.algebra.specs.Prelude.{◌+◌, arith}
+use Rattle.std.specs.Prelude.{◌+◌}
+use Rattle.algebra.specs.Prelude.{arith}
 use borrow.Author.Tests.{le-leb, lt-leb}
 use Rattle.geometry.specs.Shape.{row_allowed, row_refusal}
 use Rattle.admit_size.proofs.row_refusal as of

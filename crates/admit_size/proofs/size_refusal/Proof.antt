@@ -1,5 +1,6 @@
 -- The two sizes, one after the other.
-use Rattle.algebra.specs.Prelude.{◌≡◌, sym, ◌∙◌, true, rules}
+use Rattle.std.specs.Prelude.{◌≡◌}
+use Rattle.algebra.specs.Prelude.{sym, ◌∙◌, true, rules}
 use Rattle.geometry.specs.Shape.{size_allowed, size_refusal}
 use Rattle.admit_size.proofs.size_refusal as of
 

@@ -1,5 +1,6 @@
 -- The sum so far is that of the samples passed. A sample is below 65536, so each term is at most 15.
-use Rattle.algebra.specs.Prelude.{refl, ◌+◌, ◌-◌, ◌/◌, arith, rules, get_or}
+use Rattle.std.specs.Prelude.{◌+◌, ◌-◌, ◌/◌}
+use Rattle.algebra.specs.Prelude.{refl, arith, rules, get_or}
 use Rattle.sequences.specs.Sum.{Summed, sum-start, sum-turn, sum_done}
 use Rattle.admit_value.specs.Excess.{excess}
 use Rattle.admit_value.proofs.excess as of

@@ -1,5 +1,6 @@
 -- The invariant: no sample passed is above 4095, and what is left of the row is whole blocks of 64. A hit ends the loop.
-use Rattle.algebra.specs.Prelude.{◌≡◌, sym, ◌-◌, ◌%◌, arith, rules}
+use Rattle.std.specs.Prelude.{◌≡◌, ◌-◌, ◌%◌}
+use Rattle.algebra.specs.Prelude.{sym, arith, rules}
 use Rattle.refusals.specs.SomeLaws.{Passed, pass-start}
 use Rattle.admit_value.specs.Excess.{above}
 use Rattle.admit_value.specs.BoundLaws.{block-above, block-passed, row-passed}

@@ -1,5 +1,6 @@
 -- The invariant: no row passed holds a sample above 4095. A hit refuses, the end accepts.
-use Rattle.algebra.specs.Prelude.{sym, ◌∙◌, ◌+◌, ◌-◌, ◌*◌, ◌≤◌, arith, rules, length}
+use Rattle.std.specs.Prelude.{◌+◌, ◌-◌, ◌*◌, ◌≤◌}
+use Rattle.algebra.specs.Prelude.{sym, ◌∙◌, arith, rules, length}
 use Rattle.refusals.specs.SomeLaws.{Passed, pass-start, pass-turn}
 use Rattle.admit_value.specs.BoundLaws.{row_test, rows-most, row_inside, samples-small, samples-refused, samples-accepted}
 use Rattle.admit_value.proofs.sample_refusal as of

@@ -1,5 +1,6 @@
 -- The invariant: no part passed lies outside −172..172. A hit refuses, the end accepts.
-use Rattle.algebra.specs.Prelude.{◌≡◌, true, false, ◌-◌, ◌^◌, ◌≤◌, ◌<◌, rules, length, get_or, ℤ, pos, negsuc, nat_abs, w32, SFits, to_z, of_z}
+use Rattle.std.specs.Prelude.{◌≡◌, ◌-◌, ◌^◌, ◌≤◌, ◌<◌}
+use Rattle.algebra.specs.Prelude.{true, false, rules, length, get_or, ℤ, pos, negsuc, nat_abs, w32, SFits, to_z, of_z}
 use lib.Signed.{mag, lt_z}
 use mir.Facts.{sfits_lit}
 use borrow.Author.Tests.{lt-ltb, le-ltb}

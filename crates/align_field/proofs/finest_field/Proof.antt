@@ -1,6 +1,7 @@
 -- Each turn writes a tile's vector and adds its residual.
-use Rattle.algebra.specs.Prelude.{◌≡◌, refl, length}
-use Rattle.align_field.specs.Prelude.{finest_level, candidate_rows, tile_rows_most, numbered, level_tile, pair_in, guess_from, ap, ◌-◌, ◌*◌, ◌/◌, ◌%◌, arith, rules}
+use Rattle.std.specs.Prelude.{◌≡◌, ◌-◌, ◌*◌, ◌/◌, ◌%◌}
+use Rattle.algebra.specs.Prelude.{refl, length}
+use Rattle.align_field.specs.Prelude.{finest_level, candidate_rows, tile_rows_most, numbered, level_tile, pair_in, guess_from, ap, arith, rules}
 use Rattle.sequences.specs.Sum.{Summed, sum-start, sum-turn, sum_done, sum-most}
 use Rattle.align_residual.specs.Magnitudes.{residual_most}
 use Rattle.align_field.specs.LevelSums.{finer_rows, residuals}

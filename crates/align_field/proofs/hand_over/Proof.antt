@@ -1,5 +1,6 @@
 -- A small part is cast without loss.
-use Rattle.algebra.specs.Prelude.{◌≡◌, ◌∙◌, ◌≤◌, rules, ℤ, nat_abs, w32, w64, SFits, to_z, of_z, to_z-of_z}
+use Rattle.std.specs.Prelude.{◌≡◌, ◌≤◌}
+use Rattle.algebra.specs.Prelude.{◌∙◌, rules, ℤ, nat_abs, w32, w64, SFits, to_z, of_z, to_z-of_z}
 use Rattle.algebra.specs.Bound.{most_fits}
 use Rattle.algebra.specs.Back.{back-small}
 use Rattle.align_field.proofs.hand_over as of

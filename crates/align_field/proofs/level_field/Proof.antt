@@ -1,8 +1,9 @@
 -- Each turn writes a tile's vector behind the images and the coarse vectors, which stay as they were.
 use Rattle.align_pyramid.specs.WordsLaws.{Kept, writing-kept}
 use Rattle.sequences.specs.Sum.{Summed, sum-start, sum-turn, sum_done, sum-most}
-use Rattle.algebra.specs.Prelude.{◌≡◌, refl, length}
-use Rattle.align_field.specs.Prelude.{tile_rows_most, answer_at, ap, ◌∙◌, ◌-◌, ◌*◌, ◌/◌, ◌%◌, arith, rules}
+use Rattle.std.specs.Prelude.{◌≡◌, ◌-◌, ◌*◌, ◌/◌, ◌%◌}
+use Rattle.algebra.specs.Prelude.{refl, length}
+use Rattle.align_field.specs.Prelude.{tile_rows_most, answer_at, ap, ◌∙◌, arith, rules}
 use Rattle.align_field.specs.Loops.{field_in}
 use Rattle.align_field.proofs.Placing.{Placing, place-start, place-turn, place-done}
 use Rattle.align_field.specs.LoopLaws.{tiles-few, place-few, kept-stored, kept-vectors, kept-answer}

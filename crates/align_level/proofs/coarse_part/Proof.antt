@@ -1,5 +1,6 @@
 -- A small product comes back from its bits.
-use Rattle.algebra.specs.Prelude.{refl, ℕ, ◌≤◌, arith, rules, get_or, ℤ, pos, nat_abs, ◌*ℤ◌, w64, SFits, to_z-of_z}
+use Rattle.std.specs.Prelude.{◌≤◌, ◌*ℤ◌}
+use Rattle.algebra.specs.Prelude.{refl, ℕ, arith, rules, get_or, ℤ, pos, nat_abs, w64, SFits, to_z-of_z}
 use mir.ValLaws.{to_z_pos}
 use Rattle.algebra.specs.Order.{abs-mul-le}
 use Rattle.algebra.specs.Bound.{mul-fits}

@@ -1,5 +1,6 @@
 -- The vector's two words are among the coarse level's.
-use Rattle.align_level.specs.Prelude.{◌≡◌, List, ℕ, ◌+◌, ◌*◌, ◌<◌, arith, get_or, ℤ, pos, ◌*ℤ◌, Vector, ◌times◌}
+use Rattle.std.specs.Prelude.{◌≡◌, ◌+◌, ◌*◌, ◌<◌, ◌*ℤ◌}
+use Rattle.align_level.specs.Prelude.{List, ℕ, arith, get_or, ℤ, pos, Vector, ◌times◌}
 use native.Mathlib.Nat.{add_assoc}
 use Rattle.geometry.specs.ReadLaws.{cell_below}
 use Rattle.algebra.specs.Back.{back}

@@ -1,6 +1,7 @@
 -- The step's factor, by the level's number.
 use Rattle.align_level.specs.Steps.{step_to}
-use Rattle.algebra.specs.Prelude.{◌≡◌, refl, ℕ, zero, suc, arith, rules}
+use Rattle.std.specs.Prelude.{◌≡◌}
+use Rattle.algebra.specs.Prelude.{refl, ℕ, zero, suc, arith, rules}
 use Rattle.align_level.proofs.factor as of
 
 above : (side level : ℕ) → (level ≡ 0 → ⊥) → 4 ≡ (step_to side level).factor

@@ -1,6 +1,7 @@
 -- The half step and the side, by the level's number.
 use Rattle.align_level.specs.Fields.{level_at}
-use Rattle.align_level.specs.Prelude.{◌≡◌, refl, ℕ, zero, suc, ◌*◌, ◌/◌, ◌%◌, ◌≤◌, ◌<◌, arith, rules, TileSide}
+use Rattle.std.specs.Prelude.{◌≡◌, ◌*◌, ◌/◌, ◌%◌, ◌≤◌, ◌<◌}
+use Rattle.align_level.specs.Prelude.{refl, ℕ, zero, suc, arith, rules, TileSide}
 use mathlib.Core.Logic.{⊎_elim}
 use Rattle.align_level.proofs.half_of as of
 

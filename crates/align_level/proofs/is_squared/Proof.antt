@@ -1,5 +1,6 @@
 -- The kind of differences, by the level's number.
-use Rattle.algebra.specs.Prelude.{◌≡◌, refl, not, ℕ, zero, suc, arith, eqb}
+use Rattle.std.specs.Prelude.{◌≡◌}
+use Rattle.algebra.specs.Prelude.{refl, not, ℕ, zero, suc, arith, eqb}
 use borrow.Author.Tests.{ne_eqb}
 use Rattle.align_level.specs.Fields.{level_at}
 use Rattle.align_level.proofs.is_squared as of

@@ -1,5 +1,6 @@
 -- The buffers are long enough for the side.
-use Rattle.align_level.specs.Prelude.{sym, ap, subst, ◌+◌, ◌≤◌, arith, rules}
+use Rattle.std.specs.Prelude.{◌+◌, ◌≤◌}
+use Rattle.align_level.specs.Prelude.{sym, ap, subst, arith, rules}
 use native.Mathlib.Nat.{mul-le-mul}
 use Rattle.align_level.proofs.Answers.{side-most}
 use Rattle.align_level.proofs.level_tile as of

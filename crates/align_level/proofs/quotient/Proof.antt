@@ -1,5 +1,6 @@
 -- The step's quotient, by the level's number and the side.
-use Rattle.algebra.specs.Prelude.{◌≡◌, arith}
+use Rattle.std.specs.Prelude.{◌≡◌}
+use Rattle.algebra.specs.Prelude.{arith}
 use borrow.Author.Tests.{eq-eqb, ne_eqb}
 use Rattle.align_level.proofs.quotient as of
 

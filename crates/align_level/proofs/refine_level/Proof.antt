@@ -1,5 +1,6 @@
 -- The coarse indices and the three vectors are those of the definition; level 3 starts from no motion.
-use Rattle.align_level.specs.Prelude.{Step, own, neighbour, capped, Tile, Vector, ◌times◌, Pair, best_vector, guessed, VectorField, pair_in, answer, search_rows, Kind, TileSide, level3, still, true, ◌≡◌, sym, ap, ap₂, subst, ◌∙◌, ℕ, ◌+◌, ◌*◌, ◌≤◌, arith, lit≤, rules}
+use Rattle.std.specs.Prelude.{◌≡◌, ◌+◌, ◌*◌, ◌≤◌}
+use Rattle.align_level.specs.Prelude.{Step, own, neighbour, capped, Tile, Vector, ◌times◌, Pair, best_vector, guessed, VectorField, pair_in, answer, search_rows, Kind, TileSide, level3, still, true, sym, ap, ap₂, subst, ◌∙◌, ℕ, arith, lit≤, rules}
 use Rattle.geometry.specs.declared.tiles.Quotient.{Quotient}
 use Rattle.align_search.specs.SearchLaws.{guess-within}
 use Rattle.align_search.specs.VectorLaws.{within_more}

@@ -1,5 +1,6 @@
 -- The side is twice the half step, and the origins are those of the definition.
-use Rattle.align_level.specs.Prelude.{◌≡◌, ℕ, ◌*◌, arith, rules, ℤ, Level, origin, Tile}
+use Rattle.std.specs.Prelude.{◌≡◌, ◌*◌}
+use Rattle.align_level.specs.Prelude.{ℕ, arith, rules, ℤ, Level, origin, Tile}
 use Rattle.algebra.specs.Back.{back}
 use Rattle.align_level.specs.Fields.{level_at, level_tile}
 use Rattle.align_level.proofs.tile_at as of

@@ -1,5 +1,6 @@
 -- Each turn writes a tile's residual: `Writing` is the loop's invariant.
-use Rattle.align_measure.specs.Prelude.{◌≡◌, sym, ap₂, subst, ◌∙◌, false, List, ℕ, ◌+◌, ◌-◌, ◌*◌, ◌/◌, ◌%◌, arith, rules, ℤ, TileSide, finest_level, Pair, residual, level_tile, pair_in}
+use Rattle.std.specs.Prelude.{◌≡◌, ◌+◌, ◌-◌, ◌*◌, ◌/◌, ◌%◌}
+use Rattle.align_measure.specs.Prelude.{sym, ap₂, subst, ◌∙◌, false, List, ℕ, arith, rules, ℤ, TileSide, finest_level, Pair, residual, level_tile, pair_in}
 use Rattle.sequences.specs.Write.{Writing, write-start, write-turn, write_done}
 use Rattle.geometry.specs.declared.vectors.Vector.{Vector}
 use Rattle.align_residual.specs.declared.Tile.{Tile}

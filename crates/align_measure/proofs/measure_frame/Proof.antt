@@ -1,5 +1,6 @@
 -- The frame's pyramid is laid behind the reference's, and the pair of images at level 0 is then that of the two frames.
-use Rattle.align_measure.specs.Prelude.{◌≡◌, ap, ap₂, subst, ◌∙◌, List, ℕ, ◌*◌, arith, rules, ℤ, written, Shape, sample_at, tile_rows, tile_columns, frame_tiles, pyramid_length, Built, pair_in}
+use Rattle.std.specs.Prelude.{◌≡◌, ◌*◌}
+use Rattle.align_measure.specs.Prelude.{ap, ap₂, subst, ◌∙◌, List, ℕ, arith, rules, ℤ, written, Shape, sample_at, tile_rows, tile_columns, frame_tiles, pyramid_length, Built, pair_in}
 use Rattle.align_tile.specs.declared.Area.{Area}
 use Rattle.align_burst.specs.BurstLaws.{two-pyramids, both-standing}
 use Rattle.align_burst.specs.Sites.{area_at, pairs_in}

@@ -1,6 +1,7 @@
 -- The reference's pyramid stays at the start of the work area while each other frame's residuals are found: `Measuring` is the loop's invariant.
 use mathlib.Core.Path.{subst₂}
-use Rattle.align_measure.specs.Prelude.{◌≡◌, sym, ap₂, ◌∙◌, ℕ, ◌+◌, ◌-◌, ◌*◌, ◌≤◌, ◌<◌, arith, rules, Shape, frame_tiles, residual_length}
+use Rattle.std.specs.Prelude.{◌≡◌, ◌+◌, ◌-◌, ◌*◌, ◌≤◌, ◌<◌}
+use Rattle.align_measure.specs.Prelude.{sym, ap₂, ◌∙◌, ℕ, arith, rules, Shape, frame_tiles, residual_length}
 use native.Mathlib.Nat.{mul-le-mul}
 use Rattle.geometry.specs.Shape.{vector_length}
 use Rattle.align_burst.specs.BurstLaws.{two-pyramids, frame-of, work-room}

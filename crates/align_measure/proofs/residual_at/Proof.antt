@@ -1,5 +1,6 @@
 -- The tile's samples are copied, and the sum is that of the candidate.
-use Rattle.align_measure.specs.Prelude.{ℕ, ◌*◌, ◌≤◌, arith, rules, lit≤, TileSide}
+use Rattle.std.specs.Prelude.{◌*◌, ◌≤◌}
+use Rattle.align_measure.specs.Prelude.{ℕ, arith, rules, lit≤, TileSide}
 use mathlib.Core.Logic.{⊎_elim}
 use Rattle.align_tile.specs.StoredLaws.{copyable, ready}
 use Rattle.align_measure.proofs.residual_at as of

@@ -1,5 +1,6 @@
 -- A small part is widened without loss.
-use Rattle.algebra.specs.Prelude.{◌≡◌, sym, ap₂, subst, ◌∙◌, List, ℕ, ◌+◌, ◌≤◌, arith, rules, get_or, ℤ, pos, nat_abs, w32, w64, SFits, to_z, of_z, to_z-of_z}
+use Rattle.std.specs.Prelude.{◌≡◌, ◌+◌, ◌≤◌}
+use Rattle.algebra.specs.Prelude.{sym, ap₂, subst, ◌∙◌, List, ℕ, arith, rules, get_or, ℤ, pos, nat_abs, w32, w64, SFits, to_z, of_z, to_z-of_z}
 use Rattle.algebra.specs.Bound.{AtMost, most_fits}
 use Rattle.geometry.specs.Fits.{VectorsFit}
 use Rattle.align_patch.specs.Bounds.{Within}

@@ -1,6 +1,7 @@
 -- Each turn writes eight samples more of the part.
 use lib.IntN.{+ℤ_assoc}
-use Rattle.algebra.specs.Prelude.{◌≡◌, refl, lit≤, ap, ◌∙◌, ℕ, ◌+◌, ◌-◌, ◌*◌, ◌^◌, ◌≤◌, arith, rules, ℤ, pos, nat_abs, ◌+ℤ◌, w64, to_z, of_z, to_z-of_z}
+use Rattle.std.specs.Prelude.{◌≡◌, ◌+◌, ◌-◌, ◌*◌, ◌^◌, ◌≤◌, ◌+ℤ◌}
+use Rattle.algebra.specs.Prelude.{refl, lit≤, ap, ◌∙◌, ℕ, arith, rules, ℤ, pos, nat_abs, w64, to_z, of_z, to_z-of_z}
 use Rattle.algebra.specs.Back.{back}
 use Rattle.algebra.specs.Order.{abs-add}
 use Rattle.geometry.specs.Read.{inside}

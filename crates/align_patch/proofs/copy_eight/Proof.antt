@@ -2,7 +2,8 @@
 use Rattle.sequences.specs.TabLaws.{get_d-tab}
 use Rattle.sequences.specs.Write.{Writing, write-start, write-turn, write_done}
 use Rattle.align_pyramid.specs.Words.{word_at}
-use Rattle.algebra.specs.Prelude.{ap, ◌∙◌, ◌+◌, ◌-◌, arith, rules, get_or}
+use Rattle.std.specs.Prelude.{◌+◌, ◌-◌}
+use Rattle.algebra.specs.Prelude.{ap, ◌∙◌, arith, rules, get_or}
 use Rattle.align_patch.proofs.copy_eight as of
 
 abbrev invariant-loop-j : of.Tie.invariant-loop-j

@@ -3,7 +3,8 @@ use native.Mathlib.Nat.{add_assoc}
 use Rattle.sequences.specs.Write.{Writing, write-start, write-part, write_done}
 use Rattle.align_pyramid.specs.Words.{word_at}
 use Rattle.align_pyramid.specs.WordsLaws.{row-part}
-use Rattle.algebra.specs.Prelude.{◌≡◌, ap, ◌+◌, ◌-◌, ◌*◌, arith, rules}
+use Rattle.std.specs.Prelude.{◌≡◌, ◌+◌, ◌-◌, ◌*◌}
+use Rattle.algebra.specs.Prelude.{ap, arith, rules}
 use Rattle.align_patch.proofs.copy_inside as of
 
 abbrev invariant-loop-k : of.Tie.invariant-loop-k

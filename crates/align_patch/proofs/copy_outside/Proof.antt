@@ -1,6 +1,7 @@
 -- Each store is one of a part written from its front, and the place is that of the next column.
 use lib.IntN.{+ℤ_assoc, +ℤ_idr}
-use Rattle.algebra.specs.Prelude.{◌≡◌, ap, sym, ◌∙◌, ◌+◌, ◌-◌, arith, rules, pos, ◌+ℤ◌, w64, to_z, of_z, to_z-of_z}
+use Rattle.std.specs.Prelude.{◌≡◌, ◌+◌, ◌-◌, ◌+ℤ◌}
+use Rattle.algebra.specs.Prelude.{ap, sym, ◌∙◌, arith, rules, pos, w64, to_z, of_z, to_z-of_z}
 use Rattle.geometry.specs.Read.{mirrored}
 use Rattle.sequences.specs.Write.{Writing, write-start, write-turn, write_done}
 use Rattle.align_pyramid.specs.Words.{word_at}

@@ -1,5 +1,6 @@
 -- Each turn copies one row more; the rows before it stay.
-use Rattle.algebra.specs.Prelude.{◌≡◌, refl, ap, ap₂, ◌∙◌, ◌+◌, ◌-◌, ◌*◌, ◌^◌, ◌≤◌, arith, rules, length, pos, ◌+ℤ◌}
+use Rattle.std.specs.Prelude.{◌≡◌, ◌+◌, ◌-◌, ◌*◌, ◌^◌, ◌≤◌, ◌+ℤ◌}
+use Rattle.algebra.specs.Prelude.{refl, ap, ap₂, ◌∙◌, arith, rules, length, pos}
 use Rattle.geometry.specs.Read.{inside, read}
 use Rattle.algebra.specs.Back.{back, back-small}
 use Rattle.sequences.specs.Place.{row_room}

@@ -1,5 +1,6 @@
 -- Forward the remainder itself, backward what it leaves of the period.
-use Rattle.algebra.specs.Prelude.{◌≡◌, refl, ap, subst, ◌∙◌, true, false, ℕ, ◌-◌, ◌*◌, ◌%◌, ◌<◌, arith, rules, T, ℤ, pos, negsuc, to_z-of_z}
+use Rattle.std.specs.Prelude.{◌≡◌, ◌-◌, ◌*◌, ◌%◌, ◌<◌}
+use Rattle.algebra.specs.Prelude.{refl, ap, subst, ◌∙◌, true, false, ℕ, arith, rules, T, ℤ, pos, negsuc, to_z-of_z}
 use native.Mathlib.Nat.{mod-lt}
 use lib.Signed.{mag, lt_z}
 use borrow.Author.Tests.{ltb-true}

@@ -1,5 +1,6 @@
 -- A column that is not negative is its index.
-use Rattle.algebra.specs.Prelude.{◌≡◌, refl, subst, false, arith, rules, T, ℤ, pos, negsuc, nat_abs, to_z-of_z}
+use Rattle.std.specs.Prelude.{◌≡◌}
+use Rattle.algebra.specs.Prelude.{refl, subst, false, arith, rules, T, ℤ, pos, negsuc, nat_abs, to_z-of_z}
 use lib.Signed.{lt_z}
 use mir.Facts.{Fits-nat_abs}
 use Rattle.algebra.specs.Bound.{from_zero}

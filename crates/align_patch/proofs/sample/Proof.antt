@@ -1,5 +1,6 @@
 -- A word that holds a small number is cast without loss.
-use Rattle.algebra.specs.Prelude.{◌≡◌, ap, ◌∙◌, ℕ, ◌≤◌, arith, rules, ℤ, pos, nat_abs, w64, to_z, of_z, to_z-of_z}
+use Rattle.std.specs.Prelude.{◌≡◌, ◌≤◌}
+use Rattle.algebra.specs.Prelude.{ap, ◌∙◌, ℕ, arith, rules, ℤ, pos, nat_abs, w64, to_z, of_z, to_z-of_z}
 use Rattle.algebra.specs.Bound.{most_fits}
 use Rattle.align_patch.proofs.sample as of
 

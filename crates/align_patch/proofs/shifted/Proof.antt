@@ -1,5 +1,6 @@
 -- A small sum comes back from its bits.
-use Rattle.algebra.specs.Prelude.{ℕ, ◌^◌, ◌≤◌, arith, rules, ℤ, pos, ◌+ℤ◌, w64, SFits, to_z-of_z}
+use Rattle.std.specs.Prelude.{◌^◌, ◌≤◌, ◌+ℤ◌}
+use Rattle.algebra.specs.Prelude.{ℕ, arith, rules, ℤ, pos, w64, SFits, to_z-of_z}
 use mir.ValLaws.{to_z_pos}
 use Rattle.algebra.specs.Bound.{AtMost, add-fits}
 use Rattle.align_patch.proofs.shifted as of

@@ -1,5 +1,6 @@
 -- The loop sums the words of the images before number k.
-use Rattle.align_pyramid.specs.Prelude.{◌≡◌, refl, ap, ap₂, ◌∙◌, ℕ, ◌+◌, ◌-◌, ◌*◌, ◌/◌, ◌≤◌, ◌<◌, arith, rules, level_size}
+use Rattle.std.specs.Prelude.{◌≡◌, ◌+◌, ◌-◌, ◌*◌, ◌/◌, ◌≤◌, ◌<◌}
+use Rattle.align_pyramid.specs.Prelude.{refl, ap, ap₂, ◌∙◌, ℕ, arith, rules, level_size}
 use native.Mathlib.Nat.{mul-le-mul}
 use native.Mathlib.Numerals.{add-one}
 use Rattle.align_pyramid.specs.Chain.{halves, words_before}

@@ -1,5 +1,5 @@
 -- Level 0 of a frame: document 01, "Pyramid and vectors".
-use Rattle.algebra.specs.Prelude.{◌+◌, ◌*◌}
+use Rattle.std.specs.Prelude.{◌+◌, ◌*◌}
 use Rattle.geometry.specs.Read.{Image}
 
 -- "Level 0: the sum of each 2 by 2 Bayer square."

@@ -1,5 +1,6 @@
 -- A Bayer square's sum is at most four times the largest sample.
-use Rattle.algebra.specs.Prelude.{ℕ, ◌+◌, ◌*◌, ◌≤◌, ◌<◌, arith}
+use Rattle.std.specs.Prelude.{◌+◌, ◌*◌, ◌≤◌, ◌<◌}
+use Rattle.algebra.specs.Prelude.{ℕ, arith}
 use Rattle.geometry.specs.Read.{Image}
 use Rattle.align_pyramid.specs.Bayer.Bayer.{bayer_sum}
 

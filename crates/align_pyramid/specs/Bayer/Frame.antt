@@ -1,5 +1,6 @@
 -- Inner vocabulary: what a pyramid is built from.
-use Rattle.algebra.specs.Prelude.{List, ℕ, ◌≤◌, ◌<◌}
+use Rattle.std.specs.Prelude.{◌≤◌, ◌<◌}
+use Rattle.algebra.specs.Prelude.{List, ℕ}
 use Rattle.geometry.specs.declared.Shape.{Shape}
 use Rattle.geometry.specs.Read.{sample_at}
 use Rattle.geometry.specs.Fits.{Sampled}

@@ -1,5 +1,6 @@
 -- A burst whose samples pass refusal 11 has such frames.
-use Rattle.algebra.specs.Prelude.{List, ℕ, ◌<◌}
+use Rattle.std.specs.Prelude.{◌<◌}
+use Rattle.algebra.specs.Prelude.{List, ℕ}
 use Rattle.geometry.specs.declared.Shape.{Shape}
 use Rattle.geometry.specs.Fits.{Sampled, SamplesFit}
 use Rattle.align_pyramid.specs.Bayer.Frame.{Frame}

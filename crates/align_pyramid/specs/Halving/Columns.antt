@@ -1,5 +1,6 @@
 -- Inner vocabulary: halving by columns first, which the code does.
-use Rattle.algebra.specs.Prelude.{ℕ, ◌≤◌}
+use Rattle.std.specs.Prelude.{◌≤◌}
+use Rattle.algebra.specs.Prelude.{ℕ}
 use Rattle.geometry.specs.Read.{Image, inside}
 use Rattle.align_pyramid.specs.Halving.Magnitudes.{column_most}
 use Rattle.align_pyramid.specs.Halving.Halving.{tap, weighted}

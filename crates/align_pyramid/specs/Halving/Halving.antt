@@ -1,5 +1,6 @@
 -- Halving an image: document 01, "Pyramid and vectors".
-use Rattle.algebra.specs.Prelude.{ℕ, ◌+◌, ◌*◌, ◌/◌, ℤ, pos, ◌-ℤ◌}
+use Rattle.std.specs.Prelude.{◌+◌, ◌*◌, ◌/◌, ◌-ℤ◌}
+use Rattle.algebra.specs.Prelude.{ℕ, ℤ, pos}
 use Rattle.geometry.specs.Read.{Image, read}
 
 -- "weights 1 3 3 1"

@@ -1,6 +1,6 @@
 -- What follows of the definition: halving reads inside the image only, and keeps its bound.
-use Rattle.algebra.specs.Prelude.{◌≡◌, sym, ap, ◌∙◌, arith, ℤ, pos, ◌-ℤ◌}
-use Rattle.std.specs.Prelude.{ℕ, zero, suc, ◌+◌, ◌-◌, ◌*◌, ◌/◌, ◌≤◌, ◌<◌, min}
+use Rattle.algebra.specs.Prelude.{sym, ap, ◌∙◌, arith, ℤ, pos}
+use Rattle.std.specs.Prelude.{ℕ, zero, suc, ◌+◌, ◌-◌, ◌*◌, ◌/◌, ◌≤◌, ◌<◌, min, ◌≡◌, ◌-ℤ◌}
 use Rattle.algebra.specs.Order.{zarith, sub-pn, min-pn}
 use Rattle.geometry.specs.Read.{Image, inside, read}
 use Rattle.geometry.specs.ReadLaws.{inside-below, inside-before, inside-edge}

@@ -1,5 +1,6 @@
 -- A loop by pairs of rows of absolute differences, over the side: the sums that it is given are those of rows 2i and 2i + 1 of a square.
-use Rattle.align_search.specs.Trials.Prelude.{◌≡◌, refl, ap, ap₂, subst, ◌∙◌, false, cond, List, ℕ, ◌+◌, ◌*◌, ◌≤◌, ◌<◌, arith, leb, square_row}
+use Rattle.std.specs.Prelude.{◌≡◌, ◌+◌, ◌*◌, ◌≤◌, ◌<◌}
+use Rattle.align_search.specs.Trials.Prelude.{refl, ap, ap₂, subst, ◌∙◌, false, cond, List, ℕ, arith, leb, square_row}
 use Rattle.align_residual.specs.Local.{row_sum}
 use Rattle.align_residual.specs.SixteenLaws.{row_at}
 use Rattle.align_search.specs.declared.trials.Tried.{Tried}

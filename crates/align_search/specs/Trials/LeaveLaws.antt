@@ -1,5 +1,6 @@
 -- What a loop by pairs of rows counts and answers, and one row by row.
-use Rattle.align_search.specs.Trials.Prelude.{◌≡◌, refl, sym, ap, subst, ◌∙◌, Bool, true, false, cond, ℕ, suc, ◌+◌, ◌*◌, ◌≤◌, ◌<◌, arith, T, leb, sum_n}
+use Rattle.std.specs.Prelude.{◌≡◌, ◌+◌, ◌*◌, ◌≤◌, ◌<◌}
+use Rattle.align_search.specs.Trials.Prelude.{refl, sym, ap, subst, ◌∙◌, Bool, true, false, cond, ℕ, suc, arith, T, leb, sum_n}
 use Rattle.std.proofs.Common.{leb-true, leb-false}
 use Rattle.align_search.specs.declared.trials.Tried.{Tried}
 use Rattle.align_search.specs.Trials.Rows.{rows}

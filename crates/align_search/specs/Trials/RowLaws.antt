@@ -1,5 +1,6 @@
 -- Laws of the rows that are summed: the rule in terms of the least row.
-use Rattle.align_search.specs.Trials.Prelude.{◌≡◌, refl, ap₂, Bool, true, false, cond, ℕ, zero, suc, ◌+◌, ◌≤◌, ◌<◌, arith, leb, sum_n}
+use Rattle.std.specs.Prelude.{◌≡◌, ◌+◌, ◌≤◌, ◌<◌}
+use Rattle.align_search.specs.Trials.Prelude.{refl, ap₂, Bool, true, false, cond, ℕ, zero, suc, arith, leb, sum_n}
 use borrow.Author.Tests.{leb-true, leb-false, le-leb, lt-leb}
 use Rattle.algebra.specs.SumLaws.{sum_n-cong}
 use Rattle.align_search.specs.Trials.Rows.{rows}

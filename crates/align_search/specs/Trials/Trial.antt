@@ -1,5 +1,6 @@
 -- Inner vocabulary: where an offset is tried, and what that gives.
-use Rattle.align_search.specs.Trials.Prelude.{◌≡◌, true, false, List, ℕ, ◌+◌, ◌*◌, ◌≤◌, ◌<◌, sum_n, Compared}
+use Rattle.std.specs.Prelude.{◌≡◌, ◌+◌, ◌*◌, ◌≤◌, ◌<◌}
+use Rattle.align_search.specs.Trials.Prelude.{true, false, List, ℕ, sum_n, Compared}
 use Rattle.align_search.specs.declared.trials.Tried.{Tried}
 use Rattle.align_search.specs.Trials.Rows.{rows}
 

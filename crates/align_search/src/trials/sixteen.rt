@@ -1,5 +1,6 @@
 // Offsets of tiles of side 16, in windows of side 24.
-ghost use Rattle.align_search.specs.Trials.Prelude.{true, false, ◌+◌, ◌*◌, square_row};
+ghost use Rattle.std.specs.Prelude.{◌+◌, ◌*◌};
+ghost use Rattle.align_search.specs.Trials.Prelude.{true, false, square_row};
 ghost use Rattle.align_search.specs.Trials.Trial.{InWindow, Left};
 
 use crate::trials::{Tried, clipped, leave};

@@ -1,5 +1,6 @@
 // Offsets of tiles of side 32, in windows of side 40.
-ghost use Rattle.align_search.specs.Trials.Prelude.{false, ◌+◌, ◌*◌, square_row};
+ghost use Rattle.std.specs.Prelude.{◌+◌, ◌*◌};
+ghost use Rattle.align_search.specs.Trials.Prelude.{false, square_row};
 ghost use Rattle.align_search.specs.Trials.Trial.{InWindow, Left};
 
 use crate::trials::{Tried, clipped, leave};

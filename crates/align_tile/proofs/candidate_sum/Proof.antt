@@ -1,5 +1,6 @@
 -- The other image's square at the moved tile is copied, and the sum of the two arrays is the residual.
-use Rattle.align_tile.specs.Prelude.{refl, ap, ◌∙◌, false, ℕ, ◌+◌, ◌-◌, ◌*◌, ◌^◌, ◌≤◌, arith, rules, lit≤, TileSide}
+use Rattle.std.specs.Prelude.{◌+◌, ◌-◌, ◌*◌, ◌^◌, ◌≤◌}
+use Rattle.align_tile.specs.Prelude.{refl, ap, ◌∙◌, false, ℕ, arith, rules, lit≤, TileSide}
 use mathlib.Core.Logic.{⊎_elim}
 use Rattle.align_residual.specs.SixteenLaws.{low-less}
 use Rattle.align_search.specs.VectorLaws.{within_more, plus-within}

@@ -1,5 +1,6 @@
 -- The window starts 4 rows and columns before the tile moved by the guess.
-use Rattle.align_tile.specs.Prelude.{◌≡◌, ap, ◌∙◌, ◌^◌, arith, rules, lit≤, negsuc, ◌plus◌, Within}
+use Rattle.std.specs.Prelude.{◌≡◌, ◌^◌}
+use Rattle.align_tile.specs.Prelude.{ap, ◌∙◌, arith, rules, lit≤, negsuc, ◌plus◌, Within}
 use Rattle.align_search.specs.VectorLaws.{within_more, plus-within}
 use Rattle.align_tile.specs.Stored.{pair_in}
 use Rattle.align_tile.proofs.copy_window as of

@@ -1,5 +1,6 @@
 -- The square lies within the window.
-use Rattle.align_tile.specs.Prelude.{ℕ, ◌+◌, ◌-◌, ◌*◌, ◌≤◌, arith, rules, lit≤, TileSide}
+use Rattle.std.specs.Prelude.{◌+◌, ◌-◌, ◌*◌, ◌≤◌}
+use Rattle.align_tile.specs.Prelude.{ℕ, arith, rules, lit≤, TileSide}
 use mathlib.Core.Logic.{⊎_elim}
 use Rattle.align_residual.specs.SixteenLaws.{low-less}
 use Rattle.align_tile.proofs.middle_sum as of

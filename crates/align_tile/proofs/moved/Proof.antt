@@ -1,5 +1,6 @@
 -- The sum of the guess and the offset.
-use Rattle.align_tile.specs.Prelude.{refl, ap, ◌∙◌, ◌^◌, rules, lit≤, ◌plus◌}
+use Rattle.std.specs.Prelude.{◌^◌}
+use Rattle.align_tile.specs.Prelude.{refl, ap, ◌∙◌, rules, lit≤, ◌plus◌}
 use Rattle.align_search.specs.VectorLaws.{within_more}
 use Rattle.align_tile.proofs.moved as of
 

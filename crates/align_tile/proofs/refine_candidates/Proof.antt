@@ -1,5 +1,6 @@
 -- The residual in the middle of the window is the own candidate's; the window is searched where that one is the guess.
-use Rattle.align_tile.specs.Prelude.{◌≡◌, refl, sym, ap, subst, ◌∙◌, false, ◌*◌, arith, rules, length, Within, residual}
+use Rattle.std.specs.Prelude.{◌≡◌, ◌*◌}
+use Rattle.align_tile.specs.Prelude.{refl, sym, ap, subst, ◌∙◌, false, arith, rules, length, Within, residual}
 use Rattle.align_search.specs.SearchLaws.{guess-within}
 use Rattle.align_tile.specs.Stored.{pair_in, refined, guessed_in}
 use Rattle.align_tile.specs.StoredLaws.{window_low, guess-residual, guess-is, search-answer, searched-few}

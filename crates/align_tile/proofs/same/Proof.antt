@@ -1,5 +1,6 @@
 -- Small parts of equal bits are equal.
-use Rattle.algebra.specs.Prelude.{◌≡◌, sym, ap, ap₂, subst, ◌∙◌, ◌≤◌, T, ℤ, nat_abs, w64, to_z, of_z}
+use Rattle.std.specs.Prelude.{◌≡◌, ◌≤◌}
+use Rattle.algebra.specs.Prelude.{sym, ap, ap₂, subst, ◌∙◌, T, ℤ, nat_abs, w64, to_z, of_z}
 use borrow.Author.Tests.{eqb-true}
 use Rattle.algebra.specs.Back.{back-small}
 use Rattle.align_tile.proofs.same as of

@@ -1,5 +1,6 @@
 -- The side is one of two.
-use Rattle.align_tile.specs.Prelude.{◌≡◌, subst, rules, ◌+◌, ◌-◌, ◌*◌, Compared}
+use Rattle.std.specs.Prelude.{◌≡◌, ◌+◌, ◌-◌, ◌*◌}
+use Rattle.align_tile.specs.Prelude.{subst, rules, Compared}
 use mathlib.Core.Logic.{⊎_elim}
 use Rattle.align_tile.proofs.square_sum as of
 

@@ -1,5 +1,6 @@
 -- The words in a buffer of their own, then in the lent one where that has room.
-use Rattle.algebra.specs.Prelude.{◌≡◌, ap, ◌∙◌, arith, rules, length, take}
+use Rattle.std.specs.Prelude.{◌≡◌}
+use Rattle.algebra.specs.Prelude.{ap, ◌∙◌, arith, rules, length, take}
 use borrow.Author.Tests.{le-leb, lt-leb}
 use Rattle.c_words.specs.Words.{words_of, padded}
 use Rattle.c_words.specs.WordLaws.{starts}

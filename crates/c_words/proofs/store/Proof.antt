@@ -1,5 +1,6 @@
 -- After i stores the first i bytes are the text's, or 0.
-use Rattle.algebra.specs.Prelude.{refl, arith, rules, ◌-◌, length, get_or}
+use Rattle.std.specs.Prelude.{◌-◌}
+use Rattle.algebra.specs.Prelude.{refl, arith, rules, length, get_or}
 use Rattle.sequences.specs.TabLaws.{Filled, fill_start, fill-turn, fill_done}
 use Rattle.c_words.specs.Words.{padded}
 use Rattle.c_words.proofs.store as of

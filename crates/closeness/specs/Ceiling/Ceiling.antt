@@ -1,9 +1,9 @@
 -- The ceiling of request L11, for any side whose tables and scales fit together.
-use Rattle.algebra.specs.Prelude.{◌≡◌, refl, ap, [], ◌∷◌, ℕ, zero, suc, ◌+◌, ◌-◌, ◌*◌, ◌%◌, ◌≤◌, ◌<◌, arith, lit<, ℤ, pos, nat_abs, ◌+ℤ◌, ◌-ℤ◌, ◌*ℤ◌}
+use Rattle.algebra.specs.Prelude.{refl, ap, [], ℕ, zero, suc, arith, lit<, ℤ, pos, nat_abs}
 use Rattle.std.proofs.Common.{le_trans, mod-lt, mul-pos, mul-le-mul_right}
 use Rattle.std.proofs.Math.Nat.{mul-le-mul_left, div-mul-le_self, le_of_mul-le-mul_left, lt_of_mul-lt-mul_left}
 use Rattle.std.proofs.Math.Decide.{dec_le}
-use Rattle.std.specs.Prelude.{◌≤ℤ◌}
+use Rattle.std.specs.Prelude.{◌≤ℤ◌, ◌≡◌, ◌∷◌, ◌+◌, ◌-◌, ◌*◌, ◌%◌, ◌≤◌, ◌<◌, ◌+ℤ◌, ◌-ℤ◌, ◌*ℤ◌}
 use Rattle.algebra.specs.Vars.{vars5}
 use Rattle.algebra.specs.Ring.{Expr, ◌⊞◌, ◌⊟◌, ◌⊠◌}
 use Rattle.algebra.specs.Order.{0≤pos, abs-mul}

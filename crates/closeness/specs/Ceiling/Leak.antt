@@ -1,6 +1,6 @@
 -- Request L11, "How far a ghost can go": how far a merged sample leaves the reference sample, and the noise number that it goes by.
-use Rattle.algebra.specs.Prelude.{ℕ, ◌-◌, ◌*◌, ◌/◌, ◌%◌, ◌≤◌, ℤ, nat_abs, ◌-ℤ◌}
-use Rattle.std.specs.Prelude.{max}
+use Rattle.algebra.specs.Prelude.{ℕ, ℤ, nat_abs}
+use Rattle.std.specs.Prelude.{max, ◌-◌, ◌*◌, ◌/◌, ◌%◌, ◌≤◌, ◌-ℤ◌}
 use Rattle.recipe.specs.Side.{Side}
 use Rattle.recipe.specs.Scene.{Scene, noise_over}
 

@@ -1,5 +1,6 @@
 -- Request L11 at a merged frame, over any side: "For every accepted burst, a merged sample differs from the reference sample by at most" the ceiling, where s is 0 (request L13).
-use Rattle.algebra.specs.Prelude.{◌≡◌, sym, ap, ap₂, subst, ◌∙◌, ℕ, suc, zero, ◌*◌, ◌/◌, ◌%◌, ◌≤◌, ◌<◌, arith, get_or, pos}
+use Rattle.std.specs.Prelude.{◌≡◌, ◌*◌, ◌/◌, ◌%◌, ◌≤◌, ◌<◌}
+use Rattle.algebra.specs.Prelude.{sym, ap, ap₂, subst, ◌∙◌, ℕ, suc, zero, arith, get_or, pos}
 use Rattle.std.proofs.Common.{mod-lt, mul_comm, zero-mul, div-lt_iff_lt-mul}
 use Rattle.sequences.specs.TabLaws.{get_d-tab}
 use Rattle.geometry.specs.Read.{plane_of}

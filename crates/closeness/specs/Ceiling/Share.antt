@@ -1,10 +1,10 @@
 -- One bin's share of the inverse sum, t·g − u·h for the factor t + i·u. The Wiener map takes Q to a modulus of at most half the root of V,
 -- and rounding moves each part of G by at most 1/2.
-use Rattle.algebra.specs.Prelude.{◌≡◌, subst, [], ◌∷◌, ℕ, zero, suc, ◌+◌, ◌*◌, ◌≤◌, ◌<◌, arith, ℤ, pos, nat_abs, ◌+ℤ◌, ◌-ℤ◌, ◌*ℤ◌}
+use Rattle.algebra.specs.Prelude.{subst, [], ℕ, zero, suc, arith, ℤ, pos, nat_abs}
 use Rattle.std.proofs.Common.{le_refl, mul-le-mul_right}
 use Rattle.std.proofs.Math.Nat.{le_of_mul-le-mul_left}
 use Rattle.std.proofs.Math.IntN.{*ℤ-zero}
-use Rattle.std.specs.Prelude.{◌≤ℤ◌}
+use Rattle.std.specs.Prelude.{◌≤ℤ◌, ◌≡◌, ◌∷◌, ◌+◌, ◌*◌, ◌≤◌, ◌<◌, ◌+ℤ◌, ◌-ℤ◌, ◌*ℤ◌}
 use Rattle.std.specs.Int.Signed.{lt_z_yes}
 use Rattle.algebra.specs.Vars.{vars7, vars8}
 use Rattle.algebra.specs.Ring.{Expr, ◌⊞◌, ◌⊟◌, ◌⊠◌, #◌, nth, ring}

@@ -1,6 +1,6 @@
 -- The tables of either side lie in a circle, and the ceiling with its numbers.
-use Rattle.algebra.specs.Prelude.{ℕ, ◌-◌, ◌*◌, ◌≤◌, ◌<◌, T, lit≤, lit<, ℤ, pos, ◌+ℤ◌}
-use Rattle.std.specs.Prelude.{◌≤ℤ◌}
+use Rattle.algebra.specs.Prelude.{ℕ, T, lit≤, lit<, ℤ, pos}
+use Rattle.std.specs.Prelude.{◌≤ℤ◌, ◌-◌, ◌*◌, ◌≤◌, ◌<◌, ◌+ℤ◌}
 use Rattle.std.specs.Int.Signed.{le_z, le_z_yes}
 use Rattle.algebra.specs.Test.{all, all_sound}
 use Rattle.algebra.specs.Lipschitz.{sq}

@@ -1,5 +1,6 @@
 -- How much the transform can lengthen: Bessel's inequality for one line of complex numbers, and from it for a tile, forth and back.
-use Rattle.closeness.specs.Spatial.Prelude.{◌≡◌, sym, ap, ap₂, subst, [], ◌∷◌, ℕ, ◌*◌, ℤ, pos, neg_ℤ, ◌+ℤ◌, ◌-ℤ◌, ◌*ℤ◌, subst₂, ◌≤ℤ◌, vars4, vars5, var, ◌⊞◌, ◌⊟◌, ◌⊠◌, #◌, ring, zarith, 0≤pos, sq, sum_z, Side, cos_at, sin_at, row_re, row_im, bin_re, bin_im, inverse_re}
+use Rattle.std.specs.Prelude.{◌≡◌, ◌∷◌, ◌*◌, ◌+ℤ◌, ◌-ℤ◌, ◌*ℤ◌, ◌≤ℤ◌}
+use Rattle.closeness.specs.Spatial.Prelude.{sym, ap, ap₂, subst, [], ℕ, ℤ, pos, neg_ℤ, subst₂, vars4, vars5, var, ◌⊞◌, ◌⊟◌, ◌⊠◌, #◌, ring, zarith, 0≤pos, sq, sum_z, Side, cos_at, sin_at, row_re, row_im, bin_re, bin_im, inverse_re}
 use Rattle.algebra.specs.Cert.{nn, le, sqr, ◌⊕◌, ◌⊗◌, by_le}
 use Rattle.algebra.specs.SumLaws.{sum_z-cong, sum_z-scale, sum_z-exchange}
 use Rattle.algebra.specs.SumOrder.{sum_z-mono}

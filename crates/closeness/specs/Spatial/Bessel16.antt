@@ -1,5 +1,6 @@
 -- Bessel's inequality for side 16: 4295154752 times the squares of the numbers, less the squares of the sums, is a sum of squares, by one computed identity of polynomials.
-use Rattle.closeness.specs.Spatial.Prelude.{List, [], ◌∷◌, ℕ, ◌+◌, ◌*◌, ℤ, neg_ℤ, sum_z, Expr, var, con, ◌⊞◌, ◌⊟◌, ◌⊠◌, #◌, cos_at, sin_at, cosines, cosine16, sine16, side16}
+use Rattle.std.specs.Prelude.{◌∷◌, ◌+◌, ◌*◌}
+use Rattle.closeness.specs.Spatial.Prelude.{List, [], ℕ, ℤ, neg_ℤ, sum_z, Expr, var, con, ◌⊞◌, ◌⊟◌, ◌⊠◌, #◌, cos_at, sin_at, cosines, cosine16, sine16, side16}
 use Rattle.algebra.specs.Forms.{sum_e}
 use Rattle.algebra.specs.Cert.{num, Cert, sqr, ◌⊕◌, ◌⊗◌, by_le}
 use Rattle.closeness.specs.Spatial.Bessel.{Bessel, Gain}

@@ -1,5 +1,6 @@
 -- The filtered sample is close to the exact filtered merge's, for any side whose tables and scales fit together.
-use Rattle.closeness.specs.Spatial.Prelude.{◌≡◌, sym, ◌∙◌, ap, ap₂, subst, [], ◌∷◌, ℕ, suc, ◌+◌, ◌*◌, ◌/◌, ◌%◌, ◌≤◌, ◌<◌, arith, lit<, ℤ, pos, nat_abs, ◌+ℤ◌, ◌-ℤ◌, ◌*ℤ◌, subst₂, ◌≤ℤ◌, vars4, vars8, var, ◌⊞◌, ◌⊟◌, ◌⊠◌, #◌, ring, 0≤pos, Frac, whole, Within, sq, Side, bin_re, bin_im, inverse_re, inverse_at, exact_wiener, exact_inverse_at, FilteredTile, merged_sum, copy_at, copy_quantized, copy_filtered, spatial_at, taken_at, filtered_sample, exact_bin_re, exact_bin_im, exact_sum, exact_merged_at, exact_spatial_at, exact_taken_at, exact_filtered_sample}
+use Rattle.std.specs.Prelude.{◌≡◌, ◌∷◌, ◌+◌, ◌*◌, ◌/◌, ◌%◌, ◌≤◌, ◌<◌, ◌+ℤ◌, ◌-ℤ◌, ◌*ℤ◌, ◌≤ℤ◌}
+use Rattle.closeness.specs.Spatial.Prelude.{sym, ◌∙◌, ap, ap₂, subst, [], ℕ, suc, arith, lit<, ℤ, pos, nat_abs, subst₂, vars4, vars8, var, ◌⊞◌, ◌⊟◌, ◌⊠◌, #◌, ring, 0≤pos, Frac, whole, Within, sq, Side, bin_re, bin_im, inverse_re, inverse_at, exact_wiener, exact_inverse_at, FilteredTile, merged_sum, copy_at, copy_quantized, copy_filtered, spatial_at, taken_at, filtered_sample, exact_bin_re, exact_bin_im, exact_sum, exact_merged_at, exact_spatial_at, exact_taken_at, exact_filtered_sample}
 use Rattle.std.proofs.Math.Nat.{mul-pos}
 use Rattle.std.proofs.Common.{mul-le-mul_left, mul-le-mul_right}
 use Rattle.algebra.specs.Cert.{num, nn, le, sqr, ◌⊕◌, ◌⊗◌, by_le, by-le-times, le-pos}

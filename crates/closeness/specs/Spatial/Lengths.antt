@@ -1,5 +1,6 @@
 -- The length of a tile of numbers, the root of the sum of their squares, as a bound e/d; lengths add up.
-use Rattle.closeness.specs.Spatial.Prelude.{◌≡◌, ◌∙◌, ap₂, subst, [], ◌∷◌, ℕ, zero, suc, ◌+◌, ◌*◌, ◌≤◌, ◌<◌, arith, ℤ, pos, nat_abs, ◌+ℤ◌, ◌-ℤ◌, ◌*ℤ◌, subst₂, ◌≤ℤ◌, vars3, vars4, vars5, vars6, var, ◌⊞◌, ◌⊟◌, ◌⊠◌, #◌, ring, sq, sum_z}
+use Rattle.std.specs.Prelude.{◌≡◌, ◌∷◌, ◌+◌, ◌*◌, ◌≤◌, ◌<◌, ◌+ℤ◌, ◌-ℤ◌, ◌*ℤ◌, ◌≤ℤ◌}
+use Rattle.closeness.specs.Spatial.Prelude.{◌∙◌, ap₂, subst, [], ℕ, zero, suc, arith, ℤ, pos, nat_abs, subst₂, vars3, vars4, vars5, vars6, var, ◌⊞◌, ◌⊟◌, ◌⊠◌, #◌, ring, sq, sum_z}
 use Rattle.std.proofs.Common.{le_refl, mul-pos}
 use Rattle.algebra.specs.Order.{abs-of-sq, 0≤pos, 0≤sq}
 use Rattle.algebra.specs.Cert.{nn, le, sqr, ◌⊕◌, ◌⊗◌, by_le, by-le-times}

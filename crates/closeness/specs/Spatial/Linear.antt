@@ -1,5 +1,6 @@
 -- The two-way transform and its inverse are linear.
-use Rattle.closeness.specs.Spatial.Prelude.{◌≡◌, ◌∙◌, ap₂, [], ◌∷◌, ℕ, ◌*◌, ℤ, neg_ℤ, ◌+ℤ◌, ◌-ℤ◌, ◌*ℤ◌, vars5, vars8, ◌⊞◌, ◌⊟◌, ◌⊠◌, ring, sum_z, Side, cos_at, sin_at, row_re, row_im, bin_re, bin_im, twiddle_re, twiddle_im, inverse_re}
+use Rattle.std.specs.Prelude.{◌≡◌, ◌∷◌, ◌*◌, ◌+ℤ◌, ◌-ℤ◌, ◌*ℤ◌}
+use Rattle.closeness.specs.Spatial.Prelude.{◌∙◌, ap₂, [], ℕ, ℤ, neg_ℤ, vars5, vars8, ◌⊞◌, ◌⊟◌, ◌⊠◌, ring, sum_z, Side, cos_at, sin_at, row_re, row_im, bin_re, bin_im, twiddle_re, twiddle_im, inverse_re}
 use Rattle.algebra.specs.SumLaws.{sum_z-cong, sum_z-scale, sum_z-sub}
 
 pub sum-linear : (n : ℕ) (k l : ℤ) (e f g : ℕ → ℤ) → ((i : ℕ) → e i ≡ k *ℤ f i -ℤ l *ℤ g i) → sum_z n e ≡ k *ℤ sum_z n f -ℤ l *ℤ sum_z n g

@@ -1,6 +1,7 @@
 -- The copy against the exact merged tile: how long the tile of their differences is.
 -- Each bin of each correction is off by at most 3/2 sixteenths in each part, P and the copy are off by a half each: lengths of these add up, and the inverse keeps the bins'.
-use Rattle.closeness.specs.Spatial.Prelude.{◌≡◌, ◌∙◌, ap, subst, [], ◌∷◌, ℕ, suc, ◌+◌, ◌*◌, ◌≤◌, ◌<◌, arith, lit<, ℤ, pos, nat_abs, ◌+ℤ◌, ◌-ℤ◌, ◌*ℤ◌, ◌≤ℤ◌, vars4, vars6, vars7, ◌⊞◌, ◌⊟◌, ◌⊠◌, ⊖◌, #◌, ring, Frac, sq, sum_z, Side, bin_re, bin_im, filtered, inverse_re, inverse_at, correction_at, exact_filtered, exact_inverse_at, exact_correction_at, Fitting, FilteredTile, merged_sum, copy_at, exact_sum, exact_merged_at}
+use Rattle.std.specs.Prelude.{◌≡◌, ◌∷◌, ◌+◌, ◌*◌, ◌≤◌, ◌<◌, ◌+ℤ◌, ◌-ℤ◌, ◌*ℤ◌, ◌≤ℤ◌}
+use Rattle.closeness.specs.Spatial.Prelude.{◌∙◌, ap, subst, [], ℕ, suc, arith, lit<, ℤ, pos, nat_abs, vars4, vars6, vars7, ◌⊞◌, ◌⊟◌, ◌⊠◌, ⊖◌, #◌, ring, Frac, sq, sum_z, Side, bin_re, bin_im, filtered, inverse_re, inverse_at, correction_at, exact_filtered, exact_inverse_at, exact_correction_at, Fitting, FilteredTile, merged_sum, copy_at, exact_sum, exact_merged_at}
 use Rattle.std.proofs.Common.{mul-pos}
 use Rattle.algebra.specs.Order.{abs-upper, abs-lower}
 use Rattle.algebra.specs.Cert.{num, le, sqr, ◌⊕◌, ◌⊗◌, by_le}

@@ -1,6 +1,7 @@
 -- At s = 0 each word of the merged frame lies close to the exact merge's sample at its place: within five eighths for side 16 (demand 3), within one step for
 -- side 32 (request L8). For side 16 it lies at any s within two steps of the exact filtered merge's (request L13), in fact within nine tenths.
-use Rattle.closeness.specs.Spatial.Prelude.{◌≡◌, sym, ap, subst, ◌∙◌, ℕ, ◌*◌, ◌/◌, ◌%◌, ◌≤◌, ◌<◌, arith, get_or, ℤ, pos, nat_abs, whole, Within, Side, side16, FilteredTile, filtered_sample, exact_sample, exact_filtered_sample}
+use Rattle.std.specs.Prelude.{◌≡◌, ◌*◌, ◌/◌, ◌%◌, ◌≤◌, ◌<◌}
+use Rattle.closeness.specs.Spatial.Prelude.{sym, ap, subst, ◌∙◌, ℕ, arith, get_or, ℤ, pos, nat_abs, whole, Within, Side, side16, FilteredTile, filtered_sample, exact_sample, exact_filtered_sample}
 use Rattle.algebra.specs.Order.{abs-nonneg, zarith}
 use Rattle.algebra.specs.ClampLaws.{clamp-low}
 use Rattle.sequences.specs.TabLaws.{get_d-tab}

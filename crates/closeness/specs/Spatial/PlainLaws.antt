@@ -1,5 +1,6 @@
 -- "With s = 0 the plain merge comes out": the merged sample is document 01's, from the noise numbers and the differences of the four tiles.
-use Rattle.algebra.specs.Prelude.{◌≡◌, ap, ◌∙◌, ℕ, suc, ◌/◌, ◌%◌, pos}
+use Rattle.std.specs.Prelude.{◌≡◌, ◌/◌, ◌%◌}
+use Rattle.algebra.specs.Prelude.{ap, ◌∙◌, ℕ, suc, pos}
 use Rattle.geometry.specs.Read.{plane_of}
 use Rattle.recipe.specs.Scene.{Scene, reference_root, tile_spatial, tile_here, noise_over, difference_over, tiles_over, tile_over}
 use Rattle.recipe.specs.SpatialNoise.{spatial_number}

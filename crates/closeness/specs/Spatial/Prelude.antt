@@ -1,6 +1,6 @@
 -- The words of other crates that this crate's files share. Lemmas are not passed on: of those the `use` line says where they are.
-pub use Rattle.algebra.specs.Prelude.{List, ℕ, ℤ, [], ap, ap₂, arith, get_or, lit<, lit≤, nat_abs, neg_ℤ, pos, refl, subst, suc, sym, zero, ◌%◌, ◌*◌, ◌*ℤ◌, ◌+◌, ◌+ℤ◌, ◌-ℤ◌, ◌/◌, ◌<◌, ◌∙◌, ◌∷◌, ◌≡◌, ◌≤◌}
-pub use Rattle.std.specs.Prelude.{◌≤ℤ◌}
+pub use Rattle.algebra.specs.Prelude.{List, ℕ, ℤ, [], ap, ap₂, arith, get_or, lit<, lit≤, nat_abs, neg_ℤ, pos, refl, subst, suc, sym, zero, ◌∙◌}
+pub use Rattle.std.specs.Prelude.{◌≤ℤ◌, ◌%◌, ◌*◌, ◌*ℤ◌, ◌+◌, ◌+ℤ◌, ◌-ℤ◌, ◌/◌, ◌<◌, ◌∷◌, ◌≡◌, ◌≤◌}
 pub use Rattle.std.proofs.Common.{subst₂}
 pub use Rattle.algebra.specs.Fraction.{Frac, Within}
 unfoldable pub use Rattle.algebra.specs.Fraction.{whole}

@@ -1,5 +1,6 @@
 -- Request L13 for side 16: a filtered sample lies within two steps of the exact filtered merge's, in fact within nine tenths.
-use Rattle.closeness.specs.Spatial.Prelude.{refl, ℕ, suc, ◌+◌, ◌*◌, ◌≤◌, ◌<◌, arith, lit<, lit≤, ℤ, whole, Within, side16, tile_error, FilteredTile, filtered_sample, exact_filtered_sample}
+use Rattle.std.specs.Prelude.{◌+◌, ◌*◌, ◌≤◌, ◌<◌}
+use Rattle.closeness.specs.Spatial.Prelude.{refl, ℕ, suc, arith, lit<, lit≤, ℤ, whole, Within, side16, tile_error, FilteredTile, filtered_sample, exact_filtered_sample}
 use Rattle.closeness.specs.Side16.{fitting16}
 use Rattle.closeness.specs.Spatial.Bessel16.{gain16}
 use Rattle.closeness.specs.Spatial.Closeness.{Figures, spatial_error, filtered-within}

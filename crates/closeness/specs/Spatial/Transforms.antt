@@ -1,5 +1,6 @@
 -- The exact transform and its inverse, of fractions that are whole numbers over one denominator.
-use Rattle.closeness.specs.Spatial.Prelude.{ℕ, ◌*◌, ◌<◌, ℤ, pos, neg_ℤ, Frac, Side, cos_at, sin_at, row_re, row_im, bin_re, bin_im, twiddle_re, twiddle_im, inverse_re, exact_inverse_re, exact_row_re, exact_row_im, exact_bin_re, exact_bin_im}
+use Rattle.std.specs.Prelude.{◌*◌, ◌<◌}
+use Rattle.closeness.specs.Spatial.Prelude.{ℕ, ℤ, pos, neg_ℤ, Frac, Side, cos_at, sin_at, row_re, row_im, bin_re, bin_im, twiddle_re, twiddle_im, inverse_re, exact_inverse_re, exact_row_re, exact_row_im, exact_bin_re, exact_bin_im}
 use Rattle.algebra.specs.FractionLaws.{Near, near_add, near_sub, near-over}
 use Rattle.algebra.specs.Numerators.{same_scale, same-scaled, same_sum}
 

@@ -1,8 +1,8 @@
 -- One bin of the copy. With C a common denominator of the exact corrections: twice the square of the error of C·G is at most C²·(12 + 3·(the bin's error)²), the error counted in sixteenths.
 -- Rounding the bin and rounding G are each at most 1/√2, and |a + b + c|² ≤ 6·|a|² + 6·|b|² + 3/2·|c|².
-use Rattle.closeness.specs.Spatial.Prelude.{◌≡◌, sym, ◌∙◌, subst, [], ◌∷◌, ℕ, zero, suc, ◌*◌, ◌<◌, arith, ℤ, pos, ◌+ℤ◌, ◌-ℤ◌, ◌*ℤ◌, subst₂, vars3, vars7, vars8, vars10, Expr, var, ◌⊞◌, ◌⊟◌, ◌⊠◌, ⊖◌, #◌, ring, Frac, whole, sq, Side, power, wiener, exact_wiener}
+use Rattle.closeness.specs.Spatial.Prelude.{sym, ◌∙◌, subst, [], ℕ, zero, suc, arith, ℤ, pos, subst₂, vars3, vars7, vars8, vars10, Expr, var, ◌⊞◌, ◌⊟◌, ◌⊠◌, ⊖◌, #◌, ring, Frac, whole, sq, Side, power, wiener, exact_wiener}
 use Rattle.std.proofs.Common.{mul-pos}
-use Rattle.std.specs.Prelude.{◌≤ℤ◌, ◌<ℤ◌}
+use Rattle.std.specs.Prelude.{◌≤ℤ◌, ◌<ℤ◌, ◌≡◌, ◌∷◌, ◌*◌, ◌<◌, ◌+ℤ◌, ◌-ℤ◌, ◌*ℤ◌}
 use Rattle.std.specs.Int.Signed.{lt_z_yes}
 use Rattle.algebra.specs.Order.{0≤pos, ≤ℤ-antisym}
 use Rattle.algebra.specs.Cert.{num, le, eq, sqr, ◌⊕◌, ◌⊗◌, by_le, by-le-times}

@@ -1,5 +1,6 @@
 -- How a file begins, byte by byte.
-use Rattle.file_burst.specs.Head.Prelude.{◌≡◌, true, false, List, ℕ, ◌+◌, ◌<◌, ◌≤◌}
+use Rattle.std.specs.Prelude.{◌≡◌, ◌+◌, ◌<◌, ◌≤◌}
+use Rattle.file_burst.specs.Head.Prelude.{true, false, List, ℕ}
 use lib.ListN.{length, get_or, drop, drop_of_length-le}
 use borrow.Author.Tests.{eq-eqb, ne_eqb}
 use Rattle.file_burst.specs.Lines.ScanLaws.{step}

@@ -1,5 +1,6 @@
 -- The definitions on bytes at the bytes of a list from a position on: what the byte there decides.
-use Rattle.file_burst.specs.Lines.Prelude.{◌≡◌, true, false, List, ℕ, ◌+◌, ◌*◌, ◌^◌, ◌<◌, ◌≤◌, arith}
+use Rattle.std.specs.Prelude.{◌≡◌, ◌+◌, ◌*◌, ◌^◌, ◌<◌, ◌≤◌}
+use Rattle.file_burst.specs.Lines.Prelude.{true, false, List, ℕ, arith}
 use native.Mathlib.Numerals.{add-one}
 use native.Mathlib.Nat.{pow-succ'}
 use lib.ListN.{length, get_or, drop, drop_of_length-le}

@@ -1,5 +1,6 @@
 -- The values of a line one by one, and a line's LF.
-use Rattle.file_burst.specs.Lines.Prelude.{◌≡◌, refl, ap, ◌∙◌, Bool, true, false, cond, ◌||◌, List, [], ◌∷◌, ℕ, zero, suc, ◌-◌, ◌<◌, ◌≤◌, arith, ltb, eqb, drop}
+use Rattle.std.specs.Prelude.{◌≡◌, ◌||◌, ◌∷◌, ◌-◌, ◌<◌, ◌≤◌}
+use Rattle.file_burst.specs.Lines.Prelude.{refl, ap, ◌∙◌, Bool, true, false, cond, List, [], ℕ, zero, suc, arith, ltb, eqb, drop}
 use native.Mathlib.Numerals.{sub-one}
 use Rattle.refusals.specs.Numbers as no
 use Rattle.file_burst.specs.Lines.Part.{Part, refused, found, unless, mapped}

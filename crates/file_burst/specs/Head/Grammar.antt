@@ -1,5 +1,6 @@
 -- The second line in the grammar of a burst file. No contract needs it.
-use Rattle.file_burst.specs.Head.Prelude.{List, [], ◌∷◌, ℕ}
+use Rattle.std.specs.Prelude.{◌∷◌}
+use Rattle.file_burst.specs.Head.Prelude.{List, [], ℕ}
 use Rattle.file_burst.specs.declared.head.Header.{Header}
 
 -- "those seven values (shot and read are Ls and Lr)", in the order of the names

@@ -1,6 +1,6 @@
 -- The first two lines: the names, and the seven values with their tests.
-use Rattle.file_burst.specs.Head.Prelude.{Bool, true, false, cond, not, List, [], ◌∷◌, ◌++◌, ℕ, length, get_or, drop, refuse, first, Part, refused, found, unless, ◌then◌, line_end, value_line}
-use Rattle.std.specs.Prelude.{eqb}
+use Rattle.file_burst.specs.Head.Prelude.{Bool, true, false, cond, not, List, [], ℕ, length, get_or, drop, refuse, first, Part, refused, found, unless, ◌then◌, line_end, value_line}
+use Rattle.std.specs.Prelude.{eqb, ◌∷◌, ◌++◌}
 use Rattle.refusals.specs.Numbers as no
 use Rattle.geometry.specs.Shape.{shaped, reference_refusal}
 use Rattle.admit_length.specs.Order.{shape_tests}

@@ -1,7 +1,7 @@
 -- The first two lines are read exactly where the grammar has them with values that pass their tests.
-use Rattle.file_burst.specs.Head.Prelude.{◌≡◌, refl, sym, ap, ap₂, ◌∙◌, Bool, true, false, false≢true, cond, not, List, [], ◌∷◌, ◌++◌, ℕ, ◌+◌, length, get_or, drop, first, found, has_lf, value_line}
+use Rattle.file_burst.specs.Head.Prelude.{refl, sym, ap, ap₂, ◌∙◌, Bool, true, false, false≢true, cond, not, List, [], ℕ, length, get_or, drop, first, found, has_lf, value_line}
 use Rattle.std.proofs.Common.{arith, eq-eqb, eqb-true, le-leb}
-use Rattle.std.specs.Prelude.{eqb}
+use Rattle.std.specs.Prelude.{eqb, ◌≡◌, ◌∷◌, ◌++◌, ◌+◌}
 use Rattle.std.proofs.lemmas.Bool.{not-false}
 use Rattle.sequences.specs.Tab.{tab}
 use Rattle.sequences.specs.Grid.{tab-of}

@@ -1,5 +1,6 @@
 -- How a burst file begins.
-use Rattle.file_burst.specs.Head.Prelude.{List, [], ◌∷◌, ℕ}
+use Rattle.std.specs.Prelude.{◌∷◌}
+use Rattle.file_burst.specs.Head.Prelude.{List, [], ℕ}
 
 -- "A line of names, `width height count reference shot read strength`", with its LF
 abbrev pub names : List ℕ

@@ -1,6 +1,7 @@
 -- The grammar of a line of values: which bytes are a line with which values, whatever the order of reading. No contract needs it: `line-sound` and
 -- `line-complete` (LineLaws) say of what the contracts read that it is this.
-use Rattle.file_burst.specs.Lines.Prelude.{◌≡◌, List, [], ◌∷◌, ◌++◌, ℕ, ◌-◌, ◌+◌, ◌*◌, ◌≤◌, length}
+use Rattle.std.specs.Prelude.{◌≡◌, ◌∷◌, ◌++◌, ◌-◌, ◌+◌, ◌*◌, ◌≤◌}
+use Rattle.file_burst.specs.Lines.Prelude.{List, [], ℕ, length}
 
 -- decimal digits: the bytes `0` to `9`
 pub data Digits : List ℕ → Type 0 where

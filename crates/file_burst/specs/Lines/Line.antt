@@ -1,5 +1,6 @@
 -- A line of values, read off the front of the bytes.
-use Rattle.file_burst.specs.Lines.Prelude.{Bool, true, false, cond, not, ◌||◌, List, [], ◌∷◌, ℕ, zero, suc, ◌+◌, ◌-◌, ◌*◌, ltb, eqb}
+use Rattle.std.specs.Prelude.{◌||◌, ◌∷◌, ◌+◌, ◌-◌, ◌*◌}
+use Rattle.file_burst.specs.Lines.Prelude.{Bool, true, false, cond, not, List, [], ℕ, zero, suc, ltb, eqb}
 use Rattle.refusals.specs.Numbers as no
 use Rattle.refusals.specs.Tests.{refuse}
 use Rattle.file_burst.specs.Lines.Part.{Part, refused, found, unless, mapped}

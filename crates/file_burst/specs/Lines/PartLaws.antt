@@ -1,5 +1,6 @@
 -- What holds of a part wherever it is found. A refusal's number is never 0.
-use Rattle.file_burst.specs.Lines.Prelude.{◌≡◌, refl, sym, ap, subst, List, ℕ, zero, suc, arith}
+use Rattle.std.specs.Prelude.{◌≡◌}
+use Rattle.file_burst.specs.Lines.Prelude.{refl, sym, ap, subst, List, ℕ, zero, suc, arith}
 use Rattle.file_burst.specs.Lines.Part.{Part, refused, found, unless, number_of, ◌then◌, mapped}
 
 abbrev pub Sound : {A : Type 0} → (A → List ℕ → Type 0) → Part A → Type 0

@@ -1,6 +1,7 @@
 -- Inner vocabulary, which no public contract reaches: the answers of the functions that scan the bytes of a file, which hold positions, as what stands at
 -- those positions.
-use Rattle.file_burst.specs.Lines.Prelude.{Bool, cond, ◌||◌, List, [], ◌∷◌, ℕ, zero, suc, eqb, drop}
+use Rattle.std.specs.Prelude.{◌||◌, ◌∷◌}
+use Rattle.file_burst.specs.Lines.Prelude.{Bool, cond, List, [], ℕ, zero, suc, eqb, drop}
 use Rattle.refusals.specs.Numbers as no
 use Rattle.file_burst.specs.Lines.Line.{Item, last, more, bad, item_of, above}
 use Rattle.file_burst.specs.Lines.Part.{Part, refused, found, mapped}

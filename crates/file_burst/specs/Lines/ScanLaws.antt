@@ -1,6 +1,6 @@
 -- The byte at a position; the values of a line that is found are the next values.
-use Rattle.file_burst.specs.Lines.Prelude.{◌≡◌, refl, sym, ap, ◌∙◌, Bool, true, false, cond, ℕ, zero, suc, ◌+◌, ◌<◌, arith, eqb, length, get_or, drop}
-use Rattle.std.specs.Prelude.{List, [], ◌∷◌, ◌++◌}
+use Rattle.file_burst.specs.Lines.Prelude.{refl, sym, ap, ◌∙◌, Bool, true, false, cond, ℕ, zero, suc, arith, eqb, length, get_or, drop}
+use Rattle.std.specs.Prelude.{List, [], ◌∷◌, ◌++◌, ◌≡◌, ◌+◌, ◌<◌}
 use Rattle.std.proofs.Common.{append-nil, add-zero, add-one, drop-cons, eqb-true}
 use Rattle.refusals.specs.Numbers as no
 use Rattle.file_burst.specs.Lines.Part.{Part, refused, found}

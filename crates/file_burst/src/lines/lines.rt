@@ -1,5 +1,6 @@
 // A line of values at a position of the file.
-ghost use Rattle.file_burst.specs.Lines.Prelude.{◌≡◌, false, ◌||◌, ltb, drop};
+ghost use Rattle.std.specs.Prelude.{◌≡◌, ◌||◌};
+ghost use Rattle.file_burst.specs.Lines.Prelude.{false, ltb, drop};
 ghost use Rattle.file_burst.specs.Lines.Line.{values_of, value_line};
 ghost use Rattle.file_burst.specs.Lines.Scan.{line_in, malformed_line, ended_line, judged};
 

@@ -1,5 +1,6 @@
 // One value, the spaces after it, and the end of a line, each at a position of the file.
-ghost use Rattle.file_burst.specs.Lines.Prelude.{◌≡◌, ◌≤◌, drop};
+ghost use Rattle.std.specs.Prelude.{◌≡◌, ◌≤◌};
+ghost use Rattle.file_burst.specs.Lines.Prelude.{drop};
 ghost use Rattle.file_burst.specs.Lines.Line.{digit_of, past_spaces, item_of, has_lf};
 ghost use Rattle.file_burst.specs.Lines.Scan.{item_in, value_in, rest_in};
 

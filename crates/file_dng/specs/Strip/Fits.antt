@@ -1,5 +1,6 @@
 -- What is known of a burst once tests have let it through. Inner vocabulary: `requires` and laws speak of it, no answer does.
-use Rattle.algebra.specs.Prelude.{◌≡◌, ℕ, ◌<◌}
+use Rattle.std.specs.Prelude.{◌≡◌, ◌<◌}
+use Rattle.algebra.specs.Prelude.{ℕ}
 use Rattle.geometry.specs.declared.Shape.{Shape}
 use Rattle.geometry.specs.Shape.{sample_length}
 use Rattle.geometry.specs.Fits.{Allowed}

@@ -1,5 +1,6 @@
 -- The rows of a frame: each lies in the lent samples, and they are stored one by one.
-use Rattle.algebra.specs.Prelude.{◌≡◌, refl, sym, ap, ◌∙◌, List, ℕ, zero, suc, ◌+◌, ◌-◌, ◌*◌, ◌≤◌, ◌<◌, arith, length, get_or}
+use Rattle.std.specs.Prelude.{◌≡◌, ◌+◌, ◌-◌, ◌*◌, ◌≤◌, ◌<◌}
+use Rattle.algebra.specs.Prelude.{refl, sym, ap, ◌∙◌, List, ℕ, zero, suc, arith, length, get_or}
 use Rattle.std.proofs.Common.{mul_comm, add-one}
 use Rattle.sequences.specs.Place.{row_room}
 use Rattle.sequences.specs.Write.{written, written-before, written_after, written-length}

@@ -1,5 +1,6 @@
 -- The samples of a DNG file's strip: the test of them, and where a frame of the lent burst takes them.
-use Rattle.algebra.specs.Prelude.{List, ℕ, zero, suc, ◌+◌, ◌*◌, ltb}
+use Rattle.std.specs.Prelude.{◌+◌, ◌*◌}
+use Rattle.algebra.specs.Prelude.{List, ℕ, zero, suc, ltb}
 use Rattle.refusals.specs.Numbers as no
 use Rattle.refusals.specs.Tests.{refuse}
 use Rattle.refusals.specs.Some.{some}

@@ -1,5 +1,6 @@
 -- A sample of the strip and its two bytes, and the strip's samples 64 at a time.
-use Rattle.algebra.specs.Prelude.{◌≡◌, refl, sym, ap, ◌∙◌, Bool, true, false, List, ℕ, zero, suc, ◌+◌, ◌*◌, ◌/◌, ◌%◌, ◌≤◌, ◌<◌, arith, ltb, get_or}
+use Rattle.std.specs.Prelude.{◌≡◌, ◌+◌, ◌*◌, ◌/◌, ◌%◌, ◌≤◌, ◌<◌}
+use Rattle.algebra.specs.Prelude.{refl, sym, ap, ◌∙◌, Bool, true, false, List, ℕ, zero, suc, arith, ltb, get_or}
 use Rattle.std.proofs.Common.{mul_assoc}
 use Rattle.std.proofs.Math.Nat.{mul-mod_left}
 use Rattle.refusals.specs.Some.{some}

@@ -1,5 +1,6 @@
 -- The first of some numbers that is not 0, as a loop finds it; and that 20 and 21 always name a tag.
-use Rattle.file_dng.specs.Tags.Prelude.{◌≡◌, refl, sym, ap, ◌∙◌, Bool, true, false, cond, List, [], ◌∷◌, ℕ, zero, suc, ◌+◌, ◌≤◌, ◌<◌, arith, eqb, refuse, ◌before◌, first, some, Shape, Entry}
+use Rattle.std.specs.Prelude.{◌≡◌, ◌∷◌, ◌+◌, ◌≤◌, ◌<◌}
+use Rattle.file_dng.specs.Tags.Prelude.{refl, sym, ap, ◌∙◌, Bool, true, false, cond, List, [], ℕ, zero, suc, arith, eqb, refuse, ◌before◌, first, some, Shape, Entry}
 use Rattle.std.proofs.lemmas.Bool.{false≢true, eqb-false}
 use Rattle.std.proofs.Common.{add-one}
 use Rattle.std.proofs.Math.Decide.{ℕ_discrete}

@@ -1,5 +1,6 @@
 -- Which tag is at fault beside 19, 20 and 21: that of the first demand, in the order of the tests, that the file does not meet. 0 stands for none.
-use Rattle.file_dng.specs.Tags.Prelude.{cond, ◌||◌, List, [], ◌∷◌, ℕ, zero, suc, eqb, refuse, ◌before◌, first, Shape, Entry, header_wrong, directory_outside}
+use Rattle.std.specs.Prelude.{◌||◌, ◌∷◌}
+use Rattle.file_dng.specs.Tags.Prelude.{cond, List, [], ℕ, zero, suc, eqb, refuse, ◌before◌, first, Shape, Entry, header_wrong, directory_outside}
 use Rattle.refusals.specs.Numbers as no
 use Rattle.file_dng.specs.Tags.Tags.{StripOffsets, StripByteCounts, tag_at, demand_at, listed, demanded}
 use Rattle.file_dng.specs.Tags.Refusals.{absent, value_outside, strip_outside, not_once, size_differs, demand_missed}

@@ -1,5 +1,6 @@
 -- What is known of a strip once tests have let it through. Inner vocabulary: laws speak of it, no answer does.
-use Rattle.file_dng.specs.Tags.Prelude.{List, ℕ, ◌+◌, ◌*◌, ◌≤◌, length, Shape, Entry}
+use Rattle.std.specs.Prelude.{◌+◌, ◌*◌, ◌≤◌}
+use Rattle.file_dng.specs.Tags.Prelude.{List, ℕ, length, Shape, Entry}
 use Rattle.file_dng.specs.Tags.Refusals.{strip_start}
 
 -- 19, 20 and 21: the samples of the strip stand in the file

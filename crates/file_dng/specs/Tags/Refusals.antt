@@ -1,5 +1,6 @@
 -- The tests of a file's structure, tags and values, in their order: 19, 20 and 21 (request L7), on its bytes and the entries of its directory.
-use Rattle.file_dng.specs.Tags.Prelude.{Bool, not, cond, false, ◌||◌, List, [], ◌∷◌, ℕ, ◌+◌, ◌*◌, ltb, eqb, length, refuse, some, Shape, Entry, header_wrong, directory_outside, times_of}
+use Rattle.std.specs.Prelude.{◌||◌, ◌∷◌, ◌+◌, ◌*◌}
+use Rattle.file_dng.specs.Tags.Prelude.{Bool, not, cond, false, List, [], ℕ, ltb, eqb, length, refuse, some, Shape, Entry, header_wrong, directory_outside, times_of}
 use Rattle.refusals.specs.Numbers as no
 use Rattle.file_dng.specs.Tiff.Fields.{first_field, field_outside, value_at}
 use Rattle.file_dng.specs.Tags.Tags.{ImageWidth, ImageLength, StripOffsets, StripByteCounts, tag_at, demand_at, listed, demanded}

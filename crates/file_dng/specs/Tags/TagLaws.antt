@@ -1,5 +1,6 @@
 -- What the tests of the tags say, one by one and together.
-use Rattle.file_dng.specs.Tags.Prelude.{◌≡◌, refl, sym, ◌∙◌, Bool, true, false, not, cond, ◌||◌, List, ℕ, ◌+◌, ◌*◌, ◌/◌, ◌%◌, ◌≤◌, ◌<◌, arith, eqb, ltb, length, Shape, first, some, Entry, header_wrong, directory_outside}
+use Rattle.std.specs.Prelude.{◌≡◌, ◌||◌, ◌+◌, ◌*◌, ◌/◌, ◌%◌, ◌≤◌, ◌<◌}
+use Rattle.file_dng.specs.Tags.Prelude.{refl, sym, ◌∙◌, Bool, true, false, not, cond, List, ℕ, arith, eqb, ltb, length, Shape, first, some, Entry, header_wrong, directory_outside}
 use Rattle.std.proofs.Math.Decide.{ℕ_discrete}
 use borrow.Author.Tests.{eq-eqb, ne_eqb, eqb-true, eqb-false, ltb-false, not-false}
 use Rattle.refusals.specs.Numbers as no

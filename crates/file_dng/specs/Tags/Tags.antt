@@ -1,6 +1,7 @@
 -- "Needed: tags 256 to 259, 262, 273, 277, 279, 33421, 33422, 50717, 51041, and, where 50714 stands, that and 50713": the table of listed tags with
 -- their types and counts, and the values that are asked of them.
-use Rattle.file_dng.specs.Tags.Prelude.{Bool, not, cond, List, [], ◌∷◌, ℕ, eqb, get_or, Entry, times_of}
+use Rattle.std.specs.Prelude.{◌∷◌}
+use Rattle.file_dng.specs.Tags.Prelude.{Bool, not, cond, List, [], ℕ, eqb, get_or, Entry, times_of}
 use Rattle.file_dng.specs.declared.tiff.Wanted.{Wanted}
 use Rattle.file_dng.specs.declared.tags.Demand.{Demand}
 

@@ -1,6 +1,6 @@
 -- Tests joined by "or", as code decides them one by one.
-use Rattle.algebra.specs.Prelude.{◌≡◌, refl, sym, ◌∙◌, ℕ, suc, ◌≤◌, arith}
-use Rattle.std.specs.Prelude.{Bool, true, false, ◌||◌}
+use Rattle.algebra.specs.Prelude.{refl, sym, ◌∙◌, ℕ, suc, arith}
+use Rattle.std.specs.Prelude.{Bool, true, false, ◌||◌, ◌≡◌, ◌≤◌}
 use Rattle.std.proofs.lemmas.Bool.{false≢true}
 
 -- a number that is none of 0 .. n

@@ -1,5 +1,6 @@
 -- Numbers in the bytes of a file, "little-endian". A byte past the end counts as 0.
-use Rattle.algebra.specs.Prelude.{cond, List, ℕ, ◌+◌, ◌*◌, eqb, get_or}
+use Rattle.std.specs.Prelude.{◌+◌, ◌*◌}
+use Rattle.algebra.specs.Prelude.{cond, List, ℕ, eqb, get_or}
 
 -- a SHORT: two bytes, the low one first
 unfoldable pub short : List ℕ → (at : ℕ) → ℕ

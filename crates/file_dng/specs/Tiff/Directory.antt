@@ -1,5 +1,6 @@
 -- The header, "first image directory" (request L7), and its entries, as in TIFF 6.0's Image File Header and Image File Directory.
-use Rattle.algebra.specs.Prelude.{Bool, not, cond, ◌||◌, List, [], ◌∷◌, ℕ, zero, suc, ◌+◌, ◌*◌, eqb, ltb, length}
+use Rattle.std.specs.Prelude.{◌||◌, ◌∷◌, ◌+◌, ◌*◌}
+use Rattle.algebra.specs.Prelude.{Bool, not, cond, List, [], ℕ, zero, suc, eqb, ltb, length}
 use Rattle.file_dng.specs.declared.tiff.Entry.{Entry}
 use Rattle.file_dng.specs.Tiff.Bytes.{short, long}
 

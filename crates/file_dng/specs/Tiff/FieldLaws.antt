@@ -1,6 +1,6 @@
 -- Where the values of an entry stand, by the bytes that they take.
-use Rattle.algebra.specs.Prelude.{◌≡◌, refl, sym, ap, ◌∙◌, List, [], ◌∷◌, ℕ, ◌*◌, ◌≤◌, ◌<◌, arith, eqb}
-use Rattle.std.specs.Prelude.{Bool, cond, ◌&&◌, ◌||◌}
+use Rattle.algebra.specs.Prelude.{refl, sym, ap, ◌∙◌, List, [], ℕ, arith, eqb}
+use Rattle.std.specs.Prelude.{Bool, cond, ◌&&◌, ◌||◌, ◌≡◌, ◌∷◌, ◌*◌, ◌≤◌, ◌<◌}
 use Rattle.std.proofs.Math.Bool.{true, false}
 use Rattle.std.proofs.lemmas.Bool.{false≢true}
 use Rattle.std.proofs.Common.{mul-le-mul}

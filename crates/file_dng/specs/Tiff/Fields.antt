@@ -1,5 +1,6 @@
 -- The values of a tag: those of its first entry of right type and count.
-use Rattle.algebra.specs.Prelude.{Bool, cond, ◌&&◌, ◌||◌, List, [], ◌∷◌, ℕ, ◌+◌, ◌*◌, eqb, leb, ltb, length}
+use Rattle.std.specs.Prelude.{◌&&◌, ◌||◌, ◌∷◌, ◌+◌, ◌*◌}
+use Rattle.algebra.specs.Prelude.{Bool, cond, List, [], ℕ, eqb, leb, ltb, length}
 use Rattle.file_dng.specs.declared.tiff.Entry.{Entry}
 use Rattle.file_dng.specs.declared.tiff.Field.{Field}
 use Rattle.file_dng.specs.declared.tiff.Wanted.{Wanted}

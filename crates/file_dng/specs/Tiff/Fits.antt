@@ -1,5 +1,6 @@
 -- What is known of an entry and of a field that were read. Inner vocabulary: contracts and laws speak of it, no definition of an answer does.
-use Rattle.algebra.specs.Prelude.{◌≡◌, List, ℕ, ◌≤◌, ◌<◌}
+use Rattle.std.specs.Prelude.{◌≡◌, ◌≤◌, ◌<◌}
+use Rattle.algebra.specs.Prelude.{List, ℕ}
 use Rattle.file_dng.specs.declared.tiff.Entry.{Entry}
 use Rattle.file_dng.specs.declared.tiff.Field.{Field}
 use Rattle.file_dng.specs.Tiff.Directory.{entry_at}

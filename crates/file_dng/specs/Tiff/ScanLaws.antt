@@ -1,5 +1,6 @@
 -- A loop over the entries of the directory.
-use Rattle.algebra.specs.Prelude.{◌≡◌, sym, ap, ◌∙◌, true, false, cond, List, [], ◌∷◌, ◌++◌, ℕ, suc, ◌+◌, ◌-◌, ◌*◌, ◌≤◌, ◌<◌, arith, eqb}
+use Rattle.std.specs.Prelude.{◌≡◌, ◌∷◌, ◌++◌, ◌+◌, ◌-◌, ◌*◌, ◌≤◌, ◌<◌}
+use Rattle.algebra.specs.Prelude.{sym, ap, ◌∙◌, true, false, cond, List, [], ℕ, suc, arith, eqb}
 use Rattle.std.proofs.Common.{ne_eqb}
 use Rattle.file_dng.specs.declared.tiff.Entry.{Entry}
 use Rattle.file_dng.specs.declared.tiff.Wanted.{Wanted}

@@ -1,5 +1,6 @@
 // The listed tags, and the values that are asked of them.
-ghost use Rattle.file_dng.specs.Tags.Prelude.{◌≡◌, ◌≤◌, entries};
+ghost use Rattle.std.specs.Prelude.{◌≡◌, ◌≤◌};
+ghost use Rattle.file_dng.specs.Tags.Prelude.{entries};
 ghost use Rattle.file_dng.specs.Tags.Tags.{wanted, tag_at, asked, demand_at, has_black, listed, demanded};
 
 use crate::tags::Demand;

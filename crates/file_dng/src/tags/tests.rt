@@ -1,5 +1,6 @@
 // The tests of the file's structure, tags and values: 19, 20 and 21.
-ghost use Rattle.file_dng.specs.Tags.Prelude.{◌≡◌, ◌<◌, entries, first, some};
+ghost use Rattle.std.specs.Prelude.{◌≡◌, ◌<◌};
+ghost use Rattle.file_dng.specs.Tags.Prelude.{entries, first, some};
 ghost use Rattle.file_dng.specs.Tags.Refusals.{absent, value_of, value_outside, not_once, demand_missed, strip_start, strip_length, strip_outside, outside, size_differs, otherwise, tag_tests};
 ghost use Rattle.file_dng.specs.Tags.RowTests.{row_hit};
 

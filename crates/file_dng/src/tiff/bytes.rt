@@ -1,5 +1,6 @@
 // Numbers in the bytes of a file.
-ghost use Rattle.algebra.specs.Prelude.{◌≡◌, ◌<◌, get_or};
+ghost use Rattle.std.specs.Prelude.{◌≡◌, ◌<◌};
+ghost use Rattle.algebra.specs.Prelude.{get_or};
 ghost use Rattle.file_dng.specs.Tiff.Bytes.{short, long, eight, number};
 
 // A byte; 0 past the end.

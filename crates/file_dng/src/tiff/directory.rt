@@ -1,5 +1,6 @@
 // The header and the first directory.
-ghost use Rattle.algebra.specs.Prelude.{◌≡◌, cond, ◌<◌, ◌≤◌};
+ghost use Rattle.std.specs.Prelude.{◌≡◌, ◌<◌, ◌≤◌};
+ghost use Rattle.algebra.specs.Prelude.{cond};
 ghost use Rattle.file_dng.specs.Tiff.Directory.{header_wrong, directory_start, entry_count, directory_outside, times_of, entries};
 ghost use Rattle.file_dng.specs.Tiff.Fits.{EntryRead};
 

@@ -1,5 +1,5 @@
 // The first entry of right type and count, and its values.
-ghost use Rattle.algebra.specs.Prelude.{◌≡◌, ◌<◌, ◌≤◌};
+ghost use Rattle.std.specs.Prelude.{◌≡◌, ◌<◌, ◌≤◌};
 ghost use Rattle.file_dng.specs.Tiff.Fields.{right, size_of, field_at, first_field, field_outside, value_at};
 ghost use Rattle.file_dng.specs.Tiff.Directory.{entries};
 ghost use Rattle.file_dng.specs.Tiff.Fits.{EntryFits, FieldRead};

@@ -1,5 +1,6 @@
 -- The loop that reads the number of the digits from a place on.
-use Rattle.algebra.specs.Prelude.{◌≡◌, refl, sym, ◌∙◌, List, ◌∷◌, ℕ, zero, suc, ◌+◌, ◌-◌, ◌*◌, ◌≤◌, ◌<◌, arith}
+use Rattle.std.specs.Prelude.{◌≡◌, ◌∷◌, ◌+◌, ◌-◌, ◌*◌, ◌≤◌, ◌<◌}
+use Rattle.algebra.specs.Prelude.{refl, sym, ◌∙◌, List, ℕ, zero, suc, arith}
 use native.Mathlib.Numerals.{add-one}
 use lib.ListN.{length, get_or, drop, drop_of_length-le}
 use lib.Seq.{drop-cons}

@@ -1,5 +1,6 @@
 -- L2, what stands before the samples of a PGM file: "`P5`, LF, width, a space, height, LF, `4095`, LF"; and a number read off it.
-use Rattle.algebra.specs.Prelude.{cond, ◌&&◌, List, [], ◌∷◌, ◌++◌, ℕ, zero, suc, ◌+◌, ◌-◌, ◌*◌, leb}
+use Rattle.std.specs.Prelude.{◌&&◌, ◌∷◌, ◌++◌, ◌+◌, ◌-◌, ◌*◌}
+use Rattle.algebra.specs.Prelude.{cond, List, [], ℕ, zero, suc, leb}
 use Rattle.printing.specs.Ascii.{ascii}
 use Rattle.printing.specs.Decimal.{decimal}
 

@@ -1,5 +1,6 @@
 -- Inner vocabulary: the samples of bytes in blocks of 64, as the code goes through them.
-use Rattle.algebra.specs.Prelude.{List, ℕ, ◌+◌, ◌-◌, ◌*◌, ◌/◌, ◌%◌, ◌<◌, get_or}
+use Rattle.std.specs.Prelude.{◌+◌, ◌-◌, ◌*◌, ◌/◌, ◌%◌, ◌<◌}
+use Rattle.algebra.specs.Prelude.{List, ℕ, get_or}
 use Rattle.sequences.specs.Tab.{tab}
 
 -- what holds of all bytes

@@ -1,5 +1,6 @@
 -- Samples and their two bytes, one way and the other.
-use Rattle.algebra.specs.Prelude.{◌≡◌, refl, ap, ap₂, ◌∙◌, Bool, ◌||◌, List, [], ◌∷◌, ℕ, zero, suc, ◌+◌, ◌-◌, ◌*◌, ◌/◌, ◌%◌, ◌≤◌, ◌<◌, arith, ltb, length, get_or, drop}
+use Rattle.std.specs.Prelude.{◌≡◌, ◌||◌, ◌∷◌, ◌+◌, ◌-◌, ◌*◌, ◌/◌, ◌%◌, ◌≤◌, ◌<◌}
+use Rattle.algebra.specs.Prelude.{refl, ap, ap₂, ◌∙◌, Bool, List, [], ℕ, zero, suc, arith, ltb, length, get_or, drop}
 use Rattle.std.proofs.Math.Bool.{or_assoc}
 use Rattle.std.proofs.Math.Nat.{mul-zero, mul-one}
 use Rattle.std.proofs.Math.Decide.{dec_lt}

@@ -1,5 +1,6 @@
 -- L2, the samples of a PGM file: "each sample as two bytes, high byte first"; the test of them, and the way back.
-use Rattle.algebra.specs.Prelude.{Bool, List, [], ◌∷◌, ℕ, ◌+◌, ◌*◌, ◌/◌, ◌%◌, ltb, length, get_or}
+use Rattle.std.specs.Prelude.{◌∷◌, ◌+◌, ◌*◌, ◌/◌, ◌%◌}
+use Rattle.algebra.specs.Prelude.{Bool, List, [], ℕ, ltb, length, get_or}
 use Rattle.refusals.specs.Numbers as no
 use Rattle.refusals.specs.Tests.{refuse}
 use Rattle.refusals.specs.Some.{some}

@@ -1,5 +1,6 @@
 // Decimal numbers of at most four digits.
-ghost use Rattle.algebra.specs.Prelude.{◌≡◌, ◌≤◌, length, drop};
+ghost use Rattle.std.specs.Prelude.{◌≡◌, ◌≤◌};
+ghost use Rattle.algebra.specs.Prelude.{length, drop};
 ghost use Rattle.printing.specs.Decimal.{decimal};
 ghost use Rattle.file_pgm.specs.Header.Header.{leading};
 

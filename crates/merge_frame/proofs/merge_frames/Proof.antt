@@ -1,5 +1,6 @@
 -- All rows: two rows of pairs of tiles lie in the work area.
-use Rattle.merge_frame.specs.Prelude.{◌≡◌, sym, ap, ◌∙◌, ◌-◌, ◌*◌, ◌/◌, ◌≤◌, arith, rules, Allowed, TileSide, scene_at, scene_of, row_words}
+use Rattle.std.specs.Prelude.{◌≡◌, ◌-◌, ◌*◌, ◌/◌, ◌≤◌}
+use Rattle.merge_frame.specs.Prelude.{sym, ap, ◌∙◌, arith, rules, Allowed, TileSide, scene_at, scene_of, row_words}
 use native.Mathlib.Nat.{mul-le-mul_left, mul_comm}
 use Rattle.geometry.specs.declared.Shape.{Shape}
 use Rattle.geometry.specs.Shape.{output_length, work_length}

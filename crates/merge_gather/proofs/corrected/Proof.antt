@@ -1,5 +1,6 @@
 -- By the definition: the quotient in two steps.
-use Rattle.algebra.specs.Prelude.{◌≡◌, sym, ap, ◌∙◌, suc, ◌-◌, ◌*◌, ◌^◌, arith, rules, lit<, pos, nat_abs, ◌+ℤ◌, ◌-ℤ◌, ◌*ℤ◌, w64, to_z, of_z, to_z-of_z}
+use Rattle.std.specs.Prelude.{◌≡◌, ◌-◌, ◌*◌, ◌^◌, ◌+ℤ◌, ◌-ℤ◌, ◌*ℤ◌}
+use Rattle.algebra.specs.Prelude.{sym, ap, ◌∙◌, suc, arith, rules, lit<, pos, nat_abs, w64, to_z, of_z, to_z-of_z}
 use Rattle.merge_gather.specs.Prelude.{shr_z, clamp_z, upward, side16}
 use Rattle.merge_gather.specs.Gather.{corrected}
 use Rattle.merge_gather.proofs.Quotients.{upward-twice}

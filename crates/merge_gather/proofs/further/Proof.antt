@@ -1,5 +1,6 @@
 -- The row's places, and a block's: all small.
-use Rattle.algebra.specs.Prelude.{refl, ◌*◌, ◌≤◌, arith}
+use Rattle.std.specs.Prelude.{◌*◌, ◌≤◌}
+use Rattle.algebra.specs.Prelude.{refl, arith}
 use Rattle.merge_gather.proofs.Weighing.{side-most, columns-most, halves_most}
 use Rattle.merge_gather.proofs.further as of
 

@@ -1,5 +1,6 @@
 -- Below, between and above; between, the quotient by the reciprocal is exact.
-use Rattle.merge_gather.specs.Prelude.{◌≡◌, sym, ap, ◌∙◌, ◌+◌, ◌*◌, ◌/◌, ◌≤◌, ◌<◌, arith, rules, pos, nat_abs, ◌*ℤ◌, w64, SFits, to_z, ◌≤ℤ◌, ◌<ℤ◌}
+use Rattle.std.specs.Prelude.{◌≡◌, ◌+◌, ◌*◌, ◌/◌, ◌≤◌, ◌<◌, ◌*ℤ◌, ◌≤ℤ◌, ◌<ℤ◌}
+use Rattle.merge_gather.specs.Prelude.{sym, ap, ◌∙◌, arith, rules, pos, nat_abs, w64, SFits, to_z}
 use native.Mathlib.Nat.{mul-le-mul, div-le_self, div-lt_iff_lt-mul}
 use mir.Facts.{to_z_pos, to_z-of_z}
 use Rattle.algebra.specs.Bound.{from_zero}

@@ -1,5 +1,6 @@
 -- One part of side 16, two of side 32.
-use Rattle.algebra.specs.Prelude.{◌≡◌, refl, ℕ, arith, rules, length}
+use Rattle.std.specs.Prelude.{◌≡◌}
+use Rattle.algebra.specs.Prelude.{refl, ℕ, arith, rules, length}
 use Rattle.sequences.specs.Write.{write-start, write_done}
 use Rattle.merge_gather.specs.Ready.{BlockReady}
 use Rattle.merge_gather.proofs.Weighing.{part_room, wide_is}

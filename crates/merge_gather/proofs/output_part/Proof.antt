@@ -1,5 +1,6 @@
 -- Two words a turn, each from the four tiles over it.
-use Rattle.algebra.specs.Prelude.{◌≡◌, sym, subst, ap, ap₂, ◌∙◌, ◌+◌, ◌-◌, ◌*◌, ◌/◌, ◌<◌, arith, rules, List, get_or, ℕ, ℤ, nat_abs, w64, to_z, of_z}
+use Rattle.std.specs.Prelude.{◌≡◌, ◌+◌, ◌-◌, ◌*◌, ◌/◌, ◌<◌}
+use Rattle.algebra.specs.Prelude.{sym, subst, ap, ap₂, ◌∙◌, arith, rules, List, get_or, ℕ, ℤ, nat_abs, w64, to_z, of_z}
 use lib.ListN.{length-set}
 use Rattle.sequences.specs.Write.{Writing, write-start, write-turn, write_done}
 use Rattle.merge_gather.specs.Prelude.{side16, side_of}

@@ -1,6 +1,7 @@
 -- A block a turn, each from the four pairs of tiles over it.
 use mathlib.Core.Path.{◌≡◌, refl, sym, ap, ap₂, ◌∙◌, subst}
-use Rattle.merge_gather.specs.Prelude.{◌+◌, ◌-◌, ◌*◌, ◌/◌, ◌≤◌, arith, rules, sample_length, TileSide}
+use Rattle.std.specs.Prelude.{◌+◌, ◌-◌, ◌*◌, ◌/◌, ◌≤◌}
+use Rattle.merge_gather.specs.Prelude.{arith, rules, sample_length, TileSide}
 use native.Mathlib.Nat.{mul-le-mul_left}
 use Rattle.sequences.specs.Write.{written, Writing, write-start, write_done}
 use Rattle.merge_gather.specs.Work.{Weighed, row_span, further, Roomy, word_from}

@@ -1,5 +1,6 @@
 -- The row lies in its frame, for the output and for the samples, and frames are small.
-use Rattle.merge_gather.specs.Prelude.{◌+◌, ◌-◌, ◌*◌, ◌/◌, ◌%◌, ◌≤◌, ◌<◌, arith, rules, row_stride, frame_stride, sample_length, output_length}
+use Rattle.std.specs.Prelude.{◌+◌, ◌-◌, ◌*◌, ◌/◌, ◌%◌, ◌≤◌, ◌<◌}
+use Rattle.merge_gather.specs.Prelude.{arith, rules, row_stride, frame_stride, sample_length, output_length}
 use native.Mathlib.Nat.{mul-le-mul_right}
 use Rattle.geometry.specs.ShapeLaws.{area-most, samples-most}
 use Rattle.geometry.specs.ReadLaws.{frame-room}

@@ -1,5 +1,6 @@
 -- Each step fits: the sum is the largest number.
-use Rattle.algebra.specs.Prelude.{◌≡◌, ◌∙◌, List, [], ◌∷◌, ℕ, ◌^◌, arith, rules, ℤ, pos, w64, to_z}
+use Rattle.std.specs.Prelude.{◌≡◌, ◌∷◌, ◌^◌}
+use Rattle.algebra.specs.Prelude.{◌∙◌, List, [], ℕ, arith, rules, ℤ, pos, w64, to_z}
 use mir.Facts.{to_z_pos}
 use Rattle.algebra.specs.Ring.{nth}
 use Rattle.algebra.specs.Code.{Code, par, loc, lit, add, sub, mul, shr, Bounded, fits, val-den}

@@ -1,5 +1,6 @@
 -- Windows are at most 4096.
-use Rattle.merge_gather.specs.Prelude.{◌≡◌, ap, ◌∙◌, ◌*◌, ◌≤◌, arith, get_or, pos, w64, to_z, side_of}
+use Rattle.std.specs.Prelude.{◌≡◌, ◌*◌, ◌≤◌}
+use Rattle.merge_gather.specs.Prelude.{ap, ◌∙◌, arith, get_or, pos, w64, to_z, side_of}
 use mir.Facts.{to_z_pos}
 use Rattle.merge_gather.proofs.Weighing.{window-at, weight-most, side-most}
 use Rattle.merge_gather.proofs.weight as of

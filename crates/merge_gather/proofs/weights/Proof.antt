@@ -1,5 +1,6 @@
 -- A row of weights, filled from the front, two a turn.
-use Rattle.algebra.specs.Prelude.{◌≡◌, refl, subst, ◌∙◌, ◌-◌, ◌*◌, ◌≤◌, arith, rules, w64, to_z, of_z}
+use Rattle.std.specs.Prelude.{◌≡◌, ◌-◌, ◌*◌, ◌≤◌}
+use Rattle.algebra.specs.Prelude.{refl, subst, ◌∙◌, arith, rules, w64, to_z, of_z}
 use Rattle.sequences.specs.TabLaws.{Filled, fill_start}
 use Rattle.merge_gather.specs.Gather.{weight_of}
 use Rattle.merge_gather.proofs.Weighing.{weights-turn, weights-done, side-most}

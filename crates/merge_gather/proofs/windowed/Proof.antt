@@ -1,5 +1,6 @@
 -- Four terms, each far below 2^63, in the definition's order.
-use Rattle.algebra.specs.Prelude.{ap, ◌∙◌, ◌+◌, ◌*◌, ◌/◌, arith, rules, ◌+ℤ◌, w64, to_z-of_z}
+use Rattle.std.specs.Prelude.{◌+◌, ◌*◌, ◌/◌, ◌+ℤ◌}
+use Rattle.algebra.specs.Prelude.{ap, ◌∙◌, arith, rules, w64, to_z-of_z}
 use Rattle.algebra.specs.Bound.{AtMost, most_fits}
 use Rattle.merge_tiles.specs.SignedLaws.{plus64, sum_is, sum-most}
 use Rattle.merge_gather.specs.Work.{part_most, sum_most}

@@ -1,5 +1,6 @@
 -- A row or column of a tile: the sum is small.
-use Rattle.algebra.specs.Prelude.{ℕ, ◌^◌, ◌<◌, arith, rules, ℤ, pos, ◌+ℤ◌, w64, SFits}
+use Rattle.std.specs.Prelude.{◌^◌, ◌<◌, ◌+ℤ◌}
+use Rattle.algebra.specs.Prelude.{ℕ, arith, rules, ℤ, pos, w64, SFits}
 use mir.Facts.{to_z-of_z, to_z_pos}
 use Rattle.algebra.specs.Order.{abs-add}
 use Rattle.algebra.specs.Fit.{sfits-abs}

@@ -1,5 +1,6 @@
 -- A row of a pair: filled from the front by two samples at a time, each by where the row starts.
-use Rattle.algebra.specs.Prelude.{◌≡◌, refl, ap, List, ℕ, ◌+◌, ◌-◌, ◌*◌, ◌/◌, ◌%◌, ◌<◌, arith, rules, get_or, set, pos, ◌+ℤ◌, w64, to_z, of_z, to_z-of_z}
+use Rattle.std.specs.Prelude.{◌≡◌, ◌+◌, ◌-◌, ◌*◌, ◌/◌, ◌%◌, ◌<◌, ◌+ℤ◌}
+use Rattle.algebra.specs.Prelude.{refl, ap, List, ℕ, arith, rules, get_or, set, pos, w64, to_z, of_z, to_z-of_z}
 use Rattle.sequences.specs.TabLaws.{Filled, fill_start, fill-turn, fill_done}
 use Rattle.geometry.specs.Read.{inside}
 use Rattle.merge_view.proofs.edge_pair as of

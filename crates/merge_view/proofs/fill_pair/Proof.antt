@@ -1,5 +1,6 @@
 -- A pair: filled row by row from the front.
-use Rattle.algebra.specs.Prelude.{◌≡◌, ◌-◌, arith, rules, pos, ◌+ℤ◌, w64, to_z, of_z, to_z-of_z}
+use Rattle.std.specs.Prelude.{◌≡◌, ◌-◌, ◌+ℤ◌}
+use Rattle.algebra.specs.Prelude.{arith, rules, pos, w64, to_z, of_z, to_z-of_z}
 use Rattle.sequences.specs.TabLaws.{Filled, fill_start, fill-turn, fill_done}
 use Rattle.sequences.specs.Grid.{grid}
 use Rattle.merge_view.specs.View.{pair_of, plane_image, plane_sample, pair_row, plane_pair}

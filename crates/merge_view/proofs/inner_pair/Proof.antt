@@ -1,5 +1,6 @@
 -- A row of a pair inside its planes, filled from the front.
-use Rattle.algebra.specs.Prelude.{refl, ◌+◌, ◌-◌, arith, rules, get_or}
+use Rattle.std.specs.Prelude.{◌+◌, ◌-◌}
+use Rattle.algebra.specs.Prelude.{refl, arith, rules, get_or}
 use Rattle.sequences.specs.TabLaws.{Filled, fill_start, fill-turn, fill_done}
 use Rattle.merge_view.proofs.inner_pair as of
 

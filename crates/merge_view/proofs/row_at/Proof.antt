@@ -1,5 +1,6 @@
 -- A row inside the plane, and one that reaches over an edge.
-use Rattle.algebra.specs.Prelude.{sym, subst, ◌∙◌, ◌+◌, ◌*◌, ◌≤◌, arith, rules, T, length, pos, w64, to_z, of_z, to_z-of_z}
+use Rattle.std.specs.Prelude.{◌+◌, ◌*◌, ◌≤◌}
+use Rattle.algebra.specs.Prelude.{sym, subst, ◌∙◌, arith, rules, T, length, pos, w64, to_z, of_z, to_z-of_z}
 use lib.Signed.{◌≤ℤ◌, le_z_yes, yes_non_neg}
 use Rattle.merge_view.specs.View.{row_length_of, RowStart}
 use Rattle.merge_view.proofs.Places.{shaped-small, row-by-start, inner-by-start}

@@ -1,5 +1,6 @@
 -- No level passed is above 255. A hit refuses, the end accepts.
-use Rattle.noise.specs.Prelude.{sym, ap, ◌-◌, arith, rules, ltb, get_or, refuse}
+use Rattle.std.specs.Prelude.{◌-◌}
+use Rattle.noise.specs.Prelude.{sym, ap, arith, rules, ltb, get_or, refuse}
 use borrow.Author.Tests.{lt-ltb, le-ltb}
 use Rattle.refusals.specs.Numbers as no
 use Rattle.refusals.specs.SomeLaws.{one, Passed, pass-start, pass-turn, pass-done}

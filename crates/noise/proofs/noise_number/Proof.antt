@@ -1,5 +1,6 @@
 -- Each product is at most that of the bounds.
-use Rattle.noise.specs.Prelude.{refl, ℕ, ◌+◌, ◌*◌, ◌≤◌, arith, rules, lit≤, w64, side16, variance, noise_number}
+use Rattle.std.specs.Prelude.{◌+◌, ◌*◌, ◌≤◌}
+use Rattle.noise.specs.Prelude.{refl, ℕ, arith, rules, lit≤, w64, side16, variance, noise_number}
 use native.Mathlib.Nat.{le_trans, mul-le-mul}
 use mir.Val.{Fits}
 use Rattle.noise.specs.NoiseNumberLaws.{noise-number-mono}

@@ -1,5 +1,6 @@
 -- `pipeline::clear` fills the area with zeros: `Filled` is the loop's invariant.
-use Rattle.algebra.specs.Prelude.{refl, ◌∙◌, ◌-◌, arith, rules, length, pos}
+use Rattle.std.specs.Prelude.{◌-◌}
+use Rattle.algebra.specs.Prelude.{refl, ◌∙◌, arith, rules, length, pos}
 use Rattle.sequences.specs.TabLaws.{Filled, fill_start, fill-turn, fill_done}
 use Rattle.sequences.specs.Clear.{zeros}
 use Rattle.sequences.specs.ClearLaws.{tab-const}

@@ -1,5 +1,6 @@
 -- The two row parities, one after the other.
-use Rattle.range_frame.specs.Prelude.{◌≡◌, sym, subst, ◌∙◌, List, ℕ, arith, rules, lit<, output_length, side16, scene_at, scene_of, low_sample, high_sample, End, frame_end, raised}
+use Rattle.std.specs.Prelude.{◌≡◌}
+use Rattle.range_frame.specs.Prelude.{sym, subst, ◌∙◌, List, ℕ, arith, rules, lit<, output_length, side16, scene_at, scene_of, low_sample, high_sample, End, frame_end, raised}
 use Rattle.recipe.specs.SideLaws.{of_16}
 use Rattle.range_frame.specs.BandLaws.{frame-whole}
 use Rattle.range_frame.proofs.range_frames as of

@@ -1,5 +1,6 @@
 -- B, both G, their widths, their inverse sums, and P of both ends.
-use Rattle.range_pair.specs.Prelude.{◌≡◌, refl, ◌∙◌, false, ℕ, ℤ, pos, binary64, of_bits, tab, grid, cell, doubles}
+use Rattle.std.specs.Prelude.{◌≡◌}
+use Rattle.range_pair.specs.Prelude.{refl, ◌∙◌, false, ℕ, ℤ, pos, binary64, of_bits, tab, grid, cell, doubles}
 use Rattle.tile_spectrum.specs.ColumnLaws.{paired-grid}
 use Rattle.tile_pair.proofs.Passes.{columns_whole}
 use Rattle.tile_pair.proofs.Corrections.{binned_pair}

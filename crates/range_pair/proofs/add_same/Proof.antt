@@ -1,5 +1,6 @@
 -- P, added to zeros, is added to both sums.
-use Rattle.range_pair.specs.Prelude.{refl, ◌∙◌, ℕ, ◌+◌, ◌*◌, ◌/◌, ◌%◌, ◌^◌, ◌≤◌, ℤ, pos, nat_abs, tab, grid, correction_most}
+use Rattle.std.specs.Prelude.{◌+◌, ◌*◌, ◌/◌, ◌%◌, ◌^◌, ◌≤◌}
+use Rattle.range_pair.specs.Prelude.{refl, ◌∙◌, ℕ, ℤ, pos, nat_abs, tab, grid, correction_most}
 use Prim.Native.Nat.{zero-le}
 use Rattle.tile_spectrum.specs.Lines.Tiles.{cells-most}
 use Rattle.tile_spectrum.specs.SizeLaws.{correction-most}

@@ -1,5 +1,6 @@
 -- Either number decides.
-use Rattle.algebra.specs.Prelude.{◌≡◌, sym, ap₂, T, subst, rules}
+use Rattle.std.specs.Prelude.{◌≡◌}
+use Rattle.algebra.specs.Prelude.{sym, ap₂, T, subst, rules}
 use borrow.Author.Tests.{eqb-true}
 use Rattle.range_pair.specs.declared.Noises.{Noises}
 use Rattle.range_pair.proofs.same as of

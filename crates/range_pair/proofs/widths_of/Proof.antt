@@ -1,5 +1,6 @@
 -- The distances are stored one row after the other, and weighed.
-use Rattle.range_pair.specs.Prelude.{◌≡◌, refl, sym, ap, subst, ◌∙◌, [], ℕ, ◌-◌, ◌<◌, arith, rules, get_or, length, tab, grid, TileMost}
+use Rattle.std.specs.Prelude.{◌≡◌, ◌-◌, ◌<◌}
+use Rattle.range_pair.specs.Prelude.{refl, sym, ap, subst, ◌∙◌, [], ℕ, arith, rules, get_or, length, tab, grid, TileMost}
 use Rattle.sequences.specs.TabLaws.{Filled, fill_start, fill-turn, fill-rest, fill_done, get_d-tab, length-tab}
 use Rattle.range_pair.specs.Factors.{apart_most, distance_re, distance_im}
 use Rattle.range_pair.proofs.Tables.{factored, distant, distance-re-most, distance-im-most, pair-width-most, width-tile}

@@ -1,5 +1,6 @@
 -- Both sums go on by one frame a turn.
-use Rattle.range_tiles.specs.Prelude.{◌≡◌, refl, sym, subst, ◌-◌, arith, rules, length, side16, scene_at, greatest_at, least_at}
+use Rattle.std.specs.Prelude.{◌≡◌, ◌-◌}
+use Rattle.range_tiles.specs.Prelude.{refl, sym, subst, arith, rules, length, side16, scene_at, greatest_at, least_at}
 use Rattle.tile_spectrum.specs.Lines.Lines.{TileMost}
 use Rattle.tile_spectrum.specs.Lines.Magnitudes.{difference_most}
 use Rattle.merge_tiles.specs.DifferenceLaws.{pair-rows, tile-most}

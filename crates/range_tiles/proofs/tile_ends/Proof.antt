@@ -1,5 +1,6 @@
 -- T0 has its roots, and at either noise its noise numbers.
-use Rattle.range_tiles.specs.Prelude.{◌≡◌, refl, ℕ, ◌<◌, arith, rules, cell, side16, Merge, reference_tile, tile_noise, scene_at, greatest_at, least_at, Noises, noise_of, at_site}
+use Rattle.std.specs.Prelude.{◌≡◌, ◌<◌}
+use Rattle.range_tiles.specs.Prelude.{refl, ℕ, arith, rules, cell, side16, Merge, reference_tile, tile_noise, scene_at, greatest_at, least_at, Noises, noise_of, at_site}
 use Rattle.merge_tiles.specs.DifferenceLaws.{tile-fits, reference-most}
 use Rattle.merge_tiles.specs.TileLaws.{numbers_of}
 use Rattle.range_tiles.specs.EndSums.{raised, tile_pair, NoisesAre}

@@ -1,5 +1,6 @@
 -- The tests from i on say what all of them say: those before i are 0.
-use Rattle.algebra.specs.Prelude.{◌≡◌, refl, sym, ◌∙◌, List, ℕ, zero, suc, ◌+◌, ◌-◌, ◌≤◌, ◌<◌, arith, rules, length, get_or, drop}
+use Rattle.std.specs.Prelude.{◌≡◌, ◌+◌, ◌-◌, ◌≤◌, ◌<◌}
+use Rattle.algebra.specs.Prelude.{refl, sym, ◌∙◌, List, ℕ, zero, suc, arith, rules, length, get_or, drop}
 use native.Mathlib.Numerals.{add-one}
 use lib.ListN.{drop_of_length-le}
 use lib.Seq.{drop-cons}

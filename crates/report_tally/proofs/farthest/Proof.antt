@@ -1,5 +1,6 @@
 -- `report_tally::farthest`: the greatest so far is that of the parts passed.
-use Rattle.algebra.specs.Prelude.{◌≡◌, refl, sym, ap, ap₂, ◌∙◌, arith, rules, length}
+use Rattle.std.specs.Prelude.{◌≡◌}
+use Rattle.algebra.specs.Prelude.{refl, sym, ap, ap₂, ◌∙◌, arith, rules, length}
 use Prim.Native.Nat.{ℕ, ◌+◌, ◌-◌, ◌≤◌, max}
 use native.Mathlib.Numerals.{add-one}
 use Rattle.report_tally.specs.Tallies.{reach, greatest, farthest}

@@ -1,5 +1,6 @@
 -- `report_tally::magnitude`: a part of 32 bits is negated in 64, where its negation fits.
-use Rattle.algebra.specs.Prelude.{◌≡◌, ap, ◌^◌, ℤ, pos, nat_abs, neg_ℤ, ◌-ℤ◌, w32, w64, SFits, to_z, of_z, to_z-of_z}
+use Rattle.std.specs.Prelude.{◌≡◌, ◌^◌, ◌-ℤ◌}
+use Rattle.algebra.specs.Prelude.{ap, ℤ, pos, nat_abs, neg_ℤ, w32, w64, SFits, to_z, of_z, to_z-of_z}
 use Rattle.algebra.specs.Order.{abs_neg}
 use Rattle.algebra.specs.Fit.{abs-sfits}
 use Rattle.algebra.specs.Bound.{neg-fits, widen-fits, zero_minus, below-zero, from_zero, abs-fits}

@@ -1,5 +1,6 @@
 -- `report_tally::still_tile`: a tile is still where neither part has a magnitude.
-use Rattle.algebra.specs.Prelude.{◌≡◌, sym, ◌∙◌, List, ℕ, ◌+◌, ◌*◌, arith, rules, ℤ}
+use Rattle.std.specs.Prelude.{◌≡◌, ◌+◌, ◌*◌}
+use Rattle.algebra.specs.Prelude.{sym, ◌∙◌, List, ℕ, arith, rules, ℤ}
 use borrow.Author.Tests.{eq-eqb, ne_eqb}
 use Rattle.report_tally.specs.Tallies.{reach, still_tile}
 use Rattle.report_tally.proofs.still_tile as of

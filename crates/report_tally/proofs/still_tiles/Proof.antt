@@ -1,5 +1,6 @@
 -- `report_tally::still_tiles`: the count so far is that of the tiles passed.
-use Rattle.algebra.specs.Prelude.{◌-◌, ◌/◌, arith, rules, length}
+use Rattle.std.specs.Prelude.{◌-◌, ◌/◌}
+use Rattle.algebra.specs.Prelude.{arith, rules, length}
 use Rattle.sequences.specs.Sum.{Summed, sum-start, sum-turn, sum_done}
 use Rattle.report_tally.specs.Tallies.{still_tile, still_tiles}
 use Rattle.report_tally.proofs.still_tiles as of

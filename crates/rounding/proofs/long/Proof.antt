@@ -1,5 +1,6 @@
 -- `rounding::long`: nothing is left of a divisor below 2^60.
-use Rattle.algebra.specs.Prelude.{◌≡◌, ap, ◌∙◌, ℕ, ◌/◌, ◌^◌, ◌<◌, arith}
+use Rattle.std.specs.Prelude.{◌≡◌, ◌/◌, ◌^◌, ◌<◌}
+use Rattle.algebra.specs.Prelude.{ap, ◌∙◌, ℕ, arith}
 use lib.Bits.{bit_xor, xor_zero_r}
 use Rattle.rounding.proofs.long as of
 

@@ -1,5 +1,6 @@
 -- `rounding::round_away`: the absolute value rounded, with the sign put back.
-use Rattle.algebra.specs.Prelude.{◌≡◌, ◌∙◌, ◌^◌, ◌<◌, rules, w64, to_z, of_z, to_z-of_z}
+use Rattle.std.specs.Prelude.{◌≡◌, ◌^◌, ◌<◌}
+use Rattle.algebra.specs.Prelude.{◌∙◌, rules, w64, to_z, of_z, to_z-of_z}
 use Rattle.rounding.proofs.Sign.{half-fits, away-below, away-from}
 use Rattle.rounding.proofs.round_away as of
 

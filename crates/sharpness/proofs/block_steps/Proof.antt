@@ -1,5 +1,6 @@
 -- One sum over the blocks, each of sixteen places.
-use Rattle.sharpness.specs.Prelude.{sym, ◌∙◌, ◌+◌, ◌-◌, ◌*◌, ◌/◌, arith, rules, sum_n, sample_at}
+use Rattle.std.specs.Prelude.{◌+◌, ◌-◌, ◌*◌, ◌/◌}
+use Rattle.sharpness.specs.Prelude.{sym, ◌∙◌, arith, rules, sum_n, sample_at}
 use Rattle.algebra.specs.SumLaws.{sum_n-rows}
 use Rattle.sequences.specs.Sum.{Summed, sum-start, sum-turn, sum_done, sum-most}
 use Rattle.sharpness.specs.Words.{word_steps, place_steps}

@@ -1,5 +1,6 @@
 -- One sum over eight numbers of 16 bits.
-use Rattle.algebra.specs.Prelude.{◌+◌, ◌-◌, ◌*◌, arith, rules, get_or}
+use Rattle.std.specs.Prelude.{◌+◌, ◌-◌, ◌*◌}
+use Rattle.algebra.specs.Prelude.{arith, rules, get_or}
 use Rattle.sequences.specs.Sum.{Summed, sum-start, sum-turn, sum_done}
 use Rattle.sharpness.specs.Words.{green_total}
 use Rattle.sharpness.proofs.green_total as of

@@ -1,5 +1,6 @@
 -- Each turn stores the steps of two words.
-use Rattle.sharpness.specs.Prelude.{refl, ap₂, ◌+◌, ◌-◌, arith, rules, sample_at}
+use Rattle.std.specs.Prelude.{◌+◌, ◌-◌}
+use Rattle.sharpness.specs.Prelude.{refl, ap₂, arith, rules, sample_at}
 use Rattle.sequences.specs.TabLaws.{Filled, fill_start, fill-turn, fill_done}
 use Rattle.sharpness.specs.Words.{word_steps, lane_of}
 use Rattle.sharpness.proofs.lanes as of

@@ -1,5 +1,6 @@
 -- The loop goes on where the blocks end; the last place comes after it.
-use Rattle.sharpness.specs.Prelude.{◌-◌, ◌/◌, arith, rules, sample_at}
+use Rattle.std.specs.Prelude.{◌-◌, ◌/◌}
+use Rattle.sharpness.specs.Prelude.{arith, rules, sample_at}
 use Rattle.sequences.specs.Sum.{Summed, sum-turn, sum_done}
 use Rattle.sharpness.specs.Words.{place_steps}
 use Rattle.sharpness.proofs.Rows.{row-sum}

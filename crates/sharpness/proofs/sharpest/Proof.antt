@@ -1,5 +1,6 @@
 -- The loop keeps the first greatest of the frames seen so far.
-use Rattle.sharpness.specs.Prelude.{sym, true, false, ◌-◌, arith, rules, ltb, min}
+use Rattle.std.specs.Prelude.{◌-◌}
+use Rattle.sharpness.specs.Prelude.{sym, true, false, arith, rules, ltb, min}
 use borrow.Author.Tests.{lt-ltb, le-ltb}
 use Rattle.sequences.specs.FirstLaws.{First, first-start, first-turn, first_done}
 use Rattle.sharpness.specs.Sharpness.{sharpness, sharpest}

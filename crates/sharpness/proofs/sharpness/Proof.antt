@@ -1,5 +1,6 @@
 -- One sum over the rows but the last, which comes after it.
-use Rattle.algebra.specs.Prelude.{◌-◌, ◌/◌, arith, rules}
+use Rattle.std.specs.Prelude.{◌-◌, ◌/◌}
+use Rattle.algebra.specs.Prelude.{arith, rules}
 use Rattle.sequences.specs.Sum.{Summed, sum-start, sum-turn, sum_done}
 use Rattle.sharpness.specs.Sharpness.{green, sharpness}
 use Rattle.sharpness.specs.Words.{both_steps, row_most}

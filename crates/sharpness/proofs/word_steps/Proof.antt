@@ -1,5 +1,6 @@
 -- Three samples, and the two steps from the first, by definition.
-use Rattle.algebra.specs.Prelude.{ap₂, ◌∙◌, ◌+◌, arith, rules}
+use Rattle.std.specs.Prelude.{◌+◌}
+use Rattle.algebra.specs.Prelude.{ap₂, ◌∙◌, arith, rules}
 use Rattle.sharpness.specs.Sharpness.{step}
 use Rattle.sharpness.specs.Words.{word_steps}
 use Rattle.sharpness.proofs.word_steps as of

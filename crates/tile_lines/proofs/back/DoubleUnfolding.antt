@@ -1,5 +1,6 @@
 -- The transposed sum of a line in double: the line that its two halves make.
-use Rattle.tile_lines.specs.Back.Prelude.{◌≡◌, refl, sym, ap, ap₂, ◌∙◌, Bool, true, false, cond, List, ℕ, ◌+◌, ◌-◌, ◌*◌, ◌^◌, ◌≤◌, ◌<◌, arith, ltb, get_or, ℤ, nat_abs, ◌*ℤ◌, Float, nan, binary64, of_int, add, sub, sum_z, side16, basis, half_basis_of, backward, half_sum, even_sum_of, odd_sum_of, even_half_of, even_sum, odd_sum, even_half, double_line, joined_at}
+use Rattle.std.specs.Prelude.{◌≡◌, ◌+◌, ◌-◌, ◌*◌, ◌^◌, ◌≤◌, ◌<◌, ◌*ℤ◌}
+use Rattle.tile_lines.specs.Back.Prelude.{refl, sym, ap, ap₂, ◌∙◌, Bool, true, false, cond, List, ℕ, arith, ltb, get_or, ℤ, nat_abs, Float, nan, binary64, of_int, add, sub, sum_z, side16, basis, half_basis_of, backward, half_sum, even_sum_of, odd_sum_of, even_half_of, even_sum, odd_sum, even_half, double_line, joined_at}
 use borrow.Author.Tests.{ltb-true, ltb-false}
 use Rattle.algebra.specs.Order.{abs-mul-le}
 use Rattle.algebra.specs.SumLaws.{abs-sum-bound}

@@ -1,5 +1,6 @@
 -- Two lines side by side that a loop stores by fours: places 2n and 2n + 1 of either half, from the sums over the even and the odd places of both.
-use Rattle.tile_lines.specs.Back.Prelude.{◌≡◌, sym, ap, ◌∙◌, List, [], ◌∷◌, ℕ, zero, suc, ◌+◌, ◌-◌, ◌*◌, ◌/◌, ◌%◌, ◌≤◌, ◌<◌, arith, length, get_or, set, Float, nan, tab, joined_by}
+use Rattle.std.specs.Prelude.{◌≡◌, ◌∷◌, ◌+◌, ◌-◌, ◌*◌, ◌/◌, ◌%◌, ◌≤◌, ◌<◌}
+use Rattle.tile_lines.specs.Back.Prelude.{sym, ap, ◌∙◌, List, [], ℕ, zero, suc, arith, length, get_or, set, Float, nan, tab, joined_by}
 use native.Mathlib.Decide.{ℕ_discrete}
 use borrow.Author.Tests.{lt-ltb, le-ltb}
 use lib.ListN.{length-set}

@@ -1,5 +1,6 @@
 -- The sums of a line's even and odd places, whatever the noise: whole numbers of at most 2^53 in double, and in 64 bits they make half of the sum back.
-use Rattle.algebra.specs.Prelude.{◌≡◌, refl, sym, ap, ap₂, ◌∙◌, Bool, true, false, cond, List, ℕ, ◌+◌, ◌-◌, ◌*◌, ◌^◌, ◌≤◌, ◌<◌, arith, ltb, lit≤, get_or, ℤ, nat_abs, ◌+ℤ◌, ◌-ℤ◌, w64, SFits, to_z, of_z, to_z-of_z}
+use Rattle.std.specs.Prelude.{◌≡◌, ◌+◌, ◌-◌, ◌*◌, ◌^◌, ◌≤◌, ◌<◌, ◌+ℤ◌, ◌-ℤ◌}
+use Rattle.algebra.specs.Prelude.{refl, sym, ap, ap₂, ◌∙◌, Bool, true, false, cond, List, ℕ, arith, ltb, lit≤, get_or, ℤ, nat_abs, w64, SFits, to_z, of_z, to_z-of_z}
 use native.Mathlib.Nat.{le_trans}
 use borrow.Author.Tests.{ltb-true, ltb-false}
 use Rattle.tile_lines.specs.Back.Prelude.{Float, nan, binary64, of_int, to_signed, side16, half_sum, odd_sum, even_half, double_line, WholeDouble, joined_by, column_most}

@@ -1,5 +1,6 @@
 -- Two lines side by side, folded in double: the sums and differences that the code stores, and the places of each line.
-use Rattle.tile_lines.specs.Double.Prelude.{◌≡◌, ap, ap₂, ◌∙◌, List, ℕ, ◌+◌, ◌*◌, ◌≤◌, arith, ℤ, nat_abs, ◌+ℤ◌, ◌-ℤ◌, w32, to_z, of_z, Float, binary64, of_int, add, sub, side16, halfcomplex, folded}
+use Rattle.std.specs.Prelude.{◌≡◌, ◌+◌, ◌*◌, ◌≤◌, ◌+ℤ◌, ◌-ℤ◌}
+use Rattle.tile_lines.specs.Double.Prelude.{ap, ap₂, ◌∙◌, List, ℕ, arith, ℤ, nat_abs, w32, to_z, of_z, Float, binary64, of_int, add, sub, side16, halfcomplex, folded}
 use Rattle.algebra.specs.Order.{abs-add, abs-sub}
 use Rattle.sequences.specs.Grid.{tab-ext}
 use Rattle.recipe.specs.TableLaws.{rules16}

@@ -1,6 +1,6 @@
 -- The words of other crates that this crate's files share. Lemmas are not passed on: of those the `use` line says where they are.
-pub use Rattle.algebra.specs.Prelude.{Bool, List, ℕ, ℤ, [], ap, ap₂, arith, cond, false, get_or, length, ltb, nat_abs, rules, of_z, pos, refl, set, suc, sym, to_z, true, w64, zero, ◌%◌, ◌*◌, ◌*ℤ◌, ◌+◌, ◌+ℤ◌, ◌-◌, ◌-ℤ◌, ◌/◌, ◌<◌, ◌^◌, ◌∙◌, ◌∷◌, ◌≡◌, ◌≤◌}
-pub use Rattle.std.specs.Prelude.{Float}
+pub use Rattle.algebra.specs.Prelude.{Bool, List, ℕ, ℤ, [], ap, ap₂, arith, cond, false, get_or, length, ltb, nat_abs, rules, of_z, pos, refl, set, suc, sym, to_z, true, w64, zero, ◌∙◌}
+pub use Rattle.std.specs.Prelude.{Float, ◌%◌, ◌*◌, ◌*ℤ◌, ◌+◌, ◌+ℤ◌, ◌-◌, ◌-ℤ◌, ◌/◌, ◌<◌, ◌^◌, ◌∷◌, ◌≡◌, ◌≤◌}
 pub use Rattle.std.specs.Float.Ieee.{add, sub, to_signed}
 pub use Rattle.std.specs.Float.{binary64, nan}
 unfoldable pub use Rattle.std.specs.Float.Ieee.{of_bits, of_int}

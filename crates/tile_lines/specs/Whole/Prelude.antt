@@ -1,5 +1,6 @@
 -- The words of other crates that this crate's files share. Lemmas are not passed on: of those the `use` line says where they are.
-pub use Rattle.algebra.specs.Prelude.{List, ℤ, [], arith, cond, eqb, get_or, lit<, lit≤, rules, pos, refl, w16, ◌%◌, ◌*◌, ◌+◌, ◌-◌, ◌/◌, ◌<◌, ◌∙◌, ◌∷◌, ◌≡◌}
+pub use Rattle.std.specs.Prelude.{◌%◌, ◌*◌, ◌+◌, ◌-◌, ◌/◌, ◌<◌, ◌∷◌, ◌≡◌}
+pub use Rattle.algebra.specs.Prelude.{List, ℤ, [], arith, cond, eqb, get_or, lit<, lit≤, rules, pos, refl, w16, ◌∙◌}
 unfoldable pub use Rattle.sequences.specs.Tab.{tab}
 unfoldable pub use Rattle.recipe.specs.Tables.{cosine16, cosines, side16}
 pub use Rattle.tile_spectrum.specs.Lines.Fold.{difference_at, folded, sum_at}

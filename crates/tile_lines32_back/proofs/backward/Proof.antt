@@ -1,5 +1,6 @@
 -- `tile_lines32_back::backward`: the even and the odd places apart, and both halves of the column from their sums.
-use Rattle.tile_lines32_back.specs.Prelude.{refl, ◌∙◌, true, false, ℕ, ◌+◌, ◌-◌, ◌*◌, ◌≤◌, arith, rules, lit≤, get_or, nat_abs, nan, binary64, of_int, add, sub, side32, backward_of, fold_most, long_column_most, picked}
+use Rattle.std.specs.Prelude.{◌+◌, ◌-◌, ◌*◌, ◌≤◌}
+use Rattle.tile_lines32_back.specs.Prelude.{refl, ◌∙◌, true, false, ℕ, arith, rules, lit≤, get_or, nat_abs, nan, binary64, of_int, add, sub, side32, backward_of, fold_most, long_column_most, picked}
 use Rattle.sequences.specs.TabLaws.{Filled, fill_start, fill-turn, fill_done}
 use Rattle.tile_lines32_back.proofs.BothHalves.{Both, both-start, both-turn, both-done, column-low, column-high}
 use Rattle.tile_lines32_back.proofs.PartSums.{parts-of}

@@ -1,5 +1,6 @@
 -- `tile_lines32_back::even_sines`: the imaginary parts at even numbers, by computed tests.
-use Rattle.tile_lines32_back.specs.Prelude.{refl, ap, ◌∙◌, List, [], ◌∷◌, ◌+◌, ◌*◌, rules, T, get_or, Float, nan, of_bits, of_int, Expr, sum_z, same, tab, Form, cos_at, cosines32, cosine32, side32, half_z, frequency_of, phase_of, basis_of}
+use Rattle.std.specs.Prelude.{◌∷◌, ◌+◌, ◌*◌}
+use Rattle.tile_lines32_back.specs.Prelude.{refl, ap, ◌∙◌, List, [], rules, T, get_or, Float, nan, of_bits, of_int, Expr, sum_z, same, tab, Form, cos_at, cosines32, cosine32, side32, half_z, frequency_of, phase_of, basis_of}
 use Rattle.tile_spectrum.specs.Lines.DoubleForms.{floats, exprs, forms-are}
 use Rattle.tile_spectrum.specs.Lines.Program.{arg, ◌⊕◌, ◌⊖◌, ◌⊗◌, ◌>>=◌, give, double_forms}
 use Rattle.tile_lines32_back.specs.Parts.{part_basis, sine_part}

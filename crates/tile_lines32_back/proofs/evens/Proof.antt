@@ -1,5 +1,6 @@
 -- `tile_lines32_back::evens`: the even places of both rows are stored by twos.
-use Rattle.algebra.specs.Prelude.{refl, ◌∙◌, ◌-◌, ◌*◌, arith, rules}
+use Rattle.std.specs.Prelude.{◌-◌, ◌*◌}
+use Rattle.algebra.specs.Prelude.{refl, ◌∙◌, arith, rules}
 use Rattle.sequences.specs.TabLaws.{Filled, fill_start, fill_done}
 use Rattle.tile_lines32_back.proofs.BothHalves.{first_two, twos-turn, first-at, second_at, first-two}
 use Rattle.tile_lines32_back.proofs.evens as of

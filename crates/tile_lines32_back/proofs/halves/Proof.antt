@@ -1,5 +1,6 @@
 -- `tile_lines32_back::halves`: both halves of two rows from the sums of their even and of their odd places.
-use Rattle.tile_lines32_back.specs.Prelude.{refl, ◌∙◌, ◌-◌, ◌*◌, ◌/◌, ◌%◌, arith, rules, get_or, nan, binary64, of_int, add, sub, side32, half_sum_of}
+use Rattle.std.specs.Prelude.{◌-◌, ◌*◌, ◌/◌, ◌%◌}
+use Rattle.tile_lines32_back.specs.Prelude.{refl, ◌∙◌, arith, rules, get_or, nan, binary64, of_int, add, sub, side32, half_sum_of}
 use Rattle.tile_lines32_back.proofs.BothHalves.{Both, both-start, both-turn, both-done, rows, row-evens, row-odds, row_low, row-high}
 use Rattle.tile_lines32_back.proofs.halves as of
 

@@ -1,5 +1,6 @@
 -- `tile_lines32_back::odd_places`: the odd places of row p, one by one.
-use Rattle.tile_lines32_back.specs.Prelude.{refl, ◌+◌, ◌-◌, ◌*◌, arith, rules, get_or, nan}
+use Rattle.std.specs.Prelude.{◌+◌, ◌-◌, ◌*◌}
+use Rattle.tile_lines32_back.specs.Prelude.{refl, arith, rules, get_or, nan}
 use Rattle.sequences.specs.TabLaws.{Filled, fill_start, fill-turn, fill_done}
 use Rattle.tile_lines32_back.proofs.odd_places as of
 

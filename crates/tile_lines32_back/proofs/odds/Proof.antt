@@ -1,5 +1,6 @@
 -- `tile_lines32_back::odds`: the sums of both rows are stored by twos.
-use Rattle.tile_lines32_back.specs.Prelude.{refl, ◌∙◌, ℕ, ◌+◌, ◌-◌, ◌*◌, arith, rules, lit≤, get_or, Float, nan, binary64, of_int, side32, odd_sum_of, picked}
+use Rattle.std.specs.Prelude.{◌+◌, ◌-◌, ◌*◌}
+use Rattle.tile_lines32_back.specs.Prelude.{refl, ◌∙◌, ℕ, arith, rules, lit≤, get_or, Float, nan, binary64, of_int, side32, odd_sum_of, picked}
 use Rattle.sequences.specs.TabLaws.{Filled, fill_start, fill_done}
 use Rattle.tile_lines32_back.proofs.BothHalves.{in_turn, twos-turn, even-at, odd-at, in-turn-are, number}
 use Rattle.tile_lines32_back.proofs.PartSums.{parts-of}

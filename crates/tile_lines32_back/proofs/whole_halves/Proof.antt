@@ -1,5 +1,6 @@
 -- `tile_lines32_back::whole_halves`: both halves of two rows from the sums of their even and of their odd places.
-use Rattle.algebra.specs.Prelude.{ap₂, ◌∙◌, ◌+◌, ◌-◌, ◌*◌, ◌/◌, ◌%◌, arith, rules, get_or, pos, ◌+ℤ◌, ◌-ℤ◌, w64, to_z-of_z}
+use Rattle.std.specs.Prelude.{◌+◌, ◌-◌, ◌*◌, ◌/◌, ◌%◌, ◌+ℤ◌, ◌-ℤ◌}
+use Rattle.algebra.specs.Prelude.{ap₂, ◌∙◌, arith, rules, get_or, pos, w64, to_z-of_z}
 use Rattle.algebra.specs.Bound.{add-fits, sub-fits}
 use Rattle.tile_lines32_back.specs.Prelude.{side32, half_sum_of}
 use Rattle.tile_spectrum.specs.Lines.Held.{held-is, held-most}

@@ -1,5 +1,6 @@
 -- `tile_lines32_back::whole_joined`: what the four kernels give makes the odd places' sum in 64 bits.
-use Rattle.algebra.specs.Prelude.{◌≡◌, refl, ap₂, ◌∙◌, ◌∷◌, rules, lit<, ◌+ℤ◌, ◌-ℤ◌, w64, to_z, of_z}
+use Rattle.std.specs.Prelude.{◌≡◌, ◌∷◌, ◌+ℤ◌, ◌-ℤ◌}
+use Rattle.algebra.specs.Prelude.{refl, ap₂, ◌∙◌, rules, lit<, w64, to_z, of_z}
 use Rattle.tile_spectrum.specs.Lines.DoubleCasts.{whole_is}
 use Rattle.tile_lines32_back.proofs.PartSums.{joined-are}
 use Rattle.tile_lines32_back.proofs.WholeParts.{even_cosine, odd_cosine, even_sine, odd_sine}

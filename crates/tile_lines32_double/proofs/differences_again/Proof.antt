@@ -1,5 +1,6 @@
 -- `tile_lines32_double::differences_again`: each number and the one half a line of sixteen further on.
-use Rattle.tile_lines32_double.specs.Prelude.{refl, ◌∙◌, ◌+◌, ◌-◌, arith, rules, get_or, nan, binary64, sub}
+use Rattle.std.specs.Prelude.{◌+◌, ◌-◌}
+use Rattle.tile_lines32_double.specs.Prelude.{refl, ◌∙◌, arith, rules, get_or, nan, binary64, sub}
 use Rattle.sequences.specs.TabLaws.{Filled, fill_start, fill-turn, fill_done}
 use Rattle.tile_lines32_double.proofs.LongFolding.{less-are}
 use Rattle.tile_lines32_double.proofs.differences_again as of

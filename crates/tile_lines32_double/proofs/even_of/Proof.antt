@@ -1,5 +1,6 @@
 -- `tile_lines32_double::even_of`: the places of a line of sixteen are stored by twos.
-use Rattle.tile_lines32_double.specs.Prelude.{refl, ◌∙◌, ◌-◌, ◌*◌, ◌+◌, arith, rules, ◌+ℤ◌, ◌-ℤ◌, side16, halfcomplex_of}
+use Rattle.std.specs.Prelude.{◌-◌, ◌*◌, ◌+◌, ◌+ℤ◌, ◌-ℤ◌}
+use Rattle.tile_lines32_double.specs.Prelude.{refl, ◌∙◌, arith, rules, side16, halfcomplex_of}
 use Rattle.sequences.specs.TabLaws.{Filled, fill_start, fill_done}
 use Rattle.tile_lines32_double.proofs.LongFolding.{by_twos, twos-turn, twos-are, again-most, less-most, again-even, again-odd}
 use Rattle.tile_lines32_double.proofs.even_of as of

@@ -1,5 +1,6 @@
 -- `tile_lines32_double::even_sines`: the even numbers' part of the imaginary parts, by computed tests.
-use Rattle.tile_lines32_double.specs.Prelude.{List, [], ◌∷◌, ◌+◌, ◌*◌, rules, of_bits, of_int, sum_z, tab, Form, cos_at, cosines32, cosine32, side32, frequency_of, phase_of, basis_of, folded_of, every_second}
+use Rattle.std.specs.Prelude.{◌∷◌, ◌+◌, ◌*◌}
+use Rattle.tile_lines32_double.specs.Prelude.{List, [], rules, of_bits, of_int, sum_z, tab, Form, cos_at, cosines32, cosine32, side32, frequency_of, phase_of, basis_of, folded_of, every_second}
 use Rattle.tile_spectrum.specs.Lines.Program.{arg, ◌⊕◌, ◌⊖◌, minus, ◌⊗◌, ◌>>=◌, give, double_forms}
 use Rattle.tile_lines32_double.proofs.FourParts.{part_e, line-are}
 use Rattle.tile_lines32_double.proofs.even_sines as of

@@ -1,5 +1,6 @@
 -- `tile_lines32_double::halfcomplex`: the places of both lines are stored by fours.
-use Rattle.tile_lines32_double.specs.Prelude.{◌∙◌, ◌+◌, ◌-◌, ◌*◌, arith, rules, side32, halfcomplex_of}
+use Rattle.std.specs.Prelude.{◌+◌, ◌-◌, ◌*◌}
+use Rattle.tile_lines32_double.specs.Prelude.{◌∙◌, arith, rules, side32, halfcomplex_of}
 use Rattle.sequences.specs.TabLaws.{Filled, fill_start, fill_done}
 use Rattle.tile_spectrum.specs.Lines.PairLines.{by_fours, fours-turn, fours-are}
 use Rattle.tile_lines32_double.proofs.LongFolding.{sums_of, differences_of, line_of, sums_most, differences-most, even-line, odd-line}

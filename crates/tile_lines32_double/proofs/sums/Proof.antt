@@ -1,5 +1,6 @@
 -- `tile_lines32_double::sums`: each number and the one half a line further on.
-use Rattle.tile_lines32_double.specs.Prelude.{refl, ◌-◌, arith, rules, binary64, of_int}
+use Rattle.std.specs.Prelude.{◌-◌}
+use Rattle.tile_lines32_double.specs.Prelude.{refl, arith, rules, binary64, of_int}
 use Rattle.sequences.specs.TabLaws.{Filled, fill_start, fill-turn, fill_done}
 use Rattle.tile_lines32_double.proofs.LongFolding.{sums_of, pair-sum}
 use Rattle.tile_lines32_double.proofs.sums as of

@@ -1,5 +1,6 @@
 -- `tile_lines32_whole::even_places`: the places are stored by twos.
-use Rattle.algebra.specs.Prelude.{refl, ◌∙◌, ◌-◌, ◌*◌, arith, rules}
+use Rattle.std.specs.Prelude.{◌-◌, ◌*◌}
+use Rattle.algebra.specs.Prelude.{refl, ◌∙◌, arith, rules}
 use Rattle.sequences.specs.TabLaws.{Filled, fill_start, fill_done}
 use Rattle.tile_spectrum.specs.Lines.WholeFolds.{placed, placed-turn, placed-is}
 use Rattle.tile_lines32_whole.proofs.even_places as of

@@ -1,5 +1,6 @@
 -- `tile_lines32_whole::halfcomplex`: the places are stored by twos.
-use Rattle.tile_lines32_whole.specs.Prelude.{refl, ◌∙◌, ◌-◌, ◌*◌, arith, rules, side32, halfcomplex_of, of}
+use Rattle.std.specs.Prelude.{◌-◌, ◌*◌}
+use Rattle.tile_lines32_whole.specs.Prelude.{refl, ◌∙◌, arith, rules, side32, halfcomplex_of, of}
 use Rattle.sequences.specs.TabLaws.{Filled, fill_start, fill_done}
 use Rattle.tile_lines32_whole.proofs.EvenSums.{sums-places}
 use Rattle.tile_spectrum.specs.Lines.WholeFolds.{sums_most, placed, placed-turn, placed-long}

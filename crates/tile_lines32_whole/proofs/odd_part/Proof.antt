@@ -1,5 +1,6 @@
 -- `tile_lines32_whole::odd_part`: what the odd differences add: that each step fits, and what the results are, by computed tests.
-use Rattle.tile_lines32_whole.specs.Prelude.{List, [], ◌∷◌, ◌+◌, ◌*◌, ◌/◌, ◌%◌, ℤ, sum_z, tab, cosines32, cosine32, side32, frequency_of, phase_of, basis_of}
+use Rattle.std.specs.Prelude.{◌∷◌, ◌+◌, ◌*◌, ◌/◌, ◌%◌}
+use Rattle.tile_lines32_whole.specs.Prelude.{List, [], ℤ, sum_z, tab, cosines32, cosine32, side32, frequency_of, phase_of, basis_of}
 use Rattle.algebra.specs.Ring.{var, con, ◌⊠◌}
 use Rattle.algebra.specs.Forms.{sum_e}
 use Rattle.recipe.specs.Side.{cos_at}

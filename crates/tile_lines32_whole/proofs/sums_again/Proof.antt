@@ -1,5 +1,6 @@
 -- `tile_lines32_whole::sums_again`: each number and the one half a line further on.
-use Rattle.tile_lines32_whole.specs.Prelude.{refl, ◌-◌, arith, rules, w16, side16, sum_of, of}
+use Rattle.std.specs.Prelude.{◌-◌}
+use Rattle.tile_lines32_whole.specs.Prelude.{refl, arith, rules, w16, side16, sum_of, of}
 use Rattle.sequences.specs.TabLaws.{Filled, fill_start, fill-turn, fill_done}
 use Rattle.tile_spectrum.specs.Lines.WholeFolds.{sum_fits, sum_is}
 use Rattle.tile_lines32_whole.proofs.sums_again.Statement.{statement}

@@ -1,5 +1,6 @@
 -- The copies, their bins, the step, and N·P' of it.
-use Rattle.tile_spatial.specs.Prelude.{◌≡◌, refl, sym, ap, subst, ◌∙◌, false, ℕ, ◌+◌, ◌*◌, ◌/◌, ◌%◌, ◌^◌, arith, rules, ℤ, pos, ◌+ℤ◌, ◌*ℤ◌, tab, TileMost, fold_most, spatial_most, spatial_correction_most, InDouble, plane_in, either}
+use Rattle.std.specs.Prelude.{◌≡◌, ◌+◌, ◌*◌, ◌/◌, ◌%◌, ◌^◌, ◌+ℤ◌, ◌*ℤ◌}
+use Rattle.tile_spatial.specs.Prelude.{refl, sym, ap, subst, ◌∙◌, false, ℕ, arith, rules, ℤ, pos, tab, TileMost, fold_most, spatial_most, spatial_correction_most, InDouble, plane_in, either}
 use Prim.Native.Nat.{zero-le}
 use Rattle.sequences.specs.Grid.{grid, cell, cell-grid, grid-ext}
 use Rattle.tile_spectrum.specs.ColumnLaws.{paired-grid}

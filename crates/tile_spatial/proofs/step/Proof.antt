@@ -1,5 +1,6 @@
 -- The rows of both parts are stored one after the other, and folded.
-use Rattle.tile_spatial.specs.Prelude.{◌≡◌, refl, sym, ap, subst, ◌∙◌, [], ℕ, ◌-◌, ◌<◌, arith, rules, get_or, length, pos, tab, grid, frequency, TileMost, spatial_gain_most}
+use Rattle.std.specs.Prelude.{◌≡◌, ◌-◌, ◌<◌}
+use Rattle.tile_spatial.specs.Prelude.{refl, sym, ap, subst, ◌∙◌, [], ℕ, arith, rules, get_or, length, pos, tab, grid, frequency, TileMost, spatial_gain_most}
 use Rattle.sequences.specs.TabLaws.{Filled, fill_start, fill-turn, fill-rest, fill_done, get_d-tab, length-tab}
 use Rattle.tile_spatial.specs.Steps.{lane_re, lane_im}
 use Rattle.tile_spatial.proofs.PairLaws.{table-most, lane-re-most, lane-im-most, spreads-are}

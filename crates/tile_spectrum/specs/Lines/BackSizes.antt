@@ -1,5 +1,6 @@
 -- How large the sums back of a line are: the places' bound times what the magnitudes of the basis add up to.
-use Rattle.tile_spectrum.specs.Lines.Prelude.{◌≡◌, sym, ap, subst, ◌∙◌, ℕ, ◌+◌, ◌*◌, ◌/◌, ◌%◌, ◌≤◌, T, leb, ℤ, nat_abs, ◌*ℤ◌, leb→le, sum_z, sum_n, Side, cos_at, cosines, cosine16, side16}
+use Rattle.std.specs.Prelude.{◌≡◌, ◌+◌, ◌*◌, ◌/◌, ◌%◌, ◌≤◌, ◌*ℤ◌}
+use Rattle.tile_spectrum.specs.Lines.Prelude.{sym, ap, subst, ◌∙◌, ℕ, T, leb, ℤ, nat_abs, leb→le, sum_z, sum_n, Side, cos_at, cosines, cosine16, side16}
 use Rattle.std.proofs.Common.{le_refl, le_trans, mod-lt, mul-le-mul_left, add_assoc, mul-add, mul_assoc, mul_comm}
 use Rattle.std.proofs.Math.Nat.{div-add-mod, mul-add-mod_self_right}
 use Rattle.algebra.specs.Order.{abs-mul-le}

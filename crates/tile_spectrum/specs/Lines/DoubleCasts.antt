@@ -1,5 +1,6 @@
 -- A whole number of at most 2^53 in double, as an i64.
-use Rattle.tile_spectrum.specs.Lines.Prelude.{◌≡◌, sym, ap, subst, ◌∙◌, List, ℕ, ◌^◌, ◌≤◌, ◌<◌, get_or, nat_abs, T, Float, nan, binary64, of_int, to_signed, in_signed, AtMost}
+use Rattle.std.specs.Prelude.{◌≡◌, ◌^◌, ◌≤◌, ◌<◌}
+use Rattle.tile_spectrum.specs.Lines.Prelude.{sym, ap, subst, ◌∙◌, List, ℕ, get_or, nat_abs, T, Float, nan, binary64, of_int, to_signed, in_signed, AtMost}
 use Rattle.sequences.specs.TabLaws.{get_d-tab}
 use Rattle.floats.specs.Casts.{whole_back}
 use Rattle.tile_spectrum.specs.Lines.Doubles.{WholeDouble, WholeLine}

@@ -1,5 +1,6 @@
 -- Forms of the numbers of a line, worked out in double: their results are the doubles of ring expressions, by two computed tests.
-use Rattle.tile_spectrum.specs.Lines.Prelude.{◌≡◌, refl, sym, ap, ap₂, subst, ◌∙◌, Bool, true, false, cond, List, [], ◌∷◌, ℕ, zero, suc, ◌+◌, ◌*◌, ◌^◌, ◌≤◌, ◌<◌, arith, T, ltb, length, get_or, ℤ, pos, nat_abs, ◌+ℤ◌, ◌-ℤ◌, ◌*ℤ◌, Float, nan, binary64, of_int, add, sub, Expr, con, ◌⊞◌, ◌⊟◌, ◌⊠◌, nth, eval, tab}
+use Rattle.std.specs.Prelude.{◌≡◌, ◌∷◌, ◌+◌, ◌*◌, ◌^◌, ◌≤◌, ◌<◌, ◌+ℤ◌, ◌-ℤ◌, ◌*ℤ◌}
+use Rattle.tile_spectrum.specs.Lines.Prelude.{refl, sym, ap, ap₂, subst, ◌∙◌, Bool, true, false, cond, List, [], ℕ, zero, suc, arith, T, ltb, length, get_or, ℤ, pos, nat_abs, Float, nan, binary64, of_int, add, sub, Expr, con, ◌⊞◌, ◌⊟◌, ◌⊠◌, nth, eval, tab}
 use Rattle.std.proofs.Common.{zero-le, ltb-true, ltb-false}
 use Rattle.algebra.specs.Test.{both, both_l, both_r}
 use Rattle.algebra.specs.Ring as ring

@@ -1,5 +1,6 @@
 -- Lines of whole numbers in double.
-use Rattle.tile_spectrum.specs.Lines.Prelude.{◌≡◌, cond, List, ℕ, ◌-◌, ◌/◌, ◌%◌, ◌≤◌, ltb, get_or, ℤ, nat_abs, Float, nan, binary64, of_int, add, sub, tab, Side}
+use Rattle.std.specs.Prelude.{◌≡◌, ◌-◌, ◌/◌, ◌%◌, ◌≤◌}
+use Rattle.tile_spectrum.specs.Lines.Prelude.{cond, List, ℕ, ltb, get_or, ℤ, nat_abs, Float, nan, binary64, of_int, add, sub, tab, Side}
 use Rattle.tile_spectrum.specs.Lines.Halfcomplex.{half_sum_of}
 
 -- z 0, .., z (n − 1)

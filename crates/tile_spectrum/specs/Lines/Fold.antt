@@ -1,6 +1,7 @@
 -- A line folded in halves. C(j+n/2) = −C(j), so a transform's even places need only the sums of numbers half a line apart, and its odd places only their
 -- differences; on the way back, the numbers of the two halves are the even places' sum and the odd places' sum, added and subtracted.
-use Rattle.tile_spectrum.specs.Lines.Prelude.{cond, ℕ, ◌+◌, ◌*◌, ◌%◌, eqb, ℤ, pos, ◌+ℤ◌, ◌-ℤ◌, ◌*ℤ◌, sum_z, Side, side16}
+use Rattle.std.specs.Prelude.{◌+◌, ◌*◌, ◌%◌, ◌+ℤ◌, ◌-ℤ◌, ◌*ℤ◌}
+use Rattle.tile_spectrum.specs.Lines.Prelude.{cond, ℕ, eqb, ℤ, pos, sum_z, Side, side16}
 use Rattle.tile_spectrum.specs.Lines.Halfcomplex.{basis_of, half_basis_of}
 
 -- ---- a line of any side

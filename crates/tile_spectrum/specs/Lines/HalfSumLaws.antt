@@ -1,5 +1,6 @@
 -- Half of the sum back: twice it is the sum in which all places but 0 and n/2 count twice; and the bounds of the basis.
-use Rattle.tile_spectrum.specs.Lines.Prelude.{◌≡◌, refl, sym, ap, subst, ◌∙◌, Bool, true, false, cond, [], ◌∷◌, ℕ, zero, suc, ◌+◌, ◌-◌, ◌*◌, ◌/◌, ◌%◌, ◌≤◌, ◌<◌, arith, eqb, lit≤, ℤ, pos, negsuc, nat_abs, neg_ℤ, ◌*ℤ◌, var, #◌, ◌⊠◌, ⊖◌, ring, Side, cos_at, cosines, cosine16, side16, Rules}
+use Rattle.std.specs.Prelude.{◌≡◌, ◌∷◌, ◌+◌, ◌-◌, ◌*◌, ◌/◌, ◌%◌, ◌≤◌, ◌<◌, ◌*ℤ◌}
+use Rattle.tile_spectrum.specs.Lines.Prelude.{refl, sym, ap, subst, ◌∙◌, Bool, true, false, cond, [], ℕ, zero, suc, arith, eqb, lit≤, ℤ, pos, negsuc, nat_abs, neg_ℤ, var, #◌, ◌⊠◌, ⊖◌, ring, Side, cos_at, cosines, cosine16, side16, Rules}
 use Rattle.std.proofs.Common.{le_trans, zero-mul, suc-mul, mul-zero, mul-suc, eqb-true, lt-ltb}
 use Rattle.std.proofs.Math.Nat.{mul_assoc, mul_comm, div-add-mod}
 use Rattle.std.proofs.Math.IntN.{neg_ℤ-neg_ℤ}

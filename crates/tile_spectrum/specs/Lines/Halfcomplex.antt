@@ -1,6 +1,7 @@
 -- The halfcomplex form of a line of real numbers' transform: the real parts of its numbers 0..n/2, then the imaginary parts of 1..n/2−1; for a line of
 -- sixteen, those of 0..8 and of 1..7. The other numbers are conjugates of these.
-use Rattle.tile_spectrum.specs.Lines.Prelude.{cond, ℕ, suc, ◌+◌, ◌-◌, ◌*◌, ◌/◌, ◌%◌, eqb, ltb, ℤ, pos, negsuc, neg_ℤ, ◌*ℤ◌, sum_z, Side, cos_at, side16}
+use Rattle.std.specs.Prelude.{◌+◌, ◌-◌, ◌*◌, ◌/◌, ◌%◌, ◌*ℤ◌}
+use Rattle.tile_spectrum.specs.Lines.Prelude.{cond, ℕ, suc, eqb, ltb, ℤ, pos, negsuc, neg_ℤ, sum_z, Side, cos_at, side16}
 
 -- half of a number, toward 0
 unfoldable pub half_z : ℤ → ℤ

@@ -1,5 +1,6 @@
 -- Numbers as the code holds them.
-use Rattle.algebra.specs.Prelude.{◌≡◌, refl, sym, subst, ◌∙◌, List, [], ◌∷◌, ℕ, zero, suc, ◌^◌, T, ltb, get_or, ℤ, pos, to_z-of_z}
+use Rattle.std.specs.Prelude.{◌≡◌, ◌∷◌, ◌^◌}
+use Rattle.algebra.specs.Prelude.{refl, sym, subst, ◌∙◌, List, [], ℕ, zero, suc, T, ltb, get_or, ℤ, pos, to_z-of_z}
 use Rattle.tile_spectrum.specs.Lines.Prelude.{Width, SFits, to_z, of_z, hbits, nth}
 use Rattle.algebra.specs.Bound.{AtMost, most_fits}
 use Rattle.tile_spectrum.specs.Lines.Lines.{LineMost}

@@ -1,5 +1,6 @@
 -- Bounds of lines and of tiles of numbers, and their lengths.
-use Rattle.algebra.specs.Prelude.{◌≡◌, List, [], ℕ, ◌≤◌, get_or, ℤ, pos, nat_abs}
+use Rattle.std.specs.Prelude.{◌≡◌, ◌≤◌}
+use Rattle.algebra.specs.Prelude.{List, [], ℕ, get_or, ℤ, pos, nat_abs}
 use Rattle.sequences.specs.Grid.{grid, cell}
 
 -- each number of the line is at most b, as an absolute value

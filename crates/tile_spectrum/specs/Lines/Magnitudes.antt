@@ -1,5 +1,6 @@
 -- The largest numbers of a line that the passes are proved for.
-use Rattle.algebra.specs.Prelude.{Bool, cond, ℕ, ◌-◌, ◌*◌, ◌^◌}
+use Rattle.std.specs.Prelude.{◌-◌, ◌*◌, ◌^◌}
+use Rattle.algebra.specs.Prelude.{Bool, cond, ℕ}
 
 -- ---- in 16 bits, and products in 32
 

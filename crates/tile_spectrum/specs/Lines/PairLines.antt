@@ -1,6 +1,7 @@
 -- Two lines of any side side by side, number n of line p at 2n + p, folded in halves: the sums and the differences of numbers half a line apart, and the places
 -- of each line. And a loop that stores them by fours: places 4k .. 4k + 3, from the even and the odd places of both.
-use Rattle.tile_spectrum.specs.Lines.Prelude.{◌≡◌, refl, ap, ◌∙◌, List, [], ◌∷◌, ℕ, zero, suc, ◌+◌, ◌*◌, ◌/◌, ◌%◌, ◌<◌, arith, get_or, set, ℤ, ◌+ℤ◌, ◌-ℤ◌, Float, nan, binary64, of_int, tab, Side, Rules}
+use Rattle.std.specs.Prelude.{◌≡◌, ◌∷◌, ◌+◌, ◌*◌, ◌/◌, ◌%◌, ◌<◌, ◌+ℤ◌, ◌-ℤ◌}
+use Rattle.tile_spectrum.specs.Lines.Prelude.{refl, ap, ◌∙◌, List, [], ℕ, zero, suc, arith, get_or, set, ℤ, Float, nan, binary64, of_int, tab, Side, Rules}
 use Rattle.sequences.specs.TabLaws.{Filled, fill-turn, get_d-tab}
 use Rattle.sequences.specs.Grid.{tab-ext}
 use Rattle.tile_spectrum.specs.Lines.Halfcomplex.{halfcomplex_of}

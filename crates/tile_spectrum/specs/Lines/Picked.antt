@@ -1,6 +1,6 @@
 -- Numbers of a line as the code holds them.
-use Rattle.tile_spectrum.specs.Lines.Prelude.{◌≡◌, refl, ap, ap₂, ◌∙◌, List, [], ◌∷◌, T, ltb, get_or, ℤ, pos, nat_abs, Width, to_z, of_z, hbits, tab}
-use Rattle.std.specs.Prelude.{ℕ, zero, suc, ◌^◌, ◌≤◌}
+use Rattle.tile_spectrum.specs.Lines.Prelude.{refl, ap, ap₂, ◌∙◌, List, [], T, ltb, get_or, ℤ, pos, nat_abs, Width, to_z, of_z, hbits, tab}
+use Rattle.std.specs.Prelude.{ℕ, zero, suc, ◌^◌, ◌≤◌, ◌≡◌, ◌∷◌}
 use Rattle.std.proofs.Common.{zero-le}
 use Rattle.tile_spectrum.specs.Lines.Lines.{LineMost}
 use Rattle.tile_spectrum.specs.Lines.Held.{held-is}

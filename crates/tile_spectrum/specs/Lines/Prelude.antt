@@ -1,7 +1,7 @@
 -- The words of other crates that this crate's files share. Lemmas are not passed on: of those the `use` line says where they are.
-pub use Rattle.algebra.specs.Prelude.{Bool, List, T, ℕ, ℤ, [], ap, ap₂, arith, cond, eqb, false, get_or, leb, length, lit<, lit≤, ltb, nat_abs, negsuc, neg_ℤ, not, pos, refl, set, subst, suc, sym, true, zero, ◌%◌, ◌*◌, ◌*ℤ◌, ◌+◌, ◌+ℤ◌, ◌-◌, ◌-ℤ◌, ◌/◌, ◌<◌, ◌^◌, ◌∙◌, ◌∷◌, ◌≡◌, ◌≤◌}
+pub use Rattle.algebra.specs.Prelude.{Bool, List, T, ℕ, ℤ, [], ap, ap₂, arith, cond, eqb, false, get_or, leb, length, lit<, lit≤, ltb, nat_abs, negsuc, neg_ℤ, not, pos, refl, set, subst, suc, sym, true, zero, ◌∙◌}
 pub use Rattle.std.proofs.Common.{leb→le, ltb→lt, nltb→le}
-pub use Rattle.std.specs.Prelude.{Float}
+pub use Rattle.std.specs.Prelude.{Float, ◌%◌, ◌*◌, ◌*ℤ◌, ◌+◌, ◌+ℤ◌, ◌-◌, ◌-ℤ◌, ◌/◌, ◌<◌, ◌^◌, ◌∷◌, ◌≡◌, ◌≤◌}
 pub use Rattle.std.specs.Float.Ieee.{add, in_signed, of_int, sub, to_signed}
 pub use Rattle.std.specs.Float.{binary64, nan}
 pub use Rattle.std.specs.Int.{Width, w16, w32}

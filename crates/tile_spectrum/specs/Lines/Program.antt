@@ -1,6 +1,7 @@
 -- Straight-line code on the numbers of a line, written once: values with names, one after the other, and the results. Computed from it are its steps, in the order
 -- in which the code takes them and each at its width, what the results are in whole numbers, and their forms in double.
-use Rattle.tile_spectrum.specs.Lines.Prelude.{◌≡◌, Bool, true, List, [], ◌∷◌, ℕ, suc, ◌^◌, T, ltb, ℤ, pos, Width, w16, w32, SFits, hbits, Expr, nth}
+use Rattle.std.specs.Prelude.{◌≡◌, ◌∷◌, ◌^◌}
+use Rattle.tile_spectrum.specs.Lines.Prelude.{Bool, true, List, [], ℕ, suc, T, ltb, ℤ, pos, Width, w16, w32, SFits, hbits, Expr, nth}
 use Rattle.algebra.specs.Test.{both, both_l, both_r}
 use Rattle.algebra.specs.Fit.{sfits-abs}
 use Rattle.algebra.specs.Code.{Code, par, lit, add, sub, mul, to, Bounded, bnd, ok, raw, nth_n, fits}

@@ -1,6 +1,7 @@
 -- The folds of a line in halves, for any side whose cosines keep the rules: each even place of the transform is that of the line of sums, each odd place
 -- that of the line of differences.
-use Rattle.tile_spectrum.specs.Lines.Prelude.{◌≡◌, refl, sym, ap, ◌∙◌, Bool, true, false, not, cond, [], ◌∷◌, ℕ, zero, suc, ◌+◌, ◌-◌, ◌*◌, ◌/◌, ◌≤◌, ◌<◌, T, ltb, arith, ℤ, neg_ℤ, ◌+ℤ◌, ◌-ℤ◌, ◌*ℤ◌, ltb→lt, nltb→le, var, ◌⊞◌, ◌⊟◌, ◌⊠◌, ⊖◌, ring, sum_z, Side, cos_at, Rules, Doubled}
+use Rattle.std.specs.Prelude.{◌≡◌, ◌∷◌, ◌+◌, ◌-◌, ◌*◌, ◌/◌, ◌≤◌, ◌<◌, ◌+ℤ◌, ◌-ℤ◌, ◌*ℤ◌}
+use Rattle.tile_spectrum.specs.Lines.Prelude.{refl, sym, ap, ◌∙◌, Bool, true, false, not, cond, [], ℕ, zero, suc, T, ltb, arith, ℤ, neg_ℤ, ltb→lt, nltb→le, var, ◌⊞◌, ◌⊟◌, ◌⊠◌, ⊖◌, ring, sum_z, Side, cos_at, Rules, Doubled}
 use Rattle.std.proofs.Common.{mul-add, add-mul, mul_assoc, zero-mul, suc-mul}
 use Rattle.std.proofs.Math.IntN.{neg_ℤ-neg_ℤ}
 use Rattle.algebra.specs.Laws.{*ℤ-distr}

@@ -1,6 +1,7 @@
 -- The sum back from a halfcomplex line in halves, for any side whose cosines keep the rules: its two halves are the sums and the differences of the even
 -- places' sum and the odd places' sum, and the even places of a line of twice the side are summed as a line of that side. So is half of the sum.
-use Rattle.tile_spectrum.specs.Lines.Prelude.{◌≡◌, refl, sym, ap, ap₂, ◌∙◌, cond, [], ◌∷◌, ℕ, zero, suc, ◌+◌, ◌*◌, ◌/◌, ◌%◌, ◌<◌, arith, eqb, lit<, ℤ, neg_ℤ, ◌+ℤ◌, ◌-ℤ◌, ◌*ℤ◌, var, ◌⊞◌, ◌⊠◌, ⊖◌, ring, sum_z, Side, Rules, Doubled}
+use Rattle.std.specs.Prelude.{◌≡◌, ◌∷◌, ◌+◌, ◌*◌, ◌/◌, ◌%◌, ◌<◌, ◌+ℤ◌, ◌-ℤ◌, ◌*ℤ◌}
+use Rattle.tile_spectrum.specs.Lines.Prelude.{refl, sym, ap, ap₂, ◌∙◌, cond, [], ℕ, zero, suc, arith, eqb, lit<, ℤ, neg_ℤ, var, ◌⊞◌, ◌⊠◌, ⊖◌, ring, sum_z, Side, Rules, Doubled}
 use Rattle.std.proofs.Common.{mul_assoc, eq-eqb, ne_eqb}
 use Rattle.std.proofs.Math.Nat.{div-add-mod}
 use Rattle.std.proofs.Math.Dec.{eqb-suc-zero}

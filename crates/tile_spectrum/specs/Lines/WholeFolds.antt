@@ -1,8 +1,8 @@
 -- Lines of whole numbers folded in halves: the fold as the code computes it, and the places of a folded line.
-use Rattle.algebra.specs.Prelude.{◌≡◌, ap, ap₂, ◌∙◌, cond, List, ℕ, ◌+◌, ◌*◌, ◌/◌, ◌%◌, ◌^◌, ◌≤◌, ◌<◌, arith, set, ℤ, pos, ◌+ℤ◌, ◌-ℤ◌, to_z-of_z}
+use Rattle.algebra.specs.Prelude.{ap, ap₂, ◌∙◌, cond, List, ℕ, arith, set, ℤ, pos, to_z-of_z}
 use Rattle.std.proofs.Math.Nat.{le_trans}
 use Rattle.std.proofs.Common.{add-le-add, eq-eqb, ne_eqb, ltb→lt, lt→ltb}
-use Rattle.std.specs.Prelude.{T, eqb, ltb}
+use Rattle.std.specs.Prelude.{T, eqb, ltb, ◌≡◌, ◌+◌, ◌*◌, ◌/◌, ◌%◌, ◌^◌, ◌≤◌, ◌<◌, ◌+ℤ◌, ◌-ℤ◌}
 use Rattle.tile_spectrum.specs.Lines.Prelude.{Width, SFits, to_z, of_z, hbits, tab, Side}
 use Rattle.algebra.specs.Order.{abs-add, abs-sub}
 use Rattle.algebra.specs.Bound.{AtMost, add-fits, sub-fits}

@@ -1,5 +1,6 @@
 -- `tile_wiener::alternating`: two stores a turn.
-use Rattle.tile_wiener.specs.Prelude.{refl, ◌-◌, ◌*◌, ◌%◌, arith, rules, either}
+use Rattle.std.specs.Prelude.{◌-◌, ◌*◌, ◌%◌}
+use Rattle.tile_wiener.specs.Prelude.{refl, arith, rules, either}
 use Rattle.sequences.specs.TabLaws.{Filled, fill_start, fill_done}
 use Rattle.tile_wiener.proofs.DoubleGains.{planes-turn}
 use Rattle.tile_wiener.proofs.alternating as of

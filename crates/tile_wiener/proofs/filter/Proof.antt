@@ -1,5 +1,6 @@
 -- `tile_wiener::filter`: the quads are replaced in the order of 16·u + l, and V and W of each lane are those of its plane.
-use Rattle.tile_wiener.specs.Prelude.{refl, true, ◌-◌, ◌*◌, ◌≤◌, arith, rules, lit≤, of_bits, doubles}
+use Rattle.std.specs.Prelude.{◌-◌, ◌*◌, ◌≤◌}
+use Rattle.tile_wiener.specs.Prelude.{refl, true, arith, rules, lit≤, of_bits, doubles}
 use mathlib.Core.Bool.{false≢true}
 use Rattle.floats.specs.Casts.{whole-counted}
 use Rattle.floats.specs.QuotientLaws.{slightly_more}

@@ -1,5 +1,6 @@
 -- `tile_wiener::inner`: two bins a turn, folded with each other.
-use Rattle.algebra.specs.Prelude.{refl, ◌+◌, ◌-◌, ◌*◌, ◌≤◌, arith, rules}
+use Rattle.std.specs.Prelude.{◌+◌, ◌-◌, ◌*◌, ◌≤◌}
+use Rattle.algebra.specs.Prelude.{refl, arith, rules}
 use Rattle.tile_wiener.specs.NewQuads.{new-inner, sure-inner}
 use Rattle.tile_wiener.proofs.SureLaws.{shrunk-start, shrunk-at, shrunk-turn}
 use Rattle.tile_wiener.specs.DoubleQuads.{Shrunk}

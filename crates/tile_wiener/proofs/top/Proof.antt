@@ -1,5 +1,6 @@
 -- `tile_wiener::top`: two lanes one after the other, asked together.
-use Rattle.tile_wiener.specs.Prelude.{refl, ◌+◌, ◌*◌, arith, rules, lit<}
+use Rattle.std.specs.Prelude.{◌+◌, ◌*◌}
+use Rattle.tile_wiener.specs.Prelude.{refl, arith, rules, lit<}
 use Rattle.tile_quad.specs.LaneLaws.{lanes-between, lanes-join}
 use Rattle.tile_wiener.specs.NewQuads.{sure-top}
 use Rattle.tile_wiener.proofs.SureLaws.{sure-one, sure-join, shrunk-at}

@@ -1,5 +1,6 @@
 -- `tile_wiener::top_lane`: two bins, each with its conjugate.
-use Rattle.algebra.specs.Prelude.{refl, ◌+◌, ◌*◌, arith, rules}
+use Rattle.std.specs.Prelude.{◌+◌, ◌*◌}
+use Rattle.algebra.specs.Prelude.{refl, arith, rules}
 use Rattle.tile_quad.specs.LaneLaws.{lanes_start, lanes-turn}
 use Rattle.tile_wiener.specs.NewQuads.{new-top}
 use Rattle.tile_wiener.proofs.top_lane as of

@@ -1,5 +1,6 @@
 -- `tile_wiener_exact::filter_exactly`: a quad a turn, in the order of 16·u + l.
-use Rattle.tile_wiener_exact.specs.Prelude.{sym, ap, subst, ◌∙◌, ◌-◌, ◌/◌, ◌%◌, ◌≤◌, arith, rules, eqb, nan, noise_most, WholeBins, Lanes}
+use Rattle.std.specs.Prelude.{◌-◌, ◌/◌, ◌%◌, ◌≤◌}
+use Rattle.tile_wiener_exact.specs.Prelude.{sym, ap, subst, ◌∙◌, arith, rules, eqb, nan, noise_most, WholeBins, Lanes}
 use Rattle.sequences.specs.Grid.{grid-of}
 use Rattle.recipe.specs.Tables.{side16}
 use Rattle.tile_spectrum.specs.Pairs.{doubles}

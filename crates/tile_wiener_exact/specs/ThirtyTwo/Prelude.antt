@@ -1,5 +1,6 @@
 -- The words of other crates that this crate's files share. Lemmas are not passed on: of those the `use` line says where they are.
-pub use Rattle.algebra.specs.Prelude.{T, [], ap, ap₂, arith, eqb, rules, pos, refl, subst, sym, w64, ◌%◌, ◌-◌, ◌/◌, ◌<◌, ◌∙◌, ◌∷◌, ◌≡◌, ◌≤◌}
+pub use Rattle.std.specs.Prelude.{◌%◌, ◌-◌, ◌/◌, ◌<◌, ◌∷◌, ◌≡◌, ◌≤◌}
+pub use Rattle.algebra.specs.Prelude.{T, [], ap, ap₂, arith, eqb, rules, pos, refl, subst, sym, w64, ◌∙◌}
 pub use Rattle.std.specs.Float.{binary64, nan}
 pub use Rattle.std.specs.Float.Ieee.{in_signed, to_signed}
 unfoldable pub use Rattle.std.specs.Float.Ieee.{of_bits, of_int}

@@ -1,5 +1,6 @@
 -- The tests of a band, one after the other; the last is of a difference, which cannot wrap.
-use Rattle.algebra.specs.Prelude.{◌≡◌, refl, Bool, true, false, ℕ, ◌+◌, ◌-◌, ◌≤◌, arith, leb}
+use Rattle.std.specs.Prelude.{◌≡◌, ◌+◌, ◌-◌, ◌≤◌}
+use Rattle.algebra.specs.Prelude.{refl, Bool, true, false, ℕ, arith, leb}
 use borrow.Author.Tests.{eq-eqb, ne_eqb, le-leb, lt-leb, leb-true, leb-false}
 use Rattle.admit_length.specs.Bands.{band_allowed}
 use Rattle.admit_length.specs.BandLaws.{side-least}

@@ -1,5 +1,6 @@
 -- The tests of the burst refuse, or 27 does, or the lengths decide.
-use Rattle.algebra.specs.Prelude.{sym, ◌∙◌, [], ◌∷◌, arith, rules}
+use Rattle.std.specs.Prelude.{◌∷◌}
+use Rattle.algebra.specs.Prelude.{sym, ◌∙◌, [], arith, rules}
 use Rattle.refusals.specs.TestLaws.{stops, goes, lone}
 use Rattle.admit_length.specs.Bands.{band_part_refusal, band_shape_tests}
 use Rattle.admit_length.specs.BandLaws.{band-in}

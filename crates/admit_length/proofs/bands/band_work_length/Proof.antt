@@ -1,5 +1,6 @@
 -- A side of 16 or 32 times the width is small.
-use Rattle.algebra.specs.Prelude.{refl, ◌*◌, arith}
+use Rattle.std.specs.Prelude.{◌*◌}
+use Rattle.algebra.specs.Prelude.{refl, arith}
 use native.Mathlib.Nat.{mul-le-mul}
 use Rattle.admit_length.specs.Bands.{band_work_length}
 use Rattle.admit_length.specs.BandLaws.{side-most}

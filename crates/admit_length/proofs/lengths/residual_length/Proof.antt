@@ -1,5 +1,6 @@
 -- The tiles of the other frames are few.
-use Rattle.algebra.specs.Prelude.{ap₂, ℕ, ◌-◌, ◌*◌, ◌≤◌, arith, rules}
+use Rattle.std.specs.Prelude.{◌-◌, ◌*◌, ◌≤◌}
+use Rattle.algebra.specs.Prelude.{ap₂, ℕ, arith, rules}
 use native.Mathlib.Nat.{mul-le-mul}
 use Rattle.admit_length.specs.Residuals.{residual_length}
 use Rattle.admit_length.proofs.lengths.residual_length as of

@@ -1,5 +1,6 @@
 -- The parts of the other frames are few.
-use Rattle.admit_length.specs.Prelude.{ap, ◌-◌, ◌*◌, arith, rules, vector_length}
+use Rattle.std.specs.Prelude.{◌-◌, ◌*◌}
+use Rattle.admit_length.specs.Prelude.{ap, arith, rules, vector_length}
 use native.Mathlib.Nat.{mul-le-mul}
 use Rattle.admit_length.proofs.lengths.vector_length as of
 

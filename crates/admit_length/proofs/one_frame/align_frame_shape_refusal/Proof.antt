@@ -1,5 +1,6 @@
 -- The tests of the burst refuse, or 27 does, or the lengths decide.
-use Rattle.algebra.specs.Prelude.{sym, ◌∙◌, [], ◌∷◌, rules}
+use Rattle.std.specs.Prelude.{◌∷◌}
+use Rattle.algebra.specs.Prelude.{sym, ◌∙◌, [], rules}
 use Rattle.refusals.specs.TestLaws.{stops, goes, lone}
 use Rattle.admit_length.specs.OneFrame.{align_frame_shape_tests}
 use Rattle.admit_length.specs.OrderLaws.{burst-allowed}

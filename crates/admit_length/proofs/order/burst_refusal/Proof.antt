@@ -1,5 +1,6 @@
 -- Each test is its definition, so the first of them is.
-use Rattle.admit_length.specs.Prelude.{ap, ap₂, ◌∙◌, [], ◌∷◌, rules, first}
+use Rattle.std.specs.Prelude.{◌∷◌}
+use Rattle.admit_length.specs.Prelude.{ap, ap₂, ◌∙◌, [], rules, first}
 use Rattle.admit_length.specs.Order.{burst_tests, shape_tests}
 use Rattle.admit_length.proofs.order.burst_refusal as of
 

@@ -1,5 +1,6 @@
 -- The reference's pyramid stays at the start of the work area while each other frame's vectors and sum are found: `Aligning` is the loop's invariant.
-use Rattle.algebra.specs.Prelude.{refl, ap, ◌∙◌, ◌-◌, ◌*◌, ◌≤◌, arith, rules}
+use Rattle.std.specs.Prelude.{◌-◌, ◌*◌, ◌≤◌}
+use Rattle.algebra.specs.Prelude.{refl, ap, ◌∙◌, arith, rules}
 use native.Mathlib.Nat.{mul-le-mul}
 use Rattle.align_burst.specs.BurstLaws.{Aligning, aligning-start, aligning-turn, aligning-done, two-pyramids, frame-of, work-room, place-room}
 use Rattle.align_burst.proofs.burst.align_frames as of

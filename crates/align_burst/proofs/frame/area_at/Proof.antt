@@ -1,6 +1,7 @@
 -- Each number is that of the definition.
 use native.Mathlib.Nat.{zero-add}
-use Rattle.algebra.specs.Prelude.{◌≡◌, sym, ap, ap₂, ◌∙◌, ℕ, ◌+◌, ◌/◌, rules}
+use Rattle.std.specs.Prelude.{◌≡◌, ◌+◌, ◌/◌}
+use Rattle.algebra.specs.Prelude.{sym, ap, ap₂, ◌∙◌, ℕ, rules}
 use Rattle.align_burst.specs.Prelude.{Shape, level_size, offset, pyramid_length, Area, level_at}
 use Rattle.align_burst.specs.Sites.{image_number, area_at}
 use Rattle.align_burst.proofs.frame.area_at as of

@@ -6,7 +6,8 @@ use Rattle.align_burst.specs.Rows.{coarse_rows}
 use Rattle.align_field.specs.LevelSums.{coarsest_rows, finer_rows}
 use Rattle.align_burst.specs.Sites.{grid_at, after, pairs_in, Reached}
 use Rattle.align_burst.specs.LevelLaws.{site3, site2, sites-fit, reached3, reached2, reached1, counted3, counted2, counted1, standing-kept, grid-few}
-use Rattle.algebra.specs.Prelude.{◌≡◌, sym, ap, ap₂, ◌∙◌, ◌+◌, ◌*◌, arith, rules}
+use Rattle.std.specs.Prelude.{◌≡◌, ◌+◌, ◌*◌}
+use Rattle.algebra.specs.Prelude.{sym, ap, ap₂, ◌∙◌, arith, rules}
 use Rattle.align_burst.proofs.frame.coarse_levels as of
 
 -- level 3

@@ -1,6 +1,7 @@
 -- The counts are those of the level's size.
 use native.Mathlib.Nat.{div-le_self}
-use Rattle.align_burst.specs.Prelude.{Shape, level_size, tile_count, level_tiles, Grid, level_at, ◌≡◌, ℕ, ◌/◌, arith, rules}
+use Rattle.std.specs.Prelude.{◌≡◌, ◌/◌}
+use Rattle.align_burst.specs.Prelude.{Shape, level_size, tile_count, level_tiles, Grid, level_at, ℕ, arith, rules}
 use Rattle.align_burst.specs.Sites.{grid_at}
 use Rattle.align_burst.proofs.frame.grid_at as of
 

@@ -1,6 +1,7 @@
 -- The level's place among the images of a pyramid, by its number.
 use Rattle.align_burst.specs.Sites.{image_number}
-use Rattle.algebra.specs.Prelude.{◌≡◌, refl, ℕ, zero, suc, ◌-◌, ◌*◌, ◌≤◌, ◌<◌, arith, rules}
+use Rattle.std.specs.Prelude.{◌≡◌, ◌-◌, ◌*◌, ◌≤◌, ◌<◌}
+use Rattle.algebra.specs.Prelude.{refl, ℕ, zero, suc, arith, rules}
 use Rattle.align_burst.proofs.frame.image_number as of
 
 low : (level : ℕ) → level < 2 → level ≡ image_number level

@@ -1,5 +1,6 @@
 -- The level's scale, by its number.
-use Rattle.align_burst.specs.Prelude.{level_at, ◌≡◌, refl, ℕ, zero, suc, arith, rules}
+use Rattle.std.specs.Prelude.{◌≡◌}
+use Rattle.align_burst.specs.Prelude.{level_at, refl, ℕ, zero, suc, arith, rules}
 use Rattle.align_burst.proofs.frame.scale_of as of
 
 last : (side level : ℕ) → (level ≡ 0 → ⊥) → (level ≡ 1 → ⊥) → (level ≡ 2 → ⊥) → 64 ≡ (level_at side level).scale

@@ -2,7 +2,8 @@
 use Rattle.sequences.specs.Write.{Writing, write-turn}
 use Rattle.align_pyramid.proofs.Ends.{ends-start, ends-length}
 use Rattle.align_pyramid.proofs.Columns.{columns-done}
-use Rattle.align_pyramid.specs.Prelude.{column_sum, ◌≡◌, ◌-◌, arith, rules, length}
+use Rattle.std.specs.Prelude.{◌≡◌, ◌-◌}
+use Rattle.align_pyramid.specs.Prelude.{column_sum, arith, rules, length}
 use Rattle.align_pyramid.specs.Words.{image_in}
 use Rattle.align_pyramid.proofs.images.column_sums as of
 

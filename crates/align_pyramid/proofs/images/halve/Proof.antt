@@ -1,5 +1,6 @@
 -- Row by row; the stores leave the image that is read as it was.
-use Rattle.align_pyramid.specs.Prelude.{◌≡◌, refl, ap, ◌+◌, ◌-◌, ◌*◌, ◌/◌, ◌≤◌, arith, rules, length, pos}
+use Rattle.std.specs.Prelude.{◌≡◌, ◌+◌, ◌-◌, ◌*◌, ◌/◌, ◌≤◌}
+use Rattle.align_pyramid.specs.Prelude.{refl, ap, arith, rules, length, pos}
 use Rattle.align_pyramid.specs.Words.{halved_in}
 use Rattle.align_pyramid.specs.WordsLaws.{kept-source, kept_halved}
 use Rattle.sequences.specs.Place.{row_room}

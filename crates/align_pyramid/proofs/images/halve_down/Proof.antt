@@ -2,7 +2,8 @@
 use Rattle.align_pyramid.specs.declared.images.Raster.{Raster}
 use Rattle.align_pyramid.specs.Words.{image_in}
 use Rattle.align_pyramid.proofs.Descent.{Halving, halving-start, halving-source, halving-room, halving-turn}
-use Rattle.algebra.specs.Prelude.{◌≡◌, refl, ◌+◌, ◌-◌, ◌*◌, ◌/◌, ◌≤◌, arith, rules, length}
+use Rattle.std.specs.Prelude.{◌≡◌, ◌+◌, ◌-◌, ◌*◌, ◌/◌, ◌≤◌}
+use Rattle.algebra.specs.Prelude.{refl, arith, rules, length}
 use Rattle.align_pyramid.proofs.images.halve_down as of
 
 abbrev invariant-loop : of.Tie.invariant-loop

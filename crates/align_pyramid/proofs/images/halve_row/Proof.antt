@@ -1,5 +1,6 @@
 -- The column sums are taken before the stores. A row's values come of them in order.
-use Rattle.align_pyramid.specs.Prelude.{ap, ◌∙◌, List, ℕ, ◌+◌, ◌-◌, ◌*◌, ◌/◌, ◌≤◌, ◌<◌, arith, rules, get_or, pos, w64, column_most, weights}
+use Rattle.std.specs.Prelude.{◌+◌, ◌-◌, ◌*◌, ◌/◌, ◌≤◌, ◌<◌}
+use Rattle.align_pyramid.specs.Prelude.{ap, ◌∙◌, List, ℕ, arith, rules, get_or, pos, w64, column_most, weights}
 use mir.ValLaws.{to_z_pos}
 use Rattle.sequences.specs.Write.{Writing, write-start, write-turn, write_done, written-ext}
 use Rattle.align_pyramid.proofs.Columns.{sum-most, sums-halved}

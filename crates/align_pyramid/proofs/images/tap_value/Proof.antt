@@ -1,7 +1,8 @@
 -- The row is inside the image, so its words are values.
 use Rattle.align_pyramid.specs.Words.{image_at, word_at, Row}
 use Rattle.align_pyramid.specs.WordsLaws.{row-held}
-use Rattle.algebra.specs.Prelude.{ap, ◌∙◌, ℕ, ◌+◌, ◌*◌, arith, rules}
+use Rattle.std.specs.Prelude.{◌+◌, ◌*◌}
+use Rattle.algebra.specs.Prelude.{ap, ◌∙◌, ℕ, arith, rules}
 use Rattle.align_pyramid.proofs.images.tap_value as of
 
 row : (c : of.Tie.After-tap_index-y) → Row c.before.args.work.now (c.before.args.image.from + c.tap_index-y.result * c.before.args.image.width) c.before.args.image.width

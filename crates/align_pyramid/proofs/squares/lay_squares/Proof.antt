@@ -1,5 +1,6 @@
 -- Level 0 is laid row by row.
-use Rattle.align_pyramid.specs.Prelude.{sample_at, bayer_sum, refl, ◌+◌, ◌-◌, ◌*◌, ◌/◌, ◌≤◌, arith, rules}
+use Rattle.std.specs.Prelude.{◌+◌, ◌-◌, ◌*◌, ◌/◌, ◌≤◌}
+use Rattle.align_pyramid.specs.Prelude.{sample_at, bayer_sum, refl, arith, rules}
 use Rattle.sequences.specs.Place.{row_room}
 use Rattle.align_pyramid.proofs.Lay.{Laying, lay-start, lay-turn, lay_done}
 use Rattle.align_pyramid.proofs.squares.lay_squares as of

@@ -1,5 +1,6 @@
 -- The store of each column's value, in order.
-use Rattle.align_pyramid.specs.Prelude.{ap, ◌∙◌, ◌-◌, ◌/◌, arith, rules, pos, w64, sample_at, bayer_sum}
+use Rattle.std.specs.Prelude.{◌-◌, ◌/◌}
+use Rattle.align_pyramid.specs.Prelude.{ap, ◌∙◌, arith, rules, pos, w64, sample_at, bayer_sum}
 use mir.ValLaws.{to_z_pos}
 use Rattle.sequences.specs.Write.{Writing, write-start, write-turn, write_done}
 use Rattle.align_pyramid.proofs.squares.square_row as of

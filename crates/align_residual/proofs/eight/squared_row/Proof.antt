@@ -1,6 +1,7 @@
 -- One sum over the samples, each square at most that of a level's values.
 use Rattle.sequences.specs.Sum.{Summed, sum-start, sum-turn, sum_done}
-use Rattle.algebra.specs.Prelude.{true, ◌+◌, ◌-◌, arith, rules, get_or}
+use Rattle.std.specs.Prelude.{◌+◌, ◌-◌}
+use Rattle.algebra.specs.Prelude.{true, arith, rules, get_or}
 use Rattle.align_residual.specs.Magnitudes.{square_most}
 use Rattle.align_residual.specs.Residual.{difference}
 use Rattle.align_residual.specs.Local.{row_sum}

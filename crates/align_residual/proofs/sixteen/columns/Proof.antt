@@ -3,7 +3,8 @@ use Rattle.align_residual.specs.SixteenLaws.{compared-less}
 use Rattle.sequences.specs.TabLaws.{Filled, fill_start, fill-turn, fill_done}
 use Rattle.align_residual.specs.Residual.{gap}
 use Rattle.align_residual.specs.Local.{column_sum}
-use Rattle.algebra.specs.Prelude.{refl, ◌+◌, ◌-◌, arith, rules}
+use Rattle.std.specs.Prelude.{◌+◌, ◌-◌}
+use Rattle.algebra.specs.Prelude.{refl, arith, rules}
 use Rattle.align_residual.proofs.sixteen.columns as of
 
 abbrev invariant-loop-j : of.Tie.invariant-loop-j

@@ -1,6 +1,7 @@
 -- The signed difference of low samples fits 16 bits; its square is that of their distance and fits 32.
 use native.Mathlib.Nat.{mul-le-mul}
-use Rattle.algebra.specs.Prelude.{◌≡◌, ap₂, ◌∙◌, ℕ, ◌*◌, ◌≤◌, arith, rules, T, ℤ, pos, negsuc, nat_abs, ◌-ℤ◌, ◌*ℤ◌, w16, w32, SFits, to_z-of_z}
+use Rattle.std.specs.Prelude.{◌≡◌, ◌*◌, ◌≤◌, ◌-ℤ◌, ◌*ℤ◌}
+use Rattle.algebra.specs.Prelude.{ap₂, ◌∙◌, ℕ, arith, rules, T, ℤ, pos, negsuc, nat_abs, w16, w32, SFits, to_z-of_z}
 use lib.Signed.{non_neg}
 use mir.ValLaws.{to_z_pos}
 use Rattle.algebra.specs.Bound.{AtMost, most_fits, mul-fits}

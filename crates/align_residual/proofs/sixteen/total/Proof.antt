@@ -1,6 +1,7 @@
 -- One sum over sixteen times four numbers of 16 bits.
 use Rattle.sequences.specs.Sum.{Summed, sum-start, sum-turn, sum_done}
-use Rattle.algebra.specs.Prelude.{ap₂, ◌+◌, ◌-◌, arith, rules, get_or}
+use Rattle.std.specs.Prelude.{◌+◌, ◌-◌}
+use Rattle.algebra.specs.Prelude.{ap₂, arith, rules, get_or}
 use Rattle.align_residual.proofs.sixteen.total as of
 
 abbrev invariant-loop-j : of.Tie.invariant-loop-j

@@ -1,7 +1,8 @@
 -- One sum over eight times four samples.
 use Rattle.align_residual.specs.SixteenLaws.{compared-less, four-rows, eight-done}
 use Rattle.sequences.specs.Sum.{Summed, sum-start, sum-turn}
-use Rattle.algebra.specs.Prelude.{◌∙◌, ◌+◌, ◌-◌, arith, rules}
+use Rattle.std.specs.Prelude.{◌+◌, ◌-◌}
+use Rattle.algebra.specs.Prelude.{◌∙◌, arith, rules}
 use Rattle.align_residual.specs.Local.{beside_sum}
 use Rattle.align_residual.proofs.sixteen.two_rows as of
 

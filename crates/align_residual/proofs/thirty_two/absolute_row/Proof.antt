@@ -2,7 +2,8 @@
 use Rattle.align_residual.specs.SixteenLaws.{compared-less, eight-done}
 use Rattle.align_residual.specs.ThirtyTwoLaws.{four_sum, four-row}
 use Rattle.sequences.specs.Sum.{Summed, sum-start, sum-turn}
-use Rattle.algebra.specs.Prelude.{◌∙◌, ◌+◌, ◌-◌, arith, rules}
+use Rattle.std.specs.Prelude.{◌+◌, ◌-◌}
+use Rattle.algebra.specs.Prelude.{◌∙◌, arith, rules}
 use Rattle.align_residual.proofs.thirty_two.absolute_row as of
 
 abbrev invariant-loop-j : of.Tie.invariant-loop-j

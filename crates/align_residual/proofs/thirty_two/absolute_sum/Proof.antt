@@ -4,7 +4,8 @@ use Rattle.align_residual.specs.SixteenLaws.{compared-less}
 use Rattle.align_residual.specs.Local.{square_row, square_sum}
 use Rattle.align_residual.specs.Magnitudes.{pair_most}
 use Rattle.sequences.specs.Sum.{Summed, sum-start, sum-turn, sum_done}
-use Rattle.algebra.specs.Prelude.{false, ◌-◌, ◌*◌, ◌≤◌, arith, rules}
+use Rattle.std.specs.Prelude.{◌-◌, ◌*◌, ◌≤◌}
+use Rattle.algebra.specs.Prelude.{false, arith, rules}
 use Rattle.align_residual.proofs.thirty_two.absolute_sum as of
 
 abbrev invariant-loop-i : of.Tie.invariant-loop-i

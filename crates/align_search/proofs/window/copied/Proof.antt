@@ -1,6 +1,7 @@
 -- Each turn copies one sample.
 use Rattle.sequences.specs.TabLaws.{Filled, fill_start, fill-turn, fill_done}
-use Rattle.algebra.specs.Prelude.{refl, ◌-◌, arith, rules, get_or}
+use Rattle.std.specs.Prelude.{◌-◌}
+use Rattle.algebra.specs.Prelude.{refl, arith, rules, get_or}
 use Rattle.align_search.proofs.window.copied as of
 
 abbrev invariant-loop-k : of.Tie.invariant-loop-k

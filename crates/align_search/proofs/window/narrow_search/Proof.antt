@@ -1,5 +1,6 @@
 -- The loop keeps the first least of the offsets tried so far and the rows that they took; the arrays are the table's, and the tile is a copy.
-use Rattle.align_search.specs.Prelude.{◌≡◌, refl, subst, ap₂, ◌∙◌, ◌+◌, ◌-◌, ◌*◌, ◌≤◌, arith, rules, lit≤, lit<, get_or, sum_n, residual_most, square_row, Left}
+use Rattle.std.specs.Prelude.{◌≡◌, ◌+◌, ◌-◌, ◌*◌, ◌≤◌}
+use Rattle.align_search.specs.Prelude.{refl, subst, ap₂, ◌∙◌, arith, rules, lit≤, lit<, get_or, sum_n, residual_most, square_row, Left}
 use mathlib.Core.Logic.{⊎_elim}
 use Rattle.sequences.specs.Sum.{Summed, sum-start, sum-turn}
 use Rattle.sequences.specs.LeastLaws.{Lowest, lowest_start, lowest-take, lowest-keep}

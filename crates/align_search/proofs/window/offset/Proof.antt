@@ -1,5 +1,6 @@
 -- Both parts stand in the table and are at most 8.
-use Rattle.align_search.specs.Prelude.{◌≡◌, sym, subst, ◌∙◌, ℕ, rules, get_or, ℤ, pos, ◌-ℤ◌, Vector, Within}
+use Rattle.std.specs.Prelude.{◌≡◌, ◌-ℤ◌}
+use Rattle.align_search.specs.Prelude.{sym, subst, ◌∙◌, ℕ, rules, get_or, ℤ, pos, Vector, Within}
 use Rattle.algebra.specs.Back.{back}
 use Rattle.align_search.specs.Table.{downs, rights, tabled}
 use Rattle.align_search.specs.OffsetLaws.{offset-tabled, parts-most, offset-within}

@@ -1,5 +1,6 @@
 -- The side decides which search it is.
-use Rattle.algebra.specs.Prelude.{◌≡◌, subst, Bool, false, ℕ, arith}
+use Rattle.std.specs.Prelude.{◌≡◌}
+use Rattle.algebra.specs.Prelude.{subst, Bool, false, ℕ, arith}
 use mathlib.Core.Logic.{⊎_elim}
 use Rattle.align_search.specs.Local.{Window, Narrow}
 use Rattle.align_search.proofs.window.search as of

@@ -1,5 +1,6 @@
 -- The side and the kind of differences decide which loop it is.
-use Rattle.align_search.specs.Prelude.{◌≡◌, subst, true, arith, InWindow}
+use Rattle.std.specs.Prelude.{◌≡◌}
+use Rattle.align_search.specs.Prelude.{subst, true, arith, InWindow}
 use mathlib.Core.Logic.{⊎_elim}
 use Rattle.align_search.proofs.window.try_offset as of
 

@@ -1,5 +1,6 @@
 -- Each arm puts the words of its number.
-use Rattle.algebra.specs.Prelude.{◌≡◌, refl, ◌≤◌, arith, rules}
+use Rattle.std.specs.Prelude.{◌≡◌, ◌≤◌}
+use Rattle.algebra.specs.Prelude.{refl, arith, rules}
 use Prim.Native.Nat.{zero-le}
 use Rattle.c_words.specs.Words.{word_table, words_of}
 use Rattle.c_words.specs.WordLaws.{past, said}

@@ -1,5 +1,6 @@
 -- Each arm puts the words of its number.
-use Rattle.algebra.specs.Prelude.{◌≡◌, refl, ◌≤◌, arith, rules}
+use Rattle.std.specs.Prelude.{◌≡◌, ◌≤◌}
+use Rattle.algebra.specs.Prelude.{refl, arith, rules}
 use Rattle.c_words.specs.Words.{word_table, words_of}
 use Rattle.c_words.specs.WordLaws.{past, said}
 use Rattle.c_words.proofs.table.put_value_words as of

@@ -1,5 +1,6 @@
 -- `check_file`: the head's refusal, or that of the frames behind it.
-use Rattle.file_burst.specs.Prelude.{◌≡◌, sym, ap, ◌∙◌, rules, Part, number_of, ◌then◌, head_of, head_in, Head, Found, Refused, Header}
+use Rattle.std.specs.Prelude.{◌≡◌}
+use Rattle.file_burst.specs.Prelude.{sym, ap, ◌∙◌, rules, Part, number_of, ◌then◌, head_of, head_in, Head, Found, Refused, Header}
 use Rattle.file_burst.specs.Reading.{body_of, reading, file_check}
 use Rattle.file_burst.proofs.Bodies.{head-allowed, body-unmeasured}
 use Rattle.file_burst.proofs.file.check_file as of

@@ -1,5 +1,6 @@
 -- `file_size`: the head's refusal, or its values.
-use Rattle.file_burst.specs.Prelude.{◌≡◌, sym, ap, ◌∙◌, rules, head_in, Head, Found, Refused}
+use Rattle.std.specs.Prelude.{◌≡◌}
+use Rattle.file_burst.specs.Prelude.{sym, ap, ◌∙◌, rules, head_in, Head, Found, Refused}
 use Rattle.file_burst.specs.Size.{head_answer, file_size}
 use Rattle.file_burst.proofs.file.file_size as of
 

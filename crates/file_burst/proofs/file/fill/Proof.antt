@@ -1,5 +1,6 @@
 -- `fill`: after j stores the first j samples are the next values, and the bytes from the position on hold the others.
-use Rattle.file_burst.specs.Prelude.{◌≡◌, refl, ◌∙◌, ◌-◌, ◌<◌, arith, rules, length, get_or, drop, next_values}
+use Rattle.std.specs.Prelude.{◌≡◌, ◌-◌, ◌<◌}
+use Rattle.file_burst.specs.Prelude.{refl, ◌∙◌, arith, rules, length, get_or, drop, next_values}
 use Rattle.sequences.specs.TabLaws.{Filled, fill_start, fill-turn, fill_done}
 use Rattle.file_burst.specs.RowLaws.{above_at}
 use Rattle.file_burst.proofs.Fills.{Taking, take-start, take-value, take-turn, next-table}

@@ -1,5 +1,6 @@
 -- `read_file`: each part's number refuses or lets the next part decide; the samples are stored once all of them are accepted.
-use Rattle.file_burst.specs.Prelude.{◌≡◌, sym, ap, ◌∙◌, List, ℕ, rules, length, drop, sample_length, length_refusal, Part, refused, found, above, next_values, head_of, head_in, Head, Found, Refused}
+use Rattle.std.specs.Prelude.{◌≡◌}
+use Rattle.file_burst.specs.Prelude.{sym, ap, ◌∙◌, List, ℕ, rules, length, drop, sample_length, length_refusal, Part, refused, found, above, next_values, head_of, head_in, Head, Found, Refused}
 use borrow.Author.Tests.{eqb-true, not-false}
 use Rattle.refusals.specs.Numbers as no
 use Rattle.refusals.specs.TestLaws.{refuse-not}

@@ -1,5 +1,6 @@
 -- `read_head`: each test's number ends the chain or lets the next part decide.
-use Rattle.file_burst.specs.Head.Prelude.{◌≡◌, sym, ap, ◌∙◌, false, List, ℕ, rules, drop, Part, refused, found, ◌then◌, value_line, line_in, next_values, judged}
+use Rattle.std.specs.Prelude.{◌≡◌}
+use Rattle.file_burst.specs.Head.Prelude.{sym, ap, ◌∙◌, false, List, ℕ, rules, drop, Part, refused, found, ◌then◌, value_line, line_in, next_values, judged}
 use Rattle.file_burst.specs.declared.lines.Line.{Line}
 use Rattle.file_burst.specs.declared.lines.Line.TheVariants.{Found, Refused}
 use Rattle.file_burst.specs.Lines.PartLaws.{unless-stops, unless-goes}

@@ -1,5 +1,6 @@
 -- `starts_with`: what the bytes from the position on say of the text from there on stays the same.
-use Rattle.file_burst.specs.Head.Prelude.{◌≡◌, refl, sym, ◌∙◌, ◌-◌, rules, length, drop}
+use Rattle.std.specs.Prelude.{◌≡◌, ◌-◌}
+use Rattle.file_burst.specs.Head.Prelude.{refl, sym, ◌∙◌, rules, length, drop}
 use native.Mathlib.Omega.{arith}
 use Rattle.file_burst.specs.Head.Head.{starts_with}
 use Rattle.file_burst.proofs.head.Starts.{starts-all, starts-short, starts-off, starts-on}

@@ -1,5 +1,6 @@
 -- `check_frames`: the rows' refusal, or 15 where bytes follow them.
-use Rattle.file_burst.specs.Prelude.{◌≡◌, sym, ap, ◌∙◌, ◌*◌, ◌≤◌, arith, rules, drop, Part, number_of}
+use Rattle.std.specs.Prelude.{◌≡◌, ◌*◌, ◌≤◌}
+use Rattle.file_burst.specs.Prelude.{sym, ap, ◌∙◌, arith, rules, drop, Part, number_of}
 use native.Mathlib.Nat.{mul-le-mul}
 use Rattle.file_burst.specs.Rows.{row_lines, ended, frames_of}
 use Rattle.file_burst.specs.Passage.{rows_in}

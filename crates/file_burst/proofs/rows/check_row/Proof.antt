@@ -1,5 +1,6 @@
 -- `check_row`: the judgement of the row's line decides.
-use Rattle.file_burst.specs.Prelude.{◌≡◌, sym, ap, ◌∙◌, rules, drop, line_in}
+use Rattle.std.specs.Prelude.{◌≡◌}
+use Rattle.file_burst.specs.Prelude.{sym, ap, ◌∙◌, rules, drop, line_in}
 use Rattle.file_burst.specs.declared.lines.Line.{Line}
 use Rattle.file_burst.specs.declared.lines.Line.TheVariants.{Found, Refused}
 use Rattle.file_burst.specs.Rows.{row}

@@ -1,5 +1,6 @@
 -- `check_rows`: what the rows left make of the file from the position on stays the same.
-use Rattle.file_burst.specs.Prelude.{◌≡◌, refl, sym, ap, ◌∙◌, ◌-◌, arith, rules, drop, Part, ◌then◌}
+use Rattle.std.specs.Prelude.{◌≡◌, ◌-◌}
+use Rattle.file_burst.specs.Prelude.{refl, sym, ap, ◌∙◌, arith, rules, drop, Part, ◌then◌}
 use Rattle.file_burst.specs.Rows.{row_lines}
 use Rattle.file_burst.specs.Passage.{rows_in, briefly}
 use Rattle.file_burst.specs.declared.Passage.{Passage}

@@ -1,5 +1,6 @@
 -- A NaN by 0/0, anything else from its pattern.
-use Rattle.file_dng.specs.Prelude.{◌≡◌, refl, sym, subst, ◌∙◌, Bool, true, false, not, rules, T, Float, nan, inf, fin, of_bits, is_nan, binary64, div}
+use Rattle.std.specs.Prelude.{◌≡◌}
+use Rattle.file_dng.specs.Prelude.{refl, sym, subst, ◌∙◌, Bool, true, false, not, rules, T, Float, nan, inf, fin, of_bits, is_nan, binary64, div}
 use lib.Ieee.Bits.{nan_bits_is}
 use Rattle.file_dng.proofs.curve.double_of as of
 

@@ -1,5 +1,6 @@
 -- The curve of the two DOUBLEs, and the black levels.
-use Rattle.file_dng.specs.Prelude.{◌≡◌, ◌∙◌, [], ◌∷◌, ℕ, rules, Float}
+use Rattle.std.specs.Prelude.{◌≡◌, ◌∷◌}
+use Rattle.file_dng.specs.Prelude.{◌∙◌, [], ℕ, rules, Float}
 use Rattle.file_dng.specs.declared.DngRead.{DngRead}
 use Rattle.file_dng.proofs.reading.accepted as of
 

@@ -1,5 +1,6 @@
 -- Each part of the tests refuses or lets the next decide; the samples are stored once all of them have passed.
-use Rattle.file_dng.specs.Prelude.{◌≡◌, sym, ap, ◌∙◌, ◌+◌, ◌*◌, ◌%◌, ◌≤◌, arith, rules, length, output_length, entries, strip_start, strip_refusal, FrameFits}
+use Rattle.std.specs.Prelude.{◌≡◌, ◌+◌, ◌*◌, ◌%◌, ◌≤◌}
+use Rattle.file_dng.specs.Prelude.{sym, ap, ◌∙◌, arith, rules, length, output_length, entries, strip_start, strip_refusal, FrameFits}
 use Rattle.refusals.specs.TestLaws.{stops, goes, lone}
 use Rattle.file_dng.specs.Tags.TagLaws.{strip-inside}
 use Rattle.file_dng.specs.Strip.StripLaws.{area-whole}

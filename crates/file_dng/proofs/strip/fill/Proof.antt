@@ -1,5 +1,6 @@
 -- After each turn the rows passed stand in the frame.
-use Rattle.algebra.specs.Prelude.{◌+◌, ◌-◌, ◌*◌, ◌≤◌, arith, rules}
+use Rattle.std.specs.Prelude.{◌+◌, ◌-◌, ◌*◌, ◌≤◌}
+use Rattle.algebra.specs.Prelude.{arith, rules}
 use Rattle.file_dng.specs.Strip.RowLaws.{Filling, rows_start, rows-turn, rows-done, strip-row, row_fits}
 use Rattle.file_dng.proofs.strip.fill as of
 

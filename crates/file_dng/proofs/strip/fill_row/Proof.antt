@@ -1,5 +1,6 @@
 -- After i stores the first i samples of the row stand in their places.
-use Rattle.algebra.specs.Prelude.{◌+◌, ◌-◌, ◌*◌, arith, rules}
+use Rattle.std.specs.Prelude.{◌+◌, ◌-◌, ◌*◌}
+use Rattle.algebra.specs.Prelude.{arith, rules}
 use Rattle.sequences.specs.Write.{Writing, write-start, write-turn, write_done}
 use Rattle.file_dng.specs.Strip.StripLaws.{sample-bytes}
 use Rattle.file_dng.specs.Strip.Strip.{strip_sample}

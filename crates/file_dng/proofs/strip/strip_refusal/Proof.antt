@@ -1,5 +1,6 @@
 -- No sample passed is above 4095, and what is left is whole blocks of 64. A hit refuses, the end accepts.
-use Rattle.algebra.specs.Prelude.{◌≡◌, ◌∙◌, ◌-◌, ◌%◌, arith, rules}
+use Rattle.std.specs.Prelude.{◌≡◌, ◌-◌, ◌%◌}
+use Rattle.algebra.specs.Prelude.{◌∙◌, arith, rules}
 use borrow.Author.Tests.{lt-ltb, le-ltb}
 use Rattle.refusals.specs.SomeLaws.{Passed, pass-start}
 use Rattle.file_dng.specs.Strip.StripLaws.{above, block, strip-refused, strip-passed, strip-accepted}

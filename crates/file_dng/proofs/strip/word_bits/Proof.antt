@@ -1,5 +1,6 @@
 -- After k turns the bits of the first k samples are gathered.
-use Rattle.algebra.specs.Prelude.{refl, ◌+◌, ◌-◌, ◌*◌, arith, rules}
+use Rattle.std.specs.Prelude.{◌+◌, ◌-◌, ◌*◌}
+use Rattle.algebra.specs.Prelude.{refl, arith, rules}
 use Rattle.refusals.specs.SeenLaws.{Seen, seen_start, seen-turn, seen_done}
 use Rattle.file_dng.specs.Tiff.Bytes.{short}
 use Rattle.file_dng.specs.Strip.Strip.{strip_sample}

@@ -1,5 +1,6 @@
 -- The digits of width and height, and ten bytes more.
-use Rattle.algebra.specs.Prelude.{◌≡◌, ℕ, ◌+◌, arith, rules}
+use Rattle.std.specs.Prelude.{◌≡◌, ◌+◌}
+use Rattle.algebra.specs.Prelude.{ℕ, arith, rules}
 use lib.ListN.{length, length-append}
 use Rattle.printing.specs.Decimal.{decimal}
 use Rattle.file_pgm.specs.Header.Header.{pgm_header}

@@ -1,5 +1,6 @@
 -- No byte passed differs. A hit decides, and so does the end.
-use Rattle.algebra.specs.Prelude.{sym, not, ◌-◌, arith, rules, eqb, length, get_or}
+use Rattle.std.specs.Prelude.{◌-◌}
+use Rattle.algebra.specs.Prelude.{sym, not, arith, rules, eqb, length, get_or}
 use borrow.Author.Tests.{eq-eqb, ne_eqb}
 use Rattle.refusals.specs.SomeLaws.{one, Passed, pass-start, pass-turn, pass-done}
 use Rattle.file_pgm.specs.Reading.{differs}

@@ -1,5 +1,6 @@
 -- Size, length and header, one after the other.
-use Rattle.algebra.specs.Prelude.{◌≡◌, true, sym, ◌∙◌, arith, rules, length}
+use Rattle.std.specs.Prelude.{◌≡◌}
+use Rattle.algebra.specs.Prelude.{true, sym, ◌∙◌, arith, rules, length}
 use borrow.Author.Tests.{eq-eqb, ne_eqb}
 use Rattle.file_pgm.specs.Form.{sizes_allowed, file_length}
 use Rattle.file_pgm.specs.Reading.{formed}

@@ -1,5 +1,6 @@
 -- The header of the size, put into a buffer of its own, beside the bytes.
-use Rattle.file_pgm.specs.Prelude.{◌≡◌, ap, ◌∙◌, arith, rules, length, take, pgm_header}
+use Rattle.std.specs.Prelude.{◌≡◌}
+use Rattle.file_pgm.specs.Prelude.{ap, ◌∙◌, arith, rules, length, take, pgm_header}
 use Rattle.file_pgm.specs.Reading.{differs}
 use Rattle.file_pgm.specs.FormLaws.{printed-front}
 use Rattle.file_pgm.proofs.reading.header_differs as of

@@ -1,5 +1,6 @@
 -- The size that the digits write, then the form.
-use Rattle.file_pgm.specs.Prelude.{◌≡◌, sym, ap, ap₂, ◌∙◌, ◌+◌, rules, length, drop, after, decimal, leading}
+use Rattle.std.specs.Prelude.{◌≡◌, ◌+◌}
+use Rattle.file_pgm.specs.Prelude.{sym, ap, ap₂, ◌∙◌, rules, length, drop, after, decimal, leading}
 use Rattle.file_pgm.specs.Reading.{width_in, height_in, formed, accepted_pgm, pgm_answer}
 use Rattle.file_pgm.specs.Size.{form_refusal, pgm_size}
 use Rattle.file_pgm.proofs.reading.pgm_size as of

@@ -1,5 +1,6 @@
 -- The size that the digits write, then the tests; the samples are stored once all of them have passed.
-use Rattle.file_pgm.specs.Prelude.{◌≡◌, true, sym, ap, ap₂, ◌∙◌, ◌+◌, ◌*◌, ◌%◌, arith, rules, length, drop, decimal, pgm_header, leading, samples_of}
+use Rattle.std.specs.Prelude.{◌≡◌, ◌+◌, ◌*◌, ◌%◌}
+use Rattle.file_pgm.specs.Prelude.{true, sym, ap, ap₂, ◌∙◌, arith, rules, length, drop, decimal, pgm_header, leading, samples_of}
 use Rattle.refusals.specs.AfterLaws.{kept, made}
 use Rattle.file_pgm.specs.declared.PgmRead.{PgmRead}
 use Rattle.file_pgm.specs.Form.{file_length}

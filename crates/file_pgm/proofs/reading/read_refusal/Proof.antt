@@ -1,5 +1,6 @@
 -- The form, then the frame's length and the samples.
-use Rattle.file_pgm.specs.Prelude.{◌≡◌, true, sym, ap, ap₂, ◌∙◌, [], ◌∷◌, arith, rules, drop, first, above_refusal, samples_of}
+use Rattle.std.specs.Prelude.{◌≡◌, ◌∷◌}
+use Rattle.file_pgm.specs.Prelude.{true, sym, ap, ap₂, ◌∙◌, [], arith, rules, drop, first, above_refusal, samples_of}
 use Rattle.file_pgm.specs.Form.{file_length}
 use Rattle.file_pgm.specs.Reading.{formed, samples_as, refusal_as}
 use Rattle.file_pgm.specs.FormLaws.{area-most, area-whole}

@@ -1,5 +1,6 @@
 -- After i turns the bits of the first i samples are gathered.
-use Rattle.algebra.specs.Prelude.{refl, ◌-◌, arith, rules, length, get_or}
+use Rattle.std.specs.Prelude.{◌-◌}
+use Rattle.algebra.specs.Prelude.{refl, arith, rules, length, get_or}
 use Rattle.file_pgm.specs.Samples.Samples.{some_above}
 use Rattle.refusals.specs.SeenLaws.{Seen, seen_start, seen-turn, seen_done}
 use Rattle.file_pgm.proofs.samples.bits as of

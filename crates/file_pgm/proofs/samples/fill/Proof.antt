@@ -1,5 +1,6 @@
 -- Block after block, the samples passed are stored.
-use Rattle.algebra.specs.Prelude.{◌≡◌, refl, sym, ap, ◌∙◌, ◌+◌, ◌-◌, ◌*◌, ◌%◌, ◌≤◌, arith, rules}
+use Rattle.std.specs.Prelude.{◌≡◌, ◌+◌, ◌-◌, ◌*◌, ◌%◌, ◌≤◌}
+use Rattle.algebra.specs.Prelude.{refl, sym, ap, ◌∙◌, arith, rules}
 use native.Mathlib.Nat.{zero-add}
 use lib.ListN.{length, get_or, drop, length-drop}
 use Rattle.sequences.specs.Grid.{tab-of}

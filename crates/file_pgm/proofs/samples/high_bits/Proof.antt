@@ -1,5 +1,6 @@
 -- After k turns the bits of the first k bytes are gathered, those of low bytes as 0.
-use Rattle.algebra.specs.Prelude.{refl, ◌-◌, ◌%◌, ◌+◌, arith, rules, get_or}
+use Rattle.std.specs.Prelude.{◌-◌, ◌%◌, ◌+◌}
+use Rattle.algebra.specs.Prelude.{refl, arith, rules, get_or}
 use native.Mathlib.Nat.{mul-le-mul}
 use Rattle.file_pgm.specs.Samples.Blocks.{high}
 use Rattle.refusals.specs.SeenLaws.{Seen, seen_start, seen-turn, seen_done}

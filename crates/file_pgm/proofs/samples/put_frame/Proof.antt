@@ -1,5 +1,6 @@
 -- After i turns the bytes of the first i samples are put.
-use Rattle.algebra.specs.Prelude.{◌-◌, arith, rules}
+use Rattle.std.specs.Prelude.{◌-◌}
+use Rattle.algebra.specs.Prelude.{arith, rules}
 use lib.ListN.{length, length-set}
 use Rattle.file_pgm.proofs.samples.Framing.{Framing, frame-start, frame-turn, frame-done}
 use Rattle.file_pgm.proofs.samples.put_frame as of

@@ -1,5 +1,6 @@
 -- After k turns the first k words are stored.
-use Rattle.algebra.specs.Prelude.{refl, ◌-◌, arith, rules, get_or}
+use Rattle.std.specs.Prelude.{◌-◌}
+use Rattle.algebra.specs.Prelude.{refl, arith, rules, get_or}
 use Rattle.sequences.specs.Write.{Writing, write-start, write-turn, write_done}
 use Rattle.file_pgm.specs.Samples.Blocks.{exchanged}
 use Rattle.file_pgm.proofs.samples.put_words as of

@@ -1,5 +1,6 @@
 -- No sample passed is above 4095, and what is left is whole blocks of 64. A hit refuses, the end accepts.
-use Rattle.algebra.specs.Prelude.{◌≡◌, sym, ◌∙◌, ◌+◌, ◌-◌, ◌%◌, arith, rules, ltb, length, get_or, drop}
+use Rattle.std.specs.Prelude.{◌≡◌, ◌+◌, ◌-◌, ◌%◌}
+use Rattle.algebra.specs.Prelude.{sym, ◌∙◌, arith, rules, ltb, length, get_or, drop}
 use lib.ListN.{length-drop}
 use borrow.Author.Tests.{lt-ltb, le-ltb}
 use Rattle.refusals.specs.Some.{some}

@@ -1,5 +1,6 @@
 -- After k turns the first k words are made.
-use Rattle.algebra.specs.Prelude.{refl, ◌+◌, ◌-◌, ◌*◌, arith, rules, get_or}
+use Rattle.std.specs.Prelude.{◌+◌, ◌-◌, ◌*◌}
+use Rattle.algebra.specs.Prelude.{refl, arith, rules, get_or}
 use Rattle.sequences.specs.TabLaws.{Filled, fill_start, fill-turn, fill_done}
 use Rattle.file_pgm.specs.Samples.Blocks.{words_from}
 use Rattle.file_pgm.proofs.samples.words as of

@@ -1,5 +1,6 @@
 -- A refusal returns before the first store; acceptance puts the header and then the samples, over all of the bytes.
-use Rattle.algebra.specs.Prelude.{◌≡◌, sym, ◌∙◌, arith, rules, length}
+use Rattle.std.specs.Prelude.{◌≡◌}
+use Rattle.algebra.specs.Prelude.{sym, ◌∙◌, arith, rules, length}
 use Prim.Native.Nat.{zero-le}
 use Rattle.refusals.specs.AfterLaws.{kept, made}
 use Rattle.printing.specs.PutLaws.{printed-then}

@@ -1,5 +1,6 @@
 -- The size, then the two lengths, then the samples.
-use Rattle.file_pgm.specs.Prelude.{◌≡◌, true, not, sym, ap, ap₂, ◌∙◌, [], ◌∷◌, ◌*◌, arith, rules, length, refuse, first, length_refusal}
+use Rattle.std.specs.Prelude.{◌≡◌, ◌∷◌, ◌*◌}
+use Rattle.file_pgm.specs.Prelude.{true, not, sym, ap, ap₂, ◌∙◌, [], arith, rules, length, refuse, first, length_refusal}
 use Rattle.refusals.specs.Numbers.{size, wrong_output_length, byte_length}
 use Rattle.refusals.specs.TestLaws.{stops, goes, lone}
 use Rattle.file_pgm.specs.Form.{file_length, sizes_allowed}

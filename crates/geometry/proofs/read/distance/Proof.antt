@@ -1,5 +1,6 @@
 -- −1−z is such a distance where z is negative.
-use Rattle.algebra.specs.Prelude.{◌≡◌, refl, sym, subst, true, false, ℕ, ◌<◌, arith, T, ℤ, pos, negsuc, nat_abs, ◌-ℤ◌, w64, SFits}
+use Rattle.std.specs.Prelude.{◌≡◌, ◌<◌, ◌-ℤ◌}
+use Rattle.algebra.specs.Prelude.{refl, sym, subst, true, false, ℕ, arith, T, ℤ, pos, negsuc, nat_abs, w64, SFits}
 use lib.Signed.{mag, lt_z, non_neg}
 use mir.Facts.{to_z-of_z, Fits-nat_abs}
 use borrow.Author.Tests.{ltb-true}

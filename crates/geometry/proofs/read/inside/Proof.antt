@@ -1,5 +1,6 @@
 -- −1−k and k read the same index.
-use Rattle.algebra.specs.Prelude.{◌≡◌, refl, ap, ◌∙◌, ℕ, ◌*◌, ◌%◌, rules, ℤ, pos, negsuc, to_z-of_z}
+use Rattle.std.specs.Prelude.{◌≡◌, ◌*◌, ◌%◌}
+use Rattle.algebra.specs.Prelude.{refl, ap, ◌∙◌, ℕ, rules, ℤ, pos, negsuc, to_z-of_z}
 use lib.Signed.{mag}
 use Rattle.geometry.specs.Read.{mirrored, inside}
 use Rattle.geometry.proofs.read.inside as of

@@ -1,5 +1,6 @@
 -- The index lies below the samples' length, which is small, and so does each step towards it.
-use Rattle.algebra.specs.Prelude.{refl, ℕ, ◌+◌, ◌*◌, ◌<◌, arith}
+use Rattle.std.specs.Prelude.{◌+◌, ◌*◌, ◌<◌}
+use Rattle.algebra.specs.Prelude.{refl, ℕ, arith}
 use native.Mathlib.Nat.{le_trans, mul-le-mul}
 use Rattle.geometry.specs.declared.Shape.{Shape}
 use Rattle.geometry.specs.Shape.{sample_length}

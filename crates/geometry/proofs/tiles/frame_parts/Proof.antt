@@ -1,5 +1,6 @@
 -- Two parts for each tile are few.
-use Rattle.algebra.specs.Prelude.{ap₂, ◌*◌, arith, rules}
+use Rattle.std.specs.Prelude.{◌*◌}
+use Rattle.algebra.specs.Prelude.{ap₂, arith, rules}
 use native.Mathlib.Nat.{mul-le-mul}
 use Rattle.geometry.proofs.tiles.frame_parts as of
 

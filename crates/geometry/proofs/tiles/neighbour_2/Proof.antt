@@ -1,5 +1,6 @@
 -- Each arm of the match at its remainder.
-use Rattle.algebra.specs.Prelude.{◌≡◌, ◌%◌, arith, rules}
+use Rattle.std.specs.Prelude.{◌≡◌, ◌%◌}
+use Rattle.algebra.specs.Prelude.{arith, rules}
 use Rattle.geometry.specs.Tiles.{neighbour2}
 use Rattle.geometry.specs.NeighbourLaws.{neighbour-by-2}
 use Rattle.geometry.proofs.tiles.neighbour_2 as of

@@ -1,5 +1,6 @@
 -- Half a side times the index, less half a side, is small.
-use Rattle.algebra.specs.Prelude.{◌≡◌, sym, subst, ◌∙◌, ℕ, ◌*◌, ◌≤◌, arith, rules, pos, ◌-ℤ◌, w64, SFits, to_z}
+use Rattle.std.specs.Prelude.{◌≡◌, ◌*◌, ◌≤◌, ◌-ℤ◌}
+use Rattle.algebra.specs.Prelude.{sym, subst, ◌∙◌, ℕ, arith, rules, pos, w64, SFits, to_z}
 use native.Mathlib.Nat.{mul-le-mul}
 use mir.Facts.{to_z-of_z, to_z_pos}
 use Rattle.algebra.specs.Bound.{AtMost, most_fits, sub-most}

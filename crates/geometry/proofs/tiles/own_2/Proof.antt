@@ -1,5 +1,6 @@
 -- Each arm of the match at its remainder.
-use Rattle.algebra.specs.Prelude.{◌≡◌, ◌%◌, arith, rules}
+use Rattle.std.specs.Prelude.{◌≡◌, ◌%◌}
+use Rattle.algebra.specs.Prelude.{arith, rules}
 use Rattle.geometry.specs.Tiles.{own2}
 use Rattle.geometry.specs.NeighbourLaws.{own-by-2}
 use Rattle.geometry.proofs.tiles.own_2 as of

@@ -1,5 +1,6 @@
 -- The place lies among the vectors, which are few.
-use Rattle.algebra.specs.Prelude.{ap₂, ◌+◌, ◌*◌, ◌≤◌, arith, rules}
+use Rattle.std.specs.Prelude.{◌+◌, ◌*◌, ◌≤◌}
+use Rattle.algebra.specs.Prelude.{ap₂, arith, rules}
 use native.Mathlib.Nat.{mul-le-mul}
 use Rattle.geometry.specs.Vectors.{vector_place}
 use Rattle.geometry.specs.TileLaws.{sided-most}

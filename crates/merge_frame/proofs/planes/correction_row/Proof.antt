@@ -1,5 +1,6 @@
 -- The rows of either side.
-use Rattle.merge_frame.specs.Prelude.{◌≡◌, sym, subst, List, ℕ, ◌*◌, ◌/◌, ◌≤◌, arith, lit<, rules, length, ℤ, TileSide, Merge, scene_at, Accepted, row_words, Stored}
+use Rattle.std.specs.Prelude.{◌≡◌, ◌*◌, ◌/◌, ◌≤◌}
+use Rattle.merge_frame.specs.Prelude.{sym, subst, List, ℕ, arith, lit<, rules, length, ℤ, TileSide, Merge, scene_at, Accepted, row_words, Stored}
 use mathlib.Core.Logic.{⊎_elim}
 use Rattle.recipe.specs.Tables.{side16}
 use Rattle.recipe.specs.Tables32.{side32}

@@ -1,5 +1,6 @@
 -- A row a turn, from the two rows of pairs of tiles that are held.
-use Rattle.algebra.specs.Prelude.{◌-◌, ◌*◌, ◌/◌, ◌≤◌, arith, rules}
+use Rattle.std.specs.Prelude.{◌-◌, ◌*◌, ◌/◌, ◌≤◌}
+use Rattle.algebra.specs.Prelude.{arith, rules}
 use Rattle.merge_frame.proofs.Bands.{band-most, top-most, half-most, side-most, InBand, band-start, band-inside, band-over, band-room, band-turn, band-done}
 use Rattle.merge_frame.proofs.planes.merge_band as of
 

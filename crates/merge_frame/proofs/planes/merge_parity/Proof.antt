@@ -1,5 +1,6 @@
 -- A band a turn, each under the row of pairs of tiles that the one before has left.
-use Rattle.merge_frame.specs.Prelude.{◌≡◌, refl, subst, ◌∙◌, ℕ, ◌+◌, ◌-◌, ◌*◌, ◌/◌, ◌≤◌, ◌<◌, arith, rules, length, TileSide, scene_of}
+use Rattle.std.specs.Prelude.{◌≡◌, ◌+◌, ◌-◌, ◌*◌, ◌/◌, ◌≤◌, ◌<◌}
+use Rattle.merge_frame.specs.Prelude.{refl, subst, ◌∙◌, ℕ, arith, rules, length, TileSide, scene_of}
 use native.Mathlib.Nat.{mul-le-mul_right}
 use Rattle.merge_tiles.specs.Places.{by_side}
 use Rattle.merge_frame.specs.Progress.{RowsMerged}

@@ -1,5 +1,6 @@
 -- The sum goes on by one frame a turn.
-use Rattle.merge_tiles.specs.Prelude.{◌≡◌, refl, sym, subst, ◌-◌, ◌≤◌, arith, rules, lit≤, eqb, length, side16, scene_at, TileMost, noise_most, small_most}
+use Rattle.std.specs.Prelude.{◌≡◌, ◌-◌, ◌≤◌}
+use Rattle.merge_tiles.specs.Prelude.{refl, sym, subst, arith, rules, lit≤, eqb, length, side16, scene_at, TileMost, noise_most, small_most}
 use Rattle.tile_spectrum.specs.Lines.Magnitudes.{difference_most}
 use Rattle.tile_spectrum.specs.SizeLaws.{correction-small}
 use Rattle.tile_spectrum.specs.Apart.{cond_cases}

@@ -1,5 +1,6 @@
 -- V' of both planes, and the filter.
-use Rattle.merge_tiles.specs.Prelude.{◌≡◌, ap, subst, sym, ◌∙◌, List, [], ℕ, ◌/◌, ◌%◌, ◌≤◌, ◌<◌, arith, pos, ◌+ℤ◌, ◌*ℤ◌, tab, side16, frequency, spatial_number, Merge, SpatialRange, spatial_most, plane_in, either, copy_in, NoiseLine, NoisesMost}
+use Rattle.std.specs.Prelude.{◌≡◌, ◌/◌, ◌%◌, ◌≤◌, ◌<◌, ◌+ℤ◌, ◌*ℤ◌}
+use Rattle.merge_tiles.specs.Prelude.{ap, subst, sym, ◌∙◌, List, [], ℕ, arith, pos, tab, side16, frequency, spatial_number, Merge, SpatialRange, spatial_most, plane_in, either, copy_in, NoiseLine, NoisesMost}
 use Prim.Native.Nat.{zero-le}
 use Rattle.sequences.specs.TabLaws.{tab-every}
 use Rattle.sequences.specs.Grid.{grid, cell, cell-grid, grid-ext}

@@ -1,5 +1,6 @@
 -- T0 has its roots and its noise numbers, and what is taken from it is its sums, or these with the spatial filter's.
-use Rattle.merge_tiles.specs.Prelude.{◌≡◌, refl, List, ℕ, suc, ◌≤◌, ◌<◌, arith, rules, lit≤, ℤ, cell, side16, noise_most, small_most, either, Merge, reference_tile, reference_root, scene_at, SpatialRange}
+use Rattle.std.specs.Prelude.{◌≡◌, ◌≤◌, ◌<◌}
+use Rattle.merge_tiles.specs.Prelude.{refl, List, ℕ, suc, arith, rules, lit≤, ℤ, cell, side16, noise_most, small_most, either, Merge, reference_tile, reference_root, scene_at, SpatialRange}
 use Rattle.merge_tiles.specs.Accepted.{Accepted, Tuned}
 use Rattle.merge_tiles.specs.Sum.{at_site, pair_at, TileOf}
 use Rattle.merge_tiles.specs.DifferenceLaws.{tile-fits, reference-most}

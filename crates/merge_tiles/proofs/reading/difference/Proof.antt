@@ -1,5 +1,6 @@
 -- A tile of differences: filled row by row from the front.
-use Rattle.merge_tiles.specs.Prelude.{◌-◌, arith, rules, pos, ◌-ℤ◌, tab, grid, cell}
+use Rattle.std.specs.Prelude.{◌-◌, ◌-ℤ◌}
+use Rattle.merge_tiles.specs.Prelude.{arith, rules, pos, tab, grid, cell}
 use Rattle.sequences.specs.TabLaws.{Filled, fill_start, fill-turn, fill_done}
 use Rattle.merge_tiles.proofs.reading.difference as of
 

@@ -1,5 +1,6 @@
 -- Two samples fit a signed word, and so does their difference.
-use Rattle.algebra.specs.Prelude.{◌≡◌, ◌∙◌, ℕ, ◌≤◌, arith, rules, pos, ◌-ℤ◌, w16, SFits, to_z}
+use Rattle.std.specs.Prelude.{◌≡◌, ◌≤◌, ◌-ℤ◌}
+use Rattle.algebra.specs.Prelude.{◌∙◌, ℕ, arith, rules, pos, w16, SFits, to_z}
 use mir.Facts.{to_z-of_z, to_z_pos}
 use Rattle.algebra.specs.Bound.{sub-fits}
 use Rattle.merge_tiles.proofs.reading.minus as of

@@ -1,5 +1,6 @@
 -- An origin and a vector's part are small.
-use Rattle.algebra.specs.Prelude.{◌≡◌, ap, ◌∙◌, arith, rules, pos, ◌+ℤ◌, w32, w64, to_z, of_z, to_z-of_z}
+use Rattle.std.specs.Prelude.{◌≡◌, ◌+ℤ◌}
+use Rattle.algebra.specs.Prelude.{ap, ◌∙◌, arith, rules, pos, w32, w64, to_z, of_z, to_z-of_z}
 use Rattle.algebra.specs.Order.{abs-add}
 use Rattle.algebra.specs.Bound.{add_most, most_fits}
 use Rattle.merge_tiles.specs.SignedLaws.{sum_is, sum-most, wide_fits, wide-most}

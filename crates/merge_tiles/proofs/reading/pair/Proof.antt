@@ -1,5 +1,6 @@
 -- The view's pair at the moved origins, cell by cell.
-use Rattle.algebra.specs.Prelude.{◌≡◌, refl, ap, ap₂, ◌∙◌, ◌/◌, rules, ◌+ℤ◌, w64, to_z, of_z, to_z-of_z}
+use Rattle.std.specs.Prelude.{◌≡◌, ◌/◌, ◌+ℤ◌}
+use Rattle.algebra.specs.Prelude.{refl, ap, ap₂, ◌∙◌, rules, w64, to_z, of_z, to_z-of_z}
 use Rattle.sequences.specs.Grid.{grid-ext}
 use Rattle.merge_tiles.specs.Prelude.{sample_at, side16, tile_at}
 use Rattle.geometry.specs.Tiles.{origin}

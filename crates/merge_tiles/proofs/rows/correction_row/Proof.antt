@@ -1,5 +1,6 @@
 -- A pair a turn, each at its places of the row.
-use Rattle.merge_tiles.specs.Prelude.{◌≡◌, refl, ap, ◌∙◌, ◌+◌, ◌-◌, ◌/◌, arith, rules, tab, grid, TileSide, side16, scene_at}
+use Rattle.std.specs.Prelude.{◌≡◌, ◌+◌, ◌-◌, ◌/◌}
+use Rattle.merge_tiles.specs.Prelude.{refl, ap, ◌∙◌, arith, rules, tab, grid, TileSide, side16, scene_at}
 use mathlib.Core.Logic.{inl}
 use Rattle.merge_tiles.specs.Rows.{row_words}
 use Rattle.merge_tiles.specs.StoreLaws.{Storing, store-start, store-turn, store-done}

@@ -1,5 +1,6 @@
 -- A row's place is one of two.
-use Rattle.algebra.specs.Prelude.{refl, ◌*◌, ◌%◌, ◌≤◌, arith, rules}
+use Rattle.std.specs.Prelude.{◌*◌, ◌%◌, ◌≤◌}
+use Rattle.algebra.specs.Prelude.{refl, arith, rules}
 use native.Mathlib.Nat.{mul-le-mul, mul-le-mul_right}
 use Rattle.merge_tiles.specs.Rows.{row_words, slot_of}
 use Rattle.merge_tiles.proofs.rows.slot as of

@@ -1,5 +1,6 @@
 -- The words of half a row, one after the other.
-use Rattle.algebra.specs.Prelude.{◌+◌, ◌-◌, arith, rules, get_or, pos, to_z-of_z, w64}
+use Rattle.std.specs.Prelude.{◌+◌, ◌-◌}
+use Rattle.algebra.specs.Prelude.{arith, rules, get_or, pos, to_z-of_z, w64}
 use Rattle.sequences.specs.Write.{Writing, write-start, write-turn, write_done}
 use Rattle.merge_tiles.proofs.rows.store_block as of
 

@@ -1,5 +1,6 @@
 -- A row a turn.
-use Rattle.merge_tiles.specs.Prelude.{◌≡◌, subst, ◌+◌, ◌-◌, ◌≤◌, arith, rules, pos, cell}
+use Rattle.std.specs.Prelude.{◌≡◌, ◌+◌, ◌-◌, ◌≤◌}
+use Rattle.merge_tiles.specs.Prelude.{subst, arith, rules, pos, cell}
 use Rattle.merge_tiles.specs.Rows.{Spread}
 use Rattle.merge_tiles.specs.StoreLaws.{spread-start, spread-turn}
 use Rattle.merge_tiles.proofs.rows.store_half as of

@@ -1,5 +1,6 @@
 -- The sum goes on by one frame a turn.
-use Rattle.merge_tiles32.specs.Prelude.{◌≡◌, refl, sym, subst, ◌-◌, ◌≤◌, arith, rules, lit≤, eqb, length, tab, side32, scene_at, long_noise_most}
+use Rattle.std.specs.Prelude.{◌≡◌, ◌-◌, ◌≤◌}
+use Rattle.merge_tiles32.specs.Prelude.{refl, sym, subst, arith, rules, lit≤, eqb, length, tab, side32, scene_at, long_noise_most}
 use lib.Ieee.{nan, binary64, of_bits}
 use Rattle.sequences.specs.Grid.{grid, grid-of}
 use Rattle.tile_spectrum.specs.Lines.Lines.{TileMost}

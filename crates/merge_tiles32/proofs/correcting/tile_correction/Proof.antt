@@ -1,5 +1,6 @@
 -- T0 has its roots and its noise numbers, and what is taken from it is its sums.
-use Rattle.merge_tiles32.specs.Prelude.{◌≡◌, refl, arith, rules, lit≤, cell, side32, long_noise_most, reference_tile, scene_at, TileOf, pair_at}
+use Rattle.std.specs.Prelude.{◌≡◌}
+use Rattle.merge_tiles32.specs.Prelude.{refl, arith, rules, lit≤, cell, side32, long_noise_most, reference_tile, scene_at, TileOf, pair_at}
 use Rattle.merge_tiles32.specs.Sizes.{long_small_most}
 use Rattle.merge_tiles.specs.DifferenceLaws.{tile-fits, reference-most}
 use Rattle.merge_tiles.specs.TileLaws.{tile-of, taken-off}

@@ -1,5 +1,6 @@
 -- A row of differences: filled from the front.
-use Rattle.algebra.specs.Prelude.{◌≡◌, refl, ◌∙◌, ◌-◌, arith, rules, get_or, pos, ◌-ℤ◌, w16, to_z, of_z}
+use Rattle.std.specs.Prelude.{◌≡◌, ◌-◌, ◌-ℤ◌}
+use Rattle.algebra.specs.Prelude.{refl, ◌∙◌, arith, rules, get_or, pos, w16, to_z, of_z}
 use Rattle.sequences.specs.TabLaws.{Filled, fill_start, fill-turn, fill_done}
 use Rattle.merge_tiles32.proofs.reading.difference_row as of
 

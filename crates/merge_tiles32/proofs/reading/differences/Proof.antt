@@ -1,5 +1,6 @@
 -- The pair of the frame that the index names, moved by the vector that stands at its place.
-use Rattle.algebra.specs.Prelude.{◌≡◌, ◌∙◌, arith, rules}
+use Rattle.std.specs.Prelude.{◌≡◌}
+use Rattle.algebra.specs.Prelude.{◌∙◌, arith, rules}
 use Rattle.merge_tiles32.specs.Prelude.{grid, side32, other_tile, scene_at, at_site}
 use Rattle.tile_spectrum.specs.Pairs.{side_by_side}
 use Rattle.merge_tiles.specs.DifferenceLaws.{pair-rows, difference-grid, tile-fits, part-most, part-is, other-pair-is, site-row, site-column, reference-most, other-most}

@@ -1,5 +1,6 @@
 -- A pair a turn, each at its places of the row.
-use Rattle.merge_tiles32.specs.Prelude.{◌≡◌, refl, ap, ◌∙◌, ◌+◌, ◌-◌, ◌/◌, arith, rules, tab, grid, TileSide, side32, scene_at, row_words}
+use Rattle.std.specs.Prelude.{◌≡◌, ◌+◌, ◌-◌, ◌/◌}
+use Rattle.merge_tiles32.specs.Prelude.{refl, ap, ◌∙◌, arith, rules, tab, grid, TileSide, side32, scene_at, row_words}
 use mathlib.Core.Logic.{inr}
 use Rattle.merge_tiles.specs.StoreLaws.{Storing, store-start, store-turn, store-done}
 use Rattle.merge_tiles32.proofs.rows.correction_row as of

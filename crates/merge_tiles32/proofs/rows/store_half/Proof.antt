@@ -1,5 +1,6 @@
 -- A row a turn.
-use Rattle.merge_tiles32.specs.Prelude.{◌≡◌, subst, ◌+◌, ◌-◌, ◌≤◌, arith, rules, pos, cell, Spread}
+use Rattle.std.specs.Prelude.{◌≡◌, ◌+◌, ◌-◌, ◌≤◌}
+use Rattle.merge_tiles32.specs.Prelude.{subst, arith, rules, pos, cell, Spread}
 use Rattle.merge_tiles.specs.StoreLaws.{spread-start, spread-turn}
 use Rattle.merge_tiles32.proofs.rows.store_half as of
 

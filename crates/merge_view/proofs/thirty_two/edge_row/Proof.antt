@@ -1,5 +1,6 @@
 -- Two rows of thirty-two, put one after the other.
-use Rattle.algebra.specs.Prelude.{◌≡◌, refl, sym, ap, subst, ◌∙◌, arith, rules, length, pos, ◌+ℤ◌, w64, to_z, of_z, to_z-of_z}
+use Rattle.std.specs.Prelude.{◌≡◌, ◌+ℤ◌}
+use Rattle.algebra.specs.Prelude.{refl, sym, ap, subst, ◌∙◌, arith, rules, length, pos, w64, to_z, of_z, to_z-of_z}
 use Rattle.sequences.specs.Write.{written-length}
 use Rattle.merge_view.specs.View.{Near}
 use Rattle.merge_view.proofs.WideRows.{joined}

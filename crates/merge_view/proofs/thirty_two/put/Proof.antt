@@ -1,5 +1,6 @@
 -- The words of half a row, one after the other.
-use Rattle.algebra.specs.Prelude.{◌-◌, arith, rules, get_or, refl}
+use Rattle.std.specs.Prelude.{◌-◌}
+use Rattle.algebra.specs.Prelude.{arith, rules, get_or, refl}
 use Rattle.sequences.specs.Write.{Writing, write-start, write-turn, write_done}
 use Rattle.merge_view.proofs.thirty_two.put as of
 

@@ -1,5 +1,6 @@
 -- The bits' fields say what is zero and where the digits are shifted (`told`).
-use Rattle.algebra.specs.Prelude.{sym, subst, ◌∙◌, not, ℕ, ◌/◌, ◌%◌, ◌^◌, arith, rules, T, leb}
+use Rattle.std.specs.Prelude.{◌/◌, ◌%◌, ◌^◌}
+use Rattle.algebra.specs.Prelude.{sym, subst, ◌∙◌, not, ℕ, arith, rules, T, leb}
 use borrow.Author.Tests.{le-leb}
 use lib.Bits.{bit_and}
 use lib.Ieee.{Float, nan, inf, fin, is_nan, to_bits, binary64}

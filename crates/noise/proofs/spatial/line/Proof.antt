@@ -1,5 +1,6 @@
 -- The numbers are stored one after the other; a product is at most 181 times the scale's bound.
-use Rattle.algebra.specs.Prelude.{refl, ◌*◌, ◌/◌, ◌-◌, arith, rules, get_or}
+use Rattle.std.specs.Prelude.{◌*◌, ◌/◌, ◌-◌}
+use Rattle.algebra.specs.Prelude.{refl, arith, rules, get_or}
 use native.Mathlib.Nat.{mul-le-mul}
 use Rattle.sequences.specs.TabLaws.{Filled, fill_start, fill-turn, fill_done}
 use Rattle.noise.proofs.spatial.line as of

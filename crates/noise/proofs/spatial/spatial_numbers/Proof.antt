@@ -1,5 +1,6 @@
 -- The lines are stored one after the other; the table is that of m.
-use Rattle.noise.specs.Prelude.{◌≡◌, refl, sym, ap, subst, ◌∙◌, [], ℕ, ◌*◌, ◌/◌, ◌-◌, ◌≤◌, ◌<◌, arith, rules, get_or, tab, side16, variance, distance, spatial_number}
+use Rattle.std.specs.Prelude.{◌≡◌, ◌*◌, ◌/◌, ◌-◌, ◌≤◌, ◌<◌}
+use Rattle.noise.specs.Prelude.{refl, sym, ap, subst, ◌∙◌, [], ℕ, arith, rules, get_or, tab, side16, variance, distance, spatial_number}
 use Prim.Native.Nat.{zero-le}
 use native.Mathlib.Nat.{mul-le-mul}
 use Rattle.sequences.specs.TabLaws.{Filled, fill_start, fill-turn, fill_done, get_d-tab, tab-each}

@@ -1,5 +1,6 @@
 -- Value k is put where what is left of the line starts with it.
-use Rattle.printing.specs.Prelude.{rules, arith, refl, ◌-◌, length}
+use Rattle.std.specs.Prelude.{◌-◌}
+use Rattle.printing.specs.Prelude.{rules, arith, refl, length}
 use Rattle.printing.proofs.Lining.{Lining, lining-start, lining-turn, lining-done}
 use Rattle.printing.proofs.lines.put_numbers as of
 

@@ -1,5 +1,6 @@
 -- A row's line is put where what is left of the frame starts with it.
-use Rattle.printing.specs.Prelude.{rules, arith, ◌≡◌, ℕ, ◌+◌, ◌-◌, ◌*◌, ◌≤◌, ◌<◌, drop}
+use Rattle.std.specs.Prelude.{◌≡◌, ◌+◌, ◌-◌, ◌*◌, ◌≤◌, ◌<◌}
+use Rattle.printing.specs.Prelude.{rules, arith, ℕ, drop}
 use native.Mathlib.Nat.{suc-mul, zero-mul, mul-le-mul_right, sub-zero}
 use native.Mathlib.Numerals.{add-one}
 use Rattle.printing.specs.Lines.{sample_rows}

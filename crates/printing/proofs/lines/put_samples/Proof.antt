@@ -1,5 +1,6 @@
 -- Sample k of the part is put where what is left of the line starts with it.
-use Rattle.printing.specs.Prelude.{rules, arith, ◌≡◌, ◌+◌, ◌-◌, ◌<◌}
+use Rattle.std.specs.Prelude.{◌≡◌, ◌+◌, ◌-◌, ◌<◌}
+use Rattle.printing.specs.Prelude.{rules, arith}
 use lib.ListN.{length, get_or, take, drop, length-drop}
 use lib.Seq.{length-take-le, get_or-take, get_or-drop}
 use Rattle.printing.specs.LineLaws.{value-length}

@@ -1,5 +1,6 @@
 -- The digits of n / 10, put by the call, and then n % 10 are those of n.
-use Rattle.printing.specs.Prelude.{arith, ◌/◌}
+use Rattle.std.specs.Prelude.{◌/◌}
+use Rattle.printing.specs.Prelude.{arith}
 use Rattle.printing.specs.DecimalLaws.{decimal-small, decimal-more, decimal-length}
 use Rattle.printing.specs.PutLaws.{printed-then}
 use Rattle.printing.proofs.pieces.+put_number.Goals as goal

@@ -1,5 +1,6 @@
 -- Byte k is put where what is left starts with it.
-use Rattle.printing.specs.Prelude.{rules, arith, ◌≡◌, ◌+◌, ◌-◌, ◌≤◌, ◌<◌}
+use Rattle.std.specs.Prelude.{◌≡◌, ◌+◌, ◌-◌, ◌≤◌, ◌<◌}
+use Rattle.printing.specs.Prelude.{rules, arith}
 use native.Mathlib.Numerals.{add-one}
 use lib.ListN.{length, drop, drop_of_length-le}
 use lib.Seq.{drop-cons}

@@ -1,5 +1,6 @@
 -- The least sums stand behind two rows of the greatest.
-use Rattle.range_frame.specs.Prelude.{◌≡◌, sym, ap, subst, ◌∙◌, List, ℕ, ◌-◌, ◌*◌, ◌≤◌, arith, rules, length, take, drop, ℤ, row_words, row_written, RowReady}
+use Rattle.std.specs.Prelude.{◌≡◌, ◌-◌, ◌*◌, ◌≤◌}
+use Rattle.range_frame.specs.Prelude.{sym, ap, subst, ◌∙◌, List, ℕ, arith, rules, length, take, drop, ℤ, row_words, row_written, RowReady}
 use lib.ListN.{length-drop}
 use lib.Seq.{take_all}
 use Rattle.range_frame.specs.Held.{least_part}

@@ -1,5 +1,6 @@
 -- A row of both frames a turn, from the two rows of pairs of tiles that are held.
-use Rattle.range_frame.specs.Prelude.{◌≡◌, subst, ◌∙◌, ◌-◌, ◌+◌, ◌*◌, ◌<◌, arith, rules, scene_at, greatest_at, least_at, at_noises}
+use Rattle.std.specs.Prelude.{◌≡◌, ◌-◌, ◌+◌, ◌*◌, ◌<◌}
+use Rattle.range_frame.specs.Prelude.{subst, ◌∙◌, arith, rules, scene_at, greatest_at, least_at, at_noises}
 use Rattle.range_frame.specs.Held.{RowsRanged}
 use Rattle.range_frame.specs.HeldLaws.{ends_held, ends-kept}
 use Rattle.range_frame.specs.BandLaws.{row-ready, InBand, band-start, band-turn}

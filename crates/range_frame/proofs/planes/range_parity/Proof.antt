@@ -1,5 +1,6 @@
 -- A band a turn, each under the row of pairs of tiles that the one before has left.
-use Rattle.range_frame.specs.Prelude.{◌≡◌, refl, subst, ◌∙◌, ◌-◌, ◌*◌, ◌/◌, ◌≤◌, arith, rules, length, scene_at, at_noises}
+use Rattle.std.specs.Prelude.{◌≡◌, ◌-◌, ◌*◌, ◌/◌, ◌≤◌}
+use Rattle.range_frame.specs.Prelude.{refl, subst, ◌∙◌, arith, rules, length, scene_at, at_noises}
 use Rattle.range_frame.specs.Held.{EndsHeld, RowsRanged}
 use Rattle.range_frame.specs.HeldLaws.{ends_held}
 use Rattle.range_frame.specs.BandLaws.{ranged-start, ranged-on}

@@ -1,5 +1,6 @@
 -- The sums are stored one after the other.
-use Rattle.range_pair.specs.Prelude.{refl, ◌-◌, arith, rules, get_or, pos, ◌+ℤ◌}
+use Rattle.std.specs.Prelude.{◌-◌, ◌+ℤ◌}
+use Rattle.range_pair.specs.Prelude.{refl, arith, rules, get_or, pos}
 use Rattle.sequences.specs.TabLaws.{Filled, fill_start, fill_done}
 use Rattle.tile_spectrum.specs.Lines.Held.{line_at}
 use Rattle.tile_spectrum.specs.AddingLaws.{adding-fits, adding-turn}

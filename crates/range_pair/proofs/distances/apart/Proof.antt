@@ -1,5 +1,6 @@
 -- Both numbers fit, and so does what they make.
-use Rattle.range_pair.specs.Prelude.{◌^◌, false, lit≤, Float, WholeDouble, fold_most}
+use Rattle.std.specs.Prelude.{◌^◌}
+use Rattle.range_pair.specs.Prelude.{false, lit≤, Float, WholeDouble, fold_most}
 use native.Mathlib.Nat.{le_trans}
 use Rattle.tile_spectrum.specs.Lines.DoubleCasts.{whole-fits}
 use Rattle.tile_lines.proofs.back.WholeHalves.{difference-fits, difference-is}

@@ -1,5 +1,6 @@
 -- The places are stored one after the other.
-use Rattle.range_pair.specs.Prelude.{◌≡◌, refl, ◌∙◌, ◌-◌, arith, rules, get_or, w64, to_z, of_z, nan}
+use Rattle.std.specs.Prelude.{◌≡◌, ◌-◌}
+use Rattle.range_pair.specs.Prelude.{refl, ◌∙◌, arith, rules, get_or, w64, to_z, of_z, nan}
 use Rattle.sequences.specs.TabLaws.{Filled, fill_start, fill-turn, fill_done}
 use Rattle.tile_spectrum.specs.Lines.DoubleCasts.{whole_at}
 use Rattle.range_pair.specs.Factors.{place_apart}

@@ -1,5 +1,6 @@
 -- At most four times a number of at most 2·apart_most.
-use Rattle.algebra.specs.Prelude.{sym, ap, ap₂, subst, ◌∙◌, ◌*◌, ◌≤◌, arith, rules, nat_abs, w64}
+use Rattle.std.specs.Prelude.{◌*◌, ◌≤◌}
+use Rattle.algebra.specs.Prelude.{sym, ap, ap₂, subst, ◌∙◌, arith, rules, nat_abs, w64}
 use native.Mathlib.Nat.{mul-le-mul}
 use Rattle.tile_spectrum.specs.Lines.Held.{number_is, number-most}
 use Rattle.range_pair.specs.Factors.{apart_most}

@@ -1,5 +1,6 @@
 -- Both distances are stored one after the other.
-use Rattle.range_pair.specs.Prelude.{sym, ap, subst, ◌∙◌, List, ◌-◌, ◌*◌, ◌/◌, ◌%◌, arith, rules, lit≤, ℤ, nat_abs, w64, AtMost, TileMost, copy_place_most}
+use Rattle.std.specs.Prelude.{◌-◌, ◌*◌, ◌/◌, ◌%◌}
+use Rattle.range_pair.specs.Prelude.{sym, ap, subst, ◌∙◌, List, arith, rules, lit≤, ℤ, nat_abs, w64, AtMost, TileMost, copy_place_most}
 use native.Mathlib.Nat.{le_trans}
 use Rattle.sequences.specs.TabLaws.{Filled, fill_start, fill-turn, fill_done}
 use Rattle.tile_spectrum.specs.Lines.Held.{number_is}

@@ -1,5 +1,6 @@
 -- Each case is one of the definition's.
-use Rattle.algebra.specs.Prelude.{sym, ap₂, ◌*◌}
+use Rattle.std.specs.Prelude.{◌*◌}
+use Rattle.algebra.specs.Prelude.{sym, ap₂}
 use Rattle.tile_spectrum.specs.Apart.{is-own, is-paired}
 use Rattle.range_pair.specs.Factors.{times_at}
 use Rattle.range_pair.proofs.distances.times as of

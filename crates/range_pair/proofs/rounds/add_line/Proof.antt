@@ -1,5 +1,6 @@
 -- The halves of both rows, and P of them.
-use Rattle.range_pair.specs.Prelude.{◌≡◌, sym, ap, ap₂, ◌∙◌, false, List, ℕ, ◌+◌, ◌*◌, ◌/◌, ◌%◌, ◌<◌, arith, lit≤, get_or, ℤ, pos, ◌+ℤ◌, Float, to_signed, tab, side16, half_sum, WholeRow, column_most}
+use Rattle.std.specs.Prelude.{◌≡◌, ◌+◌, ◌*◌, ◌/◌, ◌%◌, ◌<◌, ◌+ℤ◌}
+use Rattle.range_pair.specs.Prelude.{sym, ap, ap₂, ◌∙◌, false, List, ℕ, arith, lit≤, get_or, ℤ, pos, Float, to_signed, tab, side16, half_sum, WholeRow, column_most}
 use native.Mathlib.Nat.{le_trans}
 use Rattle.sequences.specs.TabLaws.{get_d-tab}
 use Rattle.sequences.specs.Grid.{tab-ext}

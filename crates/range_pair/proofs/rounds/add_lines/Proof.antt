@@ -1,5 +1,6 @@
 -- The rows are added to one after the other.
-use Rattle.range_pair.specs.Prelude.{sym, ap, subst, ◌∙◌, [], ◌-◌, ◌%◌, ◌^◌, arith, rules, get_or, pos, ◌+ℤ◌, tab, grid, cell, LineMost}
+use Rattle.std.specs.Prelude.{◌-◌, ◌%◌, ◌^◌, ◌+ℤ◌}
+use Rattle.range_pair.specs.Prelude.{sym, ap, subst, ◌∙◌, [], arith, rules, get_or, pos, tab, grid, cell, LineMost}
 use Rattle.sequences.specs.TabLaws.{Filled, fill_start, fill-turn, fill-rest, fill_done}
 use Rattle.tile_spectrum.specs.ColumnLaws.{grid-rows, row-length}
 use Rattle.tile_pair.proofs.WholeRows.{whole_row}

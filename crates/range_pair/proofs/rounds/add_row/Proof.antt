@@ -1,5 +1,6 @@
 -- Both sums are stored one after the other.
-use Rattle.range_pair.specs.Prelude.{ap, ap₂, ◌∙◌, ◌-◌, ◌%◌, arith, rules, get_or, pos, ◌+ℤ◌, w64}
+use Rattle.std.specs.Prelude.{◌-◌, ◌%◌, ◌+ℤ◌}
+use Rattle.range_pair.specs.Prelude.{ap, ap₂, ◌∙◌, arith, rules, get_or, pos, w64}
 use Rattle.sequences.specs.TabLaws.{Filled, fill_start, fill_done}
 use Rattle.tile_spectrum.specs.Lines.Held.{held-is, held-most}
 use Rattle.tile_spectrum.specs.AddingLaws.{adding-fits, adding-turn}

@@ -1,5 +1,6 @@
 -- Four times both halves and the width, as they are held.
-use Rattle.algebra.specs.Prelude.{◌≡◌, sym, ap, subst, ◌∙◌, ◌^◌, w64, to_z, of_z, to_z-of_z}
+use Rattle.std.specs.Prelude.{◌≡◌, ◌^◌}
+use Rattle.algebra.specs.Prelude.{sym, ap, subst, ◌∙◌, w64, to_z, of_z, to_z-of_z}
 use Rattle.algebra.specs.Bound.{AtMost}
 use Rattle.tile_spectrum.specs.Lines.Held.{number_is}
 use Rattle.range_pair.specs.Factors.{quarter_of, greatest_of}

@@ -1,5 +1,6 @@
 -- A quarter of z is no larger than z.
-use Rattle.range_pair.specs.Prelude.{◌≡◌, sym, ap, subst, ◌∙◌, ◌^◌, ◌≤◌, arith, lit<, lit≤, ℤ, pos, negsuc, nat_abs, w64, to_z, of_z, shr_z, AtMost, away}
+use Rattle.std.specs.Prelude.{◌≡◌, ◌^◌, ◌≤◌}
+use Rattle.range_pair.specs.Prelude.{sym, ap, subst, ◌∙◌, arith, lit<, lit≤, ℤ, pos, negsuc, nat_abs, w64, to_z, of_z, shr_z, AtMost, away}
 use native.Mathlib.Nat.{le_trans, div-le_self}
 use Rattle.tile_spectrum.specs.Lines.Held.{number_is}
 use Rattle.tile_spectrum.specs.RoundingLaws.{away-most}

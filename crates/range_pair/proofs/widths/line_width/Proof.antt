@@ -1,5 +1,6 @@
 -- Nine bins are added up.
-use Rattle.algebra.specs.Prelude.{ℕ, ◌+◌, ◌-◌, ◌*◌, ◌%◌, ◌≤◌, ◌<◌, arith, rules, lit<, get_or, w64}
+use Rattle.std.specs.Prelude.{◌+◌, ◌-◌, ◌*◌, ◌%◌, ◌≤◌, ◌<◌}
+use Rattle.algebra.specs.Prelude.{ℕ, arith, rules, lit<, get_or, w64}
 use native.Mathlib.Nat.{mul-le-mul, mod-lt}
 use mir.Val.{Fits}
 use Rattle.sequences.specs.Sum.{Summed, sum-start, sum-turn, sum_done, sum-most}

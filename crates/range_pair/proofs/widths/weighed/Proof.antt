@@ -1,5 +1,6 @@
 -- The factors' sum bounds the sum of the products.
-use Rattle.algebra.specs.Prelude.{refl, ◌+◌, ◌*◌, ◌≤◌, arith}
+use Rattle.std.specs.Prelude.{◌+◌, ◌*◌, ◌≤◌}
+use Rattle.algebra.specs.Prelude.{refl, arith}
 use Rattle.range_pair.specs.Factors.{bin_width_most}
 use Rattle.range_pair.proofs.Tables.{both_most}
 use Rattle.range_pair.proofs.widths.weighed as of

@@ -1,5 +1,6 @@
 -- The widths are stored one after the other.
-use Rattle.algebra.specs.Prelude.{refl, ◌-◌, arith, rules}
+use Rattle.std.specs.Prelude.{◌-◌}
+use Rattle.algebra.specs.Prelude.{refl, arith, rules}
 use Rattle.sequences.specs.TabLaws.{Filled, fill_start, fill-turn, fill_done}
 use Rattle.range_pair.specs.Factors.{pair_width}
 use Rattle.range_pair.proofs.widths.width_row as of

@@ -1,5 +1,6 @@
 -- The rows are stored one after the other.
-use Rattle.range_pair.specs.Prelude.{refl, ◌-◌, arith, rules, tab, grid}
+use Rattle.std.specs.Prelude.{◌-◌}
+use Rattle.range_pair.specs.Prelude.{refl, arith, rules, tab, grid}
 use Rattle.sequences.specs.TabLaws.{Filled, fill_start, fill-turn, fill_done}
 use Rattle.range_pair.specs.Factors.{pair_width}
 use Rattle.range_pair.proofs.widths.widths as of

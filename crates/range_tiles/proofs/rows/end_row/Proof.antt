@@ -1,5 +1,6 @@
 -- A pair a turn, both ends of each at their places of the row.
-use Rattle.range_tiles.specs.Prelude.{◌≡◌, refl, ap, ◌∙◌, ◌+◌, ◌-◌, ◌*◌, ◌/◌, ◌≤◌, arith, rules, length, grid, scene_at, row_words}
+use Rattle.std.specs.Prelude.{◌≡◌, ◌+◌, ◌-◌, ◌*◌, ◌/◌, ◌≤◌}
+use Rattle.range_tiles.specs.Prelude.{refl, ap, ◌∙◌, arith, rules, length, grid, scene_at, row_words}
 use Rattle.sequences.specs.Tab.{tab}
 use Rattle.range_tiles.specs.EndSums.{at_noises}
 use Rattle.range_tiles.specs.EndRowLaws.{slot-most, EndStoring, ends-start, ends-turn, ends-done}

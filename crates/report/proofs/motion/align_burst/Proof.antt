@@ -1,5 +1,6 @@
 -- `report::motion::align_burst`: what the file check has tested is what align asks for; the front of the vectors is lent on.
-use Rattle.algebra.specs.Prelude.{◌≡◌, sym, ◌∙◌, ◌-◌, ◌≤◌, arith, rules, length}
+use Rattle.std.specs.Prelude.{◌≡◌, ◌-◌, ◌≤◌}
+use Rattle.algebra.specs.Prelude.{sym, ◌∙◌, arith, rules, length}
 use lib.Seq.{length-take-le}
 use Rattle.report.specs.Inner.{vector_room}
 use Rattle.report.proofs.Files.{front-is, front_length}

@@ -1,5 +1,6 @@
 -- `report::motion::put_aligned`: the names, then the lines of the vectors that align found.
-use Rattle.report.specs.Prelude.{◌≡◌, sym, ap, List, ◌++◌, ℕ, ◌-◌, arith, rules, ℤ, aligned_vectors, residual_sums, Header, motion_names}
+use Rattle.std.specs.Prelude.{◌≡◌, ◌++◌, ◌-◌}
+use Rattle.report.specs.Prelude.{sym, ap, List, ℕ, arith, rules, ℤ, aligned_vectors, residual_sums, Header, motion_names}
 use lib.Seq.{length-take-le}
 use Rattle.geometry.specs.Tiles.{frame_parts}
 use Rattle.printing.specs.PutLaws.{printed-then}

@@ -1,5 +1,6 @@
 -- `report::motion::put_frame`: the five numbers are those of the frame's line.
-use Rattle.report.specs.Prelude.{◌≡◌, List, [], ◌∷◌, ℕ, ◌/◌, rules, length, ℤ, number_line}
+use Rattle.std.specs.Prelude.{◌≡◌, ◌∷◌, ◌/◌}
+use Rattle.report.specs.Prelude.{List, [], ℕ, rules, length, ℤ, number_line}
 use Rattle.report_tally.specs.Tallies.{still_tiles, farthest}
 use Rattle.report.specs.Motion.{frame_line}
 use Rattle.report.proofs.motion.put_frame as of

@@ -1,5 +1,6 @@
 -- `report::motion::put_frames`: the lines so far are those of the frames passed.
-use Rattle.report.specs.Prelude.{◌≡◌, List, ◌++◌, ℕ, ◌+◌, ◌-◌, ◌*◌, ◌≤◌, arith, rules, get_or, take, drop, ℤ, Printed}
+use Rattle.std.specs.Prelude.{◌≡◌, ◌++◌, ◌+◌, ◌-◌, ◌*◌, ◌≤◌}
+use Rattle.report.specs.Prelude.{List, ℕ, arith, rules, get_or, take, drop, ℤ, Printed}
 use native.Mathlib.Numerals.{add-one}
 use Rattle.geometry.specs.Vectors.{other_frame, parts_of}
 use Rattle.printing.specs.PutLaws.{printed-none, printed-then}

@@ -1,5 +1,6 @@
 -- `report::opening::open_file`: each end of the tests is one of the texts that both programs print.
-use Rattle.algebra.specs.Prelude.{◌≡◌, sym, ap, ◌∙◌, List, ℕ, ◌≤◌, arith, rules, length}
+use Rattle.std.specs.Prelude.{◌≡◌, ◌≤◌}
+use Rattle.algebra.specs.Prelude.{sym, ap, ◌∙◌, List, ℕ, arith, rules, length}
 use lib.Seq.{length-take-le}
 use Rattle.file_burst.specs.declared.head.Head.{Head}
 use Rattle.file_burst.specs.declared.head.Head.TheVariants.{Found, Refused}

@@ -1,5 +1,6 @@
 -- `report::stack::put_stack`: what is printed is the frame that the run left in the output.
-use Rattle.report.specs.Prelude.{◌≡◌, sym, ap, ap₂, ◌∙◌, List, ℕ, rules, Header}
+use Rattle.std.specs.Prelude.{◌≡◌}
+use Rattle.report.specs.Prelude.{sym, ap, ap₂, ◌∙◌, List, ℕ, rules, Header}
 use Rattle.report.specs.Program.{program_side}
 use Rattle.report.specs.Stack.{frame_text, frame_of, stack_of}
 use Rattle.report.specs.Inner.{burst_of, Taken}

@@ -1,5 +1,6 @@
 -- `report::text::put_file`: what was opened decides what is printed.
-use Rattle.report.specs.Prelude.{◌≡◌, sym, subst, List, ℕ, arith, rules}
+use Rattle.std.specs.Prelude.{◌≡◌}
+use Rattle.report.specs.Prelude.{sym, subst, List, ℕ, arith, rules}
 use lib.Seq.{length-take-le}
 use Rattle.report.specs.declared.opening.Opened.{Opened}
 use Rattle.report.specs.declared.opening.Opened.TheVariants.{TooLarge, Refused, Taken}

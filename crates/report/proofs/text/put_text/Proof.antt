@@ -1,5 +1,6 @@
 -- `report::text::put_text`: a count above the limit is a file that is too long; what is printed lies inside the text.
-use Rattle.report.specs.Prelude.{◌≡◌, sym, ap, ◌∙◌, List, ◌++◌, ℕ, ◌+◌, ◌≤◌, ◌<◌, arith, rules, put, Printed}
+use Rattle.std.specs.Prelude.{◌≡◌, ◌++◌, ◌+◌, ◌≤◌, ◌<◌}
+use Rattle.report.specs.Prelude.{sym, ap, ◌∙◌, List, ℕ, arith, rules, put, Printed}
 use lib.ListN.{length, take, drop, length-append, length-take}
 use lib.Seq.{length-take-le}
 use Rattle.report.specs.Program.{file_most}

@@ -1,5 +1,6 @@
 -- `stacker::merge::merge`: run's tests and 12, each returning before the first store; then the merge, and the clearing.
-use Rattle.stacker.specs.Prelude.{refl, sym, ap₂, subst, ◌∙◌, ◌≤◌, rules, scene_of, merged, merge_refusal}
+use Rattle.std.specs.Prelude.{◌≤◌}
+use Rattle.stacker.specs.Prelude.{refl, sym, ap₂, subst, ◌∙◌, rules, scene_of, merged, merge_refusal}
 use Rattle.sequences.specs.ClearLaws.{zeros-length}
 use Rattle.refusals.specs.TestLaws.{stops, goes, lone}
 use Rattle.admit_value.specs.BoundLaws.{vectors_fit}

@@ -1,5 +1,6 @@
 -- `stacker::noise_range::copy` fills a frame from the front with another one's words.
-use Rattle.stacker.specs.Prelude.{refl, sym, ap, ◌∙◌, ◌-◌, arith, rules, length, get_or, tab}
+use Rattle.std.specs.Prelude.{◌-◌}
+use Rattle.stacker.specs.Prelude.{refl, sym, ap, ◌∙◌, arith, rules, length, get_or, tab}
 use Rattle.sequences.specs.TabLaws.{Filled, fill_start, fill-turn, fill_done}
 use Rattle.sequences.specs.Grid.{tab-of}
 use Rattle.stacker.proofs.noise_range.copy as of

@@ -1,5 +1,6 @@
 -- `tile_bin::copies::filtered_part`: both parts are quantized, then shrunk; V'·Q' is at most 6.7e18.
-use Rattle.algebra.specs.Prelude.{◌≡◌, refl, ap, ap₂, ◌∙◌, lit<, lit≤, rules, pos, w64, to_z, of_z, to_z-of_z}
+use Rattle.std.specs.Prelude.{◌≡◌}
+use Rattle.algebra.specs.Prelude.{refl, ap, ap₂, ◌∙◌, lit<, lit≤, rules, pos, w64, to_z, of_z, to_z-of_z}
 use native.Mathlib.Nat.{le_trans, lt_of_le_of_lt}
 use Rattle.algebra.specs.Order.{abs-mul-le}
 use Rattle.tile_bin.specs.Prelude.{side16, wiener, copy_quantized, copy_filtered}

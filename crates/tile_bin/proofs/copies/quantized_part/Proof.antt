@@ -1,5 +1,6 @@
 -- `tile_bin::copies::quantized_part`: a bin divided by 2^32 is at most 64 of the copy.
-use Rattle.algebra.specs.Prelude.{◌≡◌, refl, ap, ◌∙◌, ◌^◌, arith, rules, lit<, w64, to_z, of_z, to_z-of_z}
+use Rattle.std.specs.Prelude.{◌≡◌, ◌^◌}
+use Rattle.algebra.specs.Prelude.{refl, ap, ◌∙◌, arith, rules, lit<, w64, to_z, of_z, to_z-of_z}
 use Rattle.tile_bin.specs.Prelude.{away, side16, copy_quantized, copy_bin_most}
 use Rattle.tile_spectrum.specs.RoundingLaws.{away-most}
 use Rattle.tile_bin.proofs.copies.quantized_part as of

@@ -1,5 +1,6 @@
 -- `tile_bin::double::sure`: both quotients are certain.
-use Rattle.tile_bin.specs.Prelude.{◌≡◌, true, sym, subst, ◌∙◌, rules, get_or, nan}
+use Rattle.std.specs.Prelude.{◌≡◌}
+use Rattle.tile_bin.specs.Prelude.{true, sym, subst, ◌∙◌, rules, get_or, nan}
 use Rattle.floats.specs.QuotientLaws.{certain}
 use Rattle.tile_bin.proofs.double.sure as of
 

@@ -1,5 +1,6 @@
 -- `tile_bin::parts::step`: |Q|² + V fits by the computed test of `Code`, and V·Q, of which the double need not fit, as asked.
-use Rattle.tile_bin.specs.Prelude.{◌≡◌, sym, ap, ap₂, subst, ◌∙◌, List, [], ◌∷◌, arith, rules, lit<, ℤ, pos, nat_abs, ◌+ℤ◌, ◌*ℤ◌, w64, away, power, wiener, copy_part_most, noise_most}
+use Rattle.std.specs.Prelude.{◌≡◌, ◌∷◌, ◌+ℤ◌, ◌*ℤ◌}
+use Rattle.tile_bin.specs.Prelude.{sym, ap, ap₂, subst, ◌∙◌, List, [], arith, rules, lit<, ℤ, pos, nat_abs, w64, away, power, wiener, copy_part_most, noise_most}
 use Prim.Native.Nat.{ℕ, ◌-◌, ◌<◌, ◌^◌}
 use native.Mathlib.Nat.{lt_of_le_of_lt, add-le-add, mul-le-mul}
 use mir.Val.{Fits, SFits, to_z, of_z}

@@ -1,5 +1,6 @@
 -- `tile_bin::parts::wiener_part`: V·Q is at most 6.7e18, and G at most Q.
-use Rattle.tile_bin.specs.Prelude.{◌≡◌, refl, ap₂, ◌∙◌, lit<, lit≤, rules, pos, w64, to_z, of_z, wiener}
+use Rattle.std.specs.Prelude.{◌≡◌}
+use Rattle.tile_bin.specs.Prelude.{refl, ap₂, ◌∙◌, lit<, lit≤, rules, pos, w64, to_z, of_z, wiener}
 use native.Mathlib.Nat.{le_trans, lt_of_le_of_lt}
 use mir.Facts.{to_z-of_z}
 use Rattle.algebra.specs.Order.{abs-mul-le}

@@ -1,5 +1,6 @@
 -- `tile_lines::back::backward`: the numbers are stored one after the other, each from the two folded sums.
-use Rattle.tile_lines.specs.Back.Prelude.{refl, ◌∙◌, false, ℕ, ◌+◌, ◌-◌, ◌*◌, ◌≤◌, arith, rules, nat_abs, of_bits, of_int, tab, joined_at, column_most}
+use Rattle.std.specs.Prelude.{◌+◌, ◌-◌, ◌*◌, ◌≤◌}
+use Rattle.tile_lines.specs.Back.Prelude.{refl, ◌∙◌, false, ℕ, arith, rules, nat_abs, of_bits, of_int, tab, joined_at, column_most}
 use Rattle.sequences.specs.TabLaws.{Filled, fill_start, fill-turn, fill_done}
 use Rattle.sequences.specs.Grid.{tab-ext}
 use Rattle.tile_spectrum.specs.Lines.DoubleForms.{picked-line}

@@ -1,5 +1,6 @@
 -- `tile_lines::back::even`: the even places' sums, by computed tests for either `own`.
-use Rattle.tile_lines.specs.Back.Prelude.{refl, ap, ◌∙◌, List, [], ◌∷◌, ℕ, ◌*◌, rules, get_or, Float, nan, of_bits, of_int, sum_z, tab, cosines, cosine16, side16, half_z, frequency_of, phase_of, basis_of, half_basis_of, basis, even_sum_of, even_half_of}
+use Rattle.std.specs.Prelude.{◌∷◌, ◌*◌}
+use Rattle.tile_lines.specs.Back.Prelude.{refl, ap, ◌∙◌, List, [], ℕ, rules, get_or, Float, nan, of_bits, of_int, sum_z, tab, cosines, cosine16, side16, half_z, frequency_of, phase_of, basis_of, half_basis_of, basis, even_sum_of, even_half_of}
 use Rattle.algebra.specs.Ring.{con, ◌⊠◌}
 use Rattle.algebra.specs.Ring as ring
 use Rattle.algebra.specs.Forms.{sum_e}

@@ -1,5 +1,6 @@
 -- `tile_lines::back::even_of`: the even places of row p.
-use Rattle.tile_lines.specs.Back.Prelude.{refl, ◌+◌, ◌*◌, arith, rules, of_bits, of_int, tab}
+use Rattle.std.specs.Prelude.{◌+◌, ◌*◌}
+use Rattle.tile_lines.specs.Back.Prelude.{refl, arith, rules, of_bits, of_int, tab}
 use Rattle.tile_spectrum.specs.Lines.DoubleForms.{from, from_is, picked-line}
 use Rattle.tile_lines.proofs.back.even_of as of
 

@@ -1,5 +1,6 @@
 -- `tile_lines::back::halves_of`: two numbers of either half are stored at a time.
-use Rattle.tile_lines.specs.Back.Prelude.{refl, ◌∙◌, false, ℕ, ℤ, ◌-◌, ◌/◌, ◌%◌, ◌≤◌, arith, rules, nat_abs, nan, binary64, of_int, add, sub, sum_z, tab, side16, half_sum, column_most, odd_sum_of, even_half_of}
+use Rattle.std.specs.Prelude.{◌-◌, ◌/◌, ◌%◌, ◌≤◌}
+use Rattle.tile_lines.specs.Back.Prelude.{refl, ◌∙◌, false, ℕ, ℤ, arith, rules, nat_abs, nan, binary64, of_int, add, sub, sum_z, tab, side16, half_sum, column_most, odd_sum_of, even_half_of}
 use Rattle.tile_lines.proofs.back.HalfStores.{by_halves, Halved, halved-start, halves-turn, halved-done, halves_are}
 use Rattle.tile_lines.proofs.back.DoubleUnfolding.{half-at}
 use Rattle.tile_lines.proofs.back.halves_of as of

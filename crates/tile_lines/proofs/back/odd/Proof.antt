@@ -1,5 +1,6 @@
 -- `tile_lines::back::odd`: the odd places' sums, by computed tests.
-use Rattle.tile_lines.specs.Back.Prelude.{List, [], ◌∷◌, ◌+◌, ◌*◌, of_bits, of_int, sum_z, tab, cosines, cosine16, side16, frequency_of, phase_of, basis_of, basis, odd_sum_of}
+use Rattle.std.specs.Prelude.{◌∷◌, ◌+◌, ◌*◌}
+use Rattle.tile_lines.specs.Back.Prelude.{List, [], of_bits, of_int, sum_z, tab, cosines, cosine16, side16, frequency_of, phase_of, basis_of, basis, odd_sum_of}
 use Rattle.algebra.specs.Ring.{con, ◌⊠◌}
 use Rattle.algebra.specs.Ring as ring
 use Rattle.algebra.specs.Forms.{sum_e}

@@ -1,5 +1,6 @@
 -- `tile_lines::back::odd_of`: the odd places of row p.
-use Rattle.tile_lines.specs.Back.Prelude.{◌+◌, ◌*◌, arith, rules, tab}
+use Rattle.std.specs.Prelude.{◌+◌, ◌*◌}
+use Rattle.tile_lines.specs.Back.Prelude.{arith, rules, tab}
 use Rattle.tile_spectrum.specs.Lines.DoubleForms.{picked-line}
 use Rattle.tile_lines.proofs.back.odd_of as of
 

@@ -1,5 +1,6 @@
 -- `tile_lines::back::whole_halves`: two numbers of either half are stored at a time.
-use Rattle.tile_lines.specs.Back.Prelude.{◌≡◌, ◌∙◌, ◌+◌, ◌*◌, ◌-◌, arith, rules, pos, w64, to_z, of_z, sum_z, tab, side16, half_sum, odd_sum_of, even_half_of}
+use Rattle.std.specs.Prelude.{◌≡◌, ◌+◌, ◌*◌, ◌-◌}
+use Rattle.tile_lines.specs.Back.Prelude.{◌∙◌, arith, rules, pos, w64, to_z, of_z, sum_z, tab, side16, half_sum, odd_sum_of, even_half_of}
 use Rattle.tile_lines.proofs.back.HalfStores.{by_halves, Halved, halved-start, halves-turn, halved-done, halves_are}
 use Rattle.tile_lines.proofs.back.WholeHalves.{whole_plus, whole_minus, even_whole, odd_whole, whole-half-at}
 use Rattle.tile_lines.proofs.back.whole_halves as of

@@ -1,5 +1,6 @@
 -- `tile_lines::double::differences`: each number less the one half a line further on.
-use Rattle.tile_lines.specs.Double.Prelude.{refl, ◌-◌, arith, rules, binary64, of_int}
+use Rattle.std.specs.Prelude.{◌-◌}
+use Rattle.tile_lines.specs.Double.Prelude.{refl, arith, rules, binary64, of_int}
 use Rattle.sequences.specs.TabLaws.{Filled, fill_start, fill-turn, fill_done}
 use Rattle.tile_lines.proofs.double.PairFolding.{differences_of, pair-difference}
 use Rattle.tile_lines.proofs.double.differences as of

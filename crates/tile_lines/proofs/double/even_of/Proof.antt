@@ -1,5 +1,6 @@
 -- `tile_lines::double::even_of`: the sums of line p.
-use Rattle.tile_lines.specs.Double.Prelude.{◌+◌, ◌*◌, arith, rules, tab}
+use Rattle.std.specs.Prelude.{◌+◌, ◌*◌}
+use Rattle.tile_lines.specs.Double.Prelude.{arith, rules, tab}
 use Rattle.tile_spectrum.specs.Lines.DoubleForms.{from, from_is, picked-line}
 use Rattle.tile_lines.proofs.double.even_of as of
 

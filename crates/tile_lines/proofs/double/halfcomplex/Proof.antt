@@ -1,5 +1,6 @@
 -- `tile_lines::double::halfcomplex`: the places of both lines are stored by fours.
-use Rattle.tile_lines.specs.Double.Prelude.{◌∙◌, ◌-◌, ◌*◌, arith, rules, halfcomplex}
+use Rattle.std.specs.Prelude.{◌-◌, ◌*◌}
+use Rattle.tile_lines.specs.Double.Prelude.{◌∙◌, arith, rules, halfcomplex}
 use Rattle.sequences.specs.TabLaws.{Filled, fill_start, fill_done}
 use Rattle.tile_spectrum.specs.Lines.PairLines.{by_fours, fours-turn, fours-are}
 use Rattle.tile_lines.proofs.double.PairFolding.{sums_of, differences_of, line_of, sums_most, differences-most, even-line, odd-line}

@@ -1,5 +1,6 @@
 -- `tile_lines::double::odd`: eight places from the eight differences, by computed tests.
-use Rattle.tile_lines.specs.Double.Prelude.{◌+◌, ◌*◌, of_bits, of_int, tab, cosines, cosine16, side16, frequency_of, phase_of, basis_of, basis, folded_of}
+use Rattle.std.specs.Prelude.{◌+◌, ◌*◌}
+use Rattle.tile_lines.specs.Double.Prelude.{of_bits, of_int, tab, cosines, cosine16, side16, frequency_of, phase_of, basis_of, basis, folded_of}
 use Rattle.algebra.specs.Ring.{var, con, ◌⊠◌}
 use Rattle.algebra.specs.Sums.{sum_z}
 use Rattle.algebra.specs.Forms.{sum_e}

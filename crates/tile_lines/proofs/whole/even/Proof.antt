@@ -1,5 +1,6 @@
 -- `tile_lines::whole::even`: eight places from the eight sums: that each step fits, and that the results are the places, by computed tests.
-use Rattle.tile_lines.specs.Whole.Prelude.{List, [], ◌∷◌, ◌*◌, ℤ, tab, cosines, cosine16, side16, frequency_of, phase_of, basis_of, basis, folded_of}
+use Rattle.std.specs.Prelude.{◌∷◌, ◌*◌}
+use Rattle.tile_lines.specs.Whole.Prelude.{List, [], ℤ, tab, cosines, cosine16, side16, frequency_of, phase_of, basis_of, basis, folded_of}
 use Rattle.algebra.specs.Ring.{var, con, ◌⊠◌}
 use Rattle.algebra.specs.Sums.{sum_z}
 use Rattle.algebra.specs.Forms.{sum_e}

@@ -1,5 +1,6 @@
 -- `tile_lines::whole::even_places`: the places of the folded line are those of the line.
-use Rattle.tile_lines.specs.Whole.Prelude.{◌∙◌, ◌*◌, lit<, w16, side16, sum_at, of}
+use Rattle.std.specs.Prelude.{◌*◌}
+use Rattle.tile_lines.specs.Whole.Prelude.{◌∙◌, lit<, w16, side16, sum_at, of}
 use Rattle.recipe.specs.TableLaws.{rules16}
 use Rattle.tile_spectrum.specs.Lines.SideFolds.{even-folded}
 use Rattle.tile_spectrum.specs.Lines.Picked.{eight, eight-picked, all-most}

@@ -1,5 +1,6 @@
 -- `tile_lines::whole::halfcomplex`: the places are stored one after the other, even and odd ones by turns.
-use Rattle.algebra.specs.Prelude.{refl, ◌∙◌, ◌-◌, arith, rules}
+use Rattle.std.specs.Prelude.{◌-◌}
+use Rattle.algebra.specs.Prelude.{refl, ◌∙◌, arith, rules}
 use Rattle.sequences.specs.TabLaws.{Filled, fill_start, fill-turn, fill_done}
 use Rattle.tile_spectrum.specs.Lines.WholeFolds.{placed, placed-is}
 use Rattle.tile_lines.proofs.whole.halfcomplex as of

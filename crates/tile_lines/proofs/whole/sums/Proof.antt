@@ -1,5 +1,6 @@
 -- `tile_lines::whole::sums`: each number and the one half a line further on.
-use Rattle.tile_lines.specs.Whole.Prelude.{refl, ◌-◌, arith, rules, w16, side16, sum_at, of}
+use Rattle.std.specs.Prelude.{◌-◌}
+use Rattle.tile_lines.specs.Whole.Prelude.{refl, arith, rules, w16, side16, sum_at, of}
 use Rattle.sequences.specs.TabLaws.{Filled, fill_start, fill-turn, fill_done}
 use Rattle.tile_spectrum.specs.Lines.WholeFolds.{sum_fits, sum_is}
 use Rattle.tile_lines.proofs.whole.sums.Statement.{statement}

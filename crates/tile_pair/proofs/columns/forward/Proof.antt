@@ -1,5 +1,6 @@
 -- `tile_pair::columns::forward`: the columns' transforms are stored one after the other.
-use Rattle.tile_pair.specs.Prelude.{◌∙◌, ◌-◌, arith, rules, pos, cell, halfcomplex, difference_most}
+use Rattle.std.specs.Prelude.{◌-◌}
+use Rattle.tile_pair.specs.Prelude.{◌∙◌, arith, rules, pos, cell, halfcomplex, difference_most}
 use Rattle.tile_spectrum.specs.Lines.Tiles.{line-most, cells-most}
 use Rattle.tile_spectrum.specs.LineLaws.{halfcomplex-line}
 use Rattle.tile_spectrum.specs.ColumnLaws.{ColumnsSet, columns-start, columns-turn, columns-done}

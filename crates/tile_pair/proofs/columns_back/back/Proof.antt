@@ -1,5 +1,6 @@
 -- `tile_pair::columns_back::back`: each column is read, and its sums stored in its place.
-use Rattle.tile_pair.specs.Prelude.{false, ◌∙◌, ◌-◌, arith, rules, nan, binary64, of_int, backward, fold_most, InDouble, doubles}
+use Rattle.std.specs.Prelude.{◌-◌}
+use Rattle.tile_pair.specs.Prelude.{false, ◌∙◌, arith, rules, nan, binary64, of_int, backward, fold_most, InDouble, doubles}
 use Rattle.tile_spectrum.specs.ColumnLaws.{ColumnsSet, columns-start, columns-turn, columns-done, column-rest}
 use Rattle.tile_pair.proofs.columns_back.back as of
 

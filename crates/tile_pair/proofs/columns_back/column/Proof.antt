@@ -1,5 +1,6 @@
 -- `tile_pair::columns_back::column`: the places are stored one after the other.
-use Rattle.tile_pair.specs.Prelude.{refl, ◌-◌, arith, rules, cell, nan}
+use Rattle.std.specs.Prelude.{◌-◌}
+use Rattle.tile_pair.specs.Prelude.{refl, arith, rules, cell, nan}
 use Rattle.sequences.specs.TabLaws.{Filled, fill_start, fill-turn, fill_done}
 use Rattle.tile_pair.proofs.columns_back.column as of
 

@@ -1,5 +1,6 @@
 -- `tile_pair::columns_back::set_column`: a number of each line is replaced, from the first line on.
-use Rattle.tile_pair.specs.Prelude.{ap, ◌∙◌, cond, [], ◌-◌, arith, rules, eqb, get_or, set, tab, grid, cell, nan}
+use Rattle.std.specs.Prelude.{◌-◌}
+use Rattle.tile_pair.specs.Prelude.{ap, ◌∙◌, cond, [], arith, rules, eqb, get_or, set, tab, grid, cell, nan}
 use Rattle.sequences.specs.TabLaws.{Filled, fill_start, fill-turn, fill-rest, fill_done}
 use Rattle.tile_spectrum.specs.ColumnLaws.{grid-rows, set-row}
 use Rattle.tile_pair.proofs.columns_back.set_column as of

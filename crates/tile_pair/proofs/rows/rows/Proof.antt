@@ -1,5 +1,6 @@
 -- `tile_pair::rows::rows`: the rows' transforms are stored two at a time.
-use Rattle.tile_pair.specs.Prelude.{◌+◌, ◌/◌, ◌%◌, ◌-◌, arith, rules, pos, grid, cell, halfcomplex, double_line, plane_in, doubles}
+use Rattle.std.specs.Prelude.{◌+◌, ◌/◌, ◌%◌, ◌-◌}
+use Rattle.tile_pair.specs.Prelude.{arith, rules, pos, grid, cell, halfcomplex, double_line, plane_in, doubles}
 use Rattle.tile_spectrum.specs.ColumnLaws.{grid-rows, row-length}
 use Rattle.tile_spectrum.specs.RowLaws.{RowsSet, rows_start, rows-first, rows-second, rows-turn, rows-done}
 use Rattle.tile_pair.proofs.rows.rows as of

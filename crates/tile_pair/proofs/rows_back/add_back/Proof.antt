@@ -1,5 +1,6 @@
 -- `tile_pair::rows_back::add_back`: P of the rows is added two at a time.
-use Rattle.tile_pair.specs.Prelude.{sym, subst, ◌∙◌, ◌+◌, ◌/◌, ◌%◌, ◌-◌, ◌^◌, arith, rules, pos, ◌+ℤ◌, away, tab, grid, cell, half_sum, LineMost, column_most, InDouble, plane_in}
+use Rattle.std.specs.Prelude.{◌+◌, ◌/◌, ◌%◌, ◌-◌, ◌^◌, ◌+ℤ◌}
+use Rattle.tile_pair.specs.Prelude.{sym, subst, ◌∙◌, arith, rules, pos, away, tab, grid, cell, half_sum, LineMost, column_most, InDouble, plane_in}
 use Rattle.tile_spectrum.specs.ColumnLaws.{grid-rows, row-length}
 use Rattle.tile_spectrum.specs.AddingLaws.{added-to}
 use Rattle.tile_spectrum.specs.RowLaws.{RowsSet, rows_start, rows-first, rows-second, rows-turn, rows-done}

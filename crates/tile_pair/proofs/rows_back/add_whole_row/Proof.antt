@@ -1,5 +1,6 @@
 -- `tile_pair::rows_back::add_whole_row`: the sums are stored one after the other.
-use Rattle.tile_pair.specs.Prelude.{sym, ap, subst, ◌∙◌, false, ◌-◌, ◌^◌, arith, rules, lit<, lit≤, get_or, ℤ, pos, ◌+ℤ◌, w64, AtMost, away, half_most}
+use Rattle.std.specs.Prelude.{◌-◌, ◌^◌, ◌+ℤ◌}
+use Rattle.tile_pair.specs.Prelude.{sym, ap, subst, ◌∙◌, false, arith, rules, lit<, lit≤, get_or, ℤ, pos, w64, AtMost, away, half_most}
 use native.Mathlib.Nat.{le_trans}
 use Rattle.sequences.specs.TabLaws.{Filled, fill_start, fill_done}
 use Rattle.tile_spectrum.specs.Lines.Held.{held-is, held-most}

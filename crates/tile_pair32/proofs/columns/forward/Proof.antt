@@ -1,5 +1,6 @@
 -- `tile_pair32::columns::forward`: the columns' transforms are stored one after the other.
-use Rattle.tile_pair32.specs.Prelude.{side32, ◌∙◌, ◌-◌, arith, rules, pos, cell, halfcomplex_of, difference_most}
+use Rattle.std.specs.Prelude.{◌-◌}
+use Rattle.tile_pair32.specs.Prelude.{side32, ◌∙◌, arith, rules, pos, cell, halfcomplex_of, difference_most}
 use Rattle.tile_spectrum.specs.Lines.Tiles.{line-most, cells-most}
 use Rattle.tile_spectrum.specs.LongLines.{halfcomplex-line}
 use Rattle.tile_spectrum.specs.ColumnLaws.{ColumnsSet, columns-start, columns-turn, columns-done}

@@ -1,5 +1,6 @@
 -- `tile_pair32::columns::set_column`: a number of each line is replaced, from the first line on.
-use Rattle.tile_pair32.specs.Prelude.{◌≡◌, ap₂, ◌∙◌, cond, [], ◌-◌, arith, rules, eqb, get_or, set, pos, w32, to_z, of_z, tab, grid, cell}
+use Rattle.std.specs.Prelude.{◌≡◌, ◌-◌}
+use Rattle.tile_pair32.specs.Prelude.{ap₂, ◌∙◌, cond, [], arith, rules, eqb, get_or, set, pos, w32, to_z, of_z, tab, grid, cell}
 use Rattle.sequences.specs.TabLaws.{Filled, fill_start, fill-turn, fill-rest, fill_done}
 use Rattle.tile_spectrum.specs.ColumnLaws.{grid-rows, set-row}
 use Rattle.tile_pair32.proofs.columns.set_column as of

@@ -1,5 +1,6 @@
 -- `tile_pair32::columns_back::back`: each column is read, and its sums stored in its place.
-use Rattle.tile_pair32.specs.Prelude.{side32, false, ◌∙◌, ◌-◌, arith, rules, nan, binary64, of_int, backward_of, long_fold_most, LongInDouble, long_doubles}
+use Rattle.std.specs.Prelude.{◌-◌}
+use Rattle.tile_pair32.specs.Prelude.{side32, false, ◌∙◌, arith, rules, nan, binary64, of_int, backward_of, long_fold_most, LongInDouble, long_doubles}
 use Rattle.tile_spectrum.specs.ColumnLaws.{ColumnsSet, columns-start, columns-turn, columns-done, column-rest}
 use Rattle.tile_pair32.proofs.columns_back.back as of
 

@@ -1,5 +1,6 @@
 -- `tile_pair32::columns_back::column`: the places are stored one after the other.
-use Rattle.tile_pair32.specs.Prelude.{refl, ◌-◌, arith, rules, cell, nan}
+use Rattle.std.specs.Prelude.{◌-◌}
+use Rattle.tile_pair32.specs.Prelude.{refl, arith, rules, cell, nan}
 use Rattle.sequences.specs.TabLaws.{Filled, fill_start, fill-turn, fill_done}
 use Rattle.tile_pair32.proofs.columns_back.column as of
 

@@ -1,5 +1,6 @@
 -- `tile_pair32::rows::rows`: the rows' transforms are stored two at a time.
-use Rattle.tile_pair32.specs.Prelude.{side32, ◌+◌, ◌/◌, ◌%◌, ◌-◌, arith, rules, pos, grid, cell, halfcomplex_of, double_line, plane_in, long_doubles}
+use Rattle.std.specs.Prelude.{◌+◌, ◌/◌, ◌%◌, ◌-◌}
+use Rattle.tile_pair32.specs.Prelude.{side32, arith, rules, pos, grid, cell, halfcomplex_of, double_line, plane_in, long_doubles}
 use Rattle.tile_spectrum.specs.ColumnLaws.{grid-rows, row-length}
 use Rattle.tile_spectrum.specs.RowLaws.{RowsSet, rows_start, rows-first, rows-second, rows-turn, rows-done}
 use Rattle.tile_pair32.proofs.rows.rows as of

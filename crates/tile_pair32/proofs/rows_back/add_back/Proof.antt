@@ -1,5 +1,6 @@
 -- `tile_pair32::rows_back::add_back`: P of the rows is added two at a time.
-use Rattle.tile_pair32.specs.Prelude.{side32, sym, subst, ◌∙◌, ◌+◌, ◌/◌, ◌%◌, ◌-◌, ◌^◌, arith, rules, pos, ◌+ℤ◌, away, tab, grid, cell, half_sum_of, LineMost, long_column_most, plane_in, LongInDouble}
+use Rattle.std.specs.Prelude.{◌+◌, ◌/◌, ◌%◌, ◌-◌, ◌^◌, ◌+ℤ◌}
+use Rattle.tile_pair32.specs.Prelude.{side32, sym, subst, ◌∙◌, arith, rules, pos, away, tab, grid, cell, half_sum_of, LineMost, long_column_most, plane_in, LongInDouble}
 use Rattle.tile_spectrum.specs.ColumnLaws.{grid-rows, row-length}
 use Rattle.tile_spectrum.specs.AddingLaws.{added-to}
 use Rattle.tile_spectrum.specs.RowLaws.{RowsSet, rows_start, rows-first, rows-second, rows-turn, rows-done}

@@ -1,5 +1,6 @@
 -- `tile_pair32::rows_back::add_middle_row`: the sums are stored one after the other.
-use Rattle.tile_pair32.specs.Prelude.{ap, ◌∙◌, ◌-◌, arith, rules, get_or, pos, ◌+ℤ◌, nan}
+use Rattle.std.specs.Prelude.{◌-◌, ◌+ℤ◌}
+use Rattle.tile_pair32.specs.Prelude.{ap, ◌∙◌, arith, rules, get_or, pos, nan}
 use Rattle.sequences.specs.TabLaws.{Filled, fill_start, fill_done}
 use Rattle.tile_spectrum.specs.Lines.DoubleCasts.{whole_at}
 use Rattle.tile_spectrum.specs.AddingLaws.{adding-fits, adding-turn, added-ext}

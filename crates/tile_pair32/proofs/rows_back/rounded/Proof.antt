@@ -1,5 +1,6 @@
 -- `tile_pair32::rows_back::rounded`: the definition's own operations.
-use Rattle.tile_pair32.specs.Prelude.{sym, subst, ◌∙◌, ◌^◌, lit<, pos, ◌-ℤ◌, w64, to_z, of_bits, middle, middle_bits}
+use Rattle.std.specs.Prelude.{◌^◌, ◌-ℤ◌}
+use Rattle.tile_pair32.specs.Prelude.{sym, subst, ◌∙◌, lit<, pos, w64, to_z, of_bits, middle, middle_bits}
 use Rattle.algebra.specs.Bound.{AtMost, most_fits}
 use Rattle.floats.specs.ProductLaws.{fraction}
 use Rattle.tile_spectrum.specs.Lines.Held.{number_is}

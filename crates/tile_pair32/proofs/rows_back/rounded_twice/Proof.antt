@@ -1,5 +1,6 @@
 -- `tile_pair32::rows_back::rounded_twice`: the definition's own operations.
-use Rattle.tile_pair32.specs.Prelude.{sym, subst, ◌^◌, pos, ◌-ℤ◌, w64, to_z, of_int, of_bits, middle, middle_bits}
+use Rattle.std.specs.Prelude.{◌^◌, ◌-ℤ◌}
+use Rattle.tile_pair32.specs.Prelude.{sym, subst, pos, w64, to_z, of_int, of_bits, middle, middle_bits}
 use Rattle.algebra.specs.Bound.{AtMost, most_fits}
 use Rattle.floats.specs.ProductLaws.{fraction}
 use Rattle.floats.specs.TwiceLaws.{less_fraction}

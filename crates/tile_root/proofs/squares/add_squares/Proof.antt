@@ -1,5 +1,6 @@
 -- The sums passed have their square added.
-use Rattle.tile_root.specs.Prelude.{◌≡◌, ap₂, ◌+◌, ◌-◌, arith, rules, get_or, squared}
+use Rattle.std.specs.Prelude.{◌≡◌, ◌+◌, ◌-◌}
+use Rattle.tile_root.specs.Prelude.{ap₂, arith, rules, get_or, squared}
 use Rattle.sequences.specs.TabLaws.{Filled, fill_start, fill-turn, fill-rest, fill_done}
 use Rattle.tile_root.proofs.squares.add_squares as of
 

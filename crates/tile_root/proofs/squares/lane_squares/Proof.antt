@@ -1,5 +1,6 @@
 -- The sums so far are those of the rows passed.
-use Rattle.tile_root.specs.Prelude.{◌≡◌, refl, ◌∙◌, ◌-◌, ◌≤◌, arith, rules, sum_n, tab, cell}
+use Rattle.std.specs.Prelude.{◌≡◌, ◌-◌, ◌≤◌}
+use Rattle.tile_root.specs.Prelude.{refl, ◌∙◌, arith, rules, sum_n, tab, cell}
 use Rattle.tile_root.specs.Lanes.{lanes_of, lanes}
 use Rattle.tile_root.proofs.Lanes.{lanes_fit, lanes-turn}
 use Rattle.tile_root.proofs.squares.lane_squares as of

@@ -1,6 +1,7 @@
 -- A square of at most 4095².
 use native.Mathlib.Nat.{mul-le-mul}
-use Rattle.algebra.specs.Prelude.{◌≤◌, arith, rules}
+use Rattle.std.specs.Prelude.{◌≤◌}
+use Rattle.algebra.specs.Prelude.{arith, rules}
 use Rattle.tile_root.proofs.squares.squared as of
 
 most : (c : of.Tie.After-intensity-x) → c.intensity-x.result ≤ 4095

@@ -1,5 +1,6 @@
 -- Bisection: low² ≤ n < high², until high is low + 1.
-use Rattle.algebra.specs.Prelude.{◌≡◌, ℕ, ◌+◌, ◌-◌, ◌*◌, ◌/◌, ◌≤◌, ◌<◌, arith, rules}
+use Rattle.std.specs.Prelude.{◌≡◌, ◌+◌, ◌-◌, ◌*◌, ◌/◌, ◌≤◌, ◌<◌}
+use Rattle.algebra.specs.Prelude.{ℕ, arith, rules}
 use native.Mathlib.Nat.{mul-le-mul}
 use Rattle.tile_root.specs.RootLaws.{root-unique}
 use Rattle.tile_root.proofs.squares.whole_root as of

@@ -1,5 +1,6 @@
 -- The sums are stored one after the other.
-use Rattle.algebra.specs.Prelude.{◌≡◌, sym, ap₂, subst, ◌∙◌, ◌-◌, arith, rules, get_or, pos, ◌+ℤ◌, ◌*ℤ◌, w64, to_z, of_z}
+use Rattle.std.specs.Prelude.{◌≡◌, ◌-◌, ◌+ℤ◌, ◌*ℤ◌}
+use Rattle.algebra.specs.Prelude.{sym, ap₂, subst, ◌∙◌, arith, rules, get_or, pos, w64, to_z, of_z}
 use Rattle.sequences.specs.TabLaws.{Filled, fill_start, fill-turn, fill-rest, fill_done}
 use Rattle.tile_spectrum.specs.Lines.Held.{held-is, held-most}
 use Rattle.tile_spatial.specs.Filtering.{SumMost}

@@ -1,5 +1,6 @@
 -- The rows are added to one after the other.
-use Rattle.tile_spatial.specs.Prelude.{sym, ap, subst, ◌∙◌, [], ◌-◌, arith, rules, get_or, pos, ◌+ℤ◌, ◌*ℤ◌, tab, grid, cell}
+use Rattle.std.specs.Prelude.{◌-◌, ◌+ℤ◌, ◌*ℤ◌}
+use Rattle.tile_spatial.specs.Prelude.{sym, ap, subst, ◌∙◌, [], arith, rules, get_or, pos, tab, grid, cell}
 use Rattle.sequences.specs.TabLaws.{Filled, fill_start, fill-turn, fill-rest, fill_done}
 use Rattle.tile_spectrum.specs.ColumnLaws.{grid-rows, row-length}
 use Rattle.tile_spatial.specs.Filtering.{SumRow}

@@ -1,5 +1,6 @@
 -- The rows are stored one after the other.
-use Rattle.tile_spatial.specs.Prelude.{refl, sym, subst, ◌-◌, arith, rules, pos, tab, grid, cell, TileMost, copy_most}
+use Rattle.std.specs.Prelude.{◌-◌}
+use Rattle.tile_spatial.specs.Prelude.{refl, sym, subst, arith, rules, pos, tab, grid, cell, TileMost, copy_most}
 use Rattle.sequences.specs.TabLaws.{Filled, fill_start, fill-turn, fill_done}
 use Rattle.tile_spatial.specs.Filtering.{copy_in}
 use Rattle.tile_spatial.proofs.CopyLaws.{part-most}

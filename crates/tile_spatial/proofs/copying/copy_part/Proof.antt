@@ -1,5 +1,6 @@
 -- The dividend is at most N times copy_most, so that the quotient is at most copy_most.
-use Rattle.tile_spatial.specs.Prelude.{◌≡◌, sym, ap, ap₂, subst, ◌∙◌, ℕ, ◌*◌, ◌^◌, ◌≤◌, ◌<◌, arith, w32, w64, ℤ, pos, nat_abs, ◌-ℤ◌, SFits, to_z, of_z, away, copy_most}
+use Rattle.std.specs.Prelude.{◌≡◌, ◌*◌, ◌^◌, ◌≤◌, ◌<◌, ◌-ℤ◌}
+use Rattle.tile_spatial.specs.Prelude.{sym, ap, ap₂, subst, ◌∙◌, ℕ, arith, w32, w64, ℤ, pos, nat_abs, SFits, to_z, of_z, away, copy_most}
 use mir.ValLaws.{to_z_pos}
 use Rattle.algebra.specs.Bound.{AtMost, most_fits}
 use Rattle.tile_spectrum.specs.Lines.Held.{number_is, cast_fits, cast_is}

@@ -1,5 +1,6 @@
 -- The numbers are stored one after the other, each of at most copy_most.
-use Rattle.tile_spatial.specs.Prelude.{◌≡◌, refl, ap, subst, sym, ◌∙◌, ◌-◌, ◌*◌, arith, rules, get_or, pos, ◌-ℤ◌, ◌*ℤ◌, w32, to_z, of_z, away, LineMost, copy_most}
+use Rattle.std.specs.Prelude.{◌≡◌, ◌-◌, ◌*◌, ◌-ℤ◌, ◌*ℤ◌}
+use Rattle.tile_spatial.specs.Prelude.{refl, ap, subst, sym, ◌∙◌, arith, rules, get_or, pos, w32, to_z, of_z, away, LineMost, copy_most}
 use Rattle.sequences.specs.TabLaws.{Filled, fill_start, fill-turn, fill_done}
 use Rattle.tile_spectrum.specs.Lines.Tiles.{line-most}
 use Rattle.tile_spatial.specs.Filtering.{SumMost}

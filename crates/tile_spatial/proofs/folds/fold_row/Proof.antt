@@ -1,5 +1,6 @@
 -- The places are stored one after the other.
-use Rattle.tile_spatial.specs.Prelude.{refl, ap, ◌∙◌, ◌-◌, ◌/◌, ◌%◌, arith, rules, pos, w64, binary64, of_int, cell, spread, plane_in}
+use Rattle.std.specs.Prelude.{◌-◌, ◌/◌, ◌%◌}
+use Rattle.tile_spatial.specs.Prelude.{refl, ap, ◌∙◌, arith, rules, pos, w64, binary64, of_int, cell, spread, plane_in}
 use Rattle.sequences.specs.TabLaws.{Filled, fill_start, fill-turn, fill_done}
 use Rattle.tile_spectrum.specs.Lines.Held.{number_is}
 use Rattle.tile_spatial.proofs.Sums64.{fold-counted}

@@ -1,5 +1,6 @@
 -- The real parts of columns 0 to 8, and the imaginary ones of columns 1 to 7.
-use Rattle.tile_spatial.specs.Prelude.{◌≡◌, ap, ◌∙◌, arith, rules, ◌+◌, ◌-◌, ◌*◌, ◌/◌, ◌%◌, pos, w64, cell, side16, fold_re, fold_im, spread_of}
+use Rattle.std.specs.Prelude.{◌≡◌, ◌+◌, ◌-◌, ◌*◌, ◌/◌, ◌%◌}
+use Rattle.tile_spatial.specs.Prelude.{ap, ◌∙◌, arith, rules, pos, w64, cell, side16, fold_re, fold_im, spread_of}
 use borrow.Author.Tests.{lt-ltb, le-ltb}
 use Rattle.tile_spectrum.specs.Lines.Held.{number_is, number-most}
 use Rattle.tile_spatial.proofs.folds.folded as of

@@ -1,5 +1,6 @@
 -- The rows are stored one after the other.
-use Rattle.tile_spatial.specs.Prelude.{refl, ◌-◌, ◌/◌, ◌%◌, arith, rules, pos, binary64, of_int, tab, grid, cell, spread, plane_in, doubles}
+use Rattle.std.specs.Prelude.{◌-◌, ◌/◌, ◌%◌}
+use Rattle.tile_spatial.specs.Prelude.{refl, arith, rules, pos, binary64, of_int, tab, grid, cell, spread, plane_in, doubles}
 use Rattle.sequences.specs.TabLaws.{Filled, fill_start, fill-turn, fill_done}
 use Rattle.tile_spatial.proofs.folds.folds as of
 

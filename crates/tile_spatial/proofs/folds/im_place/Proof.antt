@@ -1,5 +1,6 @@
 -- `tile_spatial::folds::im_place`: the real parts' place with the parts exchanged, and past place 8 the other sign.
-use Rattle.tile_spatial.specs.Prelude.{◌≡◌, ap, ◌∙◌, [], ◌∷◌, ℕ, ◌-◌, ◌%◌, ◌≤◌, ◌<◌, arith, rules, ℤ, neg_ℤ, w64, side16, apart_of, fold_re_of, fold_im_of}
+use Rattle.std.specs.Prelude.{◌≡◌, ◌∷◌, ◌-◌, ◌%◌, ◌≤◌, ◌<◌}
+use Rattle.tile_spatial.specs.Prelude.{ap, ◌∙◌, [], ℕ, arith, rules, ℤ, neg_ℤ, w64, side16, apart_of, fold_re_of, fold_im_of}
 use borrow.Author.Tests.{ne_eqb, lt-ltb, le-ltb}
 use Rattle.algebra.specs.Ring.{var, ◌⊟◌, ⊖◌, ring}
 use Rattle.tile_spectrum.specs.Lines.Held.{number_is, number-most}

@@ -1,5 +1,6 @@
 -- The definition's own tests.
-use Rattle.tile_spatial.specs.Prelude.{sym, ◌∙◌, arith, rules, ◌-◌, w64, cell, side16, fold_re_of}
+use Rattle.std.specs.Prelude.{◌-◌}
+use Rattle.tile_spatial.specs.Prelude.{sym, ◌∙◌, arith, rules, w64, cell, side16, fold_re_of}
 use borrow.Author.Tests.{lt-ltb, le-ltb}
 use Rattle.tile_spectrum.specs.Lines.Held.{held-is, held-most, line_at}
 use Rattle.tile_spectrum.specs.Apart.{is-own, is-paired}

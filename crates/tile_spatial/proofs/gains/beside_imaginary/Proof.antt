@@ -1,5 +1,6 @@
 -- Nothing beside columns 0 and 8, and else a line.
-use Rattle.tile_spatial.specs.Prelude.{◌≡◌, sym, ap, ◌∙◌, arith, rules, ◌+◌, ◌*◌, ◌/◌, ◌%◌, pos, w64, cell, imaginary_of}
+use Rattle.std.specs.Prelude.{◌≡◌, ◌+◌, ◌*◌, ◌/◌, ◌%◌}
+use Rattle.tile_spatial.specs.Prelude.{sym, ap, ◌∙◌, arith, rules, pos, w64, cell, imaginary_of}
 use Prim.Native.Nat.{zero-le}
 use Rattle.tile_spectrum.specs.Lines.Held.{number_is, number-most}
 use Rattle.tile_spatial.specs.Steps.{lines_in}

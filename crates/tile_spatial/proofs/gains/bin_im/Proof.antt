@@ -1,5 +1,6 @@
 -- Both parts are places, and a bin is at most twice as large.
-use Rattle.tile_spatial.specs.Prelude.{◌≡◌, sym, ap, ap₂, ◌∙◌, subst, arith, ◌+◌, ◌*◌, ◌/◌, ◌%◌, pos, ◌+ℤ◌, cell, copy_bin_most, side16, imaginary_of, tile_im_of}
+use Rattle.std.specs.Prelude.{◌≡◌, ◌+◌, ◌*◌, ◌/◌, ◌%◌, ◌+ℤ◌}
+use Rattle.tile_spatial.specs.Prelude.{sym, ap, ap₂, ◌∙◌, subst, arith, pos, cell, copy_bin_most, side16, imaginary_of, tile_im_of}
 use Rattle.algebra.specs.Bound.{AtMost, add_most}
 use Rattle.tile_spatial.proofs.Sums64.{sum_fits, sum_is}
 use Rattle.tile_spatial.proofs.gains.bin_im as of

@@ -1,5 +1,6 @@
 -- Both parts are places, and a bin is at most twice as large.
-use Rattle.tile_spatial.specs.Prelude.{◌≡◌, sym, ap, ap₂, ◌∙◌, subst, arith, ◌+◌, ◌*◌, ◌/◌, ◌%◌, pos, ◌-ℤ◌, cell, copy_bin_most, side16, real_of, tile_re_of}
+use Rattle.std.specs.Prelude.{◌≡◌, ◌+◌, ◌*◌, ◌/◌, ◌%◌, ◌-ℤ◌}
+use Rattle.tile_spatial.specs.Prelude.{sym, ap, ap₂, ◌∙◌, subst, arith, pos, cell, copy_bin_most, side16, real_of, tile_re_of}
 use Rattle.algebra.specs.Bound.{AtMost, sub-most}
 use Rattle.tile_spatial.proofs.Sums64.{difference-fits, difference-is}
 use Rattle.tile_spatial.proofs.gains.bin_re as of

@@ -1,5 +1,6 @@
 -- Both parts are stored one after the other.
-use Rattle.tile_spatial.specs.Prelude.{◌≡◌, ap₂, ◌∙◌, ◌-◌, arith, rules, get_or, w64, to_z, of_z, side16, copy_filtered}
+use Rattle.std.specs.Prelude.{◌≡◌, ◌-◌}
+use Rattle.tile_spatial.specs.Prelude.{ap₂, ◌∙◌, arith, rules, get_or, w64, to_z, of_z, side16, copy_filtered}
 use Rattle.sequences.specs.TabLaws.{Filled, fill_start, fill-turn, fill_done}
 use Rattle.tile_spectrum.specs.Lines.Held.{number_is, number-most}
 use Rattle.tile_spatial.specs.Steps.{lane_re, lane_im}

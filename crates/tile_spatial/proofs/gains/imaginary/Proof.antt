@@ -1,5 +1,6 @@
 -- The definition's own tests.
-use Rattle.tile_spatial.specs.Prelude.{sym, ◌∙◌, arith, rules, w64, ◌+◌, ◌-◌, pos, cell, side16, imaginary_part}
+use Rattle.std.specs.Prelude.{◌+◌, ◌-◌}
+use Rattle.tile_spatial.specs.Prelude.{sym, ◌∙◌, arith, rules, w64, pos, cell, side16, imaginary_part}
 use Prim.Native.Nat.{zero-le}
 use borrow.Author.Tests.{lt-ltb, le-ltb}
 use Rattle.tile_spectrum.specs.Lines.Held.{held-is, held-most, line_at}

@@ -1,5 +1,6 @@
 -- The definition's own test.
-use Rattle.tile_spatial.specs.Prelude.{arith, rules, w64, ◌-◌, cell, side16, real_part}
+use Rattle.std.specs.Prelude.{◌-◌}
+use Rattle.tile_spatial.specs.Prelude.{arith, rules, w64, cell, side16, real_part}
 use borrow.Author.Tests.{lt-ltb, le-ltb}
 use Rattle.tile_spectrum.specs.Lines.Held.{held-is, held-most}
 use Rattle.tile_spatial.proofs.gains.real as of

@@ -1,5 +1,6 @@
 -- Of the first plane or of the second.
-use Rattle.algebra.specs.Prelude.{◌%◌, rules}
+use Rattle.std.specs.Prelude.{◌%◌}
+use Rattle.algebra.specs.Prelude.{rules}
 use borrow.Author.Tests.{eq-eqb, ne_eqb}
 use Rattle.tile_spatial.proofs.lanes.lane as of
 

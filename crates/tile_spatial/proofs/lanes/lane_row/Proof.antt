@@ -1,5 +1,6 @@
 -- The numbers are stored one after the other.
-use Rattle.tile_spatial.specs.Prelude.{refl, ◌-◌, ◌/◌, ◌%◌, arith, rules, get_or, either}
+use Rattle.std.specs.Prelude.{◌-◌, ◌/◌, ◌%◌}
+use Rattle.tile_spatial.specs.Prelude.{refl, arith, rules, get_or, either}
 use Rattle.sequences.specs.TabLaws.{Filled, fill_start, fill-turn, fill_done}
 use Rattle.tile_spatial.proofs.lanes.lane_row as of
 

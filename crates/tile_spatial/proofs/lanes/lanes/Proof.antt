@@ -1,5 +1,6 @@
 -- The rows are stored one after the other.
-use Rattle.tile_spatial.specs.Prelude.{◌≡◌, refl, ap, ◌∙◌, Bool, true, false, cond, List, [], ℕ, ◌-◌, ◌/◌, ◌%◌, arith, rules, eqb, get_or, tab, either}
+use Rattle.std.specs.Prelude.{◌≡◌, ◌-◌, ◌/◌, ◌%◌}
+use Rattle.tile_spatial.specs.Prelude.{refl, ap, ◌∙◌, Bool, true, false, cond, List, [], ℕ, arith, rules, eqb, get_or, tab, either}
 use Rattle.sequences.specs.TabLaws.{Filled, fill_start, fill-turn, fill_done}
 use Rattle.sequences.specs.Grid.{grid, cell, tab-ext}
 use Rattle.tile_spatial.proofs.lanes.lanes as of

@@ -1,5 +1,6 @@
 -- The numbers are stored one after the other.
-use Rattle.algebra.specs.Prelude.{◌≡◌, refl, ap, ◌∙◌, ◌-◌, arith, rules, get_or, pos, w16, w32, to_z, of_z}
+use Rattle.std.specs.Prelude.{◌≡◌, ◌-◌}
+use Rattle.algebra.specs.Prelude.{refl, ap, ◌∙◌, arith, rules, get_or, pos, w16, w32, to_z, of_z}
 use Rattle.sequences.specs.TabLaws.{Filled, fill_start, fill-turn, fill_done}
 use Rattle.tile_spectrum.specs.Lines.Held.{held-is, held-most}
 use Rattle.tile_spatial.specs.Steps.{low_of}

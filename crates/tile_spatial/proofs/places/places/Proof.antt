@@ -1,5 +1,6 @@
 -- The rows are stored one after the other.
-use Rattle.tile_spatial.specs.Prelude.{refl, ◌-◌, arith, rules, nan, tab, grid, cell}
+use Rattle.std.specs.Prelude.{◌-◌}
+use Rattle.tile_spatial.specs.Prelude.{refl, arith, rules, nan, tab, grid, cell}
 use Rattle.sequences.specs.TabLaws.{Filled, fill_start, fill-turn, fill_done}
 use Rattle.tile_pair.proofs.WholeRows.{whole_row}
 use Rattle.tile_spatial.specs.Steps.{place_of}

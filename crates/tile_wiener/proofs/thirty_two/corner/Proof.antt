@@ -1,5 +1,6 @@
 -- `tile_wiener::thirty_two::corner`: four real bins a turn.
-use Rattle.tile_wiener.specs.ThirtyTwo.Prelude.{◌-◌, ◌≤◌, arith, rules, lit<, of_bits, of_int}
+use Rattle.std.specs.Prelude.{◌-◌, ◌≤◌}
+use Rattle.tile_wiener.specs.ThirtyTwo.Prelude.{arith, rules, lit<, of_bits, of_int}
 use Rattle.tile_wiener.specs.NewQuads.{new-corner, sure-corner}
 use Rattle.tile_wiener.proofs.SureLaws.{shrunk-start, shrunk-at, shrunk-turn}
 use Rattle.tile_wiener.specs.ThirtyTwo.DoubleQuads.{Shrunk}

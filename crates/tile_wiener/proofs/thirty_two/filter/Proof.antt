@@ -1,5 +1,6 @@
 -- `tile_wiener::thirty_two::filter`: the quads are replaced in the order of 32·u + l, and V and W of each lane are those of its plane.
-use Rattle.tile_wiener.specs.ThirtyTwo.Prelude.{refl, true, ◌-◌, ◌*◌, ◌≤◌, arith, rules, lit≤, of_bits, long_doubles}
+use Rattle.std.specs.Prelude.{◌-◌, ◌*◌, ◌≤◌}
+use Rattle.tile_wiener.specs.ThirtyTwo.Prelude.{refl, true, arith, rules, lit≤, of_bits, long_doubles}
 use mathlib.Core.Bool.{false≢true}
 use native.Mathlib.Nat.{le_trans}
 use Rattle.floats.specs.Casts.{whole-counted}

@@ -1,5 +1,6 @@
 -- `tile_wiener::thirty_two::left`: two bins a turn, as they are.
-use Rattle.algebra.specs.Prelude.{◌-◌, ◌≤◌, arith, rules, lit<}
+use Rattle.std.specs.Prelude.{◌-◌, ◌≤◌}
+use Rattle.algebra.specs.Prelude.{arith, rules, lit<}
 use Rattle.tile_wiener.specs.NewQuads.{new-left, sure-left}
 use Rattle.tile_wiener.proofs.SureLaws.{shrunk-start, shrunk-at, shrunk-turn}
 use Rattle.tile_wiener.specs.ThirtyTwo.DoubleQuads.{Shrunk}

@@ -1,5 +1,6 @@
 -- `tile_wiener_exact::thirty_two::filter_exactly`: a quad a turn, in the order of 32·u + l.
-use Rattle.tile_wiener_exact.specs.ThirtyTwo.Prelude.{sym, ap, subst, ◌∙◌, ◌-◌, ◌/◌, ◌%◌, ◌≤◌, arith, rules, eqb, nan, long_bin_most, long_noise_most, WholeBinsOf, new_exactly_by}
+use Rattle.std.specs.Prelude.{◌-◌, ◌/◌, ◌%◌, ◌≤◌}
+use Rattle.tile_wiener_exact.specs.ThirtyTwo.Prelude.{sym, ap, subst, ◌∙◌, arith, rules, eqb, nan, long_bin_most, long_noise_most, WholeBinsOf, new_exactly_by}
 use Rattle.sequences.specs.Grid.{grid-of}
 use Rattle.recipe.specs.Tables32.{side32}
 use Rattle.tile_spectrum.specs.LongPairs.{long_doubles}

@@ -1,5 +1,6 @@
 -- `tile_wiener_exact::thirty_two::gains`: the definition's own steps.
-use Rattle.tile_wiener_exact.specs.ThirtyTwo.Prelude.{ap₂, ◌∙◌, [], ◌∷◌, rules, w64, binary64, of_int, exact_gains_by}
+use Rattle.std.specs.Prelude.{◌∷◌}
+use Rattle.tile_wiener_exact.specs.ThirtyTwo.Prelude.{ap₂, ◌∙◌, [], rules, w64, binary64, of_int, exact_gains_by}
 use Rattle.tile_spectrum.specs.Lines.Held.{number_is}
 use Rattle.recipe.specs.Correction.{wiener}
 use Rattle.tile_bin.specs.ExactLaws.{held-counted}

@@ -1,5 +1,6 @@
 -- Two rows at a time, none before having reached the best: `Running` is the loop's invariant.
-use Rattle.align_search.specs.Trials.Prelude.{◌≡◌, ap, ◌∙◌, true, ◌+◌, ◌-◌, ◌*◌, arith, rules, lit<, refl, squared_row_most, square_row}
+use Rattle.std.specs.Prelude.{◌≡◌, ◌+◌, ◌-◌, ◌*◌}
+use Rattle.align_search.specs.Trials.Prelude.{ap, ◌∙◌, true, arith, rules, lit<, refl, squared_row_most, square_row}
 use Rattle.align_residual.specs.SixteenLaws.{compared-less, row_at}
 use Rattle.align_search.specs.Trials.LeaveLaws.{Running, run-start, run-turn, run-left, run-done}
 use Rattle.align_search.proofs.trials.eight.squared_offset as of

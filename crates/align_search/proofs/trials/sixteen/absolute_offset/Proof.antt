@@ -1,5 +1,6 @@
 -- Two rows at a time, none before having reached the best: `Running` is the loop's invariant.
-use Rattle.align_search.specs.Trials.Prelude.{refl, false, ◌+◌, ◌-◌, ◌*◌, arith, rules, lit<, pair_most, square_row}
+use Rattle.std.specs.Prelude.{◌+◌, ◌-◌, ◌*◌}
+use Rattle.align_search.specs.Trials.Prelude.{refl, false, arith, rules, lit<, pair_most, square_row}
 use Rattle.align_residual.specs.SixteenLaws.{compared-less}
 use Rattle.align_search.specs.Trials.LeaveLaws.{Running, run-start, run-done}
 use Rattle.align_search.proofs.trials.PairRows.{pair_turn, pair_left}

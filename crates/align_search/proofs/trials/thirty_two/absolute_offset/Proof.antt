@@ -1,5 +1,6 @@
 -- One row at a time, none before having reached the best: `Summing` is the loop's invariant.
-use Rattle.align_search.specs.Trials.Prelude.{◌≡◌, refl, ◌∙◌, false, ◌+◌, ◌-◌, ◌*◌, arith, rules, lit<, pair_most, square_row}
+use Rattle.std.specs.Prelude.{◌≡◌, ◌+◌, ◌-◌, ◌*◌}
+use Rattle.align_search.specs.Trials.Prelude.{refl, ◌∙◌, false, arith, rules, lit<, pair_most, square_row}
 use Rattle.align_residual.specs.SixteenLaws.{compared-less, row_at}
 use Rattle.align_search.specs.Trials.LeaveLaws.{Summing, row-start, row-turn, row-left, row_done}
 use Rattle.align_search.proofs.trials.thirty_two.absolute_offset as of

@@ -1,5 +1,6 @@
 -- `check_line`: values that are found have an LF behind them; where none are found, the search for an LF decides between 15 and 14.
-use Rattle.file_burst.specs.Lines.Prelude.{◌≡◌, sym, ap, ◌∙◌, false, rules, drop}
+use Rattle.std.specs.Prelude.{◌≡◌}
+use Rattle.file_burst.specs.Lines.Prelude.{sym, ap, ◌∙◌, false, rules, drop}
 use Rattle.file_burst.specs.Lines.Line.{values_of}
 use Rattle.file_burst.specs.Lines.Scan.{line_in, judged}
 use Rattle.file_burst.specs.declared.lines.Line.{Line}

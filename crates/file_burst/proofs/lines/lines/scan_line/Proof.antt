@@ -1,5 +1,6 @@
 -- `scan_line`: the judgement of the whole line is that of the values left, with what is known of those passed.
-use Rattle.file_burst.specs.Lines.Prelude.{◌≡◌, refl, sym, ap, ◌∙◌, Bool, false, ◌-◌, arith, rules, drop}
+use Rattle.std.specs.Prelude.{◌≡◌, ◌-◌}
+use Rattle.file_burst.specs.Lines.Prelude.{refl, sym, ap, ◌∙◌, Bool, false, arith, rules, drop}
 use Rattle.file_burst.specs.Lines.Line.{Item, after_item, values_of}
 use Rattle.file_burst.specs.Lines.Scan.{item_in, line_in, ended_line, judged}
 use Rattle.file_burst.specs.declared.lines.Scan.{Scan}

@@ -1,5 +1,6 @@
 -- `has_lf`: whether an LF follows the position stays the same up to the first LF.
-use Rattle.file_burst.specs.Lines.Prelude.{◌≡◌, refl, sym, ◌∙◌, ◌-◌, arith, rules, length, drop}
+use Rattle.std.specs.Prelude.{◌≡◌, ◌-◌}
+use Rattle.file_burst.specs.Lines.Prelude.{refl, sym, ◌∙◌, arith, rules, length, drop}
 use Rattle.file_burst.specs.Lines.Line.{has_lf}
 use Rattle.file_burst.proofs.lines.Bytes.{lf-here, lf-on, lf-end}
 use Rattle.file_burst.proofs.lines.scanning.has_lf as of

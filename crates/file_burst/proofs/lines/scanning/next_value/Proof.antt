@@ -1,5 +1,6 @@
 -- `next_value`: the item that starts at `at` is what the bytes from the position on make of the digits passed.
-use Rattle.file_burst.specs.Lines.Prelude.{◌≡◌, refl, sym, ap, ◌∙◌, ℕ, ◌≤◌, ◌<◌, ◌-◌, ◌+◌, ◌*◌, ◌^◌, arith, rules, length, drop, get_or}
+use Rattle.std.specs.Prelude.{◌≡◌, ◌≤◌, ◌<◌, ◌-◌, ◌+◌, ◌*◌, ◌^◌}
+use Rattle.file_burst.specs.Lines.Prelude.{refl, sym, ap, ◌∙◌, ℕ, arith, rules, length, drop, get_or}
 use native.Mathlib.Nat.{pow-le-pow_right}
 use Rattle.file_burst.specs.Lines.Line.{more, digit_of, digits_from, after_digits, item_of}
 use Rattle.file_burst.proofs.lines.Bytes as bytes

@@ -1,5 +1,6 @@
 -- `past_spaces`: what is past the spaces from the position on stays the same.
-use Rattle.file_burst.specs.Lines.Prelude.{◌≡◌, refl, ◌∙◌, ◌-◌, arith, rules, length, drop}
+use Rattle.std.specs.Prelude.{◌≡◌, ◌-◌}
+use Rattle.file_burst.specs.Lines.Prelude.{refl, ◌∙◌, arith, rules, length, drop}
 use Rattle.file_burst.specs.Lines.Line.{past_spaces}
 use Rattle.file_burst.proofs.lines.Bytes.{spaces-on, spaces-off, spaces-end}
 use Rattle.file_burst.proofs.lines.scanning.past_spaces as of

@@ -1,5 +1,6 @@
 -- `value_at`: each answer of the scan is a case of the item.
-use Rattle.file_burst.specs.Lines.Prelude.{◌≡◌, sym, ap, ◌∙◌, rules, drop}
+use Rattle.std.specs.Prelude.{◌≡◌}
+use Rattle.file_burst.specs.Lines.Prelude.{sym, ap, ◌∙◌, rules, drop}
 use lib.Seq.{drop-length}
 use Rattle.file_burst.specs.Lines.Line.{item_of}
 use Rattle.file_burst.specs.Lines.Scan.{item_in, value_in, rest_in}

@@ -1,5 +1,6 @@
 -- The rows passed have answered 0. The first that does not is the answer, and else the end.
-use Rattle.file_dng.specs.Tags.Prelude.{◌≡◌, sym, ap₂, ◌∙◌, ◌-◌, rules, refuse, entries}
+use Rattle.std.specs.Prelude.{◌≡◌, ◌-◌}
+use Rattle.file_dng.specs.Tags.Prelude.{sym, ap₂, ◌∙◌, rules, refuse, entries}
 use Rattle.file_dng.specs.Tags.RowTests.{row_hit, row_tag}
 use Rattle.file_dng.specs.Tags.FaultLaws.{Zeros, zeros-start, zeros-turn, zeros-done, zeros-found}
 use Rattle.file_dng.proofs.tags.faults.first_hit as of

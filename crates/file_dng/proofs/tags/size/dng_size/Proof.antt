@@ -1,5 +1,6 @@
 -- The tests for the file's own size; beside a refusal the tag, else the two values.
-use Rattle.file_dng.specs.Tags.Prelude.{◌≡◌, ap, ap₂, ◌∙◌, ℕ, rules, first, Shape, entries}
+use Rattle.std.specs.Prelude.{◌≡◌}
+use Rattle.file_dng.specs.Tags.Prelude.{ap, ap₂, ◌∙◌, ℕ, rules, first, Shape, entries}
 use Rattle.refusals.specs.AfterLaws.{kept, made}
 use Rattle.file_dng.specs.declared.tags.DngSize.{DngSize}
 use Rattle.file_dng.specs.Tags.Refusals.{tag_tests}

@@ -1,5 +1,6 @@
 -- No row passed is hit. A hit is the answer, and so is the end.
-use Rattle.file_dng.specs.Tags.Prelude.{sym, ◌∙◌, ◌-◌, rules, entries}
+use Rattle.std.specs.Prelude.{◌-◌}
+use Rattle.file_dng.specs.Tags.Prelude.{sym, ◌∙◌, rules, entries}
 use Rattle.refusals.specs.SomeLaws.{Passed, pass-start, pass-turn, pass-done, one}
 use Rattle.file_dng.specs.Tags.RowTests.{row_hit}
 use Rattle.file_dng.proofs.tags.tests.some_hit as of

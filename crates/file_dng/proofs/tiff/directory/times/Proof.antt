@@ -1,5 +1,6 @@
 -- What is counted so far, with what is left, is the whole count.
-use Rattle.algebra.specs.Prelude.{◌∙◌, ◌-◌, arith, rules}
+use Rattle.std.specs.Prelude.{◌-◌}
+use Rattle.algebra.specs.Prelude.{◌∙◌, arith, rules}
 use Rattle.file_dng.specs.Tiff.ScanLaws.{Counted, count-start, count_turn, count-done}
 use Rattle.file_dng.specs.Tiff.Directory.{entries}
 use Rattle.file_dng.proofs.tiff.directory.times as of

@@ -1,5 +1,6 @@
 -- No entry passed is right.
-use Rattle.algebra.specs.Prelude.{ap, ◌∙◌, ◌-◌, arith, rules}
+use Rattle.std.specs.Prelude.{◌-◌}
+use Rattle.algebra.specs.Prelude.{ap, ◌∙◌, arith, rules}
 use Rattle.file_dng.specs.Tiff.Fields.{field_at}
 use Rattle.file_dng.specs.Tiff.FieldLaws.{field_is}
 use Rattle.file_dng.specs.Tiff.ScanLaws.{Sought, seek-start, seek_hit, seek-turn, seek-done}

@@ -1,5 +1,6 @@
 -- The black levels along a row, filled from the front.
-use Rattle.algebra.specs.Prelude.{refl, ◌-◌, arith, rules}
+use Rattle.std.specs.Prelude.{◌-◌}
+use Rattle.algebra.specs.Prelude.{refl, arith, rules}
 use Rattle.sequences.specs.TabLaws.{Filled, fill_start, fill-turn, fill_done}
 use Rattle.tile_root.specs.Lanes.{lane_black}
 use Rattle.tile_root.proofs.thirty_two.squares.lane_blacks as of
