@@ -3,4 +3,3 @@ pub mod Leak
 pub mod Share
 pub mod Ceiling
 pub mod Sides
-pub mod MergedCapped

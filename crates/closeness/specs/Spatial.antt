@@ -10,4 +10,3 @@ pub mod Merged
 pub mod Closeness
 pub mod Side16
 pub mod PlainLaws
-pub mod MergedClose

@@ -1,14 +1,11 @@
 -- Levels of noises whose curves are in order, as refusal 26 compares them: after ISO, shot with shot and read with read.
-use Rattle.range.specs.Prelude.{refl, Bool, true, false, not, List, ℕ, get_or, ℤ, Float, nan, inf, fin, up, down, lt, first, Scene}
-use Rattle.std.specs.Prelude.{T, ltb, eqb, ◌≡◌, ◌&&◌, ◌||◌, ◌*◌, ◌≤◌, ◌<◌}
+use Rattle.range.specs.Prelude.{refl, Bool, true, false, not, ℕ, Float, nan, inf, fin, up, down, lt, first}
+use Rattle.std.specs.Prelude.{T, ltb, eqb, ◌≡◌, ◌&&◌, ◌||◌, ◌*◌, ◌≤◌}
 use Rattle.std.proofs.Common.{leb→le, eqb→eq, le-ltb}
 use Rattle.std.specs.Float.Ieee.Fits.{and_l, and_r}
 use Rattle.refusals.specs.Numbers as no
 use Rattle.refusals.specs.TestLaws.{among, passed, refuse-not}
 use Rattle.refusals.specs.After.{after}
-use Rattle.geometry.specs.declared.Shape.{Shape}
-use Rattle.recipe.specs.declared.Tuning.{Tuning}
-use Rattle.recipe.specs.Merged.{merged}
 use Rattle.noise.specs.declared.Curve.{Curve}
 use Rattle.noise.specs.declared.Noise.{Noise}
 use Rattle.noise.specs.declared.Noise.TheVariants.{Measured}
@@ -20,8 +17,6 @@ use Rattle.noise.specs.LevelLaws.{accepted-within}
 use Rattle.noise.specs.ScalingLaws.{neither}
 use Rattle.range.specs.Crossed.{NoneAbove, crossed, range_noise_tests}
 use Rattle.range.specs.OrderLaws.{floor-mono, within-between, not-above}
-use Rattle.range.specs.Frames.{low_frame, high_frame}
-use Rattle.range.specs.FrameLaws.{levelled, frame-inside}
 
 -- an accepted noise has its curve's levels
 levels-are : (noise : Noise) → first (noise_tests noise) ≡ 0 → (shot_level (levels_of noise) ≡ floor1024 (curve_of noise).shot) × (read_level (levels_of noise) ≡ floor1024 (curve_of noise).read)
@@ -90,15 +85,3 @@ module _ (lower upper : Noise) (c : Curve) (e : first (noise_tests lower) ≡ 0)
       let w = accepted-within lower e in
       let w' = accepted-within upper e' in
       within-accepted c (within-between 64 _ c.shot _ w.0 w'.0 h.shot k.shot) (within-between 4096 _ c.read _ w.1 w'.1 h.read k.read)
-
-  -- "For every curve between the two ends, the frame merged with it lies between low and high at each sample", "without the spatial filter"
-  pub curve-inside : (s : Shape) (reference : ℕ) (tuning : Tuning) (samples : List ℕ) (vectors : List ℤ) → tuning.spatial ≡ 0 → (i : ℕ) → i < s.width * s.height →
-      let at : Noise → Scene = λ noise. levelled s reference tuning samples vectors (shot_level (levels_of noise)) (read_level (levels_of noise)) in
-      let low = get_or (low_frame (at lower) (at upper)) i 0 in
-      let high = get_or (high_frame (at lower) (at upper)) i 0 in
-      let between = get_or (merged (at (Measured c))) i 0 in
-      (low ≤ between) × (between ≤ high)
-  curve-inside s reference tuning samples vectors =
-      let l = levels-rise lower (Measured c) e curve-accepted h in
-      let u = levels-rise (Measured c) upper curve-accepted e' k in
-      frame-inside s reference tuning samples vectors l.0 u.0 l.1 u.1

@@ -7,7 +7,7 @@ use Rattle.algebra.specs.Order.{abs-sub}
 use Rattle.algebra.specs.SumLaws.{sum_z-cong}
 use Rattle.sequences.specs.Grid.{grid, cell, cell-grid, grid-ext}
 use Rattle.floats.specs.Casts.{whole_back}
-use Rattle.range.specs.RangeLaws.{greatest-same, least-same}
+use Rattle.range.proofs.RangeLaws.{greatest-same, least-same}
 use Rattle.tile_spectrum.specs.Lines.BackSizes.{backward-most}
 use Rattle.tile_spectrum.specs.LineLaws.{backward-ext}
 use Rattle.tile_pair.proofs.Corrections.{folded, folded-most, folded_whole}

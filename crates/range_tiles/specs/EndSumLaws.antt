@@ -9,7 +9,7 @@ use Rattle.algebra.specs.SumLaws.{sum_z-suc, sum_z-cong, sum_z-0}
 use Rattle.sequences.specs.Tab.{tab}
 use Rattle.sequences.specs.TabLaws.{tab-each}
 use Rattle.sequences.specs.Grid.{grid, cell, cell-grid, grid-ext, grid-of}
-use Rattle.range.specs.RangeLaws.{greatest-same, least-same}
+use Rattle.range.proofs.RangeLaws.{greatest-same, least-same}
 use Rattle.tile_spectrum.specs.Lines.Lines.{LineMost, TileMost}
 use Rattle.tile_spectrum.specs.Apart.{cond_cases}
 use Rattle.tile_spectrum.specs.Magnitudes.{noise_most, small_most}

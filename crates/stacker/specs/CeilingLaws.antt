@@ -8,7 +8,7 @@ use Rattle.closeness.specs.Side32.{fitting32}
 use Rattle.closeness.specs.Ceiling.Ceiling.{Circle}
 use Rattle.closeness.specs.Ceiling.Sides.{circle16, circle32}
 use Rattle.closeness.specs.Ceiling.Leak.{largest_over, leak, UnderCeiling}
-use Rattle.closeness.specs.Ceiling.MergedCapped.{merged-capped}
+use Rattle.closeness.proofs.Ceiling.MergedCapped.{merged-capped}
 use Rattle.stacker.specs.Calls.{Capped}
 use Rattle.stacker.specs.Bands.{band}
 use Rattle.stacker.specs.BandLaws.{band-every, band-all}

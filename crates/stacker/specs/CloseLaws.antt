@@ -7,7 +7,7 @@ use Rattle.recipe.specs.Tables32.{side32}
 use Rattle.recipe.specs.Sides.{side_of}
 use Rattle.recipe.specs.ExactMerge.{exact_at, exact_filtered_at}
 use Rattle.recipe.specs.SideLaws.{by-table}
-use Rattle.closeness.specs.Spatial.MergedClose.{merged-close, merged-close-32, merged-two-steps}
+use Rattle.closeness.proofs.Spatial.MergedClose.{merged-close, merged-close-32, merged-two-steps}
 use Rattle.stacker.specs.Calls.{Close}
 use Rattle.stacker.specs.Bands.{band}
 use Rattle.stacker.specs.BandLaws.{band-every, band-all}

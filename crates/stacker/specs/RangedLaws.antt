@@ -11,8 +11,9 @@ use Rattle.noise.specs.Curve.{curve_of}
 use Rattle.noise.specs.LevelLaws.{shot-level-bound, read-level-bound, strength_most}
 use Rattle.range.specs.Crossed.{NoneAbove, range_noise_tests}
 use Rattle.range.specs.Frames.{low_frame, high_frame}
-use Rattle.range.specs.FrameLaws.{low-frame-same, high-frame-same}
-use Rattle.range.specs.CurveLaws.{range-passed, levels-rise, curve-inside}
+use Rattle.range.proofs.FrameLaws.{low-frame-same, high-frame-same}
+use Rattle.range.specs.CurveLaws.{range-passed, levels-rise}
+use Rattle.range.proofs.CurveLaws.{curve-inside}
 use Rattle.admit_range.specs.Refusals.{range_shape_tests, range_content_tests, range_refusal}
 use Rattle.admit_range.specs.RefusalLaws.{range-fits, range-side, high_long, unfiltered}
 use Rattle.merge_tiles.specs.Rows.{row_words}

@@ -1,9 +1,8 @@
--- The ceiling of request L11, for any side whose tables and scales fit together.
-use Rattle.algebra.specs.Prelude.{refl, ap, [], ℕ, zero, suc, arith, lit<, ℤ, pos, nat_abs}
+-- Up to the ceiling of request L11, for any side whose tables and scales fit together: how far one sample can lie from the reference sample. The ceiling follows in proofs/Ceiling/Ceiling.
+use Rattle.algebra.specs.Prelude.{ap, [], ℕ, suc, arith, lit<, ℤ, pos, nat_abs}
 use Rattle.std.proofs.Common.{le_trans, mod-lt, mul-pos, mul-le-mul_right}
-use Rattle.std.proofs.Math.Nat.{mul-le-mul_left, div-mul-le_self, le_of_mul-le-mul_left, lt_of_mul-lt-mul_left}
-use Rattle.std.proofs.Math.Decide.{dec_le}
-use Rattle.std.specs.Prelude.{◌≤ℤ◌, ◌≡◌, ◌∷◌, ◌+◌, ◌-◌, ◌*◌, ◌%◌, ◌≤◌, ◌<◌, ◌+ℤ◌, ◌-ℤ◌, ◌*ℤ◌}
+use Rattle.std.proofs.Math.Nat.{mul-le-mul_left, div-mul-le_self, le_of_mul-le-mul_left}
+use Rattle.std.specs.Prelude.{◌≤ℤ◌, ◌∷◌, ◌+◌, ◌*◌, ◌%◌, ◌≤◌, ◌<◌, ◌+ℤ◌, ◌-ℤ◌, ◌*ℤ◌}
 use Rattle.algebra.specs.Vars.{vars5}
 use Rattle.algebra.specs.Ring.{Expr, ◌⊞◌, ◌⊟◌, ◌⊠◌}
 use Rattle.algebra.specs.Order.{0≤pos, abs-mul}
@@ -19,16 +18,9 @@ use Rattle.recipe.specs.Output.{row_in, column_in, weight_in}
 use Rattle.recipe.specs.PlainOutput.{output_sample}
 use Rattle.closeness.specs.Windows.{four-windows}
 use Rattle.closeness.specs.Closeness.{Fitting, twiddle}
-use Rattle.closeness.specs.Ceiling.Leak.{largest, leak, UnderCeiling}
+use Rattle.closeness.specs.Ceiling.Leak.{leak}
 use Rattle.algebra.specs.Most.{away-abs, moved, sum-most, sums_most, clamp-toward}
 use Rattle.closeness.specs.Ceiling.Share.{share-most}
-
-below : (noise : ℕ → ℕ) (i : ℕ) → i < 4 → noise i ≤ largest noise
-below noise zero h = omega arith
-below noise (suc zero) h = omega arith
-below noise (suc (suc zero)) h = omega arith
-below noise (suc (suc (suc zero))) h = omega arith
-below noise (suc (suc (suc (suc i)))) h = absurd (omega arith)
 
 -- The tables lie in a circle: no C(k)² + S(k)² is above m, and that is at most 8/7 of the scale; what rounding G and P adds to P/256 is at most 1/2
 pub record Circle (s : Side) (m most : ℕ) : Type 0 where
@@ -38,7 +30,7 @@ pub record Circle (s : Side) (m most : ℕ) : Type 0 where
   pub slack : s.side * s.side * most ≤ 255 * s.divisor
 
 -- 2·divisor·|P| is at most this, where V ≤ 4·root²
-abbrev tile_most : Side → (m most root : ℕ) → ℕ
+abbrev pub tile_most : Side → (m most root : ℕ) → ℕ
 tile_most s m most root = s.side * (s.side * (2 * (m * root) + most)) + s.divisor
 
 module _ {s : Side} {m most w : ℕ} (t : Fitting s most w) (c : Circle s m most) where
@@ -87,7 +79,7 @@ module _ {s : Side} {m most w : ℕ} (t : Fitting s most w) (c : Circle s m most
               rw (abs-mul (pos (weight_in s a b i)) (P i z))
               (omega (arith, mul-le-mul_left (weight_in s a b i) (tile-most (noise i) (d i z) (row_in s a i) (column_in s b i) (low i j))))
 
-      sample-most : (t0 : ℕ) → t0 ≤ 4095 → 512 * (s.divisor * suc others) * leak (output_sample s a b others noise d (pos t0)) (pos t0) ≤ 256 * (s.divisor * suc others) + others * e
+      pub sample-most : (t0 : ℕ) → t0 ≤ 4095 → 512 * (s.divisor * suc others) * leak (output_sample s a b others noise d (pos t0)) (pos t0) ≤ 256 * (s.divisor * suc others) + others * e
       unfolding output_sample
       sample-most t0 h =
           let n = 256 * (s.weight * suc others) in
@@ -98,27 +90,7 @@ module _ {s : Side} {m most w : ℕ} (t : Fitting s most w) (c : Circle s m most
           s.weight_above
 
   -- what `sample-most` allows at V ≤ (2·parts·k)² is below k + 1: others/N of k·m/scale and of 1/2, and 1/2 for the output's rounding
-  room : (others k : ℕ) → others ≤ 7 → 256 * (s.divisor * suc others) + others * tile_most s m most (s.parts * k) < 512 * (s.divisor * suc others) * suc k
+  pub room : (others k : ℕ) → others ≤ 7 → 256 * (s.divisor * suc others) + others * tile_most s m most (s.parts * k) < 512 * (s.divisor * suc others) * suc k
   room others k few =
       let shrunk : others * m ≤ suc others * s.scale = omega (arith, mul-le-mul_left others c.factor, mul-le-mul_right s.scale few) in
       omega (arith, mul-le-mul_left (2 * k * (s.parts * (s.side * s.side))) shrunk, ap (λ z. 2 * k * suc others * z) t.divisor_is, mul-le-mul_left others c.slack, s.divisor_above)
-
-  module _ (a b others : ℕ) (noise : ℕ → ℕ) (d : ℕ → ℕ → ℕ → ℕ → ℤ) (t0 : ℕ) (k : a < s.half) (l : b < s.half) (few : others ≤ 7) (h : t0 ≤ 4095) where
-    abbrev step : ℕ
-    step = leak (output_sample s a b others noise d (pos t0)) (pos t0)
-
-    -- were V below (2·parts·n)² for n = step − 1, step would be at most n
-    too_far : (n : ℕ) → step - 1 ≡ n → largest noise < 4 * (s.parts * s.parts) * (n * n) → ⊥
-    too_far zero g f = omega arith
-    too_far (suc n) g f =
-        let root = s.parts * suc n in
-        let low : (i : ℕ) → i < 4 → noise i ≤ 4 * (root * root) = λ i j. le_trans (below noise i j) (omega arith) in
-        let near : step < suc (suc n) = lt_of_mul-lt-mul_left (512 * (s.divisor * suc others)) (omega (arith, sample-most root a b others noise d k l low t0 h, room others (suc n) few)) in
-        omega arith
-
-    pub ceiling : UnderCeiling s step (largest noise)
-    ceiling = decided (dec_le (4 * (s.parts * s.parts) * ((step - 1) * (step - 1))) (largest noise))
-      where
-        decided : Dec (UnderCeiling s step (largest noise)) → UnderCeiling s step (largest noise)
-        decided (yes f) = f
-        decided (no f) = absurd (too_far (step - 1) refl (omega arith))

@@ -9,9 +9,10 @@ use Rattle.recipe.specs.PlainOutput.{output_sample}
 use Rattle.recipe.specs.Merged.{output_at, word_at, merged}
 use Rattle.closeness.specs.Closeness.{Fitting}
 use Rattle.closeness.specs.Spatial.PlainLaws.{plain-output}
-use Rattle.closeness.specs.Spatial.MergedClose.{word-is}
+use Rattle.closeness.proofs.Spatial.MergedClose.{word-is}
 use Rattle.closeness.specs.Ceiling.Leak.{largest_over, leak, UnderCeiling}
-use Rattle.closeness.specs.Ceiling.Ceiling.{Circle, ceiling}
+use Rattle.closeness.specs.Ceiling.Ceiling.{Circle}
+use Rattle.closeness.proofs.Ceiling.Ceiling.{ceiling}
 
 row_inside : (k width height : ℕ) → k < width * height → k / width < height
 row_inside k zero height h = absurd (omega (arith, zero-mul height))

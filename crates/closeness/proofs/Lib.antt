@@ -1,0 +1,2 @@
+pub mod Spatial
+pub mod Ceiling
