@@ -44,7 +44,7 @@ fn read_full<R: Read>(reader: &mut R, buffer: &mut [u8]) -> usize
 fn try_file(rt: &(impl Files + Print + Eprint), name: &str) -> io::Result<()> {
     match fs::open(rt, name) {
         Err(error) => {
-            let _ = eprintln!(rt; "{name}: {error}");
+            file_input::fail(rt, name, error);
             Ok(())
         }
         Ok(mut file) => {
@@ -71,9 +71,8 @@ fn main(rt: HostRuntime) -> io::Result<()> {
     for index in 1..usize::MAX {
         match rt.arg(index, &mut name) {
             Err(FillError::NotPresent) => break,
-            Err(FillError::TooLong) => {
-                let _ = eprintln!(rt; "argument {index} is too long");
-            }
+            // as an empty name, which names no file either
+            Err(FillError::TooLong) => try_file(&rt, "")?,
             Ok(length) => try_argument(&rt, &name[..length])?,
         }
     }

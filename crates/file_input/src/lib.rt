@@ -1,8 +1,10 @@
-// A reader read to its end, where `Read::read_exact` does not tell how much there was from a read that failed.
+// A reader read to its end, where `Read::read_exact` does not tell how much there was from a read that failed; and why one failed, said on standard error.
 #![tactic(auto)]
 
 ghost use Rattle.file_input.specs.Count.{Within};
+ghost use Rattle.file_input.specs.Reason.{BeforeNumber};
 
+use std::fmt::InlineText;
 use std::io;
 use std::io::Read;
 
@@ -26,4 +28,20 @@ pub fn read_all<R: Read>(reader: &mut R, buffer: &mut [u8]) -> Input
         }
     }
     Input::Read { count }
+}
+
+// The system's words for an error: its text without the number that `Display` of `io::Error` writes after them.
+pub fn reason(text: &str) -> &str
+    ensures { BeforeNumber text.now result.now }
+{
+    match text.split_once(" (os error ") {
+        Some((words, _)) => words,
+        None => text,
+    }
+}
+
+// Writes a line to standard error: what failed, as the caller names it, a colon and the system's words. If that fails too, there is nowhere to say so.
+pub fn fail(rt: &impl Eprint, what: &str, error: io::Error) {
+    let text = InlineText::<320>::of(error);
+    let _ = eprintln!(rt; "{what}: {}", reason(text.as_str()));
 }

@@ -8,13 +8,11 @@ fn main(rt: HostRuntime) {
     let mut file = [0u8; FILE_ROOM];
     let mut text = [0u8; TEXT_ROOM];
     match file_input::read_all(&mut rt.stdin(), &mut file) {
-        Input::Failed { error } => {
-            let _ = eprintln!(rt; "stack: standard input: {error}");
-        }
+        Input::Failed { error } => file_input::fail(&rt, "stack: standard input", error),
         Input::Read { count } => {
             let length = report::stack_text(&file, count, &mut text);
             if let Err(error) = rt.write_all(&text[..length]) {
-                let _ = eprintln!(rt; "stack: standard output: {error}");
+                file_input::fail(&rt, "stack: standard output", error);
             }
         }
     }
