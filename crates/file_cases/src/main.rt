@@ -5,6 +5,7 @@ ghost use Rattle.std.specs.Prelude.{◌≡◌, ◌≤◌, length};
 ghost use Rattle.file_burst.specs.Lines.Part.{number_of};
 ghost use Rattle.file_burst.specs.Reading.{reading_into};
 
+use file_input::Reason;
 use std::env::{Env, FillError};
 use std::io::Read;
 use std::rt::Files;
@@ -44,7 +45,7 @@ fn read_full<R: Read>(reader: &mut R, buffer: &mut [u8]) -> usize
 fn try_file(rt: &(impl Files + Print + Eprint), name: &str) -> io::Result<()> {
     match fs::open(rt, name) {
         Err(error) => {
-            file_input::fail(rt, name, error);
+            let _ = eprintln!(rt; "{name}: {}", Reason(error));
             Ok(())
         }
         Ok(mut file) => {

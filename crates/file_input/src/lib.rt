@@ -1,12 +1,12 @@
-// A reader read to its end, where `Read::read_exact` does not tell how much there was from a read that failed; and why one failed, said on standard error.
+// A reader read to its end, where `Read::read_exact` does not tell how much there was from a read that failed; and why one failed, in words.
 #![tactic(auto)]
 
 ghost use Rattle.file_input.specs.Count.{Within};
 ghost use Rattle.file_input.specs.Reason.{BeforeNumber};
 
-use std::fmt::InlineText;
-use std::io;
+use std::fmt::{Display, Formatter, InlineText, Write};
 use std::io::Read;
+use std::{fmt, io};
 
 // What was read: its number of bytes, or that a read failed, and why.
 #[derive(Clone, Copy)]
@@ -30,18 +30,23 @@ pub fn read_all<R: Read>(reader: &mut R, buffer: &mut [u8]) -> Input
     Input::Read { count }
 }
 
-// The system's words for an error: its text without the number that `Display` of `io::Error` writes after them.
-pub fn reason(text: &str) -> &str
+// An error in the system's words, without the number that `Display` of `io::Error` writes after them.
+#[derive(Clone, Copy)]
+pub struct Reason(pub io::Error);
+
+impl Display for Reason {
+    fn fmt<W: Write>(&self, f: &mut Formatter<W>) -> fmt::Result {
+        let text = InlineText::<320>::of(self.0);
+        f.pad(before_number(text.as_str()))
+    }
+}
+
+// The text up to where the number of a system's error begins, or all of it.
+fn before_number(text: &str) -> &str
     ensures { BeforeNumber text.now result.now }
 {
     match text.split_once(" (os error ") {
         Some((words, _)) => words,
         None => text,
     }
-}
-
-// Writes a line to standard error: what failed, as the caller names it, a colon and the system's words. If that fails too, there is nowhere to say so.
-pub fn fail(rt: &impl Eprint, what: &str, error: io::Error) {
-    let text = InlineText::<320>::of(error);
-    let _ = eprintln!(rt; "{what}: {}", reason(text.as_str()));
 }

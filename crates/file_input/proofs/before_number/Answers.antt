@@ -1,6 +1,6 @@
--- `file_input::reason`: the words are the text before what `split_once` finds.
+-- `file_input::before_number`: the words are the text before what `split_once` finds.
 use Rattle.std.specs.declared.option.Option.TheVariants.{Some}
-use Rattle.file_input.proofs.reason.Goals as goal
+use Rattle.file_input.proofs.before_number.Goals as goal
 
 pub returns-in-Some : goal.returns-in-Some
 returns-in-Some c =
