@@ -33,15 +33,10 @@ module _ (tests : List ℕ) (i : ℕ) where
   unfolding first
   accepts l e = sym (rw (drop_of_length-le tests l)) ∙ e
 
-returns : of.Tie.Need-returns-then-tests-i-ne0 invariant-loop-i decreases-loop-i
-returns c = let at = c.before.before.before.before in refuses at.before.args.tests.now at.loop-i.i (omega arith) c.before.if-tests-i-ne0.true at.loop-i.invariant
-
-loop-again : of.Tie.Need-loop-i-preserved invariant-loop-i decreases-loop-i
-loop-again c = let at = c.before.before.before in goes at.before.args.tests.now at.loop-i.i (omega arith) c.if-tests-i-ne0.false at.loop-i.invariant
-
-returns-2 : of.Tie.Need-returns invariant-loop-i decreases-loop-i
-returns-2 c = let at = c.before in accepts at.before.args.tests.now at.loop-i.i (omega arith) at.loop-i.invariant
-
 pub first_spec : {M : Type 1} → of.Statement.statement M
 first_spec = of.Tie.close (of.Tie.spec
-    invariant-loop-i decreases-loop-i (λ c. refl) (λ c. search rules) (λ c. search rules) (λ c. search rules) (λ c. search rules) returns (λ c. search rules) (λ c. search rules) loop-again returns-2)
+    invariant-loop-i decreases-loop-i (λ c. refl) (λ c. search rules) (λ c. search rules) (λ c. search rules) (λ c. search rules)
+    (λ c. refuses c.args.tests.now c.loop-i.i (omega arith) (λ e. absurd (omega (arith, e))) c.loop-i.invariant)
+    (λ c. search rules) (λ c. search rules)
+    (λ c. goes c.args.tests.now c.loop-i.i (omega arith) (omega arith) c.loop-i.invariant)
+    (λ c. accepts c.args.tests.now c.loop-i.i (omega arith) c.loop-i.invariant))

@@ -76,7 +76,8 @@ returns-4 : of.Tie.Need-returns
 returns-4 c =
     let stored = c.before.before.before in
     let tested = stored.before.before in
-    acceptance _ _ _ _ _ (number tested.before) tested.if-filled-ne0.false c.accepted.ensures (filled-by _ _ _ _ _ _ _ tested.strip_start-start.ensures.0 stored.fill.ensures)
+    let passed : c.strip_refusal-filled.result ≡ 0 = omega arith in
+    acceptance _ _ _ _ _ (number tested.before) passed c.accepted.ensures (filled-by _ _ _ _ _ _ _ tested.strip_start-start.ensures.0 stored.fill.ensures)
 
 pub read_dng_spec : {M : Type 1} → of.Statement.statement M
 read_dng_spec = of.Tie.close (of.Tie.spec

@@ -1,5 +1,6 @@
 -- `stacker::align::align`: a refusal returns before the first store; acceptance aligns and clears.
-use Rattle.algebra.specs.Prelude.{sym, ◌∙◌, rules}
+use Rattle.std.specs.Prelude.{◌≡◌}
+use Rattle.algebra.specs.Prelude.{sym, ◌∙◌, arith, rules}
 use Rattle.sequences.specs.ClearLaws.{zeros-length}
 use Rattle.stacker.specs.AdmissionLaws.{align-passed}
 use Rattle.stacker.specs.CallLaws.{answer-refused, answer-accepted}
@@ -13,13 +14,13 @@ returns c =
     record { answer = answer-refused _ _ _ e h; found = kept _ _ _ e h; clean = kept _ _ _ e h }
 
 align-frames-requires : of.Tie.Need-align_frames-totals-requires
-align-frames-requires c κs = align-passed _ _ _ _ _ (sym c.align_refusal-refusal.ensures ∙ c.if-refusal-ne0.false)
+align-frames-requires c κs =
+    let passed : c.align_refusal-refusal.result ≡ 0 = omega arith in align-passed _ _ _ _ _ (sym c.align_refusal-refusal.ensures ∙ passed)
 
 returns-2 : of.Tie.Need-returns
 returns-2 c =
-    let tested = c in
-    let e = tested.align_refusal-refusal.ensures in
-    let z = tested.if-refusal-ne0.false in
+    let e = c.align_refusal-refusal.ensures in
+    let z : c.align_refusal-refusal.result ≡ 0 = omega arith in
     let aligned = c.align_frames-totals.ensures in
     record {
       answer = answer-accepted _ _ _ e z aligned.sums_are aligned.rows_are;

@@ -1,5 +1,6 @@
 -- `stacker::merge::merge`: run's tests and 12, each returning before the first store; then the merge, and the clearing.
-use Rattle.std.specs.Prelude.{◌≤◌}
+use Rattle.std.specs.Prelude.{◌≡◌, ◌≤◌}
+use native.Mathlib.Omega.{arith}
 use Rattle.stacker.specs.Prelude.{refl, sym, ap₂, subst, ◌∙◌, rules, scene_of, merged, merge_refusal}
 use Rattle.sequences.specs.ClearLaws.{zeros-length}
 use Rattle.refusals.specs.TestLaws.{stops, goes, lone}
@@ -33,12 +34,13 @@ merge-frames-requires c κs =
     let tested = passed.run_refusal-tested.ensures.answer in
     let z = passed.if-tested-ne0.false in
     let ready = run-passed _ _ _ _ _ _ _ _ (sym (tested-number _ _ tested) ∙ z) in
+    let fit : c.vector_refusal-lent.result ≡ 0 = omega arith in
     record {
       accepted = record {
         burst = ready.fits.burst;
         side_is = refl;
         samples_fit = ready.samples_fit;
-        vectors_fit = vectors_fit _ (sym lent.vector_refusal-lent.ensures ∙ lent.if-lent-ne0.false);
+        vectors_fit = vectors_fit _ (sym lent.vector_refusal-lent.ensures ∙ fit);
         shot_most = subst (λ n. n ≤ 65536) (sym (tested-levels _ _ tested z).0) ready.shot_most;
         read_most = subst (λ n. n ≤ 4194304) (sym (tested-levels _ _ tested z).1) ready.read_most;
         strength_most = ready.strength_most;
@@ -61,10 +63,11 @@ returns-3 c =
     let e = goes _ _ (tested-number _ _ tested) z (lent.vector_refusal-lent.ensures ∙ lone _) in
     let is = merge.merge_frames.ensures ∙ ap₂ (λ shot read. merged (scene_of (record { shape = a.shape; reference = a.reference; shot = shot; read = read; tuning = a.tuning }) a.samples.now a.vectors.now)) (tested-levels _ _ tested z).0 (tested-levels _ _ tested z).1 in
     let ready = run-passed _ _ _ _ _ _ _ _ (sym (tested-number _ _ tested) ∙ z) in
+    let fit : c.vector_refusal-lent.result ≡ 0 = omega arith in
     record {
-      answer = sym lent.if-lent-ne0.false ∙ e;
-      result = made _ _ _ e lent.if-lent-ne0.false is;
-      clean = made _ _ _ e lent.if-lent-ne0.false (c.clear.ensures ∙ zeros-length _ _ (search rules));
+      answer = sym fit ∙ e;
+      result = made _ _ _ e fit is;
+      clean = made _ _ _ e fit (c.clear.ensures ∙ zeros-length _ _ (search rules));
       near = λ _. found-close _ _ ready.fits.burst.allowed ready.fits.burst.sided ready.unfiltered _ _ _ refl is;
       ceiling = λ _. found-capped _ _ ready.fits.burst ready.samples_fit _ _ _ refl is;
     }

@@ -47,14 +47,14 @@ returns-5 c =
     sym (bytes.digits-many _ l.i c.before.before.before.before.loop-i-test.true l.count l.value (differs c.before) c.if-count-eq9.true) ∙ l.invariant.2
 
 -- fewer than nine digits make a number below 10 ^ 8
-room : (c : of.Tie.Else-count-eq9 invariant-loop-i decreases-loop-i) → c.before.before.before.before.before.loop-i.value < 10 ^ 8
-room c =
-    let l = c.before.before.before.before.before.loop-i in
-    let k : l.count ≤ 8 = omega arith in
-    omega (arith, l.invariant.1, pow-le-pow_right {n = 10} (omega arith) k)
+room : (count value : ℕ) → value < 10 ^ count → count ≤ 8 → value < 10 ^ 8
+room count value h k = omega (arith, h, pow-le-pow_right {n = 10} (omega arith) k)
+
+mul-value : of.Tie.Need-overflow_mul-value invariant-loop-i decreases-loop-i
+mul-value c = omega (arith, room c.loop-i.count c.loop-i.value c.loop-i.invariant.1 (omega arith))
 
 add-value : of.Tie.Need-overflow_add-value invariant-loop-i decreases-loop-i
-add-value c = omega (arith, room c, c.before.before.digit-d.ensures.1)
+add-value c = omega (arith, room c.loop-i.count c.loop-i.value c.loop-i.invariant.1 (omega arith), c.digit-d.ensures.1)
 
 loop-again : of.Tie.Need-loop-i-preserved invariant-loop-i decreases-loop-i
 loop-again c =
@@ -64,7 +64,7 @@ loop-again c =
       omega arith,
       bytes.digit-more l.value l.count d.result l.invariant.1 small,
       ap (λ (x : ℕ). digits_from (l.count + 1) (l.value * 10 + x) (drop (l.i + 1) c.before.before.before.before.before.before.before.args.file.now)) d.ensures.0
-          ∙ bytes.digits-on _ l.i c.before.before.before.before.loop-i-test.true l.count l.value (differs c.before) c.if-count-eq9.false ∙ l.invariant.2,
+          ∙ bytes.digits-on _ l.i c.before.before.before.before.loop-i-test.true l.count l.value (differs c.before) (λ e. absurd (omega (arith, e))) ∙ l.invariant.2,
     )
 
 returns-6 : of.Tie.Need-returns invariant-loop-i decreases-loop-i
@@ -75,5 +75,5 @@ next_value_spec = of.Tie.close (of.Tie.spec
     invariant-loop-i decreases-loop-i (λ c. (omega arith, omega arith, refl)) (λ c. search rules)
     (λ c κs. search rules) returns (λ c. omega arith) returns-2 (λ c. omega arith)
     (λ c κs. search rules) returns-3 returns-4 returns-5 (λ c. omega arith)
-    (λ c. omega (arith, room c)) add-value (λ c. omega arith) (λ c. omega arith) loop-again
+    mul-value add-value (λ c. omega arith) (λ c. omega arith) loop-again
     returns-6)
